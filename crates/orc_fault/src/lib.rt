@@ -1,0 +1,25 @@
+//! The plain fault values that several crates answer.
+#![tactic(auto)]
+
+/// Memory was refused. No other cause stands behind this value.
+#[derive(Clone, Copy, Debug, PartialEq, Eq, Drop)]
+pub struct NoMemory;
+
+/// A container has no room for a further node.
+#[derive(Clone, Copy, Debug, PartialEq, Eq, Drop)]
+pub struct NoNode;
+
+/// A call has used up its turns; the same call may be made again.
+#[derive(Clone, Copy, Debug, PartialEq, Eq, Drop)]
+pub struct Again;
+
+/// A read or a write failed and moved no byte.
+#[derive(Clone, Copy, Debug, PartialEq, Eq, Drop)]
+pub struct Failed;
+
+/// A row can take no further link: its sequence, as it was read, is at its limit.
+#[derive(Clone, Copy, Debug, PartialEq, Eq, Drop)]
+pub struct Spent {
+    pub row: u32,
+    pub sequence: u64,
+}
