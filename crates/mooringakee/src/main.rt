@@ -1,0 +1,38 @@
+//! Reads a job file from standard input, works through it and writes the report to standard output.
+#![tactic(auto)]
+
+use orc_board::OpenGate;
+use orc_program::{CommandWords, Ended, StdSink, StdSource, orc_main};
+use std::env;
+use std::process::ExitCode;
+
+/// The status where memory for the words is refused.
+const NO_MEMORY: u8 = 7;
+
+/// The status where a word is not text.
+const WORDS_REFUSED: u8 = 2;
+
+fn main(rt: HostRuntime) -> ExitCode {
+    let mut words = CommandWords::new(rt.alloc());
+    let Ok(args) = env::args(&rt) else {
+        return ExitCode::from(WORDS_REFUSED);
+    };
+    for word in args.skip(1) {
+        if words.push(word.as_str()).is_err() {
+            return ExitCode::from(NO_MEMORY);
+        }
+    }
+    let mut source = StdSource::new(rt.stdin());
+    let mut sink = StdSink::new(rt.stdout());
+    let mut ended = Ended::new();
+    let status = orc_main(
+        &rt,
+        rt.alloc(),
+        &words,
+        &mut source,
+        &mut sink,
+        &OpenGate,
+        &mut ended,
+    );
+    ExitCode::from(status)
+}

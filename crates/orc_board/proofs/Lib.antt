@@ -1,0 +1,14 @@
+pub mod ListFacts
+pub mod Chains
+pub mod CallStretches
+pub mod Rows
+pub mod Workers
+pub mod Wholes
+pub mod JobsTaken
+pub mod PairLists
+pub mod Keyed
+pub mod Orders
+pub mod WorkerCases
+pub mod Positions
+pub mod Reported
+pub mod Ends

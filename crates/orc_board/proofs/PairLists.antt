@@ -1,0 +1,159 @@
+-- The pairs of job and position in histories, rows and replies.
+use Rattle.std.proofs.Common.{◌≡◌, ◌%◌, ℕ, ◌+◌, ◌≤◌, ◌<◌, List, [], ◌∷◌, ◌++◌, length, map, Bool, filter, ◌==◌, inl, inr, refl, ap, sym, ◌∙◌, arith, append_assoc, append-nil, length-append}
+use Rattle.std.specs.List.{range_with_len}
+use Rattle.std.proofs.lemmas.Option.{slice_get_within}
+use Rattle.std.proofs.lemmas.List.FromFn.{length-range_with_len}
+use Rattle.std.proofs.lemmas.List.Sums.{length-filter, count_by-le-length}
+use Rattle.orc_history.specs.Journals.{Every}
+use Rattle.orc_history.specs.declared.queue.QueueEntry.{QueueEntry}
+use Rattle.orc_history.specs.declared.queue.QueueEntry.TheVariants.{Put, Took, Empty}
+use Rattle.orc_history.specs.QueueHistory.{agent_of_entry, IsLegalFrom, waiting_after}
+use Rattle.orc_jobs.specs.declared.line.Line.{Line}
+use Rattle.orc_jobs.specs.declared.line.Line.TheVariants as line
+use Rattle.orc_board.specs.declared.replies.PostReply.{PostReply}
+use Rattle.orc_board.specs.declared.replies.PostWord.{PostWord}
+use Rattle.orc_board.specs.declared.replies.PostWord.TheVariants as word
+use Rattle.orc_board.specs.declared.replies.TakeReply.{TakeReply}
+use Rattle.orc_board.specs.Stretches.{Row, is_own_move}
+use Rattle.orc_board.specs.Table.{PostRow, JobRow, DropRow}
+use Rattle.orc_board.specs.Follows.{Pointwise, PosterRow, TookRow, own_records}
+use Rattle.orc_board.specs.Reportable.{posted_by, posted_of, claim_of, IsClaim}
+use Rattle.orc_board.proofs.ListFacts.{eq-yes}
+use Rattle.orc_board.proofs.Wholes.{queue_of_rows}
+
+-- the jobs that were put, with their positions
+abbrev pub puts_of : List QueueEntry → List (ℕ × ℕ)
+puts_of [] = []
+puts_of (Put agent job at ∷ es) = (job, at) ∷ puts_of es
+puts_of (Took agent job at ∷ es) = puts_of es
+puts_of (Empty agent ∷ es) = puts_of es
+
+-- the jobs that were taken, with their positions
+abbrev pub tooks_of : List QueueEntry → List (ℕ × ℕ)
+tooks_of [] = []
+tooks_of (Put agent job at ∷ es) = tooks_of es
+tooks_of (Took agent job at ∷ es) = (job, at) ∷ tooks_of es
+tooks_of (Empty agent ∷ es) = tooks_of es
+
+pub puts_of-append : (xs ys : List QueueEntry) → puts_of (xs ++ ys) ≡ puts_of xs ++ puts_of ys
+puts_of-append [] ys = refl
+puts_of-append (Put by job at ∷ xs) ys = ap (λ z. (job, at) ∷ z) (puts_of-append xs ys)
+puts_of-append (Took by job at ∷ xs) ys = puts_of-append xs ys
+puts_of-append (Empty by ∷ xs) ys = puts_of-append xs ys
+
+pub tooks_of-append : (xs ys : List QueueEntry) → tooks_of (xs ++ ys) ≡ tooks_of xs ++ tooks_of ys
+tooks_of-append [] ys = refl
+tooks_of-append (Put by job at ∷ xs) ys = tooks_of-append xs ys
+tooks_of-append (Took by job at ∷ xs) ys = ap (λ z. (job, at) ∷ z) (tooks_of-append xs ys)
+tooks_of-append (Empty by ∷ xs) ys = tooks_of-append xs ys
+
+-- in a legal history the puts are the tooks and then what waits
+pub legal_lists : (n : ℕ) (w : List (ℕ × ℕ)) (es : List QueueEntry) → IsLegalFrom n w es → w ++ puts_of es ≡ tooks_of es ++ waiting_after w es
+legal_lists n w [] legal = append-nil w
+legal_lists n w (Put by job at ∷ es) legal = sym (append_assoc w ((job, at) ∷ []) (puts_of es)) ∙ legal_lists (n + 1) (w ++ (job, at) ∷ []) es legal.1
+legal_lists n w (Took by job at ∷ es) (rest, is, legal) =
+    rw is (ap (λ z. (job, at) ∷ z) (legal_lists n rest es legal))
+legal_lists n w (Empty by ∷ es) legal = legal_lists n w es legal.1
+
+-- and their positions are the next numbers
+pub legal_positions : (n : ℕ) (w : List (ℕ × ℕ)) (es : List QueueEntry) → IsLegalFrom n w es → map (λ (x : ℕ × ℕ). x.1) (puts_of es) ≡ range_with_len n (length (puts_of es))
+legal_positions n w [] legal = refl
+legal_positions n w (Put by job at ∷ es) legal =
+    let tail = legal_positions (n + 1) (w ++ (job, at) ∷ []) es legal.1 in
+    rw legal.0 (ap (λ z. n ∷ z) tail)
+legal_positions n w (Took by job at ∷ es) (rest, is, legal) = legal_positions n rest es legal
+legal_positions n w (Empty by ∷ es) legal = legal_positions n w es legal.1
+
+-- of one agent's entries its own Puts and Tooks are all
+pub own_puts : (agent : ℕ) (es : List QueueEntry) → Every (λ e. agent_of_entry e ≡ agent) es → puts_of (filter (is_own_move agent) es) ≡ puts_of es
+own_puts agent [] h = refl
+own_puts agent (Put by job at ∷ es) h = rw (eq-yes by agent h.0) (ap (λ z. (job, at) ∷ z) (own_puts agent es h.1))
+own_puts agent (Took by job at ∷ es) h = rw (eq-yes by agent h.0) (own_puts agent es h.1)
+own_puts agent (Empty by ∷ es) h = own_puts agent es h.1
+
+pub own_tooks : (agent : ℕ) (es : List QueueEntry) → Every (λ e. agent_of_entry e ≡ agent) es → tooks_of (filter (is_own_move agent) es) ≡ tooks_of es
+own_tooks agent [] h = refl
+own_tooks agent (Put by job at ∷ es) h = rw (eq-yes by agent h.0) (own_tooks agent es h.1)
+own_tooks agent (Took by job at ∷ es) h = rw (eq-yes by agent h.0) (ap (λ z. (job, at) ∷ z) (own_tooks agent es h.1))
+own_tooks agent (Empty by ∷ es) h = own_tooks agent es h.1
+
+-- the puts of a poster's row are those of its reply
+pub record PutsOf (own : List QueueEntry) (pairs : List (ℕ × ℕ)) : Type 0 where
+  pub puts : puts_of own ≡ pairs
+  pub tooks : tooks_of own ≡ []
+
+job_pairs : (agent i id : ℕ) (w : PostWord) (row : Row) → JobRow agent i id w row → PutsOf row.queue.own (posted_by i w)
+job_pairs agent i id (word.Posted at) row h = rw h (record { puts = refl; tooks = refl })
+job_pairs agent i id word.Busy row h = rw h (record { puts = refl; tooks = refl })
+job_pairs agent i id word.NoNode row h =
+    elim h as (λ _. PutsOf row.queue.own []) [ inl e ↦ rw e (record { puts = refl; tooks = refl }) | inr p ↦ rw p.1 (record { puts = refl; tooks = refl }) ]
+job_pairs agent i id word.Positions row h = rw h.1 (record { puts = refl; tooks = refl })
+job_pairs agent i id word.Spent row h = rw h.1 (record { puts = refl; tooks = refl })
+job_pairs agent i id word.Dropped row h = absurd h
+job_pairs agent i id word.Unknown row h = absurd h
+
+drop_pairs : (agent i id : ℕ) (w : PostWord) (row : Row) → DropRow agent id w row → PutsOf row.queue.own (posted_by i w)
+drop_pairs agent i id (word.Posted at) row h = absurd h
+drop_pairs agent i id word.Busy row h = absurd h
+drop_pairs agent i id word.NoNode row h = absurd h
+drop_pairs agent i id word.Positions row h = absurd h
+drop_pairs agent i id word.Spent row h = absurd h
+drop_pairs agent i id word.Dropped row h = rw h (record { puts = refl; tooks = refl })
+drop_pairs agent i id word.Unknown row h = rw h (record { puts = refl; tooks = refl })
+
+line_pairs : (agent i : ℕ) (l : Line) (w : PostWord) (row : Row) → PostRow agent i l w row → PutsOf row.queue.own (posted_by i w)
+line_pairs agent i (line.Post id op text) w row h = job_pairs agent i id w row h
+line_pairs agent i (line.Drop id) w row h = drop_pairs agent i id w row h
+
+pub rows_pairs : (lines : List Line) (poster : ℕ) (rs : List PostReply) (rows : List Row) → Pointwise (PosterRow lines poster) rs rows → PutsOf (queue_of_rows rows) (posted_of rs)
+rows_pairs lines poster [] [] z = record { puts = refl; tooks = refl }
+rows_pairs lines poster [] (row ∷ rows) z = absurd z
+rows_pairs lines poster (r ∷ rs) [] z = absurd z
+rows_pairs lines poster (r ∷ rs) (row ∷ rows) z =
+    let one = line_pairs poster r.line z.0.line r.what row z.0.table in
+    let more = rows_pairs lines poster rs rows z.1 in
+    record {
+      puts = puts_of-append row.queue.own (queue_of_rows rows) ∙ (ap (λ u. u ++ puts_of (queue_of_rows rows)) one.puts ∙ ap (λ u. posted_by r.line r.what ++ u) more.puts);
+      tooks = tooks_of-append row.queue.own (queue_of_rows rows) ∙ (ap (λ u. u ++ tooks_of (queue_of_rows rows)) one.tooks ∙ more.tooks);
+    }
+
+pub took_pairs : (lines : List Line) (taker agent : ℕ) (rs : List TakeReply) (rows : List Row) → Pointwise (TookRow lines taker agent) rs rows
+    → (tooks_of (queue_of_rows rows) ≡ map claim_of rs) × (puts_of (queue_of_rows rows) ≡ [])
+took_pairs lines taker agent [] [] z = (refl, refl)
+took_pairs lines taker agent [] (row ∷ rows) z = absurd z
+took_pairs lines taker agent (r ∷ rs) [] z = absurd z
+took_pairs lines taker agent (r ∷ rs) (row ∷ rows) z =
+    let more = took_pairs lines taker agent rs rows z.1 in
+    (rw z.0.table.is (ap (λ u. (r.line, r.at) ∷ u) more.0), rw z.0.table.is more.1)
+
+pub claims_of : (lines : List Line) (taker agent : ℕ) (rs : List TakeReply) (rows : List Row) → Pointwise (TookRow lines taker agent) rs rows → Every (IsClaim lines) rs
+claims_of lines taker agent [] [] z = tt
+claims_of lines taker agent [] (row ∷ rows) z = absurd z
+claims_of lines taker agent (r ∷ rs) [] z = absurd z
+claims_of lines taker agent (r ∷ rs) (row ∷ rows) z = (record { id = z.0.table.id; job = z.0.table.job; value = z.0.table.value }, claims_of lines taker agent rs rows z.1)
+
+-- the lines of the replies exist
+pub lines_exist : (lines : List Line) (poster : ℕ) (rs : List PostReply) (rows : List Row) → Pointwise (PosterRow lines poster) rs rows → Every (λ (r : PostReply). r.line < length lines) rs
+lines_exist lines poster [] [] z = tt
+lines_exist lines poster [] (row ∷ rows) z = absurd z
+lines_exist lines poster (r ∷ rs) [] z = absurd z
+lines_exist lines poster (r ∷ rs) (row ∷ rows) z = (slice_get_within lines r.line z.0.line z.0.is, lines_exist lines poster rs rows z.1)
+
+posted_one : (i : ℕ) (w : PostWord) → length (posted_by i w) ≤ 1
+posted_one i (word.Posted at) = omega arith
+posted_one i word.Busy = omega arith
+posted_one i word.NoNode = omega arith
+posted_one i word.Positions = omega arith
+posted_one i word.Spent = omega arith
+posted_one i word.Dropped = omega arith
+posted_one i word.Unknown = omega arith
+
+pub posted_fewer : (rs : List PostReply) → length (posted_of rs) ≤ length rs
+posted_fewer [] = omega arith
+posted_fewer (r ∷ rs) = omega (arith, length-append (posted_by r.line r.what) (posted_of rs), posted_one r.line r.what, posted_fewer rs)
+
+-- a poster has no more records than there are lines
+pub records_fewer : (posters poster n : ℕ) → length (own_records posters poster n) ≤ n
+records_fewer posters poster n =
+    let test : ℕ → Bool = λ i. i % posters + 1 == poster in
+    omega (arith, length-filter test (range_with_len 0 n), count_by-le-length test (range_with_len 0 n), length-range_with_len 0 n)

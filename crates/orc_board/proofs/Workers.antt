@@ -1,0 +1,126 @@
+-- What a worker's replies stand for grows reply by reply.
+use Rattle.std.proofs.Common.{◌≡◌, ◌≢◌, ℕ, zero, suc, ◌+◌, ◌≤◌, ◌<◌, slice_get, ◌-◌, ◌%◌, List, [], ◌∷◌, ◌++◌, length, map, Bool, true, false, cond, ◌==◌, filter, Some, None, refl, ap, sym, ◌∙◌, subst, arith, add-one, append-nil, length-append}
+use Rattle.std.specs.List.{range_with_len}
+use Rattle.std.proofs.lemmas.List.{length-map}
+use Rattle.std.proofs.lemmas.List.Elements.{filter-append}
+use Rattle.orc_history.specs.declared.queue.QueueEntry.{QueueEntry}
+use Rattle.orc_history.specs.declared.queue.QueueEntry.TheVariants.{Empty}
+use Rattle.orc_history.specs.declared.queue.QueueRefused.{QueueRefused}
+use Rattle.orc_history.specs.declared.set.SetEntry.{SetEntry}
+use Rattle.orc_history.specs.declared.set.ListRefused.{ListRefused}
+use Rattle.orc_jobs.specs.declared.line.Line.{Line}
+use Rattle.orc_board.specs.declared.replies.PostReply.{PostReply}
+use Rattle.orc_board.specs.declared.replies.TakeReply.{TakeReply}
+use Rattle.orc_board.specs.Stretches.{View, Replied, empty_row}
+use Rattle.orc_board.specs.Table.{PostRow, TakenRow, EndsWith}
+use Rattle.orc_board.specs.Follows.{Pointwise, Posting, Taking, TakingRest, PosterRow, TakerRow, own_records}
+use Rattle.orc_board.proofs.Chains.{Works-none, Works-row, Stands-empty}
+use Rattle.orc_board.proofs.CallStretches.{ends_later}
+use Rattle.orc_board.proofs.Wholes.{queue_of_rows, Works-queue}
+use Rattle.orc_board.proofs.ListFacts.{eq-yes, eq-no}
+
+Pointwise-snoc : {X Y : Type 0} (R : X → Y → Type 0) (xs : List X) (ys : List Y) (x : X) (y : Y) → Pointwise R xs ys → R x y → Pointwise R (xs ++ x ∷ []) (ys ++ y ∷ [])
+Pointwise-snoc R [] [] x y z h = (h, tt)
+Pointwise-snoc R [] (b ∷ ys) x y z h = absurd z
+Pointwise-snoc R (a ∷ xs) [] x y z h = absurd z
+Pointwise-snoc R (a ∷ xs) (b ∷ ys) x y z h = (z.0, Pointwise-snoc R xs ys x y z.1 h)
+
+pub posting_none : {A B : Type 0} (q : View A QueueEntry QueueRefused) (s : View B SetEntry ListRefused) (lines : List Line) (poster : ℕ) (replies : List PostReply) (j : List A) (m : List B)
+    → replies ≡ [] → Posting q s lines poster replies j m j m
+posting_none q s lines poster replies j m e = record { rows = []; table = rw e tt; works = Works-none q s poster j m }
+
+pub posting_more : {A B : Type 0} (q : View A QueueEntry QueueRefused) (s : View B SetEntry ListRefused) (lines : List Line) (poster index : ℕ) (line : Line) (replies : List PostReply) (r : PostReply) (j k k2 : List A) (m n n2 : List B)
+    → Posting q s lines poster replies j m k n → (r.poster ≡ poster) × (r.line ≡ index) → slice_get lines index ≡ Some line
+    → Replied q s (PostRow poster index line r.what) poster k n k2 n2 → Posting q s lines poster (replies ++ r ∷ []) j m k2 n2
+posting_more q s lines poster index line replies r j k k2 m n n2 p same at done = record {
+  rows = p.rows ++ done.row ∷ [];
+  table = Pointwise-snoc (PosterRow lines poster) replies p.rows r done.row p.table (record {
+    poster_is = same.0;
+    line = line;
+    is = ap (slice_get lines) same.1 ∙ at;
+    table = subst (λ (i : ℕ). PostRow poster i line r.what done.row) (sym same.1) done.is;
+  });
+  works = Works-row q s poster p.works done.stands;
+}
+
+-- the records below n + 1 are those below n, and n where it is the poster's
+range-snoc : (a n : ℕ) → range_with_len a (suc n) ≡ range_with_len a n ++ (a + n) ∷ []
+range-snoc a zero = let e : a ≡ a + 0 = omega arith in ap (λ (x : ℕ). x ∷ []) e
+range-snoc a (suc n) =
+    let e : a + 1 + n ≡ a + suc n = omega arith in
+    ap (λ z. a ∷ z) (range-snoc (a + 1) n ∙ ap (λ (x : ℕ). range_with_len (a + 1) n ++ x ∷ []) e)
+
+own-next : (posters poster n : ℕ) → own_records posters poster (n + 1) ≡ own_records posters poster n ++ cond (n % posters + 1 == poster) (n ∷ []) []
+own-next posters poster n =
+    let test : ℕ → Bool = λ i. i % posters + 1 == poster in
+    let e : 0 + n ≡ n = omega arith in
+    ap (own_records posters poster) (add-one n)
+    ∙ (ap (filter test) (range-snoc 0 n) ∙ (filter-append test (range_with_len 0 n) ((0 + n) ∷ []) ∙ ap (λ (x : ℕ). own_records posters poster n ++ filter test (x ∷ [])) e))
+
+pub own-yes : (posters poster n : ℕ) → 1 ≤ poster → n % posters ≡ poster - 1 → own_records posters poster n ++ n ∷ [] ≡ own_records posters poster (n + 1)
+own-yes posters poster n some e =
+    let test : (n % posters + 1 == poster) ≡ true = eq-yes _ _ (omega arith) in
+    sym (own-next posters poster n ∙ ap (λ (b : Bool). own_records posters poster n ++ cond b (n ∷ []) []) test)
+
+pub own-no : (posters poster n : ℕ) → 1 ≤ poster → n % posters ≢ poster - 1 → own_records posters poster n ≡ own_records posters poster (n + 1)
+own-no posters poster n some e =
+    let test : (n % posters + 1 == poster) ≡ false = eq-no _ _ (λ h. e (omega arith)) in
+    sym (own-next posters poster n ∙ (ap (λ (b : Bool). own_records posters poster n ++ cond b (n ∷ []) []) test ∙ append-nil (own_records posters poster n)))
+
+own-grow : (posters poster n more : ℕ) → length (own_records posters poster n) ≤ length (own_records posters poster (n + more))
+own-grow posters poster n zero = let e : n + 0 ≡ n = omega arith in rw e (omega arith)
+own-grow posters poster n (suc more) =
+    let e : n + suc more ≡ n + more + 1 = omega arith in
+    let last : List ℕ = cond ((n + more) % posters + 1 == poster) ((n + more) ∷ []) [] in
+    rw e (rw (own-next posters poster (n + more)) (omega (arith, own-grow posters poster n more, length-append (own_records posters poster (n + more)) last)))
+
+-- as many replies as records
+pub own-length : (replies : List PostReply) (own : List ℕ) → map (λ (r : PostReply). r.line) replies ≡ own → length replies ≡ length own
+own-length replies own e = sym (length-map replies (λ (r : PostReply). r.line)) ∙ ap length e
+
+-- there is room for one record more
+pub own-room : (posters poster i n : ℕ) → 1 ≤ poster → i < n → i % posters ≡ poster - 1 → length (own_records posters poster i) < length (own_records posters poster n)
+own-room posters poster i n some low e =
+    let is : i + 1 + (n - (i + 1)) ≡ n = omega arith in
+    let grown : length (own_records posters poster (i + 1)) ≤ length (own_records posters poster n) =
+    subst (λ (x : ℕ). length (own_records posters poster (i + 1)) ≤ length (own_records posters poster x)) is (own-grow posters poster (i + 1) (n - (i + 1))) in
+    omega (arith, grown, ap length (own-yes posters poster i some e), length-append (own_records posters poster i) (i ∷ []))
+
+pub taking_none : {A B : Type 0} (q : View A QueueEntry QueueRefused) (s : View B SetEntry ListRefused) (lines : List Line) (taker agent : ℕ) (replies : List TakeReply) (j : List A) (m : List B)
+    → replies ≡ [] → Taking q s lines taker agent replies j m j m
+taking_none q s lines taker agent replies j m e = record { rows = []; table = rw e tt; works = Works-none q s agent j m }
+
+pub taking_more : {A B : Type 0} (q : View A QueueEntry QueueRefused) (s : View B SetEntry ListRefused) (lines : List Line) (taker agent now : ℕ) (replies : List TakeReply) (r : TakeReply) (j k k2 : List A) (m n n2 : List B)
+    → Taking q s lines taker agent replies j m k n → now ≡ agent → r.taker ≡ taker
+    → Replied q s (TakenRow lines now (Some r)) now k n k2 n2 → Taking q s lines taker agent (replies ++ r ∷ []) j m k2 n2
+taking_more q s lines taker agent now replies r j k k2 m n n2 p e same replied =
+    let done : Replied q s (TakenRow lines agent (Some r)) agent k n k2 n2 = subst (λ (x : ℕ). Replied q s (TakenRow lines x (Some r)) x k n k2 n2) e replied in
+    record {
+      rows = p.rows ++ done.row ∷ [];
+      table = Pointwise-snoc (TakerRow lines taker agent) replies p.rows r done.row p.table (record { taker_is = same; table = done.is });
+      works = Works-row q s agent p.works done.stands;
+    }
+
+pub taking_end : {A B : Type 0} (q : View A QueueEntry QueueRefused) (s : View B SetEntry ListRefused) (lines : List Line) (taker agent now : ℕ) (replies : List TakeReply) (j k k2 : List A) (m n n2 : List B)
+    → Taking q s lines taker agent replies j m k n → now ≡ agent → Replied q s (TakenRow lines now None) now k n k2 n2 → TakingRest q s lines taker agent replies j m k2 n2
+taking_end {A = A} {B = B} q s lines taker agent now replies j k k2 m n n2 p e last = record {
+  queue = k;
+  set = n;
+  taking = p;
+  last = subst (λ (x : ℕ). Replied q s (TakenRow lines x None) x k n k2 n2) e last;
+}
+
+pub taking_full : {A B : Type 0} (q : View A QueueEntry QueueRefused) (s : View B SetEntry ListRefused) (lines : List Line) (taker agent : ℕ) (replies : List TakeReply) (j k : List A) (m n : List B)
+    → Taking q s lines taker agent replies j m k n → TakingRest q s lines taker agent replies j m k n
+taking_full q s lines taker agent replies j k m n p = record {
+  queue = k;
+  set = n;
+  taking = p;
+  last = record { row = empty_row; is = record { skipped = []; skips = tt; is = refl }; stands = Stands-empty q s agent k n };
+}
+
+-- a take that found nothing, after others
+pub taking_last : {A B : Type 0} (q : View A QueueEntry QueueRefused) (s : View B SetEntry ListRefused) (lines : List Line) (taker agent now : ℕ) (replies : List TakeReply) (j k k2 : List A) (m n : List B)
+    → Taking q s lines taker agent replies j m k n → now ≡ agent → EndsWith q now (Empty now) k k2 → EndsWith q agent (Empty agent) j k2
+taking_last q s lines taker agent now replies j k k2 m n p e ends =
+    ends_later q agent (Empty agent) (queue_of_rows p.rows) j k k2 (Works-queue q s agent p.works) (subst (λ (x : ℕ). EndsWith q x (Empty x) k k2) e ends)

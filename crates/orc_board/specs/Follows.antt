@@ -1,0 +1,132 @@
+-- Replies follow two journals: the workers' own entries are those that their replies stand for, and there are no others.
+use Rattle.std.specs.Prelude.{◌≡◌, ◌≢◌, ℕ, suc, ◌+◌, ◌%◌, ◌<◌, ◌≤◌, List, [], ◌∷◌, ◌++◌, length, map, filter, ◌==◌, Some, None, slice_get}
+use Rattle.std.specs.List.{range_with_len}
+use Rattle.std.proofs.Common.{zero}
+use Rattle.orc_history.specs.Journals.{Every}
+use Rattle.orc_history.specs.declared.queue.QueueEntry.{QueueEntry}
+use Rattle.orc_history.specs.declared.queue.QueueEntry.TheVariants.{Empty}
+use Rattle.orc_history.specs.declared.queue.QueueRefused.{QueueRefused}
+use Rattle.orc_history.specs.declared.set.SetEntry.{SetEntry}
+use Rattle.orc_history.specs.declared.set.ListRefused.{ListRefused}
+use Rattle.orc_history.specs.QueueHistory.{agent_of_entry}
+use Rattle.orc_history.specs.SetHistory.{agent_of_set_entry}
+use Rattle.orc_jobs.specs.declared.line.Line.{Line}
+use Rattle.orc_jobs.specs.Line.{posts_in}
+use Rattle.orc_board.specs.declared.replies.PostReply.{PostReply}
+use Rattle.orc_board.specs.declared.replies.PostWord.TheVariants as word
+use Rattle.orc_board.specs.declared.replies.TakeReply.{TakeReply}
+use Rattle.orc_board.specs.Stretches.{View, Row, Works, Replied, beside}
+use Rattle.orc_board.specs.Table.{PostRow, TakeRow, ClaimRow, TakenRow}
+
+-- the lists are equally long, and the relation holds of the items at each place
+abbrev pub Pointwise : {X Y : Type 0} → (X → Y → Type 0) → List X → List Y → Type 0
+Pointwise R [] [] = Unit {0}
+Pointwise R [] (y ∷ ys) = ⊥
+Pointwise R (x ∷ xs) [] = ⊥
+Pointwise R (x ∷ xs) (y ∷ ys) = R x y × Pointwise R xs ys
+
+-- the row is one of this poster's reply to its line
+pub record PosterRow (lines : List Line) (poster : ℕ) (r : PostReply) (row : Row) : Type 0 where
+  pub poster_is : r.poster ≡ poster
+  pub line : Line
+  pub is : slice_get lines r.line ≡ Some line
+  pub table : PostRow poster r.line line r.what row
+
+-- the row is one of this taker's reply, after the jobs that were passed over for it
+pub record TakerRow (lines : List Line) (taker agent : ℕ) (r : TakeReply) (row : Row) : Type 0 where
+  pub taker_is : r.taker ≡ taker
+  pub table : TakeRow lines agent r.line r.at r.what row
+
+-- the same where no job was passed over
+pub record TookRow (lines : List Line) (taker agent : ℕ) (r : TakeReply) (row : Row) : Type 0 where
+  pub taker_is : r.taker ≡ taker
+  pub table : ClaimRow lines agent [] r.line r.at r.what row
+
+-- what a poster did between these journals is what these replies stand for, in their order
+pub record Posting {A B : Type 0} (q : View A QueueEntry QueueRefused) (s : View B SetEntry ListRefused) (lines : List Line) (poster : ℕ) (replies : List PostReply) (j : List A) (m : List B) (k : List A) (n : List B) : Type 0 where
+  pub rows : List Row
+  pub table : Pointwise (PosterRow lines poster) replies rows
+  pub works : Works q s poster rows j m k n
+
+-- what a taker did between these journals is what these replies stand for, with jobs that it passed over
+pub record Taking {A B : Type 0} (q : View A QueueEntry QueueRefused) (s : View B SetEntry ListRefused) (lines : List Line) (taker agent : ℕ) (replies : List TakeReply) (j : List A) (m : List B) (k : List A) (n : List B) : Type 0 where
+  pub rows : List Row
+  pub table : Pointwise (TakerRow lines taker agent) replies rows
+  pub works : Works q s agent rows j m k n
+
+-- the same, and at last the jobs that it passed over before it found nothing
+pub record TakingRest {A B : Type 0} (q : View A QueueEntry QueueRefused) (s : View B SetEntry ListRefused) (lines : List Line) (taker agent : ℕ) (replies : List TakeReply) (j : List A) (m : List B) (k : List A) (n : List B) : Type 0 where
+  pub queue : List A
+  pub set : List B
+  pub taking : Taking q s lines taker agent replies j m queue set
+  pub last : Replied q s (TakenRow lines agent None) agent queue set k n
+
+-- what a taker did between these journals is what these replies stand for, in their order, and it passed over no job
+pub record Claiming {A B : Type 0} (q : View A QueueEntry QueueRefused) (s : View B SetEntry ListRefused) (lines : List Line) (taker agent : ℕ) (replies : List TakeReply) (j : List A) (m : List B) (k : List A) (n : List B) : Type 0 where
+  pub rows : List Row
+  pub table : Pointwise (TookRow lines taker agent) replies rows
+  pub works : Works q s agent rows j m k n
+
+-- the records below n that belong to this poster, in file order: record i belongs to poster 1 + (i mod P)
+abbrev pub own_records : ℕ → ℕ → ℕ → List ℕ
+own_records posters poster n = filter (λ i. i % posters + 1 == poster) (range_with_len 0 n)
+
+-- the agent of a taker: 0 of taker 0, P + t of taker t
+abbrev pub taker_agent : ℕ → ℕ → ℕ
+taker_agent posters zero = 0
+taker_agent posters (suc t) = posters + suc t
+
+-- the agents of a run
+abbrev pub IsWorker : ℕ → ℕ → ℕ → Type 0
+IsWorker posters takers agent = agent ≤ posters + takers
+
+-- the items with key 0, then those with key 1 and so on, of the keys below n
+abbrev pub by_key : {X : Type 0} → (X → ℕ) → ℕ → List X → List X
+by_key key zero xs = []
+by_key key (suc n) xs = by_key key n xs ++ filter (λ x. key x == n) xs
+
+-- the replies of this poster, and of this taker, in their order
+abbrev pub posts_of : ℕ → List PostReply → List PostReply
+posts_of poster posts = filter (λ (r : PostReply). r.poster == poster) posts
+
+abbrev pub takes_of : ℕ → List TakeReply → List TakeReply
+takes_of taker takes = filter (λ (r : TakeReply). r.taker == taker) takes
+
+-- the replies of posters 1 to P, of each one for each of its records in file order; then those of takers 0 to T
+pub record AreInOrder (lines : List Line) (posters takers : ℕ) (posts : List PostReply) (takes : List TakeReply) : Type 0 where
+  pub by_poster : posts ≡ by_key (λ (r : PostReply). r.poster) (suc posters) posts
+  pub none_of_zero : Every (λ (r : PostReply). 1 ≤ r.poster) posts
+  pub in_file_order : (p : ℕ) → 1 ≤ p → p ≤ posters → map (λ (r : PostReply). r.line) (posts_of p posts) ≡ own_records posters p (length lines)
+  pub by_taker : takes ≡ by_key (λ (r : TakeReply). r.taker) (suc takers) takes
+
+-- all entries of agent 0 stand after all entries of others
+pub record ZeroLast {E : Type 0} (agent_of : E → ℕ) (history : List E) : Type 0 where
+  pub front : List E
+  pub back : List E
+  pub is : history ≡ front ++ back
+  pub others : Every (λ e. agent_of e ≢ 0) front
+  pub zeros : Every (λ e. agent_of e ≡ 0) back
+
+-- the last entry of this agent is an Empty
+pub record LastIsEmpty (agent : ℕ) (history : List QueueEntry) : Type 0 where
+  pub front : List QueueEntry
+  pub back : List QueueEntry
+  pub is : history ≡ front ++ Empty agent ∷ back
+  pub others : Every (λ e. agent_of_entry e ≢ agent) back
+
+-- each worker did what its replies stand for, beside no agent but the workers; agent 0 comes last; and a taker from 1 on that has
+-- fewer replies than there are Posts found the queue empty after its last Took
+pub record WorkersFollow {A B : Type 0} (q : View A QueueEntry QueueRefused) (s : View B SetEntry ListRefused) (lines : List Line) (posters takers : ℕ) (posts : List PostReply) (takes : List TakeReply) (k : List A) (n : List B) : Type 0 where
+  pub posting : (p : ℕ) → 1 ≤ p → p ≤ posters
+      → Posting (beside q (IsWorker posters takers)) (beside s (IsWorker posters takers)) lines p (posts_of p posts) [] [] k n
+  pub claiming : (t : ℕ) → t ≤ takers
+      → Claiming (beside q (IsWorker posters takers)) (beside s (IsWorker posters takers)) lines t (taker_agent posters t) (takes_of t takes) [] [] k n
+  pub order : AreInOrder lines posters takers posts takes
+  pub queue_zero_last : ZeroLast agent_of_entry (q.history k)
+  pub set_zero_last : ZeroLast agent_of_set_entry (s.history n)
+  pub found_empty : (t : ℕ) → 1 ≤ t → t ≤ takers → length (takes_of t takes) < posts_in lines → LastIsEmpty (posters + t) (q.history k)
+
+-- the replies follow the two journals, and no position ran out
+pub record Follows {A B : Type 0} (q : View A QueueEntry QueueRefused) (s : View B SetEntry ListRefused) (lines : List Line) (posters takers : ℕ) (posts : List PostReply) (takes : List TakeReply) (k : List A) (n : List B) : Type 0 where
+  pub workers : WorkersFollow q s lines posters takers posts takes k n
+  pub no_positions : Every (λ (r : PostReply). r.what ≢ word.Positions) posts

@@ -1,0 +1,207 @@
+//! One line posted or dropped, and one job taken.
+ghost use Rattle.std.specs.Prelude.{◌≡◌, Some, None, IfSome, IfNone};
+ghost use Rattle.orc_jobs.specs.Line.{IsPost, IsDrop};
+ghost use Rattle.orc_jobs.specs.GoodLines.{AreGood};
+ghost use Rattle.orc_board.specs.Desk.{IsDesk};
+ghost use Rattle.orc_board.specs.Stretches.{queue_view, set_view, Replied};
+ghost use Rattle.orc_board.specs.Table.{PostRow, JobRow, TakenRow, IsJob, IsNoJob, Closes, EndsWith, last_of};
+
+use crate::again::{insert_key, put_job, remove_key, take_job};
+use crate::{PostReply, PostWord, TakeReply, TakeWord};
+use orc_history::{ListRefused, QueueRefused, SharedQueue, SharedSet};
+use orc_jobs::{Line, Lines, job_value};
+use std::sync::Wait;
+use std::thread::Threads;
+
+/// A worker's two passes.
+#[derive(Drop)]
+pub struct Desk<A, B> {
+    pub queue: A,
+    pub set: B,
+}
+
+/// Opens the id of a line that is a Post, and then puts its number. Where the number can't be put, the id is closed again.
+pub fn post_line<R: Threads + Wait + Sync, Q: SharedQueue, S: SharedSet>(
+    rt: &R,
+    queue: &Q,
+    set: &S,
+    desk: &mut Desk<Q::Pass, S::Pass>,
+    poster: u32,
+    index: u32,
+    line: &Line,
+) -> PostReply
+    requires desk { IsDesk Q.SharedQueue S.SharedSet queue.now set.now poster desk.old }
+    requires line { IsPost line.now }
+    ensures desk { IsDesk Q.SharedQueue S.SharedSet queue.now set.now poster desk.new }
+    ensures reply { (result.poster ≡ poster) × (result.line ≡ index) }
+    ensures row { Replied (queue_view Q.SharedQueue queue.now) (set_view S.SharedSet set.now)
+        (PostRow poster index line.now result.what) poster
+        (Q.journal desk.old.queue) (S.journal desk.old.set)
+        (Q.journal desk.new.queue) (S.journal desk.new.set) }
+{
+    let what = match line {
+        Line::Post { id, .. } => post_job(rt, queue, set, desk, poster, index, *id),
+        Line::Drop { .. } => unreachable!(),
+    };
+    PostReply {
+        poster,
+        line: index,
+        what,
+    }
+}
+
+/// Closes the id of a line that is a Drop.
+pub fn drop_line<R: Threads + Wait + Sync, Q: SharedQueue, S: SharedSet>(
+    rt: &R,
+    queue: &Q,
+    set: &S,
+    desk: &mut Desk<Q::Pass, S::Pass>,
+    poster: u32,
+    index: u32,
+    line: &Line,
+) -> PostReply
+    requires desk { IsDesk Q.SharedQueue S.SharedSet queue.now set.now poster desk.old }
+    requires line { IsDrop line.now }
+    ensures desk { IsDesk Q.SharedQueue S.SharedSet queue.now set.now poster desk.new }
+    ensures reply { (result.poster ≡ poster) × (result.line ≡ index) }
+    ensures row { Replied (queue_view Q.SharedQueue queue.now) (set_view S.SharedSet set.now)
+        (PostRow poster index line.now result.what) poster
+        (Q.journal desk.old.queue) (S.journal desk.old.set)
+        (Q.journal desk.new.queue) (S.journal desk.new.set) }
+{
+    let _ = queue;
+    let id = match line {
+        Line::Drop { id } => *id,
+        Line::Post { .. } => unreachable!(),
+    };
+    let what = if remove_key(rt, set, &mut desk.set, id as u64) {
+        PostWord::Dropped
+    } else {
+        PostWord::Unknown
+    };
+    PostReply {
+        poster,
+        line: index,
+        what,
+    }
+}
+
+/// Takes jobs until one is the number of a Post, and closes that line's id; or finds the queue empty. Other jobs are passed over.
+pub fn take_one<R: Threads + Wait + Sync, Q: SharedQueue, S: SharedSet>(
+    rt: &R,
+    queue: &Q,
+    set: &S,
+    desk: &mut Desk<Q::Pass, S::Pass>,
+    taker: u32,
+    lines: &Lines,
+) -> Option<TakeReply>
+    requires desk { IsDesk Q.SharedQueue S.SharedSet queue.now set.now (Q.agent_of queue.now desk.old.queue) desk.old }
+    requires good { AreGood lines.now }
+    ensures desk { IsDesk Q.SharedQueue S.SharedSet queue.now set.now (Q.agent_of queue.now desk.old.queue) desk.new }
+    ensures reply { IfSome result (λ r. r.taker ≡ taker) }
+    ensures last { EndsWith (queue_view Q.SharedQueue queue.now)
+        (Q.agent_of queue.now desk.old.queue) (last_of (Q.agent_of queue.now desk.old.queue) result)
+        (Q.journal desk.old.queue) (Q.journal desk.new.queue) }
+    ensures row { Replied (queue_view Q.SharedQueue queue.now) (set_view S.SharedSet set.now)
+        (TakenRow lines.now (Q.agent_of queue.now desk.old.queue) result) (Q.agent_of queue.now desk.old.queue)
+        (Q.journal desk.old.queue) (S.journal desk.old.set)
+        (Q.journal desk.new.queue) (S.journal desk.new.set) }
+{
+    for _ in rt.forever() {
+        match take_job(rt, queue, &mut desk.queue) {
+            None => return None,
+            Some((job, at)) => match posted_id(lines, job) {
+                Some(id) => {
+                    return Some(close_job(rt, set, &mut desk.set, taker, lines, job, at, id));
+                }
+                None => {}
+            },
+        }
+    }
+    unreachable!()
+}
+
+// Opens the id and puts the job.
+fn post_job<R: Threads + Wait + Sync, Q: SharedQueue, S: SharedSet>(
+    rt: &R,
+    queue: &Q,
+    set: &S,
+    desk: &mut Desk<Q::Pass, S::Pass>,
+    poster: u32,
+    index: u32,
+    id: u32,
+) -> PostWord
+    requires { IsDesk Q.SharedQueue S.SharedSet queue.now set.now poster desk.old }
+    ensures desk { IsDesk Q.SharedQueue S.SharedSet queue.now set.now poster desk.new }
+    ensures row { Replied (queue_view Q.SharedQueue queue.now) (set_view S.SharedSet set.now)
+        (JobRow poster index id result) poster
+        (Q.journal desk.old.queue) (S.journal desk.old.set)
+        (Q.journal desk.new.queue) (S.journal desk.new.set) }
+{
+    match insert_key(rt, set, &mut desk.set, id as u64) {
+        Ok(true) => match put_job(rt, queue, &mut desk.queue, index as u64) {
+            Ok(at) => PostWord::Posted(at),
+            Err(QueueRefused::Positions) => {
+                remove_key(rt, set, &mut desk.set, id as u64);
+                PostWord::Positions
+            }
+            Err(QueueRefused::NoNode) => {
+                remove_key(rt, set, &mut desk.set, id as u64);
+                PostWord::NoNode
+            }
+            Err(QueueRefused::Again) => unreachable!(),
+        },
+        Ok(false) => PostWord::Busy,
+        Err(ListRefused::Spent(_)) => PostWord::Spent,
+        Err(ListRefused::NoNode) => PostWord::NoNode,
+        Err(ListRefused::Again) => unreachable!(),
+    }
+}
+
+// The id of the job with this number, if the line with this number posts one.
+fn posted_id(lines: &Lines, job: u64) -> Option<u32>
+    requires { AreGood lines.now }
+    ensures yes { IfSome result (IsJob lines.now job) }
+    ensures no { IfNone result (IsNoJob lines.now job) }
+{
+    if job >= lines.len() as u64 {
+        return None;
+    }
+    match lines.get(job as usize) {
+        Line::Post { id, .. } => Some(*id),
+        Line::Drop { .. } => None,
+    }
+}
+
+// Closes the opening of a job that was taken.
+fn close_job<R: Threads + Wait + Sync, S: SharedSet>(
+    rt: &R,
+    set: &S,
+    p: &mut S::Pass,
+    taker: u32,
+    lines: &Lines,
+    job: u64,
+    at: u64,
+    id: u32,
+) -> TakeReply
+    requires set { S.usable set.now p.old }
+    requires good { AreGood lines.now }
+    requires job { IsJob lines.now job id }
+    ensures set { S.usable set.now p.new }
+    ensures agent { S.agent_of set.now p.new ≡ S.agent_of set.now p.old }
+    ensures reply { (result.taker ≡ taker) × (result.at ≡ at) × (result.line ≡ job) }
+    ensures closed { Closes (set_view S.SharedSet set.now) lines.now (S.agent_of set.now p.old) id
+        result.line result.what (S.journal p.old) (S.journal p.new) }
+{
+    let what = if remove_key(rt, set, p, id as u64) {
+        TakeWord::Done(job_value(lines.get(job as usize)))
+    } else {
+        TakeWord::Void
+    };
+    TakeReply {
+        taker,
+        at,
+        line: job as u32,
+        what,
+    }
+}

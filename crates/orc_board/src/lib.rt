@@ -1,0 +1,17 @@
+//! The board: posters and takers of jobs over a shared queue and a shared set.
+#![tactic(auto)]
+
+mod again;
+mod desk;
+mod gate;
+mod lists;
+mod loops;
+mod replies;
+#[cfg(test)]
+mod tests;
+
+pub use desk::{Desk, drop_line, post_line, take_one};
+pub use gate::{Gate, OpenGate};
+pub use lists::{PostList, ReplyList, TakeList};
+pub use loops::{run_poster, take_rest};
+pub use replies::{PostReply, PostWord, Replies, TakeReply, TakeWord};

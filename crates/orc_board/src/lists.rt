@@ -1,0 +1,86 @@
+//! Lists of replies, whose room is reserved when they are made.
+ghost use Rattle.std.specs.Prelude.{◌≡◌, ◌≢◌, ◌+◌, ◌<◌, ◌++◌, ◌∷◌, [], IfOk, IsTrue, ◌↔◌, Some, length, slice_get};
+
+use crate::{PostReply, TakeReply};
+use orc_fault::NoMemory;
+use std::alloc::Global;
+use std::marker::Model;
+
+/// Replies, and room for more.
+#[derive(Drop)]
+pub struct ReplyList<T> {
+    items: Vec<T>,
+    spare: u32,
+}
+
+/// The replies of posters.
+pub type PostList = ReplyList<PostReply>;
+
+/// The replies of takers.
+pub type TakeList = ReplyList<TakeReply>;
+
+impl<T> Model for ReplyList<T> {
+    ghost use Rattle.std.specs.Prelude.{◌+◌, ◌≤◌, vec_len};
+    ghost use Rattle.std.specs.Vec.{vec_capacity};
+    ghost use Rattle.orc_board.specs.Reserved.{Reserved};
+
+    ghost Value = { Reserved T };
+
+    ghost view = { λ l. record { items = l.items.items; spare = l.spare } };
+
+    ghost invariant = { λ l. vec_len l.items + l.spare ≤ vec_capacity l.items };
+}
+
+impl<T: Drop> ReplyList<T> {
+    /// An empty list with room for so many replies.
+    pub fn new(alloc: Global, room: u32) -> Result<Self, NoMemory>
+        ensures { IfOk result (λ l. (l.items ≡ []) × (l.spare ≡ room)) }
+    {
+        match Vec::with_capacity(alloc, room as usize) {
+            Ok(items) => Ok(ReplyList { items, spare: room }),
+            Err(_) => Err(NoMemory),
+        }
+    }
+
+    /// Appends a reply, and takes no memory.
+    pub fn push(&mut self, item: T)
+        requires { self.old.spare ≢ 0 }
+        ensures items { self.new.items ≡ self.old.items ++ item ∷ [] }
+        ensures spare { self.new.spare + 1 ≡ self.old.spare }
+    {
+        let _ = self.items.push(item);
+        self.spare -= 1;
+    }
+
+    /// For how many more replies there is room.
+    pub fn spare(&self) -> u32
+        ensures { result ≡ self.now.spare }
+    {
+        self.spare
+    }
+
+    pub fn len(&self) -> usize
+        ensures { result ≡ length self.now.items }
+    {
+        self.items.len()
+    }
+
+    pub fn is_empty(&self) -> bool
+        ensures { IsTrue result ↔ (self.now.items ≡ []) }
+    {
+        self.items.is_empty()
+    }
+
+    pub fn get(&self, index: usize) -> &T
+        requires { index < length self.now.items }
+        ensures { slice_get self.now.items index ≡ Some result.now }
+    {
+        &self.items[index]
+    }
+
+    pub fn items(&self) -> &[T]
+        ensures { result.now ≡ self.now.items }
+    {
+        self.items.as_slice()
+    }
+}

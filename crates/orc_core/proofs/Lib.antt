@@ -1,0 +1,4 @@
+pub mod Counted
+pub mod Order
+pub mod Steps
+pub mod Within

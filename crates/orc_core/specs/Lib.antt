@@ -1,0 +1,9 @@
+pub mod Listed
+pub mod Parts
+pub mod Actions
+pub mod After
+pub mod Allowed
+pub mod Machine
+pub mod Runs
+pub mod Sums
+pub mod Counts

@@ -1,0 +1,31 @@
+//! The machine: a table's words, the agents' records, and twenty kinds of step.
+#![tactic(auto)]
+
+mod actions;
+mod counting;
+mod counts;
+mod laws;
+mod ops;
+mod outcome;
+mod parts;
+mod permission;
+mod records;
+mod state;
+mod work_list;
+
+pub use actions::{Action, Operation, action_of};
+pub use counting::census;
+pub use counts::Census;
+pub use laws::{
+    a_step_writes_one_word_and_one_record, every_run_is_whole, pending_changes_come_first,
+    permission_lies_in_the_record, runs_go_on,
+};
+pub use ops::{CounterUse, Op};
+pub use outcome::advance;
+pub use permission::may_step;
+pub use records::{Agent, Doom, Scan, Seen, SlotUse};
+pub use state::{NotAllowed, State, allowed, apply};
+pub use work_list::WorkList;
+
+#[cfg(test)]
+mod tests;

@@ -1,0 +1,192 @@
+//! The state of the machine, and one step of it.
+
+ghost use Rattle.std.specs.Prelude.{◌≡◌, ◌+◌, ◌*◌, ◌<◌, ◌≤◌, true, false, IfOk, IsTrue, OnErr, OnOk, length, map, replicate, slice_index, slice_set};
+ghost use Rattle.std.specs.List.{range_with_len};
+ghost use Rattle.orc_words.specs.Bounds.{bounds_of};
+ghost use Rattle.orc_words.specs.Places.{IsWithin, places};
+ghost use Rattle.orc_core.specs.declared.ops.Op.{Op};
+ghost use Rattle.orc_core.specs.Actions.{action_of, answer_of, word_after};
+ghost use Rattle.orc_core.specs.After.{after};
+ghost use Rattle.orc_core.specs.Allowed.{may};
+ghost use Rattle.orc_core.specs.Machine.{IsWhole, LeavesRoom, answer, first_word, has_room, is_allowed, new_machine, nobody, place_acted_on, record_at, step, word_in};
+
+use crate::actions::action_of;
+use crate::ops::Op;
+use crate::outcome::advance;
+use crate::permission::may_step;
+use crate::records::Agent;
+use orc_fault::NoMemory;
+use orc_words::{NEW_COUNTER, Shape, Word, place_of};
+use std::alloc::{AllocError, Global};
+use std::marker::Model;
+
+/// The words of a table and the records of its agents.
+#[derive(Drop)]
+pub struct State {
+    shape: Shape,
+    words: Vec<u64>,
+    agents: Vec<Agent>,
+}
+
+impl Model for State {
+    ghost use Rattle.std.specs.Prelude.{◌≡◌, length};
+    ghost use Rattle.orc_words.specs.Bounds.{bounds_of};
+    ghost use Rattle.orc_words.specs.Places.{places};
+    ghost use Rattle.orc_core.specs.Machine.{EachWithRoom, Machine};
+
+    ghost Value = { Machine };
+
+    ghost view = { λ s. record { bounds = bounds_of s.shape; words = s.words.items; agents = s.agents.items } };
+
+    ghost invariant = { λ s. (length s.words.items ≡ places (bounds_of s.shape))
+        × (length s.agents.items ≡ (bounds_of s.shape).agents)
+        × EachWithRoom (bounds_of s.shape).rows s.agents.items };
+}
+
+/// The step isn't allowed, and nothing was changed.
+#[derive(Clone, Copy, Debug, PartialEq, Eq)]
+pub struct NotAllowed;
+
+/// What a place holds at first.
+fn first_word(shape: &Shape, place: u32) -> u64
+    ensures { result ≡ first_word (bounds_of shape.now) place }
+{
+    let first_row = 1 + shape.roots();
+    let first_agent = first_row + 5 * shape.rows();
+    if first_row <= place && place < first_agent && (place - first_row) % 5 == 1 {
+        NEW_COUNTER
+    } else {
+        0
+    }
+}
+
+/// The words of a new table.
+fn new_words(alloc: Global, shape: &Shape) -> Result<Vec<u64>, AllocError>
+    ensures { let bounds = bounds_of shape.now in
+        IfOk result (λ words. words.items ≡ map (first_word bounds) (range_with_len 0 (places bounds))) }
+{
+    let end = 1 + shape.roots() + 5 * shape.rows() + 16 * shape.agents();
+    (0..end)
+        .map(|place| first_word(shape, place))
+        .collect(alloc)
+}
+
+/// The records of a new table.
+fn new_agents(alloc: Global, shape: &Shape) -> Result<Vec<Agent>, NoMemory>
+    ensures { let bounds = bounds_of shape.now in
+        IfOk result (λ agents. agents.items ≡ replicate bounds.agents (nobody bounds.rows)) }
+{
+    let mut agents = Vec::with_capacity(alloc, shape.agents() as usize).map_err(|_| NoMemory)?;
+    for _number in 0..shape.agents() {
+        let agent = Agent::new(alloc, shape.rows())?;
+        agents.push(agent).map_err(|_| NoMemory)?;
+    }
+    Ok(agents)
+}
+
+impl State {
+    /// The new words and empty records, with a work list of `rows` places for each agent.
+    pub fn new(alloc: Global, shape: &Shape) -> Result<State, NoMemory>
+        ensures { IfOk result (λ state. state ≡ new_machine (bounds_of shape.now)) }
+    {
+        let Ok(words) = new_words(alloc, shape) else {
+            return Err(NoMemory);
+        };
+        let agents = new_agents(alloc, shape)?;
+        Ok(State {
+            shape: *shape,
+            words,
+            agents,
+        })
+    }
+
+    /// The shape that the state was made with.
+    pub fn shape(&self) -> Shape
+        ensures bounds { bounds_of result ≡ self.now.bounds }
+        ensures whole { IsWhole self.now }
+    {
+        self.shape
+    }
+
+    /// What a word holds.
+    pub fn word(&self, word: Word) -> u64
+        requires { IsWithin self.now.bounds word }
+        ensures { result ≡ word_in self.now word }
+    {
+        self.words[place_of(&self.shape, word) as usize]
+    }
+
+    /// The record of an agent.
+    pub fn agent(&self, number: u32) -> &Agent
+        requires { number < self.now.bounds.agents }
+        ensures { result.now ≡ record_at self.now number }
+    {
+        &self.agents[number as usize]
+    }
+
+    /// Whether the agent's work list has a free place. Then any step of the agent leaves it room.
+    #[tactic(auto, using(crate::proofs::Within::leaves_room, crate::proofs::Within::outside_has_room))]
+    pub fn has_room(&self, agent: u32) -> bool
+        ensures place { result ≡ has_room self.now agent }
+        ensures room { IsTrue result → (op : Op) → LeavesRoom self.now agent op }
+    {
+        let shape = self.shape();
+        agent >= shape.agents() || self.agent(agent).list.len() < shape.rows() as usize
+    }
+}
+
+/// Whether the agent may make this step. But for Enroll it looks at that agent's record alone.
+pub fn allowed(state: &State, agent: u32, op: &Op) -> bool
+    ensures { result ≡ is_allowed state.now agent op.now }
+{
+    if agent >= state.shape.agents() {
+        return false;
+    }
+    may_step(
+        &state.shape,
+        state.words[0],
+        agent,
+        op,
+        &state.agents[agent as usize],
+    )
+}
+
+/// The step that is allowed, on the words and the agent's record.
+fn make_step(shape: &Shape, words: &mut [u64], number: u32, op: &Op, agent: &mut Agent) -> u64
+    requires allowed { may (bounds_of shape.now) (slice_index words.old 0) number op.now agent.old ≡ true }
+    requires long { length words.old ≡ places (bounds_of shape.now) }
+    requires room { let read = slice_index words.old (place_acted_on (bounds_of shape.now) number op.now agent.old) in
+        length (after op.now agent.old read).list.items ≤ agent.old.list.room }
+    ensures words { let at = place_acted_on (bounds_of shape.now) number op.now agent.old in
+        let operation = (action_of number op.now agent.old).operation in
+        words.new ≡ slice_set words.old at (word_after operation (slice_index words.old at)) }
+    ensures agent { let read = slice_index words.old (place_acted_on (bounds_of shape.now) number op.now agent.old) in
+        agent.new ≡ after op.now agent.old read }
+    ensures answer { let read = slice_index words.old (place_acted_on (bounds_of shape.now) number op.now agent.old) in
+        result ≡ answer_of (action_of number op.now agent.old).operation read }
+{
+    let action = action_of(number, op, agent);
+    let place = place_of(shape, action.word) as usize;
+    let read = words[place];
+    words[place] = action.operation.word_after(read);
+    advance(agent, op, read);
+    action.operation.answer(read)
+}
+
+/// Makes one step of the agent, if it is allowed, and takes no memory. It answers the word that a load, a
+/// swap, a fetch_add or a fetch_sub read, the word that a store wrote, and for a compare_exchange 1 where it
+/// succeeded and 0 where it failed.
+pub fn apply(state: &mut State, agent: u32, op: &Op) -> Result<u64, NotAllowed>
+    requires { LeavesRoom state.old agent op.now }
+    ensures allowed { OnOk result (is_allowed state.old agent op.now ≡ true) }
+    ensures refused { OnErr result (is_allowed state.old agent op.now ≡ false) }
+    ensures step { OnOk result (state.new ≡ step state.old agent op.now) }
+    ensures answer { IfOk result (λ number. number ≡ answer state.old agent op.now) }
+    ensures unchanged { OnErr result (state.new ≡ state.old) }
+{
+    if !allowed(state, agent, op) {
+        return Err(NotAllowed);
+    }
+    let record = &mut state.agents[agent as usize];
+    Ok(make_step(&state.shape, &mut state.words, agent, op, record))
+}

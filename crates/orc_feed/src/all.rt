@@ -1,0 +1,68 @@
+ghost use Rattle.std.specs.Prelude.{◌≡◌, ◌+◌, ◌^◌, ◌<◌, ◌≤◌, List, IfErr, IfOk, OnErr, OnOk, length, Some, ℕ};
+ghost use Rattle.std.specs.Io.KnownBytes.{Appends, Consumes, IsAtEnd};
+ghost use Rattle.orc_feed.specs.Faults.{HasCause, Rose};
+ghost use Rattle.orc_feed.specs.Whole.{AppendsPrefix, TakesFront, TakesWhole};
+
+use crate::{Sink, Source};
+use orc_fault::Failed;
+use std::alloc::Global;
+
+/// Why not all bytes of a source were taken.
+#[derive(Clone, Copy, Debug, PartialEq, Eq, Drop)]
+pub enum ReadAll {
+    Failed,
+    NoMemory,
+}
+
+const CHUNK: usize = 4096;
+
+/// Takes all bytes of a source, or one more than `limit` bytes of it where there are more. A read
+/// asks for 4,096 bytes, or for what is missing up to `limit + 1` where that is less. An `Err` has
+/// taken some bytes, which are lost.
+pub fn read_all<S: Source>(alloc: Global, source: &mut S, limit: u64) -> Result<Vec<u8>, ReadAll>
+    requires { limit < 2 ^ 32 }
+    ensures bytes { IfOk result (λ v. Consumes (S.left source.old) (S.left source.new) v.items) }
+    ensures all { IfOk result (λ v. length v.items ≤ limit → IsAtEnd (S.left source.new)) }
+    ensures bound { IfOk result (λ v. length v.items ≤ limit + 1) }
+    ensures whole { (bytes : List ℕ) → S.left source.old ≡ Some bytes
+        → IfOk result (λ v. TakesWhole limit bytes (S.left source.new) v.items) }
+
+    ensures err { OnErr result (TakesFront (S.left source.old) (S.left source.new)) }
+    ensures later { S.faults source.old ≤ S.faults source.new }
+    ensures failed { IfErr result (λ e. e ≡ ReadAll.Failed
+        → Rose (S.faults source.old) (S.faults source.new)) }
+{
+    let most = limit as usize + 1;
+    let mut all = Vec::new(alloc);
+    let mut chunk = [0u8; CHUNK];
+    while all.len() < most {
+        let wanted = CHUNK.min(most - all.len());
+        let Ok(count) = source.read(&mut chunk[..wanted]) else {
+            return Err(ReadAll::Failed);
+        };
+        if count == 0 {
+            return Ok(all);
+        }
+        if all.extend_from_slice(&chunk[..count]).is_err() {
+            return Err(ReadAll::NoMemory);
+        }
+    }
+    Ok(all)
+}
+
+/// Writes all of a text.
+pub fn write_all<K: Sink>(sink: &mut K, text: &[u8]) -> Result<(), Failed>
+    ensures ok { OnOk result (Appends (K.written sink.old) (K.written sink.new) text.now) }
+    ensures err { OnErr result (AppendsPrefix (K.written sink.old) (K.written sink.new) text.now) }
+    ensures cause { HasCause (K.faults sink.old) (K.faults sink.new) result }
+{
+    let mut at = 0;
+    while at < text.len() {
+        let count = sink.write(&text[at..])?;
+        if count == 0 {
+            return Err(Failed);
+        }
+        at += count;
+    }
+    Ok(())
+}

@@ -1,0 +1,18 @@
+//! Streams of bytes whose faults are counted: the two traits, streams in memory, and the two loops
+//! that read and write all.
+#![tactic(auto)]
+
+mod all;
+mod memory_sink;
+mod memory_source;
+mod plan;
+mod sink;
+mod source;
+#[cfg(test)]
+mod tests;
+
+pub use all::{ReadAll, read_all, write_all};
+pub use memory_sink::MemorySink;
+pub use memory_source::MemorySource;
+pub use sink::Sink;
+pub use source::Source;

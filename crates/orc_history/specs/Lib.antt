@@ -1,0 +1,6 @@
+pub mod Journals
+pub mod QueueHistory
+pub mod SetHistory
+pub mod StoredHistory
+pub mod PlainQueue
+pub mod PlainSet

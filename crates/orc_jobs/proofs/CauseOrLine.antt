@@ -1,0 +1,72 @@
+-- No record has neither a cause nor a line.
+use Rattle.std.proofs.Common.{◌≡◌, ◌≢◌, ◌<◌, ◌⊎◌, All, IsUtf8, List, [], ◌∷◌, ℕ, zero, suc, arith, codes, inl, inr, length, refl}
+use Rattle.std.specs.Fmt.{decimal}
+use Rattle.orc_jobs.specs.JobGrammar.{Applies, HasCause, IsLine, Takes, field, rank_of, record_of, word_of}
+use Rattle.orc_jobs.specs.declared.cause.Cause.{Cause}
+use Rattle.orc_jobs.specs.declared.cause.Cause.TheVariants as cause
+use Rattle.orc_jobs.specs.declared.line.Job.{Job}
+use Rattle.orc_jobs.specs.declared.line.Job.TheVariants as job
+use Rattle.orc_jobs.specs.declared.line.Line.{Line}
+use Rattle.orc_jobs.specs.declared.line.Line.TheVariants as line
+
+-- where no cause is the first that applies, none applies
+none-applies : (fields : List (List ℕ)) → ((why : Cause) → ¬ HasCause fields why) → (n : ℕ) (why : Cause) → rank_of why < n → ¬ Applies why fields
+none-applies fields none zero why lt bad = omega (arith, lt)
+none-applies fields none (suc n) why lt bad =
+    none why (record { applies = bad; first = λ earlier before. none-applies fields none n earlier (omega (arith, lt, before)) })
+
+-- to refute a claim, one may ask of any fact whether it holds
+whether : (P : Type 0) → ¬ ¬ (P ⊎ ¬ P)
+whether P k = k (inr (λ p. k (inl p)))
+
+two-fields : (fields : List (List ℕ)) (a b : List ℕ) → length fields ≡ 2 → field fields 0 ≡ a → field fields 1 ≡ b → fields ≡ a ∷ b ∷ []
+two-fields [] a b n p q = absurd (omega (arith, n))
+two-fields (x ∷ []) a b n p q = absurd (omega (arith, n))
+two-fields (x ∷ y ∷ []) a b n p q = cc
+two-fields (x ∷ y ∷ z ∷ rest) a b n p q = absurd (omega (arith, n))
+
+four-fields : (fields : List (List ℕ)) (a b c d : List ℕ) → length fields ≡ 4 → field fields 0 ≡ a → field fields 1 ≡ b → field fields 2 ≡ c → field fields 3 ≡ d
+    → fields ≡ a ∷ b ∷ c ∷ d ∷ []
+four-fields [] a b c d n p q r s = absurd (omega (arith, n))
+four-fields (x ∷ []) a b c d n p q r s = absurd (omega (arith, n))
+four-fields (x ∷ y ∷ []) a b c d n p q r s = absurd (omega (arith, n))
+four-fields (x ∷ y ∷ z ∷ []) a b c d n p q r s = absurd (omega (arith, n))
+four-fields (x ∷ y ∷ z ∷ w ∷ []) a b c d n p q r s = cc
+four-fields (x ∷ y ∷ z ∷ w ∷ v ∷ rest) a b c d n p q r s = absurd (omega (arith, n))
+
+-- a record of which no cause applies and that stands for no line
+record Neither (fields : List (List ℕ)) : Type 0 where
+  causes : (why : Cause) → ¬ Applies why fields
+  lines : (l : Line) → IsLine l → fields ≢ record_of l
+
+no-drop : (fields : List (List ℕ)) → Neither fields → field fields 0 ≢ codes "drop"
+no-drop fields none drop = whether (length fields ≡ 2) (λ o. elim o [
+  | inl two ↦ none.causes cause.Id (λ id. none.lines (line.Drop id.0) id.1 (two-fields fields (codes "drop") (decimal id.0) two drop id.2))
+  | inr other ↦ none.causes cause.Fields (inl (drop, other))
+])
+
+-- the text of a post fits its operation
+takes : (fields : List (List ℕ)) (op : Job) → Neither fields → field fields 0 ≡ codes "post" → field fields 2 ≡ word_of op → ¬ ¬ Takes op (field fields 3)
+takes fields job.Bytes none post word k = k tt
+takes fields job.Words none post word k = k tt
+takes fields job.Sum none post word k = none.causes cause.Sum (post, word, k)
+
+no-post : (fields : List (List ℕ)) → Neither fields → All IsUtf8 fields → field fields 0 ≢ codes "drop" → field fields 0 ≢ codes "post"
+no-post fields none text no_drop post = whether (length fields ≡ 4) (λ o. elim o [
+  | inl four ↦
+      none.causes cause.Id (λ id. none.causes cause.Op (
+        post,
+        λ op. takes fields op.0 none post op.1 (λ fits.
+            none.lines (line.Post id.0 op.0 (field fields 3)) (id.1, text 3 [] (omega (arith, four)), fits)
+            (four-fields fields (codes "post") (decimal id.0) (word_of op.0) (field fields 3) four post id.2 op.1 refl)),
+      ))
+  | inr other ↦ none.causes cause.Fields (inr (no_drop, other))
+])
+
+not-neither : (fields : List (List ℕ)) → ¬ Neither fields
+not-neither fields none = none.causes cause.Utf8 (λ text.
+    let no_drop = no-drop fields none in
+    none.causes cause.Verb (no-post fields none text no_drop, no_drop))
+
+pub cause-or-line : (fields : List (List ℕ)) → ((why : Cause) → ¬ HasCause fields why) → ¬ ((l : Line) → IsLine l → fields ≢ record_of l)
+cause-or-line fields none lines = not-neither fields (record { causes = λ why. none-applies fields none (suc (rank_of why)) why (omega arith); lines = lines })

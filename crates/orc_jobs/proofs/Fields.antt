@@ -1,0 +1,18 @@
+-- The fields of a record, one by one.
+use Rattle.std.proofs.Common.{◌≡◌, List, [], ◌∷◌, ℕ, zero, suc, refl}
+use Rattle.std.specs.declared.option.Option.{Option}
+use Rattle.std.specs.declared.option.Option.TheVariants.{None, Some}
+use Rattle.csv.specs.Records.{field_at}
+use Rattle.orc_jobs.specs.JobGrammar.{field}
+
+pub field-some : (fields : List (List ℕ)) (i : ℕ) (text : List ℕ) → Some text ≡ field_at fields i → text ≡ field fields i
+unfolding field_at
+field-some [] i text e = cc e
+field-some (f ∷ fs) zero text e = cc e
+field-some (f ∷ fs) (suc i) text e = field-some fs i text e
+
+pub field-none : (fields : List (List ℕ)) (i : ℕ) → ◌≡◌ {A = Option (List ℕ)} None (field_at fields i) → [] ≡ field fields i
+unfolding field_at
+field-none [] i e = refl
+field-none (f ∷ fs) zero e = cc e
+field-none (f ∷ fs) (suc i) e = field-none fs i e

@@ -1,0 +1,10 @@
+pub mod Numerals
+pub mod NumberLists
+pub mod Fields
+pub mod CsvRecords
+pub mod RecordSizes
+pub mod LineRecords
+pub mod GrammarLaws
+pub mod GoodLinesLemmas
+pub mod JobValues
+pub mod CauseOrLine

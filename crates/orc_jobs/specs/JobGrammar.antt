@@ -1,0 +1,89 @@
+-- What a job file says: how each line is spelled as a record, and what is first amiss with a record that is the spelling of none.
+-- The records are those of RFC 4180 as the crate `csv` reads them, with no header row, of any lengths, and all else at its defaults.
+use Rattle.std.specs.Prelude.{◌≡◌, ◌≢◌, ◌^◌, ◌<◌, ◌≤◌, ◌⊎◌, ◌∷◌, ◌++◌, All, IsUtf8, List, [], ℕ, codes, length, map, slice_index_or, ⊤}
+use Rattle.std.specs.Fmt.{decimal}
+use Rattle.csv.specs.Reading.{default_config, records, strip_bom}
+use Rattle.orc_jobs.specs.Numbers.{IsNumber, IsNumberList}
+use Rattle.orc_jobs.specs.declared.cause.Cause.{Cause}
+use Rattle.orc_jobs.specs.declared.cause.Cause.TheVariants as cause
+use Rattle.orc_jobs.specs.declared.cause.JobsFault.{JobsFault}
+use Rattle.orc_jobs.specs.declared.cause.JobsFault.TheVariants as fault
+use Rattle.orc_jobs.specs.declared.line.Job.{Job}
+use Rattle.orc_jobs.specs.declared.line.Job.TheVariants as job
+use Rattle.orc_jobs.specs.declared.line.Line.{Line}
+use Rattle.orc_jobs.specs.declared.line.Line.TheVariants as line
+
+-- every record of the bytes without a byte order mark, each the list of its fields
+abbrev pub records_of : List ℕ → List (List (List ℕ))
+records_of bytes = records default_config (strip_bom bytes)
+
+-- the word of an operation
+abbrev pub word_of : Job → List ℕ
+word_of job.Bytes = codes "bytes"
+word_of job.Words = codes "words"
+word_of job.Sum = codes "sum"
+
+-- the record that a line is spelled as
+abbrev pub record_of : Line → List (List ℕ)
+record_of (line.Post id op text) = codes "post" ∷ decimal id ∷ word_of op ∷ text ∷ []
+record_of (line.Drop id) = codes "drop" ∷ decimal id ∷ []
+
+-- an operation takes this text: `sum` takes spelled numbers, and the others any text
+abbrev pub Takes : Job → List ℕ → Type 0
+Takes job.Bytes text = ⊤
+Takes job.Words text = ⊤
+Takes job.Sum text = IsNumberList text
+
+-- a line that a record with nothing amiss can stand for
+abbrev pub IsLine : Line → Type 0
+IsLine (line.Post id op text) = (id < 2 ^ 32) × IsUtf8 text × Takes op text
+IsLine (line.Drop id) = id < 2 ^ 32
+
+-- the bytes are the file of these lines
+pub record IsFileOf (lines : List Line) (bytes : List ℕ) : Type 0 where
+  pub records : records_of bytes ≡ map record_of lines
+  pub each : All IsLine lines
+  pub few : length lines ≤ 65535
+
+-- a field of a record, or nothing past its end
+abbrev pub field : List (List ℕ) → ℕ → List ℕ
+field fields place = slice_index_or fields place []
+
+-- the word of some operation
+abbrev pub IsOpWord : List ℕ → Type 0
+IsOpWord text = (op : Job) × (text ≡ word_of op)
+
+-- this cause applies to a record
+abbrev pub Applies : Cause → List (List ℕ) → Type 0
+Applies cause.Fields fields = ((field fields 0 ≡ codes "drop") × (length fields ≢ 2)) ⊎ ((field fields 0 ≢ codes "drop") × (length fields ≢ 4))
+Applies cause.Utf8 fields = ¬ All IsUtf8 fields
+Applies cause.Verb fields = (field fields 0 ≢ codes "post") × (field fields 0 ≢ codes "drop")
+Applies cause.Id fields = ¬ IsNumber (field fields 1)
+Applies cause.Op fields = (field fields 0 ≡ codes "post") × ¬ IsOpWord (field fields 2)
+Applies cause.Sum fields = (field fields 0 ≡ codes "post") × (field fields 2 ≡ codes "sum") × ¬ IsNumberList (field fields 3)
+
+-- the order of the causes
+abbrev pub rank_of : Cause → ℕ
+rank_of cause.Fields = 0
+rank_of cause.Utf8 = 1
+rank_of cause.Verb = 2
+rank_of cause.Id = 3
+rank_of cause.Op = 4
+rank_of cause.Sum = 5
+
+-- the cause of a record: the first that applies
+pub record HasCause (fields : List (List ℕ)) (why : Cause) : Type 0 where
+  pub applies : Applies why fields
+  pub first : (earlier : Cause) → rank_of earlier < rank_of why → ¬ Applies earlier fields
+
+-- the records of the bytes are these lines and then these others
+pub record BeginsWith (bytes : List ℕ) (front : List Line) (rest : List (List (List ℕ))) : Type 0 where
+  pub records : records_of bytes ≡ map record_of front ++ rest
+  pub each : All IsLine front
+
+-- the bytes are refused with this fault: some lines, and then a record with a cause within the first 65,535; or 65,535 lines, and then any record
+abbrev pub Refuses : List ℕ → JobsFault → Type 0
+Refuses bytes (fault.Malformed at why) = (front : List Line) × (bad : List (List ℕ)) × (rest : List (List (List ℕ))) × BeginsWith bytes front (bad ∷ rest)
+    × (length front ≡ at) × (at < 65535) × HasCause bad why
+Refuses bytes fault.TooMany = (front : List Line) × (more : List (List ℕ)) × (rest : List (List (List ℕ))) × BeginsWith bytes front (more ∷ rest) × (length front ≡ 65535)
+Refuses bytes fault.NoMemory = ⊤

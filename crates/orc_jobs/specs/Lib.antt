@@ -1,0 +1,7 @@
+pub mod Line
+pub mod Numbers
+pub mod JobGrammar
+pub mod JobValue
+pub mod GoodLines
+pub mod Refused
+pub mod Plain

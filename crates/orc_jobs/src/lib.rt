@@ -1,0 +1,22 @@
+//! Job files: their lines, how they are read, and what each line is worth.
+#![tactic(auto)]
+
+mod cause;
+mod laws;
+mod line;
+mod lines;
+mod number;
+mod read;
+mod record;
+#[cfg(test)]
+mod tests;
+mod text;
+mod value;
+
+pub use cause::{Cause, JobsFault};
+pub use laws::{records_are_determined, values_are_determined};
+pub use line::{Job, Line};
+pub use lines::Lines;
+pub use read::read_jobs;
+pub use text::Text;
+pub use value::job_value;

@@ -1,0 +1,16 @@
+use crate::Text;
+
+/// What is computed of a text: its bytes or its words are counted, or its numbers are added.
+#[derive(Clone, Copy, Debug, PartialEq, Eq, Drop)]
+pub enum Job {
+    Bytes,
+    Words,
+    Sum,
+}
+
+/// A line of a job file: it opens an id and posts a job with it, or closes an id.
+#[derive(Drop, Debug)]
+pub enum Line {
+    Post { id: u32, op: Job, text: Text },
+    Drop { id: u32 },
+}

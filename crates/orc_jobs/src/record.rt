@@ -1,0 +1,107 @@
+ghost use Rattle.std.specs.Prelude.{◌≡◌, ◌≢◌, ◌↔◌, All, IfErr, IfNone, IfOk, IfSome, IsTrue, IsUtf8, true, false};
+ghost use Rattle.csv.specs.Records.{fields_of};
+ghost use Rattle.orc_jobs.specs.JobGrammar.{IsLine, IsOpWord, field, record_of, word_of};
+ghost use Rattle.orc_jobs.specs.Refused.{Explains};
+
+use crate::number::{is_number_list, number_of};
+use crate::{Cause, Job, Line, Text};
+use csv::ByteRecord;
+use orc_fault::NoMemory;
+use std::alloc::Global;
+use std::str;
+
+/// Why a record gives no line.
+#[derive(Clone, Copy, Debug, PartialEq, Eq, Drop)]
+pub enum Refused {
+    Cause(Cause),
+    NoMemory,
+}
+
+/// The line that a record stands for, or the first cause that applies to it.
+pub fn line_of(alloc: Global, row: &ByteRecord) -> Result<Line, Refused>
+    ensures ok { IfOk result (λ line. (fields_of row.now ≡ record_of line) × IsLine line) }
+    ensures err { IfErr result (Explains (fields_of row.now)) }
+{
+    let verb = field_of(row, 0);
+    let is_drop = is_word(verb, b"drop");
+    let wanted = if is_drop { 2 } else { 4 };
+    if row.len() != wanted {
+        return Err(Refused::Cause(Cause::Fields));
+    }
+    if !is_text(row) {
+        return Err(Refused::Cause(Cause::Utf8));
+    }
+    if !is_drop && !is_word(verb, b"post") {
+        return Err(Refused::Cause(Cause::Verb));
+    }
+    let Some(id) = number_of(field_of(row, 1)) else {
+        return Err(Refused::Cause(Cause::Id));
+    };
+    if is_drop {
+        return Ok(Line::Drop { id });
+    }
+    let Some(op) = op_of(field_of(row, 2)) else {
+        return Err(Refused::Cause(Cause::Op));
+    };
+    let text = field_of(row, 3);
+    if op == Job::Sum && !is_number_list(text) {
+        return Err(Refused::Cause(Cause::Sum));
+    }
+    match Text::from_slice(alloc, text) {
+        Ok(text) => Ok(Line::Post { id, op, text }),
+        Err(NoMemory) => Err(Refused::NoMemory),
+    }
+}
+
+// The operation of a word.
+fn op_of(word: &[u8]) -> Option<Job>
+    ensures some { IfSome result (λ op. word.now ≡ word_of op) }
+    ensures none { IfNone result (¬ IsOpWord word.now) }
+{
+    if is_word(word, b"bytes") {
+        Some(Job::Bytes)
+    } else if is_word(word, b"words") {
+        Some(Job::Words)
+    } else if is_word(word, b"sum") {
+        Some(Job::Sum)
+    } else {
+        None
+    }
+}
+
+// Whether each field is UTF-8.
+fn is_text(row: &ByteRecord) -> bool
+    ensures { IsTrue result ↔ All IsUtf8 (fields_of row.now) }
+{
+    for place in 0..row.len() {
+        if !is_utf8(field_of(row, place)) {
+            return false;
+        }
+    }
+    true
+}
+
+fn is_utf8(field: &[u8]) -> bool
+    ensures text { result ≡ true → IsUtf8 field.now }
+    ensures other { result ≡ false → ¬ IsUtf8 field.now }
+{
+    str::from_utf8(field).is_ok()
+}
+
+// Whether a field is this word.
+fn is_word(text: &[u8], word: &[u8]) -> bool
+    ensures same { result ≡ true → text.now ≡ word.now }
+    ensures other { result ≡ false → text.now ≢ word.now }
+{
+    text == word
+}
+
+// A field of a record, or nothing past its end.
+fn field_of(row: &ByteRecord, place: usize) -> &[u8]
+    ensures { result.now ≡ field (fields_of row.now) place }
+{
+    match row.get(place) {
+        Some(text) => text,
+        None => b"",
+    }
+}

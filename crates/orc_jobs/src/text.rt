@@ -1,0 +1,73 @@
+ghost use Rattle.std.specs.Prelude.{◌≡◌, ◌<◌, ◌++◌, ◌∷◌, [], List, ℕ, OnErr, OnOk, IfOk, length, slice_index};
+
+use orc_fault::NoMemory;
+use std::alloc::Global;
+use std::marker::Model;
+
+/// A list of bytes.
+#[derive(Drop, Debug)]
+pub struct Text {
+    items: Vec<u8>,
+}
+
+impl Model for Text {
+    ghost use Rattle.std.specs.Prelude.{List, ℕ};
+
+    ghost Value = { List ℕ };
+
+    ghost view = { λ t. t.items.items };
+}
+
+impl Text {
+    /// No byte; it takes no memory.
+    pub fn new(alloc: Global) -> Text
+        ensures { result ≡ [] }
+    {
+        Text {
+            items: Vec::new(alloc),
+        }
+    }
+
+    /// A text of these bytes.
+    pub fn from_slice(alloc: Global, bytes: &[u8]) -> Result<Text, NoMemory>
+        ensures { IfOk result (λ t. t ≡ bytes.now) }
+    {
+        match Vec::from_slice(alloc, bytes) {
+            Ok(items) => Ok(Text { items }),
+            Err(_) => Err(NoMemory),
+        }
+    }
+
+    /// Appends a byte, or changes nothing.
+    pub fn push(&mut self, item: u8) -> Result<(), NoMemory>
+        ensures ok { OnOk result (self.new ≡ self.old ++ item ∷ []) }
+        ensures err { OnErr result (self.new ≡ self.old) }
+    {
+        match self.items.push(item) {
+            Ok(()) => Ok(()),
+            Err(_) => Err(NoMemory),
+        }
+    }
+
+    /// How many bytes it has.
+    pub fn len(&self) -> usize
+        ensures { result ≡ length self.now }
+    {
+        self.items.len()
+    }
+
+    /// The byte at a place, from 0.
+    pub fn get(&self, index: usize) -> u8
+        requires { index < length self.now }
+        ensures { result ≡ slice_index self.now index }
+    {
+        self.items[index]
+    }
+
+    /// All bytes.
+    pub fn bytes(&self) -> &[u8]
+        ensures { result.now ≡ self.now }
+    {
+        self.items.as_slice()
+    }
+}

@@ -1,0 +1,4 @@
+pub mod PositionOrder
+pub mod ReportedReplies
+pub mod PlainEnd
+pub mod Inputs

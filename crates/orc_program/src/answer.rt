@@ -1,0 +1,76 @@
+//! What is answered to the bytes of an input.
+ghost use Rattle.std.specs.Prelude.{◌≡◌, ◌≤◌, IfOk, List, ℕ, length};
+ghost use Rattle.std.specs.String.{string_bytes};
+ghost use Rattle.orc_jobs.specs.JobGrammar.{IsFileOf, Refuses};
+ghost use Rattle.orc_jobs.specs.declared.cause.Cause.{Cause};
+ghost use Rattle.orc_jobs.specs.declared.line.Line.{Line};
+ghost use Rattle.orc_program.specs.Answers.{Answers, IsMalformed, IsReport, IsTooMany};
+ghost use Rattle.orc_program.specs.Refusals.{cause_word, malformed_line, input_limit};
+
+use crate::plain_run::{Finished, run_plain};
+use crate::report::report_text;
+use orc_board::Gate;
+use orc_fault::NoMemory;
+use orc_jobs::{Cause, JobsFault, Text, read_jobs};
+use std::alloc::Global;
+use std::sync::Wait;
+use std::thread::Threads;
+
+/// What is to be written, and what a run has left.
+#[derive(Drop)]
+pub enum Answer {
+    Report { text: Text, finished: Finished },
+    Malformed { text: String },
+    TooMany,
+}
+
+// Reads the jobs, runs them and reports, or refuses them.
+pub(crate) fn answer_to<R: Threads + Wait + Sync, G: Gate + Sync>(
+    rt: &R,
+    alloc: Global,
+    bytes: &[u8],
+    gate: &G,
+) -> Result<Answer, NoMemory>
+    requires { length bytes.now ≤ input_limit }
+    ensures answers { IfOk result (Answers bytes.now) }
+    ensures file { (lines : List Line) → IsFileOf lines bytes.now → IfOk result IsReport }
+    ensures malformed { (place : ℕ) (why : Cause) → Refuses bytes.now (JobsFault.Malformed place why) → IfOk result (IsMalformed (malformed_line place why)) }
+    ensures many { Refuses bytes.now JobsFault.TooMany → IfOk result IsTooMany }
+{
+    let lines = match read_jobs(alloc, bytes) {
+        Ok(lines) => lines,
+        Err(JobsFault::Malformed { line, cause }) => {
+            let text = malformed(alloc, line, cause)?;
+            return Ok(Answer::Malformed { text });
+        }
+        Err(JobsFault::TooMany) => return Ok(Answer::TooMany),
+        Err(JobsFault::NoMemory) => return Err(NoMemory),
+    };
+    let finished = run_plain(rt, alloc, &lines, gate)?;
+    let text = report_text(alloc, &lines, &finished.replies, None)?;
+    Ok(Answer::Report { text, finished })
+}
+
+// The line that names a record and its cause.
+fn malformed(alloc: Global, line: u32, cause: Cause) -> Result<String, NoMemory>
+    ensures { IfOk result (λ text. string_bytes text ≡ malformed_line line cause) }
+{
+    let word = word_of(cause);
+    match format!(in alloc; "line {line}: {word}\n") {
+        Ok(text) => Ok(text),
+        Err(_) => Err(NoMemory),
+    }
+}
+
+fn word_of(cause: Cause) -> &'static str
+    ensures { result.now ≡ cause_word cause }
+{
+    match cause {
+        Cause::Fields => "fields",
+        Cause::Utf8 => "utf8",
+        Cause::Verb => "verb",
+        Cause::Id => "id",
+        Cause::Op => "op",
+        Cause::Sum => "sum",
+    }
+}

@@ -1,0 +1,20 @@
+//! The job board program: a job file is read, worked through and reported.
+#![tactic(auto)]
+
+mod answer;
+mod ended;
+mod plain_run;
+pub mod report;
+mod streams;
+mod top_call;
+mod words;
+
+pub use ended::Ended;
+pub use plain_run::{Finished, run_plain};
+pub use report::{RestNumbers, report_text};
+pub use streams::{StdSink, StdSource};
+pub use top_call::orc_main;
+pub use words::CommandWords;
+
+#[cfg(test)]
+mod tests;

@@ -1,0 +1,217 @@
+ghost use Rattle.std.specs.Prelude.{◌≡◌, ◌∷◌, [], codes, None};
+ghost use Rattle.orc_board.specs.declared.replies.TakeWord.{TakeWord};
+ghost use Rattle.orc_program.specs.Report.{by_position, report_of};
+
+use crate::{CommandWords, Ended, RestNumbers, orc_main, report_text, run_plain};
+use orc_board::OpenGate;
+use orc_feed::{MemorySink, MemorySource};
+use orc_jobs::read_jobs;
+use std::alloc::Global;
+use std::process::Abort;
+use std::sync::Wait;
+use std::test::Fail;
+use std::thread::Threads;
+
+const FIVE_LINES: &[u8] =
+    b"post,7,bytes,hello\npost,9,sum,1 2 3\ndrop,9\npost,7,words,a b\ndrop,8\n";
+
+const FIVE_LINES_REPORT: &[u8] =
+    b"board\n0 line 0 id 7 done 5\n1 line 1 id 9 void\nreplies\nposter 1 line 0 posted 0\nposter 1 line 1 posted 1\nposter 1 line 2 dropped\nposter 1 line 3 busy\nposter 1 line 4 unknown\ntaker 0 at 0 done 5\ntaker 0 at 1 void\n";
+
+const FIVE_LINES_REST: &[u8] =
+    b"rest\nqueue given 3 reused 2 linked 1\nset given 2 reused 2 linked 0\n";
+
+// The report of no line.
+fn empty_report()
+    ensures { report_of [] [] [] None ≡ codes "board\nreplies\n" }
+{}
+
+// Two claims, of which the later position was reported first.
+fn board_in_order()
+    ensures { by_position (record { taker = 0; at = 1; line = 0; what = TakeWord.Void } ∷ record { taker = 1; at = 0; line = 2; what = TakeWord.Done 5 } ∷ [])
+        ≡ record { taker = 1; at = 0; line = 2; what = TakeWord.Done 5 } ∷ record { taker = 0; at = 1; line = 0; what = TakeWord.Void } ∷ [] }
+{}
+
+// Runs an input that comes in pieces, with faults at the given calls.
+fn run<R: Threads + Wait + Sync + Abort>(
+    rt: &R,
+    alloc: Global,
+    input: &[u8],
+    read_fails: &[u64],
+    room: u64,
+    write_fails: &[u64],
+    status: u8,
+    output: &[u8],
+) -> Result<(), Fail> {
+    let mut source = MemorySource::new(alloc, input, 4096, read_fails)?;
+    let mut sink = MemorySink::new(alloc, room, 16, write_fails)?;
+    let words = CommandWords::new(alloc);
+    let mut ended = Ended::new();
+    let got = orc_main(
+        rt,
+        alloc,
+        &words,
+        &mut source,
+        &mut sink,
+        &OpenGate,
+        &mut ended,
+    );
+    assert_eq!(rt; got, status);
+    assert_eq!(rt; sink.bytes(), output);
+    assert_eq!(rt; ended.replies.is_some(), status == 0 || status == 5);
+    Ok(())
+}
+
+#[test]
+fn reports(rt: HostRuntime) -> Result<(), Fail> {
+    let cases: [(&[u8], &[u8]); 6] = [
+        (b"", b"board\nreplies\n"),
+        (FIVE_LINES, FIVE_LINES_REPORT),
+        (
+            b"post,5,bytes,a\ndrop,5\npost,5,bytes,bc\n",
+            b"board\n0 line 0 id 5 done 1\n1 line 2 id 5 void\nreplies\nposter 1 line 0 posted 0\nposter 1 line 1 dropped\nposter 1 line 2 posted 1\ntaker 0 at 0 done 1\ntaker 0 at 1 void\n",
+        ),
+        (
+            b"post,4294967295,bytes,x\n",
+            b"board\n0 line 0 id 4294967295 done 1\nreplies\nposter 1 line 0 posted 0\ntaker 0 at 0 done 1\n",
+        ),
+        (
+            b"post,1,sum,\n",
+            b"board\n0 line 0 id 1 done 0\nreplies\nposter 1 line 0 posted 0\ntaker 0 at 0 done 0\n",
+        ),
+        (
+            b"post,1,bytes,\"a\nb\"\n",
+            b"board\n0 line 0 id 1 done 3\nreplies\nposter 1 line 0 posted 0\ntaker 0 at 0 done 3\n",
+        ),
+    ];
+    for (input, output) in cases {
+        run(&rt, rt.alloc(), input, &[], 1000, &[], 0, output)?;
+    }
+    Ok(())
+}
+
+#[test]
+fn names_the_first_refused_record(rt: HostRuntime) -> Result<(), Fail> {
+    let cases: [(&[u8], &[u8]); 7] = [
+        (b"post,4294967296,bytes,x\n", b"line 0: id\n"),
+        (b"post,007,bytes,x\n", b"line 0: id\n"),
+        (b"post,1,sum,1  2\n", b"line 0: sum\n"),
+        (b"post,1,bytes,\"a\nb\"\ndrop\n", b"line 1: fields\n"),
+        (b"drop,1\nput,1,bytes,x\ndrop\n", b"line 1: verb\n"),
+        (b"post,1,lines,x\n", b"line 0: op\n"),
+        (b"post,1,bytes,\xff\n", b"line 0: utf8\n"),
+    ];
+    for (input, output) in cases {
+        run(&rt, rt.alloc(), input, &[], 1000, &[], 3, output)?;
+    }
+    Ok(())
+}
+
+#[test]
+fn words_are_refused(rt: HostRuntime) -> Result<(), Fail> {
+    let mut words = CommandWords::new(rt.alloc());
+    words.push("run")?;
+    let mut source = MemorySource::new(rt.alloc(), FIVE_LINES, 4096, &[])?;
+    let mut sink = MemorySink::new(rt.alloc(), 1000, 16, &[])?;
+    let mut ended = Ended::new();
+    let got = orc_main(
+        &rt,
+        rt.alloc(),
+        &words,
+        &mut source,
+        &mut sink,
+        &OpenGate,
+        &mut ended,
+    );
+    assert_eq!(&rt; got, 2);
+    assert_eq!(&rt; sink.bytes(), b"words refused\n".as_slice());
+    Ok(())
+}
+
+// A run of the five lines reads twice, and writes its report in 14 pieces of at most 16 bytes.
+#[test]
+fn fails_at_each_call(rt: HostRuntime) -> Result<(), Fail> {
+    for call in 0..2 {
+        run(&rt, rt.alloc(), FIVE_LINES, &[call], 1000, &[], 4, b"")?;
+    }
+    for call in 0..14 {
+        let written = call as usize * 16;
+        if written < FIVE_LINES_REPORT.len() {
+            let front = &FIVE_LINES_REPORT[..written];
+            run(&rt, rt.alloc(), FIVE_LINES, &[], 1000, &[call], 5, front)?;
+            run(
+                &rt,
+                rt.alloc(),
+                FIVE_LINES,
+                &[],
+                written as u64,
+                &[],
+                5,
+                front,
+            )?;
+        }
+    }
+    Ok(())
+}
+
+#[test]
+fn largest_inputs(rt: HostRuntime) -> Result<(), Fail> {
+    let mut input = vec![in rt.alloc(); b'x'; 16777216]?;
+    run(
+        &rt,
+        rt.alloc(),
+        input.as_slice(),
+        &[],
+        1000,
+        &[],
+        3,
+        b"line 0: fields\n",
+    )?;
+    input.push(b'x')?;
+    run(
+        &rt,
+        rt.alloc(),
+        input.as_slice(),
+        &[],
+        1000,
+        &[],
+        6,
+        b"input too large\n",
+    )?;
+    let mut drops = Vec::new(rt.alloc());
+    for _ in 0..65536 {
+        drops.extend_from_slice(b"drop,1\n")?;
+    }
+    run(
+        &rt,
+        rt.alloc(),
+        drops.as_slice(),
+        &[],
+        1000,
+        &[],
+        6,
+        b"input too large\n",
+    )?;
+    Ok(())
+}
+
+#[test]
+fn report_with_what_is_at_rest(rt: HostRuntime) -> Result<(), Fail> {
+    let Ok(lines) = read_jobs(rt.alloc(), FIVE_LINES) else {
+        panic!(&rt; "the five lines are a job file");
+    };
+    let finished = run_plain(&rt, rt.alloc(), &lines, &OpenGate)?;
+    let rest = RestNumbers {
+        queue_given: 3,
+        queue_reused: 2,
+        queue_linked: 1,
+        set_given: 2,
+        set_reused: 2,
+        set_linked: 0,
+    };
+    let text = report_text(rt.alloc(), &lines, &finished.replies, Some(&rest))?;
+    assert!(&rt; text.bytes().starts_with(FIVE_LINES_REPORT));
+    assert!(&rt; text.bytes().ends_with(FIVE_LINES_REST));
+    assert_eq!(&rt; text.len(), FIVE_LINES_REPORT.len() + FIVE_LINES_REST.len());
+    Ok(())
+}

@@ -1,0 +1,115 @@
+//! The whole program over any source and sink.
+ghost use Rattle.std.specs.Prelude.{◌≡◌, ◌≢◌, ◌<◌, ◌≤◌, ◌⊎◌, [], List, ℕ, IfSome, length, Some};
+ghost use Rattle.std.specs.Io.KnownBytes.{Appends, IsAtEnd, Keeps};
+ghost use Rattle.orc_feed.specs.Faults.{Rose};
+ghost use Rattle.orc_feed.specs.Whole.{AppendsPrefix};
+ghost use Rattle.orc_jobs.specs.JobGrammar.{IsFileOf, Refuses};
+ghost use Rattle.orc_jobs.specs.declared.cause.Cause.{Cause};
+ghost use Rattle.orc_jobs.specs.declared.line.Line.{Line};
+ghost use Rattle.orc_program.specs.Ended.{IsNew};
+ghost use Rattle.orc_program.specs.Headline.{Headline};
+ghost use Rattle.orc_program.specs.Refusals.{IsTooLarge, NamesRecord, WasToWrite, input_limit, input_too_large, malformed_line, words_refused};
+
+use crate::answer::{Answer, answer_to};
+use crate::{CommandWords, Ended};
+use orc_board::Gate;
+use orc_fault::NoMemory;
+use orc_feed::{ReadAll, Sink, Source, read_all, write_all};
+use orc_jobs::JobsFault;
+use std::alloc::Global;
+use std::sync::Wait;
+use std::thread::Threads;
+
+/// The most bytes that an input may have.
+const INPUT_LIMIT: u64 = 16777216;
+
+/// Reads a job file, works through it and writes the report; or writes why not.
+///
+/// | Status | Comes | Written |
+/// |---|---|---|
+/// | 0 | the run is done | the report |
+/// | 2 | there is a word | `words refused` |
+/// | 3 | a record is outside the grammar | `line N: CAUSE` |
+/// | 4 | a read failed | nothing |
+/// | 5 | a write failed | a prefix of what was to be written |
+/// | 6 | there are too many bytes or records | `input too large` |
+/// | 7 | memory was refused | nothing |
+///
+/// The order is: words, reading, size, grammar, the run, writing.
+pub fn orc_main<R: Threads + Wait + Sync, S: Source, K: Sink, G: Gate + Sync>(
+    rt: &R,
+    alloc: Global,
+    words: &CommandWords,
+    source: &mut S,
+    sink: &mut K,
+    gate: &G,
+    ended: &mut Ended,
+) -> u8
+    requires { IsNew ended.old }
+    ensures statuses { (result ≡ 0) ⊎ (result ≡ 2) ⊎ (result ≡ 3) ⊎ (result ≡ 4) ⊎ (result ≡ 5) ⊎ (result ≡ 6) ⊎ (result ≡ 7) }
+
+    // Status 0: the headline.
+    ensures done { result ≡ 0 → (text : List ℕ) × Headline (S.left source.old) ended.new text
+        × Appends (K.written sink.old) (K.written sink.new) text }
+    ensures all_read { (result ≡ 0) ⊎ (result ≡ 3) → IsAtEnd (S.left source.new) }
+
+    // Each refusal: why it came, and what was written.
+    ensures words { result ≡ 2 → (words.now ≢ []) × Appends (K.written sink.old) (K.written sink.new) words_refused }
+    ensures malformed { result ≡ 3 → (text : List ℕ) × IfSome (S.left source.old) (λ bytes. NamesRecord bytes text)
+        × Appends (K.written sink.old) (K.written sink.new) text }
+    ensures read_fault { result ≡ 4 → Rose (S.faults source.old) (S.faults source.new) × Keeps (K.written sink.old) (K.written sink.new) }
+    ensures write_fault { result ≡ 5 → Rose (K.faults sink.old) (K.faults sink.new) }
+    ensures cut_short { result ≡ 5 → (text : List ℕ) × WasToWrite words.now (S.left source.old) ended.new text
+        × AppendsPrefix (K.written sink.old) (K.written sink.new) text }
+    ensures large { result ≡ 6 → IfSome (S.left source.old) IsTooLarge × Appends (K.written sink.old) (K.written sink.new) input_too_large }
+    ensures memory { result ≡ 7 → Keeps (K.written sink.old) (K.written sink.new) }
+    ensures nothing_ended { result ≢ 0 → result ≢ 5 → IsNew ended.new }
+
+    // When each comes, unless a read or a write failed or memory was refused.
+    ensures words_come { words.now ≢ [] → (result ≡ 2) ⊎ (result ≡ 5) }
+    ensures malformed_comes { (bytes : List ℕ) (place : ℕ) (why : Cause) → S.left source.old ≡ Some bytes → words.now ≡ []
+        → length bytes ≤ input_limit → Refuses bytes (JobsFault.Malformed place why)
+        → ((result ≡ 3) × Appends (K.written sink.old) (K.written sink.new) (malformed_line place why)) ⊎ (result ≡ 4) ⊎ (result ≡ 5) ⊎ (result ≡ 7) }
+    ensures large_comes { (bytes : List ℕ) → S.left source.old ≡ Some bytes → words.now ≡ [] → IsTooLarge bytes
+        → (result ≡ 6) ⊎ (result ≡ 4) ⊎ (result ≡ 5) ⊎ (result ≡ 7) }
+    ensures complete { (bytes : List ℕ) (lines : List Line) → S.left source.old ≡ Some bytes → words.now ≡ []
+        → length bytes ≤ input_limit → IsFileOf lines bytes
+        → ¬ Rose (S.faults source.old) (S.faults source.new) → ¬ Rose (K.faults sink.old) (K.faults sink.new)
+        → (result ≡ 0) ⊎ (result ≡ 7) }
+{
+    if !words.is_empty() {
+        return match write_all(sink, b"words refused\n") {
+            Ok(()) => 2,
+            Err(_) => 5,
+        };
+    }
+    let bytes = match read_all(alloc, source, INPUT_LIMIT) {
+        Ok(bytes) => bytes,
+        Err(ReadAll::Failed) => return 4,
+        Err(ReadAll::NoMemory) => return 7,
+    };
+    if bytes.len() as u64 > INPUT_LIMIT {
+        return match write_all(sink, b"input too large\n") {
+            Ok(()) => 6,
+            Err(_) => 5,
+        };
+    }
+    match answer_to(rt, alloc, bytes.as_slice(), gate) {
+        Ok(Answer::Report { text, finished }) => {
+            ended.keep(finished);
+            match write_all(sink, text.bytes()) {
+                Ok(()) => 0,
+                Err(_) => 5,
+            }
+        }
+        Ok(Answer::Malformed { text }) => match write_all(sink, text.as_bytes()) {
+            Ok(()) => 3,
+            Err(_) => 5,
+        },
+        Ok(Answer::TooMany) => match write_all(sink, b"input too large\n") {
+            Ok(()) => 6,
+            Err(_) => 5,
+        },
+        Err(NoMemory) => 7,
+    }
+}

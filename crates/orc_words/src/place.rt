@@ -1,0 +1,60 @@
+//! The words of a table, and the place of each.
+
+ghost use Rattle.std.specs.Prelude.{◌≡◌, ◌<◌};
+ghost use Rattle.orc_words.specs.declared.place.Word.{Word};
+ghost use Rattle.orc_words.specs.Bounds.{Bounds, bounds_of};
+ghost use Rattle.orc_words.specs.Places.{IsWithin, place, places};
+
+use crate::Shape;
+
+/// A word of the table: by its root, by its row, or by its agent and slot.
+#[derive(Clone, Copy, Debug, PartialEq, Eq)]
+pub enum Word {
+    /// How many agents have enrolled.
+    Enrolled,
+    /// A root's link.
+    Root(u32),
+    /// A row's gate word.
+    Gate(u32),
+    /// A row's counter word.
+    Counter(u32),
+    /// A row's first value.
+    First(u32),
+    /// A row's second value.
+    Second(u32),
+    /// A row's link.
+    Next(u32),
+    /// The row that an agent's slot, from 0 to 7, names.
+    Slot(u32, u32),
+    /// The row that was handed over beside such a slot.
+    Handover(u32, u32),
+}
+
+/// The place of a word. Different words have different places.
+pub fn place_of(shape: &Shape, word: Word) -> u32
+    requires { IsWithin (bounds_of shape.now) word }
+    ensures place { result ≡ place (bounds_of shape.now) word }
+    ensures inside { result < places (bounds_of shape.now) }
+    ensures apart { (other : Word) → IsWithin (bounds_of shape.now) other
+        → place (bounds_of shape.now) other ≡ result → other ≡ word }
+{
+    let first_row = 1 + shape.roots();
+    let first_agent = first_row + 5 * shape.rows();
+    match word {
+        Word::Enrolled => 0,
+        Word::Root(root) => 1 + root,
+        Word::Gate(row) => first_row + 5 * row,
+        Word::Counter(row) => first_row + 5 * row + 1,
+        Word::First(row) => first_row + 5 * row + 2,
+        Word::Second(row) => first_row + 5 * row + 3,
+        Word::Next(row) => first_row + 5 * row + 4,
+        Word::Slot(agent, slot) => first_agent + 16 * agent + slot,
+        Word::Handover(agent, slot) => first_agent + 16 * agent + 8 + slot,
+    }
+}
+
+/// In a table of any size, different words have different places, and each place is one of the table's.
+pub fn different_words_have_different_places()
+    ensures apart { (b : Bounds) (v w : Word) → IsWithin b v → IsWithin b w → place b v ≡ place b w → v ≡ w }
+    ensures inside { (b : Bounds) (w : Word) → IsWithin b w → place b w < places b }
+{}

@@ -1,0 +1,153 @@
+//! Worked examples of the definitions, and the calls at concrete values.
+
+ghost use Rattle.std.specs.Prelude.{◌≡◌, ◌≢◌, ◌+◌, ◌<◌, ◌^◌, Some, None, true, false, pos, negsuc};
+ghost use Rattle.orc_words.specs.Bounds.{Bounds, IsShape, IsFirstFault};
+ghost use Rattle.orc_words.specs.Packed.{named, link_word, link_of, counter_word, counter_of, gate_word, gate_of};
+ghost use Rattle.orc_words.specs.Places.{IsWithin, place, places};
+
+use super::*;
+use std::test::Fail;
+
+/// Row 4 with a mark is 2 × 5 + 1, and the greatest link word names row 65,534.
+fn link_words()
+    ensures null { link_word (record { to = None; mark = false }) ≡ 0 }
+    ensures marked_null { link_word (record { to = None; mark = true }) ≡ 1 }
+    ensures marked_row { link_word (record { to = Some 4; mark = true }) ≡ 11 }
+    ensures greatest { link_word (record { to = Some 65534; mark = true }) ≡ 131071 }
+    ensures read { link_of 10 ≡ record { to = Some 4; mark = false } }
+    ensures other_row { link_word (record { to = Some 4; mark = false }) ≢ 8 }
+{}
+
+/// A slot that names row 3 holds 4; 0 and 65,536 name no row.
+fn names()
+    ensures row { named 4 ≡ Some 3 }
+    ensures none { named 0 ≡ None }
+    ensures above { named 65536 ≡ None }
+{}
+
+/// Count -1 with the bit and sequence 2: 2 × 2^24 + 2^23 + (2^22 - 1).
+fn counter_words()
+    ensures new_row { counter_word (record { count = pos 0; retired = false; sequence = 0 }) ≡ 4194304 }
+    ensures below_zero { counter_word (record { count = negsuc 0; retired = true; sequence = 2 }) ≡ 46137343 }
+    ensures read { counter_of 46137343 ≡ record { count = negsuc 0; retired = true; sequence = 2 } }
+    ensures incremented { counter_of (4194304 + INCREMENT) ≡ record { count = pos 1; retired = false; sequence = 1 } }
+    ensures decremented { counter_of (4194304 + DECREMENT) ≡ record { count = negsuc 0; retired = false; sequence = 1 } }
+    ensures no_bit { counter_of 4194304 ≢ record { count = pos 0; retired = true; sequence = 0 } }
+{}
+
+/// The second life of a row that is out is 2 × 2 + 1.
+fn gate_words()
+    ensures out { gate_word (record { life = 2; out = true }) ≡ 5 }
+    ensures free { gate_of 4 ≡ record { life = 2; out = false } }
+    ensures not_out { gate_of 4 ≢ record { life = 2; out = true } }
+{}
+
+/// Two rows, one root and two agents: 1 + 1 + 5 × 2 + 16 × 2 words.
+fn word_places()
+    ensures all { places (record { rows = 2; roots = 1; agents = 2; limit = 8 }) ≡ 44 }
+    ensures second_gate { place (record { rows = 2; roots = 1; agents = 2; limit = 8 }) (Word.Gate 1) ≡ 7 }
+    ensures first_slot { place (record { rows = 2; roots = 1; agents = 2; limit = 8 }) (Word.Slot 0 0) ≡ 12 }
+    ensures last { place (record { rows = 2; roots = 1; agents = 2; limit = 8 }) (Word.Handover 1 7) ≡ 43 }
+    ensures no_third_row { ¬ IsWithin (record { rows = 2; roots = 1; agents = 2; limit = 8 }) (Word.Next 2) }
+    ensures no_ninth_slot { ¬ IsWithin (record { rows = 2; roots = 1; agents = 2; limit = 8 }) (Word.Slot 0 8) }
+{}
+
+/// One row is too few, and 17 agents are named only where rows and roots are in range.
+fn shape_ranges()
+    ensures fits { IsShape (record { rows = 65535; roots = 257; agents = 16; limit = 549755813888 }) }
+    ensures few_rows { IsFirstFault (record { rows = 1; roots = 1; agents = 17; limit = 1 }) (ShapeFault.Rows 1) }
+    ensures not_agents { ¬ IsFirstFault (record { rows = 1; roots = 1; agents = 17; limit = 1 }) (ShapeFault.Agents 17) }
+    ensures no_limit { ¬ IsShape (record { rows = 2; roots = 1; agents = 1; limit = 0 }) }
+{}
+
+fn fault_of(rows: u32, roots: u32, agents: u32, limit: u64) -> Option<ShapeFault> {
+    Shape::new(rows, roots, agents, limit).err()
+}
+
+#[test]
+fn bounds_of_a_shape(rt: HostRuntime) {
+    let top = 549_755_813_888;
+    for (rows, roots, agents, limit, want) in [
+        (2, 1, 1, 1, None),
+        (65_535, 257, 16, top, None),
+        (1, 1, 1, 1, Some(ShapeFault::Rows(1))),
+        (65_536, 1, 1, 1, Some(ShapeFault::Rows(65_536))),
+        (2, 0, 1, 1, Some(ShapeFault::Roots(0))),
+        (2, 258, 1, 1, Some(ShapeFault::Roots(258))),
+        (2, 1, 0, 1, Some(ShapeFault::Agents(0))),
+        (2, 1, 17, 1, Some(ShapeFault::Agents(17))),
+        (2, 1, 1, 0, Some(ShapeFault::Limit(0))),
+        (2, 1, 1, top + 1, Some(ShapeFault::Limit(top + 1))),
+        (1, 1, 17, 1, Some(ShapeFault::Rows(1))),
+    ] {
+        assert_eq!(rt; fault_of(rows, roots, agents, limit), want);
+    }
+}
+
+#[test]
+fn packed_words_are_read_back(rt: HostRuntime) {
+    let link = RowLink {
+        to: Some(65_534),
+        mark: true,
+    };
+    assert_eq!(rt; pack_link(link), 131_071);
+    assert_eq!(rt; read_link(131_071), Some(link));
+    assert_eq!(rt; read_link(131_072), None);
+    let counter = Counter {
+        count: -1,
+        retired: true,
+        sequence: 2,
+    };
+    assert_eq!(rt; pack_counter(counter), 46_137_343);
+    assert_eq!(rt; read_counter(46_137_343), counter);
+    let gate = Gate { life: 2, out: true };
+    assert_eq!(rt; pack_gate(gate), 5);
+    assert_eq!(rt; read_gate(5), gate);
+    assert_eq!(rt; named(4), Some(3));
+}
+
+#[test]
+fn places_of_a_small_table(rt: HostRuntime) -> Result<(), Fail> {
+    let shape = Shape::new(2, 1, 2, 8)?;
+    assert_eq!(rt; (shape.rows(), shape.roots()), (2, 1));
+    assert_eq!(rt; (shape.agents(), shape.limit()), (2, 8));
+    for (word, want) in [
+        (Word::Enrolled, 0),
+        (Word::Root(0), 1),
+        (Word::Gate(0), 2),
+        (Word::Next(1), 11),
+        (Word::Slot(1, 2), 30),
+        (Word::Handover(1, 2), 38),
+    ] {
+        assert_eq!(rt; place_in_small(&shape, word), want);
+    }
+    different_words_have_different_places();
+    Ok(())
+}
+
+/// The place of a word that the small table has; the end of the table for another.
+fn place_in_small(shape: &Shape, word: Word) -> u32 {
+    let within = match word {
+        Word::Enrolled => true,
+        Word::Root(root) => root < shape.roots(),
+        Word::Gate(row)
+        | Word::Counter(row)
+        | Word::First(row)
+        | Word::Second(row)
+        | Word::Next(row) => row < shape.rows(),
+        Word::Slot(agent, slot) | Word::Handover(agent, slot) => {
+            agent < shape.agents() && slot < 8
+        }
+    };
+    if within { place_of(shape, word) } else { 44 }
+}
+
+#[test]
+fn numbers_stand_in_the_order_in_which_they_came(rt: HostRuntime) -> Result<(), Fail> {
+    let mut words = Words::new(rt.alloc());
+    words.push(7)?;
+    words.push(u64::MAX)?;
+    assert_eq!(rt; words.len(), 2);
+    assert_eq!(rt; (words.get(0), words.get(1)), (7, u64::MAX));
+    Ok(())
+}
