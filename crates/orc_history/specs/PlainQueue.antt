@@ -1,4 +1,4 @@
--- Plain queues: what contracts see of one and of its pass, and why an enqueue is refused.
+-- Plain queues: what contracts see of one and of its pass, and why a call is refused.
 use Rattle.std.specs.Prelude.{Bool, ◌≡◌, ℕ, ◌+◌, ◌<◌, ◌≤◌, ◌^◌, List, [], ◌∷◌, length, take}
 use Rattle.std.proofs.Common.{zero, suc, arith}
 use Rattle.orc_history.specs.declared.queue.QueueEntry.{QueueEntry}
@@ -27,7 +27,8 @@ pub record IsQueuePass (queue : QueueView) (pass : QueuePassView) : Type 0 where
   pub same_first : pass.first ≡ queue.first
   pub legal : IsLegalQueue queue.first pass.history
 
--- an enqueue with these turns is refused for this cause: Again first, then NoNode, then Positions
+-- an enqueue with these turns is refused for this cause: Again first, then NoNode, then Positions;
+-- a dequeue is refused where Again is the cause
 abbrev pub RefusesEnqueue : QueueView → ℕ → List QueueEntry → QueueRefused → Type 0
 RefusesEnqueue queue turns history Again = LacksTurn queue.room turns (length history)
 RefusesEnqueue queue turns history NoNode =

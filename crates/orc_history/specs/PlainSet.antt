@@ -1,4 +1,4 @@
--- Plain sets: what contracts see of one and of its pass, and why an insert is refused.
+-- Plain sets: what contracts see of one and of its pass, and why a call is refused.
 use Rattle.std.specs.Prelude.{Bool, ◌≡◌, ℕ, ◌≤◌, List, [], length}
 use Rattle.std.specs.List.Sorted.{IsPermutation, IsStrictlyIncreasing}
 use Rattle.orc_history.specs.declared.set.SetEntry.{SetEntry}
@@ -23,7 +23,8 @@ pub record IsSetPass (set : SetView) (pass : SetPassView) : Type 0 where
   pub same_room : pass.room ≡ set.room
   pub legal : IsLegalSet pass.history
 
--- an insert with these turns is refused for this cause: Again first, then NoNode, also for a key that is in the set
+-- an insert with these turns is refused for this cause: Again first, then NoNode, also for a key that is in the set;
+-- a remove or contains is refused where Again is the cause
 abbrev pub RefusesInsert : SetView → ℕ → List SetEntry → ListRefused → Type 0
 RefusesInsert set turns history Again = LacksTurn set.room turns (length history)
 RefusesInsert set turns history NoNode =

@@ -164,7 +164,8 @@ impl SharedQueue for PlainQueue {
             ↔ RefusesEnqueue self.now turns p.old.history QueueRefused.NoNode }
         ensures positions { (result ≡ Err QueueRefused.Positions)
             ↔ RefusesEnqueue self.now turns p.old.history QueueRefused.Positions }
-        ensures position { IfOk result (λ at. (at ≡ self.now.first + puts_in p.old.history) × (at < 2 ^ 62)) }
+        ensures position { IfOk result (λ at. at ≡ self.now.first + puts_in p.old.history) }
+        ensures in_range { IfOk result (λ at. at < 2 ^ 62) }
     {
         if !has_turn(self.room, turns, p.history.len()) {
             return Err(QueueRefused::Again);

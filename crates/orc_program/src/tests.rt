@@ -1,4 +1,4 @@
-ghost use Rattle.std.specs.Prelude.{◌≡◌, ◌∷◌, [], codes, None};
+ghost use Rattle.std.specs.Prelude.{◌≤◌, ◌≡◌, ◌∷◌, [], codes, None};
 ghost use Rattle.orc_board.specs.declared.replies.TakeWord.{TakeWord};
 ghost use Rattle.orc_program.specs.Report.{by_position, report_of};
 
@@ -32,19 +32,22 @@ fn board_in_order()
         ≡ record { taker = 1; at = 0; line = 2; what = TakeWord.Done 5 } ∷ record { taker = 0; at = 1; line = 0; what = TakeWord.Void } ∷ [] }
 {}
 
-// Runs an input that comes in pieces, with faults at the given calls.
+// Runs an input that is read and written in pieces, with faults at the given calls.
 fn run<R: Threads + Wait + Sync + Abort>(
     rt: &R,
     alloc: Global,
     input: &[u8],
+    piece: u64,
     read_fails: &[u64],
     room: u64,
     write_fails: &[u64],
     status: u8,
     output: &[u8],
-) -> Result<(), Fail> {
-    let mut source = MemorySource::new(alloc, input, 4096, read_fails)?;
-    let mut sink = MemorySink::new(alloc, room, 16, write_fails)?;
+) -> Result<(), Fail>
+    requires { 1 ≤ piece }
+{
+    let mut source = MemorySource::new(alloc, input, piece, read_fails)?;
+    let mut sink = MemorySink::new(alloc, room, piece, write_fails)?;
     let words = CommandWords::new(alloc);
     let mut ended = Ended::new();
     let got = orc_main(
@@ -64,9 +67,13 @@ fn run<R: Threads + Wait + Sync + Abort>(
 
 #[test]
 fn reports(rt: HostRuntime) -> Result<(), Fail> {
-    let cases: [(&[u8], &[u8]); 6] = [
+    let cases: [(&[u8], &[u8]); 7] = [
         (b"", b"board\nreplies\n"),
         (FIVE_LINES, FIVE_LINES_REPORT),
+        (
+            b"post,7,bytes,hello\npost,9,bytes,abc\ndrop,9\npost,7,bytes,ab\ndrop,8\n",
+            FIVE_LINES_REPORT,
+        ),
         (
             b"post,5,bytes,a\ndrop,5\npost,5,bytes,bc\n",
             b"board\n0 line 0 id 5 done 1\n1 line 2 id 5 void\nreplies\nposter 1 line 0 posted 0\nposter 1 line 1 dropped\nposter 1 line 2 posted 1\ntaker 0 at 0 done 1\ntaker 0 at 1 void\n",
@@ -85,7 +92,7 @@ fn reports(rt: HostRuntime) -> Result<(), Fail> {
         ),
     ];
     for (input, output) in cases {
-        run(&rt, rt.alloc(), input, &[], 1000, &[], 0, output)?;
+        run(&rt, rt.alloc(), input, 7, &[], 1000, &[], 0, output)?;
     }
     Ok(())
 }
@@ -102,7 +109,7 @@ fn names_the_first_refused_record(rt: HostRuntime) -> Result<(), Fail> {
         (b"post,1,bytes,\xff\n", b"line 0: utf8\n"),
     ];
     for (input, output) in cases {
-        run(&rt, rt.alloc(), input, &[], 1000, &[], 3, output)?;
+        run(&rt, rt.alloc(), input, 7, &[], 1000, &[], 3, output)?;
     }
     Ok(())
 }
@@ -128,21 +135,32 @@ fn words_are_refused(rt: HostRuntime) -> Result<(), Fail> {
     Ok(())
 }
 
-// A run of the five lines reads twice, and writes its report in 14 pieces of at most 16 bytes.
+// In pieces of at most 16 bytes a run of the five lines reads 6 times and writes 14 times.
 #[test]
 fn fails_at_each_call(rt: HostRuntime) -> Result<(), Fail> {
-    for call in 0..2 {
-        run(&rt, rt.alloc(), FIVE_LINES, &[call], 1000, &[], 4, b"")?;
+    for call in 0..6 {
+        run(&rt, rt.alloc(), FIVE_LINES, 16, &[call], 1000, &[], 4, b"")?;
     }
     for call in 0..14 {
         let written = call as usize * 16;
         if written < FIVE_LINES_REPORT.len() {
             let front = &FIVE_LINES_REPORT[..written];
-            run(&rt, rt.alloc(), FIVE_LINES, &[], 1000, &[call], 5, front)?;
             run(
                 &rt,
                 rt.alloc(),
                 FIVE_LINES,
+                16,
+                &[],
+                1000,
+                &[call],
+                5,
+                front,
+            )?;
+            run(
+                &rt,
+                rt.alloc(),
+                FIVE_LINES,
+                16,
                 &[],
                 written as u64,
                 &[],
@@ -151,7 +169,18 @@ fn fails_at_each_call(rt: HostRuntime) -> Result<(), Fail> {
             )?;
         }
     }
-    Ok(())
+    run(
+        &rt,
+        rt.alloc(),
+        b"post,7,bytes,hello\n",
+        4,
+        &[1],
+        1000,
+        &[],
+        4,
+        b"",
+    )?;
+    run(&rt, rt.alloc(), b"", 5, &[], 64, &[1], 5, b"board")
 }
 
 #[test]
@@ -161,6 +190,7 @@ fn largest_inputs(rt: HostRuntime) -> Result<(), Fail> {
         &rt,
         rt.alloc(),
         input.as_slice(),
+        4096,
         &[],
         1000,
         &[],
@@ -172,6 +202,7 @@ fn largest_inputs(rt: HostRuntime) -> Result<(), Fail> {
         &rt,
         rt.alloc(),
         input.as_slice(),
+        4096,
         &[],
         1000,
         &[],
@@ -186,6 +217,7 @@ fn largest_inputs(rt: HostRuntime) -> Result<(), Fail> {
         &rt,
         rt.alloc(),
         drops.as_slice(),
+        4096,
         &[],
         1000,
         &[],
