@@ -211,6 +211,14 @@ fn scan_of(state: &State, agent: u32) -> Option<Scan> {
     state.agent(agent).scan
 }
 
+/// How many entries of the agent's work list are this row.
+fn entries_of(state: &State, agent: u32, row: u32) -> usize {
+    if agent >= state.shape().agents() {
+        return 0;
+    }
+    state.agent(agent).list.count_of(row)
+}
+
 #[test]
 fn handed_over_taken_in_and_freed(rt: HostRuntime) -> Result<(), Fail> {
     let mut state = found_held(&rt, rt.alloc())?;
@@ -250,6 +258,10 @@ fn handed_over_after_the_clear(rt: HostRuntime) -> Result<(), Fail> {
         ..handed
     };
     assert_eq!(rt; census(&state), listed);
+    assert_eq!(rt;
+        (entries_of(&state, 1, 0), entries_of(&state, 1, 1)),
+        (1, 0)
+    );
     scan_and_free(&mut state)?;
     assert_eq!(rt; census(&state), NONE_OUT);
     Ok(())

@@ -1,6 +1,7 @@
 //! The retired rows that wait for an agent.
 
-ghost use Rattle.std.specs.Prelude.{◌≡◌, ◌<◌, ◌≤◌, [], IfOk, length};
+ghost use Rattle.std.specs.Prelude.{◌≡◌, ◌<◌, ◌≤◌, ◌==◌, [], IfOk, length};
+ghost use Rattle.std.specs.List.{count_by};
 ghost use Rattle.orc_core.specs.Listed.{first_is, listed_more, listed_rest};
 
 use orc_fault::NoMemory;
@@ -50,6 +51,13 @@ impl WorkList {
             None => false,
             Some(first) => *first == row,
         }
+    }
+
+    /// How many entries are this row.
+    pub fn count_of(&self, row: u32) -> usize
+        ensures { result ≡ count_by (λ q. q == row) self.now.items }
+    {
+        self.rows.iter().filter(|entry| **entry == row).count()
     }
 
     /// Appends a row, and takes no memory.

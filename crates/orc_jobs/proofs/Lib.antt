@@ -1,4 +1,3 @@
-pub mod Numerals
 pub mod NumberLists
 pub mod Fields
 pub mod CsvRecords

@@ -1,5 +1,5 @@
 -- Texts of numbers, and the pieces between their spaces.
-use Rattle.std.proofs.Common.{◌≡◌, ◌∙◌, ◌+◌, ◌^◌, ◌<◌, ◌==◌, List, [], ◌∷◌, ℕ, zero, suc, true, false, refl, arith, ap, ap₂, sym, length, get_or, map, All, take, sum, Option, Some, None, IfSome, IfNone, is_some}
+use Rattle.std.proofs.Common.{◌≡◌, ◌∙◌, ◌+◌, ◌^◌, ◌<◌, ◌==◌, List, [], ◌∷◌, ℕ, zero, suc, true, false, refl, arith, ap, ap₂, sym, length, get_or, inl, map, All, take, sum, Option, Some, None, IfSome, IfNone, is_some}
 use Rattle.std.specs.Fmt.{decimal}
 use Rattle.std.specs.List.{join_with_byte, slice_split}
 use Rattle.std.proofs.lemmas.Fmt.{decimal_injective, decimal_nonempty}
@@ -7,11 +7,15 @@ use Rattle.std.proofs.lemmas.List.Elements.{All-cons, All-get_or, All-head, All-
 use Rattle.std.proofs.lemmas.List.{length-map, take_all}
 use Rattle.std.proofs.lemmas.List.Sums.{sum_by_more}
 use Rattle.std.proofs.lemmas.List.Splits.{join_with_byte-slice_split, slice_split_at, slice_split_none}
-use Rattle.orc_jobs.proofs.Numerals.{decimal_no_space}
+use Rattle.orc_decimal.proofs.Numerals.{decimal_no_byte}
 use Rattle.orc_jobs.specs.Numbers.{IsNumber, IsNumberList, SpellsNumbers}
 
 abbrev pub IsSmall : ℕ → Type 0
 IsSmall n = n < 2 ^ 32
+
+-- no digit is a space
+decimal_no_space : (n : ℕ) → n < 2 ^ 32 → All (λ b. (b == 32) ≡ false) (decimal n)
+decimal_no_space n small = decimal_no_byte 32 n (inl (omega arith)) (omega arith)
 
 -- the pieces of a text between its spaces
 abbrev pub pieces_of : List ℕ → List (List ℕ)

@@ -4,4 +4,3 @@ pub mod JobGrammar
 pub mod JobValue
 pub mod GoodLines
 pub mod Refused
-pub mod Plain

@@ -1,37 +1,16 @@
 ghost use Rattle.std.specs.Prelude.{◌≡◌, ◌==◌, ◌^◌, ◌<◌, ◌≤◌, ◌↔◌, List, ℕ, IfNone, IfSome, IsTrue, length, sum, true, false};
 ghost use Rattle.std.specs.Fmt.{decimal};
 ghost use Rattle.orc_jobs.specs.Numbers.{IsNumber, IsNumberList, SpellsNumbers};
-ghost use Rattle.orc_jobs.specs.Plain.{IsPlain};
-
-use std::str;
 
 /// The number below 2^32 that a canonical decimal stands for.
 pub fn number_of(text: &[u8]) -> Option<u32>
     ensures some { IfSome result (λ number. (number < 2 ^ 32) × (text.now ≡ decimal number)) }
     ensures none { IfNone result (¬ IsNumber text.now) }
 {
-    let Ok(utf8) = str::from_utf8(text) else {
-        return None;
-    };
-    if !is_plain(text) {
-        return None;
-    }
-    match utf8.parse::<u32>() {
+    let number = orc_decimal::number_of(text)?;
+    match u32::try_from(number) {
         Ok(number) => Some(number),
         Err(_) => None,
-    }
-}
-
-// No sign, and no zero in front of a digit.
-fn is_plain(text: &[u8]) -> bool
-    ensures plain { result ≡ true → IsPlain text.now }
-    ensures other { result ≡ false → ¬ IsPlain text.now }
-{
-    match text {
-        [] => false,
-        [b'0', _, ..] => false,
-        [b'+', ..] => false,
-        [..] => true,
     }
 }
 

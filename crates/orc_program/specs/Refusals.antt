@@ -5,9 +5,11 @@ use Rattle.orc_jobs.specs.JobGrammar.{Refuses}
 use Rattle.orc_jobs.specs.declared.cause.Cause.{Cause}
 use Rattle.orc_jobs.specs.declared.cause.Cause.TheVariants as cause
 use Rattle.orc_jobs.specs.declared.cause.JobsFault.TheVariants as fault
-use Rattle.orc_program.specs.declared.ended.Ended.{Ended}
-use Rattle.orc_program.specs.Ended.{IsNew}
-use Rattle.orc_program.specs.Headline.{Headline}
+use Rattle.orc_trace.specs.declared.answers.TraceFault.{TraceFault}
+use Rattle.orc_trace.specs.declared.answers.TraceFault.TheVariants as trace
+use Rattle.orc_trace.specs.Replay.{Refuses as RefusesTrace}
+use Rattle.orc_trace.specs.Answers.{fault_line}
+use Rattle.orc_program.specs.Modes.{replay_words}
 
 -- the most bytes that an input may have
 abbrev pub input_limit : ℕ
@@ -31,6 +33,14 @@ cause_word cause.Sum = codes "sum"
 abbrev pub malformed_line : ℕ → Cause → List ℕ
 malformed_line place why = codes "line " ++ decimal place ++ codes ": " ++ cause_word why ++ codes "\n"
 
+-- the words ask for nothing that there is
+abbrev pub AreRefused : List (List ℕ) → Type 0
+AreRefused words = (words ≢ []) × (words ≢ replay_words)
+
+-- more bytes than an input may have, or, where they are to be a job file, more records than one may have
+abbrev pub IsTooLarge : List (List ℕ) → List ℕ → Type 0
+IsTooLarge words bytes = (input_limit < length bytes) ⊎ ((words ≡ []) × Refuses bytes fault.TooMany)
+
 -- the text names the first record of the bytes that is outside the grammar, and its cause
 pub record NamesRecord (bytes text : List ℕ) : Type 0 where
   pub place : ℕ
@@ -39,17 +49,18 @@ pub record NamesRecord (bytes text : List ℕ) : Type 0 where
   pub refused : Refuses bytes (fault.Malformed place why)
   pub says : text ≡ malformed_line place why
 
--- more bytes than an input may have, or more records than a job file may have
-abbrev pub IsTooLarge : List ℕ → Type 0
-IsTooLarge bytes = (input_limit < length bytes) ⊎ Refuses bytes fault.TooMany
+-- the text names the first fault of the bytes as a trace
+pub record NamesFault (bytes text : List ℕ) : Type 0 where
+  pub why : TraceFault
+  pub some : why ≢ trace.NoMemory
+  pub few : length bytes ≤ input_limit
+  pub refused : RefusesTrace bytes why
+  pub says : text ≡ fault_line why
 
--- the text is the line of a refusal: of the words, of the size, or of a record
+-- the text is the line of a refusal: of the words, of the size, of a record, or of a trace
 abbrev pub IsRefusal : List (List ℕ) → Option (List ℕ) → List ℕ → Type 0
 IsRefusal words left text =
-    ((words ≢ []) × (text ≡ words_refused))
-    ⊎ (IfSome left IsTooLarge × (text ≡ input_too_large))
-    ⊎ IfSome left (λ bytes. NamesRecord bytes text)
-
--- the text was to be written: the report of what has ended, or, where nothing has, the line of a refusal
-abbrev pub WasToWrite : List (List ℕ) → Option (List ℕ) → Ended → List ℕ → Type 0
-WasToWrite words left ended text = Headline left ended text ⊎ (IsNew ended × IsRefusal words left text)
+    (AreRefused words × (text ≡ words_refused))
+    ⊎ (IfSome left (IsTooLarge words) × (text ≡ input_too_large))
+    ⊎ ((words ≡ []) × IfSome left (λ bytes. NamesRecord bytes text))
+    ⊎ ((words ≡ replay_words) × IfSome left (λ bytes. NamesFault bytes text))

@@ -3,10 +3,13 @@
 
 mod answer;
 mod ended;
+mod jobs_mode;
+mod mode;
 mod plain_run;
 pub mod report;
 mod streams;
 mod top_call;
+mod trace_mode;
 mod words;
 
 pub use ended::Ended;

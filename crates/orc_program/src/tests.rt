@@ -32,7 +32,39 @@ fn board_in_order()
         ≡ record { taker = 1; at = 0; line = 2; what = TakeWord.Done 5 } ∷ record { taker = 0; at = 1; line = 0; what = TakeWord.Void } ∷ [] }
 {}
 
-// Runs an input that is read and written in pieces, with faults at the given calls.
+// Runs an input that is read and written in pieces, with faults at the given calls, and answers whether a run has ended.
+fn run_with<R: Threads + Wait + Sync + Abort>(
+    rt: &R,
+    alloc: Global,
+    words: &CommandWords,
+    input: &[u8],
+    piece: u64,
+    read_fails: &[u64],
+    room: u64,
+    write_fails: &[u64],
+    status: u8,
+    output: &[u8],
+) -> Result<bool, Fail>
+    requires { 1 ≤ piece }
+{
+    let mut source = MemorySource::new(alloc, input, piece, read_fails)?;
+    let mut sink = MemorySink::new(alloc, room, piece, write_fails)?;
+    let mut ended = Ended::new();
+    let got = orc_main(
+        rt,
+        alloc,
+        words,
+        &mut source,
+        &mut sink,
+        &OpenGate,
+        &mut ended,
+    );
+    assert_eq!(rt; got, status);
+    assert_eq!(rt; sink.bytes(), output);
+    Ok(ended.replies.is_some())
+}
+
+// The same without words, where a status 5 follows a run.
 fn run<R: Threads + Wait + Sync + Abort>(
     rt: &R,
     alloc: Global,
@@ -46,22 +78,20 @@ fn run<R: Threads + Wait + Sync + Abort>(
 ) -> Result<(), Fail>
     requires { 1 ≤ piece }
 {
-    let mut source = MemorySource::new(alloc, input, piece, read_fails)?;
-    let mut sink = MemorySink::new(alloc, room, piece, write_fails)?;
     let words = CommandWords::new(alloc);
-    let mut ended = Ended::new();
-    let got = orc_main(
+    let ran = run_with(
         rt,
         alloc,
         &words,
-        &mut source,
-        &mut sink,
-        &OpenGate,
-        &mut ended,
-    );
-    assert_eq!(rt; got, status);
-    assert_eq!(rt; sink.bytes(), output);
-    assert_eq!(rt; ended.replies.is_some(), status == 0 || status == 5);
+        input,
+        piece,
+        read_fails,
+        room,
+        write_fails,
+        status,
+        output,
+    )?;
+    assert_eq!(rt; ran, status == 0 || status == 5);
     Ok(())
 }
 
@@ -118,20 +148,78 @@ fn names_the_first_refused_record(rt: HostRuntime) -> Result<(), Fail> {
 fn words_are_refused(rt: HostRuntime) -> Result<(), Fail> {
     let mut words = CommandWords::new(rt.alloc());
     words.push("run")?;
-    let mut source = MemorySource::new(rt.alloc(), FIVE_LINES, 4096, &[])?;
-    let mut sink = MemorySink::new(rt.alloc(), 1000, 16, &[])?;
-    let mut ended = Ended::new();
-    let got = orc_main(
+    let ran = run_with(
         &rt,
         rt.alloc(),
         &words,
-        &mut source,
-        &mut sink,
-        &OpenGate,
-        &mut ended,
-    );
-    assert_eq!(&rt; got, 2);
-    assert_eq!(&rt; sink.bytes(), b"words refused\n".as_slice());
+        FIVE_LINES,
+        16,
+        &[],
+        1000,
+        &[],
+        2,
+        b"words refused\n",
+    )?;
+    assert!(&rt; !ran);
+    let ran = run_with(
+        &rt,
+        rt.alloc(),
+        &words,
+        FIVE_LINES,
+        5,
+        &[],
+        1000,
+        &[1],
+        5,
+        b"words",
+    )?;
+    assert!(&rt; !ran);
+    Ok(())
+}
+
+#[test]
+fn replays(rt: HostRuntime) -> Result<(), Fail> {
+    let mut words = CommandWords::new(rt.alloc());
+    words.push("replay")?;
+    let cases: [(&[u8], u8, &[u8]); 6] = [
+        (
+            b"shape 2 1 2 8\n0 enroll\n1 enroll\n0 look 0\n0 count 0\n0 take 0\n0 publish 1 0\n0 count 0\n0 cas r0 - 0\n0 inc 0\n",
+            0,
+            b"steps 9 out 1 retired 0 handed 0 listed 0 linked 1\n",
+        ),
+        (
+            b"shape 2 1 2 8\n0 enroll\n1 enroll\n0 look 0\n0 count 0\n0 take 0\n0 publish 1 0\n0 count 0\n0 cas r0 - 0\n0 inc 0\n1 load r0\n1 publish 2 0\n1 load r0 2\n0 cas r0 0 -\n0 arm 0\n0 dec 0\n0 clear 1\n",
+            8,
+            b"step 15: not allowed\n",
+        ),
+        (
+            b"shape 2 1 2 8\n0 enroll\n1 enroll\n0 look 0\n0 count 0\n0 tak",
+            8,
+            b"step 4: unreadable\n",
+        ),
+        (b"", 8, b"shape: unreadable\n"),
+        (b"shape 1 1 1 1\n", 8, b"shape: rows\n"),
+        (
+            b"shape 2 1 2 8\n",
+            0,
+            b"steps 0 out 0 retired 0 handed 0 listed 0 linked 0\n",
+        ),
+    ];
+    for (input, status, output) in cases {
+        let ran = run_with(
+            &rt,
+            rt.alloc(),
+            &words,
+            input,
+            7,
+            &[],
+            1000,
+            &[],
+            status,
+            output,
+        )?;
+        assert!(&rt; !ran);
+    }
     Ok(())
 }
 

@@ -1,5 +1,6 @@
 //! The words of a command line.
-ghost use Rattle.std.specs.Prelude.{◌≡◌, ◌++◌, ◌∷◌, [], OnErr, OnOk, IsTrue, ◌↔◌};
+ghost use Rattle.std.specs.Prelude.{◌≡◌, ◌++◌, ◌∷◌, [], OnErr, OnOk, map};
+ghost use Rattle.std.specs.String.{string_bytes};
 
 use orc_fault::NoMemory;
 use std::alloc::Global;
@@ -44,10 +45,10 @@ impl CommandWords {
         }
     }
 
-    /// Whether there is no word.
-    pub fn is_empty(&self) -> bool
-        ensures { IsTrue result ↔ (self.now ≡ []) }
+    // The words in their order.
+    pub(crate) fn words(&self) -> &[String]
+        ensures { map string_bytes result.now ≡ self.now }
     {
-        self.words.is_empty()
+        self.words.as_slice()
     }
 }

@@ -6,7 +6,7 @@ use Rattle.std.proofs.lemmas.List.Elements.{All-from_get_or}
 use Rattle.std.proofs.lemmas.Str.Parse.{IsNumeralModel, digit_at, numerals_by_value, tells_digits, parse_plain}
 use Rattle.std.proofs.lemmas.Fmt.{decimal_nonempty, first_decimal, decimal_digit, digits_decimal, parse-decimal, decimal-digits_value}
 use Rattle.std.proofs.lemmas.Bool.Decides.{nat_tests}
-use Rattle.orc_jobs.specs.Plain.{IsPlain}
+use Rattle.orc_decimal.specs.Plain.{IsPlain}
 
 own : IsNumeralModel (AllDigits 10) (digits_value 10)
 own = numerals_by_value (AllDigits 10) tells_digits
@@ -21,7 +21,7 @@ zero_or_more : (n : ℕ) → (n ≡ 0) ⊎ (0 < n)
 zero_or_more zero = inl refl
 zero_or_more (suc n) = inr (omega arith)
 
-pub IsPlain-decimal : (n : ℕ) → n < 2 ^ 32 → IsPlain (decimal n)
+pub IsPlain-decimal : (n : ℕ) → n < 2 ^ 64 → IsPlain (decimal n)
 IsPlain-decimal n h = elim (zero_or_more n) [
   | inl e ↦ rw e (record {
     some = decimal_nonempty 0 (omega arith);
@@ -29,18 +29,18 @@ IsPlain-decimal n h = elim (zero_or_more n) [
     no_zero = λ _. length_of_zero;
   })
   | inr more ↦
-      let first = first_decimal n more (omega arith) in
+      let first = first_decimal n more h in
       record {
-        some = decimal_nonempty n (omega arith);
+        some = decimal_nonempty n h;
         unsigned = λ q. absurd (omega (arith, first, q));
         no_zero = λ q. absurd (omega (arith, first, q));
       }
 ]
 
 -- a plain text that parses is what printing its number gives
-pub parsed : {E : Type 0} (text : List ℕ) (r : Result ℕ E) (n : ℕ) → IsPlain text → ParsesUnsigned 32 10 text r → r ≡ Ok n → (n < 2 ^ 32) × (text ≡ decimal n)
+pub parsed : {E : Type 0} (text : List ℕ) (r : Result ℕ E) (n : ℕ) → IsPlain text → ParsesUnsigned 64 10 text r → r ≡ Ok n → (n < 2 ^ 64) × (text ≡ decimal n)
 parsed {E} text r n plain h e =
-    let p = parse_plain own 32 text r h plain.unsigned in
+    let p = parse_plain own 64 text r h plain.unsigned in
     let q = rw e at p in
     let is = q.1 in
     let fits = q.0.2 in
@@ -48,15 +48,15 @@ parsed {E} text r n plain h e =
     (omega (arith, is, fits), sym (rw q.1 (decimal-digits_value own text q.0.0 q.0.1 plain.no_zero small)))
 
 -- a text that does not parse is no such print
-pub unparsed : {E : Type 0} (text : List ℕ) (r : Result ℕ E) (why : E) → ParsesUnsigned 32 10 text r → r ≡ Err why → (n : ℕ) → n < 2 ^ 32 → text ≡ decimal n → ⊥
+pub unparsed : {E : Type 0} (text : List ℕ) (r : Result ℕ E) (why : E) → ParsesUnsigned 64 10 text r → r ≡ Err why → (n : ℕ) → n < 2 ^ 64 → text ≡ decimal n → ⊥
 unparsed {E} text r why h e n small same =
-    let p = parse-decimal 32 n text r small (omega arith) same h in
+    let p = parse-decimal 64 n text r small small same h in
     let bad : ◌≡◌ {A = Result ℕ E} (Err why) (Ok n) = sym e ∙ p in cc bad
 
--- no digit is a space
-pub decimal_no_space : (n : ℕ) → n < 2 ^ 32 → All (λ b. (b == 32) ≡ false) (decimal n)
-decimal_no_space n small = All-from_get_or (λ b. (b == 32) ≡ false) (decimal n) 0 (λ i lt.
-    let digits = digits_decimal own n (omega arith) in
+-- a byte that is below the digits, or above them, stands in no decimal
+pub decimal_no_byte : (byte n : ℕ) → (byte < 48) ⊎ (57 < byte) → n < 2 ^ 64 → All (λ b. (b == byte) ≡ false) (decimal n)
+decimal_no_byte byte n outside small = All-from_get_or (λ b. (b == byte) ≡ false) (decimal n) 0 (λ i lt.
+    let digits = digits_decimal own n small in
     let range = digit_at (decimal n) i digits lt in
-    let other : get_or (decimal n) i 0 ≢ 32 = λ e. omega (arith, range, e) in
+    let other : get_or (decimal n) i 0 ≢ byte = λ e. elim outside [ inl low ↦ omega (arith, e, range, low) | inr high ↦ omega (arith, e, range, high) ] in
     grind (arith, nat_tests))

@@ -1,0 +1,70 @@
+//! Mode run: a job file is read, worked through and reported.
+ghost use Rattle.std.specs.Prelude.{◌≡◌, ◌≢◌, ◌≤◌, ◌⊎◌, List, ℕ, Some, length};
+ghost use Rattle.std.specs.Io.KnownBytes.{Appends, Keeps};
+ghost use Rattle.orc_feed.specs.Faults.{Rose};
+ghost use Rattle.orc_feed.specs.Whole.{AppendsPrefix};
+ghost use Rattle.orc_jobs.specs.JobGrammar.{IsFileOf, Refuses};
+ghost use Rattle.orc_jobs.specs.declared.cause.Cause.{Cause};
+ghost use Rattle.orc_jobs.specs.declared.line.Line.{Line};
+ghost use Rattle.orc_program.specs.Ended.{IsNew};
+ghost use Rattle.orc_program.specs.Headline.{Headline};
+ghost use Rattle.orc_program.specs.Refusals.{NamesRecord, input_limit, input_too_large, malformed_line};
+ghost use Rattle.orc_program.specs.Outcomes.{RunWrites};
+
+use crate::Ended;
+use crate::answer::{Answer, answer_to};
+use orc_board::Gate;
+use orc_fault::NoMemory;
+use orc_feed::{Sink, write_all};
+use orc_jobs::JobsFault;
+use std::alloc::Global;
+use std::sync::Wait;
+use std::thread::Threads;
+
+// Works through the jobs of these bytes and writes the report, or the line of their refusal.
+pub(crate) fn run_jobs<R: Threads + Wait + Sync, K: Sink, G: Gate + Sync>(
+    rt: &R,
+    alloc: Global,
+    bytes: &[u8],
+    sink: &mut K,
+    gate: &G,
+    ended: &mut Ended,
+) -> u8
+    requires new { IsNew ended.old }
+    requires few { length bytes.now ≤ input_limit }
+    ensures statuses { (result ≡ 0) ⊎ (result ≡ 3) ⊎ (result ≡ 5) ⊎ (result ≡ 6) ⊎ (result ≡ 7) }
+    ensures done { result ≡ 0 → (text : List ℕ) × Headline (Some bytes.now) ended.new text
+        × Appends (K.written sink.old) (K.written sink.new) text }
+    ensures malformed { result ≡ 3 → (text : List ℕ) × NamesRecord bytes.now text
+        × Appends (K.written sink.old) (K.written sink.new) text }
+    ensures write_fault { result ≡ 5 → Rose (K.faults sink.old) (K.faults sink.new) }
+    ensures cut_short { result ≡ 5 → (text : List ℕ) × RunWrites bytes.now ended.new text
+        × AppendsPrefix (K.written sink.old) (K.written sink.new) text }
+    ensures large { result ≡ 6 → Refuses bytes.now JobsFault.TooMany
+        × Appends (K.written sink.old) (K.written sink.new) input_too_large }
+    ensures memory { result ≡ 7 → Keeps (K.written sink.old) (K.written sink.new) }
+    ensures nothing_ended { result ≢ 0 → result ≢ 5 → IsNew ended.new }
+    ensures malformed_comes { (place : ℕ) (why : Cause) → Refuses bytes.now (JobsFault.Malformed place why)
+        → ((result ≡ 3) × Appends (K.written sink.old) (K.written sink.new) (malformed_line place why)) ⊎ (result ≡ 5) ⊎ (result ≡ 7) }
+    ensures large_comes { Refuses bytes.now JobsFault.TooMany → (result ≡ 6) ⊎ (result ≡ 5) ⊎ (result ≡ 7) }
+    ensures complete { (lines : List Line) → IsFileOf lines bytes.now → (result ≡ 0) ⊎ (result ≡ 5) ⊎ (result ≡ 7) }
+{
+    match answer_to(rt, alloc, bytes, gate) {
+        Ok(Answer::Report { text, finished }) => {
+            ended.keep(finished);
+            match write_all(sink, text.bytes()) {
+                Ok(()) => 0,
+                Err(_) => 5,
+            }
+        }
+        Ok(Answer::Malformed { text }) => match write_all(sink, text.as_bytes()) {
+            Ok(()) => 3,
+            Err(_) => 5,
+        },
+        Ok(Answer::TooMany) => match write_all(sink, b"input too large\n") {
+            Ok(()) => 6,
+            Err(_) => 5,
+        },
+        Err(NoMemory) => 7,
+    }
+}

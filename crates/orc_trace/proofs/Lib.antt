@@ -1,0 +1,11 @@
+pub mod Words
+pub mod Visible
+pub mod Arguments
+pub mod VisibleWords
+pub mod KindWords
+pub mod Spelled
+pub mod Lines
+pub mod Plays
+pub mod Unique
+pub mod Rooms
+pub mod Verdicts

@@ -1,0 +1,92 @@
+-- One more step in front of those that are played.
+use Rattle.std.proofs.Common.{◌≡◌, ◌≢◌, ◌∙◌, ℕ, ◌+◌, ◌≤◌, Bool, true, false, ◌&&◌, ◌==◌, List, [], ◌∷◌, ◌++◌, append_assoc, refl, sym, ap, arith, length, length-append}
+use Rattle.std.proofs.lemmas.Bool.Decides.{nat_tests}
+use Rattle.std.proofs.lemmas.List.Elements.{All-cons, All-head, All-nil, All-tail}
+use Rattle.orc_words.specs.Bounds.{Bounds}
+use Rattle.orc_core.specs.declared.ops.Op.{Op}
+use Rattle.orc_core.specs.Machine.{Machine, is_allowed, step}
+use Rattle.orc_core.specs.Runs.{run}
+use Rattle.orc_trace.specs.Replay.{Begins, HasStepLine}
+use Rattle.orc_trace.specs.Room.{can_step, has_room_for}
+use Rattle.orc_trace.specs.TraceText.{IsReadable, line_text, steps_text}
+
+pub Begins-nil : (b : Bounds) (m : Machine) (bytes : List ℕ) → Begins b m [] bytes bytes
+Begins-nil b m bytes = record { text = refl; readable = All-nil (IsReadable b); lawful = tt; room = tt }
+
+pub both_true : (x y : Bool) → (x && y) ≡ true → (x ≡ true) × (y ≡ true)
+both_true true y h = (refl, h)
+both_true false y h = cc h
+
+-- a step that can be made, and then others
+pub Begins-cons : (b : Bounds) (m : Machine) (s : ℕ × Op) (front : List (ℕ × Op)) (rest more bytes : List ℕ)
+    → HasStepLine b s more bytes → can_step m s.0 s.1 ≡ true → Begins b (step m s.0 s.1) front rest more → Begins b m (s ∷ front) rest bytes
+Begins-cons b m s front rest more bytes line made h =
+    let can = both_true (is_allowed m s.0 s.1) (has_room_for m s.0 s.1) made in
+    record {
+      text = line.text ∙ ap (λ (t : List ℕ). line_text s.0 s.1 ++ 10 ∷ t) h.text ∙ sym (append_assoc (line_text s.0 s.1) (10 ∷ steps_text front) rest);
+      readable = All-cons (IsReadable b) s front line.readable h.readable;
+      lawful = (can.0, h.lawful);
+      room = (can.1, h.room);
+    }
+
+-- the first of the steps, and the others
+pub record First (b : Bounds) (m : Machine) (s : ℕ × Op) (front : List (ℕ × Op)) (rest bytes : List ℕ) : Type 0 where
+  pub line : HasStepLine b s (steps_text front ++ rest) bytes
+  pub made : can_step m s.0 s.1 ≡ true
+  pub others : Begins b (step m s.0 s.1) front rest (steps_text front ++ rest)
+
+both : (x y : Bool) → x ≡ true → y ≡ true → (x && y) ≡ true
+both true y h k = k
+both false y h k = h
+
+pub Begins-first : (b : Bounds) (m : Machine) (s : ℕ × Op) (front : List (ℕ × Op)) (rest bytes : List ℕ) → Begins b m (s ∷ front) rest bytes → First b m s front rest bytes
+Begins-first b m s front rest bytes h = record {
+  line = record {
+    text = h.text ∙ append_assoc (line_text s.0 s.1) (10 ∷ steps_text front) rest;
+    readable = All-head (IsReadable b) s front h.readable;
+  };
+  made = both (is_allowed m s.0 s.1) (has_room_for m s.0 s.1) h.lawful.0 h.room.0;
+  others = record { text = refl; readable = All-tail (IsReadable b) s front h.readable; lawful = h.lawful.1; room = h.room.1 };
+}
+
+-- ---- what is played so far
+
+-- n steps lead from the first state and lines to this state and these bytes: what is played on from here is played from there
+abbrev pub Continues : Bounds → Machine → List ℕ → ℕ → Machine → List ℕ → Type 0
+Continues b m lines n now bytes = (front : List (ℕ × Op)) (rest : List ℕ) → Begins b now front rest bytes
+    → (all : List (ℕ × Op)) × Begins b m all rest lines × (length all ≡ n + length front) × (run m all ≡ run now front)
+
+pub Continues-start : (b : Bounds) (m : Machine) (lines : List ℕ) → Continues b m lines 0 m lines
+Continues-start b m lines front rest h = (front, h, omega arith, refl)
+
+pub Continues-step : (b : Bounds) (m : Machine) (lines : List ℕ) (n : ℕ) (now : Machine) (bytes : List ℕ) (s : ℕ × Op) (more : List ℕ)
+    → Continues b m lines n now bytes → HasStepLine b s more bytes → can_step now s.0 s.1 ≡ true → Continues b m lines (n + 1) (step now s.0 s.1) more
+Continues-step b m lines n now bytes s more so line made front rest h =
+    let found = so (s ∷ front) rest (Begins-cons b now s front rest more bytes line made h) in
+    let size = found.2 in
+    (found.0, found.1, omega (arith, size), found.3)
+
+-- where the lines end, or the rest can't be played on
+pub Continues-here : (b : Bounds) (m : Machine) (lines : List ℕ) (n : ℕ) (now : Machine) (bytes : List ℕ) → Continues b m lines n now bytes
+    → (all : List (ℕ × Op)) × Begins b m all bytes lines × (length all ≡ n) × (run m all ≡ now)
+Continues-here b m lines n now bytes so =
+    let found = so [] bytes (Begins-nil b now bytes) in
+    let size = found.2 in
+    (found.0, found.1, omega (arith, size), found.3)
+
+-- ---- the bytes that are left
+
+pub none-left : (bytes : List ℕ) → (length bytes == 0) ≡ true → bytes ≡ []
+none-left [] h = refl
+none-left (x ∷ xs) h = absurd (grind (arith, nat_tests))
+
+pub some-left : (bytes : List ℕ) → (length bytes == 0) ≡ false → bytes ≢ []
+some-left [] h e = cc h
+some-left (x ∷ xs) h e = cc e
+
+-- a step's line takes a byte at least
+pub step-shorter : (b : Bounds) (s : ℕ × Op) (more bytes : List ℕ) → HasStepLine b s more bytes → length more + 1 ≤ length bytes
+step-shorter b s more bytes h =
+    let size = ap length h.text in
+    let parts = length-append (line_text s.0 s.1) (10 ∷ more) in
+    omega (arith, size, parts)

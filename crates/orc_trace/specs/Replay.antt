@@ -1,0 +1,77 @@
+-- What the replay of a trace answers: the census of its run, or its first fault. The first line is judged first,
+-- and then each step in order: whether it can be read, and then whether it is allowed where it stands.
+use Rattle.std.specs.Prelude.{◌≡◌, ◌≢◌, ℕ, ◌++◌, List, [], ◌∷◌, All, length, false, ⊤}
+use Rattle.orc_words.specs.declared.shape.ShapeFault.TheVariants as shape
+use Rattle.orc_words.specs.Bounds.{Bounds, IsShape, IsFirstFault}
+use Rattle.orc_core.specs.declared.ops.Op.{Op}
+use Rattle.orc_core.specs.Counts.{census_of}
+use Rattle.orc_core.specs.Machine.{Machine, new_machine}
+use Rattle.orc_core.specs.Runs.{IsLawful, run}
+use Rattle.orc_trace.specs.declared.answers.Replayed.{Replayed}
+use Rattle.orc_trace.specs.declared.answers.ShapeWord.{ShapeWord}
+use Rattle.orc_trace.specs.declared.answers.ShapeWord.TheVariants as word
+use Rattle.orc_trace.specs.declared.answers.TraceFault.{TraceFault}
+use Rattle.orc_trace.specs.declared.answers.TraceFault.TheVariants as fault
+use Rattle.orc_trace.specs.Room.{HaveRoom, can_step}
+use Rattle.orc_trace.specs.TraceText.{AreWide, IsReadable, line_text, shape_text, steps_text}
+
+-- the bytes are the lines of these steps, each readable and allowed where it stands, and then the rest
+pub record Begins (b : Bounds) (m : Machine) (front : List (ℕ × Op)) (rest bytes : List ℕ) : Type 0 where
+  pub text : bytes ≡ steps_text front ++ rest
+  pub readable : All (IsReadable b) front
+  pub lawful : IsLawful m front
+  pub room : HaveRoom m front
+
+-- the bytes begin with the line of a shape, its numbers in range or not
+pub record HasShapeLine (b : Bounds) (rest bytes : List ℕ) : Type 0 where
+  pub text : bytes ≡ shape_text b ++ 10 ∷ rest
+  pub wide : AreWide b
+
+-- the bytes begin with the line of a step that can be read
+pub record HasStepLine (b : Bounds) (s : ℕ × Op) (rest bytes : List ℕ) : Type 0 where
+  pub text : bytes ≡ line_text s.0 s.1 ++ 10 ∷ rest
+  pub readable : IsReadable b s
+
+-- the bytes are the line of a shape in range, and then these lines
+pub record HasTable (b : Bounds) (lines bytes : List ℕ) : Type 0 where
+  pub text : bytes ≡ shape_text b ++ 10 ∷ lines
+  pub shape : IsShape b
+
+-- the bytes are a trace: the number of its steps, and the census of their run
+abbrev pub IsReplay : List ℕ → Replayed → Type 0
+IsReplay bytes r = (b : Bounds) × (lines : List ℕ) × (steps : List (ℕ × Op)) × HasTable b lines bytes × Begins b (new_machine b) steps [] lines
+    × (r ≡ record { steps = length steps; census = census_of (run (new_machine b) steps) })
+
+-- the first number of a shape that is out of range
+abbrev pub IsFirstOut : Bounds → ShapeWord → Type 0
+IsFirstOut b word.Unreadable = ⊥
+IsFirstOut b word.Rows = IsFirstFault b (shape.Rows b.rows)
+IsFirstOut b word.Roots = IsFirstFault b (shape.Roots b.roots)
+IsFirstOut b word.Agents = IsFirstFault b (shape.Agents b.agents)
+IsFirstOut b word.Limit = IsFirstFault b (shape.Limit b.limit)
+
+-- what is amiss with the first line
+abbrev pub IsShapeFault : List ℕ → ShapeWord → Type 0
+IsShapeFault bytes word.Unreadable = (b : Bounds) (rest : List ℕ) → ¬ HasShapeLine b rest bytes
+IsShapeFault bytes w = (b : Bounds) × (rest : List ℕ) × HasShapeLine b rest bytes × IsFirstOut b w
+
+-- what is amiss with the line of a step, on the machine as the steps before it have left it
+abbrev pub IsUnreadable : Bounds → List ℕ → Type 0
+IsUnreadable b rest = (rest ≢ []) × ((s : ℕ × Op) (more : List ℕ) → ¬ HasStepLine b s more rest)
+
+abbrev pub IsRefused : Bounds → Machine → List ℕ → Type 0
+IsRefused b m rest = (s : ℕ × Op) × (more : List ℕ) × HasStepLine b s more rest × (can_step m s.0 s.1 ≡ false)
+
+-- the first fault of the lines, after the steps before it
+abbrev pub IsStepFault : Bounds → Machine → List ℕ → TraceFault → Type 0
+IsStepFault b m lines (fault.Unreadable n) = (front : List (ℕ × Op)) × (rest : List ℕ) × Begins b m front rest lines × (length front ≡ n) × IsUnreadable b rest
+IsStepFault b m lines (fault.NotAllowed n) = (front : List (ℕ × Op)) × (rest : List ℕ) × Begins b m front rest lines × (length front ≡ n) × IsRefused b (run m front) rest
+IsStepFault b m lines (fault.Shape w) = ⊥
+IsStepFault b m lines fault.NoMemory = ⊥
+
+-- the bytes are no trace, and this is their first fault; want of memory says nothing of the bytes
+abbrev pub Refuses : List ℕ → TraceFault → Type 0
+Refuses bytes (fault.Shape w) = IsShapeFault bytes w
+Refuses bytes (fault.Unreadable n) = (b : Bounds) × (lines : List ℕ) × HasTable b lines bytes × IsStepFault b (new_machine b) lines (fault.Unreadable n)
+Refuses bytes (fault.NotAllowed n) = (b : Bounds) × (lines : List ℕ) × HasTable b lines bytes × IsStepFault b (new_machine b) lines (fault.NotAllowed n)
+Refuses bytes fault.NoMemory = ⊤
