@@ -1,0 +1,4 @@
+pub mod Changes
+pub mod Linked
+pub mod Runs
+pub mod Told

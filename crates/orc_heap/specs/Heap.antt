@@ -1,0 +1,45 @@
+-- A heap of linked nodes with new memory for every node. After Michael and Scott 1996 and Harris 2001.
+use Rattle.std.specs.Prelude.{List, None, Option, [], false, replicate, slice_get, zero, Bool, suc, ℕ, ◌∷◌}
+use Rattle.orc_heap.specs.declared.events.Link.{Link}
+use Rattle.orc_heap.specs.declared.events.Place.{Place}
+use Rattle.orc_heap.specs.declared.events.Place.TheVariants.{Next, Root}
+use Rattle.std.specs.Option.{option_map}
+
+-- the numbers of a heap
+pub record HeapNumbers : Type 0 where
+  pub roots : ℕ
+
+-- a node: the agent to which it was given, its values, its link, whether an Aim or a Move made a link to it, and
+-- whether a Move did
+pub record Node : Type 0 where
+  pub giver : ℕ
+  pub first : Option ℕ
+  pub second : Option ℕ
+  pub link : Link
+  pub named : Bool
+  pub linked : Bool
+
+-- the nodes in the order in which they were given, and the links of the roots
+pub record Heap : Type 0 where
+  pub nodes : List Node
+  pub roots : List Link
+
+abbrev pub null : Link
+null = record { to = None; mark = false }
+
+abbrev pub new_node : ℕ → Node
+new_node agent = record { giver = agent; first = None; second = None; link = null; named = false; linked = false }
+
+abbrev pub new_heap : HeapNumbers → Heap
+new_heap n = record { nodes = []; roots = replicate n.roots null }
+
+-- the link that the place shows, if the heap has the place
+abbrev pub shown : Heap → Place → Option Link
+shown h (Root r) = slice_get h.roots r
+shown h (Next id) = option_map (λ n. n.link) (slice_get h.nodes id)
+
+-- the list with the item of this index changed, if there is one
+abbrev pub change : {A : Type 0} → (A → A) → ℕ → List A → List A
+change f i [] = []
+change f zero (x ∷ xs) = f x ∷ xs
+change f (suc i) (x ∷ xs) = x ∷ change f i xs

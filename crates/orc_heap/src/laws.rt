@@ -1,0 +1,32 @@
+//! Laws of heaps and their journals.
+
+ghost use Rattle.std.specs.Prelude.{◌≡◌, ℕ, ◌↔◌, ◌++◌, List, Some, true, slice_get};
+ghost use Rattle.orc_heap.specs.Heap.{Heap, HeapNumbers, Node};
+ghost use Rattle.orc_heap.specs.Acts.{Fits, StaysLinked, heap_after, moved_link};
+ghost use Rattle.orc_heap.specs.Journals.{IsLawful, IsLawfulFrom, is_once_linked, is_once_named, run_from, run_heap};
+ghost use Rattle.orc_heap.specs.declared.events.Act.{Act};
+ghost use Rattle.orc_heap.specs.declared.events.Event.{Event};
+
+/// A node to which a Move made a link stays such a node, keeps both values, and keeps its link but for a
+/// Move of it.
+pub fn once_linked_nodes_stay()
+    ensures { (agent : ℕ) (act : Act) (h : Heap) (id : ℕ) (old : Node) → Fits agent act h
+        → slice_get h.nodes id ≡ Some old → old.linked ≡ true
+        → StaysLinked (heap_after agent act h) id old (moved_link act id old.link) }
+{}
+
+/// After a lawful list of events a node's record says whether some Move, and whether some Aim or Move, of the
+/// list made a link to it.
+pub fn a_node_tells_its_journal<N>()
+    ensures linked { (n : HeapNumbers) (es : List (Event N)) (id : ℕ) (node : Node) → IsLawful n es
+        → slice_get (run_heap n es).nodes id ≡ Some node → node.linked ≡ is_once_linked es id }
+    ensures named { (n : HeapNumbers) (es : List (Event N)) (id : ℕ) (node : Node) → IsLawful n es
+        → slice_get (run_heap n es).nodes id ≡ Some node → node.named ≡ is_once_named es id }
+{}
+
+/// A run over two lists of events is a run over the first and then one over the second.
+pub fn journals_go_on<N>()
+    ensures heap { (h : Heap) (first second : List (Event N)) → run_from h (first ++ second) ≡ run_from (run_from h first) second }
+    ensures lawful { (h : Heap) (first second : List (Event N))
+        → IsLawfulFrom h (first ++ second) ↔ (IsLawfulFrom h first × IsLawfulFrom (run_from h first) second) }
+{}

@@ -1,0 +1,49 @@
+//! Events, and worked examples of the definitions.
+
+use super::*;
+use std::test::Fail;
+
+mod examples;
+
+const NULL: Link = Link {
+    to: None,
+    mark: false,
+};
+
+const TO_0: Link = Link {
+    to: Some(0),
+    mark: false,
+};
+
+#[test]
+fn events_are_compared_field_by_field(rt: HostRuntime) -> Result<(), Fail> {
+    let event = Event {
+        agent: 1,
+        act: Act::Move {
+            place: Place::Next(4),
+            from: NULL,
+            to: TO_0,
+        },
+        note: Some(7_u32),
+    };
+    assert_eq!(rt; event, event);
+    assert_ne!(rt;
+        event,
+        Event {
+            note: None,
+            ..event
+        }
+    );
+    assert_ne!(rt; event, Event { agent: 0, ..event });
+    let marked = Link { mark: true, ..TO_0 };
+    let act = Act::Move {
+        place: Place::Next(4),
+        from: NULL,
+        to: marked,
+    };
+    assert_ne!(rt; event, Event { act, ..event });
+    once_linked_nodes_stay();
+    a_node_tells_its_journal::<u32>();
+    journals_go_on::<u32>();
+    Ok(())
+}

@@ -1,0 +1,12 @@
+pub mod Links
+pub mod Nodes
+pub mod Still
+pub mod Shows
+pub mod StillStep
+pub mod TakeStep
+pub mod FillStep
+pub mod LinkStep
+pub mod Steps
+pub mod StoreStep
+pub mod Runs
+pub mod Mirrored

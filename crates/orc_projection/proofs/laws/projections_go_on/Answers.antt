@@ -1,0 +1,8 @@
+use Rattle.orc_projection.proofs.Mirrored.{ids-append, project-append}
+use Rattle.orc_projection.proofs.laws.projections_go_on.Goals as goal
+
+pub returns-clause-events : goal.returns-clause-events
+returns-clause-events g c = project-append
+
+pub returns-clause-ids : goal.returns-clause-ids
+returns-clause-ids g c = ids-append

@@ -1,0 +1,3 @@
+pub mod PresentIds
+pub mod Projection
+pub mod Mirror

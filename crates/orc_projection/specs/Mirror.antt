@@ -1,0 +1,30 @@
+-- How the words of a state show a heap.
+use Rattle.std.specs.Prelude.{Some, false, length, slice_get, ℕ, ◌<◌, ◌≡◌}
+use Rattle.orc_core.specs.Machine.{Machine, record_at, word_in}
+use Rattle.orc_heap.specs.Heap.{Heap, HeapNumbers, Node, shown}
+use Rattle.orc_heap.specs.declared.events.Place.TheVariants.{Next as NodePlace, Root as RootPlace}
+use Rattle.orc_projection.specs.PresentIds.{PresentIds, node_link}
+use Rattle.orc_sound.specs.Doomed.{dooms_cut}
+use Rattle.orc_sound.specs.Linked.{IsOut}
+use Rattle.orc_words.specs.Bounds.{Bounds}
+use Rattle.orc_words.specs.Packed.{link_of}
+use Rattle.orc_words.specs.declared.place.Word.TheVariants.{First, Next, Root, Second}
+
+abbrev pub numbers_of : Bounds → HeapNumbers
+numbers_of b = record { roots = b.roots }
+
+-- the words show the heap, with rows read as their present nodes
+pub record Mirrors (m : Machine) (p : PresentIds) (h : Heap) : Type 0 where
+  -- as many nodes were given as the heap has
+  pub given : length h.nodes ≡ p.given
+  -- a row that is out is one of its nodes, and different rows are different nodes
+  pub there : (r : ℕ) → IsOut m r → p.node r < p.given
+  pub apart : (q r : ℕ) → IsOut m q → IsOut m r → p.node q ≡ p.node r → q ≡ r
+  -- a root's link has the mark of the heap's link, and its target row's present node is that link's target
+  pub roots : (i : ℕ) → i < m.bounds.roots → shown h (RootPlace i) ≡ Some (node_link p (link_of (word_in m (Root i))))
+  -- so has the link of a row that is out, unless its link was taken out to free the row
+  pub nexts : (r : ℕ) → IsOut m r → ((a : ℕ) → a < m.bounds.agents → dooms_cut (record_at m a).doom r ≡ false)
+      → shown h (NodePlace (p.node r)) ≡ Some (node_link p (link_of (word_in m (Next r))))
+  -- a value word of a row that is out is the value of its present node, where that value was filled
+  pub first : (r v : ℕ) (n : Node) → IsOut m r → slice_get h.nodes (p.node r) ≡ Some n → n.first ≡ Some v → word_in m (First r) ≡ v
+  pub second : (r v : ℕ) (n : Node) → IsOut m r → slice_get h.nodes (p.node r) ≡ Some n → n.second ≡ Some v → word_in m (Second r) ≡ v

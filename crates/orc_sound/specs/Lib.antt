@@ -1,0 +1,12 @@
+pub mod Linked
+pub mod Balance
+pub mod RetirementToken
+pub mod QuietScan
+pub mod Doomed
+pub mod NoLeak
+pub mod Parts
+pub mod Sound
+pub mod Journals
+pub mod Backlog
+pub mod Lifetimes
+pub mod Decisions

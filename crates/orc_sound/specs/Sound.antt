@@ -1,0 +1,23 @@
+-- A sound state.
+use Rattle.orc_core.specs.Machine.{Machine}
+use Rattle.orc_sound.specs.Balance.{Balance}
+use Rattle.orc_sound.specs.Doomed.{DoomedRows, FreeRows}
+use Rattle.orc_sound.specs.NoLeak.{NoLeak}
+use Rattle.orc_sound.specs.Parts.{Enrolment, FreshRows, Looks, Ranges, Scans, Slots, Targets}
+use Rattle.orc_sound.specs.QuietScan.{QuietScans}
+use Rattle.orc_sound.specs.RetirementToken.{RetirementToken}
+
+pub record IsSound (m : Machine) : Type 0 where
+  pub balance : Balance m
+  pub token : RetirementToken m
+  pub quiet : QuietScans m
+  pub doomed : DoomedRows m
+  pub free : FreeRows m
+  pub no_leak : NoLeak m
+  pub enrolment : Enrolment m
+  pub slots : Slots m
+  pub targets : Targets m
+  pub fresh : FreshRows m
+  pub scans : Scans m
+  pub looks : Looks m
+  pub ranges : Ranges m

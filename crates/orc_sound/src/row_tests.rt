@@ -1,0 +1,173 @@
+//! Tests of one row, by which a state is seen to be sound.
+
+ghost use Rattle.std.specs.Prelude.{◌≡◌, ℕ, ◌<◌, ◌≤◌, ◌%◌, ◌/◌, ◌==◌};
+ghost use Rattle.orc_words.specs.declared.place.Word.{Word};
+ghost use Rattle.orc_words.specs.Packed.{sequence_of};
+ghost use Rattle.orc_core.specs.Machine.{record_at, word_in};
+ghost use Rattle.orc_core.specs.Sums.{some_below};
+ghost use Rattle.orc_sound.specs.Balance.{decrements, increments};
+ghost use Rattle.orc_sound.specs.Decisions.{count_fits, free_fits, out_in, range_fits, row_fits, target_fits, token_fits, unreachable_in};
+ghost use Rattle.orc_sound.specs.Doomed.{dooms};
+ghost use Rattle.orc_sound.specs.Linked.{changes};
+ghost use Rattle.orc_sound.specs.NoLeak.{has_reason, keeps_out};
+
+use crate::counting::{is_held, is_out, is_retired, linked_of, tokens_of};
+use crate::parts::{changes, dooms, keeps_out, names};
+use orc_core::State;
+use orc_words::{NEW_COUNTER, RETIRED, Word};
+
+/// The first bit of a sequence.
+pub(crate) const SEQUENCE: u64 = 16_777_216;
+
+/// The greatest life, and what a sequence may exceed it by.
+const MOST_LIVES: u64 = 549_755_813_888;
+
+const MARGIN: u64 = 524_288;
+
+#[tactic(auto, using(orc_core::proofs::Counted::count_none, orc_core::proofs::Counted::count_more, orc_core::proofs::Counted::count_all))]
+pub(crate) fn increments_of(state: &State, row: u32) -> u32
+    ensures count { result ≡ increments state.now row }
+    ensures few { result ≤ state.now.bounds.agents }
+{
+    let mut count = 0;
+    for agent in 0..state.shape().agents() {
+        count += u32::from(names(state.agent(agent).inc, row));
+    }
+    count
+}
+
+#[tactic(auto, using(orc_core::proofs::Counted::count_none, orc_core::proofs::Counted::count_more, orc_core::proofs::Counted::count_all))]
+pub(crate) fn decrements_of(state: &State, row: u32) -> u32
+    ensures count { result ≡ decrements state.now row }
+    ensures few { result ≤ state.now.bounds.agents }
+{
+    let mut count = 0;
+    for agent in 0..state.shape().agents() {
+        count += u32::from(names(state.agent(agent).dec, row));
+    }
+    count
+}
+
+#[tactic(auto, using(crate::proofs::Found::found_none, crate::proofs::Found::found_more, crate::proofs::Found::found_all))]
+fn is_changing(state: &State, row: u32) -> bool
+    ensures { result ≡ some_below state.now.bounds.agents (λ a. changes (record_at state.now a) row) }
+{
+    let mut found = false;
+    for agent in 0..state.shape().agents() {
+        found |= changes(state.agent(agent), row);
+    }
+    found
+}
+
+#[tactic(auto, using(crate::proofs::Found::found_none, crate::proofs::Found::found_more, crate::proofs::Found::found_all))]
+fn is_doomed(state: &State, row: u32) -> bool
+    ensures { result ≡ some_below state.now.bounds.agents (λ a. dooms (record_at state.now a).doom row) }
+{
+    let mut found = false;
+    for agent in 0..state.shape().agents() {
+        found |= dooms(state.agent(agent).doom, row);
+    }
+    found
+}
+
+#[tactic(auto, using(crate::proofs::Found::found_none, crate::proofs::Found::found_more, crate::proofs::Found::found_all))]
+fn is_kept_out(state: &State, row: u32, sequence: u64) -> bool
+    ensures { result ≡ some_below state.now.bounds.agents (λ a. keeps_out (record_at state.now a) row sequence) }
+{
+    let mut found = false;
+    for agent in 0..state.shape().agents() {
+        found |= keeps_out(state.agent(agent), row, sequence);
+    }
+    found
+}
+
+/// Whether the row is one of the table's, and out.
+pub(crate) fn out_in(state: &State, row: u32) -> bool
+    ensures { result ≡ out_in state.now row }
+{
+    row < state.shape().rows() && is_out(state, row)
+}
+
+/// Whether a link word names no row, or one that is out.
+pub(crate) fn target_fits(state: &State, word: u64) -> bool
+    ensures { result ≡ target_fits state.now word }
+{
+    if word / 2 == 0 {
+        return true;
+    }
+    let row = word / 2 - 1;
+    row < u64::from(state.shape().rows()) && is_out(state, row as u32)
+}
+
+fn count_fits(state: &State, row: u32) -> bool
+    requires { row < state.now.bounds.rows }
+    ensures { result ≡ count_fits state.now row }
+{
+    let shape = state.shape();
+    let increments = increments_of(state, row);
+    let decrements = decrements_of(state, row);
+    prove!(shape.agents() <= 16);
+    let count = state.word(Word::Counter(row)) % RETIRED;
+    let linked = u64::from(linked_of(state, row));
+    count + u64::from(increments) == NEW_COUNTER + linked + u64::from(decrements)
+}
+
+fn token_fits(state: &State, row: u32) -> bool
+    requires { row < state.now.bounds.rows }
+    ensures { result ≡ token_fits state.now row }
+{
+    tokens_of(state, row) == u32::from(is_retired(state, row))
+}
+
+fn range_fits(state: &State, row: u32) -> bool
+    requires { row < state.now.bounds.rows }
+    ensures { result ≡ range_fits state.now row }
+{
+    state.word(Word::Counter(row)) / SEQUENCE < MOST_LIVES + MARGIN
+        && state.word(Word::Gate(row)) / 2 <= MOST_LIVES
+}
+
+/// Whether nothing links the row, nobody holds it, no change of it is pending or due, and its count is 0.
+pub(crate) fn unreachable_in(state: &State, row: u32) -> bool
+    requires { row < state.now.bounds.rows }
+    ensures { result ≡ unreachable_in state.now row }
+{
+    linked_of(state, row) == 0
+        && !is_held(state, row)
+        && !is_changing(state, row)
+        && state.word(Word::Counter(row)) % RETIRED == NEW_COUNTER
+}
+
+fn free_fits(state: &State, row: u32) -> bool
+    requires { row < state.now.bounds.rows }
+    ensures { result ≡ free_fits state.now row }
+{
+    unreachable_in(state, row)
+        && !is_retired(state, row)
+        && state.word(Word::Next(row)) == 0
+        && !is_doomed(state, row)
+}
+
+fn has_reason(state: &State, row: u32) -> bool
+    requires { row < state.now.bounds.rows }
+    ensures { result ≡ has_reason state.now row }
+{
+    let word = state.word(Word::Counter(row));
+    word % RETIRED != NEW_COUNTER
+        || is_retired(state, row)
+        || is_kept_out(state, row, word / SEQUENCE)
+}
+
+pub(crate) fn row_fits(state: &State, row: u32) -> bool
+    requires { row < state.now.bounds.rows }
+    ensures { result ≡ row_fits state.now row }
+{
+    if !(count_fits(state, row) && token_fits(state, row) && range_fits(state, row)) {
+        return false;
+    }
+    if is_out(state, row) {
+        target_fits(state, state.word(Word::Next(row))) && has_reason(state, row)
+    } else {
+        free_fits(state, row)
+    }
+}

@@ -1,0 +1,13 @@
+//! A step of a board's journal.
+
+use orc_core::Op;
+use orc_words::RowLink;
+
+/// A step of an agent, the link that its caller wanted a load to show, and a note.
+#[derive(Clone, Copy, Debug, PartialEq, Eq)]
+pub struct Step<N> {
+    pub agent: u32,
+    pub op: Op,
+    pub want: Option<RowLink>,
+    pub note: Option<N>,
+}

@@ -1,0 +1,47 @@
+//! Worked examples of the definitions, computed by hand and proved by the check.
+
+ghost use Rattle.std.specs.Prelude.{◌≡◌, ℕ, List, [], ◌∷◌, Some, None, true, false, pos};
+ghost use Rattle.orc_words.specs.declared.place.Word.{Word};
+ghost use Rattle.orc_words.specs.Packed.{counter_of};
+ghost use Rattle.orc_core.specs.declared.actions.Operation.{Operation};
+ghost use Rattle.orc_core.specs.declared.ops.CounterUse.{CounterUse};
+ghost use Rattle.orc_core.specs.declared.ops.Op.{Op};
+ghost use Rattle.orc_core.specs.declared.records.SlotUse.{SlotUse};
+ghost use Rattle.orc_core.specs.Machine.{new_machine, nobody, word_in};
+ghost use Rattle.orc_core.specs.Runs.{run};
+ghost use Rattle.orc_sound.specs.Backlog.{backlog, is_listed};
+ghost use Rattle.orc_sound.specs.Balance.{decrements, increments};
+ghost use Rattle.orc_sound.specs.Doomed.{dooms, dooms_cut};
+ghost use Rattle.orc_sound.specs.Lifetimes.{NoWrap, times_freed, times_taken};
+ghost use Rattle.orc_sound.specs.Linked.{changes, held, linked};
+ghost use Rattle.orc_sound.specs.NoLeak.{has_reason, keeps_out};
+ghost use Rattle.orc_sound.specs.Parts.{slot_word};
+ghost use Rattle.orc_sound.specs.QuietScan.{is_linked_anew};
+ghost use Rattle.orc_sound.specs.RetirementToken.{dooming, tokens};
+
+/// Row 0 is taken, held in slot 1 and linked from root 0, and that link isn't counted yet.
+fn a_link_that_is_not_counted_yet()
+    ensures linked { let m = run (new_machine (record { rows = 2; roots = 1; agents = 1; limit = 8 })) ((0, Op.Enroll) ∷ (0, Op.GateLook 0) ∷ (0, Op.CounterLoad 0 CounterUse.Check) ∷ (0, Op.GateTake 0) ∷ (0, Op.Publish 1 0) ∷ (0, Op.CounterLoad 0 CounterUse.Check) ∷ (0, Op.LinkCas (Word.Root 0) (record { to = None; mark = false }) (record { to = Some 0; mark = false })) ∷ []) in
+        (linked m 0 ≡ 1) × (increments m 0 ≡ 1) × (decrements m 0 ≡ 0) × ((counter_of (word_in m (Word.Counter 0))).count ≡ pos 0) }
+    ensures held { let m = run (new_machine (record { rows = 2; roots = 1; agents = 1; limit = 8 })) ((0, Op.Enroll) ∷ (0, Op.GateLook 0) ∷ (0, Op.CounterLoad 0 CounterUse.Check) ∷ (0, Op.GateTake 0) ∷ (0, Op.Publish 1 0) ∷ (0, Op.CounterLoad 0 CounterUse.Check) ∷ (0, Op.LinkCas (Word.Root 0) (record { to = None; mark = false }) (record { to = Some 0; mark = false })) ∷ []) in
+        (held m 0 ≡ true) × (held m 1 ≡ false) × (is_linked_anew m 0 1 ≡ true) × (is_linked_anew m 0 2 ≡ false) × (has_reason m 0 ≡ true) × (has_reason m 1 ≡ false) }
+{}
+
+/// Row 0 is taken and retired: first it waits in the work list, then it is scanned.
+fn a_retired_row()
+    ensures listed { let m = run (new_machine (record { rows = 2; roots = 1; agents = 1; limit = 8 })) ((0, Op.Enroll) ∷ (0, Op.GateLook 0) ∷ (0, Op.CounterLoad 0 CounterUse.Check) ∷ (0, Op.GateTake 0) ∷ (0, Op.SetRetired 0 0) ∷ []) in
+        (tokens m 0 ≡ 1) × (is_listed m 0 ≡ true) × (backlog m ≡ 0) × (tokens m 1 ≡ 0) }
+    ensures scanned { let m = run (new_machine (record { rows = 2; roots = 1; agents = 1; limit = 8 })) ((0, Op.Enroll) ∷ (0, Op.GateLook 0) ∷ (0, Op.CounterLoad 0 CounterUse.Check) ∷ (0, Op.GateTake 0) ∷ (0, Op.SetRetired 0 0) ∷ (0, Op.CounterLoad 0 CounterUse.Start) ∷ []) in
+        (tokens m 0 ≡ 1) × (is_listed m 0 ≡ false) × (backlog m ≡ 1) }
+    ensures taken { times_taken (new_machine (record { rows = 2; roots = 1; agents = 1; limit = 8 })) ((0, Op.Enroll) ∷ (0, Op.GateLook 0) ∷ (0, Op.CounterLoad 0 CounterUse.Check) ∷ (0, Op.GateTake 0) ∷ []) 0 ≡ 1 }
+    ensures freed { times_freed ((0, Op.Free 0) ∷ (1, Op.Free 1) ∷ (0, Op.Free 0) ∷ []) 0 ≡ 2 }
+{}
+
+/// Parts of a record, and slot words.
+fn parts_of_a_record()
+    ensures doom { (dooms (Some (record { row = 3; cut = false; bare = false })) 3 ≡ true) × (dooms (Some (record { row = 3; cut = false; bare = false })) 4 ≡ false) × (dooms_cut (Some (record { row = 3; cut = false; bare = false })) 3 ≡ false) }
+    ensures bare { (dooming (Some (record { row = 3; cut = true; bare = false })) 3 ≡ true) × (dooming (Some (record { row = 3; cut = true; bare = true })) 3 ≡ false) }
+    ensures nothing { (changes (nobody 2) 0 ≡ false) × (keeps_out (nobody 2) 0 0 ≡ false) }
+    ensures slots { (slot_word SlotUse.Empty ≡ 0) × (slot_word (SlotUse.Published 4) ≡ 5) × (slot_word (SlotUse.Held 4) ≡ 5) }
+    ensures sums { (NoWrap (Operation.Sub 1) 1) × ¬ (NoWrap (Operation.Sub 1) 0) }
+{}
