@@ -1,9 +1,10 @@
 -- A state that passes the tests is sound.
-use Rattle.std.proofs.Common.{Bool, List, [], ap, arith, cond, false, inl, inr, length, refl, subst, suc, sym, true, zero, ℕ, ⊎_elim, ◌*◌, ◌+◌, ◌/◌, ◌<◌, ◌∙◌, ◌∷◌, ◌≡◌, ◌≢◌, ◌≤◌, ◌⊎◌}
+use Rattle.std.proofs.Common.{Bool, List, [], ap, arith, cond, false, inl, inr, length, refl, set, subst, suc, sym, true, zero, ℕ, ⊎_elim, ◌*◌, ◌+◌, ◌/◌, ◌<◌, ◌∙◌, ◌∷◌, ◌≡◌, ◌≢◌, ◌≤◌, ◌⊎◌}
 use Rattle.std.proofs.lemmas.Bool.{eq-eqb, eqb-true, false≢true, lt-ltb, ltb-true, ne_eqb}
 use Rattle.std.proofs.lemmas.List.{get_or_past}
 use Rattle.std.specs.Prelude.{None, Option, Some, is_none, is_some, nat_le, nat_lt, not, replicate, slice_index_or, ◌&&◌, ◌==◌, ◌||◌}
 use Rattle.orc_words.specs.Packed.{bit, count_bits, retired_bit, sequence_of}
+use Rattle.orc_words.specs.Places.{place}
 use Rattle.orc_words.specs.declared.place.Word.TheVariants.{Counter, Enrolled, Gate, Next, Root, Slot}
 use Rattle.orc_core.proofs.Within.{and_both}
 use Rattle.orc_core.specs.Counts.{is_out, is_retired, links_to}
@@ -16,6 +17,8 @@ use Rattle.orc_core.specs.declared.records.Scan.{Scan}
 use Rattle.orc_core.specs.declared.records.SlotUse.{SlotUse}
 use Rattle.orc_core.specs.declared.records.SlotUse.TheVariants.{Empty, Held, Published}
 use Rattle.orc_sound.proofs.Decided.{all_there, count_is, four_true, held_name, not_is, out_is, passes_at, seen_row, target_is, unreachable_is}
+use Rattle.orc_sound.proofs.Facts.{out}
+use Rattle.orc_sound.proofs.Lives.{looks}
 use Rattle.orc_sound.proofs.Quiet.{HeldAt, held_at}
 use Rattle.orc_sound.proofs.Scans.{slot_within}
 use Rattle.orc_sound.proofs.Seats.{both_ways, either}
@@ -23,7 +26,7 @@ use Rattle.orc_sound.proofs.Shown.{below_none, low_count}
 use Rattle.orc_sound.specs.Balance.{Balance, decrements, increments}
 use Rattle.orc_sound.specs.Decisions.{agent_fits, all_below, all_fit, count_fits, doom_fits, enrolment_fits, free_fits, fresh_fits, is_nobody, left_in, looks_fit, named_passes, one_part_in, out_in, pending_fits, range_fits, row_fits, row_held, row_seen, same_fits, scan_fits, slot_fits, slots_fit, target_fits, token_fits, unreachable_in}
 use Rattle.orc_sound.specs.Doomed.{DoomedRows, FreeRows, dooms, dooms_cut}
-use Rattle.orc_sound.specs.Linked.{IsOut, IsUnreachable, changes, holds_row, linked, uses}
+use Rattle.orc_sound.specs.Linked.{IsOut, IsUnreachable, changes, held, holds_row, linked, uses}
 use Rattle.orc_sound.specs.NoLeak.{has_reason}
 use Rattle.orc_sound.specs.Parts.{Enrolment, FreshRows, Looks, Ranges, Scans, Slots, slot_word}
 use Rattle.orc_sound.specs.QuietScan.{IsLeft, is_linked_anew}
@@ -160,31 +163,34 @@ quiet_is m (Some s) f r k h i j e =
     (λ u. inr (left_is m s.row s.place u))
     (either (not (count_bits s.word == 4194304) || is_linked_anew m s.row s.place) (left_in m s.row s.place) g))
 
--- what one scan shows
-record ScanParts (m : Machine) (o : Option Scan) : Type 0 where
-  row : (r : ℕ) → scans o r ≡ true → r < m.bounds.rows
-  set : (r : ℕ) → scans o r ≡ true → retired_bit (kept o) ≡ 1
-  behind : (r : ℕ) → scans o r ≡ true → sequence_of (kept o) ≤ sequence_of (word_in m (Counter r))
-  count : (r : ℕ) → scans o r ≡ true → sequence_of (word_in m (Counter r)) ≡ sequence_of (kept o) → count_bits (word_in m (Counter r)) ≡ count_bits (kept o)
-  found : scan_found o ≡ true → scan_empty o ≡ true
-  place : (k : ℕ) → scan_found o ≡ true → scan_at o k ≡ true → k < 8 * m.bounds.agents
+-- what a sound state says of one scan
+pub record ScanShows (m : Machine) (o : Option Scan) : Type 0 where
+  pub row : (r : ℕ) → scans o r ≡ true → r < m.bounds.rows
+  pub set : (r : ℕ) → scans o r ≡ true → retired_bit (kept o) ≡ 1
+  pub behind : (r : ℕ) → scans o r ≡ true → sequence_of (kept o) ≤ sequence_of (word_in m (Counter r))
+  pub count : (r : ℕ) → scans o r ≡ true → sequence_of (word_in m (Counter r)) ≡ sequence_of (kept o) → count_bits (word_in m (Counter r)) ≡ count_bits (kept o)
+  pub found : scan_found o ≡ true → scan_empty o ≡ true
+  pub place : (k : ℕ) → scan_found o ≡ true → scan_at o k ≡ true → k < 8 * m.bounds.agents
+  pub quiet : (r k : ℕ) → scans o r ≡ true → scan_at o k ≡ true → scan_empty o ≡ true → sequence_of (word_in m (Counter r)) ≡ sequence_of (kept o) → (is_linked_anew m r k ≡ true) ⊎ IsLeft m r k
 
-scan_parts : (m : Machine) (o : Option Scan) → scan_fits m o ≡ true → ScanParts m o
-scan_parts m None f = record {
+scan_shows : (m : Machine) (o : Option Scan) → scan_fits m o ≡ true → ScanShows m o
+scan_shows m None f = record {
   row = λ r h. absurd (false≢true h);
   set = λ r h. absurd (false≢true h);
   behind = λ r h. absurd (false≢true h);
   count = λ r h. absurd (false≢true h);
   found = λ h. absurd (false≢true h);
   place = λ k h. absurd (false≢true h);
+  quiet = quiet_is m None f;
 }
-scan_parts m (Some s) f = record {
+scan_shows m (Some s) f = record {
   row = λ r h. rw (← eqb-true s.row r h) p.row;
   set = λ r h. p.set;
   behind = λ r h. rw (← eqb-true s.row r h) p.behind;
   count = λ r h e. rw (← eqb-true s.row r h) (eqb-true (count_bits (word_in m (Counter s.row))) (count_bits s.word) (and_both (count_bits (word_in m (Counter s.row)) == count_bits s.word) (not (count_bits s.word == 4194304) || is_linked_anew m s.row s.place || left_in m s.row s.place) (same_sequence m s p (rw (eqb-true s.row r h) e))).0);
   found = λ h. (found_both h).0;
   place = λ k h i. rw (← eqb-true s.place k i) (ltb-true s.place (8 * m.bounds.agents) (found_both h).1);
+  quiet = quiet_is m (Some s) f;
 }
   where
     p : ScanPasses m s
@@ -222,23 +228,23 @@ doom_passes m a d h =
       bare = λ c. let g = and_both d.cut (not (is_retired m d.row)) (only d.bare (d.cut && not (is_retired m d.row)) p.3 c) in (g.0, not_is (is_retired m d.row) g.1);
     }
 
--- what one doom shows
-record DoomParts (m : Machine) (a : ℕ) (o : Option Doom) : Type 0 where
-  out : (r : ℕ) → dooms o r ≡ true → IsOut m r
-  unreachable : (r : ℕ) → dooms o r ≡ true → IsUnreachable m r
-  alone : (x r : ℕ) → x < m.bounds.agents → dooms o r ≡ true → dooms (record_at m x).doom r ≡ true → x ≡ a
-  null : (r : ℕ) → dooms_cut o r ≡ true → word_in m (Next r) ≡ 0
-  bare : (r : ℕ) → doom_bare o r ≡ true → (dooms_cut o r ≡ true) × (is_retired m r ≡ false)
+-- what a sound state says of one doom
+pub record DoomShows (m : Machine) (a : ℕ) (o : Option Doom) : Type 0 where
+  pub out : (r : ℕ) → dooms o r ≡ true → IsOut m r
+  pub unreachable : (r : ℕ) → dooms o r ≡ true → IsUnreachable m r
+  pub alone : (x r : ℕ) → x < m.bounds.agents → dooms o r ≡ true → dooms (record_at m x).doom r ≡ true → x ≡ a
+  pub null : (r : ℕ) → dooms_cut o r ≡ true → word_in m (Next r) ≡ 0
+  pub bare : (r : ℕ) → doom_bare o r ≡ true → (dooms_cut o r ≡ true) × (is_retired m r ≡ false)
 
-doom_parts : (m : Machine) (a : ℕ) (o : Option Doom) → doom_fits m a o ≡ true → DoomParts m a o
-doom_parts m a None f = record {
+doom_shows : (m : Machine) (a : ℕ) (o : Option Doom) → doom_fits m a o ≡ true → DoomShows m a o
+doom_shows m a None f = record {
   out = λ r h. absurd (false≢true h);
   unreachable = λ r h. absurd (false≢true h);
   alone = λ x r l h. absurd (false≢true h);
   null = λ r h. absurd (false≢true h);
   bare = λ r h. absurd (false≢true h);
 }
-doom_parts m a (Some d) f = record {
+doom_shows m a (Some d) f = record {
   out = λ r h. rw (← eqb-true d.row r h) p.out;
   unreachable = λ r h. subst (IsUnreachable m) (eqb-true d.row r h) p.unreachable;
   alone = λ x r l h e. p.alone x l (rw (eqb-true d.row r h) e);
@@ -389,7 +395,7 @@ sound_is m w e f =
     record {
       balance = balance_is m t;
       token = token_is m t;
-      quiet = λ a r k l h i j q. quiet_is m (record_at m a).scan (agent_passes m a (t.agents a l)).scan r k h i j q;
+      quiet = λ a r k l h i j q. (scan_shows m (record_at m a).scan (agent_passes m a (t.agents a l)).scan).quiet r k h i j q;
       doomed = doomed_is m t;
       free = free_is m t;
       no_leak = λ r h. (out_part m r t h).1;
@@ -404,19 +410,19 @@ sound_is m w e f =
   where
     doomed_is : (m : Machine) → TestsPass m → DoomedRows m
     doomed_is m t = record {
-      out = λ a r l h. (doom_parts m a (record_at m a).doom (agent_passes m a (t.agents a l)).doom).out r h;
-      unreachable = λ a r l h. (doom_parts m a (record_at m a).doom (agent_passes m a (t.agents a l)).doom).unreachable r h;
-      alone = λ a x r l g h k. (doom_parts m a (record_at m a).doom (agent_passes m a (t.agents a l)).doom).alone x r g h k;
-      null = λ a r l h. (doom_parts m a (record_at m a).doom (agent_passes m a (t.agents a l)).doom).null r h;
-      bare = λ a r l h. (doom_parts m a (record_at m a).doom (agent_passes m a (t.agents a l)).doom).bare r h;
+      out = λ a r l h. (doom_shows m a (record_at m a).doom (agent_passes m a (t.agents a l)).doom).out r h;
+      unreachable = λ a r l h. (doom_shows m a (record_at m a).doom (agent_passes m a (t.agents a l)).doom).unreachable r h;
+      alone = λ a x r l g h k. (doom_shows m a (record_at m a).doom (agent_passes m a (t.agents a l)).doom).alone x r g h k;
+      null = λ a r l h. (doom_shows m a (record_at m a).doom (agent_passes m a (t.agents a l)).doom).null r h;
+      bare = λ a r l h. (doom_shows m a (record_at m a).doom (agent_passes m a (t.agents a l)).doom).bare r h;
     }
 
     scans_is : (m : Machine) → TestsPass m → Scans m
     scans_is m t = record {
-      row = λ a r l h. (scan_parts m (record_at m a).scan (agent_passes m a (t.agents a l)).scan).row r h;
-      set = λ a r l h. (scan_parts m (record_at m a).scan (agent_passes m a (t.agents a l)).scan).set r h;
-      behind = λ a r l h. (scan_parts m (record_at m a).scan (agent_passes m a (t.agents a l)).scan).behind r h;
-      count = λ a r l h e. (scan_parts m (record_at m a).scan (agent_passes m a (t.agents a l)).scan).count r h e;
-      found = λ a l h. (scan_parts m (record_at m a).scan (agent_passes m a (t.agents a l)).scan).found h;
-      place = λ a k l h i. (scan_parts m (record_at m a).scan (agent_passes m a (t.agents a l)).scan).place k h i;
+      row = λ a r l h. (scan_shows m (record_at m a).scan (agent_passes m a (t.agents a l)).scan).row r h;
+      set = λ a r l h. (scan_shows m (record_at m a).scan (agent_passes m a (t.agents a l)).scan).set r h;
+      behind = λ a r l h. (scan_shows m (record_at m a).scan (agent_passes m a (t.agents a l)).scan).behind r h;
+      count = λ a r l h e. (scan_shows m (record_at m a).scan (agent_passes m a (t.agents a l)).scan).count r h e;
+      found = λ a l h. (scan_shows m (record_at m a).scan (agent_passes m a (t.agents a l)).scan).found h;
+      place = λ a k l h i. (scan_shows m (record_at m a).scan (agent_passes m a (t.agents a l)).scan).place k h i;
     }

@@ -1,25 +1,28 @@
 -- A sound state passes the tests.
-use Rattle.std.proofs.Common.{Bool, arith, cond, false, refl, sym, true, ℕ, ⊎_elim, ◌*◌, ◌+◌, ◌/◌, ◌<◌, ◌∙◌, ◌≡◌, ◌≤◌, ◌⊎◌}
+use Rattle.std.proofs.Common.{Bool, arith, cond, false, refl, set, sym, true, ℕ, ⊎_elim, ◌*◌, ◌+◌, ◌/◌, ◌<◌, ◌∙◌, ◌≡◌, ◌≤◌}
 use Rattle.std.proofs.lemmas.Bool.{eq-eqb, eqb-false, eqb-true, lt-ltb, ltb-true}
 use Rattle.std.specs.Prelude.{None, Option, Some, is_some, nat_le, nat_lt, not, ◌&&◌, ◌==◌, ◌||◌}
 use Rattle.orc_words.specs.Packed.{bit, count_bits, retired_bit, sequence_of}
+use Rattle.orc_words.specs.Places.{place}
 use Rattle.orc_words.specs.declared.place.Word.TheVariants.{Counter, Enrolled, Gate, Next, Root, Slot}
 use Rattle.orc_core.proofs.Within.{and_both}
 use Rattle.orc_core.specs.Counts.{is_out, is_retired, links_to}
 use Rattle.orc_core.specs.Machine.{Machine, nobody, record_at, word_in}
-use Rattle.orc_core.specs.Parts.{any_holds, doom_bare, holds, is_published, kept, names, number_of, saw, scan_at, scan_empty, scan_found, scans, slot_of}
+use Rattle.orc_core.specs.Parts.{any_holds, holds, is_published, names, number_of, saw, slot_of}
 use Rattle.orc_core.specs.Sums.{some_below}
 use Rattle.orc_core.specs.declared.records.Agent.{Agent}
 use Rattle.orc_core.specs.declared.records.Doom.{Doom}
 use Rattle.orc_core.specs.declared.records.Scan.{Scan}
 use Rattle.orc_sound.proofs.Decided.{all_hold, count_back, held_name, is_not, is_out_in, is_target_in, is_unreachable, passes_all, seen_row}
+use Rattle.orc_sound.proofs.DecidedSound.{DoomShows, ScanShows}
+use Rattle.orc_sound.proofs.Facts.{out}
 use Rattle.orc_sound.proofs.Seats.{not_true}
 use Rattle.orc_sound.proofs.Shown.{none_below}
 use Rattle.orc_sound.proofs.Sources.{any_holds_at}
 use Rattle.orc_sound.specs.Balance.{Balance, decrements, increments}
 use Rattle.orc_sound.specs.Decisions.{agent_fits, all_below, all_fit, count_fits, doom_fits, enrolment_fits, free_fits, fresh_fits, is_nobody, left_in, looks_fit, named_passes, one_part_in, out_in, pending_fits, range_fits, row_fits, row_held, row_seen, same_fits, scan_fits, slot_fits, slots_fit, target_fits, token_fits, unreachable_in}
-use Rattle.orc_sound.specs.Doomed.{FreeRows, dooms, dooms_cut}
-use Rattle.orc_sound.specs.Linked.{IsOut, IsUnreachable, changes, linked, uses}
+use Rattle.orc_sound.specs.Doomed.{FreeRows, dooms}
+use Rattle.orc_sound.specs.Linked.{changes, linked, uses}
 use Rattle.orc_sound.specs.NoLeak.{has_reason}
 use Rattle.orc_sound.specs.Parts.{Enrolment, FreshRows, Looks, Slots, slot_word}
 use Rattle.orc_sound.specs.QuietScan.{IsLeft, is_linked_anew}
@@ -88,16 +91,6 @@ left_test m r k h =
     (eq-eqb (linked m r) 0 h.linked) (eq-eqb (increments m r) 0 h.increments) (eq-eqb (decrements m r) 0 h.decrements)
     (all_hold m.bounds.agents (λ a. all_below 8 (λ j. not (holds (slot_of (record_at m a) j) r) || nat_le k (8 * a + j))) (λ a l. all_hold 8 (λ j. not (holds (slot_of (record_at m a) j) r) || nat_le k (8 * a + j)) (λ j i. given (holds (slot_of (record_at m a) j) r) (nat_le k (8 * a + j)) (λ e. le_in k (8 * a + j) (h.holds a j l i e)))))
 
--- what a sound state says of one scan
-record ScanShows (m : Machine) (o : Option Scan) : Type 0 where
-  row : (r : ℕ) → scans o r ≡ true → r < m.bounds.rows
-  set : (r : ℕ) → scans o r ≡ true → retired_bit (kept o) ≡ 1
-  behind : (r : ℕ) → scans o r ≡ true → sequence_of (kept o) ≤ sequence_of (word_in m (Counter r))
-  count : (r : ℕ) → scans o r ≡ true → sequence_of (word_in m (Counter r)) ≡ sequence_of (kept o) → count_bits (word_in m (Counter r)) ≡ count_bits (kept o)
-  found : scan_found o ≡ true → scan_empty o ≡ true
-  place : (k : ℕ) → scan_found o ≡ true → scan_at o k ≡ true → k < 8 * m.bounds.agents
-  quiet : (r k : ℕ) → scans o r ≡ true → scan_at o k ≡ true → scan_empty o ≡ true → sequence_of (word_in m (Counter r)) ≡ sequence_of (kept o) → (is_linked_anew m r k ≡ true) ⊎ IsLeft m r k
-
 scan_in : (m : Machine) (o : Option Scan) → ScanShows m o → scan_fits m o ≡ true
 scan_in m None s = refl
 scan_in m (Some o) s =
@@ -126,14 +119,6 @@ scan_in m (Some o) s =
         quiet_test : (t : Bool) → (count_bits o.word == 4194304) ≡ t → (not t || is_linked_anew m o.row o.place || left_in m o.row o.place) ≡ true
         quiet_test false f = refl
         quiet_test true f = ⊎_elim (λ n. or_left (is_linked_anew m o.row o.place) (left_in m o.row o.place) n) (λ n. or_right (is_linked_anew m o.row o.place) (left_in m o.row o.place) (left_test m o.row o.place n)) (s.quiet o.row o.place mine (eq-eqb o.place o.place refl) f e)
-
--- what a sound state says of one doom
-record DoomShows (m : Machine) (a : ℕ) (o : Option Doom) : Type 0 where
-  out : (r : ℕ) → dooms o r ≡ true → IsOut m r
-  unreachable : (r : ℕ) → dooms o r ≡ true → IsUnreachable m r
-  alone : (x r : ℕ) → x < m.bounds.agents → dooms o r ≡ true → dooms (record_at m x).doom r ≡ true → x ≡ a
-  null : (r : ℕ) → dooms_cut o r ≡ true → word_in m (Next r) ≡ 0
-  bare : (r : ℕ) → doom_bare o r ≡ true → (dooms_cut o r ≡ true) × (is_retired m r ≡ false)
 
 doom_in : (m : Machine) (a : ℕ) (o : Option Doom) → DoomShows m a o → doom_fits m a o ≡ true
 doom_in m a None s = refl

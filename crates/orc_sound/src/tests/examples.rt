@@ -1,6 +1,6 @@
 //! Worked examples of the definitions, computed by hand and proved by the check.
 
-ghost use Rattle.std.specs.Prelude.{◌≡◌, ℕ, List, [], ◌∷◌, Some, None, true, false, pos};
+ghost use Rattle.std.specs.Prelude.{◌≡◌, ℕ, ◌==◌, List, [], ◌∷◌, Some, None, true, false, nat_lt, pos};
 ghost use Rattle.orc_words.specs.declared.place.Word.{Word};
 ghost use Rattle.orc_words.specs.Packed.{counter_of};
 ghost use Rattle.orc_core.specs.declared.actions.Operation.{Operation};
@@ -11,7 +11,9 @@ ghost use Rattle.orc_core.specs.Machine.{new_machine, nobody, word_in};
 ghost use Rattle.orc_core.specs.Runs.{run};
 ghost use Rattle.orc_sound.specs.Backlog.{backlog, is_listed};
 ghost use Rattle.orc_sound.specs.Balance.{decrements, increments};
+ghost use Rattle.orc_sound.specs.Decisions.{agent_fits, all_below, all_fit, named_passes, out_in, row_fits, row_held, target_fits};
 ghost use Rattle.orc_sound.specs.Doomed.{dooms, dooms_cut};
+ghost use Rattle.orc_sound.specs.Journals.{plain};
 ghost use Rattle.orc_sound.specs.Lifetimes.{NoWrap, times_freed, times_taken};
 ghost use Rattle.orc_sound.specs.Linked.{changes, held, linked};
 ghost use Rattle.orc_sound.specs.NoLeak.{has_reason, keeps_out};
@@ -44,4 +46,13 @@ fn parts_of_a_record()
     ensures nothing { (changes (nobody 2) 0 ≡ false) × (keeps_out (nobody 2) 0 0 ≡ false) }
     ensures slots { (slot_word SlotUse.Empty ≡ 0) × (slot_word (SlotUse.Published 4) ≡ 5) × (slot_word (SlotUse.Held 4) ≡ 5) }
     ensures sums { (NoWrap (Operation.Sub 1) 1) × ¬ (NoWrap (Operation.Sub 1) 0) }
+{}
+
+/// The tests that a state is sound by, and the steps of a journal.
+fn tests_and_journals()
+    ensures numbers { (all_below 3 (λ n. nat_lt n 3) ≡ true) × (all_below 4 (λ n. nat_lt n 3) ≡ false) }
+    ensures names { (named_passes None (λ n. false) ≡ true) × (named_passes (Some 2) (λ n. n == 3) ≡ false) × (row_held (SlotUse.Published 4) ≡ None) × (row_held (SlotUse.Held 4) ≡ Some 4) }
+    ensures new { let m = new_machine (record { rows = 2; roots = 1; agents = 1; limit = 8 }) in
+        (target_fits m 0 ≡ true) × (target_fits m 2 ≡ false) × (out_in m 0 ≡ false) × (row_fits m 1 ≡ true) × (agent_fits m 0 ≡ true) × (all_fit m ≡ true) }
+    ensures journal { plain {N = ℕ} (record { agent = 1; op = Op.Free 3; want = None; note = Some 7 } ∷ []) ≡ (1, Op.Free 3) ∷ [] }
 {}
