@@ -50,7 +50,9 @@ random.Random(1).shuffle(ids)
 write('posts_60000_mixed', ''.join('post,%d,bytes,x\n' % place for place in ids))
 write('one_field_16_MiB', 'x' * 16777216)
 write('one_sum_16_MiB', 'post,1,sum,' + '1 ' * 8388601 + '1\n')
+write('one_words_16_MiB', 'post,1,words,' + 'a ' * 8388601)
 write('empty_lines_16_MiB', '\n' * 16777216)
+write('one_byte_more', '\n' * 16777217)
 PY
 for input in "$work"/*; do
   status=0
