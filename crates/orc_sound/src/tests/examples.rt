@@ -1,17 +1,21 @@
 //! Worked examples of the definitions, computed by hand and proved by the check.
 
-ghost use Rattle.std.specs.Prelude.{◌≡◌, ℕ, ◌==◌, List, [], ◌∷◌, Some, None, true, false, nat_lt, pos};
+ghost use Rattle.std.specs.Prelude.{◌≡◌, ℕ, Bool, ◌==◌, ◌&&◌, not, List, [], ◌∷◌, replicate, Option, Some, None, true, false, nat_lt, pos};
 ghost use Rattle.orc_words.specs.declared.place.Word.{Word};
 ghost use Rattle.orc_words.specs.Packed.{counter_of};
 ghost use Rattle.orc_core.specs.declared.actions.Operation.{Operation};
 ghost use Rattle.orc_core.specs.declared.ops.CounterUse.{CounterUse};
 ghost use Rattle.orc_core.specs.declared.ops.Op.{Op};
+ghost use Rattle.orc_core.specs.declared.records.Agent.{Agent};
+ghost use Rattle.orc_core.specs.declared.records.Doom.{Doom};
+ghost use Rattle.orc_core.specs.declared.records.Scan.{Scan};
+ghost use Rattle.orc_core.specs.declared.records.Seen.{Seen};
 ghost use Rattle.orc_core.specs.declared.records.SlotUse.{SlotUse};
-ghost use Rattle.orc_core.specs.Machine.{new_machine, nobody, word_in};
+ghost use Rattle.orc_core.specs.Machine.{Machine, new_machine, nobody, record_at, word_in};
 ghost use Rattle.orc_core.specs.Runs.{run};
 ghost use Rattle.orc_sound.specs.Backlog.{backlog, is_listed};
 ghost use Rattle.orc_sound.specs.Balance.{decrements, increments};
-ghost use Rattle.orc_sound.specs.Decisions.{agent_fits, all_below, all_fit, named_passes, out_in, row_fits, row_held, target_fits};
+ghost use Rattle.orc_sound.specs.Decisions.{agent_fits, all_below, all_fit, count_fits, doom_fits, enrolment_fits, free_fits, fresh_fits, looks_fit, named_passes, out_in, range_fits, row_fits, row_held, scan_fits, slot_fits, target_fits, token_fits};
 ghost use Rattle.orc_sound.specs.Doomed.{dooms, dooms_cut};
 ghost use Rattle.orc_sound.specs.Journals.{plain};
 ghost use Rattle.orc_sound.specs.Lifetimes.{NoWrap, times_freed, times_taken};
@@ -55,4 +59,49 @@ fn tests_and_journals()
     ensures new { let m = new_machine (record { rows = 2; roots = 1; agents = 1; limit = 8 }) in
         (target_fits m 0 ≡ true) × (target_fits m 2 ≡ false) × (out_in m 0 ≡ false) × (row_fits m 1 ≡ true) × (agent_fits m 0 ≡ true) × (all_fit m ≡ true) }
     ensures journal { plain {N = ℕ} (record { agent = 1; op = Op.Free 3; want = None; note = Some 7 } ∷ []) ≡ (1, Op.Free 3) ∷ [] }
+{}
+
+/// States made by hand: three that are sound, and thirteen that break one part each. `state` takes the words of root
+/// 0, and of row 0 its gate, counter and link, then the word of slot 1, and the record of the one agent.
+fn states_with_one_part_broken()
+    ensures one_by_one { let state : ℕ → ℕ → ℕ → ℕ → ℕ → Agent → Machine = λ root gate counter next slot d. record {
+      bounds = record { rows = 2; roots = 1; agents = 1; limit = 8 };
+      words = 1 ∷ root ∷ gate ∷ counter ∷ 0 ∷ 0 ∷ next ∷ 0 ∷ 4194304 ∷ 0 ∷ 0 ∷ 0 ∷ 0 ∷ slot ∷ replicate 14 0;
+      agents = d ∷ [];
+    } in
+        let agent : Bool → List SlotUse → Option ℕ → Option Seen → Option Seen → Option Scan → Option Doom → Agent = λ enrolled slots fresh looked checked scan doom. record {
+          enrolled = enrolled;
+          slots = slots;
+          fresh = fresh;
+          looked = looked;
+          checked = checked;
+          inc = None;
+          dec = None;
+          due = None;
+          hand = None;
+          scan = scan;
+          doom = doom;
+          list = record { items = []; room = 2 };
+        } in
+        let empty : List SlotUse = replicate 8 SlotUse.Empty in
+        let idle : Agent = agent true empty None None None None None in
+        let scanning : List SlotUse → ℕ → ℕ → Agent = λ slots word place. agent true slots None None None (Some (record { row = 0; word = word; place = place; found = false })) None in
+        let holding : List SlotUse = SlotUse.Empty ∷ SlotUse.Held 0 ∷ replicate 6 SlotUse.Empty in
+        let breaks : (Machine → Bool) → Machine → Bool = λ part m. not (part m) && not (all_fit m) in
+        (all_fit (state 2 1 20971521 0 0 idle) ≡ true)
+        × (all_fit (state 0 0 4194304 0 0 idle) ≡ true)
+        × (all_fit (state 0 1 29360128 0 1 (scanning holding 29360128 1)) ≡ true)
+        × (breaks (λ m. count_fits m 0) (state 2 1 20971520 0 0 idle) ≡ true)
+        × (breaks (λ m. token_fits m 0) (state 2 1 29360129 0 0 idle) ≡ true)
+        × (breaks (λ m. scan_fits m (record_at m 0).scan) (state 0 1 29360128 0 1 (scanning holding 29360128 2)) ≡ true)
+        × (breaks (λ m. doom_fits m 0 (record_at m 0).doom) (state 2 1 29360129 0 0 (agent true empty None None None None (Some (record { row = 0; cut = false; bare = false })))) ≡ true)
+        × (breaks (λ m. free_fits m 0) (state 0 0 4194304 1 0 idle) ≡ true)
+        × (breaks (λ m. has_reason m 0) (state 0 1 4194304 0 0 idle) ≡ true)
+        × (breaks (λ m. enrolment_fits m 0) (state 2 1 20971521 0 0 (agent false empty None None None None None)) ≡ true)
+        × (breaks (λ m. slot_fits m 0 1) (state 2 1 20971521 0 1 idle) ≡ true)
+        × (breaks (λ m. target_fits m (word_in m (Word.Root 0))) (state 6 0 4194304 0 0 idle) ≡ true)
+        × (breaks (λ m. fresh_fits m 0 0) (state 2 1 20971521 0 0 (agent true empty (Some 0) None None None None)) ≡ true)
+        × (breaks (λ m. scan_fits m (record_at m 0).scan) (state 0 1 29360128 0 0 (scanning empty 20971520 0)) ≡ true)
+        × (breaks (λ m. looks_fit m (record_at m 0)) (state 0 0 4194304 0 0 (agent true empty None (Some (record { row = 0; number = 0 })) (Some (record { row = 0; number = 5 })) None None)) ≡ true)
+        × (breaks (λ m. range_fits m 0) (state 2 1 9223380832951992321 0 0 idle) ≡ true) }
 {}
