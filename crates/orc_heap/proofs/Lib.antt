@@ -1,4 +1,5 @@
 pub mod Changes
 pub mod Linked
 pub mod Runs
+pub mod Stays
 pub mod Told

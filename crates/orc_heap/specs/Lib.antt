@@ -1,3 +1,4 @@
 pub mod Heap
 pub mod Acts
 pub mod Journals
+pub mod Allowed

@@ -1,0 +1,64 @@
+-- Lists of events that are allowed where they stand, and what such events keep.
+use Rattle.std.proofs.Common.{List, [], ap, append-nil, append_assoc, arith, cond, subst, sym, true, false, Bool, ℕ, ◌++◌, ◌∙◌, ◌∷◌, ◌≡◌, ◌≢◌, ◌==◌}
+use Rattle.std.proofs.lemmas.Bool.{eq-eqb}
+use Rattle.orc_heap.specs.Allowed.{AllAllowed, Later, events_by}
+use Rattle.orc_heap.specs.Heap.{HeapNumbers}
+use Rattle.orc_heap.specs.Journals.{FitsAfter, IsLawful}
+use Rattle.orc_heap.specs.declared.events.Event.{Event}
+use Rattle.orc_heap.proofs.Runs.{lawful-snoc}
+
+pub allowed-join : {N : Type 0} (may : List (Event N) → Event N → Type 0) (seen xs ys : List (Event N))
+    → AllAllowed may seen xs → AllAllowed may (seen ++ xs) ys → AllAllowed may seen (xs ++ ys)
+allowed-join may seen [] ys a b = subst (λ s. AllAllowed may s ys) (append-nil seen) b
+allowed-join may seen (x ∷ xs) ys a b =
+    (a.0, allowed-join may (seen ++ x ∷ []) xs ys a.1 (subst (λ s. AllAllowed may s ys) (sym (append_assoc seen (x ∷ []) xs)) b))
+
+pub allowed-left : {N : Type 0} (may : List (Event N) → Event N → Type 0) (seen xs ys : List (Event N))
+    → AllAllowed may seen (xs ++ ys) → AllAllowed may seen xs
+allowed-left may seen [] ys a = tt
+allowed-left may seen (x ∷ xs) ys a = (a.0, allowed-left may (seen ++ x ∷ []) xs ys a.1)
+
+pub allowed-right : {N : Type 0} (may : List (Event N) → Event N → Type 0) (seen xs ys : List (Event N))
+    → AllAllowed may seen (xs ++ ys) → AllAllowed may (seen ++ xs) ys
+allowed-right may seen [] ys a = subst (λ s. AllAllowed may s ys) (sym (append-nil seen)) a
+allowed-right may seen (x ∷ xs) ys a = subst (λ s. AllAllowed may s ys) (append_assoc seen (x ∷ []) xs) (allowed-right may (seen ++ x ∷ []) xs ys a.1)
+
+-- what each allowed event keeps stays true over allowed events
+pub stays : {N : Type 0} (may : List (Event N) → Event N → Type 0) (P : List (Event N) → Type 0)
+    → ((es : List (Event N)) (e : Event N) → P es → may es e → P (es ++ e ∷ []))
+    → (seen more : List (Event N)) → P seen → AllAllowed may seen more → P (seen ++ more)
+stays may P step seen [] begin all = subst P (sym (append-nil seen)) begin
+stays may P step seen (e ∷ more) begin all =
+    subst P (append_assoc seen (e ∷ []) more) (stays may P step (seen ++ e ∷ []) more (step seen e begin all.0) all.1)
+
+-- the first event of a list with none of this agent is another's, and so are the rest
+pub other_first : {N : Type 0} (agent : ℕ) (e : Event N) (es : List (Event N)) → events_by agent (e ∷ es) ≡ [] → (e.agent ≢ agent) × (events_by agent es ≡ [])
+other_first {N} agent e es none = ((λ same. mine (e.agent == agent) none (eq-eqb e.agent agent same)), not_mine (e.agent == agent) none)
+  where
+    not_mine : (b : Bool) → cond b (e ∷ events_by agent es) (events_by agent es) ≡ [] → events_by agent es ≡ []
+    not_mine true h = cc
+    not_mine false h = h
+
+    mine : (b : Bool) → cond b (e ∷ events_by agent es) (events_by agent es) ≡ [] → b ≡ true → ⊥
+    mine true h e = cc
+    mine false h e = cc
+
+-- what each allowed event of another agent keeps stays true over such events
+pub stays_others : {N : Type 0} (may : List (Event N) → Event N → Type 0) (agent : ℕ) (P : List (Event N) → Type 0)
+    → ((es : List (Event N)) (e : Event N) → P es → may es e → e.agent ≢ agent → P (es ++ e ∷ []))
+    → (seen more : List (Event N)) → P seen → Later may agent seen more → P (seen ++ more)
+stays_others may agent P step seen [] begin later = subst P (sym (append-nil seen)) begin
+stays_others {N} may agent P step seen (e ∷ more) begin later =
+    let (other, rest) = other_first agent e more later.others in
+    subst P (append_assoc seen (e ∷ []) more)
+      (stays_others may agent P step (seen ++ e ∷ []) more (step seen e begin later.allowed.0 other) (record { allowed = later.allowed.1; others = rest }))
+
+-- where the discipline holds and the events are lawful, they are so after events that it allows
+pub lawful_later : {N : Type 0} (n : HeapNumbers) (may : List (Event N) → Event N → Type 0) (holds : List (Event N) → Type 0)
+    → ((es : List (Event N)) (e : Event N) → holds es → may es e → holds (es ++ e ∷ []))
+    → ((es : List (Event N)) (e : Event N) → holds es → may es e → FitsAfter n es e)
+    → (seen more : List (Event N)) → holds seen → IsLawful n seen → AllAllowed may seen more → IsLawful n (seen ++ more)
+lawful_later {N} n may holds keeps fits seen more h lawful all =
+    let P : List (Event N) → Type 0 = λ es. holds es × IsLawful n es in
+    let r : P (seen ++ more) = stays may P (λ es e p m. (keeps es e p.0 m, lawful-snoc n es e p.1 (fits es e p.0 m))) seen more (h, lawful) all in
+    r.1
