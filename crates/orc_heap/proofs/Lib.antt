@@ -1,5 +1,8 @@
 pub mod Changes
+pub mod Fresh
 pub mod Linked
 pub mod Runs
 pub mod Stays
 pub mod Told
+pub mod Parts
+pub mod Looks

@@ -1,5 +1,5 @@
 -- Lists of events that are allowed where they stand, and what such events keep.
-use Rattle.std.proofs.Common.{List, [], ap, append-nil, append_assoc, arith, cond, subst, sym, true, false, Bool, ℕ, ◌++◌, ◌∙◌, ◌∷◌, ◌≡◌, ◌≢◌, ◌==◌}
+use Rattle.std.proofs.Common.{List, [], append-nil, append_assoc, cond, subst, sym, true, false, Bool, ℕ, ◌++◌, ◌∷◌, ◌≡◌, ◌≢◌, ◌==◌}
 use Rattle.std.proofs.lemmas.Bool.{eq-eqb}
 use Rattle.orc_heap.specs.Allowed.{AllAllowed, Later, events_by}
 use Rattle.orc_heap.specs.Heap.{HeapNumbers}

@@ -1,16 +1,16 @@
 -- What each call of a domain puts into the events that its pass has seen, and what the pass then shows.
 use Rattle.std.specs.Borrow.{Bor}
-use Rattle.std.specs.Prelude.{Bool, List, MatchBool, None, Option, Some, [], filter, false, if◌then◌else◌, length, slice_get, slice_set, suc, true, zero, ℕ, ◌++◌, ◌==◌, ◌∷◌, ◌≡◌, ◌≢◌, ◌≤◌, ◌⊎◌}
+use Rattle.std.specs.Prelude.{Bool, List, MatchBool, None, Option, Some, [], filter, false, if◌then◌else◌, length, slice_get, slice_set, suc, true, zero, ℕ, ◌==◌, ◌∷◌, ◌≡◌, ◌≢◌, ◌≤◌, ◌⊎◌}
 use mathlib.Core.List.{IsPrefix}
 use Rattle.orc_fault.specs.declared.Spent.{Spent}
 use Rattle.orc_heap.specs.Allowed.{events_by}
 use Rattle.orc_heap.specs.Heap.{Heap, HeapNumbers, Node, null}
 use Rattle.orc_heap.specs.Journals.{points_to, run_heap}
-use Rattle.orc_heap.specs.Parts.{Only, Puts, steps_by}
+use Rattle.orc_heap.specs.Parts.{Puts, steps_by}
 use Rattle.orc_heap.specs.Seats.{Seat, link_in, place_in}
-use Rattle.orc_heap.specs.Slots.{Hold, SlotNode, Slots, id_in}
+use Rattle.orc_heap.specs.Slots.{Hold, Slots, id_in}
 use Rattle.orc_heap.specs.declared.events.Act.{Act}
-use Rattle.orc_heap.specs.declared.events.Act.TheVariants.{Aim, Fill, Give, Look, Miss, Move}
+use Rattle.orc_heap.specs.declared.events.Act.TheVariants.{Fill, Give, Look, Miss, Move}
 use Rattle.orc_heap.specs.declared.events.Event.{Event}
 use Rattle.orc_heap.specs.declared.events.Link.{Link}
 use Rattle.orc_heap.specs.declared.events.Place.{Place}
