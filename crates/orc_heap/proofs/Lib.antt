@@ -6,3 +6,4 @@ pub mod Stays
 pub mod Told
 pub mod Parts
 pub mod Looks
+pub mod Slots

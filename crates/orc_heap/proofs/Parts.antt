@@ -1,10 +1,10 @@
 -- One call after another, and where a call's own events stand.
-use Rattle.std.proofs.Common.{Bool, List, [], ap, append_assoc, cond, false, subst, sym, true, ℕ, ◌++◌, ◌∙◌, ◌∷◌, ◌≡◌}
+use Rattle.std.proofs.Common.{Bool, List, [], ap, append_assoc, cond, false, refl, subst, sym, true, ℕ, ◌++◌, ◌∙◌, ◌∷◌, ◌≡◌}
 use Rattle.std.proofs.lemmas.List.Elements.{filter-append}
 use Rattle.std.specs.List.{filter}
 use Rattle.std.specs.Prelude.{◌==◌}
 use Rattle.orc_heap.proofs.Stays.{allowed-left, allowed-right}
-use Rattle.orc_heap.specs.Allowed.{AllAllowed, events_by}
+use Rattle.orc_heap.specs.Allowed.{AllAllowed, Later, events_by}
 use Rattle.orc_heap.specs.Parts.{Only, Puts}
 use Rattle.orc_heap.specs.Seats.{Seat}
 use Rattle.orc_heap.specs.declared.events.Event.{Event}
@@ -27,37 +27,51 @@ pub part_allowed : {N : Type 0} (may : List (Event N) → Event N → Type 0) (s
     → AllAllowed may [] t.seen → AllAllowed may s.seen p.part
 part_allowed may s t own p all = allowed-right may [] s.seen p.part (subst (λ es. AllAllowed may [] es) p.is all)
 
--- the first that passes, with what stands before it
-pub first_of_filter : {X : Type 0} (test : X → Bool) (xs : List X) (y : X) (ys : List X) → filter test xs ≡ y ∷ ys
-    → (before : List X) × (later : List X) × (xs ≡ before ++ y ∷ later)
+-- the first that passes: none before it does, and those after it are the rest
+pub record FirstPasses {X : Type 0} (test : X → Bool) (xs : List X) (y : X) (ys : List X) : Type 0 where
+  pub before : List X
+  pub later : List X
+  pub is : xs ≡ before ++ y ∷ later
+  pub none_before : filter test before ≡ []
+  pub rest_later : filter test later ≡ ys
+
+pub first_of_filter : {X : Type 0} (test : X → Bool) (xs : List X) (y : X) (ys : List X) → filter test xs ≡ y ∷ ys → FirstPasses test xs y ys
 first_of_filter test [] y ys e = cc
-first_of_filter {X} test (x ∷ xs) y ys e =
-    let cases : (b : Bool) → cond b (x ∷ filter test xs) (filter test xs) ≡ y ∷ ys → (before : List X) × (later : List X) × (x ∷ xs ≡ before ++ y ∷ later) =
-    elim [
-      | true ↦ λ h. ([], xs, cc)
-      | false ↦ λ h. let r = first_of_filter test xs y ys h in (x ∷ r.0, r.1, ap (λ z. x ∷ z) r.2)
-    ] in
-    cases (test x) e
+first_of_filter {X} test (x ∷ xs) y ys e = cases (λ h. first_of_filter test xs y ys h) (test x) refl e
+  where
+    cases : (filter test xs ≡ y ∷ ys → FirstPasses test xs y ys) → (b : Bool) → test x ≡ b → cond b (x ∷ filter test xs) (filter test xs) ≡ y ∷ ys → FirstPasses test (x ∷ xs) y ys
+    cases more true is h = record { before = []; later = xs; is = cc; none_before = refl; rest_later = cc }
+    cases more false is h =
+        let r = more h in
+        record {
+          before = x ∷ r.before;
+          later = r.later;
+          is = ap (λ z. x ∷ z) r.is;
+          none_before = ap (λ b. cond b (x ∷ filter test r.before) (filter test r.before)) is ∙ r.none_before;
+          rest_later = r.rest_later;
+        }
 
 -- where the call's first own event stands, it is allowed, and so is all before and after it
-pub record Stood {N : Type 0} (may : List (Event N) → Event N → Type 0) (s : Seat N) (e : Event N) (t : Seat N) : Type 0 where
+pub record Stood {N : Type 0} (may : List (Event N) → Event N → Type 0) (s : Seat N) (e : Event N) (es : List (Event N)) (t : Seat N) : Type 0 where
   pub before : List (Event N)
   pub later : List (Event N)
   pub is : t.seen ≡ ((s.seen ++ before) ++ e ∷ []) ++ later
-  pub first : AllAllowed may s.seen before
+  pub first : Later may s.agent s.seen before
   pub here : may (s.seen ++ before) e
   pub last : AllAllowed may ((s.seen ++ before) ++ e ∷ []) later
+  pub rest : events_by s.agent later ≡ es
 
-pub Puts-stood : {N : Type 0} (may : List (Event N) → Event N → Type 0) (s t : Seat N) (e : Event N) (es : List (Event N)) → Puts s (e ∷ es) t → AllAllowed may [] t.seen → Stood may s e t
+pub Puts-stood : {N : Type 0} (may : List (Event N) → Event N → Type 0) (s t : Seat N) (e : Event N) (es : List (Event N)) → Puts s (e ∷ es) t → AllAllowed may [] t.seen → Stood may s e es t
 Puts-stood {N} may s t e es p seen_allowed =
-    let (b, l, is) = first_of_filter (λ x. x.agent == s.agent) p.part e es p.own_is in
-    let all : AllAllowed may s.seen (b ++ e ∷ l) = subst (λ z. AllAllowed may s.seen z) is (part_allowed may s t (e ∷ es) p seen_allowed) in
-    let right = allowed-right may s.seen b (e ∷ l) all in
+    let f = first_of_filter (λ x. x.agent == s.agent) p.part e es p.own_is in
+    let all : AllAllowed may s.seen (f.before ++ e ∷ f.later) = subst (λ z. AllAllowed may s.seen z) f.is (part_allowed may s t (e ∷ es) p seen_allowed) in
+    let right = allowed-right may s.seen f.before (e ∷ f.later) all in
     record {
-      before = b;
-      later = l;
-      is = p.is ∙ (ap (λ z. s.seen ++ z) is ∙ (sym (append_assoc s.seen b (e ∷ l)) ∙ sym (append_assoc (s.seen ++ b) (e ∷ []) l)));
-      first = allowed-left may s.seen b (e ∷ l) all;
+      before = f.before;
+      later = f.later;
+      is = p.is ∙ (ap (λ z. s.seen ++ z) f.is ∙ (sym (append_assoc s.seen f.before (e ∷ f.later)) ∙ sym (append_assoc (s.seen ++ f.before) (e ∷ []) f.later)));
+      first = record { allowed = allowed-left may s.seen f.before (e ∷ f.later) all; others = f.none_before };
       here = right.0;
       last = right.1;
+      rest = f.rest_later;
     }
