@@ -62,7 +62,7 @@ abbrev pub is_move : Act → Bool
 is_move (Move place from to) = true
 is_move act = false
 
-target_roots : (f : Node → Node) (to : Option ℕ) (h : Heap) → (Rattle.orc_heap.specs.Acts.change_target f to h).roots ≡ h.roots
+pub target_roots : (f : Node → Node) (to : Option ℕ) (h : Heap) → (Rattle.orc_heap.specs.Acts.change_target f to h).roots ≡ h.roots
 target_roots f None h = refl
 target_roots f (Some id) h = refl
 

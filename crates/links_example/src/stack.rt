@@ -16,6 +16,17 @@ pub enum Refused {
     Spent(Spent),
 }
 
+/// The unmarked link to what is on top.
+fn below<'a>(top: Option<&'a Held>) -> Want<'a>
+    ensures link { (slots : Slots) → link_in slots result ≡ plain_link (target_in slots top.entry) }
+    ensures holds { (slots : Slots) → HoldsOption slots top.entry → HoldsWant slots result }
+{
+    match top {
+        None => Want::Null(false),
+        Some(h) => Want::Node(h, false),
+    }
+}
+
 /// Puts a new node with this value on top of the stack.
 fn push<L: Links<Rule = OwnRoots>>(
     links: &L,
@@ -35,17 +46,15 @@ fn push<L: Links<Rule = OwnRoots>>(
     ensures none { IfErr result (λ e. StackStays (L.numbers links.now) (L.seat links.now p.old) (L.seat links.now p.new)) }
 {
     let agent = links.agent(p);
-    let Ok(node) = links.give(p, slot, value, 0) else {
-        return Err(Refused::NoNode);
+    let node = match links.give(p, slot, value, 0) {
+        Ok(node) => node,
+        Err(_) => return Err(Refused::NoNode),
     };
     if let Err(why) = links.aim(p, &node, top) {
         links.release(p, node);
         return Err(Refused::Spent(why));
     }
-    let below = match top {
-        None => Want::Null(false),
-        Some(h) => Want::Node(h, false),
-    };
+    let below = below(top);
     match links.swing(p, &At::Root(agent), &below, &Want::Node(&node, false), Some(agent)) {
         Ok(true) => Ok(node),
         Ok(false) => unreachable!(),
@@ -67,9 +76,11 @@ fn clear<L: Links<Rule = OwnRoots>>(links: &L, p: &mut L::Pass, top: &Held)
 {
     let agent = links.agent(p);
     let root = At::Root(agent);
-    let Ok(true) = links.swing(p, &root, &Want::Node(top, false), &Want::Null(false), Some(agent)) else {
-        unreachable!()
-    };
+    match links.swing(p, &root, &Want::Node(top, false), &Want::Null(false), Some(agent)) {
+        Ok(true) => {}
+        Ok(false) => unreachable!(),
+        Err(_) => unreachable!(),
+    }
 }
 
 /// Looks at a link of the stack, which nobody else changes.

@@ -5,5 +5,6 @@ pub mod Runs
 pub mod Stays
 pub mod Told
 pub mod Parts
-pub mod Looks
+pub mod ByAnswer
 pub mod Slots
+pub mod Known
