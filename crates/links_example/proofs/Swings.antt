@@ -35,8 +35,8 @@ root_then n agent link seen before later there = top_later n agent link seen bef
 pub no_miss : (n : HeapNumbers) (s t : Seat ℕ) (wanted : Link) → AllAllowed (OwnRootsMay n) [] t.seen
     → shown (heap_of n s) (Root s.agent) ≡ Some wanted → Misses (Root s.agent) wanted s t → ⊥
 no_miss n s t wanted all there m =
-    let st = Puts-stood (OwnRootsMay n) s t _ [] m.puts all in
-    let both : Some m.found ≡ Some wanted = sym st.here.0.0 ∙ root_then n s.agent wanted s.seen st.before st.first there in
+    let st = Puts-stood (OwnRootsMay n) s t [] _ [] m.puts all in
+    let both : Some m.found ≡ Some wanted = sym st.here.0.0 ∙ root_then n s.agent wanted s.seen st.before (record { allowed = st.first; others = st.own_before }) there in
     m.other (cc)
 
 moved_roots : (n : HeapNumbers) (agent : ℕ) (from to : Link) (es : List (Event ℕ)) (e : Event ℕ) → e.act ≡ Move (Root agent) from to
@@ -48,9 +48,9 @@ moved_roots n agent from to es e is there =
 pub moved_top : (n : HeapNumbers) (s t : Seat ℕ) (from to : Link) (noted : Option ℕ) → AllAllowed (OwnRootsMay n) [] t.seen
     → Puts s (event_of s (Move (Root s.agent) from to) noted ∷ []) t → shown (heap_of n t) (Root s.agent) ≡ Some to
 moved_top n s t from to noted all p =
-    let st = Puts-stood (OwnRootsMay n) s t _ [] p all in
+    let st = Puts-stood (OwnRootsMay n) s t [] _ [] p all in
     let after = moved_roots n s.agent from to (s.seen ++ st.before) (event_of s (Move (Root s.agent) from to) noted) refl st.here.0.0 in
-    subst (λ es. shown (run_heap n es) (Root s.agent) ≡ Some to) (sym st.is) (top_later n s.agent to _ st.later st.last (rw st.rest refl) after)
+    subst (λ es. shown (run_heap n es) (Root s.agent) ≡ Some to) (sym st.is) (top_later n s.agent to _ st.later st.last (rw st.own_later refl) after)
 
 abbrev unlinked_node : ℕ → ℕ → Option ℕ → Node
 unlinked_node agent value below = record { giver = agent; first = Some value; second = Some 0; link = plain_link below; named = false; linked = false }
@@ -67,11 +67,11 @@ pub moved_node : (n : HeapNumbers) (s t : Seat ℕ) (id value : ℕ) (below : Op
     → slice_get (heap_of n t).nodes id ≡ Some (stack_node s.agent value below)
 moved_node n s t id value below from noted all holds p there =
     let x : Node = unlinked_node s.agent value below in
-    let st = Puts-stood (OwnRootsMay n) s t _ [] p all in
-    let k = own_node_told n (OwnRootsHolds n) (OwnRootsMay n) (own_roots_keeps n) (λ es e h m. m.0) (own_roots_moves_linked n) s.agent id s.seen st.before x holds st.first.allowed
-      (record { there = there; own = record { mine = refl; unnamed = refl; unlinked = refl } }) (rw st.first.others refl) in
+    let st = Puts-stood (OwnRootsMay n) s t [] _ [] p all in
+    let k = own_node_told n (OwnRootsHolds n) (OwnRootsMay n) (own_roots_keeps n) (λ es e h m. m.0) (own_roots_moves_linked n) s.agent id s.seen st.before x holds st.first
+      (record { there = there; own = record { mine = refl; unnamed = refl; unlinked = refl } }) (rw st.own_before refl) in
     let now : slice_get (run_heap n (s.seen ++ st.before)).nodes id ≡ Some x
-      = subst (λ es. slice_get (run_heap n (s.seen ++ st.before)).nodes id ≡ Some (touched_by id es x)) st.first.others k.there in
+      = subst (λ es. slice_get (run_heap n (s.seen ++ st.before)).nodes id ≡ Some (touched_by id es x)) st.own_before k.there in
     let after = linked_now n s.agent id value below from (s.seen ++ st.before) (event_of s (Move (Root s.agent) from (plain_link (Some id))) noted) refl now in
     subst (λ es. slice_get (run_heap n es).nodes id ≡ Some (stack_node s.agent value below)) (sym st.is) (node_later n s.agent id value below _ st.later st.last after)
 
