@@ -1,3 +1,4 @@
 pub mod Stays
 pub mod Swings
 pub mod Finding
+pub mod Pushing

@@ -52,7 +52,7 @@ moved_top n s t from to noted all p =
     let after = moved_roots n s.agent from to (s.seen ++ st.before) (event_of s (Move (Root s.agent) from to) noted) refl st.here.0.0 in
     subst (λ es. shown (run_heap n es) (Root s.agent) ≡ Some to) (sym st.is) (top_later n s.agent to _ st.later st.last (rw st.own_later refl) after)
 
-abbrev unlinked_node : ℕ → ℕ → Option ℕ → Node
+abbrev pub unlinked_node : ℕ → ℕ → Option ℕ → Node
 unlinked_node agent value below = record { giver = agent; first = Some value; second = Some 0; link = plain_link below; named = false; linked = false }
 
 linked_now : (n : HeapNumbers) (agent id value : ℕ) (below : Option ℕ) (from : Link) (es : List (Event ℕ)) (e : Event ℕ) → e.act ≡ Move (Root agent) from (plain_link (Some id))

@@ -1,9 +1,10 @@
 -- A stack at an agent's own root.
+use Rattle.std.specs.Borrow.{Bor}
 use Rattle.std.specs.Prelude.{List, None, Option, Some, false, slice_get, slice_set, true, ℕ, ◌≡◌}
 use Rattle.orc_heap.specs.Heap.{Heap, HeapNumbers, Node, shown}
 use Rattle.orc_heap.specs.Journals.{run_heap}
 use Rattle.orc_heap.specs.Seats.{Seat}
-use Rattle.orc_heap.specs.Slots.{Hold, SlotNode}
+use Rattle.orc_heap.specs.Slots.{Hold, id_in}
 use Rattle.orc_heap.specs.declared.events.Link.{Link}
 use Rattle.orc_heap.specs.declared.events.Place.{Place}
 use Rattle.orc_heap.specs.declared.events.Place.TheVariants.{Next, Root}
@@ -27,6 +28,11 @@ stack_node agent value below = record { giver = agent; first = Some value; secon
 -- the node of this id is such a node
 abbrev pub HasNode : HeapNumbers → Seat ℕ → ℕ → ℕ → Option ℕ → Type 0
 HasNode n s id value below = slice_get (heap_of n s).nodes id ≡ Some (stack_node s.agent value below)
+
+-- what is held, if anything, is such a node
+abbrev pub HoldsNode : HeapNumbers → Seat ℕ → Option (Bor Hold) → Type 0
+HoldsNode n s None = Unit {0}
+HoldsNode n s (Some h) = (value : ℕ) × (below : Option ℕ) × HasNode n s (id_in s.slots h.now) value below
 
 -- the nodes of the agent's stack stay as they are
 abbrev pub NodesStay : HeapNumbers → Seat ℕ → Seat ℕ → Type 0

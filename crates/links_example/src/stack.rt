@@ -1,9 +1,9 @@
 //! A stack of two nodes: built, read and taken away.
 
 ghost use Rattle.std.specs.Prelude.{◌≡◌, ◌≢◌, ℕ, ◌<◌, None, Some, IfOk, IfErr};
-ghost use Rattle.orc_heap.specs.Seats.{HoldsPlace, HoldsTarget, IsIdle, place_in, target_in};
-ghost use Rattle.orc_heap.specs.Slots.{Holds, IsFree, id_in};
-ghost use Rattle.links_example.specs.Stacks.{Clears, Finds, HasPair, HasTop, LeadsTo, Pushes, StackStays};
+ghost use Rattle.orc_heap.specs.Seats.{HoldsPlace, HoldsTarget, HoldsWant, IsIdle, Seat, link_in, place_in, target_in};
+ghost use Rattle.orc_heap.specs.Slots.{Holds, IsFree, Slots, id_in};
+ghost use Rattle.links_example.specs.Stacks.{Clears, Finds, HasPair, HasTop, HoldsNode, LeadsTo, Pushes, StackStays, plain_link};
 
 use crate::own_roots::OwnRoots;
 use orc_fault::Spent;
@@ -19,7 +19,7 @@ pub enum Refused {
 /// The unmarked link to what is on top.
 fn below<'a>(top: Option<&'a Held>) -> Want<'a>
     ensures link { (slots : Slots) → link_in slots result ≡ plain_link (target_in slots top.entry) }
-    ensures holds { (slots : Slots) → HoldsOption slots top.entry → HoldsWant slots result }
+    ensures held { (s : Seat ℕ) → HoldsTarget s top.entry → HoldsWant s.slots result }
 {
     match top {
         None => Want::Null(false),
@@ -41,6 +41,7 @@ fn push<L: Links<Rule = OwnRoots>>(
     requires root { (L.seat links.now p.old).agent < (L.numbers links.now).roots }
     requires held { HoldsTarget (L.seat links.now p.old) top }
     requires top { HasTop (L.numbers links.now) (L.seat links.now p.old) (target_in (L.seat links.now p.old).slots top) }
+    requires node { HoldsNode (L.numbers links.now) (L.seat links.now p.old) top }
     ensures pass { L.belongs links.now p.new }
     ensures pushed { IfOk result (λ h. Pushes (L.numbers links.now) (target_in (L.seat links.now p.old).slots top.entry) slot value (L.seat links.now p.old) h (L.seat links.now p.new)) }
     ensures none { IfErr result (λ e. StackStays (L.numbers links.now) (L.seat links.now p.old) (L.seat links.now p.new)) }
