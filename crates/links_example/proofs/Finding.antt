@@ -1,14 +1,13 @@
 -- Looks at the links of the agent's stack, which nobody else changes.
-use Rattle.std.proofs.Common.{Bool, List, [], ap, false, refl, subst, sym, true, ℕ, ◌++◌, ◌∙◌, ◌∷◌, ◌≡◌, ◌≢◌}
-use Rattle.std.specs.List.{list_any, slice_get}
+use Rattle.std.proofs.Common.{Bool, List, [], ap, false, refl, sym, ℕ, ◌++◌, ◌∙◌, ◌∷◌, ◌≡◌}
+use Rattle.std.specs.List.{list_any}
 use Rattle.std.specs.Option.{option_map}
-use Rattle.std.specs.Prelude.{None, Option, Some}
-use Rattle.orc_heap.proofs.ByAnswer.{LookedHeld, LookedNull, Looks-held, Looks-null}
+use Rattle.std.specs.Prelude.{None, Some}
+use Rattle.orc_heap.proofs.ByAnswer.{LookedHeld, LookedNull}
 use Rattle.orc_heap.proofs.Parts.{Puts-stood}
-use Rattle.orc_heap.proofs.Runs.{run_heap-snoc}
 use Rattle.orc_heap.specs.Allowed.{AllAllowed, events_by}
 use Rattle.orc_heap.specs.Calls.{Looks, event_of}
-use Rattle.orc_heap.specs.Heap.{Heap, HeapNumbers, Node, shown}
+use Rattle.orc_heap.specs.Heap.{HeapNumbers, Node, shown}
 use Rattle.orc_heap.specs.Journals.{run_heap}
 use Rattle.orc_heap.specs.Parts.{Puts}
 use Rattle.orc_heap.specs.Seats.{Seat}
@@ -20,7 +19,7 @@ use Rattle.orc_heap.specs.declared.events.Place.{Place}
 use Rattle.orc_heap.specs.declared.events.Place.TheVariants.{Next, Root}
 use Rattle.orc_heap.specs.declared.holds.Looked.TheVariants.{Moved}
 use Rattle.links_example.specs.OwnRoots.{OwnRootsMay}
-use Rattle.links_example.specs.Stacks.{Finds, HasNode, HasTop, LeadsTo, heap_of, plain_link, stack_node}
+use Rattle.links_example.specs.Stacks.{Finds, LeadsTo, plain_link}
 use Rattle.links_example.proofs.Stays.{is_move, node_later, nodes_stay, top_later, top_stays}
 
 -- a place of the stack leads to the same node after events of which none is a Move of the agent's own

@@ -1,10 +1,10 @@
 -- From a node that is given to one that stands on top of the stack.
-use Rattle.std.proofs.Common.{Bool, List, [], ap, false, refl, subst, sym, true, ℕ, ◌++◌, ◌∙◌, ◌∷◌, ◌≡◌, ◌≢◌}
+use Rattle.std.proofs.Common.{Bool, [], ap, false, refl, subst, sym, true, ℕ, ◌++◌, ◌∙◌, ◌∷◌, ◌≡◌, ◌≢◌}
 use Rattle.std.proofs.lemmas.Bool.{eq-eqb, eqb-true}
 use Rattle.std.specs.Borrow.{Bor}
 use Rattle.std.specs.List.{slice_get, slice_set}
 use Rattle.std.specs.Prelude.{None, Option, Some, ◌==◌}
-use Rattle.orc_heap.proofs.ByAnswer.{Swings-fresh, Swings-moved, unless_same}
+use Rattle.orc_heap.proofs.ByAnswer.{unless_same}
 use Rattle.orc_heap.proofs.Fresh.{own_node_told, touched_by}
 use Rattle.orc_heap.proofs.Parts.{part_allowed}
 use Rattle.orc_heap.proofs.Slots.{given-back, holds-other, holds-there, id-other, id-there}
@@ -16,11 +16,10 @@ use Rattle.orc_heap.specs.Parts.{Only, Puts}
 use Rattle.orc_heap.specs.Seats.{HoldsFresh, HoldsTarget, Seat, target_in}
 use Rattle.orc_heap.specs.Slots.{Hold, Holds, IsFree, SlotNode, id_in}
 use Rattle.orc_heap.specs.declared.events.Act.TheVariants.{Aim, Move}
-use Rattle.orc_heap.specs.declared.events.Event.{Event}
 use Rattle.orc_heap.specs.declared.events.Link.{Link}
 use Rattle.orc_heap.specs.declared.events.Place.TheVariants.{Root}
 use Rattle.links_example.specs.OwnRoots.{OwnRootsHolds, OwnRootsMay, own_roots_keeps, own_roots_moves_linked}
-use Rattle.links_example.specs.Stacks.{HasNode, HasTop, HoldsNode, NodesStay, Pushes, StackStays, heap_of, plain_link, stack_node}
+use Rattle.links_example.specs.Stacks.{HasTop, HoldsNode, NodesStay, Pushes, StackStays, heap_of, plain_link, stack_node}
 use Rattle.links_example.proofs.Stays.{nodes_stay, top_stays}
 use Rattle.links_example.proofs.Swings.{moved_node, moved_top, unlinked_node}
 

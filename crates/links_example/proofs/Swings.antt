@@ -1,30 +1,26 @@
 -- Swings of the agent's own root.
-use Rattle.std.proofs.Common.{Bool, List, [], ap, false, refl, subst, sym, true, ℕ, ◌++◌, ◌∙◌, ◌∷◌, ◌≡◌, ◌≢◌}
-use Rattle.std.specs.List.{list_any, slice_get}
-use Rattle.std.specs.Prelude.{MatchBool, None, Option, Some}
+use Rattle.std.proofs.Common.{List, [], ap, false, refl, subst, sym, ℕ, ◌++◌, ◌∙◌, ◌∷◌, ◌≡◌}
+use Rattle.std.specs.List.{slice_get}
+use Rattle.std.specs.Prelude.{None, Option, Some}
 use Rattle.orc_heap.proofs.Changes.{get-change_same}
 use Rattle.orc_heap.proofs.Fresh.{own_node_told, touched_by}
 use Rattle.orc_heap.proofs.Known.{known-later}
 use Rattle.orc_heap.proofs.Parts.{Puts-stood}
 use Rattle.orc_heap.proofs.Runs.{run_heap-snoc}
-use Rattle.orc_heap.proofs.Stays.{stays}
 use Rattle.orc_heap.specs.Acts.{IsTarget, as_linked}
-use Rattle.orc_heap.specs.Allowed.{AllAllowed, AllowedLater, Later, events_by}
-use Rattle.orc_heap.specs.Calls.{Misses, Swings, event_of, move_of}
-use Rattle.orc_heap.specs.Heap.{Heap, HeapNumbers, Node, shown}
+use Rattle.orc_heap.specs.Allowed.{AllAllowed, AllowedLater, Later}
+use Rattle.orc_heap.specs.Calls.{Misses, event_of}
+use Rattle.orc_heap.specs.Heap.{HeapNumbers, Node, shown}
 use Rattle.orc_heap.specs.Journals.{run_heap}
 use Rattle.orc_heap.specs.Parts.{Puts}
-use Rattle.orc_heap.specs.Seats.{Seat, link_in}
-use Rattle.orc_heap.specs.declared.events.Act.TheVariants.{Look, Miss, Move}
+use Rattle.orc_heap.specs.Seats.{Seat}
+use Rattle.orc_heap.specs.declared.events.Act.TheVariants.{Move}
 use Rattle.orc_heap.specs.declared.events.Event.{Event}
 use Rattle.orc_heap.specs.declared.events.Link.{Link}
-use Rattle.orc_heap.specs.declared.events.Place.{Place}
-use Rattle.orc_heap.specs.declared.events.Place.TheVariants.{Next, Root}
-use Rattle.orc_heap.specs.declared.holds.At.TheVariants.{Root as AtRoot}
-use Rattle.orc_heap.specs.declared.holds.Want.{Want}
+use Rattle.orc_heap.specs.declared.events.Place.TheVariants.{Root}
 use Rattle.links_example.specs.OwnRoots.{OwnRootsHolds, OwnRootsMay, own_roots_keeps, own_roots_moves_linked}
-use Rattle.links_example.specs.Stacks.{HasNode, HasTop, LeadsTo, heap_of, plain_link, stack_node}
-use Rattle.links_example.proofs.Stays.{is_move, node_later, target_roots, top_later}
+use Rattle.links_example.specs.Stacks.{heap_of, plain_link, stack_node}
+use Rattle.links_example.proofs.Stays.{node_later, target_roots, top_later}
 
 -- what the agent's root shows now, it shows at the first own event of a call
 pub root_then : (n : HeapNumbers) (agent : ℕ) (link : Link) (seen before : List (Event ℕ)) → Later (OwnRootsMay n) agent seen before

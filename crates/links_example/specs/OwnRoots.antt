@@ -1,5 +1,5 @@
 -- A discipline in the small: each agent has a root of its own, that of its number, which it alone changes.
-use Rattle.std.specs.Prelude.{List, None, Option, Some, [], false, ℕ, ◌++◌, ◌∷◌, ◌≡◌}
+use Rattle.std.specs.Prelude.{List, Option, Some, [], false, ℕ, ◌++◌, ◌∷◌, ◌≡◌}
 use Rattle.orc_heap.proofs.Runs.{lawful-snoc}
 use Rattle.orc_heap.specs.Allowed.{MovesLinked}
 use Rattle.orc_heap.specs.Heap.{Heap, HeapNumbers}

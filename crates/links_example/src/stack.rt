@@ -104,6 +104,7 @@ fn look_at<L: Links<Rule = OwnRoots>>(links: &L, p: &mut L::Pass, place: &At, sl
 fn read_two<L: Links<Rule = OwnRoots>>(links: &L, p: &mut L::Pass) -> (u64, u64)
     requires pass { L.belongs links.now p.old }
     requires slots { IsFree (L.seat links.now p.old).slots 3 × IsFree (L.seat links.now p.old).slots 4 }
+    requires fresh { (L.seat links.now p.old).fresh ≡ None }
     requires root { (L.seat links.now p.old).agent < (L.numbers links.now).roots }
     requires stack { (a : ℕ) × (b : ℕ) × HasPair (L.numbers links.now) (L.seat links.now p.old) a b }
     ensures pass { L.belongs links.now p.new }

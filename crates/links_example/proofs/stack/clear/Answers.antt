@@ -1,5 +1,5 @@
 -- The root, which the agent alone changes, still leads to what was on top.
-use Rattle.std.proofs.Common.{subst, ◌≡◌, ◌∙◌, ℕ, ◌∷◌, []}
+use Rattle.std.proofs.Common.{subst, ◌∙◌, ℕ, ◌∷◌, []}
 use Rattle.std.specs.Prelude.{None, Some}
 use Rattle.orc_heap.proofs.ByAnswer.{Swings-fresh, Swings-missed, Swings-moved, unless_none}
 use Rattle.orc_heap.specs.Calls.{Misses, event_of}

@@ -1,5 +1,5 @@
 -- The new node is linked on top of what was there.
-use Rattle.std.proofs.Common.{[], ap, refl, subst, sym, ◌∙◌, ◌∷◌, ◌≡◌, ◌≢◌, ℕ}
+use Rattle.std.proofs.Common.{[], ap, refl, subst, sym, ◌∙◌, ◌∷◌, ℕ}
 use Rattle.std.specs.Prelude.{None, Some}
 use Rattle.orc_heap.proofs.ByAnswer.{Swings-fresh, Swings-missed, Swings-moved}
 use Rattle.orc_heap.specs.Allowed.{AllowedLater}
@@ -9,7 +9,7 @@ use Rattle.orc_heap.specs.Seats.{link_in, target_in}
 use Rattle.orc_heap.specs.Slots.{id_in}
 use Rattle.orc_heap.specs.declared.events.Act.TheVariants.{Move}
 use Rattle.orc_heap.specs.declared.events.Place.TheVariants.{Root}
-use Rattle.links_example.proofs.Pushing.{Readied, aimed_ready, given_ready, linked_ready, ready_after, ready_fresh, ready_holds, ready_id, ready_pushed, ready_released, ready_same, ready_target}
+use Rattle.links_example.proofs.Pushing.{given_ready, linked_ready, ready_after, ready_fresh, ready_holds, ready_pushed, ready_released, ready_same, ready_target}
 use Rattle.links_example.proofs.Stays.{stack_stays}
 use Rattle.links_example.proofs.Swings.{move_allowed, no_miss}
 use Rattle.links_example.specs.OwnRoots.{OwnRootsMay}
