@@ -72,14 +72,13 @@ module _ (n : HeapNumbers) (below : Option ℕ) (slot value : ℕ) (s : Seat ℕ
   ready_target None held node = tt
   ready_target (Some k) held node =
       let is = another k.now held.0 in
-      let there = r.nodes (id_in s.slots k.now) node.0 node.1 node.2 in
-      (
+      let there = r.nodes (id_in s.slots k.now) node.0 node.1 node.2 in (
         subst (λ z. Holds z k.now) (sym r.slots) (holds-other s.slots slot _ k.now (held_elsewhere k.now held.0) held.0),
         λ e.
-          let same : r.id ≡ id_in s.slots k.now = some_of (sym r.fresh ∙ (e ∙ ap Some is)) in
-          let both : Some (unlinked_node s.agent value below) ≡ Some (stack_node t.agent node.0 node.1) = sym r.node ∙ (ap (λ i. slice_get (heap_of n t).nodes i) same ∙ there) in
-          let linked : false ≡ true = ap is_linked both in
-          cc,
+            let same : r.id ≡ id_in s.slots k.now = some_of (sym r.fresh ∙ (e ∙ ap Some is)) in
+            let both : Some (unlinked_node s.agent value below) ≡ Some (stack_node t.agent node.0 node.1) = sym r.node ∙ (ap (λ i. slice_get (heap_of n t).nodes i) same ∙ there) in
+            let linked : false ≡ true = ap is_linked both in
+            cc,
       )
     where
       some_of : {a b : ℕ} → Some a ≡ Some b → a ≡ b
@@ -110,7 +109,7 @@ module _ (n : HeapNumbers) (below : Option ℕ) (slot value : ℕ) (s : Seat ℕ
       node_told : slice_get (heap_of n u).nodes r.id ≡ Some (unlinked_node s.agent value below)
       node_told =
           let k = own_node_told n (OwnRootsHolds n) (OwnRootsMay n) (own_roots_keeps n) (λ es e a m. m.0) (own_roots_moves_linked n) t.agent r.id t.seen o.puts.part (unlinked_node s.agent value below)
-            holds (part_allowed (OwnRootsMay n) t u [] o.puts all) (record { there = r.node; own = record { mine = sym r.agent; unnamed = refl; unlinked = refl } }) (rw o.puts.own_is refl) in
+          holds (part_allowed (OwnRootsMay n) t u [] o.puts all) (record { there = r.node; own = record { mine = sym r.agent; unnamed = refl; unlinked = refl } }) (rw o.puts.own_is refl) in
           rw o.puts.is (subst (λ es. slice_get (run_heap n (t.seen ++ o.puts.part)).nodes r.id ≡ Some (touched_by r.id es (unlinked_node s.agent value below))) o.puts.own_is k.there)
 
   -- a release gives all back
@@ -129,7 +128,7 @@ module _ (n : HeapNumbers) (below : Option ℕ) (slot value : ℕ) (s : Seat ℕ
       → Puts t (event_of t (Move (Root t.agent) from (plain_link (Some (id_in t.slots h)))) noted ∷ []) u → Pushes n below slot value s h u
   ready_pushed u from noted all holds none slots fresh p =
       let q : Puts t (event_of t (Move (Root t.agent) from (plain_link (Some r.id))) noted ∷ []) u
-        = subst (λ i. Puts t (event_of t (Move (Root t.agent) from (plain_link (Some i))) noted ∷ []) u) ready_id p in
+      = subst (λ i. Puts t (event_of t (Move (Root t.agent) from (plain_link (Some i))) noted ∷ []) u) ready_id p in
       let here : slice_get (heap_of n t).nodes r.id ≡ Some (unlinked_node t.agent value below) = rw r.agent r.node in
       record {
         id = r.id;
@@ -178,9 +177,9 @@ aimed_ready n slot value s h t u to free r all holds other o = record {
     node_told =
         let x : Node = unlinked_node s.agent value None in
         let k = own_node_told n (OwnRootsHolds n) (OwnRootsMay n) (own_roots_keeps n) (λ es e a m. m.0) (own_roots_moves_linked n) t.agent r.id t.seen o.puts.part x
-          holds (part_allowed (OwnRootsMay n) t u _ o.puts all) (record { there = r.node; own = record { mine = sym r.agent; unnamed = refl; unlinked = refl } }) (rw (own_is, away) refl) in
+        holds (part_allowed (OwnRootsMay n) t u _ o.puts all) (record { there = r.node; own = record { mine = sym r.agent; unnamed = refl; unlinked = refl } }) (rw (own_is, away) refl) in
         let now : slice_get (run_heap n (t.seen ++ o.puts.part)).nodes r.id ≡ Some (touched_by r.id (event_of t (Aim r.id to) None ∷ []) x)
-          = subst (λ es. slice_get (run_heap n (t.seen ++ o.puts.part)).nodes r.id ≡ Some (touched_by r.id es x)) own_is k.there in
+        = subst (λ es. slice_get (run_heap n (t.seen ++ o.puts.part)).nodes r.id ≡ Some (touched_by r.id es x)) own_is k.there in
         rw o.puts.is (now ∙ rw (away, eq-eqb r.id r.id refl) refl)
 
 -- both in one: a node that was given and whose link was set to what was on top
@@ -191,7 +190,7 @@ linked_ready n slot value s h t u top free all_t all_u holds held node g o =
     let r = given_ready n slot value s h t all_t g in
     let target = ready_target n None slot value s h t free r top held node in
     subst (λ to. Readied n to slot value s h u) (ready_same n None slot value s h t free r top held)
-      (aimed_ready n slot value s h t u (target_in t.slots top) free r all_u holds (other r.id r.fresh top target) o)
+    (aimed_ready n slot value s h t u (target_in t.slots top) free r all_u holds (other r.id r.fresh top target) o)
   where
     other : (id : ℕ) → t.fresh ≡ Some id → (top : Option (Bor Hold)) → HoldsTarget t top → t.fresh ≢ target_in t.slots top
     other id fresh None target = λ e. let none : Some id ≡ None = sym fresh ∙ e in cc

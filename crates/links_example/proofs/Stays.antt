@@ -55,7 +55,7 @@ pub node_later : (n : HeapNumbers) (agent id value : ℕ) (below : Option ℕ) (
 node_later n agent id value below seen more all there =
     let P : List (Event ℕ) → Type 0 = λ es. slice_get (run_heap n es).nodes id ≡ Some (stack_node agent value below) in
     let r : P (seen ++ more) = stays (OwnRootsMay n) P (λ es e p m.
-      rw (run_heap-snoc n es e) (node-after e.agent e.act (run_heap n es) id _ p ∙ ap Some (node_untouched e.agent agent id value below e.act e.note (run_heap n es) m.0 m.1 p))) seen more there all in
+    rw (run_heap-snoc n es e) (node-after e.agent e.act (run_heap n es) id _ p ∙ ap Some (node_untouched e.agent agent id value below e.act e.note (run_heap n es) m.0 m.1 p))) seen more there all in
     r
 
 abbrev pub is_move : Act → Bool

@@ -65,9 +65,9 @@ moved_node n s t id value below from noted all holds p there =
     let x : Node = unlinked_node s.agent value below in
     let st = Puts-stood (OwnRootsMay n) s t [] _ [] p all in
     let k = own_node_told n (OwnRootsHolds n) (OwnRootsMay n) (own_roots_keeps n) (λ es e h m. m.0) (own_roots_moves_linked n) s.agent id s.seen st.before x holds st.first
-      (record { there = there; own = record { mine = refl; unnamed = refl; unlinked = refl } }) (rw st.own_before refl) in
+    (record { there = there; own = record { mine = refl; unnamed = refl; unlinked = refl } }) (rw st.own_before refl) in
     let now : slice_get (run_heap n (s.seen ++ st.before)).nodes id ≡ Some x
-      = subst (λ es. slice_get (run_heap n (s.seen ++ st.before)).nodes id ≡ Some (touched_by id es x)) st.own_before k.there in
+    = subst (λ es. slice_get (run_heap n (s.seen ++ st.before)).nodes id ≡ Some (touched_by id es x)) st.own_before k.there in
     let after = linked_now n s.agent id value below from (s.seen ++ st.before) (event_of s (Move (Root s.agent) from (plain_link (Some id))) noted) refl now in
     subst (λ es. slice_get (run_heap n es).nodes id ≡ Some (stack_node s.agent value below)) (sym st.is) (node_later n s.agent id value below _ st.later st.last after)
 

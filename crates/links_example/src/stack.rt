@@ -56,7 +56,13 @@ fn push<L: Links<Rule = OwnRoots>>(
         return Err(Refused::Spent(why));
     }
     let below = below(top);
-    match links.swing(p, &At::Root(agent), &below, &Want::Node(&node, false), Some(agent)) {
+    match links.swing(
+        p,
+        &At::Root(agent),
+        &below,
+        &Want::Node(&node, false),
+        Some(agent),
+    ) {
         Ok(true) => Ok(node),
         Ok(false) => unreachable!(),
         Err(why) => {
@@ -77,7 +83,13 @@ fn clear<L: Links<Rule = OwnRoots>>(links: &L, p: &mut L::Pass, top: &Held)
 {
     let agent = links.agent(p);
     let root = At::Root(agent);
-    match links.swing(p, &root, &Want::Node(top, false), &Want::Null(false), Some(agent)) {
+    match links.swing(
+        p,
+        &root,
+        &Want::Node(top, false),
+        &Want::Null(false),
+        Some(agent),
+    ) {
         Ok(true) => {}
         Ok(false) => unreachable!(),
         Err(_) => unreachable!(),

@@ -141,29 +141,29 @@ module _ {N : Type 0} (n : HeapNumbers) (holds : List (Event N) → Type 0) (may
     (keeps : (es : List (Event N)) (e : Event N) → holds es → may es e → holds (es ++ e ∷ []))
     (fits : (es : List (Event N)) (e : Event N) → holds es → may es e → FitsAfter n es e)
     (moves : (es : List (Event N)) (e : Event N) → holds es → may es e → MovesLinked e.act (run_heap n es))
-    where
-  -- over allowed events, of which the agent's own make no link to it, only its own change it
-  pub own_node_told : (agent id : ℕ) (seen more : List (Event N)) (x : Node) → holds seen → AllAllowed may seen more → IsOwnNode n agent id seen x
-      → list_any (λ e. points_to e.act id) (events_by agent more) ≡ false → IsOwnNode n agent id (seen ++ more) (touched_by id (events_by agent more) x)
-  own_node_told agent id seen [] x h all o away = rw (append-nil seen) o
-  own_node_told agent id seen (e ∷ more) x h all o away =
-      let go_on : (y : Node) → IsOwnNode n agent id (seen ++ e ∷ []) y → list_any (λ z. points_to z.act id) (events_by agent more) ≡ false
-          → IsOwnNode n agent id (seen ++ e ∷ more) (touched_by id (events_by agent more) y)
+  where
+    -- over allowed events, of which the agent's own make no link to it, only its own change it
+    pub own_node_told : (agent id : ℕ) (seen more : List (Event N)) (x : Node) → holds seen → AllAllowed may seen more → IsOwnNode n agent id seen x
+        → list_any (λ e. points_to e.act id) (events_by agent more) ≡ false → IsOwnNode n agent id (seen ++ more) (touched_by id (events_by agent more) x)
+    own_node_told agent id seen [] x h all o away = rw (append-nil seen) o
+    own_node_told agent id seen (e ∷ more) x h all o away =
+        let go_on : (y : Node) → IsOwnNode n agent id (seen ++ e ∷ []) y → list_any (λ z. points_to z.act id) (events_by agent more) ≡ false
+        → IsOwnNode n agent id (seen ++ e ∷ more) (touched_by id (events_by agent more) y)
         = λ y k rest. subst (λ es. IsOwnNode n agent id es (touched_by id (events_by agent more) y)) (append_assoc seen (e ∷ []) more)
-            (own_node_told agent id (seen ++ e ∷ []) more y (keeps seen e h all.0) all.1 k rest) in
-      cases go_on (e.agent == agent) refl away
-    where
-      after : slice_get (run_heap n (seen ++ e ∷ [])).nodes id ≡ Some (touched e.act id x)
-      after = rw (run_heap-snoc n seen e) (node-after e.agent e.act (run_heap n seen) id x o.there)
+        (own_node_told agent id (seen ++ e ∷ []) more y (keeps seen e h all.0) all.1 k rest) in
+        cases go_on (e.agent == agent) refl away
+      where
+        after : slice_get (run_heap n (seen ++ e ∷ [])).nodes id ≡ Some (touched e.act id x)
+        after = rw (run_heap-snoc n seen e) (node-after e.agent e.act (run_heap n seen) id x o.there)
 
-      cases : ((y : Node) → IsOwnNode n agent id (seen ++ e ∷ []) y → list_any (λ z. points_to z.act id) (events_by agent more) ≡ false
-          → IsOwnNode n agent id (seen ++ e ∷ more) (touched_by id (events_by agent more) y))
-          → (b : Bool) → (e.agent == agent) ≡ b → list_any (λ z. points_to z.act id) (if b then e ∷ events_by agent more else events_by agent more) ≡ false
-          → IsOwnNode n agent id (seen ++ e ∷ more) (touched_by id (if b then e ∷ events_by agent more else events_by agent more) x)
-      cases go_on true is far =
-          let (first, rest) = neither (points_to e.act id) _ far in
-          go_on (touched e.act id x) (record { there = after; own = stays_own agent e.act id x first o.own }) rest
-      cases go_on false is far =
-          let other : e.agent ≢ agent = λ k. let t : true ≡ false = sym (eq-eqb e.agent agent k) ∙ is in cc in
-          let same : touched e.act id x ≡ x = others_leave agent e.agent e.act (run_heap n seen) id x other (fits seen e h all.0) (moves seen e h all.0) o.there o.own in
-          go_on x (record { there = subst (λ y. slice_get (run_heap n (seen ++ e ∷ [])).nodes id ≡ Some y) same after; own = o.own }) far
+        cases : ((y : Node) → IsOwnNode n agent id (seen ++ e ∷ []) y → list_any (λ z. points_to z.act id) (events_by agent more) ≡ false
+            → IsOwnNode n agent id (seen ++ e ∷ more) (touched_by id (events_by agent more) y))
+            → (b : Bool) → (e.agent == agent) ≡ b → list_any (λ z. points_to z.act id) (if b then e ∷ events_by agent more else events_by agent more) ≡ false
+            → IsOwnNode n agent id (seen ++ e ∷ more) (touched_by id (if b then e ∷ events_by agent more else events_by agent more) x)
+        cases go_on true is far =
+            let (first, rest) = neither (points_to e.act id) _ far in
+            go_on (touched e.act id x) (record { there = after; own = stays_own agent e.act id x first o.own }) rest
+        cases go_on false is far =
+            let other : e.agent ≢ agent = λ k. let t : true ≡ false = sym (eq-eqb e.agent agent k) ∙ is in cc in
+            let same : touched e.act id x ≡ x = others_leave agent e.agent e.act (run_heap n seen) id x other (fits seen e h all.0) (moves seen e h all.0) o.there o.own in
+            go_on x (record { there = subst (λ y. slice_get (run_heap n (seen ++ e ∷ [])).nodes id ≡ Some y) same after; own = o.own }) far

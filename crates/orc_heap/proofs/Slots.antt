@@ -35,19 +35,19 @@ set-set_other (z ∷ xs) (suc i) (suc j) x y ne = ap (λ v. z ∷ v) (set-set_ot
 -- what is put into a free slot is held there
 module _ (old new : Slots) (slot id : ℕ) (h : Hold) (free : slice_get old slot ≡ Some None) (at : h.slot ≡ slot)
     (is : new ≡ slice_set old slot (Some (record { row = h.row; id = id })))
-    where
-  pub held-there : slice_get new h.slot ≡ Some (Some (record { row = h.row; id = id }))
-  held-there = rw (is, at) (get-set_same old slot None (Some (record { row = h.row; id = id })) free)
+  where
+    pub held-there : slice_get new h.slot ≡ Some (Some (record { row = h.row; id = id }))
+    held-there = rw (is, at) (get-set_same old slot None (Some (record { row = h.row; id = id })) free)
 
-  pub id-there : id_in new h ≡ id
-  id-there = ap id_of held-there
+    pub id-there : id_in new h ≡ id
+    id-there = ap id_of held-there
 
-  pub holds-there : Holds new h
-  holds-there = rw id-there held-there
+    pub holds-there : Holds new h
+    holds-there = rw id-there held-there
 
-  -- and a release gives the slots back
-  pub given-back : slice_set new h.slot None ≡ old
-  given-back = rw (is, at) (set-back old slot None (Some (record { row = h.row; id = id })) free)
+    -- and a release gives the slots back
+    pub given-back : slice_set new h.slot None ≡ old
+    given-back = rw (is, at) (set-back old slot None (Some (record { row = h.row; id = id })) free)
 
 -- what another slot holds stays held
 pub holds-other : (slots : Slots) (slot : ℕ) (x : Option SlotNode) (h : Hold) → h.slot ≢ slot → Holds slots h → Holds (slice_set slots slot x) h

@@ -54,7 +54,7 @@ stays_others may agent P step seen [] begin later = subst P (sym (append-nil see
 stays_others {N} may agent P step seen (e ∷ more) begin later =
     let (other, rest) = other_first agent e more later.others in
     subst P (append_assoc seen (e ∷ []) more)
-      (stays_others may agent P step (seen ++ e ∷ []) more (step seen e begin later.allowed.0 other) (record { allowed = later.allowed.1; others = rest }))
+    (stays_others may agent P step (seen ++ e ∷ []) more (step seen e begin later.allowed.0 other) (record { allowed = later.allowed.1; others = rest }))
 
 -- where the discipline holds and the events are lawful, they are so after events that it allows
 pub lawful_later : {N : Type 0} (n : HeapNumbers) (may : List (Event N) → Event N → Type 0) (holds : List (Event N) → Type 0)

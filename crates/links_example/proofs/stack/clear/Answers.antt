@@ -20,7 +20,7 @@ unreachable-requires g c =
     let e = c.in-Ok-false.ensures in
     let top = plain_link (Some (id_in s.slots c.args.top.now)) in
     no_miss (g.L.Links.numbers d) s t top (g.met.L.Links.allowed d c.swing.new.p e.pass) c.requires.top
-      (subst (λ (r : ℕ). Misses (Root r) top s t) c.agent-agent.ensures (Swings-missed e.swung c.in-Ok-false.field-0-test))
+    (subst (λ (r : ℕ). Misses (Root r) top s t) c.agent-agent.ensures (Swings-missed e.swung c.in-Ok-false.field-0-test))
 
 pub returns-clause-cleared : goal.returns-clause-cleared
 returns-clause-cleared g c =
@@ -32,7 +32,7 @@ returns-clause-cleared g c =
     let all = g.met.L.Links.allowed d c.swing.new.p e.pass in
     let top = plain_link (Some (id_in s.slots c.args.top.now)) in
     let p : Puts s (event_of s (Move (Root c.agent-agent.result) top (plain_link None)) (Some c.agent-agent.result) ∷ []) t
-      = Swings-moved e.swung c.in-Ok-true.field-0-test in
+    = Swings-moved e.swung c.in-Ok-true.field-0-test in
     let q = subst (λ (r : ℕ). Puts s (event_of s (Move (Root r) top (plain_link None)) (Some c.agent-agent.result) ∷ []) t) c.agent-agent.ensures p in
     record {
       agent = p.agent;

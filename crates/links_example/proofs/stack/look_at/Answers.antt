@@ -11,7 +11,7 @@ unreachable-requires g c =
     let t = g.L.Links.seat d c.look.new.p in
     let e = c.in-Stable-default-None.ensures in
     not_null (g.L.Links.numbers d) s t (place_in s.slots c.args.place.now) _ c.requires.stack.0 (g.met.L.Links.allowed d c.look.new.p e.pass) c.requires.stack.1
-      (Looks-null {place = place_in s.slots c.args.place.now} e.looked c.in-Stable-default-None.field-1-is)
+    (Looks-null {place = place_in s.slots c.args.place.now} e.looked c.in-Stable-default-None.field-1-is)
 
 pub unreachable-requires-in-Moved : goal.unreachable-requires-in-Moved
 unreachable-requires-in-Moved g c =
@@ -28,4 +28,4 @@ returns-clause-found g c =
     let t = g.L.Links.seat d c.look.new.p in
     let e = c.in-Stable-default-Some.ensures in
     finds (g.L.Links.numbers d) s t (place_in s.slots c.args.place.now) c.args.slot _ c.in-Stable-default-Some.h (g.met.L.Links.allowed d c.look.new.p e.pass) e.looked.fresh
-      (Looks-held {place = place_in s.slots c.args.place.now} e.looked c.in-Stable-default-Some.field-1-is)
+    (Looks-held {place = place_in s.slots c.args.place.now} e.looked c.in-Stable-default-Some.field-1-is)

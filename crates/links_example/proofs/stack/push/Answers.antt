@@ -80,8 +80,7 @@ swing-requires-clause-links g c =
     let f = c.in_default.ensures in
     let below = target_in s.slots c.args.top in
     let r = linked_ready n c.args.slot c.args.value s c.in-Ok.node t u c.args.top c.requires.slot (g.met.L.Links.allowed d c.give.new.p e.pass) (g.met.L.Links.allowed d c.aim.new.p f.pass)
-        (g.met.L.Links.obeys d c.give.new.p e.pass) c.requires.held c.requires.node e.given f.aimed in
-    (
+    (g.met.L.Links.obeys d c.give.new.p e.pass) c.requires.held c.requires.node e.given f.aimed in (
       c.below-below.ensures.held u (ready_target n below c.args.slot c.args.value s c.in-Ok.node u c.requires.slot r c.args.top c.requires.held c.requires.node),
       ready_holds n below c.args.slot c.args.value s c.in-Ok.node u c.requires.slot r,
     )
@@ -97,13 +96,13 @@ swing-requires-clause-allowed g c =
     let f = c.in_default.ensures in
     let below = target_in s.slots c.args.top in
     let r = linked_ready n c.args.slot c.args.value s c.in-Ok.node t u c.args.top c.requires.slot (g.met.L.Links.allowed d c.give.new.p e.pass) (g.met.L.Links.allowed d c.aim.new.p f.pass)
-        (g.met.L.Links.obeys d c.give.new.p e.pass) c.requires.held c.requires.node e.given f.aimed in
+    (g.met.L.Links.obeys d c.give.new.p e.pass) c.requires.held c.requires.node e.given f.aimed in
     let node = id_in u.slots c.in-Ok.node in
     let from = link_in u.slots c.below-below.result in
     let to = plain_link (Some node) in
     let known = g.met.L.Links.held_is d c.aim.new.p c.in-Ok.node f.pass (ready_holds n below c.args.slot c.args.value s c.in-Ok.node u c.requires.slot r) in
     subst (λ (a : ℕ). AllowedLater (OwnRootsMay n) n u.agent u.seen (Root a) from (event_of u (Move (Root a) from to) (Some a))) (r.agent ∙ sym c.agent-agent.ensures)
-      (move_allowed n u from to refl known)
+    (move_allowed n u from to refl known)
 
 pub unreachable-requires : goal.unreachable-requires
 unreachable-requires g c =
@@ -116,13 +115,13 @@ unreachable-requires g c =
     let f = c.in_default.ensures in
     let below = target_in s.slots c.args.top in
     let r = linked_ready n c.args.slot c.args.value s c.in-Ok.node t u c.args.top c.requires.slot (g.met.L.Links.allowed d c.give.new.p e.pass) (g.met.L.Links.allowed d c.aim.new.p f.pass)
-        (g.met.L.Links.obeys d c.give.new.p e.pass) c.requires.held c.requires.node e.given f.aimed in
+    (g.met.L.Links.obeys d c.give.new.p e.pass) c.requires.held c.requires.node e.given f.aimed in
     let v = g.L.Links.seat d c.swing.new.p in
     let from = link_in u.slots c.below-below.result in
     let is = c.below-below.ensures.link u.slots ∙ ap plain_link (ready_same n below c.args.slot c.args.value s c.in-Ok.node u c.requires.slot r c.args.top c.requires.held) in
     let w = c.in-Ok-false.ensures in
     no_miss n u v from (g.met.L.Links.allowed d c.swing.new.p w.pass) (r.top below c.requires.top ∙ ap Some (sym is))
-      (subst (λ (a : ℕ). Misses (Root a) from u v) (c.agent-agent.ensures ∙ sym r.agent) (Swings-missed w.swung c.in-Ok-false.field-0-test))
+    (subst (λ (a : ℕ). Misses (Root a) from u v) (c.agent-agent.ensures ∙ sym r.agent) (Swings-missed w.swung c.in-Ok-false.field-0-test))
 
 pub release-requires-in-Err-swing-clause-held : goal.release-requires-in-Err-swing-clause-held
 release-requires-in-Err-swing-clause-held g c =
@@ -135,7 +134,7 @@ release-requires-in-Err-swing-clause-held g c =
     let f = c.in_default.ensures in
     let below = target_in s.slots c.args.top in
     let r = linked_ready n c.args.slot c.args.value s c.in-Ok.node t u c.args.top c.requires.slot (g.met.L.Links.allowed d c.give.new.p e.pass) (g.met.L.Links.allowed d c.aim.new.p f.pass)
-        (g.met.L.Links.obeys d c.give.new.p e.pass) c.requires.held c.requires.node e.given f.aimed in
+    (g.met.L.Links.obeys d c.give.new.p e.pass) c.requires.held c.requires.node e.given f.aimed in
     let v = g.L.Links.seat d c.swing.new.p in
     let k = ready_after n below c.args.slot c.args.value s c.in-Ok.node u c.requires.slot r v (g.met.L.Links.allowed d c.swing.new.p c.in-Err-swing.ensures.pass) (g.met.L.Links.obeys d c.aim.new.p f.pass) c.in-Err-swing.ensures.none in
     ready_holds n below c.args.slot c.args.value s c.in-Ok.node v c.requires.slot k
@@ -151,7 +150,7 @@ returns-in-Ok-true-clause-pushed g c =
     let f = c.in_default.ensures in
     let below = target_in s.slots c.args.top in
     let r = linked_ready n c.args.slot c.args.value s c.in-Ok.node t u c.args.top c.requires.slot (g.met.L.Links.allowed d c.give.new.p e.pass) (g.met.L.Links.allowed d c.aim.new.p f.pass)
-        (g.met.L.Links.obeys d c.give.new.p e.pass) c.requires.held c.requires.node e.given f.aimed in
+    (g.met.L.Links.obeys d c.give.new.p e.pass) c.requires.held c.requires.node e.given f.aimed in
     let v = g.L.Links.seat d c.swing.new.p in
     let w = c.in-Ok-true.ensures in
     let from = link_in u.slots c.below-below.result in
@@ -160,7 +159,7 @@ returns-in-Ok-true-clause-pushed g c =
     let p : Puts u (event_of u (Move (Root c.agent-agent.result) from to) noted ∷ []) v = Swings-moved w.swung c.in-Ok-true.field-0-test in
     let q = subst (λ (a : ℕ). Puts u (event_of u (Move (Root a) from to) noted ∷ []) v) (c.agent-agent.ensures ∙ sym r.agent) p in
     ready_pushed n below c.args.slot c.args.value s c.in-Ok.node u c.requires.slot r v from noted (g.met.L.Links.allowed d c.swing.new.p w.pass) (g.met.L.Links.obeys d c.aim.new.p f.pass) c.requires.fresh
-      w.swung.slots (Swings-fresh w.swung c.in-Ok-true.field-0-test) q
+    w.swung.slots (Swings-fresh w.swung c.in-Ok-true.field-0-test) q
 
 pub returns-in-Err-swing-clause-none : goal.returns-in-Err-swing-clause-none
 returns-in-Err-swing-clause-none g c =
@@ -173,7 +172,7 @@ returns-in-Err-swing-clause-none g c =
     let f = c.in_default.ensures in
     let below = target_in s.slots c.args.top in
     let r = linked_ready n c.args.slot c.args.value s c.in-Ok.node t u c.args.top c.requires.slot (g.met.L.Links.allowed d c.give.new.p e.pass) (g.met.L.Links.allowed d c.aim.new.p f.pass)
-        (g.met.L.Links.obeys d c.give.new.p e.pass) c.requires.held c.requires.node e.given f.aimed in
+    (g.met.L.Links.obeys d c.give.new.p e.pass) c.requires.held c.requires.node e.given f.aimed in
     let v = g.L.Links.seat d c.swing.new.p in
     let k = ready_after n below c.args.slot c.args.value s c.in-Ok.node u c.requires.slot r v (g.met.L.Links.allowed d c.swing.new.p c.in-Err-swing.ensures.pass) (g.met.L.Links.obeys d c.aim.new.p f.pass) c.in-Err-swing.ensures.none in
     let w = c.release-in-Err-swing.ensures in

@@ -46,4 +46,4 @@ returns-clause-read g c =
     let t = g.L.Links.seat d c.push.new.p in
     let u = g.L.Links.seat d c.push-2.new.p in
     c.read_two-got.ensures.read c.args.upper c.args.lower
-      (pair (g.L.Links.numbers d) c.args.lower s c.in_ok-one.one t c.requires.idle c.in_ok-one.ensures.pushed c.args.upper c.in-Ok.two u c.in-Ok.ensures.pushed)
+    (pair (g.L.Links.numbers d) c.args.lower s c.in_ok-one.one t c.requires.idle c.in_ok-one.ensures.pushed c.args.upper c.in-Ok.two u c.in-Ok.ensures.pushed)
