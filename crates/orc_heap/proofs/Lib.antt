@@ -1,4 +1,6 @@
+pub mod Before
 pub mod Changes
+pub mod Fresh
 pub mod Linked
 pub mod Runs
 pub mod Stays

@@ -1,0 +1,4 @@
+-- Proofs of the laws that the discipline owes to its traits, and of what its events keep.
+pub mod Kinds
+pub mod Nodes
+pub mod Laws

@@ -1,0 +1,2 @@
+-- The laws.
+use Rattle.std.specs.Prelude.{ℕ}

@@ -1,0 +1,3 @@
+pub mod QueueDiscipline
+pub mod Counts
+pub mod Kept
