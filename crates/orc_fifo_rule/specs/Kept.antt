@@ -5,4 +5,5 @@ pub mod Events
 pub mod Opening
 pub mod Paths
 pub mod Parts
+pub mod Running
 pub mod Laws
