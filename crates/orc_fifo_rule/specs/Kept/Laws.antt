@@ -17,12 +17,13 @@ use Rattle.orc_history.specs.declared.queue.QueueEntry.TheVariants.{Empty, Put, 
 use Rattle.orc_fifo_rule.specs.declared.fifo.FifoNote.{FifoNote}
 use Rattle.orc_fifo_rule.specs.declared.fifo.FifoNote.TheVariants.{Begin, Entry, Swing}
 use Rattle.orc_fifo_rule.specs.QueueDiscipline.{BeginsIfMoves, FifoHolds, FifoMay, HasLink, IsInTime, IsOpening, IsRunning, LeadsOn, MayAct, MayEnter, entries_of, fifo_rank, has_begun, is_begin_of, link_to, position_of, root_has_begun}
+use Rattle.orc_fifo_rule.specs.Watches.{event_of}
 use Rattle.orc_fifo_rule.specs.Kept.Kinds.{each_kind, link_same, null_to, some_same}
 use Rattle.orc_fifo_rule.specs.Kept.Nodes.{job_linked, job_position, linked_node}
 use Rattle.orc_fifo_rule.specs.Kept.Events.{and_both, entries_same, every_more, not_begun_before, root_begun_before}
 use Rattle.orc_fifo_rule.specs.Kept.Opening.{begun_root, no_puts, only_zero}
 use Rattle.orc_fifo_rule.specs.Kept.Paths.{shown_node, tail_linked}
-use Rattle.orc_fifo_rule.specs.Kept.Parts.{event_of, frozen_next, legal_next, links_next, puts_next, target_at}
+use Rattle.orc_fifo_rule.specs.Kept.Parts.{frozen_next, legal_next, links_next, puts_next, target_at}
 use Rattle.orc_fifo_rule.specs.Kept.Running.{running_next}
 
 pub fifo_fits : (n : HeapNumbers) (seen : List (Event FifoNote)) (e : Event FifoNote) → FifoHolds n seen → FifoMay n seen e → FitsAfter n seen e

@@ -21,13 +21,11 @@ use Rattle.orc_history.specs.declared.queue.QueueEntry.TheVariants.{Empty, Put, 
 use Rattle.orc_fifo_rule.specs.declared.fifo.FifoNote.{FifoNote}
 use Rattle.orc_fifo_rule.specs.declared.fifo.FifoNote.TheVariants.{Begin, Entry, Swing}
 use Rattle.orc_fifo_rule.specs.QueueDiscipline.{FifoHolds, FifoMay, HasJob, HasLink, HoldsJob, IsInTime, IsPutNode, IsRunning, LeadsOn, MayEnter, MayPut, entries_in, entries_of, has_begun, link_to, position_of}
+use Rattle.orc_fifo_rule.specs.Watches.{event_of}
 use Rattle.orc_fifo_rule.specs.Kept.Kinds.{each_kind, link_moved, link_same, null_to, plain_moves, some_same}
 use Rattle.orc_fifo_rule.specs.Kept.Nodes.{PutsAt, job_next, link_kept, link_next, link_shown, linked_node, position_next, put_grown, shown_link, some_next}
 use Rattle.orc_fifo_rule.specs.Kept.Events.{entries_more, entries_of-snoc, put_before, put_last}
 use Rattle.orc_fifo_rule.specs.Kept.Paths.{head_steps, put_at_last, successor_linked, tail_linked, tail_steps}
-
-abbrev pub event_of : ℕ → Act → Option FifoNote → Event FifoNote
-event_of agent act noted = record { agent = agent; act = act; note = noted }
 
 -- the position of a legal Put
 pub legal_put : (next : ℕ) (waiting : List (ℕ × ℕ)) (es : List QueueEntry) (agent job at : ℕ) → IsLegalFrom next waiting (es ++ Put agent job at ∷ []) → at ≡ next + puts_in es

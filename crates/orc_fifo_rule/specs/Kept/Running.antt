@@ -18,11 +18,12 @@ use Rattle.orc_history.proofs.Histories.{waiting_after-snoc}
 use Rattle.orc_fifo_rule.specs.declared.fifo.FifoNote.{FifoNote}
 use Rattle.orc_fifo_rule.specs.declared.fifo.FifoNote.TheVariants.{Begin, Entry, Swing}
 use Rattle.orc_fifo_rule.specs.QueueDiscipline.{FifoHolds, FifoMay, HasJob, HasLink, IsPath, IsPutNode, IsRunning, entries_in, entries_of, has_begun, link_to, position_of}
+use Rattle.orc_fifo_rule.specs.Watches.{event_of}
 use Rattle.orc_fifo_rule.specs.Kept.Kinds.{each_kind, link_moved, link_same, null_to, plain_roots, root_moved, root_next, root_other, some_same}
 use Rattle.orc_fifo_rule.specs.Kept.Nodes.{PutsAt, job_position, linked_next, link_next, node_next, null_next, path_next, position_next}
 use Rattle.orc_fifo_rule.specs.Kept.Events.{entries_more, entries_same, put_last, puts_snoc}
 use Rattle.orc_fifo_rule.specs.Kept.Paths.{back_one, head_steps, path_snoc, path_step, put_at_last, tail_linked, tail_steps}
-use Rattle.orc_fifo_rule.specs.Kept.Parts.{event_of, put_has_job, put_node_after, put_position}
+use Rattle.orc_fifo_rule.specs.Kept.Parts.{put_has_job, put_node_after, put_position}
 
 -- what a root shows after the event
 pub root_at : (n : HeapNumbers) (es : List (Event FifoNote)) (e : Event FifoNote) (r : ℕ) → shown (run_heap n (es ++ e ∷ [])) (Root r) ≡ shown (heap_after e.agent e.act (run_heap n es)) (Root r)
@@ -77,7 +78,7 @@ running_empty n es agent d by link run may =
       (ap (waiting_after []) (entries_more es e (Empty by) refl) ∙ waiting_after-snoc [] (entries_of es) (Empty by)) refl
 
 -- a Begin finds both roots set
-begin_late : (h : Heap) (es : List (Event FifoNote)) (r : ℕ) → IsRunning h es → r < 2 → shown h (Root r) ≡ Some null → ⊥
+pub begin_late : (h : Heap) (es : List (Event FifoNote)) (r : ℕ) → IsRunning h es → r < 2 → shown h (Root r) ≡ Some null → ⊥
 begin_late h es zero run low at = null_to run.dummy (some_same (sym at ∙ run.head_is))
 begin_late h es (suc zero) run low at = null_to run.tail (some_same (sym at ∙ run.tail_is))
 begin_late h es (suc (suc r)) run low at = omega (arith, low)
