@@ -1,3 +1,5 @@
 pub mod Later
 pub mod Leaving
 pub mod Coming
+pub mod OwnEntries
+pub mod Stretches

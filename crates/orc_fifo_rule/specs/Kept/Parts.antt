@@ -78,7 +78,7 @@ put_node_after h agent t from to job at m l =
     let apart : m.id ≢ t = λ same. unlinked_apart h t m.id m.node l m.there m.unlinked (sym same) in
     target_at as_linked to m.id (change_node (with_link to) t h) m.node m.to_is (get-change_other (with_link to) t m.id h.nodes apart ∙ m.there)
 
-put_tail : (n : HeapNumbers) (es : List (Event FifoNote)) (e : Event FifoNote) (t : ℕ) (entry : QueueEntry) → FifoHolds n es → FifoMay n es e → e.note ≡ Some (Entry entry)
+pub put_tail : (n : HeapNumbers) (es : List (Event FifoNote)) (e : Event FifoNote) (t : ℕ) (entry : QueueEntry) → FifoHolds n es → FifoMay n es e → e.note ≡ Some (Entry entry)
     → shown (run_heap n es) (Root 1) ≡ Some (link_to t) → IsLinkedNode (run_heap n es) t
 put_tail n es e t entry holds may note_is root =
     let run = put_runs n es e entry holds may note_is in
