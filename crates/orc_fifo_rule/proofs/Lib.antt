@@ -3,3 +3,4 @@ pub mod Leaving
 pub mod Coming
 pub mod OwnEntries
 pub mod Stretches
+pub mod Counting

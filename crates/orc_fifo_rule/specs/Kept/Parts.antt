@@ -65,7 +65,7 @@ pub target_at : (f : Node → Node) (to : Link) (id : ℕ) (h : Heap) (node : No
 target_at f to id h node to_is there =
     subst (λ (l : Link). slice_get (change_target f l.to h).nodes id ≡ Some (f node)) (sym to_is) (get-change_same f id h.nodes node there)
 
-unlinked_apart : (h : Heap) (t id : ℕ) (node : Node) → IsLinkedNode h t → slice_get h.nodes id ≡ Some node → node.linked ≡ false → t ≢ id
+pub unlinked_apart : (h : Heap) (t id : ℕ) (node : Node) → IsLinkedNode h t → slice_get h.nodes id ≡ Some node → node.linked ≡ false → t ≢ id
 unlinked_apart h t id node l there unlinked same =
     let one : l.node ≡ node = some_same (sym l.there ∙ (ap (λ (x : ℕ). slice_get h.nodes x) same ∙ there)) in
     let bad : true ≡ false = sym l.linked ∙ (ap (λ (x : Node). x.linked) one ∙ unlinked) in
@@ -124,7 +124,7 @@ puts_next n es e id job at holds may put =
           e.act e.note may.may_act act_is note_is may
     ]
 
-names : (to : Link) (x id : ℕ) → to ≡ link_to x → names_node to.to id ≡ true → x ≡ id
+pub names : (to : Link) (x id : ℕ) → to ≡ link_to x → names_node to.to id ≡ true → x ≡ id
 names to x id to_is named = eqb-true x id (subst (λ (l : Link). names_node l.to id ≡ true) to_is named)
 
 -- the link of a node that the event links for the first time is null
