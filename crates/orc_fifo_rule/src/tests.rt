@@ -1,0 +1,1 @@
+//! Notes, and worked examples of the definitions.
