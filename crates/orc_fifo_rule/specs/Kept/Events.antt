@@ -37,7 +37,7 @@ entries_more es e entry note_is = entries_of-snoc es e ∙ ap (λ z. entries_of 
 pub puts_snoc : (es : List (Event FifoNote)) (e : Event FifoNote) → puts_in (entries_of (es ++ e ∷ [])) ≡ puts_in (entries_of es) + puts_in (entries_in e.note)
 puts_snoc es e = ap puts_in (entries_of-snoc es e) ∙ puts_in-append (entries_of es) (entries_in e.note)
 
-contains_one : {A : Type 0} (x y : A) → Contains (x ∷ []) y → x ≡ y
+pub contains_one : {A : Type 0} (x y : A) → Contains (x ∷ []) y → x ≡ y
 contains_one x y (zero, low, is) = is
 contains_one x y (suc k, low, is) = absurd (omega (arith, low))
 
