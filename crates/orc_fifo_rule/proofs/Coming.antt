@@ -1,23 +1,22 @@
 -- The events of a queue's calls are allowed in every later journal.
-use Rattle.std.proofs.Common.{List, None, Option, Some, [], ap, arith, inl, inr, refl, subst, sym, true, ℕ, ◌++◌, ◌+◌, ◌<◌, ◌^◌, ◌∙◌, ◌∷◌, ◌≡◌, ◌≢◌, ◌⊎◌}
+use Rattle.std.proofs.Common.{List, Some, [], ap, arith, inl, refl, subst, sym, true, ℕ, ◌++◌, ◌+◌, ◌<◌, ◌^◌, ◌∙◌, ◌∷◌, ◌≡◌, ◌≢◌}
 use Rattle.std.specs.List.{slice_get}
 use Rattle.orc_heap.proofs.Known.{linked_known}
-use Rattle.orc_heap.specs.Allowed.{AllAllowed, AllowedLater, IsLinkedNode}
+use Rattle.orc_heap.specs.Allowed.{AllowedLater}
 use Rattle.orc_heap.specs.Heap.{Heap, HeapNumbers, Node, null, shown}
-use Rattle.orc_heap.specs.Journals.{IsLawful, run_heap}
+use Rattle.orc_heap.specs.Journals.{run_heap}
 use Rattle.orc_heap.specs.declared.events.Act.TheVariants.{Look, Move}
 use Rattle.orc_heap.specs.declared.events.Event.{Event}
-use Rattle.orc_heap.specs.declared.events.Link.{Link}
 use Rattle.orc_heap.specs.declared.events.Place.TheVariants.{Next, Root}
 use Rattle.orc_history.proofs.Histories.{IsLegalFrom-snoc}
-use Rattle.orc_history.specs.QueueHistory.{IsLegalQueue, puts_in, waiting_after}
+use Rattle.orc_history.specs.QueueHistory.{puts_in, waiting_after}
 use Rattle.orc_history.specs.declared.queue.QueueEntry.TheVariants.{Empty, Put, Took}
 use Rattle.orc_fifo_rule.specs.declared.fifo.FifoNote.{FifoNote}
 use Rattle.orc_fifo_rule.specs.declared.fifo.FifoNote.TheVariants.{Entry, Swing}
 use Rattle.orc_fifo_rule.specs.QueueDiscipline.{FifoHolds, FifoMay, HasJob, HasLink, IsRunning, entries_of, has_begun, link_to, position_of}
 use Rattle.orc_fifo_rule.specs.Watches.{IsLeft, WasNamed, event_of, node_to_put}
 use Rattle.orc_fifo_rule.specs.Kept.Events.{begun_more}
-use Rattle.orc_fifo_rule.specs.Kept.Kinds.{link_same, null_to, some_same}
+use Rattle.orc_fifo_rule.specs.Kept.Kinds.{link_same, some_same}
 use Rattle.orc_fifo_rule.specs.Kept.Nodes.{job_linked, shown_link}
 use Rattle.orc_fifo_rule.specs.Kept.Paths.{path_ends, path_step, successor_linked}
 use Rattle.orc_fifo_rule.proofs.Later.{holds_later, job_later, link_later, named_later, next_position, node_later, position_later, still_named}
@@ -72,8 +71,11 @@ one_job h id job at j p a b =
     let at_is : p + 1 ≡ at + 1 = some_same (sym b.holds.position_is ∙ (ap (λ (x : Node). x.second) one ∙ a.holds.position_is)) in
     (job_is, omega (arith, at_is))
 
-pair_is : (w : ℕ × ℕ) (a b : ℕ) → w.0 ≡ a → w.1 ≡ b → w ≡ (a, b)
-pair_is w a b e f = ap (λ (x : ℕ). (x, w.1)) e ∙ ap (λ (y : ℕ). (a, y)) f
+-- what waits, where its first Put is this job
+front_waits : (waiting front back rest : List (ℕ × ℕ)) (put : ℕ × ℕ) (job at : ℕ) → waiting ≡ front ++ back → front ≡ put ∷ rest → put.0 ≡ job → put.1 ≡ at → waiting ≡ (job, at) ∷ (rest ++ back)
+front_waits waiting front back rest put job at all first job_is at_is =
+    let whole : put ≡ (job, at) = ap (λ (x : ℕ). (x, put.1)) job_is ∙ ap (λ (x : ℕ). (job, x)) at_is in
+    all ∙ (ap (λ z. z ++ back) first ∙ ap (λ (x : ℕ × ℕ). x ∷ (rest ++ back)) whole)
 
 -- a Took of root 0, wherever root 1 has left the node, whose link leads to the other
 pub took_allowed : (n : HeapNumbers) (agent id next job at : ℕ) (seen : List (Event FifoNote)) → FifoHolds n seen → has_begun seen ≡ true → IsLeft (run_heap n seen) id
@@ -93,7 +95,7 @@ took_allowed n agent id next job at seen holds begun left link has = λ more lat
     let (put, rest, front_is, put_node, path) = path_step es h run.dummy run.tail run.front next run.to_tail successor apart in
     let (job_is, at_is) = one_job h next job at put.0 put.1 j (now.puts next put.0 put.1 put_node) in
     let waits : waiting_after [] (entries_of es) ≡ (job, at) ∷ (rest ++ run.back) =
-      run.waiting ∙ (ap (λ z. z ++ run.back) front_is ∙ ap (λ (x : ℕ × ℕ). x ∷ (rest ++ run.back)) (pair_is put job at job_is at_is)) in
+    front_waits (waiting_after [] (entries_of es)) run.front run.back rest put job at run.waiting front_is job_is at_is in
     record {
       fits = (shows, linked_known n es agent next now.lawful (job_linked h next job at j));
       may_act = record {

@@ -1,14 +1,14 @@
 -- A node is linked by its Put, by one Swing and by one Took; node 0 by the two Begins.
-use Rattle.std.proofs.Common.{Bool, List, None, Option, Some, [], ap, arith, cond, false, filter, inl, inr, length, length-append, refl, subst, suc, sym, true, zero, ℕ, ◌++◌, ◌+◌, ◌-◌, ◌<◌, ◌∙◌, ◌∷◌, ◌≡◌, ◌≢◌, ◌≤◌, ◌⊎◌}
+use Rattle.std.proofs.Common.{Bool, List, None, Some, [], ap, arith, cond, false, filter, inl, inr, length, length-append, refl, subst, suc, sym, true, zero, ℕ, ◌++◌, ◌+◌, ◌-◌, ◌<◌, ◌∙◌, ◌∷◌, ◌≡◌, ◌≢◌, ◌≤◌, ◌⊎◌}
 use Rattle.std.proofs.lemmas.Bool.{eq-eqb, ne_eqb}
 use Rattle.std.proofs.lemmas.List.Elements.{filter-append}
 use Rattle.std.proofs.lemmas.List.Folds.{list_any-append}
-use Rattle.std.specs.List.{list_any, slice_get}
+use Rattle.std.specs.List.{slice_get}
 use Rattle.std.specs.Prelude.{◌||◌}
 use Rattle.orc_heap.proofs.Stays.{stays}
 use Rattle.orc_heap.specs.Acts.{heap_after}
 use Rattle.orc_heap.specs.Allowed.{AllAllowed, IsLinkedNode}
-use Rattle.orc_heap.specs.Heap.{Heap, HeapNumbers, null, shown}
+use Rattle.orc_heap.specs.Heap.{Heap, HeapNumbers, shown}
 use Rattle.orc_heap.specs.Journals.{names_node, points_to, run_heap}
 use Rattle.orc_heap.specs.declared.events.Act.TheVariants.{Look, Move}
 use Rattle.orc_heap.specs.declared.events.Event.{Event}
@@ -18,7 +18,7 @@ use Rattle.orc_history.specs.declared.queue.QueueEntry.TheVariants.{Empty, Put, 
 use Rattle.orc_fifo_rule.specs.declared.fifo.FifoNote.{FifoNote}
 use Rattle.orc_fifo_rule.specs.declared.fifo.FifoNote.TheVariants.{Begin, Entry, Swing}
 use Rattle.orc_fifo_rule.specs.Counts.{links_made}
-use Rattle.orc_fifo_rule.specs.QueueDiscipline.{FifoHolds, FifoMay, HasLink, IsInTime, IsRunning, StepsOn, has_begun, is_begin_of, link_to, position_of, root_has_begun}
+use Rattle.orc_fifo_rule.specs.QueueDiscipline.{FifoHolds, FifoMay, HasLink, IsRunning, has_begun, is_begin_of, link_to, position_of, root_has_begun}
 use Rattle.orc_fifo_rule.specs.Watches.{event_of}
 use Rattle.orc_fifo_rule.specs.Kept.Events.{and_both, not_begun_before, root_begun_more}
 use Rattle.orc_fifo_rule.specs.Kept.Kinds.{each_kind, link_same, null_to, plain_points, plain_roots, root_moved, root_next, root_other, some_same}
@@ -40,7 +40,7 @@ links_snoc : (es : List (Event FifoNote)) (e : Event FifoNote) (id : ℕ) → li
 links_snoc es e id =
     ap length (filter-append (λ (x : Event FifoNote). points_to x.act id) es (e ∷ []))
     ∙ (length-append (filter (λ (x : Event FifoNote). points_to x.act id) es) (filter (λ (x : Event FifoNote). points_to x.act id) (e ∷ []))
-      ∙ ap (λ (x : ℕ). links_made es id + x) (one_or_none (points_to e.act id) e))
+    ∙ ap (λ (x : ℕ). links_made es id + x) (one_or_none (points_to e.act id) e))
 
 links_more : (es : List (Event FifoNote)) (e : Event FifoNote) (id : ℕ) → points_to e.act id ≡ true → links_made (es ++ e ∷ []) id ≡ links_made es id + 1
 links_more es e id points = links_snoc es e id ∙ ap (λ (b : Bool). links_made es id + cond b 1 0) points
@@ -105,7 +105,7 @@ opening_begin n es agent r from to holds early o may =
     let e : Event FifoNote = event_of agent (Move (Root r) from to) (Some Begin) in
     let b = may.may_act in
     let not : root_has_begun r es ≡ true → ⊥ = λ is.
-      null_to 0 (sym b.from_is ∙ some_same (sym may.fits.0 ∙ begun_root n es r (holds.opening early).begins holds.lawful is)) in
+    null_to 0 (sym b.from_is ∙ some_same (sym may.fits.0 ∙ begun_root n es r (holds.opening early).begins holds.lawful is)) in
     let before = begins_none r es not in
     let after = begins_one r (es ++ e ∷ []) (begins_now r es e (eq-eqb r r refl)) in
     let points : points_to e.act 0 ≡ true = subst (λ (l : Link). names_node l.to 0 ≡ true) (sym b.to_is) refl in
@@ -128,13 +128,13 @@ late b e f = let bad : false ≡ true = sym e ∙ f in cc
 opening_links_next : (n : HeapNumbers) (es : List (Event FifoNote)) (e : Event FifoNote) → FifoHolds n es → has_begun es ≡ false → OpeningLinks es → FifoMay n es e → OpeningLinks (es ++ e ∷ [])
 opening_links_next n es e holds early o may =
     each_kind (run_heap n es) (λ act noted. FifoMay n es (event_of e.agent act noted) → OpeningLinks (es ++ event_of e.agent act noted ∷ []))
-      (λ act plain m. opening_same es (event_of e.agent act None) o (λ id. plain_points act id plain))
-      (λ r from to b m. opening_begin n es e.agent r from to holds early o m)
-      (λ r from to b m. absurd (late (has_begun es) early m.in_time))
-      (λ r from to by job at b m. absurd (late (has_begun es) early m.in_time))
-      (λ t from to by job at b m. absurd (late (has_begun es) early m.in_time))
-      (λ d link by b m. absurd (late (has_begun es) early m.in_time))
-      e.act e.note may.may_act may
+    (λ act plain m. opening_same es (event_of e.agent act None) o (λ id. plain_points act id plain))
+    (λ r from to b m. opening_begin n es e.agent r from to holds early o m)
+    (λ r from to b m. absurd (late (has_begun es) early m.in_time))
+    (λ r from to by job at b m. absurd (late (has_begun es) early m.in_time))
+    (λ t from to by job at b m. absurd (late (has_begun es) early m.in_time))
+    (λ d link by b m. absurd (late (has_begun es) early m.in_time))
+    e.act e.note may.may_act may
 
 -- once both roots have begun
 
@@ -192,7 +192,7 @@ counted_still : (n : HeapNumbers) (es : List (Event FifoNote)) (e : Event FifoNo
     → ((id : ℕ) → points_to e.act id ≡ true → CountsAt (run_heap n (es ++ e ∷ [])) (es ++ e ∷ []) c.dummy c.tail id) → Counted n (es ++ e ∷ [])
 counted_still n es e run c may root_zero root_one hit =
     counted_next n es e c c.dummy c.tail may (root_zero ∙ c.head_is) (root_one ∙ c.tail_is)
-      (same_le _ _ (position_next n es e c.dummy may (head_linked n es c run))) (same_le _ _ (position_next n es e c.tail may (last_linked n es c run))) hit
+    (same_le _ _ (position_next n es e c.dummy may (head_linked n es c run))) (same_le _ _ (position_next n es e c.tail may (last_linked n es c run))) hit
 
 missed : {A : Type 0} (b : Bool) → b ≡ false → b ≡ true → A
 missed b e f = absurd (late b e f)
@@ -202,10 +202,10 @@ successor_position : (n : HeapNumbers) (es : List (Event FifoNote)) (id next : �
 successor_position n es id next holds link =
     let h : Heap = run_heap n es in
     elim (holds.links id (link_to next) link) [
-      inl none ↦ absurd (null_to next (sym none))
+      | inl none ↦ absurd (null_to next (sym none))
       | inr leads ↦
-        let (x, job, same, put) = leads in
-        ap (λ (y : ℕ). position_of h y) (link_same next x same) ∙ job_position h x job (position_of h id) (holds.puts x job (position_of h id) put)
+          let (x, job, same, put) = leads in
+          ap (λ (y : ℕ). position_of h y) (link_same next x same) ∙ job_position h x job (position_of h id) (holds.puts x job (position_of h id) put)
     ]
 
 -- a root that steps on comes to a node that it had not come to
@@ -235,14 +235,14 @@ counted_swing n es agent r from to holds run c may =
     let l = successor_linked n es s.id s.next holds link in
     let step : position_of h s.next ≡ position_of h c.tail + 1 = successor_position n es s.id s.next holds link ∙ ap (λ (x : ℕ). position_of h x + 1) tail_same in
     let moved : shown (heap_after agent (Move (Root r) from to) h) (Root 1) ≡ Some to =
-      subst (λ (x : ℕ). shown (heap_after agent (Move (Root r) from to) h) (Root x) ≡ Some to) one (root_moved agent r from to h may.fits.0) in
+    subst (λ (x : ℕ). shown (heap_after agent (Move (Root r) from to) h) (Root x) ≡ Some to) one (root_moved agent r from to h may.fits.0) in
     let d = same_le _ _ (position_next n es e c.dummy may (head_linked n es c run)) in
     counted_next n es e c c.dummy s.next may (root_at n es e 0 ∙ (root_other agent r 0 from to h (λ x. omega (arith, x, one)) ∙ c.head_is))
-      (root_at n es e 1 ∙ (moved ∙ ap (λ (x : Link). Some x) s.to_is)) d (omega (arith, step, position_next n es e s.next may l))
-      (λ id points.
-        let next_is : s.next ≡ id = names to s.next id s.to_is points in
-        subst (λ (x : ℕ). CountsAt (run_heap n (es ++ e ∷ [])) (es ++ e ∷ []) c.dummy s.next x) next_is
-          (came_by_tail n es e s.next c.dummy c.tail may l (subst (λ (x : ℕ). points_to e.act x ≡ true) (sym next_is) points) d step (c.count s.next)))
+    (root_at n es e 1 ∙ (moved ∙ ap (λ (x : Link). Some x) s.to_is)) d (omega (arith, step, position_next n es e s.next may l))
+    (λ id points.
+    let next_is : s.next ≡ id = names to s.next id s.to_is points in
+    subst (λ (x : ℕ). CountsAt (run_heap n (es ++ e ∷ [])) (es ++ e ∷ []) c.dummy s.next x) next_is
+    (came_by_tail n es e s.next c.dummy c.tail may l (subst (λ (x : ℕ). points_to e.act x ≡ true) (sym next_is) points) d step (c.count s.next)))
 
 counted_took : (n : HeapNumbers) (es : List (Event FifoNote)) (agent r by job at : ℕ) (from to : Link) → FifoHolds n es → IsRunning (run_heap n es) es → Counted n es
     → FifoMay n es (event_of agent (Move (Root r) from to) (Some (Entry (Took by job at)))) → Counted n (es ++ event_of agent (Move (Root r) from to) (Some (Entry (Took by job at))) ∷ [])
@@ -256,14 +256,14 @@ counted_took n es agent r by job at from to holds run c may =
     let l = successor_linked n es s.id s.next holds link in
     let step : position_of h s.next ≡ position_of h c.dummy + 1 = successor_position n es s.id s.next holds link ∙ ap (λ (x : ℕ). position_of h x + 1) head_same in
     let moved : shown (heap_after agent (Move (Root r) from to) h) (Root 0) ≡ Some to =
-      subst (λ (x : ℕ). shown (heap_after agent (Move (Root r) from to) h) (Root x) ≡ Some to) zero_root (root_moved agent r from to h may.fits.0) in
+    subst (λ (x : ℕ). shown (heap_after agent (Move (Root r) from to) h) (Root x) ≡ Some to) zero_root (root_moved agent r from to h may.fits.0) in
     let t = same_le _ _ (position_next n es e c.tail may (last_linked n es c run)) in
     counted_next n es e c s.next c.tail may (root_at n es e 0 ∙ (moved ∙ ap (λ (x : Link). Some x) s.to_is))
-      (root_at n es e 1 ∙ (root_other agent r 1 from to h (λ x. omega (arith, x, zero_root)) ∙ c.tail_is)) (omega (arith, step, position_next n es e s.next may l)) t
-      (λ id points.
-        let next_is : s.next ≡ id = names to s.next id s.to_is points in
-        subst (λ (x : ℕ). CountsAt (run_heap n (es ++ e ∷ [])) (es ++ e ∷ []) s.next c.tail x) next_is
-          (came_by_head n es e s.next c.dummy c.tail may l (subst (λ (x : ℕ). points_to e.act x ≡ true) (sym next_is) points) t step (c.count s.next)))
+    (root_at n es e 1 ∙ (root_other agent r 1 from to h (λ x. omega (arith, x, zero_root)) ∙ c.tail_is)) (omega (arith, step, position_next n es e s.next may l)) t
+    (λ id points.
+    let next_is : s.next ≡ id = names to s.next id s.to_is points in
+    subst (λ (x : ℕ). CountsAt (run_heap n (es ++ e ∷ [])) (es ++ e ∷ []) s.next c.tail x) next_is
+    (came_by_head n es e s.next c.dummy c.tail may l (subst (λ (x : ℕ). points_to e.act x ≡ true) (sym next_is) points) t step (c.count s.next)))
 
 -- a Put links a node other than node 0
 own_one : (id : ℕ) → 0 ≢ id → own_link id ≡ 1
@@ -279,33 +279,33 @@ counted_put n es agent t by job at from to holds run c may =
     let m = may.may_act in
     let j = put_has_job n es agent t by job at from to holds may in
     counted_still n es e run c may (root_at n es e 0 ∙ root_next agent t 0 from to h) (root_at n es e 1 ∙ root_next agent t 1 from to h)
-      (λ id points.
-        let id_is : m.id ≡ id = names to m.id id m.to_is points in
-        let new : IsLinkedNode (run_heap n (es ++ e ∷ [])) id = subst (λ (x : ℕ). IsLinkedNode (run_heap n (es ++ e ∷ [])) x) id_is (record { node = j.node; there = j.there; linked = j.linked }) in
-        let own : own_link id ≡ 1 = own_one id (λ x. unlinked_apart h 0 m.id m.node run.zero m.there m.unlinked (x ∙ sym id_is)) in
-        elim (c.count id) [
-          inl none ↦ inr (new, omega (arith, none, own, links_more es e id points))
-          | inr was ↦ absurd (unlinked_apart h id m.id m.node was.0 m.there m.unlinked (sym id_is))
-        ])
+    (λ id points.
+    let id_is : m.id ≡ id = names to m.id id m.to_is points in
+    let new : IsLinkedNode (run_heap n (es ++ e ∷ [])) id = subst (λ (x : ℕ). IsLinkedNode (run_heap n (es ++ e ∷ [])) x) id_is (record { node = j.node; there = j.there; linked = j.linked }) in
+    let own : own_link id ≡ 1 = own_one id (λ x. unlinked_apart h 0 m.id m.node run.zero m.there m.unlinked (x ∙ sym id_is)) in
+    elim (c.count id) [
+      | inl none ↦ inr (new, omega (arith, none, own, links_more es e id points))
+      | inr was ↦ absurd (unlinked_apart h id m.id m.node was.0 m.there m.unlinked (sym id_is))
+    ])
 
 counts_next : (n : HeapNumbers) (es : List (Event FifoNote)) (e : Event FifoNote) → FifoHolds n es → has_begun es ≡ true → Counted n es → FifoMay n es e → Counted n (es ++ e ∷ [])
 counts_next n es e holds begun c may =
     let h : Heap = run_heap n es in
     let run = holds.running begun in
     each_kind h (λ act noted. FifoMay n es (event_of e.agent act noted) → Counted n (es ++ event_of e.agent act noted ∷ []))
-      (λ act plain m.
-        let x : Event FifoNote = event_of e.agent act None in
-        let roots = plain_roots e.agent act h plain in
-        counted_still n es x run c m (root_at n es x 0 ∙ ap (λ (l : List Link). slice_get l 0) roots) (root_at n es x 1 ∙ ap (λ (l : List Link). slice_get l 1) roots)
-          (λ id points. missed (points_to act id) (plain_points act id plain) points))
-      (λ r from to b m. absurd (begin_late h es r run b.root_is (m.fits.0 ∙ ap (λ (x : Link). Some x) b.from_is)))
-      (λ r from to b m. counted_swing n es e.agent r from to holds run c m)
-      (λ r from to by job at b m. counted_took n es e.agent r by job at from to holds run c m)
-      (λ t from to by job at b m. counted_put n es e.agent t by job at from to holds run c m)
-      (λ d link by b m.
-        let x : Event FifoNote = event_of e.agent (Look (Next d) link) (Some (Entry (Empty by))) in
-        counted_still n es x run c m (root_at n es x 0) (root_at n es x 1) (λ id points. missed false refl points))
-      e.act e.note may.may_act may
+    (λ act plain m.
+    let x : Event FifoNote = event_of e.agent act None in
+    let roots = plain_roots e.agent act h plain in
+    counted_still n es x run c m (root_at n es x 0 ∙ ap (λ (l : List Link). slice_get l 0) roots) (root_at n es x 1 ∙ ap (λ (l : List Link). slice_get l 1) roots)
+    (λ id points. missed (points_to act id) (plain_points act id plain) points))
+    (λ r from to b m. absurd (begin_late h es r run b.root_is (m.fits.0 ∙ ap (λ (x : Link). Some x) b.from_is)))
+    (λ r from to b m. counted_swing n es e.agent r from to holds run c m)
+    (λ r from to by job at b m. counted_took n es e.agent r by job at from to holds run c m)
+    (λ t from to by job at b m. counted_put n es e.agent t by job at from to holds run c m)
+    (λ d link by b m.
+    let x : Event FifoNote = event_of e.agent (Look (Next d) link) (Some (Entry (Empty by))) in
+    counted_still n es x run c m (root_at n es x 0) (root_at n es x 1) (λ id points. missed false refl points))
+    e.act e.note may.may_act may
 
 -- the second Begin
 

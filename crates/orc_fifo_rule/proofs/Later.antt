@@ -1,9 +1,8 @@
 -- What stays true over all events that the discipline allows.
-use Rattle.std.proofs.Common.{List, None, Option, Some, [], ap, arith, false, inl, inr, refl, subst, sym, true, ℕ, ◌++◌, ◌+◌, ◌∙◌, ◌∷◌, ◌≡◌, ◌≢◌, ◌⊎◌}
+use Rattle.std.proofs.Common.{List, None, Option, Some, [], ap, arith, false, inl, inr, refl, subst, sym, true, ℕ, ◌++◌, ◌+◌, ◌∙◌, ◌∷◌, ◌≡◌, ◌⊎◌}
 use Rattle.std.specs.List.{slice_get}
 use Rattle.orc_heap.proofs.Fresh.{fresh_later}
 use Rattle.orc_heap.proofs.Stays.{stays}
-use Rattle.orc_heap.specs.Acts.{heap_after}
 use Rattle.orc_heap.specs.Allowed.{AllAllowed, IsLinkedNode, Later}
 use Rattle.orc_heap.specs.Heap.{Heap, HeapNumbers, Node, null, shown}
 use Rattle.orc_heap.specs.Journals.{run_heap}
@@ -15,13 +14,12 @@ use Rattle.orc_history.specs.QueueHistory.{puts_in}
 use Rattle.orc_history.specs.declared.queue.QueueEntry.TheVariants.{Empty, Put, Took}
 use Rattle.orc_fifo_rule.specs.declared.fifo.FifoNote.{FifoNote}
 use Rattle.orc_fifo_rule.specs.declared.fifo.FifoNote.TheVariants.{Begin, Entry, Swing}
-use Rattle.orc_fifo_rule.specs.QueueDiscipline.{FifoHolds, FifoMay, HasJob, HasLink, IsRunning, StepsOn, entries_of, has_begun, link_to, position_of}
-use Rattle.orc_fifo_rule.specs.Watches.{IsLeft, WasNamed, event_of}
-use Rattle.orc_fifo_rule.specs.Kept.Events.{begun_more}
+use Rattle.orc_fifo_rule.specs.QueueDiscipline.{FifoHolds, FifoMay, HasJob, HasLink, StepsOn, entries_of, has_begun, link_to, position_of}
+use Rattle.orc_fifo_rule.specs.Watches.{WasNamed, event_of}
 use Rattle.orc_fifo_rule.specs.Kept.Kinds.{each_kind, link_same, null_to, plain_roots, root_either, root_next, some_same}
 use Rattle.orc_fifo_rule.specs.Kept.Laws.{fifo_fits, fifo_keeps, fifo_moves_linked}
 use Rattle.orc_fifo_rule.specs.Kept.Nodes.{job_next, linked_next, node_next, position_next, shown_link}
-use Rattle.orc_fifo_rule.specs.Kept.Paths.{back_one, dummy_linked, has_link, path_step, put_at_last, tail_linked, tail_steps}
+use Rattle.orc_fifo_rule.specs.Kept.Paths.{has_link, put_at_last}
 use Rattle.orc_fifo_rule.specs.Kept.Running.{root_at}
 
 no_link : (n : HeapNumbers) (before after : List (Event FifoNote)) (id : ℕ) (link : Link) → [] ≡ before ++ after → HasLink (run_heap n before) id link → HasLink (run_heap {N = FifoNote} n []) id link
@@ -72,7 +70,7 @@ pub node_later : (n : HeapNumbers) (agent id : ℕ) (node : Node) (seen more : L
     → Later (FifoMay n) agent seen more → slice_get (run_heap n (seen ++ more)).nodes id ≡ Some node
 node_later n agent id node seen more holds there giver unnamed unlinked later =
     fresh_later n (FifoMay n) (FifoHolds n) (λ es e h may. fifo_keeps n es e h may) (λ es e h may. fifo_fits n es e h may) (λ es e h may. fifo_moves_linked n es e h may)
-      agent id node seen more holds there giver unnamed unlinked later
+    agent id node seen more holds there giver unnamed unlinked later
 
 -- a root that names the node still does, or it stepped on to the node's successor
 root_stays : (n : HeapNumbers) (es : List (Event FifoNote)) (e : Event FifoNote) (root id : ℕ) → FifoMay n es e → IsLinkedNode (run_heap n es) id → shown (run_heap n es) (Root root) ≡ Some (link_to id)
@@ -80,24 +78,24 @@ root_stays : (n : HeapNumbers) (es : List (Event FifoNote)) (e : Event FifoNote)
 root_stays n es e root id may l at =
     let h : Heap = run_heap n es in
     each_kind h
-      (λ act noted. FifoMay n es (event_of e.agent act noted)
-        → (shown (run_heap n (es ++ event_of e.agent act noted ∷ [])) (Root root) ≡ Some (link_to id)) ⊎ ((next : ℕ) × HasLink h id (link_to next)))
-      (λ act plain m. inl (root_at n es (event_of e.agent act None) root ∙ (ap (λ (x : List Link). slice_get x root) (plain_roots e.agent act h plain) ∙ at)))
-      (λ r from to b m. elim (root_either e.agent r root from to h (link_to id) at) [
-        inl c ↦ absurd (null_to id (sym b.from_is ∙ some_same (sym m.fits.0 ∙ same_root h r root c.0 at)))
-        | inr c ↦ inl (root_at n es (event_of e.agent (Move (Root r) from to) (Some Begin)) root ∙ c.1)
-      ])
-      (λ r from to b m. elim (root_either e.agent r root from to h (link_to id) at) [
-        inl c ↦ inr (steps_from h id from to b.steps l (some_same (sym (same_root h r root c.0 at) ∙ m.fits.0)))
-        | inr c ↦ inl (root_at n es (event_of e.agent (Move (Root r) from to) (Some Swing)) root ∙ c.1)
-      ])
-      (λ r from to by job place b m. elim (root_either e.agent r root from to h (link_to id) at) [
-        inl c ↦ inr (steps_from h id from to b.steps l (some_same (sym (same_root h r root c.0 at) ∙ m.fits.0)))
-        | inr c ↦ inl (root_at n es (event_of e.agent (Move (Root r) from to) (Some (Entry (Took by job place)))) root ∙ c.1)
-      ])
-      (λ t from to by job place b m. inl (root_at n es (event_of e.agent (Move (Next t) from to) (Some (Entry (Put by job place)))) root ∙ (root_next e.agent t root from to h ∙ at)))
-      (λ d link by b m. inl (root_at n es (event_of e.agent (Look (Next d) link) (Some (Entry (Empty by)))) root ∙ at))
-      e.act e.note may.may_act may
+    (λ act noted. FifoMay n es (event_of e.agent act noted)
+    → (shown (run_heap n (es ++ event_of e.agent act noted ∷ [])) (Root root) ≡ Some (link_to id)) ⊎ ((next : ℕ) × HasLink h id (link_to next)))
+    (λ act plain m. inl (root_at n es (event_of e.agent act None) root ∙ (ap (λ (x : List Link). slice_get x root) (plain_roots e.agent act h plain) ∙ at)))
+    (λ r from to b m. elim (root_either e.agent r root from to h (link_to id) at) [
+      | inl c ↦ absurd (null_to id (sym b.from_is ∙ some_same (sym m.fits.0 ∙ same_root h r root c.0 at)))
+      | inr c ↦ inl (root_at n es (event_of e.agent (Move (Root r) from to) (Some Begin)) root ∙ c.1)
+    ])
+    (λ r from to b m. elim (root_either e.agent r root from to h (link_to id) at) [
+      | inl c ↦ inr (steps_from h id from to b.steps l (some_same (sym (same_root h r root c.0 at) ∙ m.fits.0)))
+      | inr c ↦ inl (root_at n es (event_of e.agent (Move (Root r) from to) (Some Swing)) root ∙ c.1)
+    ])
+    (λ r from to by job place b m. elim (root_either e.agent r root from to h (link_to id) at) [
+      | inl c ↦ inr (steps_from h id from to b.steps l (some_same (sym (same_root h r root c.0 at) ∙ m.fits.0)))
+      | inr c ↦ inl (root_at n es (event_of e.agent (Move (Root r) from to) (Some (Entry (Took by job place)))) root ∙ c.1)
+    ])
+    (λ t from to by job place b m. inl (root_at n es (event_of e.agent (Move (Next t) from to) (Some (Entry (Put by job place)))) root ∙ (root_next e.agent t root from to h ∙ at)))
+    (λ d link by b m. inl (root_at n es (event_of e.agent (Look (Next d) link) (Some (Entry (Empty by)))) root ∙ at))
+    e.act e.note may.may_act may
   where
     same_root : (h : Heap) (r root : ℕ) → r ≡ root → shown h (Root root) ≡ Some (link_to id) → shown h (Root r) ≡ Some (link_to id)
     same_root h r root same at = subst (λ (x : ℕ). shown h (Root x) ≡ Some (link_to id)) (sym same) at
@@ -111,26 +109,13 @@ pub named_next : (n : HeapNumbers) (es : List (Event FifoNote)) (e : Event FifoN
 named_next n es e root id may w = record {
   linked = linked_next n es e id may w.linked;
   either = elim w.either [
-    inl at ↦ elim (root_stays n es e root id may w.linked at) [ inl still ↦ inl still | inr l ↦ inr (l.0, node_next n es e id l.0 may l.1) ]
+    | inl at ↦ elim (root_stays n es e root id may w.linked at) [ inl still ↦ inl still | inr l ↦ inr (l.0, node_next n es e id l.0 may l.1) ]
     | inr l ↦ inr (l.0, node_next n es e id l.0 may l.1)
   ];
 }
 
 pub named_later : (n : HeapNumbers) (seen more : List (Event FifoNote)) (root id : ℕ) → WasNamed (run_heap n seen) root id → AllAllowed (FifoMay n) seen more → WasNamed (run_heap n (seen ++ more)) root id
 named_later n seen more root id w all = stays (FifoMay n) (λ es. WasNamed (run_heap n es) root id) (λ es e x may. named_next n es e root id may x) seen more w all
-
--- a node that the head or the tail names
-pub named_by_head : (n : HeapNumbers) (es : List (Event FifoNote)) (id : ℕ) → FifoHolds n es → has_begun es ≡ true → shown (run_heap n es) (Root 0) ≡ Some (link_to id) → WasNamed (run_heap n es) 0 id
-named_by_head n es id holds begun at =
-    let run = holds.running begun in
-    let same : run.dummy ≡ id = link_same run.dummy id (some_same (sym run.head_is ∙ at)) in
-    record { linked = subst (λ (x : ℕ). IsLinkedNode (run_heap n es) x) same (dummy_linked (run_heap n es) es run); either = inl at }
-
-pub named_by_tail : (n : HeapNumbers) (es : List (Event FifoNote)) (id : ℕ) → FifoHolds n es → has_begun es ≡ true → shown (run_heap n es) (Root 1) ≡ Some (link_to id) → WasNamed (run_heap n es) 1 id
-named_by_tail n es id holds begun at =
-    let run = holds.running begun in
-    let same : run.tail ≡ id = link_same run.tail id (some_same (sym run.tail_is ∙ at)) in
-    record { linked = subst (λ (x : ℕ). IsLinkedNode (run_heap n es) x) same (tail_linked (run_heap n es) es run); either = inl at }
 
 -- where its link is null, the root still names it
 pub still_named : (h : Heap) (root id : ℕ) → WasNamed h root id → shown h (Next id) ≡ Some null → shown h (Root root) ≡ Some (link_to id)

@@ -9,6 +9,7 @@ use Rattle.orc_fifo_rule.specs.declared.fifo.FifoNote.TheVariants.{Begin, Entry,
 abbrev pub links_made : {N : Type 0} → List (Event N) → ℕ → ℕ
 links_made es id = length (filter (λ e. points_to e.act id) es)
 
+-- 1 for a Swing, and 0 for anything else
 abbrev pub swings_with : Option FifoNote → ℕ
 swings_with (Some Swing) = 1
 swings_with (Some (Entry entry)) = 0

@@ -1,5 +1,5 @@
 -- The queue discipline: what the events of a queue of linked nodes obey. After Michael and Scott 1996.
-use Rattle.std.specs.Prelude.{Bool, Contains, List, None, Option, Some, [], false, length, option_map, slice_get, true, unwrap_or, ℕ, ◌&&◌, ◌++◌, ◌+◌, ◌<◌, ◌==◌, ◌^◌, ◌∷◌, ◌≡◌, ◌≢◌, ◌≤◌, ◌⊎◌}
+use Rattle.std.specs.Prelude.{Bool, Contains, List, None, Option, Some, [], false, length, slice_get, true, unwrap_or, ℕ, ◌&&◌, ◌++◌, ◌+◌, ◌<◌, ◌==◌, ◌^◌, ◌∷◌, ◌≡◌, ◌≢◌, ◌≤◌, ◌⊎◌}
 use Rattle.std.specs.List.{list_any}
 use Rattle.orc_heap.specs.Heap.{Heap, HeapNumbers, Node, null, shown}
 use Rattle.orc_heap.specs.Allowed.{IsLinkedNode}
@@ -17,6 +17,7 @@ use Rattle.orc_history.specs.Journals.{Every}
 use Rattle.orc_fifo_rule.specs.declared.fifo.FifoNote.{FifoNote}
 use Rattle.orc_fifo_rule.specs.declared.fifo.FifoNote.TheVariants.{Begin, Entry, Swing}
 
+-- what a note enters in the history
 abbrev pub entries_in : Option FifoNote → List QueueEntry
 entries_in (Some (Entry entry)) = entry ∷ []
 entries_in (Some Swing) = []
@@ -32,11 +33,12 @@ entries_of (e ∷ es) = entries_in e.note ++ entries_of es
 abbrev pub link_to : ℕ → Link
 link_to id = record { to = Some id; mark = false }
 
+-- the second value of a node, and 0 where it has none or isn't there
 abbrev pub position_in : Option Node → ℕ
 position_in None = 0
 position_in (Some n) = unwrap_or n.second 0
 
--- the second value of a node, and 0 where it has none
+-- the same of the node of this id: of node 0 the first position, of the node of a Put the next one after its own
 abbrev pub position_of : Heap → ℕ → ℕ
 position_of h id = position_in (slice_get h.nodes id)
 
@@ -76,8 +78,9 @@ IsPath es h id [] last = id ≡ last
 IsPath es h id (put ∷ puts) last =
     (next : ℕ) × HasLink h id (link_to next) × IsPutNode es next put.0 put.1 × IsPath es h next puts last
 
--- root 0 leads over the dummy and the nodes of the untaken Puts in order to the last node, whose link is null;
--- root 1 names the last node or the one before it; and the last node says the next position
+-- from the node that root 0 names, the dummy, the links lead over the nodes of the untaken Puts in order, and end in
+-- null; root 1 names the last of these nodes or the one before it; node 0 was linked, and the last node's second value
+-- is the next position
 pub record IsRunning (h : Heap) (es : List (Event FifoNote)) : Type 0 where
   pub dummy : ℕ
   pub tail : ℕ
@@ -106,6 +109,7 @@ pub record IsOpening (h : Heap) (es : List (Event FifoNote)) : Type 0 where
   pub begins : Every (λ (e : Event FifoNote). BeginsIfMoves e.act e.note) es
   pub zero_ends : (node : Node) → slice_get h.nodes 0 ≡ Some node → node.linked ≡ true → node.link ≡ null
 
+-- the event is a Begin of this root
 abbrev pub is_begin_of : ℕ → Act → Option FifoNote → Bool
 is_begin_of root (Move (Root r) from to) (Some Begin) = r == root
 is_begin_of root act noted = false

@@ -2,13 +2,12 @@
 use Rattle.std.proofs.Common.{List, Option, Some, None, [], false, inl, inr, refl, suc, sym, true, zero, Bool, ℕ, ◌++◌, ◌∙◌, ◌∷◌, ◌≡◌, ◌≢◌, ◌⊎◌, ap}
 use Rattle.std.proofs.lemmas.Bool.{eq-eqb, ne_eqb}
 use Rattle.std.specs.List.{slice_get}
-use Rattle.orc_heap.specs.Acts.{Fits, as_linked, as_named, change_node, change_target, heap_after, moved_link, set_link, with_link, with_value}
+use Rattle.orc_heap.specs.Acts.{as_linked, as_named, change_node, change_target, heap_after, moved_link, set_link, with_link, with_value}
 use Rattle.orc_heap.specs.Allowed.{IsLinkedNode}
 use Rattle.orc_heap.specs.Heap.{Heap, Node, change, new_node}
 use Rattle.orc_heap.specs.Journals.{moves_to, names_node}
 use Rattle.orc_heap.specs.declared.events.Act.{Act}
 use Rattle.orc_heap.specs.declared.events.Act.TheVariants.{Aim, Fill, Give, Look, Miss, Move}
-use Rattle.orc_heap.specs.declared.events.Link.{Link}
 use Rattle.orc_heap.specs.declared.events.Place.TheVariants.{Next, Root}
 
 -- an item of a changed list was there before, and was changed or is as it was
@@ -54,8 +53,7 @@ linked_target : (to : Option ℕ) (id : ℕ) (h : Heap) (node : Node) → slice_
     → (old : Node) × (slice_get h.nodes id ≡ Some old) × (node.link ≡ old.link) × ((node.linked ≡ old.linked) ⊎ (names_node to id ≡ true))
 linked_target None id h node there = (node, there, refl, inl refl)
 linked_target (Some i) id h node there =
-    let (x, at, either) = get-changed as_linked i id h.nodes node there in
-    (
+    let (x, at, either) = get-changed as_linked i id h.nodes node there in (
       x,
       at,
       elim either [ inl c ↦ sym (ap (λ (n : Node). n.link) c.1) | inr c ↦ sym (ap (λ (n : Node). n.link) c.1) ],
@@ -78,7 +76,7 @@ pub linked_before : (agent : ℕ) (act : Act) (h : Heap) (id : ℕ) (node : Node
     → IsLinkedNode h id ⊎ IsLinkedBy act h id node
 linked_before agent Give h id node there linked =
     elim (get-of_grown h.nodes (new_node agent) node id there) [
-      inl old ↦ inl (record { node = node; there = old; linked = linked })
+      | inl old ↦ inl (record { node = node; there = old; linked = linked })
       | inr same ↦ let bad : false ≡ true = ap (λ (n : Node). n.linked) same ∙ linked in cc
     ]
 linked_before agent (Fill i zero value) h id node there linked = inl (was_linked h id (unlinked_change (with_value zero value) (λ n. refl) i id h.nodes node there linked))

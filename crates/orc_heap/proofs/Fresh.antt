@@ -1,5 +1,5 @@
 -- A node that its agent was given, and to which nothing links, stays as it is while other agents act.
-use Rattle.std.proofs.Common.{List, None, Option, Some, [], ap, false, inl, inr, refl, subst, sym, true, ℕ, ◌++◌, ◌∙◌, ◌∷◌, ◌≡◌, ◌≢◌, ◌⊎◌}
+use Rattle.std.proofs.Common.{List, None, Option, Some, [], ap, false, inl, inr, subst, sym, true, ℕ, ◌++◌, ◌∙◌, ◌∷◌, ◌≡◌, ◌≢◌}
 use Rattle.std.specs.List.{slice_get}
 use Rattle.orc_heap.specs.Acts.{Fits, IsFresh, IsKnown, IsTarget, as_linked, as_named, change_node, change_target, heap_after, with_link, with_value}
 use Rattle.orc_heap.specs.Allowed.{IsLinkedNode, Later, MovesLinked}
@@ -29,7 +29,7 @@ not_known : (h : Heap) (agent by id i : ℕ) (node : Node) → by ≢ agent → 
 not_known h agent by id i node other there giver unnamed known same =
     let one = one_node h id i node known.node there known.there same in
     elim known.known [
-      inl mine ↦ other (sym mine ∙ (ap (λ (x : Node). x.giver) one ∙ giver))
+      | inl mine ↦ other (sym mine ∙ (ap (λ (x : Node). x.giver) one ∙ giver))
       | inr named ↦ let bad : true ≡ false = sym named ∙ (ap (λ (x : Node). x.named) one ∙ unnamed) in cc
     ]
 
@@ -58,14 +58,14 @@ fresh_after h agent by id (Fill i which value) node other fits moves there giver
 fresh_after h agent by id (Aim i to) node other fits moves there giver unnamed unlinked =
     let l = with_link (record { to = to; mark = false }) in
     kept_target as_named h (change_node l i h) agent by id node to other there giver unnamed fits.1
-      (kept_change l i id h.nodes node (not_fresh h agent by id i node other there giver fits.0) there)
+    (kept_change l i id h.nodes node (not_fresh h agent by id i node other there giver fits.0) there)
 fresh_after h agent by id (Look place link) node other fits moves there giver unnamed unlinked = there
 fresh_after h agent by id (Miss place wanted found) node other fits moves there giver unnamed unlinked = there
 fresh_after h agent by id (Move (Root r) from to) node other fits moves there giver unnamed unlinked =
     kept_target as_linked h _ agent by id node to.to other there giver unnamed fits.1 there
 fresh_after h agent by id (Move (Next t) from to) node other fits moves there giver unnamed unlinked =
     kept_target as_linked h (change_node (with_link to) t h) agent by id node to.to other there giver unnamed fits.1
-      (kept_change (with_link to) t id h.nodes node (not_linked h id t node there unlinked moves) there)
+    (kept_change (with_link to) t id h.nodes node (not_linked h id t node there unlinked moves) there)
 
 -- allowed events of other agents, where a discipline holds
 pub fresh_later : {N : Type 0} (n : HeapNumbers) (may : List (Event N) → Event N → Type 0) (holds : List (Event N) → Type 0)
@@ -78,8 +78,8 @@ pub fresh_later : {N : Type 0} (n : HeapNumbers) (may : List (Event N) → Event
 fresh_later {N} n may holds keeps fits moves_linked agent id node seen more h there giver unnamed unlinked later =
     let P : List (Event N) → Type 0 = λ es. holds es × (slice_get (run_heap n es).nodes id ≡ Some node) in
     let r : P (seen ++ more) =
-      stays_others may agent P (λ es e p m other. (
-        keeps es e p.0 m,
-        rw (run_heap-snoc n es e) (fresh_after (run_heap n es) agent e.agent id e.act node other (fits es e p.0 m) (moves_linked es e p.0 m) p.1 giver unnamed unlinked),
-      )) seen more (h, there) later in
+    stays_others may agent P (λ es e p m other. (
+      keeps es e p.0 m,
+      rw (run_heap-snoc n es e) (fresh_after (run_heap n es) agent e.agent id e.act node other (fits es e p.0 m) (moves_linked es e p.0 m) p.1 giver unnamed unlinked),
+    )) seen more (h, there) later in
     r.1

@@ -1,7 +1,6 @@
 -- A once linked node is known to every agent.
 use Rattle.std.proofs.Common.{Bool, List, [], false, inl, inr, sym, true, ℕ, ◌∙◌, ◌∷◌, ◌≡◌, ◌⊎◌, refl}
 use Rattle.std.specs.Prelude.{◌||◌}
-use Rattle.std.specs.List.{slice_get}
 use Rattle.orc_heap.proofs.Told.{linked_told, named_told}
 use Rattle.orc_heap.specs.Acts.{IsKnown}
 use Rattle.orc_heap.specs.Allowed.{IsLinkedNode}
@@ -35,7 +34,7 @@ named_where_linked : {N : Type 0} (es : List (Event N)) (id : ℕ) → is_once_l
 named_where_linked [] id l = l
 named_where_linked (e ∷ es) id l =
     elim (either_true (moves_to e.act id) (is_once_linked es id) l) [
-      inl here ↦ left_true (points_to e.act id) (is_once_named es id) (points_where_moves e.act id here)
+      | inl here ↦ left_true (points_to e.act id) (is_once_named es id) (points_where_moves e.act id here)
       | inr later ↦ right_true (points_to e.act id) (is_once_named es id) (named_where_linked es id later)
     ]
 

@@ -1,23 +1,20 @@
 -- One event more: entries, Puts and Begins of a list of events.
-use Rattle.std.proofs.Common.{Bool, Contains, List, None, Option, Some, [], ap, append-nil, append_assoc, arith, drop, false, inl, inr, refl, suc, sym, true, zero, ℕ, ◌++◌, ◌+◌, ◌∙◌, ◌∷◌, ◌≡◌, ◌⊎◌}
+use Rattle.std.proofs.Common.{Bool, Contains, List, Some, [], ap, append-nil, append_assoc, arith, false, inl, inr, refl, suc, sym, true, zero, ℕ, ◌++◌, ◌+◌, ◌∙◌, ◌∷◌, ◌≡◌, ◌⊎◌}
 use Rattle.std.proofs.lemmas.List.Elements.{Contains-append_cases, Contains-append_right}
 use Rattle.std.proofs.lemmas.List.Folds.{list_any-append}
-use Rattle.std.specs.List.{list_any}
 use Rattle.std.specs.Prelude.{◌&&◌, ◌||◌}
-use Rattle.orc_heap.specs.declared.events.Act.{Act}
 use Rattle.orc_heap.specs.declared.events.Act.TheVariants.{Move}
 use Rattle.orc_heap.specs.declared.events.Event.{Event}
 use Rattle.orc_heap.specs.declared.events.Link.{Link}
 use Rattle.orc_heap.specs.declared.events.Place.{Place}
 use Rattle.orc_history.specs.Journals.{Every}
-use Rattle.orc_history.specs.QueueHistory.{puts_in, waiting_after}
+use Rattle.orc_history.specs.QueueHistory.{puts_in}
 use Rattle.orc_history.specs.declared.queue.QueueEntry.{QueueEntry}
 use Rattle.orc_history.specs.declared.queue.QueueEntry.TheVariants.{Put}
-use Rattle.orc_history.proofs.Histories.{puts_in-append, waiting_after-snoc}
+use Rattle.orc_history.proofs.Histories.{puts_in-append}
 use Rattle.orc_fifo_rule.specs.declared.fifo.FifoNote.{FifoNote}
 use Rattle.orc_fifo_rule.specs.declared.fifo.FifoNote.TheVariants.{Entry}
 use Rattle.orc_fifo_rule.specs.QueueDiscipline.{IsPutNode, entries_in, entries_of, has_begun, is_begin_of, link_to, root_has_begun}
-use Rattle.orc_fifo_rule.specs.Kept.Nodes.{put_grown}
 
 pub entries_of-append : (es fs : List (Event FifoNote)) → entries_of (es ++ fs) ≡ entries_of es ++ entries_of fs
 entries_of-append [] fs = refl
@@ -49,10 +46,10 @@ pub put_before : (es : List (Event FifoNote)) (e : Event FifoNote) (id job at : 
     → IsPutNode es id job at ⊎ ((by : ℕ) × (place : Place) × (from : Link) × (e.act ≡ Move place from (link_to id)) × (e.note ≡ Some (Entry (Put by job at))))
 put_before es e id job at p =
     elim (Contains-append_cases es (e ∷ []) p.event p.among) [
-      inl old ↦ inl (record { event = p.event; by = p.by; place = p.place; from = p.from; among = old; act_is = p.act_is; note_is = p.note_is })
+      | inl old ↦ inl (record { event = p.event; by = p.by; place = p.place; from = p.from; among = old; act_is = p.act_is; note_is = p.note_is })
       | inr new ↦
-        let same = contains_one e p.event new in
-        inr (p.by, p.place, p.from, ap (λ (x : Event FifoNote). x.act) same ∙ p.act_is, ap (λ (x : Event FifoNote). x.note) same ∙ p.note_is)
+          let same = contains_one e p.event new in
+          inr (p.by, p.place, p.from, ap (λ (x : Event FifoNote). x.act) same ∙ p.act_is, ap (λ (x : Event FifoNote). x.note) same ∙ p.note_is)
     ]
 
 pub put_last : (es : List (Event FifoNote)) (e : Event FifoNote) (id by job at : ℕ) (place : Place) (from : Link) → e.act ≡ Move place from (link_to id) → e.note ≡ Some (Entry (Put by job at))
@@ -93,7 +90,7 @@ pub root_begun_before : (root : ℕ) (es : List (Event FifoNote)) (e : Event Fif
     → (root_has_begun root es ≡ true) ⊎ (is_begin_of root e.act e.note ≡ true)
 root_begun_before root es e b =
     elim (or_either _ _ (sym (list_any-append (λ (x : Event FifoNote). is_begin_of root x.act x.note) es (e ∷ [])) ∙ b)) [
-      inl old ↦ inl old
+      | inl old ↦ inl old
       | inr new ↦ inr (elim (or_either (is_begin_of root e.act e.note) false new) [ inl is ↦ is | inr none ↦ cc ])
     ]
 

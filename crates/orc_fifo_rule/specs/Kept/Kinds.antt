@@ -1,11 +1,11 @@
 -- The kinds of events that the discipline allows, one by one, and what each does to roots and links.
-use Rattle.std.proofs.Common.{Bool, List, Option, Some, None, [], ap, cond, false, inl, inr, refl, suc, sym, true, zero, ℕ, ◌==◌, ◌∙◌, ◌∷◌, ◌≡◌, ◌≢◌, ◌⊎◌}
+use Rattle.std.proofs.Common.{Bool, List, Option, Some, None, ap, false, inl, inr, refl, true, ℕ, ◌==◌, ◌∙◌, ◌≡◌, ◌≢◌, ◌⊎◌}
 use Rattle.std.proofs.lemmas.Bool.{eqb-false, eqb-true}
 use Rattle.std.specs.List.{slice_get}
 use Rattle.std.specs.Prelude.{if◌then◌else◌}
 use Rattle.orc_heap.proofs.Changes.{get-change, get-change_other, get-change_same}
-use Rattle.orc_heap.specs.Acts.{Fits, as_linked, change_target, heap_after, moved_link, set_link}
-use Rattle.orc_heap.specs.Heap.{Heap, Node, change, null, shown}
+use Rattle.orc_heap.specs.Acts.{as_linked, change_target, heap_after, moved_link, set_link}
+use Rattle.orc_heap.specs.Heap.{Heap, Node, null, shown}
 use Rattle.orc_heap.specs.Journals.{IsPlainAct, moves_to, points_to}
 use Rattle.orc_heap.specs.declared.events.Act.{Act}
 use Rattle.orc_heap.specs.declared.events.Act.TheVariants.{Aim, Fill, Give, Look, Miss, Move}
@@ -14,7 +14,7 @@ use Rattle.orc_heap.specs.declared.events.Place.TheVariants.{Next, Root}
 use Rattle.orc_history.specs.declared.queue.QueueEntry.TheVariants.{Empty, Put, Took}
 use Rattle.orc_fifo_rule.specs.declared.fifo.FifoNote.{FifoNote}
 use Rattle.orc_fifo_rule.specs.declared.fifo.FifoNote.TheVariants.{Begin, Entry, Swing}
-use Rattle.orc_fifo_rule.specs.QueueDiscipline.{HasLink, MayAct, MayBegin, MayEmpty, MayPut, MaySwing, MayTake, link_to}
+use Rattle.orc_fifo_rule.specs.QueueDiscipline.{MayAct, MayBegin, MayEmpty, MayPut, MaySwing, MayTake, link_to}
 
 pub null_to : (n : ℕ) → null ≡ link_to n → ⊥
 null_to n e = let o : None ≡ Some n = ap (λ (x : Link). x.to) e in cc

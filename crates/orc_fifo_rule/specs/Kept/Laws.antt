@@ -1,11 +1,10 @@
 -- What the discipline owes to the traits of disciplines.
-use Rattle.std.proofs.Common.{Bool, List, None, Option, Some, [], ap, append-nil, arith, false, inl, inr, length, refl, subst, suc, sym, true, zero, ℕ, ◌++◌, ◌+◌, ◌<◌, ◌∙◌, ◌∷◌, ◌≡◌, ◌≢◌, ◌⊎◌}
-use Rattle.std.specs.List.{slice_get}
+use Rattle.std.proofs.Common.{Bool, List, None, Option, Some, [], ap, arith, false, inl, inr, refl, subst, sym, true, ℕ, ◌++◌, ◌∙◌, ◌∷◌, ◌≡◌}
 use Rattle.orc_heap.proofs.Runs.{lawful-snoc, run_heap-snoc}
-use Rattle.orc_heap.specs.Acts.{Fits, as_linked, heap_after, set_link}
+use Rattle.orc_heap.specs.Acts.{as_linked, heap_after, set_link}
 use Rattle.orc_heap.specs.Allowed.{IsLinkedNode, MovesLinked, Rises}
-use Rattle.orc_heap.specs.Heap.{Heap, HeapNumbers, Node, null, shown}
-use Rattle.orc_heap.specs.Journals.{FitsAfter, IsLawful, IsPlain, IsPlainAct, run_heap}
+use Rattle.orc_heap.specs.Heap.{Heap, HeapNumbers, null}
+use Rattle.orc_heap.specs.Journals.{FitsAfter, IsPlain, IsPlainAct, run_heap}
 use Rattle.orc_heap.specs.declared.events.Act.{Act}
 use Rattle.orc_heap.specs.declared.events.Act.TheVariants.{Aim, Fill, Give, Look, Miss, Move}
 use Rattle.orc_heap.specs.declared.events.Event.{Event}
@@ -13,15 +12,14 @@ use Rattle.orc_heap.specs.declared.events.Link.{Link}
 use Rattle.orc_heap.specs.declared.events.Place.TheVariants.{Next, Root}
 use Rattle.orc_history.specs.Journals.{Every}
 use Rattle.orc_history.specs.QueueHistory.{IsLegalQueue, waiting_after}
-use Rattle.orc_history.specs.declared.queue.QueueEntry.TheVariants.{Empty, Put, Took}
 use Rattle.orc_fifo_rule.specs.declared.fifo.FifoNote.{FifoNote}
-use Rattle.orc_fifo_rule.specs.declared.fifo.FifoNote.TheVariants.{Begin, Entry, Swing}
-use Rattle.orc_fifo_rule.specs.QueueDiscipline.{BeginsIfMoves, FifoHolds, FifoMay, HasLink, IsInTime, IsOpening, IsRunning, LeadsOn, MayAct, MayEnter, entries_of, fifo_rank, has_begun, is_begin_of, link_to, position_of, root_has_begun}
+use Rattle.orc_fifo_rule.specs.declared.fifo.FifoNote.TheVariants.{Begin}
+use Rattle.orc_fifo_rule.specs.QueueDiscipline.{BeginsIfMoves, FifoHolds, FifoMay, IsInTime, IsOpening, IsRunning, LeadsOn, MayAct, MayEnter, entries_of, fifo_rank, has_begun, is_begin_of, position_of}
 use Rattle.orc_fifo_rule.specs.Watches.{event_of}
-use Rattle.orc_fifo_rule.specs.Kept.Kinds.{each_kind, link_same, null_to, some_same}
-use Rattle.orc_fifo_rule.specs.Kept.Nodes.{job_linked, job_position, linked_node}
+use Rattle.orc_fifo_rule.specs.Kept.Kinds.{each_kind, link_same, some_same}
+use Rattle.orc_fifo_rule.specs.Kept.Nodes.{job_linked, job_position}
 use Rattle.orc_fifo_rule.specs.Kept.Events.{and_both, entries_same, every_more, not_begun_before, root_begun_before}
-use Rattle.orc_fifo_rule.specs.Kept.Opening.{begun_root, no_puts, only_zero}
+use Rattle.orc_fifo_rule.specs.Kept.Opening.{begun_root, no_puts}
 use Rattle.orc_fifo_rule.specs.Kept.Paths.{shown_node, tail_linked}
 use Rattle.orc_fifo_rule.specs.Kept.Parts.{frozen_next, legal_next, links_next, puts_next, target_at}
 use Rattle.orc_fifo_rule.specs.Kept.Running.{running_next}
@@ -48,15 +46,15 @@ plain_moves_linked (Miss place wanted found) h p = tt
 pub fifo_moves_linked : (n : HeapNumbers) (seen : List (Event FifoNote)) (e : Event FifoNote) → FifoHolds n seen → FifoMay n seen e → MovesLinked e.act (run_heap n seen)
 fifo_moves_linked n seen e holds may =
     each_kind (run_heap n seen) (λ act noted. IsInTime (has_begun seen) noted → MovesLinked act (run_heap n seen))
-      (λ act plain time. plain_moves_linked act (run_heap n seen) plain)
-      (λ r from to m time. tt)
-      (λ r from to m time. tt)
-      (λ r from to by job at m time. tt)
-      (λ t from to by job at m time.
-        let run = holds.running time in
-        subst (λ (x : ℕ). IsLinkedNode (run_heap n seen) x) (link_same run.tail t (some_same (sym run.tail_is ∙ m.tail_is))) (tail_linked (run_heap n seen) seen run))
-      (λ d link by m time. tt)
-      e.act e.note may.may_act may.in_time
+    (λ act plain time. plain_moves_linked act (run_heap n seen) plain)
+    (λ r from to m time. tt)
+    (λ r from to m time. tt)
+    (λ r from to by job at m time. tt)
+    (λ t from to by job at m time.
+    let run = holds.running time in
+    subst (λ (x : ℕ). IsLinkedNode (run_heap n seen) x) (link_same run.tail t (some_same (sym run.tail_is ∙ m.tail_is))) (tail_linked (run_heap n seen) seen run))
+    (λ d link by m time. tt)
+    e.act e.note may.may_act may.in_time
 
 -- in the opening
 
@@ -86,17 +84,17 @@ opening_entries : (n : HeapNumbers) (es : List (Event FifoNote)) (e : Event Fifo
 opening_entries n es e holds may early =
     let o = holds.opening early in
     each_kind (run_heap n es)
-      (λ act noted. IsInTime (has_begun es) noted → (entries_of (es ++ event_of e.agent act noted ∷ []) ≡ []) × Every (λ (x : Event FifoNote). BeginsIfMoves x.act x.note) (es ++ event_of e.agent act noted ∷ []))
-      (λ act plain time. (entries_same es (event_of e.agent act None) refl ∙ o.none, every_more (λ (x : Event FifoNote). BeginsIfMoves x.act x.note) es (event_of e.agent act None) o.begins (plain_begins act plain)))
-      (λ r from to m time. (
-        entries_same es (event_of e.agent (Move (Root r) from to) (Some Begin)) refl ∙ o.none,
-        every_more (λ (x : Event FifoNote). BeginsIfMoves x.act x.note) es (event_of e.agent (Move (Root r) from to) (Some Begin)) o.begins (m.root_is, m.from_is, m.to_is, refl),
-      ))
-      (λ r from to m time. absurd (late (has_begun es) early time))
-      (λ r from to by job at m time. absurd (late (has_begun es) early time))
-      (λ t from to by job at m time. absurd (late (has_begun es) early time))
-      (λ d link by m time. absurd (late (has_begun es) early time))
-      e.act e.note may.may_act may.in_time
+    (λ act noted. IsInTime (has_begun es) noted → (entries_of (es ++ event_of e.agent act noted ∷ []) ≡ []) × Every (λ (x : Event FifoNote). BeginsIfMoves x.act x.note) (es ++ event_of e.agent act noted ∷ []))
+    (λ act plain time. (entries_same es (event_of e.agent act None) refl ∙ o.none, every_more (λ (x : Event FifoNote). BeginsIfMoves x.act x.note) es (event_of e.agent act None) o.begins (plain_begins act plain)))
+    (λ r from to m time. (
+      entries_same es (event_of e.agent (Move (Root r) from to) (Some Begin)) refl ∙ o.none,
+      every_more (λ (x : Event FifoNote). BeginsIfMoves x.act x.note) es (event_of e.agent (Move (Root r) from to) (Some Begin)) o.begins (m.root_is, m.from_is, m.to_is, refl),
+    ))
+    (λ r from to m time. absurd (late (has_begun es) early time))
+    (λ r from to by job at m time. absurd (late (has_begun es) early time))
+    (λ t from to by job at m time. absurd (late (has_begun es) early time))
+    (λ d link by m time. absurd (late (has_begun es) early time))
+    e.act e.note may.may_act may.in_time
 
 -- once there is no entry, links are null
 no_links : (n : HeapNumbers) (es : List (Event FifoNote)) (position : ℕ) (link : Link) → entries_of es ≡ [] → LeadsOn es position link → link ≡ null
@@ -110,7 +108,7 @@ opening_next n es e holds may early =
       none = none;
       begins = begins;
       zero_ends = λ node there linked.
-        no_links n (es ++ e ∷ []) _ node.link none (links_next n es e 0 node.link holds may (record { node = node; there = there; linked = linked; link_is = refl }));
+          no_links n (es ++ e ∷ []) _ node.link none (links_next n es e 0 node.link holds may (record { node = node; there = there; linked = linked; link_is = refl }));
     }
 
 -- the last Begin
@@ -120,28 +118,28 @@ begun_zero : (n : HeapNumbers) (es : List (Event FifoNote)) (e : Event FifoNote)
 begun_zero n es e holds may early now =
     let h : Heap = run_heap n es in
     each_kind h
-      (λ act noted. IsInTime (has_begun es) noted → has_begun (es ++ event_of e.agent act noted ∷ []) ≡ true → IsLinkedNode (run_heap n (es ++ event_of e.agent act noted ∷ [])) 0)
-      (λ act plain time is.
-        let (zero_begun, one_begun) = and_both _ _ is in
-        let x : Event FifoNote = event_of e.agent act None in
-        elim (root_begun_before 0 es x zero_begun) [
-          inl a ↦ elim (root_begun_before 1 es x one_begun) [
-            inl b ↦ absurd (late (has_begun es) early (rw (a, b) refl))
-            | inr b ↦ absurd (plain_is_no_begin 1 act b)
-          ]
-          | inr a ↦ absurd (plain_is_no_begin 0 act a)
-        ])
-      (λ r from to m time is.
-        let (node, there, link_is) = shown_node h 0 null m.ends in
-        let x : Event FifoNote = event_of e.agent (Move (Root r) from to) (Some Begin) in
-        let linked : IsLinkedNode (heap_after e.agent (Move (Root r) from to) h) 0 =
-          record { node = as_linked node; there = target_at as_linked to 0 (set_link (Root r) to h) node m.to_is there; linked = refl } in
-        subst (λ (g : Heap). IsLinkedNode g 0) (sym (run_heap-snoc n es x)) linked)
-      (λ r from to m time is. absurd (late (has_begun es) early time))
-      (λ r from to by job at m time is. absurd (late (has_begun es) early time))
-      (λ t from to by job at m time is. absurd (late (has_begun es) early time))
-      (λ d link by m time is. absurd (late (has_begun es) early time))
-      e.act e.note may.may_act may.in_time now
+    (λ act noted. IsInTime (has_begun es) noted → has_begun (es ++ event_of e.agent act noted ∷ []) ≡ true → IsLinkedNode (run_heap n (es ++ event_of e.agent act noted ∷ [])) 0)
+    (λ act plain time is.
+    let (zero_begun, one_begun) = and_both _ _ is in
+    let x : Event FifoNote = event_of e.agent act None in
+    elim (root_begun_before 0 es x zero_begun) [
+      | inl a ↦ elim (root_begun_before 1 es x one_begun) [
+        | inl b ↦ absurd (late (has_begun es) early (rw (a, b) refl))
+        | inr b ↦ absurd (plain_is_no_begin 1 act b)
+      ]
+      | inr a ↦ absurd (plain_is_no_begin 0 act a)
+    ])
+    (λ r from to m time is.
+    let (node, there, link_is) = shown_node h 0 null m.ends in
+    let x : Event FifoNote = event_of e.agent (Move (Root r) from to) (Some Begin) in
+    let linked : IsLinkedNode (heap_after e.agent (Move (Root r) from to) h) 0 =
+    record { node = as_linked node; there = target_at as_linked to 0 (set_link (Root r) to h) node m.to_is there; linked = refl } in
+    subst (λ (g : Heap). IsLinkedNode g 0) (sym (run_heap-snoc n es x)) linked)
+    (λ r from to m time is. absurd (late (has_begun es) early time))
+    (λ r from to by job at m time is. absurd (late (has_begun es) early time))
+    (λ t from to by job at m time is. absurd (late (has_begun es) early time))
+    (λ d link by m time is. absurd (late (has_begun es) early time))
+    e.act e.note may.may_act may.in_time now
 
 first_running : (n : HeapNumbers) (es : List (Event FifoNote)) (e : Event FifoNote) → FifoHolds n es → FifoMay n es e → has_begun es ≡ false → has_begun (es ++ e ∷ []) ≡ true
     → IsRunning (run_heap n (es ++ e ∷ [])) (es ++ e ∷ [])
@@ -195,9 +193,9 @@ pub fifo_rises : (n : HeapNumbers) (seen : List (Event FifoNote)) → FifoHolds 
 fifo_rises n seen holds = λ id node there linked.
     let h : Heap = run_heap n seen in
     elim (holds.links id node.link (record { node = node; there = there; linked = linked; link_is = refl })) [
-      inl none ↦ inl (ap (λ (l : Link). l.to) none)
+      | inl none ↦ inl (ap (λ (l : Link). l.to) none)
       | inr leads ↦
-        let (next, job, is, put) = leads in
-        let has = holds.puts next job (position_of h id) put in
-        inr (next, ap (λ (l : Link). l.to) is, job_linked h next job (position_of h id) has, omega (arith, job_position h next job (position_of h id) has))
+          let (next, job, is, put) = leads in
+          let has = holds.puts next job (position_of h id) put in
+          inr (next, ap (λ (l : Link). l.to) is, job_linked h next job (position_of h id) has, omega (arith, job_position h next job (position_of h id) has))
     ]

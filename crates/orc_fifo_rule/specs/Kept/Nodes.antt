@@ -1,23 +1,23 @@
 -- What an allowed event leaves of once linked nodes, their links and the nodes of Puts.
-use Rattle.std.proofs.Common.{Contains, List, Option, Some, [], ap, inl, inr, refl, subst, sym, true, ℕ, ◌++◌, ◌+◌, ◌∙◌, ◌∷◌, ◌≡◌, ◌≢◌, ◌⊎◌}
+use Rattle.std.proofs.Common.{List, Option, Some, [], ap, inl, inr, refl, subst, sym, true, ℕ, ◌++◌, ◌+◌, ◌∙◌, ◌∷◌, ◌≡◌, ◌≢◌, ◌⊎◌}
 use Rattle.std.proofs.lemmas.List.Elements.{Contains-append_left}
 use Rattle.std.specs.List.{slice_get}
 use Rattle.std.specs.Prelude.{unwrap_or}
 use Rattle.orc_heap.proofs.Linked.{linked_after}
 use Rattle.orc_heap.proofs.Runs.{run_heap-snoc}
-use Rattle.orc_heap.specs.Acts.{Fits, StaysLinked, heap_after, moved_link}
+use Rattle.orc_heap.specs.Acts.{Fits, StaysLinked, moved_link}
 use Rattle.orc_heap.specs.Allowed.{IsLinkedNode}
 use Rattle.orc_heap.specs.Heap.{Heap, HeapNumbers, Node, null, shown}
 use Rattle.orc_heap.specs.Journals.{run_heap}
 use Rattle.orc_heap.specs.declared.events.Act.{Act}
-use Rattle.orc_heap.specs.declared.events.Act.TheVariants.{Look, Move}
+use Rattle.orc_heap.specs.declared.events.Act.TheVariants.{Move}
 use Rattle.orc_heap.specs.declared.events.Event.{Event}
 use Rattle.orc_heap.specs.declared.events.Link.{Link}
-use Rattle.orc_heap.specs.declared.events.Place.TheVariants.{Next, Root}
+use Rattle.orc_heap.specs.declared.events.Place.TheVariants.{Next}
 use Rattle.orc_history.specs.declared.queue.QueueEntry.TheVariants.{Put}
 use Rattle.orc_fifo_rule.specs.declared.fifo.FifoNote.{FifoNote}
 use Rattle.orc_fifo_rule.specs.declared.fifo.FifoNote.TheVariants.{Entry}
-use Rattle.orc_fifo_rule.specs.QueueDiscipline.{FifoMay, HasJob, HasLink, IsPath, IsPutNode, MayAct, MayPut, link_to, position_in, position_of}
+use Rattle.orc_fifo_rule.specs.QueueDiscipline.{FifoMay, HasJob, HasLink, IsPath, IsPutNode, MayAct, MayPut, link_to, position_of}
 use Rattle.orc_fifo_rule.specs.Kept.Kinds.{each_kind, link_moved, null_to, plain_link, some_same}
 
 -- the link that a place shows is that of its node
@@ -51,28 +51,32 @@ pub link_kept : (h : Heap) (agent : ℕ) (act : Act) (noted : Option FifoNote) (
     → (moved_link act d link ≡ link) ⊎ ((p : PutsAt h act noted d) × (link ≡ null) × (moved_link act d link ≡ link_to p.may.id))
 link_kept h agent act noted d link may =
     each_kind h (λ act noted. Fits agent act h → shown h (Next d) ≡ Some link → (moved_link act d link ≡ link) ⊎ ((p : PutsAt h act noted d) × (link ≡ null) × (moved_link act d link ≡ link_to p.may.id)))
-      (λ act plain fits at. inl (plain_link act d link plain))
-      (λ r from to m fits at. inl refl)
-      (λ r from to m fits at. inl refl)
-      (λ r from to by job place m fits at. inl refl)
-      (λ t from to by job place m fits at. elim (link_moved t d from to link) [
-        inl c ↦
+    (λ act plain fits at. inl (plain_link act d link plain))
+    (λ r from to m fits at. inl refl)
+    (λ r from to m fits at. inl refl)
+    (λ r from to by job place m fits at. inl refl)
+    (λ t from to by job place m fits at. elim (link_moved t d from to link) [
+      | inl c ↦
           let here : shown h (Next t) ≡ Some link = subst (λ (x : ℕ). shown h (Next x) ≡ Some link) (sym c.0) at in
           let link_is : link ≡ null = some_same (sym here ∙ fits.0) ∙ m.from_is in
-          inr (record {
-            from = from;
-            to = to;
-            by = by;
-            job = job;
-            at = place;
-            act_is = ap (λ (x : ℕ). Move (Next x) from to) c.0;
-            note_is = refl;
-            may = subst (λ (x : ℕ). MayPut h x from to job place) c.0 m;
-          }, link_is, c.1 ∙ m.to_is)
-        | inr c ↦ inl c.1
-      ])
-      (λ x l by m fits at. inl refl)
-      act noted may
+          inr (
+            record {
+              from = from;
+              to = to;
+              by = by;
+              job = job;
+              at = place;
+              act_is = ap (λ (x : ℕ). Move (Next x) from to) c.0;
+              note_is = refl;
+              may = subst (λ (x : ℕ). MayPut h x from to job place) c.0 m;
+            },
+            link_is,
+            c.1 ∙ m.to_is,
+          )
+      | inr c ↦ inl c.1
+    ])
+    (λ x l by m fits at. inl refl)
+    act noted may
 
 -- an allowed event, with the heaps before and after it
 pub stays_linked : (n : HeapNumbers) (es : List (Event FifoNote)) (e : Event FifoNote) (d : ℕ) (old : Node) → FifoMay n es e → slice_get (run_heap n es).nodes d ≡ Some old → old.linked ≡ true
@@ -102,7 +106,7 @@ pub null_next : (n : HeapNumbers) (es : List (Event FifoNote)) (e : Event FifoNo
 null_next n es e d may l =
     let next = link_next n es e d null may l in
     elim (link_kept (run_heap n es) e.agent e.act e.note d null may.may_act may.fits (shown_link (run_heap n es) d null l)) [
-      inl same ↦ inl (subst (λ (x : Link). HasLink (run_heap n (es ++ e ∷ [])) d x) same next)
+      | inl same ↦ inl (subst (λ (x : Link). HasLink (run_heap n (es ++ e ∷ [])) d x) same next)
       | inr p ↦ inr (p.0, subst (λ (x : Link). HasLink (run_heap n (es ++ e ∷ [])) d x) p.2 next)
     ]
 
@@ -111,7 +115,7 @@ pub some_next : (n : HeapNumbers) (es : List (Event FifoNote)) (e : Event FifoNo
 some_next n es e d link may some l =
     let next = link_next n es e d link may l in
     elim (link_kept (run_heap n es) e.agent e.act e.note d link may.may_act may.fits (shown_link (run_heap n es) d link l)) [
-      inl same ↦ subst (λ (x : Link). HasLink (run_heap n (es ++ e ∷ [])) d x) same next
+      | inl same ↦ subst (λ (x : Link). HasLink (run_heap n (es ++ e ∷ [])) d x) same next
       | inr p ↦ absurd (some p.1)
     ]
 

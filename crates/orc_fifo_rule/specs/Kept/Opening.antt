@@ -1,11 +1,10 @@
 -- The queue before both roots have begun.
-use Rattle.std.proofs.Common.{Bool, Contains, List, None, Option, Some, [], ap, arith, false, inl, inr, refl, subst, suc, sym, true, zero, ℕ, ◌++◌, ◌<◌, ◌==◌, ◌∙◌, ◌∷◌, ◌≡◌, ◌≢◌, ◌⊎◌}
+use Rattle.std.proofs.Common.{Contains, List, None, Option, Some, [], ap, arith, inl, inr, refl, subst, suc, sym, true, zero, ℕ, ◌++◌, ◌∙◌, ◌∷◌, ◌≡◌}
 use Rattle.std.proofs.lemmas.Bool.{eqb-true}
-use Rattle.std.specs.List.{list_any, slice_get}
-use Rattle.std.specs.Prelude.{◌||◌}
+use Rattle.std.specs.List.{slice_get}
 use Rattle.orc_heap.proofs.Told.{linked_told}
 use Rattle.orc_heap.specs.Acts.{Fits, heap_after}
-use Rattle.orc_heap.specs.Heap.{Heap, HeapNumbers, Node, new_heap, null, shown}
+use Rattle.orc_heap.specs.Heap.{Heap, HeapNumbers, Node, new_heap, shown}
 use Rattle.orc_heap.specs.Journals.{IsLawful, IsLawfulFrom, is_once_linked, moves_to, names_node, run_from, run_heap}
 use Rattle.orc_heap.specs.declared.events.Act.{Act}
 use Rattle.orc_heap.specs.declared.events.Act.TheVariants.{Aim, Fill, Give, Look, Miss, Move}
@@ -18,7 +17,7 @@ use Rattle.orc_fifo_rule.specs.declared.fifo.FifoNote.{FifoNote}
 use Rattle.orc_fifo_rule.specs.declared.fifo.FifoNote.TheVariants.{Begin, Entry, Swing}
 use Rattle.orc_fifo_rule.specs.QueueDiscipline.{BeginsIfMoves, IsPutNode, entries_in, entries_of, is_begin_of, link_to, root_has_begun}
 use Rattle.orc_fifo_rule.specs.Kept.Events.{or_either}
-use Rattle.orc_fifo_rule.specs.Kept.Kinds.{root_either, root_moved, root_next, some_same}
+use Rattle.orc_fifo_rule.specs.Kept.Kinds.{root_either, root_moved}
 
 abbrev AllBegin : List (Event FifoNote) → Type 0
 AllBegin es = Every (λ (e : Event FifoNote). BeginsIfMoves e.act e.note) es
@@ -61,7 +60,7 @@ begun_from : (h : Heap) (es : List (Event FifoNote)) (r : ℕ) → AllBegin es �
 begun_from h [] r all lawful b = cc
 begun_from h (e ∷ es) r all lawful b =
     elim (or_either (is_begin_of r e.act e.note) (root_has_begun r es) b) [
-      inl is ↦ still_from (heap_after e.agent e.act h) es r all.1 (begin_zero e.agent e.act e.note h r all.0 lawful.0 is)
+      | inl is ↦ still_from (heap_after e.agent e.act h) es r all.1 (begin_zero e.agent e.act e.note h r all.0 lawful.0 is)
       | inr later ↦ begun_from (heap_after e.agent e.act h) es r all.1 lawful.1 later
     ]
 
@@ -82,7 +81,7 @@ linked_zero : (es : List (Event FifoNote)) (id : ℕ) → AllBegin es → is_onc
 linked_zero [] id all l = cc
 linked_zero (e ∷ es) id all l =
     elim (or_either (moves_to e.act id) (is_once_linked es id) l) [
-      inl is ↦ begin_target e.act e.note id all.0 is
+      | inl is ↦ begin_target e.act e.note id all.0 is
       | inr later ↦ linked_zero es id all.1 later
     ]
 

@@ -1,5 +1,5 @@
 -- What an allowed event leaves of the history, of the nodes of Puts, and of where links lead.
-use Rattle.std.proofs.Common.{List, None, Option, Some, [], ap, append-nil, arith, drop, false, inl, inr, refl, subst, sym, true, ℕ, ◌++◌, ◌+◌, ◌∙◌, ◌∷◌, ◌≡◌, ◌≢◌, ◌⊎◌}
+use Rattle.std.proofs.Common.{List, None, Option, Some, [], ap, append-nil, arith, false, inl, inr, refl, subst, sym, true, ℕ, ◌++◌, ◌+◌, ◌∙◌, ◌∷◌, ◌≡◌, ◌≢◌, ◌⊎◌}
 use Rattle.std.proofs.lemmas.Bool.{eqb-true}
 use Rattle.std.specs.List.{slice_get}
 use Rattle.orc_heap.proofs.Before.{IsLinkedBy, linked_before}
@@ -9,22 +9,20 @@ use Rattle.orc_heap.specs.Acts.{Fits, as_linked, change_node, change_target, hea
 use Rattle.orc_heap.specs.Allowed.{IsLinkedNode}
 use Rattle.orc_heap.specs.Heap.{Heap, HeapNumbers, Node, null, shown}
 use Rattle.orc_heap.specs.Journals.{names_node, run_heap}
-use Rattle.orc_heap.specs.declared.events.Act.{Act}
-use Rattle.orc_heap.specs.declared.events.Act.TheVariants.{Look, Move}
+use Rattle.orc_heap.specs.declared.events.Act.TheVariants.{Move}
 use Rattle.orc_heap.specs.declared.events.Event.{Event}
 use Rattle.orc_heap.specs.declared.events.Link.{Link}
-use Rattle.orc_heap.specs.declared.events.Place.{Place}
 use Rattle.orc_heap.specs.declared.events.Place.TheVariants.{Next, Root}
 use Rattle.orc_history.specs.QueueHistory.{IsLegalFrom, IsLegalQueue, puts_in}
 use Rattle.orc_history.specs.declared.queue.QueueEntry.{QueueEntry}
 use Rattle.orc_history.specs.declared.queue.QueueEntry.TheVariants.{Empty, Put, Took}
 use Rattle.orc_fifo_rule.specs.declared.fifo.FifoNote.{FifoNote}
 use Rattle.orc_fifo_rule.specs.declared.fifo.FifoNote.TheVariants.{Begin, Entry, Swing}
-use Rattle.orc_fifo_rule.specs.QueueDiscipline.{FifoHolds, FifoMay, HasJob, HasLink, HoldsJob, IsInTime, IsPutNode, IsRunning, LeadsOn, MayEnter, MayPut, entries_in, entries_of, has_begun, link_to, position_of}
+use Rattle.orc_fifo_rule.specs.QueueDiscipline.{FifoHolds, FifoMay, HasJob, HasLink, IsInTime, IsPutNode, IsRunning, LeadsOn, MayEnter, MayPut, entries_in, entries_of, has_begun, link_to, position_of}
 use Rattle.orc_fifo_rule.specs.Watches.{event_of}
-use Rattle.orc_fifo_rule.specs.Kept.Kinds.{each_kind, link_moved, link_same, null_to, plain_moves, some_same}
-use Rattle.orc_fifo_rule.specs.Kept.Nodes.{PutsAt, job_next, link_kept, link_next, link_shown, linked_node, position_next, put_grown, shown_link, some_next}
-use Rattle.orc_fifo_rule.specs.Kept.Events.{entries_more, entries_of-snoc, put_before, put_last}
+use Rattle.orc_fifo_rule.specs.Kept.Kinds.{each_kind, link_moved, link_same, plain_moves, some_same}
+use Rattle.orc_fifo_rule.specs.Kept.Nodes.{job_next, link_kept, link_next, link_shown, position_next, put_grown, shown_link, some_next}
+use Rattle.orc_fifo_rule.specs.Kept.Events.{entries_of-snoc, put_before, put_last}
 use Rattle.orc_fifo_rule.specs.Kept.Paths.{head_steps, put_at_last, successor_linked, tail_linked, tail_steps}
 
 -- the position of a legal Put
@@ -57,7 +55,7 @@ put_position n es e t by job at holds may note_is root none =
     let run = put_runs n es e (Put by job at) holds may note_is in
     let last = put_at_last h es run t root none in
     let enter : MayEnter (position_of h 0) (entries_of es) e.agent (Some (Entry (Put by job at))) =
-      subst (λ (x : Option FifoNote). MayEnter (position_of h 0) (entries_of es) e.agent x) note_is may.may_enter in
+    subst (λ (x : Option FifoNote). MayEnter (position_of h 0) (entries_of es) e.agent x) note_is may.may_enter in
     legal_put (position_of h 0) [] (entries_of es) by job at enter.1 ∙ (sym run.next ∙ ap (λ (x : ℕ). position_of h x) last.2)
 
 -- the target of an act is changed
@@ -103,23 +101,23 @@ pub puts_next : (n : HeapNumbers) (es : List (Event FifoNote)) (e : Event FifoNo
     → HasJob (run_heap n (es ++ e ∷ [])) id job at
 puts_next n es e id job at holds may put =
     elim (put_before es e id job at put) [
-      inl old ↦ job_next n es e id job at may (holds.puts id job at old)
+      | inl old ↦ job_next n es e id job at may (holds.puts id job at old)
       | inr new ↦
-        let (by, place, from, act_is, note_is) = new in
-        each_kind (run_heap n es)
+          let (by, place, from, act_is, note_is) = new in
+          each_kind (run_heap n es)
           (λ act noted. act ≡ Move place from (link_to id) → noted ≡ Some (Entry (Put by job at)) → FifoMay n es (event_of e.agent act noted)
-            → HasJob (run_heap n (es ++ event_of e.agent act noted ∷ [])) id job at)
+          → HasJob (run_heap n (es ++ event_of e.agent act noted ∷ [])) id job at)
           (λ act plain a b m. let bad : ⊥ = cc in absurd bad)
           (λ r x y k a b m. let bad : ⊥ = cc in absurd bad)
           (λ r x y k a b m. let bad : ⊥ = cc in absurd bad)
           (λ r x y z j p k a b m. let bad : ⊥ = cc in absurd bad)
           (λ t x y z j p k a b m.
-            let to_is : y ≡ link_to id = cc in
-            let job_is : j ≡ job = cc in
-            let at_is : p ≡ at = cc in
-            let id_is : m.may_act.id ≡ id = link_same m.may_act.id id (sym m.may_act.to_is ∙ to_is) in
-            let g = run_heap n (es ++ event_of e.agent (Move (Next t) x y) (Some (Entry (Put z j p))) ∷ []) in
-            subst (λ (i : ℕ). HasJob g i job at) id_is (subst (λ (i : ℕ). HasJob g m.may_act.id job i) at_is (subst (λ (i : ℕ). HasJob g m.may_act.id i p) job_is (put_has_job n es e.agent t z j p x y holds m))))
+          let to_is : y ≡ link_to id = cc in
+          let job_is : j ≡ job = cc in
+          let at_is : p ≡ at = cc in
+          let id_is : m.may_act.id ≡ id = link_same m.may_act.id id (sym m.may_act.to_is ∙ to_is) in
+          let g = run_heap n (es ++ event_of e.agent (Move (Next t) x y) (Some (Entry (Put z j p))) ∷ []) in
+          subst (λ (i : ℕ). HasJob g i job at) id_is (subst (λ (i : ℕ). HasJob g m.may_act.id job i) at_is (subst (λ (i : ℕ). HasJob g m.may_act.id i p) job_is (put_has_job n es e.agent t z j p x y holds m))))
           (λ d l z k a b m. let bad : ⊥ = cc in absurd bad)
           e.act e.note may.may_act act_is note_is may
     ]
@@ -132,29 +130,29 @@ first_link : (n : HeapNumbers) (es : List (Event FifoNote)) (e : Event FifoNote)
 first_link n es e id node holds may by =
     let h : Heap = run_heap n es in
     each_kind h (λ act noted. IsInTime (has_begun es) noted → Fits e.agent act h → IsLinkedBy act h id node → node.link ≡ null)
-      (λ act plain time fits b. let bad : true ≡ false = sym b.moves ∙ plain_moves act id plain in cc)
-      (λ r from to m time fits b.
-        let zero_is : 0 ≡ id = names to 0 id m.to_is b.moves in
-        b.link_is ∙ link_shown h id null b.old b.there (subst (λ (x : ℕ). shown h (Next x) ≡ Some null) zero_is m.ends))
-      (λ r from to m time fits b.
-        let step = tail_steps h es (holds.running time) r from to m.steps m.root_is fits.0 in
-        let next_is : m.steps.next ≡ id = names to m.steps.next id m.steps.to_is b.moves in
-        absurd (unlinked_apart h m.steps.next id b.old (successor_linked n es m.steps.id m.steps.next holds step.1) b.there b.unlinked next_is))
-      (λ r from to q job at m time fits b.
-        let step = head_steps h es (holds.running time) r from to m.steps m.root_is fits.0 in
-        let next_is : m.steps.next ≡ id = names to m.steps.next id m.steps.to_is b.moves in
-        absurd (unlinked_apart h m.steps.next id b.old (successor_linked n es m.steps.id m.steps.next holds step.1) b.there b.unlinked next_is))
-      (λ t from to q job at m time fits b.
-        let id_is : m.id ≡ id = names to m.id id m.to_is b.moves in
-        let one : m.node ≡ b.old = some_same (sym m.there ∙ (ap (λ (x : ℕ). slice_get h.nodes x) id_is ∙ b.there)) in
-        let run = holds.running time in
-        let l : IsLinkedNode h t = subst (λ (x : ℕ). IsLinkedNode h x) (link_same run.tail t (some_same (sym run.tail_is ∙ m.tail_is))) (tail_linked h es run) in
-        elim (link_moved t id from to b.old.link) [
-          inl c ↦ absurd (unlinked_apart h t id b.old l b.there b.unlinked c.0)
-          | inr c ↦ b.link_is ∙ (c.1 ∙ (ap (λ (x : Node). x.link) (sym one) ∙ m.ends))
-        ])
-      (λ d l q m time fits b. let bad : false ≡ true = b.moves in cc)
-      e.act e.note may.may_act may.in_time may.fits by
+    (λ act plain time fits b. let bad : true ≡ false = sym b.moves ∙ plain_moves act id plain in cc)
+    (λ r from to m time fits b.
+    let zero_is : 0 ≡ id = names to 0 id m.to_is b.moves in
+    b.link_is ∙ link_shown h id null b.old b.there (subst (λ (x : ℕ). shown h (Next x) ≡ Some null) zero_is m.ends))
+    (λ r from to m time fits b.
+    let step = tail_steps h es (holds.running time) r from to m.steps m.root_is fits.0 in
+    let next_is : m.steps.next ≡ id = names to m.steps.next id m.steps.to_is b.moves in
+    absurd (unlinked_apart h m.steps.next id b.old (successor_linked n es m.steps.id m.steps.next holds step.1) b.there b.unlinked next_is))
+    (λ r from to q job at m time fits b.
+    let step = head_steps h es (holds.running time) r from to m.steps m.root_is fits.0 in
+    let next_is : m.steps.next ≡ id = names to m.steps.next id m.steps.to_is b.moves in
+    absurd (unlinked_apart h m.steps.next id b.old (successor_linked n es m.steps.id m.steps.next holds step.1) b.there b.unlinked next_is))
+    (λ t from to q job at m time fits b.
+    let id_is : m.id ≡ id = names to m.id id m.to_is b.moves in
+    let one : m.node ≡ b.old = some_same (sym m.there ∙ (ap (λ (x : ℕ). slice_get h.nodes x) id_is ∙ b.there)) in
+    let run = holds.running time in
+    let l : IsLinkedNode h t = subst (λ (x : ℕ). IsLinkedNode h x) (link_same run.tail t (some_same (sym run.tail_is ∙ m.tail_is))) (tail_linked h es run) in
+    elim (link_moved t id from to b.old.link) [
+      | inl c ↦ absurd (unlinked_apart h t id b.old l b.there b.unlinked c.0)
+      | inr c ↦ b.link_is ∙ (c.1 ∙ (ap (λ (x : Node). x.link) (sym one) ∙ m.ends))
+    ])
+    (λ d l q m time fits b. let bad : false ≡ true = b.moves in cc)
+    e.act e.note may.may_act may.in_time may.fits by
 
 same_link : (h : Heap) (id : ℕ) (a b : Link) → HasLink h id a → HasLink h id b → a ≡ b
 same_link h id a b x y =
@@ -173,21 +171,21 @@ links_next n es e id link holds may l =
     let k : Heap = run_heap n (es ++ e ∷ []) in
     let there : slice_get (heap_after e.agent e.act h).nodes id ≡ Some l.node = subst (λ (g : Heap). slice_get g.nodes id ≡ Some l.node) (run_heap-snoc n es e) l.there in
     elim (linked_before e.agent e.act h id l.node there l.linked) [
-      inl was ↦
-        let old : HasLink h id was.node.link = record { node = was.node; there = was.there; linked = was.linked; link_is = refl } in
-        let new : link ≡ moved_link e.act id was.node.link = same_link k id link (moved_link e.act id was.node.link) l (link_next n es e id was.node.link may old) in
-        let place : position_of k id ≡ position_of h id = position_next n es e id may was in
-        elim (link_kept h e.agent e.act e.note id was.node.link may.may_act may.fits (shown_link h id was.node.link old)) [
-          inl same ↦
-            subst (λ (x : ℕ). LeadsOn (es ++ e ∷ []) x link) (sym place)
-              (subst (λ (x : Link). LeadsOn (es ++ e ∷ []) (position_of h id) x) (sym (new ∙ same)) (leads_more es (e ∷ []) (position_of h id) was.node.link (holds.links id was.node.link old)))
-          | inr put ↦
-            let (p, none, moved) = put in
-            let at_is : p.at ≡ position_of h id = put_position n es e id p.by p.job p.at holds may p.note_is p.may.tail_is (shown_link h id was.node.link old ∙ ap (λ (x : Link). Some x) none) in
-            let act_is : e.act ≡ Move (Next id) p.from (link_to p.may.id) = p.act_is ∙ ap (λ (x : Link). Move (Next id) p.from x) p.may.to_is in
-            let node : IsPutNode (es ++ e ∷ []) p.may.id p.job p.at = put_last es e p.may.id p.by p.job p.at (Next id) p.from act_is p.note_is in
-            inr (p.may.id, p.job, new ∙ moved, subst (λ (x : ℕ). IsPutNode (es ++ e ∷ []) p.may.id p.job x) (at_is ∙ sym place) node)
-        ]
+      | inl was ↦
+          let old : HasLink h id was.node.link = record { node = was.node; there = was.there; linked = was.linked; link_is = refl } in
+          let new : link ≡ moved_link e.act id was.node.link = same_link k id link (moved_link e.act id was.node.link) l (link_next n es e id was.node.link may old) in
+          let place : position_of k id ≡ position_of h id = position_next n es e id may was in
+          elim (link_kept h e.agent e.act e.note id was.node.link may.may_act may.fits (shown_link h id was.node.link old)) [
+            | inl same ↦
+                subst (λ (x : ℕ). LeadsOn (es ++ e ∷ []) x link) (sym place)
+                (subst (λ (x : Link). LeadsOn (es ++ e ∷ []) (position_of h id) x) (sym (new ∙ same)) (leads_more es (e ∷ []) (position_of h id) was.node.link (holds.links id was.node.link old)))
+            | inr put ↦
+                let (p, none, moved) = put in
+                let at_is : p.at ≡ position_of h id = put_position n es e id p.by p.job p.at holds may p.note_is p.may.tail_is (shown_link h id was.node.link old ∙ ap (λ (x : Link). Some x) none) in
+                let act_is : e.act ≡ Move (Next id) p.from (link_to p.may.id) = p.act_is ∙ ap (λ (x : Link). Move (Next id) p.from x) p.may.to_is in
+                let node : IsPutNode (es ++ e ∷ []) p.may.id p.job p.at = put_last es e p.may.id p.by p.job p.at (Next id) p.from act_is p.note_is in
+                inr (p.may.id, p.job, new ∙ moved, subst (λ (x : ℕ). IsPutNode (es ++ e ∷ []) p.may.id p.job x) (at_is ∙ sym place) node)
+          ]
       | inr by ↦ inl (sym l.link_is ∙ first_link n es e id l.node holds may by)
     ]
 
@@ -205,7 +203,7 @@ split_more [] x (y ∷ []) zs e = inl (ap (λ z. z ∷ []) (sym (cons_first e)))
 split_more [] x (y ∷ v ∷ ys) zs e = let bad = cons_rest e in cc
 split_more (w ∷ xs) x (y ∷ ys) zs e =
     elim (split_more xs x ys zs (cons_rest e)) [
-      inl same ↦ inl (let first = cons_first e in cc)
+      | inl same ↦ inl (let first = cons_first e in cc)
       | inr more ↦ inr (more.0, more.1, (let first = cons_first e in let rest = more.2 in cc))
     ]
 
@@ -214,6 +212,6 @@ pub frozen_next : (n : HeapNumbers) (es : List (Event FifoNote)) (e : Event Fifo
     → es ++ e ∷ [] ≡ before ++ after → HasLink (run_heap n before) id link → link ≢ null → HasLink (run_heap n (es ++ e ∷ [])) id link
 frozen_next n es e before after id link holds may split l some =
     elim (split_more es e before after split) [
-      inl whole ↦ subst (λ (xs : List (Event FifoNote)). HasLink (run_heap n xs) id link) whole l
+      | inl whole ↦ subst (λ (xs : List (Event FifoNote)). HasLink (run_heap n xs) id link) whole l
       | inr rest ↦ some_next n es e id link may some (holds.frozen before rest.0 id link rest.2 l some)
     ]

@@ -1,5 +1,5 @@
 -- Steps along a path of links.
-use Rattle.std.proofs.Common.{List, Option, Some, [], ap, arith, inl, inr, length, refl, subst, sym, true, ℕ, ◌++◌, ◌+◌, ◌∙◌, ◌∷◌, ◌≡◌, ◌≢◌, ◌≤◌, ◌⊎◌}
+use Rattle.std.proofs.Common.{List, Option, Some, [], arith, inl, inr, length, refl, subst, sym, ℕ, ◌++◌, ◌∙◌, ◌∷◌, ◌≡◌, ◌≢◌, ◌≤◌}
 use Rattle.std.specs.List.{slice_get}
 use Rattle.std.specs.Prelude.{None}
 use Rattle.std.specs.Option.{option_map}
@@ -10,7 +10,7 @@ use Rattle.orc_heap.specs.declared.events.Event.{Event}
 use Rattle.orc_heap.specs.declared.events.Link.{Link}
 use Rattle.orc_heap.specs.declared.events.Place.TheVariants.{Next, Root}
 use Rattle.orc_fifo_rule.specs.declared.fifo.FifoNote.{FifoNote}
-use Rattle.orc_fifo_rule.specs.QueueDiscipline.{FifoHolds, HasLink, IsPath, IsPutNode, IsRunning, LeadsOn, StepsOn, has_begun, link_to}
+use Rattle.orc_fifo_rule.specs.QueueDiscipline.{FifoHolds, HasLink, IsPath, IsPutNode, IsRunning, StepsOn, link_to}
 use Rattle.orc_fifo_rule.specs.Kept.Kinds.{link_same, null_to, some_same}
 use Rattle.orc_fifo_rule.specs.Kept.Nodes.{job_linked, link_shown, path_linked, shown_link}
 
@@ -68,10 +68,10 @@ dummy_linked h es run = over run.front run.to_tail
 pub successor_linked : (n : HeapNumbers) (es : List (Event FifoNote)) (t x : ℕ) → FifoHolds n es → HasLink (run_heap n es) t (link_to x) → IsLinkedNode (run_heap n es) x
 successor_linked n es t x holds link =
     elim (holds.links t (link_to x) link) [
-      inl none ↦ absurd (null_to x (sym none))
+      | inl none ↦ absurd (null_to x (sym none))
       | inr leads ↦
-        let (next, job, same, put) = leads in
-        subst (λ (y : ℕ). IsLinkedNode (run_heap n es) y) (sym (link_same x next same)) (job_linked (run_heap n es) next job _ (holds.puts next job _ put))
+          let (next, job, same, put) = leads in
+          subst (λ (y : ℕ). IsLinkedNode (run_heap n es) y) (sym (link_same x next same)) (job_linked (run_heap n es) next job _ (holds.puts next job _ put))
     ]
 
 -- a root that steps on leaves a once linked node for its successor

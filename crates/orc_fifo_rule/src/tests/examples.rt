@@ -49,16 +49,16 @@ fn a_job_goes_through_the_queue()
 /// 1 may swing to node 1 alone, no job may be taken yet, and nobody may say that the queue is empty.
 fn while_the_tail_lags()
     ensures allowed { let h : Heap = record {
-          nodes = record { giver = 0; first = None; second = Some 5; link = link_to 1; named = true; linked = true }
-              ∷ record { giver = 1; first = Some 7; second = Some 6; link = null; named = true; linked = true } ∷ [];
-          roots = link_to 0 ∷ link_to 0 ∷ [];
-        } in
+      nodes = record { giver = 0; first = None; second = Some 5; link = link_to 1; named = true; linked = true }
+          ∷ record { giver = 1; first = Some 7; second = Some 6; link = null; named = true; linked = true } ∷ [];
+      roots = link_to 0 ∷ link_to 0 ∷ [];
+    } in
         MayAct h (Act.Move (Place.Root 1) (link_to 0) (link_to 1)) (Some FifoNote.Swing) × WasNamed h 1 0 }
     ensures refused { let h : Heap = record {
-          nodes = record { giver = 0; first = None; second = Some 5; link = link_to 1; named = true; linked = true }
-              ∷ record { giver = 1; first = Some 7; second = Some 6; link = null; named = true; linked = true } ∷ [];
-          roots = link_to 0 ∷ link_to 0 ∷ [];
-        } in
+      nodes = record { giver = 0; first = None; second = Some 5; link = link_to 1; named = true; linked = true }
+          ∷ record { giver = 1; first = Some 7; second = Some 6; link = null; named = true; linked = true } ∷ [];
+      roots = link_to 0 ∷ link_to 0 ∷ [];
+    } in
         (¬ MayAct h (Act.Move (Place.Root 1) (link_to 0) (link_to 2)) (Some FifoNote.Swing))
         × (¬ MayAct h (Act.Move (Place.Root 0) (link_to 0) (link_to 1)) (Some FifoNote.Swing))
         × (¬ MayAct h (Act.Move (Place.Root 0) (link_to 0) (link_to 1)) (Some (FifoNote.Entry (QueueEntry.Took 2 7 5))))
@@ -70,19 +70,19 @@ fn while_the_tail_lags()
 /// Node 1 holds job 7 with the last second value that a Put may give, and with the first that it may not.
 fn positions_end()
     ensures last { let h : Heap = record {
-          nodes = record { giver = 0; first = None; second = Some (2 ^ 62 - 1); link = null; named = true; linked = true } ∷ node_to_put 1 7 (2 ^ 62 - 1) ∷ [];
-          roots = link_to 0 ∷ link_to 0 ∷ [];
-        } in
+      nodes = record { giver = 0; first = None; second = Some (2 ^ 62 - 1); link = null; named = true; linked = true } ∷ node_to_put 1 7 (2 ^ 62 - 1) ∷ [];
+      roots = link_to 0 ∷ link_to 0 ∷ [];
+    } in
         MayAct h (Act.Move (Place.Next 0) null (link_to 1)) (Some (FifoNote.Entry (QueueEntry.Put 1 7 (2 ^ 62 - 1)))) }
     ensures beyond { let h : Heap = record {
-          nodes = record { giver = 0; first = None; second = Some (2 ^ 62); link = null; named = true; linked = true } ∷ node_to_put 1 7 (2 ^ 62) ∷ [];
-          roots = link_to 0 ∷ link_to 0 ∷ [];
-        } in
+      nodes = record { giver = 0; first = None; second = Some (2 ^ 62); link = null; named = true; linked = true } ∷ node_to_put 1 7 (2 ^ 62) ∷ [];
+      roots = link_to 0 ∷ link_to 0 ∷ [];
+    } in
         ¬ MayAct h (Act.Move (Place.Next 0) null (link_to 1)) (Some (FifoNote.Entry (QueueEntry.Put 1 7 (2 ^ 62)))) }
     ensures another { let h : Heap = record {
-          nodes = record { giver = 0; first = None; second = Some 5; link = null; named = true; linked = true } ∷ node_to_put 1 7 6 ∷ [];
-          roots = link_to 0 ∷ link_to 0 ∷ [];
-        } in
+      nodes = record { giver = 0; first = None; second = Some 5; link = null; named = true; linked = true } ∷ node_to_put 1 7 6 ∷ [];
+      roots = link_to 0 ∷ link_to 0 ∷ [];
+    } in
         ¬ MayAct h (Act.Move (Place.Next 0) null (link_to 1)) (Some (FifoNote.Entry (QueueEntry.Put 1 7 5))) }
 {}
 

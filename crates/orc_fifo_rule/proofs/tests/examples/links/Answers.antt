@@ -1,4 +1,4 @@
-use Rattle.std.proofs.Common.{List, None, Option, Some, [], ap, arith, false, inl, inr, refl, sym, true, ℕ, ◌∙◌, ◌∷◌, ◌≡◌}
+use Rattle.std.proofs.Common.{Some, [], ap, arith, false, inl, inr, refl, sym, true, ℕ, ◌∙◌, ◌∷◌, ◌≡◌}
 use Rattle.orc_heap.specs.declared.events.Act.TheVariants.{Move}
 use Rattle.orc_heap.specs.declared.events.Event.{Event}
 use Rattle.orc_heap.specs.declared.events.Link.{Link}
@@ -32,8 +32,8 @@ marked_null l marked e = let bad : true ≡ false = sym marked ∙ ap (λ (x : L
 pub returns-clause-leads : goal.returns-clause-leads
 unfolding the_put
 returns-clause-leads c = (
-    inr (1, 7, refl, record { event = _; by = 1; place = _; from = _; among = (0, omega arith, refl); act_is = refl; note_is = refl }),
-    inl refl,
-    (λ l. elim l [ inl none ↦ null_to 1 (sym none) | inr r ↦ no_other r.0 r.1 r.3 ]),
-    (λ l. elim l [ inl none ↦ marked_null _ refl none | inr r ↦ no_mark r.0 _ refl r.2 ]),
-  )
+  inr (1, 7, refl, record { event = _; by = 1; place = _; from = _; among = (0, omega arith, refl); act_is = refl; note_is = refl }),
+  inl refl,
+  (λ l. elim l [ inl none ↦ null_to 1 (sym none) | inr r ↦ no_other r.0 r.1 r.3 ]),
+  (λ l. elim l [ inl none ↦ marked_null _ refl none | inr r ↦ no_mark r.0 _ refl r.2 ]),
+)
