@@ -28,6 +28,8 @@ pub fn allowed_events_obey_the_discipline()
 pub fn queue_histories_are_legal()
     ensures legal { (n : HeapNumbers) (es : List (Event FifoNote)) → FifoHolds n es
         → IsLegalQueue (position_of (run_heap n es) 0) (entries_of es) }
+    ensures from_nothing { (n : HeapNumbers) (es : List (Event FifoNote)) → AllAllowed (FifoMay n) [] es
+        → IsLegalQueue (position_of (run_heap n es) 0) (entries_of es) }
     ensures first { (n : HeapNumbers) (seen more : List (Event FifoNote)) → FifoHolds n seen → has_begun seen ≡ true
         → AllAllowed (FifoMay n) seen more → position_of (run_heap n (seen ++ more)) 0 ≡ position_of (run_heap n seen) 0 }
     ensures own { (n : HeapNumbers) (agent : ℕ) (seen more : List (Event FifoNote)) → AllAllowed (FifoMay n) seen more
