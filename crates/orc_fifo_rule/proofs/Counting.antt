@@ -22,7 +22,7 @@ use Rattle.orc_fifo_rule.specs.QueueDiscipline.{FifoHolds, FifoMay, HasLink, IsR
 use Rattle.orc_fifo_rule.specs.Watches.{event_of}
 use Rattle.orc_fifo_rule.specs.Kept.Events.{and_both, not_begun_before, root_begun_more}
 use Rattle.orc_fifo_rule.specs.Kept.Kinds.{each_kind, link_same, null_to, plain_points, plain_roots, root_moved, root_next, root_other, some_same}
-use Rattle.orc_fifo_rule.specs.Kept.Laws.{fifo_keeps, opening_next}
+use Rattle.orc_fifo_rule.specs.Kept.Laws.{fifo_keeps, late, opening_next}
 use Rattle.orc_fifo_rule.specs.Kept.Nodes.{job_position, linked_next, position_next}
 use Rattle.orc_fifo_rule.specs.Kept.Opening.{begun_root}
 use Rattle.orc_fifo_rule.specs.Kept.Parts.{names, put_has_job, unlinked_apart}
@@ -121,9 +121,6 @@ opening_begin n es agent r from to holds early o may =
     by_root zero low before after more = omega (arith, o.first, before, after, more, begins_more 1 es (event_of agent (Move (Root r) from to) (Some Begin)))
     by_root (suc zero) low before after more = omega (arith, o.first, before, after, more, begins_more 0 es (event_of agent (Move (Root r) from to) (Some Begin)))
     by_root (suc (suc q)) low before after more = absurd (omega (arith, low))
-
-late : (b : Bool) → b ≡ false → b ≡ true → ⊥
-late b e f = let bad : false ≡ true = sym e ∙ f in cc
 
 opening_links_next : (n : HeapNumbers) (es : List (Event FifoNote)) (e : Event FifoNote) → FifoHolds n es → has_begun es ≡ false → OpeningLinks es → FifoMay n es e → OpeningLinks (es ++ e ∷ [])
 opening_links_next n es e holds early o may =

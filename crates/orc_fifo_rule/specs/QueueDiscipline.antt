@@ -78,22 +78,23 @@ IsPath es h id [] last = id ≡ last
 IsPath es h id (put ∷ puts) last =
     (next : ℕ) × HasLink h id (link_to next) × IsPutNode es next put.0 put.1 × IsPath es h next puts last
 
--- from the node that root 0 names, the dummy, the links lead over the nodes of the untaken Puts in order, and end in
--- null; root 1 names the last of these nodes or the one before it; node 0 was linked, and the last node's second value
--- is the next position
+-- the queue once both roots have begun
 pub record IsRunning (h : Heap) (es : List (Event FifoNote)) : Type 0 where
   pub dummy : ℕ
   pub tail : ℕ
   pub last : ℕ
   pub front : List (ℕ × ℕ)
   pub back : List (ℕ × ℕ)
+  -- from the dummy, which root 0 names, the links lead over the nodes of the untaken Puts in order, and end in null
   pub head_is : shown h (Root 0) ≡ Some (link_to dummy)
-  pub tail_is : shown h (Root 1) ≡ Some (link_to tail)
+  pub waiting : waiting_after [] (entries_of es) ≡ front ++ back
   pub to_tail : IsPath es h dummy front tail
   pub to_last : IsPath es h tail back last
   pub ends : HasLink h last null
+  -- root 1 names the last of these nodes or the one before it
+  pub tail_is : shown h (Root 1) ≡ Some (link_to tail)
   pub short : length back ≤ 1
-  pub waiting : waiting_after [] (entries_of es) ≡ front ++ back
+  -- node 0 was linked, and the last node's second value is the next position
   pub zero : IsLinkedNode h 0
   pub next : position_of h last ≡ position_of h 0 + puts_in (entries_of es)
 

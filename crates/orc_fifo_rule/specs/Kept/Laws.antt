@@ -75,7 +75,7 @@ plain_is_no_begin r (Move (Root q) from to) e = cc
 plain_is_no_begin r (Move (Next t) from to) e = cc
 plain_is_no_begin r (Miss place wanted found) e = cc
 
-late : (b : Bool) → b ≡ false → b ≡ true → ⊥
+pub late : (b : Bool) → b ≡ false → b ≡ true → ⊥
 late b e f = let bad : false ≡ true = sym e ∙ f in cc
 
 -- the event is plain or a Begin
