@@ -7,7 +7,7 @@ use Rattle.std.specs.Prelude.{None, Option, Some, if◌then◌else◌, ◌==◌,
 use Rattle.orc_heap.proofs.Changes.{get-change, get-grown}
 use Rattle.orc_heap.proofs.Runs.{run_heap-snoc}
 use Rattle.orc_heap.specs.Acts.{Fits, IsFresh, IsTarget, as_linked, as_named, change_node, change_target, heap_after, set_link, with_link, with_value}
-use Rattle.orc_heap.specs.Allowed.{AllAllowed, IsLinkedNode, MovesLinked, events_by}
+use Rattle.orc_heap.specs.Allowed.{AllAllowed, IsLinkedNode, Later, MovesLinked, events_by}
 use Rattle.orc_heap.specs.Heap.{Heap, HeapNumbers, Node, change}
 use Rattle.orc_heap.specs.Journals.{FitsAfter, names_node, points_to, run_heap}
 use Rattle.orc_heap.specs.declared.events.Act.{Act}
@@ -167,3 +167,8 @@ module _ {N : Type 0} (n : HeapNumbers) (holds : List (Event N) → Type 0) (may
             let other : e.agent ≢ agent = λ k. let t : true ≡ false = sym (eq-eqb e.agent agent k) ∙ is in cc in
             let same : touched e.act id x ≡ x = others_leave agent e.agent e.act (run_heap n seen) id x other (fits seen e h all.0) (moves seen e h all.0) o.there o.own in
             go_on x (record { there = subst (λ y. slice_get (run_heap n (seen ++ e ∷ [])).nodes id ≡ Some y) same after; own = o.own }) far
+
+    -- over allowed events of others it stays as it is
+    pub fresh_later : (agent id : ℕ) (seen more : List (Event N)) (x : Node) → holds seen → IsOwnNode n agent id seen x → Later may agent seen more → IsOwnNode n agent id (seen ++ more) x
+    fresh_later agent id seen more x h o later =
+        subst (λ es. IsOwnNode n agent id (seen ++ more) (touched_by id es x)) later.others (own_node_told agent id seen more x h later.allowed o (rw later.others refl))

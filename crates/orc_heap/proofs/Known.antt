@@ -1,13 +1,14 @@
--- A node that is known to an agent stays known to it.
-use Rattle.std.proofs.Common.{Bool, List, false, inl, inr, refl, suc, true, zero, ℕ, ◌++◌, ◌∙◌, ◌≡◌}
-use Rattle.std.specs.Prelude.{if◌then◌else◌, ◌==◌}
+-- A node that is known to an agent stays known to it, and a once linked node is known to all.
+use Rattle.std.proofs.Common.{Bool, List, [], false, inl, inr, refl, suc, sym, true, zero, ℕ, ◌++◌, ◌∙◌, ◌∷◌, ◌≡◌, ◌⊎◌}
+use Rattle.std.specs.Prelude.{if◌then◌else◌, ◌==◌, ◌||◌}
 use Rattle.orc_heap.proofs.Fresh.{link_touched, node-after, touched}
 use Rattle.orc_heap.proofs.Runs.{run_heap-snoc}
 use Rattle.orc_heap.proofs.Stays.{stays}
+use Rattle.orc_heap.proofs.Told.{linked_told, named_told}
 use Rattle.orc_heap.specs.Acts.{IsKnown, heap_after, with_link, with_value}
-use Rattle.orc_heap.specs.Allowed.{AllAllowed}
+use Rattle.orc_heap.specs.Allowed.{AllAllowed, IsLinkedNode}
 use Rattle.orc_heap.specs.Heap.{Heap, HeapNumbers, Node}
-use Rattle.orc_heap.specs.Journals.{names_node, run_heap}
+use Rattle.orc_heap.specs.Journals.{IsLawful, is_once_linked, is_once_named, moves_to, names_node, points_to, run_heap}
 use Rattle.orc_heap.specs.declared.events.Act.{Act}
 use Rattle.orc_heap.specs.declared.events.Act.TheVariants.{Aim, Fill, Give, Look, Miss, Move}
 use Rattle.orc_heap.specs.declared.events.Event.{Event}
@@ -58,3 +59,39 @@ known-later {N} n may agent id seen more all k =
     let P : List (Event N) → Type 0 = λ es. IsKnown agent (run_heap n es) id in
     let r : P (seen ++ more) = stays may P (λ es e p m. rw (run_heap-snoc n es e) (known-after agent e.agent e.act (run_heap n es) id p)) seen more k all in
     r
+
+points_where_moves : (act : Act) (id : ℕ) → moves_to act id ≡ true → points_to act id ≡ true
+points_where_moves Give id m = m
+points_where_moves (Fill i which value) id m = m
+points_where_moves (Aim i to) id m = cc
+points_where_moves (Look place link) id m = m
+points_where_moves (Move place from to) id m = m
+points_where_moves (Miss place wanted found) id m = m
+
+either_true : (a b : Bool) → a || b ≡ true → (a ≡ true) ⊎ (b ≡ true)
+either_true true b e = inl e
+either_true false b e = inr e
+
+left_true : (a b : Bool) → a ≡ true → a || b ≡ true
+left_true true b e = e
+left_true false b e = cc
+
+right_true : (a b : Bool) → b ≡ true → a || b ≡ true
+right_true true b e = refl
+right_true false b e = e
+
+named_where_linked : {N : Type 0} (es : List (Event N)) (id : ℕ) → is_once_linked es id ≡ true → is_once_named es id ≡ true
+named_where_linked [] id l = l
+named_where_linked (e ∷ es) id l =
+    elim (either_true (moves_to e.act id) (is_once_linked es id) l) [
+      | inl here ↦ left_true (points_to e.act id) (is_once_named es id) (points_where_moves e.act id here)
+      | inr later ↦ right_true (points_to e.act id) (is_once_named es id) (named_where_linked es id later)
+    ]
+
+-- a once linked node is known to every agent
+pub linked_known : {N : Type 0} (n : HeapNumbers) (es : List (Event N)) (agent id : ℕ) → IsLawful n es → IsLinkedNode (run_heap n es) id → IsKnown agent (run_heap n es) id
+linked_known n es agent id lawful l = record {
+  node = l.node;
+  there = l.there;
+  known = inr (named_told n es id l.node lawful l.there ∙ named_where_linked es id (sym (linked_told n es id l.node lawful l.there) ∙ l.linked));
+}

@@ -1,10 +1,11 @@
+pub mod Before
+pub mod ByAnswer
 pub mod Changes
 pub mod Fresh
+pub mod Known
 pub mod Linked
+pub mod Parts
 pub mod Runs
+pub mod Slots
 pub mod Stays
 pub mod Told
-pub mod Parts
-pub mod ByAnswer
-pub mod Slots
-pub mod Known

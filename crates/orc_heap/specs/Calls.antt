@@ -103,13 +103,13 @@ pub record ReadsValue (h : Heap) (id which value : ℕ) : Type 0 where
   pub is : (filled : ℕ) → value_of which node ≡ Some filled → value ≡ filled
 
 -- how many Aims and Moves made a link to the node
-abbrev pub links_to : {N : Type 0} → ℕ → List (Event N) → ℕ
-links_to id es = length (filter (λ e. points_to e.act id) es)
+abbrev pub links_made : {N : Type 0} → List (Event N) → ℕ → ℕ
+links_made es id = length (filter (λ e. points_to e.act id) es)
 
 -- the refusal names the row of this node, to which 32 events or more have made a link
 pub record IsWorn {N : Type 0} (slots : Slots) (h : Hold) (why : Spent) (seen : List (Event N)) : Type 0 where
   pub row : why.row ≡ h.row
-  pub links : 32 ≤ links_to (id_in slots h) seen
+  pub links : 32 ≤ links_made seen (id_in slots h)
 
 -- the link that was to be made has another target than the present one, and its row is worn
 abbrev pub RefusesSwing : {N : Type 0} → Slots → Want → Want → Spent → List (Event N) → Type 0

@@ -9,7 +9,7 @@ ghost use Rattle.orc_heap.specs.Allowed.{AllAllowed, AllowedLater, Later, MovesL
 ghost use Rattle.orc_heap.specs.Slots.{Hold, Holds, IsFree, SlotNode, Slots, id_in};
 ghost use Rattle.orc_heap.specs.Seats.{IsIdle, Seat, target_in};
 ghost use Rattle.orc_heap.specs.Parts.{IsAlone, IsBelow, InPart, Only, Puts, part_begin, part_of, steps_by};
-ghost use Rattle.orc_heap.specs.Calls.{IsLonger, IsWorn, Releases, RefusesAim, links_to, unless_node};
+ghost use Rattle.orc_heap.specs.Calls.{IsLonger, IsWorn, Releases, RefusesAim, links_made, unless_node};
 
 use crate::{Act, Place};
 
@@ -62,8 +62,8 @@ fn fresh_nodes()
 
 /// Two of three events made a link to node 5: too few for a refusal.
 fn worn_rows()
-    ensures links { links_to {N = ℕ} 5 (record { agent = 1; act = Act.Aim 6 (Some 5); note = Some 7 } ∷ record { agent = 1; act = Act.Give; note = None }
-        ∷ record { agent = 1; act = Act.Move (Place.Root 0) null (record { to = Some 5; mark = true }); note = None } ∷ []) ≡ 2 }
+    ensures links { links_made {N = ℕ} (record { agent = 1; act = Act.Aim 6 (Some 5); note = Some 7 } ∷ record { agent = 1; act = Act.Give; note = None }
+        ∷ record { agent = 1; act = Act.Move (Place.Root 0) null (record { to = Some 5; mark = true }); note = None } ∷ []) 5 ≡ 2 }
     ensures too_few { (why : Spent) → ¬ IsWorn {N = ℕ} (Some (record { row = 3; id = 5 }) ∷ []) (record { row = 3; slot = 0 }) why [] }
     ensures no_target { (why : Spent) → ¬ RefusesAim {N = ℕ} [] None why [] }
 {}

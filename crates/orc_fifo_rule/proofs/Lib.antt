@@ -1,0 +1,7 @@
+pub mod Later
+pub mod Leaving
+pub mod Coming
+pub mod Reading
+pub mod OwnEntries
+pub mod Stretches
+pub mod Counting

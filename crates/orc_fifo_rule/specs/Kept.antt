@@ -1,0 +1,9 @@
+-- Proofs of the laws that the discipline owes to its traits, and of what its events keep.
+pub mod Kinds
+pub mod Nodes
+pub mod Events
+pub mod Opening
+pub mod Paths
+pub mod Parts
+pub mod Running
+pub mod Laws
