@@ -8,7 +8,7 @@ use Rattle.orc_heap.specs.declared.events.Event.{Event}
 use Rattle.orc_shared_words.specs.Runs.{Obeys, Rules}
 use Rattle.orc_shared_words.specs.declared.journal.Step.{Step}
 use Rattle.std.proofs.Common.{append-nil, append_assoc, ap, eq-eqb, ne_eqb, refl, sym, ◌∙◌}
-use Rattle.std.specs.Prelude.{Bool, List, Option, [], false, if◌then◌else◌, true, ℕ, ◌%◌, ◌++◌, ◌+◌, ◌==◌, ◌^◌, ◌∷◌, ◌≡◌, ◌≢◌}
+use Rattle.std.specs.Prelude.{Bool, List, [], false, if◌then◌else◌, true, ℕ, ◌%◌, ◌++◌, ◌+◌, ◌==◌, ◌^◌, ◌∷◌, ◌≡◌, ◌≢◌}
 
 abbrev pub ticked : Bool → ℕ → ℕ
 ticked true n = (n + 1) % 2 ^ 64
