@@ -90,7 +90,7 @@ module _ {K S Op Rec N : Type 0} (r : Rules K S Op Rec N) (k : K) where
         (λ q. (id, after, set_there s.views id v after at, q)) in
         let new : IsNew r k holds may (set s.views id after) c = record {
           passless = at_changed (λ _ z. ¬ (z.agent ≡ Some c)) s.views id after (x.passless id v at) (λ l z _ el. x.passless l z el);
-          handed = λ d. at_changed (λ i u. u.free ≡ Some d → c < d) s.views id after (λ q. let e = next_is d q in omega arith) (λ l z ne el q. absurd (ne (sym (h.lone id l c d v z at el p q))));
+          handed = λ d. at_changed (λ i u. u.free ≡ Some d → c < d) s.views id after (λ q. let e = next_is d q in omega arith) (λ l z ne el q. absurd (ne (sym (h.lone id v at (c, p) l z el (d, q)))));
           living = at_changed (λ _ z. ¬ Among c z.also) s.views id after (λ q. let y = (h.retired c id v at q).handed c id v at p in absurd (omega arith)) (λ l z _ el q. let y = (h.retired c l z el q).handed c id v at p in absurd (omega arith));
         } in
         added r k holds may record { words = s.words; homes = s.homes; views = set s.views id after } first (next_pass r v)
@@ -170,7 +170,7 @@ module _ {K S Op Rec N : Type 0} (r : Rules K S Op Rec N) (k : K) where
           passless = at_changed (λ _ z. ¬ (z.agent ≡ Some a)) s.views other left (λ p. none_some None a refl p) passless;
           handed = λ c. at_changed (λ _ z. z.free ≡ Some c → a < c) s.views other left (λ p. absurd (none_some None c refl p)) (λ i z _ e. handed c i z e);
         } in
-        let own : Retired r k h.journal l1 b v.seen = gone b (o.steps ∙ sym (same b (inl is))) (λ l z nl el p. nl (h.apart l other b z w el before p is))
+        let own : Retired r k h.journal l1 b v.seen = gone b (o.steps ∙ sym (same b (inl is))) (λ l z nl el p. nl (h.apart b l z el p other w before is))
         (λ c l z el p. dite (dec_le c b) (λ le. absurd ((h.unborn c l z el p b le o.below).passless other w before is)) (λ nle. lt_of_not-le nle)) in
         let theirs : (a : ℕ) → Among a w.also → Retired r k h.journal l1 a v.seen = λ a p. let x = h.retired a other w before p in gone a (x.steps ∙ sym (same a (inr p))) (λ l z _ el. x.passless l z el) x.handed in
         let others : (a : ℕ) → Among a (w.also ++ v.also) → Retired r k h.journal l1 a v.seen = λ a q. ⊎_elim (theirs a) (first.retired a id v at') (among_either a w.also v.also q) in
