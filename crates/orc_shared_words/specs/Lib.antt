@@ -1,0 +1,9 @@
+pub mod Operations
+pub mod Lists
+pub mod Runs
+pub mod Views
+pub mod Rule
+pub mod Steps
+pub mod Learning
+pub mod Ends
+pub mod Ticks
