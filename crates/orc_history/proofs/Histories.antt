@@ -1,10 +1,8 @@
 -- One entry more of a queue's history, and of any history.
-use Rattle.std.proofs.Common.{◌≡◌, ℕ, ◌+◌, List, [], ◌∷◌, ◌++◌, length, drop, refl, arith, add-zero, subst, inl}
-use Rattle.std.proofs.lemmas.Bool.Decides.{nat_tests}
+use Rattle.std.proofs.Common.{◌≡◌, ℕ, ◌+◌, List, [], ◌∷◌, ◌++◌, length, drop, refl, arith, add-zero, subst}
 use Rattle.orc_history.specs.declared.queue.QueueEntry.{QueueEntry}
 use Rattle.orc_history.specs.declared.queue.QueueEntry.TheVariants.{Put, Took, Empty}
 use Rattle.orc_history.specs.QueueHistory.{IsLegalFrom, waiting_after, puts_in}
-use Rattle.orc_history.specs.Journals.{Adds}
 
 pub waiting_after-snoc : (w : List (ℕ × ℕ)) (es : List QueueEntry) (e : QueueEntry)
     → waiting_after w (es ++ e ∷ []) ≡ waiting_after (waiting_after w es) (e ∷ [])
