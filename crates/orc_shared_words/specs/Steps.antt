@@ -1,0 +1,41 @@
+-- What a step asks of the discipline, and what it tells.
+use Rattle.atomic_table.specs.Table.{Me}
+use Rattle.orc_heap.specs.Allowed.{AllAllowed}
+use Rattle.orc_heap.specs.declared.events.Event.{Event}
+use Rattle.orc_shared_words.specs.Lists.{Each}
+use Rattle.orc_shared_words.specs.Runs.{Rules, found_by, steps_by}
+use Rattle.orc_shared_words.specs.declared.journal.View.{View}
+use Rattle.std.specs.Prelude.{List, None, Option, Some, [], ℕ, ◌++◌, ◌∷◌, ◌≡◌}
+
+module _ {K S Op Rec N : Type 0} (r : Rules K S Op Rec N) where
+  module _ (k : K) (holds : List (Event N) → Type 0) (may : List (Event N) → Event N → Type 0) where
+    -- a journal that the pass may come upon
+    pub record LaterJournal (j : List S) (v : View S Rec) (a : ℕ) : Type 0 where
+      pub lawful : r.lawful k j
+      pub mine : r.own k j a ≡ v.own
+      pub kept : holds (r.project k j)
+      pub each : AllAllowed may [] (r.project k j)
+
+    -- the step's event, if it has one, is allowed after each later journal of the pass
+    abbrev pub Licensed : View S Rec → ℕ → Op → Option N → Type 0
+    Licensed v a op note = (between : List S) → steps_by r.by a between ≡ [] → LaterJournal (v.seen ++ between) v a
+        → Each (may (r.project k (v.seen ++ between))) (r.events k (v.seen ++ between) (r.step a op note))
+
+    -- what a step of a pass tells: its view before, its answer, its view after
+    pub record Extends (op : Op) (note : Option N) (v : View S Rec) (n : ℕ) (w : View S Rec) : Type 0 where
+      pub between : List S
+      pub agent : ℕ
+      pub is : v.agent ≡ Some agent
+      pub same : w.agent ≡ Some agent
+      pub others : steps_by r.by agent between ≡ []
+      pub found : ℕ
+      pub read : found ≡ found_by r k (v.seen ++ between) agent op
+      pub answers : n ≡ r.answer k agent op v.own found
+      pub seen : w.seen ≡ (v.seen ++ between) ++ r.step agent op note ∷ []
+      pub mine : w.own ≡ r.after k agent op v.own found
+      pub now : LaterJournal w.seen w agent
+
+  -- what the picked step tells
+  abbrev pub Did : (K → List (Event N) → Type 0) → (K → List (Event N) → Event N → Type 0) → Option (K × Op × Option N) → Me (Unit {0}) (View S Rec) → ℕ → Me (Unit {0}) (View S Rec) → Type 0
+  Did holds may None me n me' = Unit {0}
+  Did holds may (Some p) me n me' = Extends p.0 (holds p.0) (may p.0) p.1 p.2 me.0 n me'.0 × (me'.1 ≡ me.1)
