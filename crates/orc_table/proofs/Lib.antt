@@ -1,3 +1,4 @@
 pub mod Lists
 pub mod Ties
 pub mod Steps
+pub mod Untouched

@@ -4,6 +4,7 @@ use mathlib.Core.Logic.{dite}
 use native.Mathlib.Decide.{ℕ_discrete}
 use Rattle.orc_heap.specs.Heap.{change}
 use Rattle.orc_table.specs.Machine.{index_of}
+use Rattle.orc_table.specs.Words.{Once}
 
 pub some_one : {A : Type 0} (a b : A) → Some a ≡ Some b → a ≡ b
 some_one a b e = cc
@@ -43,10 +44,6 @@ pub length_change : {A : Type 0} (f : A → A) (i : ℕ) (xs : List A) → lengt
 length_change f i [] = refl
 length_change f zero (x ∷ xs) = refl
 length_change f (suc i) (x ∷ xs) = ap suc (length_change f i xs)
-
--- no row stands twice
-abbrev pub Once : List ℕ → Type 0
-Once g = (i j row : ℕ) → slice_get g i ≡ Some row → slice_get g j ≡ Some row → i ≡ j
 
 pub index_here : (row x : ℕ) (xs : List ℕ) → x ≡ row → index_of row (x ∷ xs) ≡ 0
 index_here row x xs e = ap (λ (b : Bool). if b then 0 else suc (index_of row xs)) (eq-eqb x row e)

@@ -24,7 +24,8 @@ use Rattle.orc_table.specs.declared.machine.PlainOp.{PlainOp}
 use Rattle.orc_table.specs.declared.machine.PlainOp.TheVariants.{GateLook, GateTake, Fill, Read, LinkLoad, LinkCas, LinkStore}
 use Rattle.orc_table.specs.declared.machine.PlainStep.{PlainStep}
 use Rattle.orc_table.proofs.Lists.{get_lt}
-use Rattle.orc_table.proofs.Ties.{Alike, Given, Tie, given_by, link_in, row_place, target_nodes, tie_fill, tie_link, tie_root, tie_start, tie_take}
+use Rattle.orc_table.specs.Words.{Tie}
+use Rattle.orc_table.proofs.Ties.{Alike, Given, given_by, link_in, row_place, target_nodes, tie_fill, tie_link, tie_root, tie_start, tie_take}
 
 abbrev pub Tied : Bounds → State → Type 0
 Tied k x = Tie k x.words x.given x.heap

@@ -14,8 +14,8 @@ use Rattle.orc_heap.specs.declared.events.Place.{Place}
 use Rattle.orc_heap.specs.declared.events.Place.TheVariants.{Root as AtRoot, Next}
 use Rattle.orc_heap.proofs.Changes.{get-change, get-grown}
 use Rattle.orc_table.specs.Machine.{index_of, id_by, link_by, new_words, numbers, with_counters}
-use Rattle.orc_table.specs.Words.{IsWord}
-use Rattle.orc_table.proofs.Lists.{some_one, get_lt, lt_get, get_end, get_last, change_back, length_change, Once, at_index, index_in, index_at, new_word, same_word}
+use Rattle.orc_table.specs.Words.{Block, IsFreeRow, IsWord, Named, Once, Tie}
+use Rattle.orc_table.proofs.Lists.{some_one, get_lt, lt_get, get_end, get_last, change_back, length_change, at_index, index_in, index_at, new_word, same_word}
 
 -- the place of a row's gate; its values stand two and three after it, its link four
 abbrev pub row_place : Bounds → ℕ → ℕ
@@ -33,34 +33,6 @@ Given g (Some row) = index_of row g < length g
 abbrev pub target_nodes : (Node → Node) → Option ℕ → List Node → List Node
 target_nodes f None nodes = nodes
 target_nodes f (Some i) nodes = change f i nodes
-
--- the gate and the link of a row that was never given
-pub record IsFreeRow (k : Bounds) (w : List ℕ) (row : ℕ) : Type 0 where
-  pub gate : slice_index w (row_place k row) ≡ 0
-  pub link : slice_index w (row_place k row + 4) ≡ 0
-
--- the words of a row show its node
-pub record Block (k : Bounds) (w : List ℕ) (g : List ℕ) (row : ℕ) (n : Node) : Type 0 where
-  pub gate : slice_index w (row_place k row) ≡ 3
-  pub link : IsWord g n.link.to n.link.mark (slice_index w (row_place k row + 4))
-  pub first : (v : ℕ) → n.first ≡ Some v → slice_index w (row_place k row + 2) ≡ v
-  pub second : (v : ℕ) → n.second ≡ Some v → slice_index w (row_place k row + 3) ≡ v
-
--- the node that a link names was named
-abbrev pub Named : List Node → Option ℕ → Type 0
-Named nodes None = Unit {0}
-Named nodes (Some id) = (n : Node) × (slice_get nodes id ≡ Some n) × (n.named ≡ true)
-
-pub record Tie (k : Bounds) (w : List ℕ) (g : List ℕ) (h : Heap) : Type 0 where
-  pub long : length w ≡ places k
-  pub rooted : length h.roots ≡ k.roots
-  pub even : length g ≡ length h.nodes
-  pub once : Once g
-  pub inside : (i row : ℕ) → slice_get g i ≡ Some row → row < k.rows
-  pub root : (r : ℕ) (l : Link) → slice_get h.roots r ≡ Some l → IsWord g l.to l.mark (slice_index w (1 + r))
-  pub node : (id row : ℕ) (n : Node) → slice_get g id ≡ Some row → slice_get h.nodes id ≡ Some n → Block k w g row n
-  pub free : (row : ℕ) → row < k.rows → ((id : ℕ) → slice_get g id ≢ Some row) → IsFreeRow k w row
-  pub targets : (at : Place) (l : Link) → shown h at ≡ Some l → Named h.nodes l.to
 
 bits : (a b : Bool) → bit a ≡ bit b → a ≡ b
 bits true true e = refl

@@ -1,2 +1,4 @@
 pub mod Machine
 pub mod Words
+pub mod Rules
+pub mod Views

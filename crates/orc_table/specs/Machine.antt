@@ -62,7 +62,7 @@ written (LinkLoad at want) n = n
 written (LinkCas at from to) n = either (n == link_word from) (link_word to) n
 written (LinkStore row to) n = link_word (unmarked to)
 
--- what it answers: the number found, and after a fill or a store the number written
+-- what it answers: the number found, and after a fill the number written
 abbrev pub answer : PlainOp → ℕ → ℕ
 answer (GateLook row) n = n
 answer (GateTake row) n = n
@@ -70,7 +70,7 @@ answer (Fill row which value) n = value
 answer (Read row which) n = n
 answer (LinkLoad at want) n = n
 answer (LinkCas at from to) n = n
-answer (LinkStore row to) n = link_word (unmarked to)
+answer (LinkStore row to) n = n
 
 -- the word of a root's or a row's link
 abbrev pub IsLinkWord : Bounds → Word → Type 0

@@ -2,5 +2,9 @@
 #![tactic(auto)]
 
 mod machine;
+mod pass;
+mod seed;
 
-pub use machine::{PlainOp, PlainStep};
+pub use machine::{Plain, PlainOp, PlainStep};
+pub use pass::{PlainBoard, PlainPass};
+pub use seed::{PlainShape, Seed};
