@@ -2,3 +2,4 @@ pub mod Lists
 pub mod Ties
 pub mod Steps
 pub mod Untouched
+pub mod Walks

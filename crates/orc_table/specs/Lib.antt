@@ -2,3 +2,4 @@ pub mod Machine
 pub mod Words
 pub mod Rules
 pub mod Views
+pub mod Calls

@@ -7,7 +7,6 @@ use Rattle.orc_heap.specs.declared.discipline.Discipline as discipline
 use Rattle.orc_heap.specs.declared.events.Event.{Event}
 use Rattle.orc_shared_words.specs.Lists.{Begins}
 use Rattle.orc_shared_words.specs.Steps.{LaterJournal}
-use Rattle.orc_shared_words.specs.Views.{agent_of}
 use Rattle.orc_shared_words.specs.declared.journal.View.{View}
 use Rattle.orc_shared_words.specs.declared.machine.Machine as machine
 use Rattle.orc_table.specs.Machine.{State, index_of, numbers, project, run}
@@ -29,9 +28,9 @@ pub record PlainView (N : Type 0) : Type 0 where
   pub looked : Option ℕ
   pub absorbed : List ℕ
 
-abbrev pub view_of : {N : Type 0} → Bounds → View (PlainStep N) (Unit {0}) → Option ℕ → Option ℕ → PlainView N
-view_of b v fresh looked = record {
-  agent = agent_of v.agent;
+abbrev pub view_of : {N : Type 0} → Bounds → ℕ → View (PlainStep N) (Unit {0}) → Option ℕ → Option ℕ → PlainView N
+view_of b agent v fresh looked = record {
+  agent = agent;
   events = project b v.seen;
   rows = (run b v.seen).given;
   fresh = fresh;
@@ -72,7 +71,7 @@ module _ {D N : Type 0} where
 module _ {D N : Type 0} {d : discipline.Ghosts D N} {m : machine.Ghosts Plain N (PlainShape N) PlainOp (PlainStep N) (Unit {0}) (Unit {0})} where
   -- what the pass shows
   abbrev pub shows : PlainBoard D N → PlainPass D N (PlainShape N) PlainOp (PlainStep N) (Unit {0}) (Unit {0}) d m → PlainView N
-  shows board p = view_of (board_bounds board) p.pass.seat.me.0 p.fresh p.looked
+  shows board p = view_of (board_bounds board) p.pass.agent p.pass.seat.me.0 p.fresh p.looked
 
   -- the pass is one of the board's
   pub record Belongs (board : PlainBoard D N) (p : PlainPass D N (PlainShape N) PlainOp (PlainStep N) (Unit {0}) (Unit {0}) d m) : Type 0 where
