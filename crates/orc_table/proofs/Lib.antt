@@ -3,3 +3,4 @@ pub mod Ties
 pub mod Steps
 pub mod Untouched
 pub mod Walks
+pub mod Licences
