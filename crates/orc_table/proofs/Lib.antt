@@ -4,3 +4,4 @@ pub mod Steps
 pub mod Untouched
 pub mod Walks
 pub mod Licences
+pub mod Tells

@@ -12,6 +12,7 @@ use Rattle.orc_heap.specs.declared.events.Act.TheVariants as act
 use Rattle.orc_heap.specs.declared.events.Event.{Event}
 use Rattle.orc_heap.specs.declared.events.Link.{Link}
 use Rattle.orc_heap.specs.declared.events.Place.{Place}
+use Rattle.orc_heap.specs.declared.events.Place.TheVariants.{Next as AtNext}
 use Rattle.orc_shared_words.specs.Lists.{Among, Begins}
 use Rattle.orc_table.specs.Machine.{event, id_by, index_of, link_by, numbers, place_by}
 use Rattle.orc_table.specs.Views.{PlainView, heap_of}
@@ -119,6 +120,13 @@ module _ {N : Type 0} where
       pub other : link ≢ wanted
       pub adds : Adds (event s.agent (act.Miss place wanted link) None ∷ []) s t
       pub fresh : t.fresh ≡ s.fresh
+
+    -- the store replaces this link, whose word is the number
+    pub record Replaces (b : Bounds) (row n : ℕ) (link : RowLink) (s t : PlainView N) : Type 0 where
+      pub adds : Adds (aim_event s row link ∷ []) s t
+      pub old : Link
+      pub shown_is : shown (run_heap (numbers b) (s.events ++ adds.met)) (AtNext (index_of row s.rows)) ≡ Some old
+      pub word : IsWord t.rows old.to old.mark n
 
     -- both passes have seen the longer one of their two lists, and each has the events of its agent that it had
     pub record Learns (s u t w : PlainView N) : Type 0 where

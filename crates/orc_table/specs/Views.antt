@@ -5,12 +5,11 @@ use Rattle.orc_heap.specs.Heap.{Heap, Node}
 use Rattle.orc_heap.specs.Journals.{run_heap}
 use Rattle.orc_heap.specs.declared.discipline.Discipline as discipline
 use Rattle.orc_heap.specs.declared.events.Event.{Event}
-use Rattle.orc_shared_words.specs.Lists.{Begins}
 use Rattle.orc_shared_words.specs.Steps.{LaterJournal}
 use Rattle.orc_shared_words.specs.declared.journal.View.{View}
 use Rattle.orc_shared_words.specs.declared.machine.Machine as machine
 use Rattle.orc_table.specs.Machine.{State, index_of, numbers, project, run}
-use Rattle.orc_table.specs.Rules.{opening_steps, plain_rules}
+use Rattle.orc_table.specs.Rules.{plain_rules}
 use Rattle.orc_table.specs.declared.machine.Plain.{Plain}
 use Rattle.orc_table.specs.declared.machine.PlainOp.{PlainOp}
 use Rattle.orc_table.specs.declared.machine.PlainStep.{PlainStep}
@@ -60,7 +59,6 @@ pub record Keeps {N : Type 0} (k : PlainShape N) (holds : List (Event N) → Typ
   pub is : v.agent ≡ Some a
   pub began : holds []
   pub now : LaterJournal plain_rules k holds may v.seen v a
-  pub opened : Begins v.seen (opening_steps k.seed)
   pub untouched : FreshHeld a (run (bounds_of k.shape) v.seen) fresh
 
 module _ {D N : Type 0} where
