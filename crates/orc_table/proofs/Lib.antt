@@ -5,3 +5,4 @@ pub mod Untouched
 pub mod Walks
 pub mod Licences
 pub mod Tells
+pub mod LinkTells

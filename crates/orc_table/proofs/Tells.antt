@@ -57,11 +57,11 @@ gate_word k x row tie lt = elim (out_or_not x.given row) [
   | inr none ↦ inr ((tie.free row lt none).gate, (λ o. none o.0 o.1))
 ]
 
-is_named : (a : ℕ) (h : Heap) (t : Option ℕ) → Named h.nodes t → IsTarget a h t
+pub is_named : (a : ℕ) (h : Heap) (t : Option ℕ) → Named h.nodes t → IsTarget a h t
 is_named a h None x = tt
 is_named a h (Some id) x = record { node = x.0; there = x.1; known = inr x.2 }
 
-link_is : (l m : Link) → l.to ≡ m.to → l.mark ≡ m.mark → l ≡ m
+pub link_is : (l m : Link) → l.to ≡ m.to → l.mark ≡ m.mark → l ≡ m
 link_is l m e f = λ i. record { to = e i; mark = f i }
 
 module _ {D N : Type 0} (d : discipline.Ghosts D N) (q : PlainShape N) (v w : View (PlainStep N) (Unit {0})) (a c : ℕ) (fresh looked fresh2 looked2 : Option ℕ) (h : Keeps q (d.holds (numbers (bounds_of q.shape))) (d.may (numbers (bounds_of q.shape))) v a fresh) (e : c ≡ a) where
@@ -86,15 +86,15 @@ module _ {D N : Type 0} (d : discipline.Ghosts D N) (q : PlainShape N) (v w : Vi
   abbrev Made : PlainOp → Option N → ℕ → Type 0
   Made op said n = Extends plain_rules q holds may op said v n w
 
-  walked : (op : PlainOp) (said : Option N) (n : ℕ) → Made op said n → Walk k may v.seen w.seen a op said n
+  pub walked : (op : PlainOp) (said : Option N) (n : ℕ) → Made op said n → Walk k may v.seen w.seen a op said n
   walked op said n x = walk d q v w a op said n h.began h.is x
 
   -- the state in which the step was made
-  abbrev at_step : {op : PlainOp} {said : Option N} {n : ℕ} → Walk k may v.seen w.seen a op said n → State
+  abbrev pub at_step : {op : PlainOp} {said : Option N} {n : ℕ} → Walk k may v.seen w.seen a op said n → State
   at_step wk = run_from k (run k v.seen) wk.between
 
   -- what is true of the pass after a step
-  keeps_with : (op : PlainOp) (said : Option N) (n : ℕ) → Made op said n → FreshHeld a (run k w.seen) fresh2 → Keeps q holds may w c fresh2
+  pub keeps_with : (op : PlainOp) (said : Option N) (n : ℕ) → Made op said n → FreshHeld a (run k w.seen) fresh2 → Keeps q holds may w c fresh2
   keeps_with op said n x held =
       let same : x.agent ≡ c = some_one x.agent a (sym x.is ∙ h.is) ∙ sym e in
       record {
@@ -105,18 +105,18 @@ module _ {D N : Type 0} (d : discipline.Ghosts D N) (q : PlainShape N) (v w : Vi
       }
 
   -- the same, where the step's event spares the fresh node
-  keeps : (op : PlainOp) (said : Option N) (n : ℕ) (x : Made op said n) → fresh2 ≡ fresh
+  pub keeps : (op : PlainOp) (said : Option N) (n : ℕ) (x : Made op said n) → fresh2 ≡ fresh
       → ((row : ℕ) → fresh ≡ Some row → IsUntouched a (at_step (walked op said n x)).heap (index_of row (at_step (walked op said n x)).given)
       → IsUntouched a (heap_from (at_step (walked op said n x)).heap (events_of (at_step (walked op said n x)) a op (finds k (at_step (walked op said n x)) op) said)) (index_of row (at_step (walked op said n x)).given))
       → Keeps q holds may w c fresh2
   keeps op said n x f spares = keeps_with op said n x (subst (FreshHeld a (run k w.seen)) (sym f) (later_fresh k may v.seen w.seen a op said n (walked op said n x) fresh spares h.untouched))
 
   -- what the step added
-  added : (op : PlainOp) (said : Option N) (n : ℕ) (x : Made op said n) → Adds may (events_of (at_step (walked op said n x)) a op (finds k (at_step (walked op said n x)) op) said) s t
+  pub added : (op : PlainOp) (said : Option N) (n : ℕ) (x : Made op said n) → Adds may (events_of (at_step (walked op said n x)) a op (finds k (at_step (walked op said n x)) op) said) s t
   added op said n x = adds k may v w a c op said n (walked op said n x) e fresh fresh2 looked looked2
 
   -- where the step gives no row, the rows are those that it met
-  rows_met : {op : PlainOp} {said : Option N} {n : ℕ} (wk : Walk k may v.seen w.seen a op said n) → taken op (finds k (at_step wk) op) ≡ [] → (at_step wk).given ≡ (run k w.seen).given
+  pub rows_met : {op : PlainOp} {said : Option N} {n : ℕ} (wk : Walk k may v.seen w.seen a op said n) → taken op (finds k (at_step wk) op) ≡ [] → (at_step wk).given ≡ (run k w.seen).given
   rows_met {op} {said} {n} wk none = sym (given_later k may v.seen w.seen a op said n wk ∙ (ap (λ l. (at_step wk).given ++ l) none ∙ append-nil (at_step wk).given))
 
   pub look_keeps : (row n : ℕ) → fresh2 ≡ fresh → Made (GateLook row) None n → Keeps q holds may w c fresh2
@@ -185,7 +185,7 @@ module _ {D N : Type 0} (d : discipline.Ghosts D N) (q : PlainShape N) (v w : Vi
       (λ r _ u. subst (λ l. IsUntouched a (heap_from (at_step (walked (GateTake row) None n x)).heap l) (index_of r (at_step (walked (GateTake row) None n x)).given)) (sym (ap (λ (b : Bool). if b then event {N = N} a act.Give None ∷ [] else []) (lost_is row n other x))) u)
 
   -- a row that was given keeps its id
-  id_met : {op : PlainOp} {said : Option N} {n : ℕ} (wk : Walk k may v.seen w.seen a op said n) (row : ℕ) → index_of row g0 < length g0 → index_of row (at_step wk).given ≡ index_of row g0
+  pub id_met : {op : PlainOp} {said : Option N} {n : ℕ} (wk : Walk k may v.seen w.seen a op said n) (row : ℕ) → index_of row g0 < length g0 → index_of row (at_step wk).given ≡ index_of row g0
   id_met wk row lt = let g = given_more k (run k v.seen) wk.between in ap (index_of row) g.1 ∙ index_grown row g0 g.0 lt
 
   pub fill_adds : (row which value n : ℕ) → fresh ≡ Some row → Made (Fill row which value) None n → Adds may (event a (act.Fill (index_of row g0) which value) None ∷ []) s t
@@ -207,7 +207,7 @@ module _ {D N : Type 0} (d : discipline.Ghosts D N) (q : PlainShape N) (v w : Vi
   read_keeps row which n f x = keeps (Read row which) None n x f (λ _ _ u. u)
 
   -- the heap of what was seen
-  heap_then : heap_of k t ≡ (run k w.seen).heap
+  pub heap_then : heap_of k t ≡ (run k w.seen).heap
   heap_then = sym (heap_is k (start k) w.seen)
 
   valued : (row which : ℕ) (y : State) (m : Node) → Block k y.words y.given row m → (u : ℕ) → value_of which m ≡ Some u → slice_index y.words (place k (value_word row which)) ≡ u
