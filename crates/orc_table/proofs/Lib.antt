@@ -6,3 +6,4 @@ pub mod Walks
 pub mod Licences
 pub mod Tells
 pub mod LinkTells
+pub mod Opening

@@ -158,7 +158,7 @@ module _ {D N : Type 0} (d : discipline.Ghosts D N) (q : PlainShape N) (v : View
   pub stands : (seen : List (PlainStep N)) (x : State) (e : Event N) → run_heap (numbers k) (project k seen) ≡ x.heap → holds (project k seen) → Fits e.agent e.act x.heap → IsPlain e → may (project k seen) e
   stands seen x e heap hk f plain = d.allows_plain (numbers k) (project k seen) e hk (subst (λ z. Fits e.agent e.act z) (sym heap) f) plain
 
-  pub look_licence : (at : Word) → KnowsPlace k s at → Licensed plain_rules q holds may v a (LinkLoad at None) None
+  look_licence : (at : Word) → KnowsPlace k s at → Licensed plain_rules q holds may v a (LinkLoad at None) None
   look_licence at knows = from_mid (LinkLoad at None) None
       (λ between m hk. let x : State = run_from k (run k v.seen) between in
       let g = given_more k (run k v.seen) between in
@@ -198,12 +198,19 @@ module _ {D N : Type 0} (d : discipline.Ghosts D N) (q : PlainShape N) (v : View
       refl
 
   -- a look that has no note is allowed wherever it fits
-  pub plain_look : (at : Word) (w : RowLink) → MayWhereShown may k s at w (look_event s at w None)
+  plain_look : (at : Word) (w : RowLink) → MayWhereShown may k s at w (look_event s at w None)
   plain_look at w more later there =
       d.allows_plain (numbers k) (project k v.seen ++ more) (look_event s at w None) (stays may holds (λ es e p m. d.keeps (numbers k) es e p m) (project k v.seen) more h.now.kept later.allowed) there (refl, tt)
 
-  pub want_licence : (at : Word) (w : RowLink) (said : Option N) → KnowsPlace k s at → KnowsTarget k s w → MayWhereShown may k s at w (look_event s at w said) → Licensed plain_rules q holds may v a (LinkLoad at (Some w)) said
+  want_licence : (at : Word) (w : RowLink) (said : Option N) → KnowsPlace k s at → KnowsTarget k s w → MayWhereShown may k s at w (look_event s at w said) → Licensed plain_rules q holds may v a (LinkLoad at (Some w)) said
   want_licence at w said knows from allowed = from_mid (LinkLoad at (Some w)) said (may_test at w w (λ p l _. event a (act.Look p l) said) knows from from allowed)
+
+  -- a load that may want a link, and may have a note
+  pub load_licence : (at : Word) (want : Option RowLink) (said : Option N) → KnowsPlace k s at → ((w : RowLink) → want ≡ Some w → KnowsTarget k s w) → (want ≡ None → said ≡ None)
+      → ((w : RowLink) (x : N) → want ≡ Some w → said ≡ Some x → MayWhereShown may k s at w (look_event s at w said)) → Licensed plain_rules q holds may v a (LinkLoad at want) said
+  load_licence at None said knows known none allowed = subst (Licensed plain_rules q holds may v a (LinkLoad at None)) (sym (none refl)) (look_licence at knows)
+  load_licence at (Some w) None knows known none allowed = want_licence at w None knows (known w refl) (plain_look at w)
+  load_licence at (Some w) (Some x) knows known none allowed = want_licence at w (Some x) knows (known w refl) (allowed w x refl refl)
 
   pub cas_licence : (at : Word) (w t : RowLink) (said : Option N) → KnowsPlace k s at → KnowsTarget k s w → KnowsTarget k s t → MayWhereShown may k s at w (move_event s at w t said) → Licensed plain_rules q holds may v a (LinkCas at w t) said
   cas_licence at w t said knows from to allowed = from_mid (LinkCas at w t) said (may_test at w t (λ p l m. event a (act.Move p l m) said) knows from to allowed)

@@ -103,20 +103,20 @@ module _ {D N : Type 0} (d : discipline.Ghosts D N) (q : PlainShape N) (v w : Vi
       subst (λ z. IsTarget a z l.to) (sym (heap_later k may v.seen w.seen a op said n wk) ∙ sym (heap_then d q v w a c fresh looked fresh2 looked2 h e))
       (target_from a (at wk).heap (own k may v.seen w.seen a op said n wk) l.to (is_named a (at wk).heap l.to (wk.mid.tie.targets place l is)))
 
-  pub load_finds : (place : Word) (n : ℕ) → KnowsPlace k s place → Made (LinkLoad place None) None n → Finds may k (place_by g0 place) n s t
-  load_finds place n knows x =
-      let wk = walks (LinkLoad place None) None n x in
+  load_finds : (place : Word) (said : Option N) (n : ℕ) → KnowsPlace k s place → Made (LinkLoad place None) said n → Finds may k (place_by g0 place) n s t
+  load_finds place said n knows x =
+      let wk = walks (LinkLoad place None) said n x in
       let y : State = at wk in
       let there = place_met wk place knows in
       let sh = shows_met wk place knows in record {
         link = sh.link;
         word = word_then wk refl sh.link n (subst (IsWord y.given sh.link.to sh.link.mark) (sym wk.answers) sh.word);
         known = known_then wk (place_by y.given place) sh.link sh.is;
-        adds = subst (λ (z : Place × Link). Adds may (event a (act.Look z.0 z.1) None ∷ []) s t) (λ i. (there.1 i, ap link_at sh.is i)) (added d q v w a c fresh looked fresh2 looked2 h e (LinkLoad place None) None n x);
+        adds = subst (λ (z : Place × Link). Adds may (event a (act.Look z.0 z.1) None ∷ []) s t) (λ i. (there.1 i, ap link_at sh.is i)) (added d q v w a c fresh looked fresh2 looked2 h e (LinkLoad place None) said n x);
       }
 
-  pub load_keeps : (place : Word) (n : ℕ) → fresh2 ≡ fresh → Made (LinkLoad place None) None n → Keeps q holds may w c fresh2
-  load_keeps place n f x = keeps d q v w a c fresh looked fresh2 looked2 h e (LinkLoad place None) None n x f (λ _ _ u. u)
+  load_keeps : (place : Word) (said : Option N) (n : ℕ) → fresh2 ≡ fresh → Made (LinkLoad place None) said n → Keeps q holds may w c fresh2
+  load_keeps place said n f x = keeps d q v w a c fresh looked fresh2 looked2 h e (LinkLoad place None) said n x f (λ _ _ u. u)
 
   -- the event of an operation that wanted a link and found it
   hit_event : {op : PlainOp} {said : Option N} {n : ℕ} (wk : Walk k may v.seen w.seen a op said n) (place : Word) (from to : RowLink) (done : Place → Link → Link → Event N) (found : ℕ) → KnowsPlace k s place → KnowsTarget k s from → KnowsTarget k s to → found ≡ link_word from
@@ -141,12 +141,12 @@ module _ {D N : Type 0} (d : discipline.Ghosts D N) (q : PlainShape N) (v w : Vi
       let lw = link_met wk from known in
       missed k y place from wk.mid.tie (shows_met wk place knows) lw.0 (ne_eqb (slice_index y.words (word_place k place)) (link_word from) (λ z. other (is ∙ z))) (same ∙ sym lw.1)
 
-  pub want_meets : (place : Word) (l : RowLink) (said : Option N) (n : ℕ) → KnowsPlace k s place → KnowsTarget k s l → n ≡ link_word l → Made (LinkLoad place (Some l)) said n → Adds may (look_event s place l said ∷ []) s t
+  want_meets : (place : Word) (l : RowLink) (said : Option N) (n : ℕ) → KnowsPlace k s place → KnowsTarget k s l → n ≡ link_word l → Made (LinkLoad place (Some l)) said n → Adds may (look_event s place l said ∷ []) s t
   want_meets place l said n knows known is x =
       let wk = walks (LinkLoad place (Some l)) said n x in
       subst (λ z. Adds may (z ∷ []) s t) (hit_event wk place l l (λ p m _. event a (act.Look p m) said) (finds k (at wk) (LinkLoad place (Some l))) knows known known (sym wk.answers ∙ is)) (added d q v w a c fresh looked fresh2 looked2 h e (LinkLoad place (Some l)) said n x)
 
-  pub want_misses : (place : Word) (l : RowLink) (said : Option N) (n : ℕ) → KnowsPlace k s place → KnowsTarget k s l → n ≢ link_word l → Made (LinkLoad place (Some l)) said n → Misses may k (place_by g0 place) (link_by g0 l) n s t
+  want_misses : (place : Word) (l : RowLink) (said : Option N) (n : ℕ) → KnowsPlace k s place → KnowsTarget k s l → n ≢ link_word l → Made (LinkLoad place (Some l)) said n → Misses may k (place_by g0 place) (link_by g0 l) n s t
   want_misses place l said n knows known other x =
       let wk = walks (LinkLoad place (Some l)) said n x in
       let y : State = at wk in
@@ -160,11 +160,32 @@ module _ {D N : Type 0} (d : discipline.Ghosts D N) (q : PlainShape N) (v w : Vi
         adds = subst (λ z. Adds may (z ∷ []) s t) (miss_event wk place l (event a (act.Look (place_by y.given place) (link_by y.given l)) said) found knows known other2) (added d q v w a c fresh looked fresh2 looked2 h e (LinkLoad place (Some l)) said n x);
       }
 
-  pub want_keeps : (place : Word) (l : RowLink) (said : Option N) (n : ℕ) → fresh2 ≡ fresh → Made (LinkLoad place (Some l)) said n → Keeps q holds may w c fresh2
+  want_keeps : (place : Word) (l : RowLink) (said : Option N) (n : ℕ) → fresh2 ≡ fresh → Made (LinkLoad place (Some l)) said n → Keeps q holds may w c fresh2
   want_keeps place l said n f x =
       let wk = walks (LinkLoad place (Some l)) said n x in
       let y : State = at wk in
       keeps d q v w a c fresh looked fresh2 looked2 h e (LinkLoad place (Some l)) said n x f (λ row _ u. look_spares a y (place_by y.given place) (link_by y.given l) said (finds k y (LinkLoad place (Some l)) == link_word l) (index_of row y.given) u)
+
+  -- a load that may want a link
+  pub any_keeps : (place : Word) (want : Option RowLink) (said : Option N) (n : ℕ) → fresh2 ≡ fresh → Made (LinkLoad place want) said n → Keeps q holds may w c fresh2
+  any_keeps place None said n f x = load_keeps place said n f x
+  any_keeps place (Some l) said n f x = want_keeps place l said n f x
+
+  pub any_finds : (place : Word) (want : Option RowLink) (said : Option N) (n : ℕ) → KnowsPlace k s place → want ≡ None → Made (LinkLoad place want) said n → Finds may k (place_by g0 place) n s t
+  any_finds place None said n knows is x = load_finds place said n knows x
+  any_finds place (Some l) said n knows is x = cc
+
+  pub any_meets : (place : Word) (want : Option RowLink) (l : RowLink) (said : Option N) (n : ℕ) → KnowsPlace k s place → ((m : RowLink) → want ≡ Some m → KnowsTarget k s m) → want ≡ Some l → n ≡ link_word l → Made (LinkLoad place want) said n
+      → Adds may (look_event s place l said ∷ []) s t
+  any_meets place None l said n knows known is hits x = cc
+  any_meets place (Some m) l said n knows known is hits x = let same : m ≡ l = some_one m l is in
+      want_meets place l said n knows (known l is) hits (subst (λ z. Made (LinkLoad place (Some z)) said n) same x)
+
+  pub any_misses : (place : Word) (want : Option RowLink) (l : RowLink) (said : Option N) (n : ℕ) → KnowsPlace k s place → ((m : RowLink) → want ≡ Some m → KnowsTarget k s m) → want ≡ Some l → n ≢ link_word l → Made (LinkLoad place want) said n
+      → Misses may k (place_by g0 place) (link_by g0 l) n s t
+  any_misses place None l said n knows known is other x = cc
+  any_misses place (Some m) l said n knows known is other x = let same : m ≡ l = some_one m l is in
+      want_misses place l said n knows (known l is) other (subst (λ z. Made (LinkLoad place (Some z)) said n) same x)
 
   pub cas_moves : (place : Word) (from to : RowLink) (said : Option N) (n : ℕ) → KnowsPlace k s place → KnowsTarget k s from → KnowsTarget k s to → n ≡ link_word from → Made (LinkCas place from to) said n → Adds may (move_event s place from to said ∷ []) s t
   cas_moves place from to said n knows known known2 is x =

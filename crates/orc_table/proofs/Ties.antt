@@ -404,7 +404,7 @@ zeros zero i = refl
 zeros (suc n) zero = refl
 zeros (suc n) (suc i) = zeros n i
 
-zero_word : (k : Bounds) (rows p : ℕ) → ((row : ℕ) → p ≢ row_place k row + 1) → slice_index (with_counters k rows (replicate (places k) 0)) p ≡ 0
+pub zero_word : (k : Bounds) (rows p : ℕ) → ((row : ℕ) → p ≢ row_place k row + 1) → slice_index (with_counters k rows (replicate (places k) 0)) p ≡ 0
 zero_word k zero p none = zeros (places k) p
 zero_word k (suc rows) p none = same_word (with_counters k rows (replicate (places k) 0)) (row_place k rows + 1) NEW_COUNTER p (none rows) ∙ zero_word k rows p none
 

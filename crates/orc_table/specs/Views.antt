@@ -1,7 +1,7 @@
 -- What a pass shows, and what is true of it between calls.
 use Rattle.std.specs.Prelude.{[], ◌≡◌, ℕ, ◌<◌, List, length, Bool, false, Option, Some, None, slice_get}
 use Rattle.orc_words.specs.Bounds.{Bounds, bounds_of}
-use Rattle.orc_heap.specs.Heap.{Heap, Node}
+use Rattle.orc_heap.specs.Heap.{Heap, HeapNumbers, Node}
 use Rattle.orc_heap.specs.Journals.{run_heap}
 use Rattle.orc_heap.specs.declared.discipline.Discipline as discipline
 use Rattle.orc_heap.specs.declared.events.Event.{Event}
@@ -66,6 +66,10 @@ module _ {D N : Type 0} where
   abbrev pub board_bounds : PlainBoard D N → Bounds
   board_bounds board = bounds_of board.words.shape.shape
 
+  -- the numbers of its heap
+  abbrev pub board_numbers : PlainBoard D N → HeapNumbers
+  board_numbers board = numbers (board_bounds board)
+
 module _ {D N : Type 0} {d : discipline.Ghosts D N} {m : machine.Ghosts Plain N (PlainShape N) PlainOp (PlainStep N) (Unit {0}) (Unit {0})} where
   -- what the pass shows
   abbrev pub shows : PlainBoard D N → PlainPass D N (PlainShape N) PlainOp (PlainStep N) (Unit {0}) (Unit {0}) d m → PlainView N
@@ -74,4 +78,4 @@ module _ {D N : Type 0} {d : discipline.Ghosts D N} {m : machine.Ghosts Plain N 
   -- the pass is one of the board's
   pub record Belongs (board : PlainBoard D N) (p : PlainPass D N (PlainShape N) PlainOp (PlainStep N) (Unit {0}) (Unit {0}) d m) : Type 0 where
     pub table : p.pass.seat.table_id ≡ board.words.table.shared.table_id
-    pub keeps : Keeps board.words.shape (d.holds (numbers (board_bounds board))) (d.may (numbers (board_bounds board))) p.pass.seat.me.0 p.pass.agent p.fresh
+    pub keeps : Keeps board.words.shape (d.holds (board_numbers board)) (d.may (board_numbers board)) p.pass.seat.me.0 p.pass.agent p.fresh
