@@ -49,12 +49,15 @@ module _ {K S Op Rec N : Type 0} (r : Rules K S Op Rec N) (k : K) where
   -- what one more step does
   pub record Obeys : Type 0 where
     pub by_step : (a : ℕ) (op : Op) (said : Option N) → r.by (r.step a op said) ≡ a
+    -- it writes its word
     pub words_next : (j : List S) (a : ℕ) (op : Op) (said : Option N)
         → r.words k (j ++ r.step a op said ∷ []) ≡ slice_set (r.words k j) (r.place k a op (r.own k j a)) (r.written k a op (r.own k j a) (found_by j a op))
+    -- it changes its agent's record, and no other
     pub own_next : (j : List S) (a : ℕ) (op : Op) (said : Option N) → a < r.agents k
         → r.own k (j ++ r.step a op said ∷ []) a ≡ r.after k a op (r.own k j a) (found_by j a op)
-    pub own_other : (j : List S) (a : ℕ) (op : Op) (said : Option N) (b : ℕ) → b ≢ a
-        → r.own k (j ++ r.step a op said ∷ []) b ≡ r.own k j b
+    pub own_other : (j : List S) (s : S) (b : ℕ) → b ≢ r.by s → r.own k (j ++ s ∷ []) b ≡ r.own k j b
+    -- where the record allows it, the journal stays lawful
     pub lawful_next : (j : List S) (a : ℕ) (op : Op) (said : Option N) → r.lawful k j → r.allowed k a op (r.own k j a)
         → r.lawful k (j ++ r.step a op said ∷ [])
+    -- it appends its events
     pub project_next : (j : List S) (s : S) → r.project k (j ++ s ∷ []) ≡ r.project k j ++ r.events k j s

@@ -1,7 +1,8 @@
 -- How views of passes are made, cut in two and put together.
+use Rattle.orc_shared_words.specs.Lists.{Among}
 use Rattle.orc_shared_words.specs.Runs.{Rules}
 use Rattle.orc_shared_words.specs.declared.journal.View.{View}
-use Rattle.std.specs.Prelude.{List, None, Option, Some, [], ℕ, ◌++◌, ◌+◌, ◌∷◌}
+use Rattle.std.specs.Prelude.{None, Option, Some, [], ℕ, ◌++◌, ◌+◌, ◌∷◌, ◌≡◌, ◌⊎◌}
 
 abbrev pub next_number : Option ℕ → Option ℕ
 next_number None = None
@@ -12,13 +13,17 @@ agent_of None = 0
 agent_of (Some a) = a
 
 module _ {S Rec : Type 0} where
+  -- the pass is that of agent b, or took it in for good
+  abbrev pub Covers : View S Rec → ℕ → Type 0
+  Covers v b = (v.agent ≡ Some b) ⊎ Among b v.also
+
   -- a pass keeps a note's list beside its own
   abbrev pub keeping : View S Rec → View S Rec → View S Rec
   keeping v w = record v { kept = w.seen }
 
-  -- a pass takes in another for good
+  -- a pass takes in another for good, and what that one had taken in
   abbrev pub absorbing : View S Rec → View S Rec → View S Rec
-  absorbing v w = record v { also = agent_of w.agent ∷ v.also; taken = w.seen ∷ w.taken ++ v.taken }
+  absorbing v w = record v { also = agent_of w.agent ∷ w.also ++ v.also; taken = w.seen ∷ w.taken ++ v.taken }
 
   -- the maker has handed out a number
   abbrev pub one_handed : View S Rec → View S Rec

@@ -2,6 +2,7 @@
 #![tactic(auto)]
 
 mod journal;
+mod last_words;
 mod machine;
 mod moves;
 mod operation;
@@ -9,6 +10,7 @@ mod rule;
 mod shared_words;
 
 pub use journal::{Step, View};
+pub use last_words::LastWords;
 pub use machine::Machine;
 pub use moves::{Absorb, Confirm, Does, NextAgent, Note, Picks};
 pub use operation::Operation;
