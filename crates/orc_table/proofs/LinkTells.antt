@@ -35,7 +35,7 @@ use Rattle.orc_table.proofs.Lists.{at_index, get_last, get_lt, index_at, index_g
 use Rattle.orc_table.proofs.Ties.{Given, word_grown}
 use Rattle.orc_table.proofs.Steps.{Tied, heap_is}
 use Rattle.orc_table.proofs.Untouched.{Spares, spared_after, target_from}
-use Rattle.orc_table.proofs.Walks.{Walk, none_by, adds, given_later, given_more, heap_later, later_fresh, met, mid_fresh, own, rows_later, walk}
+use Rattle.orc_table.proofs.Walks.{Walk, none_by, others_none, adds, given_later, given_more, heap_later, later_fresh, met, mid_fresh, own, rows_later, walk}
 use Rattle.orc_table.proofs.Licences.{PlaceHeld, Shows, link_given, link_grown, missed, place_given, place_grown, shows}
 
 use Rattle.orc_table.proofs.Tells.{added, at_step, heap_then, id_met, is_named, keeps, keeps_with, rows_met, walked}
@@ -78,30 +78,30 @@ module _ {D N : Type 0} (d : discipline.Ghosts D N) (q : PlainShape N) (v w : Vi
   abbrev Made : PlainOp → Option N → ℕ → Type 0
   Made op said n = Extends plain_rules q holds may op said v n w
 
-  abbrev walks : (op : PlainOp) (said : Option N) (n : ℕ) → Made op said n → Walk k may v.seen w.seen a op said n
+  abbrev walks : (op : PlainOp) (said : Option N) (n : ℕ) → Made op said n → Walk k may v w a op said n
   walks op said n x = walked d q v w a c fresh looked fresh2 looked2 h e op said n x
 
-  abbrev at : {op : PlainOp} {said : Option N} {n : ℕ} → Walk k may v.seen w.seen a op said n → State
+  abbrev at : {op : PlainOp} {said : Option N} {n : ℕ} → Walk k may v w a op said n → State
   at wk = run_from k (run k v.seen) wk.between
 
-  place_met : {op : PlainOp} {said : Option N} {n : ℕ} (wk : Walk k may v.seen w.seen a op said n) (place : Word) → KnowsPlace k s place → PlaceHeld k (at wk).given place × (place_by (at wk).given place ≡ place_by g0 place)
+  place_met : {op : PlainOp} {said : Option N} {n : ℕ} (wk : Walk k may v w a op said n) (place : Word) → KnowsPlace k s place → PlaceHeld k (at wk).given place × (place_by (at wk).given place ≡ place_by g0 place)
   place_met wk place knows = let g = given_more k (run k v.seen) wk.between in place_grown k g0 g.0 (at wk).given place g.1 (place_given d q v a fresh looked h place knows)
 
-  link_met : {op : PlainOp} {said : Option N} {n : ℕ} (wk : Walk k may v.seen w.seen a op said n) (l : RowLink) → KnowsTarget k s l → Given (at wk).given l.to × (link_by (at wk).given l ≡ link_by g0 l)
+  link_met : {op : PlainOp} {said : Option N} {n : ℕ} (wk : Walk k may v w a op said n) (l : RowLink) → KnowsTarget k s l → Given (at wk).given l.to × (link_by (at wk).given l ≡ link_by g0 l)
   link_met wk l knows = let g = given_more k (run k v.seen) wk.between in link_grown g0 g.0 (at wk).given l g.1 (link_given d q v a fresh looked h l knows)
 
   -- the place as the step met it
-  shows_met : {op : PlainOp} {said : Option N} {n : ℕ} (wk : Walk k may v.seen w.seen a op said n) (place : Word) → KnowsPlace k s place → Shows k (at wk) place
+  shows_met : {op : PlainOp} {said : Option N} {n : ℕ} (wk : Walk k may v w a op said n) (place : Word) → KnowsPlace k s place → Shows k (at wk) place
   shows_met wk place knows = shows k (at wk) place wk.mid.tie (place_met wk place knows).0
 
   -- a link that was met, in what was seen afterwards
-  word_then : {op : PlainOp} {said : Option N} {n : ℕ} (wk : Walk k may v.seen w.seen a op said n) → taken op (finds k (at wk) op) ≡ [] → (l : Link) (m : ℕ) → IsWord (at wk).given l.to l.mark m → IsWord t.rows l.to l.mark m
+  word_then : {op : PlainOp} {said : Option N} {n : ℕ} (wk : Walk k may v w a op said n) → taken op (finds k (at wk) op) ≡ [] → (l : Link) (m : ℕ) → IsWord (at wk).given l.to l.mark m → IsWord t.rows l.to l.mark m
   word_then wk none l m word = subst (λ z. IsWord z l.to l.mark m) (rows_met d q v w a c fresh looked fresh2 looked2 h e wk none) word
 
-  known_then : {op : PlainOp} {said : Option N} {n : ℕ} (wk : Walk k may v.seen w.seen a op said n) (place : Place) (l : Link) → shown (at wk).heap place ≡ Some l → IsTarget a (heap_of k t) l.to
+  known_then : {op : PlainOp} {said : Option N} {n : ℕ} (wk : Walk k may v w a op said n) (place : Place) (l : Link) → shown (at wk).heap place ≡ Some l → IsTarget a (heap_of k t) l.to
   known_then {op} {said} {n} wk place l is =
-      subst (λ z. IsTarget a z l.to) (sym (heap_later k may v.seen w.seen a op said n wk) ∙ sym (heap_then d q v w a c fresh looked fresh2 looked2 h e))
-      (target_from a (at wk).heap (own k may v.seen w.seen a op said n wk) l.to (is_named a (at wk).heap l.to (wk.mid.tie.targets place l is)))
+      subst (λ z. IsTarget a z l.to) (sym (heap_later k may v w a op said n wk) ∙ sym (heap_then d q v w a c fresh looked fresh2 looked2 h e))
+      (target_from a (at wk).heap (own k may v w a op said n wk) l.to (is_named a (at wk).heap l.to (wk.mid.tie.targets place l is)))
 
   load_finds : (place : Word) (said : Option N) (n : ℕ) → KnowsPlace k s place → Made (LinkLoad place None) said n → Finds may k (place_by g0 place) n s t
   load_finds place said n knows x =
@@ -119,7 +119,7 @@ module _ {D N : Type 0} (d : discipline.Ghosts D N) (q : PlainShape N) (v w : Vi
   load_keeps place said n f x = keeps d q v w a c fresh looked fresh2 looked2 h e (LinkLoad place None) said n x f (λ _ _ u. u)
 
   -- the event of an operation that wanted a link and found it
-  hit_event : {op : PlainOp} {said : Option N} {n : ℕ} (wk : Walk k may v.seen w.seen a op said n) (place : Word) (from to : RowLink) (done : Place → Link → Link → Event N) (found : ℕ) → KnowsPlace k s place → KnowsTarget k s from → KnowsTarget k s to → found ≡ link_word from
+  hit_event : {op : PlainOp} {said : Option N} {n : ℕ} (wk : Walk k may v w a op said n) (place : Word) (from to : RowLink) (done : Place → Link → Link → Event N) (found : ℕ) → KnowsPlace k s place → KnowsTarget k s from → KnowsTarget k s to → found ≡ link_word from
       → tested (at wk) a (place_by (at wk).given place) (link_by (at wk).given from) (done (place_by (at wk).given place) (link_by (at wk).given from) (link_by (at wk).given to)) (found == link_word from) ≡ done (place_by g0 place) (link_by g0 from) (link_by g0 to)
   hit_event wk place from to done found knows known known2 is =
       let y : State = at wk in
@@ -127,7 +127,7 @@ module _ {D N : Type 0} (d : discipline.Ghosts D N) (q : PlainShape N) (v w : Vi
       ∙ (λ i. done ((place_met wk place knows).1 i) ((link_met wk from known).1 i) ((link_met wk to known2).1 i))
 
   -- the event of one that found another link
-  miss_event : {op : PlainOp} {said : Option N} {n : ℕ} (wk : Walk k may v.seen w.seen a op said n) (place : Word) (from : RowLink) (done : Event N) (found : ℕ) (knows : KnowsPlace k s place) → KnowsTarget k s from → found ≢ link_word from
+  miss_event : {op : PlainOp} {said : Option N} {n : ℕ} (wk : Walk k may v w a op said n) (place : Word) (from : RowLink) (done : Event N) (found : ℕ) (knows : KnowsPlace k s place) → KnowsTarget k s from → found ≢ link_word from
       → tested (at wk) a (place_by (at wk).given place) (link_by (at wk).given from) done (found == link_word from) ≡ event a (act.Miss (place_by g0 place) (link_by g0 from) (shows_met wk place knows).link) None
   miss_event wk place from done found knows known other =
       let y : State = at wk in
@@ -135,7 +135,7 @@ module _ {D N : Type 0} (d : discipline.Ghosts D N) (q : PlainShape N) (v w : Vi
       ap (λ (b : Bool). tested y a (place_by y.given place) (link_by y.given from) done b) (ne_eqb found (link_word from) other)
       ∙ (λ i. event a (act.Miss ((place_met wk place knows).1 i) ((link_met wk from known).1 i) (ap link_at sh.is i)) None)
 
-  other_link : {op : PlainOp} {said : Option N} {n : ℕ} (wk : Walk k may v.seen w.seen a op said n) (place : Word) (from : RowLink) (found : ℕ) (knows : KnowsPlace k s place) (known : KnowsTarget k s from) → found ≡ slice_index (at wk).words (word_place k place) → found ≢ link_word from → (shows_met wk place knows).link ≢ link_by g0 from
+  other_link : {op : PlainOp} {said : Option N} {n : ℕ} (wk : Walk k may v w a op said n) (place : Word) (from : RowLink) (found : ℕ) (knows : KnowsPlace k s place) (known : KnowsTarget k s from) → found ≡ slice_index (at wk).words (word_place k place) → found ≢ link_word from → (shows_met wk place knows).link ≢ link_by g0 from
   other_link wk place from found knows known is other same =
       let y : State = at wk in
       let lw = link_met wk from known in
@@ -218,13 +218,13 @@ module _ {D N : Type 0} (d : discipline.Ghosts D N) (q : PlainShape N) (v w : Vi
   pub cas_keeps : (place : Word) (from to : RowLink) (said : Option N) (n : ℕ) (done : Bool) → KnowsTarget k s to → done ≡ (n == link_word from) → fresh2 ≡ fresh_after done to → Made (LinkCas place from to) said n → Keeps q holds may w c fresh2
   cas_keeps place from to said n done known is f x = keeps_with d q v w a c fresh looked fresh2 looked2 h e (LinkCas place from to) said n x (subst (FreshHeld a (run k w.seen)) (sym f) (held done is))
     where
-      wk : Walk k may v.seen w.seen a (LinkCas place from to) said n
+      wk : Walk k may v w a (LinkCas place from to) said n
       wk = walks (LinkCas place from to) said n x
 
       held_still : (b : Bool) → b ≡ (n == link_word from) → (f : Option ℕ) → FreshHeld a (run k v.seen) f → ((row : ℕ) → f ≡ Some row → b ≡ true → id_by (at wk).given to.to ≢ Some (index_of row (at wk).given)) → FreshHeld a (run k w.seen) f
       held_still b q2 f hf ne =
           let y : State = at wk in
-          later_fresh k may v.seen w.seen a (LinkCas place from to) said n wk f
+          later_fresh k may v w a (LinkCas place from to) said n wk f
           (λ row r u. move_spares a y (place_by y.given place) (link_by y.given from) (link_by y.given to) said (finds k y (LinkCas place from to) == link_word from) (index_of row y.given) (λ t2. ne row r (q2 ∙ (ap (λ z. z == link_word from) wk.answers ∙ t2))) u) hf
 
       held : (b : Bool) → b ≡ (n == link_word from) → FreshHeld a (run k w.seen) (if b then unless_linked fresh to.to else fresh)
@@ -250,7 +250,9 @@ module _ {D N : Type 0} (d : discipline.Ghosts D N) (q : PlainShape N) (v w : Vi
           events = wk.events ∙ (λ i. (project k v.seen ++ es) ++ event a (act.Aim (id i) (to i)) None ∷ []);
           allowed = subst (λ (z : ℕ × Option ℕ). AllAllowed may (project k v.seen ++ es) (event a (act.Aim z.0 z.1) None ∷ [])) (λ i. (id i, to i)) wk.allowed;
           agent = e;
-          rows = rows_later k may v.seen w.seen a (LinkStore row l.to) None n wk;
+          rows = rows_later k may v w a (LinkStore row l.to) None n wk;
+          absorbed = wk.also;
+          retired = λ b there. none_by b es (others_none k b (run k v.seen) wk.between (wk.retired b there));
         };
         old = sh.link;
         shown_is = subst (λ (z : Heap × ℕ). shown z.0 (AtNext z.1) ≡ Some sh.link) (λ i. (heap i, id i)) sh.is;

@@ -86,11 +86,11 @@ module _ {D N : Type 0} (d : discipline.Ghosts D N) (q : PlainShape N) (v w : Vi
   abbrev Made : PlainOp → Option N → ℕ → Type 0
   Made op said n = Extends plain_rules q holds may op said v n w
 
-  pub walked : (op : PlainOp) (said : Option N) (n : ℕ) → Made op said n → Walk k may v.seen w.seen a op said n
+  pub walked : (op : PlainOp) (said : Option N) (n : ℕ) → Made op said n → Walk k may v w a op said n
   walked op said n x = walk d q v w a op said n h.began h.is x
 
   -- the state in which the step was made
-  abbrev pub at_step : {op : PlainOp} {said : Option N} {n : ℕ} → Walk k may v.seen w.seen a op said n → State
+  abbrev pub at_step : {op : PlainOp} {said : Option N} {n : ℕ} → Walk k may v w a op said n → State
   at_step wk = run_from k (run k v.seen) wk.between
 
   -- what is true of the pass after a step
@@ -109,15 +109,15 @@ module _ {D N : Type 0} (d : discipline.Ghosts D N) (q : PlainShape N) (v w : Vi
       → ((row : ℕ) → fresh ≡ Some row → IsUntouched a (at_step (walked op said n x)).heap (index_of row (at_step (walked op said n x)).given)
       → IsUntouched a (heap_from (at_step (walked op said n x)).heap (events_of (at_step (walked op said n x)) a op (finds k (at_step (walked op said n x)) op) said)) (index_of row (at_step (walked op said n x)).given))
       → Keeps q holds may w c fresh2
-  keeps op said n x f spares = keeps_with op said n x (subst (FreshHeld a (run k w.seen)) (sym f) (later_fresh k may v.seen w.seen a op said n (walked op said n x) fresh spares h.untouched))
+  keeps op said n x f spares = keeps_with op said n x (subst (FreshHeld a (run k w.seen)) (sym f) (later_fresh k may v w a op said n (walked op said n x) fresh spares h.untouched))
 
   -- what the step added
   pub added : (op : PlainOp) (said : Option N) (n : ℕ) (x : Made op said n) → Adds may (events_of (at_step (walked op said n x)) a op (finds k (at_step (walked op said n x)) op) said) s t
   added op said n x = adds k may v w a c op said n (walked op said n x) e fresh fresh2 looked looked2
 
   -- where the step gives no row, the rows are those that it met
-  pub rows_met : {op : PlainOp} {said : Option N} {n : ℕ} (wk : Walk k may v.seen w.seen a op said n) → taken op (finds k (at_step wk) op) ≡ [] → (at_step wk).given ≡ (run k w.seen).given
-  rows_met {op} {said} {n} wk none = sym (given_later k may v.seen w.seen a op said n wk ∙ (ap (λ l. (at_step wk).given ++ l) none ∙ append-nil (at_step wk).given))
+  pub rows_met : {op : PlainOp} {said : Option N} {n : ℕ} (wk : Walk k may v w a op said n) → taken op (finds k (at_step wk) op) ≡ [] → (at_step wk).given ≡ (run k w.seen).given
+  rows_met {op} {said} {n} wk none = sym (given_later k may v w a op said n wk ∙ (ap (λ l. (at_step wk).given ++ l) none ∙ append-nil (at_step wk).given))
 
   pub look_keeps : (row n : ℕ) → fresh2 ≡ fresh → Made (GateLook row) None n → Keeps q holds may w c fresh2
   look_keeps row n f x = keeps (GateLook row) None n x f (λ _ _ u. u)
@@ -143,7 +143,7 @@ module _ {D N : Type 0} (d : discipline.Ghosts D N) (q : PlainShape N) (v w : Vi
   rows_taken : (row n : ℕ) → n ≡ 0 → (x : Made (GateTake row) None n) → (run k w.seen).given ≡ (at_step (walked (GateTake row) None n x)).given ++ row ∷ []
   rows_taken row n zero_gate x =
       let wk = walked (GateTake row) None n x in
-      given_later k may v.seen w.seen a (GateTake row) None n wk ∙ ap (λ (b : Bool). (at_step wk).given ++ (if b then row ∷ [] else [])) (taken_is row n zero_gate x)
+      given_later k may v w a (GateTake row) None n wk ∙ ap (λ (b : Bool). (at_step wk).given ++ (if b then row ∷ [] else [])) (taken_is row n zero_gate x)
 
   pub take_gives : (row n : ℕ) → n ≡ 0 → row < k.rows → fresh2 ≡ Some row → Made (GateTake row) None n → Gives may row s t
   take_gives row n zero_gate lt f x =
@@ -164,7 +164,7 @@ module _ {D N : Type 0} (d : discipline.Ghosts D N) (q : PlainShape N) (v w : Vi
       let last : slice_get g (length y.given) ≡ Some row = subst (λ z. slice_get z (length y.given) ≡ Some row) (sym rows) (get_last y.given row) in
       let at : index_of row g ≡ length y.given = index_at row g (length y.given) wk.tie.once last in
       let heap : (run k w.seen).heap ≡ record { nodes = y.heap.nodes ++ new_node a ∷ []; roots = y.heap.roots } =
-      heap_later k may v.seen w.seen a (GateTake row) None n wk ∙ ap (λ (b : Bool). heap_from y.heap (if b then event {N = N} a act.Give None ∷ [] else [])) (taken_is row n zero_gate x) in
+      heap_later k may v w a (GateTake row) None n wk ∙ ap (λ (b : Bool). heap_from y.heap (if b then event {N = N} a act.Give None ∷ [] else [])) (taken_is row n zero_gate x) in
       let there : slice_get (run k w.seen).heap.nodes (index_of row g) ≡ Some (new_node a) = subst (λ (z : Heap × ℕ). slice_get z.0.nodes z.1 ≡ Some (new_node a)) (λ i. (sym heap i, (sym wk.mid.tie.even ∙ sym at) i)) (get-added y.heap.nodes (new_node a)) in
       keeps_with (GateTake row) None n x (subst (FreshHeld a (run k w.seen)) (sym f) (index_in row g (length y.given) last, record { node = new_node a; there = there; mine = refl; unnamed = refl; unlinked = refl }))
 
@@ -185,7 +185,7 @@ module _ {D N : Type 0} (d : discipline.Ghosts D N) (q : PlainShape N) (v w : Vi
       (λ r _ u. subst (λ l. IsUntouched a (heap_from (at_step (walked (GateTake row) None n x)).heap l) (index_of r (at_step (walked (GateTake row) None n x)).given)) (sym (ap (λ (b : Bool). if b then event {N = N} a act.Give None ∷ [] else []) (lost_is row n other x))) u)
 
   -- a row that was given keeps its id
-  pub id_met : {op : PlainOp} {said : Option N} {n : ℕ} (wk : Walk k may v.seen w.seen a op said n) (row : ℕ) → index_of row g0 < length g0 → index_of row (at_step wk).given ≡ index_of row g0
+  pub id_met : {op : PlainOp} {said : Option N} {n : ℕ} (wk : Walk k may v w a op said n) (row : ℕ) → index_of row g0 < length g0 → index_of row (at_step wk).given ≡ index_of row g0
   id_met wk row lt = let g = given_more k (run k v.seen) wk.between in ap (index_of row) g.1 ∙ index_grown row g0 g.0 lt
 
   pub fill_adds : (row which value n : ℕ) → fresh ≡ Some row → Made (Fill row which value) None n → Adds may (event a (act.Fill (index_of row g0) which value) None ∷ []) s t
@@ -226,7 +226,7 @@ module _ {D N : Type 0} (d : discipline.Ghosts D N) (q : PlainShape N) (v w : Vi
       let even = wk.mid.tie.even in
       let node = lt_get y.heap.nodes (index_of row y.given) (omega (arith, now, even)) in
       let block = wk.mid.tie.node (index_of row y.given) row node.0 (at_index row y.given now) node.1 in
-      let heap : y.heap ≡ heap_of k t = sym (heap_later k may v.seen w.seen a (Read row which) None n wk) ∙ sym heap_then in record {
+      let heap : y.heap ≡ heap_of k t = sym (heap_later k may v w a (Read row which) None n wk) ∙ sym heap_then in record {
         node = node.0;
         there = subst (λ (z : Heap × ℕ). slice_get z.0.nodes z.1 ≡ Some node.0) (λ i. (heap i, id i)) node.1;
         filled = λ u is. wk.answers ∙ valued row which y node.0 block u is;

@@ -16,7 +16,7 @@ use Rattle.orc_heap.specs.declared.events.Link.{Link}
 use Rattle.orc_heap.specs.declared.events.Place.{Place}
 use Rattle.orc_heap.proofs.Runs.{lawful-left, lawful-right, run_heap-snoc}
 use Rattle.orc_heap.proofs.Stays.{allowed-left, allowed-right}
-use Rattle.orc_shared_words.specs.Lists.{Begins}
+use Rattle.orc_shared_words.specs.Lists.{Among, Begins}
 use Rattle.orc_shared_words.specs.Runs.{steps_by}
 use Rattle.orc_shared_words.specs.Steps.{Extends, LaterJournal}
 use Rattle.orc_shared_words.specs.declared.journal.View.{View}
@@ -152,29 +152,31 @@ module _ {N : Type 0} (k : Bounds) (may : List (Event N) → Event N → Type 0)
   mid_target t r = subst (λ z. IsTarget a z t) (sym (heap_is k (run k seen) between)) (target_from a (run k seen).heap (project_from k (run k seen) between) t r)
 
 -- what the step of a pass did
-pub record Walk {N : Type 0} (k : Bounds) (may : List (Event N) → Event N → Type 0) (seen later : List (PlainStep N)) (a : ℕ) (op : PlainOp) (said : Option N) (n : ℕ) : Type 0 where
+pub record Walk {N : Type 0} (k : Bounds) (may : List (Event N) → Event N → Type 0) (v u : View (PlainStep N) (Unit {0})) (a : ℕ) (op : PlainOp) (said : Option N) (n : ℕ) : Type 0 where
   pub between : List (PlainStep N)
-  pub mid : Mid k may seen between a
-  pub answers : n ≡ answer op (finds k (run_from k (run k seen) between) op)
-  pub state : run k later ≡ next k (run_from k (run k seen) between) (step_of a op said)
-  pub fits : IsLawfulFrom (run_from k (run k seen) between).heap (events_of (run_from k (run k seen) between) a op (finds k (run_from k (run k seen) between) op) said)
-  pub tie : Tied k (run k later)
-  pub events : project k later ≡ (project k seen ++ project_from k (run k seen) between) ++ events_of (run_from k (run k seen) between) a op (finds k (run_from k (run k seen) between) op) said
-  pub allowed : AllAllowed may (project k seen ++ project_from k (run k seen) between) (events_of (run_from k (run k seen) between) a op (finds k (run_from k (run k seen) between) op) said)
-  pub longer : later ≡ (seen ++ between) ++ step_of a op said ∷ []
+  pub mid : Mid k may v.seen between a
+  pub answers : n ≡ answer op (finds k (run_from k (run k v.seen) between) op)
+  pub state : run k u.seen ≡ next k (run_from k (run k v.seen) between) (step_of a op said)
+  pub fits : IsLawfulFrom (run_from k (run k v.seen) between).heap (events_of (run_from k (run k v.seen) between) a op (finds k (run_from k (run k v.seen) between) op) said)
+  pub tie : Tied k (run k u.seen)
+  pub events : project k u.seen ≡ (project k v.seen ++ project_from k (run k v.seen) between) ++ events_of (run_from k (run k v.seen) between) a op (finds k (run_from k (run k v.seen) between) op) said
+  pub allowed : AllAllowed may (project k v.seen ++ project_from k (run k v.seen) between) (events_of (run_from k (run k v.seen) between) a op (finds k (run_from k (run k v.seen) between) op) said)
+  pub longer : u.seen ≡ (v.seen ++ between) ++ step_of a op said ∷ []
+  pub also : u.also ≡ v.also
+  pub retired : (b : ℕ) → Among b v.also → steps_by by b between ≡ []
 
 module _ {D N : Type 0} (d : discipline.Ghosts D N) (q : PlainShape N) where
   abbrev kk : Bounds
   kk = bounds_of q.shape
 
-  pub walk : (v w : View (PlainStep N) (Unit {0})) (a : ℕ) (op : PlainOp) (said : Option N) (n : ℕ) → d.holds (numbers kk) [] → v.agent ≡ Some a → Extends plain_rules q (d.holds (numbers kk)) (d.may (numbers kk)) op said v n w → Walk kk (d.may (numbers kk)) v.seen w.seen a op said n
-  walk v w a op said n began is x = subst (λ b. Walk kk (d.may (numbers kk)) v.seen w.seen b op said n) (some_one x.agent a (sym x.is ∙ is)) (made x.agent x.others x.answers x.seen x.now x.read)
+  pub walk : (v w : View (PlainStep N) (Unit {0})) (a : ℕ) (op : PlainOp) (said : Option N) (n : ℕ) → d.holds (numbers kk) [] → v.agent ≡ Some a → Extends plain_rules q (d.holds (numbers kk)) (d.may (numbers kk)) op said v n w → Walk kk (d.may (numbers kk)) v w a op said n
+  walk v w a op said n began is x = subst (λ b. Walk kk (d.may (numbers kk)) v w b op said n) (some_one x.agent a (sym x.is ∙ is)) (made x.agent x.others x.answers x.seen x.now x.read)
     where
       may2 : List (Event N) → Event N → Type 0
       may2 = d.may (numbers kk)
 
       made : (b : ℕ) → steps_by by b x.between ≡ [] → n ≡ answer op x.found → w.seen ≡ (v.seen ++ x.between) ++ step_of b op said ∷ [] → LaterJournal plain_rules q (d.holds (numbers kk)) (d.may (numbers kk)) w.seen w b
-          → x.found ≡ finds kk (run kk (v.seen ++ x.between)) op → Walk kk (d.may (numbers kk)) v.seen w.seen b op said n
+          → x.found ≡ finds kk (run kk (v.seen ++ x.between)) op → Walk kk (d.may (numbers kk)) v w b op said n
       made b none answers seen now read =
           let k : Bounds = kk in
           let may : List (Event N) → Event N → Type 0 = d.may (numbers kk) in
@@ -204,38 +206,42 @@ module _ {D N : Type 0} (d : discipline.Ghosts D N) (q : PlainShape N) where
             events = events;
             allowed = allowed-right may [] (project k v.seen ++ es) own all;
             longer = seen;
+            also = x.also;
+            retired = x.retired;
           }
 
-module _ {N : Type 0} (k : Bounds) (may : List (Event N) → Event N → Type 0) (seen later : List (PlainStep N)) (a : ℕ) (op : PlainOp) (said : Option N) (n : ℕ) (w : Walk k may seen later a op said n) where
+module _ {N : Type 0} (k : Bounds) (may : List (Event N) → Event N → Type 0) (v u : View (PlainStep N) (Unit {0})) (a : ℕ) (op : PlainOp) (said : Option N) (n : ℕ) (w : Walk k may v u a op said n) where
   -- the state in which the step was made
   abbrev pub met : State
-  met = run_from k (run k seen) w.between
+  met = run_from k (run k v.seen) w.between
 
   abbrev pub own : List (Event N)
   own = events_of met a op (finds k met op) said
 
-  pub given_later : (run k later).given ≡ met.given ++ taken op (finds k met op)
+  pub given_later : (run k u.seen).given ≡ met.given ++ taken op (finds k met op)
   given_later = ap (λ z. z.given) w.state
 
-  pub heap_later : (run k later).heap ≡ heap_from met.heap own
+  pub heap_later : (run k u.seen).heap ≡ heap_from met.heap own
   heap_later = ap (λ z. z.heap) w.state
 
-  pub rows_later : Begins (run k later).given (run k seen).given
-  rows_later = let g = given_more k (run k seen) w.between in
-      (g.0 ++ taken op (finds k met op), given_later ∙ (ap (λ l. l ++ taken op (finds k met op)) g.1 ∙ append_assoc (run k seen).given g.0 (taken op (finds k met op))))
+  pub rows_later : Begins (run k u.seen).given (run k v.seen).given
+  rows_later = let g = given_more k (run k v.seen) w.between in
+      (g.0 ++ taken op (finds k met op), given_later ∙ (ap (λ l. l ++ taken op (finds k met op)) g.1 ∙ append_assoc (run k v.seen).given g.0 (taken op (finds k met op))))
 
   -- the fresh node stays so, where the step's event spares it
-  pub later_fresh : (fresh : Option ℕ) → ((row : ℕ) → fresh ≡ Some row → IsUntouched a met.heap (index_of row met.given) → IsUntouched a (heap_from met.heap own) (index_of row met.given)) → FreshHeld a (run k seen) fresh → FreshHeld a (run k later) fresh
-  later_fresh fresh spares h = fresh_stays a met (run k later) (taken op (finds k met op)) given_later fresh (λ row e u. subst (λ z. IsUntouched a z (index_of row met.given)) (sym heap_later) (spares row e u)) (mid_fresh k may seen w.between a w.mid fresh h)
+  pub later_fresh : (fresh : Option ℕ) → ((row : ℕ) → fresh ≡ Some row → IsUntouched a met.heap (index_of row met.given) → IsUntouched a (heap_from met.heap own) (index_of row met.given)) → FreshHeld a (run k v.seen) fresh → FreshHeld a (run k u.seen) fresh
+  later_fresh fresh spares h = fresh_stays a met (run k u.seen) (taken op (finds k met op)) given_later fresh (λ row e u. subst (λ z. IsUntouched a z (index_of row met.given)) (sym heap_later) (spares row e u)) (mid_fresh k may v.seen w.between a w.mid fresh h)
 
 -- what the step adds to what the pass has seen
-pub adds : {N : Type 0} (k : Bounds) (may : List (Event N) → Event N → Type 0) (v u : View (PlainStep N) (Unit {0})) (a c : ℕ) (op : PlainOp) (said : Option N) (n : ℕ) (w : Walk k may v.seen u.seen a op said n) → c ≡ a
-    → (fresh fresh2 looked looked2 : Option ℕ) → Adds may (own k may v.seen u.seen a op said n w) (view_of k a v fresh looked) (view_of k c u fresh2 looked2)
+pub adds : {N : Type 0} (k : Bounds) (may : List (Event N) → Event N → Type 0) (v u : View (PlainStep N) (Unit {0})) (a c : ℕ) (op : PlainOp) (said : Option N) (n : ℕ) (w : Walk k may v u a op said n) → c ≡ a
+    → (fresh fresh2 looked looked2 : Option ℕ) → Adds may (own k may v u a op said n w) (view_of k a v fresh looked) (view_of k c u fresh2 looked2)
 adds k may v u a c op said n w e fresh fresh2 looked looked2 = record {
   met = project_from k (run k v.seen) w.between;
   later = record { allowed = w.mid.allowed; others = none_by a (project_from k (run k v.seen) w.between) w.mid.none };
   events = w.events;
   allowed = w.allowed;
   agent = e;
-  rows = rows_later k may v.seen u.seen a op said n w;
+  rows = rows_later k may v u a op said n w;
+  absorbed = w.also;
+  retired = λ b there. none_by b (project_from k (run k v.seen) w.between) (others_none k b (run k v.seen) w.between (w.retired b there));
 }

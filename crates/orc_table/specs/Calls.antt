@@ -84,6 +84,9 @@ module _ {N : Type 0} where
       pub allowed : AllAllowed may (s.events ++ met) own
       pub agent : t.agent ≡ s.agent
       pub rows : Begins t.rows s.rows
+      pub absorbed : t.absorbed ≡ s.absorbed
+      -- an agent whose pass was taken in does nothing more
+      pub retired : (b : ℕ) → Among b s.absorbed → events_by b met ≡ []
 
     -- the row, which nobody was given before, is the pass's fresh row, and its node is the newest
     pub record Gives (row : ℕ) (s t : PlainView N) : Type 0 where

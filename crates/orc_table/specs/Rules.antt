@@ -108,7 +108,7 @@ module _ {N : Type 0} where
     by_step = λ a op said. refl;
     words_next = λ j a op said. ap (λ x. x.words) (steps-append (bounds_of k.shape) (start (bounds_of k.shape)) j (step_of a op said ∷ []));
     own_next = λ j a op said l. refl;
-    own_other = λ j a op said b ne. refl;
+    own_other = λ j s b ne. refl;
     lawful_next = λ j a op said h l. allowed-snoc (bounds_of k.shape) j (step_of a op said) h l;
     project_next = λ j s. project-append (bounds_of k.shape) (start (bounds_of k.shape)) j (s ∷ []) ∙ ap (λ l. project (bounds_of k.shape) j ++ l) (append-nil (events_at (bounds_of k.shape) (run (bounds_of k.shape) j) s));
   }
