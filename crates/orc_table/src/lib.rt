@@ -3,6 +3,7 @@
 
 mod links;
 mod machine;
+mod make;
 mod pass;
 mod rows;
 mod seed;
