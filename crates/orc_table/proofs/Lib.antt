@@ -8,3 +8,5 @@ pub mod Tells
 pub mod LinkTells
 pub mod Opening
 pub mod Making
+pub mod Learning
+pub mod Known

@@ -120,13 +120,17 @@ module _ {D N : Type 0} (d : discipline.Ghosts D N) (b : Bounds) (first : ℕ) (
       let m2 : may (e0 ∷ e1 ∷ []) e2 = d.allows_plain (numbers b) (e0 ∷ e1 ∷ []) e2 h2 (record { node = with_value 0 0 (new_node 0); there = refl; mine = refl; unlinked = refl }, omega arith) (refl, tt) in
       (m0, (m1, (m2, (can.first_link, (can.second_link, tt)))))
 
+pub has_roots : {N : Type 0} (may : List (Event N) → Event N → Type 0) (b : Bounds) (seed : Seed N) → SeedAllowed may b seed → HasRoots b seed
+has_roots may b Empty can = tt
+has_roots may b (Dummy first begin) can = can.roots
+
 module _ {D N : Type 0} (d : discipline.Ghosts D N) (shape : Shape) where
   abbrev k : Bounds
   k = bounds_of shape
 
-  pub opened_events : (seed : Seed N) → SeedAllowed (d.may (numbers k)) k seed → project k (opening_steps seed) ≡ opening_events seed
-  opened_events Empty can = refl
-  opened_events (Dummy first begin) can = let some = shape.some_rows in dummy_events k first begin can.roots (omega (arith, some))
+  pub opened_events : (seed : Seed N) → HasRoots k seed → project k (opening_steps seed) ≡ opening_events seed
+  opened_events Empty roots = refl
+  opened_events (Dummy first begin) roots = let some = shape.some_rows in dummy_events k first begin roots (omega (arith, some))
 
   opened_each : (seed : Seed N) → d.holds (numbers k) [] → SeedAllowed (d.may (numbers k)) k seed → AllAllowed (d.may (numbers k)) [] (opening_events seed)
   opened_each Empty began can = tt
@@ -149,7 +153,7 @@ module _ {D N : Type 0} (d : discipline.Ghosts D N) (shape : Shape) where
   -- the opening is allowed
   pub opens : (seed : Seed N) → d.holds (numbers k) [] → SeedAllowed (d.may (numbers k)) k seed → Opens plain_rules (record { shape = shape; seed = seed }) (d.holds (numbers k)) (d.may (numbers k))
   opens seed began can =
-      let events = opened_events seed can in
+      let events = opened_events seed (has_roots (d.may (numbers k)) k seed can) in
       let each = subst (AllAllowed (d.may (numbers k)) []) (sym events) (opened_each seed began can) in
       let some = shape.some_agents in record {
         lawful = opened_lawful seed can;
@@ -160,6 +164,7 @@ module _ {D N : Type 0} (d : discipline.Ghosts D N) (shape : Shape) where
         born = λ c l m. refl;
       }
 
-pub has_roots : {N : Type 0} (may : List (Event N) → Event N → Type 0) (b : Bounds) (seed : Seed N) → SeedAllowed may b seed → HasRoots b seed
-has_roots may b Empty can = tt
-has_roots may b (Dummy first begin) can = can.roots
+  -- an opening that is lawful has the roots that it links from
+  pub lawful_roots : (seed : Seed N) → AllowedFrom k (opening_steps seed) → HasRoots k seed
+  lawful_roots Empty can = tt
+  lawful_roots (Dummy first begin) can = let two = can.1.1.1.1.0 in omega (arith, two)

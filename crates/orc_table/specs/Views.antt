@@ -16,6 +16,7 @@ use Rattle.orc_table.specs.declared.machine.PlainStep.{PlainStep}
 use Rattle.orc_table.specs.declared.pass.PlainBoard.{PlainBoard}
 use Rattle.orc_table.specs.declared.pass.PlainPass.{PlainPass}
 use Rattle.orc_table.specs.declared.seed.PlainShape.{PlainShape}
+use Rattle.orc_table.specs.declared.seed.Seed.{Seed}
 
 -- the agent, the events that it has seen, the rows that these gave, in the order of the Gives, its fresh row, the row
 -- that its last gate look saw free, and the agents whose passes it took in
@@ -73,6 +74,16 @@ module _ {D N : Type 0} where
   -- the numbers of its heap
   abbrev pub board_numbers : PlainBoard D N → HeapNumbers
   board_numbers board = numbers (board_bounds board)
+
+module _ {D N : Type 0} where
+  -- what its journal begins with
+  abbrev pub board_seed : PlainBoard D N → Seed N
+  board_seed board = board.words.shape.seed
+
+-- the row was given, and its node is untouched
+pub record IsFreshRow {N : Type 0} (b : Bounds) (s : PlainView N) (row : ℕ) : Type 0 where
+  pub given : index_of row s.rows < length s.rows
+  pub untouched : IsUntouched s.agent (heap_of b s) (index_of row s.rows)
 
 module _ {D N : Type 0} {d : discipline.Ghosts D N} {m : machine.Ghosts Plain N (PlainShape N) PlainOp (PlainStep N) (Unit {0}) (Unit {0})} where
   -- what the pass shows

@@ -6,7 +6,7 @@ ghost use Rattle.orc_words.specs.Places.{places};
 ghost use Rattle.orc_shared_words.specs.Lists.{EachAt};
 ghost use Rattle.orc_table.specs.Machine.{new_words, numbers, run};
 ghost use Rattle.orc_table.specs.Rules.{HasRoots, SeedAllowed, opening_events, opening_steps};
-ghost use Rattle.orc_table.specs.Views.{Belongs, EachFrom, board_bounds, shows};
+ghost use Rattle.orc_table.specs.Views.{Belongs, EachFrom, board_bounds, board_seed, shows};
 
 use crate::machine::{OUT, Plain, place_in, word};
 use crate::pass::{PlainBoard, PlainPass};
@@ -27,6 +27,7 @@ impl<D: Discipline> PlainBoard<D> {
         requires holds { D.holds (numbers (bounds_of shape.now)) [] }
         requires seed { SeedAllowed (D.may (numbers (bounds_of shape.now))) (bounds_of shape.now) seed }
         ensures bounds { IfOk result (λ made. board_bounds made.0 ≡ bounds_of shape.now) }
+        ensures seed { IfOk result (λ made. board_seed made.0 ≡ seed) }
         ensures passes { IfOk result (λ made. length made.1.items ≡ (bounds_of shape.now).agents) }
         ensures belongs { IfOk result (λ made. All (λ p. Belongs made.0 p) made.1.items) }
         ensures agents { IfOk result (λ made. EachAt (λ i p. (shows made.0 p).agent ≡ i) made.1.items) }

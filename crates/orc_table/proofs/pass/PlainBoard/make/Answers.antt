@@ -49,4 +49,4 @@ returns-clause-events g c = λ i p lt.
     let lt2 = subst (λ n. i < n) c.in_ok-passes.ensures.long lt in
     let seen = ap (λ z. z.seat.me.0.seen) e ∙ (c.in_ok-words-2.ensures.seen i p.pass lt2).0 in
     let shape = c.in_ok-words-2.ensures.shape in
-    (λ j. project (bounds_of (shape j).shape) (seen j)) ∙ opened_events g.D.Discipline c.args.shape.now c.args.seed c.requires.seed
+    (λ j. project (bounds_of (shape j).shape) (seen j)) ∙ opened_events g.D.Discipline c.args.shape.now c.args.seed (has_roots (g.D.Discipline.may (numbers (bounds_of c.args.shape.now))) (bounds_of c.args.shape.now) c.args.seed c.requires.seed)
