@@ -1,5 +1,10 @@
 pub mod Changes
+pub mod Fresh
 pub mod Linked
 pub mod Runs
 pub mod Stays
 pub mod Told
+pub mod Parts
+pub mod ByAnswer
+pub mod Slots
+pub mod Known

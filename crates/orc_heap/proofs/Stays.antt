@@ -1,9 +1,12 @@
 -- Lists of events that are allowed where they stand, and what such events keep.
-use Rattle.std.proofs.Common.{List, [], ap, append-nil, append_assoc, arith, cond, subst, sym, true, false, Bool, ℕ, ◌++◌, ◌∙◌, ◌∷◌, ◌≡◌, ◌≢◌, ◌==◌}
+use Rattle.std.proofs.Common.{List, [], append-nil, append_assoc, cond, refl, subst, sym, true, false, Bool, ℕ, ◌++◌, ◌∙◌, ◌∷◌, ◌≡◌, ◌≢◌, ◌==◌}
 use Rattle.std.proofs.lemmas.Bool.{eq-eqb}
+use Rattle.std.specs.List.{list_any}
+use Rattle.std.specs.Prelude.{◌||◌}
 use Rattle.orc_heap.specs.Allowed.{AllAllowed, Later, events_by}
 use Rattle.orc_heap.specs.Heap.{HeapNumbers}
 use Rattle.orc_heap.specs.Journals.{FitsAfter, IsLawful}
+use Rattle.orc_heap.specs.declared.events.Act.{Act}
 use Rattle.orc_heap.specs.declared.events.Event.{Event}
 use Rattle.orc_heap.proofs.Runs.{lawful-snoc}
 
@@ -51,7 +54,7 @@ stays_others may agent P step seen [] begin later = subst P (sym (append-nil see
 stays_others {N} may agent P step seen (e ∷ more) begin later =
     let (other, rest) = other_first agent e more later.others in
     subst P (append_assoc seen (e ∷ []) more)
-      (stays_others may agent P step (seen ++ e ∷ []) more (step seen e begin later.allowed.0 other) (record { allowed = later.allowed.1; others = rest }))
+    (stays_others may agent P step (seen ++ e ∷ []) more (step seen e begin later.allowed.0 other) (record { allowed = later.allowed.1; others = rest }))
 
 -- where the discipline holds and the events are lawful, they are so after events that it allows
 pub lawful_later : {N : Type 0} (n : HeapNumbers) (may : List (Event N) → Event N → Type 0) (holds : List (Event N) → Type 0)
@@ -62,3 +65,21 @@ lawful_later {N} n may holds keeps fits seen more h lawful all =
     let P : List (Event N) → Type 0 = λ es. holds es × IsLawful n es in
     let r : P (seen ++ more) = stays may P (λ es e p m. (keeps es e p.0 m, lawful-snoc n es e p.1 (fits es e p.0 m))) seen more (h, lawful) all in
     r.1
+
+-- what each allowed event keeps, but for some acts of this agent, stays true over such events with none of these acts of it
+pub stays_but : {N : Type 0} (may : List (Event N) → Event N → Type 0) (agent : ℕ) (test : Act → Bool) (P : List (Event N) → Type 0)
+    → ((es : List (Event N)) (e : Event N) → P es → may es e → (e.agent ≡ agent → test e.act ≡ false) → P (es ++ e ∷ []))
+    → (seen more : List (Event N)) → P seen → AllAllowed may seen more → list_any (λ e. test e.act) (events_by agent more) ≡ false → P (seen ++ more)
+stays_but may agent test P step seen [] begin all none = subst P (sym (append-nil seen)) begin
+stays_but {N} may agent test P step seen (e ∷ more) begin all none =
+    let (first, rest) = cases (e.agent == agent) refl none in
+    subst P (append_assoc seen (e ∷ []) more) (stays_but may agent test P step (seen ++ e ∷ []) more (step seen e begin all.0 first) all.1 rest)
+  where
+    either : (a b : Bool) → (a || b) ≡ false → (a ≡ false) × (b ≡ false)
+    either true b e = cc
+    either false b e = (refl, e)
+
+    cases : (b : Bool) → (e.agent == agent) ≡ b → list_any (λ z. test z.act) (cond b (e ∷ events_by agent more) (events_by agent more)) ≡ false
+        → (e.agent ≡ agent → test e.act ≡ false) × (list_any (λ z. test z.act) (events_by agent more) ≡ false)
+    cases true is h = let (a, b) = either (test e.act) _ h in ((λ same. a), b)
+    cases false is h = ((λ same. let t : true ≡ false = sym (eq-eqb e.agent agent same) ∙ is in cc), h)

@@ -3,6 +3,7 @@
 use super::*;
 use std::test::Fail;
 
+mod calls;
 mod examples;
 
 const NULL: Link = Link {
@@ -45,5 +46,19 @@ fn events_are_compared_field_by_field(rt: HostRuntime) -> Result<(), Fail> {
     once_linked_nodes_stay();
     a_node_tells_its_journal::<u32>();
     journals_go_on::<u32>();
+    Ok(())
+}
+
+#[test]
+fn a_hold_tells_its_row_and_slot(rt: HostRuntime) -> Result<(), Fail> {
+    let h = Held::new(70_000, 7);
+    let told = (h.row(), h.slot());
+    h.end();
+    assert_eq!(rt; told, (70_000, 7));
+    let seen = Seen {
+        null: false,
+        mark: true,
+    };
+    assert_eq!(rt; seen, seen);
     Ok(())
 }

@@ -30,10 +30,6 @@ IsLegalFrom-snoc n w (Took agent job at ∷ es) e (rest, is, legal) fits =
     (rest, is, IsLegalFrom-snoc n rest es e legal (rw is at fits))
 IsLegalFrom-snoc n w (Empty agent ∷ es) e legal fits = (legal.0, IsLegalFrom-snoc n w es e legal.1 fits)
 
--- an entry of its own at the end
-pub Adds-snoc : {E : Type 0} (agent_of : E → ℕ) (crowd : ℕ → Type 0) (e : E) (before : List E) → Adds agent_of crowd (agent_of e) before (e ∷ []) (before ++ e ∷ [])
-Adds-snoc agent_of crowd e before = record { part = e ∷ []; is = refl; own_is = grind (arith, nat_tests); others = (inl refl, tt) }
-
 pub length-nil : {A : Type 0} {xs : List A} → length xs ≡ 0 → xs ≡ []
 length-nil {xs = []} e = refl
 length-nil {xs = x ∷ xs} e = cc

@@ -1,6 +1,7 @@
 //! Histories of shared queues and sets, the traits of such containers, and two of them on one thread.
 #![tactic(auto)]
 
+mod learn;
 mod plain_queue;
 mod plain_set;
 mod queue;
@@ -10,6 +11,7 @@ mod stored_history;
 #[cfg(test)]
 mod tests;
 
+pub use learn::{LearnQueue, LearnSet};
 pub use plain_queue::{PlainQueue, PlainQueuePass};
 pub use plain_set::{PlainSet, PlainSetPass};
 pub use queue::{QueueEntry, QueueRefused, SharedQueue};

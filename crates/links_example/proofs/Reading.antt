@@ -1,0 +1,65 @@
+-- Two looks, two values, two releases: what is held on the way, what was read, and that the stack stays.
+use Rattle.std.proofs.Common.{[], ap, subst, sym, ℕ, ◌∙◌, ◌≡◌, ◌≢◌}
+use Rattle.std.specs.List.{slice_get, slice_set}
+use Rattle.std.specs.Prelude.{None, Option, Some}
+use Rattle.std.proofs.Common.{refl}
+use Rattle.orc_heap.proofs.ByAnswer.{unless_fresh}
+use Rattle.orc_heap.proofs.Slots.{get-set_other, given-back, holds-other, holds-there, id-other, id-there}
+use Rattle.orc_heap.specs.Allowed.{AllAllowed}
+use Rattle.orc_heap.specs.Calls.{ReadsValue, Releases}
+use Rattle.orc_heap.specs.Heap.{HeapNumbers}
+use Rattle.orc_heap.specs.Seats.{Seat}
+use Rattle.orc_heap.specs.Slots.{Hold, Holds, IsFree, id_in}
+use Rattle.orc_heap.specs.declared.events.Place.{Place}
+use Rattle.links_example.specs.OwnRoots.{OwnRootsMay}
+use Rattle.links_example.specs.Stacks.{Finds, HasNode, StackStays, heap_of, stack_node}
+use Rattle.links_example.proofs.Stays.{nodes_stay, top_stays}
+
+pub StackStays-trans : (n : HeapNumbers) (s t u : Seat ℕ) → StackStays n s t → StackStays n t u → StackStays n s u
+StackStays-trans n s t u p q = record {
+  agent = q.agent ∙ p.agent;
+  slots = q.slots ∙ p.slots;
+  fresh = q.fresh ∙ p.fresh;
+  top = λ to k. q.top to (p.top to k);
+  nodes = λ id v b k. q.nodes id v b (p.nodes id v b k);
+}
+
+-- what was found is held, until it is released
+module _ (n : HeapNumbers) (place : Place) (slot : ℕ) (s : Seat ℕ) (h : Hold) (t : Seat ℕ) (free : IsFree s.slots slot) (f : Finds n place slot s h t) where
+  pub found_holds : Holds t.slots h
+  found_holds = holds-there s.slots t.slots slot f.id h free.empty f.slot_is f.slots
+
+  pub found_id : id_in t.slots h ≡ f.id
+  found_id = id-there s.slots t.slots slot f.id h free.empty f.slot_is f.slots
+
+  -- another free slot stays free
+  pub found_free : (other : ℕ) → other ≢ slot → IsFree s.slots other → IsFree t.slots other
+  found_free other ne k = record {
+    above = k.above;
+    below = k.below;
+    empty = ap (λ z. slice_get z other) f.slots ∙ (get-set_other s.slots slot other _ ne ∙ k.empty);
+  }
+
+  -- after a release of it, all is as it was
+  pub found_released : (u v : Seat ℕ) → AllAllowed (OwnRootsMay n) [] v.seen → StackStays n t u → s.fresh ≡ None → Releases u h v → StackStays n s v
+  found_released u v all k none w = record {
+    agent = w.puts.agent ∙ (k.agent ∙ f.agent);
+    slots = w.slots ∙ (ap (λ z. slice_set z h.slot None) k.slots ∙ given-back s.slots t.slots slot f.id h free.empty f.slot_is f.slots);
+    fresh = w.fresh ∙ (unless_fresh u.fresh _ (k.fresh ∙ (f.fresh ∙ none)) ∙ sym none);
+    top = λ to l. top_stays n u v [] all w.puts refl to (k.top to (f.top to l));
+    nodes = λ id v2 b l. nodes_stay n u v [] all w.puts id v2 b (k.nodes id v2 b (f.nodes id v2 b l));
+  }
+
+  -- what was held in another slot stays held
+  pub found_other : (k : Hold) → k.slot ≢ slot → Holds s.slots k → Holds t.slots k
+  found_other k ne held = subst (λ z. Holds z k) (sym f.slots) (holds-other s.slots slot _ k ne held)
+
+  pub found_other_id : (k : Hold) → k.slot ≢ slot → id_in t.slots k ≡ id_in s.slots k
+  found_other_id k ne = ap (λ z. id_in z k) f.slots ∙ id-other s.slots slot _ k ne
+
+-- the value of a node of the stack
+pub value_read : (n : HeapNumbers) (t : Seat ℕ) (id value result : ℕ) (below : Option ℕ) → HasNode n t id value below → ReadsValue (heap_of n t) id 0 result → result ≡ value
+value_read n t id value result below node r =
+    let both : Some r.node ≡ Some (stack_node t.agent value below) = sym r.there ∙ node in
+    let same : r.node ≡ stack_node t.agent value below = cc in
+    r.is value (ap (λ x. x.first) same)

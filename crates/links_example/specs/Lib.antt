@@ -1,0 +1,2 @@
+pub mod OwnRoots
+pub mod Stacks

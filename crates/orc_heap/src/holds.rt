@@ -1,0 +1,74 @@
+//! How a pass names nodes: by what it holds.
+
+ghost use Rattle.std.specs.Prelude.{◌≡◌};
+
+use std::marker::Model;
+
+/// A node that a pass holds: the row that it lies in, and the slot that protects it. It must be spent by
+/// `Links::release`.
+pub struct Held {
+    row: u32,
+    slot: u32,
+}
+
+impl Model for Held {
+    ghost use Rattle.orc_heap.specs.Slots.{Hold};
+
+    ghost Value = { Hold };
+
+    ghost view = { λ h. record { row = h.row; slot = h.slot } };
+}
+
+impl Held {
+    /// Made by a domain, once the slot protects the row.
+    pub fn new(row: u32, slot: u32) -> Held
+        ensures { result ≡ record { row = row; slot = slot } }
+    {
+        Held { row, slot }
+    }
+
+    pub fn row(&self) -> u32
+        ensures { result ≡ self.now.row }
+    {
+        self.row
+    }
+
+    pub fn slot(&self) -> u32
+        ensures { result ≡ self.now.slot }
+    {
+        self.slot
+    }
+
+    /// Ended by a domain, once the slot is free again.
+    pub fn end(self) {
+        let Held { row: _, slot: _ } = self;
+    }
+}
+
+/// Where a link stands: at a root, or in a node that is held.
+#[derive(Clone, Copy)]
+pub enum At<'a> {
+    Root(u32),
+    Node(&'a Held),
+}
+
+/// A link that a caller names, with its mark: null, or to a node that is held.
+#[derive(Clone, Copy)]
+pub enum Want<'a> {
+    Null(bool),
+    Node(&'a Held, bool),
+}
+
+/// What a look saw of a link.
+#[derive(Clone, Copy, Debug, PartialEq, Eq)]
+pub struct Seen {
+    pub null: bool,
+    pub mark: bool,
+}
+
+/// The answer of a look: a link that was read twice alike, with its target, which is now held, if it has one;
+/// or the link moved in between.
+pub enum Looked {
+    Stable(Seen, Option<Held>),
+    Moved,
+}
