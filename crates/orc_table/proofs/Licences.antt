@@ -24,7 +24,7 @@ use Rattle.orc_shared_words.specs.declared.journal.View.{View}
 use Rattle.orc_table.specs.Calls.{KnowsPlace, KnowsRow, KnowsTarget, MayWhereFits, MayWhereShown, aim_event, look_event, move_event}
 use Rattle.orc_table.specs.Machine.{State, Allowed, IsLinkWord, event, events_of, finds, id_by, index_of, link_at, link_by, numbers, place_by, project, project_from, run, run_from, start, tested}
 use Rattle.orc_table.specs.Rules.{plain_rules}
-use Rattle.orc_table.specs.Views.{FreshHeld, IsUntouched, Keeps, PlainView, heap_of, view_of}
+use Rattle.orc_table.specs.Views.{FreshHeld, Keeps, PlainView, heap_of, view_of}
 use Rattle.orc_table.specs.Words.{IsWord, Tie}
 use Rattle.orc_table.specs.declared.machine.PlainOp.{PlainOp}
 use Rattle.orc_table.specs.declared.machine.PlainOp.TheVariants.{GateLook, GateTake, Fill, Read, LinkLoad, LinkCas, LinkStore}

@@ -11,6 +11,7 @@ use Rattle.orc_words.specs.declared.place.Word.TheVariants as word
 use Rattle.std.proofs.lemmas.Bool.Decides.{nat_tests}
 use Rattle.orc_heap.specs.Acts.{IsTarget}
 use Rattle.orc_heap.specs.Allowed.{AllAllowed}
+use Rattle.orc_heap.specs.Seats.{IsUntouched}
 use Rattle.orc_heap.specs.Heap.{Heap, Node, new_node, shown}
 use Rattle.orc_heap.specs.Journals.{IsLawfulFrom, run_from as heap_from, run_heap}
 use Rattle.orc_heap.specs.declared.discipline.Discipline as discipline
@@ -22,10 +23,11 @@ use Rattle.orc_heap.specs.declared.events.Place.TheVariants.{Next as AtNext}
 use Rattle.orc_heap.proofs.Changes.{get-added}
 use Rattle.orc_shared_words.specs.Steps.{Extends, LaterJournal}
 use Rattle.orc_shared_words.specs.declared.journal.View.{View}
-use Rattle.orc_table.specs.Calls.{Adds, Fails, Finds, Gives, IsGateWord, IsValue, KnowsPlace, KnowsRow, KnowsTarget, Loses, Misses, Replaces, aim_event, look_event, move_event, unless_linked, value_of}
+use Rattle.orc_heap.specs.Calls.{ReadsValue, value_of}
+use Rattle.orc_table.specs.Calls.{Adds, Fails, Finds, Gives, IsGateWord, KnowsPlace, KnowsRow, KnowsTarget, Loses, Misses, Replaces, aim_event, look_event, move_event, unless_linked}
 use Rattle.orc_table.specs.Machine.{State, event, events_of, finds, id_by, index_of, link_at, link_by, numbers, place_by, project, project_from, run, run_from, start, taken, tested, value_word, word_of}
 use Rattle.orc_table.specs.Rules.{plain_rules}
-use Rattle.orc_table.specs.Views.{FreshHeld, IsUntouched, Keeps, PlainView, heap_of, view_of}
+use Rattle.orc_table.specs.Views.{FreshHeld, Keeps, PlainView, heap_of, view_of}
 use Rattle.orc_table.specs.Words.{Block, IsOut, IsWord, Named}
 use Rattle.orc_table.specs.declared.machine.PlainOp.{PlainOp}
 use Rattle.orc_table.specs.declared.machine.PlainOp.TheVariants.{GateLook, GateTake, Fill, Read, LinkLoad, LinkCas, LinkStore}

@@ -31,16 +31,6 @@ abbrev pub unless_linked : Option ℕ → Option ℕ → Option ℕ
 unless_linked (Some fresh) (Some row) = cond (fresh == row) None (Some fresh)
 unless_linked fresh to = fresh
 
-abbrev pub value_of : ℕ → Node → Option ℕ
-value_of zero n = n.first
-value_of (suc which) n = n.second
-
--- the number is the node's value, where that was filled
-pub record IsValue (h : Heap) (id which n : ℕ) : Type 0 where
-  pub node : Node
-  pub there : slice_get h.nodes id ≡ Some node
-  pub filled : (v : ℕ) → value_of which node ≡ Some v → n ≡ v
-
 module _ {N : Type 0} where
   -- the agent knows the row's node
   abbrev pub KnowsRow : Bounds → PlainView N → ℕ → Type 0
@@ -160,8 +150,3 @@ module _ {N : Type 0} where
     pub absorbed : t.absorbed ≡ u.agent ∷ u.absorbed ++ s.absorbed
     pub own : events_by s.agent t.events ≡ events_by s.agent s.events
     pub taken : events_by u.agent t.events ≡ events_by u.agent u.events
-
-  -- each event is of one of the first n agents
-  abbrev pub EventsBelow : ℕ → List (Event N) → Type 0
-  EventsBelow n [] = Unit {0}
-  EventsBelow n (e ∷ es) = (e.agent < n) × EventsBelow n es

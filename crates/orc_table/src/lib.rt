@@ -17,3 +17,6 @@ pub use laws::{
 pub use machine::{Plain, PlainOp, PlainStep};
 pub use pass::{PlainBoard, PlainPass};
 pub use seed::{PlainShape, Seed};
+
+#[cfg(test)]
+mod tests;
