@@ -1,9 +1,8 @@
 -- What is true of all that a pass has seen.
-use Rattle.std.proofs.Common.{◌≡◌, ◌≢◌, ℕ, ◌<◌, List, [], ◌∷◌, ◌++◌, length, Option, Some, None, slice_get, refl, sym, ap, ◌∙◌, subst, ◌⊎◌, inl, inr, append-nil}
+use Rattle.std.proofs.Common.{◌≡◌, ℕ, ◌<◌, List, [], ◌∷◌, ◌++◌, length, Option, Some, refl, sym, ap, ◌∙◌, subst, ◌⊎◌, inl, inr, append-nil}
 use Rattle.orc_words.specs.Bounds.{Bounds, bounds_of}
-use Rattle.orc_heap.specs.Allowed.{AllAllowed, events_by}
+use Rattle.orc_heap.specs.Allowed.{events_by}
 use Rattle.orc_heap.specs.Seats.{IsUntouched}
-use Rattle.orc_heap.specs.Heap.{Heap}
 use Rattle.orc_heap.specs.Parts.{IsBelow}
 use Rattle.orc_heap.specs.Journals.{IsLawful, run_heap}
 use Rattle.orc_heap.specs.declared.discipline.Discipline as discipline
@@ -14,10 +13,10 @@ use Rattle.orc_shared_words.specs.Runs.{AgentsBelow}
 use Rattle.orc_shared_words.specs.declared.journal.View.{View}
 use Rattle.orc_shared_words.proofs.Events.{AllBy}
 use Rattle.orc_table.specs.Calls.{Adds}
-use Rattle.orc_table.specs.Machine.{State, AllowedFrom, events_at, finds, index_of, next, numbers, project, project_from, run, run_from, start}
+use Rattle.orc_table.specs.Machine.{State, AllowedFrom, events_at, finds, index_of, next, numbers, project, project_from, run, start}
 use Rattle.orc_table.specs.Rules.{opening_events, opening_steps, project-append}
 use Rattle.orc_table.specs.Views.{FreshHeld, IsFreshRow, Keeps, PlainView, heap_of, view_of}
-use Rattle.orc_table.specs.Words.{Once, Tie}
+use Rattle.orc_table.specs.Words.{Tie}
 use Rattle.orc_table.specs.declared.machine.PlainStep.{PlainStep}
 use Rattle.orc_table.specs.declared.seed.PlainShape.{PlainShape}
 use Rattle.orc_table.proofs.Lists.{index_grown}
@@ -71,9 +70,10 @@ module _ {D N : Type 0} (d : discipline.Ghosts D N) (q : PlainShape N) (v : View
 
   pub opened : Begins s.events (opening_events q.seed)
   opened =
-      let first : AllowedFrom k (opening_steps q.seed) = allowed_front d k (opening_steps q.seed) h.now.opened.0 (subst (AllowedFrom k) h.now.opened.1 h.now.lawful) in
-      (project_from k (run k (opening_steps q.seed)) h.now.opened.0,
-      ap (project k) h.now.opened.1 ∙ (project-append k (start k) (opening_steps q.seed) h.now.opened.0 ∙ ap (λ l. l ++ project_from k (run k (opening_steps q.seed)) h.now.opened.0) (opened_events d q.shape q.seed (lawful_roots d q.shape q.seed first))))
+      let first : AllowedFrom k (opening_steps q.seed) = allowed_front d k (opening_steps q.seed) h.now.opened.0 (subst (AllowedFrom k) h.now.opened.1 h.now.lawful) in (
+        project_from k (run k (opening_steps q.seed)) h.now.opened.0,
+        ap (project k) h.now.opened.1 ∙ (project-append k (start k) (opening_steps q.seed) h.now.opened.0 ∙ ap (λ l. l ++ project_from k (run k (opening_steps q.seed)) h.now.opened.0) (opened_events d q.shape q.seed (lawful_roots d q.shape q.seed first))),
+      )
 
   pub below : IsBelow k.agents s.events
   below = events_below k k.agents (start k) v.seen h.now.below

@@ -1,5 +1,5 @@
 -- Passes that learn from one another, and that take in one another.
-use Rattle.std.proofs.Common.{◌≡◌, ◌≢◌, ◌<◌, ℕ, ◌==◌, List, [], ◌∷◌, ◌++◌, Option, Some, None, refl, sym, ap, ◌∙◌, subst, ◌⊎◌, inl, inr, ⊎_elim, append-nil}
+use Rattle.std.proofs.Common.{◌≡◌, ◌<◌, ℕ, ◌==◌, List, [], ◌∷◌, ◌++◌, Option, Some, refl, sym, ap, ◌∙◌, subst, inl, inr, ⊎_elim, append-nil}
 use Rattle.std.proofs.lemmas.List.{append_cancel_left}
 use Rattle.std.proofs.lemmas.List.Elements.{filter-append}
 use Rattle.orc_words.specs.Bounds.{Bounds, bounds_of}
@@ -7,7 +7,7 @@ use Rattle.orc_heap.specs.Allowed.{AllAllowed, events_by}
 use Rattle.orc_heap.specs.declared.discipline.Discipline as discipline
 use Rattle.orc_heap.specs.declared.events.Event.{Event}
 use Rattle.orc_shared_words.specs.Learning.{Learned, SameButSeen}
-use Rattle.orc_shared_words.specs.Lists.{Among, Begins}
+use Rattle.orc_shared_words.specs.Lists.{Begins}
 use Rattle.orc_shared_words.specs.Runs.{AgentsBelow, steps_by}
 use Rattle.orc_shared_words.specs.Views.{absorbing, agent_of}
 use Rattle.orc_shared_words.specs.declared.journal.View.{View}
@@ -18,7 +18,6 @@ use Rattle.orc_table.specs.Rules.{opening_steps, project-append}
 use Rattle.orc_table.specs.Views.{FreshHeld, Keeps, view_of}
 use Rattle.orc_table.specs.declared.machine.PlainStep.{PlainStep}
 use Rattle.orc_table.specs.declared.seed.PlainShape.{PlainShape}
-use Rattle.orc_table.proofs.Lists.{some_one}
 use Rattle.orc_table.proofs.Walks.{Mid, by, mid_fresh, mid_of, none_by, others_none}
 
 -- steps of the rest of a list, where the agent's are those of its front

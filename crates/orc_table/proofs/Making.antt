@@ -1,15 +1,14 @@
 -- A new pass.
-use Rattle.std.proofs.Common.{◌≡◌, ◌<◌, ℕ, List, [], ◌++◌, Option, Some, None, refl, sym, ◌∙◌, subst, append-nil}
+use Rattle.std.proofs.Common.{◌≡◌, ◌<◌, ℕ, [], Option, Some, None, refl, sym, ◌∙◌, subst, append-nil}
 use Rattle.orc_words.specs.Bounds.{bounds_of}
 use Rattle.orc_heap.specs.Allowed.{AllAllowed}
 use Rattle.orc_heap.specs.declared.discipline.Discipline as discipline
-use Rattle.orc_heap.specs.declared.events.Event.{Event}
 use Rattle.orc_shared_words.specs.Ends.{Opens}
 use Rattle.orc_shared_words.specs.Runs.{AgentsBelow}
 use Rattle.orc_shared_words.specs.declared.journal.View.{View}
-use Rattle.orc_table.specs.Machine.{AllowedFrom, numbers, project, run}
+use Rattle.orc_table.specs.Machine.{AllowedFrom, numbers, project}
 use Rattle.orc_table.specs.Rules.{opening_steps, plain_rules}
-use Rattle.orc_table.specs.Views.{FreshHeld, Keeps}
+use Rattle.orc_table.specs.Views.{Keeps}
 use Rattle.orc_table.specs.declared.machine.PlainStep.{PlainStep}
 use Rattle.orc_table.specs.declared.seed.PlainShape.{PlainShape}
 

@@ -1,42 +1,36 @@
 -- What each step tells, in events.
-use Rattle.std.proofs.Common.{◌≡◌, ◌≢◌, ℕ, zero, suc, ◌+◌, ◌*◌, ◌<◌, ◌==◌, List, [], ◌∷◌, ◌++◌, length, Bool, true, false, true≢false, cond, if◌then◌else◌, Option, Some, None, slice_get, slice_index, refl, sym, ap, ◌∙◌, subst, ◌⊎◌, inl, inr, arith, eq-eqb, ne_eqb, append-nil, length-append}
+use Rattle.std.proofs.Common.{◌≡◌, ◌≢◌, ℕ, zero, suc, ◌+◌, ◌<◌, ◌==◌, List, [], ◌∷◌, ◌++◌, length, Bool, true, false, if◌then◌else◌, Option, Some, None, slice_get, slice_index, refl, sym, ap, ◌∙◌, subst, ◌⊎◌, inl, inr, arith, eq-eqb, ne_eqb, append-nil, length-append}
 use mathlib.Core.Logic.{dite}
 use native.Mathlib.Decide.{ℕ_discrete}
 use Rattle.orc_words.specs.Bounds.{Bounds, bounds_of}
-use Rattle.orc_words.specs.Packed.{link_word}
 use Rattle.orc_words.specs.Places.{place}
-use Rattle.orc_words.specs.declared.packed.RowLink.{RowLink}
-use Rattle.orc_words.specs.declared.place.Word.{Word}
 use Rattle.orc_words.specs.declared.place.Word.TheVariants as word
 use Rattle.orc_heap.specs.Acts.{IsTarget}
 use Rattle.orc_heap.specs.Seats.{IsUntouched}
-use Rattle.orc_heap.specs.Heap.{Heap, Node, new_node, shown}
-use Rattle.orc_heap.specs.Journals.{IsLawfulFrom, run_from as heap_from, run_heap}
+use Rattle.orc_heap.specs.Heap.{Heap, Node, new_node}
+use Rattle.orc_heap.specs.Journals.{run_from as heap_from}
 use Rattle.orc_heap.specs.declared.discipline.Discipline as discipline
 use Rattle.orc_heap.specs.declared.events.Act.TheVariants as act
 use Rattle.orc_heap.specs.declared.events.Event.{Event}
 use Rattle.orc_heap.specs.declared.events.Link.{Link}
-use Rattle.orc_heap.specs.declared.events.Place.{Place}
-use Rattle.orc_heap.specs.declared.events.Place.TheVariants.{Next as AtNext}
 use Rattle.orc_heap.proofs.Changes.{get-added}
 use Rattle.orc_shared_words.specs.Steps.{Extends, LaterJournal}
 use Rattle.orc_shared_words.specs.declared.journal.View.{View}
 use Rattle.orc_heap.specs.Calls.{ReadsValue, value_of}
-use Rattle.orc_table.specs.Calls.{Adds, Fails, Finds, Gives, IsGateWord, KnowsPlace, KnowsRow, KnowsTarget, Loses, Misses, Replaces, aim_event, look_event, move_event, unless_linked}
-use Rattle.orc_table.specs.Machine.{State, event, events_of, finds, id_by, index_of, link_at, link_by, numbers, place_by, project, project_from, run, run_from, start, taken, tested, value_word, word_of}
+use Rattle.orc_table.specs.Calls.{Adds, Gives, IsGateWord, KnowsRow, Loses}
+use Rattle.orc_table.specs.Machine.{State, event, events_of, finds, index_of, numbers, run, run_from, start, taken, value_word}
 use Rattle.orc_table.specs.Rules.{plain_rules}
 use Rattle.orc_table.specs.Views.{FreshHeld, Keeps, PlainView, heap_of, view_of}
-use Rattle.orc_table.specs.Words.{Block, IsOut, IsWord, Named}
+use Rattle.orc_table.specs.Words.{Block, IsOut, Named}
 use Rattle.orc_table.specs.declared.machine.PlainOp.{PlainOp}
-use Rattle.orc_table.specs.declared.machine.PlainOp.TheVariants.{GateLook, GateTake, Fill, Read, LinkLoad, LinkCas, LinkStore}
+use Rattle.orc_table.specs.declared.machine.PlainOp.TheVariants.{GateLook, GateTake, Fill, Read}
 use Rattle.orc_table.specs.declared.machine.PlainStep.{PlainStep}
 use Rattle.orc_table.specs.declared.seed.PlainShape.{PlainShape}
 use Rattle.orc_table.proofs.Lists.{at_index, get_last, get_lt, index_at, index_grown, index_in, lt_get, some_one}
-use Rattle.orc_table.proofs.Ties.{Given, word_grown}
 use Rattle.orc_table.proofs.Steps.{Tied, heap_is}
-use Rattle.orc_table.proofs.Untouched.{Spares, spared_after}
-use Rattle.orc_table.proofs.Walks.{Walk, adds, given_later, given_more, heap_later, later_fresh, met, mid_fresh, own, rows_later, walk}
-use Rattle.orc_table.proofs.Licences.{Shows, link_given, link_grown, place_given, place_grown, row_given, shows}
+use Rattle.orc_table.proofs.Untouched.{spared_after}
+use Rattle.orc_table.proofs.Walks.{Walk, adds, given_later, given_more, heap_later, later_fresh, walk}
+use Rattle.orc_table.proofs.Licences.{row_given}
 
 -- the row stands in the list, or nowhere in it
 pub out_or_not : (g : List ℕ) (row : ℕ) → IsOut g row ⊎ ((id : ℕ) → slice_get g id ≢ Some row)

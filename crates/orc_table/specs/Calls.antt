@@ -1,12 +1,12 @@
 -- What the calls ask, and what they tell, of what the pass shows before and after.
-use Rattle.std.specs.Prelude.{◌≡◌, ◌≢◌, ℕ, zero, suc, ◌<◌, ◌%◌, ◌==◌, cond, List, [], ◌∷◌, ◌++◌, length, Bool, Option, Some, None, slice_get, ◌⊎◌}
+use Rattle.std.specs.Prelude.{◌≡◌, ◌≢◌, ℕ, ◌<◌, ◌%◌, ◌==◌, cond, List, [], ◌∷◌, ◌++◌, Option, Some, None, ◌⊎◌}
 use Rattle.orc_words.specs.Bounds.{Bounds}
 use Rattle.orc_words.specs.declared.packed.RowLink.{RowLink}
 use Rattle.orc_words.specs.declared.place.Word.{Word}
 use Rattle.orc_words.specs.declared.place.Word.TheVariants.{Root, Next}
 use Rattle.orc_heap.specs.Acts.{IsKnown, IsTarget}
 use Rattle.orc_heap.specs.Allowed.{AllAllowed, AllowedLater, AllowedWhereFits, Later, events_by}
-use Rattle.orc_heap.specs.Heap.{Heap, Node, shown}
+use Rattle.orc_heap.specs.Heap.{shown}
 use Rattle.orc_heap.specs.Journals.{run_heap}
 use Rattle.orc_heap.specs.declared.events.Act.TheVariants as act
 use Rattle.orc_heap.specs.declared.events.Event.{Event}

@@ -179,12 +179,7 @@ fn one_agent_makes_each_call(rt: HostRuntime) -> Result<(), Fail> {
 }
 
 // two agents work, each in a thread of its own; how many rows each took
-fn work_both<R: Threads + Sync>(
-    rt: &R,
-    board: &Board,
-    one: &mut Pass,
-    two: &mut Pass,
-) -> (u32, u32)
+fn work_both<R: Threads + Sync>(rt: &R, board: &Board, one: &mut Pass, two: &mut Pass) -> (u32, u32)
     requires belongs { Belongs board.now one.old × Belongs board.now two.old }
     requires roots { 0 < (board_bounds board.now).roots }
     requires fresh { ((shows board.now one.old).fresh ≡ None) × ((shows board.now two.old).fresh ≡ None) }

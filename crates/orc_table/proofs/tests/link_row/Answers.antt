@@ -1,11 +1,11 @@
-use Rattle.std.proofs.Common.{◌≡◌, List, ◌++◌, inl, subst, sym}
+use Rattle.std.proofs.Common.{◌++◌, inl, subst, sym}
 use Rattle.orc_heap.specs.Acts.{IsKnown, IsTarget}
 use Rattle.orc_heap.specs.Journals.{run_heap}
 use Rattle.orc_heap.proofs.Known.{known-later}
 use Rattle.orc_shared_words.specs.Ticks.{AnyFit}
 use Rattle.orc_words.specs.declared.packed.RowLink.{RowLink}
 use Rattle.orc_table.specs.Machine.{id_by, index_of}
-use Rattle.orc_table.specs.Views.{board_bounds, board_numbers, heap_of, shows}
+use Rattle.orc_table.specs.Views.{board_numbers, shows}
 use Rattle.orc_table.proofs.tests.link_row.Goals as goal
 
 pub link_cas-requires-clause-allowed : goal.link_cas-requires-clause-allowed

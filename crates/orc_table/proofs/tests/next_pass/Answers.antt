@@ -1,4 +1,4 @@
-use Rattle.std.proofs.Common.{◌≡◌, None, All}
+use Rattle.std.proofs.Common.{◌≡◌, None}
 use Rattle.std.proofs.lemmas.List.Elements.{All-pop}
 use Rattle.orc_table.specs.Views.{Belongs, shows}
 use Rattle.orc_table.proofs.tests.next_pass.Goals as goal

@@ -1,8 +1,7 @@
-use Rattle.std.proofs.Common.{slice_index_or, rules, ◌≡◌, ◌<◌, [], All, IfOk, None, length, ℕ, ◌+◌, sym, ap, subst, ◌∙◌, arith}
+use Rattle.std.proofs.Common.{slice_index_or, ◌<◌, length, sym, ap, subst, ◌∙◌, arith}
 use Rattle.orc_words.specs.Bounds.{bounds_of}
 use Rattle.orc_words.specs.Places.{places}
 use Rattle.orc_table.specs.Machine.{numbers, project}
-use Rattle.orc_table.specs.declared.seed.PlainShape.{PlainShape}
 use Rattle.orc_table.proofs.Making.{new_keeps}
 use Rattle.orc_table.proofs.Opening.{has_roots, opened_events, opens}
 use Rattle.orc_table.proofs.pass.PlainBoard.make.Goals as goal
