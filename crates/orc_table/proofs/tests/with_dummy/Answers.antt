@@ -1,7 +1,7 @@
-use Rattle.std.proofs.Common.{◌≡◌, ◌<◌, ◌≤◌, ℕ, zero, suc, List, replicate, Some, slice_get, refl, inl, arith, ◌∙◌, ◌++◌, ◌∷◌, []}
+use Rattle.std.proofs.Common.{◌≡◌, ◌<◌, ℕ, zero, suc, replicate, Some, slice_get, refl, inl, arith, ◌∙◌}
 use Rattle.orc_words.specs.Bounds.{bounds_of}
 use Rattle.orc_heap.specs.Acts.{as_linked, with_value}
-use Rattle.orc_heap.specs.Heap.{change, new_node, null}
+use Rattle.orc_heap.specs.Heap.{new_node, null}
 use Rattle.orc_heap.specs.declared.events.Link.{Link}
 use Rattle.orc_heap.proofs.Changes.{get-change_other}
 use Rattle.orc_table.specs.Rules.{to_node}
