@@ -1,11 +1,15 @@
 //! Laws of heaps and their journals.
 
-ghost use Rattle.std.specs.Prelude.{◌≡◌, ℕ, ◌↔◌, ◌++◌, List, Some, true, slice_get};
-ghost use Rattle.orc_heap.specs.Heap.{Heap, HeapNumbers, Node};
+ghost use Rattle.std.specs.List.{list_any};
+ghost use Rattle.std.specs.Prelude.{◌≡◌, ◌≢◌, ℕ, ◌↔◌, ◌++◌, List, Some, true, slice_get};
+ghost use Rattle.orc_heap.specs.Heap.{Heap, HeapNumbers, Node, shown};
 ghost use Rattle.orc_heap.specs.Acts.{Fits, StaysLinked, heap_after, moved_link};
 ghost use Rattle.orc_heap.specs.Journals.{IsLawful, IsLawfulFrom, is_once_linked, is_once_named, run_from, run_heap};
+ghost use Rattle.orc_heap.specs.Moves.{IsLinkedPlace, moves_place};
 ghost use Rattle.orc_heap.specs.declared.events.Act.{Act};
 ghost use Rattle.orc_heap.specs.declared.events.Event.{Event};
+ghost use Rattle.orc_heap.specs.declared.events.Link.{Link};
+ghost use Rattle.orc_heap.specs.declared.events.Place.{Place};
 
 /// A node to which a Move made a link stays such a node, keeps both values, and keeps its link but for a
 /// Move of it.
@@ -29,4 +33,11 @@ pub fn journals_go_on<N>()
     ensures heap { (h : Heap) (first second : List (Event N)) → run_from h (first ++ second) ≡ run_from (run_from h first) second }
     ensures lawful { (h : Heap) (first second : List (Event N))
         → IsLawfulFrom h (first ++ second) ↔ (IsLawfulFrom h first × IsLawfulFrom (run_from h first) second) }
+{}
+
+/// Where a root, or the link of a once linked node, shows one link and later another, a Move of it stands in between.
+pub fn a_changed_link_was_moved<N>()
+    ensures { (h : Heap) (place : Place) (one two : Link) (es : List (Event N)) → IsLawfulFrom h es → IsLinkedPlace place h
+        → shown h place ≡ Some one → shown (run_from h es) place ≡ Some two → one ≢ two
+        → list_any (λ e. moves_place place e.act) es ≡ true }
 {}

@@ -10,7 +10,9 @@ mod links;
 pub use discipline::{Discipline, Ranked};
 pub use events::{Act, Event, Link, Place};
 pub use holds::{At, Held, Looked, Seen, Want};
-pub use laws::{a_node_tells_its_journal, journals_go_on, once_linked_nodes_stay};
+pub use laws::{
+    a_changed_link_was_moved, a_node_tells_its_journal, journals_go_on, once_linked_nodes_stay,
+};
 pub use links::Links;
 
 #[cfg(test)]

@@ -46,6 +46,7 @@ fn events_are_compared_field_by_field(rt: HostRuntime) -> Result<(), Fail> {
     once_linked_nodes_stay();
     a_node_tells_its_journal::<u32>();
     journals_go_on::<u32>();
+    a_changed_link_was_moved::<u32>();
     Ok(())
 }
 

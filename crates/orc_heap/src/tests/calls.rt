@@ -3,9 +3,10 @@
 ghost use Rattle.std.specs.Prelude.{◌≡◌, ◌≢◌, ℕ, ◌==◌, List, ◌∷◌, [], Some, None, true, false, replicate};
 ghost use Rattle.orc_fault.specs.declared.Spent.{Spent};
 ghost use Rattle.orc_heap.specs.declared.events.Event.{Event};
-ghost use Rattle.orc_heap.specs.Heap.{HeapNumbers, null};
+ghost use Rattle.orc_heap.specs.Heap.{HeapNumbers, new_node, null};
 ghost use Rattle.orc_heap.specs.Journals.{IsLawful};
 ghost use Rattle.orc_heap.specs.Allowed.{AllAllowed, AllowedLater, Later, MovesLinked, Rises, events_by};
+ghost use Rattle.orc_heap.specs.Moves.{IsLinkedPlace, from_own, gives_in, moves_in, moves_place};
 ghost use Rattle.orc_heap.specs.Slots.{Hold, Holds, IsFree, SlotNode, Slots, id_in};
 ghost use Rattle.orc_heap.specs.Seats.{IsIdle, Seat, target_in};
 ghost use Rattle.orc_heap.specs.Parts.{IsAlone, IsBelow, InPart, Only, Puts, part_begin, part_of, steps_by};
@@ -73,4 +74,15 @@ fn longer_lists()
     ensures second { IsLonger {A = ℕ} (4 ∷ []) (4 ∷ 6 ∷ []) (4 ∷ 6 ∷ []) }
     ensures first { IsLonger {A = ℕ} (4 ∷ 6 ∷ []) (4 ∷ []) (4 ∷ 6 ∷ []) }
     ensures shorter { ¬ IsLonger {A = ℕ} (4 ∷ 6 ∷ []) (4 ∷ []) (4 ∷ []) }
+{}
+
+/// A Move of root 1 is one of root 1 alone. The link of a node that was never linked is no such place.
+fn moves_of_places()
+    ensures there { moves_place (Place.Root 1) (Act.Move (Place.Root 1) null null) ≡ true }
+    ensures elsewhere { moves_place (Place.Next 1) (Act.Move (Place.Root 1) null null) ≡ false }
+    ensures look { moves_place (Place.Root 1) (Act.Look (Place.Root 1) null) ≡ false }
+    ensures moves { moves_in {N = ℕ} (record { agent = 1; act = Act.Give; note = None } ∷ record { agent = 1; act = Act.Move (Place.Root 1) null null; note = None } ∷ []) ≡ 1 }
+    ensures gives { gives_in {N = ℕ} (record { agent = 1; act = Act.Give; note = None } ∷ record { agent = 1; act = Act.Move (Place.Root 1) null null; note = None } ∷ []) ≡ 1 }
+    ensures own { from_own {N = ℕ} 2 (record { agent = 1; act = Act.Give; note = None } ∷ record { agent = 2; act = Act.Give; note = None } ∷ []) ≡ record { agent = 2; act = Act.Give; note = None } ∷ [] }
+    ensures unlinked { ¬ IsLinkedPlace (Place.Next 0) (record { nodes = new_node 3 ∷ []; roots = [] }) }
 {}
