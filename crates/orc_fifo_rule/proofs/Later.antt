@@ -70,7 +70,7 @@ pub node_later : (n : HeapNumbers) (agent id : ℕ) (node : Node) (seen more : L
     → Later (FifoMay n) agent seen more → slice_get (run_heap n (seen ++ more)).nodes id ≡ Some node
 node_later n agent id node seen more holds there giver unnamed unlinked later =
     let r = fresh_later n (FifoHolds n) (FifoMay n) (λ es e h may. fifo_keeps n es e h may) (λ es e h may. fifo_fits n es e h may) (λ es e h may. fifo_moves_linked n es e h may)
-        agent id seen more node holds (record { there = there; own = record { mine = giver; unnamed = unnamed; unlinked = unlinked } }) later in
+    agent id seen more node holds (record { there = there; own = record { mine = giver; unnamed = unnamed; unlinked = unlinked } }) later in
     r.there
 
 -- a root that names the node still does, or it stepped on to the node's successor
