@@ -1,0 +1,140 @@
+-- The rule stays where one view changes or comes and the journal stays.
+use Rattle.std.proofs.Common.{List, None, Some, [], arith, length, ap, refl, set, subst, sym, ℕ, ◌++◌, ◌<◌, ◌∙◌, ◌≡◌, ◌≤◌, ◌∷◌, ⊎_elim}
+use mathlib.Core.Option.{some, some-injective}
+use mathlib.Core.Logic.{dite}
+use native.Mathlib.Decide.{ℕ_discrete}
+use lib.ListN.{get_elem?}
+use Rattle.atomic_table.specs.Table.{State}
+use Rattle.atomic_table.proofs.Lists.{at_snoc, at_longer, set_else}
+use Rattle.orc_heap.specs.declared.events.Event.{Event}
+use Rattle.orc_shared_words.specs.declared.journal.View.{View}
+use Rattle.orc_shared_words.specs.Lists.{Among}
+use Rattle.orc_shared_words.specs.Rule.{EachView, Fits, HasSeen, NoPass, Retired, Shows, Unborn}
+use Rattle.orc_shared_words.specs.Runs.{Rules, steps_by}
+use Rattle.orc_shared_words.proofs.Seats.{at_changed, at_grown, none_some}
+
+module _ {S Rec : Type 0} where
+  abbrev pub Apart : List (View S Rec) → Type 0
+  Apart views = (i l a : ℕ) (v w : View S Rec) → get_elem? views i ≡ some v → get_elem? views l ≡ some w → v.agent ≡ Some a → w.agent ≡ Some a → i ≡ l
+
+  abbrev pub Lone : List (View S Rec) → Type 0
+  Lone views = (i l a b : ℕ) (v w : View S Rec) → get_elem? views i ≡ some v → get_elem? views l ≡ some w → v.free ≡ Some a → w.free ≡ Some b → i ≡ l
+
+  -- a seat's first free number grows, or is lost
+  abbrev pub FreeGrows : View S Rec → View S Rec → Type 0
+  FreeGrows v w = (c : ℕ) → w.free ≡ Some c → (b : ℕ) × (v.free ≡ Some b) × (b ≤ c)
+
+  -- a seat keeps its agent, or loses it
+  abbrev pub AgentStays : View S Rec → View S Rec → Type 0
+  AgentStays v w = (a : ℕ) → w.agent ≡ Some a → v.agent ≡ Some a
+
+  pub still_apart : (views : List (View S Rec)) (id : ℕ) (v w : View S Rec) → get_elem? views id ≡ some v → AgentStays v w → Apart views → Apart (set views id w)
+  still_apart views id v w at less d i l a x y ei el =
+      at_changed (λ i x. x.agent ≡ Some a → y.agent ≡ Some a → i ≡ l) views id w
+      (at_changed (λ l y. w.agent ≡ Some a → y.agent ≡ Some a → id ≡ l) views id w (λ _ _. refl) (λ l y _ el p q. d id l a v y at el (less a p) q) l y el)
+      (λ i x _ ei. at_changed (λ l y. x.agent ≡ Some a → y.agent ≡ Some a → i ≡ l) views id w (λ p q. d i id a x v ei at p (less a q)) (λ l y _ el. d i l a x y ei el) l y el)
+      i x ei
+
+  pub still_lone : (views : List (View S Rec)) (id : ℕ) (v w : View S Rec) → get_elem? views id ≡ some v → FreeGrows v w → Lone views → Lone (set views id w)
+  still_lone views id v w at less d i l a b x y ei el =
+      at_changed (λ i x. x.free ≡ Some a → y.free ≡ Some b → i ≡ l) views id w
+      (at_changed (λ l y. w.free ≡ Some a → y.free ≡ Some b → id ≡ l) views id w (λ _ _. refl) (λ l y _ el p q. let o = less a p in d id l o.0 b v y at el o.1 q) l y el)
+      (λ i x _ ei. at_changed (λ l y. x.free ≡ Some a → y.free ≡ Some b → i ≡ l) views id w (λ p q. let o = less b q in d i id a o.0 x v ei at p o.1) (λ l y _ el. d i l a b x y ei el) l y el)
+      i x ei
+
+  pub still_passless : (views : List (View S Rec)) (id : ℕ) (v w : View S Rec) → get_elem? views id ≡ some v → AgentStays v w → (a : ℕ) → NoPass views a → NoPass (set views id w) a
+  still_passless views id v w at less a old = at_changed (λ _ z. ¬ (z.agent ≡ Some a)) views id w (λ p. old id v at (less a p)) (λ l z _ el. old l z el)
+
+  abbrev pub Attained : List S → List (View S Rec) → Type 0
+  Attained j views = (i : ℕ) × (x : View S Rec) × (get_elem? views i ≡ some x) × HasSeen j x
+
+  pub still_attained : (j : List S) (views : List (View S Rec)) (id : ℕ) (v w : View S Rec) → get_elem? views id ≡ some v → (HasSeen j v → Attained j (set views id w)) → Attained j views → Attained j (set views id w)
+  still_attained j views id v w at mine t = dite (ℕ_discrete t.0 id)
+      (λ e. mine (subst (HasSeen j) (some-injective t.1 v (sym t.2 ∙ (ap (get_elem? views) e ∙ at))) t.3))
+      (λ ne. (t.0, t.1, set_else views id t.0 w ne ∙ t.2, t.3))
+
+module _ {K S Op Rec N : Type 0} (r : Rules K S Op Rec N) (k : K) where
+  abbrev pub AllUnborn : List S → List (View S Rec) → Type 0
+  AllUnborn j views = (a : ℕ) → EachView views (λ _ v. v.free ≡ Some a → (b : ℕ) → a ≤ b → b < r.agents k → Unborn r k j views b)
+
+  abbrev pub AllRetired : List S → List (View S Rec) → Type 0
+  AllRetired j views = (a : ℕ) → EachView views (λ _ v. Among a v.also → Retired r k j views a v.seen)
+
+  pub still_unborn : (j : List S) (views : List (View S Rec)) (id : ℕ) (v w : View S Rec) → get_elem? views id ≡ some v → AgentStays v w → FreeGrows v w → AllUnborn j views → AllUnborn j (set views id w)
+  still_unborn j views id v w at less free m c i u ei q b le lt =
+      let old = at_changed (λ i u. u.free ≡ Some c → (d : ℕ) × (x : View S Rec) × (get_elem? views i ≡ some x) × (x.free ≡ Some d) × (d ≤ c)) views id w
+      (λ q. let o = free c q in (o.0, v, at, o.1, o.2)) (λ i u _ e q. (c, u, e, q, omega arith)) i u ei q in
+      let below = old.4 in
+      let x = m old.0 i old.1 old.2 old.3 b (omega arith) lt in
+      record { mine = x.mine; steps = x.steps; passless = still_passless views id v w at less b x.passless }
+
+  pub still_retired : (j : List S) (views : List (View S Rec)) (id : ℕ) (v w : View S Rec) → get_elem? views id ≡ some v → AgentStays v w → FreeGrows v w
+      → ((a : ℕ) → Among a w.also → Retired r k j views a w.seen) → AllRetired j views → AllRetired j (set views id w)
+  still_retired j views id v w at less free mine all a i u ei q =
+      let x = at_changed (λ i u. Among a u.also → Retired r k j views a u.seen) views id w (mine a) (λ i u _ e q. all a i u e q) i u ei q in record {
+        steps = x.steps;
+        passless = still_passless views id v w at less a x.passless;
+        handed = λ c l z el. at_changed (λ _ z. z.free ≡ Some c → a < c) views id w (λ p. let o = free c p in let y = x.handed o.0 id v at o.1 in let z = o.2 in omega arith) (λ l z _ el p. x.handed c l z el p) l z el;
+      }
+
+module _ {K S Op Rec N : Type 0} (r : Rules K S Op Rec N) (k : K) (holds : List (Event N) → Type 0) (may : List (Event N) → Event N → Type 0) where
+  -- one seat's view changes, and nothing else
+  unfoldable pub changed : (words : List ℕ) (s : State (Unit {0}) (View S Rec)) (h : Shows r k holds may s) (id : ℕ) (v w : View S Rec) → words ≡ s.words → get_elem? s.views id ≡ some v → Fits r k h.journal w → AgentStays v w → FreeGrows v w
+      → ((a : ℕ) → Among a w.also → Retired r k h.journal s.views a w.seen) → (HasSeen h.journal v → Attained h.journal (set s.views id w)) → Shows r k holds may record { words = words; homes = s.homes; views = set s.views id w }
+  changed words s h id v w same at fits less free mine has = record {
+    journal = h.journal;
+    attained = still_attained h.journal s.views id v w at has h.attained;
+    fits = at_changed (λ _ u. Fits r k h.journal u) s.views id w fits (λ i u _. h.fits i u);
+    lawful = h.lawful;
+    opened = h.opened;
+    words = same ∙ h.words;
+    apart = still_apart s.views id v w at less h.apart;
+    each = h.each;
+    kept = h.kept;
+    below = h.below;
+    unborn = still_unborn r k h.journal s.views id v w at less free h.unborn;
+    lone = still_lone s.views id v w at free h.lone;
+    retired = still_retired r k h.journal s.views id v w at less free mine h.retired;
+  }
+
+  -- the number of a new seat: no view has it or hands it out, and none took in its pass
+  pub record IsNew (views : List (View S Rec)) (a : ℕ) : Type 0 where
+    pub passless : NoPass views a
+    pub handed : (c : ℕ) → EachView views (λ _ v. v.free ≡ Some c → a < c)
+    pub living : EachView views (λ _ v. ¬ Among a v.also)
+
+  -- a seat comes, which hands out no numbers
+  pub added : (s : State (Unit {0}) (View S Rec)) (h : Shows r k holds may s) (w : View S Rec) → Fits r k h.journal w → w.free ≡ None → w.also ≡ [] → ((a : ℕ) → w.agent ≡ Some a → IsNew s.views a)
+      → Shows r k holds may record { words = s.words; homes = s.homes; views = s.views ++ w ∷ [] }
+  added s h w fits none alone_so new = record {
+    journal = h.journal;
+    attained = let t = h.attained in (t.0, t.1, at_longer s.views (w ∷ []) t.0 t.1 t.2, t.3);
+    fits = λ i u e. ⊎_elim (h.fits i u) (λ (t : w ≡ u). subst (Fits r k h.journal) t fits) (at_snoc s.views w u i e);
+    lawful = h.lawful;
+    opened = h.opened;
+    words = h.words;
+    apart = λ i l a x y ei el.
+        at_grown (λ i x. x.agent ≡ Some a → y.agent ≡ Some a → i ≡ l) s.views w
+        (at_grown (λ l y. w.agent ≡ Some a → y.agent ≡ Some a → length s.views ≡ l) s.views w (λ _ _. refl) (λ l y el p q. absurd ((new a p).passless l y el q)) l y el)
+        (λ i x ei. at_grown (λ l y. x.agent ≡ Some a → y.agent ≡ Some a → i ≡ l) s.views w (λ p q. absurd ((new a q).passless i x ei p)) (λ l y el. h.apart i l a x y ei el) l y el)
+        i x ei;
+    each = h.each;
+    kept = h.kept;
+    below = h.below;
+    unborn = λ c i u ei q b le lt.
+        let old = at_grown (λ i u. u.free ≡ Some c → (z : View S Rec) × (l : ℕ) × (get_elem? s.views l ≡ some z) × (z.free ≡ Some c)) s.views w (λ q. absurd (none_some w.free c none q)) (λ i u e q. (u, i, e, q)) i u ei q in
+        let x = h.unborn c old.1 old.0 old.2 old.3 b le lt in
+        record { mine = x.mine; steps = x.steps; passless = at_grown (λ _ z. ¬ (z.agent ≡ Some b)) s.views w (λ p. let y = (new b p).handed c old.1 old.0 old.2 old.3 in absurd (omega arith)) x.passless };
+    lone = λ i l a b x y ei el.
+        at_grown (λ i x. x.free ≡ Some a → y.free ≡ Some b → i ≡ l) s.views w
+        (λ p _. absurd (none_some w.free a none p))
+        (λ i x ei. at_grown (λ l y. x.free ≡ Some a → y.free ≡ Some b → i ≡ l) s.views w (λ _ q. absurd (none_some w.free b none q)) (λ l y el. h.lone i l a b x y ei el) l y el)
+        i x ei;
+    retired = λ a i u ei q.
+        let old = at_grown (λ i u. Among a u.also → (z : View S Rec) × (l : ℕ) × (get_elem? s.views l ≡ some z) × Among a z.also × (z.seen ≡ u.seen)) s.views w (λ q. absurd (subst (Among a) alone_so q)) (λ i u e q. (u, i, e, q, refl)) i u ei q in
+        let x = h.retired a old.1 old.0 old.2 old.3 in record {
+          steps = x.steps ∙ ap (steps_by r.by a) old.4;
+          passless = at_grown (λ _ z. ¬ (z.agent ≡ Some a)) s.views w (λ p. (new a p).living old.1 old.0 old.2 old.3) x.passless;
+          handed = λ c l z el. at_grown (λ _ z. z.free ≡ Some c → a < c) s.views w (λ p. absurd (none_some w.free c none p)) (λ l z el p. x.handed c l z el p) l z el;
+        };
+  }

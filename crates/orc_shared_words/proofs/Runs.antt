@@ -1,0 +1,55 @@
+-- The steps of one agent in a list.
+use Rattle.std.proofs.Common.{Bool, List, [], append-nil, append_assoc, eq-eqb, if◌then◌else◌, ne_eqb, refl, sym, ap, ℕ, ◌++◌, ◌<◌, ◌∙◌, ◌≡◌, ◌≢◌, ◌∷◌}
+use Rattle.std.proofs.lemmas.List.{append_cancel_left}
+use mathlib.Core.Logic.{dite}
+use native.Mathlib.Decide.{ℕ_discrete}
+use Rattle.orc_shared_words.specs.Lists.{Begins}
+use Rattle.orc_shared_words.specs.Runs.{steps_by, AgentsBelow}
+use Rattle.orc_shared_words.proofs.Fronts.{front_nil}
+
+pub cons_nil : {A : Type 0} (x : A) (xs : List A) → x ∷ xs ≡ [] → ⊥
+cons_nil x xs e = absurd (cc)
+
+module _ {S : Type 0} (by : S → ℕ) where
+  pub by_other : (a : ℕ) (s : S) (ss : List S) → by s ≢ a → steps_by by a (s ∷ ss) ≡ steps_by by a ss
+  by_other a s ss ne = ap (λ (b : Bool). if b then s ∷ steps_by by a ss else steps_by by a ss) (ne_eqb (by s) a ne)
+
+  pub by_own : (a : ℕ) (s : S) (ss : List S) → by s ≡ a → steps_by by a (s ∷ ss) ≡ s ∷ steps_by by a ss
+  by_own a s ss e = ap (λ (b : Bool). if b then s ∷ steps_by by a ss else steps_by by a ss) (eq-eqb (by s) a e)
+
+  pub steps_by-append : (a : ℕ) (xs ys : List S) → steps_by by a (xs ++ ys) ≡ steps_by by a xs ++ steps_by by a ys
+  steps_by-append a [] ys = refl
+  steps_by-append a (x ∷ xs) ys = dite (ℕ_discrete (by x) a)
+      (λ e. by_own a x (xs ++ ys) e ∙ (ap (λ (l : List S). x ∷ l) (steps_by-append a xs ys) ∙ ap (λ (l : List S). l ++ steps_by by a ys) (sym (by_own a x xs e))))
+      (λ ne. by_other a x (xs ++ ys) ne ∙ (steps_by-append a xs ys ∙ ap (λ (l : List S). l ++ steps_by by a ys) (sym (by_other a x xs ne))))
+
+  -- steps of others add none of the agent's
+  pub steps_by-others : (a : ℕ) (xs ys : List S) → steps_by by a ys ≡ [] → steps_by by a (xs ++ ys) ≡ steps_by by a xs
+  steps_by-others a xs ys e = steps_by-append a xs ys ∙ (ap (λ l. steps_by by a xs ++ l) e ∙ append-nil (steps_by by a xs))
+
+  -- where the agent's steps all stand in a front, none of its stand behind it
+  pub none_behind : (a : ℕ) (j seen : List S) (b : Begins j seen) → steps_by by a j ≡ steps_by by a seen → steps_by by a b.0 ≡ []
+  none_behind a j seen b e = append_cancel_left (steps_by by a seen) (steps_by by a b.0) [] (sym (steps_by-append a seen b.0) ∙ (ap (steps_by by a) (sym b.1) ∙ (e ∙ sym (append-nil (steps_by by a seen)))))
+
+  -- and so none stand in what is between
+  pub none_between : (a : ℕ) (j seen first : List S) → Begins j seen → Begins seen first → steps_by by a j ≡ steps_by by a first → steps_by by a seen ≡ steps_by by a first
+  none_between a j seen first b c e =
+      let far : steps_by by a c.0 ++ steps_by by a b.0 ≡ [] = sym (steps_by-append a c.0 b.0) ∙ none_behind a j first (c.0 ++ b.0, b.1 ∙ (ap (λ l. l ++ b.0) c.1 ∙ append_assoc first c.0 b.0)) e in
+      ap (steps_by by a) c.1 ∙ steps_by-others a first c.0 (front_nil (steps_by by a c.0) (steps_by by a b.0) far)
+
+  pub below-snoc : (n : ℕ) (xs : List S) (s : S) → AgentsBelow by n xs → by s < n → AgentsBelow by n (xs ++ s ∷ [])
+  below-snoc n [] s b l = (l, tt)
+  below-snoc n (x ∷ xs) s b l = (b.0, below-snoc n xs s b.1 l)
+
+  pub below-front : (n : ℕ) (xs ys : List S) → AgentsBelow by n (xs ++ ys) → AgentsBelow by n xs
+  below-front n [] ys b = tt
+  below-front n (x ∷ xs) ys b = (b.0, below-front n xs ys b.1)
+
+  pub below-tail : (n : ℕ) (xs ys : List S) → AgentsBelow by n (xs ++ ys) → AgentsBelow by n ys
+  below-tail n [] ys b = b
+  below-tail n (x ∷ xs) ys b = below-tail n xs ys b.1
+
+  -- steps of no agent are no steps
+  pub none_left : (n : ℕ) (xs : List S) → AgentsBelow by n xs → ((a : ℕ) → a < n → steps_by by a xs ≡ []) → xs ≡ []
+  none_left n [] b e = refl
+  none_left n (x ∷ xs) b e = absurd (cons_nil x (steps_by by (by x) xs) (sym (by_own (by x) x xs refl) ∙ e (by x) b.0))

@@ -1,0 +1,18 @@
+//! Shared words under a rule, for any machine and any discipline, with one journal for all threads.
+#![tactic(auto)]
+
+mod journal;
+mod last_words;
+mod machine;
+mod moves;
+mod operation;
+mod rule;
+mod shared_words;
+
+pub use journal::{Step, View};
+pub use last_words::LastWords;
+pub use machine::Machine;
+pub use moves::{Absorb, Confirm, Does, NextAgent, Note, Picks};
+pub use operation::Operation;
+pub use rule::Shown;
+pub use shared_words::{SharedPass, SharedWords};

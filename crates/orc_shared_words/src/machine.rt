@@ -1,0 +1,53 @@
+//! Machines: how a journal runs, and what a pass does for a step.
+
+ghost use Rattle.std.specs.Prelude.{◌≡◌, ℕ};
+ghost use Rattle.orc_heap.specs.Heap.{HeapNumbers};
+ghost use Rattle.orc_shared_words.specs.Operations.{place_of, written_by, answer_by};
+ghost use Rattle.orc_shared_words.specs.Runs.{Rules, Obeys};
+
+use crate::operation::Operation;
+
+/// A machine over shared words, for notes of type N.
+pub trait Machine<N> {
+    /// The machine's fixed numbers.
+    type Shape: Copy;
+
+    /// An operation of the machine, of one agent.
+    type Op: Copy;
+
+    /// A step of a journal. No value of it is made.
+    type Step;
+
+    /// What an agent keeps, as plain data. No value of it is made.
+    type Record;
+
+    /// What a pass has for its agent's record.
+    type Own: Drop;
+
+    // the record that a pass shows
+    ghost shows: { Self.Own → Self.Record };
+
+    // there is room for what the step puts into the record
+    ghost has_room: { Self.Shape → Self.Op → Self.Own → Type 0 };
+
+    // the numbers of the heap
+    ghost numbers: { Self.Shape → HeapNumbers };
+
+    // how a journal runs
+    ghost rules: { Rules Self.Shape Self.Step Self.Op Self.Record N };
+
+    // the run follows the steps
+    ghost obeys: { (k : Self.Shape) → Obeys rules k };
+
+    /// The step's operation on the words.
+    fn operation(shape: &Self::Shape, agent: u32, op: &Self::Op, own: &Self::Own) -> Operation
+        ensures place { place_of result ≡ rules.place shape.now agent op.now (shows own.now) }
+        ensures written { written_by result ≡ rules.written shape.now agent op.now (shows own.now) }
+        ensures answer { answer_by result ≡ rules.answer shape.now agent op.now (shows own.now) };
+
+    /// Changes the record as a step that answered `n` does.
+    fn keep(shape: &Self::Shape, agent: u32, op: &Self::Op, own: &mut Self::Own, n: u64)
+        requires room { has_room shape.now op.now own.old }
+        ensures after { (found : ℕ) → n ≡ rules.answer shape.now agent op.now (shows own.old) found
+            → shows own.new ≡ rules.after shape.now agent op.now (shows own.old) found };
+}
