@@ -7,3 +7,4 @@ pub mod Licences
 pub mod Tells
 pub mod LinkTells
 pub mod Opening
+pub mod Shown

@@ -79,3 +79,7 @@ module _ {D N : Type 0} {d : discipline.Ghosts D N} {m : machine.Ghosts Plain N 
   pub record Belongs (board : PlainBoard D N) (p : PlainPass D N (PlainShape N) PlainOp (PlainStep N) (Unit {0}) (Unit {0}) d m) : Type 0 where
     pub table : p.pass.seat.table_id ≡ board.words.table.shared.table_id
     pub keeps : Keeps board.words.shape (d.holds (board_numbers board)) (d.may (board_numbers board)) p.pass.seat.me.0 p.pass.agent p.fresh
+
+  -- what the pass shows, by the sizes of its board
+  abbrev pub shows_by : Bounds → PlainPass D N (PlainShape N) PlainOp (PlainStep N) (Unit {0}) (Unit {0}) d m → PlainView N
+  shows_by b p = view_of b p.pass.agent p.pass.seat.me.0 p.fresh p.looked

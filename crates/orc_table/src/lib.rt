@@ -1,6 +1,7 @@
 //! A heap over shared words.
 #![tactic(auto)]
 
+mod fresh;
 mod links;
 mod machine;
 mod pass;
