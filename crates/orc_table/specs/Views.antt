@@ -16,6 +16,7 @@ use Rattle.orc_table.specs.declared.machine.PlainStep.{PlainStep}
 use Rattle.orc_table.specs.declared.pass.PlainBoard.{PlainBoard}
 use Rattle.orc_table.specs.declared.pass.PlainPass.{PlainPass}
 use Rattle.orc_table.specs.declared.seed.PlainShape.{PlainShape}
+use Rattle.orc_table.specs.declared.seed.Seed.{Seed}
 
 -- the agent, the events that it has seen, the rows that these gave, in the order of the Gives, its fresh row, the row
 -- that its last gate look saw free, and the agents whose passes it took in
@@ -83,3 +84,8 @@ module _ {D N : Type 0} {d : discipline.Ghosts D N} {m : machine.Ghosts Plain N 
   -- what the pass shows, by the sizes of its board
   abbrev pub shows_by : Bounds → PlainPass D N (PlainShape N) PlainOp (PlainStep N) (Unit {0}) (Unit {0}) d m → PlainView N
   shows_by b p = view_of b p.pass.agent p.pass.seat.me.0 p.fresh p.looked
+
+module _ {D N : Type 0} where
+  -- what the board begins with
+  abbrev pub board_seed : PlainBoard D N → Seed N
+  board_seed board = board.words.shape.seed

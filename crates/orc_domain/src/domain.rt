@@ -1,0 +1,25 @@
+//! The domain and its passes.
+
+use orc_heap::Discipline;
+use orc_shared_words::Machine;
+use orc_table::{Plain, PlainBoard};
+use orc_words::Shape;
+
+/// A domain of links in which each row is given once. It has no counts.
+#[derive(Drop)]
+pub struct PlainDomain<D: Discipline> {
+    pub(crate) board: PlainBoard<D>,
+}
+
+/// An agent's pass to a domain: its pass to the board, the rows in its slots, the row after the one that it was
+/// given last, and the sizes of the board.
+#[derive(Drop)]
+pub struct PlainPass<D: Discipline>
+where
+    Plain: Machine<D::Note>,
+{
+    pub(crate) pass: orc_table::PlainPass<D>,
+    pub(crate) slots: [Option<u32>; 8],
+    pub(crate) next: u32,
+    pub(crate) shape: Shape,
+}

@@ -1,0 +1,9 @@
+//! Domains of links, over shared words.
+#![tactic(auto)]
+
+mod domain;
+mod links;
+mod names;
+mod steps;
+
+pub use domain::{PlainDomain, PlainPass};
