@@ -14,6 +14,8 @@ use orc_fault::Again;
 use std::test::Fail;
 use std::thread::join;
 
+mod learning;
+
 // Agent 1 posts the jobs 0 and 1; agent 0 takes both and then finds nothing.
 fn a_queue_in_order()
     ensures legal { IsLegalQueue 0 (QueueEntry.Put 1 0 0 ∷ QueueEntry.Put 1 1 1

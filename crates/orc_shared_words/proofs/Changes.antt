@@ -9,17 +9,11 @@ use Rattle.atomic_table.proofs.Lists.{at_snoc, at_longer, set_else}
 use Rattle.orc_heap.specs.declared.events.Event.{Event}
 use Rattle.orc_shared_words.specs.declared.journal.View.{View}
 use Rattle.orc_shared_words.specs.Lists.{Among}
-use Rattle.orc_shared_words.specs.Rule.{EachView, Fits, HasSeen, NoPass, Retired, Shows, Unborn}
+use Rattle.orc_shared_words.specs.Rule.{AtMostOne, EachView, Fits, HandsOut, HasSeen, NoPass, Retired, Shows, Unborn}
 use Rattle.orc_shared_words.specs.Runs.{Rules, steps_by}
-use Rattle.orc_shared_words.proofs.Seats.{at_changed, at_grown, none_some}
+use Rattle.orc_shared_words.proofs.Seats.{at_changed, at_grown, at_one, none_some}
 
 module _ {S Rec : Type 0} where
-  abbrev pub Apart : List (View S Rec) → Type 0
-  Apart views = (i l a : ℕ) (v w : View S Rec) → get_elem? views i ≡ some v → get_elem? views l ≡ some w → v.agent ≡ Some a → w.agent ≡ Some a → i ≡ l
-
-  abbrev pub Lone : List (View S Rec) → Type 0
-  Lone views = (i l a b : ℕ) (v w : View S Rec) → get_elem? views i ≡ some v → get_elem? views l ≡ some w → v.free ≡ Some a → w.free ≡ Some b → i ≡ l
-
   -- a seat's first free number grows, or is lost
   abbrev pub FreeGrows : View S Rec → View S Rec → Type 0
   FreeGrows v w = (c : ℕ) → w.free ≡ Some c → (b : ℕ) × (v.free ≡ Some b) × (b ≤ c)
@@ -28,19 +22,18 @@ module _ {S Rec : Type 0} where
   abbrev pub AgentStays : View S Rec → View S Rec → Type 0
   AgentStays v w = (a : ℕ) → w.agent ≡ Some a → v.agent ≡ Some a
 
-  pub still_apart : (views : List (View S Rec)) (id : ℕ) (v w : View S Rec) → get_elem? views id ≡ some v → AgentStays v w → Apart views → Apart (set views id w)
-  still_apart views id v w at less d i l a x y ei el =
-      at_changed (λ i x. x.agent ≡ Some a → y.agent ≡ Some a → i ≡ l) views id w
-      (at_changed (λ l y. w.agent ≡ Some a → y.agent ≡ Some a → id ≡ l) views id w (λ _ _. refl) (λ l y _ el p q. d id l a v y at el (less a p) q) l y el)
-      (λ i x _ ei. at_changed (λ l y. x.agent ≡ Some a → y.agent ≡ Some a → i ≡ l) views id w (λ p q. d i id a x v ei at p (less a q)) (λ l y _ el. d i l a x y ei el) l y el)
-      i x ei
+  pub still_one : (P : View S Rec → Type 0) (views : List (View S Rec)) (id : ℕ) (v w : View S Rec) → get_elem? views id ≡ some v → (P w → P v) → AtMostOne views P → AtMostOne (set views id w) P
+  still_one P views id v w at less old = at_changed (λ i x. P x → EachView (set views id w) (λ l y. P y → i ≡ l)) views id w
+      (λ p. at_changed (λ l y. P y → id ≡ l) views id w (λ _. refl) (λ l y _ el q. old id v at (less p) l y el q))
+      (λ i x _ ei p. at_changed (λ l y. P y → i ≡ l) views id w (λ q. old i x ei p id v at (less q)) (λ l y _ el q. old i x ei p l y el q))
 
-  pub still_lone : (views : List (View S Rec)) (id : ℕ) (v w : View S Rec) → get_elem? views id ≡ some v → FreeGrows v w → Lone views → Lone (set views id w)
-  still_lone views id v w at less d i l a b x y ei el =
-      at_changed (λ i x. x.free ≡ Some a → y.free ≡ Some b → i ≡ l) views id w
-      (at_changed (λ l y. w.free ≡ Some a → y.free ≡ Some b → id ≡ l) views id w (λ _ _. refl) (λ l y _ el p q. let o = less a p in d id l o.0 b v y at el o.1 q) l y el)
-      (λ i x _ ei. at_changed (λ l y. x.free ≡ Some a → y.free ≡ Some b → i ≡ l) views id w (λ p q. let o = less b q in d i id a o.0 x v ei at p o.1) (λ l y _ el. d i l a b x y ei el) l y el)
-      i x ei
+  one_more : (P : View S Rec → Type 0) (views : List (View S Rec)) (w : View S Rec) → AtMostOne views P → (P w → EachView views (λ _ v. ¬ P v)) → AtMostOne (views ++ w ∷ []) P
+  one_more P views w old new = at_grown (λ i x. P x → EachView (views ++ w ∷ []) (λ l y. P y → i ≡ l)) views w
+      (λ p. at_grown (λ l y. P y → length views ≡ l) views w (λ _. refl) (λ l y el q. absurd (new p l y el q)))
+      (λ i x ei p. at_grown (λ l y. P y → i ≡ l) views w (λ q. absurd (new q i x ei p)) (λ l y el q. old i x ei p l y el q))
+
+  pub one_alone : (P : View S Rec → Type 0) (v : View S Rec) → AtMostOne (v ∷ []) P
+  one_alone P v = at_one v (λ i x. P x → EachView (v ∷ []) (λ l y. P y → i ≡ l)) (λ _. at_one v (λ l y. P y → 0 ≡ l) (λ _. refl))
 
   pub still_passless : (views : List (View S Rec)) (id : ℕ) (v w : View S Rec) → get_elem? views id ≡ some v → AgentStays v w → (a : ℕ) → NoPass views a → NoPass (set views id w) a
   still_passless views id v w at less a old = at_changed (λ _ z. ¬ (z.agent ≡ Some a)) views id w (λ p. old id v at (less a p)) (λ l z _ el. old l z el)
@@ -88,12 +81,12 @@ module _ {K S Op Rec N : Type 0} (r : Rules K S Op Rec N) (k : K) (holds : List 
     lawful = h.lawful;
     opened = h.opened;
     words = same ∙ h.words;
-    apart = still_apart s.views id v w at less h.apart;
+    apart = λ a. still_one (λ u. u.agent ≡ Some a) s.views id v w at (less a) (h.apart a);
     each = h.each;
     kept = h.kept;
     below = h.below;
     unborn = still_unborn r k h.journal s.views id v w at less free h.unborn;
-    lone = still_lone s.views id v w at free h.lone;
+    lone = still_one HandsOut s.views id v w at (λ q. let o = free q.0 q.1 in (o.0, o.1)) h.lone;
     retired = still_retired r k h.journal s.views id v w at less free mine h.retired;
   }
 
@@ -113,11 +106,7 @@ module _ {K S Op Rec N : Type 0} (r : Rules K S Op Rec N) (k : K) (holds : List 
     lawful = h.lawful;
     opened = h.opened;
     words = h.words;
-    apart = λ i l a x y ei el.
-        at_grown (λ i x. x.agent ≡ Some a → y.agent ≡ Some a → i ≡ l) s.views w
-        (at_grown (λ l y. w.agent ≡ Some a → y.agent ≡ Some a → length s.views ≡ l) s.views w (λ _ _. refl) (λ l y el p q. absurd ((new a p).passless l y el q)) l y el)
-        (λ i x ei. at_grown (λ l y. x.agent ≡ Some a → y.agent ≡ Some a → i ≡ l) s.views w (λ p q. absurd ((new a q).passless i x ei p)) (λ l y el. h.apart i l a x y ei el) l y el)
-        i x ei;
+    apart = λ a. one_more (λ u. u.agent ≡ Some a) s.views w (h.apart a) (λ p. (new a p).passless);
     each = h.each;
     kept = h.kept;
     below = h.below;
@@ -125,11 +114,7 @@ module _ {K S Op Rec N : Type 0} (r : Rules K S Op Rec N) (k : K) (holds : List 
         let old = at_grown (λ i u. u.free ≡ Some c → (z : View S Rec) × (l : ℕ) × (get_elem? s.views l ≡ some z) × (z.free ≡ Some c)) s.views w (λ q. absurd (none_some w.free c none q)) (λ i u e q. (u, i, e, q)) i u ei q in
         let x = h.unborn c old.1 old.0 old.2 old.3 b le lt in
         record { mine = x.mine; steps = x.steps; passless = at_grown (λ _ z. ¬ (z.agent ≡ Some b)) s.views w (λ p. let y = (new b p).handed c old.1 old.0 old.2 old.3 in absurd (omega arith)) x.passless };
-    lone = λ i l a b x y ei el.
-        at_grown (λ i x. x.free ≡ Some a → y.free ≡ Some b → i ≡ l) s.views w
-        (λ p _. absurd (none_some w.free a none p))
-        (λ i x ei. at_grown (λ l y. x.free ≡ Some a → y.free ≡ Some b → i ≡ l) s.views w (λ _ q. absurd (none_some w.free b none q)) (λ l y el. h.lone i l a b x y ei el) l y el)
-        i x ei;
+    lone = one_more HandsOut s.views w h.lone (λ q. absurd (none_some w.free q.0 none q.1));
     retired = λ a i u ei q.
         let old = at_grown (λ i u. Among a u.also → (z : View S Rec) × (l : ℕ) × (get_elem? s.views l ≡ some z) × Among a z.also × (z.seen ≡ u.seen)) s.views w (λ q. absurd (subst (Among a) alone_so q)) (λ i u e q. (u, i, e, q, refl)) i u ei q in
         let x = h.retired a old.1 old.0 old.2 old.3 in record {

@@ -6,9 +6,10 @@ use Rattle.orc_heap.specs.declared.events.Event.{Event}
 use Rattle.orc_shared_words.specs.declared.journal.View.{View}
 use Rattle.orc_shared_words.specs.Ends.{Opens, OwnsAll, Whole}
 use Rattle.orc_shared_words.specs.Lists.{Among, Begins}
-use Rattle.orc_shared_words.specs.Rule.{Fits, Owns, Shows, Unborn}
+use Rattle.orc_shared_words.specs.Rule.{Fits, HandsOut, Owns, Shows, Unborn}
 use Rattle.orc_shared_words.specs.Runs.{AgentsBelow, Rules, steps_by}
 use Rattle.orc_shared_words.specs.Views.{first_view}
+use Rattle.orc_shared_words.proofs.Changes.{one_alone}
 use Rattle.orc_shared_words.proofs.Fronts.{begins_itself}
 use Rattle.orc_shared_words.proofs.Runs.{below-tail, none_behind, none_left}
 use Rattle.orc_shared_words.proofs.Seats.{at_one, one_number}
@@ -30,14 +31,14 @@ module _ {K S Op Rec N : Type 0} (r : Rules K S Op Rec N) (k : K) (holds : List 
         lawful = o.lawful;
         opened = begins_itself j;
         words = same;
-        apart = λ i l a x y ei el p q. at_one v (λ i _. i ≡ 0) refl i x ei ∙ sym (at_one v (λ i _. i ≡ 0) refl l y el);
+        apart = λ a. one_alone (λ u. u.agent ≡ Some a) v;
         each = o.each;
         kept = o.kept;
         below = o.below;
         unborn = λ a. at_one v (λ _ u. u.free ≡ Some a → (b : ℕ) → a ≤ b → b < r.agents k → Unborn r k j (v ∷ []) b) (λ e b le lt.
             let first : a ≡ 1 = one_number (Some 1) 1 a refl e in
             record { mine = o.born b (omega arith) lt; steps = refl; passless = at_one v (λ _ z. ¬ (z.agent ≡ Some b)) (λ p. let z : b ≡ 0 = one_number (Some 0) 0 b refl p in omega arith) });
-        lone = λ i l a b x y ei el p q. at_one v (λ i _. i ≡ 0) refl i x ei ∙ sym (at_one v (λ i _. i ≡ 0) refl l y el);
+        lone = one_alone HandsOut v;
         retired = λ a i u ei q. absurd (at_one v (λ _ u. Among a u.also → ⊥) (λ q. q) i u ei q);
       }
 

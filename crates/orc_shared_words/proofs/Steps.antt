@@ -9,10 +9,10 @@ use Rattle.orc_shared_words.specs.declared.journal.View.{View}
 use Rattle.orc_shared_words.specs.declared.operation.Operation.{Operation}
 use Rattle.orc_shared_words.specs.Lists.{Each}
 use Rattle.orc_shared_words.specs.Operations.{place_of, written_by, answer_by}
-use Rattle.orc_shared_words.specs.Rule.{Fits, Owns, Shows}
+use Rattle.orc_shared_words.specs.Rule.{Fits, HandsOut, Owns, Shows}
 use Rattle.orc_shared_words.specs.Runs.{Obeys, Rules, found_by, steps_by}
 use Rattle.orc_shared_words.specs.Steps.{Did, LaterJournal, Licensed}
-use Rattle.orc_shared_words.proofs.Changes.{AllRetired, AllUnborn, still_apart, still_lone, still_retired, still_unborn}
+use Rattle.orc_shared_words.proofs.Changes.{AllRetired, AllUnborn, still_one, still_retired, still_unborn}
 use Rattle.orc_shared_words.proofs.Fronts.{begins_itself, begins_more}
 use Rattle.orc_shared_words.proofs.Runs.{below-snoc, by_other, none_behind, steps_by-others}
 use Rattle.orc_shared_words.proofs.Seats.{at_changed, one_number, set_there}
@@ -97,16 +97,16 @@ module _ {K S Op Rec N : Type 0} (r : Rules K S Op Rec N) (laws : (k : K) → Ob
                 kept = begins_more j v.kept (t ∷ []) f.kept;
                 pass = λ b q. subst (λ z. Owns r k (j ++ t ∷ []) w z) (one_number v.agent b a q is) record { below = o.below; mine = own; steps = refl; opened = opened };
               }
-              (λ i u ne ei. other_fits r laws k j a op said u (λ b q x. ne (h.apart i id a u v ei at (q ∙ ap Some x) is)) (h.fits i u ei));
+              (λ i u ne ei. other_fits r laws k j a op said u (λ b q x. ne (h.apart a i u ei (q ∙ ap Some x) id v at is)) (h.fits i u ei));
           lawful = lawful;
           opened = opened;
           words = (λ i. set (h.words i) (r.place k a op (sym o.mine i)) (r.written k a op (sym o.mine i) (found i))) ∙ sym ((laws k).words_next j a op said);
-          apart = still_apart s.views id v w at (λ b q. q) h.apart;
+          apart = λ c. still_one (λ u. u.agent ≡ Some c) s.views id v w at (λ q. q) (h.apart c);
           each = each;
           kept = kept;
           below = below;
           unborn = still_unborn r k (j ++ t ∷ []) s.views id v w at (λ b q. q) (λ c q. (c, q, omega arith)) (later_unborn r laws k j a op said s.views id v at is h.unborn);
-          lone = still_lone s.views id v w at (λ c q. (c, q, omega arith)) h.lone;
+          lone = still_one HandsOut s.views id v w at (λ q. q) h.lone;
           retired = still_retired r k (j ++ t ∷ []) s.views id v w at (λ b q. q) (λ c q. (c, q, omega arith)) (λ b q. let x = h.retired b id v at q in record { steps = refl; passless = x.passless; handed = x.handed }) (later_retired r laws k j a op said s.views id v at is h.retired);
         },
         (

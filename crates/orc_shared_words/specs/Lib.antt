@@ -6,3 +6,4 @@ pub mod Rule
 pub mod Steps
 pub mod Learning
 pub mod Ends
+pub mod Ticks

@@ -14,6 +14,14 @@ module _ {S Rec : Type 0} where
   abbrev pub EachView : List (View S Rec) → (ℕ → View S Rec → Type 0) → Type 0
   EachView views P = (i : ℕ) (v : View S Rec) → get_elem? views i ≡ some v → P i v
 
+  -- P holds of at most one of the views
+  abbrev pub AtMostOne : List (View S Rec) → (View S Rec → Type 0) → Type 0
+  AtMostOne views P = EachView views (λ i v. P v → EachView views (λ l w. P w → i ≡ l))
+
+  -- the pass may hand out numbers
+  abbrev pub HandsOut : View S Rec → Type 0
+  HandsOut v = (a : ℕ) × (v.free ≡ Some a)
+
   -- no pass is that of agent a
   abbrev pub NoPass : List (View S Rec) → ℕ → Type 0
   NoPass views a = EachView views (λ _ v. ¬ (v.agent ≡ Some a))
@@ -32,7 +40,7 @@ module _ {K S Op Rec N : Type 0} (r : Rules K S Op Rec N) (k : K) where
     pub steps : steps_by r.by a j ≡ steps_by r.by a v.seen
     pub opened : Begins v.seen (r.opening k)
 
-  -- a pass, or a note, which has no agent
+  -- what a seat knows: a pass, a note, which has no agent, or a spent view, which has seen nothing
   pub record Fits (j : List S) (v : View S Rec) : Type 0 where
     -- the journal begins with what it has seen
     pub seen : Begins j v.seen
@@ -55,7 +63,7 @@ module _ {K S Op Rec N : Type 0} (r : Rules K S Op Rec N) (k : K) where
   -- the words and the views show a journal
   pub record Shows (holds : List (Event N) → Type 0) (may : List (Event N) → Event N → Type 0) (s : State (Unit {0}) (View S Rec)) : Type 0 where
     pub journal : List S
-    -- some pass has seen all of it, or took in one that had, and so it is the longest list that one has seen
+    -- some pass has seen all of it, or took in one that had: so it is the longest list that a pass has seen
     pub attained : (i : ℕ) × (v : View S Rec) × (get_elem? s.views i ≡ some v) × HasSeen journal v
     -- it begins with what each pass and each note has seen, and each pass has its agent's record and all its agent's steps
     pub fits : EachView s.views (λ _ v. Fits journal v)
@@ -65,8 +73,8 @@ module _ {K S Op Rec N : Type 0} (r : Rules K S Op Rec N) (k : K) where
     pub opened : Begins journal (r.opening k)
     -- the words are those of its run
     pub words : s.words ≡ r.words k journal
-    -- no two passes have one agent
-    pub apart : (i l a : ℕ) (v w : View S Rec) → get_elem? s.views i ≡ some v → get_elem? s.views l ≡ some w → v.agent ≡ Some a → w.agent ≡ Some a → i ≡ l
+    -- no two passes are of one agent
+    pub apart : (a : ℕ) → AtMostOne s.views (λ v. v.agent ≡ Some a)
     -- the discipline allows each of its events where it stands
     pub each : AllAllowed may [] (r.project k journal)
     -- so that it holds
@@ -76,6 +84,6 @@ module _ {K S Op Rec N : Type 0} (r : Rules K S Op Rec N) (k : K) where
     -- the numbers that a pass may still hand out are of agents without a pass
     pub unborn : (a : ℕ) → EachView s.views (λ _ v. v.free ≡ Some a → (b : ℕ) → a ≤ b → b < r.agents k → Unborn journal s.views b)
     -- one pass hands out numbers
-    pub lone : (i l a b : ℕ) (v w : View S Rec) → get_elem? s.views i ≡ some v → get_elem? s.views l ≡ some w → v.free ≡ Some a → w.free ≡ Some b → i ≡ l
+    pub lone : AtMostOne s.views HandsOut
     -- an agent whose pass was taken in for good steps no more
     pub retired : (a : ℕ) → EachView s.views (λ _ v. Among a v.also → Retired journal s.views a v.seen)

@@ -16,3 +16,6 @@ pub use moves::{Absorb, Confirm, Does, NextAgent, Note, Picks};
 pub use operation::Operation;
 pub use rule::Shown;
 pub use shared_words::{SharedPass, SharedWords};
+
+#[cfg(test)]
+mod tests;

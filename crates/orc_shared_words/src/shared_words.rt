@@ -79,10 +79,10 @@ impl<M: Machine<D::Note>, D: Discipline> SharedWords<M, D> {
         let Some(own) = owns.next() else {
             unreachable!()
         };
-        let (shared, mut first) = SharedWords::first(alloc, shape, words, own)?;
+        let (shared, mut first) = SharedWords::start(alloc, shape, words, own)?;
         for own in owns {
             let number = others.len() as u32 + 1;
-            let next = shared.hand(&mut first, number, own);
+            let next = shared.hand_out(&mut first, number, own);
             others.push(next).map_err(|_| NoMemory)?;
         }
         others.insert(0, first).map_err(|_| NoMemory)?;
@@ -90,7 +90,7 @@ impl<M: Machine<D::Note>, D: Discipline> SharedWords<M, D> {
     }
 
     // the words, and the pass of agent 0
-    fn first(
+    fn start(
         alloc: Global,
         shape: M::Shape,
         words: &[u64],
@@ -112,7 +112,7 @@ impl<M: Machine<D::Note>, D: Discipline> SharedWords<M, D> {
     }
 
     // the pass of the next agent
-    fn hand(&self, first: &mut SharedPass<M, D>, number: u32, own: M::Own) -> SharedPass<M, D>
+    fn hand_out(&self, first: &mut SharedPass<M, D>, number: u32, own: M::Own) -> SharedPass<M, D>
         requires table { first.old.seat.table_id ≡ self.now.table.shared.table_id }
         requires own { M.shows own ≡ M.rules.born }
         requires free { (first.old.seat.me.0.free ≡ Some number) × (number < M.rules.agents self.now.shape) }

@@ -7,4 +7,6 @@ pub mod Licences
 pub mod Tells
 pub mod LinkTells
 pub mod Opening
-pub mod Shown
+pub mod Making
+pub mod Learning
+pub mod Known

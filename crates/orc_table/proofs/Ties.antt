@@ -408,7 +408,7 @@ pub zero_word : (k : Bounds) (rows p : ℕ) → ((row : ℕ) → p ≢ row_place
 zero_word k zero p none = zeros (places k) p
 zero_word k (suc rows) p none = same_word (with_counters k rows (replicate (places k) 0)) (row_place k rows + 1) NEW_COUNTER p (none rows) ∙ zero_word k rows p none
 
-counted_length : (k : Bounds) (rows : ℕ) (w : List ℕ) → length (with_counters k rows w) ≡ length w
+pub counted_length : (k : Bounds) (rows : ℕ) (w : List ℕ) → length (with_counters k rows w) ≡ length w
 counted_length k zero w = refl
 counted_length k (suc rows) w = length-set (with_counters k rows w) (row_place k rows + 1) NEW_COUNTER ∙ counted_length k rows w
 
@@ -434,3 +434,10 @@ tie_start k = record {
     targets : (at : Place) (l : Link) → shown (new_heap (numbers k)) at ≡ Some l → Named [] l.to
     targets (AtRoot r) l e = subst (λ (z : Link). Named [] z.to) (sym (all_null k.roots r l e)) tt
     targets (Next id) l e = cc
+
+-- one more counter
+pub with_counters-next : (k : Bounds) (row : ℕ) (w : List ℕ) → with_counters k (row + 1) w ≡ slice_set (with_counters k row w) (row_place k row + 1) NEW_COUNTER
+with_counters-next k row w = let e : suc row ≡ row + 1 = omega arith in subst (λ n. with_counters k n w ≡ slice_set (with_counters k row w) (row_place k row + 1) NEW_COUNTER) e refl
+
+pub counted_long : (k : Bounds) (rows : ℕ) → length (with_counters k rows (replicate (places k) 0)) ≡ places k
+counted_long k rows = counted_length k rows (replicate (places k) 0) ∙ length-replicate (places k) 0

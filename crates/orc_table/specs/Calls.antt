@@ -131,11 +131,39 @@ module _ {N : Type 0} where
       pub shown_is : shown (run_heap (numbers b) (s.events ++ adds.met)) (AtNext (index_of row s.rows)) ≡ Some old
       pub word : IsWord t.rows old.to old.mark n
 
-    -- both passes have seen the longer one of their two lists, and each has the events of its agent that it had
-    pub record Learns (s u t w : PlainView N) : Type 0 where
-      pub one : (w.events ≡ t.events) × (w.rows ≡ t.rows)
-      pub longer : (Begins s.events u.events × (t.events ≡ s.events)) ⊎ (Begins u.events s.events × (t.events ≡ u.events))
-      pub own : (events_by s.agent t.events ≡ events_by s.agent s.events) × (events_by u.agent w.events ≡ events_by u.agent u.events)
-      pub agents : (t.agent ≡ s.agent) × (w.agent ≡ u.agent)
-      pub fresh : (t.fresh ≡ s.fresh) × (w.fresh ≡ u.fresh)
-      pub looked : (t.looked ≡ s.looked) × (w.looked ≡ u.looked)
+  -- the events, and the rows that they gave, of the one or the other, whichever has seen more; the other's are a front
+  abbrev pub IsLonger : PlainView N → PlainView N → PlainView N → Type 0
+  IsLonger s u t = (Begins s.events u.events × (t.events ≡ s.events) × (t.rows ≡ s.rows)) ⊎ (Begins u.events s.events × (t.events ≡ u.events) × (t.rows ≡ u.rows))
+
+  -- a pass is the same but for what it has seen, where no event of its agent, or of one that it took in, is new
+  pub record SameButEvents (s t : PlainView N) : Type 0 where
+    pub agent : t.agent ≡ s.agent
+    pub fresh : t.fresh ≡ s.fresh
+    pub looked : t.looked ≡ s.looked
+    pub absorbed : t.absorbed ≡ s.absorbed
+    pub rows : Begins t.rows s.rows
+    pub own : events_by s.agent t.events ≡ events_by s.agent s.events
+    pub retired : (b : ℕ) → Among b s.absorbed → events_by b t.events ≡ events_by b s.events
+
+  -- two passes, s and u, are now t and w, and both have seen the longer one of their two lists
+  pub record Learns (s u t w : PlainView N) : Type 0 where
+    pub longer : IsLonger s u t
+    pub both : (w.events ≡ t.events) × (w.rows ≡ t.rows)
+    pub into : SameButEvents s t
+    pub from : SameButEvents u w
+
+  -- a pass, which was s and is t, has taken in the pass u for good, and has seen the longer one of their two lists
+  pub record Absorbs (s u t : PlainView N) : Type 0 where
+    pub longer : IsLonger s u t
+    pub agent : t.agent ≡ s.agent
+    pub fresh : t.fresh ≡ s.fresh
+    pub looked : t.looked ≡ s.looked
+    pub absorbed : t.absorbed ≡ u.agent ∷ u.absorbed ++ s.absorbed
+    pub rows : Begins t.rows s.rows
+    pub own : events_by s.agent t.events ≡ events_by s.agent s.events
+    pub taken : events_by u.agent t.events ≡ events_by u.agent u.events
+
+  -- each event is of one of the first n agents
+  abbrev pub EventsBelow : ℕ → List (Event N) → Type 0
+  EventsBelow n [] = Unit {0}
+  EventsBelow n (e ∷ es) = (e.agent < n) × EventsBelow n es

@@ -57,6 +57,11 @@ module _ {N : Type 0} where
     pub first_link : may (dummy_node first) (dummy_link 0 begin)
     pub second_link : may (dummy_node first ++ dummy_link 0 begin ∷ []) (dummy_link 1 begin)
 
+  -- a dummy is linked from two roots
+  abbrev pub HasRoots : Bounds → Seed N → Type 0
+  HasRoots b Empty = Unit {0}
+  HasRoots b (Dummy first begin) = 2 ≤ b.roots
+
   -- what a seed asks of the discipline
   abbrev pub SeedAllowed : (List (Event N) → Event N → Type 0) → Bounds → Seed N → Type 0
   SeedAllowed may b Empty = Unit {0}

@@ -1,5 +1,5 @@
 -- What a pass shows, and what is true of it between calls.
-use Rattle.std.specs.Prelude.{[], ◌≡◌, ℕ, ◌<◌, List, length, Bool, false, Option, Some, None, slice_get}
+use Rattle.std.specs.Prelude.{[], ◌≡◌, ℕ, ◌<◌, List, length, Bool, false, Option, Some, None, slice_get, slice_index_or}
 use Rattle.orc_words.specs.Bounds.{Bounds, bounds_of}
 use Rattle.orc_heap.specs.Heap.{Heap, HeapNumbers, Node}
 use Rattle.orc_heap.specs.Journals.{run_heap}
@@ -62,6 +62,10 @@ pub record Keeps {N : Type 0} (k : PlainShape N) (holds : List (Event N) → Typ
   pub now : LaterJournal plain_rules k holds may v.seen v a
   pub untouched : FreshHeld a (run (bounds_of k.shape) v.seen) fresh
 
+-- each item of the one list is this part of the item of the other list at its place
+abbrev pub EachFrom : {A B : Type 0} → (A → B) → List A → List B → Type 0
+EachFrom {A} {B} part xs ys = (i : ℕ) (x : A) (y : B) → i < length ys → part (slice_index_or xs i x) ≡ slice_index_or ys i y
+
 module _ {D N : Type 0} where
   -- the sizes of a board
   abbrev pub board_bounds : PlainBoard D N → Bounds
@@ -70,6 +74,16 @@ module _ {D N : Type 0} where
   -- the numbers of its heap
   abbrev pub board_numbers : PlainBoard D N → HeapNumbers
   board_numbers board = numbers (board_bounds board)
+
+module _ {D N : Type 0} where
+  -- what its journal begins with
+  abbrev pub board_seed : PlainBoard D N → Seed N
+  board_seed board = board.words.shape.seed
+
+-- the row was given, and its node is untouched
+pub record IsFreshRow {N : Type 0} (b : Bounds) (s : PlainView N) (row : ℕ) : Type 0 where
+  pub given : index_of row s.rows < length s.rows
+  pub untouched : IsUntouched s.agent (heap_of b s) (index_of row s.rows)
 
 module _ {D N : Type 0} {d : discipline.Ghosts D N} {m : machine.Ghosts Plain N (PlainShape N) PlainOp (PlainStep N) (Unit {0}) (Unit {0})} where
   -- what the pass shows
@@ -84,8 +98,3 @@ module _ {D N : Type 0} {d : discipline.Ghosts D N} {m : machine.Ghosts Plain N 
   -- what the pass shows, by the sizes of its board
   abbrev pub shows_by : Bounds → PlainPass D N (PlainShape N) PlainOp (PlainStep N) (Unit {0}) (Unit {0}) d m → PlainView N
   shows_by b p = view_of b p.pass.agent p.pass.seat.me.0 p.fresh p.looked
-
-module _ {D N : Type 0} where
-  -- what the board begins with
-  abbrev pub board_seed : PlainBoard D N → Seed N
-  board_seed board = board.words.shape.seed

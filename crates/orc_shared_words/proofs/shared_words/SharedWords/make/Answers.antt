@@ -4,8 +4,8 @@ use Rattle.orc_shared_words.specs.Views.{next_number}
 use Rattle.orc_shared_words.proofs.Places.{each_at-nil, each_at-push, first_placed, from_start, rest_placed}
 use Rattle.orc_shared_words.proofs.shared_words.SharedWords.make.Goals as goal
 
-pub first-requires-clause-own : goal.first-requires-clause-own
-first-requires-clause-own g c =
+pub start-requires-clause-own : goal.start-requires-clause-own
+start-requires-clause-own g c =
     let r = g.M.Machine.rules in
     first_placed (λ i o. g.M.Machine.shows o ≡ r.own c.args.shape (r.opening c.args.shape) i) c.in-Some.own c.next.new.self.rest.items c.args.owns.items (sym c.into_iter-owns.ensures.rest ∙ c.in-Some.ensures.items) 0 (from_start (λ i o. g.M.Machine.shows o ≡ r.own c.args.shape (r.opening c.args.shape) i) c.args.owns.items c.requires.owns)
 
@@ -36,8 +36,8 @@ loop-own-init g c =
       subst (EachAt (λ i p. (p.seat.table_id ≡ table) × (p.agent ≡ i + 1) × (p.seat.me.0.seen ≡ r.opening c.args.shape) × (p.seat.me.0.also ≡ []) × (g.M.Machine.shows p.own ≡ own (i + 1)))) (sym none) (each_at-nil _),
     )
 
-pub hand-next-requires-clause-own : goal.hand-next-requires-clause-own
-hand-next-requires-clause-own g c =
+pub hand_out-next-requires-clause-own : goal.hand_out-next-requires-clause-own
+hand_out-next-requires-clause-own g c =
     let r = g.M.Machine.rules in
     let i = c.loop-own.invariant in
     let n : ℕ = length c.loop-own.others.items + 1 in
@@ -53,11 +53,11 @@ loop-own-preserved g c =
     let own = r.own c.args.shape (r.opening c.args.shape) in
     let table = c.in_ok-shared.shared.table.shared.table_id in
     let i = c.loop-own.invariant in
-    let h = c.hand-next.ensures in
+    let h = c.hand_out-next.ensures in
     let n : ℕ = length c.loop-own.others.items + 1 in
     let steps = c.in-Some-own.ensures.steps.0 in
     let left : length c.loop-own.own-iterator.rest.items ≡ 1 + length c.next-in-loop-own.new.self.rest.items = ap length steps ∙ omega arith in
-    let pushed : c.push.new.self.items ≡ c.loop-own.others.items ++ c.hand-next.result ∷ [] = search rules in
+    let pushed : c.push.new.self.items ≡ c.loop-own.others.items ++ c.hand_out-next.result ∷ [] = search rules in
     let count : length c.push.new.self.items ≡ n = search rules in
     let agents = i.8 in
     let mine : g.M.Machine.shows c.in-Some-own.own ≡ own n = first_placed (λ n o. g.M.Machine.shows o ≡ own n) c.in-Some-own.own c.next-in-loop-own.new.self.rest.items c.loop-own.own-iterator.rest.items steps n i.9 in (
@@ -68,15 +68,15 @@ loop-own-preserved g c =
       ap (λ v. v.free) h.views.0 ∙ (ap next_number i.4 ∙ ap Some (omega arith)),
       ap (λ v. v.seen) h.views.0 ∙ i.5,
       ap (λ v. v.also) h.views.0 ∙ i.6,
-      sym c.hand-next.new.first.mine ∙ (ap (λ v. v.own) h.views.0 ∙ (c.loop-own.first.mine ∙ i.7)),
+      sym c.hand_out-next.new.first.mine ∙ (ap (λ v. v.own) h.views.0 ∙ (c.loop-own.first.mine ∙ i.7)),
       omega arith,
       rest_placed (λ n o. g.M.Machine.shows o ≡ own n) c.in-Some-own.own c.next-in-loop-own.new.self.rest.items c.loop-own.own-iterator.rest.items steps n (length c.push.new.self.items + 1) (omega arith) i.9,
       subst (EachAt (λ i p. (p.seat.table_id ≡ table) × (p.agent ≡ i + 1) × (p.seat.me.0.seen ≡ r.opening c.args.shape) × (p.seat.me.0.also ≡ []) × (g.M.Machine.shows p.own ≡ own (i + 1)))) (sym pushed)
-          (each_at-push (λ i p. (p.seat.table_id ≡ table) × (p.agent ≡ i + 1) × (p.seat.me.0.seen ≡ r.opening c.args.shape) × (p.seat.me.0.also ≡ []) × (g.M.Machine.shows p.own ≡ own (i + 1))) c.loop-own.others.items c.hand-next.result i.10 (
+          (each_at-push (λ i p. (p.seat.table_id ≡ table) × (p.agent ≡ i + 1) × (p.seat.me.0.seen ≡ r.opening c.args.shape) × (p.seat.me.0.also ≡ []) × (g.M.Machine.shows p.own ≡ own (i + 1))) c.loop-own.others.items c.hand_out-next.result i.10 (
             h.table.1 ∙ i.2,
             h.agents.1 ∙ omega arith,
             ap (λ v. v.seen) h.views.1 ∙ i.5,
             ap (λ v. v.also) h.views.1,
-            sym c.hand-next.result.mine ∙ (ap (λ v. v.own) h.views.1 ∙ sym (c.requires.opening.born n (omega arith) (omega arith))),
+            sym c.hand_out-next.result.mine ∙ (ap (λ v. v.own) h.views.1 ∙ sym (c.requires.opening.born n (omega arith) (omega arith))),
           )),
     )

@@ -1,6 +1,6 @@
 use Rattle.std.proofs.Common.{rules, ◌<◌, sym, subst}
 use Rattle.orc_shared_words.proofs.Passes.{hands}
-use Rattle.orc_shared_words.proofs.shared_words.SharedWords.hand.Goals as goal
+use Rattle.orc_shared_words.proofs.shared_words.SharedWords.hand_out.Goals as goal
 
 pub split_seat-seat-requires : goal.split_seat-seat-requires
 split_seat-seat-requires g c = (

@@ -1,0 +1,65 @@
+//! One word that agents count up.
+
+ghost use Rattle.orc_heap.specs.Heap.{HeapNumbers};
+ghost use Rattle.orc_shared_words.specs.Operations.{answer_by, place_of, written_by};
+ghost use Rattle.orc_shared_words.specs.Ticks.{AnyFit, plain_fits, tick_rules, ticks_obey};
+ghost use Rattle.std.specs.Prelude.{◌≡◌, ℕ};
+
+use crate::{Machine, Operation, Step};
+use orc_heap::Discipline;
+
+/// An agent counts up (`true`) or looks (`false`), and keeps what it found last. Its shape is the number of agents.
+pub struct Ticks;
+
+impl<N> Machine<N> for Ticks {
+    type Shape = u32;
+
+    type Op = bool;
+
+    type Step = Step<bool, N>;
+
+    type Record = u64;
+
+    type Own = u64;
+
+    ghost shows = { λ o. o };
+
+    ghost has_room = { λ _ _ _. Unit {0} };
+
+    ghost numbers = { λ _. record { roots = 0 } };
+
+    ghost rules = { tick_rules };
+
+    ghost obeys = { ticks_obey };
+
+    fn operation(_shape: &u32, _agent: u32, op: &bool, _own: &u64) -> Operation {
+        if *op {
+            Operation::Add(0, 1)
+        } else {
+            Operation::Load(0)
+        }
+    }
+
+    fn keep(_shape: &u32, _agent: u32, _op: &bool, own: &mut u64, n: u64) {
+        *own = n;
+    }
+}
+
+/// Whatever fits may follow.
+pub struct AnyFit;
+
+impl Discipline for AnyFit {
+    type Note = u32;
+
+    ghost holds = { λ _ _. Unit {0} };
+
+    ghost may = { AnyFit };
+
+    ghost keeps = { λ _ _ _ _ _. tt };
+
+    ghost fits = { λ _ _ _ _ may. may.0 };
+
+    ghost allows_plain = { λ n seen e _ fits plain. plain_fits n seen e fits plain };
+
+    ghost moves_linked = { λ _ _ _ _ may. may.1 };
+}
