@@ -1,1 +1,5 @@
-
+pub mod Rows
+pub mod Growing
+pub mod Naming
+pub mod Filling
+pub mod Testing

@@ -37,7 +37,7 @@ pub record Keeps {N : Type 0} (b : Bounds) (opening : List (Event N)) (s : Plain
   pub opened : IsPrefix opening s.events
   pub eight : length slots ≡ 8
   pub known : (slot row : ℕ) → slice_get slots slot ≡ Some (Some row) → KnowsRow b s row
-  pub next : next < b.rows
+  pub inside : next < b.rows
 
 -- the word of a place that a caller names
 abbrev pub word_at : At → Word

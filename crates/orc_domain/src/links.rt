@@ -1,6 +1,6 @@
 //! The calls of links, over a board.
 
-ghost use Rattle.std.specs.Prelude.{◌≡◌, ℕ, ◌∷◌, [], None, Some, IfErr, IfOk, refl, true, ◌×◌};
+ghost use Rattle.std.specs.Prelude.{◌≡◌, ℕ, ◌∷◌, [], None, Some, IfErr, IfOk, refl, true};
 ghost use mathlib.Core.List.{IsPrefix};
 ghost use Rattle.orc_fault.specs.declared.Spent.{Spent};
 ghost use Rattle.orc_heap.specs.Allowed.{AllowedLater};
@@ -177,6 +177,7 @@ impl<D: Discipline> Links for PlainDomain<D> {
     fn settle(&self, p: &mut PlainPass<D>) {}
 
     fn learn(&self, into: &mut PlainPass<D>, from: &mut PlainPass<D>) {
+        self.board.learn(&mut into.pass, &mut from.pass);
     }
 
     ghost seen_is = { λ d p h. seen_by d p h };
@@ -193,9 +194,9 @@ impl<D: Discipline> Links for PlainDomain<D> {
 
     ghost agents_below = { λ d p h. all_below d p h };
 
-    ghost fresh_is = { λ d p id h e. fresh_untouched d p id h e };
+    ghost fresh_is = { λ d p id h e. fresh_untouched d p h id e };
 
-    ghost held_is = { λ d p h b e. held_known d p h b e };
+    ghost held_is = { λ d p hold h e. held_known d p h hold e };
 
     ghost lacking_stays = { λ d agent j more from to l. lacking_later (domain_bounds d).rows j more to l };
 

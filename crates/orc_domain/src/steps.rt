@@ -1,6 +1,6 @@
 //! The parts of which the calls are made.
 
-ghost use Rattle.std.specs.Prelude.{◌≡◌, ◌<◌, ◌%◌, MatchBool, None, Some, slice_get, ◌×◌};
+ghost use Rattle.std.specs.Prelude.{◌≡◌, ◌<◌, ◌%◌, MatchBool, None, Some, slice_get};
 ghost use Rattle.orc_heap.specs.Heap.{new_node};
 ghost use Rattle.orc_table.specs.Calls.{KnowsPlace};
 ghost use Rattle.orc_table.specs.Machine.{index_of, place_by};
