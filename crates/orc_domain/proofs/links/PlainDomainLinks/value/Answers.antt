@@ -1,12 +1,14 @@
-use Rattle.std.proofs.Common.{[], ◌<◌, refl, sym, subst}
+use Rattle.std.proofs.Common.{[], refl, sym, subst}
+use Rattle.orc_table.specs.Calls.{KnowsRow}
+use Rattle.orc_table.specs.Views.{shows}
 use Rattle.orc_domain.proofs.Filling.{reads}
 use Rattle.orc_domain.proofs.Growing.{only_adds, still_adds}
-use Rattle.orc_domain.proofs.Naming.{hold_below}
+use Rattle.orc_domain.proofs.Naming.{hold_known}
 use Rattle.orc_domain.specs.Passes.{domain_bounds}
 use Rattle.orc_domain.proofs.links.PlainDomainLinks.value.Goals as goal
 
 pub read-requires-clause-row : goal.read-requires-clause-row
-read-requires-clause-row g c = subst (λ r. r < (domain_bounds c.args.self.now).rows) (sym c.row.ensures) (hold_below c.args.self.now c.args.p.now c.requires.pass c.args.h.now c.requires.held)
+read-requires-clause-row g c = subst (λ r. KnowsRow (domain_bounds c.args.self.now) (shows c.args.self.now.board c.args.p.now.pass) r) (sym c.row.ensures) (hold_known c.args.self.now c.args.p.now c.requires.pass c.args.h.now c.requires.held)
 
 pub returns-clause-pass : goal.returns-clause-pass
 returns-clause-pass g c = still_adds c.args.self.now c.args.p.now c.requires.pass c.read.new.p c.read.ensures.belongs _ c.read.ensures.adds
