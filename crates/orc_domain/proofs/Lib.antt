@@ -5,3 +5,6 @@ pub mod Filling
 pub mod Testing
 pub mod Aiming
 pub mod Releasing
+pub mod Loading
+pub mod Looking
+pub mod Taking

@@ -42,9 +42,10 @@ module _ {N : Type 0} where
     pub node : slice_get (heap_of b t).nodes (index_of row t.rows) ≡ Some (new_node s.agent)
 
   -- the row was given before
-  pub record Loses (may : List (Event N) → Event N → Type 0) (row : ℕ) (s t : PlainView N) : Type 0 where
+  pub record Loses (row : ℕ) (slots : List (Option ℕ)) (s t : PlainView N) : Type 0 where
     pub fresh : t.fresh ≡ s.fresh
-    pub adds : Adds may [] s t
+    pub rows : Begins t.rows s.rows
+    pub puts : Puts (seat_by s slots) [] (seat_by t slots)
     pub out : IsOut t.rows row
 
   -- both values of the fresh row were filled, and the row is held in the slot

@@ -22,7 +22,7 @@ impl<D: Discipline> PlainDomain<D> {
         ensures same { IsSame p.old p.new }
         ensures took { MatchBool result
             (Takes (domain_bounds self.now) row p.old.slots (shows self.now.board p.old.pass) (shows self.now.board p.new.pass))
-            (Loses (D.may (domain_numbers self.now)) row (shows self.now.board p.old.pass) (shows self.now.board p.new.pass)) }
+            (Loses row p.old.slots (shows self.now.board p.old.pass) (shows self.now.board p.new.pass)) }
     {
         let gate = self.board.gate_look(&mut p.pass, row);
         if gate % 2 == 1 {
