@@ -8,3 +8,6 @@ pub mod Releasing
 pub mod Loading
 pub mod Looking
 pub mod Taking
+pub mod Furnishing
+pub mod Counting
+pub mod Giving
