@@ -119,7 +119,7 @@ nodes_from h (e ∷ es) = let r = nodes_from (heap_after e.agent e.act h) es in 
 
 -- as many nodes as Gives
 pub nodes_given : {N : Type 0} (n : HeapNumbers) (es : List (Event N)) → length (run_heap n es).nodes ≡ gives_in es
-nodes_given n es = nodes_from (new_heap n) es
+nodes_given n es = let e = nodes_from (new_heap n) es in omega (arith, e)
 
 pub lacks_all : {N : Type 0} (rows : ℕ) (j : List (Event N)) → gives_in j ≡ rows → IsLacking rows j (length j)
 lacks_all rows j e = record { within = omega arith; given = ap gives_in (take-length j) ∙ e }

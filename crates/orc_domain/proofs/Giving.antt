@@ -36,12 +36,12 @@ use Rattle.orc_domain.proofs.Counting.{lacks_all, nodes_given, once_round, rows_
 use Rattle.orc_domain.proofs.Growing.{held_given, tie}
 use Rattle.orc_domain.proofs.Rows.{slots_grow}
 
+out_stays : (rows more : List ℕ) (row : ℕ) → IsOut rows row → IsOut (rows ++ more) row
+out_stays rows more row o = (o.0, get-grown o.0 rows more row o.1)
+
 module _ {D N : Type 0} {d : discipline.Ghosts D N} {m : machine.Ghosts Plain N (PlainShape N) PlainOp (PlainStep N) (Unit {0}) (Unit {0})}
     (domain : PlainDomain D N)
   where
-  abbrev b : Bounds
-  b = domain_bounds domain
-
   -- what is new in a seat is new in the journal
   pub journal_later : (p q : PlainPass D N (PlainShape N) PlainOp (PlainStep N) (Unit {0}) (Unit {0}) d m) (own : List (Event N)) → IsPassOf domain p → IsPassOf domain q → Puts (seat_of domain p) own (seat_of domain q) → IsPrefix (journal_of p) (journal_of q)
   journal_later p q own h x puts = (puts.part, ap (λ es. es ++ puts.part) (sym (seen_by domain p h)) ∙ (sym puts.is ∙ seen_by domain q x))
@@ -51,12 +51,12 @@ module _ {D N : Type 0} {d : discipline.Ghosts D N} {m : machine.Ghosts Plain N 
     pub pass : IsPassOf domain q
     pub only : Only [] (seat_of domain p) (seat_of domain q)
     pub fresh : (shows domain.board q.pass).fresh ≡ None
-    pub inside : (rows ≡ b.rows) × (begin < rows)
+    pub inside : (rows ≡ (domain_bounds domain).rows) × (begin < rows)
     pub out : (k : ℕ) → k < offset → IsOut (shows domain.board q.pass).rows ((begin + k) % rows)
 
   pub tried_none : (p : PlainPass D N (PlainShape N) PlainOp (PlainStep N) (Unit {0}) (Unit {0}) d m) (rows begin : ℕ) → IsPassOf domain p → (seat_of domain p).fresh ≡ None → rows ≡ (bounds_of p.shape).rows → begin ≡ p.next → Tried p p rows begin 0
   tried_none p rows begin h fresh is next =
-      let same : rows ≡ b.rows = is ∙ ap (λ (z : Bounds). z.rows) h.shape in record {
+      let same : rows ≡ (domain_bounds domain).rows = is ∙ ap (λ (z : Bounds). z.rows) h.shape in record {
         pass = h;
         only = record { slots = refl; fresh = refl; puts = record { part = []; is = sym (append-nil (seat_of domain p).seen); agent = refl; own_is = refl } };
         fresh = no_row (shows domain.board p.pass).fresh fresh;
@@ -73,9 +73,6 @@ module _ {D N : Type 0} {d : discipline.Ghosts D N} {m : machine.Ghosts Plain N 
   slots_kept q r x same rows =
       ap (slots_by (shows domain.board r.pass).rows) same.slots
       ∙ (ap (λ z. slots_by z q.slots) rows.1 ∙ slots_grow (shows domain.board q.pass).rows rows.0 q.slots (held_given domain q x))
-
-  out_stays : (rows more : List ℕ) (row : ℕ) → IsOut rows row → IsOut (rows ++ more) row
-  out_stays rows more row o = (o.0, get-grown o.0 rows more row o.1)
 
   module _ (p q r : PlainPass D N (PlainShape N) PlainOp (PlainStep N) (Unit {0}) (Unit {0}) d m) (rows begin offset : ℕ) (t : Tried p q rows begin offset) (x : IsPassOf domain r) (same : IsSame q r) where
     pub tried_one : Loses ((begin + offset) % rows) q.slots (shows domain.board q.pass) (shows domain.board r.pass) → Tried p r rows begin (offset + 1)
@@ -100,7 +97,7 @@ module _ {D N : Type 0} {d : discipline.Ghosts D N} {m : machine.Ghosts Plain N 
             (λ lt. subst (λ z. IsOut z ((begin + k) % rows)) (sym l.rows.1) (out_stays (shows domain.board q.pass).rows l.rows.0 ((begin + k) % rows) (t.out k lt)))
             (λ ge. let e : k ≡ offset = omega (arith, m, ge) in subst (λ z. IsOut (shows domain.board r.pass).rows ((begin + z) % rows)) (sym e) l.out)
 
-    module _ (row : ℕ) (k : Takes b row q.slots (shows domain.board q.pass) (shows domain.board r.pass))
+    module _ (row : ℕ) (k : Takes (domain_bounds domain) row q.slots (shows domain.board q.pass) (shows domain.board r.pass))
         (w : PlainPass D N (PlainShape N) PlainOp (PlainStep N) (Unit {0}) (Unit {0}) d m) (slot first second : ℕ) (f : Furnishes (domain_numbers domain) row (index_of row (shows domain.board r.pass).rows) slot first second (seat_of domain r) (seat_of domain w))
       where
       agent_is : (seat_of domain r).agent ≡ (seat_of domain p).agent
@@ -124,10 +121,10 @@ module _ {D N : Type 0} {d : discipline.Ghosts D N} {m : machine.Ghosts Plain N 
       pub gives_later : IsPassOf domain p → IsPassOf domain w → IsPrefix (journal_of p) (journal_of w)
       gives_later h y = let hold : Hold = record { row = row; slot = slot } in let g = gives hold refl in journal_later p w _ h y g.puts
 
-  pub tried_all : (p q : PlainPass D N (PlainShape N) PlainOp (PlainStep N) (Unit {0}) (Unit {0}) d m) (rows begin : ℕ) → Tried p q rows begin rows → IsLacking b.rows (journal_of q) (length (journal_of q))
-  tried_all p q rows begin t =
+  pub tried_all : (p q : PlainPass D N (PlainShape N) PlainOp (PlainStep N) (Unit {0}) (Unit {0}) d m) (rows begin offset : ℕ) → offset ≡ rows → Tried p q rows begin offset → IsLacking (domain_bounds domain).rows (journal_of q) (length (journal_of q))
+  tried_all p q rows begin offset end t =
       let s = shows domain.board q.pass in
       let k = tie domain q t.pass in
-      let all = rows_all s.rows b.rows k.once k.inside (once_round s.rows begin b.rows (subst (λ z. begin < z) t.inside.0 t.inside.1)
-          (λ j l. subst (λ z. IsOut s.rows ((begin + j) % z)) t.inside.0 (t.out j (subst (λ z. j < z) (sym t.inside.0) l)))) in
-      lacks_all b.rows (journal_of q) (sym (nodes_given (domain_numbers domain) (journal_of q)) ∙ (ap (λ (es : List (Event N)). length (run_heap (domain_numbers domain) es).nodes) (sym (seen_by domain q t.pass)) ∙ (sym k.even ∙ all)))
+      let all = rows_all s.rows (domain_bounds domain).rows k.once k.inside (once_round s.rows begin (domain_bounds domain).rows (subst (λ z. begin < z) t.inside.0 t.inside.1)
+          (λ j l. subst (λ z. IsOut s.rows ((begin + j) % z)) t.inside.0 (t.out j (subst (λ z. j < z) (sym t.inside.0 ∙ sym end) l)))) in
+      lacks_all (domain_bounds domain).rows (journal_of q) (sym (nodes_given (domain_numbers domain) (journal_of q)) ∙ (ap (λ (es : List (Event N)). length (run_heap (domain_numbers domain) es).nodes) (sym (seen_by domain q t.pass)) ∙ (sym k.even ∙ all)))

@@ -11,3 +11,4 @@ pub mod Taking
 pub mod Furnishing
 pub mod Counting
 pub mod Giving
+pub mod Learning
