@@ -154,6 +154,7 @@ module _ {K S Op Rec N : Type 0} (r : Rules K S Op Rec N) (k : K) where
     unfolding changed loses_agent
     absorbs id v other w b is same s h at ne there =
         let both : View S Rec = absorbing v w in
+        let nothing : Begins h.journal [] = (h.journal, refl) in
         let left : View S Rec = husk w in
         let before : get_elem? s.views other ≡ some w = sym (set_else s.views id other both ne) ∙ there in
         let f = h.fits id v at in
@@ -161,7 +162,7 @@ module _ {K S Op Rec N : Type 0} (r : Rules K S Op Rec N) (k : K) where
         let l1 : List (View S Rec) = set s.views other left in
         let l2 : List (View S Rec) = set l1 id both in
         let first : Shows r k holds may record { words = s.words; homes = s.homes; views = l1 } =
-        loses_agent s h other w left before refl refl refl (h.journal, refl) (h.journal, refl) (λ q. (other, left, set_there s.views other w left before, inr (seen_and_taken h.journal w q))) in
+        loses_agent s h other w left before refl refl refl nothing nothing (λ q. (other, left, set_there s.views other w left before, inr (seen_and_taken h.journal w q))) in
         let at' : get_elem? l1 id ≡ some v = set_else s.views other id left (λ e. ne (sym e)) ∙ at in
         -- an agent without a pass in the other views has none now
         let gone : (a : ℕ) → steps_by r.by a h.journal ≡ steps_by r.by a v.seen → ((i : ℕ) (z : View S Rec) → i ≢ other → get_elem? s.views i ≡ some z → ¬ (z.agent ≡ Some a)) → ((c i : ℕ) (z : View S Rec) → get_elem? s.views i ≡ some z → z.free ≡ Some c → a < c) → Retired r k h.journal l1 a v.seen =
@@ -180,7 +181,7 @@ module _ {K S Op Rec N : Type 0} (r : Rules K S Op Rec N) (k : K) where
         (λ q. (id, both, set_there l1 id v both at', still_seen h.journal v w q)) in
         let there' : get_elem? l2 other ≡ some left = set_else l1 id other both ne ∙ set_there s.views other w left before in
         let last : Shows r k holds may record { words = s.words; homes = s.homes; views = set l2 other (spent_view r) } =
-        loses_agent record { words = s.words; homes = s.homes; views = l2 } second other left (spent_view r) there' refl refl refl (h.journal, refl) (h.journal, refl)
+        loses_agent record { words = s.words; homes = s.homes; views = l2 } second other left (spent_view r) there' refl refl refl nothing nothing
         (λ q. (
           id,
           both,

@@ -19,9 +19,11 @@ module _ {S Rec : Type 0} where
     pub one : IsLonger v.seen v.kept w.seen
     pub same : SameButSeen by v w
 
-  -- two passes, v and u, are now w and x, and both have seen the longer one of their two lists
+  -- two passes, v and u, learned from each other, and are now w and x
   pub record Learned (by : S → ℕ) (v u w x : View S Rec) : Type 0 where
+    -- both have seen one list, the longer one
     pub longer : IsLonger v.seen u.seen w.seen
     pub both : x.seen ≡ w.seen
+    -- and are the same but for that
     pub into : SameButSeen by v w
     pub from : SameButSeen by u x

@@ -1,4 +1,4 @@
--- Which journal the words and the passes show.
+-- Which journal the words and the passes show. It stands in proofs alone, as a history variable (Owicki and Gries 1976).
 use Rattle.atomic_table.specs.Table.{State}
 use Rattle.orc_heap.specs.Allowed.{AllAllowed}
 use Rattle.orc_heap.specs.declared.events.Event.{Event}

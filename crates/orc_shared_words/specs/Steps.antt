@@ -33,11 +33,12 @@ module _ {K S Op Rec N : Type 0} (r : Rules K S Op Rec N) where
       pub agent : ℕ
       pub is : v.agent ≡ Some agent
       pub same : w.agent ≡ Some agent
-      -- the pass took in none
+      -- the pass took in none meanwhile
       pub also : w.also ≡ v.also
-      -- it has seen what it had seen, steps of others, and its own step
+      -- it has seen what it had seen before, what stands between, and its own step
       pub between : List S
       pub seen : w.seen ≡ (v.seen ++ between) ++ r.step agent op note ∷ []
+      -- what stands between are steps of others, and none of an agent whose pass was taken in for good
       pub others : steps_by r.by agent between ≡ []
       pub retired : (b : ℕ) → Among b v.also → steps_by r.by b between ≡ []
       -- the number found is that of the run, and the answer and the new record are of it
@@ -45,7 +46,7 @@ module _ {K S Op Rec N : Type 0} (r : Rules K S Op Rec N) where
       pub read : found ≡ found_by r k (v.seen ++ between) agent op
       pub answers : n ≡ r.answer k agent op v.own found
       pub mine : w.own ≡ r.after k agent op v.own found
-      -- what it has seen is lawful and allowed
+      -- what it has seen is such a journal
       pub now : LaterJournal w.seen w agent
 
   -- what the picked step tells

@@ -8,13 +8,20 @@ use Rattle.orc_heap.specs.declared.events.Event.{Event}
 use Rattle.orc_shared_words.specs.Runs.{Obeys, Rules}
 use Rattle.orc_shared_words.specs.declared.journal.Step.{Step}
 use Rattle.std.proofs.Common.{append-nil, append_assoc, ap, eq-eqb, ne_eqb, refl, sym, ◌∙◌}
-use Rattle.std.specs.Prelude.{Bool, List, [], false, if◌then◌else◌, true, ℕ, ◌%◌, ◌++◌, ◌+◌, ◌==◌, ◌^◌, ◌∷◌, ◌≡◌, ◌≢◌}
+use Rattle.std.specs.Prelude.{Bool, List, None, Option, [], false, if◌then◌else◌, true, ℕ, ◌%◌, ◌++◌, ◌+◌, ◌==◌, ◌^◌, ◌∷◌, ◌≡◌, ◌≢◌}
 
+-- the word after the operation
 abbrev pub ticked : Bool → ℕ → ℕ
 ticked true n = (n + 1) % 2 ^ 64
 ticked false n = n
 
 module _ {N : Type 0} where
+  abbrev pub counts : ℕ → Option N → Step Bool N
+  counts a said = record { agent = a; op = true; note = said }
+
+  abbrev pub looks : ℕ → Step Bool N
+  looks a = record { agent = a; op = false; note = None }
+
   -- the word after these steps
   abbrev pub ticks_from : ℕ → List (Step Bool N) → ℕ
   ticks_from n [] = n
@@ -25,14 +32,17 @@ module _ {N : Type 0} where
   last_from a last n [] = last
   last_from a last n (s ∷ ss) = last_from a (if s.agent == a then n else last) (ticked s.op n) ss
 
+  -- a count gives its agent a node
   abbrev pub gift : Step Bool N → Bool → List (Event N)
   gift s true = record { agent = s.agent; act = Give; note = s.note } ∷ []
   gift s false = []
 
+  -- the events of these steps
   abbrev pub gifts : List (Step Bool N) → List (Event N)
   gifts [] = []
   gifts (s ∷ ss) = gift s s.op ++ gifts ss
 
+  -- how journals run
   abbrev pub tick_rules : Rules ℕ (Step Bool N) Bool ℕ N
   tick_rules = record {
     agents = λ k. k;

@@ -4,10 +4,12 @@ use Rattle.orc_shared_words.specs.Runs.{Rules}
 use Rattle.orc_shared_words.specs.declared.journal.View.{View}
 use Rattle.std.specs.Prelude.{None, Option, Some, [], ℕ, ◌++◌, ◌+◌, ◌∷◌, ◌≡◌, ◌⊎◌}
 
+-- the number to be handed out next
 abbrev pub next_number : Option ℕ → Option ℕ
 next_number None = None
 next_number (Some n) = Some (n + 1)
 
+-- the agent of a pass
 abbrev pub agent_of : Option ℕ → ℕ
 agent_of None = 0
 agent_of (Some a) = a
@@ -34,6 +36,7 @@ module _ {K S Op Rec N : Type 0} (r : Rules K S Op Rec N) where
   abbrev pub note_of : View S Rec → View S Rec
   note_of v = record { seen = v.seen; kept = []; agent = None; free = None; also = []; taken = []; own = r.blank }
 
+  -- a spent view knows nothing and has no agent
   abbrev pub spent_view : View S Rec
   spent_view = record { seen = []; kept = []; agent = None; free = None; also = []; taken = []; own = r.blank }
 

@@ -12,7 +12,6 @@ mod shared_words;
 pub use journal::{Step, View};
 pub use last_words::LastWords;
 pub use machine::Machine;
-pub use moves::{Absorb, Confirm, Does, NextAgent, Note, Picks};
 pub use operation::Operation;
 pub use rule::Shown;
 pub use shared_words::{SharedPass, SharedWords};

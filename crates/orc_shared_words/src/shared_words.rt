@@ -42,6 +42,7 @@ pub struct SharedPass<M: Machine<D::Note>, D: Discipline> {
 }
 
 impl<M: Machine<D::Note>, D: Discipline> SharedPass<M, D> {
+    /// The agent's number.
     pub fn agent(&self) -> u32
         ensures { result ≡ self.now.agent }
     {

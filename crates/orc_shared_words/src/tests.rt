@@ -9,6 +9,7 @@ use std::alloc::Global;
 use std::test::Fail;
 use std::thread::{Threads, join_mut};
 
+mod examples;
 mod ticks;
 
 use ticks::{AnyFit, Ticks};

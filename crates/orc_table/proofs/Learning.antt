@@ -1,5 +1,5 @@
 -- Passes that learn from one another, and that take in one another.
-use Rattle.std.proofs.Common.{◌≡◌, ◌≢◌, ℕ, ◌==◌, List, [], ◌∷◌, ◌++◌, Option, Some, None, refl, sym, ap, ◌∙◌, subst, ◌⊎◌, inl, inr, ⊎_elim, append-nil}
+use Rattle.std.proofs.Common.{◌≡◌, ◌<◌, ℕ, ◌==◌, List, [], ◌∷◌, ◌++◌, Option, Some, refl, sym, ap, ◌∙◌, subst, inl, inr, ⊎_elim, append-nil}
 use Rattle.std.proofs.lemmas.List.{append_cancel_left}
 use Rattle.std.proofs.lemmas.List.Elements.{filter-append}
 use Rattle.orc_words.specs.Bounds.{Bounds, bounds_of}
@@ -7,7 +7,7 @@ use Rattle.orc_heap.specs.Allowed.{AllAllowed, events_by}
 use Rattle.orc_heap.specs.declared.discipline.Discipline as discipline
 use Rattle.orc_heap.specs.declared.events.Event.{Event}
 use Rattle.orc_shared_words.specs.Learning.{Learned, SameButSeen}
-use Rattle.orc_shared_words.specs.Lists.{Among, Begins}
+use Rattle.orc_shared_words.specs.Lists.{Begins}
 use Rattle.orc_shared_words.specs.Runs.{AgentsBelow, steps_by}
 use Rattle.orc_shared_words.specs.Views.{absorbing, agent_of}
 use Rattle.orc_shared_words.specs.declared.journal.View.{View}
@@ -18,7 +18,6 @@ use Rattle.orc_table.specs.Rules.{opening_steps, project-append, steps-append}
 use Rattle.orc_table.specs.Views.{FreshHeld, Keeps, view_of}
 use Rattle.orc_table.specs.declared.machine.PlainStep.{PlainStep}
 use Rattle.orc_table.specs.declared.seed.PlainShape.{PlainShape}
-use Rattle.orc_table.proofs.Lists.{some_one}
 use Rattle.orc_table.proofs.Walks.{Mid, by, given_more, mid_fresh, mid_of, none_by, others_none}
 
 -- steps of the rest of a list, where the agent's are those of its front
@@ -68,6 +67,7 @@ module _ {D N : Type 0} (d : discipline.Ghosts D N) (q : PlainShape N) where
       let state : run_from k (run k v.seen) b.0 ≡ run k w.seen = sym (ap (run k) b.1 ∙ m.state) in
       record {
         is = same ∙ (h.is ∙ ap Some (sym e));
+        number = subst (λ z. z < k.agents) (sym e) h.number;
         began = h.began;
         now = record { lawful = j.lawful; opened = j.opened; below = j.below; each = j.each; kept = j.kept; mine = refl; retired = λ b there. refl };
         untouched = subst (λ (z : ℕ × State × Option ℕ). FreshHeld z.0 z.1 z.2) (λ i. (sym e i, state i, sym f i)) (mid_fresh k may v.seen b.0 a m fresh h.untouched);
@@ -122,6 +122,7 @@ module _ {D N : Type 0} (d : discipline.Ghosts D N) (q : PlainShape N) where
     absorb_keeps y c2 fresh5 s e3 f3 =
         let t = into_keeps in subst (λ (z : View (PlainStep N) (Unit {0}) × ℕ × Option ℕ). Keeps q holds may z.0 z.1 z.2) (λ j. (sym s j, sym e3 j, sym f3 j)) record {
           is = t.is;
+          number = t.number;
           began = t.began;
           now = record { lawful = t.now.lawful; opened = t.now.opened; below = t.now.below; each = t.now.each; kept = t.now.kept; mine = refl; retired = λ b there. refl };
           untouched = t.untouched;

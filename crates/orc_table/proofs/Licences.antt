@@ -1,5 +1,5 @@
 -- What licenses each step.
-use Rattle.std.proofs.Common.{◌≡◌, ◌≢◌, ℕ, zero, suc, ◌+◌, ◌*◌, ◌<◌, ◌==◌, List, [], ◌∷◌, ◌++◌, length, Bool, true, false, if◌then◌else◌, Option, Some, None, slice_get, slice_index, refl, sym, ap, ◌∙◌, subst, ◌⊎◌, inl, inr, arith, eq-eqb, ne_eqb, length-append}
+use Rattle.std.proofs.Common.{◌≡◌, ◌≢◌, ℕ, ◌+◌, ◌*◌, ◌<◌, ◌==◌, List, [], ◌∷◌, ◌++◌, length, Bool, true, false, if◌then◌else◌, Option, Some, None, slice_index, refl, sym, ap, ◌∙◌, subst, arith, eq-eqb, length-append}
 use Rattle.std.proofs.lemmas.Bool.Decides.{nat_tests}
 use Rattle.orc_words.specs.Bounds.{Bounds, bounds_of}
 use Rattle.orc_words.specs.Packed.{bit, link_word}
@@ -7,10 +7,10 @@ use Rattle.orc_words.specs.Places.{place}
 use Rattle.orc_words.specs.declared.packed.RowLink.{RowLink}
 use Rattle.orc_words.specs.declared.place.Word.{Word}
 use Rattle.orc_words.specs.declared.place.Word.TheVariants as word
-use Rattle.orc_heap.specs.Acts.{Fits, IsFresh, IsKnown, IsTarget}
-use Rattle.orc_heap.specs.Allowed.{AllowedLater, AllowedWhereFits}
-use Rattle.orc_heap.specs.Heap.{Heap, Node, shown}
-use Rattle.orc_heap.specs.Journals.{FitsAfter, IsPlain, IsPlainAct, run_heap}
+use Rattle.orc_heap.specs.Acts.{Fits, IsFresh, IsTarget}
+use Rattle.orc_heap.specs.Allowed.{AllowedLater}
+use Rattle.orc_heap.specs.Heap.{Heap, shown}
+use Rattle.orc_heap.specs.Journals.{FitsAfter, IsPlain, run_heap}
 use Rattle.orc_heap.specs.declared.discipline.Discipline as discipline
 use Rattle.orc_heap.specs.declared.events.Act.TheVariants as act
 use Rattle.orc_heap.specs.declared.events.Event.{Event}
@@ -18,22 +18,22 @@ use Rattle.orc_heap.specs.declared.events.Link.{Link}
 use Rattle.orc_heap.specs.declared.events.Place.{Place}
 use Rattle.orc_heap.specs.declared.events.Place.TheVariants.{Next as AtNext}
 use Rattle.orc_heap.proofs.Stays.{stays}
-use Rattle.orc_shared_words.specs.Lists.{Begins, Each}
-use Rattle.orc_shared_words.specs.Steps.{LaterJournal, Licensed}
+use Rattle.orc_shared_words.specs.Lists.{Each}
+use Rattle.orc_shared_words.specs.Steps.{Licensed}
 use Rattle.orc_shared_words.specs.declared.journal.View.{View}
 use Rattle.orc_table.specs.Calls.{KnowsPlace, KnowsRow, KnowsTarget, MayWhereFits, MayWhereShown, aim_event, look_event, move_event}
-use Rattle.orc_table.specs.Machine.{State, Allowed, IsLinkWord, event, events_of, finds, id_by, index_of, link_at, link_by, numbers, place_by, project, project_from, run, run_from, start, tested}
+use Rattle.orc_table.specs.Machine.{State, IsLinkWord, event, events_of, finds, id_by, index_of, link_at, link_by, numbers, place_by, project, project_from, run, run_from, start, tested}
 use Rattle.orc_table.specs.Rules.{plain_rules}
-use Rattle.orc_table.specs.Views.{FreshHeld, IsUntouched, Keeps, PlainView, heap_of, view_of}
-use Rattle.orc_table.specs.Words.{IsWord, Tie}
+use Rattle.orc_table.specs.Views.{FreshHeld, Keeps, PlainView, heap_of, view_of}
+use Rattle.orc_table.specs.Words.{IsWord}
 use Rattle.orc_table.specs.declared.machine.PlainOp.{PlainOp}
 use Rattle.orc_table.specs.declared.machine.PlainOp.TheVariants.{GateLook, GateTake, Fill, Read, LinkLoad, LinkCas, LinkStore}
 use Rattle.orc_table.specs.declared.machine.PlainStep.{PlainStep}
 use Rattle.orc_table.specs.declared.seed.PlainShape.{PlainShape}
 use Rattle.orc_table.proofs.Lists.{at_index, get_lt, index_grown, lt_get, some_one}
-use Rattle.orc_table.proofs.Ties.{Given, link_in, one_link, word_by, word_grown}
+use Rattle.orc_table.proofs.Ties.{Given, link_in, one_link, word_by}
 use Rattle.orc_table.proofs.Steps.{Tied, heap_is, tied}
-use Rattle.orc_table.proofs.Walks.{Mid, by, given_more, lawful_of, mid_fresh, mid_of, mid_target, none_by}
+use Rattle.orc_table.proofs.Walks.{Mid, given_more, lawful_of, mid_fresh, mid_of, mid_target, none_by}
 
 -- a root, or the link of a row that was given
 abbrev pub PlaceHeld : Bounds → List ℕ → Word → Type 0

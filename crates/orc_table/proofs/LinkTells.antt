@@ -1,5 +1,5 @@
 -- What loads, exchanges and stores of links tell, in events.
-use Rattle.std.proofs.Common.{◌≡◌, ◌≢◌, ℕ, zero, suc, ◌+◌, ◌*◌, ◌<◌, ◌==◌, List, [], ◌∷◌, ◌++◌, length, Bool, true, false, true≢false, cond, if◌then◌else◌, Option, Some, None, slice_get, slice_index, refl, sym, ap, ◌∙◌, subst, ◌⊎◌, inl, inr, arith, eq-eqb, ne_eqb, append-nil, length-append}
+use Rattle.std.proofs.Common.{◌≡◌, ◌≢◌, ℕ, ◌<◌, ◌==◌, List, [], ◌∷◌, ◌++◌, length, Bool, true, false, true≢false, cond, if◌then◌else◌, Option, Some, None, slice_get, slice_index, refl, sym, ap, ◌∙◌, subst, arith, eq-eqb, ne_eqb}
 use mathlib.Core.Logic.{dite}
 use native.Mathlib.Decide.{ℕ_discrete}
 use Rattle.orc_words.specs.Bounds.{Bounds, bounds_of}
@@ -11,34 +11,32 @@ use Rattle.orc_words.specs.declared.place.Word.TheVariants as word
 use Rattle.std.proofs.lemmas.Bool.Decides.{nat_tests}
 use Rattle.orc_heap.specs.Acts.{IsTarget}
 use Rattle.orc_heap.specs.Allowed.{AllAllowed}
-use Rattle.orc_heap.specs.Heap.{Heap, Node, new_node, shown}
-use Rattle.orc_heap.specs.Journals.{IsLawfulFrom, run_from as heap_from, run_heap}
+use Rattle.orc_heap.specs.Seats.{IsUntouched}
+use Rattle.orc_heap.specs.Heap.{Heap, shown}
+use Rattle.orc_heap.specs.Journals.{run_from as heap_from, run_heap}
 use Rattle.orc_heap.specs.declared.discipline.Discipline as discipline
 use Rattle.orc_heap.specs.declared.events.Act.TheVariants as act
 use Rattle.orc_heap.specs.declared.events.Event.{Event}
 use Rattle.orc_heap.specs.declared.events.Link.{Link}
 use Rattle.orc_heap.specs.declared.events.Place.{Place}
 use Rattle.orc_heap.specs.declared.events.Place.TheVariants.{Next as AtNext}
-use Rattle.orc_heap.proofs.Changes.{get-added}
-use Rattle.orc_shared_words.specs.Steps.{Extends, LaterJournal}
+use Rattle.orc_shared_words.specs.Steps.{Extends}
 use Rattle.orc_shared_words.specs.declared.journal.View.{View}
-use Rattle.orc_table.specs.Calls.{Adds, Fails, Finds, Gives, IsGateWord, IsValue, KnowsPlace, KnowsRow, KnowsTarget, Loses, Misses, Replaces, aim_event, look_event, move_event, unless_linked, value_of}
-use Rattle.orc_table.specs.Machine.{State, event, events_of, finds, id_by, index_of, link_at, link_by, numbers, place_by, project, project_from, run, run_from, start, taken, tested, value_word, word_of}
+use Rattle.orc_table.specs.Calls.{Adds, Fails, Finds, KnowsPlace, KnowsTarget, Misses, Replaces, look_event, move_event, unless_linked}
+use Rattle.orc_table.specs.Machine.{State, event, finds, id_by, index_of, link_at, link_by, numbers, place_by, project, project_from, run, run_from, taken, tested}
 use Rattle.orc_table.specs.Rules.{plain_rules}
-use Rattle.orc_table.specs.Views.{FreshHeld, IsUntouched, Keeps, PlainView, heap_of, view_of}
-use Rattle.orc_table.specs.Words.{Block, IsOut, IsWord, Named}
+use Rattle.orc_table.specs.Views.{FreshHeld, Keeps, PlainView, heap_of, view_of}
+use Rattle.orc_table.specs.Words.{IsWord}
 use Rattle.orc_table.specs.declared.machine.PlainOp.{PlainOp}
-use Rattle.orc_table.specs.declared.machine.PlainOp.TheVariants.{GateLook, GateTake, Fill, Read, LinkLoad, LinkCas, LinkStore}
+use Rattle.orc_table.specs.declared.machine.PlainOp.TheVariants.{LinkLoad, LinkCas, LinkStore}
 use Rattle.orc_table.specs.declared.machine.PlainStep.{PlainStep}
 use Rattle.orc_table.specs.declared.seed.PlainShape.{PlainShape}
-use Rattle.orc_table.proofs.Lists.{at_index, get_last, get_lt, index_at, index_grown, index_in, lt_get, some_one}
-use Rattle.orc_table.proofs.Ties.{Given, word_grown}
-use Rattle.orc_table.proofs.Steps.{Tied, heap_is}
-use Rattle.orc_table.proofs.Untouched.{Spares, spared_after, target_from}
-use Rattle.orc_table.proofs.Walks.{Walk, none_by, others_none, adds, given_later, given_more, heap_later, later_fresh, met, mid_fresh, own, rows_later, walk}
+use Rattle.orc_table.proofs.Lists.{at_index, some_one}
+use Rattle.orc_table.proofs.Ties.{Given}
+use Rattle.orc_table.proofs.Untouched.{spared_after, target_from}
+use Rattle.orc_table.proofs.Walks.{Walk, none_by, others_none, given_more, heap_later, later_fresh, mid_fresh, own, rows_later}
 use Rattle.orc_table.proofs.Licences.{PlaceHeld, Shows, link_given, link_grown, missed, place_given, place_grown, shows}
-
-use Rattle.orc_table.proofs.Tells.{added, at_step, heap_then, id_met, is_named, keeps, keeps_with, rows_met, walked}
+use Rattle.orc_table.proofs.Tells.{added, heap_then, id_met, is_named, keeps, keeps_with, rows_met, walked}
 
 is_equal : (m n : ℕ) → (m == n) ≡ true → m ≡ n
 is_equal m n e = grind (arith, nat_tests)

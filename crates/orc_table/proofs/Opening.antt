@@ -1,16 +1,14 @@
 -- The steps that a new board begins with: their events, the words that they leave, and that the discipline allows them.
-use Rattle.std.proofs.Common.{◌≡◌, ◌≢◌, ℕ, zero, suc, ◌+◌, ◌*◌, ◌<◌, ◌≤◌, ◌==◌, List, [], ◌∷◌, ◌++◌, length, Bool, true, false, if◌then◌else◌, Option, Some, None, slice_get, slice_index, slice_set, refl, sym, ap, ◌∙◌, subst, arith, eq-eqb}
+use Rattle.std.proofs.Common.{◌≡◌, ℕ, ◌+◌, ◌<◌, ◌≤◌, List, [], ◌∷◌, ◌++◌, Bool, if◌then◌else◌, Some, None, slice_index, slice_set, refl, sym, ap, ◌∙◌, subst, arith, eq-eqb}
 use prog.Atomic.{either}
 use Rattle.orc_words.specs.Bounds.{Bounds, bounds_of}
-use Rattle.orc_words.specs.Packed.{link_word}
-use Rattle.orc_words.specs.Places.{place, places}
-use Rattle.orc_words.specs.declared.packed.RowLink.{RowLink}
+use Rattle.orc_words.specs.Places.{place}
 use Rattle.orc_words.specs.declared.place.Word.TheVariants as word
 use Rattle.orc_words.specs.declared.shape.Shape.{Shape}
-use Rattle.orc_heap.specs.Acts.{IsFresh, with_value}
+use Rattle.orc_heap.specs.Acts.{with_value}
 use Rattle.orc_heap.specs.Allowed.{AllAllowed}
-use Rattle.orc_heap.specs.Heap.{Heap, new_heap, new_node, null}
-use Rattle.orc_heap.specs.Journals.{FitsAfter, IsPlain, run_from as heap_from}
+use Rattle.orc_heap.specs.Heap.{new_heap, new_node, null}
+use Rattle.orc_heap.specs.Journals.{run_from as heap_from}
 use Rattle.orc_heap.specs.declared.discipline.Discipline as discipline
 use Rattle.orc_heap.specs.declared.events.Act.TheVariants as act
 use Rattle.orc_heap.specs.declared.events.Event.{Event}
@@ -18,14 +16,14 @@ use Rattle.orc_heap.specs.declared.events.Place.TheVariants.{Root}
 use Rattle.orc_heap.proofs.Stays.{stays}
 use Rattle.orc_shared_words.specs.Ends.{Opens}
 use Rattle.orc_shared_words.specs.Runs.{AgentsBelow}
-use Rattle.orc_table.specs.Machine.{State, AllowedFrom, event, events_at, finds, new_words, next, numbers, project, project_from, run, run_from, start, tested, unmarked}
+use Rattle.orc_table.specs.Machine.{State, AllowedFrom, event, events_at, new_words, next, numbers, project, project_from, run, run_from, start, tested, unmarked}
 use Rattle.orc_table.specs.Rules.{DummyAllowed, HasRoots, SeedAllowed, dummy_link, dummy_node, opening_events, opening_steps, plain_rules, step_of}
 use Rattle.orc_table.specs.declared.machine.PlainOp.TheVariants.{GateTake, Fill, LinkCas}
 use Rattle.orc_table.specs.declared.machine.PlainStep.{PlainStep}
 use Rattle.orc_table.specs.declared.seed.Seed.{Seed}
 use Rattle.orc_table.specs.declared.seed.Seed.TheVariants.{Empty, Dummy}
 use Rattle.orc_table.proofs.Lists.{same_word}
-use Rattle.orc_table.proofs.Ties.{row_place, tie_start, zero_word}
+use Rattle.orc_table.proofs.Ties.{tie_start, zero_word}
 
 module _ {N : Type 0} (b : Bounds) (first : ℕ) (begin : N) (roots : 2 ≤ b.roots) (rows : 0 < b.rows) where
   -- the words of the dummy, and then of the links to it

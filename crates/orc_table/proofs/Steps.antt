@@ -1,5 +1,5 @@
 -- Each step that is allowed, and whose event fits, keeps what the words show.
-use Rattle.std.proofs.Common.{◌≡◌, ℕ, zero, suc, ◌+◌, ◌*◌, ◌<◌, ◌==◌, List, [], ◌∷◌, ◌++◌, length, Bool, true, false, if◌then◌else◌, Option, Some, None, slice_get, slice_index, slice_set, refl, sym, ap, ◌∙◌, subst, append-nil, arith}
+use Rattle.std.proofs.Common.{◌≡◌, ℕ, zero, suc, ◌+◌, ◌<◌, ◌==◌, List, [], ◌∷◌, ◌++◌, length, Bool, true, false, if◌then◌else◌, Option, Some, None, slice_get, slice_index, slice_set, refl, sym, ◌∙◌, subst, append-nil, arith}
 use Rattle.std.proofs.lemmas.Bool.Decides.{nat_tests}
 use lib.Seq.{set-get_or}
 use prog.Atomic.{either}
@@ -9,23 +9,21 @@ use Rattle.orc_words.specs.Places.{place}
 use Rattle.orc_words.specs.declared.packed.RowLink.{RowLink}
 use Rattle.orc_words.specs.declared.place.Word.{Word}
 use Rattle.orc_words.specs.declared.place.Word.TheVariants as word
-use Rattle.orc_heap.specs.Acts.{Fits, IsFresh, IsTarget, as_linked, as_named, change_target, heap_after, with_link, with_value}
+use Rattle.orc_heap.specs.Acts.{IsFresh, as_linked, as_named, change_target, with_value}
 use Rattle.orc_heap.specs.Heap.{Heap, Node, change, shown}
-use Rattle.orc_heap.specs.Journals.{IsLawful, IsLawfulFrom, run_from as heap_from, run_heap}
-use Rattle.orc_heap.specs.declared.events.Act.{Act}
+use Rattle.orc_heap.specs.Journals.{IsLawful, IsLawfulFrom, run_from as heap_from}
 use Rattle.orc_heap.specs.declared.events.Act.TheVariants as act
-use Rattle.orc_heap.specs.declared.events.Event.{Event}
 use Rattle.orc_heap.specs.declared.events.Link.{Link}
 use Rattle.orc_heap.specs.declared.events.Place.{Place}
-use Rattle.orc_heap.specs.declared.events.Place.TheVariants.{Root as AtRoot, Next}
+use Rattle.orc_heap.specs.declared.events.Place.TheVariants.{Next}
 use Rattle.orc_heap.proofs.Runs.{lawful-left, lawful-right, run_from-append as heap-append}
-use Rattle.orc_table.specs.Machine.{State, Allowed, AllowedFrom, IsLinkWord, cas_event, event, events_at, events_of, finds, id_by, index_of, link_by, load_event, next, numbers, place_by, project, project_from, run, run_from, start, taken, tested, unmarked, value_word, word_of, written}
+use Rattle.orc_table.specs.Machine.{State, Allowed, AllowedFrom, IsLinkWord, event, events_at, events_of, finds, id_by, index_of, link_by, load_event, next, numbers, place_by, project, project_from, run, run_from, start, taken, tested, value_word, word_of, written}
 use Rattle.orc_table.specs.declared.machine.PlainOp.{PlainOp}
 use Rattle.orc_table.specs.declared.machine.PlainOp.TheVariants.{GateLook, GateTake, Fill, Read, LinkLoad, LinkCas, LinkStore}
 use Rattle.orc_table.specs.declared.machine.PlainStep.{PlainStep}
 use Rattle.orc_table.proofs.Lists.{get_lt}
 use Rattle.orc_table.specs.Words.{Tie}
-use Rattle.orc_table.proofs.Ties.{Alike, Given, given_by, link_in, row_place, target_nodes, tie_fill, tie_link, tie_root, tie_start, tie_take}
+use Rattle.orc_table.proofs.Ties.{Alike, given_by, link_in, row_place, target_nodes, tie_fill, tie_link, tie_root, tie_start, tie_take}
 
 abbrev pub Tied : Bounds → State → Type 0
 Tied k x = Tie k x.words x.given x.heap

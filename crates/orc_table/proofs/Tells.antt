@@ -1,40 +1,36 @@
 -- What each step tells, in events.
-use Rattle.std.proofs.Common.{◌≡◌, ◌≢◌, ℕ, zero, suc, ◌+◌, ◌*◌, ◌<◌, ◌==◌, List, [], ◌∷◌, ◌++◌, length, Bool, true, false, true≢false, cond, if◌then◌else◌, Option, Some, None, slice_get, slice_index, refl, sym, ap, ◌∙◌, subst, ◌⊎◌, inl, inr, arith, eq-eqb, ne_eqb, append-nil, length-append}
+use Rattle.std.proofs.Common.{◌≡◌, ◌≢◌, ℕ, zero, suc, ◌+◌, ◌<◌, ◌==◌, List, [], ◌∷◌, ◌++◌, length, Bool, true, false, if◌then◌else◌, Option, Some, None, slice_get, slice_index, refl, sym, ap, ◌∙◌, subst, ◌⊎◌, inl, inr, arith, eq-eqb, ne_eqb, append-nil, length-append}
 use mathlib.Core.Logic.{dite}
 use native.Mathlib.Decide.{ℕ_discrete}
 use Rattle.orc_words.specs.Bounds.{Bounds, bounds_of}
-use Rattle.orc_words.specs.Packed.{link_word}
 use Rattle.orc_words.specs.Places.{place}
-use Rattle.orc_words.specs.declared.packed.RowLink.{RowLink}
-use Rattle.orc_words.specs.declared.place.Word.{Word}
 use Rattle.orc_words.specs.declared.place.Word.TheVariants as word
 use Rattle.orc_heap.specs.Acts.{IsTarget}
-use Rattle.orc_heap.specs.Heap.{Heap, Node, new_node, shown}
-use Rattle.orc_heap.specs.Journals.{IsLawfulFrom, run_from as heap_from, run_heap}
+use Rattle.orc_heap.specs.Seats.{IsUntouched}
+use Rattle.orc_heap.specs.Heap.{Heap, Node, new_node}
+use Rattle.orc_heap.specs.Journals.{run_from as heap_from}
 use Rattle.orc_heap.specs.declared.discipline.Discipline as discipline
 use Rattle.orc_heap.specs.declared.events.Act.TheVariants as act
 use Rattle.orc_heap.specs.declared.events.Event.{Event}
 use Rattle.orc_heap.specs.declared.events.Link.{Link}
-use Rattle.orc_heap.specs.declared.events.Place.{Place}
-use Rattle.orc_heap.specs.declared.events.Place.TheVariants.{Next as AtNext}
 use Rattle.orc_heap.proofs.Changes.{get-added}
 use Rattle.orc_shared_words.specs.Steps.{Extends, LaterJournal}
 use Rattle.orc_shared_words.specs.declared.journal.View.{View}
-use Rattle.orc_table.specs.Calls.{Adds, Fails, Finds, Gives, IsGateWord, IsValue, KnowsPlace, KnowsRow, KnowsTarget, Loses, Misses, Replaces, aim_event, look_event, move_event, unless_linked, value_of}
-use Rattle.orc_table.specs.Machine.{State, event, events_of, finds, id_by, index_of, link_at, link_by, numbers, place_by, project, project_from, run, run_from, start, taken, tested, value_word, word_of}
+use Rattle.orc_heap.specs.Calls.{ReadsValue, value_of}
+use Rattle.orc_table.specs.Calls.{Adds, Gives, IsGateWord, KnowsRow, Loses}
+use Rattle.orc_table.specs.Machine.{State, event, events_of, finds, index_of, numbers, run, run_from, start, taken, value_word}
 use Rattle.orc_table.specs.Rules.{plain_rules}
-use Rattle.orc_table.specs.Views.{FreshHeld, IsUntouched, Keeps, PlainView, heap_of, view_of}
-use Rattle.orc_table.specs.Words.{Block, IsOut, IsWord, Named}
+use Rattle.orc_table.specs.Views.{FreshHeld, Keeps, PlainView, heap_of, view_of}
+use Rattle.orc_table.specs.Words.{Block, IsOut, Named}
 use Rattle.orc_table.specs.declared.machine.PlainOp.{PlainOp}
-use Rattle.orc_table.specs.declared.machine.PlainOp.TheVariants.{GateLook, GateTake, Fill, Read, LinkLoad, LinkCas, LinkStore}
+use Rattle.orc_table.specs.declared.machine.PlainOp.TheVariants.{GateLook, GateTake, Fill, Read}
 use Rattle.orc_table.specs.declared.machine.PlainStep.{PlainStep}
 use Rattle.orc_table.specs.declared.seed.PlainShape.{PlainShape}
 use Rattle.orc_table.proofs.Lists.{at_index, get_last, get_lt, index_at, index_grown, index_in, lt_get, some_one}
-use Rattle.orc_table.proofs.Ties.{Given, word_grown}
 use Rattle.orc_table.proofs.Steps.{Tied, heap_is}
-use Rattle.orc_table.proofs.Untouched.{Spares, spared_after}
-use Rattle.orc_table.proofs.Walks.{Walk, adds, given_later, given_more, heap_later, later_fresh, met, mid_fresh, own, rows_later, walk}
-use Rattle.orc_table.proofs.Licences.{Shows, link_given, link_grown, place_given, place_grown, row_given, shows}
+use Rattle.orc_table.proofs.Untouched.{spared_after}
+use Rattle.orc_table.proofs.Walks.{Walk, adds, given_later, given_more, heap_later, later_fresh, walk}
+use Rattle.orc_table.proofs.Licences.{row_given}
 
 -- the row stands in the list, or nowhere in it
 pub out_or_not : (g : List ℕ) (row : ℕ) → IsOut g row ⊎ ((id : ℕ) → slice_get g id ≢ Some row)
@@ -99,6 +95,7 @@ module _ {D N : Type 0} (d : discipline.Ghosts D N) (q : PlainShape N) (v w : Vi
       let same : x.agent ≡ c = some_one x.agent a (sym x.is ∙ h.is) ∙ sym e in
       record {
         is = x.same ∙ ap Some same;
+        number = subst (λ z. z < k.agents) (sym e) h.number;
         began = h.began;
         now = subst (LaterJournal plain_rules q holds may w.seen w) same x.now;
         untouched = subst (λ z. FreshHeld z (run k w.seen) fresh2) (sym e) held;
@@ -214,7 +211,7 @@ module _ {D N : Type 0} (d : discipline.Ghosts D N) (q : PlainShape N) (v w : Vi
   valued row zero y m b u is = b.first u is
   valued row (suc which) y m b u is = b.second u is
 
-  pub read_value : (row which n : ℕ) → KnowsRow k s row → Made (Read row which) None n → IsValue (heap_of k t) (index_of row g0) which n
+  pub read_value : (row which n : ℕ) → KnowsRow k s row → Made (Read row which) None n → ReadsValue (heap_of k t) (index_of row g0) which n
   read_value row which n knows x =
       let wk = walked (Read row which) None n x in
       let y : State = at_step wk in
@@ -229,5 +226,5 @@ module _ {D N : Type 0} (d : discipline.Ghosts D N) (q : PlainShape N) (v w : Vi
       let heap : y.heap ≡ heap_of k t = sym (heap_later k may v w a (Read row which) None n wk) ∙ sym heap_then in record {
         node = node.0;
         there = subst (λ (z : Heap × ℕ). slice_get z.0.nodes z.1 ≡ Some node.0) (λ i. (heap i, id i)) node.1;
-        filled = λ u is. wk.answers ∙ valued row which y node.0 block u is;
+        is = λ u is. wk.answers ∙ valued row which y node.0 block u is;
       }

@@ -3,19 +3,18 @@ use Rattle.std.proofs.Common.{◌≡◌, ◌≢◌, ℕ, zero, suc, ◌+◌, ◌
 use Rattle.std.proofs.lemmas.List.{length-replicate}
 use Rattle.std.specs.Option.{option_map}
 use Rattle.orc_words.specs.Bounds.{Bounds}
-use Rattle.orc_words.specs.Packed.{bit, name_word, link_word}
+use Rattle.orc_words.specs.Packed.{bit, name_word}
 use Rattle.orc_words.specs.Places.{places}
 use Rattle.orc_words.specs.declared.packed.TheConstants.{NEW_COUNTER}
-use Rattle.orc_words.specs.declared.packed.RowLink.{RowLink}
-use Rattle.orc_heap.specs.Acts.{IsKnown, IsTarget, with_value}
+use Rattle.orc_heap.specs.Acts.{IsTarget, with_value}
 use Rattle.orc_heap.specs.Heap.{Heap, Node, change, new_heap, new_node, null, shown}
 use Rattle.orc_heap.specs.declared.events.Link.{Link}
 use Rattle.orc_heap.specs.declared.events.Place.{Place}
 use Rattle.orc_heap.specs.declared.events.Place.TheVariants.{Root as AtRoot, Next}
 use Rattle.orc_heap.proofs.Changes.{get-change, get-grown}
-use Rattle.orc_table.specs.Machine.{index_of, id_by, link_by, new_words, numbers, with_counters}
+use Rattle.orc_table.specs.Machine.{index_of, id_by, new_words, numbers, with_counters}
 use Rattle.orc_table.specs.Words.{Block, IsFreeRow, IsWord, Named, Once, Tie}
-use Rattle.orc_table.proofs.Lists.{some_one, get_lt, lt_get, get_end, get_last, change_back, length_change, at_index, index_in, index_at, new_word, same_word}
+use Rattle.orc_table.proofs.Lists.{some_one, get_lt, lt_get, get_end, get_last, change_back, length_change, at_index, index_at, new_word, same_word}
 
 -- the place of a row's gate; its values stand two and three after it, its link four
 abbrev pub row_place : Bounds → ℕ → ℕ

@@ -1,8 +1,7 @@
 -- What stays true of nodes over events: what an agent may name it may name later, and its fresh node stays untouched.
-use Rattle.std.proofs.Common.{◌≡◌, ◌≢◌, ℕ, zero, suc, List, [], ◌∷◌, ◌++◌, Bool, true, false, Option, Some, None, slice_get, refl, sym, ap, ◌∙◌, subst, ◌⊎◌, inl, inr}
-use mathlib.Core.Logic.{dite}
-use native.Mathlib.Decide.{ℕ_discrete}
-use Rattle.orc_heap.specs.Acts.{Fits, IsFresh, IsKnown, IsTarget, as_linked, as_named, change_node, change_target, heap_after, with_link, with_value}
+use Rattle.std.proofs.Common.{◌≡◌, ◌≢◌, ℕ, zero, suc, List, [], ◌∷◌, Bool, true, false, Option, Some, None, slice_get, refl, sym, ap, ◌∙◌, subst, inl, inr}
+use Rattle.orc_heap.specs.Acts.{Fits, IsFresh, IsTarget, as_linked, as_named, change_node, change_target, heap_after, with_link, with_value}
+use Rattle.orc_heap.specs.Seats.{IsUntouched}
 use Rattle.orc_heap.specs.Heap.{Heap, Node, change}
 use Rattle.orc_heap.specs.Journals.{IsLawfulFrom, run_from as heap_from}
 use Rattle.orc_heap.specs.declared.events.Act.{Act}
@@ -10,9 +9,8 @@ use Rattle.orc_heap.specs.declared.events.Act.TheVariants.{Give, Fill, Aim, Look
 use Rattle.orc_heap.specs.declared.events.Event.{Event}
 use Rattle.orc_heap.specs.declared.events.Link.{Link}
 use Rattle.orc_heap.specs.declared.events.Place.TheVariants.{Root, Next}
-use Rattle.orc_heap.proofs.Changes.{get-change, get-change_same, get-grown}
+use Rattle.orc_heap.proofs.Changes.{get-change, get-grown}
 use Rattle.orc_shared_words.proofs.Events.{NoneBy}
-use Rattle.orc_table.specs.Views.{IsUntouched}
 
 -- the node stays, with its giver, and named if it was
 pub record Stays (nodes : List Node) (id : ℕ) (n : Node) : Type 0 where

@@ -1,14 +1,14 @@
 -- What a pass meets between two of its steps, and what its own step does.
-use Rattle.std.proofs.Common.{◌≡◌, ◌≢◌, ℕ, zero, suc, ◌+◌, ◌<◌, ◌==◌, List, [], ◌∷◌, ◌++◌, length, Bool, true, false, cond, if◌then◌else◌, Option, Some, None, refl, sym, ap, ◌∙◌, subst, append_assoc, append-nil, length-append, arith, eq-eqb, ne_eqb}
+use Rattle.std.proofs.Common.{◌≡◌, ◌≢◌, ℕ, ◌<◌, ◌==◌, List, [], ◌∷◌, ◌++◌, length, Bool, true, false, cond, if◌then◌else◌, Option, Some, None, refl, sym, ap, ◌∙◌, subst, append_assoc, append-nil, length-append, arith, ne_eqb}
 use mathlib.Core.Logic.{dite}
 use native.Mathlib.Decide.{ℕ_discrete}
 use Rattle.orc_words.specs.Bounds.{Bounds, bounds_of}
 use Rattle.orc_words.specs.Packed.{link_word}
 use Rattle.orc_words.specs.declared.packed.RowLink.{RowLink}
-use Rattle.orc_heap.specs.Acts.{IsTarget, heap_after}
-use Rattle.orc_heap.specs.Allowed.{AllAllowed, Later, events_by}
-use Rattle.orc_heap.specs.Heap.{Heap}
-use Rattle.orc_heap.specs.Journals.{FitsAfter, IsLawful, IsLawfulFrom, run_from as heap_from, run_heap}
+use Rattle.orc_heap.specs.Acts.{IsTarget}
+use Rattle.orc_heap.specs.Allowed.{AllAllowed, events_by}
+use Rattle.orc_heap.specs.Seats.{IsUntouched}
+use Rattle.orc_heap.specs.Journals.{IsLawfulFrom, run_from as heap_from, run_heap}
 use Rattle.orc_heap.specs.declared.discipline.Discipline as discipline
 use Rattle.orc_heap.specs.declared.events.Act.TheVariants as act
 use Rattle.orc_heap.specs.declared.events.Event.{Event}
@@ -23,9 +23,9 @@ use Rattle.orc_shared_words.specs.declared.journal.View.{View}
 use Rattle.orc_shared_words.proofs.Events.{AllBy, NoneBy}
 use Rattle.orc_shared_words.proofs.Runs.{by_other, by_own, cons_nil}
 use Rattle.orc_table.specs.Calls.{Adds}
-use Rattle.orc_table.specs.Machine.{State, AllowedFrom, answer, cas_event, event, events_at, events_of, finds, index_of, link_by, load_event, next, numbers, place_by, project, project_from, run, run_from, start, taken, tested}
-use Rattle.orc_table.specs.Rules.{opening_steps, plain_rules, project-append, step_of, steps-append}
-use Rattle.orc_table.specs.Views.{FreshHeld, IsUntouched, Keeps, PlainView, view_of}
+use Rattle.orc_table.specs.Machine.{State, AllowedFrom, answer, event, events_at, events_of, finds, index_of, link_by, load_event, next, numbers, place_by, project, project_from, run, run_from, start, taken, tested}
+use Rattle.orc_table.specs.Rules.{plain_rules, project-append, step_of, steps-append}
+use Rattle.orc_table.specs.Views.{FreshHeld, view_of}
 use Rattle.orc_table.specs.declared.machine.PlainOp.{PlainOp}
 use Rattle.orc_table.specs.declared.machine.PlainOp.TheVariants.{GateLook, GateTake, Fill, Read, LinkLoad, LinkCas, LinkStore}
 use Rattle.orc_table.specs.declared.machine.PlainStep.{PlainStep}

@@ -1,12 +1,12 @@
 -- What the calls ask, and what they tell, of what the pass shows before and after.
-use Rattle.std.specs.Prelude.{◌≡◌, ◌≢◌, ℕ, zero, suc, ◌<◌, ◌%◌, ◌==◌, cond, List, [], ◌∷◌, ◌++◌, length, Bool, Option, Some, None, slice_get, ◌⊎◌}
+use Rattle.std.specs.Prelude.{◌≡◌, ◌≢◌, ℕ, ◌<◌, ◌%◌, ◌==◌, cond, List, [], ◌∷◌, ◌++◌, Option, Some, None, ◌⊎◌}
 use Rattle.orc_words.specs.Bounds.{Bounds}
 use Rattle.orc_words.specs.declared.packed.RowLink.{RowLink}
 use Rattle.orc_words.specs.declared.place.Word.{Word}
 use Rattle.orc_words.specs.declared.place.Word.TheVariants.{Root, Next}
 use Rattle.orc_heap.specs.Acts.{IsKnown, IsTarget}
 use Rattle.orc_heap.specs.Allowed.{AllAllowed, AllowedLater, AllowedWhereFits, Later, events_by}
-use Rattle.orc_heap.specs.Heap.{Heap, Node, shown}
+use Rattle.orc_heap.specs.Heap.{shown}
 use Rattle.orc_heap.specs.Journals.{run_heap}
 use Rattle.orc_heap.specs.declared.events.Act.TheVariants as act
 use Rattle.orc_heap.specs.declared.events.Event.{Event}
@@ -30,16 +30,6 @@ seen_free row n = cond (n % 2 == 0) (Some row) None
 abbrev pub unless_linked : Option ℕ → Option ℕ → Option ℕ
 unless_linked (Some fresh) (Some row) = cond (fresh == row) None (Some fresh)
 unless_linked fresh to = fresh
-
-abbrev pub value_of : ℕ → Node → Option ℕ
-value_of zero n = n.first
-value_of (suc which) n = n.second
-
--- the number is the node's value, where that was filled
-pub record IsValue (h : Heap) (id which n : ℕ) : Type 0 where
-  pub node : Node
-  pub there : slice_get h.nodes id ≡ Some node
-  pub filled : (v : ℕ) → value_of which node ≡ Some v → n ≡ v
 
 module _ {N : Type 0} where
   -- the agent knows the row's node
@@ -162,8 +152,3 @@ module _ {N : Type 0} where
     pub rows : Begins t.rows s.rows
     pub own : events_by s.agent t.events ≡ events_by s.agent s.events
     pub taken : events_by u.agent t.events ≡ events_by u.agent u.events
-
-  -- each event is of one of the first n agents
-  abbrev pub EventsBelow : ℕ → List (Event N) → Type 0
-  EventsBelow n [] = Unit {0}
-  EventsBelow n (e ∷ es) = (e.agent < n) × EventsBelow n es

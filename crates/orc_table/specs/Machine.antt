@@ -1,10 +1,10 @@
 -- The machine of gates, values and links: its words, its steps, and the heap that the steps' events make. A row's
 -- gate is taken once, and the row is a node from then on. After Michael and Scott 1996 and Harris 2001.
-use Rattle.std.specs.Prelude.{◌≡◌, ℕ, zero, suc, ◌+◌, ◌*◌, ◌<◌, ◌==◌, List, [], ◌∷◌, ◌++◌, length, Bool, true, false, replicate, Option, Some, None, if◌then◌else◌, slice_index, slice_set}
+use Rattle.std.specs.Prelude.{ℕ, zero, suc, ◌<◌, ◌==◌, List, [], ◌∷◌, ◌++◌, length, Bool, true, false, replicate, Option, Some, None, if◌then◌else◌, slice_index, slice_set}
 use prog.Atomic.{either}
-use Rattle.orc_words.specs.Bounds.{Bounds, bounds_of}
+use Rattle.orc_words.specs.Bounds.{Bounds}
 use Rattle.orc_words.specs.Packed.{link_word}
-use Rattle.orc_words.specs.Places.{IsWithin, place, places}
+use Rattle.orc_words.specs.Places.{place, places}
 use Rattle.orc_words.specs.declared.packed.RowLink.{RowLink}
 use Rattle.orc_words.specs.declared.packed.TheConstants.{NEW_COUNTER}
 use Rattle.orc_words.specs.declared.place.Word.{Word}

@@ -1,9 +1,8 @@
 -- The journals of the machine: how they begin, and what one more step does.
-use Rattle.std.specs.Prelude.{false, ◌≡◌, ℕ, zero, suc, ◌<◌, ◌≤◌, ◌^◌, List, [], ◌∷◌, ◌++◌, Option, Some, None, slice_index, refl}
+use Rattle.std.specs.Prelude.{false, ◌≡◌, ℕ, ◌≤◌, ◌^◌, List, [], ◌∷◌, ◌++◌, Option, Some, None, refl}
 use Rattle.std.proofs.Common.{sym, ap, ◌∙◌, append_assoc, append-nil}
 use Rattle.orc_words.specs.Bounds.{Bounds, bounds_of}
 use Rattle.orc_words.specs.Places.{place}
-use Rattle.orc_words.specs.declared.packed.RowLink.{RowLink}
 use Rattle.orc_words.specs.declared.place.Word.TheVariants as word
 use Rattle.orc_heap.specs.Heap.{HeapNumbers, null}
 use Rattle.orc_heap.specs.declared.events.Act.TheVariants as act

@@ -1,8 +1,9 @@
 -- What a pass shows, and what is true of it between calls.
-use Rattle.std.specs.Prelude.{[], ◌≡◌, ℕ, ◌<◌, List, length, Bool, false, Option, Some, None, slice_get, slice_index_or}
+use Rattle.std.specs.Prelude.{[], ◌≡◌, ℕ, ◌<◌, List, length, Option, Some, None, slice_index_or}
 use Rattle.orc_words.specs.Bounds.{Bounds, bounds_of}
-use Rattle.orc_heap.specs.Heap.{Heap, HeapNumbers, Node}
+use Rattle.orc_heap.specs.Heap.{Heap, HeapNumbers}
 use Rattle.orc_heap.specs.Journals.{run_heap}
+use Rattle.orc_heap.specs.Seats.{IsUntouched}
 use Rattle.orc_heap.specs.declared.discipline.Discipline as discipline
 use Rattle.orc_heap.specs.declared.events.Event.{Event}
 use Rattle.orc_shared_words.specs.Steps.{LaterJournal}
@@ -42,14 +43,6 @@ view_of b agent v fresh looked = record {
 abbrev pub heap_of : {N : Type 0} → Bounds → PlainView N → Heap
 heap_of b s = run_heap (numbers b) s.events
 
--- a node of the agent, to which no Aim and no Move made a link
-pub record IsUntouched (agent : ℕ) (h : Heap) (id : ℕ) : Type 0 where
-  pub node : Node
-  pub there : slice_get h.nodes id ≡ Some node
-  pub mine : node.giver ≡ agent
-  pub unnamed : node.named ≡ false
-  pub unlinked : node.linked ≡ false
-
 -- the fresh row, if there is one, was given, and its node is untouched
 abbrev pub FreshHeld : ℕ → State → Option ℕ → Type 0
 FreshHeld a x None = Unit {0}
@@ -58,6 +51,7 @@ FreshHeld a x (Some row) = (index_of row x.given < length x.given) × IsUntouche
 -- what is true of a pass between calls
 pub record Keeps {N : Type 0} (k : PlainShape N) (holds : List (Event N) → Type 0) (may : List (Event N) → Event N → Type 0) (v : View (PlainStep N) (Unit {0})) (a : ℕ) (fresh : Option ℕ) : Type 0 where
   pub is : v.agent ≡ Some a
+  pub number : a < (bounds_of k.shape).agents
   pub began : holds []
   pub now : LaterJournal plain_rules k holds may v.seen v a
   pub untouched : FreshHeld a (run (bounds_of k.shape) v.seen) fresh
@@ -86,15 +80,15 @@ pub record IsFreshRow {N : Type 0} (b : Bounds) (s : PlainView N) (row : ℕ) : 
   pub untouched : IsUntouched s.agent (heap_of b s) (index_of row s.rows)
 
 module _ {D N : Type 0} {d : discipline.Ghosts D N} {m : machine.Ghosts Plain N (PlainShape N) PlainOp (PlainStep N) (Unit {0}) (Unit {0})} where
+  -- what the pass shows, by the sizes of its board
+  abbrev pub shows_by : Bounds → PlainPass D N (PlainShape N) PlainOp (PlainStep N) (Unit {0}) (Unit {0}) d m → PlainView N
+  shows_by b p = view_of b p.pass.agent p.pass.seat.me.0 p.fresh p.looked
+
   -- what the pass shows
   abbrev pub shows : PlainBoard D N → PlainPass D N (PlainShape N) PlainOp (PlainStep N) (Unit {0}) (Unit {0}) d m → PlainView N
-  shows board p = view_of (board_bounds board) p.pass.agent p.pass.seat.me.0 p.fresh p.looked
+  shows board p = shows_by (board_bounds board) p
 
   -- the pass is one of the board's
   pub record Belongs (board : PlainBoard D N) (p : PlainPass D N (PlainShape N) PlainOp (PlainStep N) (Unit {0}) (Unit {0}) d m) : Type 0 where
     pub table : p.pass.seat.table_id ≡ board.words.table.shared.table_id
     pub keeps : Keeps board.words.shape (d.holds (board_numbers board)) (d.may (board_numbers board)) p.pass.seat.me.0 p.pass.agent p.fresh
-
-  -- what the pass shows, by the sizes of its board
-  abbrev pub shows_by : Bounds → PlainPass D N (PlainShape N) PlainOp (PlainStep N) (Unit {0}) (Unit {0}) d m → PlainView N
-  shows_by b p = view_of b p.pass.agent p.pass.seat.me.0 p.fresh p.looked

@@ -1,9 +1,8 @@
 -- How words show links, gates and values.
-use Rattle.std.specs.Prelude.{◌≡◌, ◌≢◌, ℕ, zero, suc, ◌+◌, ◌*◌, ◌<◌, List, length, Bool, true, Option, Some, None, slice_get, slice_index}
+use Rattle.std.specs.Prelude.{◌≡◌, ◌≢◌, ℕ, ◌+◌, ◌*◌, ◌<◌, List, length, Bool, true, Option, Some, None, slice_get, slice_index}
 use Rattle.orc_words.specs.Bounds.{Bounds}
 use Rattle.orc_words.specs.Packed.{bit}
 use Rattle.orc_words.specs.Places.{place, places}
-use Rattle.orc_words.specs.declared.place.Word.{Word}
 use Rattle.orc_words.specs.declared.place.Word.TheVariants.{Root, Gate, First, Second, Next}
 use Rattle.orc_heap.specs.Heap.{Heap, Node, shown}
 use Rattle.orc_heap.specs.declared.events.Link.{Link}

@@ -4,10 +4,11 @@ ghost use Rattle.std.specs.Prelude.{◌≡◌, ◌<◌, ◌++◌, ◌⊎◌, ℕ
 ghost use Rattle.orc_words.specs.Bounds.{Bounds};
 ghost use Rattle.orc_heap.specs.Allowed.{AllAllowed};
 ghost use Rattle.orc_heap.specs.Heap.{HeapNumbers};
+ghost use Rattle.orc_heap.specs.Parts.{IsBelow};
 ghost use Rattle.orc_heap.specs.Journals.{IsLawful, run_heap};
 ghost use Rattle.orc_heap.specs.declared.events.Event.{Event};
 ghost use Rattle.orc_shared_words.specs.Lists.{Among, Begins};
-ghost use Rattle.orc_table.specs.Calls.{Adds, EventsBelow};
+ghost use Rattle.orc_table.specs.Calls.{Adds};
 ghost use Rattle.orc_table.specs.Machine.{AllowedFrom, index_of, numbers, project, run};
 ghost use Rattle.orc_table.specs.Rules.{opening_events};
 ghost use Rattle.orc_table.specs.Views.{Belongs, IsFreshRow, PlainView, board_bounds, board_numbers, board_seed, heap_of, shows};
@@ -33,7 +34,7 @@ pub fn rows_keep_their_nodes()
 /// A call of a pass that took in the passes of all other agents adds its own events alone.
 pub fn a_pass_that_took_in_all_is_alone<D: Discipline>()
     ensures { (n : HeapNumbers) (agents : ℕ) (own : List (Event D.Note)) (s t : PlainView D.Note)
-        → Adds (D.may n) own s t → EventsBelow agents t.events
+        → Adds (D.may n) own s t → IsBelow agents t.events
         → ((agent : ℕ) → agent < agents → (s.agent ≡ agent) ⊎ Among agent s.absorbed) → t.events ≡ s.events ++ own }
 {}
 
@@ -45,7 +46,8 @@ impl<D: Discipline> PlainBoard<D> {
         ensures kept { D.holds (board_numbers self.now) (shows self.now p.now).events }
         ensures each { AllAllowed (D.may (board_numbers self.now)) [] (shows self.now p.now).events }
         ensures opened { Begins (shows self.now p.now).events (opening_events (board_seed self.now)) }
-        ensures below { EventsBelow (board_bounds self.now).agents (shows self.now p.now).events }
+        ensures agent { (shows self.now p.now).agent < (board_bounds self.now).agents }
+        ensures below { IsBelow (board_bounds self.now).agents (shows self.now p.now).events }
         ensures even { length (shows self.now p.now).rows ≡ length (heap_of (board_bounds self.now) (shows self.now p.now)).nodes }
         ensures once { Once (shows self.now p.now).rows }
         ensures inside { (id row : ℕ) → slice_get (shows self.now p.now).rows id ≡ Some row → row < (board_bounds self.now).rows }

@@ -72,7 +72,8 @@ fn new_words(alloc: Global, shape: &Shape) -> Result<Vec<u64>, NoMemory>
     ensures words { IfOk result (λ words. words.items ≡ new_words (bounds_of shape.now)) }
     ensures long { IfOk result (λ words. length words.items ≡ places (bounds_of shape.now)) }
 {
-    let count = 1 + shape.roots() as usize
+    let count = 1
+        + shape.roots() as usize
         + 5 * shape.rows() as usize
         + 16 * shape.agents() as usize;
     let mut words = vec![in alloc; 0u64; count].map_err(|_| NoMemory)?;

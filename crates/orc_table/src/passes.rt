@@ -1,29 +1,38 @@
 //! What passes tell, learn from each other and give up.
 
 ghost use Rattle.std.specs.Prelude.{◌≡◌, None, Some};
+ghost use Rattle.orc_words.specs.Bounds.{Bounds, bounds_of};
 ghost use Rattle.orc_table.specs.Calls.{Absorbs, Learns};
-ghost use Rattle.orc_table.specs.Views.{Belongs, shows};
+ghost use Rattle.orc_table.specs.Views.{Belongs, board_bounds, shows, shows_by};
 
 use crate::pass::{PlainBoard, PlainPass};
 use orc_heap::Discipline;
+use orc_words::Shape;
 
 impl<D: Discipline> PlainPass<D> {
     /// The number of the pass's agent.
     pub fn agent(&self) -> u32
-        ensures { result ≡ self.now.pass.agent }
+        ensures { (b : Bounds) → result ≡ (shows_by b self.now).agent }
     {
         self.pass.agent
     }
 
     /// The row that the pass was given last, unless it was linked or given up.
     pub fn fresh(&self) -> Option<u32>
-        ensures { result ≡ self.now.fresh }
+        ensures { (b : Bounds) → result ≡ (shows_by b self.now).fresh }
     {
         self.fresh
     }
 }
 
 impl<D: Discipline> PlainBoard<D> {
+    /// The sizes that the board was made with.
+    pub fn shape(&self) -> Shape
+        ensures { bounds_of result ≡ board_bounds self.now }
+    {
+        self.words.shape.shape
+    }
+
     /// The row is the pass's fresh row no more. It is never given again.
     pub fn give_up(&self, p: &mut PlainPass<D>, row: u32)
         requires belongs { Belongs self.now p.old }

@@ -2,7 +2,8 @@
 
 ghost use Rattle.std.specs.Prelude.{◌≡◌, ◌<◌, ◌≤◌, [], ◌∷◌, None, Some};
 ghost use Rattle.orc_heap.specs.declared.events.Act.TheVariants.{Fill};
-ghost use Rattle.orc_table.specs.Calls.{Adds, Gives, IsGateWord, IsValue, KnowsRow, Loses, seen_free};
+ghost use Rattle.orc_heap.specs.Calls.{ReadsValue};
+ghost use Rattle.orc_table.specs.Calls.{Adds, Gives, IsGateWord, KnowsRow, Loses, seen_free};
 ghost use Rattle.orc_table.specs.Machine.{event, index_of};
 ghost use Rattle.orc_table.specs.Views.{Belongs, board_bounds, board_numbers, heap_of, shows};
 
@@ -68,7 +69,7 @@ impl<D: Discipline> PlainBoard<D> {
         requires row { KnowsRow (board_bounds self.now) (shows self.now p.old) row }
         requires which { which < 2 }
         ensures belongs { Belongs self.now p.new }
-        ensures value { IsValue (heap_of (board_bounds self.now) (shows self.now p.new)) (index_of row (shows self.now p.old).rows) which result }
+        ensures value { ReadsValue (heap_of (board_bounds self.now) (shows self.now p.new)) (index_of row (shows self.now p.old).rows) which result }
         ensures adds { Adds (D.may (board_numbers self.now)) [] (shows self.now p.old) (shows self.now p.new) }
         ensures looked { (shows self.now p.new).looked ≡ (shows self.now p.old).looked }
         ensures fresh { (shows self.now p.new).fresh ≡ (shows self.now p.old).fresh }

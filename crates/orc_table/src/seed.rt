@@ -8,10 +8,7 @@ pub enum Seed<N> {
     /// None: all roots are null.
     Empty,
     /// One node, with the values 0 and `first`, to which roots 0 and 1 link. `begin` is the note of these two links.
-    Dummy {
-        first: u64,
-        begin: N,
-    },
+    Dummy { first: u64, begin: N },
 }
 
 /// The sizes of a board, and what it begins with.

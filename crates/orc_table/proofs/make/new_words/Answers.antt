@@ -1,4 +1,4 @@
-use Rattle.std.proofs.Common.{◌≡◌, ◌∙◌, ap, length}
+use Rattle.std.proofs.Common.{◌∙◌, ap, length}
 use Rattle.orc_words.specs.Bounds.{bounds_of}
 use Rattle.orc_table.proofs.Ties.{counted_long}
 use Rattle.orc_table.proofs.make.new_words.Goals as goal

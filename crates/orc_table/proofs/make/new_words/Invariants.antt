@@ -1,4 +1,4 @@
-use Rattle.std.proofs.Common.{replicate, ◌≡◌, ◌<◌, ◌≤◌, ℕ, ◌+◌, ◌*◌, length}
+use Rattle.std.proofs.Common.{replicate, ◌≡◌}
 use Rattle.orc_words.specs.Bounds.{bounds_of}
 use Rattle.orc_words.specs.Places.{places}
 use Rattle.orc_table.specs.Machine.{with_counters}

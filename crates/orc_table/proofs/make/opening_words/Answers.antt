@@ -1,4 +1,4 @@
-use Rattle.std.proofs.Common.{◌≡◌, ◌∙◌, ◌<◌, ap, arith, subst, sym}
+use Rattle.std.proofs.Common.{◌∙◌, ap, arith, subst, sym}
 use Rattle.orc_words.specs.Bounds.{bounds_of}
 use Rattle.orc_table.specs.Machine.{run}
 use Rattle.orc_table.specs.Rules.{HasRoots, opening_steps}

@@ -7,7 +7,8 @@ use Rattle.orc_shared_words.proofs.shared_words.SharedWords.make.Goals as goal
 pub start-requires-clause-own : goal.start-requires-clause-own
 start-requires-clause-own g c =
     let r = g.M.Machine.rules in
-    first_placed (λ i o. g.M.Machine.shows o ≡ r.own c.args.shape (r.opening c.args.shape) i) c.in-Some.own c.next.new.self.rest.items c.args.owns.items (sym c.into_iter-owns.ensures.rest ∙ c.in-Some.ensures.items) 0 (from_start (λ i o. g.M.Machine.shows o ≡ r.own c.args.shape (r.opening c.args.shape) i) c.args.owns.items c.requires.owns)
+    let all : c.args.owns.items ≡ c.in-Some.own ∷ c.next.new.self.rest.items = sym c.into_iter-owns.ensures.rest ∙ c.in-Some.ensures.items in
+    first_placed (λ i o. g.M.Machine.shows o ≡ r.own c.args.shape (r.opening c.args.shape) i) c.in-Some.own c.next.new.self.rest.items c.args.owns.items all 0 (from_start (λ i o. g.M.Machine.shows o ≡ r.own c.args.shape (r.opening c.args.shape) i) c.args.owns.items c.requires.owns)
 
 pub loop-own-init : goal.loop-own-init
 loop-own-init g c =

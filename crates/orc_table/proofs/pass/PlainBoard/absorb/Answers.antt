@@ -1,4 +1,4 @@
-use Rattle.std.proofs.Common.{◌≡◌, ◌∙◌, refl}
+use Rattle.std.proofs.Common.{◌∙◌, refl}
 use Rattle.orc_table.proofs.Learning.{absorb_keeps, absorbs}
 use Rattle.orc_table.proofs.pass.PlainBoard.absorb.Goals as goal
 

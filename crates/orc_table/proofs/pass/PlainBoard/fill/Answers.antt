@@ -1,4 +1,4 @@
-use Rattle.std.proofs.Common.{rules, ◌≡◌, ◌≢◌, ◌∙◌, sym, ap, subst, refl, [], ◌∷◌, None, Some}
+use Rattle.std.proofs.Common.{◌∙◌}
 use Rattle.orc_table.proofs.Tells.{fill_adds, fill_keeps}
 use Rattle.orc_table.proofs.Licences.{fill_licence}
 use Rattle.orc_table.proofs.pass.PlainBoard.fill.Goals as goal

@@ -1,4 +1,4 @@
-use Rattle.std.proofs.Common.{rules, ◌≡◌, ◌≢◌, ◌∙◌, sym, ap, subst, refl, [], ◌∷◌, None, Some}
+use Rattle.std.proofs.Common.{◌∙◌}
 use Rattle.orc_table.proofs.Tells.{look_adds, look_gate, look_keeps}
 use Rattle.orc_table.proofs.pass.PlainBoard.gate_look.Goals as goal
 

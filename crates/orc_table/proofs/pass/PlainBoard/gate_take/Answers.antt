@@ -1,4 +1,4 @@
-use Rattle.std.proofs.Common.{rules, ◌≡◌, ◌≢◌, ◌∙◌, sym, ap, subst, refl, [], ◌∷◌, None, Some}
+use Rattle.std.proofs.Common.{◌∙◌, refl, None, Some}
 use Rattle.orc_table.proofs.Tells.{lost_keeps, take_gives, take_keeps, take_loses}
 use Rattle.orc_table.proofs.pass.PlainBoard.gate_take.Goals as goal
 

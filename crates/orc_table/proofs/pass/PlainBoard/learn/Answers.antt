@@ -1,4 +1,4 @@
-use Rattle.std.proofs.Common.{◌≡◌, ◌∙◌, refl}
+use Rattle.std.proofs.Common.{◌∙◌, refl}
 use Rattle.orc_table.proofs.Learning.{from_keeps, into_keeps, learns}
 use Rattle.orc_table.proofs.pass.PlainBoard.learn.Goals as goal
 

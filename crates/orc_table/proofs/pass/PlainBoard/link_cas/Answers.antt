@@ -1,4 +1,4 @@
-use Rattle.std.proofs.Common.{true, false, eq-eqb, ne_eqb, rules, ◌≡◌, ◌≢◌, ◌∙◌, sym, ap, subst, refl, [], ◌∷◌, None, Some}
+use Rattle.std.proofs.Common.{true, false, eq-eqb, ne_eqb, ◌∙◌, sym, ap}
 use Rattle.orc_words.specs.Packed.{link_word}
 use Rattle.orc_table.specs.Calls.{unless_linked}
 use Rattle.orc_table.proofs.LinkTells.{cas_fails, cas_keeps, cas_moves}

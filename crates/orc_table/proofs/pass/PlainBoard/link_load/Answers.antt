@@ -1,4 +1,4 @@
-use Rattle.std.proofs.Common.{rules, ◌≡◌, ◌≢◌, ◌∙◌, sym, ap, subst, refl, [], ◌∷◌, None, Some}
+use Rattle.std.proofs.Common.{◌∙◌}
 use Rattle.orc_table.proofs.LinkTells.{any_finds, any_keeps, any_meets, any_misses}
 use Rattle.orc_table.proofs.Licences.{load_licence, place_inside}
 use Rattle.orc_table.proofs.pass.PlainBoard.link_load.Goals as goal

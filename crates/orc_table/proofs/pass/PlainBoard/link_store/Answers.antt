@@ -1,4 +1,4 @@
-use Rattle.std.proofs.Common.{rules, ◌≡◌, ◌≢◌, ◌∙◌, sym, ap, subst, refl, [], ◌∷◌, None, Some}
+use Rattle.std.proofs.Common.{◌∙◌}
 use Rattle.orc_table.proofs.LinkTells.{store_keeps, store_replaces}
 use Rattle.orc_table.proofs.Licences.{store_licence}
 use Rattle.orc_table.proofs.pass.PlainBoard.link_store.Goals as goal

@@ -1,8 +1,7 @@
-use Rattle.std.proofs.Common.{slice_index_or, rules, ◌≡◌, ◌<◌, [], All, IfOk, None, length, ℕ, ◌+◌, sym, ap, subst, ◌∙◌, arith}
+use Rattle.std.proofs.Common.{slice_index_or, ◌<◌, length, sym, ap, subst, ◌∙◌, arith}
 use Rattle.orc_words.specs.Bounds.{bounds_of}
 use Rattle.orc_words.specs.Places.{places}
 use Rattle.orc_table.specs.Machine.{numbers, project}
-use Rattle.orc_table.specs.declared.seed.PlainShape.{PlainShape}
 use Rattle.orc_table.proofs.Making.{new_keeps}
 use Rattle.orc_table.proofs.Opening.{has_roots, opened_events, opens}
 use Rattle.orc_table.proofs.pass.PlainBoard.make.Goals as goal
@@ -38,9 +37,12 @@ returns-clause-belongs g c = λ i p lt.
     let d = g.D.Discipline in
     let seen = ap (λ z. z.seat.me.0.seen) e ∙ (c.in_ok-words-2.ensures.seen i p.pass lt2).0 in
     let x = slice_index_or c.in_ok-passes.passes.items i p in
+    let agent = ap (λ z. z.agent) e ∙ c.in_ok-words-2.ensures.agents i p.pass lt2 in
+    let count = c.in_ok-words-2.ensures.passes in
+    let below : x.pass.agent < (bounds_of c.args.shape.now).agents = omega (arith, agent, count, lt2) in
     record {
       table = ap (λ z. z.seat.table_id) e ∙ c.in_ok-words-2.ensures.table i p.pass lt2;
-      keeps = new_keeps d (record { shape = c.args.shape.now; seed = c.args.seed }) c.in_ok-words-2.words.shape c.in_ok-words-2.ensures.shape (opens d c.args.shape.now c.args.seed c.requires.holds c.requires.seed) c.requires.holds x.pass.seat.me.0 x.pass.agent x.pass.named seen x.fresh (c.in_ok-passes.ensures.fresh i p lt);
+      keeps = new_keeps d (record { shape = c.args.shape.now; seed = c.args.seed }) c.in_ok-words-2.words.shape c.in_ok-words-2.ensures.shape (opens d c.args.shape.now c.args.seed c.requires.holds c.requires.seed) c.requires.holds x.pass.seat.me.0 x.pass.agent x.pass.named below seen x.fresh (c.in_ok-passes.ensures.fresh i p lt);
     }
 
 pub returns-clause-events : goal.returns-clause-events

@@ -1,4 +1,4 @@
-use Rattle.std.proofs.Common.{rules, ◌≡◌, ◌≢◌, ◌∙◌, sym, ap, subst, refl, [], ◌∷◌, None, Some}
+use Rattle.std.proofs.Common.{◌∙◌}
 use Rattle.orc_table.proofs.Tells.{read_adds, read_keeps, read_value}
 use Rattle.orc_table.proofs.Licences.{row_inside}
 use Rattle.orc_table.proofs.pass.PlainBoard.read.Goals as goal

@@ -21,3 +21,6 @@ returns-clause-inside g c = (ties g.D.Discipline c.args.self.now.words.shape c.a
 
 pub returns-clause-fresh : goal.returns-clause-fresh
 returns-clause-fresh g c = fresh_row g.D.Discipline c.args.self.now.words.shape c.args.p.now.pass.seat.me.0 c.args.p.now.pass.agent c.args.p.now.fresh c.args.p.now.looked c.requires.belongs.keeps
+
+pub returns-clause-agent : goal.returns-clause-agent
+returns-clause-agent g c = c.requires.belongs.keeps.number

@@ -1,0 +1,27 @@
+//! Worked examples of the definitions, computed by hand and proved.
+
+ghost use Rattle.orc_shared_words.specs.Lists.{Begins, Each, EachAt, IsLonger};
+ghost use Rattle.orc_shared_words.specs.Runs.{AgentsBelow, steps_by};
+ghost use Rattle.orc_shared_words.specs.Ticks.{counts, looks, tick_rules};
+ghost use Rattle.orc_shared_words.specs.declared.journal.Step.{Step};
+ghost use Rattle.std.specs.Prelude.{◌≡◌, ◌+◌, ◌<◌, ◌∷◌, [], Bool, List, None, Some, false, true, ℕ};
+
+use orc_heap::Act;
+
+/// Agent 0 counts, agent 1 counts with the note 7, and agent 0 looks.
+fn two_counts_and_a_look()
+    ensures words { (tick_rules {N = ℕ}).words 2 (counts 0 None ∷ counts 1 (Some 7) ∷ looks 0 ∷ []) ≡ 2 ∷ [] }
+    ensures found_by_0 { (tick_rules {N = ℕ}).own 2 (counts 0 None ∷ counts 1 (Some 7) ∷ looks 0 ∷ []) 0 ≡ 2 }
+    ensures found_by_1 { (tick_rules {N = ℕ}).own 2 (counts 0 None ∷ counts 1 (Some 7) ∷ looks 0 ∷ []) 1 ≡ 1 }
+    ensures steps_of_1 { steps_by (λ (s : Step Bool ℕ). s.agent) 1 (counts 0 None ∷ counts 1 (Some 7) ∷ looks 0 ∷ []) ≡ counts 1 (Some 7) ∷ [] }
+    ensures events { (tick_rules {N = ℕ}).project 2 (counts 0 None ∷ counts 1 (Some 7) ∷ looks 0 ∷ []) ≡ record { agent = 0; act = Act.Give; note = None } ∷ record { agent = 1; act = Act.Give; note = Some 7 } ∷ [] }
+{}
+
+/// Fronts and members of short lists.
+fn lists()
+    ensures begins { Begins {A = ℕ} (4 ∷ 5 ∷ 6 ∷ []) (4 ∷ []) }
+    ensures longer { IsLonger {A = ℕ} (4 ∷ []) (4 ∷ 5 ∷ []) (4 ∷ 5 ∷ []) }
+    ensures each_of_one { Each (λ (n : ℕ). n < 5) (4 ∷ []) }
+    ensures each_at { EachAt (λ i (n : ℕ). n ≡ i + 4) (4 ∷ 5 ∷ []) }
+    ensures agents { AgentsBelow (λ (n : ℕ). n) 3 (2 ∷ 0 ∷ []) }
+{}
