@@ -1,8 +1,7 @@
 -- Values that are filled and read.
 use Rattle.std.proofs.Common.{◌≡◌, ℕ, zero, suc, ◌<◌, List, [], ◌∷◌, length, Option, Some, None, slice_get, refl, sym, ap, ◌∙◌, subst}
 use Rattle.orc_words.specs.Bounds.{Bounds}
-use Rattle.orc_heap.specs.Calls.{ReadsValue, event_of, value_of as heap_value}
-use Rattle.orc_heap.specs.Heap.{Node}
+use Rattle.orc_heap.specs.Calls.{ReadsValue, event_of}
 use Rattle.orc_heap.specs.Journals.{run_heap}
 use Rattle.orc_heap.specs.Parts.{Only}
 use Rattle.orc_heap.specs.Seats.{HoldsFresh}
@@ -11,7 +10,7 @@ use Rattle.orc_heap.specs.declared.discipline.Discipline as discipline
 use Rattle.orc_heap.specs.declared.events.Act.TheVariants.{Fill}
 use Rattle.orc_heap.specs.declared.events.Event.{Event}
 use Rattle.orc_shared_words.specs.declared.machine.Machine as machine
-use Rattle.orc_table.specs.Calls.{Adds, IsValue, value_of}
+use Rattle.orc_table.specs.Calls.{Adds}
 use Rattle.orc_table.specs.Machine.{event, index_of}
 use Rattle.orc_table.specs.Views.{Belongs, PlainView, heap_of, shows}
 use Rattle.orc_table.specs.declared.machine.Plain.{Plain}
@@ -25,10 +24,6 @@ use Rattle.orc_domain.specs.declared.domain.PlainDomain.{PlainDomain}
 use Rattle.orc_domain.specs.declared.domain.PlainPass.{PlainPass}
 use Rattle.orc_domain.proofs.Growing.{mine, only_adds}
 use Rattle.orc_domain.proofs.Naming.{hold_fresh, hold_in}
-
-same_value : (which : ℕ) (n : Node) → value_of which n ≡ heap_value which n
-same_value zero n = refl
-same_value (suc which) n = refl
 
 module _ {D N : Type 0} {d : discipline.Ghosts D N} {m : machine.Ghosts Plain N (PlainShape N) PlainOp (PlainStep N) (Unit {0}) (Unit {0})}
     (domain : PlainDomain D N) (p : PlainPass D N (PlainShape N) PlainOp (PlainStep N) (Unit {0}) (Unit {0}) d m) (h : IsPassOf domain p)
@@ -56,8 +51,6 @@ module _ {D N : Type 0} {d : discipline.Ghosts D N} {m : machine.Ghosts Plain N 
       subst (λ id. Only (event s.agent (Fill id which value) None ∷ []) (seat_of domain p) (seat_by t p.slots)) (ap (λ r. index_of r s.rows) same ∙ sym (hold_in domain p h hold e.held).1)
       (only_adds domain p h q x (event s.agent (Fill (index_of row s.rows) which value) None ∷ []) a (mine s.agent (Fill (index_of row s.rows) which value) None) f)
 
-  pub reads : (which value : ℕ) → Holds (seat_of domain p).slots hold → IsValue (heap_of b t) (index_of row s.rows) which value
+  pub reads : (which value : ℕ) → Holds (seat_of domain p).slots hold → ReadsValue (heap_of b t) (index_of row s.rows) which value
       → ReadsValue (run_heap (domain_numbers domain) t.events) (id_in (seat_of domain p).slots hold) which value
-  reads which value e v =
-      subst (λ id. ReadsValue (heap_of b t) id which value) (ap (λ r. index_of r s.rows) same ∙ sym (hold_in domain p h hold e).1)
-      (record { node = v.node; there = v.there; is = λ filled f. v.filled filled (same_value which v.node ∙ f) })
+  reads which value e v = subst (λ id. ReadsValue (heap_of b t) id which value) (ap (λ r. index_of r s.rows) same ∙ sym (hold_in domain p h hold e).1) v

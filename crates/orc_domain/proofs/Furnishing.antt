@@ -124,5 +124,5 @@ module _ {D N : Type 0} {d : discipline.Ghosts D N} {m : machine.Ghosts Plain N 
   still_furnished slot next inside = record {
     board = z;
     shape = h.shape;
-    keeps = keeps_set b (domain_opening domain) u p.slots p.next next slot (Some row) (λ x e. subst (λ v. KnowsRow b u v) (some_one row x e) known) inside (keeps_stay b (domain_opening domain) s u p.slots p.next both (held_given domain p h) h.keeps);
+    keeps = keeps_set b u p.slots p.next next slot (Some row) (λ x e. subst (λ v. KnowsRow b u v) (some_one row x e) known) inside (keeps_stay b s u p.slots p.next both (held_given domain p h) h.keeps);
   }

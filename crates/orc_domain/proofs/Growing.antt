@@ -72,10 +72,8 @@ module _ {N : Type 0} where
   pub fresh_stays : (b : Bounds) (s t : PlainView N) (fresh : Option ℕ) → Grows b s t → Given s.rows fresh → id_by t.rows fresh ≡ id_by s.rows fresh
   fresh_stays b s t fresh g l = ap (λ rows. id_by rows fresh) g.rows.1 ∙ id_grows s.rows g.rows.0 fresh l
 
-  pub keeps_stay : (b : Bounds) (o : List (Event N)) (s t : PlainView N) (slots : List (Option ℕ)) (next : ℕ) → Grows b s t → AllGiven s.rows slots → Keeps b o s slots next → Keeps b o t slots next
-  keeps_stay b o s t slots next g l k = record {
-    agent = subst (λ a. a < b.agents) (sym g.agent) k.agent;
-    opened = (k.opened.0 ++ g.events.0, sym (append_assoc o k.opened.0 g.events.0) ∙ (ap (λ z. z ++ g.events.0) k.opened.1 ∙ sym g.events.1));
+  pub keeps_stay : (b : Bounds) (s t : PlainView N) (slots : List (Option ℕ)) (next : ℕ) → Grows b s t → AllGiven s.rows slots → Keeps b s slots next → Keeps b t slots next
+  keeps_stay b s t slots next g l k = record {
     eight = k.eight;
     known = λ slot row e. subst (λ (z : ℕ × ℕ). IsKnown z.0 (heap_of b t) z.1) (λ i. (sym g.agent i, sym (index_stays b s t row g (l slot row e)) i)) (g.known (index_of row s.rows) (k.known slot row e));
     inside = k.inside;
@@ -125,7 +123,7 @@ module _ {D N : Type 0} {d : discipline.Ghosts D N} {m : machine.Ghosts Plain N 
 
     -- the pass, with the board's pass after a call
     pub still_of : Grows b s t → IsPassOf domain (record { pass = q; slots = p.slots; next = p.next; shape = p.shape })
-    still_of g = record { board = x; shape = h.shape; keeps = keeps_stay b (domain_opening domain) s t p.slots p.next g held_given h.keeps }
+    still_of g = record { board = x; shape = h.shape; keeps = keeps_stay b s t p.slots p.next g held_given h.keeps }
 
     pub still_adds : (own : List (Event N)) → Adds may own s t → IsPassOf domain (record { pass = q; slots = p.slots; next = p.next; shape = p.shape })
     still_adds own a = still_of (adds_grow b may own s t a)

@@ -1,4 +1,5 @@
 pub mod Rows
+pub mod Equal
 pub mod Growing
 pub mod Naming
 pub mod Filling

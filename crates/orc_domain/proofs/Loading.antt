@@ -1,8 +1,5 @@
 -- A load of a link.
 use Rattle.std.proofs.Common.{◌≡◌, ◌≢◌, ℕ, zero, suc, ◌+◌, ◌*◌, ◌<◌, ◌≤◌, ◌&&◌, eqb, not, eq-eqb, List, [], ◌∷◌, length, Bool, true, false, Option, Some, None, slice_get, refl, sym, ap, ◌∙◌, subst, arith}
-use Rattle.std.proofs.lemmas.Bool.{eqb-true}
-use Rattle.std.specs.Option.{option_eq}
-use mathlib.Core.Bool.{beq}
 use Rattle.orc_words.specs.Bounds.{Bounds}
 use Rattle.orc_words.specs.Packed.{bit, link_word, name_word}
 use Rattle.orc_words.specs.declared.packed.RowLink.{RowLink}
@@ -39,48 +36,6 @@ one_bit true true e = refl
 one_bit false false e = refl
 one_bit true false e = absurd (omega (arith, e))
 one_bit false true e = absurd (omega (arith, e))
-
--- the test of two links
-same_to : (t u : Option ℕ) → option_eq eqb t u ≡ true → t ≡ u
-same_to None None e = refl
-same_to None (Some u) e = cc
-same_to (Some t) None e = cc
-same_to (Some t) (Some u) e = ap Some (eqb-true t u e)
-
-to_same : (t : Option ℕ) → option_eq eqb t t ≡ true
-to_same None = refl
-to_same (Some t) = eq-eqb t t refl
-
-same_mark : (a b : Bool) → beq a b ≡ true → a ≡ b
-same_mark true true e = refl
-same_mark false false e = refl
-same_mark true false e = cc
-same_mark false true e = cc
-
-mark_same : (a : Bool) → beq a a ≡ true
-mark_same true = refl
-mark_same false = refl
-
-both_true : (a b : Bool) → (a && b) ≡ true → (a ≡ true) × (b ≡ true)
-both_true true true e = (refl, refl)
-both_true true false e = cc
-both_true false b e = cc
-
-abbrev pub tested : RowLink → RowLink → Bool
-tested l k = option_eq eqb l.to k.to && beq l.mark k.mark
-
-tested_same : (l : RowLink) → tested l l ≡ true
-tested_same l = (λ i. to_same l.to i && mark_same l.mark i)
-
-pub links_differ : (l k : RowLink) (n : Bool) → n ≡ not (tested l k) → n ≡ true → l ≢ k
-links_differ l k n is differ same = let e : true ≡ not true = sym differ ∙ (is ∙ ap not (subst (λ z. tested l z ≡ true) same (tested_same l))) in cc
-
-pub links_agree : (l k : RowLink) (n : Bool) → n ≡ not (tested l k) → n ≡ false → l ≡ k
-links_agree l k n is no_change = went (tested l k) refl
-  where
-    went : (b : Bool) → tested l k ≡ b → l ≡ k
-    went true e = let r = both_true _ _ e in λ i. record { to = same_to l.to k.to r.0 i; mark = same_mark l.mark k.mark r.1 i }
-    went false e = let f : false ≡ not false = sym no_change ∙ (is ∙ ap not e) in cc
 
 -- a word is that of one link
 one_word : (t u : Option ℕ) (a b : Bool) → 2 * name_word t + bit a ≡ 2 * name_word u + bit b → (t ≡ u) × (a ≡ b)

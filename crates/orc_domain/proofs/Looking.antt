@@ -166,5 +166,5 @@ module _ {D N : Type 0} {d : discipline.Ghosts D N} {m : machine.Ghosts Plain N 
       still_looked = record {
         board = h2.board;
         shape = h2.shape;
-        keeps = keeps_set b (domain_opening domain) u p2.slots p2.next p2.next slot (Some row) (λ r e. subst (λ z. KnowsRow b u z) (some_one row r e) known) h2.keeps.inside h2.keeps;
+        keeps = keeps_set b u p2.slots p2.next p2.next slot (Some row) (λ r e. subst (λ z. KnowsRow b u z) (some_one row r e) known) h2.keeps.inside h2.keeps;
       }

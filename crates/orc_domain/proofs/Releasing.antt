@@ -35,11 +35,9 @@ set_back (x ∷ xs) (suc i) zero y z e = inr e
 set_back (x ∷ xs) (suc i) (suc j) y z e = set_back xs i j y z e
 
 -- a slot is set, and the next row to try
-pub keeps_set : {N : Type 0} (b : Bounds) (o : List (Event N)) (s : PlainView N) (slots : List (Option ℕ)) (next other i : ℕ) (y : Option ℕ)
-    → ((row : ℕ) → y ≡ Some row → KnowsRow b s row) → other < b.rows → Keeps b o s slots next → Keeps b o s (slice_set slots i y) other
-keeps_set b o s slots next other i y known inside k = record {
-  agent = k.agent;
-  opened = k.opened;
+pub keeps_set : {N : Type 0} (b : Bounds) (s : PlainView N) (slots : List (Option ℕ)) (next other i : ℕ) (y : Option ℕ)
+    → ((row : ℕ) → y ≡ Some row → KnowsRow b s row) → other < b.rows → Keeps b s slots next → Keeps b s (slice_set slots i y) other
+keeps_set b s slots next other i y known inside k = record {
   eight = length-set slots i y ∙ k.eight;
   known = λ slot row e. elim (set_back slots i slot y (Some row) e) [ inl same ↦ known row (sym same) | inr old ↦ k.known slot row old ];
   inside = inside;
@@ -62,7 +60,7 @@ module _ {D N : Type 0} {d : discipline.Ghosts D N} {m : machine.Ghosts Plain N 
   still_released slot = record {
     board = x.board;
     shape = x.shape;
-    keeps = keeps_set (domain_bounds domain) (domain_opening domain) t q.slots q.next q.next slot None (λ row e. cc) x.keeps.inside x.keeps;
+    keeps = keeps_set (domain_bounds domain) t q.slots q.next q.next slot None (λ row e. cc) x.keeps.inside x.keeps;
   }
 
   pub releases : (slot row : ℕ) → slot ≡ hold.slot → row ≡ hold.row → Retires row s t → Releases (seat_of domain p) hold (seat_by t (slice_set q.slots slot None))

@@ -1,6 +1,7 @@
 -- Laws of the passes of a domain.
 use Rattle.std.specs.Prelude.{◌≡◌, ℕ, ◌<◌, ◌≤◌, List, [], ◌∷◌, ◌++◌, ◌==◌, ◌&&◌, length, take, true, Option, Some, None, slice_get, zero, suc, refl}
 use Rattle.std.specs.List.{list_all}
+use mathlib.Core.List.{IsPrefix}
 use Rattle.std.proofs.Common.{sym, ap, ◌∙◌, subst, length-append, arith}
 use Rattle.std.proofs.lemmas.Bool.{eq-eqb}
 use Rattle.orc_words.specs.Bounds.{Bounds, bounds_of}
@@ -13,8 +14,7 @@ use Rattle.orc_heap.specs.Slots.{Hold, Holds, SlotNode, id_in}
 use Rattle.orc_heap.specs.declared.discipline.Discipline as discipline
 use Rattle.orc_heap.specs.declared.events.Event.{Event}
 use Rattle.orc_shared_words.specs.declared.machine.Machine as machine
-use Rattle.orc_table.proofs.Known.{below, fresh_row}
-use Rattle.orc_table.specs.Calls.{EventsBelow}
+use Rattle.orc_table.proofs.Known.{below, fresh_row, opened}
 use Rattle.orc_table.specs.Machine.{id_by, index_of}
 use Rattle.orc_table.specs.Views.{PlainView, heap_of, shows, shows_by}
 use Rattle.orc_table.specs.declared.machine.Plain.{Plain}
@@ -22,7 +22,7 @@ use Rattle.orc_table.specs.declared.machine.PlainOp.{PlainOp}
 use Rattle.orc_table.specs.declared.machine.PlainStep.{PlainStep}
 use Rattle.orc_table.specs.declared.seed.PlainShape.{PlainShape}
 use Rattle.orc_domain.specs.Given.{IsLacking, gives_in}
-use Rattle.orc_domain.specs.Passes.{IsPassOf, domain_bounds, domain_numbers, journal_of, seat_of}
+use Rattle.orc_domain.specs.Passes.{IsPassOf, domain_bounds, domain_numbers, domain_opening, journal_of, seat_of}
 use Rattle.orc_domain.specs.Rows.{slots_by}
 use Rattle.orc_domain.specs.declared.domain.PlainDomain.{PlainDomain}
 use Rattle.orc_domain.specs.declared.domain.PlainPass.{PlainPass}
@@ -50,10 +50,6 @@ row_in rows (None ∷ slots) zero x e = cc
 row_in rows (Some row ∷ slots) zero x e = let same : record { row = row; id = index_of row rows } ≡ x = cc in (ap (λ (y : SlotNode). Some (Some y.row)) same, ap (λ (y : SlotNode). y.id) (sym same) ∙ ap (λ (y : SlotNode). index_of y.row rows) same)
 row_in rows (slot ∷ slots) (suc i) x e = row_in rows slots i x e
 
-as_below : {N : Type 0} (n : ℕ) (es : List (Event N)) → EventsBelow n es → IsBelow n es
-as_below n [] b = tt
-as_below n (e ∷ es) b = (b.0, as_below n es b.1)
-
 module _ {D N : Type 0} {d : discipline.Ghosts D N} {m : machine.Ghosts Plain N (PlainShape N) PlainOp (PlainStep N) (Unit {0}) (Unit {0})}
     (domain : PlainDomain D N) (p : PlainPass D N (PlainShape N) PlainOp (PlainStep N) (Unit {0}) (Unit {0}) d m) (h : IsPassOf domain p)
   where
@@ -62,6 +58,9 @@ module _ {D N : Type 0} {d : discipline.Ghosts D N} {m : machine.Ghosts Plain N 
 
   pub seen_by : (seat_of domain p).seen ≡ journal_of p
   seen_by = ap (λ (b : Bounds). (shows_by b p.pass).events) (sym h.shape)
+
+  pub begins_so : IsPrefix (domain_opening domain) (seat_of domain p).seen
+  begins_so = let o = opened d domain.board.words.shape p.pass.pass.seat.me.0 p.pass.pass.agent p.pass.fresh p.pass.looked h.board.keeps in (o.0, sym o.1)
 
   pub begun : d.holds (domain_numbers domain) []
   begun = h.board.keeps.began
@@ -73,7 +72,7 @@ module _ {D N : Type 0} {d : discipline.Ghosts D N} {m : machine.Ghosts Plain N 
   all_obey = h.board.keeps.now.kept
 
   pub all_below : ((seat_of domain p).agent < (domain_bounds domain).agents) × IsBelow (domain_bounds domain).agents (seat_of domain p).seen
-  all_below = (h.keeps.agent, as_below (domain_bounds domain).agents s.events (below d domain.board.words.shape p.pass.pass.seat.me.0 p.pass.pass.agent p.pass.fresh p.pass.looked h.board.keeps))
+  all_below = (h.board.keeps.number, below d domain.board.words.shape p.pass.pass.seat.me.0 p.pass.pass.agent p.pass.fresh p.pass.looked h.board.keeps)
 
   pub fresh_untouched : (id : ℕ) → (seat_of domain p).fresh ≡ Some id → IsUntouched (seat_of domain p).agent (run_heap (domain_numbers domain) (seat_of domain p).seen) id
   fresh_untouched id e = went s.fresh refl e
@@ -83,7 +82,7 @@ module _ {D N : Type 0} {d : discipline.Ghosts D N} {m : machine.Ghosts Plain N 
       went (Some row) is e =
           let same : index_of row s.rows ≡ id = cc in
           let u = (fresh_row d domain.board.words.shape p.pass.pass.seat.me.0 p.pass.pass.agent p.pass.fresh p.pass.looked h.board.keeps row is).untouched in
-          subst (λ i. IsUntouched s.agent (heap_of (domain_bounds domain) s) i) same (record { node = u.node; there = u.there; mine = u.mine; unnamed = u.unnamed; unlinked = u.unlinked })
+          subst (λ i. IsUntouched s.agent (heap_of (domain_bounds domain) s) i) same u
 
   pub held_known : (hold : Hold) → Holds (seat_of domain p).slots hold → IsKnown (seat_of domain p).agent (run_heap (domain_numbers domain) (seat_of domain p).seen) (id_in (seat_of domain p).slots hold)
   held_known hold e =

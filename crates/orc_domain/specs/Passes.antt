@@ -40,4 +40,4 @@ module _ {D N : Type 0} {d : discipline.Ghosts D N} {m : machine.Ghosts Plain N 
   pub record IsPassOf (domain : PlainDomain D N) (p : PlainPass D N (PlainShape N) PlainOp (PlainStep N) (Unit {0}) (Unit {0}) d m) : Type 0 where
     pub board : Belongs domain.board p.pass
     pub shape : bounds_of p.shape ≡ domain_bounds domain
-    pub keeps : Keeps (domain_bounds domain) (domain_opening domain) (shows domain.board p.pass) p.slots p.next
+    pub keeps : Keeps (domain_bounds domain) (shows domain.board p.pass) p.slots p.next

@@ -1,14 +1,12 @@
 -- What the slots of a pass show, by the rows in them.
 use Rattle.std.specs.Borrow.{Bor}
 use Rattle.std.specs.Prelude.{◌≡◌, ℕ, ◌<◌, List, [], ◌∷◌, length, Bool, false, Option, Some, None, slice_get}
-use mathlib.Core.List.{IsPrefix}
 use Rattle.orc_words.specs.Bounds.{Bounds}
 use Rattle.orc_words.specs.declared.packed.RowLink.{RowLink}
 use Rattle.orc_words.specs.declared.place.Word.{Word}
 use Rattle.orc_words.specs.declared.place.Word.TheVariants as word
 use Rattle.orc_heap.specs.Seats.{Seat}
 use Rattle.orc_heap.specs.Slots.{Hold, SlotNode, Slots}
-use Rattle.orc_heap.specs.declared.events.Event.{Event}
 use Rattle.orc_heap.specs.declared.holds.At.{At}
 use Rattle.orc_heap.specs.declared.holds.At.TheVariants.{Node as AtNode, Root as AtRoot}
 use Rattle.orc_heap.specs.declared.holds.Want.{Want}
@@ -30,11 +28,8 @@ slots_by rows (slot ∷ slots) = slot_by rows slot ∷ slots_by rows slots
 abbrev pub seat_by : {N : Type 0} → PlainView N → List (Option ℕ) → Seat N
 seat_by s slots = record { agent = s.agent; seen = s.events; slots = slots_by s.rows slots; fresh = id_by s.rows s.fresh }
 
--- what is true of a pass between calls, beside what its board knows of it: its events begin with the opening, and its agent
--- knows the node of each row in a slot
-pub record Keeps {N : Type 0} (b : Bounds) (opening : List (Event N)) (s : PlainView N) (slots : List (Option ℕ)) (next : ℕ) : Type 0 where
-  pub agent : s.agent < b.agents
-  pub opened : IsPrefix opening s.events
+-- what is true of a pass between calls, beside what its board knows: its agent knows the node of each row in a slot
+pub record Keeps {N : Type 0} (b : Bounds) (s : PlainView N) (slots : List (Option ℕ)) (next : ℕ) : Type 0 where
   pub eight : length slots ≡ 8
   pub known : (slot row : ℕ) → slice_get slots slot ≡ Some (Some row) → KnowsRow b s row
   pub inside : next < b.rows

@@ -17,7 +17,7 @@ use orc_words::pack_link;
 
 impl<D: Discipline> Links for PlainDomain<D> {
     ghost use Rattle.orc_domain.specs.Given.{IsLacking};
-    ghost use Rattle.orc_domain.specs.Laws.{all_allowed, all_below, all_obey, begun, fresh_untouched, held_known, lacking_later, one_more, seen_by};
+    ghost use Rattle.orc_domain.specs.Laws.{all_allowed, all_below, all_obey, begins_so, begun, fresh_untouched, held_known, lacking_later, one_more, seen_by};
     ghost use Rattle.orc_domain.specs.Passes.{domain_bounds, domain_opening};
 
     type Rule = D;
@@ -184,7 +184,7 @@ impl<D: Discipline> Links for PlainDomain<D> {
 
     ghost steps_add = { λ d j s. one_more j s };
 
-    ghost opens = { λ d p h. h.keeps.opened };
+    ghost opens = { λ d p h. begins_so d p h };
 
     ghost begins = { λ d p h. begun d p h };
 

@@ -2,7 +2,7 @@ use Rattle.std.proofs.Common.{sym, subst}
 use Rattle.orc_table.specs.Calls.{KnowsPlace}
 use Rattle.orc_table.specs.Views.{shows}
 use Rattle.orc_domain.specs.Passes.{domain_bounds}
-use Rattle.orc_domain.proofs.Loading.{links_agree, links_differ}
+use Rattle.orc_domain.proofs.Equal.{links_agree, links_differ}
 use Rattle.orc_domain.proofs.Looking.{known_again, looks_held, looks_moved, looks_null, still_looked}
 use Rattle.orc_domain.proofs.Naming.{place_known}
 use Rattle.orc_domain.proofs.links.PlainDomainLinks.look.Goals as goal
