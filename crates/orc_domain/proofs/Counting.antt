@@ -45,11 +45,11 @@ fewer k n f d = record {
       (λ ne. let b = d.low i (omega (arith, l)) in let is = instead_else f k n i ne in omega (arith, ne, b, is));
   apart = λ i j l m e. dite (ℕ_discrete (f i) n)
       (λ x. dite (ℕ_discrete (f j) n)
-          (λ y. d.apart i j (omega (arith, l)) (omega (arith, m)) (x ∙ sym y))
-          (λ y. let same = d.apart k j (omega arith) (omega (arith, m)) (sym (instead_last f k n i x) ∙ (e ∙ instead_else f k n j y)) in absurd (omega (arith, same, m))))
+      (λ y. d.apart i j (omega (arith, l)) (omega (arith, m)) (x ∙ sym y))
+      (λ y. let same = d.apart k j (omega arith) (omega (arith, m)) (sym (instead_last f k n i x) ∙ (e ∙ instead_else f k n j y)) in absurd (omega (arith, same, m))))
       (λ x. dite (ℕ_discrete (f j) n)
-          (λ y. let same = d.apart i k (omega (arith, l)) (omega arith) (sym (instead_else f k n i x) ∙ (e ∙ instead_last f k n j y)) in absurd (omega (arith, same, l)))
-          (λ y. d.apart i j (omega (arith, l)) (omega (arith, m)) (sym (instead_else f k n i x) ∙ (e ∙ instead_else f k n j y))));
+      (λ y. let same = d.apart i k (omega (arith, l)) (omega arith) (sym (instead_else f k n i x) ∙ (e ∙ instead_last f k n j y)) in absurd (omega (arith, same, l)))
+      (λ y. d.apart i j (omega (arith, l)) (omega (arith, m)) (sym (instead_else f k n i x) ∙ (e ∙ instead_else f k n j y))));
 }
 
 -- then there are no more of them
@@ -87,11 +87,11 @@ rows_all rows most once inside all =
 pub once_round : (rows : List ℕ) (begin most : ℕ) → begin < most → ((k : ℕ) → k < most → IsOut rows ((begin + k) % most)) → (row : ℕ) → row < most → IsOut rows row
 once_round rows begin most l out row m = dite (dec_lt row begin)
     (λ lt.
-        let e : begin + (row + most - begin) ≡ row + most = omega (arith, l, lt) in
-        subst (IsOut rows) (ap (λ z. z % most) e ∙ (add-mod_right row most ∙ mod-eq_of_lt m)) (out (row + most - begin) (omega (arith, l, lt))))
+    let e : begin + (row + most - begin) ≡ row + most = omega (arith, l, lt) in
+    subst (IsOut rows) (ap (λ z. z % most) e ∙ (add-mod_right row most ∙ mod-eq_of_lt m)) (out (row + most - begin) (omega (arith, l, lt))))
     (λ ge.
-        let e : begin + (row - begin) ≡ row = omega (arith, ge) in
-        subst (IsOut rows) (ap (λ z. z % most) e ∙ mod-eq_of_lt m) (out (row - begin) (omega (arith, m))))
+    let e : begin + (row - begin) ≡ row = omega (arith, ge) in
+    subst (IsOut rows) (ap (λ z. z % most) e ∙ mod-eq_of_lt m) (out (row - begin) (omega (arith, m))))
 
 nodes_target : (f : Node → Node) (to : Option ℕ) (h : Heap) → length (change_target f to h).nodes ≡ length h.nodes
 nodes_target f None h = refl

@@ -94,45 +94,45 @@ module _ {N : Type 0} where
 module _ {D N : Type 0} {d : discipline.Ghosts D N} {m : machine.Ghosts Plain N (PlainShape N) PlainOp (PlainStep N) (Unit {0}) (Unit {0})}
     (domain : PlainDomain D N) (p : PlainPass D N (PlainShape N) PlainOp (PlainStep N) (Unit {0}) (Unit {0}) d m) (h : IsPassOf domain p)
   where
-  abbrev b : Bounds
-  b = domain_bounds domain
+    abbrev b : Bounds
+    b = domain_bounds domain
 
-  abbrev may : List (Event N) → Event N → Type 0
-  may = d.may (domain_numbers domain)
+    abbrev may : List (Event N) → Event N → Type 0
+    may = d.may (domain_numbers domain)
 
-  abbrev s : PlainView N
-  s = shows domain.board p.pass
+    abbrev s : PlainView N
+    s = shows domain.board p.pass
 
-  -- what the board knows
-  pub tie : Tie b (run b p.pass.pass.seat.me.0.seen).words s.rows (heap_of b s)
-  tie = ties d domain.board.words.shape p.pass.pass.seat.me.0 p.pass.pass.agent p.pass.fresh p.pass.looked h.board.keeps
+    -- what the board knows
+    pub tie : Tie b (run b p.pass.pass.seat.me.0.seen).words s.rows (heap_of b s)
+    tie = ties d domain.board.words.shape p.pass.pass.seat.me.0 p.pass.pass.agent p.pass.fresh p.pass.looked h.board.keeps
 
-  pub held_given : AllGiven s.rows p.slots
-  held_given slot row e = known_given s.agent (heap_of b s) s.rows row tie.even (h.keeps.known slot row e)
+    pub held_given : AllGiven s.rows p.slots
+    held_given slot row e = known_given s.agent (heap_of b s) s.rows row tie.even (h.keeps.known slot row e)
 
-  pub fresh_given : Given s.rows s.fresh
-  fresh_given = went s.fresh refl
-    where
-      went : (fresh : Option ℕ) → s.fresh ≡ fresh → Given s.rows fresh
-      went None e = tt
-      went (Some row) e = (fresh_row d domain.board.words.shape p.pass.pass.seat.me.0 p.pass.pass.agent p.pass.fresh p.pass.looked h.board.keeps row e).given
+    pub fresh_given : Given s.rows s.fresh
+    fresh_given = went s.fresh refl
+      where
+        went : (fresh : Option ℕ) → s.fresh ≡ fresh → Given s.rows fresh
+        went None e = tt
+        went (Some row) e = (fresh_row d domain.board.words.shape p.pass.pass.seat.me.0 p.pass.pass.agent p.pass.fresh p.pass.looked h.board.keeps row e).given
 
-  module _ (q : BoardPass D N (PlainShape N) PlainOp (PlainStep N) (Unit {0}) (Unit {0}) d m) (x : Belongs domain.board q) where
-    abbrev t : PlainView N
-    t = shows domain.board q
+    module _ (q : BoardPass D N (PlainShape N) PlainOp (PlainStep N) (Unit {0}) (Unit {0}) d m) (x : Belongs domain.board q) where
+      abbrev t : PlainView N
+      t = shows domain.board q
 
-    -- the pass, with the board's pass after a call
-    pub still_of : Grows b s t → IsPassOf domain (record { pass = q; slots = p.slots; next = p.next; shape = p.shape })
-    still_of g = record { board = x; shape = h.shape; keeps = keeps_stay b s t p.slots p.next g held_given h.keeps }
+      -- the pass, with the board's pass after a call
+      pub still_of : Grows b s t → IsPassOf domain (record { pass = q; slots = p.slots; next = p.next; shape = p.shape })
+      still_of g = record { board = x; shape = h.shape; keeps = keeps_stay b s t p.slots p.next g held_given h.keeps }
 
-    pub still_adds : (own : List (Event N)) → Adds may own s t → IsPassOf domain (record { pass = q; slots = p.slots; next = p.next; shape = p.shape })
-    still_adds own a = still_of (adds_grow b may own s t a)
+      pub still_adds : (own : List (Event N)) → Adds may own s t → IsPassOf domain (record { pass = q; slots = p.slots; next = p.next; shape = p.shape })
+      still_adds own a = still_of (adds_grow b may own s t a)
 
-    pub slots_same : (own : List (Event N)) → Adds may own s t → slots_by t.rows p.slots ≡ slots_by s.rows p.slots
-    slots_same own a = slots_stay b s t p.slots (adds_grow b may own s t a) held_given
+      pub slots_same : (own : List (Event N)) → Adds may own s t → slots_by t.rows p.slots ≡ slots_by s.rows p.slots
+      slots_same own a = slots_stay b s t p.slots (adds_grow b may own s t a) held_given
 
-    pub fresh_same : (own : List (Event N)) → Adds may own s t → t.fresh ≡ s.fresh → id_by t.rows t.fresh ≡ id_by s.rows s.fresh
-    fresh_same own a e = ap (id_by t.rows) e ∙ fresh_stays b s t s.fresh (adds_grow b may own s t a) fresh_given
+      pub fresh_same : (own : List (Event N)) → Adds may own s t → t.fresh ≡ s.fresh → id_by t.rows t.fresh ≡ id_by s.rows s.fresh
+      fresh_same own a e = ap (id_by t.rows) e ∙ fresh_stays b s t s.fresh (adds_grow b may own s t a) fresh_given
 
-    pub only_adds : (own : List (Event N)) → Adds may own s t → events_by s.agent own ≡ own → t.fresh ≡ s.fresh → Only own (seat_of domain p) (seat_by t p.slots)
-    only_adds own a mine e = record { slots = slots_same own a; fresh = fresh_same own a e; puts = adds_put may own s t p.slots p.slots a mine }
+      pub only_adds : (own : List (Event N)) → Adds may own s t → events_by s.agent own ≡ own → t.fresh ≡ s.fresh → Only own (seat_of domain p) (seat_by t p.slots)
+      only_adds own a mine e = record { slots = slots_same own a; fresh = fresh_same own a e; puts = adds_put may own s t p.slots p.slots a mine }

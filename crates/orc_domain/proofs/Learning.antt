@@ -61,60 +61,60 @@ module _ {D N : Type 0} {d : discipline.Ghosts D N} {m : machine.Ghosts Plain N 
     (q r : BoardPass D N (PlainShape N) PlainOp (PlainStep N) (Unit {0}) (Unit {0}) d m) (x : Belongs domain.board q) (y : Belongs domain.board r)
     (l : BoardLearns (shows domain.board into.pass) (shows domain.board from.pass) (shows domain.board q) (shows domain.board r))
   where
-  abbrev b : Bounds
-  b = domain_bounds domain
+    abbrev b : Bounds
+    b = domain_bounds domain
 
-  abbrev may : List (Event N) → Event N → Type 0
-  may = d.may (domain_numbers domain)
+    abbrev may : List (Event N) → Event N → Type 0
+    may = d.may (domain_numbers domain)
 
-  abbrev s : PlainView N
-  s = shows domain.board into.pass
+    abbrev s : PlainView N
+    s = shows domain.board into.pass
 
-  abbrev u : PlainView N
-  u = shows domain.board from.pass
+    abbrev u : PlainView N
+    u = shows domain.board from.pass
 
-  abbrev t : PlainView N
-  t = shows domain.board q
+    abbrev t : PlainView N
+    t = shows domain.board q
 
-  abbrev w : PlainView N
-  w = shows domain.board r
+    abbrev w : PlainView N
+    w = shows domain.board r
 
-  into_grows : Grows b s t
-  into_grows = grow_seen b may s t l.into.agent (first_more s u t l.longer) l.into.rows x.keeps.now.each
+    into_grows : Grows b s t
+    into_grows = grow_seen b may s t l.into.agent (first_more s u t l.longer) l.into.rows x.keeps.now.each
 
-  from_grows : Grows b u w
-  from_grows = grow_seen b may u w l.from.agent (subst (λ es. Begins es u.events) (sym l.both.0) (second_more s u t l.longer)) l.from.rows y.keeps.now.each
+    from_grows : Grows b u w
+    from_grows = grow_seen b may u w l.from.agent (subst (λ es. Begins es u.events) (sym l.both.0) (second_more s u t l.longer)) l.from.rows y.keeps.now.each
 
-  pub still_into : IsPassOf domain (record { pass = q; slots = into.slots; next = into.next; shape = into.shape })
-  still_into = still_of domain into h q x into_grows
+    pub still_into : IsPassOf domain (record { pass = q; slots = into.slots; next = into.next; shape = into.shape })
+    still_into = still_of domain into h q x into_grows
 
-  pub still_from : IsPassOf domain (record { pass = r; slots = from.slots; next = from.next; shape = from.shape })
-  still_from = still_of domain from k r y from_grows
+    pub still_from : IsPassOf domain (record { pass = r; slots = from.slots; next = from.next; shape = from.shape })
+    still_from = still_of domain from k r y from_grows
 
-  -- what a pass has seen is its journal
-  abbrev seen_with : Bounds → BoardPass D N (PlainShape N) PlainOp (PlainStep N) (Unit {0}) (Unit {0}) d m → List (Event N)
-  seen_with a p = (shows_by a p).events
+    -- what a pass has seen is its journal
+    abbrev seen_with : Bounds → BoardPass D N (PlainShape N) PlainOp (PlainStep N) (Unit {0}) (Unit {0}) d m → List (Event N)
+    seen_with a p = (shows_by a p).events
 
-  own_events : (events_by s.agent t.events ≡ events_by s.agent s.events) × (events_by u.agent t.events ≡ events_by u.agent u.events)
-  own_events = (l.into.own, ap (events_by u.agent) (sym l.both.0) ∙ l.from.own)
+    own_events : (events_by s.agent t.events ≡ events_by s.agent s.events) × (events_by u.agent t.events ≡ events_by u.agent u.events)
+    own_events = (l.into.own, ap (events_by u.agent) (sym l.both.0) ∙ l.from.own)
 
-  steps_of : (agent : ℕ) (es fs : List (Event N)) → events_by agent es ≡ events_by agent fs → steps_by (λ e. e.agent) agent es ≡ steps_by (λ e. e.agent) agent fs
-  steps_of agent es fs e = steps_are agent es ∙ (e ∙ sym (steps_are agent fs))
+    steps_of : (agent : ℕ) (es fs : List (Event N)) → events_by agent es ≡ events_by agent fs → steps_by (λ e. e.agent) agent es ≡ steps_by (λ e. e.agent) agent fs
+    steps_of agent es fs e = steps_are agent es ∙ (e ∙ sym (steps_are agent fs))
 
-  pub learns : Learns (λ e. e.agent) (seat_of domain into) (seat_of domain from) (seat_by t into.slots) (seat_by w from.slots)
-      (seen_with (bounds_of into.shape) into.pass) (seen_with (bounds_of from.shape) from.pass) (seen_with (bounds_of into.shape) q) (seen_with (bounds_of from.shape) r)
-  learns = subst (λ (z : Bounds × Bounds). Learns (λ e. e.agent) (seat_of domain into) (seat_of domain from) (seat_by t into.slots) (seat_by w from.slots) (seen_with z.0 into.pass) (seen_with z.1 from.pass) (seen_with z.0 q) (seen_with z.1 r))
-      (λ i. (sym h.shape i, sym k.shape i)) record {
-        agents = (l.into.agent, l.from.agent);
-        slots = (slots_stay b s t into.slots into_grows (held_given domain into h), slots_stay b u w from.slots from_grows (held_given domain from k));
-        fresh = (
-          ap (id_by t.rows) l.into.fresh ∙ fresh_stays b s t s.fresh into_grows (fresh_given domain into h),
-          ap (id_by w.rows) l.from.fresh ∙ fresh_stays b u w u.fresh from_grows (fresh_given domain from k),
-        );
-        one_journal = sym l.both.0;
-        longer = longer_of s u t l.longer;
-        steps = (steps_of s.agent t.events s.events own_events.0, steps_of u.agent t.events u.events own_events.1);
-        one_list = sym l.both.0;
-        longer_list = longer_of s u t l.longer;
-        events = own_events;
-      }
+    pub learns : Learns (λ e. e.agent) (seat_of domain into) (seat_of domain from) (seat_by t into.slots) (seat_by w from.slots)
+        (seen_with (bounds_of into.shape) into.pass) (seen_with (bounds_of from.shape) from.pass) (seen_with (bounds_of into.shape) q) (seen_with (bounds_of from.shape) r)
+    learns = subst (λ (z : Bounds × Bounds). Learns (λ e. e.agent) (seat_of domain into) (seat_of domain from) (seat_by t into.slots) (seat_by w from.slots) (seen_with z.0 into.pass) (seen_with z.1 from.pass) (seen_with z.0 q) (seen_with z.1 r))
+        (λ i. (sym h.shape i, sym k.shape i)) record {
+          agents = (l.into.agent, l.from.agent);
+          slots = (slots_stay b s t into.slots into_grows (held_given domain into h), slots_stay b u w from.slots from_grows (held_given domain from k));
+          fresh = (
+            ap (id_by t.rows) l.into.fresh ∙ fresh_stays b s t s.fresh into_grows (fresh_given domain into h),
+            ap (id_by w.rows) l.from.fresh ∙ fresh_stays b u w u.fresh from_grows (fresh_given domain from k),
+          );
+          one_journal = sym l.both.0;
+          longer = longer_of s u t l.longer;
+          steps = (steps_of s.agent t.events s.events own_events.0, steps_of u.agent t.events u.events own_events.1);
+          one_list = sym l.both.0;
+          longer_list = longer_of s u t l.longer;
+          events = own_events;
+        }

@@ -13,3 +13,4 @@ pub mod Furnishing
 pub mod Counting
 pub mod Giving
 pub mod Learning
+pub mod Making

@@ -65,31 +65,31 @@ module _ {D N : Type 0} {d : discipline.Ghosts D N} {m : machine.Ghosts Plain N 
     (domain : PlainDomain D N) (p : PlainPass D N (PlainShape N) PlainOp (PlainStep N) (Unit {0}) (Unit {0}) d m) (h : IsPassOf domain p)
     (q : BoardPass D N (PlainShape N) PlainOp (PlainStep N) (Unit {0}) (Unit {0}) d m) (x : Belongs domain.board q)
   where
-  abbrev b : Bounds
-  b = domain_bounds domain
+    abbrev b : Bounds
+    b = domain_bounds domain
 
-  abbrev may : List (Event N) → Event N → Type 0
-  may = d.may (domain_numbers domain)
+    abbrev may : List (Event N) → Event N → Type 0
+    may = d.may (domain_numbers domain)
 
-  abbrev s : PlainView N
-  s = shows domain.board p.pass
+    abbrev s : PlainView N
+    s = shows domain.board p.pass
 
-  abbrev t : PlainView N
-  t = shows domain.board q
+    abbrev t : PlainView N
+    t = shows domain.board q
 
-  pub link_low : (place : Word) (word : ℕ) → Finds may b (place_by s.rows place) word s t → word ≤ 131071
-  link_low place word f =
-      let tie = ties d domain.board.words.shape q.pass.seat.me.0 q.pass.agent q.fresh q.looked x.keeps in
-      word_low t.rows b.rows tie.inside domain.board.words.shape.shape.few_rows f.link.to f.link.mark word f.word
+    pub link_low : (place : Word) (word : ℕ) → Finds may b (place_by s.rows place) word s t → word ≤ 131071
+    link_low place word f =
+        let tie = ties d domain.board.words.shape q.pass.seat.me.0 q.pass.agent q.fresh q.looked x.keeps in
+        word_low t.rows b.rows tie.inside domain.board.words.shape.shape.few_rows f.link.to f.link.mark word f.word
 
-  pub loads : (place : Word) (word : ℕ) (link : RowLink) → link_word link ≡ word → Finds may b (place_by s.rows place) word s t → t.fresh ≡ s.fresh → Loads may b (place_by s.rows place) link s t
-  loads place word link e f fresh =
-      let tie = ties d domain.board.words.shape q.pass.seat.me.0 q.pass.agent q.fresh q.looked x.keeps in
-      let is : link_by t.rows link ≡ f.link = link_is t.rows tie.once f.link.to f.link.mark word link f.word e in record {
-        fresh = fresh;
-        adds = subst (λ (l : Link). Adds may (event s.agent (Look (place_by s.rows place) l) None ∷ []) s t) (sym is) f.adds;
-        known = subst (λ (l : Link). IsTarget s.agent (heap_of b t) l.to) (sym is) f.known;
-      }
+    pub loads : (place : Word) (word : ℕ) (link : RowLink) → link_word link ≡ word → Finds may b (place_by s.rows place) word s t → t.fresh ≡ s.fresh → Loads may b (place_by s.rows place) link s t
+    loads place word link e f fresh =
+        let tie = ties d domain.board.words.shape q.pass.seat.me.0 q.pass.agent q.fresh q.looked x.keeps in
+        let is : link_by t.rows link ≡ f.link = link_is t.rows tie.once f.link.to f.link.mark word link f.word e in record {
+          fresh = fresh;
+          adds = subst (λ (l : Link). Adds may (event s.agent (Look (place_by s.rows place) l) None ∷ []) s t) (sym is) f.adds;
+          known = subst (λ (l : Link). IsTarget s.agent (heap_of b t) l.to) (sym is) f.known;
+        }
 
-  pub still_loaded : (place : Word) (word : ℕ) → Finds may b (place_by s.rows place) word s t → IsPassOf domain (record { pass = q; slots = p.slots; next = p.next; shape = p.shape })
-  still_loaded place word f = still_adds domain p h q x (event s.agent (Look (place_by s.rows place) f.link) None ∷ []) f.adds
+    pub still_loaded : (place : Word) (word : ℕ) → Finds may b (place_by s.rows place) word s t → IsPassOf domain (record { pass = q; slots = p.slots; next = p.next; shape = p.shape })
+    still_loaded place word f = still_adds domain p h q x (event s.agent (Look (place_by s.rows place) f.link) None ∷ []) f.adds

@@ -53,38 +53,38 @@ row_in rows (slot ∷ slots) (suc i) x e = row_in rows slots i x e
 module _ {D N : Type 0} {d : discipline.Ghosts D N} {m : machine.Ghosts Plain N (PlainShape N) PlainOp (PlainStep N) (Unit {0}) (Unit {0})}
     (domain : PlainDomain D N) (p : PlainPass D N (PlainShape N) PlainOp (PlainStep N) (Unit {0}) (Unit {0}) d m) (h : IsPassOf domain p)
   where
-  abbrev s : PlainView N
-  s = shows domain.board p.pass
+    abbrev s : PlainView N
+    s = shows domain.board p.pass
 
-  pub seen_by : (seat_of domain p).seen ≡ journal_of p
-  seen_by = ap (λ (b : Bounds). (shows_by b p.pass).events) (sym h.shape)
+    pub seen_by : (seat_of domain p).seen ≡ journal_of p
+    seen_by = ap (λ (b : Bounds). (shows_by b p.pass).events) (sym h.shape)
 
-  pub begins_so : IsPrefix (domain_opening domain) (seat_of domain p).seen
-  begins_so = let o = opened d domain.board.words.shape p.pass.pass.seat.me.0 p.pass.pass.agent p.pass.fresh p.pass.looked h.board.keeps in (o.0, sym o.1)
+    pub begins_so : IsPrefix (domain_opening domain) (seat_of domain p).seen
+    begins_so = let o = opened d domain.board.words.shape p.pass.pass.seat.me.0 p.pass.pass.agent p.pass.fresh p.pass.looked h.board.keeps in (o.0, sym o.1)
 
-  pub begun : d.holds (domain_numbers domain) []
-  begun = h.board.keeps.began
+    pub begun : d.holds (domain_numbers domain) []
+    begun = h.board.keeps.began
 
-  pub all_allowed : AllAllowed (d.may (domain_numbers domain)) [] (seat_of domain p).seen
-  all_allowed = h.board.keeps.now.each
+    pub all_allowed : AllAllowed (d.may (domain_numbers domain)) [] (seat_of domain p).seen
+    all_allowed = h.board.keeps.now.each
 
-  pub all_obey : d.holds (domain_numbers domain) (seat_of domain p).seen
-  all_obey = h.board.keeps.now.kept
+    pub all_obey : d.holds (domain_numbers domain) (seat_of domain p).seen
+    all_obey = h.board.keeps.now.kept
 
-  pub all_below : ((seat_of domain p).agent < (domain_bounds domain).agents) × IsBelow (domain_bounds domain).agents (seat_of domain p).seen
-  all_below = (h.board.keeps.number, below d domain.board.words.shape p.pass.pass.seat.me.0 p.pass.pass.agent p.pass.fresh p.pass.looked h.board.keeps)
+    pub all_below : ((seat_of domain p).agent < (domain_bounds domain).agents) × IsBelow (domain_bounds domain).agents (seat_of domain p).seen
+    all_below = (h.board.keeps.number, below d domain.board.words.shape p.pass.pass.seat.me.0 p.pass.pass.agent p.pass.fresh p.pass.looked h.board.keeps)
 
-  pub fresh_untouched : (id : ℕ) → (seat_of domain p).fresh ≡ Some id → IsUntouched (seat_of domain p).agent (run_heap (domain_numbers domain) (seat_of domain p).seen) id
-  fresh_untouched id e = went s.fresh refl e
-    where
-      went : (fresh : Option ℕ) → s.fresh ≡ fresh → id_by s.rows fresh ≡ Some id → IsUntouched s.agent (heap_of (domain_bounds domain) s) id
-      went None is e = cc
-      went (Some row) is e =
-          let same : index_of row s.rows ≡ id = cc in
-          let u = (fresh_row d domain.board.words.shape p.pass.pass.seat.me.0 p.pass.pass.agent p.pass.fresh p.pass.looked h.board.keeps row is).untouched in
-          subst (λ i. IsUntouched s.agent (heap_of (domain_bounds domain) s) i) same u
+    pub fresh_untouched : (id : ℕ) → (seat_of domain p).fresh ≡ Some id → IsUntouched (seat_of domain p).agent (run_heap (domain_numbers domain) (seat_of domain p).seen) id
+    fresh_untouched id e = went s.fresh refl e
+      where
+        went : (fresh : Option ℕ) → s.fresh ≡ fresh → id_by s.rows fresh ≡ Some id → IsUntouched s.agent (heap_of (domain_bounds domain) s) id
+        went None is e = cc
+        went (Some row) is e =
+            let same : index_of row s.rows ≡ id = cc in
+            let u = (fresh_row d domain.board.words.shape p.pass.pass.seat.me.0 p.pass.pass.agent p.pass.fresh p.pass.looked h.board.keeps row is).untouched in
+            subst (λ i. IsUntouched s.agent (heap_of (domain_bounds domain) s) i) same u
 
-  pub held_known : (hold : Hold) → Holds (seat_of domain p).slots hold → IsKnown (seat_of domain p).agent (run_heap (domain_numbers domain) (seat_of domain p).seen) (id_in (seat_of domain p).slots hold)
-  held_known hold e =
-      let r = row_in s.rows p.slots hold.slot (record { row = hold.row; id = id_in (seat_of domain p).slots hold }) e in
-      subst (λ i. IsKnown s.agent (heap_of (domain_bounds domain) s) i) (sym r.1) (h.keeps.known hold.slot hold.row r.0)
+    pub held_known : (hold : Hold) → Holds (seat_of domain p).slots hold → IsKnown (seat_of domain p).agent (run_heap (domain_numbers domain) (seat_of domain p).seen) (id_in (seat_of domain p).slots hold)
+    held_known hold e =
+        let r = row_in s.rows p.slots hold.slot (record { row = hold.row; id = id_in (seat_of domain p).slots hold }) e in
+        subst (λ i. IsKnown s.agent (heap_of (domain_bounds domain) s) i) (sym r.1) (h.keeps.known hold.slot hold.row r.0)

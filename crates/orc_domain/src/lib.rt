@@ -3,6 +3,7 @@
 
 mod domain;
 mod links;
+mod make;
 mod names;
 mod steps;
 

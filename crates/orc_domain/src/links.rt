@@ -121,7 +121,9 @@ impl<D: Discipline> Links for PlainDomain<D> {
         ensures tested { Tests place.now link.now note (seat_of self.now p.old) result (seat_of self.now p.new) }
     {
         let want = row_link(link);
-        let found = self.board.link_load(&mut p.pass, word_at(place), Some(want), note);
+        let found = self
+            .board
+            .link_load(&mut p.pass, word_at(place), Some(want), note);
         found == pack_link(want)
     }
 
