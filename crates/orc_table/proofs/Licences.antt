@@ -1,5 +1,5 @@
 -- What licenses each step.
-use Rattle.std.proofs.Common.{◌≡◌, ◌≢◌, ℕ, ◌+◌, ◌*◌, ◌<◌, ◌==◌, List, [], ◌∷◌, ◌++◌, length, Bool, true, false, if◌then◌else◌, Option, Some, None, slice_index, refl, sym, ap, ◌∙◌, subst, arith, eq-eqb, length-append}
+use Rattle.std.proofs.Common.{◌≡◌, ◌≢◌, ℕ, ◌+◌, ◌*◌, ◌<◌, ◌==◌, List, [], ◌++◌, length, Bool, true, false, Option, Some, None, slice_index, refl, sym, ap, ◌∙◌, subst, arith, eq-eqb, length-append}
 use Rattle.std.proofs.lemmas.Bool.Decides.{nat_tests}
 use Rattle.orc_words.specs.Bounds.{Bounds, bounds_of}
 use Rattle.orc_words.specs.Packed.{bit, link_word}
@@ -27,7 +27,7 @@ use Rattle.orc_table.specs.Rules.{plain_rules}
 use Rattle.orc_table.specs.Views.{FreshHeld, Keeps, PlainView, heap_of, view_of}
 use Rattle.orc_table.specs.Words.{IsWord}
 use Rattle.orc_table.specs.declared.machine.PlainOp.{PlainOp}
-use Rattle.orc_table.specs.declared.machine.PlainOp.TheVariants.{GateLook, GateTake, Fill, Read, LinkLoad, LinkCas, LinkStore}
+use Rattle.orc_table.specs.declared.machine.PlainOp.TheVariants.{Fill, LinkLoad, LinkCas, LinkStore}
 use Rattle.orc_table.specs.declared.machine.PlainStep.{PlainStep}
 use Rattle.orc_table.specs.declared.seed.PlainShape.{PlainShape}
 use Rattle.orc_table.proofs.Lists.{at_index, get_lt, index_grown, lt_get, some_one}
@@ -214,20 +214,6 @@ module _ {D N : Type 0} (d : discipline.Ghosts D N) (q : PlainShape N) (v : View
 
   pub cas_licence : (at : Word) (w t : RowLink) (said : Option N) → KnowsPlace k s at → KnowsTarget k s w → KnowsTarget k s t → MayWhereShown may k s at w (move_event s at w t said) → Licensed plain_rules q holds may v a (LinkCas at w t) said
   cas_licence at w t said knows from to allowed = from_mid (LinkCas at w t) said (may_test at w t (λ p l m. event a (act.Move p l m) said) knows from to allowed)
-
-  pub gate_licence : (row : ℕ) → Licensed plain_rules q holds may v a (GateLook row) None
-  gate_licence row = from_mid (GateLook row) None (λ between m hk. tt)
-
-  pub read_licence : (row which : ℕ) → Licensed plain_rules q holds may v a (Read row which) None
-  read_licence row which = from_mid (Read row which) None (λ between m hk. tt)
-
-  pub take_licence : (row : ℕ) → Licensed plain_rules q holds may v a (GateTake row) None
-  take_licence row = from_mid (GateTake row) None
-      (λ between m hk. let x : State = run_from k (run k v.seen) between in given_or_not (v.seen ++ between) x (slice_index x.words (place k (word.Gate row)) == 0) m.heap hk)
-    where
-      given_or_not : (seen : List (PlainStep N)) (x : State) (b : Bool) → run_heap (numbers k) (project k seen) ≡ x.heap → holds (project k seen) → Each (may (project k seen)) (if b then event {N = N} a act.Give None ∷ [] else [])
-      given_or_not seen x true heap hk = stands seen x (event a act.Give None) heap hk tt (refl, tt)
-      given_or_not seen x false heap hk = tt
 
   -- the fresh row's node is fresh at each state that the pass may come upon
   fresh_at : (between : List (PlainStep N)) (m : Mid k may v.seen between a) (row : ℕ) → fresh ≡ Some row → IsFresh a (run_from k (run k v.seen) between).heap (index_of row (run_from k (run k v.seen) between).given)

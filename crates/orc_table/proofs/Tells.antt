@@ -12,7 +12,6 @@ use Rattle.orc_heap.specs.Journals.{run_from as heap_from}
 use Rattle.orc_heap.specs.declared.discipline.Discipline as discipline
 use Rattle.orc_heap.specs.declared.events.Act.TheVariants as act
 use Rattle.orc_heap.specs.declared.events.Event.{Event}
-use Rattle.orc_heap.specs.declared.events.Link.{Link}
 use Rattle.orc_heap.proofs.Changes.{get-added}
 use Rattle.orc_shared_words.specs.Steps.{Extends, LaterJournal}
 use Rattle.orc_shared_words.specs.declared.journal.View.{View}
@@ -56,9 +55,6 @@ gate_word k x row tie lt = elim (out_or_not x.given row) [
 pub is_named : (a : ℕ) (h : Heap) (t : Option ℕ) → Named h.nodes t → IsTarget a h t
 is_named a h None x = tt
 is_named a h (Some id) x = record { node = x.0; there = x.1; known = inr x.2 }
-
-pub link_is : (l m : Link) → l.to ≡ m.to → l.mark ≡ m.mark → l ≡ m
-link_is l m e f = λ i. record { to = e i; mark = f i }
 
 module _ {D N : Type 0} (d : discipline.Ghosts D N) (q : PlainShape N) (v w : View (PlainStep N) (Unit {0})) (a c : ℕ) (fresh looked fresh2 looked2 : Option ℕ) (h : Keeps q (d.holds (numbers (bounds_of q.shape))) (d.may (numbers (bounds_of q.shape))) v a fresh) (e : c ≡ a) where
   abbrev k : Bounds
@@ -189,9 +185,6 @@ module _ {D N : Type 0} (d : discipline.Ghosts D N) (q : PlainShape N) (v w : Vi
   fill_adds row which value n is x =
       let held = subst (FreshHeld a (run k v.seen)) is h.untouched in
       subst (λ i. Adds may (event a (act.Fill i which value) None ∷ []) s t) (id_met (walked (Fill row which value) None n x) row held.0) (added (Fill row which value) None n x)
-
-  pub fill_answers : (row which value n : ℕ) → Made (Fill row which value) None n → n ≡ value
-  fill_answers row which value n x = (walked (Fill row which value) None n x).answers
 
   pub fill_keeps : (row which value n : ℕ) → fresh2 ≡ fresh → Made (Fill row which value) None n → Keeps q holds may w c fresh2
   fill_keeps row which value n f x = let y : State = at_step (walked (Fill row which value) None n x) in

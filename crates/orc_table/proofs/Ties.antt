@@ -434,9 +434,5 @@ tie_start k = record {
     targets (AtRoot r) l e = subst (λ (z : Link). Named [] z.to) (sym (all_null k.roots r l e)) tt
     targets (Next id) l e = cc
 
--- one more counter
-pub with_counters-next : (k : Bounds) (row : ℕ) (w : List ℕ) → with_counters k (row + 1) w ≡ slice_set (with_counters k row w) (row_place k row + 1) NEW_COUNTER
-with_counters-next k row w = let e : suc row ≡ row + 1 = omega arith in subst (λ n. with_counters k n w ≡ slice_set (with_counters k row w) (row_place k row + 1) NEW_COUNTER) e refl
-
 pub counted_long : (k : Bounds) (rows : ℕ) → length (with_counters k rows (replicate (places k) 0)) ≡ places k
 counted_long k rows = counted_length k rows (replicate (places k) 0) ∙ length-replicate (places k) 0

@@ -14,7 +14,7 @@ use Rattle.orc_heap.specs.declared.events.Act.TheVariants as act
 use Rattle.orc_heap.specs.declared.events.Event.{Event}
 use Rattle.orc_heap.specs.declared.events.Link.{Link}
 use Rattle.orc_heap.specs.declared.events.Place.{Place}
-use Rattle.orc_heap.proofs.Runs.{lawful-left, lawful-right, run_heap-snoc}
+use Rattle.orc_heap.proofs.Runs.{lawful-right, run_heap-snoc}
 use Rattle.orc_heap.proofs.Stays.{allowed-left, allowed-right}
 use Rattle.orc_shared_words.specs.Lists.{Among, Begins}
 use Rattle.orc_shared_words.specs.Runs.{steps_by}
@@ -98,7 +98,6 @@ fresh_stays a x y more e (Some row) keep h =
 
 -- a journal that a pass may come upon, from what it has seen
 pub record Mid {N : Type 0} (k : Bounds) (may : List (Event N) → Event N → Type 0) (seen between : List (PlainStep N)) (a : ℕ) : Type 0 where
-  pub first_tie : Tied k (run k seen)
   pub tie : Tied k (run_from k (run k seen) between)
   pub none : NoneBy a (project_from k (run k seen) between)
   pub fits : IsLawfulFrom (run k seen).heap (project_from k (run k seen) between)
@@ -130,7 +129,6 @@ module _ {D N : Type 0} (d : discipline.Ghosts D N) (k : Bounds) where
       let lawful = lawful_of [] (project k (seen ++ between)) began each in
       let first : IsLawfulFrom (start k).heap (project k seen ++ project_from k (run k seen) between) = subst (IsLawfulFrom (start k).heap) events lawful in
       record {
-        first_tie = tied k seen (allowed_front seen between can) (lawful-left (start k).heap (project k seen) (project_from k (run k seen) between) first);
         tie = subst (Tied k) state (tied k (seen ++ between) can lawful);
         none = others_none k a (run k seen) between none;
         fits = subst (λ z. IsLawfulFrom z (project_from k (run k seen) between)) (sym (heap_is k (start k) seen)) (lawful-right (start k).heap (project k seen) (project_from k (run k seen) between) first);

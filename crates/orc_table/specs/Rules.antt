@@ -66,9 +66,6 @@ module _ {N : Type 0} where
   SeedAllowed may b Empty = Unit {0}
   SeedAllowed may b (Dummy first begin) = DummyAllowed may b first begin
 
-  abbrev pub bounds : PlainShape N → Bounds
-  bounds k = bounds_of k.shape
-
   abbrev pub heap_numbers : PlainShape N → HeapNumbers
   heap_numbers k = numbers (bounds_of k.shape)
 

@@ -1,14 +1,19 @@
-//! Boards under a discipline that allows all that fits.
+//! Boards under a discipline that allows all that fits, and worked examples of the definitions.
 
-ghost use Rattle.std.specs.Prelude.{◌≡◌, ◌<◌, All, IfSome, MatchBool, None, Some, false};
+ghost use Rattle.std.specs.Prelude.{◌≡◌, ◌<◌, ◌≤◌, All, IfOk, IfSome, MatchBool, None, Some, false};
 ghost use Rattle.orc_shared_words.specs.Ticks.{AnyFit, plain_fits};
+ghost use Rattle.orc_words.specs.Bounds.{bounds_of};
 ghost use Rattle.orc_table.specs.Views.{Belongs, board_bounds, shows};
 
 use super::*;
+use orc_fault::NoMemory;
 use orc_heap::Discipline;
 use orc_words::{RowLink, Shape, Word};
+use std::alloc::Global;
 use std::test::Fail;
 use std::thread::{Threads, join_mut};
+
+mod examples;
 
 /// Whatever fits may follow.
 struct AnyFit;
@@ -123,6 +128,33 @@ fn look_at_root(board: &Board, p: &mut Pass) -> (u64, u64)
     let found = board.link_load(p, Word::Root(0), None, None);
     let again = board.link_load(p, Word::Root(0), Some(NULL), Some(5));
     (found, again)
+}
+
+// a board with one node, to which roots 0 and 1 link
+fn with_dummy(alloc: Global, shape: &Shape) -> Result<(Board, Vec<Pass>), NoMemory>
+    requires roots { 2 ≤ (bounds_of shape.now).roots }
+    ensures bounds { IfOk result (λ made. board_bounds made.0 ≡ bounds_of shape.now) }
+    ensures belongs { IfOk result (λ made. All (λ p. Belongs made.0 p) made.1.items) }
+    ensures fresh { IfOk result (λ made. All (λ p. (shows made.0 p).fresh ≡ None) made.1.items) }
+{
+    let seed = Seed::Dummy { first: 5, begin: 9 };
+    Board::make(alloc, shape, seed)
+}
+
+#[test]
+fn a_dummy_is_linked_from_two_roots(rt: HostRuntime) -> Result<(), Fail> {
+    let shape = Shape::new(2, 2, 1, 8)?;
+    let Ok((board, mut passes)) = with_dummy(rt.alloc(), &shape) else {
+        panic!(rt; "memory")
+    };
+    let Some(mut pass) = next_pass(&board, &mut passes) else {
+        panic!(rt; "one pass")
+    };
+    assert_eq!(rt; board.link_load(&mut pass, Word::Root(0), None, None), 2);
+    assert_eq!(rt; board.link_load(&mut pass, Word::Root(1), None, None), 2);
+    assert_eq!(rt; board.gate_look(&mut pass, 0), 3);
+    assert_eq!(rt; board.gate_look(&mut pass, 1), 0);
+    Ok(())
 }
 
 fn is_shared<T: Sync>() {}
