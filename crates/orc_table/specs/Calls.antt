@@ -151,4 +151,5 @@ module _ {N : Type 0} where
     pub absorbed : t.absorbed ≡ u.agent ∷ u.absorbed ++ s.absorbed
     pub rows : Begins t.rows s.rows
     pub own : events_by s.agent t.events ≡ events_by s.agent s.events
+    pub retired : (b : ℕ) → Among b s.absorbed → events_by b t.events ≡ events_by b s.events
     pub taken : events_by u.agent t.events ≡ events_by u.agent u.events
