@@ -14,3 +14,5 @@ pub mod Counting
 pub mod Giving
 pub mod Learning
 pub mod Making
+pub mod Rounds
+pub mod Draining

@@ -3,3 +3,4 @@ pub mod Given
 pub mod Passes
 pub mod Calls
 pub mod Laws
+pub mod Ends

@@ -2,6 +2,7 @@
 #![tactic(auto)]
 
 mod domain;
+mod ends;
 mod links;
 mod make;
 mod names;
