@@ -93,6 +93,73 @@ once_round rows begin most l out row m = dite (dec_lt row begin)
     let e : begin + (row - begin) ≡ row = omega (arith, ge) in
     subst (IsOut rows) (ap (λ z. z % most) e ∙ mod-eq_of_lt m) (out (row - begin) (omega (arith, m))))
 
+-- 1 for a row that is out
+abbrev pub out_bit : ℕ → List ℕ → ℕ
+out_bit row [] = 0
+out_bit row (x ∷ xs) = if x == row then 1 else out_bit row xs
+
+-- how many of the first rows are out
+abbrev pub outs : List ℕ → ℕ → ℕ
+outs rows zero = 0
+outs rows (suc n) = outs rows n + out_bit n rows
+
+bit_here : (row x : ℕ) (xs : List ℕ) → x ≡ row → out_bit row (x ∷ xs) ≡ 1
+bit_here row x xs e = ap (λ b. if b then 1 else out_bit row xs) (eq-eqb x row e)
+
+bit_later : (row x : ℕ) (xs : List ℕ) → x ≢ row → out_bit row (x ∷ xs) ≡ out_bit row xs
+bit_later row x xs ne = ap (λ b. if b then 1 else out_bit row xs) (ne_eqb x row ne)
+
+pub bit_out : (row : ℕ) (rows : List ℕ) → IsOut rows row → out_bit row rows ≡ 1
+bit_out row [] o = let e = o.1 in cc
+bit_out row (x ∷ xs) (zero, e) = bit_here row x xs (some_one x row e)
+bit_out row (x ∷ xs) (suc i, e) = dite (ℕ_discrete x row) (λ same. bit_here row x xs same) (λ ne. bit_later row x xs ne ∙ bit_out row xs (i, e))
+
+pub bit_free : (row : ℕ) (rows : List ℕ) → ¬ IsOut rows row → out_bit row rows ≡ 0
+bit_free row [] o = refl
+bit_free row (x ∷ xs) o = dite (ℕ_discrete x row) (λ same. absurd (o (0, ap Some same))) (λ ne. bit_later row x xs ne ∙ bit_free row xs (λ q. o (suc q.0, q.1)))
+
+outs_none : (n : ℕ) → outs [] n ≡ 0
+outs_none zero = refl
+outs_none (suc n) = let e = outs_none n in omega (arith, e)
+
+-- a row that isn't among the first
+outs_above : (x n : ℕ) (xs : List ℕ) → n ≤ x → outs (x ∷ xs) n ≡ outs xs n
+outs_above x zero xs l = refl
+outs_above x (suc n) xs l =
+    let a = outs_above x n xs (omega (arith, l)) in
+    let b = bit_later n x xs (λ e. omega (arith, l, e)) in
+    omega (arith, a, b)
+
+-- one that is
+outs_with : (x n : ℕ) (xs : List ℕ) → ¬ IsOut xs x → x < n → outs (x ∷ xs) n ≡ outs xs n + 1
+outs_with x zero xs new l = absurd (omega (arith, l))
+outs_with x (suc n) xs new l = dite (ℕ_discrete x n)
+    (λ e.
+        let a = outs_above x n xs (omega (arith, e)) in
+        let b = bit_here n x xs e in
+        let z : out_bit n xs ≡ 0 = subst (λ r. out_bit r xs ≡ 0) e (bit_free x xs new) in
+        omega (arith, a, b, z))
+    (λ ne.
+        let a = outs_with x n xs new (omega (arith, l, ne)) in
+        let b = bit_later n x xs ne in
+        omega (arith, a, b))
+
+-- all rows that were given are out
+pub outs_all : (rows : List ℕ) (most : ℕ) → Once rows → ((i row : ℕ) → slice_get rows i ≡ Some row → row < most) → outs rows most ≡ length rows
+outs_all [] most once inside = outs_none most
+outs_all (x ∷ xs) most once inside =
+    let rest = outs_all xs most (λ i j row e q. let s = once (suc i) (suc j) row e q in omega (arith, s)) (λ i row e. inside (suc i) row e) in
+    let all = outs_with x most xs (λ o. let s = once 0 (suc o.0) x refl o.1 in omega (arith, s)) (inside 0 x refl) in
+    omega (arith, rest, all)
+
+pub outs_low : (rows : List ℕ) (n : ℕ) → outs rows n ≤ n
+outs_low rows zero = omega arith
+outs_low rows (suc n) = let a = outs_low rows n in let b = bit_low n rows in omega (arith, a, b)
+  where
+    bit_low : (row : ℕ) (rows : List ℕ) → out_bit row rows ≤ 1
+    bit_low row [] = omega arith
+    bit_low row (x ∷ xs) = dite (ℕ_discrete x row) (λ same. let e = bit_here row x xs same in omega (arith, e)) (λ ne. let e = bit_later row x xs ne in let l = bit_low row xs in omega (arith, e, l))
+
 nodes_target : (f : Node → Node) (to : Option ℕ) (h : Heap) → length (change_target f to h).nodes ≡ length h.nodes
 nodes_target f None h = refl
 nodes_target f (Some i) h = length-change f i h.nodes

@@ -32,7 +32,7 @@ pub steps_are : {N : Type 0} (agent : ℕ) (es : List (Event N)) → steps_by (�
 steps_are agent [] = refl
 steps_are agent (e ∷ es) = ap (λ z. cond (e.agent == agent) (e ∷ z) z) (steps_are agent es)
 
-grow_seen : {N : Type 0} (b : Bounds) (may : List (Event N) → Event N → Type 0) (s t : PlainView N) → t.agent ≡ s.agent → Begins t.events s.events → Begins t.rows s.rows → AllAllowed may [] t.events → Grows b s t
+pub grow_seen : {N : Type 0} (b : Bounds) (may : List (Event N) → Event N → Type 0) (s t : PlainView N) → t.agent ≡ s.agent → Begins t.events s.events → Begins t.rows s.rows → AllAllowed may [] t.events → Grows b s t
 grow_seen b may s t agent events rows each = record {
   agent = agent;
   events = events;
@@ -44,7 +44,7 @@ grow_seen b may s t agent events rows each = record {
 nothing_more : {A : Type 0} (xs ys : List A) → xs ≡ ys → Begins xs ys
 nothing_more xs ys e = ([], e ∙ sym (append-nil ys))
 
-first_more : {N : Type 0} (s u t : PlainView N) → BoardLonger s u t → Begins t.events s.events
+pub first_more : {N : Type 0} (s u t : PlainView N) → BoardLonger s u t → Begins t.events s.events
 first_more s u t (inl l) = nothing_more t.events s.events l.1
 first_more s u t (inr l) = (l.0.0, l.1 ∙ l.0.1)
 

@@ -16,3 +16,4 @@ pub mod Learning
 pub mod Making
 pub mod Rounds
 pub mod Draining
+pub mod Resting

@@ -4,3 +4,4 @@ pub mod Passes
 pub mod Calls
 pub mod Laws
 pub mod Ends
+pub mod Rest

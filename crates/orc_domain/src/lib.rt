@@ -3,9 +3,14 @@
 
 mod domain;
 mod ends;
+mod laws;
 mod links;
 mod make;
 mod names;
+mod rest;
 mod steps;
 
-pub use domain::{PlainDomain, PlainPass};
+pub use domain::{PlainDomain, PlainPass, PlainRest};
+
+#[cfg(test)]
+mod tests;
