@@ -46,10 +46,10 @@ fn first_gives(domain: &Domain, passes: &mut [Pass]) -> Option<(u64, bool)>
     ensures all { AreAll domain.now passes.new }
     ensures idle { All (λ p. IsIdle (seat_of domain.now p)) passes.new }
 {
-    if let Some((first, _)) = passes.split_first_mut() {
-        return one_node(domain, first);
+    if passes.is_empty() {
+        return None;
     }
-    None
+    one_node(domain, &mut passes[0])
 }
 
 // all passes learn
