@@ -1,5 +1,5 @@
 -- How many rows were given.
-use Rattle.std.proofs.Common.{◌≡◌, ◌≢◌, ℕ, zero, suc, ◌+◌, ◌-◌, ◌<◌, ◌≤◌, ◌%◌, ◌==◌, List, [], ◌∷◌, ◌++◌, length, length-append, take, Bool, true, false, Option, Some, None, slice_get, refl, sym, ap, ◌∙◌, subst, arith, eq-eqb, ne_eqb}
+use Rattle.std.proofs.Common.{◌≡◌, ◌≢◌, ℕ, zero, suc, ◌+◌, ◌-◌, ◌<◌, ◌≤◌, ◌%◌, ◌==◌, List, [], ◌∷◌, length, length-append, false, Option, Some, None, slice_get, refl, sym, ap, ◌∙◌, subst, arith, eq-eqb, ne_eqb}
 use Rattle.std.proofs.Math.Decide.{dec_lt}
 use Rattle.std.proofs.Math.Nat.{add-mod_right, mod-eq_of_lt}
 use Rattle.std.proofs.Math.Seq.{take-length}
@@ -16,7 +16,7 @@ use Rattle.orc_heap.specs.declared.events.Event.{Event}
 use Rattle.orc_heap.specs.declared.events.Link.{Link}
 use Rattle.orc_heap.specs.declared.events.Place.{Place}
 use Rattle.orc_heap.specs.declared.events.Place.TheVariants.{Next, Root}
-use Rattle.orc_table.proofs.Lists.{at_index, index_in, lt_get, some_one}
+use Rattle.orc_table.proofs.Lists.{at_index, index_in, some_one}
 use Rattle.orc_table.specs.Machine.{index_of}
 use Rattle.orc_table.specs.Words.{IsOut, Once}
 use Rattle.orc_domain.specs.Given.{IsLacking, gives_in, one_if_give}
@@ -135,14 +135,14 @@ outs_with : (x n : ℕ) (xs : List ℕ) → ¬ IsOut xs x → x < n → outs (x 
 outs_with x zero xs new l = absurd (omega (arith, l))
 outs_with x (suc n) xs new l = dite (ℕ_discrete x n)
     (λ e.
-        let a = outs_above x n xs (omega (arith, e)) in
-        let b = bit_here n x xs e in
-        let z : out_bit n xs ≡ 0 = subst (λ r. out_bit r xs ≡ 0) e (bit_free x xs new) in
-        omega (arith, a, b, z))
+    let a = outs_above x n xs (omega (arith, e)) in
+    let b = bit_here n x xs e in
+    let z : out_bit n xs ≡ 0 = subst (λ r. out_bit r xs ≡ 0) e (bit_free x xs new) in
+    omega (arith, a, b, z))
     (λ ne.
-        let a = outs_with x n xs new (omega (arith, l, ne)) in
-        let b = bit_later n x xs ne in
-        omega (arith, a, b))
+    let a = outs_with x n xs new (omega (arith, l, ne)) in
+    let b = bit_later n x xs ne in
+    omega (arith, a, b))
 
 -- all rows that were given are out
 pub outs_all : (rows : List ℕ) (most : ℕ) → Once rows → ((i row : ℕ) → slice_get rows i ≡ Some row → row < most) → outs rows most ≡ length rows

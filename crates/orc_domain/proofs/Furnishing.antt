@@ -1,5 +1,5 @@
 -- The values of a row that was just given.
-use Rattle.std.proofs.Common.{◌≡◌, ◌≢◌, ℕ, zero, suc, ◌<◌, ◌==◌, List, [], ◌∷◌, ◌++◌, length, Bool, true, false, Option, Some, None, slice_get, slice_set, refl, sym, ap, ◌∙◌, subst, eq-eqb, ◌⊎◌, inl, inr, append_assoc}
+use Rattle.std.proofs.Common.{◌≡◌, ℕ, ◌<◌, ◌==◌, List, [], ◌∷◌, ◌++◌, length, false, Option, Some, None, slice_get, slice_set, refl, sym, ap, ◌∙◌, subst, eq-eqb, inl, append_assoc}
 use Rattle.std.proofs.lemmas.List.Elements.{filter-append}
 use Rattle.std.specs.List.{list_any}
 use Rattle.std.specs.Prelude.{if◌then◌else◌}
@@ -13,7 +13,6 @@ use Rattle.orc_heap.specs.Calls.{given_node}
 use Rattle.orc_heap.specs.Heap.{Node, new_node}
 use Rattle.orc_heap.specs.Journals.{points_to}
 use Rattle.orc_heap.specs.Parts.{Puts}
-use Rattle.orc_heap.specs.Slots.{Slots}
 use Rattle.orc_heap.specs.declared.discipline.Discipline as discipline
 use Rattle.orc_heap.specs.declared.events.Act.TheVariants.{Fill}
 use Rattle.orc_heap.specs.declared.events.Event.{Event}
@@ -28,11 +27,11 @@ use Rattle.orc_table.specs.declared.machine.PlainOp.{PlainOp}
 use Rattle.orc_table.specs.declared.machine.PlainStep.{PlainStep}
 use Rattle.orc_table.specs.declared.pass.PlainPass.{PlainPass as BoardPass}
 use Rattle.orc_table.specs.declared.seed.PlainShape.{PlainShape}
-use Rattle.orc_domain.specs.Passes.{IsPassOf, domain_bounds, domain_numbers, domain_opening, seat_of}
+use Rattle.orc_domain.specs.Passes.{IsPassOf, domain_bounds, domain_numbers, seat_of}
 use Rattle.orc_domain.specs.declared.domain.PlainDomain.{PlainDomain}
 use Rattle.orc_domain.specs.declared.domain.PlainPass.{PlainPass}
 use Rattle.orc_domain.specs.Calls.{Furnishes}
-use Rattle.orc_domain.specs.Rows.{seat_by, slots_by}
+use Rattle.orc_domain.specs.Rows.{seat_by}
 use Rattle.orc_domain.proofs.Growing.{Grows, adds_grow, adds_put, fresh_given, fresh_stays, grow_trans, held_given, index_stays, keeps_stay, mine, slots_stay}
 use Rattle.orc_domain.proofs.Releasing.{keeps_set}
 use Rattle.orc_domain.proofs.Rows.{slots_set}

@@ -1,10 +1,9 @@
 -- A search through all rows for one to give.
-use Rattle.std.proofs.Common.{◌≡◌, ◌≢◌, ℕ, zero, suc, ◌+◌, ◌<◌, ◌≤◌, ◌%◌, List, [], ◌∷◌, ◌++◌, length, Option, Some, None, slice_get, slice_set, refl, sym, ap, ◌∙◌, subst, arith, append-nil}
+use Rattle.std.proofs.Common.{◌≡◌, ℕ, ◌+◌, ◌<◌, ◌%◌, List, [], ◌∷◌, ◌++◌, length, Option, Some, None, slice_get, slice_set, refl, sym, ap, ◌∙◌, subst, arith, append-nil}
 use Rattle.std.proofs.Math.Decide.{dec_lt}
 use mathlib.Core.List.{IsPrefix}
 use mathlib.Core.Logic.{dite}
 use Rattle.orc_words.specs.Bounds.{Bounds, bounds_of}
-use Rattle.orc_words.specs.declared.shape.Shape.{Shape}
 use Rattle.orc_heap.proofs.Changes.{get-grown}
 use Rattle.orc_heap.proofs.Parts.{Only-trans, Puts-trans}
 use Rattle.orc_heap.specs.Calls.{Gives, given_node}
@@ -17,21 +16,20 @@ use Rattle.orc_heap.specs.declared.events.Event.{Event}
 use Rattle.orc_shared_words.specs.Lists.{Begins}
 use Rattle.orc_shared_words.specs.declared.machine.Machine as machine
 use Rattle.orc_table.specs.Machine.{event, id_by, index_of}
-use Rattle.orc_table.specs.Views.{PlainView, heap_of, shows}
+use Rattle.orc_table.specs.Views.{shows}
 use Rattle.orc_table.specs.Words.{IsOut}
 use Rattle.orc_table.specs.declared.machine.Plain.{Plain}
 use Rattle.orc_table.specs.declared.machine.PlainOp.{PlainOp}
 use Rattle.orc_table.specs.declared.machine.PlainStep.{PlainStep}
-use Rattle.orc_table.specs.declared.pass.PlainPass.{PlainPass as BoardPass}
 use Rattle.orc_table.specs.declared.seed.PlainShape.{PlainShape}
-use Rattle.orc_domain.specs.Passes.{IsPassOf, domain_bounds, domain_numbers, domain_opening, seat_of}
+use Rattle.orc_domain.specs.Passes.{IsPassOf, domain_bounds, domain_numbers, seat_of}
 use Rattle.orc_domain.specs.declared.domain.PlainDomain.{PlainDomain}
 use Rattle.orc_domain.specs.declared.domain.PlainPass.{PlainPass}
 use Rattle.orc_domain.specs.Calls.{Furnishes, IsSame, Loses, Takes}
-use Rattle.orc_domain.specs.Given.{IsLacking, gives_in}
+use Rattle.orc_domain.specs.Given.{IsLacking}
 use Rattle.orc_domain.specs.Laws.{seen_by}
 use Rattle.orc_domain.specs.Passes.{journal_of}
-use Rattle.orc_domain.specs.Rows.{seat_by, slots_by}
+use Rattle.orc_domain.specs.Rows.{slots_by}
 use Rattle.orc_domain.proofs.Counting.{lacks_all, nodes_given, once_round, rows_all}
 use Rattle.orc_domain.proofs.Growing.{held_given, tie}
 use Rattle.orc_domain.proofs.Rows.{slots_grow}

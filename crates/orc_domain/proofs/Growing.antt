@@ -1,11 +1,9 @@
 -- What a pass shows grows, and what it holds stays.
-use Rattle.std.proofs.Common.{◌≡◌, ◌≢◌, ℕ, zero, suc, ◌<◌, ◌==◌, List, [], ◌∷◌, ◌++◌, length, Option, Some, None, slice_get, slice_set, refl, sym, ap, ◌∙◌, subst, cond, append_assoc, eq-eqb}
+use Rattle.std.proofs.Common.{◌≡◌, ℕ, ◌<◌, ◌==◌, List, [], ◌∷◌, ◌++◌, length, Option, Some, None, slice_get, refl, sym, ap, ◌∙◌, subst, cond, append_assoc, eq-eqb}
 use Rattle.std.proofs.lemmas.List.Elements.{filter-append}
-use mathlib.Core.List.{IsPrefix}
-use Rattle.orc_words.specs.Bounds.{Bounds, bounds_of}
+use Rattle.orc_words.specs.Bounds.{Bounds}
 use Rattle.orc_heap.specs.Acts.{IsKnown}
-use Rattle.orc_heap.specs.Allowed.{AllAllowed, events_by}
-use Rattle.orc_heap.specs.Heap.{Heap}
+use Rattle.orc_heap.specs.Allowed.{events_by}
 use Rattle.orc_heap.specs.Journals.{run_heap}
 use Rattle.orc_heap.specs.Parts.{Only, Puts}
 use Rattle.orc_heap.specs.declared.discipline.Discipline as discipline
@@ -27,7 +25,7 @@ use Rattle.orc_table.specs.declared.machine.PlainOp.{PlainOp}
 use Rattle.orc_table.specs.declared.machine.PlainStep.{PlainStep}
 use Rattle.orc_table.specs.declared.pass.PlainPass.{PlainPass as BoardPass}
 use Rattle.orc_table.specs.declared.seed.PlainShape.{PlainShape}
-use Rattle.orc_domain.specs.Passes.{IsPassOf, domain_bounds, domain_numbers, domain_opening, seat_of}
+use Rattle.orc_domain.specs.Passes.{IsPassOf, domain_bounds, domain_numbers, seat_of}
 use Rattle.orc_domain.specs.Rows.{Keeps, seat_by, slots_by}
 use Rattle.orc_domain.specs.declared.domain.PlainDomain.{PlainDomain}
 use Rattle.orc_domain.specs.declared.domain.PlainPass.{PlainPass}

@@ -1,5 +1,5 @@
 -- Two passes that learn from each other.
-use Rattle.std.proofs.Common.{◌≡◌, ◌≢◌, ℕ, ◌==◌, List, [], ◌∷◌, ◌++◌, length, Bool, true, false, cond, Option, Some, None, refl, sym, ap, ◌∙◌, subst, ◌⊎◌, inl, inr, ⊎_elim, append-nil}
+use Rattle.std.proofs.Common.{◌≡◌, ℕ, ◌==◌, List, [], ◌∷◌, cond, refl, sym, ap, ◌∙◌, subst, inl, inr, append-nil}
 use Rattle.orc_words.specs.Bounds.{Bounds, bounds_of}
 use Rattle.orc_heap.proofs.Known.{known-later}
 use Rattle.orc_heap.proofs.Stays.{allowed-right}
@@ -14,17 +14,16 @@ use Rattle.orc_shared_words.specs.Lists.{Begins}
 use Rattle.orc_shared_words.specs.declared.machine.Machine as machine
 use Rattle.orc_table.specs.Calls.{IsLonger as BoardLonger, Learns as BoardLearns}
 use Rattle.orc_table.specs.Machine.{id_by, numbers}
-use Rattle.orc_table.specs.Views.{Belongs, PlainView, heap_of, shows, shows_by}
+use Rattle.orc_table.specs.Views.{Belongs, PlainView, shows, shows_by}
 use Rattle.orc_table.specs.declared.machine.Plain.{Plain}
 use Rattle.orc_table.specs.declared.machine.PlainOp.{PlainOp}
 use Rattle.orc_table.specs.declared.machine.PlainStep.{PlainStep}
 use Rattle.orc_table.specs.declared.pass.PlainPass.{PlainPass as BoardPass}
 use Rattle.orc_table.specs.declared.seed.PlainShape.{PlainShape}
-use Rattle.orc_domain.specs.Passes.{IsPassOf, domain_bounds, domain_numbers, domain_opening, seat_of}
+use Rattle.orc_domain.specs.Passes.{IsPassOf, domain_bounds, domain_numbers, seat_of}
 use Rattle.orc_domain.specs.declared.domain.PlainDomain.{PlainDomain}
 use Rattle.orc_domain.specs.declared.domain.PlainPass.{PlainPass}
-use Rattle.orc_domain.specs.Passes.{journal_of}
-use Rattle.orc_domain.specs.Rows.{seat_by, slots_by}
+use Rattle.orc_domain.specs.Rows.{seat_by}
 use Rattle.orc_domain.proofs.Growing.{Grows, fresh_given, fresh_stays, held_given, slots_stay, still_of}
 
 -- the steps of an agent are its events

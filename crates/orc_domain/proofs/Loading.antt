@@ -1,5 +1,5 @@
 -- A load of a link.
-use Rattle.std.proofs.Common.{◌≡◌, ◌≢◌, ℕ, zero, suc, ◌+◌, ◌*◌, ◌<◌, ◌≤◌, ◌&&◌, eqb, not, eq-eqb, List, [], ◌∷◌, length, Bool, true, false, Option, Some, None, slice_get, refl, sym, ap, ◌∙◌, subst, arith}
+use Rattle.std.proofs.Common.{◌≡◌, ℕ, ◌+◌, ◌*◌, ◌<◌, ◌≤◌, List, [], ◌∷◌, Bool, true, false, Option, Some, None, slice_get, refl, sym, ap, ◌∙◌, subst, arith}
 use Rattle.orc_words.specs.Bounds.{Bounds}
 use Rattle.orc_words.specs.Packed.{bit, link_word, name_word}
 use Rattle.orc_words.specs.declared.packed.RowLink.{RowLink}
@@ -13,7 +13,7 @@ use Rattle.orc_shared_words.specs.declared.machine.Machine as machine
 use Rattle.orc_table.proofs.Known.{ties}
 use Rattle.orc_table.proofs.Lists.{index_at}
 use Rattle.orc_table.specs.Calls.{Adds, Finds}
-use Rattle.orc_table.specs.Machine.{event, id_by, index_of, link_by, place_by}
+use Rattle.orc_table.specs.Machine.{event, id_by, link_by, place_by}
 use Rattle.orc_table.specs.Views.{Belongs, PlainView, heap_of, shows}
 use Rattle.orc_table.specs.Words.{IsWord, Once}
 use Rattle.orc_table.specs.declared.machine.Plain.{Plain}
@@ -21,7 +21,7 @@ use Rattle.orc_table.specs.declared.machine.PlainOp.{PlainOp}
 use Rattle.orc_table.specs.declared.machine.PlainStep.{PlainStep}
 use Rattle.orc_table.specs.declared.pass.PlainPass.{PlainPass as BoardPass}
 use Rattle.orc_table.specs.declared.seed.PlainShape.{PlainShape}
-use Rattle.orc_domain.specs.Passes.{IsPassOf, domain_bounds, domain_numbers, domain_opening, seat_of}
+use Rattle.orc_domain.specs.Passes.{IsPassOf, domain_bounds, domain_numbers}
 use Rattle.orc_domain.specs.declared.domain.PlainDomain.{PlainDomain}
 use Rattle.orc_domain.specs.declared.domain.PlainPass.{PlainPass}
 use Rattle.orc_domain.specs.Calls.{Loads}

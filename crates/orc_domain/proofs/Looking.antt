@@ -1,5 +1,5 @@
 -- A protected load.
-use Rattle.std.proofs.Common.{◌≡◌, ◌≢◌, ℕ, zero, suc, ◌<◌, List, [], ◌∷◌, ◌++◌, length, Bool, true, false, Option, Some, None, slice_get, slice_set, refl, sym, ap, ◌∙◌, subst}
+use Rattle.std.proofs.Common.{◌≡◌, ◌≢◌, ℕ, List, [], ◌∷◌, true, false, Option, Some, None, slice_set, refl, sym, ap, ◌∙◌, subst}
 use Rattle.orc_words.specs.Bounds.{Bounds}
 use Rattle.orc_words.specs.declared.packed.RowLink.{RowLink}
 use Rattle.orc_words.specs.declared.place.Word.{Word}
@@ -7,7 +7,7 @@ use Rattle.orc_heap.proofs.Parts.{Puts-trans}
 use Rattle.orc_heap.specs.Acts.{IsKnown, IsTarget}
 use Rattle.orc_heap.specs.Calls.{Looks, event_of}
 use Rattle.orc_heap.specs.Parts.{Puts}
-use Rattle.orc_heap.specs.Seats.{HoldsPlace, Seat, place_in}
+use Rattle.orc_heap.specs.Seats.{HoldsPlace, place_in}
 use Rattle.orc_heap.specs.Slots.{Hold, Slots}
 use Rattle.orc_heap.specs.declared.discipline.Discipline as discipline
 use Rattle.orc_heap.specs.declared.events.Act.TheVariants.{Look}
@@ -19,15 +19,14 @@ use Rattle.orc_heap.specs.declared.holds.Looked.TheVariants.{Moved, Stable}
 use Rattle.orc_shared_words.specs.declared.machine.Machine as machine
 use Rattle.orc_table.proofs.Lists.{some_one}
 use Rattle.orc_table.proofs.Ties.{Given, given_by}
-use Rattle.orc_table.specs.Calls.{Adds, KnowsPlace, KnowsRow}
+use Rattle.orc_table.specs.Calls.{KnowsPlace, KnowsRow}
 use Rattle.orc_table.specs.Machine.{event, id_by, index_of, link_by, place_by, run}
-use Rattle.orc_table.specs.Views.{Belongs, PlainView, heap_of, shows}
+use Rattle.orc_table.specs.Views.{PlainView, heap_of, shows}
 use Rattle.orc_table.specs.declared.machine.Plain.{Plain}
 use Rattle.orc_table.specs.declared.machine.PlainOp.{PlainOp}
 use Rattle.orc_table.specs.declared.machine.PlainStep.{PlainStep}
-use Rattle.orc_table.specs.declared.pass.PlainPass.{PlainPass as BoardPass}
 use Rattle.orc_table.specs.declared.seed.PlainShape.{PlainShape}
-use Rattle.orc_domain.specs.Passes.{IsPassOf, domain_bounds, domain_numbers, domain_opening, seat_of}
+use Rattle.orc_domain.specs.Passes.{IsPassOf, domain_bounds, domain_numbers, seat_of}
 use Rattle.orc_domain.specs.declared.domain.PlainDomain.{PlainDomain}
 use Rattle.orc_domain.specs.declared.domain.PlainPass.{PlainPass}
 use Rattle.orc_domain.specs.Calls.{IsSame, Loads}

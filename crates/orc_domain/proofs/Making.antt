@@ -1,22 +1,21 @@
 -- New passes, which hold nothing.
-use Rattle.std.proofs.Common.{All, ◌≡◌, ℕ, zero, suc, ◌<◌, List, [], ◌∷◌, length, replicate, Option, Some, None, slice_get, slice_index_or, refl, sym, ap, ◌∙◌, subst}
+use Rattle.std.proofs.Common.{All, ◌≡◌, ℕ, zero, suc, ◌<◌, List, ◌∷◌, length, replicate, Option, Some, None, slice_get, slice_index_or, refl, sym, ap, ◌∙◌, subst}
 use Rattle.orc_words.specs.Bounds.{Bounds, bounds_of}
 use Rattle.orc_heap.specs.Seats.{IsIdle}
 use Rattle.orc_heap.specs.declared.discipline.Discipline as discipline
-use Rattle.orc_heap.specs.declared.events.Event.{Event}
 use Rattle.orc_shared_words.specs.Lists.{EachAt}
 use Rattle.orc_shared_words.specs.declared.machine.Machine as machine
 use Rattle.orc_table.specs.Machine.{id_by}
-use Rattle.orc_table.specs.Views.{Belongs, EachFrom, PlainView, shows}
+use Rattle.orc_table.specs.Views.{Belongs, EachFrom, shows}
 use Rattle.orc_table.specs.declared.machine.Plain.{Plain}
 use Rattle.orc_table.specs.declared.machine.PlainOp.{PlainOp}
 use Rattle.orc_table.specs.declared.machine.PlainStep.{PlainStep}
 use Rattle.orc_table.specs.declared.pass.PlainPass.{PlainPass as BoardPass}
 use Rattle.orc_table.specs.declared.seed.PlainShape.{PlainShape}
-use Rattle.orc_domain.specs.Passes.{IsPassOf, domain_bounds, domain_numbers, domain_opening, seat_of}
+use Rattle.orc_domain.specs.Passes.{IsPassOf, domain_bounds, seat_of}
 use Rattle.orc_domain.specs.declared.domain.PlainDomain.{PlainDomain}
 use Rattle.orc_domain.specs.declared.domain.PlainPass.{PlainPass}
-use Rattle.orc_domain.specs.Rows.{Keeps, slots_by}
+use Rattle.orc_domain.specs.Rows.{slots_by}
 
 none_there : (n slot row : ℕ) → slice_get (replicate n None) slot ≡ Some (Some row) → ⊥
 none_there zero slot row e = cc

@@ -1,13 +1,10 @@
 -- What a caller names, by what the pass holds.
 use Rattle.std.specs.Borrow.{Bor}
-use Rattle.std.proofs.Common.{◌≡◌, ◌≢◌, ℕ, zero, suc, ◌<◌, List, [], ◌∷◌, ◌++◌, length, Option, Some, None, slice_get, slice_set, false, refl, sym, ap, ◌∙◌, subst}
-use Rattle.orc_words.specs.Bounds.{Bounds, bounds_of}
-use Rattle.orc_words.specs.declared.packed.RowLink.{RowLink}
-use Rattle.orc_heap.specs.Acts.{IsKnown}
+use Rattle.std.proofs.Common.{◌≡◌, ◌≢◌, ℕ, ◌<◌, length, Option, Some, None, slice_get, false, refl, sym, ap, ◌∙◌, subst}
+use Rattle.orc_words.specs.Bounds.{Bounds}
 use Rattle.orc_heap.specs.Seats.{HoldsFresh, HoldsPlace, HoldsTarget, HoldsWant, link_in, place_in, target_in}
 use Rattle.orc_heap.specs.Slots.{Hold, Holds, id_in}
 use Rattle.orc_heap.specs.declared.discipline.Discipline as discipline
-use Rattle.orc_heap.specs.declared.events.Link.{Link}
 use Rattle.orc_heap.specs.declared.events.Place.TheVariants.{Next}
 use Rattle.orc_heap.specs.declared.holds.At.{At}
 use Rattle.orc_heap.specs.declared.holds.At.TheVariants.{Node as AtNode, Root as AtRoot}
@@ -19,7 +16,7 @@ use Rattle.orc_table.proofs.Lists.{at_index, some_one}
 use Rattle.orc_table.proofs.Ties.{Given}
 use Rattle.orc_table.specs.Calls.{KnowsPlace, KnowsRow, KnowsTarget}
 use Rattle.orc_table.specs.Machine.{id_by, index_of, link_by, place_by}
-use Rattle.orc_table.specs.Views.{PlainView, heap_of, shows}
+use Rattle.orc_table.specs.Views.{PlainView, shows}
 use Rattle.orc_table.specs.declared.machine.Plain.{Plain}
 use Rattle.orc_table.specs.declared.machine.PlainOp.{PlainOp}
 use Rattle.orc_table.specs.declared.machine.PlainStep.{PlainStep}

@@ -1,23 +1,19 @@
 -- Slots that are set, and holds that are released.
-use Rattle.std.proofs.Common.{◌≡◌, ◌≢◌, ℕ, zero, suc, ◌<◌, List, [], ◌∷◌, ◌++◌, length, length-set, Option, Some, None, slice_get, slice_set, refl, sym, ap, ◌∙◌, subst, ◌⊎◌, inl, inr, append-nil}
+use Rattle.std.proofs.Common.{◌≡◌, ℕ, zero, suc, ◌<◌, List, [], ◌∷◌, length, length-set, Option, Some, None, slice_get, slice_set, refl, sym, ap, ◌∙◌, subst, ◌⊎◌, inl, inr, append-nil}
 use Rattle.orc_words.specs.Bounds.{Bounds}
 use Rattle.orc_heap.specs.Calls.{Releases, unless_node}
-use Rattle.orc_heap.specs.Parts.{Puts}
-use Rattle.orc_heap.specs.Slots.{Hold, Holds, id_in}
+use Rattle.orc_heap.specs.Slots.{Hold, Holds}
 use Rattle.orc_heap.specs.declared.discipline.Discipline as discipline
-use Rattle.orc_heap.specs.declared.events.Event.{Event}
 use Rattle.orc_shared_words.specs.declared.machine.Machine as machine
 use Rattle.orc_table.proofs.Lists.{get_lt, some_one}
-use Rattle.orc_table.proofs.Ties.{Given}
 use Rattle.orc_table.specs.Calls.{KnowsRow, unless_linked}
-use Rattle.orc_table.specs.Machine.{id_by, index_of}
-use Rattle.orc_table.specs.Views.{Belongs, PlainView, shows}
+use Rattle.orc_table.specs.Machine.{id_by}
+use Rattle.orc_table.specs.Views.{PlainView, shows}
 use Rattle.orc_table.specs.declared.machine.Plain.{Plain}
 use Rattle.orc_table.specs.declared.machine.PlainOp.{PlainOp}
 use Rattle.orc_table.specs.declared.machine.PlainStep.{PlainStep}
-use Rattle.orc_table.specs.declared.pass.PlainPass.{PlainPass as BoardPass}
 use Rattle.orc_table.specs.declared.seed.PlainShape.{PlainShape}
-use Rattle.orc_domain.specs.Passes.{IsPassOf, domain_bounds, domain_numbers, domain_opening, seat_of}
+use Rattle.orc_domain.specs.Passes.{IsPassOf, domain_bounds, seat_of}
 use Rattle.orc_domain.specs.declared.domain.PlainDomain.{PlainDomain}
 use Rattle.orc_domain.specs.declared.domain.PlainPass.{PlainPass}
 use Rattle.orc_domain.specs.Calls.{IsSame, Retires}

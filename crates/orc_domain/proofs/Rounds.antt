@@ -1,13 +1,13 @@
 -- A pass that learns from others, one after another, and then once more.
-use Rattle.std.proofs.Common.{All, ◌≡◌, ◌≢◌, ℕ, zero, suc, ◌+◌, ◌<◌, ◌≤◌, List, [], ◌∷◌, ◌++◌, length, length-append, slice_index_or, refl, sym, ap, ◌∙◌, subst, arith, ◌⊎◌, inl, inr, append_assoc, append-nil}
+use Rattle.std.proofs.Common.{◌≡◌, ℕ, zero, suc, ◌<◌, ◌≤◌, List, [], ◌∷◌, ◌++◌, length, length-append, slice_index_or, refl, sym, ap, ◌∙◌, subst, arith, inl, inr, append_assoc, append-nil}
 use Rattle.std.proofs.lemmas.List.{nil_from_length}
 use Rattle.std.specs.List.{AllByRecursion}
 use mathlib.Core.List.{IsPrefix}
 use Rattle.orc_heap.specs.Allowed.{events_by}
-use Rattle.orc_heap.specs.Calls.{IsLonger, Learns}
+use Rattle.orc_heap.specs.Calls.{Learns}
 use Rattle.orc_heap.specs.Seats.{Seat}
 use Rattle.orc_heap.specs.declared.events.Event.{Event}
-use Rattle.orc_domain.specs.Ends.{HasOwn, Hears, HearsAll, Pairwise, Round}
+use Rattle.orc_domain.specs.Ends.{Hears, HearsAll, Pairwise, Round}
 
 prefix_same : {A : Type 0} (xs ys : List A) → ys ≡ xs → IsPrefix xs ys
 prefix_same xs ys e = ([], append-nil xs ∙ sym e)
@@ -120,9 +120,11 @@ module _ {N : Type 0} where
     pub all_heard : (s t u : Seat N) (ws vs xs : List W) → Round seat s t ws vs → Round seat t u vs xs → (u.seen ≡ t.seen) × Pairwise (λ w x. HearsAll t.seen (seat w) (seat x)) ws xs
     all_heard s t u ws vs xs r q =
         let seen : AllByRecursion (λ v. IsPrefix (seat v).seen t.seen) vs = pairwise_all (λ w v. Hears (seat w) (seat v) × IsPrefix (seat v).seen t.seen) (λ w. Unit {0}) (λ v. IsPrefix (seat v).seen t.seen) (λ w v h _. h.1) ws vs r.others (all_unit ws) in
-        let a = q.again seen in
-        (a.0, pairwise_join (λ w v. Hears (seat w) (seat v) × IsPrefix (seat v).seen t.seen) (λ v x. HearsAll t.seen (seat v) (seat x)) (λ w x. HearsAll t.seen (seat w) (seat x))
-            (λ w v x h k. record { hears = hears_trans (seat w) (seat v) (seat x) h.0 k.hears; seen = k.seen }) ws vs xs r.others a.1)
+        let a = q.again seen in (
+          a.0,
+          pairwise_join (λ w v. Hears (seat w) (seat v) × IsPrefix (seat v).seen t.seen) (λ v x. HearsAll t.seen (seat v) (seat x)) (λ w x. HearsAll t.seen (seat w) (seat x))
+              (λ w v x h k. record { hears = hears_trans (seat w) (seat v) (seat x) h.0 k.hears; seen = k.seen }) ws vs xs r.others a.1,
+        )
       where
         all_unit : (zs : List W) → AllByRecursion (λ (z : W). Unit {0}) zs
         all_unit [] = tt

@@ -1,23 +1,18 @@
 -- A row that is taken out, and its node.
-use Rattle.std.proofs.Common.{◌≡◌, ◌≢◌, ℕ, zero, suc, ◌+◌, ◌<◌, ◌≤◌, ◌%◌, ◌==◌, List, [], ◌∷◌, ◌++◌, length, length-append, Bool, true, false, cond, Option, Some, None, slice_get, slice_set, refl, sym, ap, ◌∙◌, subst, arith, eq-eqb, ◌⊎◌, inl, inr, append_assoc}
+use Rattle.std.proofs.Common.{◌≡◌, ℕ, ◌≤◌, ◌%◌, ◌==◌, List, [], ◌∷◌, ◌++◌, length, length-append, Bool, true, false, Some, None, slice_get, refl, sym, ap, ◌∙◌, subst, arith, ◌⊎◌, inl, inr}
 use Rattle.std.proofs.lemmas.Bool.{eqb-true, eqb-false}
-use Rattle.std.specs.List.{list_any}
-use Rattle.std.specs.Prelude.{MatchBool, if◌then◌else◌}
+use Rattle.std.specs.Prelude.{MatchBool}
 use Rattle.orc_words.specs.Bounds.{Bounds}
 use Rattle.orc_heap.proofs.Changes.{get-added}
-use Rattle.orc_heap.proofs.Fresh.{IsOwn, IsOwnNode, own_node_told, touched_by}
 use Rattle.orc_heap.proofs.Parts.{Puts-trans}
 use Rattle.orc_heap.proofs.Runs.{run_heap-snoc}
-use Rattle.orc_heap.proofs.Stays.{allowed-join}
-use Rattle.orc_heap.specs.Acts.{IsKnown, with_value}
 use Rattle.orc_heap.specs.Allowed.{events_by}
-use Rattle.orc_heap.specs.Heap.{Heap, Node, new_node}
-use Rattle.orc_heap.specs.Journals.{points_to, run_heap}
+use Rattle.orc_heap.specs.Heap.{Heap, new_node}
+use Rattle.orc_heap.specs.Journals.{run_heap}
 use Rattle.orc_heap.specs.Parts.{Puts}
 use Rattle.orc_heap.specs.declared.discipline.Discipline as discipline
-use Rattle.orc_heap.specs.declared.events.Act.TheVariants.{Fill, Give}
+use Rattle.orc_heap.specs.declared.events.Act.TheVariants.{Give}
 use Rattle.orc_heap.specs.declared.events.Event.{Event}
-use Rattle.orc_shared_words.specs.Lists.{Begins}
 use Rattle.orc_shared_words.specs.declared.machine.Machine as machine
 use Rattle.orc_table.proofs.Lists.{get_last, index_at}
 use Rattle.orc_table.specs.Calls.{Adds, Gives as BoardGives, Loses as BoardLoses}
@@ -29,10 +24,10 @@ use Rattle.orc_table.specs.declared.machine.PlainOp.{PlainOp}
 use Rattle.orc_table.specs.declared.machine.PlainStep.{PlainStep}
 use Rattle.orc_table.specs.declared.pass.PlainPass.{PlainPass as BoardPass}
 use Rattle.orc_table.specs.declared.seed.PlainShape.{PlainShape}
-use Rattle.orc_domain.specs.Passes.{IsPassOf, domain_bounds, domain_numbers, domain_opening, seat_of}
+use Rattle.orc_domain.specs.Passes.{IsPassOf, domain_bounds, domain_numbers}
 use Rattle.orc_domain.specs.declared.domain.PlainDomain.{PlainDomain}
 use Rattle.orc_domain.specs.declared.domain.PlainPass.{PlainPass}
-use Rattle.orc_domain.specs.Calls.{Furnishes, Loses, Takes}
+use Rattle.orc_domain.specs.Calls.{Loses, Takes}
 use Rattle.orc_domain.specs.Rows.{seat_by}
 use Rattle.orc_domain.proofs.Growing.{Grows, adds_grow, adds_put, grow_trans, mine, still_of, tie}
 

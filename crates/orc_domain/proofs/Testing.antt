@@ -1,7 +1,7 @@
 -- Links that are tested and swung.
-use Rattle.std.proofs.Common.{◌≡◌, ◌≢◌, ℕ, zero, suc, ◌<◌, ◌≤◌, ◌==◌, List, [], ◌∷◌, length, Bool, true, false, cond, Option, Some, None, refl, sym, ap, ◌∙◌, subst, arith, eq-eqb, ne_eqb}
+use Rattle.std.proofs.Common.{◌≡◌, ◌≢◌, ℕ, ◌≤◌, ◌==◌, List, [], ◌∷◌, Bool, true, false, cond, Option, Some, None, refl, sym, ap, ◌∙◌, subst, arith, eq-eqb, ne_eqb}
 use Rattle.std.proofs.lemmas.Bool.{eqb-true, eqb-false}
-use Rattle.std.specs.Prelude.{MatchBool, if◌then◌else◌}
+use Rattle.std.specs.Prelude.{if◌then◌else◌}
 use mathlib.Core.Logic.{dite}
 use native.Mathlib.Decide.{ℕ_discrete}
 use Rattle.orc_words.specs.Bounds.{Bounds}
@@ -13,7 +13,6 @@ use Rattle.orc_heap.specs.Calls.{Misses as HeapMisses, Swings, Tests, look_of, m
 use Rattle.orc_heap.specs.Parts.{Puts}
 use Rattle.orc_heap.specs.Seats.{HoldsPlace, HoldsWant, link_in, place_in}
 use Rattle.orc_heap.specs.declared.discipline.Discipline as discipline
-use Rattle.orc_heap.specs.declared.events.Act.{Act}
 use Rattle.orc_heap.specs.declared.events.Act.TheVariants.{Look, Miss, Move}
 use Rattle.orc_heap.specs.declared.events.Event.{Event}
 use Rattle.orc_heap.specs.declared.events.Link.{Link}
@@ -24,13 +23,13 @@ use Rattle.orc_shared_words.specs.declared.machine.Machine as machine
 use Rattle.orc_table.proofs.Ties.{Given}
 use Rattle.orc_table.specs.Calls.{Adds, Fails, KnowsPlace, KnowsTarget, MayWhereShown, Misses, look_event, move_event, unless_linked}
 use Rattle.orc_table.specs.Machine.{event, id_by, index_of, link_by, place_by}
-use Rattle.orc_table.specs.Views.{Belongs, PlainView, heap_of, shows}
+use Rattle.orc_table.specs.Views.{Belongs, PlainView, shows}
 use Rattle.orc_table.specs.declared.machine.Plain.{Plain}
 use Rattle.orc_table.specs.declared.machine.PlainOp.{PlainOp}
 use Rattle.orc_table.specs.declared.machine.PlainStep.{PlainStep}
 use Rattle.orc_table.specs.declared.pass.PlainPass.{PlainPass as BoardPass}
 use Rattle.orc_table.specs.declared.seed.PlainShape.{PlainShape}
-use Rattle.orc_domain.specs.Passes.{IsPassOf, domain_bounds, domain_numbers, domain_opening, seat_of}
+use Rattle.orc_domain.specs.Passes.{IsPassOf, domain_bounds, domain_numbers, seat_of}
 use Rattle.orc_domain.specs.declared.domain.PlainDomain.{PlainDomain}
 use Rattle.orc_domain.specs.declared.domain.PlainPass.{PlainPass}
 use Rattle.orc_domain.specs.Rows.{row_link, seat_by, word_at}

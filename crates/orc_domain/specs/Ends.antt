@@ -1,5 +1,5 @@
 -- What all passes of a domain have seen together.
-use Rattle.std.specs.Prelude.{All, List, [], length, ℕ, ◌<◌, ◌∷◌, ◌≡◌, ◌≤◌}
+use Rattle.std.specs.Prelude.{All, List, [], length, ℕ, ◌∷◌, ◌≡◌, ◌≤◌}
 use Rattle.std.specs.List.{AllByRecursion}
 use mathlib.Core.List.{IsPrefix}
 use Rattle.orc_heap.specs.Allowed.{events_by}
@@ -52,13 +52,13 @@ module _ {N : Type 0} where
 module _ {D N : Type 0} {d : discipline.Ghosts D N} {m : machine.Ghosts Plain N (PlainShape N) PlainOp (PlainStep N) (Unit {0}) (Unit {0})}
     (domain : PlainDomain D N)
   where
-  -- these are all passes of the domain, in order of agent
-  pub record AreAll (passes : List (PlainPass D N (PlainShape N) PlainOp (PlainStep N) (Unit {0}) (Unit {0}) d m)) : Type 0 where
-    pub many : length passes ≡ (domain_bounds domain).agents
-    pub belong : All (λ p. IsPassOf domain p) passes
-    pub order : EachAt (λ i p. (seat_of domain p).agent ≡ i) passes
+    -- these are all passes of the domain, in order of agent
+    pub record AreAll (passes : List (PlainPass D N (PlainShape N) PlainOp (PlainStep N) (Unit {0}) (Unit {0}) d m)) : Type 0 where
+      pub many : length passes ≡ (domain_bounds domain).agents
+      pub belong : All (λ p. IsPassOf domain p) passes
+      pub order : EachAt (λ i p. (seat_of domain p).agent ≡ i) passes
 
-  -- the events that the first pass has seen
-  abbrev pub first_seen : List (PlainPass D N (PlainShape N) PlainOp (PlainStep N) (Unit {0}) (Unit {0}) d m) → List (Event N)
-  first_seen [] = []
-  first_seen (p ∷ ps) = (seat_of domain p).seen
+    -- the events that the first pass has seen
+    abbrev pub first_seen : List (PlainPass D N (PlainShape N) PlainOp (PlainStep N) (Unit {0}) (Unit {0}) d m) → List (Event N)
+    first_seen [] = []
+    first_seen (p ∷ ps) = (seat_of domain p).seen

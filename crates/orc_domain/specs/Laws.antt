@@ -4,7 +4,7 @@ use Rattle.std.specs.List.{list_all}
 use mathlib.Core.List.{IsPrefix}
 use Rattle.std.proofs.Common.{sym, ap, ◌∙◌, subst, length-append, arith}
 use Rattle.std.proofs.lemmas.Bool.{eq-eqb}
-use Rattle.orc_words.specs.Bounds.{Bounds, bounds_of}
+use Rattle.orc_words.specs.Bounds.{Bounds}
 use Rattle.orc_heap.specs.Acts.{IsKnown}
 use Rattle.orc_heap.specs.Allowed.{AllAllowed}
 use Rattle.orc_heap.specs.Journals.{run_heap}

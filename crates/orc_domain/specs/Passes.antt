@@ -1,5 +1,5 @@
 -- The passes of a domain.
-use Rattle.std.specs.Prelude.{◌≡◌, ℕ, List}
+use Rattle.std.specs.Prelude.{◌≡◌, List}
 use Rattle.orc_words.specs.Bounds.{Bounds, bounds_of}
 use Rattle.orc_heap.specs.Heap.{HeapNumbers}
 use Rattle.orc_heap.specs.Seats.{Seat}
@@ -7,7 +7,7 @@ use Rattle.orc_heap.specs.declared.discipline.Discipline as discipline
 use Rattle.orc_heap.specs.declared.events.Event.{Event}
 use Rattle.orc_shared_words.specs.declared.machine.Machine as machine
 use Rattle.orc_table.specs.Rules.{opening_events}
-use Rattle.orc_table.specs.Views.{Belongs, PlainView, board_bounds, board_numbers, board_seed, shows, shows_by}
+use Rattle.orc_table.specs.Views.{Belongs, board_bounds, board_numbers, board_seed, shows, shows_by}
 use Rattle.orc_table.specs.declared.machine.Plain.{Plain}
 use Rattle.orc_table.specs.declared.machine.PlainOp.{PlainOp}
 use Rattle.orc_table.specs.declared.machine.PlainStep.{PlainStep}

@@ -1,16 +1,19 @@
 //! Domains on threads, domains that run out of rows, and domains at rest.
 
-ghost use Rattle.std.specs.Prelude.{◌≡◌, ◌<◌, All, IfSome, None};
+ghost use Rattle.std.specs.Prelude.{◌≡◌, ◌<◌, ◌≤◌, All, IfOk, IfSome};
 ghost use Rattle.orc_heap.specs.Seats.{IsIdle};
-ghost use Rattle.links_example.specs.Stacks.{HasTop};
+ghost use Rattle.orc_words.specs.Bounds.{bounds_of};
 ghost use Rattle.orc_domain.specs.Ends.{AreAll, HasOwn, first_seen};
 ghost use Rattle.orc_domain.specs.Passes.{IsPassOf, domain_numbers, seat_of};
+ghost use Rattle.orc_domain.specs.Ready.{IsReady};
 
 use super::*;
 use links_example::{OwnRoots, Refused, through_a_stack};
+use orc_fault::NoMemory;
 use orc_heap::{At, Links, Want};
 use orc_table::Seed;
 use orc_words::Shape;
+use std::alloc::Global;
 use std::test::Fail;
 use std::thread::{Threads, join_mut};
 
@@ -79,45 +82,76 @@ fn two_rows_are_given_once_each(rt: HostRuntime) -> Result<(), Fail> {
     let Ok((domain, mut passes)) = Domain::make(rt.alloc(), &shape, Seed::Empty) else {
         panic!(rt; "memory")
     };
-    assert_eq!(rt; first_gives(&domain, passes.as_mut_slice()), Some((9, true)));
-    assert_eq!(rt; first_gives(&domain, passes.as_mut_slice()), Some((9, true)));
+    assert_eq!(rt;
+        first_gives(&domain, passes.as_mut_slice()),
+        Some((9, true))
+    );
+    assert_eq!(rt;
+        first_gives(&domain, passes.as_mut_slice()),
+        Some((9, true))
+    );
     assert_eq!(rt; first_gives(&domain, passes.as_mut_slice()), None);
     assert_eq!(rt; numbers_at_rest(domain, passes), (2, 0, 2));
     Ok(())
 }
 
+// a domain in which each agent has a root, which is null
+fn with_roots(alloc: Global, shape: &Shape) -> Result<(Domain, Vec<Pass>), NoMemory>
+    requires roots { (bounds_of shape.now).agents ≤ (bounds_of shape.now).roots }
+    ensures pass { IfOk result (λ made. All (λ p. IsPassOf made.0 p) made.1.items) }
+    ensures ready { IfOk result (λ made. All (λ p. IsReady (domain_numbers made.0) (seat_of made.0 p)) made.1.items) }
+{
+    Domain::make(alloc, shape, Seed::Empty)
+}
+
 // the last of the domain's new passes
 fn next_pass(domain: &Domain, passes: &mut Vec<Pass>) -> Option<Pass>
     requires pass { All (λ p. IsPassOf domain.now p) passes.old.items }
-    requires idle { All (λ p. IsIdle (seat_of domain.now p)) passes.old.items }
+    requires ready { All (λ p. IsReady (domain_numbers domain.now) (seat_of domain.now p)) passes.old.items }
     ensures pass { All (λ p. IsPassOf domain.now p) passes.new.items }
-    ensures idle { All (λ p. IsIdle (seat_of domain.now p)) passes.new.items }
+    ensures ready { All (λ p. IsReady (domain_numbers domain.now) (seat_of domain.now p)) passes.new.items }
     ensures popped { IfSome result (λ p. IsPassOf domain.now p) }
-    ensures idle_too { IfSome result (λ p. IsIdle (seat_of domain.now p)) }
+    ensures next { IfSome result (λ p. IsReady (domain_numbers domain.now) (seat_of domain.now p)) }
 {
     passes.pop()
 }
 
-// two agents use the domain, each in a thread of its own
+// an agent puts two values on its stack, and reads them there
+fn through_own_stack(
+    domain: &Domain,
+    p: &mut Pass,
+    lower: u64,
+    upper: u64,
+) -> Result<(u64, u64), Refused>
+    requires pass { IsPassOf domain.now p.old }
+    requires ready { IsReady (domain_numbers domain.now) (seat_of domain.now p.old) }
+    ensures pass { IsPassOf domain.now p.new }
+    ensures read { IfOk result (λ got. got ≡ (upper, lower)) }
+{
+    through_a_stack(domain, p, lower, upper)
+}
+
+// two agents do so, each in a thread of its own
 fn on_two_threads<R: Threads + Sync>(
     rt: &R,
     domain: &Domain,
     one: &mut Pass,
     two: &mut Pass,
-) -> (Option<(u64, bool)>, Option<(u64, bool)>)
+) -> (Result<(u64, u64), Refused>, Result<(u64, u64), Refused>)
     requires pass { IsPassOf domain.now one.old × IsPassOf domain.now two.old }
-    requires idle { IsIdle (seat_of domain.now one.old) × IsIdle (seat_of domain.now two.old) }
-    requires roots { 0 < (domain_numbers domain.now).roots }
-    ensures pass { IsPassOf domain.now one.new × IsPassOf domain.now two.new }
-    ensures idle { IsIdle (seat_of domain.now one.new) × IsIdle (seat_of domain.now two.new) }
+    requires ready { IsReady (domain_numbers domain.now) (seat_of domain.now one.old) × IsReady (domain_numbers domain.now) (seat_of domain.now two.old) }
 {
-    join_mut(rt, &mut || one_node(domain, one), &mut || one_node(domain, two))
+    join_mut(
+        rt,
+        &mut || through_own_stack(domain, one, 1, 2),
+        &mut || through_own_stack(domain, two, 3, 4),
+    )
 }
 
 #[test]
 fn two_threads_share_the_rows(rt: HostRuntime) -> Result<(), Fail> {
-    let shape = Shape::new(2, 1, 2, 8)?;
-    let Ok((domain, mut passes)) = Domain::make(rt.alloc(), &shape, Seed::Empty) else {
+    let shape = Shape::new(4, 2, 2, 8)?;
+    let Ok((domain, mut passes)) = with_roots(rt.alloc(), &shape) else {
         panic!(rt; "memory")
     };
     let Some(mut second) = next_pass(&domain, &mut passes) else {
@@ -126,11 +160,8 @@ fn two_threads_share_the_rows(rt: HostRuntime) -> Result<(), Fail> {
     let Some(mut first) = next_pass(&domain, &mut passes) else {
         panic!(rt; "two passes")
     };
+    assert_eq!(rt; (domain.agent(&first), domain.agent(&second)), (0, 1));
     let both = on_two_threads(&rt, &domain, &mut first, &mut second);
-    assert_eq!(rt; both, (Some((9, true)), Some((9, true))));
-    let none = on_two_threads(&rt, &domain, &mut first, &mut second);
-    assert_eq!(rt; none, (None, None));
-    assert_eq!(rt; domain.agent(&second), 1);
-    domain.drain(&mut first);
+    assert_eq!(rt; both, (Ok((2, 1)), Ok((4, 3))));
     Ok(())
 }

@@ -1,6 +1,5 @@
-use Rattle.std.proofs.Common.{All, ◌≡◌, ◌<◌, ℕ, zero, suc, List, [], ◌∷◌, length, length-set, rules, slice_index_or, slice_set, ◌∙◌}
+use Rattle.std.proofs.Common.{◌≡◌, ◌<◌, ℕ, zero, suc, List, [], ◌∷◌, length, length-set, rules, slice_index_or, slice_set, ◌∙◌}
 use Rattle.orc_heap.specs.Seats.{IsIdle}
-use Rattle.orc_domain.specs.Ends.{AreAll}
 use Rattle.orc_domain.specs.Passes.{IsPassOf, seat_of}
 use Rattle.orc_domain.proofs.tests.first_gives.Goals as goal
 

@@ -1,4 +1,4 @@
-use Rattle.std.proofs.Common.{◌≡◌, ◌<◌, ◌%◌, zero, arith}
+use Rattle.std.proofs.Common.{◌≡◌, ◌<◌, ◌%◌, arith}
 use Rattle.std.proofs.Math.Nat.{mod-lt}
 use Rattle.orc_domain.proofs.Resting.{count_low, counted_all, counted_one}
 use Rattle.orc_domain.proofs.domain.PlainDomain.count_given.Goals as goal

@@ -1,4 +1,4 @@
-use Rattle.std.proofs.Common.{◌<◌, ◌%◌, ◌+◌, ◌≡◌, ◌∙◌, zero, ap, sym, subst, arith}
+use Rattle.std.proofs.Common.{◌<◌, ◌%◌, ◌+◌, ◌≡◌, ◌∙◌, ap, subst, arith}
 use Rattle.std.proofs.Math.Nat.{mod-lt}
 use Rattle.orc_words.specs.Bounds.{Bounds}
 use Rattle.orc_domain.specs.Passes.{domain_bounds}

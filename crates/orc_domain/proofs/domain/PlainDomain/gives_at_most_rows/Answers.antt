@@ -1,8 +1,8 @@
-use Rattle.std.proofs.Common.{◌≡◌, ◌≤◌, ◌∙◌, subst}
+use Rattle.std.proofs.Common.{◌≤◌, ◌∙◌, subst}
 use Rattle.orc_table.specs.Views.{shows}
 use Rattle.orc_domain.proofs.Counting.{nodes_given, rows_at_most}
 use Rattle.orc_domain.proofs.Growing.{tie}
-use Rattle.orc_domain.specs.Passes.{domain_bounds, domain_numbers, seat_of}
+use Rattle.orc_domain.specs.Passes.{domain_bounds, domain_numbers}
 use Rattle.orc_domain.proofs.domain.PlainDomain.gives_at_most_rows.Goals as goal
 
 pub returns : goal.returns

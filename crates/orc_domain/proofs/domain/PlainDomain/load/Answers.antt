@@ -1,4 +1,4 @@
-use Rattle.std.proofs.Common.{◌<◌, ◌≤◌, refl, arith}
+use Rattle.std.proofs.Common.{refl, arith}
 use Rattle.orc_domain.proofs.Loading.{link_low, loads, still_loaded}
 use Rattle.orc_domain.proofs.domain.PlainDomain.load.Goals as goal
 

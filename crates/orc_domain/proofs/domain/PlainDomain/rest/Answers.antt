@@ -1,5 +1,4 @@
-use Rattle.std.proofs.Common.{rules, ◌≡◌, ◌<◌, ◌∙◌, List, length, arith, sym, subst}
-use Rattle.std.proofs.lemmas.List.Elements.{recursion_from_All}
+use Rattle.std.proofs.Common.{◌∙◌, sym, subst}
 use Rattle.std.specs.List.{AllByRecursion}
 use Rattle.orc_domain.proofs.Draining.{others_of}
 use Rattle.orc_domain.proofs.Resting.{covers, first_removed, nothing_new, some_passes, taken_of}

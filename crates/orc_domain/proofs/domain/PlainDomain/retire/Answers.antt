@@ -1,4 +1,4 @@
-use Rattle.std.proofs.Common.{◌≡◌, ◌∙◌, None, Option, Some, ap, refl, sym, subst, true, false, eqb, ℕ}
+use Rattle.std.proofs.Common.{◌≡◌, ◌∙◌, Option, Some, ap, refl, sym, subst, true, false, eqb, ℕ}
 use Rattle.std.specs.Option.{option_eq}
 use Rattle.orc_table.specs.Views.{PlainView, shows}
 use Rattle.orc_domain.proofs.Equal.{other_fresh, same_fresh, same_to}

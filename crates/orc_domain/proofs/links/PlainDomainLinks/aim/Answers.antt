@@ -1,4 +1,4 @@
-use Rattle.std.proofs.Common.{◌≡◌, ◌≢◌, ◌<◌, ◌∙◌, Some, ap, sym, subst}
+use Rattle.std.proofs.Common.{◌≢◌, ◌<◌, ◌∙◌, Some, ap, sym, subst}
 use Rattle.orc_table.specs.Calls.{KnowsTarget}
 use Rattle.orc_table.specs.Views.{shows}
 use Rattle.orc_words.specs.declared.packed.RowLink.{RowLink}

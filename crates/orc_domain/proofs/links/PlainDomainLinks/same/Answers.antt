@@ -1,4 +1,4 @@
-use Rattle.std.proofs.Common.{◌≡◌, ◌<◌, ◌∙◌, Some, refl, sym, ap, subst, arith}
+use Rattle.std.proofs.Common.{◌∙◌, refl, sym, ap, subst, arith}
 use Rattle.orc_table.proofs.Lists.{some_one}
 use Rattle.orc_table.specs.Calls.{KnowsTarget, MayWhereShown, look_event}
 use Rattle.orc_table.specs.Views.{shows}
