@@ -39,7 +39,7 @@ events_below : {N : Type 0} (b : Bounds) (n : ℕ) (x : State) (j : List (PlainS
 events_below b n x [] l = tt
 events_below b n x (s ∷ ss) l = below_join n s.agent (events_at b x s) (project_from b (next b x s) ss) l.0 (signed x s.agent s.op (finds b x s.op) s.note) (events_below b n (next b x s) ss l.1)
 
-below_right : {N : Type 0} (n : ℕ) (es fs : List (Event N)) → IsBelow n (es ++ fs) → IsBelow n fs
+pub below_right : {N : Type 0} (n : ℕ) (es fs : List (Event N)) → IsBelow n (es ++ fs) → IsBelow n fs
 below_right n [] fs b = b
 below_right n (e ∷ es) fs b = below_right n es fs b.1
 
@@ -48,7 +48,7 @@ below_left n [] fs b = tt
 below_left n (e ∷ es) fs b = (b.0, below_left n es fs b.1)
 
 -- events of none of the agents are none
-none_at_all : {N : Type 0} (n : ℕ) (es : List (Event N)) → IsBelow n es → ((a : ℕ) → a < n → events_by a es ≡ []) → es ≡ []
+pub none_at_all : {N : Type 0} (n : ℕ) (es : List (Event N)) → IsBelow n es → ((a : ℕ) → a < n → events_by a es ≡ []) → es ≡ []
 none_at_all n [] b none = refl
 none_at_all n (e ∷ es) b none = absurd ((other_first e.agent e es (none e.agent b.0)).0 refl)
 

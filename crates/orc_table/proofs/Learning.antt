@@ -14,11 +14,11 @@ use Rattle.orc_shared_words.specs.declared.journal.View.{View}
 use Rattle.orc_shared_words.proofs.Runs.{steps_by-append}
 use Rattle.orc_table.specs.Calls.{Absorbs, IsLonger, Learns, SameButEvents}
 use Rattle.orc_table.specs.Machine.{State, AllowedFrom, numbers, project, project_from, run, run_from, start}
-use Rattle.orc_table.specs.Rules.{opening_steps, project-append}
+use Rattle.orc_table.specs.Rules.{opening_steps, project-append, steps-append}
 use Rattle.orc_table.specs.Views.{FreshHeld, Keeps, view_of}
 use Rattle.orc_table.specs.declared.machine.PlainStep.{PlainStep}
 use Rattle.orc_table.specs.declared.seed.PlainShape.{PlainShape}
-use Rattle.orc_table.proofs.Walks.{Mid, by, mid_fresh, mid_of, none_by, others_none}
+use Rattle.orc_table.proofs.Walks.{Mid, by, given_more, mid_fresh, mid_of, none_by, others_none}
 
 -- steps of the rest of a list, where the agent's are those of its front
 no_steps : {N : Type 0} (a : ℕ) (xs ys : List (PlainStep N)) → (b : Begins xs ys) → steps_by by a xs ≡ steps_by by a ys → steps_by by a b.0 ≡ []
@@ -35,6 +35,9 @@ same_events {N} k a xs ys b e =
 
 begins_events : {N : Type 0} (k : Bounds) (xs ys : List (PlainStep N)) → Begins xs ys → Begins (project k xs) (project k ys)
 begins_events k xs ys b = (project_from k (run k ys) b.0, ap (project k) b.1 ∙ project-append k (start k) ys b.0)
+
+begins_rows : {N : Type 0} (k : Bounds) (xs ys : List (PlainStep N)) → Begins xs ys → Begins (run k xs).given (run k ys).given
+begins_rows k xs ys b = subst (λ (x : State). Begins x.given (run k ys).given) (sym (ap (run k) b.1 ∙ steps-append k (start k) ys b.0)) (given_more k (run k ys) b.0)
 
 module _ {D N : Type 0} (d : discipline.Ghosts D N) (q : PlainShape N) where
   abbrev k : Bounds
@@ -76,6 +79,7 @@ module _ {D N : Type 0} (d : discipline.Ghosts D N) (q : PlainShape N) where
     fresh = f;
     looked = l;
     absorbed = same.also;
+    rows = begins_rows k w.seen v.seen b;
     own = same_events k a w.seen v.seen b (same.steps a (inl is));
     retired = λ o there. same_events k o w.seen v.seen b (same.steps o (inr there));
   }
@@ -135,6 +139,8 @@ module _ {D N : Type 0} (d : discipline.Ghosts D N) (q : PlainShape N) where
           fresh = f3 ∙ f;
           looked = g;
           absorbed = ap (λ z. z.also) s ∙ (λ j. (ap agent_of (l.from.agent ∙ i.is) j) ∷ (l.from.also j ++ l.into.also j));
+          rows = begins_rows k y.seen v.seen (subst (λ z. Begins z v.seen) (sym seen) into_more);
           own = ap (λ z. events_by a (project k z)) seen ∙ same_events k a w.seen v.seen into_more (l.into.steps a (inl h.is));
+          retired = λ o there. ap (λ z. events_by o (project k z)) seen ∙ same_events k o w.seen v.seen into_more (l.into.steps o (inr there));
           taken = ap (λ z. events_by b (project k z)) (seen ∙ sym l.both) ∙ same_events k b x.seen u.seen from_more (l.from.steps b (inl i.is));
         }

@@ -131,6 +131,7 @@ module _ {N : Type 0} where
     pub fresh : t.fresh ≡ s.fresh
     pub looked : t.looked ≡ s.looked
     pub absorbed : t.absorbed ≡ s.absorbed
+    pub rows : Begins t.rows s.rows
     pub own : events_by s.agent t.events ≡ events_by s.agent s.events
     pub retired : (b : ℕ) → Among b s.absorbed → events_by b t.events ≡ events_by b s.events
 
@@ -148,5 +149,7 @@ module _ {N : Type 0} where
     pub fresh : t.fresh ≡ s.fresh
     pub looked : t.looked ≡ s.looked
     pub absorbed : t.absorbed ≡ u.agent ∷ u.absorbed ++ s.absorbed
+    pub rows : Begins t.rows s.rows
     pub own : events_by s.agent t.events ≡ events_by s.agent s.events
+    pub retired : (b : ℕ) → Among b s.absorbed → events_by b t.events ≡ events_by b s.events
     pub taken : events_by u.agent t.events ≡ events_by u.agent u.events
