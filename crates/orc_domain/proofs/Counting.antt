@@ -19,7 +19,8 @@ use Rattle.orc_heap.specs.declared.events.Place.TheVariants.{Next, Root}
 use Rattle.orc_table.proofs.Lists.{at_index, index_in, some_one}
 use Rattle.orc_table.specs.Machine.{index_of}
 use Rattle.orc_table.specs.Words.{IsOut, Once}
-use Rattle.orc_domain.specs.Given.{IsLacking, gives_in, one_if_give}
+use Rattle.orc_heap.specs.Moves.{give_with, gives_in}
+use Rattle.orc_domain.specs.Given.{IsLacking}
 
 -- numbers below k that go to different numbers below n
 pub record Different (k n : ℕ) (f : ℕ → ℕ) : Type 0 where
@@ -168,7 +169,7 @@ nodes_link : (place : Place) (link : Link) (h : Heap) → length (set_link place
 nodes_link (Root r) link h = refl
 nodes_link (Next i) link h = length-change (with_link link) i h.nodes
 
-nodes_after : (agent : ℕ) (act : Act) (h : Heap) → length (heap_after agent act h).nodes ≡ length h.nodes + one_if_give act
+nodes_after : (agent : ℕ) (act : Act) (h : Heap) → length (heap_after agent act h).nodes ≡ length h.nodes + give_with act
 nodes_after agent Give h = length-append h.nodes (new_node agent ∷ [])
 nodes_after agent (Fill id which value) h = let e = length-change (with_value which value) id h.nodes in omega (arith, e)
 nodes_after agent (Aim id to) h =

@@ -23,7 +23,7 @@ use Rattle.orc_domain.specs.Passes.{IsPassOf, domain_bounds, domain_numbers, sea
 use Rattle.orc_domain.specs.declared.domain.PlainDomain.{PlainDomain}
 use Rattle.orc_domain.specs.declared.domain.PlainPass.{PlainPass}
 use Rattle.orc_domain.specs.Ends.{AreAll, HasOwn, first_seen}
-use Rattle.orc_domain.specs.Given.{gives_in}
+use Rattle.orc_heap.specs.Moves.{gives_in}
 use Rattle.orc_domain.specs.Rest.{CoversAll, TakesIn}
 use Rattle.orc_domain.proofs.Counting.{bit_free, bit_out, nodes_given, out_bit, outs, outs_all, outs_low}
 use Rattle.orc_domain.proofs.Growing.{still_adds, still_of, tie}

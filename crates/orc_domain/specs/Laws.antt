@@ -21,7 +21,8 @@ use Rattle.orc_table.specs.declared.machine.Plain.{Plain}
 use Rattle.orc_table.specs.declared.machine.PlainOp.{PlainOp}
 use Rattle.orc_table.specs.declared.machine.PlainStep.{PlainStep}
 use Rattle.orc_table.specs.declared.seed.PlainShape.{PlainShape}
-use Rattle.orc_domain.specs.Given.{IsLacking, gives_in}
+use Rattle.orc_heap.specs.Moves.{gives_in}
+use Rattle.orc_domain.specs.Given.{IsLacking}
 use Rattle.orc_domain.specs.Passes.{IsPassOf, domain_bounds, domain_numbers, domain_opening, journal_of, seat_of}
 use Rattle.orc_domain.specs.Rows.{slots_by}
 use Rattle.orc_domain.specs.declared.domain.PlainDomain.{PlainDomain}

@@ -1,7 +1,7 @@
 //! The domain and its passes.
 
 ghost use Rattle.std.specs.Prelude.{◌≡◌};
-ghost use Rattle.orc_domain.specs.Given.{gives_in};
+ghost use Rattle.orc_heap.specs.Moves.{gives_in};
 ghost use Rattle.orc_domain.specs.Passes.{seat_of};
 
 use orc_heap::Discipline;

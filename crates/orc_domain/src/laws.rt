@@ -1,7 +1,7 @@
 //! Laws of what passes have seen.
 
 ghost use Rattle.std.specs.Prelude.{◌≤◌};
-ghost use Rattle.orc_domain.specs.Given.{gives_in};
+ghost use Rattle.orc_heap.specs.Moves.{gives_in};
 ghost use Rattle.orc_domain.specs.Passes.{IsPassOf, domain_bounds, seat_of};
 
 use crate::domain::{PlainDomain, PlainPass};

@@ -5,7 +5,7 @@ ghost use Rattle.std.specs.List.{AllByRecursion};
 ghost use Rattle.orc_shared_words.specs.Lists.{Among};
 ghost use Rattle.orc_table.specs.Views.{shows};
 ghost use Rattle.orc_domain.specs.Ends.{AreAll, HasOwn, first_seen};
-ghost use Rattle.orc_domain.specs.Given.{gives_in};
+ghost use Rattle.orc_heap.specs.Moves.{gives_in};
 ghost use Rattle.orc_domain.specs.Passes.{IsPassOf, domain_bounds, seat_of};
 ghost use Rattle.orc_domain.specs.Rest.{CoversAll, TakesIn, rest_domain, rest_journal};
 
