@@ -10,7 +10,7 @@ ghost use Rattle.orc_domain.specs.Ready.{IsReady};
 use super::*;
 use links_example::{OwnRoots, Refused, through_a_stack};
 use orc_fault::NoMemory;
-use orc_heap::{At, Links, Want};
+use orc_heap::{At, Discipline, Links, Want};
 use orc_table::Seed;
 use orc_words::Shape;
 use std::alloc::Global;
@@ -20,6 +20,20 @@ use std::thread::{Threads, join_mut};
 type Domain = PlainDomain<OwnRoots>;
 
 type Pass = PlainPass<OwnRoots>;
+
+fn is_shared<T: Sync>() {}
+
+fn is_sent<T: Send>() {}
+
+// under each discipline whose notes may cross threads
+fn domains_and_passes_cross_threads<D: Discipline>()
+where
+    D::Note: Send + Sync,
+{
+    is_shared::<PlainDomain<D>>();
+    is_sent::<PlainDomain<D>>();
+    is_sent::<PlainPass<D>>();
+}
 
 // gives a node, fills it, and releases it, so that it is never given again; its second value, and whether root 0 was
 // null meanwhile
