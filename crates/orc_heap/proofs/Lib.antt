@@ -4,8 +4,11 @@ pub mod Changes
 pub mod Fresh
 pub mod Known
 pub mod Linked
+pub mod Moved
+pub mod OwnParts
 pub mod Parts
 pub mod Runs
 pub mod Slots
 pub mod Stays
+pub mod Steps
 pub mod Told

@@ -6,3 +6,4 @@ pub mod Slots
 pub mod Seats
 pub mod Parts
 pub mod Calls
+pub mod Moves

@@ -1,0 +1,99 @@
+-- A place that showed one link and later shows another was moved in between.
+use Rattle.std.proofs.Common.{List, Option, None, Some, [], append-nil, append_assoc, ap, arith, inl, inr, refl, subst, suc, sym, true, zero, ℕ, ◌++◌, ◌+◌, ◌∙◌, ◌∷◌, ◌≡◌, ◌≢◌, ◌≤◌, ◌⊎◌}
+use Rattle.std.specs.List.{slice_get}
+use Rattle.std.specs.Option.{option_map}
+use Rattle.orc_heap.proofs.Linked.{linked_after}
+use Rattle.orc_heap.proofs.Runs.{run_heap-snoc}
+use Rattle.orc_heap.specs.Acts.{Fits, as_linked, as_named, change_target, heap_after, moved_link, with_link}
+use Rattle.orc_heap.specs.Allowed.{AllAllowed, IsLinkedNode}
+use Rattle.orc_heap.specs.Heap.{Heap, HeapNumbers, Node, shown}
+use Rattle.orc_heap.specs.Journals.{FitsAfter, run_heap}
+use Rattle.orc_heap.specs.Moves.{move_with, moves_in}
+use Rattle.orc_heap.specs.declared.events.Act.{Act}
+use Rattle.orc_heap.specs.declared.events.Act.TheVariants.{Aim, Fill, Give, Look, Miss, Move}
+use Rattle.orc_heap.specs.declared.events.Event.{Event}
+use Rattle.orc_heap.specs.declared.events.Link.{Link}
+use Rattle.orc_heap.specs.declared.events.Place.{Place}
+use Rattle.orc_heap.specs.declared.events.Place.TheVariants.{Next, Root}
+
+pub moves_in-append : {N : Type 0} (es fs : List (Event N)) → moves_in (es ++ fs) ≡ moves_in es + moves_in fs
+moves_in-append [] fs = omega arith
+moves_in-append (e ∷ es) fs = omega (arith, moves_in-append es fs)
+
+-- a root, or the link of a once linked node
+abbrev pub IsLinkedPlace : Place → Heap → Type 0
+IsLinkedPlace (Root r) h = Unit {0}
+IsLinkedPlace (Next id) h = IsLinkedNode h id
+
+target_roots : (f : Node → Node) (to : Option ℕ) (h : Heap) → (change_target f to h).roots ≡ h.roots
+target_roots f None h = refl
+target_roots f (Some id) h = refl
+
+roots_stay : (agent : ℕ) (act : Act) (h : Heap) → move_with act ≡ 0 → (heap_after agent act h).roots ≡ h.roots
+roots_stay agent Give h none = refl
+roots_stay agent (Fill id which value) h none = refl
+roots_stay agent (Aim id to) h none = target_roots as_named to _
+roots_stay agent (Look place link) h none = refl
+roots_stay agent (Move place from to) h none = cc
+roots_stay agent (Miss place wanted found) h none = refl
+
+links_stay : (act : Act) (id : ℕ) (link : Link) → move_with act ≡ 0 → moved_link act id link ≡ link
+links_stay Give id link none = refl
+links_stay (Fill i which value) id link none = refl
+links_stay (Aim i to) id link none = refl
+links_stay (Look place seen) id link none = refl
+links_stay (Move place from to) id link none = cc
+links_stay (Miss place wanted found) id link none = refl
+
+shown_node : (h : Heap) (id : ℕ) (node : Node) → slice_get h.nodes id ≡ Some node → shown h (Next id) ≡ Some node.link
+shown_node h id node there = ap (option_map (λ (x : Node). x.link)) there
+
+-- such a place stays one, and only a Move changes what it shows
+linked_place_after : (agent : ℕ) (act : Act) (h : Heap) (place : Place) → Fits agent act h → IsLinkedPlace place h → IsLinkedPlace place (heap_after agent act h)
+linked_place_after agent act h (Root r) fits l = tt
+linked_place_after agent act h (Next id) fits l =
+    let s = linked_after agent act h id l.node fits l.there l.linked in
+    record { node = s.node; there = s.there; linked = s.linked }
+
+shown_after : (agent : ℕ) (act : Act) (h : Heap) (place : Place) → Fits agent act h → IsLinkedPlace place h → move_with act ≡ 0 → shown (heap_after agent act h) place ≡ shown h place
+shown_after agent act h (Root r) fits l none = ap (λ (ls : List Link). slice_get ls r) (roots_stay agent act h none)
+shown_after agent act h (Next id) fits l none =
+    let s = linked_after agent act h id l.node fits l.there l.linked in
+    shown_node (heap_after agent act h) id s.node s.there ∙ (ap (λ (x : Link). Some x) (s.link_is ∙ links_stay act id l.node.link none) ∙ sym (shown_node h id l.node l.there))
+
+none_or_some : (k : ℕ) → (k ≡ 0) ⊎ (1 ≤ k)
+none_or_some zero = inl refl
+none_or_some (suc k) = inr (omega arith)
+
+module _ {N : Type 0} (n : HeapNumbers) (may : List (Event N) → Event N → Type 0) (fits : (es : List (Event N)) (e : Event N) → may es e → FitsAfter n es e) where
+    -- over allowed events without a Move it shows what it showed
+    pub shown_still : (place : Place) (seen more : List (Event N)) → IsLinkedPlace place (run_heap n seen) → AllAllowed may seen more → moves_in more ≡ 0
+        → shown (run_heap n (seen ++ more)) place ≡ shown (run_heap n seen) place
+    shown_still place seen [] l all none = ap (λ es. shown (run_heap n es) place) (append-nil seen)
+    shown_still place seen (e ∷ more) l all none =
+        let f = fits seen e all.0 in
+        let h = run_heap n seen in
+        let here : shown (run_heap n (seen ++ e ∷ [])) place ≡ shown h place = rw (run_heap-snoc n seen e) (shown_after e.agent e.act h place f l (omega (arith, none))) in
+        let still : IsLinkedPlace place (run_heap n (seen ++ e ∷ [])) = rw (run_heap-snoc n seen e) (linked_place_after e.agent e.act h place f l) in
+        ap (λ es. shown (run_heap n es) place) (sym (append_assoc seen (e ∷ []) more)) ∙ (shown_still place (seen ++ e ∷ []) more still all.1 (omega (arith, none)) ∙ here)
+
+    pub linked_place_later : (place : Place) (seen more : List (Event N)) → IsLinkedPlace place (run_heap n seen) → AllAllowed may seen more → IsLinkedPlace place (run_heap n (seen ++ more))
+    linked_place_later place seen [] l all = rw (append-nil seen) l
+    linked_place_later place seen (e ∷ more) l all =
+        let still : IsLinkedPlace place (run_heap n (seen ++ e ∷ [])) = rw (run_heap-snoc n seen e) (linked_place_after e.agent e.act (run_heap n seen) place (fits seen e all.0) l) in
+        subst (λ es. IsLinkedPlace place (run_heap n es)) (append_assoc seen (e ∷ []) more) (linked_place_later place (seen ++ e ∷ []) more still all.1)
+
+    -- it still shows the link, or a Move stands in between
+    pub shown_or_moved : (place : Place) (link : Link) (seen more : List (Event N)) → IsLinkedPlace place (run_heap n seen) → AllAllowed may seen more → shown (run_heap n seen) place ≡ Some link
+        → (shown (run_heap n (seen ++ more)) place ≡ Some link) ⊎ (1 ≤ moves_in more)
+    shown_or_moved place link seen more l all at =
+        elim (none_or_some (moves_in more)) [ inl none ↦ inl (shown_still place seen more l all none ∙ at) | inr some ↦ inr some ]
+
+    -- if it shows another link, then a Move does
+    pub moved_between : (place : Place) (one two : Link) (seen more : List (Event N)) → IsLinkedPlace place (run_heap n seen) → AllAllowed may seen more → shown (run_heap n seen) place ≡ Some one
+        → shown (run_heap n (seen ++ more)) place ≡ Some two → one ≢ two → 1 ≤ moves_in more
+    moved_between place one two seen more l all at later other =
+        elim (shown_or_moved place one seen more l all at) [
+          | inl still ↦ let both : Some one ≡ Some two = sym still ∙ later in absurd (other (cc))
+          | inr some ↦ some
+        ]

@@ -1,0 +1,6 @@
+//! Michael and Scott's queue (1996) over any domain of links.
+#![tactic(auto)]
+
+mod put;
+mod swings;
+mod take;
