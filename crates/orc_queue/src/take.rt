@@ -1,4 +1,5 @@
 //! Taking the job at the front, turn by turn.
+#![tactic(none)]
 
 ghost use Rattle.std.specs.Prelude.{◌≡◌, ℕ, true};
 ghost use mathlib.Core.List.{IsPrefix};

@@ -1,0 +1,6 @@
+pub mod Filled
+pub mod Linking
+pub mod Looking
+pub mod Moments
+pub mod Pieces
+pub mod Room
