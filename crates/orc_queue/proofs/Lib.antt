@@ -1,4 +1,6 @@
+pub mod Behind
 pub mod Filled
+pub mod Joins
 pub mod Linking
 pub mod Looking
 pub mod Moments
