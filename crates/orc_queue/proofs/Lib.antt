@@ -1,3 +1,4 @@
+pub mod Alone
 pub mod Behind
 pub mod Filled
 pub mod Joins
@@ -5,4 +6,5 @@ pub mod Linking
 pub mod Looking
 pub mod Moments
 pub mod Pieces
+pub mod PutTurns
 pub mod Room

@@ -37,7 +37,7 @@ use Rattle.orc_fifo_rule.specs.Kept.Laws.{fifo_fits, fifo_keeps, fifo_moves_link
 use Rattle.orc_queue.specs.Turns.{Helps, HoldsNode, Piece, heap_of}
 use Rattle.orc_queue.proofs.Filled.{Known}
 
-gives_in-append : {N : Type 0} (es fs : List (Event N)) → gives_in (es ++ fs) ≡ gives_in es + gives_in fs
+pub gives_in-append : {N : Type 0} (es fs : List (Event N)) → gives_in (es ++ fs) ≡ gives_in es + gives_in fs
 gives_in-append [] fs = omega arith
 gives_in-append (e ∷ es) fs = omega (arith, gives_in-append es fs)
 
@@ -94,17 +94,21 @@ module _ (n : HeapNumbers) (s t : Seat FifoNote) (own : List (Event FifoNote)) (
         subst (λ (es : List (Event FifoNote)). slice_get (run_heap n es).nodes id ≡ Some (touched_by id own x)) (sym p.is)
         (subst (λ (es : List (Event FifoNote)). slice_get (run_heap n (s.seen ++ p.part)).nodes id ≡ Some (touched_by id es x)) p.own_is r.there)
 
+    pub node_held : (job : ℕ) (h : Hold) (second : ℕ) → Known n s.seen → (node : HoldsNode n job h s) → Holds t.slots h → id_in t.slots h ≡ id_in s.slots h → t.fresh ≡ s.fresh
+        → list_any (λ e. points_to e.act (id_in s.slots h)) own ≡ false
+        → touched_by (id_in s.slots h) own (given_node s.agent job node.second) ≡ given_node s.agent job second → HoldsNode n job h t
+    node_held job h second k node held same_id fresh away is = record {
+      held = held;
+      fresh = fresh ∙ (node.fresh ∙ ap (λ (i : ℕ). Some i) (sym same_id));
+      second = second;
+      node = rw (same_id, p.agent) (node_touched job h k node away ∙ ap (λ (x : Node). Some x) is);
+    }
+
     pub node_puts : (job : ℕ) (h : Hold) (second : ℕ) → Known n s.seen → (node : HoldsNode n job h s) → t.slots ≡ s.slots → t.fresh ≡ s.fresh
         → list_any (λ e. points_to e.act (id_in s.slots h)) own ≡ false
         → touched_by (id_in s.slots h) own (given_node s.agent job node.second) ≡ given_node s.agent job second → HoldsNode n job h t
     node_puts job h second k node slots fresh away is =
-        let same_id : id_in t.slots h ≡ id_in s.slots h = ap (λ z. id_in z h) slots in
-        record {
-          held = subst (λ z. Holds z h) (sym slots) node.held;
-          fresh = fresh ∙ (node.fresh ∙ ap (λ (i : ℕ). Some i) (sym same_id));
-          second = second;
-          node = rw (same_id, p.agent) (node_touched job h k node away ∙ ap (λ (x : Node). Some x) is);
-        }
+        node_held job h second k node (subst (λ z. Holds z h) (sym slots) node.held) (ap (λ z. id_in z h) slots) fresh away is
 
 -- a slot that is held is another than a free one
 pub held_apart : (slots : Slots) (h : Hold) (slot : ℕ) → Holds slots h → IsFree slots slot → h.slot ≢ slot

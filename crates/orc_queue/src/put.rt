@@ -1,4 +1,5 @@
 //! Putting a job at the back, turn by turn.
+#![tactic(none)]
 
 ghost use Rattle.std.specs.Prelude.{◌≡◌, ℕ, true};
 ghost use mathlib.Core.List.{IsPrefix};
