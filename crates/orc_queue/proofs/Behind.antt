@@ -172,3 +172,14 @@ behind_moved n job tail h s t one two k kt named node other slots fresh p = reco
 
     low : position_of (heap_of n s) tail < 2 ^ 62
     low = omega (arith, low_where_linked n t tail has_next.0 kt has_next.1, position_puts n s t _ p kt.all tail named.linked)
+
+-- what the pass holds after it
+pub record BehindPiece (s t : Seat FifoNote) : Type 0 where
+  pub own : List (Event FifoNote)
+  pub slots : t.slots ≡ s.slots
+  pub puts : Puts s own t
+
+pub behind_piece : (n : HeapNumbers) (job tail : ℕ) (h : Hold) (s t : Seat FifoNote) (turn : PutTurn) → PutsBehind n job tail h s turn t → BehindPiece s t
+behind_piece n job tail h s t PutOver l = record { own = l.stops.piece.own; slots = l.stops.piece.slots; puts = l.stops.piece.puts }
+behind_piece n job tail h s t (PutDone at) l = record { own = l.piece.own; slots = l.piece.slots; puts = l.piece.puts }
+behind_piece n job tail h s t Full l = record { own = l.piece.own; slots = l.piece.slots; puts = l.piece.puts }

@@ -1,5 +1,6 @@
 -- Two pieces of a call, or three of which the last is a release, make one.
-use Rattle.std.proofs.Common.{List, [], ap, append-nil, arith, refl, subst, sym, ℕ, ◌++◌, ◌+◌, ◌∙◌, ◌∷◌, ◌≡◌, ◌≤◌}
+use Rattle.std.proofs.Common.{List, [], ap, append-nil, append_assoc, arith, refl, subst, sym, ℕ, ◌++◌, ◌+◌, ◌∙◌, ◌∷◌, ◌≡◌, ◌≤◌}
+use mathlib.Core.List.{IsPrefix}
 use Rattle.orc_heap.proofs.Moved.{moves_in-append}
 use Rattle.orc_heap.proofs.OwnParts.{moves_from_own-append}
 use Rattle.orc_heap.proofs.Parts.{Puts-trans}
@@ -26,6 +27,10 @@ pub join : (s a t : Seat FifoNote) (xs ys : List (Event FifoNote)) (es : List Qu
 join s a t xs ys es p q same entries none =
     let w = Puts-trans s a t xs ys p q in
     record { piece = record { own = xs ++ ys; slots = same; puts = w; entries_are = entries; no_give = none }; own_is = refl; part_is = new_is s a t xs ys (xs ++ ys) w p q }
+
+-- a journal that went on, and on
+pub goes_on : {A : Type 0} (xs ys zs : List A) → IsPrefix xs ys → IsPrefix ys zs → IsPrefix xs zs
+goes_on xs ys zs (us, one) (vs, two) = (us ++ vs, sym (append_assoc xs us vs) ∙ (ap (λ z. z ++ vs) one ∙ two))
 
 -- a release at the end
 pub puts_released : (s a t : Seat FifoNote) (xs : List (Event FifoNote)) → Puts s xs a → Puts a [] t → Puts s xs t

@@ -1,5 +1,4 @@
 //! Putting a job at the back, turn by turn.
-#![tactic(none)]
 
 ghost use Rattle.std.specs.Prelude.{◌≡◌, ℕ, true};
 ghost use mathlib.Core.List.{IsPrefix};
@@ -126,9 +125,9 @@ pub(crate) fn put_turns<L: Links<Rule = Fifo>>(
     ensures put { PutsTurns (L.numbers links.now) job turns node.now (L.seat links.now p.old) result (L.seat links.now p.new) }
 {
     for _ in 0..turns {
-        let turn = put_turn(links, p, node, job);
-        if turn != PutTurn::Over {
-            return turn;
+        match put_turn(links, p, node, job) {
+            PutTurn::Over => {}
+            turn => return turn,
         }
     }
     PutTurn::Over

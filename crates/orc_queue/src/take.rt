@@ -153,9 +153,9 @@ pub(crate) fn take_turns<L: Links<Rule = Fifo>>(links: &L, p: &mut L::Pass, turn
     ensures took { TakesTurns (L.numbers links.now) turns (L.seat links.now p.old) result (L.seat links.now p.new) }
 {
     for _ in 0..turns {
-        let turn = take_turn(links, p);
-        if turn != TakeTurn::Over {
-            return turn;
+        match take_turn(links, p) {
+            TakeTurn::Over => {}
+            turn => return turn,
         }
     }
     TakeTurn::Over
