@@ -8,3 +8,5 @@ pub mod Moments
 pub mod Pieces
 pub mod PutTurns
 pub mod Room
+pub mod TakeTurns
+pub mod Taking

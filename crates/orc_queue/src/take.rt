@@ -1,5 +1,4 @@
 //! Taking the job at the front, turn by turn.
-#![tactic(none)]
 
 ghost use Rattle.std.specs.Prelude.{◌≡◌, ℕ, true};
 ghost use mathlib.Core.List.{IsPrefix};
@@ -47,7 +46,11 @@ fn take_job<L: Links<Rule = Fifo>>(
     let agent = links.agent(p);
     let took = FifoNote::Entry(QueueEntry::Took { agent, job, at });
     let new = Want::Node(next, false);
-    change(links, p, &At::Root(HEAD), &Want::Node(head, false), &new, took).then_some((job, at))
+    if change(links, p, &At::Root(HEAD), &Want::Node(head, false), &new, took) {
+        Some((job, at))
+    } else {
+        None
+    }
 }
 
 // Goes on from the head and its successor: helps the tail on if it still names the head, or takes the job.
