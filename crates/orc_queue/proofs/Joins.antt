@@ -2,9 +2,9 @@
 use Rattle.std.proofs.Common.{List, [], ap, append-nil, append_assoc, arith, refl, subst, sym, ℕ, ◌++◌, ◌+◌, ◌∙◌, ◌∷◌, ◌≡◌, ◌≤◌}
 use mathlib.Core.List.{IsPrefix}
 use Rattle.orc_heap.proofs.Moved.{moves_in-append}
-use Rattle.orc_heap.proofs.OwnParts.{moves_from_own-append}
+use Rattle.orc_heap.proofs.OwnParts.{moves_from_own-append, own_from_left, own_from_right}
 use Rattle.orc_heap.proofs.Parts.{Puts-trans}
-use Rattle.orc_heap.specs.Moves.{from_own, gives_in, moves_in}
+use Rattle.orc_heap.specs.Moves.{AllOwn, from_own, gives_in, moves_in}
 use Rattle.orc_heap.specs.Parts.{Puts}
 use Rattle.orc_heap.specs.Seats.{Seat}
 use Rattle.orc_heap.specs.declared.events.Event.{Event}
@@ -53,6 +53,17 @@ moves_right s a t xs ys zs p q w = rw (new_is s a t xs ys zs w p q) (omega (arit
 
 pub own_moves_left : (s a t : Seat FifoNote) (xs ys zs : List (Event FifoNote)) (p : Puts s xs a) (q : Puts a ys t) (w : Puts s zs t) → moves_in (from_own s.agent p.part) ≤ moves_in (from_own s.agent w.part)
 own_moves_left s a t xs ys zs p q w = rw (new_is s a t xs ys zs w p q) (omega (arith, moves_from_own-append s.agent p.part q.part))
+
+pub own_moves_right : (s a t : Seat FifoNote) (xs ys zs : List (Event FifoNote)) (p : Puts s xs a) (q : Puts a ys t) (w : Puts s zs t) → moves_in (from_own a.agent q.part) ≤ moves_in (from_own s.agent w.part)
+own_moves_right s a t xs ys zs p q w = rw (new_is s a t xs ys zs w p q, p.agent) (omega (arith, moves_from_own-append s.agent p.part q.part))
+
+-- a piece of a call in which no other agent steps
+pub own_part_left : (s a t : Seat FifoNote) (xs ys zs : List (Event FifoNote)) (p : Puts s xs a) (q : Puts a ys t) (w : Puts s zs t) → AllOwn s.agent (from_own s.agent w.part) → AllOwn s.agent (from_own s.agent p.part)
+own_part_left s a t xs ys zs p q w alone = own_from_left s.agent p.part q.part (subst (λ z. AllOwn s.agent (from_own s.agent z)) (new_is s a t xs ys zs w p q) alone)
+
+pub own_part_right : (s a t : Seat FifoNote) (xs ys zs : List (Event FifoNote)) (p : Puts s xs a) (q : Puts a ys t) (w : Puts s zs t) → AllOwn s.agent (from_own s.agent w.part) → AllOwn a.agent (from_own a.agent q.part)
+own_part_right s a t xs ys zs p q w alone =
+    subst (λ (x : ℕ). AllOwn x (from_own x q.part)) (sym p.agent) (own_from_right s.agent p.part q.part (subst (λ z. AllOwn s.agent (from_own s.agent z)) (new_is s a t xs ys zs w p q) alone))
 
 -- and so it is with a Look where no position is left
 module _ (n : HeapNumbers) (s a t : Seat FifoNote) (xs ys zs : List (Event FifoNote)) (p : Puts s xs a) (q : Puts a ys t) (w : Puts s zs t) where

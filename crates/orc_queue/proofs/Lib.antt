@@ -1,5 +1,7 @@
 pub mod Alone
+pub mod Answering
 pub mod Behind
+pub mod Causes
 pub mod Filled
 pub mod Joins
 pub mod Linking

@@ -195,17 +195,17 @@ turn_differs n s t one two all other slots fresh p =
     over_quiet n TailIsPast s t (record { own = _; slots = slots; puts = p; entries_are = refl; no_give = refl }) fresh refl (looks_differ n s t (Root 0) one two p all tt other)
 
 -- the turn that answers
-pub turns_taken : (n : HeapNumbers) (turns more : ℕ) (s t u : Seat FifoNote) (turn : TakeTurn) → turn ≢ TakeOver → AreOver n TailIsPast turns s t → TakesTurn n t turn u → TakesTurns n more s turn u
-turns_taken n turns more s t u TakeOver ne all one = absurd (ne refl)
-turns_taken n turns more s t u (TakeDone job at) ne all one =
+pub turns_taken : (n : HeapNumbers) (turns more : ℕ) (s t u : Seat FifoNote) (turn : TakeTurn) → turn ≢ TakeOver → more ≢ 0 → AreOver n TailIsPast turns s t → TakesTurn n t turn u → TakesTurns n more s turn u
+turns_taken n turns more s t u TakeOver ne some all one = absurd (ne refl)
+turns_taken n turns more s t u (TakeDone job at) ne some all one =
     let q = all.piece in
     let r = one.piece in
     let entries : entries_of (q.own ++ r.own) ≡ Took s.agent job at ∷ [] = entries_of-append q.own r.own ∙ (ap (λ z. z ++ entries_of r.own) q.entries_are ∙ (r.entries_are ∙ ap (λ (x : ℕ). Took x job at ∷ []) q.puts.agent)) in
     let j = join s t u q.own r.own (Took s.agent job at ∷ []) q.puts r.puts (r.slots ∙ q.slots) entries (omega (arith, gives_in-append q.own r.own, q.no_give, r.no_give)) in
-    record { piece = j.piece; fresh = one.fresh ∙ all.fresh }
-turns_taken n turns more s t u TakeEmpty ne all one =
+    (some, record { piece = j.piece; fresh = one.fresh ∙ all.fresh })
+turns_taken n turns more s t u TakeEmpty ne some all one =
     let q = all.piece in
     let r = one.piece in
     let entries : entries_of (q.own ++ r.own) ≡ Empty s.agent ∷ [] = entries_of-append q.own r.own ∙ (ap (λ z. z ++ entries_of r.own) q.entries_are ∙ (r.entries_are ∙ ap (λ (x : ℕ). Empty x ∷ []) q.puts.agent)) in
     let j = join s t u q.own r.own (Empty s.agent ∷ []) q.puts r.puts (r.slots ∙ q.slots) entries (omega (arith, gives_in-append q.own r.own, q.no_give, r.no_give)) in
-    record { piece = j.piece; fresh = one.fresh ∙ all.fresh }
+    (some, record { piece = j.piece; fresh = one.fresh ∙ all.fresh })

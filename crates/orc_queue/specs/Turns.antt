@@ -233,5 +233,5 @@ TakesTurn n s TakeEmpty t = TakesNone s t
 -- so many turns of a take
 abbrev pub TakesTurns : HeapNumbers → ℕ → Seat FifoNote → TakeTurn → Seat FifoNote → Type 0
 TakesTurns n turns s TakeOver t = AreOver n TailIsPast turns s t
-TakesTurns n turns s (TakeDone job at) t = TakesJob job at s t
-TakesTurns n turns s TakeEmpty t = TakesNone s t
+TakesTurns n turns s (TakeDone job at) t = (turns ≢ 0) × TakesJob job at s t
+TakesTurns n turns s TakeEmpty t = (turns ≢ 0) × TakesNone s t

@@ -1,16 +1,20 @@
 //! Putting a job at the back, turn by turn.
 
-ghost use Rattle.std.specs.Prelude.{◌≡◌, ℕ, true};
+ghost use Rattle.std.specs.Prelude.{◌≡◌, ℕ, Err, length, true};
 ghost use mathlib.Core.List.{IsPrefix};
 ghost use Rattle.orc_heap.specs.Journals.{run_heap};
+ghost use Rattle.orc_heap.specs.Seats.{IsIdle};
 ghost use Rattle.orc_heap.specs.Slots.{Holds, IsFree, id_in};
 ghost use Rattle.orc_fifo_rule.specs.Watches.{WasNamed};
+ghost use Rattle.orc_history.specs.Journals.{Within};
+ghost use Rattle.orc_history.specs.declared.queue.QueueRefused.{QueueRefused};
+ghost use Rattle.orc_queue.specs.Answers.{PutAnswers};
 ghost use Rattle.orc_queue.specs.Turns.{HasDummy, HoldsNode, LinksBehind, PutsBehind, PutsTurn, PutsTurns};
 
 use crate::swings::{TAIL, change, help_tail};
 use orc_fifo_rule::{Fifo, FifoNote};
 use orc_heap::{At, Held, Links, Looked, Want};
-use orc_history::QueueEntry;
+use orc_history::{QueueEntry, QueueRefused};
 
 // Every position is below this.
 const POSITIONS: u64 = 1 << 62;
@@ -131,4 +135,36 @@ pub(crate) fn put_turns<L: Links<Rule = Fifo>>(
         }
     }
     PutTurn::Over
+}
+
+/// Puts the job in a new node, in at most so many turns.
+pub(crate) fn put_job<L: Links<Rule = Fifo>>(
+    links: &L,
+    p: &mut L::Pass,
+    job: u64,
+    turns: u64,
+) -> Result<u64, QueueRefused>
+    requires pass { L.belongs links.now p.old }
+    requires made { HasDummy (L.numbers links.now) (L.opening links.now) }
+    requires idle { IsIdle (L.seat links.now p.old) }
+    ensures pass { L.belongs links.now p.new }
+    ensures later { IsPrefix (L.journal p.old) (L.journal p.new) }
+    ensures answered { PutAnswers (L.numbers links.now) job turns (L.seat links.now p.old) result (L.seat links.now p.new) }
+    ensures lacking { result ≡ Err QueueRefused.NoNode → Within (length (L.journal p.old)) (length (L.journal p.new))
+        (L.lacking links.now (L.seat links.now p.old).agent (L.journal p.new)) }
+{
+    if turns == 0 {
+        return Err(QueueRefused::Again);
+    }
+    let node = match links.give(p, 1, job, 0) {
+        Ok(node) => node,
+        Err(_) => return Err(QueueRefused::NoNode),
+    };
+    let turn = put_turns(links, p, &node, job, turns);
+    links.release(p, node);
+    match turn {
+        PutTurn::Put(at) => Ok(at),
+        PutTurn::Full => Err(QueueRefused::Positions),
+        PutTurn::Over => Err(QueueRefused::Again),
+    }
 }

@@ -3,14 +3,17 @@
 ghost use Rattle.std.specs.Prelude.{◌≡◌, ℕ, true};
 ghost use mathlib.Core.List.{IsPrefix};
 ghost use Rattle.orc_heap.specs.Journals.{run_heap};
+ghost use Rattle.orc_heap.specs.Seats.{IsIdle};
 ghost use Rattle.orc_heap.specs.Slots.{Holds, IsFree, id_in};
 ghost use Rattle.orc_fifo_rule.specs.QueueDiscipline.{HasLink, link_to};
 ghost use Rattle.orc_fifo_rule.specs.Watches.{IsLeft, WasNamed};
+ghost use Rattle.orc_queue.specs.Answers.{TakeAnswers};
 ghost use Rattle.orc_queue.specs.Turns.{HasDummy, FindsEnd, TakesBehind, TakesFrom, TakesNext, TakesTurn, TakesTurns};
 
 use crate::swings::{HEAD, TAIL, change, help_tail};
 use orc_fifo_rule::{Fifo, FifoNote};
 use orc_heap::{At, Held, Links, Looked, Want};
+use orc_fault::Again;
 use orc_history::QueueEntry;
 
 /// How a turn of a take ended.
@@ -25,7 +28,7 @@ pub enum TakeTurn {
 }
 
 // Takes the successor's job: the head goes on to it.
-fn take_job<L: Links<Rule = Fifo>>(
+fn swing_head<L: Links<Rule = Fifo>>(
     links: &L,
     p: &mut L::Pass,
     head: &Held,
@@ -75,7 +78,7 @@ fn take_next<L: Links<Rule = Fifo>>(
         help_tail(links, p, head, next);
         return None;
     }
-    take_job(links, p, head, next)
+    swing_head(links, p, head, next)
 }
 
 // Whether the head, whose link was null, still has a null link. Then the queue is empty.
@@ -162,4 +165,24 @@ pub(crate) fn take_turns<L: Links<Rule = Fifo>>(links: &L, p: &mut L::Pass, turn
         }
     }
     TakeTurn::Over
+}
+
+/// Takes the job at the front, in at most so many turns.
+pub(crate) fn take_job<L: Links<Rule = Fifo>>(
+    links: &L,
+    p: &mut L::Pass,
+    turns: u64,
+) -> Result<Option<(u64, u64)>, Again>
+    requires pass { L.belongs links.now p.old }
+    requires made { HasDummy (L.numbers links.now) (L.opening links.now) }
+    requires idle { IsIdle (L.seat links.now p.old) }
+    ensures pass { L.belongs links.now p.new }
+    ensures later { IsPrefix (L.journal p.old) (L.journal p.new) }
+    ensures answered { TakeAnswers turns (L.seat links.now p.old) result (L.seat links.now p.new) }
+{
+    match take_turns(links, p, turns) {
+        TakeTurn::Took(job, at) => Ok(Some((job, at))),
+        TakeTurn::Empty => Ok(None),
+        TakeTurn::Over => Err(Again),
+    }
 }

@@ -55,8 +55,8 @@ returns-then-same-clause-took g c =
     let helped = subst (λ (z : Slots). Helps (id_in z head.now) (id_in z next.now) a b) e.tested.slots c.help_tail.ensures.helped in
     past_helped n id (id_in s.slots next.now) _ _ s a b (Tests-found e.tested c.if-same.true) all (g.met.L.Links.allowed d c.help_tail.new.p c.help_tail.ensures.pass) e.tested.slots e.tested.fresh helped
 
-pub take_job-requires-clause-left : goal.take_job-requires-clause-left
-take_job-requires-clause-left g c =
+pub swing_head-requires-clause-left : goal.swing_head-requires-clause-left
+swing_head-requires-clause-left g c =
     let d = c.args.links.now in
     let n = g.L.Links.numbers d in
     let s = g.L.Links.seat d c.args.p.now in
@@ -70,8 +70,8 @@ take_job-requires-clause-left g c =
     let all = g.met.L.Links.allowed d c.same.new.p e.pass in
     subst (λ (z : Slots). IsLeft (heap_of n a) (id_in z head.now)) (sym e.tested.slots) (past_left n id s a ks all c.requires.named (Tests-missed e.tested c.if-same.false))
 
-pub take_job-requires-clause-successor : goal.take_job-requires-clause-successor
-take_job-requires-clause-successor g c =
+pub swing_head-requires-clause-successor : goal.swing_head-requires-clause-successor
+swing_head-requires-clause-successor g c =
     let d = c.args.links.now in
     let n = g.L.Links.numbers d in
     let s = g.L.Links.seat d c.args.p.now in
@@ -99,7 +99,7 @@ returns-clause-took g c =
     let a = g.L.Links.seat d c.same.new.p in
     let e = c.same.ensures in
     let all = g.met.L.Links.allowed d c.same.new.p e.pass in
-    let t = g.L.Links.seat d c.take_job.new.p in
+    let t = g.L.Links.seat d c.swing_head.new.p in
     let miss = Tests-missed e.tested c.if-same.false in
-    let took = subst (λ (z : Slots). TakesFrom n (id_in z head.now) a c.take_job.result t) e.tested.slots c.take_job.ensures.took in
-    past_taken n id (id_in s.slots next.now) s a t _ miss.puts all e.tested.slots e.tested.fresh refl refl refl c.take_job.result took
+    let took = subst (λ (z : Slots). TakesFrom n (id_in z head.now) a c.swing_head.result t) e.tested.slots c.swing_head.ensures.took in
+    past_taken n id (id_in s.slots next.now) s a t _ miss.puts all e.tested.slots e.tested.fresh refl refl refl c.swing_head.result took
