@@ -2,7 +2,7 @@
 use Rattle.std.proofs.Common.{Bool, List, None, Option, Some, [], ap, append-nil, append_assoc, arith, false, inl, inr, refl, subst, sym, true, ℕ, ◌++◌, ◌+◌, ◌∙◌, ◌∷◌, ◌≡◌}
 use Rattle.std.proofs.lemmas.Bool.{eqb-true}
 use Rattle.std.specs.List.{slice_get}
-use Rattle.std.specs.Prelude.{if◌then◌else◌, ◌==◌}
+use Rattle.std.specs.Prelude.{if◌then◌else◌, is_some, ◌==◌}
 use mathlib.Core.List.{IsPrefix}
 use Rattle.orc_heap.proofs.Before.{IsLinkedBy, linked_before}
 use Rattle.orc_heap.proofs.Fresh.{link_touched, node-after, touched}
@@ -101,14 +101,13 @@ filled_next n es e holds d may = record {
             let s = linked_after e.agent e.act (run_heap n es) id l.node may.fits l.there l.linked in
             let both : Some s.node ≡ Some node = sym s.there ∙ at in
             let same : s.node ≡ node = cc in
-            let (value, is) = d.filled id l.node l.there l.linked in
-            (value, ap (λ (x : Node). x.second) (sym same) ∙ (s.second ∙ is))
+            ap (λ (x : Node). is_some x.second) (sym same) ∙ (ap (λ (o : Option ℕ). is_some o) s.second ∙ d.filled id l.node l.there l.linked)
         | inr new ↦
             let after : slice_get (heap_after e.agent e.act (run_heap n es)).nodes id ≡ Some (touched e.act id new.old) = node-after e.agent e.act (run_heap n es) id new.old new.there in
             let both : Some (touched e.act id new.old) ≡ Some node = sym after ∙ at in
             let same : touched e.act id new.old ≡ node = cc in
             let (value, is) = first_link n es holds d.begun id e new.old may new.there new.unlinked new.moves in
-            (value, ap (λ (x : Node). x.second) (sym same) ∙ (second_kept e.act id new.old new.moves ∙ is))
+            ap (λ (x : Node). is_some x.second) (sym same) ∙ ap (λ (o : Option ℕ). is_some o) (second_kept e.act id new.old new.moves ∙ is)
       ];
 }
 
@@ -133,3 +132,8 @@ known n opening es made (more, is) all holds =
       all = all;
       dummy = subst (λ z. HasDummy n z) is (dummy_later n opening more begin made (allowed-right (FifoMay n) [] opening more whole));
     }
+
+-- what is there has a value
+pub some_value : (o : Option ℕ) → is_some o ≡ true → (value : ℕ) × (o ≡ Some value)
+some_value None e = cc
+some_value (Some value) e = (value, refl)

@@ -36,7 +36,7 @@ use Rattle.orc_fifo_rule.specs.Kept.Kinds.{link_same, null_to, some_same}
 use Rattle.orc_fifo_rule.specs.Kept.Nodes.{position_at, shown_link}
 use Rattle.orc_fifo_rule.specs.Kept.Paths.{has_link}
 use Rattle.orc_queue.specs.Turns.{heap_of}
-use Rattle.orc_queue.proofs.Filled.{Known}
+use Rattle.orc_queue.proofs.Filled.{Known, some_value}
 use Rattle.orc_queue.proofs.Moments.{Moment, moment, seen_is, since}
 use Rattle.orc_queue.proofs.Pieces.{InSlot}
 
@@ -155,7 +155,7 @@ pub position_read : (n : HeapNumbers) (es : List (Event FifoNote)) (id value : �
 position_read n es id value k l r =
     let both : Some r.node ≡ Some l.node = sym r.there ∙ l.there in
     let same : r.node ≡ l.node = cc in
-    let (filled, is) = k.dummy.filled id l.node l.there l.linked in
+    let (filled, is) = some_value l.node.second (k.dummy.filled id l.node l.there l.linked) in
     let read : value ≡ filled = r.is filled (ap (λ (x : Node). x.second) same ∙ is) in
     read ∙ sym (position_at (run_heap n es) id l.node l.there ∙ ap (λ (x : Option ℕ). unwrap_or x 0) is)
 

@@ -32,7 +32,7 @@ heap_of n s = run_heap n s.seen
 -- root 0 and root 1 have begun, and each once linked node has its second value
 pub record HasDummy (n : HeapNumbers) (es : List (Event FifoNote)) : Type 0 where
   pub begun : has_begun es ≡ true
-  pub filled : (id : ℕ) (node : Node) → slice_get (run_heap n es).nodes id ≡ Some node → node.linked ≡ true → (value : ℕ) × (node.second ≡ Some value)
+  pub filled : (id : ℕ) (node : Node) → slice_get (run_heap n es).nodes id ≡ Some node → node.linked ≡ true → is_some node.second ≡ true
 
 -- the position of the next Put
 abbrev pub next_position : HeapNumbers → List (Event FifoNote) → ℕ

@@ -2,5 +2,8 @@
 #![tactic(auto)]
 
 mod put;
+mod queue;
 mod swings;
 mod take;
+
+pub use queue::Queue;
