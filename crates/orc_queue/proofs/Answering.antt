@@ -63,62 +63,62 @@ given_held n job h s a free g =
 
 -- a put, from its Give to its release
 module _ (n : HeapNumbers) (job turns : ℕ) (h : Hold) (s a b t : Seat FifoNote) (idle : IsIdle s) (free : IsFree s.slots 1) (g : Gives n 1 job 0 s h a) (some : turns ≢ 0) (w : Releases b h t) (node : HoldsNode n job h a) where
-    given : List (Event FifoNote)
-    given = event_of s Give None ∷ event_of s (Fill g.id 0 job) None ∷ event_of s (Fill g.id 1 0) None ∷ []
+  given : List (Event FifoNote)
+  given = event_of s Give None ∷ event_of s (Fill g.id 0 job) None ∷ event_of s (Fill g.id 1 0) None ∷ []
 
-    put_idle : b.slots ≡ a.slots → t.fresh ≡ None → IsIdle t
-    put_idle same none = record { slots = slot_released s a 1 g.id h free (given_in n job h s a g) b t same w ∙ idle.slots; fresh = none }
+  put_idle : b.slots ≡ a.slots → t.fresh ≡ None → IsIdle t
+  put_idle same none = record { slots = slot_released s a 1 g.id h free (given_in n job h s a g) b t same w ∙ idle.slots; fresh = none }
 
-    fresh_released : b.slots ≡ a.slots → b.fresh ≡ a.fresh → t.fresh ≡ None
-    fresh_released same fresh =
-        w.fresh ∙ (ap (λ o. unless_node o (Some (id_in b.slots h))) (fresh ∙ (node.fresh ∙ ap (λ (z : Slots). Some (id_in z h)) (sym same))) ∙ unless_same (id_in b.slots h))
+  fresh_released : b.slots ≡ a.slots → b.fresh ≡ a.fresh → t.fresh ≡ None
+  fresh_released same fresh =
+      w.fresh ∙ (ap (λ o. unless_node o (Some (id_in b.slots h))) (fresh ∙ (node.fresh ∙ ap (λ (z : Slots). Some (id_in z h)) (sym same))) ∙ unless_same (id_in b.slots h))
 
-    given_room : FindsFull n s.agent s.seen g.puts.part → ⊥
-    given_room = room_unseen n s a _ g.puts refl
+  given_room : FindsFull n s.agent s.seen g.puts.part → ⊥
+  given_room = room_unseen n s a _ g.puts refl
 
-    module _ (own : List (Event FifoNote)) (q0 : Puts a own b) (none : gives_in own ≡ 0) where
-        all_puts : Puts s (event_of s Give None ∷ event_of s (Fill g.id 0 job) None ∷ event_of s (Fill g.id 1 0) None ∷ own) t
-        all_puts = Puts-trans s a t _ own g.puts (puts_released a b t own q0 w.puts)
+  module _ (own : List (Event FifoNote)) (q0 : Puts a own b) (none : gives_in own ≡ 0) where
+    all_puts : Puts s (event_of s Give None ∷ event_of s (Fill g.id 0 job) None ∷ event_of s (Fill g.id 1 0) None ∷ own) t
+    all_puts = Puts-trans s a t _ own g.puts (puts_released a b t own q0 w.puts)
 
-        put_call : (es : List QueueEntry) → b.slots ≡ a.slots → t.fresh ≡ None → entries_of own ≡ es → IsCall 1 s es t
-        put_call es same fresh entries = record { idle = put_idle same fresh; own = _; puts = all_puts; entries_are = entries; gives = omega (arith, none) }
+    put_call : (es : List QueueEntry) → b.slots ≡ a.slots → t.fresh ≡ None → entries_of own ≡ es → IsCall 1 s es t
+    put_call es same fresh entries = record { idle = put_idle same fresh; own = _; puts = all_puts; entries_are = entries; gives = omega (arith, none) }
 
-        room_all : {most : ℕ} {es : List QueueEntry} (c : IsCall most s es t) → (FindsFull n a.agent a.seen q0.part → ⊥) → FindsFull n s.agent s.seen c.puts.part → ⊥
-        room_all c room =
-            let q = puts_released a b t own q0 w.puts in
-            room_join n s a t _ _ _ g.puts q c.puts given_room (room_join n a b t _ _ _ q0 w.puts q room (room_unseen n b t [] w.puts refl))
+    room_all : {most : ℕ} {es : List QueueEntry} (c : IsCall most s es t) → (FindsFull n a.agent a.seen q0.part → ⊥) → FindsFull n s.agent s.seen c.puts.part → ⊥
+    room_all c room =
+        let q = puts_released a b t own q0 w.puts in
+        room_join n s a t _ _ _ g.puts q c.puts given_room (room_join n a b t _ _ _ q0 w.puts q room (room_unseen n b t [] w.puts refl))
 
-        full_all : {most : ℕ} {es : List QueueEntry} (c : IsCall most s es t) → FindsFull n a.agent a.seen q0.part → FindsFull n s.agent s.seen c.puts.part
-        full_all c full =
-            let q = puts_released a b t own q0 w.puts in
-            full_join_right n s a t _ _ _ g.puts q c.puts (full_join_left n a b t _ _ _ q0 w.puts q full)
+    full_all : {most : ℕ} {es : List QueueEntry} (c : IsCall most s es t) → FindsFull n a.agent a.seen q0.part → FindsFull n s.agent s.seen c.puts.part
+    full_all c full =
+        let q = puts_released a b t own q0 w.puts in
+        full_join_right n s a t _ _ _ g.puts q c.puts (full_join_left n a b t _ _ _ q0 w.puts q full)
 
-    pub put_tired : PutTires n job turns h a b → PutTired n turns s t
-    put_tired l =
-        let p = l.over.piece in
-        let c = put_call p.own p.puts p.no_give [] p.slots (fresh_released p.slots l.over.fresh) p.entries_are in
-        let q = puts_released a b t p.own p.puts w.puts in
-        record {
-          tires = record {
-            call = c;
-            moved = omega (arith, l.over.moved, own_moves_left a b t _ _ _ p.puts w.puts q, own_moves_right s a t _ _ _ g.puts q c.puts);
-            busy = λ two alone. l.over.busy two (own_part_left a b t _ _ _ p.puts w.puts q (own_part_right s a t _ _ _ g.puts q c.puts alone));
-          };
-          room = room_all p.own p.puts p.no_give c l.room;
-        }
+  pub put_tired : PutTires n job turns h a b → PutTired n turns s t
+  put_tired l =
+      let p = l.over.piece in
+      let c = put_call p.own p.puts p.no_give [] p.slots (fresh_released p.slots l.over.fresh) p.entries_are in
+      let q = puts_released a b t p.own p.puts w.puts in
+      record {
+        tires = record {
+          call = c;
+          moved = omega (arith, l.over.moved, own_moves_left a b t _ _ _ p.puts w.puts q, own_moves_right s a t _ _ _ g.puts q c.puts);
+          busy = λ two alone. l.over.busy two (own_part_left a b t _ _ _ p.puts w.puts q (own_part_right s a t _ _ _ g.puts q c.puts alone));
+        };
+        room = room_all p.own p.puts p.no_give c l.room;
+      }
 
-    pub put_full : IsFull n a b → PutFull n turns s t
-    put_full l =
-        let p = l.piece in
-        let c = put_call p.own p.puts p.no_give [] p.slots (fresh_released p.slots l.fresh) p.entries_are in
-        record { call = c; some_turn = some; full = full_all p.own p.puts p.no_give c l.full }
+  pub put_full : IsFull n a b → PutFull n turns s t
+  put_full l =
+      let p = l.piece in
+      let c = put_call p.own p.puts p.no_give [] p.slots (fresh_released p.slots l.fresh) p.entries_are in
+      record { call = c; some_turn = some; full = full_all p.own p.puts p.no_give c l.full }
 
-    pub put_made : (at : ℕ) → PutsJob n job at a b → PutMade n job at turns s t
-    put_made at l =
-        let p = l.piece in
-        let fresh : t.fresh ≡ None = w.fresh ∙ ap (λ o. unless_node o (Some (id_in b.slots h))) l.fresh in
-        let c = put_call p.own p.puts p.no_give (Put s.agent job at ∷ []) p.slots fresh (p.entries_are ∙ ap (λ (x : ℕ). Put x job at ∷ []) g.puts.agent) in
-        record { call = c; some_turn = some; low = l.low; room = room_all p.own p.puts p.no_give c l.room }
+  pub put_made : (at : ℕ) → PutsJob n job at a b → PutMade n job at turns s t
+  put_made at l =
+      let p = l.piece in
+      let fresh : t.fresh ≡ None = w.fresh ∙ ap (λ o. unless_node o (Some (id_in b.slots h))) l.fresh in
+      let c = put_call p.own p.puts p.no_give (Put s.agent job at ∷ []) p.slots fresh (p.entries_are ∙ ap (λ (x : ℕ). Put x job at ∷ []) g.puts.agent) in
+      record { call = c; some_turn = some; low = l.low; room = room_all p.own p.puts p.no_give c l.room }
 
 -- no turn
 pub put_none : (n : HeapNumbers) (s : Seat FifoNote) → IsIdle s → PutTired n 0 s s
@@ -157,23 +157,23 @@ tires_settled most turns s t u k o =
     }
 
 module _ (n : HeapNumbers) (s t u : Seat FifoNote) (o : Only [] t u) where
-    room_settled : {most : ℕ} {es : List QueueEntry} (c : IsCall most s es t) (k : IsCall most s es u) → (FindsFull n s.agent s.seen c.puts.part → ⊥) → FindsFull n s.agent s.seen k.puts.part → ⊥
-    room_settled c k room = room_join n s t u _ _ _ c.puts o.puts k.puts room (room_unseen n t u [] o.puts refl)
+  room_settled : {most : ℕ} {es : List QueueEntry} (c : IsCall most s es t) (k : IsCall most s es u) → (FindsFull n s.agent s.seen c.puts.part → ⊥) → FindsFull n s.agent s.seen k.puts.part → ⊥
+  room_settled c k room = room_join n s t u _ _ _ c.puts o.puts k.puts room (room_unseen n t u [] o.puts refl)
 
-    pub put_settled : (job turns : ℕ) (r : Result ℕ QueueRefused) → PutAnswers n job turns s r t → PutAnswers n job turns s r u
-    put_settled job turns (Ok at) l =
-        let c = call_settled 1 s t u _ l.call o in
-        record { call = c; some_turn = l.some_turn; low = l.low; room = room_settled l.call c l.room }
-    put_settled job turns (Err Again) l =
-        let k = tires_settled 1 turns s t u l.tires o in
-        record { tires = k; room = room_settled l.tires.call k.call l.room }
-    put_settled job turns (Err NoNode) l =
-        let c = call_settled 1 s t u _ l.call o in
-        record { call = c; some_turn = l.some_turn; room = room_settled l.call c l.room }
-    put_settled job turns (Err Positions) l =
-        let c = call_settled 1 s t u _ l.call o in
-        record { call = c; some_turn = l.some_turn; full = full_join_left n s t u _ _ _ l.call.puts o.puts c.puts l.full }
+  pub put_settled : (job turns : ℕ) (r : Result ℕ QueueRefused) → PutAnswers n job turns s r t → PutAnswers n job turns s r u
+  put_settled job turns (Ok at) l =
+      let c = call_settled 1 s t u _ l.call o in
+      record { call = c; some_turn = l.some_turn; low = l.low; room = room_settled l.call c l.room }
+  put_settled job turns (Err Again) l =
+      let k = tires_settled 1 turns s t u l.tires o in
+      record { tires = k; room = room_settled l.tires.call k.call l.room }
+  put_settled job turns (Err NoNode) l =
+      let c = call_settled 1 s t u _ l.call o in
+      record { call = c; some_turn = l.some_turn; room = room_settled l.call c l.room }
+  put_settled job turns (Err Positions) l =
+      let c = call_settled 1 s t u _ l.call o in
+      record { call = c; some_turn = l.some_turn; full = full_join_left n s t u _ _ _ l.call.puts o.puts c.puts l.full }
 
-    pub take_settled : (turns : ℕ) (r : Result (Option (ℕ × ℕ)) AgainFault) → TakeAnswers turns s r t → TakeAnswers turns s r u
-    take_settled turns (Ok got) l = record { call = call_settled 0 s t u _ l.call o; some_turn = l.some_turn }
-    take_settled turns (Err again) l = tires_settled 0 turns s t u l o
+  pub take_settled : (turns : ℕ) (r : Result (Option (ℕ × ℕ)) AgainFault) → TakeAnswers turns s r t → TakeAnswers turns s r u
+  take_settled turns (Ok got) l = record { call = call_settled 0 s t u _ l.call o; some_turn = l.some_turn }
+  take_settled turns (Err again) l = tires_settled 0 turns s t u l o

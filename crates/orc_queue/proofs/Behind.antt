@@ -109,43 +109,43 @@ module _ (n : HeapNumbers) (job tail next : ℕ) (h : Hold) (s a b t : Seat Fifo
 
     pub behind_held : TurnMissed n job tail h s t
     behind_held = elim helped.either [
-          | inl moved ↦
-              let act = Move (Root 1) (link_to tail) (link_to next) in
-              let move : Event FifoNote = event_of s act (Some Swing) in
-              let q : Puts a (move ∷ []) t = subst (λ (x : ℕ). Puts a (record { agent = x; act = act; note = Some Swing } ∷ []) t) p.agent (puts_released a b t _ moved freed) in
-              let first : Event FifoNote = event_of s (Look (Next tail) (link_to next)) None in
-              let j = join s a t (first ∷ first ∷ []) (move ∷ []) [] p q slots refl refl in
-              let w : Puts s (first ∷ first ∷ move ∷ []) t = Puts-trans s a t (first ∷ first ∷ []) (move ∷ []) p q in
-              let some : 1 ≤ moves_in w.part = omega (arith, moves_own s.agent w.part, ap (λ (z : List (Event FifoNote)). moves_in z) w.own_is) in
-              record {
-                stops = record {
-                  piece = j.piece;
-                  fresh = fresh;
-                  moved = λ at. subst (λ z. 1 ≤ moves_in z) (one_part s t _ _ w j.piece.puts) some;
-                  own_moves = inr (next, j.own_is);
-                };
-                room = subst (λ z. FindsFull n s.agent s.seen z → ⊥) (one_part s t _ _ w j.piece.puts)
+      | inl moved ↦
+          let act = Move (Root 1) (link_to tail) (link_to next) in
+          let move : Event FifoNote = event_of s act (Some Swing) in
+          let q : Puts a (move ∷ []) t = subst (λ (x : ℕ). Puts a (record { agent = x; act = act; note = Some Swing } ∷ []) t) p.agent (puts_released a b t _ moved freed) in
+          let first : Event FifoNote = event_of s (Look (Next tail) (link_to next)) None in
+          let j = join s a t (first ∷ first ∷ []) (move ∷ []) [] p q slots refl refl in
+          let w : Puts s (first ∷ first ∷ move ∷ []) t = Puts-trans s a t (first ∷ first ∷ []) (move ∷ []) p q in
+          let some : 1 ≤ moves_in w.part = omega (arith, moves_own s.agent w.part, ap (λ (z : List (Event FifoNote)). moves_in z) w.own_is) in
+          record {
+            stops = record {
+              piece = j.piece;
+              fresh = fresh;
+              moved = λ at. subst (λ z. 1 ≤ moves_in z) (one_part s t _ _ w j.piece.puts) some;
+              own_moves = inr (next, j.own_is);
+            };
+            room = subst (λ z. FindsFull n s.agent s.seen z → ⊥) (one_part s t _ _ w j.piece.puts)
                 (room_at n s t _ tail w k (new_allowed n s t _ w all) named ((λ e. not_end e), ((λ e. not_end e), ((λ e. not_end e), tt))) low);
-                node = node_puts n s t _ w all job h node.second k node slots fresh (rw (ne_eqb next (id_in s.slots h) other) refl) (rw (ne_eqb next (id_in s.slots h) other) refl);
-              }
-          | inr missed ↦
-              let miss : Event FifoNote = event_of a (Miss (Root 1) (link_to tail) missed.found) None in
-              let q : Puts a (miss ∷ []) t = puts_released a b t _ missed.puts freed in
-              let first : Event FifoNote = event_of s (Look (Next tail) (link_to next)) None in
-              let j = join s a t (first ∷ first ∷ []) (miss ∷ []) [] p q slots refl refl in
-              let w : Puts s (first ∷ first ∷ miss ∷ []) t = Puts-trans s a t (first ∷ first ∷ []) (miss ∷ []) p q in
-              record {
-                stops = record {
-                  piece = j.piece;
-                  fresh = fresh;
-                  moved = λ at. subst (λ z. 1 ≤ moves_in z) (one_part s t _ _ w j.piece.puts) (miss_moved n s t (Root 1) (link_to tail) missed.found (first ∷ first ∷ []) miss [] w refl all tt missed.other at);
-                  own_moves = inl (ap (λ (z : List (Event FifoNote)). moves_in z) j.own_is);
-                };
-                room = subst (λ z. FindsFull n s.agent s.seen z → ⊥) (one_part s t _ _ w j.piece.puts)
+            node = node_puts n s t _ w all job h node.second k node slots fresh (rw (ne_eqb next (id_in s.slots h) other) refl) (rw (ne_eqb next (id_in s.slots h) other) refl);
+          }
+      | inr missed ↦
+          let miss : Event FifoNote = event_of a (Miss (Root 1) (link_to tail) missed.found) None in
+          let q : Puts a (miss ∷ []) t = puts_released a b t _ missed.puts freed in
+          let first : Event FifoNote = event_of s (Look (Next tail) (link_to next)) None in
+          let j = join s a t (first ∷ first ∷ []) (miss ∷ []) [] p q slots refl refl in
+          let w : Puts s (first ∷ first ∷ miss ∷ []) t = Puts-trans s a t (first ∷ first ∷ []) (miss ∷ []) p q in
+          record {
+            stops = record {
+              piece = j.piece;
+              fresh = fresh;
+              moved = λ at. subst (λ z. 1 ≤ moves_in z) (one_part s t _ _ w j.piece.puts) (miss_moved n s t (Root 1) (link_to tail) missed.found (first ∷ first ∷ []) miss [] w refl all tt missed.other at);
+              own_moves = inl (ap (λ (z : List (Event FifoNote)). moves_in z) j.own_is);
+            };
+            room = subst (λ z. FindsFull n s.agent s.seen z → ⊥) (one_part s t _ _ w j.piece.puts)
                 (room_at n s t _ tail w k (new_allowed n s t _ w all) named ((λ e. not_end e), ((λ e. not_end e), ((λ e. not_end e), tt))) low);
-                node = node_puts n s t _ w all job h node.second k node slots fresh refl refl;
-              }
-        ]
+            node = node_puts n s t _ w all job h node.second k node slots fresh refl refl;
+          }
+    ]
 
 -- the link moved between two looks
 pub behind_moved : (n : HeapNumbers) (job tail : ℕ) (h : Hold) (s t : Seat FifoNote) (one two : Link) → Known n s.seen → Known n t.seen → WasNamed (heap_of n s) 1 tail → HoldsNode n job h s → one ≢ two

@@ -1,13 +1,15 @@
 -- From what a call did to its clauses on journals.
 use Rattle.std.proofs.Common.{Bool, List, Ok, Err, Option, Result, [], ap, append_assoc, arith, drop, inl, inr, length, refl, subst, sym, take, true, ℕ, ◌++◌, ◌+◌, ◌<◌, ◌==◌, ◌^◌, ◌∙◌, ◌∷◌, ◌≡◌, ◌≢◌, ◌≤◌, ◌⊎◌}
+use Rattle.std.proofs.lemmas.List.{length-append}
 use Rattle.std.proofs.lemmas.List.Elements.{filter-append}
 use Rattle.std.proofs.Math.Seq.{drop-append_seam, take-length}
 use Rattle.std.specs.List.{list_all}
-use Rattle.std.specs.Prelude.{◌↔◌}
+use Rattle.std.specs.Prelude.{IfErr, IfOk, IsErr, ◌↔◌}
 use mathlib.Core.List.{IsPrefix}
 use Rattle.orc_heap.proofs.Moved.{moves_in-append}
 use Rattle.orc_heap.proofs.OwnParts.{from_own-others, moves_from_own, own_from}
-use Rattle.orc_heap.proofs.Steps.{part_bounds, part_events}
+use Rattle.orc_heap.proofs.Steps.{events_grow, part_bounds, part_events}
+use Rattle.orc_heap.proofs.Stays.{allowed-right}
 use Rattle.orc_heap.specs.Allowed.{AllAllowed, events_by}
 use Rattle.orc_heap.specs.Heap.{HeapNumbers}
 use Rattle.orc_heap.specs.Journals.{run_heap}
@@ -15,14 +17,14 @@ use Rattle.orc_heap.specs.Moves.{AllOwn, from_own, gives_in, moves_in}
 use Rattle.orc_heap.specs.Parts.{InPart, IsBelow, part_begin}
 use Rattle.orc_heap.specs.Seats.{IsIdle, Seat}
 use Rattle.orc_heap.specs.declared.events.Event.{Event}
-use Rattle.orc_history.specs.Journals.{Adds, Every, Within}
+use Rattle.orc_history.specs.Journals.{Adds, Every, Learns as HistoryLearns, Within, own_of}
 use Rattle.orc_history.specs.QueueHistory.{agent_of_entry, entry_of_dequeue, puts_in}
 use Rattle.orc_history.specs.declared.queue.QueueEntry.{QueueEntry}
 use Rattle.orc_history.specs.declared.queue.QueueEntry.TheVariants.{Put}
 use Rattle.orc_history.specs.declared.queue.QueueRefused.{QueueRefused}
 use Rattle.orc_history.specs.declared.queue.QueueRefused.TheVariants.{Again, NoNode, Positions}
 use Rattle.orc_fault.specs.declared.Again.{Again as AgainFault}
-use Rattle.orc_fifo_rule.proofs.OwnEntries.{entries_added}
+use Rattle.orc_fifo_rule.proofs.OwnEntries.{entries_added, own_of_events}
 use Rattle.orc_fifo_rule.specs.declared.fifo.FifoNote.{FifoNote}
 use Rattle.orc_fifo_rule.specs.QueueDiscipline.{FifoMay, entries_of, position_of}
 use Rattle.orc_queue.specs.Answers.{CallFindsFull, IsCall, PutAnswers, PutTired, TakeAnswers, Tires}
@@ -104,15 +106,27 @@ module _ {S : Type 0} (n : HeapNumbers) (agents : ℕ) (agent_of : S → ℕ) (e
         (subst (λ z. Adds agent_of_entry (λ (x : ℕ). x < agents) s.agent (entries_of z) es (entries_of (s.seen ++ p.part))) is_s
         (subst (λ z. Adds agent_of_entry (λ (x : ℕ). x < agents) s.agent (entries_of s.seen) z (entries_of (s.seen ++ p.part))) own a))
 
-    pub put_adds : (job turns : ℕ) (r : Result ℕ QueueRefused) → PutAnswers n job turns s r t → (at : ℕ) → r ≡ Ok at
-        → Adds agent_of_entry (λ (a : ℕ). a < agents) s.agent (entries_of (events j)) (Put s.agent job at ∷ []) (entries_of (events k))
-    put_adds job turns (Ok x) l at is = let same : x ≡ at = cc in call_adds 1 (Put s.agent job at ∷ []) (subst (λ (y : ℕ). IsCall 1 s (Put s.agent job y ∷ []) t) same l.call)
-    put_adds job turns (Err why) l at is = cc
+    pub put_ok : (job turns : ℕ) (r : Result ℕ QueueRefused) → PutAnswers n job turns s r t
+        → IfOk r (λ at. Adds agent_of_entry (λ (a : ℕ). a < agents) s.agent (entries_of (events j)) (Put s.agent job at ∷ []) (entries_of (events k)))
+    put_ok job turns (Ok at) l = call_adds 1 (Put s.agent job at ∷ []) l.call
+    put_ok job turns (Err why) l = tt
 
-    pub put_adds_none : (job turns : ℕ) (why : QueueRefused) → PutAnswers n job turns s (Err why) t → Adds agent_of_entry (λ (a : ℕ). a < agents) s.agent (entries_of (events j)) [] (entries_of (events k))
-    put_adds_none job turns Again l = call_adds 1 [] l.tires.call
-    put_adds_none job turns NoNode l = call_adds 1 [] l.call
-    put_adds_none job turns Positions l = call_adds 1 [] l.call
+    pub put_err : (job turns : ℕ) (r : Result ℕ QueueRefused) → PutAnswers n job turns s r t
+        → IfErr r (λ e. Adds agent_of_entry (λ (a : ℕ). a < agents) s.agent (entries_of (events j)) [] (entries_of (events k)))
+    put_err job turns (Ok at) l = tt
+    put_err job turns (Err Again) l = call_adds 1 [] l.tires.call
+    put_err job turns (Err NoNode) l = call_adds 1 [] l.call
+    put_err job turns (Err Positions) l = call_adds 1 [] l.call
+
+    pub take_ok : (turns : ℕ) (r : Result (Option (ℕ × ℕ)) AgainFault) → TakeAnswers turns s r t
+        → IfOk r (λ got. Adds agent_of_entry (λ (a : ℕ). a < agents) s.agent (entries_of (events j)) (entry_of_dequeue s.agent got ∷ []) (entries_of (events k)))
+    take_ok turns (Ok got) l = call_adds 0 (entry_of_dequeue s.agent got ∷ []) l.call
+    take_ok turns (Err again) l = tt
+
+    pub take_err : (turns : ℕ) (r : Result (Option (ℕ × ℕ)) AgainFault) → TakeAnswers turns s r t
+        → IfErr r (λ e. Adds agent_of_entry (λ (a : ℕ). a < agents) s.agent (entries_of (events j)) [] (entries_of (events k)))
+    take_err turns (Ok got) l = tt
+    take_err turns (Err again) l = call_adds 0 [] l.call
 
     -- all turns were used
     pub turns_used : (most turns : ℕ) → Tires most turns s t → InPart agent_of s.agent j k (λ from to. UsesTurns agent_of events s.agent turns k from to)
@@ -139,15 +153,74 @@ module _ {S : Type 0} (n : HeapNumbers) (agents : ℕ) (agent_of : S → ℕ) (e
     put_again job turns (Err NoNode) l is = cc
     put_again job turns (Err Positions) l is = cc
 
-    -- no position is left
-    pub position_lacks : (job turns : ℕ) (opening : List (Event FifoNote)) → HasDummy n opening → IsPrefix opening t.seen → Known n s.seen → PutAnswers n job turns s (Err Positions) t
+    pub take_again : (turns : ℕ) (r : Result (Option (ℕ × ℕ)) AgainFault) → TakeAnswers turns s r t → IfErr r (λ e. InPart agent_of s.agent j k (λ from to. UsesTurns agent_of events s.agent turns k from to))
+    take_again turns (Ok got) l = tt
+    take_again turns (Err again) l = turns_used 0 turns l
+
+    -- the end of the queue was found where no position was left
+    full_lacks : (turns : ℕ) (opening : List (Event FifoNote)) → HasDummy n opening → IsPrefix opening t.seen → Known n s.seen → turns ≢ 0 → CallFindsFull n s t
         → LacksPosition events (position_of (run_heap n opening) 0) turns k (length k)
-    position_lacks job turns opening made begins known l =
-        let p = l.call.puts in
-        let f = full_puts n s.agent s.seen p.part known.holds known.dummy.begun (new_allowed n s t l.call.own p all) l.full in
-        let there = subst (λ z. 2 ^ 62 ≤ position_of (run_heap n z) 0 + puts_in (entries_of z)) (sym p.is) f in
+    full_lacks turns opening made begins known some full =
+        let (more, is) = grows in
+        let (new, there) = events_grow agent_of events adds j more in
+        let seen : t.seen ≡ s.seen ++ new = is_t ∙ (ap events (sym is) ∙ (sym there ∙ ap (λ z. z ++ new) (sym is_s))) in
+        let allowed = allowed-right (FifoMay n) [] s.seen new (subst (λ z. AllAllowed (FifoMay n) [] z) seen all) in
+        let found : FindsFull n s.agent s.seen new = subst (λ z. FindsFull n s.agent s.seen z) (ap (λ z. drop (length s.seen) z) seen ∙ drop-append_seam s.seen new) full in
+        let high = subst (λ z. 2 ^ 62 ≤ position_of (run_heap n z) 0 + puts_in (entries_of z)) (sym seen) (full_puts n s.agent s.seen new known.holds known.dummy.begun allowed found) in
         record {
-          some_turn = l.some_turn;
+          some_turn = some;
           in_journal = omega arith;
-          full = rw (take-length k, sym is_t, sym (first_stays n opening t.seen made begins all)) there;
+          full = rw (take-length k, sym is_t, sym (first_stays n opening t.seen made begins all)) high;
         }
+
+    -- the licence of a refusal, from the clauses of a put
+    pub put_licence : (turns : ℕ) (opening : List (Event FifoNote)) → HasDummy n opening → IsPrefix opening t.seen → Known n s.seen → (Lacks : ℕ → ℕ → Type 0) (r : Result ℕ QueueRefused)
+        → (turns ≡ 0 → r ≡ Err Again) → (r ≡ Err Again → InPart agent_of s.agent j k (λ from to. UsesTurns agent_of events s.agent turns k from to))
+        → (r ≡ Err NoNode → (turns ≢ 0) × Within (length j) (length k) Lacks) → ((r ≡ Err Positions) ↔ CallFindsFull n s t)
+        → IfErr r (λ e. Within (length j) (length k) (λ from to. Cause agent_of events (position_of (run_heap n opening) 0) (Lacks from to) s.agent turns e k from to))
+    put_licence turns opening made begins known Lacks (Ok at) none again node full = tt
+    put_licence turns opening made begins known Lacks (Err Again) none again node full =
+        let bounds = part_bounds agent_of s.agent j k grows in
+        (part_begin agent_of s.agent j k, length k, bounds.0, bounds.1, omega arith, again refl)
+    put_licence turns opening made begins known Lacks (Err NoNode) none again node full =
+        let (some, (from, to, a, b, c, lacks)) = node refl in
+        (from, to, a, b, c, (some, lacks))
+    put_licence turns opening made begins known Lacks (Err Positions) none again node full =
+        let some : turns ≢ 0 = λ zero_turns. let bad : ◌≡◌ {A = Result ℕ QueueRefused} (Err Positions) (Err Again) = none zero_turns in cc in
+        let bounds = part_bounds agent_of s.agent j k grows in
+        (length j, length k, omega arith, omega (arith, bounds), omega arith, full_lacks turns opening made begins known some (full.0 refl))
+
+    pub take_licence : (turns first : ℕ) (Lacks : ℕ → ℕ → Type 0) (r : Result (Option (ℕ × ℕ)) AgainFault) → IfErr r (λ e. InPart agent_of s.agent j k (λ from to. UsesTurns agent_of events s.agent turns k from to))
+        → IfErr r (λ e. Within (length j) (length k) (λ from to. Cause agent_of events first (Lacks from to) s.agent turns Again k from to))
+    take_licence turns first Lacks (Ok got) again = tt
+    take_licence turns first Lacks (Err e) again =
+        let bounds = part_bounds agent_of s.agent j k grows in
+        (part_begin agent_of s.agent j k, length k, bounds.0, bounds.1, omega arith, again)
+
+-- a fact that stays is one of the longer journal
+pub within_stays : {S : Type 0} (Fact : List S → ℕ → ℕ → Type 0) → ((j more : List S) (from to : ℕ) → Fact j from to → Fact (j ++ more) from to) → (begin : ℕ) (k m : List S) → IsPrefix k m → Within begin (length k) (Fact k) → Within begin (length m) (Fact m)
+within_stays Fact stays begin k m (more, is) (from, to, a, b, c, fact) =
+    (from, to, a, b, omega (arith, c, length-append k more, ap length is), subst (λ z. Fact z from to) is (stays k more from to fact))
+
+-- the turns of a take
+pub take_no_turns : (turns : ℕ) (s t : Seat FifoNote) (r : Result (Option (ℕ × ℕ)) AgainFault) → TakeAnswers turns s r t → turns ≡ 0 → IsErr r
+take_no_turns turns s t (Ok got) l none = absurd (l.some_turn none)
+take_no_turns turns s t (Err again) l none = refl
+
+-- the entries of each of two agents in what both have seen
+pub learns : {S : Type 0} (n : HeapNumbers) (events : List S → List (Event FifoNote)) (agent1 agent2 : ℕ) (s1 s2 t1 : Seat FifoNote) (j1 j2 k1 k2 : List S) → k1 ≡ k2 → (IsPrefix j1 j2 × (k1 ≡ j2)) ⊎ (IsPrefix j2 j1 × (k1 ≡ j1))
+    → AllAllowed (FifoMay n) [] s1.seen → AllAllowed (FifoMay n) [] s2.seen → AllAllowed (FifoMay n) [] t1.seen → s1.seen ≡ events j1 → s2.seen ≡ events j2 → t1.seen ≡ events k1
+    → events_by agent1 t1.seen ≡ events_by agent1 s1.seen → events_by agent2 t1.seen ≡ events_by agent2 s2.seen
+    → HistoryLearns (λ j. entries_of (events j)) agent_of_entry agent1 agent2 j1 j2 k1 k2
+learns {S} n events agent1 agent2 s1 s2 t1 j1 j2 k1 k2 one longer all1 all2 all is1 is2 is own1 own2 = record {
+  one = one;
+  longer = longer;
+  own1 = own agent1 s1 j1 all1 is1 own1;
+  own2 = own agent2 s2 j2 all2 is2 own2;
+}
+  where
+    own : (agent : ℕ) (s : Seat FifoNote) (j : List S) → AllAllowed (FifoMay n) [] s.seen → s.seen ≡ events j → events_by agent t1.seen ≡ events_by agent s.seen
+        → own_of agent_of_entry agent (entries_of (events k1)) ≡ own_of agent_of_entry agent (entries_of (events j))
+    own agent s j all_s is_j same =
+        ap (λ z. own_of agent_of_entry agent (entries_of z)) (sym is)
+        ∙ (own_of_events n agent [] t1.seen all ∙ (ap entries_of same ∙ (sym (own_of_events n agent [] s.seen all_s) ∙ ap (λ z. own_of agent_of_entry agent (entries_of z)) is_j)))

@@ -42,39 +42,39 @@ no_plain_link (Miss place wanted found) id plain m = cc
 
 -- a node to which the event makes the first link is the node of a Put
 module _ (n : HeapNumbers) (es : List (Event FifoNote)) (holds : FifoHolds n es) (begun : has_begun es ≡ true) (id : ℕ) where
-    abbrev h : Heap
-    h = run_heap n es
+  abbrev h : Heap
+  h = run_heap n es
 
-    abbrev Filled : Node → Type 0
-    Filled node = (value : ℕ) × (node.second ≡ Some value)
+  abbrev Filled : Node → Type 0
+  Filled node = (value : ℕ) × (node.second ≡ Some value)
 
-    same_node : (i : ℕ) (x y : Node) → i ≡ id → slice_get h.nodes i ≡ Some x → slice_get h.nodes id ≡ Some y → x ≡ y
-    same_node i x y same at there = let both : Some x ≡ Some y = sym at ∙ (ap (λ (k : ℕ). slice_get h.nodes k) same ∙ there) in cc
+  same_node : (i : ℕ) (x y : Node) → i ≡ id → slice_get h.nodes i ≡ Some x → slice_get h.nodes id ≡ Some y → x ≡ y
+  same_node i x y same at there = let both : Some x ≡ Some y = sym at ∙ (ap (λ (k : ℕ). slice_get h.nodes k) same ∙ there) in cc
 
-    linked_twice : (i : ℕ) (old : Node) → i ≡ id → IsLinkedNode h i → slice_get h.nodes id ≡ Some old → old.linked ≡ false → ⊥
-    linked_twice i old same l there unlinked =
-        let k = same_node i l.node old same l.there there in
-        let bad : true ≡ false = sym l.linked ∙ (ap (λ (x : Node). x.linked) k ∙ unlinked) in
-        cc
+  linked_twice : (i : ℕ) (old : Node) → i ≡ id → IsLinkedNode h i → slice_get h.nodes id ≡ Some old → old.linked ≡ false → ⊥
+  linked_twice i old same l there unlinked =
+      let k = same_node i l.node old same l.there there in
+      let bad : true ≡ false = sym l.linked ∙ (ap (λ (x : Node). x.linked) k ∙ unlinked) in
+      cc
 
-    named_is : (to : Link) (i : ℕ) (place : _) (from : Link) → to ≡ link_to i → moves_to (Move place from to) id ≡ true → i ≡ id
-    named_is to i place from is m = eqb-true i id (subst (λ (l : Link). moves_to (Move place from l) id ≡ true) is m)
+  named_is : (to : Link) (i : ℕ) (place : _) (from : Link) → to ≡ link_to i → moves_to (Move place from to) id ≡ true → i ≡ id
+  named_is to i place from is m = eqb-true i id (subst (λ (l : Link). moves_to (Move place from l) id ≡ true) is m)
 
-    first_link : (e : Event FifoNote) (old : Node) → FifoMay n es e → slice_get h.nodes id ≡ Some old → old.linked ≡ false → moves_to e.act id ≡ true → Filled old
-    first_link e old may there unlinked m =
-        let run = holds.running begun in
-        each_kind h (λ act noted. FifoMay n es (event_of e.agent act noted) → moves_to act id ≡ true → Filled old)
-        (λ act plain x k. absurd (no_plain_link act id plain k))
-        (λ r from to b x k. absurd (begin_late h es r run b.root_is (x.fits.0 ∙ ap (λ (l : Link). Some l) b.from_is)))
-        (λ r from to b x k. absurd (linked_twice b.steps.next old (named_is to b.steps.next (Root r) from b.steps.to_is k)
-        (successor_linked n es b.steps.id b.steps.next holds (tail_steps h es run r from to b.steps b.root_is x.fits.0).1) there unlinked))
-        (λ r from to by job at b x k. absurd (linked_twice b.steps.next old (named_is to b.steps.next (Root r) from b.steps.to_is k)
-        (successor_linked n es b.steps.id b.steps.next holds (head_steps h es run r from to b.steps b.root_is x.fits.0).1) there unlinked))
-        (λ t from to by job at b x k.
-            let same = same_node b.id b.node old (named_is to b.id (Next t) from b.to_is k) b.there there in
-            (at + 1, ap (λ (y : Node). y.second) (sym same) ∙ b.holds.position_is))
-        (λ d link by b x k. absurd (no_plain_link (Look (Next d) link) id tt k))
-        e.act e.note may.may_act may m
+  first_link : (e : Event FifoNote) (old : Node) → FifoMay n es e → slice_get h.nodes id ≡ Some old → old.linked ≡ false → moves_to e.act id ≡ true → Filled old
+  first_link e old may there unlinked m =
+      let run = holds.running begun in
+      each_kind h (λ act noted. FifoMay n es (event_of e.agent act noted) → moves_to act id ≡ true → Filled old)
+      (λ act plain x k. absurd (no_plain_link act id plain k))
+      (λ r from to b x k. absurd (begin_late h es r run b.root_is (x.fits.0 ∙ ap (λ (l : Link). Some l) b.from_is)))
+      (λ r from to b x k. absurd (linked_twice b.steps.next old (named_is to b.steps.next (Root r) from b.steps.to_is k)
+      (successor_linked n es b.steps.id b.steps.next holds (tail_steps h es run r from to b.steps b.root_is x.fits.0).1) there unlinked))
+      (λ r from to by job at b x k. absurd (linked_twice b.steps.next old (named_is to b.steps.next (Root r) from b.steps.to_is k)
+      (successor_linked n es b.steps.id b.steps.next holds (head_steps h es run r from to b.steps b.root_is x.fits.0).1) there unlinked))
+      (λ t from to by job at b x k.
+      let same = same_node b.id b.node old (named_is to b.id (Next t) from b.to_is k) b.there there in
+      (at + 1, ap (λ (y : Node). y.second) (sym same) ∙ b.holds.position_is))
+      (λ d link by b x k. absurd (no_plain_link (Look (Next d) link) id tt k))
+      e.act e.note may.may_act may m
 
 either : (P : Node → Type 0) (b : Bool) (x y : Node) → P x → P y → P (if b then x else y)
 either P true x y p q = p

@@ -67,16 +67,16 @@ own_part_right s a t xs ys zs p q w alone =
 
 -- and so it is with a Look where no position is left
 module _ (n : HeapNumbers) (s a t : Seat FifoNote) (xs ys zs : List (Event FifoNote)) (p : Puts s xs a) (q : Puts a ys t) (w : Puts s zs t) where
-    pub room_join : (FindsFull n s.agent s.seen p.part → ⊥) → (FindsFull n a.agent a.seen q.part → ⊥) → FindsFull n s.agent s.seen w.part → ⊥
-    room_join first second f =
-        let later : FindsFull n s.agent (s.seen ++ p.part) q.part → ⊥ =
-        subst (λ z. FindsFull n s.agent z q.part → ⊥) p.is (subst (λ (x : ℕ). FindsFull n x a.seen q.part → ⊥) p.agent second) in
-        room_both n s.agent s.seen p.part q.part first later (subst (λ z. FindsFull n s.agent s.seen z) (new_is s a t xs ys zs w p q) f)
+  pub room_join : (FindsFull n s.agent s.seen p.part → ⊥) → (FindsFull n a.agent a.seen q.part → ⊥) → FindsFull n s.agent s.seen w.part → ⊥
+  room_join first second f =
+      let later : FindsFull n s.agent (s.seen ++ p.part) q.part → ⊥ =
+      subst (λ z. FindsFull n s.agent z q.part → ⊥) p.is (subst (λ (x : ℕ). FindsFull n x a.seen q.part → ⊥) p.agent second) in
+      room_both n s.agent s.seen p.part q.part first later (subst (λ z. FindsFull n s.agent s.seen z) (new_is s a t xs ys zs w p q) f)
 
-    pub full_join_left : FindsFull n s.agent s.seen p.part → FindsFull n s.agent s.seen w.part
-    full_join_left f = subst (λ z. FindsFull n s.agent s.seen z) (sym (new_is s a t xs ys zs w p q)) (full_left n s.agent s.seen p.part q.part f)
+  pub full_join_left : FindsFull n s.agent s.seen p.part → FindsFull n s.agent s.seen w.part
+  full_join_left f = subst (λ z. FindsFull n s.agent s.seen z) (sym (new_is s a t xs ys zs w p q)) (full_left n s.agent s.seen p.part q.part f)
 
-    pub full_join_right : FindsFull n a.agent a.seen q.part → FindsFull n s.agent s.seen w.part
-    full_join_right f =
-        let later : FindsFull n s.agent (s.seen ++ p.part) q.part = subst (λ z. FindsFull n s.agent z q.part) p.is (subst (λ (x : ℕ). FindsFull n x a.seen q.part) p.agent f) in
-        subst (λ z. FindsFull n s.agent s.seen z) (sym (new_is s a t xs ys zs w p q)) (full_right n s.agent s.seen p.part q.part later)
+  pub full_join_right : FindsFull n a.agent a.seen q.part → FindsFull n s.agent s.seen w.part
+  full_join_right f =
+      let later : FindsFull n s.agent (s.seen ++ p.part) q.part = subst (λ z. FindsFull n s.agent z q.part) p.is (subst (λ (x : ℕ). FindsFull n x a.seen q.part) p.agent f) in
+      subst (λ z. FindsFull n s.agent s.seen z) (sym (new_is s a t xs ys zs w p q)) (full_right n s.agent s.seen p.part q.part later)

@@ -62,7 +62,7 @@ root_found n s t root link rest low k p all =
       id = id;
       is = is;
       named = subst (λ es. WasNamed (run_heap n es) root id) (sym (p.is ∙ seen_is n s [] e rest p.part m))
-      (named_later n (s.seen ++ m.before) (e ∷ m.later) root id named (since n s [] e rest p.part m));
+          (named_later n (s.seen ++ m.before) (e ∷ m.later) root id named (since n s [] e rest p.part m));
     }
 
 -- a look at the link of a once linked node found null, or a link to a node, where it still leads
@@ -82,8 +82,12 @@ next_found n s t id link own rest k l p all =
         | inr leads ↦
             let (next, job, is, j) = leads in
             let there : HasLink (run_heap n (s.seen ++ m.before)) id (link_to next) = subst (λ (x : Link). HasLink (run_heap n (s.seen ++ m.before)) id x) is has in
-            inr (next, is, subst (λ es. HasLink (run_heap n es) id (link_to next)) (sym (p.is ∙ seen_is n s own e rest p.part m))
-            (link_later n (s.seen ++ m.before) (e ∷ m.later) id next there (since n s own e rest p.part m)))
+            inr (
+              next,
+              is,
+              subst (λ es. HasLink (run_heap n es) id (link_to next)) (sym (p.is ∙ seen_is n s own e rest p.part m))
+                  (link_later n (s.seen ++ m.before) (e ∷ m.later) id next there (since n s own e rest p.part m)),
+            )
       ];
     }
 

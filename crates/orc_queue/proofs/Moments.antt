@@ -50,22 +50,22 @@ moment n s t own e rest p all =
     }
 
 module _ (n : HeapNumbers) (s : Seat FifoNote) (own : List (Event FifoNote)) (e : Event FifoNote) (rest part : List (Event FifoNote)) (m : Moment n s own e rest part) where
-    -- the event and all after it
-    pub since : AllAllowed (FifoMay n) (s.seen ++ m.before) (e ∷ m.later)
-    since = (m.here, m.last)
+  -- the event and all after it
+  pub since : AllAllowed (FifoMay n) (s.seen ++ m.before) (e ∷ m.later)
+  since = (m.here, m.last)
 
-    pub seen_is : s.seen ++ part ≡ (s.seen ++ m.before) ++ e ∷ m.later
-    seen_is = ap (λ z. s.seen ++ z) m.part_is ∙ sym (append_assoc s.seen m.before (e ∷ m.later))
+  pub seen_is : s.seen ++ part ≡ (s.seen ++ m.before) ++ e ∷ m.later
+  seen_is = ap (λ z. s.seen ++ z) m.part_is ∙ sym (append_assoc s.seen m.before (e ∷ m.later))
 
-    -- Moves that stand after it stand in what is new, from the first own event on
-    pub moves_later : e.agent ≡ s.agent → (more : List (Event FifoNote)) → moves_in m.later + moves_in more ≤ moves_in (from_own s.agent (part ++ more))
-    moves_later own_event more =
-        let k = moves_after_own s.agent m.before e (m.later ++ more) own_event in
-        let is : part ++ more ≡ m.before ++ e ∷ (m.later ++ more) = ap (λ z. z ++ more) m.part_is ∙ append_assoc m.before (e ∷ m.later) more in
-        rw is (omega (arith, k, moves_in-append m.later more))
+  -- Moves that stand after it stand in what is new, from the first own event on
+  pub moves_later : e.agent ≡ s.agent → (more : List (Event FifoNote)) → moves_in m.later + moves_in more ≤ moves_in (from_own s.agent (part ++ more))
+  moves_later own_event more =
+      let k = moves_after_own s.agent m.before e (m.later ++ more) own_event in
+      let is : part ++ more ≡ m.before ++ e ∷ (m.later ++ more) = ap (λ z. z ++ more) m.part_is ∙ append_assoc m.before (e ∷ m.later) more in
+      rw is (omega (arith, k, moves_in-append m.later more))
 
-    pub moves_before : moves_in m.before ≤ moves_in part
-    moves_before = rw m.part_is (omega (arith, moves_in-append m.before (e ∷ m.later)))
+  pub moves_before : moves_in m.before ≤ moves_in part
+  moves_before = rw m.part_is (omega (arith, moves_in-append m.before (e ∷ m.later)))
 
 -- what a Look found, the place still shows, or a Move stands after the Look
 pub record Found (n : HeapNumbers) (place : Place) (link : Link) (s t : Seat FifoNote) (part : List (Event FifoNote)) : Type 0 where

@@ -64,51 +64,51 @@ piece_of s t own slots p none = record { own = own; slots = slots; puts = p; ent
 
 -- what stays over a piece, whatever others do
 module _ (n : HeapNumbers) (s t : Seat FifoNote) (own : List (Event FifoNote)) (p : Puts s own t) (all : AllAllowed (FifoMay n) [] t.seen) where
-    pub new_allowed : AllAllowed (FifoMay n) s.seen p.part
-    new_allowed = part_allowed (FifoMay n) s t own p all
+  pub new_allowed : AllAllowed (FifoMay n) s.seen p.part
+  new_allowed = part_allowed (FifoMay n) s t own p all
 
-    pub named_puts : (root id : ℕ) → WasNamed (heap_of n s) root id → WasNamed (heap_of n t) root id
-    named_puts root id w = subst (λ es. WasNamed (run_heap n es) root id) (sym p.is) (named_later n s.seen p.part root id w new_allowed)
+  pub named_puts : (root id : ℕ) → WasNamed (heap_of n s) root id → WasNamed (heap_of n t) root id
+  named_puts root id w = subst (λ es. WasNamed (run_heap n es) root id) (sym p.is) (named_later n s.seen p.part root id w new_allowed)
 
-    pub linked_puts : (id : ℕ) → IsLinkedNode (heap_of n s) id → IsLinkedNode (heap_of n t) id
-    linked_puts id l = subst (λ es. IsLinkedNode (run_heap n es) id) (sym p.is) (linked_later n s.seen p.part id l new_allowed)
+  pub linked_puts : (id : ℕ) → IsLinkedNode (heap_of n s) id → IsLinkedNode (heap_of n t) id
+  linked_puts id l = subst (λ es. IsLinkedNode (run_heap n es) id) (sym p.is) (linked_later n s.seen p.part id l new_allowed)
 
-    pub link_puts : (id next : ℕ) → HasLink (heap_of n s) id (link_to next) → HasLink (heap_of n t) id (link_to next)
-    link_puts id next l = subst (λ es. HasLink (run_heap n es) id (link_to next)) (sym p.is) (link_later n s.seen p.part id next l new_allowed)
+  pub link_puts : (id next : ℕ) → HasLink (heap_of n s) id (link_to next) → HasLink (heap_of n t) id (link_to next)
+  link_puts id next l = subst (λ es. HasLink (run_heap n es) id (link_to next)) (sym p.is) (link_later n s.seen p.part id next l new_allowed)
 
-    pub position_puts : (id : ℕ) → IsLinkedNode (heap_of n s) id → position_of (heap_of n t) id ≡ position_of (heap_of n s) id
-    position_puts id l = ap (λ es. position_of (run_heap n es) id) p.is ∙ position_later n s.seen p.part id l new_allowed
+  pub position_puts : (id : ℕ) → IsLinkedNode (heap_of n s) id → position_of (heap_of n t) id ≡ position_of (heap_of n s) id
+  position_puts id l = ap (λ es. position_of (run_heap n es) id) p.is ∙ position_later n s.seen p.part id l new_allowed
 
-    pub left_puts : (id : ℕ) → Known n s.seen → IsLeft (heap_of n s) id → IsLeft (heap_of n t) id
-    left_puts id k l = subst (λ es. IsLeft (run_heap n es) id) (sym p.is) (left_later n s.seen p.part id k.holds k.dummy.begun l new_allowed)
+  pub left_puts : (id : ℕ) → Known n s.seen → IsLeft (heap_of n s) id → IsLeft (heap_of n t) id
+  left_puts id k l = subst (λ es. IsLeft (run_heap n es) id) (sym p.is) (left_later n s.seen p.part id k.holds k.dummy.begun l new_allowed)
 
-    -- the fresh node stays the pass's own, changed by its own events alone
-    pub node_touched : (job : ℕ) (h : Hold) → Known n s.seen → (node : HoldsNode n job h s) → list_any (λ e. points_to e.act (id_in s.slots h)) own ≡ false
-        → slice_get (heap_of n t).nodes (id_in s.slots h) ≡ Some (touched_by (id_in s.slots h) own (given_node s.agent job node.second))
-    node_touched job h k node away =
-        let id = id_in s.slots h in
-        let x : Node = given_node s.agent job node.second in
-        let r = own_node_told n (FifoHolds n) (FifoMay n) (λ es e a m. fifo_keeps n es e a m) (λ es e a m. fifo_fits n es e a m) (λ es e a m. fifo_moves_linked n es e a m)
-        s.agent id s.seen p.part x k.holds new_allowed
-        (record { there = node.node; own = record { mine = refl; unnamed = refl; unlinked = refl } }) (rw p.own_is away) in
-        subst (λ (es : List (Event FifoNote)). slice_get (run_heap n es).nodes id ≡ Some (touched_by id own x)) (sym p.is)
-        (subst (λ (es : List (Event FifoNote)). slice_get (run_heap n (s.seen ++ p.part)).nodes id ≡ Some (touched_by id es x)) p.own_is r.there)
+  -- the fresh node stays the pass's own, changed by its own events alone
+  pub node_touched : (job : ℕ) (h : Hold) → Known n s.seen → (node : HoldsNode n job h s) → list_any (λ e. points_to e.act (id_in s.slots h)) own ≡ false
+      → slice_get (heap_of n t).nodes (id_in s.slots h) ≡ Some (touched_by (id_in s.slots h) own (given_node s.agent job node.second))
+  node_touched job h k node away =
+      let id = id_in s.slots h in
+      let x : Node = given_node s.agent job node.second in
+      let r = own_node_told n (FifoHolds n) (FifoMay n) (λ es e a m. fifo_keeps n es e a m) (λ es e a m. fifo_fits n es e a m) (λ es e a m. fifo_moves_linked n es e a m)
+      s.agent id s.seen p.part x k.holds new_allowed
+      (record { there = node.node; own = record { mine = refl; unnamed = refl; unlinked = refl } }) (rw p.own_is away) in
+      subst (λ (es : List (Event FifoNote)). slice_get (run_heap n es).nodes id ≡ Some (touched_by id own x)) (sym p.is)
+      (subst (λ (es : List (Event FifoNote)). slice_get (run_heap n (s.seen ++ p.part)).nodes id ≡ Some (touched_by id es x)) p.own_is r.there)
 
-    pub node_held : (job : ℕ) (h : Hold) (second : ℕ) → Known n s.seen → (node : HoldsNode n job h s) → Holds t.slots h → id_in t.slots h ≡ id_in s.slots h → t.fresh ≡ s.fresh
-        → list_any (λ e. points_to e.act (id_in s.slots h)) own ≡ false
-        → touched_by (id_in s.slots h) own (given_node s.agent job node.second) ≡ given_node s.agent job second → HoldsNode n job h t
-    node_held job h second k node held same_id fresh away is = record {
-      held = held;
-      fresh = fresh ∙ (node.fresh ∙ ap (λ (i : ℕ). Some i) (sym same_id));
-      second = second;
-      node = rw (same_id, p.agent) (node_touched job h k node away ∙ ap (λ (x : Node). Some x) is);
-    }
+  pub node_held : (job : ℕ) (h : Hold) (second : ℕ) → Known n s.seen → (node : HoldsNode n job h s) → Holds t.slots h → id_in t.slots h ≡ id_in s.slots h → t.fresh ≡ s.fresh
+      → list_any (λ e. points_to e.act (id_in s.slots h)) own ≡ false
+      → touched_by (id_in s.slots h) own (given_node s.agent job node.second) ≡ given_node s.agent job second → HoldsNode n job h t
+  node_held job h second k node held same_id fresh away is = record {
+    held = held;
+    fresh = fresh ∙ (node.fresh ∙ ap (λ (i : ℕ). Some i) (sym same_id));
+    second = second;
+    node = rw (same_id, p.agent) (node_touched job h k node away ∙ ap (λ (x : Node). Some x) is);
+  }
 
-    pub node_puts : (job : ℕ) (h : Hold) (second : ℕ) → Known n s.seen → (node : HoldsNode n job h s) → t.slots ≡ s.slots → t.fresh ≡ s.fresh
-        → list_any (λ e. points_to e.act (id_in s.slots h)) own ≡ false
-        → touched_by (id_in s.slots h) own (given_node s.agent job node.second) ≡ given_node s.agent job second → HoldsNode n job h t
-    node_puts job h second k node slots fresh away is =
-        node_held job h second k node (subst (λ z. Holds z h) (sym slots) node.held) (ap (λ z. id_in z h) slots) fresh away is
+  pub node_puts : (job : ℕ) (h : Hold) (second : ℕ) → Known n s.seen → (node : HoldsNode n job h s) → t.slots ≡ s.slots → t.fresh ≡ s.fresh
+      → list_any (λ e. points_to e.act (id_in s.slots h)) own ≡ false
+      → touched_by (id_in s.slots h) own (given_node s.agent job node.second) ≡ given_node s.agent job second → HoldsNode n job h t
+  node_puts job h second k node slots fresh away is =
+      node_held job h second k node (subst (λ z. Holds z h) (sym slots) node.held) (ap (λ z. id_in z h) slots) fresh away is
 
 -- a slot that is held is another than a free one
 pub held_apart : (slots : Slots) (h : Hold) (slot : ℕ) → Holds slots h → IsFree slots slot → h.slot ≢ slot
@@ -120,24 +120,24 @@ pub record InSlot (s : Seat FifoNote) (slot id : ℕ) (h : Hold) (t : Seat FifoN
   pub slots : t.slots ≡ slice_set s.slots slot (Some (record { row = h.row; id = id }))
 
 module _ (s t : Seat FifoNote) (slot id : ℕ) (h : Hold) (free : IsFree s.slots slot) (i : InSlot s slot id h t) where
-    pub slot_holds : Holds t.slots h
-    slot_holds = holds-there s.slots t.slots slot id h free.empty i.at i.slots
+  pub slot_holds : Holds t.slots h
+  slot_holds = holds-there s.slots t.slots slot id h free.empty i.at i.slots
 
-    pub slot_id : id_in t.slots h ≡ id
-    slot_id = id-there s.slots t.slots slot id h free.empty i.at i.slots
+  pub slot_id : id_in t.slots h ≡ id
+  slot_id = id-there s.slots t.slots slot id h free.empty i.at i.slots
 
-    pub slot_free : (other : ℕ) → other ≢ slot → IsFree s.slots other → IsFree t.slots other
-    slot_free other ne k = record { above = k.above; below = k.below; empty = ap (λ z. slice_get z other) i.slots ∙ (get-set_other s.slots slot other _ ne ∙ k.empty) }
+  pub slot_free : (other : ℕ) → other ≢ slot → IsFree s.slots other → IsFree t.slots other
+  slot_free other ne k = record { above = k.above; below = k.below; empty = ap (λ z. slice_get z other) i.slots ∙ (get-set_other s.slots slot other _ ne ∙ k.empty) }
 
-    pub slot_other : (k : Hold) → Holds s.slots k → Holds t.slots k
-    slot_other k held = subst (λ z. Holds z k) (sym i.slots) (holds-other s.slots slot _ k (held_apart s.slots k slot held free) held)
+  pub slot_other : (k : Hold) → Holds s.slots k → Holds t.slots k
+  slot_other k held = subst (λ z. Holds z k) (sym i.slots) (holds-other s.slots slot _ k (held_apart s.slots k slot held free) held)
 
-    pub slot_other_id : (k : Hold) → Holds s.slots k → id_in t.slots k ≡ id_in s.slots k
-    slot_other_id k held = ap (λ z. id_in z k) i.slots ∙ id-other s.slots slot _ k (held_apart s.slots k slot held free)
+  pub slot_other_id : (k : Hold) → Holds s.slots k → id_in t.slots k ≡ id_in s.slots k
+  slot_other_id k held = ap (λ z. id_in z k) i.slots ∙ id-other s.slots slot _ k (held_apart s.slots k slot held free)
 
-    -- a release gives the slots back
-    pub slot_released : (u v : Seat FifoNote) → u.slots ≡ t.slots → Releases u h v → v.slots ≡ s.slots
-    slot_released u v same w = w.slots ∙ (ap (λ z. slice_set z h.slot None) same ∙ given-back s.slots t.slots slot id h free.empty i.at i.slots)
+  -- a release gives the slots back
+  pub slot_released : (u v : Seat FifoNote) → u.slots ≡ t.slots → Releases u h v → v.slots ≡ s.slots
+  slot_released u v same w = w.slots ∙ (ap (λ z. slice_set z h.slot None) same ∙ given-back s.slots t.slots slot id h free.empty i.at i.slots)
 
 -- a once linked node isn't the fresh one
 pub linked_not_fresh : (n : HeapNumbers) (s : Seat FifoNote) (id : ℕ) → ((i : ℕ) → s.fresh ≡ Some i → IsUntouched s.agent (heap_of n s) i) → IsLinkedNode (heap_of n s) id → s.fresh ≢ Some id

@@ -36,33 +36,33 @@ use Rattle.orc_queue.proofs.Room.{room_unseen}
 
 -- two looks at the tail, two at its link, and the Swing
 module _ (n : HeapNumbers) (s : Seat FifoNote) (tail next : ℕ) where
-    abbrev at_tail : Event FifoNote
-    at_tail = event_of s (Look (Root 1) (link_to tail)) None
+  abbrev at_tail : Event FifoNote
+  at_tail = event_of s (Look (Root 1) (link_to tail)) None
 
-    abbrev at_next : Event FifoNote
-    at_next = event_of s (Look (Next tail) (link_to next)) None
+  abbrev at_next : Event FifoNote
+  at_next = event_of s (Look (Next tail) (link_to next)) None
 
-    abbrev swing : Event FifoNote
-    swing = event_of s (Move (Root 1) (link_to tail) (link_to next)) (Some Swing)
+  abbrev swing : Event FifoNote
+  swing = event_of s (Move (Root 1) (link_to tail) (link_to next)) (Some Swing)
 
-    looks_change_nothing : (es : List (Event FifoNote)) → run_heap n (es ++ at_tail ∷ at_tail ∷ at_next ∷ at_next ∷ []) ≡ run_heap n es
-    looks_change_nothing es = run_from-append (new_heap n) es (at_tail ∷ at_tail ∷ at_next ∷ at_next ∷ [])
+  looks_change_nothing : (es : List (Event FifoNote)) → run_heap n (es ++ at_tail ∷ at_tail ∷ at_next ∷ at_next ∷ []) ≡ run_heap n es
+  looks_change_nothing es = run_from-append (new_heap n) es (at_tail ∷ at_tail ∷ at_next ∷ at_next ∷ [])
 
-    helped_settles : (es : List (Event FifoNote)) → FifoHolds n es → has_begun es ≡ true → AllAllowed (FifoMay n) es (at_tail ∷ at_tail ∷ at_next ∷ at_next ∷ swing ∷ [])
-        → TailIsLast (run_heap n (es ++ at_tail ∷ at_tail ∷ at_next ∷ at_next ∷ swing ∷ []))
-    helped_settles es holds begun all =
-        let looks : List (Event FifoNote) = at_tail ∷ at_tail ∷ at_next ∷ at_next ∷ [] in
-        let first = allowed-left (FifoMay n) es looks (swing ∷ []) all in
-        let last = allowed-right (FifoMay n) es looks (swing ∷ []) all in
-        let r = swing_settles n (es ++ looks) s.agent tail next (holds_later n es looks holds first) (begun_more es looks begun) last.0 in
-        subst (λ z. TailIsLast (run_heap n z)) (append_assoc es looks (swing ∷ [])) r
+  helped_settles : (es : List (Event FifoNote)) → FifoHolds n es → has_begun es ≡ true → AllAllowed (FifoMay n) es (at_tail ∷ at_tail ∷ at_next ∷ at_next ∷ swing ∷ [])
+      → TailIsLast (run_heap n (es ++ at_tail ∷ at_tail ∷ at_next ∷ at_next ∷ swing ∷ []))
+  helped_settles es holds begun all =
+      let looks : List (Event FifoNote) = at_tail ∷ at_tail ∷ at_next ∷ at_next ∷ [] in
+      let first = allowed-left (FifoMay n) es looks (swing ∷ []) all in
+      let last = allowed-right (FifoMay n) es looks (swing ∷ []) all in
+      let r = swing_settles n (es ++ looks) s.agent tail next (holds_later n es looks holds first) (begun_more es looks begun) last.0 in
+      subst (λ z. TailIsLast (run_heap n z)) (append_assoc es looks (swing ∷ [])) r
 
-    helped_unsettled : (es : List (Event FifoNote)) → AllAllowed (FifoMay n) es (at_tail ∷ at_tail ∷ at_next ∷ at_next ∷ swing ∷ []) → TailIsLast (run_heap n es) → ⊥
-    helped_unsettled es all settled =
-        let same : run_heap n ((es ++ at_tail ∷ []) ++ at_tail ∷ []) ≡ run_heap n es = ap (λ z. run_heap n z) (append_assoc es (at_tail ∷ []) (at_tail ∷ [])) ∙ run_from-append (new_heap n) es (at_tail ∷ at_tail ∷ []) in
-        let link : shown (run_heap n es) (Next tail) ≡ Some (link_to next) = subst (λ (h : Heap). shown h (Next tail) ≡ Some (link_to next)) same all.1.1.0.fits in
-        let last_is : settled.last ≡ tail = link_same settled.last tail (some_same (sym settled.tail_is ∙ all.0.fits)) in
-        null_to next (some_same (sym (subst (λ (x : ℕ). shown (run_heap n es) (Next x) ≡ Some null) last_is settled.ends) ∙ link))
+  helped_unsettled : (es : List (Event FifoNote)) → AllAllowed (FifoMay n) es (at_tail ∷ at_tail ∷ at_next ∷ at_next ∷ swing ∷ []) → TailIsLast (run_heap n es) → ⊥
+  helped_unsettled es all settled =
+      let same : run_heap n ((es ++ at_tail ∷ []) ++ at_tail ∷ []) ≡ run_heap n es = ap (λ z. run_heap n z) (append_assoc es (at_tail ∷ []) (at_tail ∷ [])) ∙ run_from-append (new_heap n) es (at_tail ∷ at_tail ∷ []) in
+      let link : shown (run_heap n es) (Next tail) ≡ Some (link_to next) = subst (λ (h : Heap). shown h (Next tail) ≡ Some (link_to next)) same all.1.1.0.fits in
+      let last_is : settled.last ≡ tail = link_same settled.last tail (some_same (sym settled.tail_is ∙ all.0.fits)) in
+      null_to next (some_same (sym (subst (λ (x : ℕ). shown (run_heap n es) (Next x) ≡ Some null) last_is settled.ends) ∙ link))
 
 enough : {i j : ℕ} → 1 ≤ i → i ≤ j → 1 ≤ j
 enough p q = omega (arith, p, q)
@@ -87,10 +87,10 @@ module _ (n : HeapNumbers) (job tail : ℕ) (h : Hold) (s a b t : Seat FifoNote)
           | inr helping ↦
               let next : ℕ = helping.0 in
               let is : q0.own ≡ at_next n s tail next ∷ at_next n s tail next ∷ swing n s tail next ∷ [] = helping.1 ∙ ap (λ (x : ℕ). record { agent = x; act = Look (Next tail) (link_to next); note = None }
-                  ∷ record { agent = x; act = Look (Next tail) (link_to next); note = None } ∷ record { agent = x; act = Move (Root 1) (link_to tail) (link_to next); note = Some Swing } ∷ []) p.agent in
+              ∷ record { agent = x; act = Look (Next tail) (link_to next); note = None } ∷ record { agent = x; act = Move (Root 1) (link_to tail) (link_to next); note = Some Swing } ∷ []) p.agent in
               over_helped n TailIsLast 1 tail s a t k all_a all_t p q0.own q j fresh moved
               (λ es holds begun all. subst (λ z. TailIsLast (run_heap n (es ++ at_tail n s tail 0 ∷ at_tail n s tail 0 ∷ z))) (sym is)
-                (helped_settles n s tail next es holds begun (subst (λ z. AllAllowed (FifoMay n) es (at_tail n s tail 0 ∷ at_tail n s tail 0 ∷ z)) is all)))
+              (helped_settles n s tail next es holds begun (subst (λ z. AllAllowed (FifoMay n) es (at_tail n s tail 0 ∷ at_tail n s tail 0 ∷ z)) is all)))
               (λ es all settled. helped_unsettled n s tail next es (subst (λ z. AllAllowed (FifoMay n) es (at_tail n s tail 0 ∷ at_tail n s tail 0 ∷ z)) is all) settled)
         ] in
         record {

@@ -80,8 +80,11 @@ module _ (n : HeapNumbers) (head next : ℕ) (s a b t : Seat FifoNote) (p : Puts
           ];
           own_moves = elim l.own_moves [
             | inl none ↦ inl (ap (λ (z : List (Event FifoNote)). moves_in z) j.own_is ∙ omega (arith, none))
-            | inr is ↦ inr (next, j.own_is ∙ (ap (λ z. first ∷ first ∷ z) is ∙ ap (λ (x : ℕ). first ∷ first ∷ record { agent = x; act = Look (Root 1) (link_to head); note = None }
-                ∷ record { agent = x; act = Move (Root 1) (link_to head) (link_to next); note = Some Swing } ∷ []) p.agent))
+            | inr is ↦ inr (
+              next,
+              j.own_is ∙ (ap (λ z. first ∷ first ∷ z) is ∙ ap (λ (x : ℕ). first ∷ first ∷ record { agent = x; act = Look (Root 1) (link_to head); note = None }
+                  ∷ record { agent = x; act = Move (Root 1) (link_to head) (link_to next); note = Some Swing } ∷ []) p.agent),
+            )
           ];
         }
 
@@ -120,39 +123,39 @@ behind_kept n head s t TakeEmpty l = record { own = l.piece.own; slots = l.piece
 
 -- two looks at the head, two at its link, the test of the tail, and the Swing
 module _ (n : HeapNumbers) (s : Seat FifoNote) (head next : ℕ) where
-    abbrev at_head : Event FifoNote
-    at_head = event_of s (Look (Root 0) (link_to head)) None
+  abbrev at_head : Event FifoNote
+  at_head = event_of s (Look (Root 0) (link_to head)) None
 
-    abbrev at_next : Event FifoNote
-    at_next = event_of s (Look (Next head) (link_to next)) None
+  abbrev at_next : Event FifoNote
+  at_next = event_of s (Look (Next head) (link_to next)) None
 
-    abbrev at_tail : Event FifoNote
-    at_tail = event_of s (Look (Root 1) (link_to head)) None
+  abbrev at_tail : Event FifoNote
+  at_tail = event_of s (Look (Root 1) (link_to head)) None
 
-    abbrev swing : Event FifoNote
-    swing = event_of s (Move (Root 1) (link_to head) (link_to next)) (Some Swing)
+  abbrev swing : Event FifoNote
+  swing = event_of s (Move (Root 1) (link_to head) (link_to next)) (Some Swing)
 
-    abbrev helping : List (Event FifoNote)
-    helping = at_next ∷ at_next ∷ at_tail ∷ swing ∷ []
+  abbrev helping : List (Event FifoNote)
+  helping = at_next ∷ at_next ∷ at_tail ∷ swing ∷ []
 
-    helped_settles : (es : List (Event FifoNote)) → FifoHolds n es → has_begun es ≡ true → AllAllowed (FifoMay n) es (at_head ∷ at_head ∷ helping) → TailIsPast (run_heap n (es ++ at_head ∷ at_head ∷ helping))
-    helped_settles es holds begun all =
-        let looks : List (Event FifoNote) = at_head ∷ at_head ∷ at_next ∷ at_next ∷ at_tail ∷ [] in
-        let first = allowed-left (FifoMay n) es looks (swing ∷ []) all in
-        let last = allowed-right (FifoMay n) es looks (swing ∷ []) all in
-        let same : run_heap n (es ++ looks) ≡ run_heap n es = run_from-append (new_heap n) es looks in
-        let at : shown (run_heap n (es ++ looks)) (Root 0) ≡ Some (link_to head) = ap (λ (h : Heap). shown h (Root 0)) same ∙ all.0.fits in
-        let r = swing_past n (es ++ looks) s.agent head next (holds_later n es looks holds first) (begun_more es looks begun) at last.0 in
-        subst (λ z. TailIsPast (run_heap n z)) (append_assoc es looks (swing ∷ [])) r
+  helped_settles : (es : List (Event FifoNote)) → FifoHolds n es → has_begun es ≡ true → AllAllowed (FifoMay n) es (at_head ∷ at_head ∷ helping) → TailIsPast (run_heap n (es ++ at_head ∷ at_head ∷ helping))
+  helped_settles es holds begun all =
+      let looks : List (Event FifoNote) = at_head ∷ at_head ∷ at_next ∷ at_next ∷ at_tail ∷ [] in
+      let first = allowed-left (FifoMay n) es looks (swing ∷ []) all in
+      let last = allowed-right (FifoMay n) es looks (swing ∷ []) all in
+      let same : run_heap n (es ++ looks) ≡ run_heap n es = run_from-append (new_heap n) es looks in
+      let at : shown (run_heap n (es ++ looks)) (Root 0) ≡ Some (link_to head) = ap (λ (h : Heap). shown h (Root 0)) same ∙ all.0.fits in
+      let r = swing_past n (es ++ looks) s.agent head next (holds_later n es looks holds first) (begun_more es looks begun) at last.0 in
+      subst (λ z. TailIsPast (run_heap n z)) (append_assoc es looks (swing ∷ [])) r
 
-    helped_unsettled : (es : List (Event FifoNote)) → AllAllowed (FifoMay n) es (at_head ∷ at_head ∷ helping) → TailIsPast (run_heap n es) → ⊥
-    helped_unsettled es all settled =
-        let looks : List (Event FifoNote) = at_head ∷ at_head ∷ at_next ∷ at_next ∷ [] in
-        let last = allowed-right (FifoMay n) es looks (at_tail ∷ swing ∷ []) all in
-        let same : run_heap n (es ++ looks) ≡ run_heap n es = run_from-append (new_heap n) es looks in
-        let tail_is : shown (run_heap n es) (Root 1) ≡ Some (link_to head) = ap (λ (h : Heap). shown h (Root 1)) (sym same) ∙ last.0.fits in
-        let head_same : settled.head ≡ head = link_same settled.head head (some_same (sym settled.head_is ∙ all.0.fits)) in
-        settled.tail_apart (tail_is ∙ ap (λ (x : ℕ). Some (link_to x)) (sym head_same))
+  helped_unsettled : (es : List (Event FifoNote)) → AllAllowed (FifoMay n) es (at_head ∷ at_head ∷ helping) → TailIsPast (run_heap n es) → ⊥
+  helped_unsettled es all settled =
+      let looks : List (Event FifoNote) = at_head ∷ at_head ∷ at_next ∷ at_next ∷ [] in
+      let last = allowed-right (FifoMay n) es looks (at_tail ∷ swing ∷ []) all in
+      let same : run_heap n (es ++ looks) ≡ run_heap n es = run_from-append (new_heap n) es looks in
+      let tail_is : shown (run_heap n es) (Root 1) ≡ Some (link_to head) = ap (λ (h : Heap). shown h (Root 1)) (sym same) ∙ last.0.fits in
+      let head_same : settled.head ≡ head = link_same settled.head head (some_same (sym settled.head_is ∙ all.0.fits)) in
+      settled.tail_apart (tail_is ∙ ap (λ (x : ℕ). Some (link_to x)) (sym head_same))
 
 -- from a look of the head to its release
 module _ (n : HeapNumbers) (head : ℕ) (s a b t : Seat FifoNote) (k : Known n s.seen) (all_a : AllAllowed (FifoMay n) [] a.seen) (all_t : AllAllowed (FifoMay n) [] t.seen)
@@ -171,10 +174,10 @@ module _ (n : HeapNumbers) (head : ℕ) (s a b t : Seat FifoNote) (k : Known n s
           | inr helped ↦
               let next : ℕ = helped.0 in
               let is : q0.own ≡ helping n s head next = helped.1 ∙ ap (λ (x : ℕ). record { agent = x; act = Look (Next head) (link_to next); note = None } ∷ record { agent = x; act = Look (Next head) (link_to next); note = None }
-                  ∷ record { agent = x; act = Look (Root 1) (link_to head); note = None } ∷ record { agent = x; act = Move (Root 1) (link_to head) (link_to next); note = Some Swing } ∷ []) p.agent in
+              ∷ record { agent = x; act = Look (Root 1) (link_to head); note = None } ∷ record { agent = x; act = Move (Root 1) (link_to head) (link_to next); note = Some Swing } ∷ []) p.agent in
               over_helped n TailIsPast 0 head s a t k all_a all_t p q0.own q j fresh moved
               (λ es holds begun all. subst (λ z. TailIsPast (run_heap n (es ++ at_head n s head 0 ∷ at_head n s head 0 ∷ z))) (sym is)
-                (helped_settles n s head next es holds begun (subst (λ z. AllAllowed (FifoMay n) es (at_head n s head 0 ∷ at_head n s head 0 ∷ z)) is all)))
+              (helped_settles n s head next es holds begun (subst (λ z. AllAllowed (FifoMay n) es (at_head n s head 0 ∷ at_head n s head 0 ∷ z)) is all)))
               (λ es all settled. helped_unsettled n s head next es (subst (λ z. AllAllowed (FifoMay n) es (at_head n s head 0 ∷ at_head n s head 0 ∷ z)) is all) settled)
         ]
     turn_taken (TakeDone job at) l =

@@ -100,29 +100,29 @@ still_puts n s t own p all root link at =
 pub past_helped : (n : HeapNumbers) (head next : ℕ) (place : Place) (link : Link) (s a b : Seat FifoNote) (p : Puts s (event_of s (Look (Root 1) (link_to head)) None ∷ []) a) → AllAllowed (FifoMay n) [] a.seen → AllAllowed (FifoMay n) [] b.seen
     → a.slots ≡ s.slots → a.fresh ≡ s.fresh → Helps head next a b → Stops n place link (HelpsPast s head next) s b
 past_helped n head next place link s a b p all_a all_b slots fresh helped = elim helped.either [
-      | inl moved ↦
-          let act = Move (Root 1) (link_to head) (link_to next) in
-          let q : Puts a (event_of s act (Some Swing) ∷ []) b = subst (λ (x : ℕ). Puts a (record { agent = x; act = act; note = Some Swing } ∷ []) b) p.agent moved in
-          let j = join s a b (event_of s (Look (Root 1) (link_to head)) None ∷ []) (event_of s act (Some Swing) ∷ []) [] p q (helped.slots ∙ slots) refl refl in
-          record {
-            piece = j.piece;
-            fresh = helped.fresh ∙ fresh;
-            moved = λ at. omega (arith, moves_own s.agent j.piece.puts.part, ap (λ (z : List (Event FifoNote)). moves_in z) (j.piece.puts.own_is ∙ j.own_is));
-            own_moves = inr j.own_is;
-          }
-      | inr missed ↦
-          let j = join s a b (event_of s (Look (Root 1) (link_to head)) None ∷ []) _ [] p missed.puts (helped.slots ∙ slots) refl refl in
-          let found = look_found n s a (Root 1) (link_to head) None [] p all_a tt in
-          record {
-            piece = j.piece;
-            fresh = helped.fresh ∙ fresh;
-            moved = λ at. elim found.either [
-              | inl still ↦ omega (arith, miss_moved n a b (Root 1) (link_to head) missed.found [] _ [] missed.puts refl all_b tt missed.other still, moves_right s a b _ _ _ p missed.puts j.piece.puts)
-              | inr some ↦ omega (arith, some, moves_from_own s.agent p.part, moves_left s a b _ _ _ p missed.puts j.piece.puts)
-            ];
-            own_moves = inl (ap (λ (z : List (Event FifoNote)). moves_in z) j.own_is);
-          }
-    ]
+  | inl moved ↦
+      let act = Move (Root 1) (link_to head) (link_to next) in
+      let q : Puts a (event_of s act (Some Swing) ∷ []) b = subst (λ (x : ℕ). Puts a (record { agent = x; act = act; note = Some Swing } ∷ []) b) p.agent moved in
+      let j = join s a b (event_of s (Look (Root 1) (link_to head)) None ∷ []) (event_of s act (Some Swing) ∷ []) [] p q (helped.slots ∙ slots) refl refl in
+      record {
+        piece = j.piece;
+        fresh = helped.fresh ∙ fresh;
+        moved = λ at. omega (arith, moves_own s.agent j.piece.puts.part, ap (λ (z : List (Event FifoNote)). moves_in z) (j.piece.puts.own_is ∙ j.own_is));
+        own_moves = inr j.own_is;
+      }
+  | inr missed ↦
+      let j = join s a b (event_of s (Look (Root 1) (link_to head)) None ∷ []) _ [] p missed.puts (helped.slots ∙ slots) refl refl in
+      let found = look_found n s a (Root 1) (link_to head) None [] p all_a tt in
+      record {
+        piece = j.piece;
+        fresh = helped.fresh ∙ fresh;
+        moved = λ at. elim found.either [
+          | inl still ↦ omega (arith, miss_moved n a b (Root 1) (link_to head) missed.found [] _ [] missed.puts refl all_b tt missed.other still, moves_right s a b _ _ _ p missed.puts j.piece.puts)
+          | inr some ↦ omega (arith, some, moves_from_own s.agent p.part, moves_left s a b _ _ _ p missed.puts j.piece.puts)
+        ];
+        own_moves = inl (ap (λ (z : List (Event FifoNote)). moves_in z) j.own_is);
+      }
+]
 
 -- the tail named another node: it has left the head
 pub past_left : (n : HeapNumbers) (head : ℕ) (s a : Seat FifoNote) → Known n s.seen → AllAllowed (FifoMay n) [] a.seen → WasNamed (heap_of n s) 0 head → Misses (Root 1) (link_to head) s a → IsLeft (heap_of n a) head

@@ -1,8 +1,7 @@
 //! The queue, and its calls.
 
-ghost use Rattle.std.specs.Prelude.{◌≡◌, ◌≢◌, ℕ, ◌+◌, ◌<◌, ◌≤◌, ◌↔◌, List, [], ◌∷◌, length, take, Err, IfOk, IfErr};
+ghost use Rattle.std.specs.Prelude.{◌≡◌, ◌≢◌, ℕ, ◌+◌, ◌<◌, ◌≤◌, ◌↔◌, List, [], ◌∷◌, length, take, Err, IfOk, IfErr, IsErr};
 ghost use mathlib.Core.List.{IsPrefix};
-ghost use Rattle.orc_fault.specs.declared.Again.{Again};
 ghost use Rattle.orc_heap.specs.Allowed.{events_by};
 ghost use Rattle.orc_heap.specs.Journals.{run_heap};
 ghost use Rattle.orc_heap.specs.Moves.{gives_in};
@@ -99,7 +98,7 @@ impl<L: Links<Rule = Fifo>> Queue<L> {
             (entries_of (L.events self.now.links (L.journal p.new)))) }
         ensures none { IfErr result (λ e. Adds agent_of_entry (λ agent. agent < L.agents self.now.links) (L.seat self.now.links p.old).agent
             (entries_of (L.events self.now.links (L.journal p.old))) [] (entries_of (L.events self.now.links (L.journal p.new)))) }
-        ensures no_turns { turns ≡ 0 → result ≡ Err Again }
+        ensures no_turns { turns ≡ 0 → IsErr result }
         ensures again { IfErr result (λ e. InPart L.agent_of (L.seat self.now.links p.old).agent (L.journal p.old) (L.journal p.new)
             (UsesTurns L.agent_of (L.events self.now.links) (L.seat self.now.links p.old).agent turns (L.journal p.new))) }
         ensures gives { gives_in (events_by (L.seat self.now.links p.old).agent (L.seat self.now.links p.new).seen)
@@ -131,7 +130,7 @@ impl<L: Links<Rule = Fifo>> SharedQueue for Queue<L> {
 
     ghost licence = { λ q agent turns why journal from to.
         Cause L.agent_of (L.events q.links) (position_of (run_heap (L.numbers q.links) (L.opening q.links)) 0)
-            (L.lacking q.links agent journal from to) agent turns why journal from to };
+        (L.lacking q.links agent journal from to) agent turns why journal from to };
 
     ghost legal = { λ q p h. seen_legal (L.numbers q.links) (L.opening q.links) (L.seat q.links p).seen
         (L.events q.links (L.journal p)) q.made (L.opens q.links p h.0) (L.allowed q.links p h.0) (L.obeys q.links p h.0)
@@ -139,14 +138,14 @@ impl<L: Links<Rule = Fifo>> SharedQueue for Queue<L> {
 
     ghost licence_stays = { λ q agent turns why seen more from to h.
         cause_stays L.agent_of (L.events q.links) (position_of (run_heap (L.numbers q.links) (L.opening q.links)) 0)
-            (L.lacking q.links agent seen from to) _ agent turns why seen more from to
-            (L.lacking_stays q.links agent seen more from to) h };
+        (L.lacking q.links agent seen from to) _ agent turns why seen more from to
+        (L.lacking_stays q.links agent seen more from to) h };
 
     ghost grows = { λ q seen more. history_grows L.agent_of (L.events q.links) (L.steps_add q.links) seen more };
 
     ghost many_puts = { λ q agent turns seen from to h.
         cause_puts L.agent_of (L.events q.links) (position_of (run_heap (L.numbers q.links) (L.opening q.links)) 0)
-            turns (L.steps_add q.links) seen to h };
+        turns (L.steps_add q.links) seen to h };
 
     fn agent(&self, p: &L::Pass) -> u32 {
         self.links.agent(p)
@@ -168,7 +167,9 @@ impl<L: Links<Rule = Fifo>> LearnQueue for Queue<L> {
         self.links.learn(into, from);
     }
 
-    ghost agents_below = { λ q p h.
-        ((L.agents_below q.links p h.0).0, entries_below (L.numbers q.links) (L.agents q.links) (L.seat q.links p).seen
-            (L.events q.links (L.journal p)) (L.allowed q.links p h.0) (L.agents_below q.links p h.0).1 (L.seen_is q.links p h.0)) };
+    ghost agents_below = { λ q p h. (
+      (L.agents_below q.links p h.0).0,
+      entries_below (L.numbers q.links) (L.agents q.links) (L.seat q.links p).seen
+          (L.events q.links (L.journal p)) (L.allowed q.links p h.0) (L.agents_below q.links p h.0).1 (L.seen_is q.links p h.0),
+    ) };
 }

@@ -47,12 +47,7 @@ pub(crate) fn change<L: Links<Rule = Fifo>>(
 }
 
 /// Swings the tail on from a node to its successor, if the tail still names that node.
-pub(crate) fn help_tail<L: Links<Rule = Fifo>>(
-    links: &L,
-    p: &mut L::Pass,
-    tail: &Held,
-    next: &Held,
-)
+pub(crate) fn help_tail<L: Links<Rule = Fifo>>(links: &L, p: &mut L::Pass, tail: &Held, next: &Held)
     requires pass { L.belongs links.now p.old }
     requires made { HasDummy (L.numbers links.now) (L.opening links.now) }
     requires held { Holds (L.seat links.now p.old).slots tail.now × Holds (L.seat links.now p.old).slots next.now }

@@ -11,9 +11,9 @@ ghost use Rattle.orc_queue.specs.Answers.{TakeAnswers};
 ghost use Rattle.orc_queue.specs.Turns.{HasDummy, FindsEnd, TakesBehind, TakesFrom, TakesNext, TakesTurn, TakesTurns};
 
 use crate::swings::{HEAD, TAIL, change, help_tail};
+use orc_fault::Again;
 use orc_fifo_rule::{Fifo, FifoNote};
 use orc_heap::{At, Held, Links, Looked, Want};
-use orc_fault::Again;
 use orc_history::QueueEntry;
 
 /// How a turn of a take ended.
@@ -49,7 +49,14 @@ fn swing_head<L: Links<Rule = Fifo>>(
     let agent = links.agent(p);
     let took = FifoNote::Entry(QueueEntry::Took { agent, job, at });
     let new = Want::Node(next, false);
-    if change(links, p, &At::Root(HEAD), &Want::Node(head, false), &new, took) {
+    if change(
+        links,
+        p,
+        &At::Root(HEAD),
+        &Want::Node(head, false),
+        &new,
+        took,
+    ) {
         Some((job, at))
     } else {
         None
