@@ -1,0 +1,16 @@
+//! Domains of links, over shared words.
+#![tactic(auto)]
+
+mod domain;
+mod ends;
+mod laws;
+mod links;
+mod make;
+mod names;
+mod rest;
+mod steps;
+
+pub use domain::{PlainDomain, PlainPass, PlainRest};
+
+#[cfg(test)]
+mod tests;

@@ -1,0 +1,46 @@
+//! How the board names what a caller names.
+
+ghost use Rattle.std.specs.Prelude.{◌≡◌};
+ghost use Rattle.orc_domain.specs.Rows.{row_link, target_link, word_at};
+
+use orc_heap::{At, Held, Want};
+use orc_words::{RowLink, Word};
+
+/// The word of a place.
+pub(crate) fn word_at(place: &At) -> Word
+    ensures { result ≡ word_at place.now }
+{
+    match *place {
+        At::Root(root) => Word::Root(root),
+        At::Node(h) => Word::Next(h.row()),
+    }
+}
+
+/// A link, by the row of its target.
+pub(crate) fn row_link(link: &Want) -> RowLink
+    ensures { result ≡ row_link link.now }
+{
+    match *link {
+        Want::Null(mark) => RowLink { to: None, mark },
+        Want::Node(h, mark) => RowLink {
+            to: Some(h.row()),
+            mark,
+        },
+    }
+}
+
+/// An unmarked link to a target.
+pub(crate) fn target_link(to: Option<&Held>) -> RowLink
+    ensures { result ≡ target_link to.entry }
+{
+    match to {
+        None => RowLink {
+            to: None,
+            mark: false,
+        },
+        Some(h) => RowLink {
+            to: Some(h.row()),
+            mark: false,
+        },
+    }
+}

@@ -1,0 +1,88 @@
+//! The parts of which the calls are made.
+
+ghost use Rattle.std.specs.Prelude.{◌≡◌, ◌<◌, ◌%◌, MatchBool, None, Some, slice_get};
+ghost use Rattle.orc_heap.specs.Heap.{new_node};
+ghost use Rattle.orc_table.specs.Calls.{KnowsPlace};
+ghost use Rattle.orc_table.specs.Machine.{index_of, place_by};
+ghost use Rattle.orc_table.specs.Views.{heap_of, shows};
+ghost use Rattle.orc_domain.specs.Calls.{Furnishes, IsSame, Loads, Loses, Retires, Takes};
+ghost use Rattle.orc_domain.specs.Passes.{IsPassOf, domain_bounds, domain_numbers, seat_of};
+
+use crate::domain::{PlainDomain, PlainPass};
+use orc_heap::{Discipline, Held};
+use orc_words::{RowLink, Word, read_link};
+
+impl<D: Discipline> PlainDomain<D> {
+    // takes the row out, if it is free
+    pub(crate) fn take(&self, p: &mut PlainPass<D>, row: u32) -> bool
+        requires pass { IsPassOf self.now p.old }
+        requires row { row < (domain_bounds self.now).rows }
+        requires fresh { (shows self.now.board p.old.pass).fresh ≡ None }
+        ensures pass { IsPassOf self.now p.new }
+        ensures same { IsSame p.old p.new }
+        ensures took { MatchBool result
+            (Takes (domain_bounds self.now) row p.old.slots (shows self.now.board p.old.pass) (shows self.now.board p.new.pass))
+            (Loses row p.old.slots (shows self.now.board p.old.pass) (shows self.now.board p.new.pass)) }
+    {
+        let gate = self.board.gate_look(&mut p.pass, row);
+        if gate % 2 == 1 {
+            return false;
+        }
+        self.board.gate_take(&mut p.pass, row) == 1
+    }
+
+    // fills the values of the row that was just given, and holds it in the slot
+    pub(crate) fn furnish(
+        &self,
+        p: &mut PlainPass<D>,
+        row: u32,
+        slot: u32,
+        first: u64,
+        second: u64,
+    ) -> Held
+        requires pass { IsPassOf self.now p.old }
+        requires row { row < (domain_bounds self.now).rows }
+        requires fresh { (shows self.now.board p.old.pass).fresh ≡ Some row }
+        requires slot { slot < 8 }
+        requires node { slice_get (heap_of (domain_bounds self.now) (shows self.now.board p.old.pass)).nodes (index_of row (shows self.now.board p.old.pass).rows)
+            ≡ Some (new_node (shows self.now.board p.old.pass).agent) }
+        ensures pass { IsPassOf self.now p.new }
+        ensures shape { p.new.shape ≡ p.old.shape }
+        ensures hold { result ≡ record { row = row; slot = slot } }
+        ensures furnished { Furnishes (domain_numbers self.now) row (index_of row (shows self.now.board p.old.pass).rows) slot first second (seat_of self.now p.old) (seat_of self.now p.new) }
+    {
+        self.board.fill(&mut p.pass, row, 0, first);
+        self.board.fill(&mut p.pass, row, 1, second);
+        p.slots[slot as usize] = Some(row);
+        p.next = (row + 1) % p.shape.rows();
+        Held::new(row, slot)
+    }
+
+    // reads a link
+    pub(crate) fn load(&self, p: &mut PlainPass<D>, at: Word) -> RowLink
+        requires pass { IsPassOf self.now p.old }
+        requires place { KnowsPlace (domain_bounds self.now) (shows self.now.board p.old.pass) at }
+        ensures pass { IsPassOf self.now p.new }
+        ensures same { IsSame p.old p.new }
+        ensures loaded { Loads (D.may (domain_numbers self.now)) (domain_bounds self.now) (place_by (shows self.now.board p.old.pass).rows at) result
+            (shows self.now.board p.old.pass) (shows self.now.board p.new.pass) }
+    {
+        let word = self.board.link_load(&mut p.pass, at, None, None);
+        let Some(link) = read_link(word) else {
+            unreachable!()
+        };
+        link
+    }
+
+    // the row is fresh no more, if it was
+    pub(crate) fn retire(&self, p: &mut PlainPass<D>, row: u32)
+        requires pass { IsPassOf self.now p.old }
+        ensures pass { IsPassOf self.now p.new }
+        ensures same { IsSame p.old p.new }
+        ensures retired { Retires row (shows self.now.board p.old.pass) (shows self.now.board p.new.pass) }
+    {
+        if p.pass.fresh() == Some(row) {
+            self.board.give_up(&mut p.pass, row);
+        }
+    }
+}

@@ -1,0 +1,12 @@
+pub mod Lists
+pub mod Ties
+pub mod Steps
+pub mod Untouched
+pub mod Walks
+pub mod Licences
+pub mod Tells
+pub mod LinkTells
+pub mod Opening
+pub mod Making
+pub mod Learning
+pub mod Known

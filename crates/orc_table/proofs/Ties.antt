@@ -1,0 +1,438 @@
+-- The words show the heap, with rows read as ids.
+use Rattle.std.proofs.Common.{◌≡◌, ◌≢◌, ℕ, zero, suc, ◌+◌, ◌*◌, ◌<◌, List, [], ◌∷◌, ◌++◌, length, replicate, Bool, true, false, Option, Some, None, slice_get, slice_index, slice_set, length-set, length-append, refl, sym, ap, ◌∙◌, subst, ◌⊎◌, inl, inr, arith}
+use Rattle.std.proofs.lemmas.List.{length-replicate}
+use Rattle.std.specs.Option.{option_map}
+use Rattle.orc_words.specs.Bounds.{Bounds}
+use Rattle.orc_words.specs.Packed.{bit, name_word}
+use Rattle.orc_words.specs.Places.{places}
+use Rattle.orc_words.specs.declared.packed.TheConstants.{NEW_COUNTER}
+use Rattle.orc_heap.specs.Acts.{IsTarget, with_value}
+use Rattle.orc_heap.specs.Heap.{Heap, Node, change, new_heap, new_node, null, shown}
+use Rattle.orc_heap.specs.declared.events.Link.{Link}
+use Rattle.orc_heap.specs.declared.events.Place.{Place}
+use Rattle.orc_heap.specs.declared.events.Place.TheVariants.{Root as AtRoot, Next}
+use Rattle.orc_heap.proofs.Changes.{get-change, get-grown}
+use Rattle.orc_table.specs.Machine.{index_of, id_by, new_words, numbers, with_counters}
+use Rattle.orc_table.specs.Words.{Block, IsFreeRow, IsWord, Named, Once, Tie}
+use Rattle.orc_table.proofs.Lists.{some_one, get_lt, lt_get, get_end, get_last, change_back, length_change, at_index, index_at, new_word, same_word}
+
+-- the place of a row's gate; its values stand two and three after it, its link four
+abbrev pub row_place : Bounds → ℕ → ℕ
+row_place k row = 1 + k.roots + 5 * row
+
+abbrev pub link_in : Option Node → Option Link
+link_in o = option_map (λ n. n.link) o
+
+-- the row was given, if one is named
+abbrev pub Given : List ℕ → Option ℕ → Type 0
+Given g None = Unit {0}
+Given g (Some row) = index_of row g < length g
+
+-- the nodes with the target changed, if there is one
+abbrev pub target_nodes : (Node → Node) → Option ℕ → List Node → List Node
+target_nodes f None nodes = nodes
+target_nodes f (Some i) nodes = change f i nodes
+
+bits : (a b : Bool) → bit a ≡ bit b → a ≡ b
+bits true true e = refl
+bits false false e = refl
+bits true false e = absurd (omega (arith, e))
+bits false true e = absurd (omega (arith, e))
+
+bit_low : (b : Bool) → bit b < 2
+bit_low true = omega arith
+bit_low false = omega arith
+
+-- a word is the word of one link
+pub one_link : (g : List ℕ) (once : Once g) (t u : Option ℕ) (a b : Bool) (n : ℕ) → IsWord g t a n → IsWord g u b n → (t ≡ u) × (a ≡ b)
+one_link g once None None a b n x y = (refl, bits a b (sym x ∙ y))
+one_link g once None (Some j) a b n x y = let l = bit_low a in let e = sym x ∙ y.2 in absurd (omega (arith, l, e))
+one_link g once (Some i) None a b n x y = let l = bit_low b in let e = sym x.2 ∙ y in absurd (omega (arith, l, e))
+one_link g once (Some i) (Some j) a b n x y =
+    let l = bit_low a in
+    let m = bit_low b in
+    let e : 2 * (x.0 + 1) + bit a ≡ 2 * (y.0 + 1) + bit b = sym x.2 ∙ y.2 in
+    let same : x.0 ≡ y.0 = omega (arith, l, m, e) in
+    (ap Some (once i j y.0 (x.1 ∙ ap Some same) y.1), bits a b (omega (arith, l, m, e, same)))
+
+pub word_grown : (g more : List ℕ) (t : Option ℕ) (a : Bool) (n : ℕ) → IsWord g t a n → IsWord (g ++ more) t a n
+word_grown g more None a n x = x
+word_grown g more (Some i) a n x = (x.0, get-grown i g more x.0 x.1, x.2)
+
+pub word_by : (g : List ℕ) (t : Option ℕ) (a : Bool) → Given g t → IsWord g (id_by g t) a (2 * name_word t + bit a)
+word_by g None a x = omega arith
+word_by g (Some row) a x = (row, at_index row g x, refl)
+
+named_change : (f : Node → Node) → ((n : Node) → n.named ≡ true → (f n).named ≡ true) → (i : ℕ) (nodes : List Node) (t : Option ℕ) → Named nodes t → Named (change f i nodes) t
+named_change f keeps i nodes None x = x
+named_change f keeps i nodes (Some id) x = elim (get-change f i id nodes x.0 x.1) [ inl r ↦ (f x.0, r.1, keeps x.0 x.2) | inr r ↦ (x.0, r.1, x.2) ]
+
+named_target : (f : Node → Node) → ((n : Node) → (f n).named ≡ true) → (to : Option ℕ) (nodes : List Node) (t : Option ℕ) → Named nodes t → Named (target_nodes f to nodes) t
+named_target f sets None nodes t x = x
+named_target f sets (Some i) nodes t x = named_change f (λ n e. sets n) i nodes t x
+
+-- the target itself
+now_named : (f : Node → Node) → ((n : Node) → (f n).named ≡ true) → (to : Option ℕ) (nodes : List Node) → ((id : ℕ) → to ≡ Some id → (n : Node) × (slice_get nodes id ≡ Some n)) → Named (target_nodes f to nodes) to
+now_named f sets None nodes there = tt
+now_named f sets (Some i) nodes there = let t = there i refl in elim (get-change f i i nodes t.0 t.1) [ inl r ↦ (f t.0, r.1, sets t.0) | inr r ↦ absurd (r.0 refl) ]
+
+-- a node shows the same words as the other
+pub record Alike (n m : Node) : Type 0 where
+  pub link : n.link ≡ m.link
+  pub first : n.first ≡ m.first
+  pub second : n.second ≡ m.second
+
+target_back : (f : Node → Node) → ((n : Node) → Alike (f n) n) → (to : Option ℕ) (nodes : List Node) (id : ℕ) (n : Node) → slice_get (target_nodes f to nodes) id ≡ Some n
+    → (m : Node) × (slice_get nodes id ≡ Some m) × Alike n m
+target_back f same None nodes id n e = (n, e, record { link = refl; first = refl; second = refl })
+target_back f same (Some i) nodes id n e = elim (change_back f i id nodes n e) [
+  | inl r ↦ (r.1, r.2, let s = same r.1 in record { link = ap (λ x. x.link) r.3 ∙ s.link; first = ap (λ x. x.first) r.3 ∙ s.first; second = ap (λ x. x.second) r.3 ∙ s.second })
+  | inr r ↦ (n, r.1, record { link = refl; first = refl; second = refl })
+]
+
+pub length_target : (f : Node → Node) (to : Option ℕ) (nodes : List Node) → length (target_nodes f to nodes) ≡ length nodes
+length_target f None nodes = refl
+length_target f (Some i) nodes = length_change f i nodes
+
+block_alike : (k : Bounds) (w g : List ℕ) (row : ℕ) (n m : Node) → Alike n m → Block k w g row m → Block k w g row n
+block_alike k w g row n m a b = record {
+  gate = b.gate;
+  link = subst (λ (l : Link). IsWord g l.to l.mark (slice_index w (row_place k row + 4))) (sym a.link) b.link;
+  first = λ v e. b.first v (sym a.first ∙ e);
+  second = λ v e. b.second v (sym a.second ∙ e);
+}
+
+-- a word that is none of the row's
+block_else : (k : Bounds) (w g : List ℕ) (row : ℕ) (n : Node) (p v : ℕ) → row_place k row ≢ p → row_place k row + 2 ≢ p → row_place k row + 3 ≢ p → row_place k row + 4 ≢ p
+    → Block k w g row n → Block k (slice_set w p v) g row n
+block_else k w g row n p v a b c d x = record {
+  gate = same_word w p v (row_place k row) a ∙ x.gate;
+  link = subst (IsWord g n.link.to n.link.mark) (sym (same_word w p v (row_place k row + 4) d)) x.link;
+  first = λ u e. same_word w p v (row_place k row + 2) b ∙ x.first u e;
+  second = λ u e. same_word w p v (row_place k row + 3) c ∙ x.second u e;
+}
+
+-- nodes that were changed where no word shows
+tie_target : (k : Bounds) (w g : List ℕ) (h : Heap) (f : Node → Node) → ((n : Node) → Alike (f n) n) → ((n : Node) → (f n).named ≡ true) → (to : Option ℕ)
+    → ((at : Place) (l : Link) → shown h at ≡ Some l → Named h.nodes l.to ⊎ (l.to ≡ to))
+    → ((id : ℕ) → to ≡ Some id → (n : Node) × (slice_get h.nodes id ≡ Some n))
+    → (long : length w ≡ places k) (rooted : length h.roots ≡ k.roots) (even : length g ≡ length h.nodes) (once : Once g) (inside : (i row : ℕ) → slice_get g i ≡ Some row → row < k.rows)
+    → ((r : ℕ) (l : Link) → slice_get h.roots r ≡ Some l → IsWord g l.to l.mark (slice_index w (1 + r)))
+    → ((id row : ℕ) (n : Node) → slice_get g id ≡ Some row → slice_get h.nodes id ≡ Some n → Block k w g row n)
+    → ((row : ℕ) → row < k.rows → ((id : ℕ) → slice_get g id ≢ Some row) → IsFreeRow k w row)
+    → Tie k w g record { nodes = target_nodes f to h.nodes; roots = h.roots }
+tie_target k w g h f same sets to named there long rooted even once inside root node free = record {
+  long = long;
+  rooted = rooted;
+  even = even ∙ sym (length_target f to h.nodes);
+  once = once;
+  inside = inside;
+  root = root;
+  node = λ id row n e q. let b = target_back f same to h.nodes id n q in block_alike k w g row n b.0 b.2 (node id row b.0 e b.1);
+  free = free;
+  targets = λ at l e. let old = before at l e in elim (named at l old) [
+    | inl x ↦ named_target f sets to h.nodes l.to x
+    | inr x ↦ subst (Named (target_nodes f to h.nodes)) (sym x) (now_named f sets to h.nodes there)
+  ];
+}
+  where
+    before : (at : Place) (l : Link) → shown record { nodes = target_nodes f to h.nodes; roots = h.roots } at ≡ Some l → shown h at ≡ Some l
+    before (AtRoot r) l e = e
+    before (Next id) l e = went (slice_get (target_nodes f to h.nodes) id) refl e
+      where
+        went : (o : Option Node) → slice_get (target_nodes f to h.nodes) id ≡ o → link_in o ≡ Some l → shown h (Next id) ≡ Some l
+        went None q x = cc
+        went (Some n) q x = let b = target_back f same to h.nodes id n q in ap link_in b.1 ∙ (ap Some (sym b.2.link) ∙ x)
+
+-- a target that was given is there
+there_by : (k : Bounds) (w g : List ℕ) (h : Heap) → Tie k w g h → (t : Option ℕ) → Given g t → (id : ℕ) → id_by g t ≡ Some id → (n : Node) × (slice_get h.nodes id ≡ Some n)
+there_by k w g h x None l id e = cc
+there_by k w g h x (Some row) l id e = let q = some_one (index_of row g) id e in let v = x.even in lt_get h.nodes id (omega (arith, l, q, v))
+
+-- a target that is there was given
+pub given_by : (k : Bounds) (w g : List ℕ) (h : Heap) → Tie k w g h → (a : ℕ) (t : Option ℕ) → IsTarget a h (id_by g t) → Given g t
+given_by k w g h x a None r = tt
+given_by k w g h x a (Some row) r = let l = get_lt h.nodes (index_of row g) r.node r.there in let v = x.even in omega (arith, l, v)
+
+-- a row that is linked from somewhere else keeps its words
+apart_rows : (k : Bounds) (g : List ℕ) (once : Once g) (id row other : ℕ) → slice_get g id ≡ Some other → index_of row g < length g → index_of row g ≢ id → other ≢ row
+apart_rows k g once id row other e l ne q = ne (index_at row g id once (e ∙ ap Some q))
+
+-- a row's gate is taken, and its node is new
+pub tie_take : (k : Bounds) (w g : List ℕ) (h : Heap) (a row : ℕ) → Tie k w g h → row < k.rows → slice_index w (row_place k row) ≡ 0
+    → Tie k (slice_set w (row_place k row) 3) (g ++ row ∷ []) record { nodes = h.nodes ++ new_node a ∷ []; roots = h.roots }
+tie_take k w g h a row x lt zero_gate =
+    let long = x.long in
+    let new : (id : ℕ) → slice_get g id ≢ Some row = λ id e.
+    let n = lt_get h.nodes id (let l = get_lt g id row e in let v = x.even in omega (arith, l, v)) in
+    let b = (x.node id row n.0 e n.1).gate in omega (arith, b, zero_gate) in
+    let more : List ℕ = row ∷ [] in
+    let set_length = length-set w (row_place k row) 3 in
+    record {
+      long = set_length ∙ long;
+      rooted = x.rooted;
+      even = length-append g (row ∷ []) ∙ (ap (λ n. n + 1) x.even ∙ sym (length-append h.nodes (new_node a ∷ [])));
+      once = λ i j r e q. elim (get_end g row i r e) [
+        | inl s ↦ elim (get_end g row j r q) [ inl t ↦ x.once i j r s t | inr t ↦ absurd (new i (s ∙ ap Some t.1)) ]
+        | inr s ↦ elim (get_end g row j r q) [ inl t ↦ absurd (new j (t ∙ ap Some s.1)) | inr t ↦ s.0 ∙ sym t.0 ]
+      ];
+      inside = λ i r e. elim (get_end g row i r e) [ inl s ↦ x.inside i r s | inr s ↦ subst (λ z. z < k.rows) (sym s.1) lt ];
+      root = λ r l e.
+          let below = get_lt h.roots r l e in
+          let rooted = x.rooted in
+          subst (IsWord (g ++ more) l.to l.mark) (sym (same_word w (row_place k row) 3 (1 + r) (λ q. omega (arith, q, below, rooted)))) (word_grown g more l.to l.mark (slice_index w (1 + r)) (x.root r l e));
+      node = λ id r n e q. elim (get_end g row id r e) [
+        | inl s ↦
+            let in_old = get_lt g id r s in
+            let even = x.even in
+            elim (get_end h.nodes (new_node a) id n q) [
+              | inl t ↦
+                  let b = x.node id r n s t in
+                  let ne : r ≢ row = λ z. new id (s ∙ ap Some z) in
+                  let old = block_else k w g r n (row_place k row) 3 (λ z. ne (omega (arith, z))) (λ z. absurd (omega (arith, z))) (λ z. absurd (omega (arith, z))) (λ z. absurd (omega (arith, z))) b in
+                  record { gate = old.gate; link = word_grown g more n.link.to n.link.mark _ old.link; first = old.first; second = old.second }
+              | inr t ↦ let z = t.0 in absurd (omega (arith, z, in_old, even))
+            ]
+        | inr s ↦
+            let z = s.0 in
+            let even = x.even in
+            elim (get_end h.nodes (new_node a) id n q) [
+              | inl t ↦ let l = get_lt h.nodes id n t in absurd (omega (arith, z, l, even))
+              | inr t ↦ subst (λ (m : Node). Block k (slice_set w (row_place k row) 3) (g ++ more) r m) (sym t.1) (subst (λ (i : ℕ). Block k (slice_set w (row_place k row) 3) (g ++ more) i (new_node a)) (sym s.1) record {
+                gate = new_word w (row_place k row) 3 (omega (arith, long, lt));
+                link = same_word w (row_place k row) 3 (row_place k row + 4) (λ z. omega (arith, z)) ∙ (x.free row lt new).link;
+                first = λ v e. cc;
+                second = λ v e. cc;
+              })
+            ]
+      ];
+      free = λ r l none. let f = x.free r l (λ id e. none id (get-grown id g more r e)) in record {
+        gate = same_word w (row_place k row) 3 (row_place k r) (λ z. let q : r ≡ row = omega (arith, z) in none (length g) (subst (λ s. slice_get (g ++ row ∷ []) (length g) ≡ Some s) (sym q) (get_last g row))) ∙ f.gate;
+        link = same_word w (row_place k row) 3 (row_place k r + 4) (λ z. absurd (omega (arith, z))) ∙ f.link;
+      };
+      targets = λ at l e. targets at l e;
+    }
+  where
+    old_named : (t : Option ℕ) → Named h.nodes t → Named (h.nodes ++ new_node a ∷ []) t
+    old_named None x = tt
+    old_named (Some id) x = (x.0, get-grown id h.nodes (new_node a ∷ []) x.0 x.1, x.2)
+
+    null_named : (l : Link) → l ≡ null → Named (h.nodes ++ new_node a ∷ []) l.to
+    null_named l e = subst (λ (z : Link). Named (h.nodes ++ new_node a ∷ []) z.to) (sym e) tt
+
+    targets : (at : Place) (l : Link) → shown record { nodes = h.nodes ++ new_node a ∷ []; roots = h.roots } at ≡ Some l → Named (h.nodes ++ new_node a ∷ []) l.to
+    targets (AtRoot r) l e = old_named l.to (x.targets (AtRoot r) l e)
+    targets (Next id) l e = went (slice_get (h.nodes ++ new_node a ∷ []) id) refl e
+      where
+        went : (o : Option Node) → slice_get (h.nodes ++ new_node a ∷ []) id ≡ o → link_in o ≡ Some l → Named (h.nodes ++ new_node a ∷ []) l.to
+        went None q e = cc
+        went (Some n) q e = elim (get_end h.nodes (new_node a) id n q) [
+          | inl t ↦ old_named l.to (x.targets (Next id) l (ap link_in t ∙ e))
+          | inr t ↦ null_named l (sym (some_one n.link l e) ∙ ap (λ (m : Node). m.link) t.1)
+        ]
+
+-- a value is filled
+pub tie_fill : (k : Bounds) (w g : List ℕ) (h : Heap) (row which value : ℕ) → Tie k w g h → row < k.rows → index_of row g < length g → which < 2
+    → Tie k (slice_set w (row_place k row + 2 + which) value) g record { nodes = change (with_value which value) (index_of row g) h.nodes; roots = h.roots }
+tie_fill k w g h row which value x lt given low =
+    let long = x.long in
+    record {
+      long = length-set w (row_place k row + 2 + which) value ∙ long;
+      rooted = x.rooted;
+      even = x.even ∙ sym (length_change (with_value which value) (index_of row g) h.nodes);
+      once = x.once;
+      inside = x.inside;
+      root = λ r l e.
+          let below = get_lt h.roots r l e in
+          let rooted = x.rooted in
+          subst (IsWord g l.to l.mark) (sym (same_word w (row_place k row + 2 + which) value (1 + r) (λ q. omega (arith, q, below, rooted)))) (x.root r l e);
+      node = λ id r n e q. elim (change_back (with_value which value) (index_of row g) id h.nodes n q) [
+        | inl t ↦
+            let same : r ≡ row = some_one r row (sym e ∙ (ap (slice_get g) (sym t.0) ∙ at_index row g given)) in
+            subst (λ (m : Node). Block k (slice_set w (row_place k row + 2 + which) value) g r m) (sym t.3) (subst (λ i. Block k (slice_set w (row_place k row + 2 + which) value) g i (with_value which value t.1)) (sym same) (filled_block which low t.1 long (x.node id row t.1 (e ∙ ap Some same) t.2)))
+        | inr t ↦
+            let ne = apart_rows k g x.once id row r e given t.0 in
+            block_else k w g r n (row_place k row + 2 + which) value (λ z. ne (omega (arith, z, low))) (λ z. ne (omega (arith, z, low))) (λ z. ne (omega (arith, z, low))) (λ z. ne (omega (arith, z, low))) (x.node id r n e t.1)
+      ];
+      free = λ r l none. record {
+        gate = same_word w (row_place k row + 2 + which) value (row_place k r) (λ z. absurd (omega (arith, z, low))) ∙ (x.free r l none).gate;
+        link = same_word w (row_place k row + 2 + which) value (row_place k r + 4) (λ z. absurd (omega (arith, z, low))) ∙ (x.free r l none).link;
+      };
+      targets = targets;
+    }
+  where
+    filled_block : (i : ℕ) → i < 2 → (m : Node) → length w ≡ places k → Block k w g row m → Block k (slice_set w (row_place k row + 2 + i) value) g row (with_value i value m)
+    filled_block zero low m long b = record {
+      gate = same_word w (row_place k row + 2 + 0) value (row_place k row) (λ z. omega (arith, z)) ∙ b.gate;
+      link = subst (IsWord g m.link.to m.link.mark) (sym (same_word w (row_place k row + 2 + 0) value (row_place k row + 4) (λ z. omega (arith, z)))) b.link;
+      first = λ v e. subst (λ z. slice_index (slice_set w z value) (row_place k row + 2) ≡ v) (let p : row_place k row + 2 ≡ row_place k row + 2 + 0 = omega arith in p) (new_word w (row_place k row + 2) value (omega (arith, long, lt)) ∙ some_one value v e);
+      second = λ v e. same_word w (row_place k row + 2 + 0) value (row_place k row + 3) (λ z. omega (arith, z)) ∙ b.second v e;
+    }
+    filled_block (suc i) low m long b = let none : i ≡ 0 = omega (arith, low) in record {
+      gate = same_word w (row_place k row + 2 + suc i) value (row_place k row) (λ z. omega (arith, z)) ∙ b.gate;
+      link = subst (IsWord g m.link.to m.link.mark) (sym (same_word w (row_place k row + 2 + suc i) value (row_place k row + 4) (λ z. omega (arith, z, none)))) b.link;
+      first = λ v e. same_word w (row_place k row + 2 + suc i) value (row_place k row + 2) (λ z. omega (arith, z)) ∙ b.first v e;
+      second = λ v e. subst (λ z. slice_index (slice_set w z value) (row_place k row + 3) ≡ v) (let p : row_place k row + 3 ≡ row_place k row + 2 + suc i = omega (arith, none) in p) (new_word w (row_place k row + 3) value (omega (arith, long, lt)) ∙ some_one value v e);
+    }
+
+    targets : (at : Place) (l : Link) → shown record { nodes = change (with_value which value) (index_of row g) h.nodes; roots = h.roots } at ≡ Some l → Named (change (with_value which value) (index_of row g) h.nodes) l.to
+    targets at l e = named_change (with_value which value) (keeps_named which) (index_of row g) h.nodes l.to (x.targets at l (before at e))
+      where
+        keeps_named : (i : ℕ) (n : Node) → n.named ≡ true → (with_value i value n).named ≡ true
+        keeps_named zero n e = e
+        keeps_named (suc i) n e = e
+
+        keeps_link : (i : ℕ) (n : Node) → (with_value i value n).link ≡ n.link
+        keeps_link zero n = refl
+        keeps_link (suc i) n = refl
+
+        before : (at : Place) → shown record { nodes = change (with_value which value) (index_of row g) h.nodes; roots = h.roots } at ≡ Some l → shown h at ≡ Some l
+        before (AtRoot r) e = e
+        before (Next id) e = went (slice_get (change (with_value which value) (index_of row g) h.nodes) id) refl e
+          where
+            went : (o : Option Node) → slice_get (change (with_value which value) (index_of row g) h.nodes) id ≡ o → link_in o ≡ Some l → shown h (Next id) ≡ Some l
+            went None q e = cc
+            went (Some n) q e = elim (change_back (with_value which value) (index_of row g) id h.nodes n q) [
+              | inl t ↦ ap link_in t.2 ∙ (ap Some (sym (keeps_link which t.1) ∙ ap (λ (m : Node). m.link) (sym t.3)) ∙ e)
+              | inr t ↦ ap link_in t.1 ∙ e
+            ]
+
+-- a node's link is set, and its target is noted
+pub tie_link : (k : Bounds) (w g : List ℕ) (h : Heap) (f : Node → Node) → ((n : Node) → Alike (f n) n) → ((n : Node) → (f n).named ≡ true) → (row : ℕ) (to : Option ℕ) (mark : Bool)
+    → Tie k w g h → row < k.rows → index_of row g < length g → Given g to
+    → Tie k (slice_set w (row_place k row + 4) (2 * name_word to + bit mark)) g
+    record { nodes = target_nodes f (id_by g to) (change (λ n. record n { link = record { to = id_by g to; mark = mark } }) (index_of row g) h.nodes); roots = h.roots }
+tie_link k w g h f same sets row to mark x lt given target =
+    let long = x.long in
+    tie_target k (slice_set w (row_place k row + 4) v) g h1 f same sets (id_by g to) named there
+    (length-set w (row_place k row + 4) v ∙ long)
+    x.rooted
+    (x.even ∙ sym (length_change linked_to (index_of row g) h.nodes))
+    x.once
+    x.inside
+    (λ r l e.
+    let below = get_lt h.roots r l e in
+    let rooted = x.rooted in
+    subst (IsWord g l.to l.mark) (sym (same_word w (row_place k row + 4) v (1 + r) (λ q. omega (arith, q, below, rooted)))) (x.root r l e))
+    (λ id r n e q. elim (change_back linked_to (index_of row g) id h.nodes n q) [
+      | inl t ↦
+          let same : r ≡ row = some_one r row (sym e ∙ (ap (slice_get g) (sym t.0) ∙ at_index row g given)) in
+          subst (λ (m : Node). Block k (slice_set w (row_place k row + 4) v) g r m) (sym t.3) (subst (λ i. Block k (slice_set w (row_place k row + 4) v) g i (linked_to t.1)) (sym same) (own t.1 long (x.node id row t.1 (e ∙ ap Some same) t.2)))
+      | inr t ↦
+          let ne = apart_rows k g x.once id row r e given t.0 in
+          block_else k w g r n (row_place k row + 4) v (λ z. ne (omega (arith, z))) (λ z. ne (omega (arith, z))) (λ z. ne (omega (arith, z))) (λ z. ne (omega (arith, z))) (x.node id r n e t.1)
+    ])
+    (λ r l none. record {
+      gate = same_word w (row_place k row + 4) v (row_place k r) (λ z. absurd (omega (arith, z))) ∙ (x.free r l none).gate;
+      link = same_word w (row_place k row + 4) v (row_place k r + 4) (λ z. let q : r ≡ row = omega (arith, z) in none (index_of row g) (at_index row g given ∙ ap Some (sym q))) ∙ (x.free r l none).link;
+    })
+  where
+    v : ℕ
+    v = 2 * name_word to + bit mark
+
+    linked_to : Node → Node
+    linked_to n = record n { link = record { to = id_by g to; mark = mark } }
+
+    h1 : Heap
+    h1 = record { nodes = change linked_to (index_of row g) h.nodes; roots = h.roots }
+
+    there : (id : ℕ) → id_by g to ≡ Some id → (n : Node) × (slice_get (change linked_to (index_of row g) h.nodes) id ≡ Some n)
+    there id e = let t = there_by k w g h x to target id e in elim (get-change linked_to (index_of row g) id h.nodes t.0 t.1) [ inl r ↦ (linked_to t.0, r.1) | inr r ↦ (t.0, r.1) ]
+
+    own : (m : Node) → length w ≡ places k → Block k w g row m → Block k (slice_set w (row_place k row + 4) v) g row (linked_to m)
+    own m long b = record {
+      gate = same_word w (row_place k row + 4) v (row_place k row) (λ z. omega (arith, z)) ∙ b.gate;
+      link = subst (IsWord g (id_by g to) mark) (sym (new_word w (row_place k row + 4) v (omega (arith, long, lt)))) (word_by g to mark target);
+      first = λ u e. same_word w (row_place k row + 4) v (row_place k row + 2) (λ z. omega (arith, z)) ∙ b.first u e;
+      second = λ u e. same_word w (row_place k row + 4) v (row_place k row + 3) (λ z. omega (arith, z)) ∙ b.second u e;
+    }
+
+    named : (at : Place) (l : Link) → shown h1 at ≡ Some l → Named h1.nodes l.to ⊎ (l.to ≡ id_by g to)
+    named (AtRoot r) l e = inl (named_change linked_to (λ n q. q) (index_of row g) h.nodes l.to (x.targets (AtRoot r) l e))
+    named (Next id) l e = went (slice_get (change linked_to (index_of row g) h.nodes) id) refl e
+      where
+        went : (o : Option Node) → slice_get (change linked_to (index_of row g) h.nodes) id ≡ o → link_in o ≡ Some l → Named h1.nodes l.to ⊎ (l.to ≡ id_by g to)
+        went None q e = cc
+        went (Some n) q e = elim (change_back linked_to (index_of row g) id h.nodes n q) [
+          | inl t ↦ inr (ap (λ (z : Link). z.to) (sym (some_one n.link l e)) ∙ ap (λ (m : Node). m.link.to) t.3)
+          | inr t ↦ inl (named_change linked_to (λ n q. q) (index_of row g) h.nodes l.to (x.targets (Next id) l (ap link_in t.1 ∙ e)))
+        ]
+
+-- a root is set, and its target is noted
+pub tie_root : (k : Bounds) (w g : List ℕ) (h : Heap) (f : Node → Node) → ((n : Node) → Alike (f n) n) → ((n : Node) → (f n).named ≡ true) → (r : ℕ) (to : Option ℕ) (mark : Bool)
+    → Tie k w g h → r < k.roots → Given g to
+    → Tie k (slice_set w (1 + r) (2 * name_word to + bit mark)) g
+    record { nodes = target_nodes f (id_by g to) h.nodes; roots = change (λ l. record { to = id_by g to; mark = mark }) r h.roots }
+tie_root k w g h f same sets r to mark x lt target =
+    let long = x.long in
+    tie_target k (slice_set w (1 + r) v) g h1 f same sets (id_by g to) named (λ id e. there_by k w g h x to target id e)
+    (length-set w (1 + r) v ∙ long)
+    (length_change (λ l. new) r h.roots ∙ x.rooted)
+    x.even
+    x.once
+    x.inside
+    (λ i l e. elim (change_back (λ l. new) r i h.roots l e) [
+      | inl t ↦ subst (λ (z : Link). IsWord g z.to z.mark (slice_index (slice_set w (1 + r) v) (1 + i))) (sym t.3) (subst (λ z. IsWord g (id_by g to) mark (slice_index (slice_set w (1 + r) v) (1 + z))) t.0 (subst (IsWord g (id_by g to) mark) (sym (new_word w (1 + r) v (omega (arith, long, lt)))) (word_by g to mark target)))
+      | inr t ↦ subst (IsWord g l.to l.mark) (sym (same_word w (1 + r) v (1 + i) (λ z. t.0 (omega (arith, z))))) (x.root i l t.1)
+    ])
+    (λ id i n e q. block_else k w g i n (1 + r) v (λ z. omega (arith, z, lt)) (λ z. omega (arith, z, lt)) (λ z. omega (arith, z, lt)) (λ z. omega (arith, z, lt)) (x.node id i n e q))
+    (λ i l none. record {
+      gate = same_word w (1 + r) v (row_place k i) (λ z. omega (arith, z, lt)) ∙ (x.free i l none).gate;
+      link = same_word w (1 + r) v (row_place k i + 4) (λ z. omega (arith, z, lt)) ∙ (x.free i l none).link;
+    })
+  where
+    v : ℕ
+    v = 2 * name_word to + bit mark
+
+    new : Link
+    new = record { to = id_by g to; mark = mark }
+
+    h1 : Heap
+    h1 = record { nodes = h.nodes; roots = change (λ l. new) r h.roots }
+
+    named : (at : Place) (l : Link) → shown h1 at ≡ Some l → Named h1.nodes l.to ⊎ (l.to ≡ id_by g to)
+    named (AtRoot i) l e = elim (change_back (λ l. new) r i h.roots l e) [
+      | inl t ↦ inr (ap (λ (z : Link). z.to) t.3)
+      | inr t ↦ inl (x.targets (AtRoot i) l t.1)
+    ]
+    named (Next id) l e = inl (x.targets (Next id) l e)
+
+-- a word of a new table that is no row's counter is 0
+zeros : (n i : ℕ) → slice_index (replicate n 0) i ≡ 0
+zeros zero i = refl
+zeros (suc n) zero = refl
+zeros (suc n) (suc i) = zeros n i
+
+pub zero_word : (k : Bounds) (rows p : ℕ) → ((row : ℕ) → p ≢ row_place k row + 1) → slice_index (with_counters k rows (replicate (places k) 0)) p ≡ 0
+zero_word k zero p none = zeros (places k) p
+zero_word k (suc rows) p none = same_word (with_counters k rows (replicate (places k) 0)) (row_place k rows + 1) NEW_COUNTER p (none rows) ∙ zero_word k rows p none
+
+pub counted_length : (k : Bounds) (rows : ℕ) (w : List ℕ) → length (with_counters k rows w) ≡ length w
+counted_length k zero w = refl
+counted_length k (suc rows) w = length-set (with_counters k rows w) (row_place k rows + 1) NEW_COUNTER ∙ counted_length k rows w
+
+-- a new table's words show the new heap
+pub tie_start : (k : Bounds) → Tie k (new_words k) [] (new_heap (numbers k))
+tie_start k = record {
+  long = counted_length k k.rows (replicate (places k) 0) ∙ length-replicate (places k) 0;
+  rooted = length-replicate k.roots null;
+  even = refl;
+  once = λ i j r e q. cc;
+  inside = λ i r e. cc;
+  root = λ r l e. let low = get_lt (replicate k.roots null) r l e in let long = length-replicate k.roots null in subst (λ (z : Link). IsWord [] z.to z.mark (slice_index (new_words k) (1 + r))) (sym (all_null k.roots r l e)) (zero_word k k.rows (1 + r) (λ row q. omega (arith, q, low, long)));
+  node = λ id r n e q. cc;
+  free = λ r l none. record { gate = zero_word k k.rows (row_place k r) (λ row q. omega (arith, q)); link = zero_word k k.rows (row_place k r + 4) (λ row q. omega (arith, q)) };
+  targets = targets;
+}
+  where
+    all_null : (n r : ℕ) (l : Link) → slice_get (replicate n null) r ≡ Some l → l ≡ null
+    all_null zero r l e = cc
+    all_null (suc n) zero l e = cc
+    all_null (suc n) (suc r) l e = all_null n r l e
+
+    targets : (at : Place) (l : Link) → shown (new_heap (numbers k)) at ≡ Some l → Named [] l.to
+    targets (AtRoot r) l e = subst (λ (z : Link). Named [] z.to) (sym (all_null k.roots r l e)) tt
+    targets (Next id) l e = cc
+
+pub counted_long : (k : Bounds) (rows : ℕ) → length (with_counters k rows (replicate (places k) 0)) ≡ places k
+counted_long k rows = counted_length k rows (replicate (places k) 0) ∙ length-replicate (places k) 0

@@ -1,0 +1,5 @@
+pub mod Machine
+pub mod Words
+pub mod Rules
+pub mod Views
+pub mod Calls

@@ -1,0 +1,112 @@
+//! New boards.
+
+ghost use Rattle.std.specs.Prelude.{◌≡◌, ◌<◌, [], All, IfOk, None, length};
+ghost use Rattle.orc_words.specs.Bounds.{bounds_of};
+ghost use Rattle.orc_words.specs.Places.{places};
+ghost use Rattle.orc_shared_words.specs.Lists.{EachAt};
+ghost use Rattle.orc_table.specs.Machine.{new_words, numbers, run};
+ghost use Rattle.orc_table.specs.Rules.{HasRoots, SeedAllowed, opening_events, opening_steps};
+ghost use Rattle.orc_table.specs.Views.{Belongs, EachFrom, board_bounds, board_seed, shows};
+
+use crate::machine::{OUT, Plain, place_in, word};
+use crate::pass::{PlainBoard, PlainPass};
+use crate::seed::{PlainShape, Seed};
+use orc_fault::NoMemory;
+use orc_heap::Discipline;
+use orc_shared_words::{SharedPass, SharedWords};
+use orc_words::{NEW_COUNTER, RowLink, Shape, Word};
+use std::alloc::Global;
+
+impl<D: Discipline> PlainBoard<D> {
+    /// A board, and one pass an agent, in order. Its journal begins with the seed's events, of agent 0.
+    pub fn make(
+        alloc: Global,
+        shape: &Shape,
+        seed: Seed<D::Note>,
+    ) -> Result<(PlainBoard<D>, Vec<PlainPass<D>>), NoMemory>
+        requires holds { D.holds (numbers (bounds_of shape.now)) [] }
+        requires seed { SeedAllowed (D.may (numbers (bounds_of shape.now))) (bounds_of shape.now) seed }
+        ensures bounds { IfOk result (λ made. board_bounds made.0 ≡ bounds_of shape.now) }
+        ensures seed { IfOk result (λ made. board_seed made.0 ≡ seed) }
+        ensures passes { IfOk result (λ made. length made.1.items ≡ (bounds_of shape.now).agents) }
+        ensures belongs { IfOk result (λ made. All (λ p. Belongs made.0 p) made.1.items) }
+        ensures agents { IfOk result (λ made. EachAt (λ i p. (shows made.0 p).agent ≡ i) made.1.items) }
+        ensures events { IfOk result (λ made. All (λ p. (shows made.0 p).events ≡ opening_events seed) made.1.items) }
+        ensures fresh { IfOk result (λ made. All (λ p. (shows made.0 p).fresh ≡ None) made.1.items) }
+        ensures absorbed { IfOk result (λ made. All (λ p. (shows made.0 p).absorbed ≡ []) made.1.items) }
+    {
+        let words = opening_words(alloc, shape, &seed)?;
+        let owns = nothings(alloc, shape.agents())?;
+        let plain = PlainShape {
+            shape: *shape,
+            seed,
+        };
+        let (words, passes) = SharedWords::<Plain, D>::make(alloc, plain, words.as_slice(), owns)?;
+        let passes = plain_passes(alloc, passes)?;
+        Ok((PlainBoard { words }, passes))
+    }
+}
+
+// the passes, with no fresh row
+fn plain_passes<D: Discipline>(
+    alloc: Global,
+    passes: Vec<SharedPass<Plain, D>>,
+) -> Result<Vec<PlainPass<D>>, NoMemory>
+    ensures long { IfOk result (λ made. length made.items ≡ length passes.items) }
+    ensures same { IfOk result (λ made. EachFrom (λ p. p.pass) made.items passes.items) }
+    ensures fresh { IfOk result (λ made. All (λ p. p.fresh ≡ None) made.items) }
+{
+    passes
+        .into_iter()
+        .map(|pass| PlainPass {
+            pass,
+            fresh: None,
+            looked: None,
+        })
+        .collect(alloc)
+        .map_err(|_| NoMemory)
+}
+
+// the words of a new table
+fn new_words(alloc: Global, shape: &Shape) -> Result<Vec<u64>, NoMemory>
+    ensures words { IfOk result (λ words. words.items ≡ new_words (bounds_of shape.now)) }
+    ensures long { IfOk result (λ words. length words.items ≡ places (bounds_of shape.now)) }
+{
+    let count = 1
+        + shape.roots() as usize
+        + 5 * shape.rows() as usize
+        + 16 * shape.agents() as usize;
+    let mut words = vec![in alloc; 0u64; count].map_err(|_| NoMemory)?;
+    for row in 0..shape.rows() {
+        words[place_in(shape, Word::Counter(row))] = NEW_COUNTER;
+    }
+    Ok(words)
+}
+
+// the words that the seed's steps leave
+fn opening_words<N>(alloc: Global, shape: &Shape, seed: &Seed<N>) -> Result<Vec<u64>, NoMemory>
+    requires roots { HasRoots (bounds_of shape.now) seed.now }
+    ensures words { IfOk result (λ words. words.items ≡ (run (bounds_of shape.now) (opening_steps seed.now)).words) }
+    ensures long { IfOk result (λ words. length words.items ≡ places (bounds_of shape.now)) }
+{
+    let mut words = new_words(alloc, shape)?;
+    if let Seed::Dummy { first, begin: _ } = seed {
+        let link = word(RowLink {
+            to: Some(0),
+            mark: false,
+        });
+        words[place_in(shape, Word::Gate(0))] = OUT;
+        words[place_in(shape, Word::First(0))] = 0;
+        words[place_in(shape, Word::Second(0))] = *first;
+        words[place_in(shape, Word::Root(0))] = link;
+        words[place_in(shape, Word::Root(1))] = link;
+    }
+    Ok(words)
+}
+
+// what each of these agents has for its record, which is nothing
+fn nothings(alloc: Global, count: u32) -> Result<Vec<()>, NoMemory>
+    ensures { IfOk result (λ owns. length owns.items ≡ count) }
+{
+    vec![in alloc; (); count as usize].map_err(|_| NoMemory)
+}

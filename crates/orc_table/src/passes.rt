@@ -1,0 +1,72 @@
+//! What passes tell, learn from each other and give up.
+
+ghost use Rattle.std.specs.Prelude.{◌≡◌, None, Some};
+ghost use Rattle.orc_words.specs.Bounds.{Bounds, bounds_of};
+ghost use Rattle.orc_table.specs.Calls.{Absorbs, Learns};
+ghost use Rattle.orc_table.specs.Views.{Belongs, board_bounds, shows, shows_by};
+
+use crate::pass::{PlainBoard, PlainPass};
+use orc_heap::Discipline;
+use orc_words::Shape;
+
+impl<D: Discipline> PlainPass<D> {
+    /// The number of the pass's agent.
+    pub fn agent(&self) -> u32
+        ensures { (b : Bounds) → result ≡ (shows_by b self.now).agent }
+    {
+        self.pass.agent
+    }
+
+    /// The row that the pass was given last, unless it was linked or given up.
+    pub fn fresh(&self) -> Option<u32>
+        ensures { (b : Bounds) → result ≡ (shows_by b self.now).fresh }
+    {
+        self.fresh
+    }
+}
+
+impl<D: Discipline> PlainBoard<D> {
+    /// The sizes that the board was made with.
+    pub fn shape(&self) -> Shape
+        ensures { bounds_of result ≡ board_bounds self.now }
+    {
+        self.words.shape.shape
+    }
+
+    /// The row is the pass's fresh row no more. It is never given again.
+    pub fn give_up(&self, p: &mut PlainPass<D>, row: u32)
+        requires belongs { Belongs self.now p.old }
+        requires fresh { (shows self.now p.old).fresh ≡ Some row }
+        ensures belongs { Belongs self.now p.new }
+        ensures given_up { shows self.now p.new ≡ record (shows self.now p.old) { fresh = None } }
+    {
+        p.fresh = None;
+    }
+
+    /// Both passes have then seen what the one or the other had, whichever is more.
+    pub fn learn(&self, into: &mut PlainPass<D>, from: &mut PlainPass<D>)
+        requires into { Belongs self.now into.old }
+        requires from { Belongs self.now from.old }
+        ensures into { Belongs self.now into.new }
+        ensures from { Belongs self.now from.new }
+        ensures learns { Learns (shows self.now into.old) (shows self.now from.old) (shows self.now into.new) (shows self.now from.new) }
+    {
+        self.words.learn(&mut into.pass, &mut from.pass);
+    }
+
+    /// Takes in another pass for good: its agent does nothing more.
+    pub fn absorb(&self, into: &mut PlainPass<D>, from: PlainPass<D>)
+        requires into { Belongs self.now into.old }
+        requires from { Belongs self.now from }
+        ensures into { Belongs self.now into.new }
+        ensures absorbs { Absorbs (shows self.now into.old) (shows self.now from) (shows self.now into.new) }
+    {
+        let PlainPass {
+            mut pass,
+            fresh: _,
+            looked: _,
+        } = from;
+        self.words.learn(&mut into.pass, &mut pass);
+        self.words.absorb(&mut into.pass, pass);
+    }
+}

@@ -1,0 +1,19 @@
+//! What a new board begins with.
+
+use orc_words::Shape;
+
+/// The nodes that a new board has.
+#[derive(Clone, Copy, Debug, PartialEq, Eq)]
+pub enum Seed<N> {
+    /// None: all roots are null.
+    Empty,
+    /// One node, with the values 0 and `first`, to which roots 0 and 1 link. `begin` is the note of these two links.
+    Dummy { first: u64, begin: N },
+}
+
+/// The sizes of a board, and what it begins with.
+#[derive(Clone, Copy)]
+pub struct PlainShape<N> {
+    pub shape: Shape,
+    pub seed: Seed<N>,
+}
