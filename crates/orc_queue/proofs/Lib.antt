@@ -7,6 +7,7 @@ pub mod Joins
 pub mod Linking
 pub mod Looking
 pub mod Moments
+pub mod Openings
 pub mod Pieces
 pub mod PutTurns
 pub mod Room

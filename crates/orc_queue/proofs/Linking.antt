@@ -1,7 +1,7 @@
 -- Linking the new node behind the last one.
-use Rattle.std.proofs.Common.{Bool, List, Option, Some, None, [], ap, append_assoc, arith, cond, false, inl, inr, refl, subst, sym, true, ℕ, ◌++◌, ◌+◌, ◌<◌, ◌^◌, ◌∙◌, ◌∷◌, ◌≡◌, ◌≢◌, ◌≤◌, ◌⊎◌}
+use Rattle.std.proofs.Common.{Bool, List, Option, Some, None, [], ap, append-nil, append_assoc, arith, cond, false, inl, inr, refl, subst, sym, true, ℕ, ◌++◌, ◌+◌, ◌<◌, ◌^◌, ◌∙◌, ◌∷◌, ◌≡◌, ◌≢◌, ◌≤◌, ◌⊎◌}
 use Rattle.std.proofs.lemmas.Bool.{eq-eqb}
-use Rattle.std.specs.List.{slice_get}
+use Rattle.std.specs.List.{list_any, slice_get}
 use Rattle.orc_heap.proofs.ByAnswer.{unless_same}
 use Rattle.orc_heap.proofs.Fresh.{touched_by}
 use Rattle.orc_heap.proofs.Parts.{Puts-trans}
@@ -10,6 +10,7 @@ use Rattle.orc_heap.specs.Calls.{Misses, ReadsValue, event_of, given_node, unles
 use Rattle.orc_heap.specs.Heap.{HeapNumbers, Node, null, shown}
 use Rattle.orc_heap.specs.Journals.{run_heap}
 use Rattle.orc_heap.specs.Parts.{Only, Puts}
+use Rattle.orc_heap.specs.Moves.{gives_in}
 use Rattle.orc_heap.specs.Seats.{Seat}
 use Rattle.orc_heap.specs.Slots.{Hold, id_in}
 use Rattle.orc_heap.specs.declared.events.Act.TheVariants.{Fill, Look, Miss, Move}
@@ -22,15 +23,17 @@ use Rattle.orc_fifo_rule.proofs.Coming.{put_allowed}
 use Rattle.orc_fifo_rule.proofs.Later.{link_later, linked_later}
 use Rattle.orc_fifo_rule.specs.declared.fifo.FifoNote.{FifoNote}
 use Rattle.orc_fifo_rule.specs.declared.fifo.FifoNote.TheVariants.{Entry}
-use Rattle.orc_fifo_rule.specs.QueueDiscipline.{FifoMay, HasLink, link_to, position_of}
+use Rattle.orc_fifo_rule.specs.QueueDiscipline.{FifoMay, HasLink, entries_of, link_to, position_of}
 use Rattle.orc_fifo_rule.specs.Watches.{WasNamed, node_to_put}
+use Rattle.orc_fifo_rule.specs.Kept.Events.{entries_of-append}
 use Rattle.orc_fifo_rule.specs.Kept.Nodes.{link_next}
 use Rattle.orc_fifo_rule.specs.Kept.Paths.{has_link}
-use Rattle.orc_queue.specs.Turns.{Helps, HoldsNode, LinkMissed, LinksJob, heap_of}
+use Rattle.orc_queue.specs.Turns.{Helps, HoldsNode, LinkMissed, LinksJob, Piece, heap_of, looks_at_end}
 use Rattle.orc_queue.proofs.Filled.{Known}
+use Rattle.orc_queue.proofs.Joins.{Join, join, room_join}
 use Rattle.orc_queue.proofs.Looking.{position_read}
 use Rattle.orc_queue.proofs.Moments.{Moment, miss_moved, moment, seen_is, since}
-use Rattle.orc_queue.proofs.Pieces.{linked_puts, named_puts, node_puts, node_touched, position_puts}
+use Rattle.orc_queue.proofs.Pieces.{gives_in-append, link_puts, linked_puts, named_puts, node_puts, node_touched, position_puts}
 use Rattle.orc_queue.proofs.Room.{room_unseen}
 
 -- the Move that links a new node behind this one: its link leads there from then on
@@ -100,25 +103,23 @@ module _ (n : HeapNumbers) (job at tail : ℕ) (h : Hold) (s a b : Seat FifoNote
         }
 
     -- the node is linked
-    pub link_made : (c t : Seat FifoNote) (agent : ℕ) → AllAllowed (FifoMay n) [] c.seen → agent ≡ s.agent → c.slots ≡ b.slots → c.fresh ≡ unless_node b.fresh (Some (id_in b.slots h))
-        → Puts b (event_of b (Move (Next tail) null (link_to (id_in b.slots h))) (Some (Entry (Put agent job at))) ∷ []) c → Helps tail (id_in c.slots h) c t
-        → position_of (heap_of n s) tail < 2 ^ 62 → at ≡ position_of (heap_of n s) tail → LinksJob n job tail at s t
-    link_made c t agent all agent_is slots fresh put helped low at_is =
+    pub link_made : (t : Seat FifoNote) (agent : ℕ) → AllAllowed (FifoMay n) [] t.seen → agent ≡ s.agent → t.slots ≡ b.slots → t.fresh ≡ unless_node b.fresh (Some (id_in b.slots h))
+        → Puts b (event_of b (Move (Next tail) null (link_to (id_in b.slots h))) (Some (Entry (Put agent job at))) ∷ []) t
+        → position_of (heap_of n s) tail < 2 ^ 62 → at ≡ position_of (heap_of n s) tail → LinksJob n job tail at h s t
+    link_made t agent all agent_is slots fresh put low at_is =
         let e : Event FifoNote = event_of a (Fill (id_in a.slots h) 1 (at + 1)) None in
         let m : Event FifoNote = event_of b (Move (Next tail) null (link_to (id_in b.slots h))) (Some (Entry (Put agent job at))) in
-        let p : Puts s (e ∷ m ∷ []) c = Puts-trans s b c (e ∷ []) (m ∷ []) filled_puts put in
-        let none : t.fresh ≡ None = helped.fresh ∙ (fresh ∙ (ap (λ o. unless_node o (Some (id_in b.slots h))) filled_fresh ∙ unless_same (id_in b.slots h))) in
-        let same_slots : t.slots ≡ s.slots = helped.slots ∙ (slots ∙ filled_slots) in
-        let entry : ◌≡◌ {A = List QueueEntry} (Put agent job at ∷ []) (Put s.agent job at ∷ []) = ap (λ (x : ℕ). Put x job at ∷ []) agent_is in
-        let at_low : at < 2 ^ 62 = omega (arith, low, at_is) in
-        elim helped.either [
-          | inl moved ↦
-              let q = Puts-trans s c t (e ∷ m ∷ []) _ p moved in
-              record { puts = record { piece = record { own = _; slots = same_slots; puts = q; entries_are = entry; no_give = refl }; fresh = none; low = at_low; room = room_unseen n s t _ q refl }; low = low }
-          | inr missed ↦
-              let q = Puts-trans s c t (e ∷ m ∷ []) _ p missed.puts in
-              record { puts = record { piece = record { own = _; slots = same_slots; puts = q; entries_are = entry; no_give = refl }; fresh = none; low = at_low; room = room_unseen n s t _ q refl }; low = low }
-        ]
+        let p : Puts s (e ∷ m ∷ []) t = Puts-trans s b t (e ∷ []) (m ∷ []) filled_puts put in
+        record {
+          puts = record {
+            piece = record { own = _; slots = slots ∙ filled_slots; puts = p; entries_are = ap (λ (x : ℕ). Put x job at ∷ []) agent_is; no_give = refl };
+            fresh = fresh ∙ (ap (λ o. unless_node o (Some (id_in b.slots h))) filled_fresh ∙ unless_same (id_in b.slots h));
+            low = omega (arith, low, at_is);
+            room = room_unseen n s t _ p refl;
+          };
+          low = low;
+          link = subst (λ (i : ℕ). HasLink (heap_of n t) tail (link_to i)) (tail_same h) (put_links n b t tail (id_in b.slots h) _ put all filled_linked);
+        }
 
     -- the Put may come
     pub put_may : (th : Hold) (agent : ℕ) → tail ≡ id_in s.slots th → Known n b.seen → agent ≡ b.agent → at ≡ position_of (heap_of n s) tail → at < 2 ^ 62
@@ -133,3 +134,23 @@ module _ (n : HeapNumbers) (job at tail : ℕ) (h : Hold) (s a b : Seat FifoNote
 -- the value that was read
 pub read_position : (n : HeapNumbers) (s a : Seat FifoNote) (tail value : ℕ) → Known n a.seen → Only [] s a → IsLinkedNode (heap_of n s) tail → ReadsValue (heap_of n a) tail 1 value → value ≡ position_of (heap_of n s) tail
 read_position n s a tail value k o l r = position_read n a.seen tail value k (linked_puts n s a [] o.puts k.all tail l) r ∙ position_puts n s a [] o.puts k.all tail l
+
+-- and then the tail was swung on, or not
+pub link_helped : (n : HeapNumbers) (job tail next at : ℕ) (h : Hold) (s c t : Seat FifoNote) → AllAllowed (FifoMay n) [] t.seen → LinksJob n job tail at h s c → Helps tail next c t → LinksJob n job tail at h s t
+link_helped n job tail next at h s c t all l helped = elim helped.either [ inl moved ↦ done _ moved refl refl refl | inr missed ↦ done _ missed.puts refl refl refl ]
+  where
+    done : (own : List (Event FifoNote)) (q : Puts c own t) → entries_of own ≡ [] → gives_in own ≡ 0 → list_any (λ e. looks_at_end e.act) own ≡ false → LinksJob n job tail at h s t
+    done own q none no_give unseen =
+        let p = l.puts.piece in
+        let j = join s c t p.own own (Put s.agent job at ∷ []) p.puts q (helped.slots ∙ p.slots)
+        (entries_of-append p.own own ∙ (ap (λ z. entries_of p.own ++ z) none ∙ (append-nil (entries_of p.own) ∙ p.entries_are))) (omega (arith, gives_in-append p.own own, p.no_give, no_give)) in
+        record {
+          puts = record {
+            piece = j.piece;
+            fresh = helped.fresh ∙ l.puts.fresh;
+            low = l.puts.low;
+            room = room_join n s c t _ _ _ p.puts q j.piece.puts l.puts.room (room_unseen n c t own q unseen);
+          };
+          low = l.low;
+          link = link_puts n c t own q all tail (id_in s.slots h) l.link;
+        }

@@ -137,13 +137,14 @@ pub record NoPosition (n : HeapNumbers) (tail : ℕ) (s t : Seat FifoNote) : Typ
   pub fresh : t.fresh ≡ s.fresh
   pub none : 2 ^ 62 ≤ position_of (heap_of n s) tail
 
-pub record LinksJob (n : HeapNumbers) (job tail at : ℕ) (s t : Seat FifoNote) : Type 0 where
+pub record LinksJob (n : HeapNumbers) (job tail at : ℕ) (h : Hold) (s t : Seat FifoNote) : Type 0 where
   pub puts : PutsJob n job at s t
   pub low : position_of (heap_of n s) tail < 2 ^ 62
+  pub link : HasLink (heap_of n t) tail (link_to (id_in s.slots h))
 
 abbrev pub LinksBehind : HeapNumbers → ℕ → ℕ → Hold → Seat FifoNote → PutTurn → Seat FifoNote → Type 0
 LinksBehind n job tail h s PutOver t = LinkMissed n job tail h s t
-LinksBehind n job tail h s (PutDone at) t = LinksJob n job tail at s t
+LinksBehind n job tail h s (PutDone at) t = LinksJob n job tail at h s t
 LinksBehind n job tail h s Full t = NoPosition n tail s t
 
 -- the own events of a pass that helps, from its looks at the successor on

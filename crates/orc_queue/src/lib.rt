@@ -7,3 +7,6 @@ mod swings;
 mod take;
 
 pub use queue::Queue;
+
+#[cfg(test)]
+mod tests;

@@ -30,8 +30,8 @@ pub enum PutTurn {
     Full,
 }
 
-// Links the new node behind the last one, and swings the tail on to it.
-fn link_behind<L: Links<Rule = Fifo>>(
+// Links the new node behind the last one.
+pub(crate) fn link_node<L: Links<Rule = Fifo>>(
     links: &L,
     p: &mut L::Pass,
     node: &Held,
@@ -55,11 +55,37 @@ fn link_behind<L: Links<Rule = Fifo>>(
     let agent = links.agent(p);
     let put = FifoNote::Entry(QueueEntry::Put { agent, job, at });
     let new = Want::Node(node, false);
-    if !change(links, p, &At::Node(tail), &Want::Null(false), &new, put) {
-        return PutTurn::Over;
+    if change(links, p, &At::Node(tail), &Want::Null(false), &new, put) {
+        PutTurn::Put(at)
+    } else {
+        PutTurn::Over
     }
-    help_tail(links, p, tail, node);
-    PutTurn::Put(at)
+}
+
+// Links the new node behind the last one, and then swings the tail on to it.
+fn link_behind<L: Links<Rule = Fifo>>(
+    links: &L,
+    p: &mut L::Pass,
+    node: &Held,
+    job: u64,
+    tail: &Held,
+) -> PutTurn
+    requires pass { L.belongs links.now p.old }
+    requires made { HasDummy (L.numbers links.now) (L.opening links.now) }
+    requires node { HoldsNode (L.numbers links.now) job node.now (L.seat links.now p.old) }
+    requires tail { Holds (L.seat links.now p.old).slots tail.now }
+    requires named { WasNamed (run_heap (L.numbers links.now) (L.seat links.now p.old).seen) 1 (id_in (L.seat links.now p.old).slots tail.now) }
+    ensures pass { L.belongs links.now p.new }
+    ensures later { IsPrefix (L.journal p.old) (L.journal p.new) }
+    ensures linked { LinksBehind (L.numbers links.now) job (id_in (L.seat links.now p.old).slots tail.now) node.now (L.seat links.now p.old) result (L.seat links.now p.new) }
+{
+    match link_node(links, p, node, job, tail) {
+        PutTurn::Put(at) => {
+            help_tail(links, p, tail, node);
+            PutTurn::Put(at)
+        }
+        turn => turn,
+    }
 }
 
 // Goes on from the node that the tail named: helps the tail on, or links the new node there.

@@ -1,132 +1,33 @@
--- The tail's second value is the position; the node has the values of the Put, and is linked or not.
-use Rattle.std.proofs.Common.{Some, [], ap, arith, refl, subst, sym, ℕ, ◌∙◌, ◌∷◌}
-use Rattle.orc_heap.proofs.ByAnswer.{Swings-fresh, Swings-missed, Swings-moved}
-use Rattle.orc_heap.specs.Allowed.{IsLinkedNode}
-use Rattle.orc_heap.specs.Calls.{Misses, event_of}
-use Rattle.orc_heap.specs.Heap.{null}
-use Rattle.orc_heap.specs.Parts.{Puts}
-use Rattle.orc_heap.specs.Slots.{Slots, id_in}
-use Rattle.orc_heap.specs.declared.events.Act.TheVariants.{Move}
-use Rattle.orc_heap.specs.declared.events.Place.TheVariants.{Next}
-use Rattle.orc_history.specs.declared.queue.QueueEntry.TheVariants.{Put}
-use Rattle.orc_fifo_rule.specs.declared.fifo.FifoNote.TheVariants.{Entry}
+-- The tail is swung on once the node is linked.
+use Rattle.std.proofs.Common.{ap, subst, sym, ℕ}
+use Rattle.orc_heap.specs.Slots.{Holds, Slots, id_in}
 use Rattle.orc_fifo_rule.specs.QueueDiscipline.{HasLink, link_to}
 use Rattle.orc_queue.specs.Turns.{Helps, heap_of}
-use Rattle.orc_queue.proofs.Filled.{known}
-use Rattle.orc_queue.proofs.Linking.{filled_linked, link_made, link_missed, put_links, put_may, read_position, tail_same}
-use Rattle.orc_queue.proofs.Pieces.{missed_fresh}
+use Rattle.orc_queue.proofs.Linking.{link_helped}
 use Rattle.orc_queue.proofs.put.link_behind.Goals as goal
 
-pub returns-then-at-ge-POSITIONS-clause-linked : goal.returns-then-at-ge-POSITIONS-clause-linked
-returns-then-at-ge-POSITIONS-clause-linked g c =
-    let d = c.args.links.now in
-    let n = g.L.Links.numbers d in
-    let s = g.L.Links.seat d c.args.p.now in
-    let tail = id_in s.slots c.args.tail.now in
-    let a = g.L.Links.seat d c.value-at.new.p in
-    let read = c.value-at.ensures in
-    let kp = c.requires.pass in
-    let ks = known n (g.L.Links.opening d) s.seen c.requires.made (g.met.L.Links.opens d c.args.p.now kp) (g.met.L.Links.allowed d c.args.p.now kp) (g.met.L.Links.obeys d c.args.p.now kp) in
-    let ka = known n (g.L.Links.opening d) a.seen c.requires.made (g.met.L.Links.opens d c.value-at.new.p read.pass) (g.met.L.Links.allowed d c.value-at.new.p read.pass) (g.met.L.Links.obeys d c.value-at.new.p read.pass) in
-    let is = read_position n s a tail c.value-at.result ka read.nothing c.requires.named.linked read.value in
-    record {
-      piece = record { own = []; slots = read.nothing.slots; puts = read.nothing.puts; entries_are = refl; no_give = refl };
-      fresh = read.nothing.fresh;
-      none = omega (arith, is, c.if-at-ge-POSITIONS.true);
-    }
-
-pub change-requires-clause-allowed : goal.change-requires-clause-allowed
-change-requires-clause-allowed g c =
-    let d = c.args.links.now in
-    let n = g.L.Links.numbers d in
-    let s = g.L.Links.seat d c.args.p.now in
-    let tail = id_in s.slots c.args.tail.now in
-    let a = g.L.Links.seat d c.value-at.new.p in
-    let read = c.value-at.ensures in
-    let kp = c.requires.pass in
-    let ks = known n (g.L.Links.opening d) s.seen c.requires.made (g.met.L.Links.opens d c.args.p.now kp) (g.met.L.Links.allowed d c.args.p.now kp) (g.met.L.Links.obeys d c.args.p.now kp) in
-    let ka = known n (g.L.Links.opening d) a.seen c.requires.made (g.met.L.Links.opens d c.value-at.new.p read.pass) (g.met.L.Links.allowed d c.value-at.new.p read.pass) (g.met.L.Links.obeys d c.value-at.new.p read.pass) in
-    let is = read_position n s a tail c.value-at.result ka read.nothing c.requires.named.linked read.value in
-    let b = g.L.Links.seat d c.fill.new.p in
-    let fill = c.fill.ensures in
-    let kb = known n (g.L.Links.opening d) b.seen c.requires.made (g.met.L.Links.opens d c.fill.new.p fill.pass) (g.met.L.Links.allowed d c.fill.new.p fill.pass) (g.met.L.Links.obeys d c.fill.new.p fill.pass) in
-    let at = c.value-at.result in
-    let node = c.args.node.now in
-    put_may n c.args.job at tail node s a b ks c.requires.node c.requires.named read.nothing fill.filled ka.all kb.all c.args.tail.now c.agent-agent.result refl kb c.agent-agent.ensures is c.if-at-ge-POSITIONS.false
-
-pub returns-then-not-change-clause-linked : goal.returns-then-not-change-clause-linked
-returns-then-not-change-clause-linked g c =
-    let d = c.args.links.now in
-    let n = g.L.Links.numbers d in
-    let s = g.L.Links.seat d c.args.p.now in
-    let tail = id_in s.slots c.args.tail.now in
-    let a = g.L.Links.seat d c.value-at.new.p in
-    let read = c.value-at.ensures in
-    let kp = c.requires.pass in
-    let ks = known n (g.L.Links.opening d) s.seen c.requires.made (g.met.L.Links.opens d c.args.p.now kp) (g.met.L.Links.allowed d c.args.p.now kp) (g.met.L.Links.obeys d c.args.p.now kp) in
-    let ka = known n (g.L.Links.opening d) a.seen c.requires.made (g.met.L.Links.opens d c.value-at.new.p read.pass) (g.met.L.Links.allowed d c.value-at.new.p read.pass) (g.met.L.Links.obeys d c.value-at.new.p read.pass) in
-    let is = read_position n s a tail c.value-at.result ka read.nothing c.requires.named.linked read.value in
-    let b = g.L.Links.seat d c.fill.new.p in
-    let fill = c.fill.ensures in
-    let kb = known n (g.L.Links.opening d) b.seen c.requires.made (g.met.L.Links.opens d c.fill.new.p fill.pass) (g.met.L.Links.allowed d c.fill.new.p fill.pass) (g.met.L.Links.obeys d c.fill.new.p fill.pass) in
-    let at = c.value-at.result in
-    let node = c.args.node.now in
-    let args = tail_same n c.args.job at tail node s a b ks c.requires.node c.requires.named read.nothing fill.filled ka.all kb.all c.args.tail.now in
-    let u = g.L.Links.seat d c.change.new.p in
-    let w = c.change.ensures in
-    let all = g.met.L.Links.allowed d c.change.new.p w.pass in
-    let miss = subst (λ (i : ℕ). Misses (Next i) null b u) args (Swings-missed w.swung c.if-not-change.true) in
-    link_missed n c.args.job at tail node s a b ks c.requires.node c.requires.named read.nothing fill.filled ka.all kb.all u all w.swung.slots (missed_fresh w.swung c.if-not-change.true) miss
-    (omega (arith, is, c.if-at-ge-POSITIONS.false))
+pub help_tail-requires-clause-held : goal.help_tail-requires-clause-held
+help_tail-requires-clause-held g c =
+    let s = g.L.Links.seat c.args.links.now c.args.p.now in
+    let u = g.L.Links.seat c.args.links.now c.link_node.new.p in
+    let slots = c.in-Put.ensures.linked.puts.piece.slots in
+    (subst (λ (z : Slots). Holds z c.args.tail.now) (sym slots) c.requires.tail, subst (λ (z : Slots). Holds z c.args.node.now) (sym slots) c.requires.node.held)
 
 pub help_tail-requires-clause-successor : goal.help_tail-requires-clause-successor
 help_tail-requires-clause-successor g c =
-    let d = c.args.links.now in
-    let n = g.L.Links.numbers d in
-    let s = g.L.Links.seat d c.args.p.now in
-    let tail = id_in s.slots c.args.tail.now in
-    let a = g.L.Links.seat d c.value-at.new.p in
-    let read = c.value-at.ensures in
-    let kp = c.requires.pass in
-    let ks = known n (g.L.Links.opening d) s.seen c.requires.made (g.met.L.Links.opens d c.args.p.now kp) (g.met.L.Links.allowed d c.args.p.now kp) (g.met.L.Links.obeys d c.args.p.now kp) in
-    let ka = known n (g.L.Links.opening d) a.seen c.requires.made (g.met.L.Links.opens d c.value-at.new.p read.pass) (g.met.L.Links.allowed d c.value-at.new.p read.pass) (g.met.L.Links.obeys d c.value-at.new.p read.pass) in
-    let is = read_position n s a tail c.value-at.result ka read.nothing c.requires.named.linked read.value in
-    let b = g.L.Links.seat d c.fill.new.p in
-    let fill = c.fill.ensures in
-    let kb = known n (g.L.Links.opening d) b.seen c.requires.made (g.met.L.Links.opens d c.fill.new.p fill.pass) (g.met.L.Links.allowed d c.fill.new.p fill.pass) (g.met.L.Links.obeys d c.fill.new.p fill.pass) in
-    let at = c.value-at.result in
-    let node = c.args.node.now in
-    let args = tail_same n c.args.job at tail node s a b ks c.requires.node c.requires.named read.nothing fill.filled ka.all kb.all c.args.tail.now in
-    let u = g.L.Links.seat d c.change.new.p in
-    let w = c.change.ensures in
-    let all = g.met.L.Links.allowed d c.change.new.p w.pass in
-    let linked = subst (λ (i : ℕ). IsLinkedNode (heap_of n b) i) (sym args) (filled_linked n c.args.job at tail node s a b ks c.requires.node c.requires.named read.nothing fill.filled ka.all kb.all) in
-    let has = put_links n b u (id_in b.slots c.args.tail.now) (id_in b.slots node) _ (Swings-moved w.swung c.if-not-change.false) all linked in
-    subst (λ (z : Slots). HasLink (heap_of n u) (id_in z c.args.tail.now) (link_to (id_in z node))) (sym w.swung.slots) has
+    let n = g.L.Links.numbers c.args.links.now in
+    let u = g.L.Links.seat c.args.links.now c.link_node.new.p in
+    let l = c.in-Put.ensures.linked in
+    subst (λ (z : Slots). HasLink (heap_of n u) (id_in z c.args.tail.now) (link_to (id_in z c.args.node.now))) (sym l.puts.piece.slots) l.link
 
-pub returns-clause-linked : goal.returns-clause-linked
-returns-clause-linked g c =
+pub returns-in-Put-clause-linked : goal.returns-in-Put-clause-linked
+returns-in-Put-clause-linked g c =
     let d = c.args.links.now in
     let n = g.L.Links.numbers d in
     let s = g.L.Links.seat d c.args.p.now in
-    let tail = id_in s.slots c.args.tail.now in
-    let a = g.L.Links.seat d c.value-at.new.p in
-    let read = c.value-at.ensures in
-    let kp = c.requires.pass in
-    let ks = known n (g.L.Links.opening d) s.seen c.requires.made (g.met.L.Links.opens d c.args.p.now kp) (g.met.L.Links.allowed d c.args.p.now kp) (g.met.L.Links.obeys d c.args.p.now kp) in
-    let ka = known n (g.L.Links.opening d) a.seen c.requires.made (g.met.L.Links.opens d c.value-at.new.p read.pass) (g.met.L.Links.allowed d c.value-at.new.p read.pass) (g.met.L.Links.obeys d c.value-at.new.p read.pass) in
-    let is = read_position n s a tail c.value-at.result ka read.nothing c.requires.named.linked read.value in
-    let b = g.L.Links.seat d c.fill.new.p in
-    let fill = c.fill.ensures in
-    let kb = known n (g.L.Links.opening d) b.seen c.requires.made (g.met.L.Links.opens d c.fill.new.p fill.pass) (g.met.L.Links.allowed d c.fill.new.p fill.pass) (g.met.L.Links.obeys d c.fill.new.p fill.pass) in
-    let at = c.value-at.result in
-    let node = c.args.node.now in
-    let args = tail_same n c.args.job at tail node s a b ks c.requires.node c.requires.named read.nothing fill.filled ka.all kb.all c.args.tail.now in
-    let u = g.L.Links.seat d c.change.new.p in
-    let w = c.change.ensures in
-    let all = g.met.L.Links.allowed d c.change.new.p w.pass in
+    let u = g.L.Links.seat d c.link_node.new.p in
     let t = g.L.Links.seat d c.help_tail.new.p in
-    let moved = subst (λ (i : ℕ). Puts b (event_of b (Move (Next i) null (link_to (id_in b.slots node))) (Some (Entry (Put c.agent-agent.result c.args.job at))) ∷ []) u) args (Swings-moved w.swung c.if-not-change.false) in
-    let helped = subst (λ (i : ℕ). Helps i (id_in u.slots node) u t) (ap (λ (z : Slots). id_in z c.args.tail.now) w.swung.slots ∙ args) c.help_tail.ensures.helped in
-    link_made n c.args.job at tail node s a b ks c.requires.node c.requires.named read.nothing fill.filled ka.all kb.all u t c.agent-agent.result all
-    (c.agent-agent.ensures ∙ (fill.filled.puts.agent ∙ read.nothing.puts.agent)) w.swung.slots (Swings-fresh w.swung c.if-not-change.false) moved helped (omega (arith, is, c.if-at-ge-POSITIONS.false)) is
+    let l = c.in-Put.ensures.linked in
+    let e = c.help_tail.ensures in
+    let helped = subst (λ (z : Slots). Helps (id_in z c.args.tail.now) (id_in u.slots c.args.node.now) u t) l.puts.piece.slots e.helped in
+    link_helped n c.args.job (id_in s.slots c.args.tail.now) (id_in u.slots c.args.node.now) c.in-Put.at c.args.node.now s u t (g.met.L.Links.allowed d c.help_tail.new.p e.pass) l helped
