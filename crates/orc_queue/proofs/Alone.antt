@@ -1,0 +1,151 @@
+-- A turn in which no other agent steps: what is new are the pass's own events.
+use Rattle.std.proofs.Common.{Bool, List, Option, Some, None, [], ap, append_assoc, arith, inl, inr, refl, subst, sym, true, ℕ, ◌++◌, ◌+◌, ◌<◌, ◌∙◌, ◌∷◌, ◌≡◌, ◌≢◌, ◌≤◌, ◌⊎◌}
+use Rattle.std.proofs.lemmas.List.Elements.{filter-append}
+use Rattle.std.specs.Prelude.{◌==◌}
+use Rattle.orc_heap.proofs.OwnParts.{begins_own, moves_after_own, own_from, own_is_all}
+use Rattle.orc_heap.proofs.Parts.{filter-at}
+use Rattle.orc_heap.proofs.Runs.{run_from-append, run_heap-snoc}
+use Rattle.orc_heap.proofs.Stays.{allowed-left, allowed-right}
+use Rattle.orc_heap.specs.Acts.{heap_after}
+use Rattle.orc_heap.specs.Allowed.{AllAllowed, events_by}
+use Rattle.orc_heap.specs.Calls.{event_of}
+use Rattle.orc_heap.specs.Heap.{Heap, HeapNumbers, new_heap, null, shown}
+use Rattle.orc_heap.specs.Journals.{run_from, run_heap}
+use Rattle.orc_heap.specs.Moves.{AllOwn, from_own, moves_in}
+use Rattle.orc_heap.specs.Parts.{Puts}
+use Rattle.orc_heap.specs.Seats.{Seat}
+use Rattle.orc_heap.specs.declared.events.Act.TheVariants.{Look, Move}
+use Rattle.orc_heap.specs.declared.events.Event.{Event}
+use Rattle.orc_heap.specs.declared.events.Link.{Link}
+use Rattle.orc_heap.specs.declared.events.Place.TheVariants.{Next, Root}
+use Rattle.orc_fifo_rule.proofs.Later.{holds_later}
+use Rattle.orc_fifo_rule.specs.declared.fifo.FifoNote.{FifoNote}
+use Rattle.orc_fifo_rule.specs.declared.fifo.FifoNote.TheVariants.{Swing}
+use Rattle.orc_fifo_rule.specs.QueueDiscipline.{FifoHolds, FifoMay, HasLink, has_begun, link_to}
+use Rattle.orc_fifo_rule.specs.Kept.Events.{begun_more}
+use Rattle.orc_fifo_rule.specs.Kept.Kinds.{link_same, null_to, root_moved, root_other, some_same}
+use Rattle.orc_fifo_rule.specs.Kept.Nodes.{link_next, node_next, shown_link}
+use Rattle.orc_fifo_rule.specs.Kept.Paths.{back_one, tail_steps}
+use Rattle.orc_queue.specs.Turns.{IsOver, Piece, TailIsLast, TailIsPast, heap_of}
+use Rattle.orc_queue.proofs.Filled.{Known}
+use Rattle.orc_queue.proofs.Joins.{Join, join, own_moves_left}
+use Rattle.orc_queue.proofs.Moments.{look_found, looks_differ}
+use Rattle.orc_queue.proofs.Pieces.{new_allowed, new_is}
+
+-- from the first own event on, these are the own events
+pub alone_own : (agent : ℕ) (es own : List (Event FifoNote)) → events_by agent es ≡ own → AllOwn agent (from_own agent es) → from_own agent es ≡ own
+alone_own agent es own is alone =
+    let b = begins_own agent es in
+    sym (own_is_all agent (from_own agent es) alone)
+    ∙ (ap (λ z. z ++ events_by agent (from_own agent es)) (sym b.others)
+    ∙ (sym (filter-append (λ e. e.agent == agent) b.before (from_own agent es)) ∙ (ap (λ z. events_by agent z) (sym b.is) ∙ is)))
+
+-- so if a Move stands there, then the pass made it
+pub quiet_not_alone : (agent : ℕ) (es own : List (Event FifoNote)) → events_by agent es ≡ own → moves_in own ≡ 0 → 1 ≤ moves_in (from_own agent es) → AllOwn agent (from_own agent es) → ⊥
+quiet_not_alone agent es own is none some alone = omega (arith, none, some, ap (λ (z : List (Event FifoNote)). moves_in z) (alone_own agent es own is alone))
+
+-- a turn without a Move of the pass's own
+pub over_quiet : (n : HeapNumbers) (IsSettled : Heap → Type 0) (s t : Seat FifoNote) (p : Piece s [] t) → t.fresh ≡ s.fresh → moves_in p.own ≡ 0 → 1 ≤ moves_in (from_own s.agent p.puts.part) → IsOver n IsSettled s t
+over_quiet n IsSettled s t p fresh none some = record {
+  piece = p;
+  fresh = fresh;
+  moved = some;
+  settles = λ alone. absurd (quiet_not_alone s.agent p.puts.part p.own p.puts.own_is none some alone);
+  unsettled = λ alone settled. quiet_not_alone s.agent p.puts.part p.own p.puts.own_is none some (own_from s.agent p.puts.part alone);
+}
+
+-- what stands after a call's first event stands after an own event
+pub moves_then : (s a t : Seat FifoNote) (e : Event FifoNote) (rest ys zs : List (Event FifoNote)) (p : Puts s (e ∷ rest) a) (q : Puts a ys t) (w : Puts s zs t) → e.agent ≡ s.agent → moves_in q.part ≤ moves_in (from_own s.agent w.part)
+moves_then s a t e rest ys zs p q w own =
+    let f = filter-at (λ x. x.agent == s.agent) p.part [] e rest p.own_is in
+    let is : w.part ≡ f.before ++ e ∷ (f.later ++ q.part) = new_is s a t (e ∷ rest) ys zs w p q ∙ (ap (λ z. z ++ q.part) f.is ∙ append_assoc f.before (e ∷ f.later) q.part) in
+    rw is (omega (arith, moves_after_own s.agent f.before e (f.later ++ q.part) own, moves_more f.later q.part))
+  where
+    moves_more : (xs ys : List (Event FifoNote)) → moves_in ys ≤ moves_in (xs ++ ys)
+    moves_more [] ys = omega arith
+    moves_more (x ∷ xs) ys = omega (arith, moves_more xs ys)
+
+-- a turn from a look of a root on: the rest made no Move, or it helped
+module _ (n : HeapNumbers) (IsSettled : Heap → Type 0) (root id : ℕ) (s a t : Seat FifoNote) (k : Known n s.seen) (all_a : AllAllowed (FifoMay n) [] a.seen) (all_t : AllAllowed (FifoMay n) [] t.seen)
+    (p : Puts s (event_of s (Look (Root root) (link_to id)) None ∷ event_of s (Look (Root root) (link_to id)) None ∷ []) a) (own : List (Event FifoNote)) (q : Puts a own t)
+    (j : Join s t (event_of s (Look (Root root) (link_to id)) None ∷ event_of s (Look (Root root) (link_to id)) None ∷ own) [] p.part q.part) (fresh : t.fresh ≡ s.fresh)
+    (moved : shown (heap_of n a) (Root root) ≡ Some (link_to id) → 1 ≤ moves_in q.part)
+  where
+    moved_since : 1 ≤ moves_in (from_own s.agent j.piece.puts.part)
+    moved_since =
+        let found = look_found n s a (Root root) (link_to id) None _ p all_a tt in
+        elim found.either [
+          | inl still ↦ omega (arith, moved still, moves_then s a t _ _ _ _ p q j.piece.puts refl)
+          | inr some ↦ omega (arith, some, own_moves_left s a t _ _ _ p q j.piece.puts)
+        ]
+
+    all_own : events_by s.agent j.piece.puts.part ≡ event_of s (Look (Root root) (link_to id)) None ∷ event_of s (Look (Root root) (link_to id)) None ∷ own
+    all_own = j.piece.puts.own_is ∙ j.own_is
+
+    pub over_missed : moves_in own ≡ 0 → IsOver n IsSettled s t
+    over_missed none = over_quiet n IsSettled s t j.piece fresh (ap (λ (z : List (Event FifoNote)). moves_in z) j.own_is ∙ omega (arith, none)) moved_since
+
+    pub over_helped : ((es : List (Event FifoNote)) → FifoHolds n es → has_begun es ≡ true → AllAllowed (FifoMay n) es (event_of s (Look (Root root) (link_to id)) None ∷ event_of s (Look (Root root) (link_to id)) None ∷ own)
+        → IsSettled (run_heap n (es ++ event_of s (Look (Root root) (link_to id)) None ∷ event_of s (Look (Root root) (link_to id)) None ∷ own)))
+        → ((es : List (Event FifoNote)) → AllAllowed (FifoMay n) es (event_of s (Look (Root root) (link_to id)) None ∷ event_of s (Look (Root root) (link_to id)) None ∷ own) → IsSettled (run_heap n es) → ⊥)
+        → IsOver n IsSettled s t
+    over_helped settles unsettled =
+        let part = j.piece.puts.part in
+        let new = new_allowed n s t _ j.piece.puts all_t in
+        record {
+          piece = j.piece;
+          fresh = fresh;
+          moved = moved_since;
+          settles = λ alone.
+              let b = begins_own s.agent part in
+              let is = b.is ∙ ap (λ z. b.before ++ z) (alone_own s.agent part _ all_own alone) in
+              let whole = subst (λ z. AllAllowed (FifoMay n) s.seen z) is new in
+              let first = allowed-left (FifoMay n) s.seen b.before _ whole in
+              let there = settles (s.seen ++ b.before) (holds_later n s.seen b.before k.holds first) (begun_more s.seen b.before k.dummy.begun) (allowed-right (FifoMay n) s.seen b.before _ whole) in
+              subst (λ z. IsSettled (run_heap n z)) (append_assoc s.seen b.before _ ∙ (ap (λ z. s.seen ++ z) (sym is) ∙ sym j.piece.puts.is)) there;
+          unsettled = λ alone settled.
+              let is : part ≡ event_of s (Look (Root root) (link_to id)) None ∷ event_of s (Look (Root root) (link_to id)) None ∷ own = sym (own_is_all s.agent part alone) ∙ all_own in
+              unsettled s.seen (subst (λ z. AllAllowed (FifoMay n) s.seen z) is new) settled;
+        }
+
+-- after a Swing the tail names the last node
+pub swing_settles : (n : HeapNumbers) (es : List (Event FifoNote)) (agent tail next : ℕ) → FifoHolds n es → has_begun es ≡ true
+    → (let e : Event FifoNote = record { agent = agent; act = Move (Root 1) (link_to tail) (link_to next); note = Some Swing } in FifoMay n es e → TailIsLast (run_heap n (es ++ e ∷ [])))
+swing_settles n es agent tail next holds begun may =
+    let e : Event FifoNote = record { agent = agent; act = Move (Root 1) (link_to tail) (link_to next); note = Some Swing } in
+    let h = run_heap n es in
+    let run = holds.running begun in
+    let steps = may.may_act.steps in
+    let next_is : steps.next ≡ next = link_same steps.next next (sym steps.to_is) in
+    let (same, has) = tail_steps h es run 1 (link_to tail) (link_to next) steps refl may.fits.0 in
+    let successor : shown h (Next run.tail) ≡ Some (link_to next) = subst (λ (x : ℕ). shown h (Next run.tail) ≡ Some (link_to x)) next_is (subst (λ (x : ℕ). shown h (Next x) ≡ Some (link_to steps.next)) same steps.successor) in
+    let (put, back_is, link, put_node, is_last) = back_one es h run.tail run.last run.back next run.to_last run.ends run.short successor in
+    let ends = link_next n es e run.last null may run.ends in
+    record {
+      last = next;
+      tail_is = rw (run_heap-snoc n es e) (root_moved agent 1 (link_to tail) (link_to next) h may.fits.0);
+      ends = subst (λ (x : ℕ). shown (run_heap n (es ++ e ∷ [])) (Next x) ≡ Some null) (sym is_last) (shown_link (run_heap n (es ++ e ∷ [])) run.last null ends);
+    }
+
+-- and it names another node than before
+pub swing_past : (n : HeapNumbers) (es : List (Event FifoNote)) (agent head next : ℕ) → FifoHolds n es → has_begun es ≡ true → shown (run_heap n es) (Root 0) ≡ Some (link_to head)
+    → (let e : Event FifoNote = record { agent = agent; act = Move (Root 1) (link_to head) (link_to next); note = Some Swing } in FifoMay n es e → TailIsPast (run_heap n (es ++ e ∷ [])))
+swing_past n es agent head next holds begun at may =
+    let e : Event FifoNote = record { agent = agent; act = Move (Root 1) (link_to head) (link_to next); note = Some Swing } in
+    let h = run_heap n es in
+    let last = swing_settles n es agent head next holds begun may in
+    let g = run_heap n (es ++ e ∷ []) in
+    let tail_is : shown g (Root 1) ≡ Some (link_to next) = rw (run_heap-snoc n es e) (root_moved agent 1 (link_to head) (link_to next) h may.fits.0) in
+    let steps = may.may_act.steps in
+    let (same, has) = tail_steps h es (holds.running begun) 1 (link_to head) (link_to next) steps refl may.fits.0 in
+    let leads : HasLink g head (link_to steps.next) =
+    node_next n es e head steps.next may (subst (λ (x : ℕ). HasLink h x (link_to steps.next)) (link_same steps.id head (sym steps.from_is)) has) in
+    let ends : shown g (Next next) ≡ Some null = subst (λ (x : ℕ). shown g (Next x) ≡ Some null) (link_same last.last next (some_same (sym last.tail_is ∙ tail_is))) last.ends in
+    record {
+      head = head;
+      head_is = rw (run_heap-snoc n es e) (root_other agent 1 0 (link_to head) (link_to next) h (λ x. omega (arith, x)) ∙ at);
+      tail_apart = λ circle.
+          let is : next ≡ head = link_same next head (some_same (sym tail_is ∙ circle)) in
+          let both : shown g (Next head) ≡ Some null = subst (λ (x : ℕ). shown g (Next x) ≡ Some null) is ends in
+          null_to steps.next (some_same (sym both ∙ shown_link g head (link_to steps.next) leads));
+    }

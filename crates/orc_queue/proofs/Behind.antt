@@ -1,0 +1,185 @@
+-- A put, from the node on that the tail named.
+use Rattle.std.proofs.Common.{Bool, List, Option, Some, None, [], ap, append-nil, arith, cond, false, inl, inr, refl, subst, sym, true, ℕ, ◌++◌, ◌+◌, ◌<◌, ◌^◌, ◌∙◌, ◌∷◌, ◌≡◌, ◌≢◌, ◌≤◌, ◌⊎◌}
+use Rattle.std.proofs.lemmas.Bool.{eqb-true, ne_eqb}
+use Rattle.std.specs.List.{list_any, slice_get}
+use Rattle.orc_heap.proofs.Fresh.{touched_by}
+use Rattle.orc_heap.proofs.OwnParts.{moves_from_own}
+use Rattle.orc_heap.proofs.Parts.{Puts-trans}
+use Rattle.orc_heap.specs.Allowed.{AllAllowed, IsLinkedNode, events_by}
+use Rattle.orc_heap.specs.Calls.{Misses, Releases, event_of, given_node}
+use Rattle.orc_heap.specs.Heap.{HeapNumbers, Node, null, shown}
+use Rattle.orc_heap.specs.Journals.{points_to}
+use Rattle.orc_heap.specs.Moves.{gives_in, moves_in}
+use Rattle.orc_heap.specs.Parts.{Only, Puts}
+use Rattle.orc_heap.specs.Seats.{IsUntouched, Seat}
+use Rattle.orc_heap.specs.Slots.{Hold, id_in}
+use Rattle.orc_heap.specs.declared.events.Act.TheVariants.{Look, Miss, Move}
+use Rattle.orc_heap.specs.declared.events.Event.{Event}
+use Rattle.orc_heap.specs.declared.events.Link.{Link}
+use Rattle.orc_heap.specs.declared.events.Place.TheVariants.{Next, Root}
+use Rattle.orc_history.specs.declared.queue.QueueEntry.{QueueEntry}
+use Rattle.orc_history.specs.declared.queue.QueueEntry.TheVariants.{Put}
+use Rattle.orc_fifo_rule.proofs.Reading.{successor_job}
+use Rattle.orc_fifo_rule.specs.declared.fifo.FifoNote.{FifoNote}
+use Rattle.orc_fifo_rule.specs.declared.fifo.FifoNote.TheVariants.{Swing}
+use Rattle.orc_fifo_rule.specs.QueueDiscipline.{FifoMay, HasLink, entries_of, link_to, position_of}
+use Rattle.orc_fifo_rule.specs.Watches.{WasNamed}
+use Rattle.orc_fifo_rule.specs.Kept.Paths.{successor_linked}
+use Rattle.orc_queue.specs.declared.put.PutTurn.{PutTurn}
+use Rattle.orc_queue.specs.declared.put.PutTurn.TheVariants.{Full, Over as PutOver, Put as PutDone}
+use Rattle.orc_queue.specs.Turns.{FindsFull, Helps, HelpsBehind, HoldsNode, IsFull, LinksBehind, Piece, PutsBehind, PutsJob, Stops, TurnMissed, heap_of}
+use Rattle.orc_queue.proofs.Filled.{Known}
+use Rattle.orc_queue.proofs.Joins.{Join, full_join_left, join, moves_left, moves_right, one_part, puts_released, room_join}
+use Rattle.orc_queue.proofs.Looking.{next_found}
+use Rattle.orc_queue.proofs.Moments.{look_found, looks_differ, miss_moved, moves_own}
+use Rattle.orc_queue.proofs.Pieces.{linked_not_fresh, linked_puts, new_allowed, node_puts, position_puts}
+use Rattle.orc_queue.proofs.Room.{full_at, room_at}
+
+-- a node with a successor has a low position
+pub low_where_linked : (n : HeapNumbers) (s : Seat FifoNote) (id next : ℕ) → Known n s.seen → HasLink (heap_of n s) id (link_to next) → position_of (heap_of n s) id < 2 ^ 62
+low_where_linked n s id next k l = let (job, j) = successor_job n s.seen id next k.holds l in j.holds.low
+
+-- the node that was seen behind it isn't the fresh one
+pub fresh_apart : (n : HeapNumbers) (job next : ℕ) (h : Hold) (s a : Seat FifoNote) → HoldsNode n job h s → a.fresh ≡ s.fresh
+    → ((i : ℕ) → a.fresh ≡ Some i → IsUntouched a.agent (heap_of n a) i) → IsLinkedNode (heap_of n a) next → next ≢ id_in s.slots h
+fresh_apart n job next h s a node fresh untouched linked = λ e. linked_not_fresh n a next untouched linked (fresh ∙ (node.fresh ∙ ap (λ (i : ℕ). Some i) (sym e)))
+
+-- over the help of the tail
+pub linked_helped : (n : HeapNumbers) (a b : Seat FifoNote) (tail next : ℕ) → Helps tail next a b → AllAllowed (FifoMay n) [] b.seen → (id : ℕ) → IsLinkedNode (heap_of n a) id → IsLinkedNode (heap_of n b) id
+linked_helped n a b tail next helped all id l = elim helped.either [ inl p ↦ linked_puts n a b _ p all id l | inr m ↦ linked_puts n a b _ m.puts all id l ]
+
+-- the link was null
+module _ (n : HeapNumbers) (job tail : ℕ) (h : Hold) (s a t : Seat FifoNote) (k : Known n s.seen) (named : WasNamed (heap_of n s) 1 tail) (slots : a.slots ≡ s.slots) (fresh : a.fresh ≡ s.fresh)
+    (p : Puts s (event_of s (Look (Next tail) null) None ∷ []) a) (all_a : AllAllowed (FifoMay n) [] a.seen) (all_t : AllAllowed (FifoMay n) [] t.seen)
+  where
+    -- the node is as it was
+    pub node_seen : HoldsNode n job h s → HoldsNode n job h a
+    node_seen node = node_puts n s a _ p all_a job h node.second k node slots fresh refl refl
+
+    room_first : position_of (heap_of n a) tail < 2 ^ 62 → FindsFull n s.agent s.seen p.part → ⊥
+    room_first low = room_at n s a _ tail p k (new_allowed n s a _ p all_a) named ((λ e. (null, refl)), tt) (omega (arith, low, position_puts n s a _ p all_a tail named.linked))
+
+    pub behind_null : (turn : PutTurn) → LinksBehind n job tail h a turn t → PutsBehind n job tail h s turn t
+    behind_null PutOver l =
+        let q = l.stops.piece in
+        let j = join s a t (event_of s (Look (Next tail) null) None ∷ []) q.own [] p q.puts (q.slots ∙ slots) q.entries_are (omega (arith, q.no_give)) in
+        let found = look_found n s a (Next tail) null None [] p all_a named.linked in
+        record {
+          stops = record {
+            piece = j.piece;
+            fresh = l.stops.fresh ∙ fresh;
+            moved = λ at. elim found.either [
+              | inl still ↦ omega (arith, l.stops.moved still, moves_right s a t _ _ _ p q.puts j.piece.puts)
+              | inr some ↦ omega (arith, some, moves_from_own s.agent p.part, moves_left s a t _ _ _ p q.puts j.piece.puts)
+            ];
+            own_moves = inl (ap (λ (z : List (Event FifoNote)). moves_in z) j.own_is ∙ elim l.stops.own_moves [ inl none ↦ omega (arith, none) | inr bad ↦ absurd bad ]);
+          };
+          room = room_join n s a t _ _ _ p q.puts j.piece.puts (room_first l.low) l.room;
+          node = l.node;
+        }
+    behind_null (PutDone at) l =
+        let q = l.puts.piece in
+        let entries : entries_of q.own ≡ Put s.agent job at ∷ [] = q.entries_are ∙ ap (λ (x : ℕ). Put x job at ∷ []) p.agent in
+        let j = join s a t (event_of s (Look (Next tail) null) None ∷ []) q.own (Put s.agent job at ∷ []) p q.puts (q.slots ∙ slots) entries (omega (arith, q.no_give)) in
+        record {
+          piece = j.piece;
+          fresh = l.puts.fresh;
+          low = l.puts.low;
+          room = room_join n s a t _ _ _ p q.puts j.piece.puts (room_first l.low) l.puts.room;
+        }
+    behind_null Full l =
+        let q = l.piece in
+        let j = join s a t (event_of s (Look (Next tail) null) None ∷ []) q.own [] p q.puts (q.slots ∙ slots) q.entries_are (omega (arith, q.no_give)) in
+        record {
+          piece = j.piece;
+          fresh = l.fresh ∙ fresh;
+          full = full_join_left n s a t _ _ _ p q.puts j.piece.puts (full_at n s a tail [] p k all_a named (omega (arith, l.none, position_puts n s a _ p all_a tail named.linked)));
+        }
+
+-- the link led to a node: the tail was helped on
+module _ (n : HeapNumbers) (job tail next : ℕ) (h : Hold) (s a b t : Seat FifoNote) (k : Known n s.seen) (ka : Known n a.seen) (named : WasNamed (heap_of n s) 1 tail) (node : HoldsNode n job h s)
+    (p : Puts s (event_of s (Look (Next tail) (link_to next)) None ∷ event_of s (Look (Next tail) (link_to next)) None ∷ []) a) (has : HasLink (heap_of n a) tail (link_to next))
+    (helped : Helps tail next a b) (freed : Puts b [] t) (slots : t.slots ≡ s.slots) (fresh : t.fresh ≡ s.fresh) (all : AllAllowed (FifoMay n) [] t.seen) (other : next ≢ id_in s.slots h)
+  where
+    low : position_of (heap_of n s) tail < 2 ^ 62
+    low = omega (arith, low_where_linked n a tail next ka has, position_puts n s a _ p ka.all tail named.linked)
+
+    not_end : {A : Type 0} → false ≡ true → A
+    not_end e = absurd (cc)
+
+    pub behind_held : TurnMissed n job tail h s t
+    behind_held = elim helped.either [
+      | inl moved ↦
+          let act = Move (Root 1) (link_to tail) (link_to next) in
+          let move : Event FifoNote = event_of s act (Some Swing) in
+          let q : Puts a (move ∷ []) t = subst (λ (x : ℕ). Puts a (record { agent = x; act = act; note = Some Swing } ∷ []) t) p.agent (puts_released a b t _ moved freed) in
+          let first : Event FifoNote = event_of s (Look (Next tail) (link_to next)) None in
+          let j = join s a t (first ∷ first ∷ []) (move ∷ []) [] p q slots refl refl in
+          let w : Puts s (first ∷ first ∷ move ∷ []) t = Puts-trans s a t (first ∷ first ∷ []) (move ∷ []) p q in
+          let some : 1 ≤ moves_in w.part = omega (arith, moves_own s.agent w.part, ap (λ (z : List (Event FifoNote)). moves_in z) w.own_is) in
+          record {
+            stops = record {
+              piece = j.piece;
+              fresh = fresh;
+              moved = λ at. subst (λ z. 1 ≤ moves_in z) (one_part s t _ _ w j.piece.puts) some;
+              own_moves = inr (next, j.own_is);
+            };
+            room = subst (λ z. FindsFull n s.agent s.seen z → ⊥) (one_part s t _ _ w j.piece.puts)
+                (room_at n s t _ tail w k (new_allowed n s t _ w all) named ((λ e. not_end e), ((λ e. not_end e), ((λ e. not_end e), tt))) low);
+            node = node_puts n s t _ w all job h node.second k node slots fresh (rw (ne_eqb next (id_in s.slots h) other) refl) (rw (ne_eqb next (id_in s.slots h) other) refl);
+          }
+      | inr missed ↦
+          let miss : Event FifoNote = event_of a (Miss (Root 1) (link_to tail) missed.found) None in
+          let q : Puts a (miss ∷ []) t = puts_released a b t _ missed.puts freed in
+          let first : Event FifoNote = event_of s (Look (Next tail) (link_to next)) None in
+          let j = join s a t (first ∷ first ∷ []) (miss ∷ []) [] p q slots refl refl in
+          let w : Puts s (first ∷ first ∷ miss ∷ []) t = Puts-trans s a t (first ∷ first ∷ []) (miss ∷ []) p q in
+          record {
+            stops = record {
+              piece = j.piece;
+              fresh = fresh;
+              moved = λ at. subst (λ z. 1 ≤ moves_in z) (one_part s t _ _ w j.piece.puts) (miss_moved n s t (Root 1) (link_to tail) missed.found (first ∷ first ∷ []) miss [] w refl all tt missed.other at);
+              own_moves = inl (ap (λ (z : List (Event FifoNote)). moves_in z) j.own_is);
+            };
+            room = subst (λ z. FindsFull n s.agent s.seen z → ⊥) (one_part s t _ _ w j.piece.puts)
+                (room_at n s t _ tail w k (new_allowed n s t _ w all) named ((λ e. not_end e), ((λ e. not_end e), ((λ e. not_end e), tt))) low);
+            node = node_puts n s t _ w all job h node.second k node slots fresh refl refl;
+          }
+    ]
+
+-- the link moved between two looks
+pub behind_moved : (n : HeapNumbers) (job tail : ℕ) (h : Hold) (s t : Seat FifoNote) (one two : Link) → Known n s.seen → Known n t.seen → WasNamed (heap_of n s) 1 tail → HoldsNode n job h s → one ≢ two
+    → t.slots ≡ s.slots → t.fresh ≡ s.fresh → Puts s (event_of s (Look (Next tail) one) None ∷ event_of s (Look (Next tail) two) None ∷ []) t → TurnMissed n job tail h s t
+behind_moved n job tail h s t one two k kt named node other slots fresh p = record {
+  stops = record {
+    piece = record { own = _; slots = slots; puts = p; entries_are = refl; no_give = refl };
+    fresh = fresh;
+    moved = λ at. omega (arith, moves_from_own s.agent p.part, looks_differ n s t (Next tail) one two p kt.all named.linked other);
+    own_moves = inl refl;
+  };
+  room = room_at n s t _ tail p k (new_allowed n s t _ p kt.all) named ((λ e. (one, refl)), ((λ e. (two, refl)), tt)) low;
+  node = node_puts n s t _ p kt.all job h node.second k node slots fresh refl refl;
+}
+  where
+    has_next : (next : ℕ) × HasLink (heap_of n t) tail (link_to next)
+    has_next =
+        let first = next_found n s t tail one [] _ k named.linked p kt.all in
+        let second = next_found n s t tail two (event_of s (Look (Next tail) one) None ∷ []) [] k named.linked p kt.all in
+        elim first.either [
+          | inr some ↦ (some.0, some.2)
+          | inl none ↦ elim second.either [ inr some ↦ (some.0, some.2) | inl no_link ↦ absurd (other (none ∙ sym no_link)) ]
+        ]
+
+    low : position_of (heap_of n s) tail < 2 ^ 62
+    low = omega (arith, low_where_linked n t tail has_next.0 kt has_next.1, position_puts n s t _ p kt.all tail named.linked)
+
+-- what the pass holds after it
+pub record BehindPiece (s t : Seat FifoNote) : Type 0 where
+  pub own : List (Event FifoNote)
+  pub slots : t.slots ≡ s.slots
+  pub puts : Puts s own t
+
+pub behind_piece : (n : HeapNumbers) (job tail : ℕ) (h : Hold) (s t : Seat FifoNote) (turn : PutTurn) → PutsBehind n job tail h s turn t → BehindPiece s t
+behind_piece n job tail h s t PutOver l = record { own = l.stops.piece.own; slots = l.stops.piece.slots; puts = l.stops.piece.puts }
+behind_piece n job tail h s t (PutDone at) l = record { own = l.piece.own; slots = l.piece.slots; puts = l.piece.puts }
+behind_piece n job tail h s t Full l = record { own = l.piece.own; slots = l.piece.slots; puts = l.piece.puts }

@@ -1,0 +1,226 @@
+-- From what a call did to its clauses on journals.
+use Rattle.std.proofs.Common.{Bool, List, Ok, Err, Option, Result, [], ap, append_assoc, arith, drop, inl, inr, length, refl, subst, sym, take, true, ℕ, ◌++◌, ◌+◌, ◌<◌, ◌==◌, ◌^◌, ◌∙◌, ◌∷◌, ◌≡◌, ◌≢◌, ◌≤◌, ◌⊎◌}
+use Rattle.std.proofs.lemmas.List.{length-append}
+use Rattle.std.proofs.lemmas.List.Elements.{filter-append}
+use Rattle.std.proofs.Math.Seq.{drop-append_seam, take-length}
+use Rattle.std.specs.List.{list_all}
+use Rattle.std.specs.Prelude.{IfErr, IfOk, IsErr, ◌↔◌}
+use mathlib.Core.List.{IsPrefix}
+use Rattle.orc_heap.proofs.Moved.{moves_in-append}
+use Rattle.orc_heap.proofs.OwnParts.{from_own-others, moves_from_own, own_from}
+use Rattle.orc_heap.proofs.Steps.{events_grow, part_bounds, part_events}
+use Rattle.orc_heap.proofs.Stays.{allowed-right}
+use Rattle.orc_heap.specs.Allowed.{AllAllowed, events_by}
+use Rattle.orc_heap.specs.Heap.{HeapNumbers}
+use Rattle.orc_heap.specs.Journals.{run_heap}
+use Rattle.orc_heap.specs.Moves.{AllOwn, from_own, gives_in, moves_in}
+use Rattle.orc_heap.specs.Parts.{InPart, IsBelow, part_begin}
+use Rattle.orc_heap.specs.Seats.{IsIdle, Seat}
+use Rattle.orc_heap.specs.declared.events.Event.{Event}
+use Rattle.orc_history.specs.Journals.{Adds, Every, Learns as HistoryLearns, Within, own_of}
+use Rattle.orc_history.specs.QueueHistory.{agent_of_entry, entry_of_dequeue, puts_in}
+use Rattle.orc_history.specs.declared.queue.QueueEntry.{QueueEntry}
+use Rattle.orc_history.specs.declared.queue.QueueEntry.TheVariants.{Put}
+use Rattle.orc_history.specs.declared.queue.QueueRefused.{QueueRefused}
+use Rattle.orc_history.specs.declared.queue.QueueRefused.TheVariants.{Again, NoNode, Positions}
+use Rattle.orc_fault.specs.declared.Again.{Again as AgainFault}
+use Rattle.orc_fifo_rule.proofs.OwnEntries.{entries_added, own_of_events}
+use Rattle.orc_fifo_rule.specs.declared.fifo.FifoNote.{FifoNote}
+use Rattle.orc_fifo_rule.specs.QueueDiscipline.{FifoMay, entries_of, position_of}
+use Rattle.orc_queue.specs.Answers.{CallFindsFull, IsCall, PutAnswers, PutTired, TakeAnswers, Tires}
+use Rattle.orc_queue.specs.Causes.{Cause, LacksPosition, UsesTurns}
+use Rattle.orc_queue.specs.Turns.{FindsFull, HasDummy, heap_of}
+use Rattle.orc_queue.specs.Laws.{first_stays}
+use Rattle.orc_queue.proofs.Filled.{Known}
+use Rattle.orc_queue.proofs.Pieces.{gives_in-append, new_allowed}
+use Rattle.orc_queue.proofs.Room.{full_puts}
+
+below_right : (agents : ℕ) (es fs : List (Event FifoNote)) → IsBelow agents (es ++ fs) → IsBelow agents fs
+below_right agents [] fs b = b
+below_right agents (e ∷ es) fs b = below_right agents es fs b.1
+
+of_crowd : (agent agents : ℕ) (es : List (Event FifoNote)) → IsBelow agents es → Every (λ (e : Event FifoNote). (e.agent ≡ agent) ⊎ (e.agent < agents)) es
+of_crowd agent agents [] b = tt
+of_crowd agent agents (e ∷ es) b = (inr b.0, of_crowd agent agents es b.1)
+
+-- the answer and the Look at the end
+finds_full : (n : HeapNumbers) (most : ℕ) (s t : Seat FifoNote) (es : List QueueEntry) (c : IsCall most s es t) → FindsFull n s.agent s.seen c.puts.part → CallFindsFull n s t
+finds_full n most s t es c f = subst (λ z. FindsFull n s.agent s.seen z) (sym (ap (λ z. drop (length s.seen) z) c.puts.is ∙ drop-append_seam s.seen c.puts.part)) f
+
+has_room : (n : HeapNumbers) (most : ℕ) (s t : Seat FifoNote) (es : List QueueEntry) (c : IsCall most s es t) → (FindsFull n s.agent s.seen c.puts.part → ⊥) → CallFindsFull n s t → ⊥
+has_room n most s t es c room f = room (subst (λ z. FindsFull n s.agent s.seen z) (ap (λ z. drop (length s.seen) z) c.puts.is ∙ drop-append_seam s.seen c.puts.part) f)
+
+pub put_positions : (n : HeapNumbers) (job turns : ℕ) (s t : Seat FifoNote) (r : Result ℕ QueueRefused) → PutAnswers n job turns s r t → (r ≡ Err Positions) ↔ CallFindsFull n s t
+put_positions n job turns s t (Ok at) l = ((λ e. cc), (λ f. absurd (has_room n 1 s t _ l.call l.room f)))
+put_positions n job turns s t (Err Again) l = ((λ e. cc), (λ f. absurd (has_room n 1 s t _ l.tires.call l.room f)))
+put_positions n job turns s t (Err NoNode) l = ((λ e. cc), (λ f. absurd (has_room n 1 s t _ l.call l.room f)))
+put_positions n job turns s t (Err Positions) l = ((λ e. finds_full n 1 s t _ l.call l.full), (λ f. refl))
+
+pub put_no_turns : (n : HeapNumbers) (job turns : ℕ) (s t : Seat FifoNote) (r : Result ℕ QueueRefused) → PutAnswers n job turns s r t → turns ≡ 0 → r ≡ Err Again
+put_no_turns n job turns s t (Ok at) l none = absurd (l.some_turn none)
+put_no_turns n job turns s t (Err Again) l none = refl
+put_no_turns n job turns s t (Err NoNode) l none = absurd (l.some_turn none)
+put_no_turns n job turns s t (Err Positions) l none = absurd (l.some_turn none)
+
+pub put_some_turn : (n : HeapNumbers) (job turns : ℕ) (s t : Seat FifoNote) (r : Result ℕ QueueRefused) → PutAnswers n job turns s r t → r ≡ Err NoNode → turns ≢ 0
+put_some_turn n job turns s t (Ok at) l is = l.some_turn
+put_some_turn n job turns s t (Err Again) l is = cc
+put_some_turn n job turns s t (Err NoNode) l is = l.some_turn
+put_some_turn n job turns s t (Err Positions) l is = l.some_turn
+
+-- a call of either kind
+pub record AnyCall (most : ℕ) (s t : Seat FifoNote) : Type 0 where
+  pub entries : List QueueEntry
+  pub call : IsCall most s entries t
+
+pub put_any : (n : HeapNumbers) (job turns : ℕ) (s t : Seat FifoNote) (r : Result ℕ QueueRefused) → PutAnswers n job turns s r t → AnyCall 1 s t
+put_any n job turns s t (Ok at) l = record { entries = _; call = l.call }
+put_any n job turns s t (Err Again) l = record { entries = _; call = l.tires.call }
+put_any n job turns s t (Err NoNode) l = record { entries = _; call = l.call }
+put_any n job turns s t (Err Positions) l = record { entries = _; call = l.call }
+
+pub take_any : (turns : ℕ) (s t : Seat FifoNote) (r : Result (Option (ℕ × ℕ)) AgainFault) → TakeAnswers turns s r t → AnyCall 0 s t
+take_any turns s t (Ok got) l = record { entries = _; call = l.call }
+take_any turns s t (Err again) l = record { entries = _; call = l.call }
+
+pub any_gives : (most : ℕ) (s t : Seat FifoNote) → AnyCall most s t → gives_in (events_by s.agent t.seen) ≤ gives_in (events_by s.agent s.seen) + most
+any_gives most s t a =
+    let p = a.call.puts in
+    let split : events_by s.agent t.seen ≡ events_by s.agent s.seen ++ a.call.own =
+    ap (λ z. events_by s.agent z) p.is ∙ (filter-append (λ e. e.agent == s.agent) s.seen p.part ∙ ap (λ z. events_by s.agent s.seen ++ z) p.own_is) in
+    rw split (omega (arith, gives_in-append (events_by s.agent s.seen) a.call.own, a.call.gives))
+
+-- over the journals of a domain
+module _ {S : Type 0} (n : HeapNumbers) (agents : ℕ) (agent_of : S → ℕ) (events : List S → List (Event FifoNote))
+    (adds : (j : List S) (x : S) → (es : List (Event FifoNote)) × (events (j ++ x ∷ []) ≡ events j ++ es) × (list_all (λ e. e.agent == agent_of x) es ≡ true))
+    (s t : Seat FifoNote) (j k : List S) (grows : IsPrefix j k) (is_s : s.seen ≡ events j) (is_t : t.seen ≡ events k) (all : AllAllowed (FifoMay n) [] t.seen) (below : IsBelow agents t.seen)
+  where
+    -- the entries
+    pub call_adds : (most : ℕ) (es : List QueueEntry) → IsCall most s es t → Adds agent_of_entry (λ (a : ℕ). a < agents) s.agent (entries_of (events j)) es (entries_of (events k))
+    call_adds most es c =
+        let p = c.puts in
+        let others = of_crowd s.agent agents p.part (below_right agents s.seen p.part (subst (λ z. IsBelow agents z) p.is below)) in
+        let a = entries_added n (λ (x : ℕ). x < agents) s.agent s.seen p.part (new_allowed n s t c.own p all) others in
+        let own : entries_of (events_by s.agent p.part) ≡ es = ap entries_of p.own_is ∙ c.entries_are in
+        subst (λ z. Adds agent_of_entry (λ (x : ℕ). x < agents) s.agent (entries_of (events j)) es (entries_of z)) (sym p.is ∙ is_t)
+        (subst (λ z. Adds agent_of_entry (λ (x : ℕ). x < agents) s.agent (entries_of z) es (entries_of (s.seen ++ p.part))) is_s
+        (subst (λ z. Adds agent_of_entry (λ (x : ℕ). x < agents) s.agent (entries_of s.seen) z (entries_of (s.seen ++ p.part))) own a))
+
+    pub put_ok : (job turns : ℕ) (r : Result ℕ QueueRefused) → PutAnswers n job turns s r t
+        → IfOk r (λ at. Adds agent_of_entry (λ (a : ℕ). a < agents) s.agent (entries_of (events j)) (Put s.agent job at ∷ []) (entries_of (events k)))
+    put_ok job turns (Ok at) l = call_adds 1 (Put s.agent job at ∷ []) l.call
+    put_ok job turns (Err why) l = tt
+
+    pub put_err : (job turns : ℕ) (r : Result ℕ QueueRefused) → PutAnswers n job turns s r t
+        → IfErr r (λ e. Adds agent_of_entry (λ (a : ℕ). a < agents) s.agent (entries_of (events j)) [] (entries_of (events k)))
+    put_err job turns (Ok at) l = tt
+    put_err job turns (Err Again) l = call_adds 1 [] l.tires.call
+    put_err job turns (Err NoNode) l = call_adds 1 [] l.call
+    put_err job turns (Err Positions) l = call_adds 1 [] l.call
+
+    pub take_ok : (turns : ℕ) (r : Result (Option (ℕ × ℕ)) AgainFault) → TakeAnswers turns s r t
+        → IfOk r (λ got. Adds agent_of_entry (λ (a : ℕ). a < agents) s.agent (entries_of (events j)) (entry_of_dequeue s.agent got ∷ []) (entries_of (events k)))
+    take_ok turns (Ok got) l = call_adds 0 (entry_of_dequeue s.agent got ∷ []) l.call
+    take_ok turns (Err again) l = tt
+
+    pub take_err : (turns : ℕ) (r : Result (Option (ℕ × ℕ)) AgainFault) → TakeAnswers turns s r t
+        → IfErr r (λ e. Adds agent_of_entry (λ (a : ℕ). a < agents) s.agent (entries_of (events j)) [] (entries_of (events k)))
+    take_err turns (Ok got) l = tt
+    take_err turns (Err again) l = call_adds 0 [] l.call
+
+    -- all turns were used
+    pub turns_used : (most turns : ℕ) → Tires most turns s t → InPart agent_of s.agent j k (λ from to. UsesTurns agent_of events s.agent turns k from to)
+    turns_used most turns l =
+        let p = l.call.puts in
+        let new : events k ≡ events j ++ p.part = sym is_t ∙ (p.is ∙ ap (λ z. z ++ p.part) is_s) in
+        let e = part_events agent_of events adds s.agent j k p.part grows new in
+        let bounds = part_bounds agent_of s.agent j k grows in
+        let own : from_own s.agent p.part ≡ from_own s.agent e.part = ap (λ z. from_own s.agent z) e.is ∙ from_own-others s.agent e.gap e.part e.others in
+        let moved : turns ≤ moves_in (from_own s.agent e.part) = subst (λ z. turns ≤ moves_in z) own l.moved in
+        let whole : events (take (length k) k) ≡ (events j ++ e.gap) ++ e.part = ap events (take-length k) ∙ (new ∙ (ap (λ z. events j ++ z) e.is ∙ sym (append_assoc (events j) e.gap e.part))) in
+        record {
+          in_order = bounds.1;
+          in_journal = omega arith;
+          moves = rw (e.begin_events, whole) (omega (arith, moved, moves_from_own s.agent e.part, moves_in-append (events j ++ e.gap) e.part));
+          not_alone = λ two alone.
+              let part = e.alone (subst (λ z. list_all (λ (x : S). agent_of x == s.agent) (drop (part_begin agent_of s.agent j k) z) ≡ true) (take-length k) alone) in
+              l.busy two (subst (λ z. AllOwn s.agent z) (sym own) (own_from s.agent e.part part));
+        }
+
+    pub put_again : (job turns : ℕ) (r : Result ℕ QueueRefused) → PutAnswers n job turns s r t → r ≡ Err Again → InPart agent_of s.agent j k (λ from to. UsesTurns agent_of events s.agent turns k from to)
+    put_again job turns (Ok at) l is = cc
+    put_again job turns (Err Again) l is = turns_used 1 turns l.tires
+    put_again job turns (Err NoNode) l is = cc
+    put_again job turns (Err Positions) l is = cc
+
+    pub take_again : (turns : ℕ) (r : Result (Option (ℕ × ℕ)) AgainFault) → TakeAnswers turns s r t → IfErr r (λ e. InPart agent_of s.agent j k (λ from to. UsesTurns agent_of events s.agent turns k from to))
+    take_again turns (Ok got) l = tt
+    take_again turns (Err again) l = turns_used 0 turns l
+
+    -- the end of the queue was found where no position was left
+    full_lacks : (turns : ℕ) (opening : List (Event FifoNote)) → HasDummy n opening → IsPrefix opening t.seen → Known n s.seen → turns ≢ 0 → CallFindsFull n s t
+        → LacksPosition events (position_of (run_heap n opening) 0) turns k (length k)
+    full_lacks turns opening made begins known some full =
+        let (more, is) = grows in
+        let (new, there) = events_grow agent_of events adds j more in
+        let seen : t.seen ≡ s.seen ++ new = is_t ∙ (ap events (sym is) ∙ (sym there ∙ ap (λ z. z ++ new) (sym is_s))) in
+        let allowed = allowed-right (FifoMay n) [] s.seen new (subst (λ z. AllAllowed (FifoMay n) [] z) seen all) in
+        let found : FindsFull n s.agent s.seen new = subst (λ z. FindsFull n s.agent s.seen z) (ap (λ z. drop (length s.seen) z) seen ∙ drop-append_seam s.seen new) full in
+        let high = subst (λ z. 2 ^ 62 ≤ position_of (run_heap n z) 0 + puts_in (entries_of z)) (sym seen) (full_puts n s.agent s.seen new known.holds known.dummy.begun allowed found) in
+        record {
+          some_turn = some;
+          in_journal = omega arith;
+          full = rw (take-length k, sym is_t, sym (first_stays n opening t.seen made begins all)) high;
+        }
+
+    -- the licence of a refusal, from the clauses of a put
+    pub put_licence : (turns : ℕ) (opening : List (Event FifoNote)) → HasDummy n opening → IsPrefix opening t.seen → Known n s.seen → (Lacks : ℕ → ℕ → Type 0) (r : Result ℕ QueueRefused)
+        → (turns ≡ 0 → r ≡ Err Again) → (r ≡ Err Again → InPart agent_of s.agent j k (λ from to. UsesTurns agent_of events s.agent turns k from to))
+        → (r ≡ Err NoNode → (turns ≢ 0) × Within (length j) (length k) Lacks) → ((r ≡ Err Positions) ↔ CallFindsFull n s t)
+        → IfErr r (λ e. Within (length j) (length k) (λ from to. Cause agent_of events (position_of (run_heap n opening) 0) (Lacks from to) s.agent turns e k from to))
+    put_licence turns opening made begins known Lacks (Ok at) none again node full = tt
+    put_licence turns opening made begins known Lacks (Err Again) none again node full =
+        let bounds = part_bounds agent_of s.agent j k grows in
+        (part_begin agent_of s.agent j k, length k, bounds.0, bounds.1, omega arith, again refl)
+    put_licence turns opening made begins known Lacks (Err NoNode) none again node full =
+        let (some, (from, to, a, b, c, lacks)) = node refl in
+        (from, to, a, b, c, (some, lacks))
+    put_licence turns opening made begins known Lacks (Err Positions) none again node full =
+        let some : turns ≢ 0 = λ zero_turns. let bad : ◌≡◌ {A = Result ℕ QueueRefused} (Err Positions) (Err Again) = none zero_turns in cc in
+        let bounds = part_bounds agent_of s.agent j k grows in
+        (length j, length k, omega arith, omega (arith, bounds), omega arith, full_lacks turns opening made begins known some (full.0 refl))
+
+    pub take_licence : (turns first : ℕ) (Lacks : ℕ → ℕ → Type 0) (r : Result (Option (ℕ × ℕ)) AgainFault) → IfErr r (λ e. InPart agent_of s.agent j k (λ from to. UsesTurns agent_of events s.agent turns k from to))
+        → IfErr r (λ e. Within (length j) (length k) (λ from to. Cause agent_of events first (Lacks from to) s.agent turns Again k from to))
+    take_licence turns first Lacks (Ok got) again = tt
+    take_licence turns first Lacks (Err e) again =
+        let bounds = part_bounds agent_of s.agent j k grows in
+        (part_begin agent_of s.agent j k, length k, bounds.0, bounds.1, omega arith, again)
+
+-- a fact that stays is one of the longer journal
+pub within_stays : {S : Type 0} (Fact : List S → ℕ → ℕ → Type 0) → ((j more : List S) (from to : ℕ) → Fact j from to → Fact (j ++ more) from to) → (begin : ℕ) (k m : List S) → IsPrefix k m → Within begin (length k) (Fact k) → Within begin (length m) (Fact m)
+within_stays Fact stays begin k m (more, is) (from, to, a, b, c, fact) =
+    (from, to, a, b, omega (arith, c, length-append k more, ap length is), subst (λ z. Fact z from to) is (stays k more from to fact))
+
+-- the turns of a take
+pub take_no_turns : (turns : ℕ) (s t : Seat FifoNote) (r : Result (Option (ℕ × ℕ)) AgainFault) → TakeAnswers turns s r t → turns ≡ 0 → IsErr r
+take_no_turns turns s t (Ok got) l none = absurd (l.some_turn none)
+take_no_turns turns s t (Err again) l none = refl
+
+-- the entries of each of two agents in what both have seen
+pub learns : {S : Type 0} (n : HeapNumbers) (events : List S → List (Event FifoNote)) (agent1 agent2 : ℕ) (s1 s2 t1 : Seat FifoNote) (j1 j2 k1 k2 : List S) → k1 ≡ k2 → (IsPrefix j1 j2 × (k1 ≡ j2)) ⊎ (IsPrefix j2 j1 × (k1 ≡ j1))
+    → AllAllowed (FifoMay n) [] s1.seen → AllAllowed (FifoMay n) [] s2.seen → AllAllowed (FifoMay n) [] t1.seen → s1.seen ≡ events j1 → s2.seen ≡ events j2 → t1.seen ≡ events k1
+    → events_by agent1 t1.seen ≡ events_by agent1 s1.seen → events_by agent2 t1.seen ≡ events_by agent2 s2.seen
+    → HistoryLearns (λ j. entries_of (events j)) agent_of_entry agent1 agent2 j1 j2 k1 k2
+learns {S} n events agent1 agent2 s1 s2 t1 j1 j2 k1 k2 one longer all1 all2 all is1 is2 is own1 own2 = record {
+  one = one;
+  longer = longer;
+  own1 = own agent1 s1 j1 all1 is1 own1;
+  own2 = own agent2 s2 j2 all2 is2 own2;
+}
+  where
+    own : (agent : ℕ) (s : Seat FifoNote) (j : List S) → AllAllowed (FifoMay n) [] s.seen → s.seen ≡ events j → events_by agent t1.seen ≡ events_by agent s.seen
+        → own_of agent_of_entry agent (entries_of (events k1)) ≡ own_of agent_of_entry agent (entries_of (events j))
+    own agent s j all_s is_j same =
+        ap (λ z. own_of agent_of_entry agent (entries_of z)) (sym is)
+        ∙ (own_of_events n agent [] t1.seen all ∙ (ap entries_of same ∙ (sym (own_of_events n agent [] s.seen all_s) ∙ ap (λ z. own_of agent_of_entry agent (entries_of z)) is_j)))

@@ -1,0 +1,15 @@
+pub mod Alone
+pub mod Answering
+pub mod Behind
+pub mod Causes
+pub mod Filled
+pub mod Joins
+pub mod Linking
+pub mod Looking
+pub mod Moments
+pub mod Openings
+pub mod Pieces
+pub mod PutTurns
+pub mod Room
+pub mod TakeTurns
+pub mod Taking

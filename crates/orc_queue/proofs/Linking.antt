@@ -1,0 +1,156 @@
+-- Linking the new node behind the last one.
+use Rattle.std.proofs.Common.{Bool, List, Option, Some, None, [], ap, append-nil, append_assoc, arith, cond, false, inl, inr, refl, subst, sym, true, ℕ, ◌++◌, ◌+◌, ◌<◌, ◌^◌, ◌∙◌, ◌∷◌, ◌≡◌, ◌≢◌, ◌≤◌, ◌⊎◌}
+use Rattle.std.proofs.lemmas.Bool.{eq-eqb}
+use Rattle.std.specs.List.{list_any, slice_get}
+use Rattle.orc_heap.proofs.ByAnswer.{unless_same}
+use Rattle.orc_heap.proofs.Fresh.{touched_by}
+use Rattle.orc_heap.proofs.Parts.{Puts-trans}
+use Rattle.orc_heap.specs.Allowed.{AllAllowed, AllowedLater, IsLinkedNode}
+use Rattle.orc_heap.specs.Calls.{Misses, ReadsValue, event_of, given_node, unless_node}
+use Rattle.orc_heap.specs.Heap.{HeapNumbers, Node, null, shown}
+use Rattle.orc_heap.specs.Journals.{run_heap}
+use Rattle.orc_heap.specs.Parts.{Only, Puts}
+use Rattle.orc_heap.specs.Moves.{gives_in}
+use Rattle.orc_heap.specs.Seats.{Seat}
+use Rattle.orc_heap.specs.Slots.{Hold, id_in}
+use Rattle.orc_heap.specs.declared.events.Act.TheVariants.{Fill, Look, Miss, Move}
+use Rattle.orc_heap.specs.declared.events.Event.{Event}
+use Rattle.orc_heap.specs.declared.events.Link.{Link}
+use Rattle.orc_heap.specs.declared.events.Place.TheVariants.{Next, Root}
+use Rattle.orc_history.specs.declared.queue.QueueEntry.{QueueEntry}
+use Rattle.orc_history.specs.declared.queue.QueueEntry.TheVariants.{Put}
+use Rattle.orc_fifo_rule.proofs.Coming.{put_allowed}
+use Rattle.orc_fifo_rule.proofs.Later.{link_later, linked_later}
+use Rattle.orc_fifo_rule.specs.declared.fifo.FifoNote.{FifoNote}
+use Rattle.orc_fifo_rule.specs.declared.fifo.FifoNote.TheVariants.{Entry}
+use Rattle.orc_fifo_rule.specs.QueueDiscipline.{FifoMay, HasLink, entries_of, link_to, position_of}
+use Rattle.orc_fifo_rule.specs.Watches.{WasNamed, node_to_put}
+use Rattle.orc_fifo_rule.specs.Kept.Events.{entries_of-append}
+use Rattle.orc_fifo_rule.specs.Kept.Nodes.{link_next}
+use Rattle.orc_fifo_rule.specs.Kept.Paths.{has_link}
+use Rattle.orc_queue.specs.Turns.{Helps, HoldsNode, LinkMissed, LinksJob, Piece, heap_of, looks_at_end}
+use Rattle.orc_queue.proofs.Filled.{Known}
+use Rattle.orc_queue.proofs.Joins.{Join, join, room_join}
+use Rattle.orc_queue.proofs.Looking.{position_read}
+use Rattle.orc_queue.proofs.Moments.{Moment, miss_moved, moment, seen_is, since}
+use Rattle.orc_queue.proofs.Pieces.{gives_in-append, link_puts, linked_puts, named_puts, node_puts, node_touched, position_puts}
+use Rattle.orc_queue.proofs.Room.{room_unseen}
+
+-- the Move that links a new node behind this one: its link leads there from then on
+pub put_links : (n : HeapNumbers) (s t : Seat FifoNote) (id to : ℕ) (noted : Option FifoNote) → Puts s (event_of s (Move (Next id) null (link_to to)) noted ∷ []) t → AllAllowed (FifoMay n) [] t.seen
+    → IsLinkedNode (heap_of n s) id → HasLink (heap_of n t) id (link_to to)
+put_links n s t id to noted p all l =
+    let e : Event FifoNote = event_of s (Move (Next id) null (link_to to)) noted in
+    let m = moment n s t [] e [] p all in
+    let es = s.seen ++ m.before in
+    let has = has_link (run_heap n es) id null (linked_later n s.seen m.before id l m.first) m.here.fits.0 in
+    let next : HasLink (run_heap n (es ++ e ∷ [])) id (link_to to) =
+    subst (λ (b : Bool). HasLink (run_heap n (es ++ e ∷ [])) id (cond b (link_to to) null)) (eq-eqb id id refl) (link_next n es e id null m.here has) in
+    subst (λ z. HasLink (run_heap n z) id (link_to to)) (sym (p.is ∙ seen_is n s [] e [] p.part m ∙ sym (append_assoc es (e ∷ []) m.later)))
+    (link_later n (es ++ e ∷ []) m.later id to next m.last)
+
+module _ (n : HeapNumbers) (job at tail : ℕ) (h : Hold) (s a b : Seat FifoNote) (k : Known n s.seen) (node : HoldsNode n job h s) (named : WasNamed (heap_of n s) 1 tail)
+    (read : Only [] s a) (fill : Only (event_of a (Fill (id_in a.slots h) 1 (at + 1)) None ∷ []) a b) (all_a : AllAllowed (FifoMay n) [] a.seen) (all_b : AllAllowed (FifoMay n) [] b.seen)
+  where
+    same_id : id_in a.slots h ≡ id_in s.slots h
+    same_id = ap (λ z. id_in z h) read.slots
+
+    filled_is : (v : ℕ) (more : List (Event FifoNote)) → touched_by (id_in s.slots h) (event_of a (Fill (id_in a.slots h) 1 (at + 1)) None ∷ more) (given_node s.agent job v) ≡ touched_by (id_in s.slots h) more (given_node s.agent job (at + 1))
+    filled_is v more = rw (same_id, eq-eqb (id_in s.slots h) (id_in s.slots h) refl) refl
+
+    filled_puts : Puts s (event_of a (Fill (id_in a.slots h) 1 (at + 1)) None ∷ []) b
+    filled_puts = Puts-trans s a b [] _ read.puts fill.puts
+
+    filled_slots : b.slots ≡ s.slots
+    filled_slots = fill.slots ∙ read.slots
+
+    pub tail_same : (th : Hold) → id_in b.slots th ≡ id_in s.slots th
+    tail_same th = ap (λ z. id_in z th) filled_slots
+
+    -- the node has the values of the Put
+    pub filled_node : slice_get (heap_of n b).nodes (id_in b.slots h) ≡ Some (node_to_put b.agent job at)
+    filled_node =
+        rw (ap (λ z. id_in z h) filled_slots, filled_puts.agent)
+        (node_touched n s b _ filled_puts all_b job h k node refl ∙ ap (λ (x : Node). Some x) (filled_is node.second []))
+
+    pub filled_named : WasNamed (heap_of n b) 1 tail
+    filled_named = named_puts n s b _ filled_puts all_b 1 tail named
+
+    pub filled_linked : IsLinkedNode (heap_of n b) tail
+    filled_linked = filled_named.linked
+
+    pub filled_fresh : b.fresh ≡ Some (id_in b.slots h)
+    filled_fresh = fill.fresh ∙ (read.fresh ∙ (node.fresh ∙ ap (λ z. Some (id_in z h)) (sym filled_slots)))
+
+    -- the link was no more null
+    pub link_missed : (t : Seat FifoNote) → AllAllowed (FifoMay n) [] t.seen → t.slots ≡ b.slots → t.fresh ≡ b.fresh → Misses (Next tail) null b t → position_of (heap_of n s) tail < 2 ^ 62 → LinkMissed n job tail h s t
+    link_missed t all slots fresh miss low =
+        let e : Event FifoNote = event_of a (Fill (id_in a.slots h) 1 (at + 1)) None in
+        let f : Event FifoNote = event_of b (Miss (Next tail) null miss.found) None in
+        let p : Puts s (e ∷ f ∷ []) t = Puts-trans s b t (e ∷ []) (f ∷ []) filled_puts miss.puts in
+        let same_slots = slots ∙ filled_slots in
+        let same_fresh = fresh ∙ (fill.fresh ∙ read.fresh) in
+        record {
+          stops = record {
+            piece = record { own = e ∷ f ∷ []; slots = same_slots; puts = p; entries_are = refl; no_give = refl };
+            fresh = same_fresh;
+            moved = miss_moved n s t (Next tail) null miss.found (e ∷ []) f [] p refl all named.linked miss.other;
+            own_moves = inl refl;
+          };
+          room = room_unseen n s t (e ∷ f ∷ []) p refl;
+          low = low;
+          node = node_puts n s t (e ∷ f ∷ []) p all job h (at + 1) k node same_slots same_fresh refl (filled_is node.second (f ∷ []));
+        }
+
+    -- the node is linked
+    pub link_made : (t : Seat FifoNote) (agent : ℕ) → AllAllowed (FifoMay n) [] t.seen → agent ≡ s.agent → t.slots ≡ b.slots → t.fresh ≡ unless_node b.fresh (Some (id_in b.slots h))
+        → Puts b (event_of b (Move (Next tail) null (link_to (id_in b.slots h))) (Some (Entry (Put agent job at))) ∷ []) t
+        → position_of (heap_of n s) tail < 2 ^ 62 → at ≡ position_of (heap_of n s) tail → LinksJob n job tail at h s t
+    link_made t agent all agent_is slots fresh put low at_is =
+        let e : Event FifoNote = event_of a (Fill (id_in a.slots h) 1 (at + 1)) None in
+        let m : Event FifoNote = event_of b (Move (Next tail) null (link_to (id_in b.slots h))) (Some (Entry (Put agent job at))) in
+        let p : Puts s (e ∷ m ∷ []) t = Puts-trans s b t (e ∷ []) (m ∷ []) filled_puts put in
+        record {
+          puts = record {
+            piece = record { own = _; slots = slots ∙ filled_slots; puts = p; entries_are = ap (λ (x : ℕ). Put x job at ∷ []) agent_is; no_give = refl };
+            fresh = fresh ∙ (ap (λ o. unless_node o (Some (id_in b.slots h))) filled_fresh ∙ unless_same (id_in b.slots h));
+            low = omega (arith, low, at_is);
+            room = room_unseen n s t _ p refl;
+          };
+          low = low;
+          link = subst (λ (i : ℕ). HasLink (heap_of n t) tail (link_to i)) (tail_same h) (put_links n b t tail (id_in b.slots h) _ put all filled_linked);
+        }
+
+    -- the Put may come
+    pub put_may : (th : Hold) (agent : ℕ) → tail ≡ id_in s.slots th → Known n b.seen → agent ≡ b.agent → at ≡ position_of (heap_of n s) tail → at < 2 ^ 62
+        → AllowedLater (FifoMay n) n b.agent b.seen (Next (id_in b.slots th)) null (event_of b (Move (Next (id_in b.slots th)) null (link_to (id_in b.slots h))) (Some (Entry (Put agent job at))))
+    put_may th agent tail_is kb agent_is at_is low =
+        let same : tail ≡ id_in b.slots th = tail_is ∙ ap (λ z. id_in z th) (sym filled_slots) in
+        let position : position_of (heap_of n b) tail ≡ at = position_puts n s b _ filled_puts all_b tail named.linked ∙ sym at_is in
+        let may = put_allowed n b.agent tail (id_in b.slots h) job at b.seen kb.holds kb.dummy.begun filled_named position low filled_node in
+        subst (λ (i : ℕ). AllowedLater (FifoMay n) n b.agent b.seen (Next i) null (event_of b (Move (Next i) null (link_to (id_in b.slots h))) (Some (Entry (Put agent job at))))) same
+        (subst (λ (x : ℕ). AllowedLater (FifoMay n) n b.agent b.seen (Next tail) null (event_of b (Move (Next tail) null (link_to (id_in b.slots h))) (Some (Entry (Put x job at))))) (sym agent_is) may)
+
+-- the value that was read
+pub read_position : (n : HeapNumbers) (s a : Seat FifoNote) (tail value : ℕ) → Known n a.seen → Only [] s a → IsLinkedNode (heap_of n s) tail → ReadsValue (heap_of n a) tail 1 value → value ≡ position_of (heap_of n s) tail
+read_position n s a tail value k o l r = position_read n a.seen tail value k (linked_puts n s a [] o.puts k.all tail l) r ∙ position_puts n s a [] o.puts k.all tail l
+
+-- and then the tail was swung on, or not
+pub link_helped : (n : HeapNumbers) (job tail next at : ℕ) (h : Hold) (s c t : Seat FifoNote) → AllAllowed (FifoMay n) [] t.seen → LinksJob n job tail at h s c → Helps tail next c t → LinksJob n job tail at h s t
+link_helped n job tail next at h s c t all l helped = elim helped.either [ inl moved ↦ done _ moved refl refl refl | inr missed ↦ done _ missed.puts refl refl refl ]
+  where
+    done : (own : List (Event FifoNote)) (q : Puts c own t) → entries_of own ≡ [] → gives_in own ≡ 0 → list_any (λ e. looks_at_end e.act) own ≡ false → LinksJob n job tail at h s t
+    done own q none no_give unseen =
+        let p = l.puts.piece in
+        let j = join s c t p.own own (Put s.agent job at ∷ []) p.puts q (helped.slots ∙ p.slots)
+        (entries_of-append p.own own ∙ (ap (λ z. entries_of p.own ++ z) none ∙ (append-nil (entries_of p.own) ∙ p.entries_are))) (omega (arith, gives_in-append p.own own, p.no_give, no_give)) in
+        record {
+          puts = record {
+            piece = j.piece;
+            fresh = helped.fresh ∙ l.puts.fresh;
+            low = l.puts.low;
+            room = room_join n s c t _ _ _ p.puts q j.piece.puts l.puts.room (room_unseen n c t own q unseen);
+          };
+          low = l.low;
+          link = link_puts n c t own q all tail (id_in s.slots h) l.link;
+        }

@@ -1,0 +1,199 @@
+-- What a look at a root, and one at the link of a once linked node, find.
+use Rattle.std.proofs.Common.{Bool, List, length, suc, zero, Option, Some, None, [], ap, arith, inl, inr, refl, subst, sym, true, false, ℕ, ◌++◌, ◌+◌, ◌<◌, ◌∙◌, ◌∷◌, ◌≡◌, ◌≢◌, ◌≤◌, ◌⊎◌}
+use Rattle.std.specs.List.{slice_get, slice_set}
+use Rattle.std.specs.Prelude.{unwrap_or}
+use Rattle.std.proofs.lemmas.List.{length-replicate}
+use Rattle.orc_heap.proofs.ByAnswer.{LookedHeld, LookedNull}
+use Rattle.orc_heap.proofs.Changes.{length-change}
+use Rattle.orc_heap.proofs.Moved.{moves_in-append}
+use Rattle.orc_heap.proofs.OwnParts.{moves_from_own}
+use Rattle.orc_heap.specs.Allowed.{AllAllowed, IsLinkedNode}
+use Rattle.orc_heap.specs.Calls.{Misses, ReadsValue, RefusesSwing, event_of, links_made}
+use Rattle.orc_heap.specs.Heap.{Heap, HeapNumbers, Node, new_heap, null, shown}
+use Rattle.orc_heap.specs.Acts.{as_linked, as_named, change_target, heap_after}
+use Rattle.orc_heap.specs.Journals.{run_from, run_heap}
+use Rattle.orc_heap.specs.declared.events.Act.{Act}
+use Rattle.orc_heap.specs.Moves.{from_own, moves_in}
+use Rattle.orc_heap.specs.Parts.{Puts}
+use Rattle.orc_heap.specs.Seats.{Seat}
+use Rattle.orc_heap.specs.Slots.{Hold, IsFree, Slots, id_in}
+use Rattle.orc_heap.specs.declared.events.Act.TheVariants.{Aim, Fill, Give, Look, Miss, Move}
+use Rattle.orc_heap.specs.declared.events.Event.{Event}
+use Rattle.orc_heap.specs.declared.events.Link.{Link}
+use Rattle.orc_heap.specs.declared.events.Place.{Place}
+use Rattle.orc_heap.specs.declared.events.Place.TheVariants.{Next, Root}
+use Rattle.orc_heap.specs.declared.holds.Want.{Want}
+use Rattle.orc_heap.specs.declared.holds.Want.TheVariants.{Node as WantNode, Null as WantNull}
+use Rattle.orc_fault.specs.declared.Spent.{Spent}
+use Rattle.orc_fifo_rule.proofs.Counting.{at_most_three}
+use Rattle.orc_fifo_rule.proofs.Later.{holds_later, link_later, linked_later, named_later}
+use Rattle.orc_fifo_rule.proofs.Reading.{link_leads, look_names, root_names, successor_job}
+use Rattle.orc_fifo_rule.specs.declared.fifo.FifoNote.{FifoNote}
+use Rattle.orc_fifo_rule.specs.QueueDiscipline.{FifoHolds, FifoMay, HasJob, HasLink, link_to, position_of}
+use Rattle.orc_fifo_rule.specs.Watches.{WasNamed}
+use Rattle.orc_fifo_rule.specs.Kept.Events.{begun_more}
+use Rattle.orc_fifo_rule.specs.Kept.Kinds.{link_same, null_to, some_same}
+use Rattle.orc_fifo_rule.specs.Kept.Nodes.{position_at, shown_link}
+use Rattle.orc_fifo_rule.specs.Kept.Paths.{has_link}
+use Rattle.orc_queue.specs.Turns.{heap_of}
+use Rattle.orc_queue.proofs.Filled.{Known, some_value}
+use Rattle.orc_queue.proofs.Moments.{Moment, moment, seen_is, since}
+use Rattle.orc_queue.proofs.Pieces.{InSlot}
+
+-- three links at most are made to a node, so no swing is refused
+pub never_spent : (n : HeapNumbers) (slots : Slots) (from to : Want) (why : Spent) (seen : List (Event FifoNote)) → AllAllowed (FifoMay n) [] seen → RefusesSwing slots from to why seen → ⊥
+never_spent n slots from (WantNull mark) why seen all r = r
+never_spent n slots from (WantNode h mark) why seen all r = omega (arith, r.1.links, at_most_three n seen (id_in slots h.now) all)
+
+-- a look at root 0 or root 1 found a link to a node, which the root has named
+pub record FindsNode (n : HeapNumbers) (root : ℕ) (link : Link) (t : Seat FifoNote) : Type 0 where
+  pub id : ℕ
+  pub is : link ≡ link_to id
+  pub named : WasNamed (heap_of n t) root id
+
+pub root_found : (n : HeapNumbers) (s t : Seat FifoNote) (root : ℕ) (link : Link) (rest : List (Event FifoNote)) → root < 2 → Known n s.seen
+    → Puts s (event_of s (Look (Root root) link) None ∷ rest) t → AllAllowed (FifoMay n) [] t.seen → FindsNode n root link t
+root_found n s t root link rest low k p all =
+    let e : Event FifoNote = event_of s (Look (Root root) link) None in
+    let m = moment n s t [] e rest p all in
+    let holds = holds_later n s.seen m.before k.holds m.first in
+    let (id, is, named) = look_names n (s.seen ++ m.before) root link holds (begun_more s.seen m.before k.dummy.begun) low m.here.fits in
+    record {
+      id = id;
+      is = is;
+      named = subst (λ es. WasNamed (run_heap n es) root id) (sym (p.is ∙ seen_is n s [] e rest p.part m))
+          (named_later n (s.seen ++ m.before) (e ∷ m.later) root id named (since n s [] e rest p.part m));
+    }
+
+-- a look at the link of a once linked node found null, or a link to a node, where it still leads
+pub record FindsNext (n : HeapNumbers) (id : ℕ) (link : Link) (t : Seat FifoNote) : Type 0 where
+  pub either : (link ≡ null) ⊎ ((next : ℕ) × (link ≡ link_to next) × HasLink (heap_of n t) id (link_to next))
+
+pub next_found : (n : HeapNumbers) (s t : Seat FifoNote) (id : ℕ) (link : Link) (own rest : List (Event FifoNote)) → Known n s.seen → IsLinkedNode (heap_of n s) id
+    → Puts s (own ++ event_of s (Look (Next id) link) None ∷ rest) t → AllAllowed (FifoMay n) [] t.seen → FindsNext n id link t
+next_found n s t id link own rest k l p all =
+    let e : Event FifoNote = event_of s (Look (Next id) link) None in
+    let m = moment n s t own e rest p all in
+    let holds = holds_later n s.seen m.before k.holds m.first in
+    let has = has_link (run_heap n (s.seen ++ m.before)) id link (linked_later n s.seen m.before id l m.first) m.here.fits in
+    record {
+      either = elim (link_leads n (s.seen ++ m.before) id link holds has) [
+        | inl none ↦ inl none
+        | inr leads ↦
+            let (next, job, is, j) = leads in
+            let there : HasLink (run_heap n (s.seen ++ m.before)) id (link_to next) = subst (λ (x : Link). HasLink (run_heap n (s.seen ++ m.before)) id x) is has in
+            inr (
+              next,
+              is,
+              subst (λ es. HasLink (run_heap n es) id (link_to next)) (sym (p.is ∙ seen_is n s own e rest p.part m))
+                  (link_later n (s.seen ++ m.before) (e ∷ m.later) id next there (since n s own e rest p.part m)),
+            )
+      ];
+    }
+
+-- a node that a look of a root holds
+pub record HoldsRoot (n : HeapNumbers) (root slot : ℕ) (s : Seat FifoNote) (h : Hold) (t : Seat FifoNote) : Type 0 where
+  pub id : ℕ
+  pub in_slot : InSlot s slot id h t
+  pub named : WasNamed (heap_of n t) root id
+  pub puts : Puts s (event_of s (Look (Root root) (link_to id)) None ∷ event_of s (Look (Root root) (link_to id)) None ∷ []) t
+
+pub root_held : (n : HeapNumbers) (s t : Seat FifoNote) (root slot : ℕ) (mark : Bool) (h : Hold) → root < 2 → Known n s.seen → AllAllowed (FifoMay n) [] t.seen
+    → LookedHeld (Root root) slot mark h s t → HoldsRoot n root slot s h t
+root_held n s t root slot mark h low k all l =
+    let link : Link = record { to = Some l.id; mark = mark } in
+    let f = root_found n s t root link _ low k l.puts all in
+    let id_is : l.id ≡ f.id = some_same (ap (λ (x : Link). x.to) f.is) in
+    record {
+      id = f.id;
+      in_slot = record { at = l.at; slots = subst (λ (i : ℕ). t.slots ≡ slice_set s.slots slot (Some (record { row = h.row; id = i }))) id_is l.slots };
+      named = f.named;
+      puts = subst (λ (x : Link). Puts s (event_of s (Look (Root root) x) None ∷ event_of s (Look (Root root) x) None ∷ []) t) f.is l.puts;
+    }
+
+-- no look of a root finds null
+pub root_not_null : (n : HeapNumbers) (s t : Seat FifoNote) (root : ℕ) (mark : Bool) → root < 2 → Known n s.seen → AllAllowed (FifoMay n) [] t.seen → LookedNull (Root root) mark s t → ⊥
+root_not_null n s t root mark low k all l =
+    let f = root_found n s t root (record { to = None; mark = mark }) [] low k l.puts all in
+    let bad : None ≡ Some f.id = ap (λ (x : Link). x.to) f.is in
+    cc
+
+-- the successor that a look of a node's link holds
+pub record HoldsNext (n : HeapNumbers) (id slot : ℕ) (s : Seat FifoNote) (h : Hold) (t : Seat FifoNote) : Type 0 where
+  pub next : ℕ
+  pub in_slot : InSlot s slot next h t
+  pub link : HasLink (heap_of n t) id (link_to next)
+  pub puts : Puts s (event_of s (Look (Next id) (link_to next)) None ∷ event_of s (Look (Next id) (link_to next)) None ∷ []) t
+
+pub next_held : (n : HeapNumbers) (s t : Seat FifoNote) (id slot : ℕ) (mark : Bool) (h : Hold) → Known n s.seen → IsLinkedNode (heap_of n s) id → AllAllowed (FifoMay n) [] t.seen
+    → LookedHeld (Next id) slot mark h s t → HoldsNext n id slot s h t
+next_held n s t id slot mark h k linked all l =
+    let link : Link = record { to = Some l.id; mark = mark } in
+    let f = next_found n s t id link [] _ k linked l.puts all in
+    elim f.either [
+      | inl none ↦ let bad : Some l.id ≡ None = ap (λ (x : Link). x.to) none in absurd (cc)
+      | inr some ↦
+          let (next, is, has) = some in
+          let id_is : l.id ≡ next = some_same (ap (λ (x : Link). x.to) is) in
+          record {
+            next = next;
+            in_slot = record { at = l.at; slots = subst (λ (i : ℕ). t.slots ≡ slice_set s.slots slot (Some (record { row = h.row; id = i }))) id_is l.slots };
+            link = has;
+            puts = subst (λ (x : Link). Puts s (event_of s (Look (Next id) x) None ∷ event_of s (Look (Next id) x) None ∷ []) t) is l.puts;
+          }
+    ]
+
+-- a look that found the end
+pub next_null : (n : HeapNumbers) (s t : Seat FifoNote) (id : ℕ) (mark : Bool) → Known n s.seen → IsLinkedNode (heap_of n s) id → AllAllowed (FifoMay n) [] t.seen
+    → LookedNull (Next id) mark s t → Puts s (event_of s (Look (Next id) null) None ∷ []) t
+next_null n s t id mark k linked all l =
+    let link : Link = record { to = None; mark = mark } in
+    let f = next_found n s t id link [] [] k linked l.puts all in
+    elim f.either [
+      | inl none ↦ subst (λ (x : Link). Puts s (event_of s (Look (Next id) x) None ∷ []) t) none l.puts
+      | inr some ↦ let bad : None ≡ Some some.0 = ap (λ (x : Link). x.to) some.1 in absurd (cc)
+    ]
+
+-- the second value of a once linked node is its position
+pub position_read : (n : HeapNumbers) (es : List (Event FifoNote)) (id value : ℕ) → Known n es → IsLinkedNode (run_heap n es) id → ReadsValue (run_heap n es) id 1 value → value ≡ position_of (run_heap n es) id
+position_read n es id value k l r =
+    let both : Some r.node ≡ Some l.node = sym r.there ∙ l.there in
+    let same : r.node ≡ l.node = cc in
+    let (filled, is) = some_value l.node.second (k.dummy.filled id l.node l.there l.linked) in
+    let read : value ≡ filled = r.is filled (ap (λ (x : Node). x.second) same ∙ is) in
+    read ∙ sym (position_at (run_heap n es) id l.node l.there ∙ ap (λ (x : Option ℕ). unwrap_or x 0) is)
+
+pub job_read : (n : HeapNumbers) (es : List (Event FifoNote)) (id job at value : ℕ) → HasJob (run_heap n es) id job at → ReadsValue (run_heap n es) id 0 value → value ≡ job
+job_read n es id job at value j r =
+    let both : Some r.node ≡ Some j.node = sym r.there ∙ j.there in
+    let same : r.node ≡ j.node = cc in
+    r.is job (ap (λ (x : Node). x.first) same ∙ j.holds.job_is)
+
+-- root 0 and root 1 are there
+slice_low : {A : Type 0} (xs : List A) (i : ℕ) (x : A) → slice_get xs i ≡ Some x → i < length xs
+slice_low [] i x e = absurd (let none : ◌≡◌ {A = Option _} None (Some x) = e in cc)
+slice_low (y ∷ xs) zero x e = omega arith
+slice_low (y ∷ xs) (suc i) x e = omega (arith, slice_low xs i x e)
+
+roots_of_target : (f : Node → Node) (to : Option ℕ) (h : Heap) → (change_target f to h).roots ≡ h.roots
+roots_of_target f None h = refl
+roots_of_target f (Some id) h = refl
+
+roots_after : (agent : ℕ) (act : Act) (h : Heap) → length (heap_after agent act h).roots ≡ length h.roots
+roots_after agent Give h = refl
+roots_after agent (Fill id which value) h = refl
+roots_after agent (Aim id to) h = ap (λ (xs : List Link). length xs) (roots_of_target as_named to _)
+roots_after agent (Look place link) h = refl
+roots_after agent (Miss place wanted found) h = refl
+roots_after agent (Move (Root r) from to) h = ap (λ (xs : List Link). length xs) (roots_of_target as_linked to.to _) ∙ length-change (λ (l : Link). to) r h.roots
+roots_after agent (Move (Next id) from to) h = ap (λ (xs : List Link). length xs) (roots_of_target as_linked to.to _)
+
+roots_from : (h : Heap) (es : List (Event FifoNote)) → length (run_from h es).roots ≡ length h.roots
+roots_from h [] = refl
+roots_from h (e ∷ es) = roots_from (heap_after e.agent e.act h) es ∙ roots_after e.agent e.act h
+
+pub roots_there : (n : HeapNumbers) (es : List (Event FifoNote)) (root : ℕ) → Known n es → root < 2 → root < n.roots
+roots_there n es root k low =
+    let (id, at, linked) = root_names n es root k.holds k.dummy.begun low in
+    let there = slice_low (run_heap n es).roots root (link_to id) at in
+    omega (arith, there, roots_from (new_heap n) es, length-replicate n.roots null)

@@ -1,0 +1,189 @@
+-- A turn of a put, and so many.
+use Rattle.std.proofs.Common.{Bool, List, Option, Some, None, [], ap, append-nil, append_assoc, arith, false, inl, inr, refl, subst, suc, sym, true, zero, ℕ, ◌++◌, ◌+◌, ◌<◌, ◌^◌, ◌∙◌, ◌∷◌, ◌≡◌, ◌≢◌, ◌≤◌, ◌⊎◌}
+use Rattle.orc_heap.proofs.OwnParts.{moves_from_own, moves_from_own-append, own_from_left, own_from_rest, own_from_right}
+use Rattle.orc_heap.proofs.Parts.{Puts-trans}
+use Rattle.orc_heap.proofs.Runs.{run_from-append}
+use Rattle.orc_heap.proofs.Stays.{allowed-left, allowed-right}
+use Rattle.orc_heap.specs.Allowed.{AllAllowed, events_by}
+use Rattle.orc_heap.specs.Calls.{event_of}
+use Rattle.orc_heap.specs.Heap.{Heap, HeapNumbers, new_heap, null, shown}
+use Rattle.orc_heap.specs.Journals.{run_from, run_heap}
+use Rattle.orc_heap.specs.Moves.{AllOwn, from_own, gives_in, moves_in}
+use Rattle.orc_heap.specs.Parts.{Puts}
+use Rattle.orc_heap.specs.Seats.{Seat}
+use Rattle.orc_heap.specs.Slots.{Hold, Holds, id_in}
+use Rattle.orc_heap.specs.declared.events.Act.TheVariants.{Look, Move}
+use Rattle.orc_heap.specs.declared.events.Event.{Event}
+use Rattle.orc_heap.specs.declared.events.Link.{Link}
+use Rattle.orc_heap.specs.declared.events.Place.TheVariants.{Next, Root}
+use Rattle.orc_history.specs.declared.queue.QueueEntry.{QueueEntry}
+use Rattle.orc_history.specs.declared.queue.QueueEntry.TheVariants.{Put}
+use Rattle.orc_fifo_rule.proofs.Later.{holds_later}
+use Rattle.orc_fifo_rule.specs.declared.fifo.FifoNote.{FifoNote}
+use Rattle.orc_fifo_rule.specs.declared.fifo.FifoNote.TheVariants.{Swing}
+use Rattle.orc_fifo_rule.specs.QueueDiscipline.{FifoHolds, FifoMay, entries_of, has_begun, link_to}
+use Rattle.orc_fifo_rule.specs.Kept.Events.{begun_more, entries_of-append}
+use Rattle.orc_fifo_rule.specs.Kept.Kinds.{link_same, null_to, some_same}
+use Rattle.orc_queue.specs.declared.put.PutTurn.{PutTurn}
+use Rattle.orc_queue.specs.declared.put.PutTurn.TheVariants.{Full, Over as PutOver, Put as PutDone}
+use Rattle.orc_queue.specs.Turns.{AreOver, FindsFull, HelpsBehind, HoldsNode, IsFull, IsOver, Piece, PutMissed, PutTires, PutsBehind, PutsJob, PutsTurn, PutsTurns, TailIsLast, TurnMissed, heap_of}
+use Rattle.orc_queue.proofs.Alone.{over_helped, over_missed, over_quiet, swing_settles}
+use Rattle.orc_queue.proofs.Filled.{Known}
+use Rattle.orc_queue.proofs.Joins.{Join, full_join_left, full_join_right, join, moves_left, one_part, puts_released, room_join}
+use Rattle.orc_queue.proofs.Moments.{looks_differ}
+use Rattle.orc_queue.proofs.Pieces.{gives_in-append, node_held, node_puts}
+use Rattle.orc_queue.proofs.Room.{room_unseen}
+
+-- two looks at the tail, two at its link, and the Swing
+module _ (n : HeapNumbers) (s : Seat FifoNote) (tail next : ℕ) where
+  abbrev at_tail : Event FifoNote
+  at_tail = event_of s (Look (Root 1) (link_to tail)) None
+
+  abbrev at_next : Event FifoNote
+  at_next = event_of s (Look (Next tail) (link_to next)) None
+
+  abbrev swing : Event FifoNote
+  swing = event_of s (Move (Root 1) (link_to tail) (link_to next)) (Some Swing)
+
+  looks_change_nothing : (es : List (Event FifoNote)) → run_heap n (es ++ at_tail ∷ at_tail ∷ at_next ∷ at_next ∷ []) ≡ run_heap n es
+  looks_change_nothing es = run_from-append (new_heap n) es (at_tail ∷ at_tail ∷ at_next ∷ at_next ∷ [])
+
+  helped_settles : (es : List (Event FifoNote)) → FifoHolds n es → has_begun es ≡ true → AllAllowed (FifoMay n) es (at_tail ∷ at_tail ∷ at_next ∷ at_next ∷ swing ∷ [])
+      → TailIsLast (run_heap n (es ++ at_tail ∷ at_tail ∷ at_next ∷ at_next ∷ swing ∷ []))
+  helped_settles es holds begun all =
+      let looks : List (Event FifoNote) = at_tail ∷ at_tail ∷ at_next ∷ at_next ∷ [] in
+      let first = allowed-left (FifoMay n) es looks (swing ∷ []) all in
+      let last = allowed-right (FifoMay n) es looks (swing ∷ []) all in
+      let r = swing_settles n (es ++ looks) s.agent tail next (holds_later n es looks holds first) (begun_more es looks begun) last.0 in
+      subst (λ z. TailIsLast (run_heap n z)) (append_assoc es looks (swing ∷ [])) r
+
+  helped_unsettled : (es : List (Event FifoNote)) → AllAllowed (FifoMay n) es (at_tail ∷ at_tail ∷ at_next ∷ at_next ∷ swing ∷ []) → TailIsLast (run_heap n es) → ⊥
+  helped_unsettled es all settled =
+      let same : run_heap n ((es ++ at_tail ∷ []) ++ at_tail ∷ []) ≡ run_heap n es = ap (λ z. run_heap n z) (append_assoc es (at_tail ∷ []) (at_tail ∷ [])) ∙ run_from-append (new_heap n) es (at_tail ∷ at_tail ∷ []) in
+      let link : shown (run_heap n es) (Next tail) ≡ Some (link_to next) = subst (λ (h : Heap). shown h (Next tail) ≡ Some (link_to next)) same all.1.1.0.fits in
+      let last_is : settled.last ≡ tail = link_same settled.last tail (some_same (sym settled.tail_is ∙ all.0.fits)) in
+      null_to next (some_same (sym (subst (λ (x : ℕ). shown (run_heap n es) (Next x) ≡ Some null) last_is settled.ends) ∙ link))
+
+enough : {i j : ℕ} → 1 ≤ i → i ≤ j → 1 ≤ j
+enough p q = omega (arith, p, q)
+
+-- from a look of the tail to its release
+module _ (n : HeapNumbers) (job tail : ℕ) (h : Hold) (s a b t : Seat FifoNote) (k : Known n s.seen) (kb : Known n b.seen) (all_a : AllAllowed (FifoMay n) [] a.seen) (all_t : AllAllowed (FifoMay n) [] t.seen)
+    (p : Puts s (event_of s (Look (Root 1) (link_to tail)) None ∷ event_of s (Look (Root 1) (link_to tail)) None ∷ []) a) (freed : Puts b [] t) (slots : t.slots ≡ s.slots) (fresh_a : a.fresh ≡ s.fresh) (fresh_t : t.fresh ≡ b.fresh)
+    (held : Holds t.slots h) (same_id : id_in t.slots h ≡ id_in b.slots h)
+  where
+    first_room : FindsFull n s.agent s.seen p.part → ⊥
+    first_room = room_unseen n s a _ p refl
+
+    pub turn_done : (turn : PutTurn) → PutsBehind n job tail h a turn b → PutsTurn n job h s turn t
+    turn_done PutOver l =
+        let q0 = l.stops.piece in
+        let q = puts_released a b t q0.own q0.puts freed in
+        let j = join s a t (at_tail n s tail 0 ∷ at_tail n s tail 0 ∷ []) q0.own [] p q slots q0.entries_are (omega (arith, q0.no_give)) in
+        let fresh = fresh_t ∙ (l.stops.fresh ∙ fresh_a) in
+        let moved = λ (at : shown (heap_of n a) (Root 1) ≡ Some (link_to tail)). enough (l.stops.moved at) (moves_left a b t q0.own [] q0.own q0.puts freed q) in
+        let over : IsOver n TailIsLast s t = elim l.stops.own_moves [
+          | inl none ↦ over_missed n TailIsLast 1 tail s a t k all_a all_t p q0.own q j fresh moved none
+          | inr helping ↦
+              let next : ℕ = helping.0 in
+              let is : q0.own ≡ at_next n s tail next ∷ at_next n s tail next ∷ swing n s tail next ∷ [] = helping.1 ∙ ap (λ (x : ℕ). record { agent = x; act = Look (Next tail) (link_to next); note = None }
+              ∷ record { agent = x; act = Look (Next tail) (link_to next); note = None } ∷ record { agent = x; act = Move (Root 1) (link_to tail) (link_to next); note = Some Swing } ∷ []) p.agent in
+              over_helped n TailIsLast 1 tail s a t k all_a all_t p q0.own q j fresh moved
+              (λ es holds begun all. subst (λ z. TailIsLast (run_heap n (es ++ at_tail n s tail 0 ∷ at_tail n s tail 0 ∷ z))) (sym is)
+              (helped_settles n s tail next es holds begun (subst (λ z. AllAllowed (FifoMay n) es (at_tail n s tail 0 ∷ at_tail n s tail 0 ∷ z)) is all)))
+              (λ es all settled. helped_unsettled n s tail next es (subst (λ z. AllAllowed (FifoMay n) es (at_tail n s tail 0 ∷ at_tail n s tail 0 ∷ z)) is all) settled)
+        ] in
+        record {
+          over = over;
+          room = room_join n s a t _ _ _ p q over.piece.puts first_room (room_join n a b t _ _ _ q0.puts freed q l.room (room_unseen n b t [] freed refl));
+          node = node_held n b t [] freed all_t job h l.node.second kb l.node held same_id fresh_t refl refl;
+        }
+    turn_done (PutDone at) l =
+        let q0 = l.piece in
+        let q = puts_released a b t q0.own q0.puts freed in
+        let entries : entries_of q0.own ≡ Put s.agent job at ∷ [] = q0.entries_are ∙ ap (λ (x : ℕ). Put x job at ∷ []) p.agent in
+        let j = join s a t (at_tail n s tail 0 ∷ at_tail n s tail 0 ∷ []) q0.own (Put s.agent job at ∷ []) p q slots entries (omega (arith, q0.no_give)) in
+        record {
+          piece = j.piece;
+          fresh = fresh_t ∙ l.fresh;
+          low = l.low;
+          room = room_join n s a t _ _ _ p q j.piece.puts first_room (room_join n a b t _ _ _ q0.puts freed q l.room (room_unseen n b t [] freed refl));
+        }
+    turn_done Full l =
+        let q0 = l.piece in
+        let q = puts_released a b t q0.own q0.puts freed in
+        let j = join s a t (at_tail n s tail 0 ∷ at_tail n s tail 0 ∷ []) q0.own [] p q slots q0.entries_are (omega (arith, q0.no_give)) in
+        record {
+          piece = j.piece;
+          fresh = fresh_t ∙ (l.fresh ∙ fresh_a);
+          full = full_join_right n s a t _ _ _ p q j.piece.puts (full_join_left n a b t _ _ _ q0.puts freed q l.full);
+        }
+
+-- the tail moved between two looks
+pub turn_moved : (n : HeapNumbers) (job : ℕ) (h : Hold) (s t : Seat FifoNote) (one two : Link) → Known n s.seen → AllAllowed (FifoMay n) [] t.seen → HoldsNode n job h s → one ≢ two → t.slots ≡ s.slots → t.fresh ≡ s.fresh
+    → Puts s (event_of s (Look (Root 1) one) None ∷ event_of s (Look (Root 1) two) None ∷ []) t → PutMissed n job h s t
+turn_moved n job h s t one two k all node other slots fresh p =
+    let piece : Piece s [] t = record { own = _; slots = slots; puts = p; entries_are = refl; no_give = refl } in
+    let over = over_quiet n TailIsLast s t piece fresh refl (looks_differ n s t (Root 1) one two p all tt other) in
+    record {
+      over = over;
+      room = λ f. room_unseen n s t _ p refl (subst (λ z. FindsFull n s.agent s.seen z) (one_part s t _ _ over.piece.puts p) f);
+      node = node_puts n s t _ p all job h node.second k node slots fresh refl refl;
+    }
+
+-- one turn more
+pub over_next : (n : HeapNumbers) (IsSettled : Heap → Type 0) (turns : ℕ) (s t u : Seat FifoNote) → AreOver n IsSettled turns s t → IsOver n IsSettled t u → AreOver n IsSettled (turns + 1) s u
+over_next n IsSettled turns s t u all one =
+    let p = all.piece.puts in
+    let q = one.piece.puts in
+    let j = join s t u all.piece.own one.piece.own [] p q (one.piece.slots ∙ all.piece.slots) (entries_of-append all.piece.own one.piece.own ∙ (ap (λ z. z ++ entries_of one.piece.own) all.piece.entries_are ∙ one.piece.entries_are))
+    (omega (arith, gives_in-append all.piece.own one.piece.own, all.piece.no_give, one.piece.no_give)) in
+    let moved : 1 ≤ moves_in (from_own s.agent q.part) = subst (λ (x : ℕ). 1 ≤ moves_in (from_own x q.part)) p.agent one.moved in
+    let settles = subst (λ (x : ℕ). AllOwn x (from_own x q.part) → IsSettled (heap_of n u)) p.agent one.settles in
+    let unsettled = subst (λ (x : ℕ). AllOwn x q.part → IsSettled (heap_of n t) → ⊥) p.agent one.unsettled in
+    record {
+      piece = j.piece;
+      fresh = one.fresh ∙ all.fresh;
+      moved = rw j.part_is (omega (arith, moves_from_own-append s.agent p.part q.part, all.moved, moved));
+      settles = λ some alone. settles (own_from_right s.agent p.part q.part (subst (λ z. AllOwn s.agent (from_own s.agent z)) j.part_is alone));
+      busy = λ two alone.
+          let whole = subst (λ z. AllOwn s.agent (from_own s.agent z)) j.part_is alone in
+          let some : 1 ≤ turns = omega (arith, two) in
+          unsettled (own_from_rest s.agent p.part q.part (omega (arith, some, all.moved)) whole) (all.settles some (own_from_left s.agent p.part q.part whole));
+    }
+
+-- no turn yet
+pub over_none : (n : HeapNumbers) (IsSettled : Heap → Type 0) (s : Seat FifoNote) → AreOver n IsSettled 0 s s
+over_none n IsSettled s = record {
+  piece = record { own = []; slots = refl; puts = record { part = []; is = sym (append-nil s.seen); agent = refl; own_is = refl }; entries_are = refl; no_give = refl };
+  fresh = refl;
+  moved = omega arith;
+  settles = λ some alone. absurd (omega (arith, some));
+  busy = λ two alone. omega (arith, two);
+}
+
+pub tires_none : (n : HeapNumbers) (job : ℕ) (h : Hold) (s : Seat FifoNote) → HoldsNode n job h s → PutTires n job 0 h s s
+tires_none n job h s node =
+    let over = over_none n TailIsLast s in
+    record { over = over; room = λ f. room_unseen n s s _ (record { part = []; is = sym (append-nil s.seen); agent = refl; own_is = refl }) refl (subst (λ z. FindsFull n s.agent s.seen z) (one_part s s _ [] over.piece.puts (record { part = []; is = sym (append-nil s.seen); agent = refl; own_is = refl })) f); node = node }
+
+pub tires_next : (n : HeapNumbers) (job turns : ℕ) (h : Hold) (s t u : Seat FifoNote) → PutTires n job turns h s t → PutMissed n job h t u → PutTires n job (turns + 1) h s u
+tires_next n job turns h s t u all one =
+    let over = over_next n TailIsLast turns s t u all.over one.over in
+    record { over = over; room = room_join n s t u _ _ _ all.over.piece.puts one.over.piece.puts over.piece.puts all.room one.room; node = one.node }
+
+-- the turn that answers
+pub turns_done : (n : HeapNumbers) (job turns more : ℕ) (h : Hold) (s t u : Seat FifoNote) (turn : PutTurn) → turn ≢ PutOver → PutTires n job turns h s t → PutsTurn n job h t turn u → PutsTurns n job more h s turn u
+turns_done n job turns more h s t u PutOver ne all one = absurd (ne refl)
+turns_done n job turns more h s t u (PutDone at) ne all one =
+    let q = all.over.piece in
+    let r = one.piece in
+    let entries : entries_of (q.own ++ r.own) ≡ Put s.agent job at ∷ [] = entries_of-append q.own r.own ∙ (ap (λ z. z ++ entries_of r.own) q.entries_are ∙ (r.entries_are ∙ ap (λ (x : ℕ). Put x job at ∷ []) q.puts.agent)) in
+    let j = join s t u q.own r.own (Put s.agent job at ∷ []) q.puts r.puts (r.slots ∙ q.slots) entries (omega (arith, gives_in-append q.own r.own, q.no_give, r.no_give)) in
+    record { piece = j.piece; fresh = one.fresh; low = one.low; room = room_join n s t u _ _ _ q.puts r.puts j.piece.puts all.room one.room }
+turns_done n job turns more h s t u Full ne all one =
+    let q = all.over.piece in
+    let r = one.piece in
+    let entries : entries_of (q.own ++ r.own) ≡ [] = entries_of-append q.own r.own ∙ (ap (λ z. z ++ entries_of r.own) q.entries_are ∙ r.entries_are) in
+    let j = join s t u q.own r.own [] q.puts r.puts (r.slots ∙ q.slots) entries (omega (arith, gives_in-append q.own r.own, q.no_give, r.no_give)) in
+    record { piece = j.piece; fresh = one.fresh ∙ all.over.fresh; full = full_join_right n s t u _ _ _ q.puts r.puts j.piece.puts one.full }

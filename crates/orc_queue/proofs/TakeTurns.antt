@@ -1,0 +1,214 @@
+-- A turn of a take, and so many.
+use Rattle.std.proofs.Common.{Bool, List, Option, Some, None, [], ap, append-nil, append_assoc, arith, false, inl, inr, refl, subst, sym, true, ℕ, ◌++◌, ◌+◌, ◌∙◌, ◌∷◌, ◌≡◌, ◌≢◌, ◌≤◌, ◌⊎◌}
+use Rattle.orc_heap.proofs.OwnParts.{moves_from_own}
+use Rattle.orc_heap.proofs.Parts.{Puts-trans}
+use Rattle.orc_heap.proofs.Runs.{run_from-append}
+use Rattle.orc_heap.proofs.Stays.{allowed-left, allowed-right}
+use Rattle.orc_heap.specs.Allowed.{AllAllowed, IsLinkedNode}
+use Rattle.orc_heap.specs.Calls.{event_of}
+use Rattle.orc_heap.specs.Heap.{Heap, HeapNumbers, new_heap, null, shown}
+use Rattle.orc_heap.specs.Journals.{run_from, run_heap}
+use Rattle.orc_heap.specs.Moves.{from_own, gives_in, moves_in}
+use Rattle.orc_heap.specs.Parts.{Puts}
+use Rattle.orc_heap.specs.Seats.{Seat}
+use Rattle.orc_heap.specs.declared.events.Act.TheVariants.{Look, Move}
+use Rattle.orc_heap.specs.declared.events.Event.{Event}
+use Rattle.orc_heap.specs.declared.events.Link.{Link}
+use Rattle.orc_heap.specs.declared.events.Place.TheVariants.{Next, Root}
+use Rattle.orc_history.specs.declared.queue.QueueEntry.{QueueEntry}
+use Rattle.orc_history.specs.declared.queue.QueueEntry.TheVariants.{Empty, Took}
+use Rattle.orc_fifo_rule.proofs.Later.{holds_later}
+use Rattle.orc_fifo_rule.specs.declared.fifo.FifoNote.{FifoNote}
+use Rattle.orc_fifo_rule.specs.declared.fifo.FifoNote.TheVariants.{Swing}
+use Rattle.orc_fifo_rule.specs.QueueDiscipline.{FifoHolds, FifoMay, entries_of, has_begun, link_to}
+use Rattle.orc_fifo_rule.specs.Kept.Events.{begun_more, entries_of-append}
+use Rattle.orc_fifo_rule.specs.Kept.Kinds.{link_same, some_same}
+use Rattle.orc_queue.specs.declared.take.TakeTurn.{TakeTurn}
+use Rattle.orc_queue.specs.declared.take.TakeTurn.TheVariants.{Empty as TakeEmpty, Over as TakeOver, Took as TakeDone}
+use Rattle.orc_queue.specs.Turns.{AreOver, FindsEnd, HelpsHead, IsOver, Piece, Stops, TailIsPast, TakesBehind, TakesJob, TakesNext, TakesNone, TakesTurn, TakesTurns, heap_of}
+use Rattle.orc_queue.proofs.Alone.{over_helped, over_missed, over_quiet, swing_past}
+use Rattle.orc_queue.proofs.Filled.{Known}
+use Rattle.orc_queue.proofs.Joins.{Join, join, moves_left, moves_right, puts_released}
+use Rattle.orc_queue.proofs.Moments.{look_found, looks_differ}
+use Rattle.orc_queue.proofs.Pieces.{gives_in-append}
+use Rattle.orc_queue.proofs.Taking.{still_puts}
+
+enough : {i j : ℕ} → 1 ≤ i → i ≤ j → 1 ≤ j
+enough p q = omega (arith, p, q)
+
+-- the head's link was null
+module _ (n : HeapNumbers) (head : ℕ) (s a t : Seat FifoNote) (linked : IsLinkedNode (heap_of n s) head) (p : Puts s (event_of s (Look (Next head) null) None ∷ []) a) (all_a : AllAllowed (FifoMay n) [] a.seen)
+    (slots : a.slots ≡ s.slots) (fresh : a.fresh ≡ s.fresh)
+  where
+    pub behind_empty : TakesNone a t → TakesNone s t
+    behind_empty l =
+        let q = l.piece in
+        let j = join s a t (event_of s (Look (Next head) null) None ∷ []) q.own (Empty s.agent ∷ []) p q.puts (q.slots ∙ slots) (q.entries_are ∙ ap (λ (x : ℕ). Empty x ∷ []) p.agent) (omega (arith, q.no_give)) in
+        record { piece = j.piece; fresh = l.fresh ∙ fresh }
+
+    pub behind_lost : Stops n (Next head) null (λ own. ⊥) a t → Stops n (Root 0) (link_to head) (HelpsHead s head) s t
+    behind_lost l =
+        let q = l.piece in
+        let j = join s a t (event_of s (Look (Next head) null) None ∷ []) q.own [] p q.puts (q.slots ∙ slots) q.entries_are (omega (arith, q.no_give)) in
+        let found = look_found n s a (Next head) null None [] p all_a linked in
+        record {
+          piece = j.piece;
+          fresh = l.fresh ∙ fresh;
+          moved = λ at. elim found.either [
+            | inl still ↦ omega (arith, l.moved still, moves_right s a t _ _ _ p q.puts j.piece.puts)
+            | inr some ↦ omega (arith, some, moves_from_own s.agent p.part, moves_left s a t _ _ _ p q.puts j.piece.puts)
+          ];
+          own_moves = inl (ap (λ (z : List (Event FifoNote)). moves_in z) j.own_is ∙ elim l.own_moves [ inl none ↦ omega (arith, none) | inr bad ↦ absurd bad ]);
+        }
+
+-- the head's link led to a node
+module _ (n : HeapNumbers) (head next : ℕ) (s a b t : Seat FifoNote) (p : Puts s (event_of s (Look (Next head) (link_to next)) None ∷ event_of s (Look (Next head) (link_to next)) None ∷ []) a)
+    (all_a : AllAllowed (FifoMay n) [] a.seen) (freed : Puts b [] t) (slots : t.slots ≡ s.slots) (fresh_a : a.fresh ≡ s.fresh) (fresh_t : t.fresh ≡ b.fresh)
+  where
+    pub behind_over : TakesNext n head next a None b → Stops n (Root 0) (link_to head) (HelpsHead s head) s t
+    behind_over l =
+        let first : Event FifoNote = event_of s (Look (Next head) (link_to next)) None in
+        let q0 = l.piece in
+        let q = puts_released a b t q0.own q0.puts freed in
+        let j = join s a t (first ∷ first ∷ []) q0.own [] p q slots q0.entries_are (omega (arith, q0.no_give)) in
+        record {
+          piece = j.piece;
+          fresh = fresh_t ∙ (l.fresh ∙ fresh_a);
+          moved = λ at. elim (still_puts n s a _ p all_a 0 (link_to head) at) [
+            | inl still ↦ omega (arith, l.moved still, moves_left a b t _ _ _ q0.puts freed q, moves_right s a t _ _ _ p q j.piece.puts)
+            | inr some ↦ omega (arith, some, moves_left s a t _ _ _ p q j.piece.puts)
+          ];
+          own_moves = elim l.own_moves [
+            | inl none ↦ inl (ap (λ (z : List (Event FifoNote)). moves_in z) j.own_is ∙ omega (arith, none))
+            | inr is ↦ inr (
+              next,
+              j.own_is ∙ (ap (λ z. first ∷ first ∷ z) is ∙ ap (λ (x : ℕ). first ∷ first ∷ record { agent = x; act = Look (Root 1) (link_to head); note = None }
+                  ∷ record { agent = x; act = Move (Root 1) (link_to head) (link_to next); note = Some Swing } ∷ []) p.agent),
+            )
+          ];
+        }
+
+    pub behind_taken : (job at : ℕ) → TakesJob job at a b → TakesJob job at s t
+    behind_taken job at l =
+        let q0 = l.piece in
+        let q = puts_released a b t q0.own q0.puts freed in
+        let j = join s a t _ q0.own (Took s.agent job at ∷ []) p q slots (q0.entries_are ∙ ap (λ (x : ℕ). Took x job at ∷ []) p.agent) (omega (arith, q0.no_give)) in
+        record { piece = j.piece; fresh = fresh_t ∙ (l.fresh ∙ fresh_a) }
+
+-- the head's link moved between two looks
+pub behind_differs : (n : HeapNumbers) (head : ℕ) (s t : Seat FifoNote) (one two : Link) → AllAllowed (FifoMay n) [] t.seen → IsLinkedNode (heap_of n s) head → one ≢ two → t.slots ≡ s.slots → t.fresh ≡ s.fresh
+    → Puts s (event_of s (Look (Next head) one) None ∷ event_of s (Look (Next head) two) None ∷ []) t → Stops n (Root 0) (link_to head) (HelpsHead s head) s t
+behind_differs n head s t one two all linked other slots fresh p = record {
+  piece = record { own = _; slots = slots; puts = p; entries_are = refl; no_give = refl };
+  fresh = fresh;
+  moved = λ at. omega (arith, moves_from_own s.agent p.part, looks_differ n s t (Next head) one two p all linked other);
+  own_moves = inl refl;
+}
+
+-- what the pass holds after it
+pub record TakenPiece (s t : Seat FifoNote) : Type 0 where
+  pub own : List (Event FifoNote)
+  pub slots : t.slots ≡ s.slots
+  pub fresh : t.fresh ≡ s.fresh
+  pub puts : Puts s own t
+
+pub next_piece : (n : HeapNumbers) (head next : ℕ) (s t : Seat FifoNote) (got : Option (ℕ × ℕ)) → TakesNext n head next s got t → TakenPiece s t
+next_piece n head next s t None l = record { own = l.piece.own; slots = l.piece.slots; fresh = l.fresh; puts = l.piece.puts }
+next_piece n head next s t (Some got) l = record { own = l.piece.own; slots = l.piece.slots; fresh = l.fresh; puts = l.piece.puts }
+
+pub behind_kept : (n : HeapNumbers) (head : ℕ) (s t : Seat FifoNote) (turn : TakeTurn) → TakesBehind n head s turn t → TakenPiece s t
+behind_kept n head s t TakeOver l = record { own = l.piece.own; slots = l.piece.slots; fresh = l.fresh; puts = l.piece.puts }
+behind_kept n head s t (TakeDone job at) l = record { own = l.piece.own; slots = l.piece.slots; fresh = l.fresh; puts = l.piece.puts }
+behind_kept n head s t TakeEmpty l = record { own = l.piece.own; slots = l.piece.slots; fresh = l.fresh; puts = l.piece.puts }
+
+-- two looks at the head, two at its link, the test of the tail, and the Swing
+module _ (n : HeapNumbers) (s : Seat FifoNote) (head next : ℕ) where
+  abbrev at_head : Event FifoNote
+  at_head = event_of s (Look (Root 0) (link_to head)) None
+
+  abbrev at_next : Event FifoNote
+  at_next = event_of s (Look (Next head) (link_to next)) None
+
+  abbrev at_tail : Event FifoNote
+  at_tail = event_of s (Look (Root 1) (link_to head)) None
+
+  abbrev swing : Event FifoNote
+  swing = event_of s (Move (Root 1) (link_to head) (link_to next)) (Some Swing)
+
+  abbrev helping : List (Event FifoNote)
+  helping = at_next ∷ at_next ∷ at_tail ∷ swing ∷ []
+
+  helped_settles : (es : List (Event FifoNote)) → FifoHolds n es → has_begun es ≡ true → AllAllowed (FifoMay n) es (at_head ∷ at_head ∷ helping) → TailIsPast (run_heap n (es ++ at_head ∷ at_head ∷ helping))
+  helped_settles es holds begun all =
+      let looks : List (Event FifoNote) = at_head ∷ at_head ∷ at_next ∷ at_next ∷ at_tail ∷ [] in
+      let first = allowed-left (FifoMay n) es looks (swing ∷ []) all in
+      let last = allowed-right (FifoMay n) es looks (swing ∷ []) all in
+      let same : run_heap n (es ++ looks) ≡ run_heap n es = run_from-append (new_heap n) es looks in
+      let at : shown (run_heap n (es ++ looks)) (Root 0) ≡ Some (link_to head) = ap (λ (h : Heap). shown h (Root 0)) same ∙ all.0.fits in
+      let r = swing_past n (es ++ looks) s.agent head next (holds_later n es looks holds first) (begun_more es looks begun) at last.0 in
+      subst (λ z. TailIsPast (run_heap n z)) (append_assoc es looks (swing ∷ [])) r
+
+  helped_unsettled : (es : List (Event FifoNote)) → AllAllowed (FifoMay n) es (at_head ∷ at_head ∷ helping) → TailIsPast (run_heap n es) → ⊥
+  helped_unsettled es all settled =
+      let looks : List (Event FifoNote) = at_head ∷ at_head ∷ at_next ∷ at_next ∷ [] in
+      let last = allowed-right (FifoMay n) es looks (at_tail ∷ swing ∷ []) all in
+      let same : run_heap n (es ++ looks) ≡ run_heap n es = run_from-append (new_heap n) es looks in
+      let tail_is : shown (run_heap n es) (Root 1) ≡ Some (link_to head) = ap (λ (h : Heap). shown h (Root 1)) (sym same) ∙ last.0.fits in
+      let head_same : settled.head ≡ head = link_same settled.head head (some_same (sym settled.head_is ∙ all.0.fits)) in
+      settled.tail_apart (tail_is ∙ ap (λ (x : ℕ). Some (link_to x)) (sym head_same))
+
+-- from a look of the head to its release
+module _ (n : HeapNumbers) (head : ℕ) (s a b t : Seat FifoNote) (k : Known n s.seen) (all_a : AllAllowed (FifoMay n) [] a.seen) (all_t : AllAllowed (FifoMay n) [] t.seen)
+    (p : Puts s (event_of s (Look (Root 0) (link_to head)) None ∷ event_of s (Look (Root 0) (link_to head)) None ∷ []) a) (freed : Puts b [] t) (slots : t.slots ≡ s.slots) (fresh_a : a.fresh ≡ s.fresh) (fresh_t : t.fresh ≡ b.fresh)
+  where
+    pub turn_taken : (turn : TakeTurn) → TakesBehind n head a turn b → TakesTurn n s turn t
+    turn_taken TakeOver l =
+        let q0 = l.piece in
+        let q = puts_released a b t q0.own q0.puts freed in
+        let looks : List (Event FifoNote) = at_head n s head 0 ∷ at_head n s head 0 ∷ [] in
+        let j = join s a t looks q0.own [] p q slots q0.entries_are (omega (arith, q0.no_give)) in
+        let fresh = fresh_t ∙ (l.fresh ∙ fresh_a) in
+        let moved = λ (at : shown (heap_of n a) (Root 0) ≡ Some (link_to head)). enough (l.moved at) (moves_left a b t q0.own [] q0.own q0.puts freed q) in
+        elim l.own_moves [
+          | inl none ↦ over_missed n TailIsPast 0 head s a t k all_a all_t p q0.own q j fresh moved none
+          | inr helped ↦
+              let next : ℕ = helped.0 in
+              let is : q0.own ≡ helping n s head next = helped.1 ∙ ap (λ (x : ℕ). record { agent = x; act = Look (Next head) (link_to next); note = None } ∷ record { agent = x; act = Look (Next head) (link_to next); note = None }
+              ∷ record { agent = x; act = Look (Root 1) (link_to head); note = None } ∷ record { agent = x; act = Move (Root 1) (link_to head) (link_to next); note = Some Swing } ∷ []) p.agent in
+              over_helped n TailIsPast 0 head s a t k all_a all_t p q0.own q j fresh moved
+              (λ es holds begun all. subst (λ z. TailIsPast (run_heap n (es ++ at_head n s head 0 ∷ at_head n s head 0 ∷ z))) (sym is)
+              (helped_settles n s head next es holds begun (subst (λ z. AllAllowed (FifoMay n) es (at_head n s head 0 ∷ at_head n s head 0 ∷ z)) is all)))
+              (λ es all settled. helped_unsettled n s head next es (subst (λ z. AllAllowed (FifoMay n) es (at_head n s head 0 ∷ at_head n s head 0 ∷ z)) is all) settled)
+        ]
+    turn_taken (TakeDone job at) l =
+        let q0 = l.piece in
+        let q = puts_released a b t q0.own q0.puts freed in
+        let j = join s a t _ q0.own (Took s.agent job at ∷ []) p q slots (q0.entries_are ∙ ap (λ (x : ℕ). Took x job at ∷ []) p.agent) (omega (arith, q0.no_give)) in
+        record { piece = j.piece; fresh = fresh_t ∙ (l.fresh ∙ fresh_a) }
+    turn_taken TakeEmpty l =
+        let q0 = l.piece in
+        let q = puts_released a b t q0.own q0.puts freed in
+        let j = join s a t _ q0.own (Empty s.agent ∷ []) p q slots (q0.entries_are ∙ ap (λ (x : ℕ). Empty x ∷ []) p.agent) (omega (arith, q0.no_give)) in
+        record { piece = j.piece; fresh = fresh_t ∙ (l.fresh ∙ fresh_a) }
+
+-- the head moved between two looks
+pub turn_differs : (n : HeapNumbers) (s t : Seat FifoNote) (one two : Link) → AllAllowed (FifoMay n) [] t.seen → one ≢ two → t.slots ≡ s.slots → t.fresh ≡ s.fresh
+    → Puts s (event_of s (Look (Root 0) one) None ∷ event_of s (Look (Root 0) two) None ∷ []) t → IsOver n TailIsPast s t
+turn_differs n s t one two all other slots fresh p =
+    over_quiet n TailIsPast s t (record { own = _; slots = slots; puts = p; entries_are = refl; no_give = refl }) fresh refl (looks_differ n s t (Root 0) one two p all tt other)
+
+-- the turn that answers
+pub turns_taken : (n : HeapNumbers) (turns more : ℕ) (s t u : Seat FifoNote) (turn : TakeTurn) → turn ≢ TakeOver → more ≢ 0 → AreOver n TailIsPast turns s t → TakesTurn n t turn u → TakesTurns n more s turn u
+turns_taken n turns more s t u TakeOver ne some all one = absurd (ne refl)
+turns_taken n turns more s t u (TakeDone job at) ne some all one =
+    let q = all.piece in
+    let r = one.piece in
+    let entries : entries_of (q.own ++ r.own) ≡ Took s.agent job at ∷ [] = entries_of-append q.own r.own ∙ (ap (λ z. z ++ entries_of r.own) q.entries_are ∙ (r.entries_are ∙ ap (λ (x : ℕ). Took x job at ∷ []) q.puts.agent)) in
+    let j = join s t u q.own r.own (Took s.agent job at ∷ []) q.puts r.puts (r.slots ∙ q.slots) entries (omega (arith, gives_in-append q.own r.own, q.no_give, r.no_give)) in
+    (some, record { piece = j.piece; fresh = one.fresh ∙ all.fresh })
+turns_taken n turns more s t u TakeEmpty ne some all one =
+    let q = all.piece in
+    let r = one.piece in
+    let entries : entries_of (q.own ++ r.own) ≡ Empty s.agent ∷ [] = entries_of-append q.own r.own ∙ (ap (λ z. z ++ entries_of r.own) q.entries_are ∙ (r.entries_are ∙ ap (λ (x : ℕ). Empty x ∷ []) q.puts.agent)) in
+    let j = join s t u q.own r.own (Empty s.agent ∷ []) q.puts r.puts (r.slots ∙ q.slots) entries (omega (arith, gives_in-append q.own r.own, q.no_give, r.no_give)) in
+    (some, record { piece = j.piece; fresh = one.fresh ∙ all.fresh })

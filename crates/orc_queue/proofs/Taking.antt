@@ -1,0 +1,171 @@
+-- A take, from the head and its successor on.
+use Rattle.std.proofs.Common.{Bool, List, Option, Some, None, [], ap, append-nil, arith, false, inl, inr, refl, subst, sym, true, ℕ, ◌++◌, ◌+◌, ◌<◌, ◌∙◌, ◌∷◌, ◌≡◌, ◌≢◌, ◌≤◌, ◌⊎◌}
+use Rattle.std.specs.Borrow.{Bor}
+use Rattle.orc_heap.proofs.Moved.{moves_in-append, shown_or_moved}
+use Rattle.orc_heap.proofs.OwnParts.{moves_from_own}
+use Rattle.orc_heap.proofs.Parts.{Puts-trans}
+use Rattle.orc_heap.specs.Allowed.{AllAllowed, AllowedLater, IsLinkedNode}
+use Rattle.orc_heap.specs.Calls.{Misses, ReadsValue, Swings, Tests, event_of}
+use Rattle.orc_heap.specs.Heap.{HeapNumbers, Node, null, shown}
+use Rattle.orc_heap.specs.Journals.{run_heap}
+use Rattle.orc_heap.specs.Moves.{IsLinkedPlace, gives_in, moves_in}
+use Rattle.orc_heap.specs.Parts.{Only, Puts}
+use Rattle.orc_heap.specs.Seats.{Seat}
+use Rattle.orc_heap.specs.Slots.{Hold, id_in}
+use Rattle.orc_heap.specs.declared.events.Act.TheVariants.{Look, Miss, Move}
+use Rattle.orc_heap.specs.declared.events.Event.{Event}
+use Rattle.orc_heap.specs.declared.events.Link.{Link}
+use Rattle.orc_heap.specs.declared.events.Place.{Place}
+use Rattle.orc_heap.specs.declared.events.Place.TheVariants.{Next, Root}
+use Rattle.orc_heap.specs.declared.holds.At.TheVariants.{Node as AtNode, Root as AtRoot}
+use Rattle.orc_heap.specs.declared.holds.Want.TheVariants.{Node as WantNode, Null as WantNull}
+use Rattle.orc_history.specs.declared.queue.QueueEntry.{QueueEntry}
+use Rattle.orc_history.specs.declared.queue.QueueEntry.TheVariants.{Empty, Took}
+use Rattle.orc_fifo_rule.proofs.Coming.{took_allowed}
+use Rattle.orc_fifo_rule.proofs.Later.{holds_later, job_later, named_later}
+use Rattle.orc_fifo_rule.proofs.Leaving.{is_left, left_later}
+use Rattle.orc_fifo_rule.specs.declared.fifo.FifoNote.{FifoNote}
+use Rattle.orc_fifo_rule.specs.declared.fifo.FifoNote.TheVariants.{Entry, Swing}
+use Rattle.orc_fifo_rule.specs.QueueDiscipline.{FifoMay, HasJob, HasLink, entries_of, link_to}
+use Rattle.orc_fifo_rule.specs.Watches.{IsLeft, WasNamed}
+use Rattle.orc_fifo_rule.specs.Kept.Events.{begun_more, entries_of-append}
+use Rattle.orc_fifo_rule.specs.Kept.Kinds.{some_same}
+use Rattle.orc_queue.specs.declared.take.TakeTurn.{TakeTurn}
+use Rattle.orc_queue.specs.declared.take.TakeTurn.TheVariants.{Empty as TakeEmpty, Over as TakeOver, Took as TakeDone}
+use Rattle.orc_queue.specs.Turns.{FindsEnd, Helps, HelpsHead, HelpsPast, Piece, Stops, TakesBehind, TakesFrom, TakesJob, TakesNext, TakesNone, heap_of}
+use Rattle.orc_queue.proofs.Filled.{Known}
+use Rattle.orc_queue.proofs.Joins.{Join, join, moves_left, moves_right, one_part, puts_released}
+use Rattle.orc_queue.proofs.Moments.{Moment, look_found, looks_differ, miss_moved, moment, moves_own, seen_is, since}
+use Rattle.orc_queue.proofs.Pieces.{gives_in-append, left_puts, link_puts, new_allowed, unless_other}
+
+-- the test of the head's link
+pub end_found : (n : HeapNumbers) (s t : Seat FifoNote) (head : Bor Hold) (agent : ℕ) (done : Bool) → agent ≡ s.agent → IsLinkedNode (heap_of n s) (id_in s.slots head.now) → AllAllowed (FifoMay n) [] t.seen
+    → Tests (AtNode head) (WantNull false) (Some (Entry (Empty agent))) s done t → FindsEnd n (id_in s.slots head.now) s done t
+end_found n s t head agent true agent_is linked all w = record {
+  piece = record { own = _; slots = w.slots; puts = w.puts; entries_are = ap (λ (x : ℕ). Empty x ∷ []) agent_is; no_give = refl };
+  fresh = w.fresh;
+}
+end_found n s t head agent false agent_is linked all w = record {
+  piece = record { own = _; slots = w.slots; puts = w.puts.puts; entries_are = refl; no_give = refl };
+  fresh = w.fresh;
+  moved = miss_moved n s t (Next (id_in s.slots head.now)) null w.puts.found [] _ [] w.puts.puts refl all linked w.puts.other;
+  own_moves = inl refl;
+}
+
+-- the values of the successor
+pub second_read : (n : HeapNumbers) (es : List (Event FifoNote)) (id job at value : ℕ) → HasJob (run_heap n es) id job at → ReadsValue (run_heap n es) id 1 value → value ≡ at + 1
+second_read n es id job at value j r =
+    let both : Some r.node ≡ Some j.node = sym r.there ∙ j.there in
+    let same : r.node ≡ j.node = cc in
+    r.is (at + 1) (ap (λ (x : Node). x.second) same ∙ j.holds.position_is)
+
+pub job_puts : (n : HeapNumbers) (s t : Seat FifoNote) (own : List (Event FifoNote)) (p : Puts s own t) → AllAllowed (FifoMay n) [] t.seen → (id job at : ℕ) → HasJob (heap_of n s) id job at → HasJob (heap_of n t) id job at
+job_puts n s t own p all id job at j = subst (λ es. HasJob (run_heap n es) id job at) (sym p.is) (job_later n s.seen p.part id job at j (new_allowed n s t own p all))
+
+-- the swing of the head, after nothing of the pass's own
+pub head_swung : (n : HeapNumbers) (s b t : Seat FifoNote) (head next : Bor Hold) (agent job at : ℕ) (done : Bool) → agent ≡ s.agent → Only [] s b → AllAllowed (FifoMay n) [] t.seen
+    → Swings (AtRoot 0) (WantNode head false) (WantNode next false) (Some (Entry (Took agent job at))) b done t → done ≡ true → b.fresh ≢ Some (id_in b.slots next.now) → TakesJob job at s t
+head_swung n s b t head next agent job at true agent_is o all w is other =
+    let p = Puts-trans s b t [] _ o.puts w.puts in
+    record {
+      piece = record { own = _; slots = w.slots ∙ o.slots; puts = p; entries_are = ap (λ (x : ℕ). Took x job at ∷ []) agent_is; no_give = refl };
+      fresh = w.fresh ∙ (unless_other b.fresh (id_in b.slots next.now) other ∙ o.fresh);
+    }
+head_swung n s b t head next agent job at false agent_is o all w is other = cc
+
+pub head_missed : (n : HeapNumbers) (s b t : Seat FifoNote) (head next : Bor Hold) (noted : Option FifoNote) (done : Bool) → Only [] s b → AllAllowed (FifoMay n) [] t.seen
+    → Swings (AtRoot 0) (WantNode head false) (WantNode next false) noted b done t → done ≡ false → Stops n (Root 0) (link_to (id_in s.slots head.now)) (λ own. ⊥) s t
+head_missed n s b t head next noted true o all w is = cc
+head_missed n s b t head next noted false o all w is =
+    let p = Puts-trans s b t [] _ o.puts w.puts.puts in
+    let same : id_in b.slots head.now ≡ id_in s.slots head.now = ap (λ z. id_in z head.now) o.slots in
+    record {
+      piece = record { own = _; slots = w.slots ∙ o.slots; puts = p; entries_are = refl; no_give = refl };
+      fresh = w.fresh ∙ o.fresh;
+      moved = subst (λ (i : ℕ). shown (heap_of n s) (Root 0) ≡ Some (link_to i) → 1 ≤ moves_in p.part) same
+          (miss_moved n s t (Root 0) (link_to (id_in b.slots head.now)) w.puts.found [] _ [] p refl all tt w.puts.other);
+      own_moves = inl refl;
+    }
+
+-- over a piece a root still shows the link, or a Move stands in what is new
+pub still_puts : (n : HeapNumbers) (s t : Seat FifoNote) (own : List (Event FifoNote)) (p : Puts s own t) → AllAllowed (FifoMay n) [] t.seen → (root : ℕ) (link : Link) → shown (heap_of n s) (Root root) ≡ Some link
+    → (shown (heap_of n t) (Root root) ≡ Some link) ⊎ (1 ≤ moves_in p.part)
+still_puts n s t own p all root link at =
+    elim (shown_or_moved n (FifoMay n) (λ es x k. k.fits) (Root root) link s.seen p.part tt (new_allowed n s t own p all) at) [
+      | inl still ↦ inl (subst (λ es. shown (run_heap n es) (Root root) ≡ Some link) (sym p.is) still)
+      | inr some ↦ inr some
+    ]
+
+-- the tail named the head: it was helped on
+pub past_helped : (n : HeapNumbers) (head next : ℕ) (place : Place) (link : Link) (s a b : Seat FifoNote) (p : Puts s (event_of s (Look (Root 1) (link_to head)) None ∷ []) a) → AllAllowed (FifoMay n) [] a.seen → AllAllowed (FifoMay n) [] b.seen
+    → a.slots ≡ s.slots → a.fresh ≡ s.fresh → Helps head next a b → Stops n place link (HelpsPast s head next) s b
+past_helped n head next place link s a b p all_a all_b slots fresh helped = elim helped.either [
+  | inl moved ↦
+      let act = Move (Root 1) (link_to head) (link_to next) in
+      let q : Puts a (event_of s act (Some Swing) ∷ []) b = subst (λ (x : ℕ). Puts a (record { agent = x; act = act; note = Some Swing } ∷ []) b) p.agent moved in
+      let j = join s a b (event_of s (Look (Root 1) (link_to head)) None ∷ []) (event_of s act (Some Swing) ∷ []) [] p q (helped.slots ∙ slots) refl refl in
+      record {
+        piece = j.piece;
+        fresh = helped.fresh ∙ fresh;
+        moved = λ at. omega (arith, moves_own s.agent j.piece.puts.part, ap (λ (z : List (Event FifoNote)). moves_in z) (j.piece.puts.own_is ∙ j.own_is));
+        own_moves = inr j.own_is;
+      }
+  | inr missed ↦
+      let j = join s a b (event_of s (Look (Root 1) (link_to head)) None ∷ []) _ [] p missed.puts (helped.slots ∙ slots) refl refl in
+      let found = look_found n s a (Root 1) (link_to head) None [] p all_a tt in
+      record {
+        piece = j.piece;
+        fresh = helped.fresh ∙ fresh;
+        moved = λ at. elim found.either [
+          | inl still ↦ omega (arith, miss_moved n a b (Root 1) (link_to head) missed.found [] _ [] missed.puts refl all_b tt missed.other still, moves_right s a b _ _ _ p missed.puts j.piece.puts)
+          | inr some ↦ omega (arith, some, moves_from_own s.agent p.part, moves_left s a b _ _ _ p missed.puts j.piece.puts)
+        ];
+        own_moves = inl (ap (λ (z : List (Event FifoNote)). moves_in z) j.own_is);
+      }
+]
+
+-- the tail named another node: it has left the head
+pub past_left : (n : HeapNumbers) (head : ℕ) (s a : Seat FifoNote) → Known n s.seen → AllAllowed (FifoMay n) [] a.seen → WasNamed (heap_of n s) 0 head → Misses (Root 1) (link_to head) s a → IsLeft (heap_of n a) head
+past_left n head s a k all named miss =
+    let e : Event FifoNote = event_of s (Miss (Root 1) (link_to head) miss.found) None in
+    let m = moment n s a [] e [] miss.puts all in
+    let es = s.seen ++ m.before in
+    let holds = holds_later n s.seen m.before k.holds m.first in
+    let begun = begun_more s.seen m.before k.dummy.begun in
+    let left = is_left n es head holds begun (named_later n s.seen m.before 0 head named m.first) (λ x. miss.other (some_same (sym m.here.fits.0 ∙ x))) in
+    subst (λ z. IsLeft (run_heap n z) head) (sym (miss.puts.is ∙ seen_is n s [] e [] miss.puts.part m)) (left_later n es (e ∷ m.later) head holds begun left (since n s [] e [] miss.puts.part m))
+
+-- and then the job was taken, or not
+pub past_taken : (n : HeapNumbers) (head next : ℕ) (s a t : Seat FifoNote) (own : List (Event FifoNote)) (p : Puts s own a) → AllAllowed (FifoMay n) [] a.seen → a.slots ≡ s.slots → a.fresh ≡ s.fresh
+    → entries_of own ≡ [] → gives_in own ≡ 0 → moves_in own ≡ 0 → (got : Option (ℕ × ℕ)) → TakesFrom n head a got t → TakesNext n head next s got t
+past_taken n head next s a t own p all slots fresh no_entry no_give no_move None l =
+    let q = l.piece in
+    let j = join s a t own q.own [] p q.puts (q.slots ∙ slots) (entries_of-append own q.own ∙ (ap (λ z. z ++ entries_of q.own) no_entry ∙ q.entries_are)) (omega (arith, gives_in-append own q.own, no_give, q.no_give)) in
+    record {
+      piece = j.piece;
+      fresh = l.fresh ∙ fresh;
+      moved = λ at. elim (still_puts n s a own p all 0 (link_to head) at) [
+        | inl still ↦ omega (arith, l.moved still, moves_right s a t _ _ _ p q.puts j.piece.puts)
+        | inr some ↦ omega (arith, some, moves_left s a t _ _ _ p q.puts j.piece.puts)
+      ];
+      own_moves = inl (ap (λ (z : List (Event FifoNote)). moves_in z) j.own_is ∙ elim l.own_moves [ inl none ↦ omega (arith, moves_in-append own q.own, no_move, none) | inr bad ↦ absurd bad ]);
+    }
+past_taken n head next s a t own p all slots fresh no_entry no_give no_move (Some got) l =
+    let q = l.piece in
+    let entries : entries_of (own ++ q.own) ≡ Took s.agent got.0 got.1 ∷ [] =
+    entries_of-append own q.own ∙ (ap (λ z. z ++ entries_of q.own) no_entry ∙ (q.entries_are ∙ ap (λ (x : ℕ). Took x got.0 got.1 ∷ []) p.agent)) in
+    let j = join s a t own q.own (Took s.agent got.0 got.1 ∷ []) p q.puts (q.slots ∙ slots) entries (omega (arith, gives_in-append own q.own, no_give, q.no_give)) in
+    record { piece = j.piece; fresh = l.fresh ∙ fresh }
+
+-- the Took may come
+pub took_may : (n : HeapNumbers) (s b : Seat FifoNote) (head next : Hold) (job at agent read_job read_at : ℕ) → Only [] s b → Known n b.seen → Known n s.seen → agent ≡ b.agent → read_job ≡ job → read_at ≡ at
+    → IsLeft (heap_of n s) (id_in s.slots head) → HasLink (heap_of n s) (id_in s.slots head) (link_to (id_in s.slots next)) → HasJob (heap_of n b) (id_in s.slots next) job at
+    → AllowedLater (FifoMay n) n b.agent b.seen (Root 0) (link_to (id_in b.slots head)) (event_of b (Move (Root 0) (link_to (id_in b.slots head)) (link_to (id_in b.slots next))) (Some (Entry (Took agent read_job read_at))))
+took_may n s b head next job at agent read_job read_at o kb ks agent_is job_is at_is left link has =
+    let h = id_in s.slots head in
+    let x = id_in s.slots next in
+    let may = took_allowed n b.agent h x job at b.seen kb.holds kb.dummy.begun (left_puts n s b [] o.puts kb.all h ks left) (link_puts n s b [] o.puts kb.all h x link) has in
+    let one = subst (λ (i : ℕ). AllowedLater (FifoMay n) n b.agent b.seen (Root 0) (link_to i) (event_of b (Move (Root 0) (link_to i) (link_to x)) (Some (Entry (Took b.agent job at))))) (sym (ap (λ z. id_in z head) o.slots)) may in
+    let two = subst (λ (i : ℕ). AllowedLater (FifoMay n) n b.agent b.seen (Root 0) (link_to (id_in b.slots head)) (event_of b (Move (Root 0) (link_to (id_in b.slots head)) (link_to i)) (Some (Entry (Took b.agent job at)))))
+    (sym (ap (λ z. id_in z next) o.slots)) one in
+    subst (λ (e : QueueEntry). AllowedLater (FifoMay n) n b.agent b.seen (Root 0) (link_to (id_in b.slots head)) (event_of b (Move (Root 0) (link_to (id_in b.slots head)) (link_to (id_in b.slots next))) (Some (Entry e)))) (rw (agent_is, job_is, at_is) refl) two

@@ -1,0 +1,37 @@
+-- The successor is a once linked node, so it isn't the fresh one.
+use Rattle.std.proofs.Common.{arith}
+use Rattle.orc_heap.specs.Slots.{id_in}
+use Rattle.orc_fifo_rule.proofs.Coming.{swing_allowed}
+use Rattle.orc_fifo_rule.specs.Kept.Paths.{successor_linked}
+use Rattle.orc_queue.proofs.Filled.{known}
+use Rattle.orc_queue.proofs.Looking.{roots_there}
+use Rattle.orc_queue.proofs.Pieces.{helps, linked_not_fresh}
+use Rattle.orc_queue.proofs.swings.help_tail.Goals as goal
+
+pub change-done-requires-clause-place : goal.change-done-requires-clause-place
+change-done-requires-clause-place g c =
+    let d = c.args.links.now in
+    let n = g.L.Links.numbers d in
+    let s = g.L.Links.seat d c.args.p.now in
+    let pass = c.requires.pass in
+    let k = known n (g.L.Links.opening d) s.seen c.requires.made (g.met.L.Links.opens d c.args.p.now pass) (g.met.L.Links.allowed d c.args.p.now pass) (g.met.L.Links.obeys d c.args.p.now pass) in
+    roots_there n s.seen 1 k (omega arith)
+
+pub change-done-requires-clause-allowed : goal.change-done-requires-clause-allowed
+change-done-requires-clause-allowed g c =
+    let d = c.args.links.now in
+    let n = g.L.Links.numbers d in
+    let s = g.L.Links.seat d c.args.p.now in
+    let pass = c.requires.pass in
+    let k = known n (g.L.Links.opening d) s.seen c.requires.made (g.met.L.Links.opens d c.args.p.now pass) (g.met.L.Links.allowed d c.args.p.now pass) (g.met.L.Links.obeys d c.args.p.now pass) in
+    swing_allowed n s.agent (id_in s.slots c.args.tail.now) (id_in s.slots c.args.next.now) s.seen k.holds k.dummy.begun c.requires.successor
+
+pub returns-clause-helped : goal.returns-clause-helped
+returns-clause-helped g c =
+    let d = c.args.links.now in
+    let n = g.L.Links.numbers d in
+    let s = g.L.Links.seat d c.args.p.now in
+    let t = g.L.Links.seat d c.change-done.new.p in
+    let pass = c.requires.pass in
+    let linked = successor_linked n s.seen (id_in s.slots c.args.tail.now) (id_in s.slots c.args.next.now) (g.met.L.Links.obeys d c.args.p.now pass) c.requires.successor in
+    helps n s t c.args.tail c.args.next c.change-done.result (linked_not_fresh n s (id_in s.slots c.args.next.now) (λ i e. g.met.L.Links.fresh_is d c.args.p.now i pass e) linked) c.change-done.ensures.swung

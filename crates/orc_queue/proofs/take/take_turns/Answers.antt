@@ -1,0 +1,40 @@
+-- One turn after another, until one answers.
+use Rattle.std.proofs.Common.{[], append-nil, arith, subst, ℕ, ◌≡◌}
+use Rattle.orc_queue.specs.Turns.{AreOver, TailIsPast}
+use Rattle.orc_queue.proofs.Joins.{goes_on}
+use Rattle.orc_queue.proofs.PutTurns.{over_next, over_none}
+use Rattle.orc_queue.proofs.TakeTurns.{turns_taken}
+use Rattle.orc_queue.proofs.take.take_turns.Goals as goal
+
+pub loop-init : goal.loop-init
+loop-init g c =
+    let d = c.args.links.now in
+    record { pass = c.requires.pass; later = ([], append-nil _); over = over_none (g.L.Links.numbers d) TailIsPast (g.L.Links.seat d c.args.p.now) }
+
+pub loop-preserved : goal.loop-preserved
+loop-preserved g c =
+    let d = c.args.links.now in
+    let i = c.loop.invariant in
+    let e = c.in-Over.ensures in
+    record {
+      pass = e.pass;
+      later = goes_on _ _ _ i.later e.later;
+      over = over_next (g.L.Links.numbers d) TailIsPast c.loop.counter (g.L.Links.seat d c.args.p.now) (g.L.Links.seat d c.loop.p) (g.L.Links.seat d c.take_turn.new.p) i.over e.took;
+    }
+
+pub returns-in_default : goal.returns-in_default
+returns-in_default g c =
+    let d = c.args.links.now in
+    let i = c.loop.invariant in
+    let e = c.take_turn.ensures in
+    record {
+      pass = e.pass;
+      later = goes_on _ _ _ i.later e.later;
+      took = turns_taken (g.L.Links.numbers d) c.loop.counter c.args.turns (g.L.Links.seat d c.args.p.now) (g.L.Links.seat d c.loop.p) (g.L.Links.seat d c.take_turn.new.p) c.take_turn.result c.in_default.not-Over (λ k. omega (arith, k, c.loop-test.true)) i.over e.took;
+    }
+
+pub returns-clause-took : goal.returns-clause-took
+returns-clause-took g c =
+    let d = c.args.links.now in
+    let all : c.loop.counter ≡ c.args.turns = omega (arith, c.loop-test.false, c.loop.auto.counter-end) in
+    subst (λ (k : ℕ). AreOver (g.L.Links.numbers d) TailIsPast k (g.L.Links.seat d c.args.p.now) (g.L.Links.seat d c.loop.p)) all c.loop.invariant.over

@@ -1,0 +1,74 @@
+-- What a call did, by its answer.
+use Rattle.std.specs.Prelude.{Err, List, Ok, Option, Result, [], drop, length, ℕ, ◌+◌, ◌<◌, ◌^◌, ◌∷◌, ◌≡◌, ◌≢◌, ◌≤◌}
+use Rattle.orc_fault.specs.declared.Again.{Again as AgainFault}
+use Rattle.orc_heap.specs.Allowed.{events_by}
+use Rattle.orc_heap.specs.Heap.{HeapNumbers}
+use Rattle.orc_heap.specs.Moves.{AllOwn, from_own, gives_in, moves_in}
+use Rattle.orc_heap.specs.Parts.{Puts}
+use Rattle.orc_heap.specs.Seats.{IsIdle, Seat}
+use Rattle.orc_heap.specs.declared.events.Event.{Event}
+use Rattle.orc_history.specs.QueueHistory.{entry_of_dequeue}
+use Rattle.orc_history.specs.declared.queue.QueueEntry.{QueueEntry}
+use Rattle.orc_history.specs.declared.queue.QueueEntry.TheVariants.{Put}
+use Rattle.orc_history.specs.declared.queue.QueueRefused.{QueueRefused}
+use Rattle.orc_history.specs.declared.queue.QueueRefused.TheVariants.{Again, NoNode, Positions}
+use Rattle.orc_fifo_rule.specs.declared.fifo.FifoNote.{FifoNote}
+use Rattle.orc_fifo_rule.specs.QueueDiscipline.{entries_of}
+use Rattle.orc_queue.specs.Turns.{FindsFull}
+
+-- a call that leaves the pass idle: its own events enter these entries, and at most so many of them are Gives
+pub record IsCall (most : ℕ) (s : Seat FifoNote) (entries : List QueueEntry) (t : Seat FifoNote) : Type 0 where
+  pub idle : IsIdle t
+  pub own : List (Event FifoNote)
+  pub puts : Puts s own t
+  pub entries_are : entries_of own ≡ entries
+  pub gives : gives_in own ≤ most
+
+-- a call that used all its turns
+pub record Tires (most turns : ℕ) (s t : Seat FifoNote) : Type 0 where
+  pub call : IsCall most s [] t
+  pub moved : turns ≤ moves_in (from_own s.agent call.puts.part)
+  pub busy : 2 ≤ turns → AllOwn s.agent (from_own s.agent call.puts.part) → ⊥
+
+-- the call found the end of the queue where no position was left
+abbrev pub CallFindsFull : HeapNumbers → Seat FifoNote → Seat FifoNote → Type 0
+CallFindsFull n s t = FindsFull n s.agent s.seen (drop (length s.seen) t.seen)
+
+-- the call found no Look at the end without a position
+abbrev pub HasRoom : HeapNumbers → {most : ℕ} {s : Seat FifoNote} {entries : List QueueEntry} {t : Seat FifoNote} → IsCall most s entries t → Type 0
+HasRoom n {s = s} call = FindsFull n s.agent s.seen call.puts.part → ⊥
+
+pub record PutTired (n : HeapNumbers) (turns : ℕ) (s t : Seat FifoNote) : Type 0 where
+  pub tires : Tires 1 turns s t
+  pub room : HasRoom n tires.call
+
+pub record PutLacking (n : HeapNumbers) (turns : ℕ) (s t : Seat FifoNote) : Type 0 where
+  pub call : IsCall 1 s [] t
+  pub some_turn : turns ≢ 0
+  pub room : HasRoom n call
+
+pub record PutFull (n : HeapNumbers) (turns : ℕ) (s t : Seat FifoNote) : Type 0 where
+  pub call : IsCall 1 s [] t
+  pub some_turn : turns ≢ 0
+  pub full : FindsFull n s.agent s.seen call.puts.part
+
+pub record PutMade (n : HeapNumbers) (job at turns : ℕ) (s t : Seat FifoNote) : Type 0 where
+  pub call : IsCall 1 s (Put s.agent job at ∷ []) t
+  pub some_turn : turns ≢ 0
+  pub low : at < 2 ^ 62
+  pub room : HasRoom n call
+
+abbrev pub PutAnswers : HeapNumbers → ℕ → ℕ → Seat FifoNote → Result ℕ QueueRefused → Seat FifoNote → Type 0
+PutAnswers n job turns s (Ok at) t = PutMade n job at turns s t
+PutAnswers n job turns s (Err Again) t = PutTired n turns s t
+PutAnswers n job turns s (Err NoNode) t = PutLacking n turns s t
+PutAnswers n job turns s (Err Positions) t = PutFull n turns s t
+
+-- a take: its entry is a Took, or Empty where the answer is None
+pub record TakeMade (turns : ℕ) (got : Option (ℕ × ℕ)) (s t : Seat FifoNote) : Type 0 where
+  pub call : IsCall 0 s (entry_of_dequeue s.agent got ∷ []) t
+  pub some_turn : turns ≢ 0
+
+abbrev pub TakeAnswers : ℕ → Seat FifoNote → Result (Option (ℕ × ℕ)) AgainFault → Seat FifoNote → Type 0
+TakeAnswers turns s (Ok got) t = TakeMade turns got s t
+TakeAnswers turns s (Err again) t = Tires 0 turns s t

@@ -1,0 +1,29 @@
+-- Why a call of the queue is refused: facts of a journal and two places in it.
+use Rattle.std.specs.List.{list_all}
+use Rattle.std.specs.Prelude.{List, drop, length, take, true, ℕ, ◌+◌, ◌==◌, ◌^◌, ◌≡◌, ◌≢◌, ◌≤◌}
+use Rattle.orc_heap.specs.Moves.{moves_in}
+use Rattle.orc_heap.specs.declared.events.Event.{Event}
+use Rattle.orc_history.specs.QueueHistory.{puts_in}
+use Rattle.orc_history.specs.declared.queue.QueueRefused.{QueueRefused}
+use Rattle.orc_history.specs.declared.queue.QueueRefused.TheVariants.{Again, NoNode, Positions}
+use Rattle.orc_fifo_rule.specs.declared.fifo.FifoNote.{FifoNote}
+use Rattle.orc_fifo_rule.specs.QueueDiscipline.{entries_of}
+
+-- all turns were used: as many Moves stand between the two places, and a step of another agent if they are two or more
+pub record UsesTurns {S : Type 0} (agent_of : S → ℕ) (events : List S → List (Event FifoNote)) (agent turns : ℕ) (journal : List S) (from to : ℕ) : Type 0 where
+  pub in_order : from ≤ to
+  pub in_journal : to ≤ length journal
+  pub moves : moves_in (events (take from journal)) + turns ≤ moves_in (events (take to journal))
+  pub not_alone : 2 ≤ turns → list_all (λ s. agent_of s == agent) (drop from (take to journal)) ≡ true → ⊥
+
+-- no position is left at the second place
+pub record LacksPosition {S : Type 0} (events : List S → List (Event FifoNote)) (first turns : ℕ) (journal : List S) (to : ℕ) : Type 0 where
+  pub some_turn : turns ≢ 0
+  pub in_journal : to ≤ length journal
+  pub full : 2 ^ 62 ≤ first + puts_in (entries_of (events (take to journal)))
+
+-- the cause of each refusal, where `Lacks` says that no row could be given
+abbrev pub Cause : {S : Type 0} → (S → ℕ) → (List S → List (Event FifoNote)) → ℕ → Type 0 → ℕ → ℕ → QueueRefused → List S → ℕ → ℕ → Type 0
+Cause agent_of events first Lacks agent turns Again journal from to = UsesTurns agent_of events agent turns journal from to
+Cause agent_of events first Lacks agent turns NoNode journal from to = (turns ≢ 0) × Lacks
+Cause agent_of events first Lacks agent turns Positions journal from to = LacksPosition events first turns journal to

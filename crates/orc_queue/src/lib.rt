@@ -1,0 +1,12 @@
+//! Michael and Scott's queue (1996) over any domain of links.
+#![tactic(auto)]
+
+mod put;
+mod queue;
+mod swings;
+mod take;
+
+pub use queue::Queue;
+
+#[cfg(test)]
+mod tests;

@@ -1,0 +1,175 @@
+//! The queue, and its calls.
+
+ghost use Rattle.std.specs.Prelude.{◌≡◌, ◌≢◌, ℕ, ◌+◌, ◌<◌, ◌≤◌, ◌↔◌, List, [], ◌∷◌, length, take, Err, IfOk, IfErr, IsErr};
+ghost use mathlib.Core.List.{IsPrefix};
+ghost use Rattle.orc_heap.specs.Allowed.{events_by};
+ghost use Rattle.orc_heap.specs.Journals.{run_heap};
+ghost use Rattle.orc_heap.specs.Moves.{gives_in};
+ghost use Rattle.orc_heap.specs.Parts.{InPart, IsAlone};
+ghost use Rattle.orc_heap.specs.Seats.{IsIdle};
+ghost use Rattle.orc_history.specs.Journals.{Adds, Within};
+ghost use Rattle.orc_history.specs.QueueHistory.{agent_of_entry, entry_of_dequeue};
+ghost use Rattle.orc_history.specs.declared.queue.QueueEntry.{QueueEntry};
+ghost use Rattle.orc_history.specs.declared.queue.QueueRefused.{QueueRefused};
+ghost use Rattle.orc_fifo_rule.specs.QueueDiscipline.{entries_of, position_of};
+ghost use Rattle.orc_queue.specs.Answers.{CallFindsFull};
+ghost use Rattle.orc_queue.specs.Causes.{Cause, UsesTurns};
+ghost use Rattle.orc_queue.specs.Laws.{cause_puts, cause_stays, entries_below, history_grows, seen_legal};
+ghost use Rattle.orc_queue.specs.Turns.{HasDummy};
+
+use crate::put::put_job;
+use crate::take::take_job;
+use orc_fault::Again;
+use orc_fifo_rule::Fifo;
+use orc_heap::Links;
+use orc_history::{LearnQueue, QueueRefused, SharedQueue};
+
+/// A queue over a domain of links: a chain of nodes behind a dummy. Root 0 names the dummy, root 1 the last node or
+/// the one before it. No call takes memory or waits.
+///
+/// A call's part of the journal begins with the first step of its own agent.
+#[derive(Drop)]
+pub struct Queue<L: Links<Rule = Fifo>> {
+    links: L,
+    ghost made: { HasDummy (L.numbers links) (L.opening links) },
+}
+
+impl<L: Links<Rule = Fifo>> Queue<L> {
+    /// The queue of a domain that was made with a dummy.
+    pub fn new(links: L) -> Queue<L>
+        requires { HasDummy (L.numbers links) (L.opening links) }
+        ensures { result.links ≡ links }
+    {
+        Queue { links }
+    }
+
+    pub fn links(&self) -> &L
+        ensures { result.now ≡ self.now.links }
+    {
+        &self.links
+    }
+
+    pub fn into_links(self) -> L
+        ensures { result ≡ self.links }
+    {
+        let Queue { links } = self;
+        links
+    }
+
+    /// Puts a job at the back and answers its position, in at most `turns` tries.
+    pub fn put(&self, p: &mut L::Pass, job: u64, turns: u64) -> Result<u64, QueueRefused>
+        requires pass { L.belongs self.now.links p.old }
+        requires idle { IsIdle (L.seat self.now.links p.old) }
+        ensures pass { L.belongs self.now.links p.new }
+        ensures idle { IsIdle (L.seat self.now.links p.new) }
+        ensures agent { (L.seat self.now.links p.new).agent ≡ (L.seat self.now.links p.old).agent }
+        ensures later { IsPrefix (L.journal p.old) (L.journal p.new) }
+        ensures put { IfOk result (λ at. Adds agent_of_entry (λ agent. agent < L.agents self.now.links) (L.seat self.now.links p.old).agent
+            (entries_of (L.events self.now.links (L.journal p.old))) (QueueEntry.Put (L.seat self.now.links p.old).agent job at ∷ [])
+            (entries_of (L.events self.now.links (L.journal p.new)))) }
+        ensures none { IfErr result (λ e. Adds agent_of_entry (λ agent. agent < L.agents self.now.links) (L.seat self.now.links p.old).agent
+            (entries_of (L.events self.now.links (L.journal p.old))) [] (entries_of (L.events self.now.links (L.journal p.new)))) }
+        ensures no_turns { turns ≡ 0 → result ≡ Err QueueRefused.Again }
+        ensures again { result ≡ Err QueueRefused.Again → InPart L.agent_of (L.seat self.now.links p.old).agent (L.journal p.old) (L.journal p.new)
+            (UsesTurns L.agent_of (L.events self.now.links) (L.seat self.now.links p.old).agent turns (L.journal p.new)) }
+        ensures no_node { result ≡ Err QueueRefused.NoNode → (turns ≢ 0) × Within (length (L.journal p.old)) (length (L.journal p.new))
+            (L.lacking self.now.links (L.seat self.now.links p.old).agent (L.journal p.new)) }
+        ensures positions { (result ≡ Err QueueRefused.Positions) ↔ CallFindsFull (L.numbers self.now.links) (L.seat self.now.links p.old) (L.seat self.now.links p.new) }
+        ensures gives { gives_in (events_by (L.seat self.now.links p.old).agent (L.seat self.now.links p.new).seen)
+            ≤ gives_in (events_by (L.seat self.now.links p.old).agent (L.seat self.now.links p.old).seen) + 1 }
+        ensures settled { IsAlone L.agent_of (L.seat self.now.links p.old).agent (L.journal p.old) (L.journal p.new) → L.backlog p.new ≡ 0 }
+    {
+        let answer = put_job(&self.links, p, job, turns);
+        self.links.settle(p);
+        answer
+    }
+
+    /// Takes the job at the front and answers it with its position, or None on the empty queue, in at most `turns`
+    /// tries.
+    pub fn take(&self, p: &mut L::Pass, turns: u64) -> Result<Option<(u64, u64)>, Again>
+        requires pass { L.belongs self.now.links p.old }
+        requires idle { IsIdle (L.seat self.now.links p.old) }
+        ensures pass { L.belongs self.now.links p.new }
+        ensures idle { IsIdle (L.seat self.now.links p.new) }
+        ensures agent { (L.seat self.now.links p.new).agent ≡ (L.seat self.now.links p.old).agent }
+        ensures later { IsPrefix (L.journal p.old) (L.journal p.new) }
+        ensures took { IfOk result (λ got. Adds agent_of_entry (λ agent. agent < L.agents self.now.links) (L.seat self.now.links p.old).agent
+            (entries_of (L.events self.now.links (L.journal p.old))) (entry_of_dequeue (L.seat self.now.links p.old).agent got ∷ [])
+            (entries_of (L.events self.now.links (L.journal p.new)))) }
+        ensures none { IfErr result (λ e. Adds agent_of_entry (λ agent. agent < L.agents self.now.links) (L.seat self.now.links p.old).agent
+            (entries_of (L.events self.now.links (L.journal p.old))) [] (entries_of (L.events self.now.links (L.journal p.new)))) }
+        ensures no_turns { turns ≡ 0 → IsErr result }
+        ensures again { IfErr result (λ e. InPart L.agent_of (L.seat self.now.links p.old).agent (L.journal p.old) (L.journal p.new)
+            (UsesTurns L.agent_of (L.events self.now.links) (L.seat self.now.links p.old).agent turns (L.journal p.new))) }
+        ensures gives { gives_in (events_by (L.seat self.now.links p.old).agent (L.seat self.now.links p.new).seen)
+            ≤ gives_in (events_by (L.seat self.now.links p.old).agent (L.seat self.now.links p.old).seen) }
+        ensures settled { IsAlone L.agent_of (L.seat self.now.links p.old).agent (L.journal p.old) (L.journal p.new) → L.backlog p.new ≡ 0 }
+    {
+        let answer = take_job(&self.links, p, turns);
+        self.links.settle(p);
+        answer
+    }
+}
+
+impl<L: Links<Rule = Fifo>> SharedQueue for Queue<L> {
+    type Pass = L::Pass;
+
+    type Step = L::Step;
+
+    ghost agent_of = { λ q p. (L.seat q.links p).agent };
+
+    ghost journal = { λ p. L.journal p };
+
+    ghost history = { λ q journal. entries_of (L.events q.links journal) };
+
+    ghost first = { λ q. position_of (run_heap (L.numbers q.links) (L.opening q.links)) 0 };
+
+    ghost usable = { λ q p. L.belongs q.links p × IsIdle (L.seat q.links p) };
+
+    ghost crowd = { λ q agent. agent < L.agents q.links };
+
+    ghost licence = { λ q agent turns why journal from to.
+        Cause L.agent_of (L.events q.links) (position_of (run_heap (L.numbers q.links) (L.opening q.links)) 0)
+        (L.lacking q.links agent journal from to) agent turns why journal from to };
+
+    ghost legal = { λ q p h. seen_legal (L.numbers q.links) (L.opening q.links) (L.seat q.links p).seen
+        (L.events q.links (L.journal p)) q.made (L.opens q.links p h.0) (L.allowed q.links p h.0) (L.obeys q.links p h.0)
+        (L.seen_is q.links p h.0) };
+
+    ghost licence_stays = { λ q agent turns why seen more from to h.
+        cause_stays L.agent_of (L.events q.links) (position_of (run_heap (L.numbers q.links) (L.opening q.links)) 0)
+        (L.lacking q.links agent seen from to) _ agent turns why seen more from to
+        (L.lacking_stays q.links agent seen more from to) h };
+
+    ghost grows = { λ q seen more. history_grows L.agent_of (L.events q.links) (L.steps_add q.links) seen more };
+
+    ghost many_puts = { λ q agent turns seen from to h.
+        cause_puts L.agent_of (L.events q.links) (position_of (run_heap (L.numbers q.links) (L.opening q.links)) 0)
+        turns (L.steps_add q.links) seen to h };
+
+    fn agent(&self, p: &L::Pass) -> u32 {
+        self.links.agent(p)
+    }
+
+    fn enqueue(&self, p: &mut L::Pass, job: u64, turns: u64) -> Result<u64, QueueRefused> {
+        self.put(p, job, turns)
+    }
+
+    fn dequeue(&self, p: &mut L::Pass, turns: u64) -> Result<Option<(u64, u64)>, Again> {
+        self.take(p, turns)
+    }
+}
+
+impl<L: Links<Rule = Fifo>> LearnQueue for Queue<L> {
+    ghost agents = { λ q. L.agents q.links };
+
+    fn learn(&self, into: &mut L::Pass, from: &mut L::Pass) {
+        self.links.learn(into, from);
+    }
+
+    ghost agents_below = { λ q p h. (
+      (L.agents_below q.links p h.0).0,
+      entries_below (L.numbers q.links) (L.agents q.links) (L.seat q.links p).seen
+          (L.events q.links (L.journal p)) (L.allowed q.links p h.0) (L.agents_below q.links p h.0).1 (L.seen_is q.links p h.0),
+    ) };
+}

@@ -1,0 +1,69 @@
+//! Swings of the queue's links.
+
+ghost use Rattle.std.specs.Prelude.{◌≡◌, ℕ, Some, true};
+ghost use mathlib.Core.List.{IsPrefix};
+ghost use Rattle.orc_heap.specs.Allowed.{AllowedLater};
+ghost use Rattle.orc_heap.specs.Calls.{Swings, move_of};
+ghost use Rattle.orc_heap.specs.Journals.{run_heap};
+ghost use Rattle.orc_heap.specs.Seats.{HoldsPlace, HoldsWant, IsNotFresh, link_in, place_in};
+ghost use Rattle.orc_heap.specs.Slots.{Holds, id_in};
+ghost use Rattle.orc_fifo_rule.specs.QueueDiscipline.{FifoMay, HasLink, link_to};
+ghost use Rattle.orc_queue.specs.Turns.{HasDummy, Helps};
+
+use orc_fifo_rule::{Fifo, FifoNote};
+use orc_heap::{At, Held, Links, Want};
+
+/// The root that names the dummy in front of the queue.
+pub(crate) const HEAD: u32 = 0;
+
+/// The root that names the last node, or the one before it.
+pub(crate) const TAIL: u32 = 1;
+
+/// One compare-and-swap. It is never refused, since three links at most are made to a node in all.
+pub(crate) fn change<L: Links<Rule = Fifo>>(
+    links: &L,
+    p: &mut L::Pass,
+    place: &At,
+    from: &Want,
+    to: &Want,
+    noted: FifoNote,
+) -> bool
+    requires pass { L.belongs links.now p.old }
+    requires place { HoldsPlace (L.numbers links.now).roots (L.seat links.now p.old).slots place.now }
+    requires linked { IsNotFresh (L.seat links.now p.old) place.now }
+    requires links { HoldsWant (L.seat links.now p.old).slots from.now × HoldsWant (L.seat links.now p.old).slots to.now }
+    requires allowed { AllowedLater (FifoMay (L.numbers links.now)) (L.numbers links.now)
+        (L.seat links.now p.old).agent (L.seat links.now p.old).seen
+        (place_in (L.seat links.now p.old).slots place.now) (link_in (L.seat links.now p.old).slots from.now)
+        (move_of (L.seat links.now p.old) place.now from.now to.now (Some noted)) }
+    ensures pass { L.belongs links.now p.new }
+    ensures later { IsPrefix (L.journal p.old) (L.journal p.new) }
+    ensures swung { Swings place.now from.now to.now (Some noted) (L.seat links.now p.old) result (L.seat links.now p.new) }
+{
+    match links.swing(p, place, from, to, Some(noted)) {
+        Ok(done) => done,
+        Err(_) => unreachable!(),
+    }
+}
+
+/// Swings the tail on from a node to its successor, if the tail still names that node.
+pub(crate) fn help_tail<L: Links<Rule = Fifo>>(links: &L, p: &mut L::Pass, tail: &Held, next: &Held)
+    requires pass { L.belongs links.now p.old }
+    requires made { HasDummy (L.numbers links.now) (L.opening links.now) }
+    requires held { Holds (L.seat links.now p.old).slots tail.now × Holds (L.seat links.now p.old).slots next.now }
+    requires successor { HasLink (run_heap (L.numbers links.now) (L.seat links.now p.old).seen)
+        (id_in (L.seat links.now p.old).slots tail.now) (link_to (id_in (L.seat links.now p.old).slots next.now)) }
+    ensures pass { L.belongs links.now p.new }
+    ensures later { IsPrefix (L.journal p.old) (L.journal p.new) }
+    ensures helped { Helps (id_in (L.seat links.now p.old).slots tail.now) (id_in (L.seat links.now p.old).slots next.now)
+        (L.seat links.now p.old) (L.seat links.now p.new) }
+{
+    let _done = change(
+        links,
+        p,
+        &At::Root(TAIL),
+        &Want::Node(tail, false),
+        &Want::Node(next, false),
+        FifoNote::Swing,
+    );
+}

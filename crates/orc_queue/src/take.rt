@@ -1,0 +1,195 @@
+//! Taking the job at the front, turn by turn.
+
+ghost use Rattle.std.specs.Prelude.{◌≡◌, ℕ, true};
+ghost use mathlib.Core.List.{IsPrefix};
+ghost use Rattle.orc_heap.specs.Journals.{run_heap};
+ghost use Rattle.orc_heap.specs.Seats.{IsIdle};
+ghost use Rattle.orc_heap.specs.Slots.{Holds, IsFree, id_in};
+ghost use Rattle.orc_fifo_rule.specs.QueueDiscipline.{HasLink, link_to};
+ghost use Rattle.orc_fifo_rule.specs.Watches.{IsLeft, WasNamed};
+ghost use Rattle.orc_queue.specs.Answers.{TakeAnswers};
+ghost use Rattle.orc_queue.specs.Turns.{HasDummy, FindsEnd, TakesBehind, TakesFrom, TakesNext, TakesTurn, TakesTurns};
+
+use crate::swings::{HEAD, TAIL, change, help_tail};
+use orc_fault::Again;
+use orc_fifo_rule::{Fifo, FifoNote};
+use orc_heap::{At, Held, Links, Looked, Want};
+use orc_history::QueueEntry;
+
+/// How a turn of a take ended.
+#[derive(Clone, Copy, Debug, PartialEq, Eq)]
+pub enum TakeTurn {
+    /// With no answer.
+    Over,
+    /// This job was taken, which was put at this position.
+    Took(u64, u64),
+    /// The queue was empty.
+    Empty,
+}
+
+// Takes the successor's job: the head goes on to it.
+fn swing_head<L: Links<Rule = Fifo>>(
+    links: &L,
+    p: &mut L::Pass,
+    head: &Held,
+    next: &Held,
+) -> Option<(u64, u64)>
+    requires pass { L.belongs links.now p.old }
+    requires made { HasDummy (L.numbers links.now) (L.opening links.now) }
+    requires held { Holds (L.seat links.now p.old).slots head.now × Holds (L.seat links.now p.old).slots next.now }
+    requires left { IsLeft (run_heap (L.numbers links.now) (L.seat links.now p.old).seen) (id_in (L.seat links.now p.old).slots head.now) }
+    requires successor { HasLink (run_heap (L.numbers links.now) (L.seat links.now p.old).seen)
+        (id_in (L.seat links.now p.old).slots head.now) (link_to (id_in (L.seat links.now p.old).slots next.now)) }
+    ensures pass { L.belongs links.now p.new }
+    ensures later { IsPrefix (L.journal p.old) (L.journal p.new) }
+    ensures took { TakesFrom (L.numbers links.now) (id_in (L.seat links.now p.old).slots head.now) (L.seat links.now p.old) result (L.seat links.now p.new) }
+{
+    let job = links.value(p, next, 0);
+    let at = links.value(p, next, 1) - 1;
+    let agent = links.agent(p);
+    let took = FifoNote::Entry(QueueEntry::Took { agent, job, at });
+    let new = Want::Node(next, false);
+    if change(
+        links,
+        p,
+        &At::Root(HEAD),
+        &Want::Node(head, false),
+        &new,
+        took,
+    ) {
+        Some((job, at))
+    } else {
+        None
+    }
+}
+
+// Goes on from the head and its successor: helps the tail on if it still names the head, or takes the job.
+fn take_next<L: Links<Rule = Fifo>>(
+    links: &L,
+    p: &mut L::Pass,
+    head: &Held,
+    next: &Held,
+) -> Option<(u64, u64)>
+    requires pass { L.belongs links.now p.old }
+    requires made { HasDummy (L.numbers links.now) (L.opening links.now) }
+    requires held { Holds (L.seat links.now p.old).slots head.now × Holds (L.seat links.now p.old).slots next.now }
+    requires named { WasNamed (run_heap (L.numbers links.now) (L.seat links.now p.old).seen) 0 (id_in (L.seat links.now p.old).slots head.now) }
+    requires successor { HasLink (run_heap (L.numbers links.now) (L.seat links.now p.old).seen)
+        (id_in (L.seat links.now p.old).slots head.now) (link_to (id_in (L.seat links.now p.old).slots next.now)) }
+    ensures pass { L.belongs links.now p.new }
+    ensures later { IsPrefix (L.journal p.old) (L.journal p.new) }
+    ensures took { TakesNext (L.numbers links.now) (id_in (L.seat links.now p.old).slots head.now) (id_in (L.seat links.now p.old).slots next.now)
+        (L.seat links.now p.old) result (L.seat links.now p.new) }
+{
+    if links.same(p, &At::Root(TAIL), &Want::Node(head, false), None) {
+        help_tail(links, p, head, next);
+        return None;
+    }
+    swing_head(links, p, head, next)
+}
+
+// Whether the head, whose link was null, still has a null link. Then the queue is empty.
+fn finds_end<L: Links<Rule = Fifo>>(links: &L, p: &mut L::Pass, head: &Held) -> bool
+    requires pass { L.belongs links.now p.old }
+    requires made { HasDummy (L.numbers links.now) (L.opening links.now) }
+    requires held { Holds (L.seat links.now p.old).slots head.now }
+    requires named { WasNamed (run_heap (L.numbers links.now) (L.seat links.now p.old).seen) 0 (id_in (L.seat links.now p.old).slots head.now) }
+    ensures pass { L.belongs links.now p.new }
+    ensures later { IsPrefix (L.journal p.old) (L.journal p.new) }
+    ensures found { FindsEnd (L.numbers links.now) (id_in (L.seat links.now p.old).slots head.now) (L.seat links.now p.old) result (L.seat links.now p.new) }
+{
+    let agent = links.agent(p);
+    let empty = FifoNote::Entry(QueueEntry::Empty { agent });
+    links.same(p, &At::Node(head), &Want::Null(false), Some(empty))
+}
+
+// Goes on from the node that the head named.
+fn take_behind<L: Links<Rule = Fifo>>(links: &L, p: &mut L::Pass, head: &Held) -> TakeTurn
+    requires pass { L.belongs links.now p.old }
+    requires made { HasDummy (L.numbers links.now) (L.opening links.now) }
+    requires held { Holds (L.seat links.now p.old).slots head.now }
+    requires slot { IsFree (L.seat links.now p.old).slots 2 }
+    requires named { WasNamed (run_heap (L.numbers links.now) (L.seat links.now p.old).seen) 0 (id_in (L.seat links.now p.old).slots head.now) }
+    ensures pass { L.belongs links.now p.new }
+    ensures later { IsPrefix (L.journal p.old) (L.journal p.new) }
+    ensures took { TakesBehind (L.numbers links.now) (id_in (L.seat links.now p.old).slots head.now) (L.seat links.now p.old) result (L.seat links.now p.new) }
+{
+    match links.look(p, &At::Node(head), 2) {
+        Looked::Stable(_, None) => {
+            if finds_end(links, p, head) {
+                TakeTurn::Empty
+            } else {
+                TakeTurn::Over
+            }
+        }
+        Looked::Stable(_, Some(next)) => {
+            let took = take_next(links, p, head, &next);
+            links.release(p, next);
+            match took {
+                Some((job, at)) => TakeTurn::Took(job, at),
+                None => TakeTurn::Over,
+            }
+        }
+        Looked::Moved => TakeTurn::Over,
+    }
+}
+
+// One turn.
+fn take_turn<L: Links<Rule = Fifo>>(links: &L, p: &mut L::Pass) -> TakeTurn
+    requires pass { L.belongs links.now p.old }
+    requires made { HasDummy (L.numbers links.now) (L.opening links.now) }
+    requires slots { IsFree (L.seat links.now p.old).slots 1 × IsFree (L.seat links.now p.old).slots 2 }
+    requires fresh { (L.seat links.now p.old).fresh ≡ None }
+    ensures pass { L.belongs links.now p.new }
+    ensures later { IsPrefix (L.journal p.old) (L.journal p.new) }
+    ensures took { TakesTurn (L.numbers links.now) (L.seat links.now p.old) result (L.seat links.now p.new) }
+{
+    match links.look(p, &At::Root(HEAD), 1) {
+        Looked::Stable(_, Some(head)) => {
+            let turn = take_behind(links, p, &head);
+            links.release(p, head);
+            turn
+        }
+        Looked::Stable(_, None) => unreachable!(),
+        Looked::Moved => TakeTurn::Over,
+    }
+}
+
+/// Takes a job, in at most so many turns.
+pub(crate) fn take_turns<L: Links<Rule = Fifo>>(links: &L, p: &mut L::Pass, turns: u64) -> TakeTurn
+    requires pass { L.belongs links.now p.old }
+    requires made { HasDummy (L.numbers links.now) (L.opening links.now) }
+    requires slots { IsFree (L.seat links.now p.old).slots 1 × IsFree (L.seat links.now p.old).slots 2 }
+    requires fresh { (L.seat links.now p.old).fresh ≡ None }
+    ensures pass { L.belongs links.now p.new }
+    ensures later { IsPrefix (L.journal p.old) (L.journal p.new) }
+    ensures took { TakesTurns (L.numbers links.now) turns (L.seat links.now p.old) result (L.seat links.now p.new) }
+{
+    for _ in 0..turns {
+        match take_turn(links, p) {
+            TakeTurn::Over => {}
+            turn => return turn,
+        }
+    }
+    TakeTurn::Over
+}
+
+/// Takes the job at the front, in at most so many turns.
+pub(crate) fn take_job<L: Links<Rule = Fifo>>(
+    links: &L,
+    p: &mut L::Pass,
+    turns: u64,
+) -> Result<Option<(u64, u64)>, Again>
+    requires pass { L.belongs links.now p.old }
+    requires made { HasDummy (L.numbers links.now) (L.opening links.now) }
+    requires idle { IsIdle (L.seat links.now p.old) }
+    ensures pass { L.belongs links.now p.new }
+    ensures later { IsPrefix (L.journal p.old) (L.journal p.new) }
+    ensures answered { TakeAnswers turns (L.seat links.now p.old) result (L.seat links.now p.new) }
+{
+    match take_turns(links, p, turns) {
+        TakeTurn::Took(job, at) => Ok(Some((job, at))),
+        TakeTurn::Empty => Ok(None),
+        TakeTurn::Over => Err(Again),
+    }
+}
