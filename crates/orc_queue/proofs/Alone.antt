@@ -1,22 +1,20 @@
 -- A turn in which no other agent steps: what is new are the pass's own events.
-use Rattle.std.proofs.Common.{Bool, List, Option, Some, None, [], ap, append_assoc, arith, inl, inr, refl, subst, sym, true, ℕ, ◌++◌, ◌+◌, ◌<◌, ◌∙◌, ◌∷◌, ◌≡◌, ◌≢◌, ◌≤◌, ◌⊎◌}
+use Rattle.std.proofs.Common.{List, Some, None, [], ap, append_assoc, arith, inl, inr, refl, subst, sym, true, ℕ, ◌++◌, ◌∙◌, ◌∷◌, ◌≡◌, ◌≤◌}
 use Rattle.std.proofs.lemmas.List.Elements.{filter-append}
 use Rattle.std.specs.Prelude.{◌==◌}
 use Rattle.orc_heap.proofs.OwnParts.{begins_own, moves_after_own, own_from, own_is_all}
 use Rattle.orc_heap.proofs.Parts.{filter-at}
-use Rattle.orc_heap.proofs.Runs.{run_from-append, run_heap-snoc}
+use Rattle.orc_heap.proofs.Runs.{run_heap-snoc}
 use Rattle.orc_heap.proofs.Stays.{allowed-left, allowed-right}
-use Rattle.orc_heap.specs.Acts.{heap_after}
 use Rattle.orc_heap.specs.Allowed.{AllAllowed, events_by}
 use Rattle.orc_heap.specs.Calls.{event_of}
-use Rattle.orc_heap.specs.Heap.{Heap, HeapNumbers, new_heap, null, shown}
-use Rattle.orc_heap.specs.Journals.{run_from, run_heap}
+use Rattle.orc_heap.specs.Heap.{Heap, HeapNumbers, null, shown}
+use Rattle.orc_heap.specs.Journals.{run_heap}
 use Rattle.orc_heap.specs.Moves.{AllOwn, from_own, moves_in}
 use Rattle.orc_heap.specs.Parts.{Puts}
 use Rattle.orc_heap.specs.Seats.{Seat}
 use Rattle.orc_heap.specs.declared.events.Act.TheVariants.{Look, Move}
 use Rattle.orc_heap.specs.declared.events.Event.{Event}
-use Rattle.orc_heap.specs.declared.events.Link.{Link}
 use Rattle.orc_heap.specs.declared.events.Place.TheVariants.{Next, Root}
 use Rattle.orc_fifo_rule.proofs.Later.{holds_later}
 use Rattle.orc_fifo_rule.specs.declared.fifo.FifoNote.{FifoNote}
@@ -28,8 +26,8 @@ use Rattle.orc_fifo_rule.specs.Kept.Nodes.{link_next, node_next, shown_link}
 use Rattle.orc_fifo_rule.specs.Kept.Paths.{back_one, tail_steps}
 use Rattle.orc_queue.specs.Turns.{IsOver, Piece, TailIsLast, TailIsPast, heap_of}
 use Rattle.orc_queue.proofs.Filled.{Known}
-use Rattle.orc_queue.proofs.Joins.{Join, join, own_moves_left}
-use Rattle.orc_queue.proofs.Moments.{look_found, looks_differ}
+use Rattle.orc_queue.proofs.Joins.{Join, own_moves_left}
+use Rattle.orc_queue.proofs.Moments.{look_found}
 use Rattle.orc_queue.proofs.Pieces.{new_allowed, new_is}
 
 -- from the first own event on, these are the own events

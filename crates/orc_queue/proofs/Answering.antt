@@ -1,14 +1,12 @@
 -- A whole call, from the idle pass to the idle pass.
-use Rattle.std.proofs.Common.{Bool, List, Option, Some, None, Ok, Err, Result, [], ap, append-nil, arith, inl, inr, refl, subst, sym, ℕ, ◌++◌, ◌+◌, ◌<◌, ◌∙◌, ◌∷◌, ◌≡◌, ◌≢◌, ◌≤◌, ◌⊎◌}
+use Rattle.std.proofs.Common.{List, Option, Some, None, Ok, Err, Result, [], ap, append-nil, arith, refl, sym, ℕ, ◌∙◌, ◌∷◌, ◌≡◌, ◌≢◌}
 use Rattle.std.specs.List.{slice_get}
 use Rattle.orc_fault.specs.declared.Again.{Again as AgainFault}
 use Rattle.orc_heap.proofs.ByAnswer.{unless_same}
-use Rattle.orc_heap.proofs.OwnParts.{moves_from_own-append, own_from_left, own_from_right}
 use Rattle.orc_heap.proofs.Parts.{Puts-trans}
-use Rattle.orc_heap.specs.Allowed.{AllAllowed}
-use Rattle.orc_heap.specs.Calls.{Gives, Releases, event_of, given_node, unless_node}
+use Rattle.orc_heap.specs.Calls.{Gives, Releases, event_of, unless_node}
 use Rattle.orc_heap.specs.Heap.{HeapNumbers}
-use Rattle.orc_heap.specs.Moves.{AllOwn, from_own, gives_in, moves_in}
+use Rattle.orc_heap.specs.Moves.{gives_in}
 use Rattle.orc_heap.specs.Parts.{Only, Puts}
 use Rattle.orc_heap.specs.Seats.{IsIdle, Seat}
 use Rattle.orc_heap.specs.Slots.{Hold, IsFree, Slots, id_in}
@@ -20,11 +18,11 @@ use Rattle.orc_history.specs.declared.queue.QueueEntry.TheVariants.{Put}
 use Rattle.orc_history.specs.declared.queue.QueueRefused.{QueueRefused}
 use Rattle.orc_history.specs.declared.queue.QueueRefused.TheVariants.{Again, NoNode, Positions}
 use Rattle.orc_fifo_rule.specs.declared.fifo.FifoNote.{FifoNote}
-use Rattle.orc_fifo_rule.specs.QueueDiscipline.{FifoMay, entries_of}
+use Rattle.orc_fifo_rule.specs.QueueDiscipline.{entries_of}
 use Rattle.orc_queue.specs.Answers.{IsCall, PutAnswers, PutFull, PutLacking, PutMade, PutTired, TakeAnswers, TakeMade, Tires}
-use Rattle.orc_queue.specs.Turns.{AreOver, FindsFull, HoldsNode, IsFull, Piece, PutTires, PutsJob, TailIsLast, TailIsPast, TakesJob, TakesNone, heap_of}
+use Rattle.orc_queue.specs.Turns.{AreOver, FindsFull, HoldsNode, IsFull, Piece, PutTires, PutsJob, TailIsPast}
 use Rattle.orc_queue.proofs.Joins.{full_join_left, full_join_right, own_moves_left, own_moves_right, own_part_left, own_part_right, puts_released, room_join}
-use Rattle.orc_queue.proofs.Pieces.{InSlot, gives_in-append, slot_holds, slot_id, slot_released}
+use Rattle.orc_queue.proofs.Pieces.{InSlot, slot_holds, slot_id, slot_released}
 use Rattle.orc_queue.proofs.Room.{room_unseen}
 
 -- a take

@@ -1,35 +1,30 @@
 -- A put, from the node on that the tail named.
-use Rattle.std.proofs.Common.{Bool, List, Option, Some, None, [], ap, append-nil, arith, cond, false, inl, inr, refl, subst, sym, true, ℕ, ◌++◌, ◌+◌, ◌<◌, ◌^◌, ◌∙◌, ◌∷◌, ◌≡◌, ◌≢◌, ◌≤◌, ◌⊎◌}
-use Rattle.std.proofs.lemmas.Bool.{eqb-true, ne_eqb}
-use Rattle.std.specs.List.{list_any, slice_get}
-use Rattle.orc_heap.proofs.Fresh.{touched_by}
+use Rattle.std.proofs.Common.{List, Some, None, [], ap, arith, false, inl, inr, refl, subst, sym, true, ℕ, ◌<◌, ◌^◌, ◌∙◌, ◌∷◌, ◌≡◌, ◌≢◌, ◌≤◌}
+use Rattle.std.proofs.lemmas.Bool.{ne_eqb}
 use Rattle.orc_heap.proofs.OwnParts.{moves_from_own}
 use Rattle.orc_heap.proofs.Parts.{Puts-trans}
-use Rattle.orc_heap.specs.Allowed.{AllAllowed, IsLinkedNode, events_by}
-use Rattle.orc_heap.specs.Calls.{Misses, Releases, event_of, given_node}
-use Rattle.orc_heap.specs.Heap.{HeapNumbers, Node, null, shown}
-use Rattle.orc_heap.specs.Journals.{points_to}
-use Rattle.orc_heap.specs.Moves.{gives_in, moves_in}
-use Rattle.orc_heap.specs.Parts.{Only, Puts}
+use Rattle.orc_heap.specs.Allowed.{AllAllowed, IsLinkedNode}
+use Rattle.orc_heap.specs.Calls.{event_of}
+use Rattle.orc_heap.specs.Heap.{HeapNumbers, null}
+use Rattle.orc_heap.specs.Moves.{moves_in}
+use Rattle.orc_heap.specs.Parts.{Puts}
 use Rattle.orc_heap.specs.Seats.{IsUntouched, Seat}
 use Rattle.orc_heap.specs.Slots.{Hold, id_in}
 use Rattle.orc_heap.specs.declared.events.Act.TheVariants.{Look, Miss, Move}
 use Rattle.orc_heap.specs.declared.events.Event.{Event}
 use Rattle.orc_heap.specs.declared.events.Link.{Link}
 use Rattle.orc_heap.specs.declared.events.Place.TheVariants.{Next, Root}
-use Rattle.orc_history.specs.declared.queue.QueueEntry.{QueueEntry}
 use Rattle.orc_history.specs.declared.queue.QueueEntry.TheVariants.{Put}
 use Rattle.orc_fifo_rule.proofs.Reading.{successor_job}
 use Rattle.orc_fifo_rule.specs.declared.fifo.FifoNote.{FifoNote}
 use Rattle.orc_fifo_rule.specs.declared.fifo.FifoNote.TheVariants.{Swing}
 use Rattle.orc_fifo_rule.specs.QueueDiscipline.{FifoMay, HasLink, entries_of, link_to, position_of}
 use Rattle.orc_fifo_rule.specs.Watches.{WasNamed}
-use Rattle.orc_fifo_rule.specs.Kept.Paths.{successor_linked}
 use Rattle.orc_queue.specs.declared.put.PutTurn.{PutTurn}
 use Rattle.orc_queue.specs.declared.put.PutTurn.TheVariants.{Full, Over as PutOver, Put as PutDone}
-use Rattle.orc_queue.specs.Turns.{FindsFull, Helps, HelpsBehind, HoldsNode, IsFull, LinksBehind, Piece, PutsBehind, PutsJob, Stops, TurnMissed, heap_of}
+use Rattle.orc_queue.specs.Turns.{FindsFull, Helps, HoldsNode, LinksBehind, PutsBehind, TurnMissed, heap_of}
 use Rattle.orc_queue.proofs.Filled.{Known}
-use Rattle.orc_queue.proofs.Joins.{Join, full_join_left, join, moves_left, moves_right, one_part, puts_released, room_join}
+use Rattle.orc_queue.proofs.Joins.{full_join_left, join, moves_left, moves_right, one_part, puts_released, room_join}
 use Rattle.orc_queue.proofs.Looking.{next_found}
 use Rattle.orc_queue.proofs.Moments.{look_found, looks_differ, miss_moved, moves_own}
 use Rattle.orc_queue.proofs.Pieces.{linked_not_fresh, linked_puts, new_allowed, node_puts, position_puts}

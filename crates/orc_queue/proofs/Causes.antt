@@ -1,5 +1,5 @@
 -- From what a call did to its clauses on journals.
-use Rattle.std.proofs.Common.{Bool, List, Ok, Err, Option, Result, [], ap, append_assoc, arith, drop, inl, inr, length, refl, subst, sym, take, true, ℕ, ◌++◌, ◌+◌, ◌<◌, ◌==◌, ◌^◌, ◌∙◌, ◌∷◌, ◌≡◌, ◌≢◌, ◌≤◌, ◌⊎◌}
+use Rattle.std.proofs.Common.{List, Ok, Err, Option, Result, [], ap, append_assoc, arith, drop, inr, length, refl, subst, sym, take, true, ℕ, ◌++◌, ◌+◌, ◌<◌, ◌==◌, ◌^◌, ◌∙◌, ◌∷◌, ◌≡◌, ◌≢◌, ◌≤◌, ◌⊎◌}
 use Rattle.std.proofs.lemmas.List.{length-append}
 use Rattle.std.proofs.lemmas.List.Elements.{filter-append}
 use Rattle.std.proofs.Math.Seq.{drop-append_seam, take-length}
@@ -15,7 +15,7 @@ use Rattle.orc_heap.specs.Heap.{HeapNumbers}
 use Rattle.orc_heap.specs.Journals.{run_heap}
 use Rattle.orc_heap.specs.Moves.{AllOwn, from_own, gives_in, moves_in}
 use Rattle.orc_heap.specs.Parts.{InPart, IsBelow, part_begin}
-use Rattle.orc_heap.specs.Seats.{IsIdle, Seat}
+use Rattle.orc_heap.specs.Seats.{Seat}
 use Rattle.orc_heap.specs.declared.events.Event.{Event}
 use Rattle.orc_history.specs.Journals.{Adds, Every, Learns as HistoryLearns, Within, own_of}
 use Rattle.orc_history.specs.QueueHistory.{agent_of_entry, entry_of_dequeue, puts_in}
@@ -27,9 +27,9 @@ use Rattle.orc_fault.specs.declared.Again.{Again as AgainFault}
 use Rattle.orc_fifo_rule.proofs.OwnEntries.{entries_added, own_of_events}
 use Rattle.orc_fifo_rule.specs.declared.fifo.FifoNote.{FifoNote}
 use Rattle.orc_fifo_rule.specs.QueueDiscipline.{FifoMay, entries_of, position_of}
-use Rattle.orc_queue.specs.Answers.{CallFindsFull, IsCall, PutAnswers, PutTired, TakeAnswers, Tires}
+use Rattle.orc_queue.specs.Answers.{CallFindsFull, IsCall, PutAnswers, TakeAnswers, Tires}
 use Rattle.orc_queue.specs.Causes.{Cause, LacksPosition, UsesTurns}
-use Rattle.orc_queue.specs.Turns.{FindsFull, HasDummy, heap_of}
+use Rattle.orc_queue.specs.Turns.{FindsFull, HasDummy}
 use Rattle.orc_queue.specs.Laws.{first_stays}
 use Rattle.orc_queue.proofs.Filled.{Known}
 use Rattle.orc_queue.proofs.Pieces.{gives_in-append, new_allowed}

@@ -1,33 +1,31 @@
 -- Each once linked node has its second value, from the opening on.
-use Rattle.std.proofs.Common.{Bool, List, None, Option, Some, [], ap, append-nil, append_assoc, arith, false, inl, inr, refl, subst, sym, true, ℕ, ◌++◌, ◌+◌, ◌∙◌, ◌∷◌, ◌≡◌}
+use Rattle.std.proofs.Common.{Bool, List, None, Option, Some, [], ap, append-nil, append_assoc, false, inl, inr, refl, subst, sym, true, ℕ, ◌++◌, ◌+◌, ◌∙◌, ◌∷◌, ◌≡◌}
 use Rattle.std.proofs.lemmas.Bool.{eqb-true}
 use Rattle.std.specs.List.{slice_get}
 use Rattle.std.specs.Prelude.{if◌then◌else◌, is_some, ◌==◌}
 use mathlib.Core.List.{IsPrefix}
-use Rattle.orc_heap.proofs.Before.{IsLinkedBy, linked_before}
+use Rattle.orc_heap.proofs.Before.{linked_before}
 use Rattle.orc_heap.proofs.Fresh.{link_touched, node-after, touched}
 use Rattle.orc_heap.proofs.Linked.{linked_after}
 use Rattle.orc_heap.proofs.Runs.{run_heap-snoc}
 use Rattle.orc_heap.proofs.Stays.{allowed-left, allowed-right}
 use Rattle.orc_heap.specs.Acts.{as_linked, heap_after, with_link}
 use Rattle.orc_heap.specs.Allowed.{AllAllowed, IsLinkedNode}
-use Rattle.orc_heap.specs.Heap.{Heap, HeapNumbers, Node, null, shown}
+use Rattle.orc_heap.specs.Heap.{Heap, HeapNumbers, Node}
 use Rattle.orc_heap.specs.Journals.{IsPlainAct, moves_to, names_node, run_heap}
 use Rattle.orc_heap.specs.declared.events.Act.{Act}
 use Rattle.orc_heap.specs.declared.events.Act.TheVariants.{Aim, Fill, Give, Look, Miss, Move}
 use Rattle.orc_heap.specs.declared.events.Event.{Event}
 use Rattle.orc_heap.specs.declared.events.Link.{Link}
 use Rattle.orc_heap.specs.declared.events.Place.TheVariants.{Next, Root}
-use Rattle.orc_history.specs.declared.queue.QueueEntry.TheVariants.{Empty, Put, Took}
 use Rattle.orc_fifo_rule.proofs.Later.{holds_later, nothing_yet}
 use Rattle.orc_fifo_rule.specs.declared.fifo.FifoNote.{FifoNote}
-use Rattle.orc_fifo_rule.specs.declared.fifo.FifoNote.TheVariants.{Begin, Entry, Swing}
-use Rattle.orc_fifo_rule.specs.QueueDiscipline.{FifoHolds, FifoMay, HoldsJob, StepsOn, has_begun, link_to}
+use Rattle.orc_fifo_rule.specs.QueueDiscipline.{FifoHolds, FifoMay, has_begun, link_to}
 use Rattle.orc_fifo_rule.specs.Watches.{event_of}
 use Rattle.orc_fifo_rule.specs.Kept.Events.{begun_more}
 use Rattle.orc_fifo_rule.specs.Kept.Kinds.{each_kind}
 use Rattle.orc_fifo_rule.specs.Kept.Laws.{fifo_keeps}
-use Rattle.orc_fifo_rule.specs.Kept.Paths.{dummy_linked, has_link, head_steps, successor_linked, tail_steps}
+use Rattle.orc_fifo_rule.specs.Kept.Paths.{head_steps, successor_linked, tail_steps}
 use Rattle.orc_fifo_rule.specs.Kept.Running.{begin_late}
 use Rattle.orc_queue.specs.Turns.{HasDummy}
 

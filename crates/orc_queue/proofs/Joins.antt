@@ -1,5 +1,5 @@
 -- Two pieces of a call, or three of which the last is a release, make one.
-use Rattle.std.proofs.Common.{List, [], ap, append-nil, append_assoc, arith, refl, subst, sym, ℕ, ◌++◌, ◌+◌, ◌∙◌, ◌∷◌, ◌≡◌, ◌≤◌}
+use Rattle.std.proofs.Common.{List, [], ap, append-nil, append_assoc, arith, refl, subst, sym, ℕ, ◌++◌, ◌∙◌, ◌∷◌, ◌≡◌, ◌≤◌}
 use mathlib.Core.List.{IsPrefix}
 use Rattle.orc_heap.proofs.Moved.{moves_in-append}
 use Rattle.orc_heap.proofs.OwnParts.{moves_from_own-append, own_from_left, own_from_right}

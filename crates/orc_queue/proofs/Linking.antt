@@ -1,5 +1,5 @@
 -- Linking the new node behind the last one.
-use Rattle.std.proofs.Common.{Bool, List, Option, Some, None, [], ap, append-nil, append_assoc, arith, cond, false, inl, inr, refl, subst, sym, true, ℕ, ◌++◌, ◌+◌, ◌<◌, ◌^◌, ◌∙◌, ◌∷◌, ◌≡◌, ◌≢◌, ◌≤◌, ◌⊎◌}
+use Rattle.std.proofs.Common.{Bool, List, Option, Some, None, [], ap, append-nil, append_assoc, arith, cond, false, inl, inr, refl, subst, sym, ℕ, ◌++◌, ◌+◌, ◌<◌, ◌^◌, ◌∙◌, ◌∷◌, ◌≡◌, ◌⊎◌}
 use Rattle.std.proofs.lemmas.Bool.{eq-eqb}
 use Rattle.std.specs.List.{list_any, slice_get}
 use Rattle.orc_heap.proofs.ByAnswer.{unless_same}
@@ -7,17 +7,15 @@ use Rattle.orc_heap.proofs.Fresh.{touched_by}
 use Rattle.orc_heap.proofs.Parts.{Puts-trans}
 use Rattle.orc_heap.specs.Allowed.{AllAllowed, AllowedLater, IsLinkedNode}
 use Rattle.orc_heap.specs.Calls.{Misses, ReadsValue, event_of, given_node, unless_node}
-use Rattle.orc_heap.specs.Heap.{HeapNumbers, Node, null, shown}
+use Rattle.orc_heap.specs.Heap.{HeapNumbers, Node, null}
 use Rattle.orc_heap.specs.Journals.{run_heap}
 use Rattle.orc_heap.specs.Parts.{Only, Puts}
 use Rattle.orc_heap.specs.Moves.{gives_in}
 use Rattle.orc_heap.specs.Seats.{Seat}
 use Rattle.orc_heap.specs.Slots.{Hold, id_in}
-use Rattle.orc_heap.specs.declared.events.Act.TheVariants.{Fill, Look, Miss, Move}
+use Rattle.orc_heap.specs.declared.events.Act.TheVariants.{Fill, Miss, Move}
 use Rattle.orc_heap.specs.declared.events.Event.{Event}
-use Rattle.orc_heap.specs.declared.events.Link.{Link}
-use Rattle.orc_heap.specs.declared.events.Place.TheVariants.{Next, Root}
-use Rattle.orc_history.specs.declared.queue.QueueEntry.{QueueEntry}
+use Rattle.orc_heap.specs.declared.events.Place.TheVariants.{Next}
 use Rattle.orc_history.specs.declared.queue.QueueEntry.TheVariants.{Put}
 use Rattle.orc_fifo_rule.proofs.Coming.{put_allowed}
 use Rattle.orc_fifo_rule.proofs.Later.{link_later, linked_later}
@@ -28,11 +26,13 @@ use Rattle.orc_fifo_rule.specs.Watches.{WasNamed, node_to_put}
 use Rattle.orc_fifo_rule.specs.Kept.Events.{entries_of-append}
 use Rattle.orc_fifo_rule.specs.Kept.Nodes.{link_next}
 use Rattle.orc_fifo_rule.specs.Kept.Paths.{has_link}
-use Rattle.orc_queue.specs.Turns.{Helps, HoldsNode, LinkMissed, LinksJob, Piece, heap_of, looks_at_end}
+use Rattle.orc_queue.specs.declared.put.PutTurn.{PutTurn}
+use Rattle.orc_queue.specs.declared.put.PutTurn.TheVariants.{Full, Over as PutOver, Put as PutDone}
+use Rattle.orc_queue.specs.Turns.{Helps, HoldsNode, LinkMissed, LinksBehind, LinksJob, heap_of, looks_at_end}
 use Rattle.orc_queue.proofs.Filled.{Known}
-use Rattle.orc_queue.proofs.Joins.{Join, join, room_join}
+use Rattle.orc_queue.proofs.Joins.{join, room_join}
 use Rattle.orc_queue.proofs.Looking.{position_read}
-use Rattle.orc_queue.proofs.Moments.{Moment, miss_moved, moment, seen_is, since}
+use Rattle.orc_queue.proofs.Moments.{miss_moved, moment, seen_is}
 use Rattle.orc_queue.proofs.Pieces.{gives_in-append, link_puts, linked_puts, named_puts, node_puts, node_touched, position_puts}
 use Rattle.orc_queue.proofs.Room.{room_unseen}
 
@@ -154,3 +154,15 @@ link_helped n job tail next at h s c t all l helped = elim helped.either [ inl m
           low = l.low;
           link = link_puts n c t own q all tail (id_in s.slots h) l.link;
         }
+
+-- what the pass holds after the link
+pub record LinkKept (s t : Seat FifoNote) : Type 0 where
+  pub own : List (Event FifoNote)
+  pub slots : t.slots ≡ s.slots
+  pub puts : Puts s own t
+  pub fresh : (t.fresh ≡ s.fresh) ⊎ (t.fresh ≡ None)
+
+pub link_kept : (n : HeapNumbers) (job tail : ℕ) (h : Hold) (s t : Seat FifoNote) (turn : PutTurn) → LinksBehind n job tail h s turn t → LinkKept s t
+link_kept n job tail h s t PutOver l = record { own = l.stops.piece.own; slots = l.stops.piece.slots; puts = l.stops.piece.puts; fresh = inl l.stops.fresh }
+link_kept n job tail h s t (PutDone at) l = record { own = l.puts.piece.own; slots = l.puts.piece.slots; puts = l.puts.piece.puts; fresh = inr l.puts.fresh }
+link_kept n job tail h s t Full l = record { own = l.piece.own; slots = l.piece.slots; puts = l.piece.puts; fresh = inl l.fresh }

@@ -1,43 +1,39 @@
 -- What a look at a root, and one at the link of a once linked node, find.
-use Rattle.std.proofs.Common.{Bool, List, length, suc, zero, Option, Some, None, [], ap, arith, inl, inr, refl, subst, sym, true, false, ℕ, ◌++◌, ◌+◌, ◌<◌, ◌∙◌, ◌∷◌, ◌≡◌, ◌≢◌, ◌≤◌, ◌⊎◌}
+use Rattle.std.proofs.Common.{Bool, List, length, suc, zero, Option, Some, None, [], ap, arith, inl, inr, refl, subst, sym, ℕ, ◌++◌, ◌<◌, ◌∙◌, ◌∷◌, ◌≡◌, ◌⊎◌}
 use Rattle.std.specs.List.{slice_get, slice_set}
 use Rattle.std.specs.Prelude.{unwrap_or}
 use Rattle.std.proofs.lemmas.List.{length-replicate}
 use Rattle.orc_heap.proofs.ByAnswer.{LookedHeld, LookedNull}
 use Rattle.orc_heap.proofs.Changes.{length-change}
-use Rattle.orc_heap.proofs.Moved.{moves_in-append}
-use Rattle.orc_heap.proofs.OwnParts.{moves_from_own}
 use Rattle.orc_heap.specs.Allowed.{AllAllowed, IsLinkedNode}
-use Rattle.orc_heap.specs.Calls.{Misses, ReadsValue, RefusesSwing, event_of, links_made}
-use Rattle.orc_heap.specs.Heap.{Heap, HeapNumbers, Node, new_heap, null, shown}
+use Rattle.orc_heap.specs.Calls.{ReadsValue, RefusesSwing, event_of}
+use Rattle.orc_heap.specs.Heap.{Heap, HeapNumbers, Node, new_heap, null}
 use Rattle.orc_heap.specs.Acts.{as_linked, as_named, change_target, heap_after}
 use Rattle.orc_heap.specs.Journals.{run_from, run_heap}
 use Rattle.orc_heap.specs.declared.events.Act.{Act}
-use Rattle.orc_heap.specs.Moves.{from_own, moves_in}
 use Rattle.orc_heap.specs.Parts.{Puts}
 use Rattle.orc_heap.specs.Seats.{Seat}
-use Rattle.orc_heap.specs.Slots.{Hold, IsFree, Slots, id_in}
+use Rattle.orc_heap.specs.Slots.{Hold, Slots, id_in}
 use Rattle.orc_heap.specs.declared.events.Act.TheVariants.{Aim, Fill, Give, Look, Miss, Move}
 use Rattle.orc_heap.specs.declared.events.Event.{Event}
 use Rattle.orc_heap.specs.declared.events.Link.{Link}
-use Rattle.orc_heap.specs.declared.events.Place.{Place}
 use Rattle.orc_heap.specs.declared.events.Place.TheVariants.{Next, Root}
 use Rattle.orc_heap.specs.declared.holds.Want.{Want}
 use Rattle.orc_heap.specs.declared.holds.Want.TheVariants.{Node as WantNode, Null as WantNull}
 use Rattle.orc_fault.specs.declared.Spent.{Spent}
 use Rattle.orc_fifo_rule.proofs.Counting.{at_most_three}
 use Rattle.orc_fifo_rule.proofs.Later.{holds_later, link_later, linked_later, named_later}
-use Rattle.orc_fifo_rule.proofs.Reading.{link_leads, look_names, root_names, successor_job}
+use Rattle.orc_fifo_rule.proofs.Reading.{link_leads, look_names, root_names}
 use Rattle.orc_fifo_rule.specs.declared.fifo.FifoNote.{FifoNote}
-use Rattle.orc_fifo_rule.specs.QueueDiscipline.{FifoHolds, FifoMay, HasJob, HasLink, link_to, position_of}
+use Rattle.orc_fifo_rule.specs.QueueDiscipline.{FifoMay, HasJob, HasLink, link_to, position_of}
 use Rattle.orc_fifo_rule.specs.Watches.{WasNamed}
 use Rattle.orc_fifo_rule.specs.Kept.Events.{begun_more}
-use Rattle.orc_fifo_rule.specs.Kept.Kinds.{link_same, null_to, some_same}
-use Rattle.orc_fifo_rule.specs.Kept.Nodes.{position_at, shown_link}
+use Rattle.orc_fifo_rule.specs.Kept.Kinds.{some_same}
+use Rattle.orc_fifo_rule.specs.Kept.Nodes.{position_at}
 use Rattle.orc_fifo_rule.specs.Kept.Paths.{has_link}
 use Rattle.orc_queue.specs.Turns.{heap_of}
 use Rattle.orc_queue.proofs.Filled.{Known, some_value}
-use Rattle.orc_queue.proofs.Moments.{Moment, moment, seen_is, since}
+use Rattle.orc_queue.proofs.Moments.{moment, seen_is, since}
 use Rattle.orc_queue.proofs.Pieces.{InSlot}
 
 -- three links at most are made to a node, so no swing is refused

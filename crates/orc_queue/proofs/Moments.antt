@@ -1,19 +1,19 @@
 -- The moment at which one of a call's own events stood, and what was seen then.
-use Rattle.std.proofs.Common.{Bool, List, cond, false, Option, Some, None, [], ap, append-nil, append_assoc, arith, inl, inr, refl, subst, sym, true, ℕ, ◌++◌, ◌+◌, ◌<◌, ◌==◌, ◌∙◌, ◌∷◌, ◌≡◌, ◌≢◌, ◌≤◌, ◌⊎◌}
+use Rattle.std.proofs.Common.{Bool, List, cond, false, Option, Some, None, [], ap, append-nil, append_assoc, arith, inl, inr, refl, subst, sym, true, ℕ, ◌++◌, ◌+◌, ◌==◌, ◌∙◌, ◌∷◌, ◌≡◌, ◌≢◌, ◌≤◌, ◌⊎◌}
 use Rattle.orc_heap.proofs.Moved.{linked_place_later, moved_between, moves_in-append, shown_or_moved}
-use Rattle.orc_heap.proofs.OwnParts.{moves_after_own, moves_from_own, moves_from_own-append}
+use Rattle.orc_heap.proofs.OwnParts.{moves_after_own}
 use Rattle.orc_heap.proofs.Parts.{filter-at, part_allowed}
 use Rattle.orc_heap.proofs.Stays.{allowed-left, allowed-right}
 use Rattle.orc_heap.specs.Acts.{Fits}
 use Rattle.orc_heap.specs.Allowed.{AllAllowed, events_by}
-use Rattle.orc_heap.specs.Calls.{Misses, event_of}
-use Rattle.orc_heap.specs.Heap.{HeapNumbers, null, shown}
+use Rattle.orc_heap.specs.Calls.{event_of}
+use Rattle.orc_heap.specs.Heap.{HeapNumbers, shown}
 use Rattle.orc_heap.specs.Journals.{run_heap}
 use Rattle.orc_heap.specs.Moves.{IsLinkedPlace, from_own, move_with, moves_in}
 use Rattle.orc_heap.specs.Parts.{Puts}
 use Rattle.orc_heap.specs.Seats.{Seat}
 use Rattle.orc_heap.specs.declared.events.Act.{Act}
-use Rattle.orc_heap.specs.declared.events.Act.TheVariants.{Look, Miss, Move}
+use Rattle.orc_heap.specs.declared.events.Act.TheVariants.{Look, Miss}
 use Rattle.orc_heap.specs.declared.events.Event.{Event}
 use Rattle.orc_heap.specs.declared.events.Link.{Link}
 use Rattle.orc_heap.specs.declared.events.Place.{Place}

@@ -1,13 +1,9 @@
 -- What a domain with a dummy begins with.
-use Rattle.std.proofs.Common.{List, None, Option, Some, [], ap, arith, inl, refl, suc, sym, true, zero, ℕ, ◌++◌, ◌+◌, ◌<◌, ◌^◌, ◌∷◌, ◌≡◌, ◌≤◌}
+use Rattle.std.proofs.Common.{None, Option, Some, [], ap, arith, inl, refl, suc, sym, zero, ℕ, ◌^◌, ◌∷◌, ◌≡◌, ◌≤◌}
 use Rattle.std.specs.List.{slice_get}
 use Rattle.std.specs.Prelude.{is_some, replicate}
-use Rattle.orc_heap.specs.Acts.{Fits, IsKnown}
-use Rattle.orc_heap.specs.Heap.{HeapNumbers, Node, change, null, shown}
-use Rattle.orc_heap.specs.Journals.{run_heap}
-use Rattle.orc_heap.specs.declared.events.Event.{Event}
+use Rattle.orc_heap.specs.Heap.{HeapNumbers, Node, change, null}
 use Rattle.orc_heap.specs.declared.events.Link.{Link}
-use Rattle.orc_fifo_rule.specs.declared.fifo.FifoNote.{FifoNote}
 use Rattle.orc_fifo_rule.specs.declared.fifo.FifoNote.TheVariants.{Begin}
 use Rattle.orc_fifo_rule.specs.QueueDiscipline.{FifoMay}
 use Rattle.orc_table.specs.Machine.{numbers}

@@ -1,32 +1,27 @@
 -- Pieces of a call, one after another; and what a pass holds over them.
-use Rattle.std.proofs.Common.{Bool, List, Option, Some, None, [], ap, append_assoc, arith, cond, false, inl, inr, refl, subst, suc, sym, true, zero, ℕ, ◌++◌, ◌+◌, ◌<◌, ◌==◌, ◌∙◌, ◌∷◌, ◌≡◌, ◌≢◌, ◌≤◌, ◌⊎◌}
-use Rattle.std.proofs.lemmas.Bool.{eq-eqb, eqb-true, ne_eqb}
+use Rattle.std.proofs.Common.{Bool, List, Option, Some, None, [], ap, append_assoc, arith, false, inl, inr, refl, subst, sym, true, ℕ, ◌++◌, ◌+◌, ◌∙◌, ◌∷◌, ◌≡◌, ◌≢◌}
+use Rattle.std.proofs.lemmas.Bool.{ne_eqb}
 use Rattle.std.specs.Borrow.{Bor}
 use Rattle.std.specs.List.{list_any, slice_get, slice_set}
 use Rattle.std.specs.Prelude.{if◌then◌else◌}
-use Rattle.orc_heap.proofs.ByAnswer.{Swings-fresh, Swings-missed, Swings-moved, unless_fresh}
 use Rattle.orc_heap.proofs.Fresh.{own_node_told, touched_by}
-use Rattle.orc_heap.proofs.Moved.{moves_in-append}
 use Rattle.orc_heap.proofs.Parts.{Puts-trans, part_allowed}
 use Rattle.orc_heap.proofs.Slots.{get-set_other, given-back, holds-other, holds-there, id-other, id-there}
-use Rattle.orc_heap.specs.Allowed.{AllAllowed, IsLinkedNode, events_by}
-use Rattle.orc_heap.specs.Calls.{Misses, Releases, Swings, event_of, given_node, unless_node}
-use Rattle.orc_heap.specs.Heap.{Heap, HeapNumbers, Node, null, shown}
+use Rattle.orc_heap.specs.Allowed.{AllAllowed, IsLinkedNode}
+use Rattle.orc_heap.specs.Calls.{Releases, Swings, given_node, unless_node}
+use Rattle.orc_heap.specs.Heap.{HeapNumbers, Node}
 use Rattle.orc_heap.specs.Journals.{points_to, run_heap}
-use Rattle.orc_heap.specs.Moves.{give_with, gives_in, moves_in}
-use Rattle.orc_heap.specs.Parts.{Only, Puts}
+use Rattle.orc_heap.specs.Moves.{gives_in}
+use Rattle.orc_heap.specs.Parts.{Puts}
 use Rattle.orc_heap.specs.Seats.{IsUntouched, Seat, link_in}
 use Rattle.orc_heap.specs.Slots.{Hold, Holds, IsFree, SlotNode, Slots, id_in}
-use Rattle.orc_heap.specs.declared.events.Act.TheVariants.{Look, Miss, Move}
 use Rattle.orc_heap.specs.declared.events.Event.{Event}
-use Rattle.orc_heap.specs.declared.events.Link.{Link}
-use Rattle.orc_heap.specs.declared.events.Place.TheVariants.{Next, Root}
 use Rattle.orc_heap.specs.declared.holds.At.TheVariants.{Root as AtRoot}
 use Rattle.orc_heap.specs.declared.holds.At.{At}
 use Rattle.orc_heap.specs.declared.holds.Want.{Want}
 use Rattle.orc_heap.specs.declared.holds.Want.TheVariants.{Node as WantNode}
 use Rattle.orc_history.specs.declared.queue.QueueEntry.{QueueEntry}
-use Rattle.orc_fifo_rule.proofs.Later.{holds_later, job_later, link_later, linked_later, named_later, position_later}
+use Rattle.orc_fifo_rule.proofs.Later.{link_later, linked_later, named_later, position_later}
 use Rattle.orc_fifo_rule.proofs.Leaving.{left_later}
 use Rattle.orc_fifo_rule.specs.declared.fifo.FifoNote.{FifoNote}
 use Rattle.orc_fifo_rule.specs.declared.fifo.FifoNote.TheVariants.{Swing}

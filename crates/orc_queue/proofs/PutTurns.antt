@@ -1,14 +1,13 @@
 -- A turn of a put, and so many.
-use Rattle.std.proofs.Common.{Bool, List, Option, Some, None, [], ap, append-nil, append_assoc, arith, false, inl, inr, refl, subst, suc, sym, true, zero, ℕ, ◌++◌, ◌+◌, ◌<◌, ◌^◌, ◌∙◌, ◌∷◌, ◌≡◌, ◌≢◌, ◌≤◌, ◌⊎◌}
-use Rattle.orc_heap.proofs.OwnParts.{moves_from_own, moves_from_own-append, own_from_left, own_from_rest, own_from_right}
-use Rattle.orc_heap.proofs.Parts.{Puts-trans}
+use Rattle.std.proofs.Common.{List, Some, None, [], ap, append-nil, append_assoc, arith, inl, inr, refl, subst, sym, true, ℕ, ◌++◌, ◌+◌, ◌∙◌, ◌∷◌, ◌≡◌, ◌≢◌, ◌≤◌}
+use Rattle.orc_heap.proofs.OwnParts.{moves_from_own-append, own_from_left, own_from_rest, own_from_right}
 use Rattle.orc_heap.proofs.Runs.{run_from-append}
 use Rattle.orc_heap.proofs.Stays.{allowed-left, allowed-right}
-use Rattle.orc_heap.specs.Allowed.{AllAllowed, events_by}
+use Rattle.orc_heap.specs.Allowed.{AllAllowed}
 use Rattle.orc_heap.specs.Calls.{event_of}
 use Rattle.orc_heap.specs.Heap.{Heap, HeapNumbers, new_heap, null, shown}
-use Rattle.orc_heap.specs.Journals.{run_from, run_heap}
-use Rattle.orc_heap.specs.Moves.{AllOwn, from_own, gives_in, moves_in}
+use Rattle.orc_heap.specs.Journals.{run_heap}
+use Rattle.orc_heap.specs.Moves.{AllOwn, from_own, moves_in}
 use Rattle.orc_heap.specs.Parts.{Puts}
 use Rattle.orc_heap.specs.Seats.{Seat}
 use Rattle.orc_heap.specs.Slots.{Hold, Holds, id_in}
@@ -16,7 +15,6 @@ use Rattle.orc_heap.specs.declared.events.Act.TheVariants.{Look, Move}
 use Rattle.orc_heap.specs.declared.events.Event.{Event}
 use Rattle.orc_heap.specs.declared.events.Link.{Link}
 use Rattle.orc_heap.specs.declared.events.Place.TheVariants.{Next, Root}
-use Rattle.orc_history.specs.declared.queue.QueueEntry.{QueueEntry}
 use Rattle.orc_history.specs.declared.queue.QueueEntry.TheVariants.{Put}
 use Rattle.orc_fifo_rule.proofs.Later.{holds_later}
 use Rattle.orc_fifo_rule.specs.declared.fifo.FifoNote.{FifoNote}
@@ -26,10 +24,10 @@ use Rattle.orc_fifo_rule.specs.Kept.Events.{begun_more, entries_of-append}
 use Rattle.orc_fifo_rule.specs.Kept.Kinds.{link_same, null_to, some_same}
 use Rattle.orc_queue.specs.declared.put.PutTurn.{PutTurn}
 use Rattle.orc_queue.specs.declared.put.PutTurn.TheVariants.{Full, Over as PutOver, Put as PutDone}
-use Rattle.orc_queue.specs.Turns.{AreOver, FindsFull, HelpsBehind, HoldsNode, IsFull, IsOver, Piece, PutMissed, PutTires, PutsBehind, PutsJob, PutsTurn, PutsTurns, TailIsLast, TurnMissed, heap_of}
+use Rattle.orc_queue.specs.Turns.{AreOver, FindsFull, HoldsNode, IsOver, Piece, PutMissed, PutTires, PutsBehind, PutsTurn, PutsTurns, TailIsLast, heap_of}
 use Rattle.orc_queue.proofs.Alone.{over_helped, over_missed, over_quiet, swing_settles}
 use Rattle.orc_queue.proofs.Filled.{Known}
-use Rattle.orc_queue.proofs.Joins.{Join, full_join_left, full_join_right, join, moves_left, one_part, puts_released, room_join}
+use Rattle.orc_queue.proofs.Joins.{full_join_left, full_join_right, join, moves_left, one_part, puts_released, room_join}
 use Rattle.orc_queue.proofs.Moments.{looks_differ}
 use Rattle.orc_queue.proofs.Pieces.{gives_in-append, node_held, node_puts}
 use Rattle.orc_queue.proofs.Room.{room_unseen}

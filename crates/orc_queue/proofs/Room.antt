@@ -1,10 +1,10 @@
 -- Whether a call finds that no position is left.
-use Rattle.std.proofs.Common.{Bool, List, Option, Some, None, [], ap, append-nil, append_assoc, arith, cond, false, inl, inr, refl, subst, sym, true, ℕ, ◌++◌, ◌+◌, ◌<◌, ◌==◌, ◌^◌, ◌∙◌, ◌∷◌, ◌≡◌, ◌≢◌, ◌≤◌, ◌⊎◌}
+use Rattle.std.proofs.Common.{Bool, List, Some, None, [], ap, append-nil, append_assoc, arith, cond, false, inl, inr, refl, subst, sym, true, ℕ, ◌++◌, ◌<◌, ◌==◌, ◌^◌, ◌∙◌, ◌∷◌, ◌≡◌, ◌≤◌, ◌⊎◌}
 use Rattle.std.proofs.lemmas.Bool.{eq-eqb}
 use Rattle.std.specs.List.{list_any}
 use Rattle.std.specs.Prelude.{is_some, not, ◌||◌}
 use Rattle.orc_heap.specs.Acts.{Fits}
-use Rattle.orc_heap.specs.Allowed.{AllAllowed, IsLinkedNode, events_by}
+use Rattle.orc_heap.specs.Allowed.{AllAllowed, events_by}
 use Rattle.orc_heap.specs.Calls.{event_of}
 use Rattle.orc_heap.specs.Heap.{HeapNumbers, null, shown}
 use Rattle.orc_heap.specs.Journals.{run_heap}
@@ -20,15 +20,15 @@ use Rattle.orc_history.specs.QueueHistory.{puts_in}
 use Rattle.orc_fifo_rule.proofs.Later.{first_later, holds_later, named_later, named_next, next_position as position_is_next, position_later}
 use Rattle.orc_fifo_rule.proofs.Reading.{link_leads}
 use Rattle.orc_fifo_rule.specs.declared.fifo.FifoNote.{FifoNote}
-use Rattle.orc_fifo_rule.specs.QueueDiscipline.{FifoHolds, FifoMay, entries_of, has_begun, link_to, position_of}
+use Rattle.orc_fifo_rule.specs.QueueDiscipline.{FifoHolds, FifoMay, entries_of, has_begun, position_of}
 use Rattle.orc_fifo_rule.specs.Watches.{WasNamed}
 use Rattle.orc_fifo_rule.specs.Kept.Events.{begun_more, entries_of-append}
 use Rattle.orc_fifo_rule.specs.Kept.Laws.{fifo_keeps}
 use Rattle.orc_fifo_rule.specs.Kept.Nodes.{position_next}
 use Rattle.orc_fifo_rule.specs.Kept.Paths.{has_link}
-use Rattle.orc_queue.specs.Turns.{FindsFull, IsFullLook, heap_of, looks_at_end, next_position}
+use Rattle.orc_queue.specs.Turns.{FindsFull, heap_of, looks_at_end, next_position}
 use Rattle.orc_queue.proofs.Filled.{Known}
-use Rattle.orc_queue.proofs.Moments.{Moment, moment}
+use Rattle.orc_queue.proofs.Moments.{moment}
 
 -- of one list of events after another
 pub full_either : (n : HeapNumbers) (agent : ℕ) (seen es fs : List (Event FifoNote)) → FindsFull n agent seen (es ++ fs) → FindsFull n agent seen es ⊎ FindsFull n agent (seen ++ es) fs

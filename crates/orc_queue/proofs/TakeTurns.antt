@@ -1,21 +1,19 @@
 -- A turn of a take, and so many.
-use Rattle.std.proofs.Common.{Bool, List, Option, Some, None, [], ap, append-nil, append_assoc, arith, false, inl, inr, refl, subst, sym, true, ℕ, ◌++◌, ◌+◌, ◌∙◌, ◌∷◌, ◌≡◌, ◌≢◌, ◌≤◌, ◌⊎◌}
+use Rattle.std.proofs.Common.{List, Option, Some, None, [], ap, append_assoc, arith, inl, inr, refl, subst, sym, true, ℕ, ◌++◌, ◌∙◌, ◌∷◌, ◌≡◌, ◌≢◌, ◌≤◌}
 use Rattle.orc_heap.proofs.OwnParts.{moves_from_own}
-use Rattle.orc_heap.proofs.Parts.{Puts-trans}
 use Rattle.orc_heap.proofs.Runs.{run_from-append}
 use Rattle.orc_heap.proofs.Stays.{allowed-left, allowed-right}
 use Rattle.orc_heap.specs.Allowed.{AllAllowed, IsLinkedNode}
 use Rattle.orc_heap.specs.Calls.{event_of}
 use Rattle.orc_heap.specs.Heap.{Heap, HeapNumbers, new_heap, null, shown}
-use Rattle.orc_heap.specs.Journals.{run_from, run_heap}
-use Rattle.orc_heap.specs.Moves.{from_own, gives_in, moves_in}
+use Rattle.orc_heap.specs.Journals.{run_heap}
+use Rattle.orc_heap.specs.Moves.{moves_in}
 use Rattle.orc_heap.specs.Parts.{Puts}
 use Rattle.orc_heap.specs.Seats.{Seat}
 use Rattle.orc_heap.specs.declared.events.Act.TheVariants.{Look, Move}
 use Rattle.orc_heap.specs.declared.events.Event.{Event}
 use Rattle.orc_heap.specs.declared.events.Link.{Link}
 use Rattle.orc_heap.specs.declared.events.Place.TheVariants.{Next, Root}
-use Rattle.orc_history.specs.declared.queue.QueueEntry.{QueueEntry}
 use Rattle.orc_history.specs.declared.queue.QueueEntry.TheVariants.{Empty, Took}
 use Rattle.orc_fifo_rule.proofs.Later.{holds_later}
 use Rattle.orc_fifo_rule.specs.declared.fifo.FifoNote.{FifoNote}
@@ -25,10 +23,10 @@ use Rattle.orc_fifo_rule.specs.Kept.Events.{begun_more, entries_of-append}
 use Rattle.orc_fifo_rule.specs.Kept.Kinds.{link_same, some_same}
 use Rattle.orc_queue.specs.declared.take.TakeTurn.{TakeTurn}
 use Rattle.orc_queue.specs.declared.take.TakeTurn.TheVariants.{Empty as TakeEmpty, Over as TakeOver, Took as TakeDone}
-use Rattle.orc_queue.specs.Turns.{AreOver, FindsEnd, HelpsHead, IsOver, Piece, Stops, TailIsPast, TakesBehind, TakesJob, TakesNext, TakesNone, TakesTurn, TakesTurns, heap_of}
+use Rattle.orc_queue.specs.Turns.{AreOver, HelpsHead, IsOver, Stops, TailIsPast, TakesBehind, TakesJob, TakesNext, TakesNone, TakesTurn, TakesTurns, heap_of}
 use Rattle.orc_queue.proofs.Alone.{over_helped, over_missed, over_quiet, swing_past}
 use Rattle.orc_queue.proofs.Filled.{Known}
-use Rattle.orc_queue.proofs.Joins.{Join, join, moves_left, moves_right, puts_released}
+use Rattle.orc_queue.proofs.Joins.{join, moves_left, moves_right, puts_released}
 use Rattle.orc_queue.proofs.Moments.{look_found, looks_differ}
 use Rattle.orc_queue.proofs.Pieces.{gives_in-append}
 use Rattle.orc_queue.proofs.Taking.{still_puts}

@@ -1,5 +1,5 @@
 -- A take, from the head and its successor on.
-use Rattle.std.proofs.Common.{Bool, List, Option, Some, None, [], ap, append-nil, arith, false, inl, inr, refl, subst, sym, true, ℕ, ◌++◌, ◌+◌, ◌<◌, ◌∙◌, ◌∷◌, ◌≡◌, ◌≢◌, ◌≤◌, ◌⊎◌}
+use Rattle.std.proofs.Common.{Bool, List, Option, Some, None, [], ap, arith, false, inl, inr, refl, subst, sym, true, ℕ, ◌++◌, ◌+◌, ◌∙◌, ◌∷◌, ◌≡◌, ◌≢◌, ◌≤◌, ◌⊎◌}
 use Rattle.std.specs.Borrow.{Bor}
 use Rattle.orc_heap.proofs.Moved.{moves_in-append, shown_or_moved}
 use Rattle.orc_heap.proofs.OwnParts.{moves_from_own}
@@ -8,7 +8,7 @@ use Rattle.orc_heap.specs.Allowed.{AllAllowed, AllowedLater, IsLinkedNode}
 use Rattle.orc_heap.specs.Calls.{Misses, ReadsValue, Swings, Tests, event_of}
 use Rattle.orc_heap.specs.Heap.{HeapNumbers, Node, null, shown}
 use Rattle.orc_heap.specs.Journals.{run_heap}
-use Rattle.orc_heap.specs.Moves.{IsLinkedPlace, gives_in, moves_in}
+use Rattle.orc_heap.specs.Moves.{gives_in, moves_in}
 use Rattle.orc_heap.specs.Parts.{Only, Puts}
 use Rattle.orc_heap.specs.Seats.{Seat}
 use Rattle.orc_heap.specs.Slots.{Hold, id_in}
@@ -30,12 +30,10 @@ use Rattle.orc_fifo_rule.specs.QueueDiscipline.{FifoMay, HasJob, HasLink, entrie
 use Rattle.orc_fifo_rule.specs.Watches.{IsLeft, WasNamed}
 use Rattle.orc_fifo_rule.specs.Kept.Events.{begun_more, entries_of-append}
 use Rattle.orc_fifo_rule.specs.Kept.Kinds.{some_same}
-use Rattle.orc_queue.specs.declared.take.TakeTurn.{TakeTurn}
-use Rattle.orc_queue.specs.declared.take.TakeTurn.TheVariants.{Empty as TakeEmpty, Over as TakeOver, Took as TakeDone}
-use Rattle.orc_queue.specs.Turns.{FindsEnd, Helps, HelpsHead, HelpsPast, Piece, Stops, TakesBehind, TakesFrom, TakesJob, TakesNext, TakesNone, heap_of}
+use Rattle.orc_queue.specs.Turns.{FindsEnd, Helps, HelpsPast, Stops, TakesFrom, TakesJob, TakesNext, heap_of}
 use Rattle.orc_queue.proofs.Filled.{Known}
-use Rattle.orc_queue.proofs.Joins.{Join, join, moves_left, moves_right, one_part, puts_released}
-use Rattle.orc_queue.proofs.Moments.{Moment, look_found, looks_differ, miss_moved, moment, moves_own, seen_is, since}
+use Rattle.orc_queue.proofs.Joins.{join, moves_left, moves_right}
+use Rattle.orc_queue.proofs.Moments.{look_found, miss_moved, moment, moves_own, seen_is, since}
 use Rattle.orc_queue.proofs.Pieces.{gives_in-append, left_puts, link_puts, new_allowed, unless_other}
 
 -- the test of the head's link

@@ -1,7 +1,6 @@
 -- What a call did, by its answer.
-use Rattle.std.specs.Prelude.{Err, List, Ok, Option, Result, [], drop, length, ℕ, ◌+◌, ◌<◌, ◌^◌, ◌∷◌, ◌≡◌, ◌≢◌, ◌≤◌}
+use Rattle.std.specs.Prelude.{Err, List, Ok, Option, Result, [], drop, length, ℕ, ◌<◌, ◌^◌, ◌∷◌, ◌≡◌, ◌≢◌, ◌≤◌}
 use Rattle.orc_fault.specs.declared.Again.{Again as AgainFault}
-use Rattle.orc_heap.specs.Allowed.{events_by}
 use Rattle.orc_heap.specs.Heap.{HeapNumbers}
 use Rattle.orc_heap.specs.Moves.{AllOwn, from_own, gives_in, moves_in}
 use Rattle.orc_heap.specs.Parts.{Puts}

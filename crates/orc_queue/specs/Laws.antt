@@ -1,16 +1,14 @@
 -- Proofs of the laws that the queue owes to its traits.
-use Rattle.std.proofs.Common.{List, [], ap, append_assoc, arith, drop, length, refl, subst, sym, take, ℕ, ◌++◌, ◌+◌, ◌<◌, ◌==◌, ◌^◌, ◌∙◌, ◌∷◌, ◌≡◌, ◌≢◌, ◌≤◌, ◌⊎◌}
-use Rattle.std.proofs.Common.{inl, inr}
+use Rattle.std.proofs.Common.{List, [], ap, arith, drop, subst, sym, take, ℕ, ◌++◌, ◌+◌, ◌<◌, ◌==◌, ◌^◌, ◌∙◌, ◌∷◌, ◌≡◌, ◌≤◌}
 use Rattle.std.proofs.lemmas.List.{length-append, take-append-drop, take-append-le}
 use Rattle.std.specs.List.{list_all}
 use Rattle.std.specs.Prelude.{true}
 use mathlib.Core.List.{IsPrefix}
 use Rattle.orc_heap.proofs.Steps.{events_grow}
 use Rattle.orc_heap.proofs.Stays.{allowed-left, allowed-right}
-use Rattle.orc_heap.specs.Allowed.{AllAllowed, events_by}
+use Rattle.orc_heap.specs.Allowed.{AllAllowed}
 use Rattle.orc_heap.specs.Heap.{HeapNumbers}
 use Rattle.orc_heap.specs.Journals.{run_heap}
-use Rattle.orc_heap.specs.Moves.{moves_in}
 use Rattle.orc_heap.specs.Parts.{IsBelow}
 use Rattle.orc_heap.specs.declared.events.Event.{Event}
 use Rattle.orc_history.proofs.Histories.{puts_in-append}
@@ -24,7 +22,7 @@ use Rattle.orc_fifo_rule.proofs.OwnEntries.{entries_agents}
 use Rattle.orc_fifo_rule.specs.declared.fifo.FifoNote.{FifoNote}
 use Rattle.orc_fifo_rule.specs.QueueDiscipline.{FifoHolds, FifoMay, entries_of, position_of}
 use Rattle.orc_fifo_rule.specs.Kept.Events.{entries_of-append}
-use Rattle.orc_queue.specs.Causes.{Cause, LacksPosition, UsesTurns}
+use Rattle.orc_queue.specs.Causes.{Cause, LacksPosition}
 use Rattle.orc_queue.specs.Turns.{HasDummy}
 
 -- the first position is that of the opening

@@ -1,6 +1,5 @@
 -- What the turns of a call do. After Michael and Scott 1996.
-use Rattle.std.specs.Prelude.{Bool, List, None, Option, Some, [], false, is_some, not, slice_get, true, ℕ, ◌++◌, ◌+◌, ◌<◌, ◌==◌, ◌^◌, ◌∷◌, ◌≡◌, ◌≢◌, ◌≤◌, ◌⊎◌}
-use Rattle.orc_heap.specs.Allowed.{IsLinkedNode}
+use Rattle.std.specs.Prelude.{Bool, List, None, Option, Some, [], false, is_some, not, slice_get, true, ℕ, ◌++◌, ◌+◌, ◌<◌, ◌^◌, ◌∷◌, ◌≡◌, ◌≢◌, ◌≤◌, ◌⊎◌}
 use Rattle.orc_heap.specs.Calls.{Misses, event_of, given_node}
 use Rattle.orc_heap.specs.Heap.{Heap, HeapNumbers, Node, null, shown}
 use Rattle.orc_heap.specs.Journals.{run_heap}
@@ -18,7 +17,7 @@ use Rattle.orc_history.specs.QueueHistory.{puts_in}
 use Rattle.orc_history.specs.declared.queue.QueueEntry.{QueueEntry}
 use Rattle.orc_history.specs.declared.queue.QueueEntry.TheVariants.{Empty, Put, Took}
 use Rattle.orc_fifo_rule.specs.declared.fifo.FifoNote.{FifoNote}
-use Rattle.orc_fifo_rule.specs.declared.fifo.FifoNote.TheVariants.{Entry, Swing}
+use Rattle.orc_fifo_rule.specs.declared.fifo.FifoNote.TheVariants.{Swing}
 use Rattle.orc_fifo_rule.specs.QueueDiscipline.{HasLink, entries_of, has_begun, link_to, position_of}
 use Rattle.orc_queue.specs.declared.put.PutTurn.{PutTurn}
 use Rattle.orc_queue.specs.declared.put.PutTurn.TheVariants.{Full, Over as PutOver, Put as PutDone}

@@ -1,5 +1,5 @@
 -- The tail is swung on once the node is linked.
-use Rattle.std.proofs.Common.{ap, subst, sym, ℕ}
+use Rattle.std.proofs.Common.{subst, sym}
 use Rattle.orc_heap.specs.Slots.{Holds, Slots, id_in}
 use Rattle.orc_fifo_rule.specs.QueueDiscipline.{HasLink, link_to}
 use Rattle.orc_queue.specs.Turns.{Helps, heap_of}

@@ -1,17 +1,15 @@
 -- The tail's second value is the position; the node has the values of the Put, and is linked or not.
-use Rattle.std.proofs.Common.{Some, [], ap, arith, refl, subst, sym, ℕ, ◌∙◌, ◌∷◌}
+use Rattle.std.proofs.Common.{Some, [], arith, refl, subst, ℕ, ◌∙◌, ◌∷◌}
 use Rattle.orc_heap.proofs.ByAnswer.{Swings-fresh, Swings-missed, Swings-moved}
-use Rattle.orc_heap.specs.Allowed.{IsLinkedNode}
 use Rattle.orc_heap.specs.Calls.{Misses, event_of}
 use Rattle.orc_heap.specs.Heap.{null}
 use Rattle.orc_heap.specs.Parts.{Puts}
-use Rattle.orc_heap.specs.Slots.{Slots, id_in}
+use Rattle.orc_heap.specs.Slots.{id_in}
 use Rattle.orc_heap.specs.declared.events.Act.TheVariants.{Move}
 use Rattle.orc_heap.specs.declared.events.Place.TheVariants.{Next}
 use Rattle.orc_history.specs.declared.queue.QueueEntry.TheVariants.{Put}
 use Rattle.orc_fifo_rule.specs.declared.fifo.FifoNote.TheVariants.{Entry}
-use Rattle.orc_fifo_rule.specs.QueueDiscipline.{HasLink, link_to}
-use Rattle.orc_queue.specs.Turns.{Helps, heap_of}
+use Rattle.orc_fifo_rule.specs.QueueDiscipline.{link_to}
 use Rattle.orc_queue.proofs.Filled.{known}
 use Rattle.orc_queue.proofs.Linking.{link_made, link_missed, put_may, read_position, tail_same}
 use Rattle.orc_queue.proofs.Pieces.{missed_fresh}

@@ -1,5 +1,5 @@
 -- By what the look of the tail's link found.
-use Rattle.std.proofs.Common.{ap, refl, subst, sym, ℕ, ◌∙◌}
+use Rattle.std.proofs.Common.{ap, subst, sym, ℕ, ◌∙◌}
 use Rattle.orc_heap.proofs.ByAnswer.{Looks-held, Looks-null}
 use Rattle.orc_heap.specs.Allowed.{IsLinkedNode}
 use Rattle.orc_heap.specs.Slots.{Holds, Slots, id_in}
@@ -11,7 +11,7 @@ use Rattle.orc_queue.specs.Turns.{Helps, LinksBehind, heap_of}
 use Rattle.orc_queue.proofs.Behind.{behind_held, behind_moved, behind_null, fresh_apart, linked_helped, node_seen}
 use Rattle.orc_queue.proofs.Filled.{known}
 use Rattle.orc_queue.proofs.Looking.{next_held, next_null}
-use Rattle.orc_queue.proofs.Pieces.{linked_puts, named_puts, release_fresh, slot_holds, slot_id, slot_other, slot_other_id, slot_released}
+use Rattle.orc_queue.proofs.Pieces.{named_puts, release_fresh, slot_holds, slot_id, slot_other, slot_other_id, slot_released}
 use Rattle.orc_queue.proofs.put.put_behind.Goals as goal
 
 pub link_behind-requires-clause-node : goal.link_behind-requires-clause-node

@@ -1,5 +1,5 @@
 -- A turn: what the look of the tail found, and what came of it.
-use Rattle.std.proofs.Common.{[], ap, arith, refl, subst, sym, ℕ, ◌∙◌}
+use Rattle.std.proofs.Common.{ap, arith, refl, subst, sym, ℕ, ◌∙◌}
 use Rattle.orc_heap.proofs.ByAnswer.{Looks-held, Looks-null}
 use Rattle.orc_heap.specs.Allowed.{IsLinkedNode}
 use Rattle.orc_heap.specs.Slots.{Holds, Slots, id_in}

@@ -1,5 +1,5 @@
 -- One turn after another, until one answers.
-use Rattle.std.proofs.Common.{[], append-nil, arith, subst, sym, ℕ, ◌∙◌, ◌≡◌}
+use Rattle.std.proofs.Common.{[], append-nil, arith, subst, ℕ, ◌≡◌}
 use Rattle.orc_queue.specs.Turns.{PutTires}
 use Rattle.orc_queue.proofs.Joins.{goes_on}
 use Rattle.orc_queue.proofs.PutTurns.{tires_next, tires_none, turns_done}

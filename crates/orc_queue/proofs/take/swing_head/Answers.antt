@@ -1,21 +1,16 @@
 -- The successor has the job and its position; the head goes on to it, or it was moved.
-use Rattle.std.proofs.Common.{Some, [], ap, arith, refl, subst, sym, ℕ, ◌-◌, ◌∙◌, ◌≡◌}
+use Rattle.std.proofs.Common.{[], ap, arith, subst, sym, ℕ, ◌-◌, ◌∙◌, ◌≡◌}
 use Rattle.orc_heap.proofs.Parts.{Only-trans}
 use Rattle.orc_heap.specs.Allowed.{IsLinkedNode}
-use Rattle.orc_heap.specs.Calls.{ReadsValue, event_of}
+use Rattle.orc_heap.specs.Calls.{ReadsValue}
 use Rattle.orc_heap.specs.Slots.{Slots, id_in}
-use Rattle.orc_heap.specs.declared.events.Act.TheVariants.{Move}
-use Rattle.orc_heap.specs.declared.events.Place.TheVariants.{Root}
-use Rattle.orc_history.specs.declared.queue.QueueEntry.TheVariants.{Took}
-use Rattle.orc_fifo_rule.proofs.Coming.{took_allowed}
 use Rattle.orc_fifo_rule.proofs.Reading.{successor_job}
-use Rattle.orc_fifo_rule.specs.declared.fifo.FifoNote.TheVariants.{Entry}
-use Rattle.orc_fifo_rule.specs.QueueDiscipline.{FifoMay, link_to, position_of}
+use Rattle.orc_fifo_rule.specs.QueueDiscipline.{position_of}
 use Rattle.orc_fifo_rule.specs.Kept.Nodes.{job_linked}
 use Rattle.orc_queue.specs.Turns.{heap_of}
 use Rattle.orc_queue.proofs.Filled.{known}
 use Rattle.orc_queue.proofs.Looking.{job_read, roots_there}
-use Rattle.orc_queue.proofs.Pieces.{left_puts, link_puts, linked_not_fresh}
+use Rattle.orc_queue.proofs.Pieces.{linked_not_fresh}
 use Rattle.orc_queue.proofs.Taking.{head_missed, head_swung, job_puts, second_read, took_may}
 use Rattle.orc_queue.proofs.take.swing_head.Goals as goal
 

@@ -1,5 +1,5 @@
 -- By what the look of the head's link found.
-use Rattle.std.proofs.Common.{Bool, Option, ap, false, refl, subst, sym, ℕ, ◌∙◌}
+use Rattle.std.proofs.Common.{Bool, Option, ap, false, subst, sym, ℕ, ◌∙◌}
 use Rattle.orc_heap.proofs.ByAnswer.{Looks-held, Looks-null}
 use Rattle.orc_heap.specs.Allowed.{IsLinkedNode}
 use Rattle.orc_heap.specs.Slots.{Holds, Slots, id_in}

@@ -1,5 +1,5 @@
 -- The tail names the head and is helped on, or it has left the head and the job may be taken.
-use Rattle.std.proofs.Common.{[], ap, arith, refl, subst, sym, ℕ, ◌∙◌}
+use Rattle.std.proofs.Common.{arith, refl, subst, sym}
 use Rattle.orc_heap.proofs.ByAnswer.{Tests-found, Tests-missed}
 use Rattle.orc_heap.specs.Slots.{Slots, id_in}
 use Rattle.orc_fifo_rule.specs.QueueDiscipline.{HasLink, link_to}
