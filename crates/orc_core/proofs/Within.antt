@@ -17,7 +17,7 @@ use Rattle.orc_core.specs.declared.ops.CounterUse.TheVariants.{Check, Start, End
 use Rattle.orc_core.specs.declared.ops.Op.{Op}
 use Rattle.orc_core.specs.declared.ops.Op.TheVariants.{Enroll, GateLook, GateTake, Fill, Read, LinkLoad, Publish, Clear, Arm, LinkCas, LinkStore, Inc, Dec, SetRetired, CounterLoad, Unretire, SlotLook, Hand, TakeIn, Free}
 use Rattle.orc_core.specs.Actions.{action_of, clear_word, IsPackable}
-use Rattle.orc_core.specs.After.{after, IsRecordable}
+use Rattle.orc_core.specs.After.{after}
 use Rattle.orc_core.specs.Allowed.{may, fits, stands, forced}
 
 pub and_both : (a b : Bool) → (a && b) ≡ true → (a ≡ true) × (b ≡ true)
@@ -78,23 +78,11 @@ fits_packable b e a (LinkStore r k) d h s l = grind arith
 fits_packable b e a (SetRetired r q) d h s l = grind arith
 fits_packable b e a op d h s l = grind arith
 
-pub fits_recordable : (b : Bounds) (e a : ℕ) (op : Op) (d : Agent) → fits b e a op d ≡ true → b.agents ≤ 16 → IsRecordable op d
-fits_recordable b e a Enroll d h s = tt
-fits_recordable b e a (LinkLoad p None) d h s = λ k none. cc
-fits_recordable b e a (LinkLoad p (Some k)) d h s = grind arith
-fits_recordable b e a (Publish k r) d h s = grind arith
-fits_recordable b e a (Clear k) d h s = grind arith
-fits_recordable b e a (SlotLook k) d h s = grind arith
-fits_recordable b e a op d h s = grind arith
-
 pub may_packable : (b : Bounds) (e a : ℕ) (op : Op) (d : Agent) → may b e a op d ≡ true → b.rows ≤ 65535 → b.limit ≤ 2 ^ 39 → IsPackable op d
 may_packable b e a op d h s l = fits_packable b e a op d (may_parts b e a op d h).fits s l
 
 pub may_within : (b : Bounds) (e a : ℕ) (op : Op) (d : Agent) → may b e a op d ≡ true → IsWithin b (action_of a op d).word
 may_within b e a op d h = let p = may_parts b e a op d h in fits_within b e a op d p.agent p.fits
-
-pub may_recordable : (b : Bounds) (e a : ℕ) (op : Op) (d : Agent) → may b e a op d ≡ true → b.agents ≤ 16 → IsRecordable op d
-may_recordable b e a op d h s = fits_recordable b e a op d (may_parts b e a op d h).fits s
 
 pub may_below : (b : Bounds) (e a : ℕ) (op : Op) (d : Agent) → may b e a op d ≡ true → place b (action_of a op d).word < places b
 may_below b e a op d h = place_below b _ (may_within b e a op d h)

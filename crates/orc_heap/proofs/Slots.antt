@@ -24,14 +24,6 @@ set-back (z ∷ xs) zero x y e = let same : z ≡ x = cc in ap (λ v. v ∷ xs) 
 set-back (z ∷ xs) (suc i) x y e = ap (λ v. z ∷ v) (set-back xs i x y e)
 set-back [] i x y e = cc
 
--- two slots that are set, in either order
-pub set-set_other : {A : Type 0} (xs : List A) (i j : ℕ) (x y : A) → i ≢ j → slice_set (slice_set xs i x) j y ≡ slice_set (slice_set xs j y) i x
-set-set_other [] i j x y ne = refl
-set-set_other (z ∷ xs) zero zero x y ne = absurd (ne refl)
-set-set_other (z ∷ xs) zero (suc j) x y ne = refl
-set-set_other (z ∷ xs) (suc i) zero x y ne = refl
-set-set_other (z ∷ xs) (suc i) (suc j) x y ne = ap (λ v. z ∷ v) (set-set_other xs i j x y (λ e. ne (ap suc e)))
-
 -- what is put into a free slot is held there
 module _ (old new : Slots) (slot id : ℕ) (h : Hold) (free : slice_get old slot ≡ Some None) (at : h.slot ≡ slot)
     (is : new ≡ slice_set old slot (Some (record { row = h.row; id = id })))

@@ -3,12 +3,9 @@ use Rattle.std.proofs.Common.{List, [], append-nil, append_assoc, cond, refl, su
 use Rattle.std.proofs.lemmas.Bool.{eq-eqb}
 use Rattle.std.specs.List.{list_any}
 use Rattle.std.specs.Prelude.{◌||◌}
-use Rattle.orc_heap.specs.Allowed.{AllAllowed, Later, events_by}
-use Rattle.orc_heap.specs.Heap.{HeapNumbers}
-use Rattle.orc_heap.specs.Journals.{FitsAfter, IsLawful}
+use Rattle.orc_heap.specs.Allowed.{AllAllowed, events_by}
 use Rattle.orc_heap.specs.declared.events.Act.{Act}
 use Rattle.orc_heap.specs.declared.events.Event.{Event}
-use Rattle.orc_heap.proofs.Runs.{lawful-snoc}
 
 pub allowed-join : {N : Type 0} (may : List (Event N) → Event N → Type 0) (seen xs ys : List (Event N))
     → AllAllowed may seen xs → AllAllowed may (seen ++ xs) ys → AllAllowed may seen (xs ++ ys)
@@ -45,26 +42,6 @@ other_first {N} agent e es none = ((λ same. mine (e.agent == agent) none (eq-eq
     mine : (b : Bool) → cond b (e ∷ events_by agent es) (events_by agent es) ≡ [] → b ≡ true → ⊥
     mine true h e = cc
     mine false h e = cc
-
--- what each allowed event of another agent keeps stays true over such events
-pub stays_others : {N : Type 0} (may : List (Event N) → Event N → Type 0) (agent : ℕ) (P : List (Event N) → Type 0)
-    → ((es : List (Event N)) (e : Event N) → P es → may es e → e.agent ≢ agent → P (es ++ e ∷ []))
-    → (seen more : List (Event N)) → P seen → Later may agent seen more → P (seen ++ more)
-stays_others may agent P step seen [] begin later = subst P (sym (append-nil seen)) begin
-stays_others {N} may agent P step seen (e ∷ more) begin later =
-    let (other, rest) = other_first agent e more later.others in
-    subst P (append_assoc seen (e ∷ []) more)
-    (stays_others may agent P step (seen ++ e ∷ []) more (step seen e begin later.allowed.0 other) (record { allowed = later.allowed.1; others = rest }))
-
--- where the discipline holds and the events are lawful, they are so after events that it allows
-pub lawful_later : {N : Type 0} (n : HeapNumbers) (may : List (Event N) → Event N → Type 0) (holds : List (Event N) → Type 0)
-    → ((es : List (Event N)) (e : Event N) → holds es → may es e → holds (es ++ e ∷ []))
-    → ((es : List (Event N)) (e : Event N) → holds es → may es e → FitsAfter n es e)
-    → (seen more : List (Event N)) → holds seen → IsLawful n seen → AllAllowed may seen more → IsLawful n (seen ++ more)
-lawful_later {N} n may holds keeps fits seen more h lawful all =
-    let P : List (Event N) → Type 0 = λ es. holds es × IsLawful n es in
-    let r : P (seen ++ more) = stays may P (λ es e p m. (keeps es e p.0 m, lawful-snoc n es e p.1 (fits es e p.0 m))) seen more (h, lawful) all in
-    r.1
 
 -- what each allowed event keeps, but for some acts of this agent, stays true over such events with none of these acts of it
 pub stays_but : {N : Type 0} (may : List (Event N) → Event N → Type 0) (agent : ℕ) (test : Act → Bool) (P : List (Event N) → Type 0)

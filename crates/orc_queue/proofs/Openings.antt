@@ -1,27 +1,14 @@
 -- What a domain with a dummy begins with.
-use Rattle.std.proofs.Common.{None, Option, Some, [], ap, arith, inl, refl, suc, sym, zero, ℕ, ◌^◌, ◌∷◌, ◌≡◌, ◌≤◌}
+use Rattle.std.proofs.Common.{Some, arith, inl, refl, suc, zero, ℕ, ◌^◌, ◌≡◌, ◌≤◌}
 use Rattle.std.specs.List.{slice_get}
-use Rattle.std.specs.Prelude.{is_some, replicate}
-use Rattle.orc_heap.specs.Heap.{HeapNumbers, Node, change, null}
+use Rattle.std.specs.Prelude.{replicate}
+use Rattle.orc_heap.specs.Heap.{change, null}
 use Rattle.orc_heap.specs.declared.events.Link.{Link}
 use Rattle.orc_fifo_rule.specs.declared.fifo.FifoNote.TheVariants.{Begin}
 use Rattle.orc_fifo_rule.specs.QueueDiscipline.{FifoMay}
 use Rattle.orc_table.specs.Machine.{numbers}
-use Rattle.orc_table.specs.Rules.{DummyAllowed, opening_events, to_node}
-use Rattle.orc_table.specs.declared.seed.Seed.TheVariants.{Dummy}
+use Rattle.orc_table.specs.Rules.{DummyAllowed, to_node}
 use Rattle.orc_words.specs.Bounds.{Bounds}
-use Rattle.orc_queue.specs.Turns.{HasDummy}
-
-one_there : (x node : Node) (id : ℕ) → slice_get (x ∷ []) id ≡ Some node → x ≡ node
-one_there x node zero e = cc
-one_there x node (suc id) e = absurd (let none : ◌≡◌ {A = Option Node} None (Some node) = e in cc)
-
--- both roots have begun, and the dummy has its second value
-pub dummy_made : (n : HeapNumbers) (first : ℕ) → HasDummy n (opening_events (Dummy first Begin))
-dummy_made n first = record {
-  begun = refl;
-  filled = λ id node there linked. ap (λ (x : Node). is_some x.second) (sym (one_there _ node id there));
-}
 
 -- the first two roots are null
 first_null : (roots : ℕ) → 2 ≤ roots → slice_get (replicate roots null) 0 ≡ Some null

@@ -5,7 +5,7 @@ use Rattle.std.specs.Borrow.{Bor}
 use Rattle.std.specs.List.{list_any, slice_get, slice_set}
 use Rattle.std.specs.Prelude.{if◌then◌else◌}
 use Rattle.orc_heap.proofs.Fresh.{own_node_told, touched_by}
-use Rattle.orc_heap.proofs.Parts.{Puts-trans, part_allowed}
+use Rattle.orc_heap.proofs.Parts.{part_allowed}
 use Rattle.orc_heap.proofs.Slots.{get-set_other, given-back, holds-other, holds-there, id-other, id-there}
 use Rattle.orc_heap.specs.Allowed.{AllAllowed, IsLinkedNode}
 use Rattle.orc_heap.specs.Calls.{Releases, Swings, given_node, unless_node}
@@ -20,16 +20,14 @@ use Rattle.orc_heap.specs.declared.holds.At.TheVariants.{Root as AtRoot}
 use Rattle.orc_heap.specs.declared.holds.At.{At}
 use Rattle.orc_heap.specs.declared.holds.Want.{Want}
 use Rattle.orc_heap.specs.declared.holds.Want.TheVariants.{Node as WantNode}
-use Rattle.orc_history.specs.declared.queue.QueueEntry.{QueueEntry}
 use Rattle.orc_fifo_rule.proofs.Later.{link_later, linked_later, named_later, position_later}
 use Rattle.orc_fifo_rule.proofs.Leaving.{left_later}
 use Rattle.orc_fifo_rule.specs.declared.fifo.FifoNote.{FifoNote}
 use Rattle.orc_fifo_rule.specs.declared.fifo.FifoNote.TheVariants.{Swing}
-use Rattle.orc_fifo_rule.specs.QueueDiscipline.{FifoHolds, FifoMay, HasLink, entries_of, link_to, position_of}
+use Rattle.orc_fifo_rule.specs.QueueDiscipline.{FifoHolds, FifoMay, HasLink, link_to, position_of}
 use Rattle.orc_fifo_rule.specs.Watches.{IsLeft, WasNamed}
-use Rattle.orc_fifo_rule.specs.Kept.Events.{entries_of-append}
 use Rattle.orc_fifo_rule.specs.Kept.Laws.{fifo_fits, fifo_keeps, fifo_moves_linked}
-use Rattle.orc_queue.specs.Turns.{Helps, HoldsNode, Piece, heap_of}
+use Rattle.orc_queue.specs.Turns.{Helps, HoldsNode, heap_of}
 use Rattle.orc_queue.proofs.Filled.{Known}
 
 pub gives_in-append : {N : Type 0} (es fs : List (Event N)) → gives_in (es ++ fs) ≡ gives_in es + gives_in fs
@@ -43,19 +41,6 @@ append-cancel_left (x ∷ xs) ys zs e = append-cancel_left xs ys zs (cc)
 -- what is new is what was new first and what is new since
 pub new_is : (s t u : Seat FifoNote) (xs ys zs : List (Event FifoNote)) (w : Puts s zs u) (p : Puts s xs t) (q : Puts t ys u) → w.part ≡ p.part ++ q.part
 new_is s t u xs ys zs w p q = append-cancel_left s.seen w.part (p.part ++ q.part) (sym w.is ∙ (q.is ∙ (ap (λ z. z ++ q.part) p.is ∙ append_assoc s.seen p.part q.part)))
-
-pub Piece-trans : (s t u : Seat FifoNote) (xs ys : List QueueEntry) → Piece s xs t → Piece t ys u → Piece s (xs ++ ys) u
-Piece-trans s t u xs ys p q = record {
-  own = p.own ++ q.own;
-  slots = q.slots ∙ p.slots;
-  puts = Puts-trans s t u p.own q.own p.puts q.puts;
-  entries_are = entries_of-append p.own q.own ∙ (ap (λ z. z ++ entries_of q.own) p.entries_are ∙ ap (λ z. xs ++ z) q.entries_are);
-  no_give = omega (arith, gives_in-append p.own q.own, p.no_give, q.no_give);
-}
-
--- a piece whose own events are these
-pub piece_of : (s t : Seat FifoNote) (own : List (Event FifoNote)) → t.slots ≡ s.slots → Puts s own t → gives_in own ≡ 0 → Piece s (entries_of own) t
-piece_of s t own slots p none = record { own = own; slots = slots; puts = p; entries_are = refl; no_give = none }
 
 -- what stays over a piece, whatever others do
 module _ (n : HeapNumbers) (s t : Seat FifoNote) (own : List (Event FifoNote)) (p : Puts s own t) (all : AllAllowed (FifoMay n) [] t.seen) where
@@ -159,6 +144,3 @@ pub helps : (n : HeapNumbers) (s t : Seat FifoNote) (tail next : Bor Hold) (done
     → Swings (AtRoot 1) (WantNode tail false) (WantNode next false) (Some Swing) s done t → Helps (id_in s.slots tail.now) (id_in s.slots next.now) s t
 helps n s t tail next true other w = record { slots = w.slots; fresh = w.fresh ∙ unless_other s.fresh (id_in s.slots next.now) other; either = inl w.puts }
 helps n s t tail next false other w = record { slots = w.slots; fresh = w.fresh; either = inr w.puts }
-
-pub helps_piece : (s t : Seat FifoNote) (tail next : ℕ) → Helps tail next s t → Piece s [] t
-helps_piece s t tail next h = elim h.either [ inl p ↦ piece_of s t _ h.slots p refl | inr m ↦ piece_of s t _ h.slots m.puts refl ]

@@ -1,5 +1,5 @@
 -- The room that a step finds in its agent's work list.
-use Rattle.std.proofs.Common.{◌≡◌, ℕ, ◌+◌, ◌≤◌, ◌==◌, Bool, true, false, cond, [], ◌∷◌, Option, Some, None, is_some, arith, length, length-append, ltb, leb}
+use Rattle.std.proofs.Common.{◌≡◌, ℕ, ◌≤◌, ◌==◌, Bool, true, false, cond, Option, Some, None, is_some, arith, length, leb}
 use Rattle.std.proofs.lemmas.Bool.Decides.{nat_tests}
 use Rattle.std.proofs.lemmas.Grind.{common_steps}
 use Rattle.orc_words.specs.Packed.{named}
@@ -32,20 +32,6 @@ list_kept (TakeIn k) d w h = at_name (named w) d.list h
     at_name (Some r) l h = cc h
 list_kept op d w h = omega arith
 
--- a step that brings a row makes it one longer
-list_grown : (op : Op) (d : Agent) (w : ℕ) → brings_row op w ≡ true → length (after op d w).list.items ≡ length d.list.items + 1
-list_grown (SetRetired r q) d w h = at_test (w == clear_word q) d.list r h
-  where
-    at_test : (t : Bool) (l : Listed) (r : ℕ) → t ≡ true → length (cond t (listed_more l r) l).items ≡ length l.items + 1
-    at_test true l r h = length-append l.items (r ∷ [])
-    at_test false l r h = cc h
-list_grown (TakeIn k) d w h = at_name (named w) d.list h
-  where
-    at_name : (n : Option ℕ) (l : Listed) → is_some n ≡ true → length (listed_name l n).items ≡ length l.items + 1
-    at_name None l h = cc h
-    at_name (Some r) l h = length-append l.items (r ∷ [])
-list_grown op d w h = cc h
-
 rows-room : (m : Machine) (a : ℕ) (op : Op) → IsWhole m → is_allowed m a op ≡ true → (record_at m a).list.room ≡ m.bounds.rows
 rows-room m a op whole may =
     let parts = may_parts m.bounds (word_in m Enrolled) a op (record_at m a) may in
@@ -63,9 +49,3 @@ room-kept m a op whole may fits none =
   where
     as_test : (x y : ℕ) → x ≤ y → leb x y ≡ true
     as_test x y h = grind (arith, nat_tests)
-
-pub room-grown : (m : Machine) (a : ℕ) (op : Op) → brings_row op (word_read m a op) ≡ true → ltb (length (record_at m a).list.items) m.bounds.rows ≡ has_room_for m a op
-room-grown m a op brings = rw (list_grown op (record_at m a) (word_read m a op) brings) (as_test (length (record_at m a).list.items) m.bounds.rows)
-  where
-    as_test : (x y : ℕ) → ltb x y ≡ leb (x + 1) y
-    as_test x y = grind (arith, nat_tests)

@@ -2,10 +2,9 @@
 use Rattle.std.proofs.Common.{Contains, List, None, Option, Some, [], ap, arith, inl, inr, refl, subst, suc, sym, true, zero, ℕ, ◌++◌, ◌∙◌, ◌∷◌, ◌≡◌}
 use Rattle.std.proofs.lemmas.Bool.{eqb-true}
 use Rattle.std.specs.List.{slice_get}
-use Rattle.orc_heap.proofs.Told.{linked_told}
 use Rattle.orc_heap.specs.Acts.{Fits, heap_after}
-use Rattle.orc_heap.specs.Heap.{Heap, HeapNumbers, Node, new_heap, shown}
-use Rattle.orc_heap.specs.Journals.{IsLawful, IsLawfulFrom, is_once_linked, moves_to, names_node, run_from, run_heap}
+use Rattle.orc_heap.specs.Heap.{Heap, HeapNumbers, new_heap, shown}
+use Rattle.orc_heap.specs.Journals.{IsLawful, IsLawfulFrom, run_from, run_heap}
 use Rattle.orc_heap.specs.declared.events.Act.{Act}
 use Rattle.orc_heap.specs.declared.events.Act.TheVariants.{Aim, Fill, Give, Look, Miss, Move}
 use Rattle.orc_heap.specs.declared.events.Event.{Event}
@@ -66,27 +65,6 @@ begun_from h (e ∷ es) r all lawful b =
 
 pub begun_root : (n : HeapNumbers) (es : List (Event FifoNote)) (r : ℕ) → AllBegin es → IsLawful n es → root_has_begun r es ≡ true → shown (run_heap n es) (Root r) ≡ Some (link_to 0)
 begun_root n es r all lawful b = begun_from (new_heap n) es r all lawful b
-
--- Begins link node 0 alone
-begin_target : (act : Act) (noted : Option FifoNote) (id : ℕ) → BeginsIfMoves act noted → moves_to act id ≡ true → id ≡ 0
-begin_target (Move (Root r) from to) noted id b m = sym (eqb-true 0 id (subst (λ (l : Link). names_node l.to id ≡ true) b.2 m))
-begin_target (Move (Next t) from to) noted id b m = absurd b
-begin_target Give noted id b m = cc
-begin_target (Fill i which value) noted id b m = cc
-begin_target (Aim i to) noted id b m = cc
-begin_target (Look place link) noted id b m = cc
-begin_target (Miss place wanted found) noted id b m = cc
-
-linked_zero : (es : List (Event FifoNote)) (id : ℕ) → AllBegin es → is_once_linked es id ≡ true → id ≡ 0
-linked_zero [] id all l = cc
-linked_zero (e ∷ es) id all l =
-    elim (or_either (moves_to e.act id) (is_once_linked es id) l) [
-      | inl is ↦ begin_target e.act e.note id all.0 is
-      | inr later ↦ linked_zero es id all.1 later
-    ]
-
-pub only_zero : (n : HeapNumbers) (es : List (Event FifoNote)) (id : ℕ) (node : Node) → AllBegin es → IsLawful n es → slice_get (run_heap n es).nodes id ≡ Some node → node.linked ≡ true → id ≡ 0
-only_zero n es id node all lawful there linked = linked_zero es id all (sym (linked_told n es id node lawful there) ∙ linked)
 
 none_right : {A : Type 0} (xs ys : List A) → xs ++ ys ≡ [] → ys ≡ []
 none_right [] ys e = e
