@@ -17,6 +17,8 @@ use std::alloc::Global;
 use std::test::Fail;
 use std::thread::{Threads, join_mut};
 
+mod chains;
+
 type Domain = PlainDomain<OwnRoots>;
 
 type Pass = PlainPass<OwnRoots>;

@@ -1,6 +1,6 @@
 //! Queues over plain domains: worked calls, and calls on threads.
 
-ghost use Rattle.std.specs.Prelude.{◌≡◌, ◌⊎◌, ◌+◌, ◌<◌, ◌≤◌, ◌^◌, All, IfOk, IfSome, None, length};
+ghost use Rattle.std.specs.Prelude.{◌≡◌, ◌≢◌, ◌⊎◌, ◌+◌, ◌<◌, ◌≤◌, ◌^◌, All, IfOk, IfSome, None, length, slice_index_or, ℕ};
 ghost use Rattle.orc_heap.specs.Seats.{IsIdle};
 ghost use Rattle.orc_heap.specs.Slots.{IsFree};
 ghost use Rattle.orc_queue.specs.Turns.{HasDummy, HoldsNode};
@@ -35,6 +35,7 @@ fn make_queue(
     requires roots { 2 ≤ (bounds_of shape.now).roots }
     requires first { first ≤ 2 ^ 62 }
     ensures usable { IfOk result (λ made. All (λ p. ⟦<TestQueue as SharedQueue>⟧.usable made.0 p) made.1.items) }
+    ensures agents { IfOk result (λ made. (i : ℕ) (p : _) → i < length made.1.items → ⟦<TestQueue as SharedQueue>⟧.agent_of made.0 (slice_index_or made.1.items i p) ≡ i) }
     ensures passes { IfOk result (λ made. length made.1.items ≡ (bounds_of shape.now).agents) }
 {
     let seed = Seed::Dummy {
@@ -48,8 +49,12 @@ fn make_queue(
 // the last of these passes
 fn next_pass<Q: SharedQueue>(queue: &Q, passes: &mut Vec<Q::Pass>) -> Option<Q::Pass>
     requires usable { All (λ p. Q.usable queue.now p) passes.old.items }
+    requires agents { (i : ℕ) (p : Q.Pass) → i < length passes.old.items → Q.agent_of queue.now (slice_index_or passes.old.items i p) ≡ i }
     ensures usable { All (λ p. Q.usable queue.now p) passes.new.items }
+    ensures agents { (i : ℕ) (p : Q.Pass) → i < length passes.new.items → Q.agent_of queue.now (slice_index_or passes.new.items i p) ≡ i }
     ensures popped { IfSome result (λ p. Q.usable queue.now p) }
+    ensures agent { IfSome result (λ p. Q.agent_of queue.now p ≡ length passes.new.items) }
+    ensures fewer { IfSome result (λ p. length passes.old.items ≡ length passes.new.items + 1) }
 {
     passes.pop()
 }
@@ -124,6 +129,7 @@ fn with_two_passes(
     requires roots { 2 ≤ (bounds_of shape.now).roots }
     ensures first { IfOk result (λ made. ⟦<TestQueue as SharedQueue>⟧.usable made.0 made.1) }
     ensures second { IfOk result (λ made. ⟦<TestQueue as SharedQueue>⟧.usable made.0 made.2) }
+    ensures agents { IfOk result (λ made. ⟦<TestQueue as SharedQueue>⟧.agent_of made.0 made.1 ≢ ⟦<TestQueue as SharedQueue>⟧.agent_of made.0 made.2) }
 {
     let (queue, mut passes) = make_queue(alloc, shape, 0)?;
     let Some(second) = next_pass(&queue, &mut passes) else {
@@ -146,6 +152,8 @@ fn a_lagging_tail_is_helped_on(rt: HostRuntime) -> Result<(), Fail> {
     assert_eq!(rt; queue.enqueue(&mut first, 4, 1), Err(QueueRefused::Again));
     assert_eq!(rt; queue.enqueue(&mut first, 4, 1), Ok(1));
     assert_eq!(rt; queue.dequeue(&mut first, 2), Ok(Some((3, 0))));
+    queue.learn(&mut second, &mut first);
+    assert_eq!(rt; queue.dequeue(&mut second, 2), Ok(Some((4, 1))));
     Ok(())
 }
 
