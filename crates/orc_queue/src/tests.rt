@@ -152,8 +152,21 @@ fn a_lagging_tail_is_helped_on(rt: HostRuntime) -> Result<(), Fail> {
     assert_eq!(rt; queue.enqueue(&mut first, 4, 1), Err(QueueRefused::Again));
     assert_eq!(rt; queue.enqueue(&mut first, 4, 1), Ok(1));
     assert_eq!(rt; queue.dequeue(&mut first, 2), Ok(Some((3, 0))));
+    Ok(())
+}
+
+#[test]
+fn both_take_what_both_put(rt: HostRuntime) -> Result<(), Fail> {
+    let shape = Shape::new(8, 2, 2, 1 << 39)?;
+    let Ok((queue, mut first, mut second)) = with_two_passes(rt.alloc(), &shape) else {
+        panic!(rt; "memory")
+    };
+    assert_eq!(rt; queue.enqueue(&mut first, 3, 2), Ok(0));
     queue.learn(&mut second, &mut first);
-    assert_eq!(rt; queue.dequeue(&mut second, 2), Ok(Some((4, 1))));
+    assert_eq!(rt; queue.enqueue(&mut second, 4, 2), Ok(1));
+    queue.learn(&mut first, &mut second);
+    assert_eq!(rt; queue.dequeue(&mut second, 2), Ok(Some((3, 0))));
+    assert_eq!(rt; queue.dequeue(&mut first, 2), Ok(Some((4, 1))));
     Ok(())
 }
 
