@@ -4,7 +4,7 @@ use Rattle.std.proofs.lemmas.Bool.{eq-eqb}
 use Rattle.std.proofs.lemmas.List.Folds.{list_any-append}
 use Rattle.std.specs.Borrow.{Bor}
 use Rattle.std.specs.List.{slice_get, slice_set}
-use Rattle.std.specs.Prelude.{IfSome, replicate, ◌==◌, ◌||◌}
+use Rattle.std.specs.Prelude.{IfSome, replicate, ◌||◌}
 use Rattle.orc_heap.proofs.ByAnswer.{unless_same}
 use Rattle.orc_heap.proofs.Parts.{Puts-stood}
 use Rattle.orc_heap.proofs.Slots.{given-back, holds-other, holds-there, id-other, id-there}

@@ -79,7 +79,12 @@ fn put_over<L: Links<Rule = OwnRoots>>(
 }
 
 // puts a node over the one to which this root leads
-fn put_over_root<L: Links<Rule = OwnRoots>>(links: &L, p: &mut L::Pass, root: u32, value: u64) -> bool
+fn put_over_root<L: Links<Rule = OwnRoots>>(
+    links: &L,
+    p: &mut L::Pass,
+    root: u32,
+    value: u64,
+) -> bool
     requires pass { L.belongs links.now p.old }
     requires idle { IsIdle (L.seat links.now p.old) }
     requires own { (L.seat links.now p.old).agent < (L.numbers links.now).roots }

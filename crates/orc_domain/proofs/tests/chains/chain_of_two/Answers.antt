@@ -11,9 +11,10 @@ chain_of_both-requires-clause-passes c =
     let d = c.args.domain.now in
     let first = c.in_ok-passes.first.now in
     let others = c.in_ok-passes.others.now in
-    let is = c.in_ok-passes.ensures.cases.0 in
-    (first_of d c.args.passes.now first others is c.requires.all,
-      (subst (λ z. AllByRecursion (λ p. IsPassOf d p) z) c.in_ok-others.ensures.cases.0 (others_of d c.args.passes.now first others is c.requires.all)).0)
+    let is = c.in_ok-passes.ensures.cases.0 in (
+      first_of d c.args.passes.now first others is c.requires.all,
+      (subst (λ z. AllByRecursion (λ p. IsPassOf d p) z) c.in_ok-others.ensures.cases.0 (others_of d c.args.passes.now first others is c.requires.all)).0,
+    )
 
 pub chain_of_both-requires-clause-idle : goal.chain_of_both-requires-clause-idle
 chain_of_both-requires-clause-idle c =

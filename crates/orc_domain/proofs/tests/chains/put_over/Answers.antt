@@ -1,6 +1,6 @@
 -- The swing of the agent's own root.
 use Rattle.std.proofs.Common.{refl, subst, sym, ℕ, ◌∙◌}
-use Rattle.std.specs.Prelude.{None, Some}
+use Rattle.std.specs.Prelude.{Some}
 use Rattle.orc_heap.specs.Allowed.{AllowedLater}
 use Rattle.orc_heap.specs.Calls.{event_of}
 use Rattle.orc_heap.specs.Heap.{null}
