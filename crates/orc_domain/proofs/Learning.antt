@@ -7,7 +7,7 @@ use Rattle.orc_heap.specs.Acts.{IsKnown}
 use Rattle.orc_heap.specs.Allowed.{AllAllowed, events_by}
 use Rattle.orc_heap.specs.Calls.{IsLonger, Learns}
 use Rattle.orc_heap.specs.Journals.{run_heap}
-use Rattle.orc_heap.specs.Parts.{steps_by}
+use Rattle.orc_history.specs.Journals.{own_of}
 use Rattle.orc_heap.specs.declared.discipline.Discipline as discipline
 use Rattle.orc_heap.specs.declared.events.Event.{Event}
 use Rattle.orc_shared_words.specs.Lists.{Begins}
@@ -27,7 +27,7 @@ use Rattle.orc_domain.specs.Rows.{seat_by}
 use Rattle.orc_domain.proofs.Growing.{Grows, fresh_given, fresh_stays, held_given, slots_stay, still_of}
 
 -- the steps of an agent are its events
-pub steps_are : {N : Type 0} (agent : ℕ) (es : List (Event N)) → steps_by (λ e. e.agent) agent es ≡ events_by agent es
+pub steps_are : {N : Type 0} (agent : ℕ) (es : List (Event N)) → own_of (λ e. e.agent) agent es ≡ events_by agent es
 steps_are agent [] = refl
 steps_are agent (e ∷ es) = ap (λ z. cond (e.agent == agent) (e ∷ z) z) (steps_are agent es)
 
@@ -97,7 +97,7 @@ module _ {D N : Type 0} {d : discipline.Ghosts D N} {m : machine.Ghosts Plain N 
     own_events : (events_by s.agent t.events ≡ events_by s.agent s.events) × (events_by u.agent t.events ≡ events_by u.agent u.events)
     own_events = (l.into.own, ap (events_by u.agent) (sym l.both.0) ∙ l.from.own)
 
-    steps_of : (agent : ℕ) (es fs : List (Event N)) → events_by agent es ≡ events_by agent fs → steps_by (λ e. e.agent) agent es ≡ steps_by (λ e. e.agent) agent fs
+    steps_of : (agent : ℕ) (es fs : List (Event N)) → events_by agent es ≡ events_by agent fs → own_of (λ e. e.agent) agent es ≡ own_of (λ e. e.agent) agent fs
     steps_of agent es fs e = steps_are agent es ∙ (e ∙ sym (steps_are agent fs))
 
     pub learns : Learns (λ e. e.agent) (seat_of domain into) (seat_of domain from) (seat_by t into.slots) (seat_by w from.slots)

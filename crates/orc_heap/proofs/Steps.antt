@@ -11,7 +11,8 @@ use mathlib.Core.List.{IsPrefix}
 use Rattle.orc_heap.proofs.OwnParts.{own_join}
 use Rattle.orc_heap.specs.Allowed.{events_by}
 use Rattle.orc_heap.specs.Moves.{AllOwn}
-use Rattle.orc_heap.specs.Parts.{IsAlone, first_step, part_begin, part_of, steps_by}
+use Rattle.orc_history.specs.Journals.{own_of}
+use Rattle.orc_history.specs.Parts.{IsAlone, first_step, part_begin, part_of}
 use Rattle.orc_heap.specs.declared.events.Event.{Event}
 
 both : (a b : Bool) → (a && b) ≡ true → (a ≡ true) × (b ≡ true)
@@ -32,7 +33,7 @@ record Opens {S : Type 0} (agent_of : S → ℕ) (agent place : ℕ) (ss : List 
   before : List S
   is : ss ≡ before ++ from_first agent_of agent ss
   begin_is : first_step agent_of agent place ss ≡ place + length before
-  others : steps_by agent_of agent before ≡ []
+  others : own_of agent_of agent before ≡ []
 
 opens_own : {S : Type 0} (agent_of : S → ℕ) (agent place : ℕ) (ss : List S) → Opens agent_of agent place ss
 unfolding from_first
@@ -50,7 +51,7 @@ pub record Cut {S : Type 0} (agent_of : S → ℕ) (agent : ℕ) (before after :
   pub is : after ≡ (before ++ gap) ++ part
   pub begin_is : part_begin agent_of agent before after ≡ length (before ++ gap)
   pub part_is : part_of agent_of agent before after ≡ part
-  pub others : steps_by agent_of agent gap ≡ []
+  pub others : own_of agent_of agent gap ≡ []
 
 record CutAt {S : Type 0} (agent_of : S → ℕ) (agent : ℕ) (before after more : List S) : Type 0 where
   cut : Cut agent_of agent before after
@@ -140,7 +141,7 @@ module _ {N S : Type 0} (agent_of : S → ℕ) (events : List S → List (Event 
     pub record Adds (agent : ℕ) (j ss : List S) : Type 0 where
       pub new : List (Event N)
       pub is : events (j ++ ss) ≡ events j ++ new
-      pub none : steps_by agent_of agent ss ≡ [] → events_by agent new ≡ []
+      pub none : own_of agent_of agent ss ≡ [] → events_by agent new ≡ []
       pub own : list_all (λ s. agent_of s == agent) ss ≡ true → AllOwn agent new
 
     pub steps_add : (agent : ℕ) (j ss : List S) → Adds agent j ss
@@ -158,7 +159,7 @@ module _ {N S : Type 0} (agent_of : S → ℕ) (events : List S → List (Event 
         }
       where
         cases_none : (b : Bool) → (agent_of s == agent) ≡ b → (es : List (Event N)) → list_all (λ e. e.agent == agent_of s) es ≡ true → (k : Adds agent (j ++ s ∷ []) ss)
-            → cond b (s ∷ steps_by agent_of agent ss) (steps_by agent_of agent ss) ≡ [] → events_by agent (es ++ k.new) ≡ []
+            → cond b (s ∷ own_of agent_of agent ss) (own_of agent_of agent ss) ≡ [] → events_by agent (es ++ k.new) ≡ []
         cases_none true is es whose k h = cc
         cases_none false is es whose k h =
             filter-append (λ (e : Event N). e.agent == agent) es k.new ∙ (ap (λ z. z ++ events_by agent k.new) (one_other agent s es whose is) ∙ k.none h)

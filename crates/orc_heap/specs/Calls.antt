@@ -6,7 +6,8 @@ use Rattle.orc_fault.specs.declared.Spent.{Spent}
 use Rattle.orc_heap.specs.Allowed.{events_by}
 use Rattle.orc_heap.specs.Heap.{Heap, HeapNumbers, Node, null}
 use Rattle.orc_heap.specs.Journals.{points_to, run_heap}
-use Rattle.orc_heap.specs.Parts.{Puts, steps_by}
+use Rattle.orc_heap.specs.Parts.{Puts}
+use Rattle.orc_history.specs.Journals.{own_of}
 use Rattle.orc_heap.specs.Seats.{Seat, link_in, place_in}
 use Rattle.orc_heap.specs.Slots.{Hold, Slots, id_in}
 use Rattle.orc_heap.specs.declared.events.Act.{Act}
@@ -133,7 +134,7 @@ pub record Learns {N S : Type 0} (agent_of : S → ℕ) (s1 s2 t1 t2 : Seat N) (
   pub fresh : (t1.fresh ≡ s1.fresh) × (t2.fresh ≡ s2.fresh)
   pub one_journal : after1 ≡ after2
   pub longer : IsLonger before1 before2 after1
-  pub steps : (steps_by agent_of s1.agent after1 ≡ steps_by agent_of s1.agent before1) × (steps_by agent_of s2.agent after1 ≡ steps_by agent_of s2.agent before2)
+  pub steps : (own_of agent_of s1.agent after1 ≡ own_of agent_of s1.agent before1) × (own_of agent_of s2.agent after1 ≡ own_of agent_of s2.agent before2)
   pub one_list : t1.seen ≡ t2.seen
   pub longer_list : IsLonger s1.seen s2.seen t1.seen
   pub events : (events_by s1.agent t1.seen ≡ events_by s1.agent s1.seen) × (events_by s2.agent t1.seen ≡ events_by s2.agent s2.seen)

@@ -1,4 +1,5 @@
 pub mod Journals
+pub mod Parts
 pub mod QueueHistory
 pub mod SetHistory
 pub mod StoredHistory

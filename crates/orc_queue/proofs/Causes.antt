@@ -14,7 +14,8 @@ use Rattle.orc_heap.specs.Allowed.{AllAllowed, events_by}
 use Rattle.orc_heap.specs.Heap.{HeapNumbers}
 use Rattle.orc_heap.specs.Journals.{run_heap}
 use Rattle.orc_heap.specs.Moves.{AllOwn, from_own, gives_in, moves_in}
-use Rattle.orc_heap.specs.Parts.{InPart, IsBelow, part_begin}
+use Rattle.orc_heap.specs.Parts.{IsBelow}
+use Rattle.orc_history.specs.Parts.{InPart, part_begin}
 use Rattle.orc_heap.specs.Seats.{Seat}
 use Rattle.orc_heap.specs.declared.events.Event.{Event}
 use Rattle.orc_history.specs.Journals.{Adds, Every, Learns as HistoryLearns, Within, own_of}

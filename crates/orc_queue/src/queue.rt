@@ -5,7 +5,7 @@ ghost use mathlib.Core.List.{IsPrefix};
 ghost use Rattle.orc_heap.specs.Allowed.{events_by};
 ghost use Rattle.orc_heap.specs.Journals.{run_heap};
 ghost use Rattle.orc_heap.specs.Moves.{gives_in};
-ghost use Rattle.orc_heap.specs.Parts.{InPart, IsAlone};
+ghost use Rattle.orc_history.specs.Parts.{InPart, IsAlone};
 ghost use Rattle.orc_heap.specs.Seats.{IsIdle};
 ghost use Rattle.orc_history.specs.Journals.{Adds, Within};
 ghost use Rattle.orc_history.specs.QueueHistory.{agent_of_entry, entry_of_dequeue};

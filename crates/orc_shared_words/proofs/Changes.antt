@@ -10,7 +10,8 @@ use Rattle.orc_heap.specs.declared.events.Event.{Event}
 use Rattle.orc_shared_words.specs.declared.journal.View.{View}
 use Rattle.orc_shared_words.specs.Lists.{Among}
 use Rattle.orc_shared_words.specs.Rule.{AtMostOne, EachView, Fits, HandsOut, HasSeen, NoPass, Retired, Shows, Unborn}
-use Rattle.orc_shared_words.specs.Runs.{Rules, steps_by}
+use Rattle.orc_shared_words.specs.Runs.{Rules}
+use Rattle.orc_history.specs.Journals.{own_of}
 use Rattle.orc_shared_words.proofs.Seats.{at_changed, at_grown, at_one, none_some}
 
 module _ {S Rec : Type 0} where
@@ -118,7 +119,7 @@ module _ {K S Op Rec N : Type 0} (r : Rules K S Op Rec N) (k : K) (holds : List 
     retired = λ a i u ei q.
         let old = at_grown (λ i u. Among a u.also → (z : View S Rec) × (l : ℕ) × (get_elem? s.views l ≡ some z) × Among a z.also × (z.seen ≡ u.seen)) s.views w (λ q. absurd (subst (Among a) alone_so q)) (λ i u e q. (u, i, e, q, refl)) i u ei q in
         let x = h.retired a old.1 old.0 old.2 old.3 in record {
-          steps = x.steps ∙ ap (steps_by r.by a) old.4;
+          steps = x.steps ∙ ap (own_of r.by a) old.4;
           passless = at_grown (λ _ z. ¬ (z.agent ≡ Some a)) s.views w (λ p. (new a p).living old.1 old.0 old.2 old.3) x.passless;
           handed = λ c l z el. at_grown (λ _ z. z.free ≡ Some c → a < c) s.views w (λ p. absurd (none_some w.free c none p)) (λ l z el p. x.handed c l z el p) l z el;
         };

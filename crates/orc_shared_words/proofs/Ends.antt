@@ -7,7 +7,8 @@ use Rattle.orc_shared_words.specs.declared.journal.View.{View}
 use Rattle.orc_shared_words.specs.Ends.{Opens, OwnsAll, Whole}
 use Rattle.orc_shared_words.specs.Lists.{Among, Begins}
 use Rattle.orc_shared_words.specs.Rule.{Fits, HandsOut, Owns, Shows, Unborn}
-use Rattle.orc_shared_words.specs.Runs.{AgentsBelow, Rules, steps_by}
+use Rattle.orc_shared_words.specs.Runs.{AgentsBelow, Rules}
+use Rattle.orc_history.specs.Journals.{own_of}
 use Rattle.orc_shared_words.specs.Views.{first_view}
 use Rattle.orc_shared_words.proofs.Changes.{one_alone}
 use Rattle.orc_shared_words.proofs.Fronts.{begins_itself}
@@ -50,7 +51,7 @@ module _ {K S Op Rec N : Type 0} (r : Rules K S Op Rec N) (k : K) (holds : List 
       let h = fin.1.0 in
       let at = fin.1.1 in
       let f = h.fits id v at in
-      let quiet : (a : ℕ) → a < r.agents k → steps_by r.by a f.seen.0 ≡ [] = λ a lt.
+      let quiet : (a : ℕ) → a < r.agents k → own_of r.by a f.seen.0 ≡ [] = λ a lt.
       none_behind r.by a h.journal v.seen f.seen (⊎_elim (λ e. (f.pass a e).steps) (λ q. (h.retired a id v at q).steps) (all a lt)) in
       let none : f.seen.0 ≡ [] = none_left r.by (r.agents k) f.seen.0 (below-tail r.by (r.agents k) v.seen f.seen.0 (subst (AgentsBelow r.by (r.agents k)) f.seen.1 h.below)) quiet in
       let whole : h.journal ≡ v.seen = f.seen.1 ∙ (ap (λ l. v.seen ++ l) none ∙ append-nil v.seen) in

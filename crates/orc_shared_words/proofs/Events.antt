@@ -3,7 +3,8 @@ use Rattle.std.proofs.Common.{◌≡◌, ◌≢◌, ℕ, List, [], ◌∷◌, �
 use mathlib.Core.Logic.{dite}
 use native.Mathlib.Decide.{ℕ_discrete}
 use Rattle.orc_heap.specs.declared.events.Event.{Event}
-use Rattle.orc_shared_words.specs.Runs.{Rules, Obeys, steps_by}
+use Rattle.orc_shared_words.specs.Runs.{Rules, Obeys}
+use Rattle.orc_history.specs.Journals.{own_of}
 use Rattle.orc_heap.specs.Allowed.{AllAllowed}
 use Rattle.orc_shared_words.proofs.Runs.{cons_nil, by_other, by_own}
 
@@ -31,10 +32,10 @@ module _ {N : Type 0} where
 
 module _ {K S Op Rec N : Type 0} (r : Rules K S Op Rec N) (k : K) (laws : Obeys r k) (signed : (past : List S) (s : S) → AllBy (r.by s) (r.events k past s)) where
   -- steps of others add events of others
-  pub others_add : (a : ℕ) (seen between : List S) → steps_by r.by a between ≡ [] → (es : List (Event N)) × NoneBy a es × (r.project k (seen ++ between) ≡ r.project k seen ++ es)
+  pub others_add : (a : ℕ) (seen between : List S) → own_of r.by a between ≡ [] → (es : List (Event N)) × NoneBy a es × (r.project k (seen ++ between) ≡ r.project k seen ++ es)
   others_add a seen [] e = ([], tt, ap (r.project k) (append-nil seen) ∙ sym (append-nil (r.project k seen)))
   others_add a seen (x ∷ xs) e = dite (ℕ_discrete (r.by x) a)
-      (λ own. absurd (cons_nil x (steps_by r.by a xs) (sym (by_own r.by a x xs own) ∙ e)))
+      (λ own. absurd (cons_nil x (own_of r.by a xs) (sym (by_own r.by a x xs own) ∙ e)))
       (λ ne. let t = others_add a (seen ++ x ∷ []) xs (sym (by_other r.by a x xs ne) ∙ e) in (
         r.events k seen x ++ t.0,
         none-append a (r.events k seen x) t.0 (none_of_all a (r.by x) (r.events k seen x) ne (signed seen x)) t.1,
@@ -42,6 +43,6 @@ module _ {K S Op Rec N : Type 0} (r : Rules K S Op Rec N) (k : K) (laws : Obeys 
       ))
 
   -- a pass that steps has seen its events so far, events of others, and its step's own event, if it has one
-  pub events_grow : (a : ℕ) (seen between : List S) (s : S) → steps_by r.by a between ≡ []
+  pub events_grow : (a : ℕ) (seen between : List S) (s : S) → own_of r.by a between ≡ []
       → (es : List (Event N)) × NoneBy a es × (r.project k ((seen ++ between) ++ s ∷ []) ≡ (r.project k seen ++ es) ++ r.events k (seen ++ between) s)
   events_grow a seen between s e = let t = others_add a seen between e in (t.0, t.1, laws.project_next (seen ++ between) s ∙ ap (λ l. l ++ r.events k (seen ++ between) s) t.2)

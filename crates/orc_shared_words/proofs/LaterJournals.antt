@@ -8,7 +8,8 @@ use Rattle.orc_shared_words.specs.declared.journal.View.{View}
 use Rattle.orc_shared_words.specs.Ends.{Opens, OwnsAll}
 use Rattle.orc_shared_words.specs.Learning.{Learned, SameButSeen}
 use Rattle.orc_shared_words.specs.Lists.{Among, Begins}
-use Rattle.orc_shared_words.specs.Runs.{AgentsBelow, Obeys, Rules, steps_by}
+use Rattle.orc_shared_words.specs.Runs.{AgentsBelow, Obeys, Rules}
+use Rattle.orc_history.specs.Journals.{own_of}
 use Rattle.orc_shared_words.specs.Steps.{Extends, LaterJournal}
 use Rattle.orc_shared_words.proofs.Fronts.{begins_itself}
 use Rattle.orc_shared_words.proofs.Runs.{below-front, below-tail, by_other, by_own, cons_nil, none_behind, none_left}
@@ -28,16 +29,16 @@ module _ {K S Op Rec N : Type 0} (r : Rules K S Op Rec N) (k : K) (holds : List 
   }
 
   -- steps of others leave an agent's record
-  pub own_stays : Obeys r k → (a : ℕ) (j more : List S) → steps_by r.by a more ≡ [] → r.own k (j ++ more) a ≡ r.own k j a
+  pub own_stays : Obeys r k → (a : ℕ) (j more : List S) → own_of r.by a more ≡ [] → r.own k (j ++ more) a ≡ r.own k j a
   own_stays laws a j [] e = ap (λ l. r.own k l a) (append-nil j)
   own_stays laws a j (s ∷ ss) e = dite (ℕ_discrete (r.by s) a)
-      (λ same. absurd (cons_nil s (steps_by r.by a ss) (sym (by_own r.by a s ss same) ∙ e)))
+      (λ same. absurd (cons_nil s (own_of r.by a ss) (sym (by_own r.by a s ss same) ∙ e)))
       (λ ne. ap (λ l. r.own k l a) (sym (append_assoc j (s ∷ []) ss)) ∙ (own_stays laws a (j ++ s ∷ []) ss (sym (by_other r.by a s ss ne) ∙ e) ∙ laws.own_other j s a (λ q. ne (sym q))))
 
   -- a pass whose list is now a longer one that another pass knew
   grown_later : Obeys r k → (v u w : View S Rec) (a b : ℕ) → v.agent ≡ Some a → LaterJournal r k holds may v.seen v a → LaterJournal r k holds may u.seen u b → Begins u.seen v.seen → w.seen ≡ u.seen → SameButSeen r.by v w → LaterJournal r k holds may w.seen w a
   grown_later laws v u w a b is mine other longer seen same =
-      let steps : steps_by r.by a u.seen ≡ steps_by r.by a v.seen = ap (steps_by r.by a) (sym seen) ∙ same.steps a (inl is) in
+      let steps : own_of r.by a u.seen ≡ own_of r.by a v.seen = ap (own_of r.by a) (sym seen) ∙ same.steps a (inl is) in
       let stays : r.own k u.seen a ≡ r.own k v.seen a = ap (λ l. r.own k l a) longer.1 ∙ own_stays laws a v.seen longer.0 (none_behind r.by a u.seen v.seen longer steps) in record {
         lawful = subst (r.lawful k) (sym seen) other.lawful;
         opened = subst (λ j. Begins j (r.opening k)) (sym seen) other.opened;
@@ -71,7 +72,7 @@ module _ {K S Op Rec N : Type 0} (r : Rules K S Op Rec N) (k : K) (holds : List 
   pub nothing_between : (op : Op) (said : Option N) (v : View S Rec) (n : ℕ) (w : View S Rec) → OwnsAll r k v → (x : Extends r k holds may op said v n w) → x.between ≡ []
   nothing_between op said v n w all x = none_left r.by (r.agents k) x.between
       (below-tail r.by (r.agents k) v.seen x.between (below-front r.by (r.agents k) (v.seen ++ x.between) (r.step x.agent op said ∷ []) (subst (AgentsBelow r.by (r.agents k)) x.seen x.now.below)))
-      (λ a lt. ⊎_elim (λ e. subst (λ b. steps_by r.by b x.between ≡ []) (one_number v.agent a x.agent e x.is) x.others) (x.retired a) (all a lt))
+      (λ a lt. ⊎_elim (λ e. subst (λ b. own_of r.by b x.between ≡ []) (one_number v.agent a x.agent e x.is) x.others) (x.retired a) (all a lt))
 
   pub still_owns_all : (op : Op) (said : Option N) (v : View S Rec) (n : ℕ) (w : View S Rec) → OwnsAll r k v → Extends r k holds may op said v n w → OwnsAll r k w
   still_owns_all op said v n w all x a lt = ⊎_elim (λ e. inl (x.same ∙ (sym x.is ∙ e))) (λ q. inr (subst (Among a) (sym x.also) q)) (all a lt)

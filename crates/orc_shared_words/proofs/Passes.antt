@@ -12,11 +12,12 @@ use Rattle.orc_shared_words.specs.declared.journal.View.{View}
 use Rattle.orc_shared_words.specs.Learning.{Confirmed, Learned}
 use Rattle.orc_shared_words.specs.Lists.{Among, Begins}
 use Rattle.orc_shared_words.specs.Rule.{Fits, HasSeen, Owns, Retired, Shows}
-use Rattle.orc_shared_words.specs.Runs.{Rules, steps_by}
+use Rattle.orc_shared_words.specs.Runs.{Rules}
+use Rattle.orc_history.specs.Journals.{own_of}
 use Rattle.orc_shared_words.specs.Views.{Covers, absorbing, agent_of, keeping, next_number, next_pass, note_of, one_handed, spent_view}
 use Rattle.orc_shared_words.proofs.Changes.{Attained, IsNew, added, changed}
 use Rattle.orc_shared_words.proofs.Fronts.{begins_with, both_fronts, front_nil, one_begins_other}
-use Rattle.orc_shared_words.proofs.Runs.{none_behind, none_between, steps_by-append, steps_by-others}
+use Rattle.orc_shared_words.proofs.Runs.{none_behind, none_between, own_of-append, own_of-others}
 use Rattle.orc_shared_words.proofs.Seats.{among_behind, among_either, among_front, at_changed, none_some, one_number, set_there}
 
 module _ {S Rec : Type 0} where
@@ -52,7 +53,7 @@ module _ {K S Op Rec N : Type 0} (r : Rules K S Op Rec N) (k : K) where
   refit j v w f agent own seen kept = record {
     seen = subst (Begins j) (sym seen) f.seen;
     kept = kept;
-    pass = λ a e. let o = f.pass a (sym agent ∙ e) in record { below = o.below; mine = o.mine ∙ sym own; steps = o.steps ∙ ap (steps_by r.by a) (sym seen); opened = subst (λ l. Begins l (r.opening k)) (sym seen) o.opened };
+    pass = λ a e. let o = f.pass a (sym agent ∙ e) in record { below = o.below; mine = o.mine ∙ sym own; steps = o.steps ∙ ap (own_of r.by a) (sym seen); opened = subst (λ l. Begins l (r.opening k)) (sym seen) o.opened };
   }
 
   module _ (holds : List (Event N) → Type 0) (may : List (Event N) → Event N → Type 0) where
@@ -84,7 +85,7 @@ module _ {K S Op Rec N : Type 0} (r : Rules K S Op Rec N) (k : K) where
         let o = f.pass a is in
         let after : View S Rec = one_handed v in
         let next_is : (d : ℕ) → next_number v.free ≡ Some d → d ≡ c + 1 = λ d q. one_number (next_number v.free) (c + 1) d (ap next_number p) q in
-        let silent : steps_by r.by c v.seen ≡ steps_by r.by c (r.opening k) = none_between r.by c h.journal v.seen (r.opening k) f.seen o.opened x.steps in
+        let silent : own_of r.by c v.seen ≡ own_of r.by c (r.opening k) = none_between r.by c h.journal v.seen (r.opening k) f.seen o.opened x.steps in
         let first : Shows r k holds may record { words = s.words; homes = s.homes; views = set s.views id after } =
         changed r k holds may s.words s h id v after refl at (refit h.journal v after f refl refl refl f.kept) (λ a q. q) (λ d q. let e = next_is d q in (c, p, omega arith)) (λ a q. h.retired a id v at q)
         (λ q. (id, after, set_there s.views id v after at, q)) in
@@ -125,8 +126,8 @@ module _ {K S Op Rec N : Type 0} (r : Rules K S Op Rec N) (k : K) where
         (λ (b : Begins v.kept v.seen).
         let w : View S Rec = confirmed v v.kept in
         let behind : Begins h.journal v.seen = (b.0 ++ f.kept.0, f.kept.1 ∙ (ap (λ l. l ++ f.kept.0) b.1 ∙ append_assoc v.seen b.0 f.kept.0)) in
-        let same_of : (a : ℕ) → steps_by r.by a h.journal ≡ steps_by r.by a v.seen → steps_by r.by a v.kept ≡ steps_by r.by a v.seen = λ a e.
-        ap (steps_by r.by a) b.1 ∙ steps_by-others r.by a v.seen b.0 (front_nil (steps_by r.by a b.0) (steps_by r.by a f.kept.0) (sym (steps_by-append r.by a b.0 f.kept.0) ∙ none_behind r.by a h.journal v.seen behind e)) in
+        let same_of : (a : ℕ) → own_of r.by a h.journal ≡ own_of r.by a v.seen → own_of r.by a v.kept ≡ own_of r.by a v.seen = λ a e.
+        ap (own_of r.by a) b.1 ∙ own_of-others r.by a v.seen b.0 (front_nil (own_of r.by a b.0) (own_of r.by a f.kept.0) (sym (own_of-append r.by a b.0 f.kept.0) ∙ none_behind r.by a h.journal v.seen behind e)) in
         let fits : Fits r k h.journal w = record {
           seen = f.kept;
           kept = (h.journal, refl);
@@ -150,7 +151,7 @@ module _ {K S Op Rec N : Type 0} (r : Rules K S Op Rec N) (k : K) where
     husk w = record { seen = []; kept = []; agent = None; free = None; also = []; taken = w.seen ∷ w.taken; own = r.blank }
 
     -- a pass takes in another for good
-    pub absorbs : (id : ℕ) (v : View S Rec) (other : ℕ) (w : View S Rec) (b : ℕ) → w.agent ≡ Some b → ((a : ℕ) → Covers w a → steps_by r.by a v.seen ≡ steps_by r.by a w.seen) → Joins (Shows r k holds may) id v other w (absorbing v w) (spent_view r)
+    pub absorbs : (id : ℕ) (v : View S Rec) (other : ℕ) (w : View S Rec) (b : ℕ) → w.agent ≡ Some b → ((a : ℕ) → Covers w a → own_of r.by a v.seen ≡ own_of r.by a w.seen) → Joins (Shows r k holds may) id v other w (absorbing v w) (spent_view r)
     unfolding changed loses_agent
     absorbs id v other w b is same s h at ne there =
         let both : View S Rec = absorbing v w in
@@ -165,7 +166,7 @@ module _ {K S Op Rec N : Type 0} (r : Rules K S Op Rec N) (k : K) where
         loses_agent s h other w left before refl refl refl nothing nothing (λ q. (other, left, set_there s.views other w left before, inr (seen_and_taken h.journal w q))) in
         let at' : get_elem? l1 id ≡ some v = set_else s.views other id left (λ e. ne (sym e)) ∙ at in
         -- an agent without a pass in the other views has none now
-        let gone : (a : ℕ) → steps_by r.by a h.journal ≡ steps_by r.by a v.seen → ((i : ℕ) (z : View S Rec) → i ≢ other → get_elem? s.views i ≡ some z → ¬ (z.agent ≡ Some a)) → ((c i : ℕ) (z : View S Rec) → get_elem? s.views i ≡ some z → z.free ≡ Some c → a < c) → Retired r k h.journal l1 a v.seen =
+        let gone : (a : ℕ) → own_of r.by a h.journal ≡ own_of r.by a v.seen → ((i : ℕ) (z : View S Rec) → i ≢ other → get_elem? s.views i ≡ some z → ¬ (z.agent ≡ Some a)) → ((c i : ℕ) (z : View S Rec) → get_elem? s.views i ≡ some z → z.free ≡ Some c → a < c) → Retired r k h.journal l1 a v.seen =
         λ a steps passless handed. record {
           steps = steps;
           passless = at_changed (λ _ z. ¬ (z.agent ≡ Some a)) s.views other left (λ p. none_some None a refl p) passless;

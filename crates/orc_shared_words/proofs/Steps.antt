@@ -10,11 +10,12 @@ use Rattle.orc_shared_words.specs.declared.operation.Operation.{Operation}
 use Rattle.orc_shared_words.specs.Lists.{Each}
 use Rattle.orc_shared_words.specs.Operations.{place_of, written_by, answer_by}
 use Rattle.orc_shared_words.specs.Rule.{Fits, HandsOut, Owns, Shows}
-use Rattle.orc_shared_words.specs.Runs.{Obeys, Rules, found_by, steps_by}
+use Rattle.orc_shared_words.specs.Runs.{Obeys, Rules, found_by}
+use Rattle.orc_history.specs.Journals.{own_of}
 use Rattle.orc_shared_words.specs.Steps.{Did, LaterJournal, Licensed}
 use Rattle.orc_shared_words.proofs.Changes.{AllRetired, AllUnborn, still_one, still_retired, still_unborn}
 use Rattle.orc_shared_words.proofs.Fronts.{begins_itself, begins_more}
-use Rattle.orc_shared_words.proofs.Runs.{below-snoc, by_other, none_behind, steps_by-others}
+use Rattle.orc_shared_words.proofs.Runs.{below-snoc, by_other, none_behind, own_of-others}
 use Rattle.orc_shared_words.proofs.Seats.{at_changed, one_number, set_there}
 
 module _ {N : Type 0} (may : List (Event N) → Event N → Type 0) where
@@ -32,8 +33,8 @@ module _ {N : Type 0} (may : List (Event N) → Event N → Type 0) where
 
 module _ {K S Op Rec N : Type 0} (r : Rules K S Op Rec N) (laws : (k : K) → Obeys r k) (k : K) where
   -- another agent's steps stay
-  other_steps : (j : List S) (a : ℕ) (op : Op) (said : Option N) (b : ℕ) → b ≢ a → steps_by r.by b (j ++ r.step a op said ∷ []) ≡ steps_by r.by b j
-  other_steps j a op said b ne = steps_by-others r.by b j (r.step a op said ∷ []) (by_other r.by b (r.step a op said) [] (λ q. ne (sym q ∙ (laws k).by_step a op said)))
+  other_steps : (j : List S) (a : ℕ) (op : Op) (said : Option N) (b : ℕ) → b ≢ a → own_of r.by b (j ++ r.step a op said ∷ []) ≡ own_of r.by b j
+  other_steps j a op said b ne = own_of-others r.by b j (r.step a op said ∷ []) (by_other r.by b (r.step a op said) [] (λ q. ne (sym q ∙ (laws k).by_step a op said)))
 
   -- and so does its record
   other_own : (j : List S) (a : ℕ) (op : Op) (said : Option N) (b : ℕ) → b ≢ a → r.own k (j ++ r.step a op said ∷ []) b ≡ r.own k j b
@@ -72,7 +73,7 @@ module _ {K S Op Rec N : Type 0} (r : Rules K S Op Rec N) (laws : (k : K) → Ob
       let f : Fits r k j v = h.fits id v at in
       let o : Owns r k j v a = f.pass a is in
       let e : j ≡ v.seen ++ f.seen.0 = f.seen.1 in
-      let none : steps_by r.by a f.seen.0 ≡ [] = none_behind r.by a j v.seen f.seen o.steps in
+      let none : own_of r.by a f.seen.0 ≡ [] = none_behind r.by a j v.seen f.seen o.steps in
       let at_place : ℕ = r.place k a op v.own in
       let n : ℕ = get_or s.words at_place 0 in
       let found : n ≡ found_by r k j a op = λ i. get_or (h.words i) (r.place k a op (sym o.mine i)) 0 in

@@ -1,6 +1,6 @@
 -- What passes learn from each other.
 use Rattle.orc_shared_words.specs.Lists.{IsLonger}
-use Rattle.orc_shared_words.specs.Runs.{steps_by}
+use Rattle.orc_history.specs.Journals.{own_of}
 use Rattle.orc_shared_words.specs.Views.{Covers}
 use Rattle.orc_shared_words.specs.declared.journal.View.{View}
 use Rattle.std.specs.Prelude.{ℕ, ◌≡◌}
@@ -12,7 +12,7 @@ module _ {S Rec : Type 0} where
     pub free : w.free ≡ v.free
     pub also : w.also ≡ v.also
     pub mine : w.own ≡ v.own
-    pub steps : (b : ℕ) → Covers v b → steps_by by b w.seen ≡ steps_by by b v.seen
+    pub steps : (b : ℕ) → Covers v b → own_of by b w.seen ≡ own_of by b v.seen
 
   -- the pass has seen the longer one of its list and of the list that it kept
   pub record Confirmed (by : S → ℕ) (v w : View S Rec) : Type 0 where

@@ -3,7 +3,8 @@ use Rattle.atomic_table.specs.Table.{State}
 use Rattle.orc_heap.specs.Allowed.{AllAllowed}
 use Rattle.orc_heap.specs.declared.events.Event.{Event}
 use Rattle.orc_shared_words.specs.Lists.{Among, Begins}
-use Rattle.orc_shared_words.specs.Runs.{AgentsBelow, Rules, steps_by}
+use Rattle.orc_shared_words.specs.Runs.{AgentsBelow, Rules}
+use Rattle.orc_history.specs.Journals.{own_of}
 use Rattle.orc_shared_words.specs.declared.journal.View.{View}
 use Rattle.std.specs.Prelude.{List, Some, [], ℕ, ◌<◌, ◌≡◌, ◌≤◌, ◌⊎◌}
 use lib.ListN.{get_elem?}
@@ -37,7 +38,7 @@ module _ {K S Op Rec N : Type 0} (r : Rules K S Op Rec N) (k : K) where
     -- its record is that of its agent
     pub mine : r.own k j a ≡ v.own
     -- the steps of its agent all stand in what it has seen, which begins with the opening
-    pub steps : steps_by r.by a j ≡ steps_by r.by a v.seen
+    pub steps : own_of r.by a j ≡ own_of r.by a v.seen
     pub opened : Begins v.seen (r.opening k)
 
   -- what a seat knows: a pass, a note, which has no agent, or a spent view, which has seen nothing
@@ -51,12 +52,12 @@ module _ {K S Op Rec N : Type 0} (r : Rules K S Op Rec N) (k : K) where
   -- an agent whose pass isn't made yet: it has the record of a new pass, and no steps after the opening
   pub record Unborn (j : List S) (views : List (View S Rec)) (a : ℕ) : Type 0 where
     pub mine : r.own k j a ≡ r.born
-    pub steps : steps_by r.by a j ≡ steps_by r.by a (r.opening k)
+    pub steps : own_of r.by a j ≡ own_of r.by a (r.opening k)
     pub passless : NoPass views a
 
   -- an agent whose pass was taken in for good: its steps stand in `seen`, and its number isn't handed out again
   pub record Retired (j : List S) (views : List (View S Rec)) (a : ℕ) (seen : List S) : Type 0 where
-    pub steps : steps_by r.by a j ≡ steps_by r.by a seen
+    pub steps : own_of r.by a j ≡ own_of r.by a seen
     pub passless : NoPass views a
     pub handed : (c : ℕ) → EachView views (λ _ v. v.free ≡ Some c → a < c)
 

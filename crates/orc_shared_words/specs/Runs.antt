@@ -31,11 +31,6 @@ pub record Rules (K S Op Rec N : Type 0) : Type 1 where
   pub events : K → List S → S → List (Event N)
   pub project : K → List S → List (Event N)
 
--- the agent's own steps
-abbrev pub steps_by : {S : Type 0} → (S → ℕ) → ℕ → List S → List S
-steps_by by a [] = []
-steps_by by a (s ∷ ss) = if by s == a then s ∷ steps_by by a ss else steps_by by a ss
-
 -- each step is of one of the agents
 abbrev pub AgentsBelow : {S : Type 0} → (S → ℕ) → ℕ → List S → Type 0
 AgentsBelow by n [] = Unit {0}

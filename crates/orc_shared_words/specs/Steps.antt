@@ -3,7 +3,8 @@ use Rattle.atomic_table.specs.Table.{Me}
 use Rattle.orc_heap.specs.Allowed.{AllAllowed}
 use Rattle.orc_heap.specs.declared.events.Event.{Event}
 use Rattle.orc_shared_words.specs.Lists.{Among, Begins, Each}
-use Rattle.orc_shared_words.specs.Runs.{AgentsBelow, Rules, found_by, steps_by}
+use Rattle.orc_shared_words.specs.Runs.{AgentsBelow, Rules, found_by}
+use Rattle.orc_history.specs.Journals.{own_of}
 use Rattle.orc_shared_words.specs.declared.journal.View.{View}
 use Rattle.std.specs.Prelude.{List, None, Option, Some, [], ℕ, ◌++◌, ◌∷◌, ◌≡◌}
 
@@ -21,11 +22,11 @@ module _ {K S Op Rec N : Type 0} (r : Rules K S Op Rec N) where
       -- the agent's record is the pass's
       pub mine : r.own k j a ≡ v.own
       -- of an agent whose pass was taken in for good it has the steps that the pass has seen
-      pub retired : (b : ℕ) → Among b v.also → steps_by r.by b j ≡ steps_by r.by b v.seen
+      pub retired : (b : ℕ) → Among b v.also → own_of r.by b j ≡ own_of r.by b v.seen
 
     -- the step's event, if it has one, is allowed after each later journal of the pass
     abbrev pub Licensed : View S Rec → ℕ → Op → Option N → Type 0
-    Licensed v a op note = (between : List S) → steps_by r.by a between ≡ [] → LaterJournal (v.seen ++ between) v a
+    Licensed v a op note = (between : List S) → own_of r.by a between ≡ [] → LaterJournal (v.seen ++ between) v a
         → Each (may (r.project k (v.seen ++ between))) (r.events k (v.seen ++ between) (r.step a op note))
 
     -- a step of a pass, whose view was v and is w, with the answer n
@@ -39,8 +40,8 @@ module _ {K S Op Rec N : Type 0} (r : Rules K S Op Rec N) where
       pub between : List S
       pub seen : w.seen ≡ (v.seen ++ between) ++ r.step agent op note ∷ []
       -- what stands between are steps of others, and none of an agent whose pass was taken in for good
-      pub others : steps_by r.by agent between ≡ []
-      pub retired : (b : ℕ) → Among b v.also → steps_by r.by b between ≡ []
+      pub others : own_of r.by agent between ≡ []
+      pub retired : (b : ℕ) → Among b v.also → own_of r.by b between ≡ []
       -- the number found is that of the run, and the answer and the new record are of it
       pub found : ℕ
       pub read : found ≡ found_by r k (v.seen ++ between) agent op

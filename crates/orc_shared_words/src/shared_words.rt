@@ -4,7 +4,7 @@ ghost use Rattle.std.specs.Prelude.{◌≡◌, ◌<◌, ℕ, Some, [], All, IfOk
 ghost use Rattle.orc_shared_words.specs.Ends.{Opens, OwnsAll, Whole};
 ghost use Rattle.orc_shared_words.specs.Learning.{Confirmed, Learned};
 ghost use Rattle.orc_shared_words.specs.Lists.{EachAt};
-ghost use Rattle.orc_shared_words.specs.Runs.{steps_by};
+ghost use Rattle.orc_history.specs.Journals.{own_of};
 ghost use Rattle.orc_shared_words.specs.Steps.{Extends, LaterJournal, Licensed};
 ghost use Rattle.orc_shared_words.specs.Views.{Covers, absorbing, first_view, keeping, next_pass, one_handed};
 
@@ -214,7 +214,7 @@ impl<M: Machine<D::Note>, D: Discipline> SharedWords<M, D> {
     /// Takes in a pass for good. What its agents did, `into` has to have seen: `learn` gives that.
     pub fn absorb(&self, into: &mut SharedPass<M, D>, from: SharedPass<M, D>)
         requires table { (into.old.seat.table_id ≡ self.now.table.shared.table_id) × (from.seat.table_id ≡ self.now.table.shared.table_id) }
-        requires same { (b : ℕ) → Covers from.seat.me.0 b → steps_by M.rules.by b into.old.seat.me.0.seen ≡ steps_by M.rules.by b from.seat.me.0.seen }
+        requires same { (b : ℕ) → Covers from.seat.me.0 b → own_of M.rules.by b into.old.seat.me.0.seen ≡ own_of M.rules.by b from.seat.me.0.seen }
         ensures table { into.new.seat.table_id ≡ into.old.seat.table_id }
         ensures agent { into.new.agent ≡ into.old.agent }
         ensures own { into.new.own ≡ into.old.own }

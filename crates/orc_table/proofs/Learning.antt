@@ -8,10 +8,11 @@ use Rattle.orc_heap.specs.declared.discipline.Discipline as discipline
 use Rattle.orc_heap.specs.declared.events.Event.{Event}
 use Rattle.orc_shared_words.specs.Learning.{Learned, SameButSeen}
 use Rattle.orc_shared_words.specs.Lists.{Begins}
-use Rattle.orc_shared_words.specs.Runs.{AgentsBelow, steps_by}
+use Rattle.orc_shared_words.specs.Runs.{AgentsBelow}
+use Rattle.orc_history.specs.Journals.{own_of}
 use Rattle.orc_shared_words.specs.Views.{absorbing, agent_of}
 use Rattle.orc_shared_words.specs.declared.journal.View.{View}
-use Rattle.orc_shared_words.proofs.Runs.{steps_by-append}
+use Rattle.orc_shared_words.proofs.Runs.{own_of-append}
 use Rattle.orc_table.specs.Calls.{Absorbs, IsLonger, Learns, SameButEvents}
 use Rattle.orc_table.specs.Machine.{State, AllowedFrom, numbers, project, project_from, run, run_from, start}
 use Rattle.orc_table.specs.Rules.{opening_steps, project-append, steps-append}
@@ -21,11 +22,11 @@ use Rattle.orc_table.specs.declared.seed.PlainShape.{PlainShape}
 use Rattle.orc_table.proofs.Walks.{Mid, by, given_more, mid_fresh, mid_of, none_by, others_none}
 
 -- steps of the rest of a list, where the agent's are those of its front
-no_steps : {N : Type 0} (a : ℕ) (xs ys : List (PlainStep N)) → (b : Begins xs ys) → steps_by by a xs ≡ steps_by by a ys → steps_by by a b.0 ≡ []
-no_steps a xs ys b e = append_cancel_left (steps_by by a ys) (steps_by by a b.0) [] (sym (steps_by-append by a ys b.0) ∙ (ap (steps_by by a) (sym b.1) ∙ (e ∙ sym (append-nil (steps_by by a ys)))))
+no_steps : {N : Type 0} (a : ℕ) (xs ys : List (PlainStep N)) → (b : Begins xs ys) → own_of by a xs ≡ own_of by a ys → own_of by a b.0 ≡ []
+no_steps a xs ys b e = append_cancel_left (own_of by a ys) (own_of by a b.0) [] (sym (own_of-append by a ys b.0) ∙ (ap (own_of by a) (sym b.1) ∙ (e ∙ sym (append-nil (own_of by a ys)))))
 
 -- then the agent's events are those of the front
-same_events : {N : Type 0} (k : Bounds) (a : ℕ) (xs ys : List (PlainStep N)) → Begins xs ys → steps_by by a xs ≡ steps_by by a ys → events_by a (project k xs) ≡ events_by a (project k ys)
+same_events : {N : Type 0} (k : Bounds) (a : ℕ) (xs ys : List (PlainStep N)) → Begins xs ys → own_of by a xs ≡ own_of by a ys → events_by a (project k xs) ≡ events_by a (project k ys)
 same_events {N} k a xs ys b e =
     ap (λ z. events_by a (project k z)) b.1
     ∙ (ap (events_by a) (project-append k (start k) ys b.0)
@@ -61,7 +62,7 @@ module _ {D N : Type 0} (d : discipline.Ghosts D N) (q : PlainShape N) where
   journal_of v a fresh h = record { lawful = h.now.lawful; opened = h.now.opened; below = h.now.below; each = h.now.each; kept = h.now.kept }
 
   -- a pass that has seen more, where its agent did nothing in between
-  keeps_more : (v w : View (PlainStep N) (Unit {0})) (a c : ℕ) (fresh fresh2 : Option ℕ) → Keeps q holds may v a fresh → c ≡ a → fresh2 ≡ fresh → w.agent ≡ v.agent → Begins w.seen v.seen → steps_by by a w.seen ≡ steps_by by a v.seen → Journal w.seen → Keeps q holds may w c fresh2
+  keeps_more : (v w : View (PlainStep N) (Unit {0})) (a c : ℕ) (fresh fresh2 : Option ℕ) → Keeps q holds may v a fresh → c ≡ a → fresh2 ≡ fresh → w.agent ≡ v.agent → Begins w.seen v.seen → own_of by a w.seen ≡ own_of by a v.seen → Journal w.seen → Keeps q holds may w c fresh2
   keeps_more v w a c fresh fresh2 h e f same b steps j =
       let m : Mid k may v.seen b.0 a = mid_of d k v.seen b.0 a h.began (no_steps a w.seen v.seen b steps) (subst (AllowedFrom k) b.1 j.lawful) (subst (λ z. AllAllowed may [] (project k z)) b.1 j.each) in
       let state : run_from k (run k v.seen) b.0 ≡ run k w.seen = sym (ap (run k) b.1 ∙ m.state) in

@@ -17,7 +17,7 @@ use Rattle.orc_heap.specs.declared.events.Place.{Place}
 use Rattle.orc_heap.proofs.Runs.{lawful-right, run_heap-snoc}
 use Rattle.orc_heap.proofs.Stays.{allowed-left, allowed-right}
 use Rattle.orc_shared_words.specs.Lists.{Among, Begins}
-use Rattle.orc_shared_words.specs.Runs.{steps_by}
+use Rattle.orc_history.specs.Journals.{own_of}
 use Rattle.orc_shared_words.specs.Steps.{Extends, LaterJournal}
 use Rattle.orc_shared_words.specs.declared.journal.View.{View}
 use Rattle.orc_shared_words.proofs.Events.{AllBy, NoneBy}
@@ -73,10 +73,10 @@ module _ {N : Type 0} where
 
 module _ {N : Type 0} (k : Bounds) where
   -- steps of others have events of others
-  pub others_none : (a : ℕ) (x : State) (ss : List (PlainStep N)) → steps_by by a ss ≡ [] → NoneBy a (project_from k x ss)
+  pub others_none : (a : ℕ) (x : State) (ss : List (PlainStep N)) → own_of by a ss ≡ [] → NoneBy a (project_from k x ss)
   others_none a x [] e = tt
   others_none a x (s ∷ ss) e = dite (ℕ_discrete s.agent a)
-      (λ own. absurd (cons_nil s (steps_by by a ss) (sym (by_own by a s ss own) ∙ e)))
+      (λ own. absurd (cons_nil s (own_of by a ss) (sym (by_own by a s ss own) ∙ e)))
       (λ ne. none_join a (events_at k x s) (project_from k (next k x s) ss) (not_of a s.agent (events_at k x s) ne (signed x s.agent s.op (finds k x s.op) s.note)) (others_none a (next k x s) ss (sym (by_other by a s ss ne) ∙ e)))
 
   -- the given rows grow
@@ -121,7 +121,7 @@ module _ {D N : Type 0} (d : discipline.Ghosts D N) (k : Bounds) where
   allowed_front [] ys h = tt
   allowed_front (x ∷ xs) ys h = (h.0, allowed_front xs ys h.1)
 
-  pub mid_of : (seen between : List (PlainStep N)) (a : ℕ) → holds [] → steps_by by a between ≡ [] → AllowedFrom k (seen ++ between) → AllAllowed may [] (project k (seen ++ between)) → Mid k may seen between a
+  pub mid_of : (seen between : List (PlainStep N)) (a : ℕ) → holds [] → own_of by a between ≡ [] → AllowedFrom k (seen ++ between) → AllAllowed may [] (project k (seen ++ between)) → Mid k may seen between a
   mid_of seen between a began none can each =
       let events : project k (seen ++ between) ≡ project k seen ++ project_from k (run k seen) between = project-append k (start k) seen between in
       let state : run k (seen ++ between) ≡ run_from k (run k seen) between = steps-append k (start k) seen between in
@@ -161,7 +161,7 @@ pub record Walk {N : Type 0} (k : Bounds) (may : List (Event N) → Event N → 
   pub allowed : AllAllowed may (project k v.seen ++ project_from k (run k v.seen) between) (events_of (run_from k (run k v.seen) between) a op (finds k (run_from k (run k v.seen) between) op) said)
   pub longer : u.seen ≡ (v.seen ++ between) ++ step_of a op said ∷ []
   pub also : u.also ≡ v.also
-  pub retired : (b : ℕ) → Among b v.also → steps_by by b between ≡ []
+  pub retired : (b : ℕ) → Among b v.also → own_of by b between ≡ []
 
 module _ {D N : Type 0} (d : discipline.Ghosts D N) (q : PlainShape N) where
   abbrev kk : Bounds
@@ -173,7 +173,7 @@ module _ {D N : Type 0} (d : discipline.Ghosts D N) (q : PlainShape N) where
       may2 : List (Event N) → Event N → Type 0
       may2 = d.may (numbers kk)
 
-      made : (b : ℕ) → steps_by by b x.between ≡ [] → n ≡ answer op x.found → w.seen ≡ (v.seen ++ x.between) ++ step_of b op said ∷ [] → LaterJournal plain_rules q (d.holds (numbers kk)) (d.may (numbers kk)) w.seen w b
+      made : (b : ℕ) → own_of by b x.between ≡ [] → n ≡ answer op x.found → w.seen ≡ (v.seen ++ x.between) ++ step_of b op said ∷ [] → LaterJournal plain_rules q (d.holds (numbers kk)) (d.may (numbers kk)) w.seen w b
           → x.found ≡ finds kk (run kk (v.seen ++ x.between)) op → Walk kk (d.may (numbers kk)) v w b op said n
       made b none answers seen now read =
           let k : Bounds = kk in

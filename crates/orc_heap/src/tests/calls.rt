@@ -9,7 +9,9 @@ ghost use Rattle.orc_heap.specs.Allowed.{AllAllowed, AllowedLater, Later, MovesL
 ghost use Rattle.orc_heap.specs.Moves.{IsLinkedPlace, from_own, gives_in, moves_in, moves_place};
 ghost use Rattle.orc_heap.specs.Slots.{Hold, Holds, IsFree, SlotNode, Slots, id_in};
 ghost use Rattle.orc_heap.specs.Seats.{IsIdle, Seat, target_in};
-ghost use Rattle.orc_heap.specs.Parts.{IsAlone, IsBelow, InPart, Only, Puts, part_begin, part_of, steps_by};
+ghost use Rattle.orc_heap.specs.Parts.{IsBelow, Only, Puts};
+ghost use Rattle.orc_history.specs.Journals.{own_of};
+ghost use Rattle.orc_history.specs.Parts.{InPart, IsAlone, part_begin, part_of};
 ghost use Rattle.orc_heap.specs.Calls.{IsLonger, IsWorn, Releases, RefusesAim, links_made, unless_node};
 
 use crate::{Act, Place};
@@ -39,7 +41,7 @@ fn parts_of_calls()
     ensures alone { IsAlone (λ (s : ℕ). s) 1 (2 ∷ []) (2 ∷ 2 ∷ 1 ∷ 1 ∷ []) }
     ensures no_step { part_begin (λ (s : ℕ). s) 1 (1 ∷ []) (1 ∷ 2 ∷ 2 ∷ []) ≡ 3 }
     ensures between { InPart (λ (s : ℕ). s) 1 (2 ∷ []) (2 ∷ 2 ∷ 1 ∷ 1 ∷ []) (λ from to. (from ≡ 2) × (to ≡ 4)) }
-    ensures steps { steps_by (λ (s : ℕ). s) 1 (2 ∷ 1 ∷ 2 ∷ 1 ∷ []) ≡ 1 ∷ 1 ∷ [] }
+    ensures steps { own_of (λ (s : ℕ). s) 1 (2 ∷ 1 ∷ 2 ∷ 1 ∷ []) ≡ 1 ∷ 1 ∷ [] }
 {}
 
 /// A pass holds node 5, in row 3, in slot 2.

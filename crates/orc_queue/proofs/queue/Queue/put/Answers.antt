@@ -1,7 +1,7 @@
 -- What the call did, and the settling after it.
 use Rattle.std.proofs.Common.{length, subst, sym, ℕ}
 use Rattle.orc_heap.proofs.Steps.{alone_later}
-use Rattle.orc_heap.specs.Parts.{IsAlone}
+use Rattle.orc_history.specs.Parts.{IsAlone}
 use Rattle.orc_queue.proofs.Answering.{put_settled}
 use Rattle.orc_queue.proofs.Causes.{any_gives, put_again, put_any, put_err, put_no_turns, put_ok, put_positions, put_some_turn, within_stays}
 use Rattle.orc_queue.proofs.Joins.{goes_on}

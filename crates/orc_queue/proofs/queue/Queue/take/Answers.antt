@@ -1,7 +1,7 @@
 -- What the call did, and the settling after it.
 use Rattle.std.proofs.Common.{arith, subst, sym, ℕ}
 use Rattle.orc_heap.proofs.Steps.{alone_later}
-use Rattle.orc_heap.specs.Parts.{IsAlone}
+use Rattle.orc_history.specs.Parts.{IsAlone}
 use Rattle.orc_queue.proofs.Answering.{take_settled}
 use Rattle.orc_queue.proofs.Causes.{any_gives, take_again, take_any, take_err, take_no_turns, take_ok}
 use Rattle.orc_queue.proofs.Joins.{goes_on}
