@@ -39,7 +39,7 @@ look_finds n s t place to own found rest all l none p =
 -- a look at the stack finds its node twice alike
 pub not_moved : (n : HeapNumbers) (s t : Seat ℕ) (place : Place) (slot to : ℕ) → AllAllowed (OwnRootsMay n) [] t.seen → LeadsTo n s place to → Looks place slot s Moved t → ⊥
 not_moved n s t place slot to all l r =
-    let (one, two, other, slots, puts) = r.tells in
+    let (one, two, other, slots, puts, first) = r.tells in
     let first = look_finds n s t place to [] one _ all l refl puts in
     let second = look_finds n s t place to (event_of s (Look place one) None ∷ []) two [] all l refl puts in
     other (first ∙ sym second)

@@ -1,5 +1,5 @@
 -- How many rows were given.
-use Rattle.std.proofs.Common.{◌≡◌, ◌≢◌, ℕ, zero, suc, ◌+◌, ◌-◌, ◌<◌, ◌≤◌, ◌%◌, ◌==◌, List, [], ◌∷◌, length, length-append, false, Option, Some, None, slice_get, refl, sym, ap, ◌∙◌, subst, arith, eq-eqb, ne_eqb}
+use Rattle.std.proofs.Common.{◌≡◌, ◌≢◌, ℕ, zero, suc, ◌+◌, ◌-◌, ◌<◌, ◌≤◌, ◌%◌, ◌==◌, List, [], ◌∷◌, ◌++◌, length, length-append, false, Option, Some, None, slice_get, refl, sym, ap, ◌∙◌, subst, arith, eq-eqb, ne_eqb}
 use Rattle.std.proofs.Math.Decide.{dec_lt}
 use Rattle.std.proofs.Math.Nat.{add-mod_right, mod-eq_of_lt}
 use Rattle.std.proofs.Math.Seq.{take-length}
@@ -7,6 +7,7 @@ use Rattle.std.specs.Prelude.{if◌then◌else◌, slice_index}
 use mathlib.Core.Logic.{dite}
 use native.Mathlib.Decide.{ℕ_discrete}
 use Rattle.orc_heap.proofs.Changes.{length-change}
+use Rattle.orc_heap.proofs.Runs.{run_from-append}
 use Rattle.orc_heap.specs.Acts.{as_linked, as_named, change_target, heap_after, set_link, with_link, with_value}
 use Rattle.orc_heap.specs.Heap.{Heap, HeapNumbers, Node, change, new_heap, new_node}
 use Rattle.orc_heap.specs.Journals.{run_from, run_heap}
@@ -188,6 +189,10 @@ nodes_from h (e ∷ es) = let r = nodes_from (heap_after e.agent e.act h) es in 
 -- as many nodes as Gives
 pub nodes_given : {N : Type 0} (n : HeapNumbers) (es : List (Event N)) → length (run_heap n es).nodes ≡ gives_in es
 nodes_given n es = let e = nodes_from (new_heap n) es in omega (arith, e)
+
+-- no node is lost as events are added
+pub nodes_stay : {N : Type 0} (n : HeapNumbers) (es fs : List (Event N)) → length (run_heap n es).nodes ≤ length (run_heap n (es ++ fs)).nodes
+nodes_stay n es fs = rw (run_from-append (new_heap n) es fs) (let e = nodes_from (run_heap n es) fs in omega (arith, e))
 
 pub lacks_all : {N : Type 0} (rows : ℕ) (j : List (Event N)) → gives_in j ≡ rows → IsLacking rows j (length j)
 lacks_all rows j e = record { within = omega arith; given = ap gives_in (take-length j) ∙ e }

@@ -1,5 +1,5 @@
 -- A search through all rows for one to give.
-use Rattle.std.proofs.Common.{◌≡◌, ℕ, ◌+◌, ◌<◌, ◌%◌, List, [], ◌∷◌, ◌++◌, length, Option, Some, None, slice_get, slice_set, refl, sym, ap, ◌∙◌, subst, arith, append-nil}
+use Rattle.std.proofs.Common.{◌≡◌, ℕ, ◌+◌, ◌<◌, ◌≤◌, ◌%◌, List, [], ◌∷◌, ◌++◌, length, Option, Some, None, slice_get, slice_set, refl, sym, ap, ◌∙◌, subst, arith, append-nil}
 use Rattle.std.proofs.Math.Decide.{dec_lt}
 use mathlib.Core.List.{IsPrefix}
 use mathlib.Core.Logic.{dite}
@@ -30,7 +30,7 @@ use Rattle.orc_domain.specs.Given.{IsLacking}
 use Rattle.orc_domain.specs.Laws.{seen_by}
 use Rattle.orc_domain.specs.Passes.{journal_of}
 use Rattle.orc_domain.specs.Rows.{slots_by}
-use Rattle.orc_domain.proofs.Counting.{lacks_all, nodes_given, once_round, rows_all}
+use Rattle.orc_domain.proofs.Counting.{lacks_all, nodes_given, nodes_stay, once_round, rows_all}
 use Rattle.orc_domain.proofs.Growing.{held_given, tie}
 use Rattle.orc_domain.proofs.Rows.{slots_grow}
 
@@ -101,12 +101,21 @@ module _ {D N : Type 0} {d : discipline.Ghosts D N} {m : machine.Ghosts Plain N 
           agent_is : (seat_of domain r).agent ≡ (seat_of domain p).agent
           agent_is = k.puts.agent ∙ t.only.puts.agent
 
+          new_id : length (run_heap (domain_numbers domain) (seat_of domain p).seen).nodes ≤ index_of row (shows domain.board r.pass).rows
+          new_id =
+              let n = domain_numbers domain in
+              let more = nodes_stay n (seat_of domain p).seen t.only.puts.part in
+              let same : length (run_heap n (seat_of domain q).seen).nodes ≡ length (run_heap n ((seat_of domain p).seen ++ t.only.puts.part)).nodes = ap (λ (es : List (Event N)). length (run_heap n es).nodes) t.only.puts.is in
+              let new = k.new in
+              omega (arith, more, same, new)
+
           pub gives : (hold : Hold) → hold ≡ record { row = row; slot = slot } → Gives (domain_numbers domain) slot first second (seat_of domain p) hold (seat_of domain w)
           gives hold e = subst (λ (z : Hold). Gives (domain_numbers domain) slot first second (seat_of domain p) z (seat_of domain w)) (sym e)
               (let id : ℕ = index_of row (shows domain.board r.pass).rows in
               let took : Puts (seat_of domain q) (event (seat_of domain q).agent Give None ∷ []) (seat_of domain r) = record { part = k.puts.part; is = k.puts.is; agent = k.puts.agent; own_is = k.puts.own_is } in
               record {
                 id = id;
+                new = new_id;
                 slot_is = refl;
                 slots = f.slots ∙ ap (λ (z : Slots). slice_set z slot (Some (record { row = row; id = id }))) (slots_kept q r t.pass same k.rows ∙ t.only.slots);
                 fresh = f.fresh ∙ ap (id_by (shows domain.board r.pass).rows) k.fresh;

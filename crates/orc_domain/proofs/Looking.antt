@@ -126,8 +126,8 @@ module _ {D N : Type 0} {d : discipline.Ghosts D N} {m : machine.Ghosts Plain N 
             (subst (λ (z : Place × ℕ). Puts (seat_of domain p1) (event z.1 (Look z.0 (link_by u.rows two)) None ∷ []) (seat_by u slots)) (λ i. (place_again i, grows.agent i))
             (adds_put may (event t.agent (Look (place_by t.rows word) (link_by u.rows two)) None ∷ []) t u p1.slots slots k.adds (mine t.agent (Look (place_by t.rows word) (link_by u.rows two)) None)))
 
-        pub looks_moved : (slot : ℕ) → two ≢ one → Looks (place_in (seat_of domain p).slots at) slot (seat_of domain p) Moved (seat_of domain p2)
-        looks_moved slot other = record {
+        pub looks_moved : (slot row : ℕ) → one.to ≡ Some row → two ≢ one → Looks (place_in (seat_of domain p).slots at) slot (seat_of domain p) Moved (seat_of domain p2)
+        looks_moved slot row is other = record {
           fresh = fresh_last;
           tells = (
             link_by t.rows one,
@@ -135,6 +135,7 @@ module _ {D N : Type 0} {d : discipline.Ghosts D N} {m : machine.Ghosts Plain N 
             (λ e. other (sym (link_one u.rows one two (subst (λ z. Given z one.to) (sym grows2.rows.1) (given_grows t.rows grows2.rows.0 one.to one_given)) two_given (link_still ∙ e)))),
             slots_last,
             put_both p2.slots,
+            (λ none. let e : Some (index_of row t.rows) ≡ None = sym (ap (id_by t.rows) is) ∙ none in cc),
           );
         }
 

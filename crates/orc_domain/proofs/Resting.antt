@@ -54,7 +54,7 @@ module _ {N : Type 0} {W : Type 0} (view : W → PlainView N) where
         more = begins_trans s.events t.events u.events (first_more s (view w) t a.longer) r.more;
         own = subst (λ z. events_by z u.events ≡ events_by z t.events) a.agent r.own ∙ a.own;
         before = λ b h. let k = r.before b (kept b h) in (k.0, k.1 ∙ a.retired b h);
-        taken = ((last.0, last.1 ∙ a.taken), r.taken);
+        taken = ((last.0, last.1 ∙ a.taken (view w).agent (inl refl)), r.taken);
       }
 
 module _ {D N : Type 0} {d : discipline.Ghosts D N} {m : machine.Ghosts Plain N (PlainShape N) PlainOp (PlainStep N) (Unit {0}) (Unit {0})}

@@ -29,6 +29,7 @@ use Rattle.orc_domain.specs.declared.domain.PlainDomain.{PlainDomain}
 use Rattle.orc_domain.specs.declared.domain.PlainPass.{PlainPass}
 use Rattle.orc_domain.specs.Calls.{Loses, Takes}
 use Rattle.orc_domain.specs.Rows.{seat_by}
+use Rattle.orc_domain.proofs.Counting.{nodes_stay}
 use Rattle.orc_domain.proofs.Growing.{Grows, adds_grow, adds_put, grow_trans, mine, still_of, tie}
 
 module _ {D N : Type 0} {d : discipline.Ghosts D N} {m : machine.Ghosts Plain N (PlainShape N) PlainOp (PlainStep N) (Unit {0}) (Unit {0})}
@@ -92,10 +93,19 @@ module _ {D N : Type 0} {d : discipline.Ghosts D N} {m : machine.Ghosts Plain N 
           let long_nodes = length-append (run_heap (numbers b) past).nodes (new_node t.agent ∷ []) in
           omega (arith, even, rows, long_rows, long_nodes)
 
+      new_node_id : length (heap_of b s).nodes ≤ index_of row u.rows
+      new_node_id =
+          let seen : t.events ≡ s.events ++ met.events.0 = met.events.1 in
+          let one = nodes_stay (numbers b) s.events met.events.0 in
+          let two = nodes_stay (numbers b) t.events g.adds.met in
+          let same : length (run_heap (numbers b) t.events).nodes ≡ length (run_heap (numbers b) (s.events ++ met.events.0)).nodes = ap (λ (es : List (Event N)). length (run_heap (numbers b) es).nodes) seen in
+          omega (arith, one, two, same, past_long, index_last)
+
       takes : Takes b row p.slots s u
       takes = record {
         fresh = g.fresh;
         rows = (both give g.adds).rows;
+        new = new_node_id;
         puts = subst (λ (a : ℕ). Puts (seat_by s p.slots) (event a Give None ∷ []) (seat_by u p.slots)) first.agent (put_both give g.adds (mine t.agent Give None));
         node = subst (λ (z : Heap × ℕ × ℕ). slice_get z.0.nodes z.1 ≡ Some (new_node z.2)) (λ i. (sym heap_is i, (past_long ∙ sym index_last) i, first.agent i)) (get-added (run_heap (numbers b) past).nodes (new_node t.agent));
       }

@@ -1,5 +1,5 @@
 -- What the parts of calls do to what a pass shows.
-use Rattle.std.specs.Prelude.{◌≡◌, ℕ, List, [], ◌∷◌, Option, Some, None, slice_get, slice_set}
+use Rattle.std.specs.Prelude.{◌≡◌, ℕ, ◌≤◌, List, [], ◌∷◌, Option, Some, None, length, slice_get, slice_set}
 use Rattle.orc_words.specs.Bounds.{Bounds}
 use Rattle.orc_words.specs.declared.packed.RowLink.{RowLink}
 use Rattle.orc_heap.specs.Acts.{IsTarget}
@@ -37,6 +37,7 @@ module _ {N : Type 0} where
   pub record Takes (b : Bounds) (row : ℕ) (slots : List (Option ℕ)) (s t : PlainView N) : Type 0 where
     pub fresh : t.fresh ≡ Some row
     pub rows : Begins t.rows s.rows
+    pub new : length (heap_of b s).nodes ≤ index_of row t.rows
     pub puts : Puts (seat_by s slots) (event s.agent Give None ∷ []) (seat_by t slots)
     pub node : slice_get (heap_of b t).nodes (index_of row t.rows) ≡ Some (new_node s.agent)
 

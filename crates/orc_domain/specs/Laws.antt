@@ -43,6 +43,9 @@ lacking_later rows j more first l =
     let within = l.within in
     record { within = omega (arith, long, within); given = ap gives_in (take_first first j more within) ∙ l.given }
 
+pub all_given : {N : Type 0} (rows : ℕ) (j : List (Event N)) (first : ℕ) → IsLacking rows j first → rows ≤ gives_in (take first j)
+all_given rows j first l = let given = l.given in omega (arith, given)
+
 -- the row in a slot, and its node
 pub row_in : (rows : List ℕ) (slots : List (Option ℕ)) (i : ℕ) (x : SlotNode) → slice_get (slots_by rows slots) i ≡ Some (Some x)
     → (slice_get slots i ≡ Some (Some x.row)) × (x.id ≡ index_of x.row rows)

@@ -18,7 +18,7 @@ use orc_words::pack_link;
 
 impl<D: Discipline> Links for PlainDomain<D> {
     ghost use Rattle.orc_domain.specs.Given.{IsLacking};
-    ghost use Rattle.orc_domain.specs.Laws.{all_allowed, all_below, all_obey, begins_so, begun, fresh_untouched, held_known, lacking_later, one_more, seen_by};
+    ghost use Rattle.orc_domain.specs.Laws.{all_allowed, all_below, all_obey, begins_so, begun, all_given, fresh_untouched, held_known, lacking_later, one_more, seen_by};
     ghost use Rattle.orc_domain.specs.Passes.{domain_bounds, domain_opening};
 
     type Rule = D;
@@ -202,6 +202,8 @@ impl<D: Discipline> Links for PlainDomain<D> {
     ghost held_is = { λ d p hold h e. held_known d p h hold e };
 
     ghost lacking_stays = { λ d agent j more from to l. lacking_later (domain_bounds d).rows j more to l };
+
+    ghost lacking_gave = { λ d agent j from to l. all_given (domain_bounds d).rows j to l };
 
     ghost worn_stays = { λ d agent why j more from to l. l };
 }

@@ -37,9 +37,11 @@ look_of s at wanted noted = event_of s (Look (place_in s.slots at) (link_in s.sl
 abbrev pub given_node : ℕ → ℕ → ℕ → Node
 given_node agent first second = record { giver = agent; first = Some first; second = Some second; link = null; named = false; linked = false }
 
--- a new node was given: the pass holds it in this slot, it is its fresh node, and it has these values
+-- a new node was given, after all that the pass had seen: the pass holds it in this slot, it is its fresh node, and it has these
+-- values
 pub record Gives {N : Type 0} (n : HeapNumbers) (slot first second : ℕ) (s : Seat N) (h : Hold) (t : Seat N) : Type 0 where
   pub id : ℕ
+  pub new : length (run_heap n s.seen).nodes ≤ id
   pub slot_is : h.slot ≡ slot
   pub slots : t.slots ≡ slice_set s.slots slot (Some (record { row = h.row; id = id }))
   pub fresh : t.fresh ≡ Some id
@@ -47,7 +49,7 @@ pub record Gives {N : Type 0} (n : HeapNumbers) (slot first second : ℕ) (s : S
   pub node : slice_get (run_heap n t.seen).nodes id ≡ Some (given_node s.agent first second)
 
 -- what a look of the place tells, puts and holds, by its answer. A null link is read once. A link that was read twice alike is
--- the one that the last Look shows, and its target is held. Else the two Looks differ.
+-- the one that the last Look shows, and its target is held. Else the two Looks differ, and the first link wasn't null.
 abbrev pub Tells : {N : Type 0} → Place → ℕ → Seat N → Looked → Seat N → Type 0
 Tells place slot s (Stable seen None) t =
     (seen.null ≡ true) × (t.slots ≡ s.slots) × Puts s (event_of s (Look place (record { to = None; mark = seen.mark })) None ∷ []) t
@@ -56,8 +58,9 @@ Tells place slot s (Stable seen (Some h)) t =
     × Puts s (event_of s (Look place (record { to = Some id; mark = seen.mark })) None ∷ event_of s (Look place (record { to = Some id; mark = seen.mark })) None ∷ []) t
 Tells place slot s Moved t =
     (one : Link) × (two : Link) × (one ≢ two) × (t.slots ≡ s.slots)
-    × Puts s (event_of s (Look place one) None ∷ event_of s (Look place two) None ∷ []) t
+    × Puts s (event_of s (Look place one) None ∷ event_of s (Look place two) None ∷ []) t × (one.to ≢ None)
 
+-- what a look tells, by its answer; what was fresh stays so
 pub record Looks {N : Type 0} (place : Place) (slot : ℕ) (s : Seat N) (looked : Looked) (t : Seat N) : Type 0 where
   pub fresh : t.fresh ≡ s.fresh
   pub tells : Tells place slot s looked t
@@ -112,7 +115,7 @@ pub record IsWorn {N : Type 0} (slots : Slots) (h : Hold) (why : Spent) (seen : 
   pub row : why.row ≡ h.row
   pub links : 32 ≤ links_made seen (id_in slots h)
 
--- the link that was to be made has another target than the present one, and its row is worn
+-- the link that was to be made has another target than the wanted one, and its row is worn
 abbrev pub RefusesSwing : {N : Type 0} → Slots → Want → Want → Spent → List (Event N) → Type 0
 RefusesSwing slots from (WantNull mark) why seen = ⊥
 RefusesSwing slots from (WantNode h mark) why seen = ((link_in slots from).to ≢ Some (id_in slots h.now)) × IsWorn slots h.now why seen

@@ -21,6 +21,7 @@ abbrev pub IsLawfulFrom : {N : Type 0} → Heap → List (Event N) → Type 0
 IsLawfulFrom h [] = Unit {0}
 IsLawfulFrom h (e ∷ es) = Fits e.agent e.act h × IsLawfulFrom (heap_after e.agent e.act h) es
 
+-- the same, from a new heap on
 abbrev pub IsLawful : {N : Type 0} → HeapNumbers → List (Event N) → Type 0
 IsLawful n es = IsLawfulFrom (new_heap n) es
 
@@ -28,6 +29,7 @@ IsLawful n es = IsLawfulFrom (new_heap n) es
 abbrev pub FitsAfter : {N : Type 0} → HeapNumbers → List (Event N) → Event N → Type 0
 FitsAfter n es e = Fits e.agent e.act (run_heap n es)
 
+-- the target is this node
 abbrev pub names_node : Option ℕ → ℕ → Bool
 names_node None id = false
 names_node (Some i) id = i == id

@@ -43,6 +43,7 @@ abbrev pub IsLinkedPlace : Place → Heap → Type 0
 IsLinkedPlace (Root r) h = Unit {0}
 IsLinkedPlace (Next id) h = IsLinkedNode h id
 
+-- the two places are the same
 abbrev pub is_at : Place → Place → Bool
 is_at (Root r) (Root q) = r == q
 is_at (Next i) (Next j) = i == j

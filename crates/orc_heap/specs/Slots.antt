@@ -15,6 +15,7 @@ pub record SlotNode : Type 0 where
 abbrev pub Slots : Type 0
 Slots = List (Option SlotNode)
 
+-- the node in a slot, or 0 where there is none
 abbrev pub id_of : Option (Option SlotNode) → ℕ
 id_of (Some (Some x)) = x.id
 id_of x = 0

@@ -19,13 +19,13 @@ pub enum Place {
 pub enum Act {
     /// A new node with no values and a null link is given to the agent.
     Give,
-    /// Sets the first (0) or second (1) value of a node to which no Move made a link.
+    /// Sets the first (0) or second (1) value of a node that was given to the agent and to which no Move made a link.
     Fill {
         id: u64,
         which: u32,
         value: u64,
     },
-    /// Sets the link of a node to which no Move made a link.
+    /// Sets the link of a node that was given to the agent and to which no Move made a link.
     Aim {
         id: u64,
         to: Option<u64>,

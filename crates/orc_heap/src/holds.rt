@@ -27,12 +27,14 @@ impl Held {
         Held { row, slot }
     }
 
+    /// The row that the node lies in.
     pub fn row(&self) -> u32
         ensures { result ≡ self.now.row }
     {
         self.row
     }
 
+    /// The slot that protects the row, 1 to 7.
     pub fn slot(&self) -> u32
         ensures { result ≡ self.now.slot }
     {

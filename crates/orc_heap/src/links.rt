@@ -1,12 +1,13 @@
 //! What a domain of links promises the containers that it serves.
 
-ghost use Rattle.std.specs.Prelude.{◌≡◌, ◌≢◌, ℕ, ◌+◌, ◌<◌, List, [], ◌∷◌, ◌++◌, None, Some, true, ◌==◌, IfOk, IfErr};
+ghost use Rattle.std.specs.Prelude.{◌≡◌, ◌≢◌, ℕ, ◌+◌, ◌<◌, ◌≤◌, List, [], ◌∷◌, ◌++◌, take, None, Some, true, ◌==◌, IfOk, IfErr};
 ghost use Rattle.std.specs.List.{list_all};
 ghost use mathlib.Core.List.{IsPrefix};
 ghost use Rattle.orc_fault.specs.declared.Spent.{Spent};
 ghost use Rattle.orc_heap.specs.Heap.{HeapNumbers};
 ghost use Rattle.orc_heap.specs.Acts.{IsKnown};
 ghost use Rattle.orc_heap.specs.Journals.{run_heap};
+ghost use Rattle.orc_heap.specs.Moves.{gives_in};
 ghost use Rattle.orc_heap.specs.Allowed.{AllAllowed, AllowedLater, AllowedWhereFits};
 ghost use Rattle.orc_heap.specs.Slots.{Hold, Holds, IsFree, id_in};
 ghost use Rattle.orc_heap.specs.Seats.{HoldsFresh, HoldsPlace, HoldsTarget, HoldsWant, IsIdle, IsNotFresh, IsUntouched, Seat, link_in, place_in, target_in};
@@ -179,7 +180,7 @@ pub trait Links {
         ensures worn { IfErr result (λ e. InPart agent_of (seat self.now p.old).agent (journal p.old) (journal p.new)
             (worn self.now (seat self.now p.old).agent e (journal p.new))) };
 
-    /// Frees the slot. A fresh node that was never linked is retired.
+    /// Frees the slot. If it held the fresh node, which was never linked, the pass has no fresh node any more.
     fn release(&self, p: &mut Self::Pass, h: Held)
         requires pass { belongs self.now p.old }
         requires held { Holds (seat self.now p.old).slots h }
@@ -240,4 +241,8 @@ pub trait Links {
 
     ghost worn_stays: { (d : Self) (agent : ℕ) (why : Spent) (j more : List Self.Step) (from to : ℕ)
         → worn d agent why j from to → worn d agent why (j ++ more) from to };
+
+    // where no row could be given, as many nodes as there are rows had been given
+    ghost lacking_gave: { (d : Self) (agent : ℕ) (j : List Self.Step) (from to : ℕ)
+        → lacking d agent j from to → rows d ≤ gives_in (events d (take to j)) };
 }

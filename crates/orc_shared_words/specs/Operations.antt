@@ -4,6 +4,7 @@ use prog.Atomic.{either}
 use Rattle.orc_shared_words.specs.declared.operation.Operation.{Operation}
 use Rattle.orc_shared_words.specs.declared.operation.Operation.TheVariants.{Load, Store, Swap, Add, Sub, Exchange}
 
+-- the place of the word that the operation works on
 abbrev pub place_of : Operation → ℕ
 place_of (Load p) = p
 place_of (Store p x) = p
@@ -12,6 +13,7 @@ place_of (Add p x) = p
 place_of (Sub p x) = p
 place_of (Exchange p x y) = p
 
+-- what it writes there, where it finds n
 abbrev pub written_by : Operation → ℕ → ℕ
 written_by (Load p) n = n
 written_by (Store p x) n = x

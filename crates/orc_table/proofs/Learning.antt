@@ -143,5 +143,5 @@ module _ {D N : Type 0} (d : discipline.Ghosts D N) (q : PlainShape N) where
           rows = begins_rows k y.seen v.seen (subst (λ z. Begins z v.seen) (sym seen) into_more);
           own = ap (λ z. events_by a (project k z)) seen ∙ same_events k a w.seen v.seen into_more (l.into.steps a (inl h.is));
           retired = λ o there. ap (λ z. events_by o (project k z)) seen ∙ same_events k o w.seen v.seen into_more (l.into.steps o (inr there));
-          taken = ap (λ z. events_by b (project k z)) (seen ∙ sym l.both) ∙ same_events k b x.seen u.seen from_more (l.from.steps b (inl i.is));
+          taken = λ o who. ap (λ z. events_by o (project k z)) (seen ∙ sym l.both) ∙ same_events k o x.seen u.seen from_more (l.from.steps o (⊎_elim (λ e. inl (i.is ∙ ap (λ (z : ℕ). Some z) (sym e))) (λ there. inr there) who));
         }

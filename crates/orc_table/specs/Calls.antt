@@ -142,7 +142,8 @@ module _ {N : Type 0} where
     pub into : SameButEvents s t
     pub from : SameButEvents u w
 
-  -- a pass, which was s and is t, has taken in the pass u for good, and has seen the longer one of their two lists
+  -- a pass, which was s and is t, has taken in the pass u for good, and has seen the longer one of their two lists; no event of its
+  -- agent, of u's, or of one that either had taken in, is new
   pub record Absorbs (s u t : PlainView N) : Type 0 where
     pub longer : IsLonger s u t
     pub agent : t.agent ≡ s.agent
@@ -152,4 +153,4 @@ module _ {N : Type 0} where
     pub rows : Begins t.rows s.rows
     pub own : events_by s.agent t.events ≡ events_by s.agent s.events
     pub retired : (b : ℕ) → Among b s.absorbed → events_by b t.events ≡ events_by b s.events
-    pub taken : events_by u.agent t.events ≡ events_by u.agent u.events
+    pub taken : (b : ℕ) → (b ≡ u.agent) ⊎ Among b u.absorbed → events_by b t.events ≡ events_by b u.events

@@ -98,6 +98,7 @@ abbrev pub index_of : ℕ → List ℕ → ℕ
 index_of row [] = 0
 index_of row (x ∷ xs) = if x == row then 0 else suc (index_of row xs)
 
+-- the id of a row's node, if there is a row
 abbrev pub id_by : List ℕ → Option ℕ → Option ℕ
 id_by g None = None
 id_by g (Some row) = Some (index_of row g)
@@ -140,10 +141,12 @@ module _ {N : Type 0} where
   tested x a at want done true = done
   tested x a at want done false = event a (act.Miss at want (link_at (shown x.heap at))) None
 
+  -- a load of the place, which finds the word n, as an event: with a wanted link a test of it
   abbrev pub load_event : State → ℕ → Place → Option RowLink → ℕ → Option N → Event N
   load_event x a at None n said = event a (act.Look at (link_at (shown x.heap at))) None
   load_event x a at (Some want) n said = tested x a at (link_by x.given want) (event a (act.Look at (link_by x.given want)) said) (n == link_word want)
 
+  -- a compare-and-swap of the place, which finds the word n, as an event
   abbrev pub cas_event : State → ℕ → Place → RowLink → RowLink → ℕ → Option N → Event N
   cas_event x a at from to n said = tested x a at (link_by x.given from) (event a (act.Move at (link_by x.given from) (link_by x.given to)) said) (n == link_word from)
 
@@ -184,6 +187,7 @@ module _ {N : Type 0} where
   abbrev pub project : Bounds → List (PlainStep N) → List (Event N)
   project b j = project_from b (start b) j
 
+  -- each step's operation is within the table
   abbrev pub AllowedFrom : Bounds → List (PlainStep N) → Type 0
   AllowedFrom b [] = Unit {0}
   AllowedFrom b (s ∷ ss) = Allowed b s.op × AllowedFrom b ss

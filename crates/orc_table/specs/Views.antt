@@ -29,6 +29,7 @@ pub record PlainView (N : Type 0) : Type 0 where
   pub looked : Option ℕ
   pub absorbed : List ℕ
 
+-- the same, of a pass that has these steps behind it
 abbrev pub view_of : {N : Type 0} → Bounds → ℕ → View (PlainStep N) (Unit {0}) → Option ℕ → Option ℕ → PlainView N
 view_of b agent v fresh looked = record {
   agent = agent;

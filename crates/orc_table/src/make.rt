@@ -19,6 +19,10 @@ use std::alloc::Global;
 
 impl<D: Discipline> PlainBoard<D> {
     /// A board, and one pass an agent, in order. Its journal begins with the seed's events, of agent 0.
+    ///
+    /// # Errors
+    ///
+    /// `NoMemory` where memory is refused.
     pub fn make(
         alloc: Global,
         shape: &Shape,

@@ -24,7 +24,7 @@ pub returns-then-ne-clause-looked : goal.returns-then-ne-clause-looked
 returns-then-ne-clause-looked g c =
     looks_moved c.args.self.now c.args.p.now c.load-one.new.p c.requires.pass c.load-one.ensures.pass c.load-one.ensures.same c.args.place.now c.word_at-word.result c.requires.place c.word_at-word.ensures c.load-one.result c.load-one.ensures.loaded
     c.load-two.new.p c.load-two.ensures.pass c.load-two.ensures.same c.load-two.result c.load-two.ensures.loaded
-    c.args.slot (links_differ c.load-two.result c.load-one.result c.ne.result c.ne.ensures c.if-ne.true)
+    c.args.slot c.in-Some.row c.in-Some.is (links_differ c.load-two.result c.load-one.result c.ne.result c.ne.ensures c.if-ne.true)
 
 pub returns-clause-pass : goal.returns-clause-pass
 returns-clause-pass g c =
