@@ -59,18 +59,21 @@ impl<T: Drop> ReplyList<T> {
         self.spare
     }
 
+    /// How many replies there are.
     pub fn len(&self) -> usize
         ensures { result ≡ length self.now.items }
     {
         self.items.len()
     }
 
+    /// Whether there are none.
     pub fn is_empty(&self) -> bool
         ensures { IsTrue result ↔ (self.now.items ≡ []) }
     {
         self.items.is_empty()
     }
 
+    /// The reply at a place, from 0.
     pub fn get(&self, index: usize) -> &T
         requires { index < length self.now.items }
         ensures { slice_get self.now.items index ≡ Some result.now }
@@ -78,6 +81,7 @@ impl<T: Drop> ReplyList<T> {
         &self.items[index]
     }
 
+    /// The replies in order.
     pub fn items(&self) -> &[T]
         ensures { result.now ≡ self.now.items }
     {

@@ -4,12 +4,19 @@ use crate::{PostList, TakeList};
 /// What came of a line.
 #[derive(Clone, Copy, Debug, PartialEq, Eq, Drop)]
 pub enum PostWord {
+    /// A post: the id was opened, and the record was queued at this position.
     Posted(u64),
+    /// A post: the id was open already.
     Busy,
+    /// A post: a container had no room.
     NoNode,
+    /// A post: no position was left.
     Positions,
+    /// A post: a row could take no further link.
     Spent,
+    /// A drop: the id was open, and is closed.
     Dropped,
+    /// A drop: the id wasn't open.
     Unknown,
 }
 
@@ -17,6 +24,7 @@ pub enum PostWord {
 #[derive(Clone, Copy, Debug, PartialEq, Eq, Drop)]
 pub struct PostReply {
     pub poster: u32,
+    /// The number of the record.
     pub line: u32,
     pub what: PostWord,
 }
@@ -24,7 +32,9 @@ pub struct PostReply {
 /// What came of a job.
 #[derive(Clone, Copy, Debug, PartialEq, Eq, Drop)]
 pub enum TakeWord {
+    /// The claim closed the opening of the id; the value of the line.
     Done(u64),
+    /// The id had been dropped.
     Void,
 }
 
@@ -32,7 +42,9 @@ pub enum TakeWord {
 #[derive(Clone, Copy, Debug, PartialEq, Eq, Drop)]
 pub struct TakeReply {
     pub taker: u32,
+    /// The position that the job was put at.
     pub at: u64,
+    /// The number of its record.
     pub line: u32,
     pub what: TakeWord,
 }

@@ -29,6 +29,7 @@ impl Model for WorkList {
 }
 
 impl WorkList {
+    /// The empty list, with memory for `room` rows.
     pub fn new(alloc: Global, room: u32) -> Result<WorkList, NoMemory>
         ensures { IfOk result (λ list. list ≡ record { items = []; room = room }) }
     {
@@ -36,6 +37,7 @@ impl WorkList {
         Ok(WorkList { rows, room })
     }
 
+    /// How many rows are listed.
     pub fn len(&self) -> usize
         ensures length { result ≡ length self.now.items }
         ensures room { result ≤ self.now.room }

@@ -20,6 +20,8 @@ pub struct Failed;
 /// A row can take no further link: its sequence, as it was read, is at its limit.
 #[derive(Clone, Copy, Debug, PartialEq, Eq, Drop)]
 pub struct Spent {
+    /// The row of the node that was to be linked.
     pub row: u32,
+    /// Its sequence, as it was read.
     pub sequence: u64,
 }

@@ -25,6 +25,7 @@ impl Model for Plan {
 }
 
 impl Plan {
+    /// Calls move at most `piece` bytes; they are numbered from 0, and those in `fails` fail.
     pub fn new(alloc: Global, piece: u64, fails: &[u64]) -> Result<Plan, NoMemory>
         requires { 1 ≤ piece }
         ensures { IfOk result (λ plan. plan ≡ new_plan piece fails.now) }

@@ -197,7 +197,7 @@ pub trait Links {
         ensures nothing { Only [] (seat self.now p.old) (seat self.now p.new) }
         ensures settled { IsAlone agent_of (seat self.now p.old).agent (journal p.old) (journal p.new) → backlog p.new ≡ 0 };
 
-    /// Both passes have then seen the longer of their two journals.
+    /// Lets each of two passes see what the other has seen. It makes no step.
     fn learn(&self, into: &mut Self::Pass, from: &mut Self::Pass)
         requires passes { belongs self.now into.old × belongs self.now from.old }
         requires agents { (seat self.now into.old).agent ≢ (seat self.now from.old).agent }

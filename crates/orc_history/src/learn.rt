@@ -7,13 +7,13 @@ ghost use Rattle.orc_history.specs.SetHistory.{agent_of_set_entry};
 use crate::queue::SharedQueue;
 use crate::set::SharedSet;
 
-/// A queue for so many agents, whose passes learn from each other. A pass that learns from all others twice over has
-/// seen the calls of each, in the order that each had.
+/// A queue for so many agents, whose passes learn from each other: once a pass has learned from all others, it has
+/// seen the calls of each; once it has done so again, so have the others.
 pub trait LearnQueue: SharedQueue {
     // how many agents the queue has
     ghost agents: { Self → ℕ };
 
-    /// Both passes have then seen the longer of their two journals.
+    /// Lets each of two passes see what the other has seen. It makes no step.
     fn learn(&self, into: &mut Self::Pass, from: &mut Self::Pass)
         requires usable { Self.usable self.now into.old × Self.usable self.now from.old }
         requires agents { Self.agent_of self.now into.old ≢ Self.agent_of self.now from.old }
@@ -28,13 +28,13 @@ pub trait LearnQueue: SharedQueue {
         → (Self.agent_of q p < agents q) × Every (λ e. agent_of_entry e < agents q) (Self.history q (Self.journal p)) };
 }
 
-/// A set for so many agents, whose passes learn from each other. A pass that learns from all others twice over has
-/// seen the calls of each, in the order that each had.
+/// A set for so many agents, whose passes learn from each other: once a pass has learned from all others, it has
+/// seen the calls of each; once it has done so again, so have the others.
 pub trait LearnSet: SharedSet {
     // how many agents the set has
     ghost agents: { Self → ℕ };
 
-    /// Both passes have then seen the longer of their two journals.
+    /// Lets each of two passes see what the other has seen. It makes no step.
     fn learn(&self, into: &mut Self::Pass, from: &mut Self::Pass)
         requires usable { Self.usable self.now into.old × Self.usable self.now from.old }
         requires agents { Self.agent_of self.now into.old ≢ Self.agent_of self.now from.old }

@@ -37,7 +37,7 @@ impl Model for PlainQueue {
 }
 
 impl PlainQueue {
-    /// An empty queue for at most `room` items, whose first Put has the position `first`.
+    /// An empty queue for at most `room` items, whose first Put has the position `first`, at most 2^62.
     pub fn new(alloc: Global, room: u32, first: u64) -> Result<PlainQueue, NoMemory>
         requires { first ≤ 2 ^ 62 }
         ensures { IfOk result (λ q. q ≡ record { room = room; first = first; whole = true }) }

@@ -26,7 +26,7 @@ pub enum QueueRefused {
     Again,
     /// There is no room for a further item.
     NoNode,
-    /// The next position would be 2^62.
+    /// No position below 2^62 is left.
     Positions,
 }
 

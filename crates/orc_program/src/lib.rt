@@ -1,4 +1,4 @@
-//! The job board program: a job file is read, worked through and reported.
+//! The program as one call: a job file is read, worked through and reported, or a trace is played.
 #![tactic(auto)]
 
 mod answer;

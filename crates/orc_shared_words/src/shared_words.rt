@@ -185,7 +185,7 @@ impl<M: Machine<D::Note>, D: Discipline> SharedWords<M, D> {
         }
     }
 
-    /// Both passes have then seen the longer one of the lists that they had seen, of which the shorter is a front.
+    /// Lets each of two passes see what the other has seen. It works on no word.
     pub fn learn(&self, into: &mut SharedPass<M, D>, from: &mut SharedPass<M, D>)
         requires table { (into.old.seat.table_id ≡ self.now.table.shared.table_id) × (from.old.seat.table_id ≡ self.now.table.shared.table_id) }
         ensures table { (into.new.seat.table_id ≡ into.old.seat.table_id) × (from.new.seat.table_id ≡ from.old.seat.table_id) }

@@ -1,4 +1,4 @@
-//! A step of a board's journal.
+//! A step of a journal of noted steps.
 
 use orc_core::Op;
 use orc_words::RowLink;

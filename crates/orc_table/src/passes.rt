@@ -43,7 +43,7 @@ impl<D: Discipline> PlainBoard<D> {
         p.fresh = None;
     }
 
-    /// Both passes have then seen what the one or the other had, whichever is more.
+    /// Lets each of two passes see what the other has seen. It works on no word.
     pub fn learn(&self, into: &mut PlainPass<D>, from: &mut PlainPass<D>)
         requires into { Belongs self.now into.old }
         requires from { Belongs self.now from.old }

@@ -1,6 +1,6 @@
 -- A step that the machine can make: it is allowed, and its agent's work list has room for the row that it may bring.
--- A work list has as many places as the table has rows. That allowed steps alone never overfill one is a law of the
--- machine that is not proved here, so the room is part of what is said.
+-- A work list has as many places as the table has rows. That allowed steps never overfill one is a law of orc_sound, on which
+-- this crate doesn't stand, so the room is part of what is said.
 use Rattle.std.specs.Prelude.{◌≡◌, ℕ, Bool, true, false, ◌&&◌, ◌==◌, nat_le, is_some, List, [], ◌∷◌, length}
 use Rattle.orc_words.specs.Packed.{named}
 use Rattle.orc_core.specs.declared.ops.Op.{Op}

@@ -38,12 +38,14 @@ impl Words {
         self.items.push(item).map_err(|_| NoMemory)
     }
 
+    /// How many numbers there are.
     pub fn len(&self) -> usize
         ensures { result ≡ length self.now }
     {
         self.items.len()
     }
 
+    /// The number at a place, from 0.
     pub fn get(&self, index: usize) -> u64
         requires { index < length self.now }
         ensures { result ≡ slice_index self.now index }

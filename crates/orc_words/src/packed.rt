@@ -50,6 +50,7 @@ pub fn named(number: u64) -> Option<u32>
     }
 }
 
+/// The word of a link to a row below 65,535, or of a null link.
 pub fn pack_link(link: RowLink) -> u64
     requires { ForSome link.to (λ row. row < 65535) }
     ensures word { result ≡ link_word link }
@@ -78,6 +79,7 @@ pub fn read_link(word: u64) -> Option<RowLink>
     })
 }
 
+/// The word of a count from -2^22 to 2^22 - 1 and a sequence below 2^40.
 pub fn pack_counter(counter: Counter) -> u64
     requires low { negsuc 4194303 ≤ℤ counter.count }
     requires high { counter.count ≤ℤ pos 4194303 }
@@ -90,6 +92,7 @@ pub fn pack_counter(counter: Counter) -> u64
     counter.sequence * 16_777_216 + retired + count
 }
 
+/// The counter that a word stands for; each word stands for one.
 pub fn read_counter(word: u64) -> Counter
     ensures counter { result ≡ counter_of word }
     ensures packed { counter_word result ≡ word }
@@ -101,6 +104,7 @@ pub fn read_counter(word: u64) -> Counter
     }
 }
 
+/// The word of a gate whose life is below 2^62.
 pub fn pack_gate(gate: Gate) -> u64
     requires { gate.life < 2 ^ 62 }
     ensures word { result ≡ gate_word gate }
@@ -113,6 +117,7 @@ pub fn pack_gate(gate: Gate) -> u64
     }
 }
 
+/// The gate that a word stands for; each word stands for one.
 pub fn read_gate(word: u64) -> Gate
     ensures gate { result ≡ gate_of word }
     ensures packed { gate_word result ≡ word }

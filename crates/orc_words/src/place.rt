@@ -30,7 +30,7 @@ pub enum Word {
     Handover(u32, u32),
 }
 
-/// The place of a word. Different words have different places.
+/// The place of a word in the table, from 0.
 pub fn place_of(shape: &Shape, word: Word) -> u32
     requires { IsWithin (bounds_of shape.now) word }
     ensures place { result ≡ place (bounds_of shape.now) word }

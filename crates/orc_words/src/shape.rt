@@ -60,24 +60,28 @@ impl Shape {
         })
     }
 
+    /// The number of rows.
     pub fn rows(&self) -> u32
         ensures { result ≡ (bounds_of self.now).rows }
     {
         self.rows
     }
 
+    /// The number of roots.
     pub fn roots(&self) -> u32
         ensures { result ≡ (bounds_of self.now).roots }
     {
         self.roots
     }
 
+    /// The number of agents.
     pub fn agents(&self) -> u32
         ensures { result ≡ (bounds_of self.now).agents }
     {
         self.agents
     }
 
+    /// From which life or sequence on a row is taken no more.
     pub fn limit(&self) -> u64
         ensures { result ≡ (bounds_of self.now).limit }
     {
