@@ -34,7 +34,7 @@ pub struct PostReply {
 pub enum TakeWord {
     /// The claim closed the opening of the id; the value of the line.
     Done(u64),
-    /// The id had been dropped.
+    /// The id was closed already.
     Void,
 }
 
