@@ -1,9 +1,11 @@
-//! Reads a job file from standard input, works through it and writes the report to standard output.
+//! Works through a job file and writes the report, or plays a trace and writes what it leaves: from standard input to
+//! standard output.
 #![tactic(auto)]
 
 use orc_board::OpenGate;
 use orc_program::{CommandWords, Ended, StdSink, StdSource, orc_main};
 use std::env;
+use std::io::ErrorKind;
 use std::process::ExitCode;
 
 /// The status where memory for the words is refused.
@@ -14,8 +16,10 @@ const WORDS_REFUSED: u8 = 2;
 
 fn main(rt: HostRuntime) -> ExitCode {
     let mut words = CommandWords::new(rt.alloc());
-    let Ok(args) = env::args(&rt) else {
-        return ExitCode::from(WORDS_REFUSED);
+    let args = match env::args(&rt) {
+        Ok(args) => args,
+        Err(e) if e.kind() == ErrorKind::OutOfMemory => return ExitCode::from(NO_MEMORY),
+        Err(_) => return ExitCode::from(WORDS_REFUSED),
     };
     for word in args.skip(1) {
         if words.push(word.as_str()).is_err() {

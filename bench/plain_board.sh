@@ -1,6 +1,6 @@
 #!/usr/bin/env bash
 # Times 50,000,000 loads of a root's link by `link_load`, and as many of a bare atomic word, on one thread.
-# What they found is printed on standard output, the times on standard error. The goal is 1.5 times a bare load.
+# What they found is printed on standard output, the times on standard error.
 set -euo pipefail
 cd "$(dirname "$0")/../crates/board_bench"
 rt run >/dev/null 2>&1
