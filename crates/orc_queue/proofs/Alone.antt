@@ -43,7 +43,7 @@ pub quiet_not_alone : (agent : ℕ) (es own : List (Event FifoNote)) → events_
 quiet_not_alone agent es own is none some alone = omega (arith, none, some, ap (λ (z : List (Event FifoNote)). moves_in z) (alone_own agent es own is alone))
 
 -- a turn without a Move of the pass's own
-pub over_quiet : (n : HeapNumbers) (IsSettled : Heap → Type 0) (s t : Seat FifoNote) (p : Piece s [] t) → t.fresh ≡ s.fresh → moves_in p.own ≡ 0 → 1 ≤ moves_in (from_own s.agent p.puts.part) → IsOver n IsSettled s t
+pub over_quiet : (n : HeapNumbers) (IsSettled : Heap → Type 0) (s t : Seat FifoNote) (p : Piece 6 s [] t) → t.fresh ≡ s.fresh → moves_in p.own ≡ 0 → 1 ≤ moves_in (from_own s.agent p.puts.part) → IsOver n IsSettled s t
 over_quiet n IsSettled s t p fresh none some = record {
   piece = p;
   fresh = fresh;
@@ -66,7 +66,7 @@ moves_then s a t e rest ys zs p q w own =
 -- a turn from a look of a root on: the rest made no Move, or it helped
 module _ (n : HeapNumbers) (IsSettled : Heap → Type 0) (root id : ℕ) (s a t : Seat FifoNote) (k : Known n s.seen) (all_a : AllAllowed (FifoMay n) [] a.seen) (all_t : AllAllowed (FifoMay n) [] t.seen)
     (p : Puts s (event_of s (Look (Root root) (link_to id)) None ∷ event_of s (Look (Root root) (link_to id)) None ∷ []) a) (own : List (Event FifoNote)) (q : Puts a own t)
-    (j : Join s t (event_of s (Look (Root root) (link_to id)) None ∷ event_of s (Look (Root root) (link_to id)) None ∷ own) [] p.part q.part) (fresh : t.fresh ≡ s.fresh)
+    (j : Join 6 s t (event_of s (Look (Root root) (link_to id)) None ∷ event_of s (Look (Root root) (link_to id)) None ∷ own) [] p.part q.part) (fresh : t.fresh ≡ s.fresh)
     (moved : shown (heap_of n a) (Root root) ≡ Some (link_to id) → 1 ≤ moves_in q.part)
   where
     moved_since : 1 ≤ moves_in (from_own s.agent j.piece.puts.part)

@@ -1,5 +1,5 @@
 -- What the turns of a call do. After Michael and Scott 1996.
-use Rattle.std.specs.Prelude.{Bool, List, None, Option, Some, [], false, is_some, not, slice_get, true, ℕ, ◌++◌, ◌+◌, ◌<◌, ◌^◌, ◌∷◌, ◌≡◌, ◌≢◌, ◌≤◌, ◌⊎◌}
+use Rattle.std.specs.Prelude.{Bool, List, None, Option, Some, [], false, is_some, length, not, slice_get, true, ℕ, ◌*◌, ◌++◌, ◌+◌, ◌<◌, ◌^◌, ◌∷◌, ◌≡◌, ◌≢◌, ◌≤◌, ◌⊎◌}
 use Rattle.orc_heap.specs.Calls.{Misses, event_of, given_node}
 use Rattle.orc_heap.specs.Heap.{Heap, HeapNumbers, Node, null, shown}
 use Rattle.orc_heap.specs.Journals.{run_heap}
@@ -71,25 +71,27 @@ pub record Helps (tail next : ℕ) (s t : Seat FifoNote) : Type 0 where
   pub fresh : t.fresh ≡ s.fresh
   pub either : Puts s (event_of s (Move (Root 1) (link_to tail) (link_to next)) (Some Swing) ∷ []) t ⊎ Misses (Root 1) (link_to tail) s t
 
--- a piece of a call: the pass holds what it held, and its own events enter these entries and give no node
-pub record Piece (s : Seat FifoNote) (entries : List QueueEntry) (t : Seat FifoNote) : Type 0 where
+-- a piece of a call: the pass holds what it held, and its own events are at most so many, enter these entries and give no
+-- node
+pub record Piece (most : ℕ) (s : Seat FifoNote) (entries : List QueueEntry) (t : Seat FifoNote) : Type 0 where
   pub own : List (Event FifoNote)
   pub slots : t.slots ≡ s.slots
   pub puts : Puts s own t
   pub entries_are : entries_of own ≡ entries
   pub no_give : gives_in own ≡ 0
+  pub few : length own ≤ most
 
 -- the rest of a turn that is over: if the place showed the link before, then a Move stands in what is new; the pass made
 -- no Move of its own, or it helped
-pub record Stops (n : HeapNumbers) (place : Place) (link : Link) (IsHelping : List (Event FifoNote) → Type 0) (s t : Seat FifoNote) : Type 0 where
-  pub piece : Piece s [] t
+pub record Stops (n : HeapNumbers) (most : ℕ) (place : Place) (link : Link) (IsHelping : List (Event FifoNote) → Type 0) (s t : Seat FifoNote) : Type 0 where
+  pub piece : Piece most s [] t
   pub fresh : t.fresh ≡ s.fresh
   pub moved : shown (heap_of n s) place ≡ Some link → 1 ≤ moves_in piece.puts.part
   pub own_moves : (moves_in piece.own ≡ 0) ⊎ IsHelping piece.own
 
 -- a turn that is over: a Move stands in it. If no other agent steps in it, then it leaves the tail settled, and it found it unsettled
 pub record IsOver (n : HeapNumbers) (IsSettled : Heap → Type 0) (s t : Seat FifoNote) : Type 0 where
-  pub piece : Piece s [] t
+  pub piece : Piece 6 s [] t
   pub fresh : t.fresh ≡ s.fresh
   pub moved : 1 ≤ moves_in (from_own s.agent piece.puts.part)
   pub settles : AllOwn s.agent (from_own s.agent piece.puts.part) → IsSettled (heap_of n t)
@@ -97,7 +99,7 @@ pub record IsOver (n : HeapNumbers) (IsSettled : Heap → Type 0) (s t : Seat Fi
 
 -- so many turns that are over: as many Moves stand in them, and another agent steps in them if they are two or more
 pub record AreOver (n : HeapNumbers) (IsSettled : Heap → Type 0) (turns : ℕ) (s t : Seat FifoNote) : Type 0 where
-  pub piece : Piece s [] t
+  pub piece : Piece (6 * turns) s [] t
   pub fresh : t.fresh ≡ s.fresh
   pub moved : turns ≤ moves_in (from_own s.agent piece.puts.part)
   pub settles : 1 ≤ turns → AllOwn s.agent (from_own s.agent piece.puts.part) → IsSettled (heap_of n t)
@@ -111,40 +113,40 @@ pub record HoldsNode (n : HeapNumbers) (job : ℕ) (h : Hold) (s : Seat FifoNote
   pub node : slice_get (heap_of n s).nodes (id_in s.slots h) ≡ Some (given_node s.agent job second)
 
 -- the job was put, at a position that there is
-pub record PutsJob (n : HeapNumbers) (job at : ℕ) (s t : Seat FifoNote) : Type 0 where
-  pub piece : Piece s (Put s.agent job at ∷ []) t
+pub record PutsJob (n : HeapNumbers) (most job at : ℕ) (s t : Seat FifoNote) : Type 0 where
+  pub piece : Piece most s (Put s.agent job at ∷ []) t
   pub fresh : t.fresh ≡ None
   pub low : at < 2 ^ 62
   pub room : FindsFull n s.agent s.seen piece.puts.part → ⊥
 
 -- no position was left
-pub record IsFull (n : HeapNumbers) (s t : Seat FifoNote) : Type 0 where
-  pub piece : Piece s [] t
+pub record IsFull (n : HeapNumbers) (most : ℕ) (s t : Seat FifoNote) : Type 0 where
+  pub piece : Piece most s [] t
   pub fresh : t.fresh ≡ s.fresh
   pub full : FindsFull n s.agent s.seen piece.puts.part
 
 -- behind a node with a null link: the new node was linked there; or not, and if the link was null before, then a Move stands
 -- in what is new; or no position is left
 pub record LinkMissed (n : HeapNumbers) (job tail : ℕ) (h : Hold) (s t : Seat FifoNote) : Type 0 where
-  pub stops : Stops n (Next tail) null (λ own. ⊥) s t
+  pub stops : Stops n 2 (Next tail) null (λ own. ⊥) s t
   pub room : FindsFull n s.agent s.seen stops.piece.puts.part → ⊥
   pub low : position_of (heap_of n s) tail < 2 ^ 62
   pub node : HoldsNode n job h t
 
 pub record NoPosition (n : HeapNumbers) (tail : ℕ) (s t : Seat FifoNote) : Type 0 where
-  pub piece : Piece s [] t
+  pub piece : Piece 0 s [] t
   pub fresh : t.fresh ≡ s.fresh
   pub none : 2 ^ 62 ≤ position_of (heap_of n s) tail
 
-pub record LinksJob (n : HeapNumbers) (job tail at : ℕ) (h : Hold) (s t : Seat FifoNote) : Type 0 where
-  pub puts : PutsJob n job at s t
+pub record LinksJob (n : HeapNumbers) (most job tail at : ℕ) (h : Hold) (s t : Seat FifoNote) : Type 0 where
+  pub puts : PutsJob n most job at s t
   pub low : position_of (heap_of n s) tail < 2 ^ 62
   pub link : HasLink (heap_of n t) tail (link_to (id_in s.slots h))
 
-abbrev pub LinksBehind : HeapNumbers → ℕ → ℕ → Hold → Seat FifoNote → PutTurn → Seat FifoNote → Type 0
-LinksBehind n job tail h s PutOver t = LinkMissed n job tail h s t
-LinksBehind n job tail h s (PutDone at) t = LinksJob n job tail at h s t
-LinksBehind n job tail h s Full t = NoPosition n tail s t
+abbrev pub LinksBehind : HeapNumbers → ℕ → ℕ → ℕ → Hold → Seat FifoNote → PutTurn → Seat FifoNote → Type 0
+LinksBehind n most job tail h s PutOver t = LinkMissed n job tail h s t
+LinksBehind n most job tail h s (PutDone at) t = LinksJob n most job tail at h s t
+LinksBehind n most job tail h s Full t = NoPosition n tail s t
 
 -- the own events of a pass that helps, from its looks at the successor on
 abbrev pub HelpsBehind : Seat FifoNote → ℕ → List (Event FifoNote) → Type 0
@@ -153,14 +155,14 @@ HelpsBehind s tail own = (next : ℕ) × (own ≡ event_of s (Look (Next tail) (
 
 -- behind the node that root 1 named: as above
 pub record TurnMissed (n : HeapNumbers) (job tail : ℕ) (h : Hold) (s t : Seat FifoNote) : Type 0 where
-  pub stops : Stops n (Root 1) (link_to tail) (HelpsBehind s tail) s t
+  pub stops : Stops n 4 (Root 1) (link_to tail) (HelpsBehind s tail) s t
   pub room : FindsFull n s.agent s.seen stops.piece.puts.part → ⊥
   pub node : HoldsNode n job h t
 
 abbrev pub PutsBehind : HeapNumbers → ℕ → ℕ → Hold → Seat FifoNote → PutTurn → Seat FifoNote → Type 0
 PutsBehind n job tail h s PutOver t = TurnMissed n job tail h s t
-PutsBehind n job tail h s (PutDone at) t = PutsJob n job at s t
-PutsBehind n job tail h s Full t = IsFull n s t
+PutsBehind n job tail h s (PutDone at) t = PutsJob n 4 job at s t
+PutsBehind n job tail h s Full t = IsFull n 4 s t
 
 -- a turn of a put
 pub record PutMissed (n : HeapNumbers) (job : ℕ) (h : Hold) (s t : Seat FifoNote) : Type 0 where
@@ -170,8 +172,8 @@ pub record PutMissed (n : HeapNumbers) (job : ℕ) (h : Hold) (s t : Seat FifoNo
 
 abbrev pub PutsTurn : HeapNumbers → ℕ → Hold → Seat FifoNote → PutTurn → Seat FifoNote → Type 0
 PutsTurn n job h s PutOver t = PutMissed n job h s t
-PutsTurn n job h s (PutDone at) t = PutsJob n job at s t
-PutsTurn n job h s Full t = IsFull n s t
+PutsTurn n job h s (PutDone at) t = PutsJob n 6 job at s t
+PutsTurn n job h s Full t = IsFull n 6 s t
 
 -- so many turns of a put
 pub record PutTires (n : HeapNumbers) (job turns : ℕ) (h : Hold) (s t : Seat FifoNote) : Type 0 where
@@ -181,17 +183,17 @@ pub record PutTires (n : HeapNumbers) (job turns : ℕ) (h : Hold) (s t : Seat F
 
 abbrev pub PutsTurns : HeapNumbers → ℕ → ℕ → Hold → Seat FifoNote → PutTurn → Seat FifoNote → Type 0
 PutsTurns n job turns h s PutOver t = PutTires n job turns h s t
-PutsTurns n job turns h s (PutDone at) t = PutsJob n job at s t
-PutsTurns n job turns h s Full t = IsFull n s t
+PutsTurns n job turns h s (PutDone at) t = PutsJob n (6 * turns) job at s t
+PutsTurns n job turns h s Full t = IsFull n (6 * turns) s t
 
 -- a job was taken
-pub record TakesJob (job at : ℕ) (s t : Seat FifoNote) : Type 0 where
-  pub piece : Piece s (Took s.agent job at ∷ []) t
+pub record TakesJob (most job at : ℕ) (s t : Seat FifoNote) : Type 0 where
+  pub piece : Piece most s (Took s.agent job at ∷ []) t
   pub fresh : t.fresh ≡ s.fresh
 
 -- nothing was found
-pub record TakesNone (s t : Seat FifoNote) : Type 0 where
-  pub piece : Piece s (Empty s.agent ∷ []) t
+pub record TakesNone (most : ℕ) (s t : Seat FifoNote) : Type 0 where
+  pub piece : Piece most s (Empty s.agent ∷ []) t
   pub fresh : t.fresh ≡ s.fresh
 
 -- the own events of a pass that helps, from its test of the tail on
@@ -200,18 +202,18 @@ HelpsPast s head next own = own ≡ event_of s (Look (Root 1) (link_to head)) No
 
 -- the swing of the head on to the successor
 abbrev pub TakesFrom : HeapNumbers → ℕ → Seat FifoNote → Option (ℕ × ℕ) → Seat FifoNote → Type 0
-TakesFrom n head s None t = Stops n (Root 0) (link_to head) (λ own. ⊥) s t
-TakesFrom n head s (Some got) t = TakesJob got.0 got.1 s t
+TakesFrom n head s None t = Stops n 1 (Root 0) (link_to head) (λ own. ⊥) s t
+TakesFrom n head s (Some got) t = TakesJob 1 got.0 got.1 s t
 
 -- from the head and its successor on
 abbrev pub TakesNext : HeapNumbers → ℕ → ℕ → Seat FifoNote → Option (ℕ × ℕ) → Seat FifoNote → Type 0
-TakesNext n head next s None t = Stops n (Root 0) (link_to head) (HelpsPast s head next) s t
-TakesNext n head next s (Some got) t = TakesJob got.0 got.1 s t
+TakesNext n head next s None t = Stops n 2 (Root 0) (link_to head) (HelpsPast s head next) s t
+TakesNext n head next s (Some got) t = TakesJob 2 got.0 got.1 s t
 
 -- the test whether the head's link is null
 abbrev pub FindsEnd : HeapNumbers → ℕ → Seat FifoNote → Bool → Seat FifoNote → Type 0
-FindsEnd n head s true t = TakesNone s t
-FindsEnd n head s false t = Stops n (Next head) null (λ own. ⊥) s t
+FindsEnd n head s true t = TakesNone 1 s t
+FindsEnd n head s false t = Stops n 1 (Next head) null (λ own. ⊥) s t
 
 -- the own events of a pass that helps, from its looks at the successor on
 abbrev pub HelpsHead : Seat FifoNote → ℕ → List (Event FifoNote) → Type 0
@@ -220,18 +222,18 @@ HelpsHead s head own = (next : ℕ) × (own ≡ event_of s (Look (Next head) (li
 
 -- behind the node that root 0 named
 abbrev pub TakesBehind : HeapNumbers → ℕ → Seat FifoNote → TakeTurn → Seat FifoNote → Type 0
-TakesBehind n head s TakeOver t = Stops n (Root 0) (link_to head) (HelpsHead s head) s t
-TakesBehind n head s (TakeDone job at) t = TakesJob job at s t
-TakesBehind n head s TakeEmpty t = TakesNone s t
+TakesBehind n head s TakeOver t = Stops n 4 (Root 0) (link_to head) (HelpsHead s head) s t
+TakesBehind n head s (TakeDone job at) t = TakesJob 4 job at s t
+TakesBehind n head s TakeEmpty t = TakesNone 4 s t
 
 -- a turn of a take
 abbrev pub TakesTurn : HeapNumbers → Seat FifoNote → TakeTurn → Seat FifoNote → Type 0
 TakesTurn n s TakeOver t = IsOver n TailIsPast s t
-TakesTurn n s (TakeDone job at) t = TakesJob job at s t
-TakesTurn n s TakeEmpty t = TakesNone s t
+TakesTurn n s (TakeDone job at) t = TakesJob 6 job at s t
+TakesTurn n s TakeEmpty t = TakesNone 6 s t
 
 -- so many turns of a take
 abbrev pub TakesTurns : HeapNumbers → ℕ → Seat FifoNote → TakeTurn → Seat FifoNote → Type 0
 TakesTurns n turns s TakeOver t = AreOver n TailIsPast turns s t
-TakesTurns n turns s (TakeDone job at) t = (turns ≢ 0) × TakesJob job at s t
-TakesTurns n turns s TakeEmpty t = (turns ≢ 0) × TakesNone s t
+TakesTurns n turns s (TakeDone job at) t = (turns ≢ 0) × TakesJob (6 * turns) job at s t
+TakesTurns n turns s TakeEmpty t = (turns ≢ 0) × TakesNone (6 * turns) s t

@@ -1,6 +1,6 @@
 //! The queue, and its calls.
 
-ghost use Rattle.std.specs.Prelude.{◌≡◌, ◌≢◌, ℕ, ◌+◌, ◌<◌, ◌≤◌, ◌↔◌, List, [], ◌∷◌, length, take, Err, IfOk, IfErr, IsErr};
+ghost use Rattle.std.specs.Prelude.{◌≡◌, ◌≢◌, ℕ, ◌*◌, ◌+◌, ◌<◌, ◌≤◌, ◌↔◌, List, [], ◌∷◌, length, take, Err, IfOk, IfErr, IsErr};
 ghost use mathlib.Core.List.{IsPrefix};
 ghost use Rattle.orc_heap.specs.Allowed.{events_by};
 ghost use Rattle.orc_heap.specs.Journals.{run_heap};
@@ -12,7 +12,7 @@ ghost use Rattle.orc_history.specs.QueueHistory.{agent_of_entry, entry_of_dequeu
 ghost use Rattle.orc_history.specs.declared.queue.QueueEntry.{QueueEntry};
 ghost use Rattle.orc_history.specs.declared.queue.QueueRefused.{QueueRefused};
 ghost use Rattle.orc_fifo_rule.specs.QueueDiscipline.{entries_of, position_of};
-ghost use Rattle.orc_queue.specs.Answers.{CallFindsFull};
+ghost use Rattle.orc_queue.specs.Answers.{CallFindsFull, gives_of};
 ghost use Rattle.orc_queue.specs.Causes.{Cause, UsesTurns};
 ghost use Rattle.orc_queue.specs.Laws.{cause_puts, cause_stays, entries_below, history_grows, seen_legal};
 ghost use Rattle.orc_queue.specs.Turns.{HasDummy};
@@ -69,14 +69,17 @@ impl<L: Links<Rule = Fifo>> Queue<L> {
             (entries_of (L.events self.now.links (L.journal p.new)))) }
         ensures none { IfErr result (λ e. Adds agent_of_entry (λ agent. agent < L.agents self.now.links) (L.seat self.now.links p.old).agent
             (entries_of (L.events self.now.links (L.journal p.old))) [] (entries_of (L.events self.now.links (L.journal p.new)))) }
-        ensures no_turns { turns ≡ 0 → result ≡ Err QueueRefused.Again }
+        ensures no_turns { turns ≡ 0 → (result ≡ Err QueueRefused.Again)
+            × (events_by (L.seat self.now.links p.old).agent (L.seat self.now.links p.new).seen ≡ events_by (L.seat self.now.links p.old).agent (L.seat self.now.links p.old).seen) }
         ensures again { result ≡ Err QueueRefused.Again → InPart L.agent_of (L.seat self.now.links p.old).agent (L.journal p.old) (L.journal p.new)
             (UsesTurns L.agent_of (L.events self.now.links) (L.seat self.now.links p.old).agent turns (L.journal p.new)) }
         ensures no_node { result ≡ Err QueueRefused.NoNode → (turns ≢ 0) × Within (length (L.journal p.old)) (length (L.journal p.new))
             (L.lacking self.now.links (L.seat self.now.links p.old).agent (L.journal p.new)) }
         ensures positions { (result ≡ Err QueueRefused.Positions) ↔ CallFindsFull (L.numbers self.now.links) (L.seat self.now.links p.old) (L.seat self.now.links p.new) }
         ensures gives { gives_in (events_by (L.seat self.now.links p.old).agent (L.seat self.now.links p.new).seen)
-            ≤ gives_in (events_by (L.seat self.now.links p.old).agent (L.seat self.now.links p.old).seen) + 1 }
+            ≡ gives_in (events_by (L.seat self.now.links p.old).agent (L.seat self.now.links p.old).seen) + gives_of turns result }
+        ensures tries { length (events_by (L.seat self.now.links p.old).agent (L.seat self.now.links p.new).seen)
+            ≤ length (events_by (L.seat self.now.links p.old).agent (L.seat self.now.links p.old).seen) + 6 * turns + 3 * gives_of turns result }
         ensures settled { IsAlone L.agent_of (L.seat self.now.links p.old).agent (L.journal p.old) (L.journal p.new) → L.backlog p.new ≡ 0 }
     {
         let answer = put_job(&self.links, p, job, turns);
@@ -98,11 +101,14 @@ impl<L: Links<Rule = Fifo>> Queue<L> {
             (entries_of (L.events self.now.links (L.journal p.new)))) }
         ensures none { IfErr result (λ e. Adds agent_of_entry (λ agent. agent < L.agents self.now.links) (L.seat self.now.links p.old).agent
             (entries_of (L.events self.now.links (L.journal p.old))) [] (entries_of (L.events self.now.links (L.journal p.new)))) }
-        ensures no_turns { turns ≡ 0 → IsErr result }
+        ensures no_turns { turns ≡ 0 → IsErr result
+            × (events_by (L.seat self.now.links p.old).agent (L.seat self.now.links p.new).seen ≡ events_by (L.seat self.now.links p.old).agent (L.seat self.now.links p.old).seen) }
         ensures again { IfErr result (λ e. InPart L.agent_of (L.seat self.now.links p.old).agent (L.journal p.old) (L.journal p.new)
             (UsesTurns L.agent_of (L.events self.now.links) (L.seat self.now.links p.old).agent turns (L.journal p.new))) }
         ensures gives { gives_in (events_by (L.seat self.now.links p.old).agent (L.seat self.now.links p.new).seen)
-            ≤ gives_in (events_by (L.seat self.now.links p.old).agent (L.seat self.now.links p.old).seen) }
+            ≡ gives_in (events_by (L.seat self.now.links p.old).agent (L.seat self.now.links p.old).seen) }
+        ensures tries { length (events_by (L.seat self.now.links p.old).agent (L.seat self.now.links p.new).seen)
+            ≤ length (events_by (L.seat self.now.links p.old).agent (L.seat self.now.links p.old).seen) + 6 * turns }
         ensures settled { IsAlone L.agent_of (L.seat self.now.links p.old).agent (L.journal p.old) (L.journal p.new) → L.backlog p.new ≡ 0 }
     {
         let answer = take_job(&self.links, p, turns);

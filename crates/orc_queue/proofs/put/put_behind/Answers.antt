@@ -68,7 +68,7 @@ returns-in-Stable-default-None-clause-put g c =
     let p = next_null n s a id _ ks c.requires.named.linked all l in
     let t = g.L.Links.seat d c.link_behind.new.p in
     let all_t = g.met.L.Links.allowed d c.link_behind.new.p c.link_behind.ensures.pass in
-    let linked = subst (λ (z : Slots). LinksBehind n job (id_in z tail) node a c.link_behind.result t) l.slots c.link_behind.ensures.linked in
+    let linked = subst (λ (z : Slots). LinksBehind n 3 job (id_in z tail) node a c.link_behind.result t) l.slots c.link_behind.ensures.linked in
     behind_null n job id node s a t ks c.requires.named l.slots e.looked.fresh p all all_t c.link_behind.result linked
 
 pub help_tail-requires-clause-held : goal.help_tail-requires-clause-held

@@ -3,7 +3,7 @@ use Rattle.std.proofs.Common.{length, subst, sym, ℕ}
 use Rattle.orc_heap.proofs.Steps.{alone_later}
 use Rattle.orc_history.specs.Parts.{IsAlone}
 use Rattle.orc_queue.proofs.Answering.{put_settled}
-use Rattle.orc_queue.proofs.Causes.{any_gives, put_again, put_any, put_err, put_no_turns, put_ok, put_positions, put_some_turn, within_stays}
+use Rattle.orc_queue.proofs.Causes.{any_gives, any_tries, put_again, put_any, put_err, put_no_turns, put_ok, put_positions, put_some_turn, within_stays}
 use Rattle.orc_queue.proofs.Joins.{goes_on}
 use Rattle.orc_queue.proofs.queue.Queue.put.Goals as goal
 
@@ -162,7 +162,20 @@ returns-clause-gives g c =
     let told = c.put_job-answer.ensures.answered in
     let settle = c.settle.ensures in
     let l = put_settled n s t u settle.nothing c.args.job c.args.turns r told in
-    any_gives 1 s u (put_any n c.args.job c.args.turns s u r l)
+    any_gives _ c.args.turns s u (put_any n c.args.job c.args.turns s u r l)
+
+pub returns-clause-tries : goal.returns-clause-tries
+returns-clause-tries g c =
+    let d = c.args.self.now.links in
+    let n = g.L.Links.numbers d in
+    let s = g.L.Links.seat d c.args.p.now in
+    let t = g.L.Links.seat d c.put_job-answer.new.p in
+    let u = g.L.Links.seat d c.settle.new.p in
+    let r = c.put_job-answer.result in
+    let told = c.put_job-answer.ensures.answered in
+    let settle = c.settle.ensures in
+    let l = put_settled n s t u settle.nothing c.args.job c.args.turns r told in
+    any_tries _ c.args.turns s u (put_any n c.args.job c.args.turns s u r l)
 
 pub returns-clause-settled : goal.returns-clause-settled
 returns-clause-settled g c =
