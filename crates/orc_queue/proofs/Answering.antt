@@ -20,9 +20,10 @@ use Rattle.orc_history.specs.declared.queue.QueueRefused.TheVariants.{Again, NoN
 use Rattle.orc_fifo_rule.specs.declared.fifo.FifoNote.{FifoNote}
 use Rattle.orc_fifo_rule.specs.QueueDiscipline.{entries_of}
 use Rattle.orc_queue.specs.Answers.{IsCall, PutAnswers, PutFull, PutLacking, PutMade, PutTired, TakeAnswers, TakeMade, Tires, gives_of}
-use Rattle.orc_queue.specs.Turns.{AreOver, FindsFull, HoldsNode, IsFull, Piece, PutTires, PutsJob, TailIsPast}
+use Rattle.orc_queue.specs.Turns.{AreOver, EndsHelping, FindsFull, HoldsNode, IsFull, Piece, PutTires, PutsJob, TailIsPast}
 use Rattle.orc_queue.proofs.Joins.{full_join_left, full_join_right, own_moves_left, own_moves_right, own_part_left, own_part_right, puts_released, room_join}
 use Rattle.orc_queue.proofs.Pieces.{InSlot, slot_holds, slot_id, slot_released}
+use Rattle.orc_queue.proofs.PutTurns.{ends_helping}
 use Rattle.orc_queue.proofs.Room.{room_unseen}
 
 -- one node is given, or none
@@ -88,7 +89,7 @@ module _ (n : HeapNumbers) (job turns : ℕ) (h : Hold) (s a b t : Seat FifoNote
     all_puts : Puts s (event_of s Give None ∷ event_of s (Fill g.id 0 job) None ∷ event_of s (Fill g.id 1 0) None ∷ own) t
     all_puts = Puts-trans s a t _ own g.puts (puts_released a b t own q0 w.puts)
 
-    put_call : (r : Result ℕ QueueRefused) (es : List QueueEntry) → r ≢ Err NoNode → b.slots ≡ a.slots → t.fresh ≡ None → entries_of own ≡ es → IsCall (gives_of turns r) turns s es t
+    abbrev put_call : (r : Result ℕ QueueRefused) (es : List QueueEntry) → r ≢ Err NoNode → b.slots ≡ a.slots → t.fresh ≡ None → entries_of own ≡ es → IsCall (gives_of turns r) turns s es t
     put_call r es has same fresh entries =
         let one = gives_one turns r some has in
         record { idle = put_idle same fresh; own = _; puts = all_puts; entries_are = entries; gives = omega (arith, none, one); few = omega (arith, few, one) }
@@ -123,12 +124,12 @@ module _ (n : HeapNumbers) (job turns : ℕ) (h : Hold) (s a b t : Seat FifoNote
       let c = put_call p.own p.puts p.no_give p.few (Err Positions) [] (λ e. cc) p.slots (fresh_released p.slots l.fresh) p.entries_are in
       record { call = c; some_turn = some; full = full_all p.own p.puts p.no_give p.few c l.full }
 
-  pub put_made : (at : ℕ) → PutsJob n (6 * turns) job at a b → PutMade n job at turns s t
+  pub put_made : (at : ℕ) → PutsJob n (6 * turns) EndsHelping job at a b → PutMade n job at turns s t
   put_made at l =
       let p = l.piece in
       let fresh : t.fresh ≡ None = w.fresh ∙ ap (λ o. unless_node o (Some (id_in b.slots h))) l.fresh in
       let c = put_call p.own p.puts p.no_give p.few (Ok at) (Put s.agent job at ∷ []) (λ e. cc) p.slots fresh (p.entries_are ∙ ap (λ (x : ℕ). Put x job at ∷ []) g.puts.agent) in
-      record { call = c; some_turn = some; low = l.low; room = room_all p.own p.puts p.no_give p.few c l.room }
+      record { call = c; some_turn = some; low = l.low; room = room_all p.own p.puts p.no_give p.few c l.room; helps = ends_helping (event_of s Give None ∷ event_of s (Fill g.id 0 job) None ∷ event_of s (Fill g.id 1 0) None ∷ []) p.own l.helps }
 
 -- no turn
 pub put_none : (n : HeapNumbers) (s : Seat FifoNote) → IsIdle s → PutTired n 0 s s
@@ -148,7 +149,7 @@ put_lacking n turns s t idle some o = record {
 }
 
 -- and then the pass settled
-call_settled : (given turns : ℕ) (s t u : Seat FifoNote) (es : List QueueEntry) → IsCall given turns s es t → Only [] t u → IsCall given turns s es u
+abbrev call_settled : (given turns : ℕ) (s t u : Seat FifoNote) (es : List QueueEntry) → IsCall given turns s es t → Only [] t u → IsCall given turns s es u
 call_settled given turns s t u es c o = record {
   idle = record { slots = o.slots ∙ c.idle.slots; fresh = o.fresh ∙ c.idle.fresh };
   own = c.own;
@@ -174,7 +175,7 @@ module _ (n : HeapNumbers) (s t u : Seat FifoNote) (o : Only [] t u) where
   pub put_settled : (job turns : ℕ) (r : Result ℕ QueueRefused) → PutAnswers n job turns s r t → PutAnswers n job turns s r u
   put_settled job turns (Ok at) l =
       let c = call_settled _ turns s t u _ l.call o in
-      record { call = c; some_turn = l.some_turn; low = l.low; room = room_settled l.call c l.room }
+      record { call = c; some_turn = l.some_turn; low = l.low; room = room_settled l.call c l.room; helps = l.helps }
   put_settled job turns (Err Again) l =
       let k = tires_settled _ turns s t u l.tires o in
       record { tires = k; room = room_settled l.tires.call k.call l.room }

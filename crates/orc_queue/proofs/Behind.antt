@@ -22,7 +22,7 @@ use Rattle.orc_fifo_rule.specs.QueueDiscipline.{FifoMay, HasLink, entries_of, li
 use Rattle.orc_fifo_rule.specs.Watches.{WasNamed}
 use Rattle.orc_queue.specs.declared.put.PutTurn.{PutTurn}
 use Rattle.orc_queue.specs.declared.put.PutTurn.TheVariants.{Full, Over as PutOver, Put as PutDone}
-use Rattle.orc_queue.specs.Turns.{FindsFull, Helps, HoldsNode, LinksBehind, PutsBehind, TurnMissed, heap_of}
+use Rattle.orc_queue.specs.Turns.{FindsFull, Helps, HoldsNode, LinksBehind, PutsBehind, SwingsLast, TurnMissed, heap_of}
 use Rattle.orc_queue.proofs.Filled.{Known}
 use Rattle.orc_queue.proofs.Joins.{full_join_left, join, moves_left, moves_right, one_part, puts_released, room_join}
 use Rattle.orc_queue.proofs.Looking.{next_found}
@@ -54,7 +54,7 @@ module _ (n : HeapNumbers) (job tail : ℕ) (h : Hold) (s a t : Seat FifoNote) (
     room_first : position_of (heap_of n a) tail < 2 ^ 62 → FindsFull n s.agent s.seen p.part → ⊥
     room_first low = room_at n s a _ tail p k (new_allowed n s a _ p all_a) named ((λ e. (null, refl)), tt) (omega (arith, low, position_puts n s a _ p all_a tail named.linked))
 
-    pub behind_null : (turn : PutTurn) → LinksBehind n 3 job tail h a turn t → PutsBehind n job tail h s turn t
+    pub behind_null : (turn : PutTurn) → LinksBehind n 3 (SwingsLast tail) job tail h a turn t → PutsBehind n job tail h s turn t
     behind_null PutOver l =
         let q = l.stops.piece in
         let j = join 4 s a t (event_of s (Look (Next tail) null) None ∷ []) q.own [] p q.puts (q.slots ∙ slots) q.entries_are (omega (arith, q.no_give)) (omega (arith, q.few)) in
@@ -74,10 +74,12 @@ module _ (n : HeapNumbers) (job tail : ℕ) (h : Hold) (s a t : Seat FifoNote) (
         }
     behind_null (PutDone at) l =
         let q = l.puts.piece in
+        let h = l.puts.helps in
         let entries : entries_of q.own ≡ Put s.agent job at ∷ [] = q.entries_are ∙ ap (λ (x : ℕ). Put x job at ∷ []) p.agent in
         let j = join 4 s a t (event_of s (Look (Next tail) null) None ∷ []) q.own (Put s.agent job at ∷ []) p q.puts (q.slots ∙ slots) entries (omega (arith, q.no_give)) (omega (arith, q.few)) in
         record {
           piece = j.piece;
+          helps = record { before = event_of s (Look (Next tail) null) None ∷ h.before; keeps = h.keeps; last = h.last; es_are = j.own_is ∙ ap (λ z. event_of s (Look (Next tail) null) None ∷ z) h.es_are; swings = h.swings };
           fresh = l.puts.fresh;
           low = l.puts.low;
           room = room_join n s a t _ _ _ p q.puts j.piece.puts (room_first l.low) l.puts.room;

@@ -15,7 +15,7 @@ use Rattle.orc_heap.specs.Heap.{HeapNumbers}
 use Rattle.orc_heap.specs.Journals.{run_heap}
 use Rattle.orc_heap.specs.Moves.{AllOwn, from_own, gives_in, moves_in}
 use Rattle.orc_heap.specs.Parts.{IsBelow}
-use Rattle.orc_history.specs.Parts.{InPart, part_begin}
+use Rattle.orc_history.specs.Parts.{InPart, IsAlone, part_begin}
 use Rattle.orc_heap.specs.Seats.{Seat}
 use Rattle.orc_heap.specs.declared.events.Event.{Event}
 use Rattle.orc_history.specs.Journals.{Adds, Every, Learns as HistoryLearns, Within, own_of}
@@ -30,8 +30,9 @@ use Rattle.orc_fifo_rule.specs.declared.fifo.FifoNote.{FifoNote}
 use Rattle.orc_fifo_rule.specs.QueueDiscipline.{FifoMay, entries_of, position_of}
 use Rattle.orc_queue.specs.Answers.{CallFindsFull, IsCall, PutAnswers, TakeAnswers, Tires, gives_of}
 use Rattle.orc_queue.specs.Causes.{Cause, LacksPosition, UsesTurns}
-use Rattle.orc_queue.specs.Turns.{FindsFull, HasDummy}
+use Rattle.orc_queue.specs.Turns.{FindsFull, HasDummy, TailIsLast}
 use Rattle.orc_queue.specs.Laws.{first_stays}
+use Rattle.orc_queue.proofs.Alone.{alone_holds, tail_settles}
 use Rattle.orc_queue.proofs.Filled.{Known}
 use Rattle.orc_queue.proofs.Pieces.{gives_in-append, new_allowed}
 use Rattle.orc_queue.proofs.Room.{full_puts}
@@ -171,6 +172,16 @@ module _ {S : Type 0} (n : HeapNumbers) (agents : ℕ) (agent_of : S → ℕ) (e
               let part = e.alone (subst (λ z. list_all (λ (x : S). agent_of x == s.agent) (drop (part_begin agent_of s.agent j k) z) ≡ true) (take-length k) alone) in
               l.busy two (subst (λ z. AllOwn s.agent z) (sym own) (own_from s.agent e.part part));
         }
+
+    -- a put that was alone leaves the tail at the last node
+    pub put_tail : (job turns : ℕ) (r : Result ℕ QueueRefused) → Known n s.seen → PutAnswers n job turns s r t → IfOk r (λ at. IsAlone agent_of s.agent j k → TailIsLast (run_heap n t.seen))
+    put_tail job turns (Ok at) known l = λ alone.
+        let p = l.call.puts in
+        let new : events k ≡ events j ++ p.part = sym is_t ∙ (p.is ∙ ap (λ z. z ++ p.part) is_s) in
+        let e = part_events agent_of events adds s.agent j k p.part grows new in
+        let own : from_own s.agent p.part ≡ from_own s.agent e.part = ap (λ z. from_own s.agent z) e.is ∙ from_own-others s.agent e.gap e.part e.others in
+        alone_holds n TailIsLast s t l.call.own p known all (tail_settles n l.call.own l.helps) (subst (λ z. AllOwn s.agent z) (sym own) (own_from s.agent e.part (e.alone alone)))
+    put_tail job turns (Err why) known l = tt
 
     pub put_again : (job turns : ℕ) (r : Result ℕ QueueRefused) → PutAnswers n job turns s r t → r ≡ Err Again → InPart agent_of s.agent j k (λ from to. UsesTurns agent_of events s.agent turns k from to)
     put_again job turns (Ok at) l is = cc

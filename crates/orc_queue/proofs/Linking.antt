@@ -1,5 +1,5 @@
 -- Linking the new node behind the last one.
-use Rattle.std.proofs.Common.{Bool, List, Option, Some, None, [], ap, append-nil, append_assoc, arith, cond, false, inl, inr, length, refl, subst, sym, ℕ, ◌++◌, ◌+◌, ◌<◌, ◌^◌, ◌∙◌, ◌∷◌, ◌≡◌, ◌≤◌, ◌⊎◌}
+use Rattle.std.proofs.Common.{Bool, List, Option, Some, None, [], ap, append-nil, append_assoc, arith, cond, false, inl, inr, refl, subst, sym, ℕ, ◌++◌, ◌+◌, ◌<◌, ◌^◌, ◌∙◌, ◌∷◌, ◌≡◌, ◌⊎◌}
 use Rattle.std.proofs.lemmas.Bool.{eq-eqb}
 use Rattle.std.proofs.lemmas.List.{length-append}
 use Rattle.std.specs.List.{list_any, slice_get}
@@ -29,7 +29,7 @@ use Rattle.orc_fifo_rule.specs.Kept.Nodes.{link_next}
 use Rattle.orc_fifo_rule.specs.Kept.Paths.{has_link}
 use Rattle.orc_queue.specs.declared.put.PutTurn.{PutTurn}
 use Rattle.orc_queue.specs.declared.put.PutTurn.TheVariants.{Full, Over as PutOver, Put as PutDone}
-use Rattle.orc_queue.specs.Turns.{Helps, HoldsNode, LinkMissed, LinksBehind, LinksJob, heap_of, looks_at_end}
+use Rattle.orc_queue.specs.Turns.{Helps, HoldsNode, KeepsTail, LinkMissed, LinksBehind, LinksJob, SwingsLast, SwingsTail, heap_of, looks_at_end}
 use Rattle.orc_queue.proofs.Filled.{Known}
 use Rattle.orc_queue.proofs.Joins.{join, room_join}
 use Rattle.orc_queue.proofs.Looking.{position_read}
@@ -106,7 +106,7 @@ module _ (n : HeapNumbers) (job at tail : ℕ) (h : Hold) (s a b : Seat FifoNote
     -- the node is linked
     pub link_made : (t : Seat FifoNote) (agent : ℕ) → AllAllowed (FifoMay n) [] t.seen → agent ≡ s.agent → t.slots ≡ b.slots → t.fresh ≡ unless_node b.fresh (Some (id_in b.slots h))
         → Puts b (event_of b (Move (Next tail) null (link_to (id_in b.slots h))) (Some (Entry (Put agent job at))) ∷ []) t
-        → position_of (heap_of n s) tail < 2 ^ 62 → at ≡ position_of (heap_of n s) tail → LinksJob n 2 job tail at h s t
+        → position_of (heap_of n s) tail < 2 ^ 62 → at ≡ position_of (heap_of n s) tail → LinksJob n 2 KeepsTail job tail at h s t
     link_made t agent all agent_is slots fresh put low at_is =
         let e : Event FifoNote = event_of a (Fill (id_in a.slots h) 1 (at + 1)) None in
         let m : Event FifoNote = event_of b (Move (Next tail) null (link_to (id_in b.slots h))) (Some (Entry (Put agent job at))) in
@@ -114,6 +114,7 @@ module _ (n : HeapNumbers) (job at tail : ℕ) (h : Hold) (s a b : Seat FifoNote
         record {
           puts = record {
             piece = record { own = _; slots = slots ∙ filled_slots; puts = p; entries_are = ap (λ (x : ℕ). Put x job at ∷ []) agent_is; no_give = refl; few = omega arith };
+            helps = refl;
             fresh = fresh ∙ (ap (λ o. unless_node o (Some (id_in b.slots h))) filled_fresh ∙ unless_same (id_in b.slots h));
             low = omega (arith, low, at_is);
             room = room_unseen n s t _ p refl;
@@ -137,23 +138,29 @@ pub read_position : (n : HeapNumbers) (s a : Seat FifoNote) (tail value : ℕ) �
 read_position n s a tail value k o l r = position_read n a.seen tail value k (linked_puts n s a [] o.puts k.all tail l) r ∙ position_puts n s a [] o.puts k.all tail l
 
 -- and then the tail was swung on, or not
-pub link_helped : (n : HeapNumbers) (job tail next at : ℕ) (h : Hold) (s c t : Seat FifoNote) → AllAllowed (FifoMay n) [] t.seen → LinksJob n 2 job tail at h s c → Helps tail next c t → LinksJob n 3 job tail at h s t
-link_helped n job tail next at h s c t all l helped = elim helped.either [ inl moved ↦ done _ moved refl refl refl (omega arith) | inr missed ↦ done _ missed.puts refl refl refl (omega arith) ]
+pub link_helped : (n : HeapNumbers) (job tail next at : ℕ) (h : Hold) (s c t : Seat FifoNote) → AllAllowed (FifoMay n) [] t.seen → LinksJob n 2 KeepsTail job tail at h s c → Helps tail next c t → LinksJob n 3 (SwingsLast tail) job tail at h s t
+link_helped n job tail next at h s c t all l helped =
+    elim helped.either [
+      | inl moved ↦ done _ moved refl refl refl (inl (next, refl))
+      | inr missed ↦ done _ missed.puts refl refl refl (inr (missed.found, refl))
+    ]
   where
-    done : (own : List (Event FifoNote)) (q : Puts c own t) → entries_of own ≡ [] → gives_in own ≡ 0 → list_any (λ e. looks_at_end e.act) own ≡ false → length own ≤ 1 → LinksJob n 3 job tail at h s t
-    done own q none no_give unseen one =
+    done : (e : Event FifoNote) (q : Puts c (e ∷ []) t) → entries_of (e ∷ []) ≡ [] → gives_in (e ∷ []) ≡ 0 → list_any (λ x. looks_at_end x.act) (e ∷ []) ≡ false → SwingsTail tail e → LinksJob n 3 (SwingsLast tail) job tail at h s t
+    done e q none no_give unseen swings =
         let p = l.puts.piece in
-        let j = join 3 s c t p.own own (Put s.agent job at ∷ []) p.puts q (helped.slots ∙ p.slots)
-        (entries_of-append p.own own ∙ (ap (λ z. entries_of p.own ++ z) none ∙ (append-nil (entries_of p.own) ∙ p.entries_are))) (omega (arith, gives_in-append p.own own, p.no_give, no_give)) (omega (arith, length-append p.own own, p.few, one)) in
+        let j = join 3 s c t p.own (e ∷ []) (Put s.agent job at ∷ []) p.puts q (helped.slots ∙ p.slots)
+        (entries_of-append p.own (e ∷ []) ∙ (ap (λ z. entries_of p.own ++ z) none ∙ (append-nil (entries_of p.own) ∙ p.entries_are))) (omega (arith, gives_in-append p.own (e ∷ []), p.no_give, no_give))
+        (omega (arith, length-append p.own (e ∷ []), p.few)) in
         record {
           puts = record {
             piece = j.piece;
+            helps = record { before = p.own; keeps = l.puts.helps; last = e; es_are = j.own_is; swings = swings };
             fresh = helped.fresh ∙ l.puts.fresh;
             low = l.puts.low;
-            room = room_join n s c t _ _ _ p.puts q j.piece.puts l.puts.room (room_unseen n c t own q unseen);
+            room = room_join n s c t _ _ _ p.puts q j.piece.puts l.puts.room (room_unseen n c t (e ∷ []) q unseen);
           };
           low = l.low;
-          link = link_puts n c t own q all tail (id_in s.slots h) l.link;
+          link = link_puts n c t (e ∷ []) q all tail (id_in s.slots h) l.link;
         }
 
 -- what the pass holds after the link
@@ -163,7 +170,7 @@ pub record LinkKept (s t : Seat FifoNote) : Type 0 where
   pub puts : Puts s own t
   pub fresh : (t.fresh ≡ s.fresh) ⊎ (t.fresh ≡ None)
 
-pub link_kept : (n : HeapNumbers) (most job tail : ℕ) (h : Hold) (s t : Seat FifoNote) (turn : PutTurn) → LinksBehind n most job tail h s turn t → LinkKept s t
-link_kept n most job tail h s t PutOver l = record { own = l.stops.piece.own; slots = l.stops.piece.slots; puts = l.stops.piece.puts; fresh = inl l.stops.fresh }
-link_kept n most job tail h s t (PutDone at) l = record { own = l.puts.piece.own; slots = l.puts.piece.slots; puts = l.puts.piece.puts; fresh = inr l.puts.fresh }
-link_kept n most job tail h s t Full l = record { own = l.piece.own; slots = l.piece.slots; puts = l.piece.puts; fresh = inl l.fresh }
+pub link_kept : (n : HeapNumbers) (most : ℕ) (IsHelping : List (Event FifoNote) → Type 0) (job tail : ℕ) (h : Hold) (s t : Seat FifoNote) (turn : PutTurn) → LinksBehind n most IsHelping job tail h s turn t → LinkKept s t
+link_kept n most IsHelping job tail h s t PutOver l = record { own = l.stops.piece.own; slots = l.stops.piece.slots; puts = l.stops.piece.puts; fresh = inl l.stops.fresh }
+link_kept n most IsHelping job tail h s t (PutDone at) l = record { own = l.puts.piece.own; slots = l.puts.piece.slots; puts = l.puts.piece.puts; fresh = inr l.puts.fresh }
+link_kept n most IsHelping job tail h s t Full l = record { own = l.piece.own; slots = l.piece.slots; puts = l.piece.puts; fresh = inl l.fresh }

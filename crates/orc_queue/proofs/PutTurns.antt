@@ -25,7 +25,7 @@ use Rattle.orc_fifo_rule.specs.Kept.Events.{begun_more, entries_of-append}
 use Rattle.orc_fifo_rule.specs.Kept.Kinds.{link_same, null_to, some_same}
 use Rattle.orc_queue.specs.declared.put.PutTurn.{PutTurn}
 use Rattle.orc_queue.specs.declared.put.PutTurn.TheVariants.{Full, Over as PutOver, Put as PutDone}
-use Rattle.orc_queue.specs.Turns.{AreOver, FindsFull, HoldsNode, IsOver, Piece, PutMissed, PutTires, PutsBehind, PutsTurn, PutsTurns, TailIsLast, heap_of}
+use Rattle.orc_queue.specs.Turns.{AreOver, EndsHelping, FindsFull, HoldsNode, IsOver, Piece, PutMissed, PutTires, PutsBehind, PutsTurn, PutsTurns, TailIsLast, heap_of}
 use Rattle.orc_queue.proofs.Alone.{over_helped, over_missed, over_quiet, swing_settles}
 use Rattle.orc_queue.proofs.Filled.{Known}
 use Rattle.orc_queue.proofs.Joins.{full_join_left, full_join_right, join, moves_left, one_part, puts_released, room_join}
@@ -94,7 +94,7 @@ module _ (n : HeapNumbers) (job tail : ℕ) (h : Hold) (s a b t : Seat FifoNote)
         ] in
         record {
           over = over;
-          room = room_join n s a t _ _ _ p q over.piece.puts first_room (room_join n a b t _ _ _ q0.puts freed q l.room (room_unseen n b t [] freed refl));
+          room = room_join n s a t _ _ over.piece.own p q over.piece.puts first_room (room_join n a b t _ _ _ q0.puts freed q l.room (room_unseen n b t [] freed refl));
           node = node_held n b t [] freed all_t job h l.node.second kb l.node held same_id fresh_t refl refl;
         }
     turn_done (PutDone at) l =
@@ -104,6 +104,7 @@ module _ (n : HeapNumbers) (job tail : ℕ) (h : Hold) (s a b t : Seat FifoNote)
         let j = join 6 s a t (at_tail n s tail 0 ∷ at_tail n s tail 0 ∷ []) q0.own (Put s.agent job at ∷ []) p q slots entries (omega (arith, q0.no_give)) (omega (arith, q0.few)) in
         record {
           piece = j.piece;
+          helps = record { before = at_tail n s tail 0 ∷ []; tail = tail; look = at_tail n s tail 0; sees = refl; rest = q0.own; es_are = j.own_is; swings = l.helps };
           fresh = fresh_t ∙ l.fresh;
           low = l.low;
           room = room_join n s a t _ _ _ p q j.piece.puts first_room (room_join n a b t _ _ _ q0.puts freed q l.room (room_unseen n b t [] freed refl));
@@ -171,6 +172,10 @@ tires_next n job turns h s t u all one =
     let over = over_next n TailIsLast turns s t u all.over one.over in
     record { over = over; room = room_join n s t u _ _ _ all.over.piece.puts one.over.piece.puts over.piece.puts all.room one.room; node = one.node }
 
+-- the help of the tail after other events
+pub ends_helping : (es fs : List (Event FifoNote)) → EndsHelping fs → EndsHelping (es ++ fs)
+ends_helping es fs h = record { before = es ++ h.before; tail = h.tail; look = h.look; sees = h.sees; rest = h.rest; es_are = ap (λ z. es ++ z) h.es_are ∙ sym (append_assoc es h.before (h.look ∷ h.rest)); swings = h.swings }
+
 -- the turn that answers
 pub turns_done : (n : HeapNumbers) (job turns more : ℕ) (h : Hold) (s t u : Seat FifoNote) (turn : PutTurn) → turn ≢ PutOver → turns < more → PutTires n job turns h s t → PutsTurn n job h t turn u → PutsTurns n job more h s turn u
 turns_done n job turns more h s t u PutOver ne low all one = absurd (ne refl)
@@ -179,7 +184,7 @@ turns_done n job turns more h s t u (PutDone at) ne low all one =
     let r = one.piece in
     let entries : entries_of (q.own ++ r.own) ≡ Put s.agent job at ∷ [] = entries_of-append q.own r.own ∙ (ap (λ z. z ++ entries_of r.own) q.entries_are ∙ (r.entries_are ∙ ap (λ (x : ℕ). Put x job at ∷ []) q.puts.agent)) in
     let j = join (6 * more) s t u q.own r.own (Put s.agent job at ∷ []) q.puts r.puts (r.slots ∙ q.slots) entries (omega (arith, gives_in-append q.own r.own, q.no_give, r.no_give)) (omega (arith, length-append q.own r.own, q.few, r.few, low)) in
-    record { piece = j.piece; fresh = one.fresh; low = one.low; room = room_join n s t u _ _ _ q.puts r.puts j.piece.puts all.room one.room }
+    record { piece = j.piece; helps = subst EndsHelping (sym j.own_is) (ends_helping q.own r.own one.helps); fresh = one.fresh; low = one.low; room = room_join n s t u _ _ _ q.puts r.puts j.piece.puts all.room one.room }
 turns_done n job turns more h s t u Full ne low all one =
     let q = all.over.piece in
     let r = one.piece in

@@ -13,7 +13,7 @@ use Rattle.orc_history.specs.declared.queue.QueueRefused.{QueueRefused}
 use Rattle.orc_history.specs.declared.queue.QueueRefused.TheVariants.{Again, NoNode, Positions}
 use Rattle.orc_fifo_rule.specs.declared.fifo.FifoNote.{FifoNote}
 use Rattle.orc_fifo_rule.specs.QueueDiscipline.{entries_of}
-use Rattle.orc_queue.specs.Turns.{FindsFull}
+use Rattle.orc_queue.specs.Turns.{EndsHelping, FindsFull}
 
 -- a call of so many turns that leaves the pass idle: its own events enter these entries and give so many nodes; at most 6 of
 -- them are of each turn, and 3 of each node that is given
@@ -65,6 +65,7 @@ pub record PutMade (n : HeapNumbers) (job at turns : ℕ) (s t : Seat FifoNote) 
   pub some_turn : turns ≢ 0
   pub low : at < 2 ^ 62
   pub room : HasRoom n call
+  pub helps : EndsHelping call.own
 
 abbrev pub PutAnswers : HeapNumbers → ℕ → ℕ → Seat FifoNote → Result ℕ QueueRefused → Seat FifoNote → Type 0
 PutAnswers n job turns s (Ok at) t = PutMade n job at turns s t

@@ -1,14 +1,15 @@
 -- What the turns of a call do. After Michael and Scott 1996.
 use Rattle.std.specs.Prelude.{Bool, List, None, Option, Some, [], false, is_some, length, not, slice_get, true, ℕ, ◌*◌, ◌++◌, ◌+◌, ◌<◌, ◌^◌, ◌∷◌, ◌≡◌, ◌≢◌, ◌≤◌, ◌⊎◌}
+use Rattle.std.specs.List.{list_any}
 use Rattle.orc_heap.specs.Calls.{Misses, event_of, given_node}
 use Rattle.orc_heap.specs.Heap.{Heap, HeapNumbers, Node, null, shown}
 use Rattle.orc_heap.specs.Journals.{run_heap}
-use Rattle.orc_heap.specs.Moves.{AllOwn, from_own, gives_in, moves_in}
+use Rattle.orc_heap.specs.Moves.{AllOwn, from_own, gives_in, moves_in, moves_place}
 use Rattle.orc_heap.specs.Parts.{Puts}
 use Rattle.orc_heap.specs.Seats.{Seat}
 use Rattle.orc_heap.specs.Slots.{Hold, Holds, id_in}
 use Rattle.orc_heap.specs.declared.events.Act.{Act}
-use Rattle.orc_heap.specs.declared.events.Act.TheVariants.{Look, Move}
+use Rattle.orc_heap.specs.declared.events.Act.TheVariants.{Look, Miss, Move}
 use Rattle.orc_heap.specs.declared.events.Event.{Event}
 use Rattle.orc_heap.specs.declared.events.Link.{Link}
 use Rattle.orc_heap.specs.declared.events.Place.{Place}
@@ -112,9 +113,37 @@ pub record HoldsNode (n : HeapNumbers) (job : ℕ) (h : Hold) (s : Seat FifoNote
   pub second : ℕ
   pub node : slice_get (heap_of n s).nodes (id_in s.slots h) ≡ Some (given_node s.agent job second)
 
--- the job was put, at a position that there is
-pub record PutsJob (n : HeapNumbers) (most job at : ℕ) (s t : Seat FifoNote) : Type 0 where
+-- no event moves root 1
+abbrev pub KeepsTail : List (Event FifoNote) → Type 0
+KeepsTail es = list_any (λ e. moves_place (Root 1) e.act) es ≡ false
+
+-- the event swings root 1 on from this node, or finds that root 1 names it no more
+abbrev pub SwingsTail : ℕ → Event FifoNote → Type 0
+SwingsTail tail e =
+    ((next : ℕ) × (e ≡ record { agent = e.agent; act = Move (Root 1) (link_to tail) (link_to next); note = Some Swing })) ⊎ ((found : Link) × (e.act ≡ Miss (Root 1) (link_to tail) found))
+
+-- the last event does, and no event before it moves root 1
+pub record SwingsLast (tail : ℕ) (es : List (Event FifoNote)) : Type 0 where
+  pub before : List (Event FifoNote)
+  pub keeps : KeepsTail before
+  pub last : Event FifoNote
+  pub es_are : es ≡ before ++ last ∷ []
+  pub swings : SwingsTail tail last
+
+-- the events end with help of the tail: a look at the node that root 1 names, and events of which the last swings root 1 on
+pub record EndsHelping (es : List (Event FifoNote)) : Type 0 where
+  pub before : List (Event FifoNote)
+  pub tail : ℕ
+  pub look : Event FifoNote
+  pub sees : look.act ≡ Look (Root 1) (link_to tail)
+  pub rest : List (Event FifoNote)
+  pub es_are : es ≡ before ++ look ∷ rest
+  pub swings : SwingsLast tail rest
+
+-- the job was put, at a position that there is, and so did the own events help the tail on
+pub record PutsJob (n : HeapNumbers) (most : ℕ) (IsHelping : List (Event FifoNote) → Type 0) (job at : ℕ) (s t : Seat FifoNote) : Type 0 where
   pub piece : Piece most s (Put s.agent job at ∷ []) t
+  pub helps : IsHelping piece.own
   pub fresh : t.fresh ≡ None
   pub low : at < 2 ^ 62
   pub room : FindsFull n s.agent s.seen piece.puts.part → ⊥
@@ -138,15 +167,15 @@ pub record NoPosition (n : HeapNumbers) (tail : ℕ) (s t : Seat FifoNote) : Typ
   pub fresh : t.fresh ≡ s.fresh
   pub none : 2 ^ 62 ≤ position_of (heap_of n s) tail
 
-pub record LinksJob (n : HeapNumbers) (most job tail at : ℕ) (h : Hold) (s t : Seat FifoNote) : Type 0 where
-  pub puts : PutsJob n most job at s t
+pub record LinksJob (n : HeapNumbers) (most : ℕ) (IsHelping : List (Event FifoNote) → Type 0) (job tail at : ℕ) (h : Hold) (s t : Seat FifoNote) : Type 0 where
+  pub puts : PutsJob n most IsHelping job at s t
   pub low : position_of (heap_of n s) tail < 2 ^ 62
   pub link : HasLink (heap_of n t) tail (link_to (id_in s.slots h))
 
-abbrev pub LinksBehind : HeapNumbers → ℕ → ℕ → ℕ → Hold → Seat FifoNote → PutTurn → Seat FifoNote → Type 0
-LinksBehind n most job tail h s PutOver t = LinkMissed n job tail h s t
-LinksBehind n most job tail h s (PutDone at) t = LinksJob n most job tail at h s t
-LinksBehind n most job tail h s Full t = NoPosition n tail s t
+abbrev pub LinksBehind : HeapNumbers → ℕ → (List (Event FifoNote) → Type 0) → ℕ → ℕ → Hold → Seat FifoNote → PutTurn → Seat FifoNote → Type 0
+LinksBehind n most IsHelping job tail h s PutOver t = LinkMissed n job tail h s t
+LinksBehind n most IsHelping job tail h s (PutDone at) t = LinksJob n most IsHelping job tail at h s t
+LinksBehind n most IsHelping job tail h s Full t = NoPosition n tail s t
 
 -- the own events of a pass that helps, from its looks at the successor on
 abbrev pub HelpsBehind : Seat FifoNote → ℕ → List (Event FifoNote) → Type 0
@@ -161,7 +190,7 @@ pub record TurnMissed (n : HeapNumbers) (job tail : ℕ) (h : Hold) (s t : Seat 
 
 abbrev pub PutsBehind : HeapNumbers → ℕ → ℕ → Hold → Seat FifoNote → PutTurn → Seat FifoNote → Type 0
 PutsBehind n job tail h s PutOver t = TurnMissed n job tail h s t
-PutsBehind n job tail h s (PutDone at) t = PutsJob n 4 job at s t
+PutsBehind n job tail h s (PutDone at) t = PutsJob n 4 (SwingsLast tail) job at s t
 PutsBehind n job tail h s Full t = IsFull n 4 s t
 
 -- a turn of a put
@@ -172,7 +201,7 @@ pub record PutMissed (n : HeapNumbers) (job : ℕ) (h : Hold) (s t : Seat FifoNo
 
 abbrev pub PutsTurn : HeapNumbers → ℕ → Hold → Seat FifoNote → PutTurn → Seat FifoNote → Type 0
 PutsTurn n job h s PutOver t = PutMissed n job h s t
-PutsTurn n job h s (PutDone at) t = PutsJob n 6 job at s t
+PutsTurn n job h s (PutDone at) t = PutsJob n 6 EndsHelping job at s t
 PutsTurn n job h s Full t = IsFull n 6 s t
 
 -- so many turns of a put
@@ -183,7 +212,7 @@ pub record PutTires (n : HeapNumbers) (job turns : ℕ) (h : Hold) (s t : Seat F
 
 abbrev pub PutsTurns : HeapNumbers → ℕ → ℕ → Hold → Seat FifoNote → PutTurn → Seat FifoNote → Type 0
 PutsTurns n job turns h s PutOver t = PutTires n job turns h s t
-PutsTurns n job turns h s (PutDone at) t = PutsJob n (6 * turns) job at s t
+PutsTurns n job turns h s (PutDone at) t = PutsJob n (6 * turns) EndsHelping job at s t
 PutsTurns n job turns h s Full t = IsFull n (6 * turns) s t
 
 -- a job was taken

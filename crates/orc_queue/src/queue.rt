@@ -15,7 +15,7 @@ ghost use Rattle.orc_fifo_rule.specs.QueueDiscipline.{entries_of, position_of};
 ghost use Rattle.orc_queue.specs.Answers.{CallFindsFull, gives_of};
 ghost use Rattle.orc_queue.specs.Causes.{Cause, UsesTurns};
 ghost use Rattle.orc_queue.specs.Laws.{cause_puts, cause_stays, entries_below, history_grows, seen_legal};
-ghost use Rattle.orc_queue.specs.Turns.{HasDummy};
+ghost use Rattle.orc_queue.specs.Turns.{HasDummy, TailIsLast};
 
 use crate::put::put_job;
 use crate::take::take_job;
@@ -80,6 +80,8 @@ impl<L: Links<Rule = Fifo>> Queue<L> {
             ≡ gives_in (events_by (L.seat self.now.links p.old).agent (L.seat self.now.links p.old).seen) + gives_of turns result }
         ensures tries { length (events_by (L.seat self.now.links p.old).agent (L.seat self.now.links p.new).seen)
             ≤ length (events_by (L.seat self.now.links p.old).agent (L.seat self.now.links p.old).seen) + 6 * turns + 3 * gives_of turns result }
+        ensures tail { IfOk result (λ at. IsAlone L.agent_of (L.seat self.now.links p.old).agent (L.journal p.old) (L.journal p.new)
+            → TailIsLast (run_heap (L.numbers self.now.links) (L.seat self.now.links p.new).seen)) }
         ensures settled { IsAlone L.agent_of (L.seat self.now.links p.old).agent (L.journal p.old) (L.journal p.new) → L.backlog p.new ≡ 0 }
     {
         let answer = put_job(&self.links, p, job, turns);
