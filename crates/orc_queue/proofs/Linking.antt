@@ -29,13 +29,13 @@ use Rattle.orc_fifo_rule.specs.Kept.Nodes.{link_next}
 use Rattle.orc_fifo_rule.specs.Kept.Paths.{has_link}
 use Rattle.orc_queue.specs.declared.put.PutTurn.{PutTurn}
 use Rattle.orc_queue.specs.declared.put.PutTurn.TheVariants.{Full, Over as PutOver, Put as PutDone}
-use Rattle.orc_queue.specs.Turns.{Helps, HoldsNode, KeepsTail, LinkMissed, LinksBehind, LinksJob, SwingsLast, SwingsTail, heap_of, looks_at_end}
+use Rattle.orc_queue.specs.Turns.{Helps, HoldsNode, KeepsTail, LinkMissed, LinksBehind, LinksJob, SwingsLast, SwingsTail, heap_of}
 use Rattle.orc_queue.proofs.Filled.{Known}
 use Rattle.orc_queue.proofs.Joins.{join, room_join}
 use Rattle.orc_queue.proofs.Looking.{position_read}
 use Rattle.orc_queue.proofs.Moments.{miss_moved, moment, seen_is}
 use Rattle.orc_queue.proofs.Pieces.{gives_in-append, link_puts, linked_puts, named_puts, node_puts, node_touched, position_puts}
-use Rattle.orc_queue.proofs.Room.{room_unseen}
+use Rattle.orc_queue.proofs.Room.{looks_at_end, room_unseen}
 
 -- the Move that links a new node behind this one: its link leads there from then on
 pub put_links : (n : HeapNumbers) (s t : Seat FifoNote) (id to : ℕ) (noted : Option FifoNote) → Puts s (event_of s (Move (Next id) null (link_to to)) noted ∷ []) t → AllAllowed (FifoMay n) [] t.seen

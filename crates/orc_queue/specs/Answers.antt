@@ -45,21 +45,24 @@ gives_of zero result = 0
 gives_of (suc turns) (Err NoNode) = 0
 gives_of (suc turns) result = 1
 
--- a put, by its answer
+-- a put that used all its turns, and found room
 pub record PutTired (n : HeapNumbers) (turns : ℕ) (s t : Seat FifoNote) : Type 0 where
   pub tires : Tires (gives_of turns (Err Again)) turns s t
   pub room : HasRoom n tires.call
 
+-- a put for which no node could be had
 pub record PutLacking (n : HeapNumbers) (turns : ℕ) (s t : Seat FifoNote) : Type 0 where
   pub call : IsCall (gives_of turns (Err NoNode)) turns s [] t
   pub some_turn : turns ≢ 0
   pub room : HasRoom n call
 
+-- a put that found no position left
 pub record PutFull (n : HeapNumbers) (turns : ℕ) (s t : Seat FifoNote) : Type 0 where
   pub call : IsCall (gives_of turns (Err Positions)) turns s [] t
   pub some_turn : turns ≢ 0
   pub full : FindsFull n s.agent s.seen call.puts.part
 
+-- a put that put its job at this position, and then helped the tail on
 pub record PutMade (n : HeapNumbers) (job at turns : ℕ) (s t : Seat FifoNote) : Type 0 where
   pub call : IsCall (gives_of turns (Ok at)) turns s (Put s.agent job at ∷ []) t
   pub some_turn : turns ≢ 0
@@ -67,17 +70,19 @@ pub record PutMade (n : HeapNumbers) (job at turns : ℕ) (s t : Seat FifoNote) 
   pub room : HasRoom n call
   pub helps : EndsHelping call.own
 
+-- a put, by its answer
 abbrev pub PutAnswers : HeapNumbers → ℕ → ℕ → Seat FifoNote → Result ℕ QueueRefused → Seat FifoNote → Type 0
 PutAnswers n job turns s (Ok at) t = PutMade n job at turns s t
 PutAnswers n job turns s (Err Again) t = PutTired n turns s t
 PutAnswers n job turns s (Err NoNode) t = PutLacking n turns s t
 PutAnswers n job turns s (Err Positions) t = PutFull n turns s t
 
--- a take: its entry is a Took, or Empty where the answer is None
+-- a take that answered: its entry is a Took, or Empty where the answer is None
 pub record TakeMade (turns : ℕ) (got : Option (ℕ × ℕ)) (s t : Seat FifoNote) : Type 0 where
   pub call : IsCall 0 turns s (entry_of_dequeue s.agent got ∷ []) t
   pub some_turn : turns ≢ 0
 
+-- a take, by its answer
 abbrev pub TakeAnswers : ℕ → Seat FifoNote → Result (Option (ℕ × ℕ)) AgainFault → Seat FifoNote → Type 0
 TakeAnswers turns s (Ok got) t = TakeMade turns got s t
 TakeAnswers turns s (Err again) t = Tires 0 turns s t

@@ -1,6 +1,7 @@
 -- What the turns of a call do. After Michael and Scott 1996.
-use Rattle.std.specs.Prelude.{Bool, List, None, Option, Some, [], false, is_some, length, not, slice_get, true, ℕ, ◌*◌, ◌++◌, ◌+◌, ◌<◌, ◌^◌, ◌∷◌, ◌≡◌, ◌≢◌, ◌≤◌, ◌⊎◌}
+use Rattle.std.specs.Prelude.{Bool, List, None, Option, Some, [], false, is_some, length, slice_get, true, ℕ, ◌*◌, ◌++◌, ◌+◌, ◌<◌, ◌^◌, ◌∷◌, ◌≡◌, ◌≢◌, ◌≤◌, ◌⊎◌}
 use Rattle.std.specs.List.{list_any}
+use Rattle.orc_heap.specs.Allowed.{IsLinkedNode}
 use Rattle.orc_heap.specs.Calls.{Misses, event_of, given_node}
 use Rattle.orc_heap.specs.Heap.{Heap, HeapNumbers, Node, null, shown}
 use Rattle.orc_heap.specs.Journals.{run_heap}
@@ -8,7 +9,6 @@ use Rattle.orc_heap.specs.Moves.{AllOwn, from_own, gives_in, moves_in, moves_pla
 use Rattle.orc_heap.specs.Parts.{Puts}
 use Rattle.orc_heap.specs.Seats.{Seat}
 use Rattle.orc_heap.specs.Slots.{Hold, Holds, id_in}
-use Rattle.orc_heap.specs.declared.events.Act.{Act}
 use Rattle.orc_heap.specs.declared.events.Act.TheVariants.{Look, Miss, Move}
 use Rattle.orc_heap.specs.declared.events.Event.{Event}
 use Rattle.orc_heap.specs.declared.events.Link.{Link}
@@ -38,15 +38,12 @@ pub record HasDummy (n : HeapNumbers) (es : List (Event FifoNote)) : Type 0 wher
 abbrev pub next_position : HeapNumbers → List (Event FifoNote) → ℕ
 next_position n es = position_of (run_heap n es) 0 + puts_in (entries_of es)
 
--- the act is a Look that finds the null link of a node
-abbrev pub looks_at_end : Act → Bool
-looks_at_end (Look (Next id) link) = not (is_some link.to)
-looks_at_end act = false
-
--- this event is a Look of the agent's own at the end of the queue, and no position is left
+-- this event is a Look of the agent's own at the end of the queue, the null link of a once linked node; and no position is left
 pub record IsFullLook (n : HeapNumbers) (agent : ℕ) (seen : List (Event FifoNote)) (e : Event FifoNote) : Type 0 where
   pub mine : e.agent ≡ agent
-  pub at_end : looks_at_end e.act ≡ true
+  pub id : ℕ
+  pub linked : IsLinkedNode (run_heap n seen) id
+  pub at_end : e.act ≡ Look (Next id) null
   pub full : 2 ^ 62 ≤ next_position n seen
 
 -- some event among these is such a Look
@@ -154,24 +151,26 @@ pub record IsFull (n : HeapNumbers) (most : ℕ) (s t : Seat FifoNote) : Type 0 
   pub fresh : t.fresh ≡ s.fresh
   pub full : FindsFull n s.agent s.seen piece.puts.part
 
--- behind a node with a null link: the new node was linked there; or not, and if the link was null before, then a Move stands
--- in what is new; or no position is left
+-- behind a node with a null link, the new node was not linked: if the link was null before, then a Move stands in what is new
 pub record LinkMissed (n : HeapNumbers) (job tail : ℕ) (h : Hold) (s t : Seat FifoNote) : Type 0 where
   pub stops : Stops n 2 (Next tail) null (λ own. ⊥) s t
   pub room : FindsFull n s.agent s.seen stops.piece.puts.part → ⊥
   pub low : position_of (heap_of n s) tail < 2 ^ 62
   pub node : HoldsNode n job h t
 
+-- nor was it where the node has no position behind it
 pub record NoPosition (n : HeapNumbers) (tail : ℕ) (s t : Seat FifoNote) : Type 0 where
   pub piece : Piece 0 s [] t
   pub fresh : t.fresh ≡ s.fresh
   pub none : 2 ^ 62 ≤ position_of (heap_of n s) tail
 
+-- the new node was linked there, and the link leads to it from then on
 pub record LinksJob (n : HeapNumbers) (most : ℕ) (IsHelping : List (Event FifoNote) → Type 0) (job tail at : ℕ) (h : Hold) (s t : Seat FifoNote) : Type 0 where
   pub puts : PutsJob n most IsHelping job at s t
   pub low : position_of (heap_of n s) tail < 2 ^ 62
   pub link : HasLink (heap_of n t) tail (link_to (id_in s.slots h))
 
+-- each of these by its answer
 abbrev pub LinksBehind : HeapNumbers → ℕ → (List (Event FifoNote) → Type 0) → ℕ → ℕ → Hold → Seat FifoNote → PutTurn → Seat FifoNote → Type 0
 LinksBehind n most IsHelping job tail h s PutOver t = LinkMissed n job tail h s t
 LinksBehind n most IsHelping job tail h s (PutDone at) t = LinksJob n most IsHelping job tail at h s t
@@ -182,34 +181,37 @@ abbrev pub HelpsBehind : Seat FifoNote → ℕ → List (Event FifoNote) → Typ
 HelpsBehind s tail own = (next : ℕ) × (own ≡ event_of s (Look (Next tail) (link_to next)) None ∷ event_of s (Look (Next tail) (link_to next)) None
     ∷ event_of s (Move (Root 1) (link_to tail) (link_to next)) (Some Swing) ∷ [])
 
--- behind the node that root 1 named: as above
+-- behind the node that root 1 named, the new node was not linked: if root 1 named the node before, then a Move stands in what is new
 pub record TurnMissed (n : HeapNumbers) (job tail : ℕ) (h : Hold) (s t : Seat FifoNote) : Type 0 where
   pub stops : Stops n 4 (Root 1) (link_to tail) (HelpsBehind s tail) s t
   pub room : FindsFull n s.agent s.seen stops.piece.puts.part → ⊥
   pub node : HoldsNode n job h t
 
+-- a turn of a put from that node on, by its answer
 abbrev pub PutsBehind : HeapNumbers → ℕ → ℕ → Hold → Seat FifoNote → PutTurn → Seat FifoNote → Type 0
 PutsBehind n job tail h s PutOver t = TurnMissed n job tail h s t
 PutsBehind n job tail h s (PutDone at) t = PutsJob n 4 (SwingsLast tail) job at s t
 PutsBehind n job tail h s Full t = IsFull n 4 s t
 
--- a turn of a put
+-- a turn of a put that is over
 pub record PutMissed (n : HeapNumbers) (job : ℕ) (h : Hold) (s t : Seat FifoNote) : Type 0 where
   pub over : IsOver n TailIsLast s t
   pub room : FindsFull n s.agent s.seen over.piece.puts.part → ⊥
   pub node : HoldsNode n job h t
 
+-- a turn of a put, by its answer
 abbrev pub PutsTurn : HeapNumbers → ℕ → Hold → Seat FifoNote → PutTurn → Seat FifoNote → Type 0
 PutsTurn n job h s PutOver t = PutMissed n job h s t
 PutsTurn n job h s (PutDone at) t = PutsJob n 6 EndsHelping job at s t
 PutsTurn n job h s Full t = IsFull n 6 s t
 
--- so many turns of a put
+-- so many turns of a put that are over
 pub record PutTires (n : HeapNumbers) (job turns : ℕ) (h : Hold) (s t : Seat FifoNote) : Type 0 where
   pub over : AreOver n TailIsLast turns s t
   pub room : FindsFull n s.agent s.seen over.piece.puts.part → ⊥
   pub node : HoldsNode n job h t
 
+-- at most so many turns of a put, by the answer of the last
 abbrev pub PutsTurns : HeapNumbers → ℕ → ℕ → Hold → Seat FifoNote → PutTurn → Seat FifoNote → Type 0
 PutsTurns n job turns h s PutOver t = PutTires n job turns h s t
 PutsTurns n job turns h s (PutDone at) t = PutsJob n (6 * turns) EndsHelping job at s t

@@ -43,12 +43,14 @@ impl<L: Links<Rule = Fifo>> Queue<L> {
         Queue { links }
     }
 
+    /// The domain of links that the queue stands on.
     pub fn links(&self) -> &L
         ensures { result.now ≡ self.now.links }
     {
         &self.links
     }
 
+    /// Gives the queue up for its domain of links.
     pub fn into_links(self) -> L
         ensures { result ≡ self.links }
     {
@@ -56,7 +58,16 @@ impl<L: Links<Rule = Fifo>> Queue<L> {
         links
     }
 
-    /// Puts a job at the back and answers its position, in at most `turns` tries.
+    /// Puts a job at the back and answers its position, in at most `turns` tries. A try makes at most 6 events, and the
+    /// node of the job 3 more.
+    ///
+    /// A put in whose part of the journal no other agent has a step leaves the tail at the last node.
+    ///
+    /// # Errors
+    ///
+    /// * `Again` if all tries were used up. With no turns it gives no node and makes no event.
+    /// * `NoNode` if the domain had no node to give.
+    /// * `Positions` if it came to the last node and no position is left behind that.
     pub fn put(&self, p: &mut L::Pass, job: u64, turns: u64) -> Result<u64, QueueRefused>
         requires pass { L.belongs self.now.links p.old }
         requires idle { IsIdle (L.seat self.now.links p.old) }
@@ -90,7 +101,11 @@ impl<L: Links<Rule = Fifo>> Queue<L> {
     }
 
     /// Takes the job at the front and answers it with its position, or None on the empty queue, in at most `turns`
-    /// tries.
+    /// tries. A try makes at most 6 events.
+    ///
+    /// # Errors
+    ///
+    /// `Again` if all tries were used up. With no turns it makes no event.
     pub fn take(&self, p: &mut L::Pass, turns: u64) -> Result<Option<(u64, u64)>, Again>
         requires pass { L.belongs self.now.links p.old }
         requires idle { IsIdle (L.seat self.now.links p.old) }
