@@ -119,7 +119,7 @@ abbrev pub SwingsTail : ℕ → Event FifoNote → Type 0
 SwingsTail tail e =
     ((next : ℕ) × (e ≡ record { agent = e.agent; act = Move (Root 1) (link_to tail) (link_to next); note = Some Swing })) ⊎ ((found : Link) × (e.act ≡ Miss (Root 1) (link_to tail) found))
 
--- the last event does, and no event before it moves root 1
+-- the last of the events does so, and none before it moves root 1
 pub record SwingsLast (tail : ℕ) (es : List (Event FifoNote)) : Type 0 where
   pub before : List (Event FifoNote)
   pub keeps : KeepsTail before
@@ -127,7 +127,8 @@ pub record SwingsLast (tail : ℕ) (es : List (Event FifoNote)) : Type 0 where
   pub es_are : es ≡ before ++ last ∷ []
   pub swings : SwingsTail tail last
 
--- the events end with help of the tail: a look at the node that root 1 names, and events of which the last swings root 1 on
+-- the events end with help of the tail: a Look finds that root 1 names a node, and the last swings root 1 on from that node,
+-- or finds that another has
 pub record EndsHelping (es : List (Event FifoNote)) : Type 0 where
   pub before : List (Event FifoNote)
   pub tail : ℕ
@@ -137,7 +138,7 @@ pub record EndsHelping (es : List (Event FifoNote)) : Type 0 where
   pub es_are : es ≡ before ++ look ∷ rest
   pub swings : SwingsLast tail rest
 
--- the job was put, at a position that there is, and so did the own events help the tail on
+-- the job was put, at a position that there is, and this is known of how the own events helped the tail on
 pub record PutsJob (n : HeapNumbers) (most : ℕ) (IsHelping : List (Event FifoNote) → Type 0) (job at : ℕ) (s t : Seat FifoNote) : Type 0 where
   pub piece : Piece most s (Put s.agent job at ∷ []) t
   pub helps : IsHelping piece.own
@@ -158,7 +159,7 @@ pub record LinkMissed (n : HeapNumbers) (job tail : ℕ) (h : Hold) (s t : Seat 
   pub low : position_of (heap_of n s) tail < 2 ^ 62
   pub node : HoldsNode n job h t
 
--- nor was it where the node has no position behind it
+-- nor was it linked where no position is left behind the node
 pub record NoPosition (n : HeapNumbers) (tail : ℕ) (s t : Seat FifoNote) : Type 0 where
   pub piece : Piece 0 s [] t
   pub fresh : t.fresh ≡ s.fresh
@@ -170,7 +171,7 @@ pub record LinksJob (n : HeapNumbers) (most : ℕ) (IsHelping : List (Event Fifo
   pub low : position_of (heap_of n s) tail < 2 ^ 62
   pub link : HasLink (heap_of n t) tail (link_to (id_in s.slots h))
 
--- each of these by its answer
+-- the link behind a node, by its answer
 abbrev pub LinksBehind : HeapNumbers → ℕ → (List (Event FifoNote) → Type 0) → ℕ → ℕ → Hold → Seat FifoNote → PutTurn → Seat FifoNote → Type 0
 LinksBehind n most IsHelping job tail h s PutOver t = LinkMissed n job tail h s t
 LinksBehind n most IsHelping job tail h s (PutDone at) t = LinksJob n most IsHelping job tail at h s t

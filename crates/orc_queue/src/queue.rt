@@ -58,10 +58,10 @@ impl<L: Links<Rule = Fifo>> Queue<L> {
         links
     }
 
-    /// Puts a job at the back and answers its position, in at most `turns` tries. A try makes at most 6 events, and the
-    /// node of the job 3 more.
+    /// Puts a job at the back and answers its position, in at most `turns` tries. Its agent makes at most 6 events in
+    /// each try, and 3 more for the node.
     ///
-    /// A put in whose part of the journal no other agent has a step leaves the tail at the last node.
+    /// Where no other agent has a step in its part of the journal, a put that answered leaves the tail at the last node.
     ///
     /// # Errors
     ///
@@ -101,7 +101,7 @@ impl<L: Links<Rule = Fifo>> Queue<L> {
     }
 
     /// Takes the job at the front and answers it with its position, or None on the empty queue, in at most `turns`
-    /// tries. A try makes at most 6 events.
+    /// tries. Its agent makes at most 6 events in each.
     ///
     /// # Errors
     ///
