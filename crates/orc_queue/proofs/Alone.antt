@@ -1,19 +1,22 @@
 -- A turn in which no other agent steps: what is new are the pass's own events.
-use Rattle.std.proofs.Common.{List, Some, None, [], ap, append_assoc, arith, inl, inr, refl, subst, sym, true, ℕ, ◌++◌, ◌∙◌, ◌∷◌, ◌≡◌, ◌≤◌}
+use Rattle.std.proofs.Common.{List, Some, None, [], ap, append_assoc, arith, false, inl, inr, refl, subst, sym, true, ℕ, ◌++◌, ◌∙◌, ◌∷◌, ◌≡◌, ◌≤◌}
 use Rattle.std.proofs.lemmas.List.Elements.{filter-append}
 use Rattle.std.specs.Prelude.{◌==◌}
 use Rattle.orc_heap.proofs.OwnParts.{begins_own, moves_after_own, own_from, own_is_all}
 use Rattle.orc_heap.proofs.Parts.{filter-at}
-use Rattle.orc_heap.proofs.Runs.{run_heap-snoc}
+use Rattle.orc_heap.proofs.Runs.{lawful-right, run_from-append, run_heap-snoc}
+use Rattle.orc_heap.proofs.Moved.{shown_or_moved_there}
+use Rattle.orc_heap.specs.Acts.{Fits}
 use Rattle.orc_heap.proofs.Stays.{allowed-left, allowed-right}
 use Rattle.orc_heap.specs.Allowed.{AllAllowed, events_by}
 use Rattle.orc_heap.specs.Calls.{event_of}
-use Rattle.orc_heap.specs.Heap.{Heap, HeapNumbers, null, shown}
-use Rattle.orc_heap.specs.Journals.{run_heap}
+use Rattle.orc_heap.specs.Heap.{Heap, HeapNumbers, new_heap, null, shown}
+use Rattle.orc_heap.specs.Journals.{IsLawfulFrom, run_from, run_heap}
 use Rattle.orc_heap.specs.Moves.{AllOwn, from_own, moves_in}
 use Rattle.orc_heap.specs.Parts.{Puts}
 use Rattle.orc_heap.specs.Seats.{Seat}
-use Rattle.orc_heap.specs.declared.events.Act.TheVariants.{Look, Move}
+use Rattle.orc_heap.specs.declared.events.Act.TheVariants.{Look, Miss, Move}
+use Rattle.orc_heap.specs.declared.events.Act.{Act}
 use Rattle.orc_heap.specs.declared.events.Event.{Event}
 use Rattle.orc_heap.specs.declared.events.Place.TheVariants.{Next, Root}
 use Rattle.orc_fifo_rule.proofs.Later.{holds_later}
@@ -24,7 +27,7 @@ use Rattle.orc_fifo_rule.specs.Kept.Events.{begun_more}
 use Rattle.orc_fifo_rule.specs.Kept.Kinds.{link_same, null_to, root_moved, root_other, some_same}
 use Rattle.orc_fifo_rule.specs.Kept.Nodes.{link_next, node_next, shown_link}
 use Rattle.orc_fifo_rule.specs.Kept.Paths.{back_one, tail_steps}
-use Rattle.orc_queue.specs.Turns.{IsOver, Piece, TailIsLast, TailIsPast, heap_of}
+use Rattle.orc_queue.specs.Turns.{EndsHelping, IsOver, KeepsTail, Piece, TailIsLast, TailIsPast, heap_of}
 use Rattle.orc_queue.proofs.Filled.{Known}
 use Rattle.orc_queue.proofs.Joins.{Join, own_moves_left}
 use Rattle.orc_queue.proofs.Moments.{look_found}
@@ -38,12 +41,24 @@ alone_own agent es own is alone =
     ∙ (ap (λ z. z ++ events_by agent (from_own agent es)) (sym b.others)
     ∙ (sym (filter-append (λ e. e.agent == agent) b.before (from_own agent es)) ∙ (ap (λ z. events_by agent z) (sym b.is) ∙ is)))
 
+-- so what follows from the own events, wherever they stand, then holds of the heap
+pub alone_holds : (n : HeapNumbers) (P : Heap → Type 0) (s t : Seat FifoNote) (own : List (Event FifoNote)) (p : Puts s own t) → Known n s.seen → AllAllowed (FifoMay n) [] t.seen
+    → ((es : List (Event FifoNote)) → FifoHolds n es → has_begun es ≡ true → AllAllowed (FifoMay n) es own → P (run_heap n (es ++ own)))
+    → AllOwn s.agent (from_own s.agent p.part) → P (heap_of n t)
+alone_holds n P s t own p k all_t holds alone =
+    let b = begins_own s.agent p.part in
+    let is = b.is ∙ ap (λ z. b.before ++ z) (alone_own s.agent p.part own p.own_is alone) in
+    let whole = subst (λ z. AllAllowed (FifoMay n) s.seen z) is (new_allowed n s t own p all_t) in
+    let first = allowed-left (FifoMay n) s.seen b.before own whole in
+    let there = holds (s.seen ++ b.before) (holds_later n s.seen b.before k.holds first) (begun_more s.seen b.before k.dummy.begun) (allowed-right (FifoMay n) s.seen b.before own whole) in
+    subst (λ z. P (run_heap n z)) (append_assoc s.seen b.before own ∙ (ap (λ z. s.seen ++ z) (sym is) ∙ sym p.is)) there
+
 -- so if a Move stands there, then the pass made it
 pub quiet_not_alone : (agent : ℕ) (es own : List (Event FifoNote)) → events_by agent es ≡ own → moves_in own ≡ 0 → 1 ≤ moves_in (from_own agent es) → AllOwn agent (from_own agent es) → ⊥
 quiet_not_alone agent es own is none some alone = omega (arith, none, some, ap (λ (z : List (Event FifoNote)). moves_in z) (alone_own agent es own is alone))
 
 -- a turn without a Move of the pass's own
-pub over_quiet : (n : HeapNumbers) (IsSettled : Heap → Type 0) (s t : Seat FifoNote) (p : Piece s [] t) → t.fresh ≡ s.fresh → moves_in p.own ≡ 0 → 1 ≤ moves_in (from_own s.agent p.puts.part) → IsOver n IsSettled s t
+pub over_quiet : (n : HeapNumbers) (IsSettled : Heap → Type 0) (s t : Seat FifoNote) (p : Piece 6 s [] t) → t.fresh ≡ s.fresh → moves_in p.own ≡ 0 → 1 ≤ moves_in (from_own s.agent p.puts.part) → IsOver n IsSettled s t
 over_quiet n IsSettled s t p fresh none some = record {
   piece = p;
   fresh = fresh;
@@ -66,7 +81,7 @@ moves_then s a t e rest ys zs p q w own =
 -- a turn from a look of a root on: the rest made no Move, or it helped
 module _ (n : HeapNumbers) (IsSettled : Heap → Type 0) (root id : ℕ) (s a t : Seat FifoNote) (k : Known n s.seen) (all_a : AllAllowed (FifoMay n) [] a.seen) (all_t : AllAllowed (FifoMay n) [] t.seen)
     (p : Puts s (event_of s (Look (Root root) (link_to id)) None ∷ event_of s (Look (Root root) (link_to id)) None ∷ []) a) (own : List (Event FifoNote)) (q : Puts a own t)
-    (j : Join s t (event_of s (Look (Root root) (link_to id)) None ∷ event_of s (Look (Root root) (link_to id)) None ∷ own) [] p.part q.part) (fresh : t.fresh ≡ s.fresh)
+    (j : Join 6 s t (event_of s (Look (Root root) (link_to id)) None ∷ event_of s (Look (Root root) (link_to id)) None ∷ own) [] p.part q.part) (fresh : t.fresh ≡ s.fresh)
     (moved : shown (heap_of n a) (Root root) ≡ Some (link_to id) → 1 ≤ moves_in q.part)
   where
     moved_since : 1 ≤ moves_in (from_own s.agent j.piece.puts.part)
@@ -94,13 +109,7 @@ module _ (n : HeapNumbers) (IsSettled : Heap → Type 0) (root id : ℕ) (s a t 
           piece = j.piece;
           fresh = fresh;
           moved = moved_since;
-          settles = λ alone.
-              let b = begins_own s.agent part in
-              let is = b.is ∙ ap (λ z. b.before ++ z) (alone_own s.agent part _ all_own alone) in
-              let whole = subst (λ z. AllAllowed (FifoMay n) s.seen z) is new in
-              let first = allowed-left (FifoMay n) s.seen b.before _ whole in
-              let there = settles (s.seen ++ b.before) (holds_later n s.seen b.before k.holds first) (begun_more s.seen b.before k.dummy.begun) (allowed-right (FifoMay n) s.seen b.before _ whole) in
-              subst (λ z. IsSettled (run_heap n z)) (append_assoc s.seen b.before _ ∙ (ap (λ z. s.seen ++ z) (sym is) ∙ sym j.piece.puts.is)) there;
+          settles = λ alone. alone_holds n IsSettled s t _ (record { part = part; is = j.piece.puts.is; agent = j.piece.puts.agent; own_is = all_own }) k all_t settles alone;
           unsettled = λ alone settled.
               let is : part ≡ event_of s (Look (Root root) (link_to id)) None ∷ event_of s (Look (Root root) (link_to id)) None ∷ own = sym (own_is_all s.agent part alone) ∙ all_own in
               unsettled s.seen (subst (λ z. AllAllowed (FifoMay n) s.seen z) is new) settled;
@@ -124,6 +133,38 @@ swing_settles n es agent tail next holds begun may =
       tail_is = rw (run_heap-snoc n es e) (root_moved agent 1 (link_to tail) (link_to next) h may.fits.0);
       ends = subst (λ (x : ℕ). shown (run_heap n (es ++ e ∷ [])) (Next x) ≡ Some null) (sym is_last) (shown_link (run_heap n (es ++ e ∷ [])) run.last null ends);
     }
+
+-- so it does after events that end with help of the tail
+pub tail_settles : (n : HeapNumbers) (own : List (Event FifoNote)) → EndsHelping own → (es : List (Event FifoNote)) → FifoHolds n es → has_begun es ≡ true → AllAllowed (FifoMay n) es own → TailIsLast (run_heap n (es ++ own))
+tail_settles n own h es holds begun all =
+    let w = h.swings in
+    let looks : List (Event FifoNote) = h.look ∷ w.before in
+    let seen = es ++ h.before in
+    let own_is : own ≡ h.before ++ (looks ++ w.last ∷ []) = h.es_are ∙ ap (λ z. h.before ++ h.look ∷ z) w.es_are in
+    let whole : AllAllowed (FifoMay n) es (h.before ++ (looks ++ w.last ∷ [])) = subst (λ z. AllAllowed (FifoMay n) es z) own_is all in
+    let first = allowed-left (FifoMay n) es h.before (looks ++ w.last ∷ []) whole in
+    let rest : AllAllowed (FifoMay n) seen (looks ++ w.last ∷ []) = allowed-right (FifoMay n) es h.before (looks ++ w.last ∷ []) whole in
+    let between = allowed-left (FifoMay n) seen looks (w.last ∷ []) rest in
+    let may : FifoMay n (seen ++ looks) w.last = (allowed-right (FifoMay n) seen looks (w.last ∷ []) rest).0 in
+    let holds_last = holds_later n seen looks (holds_later n es h.before holds first) between in
+    let begun_last = begun_more seen looks (begun_more es h.before begun) in
+    let at : shown (run_heap n seen) (Root 1) ≡ Some (link_to h.tail) = subst (λ (a : Act). Fits h.look.agent a (run_heap n seen)) h.sees rest.0.fits in
+    let still : shown (run_heap n (seen ++ looks)) (Root 1) ≡ Some (link_to h.tail) =
+    ap (λ (g : Heap). shown g (Root 1)) (run_from-append (new_heap n) seen looks) ∙ (tail_stays (run_heap n seen) looks (lawful-right (new_heap n) seen looks holds_last.lawful) (keeps_looks h.look w.before h.tail h.sees w.keeps) ∙ at) in
+    let settled : TailIsLast (run_heap n ((seen ++ looks) ++ w.last ∷ [])) = elim w.swings [
+      | inl swing ↦ subst (λ (e : Event FifoNote). TailIsLast (run_heap n ((seen ++ looks) ++ e ∷ []))) (sym swing.1)
+          (swing_settles n (seen ++ looks) w.last.agent h.tail swing.0 holds_last begun_last (subst (λ (e : Event FifoNote). FifoMay n (seen ++ looks) e) swing.1 may))
+      | inr missed ↦
+          let fits : Fits w.last.agent (Miss (Root 1) (link_to h.tail) missed.0) (run_heap n (seen ++ looks)) = subst (λ (a : Act). Fits w.last.agent a (run_heap n (seen ++ looks))) missed.1 may.fits in
+          absurd (fits.1 (some_same (sym fits.0 ∙ still)))
+    ] in
+    subst (λ z. TailIsLast (run_heap n z)) (append_assoc seen looks (w.last ∷ []) ∙ (append_assoc es h.before (looks ++ w.last ∷ []) ∙ ap (λ z. es ++ z) (sym own_is))) settled
+  where
+    tail_stays : (g : Heap) (fs : List (Event FifoNote)) → IsLawfulFrom g fs → KeepsTail fs → shown (run_from g fs) (Root 1) ≡ shown g (Root 1)
+    tail_stays g fs lawful keeps = elim (shown_or_moved_there g (Root 1) fs lawful tt) [ inl same ↦ same | inr moved ↦ let bad : true ≡ false = sym moved ∙ keeps in absurd (cc) ]
+
+    keeps_looks : (look : Event FifoNote) (fs : List (Event FifoNote)) (tail : ℕ) → look.act ≡ Look (Root 1) (link_to tail) → KeepsTail fs → KeepsTail (look ∷ fs)
+    keeps_looks look fs tail sees keeps = rw sees keeps
 
 -- and it names another node than before
 pub swing_past : (n : HeapNumbers) (es : List (Event FifoNote)) (agent head next : ℕ) → FifoHolds n es → has_begun es ≡ true → shown (run_heap n es) (Root 0) ≡ Some (link_to head)

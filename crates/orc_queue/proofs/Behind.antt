@@ -22,7 +22,7 @@ use Rattle.orc_fifo_rule.specs.QueueDiscipline.{FifoMay, HasLink, entries_of, li
 use Rattle.orc_fifo_rule.specs.Watches.{WasNamed}
 use Rattle.orc_queue.specs.declared.put.PutTurn.{PutTurn}
 use Rattle.orc_queue.specs.declared.put.PutTurn.TheVariants.{Full, Over as PutOver, Put as PutDone}
-use Rattle.orc_queue.specs.Turns.{FindsFull, Helps, HoldsNode, LinksBehind, PutsBehind, TurnMissed, heap_of}
+use Rattle.orc_queue.specs.Turns.{FindsFull, Helps, HoldsNode, LinksBehind, PutsBehind, SwingsLast, TurnMissed, heap_of}
 use Rattle.orc_queue.proofs.Filled.{Known}
 use Rattle.orc_queue.proofs.Joins.{full_join_left, join, moves_left, moves_right, one_part, puts_released, room_join}
 use Rattle.orc_queue.proofs.Looking.{next_found}
@@ -54,10 +54,10 @@ module _ (n : HeapNumbers) (job tail : ℕ) (h : Hold) (s a t : Seat FifoNote) (
     room_first : position_of (heap_of n a) tail < 2 ^ 62 → FindsFull n s.agent s.seen p.part → ⊥
     room_first low = room_at n s a _ tail p k (new_allowed n s a _ p all_a) named ((λ e. (null, refl)), tt) (omega (arith, low, position_puts n s a _ p all_a tail named.linked))
 
-    pub behind_null : (turn : PutTurn) → LinksBehind n job tail h a turn t → PutsBehind n job tail h s turn t
+    pub behind_null : (turn : PutTurn) → LinksBehind n 3 (SwingsLast tail) job tail h a turn t → PutsBehind n job tail h s turn t
     behind_null PutOver l =
         let q = l.stops.piece in
-        let j = join s a t (event_of s (Look (Next tail) null) None ∷ []) q.own [] p q.puts (q.slots ∙ slots) q.entries_are (omega (arith, q.no_give)) in
+        let j = join 4 s a t (event_of s (Look (Next tail) null) None ∷ []) q.own [] p q.puts (q.slots ∙ slots) q.entries_are (omega (arith, q.no_give)) (omega (arith, q.few)) in
         let found = look_found n s a (Next tail) null None [] p all_a named.linked in
         record {
           stops = record {
@@ -74,17 +74,19 @@ module _ (n : HeapNumbers) (job tail : ℕ) (h : Hold) (s a t : Seat FifoNote) (
         }
     behind_null (PutDone at) l =
         let q = l.puts.piece in
+        let h = l.puts.helps in
         let entries : entries_of q.own ≡ Put s.agent job at ∷ [] = q.entries_are ∙ ap (λ (x : ℕ). Put x job at ∷ []) p.agent in
-        let j = join s a t (event_of s (Look (Next tail) null) None ∷ []) q.own (Put s.agent job at ∷ []) p q.puts (q.slots ∙ slots) entries (omega (arith, q.no_give)) in
+        let j = join 4 s a t (event_of s (Look (Next tail) null) None ∷ []) q.own (Put s.agent job at ∷ []) p q.puts (q.slots ∙ slots) entries (omega (arith, q.no_give)) (omega (arith, q.few)) in
         record {
           piece = j.piece;
+          helps = record { before = event_of s (Look (Next tail) null) None ∷ h.before; keeps = h.keeps; last = h.last; es_are = j.own_is ∙ ap (λ z. event_of s (Look (Next tail) null) None ∷ z) h.es_are; swings = h.swings };
           fresh = l.puts.fresh;
           low = l.puts.low;
           room = room_join n s a t _ _ _ p q.puts j.piece.puts (room_first l.low) l.puts.room;
         }
     behind_null Full l =
         let q = l.piece in
-        let j = join s a t (event_of s (Look (Next tail) null) None ∷ []) q.own [] p q.puts (q.slots ∙ slots) q.entries_are (omega (arith, q.no_give)) in
+        let j = join 4 s a t (event_of s (Look (Next tail) null) None ∷ []) q.own [] p q.puts (q.slots ∙ slots) q.entries_are (omega (arith, q.no_give)) (omega (arith, q.few)) in
         record {
           piece = j.piece;
           fresh = l.fresh ∙ fresh;
@@ -109,7 +111,7 @@ module _ (n : HeapNumbers) (job tail next : ℕ) (h : Hold) (s a b t : Seat Fifo
           let move : Event FifoNote = event_of s act (Some Swing) in
           let q : Puts a (move ∷ []) t = subst (λ (x : ℕ). Puts a (record { agent = x; act = act; note = Some Swing } ∷ []) t) p.agent (puts_released a b t _ moved freed) in
           let first : Event FifoNote = event_of s (Look (Next tail) (link_to next)) None in
-          let j = join s a t (first ∷ first ∷ []) (move ∷ []) [] p q slots refl refl in
+          let j = join 4 s a t (first ∷ first ∷ []) (move ∷ []) [] p q slots refl refl (omega arith) in
           let w : Puts s (first ∷ first ∷ move ∷ []) t = Puts-trans s a t (first ∷ first ∷ []) (move ∷ []) p q in
           let some : 1 ≤ moves_in w.part = omega (arith, moves_own s.agent w.part, ap (λ (z : List (Event FifoNote)). moves_in z) w.own_is) in
           record {
@@ -127,7 +129,7 @@ module _ (n : HeapNumbers) (job tail next : ℕ) (h : Hold) (s a b t : Seat Fifo
           let miss : Event FifoNote = event_of a (Miss (Root 1) (link_to tail) missed.found) None in
           let q : Puts a (miss ∷ []) t = puts_released a b t _ missed.puts freed in
           let first : Event FifoNote = event_of s (Look (Next tail) (link_to next)) None in
-          let j = join s a t (first ∷ first ∷ []) (miss ∷ []) [] p q slots refl refl in
+          let j = join 4 s a t (first ∷ first ∷ []) (miss ∷ []) [] p q slots refl refl (omega arith) in
           let w : Puts s (first ∷ first ∷ miss ∷ []) t = Puts-trans s a t (first ∷ first ∷ []) (miss ∷ []) p q in
           record {
             stops = record {
@@ -147,7 +149,7 @@ pub behind_moved : (n : HeapNumbers) (job tail : ℕ) (h : Hold) (s t : Seat Fif
     → t.slots ≡ s.slots → t.fresh ≡ s.fresh → Puts s (event_of s (Look (Next tail) one) None ∷ event_of s (Look (Next tail) two) None ∷ []) t → TurnMissed n job tail h s t
 behind_moved n job tail h s t one two k kt named node other slots fresh p = record {
   stops = record {
-    piece = record { own = _; slots = slots; puts = p; entries_are = refl; no_give = refl };
+    piece = record { own = _; slots = slots; puts = p; entries_are = refl; no_give = refl; few = omega arith };
     fresh = fresh;
     moved = λ at. omega (arith, moves_from_own s.agent p.part, looks_differ n s t (Next tail) one two p kt.all named.linked other);
     own_moves = inl refl;

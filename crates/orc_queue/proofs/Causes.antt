@@ -1,5 +1,5 @@
 -- From what a call did to its clauses on journals.
-use Rattle.std.proofs.Common.{List, Ok, Err, Option, Result, [], ap, append_assoc, arith, drop, inr, length, refl, subst, sym, take, true, ℕ, ◌++◌, ◌+◌, ◌<◌, ◌==◌, ◌^◌, ◌∙◌, ◌∷◌, ◌≡◌, ◌≢◌, ◌≤◌, ◌⊎◌}
+use Rattle.std.proofs.Common.{List, Ok, Err, Option, Result, [], ap, append-nil, append_assoc, arith, drop, inr, length, refl, subst, sym, take, true, ℕ, ◌*◌, ◌++◌, ◌+◌, ◌<◌, ◌==◌, ◌^◌, ◌∙◌, ◌∷◌, ◌≡◌, ◌≢◌, ◌≤◌, ◌⊎◌}
 use Rattle.std.proofs.lemmas.List.{length-append}
 use Rattle.std.proofs.lemmas.List.Elements.{filter-append}
 use Rattle.std.proofs.Math.Seq.{drop-append_seam, take-length}
@@ -15,7 +15,7 @@ use Rattle.orc_heap.specs.Heap.{HeapNumbers}
 use Rattle.orc_heap.specs.Journals.{run_heap}
 use Rattle.orc_heap.specs.Moves.{AllOwn, from_own, gives_in, moves_in}
 use Rattle.orc_heap.specs.Parts.{IsBelow}
-use Rattle.orc_history.specs.Parts.{InPart, part_begin}
+use Rattle.orc_history.specs.Parts.{InPart, IsAlone, part_begin}
 use Rattle.orc_heap.specs.Seats.{Seat}
 use Rattle.orc_heap.specs.declared.events.Event.{Event}
 use Rattle.orc_history.specs.Journals.{Adds, Every, Learns as HistoryLearns, Within, own_of}
@@ -28,10 +28,11 @@ use Rattle.orc_fault.specs.declared.Again.{Again as AgainFault}
 use Rattle.orc_fifo_rule.proofs.OwnEntries.{entries_added, own_of_events}
 use Rattle.orc_fifo_rule.specs.declared.fifo.FifoNote.{FifoNote}
 use Rattle.orc_fifo_rule.specs.QueueDiscipline.{FifoMay, entries_of, position_of}
-use Rattle.orc_queue.specs.Answers.{CallFindsFull, IsCall, PutAnswers, TakeAnswers, Tires}
+use Rattle.orc_queue.specs.Answers.{CallFindsFull, IsCall, PutAnswers, TakeAnswers, Tires, gives_of}
 use Rattle.orc_queue.specs.Causes.{Cause, LacksPosition, UsesTurns}
-use Rattle.orc_queue.specs.Turns.{FindsFull, HasDummy}
+use Rattle.orc_queue.specs.Turns.{FindsFull, HasDummy, TailIsLast}
 use Rattle.orc_queue.specs.Laws.{first_stays}
+use Rattle.orc_queue.proofs.Alone.{alone_holds, tail_settles}
 use Rattle.orc_queue.proofs.Filled.{Known}
 use Rattle.orc_queue.proofs.Pieces.{gives_in-append, new_allowed}
 use Rattle.orc_queue.proofs.Room.{full_puts}
@@ -45,23 +46,17 @@ of_crowd agent agents [] b = tt
 of_crowd agent agents (e ∷ es) b = (inr b.0, of_crowd agent agents es b.1)
 
 -- the answer and the Look at the end
-finds_full : (n : HeapNumbers) (most : ℕ) (s t : Seat FifoNote) (es : List QueueEntry) (c : IsCall most s es t) → FindsFull n s.agent s.seen c.puts.part → CallFindsFull n s t
-finds_full n most s t es c f = subst (λ z. FindsFull n s.agent s.seen z) (sym (ap (λ z. drop (length s.seen) z) c.puts.is ∙ drop-append_seam s.seen c.puts.part)) f
+finds_full : (n : HeapNumbers) (given turns : ℕ) (s t : Seat FifoNote) (es : List QueueEntry) (c : IsCall given turns s es t) → FindsFull n s.agent s.seen c.puts.part → CallFindsFull n s t
+finds_full n given turns s t es c f = subst (λ z. FindsFull n s.agent s.seen z) (sym (ap (λ z. drop (length s.seen) z) c.puts.is ∙ drop-append_seam s.seen c.puts.part)) f
 
-has_room : (n : HeapNumbers) (most : ℕ) (s t : Seat FifoNote) (es : List QueueEntry) (c : IsCall most s es t) → (FindsFull n s.agent s.seen c.puts.part → ⊥) → CallFindsFull n s t → ⊥
-has_room n most s t es c room f = room (subst (λ z. FindsFull n s.agent s.seen z) (ap (λ z. drop (length s.seen) z) c.puts.is ∙ drop-append_seam s.seen c.puts.part) f)
+has_room : (n : HeapNumbers) (given turns : ℕ) (s t : Seat FifoNote) (es : List QueueEntry) (c : IsCall given turns s es t) → (FindsFull n s.agent s.seen c.puts.part → ⊥) → CallFindsFull n s t → ⊥
+has_room n given turns s t es c room f = room (subst (λ z. FindsFull n s.agent s.seen z) (ap (λ z. drop (length s.seen) z) c.puts.is ∙ drop-append_seam s.seen c.puts.part) f)
 
 pub put_positions : (n : HeapNumbers) (job turns : ℕ) (s t : Seat FifoNote) (r : Result ℕ QueueRefused) → PutAnswers n job turns s r t → (r ≡ Err Positions) ↔ CallFindsFull n s t
-put_positions n job turns s t (Ok at) l = ((λ e. cc), (λ f. absurd (has_room n 1 s t _ l.call l.room f)))
-put_positions n job turns s t (Err Again) l = ((λ e. cc), (λ f. absurd (has_room n 1 s t _ l.tires.call l.room f)))
-put_positions n job turns s t (Err NoNode) l = ((λ e. cc), (λ f. absurd (has_room n 1 s t _ l.call l.room f)))
-put_positions n job turns s t (Err Positions) l = ((λ e. finds_full n 1 s t _ l.call l.full), (λ f. refl))
-
-pub put_no_turns : (n : HeapNumbers) (job turns : ℕ) (s t : Seat FifoNote) (r : Result ℕ QueueRefused) → PutAnswers n job turns s r t → turns ≡ 0 → r ≡ Err Again
-put_no_turns n job turns s t (Ok at) l none = absurd (l.some_turn none)
-put_no_turns n job turns s t (Err Again) l none = refl
-put_no_turns n job turns s t (Err NoNode) l none = absurd (l.some_turn none)
-put_no_turns n job turns s t (Err Positions) l none = absurd (l.some_turn none)
+put_positions n job turns s t (Ok at) l = ((λ e. cc), (λ f. absurd (has_room n _ turns s t _ l.call l.room f)))
+put_positions n job turns s t (Err Again) l = ((λ e. cc), (λ f. absurd (has_room n _ turns s t _ l.tires.call l.room f)))
+put_positions n job turns s t (Err NoNode) l = ((λ e. cc), (λ f. absurd (has_room n _ turns s t _ l.call l.room f)))
+put_positions n job turns s t (Err Positions) l = ((λ e. finds_full n _ turns s t _ l.call l.full), (λ f. refl))
 
 pub put_some_turn : (n : HeapNumbers) (job turns : ℕ) (s t : Seat FifoNote) (r : Result ℕ QueueRefused) → PutAnswers n job turns s r t → r ≡ Err NoNode → turns ≢ 0
 put_some_turn n job turns s t (Ok at) l is = l.some_turn
@@ -70,26 +65,56 @@ put_some_turn n job turns s t (Err NoNode) l is = l.some_turn
 put_some_turn n job turns s t (Err Positions) l is = l.some_turn
 
 -- a call of either kind
-pub record AnyCall (most : ℕ) (s t : Seat FifoNote) : Type 0 where
+pub record AnyCall (given turns : ℕ) (s t : Seat FifoNote) : Type 0 where
   pub entries : List QueueEntry
-  pub call : IsCall most s entries t
+  pub call : IsCall given turns s entries t
 
-pub put_any : (n : HeapNumbers) (job turns : ℕ) (s t : Seat FifoNote) (r : Result ℕ QueueRefused) → PutAnswers n job turns s r t → AnyCall 1 s t
+pub put_any : (n : HeapNumbers) (job turns : ℕ) (s t : Seat FifoNote) (r : Result ℕ QueueRefused) → PutAnswers n job turns s r t → AnyCall (gives_of turns r) turns s t
 put_any n job turns s t (Ok at) l = record { entries = _; call = l.call }
 put_any n job turns s t (Err Again) l = record { entries = _; call = l.tires.call }
 put_any n job turns s t (Err NoNode) l = record { entries = _; call = l.call }
 put_any n job turns s t (Err Positions) l = record { entries = _; call = l.call }
 
-pub take_any : (turns : ℕ) (s t : Seat FifoNote) (r : Result (Option (ℕ × ℕ)) AgainFault) → TakeAnswers turns s r t → AnyCall 0 s t
+pub take_any : (turns : ℕ) (s t : Seat FifoNote) (r : Result (Option (ℕ × ℕ)) AgainFault) → TakeAnswers turns s r t → AnyCall 0 turns s t
 take_any turns s t (Ok got) l = record { entries = _; call = l.call }
 take_any turns s t (Err again) l = record { entries = _; call = l.call }
 
-pub any_gives : (most : ℕ) (s t : Seat FifoNote) → AnyCall most s t → gives_in (events_by s.agent t.seen) ≤ gives_in (events_by s.agent s.seen) + most
-any_gives most s t a =
-    let p = a.call.puts in
-    let split : events_by s.agent t.seen ≡ events_by s.agent s.seen ++ a.call.own =
-    ap (λ z. events_by s.agent z) p.is ∙ (filter-append (λ e. e.agent == s.agent) s.seen p.part ∙ ap (λ z. events_by s.agent s.seen ++ z) p.own_is) in
-    rw split (omega (arith, gives_in-append (events_by s.agent s.seen) a.call.own, a.call.gives))
+module _ (given turns : ℕ) (s t : Seat FifoNote) (any : AnyCall given turns s t) where
+  own_events : events_by s.agent t.seen ≡ events_by s.agent s.seen ++ any.call.own
+  own_events =
+      let p = any.call.puts in
+      ap (λ z. events_by s.agent z) p.is ∙ (filter-append (λ e. e.agent == s.agent) s.seen p.part ∙ ap (λ z. events_by s.agent s.seen ++ z) p.own_is)
+
+  pub any_gives : gives_in (events_by s.agent t.seen) ≡ gives_in (events_by s.agent s.seen) + given
+  any_gives = rw own_events (omega (arith, gives_in-append (events_by s.agent s.seen) any.call.own, any.call.gives))
+
+  pub any_tries : length (events_by s.agent t.seen) ≤ length (events_by s.agent s.seen) + 6 * turns + 3 * given
+  any_tries = rw own_events (omega (arith, length-append (events_by s.agent s.seen) any.call.own, any.call.few))
+
+-- a call with no turn
+any_none : (s t : Seat FifoNote) → AnyCall 0 0 s t → events_by s.agent t.seen ≡ events_by s.agent s.seen
+any_none s t any = own_events 0 0 s t any ∙ (ap (λ z. events_by s.agent s.seen ++ z) (empty any.call.own any.call.few) ∙ append-nil (events_by s.agent s.seen))
+  where
+    empty : (es : List (Event FifoNote)) → length es ≤ 0 → es ≡ []
+    empty [] none = refl
+    empty (e ∷ es) none = absurd (omega (arith, none))
+
+-- no turn
+pub put_no_turns : (n : HeapNumbers) (job turns : ℕ) (s t : Seat FifoNote) (r : Result ℕ QueueRefused) → PutAnswers n job turns s r t → turns ≡ 0 → (r ≡ Err Again) × (events_by s.agent t.seen ≡ events_by s.agent s.seen)
+put_no_turns n job turns s t r l none = (again r l, any_none s t (subst (λ (k : ℕ). AnyCall (gives_of k r) k s t) none (put_any n job turns s t r l)))
+  where
+    again : (r : Result ℕ QueueRefused) → PutAnswers n job turns s r t → r ≡ Err Again
+    again (Ok at) l = absurd (l.some_turn none)
+    again (Err Again) l = refl
+    again (Err NoNode) l = absurd (l.some_turn none)
+    again (Err Positions) l = absurd (l.some_turn none)
+
+pub take_no_turns : (turns : ℕ) (s t : Seat FifoNote) (r : Result (Option (ℕ × ℕ)) AgainFault) → TakeAnswers turns s r t → turns ≡ 0 → IsErr r × (events_by s.agent t.seen ≡ events_by s.agent s.seen)
+take_no_turns turns s t r l none = (again r l, any_none s t (subst (λ (k : ℕ). AnyCall 0 k s t) none (take_any turns s t r l)))
+  where
+    again : (r : Result (Option (ℕ × ℕ)) AgainFault) → TakeAnswers turns s r t → IsErr r
+    again (Ok got) l = absurd (l.some_turn none)
+    again (Err e) l = refl
 
 -- over the journals of a domain
 module _ {S : Type 0} (n : HeapNumbers) (agents : ℕ) (agent_of : S → ℕ) (events : List S → List (Event FifoNote))
@@ -97,8 +122,8 @@ module _ {S : Type 0} (n : HeapNumbers) (agents : ℕ) (agent_of : S → ℕ) (e
     (s t : Seat FifoNote) (j k : List S) (grows : IsPrefix j k) (is_s : s.seen ≡ events j) (is_t : t.seen ≡ events k) (all : AllAllowed (FifoMay n) [] t.seen) (below : IsBelow agents t.seen)
   where
     -- the entries
-    pub call_adds : (most : ℕ) (es : List QueueEntry) → IsCall most s es t → Adds agent_of_entry (λ (a : ℕ). a < agents) s.agent (entries_of (events j)) es (entries_of (events k))
-    call_adds most es c =
+    pub call_adds : (given turns : ℕ) (es : List QueueEntry) → IsCall given turns s es t → Adds agent_of_entry (λ (a : ℕ). a < agents) s.agent (entries_of (events j)) es (entries_of (events k))
+    call_adds given turns es c =
         let p = c.puts in
         let others = of_crowd s.agent agents p.part (below_right agents s.seen p.part (subst (λ z. IsBelow agents z) p.is below)) in
         let a = entries_added n (λ (x : ℕ). x < agents) s.agent s.seen p.part (new_allowed n s t c.own p all) others in
@@ -109,29 +134,29 @@ module _ {S : Type 0} (n : HeapNumbers) (agents : ℕ) (agent_of : S → ℕ) (e
 
     pub put_ok : (job turns : ℕ) (r : Result ℕ QueueRefused) → PutAnswers n job turns s r t
         → IfOk r (λ at. Adds agent_of_entry (λ (a : ℕ). a < agents) s.agent (entries_of (events j)) (Put s.agent job at ∷ []) (entries_of (events k)))
-    put_ok job turns (Ok at) l = call_adds 1 (Put s.agent job at ∷ []) l.call
+    put_ok job turns (Ok at) l = call_adds _ turns (Put s.agent job at ∷ []) l.call
     put_ok job turns (Err why) l = tt
 
     pub put_err : (job turns : ℕ) (r : Result ℕ QueueRefused) → PutAnswers n job turns s r t
         → IfErr r (λ e. Adds agent_of_entry (λ (a : ℕ). a < agents) s.agent (entries_of (events j)) [] (entries_of (events k)))
     put_err job turns (Ok at) l = tt
-    put_err job turns (Err Again) l = call_adds 1 [] l.tires.call
-    put_err job turns (Err NoNode) l = call_adds 1 [] l.call
-    put_err job turns (Err Positions) l = call_adds 1 [] l.call
+    put_err job turns (Err Again) l = call_adds _ turns [] l.tires.call
+    put_err job turns (Err NoNode) l = call_adds _ turns [] l.call
+    put_err job turns (Err Positions) l = call_adds _ turns [] l.call
 
     pub take_ok : (turns : ℕ) (r : Result (Option (ℕ × ℕ)) AgainFault) → TakeAnswers turns s r t
         → IfOk r (λ got. Adds agent_of_entry (λ (a : ℕ). a < agents) s.agent (entries_of (events j)) (entry_of_dequeue s.agent got ∷ []) (entries_of (events k)))
-    take_ok turns (Ok got) l = call_adds 0 (entry_of_dequeue s.agent got ∷ []) l.call
+    take_ok turns (Ok got) l = call_adds _ turns (entry_of_dequeue s.agent got ∷ []) l.call
     take_ok turns (Err again) l = tt
 
     pub take_err : (turns : ℕ) (r : Result (Option (ℕ × ℕ)) AgainFault) → TakeAnswers turns s r t
         → IfErr r (λ e. Adds agent_of_entry (λ (a : ℕ). a < agents) s.agent (entries_of (events j)) [] (entries_of (events k)))
     take_err turns (Ok got) l = tt
-    take_err turns (Err again) l = call_adds 0 [] l.call
+    take_err turns (Err again) l = call_adds _ turns [] l.call
 
     -- all turns were used
-    pub turns_used : (most turns : ℕ) → Tires most turns s t → InPart agent_of s.agent j k (λ from to. UsesTurns agent_of events s.agent turns k from to)
-    turns_used most turns l =
+    pub turns_used : (given turns : ℕ) → Tires given turns s t → InPart agent_of s.agent j k (λ from to. UsesTurns agent_of events s.agent turns k from to)
+    turns_used given turns l =
         let p = l.call.puts in
         let new : events k ≡ events j ++ p.part = sym is_t ∙ (p.is ∙ ap (λ z. z ++ p.part) is_s) in
         let e = part_events agent_of events adds s.agent j k p.part grows new in
@@ -148,15 +173,25 @@ module _ {S : Type 0} (n : HeapNumbers) (agents : ℕ) (agent_of : S → ℕ) (e
               l.busy two (subst (λ z. AllOwn s.agent z) (sym own) (own_from s.agent e.part part));
         }
 
+    -- a put that was alone leaves the tail at the last node
+    pub put_tail : (job turns : ℕ) (r : Result ℕ QueueRefused) → Known n s.seen → PutAnswers n job turns s r t → IfOk r (λ at. IsAlone agent_of s.agent j k → TailIsLast (run_heap n t.seen))
+    put_tail job turns (Ok at) known l = λ alone.
+        let p = l.call.puts in
+        let new : events k ≡ events j ++ p.part = sym is_t ∙ (p.is ∙ ap (λ z. z ++ p.part) is_s) in
+        let e = part_events agent_of events adds s.agent j k p.part grows new in
+        let own : from_own s.agent p.part ≡ from_own s.agent e.part = ap (λ z. from_own s.agent z) e.is ∙ from_own-others s.agent e.gap e.part e.others in
+        alone_holds n TailIsLast s t l.call.own p known all (tail_settles n l.call.own l.helps) (subst (λ z. AllOwn s.agent z) (sym own) (own_from s.agent e.part (e.alone alone)))
+    put_tail job turns (Err why) known l = tt
+
     pub put_again : (job turns : ℕ) (r : Result ℕ QueueRefused) → PutAnswers n job turns s r t → r ≡ Err Again → InPart agent_of s.agent j k (λ from to. UsesTurns agent_of events s.agent turns k from to)
     put_again job turns (Ok at) l is = cc
-    put_again job turns (Err Again) l is = turns_used 1 turns l.tires
+    put_again job turns (Err Again) l is = turns_used _ turns l.tires
     put_again job turns (Err NoNode) l is = cc
     put_again job turns (Err Positions) l is = cc
 
     pub take_again : (turns : ℕ) (r : Result (Option (ℕ × ℕ)) AgainFault) → TakeAnswers turns s r t → IfErr r (λ e. InPart agent_of s.agent j k (λ from to. UsesTurns agent_of events s.agent turns k from to))
     take_again turns (Ok got) l = tt
-    take_again turns (Err again) l = turns_used 0 turns l
+    take_again turns (Err again) l = turns_used _ turns l
 
     -- the end of the queue was found where no position was left
     full_lacks : (turns : ℕ) (opening : List (Event FifoNote)) → HasDummy n opening → IsPrefix opening t.seen → Known n s.seen → turns ≢ 0 → CallFindsFull n s t
@@ -202,11 +237,6 @@ module _ {S : Type 0} (n : HeapNumbers) (agents : ℕ) (agent_of : S → ℕ) (e
 pub within_stays : {S : Type 0} (Fact : List S → ℕ → ℕ → Type 0) → ((j more : List S) (from to : ℕ) → Fact j from to → Fact (j ++ more) from to) → (begin : ℕ) (k m : List S) → IsPrefix k m → Within begin (length k) (Fact k) → Within begin (length m) (Fact m)
 within_stays Fact stays begin k m (more, is) (from, to, a, b, c, fact) =
     (from, to, a, b, omega (arith, c, length-append k more, ap length is), subst (λ z. Fact z from to) is (stays k more from to fact))
-
--- the turns of a take
-pub take_no_turns : (turns : ℕ) (s t : Seat FifoNote) (r : Result (Option (ℕ × ℕ)) AgainFault) → TakeAnswers turns s r t → turns ≡ 0 → IsErr r
-take_no_turns turns s t (Ok got) l none = absurd (l.some_turn none)
-take_no_turns turns s t (Err again) l none = refl
 
 -- the entries of each of two agents in what both have seen
 pub learns : {S : Type 0} (n : HeapNumbers) (events : List S → List (Event FifoNote)) (agent1 agent2 : ℕ) (s1 s2 t1 : Seat FifoNote) (j1 j2 k1 k2 : List S) → k1 ≡ k2 → (IsPrefix j1 j2 × (k1 ≡ j2)) ⊎ (IsPrefix j2 j1 × (k1 ≡ j1))

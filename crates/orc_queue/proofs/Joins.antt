@@ -1,5 +1,5 @@
 -- Two pieces of a call, or three of which the last is a release, make one.
-use Rattle.std.proofs.Common.{List, [], ap, append-nil, append_assoc, arith, refl, subst, sym, ℕ, ◌++◌, ◌∙◌, ◌∷◌, ◌≡◌, ◌≤◌}
+use Rattle.std.proofs.Common.{List, [], ap, append-nil, append_assoc, arith, length, refl, subst, sym, ℕ, ◌++◌, ◌∙◌, ◌∷◌, ◌≡◌, ◌≤◌}
 use mathlib.Core.List.{IsPrefix}
 use Rattle.orc_heap.proofs.Moved.{moves_in-append}
 use Rattle.orc_heap.proofs.OwnParts.{moves_from_own-append, own_from_left, own_from_right}
@@ -17,16 +17,16 @@ use Rattle.orc_queue.proofs.Room.{full_left, full_right, room_both}
 use Rattle.orc_heap.specs.Heap.{HeapNumbers}
 
 -- a piece whose own events are those of two, one after another, and so is what is new
-pub record Join (s t : Seat FifoNote) (own : List (Event FifoNote)) (es : List QueueEntry) (first second : List (Event FifoNote)) : Type 0 where
-  pub piece : Piece s es t
+pub record Join (most : ℕ) (s t : Seat FifoNote) (own : List (Event FifoNote)) (es : List QueueEntry) (first second : List (Event FifoNote)) : Type 0 where
+  pub piece : Piece most s es t
   pub own_is : piece.own ≡ own
   pub part_is : piece.puts.part ≡ first ++ second
 
-pub join : (s a t : Seat FifoNote) (xs ys : List (Event FifoNote)) (es : List QueueEntry) (p : Puts s xs a) (q : Puts a ys t) → t.slots ≡ s.slots → entries_of (xs ++ ys) ≡ es → gives_in (xs ++ ys) ≡ 0
-    → Join s t (xs ++ ys) es p.part q.part
-join s a t xs ys es p q same entries none =
+pub join : (most : ℕ) (s a t : Seat FifoNote) (xs ys : List (Event FifoNote)) (es : List QueueEntry) (p : Puts s xs a) (q : Puts a ys t) → t.slots ≡ s.slots → entries_of (xs ++ ys) ≡ es → gives_in (xs ++ ys) ≡ 0
+    → length (xs ++ ys) ≤ most → Join most s t (xs ++ ys) es p.part q.part
+join most s a t xs ys es p q same entries none few =
     let w = Puts-trans s a t xs ys p q in
-    record { piece = record { own = xs ++ ys; slots = same; puts = w; entries_are = entries; no_give = none }; own_is = refl; part_is = new_is s a t xs ys (xs ++ ys) w p q }
+    record { piece = record { own = xs ++ ys; slots = same; puts = w; entries_are = entries; no_give = none; few = few }; own_is = refl; part_is = new_is s a t xs ys (xs ++ ys) w p q }
 
 -- a journal that went on, and on
 pub goes_on : {A : Type 0} (xs ys zs : List A) → IsPrefix xs ys → IsPrefix ys zs → IsPrefix xs zs

@@ -1,6 +1,7 @@
 -- Linking the new node behind the last one.
 use Rattle.std.proofs.Common.{Bool, List, Option, Some, None, [], ap, append-nil, append_assoc, arith, cond, false, inl, inr, refl, subst, sym, ℕ, ◌++◌, ◌+◌, ◌<◌, ◌^◌, ◌∙◌, ◌∷◌, ◌≡◌, ◌⊎◌}
 use Rattle.std.proofs.lemmas.Bool.{eq-eqb}
+use Rattle.std.proofs.lemmas.List.{length-append}
 use Rattle.std.specs.List.{list_any, slice_get}
 use Rattle.orc_heap.proofs.ByAnswer.{unless_same}
 use Rattle.orc_heap.proofs.Fresh.{touched_by}
@@ -28,13 +29,13 @@ use Rattle.orc_fifo_rule.specs.Kept.Nodes.{link_next}
 use Rattle.orc_fifo_rule.specs.Kept.Paths.{has_link}
 use Rattle.orc_queue.specs.declared.put.PutTurn.{PutTurn}
 use Rattle.orc_queue.specs.declared.put.PutTurn.TheVariants.{Full, Over as PutOver, Put as PutDone}
-use Rattle.orc_queue.specs.Turns.{Helps, HoldsNode, LinkMissed, LinksBehind, LinksJob, heap_of, looks_at_end}
+use Rattle.orc_queue.specs.Turns.{Helps, HoldsNode, KeepsTail, LinkMissed, LinksBehind, LinksJob, SwingsLast, SwingsTail, heap_of}
 use Rattle.orc_queue.proofs.Filled.{Known}
 use Rattle.orc_queue.proofs.Joins.{join, room_join}
 use Rattle.orc_queue.proofs.Looking.{position_read}
 use Rattle.orc_queue.proofs.Moments.{miss_moved, moment, seen_is}
 use Rattle.orc_queue.proofs.Pieces.{gives_in-append, link_puts, linked_puts, named_puts, node_puts, node_touched, position_puts}
-use Rattle.orc_queue.proofs.Room.{room_unseen}
+use Rattle.orc_queue.proofs.Room.{looks_at_end, room_unseen}
 
 -- the Move that links a new node behind this one: its link leads there from then on
 pub put_links : (n : HeapNumbers) (s t : Seat FifoNote) (id to : ℕ) (noted : Option FifoNote) → Puts s (event_of s (Move (Next id) null (link_to to)) noted ∷ []) t → AllAllowed (FifoMay n) [] t.seen
@@ -92,7 +93,7 @@ module _ (n : HeapNumbers) (job at tail : ℕ) (h : Hold) (s a b : Seat FifoNote
         let same_fresh = fresh ∙ (fill.fresh ∙ read.fresh) in
         record {
           stops = record {
-            piece = record { own = e ∷ f ∷ []; slots = same_slots; puts = p; entries_are = refl; no_give = refl };
+            piece = record { own = e ∷ f ∷ []; slots = same_slots; puts = p; entries_are = refl; no_give = refl; few = omega arith };
             fresh = same_fresh;
             moved = miss_moved n s t (Next tail) null miss.found (e ∷ []) f [] p refl all named.linked miss.other;
             own_moves = inl refl;
@@ -105,14 +106,15 @@ module _ (n : HeapNumbers) (job at tail : ℕ) (h : Hold) (s a b : Seat FifoNote
     -- the node is linked
     pub link_made : (t : Seat FifoNote) (agent : ℕ) → AllAllowed (FifoMay n) [] t.seen → agent ≡ s.agent → t.slots ≡ b.slots → t.fresh ≡ unless_node b.fresh (Some (id_in b.slots h))
         → Puts b (event_of b (Move (Next tail) null (link_to (id_in b.slots h))) (Some (Entry (Put agent job at))) ∷ []) t
-        → position_of (heap_of n s) tail < 2 ^ 62 → at ≡ position_of (heap_of n s) tail → LinksJob n job tail at h s t
+        → position_of (heap_of n s) tail < 2 ^ 62 → at ≡ position_of (heap_of n s) tail → LinksJob n 2 KeepsTail job tail at h s t
     link_made t agent all agent_is slots fresh put low at_is =
         let e : Event FifoNote = event_of a (Fill (id_in a.slots h) 1 (at + 1)) None in
         let m : Event FifoNote = event_of b (Move (Next tail) null (link_to (id_in b.slots h))) (Some (Entry (Put agent job at))) in
         let p : Puts s (e ∷ m ∷ []) t = Puts-trans s b t (e ∷ []) (m ∷ []) filled_puts put in
         record {
           puts = record {
-            piece = record { own = _; slots = slots ∙ filled_slots; puts = p; entries_are = ap (λ (x : ℕ). Put x job at ∷ []) agent_is; no_give = refl };
+            piece = record { own = _; slots = slots ∙ filled_slots; puts = p; entries_are = ap (λ (x : ℕ). Put x job at ∷ []) agent_is; no_give = refl; few = omega arith };
+            helps = refl;
             fresh = fresh ∙ (ap (λ o. unless_node o (Some (id_in b.slots h))) filled_fresh ∙ unless_same (id_in b.slots h));
             low = omega (arith, low, at_is);
             room = room_unseen n s t _ p refl;
@@ -136,23 +138,29 @@ pub read_position : (n : HeapNumbers) (s a : Seat FifoNote) (tail value : ℕ) �
 read_position n s a tail value k o l r = position_read n a.seen tail value k (linked_puts n s a [] o.puts k.all tail l) r ∙ position_puts n s a [] o.puts k.all tail l
 
 -- and then the tail was swung on, or not
-pub link_helped : (n : HeapNumbers) (job tail next at : ℕ) (h : Hold) (s c t : Seat FifoNote) → AllAllowed (FifoMay n) [] t.seen → LinksJob n job tail at h s c → Helps tail next c t → LinksJob n job tail at h s t
-link_helped n job tail next at h s c t all l helped = elim helped.either [ inl moved ↦ done _ moved refl refl refl | inr missed ↦ done _ missed.puts refl refl refl ]
+pub link_helped : (n : HeapNumbers) (job tail next at : ℕ) (h : Hold) (s c t : Seat FifoNote) → AllAllowed (FifoMay n) [] t.seen → LinksJob n 2 KeepsTail job tail at h s c → Helps tail next c t → LinksJob n 3 (SwingsLast tail) job tail at h s t
+link_helped n job tail next at h s c t all l helped =
+    elim helped.either [
+      | inl moved ↦ done _ moved refl refl refl (inl (next, refl))
+      | inr missed ↦ done _ missed.puts refl refl refl (inr (missed.found, refl))
+    ]
   where
-    done : (own : List (Event FifoNote)) (q : Puts c own t) → entries_of own ≡ [] → gives_in own ≡ 0 → list_any (λ e. looks_at_end e.act) own ≡ false → LinksJob n job tail at h s t
-    done own q none no_give unseen =
+    done : (e : Event FifoNote) (q : Puts c (e ∷ []) t) → entries_of (e ∷ []) ≡ [] → gives_in (e ∷ []) ≡ 0 → list_any (λ x. looks_at_end x.act) (e ∷ []) ≡ false → SwingsTail tail e → LinksJob n 3 (SwingsLast tail) job tail at h s t
+    done e q none no_give unseen swings =
         let p = l.puts.piece in
-        let j = join s c t p.own own (Put s.agent job at ∷ []) p.puts q (helped.slots ∙ p.slots)
-        (entries_of-append p.own own ∙ (ap (λ z. entries_of p.own ++ z) none ∙ (append-nil (entries_of p.own) ∙ p.entries_are))) (omega (arith, gives_in-append p.own own, p.no_give, no_give)) in
+        let j = join 3 s c t p.own (e ∷ []) (Put s.agent job at ∷ []) p.puts q (helped.slots ∙ p.slots)
+        (entries_of-append p.own (e ∷ []) ∙ (ap (λ z. entries_of p.own ++ z) none ∙ (append-nil (entries_of p.own) ∙ p.entries_are))) (omega (arith, gives_in-append p.own (e ∷ []), p.no_give, no_give))
+        (omega (arith, length-append p.own (e ∷ []), p.few)) in
         record {
           puts = record {
             piece = j.piece;
+            helps = record { before = p.own; keeps = l.puts.helps; last = e; es_are = j.own_is; swings = swings };
             fresh = helped.fresh ∙ l.puts.fresh;
             low = l.puts.low;
-            room = room_join n s c t _ _ _ p.puts q j.piece.puts l.puts.room (room_unseen n c t own q unseen);
+            room = room_join n s c t _ _ _ p.puts q j.piece.puts l.puts.room (room_unseen n c t (e ∷ []) q unseen);
           };
           low = l.low;
-          link = link_puts n c t own q all tail (id_in s.slots h) l.link;
+          link = link_puts n c t (e ∷ []) q all tail (id_in s.slots h) l.link;
         }
 
 -- what the pass holds after the link
@@ -162,7 +170,7 @@ pub record LinkKept (s t : Seat FifoNote) : Type 0 where
   pub puts : Puts s own t
   pub fresh : (t.fresh ≡ s.fresh) ⊎ (t.fresh ≡ None)
 
-pub link_kept : (n : HeapNumbers) (job tail : ℕ) (h : Hold) (s t : Seat FifoNote) (turn : PutTurn) → LinksBehind n job tail h s turn t → LinkKept s t
-link_kept n job tail h s t PutOver l = record { own = l.stops.piece.own; slots = l.stops.piece.slots; puts = l.stops.piece.puts; fresh = inl l.stops.fresh }
-link_kept n job tail h s t (PutDone at) l = record { own = l.puts.piece.own; slots = l.puts.piece.slots; puts = l.puts.piece.puts; fresh = inr l.puts.fresh }
-link_kept n job tail h s t Full l = record { own = l.piece.own; slots = l.piece.slots; puts = l.piece.puts; fresh = inl l.fresh }
+pub link_kept : (n : HeapNumbers) (most : ℕ) (IsHelping : List (Event FifoNote) → Type 0) (job tail : ℕ) (h : Hold) (s t : Seat FifoNote) (turn : PutTurn) → LinksBehind n most IsHelping job tail h s turn t → LinkKept s t
+link_kept n most IsHelping job tail h s t PutOver l = record { own = l.stops.piece.own; slots = l.stops.piece.slots; puts = l.stops.piece.puts; fresh = inl l.stops.fresh }
+link_kept n most IsHelping job tail h s t (PutDone at) l = record { own = l.puts.piece.own; slots = l.puts.piece.slots; puts = l.puts.piece.puts; fresh = inr l.puts.fresh }
+link_kept n most IsHelping job tail h s t Full l = record { own = l.piece.own; slots = l.piece.slots; puts = l.piece.puts; fresh = inl l.fresh }

@@ -1,5 +1,6 @@
 -- A turn of a put, and so many.
-use Rattle.std.proofs.Common.{List, Some, None, [], ap, append-nil, append_assoc, arith, inl, inr, refl, subst, sym, true, ℕ, ◌++◌, ◌+◌, ◌∙◌, ◌∷◌, ◌≡◌, ◌≢◌, ◌≤◌}
+use Rattle.std.proofs.Common.{List, Some, None, [], ap, append-nil, append_assoc, arith, inl, inr, refl, subst, sym, true, ℕ, ◌*◌, ◌++◌, ◌+◌, ◌<◌, ◌∙◌, ◌∷◌, ◌≡◌, ◌≢◌, ◌≤◌}
+use Rattle.std.proofs.lemmas.List.{length-append}
 use Rattle.orc_heap.proofs.OwnParts.{moves_from_own-append, own_from_left, own_from_rest, own_from_right}
 use Rattle.orc_heap.proofs.Runs.{run_from-append}
 use Rattle.orc_heap.proofs.Stays.{allowed-left, allowed-right}
@@ -24,7 +25,7 @@ use Rattle.orc_fifo_rule.specs.Kept.Events.{begun_more, entries_of-append}
 use Rattle.orc_fifo_rule.specs.Kept.Kinds.{link_same, null_to, some_same}
 use Rattle.orc_queue.specs.declared.put.PutTurn.{PutTurn}
 use Rattle.orc_queue.specs.declared.put.PutTurn.TheVariants.{Full, Over as PutOver, Put as PutDone}
-use Rattle.orc_queue.specs.Turns.{AreOver, FindsFull, HoldsNode, IsOver, Piece, PutMissed, PutTires, PutsBehind, PutsTurn, PutsTurns, TailIsLast, heap_of}
+use Rattle.orc_queue.specs.Turns.{AreOver, EndsHelping, FindsFull, HoldsNode, IsOver, Piece, PutMissed, PutTires, PutsBehind, PutsTurn, PutsTurns, TailIsLast, heap_of}
 use Rattle.orc_queue.proofs.Alone.{over_helped, over_missed, over_quiet, swing_settles}
 use Rattle.orc_queue.proofs.Filled.{Known}
 use Rattle.orc_queue.proofs.Joins.{full_join_left, full_join_right, join, moves_left, one_part, puts_released, room_join}
@@ -77,7 +78,7 @@ module _ (n : HeapNumbers) (job tail : ℕ) (h : Hold) (s a b t : Seat FifoNote)
     turn_done PutOver l =
         let q0 = l.stops.piece in
         let q = puts_released a b t q0.own q0.puts freed in
-        let j = join s a t (at_tail n s tail 0 ∷ at_tail n s tail 0 ∷ []) q0.own [] p q slots q0.entries_are (omega (arith, q0.no_give)) in
+        let j = join 6 s a t (at_tail n s tail 0 ∷ at_tail n s tail 0 ∷ []) q0.own [] p q slots q0.entries_are (omega (arith, q0.no_give)) (omega (arith, q0.few)) in
         let fresh = fresh_t ∙ (l.stops.fresh ∙ fresh_a) in
         let moved = λ (at : shown (heap_of n a) (Root 1) ≡ Some (link_to tail)). enough (l.stops.moved at) (moves_left a b t q0.own [] q0.own q0.puts freed q) in
         let over : IsOver n TailIsLast s t = elim l.stops.own_moves [
@@ -93,16 +94,17 @@ module _ (n : HeapNumbers) (job tail : ℕ) (h : Hold) (s a b t : Seat FifoNote)
         ] in
         record {
           over = over;
-          room = room_join n s a t _ _ _ p q over.piece.puts first_room (room_join n a b t _ _ _ q0.puts freed q l.room (room_unseen n b t [] freed refl));
+          room = room_join n s a t _ _ over.piece.own p q over.piece.puts first_room (room_join n a b t _ _ _ q0.puts freed q l.room (room_unseen n b t [] freed refl));
           node = node_held n b t [] freed all_t job h l.node.second kb l.node held same_id fresh_t refl refl;
         }
     turn_done (PutDone at) l =
         let q0 = l.piece in
         let q = puts_released a b t q0.own q0.puts freed in
         let entries : entries_of q0.own ≡ Put s.agent job at ∷ [] = q0.entries_are ∙ ap (λ (x : ℕ). Put x job at ∷ []) p.agent in
-        let j = join s a t (at_tail n s tail 0 ∷ at_tail n s tail 0 ∷ []) q0.own (Put s.agent job at ∷ []) p q slots entries (omega (arith, q0.no_give)) in
+        let j = join 6 s a t (at_tail n s tail 0 ∷ at_tail n s tail 0 ∷ []) q0.own (Put s.agent job at ∷ []) p q slots entries (omega (arith, q0.no_give)) (omega (arith, q0.few)) in
         record {
           piece = j.piece;
+          helps = record { before = at_tail n s tail 0 ∷ []; tail = tail; look = at_tail n s tail 0; sees = refl; rest = q0.own; es_are = j.own_is; swings = l.helps };
           fresh = fresh_t ∙ l.fresh;
           low = l.low;
           room = room_join n s a t _ _ _ p q j.piece.puts first_room (room_join n a b t _ _ _ q0.puts freed q l.room (room_unseen n b t [] freed refl));
@@ -110,7 +112,7 @@ module _ (n : HeapNumbers) (job tail : ℕ) (h : Hold) (s a b t : Seat FifoNote)
     turn_done Full l =
         let q0 = l.piece in
         let q = puts_released a b t q0.own q0.puts freed in
-        let j = join s a t (at_tail n s tail 0 ∷ at_tail n s tail 0 ∷ []) q0.own [] p q slots q0.entries_are (omega (arith, q0.no_give)) in
+        let j = join 6 s a t (at_tail n s tail 0 ∷ at_tail n s tail 0 ∷ []) q0.own [] p q slots q0.entries_are (omega (arith, q0.no_give)) (omega (arith, q0.few)) in
         record {
           piece = j.piece;
           fresh = fresh_t ∙ (l.fresh ∙ fresh_a);
@@ -121,7 +123,7 @@ module _ (n : HeapNumbers) (job tail : ℕ) (h : Hold) (s a b t : Seat FifoNote)
 pub turn_moved : (n : HeapNumbers) (job : ℕ) (h : Hold) (s t : Seat FifoNote) (one two : Link) → Known n s.seen → AllAllowed (FifoMay n) [] t.seen → HoldsNode n job h s → one ≢ two → t.slots ≡ s.slots → t.fresh ≡ s.fresh
     → Puts s (event_of s (Look (Root 1) one) None ∷ event_of s (Look (Root 1) two) None ∷ []) t → PutMissed n job h s t
 turn_moved n job h s t one two k all node other slots fresh p =
-    let piece : Piece s [] t = record { own = _; slots = slots; puts = p; entries_are = refl; no_give = refl } in
+    let piece : Piece 6 s [] t = record { own = _; slots = slots; puts = p; entries_are = refl; no_give = refl; few = omega arith } in
     let over = over_quiet n TailIsLast s t piece fresh refl (looks_differ n s t (Root 1) one two p all tt other) in
     record {
       over = over;
@@ -134,8 +136,8 @@ pub over_next : (n : HeapNumbers) (IsSettled : Heap → Type 0) (turns : ℕ) (s
 over_next n IsSettled turns s t u all one =
     let p = all.piece.puts in
     let q = one.piece.puts in
-    let j = join s t u all.piece.own one.piece.own [] p q (one.piece.slots ∙ all.piece.slots) (entries_of-append all.piece.own one.piece.own ∙ (ap (λ z. z ++ entries_of one.piece.own) all.piece.entries_are ∙ one.piece.entries_are))
-    (omega (arith, gives_in-append all.piece.own one.piece.own, all.piece.no_give, one.piece.no_give)) in
+    let j = join (6 * (turns + 1)) s t u all.piece.own one.piece.own [] p q (one.piece.slots ∙ all.piece.slots) (entries_of-append all.piece.own one.piece.own ∙ (ap (λ z. z ++ entries_of one.piece.own) all.piece.entries_are ∙ one.piece.entries_are))
+    (omega (arith, gives_in-append all.piece.own one.piece.own, all.piece.no_give, one.piece.no_give)) (omega (arith, length-append all.piece.own one.piece.own, all.piece.few, one.piece.few)) in
     let moved : 1 ≤ moves_in (from_own s.agent q.part) = subst (λ (x : ℕ). 1 ≤ moves_in (from_own x q.part)) p.agent one.moved in
     let settles = subst (λ (x : ℕ). AllOwn x (from_own x q.part) → IsSettled (heap_of n u)) p.agent one.settles in
     let unsettled = subst (λ (x : ℕ). AllOwn x q.part → IsSettled (heap_of n t) → ⊥) p.agent one.unsettled in
@@ -153,7 +155,7 @@ over_next n IsSettled turns s t u all one =
 -- no turn yet
 pub over_none : (n : HeapNumbers) (IsSettled : Heap → Type 0) (s : Seat FifoNote) → AreOver n IsSettled 0 s s
 over_none n IsSettled s = record {
-  piece = record { own = []; slots = refl; puts = record { part = []; is = sym (append-nil s.seen); agent = refl; own_is = refl }; entries_are = refl; no_give = refl };
+  piece = record { own = []; slots = refl; puts = record { part = []; is = sym (append-nil s.seen); agent = refl; own_is = refl }; entries_are = refl; no_give = refl; few = omega arith };
   fresh = refl;
   moved = omega arith;
   settles = λ some alone. absurd (omega (arith, some));
@@ -170,18 +172,22 @@ tires_next n job turns h s t u all one =
     let over = over_next n TailIsLast turns s t u all.over one.over in
     record { over = over; room = room_join n s t u _ _ _ all.over.piece.puts one.over.piece.puts over.piece.puts all.room one.room; node = one.node }
 
+-- the help of the tail after other events
+pub ends_helping : (es fs : List (Event FifoNote)) → EndsHelping fs → EndsHelping (es ++ fs)
+ends_helping es fs h = record { before = es ++ h.before; tail = h.tail; look = h.look; sees = h.sees; rest = h.rest; es_are = ap (λ z. es ++ z) h.es_are ∙ sym (append_assoc es h.before (h.look ∷ h.rest)); swings = h.swings }
+
 -- the turn that answers
-pub turns_done : (n : HeapNumbers) (job turns more : ℕ) (h : Hold) (s t u : Seat FifoNote) (turn : PutTurn) → turn ≢ PutOver → PutTires n job turns h s t → PutsTurn n job h t turn u → PutsTurns n job more h s turn u
-turns_done n job turns more h s t u PutOver ne all one = absurd (ne refl)
-turns_done n job turns more h s t u (PutDone at) ne all one =
+pub turns_done : (n : HeapNumbers) (job turns more : ℕ) (h : Hold) (s t u : Seat FifoNote) (turn : PutTurn) → turn ≢ PutOver → turns < more → PutTires n job turns h s t → PutsTurn n job h t turn u → PutsTurns n job more h s turn u
+turns_done n job turns more h s t u PutOver ne low all one = absurd (ne refl)
+turns_done n job turns more h s t u (PutDone at) ne low all one =
     let q = all.over.piece in
     let r = one.piece in
     let entries : entries_of (q.own ++ r.own) ≡ Put s.agent job at ∷ [] = entries_of-append q.own r.own ∙ (ap (λ z. z ++ entries_of r.own) q.entries_are ∙ (r.entries_are ∙ ap (λ (x : ℕ). Put x job at ∷ []) q.puts.agent)) in
-    let j = join s t u q.own r.own (Put s.agent job at ∷ []) q.puts r.puts (r.slots ∙ q.slots) entries (omega (arith, gives_in-append q.own r.own, q.no_give, r.no_give)) in
-    record { piece = j.piece; fresh = one.fresh; low = one.low; room = room_join n s t u _ _ _ q.puts r.puts j.piece.puts all.room one.room }
-turns_done n job turns more h s t u Full ne all one =
+    let j = join (6 * more) s t u q.own r.own (Put s.agent job at ∷ []) q.puts r.puts (r.slots ∙ q.slots) entries (omega (arith, gives_in-append q.own r.own, q.no_give, r.no_give)) (omega (arith, length-append q.own r.own, q.few, r.few, low)) in
+    record { piece = j.piece; helps = subst EndsHelping (sym j.own_is) (ends_helping q.own r.own one.helps); fresh = one.fresh; low = one.low; room = room_join n s t u _ _ _ q.puts r.puts j.piece.puts all.room one.room }
+turns_done n job turns more h s t u Full ne low all one =
     let q = all.over.piece in
     let r = one.piece in
     let entries : entries_of (q.own ++ r.own) ≡ [] = entries_of-append q.own r.own ∙ (ap (λ z. z ++ entries_of r.own) q.entries_are ∙ r.entries_are) in
-    let j = join s t u q.own r.own [] q.puts r.puts (r.slots ∙ q.slots) entries (omega (arith, gives_in-append q.own r.own, q.no_give, r.no_give)) in
+    let j = join (6 * more) s t u q.own r.own [] q.puts r.puts (r.slots ∙ q.slots) entries (omega (arith, gives_in-append q.own r.own, q.no_give, r.no_give)) (omega (arith, length-append q.own r.own, q.few, r.few, low)) in
     record { piece = j.piece; fresh = one.fresh ∙ all.over.fresh; full = full_join_right n s t u _ _ _ q.puts r.puts j.piece.puts one.full }

@@ -26,9 +26,14 @@ use Rattle.orc_fifo_rule.specs.Kept.Events.{begun_more, entries_of-append}
 use Rattle.orc_fifo_rule.specs.Kept.Laws.{fifo_keeps}
 use Rattle.orc_fifo_rule.specs.Kept.Nodes.{position_next}
 use Rattle.orc_fifo_rule.specs.Kept.Paths.{has_link}
-use Rattle.orc_queue.specs.Turns.{FindsFull, heap_of, looks_at_end, next_position}
+use Rattle.orc_queue.specs.Turns.{FindsFull, heap_of, next_position}
 use Rattle.orc_queue.proofs.Filled.{Known}
 use Rattle.orc_queue.proofs.Moments.{moment}
+
+-- the act is a Look that finds the null link of a node
+abbrev pub looks_at_end : Act → Bool
+looks_at_end (Look (Next id) link) = not (is_some link.to)
+looks_at_end act = false
 
 -- of one list of events after another
 pub full_either : (n : HeapNumbers) (agent : ℕ) (seen es fs : List (Event FifoNote)) → FindsFull n agent seen (es ++ fs) → FindsFull n agent seen es ⊎ FindsFull n agent (seen ++ es) fs
@@ -83,10 +88,11 @@ room_low : (n : HeapNumbers) (agent id : ℕ) (seen es : List (Event FifoNote)) 
 room_low n agent id seen [] holds begun named all ends low f = f
 room_low n agent id seen (e ∷ es) holds begun named all ends low (inl here) =
     let mine : EndsOnlyAt id (e ∷ events_by agent es) = rw (eq-eqb e.agent agent here.mine) at ends in
-    let (link, act_is) = mine.0 here.at_end in
+    let null_end : looks_at_end e.act ≡ true = ap (λ (a : Act). looks_at_end a) here.at_end in
+    let (link, act_is) = mine.0 null_end in
     let h = run_heap n seen in
     let at : shown h (Next id) ≡ Some link = subst (λ (a : Act). Fits e.agent a h) act_is all.0.fits in
-    let at_end : not (is_some link.to) ≡ true = subst (λ (a : Act). looks_at_end a ≡ true) act_is here.at_end in
+    let at_end : not (is_some link.to) ≡ true = subst (λ (a : Act). looks_at_end a ≡ true) act_is null_end in
     elim (link_leads n seen id link holds (has_link h id link named.linked at)) [
       | inl none ↦ omega (arith, low, here.full, position_is_next n seen id holds begun named (at ∙ ap (λ (x : Link). Some x) none))
       | inr leads ↦
@@ -114,9 +120,10 @@ full_at n s t id rest p k all named high =
     let m = moment n s t [] e rest p all in
     let es = s.seen ++ m.before in
     let holds = holds_later n s.seen m.before k.holds m.first in
-    let next = position_is_next n es id holds (begun_more s.seen m.before k.dummy.begun) (named_later n s.seen m.before 1 id named m.first) m.here.fits in
+    let named_then = named_later n s.seen m.before 1 id named m.first in
+    let next = position_is_next n es id holds (begun_more s.seen m.before k.dummy.begun) named_then m.here.fits in
     let same = position_later n s.seen m.before id named.linked m.first in
-    subst (λ z. FindsFull n s.agent s.seen z) (sym m.part_is) (full_right n s.agent s.seen m.before (e ∷ m.later) (inl (record { mine = refl; at_end = refl; full = omega (arith, high, next, same) })))
+    subst (λ z. FindsFull n s.agent s.seen z) (sym m.part_is) (full_right n s.agent s.seen m.before (e ∷ m.later) (inl (record { mine = refl; id = id; linked = named_then.linked; at_end = refl; full = omega (arith, high, next, same) })))
 
 -- then the first position and the Puts of all that was seen make as much
 pub full_puts : (n : HeapNumbers) (agent : ℕ) (seen es : List (Event FifoNote)) → FifoHolds n seen → has_begun seen ≡ true → AllAllowed (FifoMay n) seen es → FindsFull n agent seen es → 2 ^ 62 ≤ next_position n (seen ++ es)

@@ -1,5 +1,6 @@
 -- A turn of a take, and so many.
-use Rattle.std.proofs.Common.{List, Option, Some, None, [], ap, append_assoc, arith, inl, inr, refl, subst, sym, true, ℕ, ◌++◌, ◌∙◌, ◌∷◌, ◌≡◌, ◌≢◌, ◌≤◌}
+use Rattle.std.proofs.Common.{List, Option, Some, None, [], ap, append_assoc, arith, inl, inr, refl, subst, sym, true, ℕ, ◌*◌, ◌++◌, ◌<◌, ◌∙◌, ◌∷◌, ◌≡◌, ◌≢◌, ◌≤◌}
+use Rattle.std.proofs.lemmas.List.{length-append}
 use Rattle.orc_heap.proofs.OwnParts.{moves_from_own}
 use Rattle.orc_heap.proofs.Runs.{run_from-append}
 use Rattle.orc_heap.proofs.Stays.{allowed-left, allowed-right}
@@ -38,16 +39,16 @@ enough p q = omega (arith, p, q)
 module _ (n : HeapNumbers) (head : ℕ) (s a t : Seat FifoNote) (linked : IsLinkedNode (heap_of n s) head) (p : Puts s (event_of s (Look (Next head) null) None ∷ []) a) (all_a : AllAllowed (FifoMay n) [] a.seen)
     (slots : a.slots ≡ s.slots) (fresh : a.fresh ≡ s.fresh)
   where
-    pub behind_empty : TakesNone a t → TakesNone s t
+    pub behind_empty : TakesNone 1 a t → TakesNone 4 s t
     behind_empty l =
         let q = l.piece in
-        let j = join s a t (event_of s (Look (Next head) null) None ∷ []) q.own (Empty s.agent ∷ []) p q.puts (q.slots ∙ slots) (q.entries_are ∙ ap (λ (x : ℕ). Empty x ∷ []) p.agent) (omega (arith, q.no_give)) in
+        let j = join 4 s a t (event_of s (Look (Next head) null) None ∷ []) q.own (Empty s.agent ∷ []) p q.puts (q.slots ∙ slots) (q.entries_are ∙ ap (λ (x : ℕ). Empty x ∷ []) p.agent) (omega (arith, q.no_give)) (omega (arith, q.few)) in
         record { piece = j.piece; fresh = l.fresh ∙ fresh }
 
-    pub behind_lost : Stops n (Next head) null (λ own. ⊥) a t → Stops n (Root 0) (link_to head) (HelpsHead s head) s t
+    pub behind_lost : Stops n 1 (Next head) null (λ own. ⊥) a t → Stops n 4 (Root 0) (link_to head) (HelpsHead s head) s t
     behind_lost l =
         let q = l.piece in
-        let j = join s a t (event_of s (Look (Next head) null) None ∷ []) q.own [] p q.puts (q.slots ∙ slots) q.entries_are (omega (arith, q.no_give)) in
+        let j = join 4 s a t (event_of s (Look (Next head) null) None ∷ []) q.own [] p q.puts (q.slots ∙ slots) q.entries_are (omega (arith, q.no_give)) (omega (arith, q.few)) in
         let found = look_found n s a (Next head) null None [] p all_a linked in
         record {
           piece = j.piece;
@@ -63,12 +64,12 @@ module _ (n : HeapNumbers) (head : ℕ) (s a t : Seat FifoNote) (linked : IsLink
 module _ (n : HeapNumbers) (head next : ℕ) (s a b t : Seat FifoNote) (p : Puts s (event_of s (Look (Next head) (link_to next)) None ∷ event_of s (Look (Next head) (link_to next)) None ∷ []) a)
     (all_a : AllAllowed (FifoMay n) [] a.seen) (freed : Puts b [] t) (slots : t.slots ≡ s.slots) (fresh_a : a.fresh ≡ s.fresh) (fresh_t : t.fresh ≡ b.fresh)
   where
-    pub behind_over : TakesNext n head next a None b → Stops n (Root 0) (link_to head) (HelpsHead s head) s t
+    pub behind_over : TakesNext n head next a None b → Stops n 4 (Root 0) (link_to head) (HelpsHead s head) s t
     behind_over l =
         let first : Event FifoNote = event_of s (Look (Next head) (link_to next)) None in
         let q0 = l.piece in
         let q = puts_released a b t q0.own q0.puts freed in
-        let j = join s a t (first ∷ first ∷ []) q0.own [] p q slots q0.entries_are (omega (arith, q0.no_give)) in
+        let j = join 4 s a t (first ∷ first ∷ []) q0.own [] p q slots q0.entries_are (omega (arith, q0.no_give)) (omega (arith, q0.few)) in
         record {
           piece = j.piece;
           fresh = fresh_t ∙ (l.fresh ∙ fresh_a);
@@ -86,18 +87,18 @@ module _ (n : HeapNumbers) (head next : ℕ) (s a b t : Seat FifoNote) (p : Puts
           ];
         }
 
-    pub behind_taken : (job at : ℕ) → TakesJob job at a b → TakesJob job at s t
+    pub behind_taken : (job at : ℕ) → TakesJob 2 job at a b → TakesJob 4 job at s t
     behind_taken job at l =
         let q0 = l.piece in
         let q = puts_released a b t q0.own q0.puts freed in
-        let j = join s a t _ q0.own (Took s.agent job at ∷ []) p q slots (q0.entries_are ∙ ap (λ (x : ℕ). Took x job at ∷ []) p.agent) (omega (arith, q0.no_give)) in
+        let j = join 4 s a t _ q0.own (Took s.agent job at ∷ []) p q slots (q0.entries_are ∙ ap (λ (x : ℕ). Took x job at ∷ []) p.agent) (omega (arith, q0.no_give)) (omega (arith, q0.few)) in
         record { piece = j.piece; fresh = fresh_t ∙ (l.fresh ∙ fresh_a) }
 
 -- the head's link moved between two looks
 pub behind_differs : (n : HeapNumbers) (head : ℕ) (s t : Seat FifoNote) (one two : Link) → AllAllowed (FifoMay n) [] t.seen → IsLinkedNode (heap_of n s) head → one ≢ two → t.slots ≡ s.slots → t.fresh ≡ s.fresh
-    → Puts s (event_of s (Look (Next head) one) None ∷ event_of s (Look (Next head) two) None ∷ []) t → Stops n (Root 0) (link_to head) (HelpsHead s head) s t
+    → Puts s (event_of s (Look (Next head) one) None ∷ event_of s (Look (Next head) two) None ∷ []) t → Stops n 4 (Root 0) (link_to head) (HelpsHead s head) s t
 behind_differs n head s t one two all linked other slots fresh p = record {
-  piece = record { own = _; slots = slots; puts = p; entries_are = refl; no_give = refl };
+  piece = record { own = _; slots = slots; puts = p; entries_are = refl; no_give = refl; few = omega arith };
   fresh = fresh;
   moved = λ at. omega (arith, moves_from_own s.agent p.part, looks_differ n s t (Next head) one two p all linked other);
   own_moves = inl refl;
@@ -164,7 +165,7 @@ module _ (n : HeapNumbers) (head : ℕ) (s a b t : Seat FifoNote) (k : Known n s
         let q0 = l.piece in
         let q = puts_released a b t q0.own q0.puts freed in
         let looks : List (Event FifoNote) = at_head n s head 0 ∷ at_head n s head 0 ∷ [] in
-        let j = join s a t looks q0.own [] p q slots q0.entries_are (omega (arith, q0.no_give)) in
+        let j = join 6 s a t looks q0.own [] p q slots q0.entries_are (omega (arith, q0.no_give)) (omega (arith, q0.few)) in
         let fresh = fresh_t ∙ (l.fresh ∙ fresh_a) in
         let moved = λ (at : shown (heap_of n a) (Root 0) ≡ Some (link_to head)). enough (l.moved at) (moves_left a b t q0.own [] q0.own q0.puts freed q) in
         elim l.own_moves [
@@ -181,32 +182,32 @@ module _ (n : HeapNumbers) (head : ℕ) (s a b t : Seat FifoNote) (k : Known n s
     turn_taken (TakeDone job at) l =
         let q0 = l.piece in
         let q = puts_released a b t q0.own q0.puts freed in
-        let j = join s a t _ q0.own (Took s.agent job at ∷ []) p q slots (q0.entries_are ∙ ap (λ (x : ℕ). Took x job at ∷ []) p.agent) (omega (arith, q0.no_give)) in
+        let j = join 6 s a t _ q0.own (Took s.agent job at ∷ []) p q slots (q0.entries_are ∙ ap (λ (x : ℕ). Took x job at ∷ []) p.agent) (omega (arith, q0.no_give)) (omega (arith, q0.few)) in
         record { piece = j.piece; fresh = fresh_t ∙ (l.fresh ∙ fresh_a) }
     turn_taken TakeEmpty l =
         let q0 = l.piece in
         let q = puts_released a b t q0.own q0.puts freed in
-        let j = join s a t _ q0.own (Empty s.agent ∷ []) p q slots (q0.entries_are ∙ ap (λ (x : ℕ). Empty x ∷ []) p.agent) (omega (arith, q0.no_give)) in
+        let j = join 6 s a t _ q0.own (Empty s.agent ∷ []) p q slots (q0.entries_are ∙ ap (λ (x : ℕ). Empty x ∷ []) p.agent) (omega (arith, q0.no_give)) (omega (arith, q0.few)) in
         record { piece = j.piece; fresh = fresh_t ∙ (l.fresh ∙ fresh_a) }
 
 -- the head moved between two looks
 pub turn_differs : (n : HeapNumbers) (s t : Seat FifoNote) (one two : Link) → AllAllowed (FifoMay n) [] t.seen → one ≢ two → t.slots ≡ s.slots → t.fresh ≡ s.fresh
     → Puts s (event_of s (Look (Root 0) one) None ∷ event_of s (Look (Root 0) two) None ∷ []) t → IsOver n TailIsPast s t
 turn_differs n s t one two all other slots fresh p =
-    over_quiet n TailIsPast s t (record { own = _; slots = slots; puts = p; entries_are = refl; no_give = refl }) fresh refl (looks_differ n s t (Root 0) one two p all tt other)
+    over_quiet n TailIsPast s t (record { own = _; slots = slots; puts = p; entries_are = refl; no_give = refl; few = omega arith }) fresh refl (looks_differ n s t (Root 0) one two p all tt other)
 
 -- the turn that answers
-pub turns_taken : (n : HeapNumbers) (turns more : ℕ) (s t u : Seat FifoNote) (turn : TakeTurn) → turn ≢ TakeOver → more ≢ 0 → AreOver n TailIsPast turns s t → TakesTurn n t turn u → TakesTurns n more s turn u
-turns_taken n turns more s t u TakeOver ne some all one = absurd (ne refl)
-turns_taken n turns more s t u (TakeDone job at) ne some all one =
+pub turns_taken : (n : HeapNumbers) (turns more : ℕ) (s t u : Seat FifoNote) (turn : TakeTurn) → turn ≢ TakeOver → turns < more → AreOver n TailIsPast turns s t → TakesTurn n t turn u → TakesTurns n more s turn u
+turns_taken n turns more s t u TakeOver ne low all one = absurd (ne refl)
+turns_taken n turns more s t u (TakeDone job at) ne low all one =
     let q = all.piece in
     let r = one.piece in
     let entries : entries_of (q.own ++ r.own) ≡ Took s.agent job at ∷ [] = entries_of-append q.own r.own ∙ (ap (λ z. z ++ entries_of r.own) q.entries_are ∙ (r.entries_are ∙ ap (λ (x : ℕ). Took x job at ∷ []) q.puts.agent)) in
-    let j = join s t u q.own r.own (Took s.agent job at ∷ []) q.puts r.puts (r.slots ∙ q.slots) entries (omega (arith, gives_in-append q.own r.own, q.no_give, r.no_give)) in
-    (some, record { piece = j.piece; fresh = one.fresh ∙ all.fresh })
-turns_taken n turns more s t u TakeEmpty ne some all one =
+    let j = join (6 * more) s t u q.own r.own (Took s.agent job at ∷ []) q.puts r.puts (r.slots ∙ q.slots) entries (omega (arith, gives_in-append q.own r.own, q.no_give, r.no_give)) (omega (arith, length-append q.own r.own, q.few, r.few, low)) in
+    (λ none. omega (arith, none, low), record { piece = j.piece; fresh = one.fresh ∙ all.fresh })
+turns_taken n turns more s t u TakeEmpty ne low all one =
     let q = all.piece in
     let r = one.piece in
     let entries : entries_of (q.own ++ r.own) ≡ Empty s.agent ∷ [] = entries_of-append q.own r.own ∙ (ap (λ z. z ++ entries_of r.own) q.entries_are ∙ (r.entries_are ∙ ap (λ (x : ℕ). Empty x ∷ []) q.puts.agent)) in
-    let j = join s t u q.own r.own (Empty s.agent ∷ []) q.puts r.puts (r.slots ∙ q.slots) entries (omega (arith, gives_in-append q.own r.own, q.no_give, r.no_give)) in
-    (some, record { piece = j.piece; fresh = one.fresh ∙ all.fresh })
+    let j = join (6 * more) s t u q.own r.own (Empty s.agent ∷ []) q.puts r.puts (r.slots ∙ q.slots) entries (omega (arith, gives_in-append q.own r.own, q.no_give, r.no_give)) (omega (arith, length-append q.own r.own, q.few, r.few, low)) in
+    (λ none. omega (arith, none, low), record { piece = j.piece; fresh = one.fresh ∙ all.fresh })

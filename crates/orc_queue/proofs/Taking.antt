@@ -1,5 +1,6 @@
 -- A take, from the head and its successor on.
-use Rattle.std.proofs.Common.{Bool, List, Option, Some, None, [], ap, arith, false, inl, inr, refl, subst, sym, true, ℕ, ◌++◌, ◌+◌, ◌∙◌, ◌∷◌, ◌≡◌, ◌≢◌, ◌≤◌, ◌⊎◌}
+use Rattle.std.proofs.Common.{Bool, List, Option, Some, None, [], ap, arith, false, inl, inr, length, refl, subst, sym, true, ℕ, ◌++◌, ◌+◌, ◌∙◌, ◌∷◌, ◌≡◌, ◌≢◌, ◌≤◌, ◌⊎◌}
+use Rattle.std.proofs.lemmas.List.{length-append}
 use Rattle.std.specs.Borrow.{Bor}
 use Rattle.orc_heap.proofs.Moved.{moves_in-append, shown_or_moved}
 use Rattle.orc_heap.proofs.OwnParts.{moves_from_own}
@@ -40,11 +41,11 @@ use Rattle.orc_queue.proofs.Pieces.{gives_in-append, left_puts, link_puts, new_a
 pub end_found : (n : HeapNumbers) (s t : Seat FifoNote) (head : Bor Hold) (agent : ℕ) (done : Bool) → agent ≡ s.agent → IsLinkedNode (heap_of n s) (id_in s.slots head.now) → AllAllowed (FifoMay n) [] t.seen
     → Tests (AtNode head) (WantNull false) (Some (Entry (Empty agent))) s done t → FindsEnd n (id_in s.slots head.now) s done t
 end_found n s t head agent true agent_is linked all w = record {
-  piece = record { own = _; slots = w.slots; puts = w.puts; entries_are = ap (λ (x : ℕ). Empty x ∷ []) agent_is; no_give = refl };
+  piece = record { own = _; slots = w.slots; puts = w.puts; entries_are = ap (λ (x : ℕ). Empty x ∷ []) agent_is; no_give = refl; few = omega arith };
   fresh = w.fresh;
 }
 end_found n s t head agent false agent_is linked all w = record {
-  piece = record { own = _; slots = w.slots; puts = w.puts.puts; entries_are = refl; no_give = refl };
+  piece = record { own = _; slots = w.slots; puts = w.puts.puts; entries_are = refl; no_give = refl; few = omega arith };
   fresh = w.fresh;
   moved = miss_moved n s t (Next (id_in s.slots head.now)) null w.puts.found [] _ [] w.puts.puts refl all linked w.puts.other;
   own_moves = inl refl;
@@ -62,23 +63,23 @@ job_puts n s t own p all id job at j = subst (λ es. HasJob (run_heap n es) id j
 
 -- the swing of the head, after nothing of the pass's own
 pub head_swung : (n : HeapNumbers) (s b t : Seat FifoNote) (head next : Bor Hold) (agent job at : ℕ) (done : Bool) → agent ≡ s.agent → Only [] s b → AllAllowed (FifoMay n) [] t.seen
-    → Swings (AtRoot 0) (WantNode head false) (WantNode next false) (Some (Entry (Took agent job at))) b done t → done ≡ true → b.fresh ≢ Some (id_in b.slots next.now) → TakesJob job at s t
+    → Swings (AtRoot 0) (WantNode head false) (WantNode next false) (Some (Entry (Took agent job at))) b done t → done ≡ true → b.fresh ≢ Some (id_in b.slots next.now) → TakesJob 1 job at s t
 head_swung n s b t head next agent job at true agent_is o all w is other =
     let p = Puts-trans s b t [] _ o.puts w.puts in
     record {
-      piece = record { own = _; slots = w.slots ∙ o.slots; puts = p; entries_are = ap (λ (x : ℕ). Took x job at ∷ []) agent_is; no_give = refl };
+      piece = record { own = _; slots = w.slots ∙ o.slots; puts = p; entries_are = ap (λ (x : ℕ). Took x job at ∷ []) agent_is; no_give = refl; few = omega arith };
       fresh = w.fresh ∙ (unless_other b.fresh (id_in b.slots next.now) other ∙ o.fresh);
     }
 head_swung n s b t head next agent job at false agent_is o all w is other = cc
 
 pub head_missed : (n : HeapNumbers) (s b t : Seat FifoNote) (head next : Bor Hold) (noted : Option FifoNote) (done : Bool) → Only [] s b → AllAllowed (FifoMay n) [] t.seen
-    → Swings (AtRoot 0) (WantNode head false) (WantNode next false) noted b done t → done ≡ false → Stops n (Root 0) (link_to (id_in s.slots head.now)) (λ own. ⊥) s t
+    → Swings (AtRoot 0) (WantNode head false) (WantNode next false) noted b done t → done ≡ false → Stops n 1 (Root 0) (link_to (id_in s.slots head.now)) (λ own. ⊥) s t
 head_missed n s b t head next noted true o all w is = cc
 head_missed n s b t head next noted false o all w is =
     let p = Puts-trans s b t [] _ o.puts w.puts.puts in
     let same : id_in b.slots head.now ≡ id_in s.slots head.now = ap (λ z. id_in z head.now) o.slots in
     record {
-      piece = record { own = _; slots = w.slots ∙ o.slots; puts = p; entries_are = refl; no_give = refl };
+      piece = record { own = _; slots = w.slots ∙ o.slots; puts = p; entries_are = refl; no_give = refl; few = omega arith };
       fresh = w.fresh ∙ o.fresh;
       moved = subst (λ (i : ℕ). shown (heap_of n s) (Root 0) ≡ Some (link_to i) → 1 ≤ moves_in p.part) same
           (miss_moved n s t (Root 0) (link_to (id_in b.slots head.now)) w.puts.found [] _ [] p refl all tt w.puts.other);
@@ -96,12 +97,12 @@ still_puts n s t own p all root link at =
 
 -- the tail named the head: it was helped on
 pub past_helped : (n : HeapNumbers) (head next : ℕ) (place : Place) (link : Link) (s a b : Seat FifoNote) (p : Puts s (event_of s (Look (Root 1) (link_to head)) None ∷ []) a) → AllAllowed (FifoMay n) [] a.seen → AllAllowed (FifoMay n) [] b.seen
-    → a.slots ≡ s.slots → a.fresh ≡ s.fresh → Helps head next a b → Stops n place link (HelpsPast s head next) s b
+    → a.slots ≡ s.slots → a.fresh ≡ s.fresh → Helps head next a b → Stops n 2 place link (HelpsPast s head next) s b
 past_helped n head next place link s a b p all_a all_b slots fresh helped = elim helped.either [
   | inl moved ↦
       let act = Move (Root 1) (link_to head) (link_to next) in
       let q : Puts a (event_of s act (Some Swing) ∷ []) b = subst (λ (x : ℕ). Puts a (record { agent = x; act = act; note = Some Swing } ∷ []) b) p.agent moved in
-      let j = join s a b (event_of s (Look (Root 1) (link_to head)) None ∷ []) (event_of s act (Some Swing) ∷ []) [] p q (helped.slots ∙ slots) refl refl in
+      let j = join 2 s a b (event_of s (Look (Root 1) (link_to head)) None ∷ []) (event_of s act (Some Swing) ∷ []) [] p q (helped.slots ∙ slots) refl refl (omega arith) in
       record {
         piece = j.piece;
         fresh = helped.fresh ∙ fresh;
@@ -109,7 +110,7 @@ past_helped n head next place link s a b p all_a all_b slots fresh helped = elim
         own_moves = inr j.own_is;
       }
   | inr missed ↦
-      let j = join s a b (event_of s (Look (Root 1) (link_to head)) None ∷ []) _ [] p missed.puts (helped.slots ∙ slots) refl refl in
+      let j = join 2 s a b (event_of s (Look (Root 1) (link_to head)) None ∷ []) _ [] p missed.puts (helped.slots ∙ slots) refl refl (omega arith) in
       let found = look_found n s a (Root 1) (link_to head) None [] p all_a tt in
       record {
         piece = j.piece;
@@ -135,10 +136,10 @@ past_left n head s a k all named miss =
 
 -- and then the job was taken, or not
 pub past_taken : (n : HeapNumbers) (head next : ℕ) (s a t : Seat FifoNote) (own : List (Event FifoNote)) (p : Puts s own a) → AllAllowed (FifoMay n) [] a.seen → a.slots ≡ s.slots → a.fresh ≡ s.fresh
-    → entries_of own ≡ [] → gives_in own ≡ 0 → moves_in own ≡ 0 → (got : Option (ℕ × ℕ)) → TakesFrom n head a got t → TakesNext n head next s got t
-past_taken n head next s a t own p all slots fresh no_entry no_give no_move None l =
+    → entries_of own ≡ [] → gives_in own ≡ 0 → moves_in own ≡ 0 → length own ≤ 1 → (got : Option (ℕ × ℕ)) → TakesFrom n head a got t → TakesNext n head next s got t
+past_taken n head next s a t own p all slots fresh no_entry no_give no_move one None l =
     let q = l.piece in
-    let j = join s a t own q.own [] p q.puts (q.slots ∙ slots) (entries_of-append own q.own ∙ (ap (λ z. z ++ entries_of q.own) no_entry ∙ q.entries_are)) (omega (arith, gives_in-append own q.own, no_give, q.no_give)) in
+    let j = join 2 s a t own q.own [] p q.puts (q.slots ∙ slots) (entries_of-append own q.own ∙ (ap (λ z. z ++ entries_of q.own) no_entry ∙ q.entries_are)) (omega (arith, gives_in-append own q.own, no_give, q.no_give)) (omega (arith, length-append own q.own, one, q.few)) in
     record {
       piece = j.piece;
       fresh = l.fresh ∙ fresh;
@@ -148,11 +149,11 @@ past_taken n head next s a t own p all slots fresh no_entry no_give no_move None
       ];
       own_moves = inl (ap (λ (z : List (Event FifoNote)). moves_in z) j.own_is ∙ elim l.own_moves [ inl none ↦ omega (arith, moves_in-append own q.own, no_move, none) | inr bad ↦ absurd bad ]);
     }
-past_taken n head next s a t own p all slots fresh no_entry no_give no_move (Some got) l =
+past_taken n head next s a t own p all slots fresh no_entry no_give no_move one (Some got) l =
     let q = l.piece in
     let entries : entries_of (own ++ q.own) ≡ Took s.agent got.0 got.1 ∷ [] =
     entries_of-append own q.own ∙ (ap (λ z. z ++ entries_of q.own) no_entry ∙ (q.entries_are ∙ ap (λ (x : ℕ). Took x got.0 got.1 ∷ []) p.agent)) in
-    let j = join s a t own q.own (Took s.agent got.0 got.1 ∷ []) p q.puts (q.slots ∙ slots) entries (omega (arith, gives_in-append own q.own, no_give, q.no_give)) in
+    let j = join 2 s a t own q.own (Took s.agent got.0 got.1 ∷ []) p q.puts (q.slots ∙ slots) entries (omega (arith, gives_in-append own q.own, no_give, q.no_give)) (omega (arith, length-append own q.own, one, q.few)) in
     record { piece = j.piece; fresh = l.fresh ∙ fresh }
 
 -- the Took may come

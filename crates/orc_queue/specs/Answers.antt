@@ -1,5 +1,5 @@
 -- What a call did, by its answer.
-use Rattle.std.specs.Prelude.{Err, List, Ok, Option, Result, [], drop, length, ℕ, ◌<◌, ◌^◌, ◌∷◌, ◌≡◌, ◌≢◌, ◌≤◌}
+use Rattle.std.specs.Prelude.{Err, List, Ok, Option, Result, [], drop, length, suc, zero, ℕ, ◌*◌, ◌+◌, ◌<◌, ◌^◌, ◌∷◌, ◌≡◌, ◌≢◌, ◌≤◌}
 use Rattle.orc_fault.specs.declared.Again.{Again as AgainFault}
 use Rattle.orc_heap.specs.Heap.{HeapNumbers}
 use Rattle.orc_heap.specs.Moves.{AllOwn, from_own, gives_in, moves_in}
@@ -13,19 +13,21 @@ use Rattle.orc_history.specs.declared.queue.QueueRefused.{QueueRefused}
 use Rattle.orc_history.specs.declared.queue.QueueRefused.TheVariants.{Again, NoNode, Positions}
 use Rattle.orc_fifo_rule.specs.declared.fifo.FifoNote.{FifoNote}
 use Rattle.orc_fifo_rule.specs.QueueDiscipline.{entries_of}
-use Rattle.orc_queue.specs.Turns.{FindsFull}
+use Rattle.orc_queue.specs.Turns.{EndsHelping, FindsFull}
 
--- a call that leaves the pass idle: its own events enter these entries, and at most so many of them are Gives
-pub record IsCall (most : ℕ) (s : Seat FifoNote) (entries : List QueueEntry) (t : Seat FifoNote) : Type 0 where
+-- a call of so many turns that leaves the pass idle: its own events enter these entries and give so many nodes; at most 6 of
+-- them are of each turn, and 3 of each node that is given
+pub record IsCall (given turns : ℕ) (s : Seat FifoNote) (entries : List QueueEntry) (t : Seat FifoNote) : Type 0 where
   pub idle : IsIdle t
   pub own : List (Event FifoNote)
   pub puts : Puts s own t
   pub entries_are : entries_of own ≡ entries
-  pub gives : gives_in own ≤ most
+  pub gives : gives_in own ≡ given
+  pub few : length own ≤ 6 * turns + 3 * given
 
 -- a call that used all its turns
-pub record Tires (most turns : ℕ) (s t : Seat FifoNote) : Type 0 where
-  pub call : IsCall most s [] t
+pub record Tires (given turns : ℕ) (s t : Seat FifoNote) : Type 0 where
+  pub call : IsCall given turns s [] t
   pub moved : turns ≤ moves_in (from_own s.agent call.puts.part)
   pub busy : 2 ≤ turns → AllOwn s.agent (from_own s.agent call.puts.part) → ⊥
 
@@ -34,40 +36,53 @@ abbrev pub CallFindsFull : HeapNumbers → Seat FifoNote → Seat FifoNote → T
 CallFindsFull n s t = FindsFull n s.agent s.seen (drop (length s.seen) t.seen)
 
 -- the call found no Look at the end without a position
-abbrev pub HasRoom : HeapNumbers → {most : ℕ} {s : Seat FifoNote} {entries : List QueueEntry} {t : Seat FifoNote} → IsCall most s entries t → Type 0
+abbrev pub HasRoom : HeapNumbers → {given turns : ℕ} {s : Seat FifoNote} {entries : List QueueEntry} {t : Seat FifoNote} → IsCall given turns s entries t → Type 0
 HasRoom n {s = s} call = FindsFull n s.agent s.seen call.puts.part → ⊥
 
+-- how many nodes a put gives: none without a turn, or where none could be had; else one
+abbrev pub gives_of : ℕ → Result ℕ QueueRefused → ℕ
+gives_of zero result = 0
+gives_of (suc turns) (Err NoNode) = 0
+gives_of (suc turns) result = 1
+
+-- a put that used all its turns, and found room
 pub record PutTired (n : HeapNumbers) (turns : ℕ) (s t : Seat FifoNote) : Type 0 where
-  pub tires : Tires 1 turns s t
+  pub tires : Tires (gives_of turns (Err Again)) turns s t
   pub room : HasRoom n tires.call
 
+-- a put for which no node could be had
 pub record PutLacking (n : HeapNumbers) (turns : ℕ) (s t : Seat FifoNote) : Type 0 where
-  pub call : IsCall 1 s [] t
+  pub call : IsCall (gives_of turns (Err NoNode)) turns s [] t
   pub some_turn : turns ≢ 0
   pub room : HasRoom n call
 
+-- a put that found no position left
 pub record PutFull (n : HeapNumbers) (turns : ℕ) (s t : Seat FifoNote) : Type 0 where
-  pub call : IsCall 1 s [] t
+  pub call : IsCall (gives_of turns (Err Positions)) turns s [] t
   pub some_turn : turns ≢ 0
   pub full : FindsFull n s.agent s.seen call.puts.part
 
+-- a put that put its job at this position, and then helped the tail on
 pub record PutMade (n : HeapNumbers) (job at turns : ℕ) (s t : Seat FifoNote) : Type 0 where
-  pub call : IsCall 1 s (Put s.agent job at ∷ []) t
+  pub call : IsCall (gives_of turns (Ok at)) turns s (Put s.agent job at ∷ []) t
   pub some_turn : turns ≢ 0
   pub low : at < 2 ^ 62
   pub room : HasRoom n call
+  pub helps : EndsHelping call.own
 
+-- a put, by its answer
 abbrev pub PutAnswers : HeapNumbers → ℕ → ℕ → Seat FifoNote → Result ℕ QueueRefused → Seat FifoNote → Type 0
 PutAnswers n job turns s (Ok at) t = PutMade n job at turns s t
 PutAnswers n job turns s (Err Again) t = PutTired n turns s t
 PutAnswers n job turns s (Err NoNode) t = PutLacking n turns s t
 PutAnswers n job turns s (Err Positions) t = PutFull n turns s t
 
--- a take: its entry is a Took, or Empty where the answer is None
+-- a take that answered: its entry is a Took, or Empty where the answer is None
 pub record TakeMade (turns : ℕ) (got : Option (ℕ × ℕ)) (s t : Seat FifoNote) : Type 0 where
-  pub call : IsCall 0 s (entry_of_dequeue s.agent got ∷ []) t
+  pub call : IsCall 0 turns s (entry_of_dequeue s.agent got ∷ []) t
   pub some_turn : turns ≢ 0
 
+-- a take, by its answer
 abbrev pub TakeAnswers : ℕ → Seat FifoNote → Result (Option (ℕ × ℕ)) AgainFault → Seat FifoNote → Type 0
 TakeAnswers turns s (Ok got) t = TakeMade turns got s t
 TakeAnswers turns s (Err again) t = Tires 0 turns s t

@@ -1,14 +1,15 @@
 -- What the turns of a call do. After Michael and Scott 1996.
-use Rattle.std.specs.Prelude.{Bool, List, None, Option, Some, [], false, is_some, not, slice_get, true, ℕ, ◌++◌, ◌+◌, ◌<◌, ◌^◌, ◌∷◌, ◌≡◌, ◌≢◌, ◌≤◌, ◌⊎◌}
+use Rattle.std.specs.Prelude.{Bool, List, None, Option, Some, [], false, is_some, length, slice_get, true, ℕ, ◌*◌, ◌++◌, ◌+◌, ◌<◌, ◌^◌, ◌∷◌, ◌≡◌, ◌≢◌, ◌≤◌, ◌⊎◌}
+use Rattle.std.specs.List.{list_any}
+use Rattle.orc_heap.specs.Allowed.{IsLinkedNode}
 use Rattle.orc_heap.specs.Calls.{Misses, event_of, given_node}
 use Rattle.orc_heap.specs.Heap.{Heap, HeapNumbers, Node, null, shown}
 use Rattle.orc_heap.specs.Journals.{run_heap}
-use Rattle.orc_heap.specs.Moves.{AllOwn, from_own, gives_in, moves_in}
+use Rattle.orc_heap.specs.Moves.{AllOwn, from_own, gives_in, moves_in, moves_place}
 use Rattle.orc_heap.specs.Parts.{Puts}
 use Rattle.orc_heap.specs.Seats.{Seat}
 use Rattle.orc_heap.specs.Slots.{Hold, Holds, id_in}
-use Rattle.orc_heap.specs.declared.events.Act.{Act}
-use Rattle.orc_heap.specs.declared.events.Act.TheVariants.{Look, Move}
+use Rattle.orc_heap.specs.declared.events.Act.TheVariants.{Look, Miss, Move}
 use Rattle.orc_heap.specs.declared.events.Event.{Event}
 use Rattle.orc_heap.specs.declared.events.Link.{Link}
 use Rattle.orc_heap.specs.declared.events.Place.{Place}
@@ -37,15 +38,12 @@ pub record HasDummy (n : HeapNumbers) (es : List (Event FifoNote)) : Type 0 wher
 abbrev pub next_position : HeapNumbers → List (Event FifoNote) → ℕ
 next_position n es = position_of (run_heap n es) 0 + puts_in (entries_of es)
 
--- the act is a Look that finds the null link of a node
-abbrev pub looks_at_end : Act → Bool
-looks_at_end (Look (Next id) link) = not (is_some link.to)
-looks_at_end act = false
-
--- this event is a Look of the agent's own at the end of the queue, and no position is left
+-- this event is a Look of the agent's own at the end of the queue, the null link of a once linked node; and no position is left
 pub record IsFullLook (n : HeapNumbers) (agent : ℕ) (seen : List (Event FifoNote)) (e : Event FifoNote) : Type 0 where
   pub mine : e.agent ≡ agent
-  pub at_end : looks_at_end e.act ≡ true
+  pub id : ℕ
+  pub linked : IsLinkedNode (run_heap n seen) id
+  pub at_end : e.act ≡ Look (Next id) null
   pub full : 2 ^ 62 ≤ next_position n seen
 
 -- some event among these is such a Look
@@ -71,25 +69,27 @@ pub record Helps (tail next : ℕ) (s t : Seat FifoNote) : Type 0 where
   pub fresh : t.fresh ≡ s.fresh
   pub either : Puts s (event_of s (Move (Root 1) (link_to tail) (link_to next)) (Some Swing) ∷ []) t ⊎ Misses (Root 1) (link_to tail) s t
 
--- a piece of a call: the pass holds what it held, and its own events enter these entries and give no node
-pub record Piece (s : Seat FifoNote) (entries : List QueueEntry) (t : Seat FifoNote) : Type 0 where
+-- a piece of a call: the pass holds what it held, and its own events are at most so many, enter these entries and give no
+-- node
+pub record Piece (most : ℕ) (s : Seat FifoNote) (entries : List QueueEntry) (t : Seat FifoNote) : Type 0 where
   pub own : List (Event FifoNote)
   pub slots : t.slots ≡ s.slots
   pub puts : Puts s own t
   pub entries_are : entries_of own ≡ entries
   pub no_give : gives_in own ≡ 0
+  pub few : length own ≤ most
 
 -- the rest of a turn that is over: if the place showed the link before, then a Move stands in what is new; the pass made
 -- no Move of its own, or it helped
-pub record Stops (n : HeapNumbers) (place : Place) (link : Link) (IsHelping : List (Event FifoNote) → Type 0) (s t : Seat FifoNote) : Type 0 where
-  pub piece : Piece s [] t
+pub record Stops (n : HeapNumbers) (most : ℕ) (place : Place) (link : Link) (IsHelping : List (Event FifoNote) → Type 0) (s t : Seat FifoNote) : Type 0 where
+  pub piece : Piece most s [] t
   pub fresh : t.fresh ≡ s.fresh
   pub moved : shown (heap_of n s) place ≡ Some link → 1 ≤ moves_in piece.puts.part
   pub own_moves : (moves_in piece.own ≡ 0) ⊎ IsHelping piece.own
 
 -- a turn that is over: a Move stands in it. If no other agent steps in it, then it leaves the tail settled, and it found it unsettled
 pub record IsOver (n : HeapNumbers) (IsSettled : Heap → Type 0) (s t : Seat FifoNote) : Type 0 where
-  pub piece : Piece s [] t
+  pub piece : Piece 6 s [] t
   pub fresh : t.fresh ≡ s.fresh
   pub moved : 1 ≤ moves_in (from_own s.agent piece.puts.part)
   pub settles : AllOwn s.agent (from_own s.agent piece.puts.part) → IsSettled (heap_of n t)
@@ -97,7 +97,7 @@ pub record IsOver (n : HeapNumbers) (IsSettled : Heap → Type 0) (s t : Seat Fi
 
 -- so many turns that are over: as many Moves stand in them, and another agent steps in them if they are two or more
 pub record AreOver (n : HeapNumbers) (IsSettled : Heap → Type 0) (turns : ℕ) (s t : Seat FifoNote) : Type 0 where
-  pub piece : Piece s [] t
+  pub piece : Piece (6 * turns) s [] t
   pub fresh : t.fresh ≡ s.fresh
   pub moved : turns ≤ moves_in (from_own s.agent piece.puts.part)
   pub settles : 1 ≤ turns → AllOwn s.agent (from_own s.agent piece.puts.part) → IsSettled (heap_of n t)
@@ -110,88 +110,122 @@ pub record HoldsNode (n : HeapNumbers) (job : ℕ) (h : Hold) (s : Seat FifoNote
   pub second : ℕ
   pub node : slice_get (heap_of n s).nodes (id_in s.slots h) ≡ Some (given_node s.agent job second)
 
--- the job was put, at a position that there is
-pub record PutsJob (n : HeapNumbers) (job at : ℕ) (s t : Seat FifoNote) : Type 0 where
-  pub piece : Piece s (Put s.agent job at ∷ []) t
+-- no event moves root 1
+abbrev pub KeepsTail : List (Event FifoNote) → Type 0
+KeepsTail es = list_any (λ e. moves_place (Root 1) e.act) es ≡ false
+
+-- the event swings root 1 on from this node, or finds that root 1 names it no more
+abbrev pub SwingsTail : ℕ → Event FifoNote → Type 0
+SwingsTail tail e =
+    ((next : ℕ) × (e ≡ record { agent = e.agent; act = Move (Root 1) (link_to tail) (link_to next); note = Some Swing })) ⊎ ((found : Link) × (e.act ≡ Miss (Root 1) (link_to tail) found))
+
+-- the last of the events does so, and none before it moves root 1
+pub record SwingsLast (tail : ℕ) (es : List (Event FifoNote)) : Type 0 where
+  pub before : List (Event FifoNote)
+  pub keeps : KeepsTail before
+  pub last : Event FifoNote
+  pub es_are : es ≡ before ++ last ∷ []
+  pub swings : SwingsTail tail last
+
+-- the events end with help of the tail: a Look finds that root 1 names a node, and the last swings root 1 on from that node,
+-- or finds that another has
+pub record EndsHelping (es : List (Event FifoNote)) : Type 0 where
+  pub before : List (Event FifoNote)
+  pub tail : ℕ
+  pub look : Event FifoNote
+  pub sees : look.act ≡ Look (Root 1) (link_to tail)
+  pub rest : List (Event FifoNote)
+  pub es_are : es ≡ before ++ look ∷ rest
+  pub swings : SwingsLast tail rest
+
+-- the job was put, at a position that there is, and this is known of how the own events helped the tail on
+pub record PutsJob (n : HeapNumbers) (most : ℕ) (IsHelping : List (Event FifoNote) → Type 0) (job at : ℕ) (s t : Seat FifoNote) : Type 0 where
+  pub piece : Piece most s (Put s.agent job at ∷ []) t
+  pub helps : IsHelping piece.own
   pub fresh : t.fresh ≡ None
   pub low : at < 2 ^ 62
   pub room : FindsFull n s.agent s.seen piece.puts.part → ⊥
 
 -- no position was left
-pub record IsFull (n : HeapNumbers) (s t : Seat FifoNote) : Type 0 where
-  pub piece : Piece s [] t
+pub record IsFull (n : HeapNumbers) (most : ℕ) (s t : Seat FifoNote) : Type 0 where
+  pub piece : Piece most s [] t
   pub fresh : t.fresh ≡ s.fresh
   pub full : FindsFull n s.agent s.seen piece.puts.part
 
--- behind a node with a null link: the new node was linked there; or not, and if the link was null before, then a Move stands
--- in what is new; or no position is left
+-- behind a node with a null link, the new node was not linked: if the link was null before, then a Move stands in what is new
 pub record LinkMissed (n : HeapNumbers) (job tail : ℕ) (h : Hold) (s t : Seat FifoNote) : Type 0 where
-  pub stops : Stops n (Next tail) null (λ own. ⊥) s t
+  pub stops : Stops n 2 (Next tail) null (λ own. ⊥) s t
   pub room : FindsFull n s.agent s.seen stops.piece.puts.part → ⊥
   pub low : position_of (heap_of n s) tail < 2 ^ 62
   pub node : HoldsNode n job h t
 
+-- nor was it linked where no position is left behind the node
 pub record NoPosition (n : HeapNumbers) (tail : ℕ) (s t : Seat FifoNote) : Type 0 where
-  pub piece : Piece s [] t
+  pub piece : Piece 0 s [] t
   pub fresh : t.fresh ≡ s.fresh
   pub none : 2 ^ 62 ≤ position_of (heap_of n s) tail
 
-pub record LinksJob (n : HeapNumbers) (job tail at : ℕ) (h : Hold) (s t : Seat FifoNote) : Type 0 where
-  pub puts : PutsJob n job at s t
+-- the new node was linked there, and the link leads to it from then on
+pub record LinksJob (n : HeapNumbers) (most : ℕ) (IsHelping : List (Event FifoNote) → Type 0) (job tail at : ℕ) (h : Hold) (s t : Seat FifoNote) : Type 0 where
+  pub puts : PutsJob n most IsHelping job at s t
   pub low : position_of (heap_of n s) tail < 2 ^ 62
   pub link : HasLink (heap_of n t) tail (link_to (id_in s.slots h))
 
-abbrev pub LinksBehind : HeapNumbers → ℕ → ℕ → Hold → Seat FifoNote → PutTurn → Seat FifoNote → Type 0
-LinksBehind n job tail h s PutOver t = LinkMissed n job tail h s t
-LinksBehind n job tail h s (PutDone at) t = LinksJob n job tail at h s t
-LinksBehind n job tail h s Full t = NoPosition n tail s t
+-- the link behind a node, by its answer
+abbrev pub LinksBehind : HeapNumbers → ℕ → (List (Event FifoNote) → Type 0) → ℕ → ℕ → Hold → Seat FifoNote → PutTurn → Seat FifoNote → Type 0
+LinksBehind n most IsHelping job tail h s PutOver t = LinkMissed n job tail h s t
+LinksBehind n most IsHelping job tail h s (PutDone at) t = LinksJob n most IsHelping job tail at h s t
+LinksBehind n most IsHelping job tail h s Full t = NoPosition n tail s t
 
 -- the own events of a pass that helps, from its looks at the successor on
 abbrev pub HelpsBehind : Seat FifoNote → ℕ → List (Event FifoNote) → Type 0
 HelpsBehind s tail own = (next : ℕ) × (own ≡ event_of s (Look (Next tail) (link_to next)) None ∷ event_of s (Look (Next tail) (link_to next)) None
     ∷ event_of s (Move (Root 1) (link_to tail) (link_to next)) (Some Swing) ∷ [])
 
--- behind the node that root 1 named: as above
+-- behind the node that root 1 named, the new node was not linked: if root 1 named the node before, then a Move stands in what is new
 pub record TurnMissed (n : HeapNumbers) (job tail : ℕ) (h : Hold) (s t : Seat FifoNote) : Type 0 where
-  pub stops : Stops n (Root 1) (link_to tail) (HelpsBehind s tail) s t
+  pub stops : Stops n 4 (Root 1) (link_to tail) (HelpsBehind s tail) s t
   pub room : FindsFull n s.agent s.seen stops.piece.puts.part → ⊥
   pub node : HoldsNode n job h t
 
+-- a turn of a put from that node on, by its answer
 abbrev pub PutsBehind : HeapNumbers → ℕ → ℕ → Hold → Seat FifoNote → PutTurn → Seat FifoNote → Type 0
 PutsBehind n job tail h s PutOver t = TurnMissed n job tail h s t
-PutsBehind n job tail h s (PutDone at) t = PutsJob n job at s t
-PutsBehind n job tail h s Full t = IsFull n s t
+PutsBehind n job tail h s (PutDone at) t = PutsJob n 4 (SwingsLast tail) job at s t
+PutsBehind n job tail h s Full t = IsFull n 4 s t
 
--- a turn of a put
+-- a turn of a put that is over
 pub record PutMissed (n : HeapNumbers) (job : ℕ) (h : Hold) (s t : Seat FifoNote) : Type 0 where
   pub over : IsOver n TailIsLast s t
   pub room : FindsFull n s.agent s.seen over.piece.puts.part → ⊥
   pub node : HoldsNode n job h t
 
+-- a turn of a put, by its answer
 abbrev pub PutsTurn : HeapNumbers → ℕ → Hold → Seat FifoNote → PutTurn → Seat FifoNote → Type 0
 PutsTurn n job h s PutOver t = PutMissed n job h s t
-PutsTurn n job h s (PutDone at) t = PutsJob n job at s t
-PutsTurn n job h s Full t = IsFull n s t
+PutsTurn n job h s (PutDone at) t = PutsJob n 6 EndsHelping job at s t
+PutsTurn n job h s Full t = IsFull n 6 s t
 
--- so many turns of a put
+-- so many turns of a put that are over
 pub record PutTires (n : HeapNumbers) (job turns : ℕ) (h : Hold) (s t : Seat FifoNote) : Type 0 where
   pub over : AreOver n TailIsLast turns s t
   pub room : FindsFull n s.agent s.seen over.piece.puts.part → ⊥
   pub node : HoldsNode n job h t
 
+-- at most so many turns of a put, by the answer of the last
 abbrev pub PutsTurns : HeapNumbers → ℕ → ℕ → Hold → Seat FifoNote → PutTurn → Seat FifoNote → Type 0
 PutsTurns n job turns h s PutOver t = PutTires n job turns h s t
-PutsTurns n job turns h s (PutDone at) t = PutsJob n job at s t
-PutsTurns n job turns h s Full t = IsFull n s t
+PutsTurns n job turns h s (PutDone at) t = PutsJob n (6 * turns) EndsHelping job at s t
+PutsTurns n job turns h s Full t = IsFull n (6 * turns) s t
 
 -- a job was taken
-pub record TakesJob (job at : ℕ) (s t : Seat FifoNote) : Type 0 where
-  pub piece : Piece s (Took s.agent job at ∷ []) t
+pub record TakesJob (most job at : ℕ) (s t : Seat FifoNote) : Type 0 where
+  pub piece : Piece most s (Took s.agent job at ∷ []) t
   pub fresh : t.fresh ≡ s.fresh
 
 -- nothing was found
-pub record TakesNone (s t : Seat FifoNote) : Type 0 where
-  pub piece : Piece s (Empty s.agent ∷ []) t
+pub record TakesNone (most : ℕ) (s t : Seat FifoNote) : Type 0 where
+  pub piece : Piece most s (Empty s.agent ∷ []) t
   pub fresh : t.fresh ≡ s.fresh
 
 -- the own events of a pass that helps, from its test of the tail on
@@ -200,18 +234,18 @@ HelpsPast s head next own = own ≡ event_of s (Look (Root 1) (link_to head)) No
 
 -- the swing of the head on to the successor
 abbrev pub TakesFrom : HeapNumbers → ℕ → Seat FifoNote → Option (ℕ × ℕ) → Seat FifoNote → Type 0
-TakesFrom n head s None t = Stops n (Root 0) (link_to head) (λ own. ⊥) s t
-TakesFrom n head s (Some got) t = TakesJob got.0 got.1 s t
+TakesFrom n head s None t = Stops n 1 (Root 0) (link_to head) (λ own. ⊥) s t
+TakesFrom n head s (Some got) t = TakesJob 1 got.0 got.1 s t
 
 -- from the head and its successor on
 abbrev pub TakesNext : HeapNumbers → ℕ → ℕ → Seat FifoNote → Option (ℕ × ℕ) → Seat FifoNote → Type 0
-TakesNext n head next s None t = Stops n (Root 0) (link_to head) (HelpsPast s head next) s t
-TakesNext n head next s (Some got) t = TakesJob got.0 got.1 s t
+TakesNext n head next s None t = Stops n 2 (Root 0) (link_to head) (HelpsPast s head next) s t
+TakesNext n head next s (Some got) t = TakesJob 2 got.0 got.1 s t
 
 -- the test whether the head's link is null
 abbrev pub FindsEnd : HeapNumbers → ℕ → Seat FifoNote → Bool → Seat FifoNote → Type 0
-FindsEnd n head s true t = TakesNone s t
-FindsEnd n head s false t = Stops n (Next head) null (λ own. ⊥) s t
+FindsEnd n head s true t = TakesNone 1 s t
+FindsEnd n head s false t = Stops n 1 (Next head) null (λ own. ⊥) s t
 
 -- the own events of a pass that helps, from its looks at the successor on
 abbrev pub HelpsHead : Seat FifoNote → ℕ → List (Event FifoNote) → Type 0
@@ -220,18 +254,18 @@ HelpsHead s head own = (next : ℕ) × (own ≡ event_of s (Look (Next head) (li
 
 -- behind the node that root 0 named
 abbrev pub TakesBehind : HeapNumbers → ℕ → Seat FifoNote → TakeTurn → Seat FifoNote → Type 0
-TakesBehind n head s TakeOver t = Stops n (Root 0) (link_to head) (HelpsHead s head) s t
-TakesBehind n head s (TakeDone job at) t = TakesJob job at s t
-TakesBehind n head s TakeEmpty t = TakesNone s t
+TakesBehind n head s TakeOver t = Stops n 4 (Root 0) (link_to head) (HelpsHead s head) s t
+TakesBehind n head s (TakeDone job at) t = TakesJob 4 job at s t
+TakesBehind n head s TakeEmpty t = TakesNone 4 s t
 
 -- a turn of a take
 abbrev pub TakesTurn : HeapNumbers → Seat FifoNote → TakeTurn → Seat FifoNote → Type 0
 TakesTurn n s TakeOver t = IsOver n TailIsPast s t
-TakesTurn n s (TakeDone job at) t = TakesJob job at s t
-TakesTurn n s TakeEmpty t = TakesNone s t
+TakesTurn n s (TakeDone job at) t = TakesJob 6 job at s t
+TakesTurn n s TakeEmpty t = TakesNone 6 s t
 
 -- so many turns of a take
 abbrev pub TakesTurns : HeapNumbers → ℕ → Seat FifoNote → TakeTurn → Seat FifoNote → Type 0
 TakesTurns n turns s TakeOver t = AreOver n TailIsPast turns s t
-TakesTurns n turns s (TakeDone job at) t = (turns ≢ 0) × TakesJob job at s t
-TakesTurns n turns s TakeEmpty t = (turns ≢ 0) × TakesNone s t
+TakesTurns n turns s (TakeDone job at) t = (turns ≢ 0) × TakesJob (6 * turns) job at s t
+TakesTurns n turns s TakeEmpty t = (turns ≢ 0) × TakesNone (6 * turns) s t

@@ -9,7 +9,7 @@ ghost use Rattle.orc_fifo_rule.specs.Watches.{WasNamed};
 ghost use Rattle.orc_history.specs.Journals.{Within};
 ghost use Rattle.orc_history.specs.declared.queue.QueueRefused.{QueueRefused};
 ghost use Rattle.orc_queue.specs.Answers.{PutAnswers};
-ghost use Rattle.orc_queue.specs.Turns.{HasDummy, HoldsNode, LinksBehind, PutsBehind, PutsTurn, PutsTurns};
+ghost use Rattle.orc_queue.specs.Turns.{HasDummy, HoldsNode, KeepsTail, LinksBehind, PutsBehind, PutsTurn, PutsTurns, SwingsLast};
 
 use crate::swings::{TAIL, change, help_tail};
 use orc_fifo_rule::{Fifo, FifoNote};
@@ -45,7 +45,7 @@ pub(crate) fn link_node<L: Links<Rule = Fifo>>(
     requires named { WasNamed (run_heap (L.numbers links.now) (L.seat links.now p.old).seen) 1 (id_in (L.seat links.now p.old).slots tail.now) }
     ensures pass { L.belongs links.now p.new }
     ensures later { IsPrefix (L.journal p.old) (L.journal p.new) }
-    ensures linked { LinksBehind (L.numbers links.now) job (id_in (L.seat links.now p.old).slots tail.now) node.now (L.seat links.now p.old) result (L.seat links.now p.new) }
+    ensures linked { LinksBehind (L.numbers links.now) 2 KeepsTail job (id_in (L.seat links.now p.old).slots tail.now) node.now (L.seat links.now p.old) result (L.seat links.now p.new) }
 {
     let at = links.value(p, tail, 1);
     if at >= POSITIONS {
@@ -77,7 +77,7 @@ fn link_behind<L: Links<Rule = Fifo>>(
     requires named { WasNamed (run_heap (L.numbers links.now) (L.seat links.now p.old).seen) 1 (id_in (L.seat links.now p.old).slots tail.now) }
     ensures pass { L.belongs links.now p.new }
     ensures later { IsPrefix (L.journal p.old) (L.journal p.new) }
-    ensures linked { LinksBehind (L.numbers links.now) job (id_in (L.seat links.now p.old).slots tail.now) node.now (L.seat links.now p.old) result (L.seat links.now p.new) }
+    ensures linked { LinksBehind (L.numbers links.now) 3 (SwingsLast (id_in (L.seat links.now p.old).slots tail.now)) job (id_in (L.seat links.now p.old).slots tail.now) node.now (L.seat links.now p.old) result (L.seat links.now p.new) }
 {
     match link_node(links, p, node, job, tail) {
         PutTurn::Put(at) => {

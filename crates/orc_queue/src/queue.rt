@@ -1,6 +1,6 @@
 //! The queue, and its calls.
 
-ghost use Rattle.std.specs.Prelude.{◌≡◌, ◌≢◌, ℕ, ◌+◌, ◌<◌, ◌≤◌, ◌↔◌, List, [], ◌∷◌, length, take, Err, IfOk, IfErr, IsErr};
+ghost use Rattle.std.specs.Prelude.{◌≡◌, ◌≢◌, ℕ, ◌*◌, ◌+◌, ◌<◌, ◌≤◌, ◌↔◌, List, [], ◌∷◌, length, take, Err, IfOk, IfErr, IsErr};
 ghost use mathlib.Core.List.{IsPrefix};
 ghost use Rattle.orc_heap.specs.Allowed.{events_by};
 ghost use Rattle.orc_heap.specs.Journals.{run_heap};
@@ -12,10 +12,10 @@ ghost use Rattle.orc_history.specs.QueueHistory.{agent_of_entry, entry_of_dequeu
 ghost use Rattle.orc_history.specs.declared.queue.QueueEntry.{QueueEntry};
 ghost use Rattle.orc_history.specs.declared.queue.QueueRefused.{QueueRefused};
 ghost use Rattle.orc_fifo_rule.specs.QueueDiscipline.{entries_of, position_of};
-ghost use Rattle.orc_queue.specs.Answers.{CallFindsFull};
+ghost use Rattle.orc_queue.specs.Answers.{CallFindsFull, gives_of};
 ghost use Rattle.orc_queue.specs.Causes.{Cause, UsesTurns};
 ghost use Rattle.orc_queue.specs.Laws.{cause_puts, cause_stays, entries_below, history_grows, seen_legal};
-ghost use Rattle.orc_queue.specs.Turns.{HasDummy};
+ghost use Rattle.orc_queue.specs.Turns.{HasDummy, TailIsLast};
 
 use crate::put::put_job;
 use crate::take::take_job;
@@ -43,12 +43,14 @@ impl<L: Links<Rule = Fifo>> Queue<L> {
         Queue { links }
     }
 
+    /// The domain of links that the queue stands on.
     pub fn links(&self) -> &L
         ensures { result.now ≡ self.now.links }
     {
         &self.links
     }
 
+    /// Gives the queue up for its domain of links.
     pub fn into_links(self) -> L
         ensures { result ≡ self.links }
     {
@@ -56,7 +58,16 @@ impl<L: Links<Rule = Fifo>> Queue<L> {
         links
     }
 
-    /// Puts a job at the back and answers its position, in at most `turns` tries.
+    /// Puts a job at the back and answers its position, in at most `turns` tries. Its agent makes at most 6 events in
+    /// each try, and 3 more for the node.
+    ///
+    /// Where no other agent has a step in its part of the journal, a put that answered leaves the tail at the last node.
+    ///
+    /// # Errors
+    ///
+    /// * `Again` if all tries were used up. With no turns it gives no node and makes no event.
+    /// * `NoNode` if the domain had no node to give.
+    /// * `Positions` if it came to the last node and no position is left behind that.
     pub fn put(&self, p: &mut L::Pass, job: u64, turns: u64) -> Result<u64, QueueRefused>
         requires pass { L.belongs self.now.links p.old }
         requires idle { IsIdle (L.seat self.now.links p.old) }
@@ -69,14 +80,19 @@ impl<L: Links<Rule = Fifo>> Queue<L> {
             (entries_of (L.events self.now.links (L.journal p.new)))) }
         ensures none { IfErr result (λ e. Adds agent_of_entry (λ agent. agent < L.agents self.now.links) (L.seat self.now.links p.old).agent
             (entries_of (L.events self.now.links (L.journal p.old))) [] (entries_of (L.events self.now.links (L.journal p.new)))) }
-        ensures no_turns { turns ≡ 0 → result ≡ Err QueueRefused.Again }
+        ensures no_turns { turns ≡ 0 → (result ≡ Err QueueRefused.Again)
+            × (events_by (L.seat self.now.links p.old).agent (L.seat self.now.links p.new).seen ≡ events_by (L.seat self.now.links p.old).agent (L.seat self.now.links p.old).seen) }
         ensures again { result ≡ Err QueueRefused.Again → InPart L.agent_of (L.seat self.now.links p.old).agent (L.journal p.old) (L.journal p.new)
             (UsesTurns L.agent_of (L.events self.now.links) (L.seat self.now.links p.old).agent turns (L.journal p.new)) }
         ensures no_node { result ≡ Err QueueRefused.NoNode → (turns ≢ 0) × Within (length (L.journal p.old)) (length (L.journal p.new))
             (L.lacking self.now.links (L.seat self.now.links p.old).agent (L.journal p.new)) }
         ensures positions { (result ≡ Err QueueRefused.Positions) ↔ CallFindsFull (L.numbers self.now.links) (L.seat self.now.links p.old) (L.seat self.now.links p.new) }
         ensures gives { gives_in (events_by (L.seat self.now.links p.old).agent (L.seat self.now.links p.new).seen)
-            ≤ gives_in (events_by (L.seat self.now.links p.old).agent (L.seat self.now.links p.old).seen) + 1 }
+            ≡ gives_in (events_by (L.seat self.now.links p.old).agent (L.seat self.now.links p.old).seen) + gives_of turns result }
+        ensures tries { length (events_by (L.seat self.now.links p.old).agent (L.seat self.now.links p.new).seen)
+            ≤ length (events_by (L.seat self.now.links p.old).agent (L.seat self.now.links p.old).seen) + 6 * turns + 3 * gives_of turns result }
+        ensures tail { IfOk result (λ at. IsAlone L.agent_of (L.seat self.now.links p.old).agent (L.journal p.old) (L.journal p.new)
+            → TailIsLast (run_heap (L.numbers self.now.links) (L.seat self.now.links p.new).seen)) }
         ensures settled { IsAlone L.agent_of (L.seat self.now.links p.old).agent (L.journal p.old) (L.journal p.new) → L.backlog p.new ≡ 0 }
     {
         let answer = put_job(&self.links, p, job, turns);
@@ -85,7 +101,11 @@ impl<L: Links<Rule = Fifo>> Queue<L> {
     }
 
     /// Takes the job at the front and answers it with its position, or None on the empty queue, in at most `turns`
-    /// tries.
+    /// tries. Its agent makes at most 6 events in each.
+    ///
+    /// # Errors
+    ///
+    /// `Again` if all tries were used up. With no turns it makes no event.
     pub fn take(&self, p: &mut L::Pass, turns: u64) -> Result<Option<(u64, u64)>, Again>
         requires pass { L.belongs self.now.links p.old }
         requires idle { IsIdle (L.seat self.now.links p.old) }
@@ -98,11 +118,14 @@ impl<L: Links<Rule = Fifo>> Queue<L> {
             (entries_of (L.events self.now.links (L.journal p.new)))) }
         ensures none { IfErr result (λ e. Adds agent_of_entry (λ agent. agent < L.agents self.now.links) (L.seat self.now.links p.old).agent
             (entries_of (L.events self.now.links (L.journal p.old))) [] (entries_of (L.events self.now.links (L.journal p.new)))) }
-        ensures no_turns { turns ≡ 0 → IsErr result }
+        ensures no_turns { turns ≡ 0 → IsErr result
+            × (events_by (L.seat self.now.links p.old).agent (L.seat self.now.links p.new).seen ≡ events_by (L.seat self.now.links p.old).agent (L.seat self.now.links p.old).seen) }
         ensures again { IfErr result (λ e. InPart L.agent_of (L.seat self.now.links p.old).agent (L.journal p.old) (L.journal p.new)
             (UsesTurns L.agent_of (L.events self.now.links) (L.seat self.now.links p.old).agent turns (L.journal p.new))) }
         ensures gives { gives_in (events_by (L.seat self.now.links p.old).agent (L.seat self.now.links p.new).seen)
-            ≤ gives_in (events_by (L.seat self.now.links p.old).agent (L.seat self.now.links p.old).seen) }
+            ≡ gives_in (events_by (L.seat self.now.links p.old).agent (L.seat self.now.links p.old).seen) }
+        ensures tries { length (events_by (L.seat self.now.links p.old).agent (L.seat self.now.links p.new).seen)
+            ≤ length (events_by (L.seat self.now.links p.old).agent (L.seat self.now.links p.old).seen) + 6 * turns }
         ensures settled { IsAlone L.agent_of (L.seat self.now.links p.old).agent (L.journal p.old) (L.journal p.new) → L.backlog p.new ≡ 0 }
     {
         let answer = take_job(&self.links, p, turns);

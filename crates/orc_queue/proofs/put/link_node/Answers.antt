@@ -28,7 +28,7 @@ returns-then-at-ge-POSITIONS-clause-linked g c =
     let ka = known n (g.L.Links.opening d) a.seen c.requires.made (g.met.L.Links.opens d c.value-at.new.p read.pass) (g.met.L.Links.allowed d c.value-at.new.p read.pass) (g.met.L.Links.obeys d c.value-at.new.p read.pass) in
     let is = read_position n s a tail c.value-at.result ka read.nothing c.requires.named.linked read.value in
     record {
-      piece = record { own = []; slots = read.nothing.slots; puts = read.nothing.puts; entries_are = refl; no_give = refl };
+      piece = record { own = []; slots = read.nothing.slots; puts = read.nothing.puts; entries_are = refl; no_give = refl; few = omega arith };
       fresh = read.nothing.fresh;
       none = omega (arith, is, c.if-at-ge-POSITIONS.true);
     }

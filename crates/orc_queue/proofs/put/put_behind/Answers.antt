@@ -7,7 +7,7 @@ use Rattle.orc_heap.specs.declared.events.Place.TheVariants.{Next}
 use Rattle.orc_fifo_rule.specs.QueueDiscipline.{HasLink, link_to}
 use Rattle.orc_fifo_rule.specs.Watches.{WasNamed}
 use Rattle.orc_fifo_rule.specs.Kept.Paths.{successor_linked}
-use Rattle.orc_queue.specs.Turns.{Helps, LinksBehind, heap_of}
+use Rattle.orc_queue.specs.Turns.{Helps, LinksBehind, SwingsLast, heap_of}
 use Rattle.orc_queue.proofs.Behind.{behind_held, behind_moved, behind_null, fresh_apart, linked_helped, node_seen}
 use Rattle.orc_queue.proofs.Filled.{known}
 use Rattle.orc_queue.proofs.Looking.{next_held, next_null}
@@ -68,7 +68,7 @@ returns-in-Stable-default-None-clause-put g c =
     let p = next_null n s a id _ ks c.requires.named.linked all l in
     let t = g.L.Links.seat d c.link_behind.new.p in
     let all_t = g.met.L.Links.allowed d c.link_behind.new.p c.link_behind.ensures.pass in
-    let linked = subst (λ (z : Slots). LinksBehind n job (id_in z tail) node a c.link_behind.result t) l.slots c.link_behind.ensures.linked in
+    let linked = subst (λ (z : Slots). LinksBehind n 3 (SwingsLast (id_in z tail)) job (id_in z tail) node a c.link_behind.result t) l.slots c.link_behind.ensures.linked in
     behind_null n job id node s a t ks c.requires.named l.slots e.looked.fresh p all all_t c.link_behind.result linked
 
 pub help_tail-requires-clause-held : goal.help_tail-requires-clause-held

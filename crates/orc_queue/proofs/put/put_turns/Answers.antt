@@ -32,7 +32,7 @@ returns-in_default g c =
       pass = e.pass;
       later = goes_on _ _ _ i.later e.later;
       put = turns_done (g.L.Links.numbers d) c.args.job c.loop.counter c.args.turns c.args.node.now (g.L.Links.seat d c.args.p.now) (g.L.Links.seat d c.loop.p) (g.L.Links.seat d c.put_turn.new.p) c.put_turn.result
-          not_over i.tires e.put;
+          not_over (omega (arith, c.loop-test.true)) i.tires e.put;
     }
 
 pub returns-clause-put : goal.returns-clause-put

@@ -102,4 +102,4 @@ returns-clause-took g c =
     let t = g.L.Links.seat d c.swing_head.new.p in
     let miss = Tests-missed e.tested c.if-same.false in
     let took = subst (λ (z : Slots). TakesFrom n (id_in z head.now) a c.swing_head.result t) e.tested.slots c.swing_head.ensures.took in
-    past_taken n id (id_in s.slots next.now) s a t _ miss.puts all e.tested.slots e.tested.fresh refl refl refl c.swing_head.result took
+    past_taken n id (id_in s.slots next.now) s a t _ miss.puts all e.tested.slots e.tested.fresh refl refl refl (omega arith) c.swing_head.result took

@@ -5,7 +5,7 @@ use Rattle.orc_heap.specs.Allowed.{IsLinkedNode}
 use Rattle.orc_heap.specs.Slots.{Holds, Slots, id_in}
 use Rattle.orc_heap.specs.declared.events.Place.TheVariants.{Root}
 use Rattle.orc_fifo_rule.specs.Watches.{WasNamed}
-use Rattle.orc_queue.specs.Turns.{heap_of}
+use Rattle.orc_queue.specs.Turns.{KeepsTail, heap_of}
 use Rattle.orc_queue.proofs.Filled.{known}
 use Rattle.orc_queue.proofs.Linking.{link_kept}
 use Rattle.orc_queue.proofs.Looking.{root_held, root_not_null, roots_there}
@@ -104,7 +104,7 @@ release-requires-clause-held g c =
     let x = root_held n s a 1 2 _ tail (omega arith) ks all (Looks-held {place = Root 1} e.looked c.in-Stable-default-Some.field-1-is) in
     let tail_id = slot_id s a 2 x.id tail c.requires.slot x.in_slot in
     let b = g.L.Links.seat d c.link_node-turn.new.p in
-    let kept = link_kept n job (id_in a.slots tail) node a b c.link_node-turn.result c.link_node-turn.ensures.linked in
+    let kept = link_kept n 2 KeepsTail job (id_in a.slots tail) node a b c.link_node-turn.result c.link_node-turn.ensures.linked in
     subst (λ (z : Slots). Holds z tail) (sym kept.slots) (slot_holds s a 2 x.id tail c.requires.slot x.in_slot)
 
 pub returns-in-Stable-default-Some-clause-slots : goal.returns-in-Stable-default-Some-clause-slots
@@ -127,7 +127,7 @@ returns-in-Stable-default-Some-clause-slots g c =
     let l = c.link_node-turn.ensures.linked in
     let pass_b = c.link_node-turn.ensures.pass in
     let all_b = g.met.L.Links.allowed d c.link_node-turn.new.p pass_b in
-    let kept = link_kept n job (id_in a.slots tail) node a b c.link_node-turn.result l in
+    let kept = link_kept n 2 KeepsTail job (id_in a.slots tail) node a b c.link_node-turn.result l in
     let released = c.release.ensures.released in
     slot_released s a 2 x.id tail c.requires.slot x.in_slot b t kept.slots released
 
@@ -151,7 +151,7 @@ returns-in-Stable-default-Some-clause-fresh g c =
     let l = c.link_node-turn.ensures.linked in
     let pass_b = c.link_node-turn.ensures.pass in
     let all_b = g.met.L.Links.allowed d c.link_node-turn.new.p pass_b in
-    let kept = link_kept n job (id_in a.slots tail) node a b c.link_node-turn.result l in
+    let kept = link_kept n 2 KeepsTail job (id_in a.slots tail) node a b c.link_node-turn.result l in
     let released = c.release.ensures.released in
     let same = ap (λ (z : Slots). id_in z tail) kept.slots ∙ tail_id in
     let linked = linked_puts n a b kept.own kept.puts all_b x.id x.named.linked in

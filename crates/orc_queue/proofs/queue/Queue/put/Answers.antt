@@ -3,7 +3,8 @@ use Rattle.std.proofs.Common.{length, subst, sym, ℕ}
 use Rattle.orc_heap.proofs.Steps.{alone_later}
 use Rattle.orc_history.specs.Parts.{IsAlone}
 use Rattle.orc_queue.proofs.Answering.{put_settled}
-use Rattle.orc_queue.proofs.Causes.{any_gives, put_again, put_any, put_err, put_no_turns, put_ok, put_positions, put_some_turn, within_stays}
+use Rattle.orc_queue.proofs.Causes.{any_gives, any_tries, put_again, put_any, put_err, put_no_turns, put_ok, put_positions, put_some_turn, put_tail, within_stays}
+use Rattle.orc_queue.proofs.Filled.{known}
 use Rattle.orc_queue.proofs.Joins.{goes_on}
 use Rattle.orc_queue.proofs.queue.Queue.put.Goals as goal
 
@@ -162,7 +163,43 @@ returns-clause-gives g c =
     let told = c.put_job-answer.ensures.answered in
     let settle = c.settle.ensures in
     let l = put_settled n s t u settle.nothing c.args.job c.args.turns r told in
-    any_gives 1 s u (put_any n c.args.job c.args.turns s u r l)
+    any_gives _ c.args.turns s u (put_any n c.args.job c.args.turns s u r l)
+
+pub returns-clause-tries : goal.returns-clause-tries
+returns-clause-tries g c =
+    let d = c.args.self.now.links in
+    let n = g.L.Links.numbers d in
+    let s = g.L.Links.seat d c.args.p.now in
+    let t = g.L.Links.seat d c.put_job-answer.new.p in
+    let u = g.L.Links.seat d c.settle.new.p in
+    let r = c.put_job-answer.result in
+    let told = c.put_job-answer.ensures.answered in
+    let settle = c.settle.ensures in
+    let l = put_settled n s t u settle.nothing c.args.job c.args.turns r told in
+    any_tries _ c.args.turns s u (put_any n c.args.job c.args.turns s u r l)
+
+pub returns-clause-tail : goal.returns-clause-tail
+returns-clause-tail g c =
+    let d = c.args.self.now.links in
+    let n = g.L.Links.numbers d in
+    let s = g.L.Links.seat d c.args.p.now in
+    let t = g.L.Links.seat d c.put_job-answer.new.p in
+    let u = g.L.Links.seat d c.settle.new.p in
+    let r = c.put_job-answer.result in
+    let told = c.put_job-answer.ensures.answered in
+    let settle = c.settle.ensures in
+    let l = put_settled n s t u settle.nothing c.args.job c.args.turns r told in
+    let j = g.L.Links.journal c.args.p.now in
+    let m = g.L.Links.journal c.settle.new.p in
+    let grows = goes_on j (g.L.Links.journal c.put_job-answer.new.p) m c.put_job-answer.ensures.later settle.later in
+    let is_s = g.met.L.Links.seen_is d c.args.p.now c.requires.pass in
+    let is_u = g.met.L.Links.seen_is d c.settle.new.p settle.pass in
+    let all = g.met.L.Links.allowed d c.settle.new.p settle.pass in
+    let below = (g.met.L.Links.agents_below d c.settle.new.p settle.pass).1 in
+    let pass = c.requires.pass in
+    let ks = known n (g.L.Links.opening d) s.seen c.args.self.now.made (g.met.L.Links.opens d c.args.p.now pass) (g.met.L.Links.allowed d c.args.p.now pass) (g.met.L.Links.obeys d c.args.p.now pass) in
+    let adds = g.met.L.Links.steps_add d in
+    put_tail n (g.L.Links.agents d) g.L.Links.agent_of (g.L.Links.events d) adds s u j m grows is_s is_u all below c.args.job c.args.turns r ks l
 
 pub returns-clause-settled : goal.returns-clause-settled
 returns-clause-settled g c =

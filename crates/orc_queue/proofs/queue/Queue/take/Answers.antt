@@ -3,7 +3,7 @@ use Rattle.std.proofs.Common.{arith, subst, sym, ℕ}
 use Rattle.orc_heap.proofs.Steps.{alone_later}
 use Rattle.orc_history.specs.Parts.{IsAlone}
 use Rattle.orc_queue.proofs.Answering.{take_settled}
-use Rattle.orc_queue.proofs.Causes.{any_gives, take_again, take_any, take_err, take_no_turns, take_ok}
+use Rattle.orc_queue.proofs.Causes.{any_gives, any_tries, take_again, take_any, take_err, take_no_turns, take_ok}
 use Rattle.orc_queue.proofs.Joins.{goes_on}
 use Rattle.orc_queue.proofs.queue.Queue.take.Goals as goal
 
@@ -132,7 +132,20 @@ returns-clause-gives g c =
     let told = c.take_job-answer.ensures.answered in
     let settle = c.settle.ensures in
     let l = take_settled n s t u settle.nothing c.args.turns r told in
-    omega (arith, any_gives 0 s u (take_any c.args.turns s u r l))
+    omega (arith, any_gives 0 c.args.turns s u (take_any c.args.turns s u r l))
+
+pub returns-clause-tries : goal.returns-clause-tries
+returns-clause-tries g c =
+    let d = c.args.self.now.links in
+    let n = g.L.Links.numbers d in
+    let s = g.L.Links.seat d c.args.p.now in
+    let t = g.L.Links.seat d c.take_job-answer.new.p in
+    let u = g.L.Links.seat d c.settle.new.p in
+    let r = c.take_job-answer.result in
+    let told = c.take_job-answer.ensures.answered in
+    let settle = c.settle.ensures in
+    let l = take_settled n s t u settle.nothing c.args.turns r told in
+    omega (arith, any_tries 0 c.args.turns s u (take_any c.args.turns s u r l))
 
 pub returns-clause-settled : goal.returns-clause-settled
 returns-clause-settled g c =
