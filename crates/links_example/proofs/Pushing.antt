@@ -7,14 +7,14 @@ use Rattle.std.specs.Prelude.{None, Option, Some, ◌==◌}
 use Rattle.orc_heap.proofs.ByAnswer.{unless_same}
 use Rattle.orc_heap.proofs.Fresh.{own_node_told, touched_by}
 use Rattle.orc_heap.proofs.Parts.{part_allowed}
-use Rattle.orc_heap.proofs.Slots.{given-back, holds-other, holds-there, id-other, id-there}
+use Rattle.orc_heap.proofs.Slots.{given-back, held_apart, holds-other, holds-there, id-other, id-there}
 use Rattle.orc_heap.specs.Allowed.{AllAllowed}
 use Rattle.orc_heap.specs.Calls.{Gives, Releases, event_of, unless_node}
 use Rattle.orc_heap.specs.Heap.{HeapNumbers, Node}
 use Rattle.orc_heap.specs.Journals.{names_node, run_heap}
 use Rattle.orc_heap.specs.Parts.{Only, Puts}
 use Rattle.orc_heap.specs.Seats.{HoldsFresh, HoldsTarget, Seat, target_in}
-use Rattle.orc_heap.specs.Slots.{Hold, Holds, IsFree, SlotNode, id_in}
+use Rattle.orc_heap.specs.Slots.{Hold, Holds, IsFree, id_in}
 use Rattle.orc_heap.specs.declared.events.Act.TheVariants.{Aim, Move}
 use Rattle.orc_heap.specs.declared.events.Link.{Link}
 use Rattle.orc_heap.specs.declared.events.Place.TheVariants.{Root}
@@ -56,16 +56,8 @@ module _ (n : HeapNumbers) (below : Option ℕ) (slot value : ℕ) (s : Seat ℕ
   pub ready_fresh : HoldsFresh t h
   ready_fresh = record { held = ready_holds; fresh = rw ready_id r.fresh }
 
-  abbrev some_node : SlotNode → Option SlotNode
-  some_node x = Some x
-
-  held_elsewhere : (k : Hold) → Holds s.slots k → k.slot ≢ slot
-  held_elsewhere k held e =
-      let both : Some (some_node (record { row = k.row; id = id_in s.slots k })) ≡ Some None = sym held ∙ (ap (λ i. slice_get s.slots i) e ∙ free.empty) in
-      cc
-
   another : (k : Hold) → Holds s.slots k → id_in t.slots k ≡ id_in s.slots k
-  another k held = ap (λ z. id_in z k) r.slots ∙ id-other s.slots slot _ k (held_elsewhere k held)
+  another k held = ap (λ z. id_in z k) r.slots ∙ id-other s.slots slot _ k (held_apart s.slots k slot held free)
 
   -- what was on top stays held, and isn't the new node
   pub ready_target : (top : Option (Bor Hold)) → HoldsTarget s top → HoldsNode n s top → HoldsTarget t top
@@ -73,7 +65,7 @@ module _ (n : HeapNumbers) (below : Option ℕ) (slot value : ℕ) (s : Seat ℕ
   ready_target (Some k) held node =
       let is = another k.now held.0 in
       let there = r.nodes (id_in s.slots k.now) node.0 node.1 node.2 in (
-        subst (λ z. Holds z k.now) (sym r.slots) (holds-other s.slots slot _ k.now (held_elsewhere k.now held.0) held.0),
+        subst (λ z. Holds z k.now) (sym r.slots) (holds-other s.slots slot _ k.now (held_apart s.slots k.now slot held.0 free) held.0),
         λ e.
             let same : r.id ≡ id_in s.slots k.now = some_of (sym r.fresh ∙ (e ∙ ap Some is)) in
             let both : Some (unlinked_node s.agent value below) ≡ Some (stack_node t.agent node.0 node.1) = sym r.node ∙ (ap (λ i. slice_get (heap_of n t).nodes i) same ∙ there) in

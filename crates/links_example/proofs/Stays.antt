@@ -2,9 +2,10 @@
 use Rattle.std.proofs.Common.{Bool, List, [], ap, false, refl, sym, true, ℕ, ◌++◌, ◌∙◌, ◌≡◌}
 use Rattle.std.proofs.lemmas.Bool.{eqb-true}
 use Rattle.std.specs.List.{list_any, slice_get}
-use Rattle.std.specs.Prelude.{None, Option, Some, if◌then◌else◌, ◌==◌}
+use Rattle.std.specs.Prelude.{Option, Some, if◌then◌else◌, ◌==◌}
 use Rattle.orc_heap.proofs.Changes.{get-change_other}
 use Rattle.orc_heap.proofs.Fresh.{node-after, touched}
+use Rattle.orc_heap.proofs.Moved.{target_roots}
 use Rattle.orc_heap.proofs.Parts.{part_allowed}
 use Rattle.orc_heap.proofs.Runs.{run_heap-snoc}
 use Rattle.orc_heap.proofs.Stays.{stays, stays_but}
@@ -61,10 +62,6 @@ node_later n agent id value below seen more all there =
 abbrev pub is_move : Act → Bool
 is_move (Move place from to) = true
 is_move act = false
-
-pub target_roots : (f : Node → Node) (to : Option ℕ) (h : Heap) → (Rattle.orc_heap.specs.Acts.change_target f to h).roots ≡ h.roots
-target_roots f None h = refl
-target_roots f (Some id) h = refl
 
 root_kept : (by agent : ℕ) (act : Act) (noted : Option ℕ) (h : Heap) → IsOwnMove by act noted → (by ≡ agent → is_move act ≡ false) → shown (heap_after by act h) (Root agent) ≡ shown h (Root agent)
 root_kept by agent Give noted h m k = refl

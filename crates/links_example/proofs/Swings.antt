@@ -5,6 +5,7 @@ use Rattle.std.specs.Prelude.{None, Option, Some}
 use Rattle.orc_heap.proofs.Changes.{get-change_same}
 use Rattle.orc_heap.proofs.Fresh.{own_node_told, touched_by}
 use Rattle.orc_heap.proofs.Known.{known-later}
+use Rattle.orc_heap.proofs.Moved.{target_roots}
 use Rattle.orc_heap.proofs.Parts.{Puts-stood}
 use Rattle.orc_heap.proofs.Runs.{run_heap-snoc}
 use Rattle.orc_heap.specs.Acts.{IsTarget, as_linked}
@@ -20,7 +21,7 @@ use Rattle.orc_heap.specs.declared.events.Link.{Link}
 use Rattle.orc_heap.specs.declared.events.Place.TheVariants.{Root}
 use Rattle.links_example.specs.OwnRoots.{OwnRootsHolds, OwnRootsMay, own_roots_keeps, own_roots_moves_linked}
 use Rattle.links_example.specs.Stacks.{heap_of, plain_link, stack_node}
-use Rattle.links_example.proofs.Stays.{node_later, target_roots, top_later}
+use Rattle.links_example.proofs.Stays.{node_later, top_later}
 
 -- what the agent's root shows now, it shows at the first own event of a call
 pub root_then : (n : HeapNumbers) (agent : ℕ) (link : Link) (seen before : List (Event ℕ)) → Later (OwnRootsMay n) agent seen before

@@ -7,6 +7,7 @@ pub mod Linked
 pub mod Moved
 pub mod OwnParts
 pub mod Parts
+pub mod Roots
 pub mod Runs
 pub mod Slots
 pub mod Stays

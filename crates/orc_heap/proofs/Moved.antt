@@ -23,7 +23,8 @@ pub moves_in-append : {N : Type 0} (es fs : List (Event N)) → moves_in (es ++ 
 moves_in-append [] fs = omega arith
 moves_in-append (e ∷ es) fs = omega (arith, moves_in-append es fs)
 
-target_roots : (f : Node → Node) (to : Option ℕ) (h : Heap) → (change_target f to h).roots ≡ h.roots
+-- a change of a target changes no root
+pub target_roots : (f : Node → Node) (to : Option ℕ) (h : Heap) → (change_target f to h).roots ≡ h.roots
 target_roots f None h = refl
 target_roots f (Some id) h = refl
 

@@ -2,7 +2,7 @@
 use Rattle.std.proofs.Common.{List, [], ap, refl, suc, sym, zero, ℕ, ◌∙◌, ◌∷◌, ◌≡◌, ◌≢◌}
 use Rattle.std.specs.List.{slice_get, slice_set}
 use Rattle.std.specs.Prelude.{None, Option, Some}
-use Rattle.orc_heap.specs.Slots.{Hold, Holds, SlotNode, Slots, id_in, id_of}
+use Rattle.orc_heap.specs.Slots.{Hold, Holds, IsFree, SlotNode, Slots, id_in, id_of}
 
 -- the slot that was set
 pub get-set_same : {A : Type 0} (xs : List A) (i : ℕ) (x y : A) → slice_get xs i ≡ Some x → slice_get (slice_set xs i y) i ≡ Some y
@@ -40,6 +40,10 @@ module _ (old new : Slots) (slot id : ℕ) (h : Hold) (free : slice_get old slot
     -- and a release gives the slots back
     pub given-back : slice_set new h.slot None ≡ old
     given-back = rw (is, at) (set-back old slot None (Some (record { row = h.row; id = id })) free)
+
+-- a slot that is held is another than a free one
+pub held_apart : (slots : Slots) (h : Hold) (slot : ℕ) → Holds slots h → IsFree slots slot → h.slot ≢ slot
+held_apart slots h slot held free = λ e. let both : ◌≡◌ {A = Option (Option SlotNode)} (Some (Some (record { row = h.row; id = id_in slots h }))) (Some None) = sym held ∙ (ap (λ i. slice_get slots i) e ∙ free.empty) in cc
 
 -- what another slot holds stays held
 pub holds-other : (slots : Slots) (slot : ℕ) (x : Option SlotNode) (h : Hold) → h.slot ≢ slot → Holds slots h → Holds (slice_set slots slot x) h

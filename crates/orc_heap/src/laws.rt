@@ -41,3 +41,9 @@ pub fn a_changed_link_was_moved<N>()
         → shown h place ≡ Some one → shown (run_from h es) place ≡ Some two → one ≢ two
         → list_any (λ e. moves_place place e.act) es ≡ true }
 {}
+
+/// A node to which a root leads was linked by a Move.
+pub fn roots_lead_to_linked_nodes<N>()
+    ensures { (n : HeapNumbers) (es : List (Event N)) (root id : ℕ) (link : Link) → link.to ≡ Some id
+        → shown (run_heap n es) (Place.Root root) ≡ Some link → is_once_linked es id ≡ true }
+{}

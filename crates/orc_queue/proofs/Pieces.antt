@@ -6,7 +6,7 @@ use Rattle.std.specs.List.{list_any, slice_get, slice_set}
 use Rattle.std.specs.Prelude.{if◌then◌else◌}
 use Rattle.orc_heap.proofs.Fresh.{own_node_told, touched_by}
 use Rattle.orc_heap.proofs.Parts.{part_allowed}
-use Rattle.orc_heap.proofs.Slots.{get-set_other, given-back, holds-other, holds-there, id-other, id-there}
+use Rattle.orc_heap.proofs.Slots.{get-set_other, given-back, held_apart, holds-other, holds-there, id-other, id-there}
 use Rattle.orc_heap.specs.Allowed.{AllAllowed, IsLinkedNode}
 use Rattle.orc_heap.specs.Calls.{Releases, Swings, given_node, unless_node}
 use Rattle.orc_heap.specs.Heap.{HeapNumbers, Node}
@@ -14,7 +14,7 @@ use Rattle.orc_heap.specs.Journals.{points_to, run_heap}
 use Rattle.orc_heap.specs.Moves.{gives_in}
 use Rattle.orc_heap.specs.Parts.{Puts}
 use Rattle.orc_heap.specs.Seats.{IsUntouched, Seat, link_in}
-use Rattle.orc_heap.specs.Slots.{Hold, Holds, IsFree, SlotNode, Slots, id_in}
+use Rattle.orc_heap.specs.Slots.{Hold, Holds, IsFree, id_in}
 use Rattle.orc_heap.specs.declared.events.Event.{Event}
 use Rattle.orc_heap.specs.declared.holds.At.TheVariants.{Root as AtRoot}
 use Rattle.orc_heap.specs.declared.holds.At.{At}
@@ -89,10 +89,6 @@ module _ (n : HeapNumbers) (s t : Seat FifoNote) (own : List (Event FifoNote)) (
       → touched_by (id_in s.slots h) own (given_node s.agent job node.second) ≡ given_node s.agent job second → HoldsNode n job h t
   node_puts job h second k node slots fresh away is =
       node_held job h second k node (subst (λ z. Holds z h) (sym slots) node.held) (ap (λ z. id_in z h) slots) fresh away is
-
--- a slot that is held is another than a free one
-pub held_apart : (slots : Slots) (h : Hold) (slot : ℕ) → Holds slots h → IsFree slots slot → h.slot ≢ slot
-held_apart slots h slot held free = λ e. let both : ◌≡◌ {A = Option (Option SlotNode)} (Some (Some (record { row = h.row; id = id_in slots h }))) (Some None) = sym held ∙ (ap (λ i. slice_get slots i) e ∙ free.empty) in cc
 
 -- what a look put into a free slot
 pub record InSlot (s : Seat FifoNote) (slot id : ℕ) (h : Hold) (t : Seat FifoNote) : Type 0 where

@@ -4,8 +4,9 @@ use Rattle.std.proofs.lemmas.Bool.{eqb-false, eqb-true}
 use Rattle.std.specs.List.{slice_get}
 use Rattle.std.specs.Prelude.{if◌then◌else◌}
 use Rattle.orc_heap.proofs.Changes.{get-change, get-change_other, get-change_same}
-use Rattle.orc_heap.specs.Acts.{as_linked, change_target, heap_after, moved_link, set_link}
-use Rattle.orc_heap.specs.Heap.{Heap, Node, null, shown}
+use Rattle.orc_heap.proofs.Moved.{target_roots}
+use Rattle.orc_heap.specs.Acts.{as_linked, heap_after, moved_link, set_link}
+use Rattle.orc_heap.specs.Heap.{Heap, null, shown}
 use Rattle.orc_heap.specs.Journals.{IsPlainAct, moves_to, points_to}
 use Rattle.orc_heap.specs.declared.events.Act.{Act}
 use Rattle.orc_heap.specs.declared.events.Act.TheVariants.{Aim, Fill, Give, Look, Miss, Move}
@@ -90,11 +91,6 @@ plain_moves (Aim id to) d p = refl
 plain_moves (Look place l) d p = refl
 plain_moves (Move place from to) d p = absurd p
 plain_moves (Miss place wanted found) d p = refl
-
--- a change of a target changes no root
-pub target_roots : (f : Node → Node) (to : Option ℕ) (h : Heap) → (change_target f to h).roots ≡ h.roots
-target_roots f None h = refl
-target_roots f (Some id) h = refl
 
 -- the moved root, and another
 pub root_moved : (agent r : ℕ) (from to : Link) (h : Heap) → shown h (Root r) ≡ Some from → shown (heap_after agent (Move (Root r) from to) h) (Root r) ≡ Some to
