@@ -22,6 +22,8 @@ use std::sync::Wait;
 use std::test::Fail;
 use std::thread::{Threads, join_mut};
 
+mod examples;
+
 type TestQueue = Queue<PlainDomain<Fifo>>;
 
 type TestPass = PlainPass<Fifo>;
