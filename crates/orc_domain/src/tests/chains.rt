@@ -1,14 +1,13 @@
 //! A chain that two passes build, and that both read.
 
-ghost use Rattle.std.specs.Prelude.{◌≡◌, ◌≢◌, ◌<◌, ◌≤◌, ◌⊎◌, All, None, IfNone, IfSome, slice_set, true};
+ghost use Rattle.std.specs.Prelude.{◌≡◌, ◌≢◌, ◌<◌, ◌≤◌, All, None, IfNone, IfSome, slice_set, true};
 ghost use Rattle.orc_heap.specs.Journals.{is_once_linked};
 ghost use Rattle.orc_heap.specs.Seats.{HoldsFresh, HoldsTarget, IsIdle};
 ghost use Rattle.orc_heap.specs.Slots.{Holds, IsFree, id_in};
 ghost use Rattle.orc_domain.specs.Ends.{AreAll};
-ghost use Rattle.orc_domain.specs.Passes.{IsPassOf, domain_numbers, domain_bounds, seat_of};
+ghost use Rattle.orc_domain.specs.Passes.{domain_bounds, domain_numbers, seat_of};
 
 use super::{Domain, Pass};
-use crate::PlainDomain;
 use links_example::OwnRoots;
 use orc_heap::{At, Held, Links, Looked, Want};
 use orc_table::Seed;
