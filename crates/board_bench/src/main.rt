@@ -7,7 +7,7 @@ ghost use Rattle.orc_shared_words.specs.Ticks.{AnyFit, plain_fits};
 ghost use Rattle.orc_table.specs.Views.{Belongs, board_bounds};
 
 use orc_heap::Discipline;
-use orc_table::{PlainBoard, PlainPass, Seed};
+use orc_table::{PlainBoard, PlainBoardPass, Seed};
 use orc_words::{Shape, Word};
 use std::io;
 use std::sync::atomic::{AtomicU64, Ordering};
@@ -36,7 +36,7 @@ impl Discipline for AnyFit {
 }
 
 /// The sum of what so many loads of root 0 find.
-fn load_links(board: &PlainBoard<AnyFit>, p: &mut PlainPass<AnyFit>) -> u64
+fn load_links(board: &PlainBoard<AnyFit>, p: &mut PlainBoardPass<AnyFit>) -> u64
     requires belongs { Belongs board.now p.old }
     requires roots { 0 < (board_bounds board.now).roots }
     ensures belongs { Belongs board.now p.new }

@@ -4,12 +4,12 @@ use Rattle.std.specs.List.{list_any}
 use Rattle.std.specs.Option.{option_map}
 use Rattle.std.specs.Prelude.{None, Some}
 use Rattle.orc_heap.proofs.ByAnswer.{LookedHeld, LookedNull}
-use Rattle.orc_heap.proofs.Parts.{Puts-stood}
+use Rattle.orc_heap.proofs.Calls.{Puts-stood}
 use Rattle.orc_heap.specs.Allowed.{AllAllowed, events_by}
 use Rattle.orc_heap.specs.Calls.{Looks, event_of}
 use Rattle.orc_heap.specs.Heap.{HeapNumbers, Node, shown}
 use Rattle.orc_heap.specs.Journals.{run_heap}
-use Rattle.orc_heap.specs.Parts.{Puts}
+use Rattle.orc_heap.specs.OwnEvents.{Puts}
 use Rattle.orc_heap.specs.Seats.{Seat}
 use Rattle.orc_heap.specs.Slots.{Hold}
 use Rattle.orc_heap.specs.declared.events.Act.TheVariants.{Look}
@@ -53,7 +53,7 @@ not_null n s t place mark to all l r =
 pub finds : (n : HeapNumbers) (s t : Seat ℕ) (place : Place) (slot : ℕ) (mark : Bool) (h : Hold) → AllAllowed (OwnRootsMay n) [] t.seen → t.fresh ≡ s.fresh → LookedHeld place slot mark h s t → Finds n place slot s h t
 finds n s t place slot mark h all fresh r = record {
   id = r.id;
-  is = λ to l. let e : Some r.id ≡ Some to = ap (λ (x : Link). x.to) (look_finds n s t place to [] _ _ all l refl r.puts) in cc;
+  is = λ to l. let e : Some r.id ≡ Some to = ap (λ (x : Link). x.to) (look_finds n s t place to (event_of s (Look place r.one) None ∷ []) _ [] all l refl r.puts) in cc;
   slot_is = r.at;
   agent = r.puts.agent;
   slots = r.slots;

@@ -6,13 +6,13 @@ use Rattle.std.specs.List.{slice_get, slice_set}
 use Rattle.std.specs.Prelude.{None, Option, Some, ◌==◌}
 use Rattle.orc_heap.proofs.ByAnswer.{unless_same}
 use Rattle.orc_heap.proofs.Fresh.{own_node_told, touched_by}
-use Rattle.orc_heap.proofs.Parts.{part_allowed}
+use Rattle.orc_heap.proofs.Calls.{part_allowed}
 use Rattle.orc_heap.proofs.Slots.{given-back, held_apart, holds-other, holds-there, id-other, id-there}
 use Rattle.orc_heap.specs.Allowed.{AllAllowed}
 use Rattle.orc_heap.specs.Calls.{Gives, Releases, event_of, unless_node}
 use Rattle.orc_heap.specs.Heap.{HeapNumbers, Node}
 use Rattle.orc_heap.specs.Journals.{names_node, run_heap}
-use Rattle.orc_heap.specs.Parts.{Only, Puts}
+use Rattle.orc_heap.specs.OwnEvents.{Only, Puts}
 use Rattle.orc_heap.specs.Seats.{HoldsFresh, HoldsTarget, Seat, target_in}
 use Rattle.orc_heap.specs.Slots.{Hold, Holds, IsFree, id_in}
 use Rattle.orc_heap.specs.declared.events.Act.TheVariants.{Aim, Move}

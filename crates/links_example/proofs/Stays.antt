@@ -6,14 +6,14 @@ use Rattle.std.specs.Prelude.{Option, Some, if◌then◌else◌, ◌==◌}
 use Rattle.orc_heap.proofs.Changes.{get-change_other}
 use Rattle.orc_heap.proofs.Fresh.{node-after, touched}
 use Rattle.orc_heap.proofs.Moved.{target_roots}
-use Rattle.orc_heap.proofs.Parts.{part_allowed}
+use Rattle.orc_heap.proofs.Calls.{part_allowed}
 use Rattle.orc_heap.proofs.Runs.{run_heap-snoc}
 use Rattle.orc_heap.proofs.Stays.{stays, stays_but}
 use Rattle.orc_heap.specs.Acts.{Fits, IsFresh, as_linked, as_named, heap_after}
 use Rattle.orc_heap.specs.Allowed.{AllAllowed, events_by}
 use Rattle.orc_heap.specs.Heap.{Heap, HeapNumbers, Node, shown}
 use Rattle.orc_heap.specs.Journals.{names_node, run_heap}
-use Rattle.orc_heap.specs.Parts.{Only, Puts}
+use Rattle.orc_heap.specs.OwnEvents.{Only, Puts}
 use Rattle.orc_heap.specs.Seats.{Seat}
 use Rattle.orc_heap.specs.declared.events.Act.{Act}
 use Rattle.orc_heap.specs.declared.events.Act.TheVariants.{Aim, Fill, Give, Look, Miss, Move}

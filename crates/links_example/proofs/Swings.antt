@@ -6,14 +6,14 @@ use Rattle.orc_heap.proofs.Changes.{get-change_same}
 use Rattle.orc_heap.proofs.Fresh.{own_node_told, touched_by}
 use Rattle.orc_heap.proofs.Known.{known-later}
 use Rattle.orc_heap.proofs.Moved.{target_roots}
-use Rattle.orc_heap.proofs.Parts.{Puts-stood}
+use Rattle.orc_heap.proofs.Calls.{Puts-stood}
 use Rattle.orc_heap.proofs.Runs.{run_heap-snoc}
 use Rattle.orc_heap.specs.Acts.{IsTarget, as_linked}
 use Rattle.orc_heap.specs.Allowed.{AllAllowed, AllowedLater, Later}
 use Rattle.orc_heap.specs.Calls.{Misses, event_of}
 use Rattle.orc_heap.specs.Heap.{HeapNumbers, Node, shown}
 use Rattle.orc_heap.specs.Journals.{run_heap}
-use Rattle.orc_heap.specs.Parts.{Puts}
+use Rattle.orc_heap.specs.OwnEvents.{Puts}
 use Rattle.orc_heap.specs.Seats.{Seat}
 use Rattle.orc_heap.specs.declared.events.Act.TheVariants.{Move}
 use Rattle.orc_heap.specs.declared.events.Event.{Event}

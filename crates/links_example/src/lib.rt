@@ -5,4 +5,4 @@ mod own_roots;
 mod stack;
 
 pub use own_roots::OwnRoots;
-pub use stack::{Refused, through_a_stack};
+pub use stack::{PushRefused, through_a_stack};

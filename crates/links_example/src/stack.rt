@@ -11,7 +11,7 @@ use orc_heap::{At, Held, Links, Looked, Want};
 
 /// Why a node couldn't be put on a stack.
 #[derive(Clone, Copy, Debug, PartialEq, Eq)]
-pub enum Refused {
+pub enum PushRefused {
     NoNode,
     Spent(Spent),
 }
@@ -34,7 +34,7 @@ fn push<L: Links<Rule = OwnRoots>>(
     top: Option<&Held>,
     slot: u32,
     value: u64,
-) -> Result<Held, Refused>
+) -> Result<Held, PushRefused>
     requires pass { L.belongs links.now p.old }
     requires slot { IsFree (L.seat links.now p.old).slots slot }
     requires fresh { (L.seat links.now p.old).fresh ≡ None }
@@ -49,11 +49,11 @@ fn push<L: Links<Rule = OwnRoots>>(
     let agent = links.agent(p);
     let node = match links.give(p, slot, value, 0) {
         Ok(node) => node,
-        Err(_) => return Err(Refused::NoNode),
+        Err(_) => return Err(PushRefused::NoNode),
     };
     if let Err(why) = links.aim(p, &node, top) {
         links.release(p, node);
-        return Err(Refused::Spent(why));
+        return Err(PushRefused::Spent(why));
     }
     let below = below(top);
     match links.swing(
@@ -67,7 +67,7 @@ fn push<L: Links<Rule = OwnRoots>>(
         Ok(false) => unreachable!(),
         Err(why) => {
             links.release(p, node);
-            Err(Refused::Spent(why))
+            Err(PushRefused::Spent(why))
         }
     }
 }
@@ -141,7 +141,7 @@ pub fn through_a_stack<L: Links<Rule = OwnRoots>>(
     p: &mut L::Pass,
     lower: u64,
     upper: u64,
-) -> Result<(u64, u64), Refused>
+) -> Result<(u64, u64), PushRefused>
     requires pass { L.belongs links.now p.old }
     requires idle { IsIdle (L.seat links.now p.old) }
     requires root { (L.seat links.now p.old).agent < (L.numbers links.now).roots }

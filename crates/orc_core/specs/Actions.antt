@@ -13,7 +13,7 @@ use Rattle.orc_core.specs.declared.actions.Operation.TheVariants.{Load, Store, S
 use Rattle.orc_core.specs.declared.actions.Action.{Action}
 use Rattle.orc_core.specs.declared.ops.Op.{Op}
 use Rattle.orc_core.specs.declared.ops.Op.TheVariants.{Enroll, GateLook, GateTake, Fill, Read, LinkLoad, Publish, Clear, Arm, LinkCas, LinkStore, Inc, Dec, SetRetired, CounterLoad, Unretire, SlotLook, Hand, TakeIn, Free}
-use Rattle.orc_core.specs.Parts.{number_of, scanned}
+use Rattle.orc_core.specs.RecordParts.{number_of, scanned}
 
 -- the sum and the difference of words of 64 bits
 abbrev pub word_add : ℕ → ℕ → ℕ

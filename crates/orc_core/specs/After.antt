@@ -5,7 +5,7 @@ use Rattle.std.specs.Option.{ForSome}
 use Rattle.orc_words.specs.declared.packed.TheConstants.{INCREMENT, DECREMENT, RETIRED}
 use Rattle.orc_words.specs.Packed.{link_word, named, sequence_of}
 use Rattle.orc_core.specs.declared.records.Agent.{Agent}
-use Rattle.orc_core.specs.declared.records.Seen.{Seen}
+use Rattle.orc_core.specs.declared.records.Reading.{Reading}
 use Rattle.orc_core.specs.declared.records.Scan.{Scan}
 use Rattle.orc_core.specs.declared.records.Doom.{Doom}
 use Rattle.orc_core.specs.declared.records.SlotUse.{SlotUse}
@@ -15,11 +15,11 @@ use Rattle.orc_core.specs.declared.ops.CounterUse.TheVariants.{Check, Start, End
 use Rattle.orc_core.specs.declared.ops.Op.{Op}
 use Rattle.orc_core.specs.declared.ops.Op.TheVariants.{Enroll, GateLook, GateTake, Fill, Read, LinkLoad, Publish, Clear, Arm, LinkCas, LinkStore, Inc, Dec, SetRetired, CounterLoad, Unretire, SlotLook, Hand, TakeIn, Free}
 use Rattle.orc_core.specs.Listed.{Listed, listed_more, listed_rest, listed_name}
-use Rattle.orc_core.specs.Parts.{names, same_target, number_of, is_clear, kept}
+use Rattle.orc_core.specs.RecordParts.{names, same_target, number_of, is_clear, kept}
 use Rattle.orc_core.specs.Actions.{word_add, word_sub, clear_word}
 
 -- the row is due where its new counter word w has count 0 and no bit
-abbrev pub due_after : ℕ → ℕ → Option Seen → Option Seen
+abbrev pub due_after : ℕ → ℕ → Option Reading → Option Reading
 due_after r w due = cond (is_clear w) (Some (record { row = r; number = sequence_of w })) due
 
 -- a Published slot becomes Held where the link word still names its row
@@ -47,7 +47,7 @@ scan_on None w = None
 scan_on (Some s) w = Some (record { row = s.row; word = s.word; place = cond (w == s.row + 1) s.place (s.place + 1); found = w == s.row + 1 })
 
 -- what the three uses of a counter's load leave in the five parts that one of them changes
-abbrev pub checked_by : CounterUse → ℕ → ℕ → Option Seen → Option Seen
+abbrev pub checked_by : CounterUse → ℕ → ℕ → Option Reading → Option Reading
 checked_by Check r w c = Some (record { row = r; number = sequence_of w })
 checked_by Start r w c = c
 checked_by End r w c = c

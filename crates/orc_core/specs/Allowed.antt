@@ -5,12 +5,12 @@ use Rattle.orc_words.specs.declared.place.Word.{Word}
 use Rattle.orc_words.specs.declared.place.Word.TheVariants.{Root, Next}
 use Rattle.orc_words.specs.Bounds.{Bounds}
 use Rattle.orc_core.specs.declared.records.Agent.{Agent}
-use Rattle.orc_core.specs.declared.records.Seen.{Seen}
+use Rattle.orc_core.specs.declared.records.Reading.{Reading}
 use Rattle.orc_core.specs.declared.ops.CounterUse.TheVariants.{Check, Start, End}
 use Rattle.orc_core.specs.declared.ops.Op.{Op}
 use Rattle.orc_core.specs.declared.ops.Op.TheVariants.{Enroll, GateLook, GateTake, Fill, Read, LinkLoad, Publish, Clear, Arm, LinkCas, LinkStore, Inc, Dec, SetRetired, CounterLoad, Unretire, SlotLook, Hand, TakeIn, Free}
 use Rattle.orc_core.specs.Listed.{first_is}
-use Rattle.orc_core.specs.Parts.{names, number_of, saw, checked_below, is_due, holds, is_empty, is_published, any_holds, holds_fresh, slot_of, scans, scan_empty, scan_found, scan_at, doom_uncut, doom_cut, doom_bare}
+use Rattle.orc_core.specs.RecordParts.{names, number_of, saw, checked_below, is_due, holds, is_empty, is_published, any_holds, holds_fresh, slot_of, scans, scan_empty, scan_found, scan_at, doom_uncut, doom_cut, doom_bare}
 
 abbrev pub tries_bit : Op → ℕ → ℕ → Bool
 tries_bit (SetRetired q s) r sequence = (q == r) && (s == sequence)
@@ -35,7 +35,7 @@ completes _ = false
 
 -- what must come first, by due, inc and dec: the try on a due row's bit, then the pending increment, then
 -- the pending decrement
-abbrev pub in_order : Option Seen → Option ℕ → Option ℕ → Op → Bool
+abbrev pub in_order : Option Reading → Option ℕ → Option ℕ → Op → Bool
 in_order (Some s) inc dec op = tries_bit op s.row s.number
 in_order None (Some r) dec op = increments op r
 in_order None None (Some r) op = arms_or_decrements op r

@@ -1,5 +1,5 @@
 pub mod Listed
-pub mod Parts
+pub mod RecordParts
 pub mod Actions
 pub mod After
 pub mod Allowed

@@ -85,6 +85,7 @@ fn value_word(row: u32, which: u32) -> Word
 }
 
 /// What the agent of this number does by a step of this kind.
+#[inline(always)]
 pub fn action_of(number: u32, op: &Op, agent: &Agent) -> Action
     requires { IsPackable op.now agent.now }
     ensures { result ≡ action_of number op.now agent.now }

@@ -6,7 +6,7 @@ ghost use Rattle.orc_words.specs.Bounds.{Bounds, IsShape};
 ghost use Rattle.orc_words.specs.Places.{IsWithin};
 ghost use Rattle.orc_core.specs.declared.ops.Op.{Op};
 ghost use Rattle.orc_core.specs.declared.records.Agent.{Agent};
-ghost use Rattle.orc_core.specs.declared.records.Seen.{Seen};
+ghost use Rattle.orc_core.specs.declared.records.Reading.{Reading};
 ghost use Rattle.orc_core.specs.Actions.{action_of, word_after};
 ghost use Rattle.orc_core.specs.After.{after};
 ghost use Rattle.orc_core.specs.Allowed.{completes, may};
@@ -17,7 +17,7 @@ ghost use Rattle.orc_core.specs.Runs.{IsLawful, run};
 /// pending increment may make it alone; else one with a pending decrement may arm and make it alone. All
 /// other kinds wait until nothing is pending.
 pub fn pending_changes_come_first()
-    ensures due { (b : Bounds) (e a : ℕ) (op : Op) (d : Agent) (s : Seen) → d.due ≡ Some s
+    ensures due { (b : Bounds) (e a : ℕ) (op : Op) (d : Agent) (s : Reading) → d.due ≡ Some s
         → may b e a op d ≡ true → op ≡ Op.SetRetired s.row s.number }
     ensures increment { (b : Bounds) (e a : ℕ) (op : Op) (d : Agent) (r : ℕ) → d.due ≡ None → d.inc ≡ Some r
         → may b e a op d ≡ true → op ≡ Op.Inc r }

@@ -23,7 +23,7 @@ pub use laws::{
 pub use ops::{CounterUse, Op};
 pub use outcome::advance;
 pub use permission::may_step;
-pub use records::{Agent, Doom, Scan, Seen, SlotUse};
+pub use records::{Agent, Doom, Reading, Scan, SlotUse};
 pub use state::{NotAllowed, State, allowed, apply};
 pub use work_list::WorkList;
 

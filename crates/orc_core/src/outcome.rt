@@ -9,7 +9,7 @@ ghost use Rattle.orc_core.specs.After.{IsRecordable, after, bared, cut_of, due_a
 use crate::actions::clear_word;
 use crate::ops::{CounterUse, Op};
 use crate::parts::{SEQUENCE, is_clear, kept, names, number_of, same_target};
-use crate::records::{Agent, Doom, Scan, Seen, SlotUse};
+use crate::records::{Agent, Doom, Reading, Scan, SlotUse};
 use orc_words::{DECREMENT, INCREMENT, RETIRED, RowLink, named, pack_link};
 
 fn promoted(slot: SlotUse, word: u64) -> SlotUse
@@ -21,11 +21,11 @@ fn promoted(slot: SlotUse, word: u64) -> SlotUse
     }
 }
 
-fn due_after(row: u32, word: u64, due: Option<Seen>) -> Option<Seen>
+fn due_after(row: u32, word: u64, due: Option<Reading>) -> Option<Reading>
     ensures { result ≡ due_after row word due }
 {
     if is_clear(word) {
-        Some(Seen {
+        Some(Reading {
             row,
             number: word / SEQUENCE,
         })
@@ -79,6 +79,7 @@ fn scan_on(scan: Option<Scan>, word: u64) -> Option<Scan>
 }
 
 /// The record after a step of this kind that read this word.
+#[inline(always)]
 pub fn advance(agent: &mut Agent, op: &Op, read: u64)
     requires packable { IsPackable op.now agent.old }
     requires recordable { IsRecordable op.now agent.old }
@@ -137,7 +138,7 @@ fn gate_seen(agent: &mut Agent, row: u32, read: u64)
     ensures { agent.new ≡ after (Op.GateLook row) agent.old read }
 {
     agent.looked = if read % 2 == 0 {
-        Some(Seen {
+        Some(Reading {
             row,
             number: read / 2,
         })
@@ -224,7 +225,7 @@ fn counter_read(agent: &mut Agent, row: u32, how: CounterUse, read: u64)
         found: false,
     });
     match how {
-        CounterUse::Check => agent.checked = Some(Seen {
+        CounterUse::Check => agent.checked = Some(Reading {
             row,
             number: read / SEQUENCE,
         }),

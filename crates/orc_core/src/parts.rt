@@ -1,9 +1,9 @@
 //! What one part of a record says.
 
 ghost use Rattle.std.specs.Prelude.{◌≡◌, length};
-ghost use Rattle.orc_core.specs.Parts.{any_holds, checked_below, doom_bare, doom_cut, doom_uncut, holds, holds_fresh, is_clear, is_due, is_empty, is_published, kept, names, number_of, same_target, saw, scan_at, scan_empty, scan_found, scanned, scans, slot_of};
+ghost use Rattle.orc_core.specs.RecordParts.{any_holds, checked_below, doom_bare, doom_cut, doom_uncut, holds, holds_fresh, is_clear, is_due, is_empty, is_published, kept, names, number_of, same_target, saw, scan_at, scan_empty, scan_found, scanned, scans, slot_of};
 
-use crate::records::{Agent, Doom, Scan, Seen, SlotUse};
+use crate::records::{Agent, Doom, Reading, Scan, SlotUse};
 use orc_words::{NEW_COUNTER, RETIRED};
 
 /// The part of a counter word that holds its count.
@@ -31,7 +31,7 @@ pub(crate) fn same_target(a: Option<u32>, b: Option<u32>) -> bool
     }
 }
 
-pub(crate) fn number_of(seen: Option<Seen>) -> u64
+pub(crate) fn number_of(seen: Option<Reading>) -> u64
     ensures { result ≡ number_of seen }
 {
     match seen {
@@ -40,7 +40,7 @@ pub(crate) fn number_of(seen: Option<Seen>) -> u64
     }
 }
 
-pub(crate) fn saw(seen: Option<Seen>, row: u32) -> bool
+pub(crate) fn saw(seen: Option<Reading>, row: u32) -> bool
     ensures { result ≡ saw seen row }
 {
     match seen {
@@ -49,7 +49,7 @@ pub(crate) fn saw(seen: Option<Seen>, row: u32) -> bool
     }
 }
 
-pub(crate) fn checked_below(checked: Option<Seen>, row: u32, limit: u64) -> bool
+pub(crate) fn checked_below(checked: Option<Reading>, row: u32, limit: u64) -> bool
     ensures { result ≡ checked_below checked row limit }
 {
     match checked {
@@ -58,7 +58,7 @@ pub(crate) fn checked_below(checked: Option<Seen>, row: u32, limit: u64) -> bool
     }
 }
 
-pub(crate) fn is_due(due: Option<Seen>, row: u32, sequence: u64) -> bool
+pub(crate) fn is_due(due: Option<Reading>, row: u32, sequence: u64) -> bool
     ensures { result ≡ is_due due row sequence }
 {
     match due {

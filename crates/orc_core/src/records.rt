@@ -18,7 +18,7 @@ pub enum SlotUse {
 
 /// A row, with a number that was read of it: its life or its sequence.
 #[derive(Clone, Copy, Debug, PartialEq, Eq)]
-pub struct Seen {
+pub struct Reading {
     pub row: u32,
     pub number: u64,
 }
@@ -52,15 +52,15 @@ pub struct Agent {
     /// A row that was taken and never linked.
     pub fresh: Option<u32>,
     /// A row, and the life in which it was seen free.
-    pub looked: Option<Seen>,
+    pub looked: Option<Reading>,
     /// A row, and the sequence that was read of it.
-    pub checked: Option<Seen>,
+    pub checked: Option<Reading>,
     /// The pending increment.
     pub inc: Option<u32>,
     /// The pending decrement.
     pub dec: Option<u32>,
     /// A row and a sequence: its retired bit must be tried.
-    pub due: Option<Seen>,
+    pub due: Option<Reading>,
     /// A retired row that came out of a handover word.
     pub hand: Option<u32>,
     pub scan: Option<Scan>,

@@ -108,6 +108,19 @@ impl State {
         self.shape
     }
 
+    /// The words, and the records of the agents.
+    pub fn into_parts(self) -> (Vec<u64>, Vec<Agent>)
+        ensures words { result.0.items ≡ self.words }
+        ensures agents { result.1.items ≡ self.agents }
+    {
+        let State {
+            shape: _,
+            words,
+            agents,
+        } = self;
+        (words, agents)
+    }
+
     /// What a word holds.
     pub fn word(&self, word: Word) -> u64
         requires { IsWithin self.now.bounds word }

@@ -6,7 +6,7 @@ use Rattle.std.proofs.lemmas.List.Elements.{All-from_get_or}
 use Rattle.std.proofs.lemmas.Str.Parse.{IsNumeralModel, digit_at, numerals_by_value, tells_digits, parse_plain}
 use Rattle.std.proofs.lemmas.Fmt.{decimal_nonempty, first_decimal, decimal_digit, digits_decimal, parse-decimal, decimal-digits_value}
 use Rattle.std.proofs.lemmas.Bool.Decides.{nat_tests}
-use Rattle.orc_decimal.specs.Plain.{IsPlain}
+use Rattle.orc_decimal.specs.Canonical.{IsCanonical}
 
 own : IsNumeralModel (AllDigits 10) (digits_value 10)
 own = numerals_by_value (AllDigits 10) tells_digits
@@ -21,8 +21,8 @@ zero_or_more : (n : ℕ) → (n ≡ 0) ⊎ (0 < n)
 zero_or_more zero = inl refl
 zero_or_more (suc n) = inr (omega arith)
 
-pub IsPlain-decimal : (n : ℕ) → n < 2 ^ 64 → IsPlain (decimal n)
-IsPlain-decimal n h = elim (zero_or_more n) [
+pub IsCanonical-decimal : (n : ℕ) → n < 2 ^ 64 → IsCanonical (decimal n)
+IsCanonical-decimal n h = elim (zero_or_more n) [
   | inl e ↦ rw e (record {
     some = decimal_nonempty 0 (omega arith);
     unsigned = λ q. absurd (let bad : 48 ≡ 43 = sym first_of_zero ∙ q in omega arith);
@@ -38,7 +38,7 @@ IsPlain-decimal n h = elim (zero_or_more n) [
 ]
 
 -- a plain text that parses is what printing its number gives
-pub parsed : {E : Type 0} (text : List ℕ) (r : Result ℕ E) (n : ℕ) → IsPlain text → ParsesUnsigned 64 10 text r → r ≡ Ok n → (n < 2 ^ 64) × (text ≡ decimal n)
+pub parsed : {E : Type 0} (text : List ℕ) (r : Result ℕ E) (n : ℕ) → IsCanonical text → ParsesUnsigned 64 10 text r → r ≡ Ok n → (n < 2 ^ 64) × (text ≡ decimal n)
 parsed {E} text r n plain h e =
     let p = parse_plain own 64 text r h plain.unsigned in
     let q = rw e at p in

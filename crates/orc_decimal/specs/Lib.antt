@@ -1,2 +1,2 @@
 pub mod Decimals
-pub mod Plain
+pub mod Canonical

@@ -4,7 +4,7 @@
 ghost use Rattle.std.specs.Prelude.{◌≡◌, ◌==◌, ◌^◌, ◌<◌, IfNone, IfSome, length, slice_index, true, false};
 ghost use Rattle.std.specs.Fmt.{decimal};
 ghost use Rattle.orc_decimal.specs.Decimals.{IsDecimal};
-ghost use Rattle.orc_decimal.specs.Plain.{IsPlain};
+ghost use Rattle.orc_decimal.specs.Canonical.{IsCanonical};
 
 use std::str;
 
@@ -27,8 +27,8 @@ pub fn number_of(text: &[u8]) -> Option<u64>
 
 /// No sign, and no zero in front of a digit.
 fn is_plain(text: &[u8]) -> bool
-    ensures plain { result ≡ true → IsPlain text.now }
-    ensures other { result ≡ false → ¬ IsPlain text.now }
+    ensures plain { result ≡ true → IsCanonical text.now }
+    ensures other { result ≡ false → ¬ IsCanonical text.now }
 {
     match text {
         [] => false,

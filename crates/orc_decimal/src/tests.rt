@@ -2,7 +2,7 @@
 
 ghost use Rattle.std.specs.Prelude.{codes};
 ghost use Rattle.orc_decimal.specs.Decimals.{IsDecimal};
-ghost use Rattle.orc_decimal.specs.Plain.{IsPlain};
+ghost use Rattle.orc_decimal.specs.Canonical.{IsCanonical};
 
 use super::*;
 
@@ -12,8 +12,8 @@ fn decimals_by_hand()
     ensures too_large { ¬ IsDecimal 8 (codes "256") }
     ensures zero { IsDecimal 8 (codes "0") }
     ensures zero_first { ¬ IsDecimal 8 (codes "07") }
-    ensures plain { IsPlain (codes "70") }
-    ensures not_plain { ¬ IsPlain (codes "07") }
+    ensures plain { IsCanonical (codes "70") }
+    ensures not_plain { ¬ IsCanonical (codes "07") }
 {}
 
 #[test]

@@ -4,7 +4,7 @@ use Rattle.std.specs.Borrow.{Bor}
 use Rattle.std.specs.List.{slice_set}
 use Rattle.std.specs.Prelude.{IfSome}
 use Rattle.orc_heap.proofs.ByAnswer.{unless_same}
-use Rattle.orc_heap.proofs.Parts.{Puts-stood}
+use Rattle.orc_heap.proofs.Calls.{Puts-stood}
 use Rattle.orc_heap.proofs.Roots.{once_later, root_linked}
 use Rattle.orc_heap.proofs.Slots.{given-back, held_apart, holds-other, holds-there, id-other, id-there}
 use Rattle.orc_heap.proofs.Told.{linked_told}
@@ -12,7 +12,7 @@ use Rattle.orc_heap.specs.Allowed.{AllAllowed}
 use Rattle.orc_heap.specs.Calls.{Gives, Releases, event_of, unless_node}
 use Rattle.orc_heap.specs.Heap.{HeapNumbers}
 use Rattle.orc_heap.specs.Journals.{IsLawful, is_once_linked, run_heap}
-use Rattle.orc_heap.specs.Parts.{Puts}
+use Rattle.orc_heap.specs.OwnEvents.{Puts}
 use Rattle.orc_heap.specs.Seats.{HoldsFresh, HoldsTarget, IsUntouched, Seat}
 use Rattle.orc_heap.specs.Slots.{Hold, Holds, IsFree, id_in}
 use Rattle.orc_heap.specs.declared.events.Act.TheVariants.{Look}
@@ -22,10 +22,10 @@ use Rattle.orc_heap.specs.declared.events.Place.TheVariants.{Root}
 use Rattle.links_example.specs.OwnRoots.{OwnRootsMay}
 
 -- a node that a look at a root found was linked
-pub look_linked : (n : HeapNumbers) (s t : Seat ℕ) (root id : ℕ) (link : Link) (rest : List (Event ℕ)) → link.to ≡ Some id
-    → AllAllowed (OwnRootsMay n) [] t.seen → Puts s (event_of s (Look (Root root) link) None ∷ rest) t → is_once_linked t.seen id ≡ true
-look_linked n s t root id link rest to all p =
-    let st = Puts-stood (OwnRootsMay n) s t [] _ rest p all in
+pub look_linked : (n : HeapNumbers) (s t : Seat ℕ) (root id : ℕ) (link : Link) (own rest : List (Event ℕ)) → link.to ≡ Some id
+    → AllAllowed (OwnRootsMay n) [] t.seen → Puts s (own ++ event_of s (Look (Root root) link) None ∷ rest) t → is_once_linked t.seen id ≡ true
+look_linked n s t root id link own rest to all p =
+    let st = Puts-stood (OwnRootsMay n) s t own _ rest p all in
     let e : Event ℕ = event_of s (Look (Root root) link) None in
     let once = root_linked n (s.seen ++ st.before) root id link to st.here.0 in
     subst (λ es. is_once_linked es id ≡ true) (sym st.is) (once_later ((s.seen ++ st.before) ++ e ∷ []) st.later id (once_later (s.seen ++ st.before) (e ∷ []) id once))

@@ -5,10 +5,10 @@ use mathlib.Core.List.{IsPrefix}
 use mathlib.Core.Logic.{dite}
 use Rattle.orc_words.specs.Bounds.{Bounds, bounds_of}
 use Rattle.orc_heap.proofs.Changes.{get-grown}
-use Rattle.orc_heap.proofs.Parts.{Only-trans, Puts-trans}
+use Rattle.orc_heap.proofs.Calls.{Only-trans, Puts-trans}
 use Rattle.orc_heap.specs.Calls.{Gives, given_node}
 use Rattle.orc_heap.specs.Journals.{run_heap}
-use Rattle.orc_heap.specs.Parts.{Only, Puts}
+use Rattle.orc_heap.specs.OwnEvents.{Only, Puts}
 use Rattle.orc_heap.specs.Slots.{Hold, Slots}
 use Rattle.orc_heap.specs.declared.discipline.Discipline as discipline
 use Rattle.orc_heap.specs.declared.events.Act.TheVariants.{Fill, Give}

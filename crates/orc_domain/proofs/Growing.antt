@@ -5,7 +5,7 @@ use Rattle.orc_words.specs.Bounds.{Bounds}
 use Rattle.orc_heap.specs.Acts.{IsKnown}
 use Rattle.orc_heap.specs.Allowed.{events_by}
 use Rattle.orc_heap.specs.Journals.{run_heap}
-use Rattle.orc_heap.specs.Parts.{Only, Puts}
+use Rattle.orc_heap.specs.OwnEvents.{Only, Puts}
 use Rattle.orc_heap.specs.declared.discipline.Discipline as discipline
 use Rattle.orc_heap.specs.declared.events.Act.{Act}
 use Rattle.orc_heap.specs.declared.events.Event.{Event}
@@ -23,7 +23,7 @@ use Rattle.orc_table.specs.Words.{Tie}
 use Rattle.orc_table.specs.declared.machine.Plain.{Plain}
 use Rattle.orc_table.specs.declared.machine.PlainOp.{PlainOp}
 use Rattle.orc_table.specs.declared.machine.PlainStep.{PlainStep}
-use Rattle.orc_table.specs.declared.pass.PlainPass.{PlainPass as BoardPass}
+use Rattle.orc_table.specs.declared.pass.PlainBoardPass.{PlainBoardPass as BoardPass}
 use Rattle.orc_table.specs.declared.seed.PlainShape.{PlainShape}
 use Rattle.orc_domain.specs.Passes.{IsPassOf, domain_bounds, domain_numbers, seat_of}
 use Rattle.orc_domain.specs.Rows.{Keeps, seat_by, slots_by}

@@ -12,13 +12,13 @@ use Rattle.orc_heap.specs.declared.discipline.Discipline as discipline
 use Rattle.orc_heap.specs.declared.events.Event.{Event}
 use Rattle.orc_shared_words.specs.Lists.{Begins}
 use Rattle.orc_shared_words.specs.declared.machine.Machine as machine
-use Rattle.orc_table.specs.Calls.{IsLonger as BoardLonger, Learns as BoardLearns}
+use Rattle.orc_table.specs.Calls.{IsLonger as BoardLonger, LearnsEvents}
 use Rattle.orc_table.specs.Machine.{id_by, numbers}
 use Rattle.orc_table.specs.Views.{Belongs, PlainView, shows, shows_by}
 use Rattle.orc_table.specs.declared.machine.Plain.{Plain}
 use Rattle.orc_table.specs.declared.machine.PlainOp.{PlainOp}
 use Rattle.orc_table.specs.declared.machine.PlainStep.{PlainStep}
-use Rattle.orc_table.specs.declared.pass.PlainPass.{PlainPass as BoardPass}
+use Rattle.orc_table.specs.declared.pass.PlainBoardPass.{PlainBoardPass as BoardPass}
 use Rattle.orc_table.specs.declared.seed.PlainShape.{PlainShape}
 use Rattle.orc_domain.specs.Passes.{IsPassOf, domain_bounds, domain_numbers, seat_of}
 use Rattle.orc_domain.specs.declared.domain.PlainDomain.{PlainDomain}
@@ -58,7 +58,7 @@ longer_of s u t (inr l) = record { of_both = inl ((l.0.0, sym l.0.1), l.1) }
 module _ {D N : Type 0} {d : discipline.Ghosts D N} {m : machine.Ghosts Plain N (PlainShape N) PlainOp (PlainStep N) (Unit {0}) (Unit {0})}
     (domain : PlainDomain D N) (into from : PlainPass D N (PlainShape N) PlainOp (PlainStep N) (Unit {0}) (Unit {0}) d m) (h : IsPassOf domain into) (k : IsPassOf domain from)
     (q r : BoardPass D N (PlainShape N) PlainOp (PlainStep N) (Unit {0}) (Unit {0}) d m) (x : Belongs domain.board q) (y : Belongs domain.board r)
-    (l : BoardLearns (shows domain.board into.pass) (shows domain.board from.pass) (shows domain.board q) (shows domain.board r))
+    (l : LearnsEvents (shows domain.board into.pass) (shows domain.board from.pass) (shows domain.board q) (shows domain.board r))
   where
     abbrev b : Bounds
     b = domain_bounds domain

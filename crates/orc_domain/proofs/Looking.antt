@@ -3,10 +3,10 @@ use Rattle.std.proofs.Common.{◌≡◌, ◌≢◌, ℕ, List, [], ◌∷◌, tr
 use Rattle.orc_words.specs.Bounds.{Bounds}
 use Rattle.orc_words.specs.declared.packed.RowLink.{RowLink}
 use Rattle.orc_words.specs.declared.place.Word.{Word}
-use Rattle.orc_heap.proofs.Parts.{Puts-trans}
+use Rattle.orc_heap.proofs.Calls.{Puts-trans}
 use Rattle.orc_heap.specs.Acts.{IsKnown, IsTarget}
 use Rattle.orc_heap.specs.Calls.{Looks, event_of}
-use Rattle.orc_heap.specs.Parts.{Puts}
+use Rattle.orc_heap.specs.OwnEvents.{Puts}
 use Rattle.orc_heap.specs.Seats.{HoldsPlace, place_in}
 use Rattle.orc_heap.specs.Slots.{Hold, Slots}
 use Rattle.orc_heap.specs.declared.discipline.Discipline as discipline
@@ -143,19 +143,18 @@ module _ {D N : Type 0} {d : discipline.Ghosts D N} {m : machine.Ghosts Plain N 
           found : link_by u.rows two ≡ record { to = Some (index_of row u.rows); mark = one.mark }
           found = ap (link_by u.rows) twice ∙ ap (λ (z : Option ℕ). record { to = id_by u.rows z; mark = one.mark }) is
 
-          found_first : link_by t.rows one ≡ record { to = Some (index_of row u.rows); mark = one.mark }
-          found_first = sym link_still ∙ ap (λ (z : Option ℕ). record { to = id_by u.rows z; mark = one.mark }) is
-
           pub looks_held : (hold : Hold) → hold ≡ record { row = row; slot = slot } → Looks (place_in (seat_of domain p).slots at) slot (seat_of domain p) (Stable (record { null = false; mark = one.mark }) (Some hold)) (seat_by u (slice_set p2.slots slot (Some row)))
           looks_held hold e = subst (λ (z : Hold). Looks (place_in (seat_of domain p).slots at) slot (seat_of domain p) (Stable (record { null = false; mark = one.mark }) (Some z)) (seat_by u (slice_set p2.slots slot (Some row)))) (sym e) record {
             fresh = fresh_last;
             tells = (
               index_of row u.rows,
+              link_by t.rows one,
+              (λ none. let e : Some (index_of row t.rows) ≡ None = sym (ap (id_by t.rows) is) ∙ none in cc),
               refl,
               refl,
               slots_set u.rows p2.slots slot (Some row) ∙ ap (λ (z : Slots). slice_set z slot (Some (record { row = row; id = index_of row u.rows }))) slots_last,
-              subst (λ (z : Link × Link). Puts (seat_of domain p) (event s.agent (Look (place_in (seat_of domain p).slots at) z.0) None ∷ event s.agent (Look (place_in (seat_of domain p).slots at) z.1) None ∷ []) (seat_by u (slice_set p2.slots slot (Some row))))
-                  (λ i. (found_first i, found i)) (put_both (slice_set p2.slots slot (Some row))),
+              subst (λ (z : Link). Puts (seat_of domain p) (event s.agent (Look (place_in (seat_of domain p).slots at) (link_by t.rows one)) None ∷ event s.agent (Look (place_in (seat_of domain p).slots at) z) None ∷ []) (seat_by u (slice_set p2.slots slot (Some row))))
+                  found (put_both (slice_set p2.slots slot (Some row))),
             );
           }
 

@@ -6,7 +6,7 @@ use Rattle.std.specs.List.{AllByRecursion}
 use Rattle.orc_words.specs.Bounds.{Bounds, bounds_of}
 use Rattle.orc_heap.specs.Allowed.{events_by}
 use Rattle.orc_heap.specs.Journals.{run_heap}
-use Rattle.orc_heap.specs.Parts.{IsBelow}
+use Rattle.orc_heap.specs.OwnEvents.{IsBelow}
 use Rattle.orc_heap.specs.declared.discipline.Discipline as discipline
 use Rattle.orc_heap.specs.declared.events.Event.{Event}
 use Rattle.orc_shared_words.specs.Lists.{Among, Begins}
@@ -17,7 +17,7 @@ use Rattle.orc_table.specs.Views.{Belongs, PlainView, shows}
 use Rattle.orc_table.specs.declared.machine.Plain.{Plain}
 use Rattle.orc_table.specs.declared.machine.PlainOp.{PlainOp}
 use Rattle.orc_table.specs.declared.machine.PlainStep.{PlainStep}
-use Rattle.orc_table.specs.declared.pass.PlainPass.{PlainPass as BoardPass}
+use Rattle.orc_table.specs.declared.pass.PlainBoardPass.{PlainBoardPass as BoardPass}
 use Rattle.orc_table.specs.declared.seed.PlainShape.{PlainShape}
 use Rattle.orc_domain.specs.Passes.{IsPassOf, domain_bounds, domain_numbers, seat_of}
 use Rattle.orc_domain.specs.declared.domain.PlainDomain.{PlainDomain}

@@ -10,7 +10,7 @@ use Rattle.orc_words.specs.declared.packed.RowLink.{RowLink}
 use Rattle.orc_words.specs.declared.place.Word.{Word}
 use Rattle.orc_heap.specs.Allowed.{AllowedLater}
 use Rattle.orc_heap.specs.Calls.{Misses as HeapMisses, Swings, Tests, look_of, move_of, unless_node}
-use Rattle.orc_heap.specs.Parts.{Puts}
+use Rattle.orc_heap.specs.OwnEvents.{Puts}
 use Rattle.orc_heap.specs.Seats.{HoldsPlace, HoldsWant, link_in, place_in}
 use Rattle.orc_heap.specs.declared.discipline.Discipline as discipline
 use Rattle.orc_heap.specs.declared.events.Act.TheVariants.{Look, Miss, Move}
@@ -27,7 +27,7 @@ use Rattle.orc_table.specs.Views.{Belongs, PlainView, shows}
 use Rattle.orc_table.specs.declared.machine.Plain.{Plain}
 use Rattle.orc_table.specs.declared.machine.PlainOp.{PlainOp}
 use Rattle.orc_table.specs.declared.machine.PlainStep.{PlainStep}
-use Rattle.orc_table.specs.declared.pass.PlainPass.{PlainPass as BoardPass}
+use Rattle.orc_table.specs.declared.pass.PlainBoardPass.{PlainBoardPass as BoardPass}
 use Rattle.orc_table.specs.declared.seed.PlainShape.{PlainShape}
 use Rattle.orc_domain.specs.Passes.{IsPassOf, domain_bounds, domain_numbers, seat_of}
 use Rattle.orc_domain.specs.declared.domain.PlainDomain.{PlainDomain}

@@ -6,7 +6,7 @@ use Rattle.orc_heap.specs.Acts.{IsTarget}
 use Rattle.orc_heap.specs.Calls.{given_node}
 use Rattle.orc_heap.specs.Heap.{HeapNumbers, new_node}
 use Rattle.orc_heap.specs.Journals.{run_heap}
-use Rattle.orc_heap.specs.Parts.{Puts}
+use Rattle.orc_heap.specs.OwnEvents.{Puts}
 use Rattle.orc_heap.specs.Seats.{Seat}
 use Rattle.orc_heap.specs.declared.discipline.Discipline as discipline
 use Rattle.orc_heap.specs.declared.events.Act.TheVariants.{Fill, Give, Look}

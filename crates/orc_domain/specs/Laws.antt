@@ -8,7 +8,7 @@ use Rattle.orc_words.specs.Bounds.{Bounds}
 use Rattle.orc_heap.specs.Acts.{IsKnown}
 use Rattle.orc_heap.specs.Allowed.{AllAllowed}
 use Rattle.orc_heap.specs.Journals.{run_heap}
-use Rattle.orc_heap.specs.Parts.{IsBelow}
+use Rattle.orc_heap.specs.OwnEvents.{IsBelow}
 use Rattle.orc_heap.specs.Seats.{IsUntouched}
 use Rattle.orc_heap.specs.Slots.{Hold, Holds, SlotNode, id_in}
 use Rattle.orc_heap.specs.declared.discipline.Discipline as discipline

@@ -22,7 +22,7 @@ pub struct PlainPass<D: Discipline>
 where
     Plain: Machine<D::Note>,
 {
-    pub(crate) pass: orc_table::PlainPass<D>,
+    pub(crate) pass: orc_table::PlainBoardPass<D>,
     pub(crate) slots: [Option<u32>; 8],
     pub(crate) next: u32,
     pub(crate) shape: Shape,

@@ -5,7 +5,7 @@ ghost use mathlib.Core.List.{IsPrefix};
 ghost use Rattle.orc_fault.specs.declared.Spent.{Spent};
 ghost use Rattle.orc_heap.specs.Allowed.{AllowedLater};
 ghost use Rattle.orc_heap.specs.Calls.{RefusesSwing, Swings, Tests, look_of, move_of};
-ghost use Rattle.orc_heap.specs.Parts.{Only};
+ghost use Rattle.orc_heap.specs.OwnEvents.{Only};
 ghost use Rattle.orc_history.specs.Parts.{InPart};
 ghost use Rattle.orc_heap.specs.Seats.{HoldsPlace, HoldsWant, IsNotFresh, Seat, link_in, place_in};
 ghost use Rattle.orc_domain.specs.Passes.{IsPassOf, domain_numbers, journal_of, seat_of};

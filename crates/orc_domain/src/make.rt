@@ -47,7 +47,7 @@ impl<D: Discipline> PlainDomain<D> {
 fn domain_passes<D: Discipline>(
     alloc: Global,
     shape: &Shape,
-    passes: Vec<orc_table::PlainPass<D>>,
+    passes: Vec<orc_table::PlainBoardPass<D>>,
 ) -> Result<Vec<PlainPass<D>>, NoMemory>
     ensures long { IfOk result (λ made. length made.items ≡ length passes.items) }
     ensures same { IfOk result (λ made. EachFrom (λ p. p.pass) made.items passes.items) }
@@ -63,7 +63,7 @@ fn domain_passes<D: Discipline>(
 }
 
 // a pass that holds nothing
-fn new_pass<D: Discipline>(shape: &Shape, pass: orc_table::PlainPass<D>) -> PlainPass<D>
+fn new_pass<D: Discipline>(shape: &Shape, pass: orc_table::PlainBoardPass<D>) -> PlainPass<D>
     ensures same { result.pass ≡ pass }
     ensures slots { result.slots ≡ replicate 8 None }
     ensures next { result.next < (bounds_of shape.now).rows }

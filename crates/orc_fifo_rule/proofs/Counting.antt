@@ -25,7 +25,7 @@ use Rattle.orc_fifo_rule.specs.Kept.Kinds.{each_kind, link_same, null_to, plain_
 use Rattle.orc_fifo_rule.specs.Kept.Laws.{fifo_keeps, late, opening_next}
 use Rattle.orc_fifo_rule.specs.Kept.Nodes.{job_position, linked_next, position_next}
 use Rattle.orc_fifo_rule.specs.Kept.Opening.{begun_root}
-use Rattle.orc_fifo_rule.specs.Kept.Parts.{names, put_has_job, unlinked_apart}
+use Rattle.orc_fifo_rule.specs.Kept.Leaves.{names, put_has_job, unlinked_apart}
 use Rattle.orc_fifo_rule.specs.Kept.Paths.{dummy_linked, head_steps, successor_linked, tail_linked, tail_steps}
 use Rattle.orc_fifo_rule.specs.Kept.Running.{begin_late, root_at}
 use Rattle.orc_fifo_rule.proofs.Later.{nothing_yet}

@@ -22,7 +22,7 @@ use Rattle.orc_fifo_rule.specs.Kept.Events.{begun_more}
 use Rattle.orc_fifo_rule.specs.Kept.Kinds.{each_kind, link_moved, link_same, null_to, plain_roots, root_moved, root_next, root_other, some_same}
 use Rattle.orc_fifo_rule.specs.Kept.Laws.{fifo_keeps}
 use Rattle.orc_fifo_rule.specs.Kept.Nodes.{PutsAt, link_next, node_next, null_next, shown_link}
-use Rattle.orc_fifo_rule.specs.Kept.Parts.{put_node_after, put_tail}
+use Rattle.orc_fifo_rule.specs.Kept.Leaves.{put_node_after, put_tail}
 use Rattle.orc_fifo_rule.specs.Kept.Running.{begin_late, root_at}
 
 -- the tail names the last node, or the one before it

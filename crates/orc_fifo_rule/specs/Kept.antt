@@ -4,6 +4,6 @@ pub mod Nodes
 pub mod Events
 pub mod Opening
 pub mod Paths
-pub mod Parts
+pub mod Leaves
 pub mod Running
 pub mod Laws

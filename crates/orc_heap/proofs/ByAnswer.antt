@@ -1,10 +1,12 @@
 -- What a call told, by its answer.
 use Rattle.std.proofs.Common.{Bool, [], ap, false, refl, subst, true, ℕ, ◌∷◌, ◌≡◌}
+use Rattle.std.specs.Prelude.{◌≢◌}
+use Rattle.orc_heap.specs.declared.events.Link.{Link}
 use Rattle.std.proofs.lemmas.Bool.{eq-eqb}
 use Rattle.std.specs.List.{slice_set}
 use Rattle.std.specs.Prelude.{MatchBool, None, Option, Some, if◌then◌else◌}
 use Rattle.orc_heap.specs.Calls.{Looks, Misses, Swings, Tells, Tests, event_of, look_of, move_of, unless_node}
-use Rattle.orc_heap.specs.Parts.{Puts}
+use Rattle.orc_heap.specs.OwnEvents.{Puts}
 use Rattle.orc_heap.specs.Seats.{Seat, link_in, place_in}
 use Rattle.orc_heap.specs.Slots.{Hold}
 use Rattle.orc_heap.specs.declared.events.Act.TheVariants.{Look}
@@ -30,13 +32,15 @@ pub record LookedHeld {N : Type 0} (place : Place) (slot : ℕ) (mark : Bool) (h
   pub id : ℕ
   pub at : h.slot ≡ slot
   pub slots : t.slots ≡ slice_set s.slots slot (Some (record { row = h.row; id = id }))
-  pub puts : Puts s (event_of s (Look place (record { to = Some id; mark = mark })) None ∷ event_of s (Look place (record { to = Some id; mark = mark })) None ∷ []) t
+  pub one : Link
+  pub first : one.to ≢ None
+  pub puts : Puts s (event_of s (Look place one) None ∷ event_of s (Look place (record { to = Some id; mark = mark })) None ∷ []) t
 
 pub Looks-held : {N : Type 0} {place : Place} {slot : ℕ} {s t : Seat N} {seen : Seen} {held : Option Hold} {h : Hold}
     → Looks place slot s (Stable seen held) t → held ≡ Some h → LookedHeld place slot seen.mark h s t
 Looks-held {place = place} {slot = slot} {s = s} {t = t} {seen = seen} {h = h} r is =
     let tells : Tells place slot s (Stable seen (Some h)) t = subst (λ (x : Option Hold). Tells place slot s (Stable seen x) t) is r.tells in
-    record { id = tells.0; at = tells.2; slots = tells.3; puts = tells.4 }
+    record { id = tells.0; one = tells.1; first = tells.2; at = tells.4; slots = tells.5; puts = tells.6 }
 
 -- a swing that moved the link, and one that missed
 pub Swings-moved : {N : Type 0} {at : At} {from to : Want} {noted : Option N} {s t : Seat N} {done : Bool} → Swings at from to noted s done t → done ≡ true

@@ -6,7 +6,7 @@ pub mod Known
 pub mod Linked
 pub mod Moved
 pub mod OwnParts
-pub mod Parts
+pub mod Calls
 pub mod Roots
 pub mod Runs
 pub mod Slots

@@ -6,7 +6,7 @@ use Rattle.orc_fault.specs.declared.Spent.{Spent}
 use Rattle.orc_heap.specs.Allowed.{events_by}
 use Rattle.orc_heap.specs.Heap.{Heap, HeapNumbers, Node, null}
 use Rattle.orc_heap.specs.Journals.{points_to, run_heap}
-use Rattle.orc_heap.specs.Parts.{Puts}
+use Rattle.orc_heap.specs.OwnEvents.{Puts}
 use Rattle.orc_history.specs.Journals.{own_of}
 use Rattle.orc_heap.specs.Seats.{Seat, link_in, place_in}
 use Rattle.orc_heap.specs.Slots.{Hold, Slots, id_in}
@@ -54,8 +54,8 @@ abbrev pub Tells : {N : Type 0} → Place → ℕ → Seat N → Looked → Seat
 Tells place slot s (Stable seen None) t =
     (seen.null ≡ true) × (t.slots ≡ s.slots) × Puts s (event_of s (Look place (record { to = None; mark = seen.mark })) None ∷ []) t
 Tells place slot s (Stable seen (Some h)) t =
-    (id : ℕ) × (seen.null ≡ false) × (h.slot ≡ slot) × (t.slots ≡ slice_set s.slots slot (Some (record { row = h.row; id = id })))
-    × Puts s (event_of s (Look place (record { to = Some id; mark = seen.mark })) None ∷ event_of s (Look place (record { to = Some id; mark = seen.mark })) None ∷ []) t
+    (id : ℕ) × (one : Link) × (one.to ≢ None) × (seen.null ≡ false) × (h.slot ≡ slot) × (t.slots ≡ slice_set s.slots slot (Some (record { row = h.row; id = id })))
+    × Puts s (event_of s (Look place one) None ∷ event_of s (Look place (record { to = Some id; mark = seen.mark })) None ∷ []) t
 Tells place slot s Moved t =
     (one : Link) × (two : Link) × (one ≢ two) × (t.slots ≡ s.slots)
     × Puts s (event_of s (Look place one) None ∷ event_of s (Look place two) None ∷ []) t × (one.to ≢ None)

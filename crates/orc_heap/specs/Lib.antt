@@ -4,6 +4,6 @@ pub mod Journals
 pub mod Allowed
 pub mod Slots
 pub mod Seats
-pub mod Parts
+pub mod OwnEvents
 pub mod Calls
 pub mod Moves

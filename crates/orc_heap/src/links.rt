@@ -11,7 +11,7 @@ ghost use Rattle.orc_heap.specs.Moves.{gives_in};
 ghost use Rattle.orc_heap.specs.Allowed.{AllAllowed, AllowedLater, AllowedWhereFits};
 ghost use Rattle.orc_heap.specs.Slots.{Hold, Holds, IsFree, id_in};
 ghost use Rattle.orc_heap.specs.Seats.{HoldsFresh, HoldsPlace, HoldsTarget, HoldsWant, IsIdle, IsNotFresh, IsUntouched, Seat, link_in, place_in, target_in};
-ghost use Rattle.orc_heap.specs.Parts.{IsBelow, Only};
+ghost use Rattle.orc_heap.specs.OwnEvents.{IsBelow, Only};
 ghost use Rattle.orc_history.specs.Parts.{InPart, IsAlone};
 ghost use Rattle.orc_heap.specs.Calls.{Gives, IsWorn, Learns, Looks, ReadsValue, RefusesAim, RefusesSwing, Releases, Swings, Tests, event_of, look_of, move_of};
 ghost use Rattle.orc_heap.specs.declared.events.Act.TheVariants.{Aim, Fill};

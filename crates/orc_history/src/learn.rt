@@ -1,6 +1,6 @@
 //! Containers whose passes can learn from each other what they have seen.
 ghost use Rattle.std.specs.Prelude.{◌≡◌, ◌≢◌, ℕ, ◌<◌};
-ghost use Rattle.orc_history.specs.Journals.{Every, Learns};
+ghost use Rattle.orc_history.specs.Journals.{Every, LearnsEntries};
 ghost use Rattle.orc_history.specs.QueueHistory.{agent_of_entry};
 ghost use Rattle.orc_history.specs.SetHistory.{agent_of_set_entry};
 
@@ -20,7 +20,7 @@ pub trait LearnQueue: SharedQueue {
         ensures usable { Self.usable self.now into.new × Self.usable self.now from.new }
         ensures agents { (Self.agent_of self.now into.new ≡ Self.agent_of self.now into.old)
             × (Self.agent_of self.now from.new ≡ Self.agent_of self.now from.old) }
-        ensures learned { Learns (Self.history self.now) agent_of_entry (Self.agent_of self.now into.old) (Self.agent_of self.now from.old)
+        ensures learned { LearnsEntries (Self.history self.now) agent_of_entry (Self.agent_of self.now into.old) (Self.agent_of self.now from.old)
             (Self.journal into.old) (Self.journal from.old) (Self.journal into.new) (Self.journal from.new) };
 
     // each entry that a pass has seen is of one of the queue's agents, and so is the pass
@@ -41,7 +41,7 @@ pub trait LearnSet: SharedSet {
         ensures usable { Self.usable self.now into.new × Self.usable self.now from.new }
         ensures agents { (Self.agent_of self.now into.new ≡ Self.agent_of self.now into.old)
             × (Self.agent_of self.now from.new ≡ Self.agent_of self.now from.old) }
-        ensures learned { Learns (Self.history self.now) agent_of_set_entry (Self.agent_of self.now into.old) (Self.agent_of self.now from.old)
+        ensures learned { LearnsEntries (Self.history self.now) agent_of_set_entry (Self.agent_of self.now into.old) (Self.agent_of self.now from.old)
             (Self.journal into.old) (Self.journal from.old) (Self.journal into.new) (Self.journal from.new) };
 
     // each entry that a pass has seen is of one of the set's agents, and so is the pass

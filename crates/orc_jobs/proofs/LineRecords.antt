@@ -7,7 +7,7 @@ use Rattle.csv.specs.declared.reader.Reader.{Reader}
 use Rattle.csv.specs.declared.parser.State.TheVariants as st
 use Rattle.csv.proofs.ReadFacts.{rows-end, rows-more}
 use Rattle.orc_jobs.proofs.CsvRecords.{all-records, first-records}
-use Rattle.orc_jobs.specs.Refused.{RefusesRecord}
+use Rattle.orc_jobs.specs.OneRecord.{RefusesRecord}
 use Rattle.orc_jobs.specs.declared.cause.JobsFault.{JobsFault}
 use Rattle.orc_jobs.specs.declared.cause.JobsFault.TheVariants as fault
 use Rattle.orc_jobs.specs.JobGrammar.{BeginsWith, Refuses, record_of, records_of}

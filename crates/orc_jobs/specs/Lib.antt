@@ -3,4 +3,4 @@ pub mod Numbers
 pub mod JobGrammar
 pub mod JobValue
 pub mod GoodLines
-pub mod Refused
+pub mod OneRecord

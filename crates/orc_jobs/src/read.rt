@@ -1,12 +1,12 @@
 ghost use Rattle.std.specs.Prelude.{◌≡◌, ◌≤◌, ◌⊎◌, List, ℕ, IfErr, IfOk, MatchResult, OnOk, length};
 ghost use Rattle.orc_jobs.specs.GoodLines.{AreGood};
 ghost use Rattle.orc_jobs.specs.JobGrammar.{IsFileOf, Refuses};
-ghost use Rattle.orc_jobs.specs.Refused.{RefusesRecord, TakesRecord};
+ghost use Rattle.orc_jobs.specs.OneRecord.{RefusesRecord, TakesRecord};
 ghost use Rattle.csv.specs.Records.{fields_of};
 ghost use Rattle.orc_jobs.specs.declared.cause.Cause.{Cause};
 ghost use Rattle.orc_jobs.specs.declared.line.Line.{Line};
 
-use crate::record::{Refused, line_of};
+use crate::record::{RecordRefused, line_of};
 use crate::{JobsFault, Lines};
 use csv::{ByteRecord, ReaderBuilder};
 use orc_fault::NoMemory;
@@ -70,10 +70,10 @@ fn take_record(alloc: Global, row: &ByteRecord, lines: &mut Lines) -> Result<(),
             Ok(()) => Ok(()),
             Err(NoMemory) => Err(JobsFault::NoMemory),
         },
-        Err(Refused::Cause(cause)) => {
+        Err(RecordRefused::Cause(cause)) => {
             let line = place as u32;
             Err(JobsFault::Malformed { line, cause })
         }
-        Err(Refused::NoMemory) => Err(JobsFault::NoMemory),
+        Err(RecordRefused::NoMemory) => Err(JobsFault::NoMemory),
     }
 }

@@ -1,7 +1,7 @@
 ghost use Rattle.std.specs.Prelude.{◌≡◌, ◌≢◌, ◌↔◌, All, IfErr, IfNone, IfOk, IfSome, IsTrue, IsUtf8, true, false};
 ghost use Rattle.csv.specs.Records.{fields_of};
 ghost use Rattle.orc_jobs.specs.JobGrammar.{IsLine, IsOpWord, field, record_of, word_of};
-ghost use Rattle.orc_jobs.specs.Refused.{Explains};
+ghost use Rattle.orc_jobs.specs.OneRecord.{Explains};
 
 use crate::number::{is_number_list, number_of};
 use crate::{Cause, Job, Line, Text};
@@ -12,13 +12,13 @@ use std::str;
 
 /// Why a record gives no line.
 #[derive(Clone, Copy, Debug, PartialEq, Eq, Drop)]
-pub enum Refused {
+pub enum RecordRefused {
     Cause(Cause),
     NoMemory,
 }
 
 /// The line that a record stands for, or the first cause that applies to it.
-pub fn line_of(alloc: Global, row: &ByteRecord) -> Result<Line, Refused>
+pub fn line_of(alloc: Global, row: &ByteRecord) -> Result<Line, RecordRefused>
     ensures ok { IfOk result (λ line. (fields_of row.now ≡ record_of line) × IsLine line) }
     ensures err { IfErr result (Explains (fields_of row.now)) }
 {
@@ -26,30 +26,30 @@ pub fn line_of(alloc: Global, row: &ByteRecord) -> Result<Line, Refused>
     let is_drop = is_word(verb, b"drop");
     let wanted = if is_drop { 2 } else { 4 };
     if row.len() != wanted {
-        return Err(Refused::Cause(Cause::Fields));
+        return Err(RecordRefused::Cause(Cause::Fields));
     }
     if !is_text(row) {
-        return Err(Refused::Cause(Cause::Utf8));
+        return Err(RecordRefused::Cause(Cause::Utf8));
     }
     if !is_drop && !is_word(verb, b"post") {
-        return Err(Refused::Cause(Cause::Verb));
+        return Err(RecordRefused::Cause(Cause::Verb));
     }
     let Some(id) = number_of(field_of(row, 1)) else {
-        return Err(Refused::Cause(Cause::Id));
+        return Err(RecordRefused::Cause(Cause::Id));
     };
     if is_drop {
         return Ok(Line::Drop { id });
     }
     let Some(op) = op_of(field_of(row, 2)) else {
-        return Err(Refused::Cause(Cause::Op));
+        return Err(RecordRefused::Cause(Cause::Op));
     };
     let text = field_of(row, 3);
     if op == Job::Sum && !is_number_list(text) {
-        return Err(Refused::Cause(Cause::Sum));
+        return Err(RecordRefused::Cause(Cause::Sum));
     }
     match Text::from_slice(alloc, text) {
         Ok(text) => Ok(Line::Post { id, op, text }),
-        Err(NoMemory) => Err(Refused::NoMemory),
+        Err(NoMemory) => Err(RecordRefused::NoMemory),
     }
 }
 

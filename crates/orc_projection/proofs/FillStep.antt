@@ -3,7 +3,7 @@ use Rattle.std.proofs.Common.{Bool, arith, cond, false, inl, inr, refl, suc, tru
 use Rattle.std.proofs.lemmas.Bool.{eq-eqb, false≢true, ltb-true, ne_eqb}
 use Rattle.std.specs.Prelude.{nat_lt, ◌&&◌, ◌==◌}
 use Rattle.orc_core.proofs.Within.{and_both}
-use Rattle.orc_core.specs.Parts.{holds, names, slot_of}
+use Rattle.orc_core.specs.RecordParts.{holds, names, slot_of}
 use Rattle.orc_core.specs.declared.ops.Op.TheVariants.{Fill as FillStep}
 use Rattle.orc_core.specs.declared.records.Agent.{Agent}
 use Rattle.orc_heap.proofs.Changes.{length-change}

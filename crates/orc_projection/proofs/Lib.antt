@@ -10,3 +10,5 @@ pub mod Steps
 pub mod StoreStep
 pub mod Runs
 pub mod Mirrored
+pub mod Worn
+pub mod OneRow

@@ -3,7 +3,7 @@ use Rattle.std.proofs.Common.{Bool, ap, cond, false, inl, inr, length, refl, sym
 use Rattle.std.proofs.lemmas.Bool.{eq-eqb, eqb-false, eqb-true, ne_eqb}
 use Rattle.std.specs.Option.{option_map}
 use Rattle.std.specs.Prelude.{Option, Some, slice_get, ◌==◌}
-use Rattle.orc_core.specs.Parts.{holds, names, slot_of}
+use Rattle.orc_core.specs.RecordParts.{holds, names, slot_of}
 use Rattle.orc_core.specs.declared.ops.Op.{Op}
 use Rattle.orc_heap.proofs.Changes.{get-change_other, get-change_same, length-change}
 use Rattle.orc_heap.specs.Acts.{change_node, change_target, set_link, with_link}

@@ -3,7 +3,7 @@ use Rattle.std.proofs.Common.{Bool, ap, arith, false, refl, true, ℕ, ◌%◌, 
 use Rattle.std.proofs.lemmas.Bool.{eq-eqb, eqb-true, false≢true, ne_eqb}
 use Rattle.std.specs.Option.{option_map}
 use Rattle.std.specs.Prelude.{None, Option, Some, ◌==◌}
-use Rattle.orc_core.specs.Parts.{names}
+use Rattle.orc_core.specs.RecordParts.{names}
 use Rattle.orc_heap.specs.declared.events.Link.{Link}
 use Rattle.orc_projection.specs.PresentIds.{PresentIds, node_link, with_taken}
 use Rattle.orc_sound.proofs.Facts.{to_row}

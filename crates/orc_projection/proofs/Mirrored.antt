@@ -9,7 +9,7 @@ use Rattle.orc_projection.proofs.Runs.{first_shows, project_shows}
 use Rattle.orc_projection.proofs.Shows.{Shows}
 use Rattle.orc_projection.specs.Mirror.{Mirrors, numbers_of}
 use Rattle.orc_projection.specs.PresentIds.{PresentIds, no_ids, node_link}
-use Rattle.orc_projection.specs.Projection.{IsPlain, act_of, events_of, ids_after, ids_from, present_ids, project, project_from}
+use Rattle.orc_projection.specs.Projection.{StoresUnmarked, act_of, events_of, ids_after, ids_from, present_ids, project, project_from}
 use Rattle.orc_sound.proofs.AllFits.{all_first}
 use Rattle.orc_sound.proofs.Full.{full_first}
 use Rattle.orc_sound.proofs.Seats.{both_ways}
@@ -44,14 +44,14 @@ mirrored m p h s = record {
       sym (word_shown m (Second r) o.0) ∙ k.so.second v (ap (λ (x : Node). x.second) (same_node _ k.there g) ∙ e);
 }
 
-run_bounds : {N : Type 0} (m : Machine) (steps : List (Step N)) → (run m (plain steps)).bounds ≡ m.bounds
+pub run_bounds : {N : Type 0} (m : Machine) (steps : List (Step N)) → (run m (plain steps)).bounds ≡ m.bounds
 run_bounds m [] = refl
 run_bounds m (x ∷ xs) = run_bounds (step m x.agent x.op) xs
 
-pub projection_lawful : {N : Type 0} (b : Bounds) (steps : List (Step N)) → IsShape b → IsLawfulJournal (new_machine b) steps → IsPlain steps → IsLawful (numbers_of b) (project b steps)
+pub projection_lawful : {N : Type 0} (b : Bounds) (steps : List (Step N)) → IsShape b → IsLawfulJournal (new_machine b) steps → StoresUnmarked steps → IsLawful (numbers_of b) (project b steps)
 projection_lawful b steps shape l n = (project_shows (new_machine b) no_ids (new_heap (numbers_of b)) steps (full_first b shape) (all_first b) l n (first_shows b)).0
 
-pub projection_mirrors : {N : Type 0} (b : Bounds) (steps : List (Step N)) → IsShape b → IsLawfulJournal (new_machine b) steps → IsPlain steps
+pub projection_mirrors : {N : Type 0} (b : Bounds) (steps : List (Step N)) → IsShape b → IsLawfulJournal (new_machine b) steps → StoresUnmarked steps
     → Mirrors (run (new_machine b) (plain steps)) (present_ids b steps) (run_heap (numbers_of b) (project b steps))
 projection_mirrors b steps shape l n =
     let m = run (new_machine b) (plain steps) in

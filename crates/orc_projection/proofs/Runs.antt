@@ -5,7 +5,7 @@ use Rattle.std.specs.Prelude.{None, Option, Some, replicate, slice_get}
 use Rattle.orc_core.proofs.Within.{may_within}
 use Rattle.orc_core.specs.Actions.{action_of}
 use Rattle.orc_core.specs.Machine.{Machine, is_allowed, new_machine, record_at, step, word_read}
-use Rattle.orc_core.specs.Parts.{names}
+use Rattle.orc_core.specs.RecordParts.{names}
 use Rattle.orc_core.specs.Runs.{run}
 use Rattle.orc_core.specs.declared.ops.Op.{Op}
 use Rattle.orc_core.specs.declared.ops.Op.TheVariants.{Fill as FillStep, GateTake, LinkCas, LinkLoad, LinkStore}
@@ -21,7 +21,7 @@ use Rattle.orc_projection.proofs.StillStep.{still_shows}
 use Rattle.orc_projection.proofs.StoreStep.{store_step}
 use Rattle.orc_projection.specs.Mirror.{numbers_of}
 use Rattle.orc_projection.specs.PresentIds.{PresentIds, no_ids}
-use Rattle.orc_projection.specs.Projection.{IsPlain, IsPlainOp, act_of, events_of, ids_after, ids_from, is_taken, project_from}
+use Rattle.orc_projection.specs.Projection.{StoresUnmarked, IsPlainOp, act_of, events_of, ids_after, ids_from, is_taken, project_from}
 use Rattle.orc_sound.proofs.AllFits.{AllFits, all_step, allowed_step}
 use Rattle.orc_sound.proofs.Begins.{seats_first, zero_first}
 use Rattle.orc_sound.proofs.Bridge.{world_step}
@@ -67,7 +67,7 @@ machine_step m p h a op want w s l u n k =
     subst (λ v. Keeps m.bounds (world_of (step m a op)) p h a op want (record_at m a) v) read
     (subst (λ y. Keeps m.bounds y p h a op want (record_at m a) (read_by (world_of m) a op)) (sym (world_step m a op w.words w.agents l)) made)
 
-pub project_shows : {N : Type 0} (m : Machine) (p : PresentIds) (h : Heap) (steps : List (Step N)) → Full m → AllFits m.bounds (world_of m) → IsLawfulJournal m steps → IsPlain steps → Shows m.bounds (world_of m) p h
+pub project_shows : {N : Type 0} (m : Machine) (p : PresentIds) (h : Heap) (steps : List (Step N)) → Full m → AllFits m.bounds (world_of m) → IsLawfulJournal m steps → StoresUnmarked steps → Shows m.bounds (world_of m) p h
     → IsLawfulFrom h (project_from m p steps) × Shows m.bounds (world_of (run m (plain steps))) (ids_from m p steps) (run_from h (project_from m p steps))
 project_shows m p h [] w s l n k = (tt, k)
 project_shows m p h (x ∷ xs) w s l n k =

@@ -3,7 +3,7 @@ use Rattle.std.proofs.Common.{Bool, arith, false, length, refl, true, ℕ, ⊎_e
 use Rattle.std.proofs.lemmas.Bool.{eqb-true, eqb-false, false≢true}
 use Rattle.std.specs.Option.{option_map}
 use Rattle.std.specs.Prelude.{None, Option, Some, slice_get, ◌==◌}
-use Rattle.orc_core.specs.Parts.{any_holds, holds, is_empty, names, slot_of}
+use Rattle.orc_core.specs.RecordParts.{any_holds, holds, is_empty, names, slot_of}
 use Rattle.orc_core.specs.declared.records.SlotUse.{SlotUse}
 use Rattle.orc_core.specs.declared.records.SlotUse.TheVariants.{Empty, Held, Published}
 use Rattle.orc_heap.specs.Acts.{Fits, IsTarget, heap_after}

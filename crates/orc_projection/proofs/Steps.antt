@@ -5,7 +5,7 @@ use Rattle.std.specs.Option.{option_map}
 use Rattle.std.specs.Prelude.{None, Option, Some, if◌then◌else◌, nat_lt, not, ◌&&◌, ◌==◌, ◌||◌}
 use Rattle.orc_core.proofs.Within.{and_both}
 use Rattle.orc_core.specs.Allowed.{may_change, may_place, may_target}
-use Rattle.orc_core.specs.Parts.{any_holds, holds, is_empty, names, slot_of}
+use Rattle.orc_core.specs.RecordParts.{any_holds, holds, is_empty, names, slot_of}
 use Rattle.orc_core.specs.declared.ops.Op.TheVariants.{GateTake, LinkCas, LinkLoad}
 use Rattle.orc_core.specs.declared.records.Agent.{Agent}
 use Rattle.orc_heap.specs.Acts.{Fits, as_linked, as_named, heap_after}

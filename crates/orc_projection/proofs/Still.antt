@@ -6,7 +6,7 @@ use Rattle.orc_core.proofs.Within.{and_both}
 use Rattle.orc_core.specs.Actions.{action_of, word_after}
 use Rattle.orc_core.specs.After.{after, bared, cut_of}
 use Rattle.orc_core.specs.Allowed.{fits}
-use Rattle.orc_core.specs.Parts.{doom_bare, holds, names, slot_of}
+use Rattle.orc_core.specs.RecordParts.{doom_bare, holds, names, slot_of}
 use Rattle.orc_core.specs.declared.ops.CounterUse.TheVariants.{Check, End, Start}
 use Rattle.orc_core.specs.declared.ops.Op.{Op}
 use Rattle.orc_core.specs.declared.ops.Op.TheVariants.{Arm, CounterLoad, Fill, Free, GateLook, GateTake, LinkCas, LinkLoad, LinkStore, Publish, Read, Unretire}

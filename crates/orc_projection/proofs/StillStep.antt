@@ -1,6 +1,6 @@
 -- A step that leaves links, values and the rows that are out as they are shows the same heap.
 use Rattle.std.proofs.Common.{inl, inr, refl, true, ℕ, ⊎_elim, ◌≡◌}
-use Rattle.orc_core.specs.Parts.{holds, slot_of}
+use Rattle.orc_core.specs.RecordParts.{holds, slot_of}
 use Rattle.orc_core.specs.declared.ops.Op.{Op}
 use Rattle.orc_core.specs.declared.ops.Op.TheVariants.{LinkLoad, Publish}
 use Rattle.orc_heap.specs.Heap.{Heap, Node}

@@ -6,7 +6,7 @@ use Rattle.std.specs.Prelude.{None, Option, Some, if◌then◌else◌, is_none, 
 use Rattle.orc_core.proofs.Within.{and_both}
 use Rattle.orc_core.specs.After.{cut_of}
 use Rattle.orc_core.specs.Allowed.{fits, may_change, may_target}
-use Rattle.orc_core.specs.Parts.{any_holds, doom_uncut, holds, is_empty, names, slot_of}
+use Rattle.orc_core.specs.RecordParts.{any_holds, doom_uncut, holds, is_empty, names, slot_of}
 use Rattle.orc_core.specs.declared.ops.Op.TheVariants.{LinkStore}
 use Rattle.orc_core.specs.declared.records.Agent.{Agent}
 use Rattle.orc_core.specs.declared.records.Doom.{Doom}
@@ -40,7 +40,7 @@ stored_null n e true t c u s k h g = absurd (false≢true (sym g))
 stored_null n e false t c u s k h g = let i = and_both (u && s) k (and_both (n && e) (u && s && k) h).1 in and_both u s i.0
 
 -- a link that is stored in a row that isn't fresh is null, and the row is doomed
-store_doomed : (b : Bounds) (e a q : ℕ) (l : RowLink) (d : Agent) → fits b e a (LinkStore q l) d ≡ true → names d.fresh q ≡ false → (doom_uncut d.doom q ≡ true) × (is_none l.to ≡ true)
+pub store_doomed : (b : Bounds) (e a q : ℕ) (l : RowLink) (d : Agent) → fits b e a (LinkStore q l) d ≡ true → names d.fresh q ≡ false → (doom_uncut d.doom q ≡ true) × (is_none l.to ≡ true)
 store_doomed b e a q l d f g = stored_null (nat_lt q b.rows) (is_empty (slot_of d 0)) (names d.fresh q) (may_target b d l.to) (may_change d (b.limit + 64) None l.to) (doom_uncut d.doom q) (is_none l.to) (not l.mark) f g
 
 no_target : (o : Option ℕ) (r : ℕ) → is_none o ≡ true → names o r ≡ true → ⊥

@@ -3,7 +3,7 @@ use Rattle.std.proofs.Common.{Bool, [], ap, arith, false, inl, inr, length-appen
 use Rattle.std.proofs.lemmas.Bool.{eq-eqb, eqb-false, eqb-true}
 use Rattle.std.specs.Prelude.{Some, if◌then◌else◌, ◌==◌}
 use Rattle.orc_core.proofs.Within.{and_both}
-use Rattle.orc_core.specs.Parts.{holds, names, slot_of}
+use Rattle.orc_core.specs.RecordParts.{holds, names, slot_of}
 use Rattle.orc_core.specs.declared.ops.Op.TheVariants.{GateTake}
 use Rattle.orc_heap.proofs.Changes.{get-added}
 use Rattle.orc_heap.specs.Acts.{heap_after}

@@ -1,3 +1,4 @@
 pub mod PresentIds
 pub mod Projection
 pub mod Mirror
+pub mod Taken

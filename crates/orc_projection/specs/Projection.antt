@@ -3,7 +3,7 @@
 use Rattle.std.specs.Option.{option_map}
 use Rattle.std.specs.Prelude.{Bool, List, None, Option, Some, [], false, if◌then◌else◌, ℕ, ◌*◌, ◌++◌, ◌==◌, ◌∷◌, ◌≡◌}
 use Rattle.orc_core.specs.Machine.{Machine, new_machine, record_at, step, word_read}
-use Rattle.orc_core.specs.Parts.{names, number_of}
+use Rattle.orc_core.specs.RecordParts.{names, number_of}
 use Rattle.orc_core.specs.declared.ops.Op.{Op}
 use Rattle.orc_core.specs.declared.ops.Op.TheVariants.{Fill as FillStep, GateTake, LinkCas, LinkLoad, LinkStore}
 use Rattle.orc_core.specs.declared.records.Agent.{Agent}
@@ -81,6 +81,6 @@ IsPlainOp (LinkStore r link) = link.mark ≡ false
 IsPlainOp op = Unit {0}
 
 -- no step stores a marked link
-abbrev pub IsPlain : {N : Type 0} → List (Step N) → Type 0
-IsPlain [] = Unit {0}
-IsPlain (s ∷ ss) = IsPlainOp s.op × IsPlain ss
+abbrev pub StoresUnmarked : {N : Type 0} → List (Step N) → Type 0
+StoresUnmarked [] = Unit {0}
+StoresUnmarked (s ∷ ss) = IsPlainOp s.op × StoresUnmarked ss

@@ -3,7 +3,7 @@ use Rattle.std.proofs.Common.{List, Some, None, [], ap, append_assoc, arith, fal
 use Rattle.std.proofs.lemmas.List.Elements.{filter-append}
 use Rattle.std.specs.Prelude.{◌==◌}
 use Rattle.orc_heap.proofs.OwnParts.{begins_own, moves_after_own, own_from, own_is_all}
-use Rattle.orc_heap.proofs.Parts.{filter-at}
+use Rattle.orc_heap.proofs.Calls.{filter-at}
 use Rattle.orc_heap.proofs.Runs.{lawful-right, run_from-append, run_heap-snoc}
 use Rattle.orc_heap.proofs.Moved.{shown_or_moved_there}
 use Rattle.orc_heap.specs.Acts.{Fits}
@@ -13,11 +13,12 @@ use Rattle.orc_heap.specs.Calls.{event_of}
 use Rattle.orc_heap.specs.Heap.{Heap, HeapNumbers, new_heap, null, shown}
 use Rattle.orc_heap.specs.Journals.{IsLawfulFrom, run_from, run_heap}
 use Rattle.orc_heap.specs.Moves.{AllOwn, from_own, moves_in}
-use Rattle.orc_heap.specs.Parts.{Puts}
+use Rattle.orc_heap.specs.OwnEvents.{Puts}
 use Rattle.orc_heap.specs.Seats.{Seat}
 use Rattle.orc_heap.specs.declared.events.Act.TheVariants.{Look, Miss, Move}
 use Rattle.orc_heap.specs.declared.events.Act.{Act}
 use Rattle.orc_heap.specs.declared.events.Event.{Event}
+use Rattle.orc_heap.specs.declared.events.Link.{Link}
 use Rattle.orc_heap.specs.declared.events.Place.TheVariants.{Next, Root}
 use Rattle.orc_fifo_rule.proofs.Later.{holds_later}
 use Rattle.orc_fifo_rule.specs.declared.fifo.FifoNote.{FifoNote}
@@ -30,7 +31,7 @@ use Rattle.orc_fifo_rule.specs.Kept.Paths.{back_one, tail_steps}
 use Rattle.orc_queue.specs.Turns.{EndsHelping, IsOver, KeepsTail, Piece, TailIsLast, TailIsPast, heap_of}
 use Rattle.orc_queue.proofs.Filled.{Known}
 use Rattle.orc_queue.proofs.Joins.{Join, own_moves_left}
-use Rattle.orc_queue.proofs.Moments.{look_found}
+use Rattle.orc_queue.proofs.Moments.{look_found_after}
 use Rattle.orc_queue.proofs.Pieces.{new_allowed, new_is}
 
 -- from the first own event on, these are the own events
@@ -79,28 +80,28 @@ moves_then s a t e rest ys zs p q w own =
     moves_more (x ∷ xs) ys = omega (arith, moves_more xs ys)
 
 -- a turn from a look of a root on: the rest made no Move, or it helped
-module _ (n : HeapNumbers) (IsSettled : Heap → Type 0) (root id : ℕ) (s a t : Seat FifoNote) (k : Known n s.seen) (all_a : AllAllowed (FifoMay n) [] a.seen) (all_t : AllAllowed (FifoMay n) [] t.seen)
-    (p : Puts s (event_of s (Look (Root root) (link_to id)) None ∷ event_of s (Look (Root root) (link_to id)) None ∷ []) a) (own : List (Event FifoNote)) (q : Puts a own t)
-    (j : Join 6 s t (event_of s (Look (Root root) (link_to id)) None ∷ event_of s (Look (Root root) (link_to id)) None ∷ own) [] p.part q.part) (fresh : t.fresh ≡ s.fresh)
+module _ (n : HeapNumbers) (IsSettled : Heap → Type 0) (root id : ℕ) (one : Link) (s a t : Seat FifoNote) (k : Known n s.seen) (all_a : AllAllowed (FifoMay n) [] a.seen) (all_t : AllAllowed (FifoMay n) [] t.seen)
+    (p : Puts s (event_of s (Look (Root root) one) None ∷ event_of s (Look (Root root) (link_to id)) None ∷ []) a) (own : List (Event FifoNote)) (q : Puts a own t)
+    (j : Join 6 s t (event_of s (Look (Root root) one) None ∷ event_of s (Look (Root root) (link_to id)) None ∷ own) [] p.part q.part) (fresh : t.fresh ≡ s.fresh)
     (moved : shown (heap_of n a) (Root root) ≡ Some (link_to id) → 1 ≤ moves_in q.part)
   where
     moved_since : 1 ≤ moves_in (from_own s.agent j.piece.puts.part)
     moved_since =
-        let found = look_found n s a (Root root) (link_to id) None _ p all_a tt in
+        let found = look_found_after n s a (Root root) (link_to id) None (event_of s (Look (Root root) one) None ∷ []) [] p all_a tt in
         elim found.either [
           | inl still ↦ omega (arith, moved still, moves_then s a t _ _ _ _ p q j.piece.puts refl)
           | inr some ↦ omega (arith, some, own_moves_left s a t _ _ _ p q j.piece.puts)
         ]
 
-    all_own : events_by s.agent j.piece.puts.part ≡ event_of s (Look (Root root) (link_to id)) None ∷ event_of s (Look (Root root) (link_to id)) None ∷ own
+    all_own : events_by s.agent j.piece.puts.part ≡ event_of s (Look (Root root) one) None ∷ event_of s (Look (Root root) (link_to id)) None ∷ own
     all_own = j.piece.puts.own_is ∙ j.own_is
 
     pub over_missed : moves_in own ≡ 0 → IsOver n IsSettled s t
     over_missed none = over_quiet n IsSettled s t j.piece fresh (ap (λ (z : List (Event FifoNote)). moves_in z) j.own_is ∙ omega (arith, none)) moved_since
 
-    pub over_helped : ((es : List (Event FifoNote)) → FifoHolds n es → has_begun es ≡ true → AllAllowed (FifoMay n) es (event_of s (Look (Root root) (link_to id)) None ∷ event_of s (Look (Root root) (link_to id)) None ∷ own)
-        → IsSettled (run_heap n (es ++ event_of s (Look (Root root) (link_to id)) None ∷ event_of s (Look (Root root) (link_to id)) None ∷ own)))
-        → ((es : List (Event FifoNote)) → AllAllowed (FifoMay n) es (event_of s (Look (Root root) (link_to id)) None ∷ event_of s (Look (Root root) (link_to id)) None ∷ own) → IsSettled (run_heap n es) → ⊥)
+    pub over_helped : ((es : List (Event FifoNote)) → FifoHolds n es → has_begun es ≡ true → AllAllowed (FifoMay n) es (event_of s (Look (Root root) one) None ∷ event_of s (Look (Root root) (link_to id)) None ∷ own)
+        → IsSettled (run_heap n (es ++ event_of s (Look (Root root) one) None ∷ event_of s (Look (Root root) (link_to id)) None ∷ own)))
+        → ((es : List (Event FifoNote)) → AllAllowed (FifoMay n) es (event_of s (Look (Root root) one) None ∷ event_of s (Look (Root root) (link_to id)) None ∷ own) → IsSettled (run_heap n es) → ⊥)
         → IsOver n IsSettled s t
     over_helped settles unsettled =
         let part = j.piece.puts.part in
@@ -111,7 +112,7 @@ module _ (n : HeapNumbers) (IsSettled : Heap → Type 0) (root id : ℕ) (s a t 
           moved = moved_since;
           settles = λ alone. alone_holds n IsSettled s t _ (record { part = part; is = j.piece.puts.is; agent = j.piece.puts.agent; own_is = all_own }) k all_t settles alone;
           unsettled = λ alone settled.
-              let is : part ≡ event_of s (Look (Root root) (link_to id)) None ∷ event_of s (Look (Root root) (link_to id)) None ∷ own = sym (own_is_all s.agent part alone) ∙ all_own in
+              let is : part ≡ event_of s (Look (Root root) one) None ∷ event_of s (Look (Root root) (link_to id)) None ∷ own = sym (own_is_all s.agent part alone) ∙ all_own in
               unsettled s.seen (subst (λ z. AllAllowed (FifoMay n) s.seen z) is new) settled;
         }
 

@@ -3,11 +3,11 @@ use Rattle.std.proofs.Common.{List, Option, Some, None, Ok, Err, Result, [], ap,
 use Rattle.std.specs.List.{slice_get}
 use Rattle.orc_fault.specs.declared.Again.{Again as AgainFault}
 use Rattle.orc_heap.proofs.ByAnswer.{unless_same}
-use Rattle.orc_heap.proofs.Parts.{Puts-trans}
+use Rattle.orc_heap.proofs.Calls.{Puts-trans}
 use Rattle.orc_heap.specs.Calls.{Gives, Releases, event_of, unless_node}
 use Rattle.orc_heap.specs.Heap.{HeapNumbers}
 use Rattle.orc_heap.specs.Moves.{gives_in}
-use Rattle.orc_heap.specs.Parts.{Only, Puts}
+use Rattle.orc_heap.specs.OwnEvents.{Only, Puts}
 use Rattle.orc_heap.specs.Seats.{IsIdle, Seat}
 use Rattle.orc_heap.specs.Slots.{Hold, IsFree, Slots, id_in}
 use Rattle.orc_heap.specs.declared.events.Act.TheVariants.{Fill, Give}

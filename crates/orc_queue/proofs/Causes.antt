@@ -14,11 +14,11 @@ use Rattle.orc_heap.specs.Allowed.{AllAllowed, events_by}
 use Rattle.orc_heap.specs.Heap.{HeapNumbers}
 use Rattle.orc_heap.specs.Journals.{run_heap}
 use Rattle.orc_heap.specs.Moves.{AllOwn, from_own, gives_in, moves_in}
-use Rattle.orc_heap.specs.Parts.{IsBelow}
+use Rattle.orc_heap.specs.OwnEvents.{IsBelow}
 use Rattle.orc_history.specs.Parts.{InPart, IsAlone, part_begin}
 use Rattle.orc_heap.specs.Seats.{Seat}
 use Rattle.orc_heap.specs.declared.events.Event.{Event}
-use Rattle.orc_history.specs.Journals.{Adds, Every, Learns as HistoryLearns, Within, own_of}
+use Rattle.orc_history.specs.Journals.{Adds, Every, LearnsEntries, Within, own_of}
 use Rattle.orc_history.specs.QueueHistory.{agent_of_entry, entry_of_dequeue, puts_in}
 use Rattle.orc_history.specs.declared.queue.QueueEntry.{QueueEntry}
 use Rattle.orc_history.specs.declared.queue.QueueEntry.TheVariants.{Put}
@@ -242,7 +242,7 @@ within_stays Fact stays begin k m (more, is) (from, to, a, b, c, fact) =
 pub learns : {S : Type 0} (n : HeapNumbers) (events : List S → List (Event FifoNote)) (agent1 agent2 : ℕ) (s1 s2 t1 : Seat FifoNote) (j1 j2 k1 k2 : List S) → k1 ≡ k2 → (IsPrefix j1 j2 × (k1 ≡ j2)) ⊎ (IsPrefix j2 j1 × (k1 ≡ j1))
     → AllAllowed (FifoMay n) [] s1.seen → AllAllowed (FifoMay n) [] s2.seen → AllAllowed (FifoMay n) [] t1.seen → s1.seen ≡ events j1 → s2.seen ≡ events j2 → t1.seen ≡ events k1
     → events_by agent1 t1.seen ≡ events_by agent1 s1.seen → events_by agent2 t1.seen ≡ events_by agent2 s2.seen
-    → HistoryLearns (λ j. entries_of (events j)) agent_of_entry agent1 agent2 j1 j2 k1 k2
+    → LearnsEntries (λ j. entries_of (events j)) agent_of_entry agent1 agent2 j1 j2 k1 k2
 learns {S} n events agent1 agent2 s1 s2 t1 j1 j2 k1 k2 one longer all1 all2 all is1 is2 is own1 own2 = record {
   one = one;
   longer = longer;

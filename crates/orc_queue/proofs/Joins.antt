@@ -3,9 +3,9 @@ use Rattle.std.proofs.Common.{List, [], ap, append-nil, append_assoc, arith, len
 use mathlib.Core.List.{IsPrefix}
 use Rattle.orc_heap.proofs.Moved.{moves_in-append}
 use Rattle.orc_heap.proofs.OwnParts.{moves_from_own-append, own_from_left, own_from_right}
-use Rattle.orc_heap.proofs.Parts.{Puts-trans}
+use Rattle.orc_heap.proofs.Calls.{Puts-trans}
 use Rattle.orc_heap.specs.Moves.{AllOwn, from_own, gives_in, moves_in}
-use Rattle.orc_heap.specs.Parts.{Puts}
+use Rattle.orc_heap.specs.OwnEvents.{Puts}
 use Rattle.orc_heap.specs.Seats.{Seat}
 use Rattle.orc_heap.specs.declared.events.Event.{Event}
 use Rattle.orc_history.specs.declared.queue.QueueEntry.{QueueEntry}

@@ -5,12 +5,12 @@ use Rattle.std.proofs.lemmas.List.{length-append}
 use Rattle.std.specs.List.{list_any, slice_get}
 use Rattle.orc_heap.proofs.ByAnswer.{unless_same}
 use Rattle.orc_heap.proofs.Fresh.{touched_by}
-use Rattle.orc_heap.proofs.Parts.{Puts-trans}
+use Rattle.orc_heap.proofs.Calls.{Puts-trans}
 use Rattle.orc_heap.specs.Allowed.{AllAllowed, AllowedLater, IsLinkedNode}
 use Rattle.orc_heap.specs.Calls.{Misses, ReadsValue, event_of, given_node, unless_node}
 use Rattle.orc_heap.specs.Heap.{HeapNumbers, Node, null}
 use Rattle.orc_heap.specs.Journals.{run_heap}
-use Rattle.orc_heap.specs.Parts.{Only, Puts}
+use Rattle.orc_heap.specs.OwnEvents.{Only, Puts}
 use Rattle.orc_heap.specs.Moves.{gives_in}
 use Rattle.orc_heap.specs.Seats.{Seat}
 use Rattle.orc_heap.specs.Slots.{Hold, id_in}

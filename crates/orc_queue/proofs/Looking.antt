@@ -11,7 +11,7 @@ use Rattle.orc_heap.specs.Heap.{Heap, HeapNumbers, Node, new_heap, null}
 use Rattle.orc_heap.specs.Acts.{as_linked, as_named, change_target, heap_after}
 use Rattle.orc_heap.specs.Journals.{run_from, run_heap}
 use Rattle.orc_heap.specs.declared.events.Act.{Act}
-use Rattle.orc_heap.specs.Parts.{Puts}
+use Rattle.orc_heap.specs.OwnEvents.{Puts}
 use Rattle.orc_heap.specs.Seats.{Seat}
 use Rattle.orc_heap.specs.Slots.{Hold, Slots, id_in}
 use Rattle.orc_heap.specs.declared.events.Act.TheVariants.{Aim, Fill, Give, Look, Miss, Move}
@@ -47,18 +47,18 @@ pub record FindsNode (n : HeapNumbers) (root : ℕ) (link : Link) (t : Seat Fifo
   pub is : link ≡ link_to id
   pub named : WasNamed (heap_of n t) root id
 
-pub root_found : (n : HeapNumbers) (s t : Seat FifoNote) (root : ℕ) (link : Link) (rest : List (Event FifoNote)) → root < 2 → Known n s.seen
-    → Puts s (event_of s (Look (Root root) link) None ∷ rest) t → AllAllowed (FifoMay n) [] t.seen → FindsNode n root link t
-root_found n s t root link rest low k p all =
+pub root_found : (n : HeapNumbers) (s t : Seat FifoNote) (root : ℕ) (link : Link) (own rest : List (Event FifoNote)) → root < 2 → Known n s.seen
+    → Puts s (own ++ event_of s (Look (Root root) link) None ∷ rest) t → AllAllowed (FifoMay n) [] t.seen → FindsNode n root link t
+root_found n s t root link own rest low k p all =
     let e : Event FifoNote = event_of s (Look (Root root) link) None in
-    let m = moment n s t [] e rest p all in
+    let m = moment n s t own e rest p all in
     let holds = holds_later n s.seen m.before k.holds m.first in
     let (id, is, named) = look_names n (s.seen ++ m.before) root link holds (begun_more s.seen m.before k.dummy.begun) low m.here.fits in
     record {
       id = id;
       is = is;
-      named = subst (λ es. WasNamed (run_heap n es) root id) (sym (p.is ∙ seen_is n s [] e rest p.part m))
-          (named_later n (s.seen ++ m.before) (e ∷ m.later) root id named (since n s [] e rest p.part m));
+      named = subst (λ es. WasNamed (run_heap n es) root id) (sym (p.is ∙ seen_is n s own e rest p.part m))
+          (named_later n (s.seen ++ m.before) (e ∷ m.later) root id named (since n s own e rest p.part m));
     }
 
 -- a look at the link of a once linked node found null, or a link to a node, where it still leads
@@ -92,25 +92,27 @@ pub record HoldsRoot (n : HeapNumbers) (root slot : ℕ) (s : Seat FifoNote) (h 
   pub id : ℕ
   pub in_slot : InSlot s slot id h t
   pub named : WasNamed (heap_of n t) root id
-  pub puts : Puts s (event_of s (Look (Root root) (link_to id)) None ∷ event_of s (Look (Root root) (link_to id)) None ∷ []) t
+  pub one : Link
+  pub puts : Puts s (event_of s (Look (Root root) one) None ∷ event_of s (Look (Root root) (link_to id)) None ∷ []) t
 
 pub root_held : (n : HeapNumbers) (s t : Seat FifoNote) (root slot : ℕ) (mark : Bool) (h : Hold) → root < 2 → Known n s.seen → AllAllowed (FifoMay n) [] t.seen
     → LookedHeld (Root root) slot mark h s t → HoldsRoot n root slot s h t
 root_held n s t root slot mark h low k all l =
     let link : Link = record { to = Some l.id; mark = mark } in
-    let f = root_found n s t root link _ low k l.puts all in
+    let f = root_found n s t root link (event_of s (Look (Root root) l.one) None ∷ []) [] low k l.puts all in
     let id_is : l.id ≡ f.id = some_same (ap (λ (x : Link). x.to) f.is) in
     record {
       id = f.id;
       in_slot = record { at = l.at; slots = subst (λ (i : ℕ). t.slots ≡ slice_set s.slots slot (Some (record { row = h.row; id = i }))) id_is l.slots };
       named = f.named;
-      puts = subst (λ (x : Link). Puts s (event_of s (Look (Root root) x) None ∷ event_of s (Look (Root root) x) None ∷ []) t) f.is l.puts;
+      one = l.one;
+      puts = subst (λ (x : Link). Puts s (event_of s (Look (Root root) l.one) None ∷ event_of s (Look (Root root) x) None ∷ []) t) f.is l.puts;
     }
 
 -- no look of a root finds null
 pub root_not_null : (n : HeapNumbers) (s t : Seat FifoNote) (root : ℕ) (mark : Bool) → root < 2 → Known n s.seen → AllAllowed (FifoMay n) [] t.seen → LookedNull (Root root) mark s t → ⊥
 root_not_null n s t root mark low k all l =
-    let f = root_found n s t root (record { to = None; mark = mark }) [] low k l.puts all in
+    let f = root_found n s t root (record { to = None; mark = mark }) [] [] low k l.puts all in
     let bad : None ≡ Some f.id = ap (λ (x : Link). x.to) f.is in
     cc
 
@@ -121,22 +123,34 @@ pub record HoldsNext (n : HeapNumbers) (id slot : ℕ) (s : Seat FifoNote) (h : 
   pub link : HasLink (heap_of n t) id (link_to next)
   pub puts : Puts s (event_of s (Look (Next id) (link_to next)) None ∷ event_of s (Look (Next id) (link_to next)) None ∷ []) t
 
+-- the link of the first look is that of the second, since it doesn't change any more
+next_both : (n : HeapNumbers) (s t : Seat FifoNote) (id slot : ℕ) (mark : Bool) (h : Hold) (l : LookedHeld (Next id) slot mark h s t)
+    → (next : ℕ) × (record { to = Some l.id; mark = mark } ≡ link_to next) × HasLink (heap_of n t) id (link_to next)
+    → (l.one ≡ null) ⊎ ((next : ℕ) × (l.one ≡ link_to next) × HasLink (heap_of n t) id (link_to next)) → HoldsNext n id slot s h t
+next_both n s t id slot mark h l some (inl none) = absurd (l.first (ap (λ (x : Link). x.to) none))
+next_both n s t id slot mark h l some (inr first) =
+    let (next, is, has) = some in
+    let (next1, is1, has1) = first in
+    let node_is : has1.node ≡ has.node = some_same (sym has1.there ∙ has.there) in
+    let same : link_to next1 ≡ link_to next = sym has1.link_is ∙ (ap (λ (x : Node). x.link) node_is ∙ has.link_is) in
+    let one_is : l.one ≡ link_to next = is1 ∙ same in
+    let id_is : l.id ≡ next = some_same (ap (λ (x : Link). x.to) is) in
+    record {
+      next = next;
+      in_slot = record { at = l.at; slots = subst (λ (i : ℕ). t.slots ≡ slice_set s.slots slot (Some (record { row = h.row; id = i }))) id_is l.slots };
+      link = has;
+      puts = subst (λ (z : Link × Link). Puts s (event_of s (Look (Next id) z.0) None ∷ event_of s (Look (Next id) z.1) None ∷ []) t) (λ i. (one_is i, is i)) l.puts;
+    }
+
 pub next_held : (n : HeapNumbers) (s t : Seat FifoNote) (id slot : ℕ) (mark : Bool) (h : Hold) → Known n s.seen → IsLinkedNode (heap_of n s) id → AllAllowed (FifoMay n) [] t.seen
     → LookedHeld (Next id) slot mark h s t → HoldsNext n id slot s h t
 next_held n s t id slot mark h k linked all l =
     let link : Link = record { to = Some l.id; mark = mark } in
-    let f = next_found n s t id link [] _ k linked l.puts all in
+    let f = next_found n s t id link (event_of s (Look (Next id) l.one) None ∷ []) [] k linked l.puts all in
+    let g = next_found n s t id l.one [] _ k linked l.puts all in
     elim f.either [
       | inl none ↦ let bad : Some l.id ≡ None = ap (λ (x : Link). x.to) none in absurd (cc)
-      | inr some ↦
-          let (next, is, has) = some in
-          let id_is : l.id ≡ next = some_same (ap (λ (x : Link). x.to) is) in
-          record {
-            next = next;
-            in_slot = record { at = l.at; slots = subst (λ (i : ℕ). t.slots ≡ slice_set s.slots slot (Some (record { row = h.row; id = i }))) id_is l.slots };
-            link = has;
-            puts = subst (λ (x : Link). Puts s (event_of s (Look (Next id) x) None ∷ event_of s (Look (Next id) x) None ∷ []) t) is l.puts;
-          }
+      | inr some ↦ next_both n s t id slot mark h l some g.either
     ]
 
 -- a look that found the end

@@ -2,7 +2,7 @@
 use Rattle.std.proofs.Common.{Bool, List, cond, false, Option, Some, None, [], ap, append-nil, append_assoc, arith, inl, inr, refl, subst, sym, true, ℕ, ◌++◌, ◌+◌, ◌==◌, ◌∙◌, ◌∷◌, ◌≡◌, ◌≢◌, ◌≤◌, ◌⊎◌}
 use Rattle.orc_heap.proofs.Moved.{linked_place_later, moved_between, moves_in-append, shown_or_moved}
 use Rattle.orc_heap.proofs.OwnParts.{moves_after_own}
-use Rattle.orc_heap.proofs.Parts.{filter-at, part_allowed}
+use Rattle.orc_heap.proofs.Calls.{filter-at, part_allowed}
 use Rattle.orc_heap.proofs.Stays.{allowed-left, allowed-right}
 use Rattle.orc_heap.specs.Acts.{Fits}
 use Rattle.orc_heap.specs.Allowed.{AllAllowed, events_by}
@@ -10,7 +10,7 @@ use Rattle.orc_heap.specs.Calls.{event_of}
 use Rattle.orc_heap.specs.Heap.{HeapNumbers, shown}
 use Rattle.orc_heap.specs.Journals.{run_heap}
 use Rattle.orc_heap.specs.Moves.{IsLinkedPlace, from_own, move_with, moves_in}
-use Rattle.orc_heap.specs.Parts.{Puts}
+use Rattle.orc_heap.specs.OwnEvents.{Puts}
 use Rattle.orc_heap.specs.Seats.{Seat}
 use Rattle.orc_heap.specs.declared.events.Act.{Act}
 use Rattle.orc_heap.specs.declared.events.Act.TheVariants.{Look, Miss}
@@ -71,19 +71,23 @@ module _ (n : HeapNumbers) (s : Seat FifoNote) (own : List (Event FifoNote)) (e 
 pub record Found (n : HeapNumbers) (place : Place) (link : Link) (s t : Seat FifoNote) (part : List (Event FifoNote)) : Type 0 where
   pub either : (shown (heap_of n t) place ≡ Some link) ⊎ (1 ≤ moves_in (from_own s.agent part))
 
-pub look_found : (n : HeapNumbers) (s t : Seat FifoNote) (place : Place) (link : Link) (noted : Option FifoNote) (rest : List (Event FifoNote)) (p : Puts s (event_of s (Look place link) noted ∷ rest) t)
+pub look_found_after : (n : HeapNumbers) (s t : Seat FifoNote) (place : Place) (link : Link) (noted : Option FifoNote) (own rest : List (Event FifoNote)) (p : Puts s (own ++ event_of s (Look place link) noted ∷ rest) t)
     → AllAllowed (FifoMay n) [] t.seen → IsLinkedPlace place (heap_of n s) → Found n place link s t p.part
-look_found n s t place link noted rest p all l =
+look_found_after n s t place link noted own rest p all l =
     let e : Event FifoNote = event_of s (Look place link) noted in
-    let m = moment n s t [] e rest p all in
+    let m = moment n s t own e rest p all in
     let there = linked_place_later n (FifoMay n) (λ es x k. k.fits) place s.seen m.before l m.first in
-    let k = moves_later n s [] e rest p.part m refl [] in
+    let k = moves_later n s own e rest p.part m refl [] in
     record {
-      either = elim (shown_or_moved n (FifoMay n) (λ es x h. h.fits) place link (s.seen ++ m.before) (e ∷ m.later) there (since n s [] e rest p.part m) m.here.fits) [
-        | inl still ↦ inl (subst (λ es. shown (run_heap n es) place ≡ Some link) (sym (p.is ∙ seen_is n s [] e rest p.part m)) still)
+      either = elim (shown_or_moved n (FifoMay n) (λ es x h. h.fits) place link (s.seen ++ m.before) (e ∷ m.later) there (since n s own e rest p.part m) m.here.fits) [
+        | inl still ↦ inl (subst (λ es. shown (run_heap n es) place ≡ Some link) (sym (p.is ∙ seen_is n s own e rest p.part m)) still)
         | inr some ↦ inr (subst (λ es. 1 ≤ moves_in (from_own s.agent es)) (append-nil p.part) (omega (arith, some, k)))
       ];
     }
+
+pub look_found : (n : HeapNumbers) (s t : Seat FifoNote) (place : Place) (link : Link) (noted : Option FifoNote) (rest : List (Event FifoNote)) (p : Puts s (event_of s (Look place link) noted ∷ rest) t)
+    → AllAllowed (FifoMay n) [] t.seen → IsLinkedPlace place (heap_of n s) → Found n place link s t p.part
+look_found n s t place link noted rest p all l = look_found_after n s t place link noted [] rest p all l
 
 -- two Looks that differ: a Move stands between them
 pub looks_differ : (n : HeapNumbers) (s t : Seat FifoNote) (place : Place) (one two : Link) (p : Puts s (event_of s (Look place one) None ∷ event_of s (Look place two) None ∷ []) t)

@@ -5,14 +5,14 @@ use Rattle.std.specs.Borrow.{Bor}
 use Rattle.std.specs.List.{list_any, slice_get, slice_set}
 use Rattle.std.specs.Prelude.{if◌then◌else◌}
 use Rattle.orc_heap.proofs.Fresh.{own_node_told, touched_by}
-use Rattle.orc_heap.proofs.Parts.{part_allowed}
+use Rattle.orc_heap.proofs.Calls.{part_allowed}
 use Rattle.orc_heap.proofs.Slots.{get-set_other, given-back, held_apart, holds-other, holds-there, id-other, id-there}
 use Rattle.orc_heap.specs.Allowed.{AllAllowed, IsLinkedNode}
 use Rattle.orc_heap.specs.Calls.{Releases, Swings, given_node, unless_node}
 use Rattle.orc_heap.specs.Heap.{HeapNumbers, Node}
 use Rattle.orc_heap.specs.Journals.{points_to, run_heap}
 use Rattle.orc_heap.specs.Moves.{gives_in}
-use Rattle.orc_heap.specs.Parts.{Puts}
+use Rattle.orc_heap.specs.OwnEvents.{Puts}
 use Rattle.orc_heap.specs.Seats.{IsUntouched, Seat, link_in}
 use Rattle.orc_heap.specs.Slots.{Hold, Holds, IsFree, id_in}
 use Rattle.orc_heap.specs.declared.events.Event.{Event}

@@ -9,7 +9,7 @@ use Rattle.orc_heap.specs.Calls.{event_of}
 use Rattle.orc_heap.specs.Heap.{Heap, HeapNumbers, new_heap, null, shown}
 use Rattle.orc_heap.specs.Journals.{run_heap}
 use Rattle.orc_heap.specs.Moves.{AllOwn, from_own, moves_in}
-use Rattle.orc_heap.specs.Parts.{Puts}
+use Rattle.orc_heap.specs.OwnEvents.{Puts}
 use Rattle.orc_heap.specs.Seats.{Seat}
 use Rattle.orc_heap.specs.Slots.{Hold, Holds, id_in}
 use Rattle.orc_heap.specs.declared.events.Act.TheVariants.{Look, Move}
@@ -34,7 +34,10 @@ use Rattle.orc_queue.proofs.Pieces.{gives_in-append, node_held, node_puts}
 use Rattle.orc_queue.proofs.Room.{room_unseen}
 
 -- two looks at the tail, two at its link, and the Swing
-module _ (n : HeapNumbers) (s : Seat FifoNote) (tail next : ℕ) where
+module _ (n : HeapNumbers) (s : Seat FifoNote) (one : Link) (tail next : ℕ) where
+  abbrev at_first : Event FifoNote
+  at_first = event_of s (Look (Root 1) one) None
+
   abbrev at_tail : Event FifoNote
   at_tail = event_of s (Look (Root 1) (link_to tail)) None
 
@@ -44,31 +47,33 @@ module _ (n : HeapNumbers) (s : Seat FifoNote) (tail next : ℕ) where
   abbrev swing : Event FifoNote
   swing = event_of s (Move (Root 1) (link_to tail) (link_to next)) (Some Swing)
 
-  looks_change_nothing : (es : List (Event FifoNote)) → run_heap n (es ++ at_tail ∷ at_tail ∷ at_next ∷ at_next ∷ []) ≡ run_heap n es
-  looks_change_nothing es = run_from-append (new_heap n) es (at_tail ∷ at_tail ∷ at_next ∷ at_next ∷ [])
+  looks_change_nothing : (es : List (Event FifoNote)) → run_heap n (es ++ at_first ∷ at_tail ∷ at_next ∷ at_next ∷ []) ≡ run_heap n es
+  looks_change_nothing es = run_from-append (new_heap n) es (at_first ∷ at_tail ∷ at_next ∷ at_next ∷ [])
 
-  helped_settles : (es : List (Event FifoNote)) → FifoHolds n es → has_begun es ≡ true → AllAllowed (FifoMay n) es (at_tail ∷ at_tail ∷ at_next ∷ at_next ∷ swing ∷ [])
-      → TailIsLast (run_heap n (es ++ at_tail ∷ at_tail ∷ at_next ∷ at_next ∷ swing ∷ []))
+  helped_settles : (es : List (Event FifoNote)) → FifoHolds n es → has_begun es ≡ true → AllAllowed (FifoMay n) es (at_first ∷ at_tail ∷ at_next ∷ at_next ∷ swing ∷ [])
+      → TailIsLast (run_heap n (es ++ at_first ∷ at_tail ∷ at_next ∷ at_next ∷ swing ∷ []))
   helped_settles es holds begun all =
-      let looks : List (Event FifoNote) = at_tail ∷ at_tail ∷ at_next ∷ at_next ∷ [] in
+      let looks : List (Event FifoNote) = at_first ∷ at_tail ∷ at_next ∷ at_next ∷ [] in
       let first = allowed-left (FifoMay n) es looks (swing ∷ []) all in
       let last = allowed-right (FifoMay n) es looks (swing ∷ []) all in
       let r = swing_settles n (es ++ looks) s.agent tail next (holds_later n es looks holds first) (begun_more es looks begun) last.0 in
       subst (λ z. TailIsLast (run_heap n z)) (append_assoc es looks (swing ∷ [])) r
 
-  helped_unsettled : (es : List (Event FifoNote)) → AllAllowed (FifoMay n) es (at_tail ∷ at_tail ∷ at_next ∷ at_next ∷ swing ∷ []) → TailIsLast (run_heap n es) → ⊥
+  helped_unsettled : (es : List (Event FifoNote)) → AllAllowed (FifoMay n) es (at_first ∷ at_tail ∷ at_next ∷ at_next ∷ swing ∷ []) → TailIsLast (run_heap n es) → ⊥
   helped_unsettled es all settled =
-      let same : run_heap n ((es ++ at_tail ∷ []) ++ at_tail ∷ []) ≡ run_heap n es = ap (λ z. run_heap n z) (append_assoc es (at_tail ∷ []) (at_tail ∷ [])) ∙ run_from-append (new_heap n) es (at_tail ∷ at_tail ∷ []) in
+      let same : run_heap n ((es ++ at_first ∷ []) ++ at_tail ∷ []) ≡ run_heap n es = ap (λ z. run_heap n z) (append_assoc es (at_first ∷ []) (at_tail ∷ [])) ∙ run_from-append (new_heap n) es (at_first ∷ at_tail ∷ []) in
       let link : shown (run_heap n es) (Next tail) ≡ Some (link_to next) = subst (λ (h : Heap). shown h (Next tail) ≡ Some (link_to next)) same all.1.1.0.fits in
-      let last_is : settled.last ≡ tail = link_same settled.last tail (some_same (sym settled.tail_is ∙ all.0.fits)) in
+      let before : run_heap n (es ++ at_first ∷ []) ≡ run_heap n es = run_from-append (new_heap n) es (at_first ∷ []) in
+      let tail_at : shown (run_heap n es) (Root 1) ≡ Some (link_to tail) = subst (λ (h : Heap). shown h (Root 1) ≡ Some (link_to tail)) before all.1.0.fits in
+      let last_is : settled.last ≡ tail = link_same settled.last tail (some_same (sym settled.tail_is ∙ tail_at)) in
       null_to next (some_same (sym (subst (λ (x : ℕ). shown (run_heap n es) (Next x) ≡ Some null) last_is settled.ends) ∙ link))
 
 enough : {i j : ℕ} → 1 ≤ i → i ≤ j → 1 ≤ j
 enough p q = omega (arith, p, q)
 
 -- from a look of the tail to its release
-module _ (n : HeapNumbers) (job tail : ℕ) (h : Hold) (s a b t : Seat FifoNote) (k : Known n s.seen) (kb : Known n b.seen) (all_a : AllAllowed (FifoMay n) [] a.seen) (all_t : AllAllowed (FifoMay n) [] t.seen)
-    (p : Puts s (event_of s (Look (Root 1) (link_to tail)) None ∷ event_of s (Look (Root 1) (link_to tail)) None ∷ []) a) (freed : Puts b [] t) (slots : t.slots ≡ s.slots) (fresh_a : a.fresh ≡ s.fresh) (fresh_t : t.fresh ≡ b.fresh)
+module _ (n : HeapNumbers) (one : Link) (job tail : ℕ) (h : Hold) (s a b t : Seat FifoNote) (k : Known n s.seen) (kb : Known n b.seen) (all_a : AllAllowed (FifoMay n) [] a.seen) (all_t : AllAllowed (FifoMay n) [] t.seen)
+    (p : Puts s (event_of s (Look (Root 1) one) None ∷ event_of s (Look (Root 1) (link_to tail)) None ∷ []) a) (freed : Puts b [] t) (slots : t.slots ≡ s.slots) (fresh_a : a.fresh ≡ s.fresh) (fresh_t : t.fresh ≡ b.fresh)
     (held : Holds t.slots h) (same_id : id_in t.slots h ≡ id_in b.slots h)
   where
     first_room : FindsFull n s.agent s.seen p.part → ⊥
@@ -78,19 +83,19 @@ module _ (n : HeapNumbers) (job tail : ℕ) (h : Hold) (s a b t : Seat FifoNote)
     turn_done PutOver l =
         let q0 = l.stops.piece in
         let q = puts_released a b t q0.own q0.puts freed in
-        let j = join 6 s a t (at_tail n s tail 0 ∷ at_tail n s tail 0 ∷ []) q0.own [] p q slots q0.entries_are (omega (arith, q0.no_give)) (omega (arith, q0.few)) in
+        let j = join 6 s a t (at_first n s one tail 0 ∷ at_tail n s one tail 0 ∷ []) q0.own [] p q slots q0.entries_are (omega (arith, q0.no_give)) (omega (arith, q0.few)) in
         let fresh = fresh_t ∙ (l.stops.fresh ∙ fresh_a) in
         let moved = λ (at : shown (heap_of n a) (Root 1) ≡ Some (link_to tail)). enough (l.stops.moved at) (moves_left a b t q0.own [] q0.own q0.puts freed q) in
         let over : IsOver n TailIsLast s t = elim l.stops.own_moves [
-          | inl none ↦ over_missed n TailIsLast 1 tail s a t k all_a all_t p q0.own q j fresh moved none
+          | inl none ↦ over_missed n TailIsLast 1 tail one s a t k all_a all_t p q0.own q j fresh moved none
           | inr helping ↦
               let next : ℕ = helping.0 in
-              let is : q0.own ≡ at_next n s tail next ∷ at_next n s tail next ∷ swing n s tail next ∷ [] = helping.1 ∙ ap (λ (x : ℕ). record { agent = x; act = Look (Next tail) (link_to next); note = None }
+              let is : q0.own ≡ at_next n s one tail next ∷ at_next n s one tail next ∷ swing n s one tail next ∷ [] = helping.1 ∙ ap (λ (x : ℕ). record { agent = x; act = Look (Next tail) (link_to next); note = None }
               ∷ record { agent = x; act = Look (Next tail) (link_to next); note = None } ∷ record { agent = x; act = Move (Root 1) (link_to tail) (link_to next); note = Some Swing } ∷ []) p.agent in
-              over_helped n TailIsLast 1 tail s a t k all_a all_t p q0.own q j fresh moved
-              (λ es holds begun all. subst (λ z. TailIsLast (run_heap n (es ++ at_tail n s tail 0 ∷ at_tail n s tail 0 ∷ z))) (sym is)
-              (helped_settles n s tail next es holds begun (subst (λ z. AllAllowed (FifoMay n) es (at_tail n s tail 0 ∷ at_tail n s tail 0 ∷ z)) is all)))
-              (λ es all settled. helped_unsettled n s tail next es (subst (λ z. AllAllowed (FifoMay n) es (at_tail n s tail 0 ∷ at_tail n s tail 0 ∷ z)) is all) settled)
+              over_helped n TailIsLast 1 tail one s a t k all_a all_t p q0.own q j fresh moved
+              (λ es holds begun all. subst (λ z. TailIsLast (run_heap n (es ++ at_first n s one tail 0 ∷ at_tail n s one tail 0 ∷ z))) (sym is)
+              (helped_settles n s one tail next es holds begun (subst (λ z. AllAllowed (FifoMay n) es (at_first n s one tail 0 ∷ at_tail n s one tail 0 ∷ z)) is all)))
+              (λ es all settled. helped_unsettled n s one tail next es (subst (λ z. AllAllowed (FifoMay n) es (at_first n s one tail 0 ∷ at_tail n s one tail 0 ∷ z)) is all) settled)
         ] in
         record {
           over = over;
@@ -101,10 +106,10 @@ module _ (n : HeapNumbers) (job tail : ℕ) (h : Hold) (s a b t : Seat FifoNote)
         let q0 = l.piece in
         let q = puts_released a b t q0.own q0.puts freed in
         let entries : entries_of q0.own ≡ Put s.agent job at ∷ [] = q0.entries_are ∙ ap (λ (x : ℕ). Put x job at ∷ []) p.agent in
-        let j = join 6 s a t (at_tail n s tail 0 ∷ at_tail n s tail 0 ∷ []) q0.own (Put s.agent job at ∷ []) p q slots entries (omega (arith, q0.no_give)) (omega (arith, q0.few)) in
+        let j = join 6 s a t (at_first n s one tail 0 ∷ at_tail n s one tail 0 ∷ []) q0.own (Put s.agent job at ∷ []) p q slots entries (omega (arith, q0.no_give)) (omega (arith, q0.few)) in
         record {
           piece = j.piece;
-          helps = record { before = at_tail n s tail 0 ∷ []; tail = tail; look = at_tail n s tail 0; sees = refl; rest = q0.own; es_are = j.own_is; swings = l.helps };
+          helps = record { before = at_first n s one tail 0 ∷ []; tail = tail; look = at_tail n s one tail 0; sees = refl; rest = q0.own; es_are = j.own_is; swings = l.helps };
           fresh = fresh_t ∙ l.fresh;
           low = l.low;
           room = room_join n s a t _ _ _ p q j.piece.puts first_room (room_join n a b t _ _ _ q0.puts freed q l.room (room_unseen n b t [] freed refl));
@@ -112,7 +117,7 @@ module _ (n : HeapNumbers) (job tail : ℕ) (h : Hold) (s a b t : Seat FifoNote)
     turn_done Full l =
         let q0 = l.piece in
         let q = puts_released a b t q0.own q0.puts freed in
-        let j = join 6 s a t (at_tail n s tail 0 ∷ at_tail n s tail 0 ∷ []) q0.own [] p q slots q0.entries_are (omega (arith, q0.no_give)) (omega (arith, q0.few)) in
+        let j = join 6 s a t (at_first n s one tail 0 ∷ at_tail n s one tail 0 ∷ []) q0.own [] p q slots q0.entries_are (omega (arith, q0.no_give)) (omega (arith, q0.few)) in
         record {
           piece = j.piece;
           fresh = fresh_t ∙ (l.fresh ∙ fresh_a);

@@ -9,7 +9,7 @@ use Rattle.orc_heap.specs.Calls.{event_of}
 use Rattle.orc_heap.specs.Heap.{Heap, HeapNumbers, new_heap, null, shown}
 use Rattle.orc_heap.specs.Journals.{run_heap}
 use Rattle.orc_heap.specs.Moves.{moves_in}
-use Rattle.orc_heap.specs.Parts.{Puts}
+use Rattle.orc_heap.specs.OwnEvents.{Puts}
 use Rattle.orc_heap.specs.Seats.{Seat}
 use Rattle.orc_heap.specs.declared.events.Act.TheVariants.{Look, Move}
 use Rattle.orc_heap.specs.declared.events.Event.{Event}
@@ -121,7 +121,10 @@ behind_kept n head s t (TakeDone job at) l = record { own = l.piece.own; slots =
 behind_kept n head s t TakeEmpty l = record { own = l.piece.own; slots = l.piece.slots; fresh = l.fresh; puts = l.piece.puts }
 
 -- two looks at the head, two at its link, the test of the tail, and the Swing
-module _ (n : HeapNumbers) (s : Seat FifoNote) (head next : ℕ) where
+module _ (n : HeapNumbers) (s : Seat FifoNote) (one : Link) (head next : ℕ) where
+  abbrev at_first : Event FifoNote
+  at_first = event_of s (Look (Root 0) one) None
+
   abbrev at_head : Event FifoNote
   at_head = event_of s (Look (Root 0) (link_to head)) None
 
@@ -137,47 +140,50 @@ module _ (n : HeapNumbers) (s : Seat FifoNote) (head next : ℕ) where
   abbrev helping : List (Event FifoNote)
   helping = at_next ∷ at_next ∷ at_tail ∷ swing ∷ []
 
-  helped_settles : (es : List (Event FifoNote)) → FifoHolds n es → has_begun es ≡ true → AllAllowed (FifoMay n) es (at_head ∷ at_head ∷ helping) → TailIsPast (run_heap n (es ++ at_head ∷ at_head ∷ helping))
+  helped_settles : (es : List (Event FifoNote)) → FifoHolds n es → has_begun es ≡ true → AllAllowed (FifoMay n) es (at_first ∷ at_head ∷ helping) → TailIsPast (run_heap n (es ++ at_first ∷ at_head ∷ helping))
   helped_settles es holds begun all =
-      let looks : List (Event FifoNote) = at_head ∷ at_head ∷ at_next ∷ at_next ∷ at_tail ∷ [] in
+      let looks : List (Event FifoNote) = at_first ∷ at_head ∷ at_next ∷ at_next ∷ at_tail ∷ [] in
       let first = allowed-left (FifoMay n) es looks (swing ∷ []) all in
       let last = allowed-right (FifoMay n) es looks (swing ∷ []) all in
       let same : run_heap n (es ++ looks) ≡ run_heap n es = run_from-append (new_heap n) es looks in
-      let at : shown (run_heap n (es ++ looks)) (Root 0) ≡ Some (link_to head) = ap (λ (h : Heap). shown h (Root 0)) same ∙ all.0.fits in
+      let before : run_heap n (es ++ at_first ∷ []) ≡ run_heap n es = run_from-append (new_heap n) es (at_first ∷ []) in
+      let at : shown (run_heap n (es ++ looks)) (Root 0) ≡ Some (link_to head) = ap (λ (h : Heap). shown h (Root 0)) (same ∙ sym before) ∙ all.1.0.fits in
       let r = swing_past n (es ++ looks) s.agent head next (holds_later n es looks holds first) (begun_more es looks begun) at last.0 in
       subst (λ z. TailIsPast (run_heap n z)) (append_assoc es looks (swing ∷ [])) r
 
-  helped_unsettled : (es : List (Event FifoNote)) → AllAllowed (FifoMay n) es (at_head ∷ at_head ∷ helping) → TailIsPast (run_heap n es) → ⊥
+  helped_unsettled : (es : List (Event FifoNote)) → AllAllowed (FifoMay n) es (at_first ∷ at_head ∷ helping) → TailIsPast (run_heap n es) → ⊥
   helped_unsettled es all settled =
-      let looks : List (Event FifoNote) = at_head ∷ at_head ∷ at_next ∷ at_next ∷ [] in
+      let looks : List (Event FifoNote) = at_first ∷ at_head ∷ at_next ∷ at_next ∷ [] in
       let last = allowed-right (FifoMay n) es looks (at_tail ∷ swing ∷ []) all in
       let same : run_heap n (es ++ looks) ≡ run_heap n es = run_from-append (new_heap n) es looks in
       let tail_is : shown (run_heap n es) (Root 1) ≡ Some (link_to head) = ap (λ (h : Heap). shown h (Root 1)) (sym same) ∙ last.0.fits in
-      let head_same : settled.head ≡ head = link_same settled.head head (some_same (sym settled.head_is ∙ all.0.fits)) in
+      let before : run_heap n (es ++ at_first ∷ []) ≡ run_heap n es = run_from-append (new_heap n) es (at_first ∷ []) in
+      let head_at : shown (run_heap n es) (Root 0) ≡ Some (link_to head) = ap (λ (h : Heap). shown h (Root 0)) (sym before) ∙ all.1.0.fits in
+      let head_same : settled.head ≡ head = link_same settled.head head (some_same (sym settled.head_is ∙ head_at)) in
       settled.tail_apart (tail_is ∙ ap (λ (x : ℕ). Some (link_to x)) (sym head_same))
 
 -- from a look of the head to its release
-module _ (n : HeapNumbers) (head : ℕ) (s a b t : Seat FifoNote) (k : Known n s.seen) (all_a : AllAllowed (FifoMay n) [] a.seen) (all_t : AllAllowed (FifoMay n) [] t.seen)
-    (p : Puts s (event_of s (Look (Root 0) (link_to head)) None ∷ event_of s (Look (Root 0) (link_to head)) None ∷ []) a) (freed : Puts b [] t) (slots : t.slots ≡ s.slots) (fresh_a : a.fresh ≡ s.fresh) (fresh_t : t.fresh ≡ b.fresh)
+module _ (n : HeapNumbers) (one : Link) (head : ℕ) (s a b t : Seat FifoNote) (k : Known n s.seen) (all_a : AllAllowed (FifoMay n) [] a.seen) (all_t : AllAllowed (FifoMay n) [] t.seen)
+    (p : Puts s (event_of s (Look (Root 0) one) None ∷ event_of s (Look (Root 0) (link_to head)) None ∷ []) a) (freed : Puts b [] t) (slots : t.slots ≡ s.slots) (fresh_a : a.fresh ≡ s.fresh) (fresh_t : t.fresh ≡ b.fresh)
   where
     pub turn_taken : (turn : TakeTurn) → TakesBehind n head a turn b → TakesTurn n s turn t
     turn_taken TakeOver l =
         let q0 = l.piece in
         let q = puts_released a b t q0.own q0.puts freed in
-        let looks : List (Event FifoNote) = at_head n s head 0 ∷ at_head n s head 0 ∷ [] in
+        let looks : List (Event FifoNote) = at_first n s one head 0 ∷ at_head n s one head 0 ∷ [] in
         let j = join 6 s a t looks q0.own [] p q slots q0.entries_are (omega (arith, q0.no_give)) (omega (arith, q0.few)) in
         let fresh = fresh_t ∙ (l.fresh ∙ fresh_a) in
         let moved = λ (at : shown (heap_of n a) (Root 0) ≡ Some (link_to head)). enough (l.moved at) (moves_left a b t q0.own [] q0.own q0.puts freed q) in
         elim l.own_moves [
-          | inl none ↦ over_missed n TailIsPast 0 head s a t k all_a all_t p q0.own q j fresh moved none
+          | inl none ↦ over_missed n TailIsPast 0 head one s a t k all_a all_t p q0.own q j fresh moved none
           | inr helped ↦
               let next : ℕ = helped.0 in
-              let is : q0.own ≡ helping n s head next = helped.1 ∙ ap (λ (x : ℕ). record { agent = x; act = Look (Next head) (link_to next); note = None } ∷ record { agent = x; act = Look (Next head) (link_to next); note = None }
+              let is : q0.own ≡ helping n s one head next = helped.1 ∙ ap (λ (x : ℕ). record { agent = x; act = Look (Next head) (link_to next); note = None } ∷ record { agent = x; act = Look (Next head) (link_to next); note = None }
               ∷ record { agent = x; act = Look (Root 1) (link_to head); note = None } ∷ record { agent = x; act = Move (Root 1) (link_to head) (link_to next); note = Some Swing } ∷ []) p.agent in
-              over_helped n TailIsPast 0 head s a t k all_a all_t p q0.own q j fresh moved
-              (λ es holds begun all. subst (λ z. TailIsPast (run_heap n (es ++ at_head n s head 0 ∷ at_head n s head 0 ∷ z))) (sym is)
-              (helped_settles n s head next es holds begun (subst (λ z. AllAllowed (FifoMay n) es (at_head n s head 0 ∷ at_head n s head 0 ∷ z)) is all)))
-              (λ es all settled. helped_unsettled n s head next es (subst (λ z. AllAllowed (FifoMay n) es (at_head n s head 0 ∷ at_head n s head 0 ∷ z)) is all) settled)
+              over_helped n TailIsPast 0 head one s a t k all_a all_t p q0.own q j fresh moved
+              (λ es holds begun all. subst (λ z. TailIsPast (run_heap n (es ++ at_first n s one head 0 ∷ at_head n s one head 0 ∷ z))) (sym is)
+              (helped_settles n s one head next es holds begun (subst (λ z. AllAllowed (FifoMay n) es (at_first n s one head 0 ∷ at_head n s one head 0 ∷ z)) is all)))
+              (λ es all settled. helped_unsettled n s one head next es (subst (λ z. AllAllowed (FifoMay n) es (at_first n s one head 0 ∷ at_head n s one head 0 ∷ z)) is all) settled)
         ]
     turn_taken (TakeDone job at) l =
         let q0 = l.piece in

@@ -4,13 +4,13 @@ use Rattle.std.proofs.lemmas.List.{length-append}
 use Rattle.std.specs.Borrow.{Bor}
 use Rattle.orc_heap.proofs.Moved.{moves_in-append, shown_or_moved}
 use Rattle.orc_heap.proofs.OwnParts.{moves_from_own}
-use Rattle.orc_heap.proofs.Parts.{Puts-trans}
+use Rattle.orc_heap.proofs.Calls.{Puts-trans}
 use Rattle.orc_heap.specs.Allowed.{AllAllowed, AllowedLater, IsLinkedNode}
 use Rattle.orc_heap.specs.Calls.{Misses, ReadsValue, Swings, Tests, event_of}
 use Rattle.orc_heap.specs.Heap.{HeapNumbers, Node, null, shown}
 use Rattle.orc_heap.specs.Journals.{run_heap}
 use Rattle.orc_heap.specs.Moves.{gives_in, moves_in}
-use Rattle.orc_heap.specs.Parts.{Only, Puts}
+use Rattle.orc_heap.specs.OwnEvents.{Only, Puts}
 use Rattle.orc_heap.specs.Seats.{Seat}
 use Rattle.orc_heap.specs.Slots.{Hold, id_in}
 use Rattle.orc_heap.specs.declared.events.Act.TheVariants.{Look, Miss, Move}

@@ -3,7 +3,7 @@ use Rattle.std.specs.Prelude.{Err, List, Ok, Option, Result, [], drop, length, s
 use Rattle.orc_fault.specs.declared.Again.{Again as AgainFault}
 use Rattle.orc_heap.specs.Heap.{HeapNumbers}
 use Rattle.orc_heap.specs.Moves.{AllOwn, from_own, gives_in, moves_in}
-use Rattle.orc_heap.specs.Parts.{Puts}
+use Rattle.orc_heap.specs.OwnEvents.{Puts}
 use Rattle.orc_heap.specs.Seats.{IsIdle, Seat}
 use Rattle.orc_heap.specs.declared.events.Event.{Event}
 use Rattle.orc_history.specs.QueueHistory.{entry_of_dequeue}

@@ -9,7 +9,7 @@ use Rattle.orc_heap.proofs.Stays.{allowed-left, allowed-right}
 use Rattle.orc_heap.specs.Allowed.{AllAllowed}
 use Rattle.orc_heap.specs.Heap.{HeapNumbers}
 use Rattle.orc_heap.specs.Journals.{run_heap}
-use Rattle.orc_heap.specs.Parts.{IsBelow}
+use Rattle.orc_heap.specs.OwnEvents.{IsBelow}
 use Rattle.orc_heap.specs.declared.events.Event.{Event}
 use Rattle.orc_history.proofs.Histories.{puts_in-append}
 use Rattle.orc_history.specs.Journals.{Every}

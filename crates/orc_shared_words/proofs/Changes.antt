@@ -15,9 +15,9 @@ use Rattle.orc_history.specs.Journals.{own_of}
 use Rattle.orc_shared_words.proofs.Seats.{at_changed, at_grown, at_one, none_some}
 
 module _ {S Rec : Type 0} where
-  -- a seat's first free number grows, or is lost
+  -- a seat's first free number grows, or is lost, and the record that goes with it stays
   abbrev pub FreeGrows : View S Rec → View S Rec → Type 0
-  FreeGrows v w = (c : ℕ) → w.free ≡ Some c → (b : ℕ) × (v.free ≡ Some b) × (b ≤ c)
+  FreeGrows v w = (c : ℕ) → w.free ≡ Some c → (b : ℕ) × (v.free ≡ Some b) × (b ≤ c) × (w.born ≡ v.born)
 
   -- a seat keeps its agent, or loses it
   abbrev pub AgentStays : View S Rec → View S Rec → Type 0
@@ -49,18 +49,18 @@ module _ {S Rec : Type 0} where
 
 module _ {K S Op Rec N : Type 0} (r : Rules K S Op Rec N) (k : K) where
   abbrev pub AllUnborn : List S → List (View S Rec) → Type 0
-  AllUnborn j views = (a : ℕ) → EachView views (λ _ v. v.free ≡ Some a → (b : ℕ) → a ≤ b → b < r.agents k → Unborn r k j views b)
+  AllUnborn j views = (a : ℕ) → EachView views (λ _ v. v.free ≡ Some a → (b : ℕ) → a ≤ b → b < r.agents k → Unborn r k j views v.born b)
 
   abbrev pub AllRetired : List S → List (View S Rec) → Type 0
   AllRetired j views = (a : ℕ) → EachView views (λ _ v. Among a v.also → Retired r k j views a v.seen)
 
   pub still_unborn : (j : List S) (views : List (View S Rec)) (id : ℕ) (v w : View S Rec) → get_elem? views id ≡ some v → AgentStays v w → FreeGrows v w → AllUnborn j views → AllUnborn j (set views id w)
   still_unborn j views id v w at less free m c i u ei q b le lt =
-      let old = at_changed (λ i u. u.free ≡ Some c → (d : ℕ) × (x : View S Rec) × (get_elem? views i ≡ some x) × (x.free ≡ Some d) × (d ≤ c)) views id w
-      (λ q. let o = free c q in (o.0, v, at, o.1, o.2)) (λ i u _ e q. (c, u, e, q, omega arith)) i u ei q in
+      let old = at_changed (λ i u. u.free ≡ Some c → (d : ℕ) × (x : View S Rec) × (get_elem? views i ≡ some x) × (x.free ≡ Some d) × (d ≤ c) × (u.born ≡ x.born)) views id w
+      (λ q. let o = free c q in (o.0, v, at, o.1, o.2, o.3)) (λ i u _ e q. (c, u, e, q, omega arith, refl)) i u ei q in
       let below = old.4 in
       let x = m old.0 i old.1 old.2 old.3 b (omega arith) lt in
-      record { mine = x.mine; steps = x.steps; passless = still_passless views id v w at less b x.passless }
+      record { mine = x.mine ∙ sym old.5; steps = x.steps; passless = still_passless views id v w at less b x.passless }
 
   pub still_retired : (j : List S) (views : List (View S Rec)) (id : ℕ) (v w : View S Rec) → get_elem? views id ≡ some v → AgentStays v w → FreeGrows v w
       → ((a : ℕ) → Among a w.also → Retired r k j views a w.seen) → AllRetired j views → AllRetired j (set views id w)
@@ -112,9 +112,9 @@ module _ {K S Op Rec N : Type 0} (r : Rules K S Op Rec N) (k : K) (holds : List 
     kept = h.kept;
     below = h.below;
     unborn = λ c i u ei q b le lt.
-        let old = at_grown (λ i u. u.free ≡ Some c → (z : View S Rec) × (l : ℕ) × (get_elem? s.views l ≡ some z) × (z.free ≡ Some c)) s.views w (λ q. absurd (none_some w.free c none q)) (λ i u e q. (u, i, e, q)) i u ei q in
+        let old = at_grown (λ i u. u.free ≡ Some c → (z : View S Rec) × (l : ℕ) × (get_elem? s.views l ≡ some z) × (z.free ≡ Some c) × (u.born ≡ z.born)) s.views w (λ q. absurd (none_some w.free c none q)) (λ i u e q. (u, i, e, q, refl)) i u ei q in
         let x = h.unborn c old.1 old.0 old.2 old.3 b le lt in
-        record { mine = x.mine; steps = x.steps; passless = at_grown (λ _ z. ¬ (z.agent ≡ Some b)) s.views w (λ p. let y = (new b p).handed c old.1 old.0 old.2 old.3 in absurd (omega arith)) x.passless };
+        record { mine = x.mine ∙ sym old.4; steps = x.steps; passless = at_grown (λ _ z. ¬ (z.agent ≡ Some b)) s.views w (λ p. let y = (new b p).handed c old.1 old.0 old.2 old.3 in absurd (omega arith)) x.passless };
     lone = one_more HandsOut s.views w h.lone (λ q. absurd (none_some w.free q.0 none q.1));
     retired = λ a i u ei q.
         let old = at_grown (λ i u. Among a u.also → (z : View S Rec) × (l : ℕ) × (get_elem? s.views l ≡ some z) × Among a z.also × (z.seen ≡ u.seen)) s.views w (λ q. absurd (subst (Among a) alone_so q)) (λ i u e q. (u, i, e, q, refl)) i u ei q in

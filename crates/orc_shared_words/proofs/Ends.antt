@@ -36,7 +36,7 @@ module _ {K S Op Rec N : Type 0} (r : Rules K S Op Rec N) (k : K) (holds : List 
         each = o.each;
         kept = o.kept;
         below = o.below;
-        unborn = λ a. at_one v (λ _ u. u.free ≡ Some a → (b : ℕ) → a ≤ b → b < r.agents k → Unborn r k j (v ∷ []) b) (λ e b le lt.
+        unborn = λ a. at_one v (λ _ u. u.free ≡ Some a → (b : ℕ) → a ≤ b → b < r.agents k → Unborn r k j (v ∷ []) u.born b) (λ e b le lt.
             let first : a ≡ 1 = one_number (Some 1) 1 a refl e in
             record { mine = o.born b (omega arith) lt; steps = refl; passless = at_one v (λ _ z. ¬ (z.agent ≡ Some b)) (λ p. let z : b ≡ 0 = one_number (Some 0) 0 b refl p in omega arith) });
         lone = one_alone HandsOut v;

@@ -61,7 +61,7 @@ module _ {K S Op Rec N : Type 0} (r : Rules K S Op Rec N) (k : K) where
     keeps_list : (s : State (Unit {0}) (View S Rec)) (h : Shows r k holds may s) (id : ℕ) (v : View S Rec) (l : List S) → get_elem? s.views id ≡ some v → Begins h.journal l
         → Shows r k holds may record { words = s.words; homes = s.homes; views = set s.views id (record v { kept = l }) }
     keeps_list s h id v l at front = let w : View S Rec = record v { kept = l } in
-        changed r k holds may s.words s h id v w refl at (refit h.journal v w (h.fits id v at) refl refl refl front) (λ a q. q) (λ c q. (c, q, omega arith)) (λ a q. h.retired a id v at q)
+        changed r k holds may s.words s h id v w refl at (refit h.journal v w (h.fits id v at) refl refl refl front) (λ a q. q) (λ c q. (c, q, omega arith, refl)) (λ a q. h.retired a id v at q)
         (⊎_elim (λ (t : (a : ℕ) × (v.agent ≡ Some a) × (v.seen ≡ h.journal)). (id, w, set_there s.views id v w at, inl t)) (λ (q : Among h.journal v.taken). (id, w, set_there s.views id v w at, inr q)))
 
     -- a seat loses its agent
@@ -87,7 +87,7 @@ module _ {K S Op Rec N : Type 0} (r : Rules K S Op Rec N) (k : K) where
         let next_is : (d : ℕ) → next_number v.free ≡ Some d → d ≡ c + 1 = λ d q. one_number (next_number v.free) (c + 1) d (ap next_number p) q in
         let silent : own_of r.by c v.seen ≡ own_of r.by c (r.opening k) = none_between r.by c h.journal v.seen (r.opening k) f.seen o.opened x.steps in
         let first : Shows r k holds may record { words = s.words; homes = s.homes; views = set s.views id after } =
-        changed r k holds may s.words s h id v after refl at (refit h.journal v after f refl refl refl f.kept) (λ a q. q) (λ d q. let e = next_is d q in (c, p, omega arith)) (λ a q. h.retired a id v at q)
+        changed r k holds may s.words s h id v after refl at (refit h.journal v after f refl refl refl f.kept) (λ a q. q) (λ d q. let e = next_is d q in (c, p, omega arith, refl)) (λ a q. h.retired a id v at q)
         (λ q. (id, after, set_there s.views id v after at, q)) in
         let new : IsNew r k holds may (set s.views id after) c = record {
           passless = at_changed (λ _ z. ¬ (z.agent ≡ Some c)) s.views id after (x.passless id v at) (λ l z _ el. x.passless l z el);
@@ -119,7 +119,7 @@ module _ {K S Op Rec N : Type 0} (r : Rules K S Op Rec N) (k : K) where
           w,
           keeps,
           tt,
-          changed r k holds may _ s h id v w (set-get_or s.words i 0) at (refit h.journal v w f refl refl refl (h.journal, refl)) (λ a q. q) (λ c q. (c, q, omega arith)) (λ a q. h.retired a id v at q)
+          changed r k holds may _ s h id v w (set-get_or s.words i 0) at (refit h.journal v w f refl refl refl (h.journal, refl)) (λ a q. q) (λ c q. (c, q, omega arith, refl)) (λ a q. h.retired a id v at q)
               (λ q. (id, w, set_there s.views id v w at, q)),
           (record { one = inl (b, refl); same = record { agent = refl; free = refl; also = refl; mine = refl; steps = λ a e. refl } }, refl),
         ))
@@ -139,7 +139,7 @@ module _ {K S Op Rec N : Type 0} (r : Rules K S Op Rec N) (k : K) where
           w,
           keeps,
           tt,
-          changed r k holds may _ s h id v w (set-get_or s.words i 0) at fits (λ a q. q) (λ c q. (c, q, omega arith))
+          changed r k holds may _ s h id v w (set-get_or s.words i 0) at fits (λ a q. q) (λ c q. (c, q, omega arith, refl))
               (λ a q. let x = h.retired a id v at q in record { steps = x.steps ∙ sym (same_of a x.steps); passless = x.passless; handed = x.handed })
               (λ q. (id, w, set_there s.views id v w at, whole q)),
           (record { one = inr (b, refl); same = record { agent = refl; free = refl; also = refl; mine = refl; steps = λ a. ⊎_elim (λ e. same_of a (f.pass a e).steps) (λ q. same_of a (h.retired a id v at q).steps) } }, refl),
@@ -148,7 +148,7 @@ module _ {K S Op Rec N : Type 0} (r : Rules K S Op Rec N) (k : K) where
 
     -- what is left of a pass that was taken in
     abbrev husk : View S Rec → View S Rec
-    husk w = record { seen = []; kept = []; agent = None; free = None; also = []; taken = w.seen ∷ w.taken; own = r.blank }
+    husk w = record { seen = []; kept = []; agent = None; free = None; born = r.blank; also = []; taken = w.seen ∷ w.taken; own = r.blank }
 
     -- a pass takes in another for good
     pub absorbs : (id : ℕ) (v : View S Rec) (other : ℕ) (w : View S Rec) (b : ℕ) → w.agent ≡ Some b → ((a : ℕ) → Covers w a → own_of r.by a v.seen ≡ own_of r.by a w.seen) → Joins (Shows r k holds may) id v other w (absorbing v w) (spent_view r)
@@ -178,7 +178,7 @@ module _ {K S Op Rec N : Type 0} (r : Rules K S Op Rec N) (k : K) where
         let others : (a : ℕ) → Among a (w.also ++ v.also) → Retired r k h.journal l1 a v.seen = λ a q. ⊎_elim (theirs a) (first.retired a id v at') (among_either a w.also v.also q) in
         let all : (a : ℕ) → Among a both.also → Retired r k h.journal l1 a v.seen = λ a. ⊎_elim (λ (q : agent_of w.agent ≡ a). subst (λ z. Retired r k h.journal l1 z v.seen) (sym (ap agent_of is) ∙ q) own) (others a) in
         let second : Shows r k holds may record { words = s.words; homes = s.homes; views = l2 } =
-        changed r k holds may s.words record { words = s.words; homes = s.homes; views = l1 } first id v both refl at' (refit h.journal v both f refl refl refl f.kept) (λ a q. q) (λ c q. (c, q, omega arith)) all
+        changed r k holds may s.words record { words = s.words; homes = s.homes; views = l1 } first id v both refl at' (refit h.journal v both f refl refl refl f.kept) (λ a q. q) (λ c q. (c, q, omega arith, refl)) all
         (λ q. (id, both, set_there l1 id v both at', still_seen h.journal v w q)) in
         let there' : get_elem? l2 other ≡ some left = set_else l1 id other both ne ∙ set_there s.views other w left before in
         let last : Shows r k holds may record { words = s.words; homes = s.homes; views = set l2 other (spent_view r) } =

@@ -106,9 +106,9 @@ module _ {K S Op Rec N : Type 0} (r : Rules K S Op Rec N) (laws : (k : K) → Ob
           each = each;
           kept = kept;
           below = below;
-          unborn = still_unborn r k (j ++ t ∷ []) s.views id v w at (λ b q. q) (λ c q. (c, q, omega arith)) (later_unborn r laws k j a op said s.views id v at is h.unborn);
+          unborn = still_unborn r k (j ++ t ∷ []) s.views id v w at (λ b q. q) (λ c q. (c, q, omega arith, refl)) (later_unborn r laws k j a op said s.views id v at is h.unborn);
           lone = still_one HandsOut s.views id v w at (λ q. q) h.lone;
-          retired = still_retired r k (j ++ t ∷ []) s.views id v w at (λ b q. q) (λ c q. (c, q, omega arith)) (λ b q. let x = h.retired b id v at q in record { steps = refl; passless = x.passless; handed = x.handed }) (later_retired r laws k j a op said s.views id v at is h.retired);
+          retired = still_retired r k (j ++ t ∷ []) s.views id v w at (λ b q. q) (λ c q. (c, q, omega arith, refl)) (λ b q. let x = h.retired b id v at q in record { steps = refl; passless = x.passless; handed = x.handed }) (later_retired r laws k j a op said s.views id v at is h.retired);
         },
         (
           record {
@@ -124,6 +124,7 @@ module _ {K S Op Rec N : Type 0} (r : Rules K S Op Rec N) (laws : (k : K) → Ob
             read = found ∙ ap (λ l. found_by r k l a op) e;
             answers = refl;
             mine = refl;
+            met = subst (λ l. LaterJournal r k (H k) (Y k) l v a) e met;
             now = record { lawful = lawful; opened = opened; below = below; each = each; kept = kept; mine = own; retired = λ b q. refl };
           },
           refl,

@@ -18,7 +18,7 @@ module _ {K S Op Rec N : Type 0} (r : Rules K S Op Rec N) (k : K) where
     pub below : AgentsBelow r.by (r.agents k) (r.opening k)
     pub someone : 0 < r.agents k
     -- they leave the agents after agent 0 with the record of a new pass
-    pub born : (b : ℕ) → 1 ≤ b → b < r.agents k → r.own k (r.opening k) b ≡ r.born
+    pub born : (b : ℕ) → 1 ≤ b → b < r.agents k → r.own k (r.opening k) b ≡ r.born k
 
   -- the passes of all agents are in this one
   abbrev pub OwnsAll : View S Rec → Type 0

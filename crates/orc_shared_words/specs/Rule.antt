@@ -49,9 +49,9 @@ module _ {K S Op Rec N : Type 0} (r : Rules K S Op Rec N) (k : K) where
     pub kept : Begins j v.kept
     pub pass : (a : ℕ) → v.agent ≡ Some a → Owns j v a
 
-  -- an agent whose pass isn't made yet: it has the record of a new pass, and no steps after the opening
-  pub record Unborn (j : List S) (views : List (View S Rec)) (a : ℕ) : Type 0 where
-    pub mine : r.own k j a ≡ r.born
+  -- an agent whose pass isn't made yet: it has the record that is handed out, and no steps after the opening
+  pub record Unborn (j : List S) (views : List (View S Rec)) (born : Rec) (a : ℕ) : Type 0 where
+    pub mine : r.own k j a ≡ born
     pub steps : own_of r.by a j ≡ own_of r.by a (r.opening k)
     pub passless : NoPass views a
 
@@ -83,7 +83,7 @@ module _ {K S Op Rec N : Type 0} (r : Rules K S Op Rec N) (k : K) where
     -- what the moves need besides: its steps are of agents of the machine
     pub below : AgentsBelow r.by (r.agents k) journal
     -- the numbers that a pass may still hand out are of agents without a pass
-    pub unborn : (a : ℕ) → EachView s.views (λ _ v. v.free ≡ Some a → (b : ℕ) → a ≤ b → b < r.agents k → Unborn journal s.views b)
+    pub unborn : (a : ℕ) → EachView s.views (λ _ v. v.free ≡ Some a → (b : ℕ) → a ≤ b → b < r.agents k → Unborn journal s.views v.born b)
     -- one pass hands out numbers
     pub lone : AtMostOne s.views HandsOut
     -- an agent whose pass was taken in for good steps no more

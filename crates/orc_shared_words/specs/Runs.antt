@@ -8,7 +8,7 @@ pub record Rules (K S Op Rec N : Type 0) : Type 1 where
   pub agents : K → ℕ
   -- the record of no agent, and that of a new pass
   pub blank : Rec
-  pub born : Rec
+  pub born : K → Rec
   -- of an agent with this record, the place of the operation's word
   pub place : K → ℕ → Op → Rec → ℕ
   -- of the number found there: the number written, the answer, and the record afterwards

@@ -47,7 +47,8 @@ module _ {K S Op Rec N : Type 0} (r : Rules K S Op Rec N) where
       pub read : found ≡ found_by r k (v.seen ++ between) agent op
       pub answers : n ≡ r.answer k agent op v.own found
       pub mine : w.own ≡ r.after k agent op v.own found
-      -- what it has seen is such a journal
+      -- what stands before its step is a journal that the pass may come upon, and so is what it has seen now
+      pub met : LaterJournal (v.seen ++ between) v agent
       pub now : LaterJournal w.seen w agent
 
   -- what the picked step tells

@@ -6,7 +6,7 @@ use Rattle.orc_heap.specs.declared.events.Act.{Act}
 use Rattle.orc_heap.specs.declared.events.Act.TheVariants.{Aim, Fill, Give, Look, Miss, Move}
 use Rattle.orc_heap.specs.declared.events.Event.{Event}
 use Rattle.orc_shared_words.specs.Runs.{Obeys, Rules}
-use Rattle.orc_shared_words.specs.declared.journal.Step.{Step}
+use Rattle.orc_shared_words.specs.declared.journal.JournalStep.{JournalStep}
 use Rattle.std.proofs.Common.{append-nil, append_assoc, ap, eq-eqb, ne_eqb, refl, sym, ◌∙◌}
 use Rattle.std.specs.Prelude.{Bool, List, None, Option, [], false, if◌then◌else◌, true, ℕ, ◌%◌, ◌++◌, ◌+◌, ◌==◌, ◌^◌, ◌∷◌, ◌≡◌, ◌≢◌}
 
@@ -16,38 +16,38 @@ ticked true n = (n + 1) % 2 ^ 64
 ticked false n = n
 
 module _ {N : Type 0} where
-  abbrev pub counts : ℕ → Option N → Step Bool N
+  abbrev pub counts : ℕ → Option N → JournalStep Bool N
   counts a said = record { agent = a; op = true; note = said }
 
-  abbrev pub looks : ℕ → Step Bool N
+  abbrev pub looks : ℕ → JournalStep Bool N
   looks a = record { agent = a; op = false; note = None }
 
   -- the word after these steps
-  abbrev pub ticks_from : ℕ → List (Step Bool N) → ℕ
+  abbrev pub ticks_from : ℕ → List (JournalStep Bool N) → ℕ
   ticks_from n [] = n
   ticks_from n (s ∷ ss) = ticks_from (ticked s.op n) ss
 
   -- what the agent found last, before these steps and after them
-  abbrev pub last_from : ℕ → ℕ → ℕ → List (Step Bool N) → ℕ
+  abbrev pub last_from : ℕ → ℕ → ℕ → List (JournalStep Bool N) → ℕ
   last_from a last n [] = last
   last_from a last n (s ∷ ss) = last_from a (if s.agent == a then n else last) (ticked s.op n) ss
 
   -- a count gives its agent a node
-  abbrev pub gift : Step Bool N → Bool → List (Event N)
+  abbrev pub gift : JournalStep Bool N → Bool → List (Event N)
   gift s true = record { agent = s.agent; act = Give; note = s.note } ∷ []
   gift s false = []
 
   -- the events of these steps
-  abbrev pub gifts : List (Step Bool N) → List (Event N)
+  abbrev pub gifts : List (JournalStep Bool N) → List (Event N)
   gifts [] = []
   gifts (s ∷ ss) = gift s s.op ++ gifts ss
 
   -- how journals run
-  abbrev pub tick_rules : Rules ℕ (Step Bool N) Bool ℕ N
+  abbrev pub tick_rules : Rules ℕ (JournalStep Bool N) Bool ℕ N
   tick_rules = record {
     agents = λ k. k;
     blank = 0;
-    born = 0;
+    born = λ k. 0;
     place = λ k a op last. 0;
     written = λ k a op last n. ticked op n;
     answer = λ k a op last n. n;
@@ -63,19 +63,19 @@ module _ {N : Type 0} where
     project = λ k j. gifts j;
   }
 
-  word_next : (n : ℕ) (j : List (Step Bool N)) (s : Step Bool N) → ticks_from n (j ++ s ∷ []) ≡ ticked s.op (ticks_from n j)
+  word_next : (n : ℕ) (j : List (JournalStep Bool N)) (s : JournalStep Bool N) → ticks_from n (j ++ s ∷ []) ≡ ticked s.op (ticks_from n j)
   word_next n [] s = refl
   word_next n (x ∷ xs) s = word_next (ticked x.op n) xs s
 
-  last_next : (a last n : ℕ) (j : List (Step Bool N)) (s : Step Bool N) → s.agent ≡ a → last_from a last n (j ++ s ∷ []) ≡ ticks_from n j
+  last_next : (a last n : ℕ) (j : List (JournalStep Bool N)) (s : JournalStep Bool N) → s.agent ≡ a → last_from a last n (j ++ s ∷ []) ≡ ticks_from n j
   last_next a last n [] s e = ap (λ (b : Bool). if b then n else last) (eq-eqb s.agent a e)
   last_next a last n (x ∷ xs) s e = last_next a (if x.agent == a then n else last) (ticked x.op n) xs s e
 
-  last_other : (a last n : ℕ) (j : List (Step Bool N)) (s : Step Bool N) → s.agent ≢ a → last_from a last n (j ++ s ∷ []) ≡ last_from a last n j
+  last_other : (a last n : ℕ) (j : List (JournalStep Bool N)) (s : JournalStep Bool N) → s.agent ≢ a → last_from a last n (j ++ s ∷ []) ≡ last_from a last n j
   last_other a last n [] s ne = ap (λ (b : Bool). if b then n else last) (ne_eqb s.agent a ne)
   last_other a last n (x ∷ xs) s ne = last_other a (if x.agent == a then n else last) (ticked x.op n) xs s ne
 
-  gifts_next : (j : List (Step Bool N)) (s : Step Bool N) → gifts (j ++ s ∷ []) ≡ gifts j ++ gift s s.op
+  gifts_next : (j : List (JournalStep Bool N)) (s : JournalStep Bool N) → gifts (j ++ s ∷ []) ≡ gifts j ++ gift s s.op
   gifts_next [] s = append-nil (gift s s.op)
   gifts_next (x ∷ xs) s = ap (λ l. gift x x.op ++ l) (gifts_next xs s) ∙ sym (append_assoc (gift x x.op) (gifts xs) (gift s s.op))
 

@@ -34,16 +34,16 @@ module _ {S Rec : Type 0} where
 module _ {K S Op Rec N : Type 0} (r : Rules K S Op Rec N) where
   -- a note has the list of its pass, and no agent
   abbrev pub note_of : View S Rec → View S Rec
-  note_of v = record { seen = v.seen; kept = []; agent = None; free = None; also = []; taken = []; own = r.blank }
+  note_of v = record { seen = v.seen; kept = []; agent = None; free = None; born = r.blank; also = []; taken = []; own = r.blank }
 
   -- a spent view knows nothing and has no agent
   abbrev pub spent_view : View S Rec
-  spent_view = record { seen = []; kept = []; agent = None; free = None; also = []; taken = []; own = r.blank }
+  spent_view = record { seen = []; kept = []; agent = None; free = None; born = r.blank; also = []; taken = []; own = r.blank }
 
-  -- the pass of the next agent: it has seen what the maker has
+  -- the pass of the next agent: it has seen what the maker has, and its record is the one that the maker hands out
   abbrev pub next_pass : View S Rec → View S Rec
-  next_pass v = record { seen = v.seen; kept = []; agent = v.free; free = None; also = []; taken = []; own = r.born }
+  next_pass v = record { seen = v.seen; kept = []; agent = v.free; free = None; born = r.blank; also = []; taken = []; own = v.born }
 
   -- the first pass is that of agent 0, and has seen the opening
   abbrev pub first_view : K → View S Rec
-  first_view k = record { seen = r.opening k; kept = []; agent = Some 0; free = Some 1; also = []; taken = []; own = r.own k (r.opening k) 0 }
+  first_view k = record { seen = r.opening k; kept = []; agent = Some 0; free = Some 1; born = r.born k; also = []; taken = []; own = r.own k (r.opening k) 0 }

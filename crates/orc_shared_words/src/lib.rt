@@ -9,7 +9,7 @@ mod operation;
 mod rule;
 mod shared_words;
 
-pub use journal::{Step, View};
+pub use journal::{JournalStep, View};
 pub use last_words::LastWords;
 pub use machine::Machine;
 pub use operation::Operation;

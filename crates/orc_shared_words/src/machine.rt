@@ -1,9 +1,9 @@
 //! Machines: how a journal runs, and what a pass does for a step.
 
-ghost use Rattle.std.specs.Prelude.{◌≡◌, ℕ};
+ghost use Rattle.std.specs.Prelude.{◌≡◌, List, ℕ};
 ghost use Rattle.orc_heap.specs.Heap.{HeapNumbers};
 ghost use Rattle.orc_shared_words.specs.Operations.{place_of, written_by, answer_by};
-ghost use Rattle.orc_shared_words.specs.Runs.{Rules, Obeys};
+ghost use Rattle.orc_shared_words.specs.Runs.{Rules, Obeys, found_by};
 
 use crate::operation::Operation;
 
@@ -27,8 +27,8 @@ pub trait Machine<N> {
     // the record that a pass shows
     ghost shows: { Self.Own → Self.Record };
 
-    // there is room for what the step puts into the record
-    ghost has_room: { Self.Shape → Self.Op → Self.Own → Type 0 };
+    // there is room in the record for what a step puts there that found this number
+    ghost has_room: { Self.Shape → Self.Op → Self.Record → ℕ → Type 0 };
 
     // the numbers of the heap
     ghost numbers: { Self.Shape → HeapNumbers };
@@ -39,15 +39,23 @@ pub trait Machine<N> {
     // the run follows the steps
     ghost obeys: { (k : Self.Shape) → Obeys rules k };
 
+    // after each lawful journal there is room for the next step
+    ghost leaves_room: { (k : Self.Shape) (j : List Self.Step) (a : ℕ) (op : Self.Op) → rules.lawful k j
+        → rules.allowed k a op (rules.own k j a)
+        → has_room k op (rules.own k j a) (found_by rules k j a op) };
+
     /// The step's operation on the words.
     fn operation(shape: &Self::Shape, agent: u32, op: &Self::Op, own: &Self::Own) -> Operation
+        requires allowed { rules.allowed shape.now agent op.now (shows own.now) }
         ensures place { place_of result ≡ rules.place shape.now agent op.now (shows own.now) }
         ensures written { written_by result ≡ rules.written shape.now agent op.now (shows own.now) }
         ensures answer { answer_by result ≡ rules.answer shape.now agent op.now (shows own.now) };
 
     /// Changes the record as a step that answered `n` does.
     fn keep(shape: &Self::Shape, agent: u32, op: &Self::Op, own: &mut Self::Own, n: u64)
-        requires room { has_room shape.now op.now own.old }
+        requires allowed { rules.allowed shape.now agent op.now (shows own.old) }
+        requires room { (found : ℕ) × (n ≡ rules.answer shape.now agent op.now (shows own.old) found)
+            × has_room shape.now op.now (shows own.old) found }
         ensures after { (found : ℕ) → n ≡ rules.answer shape.now agent op.now (shows own.old) found
             → shows own.new ≡ rules.after shape.now agent op.now (shows own.old) found };
 }

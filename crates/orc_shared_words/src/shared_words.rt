@@ -115,7 +115,7 @@ impl<M: Machine<D::Note>, D: Discipline> SharedWords<M, D> {
     // the pass of the next agent
     fn hand_out(&self, first: &mut SharedPass<M, D>, number: u32, own: M::Own) -> SharedPass<M, D>
         requires table { first.old.seat.table_id ≡ self.now.table.shared.table_id }
-        requires own { M.shows own ≡ M.rules.born }
+        requires own { M.shows own ≡ first.old.seat.me.0.born }
         requires free { (first.old.seat.me.0.free ≡ Some number) × (number < M.rules.agents self.now.shape) }
         ensures table { (first.new.seat.table_id ≡ first.old.seat.table_id) × (result.seat.table_id ≡ first.old.seat.table_id) }
         ensures agents { (first.new.agent ≡ first.old.agent) × (result.agent ≡ number) }
@@ -138,7 +138,6 @@ impl<M: Machine<D::Note>, D: Discipline> SharedWords<M, D> {
         requires table { p.old.seat.table_id ≡ self.now.table.shared.table_id }
         requires inside { M.rules.place self.now.shape p.old.agent op.now (M.shows p.old.own) < self.now.table.shared.table_id.words }
         requires allowed { M.rules.allowed self.now.shape p.old.agent op.now (M.shows p.old.own) }
-        requires room { M.has_room self.now.shape op.now p.old.own }
         requires licensed { Licensed M.rules self.now.shape (D.holds (M.numbers self.now.shape)) (D.may (M.numbers self.now.shape)) p.old.seat.me.0 p.old.agent op.now note.now }
         ensures table { p.new.seat.table_id ≡ p.old.seat.table_id }
         ensures agent { p.new.agent ≡ p.old.agent }

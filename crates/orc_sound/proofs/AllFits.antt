@@ -7,7 +7,7 @@ use Rattle.orc_words.specs.Packed.{bit, sequence_of}
 use Rattle.orc_words.specs.declared.place.Word.TheVariants.{Counter, Enrolled, Gate, Handover}
 use Rattle.orc_core.proofs.Within.{may_parts}
 use Rattle.orc_core.specs.Machine.{Machine, is_allowed, new_machine, nobody, record_at, step, word_in}
-use Rattle.orc_core.specs.Parts.{checked_below, names}
+use Rattle.orc_core.specs.RecordParts.{checked_below, names}
 use Rattle.orc_core.specs.Runs.{IsLawful, run}
 use Rattle.orc_core.specs.declared.ops.CounterUse.TheVariants.{Check, End, Start}
 use Rattle.orc_core.specs.declared.ops.Op.{Op}

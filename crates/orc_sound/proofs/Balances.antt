@@ -8,7 +8,7 @@ use Rattle.orc_words.specs.declared.place.Word.{Word}
 use Rattle.orc_words.specs.declared.place.Word.TheVariants.{Counter, Gate, Next, Root}
 use Rattle.orc_core.specs.Actions.{action_of, word_after}
 use Rattle.orc_core.specs.After.{after}
-use Rattle.orc_core.specs.Parts.{names, same_target}
+use Rattle.orc_core.specs.RecordParts.{names, same_target}
 use Rattle.orc_core.specs.declared.ops.Op.{Op}
 use Rattle.orc_core.specs.declared.ops.Op.TheVariants.{Dec, Fill, Free, GateTake, Inc, LinkCas, LinkStore, SetRetired, Unretire}
 use Rattle.orc_core.specs.declared.records.Agent.{Agent}

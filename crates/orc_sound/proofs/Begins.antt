@@ -10,7 +10,7 @@ use Rattle.orc_words.specs.Places.{IsWithin, place, places}
 use Rattle.orc_words.specs.declared.place.Word.{Word}
 use Rattle.orc_words.specs.declared.place.Word.TheVariants.{Counter, Enrolled, First, Gate, Handover, Next, Root, Second, Slot}
 use Rattle.orc_core.specs.Machine.{first_word, new_machine, nobody}
-use Rattle.orc_core.specs.Parts.{names}
+use Rattle.orc_core.specs.RecordParts.{names}
 use Rattle.orc_core.specs.declared.records.SlotUse.TheVariants.{Empty}
 use Rattle.orc_sound.proofs.Bridge.{is_within-true}
 use Rattle.orc_sound.proofs.Facts.{Counted, SlotsFit, handed_in, hands_row, linked_in, out, to_row}
@@ -18,7 +18,7 @@ use Rattle.orc_sound.proofs.Outs.{null_row}
 use Rattle.orc_sound.proofs.Sums.{sum_zero}
 use Rattle.orc_sound.proofs.World.{World, is_within, world_of}
 use Rattle.orc_sound.specs.Linked.{uses}
-use Rattle.orc_sound.specs.Parts.{slot_word}
+use Rattle.orc_sound.specs.SoundParts.{slot_word}
 use Rattle.orc_sound.specs.RetirementToken.{places_of}
 
 -- what a word holds at first

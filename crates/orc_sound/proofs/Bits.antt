@@ -9,7 +9,7 @@ use Rattle.orc_words.specs.declared.place.Word.TheVariants.{Counter, Enrolled, F
 use Rattle.orc_core.proofs.Within.{and_both}
 use Rattle.orc_core.specs.Actions.{clear_word}
 use Rattle.orc_core.specs.Allowed.{fits}
-use Rattle.orc_core.specs.Parts.{doom_cut, names, scans}
+use Rattle.orc_core.specs.RecordParts.{doom_cut, names, scans}
 use Rattle.orc_core.specs.declared.ops.Op.{Op}
 use Rattle.orc_core.specs.declared.ops.Op.TheVariants.{CounterLoad, Dec, Fill, Inc, LinkCas, LinkLoad, Read, SetRetired, Unretire}
 use Rattle.orc_core.specs.declared.records.Agent.{Agent}

@@ -6,7 +6,7 @@ use Rattle.orc_words.specs.Packed.{bit, count_bits}
 use Rattle.orc_words.specs.Places.{IsWithin}
 use Rattle.orc_words.specs.declared.place.Word.{Word}
 use Rattle.orc_words.specs.declared.place.Word.TheVariants.{Counter, Enrolled, First, Gate, Handover, Next, Root, Second, Slot}
-use Rattle.orc_core.specs.Parts.{names}
+use Rattle.orc_core.specs.RecordParts.{names}
 use Rattle.orc_core.specs.declared.records.Agent.{Agent}
 use Rattle.orc_sound.proofs.Facts.{Balanced, decs, incs, linked_in, out, to_row}
 use Rattle.orc_sound.proofs.Sums.{sum_put}

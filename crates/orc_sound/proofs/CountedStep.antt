@@ -11,7 +11,7 @@ use Rattle.orc_core.proofs.Order.{nothing_pending}
 use Rattle.orc_core.proofs.Within.{and_both, fits_within}
 use Rattle.orc_core.specs.Actions.{action_of}
 use Rattle.orc_core.specs.After.{after, scan_on}
-use Rattle.orc_core.specs.Parts.{any_holds, doom_cut, names, saw, scan_found, scans}
+use Rattle.orc_core.specs.RecordParts.{any_holds, doom_cut, names, saw, scan_found, scans}
 use Rattle.orc_core.specs.declared.ops.CounterUse.TheVariants.{Check, End, Start}
 use Rattle.orc_core.specs.declared.ops.Op.{Op}
 use Rattle.orc_core.specs.declared.ops.Op.TheVariants.{CounterLoad, Dec, Fill, Free, GateTake, Hand, Inc, LinkCas, LinkLoad, LinkStore, Read, SetRetired, SlotLook, TakeIn, Unretire}

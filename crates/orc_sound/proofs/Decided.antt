@@ -8,9 +8,9 @@ use Rattle.orc_words.specs.declared.place.Word.TheVariants.{Counter}
 use Rattle.orc_core.proofs.Within.{and_both}
 use Rattle.orc_core.specs.Counts.{is_out, links_to}
 use Rattle.orc_core.specs.Machine.{Machine, record_at, word_in}
-use Rattle.orc_core.specs.Parts.{holds, names, saw}
+use Rattle.orc_core.specs.RecordParts.{holds, names, saw}
 use Rattle.orc_core.specs.Sums.{some_below}
-use Rattle.orc_core.specs.declared.records.Seen.{Seen}
+use Rattle.orc_core.specs.declared.records.Reading.{Reading}
 use Rattle.orc_core.specs.declared.records.SlotUse.{SlotUse}
 use Rattle.orc_core.specs.declared.records.SlotUse.TheVariants.{Empty, Held, Published}
 use Rattle.orc_sound.proofs.Seats.{either}
@@ -42,7 +42,7 @@ pub passes_all : (o : Option ℕ) (p : ℕ → Bool) → ((r : ℕ) → names o 
 passes_all None p h = refl
 passes_all (Some q) p h = h q (eq-eqb q q refl)
 
-pub seen_row : (o : Option Seen) (r : ℕ) → names (row_seen o) r ≡ saw o r
+pub seen_row : (o : Option Reading) (r : ℕ) → names (row_seen o) r ≡ saw o r
 seen_row None r = refl
 seen_row (Some s) r = refl
 

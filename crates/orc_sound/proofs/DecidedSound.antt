@@ -9,7 +9,7 @@ use Rattle.orc_words.specs.declared.place.Word.TheVariants.{Counter, Enrolled, G
 use Rattle.orc_core.proofs.Within.{and_both}
 use Rattle.orc_core.specs.Counts.{is_out, is_retired, links_to}
 use Rattle.orc_core.specs.Machine.{IsWhole, Machine, nobody, record_at, word_in}
-use Rattle.orc_core.specs.Parts.{any_holds, doom_bare, holds, is_empty, is_published, kept, names, number_of, saw, scan_at, scan_empty, scan_found, scans, slot_of}
+use Rattle.orc_core.specs.RecordParts.{any_holds, doom_bare, holds, is_empty, is_published, kept, names, number_of, saw, scan_at, scan_empty, scan_found, scans, slot_of}
 use Rattle.orc_core.specs.Sums.{some_below}
 use Rattle.orc_core.specs.declared.records.Agent.{Agent}
 use Rattle.orc_core.specs.declared.records.Doom.{Doom}
@@ -28,7 +28,7 @@ use Rattle.orc_sound.specs.Decisions.{agent_fits, all_below, all_fit, count_fits
 use Rattle.orc_sound.specs.Doomed.{DoomedRows, FreeRows, dooms, dooms_cut}
 use Rattle.orc_sound.specs.Linked.{IsOut, IsUnreachable, changes, held, holds_row, linked, uses}
 use Rattle.orc_sound.specs.NoLeak.{has_reason}
-use Rattle.orc_sound.specs.Parts.{Enrolment, FreshRows, Looks, Ranges, Scans, Slots, slot_word}
+use Rattle.orc_sound.specs.SoundParts.{Enrolment, FreshRows, Looks, Ranges, Scans, Slots, slot_word}
 use Rattle.orc_sound.specs.QuietScan.{IsLeft, is_linked_anew}
 use Rattle.orc_sound.specs.RetirementToken.{RetirementToken, tokens}
 use Rattle.orc_sound.specs.Sound.{IsSound}

@@ -8,7 +8,7 @@ use Rattle.orc_words.specs.declared.place.Word.TheVariants.{Counter, Enrolled, G
 use Rattle.orc_core.proofs.Within.{and_both}
 use Rattle.orc_core.specs.Counts.{is_out, is_retired, links_to}
 use Rattle.orc_core.specs.Machine.{Machine, nobody, record_at, word_in}
-use Rattle.orc_core.specs.Parts.{any_holds, holds, is_published, names, number_of, saw, slot_of}
+use Rattle.orc_core.specs.RecordParts.{any_holds, holds, is_published, names, number_of, saw, slot_of}
 use Rattle.orc_core.specs.Sums.{some_below}
 use Rattle.orc_core.specs.declared.records.Agent.{Agent}
 use Rattle.orc_core.specs.declared.records.Doom.{Doom}
@@ -24,7 +24,7 @@ use Rattle.orc_sound.specs.Decisions.{agent_fits, all_below, all_fit, count_fits
 use Rattle.orc_sound.specs.Doomed.{FreeRows, dooms}
 use Rattle.orc_sound.specs.Linked.{changes, linked, uses}
 use Rattle.orc_sound.specs.NoLeak.{has_reason}
-use Rattle.orc_sound.specs.Parts.{Enrolment, FreshRows, Looks, Slots, slot_word}
+use Rattle.orc_sound.specs.SoundParts.{Enrolment, FreshRows, Looks, Slots, slot_word}
 use Rattle.orc_sound.specs.QuietScan.{IsLeft, is_linked_anew}
 use Rattle.orc_sound.specs.RetirementToken.{tokens}
 use Rattle.orc_sound.specs.Sound.{IsSound}

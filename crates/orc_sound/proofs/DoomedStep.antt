@@ -11,7 +11,7 @@ use Rattle.orc_core.proofs.Within.{and_both}
 use Rattle.orc_core.specs.After.{after, bared, cut_of}
 use Rattle.orc_core.specs.Allowed.{fits, may_change, may_target}
 use Rattle.orc_core.specs.Machine.{nobody}
-use Rattle.orc_core.specs.Parts.{doom_bare, doom_cut, doom_uncut, is_empty, kept, names, scans, slot_of}
+use Rattle.orc_core.specs.RecordParts.{doom_bare, doom_cut, doom_uncut, is_empty, kept, names, scans, slot_of}
 use Rattle.orc_core.specs.declared.ops.CounterUse.TheVariants.{Check, End, Start}
 use Rattle.orc_core.specs.declared.ops.Op.{Op}
 use Rattle.orc_core.specs.declared.ops.Op.TheVariants.{Arm, CounterLoad, Dec, Fill, Free, GateTake, Inc, LinkCas, LinkLoad, LinkStore, Read, SetRetired, Unretire}

@@ -7,14 +7,14 @@ use Rattle.orc_words.specs.declared.place.Word.{Word}
 use Rattle.orc_words.specs.declared.place.Word.TheVariants.{Counter, Enrolled, Gate, Handover, Next, Root, Slot}
 use Rattle.orc_core.specs.Allowed.{fits, forced, stands}
 use Rattle.orc_core.specs.Machine.{nobody}
-use Rattle.orc_core.specs.Parts.{any_holds, doom_bare, is_published, names, saw, slot_of}
+use Rattle.orc_core.specs.RecordParts.{any_holds, doom_bare, is_published, names, saw, slot_of}
 use Rattle.orc_core.specs.Sums.{sum_below}
 use Rattle.orc_core.specs.declared.ops.Op.{Op}
 use Rattle.orc_core.specs.declared.records.Agent.{Agent}
 use Rattle.orc_sound.proofs.World.{World, is_within}
 use Rattle.orc_sound.specs.Doomed.{dooms, dooms_cut}
 use Rattle.orc_sound.specs.Linked.{uses}
-use Rattle.orc_sound.specs.Parts.{slot_word}
+use Rattle.orc_sound.specs.SoundParts.{slot_word}
 use Rattle.orc_sound.specs.RetirementToken.{HasOnePart, places_of}
 
 -- 1 where the link word names the row

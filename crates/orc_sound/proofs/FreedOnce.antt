@@ -9,7 +9,7 @@ use Rattle.orc_core.proofs.Within.{may_within}
 use Rattle.orc_core.specs.Actions.{action_of, answer_of}
 use Rattle.orc_core.specs.Counts.{is_out}
 use Rattle.orc_core.specs.Machine.{Machine, answer, is_allowed, record_at, step, word_in, word_read}
-use Rattle.orc_core.specs.Parts.{number_of}
+use Rattle.orc_core.specs.RecordParts.{number_of}
 use Rattle.orc_core.specs.Runs.{IsLawful, run}
 use Rattle.orc_core.specs.declared.ops.Op.{Op}
 use Rattle.orc_core.specs.declared.ops.Op.TheVariants.{Dec, Enroll, Free, GateTake, Inc, Unretire}

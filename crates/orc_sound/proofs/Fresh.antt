@@ -11,7 +11,7 @@ use Rattle.orc_core.proofs.Within.{and_both}
 use Rattle.orc_core.specs.Actions.{action_of, clear_word, word_after}
 use Rattle.orc_core.specs.After.{after}
 use Rattle.orc_core.specs.Allowed.{fits, may_change, may_place, may_target}
-use Rattle.orc_core.specs.Parts.{any_holds, doom_uncut, is_empty, names, same_target, slot_of}
+use Rattle.orc_core.specs.RecordParts.{any_holds, doom_uncut, is_empty, names, same_target, slot_of}
 use Rattle.orc_core.specs.declared.ops.Op.{Op}
 use Rattle.orc_core.specs.declared.ops.Op.TheVariants.{Arm, GateTake, LinkCas, LinkLoad, LinkStore, SetRetired}
 use Rattle.orc_core.specs.declared.records.Agent.{Agent}

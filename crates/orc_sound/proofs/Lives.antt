@@ -9,7 +9,7 @@ use Rattle.orc_words.specs.declared.place.Word.TheVariants.{Counter, Enrolled, F
 use Rattle.orc_core.proofs.Within.{and_both}
 use Rattle.orc_core.specs.Actions.{action_of, word_after}
 use Rattle.orc_core.specs.After.{after}
-use Rattle.orc_core.specs.Parts.{number_of, saw}
+use Rattle.orc_core.specs.RecordParts.{number_of, saw}
 use Rattle.orc_core.specs.declared.ops.CounterUse.TheVariants.{Check, End, Start}
 use Rattle.orc_core.specs.declared.ops.Op.{Op}
 use Rattle.orc_core.specs.declared.ops.Op.TheVariants.{CounterLoad, Fill, Free, GateLook, GateTake, LinkCas, LinkLoad, LinkStore, Read}
@@ -48,7 +48,7 @@ free_gate b m q r s l o = cases (r == q) refl
     cases true e = rw (eqb-true r q e) (inr (inr (o, omega arith)))
     cases false e = inl refl
 
-gate_change : (b : Bounds) (z : World) (a : ℕ) (op : Op) (r : ℕ) → LawfulStep b z a op → LivesFit b z → GateChange b (z.memory (Gate r)) ((step_world z a op).memory (Gate r))
+pub gate_change : (b : Bounds) (z : World) (a : ℕ) (op : Op) (r : ℕ) → LawfulStep b z a op → LivesFit b z → GateChange b (z.memory (Gate r)) ((step_world z a op).memory (Gate r))
 gate_change b z a (GateLook q) r p s = inl (write_same z.memory (Gate q) (Gate r))
 gate_change b z a (GateTake q) r p s = take_gate b z.memory q r (number_of (z.seats a).looked) (ltb-true (number_of (z.seats a).looked) b.limit (and_both _ _ (and_both _ _ p.fits).0).1)
 gate_change b z a (LinkLoad w k) r p s = inl (write_same z.memory w (Gate r))

@@ -7,7 +7,7 @@ use Rattle.orc_words.specs.Packed.{bit, named}
 use Rattle.orc_core.proofs.Within.{and_both}
 use Rattle.orc_core.specs.After.{after, bared, cut_of, scan_on}
 use Rattle.orc_core.specs.Allowed.{fits}
-use Rattle.orc_core.specs.Parts.{kept, scan_found, scans}
+use Rattle.orc_core.specs.RecordParts.{kept, scan_found, scans}
 use Rattle.orc_core.specs.declared.ops.CounterUse.TheVariants.{Check, End, Start}
 use Rattle.orc_core.specs.declared.ops.Op.{Op}
 use Rattle.orc_core.specs.declared.ops.Op.TheVariants.{CounterLoad, Free, Hand, LinkStore, SlotLook, Unretire}

@@ -10,7 +10,7 @@ use Rattle.orc_words.specs.declared.place.Word.TheVariants.{Counter, Enrolled, G
 use Rattle.orc_core.proofs.Within.{and_both}
 use Rattle.orc_core.specs.Actions.{action_of, word_after}
 use Rattle.orc_core.specs.Allowed.{fits, may_place}
-use Rattle.orc_core.specs.Parts.{any_holds, doom_bare, doom_uncut, names, scans}
+use Rattle.orc_core.specs.RecordParts.{any_holds, doom_bare, doom_uncut, names, scans}
 use Rattle.orc_core.specs.declared.ops.Op.{Op}
 use Rattle.orc_core.specs.declared.ops.Op.TheVariants.{Arm, Free, GateTake, LinkCas, LinkLoad, LinkStore, SetRetired}
 use Rattle.orc_core.specs.declared.records.Agent.{Agent}

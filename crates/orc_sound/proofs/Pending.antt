@@ -5,30 +5,30 @@ use Rattle.std.specs.Prelude.{None, Option, Some}
 use Rattle.orc_core.proofs.Order.{nothing_pending}
 use Rattle.orc_core.specs.After.{after}
 use Rattle.orc_core.specs.Allowed.{forced, in_order}
-use Rattle.orc_core.specs.Parts.{is_due, names, saw}
+use Rattle.orc_core.specs.RecordParts.{is_due, names, saw}
 use Rattle.orc_core.specs.declared.ops.Op.{Op}
 use Rattle.orc_core.specs.declared.ops.Op.TheVariants.{Arm, Dec, Inc, SetRetired}
 use Rattle.orc_core.specs.declared.records.Agent.{Agent}
-use Rattle.orc_core.specs.declared.records.Seen.{Seen}
+use Rattle.orc_core.specs.declared.records.Reading.{Reading}
 
 -- an increment is made where no row is due
-pub inc_waits : (due : Option Seen) (inc dec : Option ℕ) (q : ℕ) → in_order due inc dec (Inc q) ≡ true → due ≡ None
+pub inc_waits : (due : Option Reading) (inc dec : Option ℕ) (q : ℕ) → in_order due inc dec (Inc q) ≡ true → due ≡ None
 inc_waits None inc dec q h = refl
 inc_waits (Some s) inc dec q h = absurd (false≢true h)
 
 -- a decrement, and its arming, wait for the increment too
-pub dec_waits : (due : Option Seen) (inc dec : Option ℕ) (q : ℕ) → in_order due inc dec (Dec q) ≡ true → (due ≡ None) × (inc ≡ None)
+pub dec_waits : (due : Option Reading) (inc dec : Option ℕ) (q : ℕ) → in_order due inc dec (Dec q) ≡ true → (due ≡ None) × (inc ≡ None)
 dec_waits None None dec q h = (refl, refl)
 dec_waits None (Some r) dec q h = absurd (false≢true h)
 dec_waits (Some s) inc dec q h = absurd (false≢true h)
 
-pub arm_waits : (due : Option Seen) (inc dec : Option ℕ) (q : ℕ) → in_order due inc dec (Arm q) ≡ true → (due ≡ None) × (inc ≡ None)
+pub arm_waits : (due : Option Reading) (inc dec : Option ℕ) (q : ℕ) → in_order due inc dec (Arm q) ≡ true → (due ≡ None) × (inc ≡ None)
 arm_waits None None dec q h = (refl, refl)
 arm_waits None (Some r) dec q h = absurd (false≢true h)
 arm_waits (Some s) inc dec q h = absurd (false≢true h)
 
 -- a bit is tried for the due row, or with nothing pending
-pub try_waits : (due : Option Seen) (inc dec : Option ℕ) (q n : ℕ) → in_order due inc dec (SetRetired q n) ≡ true → (is_due due q n ≡ true) ⊎ ((due ≡ None) × (inc ≡ None) × (dec ≡ None))
+pub try_waits : (due : Option Reading) (inc dec : Option ℕ) (q n : ℕ) → in_order due inc dec (SetRetired q n) ≡ true → (is_due due q n ≡ true) ⊎ ((due ≡ None) × (inc ≡ None) × (dec ≡ None))
 try_waits (Some s) inc dec q n h = inl (grind arith)
 try_waits None (Some r) dec q n h = absurd (false≢true h)
 try_waits None None (Some r) q n h = absurd (false≢true h)
@@ -38,7 +38,7 @@ pub no_name : (o : Option ℕ) (r : ℕ) → o ≡ None → names o r ≡ true �
 no_name None r h k = false≢true k
 no_name (Some x) r h k = cc
 
-pub not_seen : (o : Option Seen) (r : ℕ) → o ≡ None → saw o r ≡ true → ⊥
+pub not_seen : (o : Option Reading) (r : ℕ) → o ≡ None → saw o r ≡ true → ⊥
 not_seen None r h k = false≢true k
 not_seen (Some x) r h k = cc
 

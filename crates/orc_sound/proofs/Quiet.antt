@@ -11,7 +11,7 @@ use Rattle.orc_core.proofs.Within.{and_both}
 use Rattle.orc_core.specs.Actions.{action_of}
 use Rattle.orc_core.specs.After.{after, promoted}
 use Rattle.orc_core.specs.Allowed.{fits, forced, may_place}
-use Rattle.orc_core.specs.Parts.{any_holds, holds, names, scan_empty, scans, slot_of}
+use Rattle.orc_core.specs.RecordParts.{any_holds, holds, names, scan_empty, scans, slot_of}
 use Rattle.orc_core.specs.Sums.{sum_below}
 use Rattle.orc_core.specs.declared.ops.CounterUse.TheVariants.{Check, End, Start}
 use Rattle.orc_core.specs.declared.ops.Op.{Op}

@@ -12,7 +12,7 @@ use Rattle.orc_core.proofs.Within.{and_both}
 use Rattle.orc_core.specs.Actions.{action_of, clear_word, word_after}
 use Rattle.orc_core.specs.After.{after}
 use Rattle.orc_core.specs.Allowed.{fits, may_change, may_target}
-use Rattle.orc_core.specs.Parts.{checked_below, doom_uncut, is_empty, names, same_target, slot_of}
+use Rattle.orc_core.specs.RecordParts.{checked_below, doom_uncut, is_empty, names, same_target, slot_of}
 use Rattle.orc_core.specs.Sums.{sum_below}
 use Rattle.orc_core.specs.declared.ops.CounterUse.TheVariants.{Check, End, Start}
 use Rattle.orc_core.specs.declared.ops.Op.{Op}

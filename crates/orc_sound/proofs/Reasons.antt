@@ -11,14 +11,14 @@ use Rattle.orc_core.proofs.Within.{and_both}
 use Rattle.orc_core.specs.Actions.{action_of, clear_word, word_after}
 use Rattle.orc_core.specs.After.{after, bared, cut_of, due_after}
 use Rattle.orc_core.specs.Allowed.{fits, forced}
-use Rattle.orc_core.specs.Parts.{doom_bare, doom_cut, holds, is_due, kept, names, number_of, same_target, scan_empty, scans, slot_of}
+use Rattle.orc_core.specs.RecordParts.{doom_bare, doom_cut, holds, is_due, kept, names, number_of, same_target, scan_empty, scans, slot_of}
 use Rattle.orc_core.specs.Sums.{sum_below}
 use Rattle.orc_core.specs.declared.ops.CounterUse.TheVariants.{Check, End, Start}
 use Rattle.orc_core.specs.declared.ops.Op.{Op}
 use Rattle.orc_core.specs.declared.ops.Op.TheVariants.{CounterLoad, Dec, Fill, Free, GateLook, GateTake, Inc, LinkCas, LinkLoad, LinkStore, Read, SetRetired, Unretire}
 use Rattle.orc_core.specs.declared.records.Agent.{Agent}
 use Rattle.orc_core.specs.declared.records.Doom.{Doom}
-use Rattle.orc_core.specs.declared.records.Seen.{Seen}
+use Rattle.orc_core.specs.declared.records.Reading.{Reading}
 use Rattle.orc_sound.proofs.Balances.{same_names}
 use Rattle.orc_sound.proofs.DoomedStep.{fill_counter}
 use Rattle.orc_sound.proofs.Facts.{out}
@@ -59,7 +59,7 @@ no_leak_step s z n a e r h (inr (inl k)) l =
     rw k.0 (let o = k.1 in let q = k.2 in omega arith)
 
 -- a counted word is at a count other than 0, or has the bit, or is due
-counted : (w r : ℕ) (due : Option Seen) → 0 < shows w + bit (is_due (due_after r w due) r (sequence_of w))
+counted : (w r : ℕ) (due : Option Reading) → 0 < shows w + bit (is_due (due_after r w due) r (sequence_of w))
 counted w r due = cases (count_bits w == 4194304) (retired_bit w == 0) refl refl
   where
     cases : (t u : Bool) → (count_bits w == 4194304) ≡ t → (retired_bit w == 0) ≡ u → 0 < bit (not (count_bits w == 4194304)) + retired_bit w + bit (is_due (cond ((count_bits w == 4194304) && (retired_bit w == 0)) (Some (record { row = r; number = sequence_of w })) due) r (sequence_of w))
@@ -73,7 +73,7 @@ Keeps m a op d r = Reason m (write m (action_of a op d).word (word_after (action
 fill_gate : (m : Word → ℕ) (q w v r : ℕ) → out (write m (cond (w == 0) (First q) (Second q)) v (Gate r)) ≤ out (m (Gate r))
 fill_gate m q w v r = grind arith
 
-same_due : (q r x : ℕ) (o : Option Seen) (s : ℕ) → is_none o ≡ true → (q == r) ≡ false → bit (is_due o r s) ≤ bit (is_due (due_after q x o) r s)
+same_due : (q r x : ℕ) (o : Option Reading) (s : ℕ) → is_none o ≡ true → (q == r) ≡ false → bit (is_due o r s) ≤ bit (is_due (due_after q x o) r s)
 same_due q r x None s h n = omega arith
 same_due q r x (Some k) s h n = absurd (false≢true h)
 
@@ -135,7 +135,7 @@ cut_bared : (o : Option Doom) (q : ℕ) → doom_cut o q ≡ true → doom_bare 
 cut_bared None q h = h
 cut_bared (Some x) q h = grind arith
 
-due_if : (t : Bool) (q r x s : ℕ) (o : Option Seen) → is_none o ≡ true → (q == r) ≡ false → bit (is_due o r s) ≤ bit (is_due (cond t (due_after q x o) o) r s)
+due_if : (t : Bool) (q r x s : ℕ) (o : Option Reading) → is_none o ≡ true → (q == r) ≡ false → bit (is_due o r s) ≤ bit (is_due (cond t (due_after q x o) o) r s)
 due_if true q r x s o h n = same_due q r x o s h n
 due_if false q r x s o h n = omega arith
 
@@ -147,7 +147,7 @@ shows_other v n h e = cases (count_bits v == 4194304) refl
     cases true c = let k = eqb-true (count_bits v) 4194304 c in let g = eqb-false v (clear_word n) h in let d : v ≢ clear_word n = g in omega arith
 
 -- the due of a row at another sequence, or of another row, is no reason
-due_here : (o : Option Seen) (q n r s : ℕ) → (is_due o q n ≡ true) ⊎ (is_none o ≡ true) → (is_due o r s ≡ true) → (q ≡ r) × (s ≡ n)
+due_here : (o : Option Reading) (q n r s : ℕ) → (is_due o q n ≡ true) ⊎ (is_none o ≡ true) → (is_due o r s ≡ true) → (q ≡ r) × (s ≡ n)
 due_here None q n r s h k = absurd (false≢true k)
 due_here (Some x) q n r s (inr h) k = absurd (false≢true h)
 due_here (Some x) q n r s (inl h) k = let a = and_both _ _ h in let c = and_both _ _ k in (sym (eqb-true x.row q a.0) ∙ eqb-true x.row r c.0, sym (eqb-true x.number s c.1) ∙ eqb-true x.number n a.1)

@@ -11,7 +11,7 @@ use Rattle.orc_core.specs.Actions.{action_of, clear_word, word_after}
 use Rattle.orc_core.specs.After.{after}
 use Rattle.orc_core.specs.Allowed.{fits}
 use Rattle.orc_core.specs.Listed.{Listed, listed_more, listed_name, listed_rest}
-use Rattle.orc_core.specs.Parts.{names, scan_found, scanned, scans}
+use Rattle.orc_core.specs.RecordParts.{names, scan_found, scanned, scans}
 use Rattle.orc_core.specs.Sums.{sum_below}
 use Rattle.orc_core.specs.declared.ops.CounterUse.TheVariants.{Check, End, Start}
 use Rattle.orc_core.specs.declared.ops.Op.{Op}

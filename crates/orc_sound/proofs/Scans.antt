@@ -10,7 +10,7 @@ use Rattle.orc_core.proofs.Within.{and_both}
 use Rattle.orc_core.specs.After.{scan_on}
 use Rattle.orc_core.specs.Allowed.{fits}
 use Rattle.orc_core.specs.Listed.{first_is}
-use Rattle.orc_core.specs.Parts.{any_holds, holds, kept, names, scan_at, scan_empty, scan_found, scans, slot_of}
+use Rattle.orc_core.specs.RecordParts.{any_holds, holds, kept, names, scan_at, scan_empty, scan_found, scans, slot_of}
 use Rattle.orc_core.specs.declared.ops.CounterUse.TheVariants.{Check, End, Start}
 use Rattle.orc_core.specs.declared.ops.Op.{Op}
 use Rattle.orc_core.specs.declared.ops.Op.TheVariants.{CounterLoad, Dec, Hand, Inc, SlotLook, Unretire}
@@ -31,7 +31,7 @@ use Rattle.orc_sound.proofs.Tokens.{listings_first}
 use Rattle.orc_sound.proofs.Uses.{any_of}
 use Rattle.orc_sound.proofs.World.{World, read_by, record_by, step_world}
 use Rattle.orc_sound.specs.Linked.{uses}
-use Rattle.orc_sound.specs.Parts.{slot_word}
+use Rattle.orc_sound.specs.SoundParts.{slot_word}
 use Rattle.orc_sound.specs.RetirementToken.{places_of}
 
 abbrev pub IsQuiet : Bounds → World → ℕ → ℕ → Type 0

@@ -10,7 +10,7 @@ use Rattle.orc_words.specs.declared.place.Word.{Word}
 use Rattle.orc_words.specs.declared.place.Word.TheVariants.{Counter, Gate, Handover, Next, Root, Slot}
 use Rattle.orc_core.specs.Counts.{is_out, is_retired, links_to}
 use Rattle.orc_core.specs.Machine.{Machine, record_at, word_in}
-use Rattle.orc_core.specs.Parts.{doom_bare, holds, is_due, names, slot_of}
+use Rattle.orc_core.specs.RecordParts.{doom_bare, holds, is_due, names, slot_of}
 use Rattle.orc_core.specs.Sums.{count_below, some_below, sum_below}
 use Rattle.orc_core.specs.declared.records.Agent.{Agent}
 use Rattle.orc_sound.proofs.AllFits.{AllFits, low_sequences}
@@ -31,7 +31,7 @@ use Rattle.orc_sound.specs.Balance.{Balance, decrements, increments}
 use Rattle.orc_sound.specs.Doomed.{DoomedRows, FreeRows, dooms}
 use Rattle.orc_sound.specs.Linked.{IsOut, IsUnreachable, changes, holds_row, linked, uses}
 use Rattle.orc_sound.specs.NoLeak.{NoLeak, keeps_out}
-use Rattle.orc_sound.specs.Parts.{Enrolment, FreshRows, Looks, Ranges, Scans, Slots, Targets}
+use Rattle.orc_sound.specs.SoundParts.{Enrolment, FreshRows, Looks, Ranges, Scans, Slots, Targets}
 use Rattle.orc_sound.specs.QuietScan.{IsLeft, QuietScans, holds_from, is_linked_anew}
 use Rattle.orc_sound.specs.RetirementToken.{RetirementToken}
 use Rattle.orc_sound.specs.Sound.{IsSound}

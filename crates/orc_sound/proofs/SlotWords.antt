@@ -10,7 +10,7 @@ use Rattle.orc_core.proofs.Within.{and_both}
 use Rattle.orc_core.specs.Actions.{action_of, word_after}
 use Rattle.orc_core.specs.After.{after, promoted}
 use Rattle.orc_core.specs.Allowed.{fits}
-use Rattle.orc_core.specs.Parts.{is_published, names, slot_of}
+use Rattle.orc_core.specs.RecordParts.{is_published, names, slot_of}
 use Rattle.orc_core.specs.declared.ops.Op.{Op}
 use Rattle.orc_core.specs.declared.ops.Op.TheVariants.{Arm, Clear, Fill, LinkCas, LinkLoad, Publish, Read, SlotLook}
 use Rattle.orc_core.specs.declared.records.Agent.{Agent}
@@ -19,7 +19,7 @@ use Rattle.orc_core.specs.declared.records.SlotUse.TheVariants.{Empty, Held, Pub
 use Rattle.orc_sound.proofs.Facts.{SlotFits, SlotsFit}
 use Rattle.orc_sound.proofs.Sources.{write_same}
 use Rattle.orc_sound.proofs.World.{World, read_by, record_by, step_world, write}
-use Rattle.orc_sound.specs.Parts.{slot_word}
+use Rattle.orc_sound.specs.SoundParts.{slot_word}
 
 -- what bit write to an agent's own slot leaves
 set_fits : (m : Word → ℕ) (d : Agent) (a j k v : ℕ) (x : SlotUse) → j < length d.slots → v ≡ slot_word x → SlotFits m d a k → write m (Slot a j) v (Slot a k) ≡ slot_word (slice_index_or (slice_set d.slots j x) k Empty)

@@ -10,7 +10,7 @@ use Rattle.orc_words.specs.declared.place.Word.TheVariants.{Gate, Next, Root}
 use Rattle.orc_core.specs.Actions.{action_of, word_after}
 use Rattle.orc_core.specs.After.{after, promoted}
 use Rattle.orc_core.specs.Allowed.{fits}
-use Rattle.orc_core.specs.Parts.{any_holds, holds, names, number_of, saw, scans, slot_of}
+use Rattle.orc_core.specs.RecordParts.{any_holds, holds, names, number_of, saw, scans, slot_of}
 use Rattle.orc_core.specs.declared.ops.Op.{Op}
 use Rattle.orc_core.specs.declared.ops.Op.TheVariants.{Arm, Clear, Dec, Fill, Free, GateLook, GateTake, Inc, LinkCas, LinkLoad, LinkStore, Publish, Read, SetRetired, Unretire}
 use Rattle.orc_core.specs.declared.records.Agent.{Agent}

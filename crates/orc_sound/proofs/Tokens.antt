@@ -12,7 +12,7 @@ use Rattle.orc_words.specs.declared.place.Word.TheVariants.{Counter, Enrolled, F
 use Rattle.orc_core.specs.Actions.{action_of, clear_word, word_after}
 use Rattle.orc_core.specs.After.{after}
 use Rattle.orc_core.specs.Listed.{Listed, first_is, listed_more, listed_name}
-use Rattle.orc_core.specs.Parts.{doom_bare, doom_cut, names, scans}
+use Rattle.orc_core.specs.RecordParts.{doom_bare, doom_cut, names, scans}
 use Rattle.orc_core.specs.Sums.{sum_below}
 use Rattle.orc_core.specs.declared.ops.CounterUse.TheVariants.{End, Start}
 use Rattle.orc_core.specs.declared.ops.Op.{Op}

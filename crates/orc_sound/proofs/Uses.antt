@@ -7,7 +7,7 @@ use Rattle.orc_words.specs.Packed.{bit, named}
 use Rattle.orc_core.proofs.Within.{and_both}
 use Rattle.orc_core.specs.After.{after}
 use Rattle.orc_core.specs.Allowed.{fits, may_target}
-use Rattle.orc_core.specs.Parts.{any_holds, doom_cut, holds, names, saw, scans, slot_of}
+use Rattle.orc_core.specs.RecordParts.{any_holds, doom_cut, holds, names, saw, scans, slot_of}
 use Rattle.orc_core.specs.declared.ops.Op.{Op}
 use Rattle.orc_core.specs.declared.ops.Op.TheVariants.{Arm, Dec, GateTake, Inc, LinkCas, LinkLoad, LinkStore, Publish, Unretire}
 use Rattle.orc_core.specs.declared.records.Agent.{Agent}

@@ -4,7 +4,7 @@ use Rattle.std.specs.Prelude.{pos, true, ℕ, ◌+ℤ◌, ◌-ℤ◌, ◌<◌, �
 use Rattle.orc_words.specs.Packed.{counter_of}
 use Rattle.orc_words.specs.declared.place.Word.TheVariants.{Counter}
 use Rattle.orc_core.specs.Machine.{Machine, record_at, word_in}
-use Rattle.orc_core.specs.Parts.{names, saw}
+use Rattle.orc_core.specs.RecordParts.{names, saw}
 use Rattle.orc_core.specs.Sums.{count_below}
 use Rattle.orc_sound.specs.Linked.{IsOut, changes, holds_row, linked}
 

@@ -4,19 +4,19 @@ use Rattle.orc_words.specs.Packed.{bit, count_bits, retired_bit, sequence_of}
 use Rattle.orc_words.specs.declared.place.Word.TheVariants.{Counter, Enrolled, Gate, Next, Root, Slot}
 use Rattle.orc_core.specs.Counts.{is_out, is_retired, links_to}
 use Rattle.orc_core.specs.Machine.{Machine, record_at, word_in}
-use Rattle.orc_core.specs.Parts.{any_holds, holds, is_empty, is_published, number_of, saw, slot_of}
+use Rattle.orc_core.specs.RecordParts.{any_holds, holds, is_empty, is_published, number_of, saw, slot_of}
 use Rattle.orc_core.specs.Sums.{some_below}
 use Rattle.orc_core.specs.declared.records.Agent.{Agent}
 use Rattle.orc_core.specs.declared.records.Doom.{Doom}
 use Rattle.orc_core.specs.declared.records.Scan.{Scan}
-use Rattle.orc_core.specs.declared.records.Seen.{Seen}
+use Rattle.orc_core.specs.declared.records.Reading.{Reading}
 use Rattle.orc_core.specs.declared.records.SlotUse.{SlotUse}
 use Rattle.orc_core.specs.declared.records.SlotUse.TheVariants.{Empty, Held, Published}
 use Rattle.orc_sound.specs.Balance.{decrements, increments}
 use Rattle.orc_sound.specs.Doomed.{dooms}
 use Rattle.orc_sound.specs.Linked.{changes, held, linked, uses}
 use Rattle.orc_sound.specs.NoLeak.{has_reason}
-use Rattle.orc_sound.specs.Parts.{slot_word}
+use Rattle.orc_sound.specs.SoundParts.{slot_word}
 use Rattle.orc_sound.specs.QuietScan.{is_linked_anew}
 use Rattle.orc_sound.specs.RetirementToken.{tokens}
 
@@ -30,7 +30,7 @@ abbrev pub named_passes : Option ℕ → (ℕ → Bool) → Bool
 named_passes None p = true
 named_passes (Some r) p = p r
 
-abbrev pub row_seen : Option Seen → Option ℕ
+abbrev pub row_seen : Option Reading → Option ℕ
 row_seen None = None
 row_seen (Some s) = Some s.row
 

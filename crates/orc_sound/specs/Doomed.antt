@@ -3,7 +3,7 @@ use Rattle.std.specs.Prelude.{Bool, None, Option, Some, false, true, ℕ, ◌&&�
 use Rattle.orc_words.specs.declared.place.Word.TheVariants.{Next}
 use Rattle.orc_core.specs.Counts.{is_out, is_retired}
 use Rattle.orc_core.specs.Machine.{Machine, record_at, word_in}
-use Rattle.orc_core.specs.Parts.{doom_bare}
+use Rattle.orc_core.specs.RecordParts.{doom_bare}
 use Rattle.orc_core.specs.declared.records.Doom.{Doom}
 use Rattle.orc_sound.specs.Linked.{IsOut, IsUnreachable}
 

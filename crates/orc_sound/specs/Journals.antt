@@ -2,7 +2,7 @@
 use Rattle.std.specs.Prelude.{List, None, Option, Some, [], true, ℕ, ◌∷◌, ◌≡◌}
 use Rattle.orc_words.specs.declared.packed.RowLink.{RowLink}
 use Rattle.orc_core.specs.Machine.{Machine, is_allowed, record_at, step}
-use Rattle.orc_core.specs.Parts.{any_holds}
+use Rattle.orc_core.specs.RecordParts.{any_holds}
 use Rattle.orc_core.specs.declared.ops.Op.{Op}
 use Rattle.orc_core.specs.declared.ops.Op.TheVariants.{LinkLoad}
 use Rattle.orc_core.specs.declared.records.Agent.{Agent}

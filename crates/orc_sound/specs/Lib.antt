@@ -4,7 +4,7 @@ pub mod RetirementToken
 pub mod QuietScan
 pub mod Doomed
 pub mod NoLeak
-pub mod Parts
+pub mod SoundParts
 pub mod Sound
 pub mod Journals
 pub mod Backlog

@@ -4,7 +4,7 @@ use Rattle.orc_words.specs.Packed.{counter_of}
 use Rattle.orc_words.specs.declared.place.Word.TheVariants.{Counter, Next, Root}
 use Rattle.orc_core.specs.Counts.{is_out, links_to}
 use Rattle.orc_core.specs.Machine.{Machine, record_at, word_in}
-use Rattle.orc_core.specs.Parts.{any_holds, names, saw}
+use Rattle.orc_core.specs.RecordParts.{any_holds, names, saw}
 use Rattle.orc_core.specs.Sums.{count_below, some_below}
 use Rattle.orc_core.specs.declared.records.Agent.{Agent}
 

@@ -4,7 +4,7 @@ use Rattle.orc_words.specs.Packed.{count_bits, sequence_of}
 use Rattle.orc_words.specs.declared.place.Word.TheVariants.{Counter}
 use Rattle.orc_core.specs.Counts.{is_retired}
 use Rattle.orc_core.specs.Machine.{Machine, record_at, word_in}
-use Rattle.orc_core.specs.Parts.{doom_bare, is_due, names}
+use Rattle.orc_core.specs.RecordParts.{doom_bare, is_due, names}
 use Rattle.orc_core.specs.Sums.{some_below}
 use Rattle.orc_core.specs.declared.records.Agent.{Agent}
 use Rattle.orc_sound.specs.Linked.{IsOut}

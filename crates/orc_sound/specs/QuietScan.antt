@@ -4,7 +4,7 @@ use Rattle.std.specs.Prelude.{Bool, nat_le, true, ℕ, ◌&&◌, ◌*◌, ◌+�
 use Rattle.orc_words.specs.Packed.{sequence_of}
 use Rattle.orc_words.specs.declared.place.Word.TheVariants.{Counter}
 use Rattle.orc_core.specs.Machine.{Machine, record_at, word_in}
-use Rattle.orc_core.specs.Parts.{holds, kept, names, scan_at, scan_empty, scans, slot_of}
+use Rattle.orc_core.specs.RecordParts.{holds, kept, names, scan_at, scan_empty, scans, slot_of}
 use Rattle.orc_core.specs.Sums.{some_below}
 use Rattle.orc_sound.specs.Balance.{decrements, increments}
 use Rattle.orc_sound.specs.Linked.{linked}

@@ -5,7 +5,7 @@ use Rattle.orc_words.specs.Packed.{bit}
 use Rattle.orc_words.specs.declared.place.Word.TheVariants.{Handover}
 use Rattle.orc_core.specs.Counts.{is_retired}
 use Rattle.orc_core.specs.Machine.{Machine, record_at, word_in}
-use Rattle.orc_core.specs.Parts.{names, scans}
+use Rattle.orc_core.specs.RecordParts.{names, scans}
 use Rattle.orc_core.specs.Sums.{count_below, sum_below}
 use Rattle.orc_core.specs.declared.records.Agent.{Agent}
 use Rattle.orc_core.specs.declared.records.Doom.{Doom}

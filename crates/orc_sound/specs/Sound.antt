@@ -3,7 +3,7 @@ use Rattle.orc_core.specs.Machine.{Machine}
 use Rattle.orc_sound.specs.Balance.{Balance}
 use Rattle.orc_sound.specs.Doomed.{DoomedRows, FreeRows}
 use Rattle.orc_sound.specs.NoLeak.{NoLeak}
-use Rattle.orc_sound.specs.Parts.{Enrolment, FreshRows, Looks, Ranges, Scans, Slots, Targets}
+use Rattle.orc_sound.specs.SoundParts.{Enrolment, FreshRows, Looks, Ranges, Scans, Slots, Targets}
 use Rattle.orc_sound.specs.QuietScan.{QuietScans}
 use Rattle.orc_sound.specs.RetirementToken.{RetirementToken}
 

@@ -5,7 +5,7 @@ ghost use Rattle.orc_words.specs.Packed.{count_bits, sequence_of};
 ghost use Rattle.orc_words.specs.declared.place.Word.{Word};
 ghost use Rattle.orc_core.specs.Counts.{links_to};
 ghost use Rattle.orc_core.specs.Machine.{record_at, word_in};
-ghost use Rattle.orc_core.specs.Parts.{any_holds, holds, is_empty, names, number_of, saw, slot_of};
+ghost use Rattle.orc_core.specs.RecordParts.{any_holds, holds, is_empty, names, number_of, saw, slot_of};
 ghost use Rattle.orc_sound.specs.Decisions.{agent_fits, all_below, doom_fits, enrolment_fits, fresh_fits, is_nobody, left_in, looks_fit, named_passes, one_part_in, out_in, pending_fits, row_held, row_seen, same_fits, scan_fits, slot_fits, slots_fit};
 ghost use Rattle.orc_sound.specs.Doomed.{dooms};
 ghost use Rattle.orc_sound.specs.Linked.{uses};
@@ -17,7 +17,7 @@ use crate::parts::{
     slot_word, uses,
 };
 use crate::row_tests::{SEQUENCE, decrements_of, increments_of, out_in, unreachable_in};
-use orc_core::{Agent, Doom, Scan, Seen, SlotUse, State};
+use orc_core::{Agent, Doom, Reading, Scan, SlotUse, State};
 use orc_words::{NEW_COUNTER, RETIRED, Word};
 
 /// Whether each slot of the agent that holds the row has scan place `k` or a later one.
@@ -261,7 +261,7 @@ fn named_out(state: &State, name: Option<u32>) -> bool
     }
 }
 
-fn row_seen(seen: Option<Seen>) -> Option<u32>
+fn row_seen(seen: Option<Reading>) -> Option<u32>
     ensures { result ≡ row_seen seen }
 {
     match seen {

@@ -2,14 +2,14 @@
 
 ghost use Rattle.std.specs.Prelude.{◌≡◌, ◌<◌};
 ghost use Rattle.orc_core.specs.Counts.{links_to};
-ghost use Rattle.orc_core.specs.Parts.{any_holds, doom_bare, holds, is_due, is_empty, is_published, names, number_of, saw, scans, slot_of};
+ghost use Rattle.orc_core.specs.RecordParts.{any_holds, doom_bare, holds, is_due, is_empty, is_published, names, number_of, saw, scans, slot_of};
 ghost use Rattle.orc_sound.specs.Doomed.{dooms};
 ghost use Rattle.orc_sound.specs.Linked.{changes, uses};
 ghost use Rattle.orc_sound.specs.NoLeak.{keeps_out};
-ghost use Rattle.orc_sound.specs.Parts.{slot_word};
+ghost use Rattle.orc_sound.specs.SoundParts.{slot_word};
 ghost use Rattle.orc_sound.specs.RetirementToken.{dooming};
 
-use orc_core::{Agent, Doom, Scan, Seen, SlotUse};
+use orc_core::{Agent, Doom, Reading, Scan, SlotUse};
 
 pub(crate) fn names(name: Option<u32>, row: u32) -> bool
     ensures { result ≡ names name row }
@@ -61,7 +61,7 @@ pub(crate) fn links_to(word: u64, row: u32) -> bool
     word / 2 == u64::from(row) + 1
 }
 
-pub(crate) fn saw(seen: Option<Seen>, row: u32) -> bool
+pub(crate) fn saw(seen: Option<Reading>, row: u32) -> bool
     ensures { result ≡ saw seen row }
 {
     match seen {
@@ -70,7 +70,7 @@ pub(crate) fn saw(seen: Option<Seen>, row: u32) -> bool
     }
 }
 
-pub(crate) fn number_of(seen: Option<Seen>) -> u64
+pub(crate) fn number_of(seen: Option<Reading>) -> u64
     ensures { result ≡ number_of seen }
 {
     match seen {
@@ -79,7 +79,7 @@ pub(crate) fn number_of(seen: Option<Seen>) -> u64
     }
 }
 
-fn is_due(due: Option<Seen>, row: u32, sequence: u64) -> bool
+fn is_due(due: Option<Reading>, row: u32, sequence: u64) -> bool
     ensures { result ≡ is_due due row sequence }
 {
     match due {

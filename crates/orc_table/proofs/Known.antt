@@ -3,7 +3,7 @@ use Rattle.std.proofs.Common.{◌≡◌, ℕ, ◌<◌, List, [], ◌∷◌, ◌+
 use Rattle.orc_words.specs.Bounds.{Bounds, bounds_of}
 use Rattle.orc_heap.specs.Allowed.{events_by}
 use Rattle.orc_heap.specs.Seats.{IsUntouched}
-use Rattle.orc_heap.specs.Parts.{IsBelow}
+use Rattle.orc_heap.specs.OwnEvents.{IsBelow}
 use Rattle.orc_heap.specs.Journals.{IsLawful, run_heap}
 use Rattle.orc_heap.specs.declared.discipline.Discipline as discipline
 use Rattle.orc_heap.specs.declared.events.Event.{Event}

@@ -13,7 +13,7 @@ use Rattle.orc_history.specs.Journals.{own_of}
 use Rattle.orc_shared_words.specs.Views.{absorbing, agent_of}
 use Rattle.orc_shared_words.specs.declared.journal.View.{View}
 use Rattle.orc_shared_words.proofs.Runs.{own_of-append}
-use Rattle.orc_table.specs.Calls.{Absorbs, IsLonger, Learns, SameButEvents}
+use Rattle.orc_table.specs.Calls.{Absorbs, IsLonger, LearnsEvents, SameButEvents}
 use Rattle.orc_table.specs.Machine.{State, AllowedFrom, numbers, project, project_from, run, run_from, start}
 use Rattle.orc_table.specs.Rules.{opening_steps, project-append, steps-append}
 use Rattle.orc_table.specs.Views.{FreshHeld, Keeps, view_of}
@@ -110,7 +110,7 @@ module _ {D N : Type 0} (d : discipline.Ghosts D N) (q : PlainShape N) where
     pub from_keeps : Keeps q holds may x o fresh4
     from_keeps = keeps_more u x b o fresh2 fresh4 i e2 f2 l.from.agent from_more (l.from.steps b (inl i.is)) (subst Journal (sym l.both) journal)
 
-    pub learns : (looked looked2 looked3 looked4 : Option ℕ) → looked3 ≡ looked → looked4 ≡ looked2 → Learns (view_of k a v fresh looked) (view_of k b u fresh2 looked2) (view_of k c w fresh3 looked3) (view_of k o x fresh4 looked4)
+    pub learns : (looked looked2 looked3 looked4 : Option ℕ) → looked3 ≡ looked → looked4 ≡ looked2 → LearnsEvents (view_of k a v fresh looked) (view_of k b u fresh2 looked2) (view_of k c w fresh3 looked3) (view_of k o x fresh4 looked4)
     learns looked looked2 looked3 looked4 g g2 = record {
       longer = longer_events w c fresh fresh2 looked looked2 looked3 refl;
       both = (ap (project k) l.both, ap (λ z. (run k z).given) l.both);

@@ -136,7 +136,7 @@ module _ {N : Type 0} where
     pub retired : (b : ℕ) → Among b s.absorbed → events_by b t.events ≡ events_by b s.events
 
   -- two passes, s and u, are now t and w, and both have seen the longer one of their two lists
-  pub record Learns (s u t w : PlainView N) : Type 0 where
+  pub record LearnsEvents (s u t w : PlainView N) : Type 0 where
     pub longer : IsLonger s u t
     pub both : (w.events ≡ t.events) × (w.rows ≡ t.rows)
     pub into : SameButEvents s t

@@ -74,7 +74,7 @@ module _ {N : Type 0} where
   plain_rules = record {
     agents = λ k. (bounds_of k.shape).agents;
     blank = tt;
-    born = tt;
+    born = λ k. tt;
     place = λ k a op o. place (bounds_of k.shape) (word_of op);
     written = λ k a op o n. written op n;
     answer = λ k a op o n. answer op n;

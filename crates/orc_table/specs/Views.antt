@@ -15,7 +15,7 @@ use Rattle.orc_table.specs.declared.machine.Plain.{Plain}
 use Rattle.orc_table.specs.declared.machine.PlainOp.{PlainOp}
 use Rattle.orc_table.specs.declared.machine.PlainStep.{PlainStep}
 use Rattle.orc_table.specs.declared.pass.PlainBoard.{PlainBoard}
-use Rattle.orc_table.specs.declared.pass.PlainPass.{PlainPass}
+use Rattle.orc_table.specs.declared.pass.PlainBoardPass.{PlainBoardPass}
 use Rattle.orc_table.specs.declared.seed.PlainShape.{PlainShape}
 use Rattle.orc_table.specs.declared.seed.Seed.{Seed}
 
@@ -82,14 +82,14 @@ pub record IsFreshRow {N : Type 0} (b : Bounds) (s : PlainView N) (row : ℕ) : 
 
 module _ {D N : Type 0} {d : discipline.Ghosts D N} {m : machine.Ghosts Plain N (PlainShape N) PlainOp (PlainStep N) (Unit {0}) (Unit {0})} where
   -- what the pass shows, by the sizes of its board
-  abbrev pub shows_by : Bounds → PlainPass D N (PlainShape N) PlainOp (PlainStep N) (Unit {0}) (Unit {0}) d m → PlainView N
+  abbrev pub shows_by : Bounds → PlainBoardPass D N (PlainShape N) PlainOp (PlainStep N) (Unit {0}) (Unit {0}) d m → PlainView N
   shows_by b p = view_of b p.pass.agent p.pass.seat.me.0 p.fresh p.looked
 
   -- what the pass shows
-  abbrev pub shows : PlainBoard D N → PlainPass D N (PlainShape N) PlainOp (PlainStep N) (Unit {0}) (Unit {0}) d m → PlainView N
+  abbrev pub shows : PlainBoard D N → PlainBoardPass D N (PlainShape N) PlainOp (PlainStep N) (Unit {0}) (Unit {0}) d m → PlainView N
   shows board p = shows_by (board_bounds board) p
 
   -- the pass is one of the board's
-  pub record Belongs (board : PlainBoard D N) (p : PlainPass D N (PlainShape N) PlainOp (PlainStep N) (Unit {0}) (Unit {0}) d m) : Type 0 where
+  pub record Belongs (board : PlainBoard D N) (p : PlainBoardPass D N (PlainShape N) PlainOp (PlainStep N) (Unit {0}) (Unit {0}) d m) : Type 0 where
     pub table : p.pass.seat.table_id ≡ board.words.table.shared.table_id
     pub keeps : Keeps board.words.shape (d.holds (board_numbers board)) (d.may (board_numbers board)) p.pass.seat.me.0 p.pass.agent p.fresh

@@ -4,7 +4,7 @@ ghost use Rattle.std.specs.Prelude.{◌≡◌, ◌<◌, ◌++◌, ◌⊎◌, ℕ
 ghost use Rattle.orc_words.specs.Bounds.{Bounds};
 ghost use Rattle.orc_heap.specs.Allowed.{AllAllowed};
 ghost use Rattle.orc_heap.specs.Heap.{HeapNumbers};
-ghost use Rattle.orc_heap.specs.Parts.{IsBelow};
+ghost use Rattle.orc_heap.specs.OwnEvents.{IsBelow};
 ghost use Rattle.orc_heap.specs.Journals.{IsLawful, run_heap};
 ghost use Rattle.orc_heap.specs.declared.events.Event.{Event};
 ghost use Rattle.orc_shared_words.specs.Lists.{Among, Begins};
@@ -15,7 +15,7 @@ ghost use Rattle.orc_table.specs.Views.{Belongs, IsFreshRow, PlainView, board_bo
 ghost use Rattle.orc_table.specs.Words.{Once, Tie};
 ghost use Rattle.orc_table.specs.declared.machine.PlainStep.{PlainStep};
 
-use crate::pass::{PlainBoard, PlainPass};
+use crate::pass::{PlainBoard, PlainBoardPass};
 use orc_heap::Discipline;
 
 /// After a lawful journal the words show the heap of its events, where each row that was given is the node of its place
@@ -40,7 +40,7 @@ pub fn a_pass_that_took_in_all_is_alone<D: Discipline>()
 
 impl<D: Discipline> PlainBoard<D> {
     /// What is true of all that a pass of the board has seen.
-    pub fn seen_by(&self, p: &PlainPass<D>)
+    pub fn seen_by(&self, p: &PlainBoardPass<D>)
         requires belongs { Belongs self.now p.now }
         ensures lawful { IsLawful (board_numbers self.now) (shows self.now p.now).events }
         ensures kept { D.holds (board_numbers self.now) (shows self.now p.now).events }

@@ -13,7 +13,7 @@ mod step;
 
 pub use laws::{a_pass_that_took_in_all_is_alone, rows_keep_their_nodes, words_show_the_heap};
 pub use machine::{Plain, PlainOp, PlainStep};
-pub use pass::{PlainBoard, PlainPass};
+pub use pass::{PlainBoard, PlainBoardPass};
 pub use seed::{PlainShape, Seed};
 
 #[cfg(test)]

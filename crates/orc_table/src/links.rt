@@ -8,7 +8,7 @@ ghost use Rattle.orc_table.specs.Machine.{link_by, place_by};
 ghost use Rattle.orc_table.specs.Views.{Belongs, board_bounds, board_numbers, shows};
 
 use crate::machine::{PlainOp, word};
-use crate::pass::{PlainBoard, PlainPass};
+use crate::pass::{PlainBoard, PlainBoardPass};
 use orc_heap::Discipline;
 use orc_words::{RowLink, Word};
 
@@ -16,7 +16,7 @@ impl<D: Discipline> PlainBoard<D> {
     /// Reads a link word. A note goes to the event where the wanted link is found.
     pub fn link_load(
         &self,
-        p: &mut PlainPass<D>,
+        p: &mut PlainBoardPass<D>,
         place: Word,
         want: Option<RowLink>,
         note: Option<D::Note>,
@@ -44,7 +44,7 @@ impl<D: Discipline> PlainBoard<D> {
     /// it was.
     pub fn link_cas(
         &self,
-        p: &mut PlainPass<D>,
+        p: &mut PlainBoardPass<D>,
         place: Word,
         from: RowLink,
         to: RowLink,
@@ -73,7 +73,7 @@ impl<D: Discipline> PlainBoard<D> {
     }
 
     /// Writes the fresh row's link, without a mark. Answers the word that was there.
-    pub fn link_store(&self, p: &mut PlainPass<D>, row: u32, link: RowLink) -> u64
+    pub fn link_store(&self, p: &mut PlainBoardPass<D>, row: u32, link: RowLink) -> u64
         requires belongs { Belongs self.now p.old }
         requires row { row < (board_bounds self.now).rows }
         requires fresh { (shows self.now p.old).fresh ≡ Some row }

@@ -118,7 +118,9 @@ impl<N: Copy> Machine<N> for Plain {
 
     ghost shows = { λ own. own };
 
-    ghost has_room = { λ k op own. Unit {0} };
+    ghost has_room = { λ k op own found. Unit {0} };
+
+    ghost leaves_room = { λ k j a op lawful allowed. tt };
 
     ghost numbers = { heap_numbers };
 

@@ -9,7 +9,7 @@ ghost use Rattle.orc_table.specs.Rules.{HasRoots, SeedAllowed, opening_events, o
 ghost use Rattle.orc_table.specs.Views.{Belongs, EachFrom, board_bounds, board_seed, shows};
 
 use crate::machine::{OUT, Plain, place_in, word};
-use crate::pass::{PlainBoard, PlainPass};
+use crate::pass::{PlainBoard, PlainBoardPass};
 use crate::seed::{PlainShape, Seed};
 use orc_fault::NoMemory;
 use orc_heap::Discipline;
@@ -27,7 +27,7 @@ impl<D: Discipline> PlainBoard<D> {
         alloc: Global,
         shape: &Shape,
         seed: Seed<D::Note>,
-    ) -> Result<(PlainBoard<D>, Vec<PlainPass<D>>), NoMemory>
+    ) -> Result<(PlainBoard<D>, Vec<PlainBoardPass<D>>), NoMemory>
         requires holds { D.holds (numbers (bounds_of shape.now)) [] }
         requires seed { SeedAllowed (D.may (numbers (bounds_of shape.now))) (bounds_of shape.now) seed }
         ensures bounds { IfOk result (λ made. board_bounds made.0 ≡ bounds_of shape.now) }
@@ -55,14 +55,14 @@ impl<D: Discipline> PlainBoard<D> {
 fn plain_passes<D: Discipline>(
     alloc: Global,
     passes: Vec<SharedPass<Plain, D>>,
-) -> Result<Vec<PlainPass<D>>, NoMemory>
+) -> Result<Vec<PlainBoardPass<D>>, NoMemory>
     ensures long { IfOk result (λ made. length made.items ≡ length passes.items) }
     ensures same { IfOk result (λ made. EachFrom (λ p. p.pass) made.items passes.items) }
     ensures fresh { IfOk result (λ made. All (λ p. p.fresh ≡ None) made.items) }
 {
     passes
         .into_iter()
-        .map(|pass| PlainPass {
+        .map(|pass| PlainBoardPass {
             pass,
             fresh: None,
             looked: None,

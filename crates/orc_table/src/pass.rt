@@ -17,7 +17,7 @@ pub struct PlainBoard<D: Discipline> {
 
 /// An agent's pass to a board.
 #[derive(Drop)]
-pub struct PlainPass<D: Discipline>
+pub struct PlainBoardPass<D: Discipline>
 where
     Plain: Machine<D::Note>,
 {

@@ -2,14 +2,14 @@
 
 ghost use Rattle.std.specs.Prelude.{◌≡◌, None, Some};
 ghost use Rattle.orc_words.specs.Bounds.{Bounds, bounds_of};
-ghost use Rattle.orc_table.specs.Calls.{Absorbs, Learns};
+ghost use Rattle.orc_table.specs.Calls.{Absorbs, LearnsEvents};
 ghost use Rattle.orc_table.specs.Views.{Belongs, board_bounds, shows, shows_by};
 
-use crate::pass::{PlainBoard, PlainPass};
+use crate::pass::{PlainBoard, PlainBoardPass};
 use orc_heap::Discipline;
 use orc_words::Shape;
 
-impl<D: Discipline> PlainPass<D> {
+impl<D: Discipline> PlainBoardPass<D> {
     /// The number of the pass's agent.
     pub fn agent(&self) -> u32
         ensures { (b : Bounds) → result ≡ (shows_by b self.now).agent }
@@ -34,7 +34,7 @@ impl<D: Discipline> PlainBoard<D> {
     }
 
     /// The row is the pass's fresh row no more. It is never given again.
-    pub fn give_up(&self, p: &mut PlainPass<D>, row: u32)
+    pub fn give_up(&self, p: &mut PlainBoardPass<D>, row: u32)
         requires belongs { Belongs self.now p.old }
         requires fresh { (shows self.now p.old).fresh ≡ Some row }
         ensures belongs { Belongs self.now p.new }
@@ -44,24 +44,24 @@ impl<D: Discipline> PlainBoard<D> {
     }
 
     /// Lets each of two passes see what the other has seen. It works on no word.
-    pub fn learn(&self, into: &mut PlainPass<D>, from: &mut PlainPass<D>)
+    pub fn learn(&self, into: &mut PlainBoardPass<D>, from: &mut PlainBoardPass<D>)
         requires into { Belongs self.now into.old }
         requires from { Belongs self.now from.old }
         ensures into { Belongs self.now into.new }
         ensures from { Belongs self.now from.new }
-        ensures learns { Learns (shows self.now into.old) (shows self.now from.old) (shows self.now into.new) (shows self.now from.new) }
+        ensures learns { LearnsEvents (shows self.now into.old) (shows self.now from.old) (shows self.now into.new) (shows self.now from.new) }
     {
         self.words.learn(&mut into.pass, &mut from.pass);
     }
 
     /// Takes in another pass for good: its agent does nothing more.
-    pub fn absorb(&self, into: &mut PlainPass<D>, from: PlainPass<D>)
+    pub fn absorb(&self, into: &mut PlainBoardPass<D>, from: PlainBoardPass<D>)
         requires into { Belongs self.now into.old }
         requires from { Belongs self.now from }
         ensures into { Belongs self.now into.new }
         ensures absorbs { Absorbs (shows self.now into.old) (shows self.now from) (shows self.now into.new) }
     {
-        let PlainPass {
+        let PlainBoardPass {
             mut pass,
             fresh: _,
             looked: _,

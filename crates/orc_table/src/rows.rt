@@ -8,12 +8,12 @@ ghost use Rattle.orc_table.specs.Machine.{event, index_of};
 ghost use Rattle.orc_table.specs.Views.{Belongs, board_bounds, board_numbers, heap_of, shows};
 
 use crate::machine::PlainOp;
-use crate::pass::{PlainBoard, PlainPass};
+use crate::pass::{PlainBoard, PlainBoardPass};
 use orc_heap::Discipline;
 
 impl<D: Discipline> PlainBoard<D> {
     /// Reads a row's gate word.
-    pub fn gate_look(&self, p: &mut PlainPass<D>, row: u32) -> u64
+    pub fn gate_look(&self, p: &mut PlainBoardPass<D>, row: u32) -> u64
         requires belongs { Belongs self.now p.old }
         requires row { row < (board_bounds self.now).rows }
         ensures belongs { Belongs self.now p.new }
@@ -28,7 +28,7 @@ impl<D: Discipline> PlainBoard<D> {
     }
 
     /// Takes a row out, if it is still free. Answers 1 if so, and else 0.
-    pub fn gate_take(&self, p: &mut PlainPass<D>, row: u32) -> u64
+    pub fn gate_take(&self, p: &mut PlainBoardPass<D>, row: u32) -> u64
         requires belongs { Belongs self.now p.old }
         requires row { row < (board_bounds self.now).rows }
         requires looked { (shows self.now p.old).looked ≡ Some row }
@@ -49,7 +49,7 @@ impl<D: Discipline> PlainBoard<D> {
     }
 
     /// Writes the fresh row's first (0) or second (1) value. Answers the value.
-    pub fn fill(&self, p: &mut PlainPass<D>, row: u32, which: u32, value: u64) -> u64
+    pub fn fill(&self, p: &mut PlainBoardPass<D>, row: u32, which: u32, value: u64) -> u64
         requires belongs { Belongs self.now p.old }
         requires row { row < (board_bounds self.now).rows }
         requires fresh { (shows self.now p.old).fresh ≡ Some row }
@@ -64,7 +64,7 @@ impl<D: Discipline> PlainBoard<D> {
     }
 
     /// Reads a row's first (0) or second (1) value.
-    pub fn read(&self, p: &mut PlainPass<D>, row: u32, which: u32) -> u64
+    pub fn read(&self, p: &mut PlainBoardPass<D>, row: u32, which: u32) -> u64
         requires belongs { Belongs self.now p.old }
         requires row { KnowsRow (board_bounds self.now) (shows self.now p.old) row }
         requires which { which < 2 }

@@ -7,12 +7,12 @@ ghost use Rattle.orc_table.specs.Rules.{plain_rules};
 ghost use Rattle.orc_table.specs.Views.{board_bounds, board_numbers};
 
 use crate::machine::PlainOp;
-use crate::pass::{PlainBoard, PlainPass};
+use crate::pass::{PlainBoard, PlainBoardPass};
 use orc_heap::Discipline;
 
 impl<D: Discipline> PlainBoard<D> {
     // one step; the pass's own notes of its rows stay
-    pub(crate) fn step(&self, p: &mut PlainPass<D>, op: PlainOp, note: &Option<D::Note>) -> u64
+    pub(crate) fn step(&self, p: &mut PlainBoardPass<D>, op: PlainOp, note: &Option<D::Note>) -> u64
         requires table { p.old.pass.seat.table_id ≡ self.now.words.table.shared.table_id }
         requires allowed { Allowed (board_bounds self.now) op }
         requires licensed { Licensed plain_rules self.now.words.shape (D.holds (board_numbers self.now)) (D.may (board_numbers self.now)) p.old.pass.seat.me.0 p.old.pass.agent op note.now }

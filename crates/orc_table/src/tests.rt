@@ -36,7 +36,7 @@ impl Discipline for AnyFit {
 
 type Board = PlainBoard<AnyFit>;
 
-type Pass = PlainPass<AnyFit>;
+type Pass = PlainBoardPass<AnyFit>;
 
 const NULL: RowLink = RowLink {
     to: None,
@@ -168,7 +168,7 @@ where
 {
     is_shared::<PlainBoard<D>>();
     is_sent::<PlainBoard<D>>();
-    is_sent::<PlainPass<D>>();
+    is_sent::<PlainBoardPass<D>>();
 }
 
 // the last of the board's new passes

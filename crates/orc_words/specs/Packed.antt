@@ -3,7 +3,7 @@
 use Rattle.std.specs.Prelude.{ℕ, ◌+◌, ◌*◌, ◌/◌, ◌%◌, ◌-◌, Bool, true, false, cond, ◌==◌, nat_le, Option, Some, None, ℤ, pos, negsuc, ◌-ℤ◌}
 use Rattle.orc_words.specs.declared.packed.RowLink.{RowLink}
 use Rattle.orc_words.specs.declared.packed.Counter.{Counter}
-use Rattle.orc_words.specs.declared.packed.Gate.{Gate}
+use Rattle.orc_words.specs.declared.packed.RowGate.{RowGate}
 
 -- 1 for true
 abbrev pub bit : Bool → ℕ
@@ -48,8 +48,8 @@ abbrev pub counter_of : ℕ → Counter
 counter_of w = record { count = pos (count_bits w) -ℤ pos 4194304; retired = retired_bit w == 1; sequence = sequence_of w }
 
 -- a gate word: twice the life, and 1 more while the row is out
-abbrev pub gate_word : Gate → ℕ
+abbrev pub gate_word : RowGate → ℕ
 gate_word g = 2 * g.life + bit g.out
 
-abbrev pub gate_of : ℕ → Gate
+abbrev pub gate_of : ℕ → RowGate
 gate_of w = record { life = w / 2; out = w % 2 == 1 }

@@ -8,7 +8,7 @@ mod shape;
 
 pub use list::Words;
 pub use packed::{
-    Counter, DECREMENT, Gate, INCREMENT, NEW_COUNTER, RETIRED, RowLink, named, pack_counter,
+    Counter, DECREMENT, INCREMENT, NEW_COUNTER, RETIRED, RowGate, RowLink, named, pack_counter,
     pack_gate, pack_link, read_counter, read_gate, read_link,
 };
 pub use place::{Word, different_words_have_different_places, place_of};

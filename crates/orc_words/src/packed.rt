@@ -34,7 +34,7 @@ pub struct Counter {
 
 /// What a gate word says of its row: how many times it was given, and whether it is out.
 #[derive(Clone, Copy, Debug, PartialEq, Eq)]
-pub struct Gate {
+pub struct RowGate {
     pub life: u64,
     pub out: bool,
 }
@@ -105,7 +105,7 @@ pub fn read_counter(word: u64) -> Counter
 }
 
 /// The word of a gate whose life is below 2^62.
-pub fn pack_gate(gate: Gate) -> u64
+pub fn pack_gate(gate: RowGate) -> u64
     requires { gate.life < 2 ^ 62 }
     ensures word { result ≡ gate_word gate }
     ensures read { gate_of result ≡ gate }
@@ -118,11 +118,11 @@ pub fn pack_gate(gate: Gate) -> u64
 }
 
 /// The gate that a word stands for; each word stands for one.
-pub fn read_gate(word: u64) -> Gate
+pub fn read_gate(word: u64) -> RowGate
     ensures gate { result ≡ gate_of word }
     ensures packed { gate_word result ≡ word }
 {
-    Gate {
+    RowGate {
         life: word / 2,
         out: word % 2 == 1,
     }

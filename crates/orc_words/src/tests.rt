@@ -100,7 +100,7 @@ fn packed_words_are_read_back(rt: HostRuntime) {
     };
     assert_eq!(rt; pack_counter(counter), 46_137_343);
     assert_eq!(rt; read_counter(46_137_343), counter);
-    let gate = Gate { life: 2, out: true };
+    let gate = RowGate { life: 2, out: true };
     assert_eq!(rt; pack_gate(gate), 5);
     assert_eq!(rt; read_gate(5), gate);
     assert_eq!(rt; named(4), Some(3));

@@ -3,7 +3,7 @@
 ghost use Rattle.std.specs.Prelude.{◌≡◌, ◌≢◌, ℕ, ◌+◌, ◌∷◌, [], Some, None, true, false, nat_lt, ◌==◌};
 ghost use Rattle.orc_core.specs.declared.records.Agent.{Agent};
 ghost use Rattle.orc_core.specs.Listed.{listed_more, listed_name, listed_rest, first_is};
-ghost use Rattle.orc_core.specs.Parts.{any_holds, checked_below, holds, is_clear, names, scan_empty};
+ghost use Rattle.orc_core.specs.RecordParts.{any_holds, checked_below, holds, is_clear, names, scan_empty};
 ghost use Rattle.orc_core.specs.Actions.{action_of, answer_of, clear_word, word_after, IsPackable};
 ghost use Rattle.orc_core.specs.After.{after, bared, cut_of, due_after, promoted, scan_on, IsRecordable};
 ghost use Rattle.orc_core.specs.Allowed.{fits, forced, in_order, may, may_change, may_place};

@@ -2,8 +2,8 @@ use Rattle.std.proofs.Common.{rules, ◌∙◌, sym}
 use Rattle.std.specs.Fmt.{decimal}
 use Rattle.std.proofs.lemmas.Fmt.{IsAscii-decimal}
 use Rattle.std.proofs.lemmas.Str.{IsUtf8-from_ascii}
-use Rattle.orc_decimal.proofs.Numerals.{IsPlain-decimal, parsed, unparsed}
-use Rattle.orc_decimal.specs.Plain.{IsPlain}
+use Rattle.orc_decimal.proofs.Numerals.{IsCanonical-decimal, parsed, unparsed}
+use Rattle.orc_decimal.specs.Canonical.{IsCanonical}
 use Rattle.orc_decimal.proofs.number_of.Goals as goal
 
 pub returns-in_default-clause-none : goal.returns-in_default-clause-none
@@ -12,12 +12,12 @@ returns-in_default-clause-none c (n, small, same) =
 
 pub returns-then-not-is_plain-clause-none : goal.returns-then-not-is_plain-clause-none
 returns-then-not-is_plain-clause-none c (n, small, same) =
-    let bad : ¬ IsPlain c.args.text.now = search rules in
-    bad (rw same (IsPlain-decimal n small))
+    let bad : ¬ IsCanonical c.args.text.now = search rules in
+    bad (rw same (IsCanonical-decimal n small))
 
 pub returns-in-Ok-parse-clause-some : goal.returns-in-Ok-parse-clause-some
 returns-in-Ok-parse-clause-some c =
-    let plain : IsPlain c.args.text.now = search rules in
+    let plain : IsCanonical c.args.text.now = search rules in
     let text = c.in-Ok.ensures.cases.0 in
     let found = parsed c.in-Ok.utf8.now c.parse.result c.in-Ok-parse.number (rw text plain) c.parse.ensures.value.0 c.in-Ok-parse.is in
     (found.0, sym text ∙ found.1)

@@ -21,7 +21,7 @@ use Rattle.orc_fifo_rule.specs.Kept.Nodes.{job_linked, job_position}
 use Rattle.orc_fifo_rule.specs.Kept.Events.{and_both, entries_same, every_more, not_begun_before, root_begun_before}
 use Rattle.orc_fifo_rule.specs.Kept.Opening.{begun_root, no_puts}
 use Rattle.orc_fifo_rule.specs.Kept.Paths.{shown_node, tail_linked}
-use Rattle.orc_fifo_rule.specs.Kept.Parts.{frozen_next, legal_next, links_next, puts_next, target_at}
+use Rattle.orc_fifo_rule.specs.Kept.Leaves.{frozen_next, legal_next, links_next, puts_next, target_at}
 use Rattle.orc_fifo_rule.specs.Kept.Running.{running_next}
 
 pub fifo_fits : (n : HeapNumbers) (seen : List (Event FifoNote)) (e : Event FifoNote) → FifoHolds n seen → FifoMay n seen e → FitsAfter n seen e

@@ -21,7 +21,7 @@ use Rattle.orc_fifo_rule.specs.Kept.Kinds.{each_kind, link_moved, null_to, plain
 use Rattle.orc_fifo_rule.specs.Kept.Nodes.{PutsAt, job_position, linked_next, link_next, null_next, path_next, position_next}
 use Rattle.orc_fifo_rule.specs.Kept.Events.{entries_more, entries_same, put_last, puts_snoc}
 use Rattle.orc_fifo_rule.specs.Kept.Paths.{back_one, head_steps, path_snoc, path_step, put_at_last, tail_linked, tail_steps}
-use Rattle.orc_fifo_rule.specs.Kept.Parts.{put_has_job, put_node_after, put_position}
+use Rattle.orc_fifo_rule.specs.Kept.Leaves.{put_has_job, put_node_after, put_position}
 
 -- what a root shows after the event
 pub root_at : (n : HeapNumbers) (es : List (Event FifoNote)) (e : Event FifoNote) (r : ℕ) → shown (run_heap n (es ++ e ∷ [])) (Root r) ≡ shown (heap_after e.agent e.act (run_heap n es)) (Root r)

@@ -9,7 +9,7 @@ ghost use Rattle.orc_heap.specs.Allowed.{AllAllowed, AllowedLater, Later, MovesL
 ghost use Rattle.orc_heap.specs.Moves.{IsLinkedPlace, from_own, gives_in, moves_in, moves_place};
 ghost use Rattle.orc_heap.specs.Slots.{Hold, Holds, IsFree, SlotNode, Slots, id_in};
 ghost use Rattle.orc_heap.specs.Seats.{IsIdle, Seat, target_in};
-ghost use Rattle.orc_heap.specs.Parts.{IsBelow, Only, Puts};
+ghost use Rattle.orc_heap.specs.OwnEvents.{IsBelow, Only, Puts};
 ghost use Rattle.orc_history.specs.Journals.{own_of};
 ghost use Rattle.orc_history.specs.Parts.{InPart, IsAlone, part_begin, part_of};
 ghost use Rattle.orc_heap.specs.Calls.{IsLonger, IsWorn, Releases, RefusesAim, links_made, unless_node};

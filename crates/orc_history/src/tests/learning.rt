@@ -1,7 +1,7 @@
 //! Passes that learn from each other: worked examples, and a caller over any queue and any set.
 
 ghost use Rattle.std.specs.Prelude.{◌≡◌, ◌≢◌, ℕ, ◌∷◌, []};
-ghost use Rattle.orc_history.specs.Journals.{Learns, own_of};
+ghost use Rattle.orc_history.specs.Journals.{LearnsEntries, own_of};
 ghost use Rattle.orc_history.specs.QueueHistory.{IsLegalQueue};
 ghost use Rattle.orc_history.specs.SetHistory.{IsLegalSet};
 
@@ -9,10 +9,10 @@ use crate::{LearnQueue, LearnSet};
 
 /// Steps are entries, and each is the number of its agent. One pass had seen 1, the other 1 2.
 fn passes_that_learned()
-    ensures longer { Learns {S = ℕ} {E = ℕ} (λ j. j) (λ e. e) 1 2 (1 ∷ []) (1 ∷ 2 ∷ []) (1 ∷ 2 ∷ []) (1 ∷ 2 ∷ []) }
-    ensures shorter { ¬ Learns {S = ℕ} {E = ℕ} (λ j. j) (λ e. e) 1 2 (1 ∷ []) (1 ∷ 2 ∷ []) (1 ∷ []) (1 ∷ []) }
-    ensures one_way { ¬ Learns {S = ℕ} {E = ℕ} (λ j. j) (λ e. e) 1 2 (1 ∷ []) (1 ∷ 2 ∷ []) (1 ∷ 2 ∷ []) (1 ∷ []) }
-    ensures unseen { ¬ Learns {S = ℕ} {E = ℕ} (λ j. j) (λ e. e) 1 2 (1 ∷ []) (1 ∷ 2 ∷ 1 ∷ []) (1 ∷ 2 ∷ 1 ∷ []) (1 ∷ 2 ∷ 1 ∷ []) }
+    ensures longer { LearnsEntries {S = ℕ} {E = ℕ} (λ j. j) (λ e. e) 1 2 (1 ∷ []) (1 ∷ 2 ∷ []) (1 ∷ 2 ∷ []) (1 ∷ 2 ∷ []) }
+    ensures shorter { ¬ LearnsEntries {S = ℕ} {E = ℕ} (λ j. j) (λ e. e) 1 2 (1 ∷ []) (1 ∷ 2 ∷ []) (1 ∷ []) (1 ∷ []) }
+    ensures one_way { ¬ LearnsEntries {S = ℕ} {E = ℕ} (λ j. j) (λ e. e) 1 2 (1 ∷ []) (1 ∷ 2 ∷ []) (1 ∷ 2 ∷ []) (1 ∷ []) }
+    ensures unseen { ¬ LearnsEntries {S = ℕ} {E = ℕ} (λ j. j) (λ e. e) 1 2 (1 ∷ []) (1 ∷ 2 ∷ 1 ∷ []) (1 ∷ 2 ∷ 1 ∷ []) (1 ∷ 2 ∷ 1 ∷ []) }
 {}
 
 /// What two passes have learned is a legal history of the queue.

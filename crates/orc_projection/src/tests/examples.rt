@@ -11,7 +11,7 @@ ghost use Rattle.orc_heap.specs.Heap.{new_heap, null};
 ghost use Rattle.orc_heap.specs.Journals.{run_heap};
 ghost use Rattle.orc_sound.specs.declared.steps.Step.{Step};
 ghost use Rattle.orc_projection.specs.PresentIds.{PresentIds, no_ids, node_link, node_place, with_taken};
-ghost use Rattle.orc_projection.specs.Projection.{IsPlain, act_of, exchange_act, ids_after, load_act, note_on, present_ids, project};
+ghost use Rattle.orc_projection.specs.Projection.{StoresUnmarked, act_of, exchange_act, ids_after, load_act, note_on, present_ids, project};
 ghost use Rattle.orc_projection.specs.Mirror.{Mirrors, numbers_of};
 
 use orc_core::{CounterUse, Op};
@@ -55,8 +55,8 @@ fn acts()
 
 /// Lists of steps that store no mark, and one that does.
 fn plain_lists()
-    ensures unmarked { let steps : List (Step ℕ) = record { agent = 0; op = Op.LinkStore 5 (record { to = Some 4; mark = false }); want = None; note = None } ∷ [] in IsPlain steps }
-    ensures marked { let steps : List (Step ℕ) = record { agent = 0; op = Op.LinkStore 5 (record { to = Some 4; mark = true }); want = None; note = None } ∷ [] in ¬ IsPlain steps }
+    ensures unmarked { let steps : List (Step ℕ) = record { agent = 0; op = Op.LinkStore 5 (record { to = Some 4; mark = false }); want = None; note = None } ∷ [] in StoresUnmarked steps }
+    ensures marked { let steps : List (Step ℕ) = record { agent = 0; op = Op.LinkStore 5 (record { to = Some 4; mark = true }); want = None; note = None } ∷ [] in ¬ StoresUnmarked steps }
 {}
 
 /// Agent 0 links row 0 from the root and unlinks it while agent 1 holds it; its scan hands the row over to

@@ -4,7 +4,7 @@ ghost use Rattle.orc_shared_words.specs.Lists.{Begins, Each, EachAt, IsLonger};
 ghost use Rattle.orc_shared_words.specs.Runs.{AgentsBelow};
 ghost use Rattle.orc_history.specs.Journals.{own_of};
 ghost use Rattle.orc_shared_words.specs.Ticks.{counts, looks, tick_rules};
-ghost use Rattle.orc_shared_words.specs.declared.journal.Step.{Step};
+ghost use Rattle.orc_shared_words.specs.declared.journal.JournalStep.{JournalStep};
 ghost use Rattle.std.specs.Prelude.{◌≡◌, ◌+◌, ◌<◌, ◌∷◌, [], Bool, List, None, Some, false, true, ℕ};
 
 use orc_heap::Act;
@@ -14,7 +14,7 @@ fn two_counts_and_a_look()
     ensures words { (tick_rules {N = ℕ}).words 2 (counts 0 None ∷ counts 1 (Some 7) ∷ looks 0 ∷ []) ≡ 2 ∷ [] }
     ensures found_by_0 { (tick_rules {N = ℕ}).own 2 (counts 0 None ∷ counts 1 (Some 7) ∷ looks 0 ∷ []) 0 ≡ 2 }
     ensures found_by_1 { (tick_rules {N = ℕ}).own 2 (counts 0 None ∷ counts 1 (Some 7) ∷ looks 0 ∷ []) 1 ≡ 1 }
-    ensures steps_of_1 { own_of (λ (s : Step Bool ℕ). s.agent) 1 (counts 0 None ∷ counts 1 (Some 7) ∷ looks 0 ∷ []) ≡ counts 1 (Some 7) ∷ [] }
+    ensures steps_of_1 { own_of (λ (s : JournalStep Bool ℕ). s.agent) 1 (counts 0 None ∷ counts 1 (Some 7) ∷ looks 0 ∷ []) ≡ counts 1 (Some 7) ∷ [] }
     ensures events { (tick_rules {N = ℕ}).project 2 (counts 0 None ∷ counts 1 (Some 7) ∷ looks 0 ∷ []) ≡ record { agent = 0; act = Act.Give; note = None } ∷ record { agent = 1; act = Act.Give; note = Some 7 } ∷ [] }
 {}
 

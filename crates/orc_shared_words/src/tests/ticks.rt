@@ -5,7 +5,7 @@ ghost use Rattle.orc_shared_words.specs.Operations.{answer_by, place_of, written
 ghost use Rattle.orc_shared_words.specs.Ticks.{AnyFit, plain_fits, tick_rules, ticks_obey};
 ghost use Rattle.std.specs.Prelude.{◌≡◌, ℕ};
 
-use crate::{Machine, Operation, Step};
+use crate::{JournalStep, Machine, Operation};
 use orc_heap::Discipline;
 
 /// An agent counts up (`true`) or looks (`false`), and keeps what it found last. Its shape is the number of agents.
@@ -16,7 +16,7 @@ impl<N> Machine<N> for Ticks {
 
     type Op = bool;
 
-    type Step = Step<bool, N>;
+    type Step = JournalStep<bool, N>;
 
     type Record = u64;
 
@@ -24,7 +24,9 @@ impl<N> Machine<N> for Ticks {
 
     ghost shows = { λ o. o };
 
-    ghost has_room = { λ _ _ _. Unit {0} };
+    ghost has_room = { λ _ _ _ _. Unit {0} };
+
+    ghost leaves_room = { λ _ _ _ _ _ _. tt };
 
     ghost numbers = { λ _. record { roots = 0 } };
 

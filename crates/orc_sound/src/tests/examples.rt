@@ -9,7 +9,7 @@ ghost use Rattle.orc_core.specs.declared.ops.Op.{Op};
 ghost use Rattle.orc_core.specs.declared.records.Agent.{Agent};
 ghost use Rattle.orc_core.specs.declared.records.Doom.{Doom};
 ghost use Rattle.orc_core.specs.declared.records.Scan.{Scan};
-ghost use Rattle.orc_core.specs.declared.records.Seen.{Seen};
+ghost use Rattle.orc_core.specs.declared.records.Reading.{Reading};
 ghost use Rattle.orc_core.specs.declared.records.SlotUse.{SlotUse};
 ghost use Rattle.orc_core.specs.Machine.{Machine, new_machine, nobody, record_at, word_in};
 ghost use Rattle.orc_core.specs.Runs.{run};
@@ -21,7 +21,7 @@ ghost use Rattle.orc_sound.specs.Journals.{plain};
 ghost use Rattle.orc_sound.specs.Lifetimes.{NoWrap, times_freed, times_taken};
 ghost use Rattle.orc_sound.specs.Linked.{changes, held, linked};
 ghost use Rattle.orc_sound.specs.NoLeak.{has_reason, keeps_out};
-ghost use Rattle.orc_sound.specs.Parts.{slot_word};
+ghost use Rattle.orc_sound.specs.SoundParts.{slot_word};
 ghost use Rattle.orc_sound.specs.QuietScan.{is_linked_anew};
 ghost use Rattle.orc_sound.specs.RetirementToken.{dooming, tokens};
 
@@ -69,7 +69,7 @@ fn states_with_one_part_broken()
       words = 1 ∷ root ∷ gate ∷ counter ∷ 0 ∷ 0 ∷ next ∷ 0 ∷ 4194304 ∷ 0 ∷ 0 ∷ 0 ∷ 0 ∷ slot ∷ replicate 14 0;
       agents = d ∷ [];
     } in
-        let agent : Bool → List SlotUse → Option ℕ → Option Seen → Option Seen → Option Scan → Option Doom → Agent = λ enrolled slots fresh looked checked scan doom. record {
+        let agent : Bool → List SlotUse → Option ℕ → Option Reading → Option Reading → Option Scan → Option Doom → Agent = λ enrolled slots fresh looked checked scan doom. record {
           enrolled = enrolled;
           slots = slots;
           fresh = fresh;

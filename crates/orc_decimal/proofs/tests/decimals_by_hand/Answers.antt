@@ -1,7 +1,7 @@
 use Rattle.std.proofs.Common.{◌≡◌, ◌∙◌, arith, codes, refl}
 use Rattle.std.specs.Fmt.{decimal, digits}
 use Rattle.std.proofs.lemmas.Fmt.{decimal_injective}
-use Rattle.orc_decimal.proofs.Numerals.{IsPlain-decimal}
+use Rattle.orc_decimal.proofs.Numerals.{IsCanonical-decimal}
 use Rattle.orc_decimal.proofs.tests.decimals_by_hand.Goals as goal
 
 pub returns-clause-greatest : goal.returns-clause-greatest
@@ -23,6 +23,6 @@ returns-clause-too_large c (n, small, same) =
 
 pub returns-clause-zero_first : goal.returns-clause-zero_first
 returns-clause-zero_first c (n, small, same) =
-    let plain = rw (← same) at (IsPlain-decimal n (omega (arith, small))) in
+    let plain = rw (← same) at (IsCanonical-decimal n (omega (arith, small))) in
     let bad = plain.no_zero refl in
     omega (arith, bad)

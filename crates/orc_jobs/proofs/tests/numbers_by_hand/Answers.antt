@@ -1,7 +1,7 @@
 use Rattle.std.proofs.Common.{◌≡◌, [], ◌∷◌, ap, arith, codes, length, refl}
 use Rattle.std.specs.Fmt.{decimal, digits}
 use Rattle.std.proofs.lemmas.List.Elements.{All-cons, All-nil}
-use Rattle.orc_decimal.proofs.Numerals.{IsPlain-decimal}
+use Rattle.orc_decimal.proofs.Numerals.{IsCanonical-decimal}
 use Rattle.orc_jobs.proofs.NumberLists.{IsSmall}
 use Rattle.orc_jobs.specs.Numbers.{SpellsNumbers}
 use Rattle.orc_jobs.proofs.tests.numbers_by_hand.Goals as goal
@@ -25,7 +25,7 @@ returns-clause-number c = (22, omega arith, rw twenty_two refl)
 
 pub returns-clause-zero_first : goal.returns-clause-zero_first
 returns-clause-zero_first c (n, small, same) =
-    let plain = rw (← same) at (IsPlain-decimal n (omega (arith, small))) in
+    let plain = rw (← same) at (IsCanonical-decimal n (omega (arith, small))) in
     let bad = plain.no_zero refl in
     omega (arith, bad)
 

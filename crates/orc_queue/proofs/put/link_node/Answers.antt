@@ -3,7 +3,7 @@ use Rattle.std.proofs.Common.{Some, [], arith, refl, subst, ℕ, ◌∙◌, ◌�
 use Rattle.orc_heap.proofs.ByAnswer.{Swings-fresh, Swings-missed, Swings-moved}
 use Rattle.orc_heap.specs.Calls.{Misses, event_of}
 use Rattle.orc_heap.specs.Heap.{null}
-use Rattle.orc_heap.specs.Parts.{Puts}
+use Rattle.orc_heap.specs.OwnEvents.{Puts}
 use Rattle.orc_heap.specs.Slots.{id_in}
 use Rattle.orc_heap.specs.declared.events.Act.TheVariants.{Move}
 use Rattle.orc_heap.specs.declared.events.Place.TheVariants.{Next}

@@ -153,7 +153,7 @@ returns-in-Stable-default-Some-clause-put g c =
     let fresh = release_fresh n b t tail (λ i is. g.met.L.Links.fresh_is d c.put_behind-turn.new.p i pass_b is) (subst (λ (i : ℕ). IsLinkedNode (heap_of n b) i) (sym same) linked) released in
     let slots = slot_released s a 2 x.id tail c.requires.slots.0 x.in_slot b t piece.slots released in
     let node_b = ap (λ (z : Slots). id_in z node) piece.slots ∙ slot_other_id s a 2 x.id tail c.requires.slots.0 x.in_slot node c.requires.node.held in
-    turn_done n job x.id node s a b t ks kb all (g.met.L.Links.allowed d c.release.new.p c.release.ensures.pass) x.puts released.puts slots e.looked.fresh fresh
+    turn_done n x.one job x.id node s a b t ks kb all (g.met.L.Links.allowed d c.release.new.p c.release.ensures.pass) x.puts released.puts slots e.looked.fresh fresh
     (subst (λ (z : Slots). Holds z node) (sym slots) c.requires.node.held) (ap (λ (z : Slots). id_in z node) slots ∙ sym node_b) turn (subst (λ (i : ℕ). PutsBehind n job i node a turn b) tail_id put)
 
 pub returns-in-Moved-clause-put : goal.returns-in-Moved-clause-put

@@ -1,6 +1,6 @@
 -- The successor has the job and its position; the head goes on to it, or it was moved.
 use Rattle.std.proofs.Common.{[], ap, arith, subst, sym, ℕ, ◌-◌, ◌∙◌, ◌≡◌}
-use Rattle.orc_heap.proofs.Parts.{Only-trans}
+use Rattle.orc_heap.proofs.Calls.{Only-trans}
 use Rattle.orc_heap.specs.Allowed.{IsLinkedNode}
 use Rattle.orc_heap.specs.Calls.{ReadsValue}
 use Rattle.orc_heap.specs.Slots.{Slots, id_in}

@@ -119,7 +119,7 @@ returns-in-Stable-default-Some-clause-took g c =
     let linked = linked_puts n a b piece.own piece.puts all_b x.id x.named.linked in
     let fresh = release_fresh n b t head (λ i is. g.met.L.Links.fresh_is d c.take_behind-turn.new.p i pass_b is) (subst (λ (i : ℕ). IsLinkedNode (heap_of n b) i) (sym same) linked) released in
     let slots = slot_released s a 1 x.id head c.requires.slots.0 x.in_slot b t piece.slots released in
-    turn_taken n x.id s a b t ks all (g.met.L.Links.allowed d c.release.new.p c.release.ensures.pass) x.puts released.puts slots e.looked.fresh fresh turn (subst (λ (i : ℕ). TakesBehind n i a turn b) head_id took)
+    turn_taken n x.one x.id s a b t ks all (g.met.L.Links.allowed d c.release.new.p c.release.ensures.pass) x.puts released.puts slots e.looked.fresh fresh turn (subst (λ (i : ℕ). TakesBehind n i a turn b) head_id took)
 
 pub returns-in-Moved-clause-took : goal.returns-in-Moved-clause-took
 returns-in-Moved-clause-took g c =

@@ -1,7 +1,7 @@
 use Rattle.std.proofs.Common.{◌≡◌, ◌+◌, ◌*◌}
 use Rattle.std.specs.Prelude.{not, ◌||◌, nat_le}
 use Rattle.orc_core.specs.Machine.{record_at}
-use Rattle.orc_core.specs.Parts.{holds, slot_of}
+use Rattle.orc_core.specs.RecordParts.{holds, slot_of}
 use Rattle.orc_sound.proofs.Passed.{passed}
 use Rattle.orc_sound.proofs.agent_tests.agent_holds_late.Given as goal
 

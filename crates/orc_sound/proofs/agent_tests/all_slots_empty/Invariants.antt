@@ -1,5 +1,5 @@
 use Rattle.std.proofs.Common.{◌≡◌}
-use Rattle.orc_core.specs.Parts.{is_empty, slot_of}
+use Rattle.orc_core.specs.RecordParts.{is_empty, slot_of}
 use Rattle.orc_sound.proofs.Passed.{passed}
 use Rattle.orc_sound.proofs.agent_tests.all_slots_empty.Given as goal
 

@@ -1,7 +1,7 @@
 use Rattle.std.proofs.Common.{◌≡◌, ◌+◌, ◌*◌}
 use Rattle.std.specs.Prelude.{◌&&◌, nat_le}
 use Rattle.orc_core.specs.Machine.{record_at}
-use Rattle.orc_core.specs.Parts.{holds, slot_of}
+use Rattle.orc_core.specs.RecordParts.{holds, slot_of}
 use Rattle.orc_sound.proofs.Found.{found_below}
 use Rattle.orc_sound.proofs.agent_tests.holds_from.Given as goal
 

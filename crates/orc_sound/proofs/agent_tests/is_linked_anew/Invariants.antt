@@ -1,7 +1,7 @@
 use Rattle.std.proofs.Common.{◌≡◌}
 use Rattle.std.specs.Prelude.{◌&&◌}
 use Rattle.orc_core.specs.Machine.{record_at}
-use Rattle.orc_core.specs.Parts.{names}
+use Rattle.orc_core.specs.RecordParts.{names}
 use Rattle.orc_sound.specs.QuietScan.{holds_from}
 use Rattle.orc_sound.proofs.Found.{found_below}
 use Rattle.orc_sound.proofs.agent_tests.is_linked_anew.Given as goal

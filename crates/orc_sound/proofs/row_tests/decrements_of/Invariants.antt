@@ -1,6 +1,6 @@
 use Rattle.std.proofs.Common.{◌≡◌, ◌≤◌}
 use Rattle.orc_core.specs.Machine.{record_at}
-use Rattle.orc_core.specs.Parts.{names}
+use Rattle.orc_core.specs.RecordParts.{names}
 use Rattle.orc_core.proofs.Counted.{counted}
 use Rattle.orc_sound.proofs.row_tests.decrements_of.Given as goal
 

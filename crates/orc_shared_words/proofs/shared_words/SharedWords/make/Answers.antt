@@ -28,6 +28,7 @@ loop-own-init g c =
       s.0,
       s.3,
       ap (λ v. v.free) s.4 ∙ ap Some (omega arith),
+      ap (λ v. v.born) s.4,
       ap (λ v. v.seen) s.4,
       ap (λ v. v.also) s.4,
       sym c.in_ok-shared.first.mine ∙ ap (λ v. v.own) s.4,
@@ -44,9 +45,9 @@ hand_out-next-requires-clause-own g c =
     let n : ℕ = length c.loop-own.others.items + 1 in
     let steps = c.in-Some-own.ensures.steps.0 in
     let left : length c.loop-own.own-iterator.rest.items ≡ 1 + length c.next-in-loop-own.new.self.rest.items = ap length steps ∙ omega arith in
-    let agents = i.8 in
-    first_placed (λ n o. g.M.Machine.shows o ≡ r.own c.args.shape (r.opening c.args.shape) n) c.in-Some-own.own c.next-in-loop-own.new.self.rest.items c.loop-own.own-iterator.rest.items steps n i.9
-    ∙ c.requires.opening.born n (omega arith) (omega arith)
+    let agents = i.9 in
+    first_placed (λ n o. g.M.Machine.shows o ≡ r.own c.args.shape (r.opening c.args.shape) n) c.in-Some-own.own c.next-in-loop-own.new.self.rest.items c.loop-own.own-iterator.rest.items steps n i.10
+    ∙ (c.requires.opening.born n (omega arith) (omega arith) ∙ sym i.5)
 
 pub loop-own-preserved : goal.loop-own-preserved
 loop-own-preserved g c =
@@ -60,24 +61,25 @@ loop-own-preserved g c =
     let left : length c.loop-own.own-iterator.rest.items ≡ 1 + length c.next-in-loop-own.new.self.rest.items = ap length steps ∙ omega arith in
     let pushed : c.push.new.self.items ≡ c.loop-own.others.items ++ c.hand_out-next.result ∷ [] = search rules in
     let count : length c.push.new.self.items ≡ n = search rules in
-    let agents = i.8 in
-    let mine : g.M.Machine.shows c.in-Some-own.own ≡ own n = first_placed (λ n o. g.M.Machine.shows o ≡ own n) c.in-Some-own.own c.next-in-loop-own.new.self.rest.items c.loop-own.own-iterator.rest.items steps n i.9 in (
+    let agents = i.9 in
+    let mine : g.M.Machine.shows c.in-Some-own.own ≡ own n = first_placed (λ n o. g.M.Machine.shows o ≡ own n) c.in-Some-own.own c.next-in-loop-own.new.self.rest.items c.loop-own.own-iterator.rest.items steps n i.10 in (
       i.0,
       i.1,
       h.table.0 ∙ i.2,
       h.agents.0 ∙ i.3,
       ap (λ v. v.free) h.views.0 ∙ (ap next_number i.4 ∙ ap Some (omega arith)),
-      ap (λ v. v.seen) h.views.0 ∙ i.5,
-      ap (λ v. v.also) h.views.0 ∙ i.6,
-      sym c.hand_out-next.new.first.mine ∙ (ap (λ v. v.own) h.views.0 ∙ (c.loop-own.first.mine ∙ i.7)),
+      ap (λ v. v.born) h.views.0 ∙ i.5,
+      ap (λ v. v.seen) h.views.0 ∙ i.6,
+      ap (λ v. v.also) h.views.0 ∙ i.7,
+      sym c.hand_out-next.new.first.mine ∙ (ap (λ v. v.own) h.views.0 ∙ (c.loop-own.first.mine ∙ i.8)),
       omega arith,
-      rest_placed (λ n o. g.M.Machine.shows o ≡ own n) c.in-Some-own.own c.next-in-loop-own.new.self.rest.items c.loop-own.own-iterator.rest.items steps n (length c.push.new.self.items + 1) (omega arith) i.9,
+      rest_placed (λ n o. g.M.Machine.shows o ≡ own n) c.in-Some-own.own c.next-in-loop-own.new.self.rest.items c.loop-own.own-iterator.rest.items steps n (length c.push.new.self.items + 1) (omega arith) i.10,
       subst (EachAt (λ i p. (p.seat.table_id ≡ table) × (p.agent ≡ i + 1) × (p.seat.me.0.seen ≡ r.opening c.args.shape) × (p.seat.me.0.also ≡ []) × (g.M.Machine.shows p.own ≡ own (i + 1)))) (sym pushed)
-          (each_at-push (λ i p. (p.seat.table_id ≡ table) × (p.agent ≡ i + 1) × (p.seat.me.0.seen ≡ r.opening c.args.shape) × (p.seat.me.0.also ≡ []) × (g.M.Machine.shows p.own ≡ own (i + 1))) c.loop-own.others.items c.hand_out-next.result i.10 (
+          (each_at-push (λ i p. (p.seat.table_id ≡ table) × (p.agent ≡ i + 1) × (p.seat.me.0.seen ≡ r.opening c.args.shape) × (p.seat.me.0.also ≡ []) × (g.M.Machine.shows p.own ≡ own (i + 1))) c.loop-own.others.items c.hand_out-next.result i.11 (
             h.table.1 ∙ i.2,
             h.agents.1 ∙ omega arith,
-            ap (λ v. v.seen) h.views.1 ∙ i.5,
+            ap (λ v. v.seen) h.views.1 ∙ i.6,
             ap (λ v. v.also) h.views.1,
-            sym c.hand_out-next.result.mine ∙ (ap (λ v. v.own) h.views.1 ∙ sym (c.requires.opening.born n (omega arith) (omega arith))),
+            sym c.hand_out-next.result.mine ∙ (ap (λ v. v.own) h.views.1 ∙ (i.5 ∙ sym (c.requires.opening.born n (omega arith) (omega arith)))),
           )),
     )

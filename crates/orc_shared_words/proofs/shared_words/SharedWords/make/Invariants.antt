@@ -13,6 +13,7 @@ invariant-loop-own g l =
     × (l.first.seat.table_id ≡ table)
     × (l.first.agent ≡ 0)
     × (l.first.seat.me.0.free ≡ Some (length l.others.items + 1))
+    × (l.first.seat.me.0.born ≡ r.born l.fn.shape)
     × (l.first.seat.me.0.seen ≡ r.opening l.fn.shape)
     × (l.first.seat.me.0.also ≡ [])
     × (g.M.Machine.shows l.first.own ≡ own 0)

@@ -3,7 +3,7 @@ use Rattle.std.specs.Prelude.{ℕ, ◌==◌, ◌&&◌, not, nat_lt, Bool, true, 
 use Rattle.std.specs.List.{list_any}
 use Rattle.orc_words.specs.Packed.{count_bits, retired_bit}
 use Rattle.orc_core.specs.declared.records.Agent.{Agent}
-use Rattle.orc_core.specs.declared.records.Seen.{Seen}
+use Rattle.orc_core.specs.declared.records.Reading.{Reading}
 use Rattle.orc_core.specs.declared.records.Scan.{Scan}
 use Rattle.orc_core.specs.declared.records.Doom.{Doom}
 use Rattle.orc_core.specs.declared.records.SlotUse.{SlotUse}
@@ -21,21 +21,21 @@ same_target (Some q) None = false
 same_target (Some q) (Some r) = q == r
 
 -- the life or sequence that was seen; 0 where none was
-abbrev pub number_of : Option Seen → ℕ
+abbrev pub number_of : Option Reading → ℕ
 number_of None = 0
 number_of (Some s) = s.number
 
-abbrev pub saw : Option Seen → ℕ → Bool
+abbrev pub saw : Option Reading → ℕ → Bool
 saw None r = false
 saw (Some s) r = s.row == r
 
 -- the row was seen with a number below n
-abbrev pub checked_below : Option Seen → ℕ → ℕ → Bool
+abbrev pub checked_below : Option Reading → ℕ → ℕ → Bool
 checked_below None r n = false
 checked_below (Some s) r n = (s.row == r) && nat_lt s.number n
 
 -- the row is due, at this sequence
-abbrev pub is_due : Option Seen → ℕ → ℕ → Bool
+abbrev pub is_due : Option Reading → ℕ → ℕ → Bool
 is_due None r q = false
 is_due (Some s) r q = (s.row == r) && (s.number == q)
 

@@ -4,7 +4,7 @@ use Rattle.orc_words.specs.Packed.{count_bits, counter_of, retired_bit, sequence
 use Rattle.orc_words.specs.declared.place.Word.TheVariants.{Counter, Enrolled, Gate, Next, Root, Slot}
 use Rattle.orc_core.specs.Counts.{is_retired, links_to}
 use Rattle.orc_core.specs.Machine.{Machine, nobody, record_at, word_in}
-use Rattle.orc_core.specs.Parts.{is_published, kept, names, number_of, saw, scan_at, scan_empty, scan_found, scans, slot_of}
+use Rattle.orc_core.specs.RecordParts.{is_published, kept, names, number_of, saw, scan_at, scan_empty, scan_found, scans, slot_of}
 use Rattle.orc_core.specs.declared.records.SlotUse.{SlotUse}
 use Rattle.orc_core.specs.declared.records.SlotUse.TheVariants.{Empty, Held, Published}
 use Rattle.orc_sound.specs.Linked.{IsOut, holds_row, uses}

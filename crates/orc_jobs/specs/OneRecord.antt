@@ -4,11 +4,11 @@ use Rattle.orc_jobs.specs.JobGrammar.{HasCause, IsLine, record_of}
 use Rattle.orc_jobs.specs.declared.cause.JobsFault.{JobsFault}
 use Rattle.orc_jobs.specs.declared.cause.JobsFault.TheVariants as fault
 use Rattle.orc_jobs.specs.declared.line.Line.{Line}
-use Rattle.orc_jobs.specs.declared.record.Refused.{Refused}
-use Rattle.orc_jobs.specs.declared.record.Refused.TheVariants as refused
+use Rattle.orc_jobs.specs.declared.record.RecordRefused.{RecordRefused}
+use Rattle.orc_jobs.specs.declared.record.RecordRefused.TheVariants as refused
 
 -- why a record gives no line
-abbrev pub Explains : List (List ℕ) → Refused → Type 0
+abbrev pub Explains : List (List ℕ) → RecordRefused → Type 0
 Explains fields (refused.Cause why) = HasCause fields why
 Explains fields refused.NoMemory = ⊤
 
