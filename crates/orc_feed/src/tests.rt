@@ -1,4 +1,4 @@
-ghost use Rattle.std.specs.Prelude.{◌≡◌, ◌-◌, ◌^◌, ◌<◌, ◌≤◌, ◌∷◌, [], Ok, Some};
+ghost use Rattle.std.specs.Prelude.{ℕ, ◌≡◌, ◌-◌, ◌^◌, ◌<◌, ◌≤◌, ◌∷◌, [], Ok, Some};
 ghost use Rattle.orc_fault.specs.declared.Failed.{Failed as Fault};
 ghost use Rattle.orc_feed.specs.Faults.{CountsFaults, CountsWriteFaults, Rose, one_more};
 ghost use Rattle.orc_feed.specs.InMemory.{moved_count, new_plan, next_plan};
@@ -25,7 +25,7 @@ fn writes_by_hand()
     ensures stuck { CountsWriteFaults {E = Fault} (7 ∷ 8 ∷ []) 3 4 (Ok 0) }
     ensures unseen { ¬ CountsWriteFaults {E = Fault} (7 ∷ 8 ∷ []) 3 3 (Ok 0) }
     ensures nothing_to_take { ¬ CountsWriteFaults {E = Fault} [] 3 4 (Ok 0) }
-    ensures read { ¬ CountsFaults {E = Fault} 3 4 (Ok 1) }
+    ensures read { ¬ CountsFaults {T = ℕ} {E = Fault} 3 4 (Ok 1) }
 {}
 
 // A call moves what is wanted, what is there and what a piece holds, whichever is least.
