@@ -29,11 +29,11 @@ use Rattle.orc_table.specs.Words.{IsWord}
 use Rattle.orc_table.specs.declared.machine.PlainOp.{PlainOp}
 use Rattle.orc_table.specs.declared.machine.PlainOp.TheVariants.{Fill, LinkLoad, LinkCas, LinkStore}
 use Rattle.orc_table.specs.declared.machine.PlainStep.{PlainStep}
-use Rattle.orc_table.specs.declared.seed.PlainShape.{PlainShape}
+use Rattle.orc_table.specs.declared.shape.PlainShape.{PlainShape}
 use Rattle.orc_table.proofs.Lists.{at_index, get_lt, index_grown, lt_get, some_one}
 use Rattle.orc_table.proofs.Ties.{Given, link_in, one_link, word_by}
 use Rattle.orc_table.proofs.Steps.{Tied, heap_is, tied}
-use Rattle.orc_table.proofs.Walks.{Mid, given_more, lawful_of, mid_fresh, mid_of, mid_target, none_by}
+use Rattle.orc_table.proofs.Walks.{Mid, given_more, lawful_of, mid_fresh, mid_of, mid_target}
 
 -- a root, or the link of a row that was given
 abbrev pub PlaceHeld : Bounds → List ℕ → Word → Type 0
@@ -192,7 +192,7 @@ module _ {D N : Type 0} (d : discipline.Ghosts D N) (q : PlainShape N) (v : View
       test (v.seen ++ between) x at w (done (place_by x.given at) (link_by x.given w) (link_by x.given t)) m.heap hk m.tie s lw.0
       (λ e.
       let there : shown (run_heap (numbers k) (project k v.seen ++ es)) (place_by g0 at) ≡ Some (link_by g0 w) = subst (λ (z : Heap × Place × Link). shown z.0 z.1 ≡ Some z.2) (λ i. (heap i, sp.1 i, lw.1 i)) e in
-      let ok : may (project k v.seen ++ es) (done (place_by g0 at) (link_by g0 w) (link_by g0 t)) = allowed es record { allowed = m.allowed; others = none_by a es m.none } there in
+      let ok : may (project k v.seen ++ es) (done (place_by g0 at) (link_by g0 w) (link_by g0 t)) = allowed es record { allowed = m.allowed; others = m.none } there in
       subst (λ (z : List (Event N) × Place × Link × Link). may z.0 (done z.1 z.2 z.3)) (λ i. (sym m.events i, sym sp.1 i, sym lw.1 i, sym lt.1 i)) ok)
       (slice_index x.words (place k at) == link_word w)
       refl
@@ -238,5 +238,5 @@ module _ {D N : Type 0} (d : discipline.Ghosts D N) (q : PlainShape N) (v : View
       let heap : x.heap ≡ run_heap (numbers k) (project k v.seen ++ es) = sym m.heap ∙ ap (run_heap (numbers k)) m.events in
       let target : IsTarget a x.heap (id_by g0 l.to) = mid_target k may v.seen between a m (id_by g0 l.to) (subst (λ z. IsTarget a z (id_by g0 l.to)) heap_now knows) in
       let fits : FitsAfter (numbers k) (project k v.seen ++ es) (aim_event s row l) = (subst (λ (z : Heap × ℕ). IsFresh a z.0 z.1) (λ i. (heap i, one i)) (fresh_at between m row is), subst (λ z. IsTarget a z (id_by g0 l.to)) heap target) in
-      let ok : may (project k v.seen ++ es) (aim_event s row l) = allowed es record { allowed = m.allowed; others = none_by a es m.none } fits in
+      let ok : may (project k v.seen ++ es) (aim_event s row l) = allowed es record { allowed = m.allowed; others = m.none } fits in
       subst (λ (z : List (Event N) × ℕ × Option ℕ). may z.0 (event a (act.Aim z.1 z.2) None)) (λ i. (sym m.events i, sym one i, sym to i)) ok)

@@ -7,8 +7,9 @@ use Rattle.orc_words.specs.declared.place.Word.TheVariants as word
 use Rattle.orc_words.specs.declared.shape.Shape.{Shape}
 use Rattle.orc_heap.specs.Acts.{with_value}
 use Rattle.orc_heap.specs.Allowed.{AllAllowed}
-use Rattle.orc_heap.specs.Heap.{new_heap, new_node, null}
+use Rattle.orc_heap.specs.Heap.{HeapNumbers, new_heap, new_node, null}
 use Rattle.orc_heap.specs.Journals.{run_from as heap_from}
+use Rattle.orc_heap.specs.Seeds.{DummyAllowed, HasRoots, SeedAllowed, dummy_link, dummy_node, opening_events}
 use Rattle.orc_heap.specs.declared.discipline.Discipline as discipline
 use Rattle.orc_heap.specs.declared.events.Act.TheVariants as act
 use Rattle.orc_heap.specs.declared.events.Event.{Event}
@@ -17,11 +18,11 @@ use Rattle.orc_heap.proofs.Stays.{stays}
 use Rattle.orc_shared_words.specs.Ends.{Opens}
 use Rattle.orc_shared_words.specs.Runs.{AgentsBelow}
 use Rattle.orc_table.specs.Machine.{State, AllowedFrom, event, events_at, new_words, next, numbers, project, project_from, run, run_from, start, tested, unmarked}
-use Rattle.orc_table.specs.Rules.{DummyAllowed, HasRoots, SeedAllowed, dummy_link, dummy_node, opening_events, opening_steps, plain_rules, step_of}
+use Rattle.orc_table.specs.Rules.{opening_steps, plain_rules, step_of}
 use Rattle.orc_table.specs.declared.machine.PlainOp.TheVariants.{GateTake, Fill, LinkCas}
 use Rattle.orc_table.specs.declared.machine.PlainStep.{PlainStep}
-use Rattle.orc_table.specs.declared.seed.Seed.{Seed}
-use Rattle.orc_table.specs.declared.seed.Seed.TheVariants.{Empty, Dummy}
+use Rattle.orc_heap.specs.declared.seed.Seed.{Seed}
+use Rattle.orc_heap.specs.declared.seed.Seed.TheVariants.{Empty, Dummy}
 use Rattle.orc_table.proofs.Lists.{same_word}
 use Rattle.orc_table.proofs.Ties.{tie_start, zero_word}
 
@@ -99,7 +100,7 @@ module _ {N : Type 0} (b : Bounds) (first : ℕ) (begin : N) (roots : 2 ≤ b.ro
       → slice_set (slice_set (slice_set (slice_set (slice_set items p1 3) p2 0) p3 first) p4 link) p5 link ≡ (run b (opening_steps (Dummy first begin))).words
   written_words items p1 p2 p3 p4 p5 link e e1 e2 e3 e4 e5 e6 = (λ i. slice_set (slice_set (slice_set (slice_set (slice_set (e i) (e1 i) 3) (e2 i) 0) (e3 i) first) (e4 i) (e6 i)) (e5 i) (e6 i)) ∙ sym dummy_run
 
-module _ {D N : Type 0} (d : discipline.Ghosts D N) (b : Bounds) (first : ℕ) (begin : N) (began : d.holds (numbers b) []) (can : DummyAllowed (d.may (numbers b)) b first begin) where
+module _ {D N : Type 0} (d : discipline.Ghosts D N) (b : Bounds) (first : ℕ) (begin : N) (began : d.holds (numbers b) []) (can : DummyAllowed d.may (numbers b) first begin) where
   abbrev holds : List (Event N) → Type 0
   holds = d.holds (numbers b)
 
@@ -118,23 +119,23 @@ module _ {D N : Type 0} (d : discipline.Ghosts D N) (b : Bounds) (first : ℕ) (
       let m2 : may (e0 ∷ e1 ∷ []) e2 = d.allows_plain (numbers b) (e0 ∷ e1 ∷ []) e2 h2 (record { node = with_value 0 0 (new_node 0); there = refl; mine = refl; unlinked = refl }, omega arith) (refl, tt) in
       (m0, (m1, (m2, (can.first_link, (can.second_link, tt)))))
 
-pub has_roots : {N : Type 0} (may : List (Event N) → Event N → Type 0) (b : Bounds) (seed : Seed N) → SeedAllowed may b seed → HasRoots b seed
-has_roots may b Empty can = tt
-has_roots may b (Dummy first begin) can = can.roots
+pub has_roots : {N : Type 0} (may : HeapNumbers → List (Event N) → Event N → Type 0) (n : HeapNumbers) (seed : Seed N) → SeedAllowed may n seed → HasRoots n seed
+has_roots may n Empty can = tt
+has_roots may n (Dummy first begin) can = can.roots
 
 module _ {D N : Type 0} (d : discipline.Ghosts D N) (shape : Shape) where
   abbrev k : Bounds
   k = bounds_of shape
 
-  pub opened_events : (seed : Seed N) → HasRoots k seed → project k (opening_steps seed) ≡ opening_events seed
+  pub opened_events : (seed : Seed N) → HasRoots (numbers k) seed → project k (opening_steps seed) ≡ opening_events seed
   opened_events Empty roots = refl
   opened_events (Dummy first begin) roots = let some = shape.some_rows in dummy_events k first begin roots (omega (arith, some))
 
-  opened_each : (seed : Seed N) → d.holds (numbers k) [] → SeedAllowed (d.may (numbers k)) k seed → AllAllowed (d.may (numbers k)) [] (opening_events seed)
+  opened_each : (seed : Seed N) → d.holds (numbers k) [] → SeedAllowed d.may (numbers k) seed → AllAllowed (d.may (numbers k)) [] (opening_events seed)
   opened_each Empty began can = tt
   opened_each (Dummy first begin) began can = dummy_each d k first begin began can
 
-  opened_lawful : (seed : Seed N) → SeedAllowed (d.may (numbers k)) k seed → AllowedFrom k (opening_steps seed)
+  opened_lawful : (seed : Seed N) → SeedAllowed d.may (numbers k) seed → AllowedFrom k (opening_steps seed)
   opened_lawful Empty can = tt
   opened_lawful (Dummy first begin) can =
       let some = shape.some_rows in
@@ -149,9 +150,9 @@ module _ {D N : Type 0} (d : discipline.Ghosts D N) (shape : Shape) where
   opened_below (Dummy first begin) = let some = shape.some_agents in let one : 0 < k.agents = omega (arith, some) in (one, (one, (one, (one, (one, tt)))))
 
   -- the opening is allowed
-  pub opens : (seed : Seed N) → d.holds (numbers k) [] → SeedAllowed (d.may (numbers k)) k seed → Opens plain_rules (record { shape = shape; seed = seed }) (d.holds (numbers k)) (d.may (numbers k))
+  pub opens : (seed : Seed N) → d.holds (numbers k) [] → SeedAllowed d.may (numbers k) seed → Opens plain_rules (record { shape = shape; seed = seed }) (d.holds (numbers k)) (d.may (numbers k))
   opens seed began can =
-      let events = opened_events seed (has_roots (d.may (numbers k)) k seed can) in
+      let events = opened_events seed (has_roots d.may (numbers k) seed can) in
       let each = subst (AllAllowed (d.may (numbers k)) []) (sym events) (opened_each seed began can) in
       let some = shape.some_agents in record {
         lawful = opened_lawful seed can;
@@ -163,6 +164,6 @@ module _ {D N : Type 0} (d : discipline.Ghosts D N) (shape : Shape) where
       }
 
   -- an opening that is lawful has the roots that it links from
-  pub lawful_roots : (seed : Seed N) → AllowedFrom k (opening_steps seed) → HasRoots k seed
+  pub lawful_roots : (seed : Seed N) → AllowedFrom k (opening_steps seed) → HasRoots (numbers k) seed
   lawful_roots Empty can = tt
   lawful_roots (Dummy first begin) can = let two = can.1.1.1.1.0 in omega (arith, two)

@@ -6,7 +6,7 @@ ghost use Rattle.orc_words.specs.Packed.{link_word};
 ghost use Rattle.orc_words.specs.Places.{place};
 ghost use Rattle.orc_table.specs.Machine.{unmarked, value_word};
 
-use crate::seed::PlainShape;
+use crate::shape::PlainShape;
 use orc_shared_words::{Machine, Operation};
 use orc_words::{RowLink, Shape, Word};
 

@@ -5,14 +5,15 @@ ghost use Rattle.orc_words.specs.Bounds.{bounds_of};
 ghost use Rattle.orc_words.specs.Places.{places};
 ghost use Rattle.orc_shared_words.specs.Lists.{EachAt};
 ghost use Rattle.orc_table.specs.Machine.{new_words, numbers, run};
-ghost use Rattle.orc_table.specs.Rules.{HasRoots, SeedAllowed, opening_events, opening_steps};
+ghost use Rattle.orc_heap.specs.Seeds.{HasRoots, SeedAllowed, opening_events};
+ghost use Rattle.orc_table.specs.Rules.{opening_steps};
 ghost use Rattle.orc_table.specs.Views.{Belongs, EachFrom, board_bounds, board_seed, shows};
 
 use crate::machine::{OUT, Plain, place_in, word};
 use crate::pass::{PlainBoard, PlainBoardPass};
-use crate::seed::{PlainShape, Seed};
+use crate::shape::PlainShape;
 use orc_fault::NoMemory;
-use orc_heap::Discipline;
+use orc_heap::{Discipline, Seed};
 use orc_shared_words::{SharedPass, SharedWords};
 use orc_words::{NEW_COUNTER, RowLink, Shape, Word};
 use std::alloc::Global;
@@ -29,7 +30,7 @@ impl<D: Discipline> PlainBoard<D> {
         seed: Seed<D::Note>,
     ) -> Result<(PlainBoard<D>, Vec<PlainBoardPass<D>>), NoMemory>
         requires holds { D.holds (numbers (bounds_of shape.now)) [] }
-        requires seed { SeedAllowed (D.may (numbers (bounds_of shape.now))) (bounds_of shape.now) seed }
+        requires seed { SeedAllowed D.may (numbers (bounds_of shape.now)) seed }
         ensures bounds { IfOk result (λ made. board_bounds made.0 ≡ bounds_of shape.now) }
         ensures seed { IfOk result (λ made. board_seed made.0 ≡ seed) }
         ensures passes { IfOk result (λ made. length made.1.items ≡ (bounds_of shape.now).agents) }
@@ -89,7 +90,7 @@ fn new_words(alloc: Global, shape: &Shape) -> Result<Vec<u64>, NoMemory>
 
 // the words that the seed's steps leave
 fn opening_words<N>(alloc: Global, shape: &Shape, seed: &Seed<N>) -> Result<Vec<u64>, NoMemory>
-    requires roots { HasRoots (bounds_of shape.now) seed.now }
+    requires roots { HasRoots (numbers (bounds_of shape.now)) seed.now }
     ensures words { IfOk result (λ words. words.items ≡ (run (bounds_of shape.now) (opening_steps seed.now)).words) }
     ensures long { IfOk result (λ words. length words.items ≡ places (bounds_of shape.now)) }
 {
