@@ -81,7 +81,8 @@ not_linked agent h i id x there own l e =
     let t : true ≡ false = sym l.linked ∙ (ap (λ z. z.linked) k ∙ own.unlinked) in
     cc
 
-not_reached : (agent by : ℕ) (h : Heap) (to : Option ℕ) (id : ℕ) (x : Node) → by ≢ agent → slice_get h.nodes id ≡ Some x → IsOwn agent x → IsTarget by h to → names_node to id ≡ true → ⊥
+-- another agent may not name it
+pub not_reached : (agent by : ℕ) (h : Heap) (to : Option ℕ) (id : ℕ) (x : Node) → by ≢ agent → slice_get h.nodes id ≡ Some x → IsOwn agent x → IsTarget by h to → names_node to id ≡ true → ⊥
 not_reached agent by h None id x other there own reach e = cc
 not_reached agent by h (Some i) id x other there own reach e =
     let k = same_node h i id x reach.node reach.there there (eqb-true i id e) in

@@ -13,3 +13,4 @@ pub mod Slots
 pub mod Stays
 pub mod Steps
 pub mod Told
+pub mod Untouched

@@ -7,3 +7,4 @@ pub mod Seats
 pub mod OwnEvents
 pub mod Calls
 pub mod Moves
+pub mod Seeds
