@@ -1,5 +1,5 @@
 -- What single acts do to roots and links; links to nodes.
-use Rattle.std.proofs.Common.{Bool, List, None, Some, ap, false, inl, inr, refl, sym, ℕ, ◌==◌, ◌∙◌, ◌≡◌, ◌≢◌, ◌⊎◌, true}
+use Rattle.std.proofs.Common.{Bool, List, None, Option, Some, ap, false, inl, inr, refl, sym, ℕ, ◌==◌, ◌∙◌, ◌≡◌, ◌≢◌, ◌⊎◌, true, option_map}
 use Rattle.std.proofs.lemmas.Bool.{eqb-false, eqb-true}
 use Rattle.std.specs.List.{slice_get}
 use Rattle.std.specs.Prelude.{if◌then◌else◌}
@@ -29,6 +29,14 @@ shown_link h d link l = shown_node h d l.node l.there ∙ ap (λ (x : Link). Som
 
 pub link_shown : (h : Heap) (d : ℕ) (link : Link) (n : Node) → slice_get h.nodes d ≡ Some n → shown h (Next d) ≡ Some link → n.link ≡ link
 link_shown h d link n there at = some_same (sym (shown_node h d n there) ∙ at)
+
+node_in : (o : Option Node) (link : Link) → option_map (λ (n : Node). n.link) o ≡ Some link → (n : Node) × (o ≡ Some n) × (n.link ≡ link)
+node_in None link e = cc
+node_in (Some n) link e = (n, refl, some_same e)
+
+-- a node whose link shows is there
+pub node_shown : (h : Heap) (id : ℕ) (link : Link) → shown h (Next id) ≡ Some link → (n : Node) × (slice_get h.nodes id ≡ Some n) × (n.link ≡ link)
+node_shown h id link e = node_in (slice_get h.nodes id) link e
 
 pub linked_node : (h : Heap) (d : ℕ) (link : Link) → HasLink h d link → IsLinkedNode h d
 linked_node h d link l = record { node = l.node; there = l.there; linked = l.linked }

@@ -6,18 +6,13 @@ use Rattle.std.proofs.lemmas.List.Elements.{filter-append}
 use Rattle.std.proofs.lemmas.List.Folds.{list_all-append}
 use Rattle.std.proofs.Math.Seq.{drop-append_seam, take-append_seam}
 use Rattle.std.specs.List.{list_all}
-use Rattle.std.specs.Prelude.{◌&&◌}
 use mathlib.Core.List.{IsPrefix}
-use Rattle.orc_heap.proofs.OwnParts.{own_join}
+use Rattle.orc_heap.proofs.OwnParts.{both, own_join}
 use Rattle.orc_heap.specs.Allowed.{events_by}
 use Rattle.orc_heap.specs.Moves.{AllOwn}
 use Rattle.orc_history.specs.Journals.{own_of}
 use Rattle.orc_history.specs.Parts.{IsAlone, first_step, part_begin, part_of}
 use Rattle.orc_heap.specs.declared.events.Event.{Event}
-
-both : (a b : Bool) → (a && b) ≡ true → (a ≡ true) × (b ≡ true)
-both true b e = (refl, e)
-both false b e = cc
 
 -- the steps from the agent's first one on
 from_first : {S : Type 0} → (S → ℕ) → ℕ → List S → List S

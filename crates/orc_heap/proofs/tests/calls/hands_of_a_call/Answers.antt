@@ -1,6 +1,6 @@
 use Rattle.std.proofs.Common.{None, Some, [], refl, suc, zero, ℕ, ◌∷◌, ◌≡◌, slice_get}
-use Rattle.orc_heap.specs.Hands.{Hand, IsApart, hand}
-use Rattle.orc_heap.specs.Slots.{SlotNode, Slots}
+use Rattle.orc_heap.specs.Hands.{IsApart, hand}
+use Rattle.orc_heap.specs.Slots.{Slots}
 use Rattle.orc_heap.proofs.tests.calls.hands_of_a_call.Goals as goal
 
 abbrev before : Slots
