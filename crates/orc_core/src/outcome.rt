@@ -8,7 +8,7 @@ ghost use Rattle.orc_core.specs.After.{IsRecordable, after, bared, cut_of, due_a
 
 use crate::actions::clear_word;
 use crate::ops::{CounterUse, Op};
-use crate::parts::{SEQUENCE, is_clear, kept, names, number_of, same_target};
+use crate::parts::{SEQUENCE, is_clear, kept, same_target};
 use crate::records::{Agent, Doom, Reading, Scan, SlotUse};
 use orc_words::{DECREMENT, INCREMENT, RETIRED, RowLink, named, pack_link};
 
@@ -98,7 +98,7 @@ pub fn advance(agent: &mut Agent, op: &Op, read: u64)
             }
         }
         Op::Publish { slot, row } => {
-            agent.slots[*slot as usize] = if names(agent.fresh, *row) {
+            agent.slots[*slot as usize] = if agent.is_fresh(*row) {
                 SlotUse::Held(*row)
             } else {
                 SlotUse::Published(*row)
@@ -153,7 +153,7 @@ fn gate_taken(agent: &mut Agent, row: u32, read: u64)
     requires { IsPackable (Op.GateTake row) agent.old }
     ensures { agent.new ≡ after (Op.GateTake row) agent.old read }
 {
-    if read == 2 * number_of(agent.looked) {
+    if read == 2 * agent.life_seen() {
         agent.fresh = Some(row);
     }
     agent.looked = None;
@@ -196,7 +196,7 @@ fn bit_tried(agent: &mut Agent, row: u32, sequence: u64, read: u64)
 {
     agent.due = None;
     if read == clear_word(sequence) {
-        if names(agent.fresh, row) {
+        if agent.is_fresh(row) {
             agent.fresh = None;
         }
         agent.list.push(row);
@@ -230,7 +230,7 @@ fn counter_read(agent: &mut Agent, row: u32, how: CounterUse, read: u64)
             number: read / SEQUENCE,
         }),
         CounterUse::Start => {
-            if !names(agent.hand, row) {
+            if !agent.has_in_hand(row) {
                 agent.list.leave_first();
             }
             agent.hand = None;

@@ -7,6 +7,7 @@ use std::process::Abort;
 use std::test::Fail;
 
 mod examples;
+mod permissions;
 
 const NULL: RowLink = RowLink {
     to: None,

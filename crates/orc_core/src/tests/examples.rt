@@ -4,16 +4,16 @@ ghost use Rattle.std.specs.Prelude.{◌≡◌, ◌≢◌, ℕ, ◌+◌, ◌∷�
 ghost use Rattle.orc_core.specs.declared.records.Agent.{Agent};
 ghost use Rattle.orc_core.specs.Listed.{listed_more, listed_name, listed_rest, first_is};
 ghost use Rattle.orc_core.specs.RecordParts.{any_holds, checked_below, holds, is_clear, names, scan_empty};
-ghost use Rattle.orc_core.specs.Actions.{action_of, answer_of, clear_word, word_after, IsPackable};
+ghost use Rattle.orc_core.specs.Actions.{action_of, clear_word, IsPackable};
 ghost use Rattle.orc_core.specs.After.{after, bared, cut_of, due_after, promoted, scan_on, IsRecordable};
 ghost use Rattle.orc_core.specs.Allowed.{fits, forced, in_order, may, may_change, may_place};
-ghost use Rattle.orc_core.specs.Machine.{answer, first_word, has_room, is_allowed, new_machine, nobody, step, word_in};
+ghost use Rattle.orc_core.specs.Machine.{answer, has_room, is_allowed, new_machine, nobody, step, word_in};
 ghost use Rattle.orc_core.specs.Runs.{IsLawful, run};
 ghost use Rattle.orc_core.specs.Sums.{count_below, some_below, sum_below};
 ghost use Rattle.orc_core.specs.Counts.{census_of, is_target, links_to};
 
-use crate::{Op, Operation, SlotUse};
-use orc_words::Word;
+use crate::{Op, SlotUse};
+use orc_words::{Operation, Word};
 
 /// A work list is taken from at its front and added to at its end.
 fn work_lists()
@@ -37,21 +37,9 @@ fn parts()
     ensures count_1 { is_clear 20971521 ≡ false }
 {}
 
-/// What the operations leave and answer.
-fn operations()
-    ensures taken { word_after (Operation.CompareExchange 0 3) 0 ≡ 3 }
-    ensures not_taken { word_after (Operation.CompareExchange 0 3) 2 ≡ 2 }
-    ensures failed { answer_of (Operation.CompareExchange 0 3) 2 ≡ 0 }
-    ensures incremented { word_after (Operation.Add 16777217) 4194304 ≡ 20971521 }
-    ensures bit_cleared { word_after (Operation.Sub 8388608) 46137344 ≡ 37748736 }
-    ensures wraps { word_after (Operation.Sub 1) 0 ≡ 18446744073709551615 }
-    ensures stored { answer_of (Operation.Store 5) 9 ≡ 5 }
-    ensures swapped { answer_of (Operation.Swap 5) 9 ≡ 9 }
-    ensures sequence_2 { clear_word 2 ≡ 37748736 }
-{}
-
 /// Scan place 10 is slot 2 of agent 1, and slot words hold the row + 1.
 fn actions()
+    ensures sequence_2 { clear_word 2 ≡ 37748736 }
     ensures look { action_of 0 (Op.SlotLook 10) (nobody 2) ≡ record { word = Word.Slot 1 2; operation = Operation.Load } }
     ensures hand { action_of 0 (Op.Hand 10) (record (nobody 2) { scan = Some (record { row = 6; word = 4194304; place = 10; found = true }) }) ≡ record { word = Word.Handover 1 2; operation = Operation.Swap 7 } }
     ensures arm { action_of 3 (Op.Arm 6) (nobody 2) ≡ record { word = Word.Slot 3 0; operation = Operation.Store 7 } }
@@ -99,10 +87,8 @@ fn permissions()
     ensures gate { may_place (record { rows = 2; roots = 1; agents = 2; limit = 8 }) (Word.Gate 0) (λ r. true) ≡ false }
 {}
 
-/// Place 3 is the counter of row 0 in a table of one root, and place 2 its gate.
+/// The first agent enrolls first.
 fn states()
-    ensures counter { first_word (record { rows = 2; roots = 1; agents = 2; limit = 8 }) 3 ≡ 4194304 }
-    ensures gate { first_word (record { rows = 2; roots = 1; agents = 2; limit = 8 }) 2 ≡ 0 }
     ensures enrolled { word_in (step (new_machine (record { rows = 2; roots = 1; agents = 2; limit = 8 })) 0 Op.Enroll) Word.Enrolled ≡ 1 }
     ensures answered { answer (new_machine (record { rows = 2; roots = 1; agents = 2; limit = 8 })) 0 Op.Enroll ≡ 0 }
     ensures room { has_room (new_machine (record { rows = 2; roots = 1; agents = 2; limit = 8 })) 0 ≡ true }
