@@ -23,7 +23,7 @@ impl Action {
     }
 }
 
-/// The counter word with count 0, no retired bit and this sequence.
+// The counter word with count 0, no retired bit and this sequence.
 pub(crate) fn clear_word(sequence: u64) -> u64
     requires { sequence < 2 ^ 40 }
     ensures { result ≡ clear_word sequence }
@@ -31,7 +31,7 @@ pub(crate) fn clear_word(sequence: u64) -> u64
     sequence * SEQUENCE + NEW_COUNTER
 }
 
-/// The first or the second value of a row.
+// The first or the second value of a row.
 fn value_word(row: u32, which: u32) -> Word
     ensures { result ≡ cond (which == 0) (Word.First row) (Word.Second row) }
 {

@@ -6,7 +6,7 @@ ghost use Rattle.orc_core.specs.RecordParts.{any_holds, checked_below, doom_bare
 use crate::records::{Agent, Doom, Reading, Scan, SlotUse};
 use orc_words::{NEW_COUNTER, RETIRED};
 
-/// The part of a counter word that holds its count.
+// The part of a counter word that holds its count.
 const COUNT_RANGE: u64 = RETIRED;
 
 /// The first bit of a counter word's sequence.

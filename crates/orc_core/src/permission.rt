@@ -40,7 +40,7 @@ fn arms_or_decrements(op: &Op, row: u32) -> bool
     }
 }
 
-/// Whether what must come first lets this step go: due, then inc, then dec.
+// Whether what must come first lets this step go: due, then inc, then dec.
 fn forced(agent: &Agent, op: &Op) -> bool
     ensures { result ≡ forced agent.now op.now }
 {
@@ -70,7 +70,7 @@ fn may_change(agent: &Agent, limit: u64, from: Option<u32>, to: Option<u32>) -> 
     }
 }
 
-/// A root, or the next word of a row that the agent holds or has fresh.
+// A root, or the next word of a row that the agent holds or has fresh.
 fn may_read(shape: &Shape, agent: &Agent, place: Word) -> bool
     ensures { result ≡ may_place (bounds_of shape.now) place
         (λ r. any_holds agent.now.slots r || names agent.now.fresh r) }
@@ -82,7 +82,7 @@ fn may_read(shape: &Shape, agent: &Agent, place: Word) -> bool
     }
 }
 
-/// A root, or the next word of a row that the agent holds and that is not its fresh one.
+// A root, or the next word of a row that the agent holds and that is not its fresh one.
 fn may_write(shape: &Shape, agent: &Agent, place: Word) -> bool
     ensures { result ≡ may_place (bounds_of shape.now) place
         (λ r. any_holds agent.now.slots r && not (names agent.now.fresh r)) }
@@ -145,7 +145,7 @@ fn may_count(shape: &Shape, agent: &Agent, row: u32, how: CounterUse) -> bool
     }
 }
 
-/// Each kind's own condition.
+// Each kind's own condition.
 fn fits(shape: &Shape, enrolled: u64, number: u32, op: &Op, agent: &Agent) -> bool
     ensures { result ≡ fits (bounds_of shape.now) enrolled number op.now agent.now }
 {
@@ -206,7 +206,7 @@ fn fits(shape: &Shape, enrolled: u64, number: u32, op: &Op, agent: &Agent) -> bo
     }
 }
 
-/// Every kind but Enroll needs an enrolled agent.
+// Every kind but Enroll needs an enrolled agent.
 fn stands(op: &Op, agent: &Agent) -> bool
     ensures { result ≡ stands op.now agent.now }
 {

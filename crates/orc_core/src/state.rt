@@ -48,7 +48,7 @@ impl Model for State {
 #[derive(Clone, Copy, Debug, PartialEq, Eq)]
 pub struct NotAllowed;
 
-/// The records of a new table.
+// The records of a new table.
 fn new_agents(alloc: Global, shape: &Shape) -> Result<Vec<Agent>, NoMemory>
     ensures { let bounds = bounds_of shape.now in
         IfOk result (λ agents. agents.items ≡ replicate bounds.agents (nobody bounds.rows)) }
@@ -155,7 +155,7 @@ pub fn allowed(state: &State, agent: u32, op: &Op) -> bool
     )
 }
 
-/// The step that is allowed, on the words and the agent's record.
+// The step that is allowed, on the words and the agent's record.
 fn make_step(shape: &Shape, words: &mut [u64], number: u32, op: &Op, agent: &mut Agent) -> u64
     requires allowed { may (bounds_of shape.now) (slice_index words.old 0) number op.now agent.old ≡ true }
     requires long { length words.old ≡ places (bounds_of shape.now) }

@@ -15,7 +15,7 @@ ghost use Rattle.orc_core.specs.Counts.{census_of, is_target, links_to};
 use crate::{Op, SlotUse};
 use orc_words::{Operation, Word};
 
-/// A work list is taken from at its front and added to at its end.
+// A work list is taken from at its front and added to at its end.
 fn work_lists()
     ensures more { listed_more (record { items = 4 ∷ []; room = 9 }) 7 ≡ record { items = 4 ∷ 7 ∷ []; room = 9 } }
     ensures rest { listed_rest (record { items = 4 ∷ 7 ∷ []; room = 9 }) ≡ record { items = 7 ∷ []; room = 9 } }
@@ -24,7 +24,7 @@ fn work_lists()
     ensures not_last { first_is (4 ∷ 7 ∷ []) 7 ≡ false }
 {}
 
-/// 37,748,736 is 2 × 2^24 + 2^22: count 0, no bit, sequence 2. With the bit it is 46,137,344.
+// 37,748,736 is 2 × 2^24 + 2^22: count 0, no bit, sequence 2. With the bit it is 46,137,344.
 fn parts()
     ensures named { names (Some 3) 3 ≡ true }
     ensures not_named { names None 0 ≡ false }
@@ -37,7 +37,7 @@ fn parts()
     ensures count_1 { is_clear 20971521 ≡ false }
 {}
 
-/// Scan place 10 is slot 2 of agent 1, and slot words hold the row + 1.
+// Scan place 10 is slot 2 of agent 1, and slot words hold the row + 1.
 fn actions()
     ensures sequence_2 { clear_word 2 ≡ 37748736 }
     ensures look { action_of 0 (Op.SlotLook 10) (nobody 2) ≡ record { word = Word.Slot 1 2; operation = Operation.Load } }
@@ -48,7 +48,7 @@ fn actions()
     ensures too_far { ¬ IsPackable (Op.SetRetired 0 1099511627776) (nobody 2) }
 {}
 
-/// What follows from the word that was read.
+// What follows from the word that was read.
 fn records()
     ensures taken { (after (Op.GateTake 1) (record (nobody 2) { looked = Some (record { row = 1; number = 3 }) }) 6).fresh ≡ Some 1 }
     ensures lost { (after (Op.GateTake 1) (record (nobody 2) { looked = Some (record { row = 1; number = 3 }) }) 9).fresh ≡ None }
@@ -63,7 +63,7 @@ fn records()
     ensures ninth_slot { ¬ IsRecordable (Op.Clear 8) (nobody 2) }
 {}
 
-/// A due row stands before a pending increment, and that before a pending decrement.
+// A due row stands before a pending increment, and that before a pending decrement.
 fn order()
     ensures due { in_order (Some (record { row = 1; number = 2 })) (Some 3) (Some 4) (Op.SetRetired 1 2) ≡ true }
     ensures not_inc { in_order (Some (record { row = 1; number = 2 })) (Some 3) (Some 4) (Op.Inc 3) ≡ false }
@@ -74,7 +74,7 @@ fn order()
     ensures free { in_order None None None Op.Enroll ≡ true }
 {}
 
-/// An agent that isn't enrolled may only enroll, and a look is for every row of the table.
+// An agent that isn't enrolled may only enroll, and a look is for every row of the table.
 fn permissions()
     ensures enroll { may (record { rows = 2; roots = 1; agents = 2; limit = 8 }) 1 1 Op.Enroll (nobody 2) ≡ true }
     ensures too_early { may (record { rows = 2; roots = 1; agents = 2; limit = 8 }) 0 1 Op.Enroll (nobody 2) ≡ false }
@@ -87,7 +87,7 @@ fn permissions()
     ensures gate { may_place (record { rows = 2; roots = 1; agents = 2; limit = 8 }) (Word.Gate 0) (λ r. true) ≡ false }
 {}
 
-/// The first agent enrolls first.
+// The first agent enrolls first.
 fn states()
     ensures enrolled { word_in (step (new_machine (record { rows = 2; roots = 1; agents = 2; limit = 8 })) 0 Op.Enroll) Word.Enrolled ≡ 1 }
     ensures answered { answer (new_machine (record { rows = 2; roots = 1; agents = 2; limit = 8 })) 0 Op.Enroll ≡ 0 }
@@ -96,7 +96,7 @@ fn states()
     ensures not_lawful { ¬ IsLawful (new_machine (record { rows = 2; roots = 1; agents = 2; limit = 8 })) ((1, Op.Enroll) ∷ []) }
 {}
 
-/// 0 + 1 + 2 + 3, and which of these are below 2.
+// 0 + 1 + 2 + 3, and which of these are below 2.
 fn sums()
     ensures sum { sum_below 4 (λ i. i) ≡ 6 }
     ensures count { count_below 4 (λ i. nat_lt i 2) ≡ 2 }

@@ -15,7 +15,7 @@ ghost use Rattle.orc_core.specs.Machine.{nobody};
 use crate::{CounterUse, Op, SlotUse};
 use orc_words::Word;
 
-/// The agents enroll in order, each once, and every row of the table may be looked at and checked.
+// The agents enroll in order, each once, and every row of the table may be looked at and checked.
 fn enroll_look_and_check()
     ensures enroll { let b : Bounds = record { rows = 2; roots = 1; agents = 2; limit = 8 } in
         (fits b 1 1 Op.Enroll (nobody 2) ≡ true) × (fits b 0 1 Op.Enroll (nobody 2) ≡ false)
@@ -29,7 +29,7 @@ fn enroll_look_and_check()
         × (fits b 1 0 (Op.CounterLoad 2 CounterUse.Check) (nobody 2) ≡ false) }
 {}
 
-/// A row is taken with a life and a sequence that were read of it, both below the limit, and with no fresh row.
+// A row is taken with a life and a sequence that were read of it, both below the limit, and with no fresh row.
 fn take_a_row()
     ensures numbers { let b : Bounds = record { rows = 2; roots = 1; agents = 2; limit = 8 } in
         let d : ℕ → ℕ → Agent = λ life sequence. record (nobody 2) {
@@ -53,7 +53,7 @@ fn take_a_row()
         }) ≡ false }
 {}
 
-/// The values of the fresh row are written; those of a held or fresh row are read.
+// The values of the fresh row are written; those of a held or fresh row are read.
 fn fill_and_read()
     ensures fill { let b : Bounds = record { rows = 2; roots = 1; agents = 2; limit = 8 } in
         let d : ℕ → Agent = λ r. record (nobody 2) { fresh = Some r } in
@@ -69,7 +69,7 @@ fn fill_and_read()
         fits b 1 0 (Op.Read 1 0) (record (nobody 2) { fresh = Some 1 }) ≡ true }
 {}
 
-/// The link of a root, or of a held or fresh row, is loaded; a slot that is named with it is Published.
+// The link of a root, or of a held or fresh row, is loaded; a slot that is named with it is Published.
 fn load_a_link()
     ensures root { let b : Bounds = record { rows = 2; roots = 1; agents = 2; limit = 8 } in
         (fits b 1 0 (Op.LinkLoad (Word.Root 0) None) (nobody 2) ≡ true)
@@ -90,8 +90,8 @@ fn load_a_link()
         × (fits b 1 0 (Op.LinkLoad (Word.Root 1) (Some 1)) (d (SlotUse.Published 1)) ≡ false) }
 {}
 
-/// An empty slot from 1 to 7 may name any row. A slot is emptied unless it holds the fresh row: one that was Published
-/// before the row was taken may be emptied.
+// An empty slot from 1 to 7 may name any row. A slot is emptied unless it holds the fresh row: one that was Published
+// before the row was taken may be emptied.
 fn publish_and_clear()
     ensures publish { let b : Bounds = record { rows = 2; roots = 1; agents = 2; limit = 8 } in
         (fits b 1 0 (Op.Publish 7 1) (nobody 2) ≡ true) × (fits b 1 0 (Op.Publish 0 1) (nobody 2) ≡ false)
@@ -108,7 +108,7 @@ fn publish_and_clear()
         × (fits b 1 0 (Op.Clear 1) (d (SlotUse.Held 1)) ≡ true) }
 {}
 
-/// A row that a link newly shows was checked, with a sequence below limit + 64 = 72, and is held, as the old target is.
+// A row that a link newly shows was checked, with a sequence below limit + 64 = 72, and is held, as the old target is.
 fn swing_a_link()
     ensures sequences { let b : Bounds = record { rows = 2; roots = 1; agents = 2; limit = 8 } in
         let d : ℕ → Agent = λ n. record (nobody 2) { slots = SlotUse.Empty ∷ SlotUse.Held 1 ∷ []; checked = Some (record { row = 1; number = n }) } in
@@ -134,7 +134,7 @@ fn swing_a_link()
         (record (nobody 2) { slots = SlotUse.Empty ∷ SlotUse.Held 2 ∷ []; checked = Some (record { row = 2; number = 0 }) }) ≡ false }
 {}
 
-/// The link of a held row that isn't fresh may be changed.
+// The link of a held row that isn't fresh may be changed.
 fn swing_at_a_place()
     ensures places { let b : Bounds = record { rows = 2; roots = 1; agents = 2; limit = 8 } in
         let d : Option ℕ → Agent = λ fresh. record (nobody 2) { fresh = fresh; slots = SlotUse.Empty ∷ SlotUse.Held 1 ∷ SlotUse.Published 0 ∷ [] } in
@@ -144,7 +144,7 @@ fn swing_at_a_place()
         × (fits b 1 0 (op (Word.Next 1)) (d (Some 1)) ≡ false) × (fits b 1 0 (op (Word.Second 1)) (d None) ≡ false) }
 {}
 
-/// The fresh row's link is set to null, or to a held row that was checked below limit + 64 = 72; a doomed row's to the word 0.
+// The fresh row's link is set to null, or to a held row that was checked below limit + 64 = 72; a doomed row's to the word 0.
 fn store_a_link()
     ensures sequences { let b : Bounds = record { rows = 2; roots = 1; agents = 2; limit = 8 } in
         let d : ℕ → Agent = λ n. record (nobody 2) {
@@ -173,7 +173,7 @@ fn store_a_link()
         × (fits b 1 0 (op (record { to = None; mark = false })) (d (record { row = 1; cut = false; bare = false })) ≡ false) }
 {}
 
-/// Slot 0 protects a row that is to be decremented, or a scanned row whose count isn't 0.
+// Slot 0 protects a row that is to be decremented, or a scanned row whose count isn't 0.
 fn arm_and_count()
     ensures arm { let b : Bounds = record { rows = 2; roots = 1; agents = 2; limit = 8 } in
         let d : SlotUse → Agent = λ s. record (nobody 2) { dec = Some 1; slots = s ∷ [] } in
@@ -193,7 +193,7 @@ fn arm_and_count()
         × (fits b 1 0 (Op.Dec 0) (record (nobody 2) { dec = Some 1; slots = SlotUse.Held 0 ∷ [] }) ≡ false) }
 {}
 
-/// A due row's bit is tried at its sequence, and a fresh row's at any below 2^40.
+// A due row's bit is tried at its sequence, and a fresh row's at any below 2^40.
 fn try_the_bit()
     ensures due { let b : Bounds = record { rows = 2; roots = 1; agents = 2; limit = 8 } in
         let d : ℕ → Agent = λ n. record (nobody 2) { due = Some (record { row = 1; number = n }) } in
@@ -205,7 +205,7 @@ fn try_the_bit()
         × (fits b 1 0 (Op.SetRetired 1 0) (d 0) ≡ false) × (fits b 1 0 (Op.SetRetired 2 0) (d 2) ≡ false) }
 {}
 
-/// The row in hand is scanned before those of the list, which are scanned in their order; one row at a time.
+// The row in hand is scanned before those of the list, which are scanned in their order; one row at a time.
 fn start_a_scan()
     ensures list { let b : Bounds = record { rows = 2; roots = 1; agents = 2; limit = 8 } in
         let d : Option ℕ → Agent = λ hand. record (nobody 2) { hand = hand; list = record { items = 1 ∷ 0 ∷ []; room = 2 } } in
@@ -218,7 +218,7 @@ fn start_a_scan()
         × (fits b 1 0 (Op.CounterLoad 0 CounterUse.Start) (d None (Some (record { row = 1; cut = false; bare = false }))) ≡ false) }
 {}
 
-/// A scan of a row with count 0 looks at each place in turn, up to one that names its row, and ends after the last.
+// A scan of a row with count 0 looks at each place in turn, up to one that names its row, and ends after the last.
 fn go_on_with_a_scan()
     ensures look { let b : Bounds = record { rows = 2; roots = 1; agents = 2; limit = 8 } in
         let d : ℕ → ℕ → Agent = λ w k. record (nobody 2) { scan = Some (record { row = 1; word = w; place = k; found = false }) } in
@@ -235,8 +235,8 @@ fn go_on_with_a_scan()
         × (fits b 1 0 (Op.CounterLoad 1 CounterUse.End) (d 4194305 16) ≡ false) × (fits b 1 0 (Op.CounterLoad 0 CounterUse.End) (d 4194304 16) ≡ false) }
 {}
 
-/// The bit is cleared of a scanned row with another count than 0, under a hold, or of a doomed row whose link is out; a row
-/// whose bit is clear is freed.
+// The bit is cleared of a scanned row with another count than 0, under a hold, or of a doomed row whose link is out; a row
+// whose bit is clear is freed.
 fn clear_the_bit_and_free()
     ensures scanned { let b : Bounds = record { rows = 2; roots = 1; agents = 2; limit = 8 } in
         let d : ℕ → SlotUse → Agent = λ w s. record (nobody 2) { scan = Some (record { row = 1; word = w; place = 0; found = false }); slots = s ∷ [] } in
