@@ -6,6 +6,8 @@ use Rattle.orc_words.specs.Packed.{bit, link_word}
 use Rattle.orc_words.specs.Places.{place}
 use Rattle.orc_words.specs.declared.packed.RowLink.{RowLink}
 use Rattle.orc_words.specs.declared.place.Word.{Word}
+use Rattle.orc_words.specs.declared.shape.Shape.{Shape}
+use Rattle.std.specs.Option.{ForSome}
 use Rattle.orc_words.specs.declared.place.Word.TheVariants as word
 use Rattle.orc_heap.specs.Acts.{Fits, IsFresh, IsTarget}
 use Rattle.orc_heap.specs.Allowed.{AllowedLater}
@@ -22,7 +24,7 @@ use Rattle.orc_shared_words.specs.Lists.{Each}
 use Rattle.orc_shared_words.specs.Steps.{Licensed}
 use Rattle.orc_shared_words.specs.declared.journal.View.{View}
 use Rattle.orc_table.specs.Calls.{KnowsPlace, KnowsRow, KnowsTarget, MayWhereFits, MayWhereShown, aim_event, look_event, move_event}
-use Rattle.orc_table.specs.Machine.{State, IsLinkWord, event, events_of, finds, id_by, index_of, link_at, link_by, numbers, place_by, project, project_from, run, run_from, start, tested}
+use Rattle.orc_table.specs.Machine.{State, IsLinkWord, IsRowLink, event, events_of, finds, id_by, index_of, link_at, link_by, numbers, place_by, project, project_from, run, run_from, start, tested}
 use Rattle.orc_table.specs.Rules.{plain_rules}
 use Rattle.orc_table.specs.Views.{FreshHeld, Keeps, PlainView, heap_of, view_of}
 use Rattle.orc_table.specs.Words.{IsWord}
@@ -58,6 +60,10 @@ link_grown g more r l e h = went l.to h
         let one : index_of row r ≡ index_of row g = ap (index_of row) e ∙ index_grown row g more h in
         let long : length r ≡ length g + length more = ap length e ∙ length-append g more in
         (omega (arith, one, long, h), λ i. record { to = Some (one i); mark = l.mark })
+
+-- a link to a row of the table can be packed
+pub packable : (shape : Shape) (to : Option ℕ) → IsRowLink (bounds_of shape) to → ForSome to (λ row. row < 65535)
+packable shape to inside row is = let few = shape.few_rows in let lt = inside row is in omega (arith, few, lt)
 
 -- a place that is held shows a link, and its word
 pub record Shows (k : Bounds) (x : State) (at : Word) : Type 0 where
@@ -145,6 +151,9 @@ module _ {D N : Type 0} (d : discipline.Ghosts D N) (q : PlainShape N) (v : View
 
   pub row_inside : (row : ℕ) → KnowsRow k s row → row < k.rows
   row_inside row e = now_tied.inside (index_of row g0) row (at_index row g0 (row_given row e))
+
+  pub link_inside : (l : RowLink) → KnowsTarget k s l → IsRowLink k l.to
+  link_inside l known row is = row_inside row (subst (λ t. IsTarget a (heap_of k s) (id_by g0 t)) is known)
 
   -- a step is licensed where its event is allowed at each state that the pass may come upon
   pub from_mid : (op : PlainOp) (said : Option N)

@@ -1,16 +1,12 @@
 -- The journals of the machine: how they begin, and what one more step does.
-use Rattle.std.specs.Prelude.{false, ◌≡◌, ℕ, ◌≤◌, ◌^◌, List, [], ◌∷◌, ◌++◌, Option, Some, None, refl}
+use Rattle.std.specs.Prelude.{◌≡◌, ℕ, List, [], ◌∷◌, ◌++◌, Option, Some, None, refl}
 use Rattle.std.proofs.Common.{sym, ap, ◌∙◌, append_assoc, append-nil}
 use Rattle.orc_words.specs.Bounds.{Bounds, bounds_of}
 use Rattle.orc_words.specs.Places.{place}
 use Rattle.orc_words.specs.declared.place.Word.TheVariants as word
 use Rattle.orc_heap.specs.Heap.{HeapNumbers}
-use Rattle.orc_heap.specs.declared.events.Act.TheVariants as act
-use Rattle.orc_heap.specs.declared.events.Event.{Event}
-use Rattle.orc_heap.specs.declared.events.Link.{Link}
-use Rattle.orc_heap.specs.declared.events.Place.TheVariants.{Root}
 use Rattle.orc_shared_words.specs.Runs.{Obeys, Rules}
-use Rattle.orc_table.specs.Machine.{State, Allowed, AllowedFrom, answer, event, events_at, next, numbers, project, project_from, run, run_from, start, unmarked, word_of, written}
+use Rattle.orc_table.specs.Machine.{State, Allowed, AllowedFrom, answer, events_at, next, numbers, project, project_from, run, run_from, start, unmarked, word_of, written}
 use Rattle.orc_table.specs.declared.machine.PlainOp.{PlainOp}
 use Rattle.orc_table.specs.declared.machine.PlainOp.TheVariants.{GateTake, Fill, LinkCas}
 use Rattle.orc_table.specs.declared.machine.PlainStep.{PlainStep}
