@@ -8,13 +8,13 @@ use Rattle.orc_heap.proofs.Runs.{lawful-right, run_from-append, run_heap-snoc}
 use Rattle.orc_heap.proofs.Moved.{shown_or_moved_there}
 use Rattle.orc_heap.specs.Acts.{Fits}
 use Rattle.orc_heap.proofs.Stays.{allowed-left, allowed-right}
-use Rattle.orc_heap.specs.Allowed.{AllAllowed, events_by}
+use Rattle.orc_heap.specs.Allowed.{AllAllowed, events_by, HasLink}
 use Rattle.orc_heap.specs.Calls.{event_of}
-use Rattle.orc_heap.specs.Heap.{Heap, HeapNumbers, new_heap, null, shown}
+use Rattle.orc_heap.specs.Heap.{Heap, HeapNumbers, new_heap, null, shown, link_to}
 use Rattle.orc_heap.specs.Journals.{IsLawfulFrom, run_from, run_heap}
 use Rattle.orc_heap.specs.Moves.{AllOwn, from_own, moves_in}
 use Rattle.orc_heap.specs.OwnEvents.{Puts}
-use Rattle.orc_heap.specs.Seats.{Seat}
+use Rattle.orc_heap.specs.Seats.{Seat, heap_of}
 use Rattle.orc_heap.specs.declared.events.Act.TheVariants.{Look, Miss, Move}
 use Rattle.orc_heap.specs.declared.events.Act.{Act}
 use Rattle.orc_heap.specs.declared.events.Event.{Event}
@@ -23,16 +23,17 @@ use Rattle.orc_heap.specs.declared.events.Place.TheVariants.{Next, Root}
 use Rattle.orc_fifo_rule.proofs.Later.{holds_later}
 use Rattle.orc_fifo_rule.specs.declared.fifo.FifoNote.{FifoNote}
 use Rattle.orc_fifo_rule.specs.declared.fifo.FifoNote.TheVariants.{Swing}
-use Rattle.orc_fifo_rule.specs.QueueDiscipline.{FifoHolds, FifoMay, HasLink, has_begun, link_to}
+use Rattle.orc_fifo_rule.specs.QueueDiscipline.{FifoHolds, FifoMay, has_begun}
 use Rattle.orc_fifo_rule.specs.Kept.Events.{begun_more}
-use Rattle.orc_fifo_rule.specs.Kept.Kinds.{link_same, null_to, root_moved, root_other, some_same}
-use Rattle.orc_fifo_rule.specs.Kept.Nodes.{link_next, node_next, shown_link}
+use Rattle.orc_fifo_rule.specs.Kept.Nodes.{link_next, node_next}
 use Rattle.orc_fifo_rule.specs.Kept.Paths.{back_one, tail_steps}
-use Rattle.orc_queue.specs.Turns.{EndsHelping, IsOver, KeepsTail, Piece, TailIsLast, TailIsPast, heap_of}
+use Rattle.orc_queue.specs.Turns.{EndsHelping, IsOver, KeepsTail, Piece, TailIsLast, TailIsPast}
 use Rattle.orc_queue.proofs.Filled.{Known}
-use Rattle.orc_queue.proofs.Joins.{Join, own_moves_left}
-use Rattle.orc_queue.proofs.Moments.{look_found_after}
-use Rattle.orc_queue.proofs.Pieces.{new_allowed, new_is}
+use Rattle.orc_queue.proofs.Joins.{Join}
+use Rattle.orc_queue.proofs.Pieces.{new_allowed}
+use Rattle.orc_heap.proofs.SingleActs.{link_same, null_to, root_moved, root_other, shown_link, some_same}
+use Rattle.orc_heap.proofs.Pieces.{new_is, own_moves_left}
+use Rattle.orc_heap.proofs.Moments.{look_found}
 
 -- from the first own event on, these are the own events
 pub alone_own : (agent : ℕ) (es own : List (Event FifoNote)) → events_by agent es ≡ own → AllOwn agent (from_own agent es) → from_own agent es ≡ own
@@ -87,7 +88,7 @@ module _ (n : HeapNumbers) (IsSettled : Heap → Type 0) (root id : ℕ) (one : 
   where
     moved_since : 1 ≤ moves_in (from_own s.agent j.piece.puts.part)
     moved_since =
-        let found = look_found_after n s a (Root root) (link_to id) None (event_of s (Look (Root root) one) None ∷ []) [] p all_a tt in
+        let found = look_found n s a (Root root) (link_to id) None (event_of s (Look (Root root) one) None ∷ []) [] p all_a tt in
         elim found.either [
           | inl still ↦ omega (arith, moved still, moves_then s a t _ _ _ _ p q j.piece.puts refl)
           | inr some ↦ omega (arith, some, own_moves_left s a t _ _ _ p q j.piece.puts)

@@ -1,14 +1,14 @@
 -- A put, from the node on that the tail named.
 use Rattle.std.proofs.Common.{List, Some, None, [], ap, arith, false, inl, inr, refl, subst, sym, true, ℕ, ◌<◌, ◌^◌, ◌∙◌, ◌∷◌, ◌≡◌, ◌≢◌, ◌≤◌}
 use Rattle.std.proofs.lemmas.Bool.{ne_eqb}
-use Rattle.orc_heap.proofs.OwnParts.{moves_from_own}
+use Rattle.orc_heap.proofs.OwnParts.{moves_from_own, moves_own}
 use Rattle.orc_heap.proofs.Calls.{Puts-trans}
-use Rattle.orc_heap.specs.Allowed.{AllAllowed, IsLinkedNode}
+use Rattle.orc_heap.specs.Allowed.{AllAllowed, IsLinkedNode, HasLink}
 use Rattle.orc_heap.specs.Calls.{event_of}
-use Rattle.orc_heap.specs.Heap.{HeapNumbers, null}
+use Rattle.orc_heap.specs.Heap.{HeapNumbers, null, link_to}
 use Rattle.orc_heap.specs.Moves.{moves_in}
 use Rattle.orc_heap.specs.OwnEvents.{Puts}
-use Rattle.orc_heap.specs.Seats.{IsUntouched, Seat}
+use Rattle.orc_heap.specs.Seats.{IsUntouched, Seat, heap_of}
 use Rattle.orc_heap.specs.Slots.{Hold, id_in}
 use Rattle.orc_heap.specs.declared.events.Act.TheVariants.{Look, Miss, Move}
 use Rattle.orc_heap.specs.declared.events.Event.{Event}
@@ -18,17 +18,18 @@ use Rattle.orc_history.specs.declared.queue.QueueEntry.TheVariants.{Put}
 use Rattle.orc_fifo_rule.proofs.Reading.{successor_job}
 use Rattle.orc_fifo_rule.specs.declared.fifo.FifoNote.{FifoNote}
 use Rattle.orc_fifo_rule.specs.declared.fifo.FifoNote.TheVariants.{Swing}
-use Rattle.orc_fifo_rule.specs.QueueDiscipline.{FifoMay, HasLink, entries_of, link_to, position_of}
+use Rattle.orc_fifo_rule.specs.QueueDiscipline.{FifoMay, entries_of, position_of}
 use Rattle.orc_fifo_rule.specs.Watches.{WasNamed}
 use Rattle.orc_queue.specs.declared.put.PutTurn.{PutTurn}
 use Rattle.orc_queue.specs.declared.put.PutTurn.TheVariants.{Full, Over as PutOver, Put as PutDone}
-use Rattle.orc_queue.specs.Turns.{FindsFull, Helps, HoldsNode, LinksBehind, PutsBehind, SwingsLast, TurnMissed, heap_of}
+use Rattle.orc_queue.specs.Turns.{FindsFull, Helps, HoldsNode, LinksBehind, PutsBehind, SwingsLast, TurnMissed}
 use Rattle.orc_queue.proofs.Filled.{Known}
-use Rattle.orc_queue.proofs.Joins.{full_join_left, join, moves_left, moves_right, one_part, puts_released, room_join}
+use Rattle.orc_queue.proofs.Joins.{full_join_left, join, room_join}
 use Rattle.orc_queue.proofs.Looking.{next_found}
-use Rattle.orc_queue.proofs.Moments.{look_found, looks_differ, miss_moved, moves_own}
-use Rattle.orc_queue.proofs.Pieces.{linked_not_fresh, linked_puts, new_allowed, node_puts, position_puts}
+use Rattle.orc_queue.proofs.Pieces.{linked_puts, new_allowed, node_puts, position_puts}
 use Rattle.orc_queue.proofs.Room.{full_at, room_at}
+use Rattle.orc_heap.proofs.Pieces.{linked_not_fresh, moves_left, moves_right, one_part, puts_released}
+use Rattle.orc_heap.proofs.Moments.{look_found, looks_differ, miss_moved}
 
 -- a node with a successor has a low position
 pub low_where_linked : (n : HeapNumbers) (s : Seat FifoNote) (id next : ℕ) → Known n s.seen → HasLink (heap_of n s) id (link_to next) → position_of (heap_of n s) id < 2 ^ 62

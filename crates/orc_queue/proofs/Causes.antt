@@ -3,10 +3,10 @@ use Rattle.std.proofs.Common.{List, Ok, Err, Option, Result, [], ap, append-nil,
 use Rattle.std.proofs.lemmas.List.{length-append}
 use Rattle.std.proofs.lemmas.List.Elements.{filter-append}
 use Rattle.std.proofs.Math.Seq.{drop-append_seam, take-length}
-use Rattle.std.specs.List.{list_all}
+use Rattle.std.specs.List.{list_all, AllByRecursion}
 use Rattle.std.specs.Prelude.{IfErr, IfOk, IsErr, ◌↔◌}
 use mathlib.Core.List.{IsPrefix}
-use Rattle.orc_heap.proofs.Moved.{moves_in-append}
+use Rattle.orc_heap.proofs.Moved.{moves_in-append, gives_in-append}
 use Rattle.orc_heap.proofs.OwnParts.{from_own-others, moves_from_own, own_from}
 use Rattle.orc_heap.proofs.Steps.{events_grow, part_bounds, part_events}
 use Rattle.orc_heap.proofs.Stays.{allowed-right}
@@ -18,7 +18,7 @@ use Rattle.orc_heap.specs.OwnEvents.{IsBelow}
 use Rattle.orc_history.specs.Parts.{InPart, IsAlone, part_begin}
 use Rattle.orc_heap.specs.Seats.{Seat}
 use Rattle.orc_heap.specs.declared.events.Event.{Event}
-use Rattle.orc_history.specs.Journals.{Adds, Every, LearnsEntries, Within, own_of}
+use Rattle.orc_history.specs.Journals.{Adds, LearnsEntries, Within, own_of}
 use Rattle.orc_history.specs.QueueHistory.{agent_of_entry, entry_of_dequeue, puts_in}
 use Rattle.orc_history.specs.declared.queue.QueueEntry.{QueueEntry}
 use Rattle.orc_history.specs.declared.queue.QueueEntry.TheVariants.{Put}
@@ -34,14 +34,14 @@ use Rattle.orc_queue.specs.Turns.{FindsFull, HasDummy, TailIsLast}
 use Rattle.orc_queue.specs.Laws.{first_stays}
 use Rattle.orc_queue.proofs.Alone.{alone_holds, tail_settles}
 use Rattle.orc_queue.proofs.Filled.{Known}
-use Rattle.orc_queue.proofs.Pieces.{gives_in-append, new_allowed}
+use Rattle.orc_queue.proofs.Pieces.{new_allowed}
 use Rattle.orc_queue.proofs.Room.{full_puts}
 
 below_right : (agents : ℕ) (es fs : List (Event FifoNote)) → IsBelow agents (es ++ fs) → IsBelow agents fs
 below_right agents [] fs b = b
 below_right agents (e ∷ es) fs b = below_right agents es fs b.1
 
-of_crowd : (agent agents : ℕ) (es : List (Event FifoNote)) → IsBelow agents es → Every (λ (e : Event FifoNote). (e.agent ≡ agent) ⊎ (e.agent < agents)) es
+of_crowd : (agent agents : ℕ) (es : List (Event FifoNote)) → IsBelow agents es → AllByRecursion (λ (e : Event FifoNote). (e.agent ≡ agent) ⊎ (e.agent < agents)) es
 of_crowd agent agents [] b = tt
 of_crowd agent agents (e ∷ es) b = (inr b.0, of_crowd agent agents es b.1)
 

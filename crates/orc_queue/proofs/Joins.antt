@@ -12,9 +12,9 @@ use Rattle.orc_history.specs.declared.queue.QueueEntry.{QueueEntry}
 use Rattle.orc_fifo_rule.specs.declared.fifo.FifoNote.{FifoNote}
 use Rattle.orc_fifo_rule.specs.QueueDiscipline.{entries_of}
 use Rattle.orc_queue.specs.Turns.{FindsFull, Piece}
-use Rattle.orc_queue.proofs.Pieces.{new_is}
 use Rattle.orc_queue.proofs.Room.{full_left, full_right, room_both}
 use Rattle.orc_heap.specs.Heap.{HeapNumbers}
+use Rattle.orc_heap.proofs.Pieces.{new_is}
 
 -- a piece whose own events are those of two, one after another, and so is what is new
 pub record Join (most : ℕ) (s t : Seat FifoNote) (own : List (Event FifoNote)) (es : List QueueEntry) (first second : List (Event FifoNote)) : Type 0 where

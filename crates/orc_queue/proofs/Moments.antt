@@ -11,7 +11,7 @@ use Rattle.orc_heap.specs.Heap.{HeapNumbers, shown}
 use Rattle.orc_heap.specs.Journals.{run_heap}
 use Rattle.orc_heap.specs.Moves.{IsLinkedPlace, from_own, move_with, moves_in}
 use Rattle.orc_heap.specs.OwnEvents.{Puts}
-use Rattle.orc_heap.specs.Seats.{Seat}
+use Rattle.orc_heap.specs.Seats.{Seat, heap_of}
 use Rattle.orc_heap.specs.declared.events.Act.{Act}
 use Rattle.orc_heap.specs.declared.events.Act.TheVariants.{Look, Miss}
 use Rattle.orc_heap.specs.declared.events.Event.{Event}
@@ -19,7 +19,6 @@ use Rattle.orc_heap.specs.declared.events.Link.{Link}
 use Rattle.orc_heap.specs.declared.events.Place.{Place}
 use Rattle.orc_fifo_rule.specs.declared.fifo.FifoNote.{FifoNote}
 use Rattle.orc_fifo_rule.specs.QueueDiscipline.{FifoMay}
-use Rattle.orc_queue.specs.Turns.{heap_of}
 
 -- one of the own events: where it stands in what is new, and that all before and after it is allowed
 pub record Moment (n : HeapNumbers) (s : Seat FifoNote) (own : List (Event FifoNote)) (e : Event FifoNote) (rest part : List (Event FifoNote)) : Type 0 where

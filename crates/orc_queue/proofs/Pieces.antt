@@ -7,13 +7,13 @@ use Rattle.std.specs.Prelude.{if◌then◌else◌}
 use Rattle.orc_heap.proofs.Fresh.{own_node_told, touched_by}
 use Rattle.orc_heap.proofs.Calls.{part_allowed}
 use Rattle.orc_heap.proofs.Slots.{get-set_other, given-back, held_apart, holds-other, holds-there, id-other, id-there}
-use Rattle.orc_heap.specs.Allowed.{AllAllowed, IsLinkedNode}
+use Rattle.orc_heap.specs.Allowed.{AllAllowed, IsLinkedNode, HasLink}
 use Rattle.orc_heap.specs.Calls.{Releases, Swings, given_node, unless_node}
-use Rattle.orc_heap.specs.Heap.{HeapNumbers, Node}
+use Rattle.orc_heap.specs.Heap.{HeapNumbers, Node, link_to}
 use Rattle.orc_heap.specs.Journals.{points_to, run_heap}
 use Rattle.orc_heap.specs.Moves.{gives_in}
 use Rattle.orc_heap.specs.OwnEvents.{Puts}
-use Rattle.orc_heap.specs.Seats.{IsUntouched, Seat, link_in}
+use Rattle.orc_heap.specs.Seats.{IsUntouched, Seat, link_in, heap_of}
 use Rattle.orc_heap.specs.Slots.{Hold, Holds, IsFree, id_in}
 use Rattle.orc_heap.specs.declared.events.Event.{Event}
 use Rattle.orc_heap.specs.declared.holds.At.TheVariants.{Root as AtRoot}
@@ -24,10 +24,10 @@ use Rattle.orc_fifo_rule.proofs.Later.{link_later, linked_later, named_later, po
 use Rattle.orc_fifo_rule.proofs.Leaving.{left_later}
 use Rattle.orc_fifo_rule.specs.declared.fifo.FifoNote.{FifoNote}
 use Rattle.orc_fifo_rule.specs.declared.fifo.FifoNote.TheVariants.{Swing}
-use Rattle.orc_fifo_rule.specs.QueueDiscipline.{FifoHolds, FifoMay, HasLink, link_to, position_of}
+use Rattle.orc_fifo_rule.specs.QueueDiscipline.{FifoHolds, FifoMay, position_of}
 use Rattle.orc_fifo_rule.specs.Watches.{IsLeft, WasNamed}
 use Rattle.orc_fifo_rule.specs.Kept.Laws.{fifo_fits, fifo_keeps, fifo_moves_linked}
-use Rattle.orc_queue.specs.Turns.{Helps, HoldsNode, heap_of}
+use Rattle.orc_queue.specs.Turns.{Helps, HoldsNode}
 use Rattle.orc_queue.proofs.Filled.{Known}
 
 pub gives_in-append : {N : Type 0} (es fs : List (Event N)) → gives_in (es ++ fs) ≡ gives_in es + gives_in fs

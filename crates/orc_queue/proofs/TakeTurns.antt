@@ -6,11 +6,11 @@ use Rattle.orc_heap.proofs.Runs.{run_from-append}
 use Rattle.orc_heap.proofs.Stays.{allowed-left, allowed-right}
 use Rattle.orc_heap.specs.Allowed.{AllAllowed, IsLinkedNode}
 use Rattle.orc_heap.specs.Calls.{event_of}
-use Rattle.orc_heap.specs.Heap.{Heap, HeapNumbers, new_heap, null, shown}
+use Rattle.orc_heap.specs.Heap.{Heap, HeapNumbers, new_heap, null, shown, link_to}
 use Rattle.orc_heap.specs.Journals.{run_heap}
 use Rattle.orc_heap.specs.Moves.{moves_in}
 use Rattle.orc_heap.specs.OwnEvents.{Puts}
-use Rattle.orc_heap.specs.Seats.{Seat}
+use Rattle.orc_heap.specs.Seats.{Seat, heap_of}
 use Rattle.orc_heap.specs.declared.events.Act.TheVariants.{Look, Move}
 use Rattle.orc_heap.specs.declared.events.Event.{Event}
 use Rattle.orc_heap.specs.declared.events.Link.{Link}
@@ -19,18 +19,20 @@ use Rattle.orc_history.specs.declared.queue.QueueEntry.TheVariants.{Empty, Took}
 use Rattle.orc_fifo_rule.proofs.Later.{holds_later}
 use Rattle.orc_fifo_rule.specs.declared.fifo.FifoNote.{FifoNote}
 use Rattle.orc_fifo_rule.specs.declared.fifo.FifoNote.TheVariants.{Swing}
-use Rattle.orc_fifo_rule.specs.QueueDiscipline.{FifoHolds, FifoMay, entries_of, has_begun, link_to}
-use Rattle.orc_fifo_rule.specs.Kept.Events.{begun_more, entries_of-append}
-use Rattle.orc_fifo_rule.specs.Kept.Kinds.{link_same, some_same}
+use Rattle.orc_fifo_rule.specs.QueueDiscipline.{FifoHolds, FifoMay, entries_of, has_begun}
+use Rattle.orc_fifo_rule.specs.Kept.Events.{begun_more}
 use Rattle.orc_queue.specs.declared.take.TakeTurn.{TakeTurn}
 use Rattle.orc_queue.specs.declared.take.TakeTurn.TheVariants.{Empty as TakeEmpty, Over as TakeOver, Took as TakeDone}
-use Rattle.orc_queue.specs.Turns.{AreOver, HelpsHead, IsOver, Stops, TailIsPast, TakesBehind, TakesJob, TakesNext, TakesNone, TakesTurn, TakesTurns, heap_of}
+use Rattle.orc_queue.specs.Turns.{AreOver, HelpsHead, IsOver, Stops, TailIsPast, TakesBehind, TakesJob, TakesNext, TakesNone, TakesTurn, TakesTurns}
 use Rattle.orc_queue.proofs.Alone.{over_helped, over_missed, over_quiet, swing_past}
 use Rattle.orc_queue.proofs.Filled.{Known}
-use Rattle.orc_queue.proofs.Joins.{join, moves_left, moves_right, puts_released}
-use Rattle.orc_queue.proofs.Moments.{look_found, looks_differ}
-use Rattle.orc_queue.proofs.Pieces.{gives_in-append}
+use Rattle.orc_queue.proofs.Joins.{join}
 use Rattle.orc_queue.proofs.Taking.{still_puts}
+use Rattle.orc_heap.proofs.OwnEntries.{noted-append}
+use Rattle.orc_heap.proofs.SingleActs.{link_same, some_same}
+use Rattle.orc_heap.proofs.Pieces.{moves_left, moves_right, puts_released}
+use Rattle.orc_heap.proofs.Moments.{look_found, looks_differ}
+use Rattle.orc_heap.proofs.Moved.{gives_in-append}
 
 enough : {i j : ℕ} → 1 ≤ i → i ≤ j → 1 ≤ j
 enough p q = omega (arith, p, q)
@@ -208,12 +210,12 @@ turns_taken n turns more s t u TakeOver ne low all one = absurd (ne refl)
 turns_taken n turns more s t u (TakeDone job at) ne low all one =
     let q = all.piece in
     let r = one.piece in
-    let entries : entries_of (q.own ++ r.own) ≡ Took s.agent job at ∷ [] = entries_of-append q.own r.own ∙ (ap (λ z. z ++ entries_of r.own) q.entries_are ∙ (r.entries_are ∙ ap (λ (x : ℕ). Took x job at ∷ []) q.puts.agent)) in
+    let entries : entries_of (q.own ++ r.own) ≡ Took s.agent job at ∷ [] = noted-append entries_in q.own r.own ∙ (ap (λ z. z ++ entries_of r.own) q.entries_are ∙ (r.entries_are ∙ ap (λ (x : ℕ). Took x job at ∷ []) q.puts.agent)) in
     let j = join (6 * more) s t u q.own r.own (Took s.agent job at ∷ []) q.puts r.puts (r.slots ∙ q.slots) entries (omega (arith, gives_in-append q.own r.own, q.no_give, r.no_give)) (omega (arith, length-append q.own r.own, q.few, r.few, low)) in
     (λ none. omega (arith, none, low), record { piece = j.piece; fresh = one.fresh ∙ all.fresh })
 turns_taken n turns more s t u TakeEmpty ne low all one =
     let q = all.piece in
     let r = one.piece in
-    let entries : entries_of (q.own ++ r.own) ≡ Empty s.agent ∷ [] = entries_of-append q.own r.own ∙ (ap (λ z. z ++ entries_of r.own) q.entries_are ∙ (r.entries_are ∙ ap (λ (x : ℕ). Empty x ∷ []) q.puts.agent)) in
+    let entries : entries_of (q.own ++ r.own) ≡ Empty s.agent ∷ [] = noted-append entries_in q.own r.own ∙ (ap (λ z. z ++ entries_of r.own) q.entries_are ∙ (r.entries_are ∙ ap (λ (x : ℕ). Empty x ∷ []) q.puts.agent)) in
     let j = join (6 * more) s t u q.own r.own (Empty s.agent ∷ []) q.puts r.puts (r.slots ∙ q.slots) entries (omega (arith, gives_in-append q.own r.own, q.no_give, r.no_give)) (omega (arith, length-append q.own r.own, q.few, r.few, low)) in
     (λ none. omega (arith, none, low), record { piece = j.piece; fresh = one.fresh ∙ all.fresh })

@@ -2,16 +2,16 @@
 use Rattle.std.proofs.Common.{Bool, List, Option, Some, None, [], ap, arith, false, inl, inr, length, refl, subst, sym, true, ℕ, ◌++◌, ◌+◌, ◌∙◌, ◌∷◌, ◌≡◌, ◌≢◌, ◌≤◌, ◌⊎◌}
 use Rattle.std.proofs.lemmas.List.{length-append}
 use Rattle.std.specs.Borrow.{Bor}
-use Rattle.orc_heap.proofs.Moved.{moves_in-append, shown_or_moved}
-use Rattle.orc_heap.proofs.OwnParts.{moves_from_own}
-use Rattle.orc_heap.proofs.Calls.{Puts-trans}
-use Rattle.orc_heap.specs.Allowed.{AllAllowed, AllowedLater, IsLinkedNode}
+use Rattle.orc_heap.proofs.Moved.{moves_in-append, shown_or_moved, gives_in-append}
+use Rattle.orc_heap.proofs.OwnParts.{moves_from_own, moves_own}
+use Rattle.orc_heap.proofs.Calls.{Puts-trans, Puts-stood}
+use Rattle.orc_heap.specs.Allowed.{AllAllowed, AllowedLater, IsLinkedNode, HasLink}
 use Rattle.orc_heap.specs.Calls.{Misses, ReadsValue, Swings, Tests, event_of}
-use Rattle.orc_heap.specs.Heap.{HeapNumbers, Node, null, shown}
+use Rattle.orc_heap.specs.Heap.{HeapNumbers, Node, null, shown, link_to}
 use Rattle.orc_heap.specs.Journals.{run_heap}
 use Rattle.orc_heap.specs.Moves.{gives_in, moves_in}
 use Rattle.orc_heap.specs.OwnEvents.{Only, Puts}
-use Rattle.orc_heap.specs.Seats.{Seat}
+use Rattle.orc_heap.specs.Seats.{Seat, heap_of}
 use Rattle.orc_heap.specs.Slots.{Hold, id_in}
 use Rattle.orc_heap.specs.declared.events.Act.TheVariants.{Look, Miss, Move}
 use Rattle.orc_heap.specs.declared.events.Event.{Event}
@@ -27,15 +27,17 @@ use Rattle.orc_fifo_rule.proofs.Later.{holds_later, job_later, named_later}
 use Rattle.orc_fifo_rule.proofs.Leaving.{is_left, left_later}
 use Rattle.orc_fifo_rule.specs.declared.fifo.FifoNote.{FifoNote}
 use Rattle.orc_fifo_rule.specs.declared.fifo.FifoNote.TheVariants.{Entry, Swing}
-use Rattle.orc_fifo_rule.specs.QueueDiscipline.{FifoMay, HasJob, HasLink, entries_of, link_to}
+use Rattle.orc_fifo_rule.specs.QueueDiscipline.{FifoMay, HasJob, entries_of}
 use Rattle.orc_fifo_rule.specs.Watches.{IsLeft, WasNamed}
-use Rattle.orc_fifo_rule.specs.Kept.Events.{begun_more, entries_of-append}
-use Rattle.orc_fifo_rule.specs.Kept.Kinds.{some_same}
-use Rattle.orc_queue.specs.Turns.{FindsEnd, Helps, HelpsPast, Stops, TakesFrom, TakesJob, TakesNext, heap_of}
+use Rattle.orc_fifo_rule.specs.Kept.Events.{begun_more}
+use Rattle.orc_queue.specs.Turns.{FindsEnd, Helps, HelpsPast, Stops, TakesFrom, TakesJob, TakesNext}
 use Rattle.orc_queue.proofs.Filled.{Known}
-use Rattle.orc_queue.proofs.Joins.{join, moves_left, moves_right}
-use Rattle.orc_queue.proofs.Moments.{look_found, miss_moved, moment, moves_own, seen_is, since}
-use Rattle.orc_queue.proofs.Pieces.{gives_in-append, left_puts, link_puts, new_allowed, unless_other}
+use Rattle.orc_queue.proofs.Joins.{join}
+use Rattle.orc_queue.proofs.Pieces.{left_puts, link_puts, new_allowed}
+use Rattle.orc_heap.proofs.OwnEntries.{noted-append}
+use Rattle.orc_heap.proofs.SingleActs.{some_same}
+use Rattle.orc_heap.proofs.Pieces.{moves_left, moves_right, unless_other}
+use Rattle.orc_heap.proofs.Moments.{look_found, miss_moved, seen_is, since}
 
 -- the test of the head's link
 pub end_found : (n : HeapNumbers) (s t : Seat FifoNote) (head : Bor Hold) (agent : ℕ) (done : Bool) → agent ≡ s.agent → IsLinkedNode (heap_of n s) (id_in s.slots head.now) → AllAllowed (FifoMay n) [] t.seen
@@ -127,7 +129,7 @@ past_helped n head next place link s a b p all_a all_b slots fresh helped = elim
 pub past_left : (n : HeapNumbers) (head : ℕ) (s a : Seat FifoNote) → Known n s.seen → AllAllowed (FifoMay n) [] a.seen → WasNamed (heap_of n s) 0 head → Misses (Root 1) (link_to head) s a → IsLeft (heap_of n a) head
 past_left n head s a k all named miss =
     let e : Event FifoNote = event_of s (Miss (Root 1) (link_to head) miss.found) None in
-    let m = moment n s a [] e [] miss.puts all in
+    let m = Puts-stood n s a [] e [] miss.puts all in
     let es = s.seen ++ m.before in
     let holds = holds_later n s.seen m.before k.holds m.first in
     let begun = begun_more s.seen m.before k.dummy.begun in
@@ -139,7 +141,7 @@ pub past_taken : (n : HeapNumbers) (head next : ℕ) (s a t : Seat FifoNote) (ow
     → entries_of own ≡ [] → gives_in own ≡ 0 → moves_in own ≡ 0 → length own ≤ 1 → (got : Option (ℕ × ℕ)) → TakesFrom n head a got t → TakesNext n head next s got t
 past_taken n head next s a t own p all slots fresh no_entry no_give no_move one None l =
     let q = l.piece in
-    let j = join 2 s a t own q.own [] p q.puts (q.slots ∙ slots) (entries_of-append own q.own ∙ (ap (λ z. z ++ entries_of q.own) no_entry ∙ q.entries_are)) (omega (arith, gives_in-append own q.own, no_give, q.no_give)) (omega (arith, length-append own q.own, one, q.few)) in
+    let j = join 2 s a t own q.own [] p q.puts (q.slots ∙ slots) (noted-append entries_in own q.own ∙ (ap (λ z. z ++ entries_of q.own) no_entry ∙ q.entries_are)) (omega (arith, gives_in-append own q.own, no_give, q.no_give)) (omega (arith, length-append own q.own, one, q.few)) in
     record {
       piece = j.piece;
       fresh = l.fresh ∙ fresh;
@@ -152,7 +154,7 @@ past_taken n head next s a t own p all slots fresh no_entry no_give no_move one 
 past_taken n head next s a t own p all slots fresh no_entry no_give no_move one (Some got) l =
     let q = l.piece in
     let entries : entries_of (own ++ q.own) ≡ Took s.agent got.0 got.1 ∷ [] =
-    entries_of-append own q.own ∙ (ap (λ z. z ++ entries_of q.own) no_entry ∙ (q.entries_are ∙ ap (λ (x : ℕ). Took x got.0 got.1 ∷ []) p.agent)) in
+    noted-append entries_in own q.own ∙ (ap (λ z. z ++ entries_of q.own) no_entry ∙ (q.entries_are ∙ ap (λ (x : ℕ). Took x got.0 got.1 ∷ []) p.agent)) in
     let j = join 2 s a t own q.own (Took s.agent got.0 got.1 ∷ []) p q.puts (q.slots ∙ slots) entries (omega (arith, gives_in-append own q.own, no_give, q.no_give)) (omega (arith, length-append own q.own, one, q.few)) in
     record { piece = j.piece; fresh = l.fresh ∙ fresh }
 
