@@ -22,7 +22,7 @@ use Rattle.orc_fifo_rule.proofs.Coming.{put_allowed}
 use Rattle.orc_fifo_rule.proofs.Later.{link_later, linked_later}
 use Rattle.orc_fifo_rule.specs.declared.fifo.FifoNote.{FifoNote}
 use Rattle.orc_fifo_rule.specs.declared.fifo.FifoNote.TheVariants.{Entry}
-use Rattle.orc_fifo_rule.specs.QueueDiscipline.{FifoMay, entries_of, position_of}
+use Rattle.orc_fifo_rule.specs.QueueDiscipline.{FifoMay, entries_of, position_of, entries_in}
 use Rattle.orc_fifo_rule.specs.Watches.{WasNamed, node_to_put}
 use Rattle.orc_fifo_rule.specs.Kept.Nodes.{link_next}
 use Rattle.orc_queue.specs.declared.put.PutTurn.{PutTurn}
@@ -43,12 +43,12 @@ pub put_links : (n : HeapNumbers) (s t : Seat FifoNote) (id to : ℕ) (noted : O
     → IsLinkedNode (heap_of n s) id → HasLink (heap_of n t) id (link_to to)
 put_links n s t id to noted p all l =
     let e : Event FifoNote = event_of s (Move (Next id) null (link_to to)) noted in
-    let m = Puts-stood n s t [] e [] p all in
+    let m = Puts-stood (FifoMay n) s t [] e [] p all in
     let es = s.seen ++ m.before in
     let has = has_link (run_heap n es) id null (linked_later n s.seen m.before id l m.first) m.here.fits.0 in
     let next : HasLink (run_heap n (es ++ e ∷ [])) id (link_to to) =
     subst (λ (b : Bool). HasLink (run_heap n (es ++ e ∷ [])) id (cond b (link_to to) null)) (eq-eqb id id refl) (link_next n es e id null m.here has) in
-    subst (λ z. HasLink (run_heap n z) id (link_to to)) (sym (p.is ∙ seen_is n s [] e [] p.part m ∙ sym (append_assoc es (e ∷ []) m.later)))
+    subst (λ z. HasLink (run_heap n z) id (link_to to)) (sym (p.is ∙ seen_is m ∙ sym (append_assoc es (e ∷ []) m.later)))
     (link_later n (es ++ e ∷ []) m.later id to next m.last)
 
 module _ (n : HeapNumbers) (job at tail : ℕ) (h : Hold) (s a b : Seat FifoNote) (k : Known n s.seen) (node : HoldsNode n job h s) (named : WasNamed (heap_of n s) 1 tail)
@@ -96,7 +96,7 @@ module _ (n : HeapNumbers) (job at tail : ℕ) (h : Hold) (s a b : Seat FifoNote
           stops = record {
             piece = record { own = e ∷ f ∷ []; slots = same_slots; puts = p; entries_are = refl; no_give = refl; few = omega arith };
             fresh = same_fresh;
-            moved = miss_moved n s t (Next tail) null miss.found (e ∷ []) f [] p refl all named.linked miss.other;
+            moved = miss_moved n (FifoMay n) (λ es x k. k.fits) s t (Next tail) null miss.found (e ∷ []) f [] p refl all named.linked miss.other;
             own_moves = inl refl;
           };
           room = room_unseen n s t (e ∷ f ∷ []) p refl;

@@ -50,14 +50,14 @@ pub root_found : (n : HeapNumbers) (s t : Seat FifoNote) (root : ℕ) (link : Li
     → Puts s (own ++ event_of s (Look (Root root) link) None ∷ rest) t → AllAllowed (FifoMay n) [] t.seen → FindsNode n root link t
 root_found n s t root link own rest low k p all =
     let e : Event FifoNote = event_of s (Look (Root root) link) None in
-    let m = Puts-stood n s t own e rest p all in
+    let m = Puts-stood (FifoMay n) s t own e rest p all in
     let holds = holds_later n s.seen m.before k.holds m.first in
     let (id, is, named) = look_names n (s.seen ++ m.before) root link holds (begun_more s.seen m.before k.dummy.begun) low m.here.fits in
     record {
       id = id;
       is = is;
-      named = subst (λ es. WasNamed (run_heap n es) root id) (sym (p.is ∙ seen_is n s own e rest p.part m))
-          (named_later n (s.seen ++ m.before) (e ∷ m.later) root id named (since n s own e rest p.part m));
+      named = subst (λ es. WasNamed (run_heap n es) root id) (sym (p.is ∙ seen_is m))
+          (named_later n (s.seen ++ m.before) (e ∷ m.later) root id named (since m));
     }
 
 -- a look at the link of a once linked node found null, or a link to a node, where it still leads
@@ -68,7 +68,7 @@ pub next_found : (n : HeapNumbers) (s t : Seat FifoNote) (id : ℕ) (link : Link
     → Puts s (own ++ event_of s (Look (Next id) link) None ∷ rest) t → AllAllowed (FifoMay n) [] t.seen → FindsNext n id link t
 next_found n s t id link own rest k l p all =
     let e : Event FifoNote = event_of s (Look (Next id) link) None in
-    let m = Puts-stood n s t own e rest p all in
+    let m = Puts-stood (FifoMay n) s t own e rest p all in
     let holds = holds_later n s.seen m.before k.holds m.first in
     let has = has_link (run_heap n (s.seen ++ m.before)) id link (linked_later n s.seen m.before id l m.first) m.here.fits in
     record {
@@ -80,8 +80,8 @@ next_found n s t id link own rest k l p all =
             inr (
               next,
               is,
-              subst (λ es. HasLink (run_heap n es) id (link_to next)) (sym (p.is ∙ seen_is n s own e rest p.part m))
-                  (link_later n (s.seen ++ m.before) (e ∷ m.later) id next there (since n s own e rest p.part m)),
+              subst (λ es. HasLink (run_heap n es) id (link_to next)) (sym (p.is ∙ seen_is m))
+                  (link_later n (s.seen ++ m.before) (e ∷ m.later) id next there (since m)),
             )
       ];
     }

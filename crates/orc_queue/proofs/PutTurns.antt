@@ -20,7 +20,7 @@ use Rattle.orc_history.specs.declared.queue.QueueEntry.TheVariants.{Put}
 use Rattle.orc_fifo_rule.proofs.Later.{holds_later}
 use Rattle.orc_fifo_rule.specs.declared.fifo.FifoNote.{FifoNote}
 use Rattle.orc_fifo_rule.specs.declared.fifo.FifoNote.TheVariants.{Swing}
-use Rattle.orc_fifo_rule.specs.QueueDiscipline.{FifoHolds, FifoMay, entries_of, has_begun}
+use Rattle.orc_fifo_rule.specs.QueueDiscipline.{FifoHolds, FifoMay, entries_of, has_begun, entries_in}
 use Rattle.orc_fifo_rule.specs.Kept.Events.{begun_more}
 use Rattle.orc_queue.specs.declared.put.PutTurn.{PutTurn}
 use Rattle.orc_queue.specs.declared.put.PutTurn.TheVariants.{Full, Over as PutOver, Put as PutDone}
@@ -132,7 +132,7 @@ pub turn_moved : (n : HeapNumbers) (job : ℕ) (h : Hold) (s t : Seat FifoNote) 
     → Puts s (event_of s (Look (Root 1) one) None ∷ event_of s (Look (Root 1) two) None ∷ []) t → PutMissed n job h s t
 turn_moved n job h s t one two k all node other slots fresh p =
     let piece : Piece 6 s [] t = record { own = _; slots = slots; puts = p; entries_are = refl; no_give = refl; few = omega arith } in
-    let over = over_quiet n TailIsLast s t piece fresh refl (looks_differ n s t (Root 1) one two p all tt other) in
+    let over = over_quiet n TailIsLast s t piece fresh refl (looks_differ n (FifoMay n) (λ es x k. k.fits) s t (Root 1) one two p all tt other) in
     record {
       over = over;
       room = λ f. room_unseen n s t _ p refl (subst (λ z. FindsFull n s.agent s.seen z) (one_part s t _ _ over.piece.puts p) f);

@@ -20,7 +20,7 @@ use Rattle.orc_history.specs.QueueHistory.{puts_in}
 use Rattle.orc_fifo_rule.proofs.Later.{first_later, holds_later, named_later, named_next, next_position as position_is_next, position_later}
 use Rattle.orc_fifo_rule.proofs.Reading.{link_leads}
 use Rattle.orc_fifo_rule.specs.declared.fifo.FifoNote.{FifoNote}
-use Rattle.orc_fifo_rule.specs.QueueDiscipline.{FifoHolds, FifoMay, entries_of, has_begun, position_of}
+use Rattle.orc_fifo_rule.specs.QueueDiscipline.{FifoHolds, FifoMay, entries_of, has_begun, position_of, entries_in}
 use Rattle.orc_fifo_rule.specs.Watches.{WasNamed}
 use Rattle.orc_fifo_rule.specs.Kept.Events.{begun_more}
 use Rattle.orc_fifo_rule.specs.Kept.Laws.{fifo_keeps}
@@ -118,7 +118,7 @@ pub full_at : (n : HeapNumbers) (s t : Seat FifoNote) (id : ℕ) (rest : List (E
     → WasNamed (heap_of n s) 1 id → 2 ^ 62 ≤ position_of (heap_of n s) id → FindsFull n s.agent s.seen p.part
 full_at n s t id rest p k all named high =
     let e : Event FifoNote = event_of s (Look (Next id) null) None in
-    let m = Puts-stood n s t [] e rest p all in
+    let m = Puts-stood (FifoMay n) s t [] e rest p all in
     let es = s.seen ++ m.before in
     let holds = holds_later n s.seen m.before k.holds m.first in
     let named_then = named_later n s.seen m.before 1 id named m.first in

@@ -19,7 +19,7 @@ use Rattle.orc_history.specs.declared.queue.QueueEntry.TheVariants.{Empty, Took}
 use Rattle.orc_fifo_rule.proofs.Later.{holds_later}
 use Rattle.orc_fifo_rule.specs.declared.fifo.FifoNote.{FifoNote}
 use Rattle.orc_fifo_rule.specs.declared.fifo.FifoNote.TheVariants.{Swing}
-use Rattle.orc_fifo_rule.specs.QueueDiscipline.{FifoHolds, FifoMay, entries_of, has_begun}
+use Rattle.orc_fifo_rule.specs.QueueDiscipline.{FifoHolds, FifoMay, entries_of, has_begun, entries_in}
 use Rattle.orc_fifo_rule.specs.Kept.Events.{begun_more}
 use Rattle.orc_queue.specs.declared.take.TakeTurn.{TakeTurn}
 use Rattle.orc_queue.specs.declared.take.TakeTurn.TheVariants.{Empty as TakeEmpty, Over as TakeOver, Took as TakeDone}
@@ -51,11 +51,11 @@ module _ (n : HeapNumbers) (head : ℕ) (s a t : Seat FifoNote) (linked : IsLink
     behind_lost l =
         let q = l.piece in
         let j = join 4 s a t (event_of s (Look (Next head) null) None ∷ []) q.own [] p q.puts (q.slots ∙ slots) q.entries_are (omega (arith, q.no_give)) (omega (arith, q.few)) in
-        let found = look_found n s a (Next head) null None [] p all_a linked in
+        let found = look_found n (FifoMay n) (λ es x k. k.fits) s a (Next head) null None [] [] p all_a linked in
         record {
           piece = j.piece;
           fresh = l.fresh ∙ fresh;
-          moved = λ at. elim found.either [
+          moved = λ at. elim found [
             | inl still ↦ omega (arith, l.moved still, moves_right s a t _ _ _ p q.puts j.piece.puts)
             | inr some ↦ omega (arith, some, moves_from_own s.agent p.part, moves_left s a t _ _ _ p q.puts j.piece.puts)
           ];
@@ -102,7 +102,7 @@ pub behind_differs : (n : HeapNumbers) (head : ℕ) (s t : Seat FifoNote) (one t
 behind_differs n head s t one two all linked other slots fresh p = record {
   piece = record { own = _; slots = slots; puts = p; entries_are = refl; no_give = refl; few = omega arith };
   fresh = fresh;
-  moved = λ at. omega (arith, moves_from_own s.agent p.part, looks_differ n s t (Next head) one two p all linked other);
+  moved = λ at. omega (arith, moves_from_own s.agent p.part, looks_differ n (FifoMay n) (λ es x k. k.fits) s t (Next head) one two p all linked other);
   own_moves = inl refl;
 }
 
@@ -202,7 +202,7 @@ module _ (n : HeapNumbers) (one : Link) (head : ℕ) (s a b t : Seat FifoNote) (
 pub turn_differs : (n : HeapNumbers) (s t : Seat FifoNote) (one two : Link) → AllAllowed (FifoMay n) [] t.seen → one ≢ two → t.slots ≡ s.slots → t.fresh ≡ s.fresh
     → Puts s (event_of s (Look (Root 0) one) None ∷ event_of s (Look (Root 0) two) None ∷ []) t → IsOver n TailIsPast s t
 turn_differs n s t one two all other slots fresh p =
-    over_quiet n TailIsPast s t (record { own = _; slots = slots; puts = p; entries_are = refl; no_give = refl; few = omega arith }) fresh refl (looks_differ n s t (Root 0) one two p all tt other)
+    over_quiet n TailIsPast s t (record { own = _; slots = slots; puts = p; entries_are = refl; no_give = refl; few = omega arith }) fresh refl (looks_differ n (FifoMay n) (λ es x k. k.fits) s t (Root 0) one two p all tt other)
 
 -- the turn that answers
 pub turns_taken : (n : HeapNumbers) (turns more : ℕ) (s t u : Seat FifoNote) (turn : TakeTurn) → turn ≢ TakeOver → turns < more → AreOver n TailIsPast turns s t → TakesTurn n t turn u → TakesTurns n more s turn u

@@ -17,12 +17,12 @@ use Rattle.orc_history.specs.declared.queue.QueueEntry.{QueueEntry}
 use Rattle.orc_history.specs.declared.queue.QueueRefused.{QueueRefused}
 use Rattle.orc_history.specs.declared.queue.QueueRefused.TheVariants.{Again, NoNode, Positions}
 use Rattle.orc_fifo_rule.proofs.Later.{first_later, holds_later, nothing_yet}
-use Rattle.orc_fifo_rule.proofs.OwnEntries.{entries_agents}
+use Rattle.orc_heap.proofs.OwnEntries.{entries_agents, noted-append}
+use Rattle.orc_fifo_rule.proofs.OwnEntries.{entries_own}
 use Rattle.orc_fifo_rule.specs.declared.fifo.FifoNote.{FifoNote}
-use Rattle.orc_fifo_rule.specs.QueueDiscipline.{FifoHolds, FifoMay, entries_of, position_of}
+use Rattle.orc_fifo_rule.specs.QueueDiscipline.{FifoHolds, FifoMay, entries_of, position_of, entries_in}
 use Rattle.orc_queue.specs.Causes.{Cause, LacksPosition}
 use Rattle.orc_queue.specs.Turns.{HasDummy}
-use Rattle.orc_heap.proofs.OwnEntries.{noted-append}
 
 -- the first position is that of the opening
 pub first_stays : (n : HeapNumbers) (opening seen : List (Event FifoNote)) → HasDummy n opening → IsPrefix opening seen → AllAllowed (FifoMay n) [] seen → position_of (run_heap n seen) 0 ≡ position_of (run_heap n opening) 0
@@ -74,11 +74,7 @@ cause_puts agent_of events first turns adds seen to c =
     let all : entries_of (events seen) ≡ entries_of (events (take to seen)) ++ more = ap (λ z. entries_of (events z)) (sym (take-append-drop to seen)) ∙ sym is in
     rw all (omega (arith, c.full, puts_in-append (entries_of (events (take to seen))) more))
 
-below_every : (agents : ℕ) (es : List (Event FifoNote)) → IsBelow agents es → AllByRecursion (λ (e : Event FifoNote). e.agent < agents) es
-below_every agents [] b = tt
-below_every agents (e ∷ es) b = (b.0, below_every agents es b.1)
-
 -- whose the entries are
 pub entries_below : (n : HeapNumbers) (agents : ℕ) (seen events : List (Event FifoNote)) → AllAllowed (FifoMay n) [] seen → IsBelow agents seen → seen ≡ events → AllByRecursion (λ (e : QueueEntry). agent_of_entry e < agents) (entries_of events)
 entries_below n agents seen events all below is =
-    subst (λ z. AllByRecursion (λ (e : QueueEntry). agent_of_entry e < agents) (entries_of z)) is (entries_agents n (λ (a : ℕ). a < agents) [] seen all (below_every agents seen below))
+    subst (λ z. AllByRecursion (λ (e : QueueEntry). agent_of_entry e < agents) (entries_of z)) is (entries_agents entries_in agent_of_entry (FifoMay n) (entries_own n) (λ (a : ℕ). a < agents) [] seen all below)
