@@ -11,6 +11,7 @@ use Rattle.orc_history.specs.declared.set.ListRefused.{ListRefused}
 use Rattle.orc_history.specs.declared.set.SharedSet.{Ghosts as SetOf}
 use Rattle.orc_history.specs.QueueHistory.{agent_of_entry}
 use Rattle.orc_history.specs.SetHistory.{agent_of_set_entry}
+use Rattle.orc_board.specs.declared.again.TheConstants.{TURNS}
 
 -- what the definitions see of a container with these steps, entries and refusals: the history of a journal, what licenses a
 -- refusal of an agent at two places of a journal, and the agents whose entries may stand between those of another
@@ -19,14 +20,14 @@ pub record View (A E W : Type 0) : Type 1 where
   pub licence : ℕ → W → List A → ℕ → ℕ → Type 0
   pub crowd : ℕ → Type 0
 
--- the view of this queue, and of this set, whose calls have 64 turns
+-- the view of this queue, and of this set, whose calls have so many turns
 abbrev pub queue_view : {Q P A : Type 0} → QueueOf Q P A → Q → View A QueueEntry QueueRefused
 queue_view members queue =
-    record { history = members.history queue; licence = λ agent why. members.licence queue agent 64 why; crowd = members.crowd queue }
+    record { history = members.history queue; licence = λ agent why. members.licence queue agent TURNS why; crowd = members.crowd queue }
 
 abbrev pub set_view : {S P A : Type 0} → SetOf S P A → S → View A SetEntry ListRefused
 set_view members set =
-    record { history = members.history set; licence = λ agent why. members.licence set agent 64 why; crowd = members.crowd set }
+    record { history = members.history set; licence = λ agent why. members.licence set agent TURNS why; crowd = members.crowd set }
 
 -- the same container, with these agents beside the worker
 abbrev pub beside : {A E W : Type 0} → View A E W → (ℕ → Type 0) → View A E W
