@@ -1,7 +1,8 @@
 -- Stretches of a container's journal, and what a worker adds in them.
 use Rattle.std.specs.Prelude.{◌≡◌, ℕ, List, [], ◌∷◌, ◌++◌, length, Bool, false, filter, ◌==◌, ◌⊎◌, Option, Some, None}
 use mathlib.Core.List.{IsPrefix}
-use Rattle.orc_history.specs.Journals.{Every, Within}
+use Rattle.orc_history.specs.Journals.{Within}
+use Rattle.std.specs.List.{AllByRecursion}
 use Rattle.orc_history.specs.declared.queue.QueueEntry.{QueueEntry}
 use Rattle.orc_history.specs.declared.queue.QueueEntry.TheVariants.{Put, Took, Empty}
 use Rattle.orc_history.specs.declared.queue.QueueRefused.{QueueRefused}
@@ -64,7 +65,7 @@ pub record Stretch {A E W : Type 0} (kind : Kind E) (x : View A E W) (worker : �
   pub part : List E
   pub is : x.history k ≡ x.history j ++ part
   pub own_is : filter (kind.is_own worker) part ≡ own
-  pub others : Every (MayStand kind x worker) part
+  pub others : AllByRecursion (MayStand kind x worker) part
 
 -- what a reply says of one container: the worker's own entries, and a refusal
 pub record Share (E W : Type 0) : Type 0 where

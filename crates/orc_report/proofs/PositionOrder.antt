@@ -5,17 +5,17 @@ use Rattle.std.proofs.lemmas.Bool.Decides.{nat_tests}
 use Rattle.std.specs.List.Sorted.{IsNonDecreasingBy, IsPermutation, IsStableByKey, ties}
 use Rattle.std.specs.Ordering.{nat_cmp}
 use Rattle.std.proofs.lemmas.List.Sorted.{All-permutation}
-use Rattle.orc_history.specs.Journals.{Every}
+use Rattle.std.specs.List.{AllByRecursion}
 use Rattle.orc_board.specs.Follows.{by_key}
-use Rattle.orc_board.proofs.ListFacts.{eq-yes, Every-append, Every-filter, Every-map}
+use Rattle.orc_board.proofs.ListFacts.{eq-yes, AllByRecursion-append, AllByRecursion-filter, AllByRecursion-map}
 use Rattle.orc_board.proofs.Keyed.{same_keys}
 
 -- no key is below that of an earlier item
 abbrev pub Rises : {X : Type 0} → (X → ℕ) → List X → Type 0
 Rises key [] = Unit {0}
-Rises key (x ∷ xs) = Every (λ y. key x ≤ key y) xs × Rises key xs
+Rises key (x ∷ xs) = AllByRecursion (λ y. key x ≤ key y) xs × Rises key xs
 
-pub every_at : {X : Type 0} (P : X → Type 0) (xs : List X) → ((i : ℕ) (d : X) → i < length xs → P (slice_index_or xs i d)) → Every P xs
+pub every_at : {X : Type 0} (P : X → Type 0) (xs : List X) → ((i : ℕ) (d : X) → i < length xs → P (slice_index_or xs i d)) → AllByRecursion P xs
 every_at P [] h = tt
 every_at P (x ∷ xs) h = (h 0 x (omega arith), every_at P xs (λ i d low. h (suc i) d (omega arith)))
 
@@ -29,19 +29,19 @@ Rises-from key (x ∷ xs) h = (
 other : (a n : ℕ) → a < n → (a == n) ≡ false
 other a n h = grind (arith, nat_tests)
 
-none_at : {X : Type 0} (key : X → ℕ) (n : ℕ) (xs : List X) → Every (λ y. n < key y) xs → filter (λ y. key y == n) xs ≡ []
+none_at : {X : Type 0} (key : X → ℕ) (n : ℕ) (xs : List X) → AllByRecursion (λ y. n < key y) xs → filter (λ y. key y == n) xs ≡ []
 none_at key n [] h = refl
 none_at key n (x ∷ xs) h = let e : (key x == n) ≡ false = grind (arith, nat_tests, h.0) in rw e (none_at key n xs h.1)
 
-none_under : {X : Type 0} (key : X → ℕ) (n : ℕ) (xs : List X) → Every (λ y. n ≤ key y) xs → by_key key n xs ≡ []
+none_under : {X : Type 0} (key : X → ℕ) (n : ℕ) (xs : List X) → AllByRecursion (λ y. n ≤ key y) xs → by_key key n xs ≡ []
 none_under key zero xs h = refl
 none_under key (suc n) xs h =
-    let low : by_key key n xs ≡ [] = none_under key n xs (Every-map (λ y. suc n ≤ key y) (λ y. n ≤ key y) (λ y l. omega arith) xs h) in
-    let here : filter (λ y. key y == n) xs ≡ [] = none_at key n xs (Every-map (λ y. suc n ≤ key y) (λ y. n < key y) (λ y l. omega arith) xs h) in
+    let low : by_key key n xs ≡ [] = none_under key n xs (AllByRecursion-map (λ y. suc n ≤ key y) (λ y. n ≤ key y) (λ y l. omega arith) xs h) in
+    let here : filter (λ y. key y == n) xs ≡ [] = none_at key n xs (AllByRecursion-map (λ y. suc n ≤ key y) (λ y. n < key y) (λ y l. omega arith) xs h) in
     rw (low, here) refl
 
 -- the item with the least key stands first
-first_out : {X : Type 0} (key : X → ℕ) (n : ℕ) (x : X) (xs : List X) → Every (λ y. key x ≤ key y) xs → key x < n
+first_out : {X : Type 0} (key : X → ℕ) (n : ℕ) (x : X) (xs : List X) → AllByRecursion (λ y. key x ≤ key y) xs → key x < n
     → by_key key n (x ∷ xs) ≡ x ∷ by_key key n xs
 first_out key zero x xs h low = absurd (omega (arith, low))
 first_out {X} key (suc n) x xs h low =
@@ -52,18 +52,18 @@ first_out {X} key (suc n) x xs h low =
       | inr l ↦
           let same : key x ≡ n = omega (arith, l, low) in
           let e : (key x == n) ≡ true = eq-yes (key x) n same in
-          let above : Every (λ y. n ≤ key y) xs = Every-map (λ y. key x ≤ key y) (λ y. n ≤ key y) (λ y le. omega (arith, same)) xs h in
+          let above : AllByRecursion (λ y. n ≤ key y) xs = AllByRecursion-map (λ y. key x ≤ key y) (λ y. n ≤ key y) (λ y le. omega (arith, same)) xs h in
           let none : by_key key n (x ∷ xs) ≡ [] = none_under key n (x ∷ xs) (omega (arith, same), above) in
           let rest : by_key key n xs ≡ [] = none_under key n xs above in
           rw (none, rest, e) refl
     ]
 
-pub by_key-sorted : {X : Type 0} (key : X → ℕ) (n : ℕ) (xs : List X) → Rises key xs → Every (λ y. key y < n) xs → by_key key n xs ≡ xs
+pub by_key-sorted : {X : Type 0} (key : X → ℕ) (n : ℕ) (xs : List X) → Rises key xs → AllByRecursion (λ y. key y < n) xs → by_key key n xs ≡ xs
 by_key-sorted key zero [] up low = refl
 by_key-sorted key (suc n) [] up low = rw (by_key-sorted key n [] tt tt) refl
 by_key-sorted key n (x ∷ xs) up low = first_out key n x xs up.0 low.0 ∙ ap (λ z. x ∷ z) (by_key-sorted key n xs up.1 low.1)
 
-pub all_of : {X : Type 0} (P : X → Type 0) (xs : List X) → Every P xs → All P xs
+pub all_of : {X : Type 0} (P : X → Type 0) (xs : List X) → AllByRecursion P xs → All P xs
 all_of P [] h = λ i d low. absurd (omega (arith, low))
 all_of P (x ∷ xs) h = λ i d low. elim i as (λ i. i < suc (length xs) → P (slice_index_or (x ∷ xs) i d)) [ zero ↦ λ l. h.0 | suc j ↦ λ l. all_of P xs h.1 j d (omega (arith, l)) ] low
 
@@ -72,16 +72,16 @@ ties-equal a b = grind (arith, nat_tests)
 
 -- a stable sort by a key below n
 pub by_key-stable : {X : Type 0} (key : X → ℕ) (n : ℕ) (of_key : ℕ → X) → ((k : ℕ) → key (of_key k) ≡ k) → (xs ys : List X)
-    → IsNonDecreasingBy key ys → IsStableByKey key nat_cmp xs ys → IsPermutation xs ys → Every (λ x. key x < n) xs → ys ≡ by_key key n xs
+    → IsNonDecreasingBy key ys → IsStableByKey key nat_cmp xs ys → IsPermutation xs ys → AllByRecursion (λ x. key x < n) xs → ys ≡ by_key key n xs
 by_key-stable {X} key n of_key names xs ys up stable moved low =
     let tests : (k : ℕ) → (λ (x : X). key x == k) ≡ ties (λ y z. is_lt (nat_cmp (key y) (key z))) (of_key k) =
     λ k i x. sym (ties-equal (key (of_key k)) (key x) ∙ ap (λ z. key x == z) (names k)) i in
     let at : (k : ℕ) → k < n → filter (λ x. key x == k) ys ≡ filter (λ x. key x == k) xs =
     λ k l. ap (λ f. filter f ys) (tests k) ∙ (stable (of_key k) ∙ sym (ap (λ f. filter f xs) (tests k))) in
-    let few : Every (λ x. key x < n) ys = every_at (λ x. key x < n) ys (All-permutation (λ x. key x < n) xs ys moved (all_of (λ x. key x < n) xs low)) in
+    let few : AllByRecursion (λ x. key x < n) ys = every_at (λ x. key x < n) ys (All-permutation (λ x. key x < n) xs ys moved (all_of (λ x. key x < n) xs low)) in
     sym (by_key-sorted key n ys (Rises-from key ys up) few) ∙ same_keys key n ys xs at
 
 -- what holds of all holds in the order of keys
-pub Every-by_key : {X : Type 0} (P : X → Type 0) (key : X → ℕ) (n : ℕ) (xs : List X) → Every P xs → Every P (by_key key n xs)
-Every-by_key P key zero xs h = tt
-Every-by_key P key (suc n) xs h = Every-append P (by_key key n xs) (filter (λ x. key x == n) xs) (Every-by_key P key n xs h) (Every-filter P (λ x. key x == n) xs h)
+pub AllByRecursion-by_key : {X : Type 0} (P : X → Type 0) (key : X → ℕ) (n : ℕ) (xs : List X) → AllByRecursion P xs → AllByRecursion P (by_key key n xs)
+AllByRecursion-by_key P key zero xs h = tt
+AllByRecursion-by_key P key (suc n) xs h = AllByRecursion-append P (by_key key n xs) (filter (λ x. key x == n) xs) (AllByRecursion-by_key P key n xs h) (AllByRecursion-filter P (λ x. key x == n) xs h)

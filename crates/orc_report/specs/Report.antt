@@ -12,7 +12,7 @@ use Rattle.orc_board.specs.declared.replies.PostWord.TheVariants as post
 use Rattle.orc_board.specs.declared.replies.TakeReply.{TakeReply}
 use Rattle.orc_board.specs.declared.replies.TakeWord.{TakeWord}
 use Rattle.orc_board.specs.declared.replies.TakeWord.TheVariants as take
-use Rattle.orc_program.specs.declared.report.RestNumbers.{RestNumbers}
+use Rattle.orc_report.specs.declared.report.RestNumbers.{RestNumbers}
 
 -- the id of the record with this number
 abbrev pub id_at : List Line → ℕ → ℕ

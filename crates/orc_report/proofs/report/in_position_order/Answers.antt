@@ -2,8 +2,8 @@ use Rattle.std.proofs.Common.{rules, ◌≡◌, refl}
 use Rattle.std.proofs.lemmas.List.Sorted.{IsNonDecreasingBy-from_sort_by_key, answers_always}
 use Rattle.orc_board.specs.declared.replies.TakeReply.{TakeReply}
 use Rattle.orc_board.specs.declared.replies.TakeWord.TheVariants.{Void}
-use Rattle.orc_program.proofs.PositionOrder.{by_key-stable}
-use Rattle.orc_program.proofs.report.in_position_order.Goals as goal
+use Rattle.orc_report.proofs.PositionOrder.{by_key-stable}
+use Rattle.orc_report.proofs.report.in_position_order.Goals as goal
 
 pub returns : goal.returns
 returns c =

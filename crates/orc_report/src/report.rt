@@ -1,13 +1,12 @@
 //! The text of a report.
 ghost use Rattle.std.specs.Prelude.{◌≡◌, ◌<◌, ◌++◌, IfOk, OnOk, length, take, codes, Some};
 ghost use Rattle.std.specs.Option.{option_copied};
-ghost use Rattle.std.specs.List.{flat_map};
+ghost use Rattle.std.specs.List.{flat_map, AllByRecursion};
 ghost use Rattle.std.specs.String.{string_bytes};
-ghost use Rattle.orc_history.specs.Journals.{Every};
 ghost use Rattle.orc_jobs.specs.Line.{id_of};
 ghost use Rattle.orc_jobs.specs.GoodLines.{AreGood};
 ghost use Rattle.orc_board.specs.Reportable.{AreReportable};
-ghost use Rattle.orc_program.specs.Report.{by_position, board_line, board_row, post_line, take_line, post_word, take_word, report_of, rest_line, rest_lines};
+ghost use Rattle.orc_report.specs.Report.{by_position, board_line, board_row, post_line, take_line, post_word, take_word, report_of, rest_line, rest_lines};
 
 use orc_board::{PostReply, PostWord, Replies, TakeReply, TakeWord};
 use orc_fault::NoMemory;
@@ -36,12 +35,11 @@ pub fn report_text(
     requires reportable { AreReportable lines.now replies.now.posts.items replies.now.takes.items }
     ensures { IfOk result (λ t. t ≡ report_of lines.now replies.now.posts.items replies.now.takes.items (option_copied rest.entry)) }
 {
-    match write_report(alloc, lines, replies, rest) {
-        Ok(text) => Text::from_slice(alloc, text.as_bytes()),
-        Err(_) => Err(NoMemory),
-    }
+    let text = write_report(alloc, lines, replies, rest)?;
+    Ok(Text::from_string(text))
 }
 
+// The same as a string.
 fn write_report(
     alloc: Global,
     lines: &Lines,
@@ -66,7 +64,7 @@ fn write_report(
 
 // The take replies, that of position 0 first.
 fn in_position_order(alloc: Global, takes: &[TakeReply]) -> Result<Vec<TakeReply>, AllocError>
-    requires { Every (λ r. r.at < length takes.now) takes.now }
+    requires { AllByRecursion (λ r. r.at < length takes.now) takes.now }
     ensures { IfOk result (λ v. v.items ≡ by_position takes.now) }
 {
     let mut board = Vec::from_slice(alloc, takes)?;
@@ -76,7 +74,7 @@ fn in_position_order(alloc: Global, takes: &[TakeReply]) -> Result<Vec<TakeReply
 
 // The board's lines at the end of a text.
 fn push_board(text: &mut String, lines: &Lines, board: &[TakeReply]) -> Result<(), AllocError>
-    requires { Every (λ r. r.line < length lines.now) board.now }
+    requires { AllByRecursion (λ r. r.line < length lines.now) board.now }
     ensures { OnOk result (string_bytes text.new ≡ string_bytes text.old ++ flat_map (board_line lines.now) board.now) }
 {
     for reply in board {

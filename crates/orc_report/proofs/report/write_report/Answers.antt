@@ -1,5 +1,5 @@
-use Rattle.orc_program.proofs.ReportedReplies.{positions_below, board_lines}
-use Rattle.orc_program.proofs.report.write_report.Goals as goal
+use Rattle.orc_report.proofs.ReportedReplies.{positions_below, board_lines}
+use Rattle.orc_report.proofs.report.write_report.Goals as goal
 
 pub in_position_order-requires : goal.in_position_order-requires
 in_position_order-requires c = rw c.items.ensures (positions_below _ _ _ c.requires.reportable)
