@@ -12,6 +12,7 @@ use Rattle.orc_board.specs.declared.replies.PostReply.{PostReply}
 use Rattle.orc_board.specs.declared.replies.TakeReply.{TakeReply}
 use Rattle.orc_board.specs.Table.{EndsEmpty}
 use Rattle.orc_board.specs.Follows.{Posting, TakingRest, own_records}
+use Rattle.orc_board.specs.declared.again.TheConstants.{TURNS}
 use Rattle.orc_board.specs.Runs.{Ran}
 use Rattle.orc_board.proofs.Ends.{ran_of}
 use Rattle.orc_program.specs.PlainRun.{queue_of_run, set_of_run, run_queue, run_set}
