@@ -10,8 +10,6 @@ use Rattle.orc_heap.specs.Seats.{heap_of}
 
 pub help_tail-requires-clause-held : goal.help_tail-requires-clause-held
 help_tail-requires-clause-held g c =
-    let s = g.L.Links.seat c.args.links.now c.args.p.now in
-    let u = g.L.Links.seat c.args.links.now c.link_node.new.p in
     let slots = c.in-Put.ensures.linked.puts.piece.slots in
     (subst (λ (z : Slots). Holds z c.args.tail.now) (sym slots) c.requires.tail, subst (λ (z : Slots). Holds z c.args.node.now) (sym slots) c.requires.node.held)
 

@@ -41,8 +41,6 @@ link_behind-requires-clause-named g c =
     let s = g.L.Links.seat d c.args.p.now in
     let tail = c.args.tail.now in
     let id = id_in s.slots tail in
-    let node = c.args.node.now in
-    let job = c.args.job in
     let kp = c.requires.pass in
     let ks = known n (g.L.Links.opening d) s.seen c.requires.made (g.met.L.Links.opens d c.args.p.now kp) (g.met.L.Links.allowed d c.args.p.now kp) (g.met.L.Links.obeys d c.args.p.now kp) in
     let a = g.L.Links.seat d c.look.new.p in
@@ -80,18 +78,13 @@ help_tail-requires-clause-held g c =
     let s = g.L.Links.seat d c.args.p.now in
     let tail = c.args.tail.now in
     let id = id_in s.slots tail in
-    let node = c.args.node.now in
-    let job = c.args.job in
     let kp = c.requires.pass in
     let ks = known n (g.L.Links.opening d) s.seen c.requires.made (g.met.L.Links.opens d c.args.p.now kp) (g.met.L.Links.allowed d c.args.p.now kp) (g.met.L.Links.obeys d c.args.p.now kp) in
     let a = g.L.Links.seat d c.look.new.p in
     let e = c.in-Stable-default-Some.ensures in
     let all = g.met.L.Links.allowed d c.look.new.p e.pass in
     let next = c.in-Stable-default-Some.next in
-    let ka = known n (g.L.Links.opening d) a.seen c.requires.made (g.met.L.Links.opens d c.look.new.p e.pass) all (g.met.L.Links.obeys d c.look.new.p e.pass) in
     let x = next_held n s a id 3 _ next ks c.requires.named.linked all (Looks-held {place = Next id} e.looked c.in-Stable-default-Some.field-1-is) in
-    let tail_id = slot_other_id s a 3 x.next next c.requires.slot x.in_slot tail c.requires.tail in
-    let next_id = slot_id s a 3 x.next next c.requires.slot x.in_slot in
     (slot_other s a 3 x.next next c.requires.slot x.in_slot tail c.requires.tail, slot_holds s a 3 x.next next c.requires.slot x.in_slot)
 
 pub help_tail-requires-clause-successor : goal.help_tail-requires-clause-successor
@@ -101,15 +94,12 @@ help_tail-requires-clause-successor g c =
     let s = g.L.Links.seat d c.args.p.now in
     let tail = c.args.tail.now in
     let id = id_in s.slots tail in
-    let node = c.args.node.now in
-    let job = c.args.job in
     let kp = c.requires.pass in
     let ks = known n (g.L.Links.opening d) s.seen c.requires.made (g.met.L.Links.opens d c.args.p.now kp) (g.met.L.Links.allowed d c.args.p.now kp) (g.met.L.Links.obeys d c.args.p.now kp) in
     let a = g.L.Links.seat d c.look.new.p in
     let e = c.in-Stable-default-Some.ensures in
     let all = g.met.L.Links.allowed d c.look.new.p e.pass in
     let next = c.in-Stable-default-Some.next in
-    let ka = known n (g.L.Links.opening d) a.seen c.requires.made (g.met.L.Links.opens d c.look.new.p e.pass) all (g.met.L.Links.obeys d c.look.new.p e.pass) in
     let x = next_held n s a id 3 _ next ks c.requires.named.linked all (Looks-held {place = Next id} e.looked c.in-Stable-default-Some.field-1-is) in
     let tail_id = slot_other_id s a 3 x.next next c.requires.slot x.in_slot tail c.requires.tail in
     let next_id = slot_id s a 3 x.next next c.requires.slot x.in_slot in
@@ -122,18 +112,13 @@ release-requires-clause-held g c =
     let s = g.L.Links.seat d c.args.p.now in
     let tail = c.args.tail.now in
     let id = id_in s.slots tail in
-    let node = c.args.node.now in
-    let job = c.args.job in
     let kp = c.requires.pass in
     let ks = known n (g.L.Links.opening d) s.seen c.requires.made (g.met.L.Links.opens d c.args.p.now kp) (g.met.L.Links.allowed d c.args.p.now kp) (g.met.L.Links.obeys d c.args.p.now kp) in
     let a = g.L.Links.seat d c.look.new.p in
     let e = c.in-Stable-default-Some.ensures in
     let all = g.met.L.Links.allowed d c.look.new.p e.pass in
     let next = c.in-Stable-default-Some.next in
-    let ka = known n (g.L.Links.opening d) a.seen c.requires.made (g.met.L.Links.opens d c.look.new.p e.pass) all (g.met.L.Links.obeys d c.look.new.p e.pass) in
     let x = next_held n s a id 3 _ next ks c.requires.named.linked all (Looks-held {place = Next id} e.looked c.in-Stable-default-Some.field-1-is) in
-    let tail_id = slot_other_id s a 3 x.next next c.requires.slot x.in_slot tail c.requires.tail in
-    let next_id = slot_id s a 3 x.next next c.requires.slot x.in_slot in
     subst (λ (z : Slots). Holds z next) (sym c.help_tail.ensures.helped.slots) (slot_holds s a 3 x.next next c.requires.slot x.in_slot)
 
 pub returns-in-Stable-default-Some-clause-put : goal.returns-in-Stable-default-Some-clause-put

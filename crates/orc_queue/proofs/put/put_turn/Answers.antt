@@ -20,8 +20,6 @@ look-requires-clause-place g c =
     let d = c.args.links.now in
     let n = g.L.Links.numbers d in
     let s = g.L.Links.seat d c.args.p.now in
-    let node = c.args.node.now in
-    let job = c.args.job in
     let kp = c.requires.pass in
     let ks = known n (g.L.Links.opening d) s.seen c.requires.made (g.met.L.Links.opens d c.args.p.now kp) (g.met.L.Links.allowed d c.args.p.now kp) (g.met.L.Links.obeys d c.args.p.now kp) in
     roots_there n s.seen 1 ks (omega arith)
@@ -31,8 +29,6 @@ unreachable-requires g c =
     let d = c.args.links.now in
     let n = g.L.Links.numbers d in
     let s = g.L.Links.seat d c.args.p.now in
-    let node = c.args.node.now in
-    let job = c.args.job in
     let kp = c.requires.pass in
     let ks = known n (g.L.Links.opening d) s.seen c.requires.made (g.met.L.Links.opens d c.args.p.now kp) (g.met.L.Links.allowed d c.args.p.now kp) (g.met.L.Links.obeys d c.args.p.now kp) in
     let a = g.L.Links.seat d c.look.new.p in
@@ -53,7 +49,6 @@ put_behind-turn-requires-clause-node g c =
     let all = g.met.L.Links.allowed d c.look.new.p e.pass in
     let tail = c.in-Stable-default-Some.tail in
     let x = root_held n s a 1 2 _ tail (omega arith) ks all (Looks-held {place = Root 1} e.looked c.in-Stable-default-Some.field-1-is) in
-    let tail_id = slot_id s a 2 x.id tail c.requires.slots.0 x.in_slot in
     node_held n s a _ x.puts all job node c.requires.node.second ks c.requires.node (slot_other s a 2 x.id tail c.requires.slots.0 x.in_slot node c.requires.node.held)
     (slot_other_id s a 2 x.id tail c.requires.slots.0 x.in_slot node c.requires.node.held) e.looked.fresh refl refl
 
@@ -62,8 +57,6 @@ put_behind-turn-requires-clause-tail g c =
     let d = c.args.links.now in
     let n = g.L.Links.numbers d in
     let s = g.L.Links.seat d c.args.p.now in
-    let node = c.args.node.now in
-    let job = c.args.job in
     let kp = c.requires.pass in
     let ks = known n (g.L.Links.opening d) s.seen c.requires.made (g.met.L.Links.opens d c.args.p.now kp) (g.met.L.Links.allowed d c.args.p.now kp) (g.met.L.Links.obeys d c.args.p.now kp) in
     let a = g.L.Links.seat d c.look.new.p in
@@ -71,7 +64,6 @@ put_behind-turn-requires-clause-tail g c =
     let all = g.met.L.Links.allowed d c.look.new.p e.pass in
     let tail = c.in-Stable-default-Some.tail in
     let x = root_held n s a 1 2 _ tail (omega arith) ks all (Looks-held {place = Root 1} e.looked c.in-Stable-default-Some.field-1-is) in
-    let tail_id = slot_id s a 2 x.id tail c.requires.slots.0 x.in_slot in
     slot_holds s a 2 x.id tail c.requires.slots.0 x.in_slot
 
 pub put_behind-turn-requires-clause-slot : goal.put_behind-turn-requires-clause-slot
@@ -79,8 +71,6 @@ put_behind-turn-requires-clause-slot g c =
     let d = c.args.links.now in
     let n = g.L.Links.numbers d in
     let s = g.L.Links.seat d c.args.p.now in
-    let node = c.args.node.now in
-    let job = c.args.job in
     let kp = c.requires.pass in
     let ks = known n (g.L.Links.opening d) s.seen c.requires.made (g.met.L.Links.opens d c.args.p.now kp) (g.met.L.Links.allowed d c.args.p.now kp) (g.met.L.Links.obeys d c.args.p.now kp) in
     let a = g.L.Links.seat d c.look.new.p in
@@ -96,8 +86,6 @@ put_behind-turn-requires-clause-named g c =
     let d = c.args.links.now in
     let n = g.L.Links.numbers d in
     let s = g.L.Links.seat d c.args.p.now in
-    let node = c.args.node.now in
-    let job = c.args.job in
     let kp = c.requires.pass in
     let ks = known n (g.L.Links.opening d) s.seen c.requires.made (g.met.L.Links.opens d c.args.p.now kp) (g.met.L.Links.allowed d c.args.p.now kp) (g.met.L.Links.obeys d c.args.p.now kp) in
     let a = g.L.Links.seat d c.look.new.p in
@@ -122,7 +110,6 @@ release-requires-clause-held g c =
     let all = g.met.L.Links.allowed d c.look.new.p e.pass in
     let tail = c.in-Stable-default-Some.tail in
     let x = root_held n s a 1 2 _ tail (omega arith) ks all (Looks-held {place = Root 1} e.looked c.in-Stable-default-Some.field-1-is) in
-    let tail_id = slot_id s a 2 x.id tail c.requires.slots.0 x.in_slot in
     let b = g.L.Links.seat d c.put_behind-turn.new.p in
     let piece = behind_piece n job (id_in a.slots tail) node a b c.put_behind-turn.result c.put_behind-turn.ensures.put in
     subst (λ (z : Slots). Holds z tail) (sym piece.slots) (slot_holds s a 2 x.id tail c.requires.slots.0 x.in_slot)
