@@ -1,27 +1,18 @@
 -- The steps of a journal and their events: where a call's part begins, and whose events stand in it.
 use Rattle.std.proofs.Common.{Bool, List, [], ap, append-nil, append_assoc, arith, cond, drop, false, length, refl, subst, suc, sym, take, true, ℕ, ◌++◌, ◌+◌, ◌==◌, ◌∙◌, ◌∷◌, ◌≡◌, ◌≤◌}
 use Rattle.std.proofs.lemmas.Bool.{eqb-true}
-use Rattle.std.proofs.lemmas.List.{length-append}
+use Rattle.std.proofs.lemmas.List.{append_cancel_left, length-append}
 use Rattle.std.proofs.lemmas.List.Elements.{filter-append}
 use Rattle.std.proofs.lemmas.List.Folds.{list_all-append}
 use Rattle.std.proofs.Math.Seq.{drop-append_seam, take-append_seam}
 use Rattle.std.specs.List.{list_all}
-use Rattle.std.specs.Prelude.{◌&&◌}
 use mathlib.Core.List.{IsPrefix}
-use Rattle.orc_heap.proofs.OwnParts.{own_join}
+use Rattle.orc_heap.proofs.OwnParts.{both, own_join}
 use Rattle.orc_heap.specs.Allowed.{events_by}
 use Rattle.orc_heap.specs.Moves.{AllOwn}
-use Rattle.orc_history.specs.Journals.{own_of}
-use Rattle.orc_history.specs.Parts.{IsAlone, first_step, part_begin, part_of}
+use Rattle.orc_history.specs.Journals.{Within, own_of}
+use Rattle.orc_history.specs.Parts.{InPart, IsAlone, first_step, part_begin, part_of}
 use Rattle.orc_heap.specs.declared.events.Event.{Event}
-
-both : (a b : Bool) → (a && b) ≡ true → (a ≡ true) × (b ≡ true)
-both true b e = (refl, e)
-both false b e = cc
-
-append-cancel_left : {A : Type 0} (xs ys zs : List A) → xs ++ ys ≡ xs ++ zs → ys ≡ zs
-append-cancel_left [] ys zs e = e
-append-cancel_left (x ∷ xs) ys zs e = append-cancel_left xs ys zs (cc)
 
 -- the steps from the agent's first one on
 from_first : {S : Type 0} → (S → ℕ) → ℕ → List S → List S
@@ -87,6 +78,13 @@ part_bounds agent_of agent before after grows =
     let c = cut_at_part agent_of agent before after grows in
     let after_is = ap length c.is in
     (omega (arith, c.begin_is, length-append before c.gap), omega (arith, c.begin_is, after_is, length-append (before ++ c.gap) c.part))
+
+-- so a fact of its places, at some time of a call, is one of two places within what is new
+pub part_within : {S : Type 0} (agent_of : S → ℕ) (agent : ℕ) (before seen after : List S) (Fact : ℕ → ℕ → Type 0) → IsPrefix before seen → IsPrefix seen after
+    → InPart agent_of agent before seen Fact → Within (length before) (length after) Fact
+part_within agent_of agent before seen after Fact grows (more, is) fact =
+    let bounds = part_bounds agent_of agent before seen grows in
+    (part_begin agent_of agent before seen, length seen, bounds.0, bounds.1, omega (arith, length-append seen more, ap length is), fact)
 
 alone_rest : {S : Type 0} (agent_of : S → ℕ) (agent : ℕ) (ss more : List S) → list_all (λ s. agent_of s == agent) (from_first agent_of agent (ss ++ more)) ≡ true
     → list_all (λ s. agent_of s == agent) (from_first agent_of agent more) ≡ true
@@ -184,7 +182,7 @@ module _ {N S : Type 0} (agent_of : S → ℕ) (events : List S → List (Event 
         record {
           gap = a.new;
           part = b.new;
-          is = append-cancel_left (events before) new (a.new ++ b.new) all;
+          is = append_cancel_left (events before) new (a.new ++ b.new) all;
           begin_events = ap events (rw c.begin_is (ap (λ z. take (length (before ++ c.gap)) z) c.is ∙ take-append_seam (before ++ c.gap) c.part)) ∙ a.is;
           others = a.none c.others;
           alone = λ h. b.own (subst (λ (ss : List S). list_all (λ (s : S). agent_of s == agent) ss ≡ true) c.part_is h);

@@ -6,6 +6,7 @@ mod events;
 mod holds;
 mod laws;
 mod links;
+mod seed;
 
 pub use discipline::{Discipline, Ranked};
 pub use events::{Act, Event, Link, Place};
@@ -15,6 +16,7 @@ pub use laws::{
     roots_lead_to_linked_nodes,
 };
 pub use links::Links;
+pub use seed::Seed;
 
 #[cfg(test)]
 mod tests;

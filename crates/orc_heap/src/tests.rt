@@ -5,6 +5,7 @@ use std::test::Fail;
 
 mod calls;
 mod examples;
+mod seeds;
 
 const NULL: Link = Link {
     to: None,

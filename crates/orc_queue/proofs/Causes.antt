@@ -3,12 +3,12 @@ use Rattle.std.proofs.Common.{List, Ok, Err, Option, Result, [], ap, append-nil,
 use Rattle.std.proofs.lemmas.List.{length-append}
 use Rattle.std.proofs.lemmas.List.Elements.{filter-append}
 use Rattle.std.proofs.Math.Seq.{drop-append_seam, take-length}
-use Rattle.std.specs.List.{list_all}
+use Rattle.std.specs.List.{list_all, AllByRecursion}
 use Rattle.std.specs.Prelude.{IfErr, IfOk, IsErr, ◌↔◌}
 use mathlib.Core.List.{IsPrefix}
-use Rattle.orc_heap.proofs.Moved.{moves_in-append}
+use Rattle.orc_heap.proofs.Moved.{moves_in-append, gives_in-append}
 use Rattle.orc_heap.proofs.OwnParts.{from_own-others, moves_from_own, own_from}
-use Rattle.orc_heap.proofs.Steps.{events_grow, part_bounds, part_events}
+use Rattle.orc_heap.proofs.Steps.{events_grow, part_bounds, part_within, part_events}
 use Rattle.orc_heap.proofs.Stays.{allowed-right}
 use Rattle.orc_heap.specs.Allowed.{AllAllowed, events_by}
 use Rattle.orc_heap.specs.Heap.{HeapNumbers}
@@ -18,30 +18,31 @@ use Rattle.orc_heap.specs.OwnEvents.{IsBelow}
 use Rattle.orc_history.specs.Parts.{InPart, IsAlone, part_begin}
 use Rattle.orc_heap.specs.Seats.{Seat}
 use Rattle.orc_heap.specs.declared.events.Event.{Event}
-use Rattle.orc_history.specs.Journals.{Adds, Every, LearnsEntries, Within, own_of}
+use Rattle.orc_history.specs.Journals.{Adds, LearnsEntries, Within, own_of}
 use Rattle.orc_history.specs.QueueHistory.{agent_of_entry, entry_of_dequeue, puts_in}
 use Rattle.orc_history.specs.declared.queue.QueueEntry.{QueueEntry}
 use Rattle.orc_history.specs.declared.queue.QueueEntry.TheVariants.{Put}
 use Rattle.orc_history.specs.declared.queue.QueueRefused.{QueueRefused}
 use Rattle.orc_history.specs.declared.queue.QueueRefused.TheVariants.{Again, NoNode, Positions}
 use Rattle.orc_fault.specs.declared.Again.{Again as AgainFault}
-use Rattle.orc_fifo_rule.proofs.OwnEntries.{entries_added, own_of_events}
+use Rattle.orc_fifo_rule.proofs.OwnEntries.{entries_own}
 use Rattle.orc_fifo_rule.specs.declared.fifo.FifoNote.{FifoNote}
-use Rattle.orc_fifo_rule.specs.QueueDiscipline.{FifoMay, entries_of, position_of}
+use Rattle.orc_fifo_rule.specs.QueueDiscipline.{FifoMay, entries_of, position_of, entries_in}
 use Rattle.orc_queue.specs.Answers.{CallFindsFull, IsCall, PutAnswers, TakeAnswers, Tires, gives_of}
 use Rattle.orc_queue.specs.Causes.{Cause, LacksPosition, UsesTurns}
 use Rattle.orc_queue.specs.Turns.{FindsFull, HasDummy, TailIsLast}
 use Rattle.orc_queue.specs.Laws.{first_stays}
-use Rattle.orc_queue.proofs.Alone.{alone_holds, tail_settles}
+use Rattle.orc_queue.proofs.Alone.{tail_settles, alone_runs}
 use Rattle.orc_queue.proofs.Filled.{Known}
-use Rattle.orc_queue.proofs.Pieces.{gives_in-append, new_allowed}
 use Rattle.orc_queue.proofs.Room.{full_puts}
+use Rattle.orc_heap.proofs.OwnEntries.{entries_added, own_of_events}
+use Rattle.orc_heap.proofs.Calls.{part_allowed}
 
 below_right : (agents : ℕ) (es fs : List (Event FifoNote)) → IsBelow agents (es ++ fs) → IsBelow agents fs
 below_right agents [] fs b = b
 below_right agents (e ∷ es) fs b = below_right agents es fs b.1
 
-of_crowd : (agent agents : ℕ) (es : List (Event FifoNote)) → IsBelow agents es → Every (λ (e : Event FifoNote). (e.agent ≡ agent) ⊎ (e.agent < agents)) es
+of_crowd : (agent agents : ℕ) (es : List (Event FifoNote)) → IsBelow agents es → AllByRecursion (λ (e : Event FifoNote). (e.agent ≡ agent) ⊎ (e.agent < agents)) es
 of_crowd agent agents [] b = tt
 of_crowd agent agents (e ∷ es) b = (inr b.0, of_crowd agent agents es b.1)
 
@@ -57,12 +58,6 @@ put_positions n job turns s t (Ok at) l = ((λ e. cc), (λ f. absurd (has_room n
 put_positions n job turns s t (Err Again) l = ((λ e. cc), (λ f. absurd (has_room n _ turns s t _ l.tires.call l.room f)))
 put_positions n job turns s t (Err NoNode) l = ((λ e. cc), (λ f. absurd (has_room n _ turns s t _ l.call l.room f)))
 put_positions n job turns s t (Err Positions) l = ((λ e. finds_full n _ turns s t _ l.call l.full), (λ f. refl))
-
-pub put_some_turn : (n : HeapNumbers) (job turns : ℕ) (s t : Seat FifoNote) (r : Result ℕ QueueRefused) → PutAnswers n job turns s r t → r ≡ Err NoNode → turns ≢ 0
-put_some_turn n job turns s t (Ok at) l is = l.some_turn
-put_some_turn n job turns s t (Err Again) l is = cc
-put_some_turn n job turns s t (Err NoNode) l is = l.some_turn
-put_some_turn n job turns s t (Err Positions) l is = l.some_turn
 
 -- a call of either kind
 pub record AnyCall (given turns : ℕ) (s t : Seat FifoNote) : Type 0 where
@@ -80,19 +75,19 @@ take_any turns s t (Ok got) l = record { entries = _; call = l.call }
 take_any turns s t (Err again) l = record { entries = _; call = l.call }
 
 module _ (given turns : ℕ) (s t : Seat FifoNote) (any : AnyCall given turns s t) where
-  own_events : events_by s.agent t.seen ≡ events_by s.agent s.seen ++ any.call.own
+  own_events : events_by t.agent t.seen ≡ events_by s.agent s.seen ++ any.call.own
   own_events =
       let p = any.call.puts in
-      ap (λ z. events_by s.agent z) p.is ∙ (filter-append (λ e. e.agent == s.agent) s.seen p.part ∙ ap (λ z. events_by s.agent s.seen ++ z) p.own_is)
+      ap (λ (a : ℕ). events_by a t.seen) p.agent ∙ (ap (λ z. events_by s.agent z) p.is ∙ (filter-append (λ e. e.agent == s.agent) s.seen p.part ∙ ap (λ z. events_by s.agent s.seen ++ z) p.own_is))
 
-  pub any_gives : gives_in (events_by s.agent t.seen) ≡ gives_in (events_by s.agent s.seen) + given
+  pub any_gives : gives_in (events_by t.agent t.seen) ≡ gives_in (events_by s.agent s.seen) + given
   any_gives = rw own_events (omega (arith, gives_in-append (events_by s.agent s.seen) any.call.own, any.call.gives))
 
-  pub any_tries : length (events_by s.agent t.seen) ≤ length (events_by s.agent s.seen) + 6 * turns + 3 * given
+  pub any_tries : length (events_by t.agent t.seen) ≤ length (events_by s.agent s.seen) + 6 * turns + 3 * given
   any_tries = rw own_events (omega (arith, length-append (events_by s.agent s.seen) any.call.own, any.call.few))
 
 -- a call with no turn
-any_none : (s t : Seat FifoNote) → AnyCall 0 0 s t → events_by s.agent t.seen ≡ events_by s.agent s.seen
+any_none : (s t : Seat FifoNote) → AnyCall 0 0 s t → events_by t.agent t.seen ≡ events_by s.agent s.seen
 any_none s t any = own_events 0 0 s t any ∙ (ap (λ z. events_by s.agent s.seen ++ z) (empty any.call.own any.call.few) ∙ append-nil (events_by s.agent s.seen))
   where
     empty : (es : List (Event FifoNote)) → length es ≤ 0 → es ≡ []
@@ -100,7 +95,7 @@ any_none s t any = own_events 0 0 s t any ∙ (ap (λ z. events_by s.agent s.see
     empty (e ∷ es) none = absurd (omega (arith, none))
 
 -- no turn
-pub put_no_turns : (n : HeapNumbers) (job turns : ℕ) (s t : Seat FifoNote) (r : Result ℕ QueueRefused) → PutAnswers n job turns s r t → turns ≡ 0 → (r ≡ Err Again) × (events_by s.agent t.seen ≡ events_by s.agent s.seen)
+pub put_no_turns : (n : HeapNumbers) (job turns : ℕ) (s t : Seat FifoNote) (r : Result ℕ QueueRefused) → PutAnswers n job turns s r t → turns ≡ 0 → (r ≡ Err Again) × (events_by t.agent t.seen ≡ events_by s.agent s.seen)
 put_no_turns n job turns s t r l none = (again r l, any_none s t (subst (λ (k : ℕ). AnyCall (gives_of k r) k s t) none (put_any n job turns s t r l)))
   where
     again : (r : Result ℕ QueueRefused) → PutAnswers n job turns s r t → r ≡ Err Again
@@ -109,7 +104,7 @@ put_no_turns n job turns s t r l none = (again r l, any_none s t (subst (λ (k :
     again (Err NoNode) l = absurd (l.some_turn none)
     again (Err Positions) l = absurd (l.some_turn none)
 
-pub take_no_turns : (turns : ℕ) (s t : Seat FifoNote) (r : Result (Option (ℕ × ℕ)) AgainFault) → TakeAnswers turns s r t → turns ≡ 0 → IsErr r × (events_by s.agent t.seen ≡ events_by s.agent s.seen)
+pub take_no_turns : (turns : ℕ) (s t : Seat FifoNote) (r : Result (Option (ℕ × ℕ)) AgainFault) → TakeAnswers turns s r t → turns ≡ 0 → IsErr r × (events_by t.agent t.seen ≡ events_by s.agent s.seen)
 take_no_turns turns s t r l none = (again r l, any_none s t (subst (λ (k : ℕ). AnyCall 0 k s t) none (take_any turns s t r l)))
   where
     again : (r : Result (Option (ℕ × ℕ)) AgainFault) → TakeAnswers turns s r t → IsErr r
@@ -126,7 +121,7 @@ module _ {S : Type 0} (n : HeapNumbers) (agents : ℕ) (agent_of : S → ℕ) (e
     call_adds given turns es c =
         let p = c.puts in
         let others = of_crowd s.agent agents p.part (below_right agents s.seen p.part (subst (λ z. IsBelow agents z) p.is below)) in
-        let a = entries_added n (λ (x : ℕ). x < agents) s.agent s.seen p.part (new_allowed n s t c.own p all) others in
+        let a = entries_added entries_in agent_of_entry (FifoMay n) (entries_own n) (λ (x : ℕ). x < agents) s.agent s.seen p.part (part_allowed (FifoMay n) s t c.own p all) others in
         let own : entries_of (events_by s.agent p.part) ≡ es = ap entries_of p.own_is ∙ c.entries_are in
         subst (λ z. Adds agent_of_entry (λ (x : ℕ). x < agents) s.agent (entries_of (events j)) es (entries_of z)) (sym p.is ∙ is_t)
         (subst (λ z. Adds agent_of_entry (λ (x : ℕ). x < agents) s.agent (entries_of z) es (entries_of (s.seen ++ p.part))) is_s
@@ -180,7 +175,7 @@ module _ {S : Type 0} (n : HeapNumbers) (agents : ℕ) (agent_of : S → ℕ) (e
         let new : events k ≡ events j ++ p.part = sym is_t ∙ (p.is ∙ ap (λ z. z ++ p.part) is_s) in
         let e = part_events agent_of events adds s.agent j k p.part grows new in
         let own : from_own s.agent p.part ≡ from_own s.agent e.part = ap (λ z. from_own s.agent z) e.is ∙ from_own-others s.agent e.gap e.part e.others in
-        alone_holds n TailIsLast s t l.call.own p known all (tail_settles n l.call.own l.helps) (subst (λ z. AllOwn s.agent z) (sym own) (own_from s.agent e.part (e.alone alone)))
+        alone_runs n TailIsLast s t l.call.own p known all (tail_settles n l.call.own l.helps) (subst (λ z. AllOwn s.agent z) (sym own) (own_from s.agent e.part (e.alone alone)))
     put_tail job turns (Err why) known l = tt
 
     pub put_again : (job turns : ℕ) (r : Result ℕ QueueRefused) → PutAnswers n job turns s r t → r ≡ Err Again → InPart agent_of s.agent j k (λ from to. UsesTurns agent_of events s.agent turns k from to)
@@ -212,14 +207,16 @@ module _ {S : Type 0} (n : HeapNumbers) (agents : ℕ) (agent_of : S → ℕ) (e
     -- the licence of a refusal, from the clauses of a put
     pub put_licence : (turns : ℕ) (opening : List (Event FifoNote)) → HasDummy n opening → IsPrefix opening t.seen → Known n s.seen → (Lacks : ℕ → ℕ → Type 0) (r : Result ℕ QueueRefused)
         → (turns ≡ 0 → r ≡ Err Again) → (r ≡ Err Again → InPart agent_of s.agent j k (λ from to. UsesTurns agent_of events s.agent turns k from to))
-        → (r ≡ Err NoNode → (turns ≢ 0) × Within (length j) (length k) Lacks) → ((r ≡ Err Positions) ↔ CallFindsFull n s t)
+        → (r ≡ Err NoNode → (seen : List S) × IsPrefix j seen × IsPrefix seen k × InPart agent_of s.agent j seen Lacks) → ((r ≡ Err Positions) ↔ CallFindsFull n s t)
         → IfErr r (λ e. Within (length j) (length k) (λ from to. Cause agent_of events (position_of (run_heap n opening) 0) (Lacks from to) s.agent turns e k from to))
     put_licence turns opening made begins known Lacks (Ok at) none again node full = tt
     put_licence turns opening made begins known Lacks (Err Again) none again node full =
         let bounds = part_bounds agent_of s.agent j k grows in
         (part_begin agent_of s.agent j k, length k, bounds.0, bounds.1, omega arith, again refl)
     put_licence turns opening made begins known Lacks (Err NoNode) none again node full =
-        let (some, (from, to, a, b, c, lacks)) = node refl in
+        let some : turns ≢ 0 = λ zero_turns. let bad : ◌≡◌ {A = Result ℕ QueueRefused} (Err NoNode) (Err Again) = none zero_turns in cc in
+        let (seen, one, two, lacks) = node refl in
+        let (from, to, a, b, c, lacks) = part_within agent_of s.agent j seen k Lacks one two lacks in
         (from, to, a, b, c, (some, lacks))
     put_licence turns opening made begins known Lacks (Err Positions) none again node full =
         let some : turns ≢ 0 = λ zero_turns. let bad : ◌≡◌ {A = Result ℕ QueueRefused} (Err Positions) (Err Again) = none zero_turns in cc in
@@ -233,10 +230,12 @@ module _ {S : Type 0} (n : HeapNumbers) (agents : ℕ) (agent_of : S → ℕ) (e
         let bounds = part_bounds agent_of s.agent j k grows in
         (part_begin agent_of s.agent j k, length k, bounds.0, bounds.1, omega arith, again)
 
--- a fact that stays is one of the longer journal
-pub within_stays : {S : Type 0} (Fact : List S → ℕ → ℕ → Type 0) → ((j more : List S) (from to : ℕ) → Fact j from to → Fact (j ++ more) from to) → (begin : ℕ) (k m : List S) → IsPrefix k m → Within begin (length k) (Fact k) → Within begin (length m) (Fact m)
-within_stays Fact stays begin k m (more, is) (from, to, a, b, c, fact) =
-    (from, to, a, b, omega (arith, c, length-append k more, ap length is), subst (λ z. Fact z from to) is (stays k more from to fact))
+-- a fact of the part of a call, as the pass had seen it at some time, stays one of the longer journal
+pub during : {S : Type 0} (agent_of : S → ℕ) (agent : ℕ) (Fact : List S → ℕ → ℕ → Type 0) → ((j more : List S) (from to : ℕ) → Fact j from to → Fact (j ++ more) from to)
+    → (j k m : List S) → IsPrefix j k → IsPrefix k m → InPart agent_of agent j k (Fact k)
+    → (seen : List S) × IsPrefix j seen × IsPrefix seen m × InPart agent_of agent j seen (Fact m)
+during agent_of agent Fact stays j k m grows (more, is) fact =
+    (k, grows, (more, is), subst (λ z. Fact z (part_begin agent_of agent j k) (length k)) is (stays k more _ _ fact))
 
 -- the entries of each of two agents in what both have seen
 pub learns : {S : Type 0} (n : HeapNumbers) (events : List S → List (Event FifoNote)) (agent1 agent2 : ℕ) (s1 s2 t1 : Seat FifoNote) (j1 j2 k1 k2 : List S) → k1 ≡ k2 → (IsPrefix j1 j2 × (k1 ≡ j2)) ⊎ (IsPrefix j2 j1 × (k1 ≡ j1))
@@ -254,4 +253,4 @@ learns {S} n events agent1 agent2 s1 s2 t1 j1 j2 k1 k2 one longer all1 all2 all 
         → own_of agent_of_entry agent (entries_of (events k1)) ≡ own_of agent_of_entry agent (entries_of (events j))
     own agent s j all_s is_j same =
         ap (λ z. own_of agent_of_entry agent (entries_of z)) (sym is)
-        ∙ (own_of_events n agent [] t1.seen all ∙ (ap entries_of same ∙ (sym (own_of_events n agent [] s.seen all_s) ∙ ap (λ z. own_of agent_of_entry agent (entries_of z)) is_j)))
+        ∙ (own_of_events entries_in agent_of_entry (FifoMay n) (entries_own n) agent [] t1.seen all ∙ (ap entries_of same ∙ (sym (own_of_events entries_in agent_of_entry (FifoMay n) (entries_own n) agent [] s.seen all_s) ∙ ap (λ z. own_of agent_of_entry agent (entries_of z)) is_j)))

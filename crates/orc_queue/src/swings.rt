@@ -2,24 +2,25 @@
 
 ghost use Rattle.std.specs.Prelude.{◌≡◌, ℕ, Some, true};
 ghost use mathlib.Core.List.{IsPrefix};
-ghost use Rattle.orc_heap.specs.Allowed.{AllowedLater};
+ghost use Rattle.orc_heap.specs.Allowed.{AllowedLater, HasLink};
 ghost use Rattle.orc_heap.specs.Calls.{Swings, move_of};
 ghost use Rattle.orc_heap.specs.Journals.{run_heap};
 ghost use Rattle.orc_heap.specs.Seats.{HoldsPlace, HoldsWant, IsNotFresh, link_in, place_in};
 ghost use Rattle.orc_heap.specs.Slots.{Holds, id_in};
-ghost use Rattle.orc_fifo_rule.specs.QueueDiscipline.{FifoMay, HasLink, link_to};
+ghost use Rattle.orc_fifo_rule.specs.QueueDiscipline.{FifoMay};
 ghost use Rattle.orc_queue.specs.Turns.{HasDummy, Helps};
+ghost use Rattle.orc_heap.specs.Heap.{link_to};
 
 use orc_fifo_rule::{Fifo, FifoNote};
 use orc_heap::{At, Held, Links, Want};
 
-/// The root that names the dummy in front of the queue.
+// The root that names the dummy in front of the queue.
 pub(crate) const HEAD: u32 = 0;
 
-/// The root that names the last node, or the one before it.
+// The root that names the last node, or the one before it.
 pub(crate) const TAIL: u32 = 1;
 
-/// One compare-and-swap. It is never refused, since three links at most are made to a node in all.
+// Makes one compare-and-swap. It is never refused, since three links at most are made to a node in all.
 pub(crate) fn change<L: Links<Rule = Fifo>>(
     links: &L,
     p: &mut L::Pass,
@@ -46,7 +47,7 @@ pub(crate) fn change<L: Links<Rule = Fifo>>(
     }
 }
 
-/// Swings the tail on from a node to its successor, if the tail still names that node.
+// Swings the tail on from a node to its successor, if the tail still names that node.
 pub(crate) fn help_tail<L: Links<Rule = Fifo>>(links: &L, p: &mut L::Pass, tail: &Held, next: &Held)
     requires pass { L.belongs links.now p.old }
     requires made { HasDummy (L.numbers links.now) (L.opening links.now) }
