@@ -63,7 +63,8 @@ room_left b steps a op shape l h =
     rw (read_shown m a op h) (rw (seat_same (world_of m).seats a (record_by (world_of m) a op)) at k)
 
 -- a row in hand is one of the table's, and an agent with a due row has no increment pending
-pub hand_within : (b : Bounds) (steps : List (ℕ × Op)) (a r : ℕ) → IsShape b → IsLawful (new_machine b) steps → names (record_at (run (new_machine b) steps) a).hand r ≡ true → r < b.rows
+pub hand_within : (b : Bounds) (steps : List (ℕ × Op)) (a r : ℕ) → IsShape b → IsLawful (new_machine b) steps
+    → names (record_at (run (new_machine b) steps) a).hand r ≡ true → r < b.rows
 hand_within b steps a r shape l h =
     subst (λ (c : Bounds). r < c.rows) (run_bounds (new_machine b) steps) ((run_fits b steps shape l).rows.in_hand a r h)
 

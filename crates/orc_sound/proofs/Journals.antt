@@ -19,13 +19,16 @@ module _ {N : Type 0} where
   pub run_plain-append : (m : Machine) (first second : List (Step N)) → run m (plain (first ++ second)) ≡ run (run m (plain first)) (plain second)
   run_plain-append m first second = ap (run m) (plain-append first second) ∙ run-append m (plain first) (plain second)
 
-  journal_parts : (m : Machine) (first second : List (Step N)) → IsLawfulJournal m (first ++ second) → IsLawfulJournal m first × IsLawfulJournal (run m (plain first)) second
+  journal_parts : (m : Machine) (first second : List (Step N)) → IsLawfulJournal m (first ++ second)
+      → IsLawfulJournal m first × IsLawfulJournal (run m (plain first)) second
   journal_parts m [] second l = (tt, l)
   journal_parts m (s ∷ ss) second l = let p = journal_parts (step m s.agent s.op) ss second l.2 in ((l.0, l.1, p.0), p.1)
 
-  journal_whole : (m : Machine) (first second : List (Step N)) → IsLawfulJournal m first × IsLawfulJournal (run m (plain first)) second → IsLawfulJournal m (first ++ second)
+  journal_whole : (m : Machine) (first second : List (Step N)) → IsLawfulJournal m first × IsLawfulJournal (run m (plain first)) second
+      → IsLawfulJournal m (first ++ second)
   journal_whole m [] second l = l.1
   journal_whole m (s ∷ ss) second l = (l.0.0, l.0.1, journal_whole (step m s.agent s.op) ss second (l.0.2, l.1))
 
-  pub IsLawfulJournal-append : (m : Machine) (first second : List (Step N)) → IsLawfulJournal m (first ++ second) ↔ (IsLawfulJournal m first × IsLawfulJournal (run m (plain first)) second)
+  pub IsLawfulJournal-append : (m : Machine) (first second : List (Step N))
+      → IsLawfulJournal m (first ++ second) ↔ (IsLawfulJournal m first × IsLawfulJournal (run m (plain first)) second)
   IsLawfulJournal-append m first second = (journal_parts m first second, journal_whole m first second)

@@ -1,5 +1,5 @@
 -- Handover words, hands and work lists name rows of the table.
-use Rattle.std.proofs.Common.{subst, Bool, List, [], ap, arith, cond, drop, false, inl, inr, length, refl, sym, true, ℕ, ⊎_elim, ◌%◌, ◌++◌, ◌+◌, ◌/◌, ◌<◌, ◌∙◌, ◌∷◌, ◌≡◌, ◌≤◌, ◌⊎◌}
+use Rattle.std.proofs.Common.{Bool, List, [], ap, arith, cond, drop, false, inl, inr, length, refl, subst, sym, true, ℕ, ⊎_elim, ◌%◌, ◌++◌, ◌+◌, ◌/◌, ◌<◌, ◌∙◌, ◌∷◌, ◌≡◌, ◌≤◌, ◌⊎◌}
 use Rattle.std.proofs.lemmas.Bool.{eq-eqb, eqb-true, false≢true, ltb-true}
 use Rattle.std.specs.Prelude.{None, Option, Some, nat_lt, ◌==◌}
 use Rattle.orc_words.specs.Bounds.{Bounds}
