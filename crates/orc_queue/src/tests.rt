@@ -27,7 +27,7 @@ type TestQueue = Queue<PlainDomain<Fifo>>;
 
 type TestPass = PlainPass<Fifo>;
 
-// a queue whose first position is this one, with a pass for each agent
+// A queue whose first position is this one, with a pass for each agent.
 fn make_queue(
     alloc: Global,
     shape: &Shape,
@@ -47,7 +47,7 @@ fn make_queue(
     Ok((Queue::new(domain), passes))
 }
 
-// the last of these passes
+// The last of these passes.
 fn next_pass<Q: SharedQueue>(queue: &Q, passes: &mut Vec<Q::Pass>) -> Option<Q::Pass>
     requires usable { All (λ p. Q.usable queue.now p) passes.old.items }
     requires agents { (i : ℕ) (p : Q.Pass) → i < length passes.old.items → Q.agent_of queue.now (slice_index_or passes.old.items i p) ≡ i }
@@ -69,6 +69,7 @@ fn the_last_position(rt: HostRuntime) -> Result<(), Fail> {
     let Some(mut p) = next_pass(&queue, &mut passes) else {
         panic!(rt; "a pass")
     };
+    queue.members();
     assert_eq!(rt; queue.enqueue(&mut p, 1, 2), Ok((1 << 62) - 1));
     assert_eq!(rt; queue.enqueue(&mut p, 2, 2), Err(QueueRefused::Positions));
     assert_eq!(rt; queue.dequeue(&mut p, 2), Ok(Some((1, (1 << 62) - 1))));
@@ -77,7 +78,7 @@ fn the_last_position(rt: HostRuntime) -> Result<(), Fail> {
     Ok(())
 }
 
-// links a fresh node behind the node that the tail names, and leaves the tail there
+// Links a fresh node behind the node that the tail names, and leaves the tail there.
 fn link_at_tail<L: Links<Rule = Fifo>>(links: &L, p: &mut L::Pass, node: &Held, job: u64) -> PutTurn
     requires pass { L.belongs links.now p.old }
     requires made { HasDummy (L.numbers links.now) (L.opening links.now) }
@@ -98,7 +99,7 @@ fn link_at_tail<L: Links<Rule = Fifo>>(links: &L, p: &mut L::Pass, node: &Held, 
     }
 }
 
-// puts a job, and stops before the tail is swung on
+// Puts a job, and stops before the tail is swung on.
 fn stop_a_put<L: Links<Rule = Fifo>>(links: &L, p: &mut L::Pass, job: u64) -> PutTurn
     requires pass { L.belongs links.now p.old }
     requires made { HasDummy (L.numbers links.now) (L.opening links.now) }
@@ -114,7 +115,7 @@ fn stop_a_put<L: Links<Rule = Fifo>>(links: &L, p: &mut L::Pass, job: u64) -> Pu
     turn
 }
 
-// the same, in a queue
+// The same, in a queue.
 fn leave_the_tail(queue: &TestQueue, p: &mut TestPass, job: u64) -> PutTurn
     requires { ⟦<TestQueue as SharedQueue>⟧.usable queue.now p.old }
     ensures { ⟦<TestQueue as SharedQueue>⟧.usable queue.now p.new }
@@ -122,7 +123,7 @@ fn leave_the_tail(queue: &TestQueue, p: &mut TestPass, job: u64) -> PutTurn
     stop_a_put(queue.links(), p, job)
 }
 
-// a queue of 8 rows, and its two passes
+// A queue of 8 rows, and its two passes.
 fn with_two_passes(
     alloc: Global,
     shape: &Shape,
@@ -183,10 +184,10 @@ fn two_turns_are_enough_alone(rt: HostRuntime) -> Result<(), Fail> {
     Ok(())
 }
 
-// how many jobs each producer puts, and each consumer takes
+// How many jobs each producer puts, and each consumer takes.
 const JOBS: u64 = 10_000;
 
-// puts a job; a call whose turns are used up is made again
+// Puts a job; a call whose turns are used up is made again.
 fn put_one<R: Wait, Q: SharedQueue>(rt: &R, queue: &Q, p: &mut Q::Pass, job: u64) -> bool
     requires { Q.usable queue.now p.old }
     ensures { Q.usable queue.now p.new }
@@ -201,7 +202,7 @@ fn put_one<R: Wait, Q: SharedQueue>(rt: &R, queue: &Q, p: &mut Q::Pass, job: u64
     unreachable!()
 }
 
-// puts the jobs of these numbers in order
+// Puts the jobs of these numbers in order.
 fn put_all<R: Wait, Q: SharedQueue>(rt: &R, queue: &Q, p: &mut Q::Pass, from: u64, to: u64) -> bool
     requires { Q.usable queue.now p.old }
     ensures { Q.usable queue.now p.new }
@@ -214,7 +215,7 @@ fn put_all<R: Wait, Q: SharedQueue>(rt: &R, queue: &Q, p: &mut Q::Pass, from: u6
     true
 }
 
-// takes a job; a call that finds none, or whose turns are used up, is made again
+// Takes a job; a call that finds none, or whose turns are used up, is made again.
 fn take_one<R: Wait, Q: SharedQueue>(rt: &R, queue: &Q, p: &mut Q::Pass) -> u64
     requires { Q.usable queue.now p.old }
     ensures { Q.usable queue.now p.new }
@@ -227,7 +228,7 @@ fn take_one<R: Wait, Q: SharedQueue>(rt: &R, queue: &Q, p: &mut Q::Pass) -> u64
     unreachable!()
 }
 
-// takes so many jobs
+// Takes so many jobs.
 fn take_all<R: Wait, Q: SharedQueue>(
     rt: &R,
     alloc: Global,
@@ -247,7 +248,7 @@ fn take_all<R: Wait, Q: SharedQueue>(
     Some(jobs)
 }
 
-// two agents put the jobs below these numbers, each in a thread of its own
+// Two agents put the jobs below these numbers, each in a thread of its own.
 fn put_by_two<R: Threads + Wait + Sync>(
     rt: &R,
     queue: &TestQueue,
@@ -265,7 +266,7 @@ fn put_by_two<R: Threads + Wait + Sync>(
     first && second
 }
 
-// two agents take them, each in a thread of its own
+// Two agents take them, each in a thread of its own.
 fn take_by_two<R: Threads + Wait + Sync>(
     rt: &R,
     alloc: Global,
@@ -283,7 +284,7 @@ fn take_by_two<R: Threads + Wait + Sync>(
     )
 }
 
-// all four at once
+// All four at once.
 fn on_four_threads<R: Threads + Wait + Sync>(
     rt: &R,
     alloc: Global,
@@ -311,7 +312,7 @@ fn on_four_threads<R: Threads + Wait + Sync>(
     )
 }
 
-// the jobs below `end` and from `begin` on rise
+// The jobs below `end` and from `begin` on rise.
 fn rises(jobs: &[u64], begin: u64, end: u64) -> bool {
     let mut least = begin;
     for job in jobs {
@@ -325,14 +326,14 @@ fn rises(jobs: &[u64], begin: u64, end: u64) -> bool {
     true
 }
 
-// each number below the length stands there once, in order
+// Each number below the length stands there once, in order.
 fn counts_up(jobs: &[u64]) -> bool {
     jobs.iter()
         .enumerate()
         .all(|(place, job)| *job == place as u64)
 }
 
-// both lists in one, sorted
+// Both lists in one, sorted.
 fn sorted(one: Vec<u64>, two: &[u64]) -> Result<Vec<u64>, AllocError> {
     let mut all = one;
     for job in two {
