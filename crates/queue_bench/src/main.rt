@@ -16,22 +16,22 @@ use std::alloc::Global;
 use std::io;
 use std::time::Instant;
 
-/// How many jobs go through one queue: a plain domain gives each of its rows once.
+// How many jobs go through one queue: a plain domain gives each of its rows once.
 const JOBS: u64 = 65_000;
 
-/// How many queues are filled.
+// How many queues are filled.
 const QUEUES: u64 = 100;
 
-/// The atomic steps of an enqueue that no other agent disturbs: two of the gate, two values, two loads of the tail,
-/// one of the last node's link and one of its position, the new node's position, and two swings.
+// The atomic steps of an enqueue that no other agent disturbs: two of the gate, two values, two loads of the tail,
+// one of the last node's link and one of its position, the new node's position, and two swings.
 const ENQUEUE_STEPS: u64 = 11;
 
-/// Those of a dequeue: two loads of the head and two of its link, one of the tail, two values, and one swing.
+// Those of a dequeue: two loads of the head and two of its link, one of the tail, two values, and one swing.
 const DEQUEUE_STEPS: u64 = 8;
 
 type PlainDomainQueue = Queue<PlainDomain<Fifo>>;
 
-// a new queue, with its one pass
+// Makes a new queue, with its one pass.
 fn make_queue(
     alloc: Global,
     shape: &Shape,
@@ -47,7 +47,7 @@ fn make_queue(
     Ok((Queue::new(domain), passes))
 }
 
-// the last of these passes
+// Takes out the last of these passes.
 fn next_pass<Q: SharedQueue>(queue: &Q, passes: &mut Vec<Q::Pass>) -> Option<Q::Pass>
     requires usable { All (λ p. Q.usable queue.now p) passes.old.items }
     ensures popped { IfSome result (λ p. Q.usable queue.now p) }
@@ -55,7 +55,7 @@ fn next_pass<Q: SharedQueue>(queue: &Q, passes: &mut Vec<Q::Pass>) -> Option<Q::
     passes.pop()
 }
 
-/// The sum of the jobs that were taken.
+// Puts and takes jobs, and answers the sum of those that were taken.
 fn put_and_take<Q: SharedQueue>(queue: &Q, p: &mut Q::Pass) -> u64
     requires { Q.usable queue.now p.old }
 {
