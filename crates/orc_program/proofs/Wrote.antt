@@ -1,7 +1,6 @@
 -- What a mode was to write, as what the program was to write.
-use Rattle.std.proofs.Common.{◌≡◌, ◌≢◌, ◌∙◌, ◌≤◌, ◌<◌, ◌⊎◌, List, [], ◌∷◌, ℕ, Option, Some, refl, sym, subst, inl, inr, IfSome, codes, length}
-use Rattle.orc_jobs.specs.JobGrammar.{IsFileOf, Refuses}
-use Rattle.orc_jobs.specs.declared.cause.JobsFault.TheVariants as fault
+use Rattle.std.proofs.Common.{◌≡◌, ◌≢◌, ◌∙◌, ◌≤◌, ◌<◌, ◌⊎◌, List, [], ℕ, Option, Some, refl, sym, subst, inl, inr, IfSome, length}
+use Rattle.orc_jobs.specs.JobGrammar.{IsFileOf}
 use Rattle.orc_trace.specs.declared.answers.TraceFault.{TraceFault}
 use Rattle.orc_trace.specs.declared.answers.TraceFault.TheVariants as trace
 use Rattle.orc_trace.specs.Replay.{Refuses as RefusesTrace}
@@ -12,7 +11,7 @@ use Rattle.orc_program.specs.declared.mode.Mode.TheVariants as mode
 use Rattle.orc_program.specs.Ended.{HasReported, IsNew}
 use Rattle.orc_program.specs.Modes.{Asks, replay_words}
 use Rattle.orc_program.specs.Refusals.{IsRefusal, IsTooLarge, NamesFault, input_limit, input_too_large}
-use Rattle.orc_program.specs.Outcomes.{ModeWrites, Tells, TellsReplay}
+use Rattle.orc_program.specs.Outcomes.{ModeWrites, TellsReplay}
 use Rattle.orc_program.proofs.Inputs.{where-told}
 
 -- where the bytes are told, they are these
