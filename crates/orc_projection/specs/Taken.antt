@@ -1,5 +1,5 @@
 -- The rows that were taken, in order. The node of id i lies in the row that was taken as the i-th, counted from 0.
-use Rattle.std.specs.Prelude.{List, None, Option, Some, [], if◌then◌else◌, ℕ, ◌++◌, ◌∷◌, ◌≡◌}
+use Rattle.std.specs.Prelude.{List, Some, [], if◌then◌else◌, ℕ, ◌++◌, ◌∷◌, ◌≡◌}
 use Rattle.orc_core.specs.Machine.{Machine, new_machine, record_at, step, word_read}
 use Rattle.orc_core.specs.declared.ops.Op.{Op}
 use Rattle.orc_core.specs.declared.ops.Op.TheVariants.{GateTake}
@@ -15,10 +15,12 @@ abbrev pub taken_by : Agent → ℕ → Op → List ℕ
 taken_by d w (GateTake r) = if is_taken d w then r ∷ [] else []
 taken_by d w op = []
 
+-- the rows that these steps take, from this state on
 abbrev pub rows_taken_from : {N : Type 0} → Machine → List (Step N) → List ℕ
 rows_taken_from m [] = []
 rows_taken_from m (s ∷ ss) = taken_by (record_at m s.agent) (word_read m s.agent s.op) s.op ++ rows_taken_from (step m s.agent s.op) ss
 
+-- from a new state on
 abbrev pub rows_taken : {N : Type 0} → Bounds → List (Step N) → List ℕ
 rows_taken b steps = rows_taken_from (new_machine b) steps
 
