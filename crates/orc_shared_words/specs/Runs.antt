@@ -6,7 +6,7 @@ use Rattle.std.specs.Prelude.{List, Option, [], if◌then◌else◌, slice_index
 pub record Rules (K S Op Rec N : Type 0) : Type 1 where
   -- how many agents there are
   pub agents : K → ℕ
-  -- the record of no agent, and that of a new pass
+  -- the record of no agent, and that of each new pass of a machine of this shape
   pub blank : Rec
   pub born : K → Rec
   -- of an agent with this record, the place of the operation's word
