@@ -155,7 +155,10 @@ fn on_two_threads<R: Threads + Sync>(
     domain: &Domain,
     one: &mut Pass,
     two: &mut Pass,
-) -> (Result<(u64, u64), PushRefused>, Result<(u64, u64), PushRefused>)
+) -> (
+    Result<(u64, u64), PushRefused>,
+    Result<(u64, u64), PushRefused>,
+)
     requires pass { IsPassOf domain.now one.old × IsPassOf domain.now two.old }
     requires ready { IsReady (domain_numbers domain.now) (seat_of domain.now one.old) × IsReady (domain_numbers domain.now) (seat_of domain.now two.old) }
 {
