@@ -8,7 +8,7 @@ ghost use Rattle.orc_domain.specs.Passes.{IsPassOf, domain_numbers, seat_of};
 ghost use Rattle.orc_domain.specs.Ready.{IsReady};
 
 use super::*;
-use links_example::{OwnRoots, Refused, through_a_stack};
+use links_example::{OwnRoots, PushRefused, through_a_stack};
 use orc_fault::NoMemory;
 use orc_heap::{At, Discipline, Links, Seed, Want};
 use orc_words::Shape;
@@ -46,6 +46,9 @@ fn one_node(domain: &Domain, p: &mut Pass) -> Option<(u64, bool)>
     ensures idle { IsIdle (seat_of domain.now p.new) }
     ensures agent { (seat_of domain.now p.new).agent ≡ (seat_of domain.now p.old).agent }
 {
+    domain.links_of_the_domain();
+    domain.links_of_a_pass(p);
+    domain.gives_at_most_rows(p);
     let Ok(node) = domain.give(p, 1, 7, 8) else {
         return None;
     };
@@ -137,7 +140,7 @@ fn through_own_stack(
     p: &mut Pass,
     lower: u64,
     upper: u64,
-) -> Result<(u64, u64), Refused>
+) -> Result<(u64, u64), PushRefused>
     requires pass { IsPassOf domain.now p.old }
     requires ready { IsReady (domain_numbers domain.now) (seat_of domain.now p.old) }
     ensures pass { IsPassOf domain.now p.new }
@@ -152,7 +155,10 @@ fn on_two_threads<R: Threads + Sync>(
     domain: &Domain,
     one: &mut Pass,
     two: &mut Pass,
-) -> (Result<(u64, u64), Refused>, Result<(u64, u64), Refused>)
+) -> (
+    Result<(u64, u64), PushRefused>,
+    Result<(u64, u64), PushRefused>,
+)
     requires pass { IsPassOf domain.now one.old × IsPassOf domain.now two.old }
     requires ready { IsReady (domain_numbers domain.now) (seat_of domain.now one.old) × IsReady (domain_numbers domain.now) (seat_of domain.now two.old) }
 {

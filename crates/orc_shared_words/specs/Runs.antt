@@ -1,12 +1,12 @@
 -- How a journal runs, as far as shared words need it.
 use Rattle.orc_heap.specs.declared.events.Event.{Event}
-use Rattle.std.specs.Prelude.{List, Option, [], if◌then◌else◌, slice_index, slice_set, ℕ, ◌++◌, ◌<◌, ◌==◌, ◌∷◌, ◌≡◌, ◌≢◌}
+use Rattle.std.specs.Prelude.{List, Option, [], slice_index, slice_set, ℕ, ◌++◌, ◌<◌, ◌∷◌, ◌≡◌, ◌≢◌}
 
 -- K is the shape, S a step of a journal, Op an operation, Rec an agent's record, N a note
 pub record Rules (K S Op Rec N : Type 0) : Type 1 where
   -- how many agents there are
   pub agents : K → ℕ
-  -- the record of no agent, and that of a new pass
+  -- the record of no agent, and that of each new pass of a machine of this shape
   pub blank : Rec
   pub born : K → Rec
   -- of an agent with this record, the place of the operation's word

@@ -1,4 +1,4 @@
-use Rattle.std.proofs.Common.{subst, sym, ℕ, ◌++◌, ◌≡◌}
+use Rattle.std.proofs.Common.{subst, sym, ◌++◌, ◌≡◌}
 use Rattle.orc_shared_words.proofs.Seats.{one_number}
 use Rattle.orc_shared_words.proofs.shared_words.SharedWords.step.Goals as goal
 
