@@ -1,16 +1,11 @@
 -- What a mode was to write, as what the program was to write.
-use Rattle.std.proofs.Common.{◌≡◌, ◌≢◌, ◌∙◌, ◌≤◌, ◌<◌, ◌⊎◌, List, [], ℕ, Option, Some, refl, sym, subst, inl, inr, IfSome, length}
+use Rattle.std.proofs.Common.{◌≡◌, ◌<◌, ◌⊎◌, List, ℕ, Option, Some, refl, sym, subst, inl, inr, IfSome, length}
 use Rattle.orc_jobs.specs.JobGrammar.{IsFileOf}
-use Rattle.orc_trace.specs.declared.answers.TraceFault.{TraceFault}
-use Rattle.orc_trace.specs.declared.answers.TraceFault.TheVariants as trace
-use Rattle.orc_trace.specs.Replay.{Refuses as RefusesTrace}
-use Rattle.orc_trace.specs.Answers.{fault_line}
 use Rattle.orc_program.specs.declared.ended.Ended.{Ended}
 use Rattle.orc_program.specs.declared.mode.Mode.{Mode}
 use Rattle.orc_program.specs.declared.mode.Mode.TheVariants as mode
 use Rattle.orc_program.specs.Ended.{HasReported, IsNew}
-use Rattle.orc_program.specs.Modes.{Asks, replay_words}
-use Rattle.orc_program.specs.Refusals.{IsRefusal, IsTooLarge, NamesFault, input_limit, input_too_large}
+use Rattle.orc_program.specs.Refusals.{IsRefusal, NamesFault, input_limit, input_too_large}
 use Rattle.orc_program.specs.Outcomes.{ModeWrites, TellsReplay}
 use Rattle.orc_program.proofs.Inputs.{where-told}
 
@@ -48,22 +43,7 @@ pub replay_writes : (bytes : List ℕ) (ended : Ended) (text : List ℕ) → IsN
 replay_writes bytes ended text new (inl tells) = inl (new, tells)
 replay_writes bytes ended text new (inr names) = inr (new, inr names)
 
--- bytes past the limit are too large in each mode
-pub too_long : (m : Mode) (bytes : List ℕ) → input_limit < length bytes → IsTooLarge m bytes
-too_long mode.Run bytes h = inl h
-too_long mode.Replay bytes h = h
-
+-- bytes past the limit are refused in each mode
 pub refuses_size : (m : Mode) (bytes : List ℕ) → input_limit < length bytes → IsRefusal m bytes input_too_large
 refuses_size mode.Run bytes h = inl (inl h, refl)
 refuses_size mode.Replay bytes h = inl (h, refl)
-
--- words ask for one mode at most
-pub one_mode : (words : List (List ℕ)) (a b : Mode) → Asks words a → Asks words b → a ≡ b
-one_mode words mode.Run mode.Run h k = refl
-one_mode words mode.Run mode.Replay h k = let bad : ◌≡◌ {A = List (List ℕ)} [] replay_words = sym h ∙ k in absurd (cc bad)
-one_mode words mode.Replay mode.Run h k = let bad : ◌≡◌ {A = List (List ℕ)} [] replay_words = sym k ∙ h in absurd (cc bad)
-one_mode words mode.Replay mode.Replay h k = refl
-
--- the line of a fault of these bytes names it
-pub names-fault : (bytes : List ℕ) (why : TraceFault) → why ≢ trace.NoMemory → length bytes ≤ input_limit → RefusesTrace bytes why → NamesFault bytes (fault_line why)
-names-fault bytes why some few refused = record { why = why; some = some; few = few; refused = refused; says = refl }
