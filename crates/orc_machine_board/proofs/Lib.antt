@@ -1,5 +1,7 @@
 pub mod Events
 pub mod Holds
+pub mod JobRun
+pub mod Known
 pub mod Learning
 pub mod Licences
 pub mod Making

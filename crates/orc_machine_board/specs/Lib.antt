@@ -1,4 +1,5 @@
 pub mod Holding
+pub mod JobRun
 pub mod Kinds
 pub mod Laws
 pub mod Licences

@@ -40,7 +40,12 @@ impl<D: Discipline> MachineBoardPass<D> {
         ensures { result ≡ backlog_in (shows self.now).record_is }
     {
         let own = &self.pass.own;
-        own.list.len() as u32 + u32::from(own.hand.is_some() || own.scan.is_some())
+        let listed = own.list.len() as u32;
+        if own.hand.is_some() || own.scan.is_some() {
+            listed + 1
+        } else {
+            listed
+        }
     }
 }
 

@@ -129,7 +129,7 @@ fn make_plain<D: Discipline>(
 }
 
 // whether the row is the fresh one
-fn is_fresh(p: &Pass, row: u32) -> bool
+fn is_fresh<D: Discipline>(p: &MachineBoardPass<D>, row: u32) -> bool
     ensures { result ≡ names (shows p.now).record_is.fresh row }
 {
     match p.record().fresh {
@@ -138,33 +138,43 @@ fn is_fresh(p: &Pass, row: u32) -> bool
     }
 }
 
-// makes a step where the record allows it; of the links, a root's are exchanged, with a note, and that of a row that
-// isn't fresh is taken out
+// makes a step that exchanges no link, where the record allows it; of a row that isn't fresh, the link is taken out
+fn make_one<D: Discipline>(
+    board: &MachineBoard<D>,
+    p: &mut MachineBoardPass<D>,
+    op: Op,
+) -> Option<u64>
+    requires belongs { Belongs board.now p.old }
+    ensures belongs { Belongs board.now p.new }
+    ensures agent { (shows p.new).agent ≡ (shows p.old).agent }
+    ensures absorbed { (shows p.new).absorbed ≡ (shows p.old).absorbed }
+{
+    if let Op::LinkStore { row, link } = op {
+        if link.mark || is_fresh(p, row) || !may_make(board, p, &op) {
+            return None;
+        }
+        return Some(board.link_store(p, row, link));
+    }
+    make_plain(board, p, op)
+}
+
+// the same, and exchanges a root's link with a note
 fn make_step(board: &Board, p: &mut Pass, op: Op) -> Option<u64>
     requires belongs { Belongs board.now p.old }
     ensures belongs { Belongs board.now p.new }
     ensures agent { (shows p.new).agent ≡ (shows p.old).agent }
     ensures absorbed { (shows p.new).absorbed ≡ (shows p.old).absorbed }
 {
-    match op {
-        Op::LinkCas {
-            place: Word::Root(root),
-            from,
-            to,
-        } => {
-            if !may_make(board, p, &op) {
-                return None;
-            }
-            Some(board.link_cas(p, Word::Root(root), from, to, Some(7)))
+    if let Op::LinkCas { place, from, to } = op {
+        let Word::Root(root) = place else {
+            return None;
+        };
+        if !may_make(board, p, &op) {
+            return None;
         }
-        Op::LinkStore { row, link } => {
-            if link.mark || is_fresh(p, row) || !may_make(board, p, &op) {
-                return None;
-            }
-            Some(board.link_store(p, row, link))
-        }
-        _ => make_plain(board, p, op),
+        return Some(board.link_cas(p, Word::Root(root), from, to, Some(7)));
     }
+    make_one(board, p, op)
 }
 
 // makes these steps; whether all were allowed

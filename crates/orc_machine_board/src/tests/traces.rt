@@ -1,12 +1,14 @@
 //! Runs that are played by step calls and on the pure machine: all answers agree, and so do the words at the end.
 
-ghost use Rattle.std.specs.Prelude.{◌≡◌, IfSome, []};
+ghost use Rattle.std.specs.Prelude.{◌≡◌, IfOk};
 ghost use Rattle.orc_machine_board.specs.Passes.{TookInAll};
 ghost use Rattle.orc_machine_board.specs.Views.{Belongs, board_bounds, shows};
 ghost use Rattle.orc_words.specs.Bounds.{bounds_of};
 
 use super::*;
 use orc_core::{State, apply};
+use orc_fault::NoMemory;
+use std::alloc::Global;
 
 // makes a step by the pass, and on the state; whether both answer alike
 fn play_one(board: &Board, p: &mut Pass, state: &mut State, op: Op) -> bool
@@ -56,4 +58,252 @@ fn play_looks(board: &Board, p: &mut Pass, state: &mut State, from: u32, end: u3
         alike &= play_one(board, p, state, Op::SlotLook { k });
     }
     alike
+}
+
+// whether the board's words, once no agent shares them, are those of the state
+fn words_agree(board: Board, whole: Pass, state: State) -> bool
+    requires belongs { Belongs board whole }
+    requires all { TookInAll (board_bounds board) (shows whole) }
+    requires bounds { state.bounds ≡ board_bounds board }
+{
+    let _shape = state.shape();
+    let last = board.close(whole);
+    let (words, _agents) = state.into_parts();
+    let mut alike = true;
+    for place in 0..words.len() {
+        alike &= last.word(place) == words[place];
+    }
+    alike
+}
+
+// a new state in which these agents have enrolled
+fn enrolled(alloc: Global, shape: &Shape) -> Result<State, NoMemory>
+    ensures bounds { IfOk result (λ state. state.bounds ≡ bounds_of shape.now) }
+{
+    let mut state = State::new(alloc, shape)?;
+    for agent in 0..shape.agents() {
+        if state.has_room(agent) {
+            let _ = apply(&mut state, agent, &Op::Enroll);
+        }
+    }
+    Ok(state)
+}
+
+// the agent takes row 0 out and links it from root 0
+fn link(board: &Board, p: &mut Pass, state: &mut State) -> bool
+    requires belongs { Belongs board.now p.old }
+    ensures belongs { Belongs board.now p.new }
+    ensures agent { (shows p.new).agent ≡ (shows p.old).agent }
+    ensures absorbed { (shows p.new).absorbed ≡ (shows p.old).absorbed }
+    ensures bounds { state.new.bounds ≡ state.old.bounds }
+{
+    play(
+        board,
+        p,
+        state,
+        &[
+            Op::GateLook { row: 0 },
+            CHECK,
+            Op::GateTake { row: 0 },
+            Op::Publish { slot: 1, row: 0 },
+            CHECK,
+            LINK,
+            Op::Inc { row: 0 },
+        ],
+    )
+}
+
+// the agent holds row 0 in this slot, as root 0 shows it
+fn hold(board: &Board, p: &mut Pass, state: &mut State, slot: u32) -> bool
+    requires belongs { Belongs board.now p.old }
+    ensures belongs { Belongs board.now p.new }
+    ensures agent { (shows p.new).agent ≡ (shows p.old).agent }
+    ensures absorbed { (shows p.new).absorbed ≡ (shows p.old).absorbed }
+    ensures bounds { state.new.bounds ≡ state.old.bounds }
+{
+    let place = Word::Root(0);
+    let held = Op::LinkLoad {
+        place,
+        slot: Some(slot),
+    };
+    play(board, p, state, &[LOAD, Op::Publish { slot, row: 0 }, held])
+}
+
+// the agent lets row 0 go
+fn let_go(board: &Board, p: &mut Pass, state: &mut State, slot: u32) -> bool
+    requires belongs { Belongs board.now p.old }
+    ensures belongs { Belongs board.now p.new }
+    ensures agent { (shows p.new).agent ≡ (shows p.old).agent }
+    ensures absorbed { (shows p.new).absorbed ≡ (shows p.old).absorbed }
+    ensures bounds { state.new.bounds ≡ state.old.bounds }
+{
+    play(
+        board,
+        p,
+        state,
+        &[Op::Clear { slot }, Op::TakeIn { slot }],
+    )
+}
+
+// the agent unlinks row 0 from root 0, retires it, lets it go, and begins to scan for it
+fn unlink(board: &Board, p: &mut Pass, state: &mut State) -> bool
+    requires belongs { Belongs board.now p.old }
+    ensures belongs { Belongs board.now p.new }
+    ensures agent { (shows p.new).agent ≡ (shows p.old).agent }
+    ensures absorbed { (shows p.new).absorbed ≡ (shows p.old).absorbed }
+    ensures bounds { state.new.bounds ≡ state.old.bounds }
+{
+    let sequence = 2;
+    let retired = play(
+        board,
+        p,
+        state,
+        &[
+            UNLINK,
+            Op::Arm { row: 0 },
+            Op::Dec { row: 0 },
+            Op::SetRetired { row: 0, sequence },
+        ],
+    );
+    let left = let_go(board, p, state, 0) && let_go(board, p, state, 1);
+    retired && left && play(board, p, state, &[START])
+}
+
+// the agent scans for row 0, finds it nowhere, and frees it
+fn free(board: &Board, p: &mut Pass, state: &mut State) -> bool
+    requires belongs { Belongs board.now p.old }
+    ensures belongs { Belongs board.now p.new }
+    ensures agent { (shows p.new).agent ≡ (shows p.old).agent }
+    ensures absorbed { (shows p.new).absorbed ≡ (shows p.old).absorbed }
+    ensures bounds { state.new.bounds ≡ state.old.bounds }
+{
+    let link = NULL;
+    let scanned = play(board, p, state, &[START]) && play_looks(board, p, state, 0, 16);
+    let freed = play(
+        board,
+        p,
+        state,
+        &[
+            END,
+            Op::LinkStore { row: 0, link },
+            Op::Unretire { row: 0 },
+            Op::Free { row: 0 },
+        ],
+    );
+    scanned && freed
+}
+
+// agent 0 finds row 0, which it unlinked, in a slot of agent 1; then agent 1 lets the row go, and agent 0 hands it
+// over, in this order or in the other, and agent 1 frees it
+fn hand_over(
+    board: &Board,
+    one: &mut Pass,
+    two: &mut Pass,
+    state: &mut State,
+    late: bool,
+) -> bool
+    requires belongs { Belongs board.now one.old × Belongs board.now two.old }
+    ensures belongs { Belongs board.now one.new × Belongs board.now two.new }
+    ensures agents { ((shows one.new).agent ≡ (shows one.old).agent) × ((shows two.new).agent ≡ (shows two.old).agent) }
+    ensures absorbed { ((shows one.new).absorbed ≡ (shows one.old).absorbed) × ((shows two.new).absorbed ≡ (shows two.old).absorbed) }
+    ensures bounds { state.new.bounds ≡ state.old.bounds }
+{
+    let hand = [Op::Hand { k: 10 }];
+    let found = link(board, one, state)
+        && hold(board, two, state, 2)
+        && unlink(board, one, state)
+        && play_looks(board, one, state, 0, 11);
+    let handed = if late {
+        let_go(board, two, state, 2)
+            && play(board, one, state, &hand)
+            && play(board, two, state, &[Op::TakeIn { slot: 2 }])
+    } else {
+        play(board, one, state, &hand) && let_go(board, two, state, 2)
+    };
+    found && handed && free(board, two, state)
+}
+
+// a run of two agents; whether all answers and all words agree
+fn two_agents(alloc: Global, late: bool) -> Option<bool> {
+    let Ok(shape) = Shape::new(2, 1, 2, 8) else {
+        return None;
+    };
+    let Ok(mut state) = enrolled(alloc, &shape) else {
+        return None;
+    };
+    let Ok((board, mut passes)) = Board::make(alloc, &shape, Seed::Empty) else {
+        return None;
+    };
+    let mut two = next_pass(&board, &mut passes)?;
+    let mut one = next_pass(&board, &mut passes)?;
+    if one.agent() != 0 || two.agent() != 1 {
+        return None;
+    }
+    let alike = hand_over(&board, &mut one, &mut two, &mut state, late);
+    board.absorb(&mut one, two);
+    Some(alike && words_agree(board, one, state))
+}
+
+#[test]
+fn a_row_is_handed_over_and_freed(rt: HostRuntime) -> Result<(), Fail> {
+    assert_eq!(rt; two_agents(rt.alloc(), false), Some(true));
+    assert_eq!(rt; two_agents(rt.alloc(), true), Some(true));
+    Ok(())
+}
+
+// while agent 1 scans for row 0, agent 2 links it again and agent 0 holds it: the scan begins again, with count 1
+fn link_again(
+    board: &Board,
+    zero: &mut Pass,
+    one: &mut Pass,
+    two: &mut Pass,
+    state: &mut State,
+) -> bool
+    requires belongs { Belongs board.now zero.old × Belongs board.now one.old × Belongs board.now two.old }
+    ensures belongs { Belongs board.now zero.new × Belongs board.now one.new × Belongs board.now two.new }
+    ensures agents { ((shows zero.new).agent ≡ (shows zero.old).agent) × ((shows one.new).agent ≡ (shows one.old).agent) × ((shows two.new).agent ≡ (shows two.old).agent) }
+    ensures absorbed { ((shows zero.new).absorbed ≡ (shows zero.old).absorbed) × ((shows one.new).absorbed ≡ (shows one.old).absorbed) × ((shows two.new).absorbed ≡ (shows two.old).absorbed) }
+    ensures bounds { state.new.bounds ≡ state.old.bounds }
+{
+    let unlinked = link(board, one, state)
+        && hold(board, two, state, 1)
+        && unlink(board, one, state)
+        && play_looks(board, one, state, 0, 8);
+    let linked = play(board, two, state, &[CHECK, LINK])
+        && hold(board, zero, state, 1)
+        && play(board, two, state, &[Op::Inc { row: 0 }])
+        && let_go(board, two, state, 1);
+    let again = play_looks(board, one, state, 8, 24) && play(board, one, state, &[END]);
+    let arm = Op::Arm { row: 0 };
+    let kept = play(board, one, state, &[arm, Op::Unretire { row: 0 }]);
+    unlinked && linked && again && kept && let_go(board, one, state, 0)
+}
+
+// the run of three agents; whether all answers and all words agree
+fn three_agents(alloc: Global) -> Option<bool> {
+    let Ok(shape) = Shape::new(2, 1, 3, 8) else {
+        return None;
+    };
+    let Ok(mut state) = enrolled(alloc, &shape) else {
+        return None;
+    };
+    let Ok((board, mut passes)) = Board::make(alloc, &shape, Seed::Empty) else {
+        return None;
+    };
+    let mut two = next_pass(&board, &mut passes)?;
+    let mut one = next_pass(&board, &mut passes)?;
+    let mut zero = next_pass(&board, &mut passes)?;
+    if zero.agent() != 0 || one.agent() != 1 || two.agent() != 2 {
+        return None;
+    }
+    let alike = link_again(&board, &mut zero, &mut one, &mut two, &mut state);
+    board.absorb(&mut zero, one);
+    board.absorb(&mut zero, two);
+    Some(alike && words_agree(board, zero, state))
+}
+
+#[test]
+fn a_row_is_linked_again_while_it_is_scanned(rt: HostRuntime) -> Result<(), Fail> {
+    assert_eq!(rt; three_agents(rt.alloc()), Some(true));
+    Ok(())
 }
