@@ -1,3 +1,4 @@
+pub mod AnyMoves
 pub mod Events
 pub mod Holds
 pub mod JobRun
