@@ -6,8 +6,8 @@ ghost use Rattle.std.specs.Prelude.{◌<◌};
 ghost use Rattle.orc_shared_words.specs.Ticks.{AnyFit, plain_fits};
 ghost use Rattle.orc_table.specs.Views.{Belongs, board_bounds};
 
-use orc_heap::Discipline;
-use orc_table::{PlainBoard, PlainBoardPass, Seed};
+use orc_heap::{Discipline, Seed};
+use orc_table::{PlainBoard, PlainBoardPass};
 use orc_words::{Shape, Word};
 use std::io;
 use std::sync::atomic::{AtomicU64, Ordering};

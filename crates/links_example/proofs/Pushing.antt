@@ -13,13 +13,13 @@ use Rattle.orc_heap.specs.Calls.{Gives, Releases, event_of, unless_node}
 use Rattle.orc_heap.specs.Heap.{HeapNumbers, Node}
 use Rattle.orc_heap.specs.Journals.{names_node, run_heap}
 use Rattle.orc_heap.specs.OwnEvents.{Only, Puts}
-use Rattle.orc_heap.specs.Seats.{HoldsFresh, HoldsTarget, Seat, target_in}
+use Rattle.orc_heap.specs.Seats.{HoldsFresh, HoldsTarget, Seat, target_in, heap_of}
 use Rattle.orc_heap.specs.Slots.{Hold, Holds, IsFree, id_in}
 use Rattle.orc_heap.specs.declared.events.Act.TheVariants.{Aim, Move}
 use Rattle.orc_heap.specs.declared.events.Link.{Link}
 use Rattle.orc_heap.specs.declared.events.Place.TheVariants.{Root}
 use Rattle.links_example.specs.OwnRoots.{OwnRootsHolds, OwnRootsMay, own_roots_keeps, own_roots_moves_linked}
-use Rattle.links_example.specs.Stacks.{HasTop, HoldsNode, NodesStay, Pushes, StackStays, heap_of, plain_link, stack_node}
+use Rattle.links_example.specs.Stacks.{HasTop, HoldsNode, NodesStay, Pushes, StackStays, plain_link, stack_node}
 use Rattle.links_example.proofs.Stays.{nodes_stay, top_stays}
 use Rattle.links_example.proofs.Swings.{moved_node, moved_top, unlinked_node}
 

@@ -8,11 +8,11 @@ use Rattle.orc_heap.proofs.Slots.{get-set_other, given-back, holds-other, holds-
 use Rattle.orc_heap.specs.Allowed.{AllAllowed}
 use Rattle.orc_heap.specs.Calls.{ReadsValue, Releases}
 use Rattle.orc_heap.specs.Heap.{HeapNumbers}
-use Rattle.orc_heap.specs.Seats.{Seat}
+use Rattle.orc_heap.specs.Seats.{Seat, heap_of}
 use Rattle.orc_heap.specs.Slots.{Hold, Holds, IsFree, id_in}
 use Rattle.orc_heap.specs.declared.events.Place.{Place}
 use Rattle.links_example.specs.OwnRoots.{OwnRootsMay}
-use Rattle.links_example.specs.Stacks.{Finds, HasNode, StackStays, heap_of, stack_node}
+use Rattle.links_example.specs.Stacks.{Finds, HasNode, StackStays, stack_node}
 use Rattle.links_example.proofs.Stays.{nodes_stay, top_stays}
 
 pub StackStays-trans : (n : HeapNumbers) (s t u : Seat ℕ) → StackStays n s t → StackStays n t u → StackStays n s u

@@ -14,13 +14,13 @@ use Rattle.orc_heap.specs.Calls.{Misses, event_of}
 use Rattle.orc_heap.specs.Heap.{HeapNumbers, Node, shown}
 use Rattle.orc_heap.specs.Journals.{run_heap}
 use Rattle.orc_heap.specs.OwnEvents.{Puts}
-use Rattle.orc_heap.specs.Seats.{Seat}
+use Rattle.orc_heap.specs.Seats.{Seat, heap_of}
 use Rattle.orc_heap.specs.declared.events.Act.TheVariants.{Move}
 use Rattle.orc_heap.specs.declared.events.Event.{Event}
 use Rattle.orc_heap.specs.declared.events.Link.{Link}
 use Rattle.orc_heap.specs.declared.events.Place.TheVariants.{Root}
 use Rattle.links_example.specs.OwnRoots.{OwnRootsHolds, OwnRootsMay, own_roots_keeps, own_roots_moves_linked}
-use Rattle.links_example.specs.Stacks.{heap_of, plain_link, stack_node}
+use Rattle.links_example.specs.Stacks.{plain_link, stack_node}
 use Rattle.links_example.proofs.Stays.{node_later, top_later}
 
 -- what the agent's root shows now, it shows at the first own event of a call

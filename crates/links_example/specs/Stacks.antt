@@ -3,7 +3,7 @@ use Rattle.std.specs.Borrow.{Bor}
 use Rattle.std.specs.Prelude.{None, Option, Some, false, slice_get, slice_set, true, ℕ, ◌≡◌}
 use Rattle.orc_heap.specs.Heap.{Heap, HeapNumbers, Node, shown}
 use Rattle.orc_heap.specs.Journals.{run_heap}
-use Rattle.orc_heap.specs.Seats.{Seat}
+use Rattle.orc_heap.specs.Seats.{Seat, heap_of}
 use Rattle.orc_heap.specs.Slots.{Hold, id_in}
 use Rattle.orc_heap.specs.declared.events.Link.{Link}
 use Rattle.orc_heap.specs.declared.events.Place.{Place}
@@ -12,10 +12,6 @@ use Rattle.orc_heap.specs.declared.events.Place.TheVariants.{Next, Root}
 -- an unmarked link
 abbrev pub plain_link : Option ℕ → Link
 plain_link to = record { to = to; mark = false }
-
--- the heap that the pass has seen
-abbrev pub heap_of : HeapNumbers → Seat ℕ → Heap
-heap_of n s = run_heap n s.seen
 
 -- the agent's root leads here
 abbrev pub HasTop : HeapNumbers → Seat ℕ → Option ℕ → Type 0

@@ -3,7 +3,7 @@
 #![tactic(auto)]
 
 use orc_board::OpenGate;
-use orc_program::{CommandWords, Ended, StdSink, StdSource, orc_main};
+use orc_program::{CommandWords, Ended, StdSink, StdSource, orc_main, refuse_words};
 use std::env;
 use std::io::ErrorKind;
 use std::process::ExitCode;
@@ -11,23 +11,21 @@ use std::process::ExitCode;
 /// The status where memory for the words is refused.
 const NO_MEMORY: u8 = 7;
 
-/// The status where a word is not text.
-const WORDS_REFUSED: u8 = 2;
-
 fn main(rt: HostRuntime) -> ExitCode {
-    let mut words = CommandWords::new(rt.alloc());
+    let mut sink = StdSink::new(rt.stdout());
     let args = match env::args(&rt) {
         Ok(args) => args,
         Err(e) if e.kind() == ErrorKind::OutOfMemory => return ExitCode::from(NO_MEMORY),
-        Err(_) => return ExitCode::from(WORDS_REFUSED),
+        // A word that isn't UTF-8 asks for nothing that there is.
+        Err(_) => return ExitCode::from(refuse_words(&mut sink)),
     };
+    let mut words = CommandWords::new(rt.alloc());
     for word in args.skip(1) {
         if words.push(word.as_str()).is_err() {
             return ExitCode::from(NO_MEMORY);
         }
     }
     let mut source = StdSource::new(rt.stdin());
-    let mut sink = StdSink::new(rt.stdout());
     let mut ended = Ended::new();
     let status = orc_main(
         &rt,

@@ -1,7 +1,8 @@
 -- What the calls of a container add are stretches.
 use Rattle.std.proofs.Common.{◌≡◌, ◌≢◌, append_assoc, inl, inr, ℕ, List, [], ◌∷◌, ◌++◌, Bool, true, false, cond, ◌==◌, Option, Some, None, refl, ap, sym, ◌∙◌, subst, length, filter, ◌⊎◌}
 use mathlib.Core.List.{IsPrefix}
-use Rattle.orc_history.specs.Journals.{Every, Within, Adds, own_of}
+use Rattle.orc_history.specs.Journals.{Within, Adds, own_of}
+use Rattle.std.specs.List.{AllByRecursion}
 use Rattle.orc_history.specs.declared.queue.QueueEntry.{QueueEntry}
 use Rattle.orc_history.specs.declared.queue.QueueEntry.TheVariants.{Put, Took, Empty}
 use Rattle.orc_history.specs.declared.queue.QueueRefused.{QueueRefused}
@@ -79,11 +80,11 @@ refused_call {W = W} kind x agent now same why told is i j k before whole h = re
 }
 
 none_own : (agent : ℕ) (crowd : ℕ → Type 0) (es : List QueueEntry) → own_of agent_of_entry agent es ≡ []
-    → Every (λ e. (agent_of_entry e ≡ agent) ⊎ crowd (agent_of_entry e)) es → Every (λ e. (agent_of_entry e ≢ agent) × crowd (agent_of_entry e)) es
+    → AllByRecursion (λ e. (agent_of_entry e ≡ agent) ⊎ crowd (agent_of_entry e)) es → AllByRecursion (λ e. (agent_of_entry e ≢ agent) × crowd (agent_of_entry e)) es
 none_own agent crowd [] own all = tt
 none_own agent crowd (e ∷ es) own all =
     let cases : (b : Bool) → (agent_of_entry e == agent) ≡ b → cond b (e ∷ own_of agent_of_entry agent es) (own_of agent_of_entry agent es) ≡ []
-    → Every (λ x. (agent_of_entry x ≢ agent) × crowd (agent_of_entry x)) (e ∷ es) =
+    → AllByRecursion (λ x. (agent_of_entry x ≢ agent) × crowd (agent_of_entry x)) (e ∷ es) =
     elim [
       | true ↦ λ is h. cc
       | false ↦ λ is h.
@@ -94,12 +95,12 @@ none_own agent crowd (e ∷ es) own all =
 
 -- where the agent's first own entry stands
 split_own : (agent : ℕ) (crowd : ℕ → Type 0) (y : QueueEntry) (es : List QueueEntry) → own_of agent_of_entry agent es ≡ y ∷ []
-    → Every (λ e. (agent_of_entry e ≡ agent) ⊎ crowd (agent_of_entry e)) es
-    → (front : List QueueEntry) × (back : List QueueEntry) × (es ≡ front ++ y ∷ back) × Every (λ e. (agent_of_entry e ≢ agent) × crowd (agent_of_entry e)) back
+    → AllByRecursion (λ e. (agent_of_entry e ≡ agent) ⊎ crowd (agent_of_entry e)) es
+    → (front : List QueueEntry) × (back : List QueueEntry) × (es ≡ front ++ y ∷ back) × AllByRecursion (λ e. (agent_of_entry e ≢ agent) × crowd (agent_of_entry e)) back
 split_own agent crowd y [] own all = cc
 split_own agent crowd y (e ∷ es) own all =
     let cases : (b : Bool) → (agent_of_entry e == agent) ≡ b → cond b (e ∷ own_of agent_of_entry agent es) (own_of agent_of_entry agent es) ≡ y ∷ []
-    → (front : List QueueEntry) × (back : List QueueEntry) × (e ∷ es ≡ front ++ y ∷ back) × Every (λ x. (agent_of_entry x ≢ agent) × crowd (agent_of_entry x)) back =
+    → (front : List QueueEntry) × (back : List QueueEntry) × (e ∷ es ≡ front ++ y ∷ back) × AllByRecursion (λ x. (agent_of_entry x ≢ agent) × crowd (agent_of_entry x)) back =
     elim [
       | true ↦ λ is h. ([], es, (let same : e ≡ y = cc in ap (λ z. z ∷ es) same), none_own agent crowd es (cc) all.1)
       | false ↦ λ is h. let r = split_own agent crowd y es h all.1 in (e ∷ r.0, r.1, ap (λ z. e ∷ z) r.2, r.3)

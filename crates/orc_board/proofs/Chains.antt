@@ -7,7 +7,7 @@ use Rattle.orc_history.specs.declared.queue.QueueRefused.{QueueRefused}
 use Rattle.orc_history.specs.declared.set.SetEntry.{SetEntry}
 use Rattle.orc_history.specs.declared.set.ListRefused.{ListRefused}
 use Rattle.orc_board.specs.Stretches.{View, Kind, of_queue, of_set, MayStand, Stretch, Share, just, nothing, Licensed, Did, Row, empty_row, Stands, Chain, Works}
-use Rattle.orc_board.proofs.ListFacts.{Every-append}
+use Rattle.orc_board.proofs.ListFacts.{AllByRecursion-append}
 
 prefix_trans : {X : Type 0} (a b c : List X) → IsPrefix a b → IsPrefix b c → IsPrefix a c
 prefix_trans a b c (t, e) (u, f) = (t ++ u, sym (append_assoc a t u) ∙ (ap (λ z. z ++ u) e ∙ f))
@@ -22,7 +22,7 @@ Stretch-trans kind x agent xs ys i j k a b = record {
   part = a.part ++ b.part;
   is = b.is ∙ (ap (λ z. z ++ b.part) a.is ∙ append_assoc (x.history i) a.part b.part);
   own_is = filter-append (kind.is_own agent) a.part b.part ∙ (ap (λ z. z ++ filter (kind.is_own agent) b.part) a.own_is ∙ ap (λ z. xs ++ z) b.own_is);
-  others = Every-append (MayStand kind x agent) a.part b.part a.others b.others;
+  others = AllByRecursion-append (MayStand kind x agent) a.part b.part a.others b.others;
 }
 
 pub Stretch-refl : {A E W : Type 0} (kind : Kind E) (x : View A E W) (agent : ℕ) (j : List A) → Stretch kind x agent [] j j

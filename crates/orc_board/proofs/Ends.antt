@@ -1,7 +1,7 @@
 -- One poster, then taker 0, over containers with no crowd.
 use Rattle.std.proofs.Common.{◌≡◌, ◌≢◌, ℕ, ◌+◌, ◌≤◌, List, [], ◌∷◌, ◌++◌, length, map, filter, ◌⊎◌, inl, inr, refl, ap, sym, ◌∙◌, subst, arith, append-nil, length-append}
 use Rattle.std.proofs.lemmas.List.{length-map}
-use Rattle.orc_history.specs.Journals.{Every}
+use Rattle.std.specs.List.{AllByRecursion}
 use Rattle.orc_history.specs.declared.queue.QueueEntry.{QueueEntry}
 use Rattle.orc_history.specs.declared.queue.QueueEntry.TheVariants.{Put, Took, Empty}
 use Rattle.orc_history.specs.declared.queue.QueueRefused.{QueueRefused}
@@ -17,7 +17,7 @@ use Rattle.orc_board.specs.Table.{EndsEmpty}
 use Rattle.orc_board.specs.Follows.{Pointwise, PosterRow, TookRow, Posting, TakingRest, Claiming, AreInOrder, WorkersFollow, IsWorker, own_records, taker_agent, posts_of, takes_of}
 use Rattle.orc_board.specs.Reportable.{posted_of, claim_of, AreReportable}
 use Rattle.orc_board.specs.Runs.{Ran}
-use Rattle.orc_board.proofs.ListFacts.{Every-append, Every-map, Every-left, Every-right, Every-filter, filter-all}
+use Rattle.orc_board.proofs.ListFacts.{AllByRecursion-append, AllByRecursion-map, AllByRecursion-left, AllByRecursion-right, AllByRecursion-filter, filter-all}
 use Rattle.orc_board.proofs.Chains.{Stretch-trans, Works-more}
 use Rattle.orc_board.proofs.Wholes.{queue_of_rows, set_of_rows, Works-queue, Works-set, Works-before, Works-beside, Below, only_own, other_empty}
 use Rattle.orc_board.proofs.JobsTaken.{PutFits, TookFits, legal_tooks, rows_puts, took_rows_fit, own_fits, skips_fit, no_skips, strict_rows}
@@ -27,12 +27,12 @@ use Rattle.orc_board.proofs.PairLists.{puts_of, tooks_of, puts_of-append, tooks_
 use Rattle.orc_board.proofs.Orders.{posted_few}
 use Rattle.orc_board.proofs.Reported.{reportable_all, no_positions_all}
 
-posters_of : (lines : List Line) (poster : ℕ) (rs : List PostReply) (rows : List Row) → Pointwise (PosterRow lines poster) rs rows → Every (λ (r : PostReply). r.poster ≡ poster) rs
+posters_of : (lines : List Line) (poster : ℕ) (rs : List PostReply) (rows : List Row) → Pointwise (PosterRow lines poster) rs rows → AllByRecursion (λ (r : PostReply). r.poster ≡ poster) rs
 posters_of lines poster [] rows z = tt
 posters_of lines poster (r ∷ rs) [] z = absurd z
 posters_of lines poster (r ∷ rs) (row ∷ rows) z = (z.0.poster_is, posters_of lines poster rs rows z.1)
 
-takers_of : (lines : List Line) (taker agent : ℕ) (rs : List TakeReply) (rows : List Row) → Pointwise (TookRow lines taker agent) rs rows → Every (λ (r : TakeReply). r.taker ≡ taker) rs
+takers_of : (lines : List Line) (taker agent : ℕ) (rs : List TakeReply) (rows : List Row) → Pointwise (TookRow lines taker agent) rs rows → AllByRecursion (λ (r : TakeReply). r.taker ≡ taker) rs
 takers_of lines taker agent [] rows z = tt
 takers_of lines taker agent (r ∷ rs) [] z = absurd z
 takers_of lines taker agent (r ∷ rs) (row ∷ rows) z = (z.0.taker_is, takers_of lines taker agent rs rows z.1)
@@ -42,8 +42,8 @@ record Both {A B : Type 0} (q : View A QueueEntry QueueRefused) (s : View B SetE
   pub first : List QueueEntry
   pub second : List QueueEntry
   pub is : q.history k ≡ first ++ second
-  pub first_one : Every (λ e. agent_of_entry e ≡ 1) first
-  pub second_zero : Every (λ e. agent_of_entry e ≡ 0) second
+  pub first_one : AllByRecursion (λ e. agent_of_entry e ≡ 1) first
+  pub second_zero : AllByRecursion (λ e. agent_of_entry e ≡ 0) second
   pub post_rows : List Row
   pub post_table : Pointwise (PosterRow lines 1) posts post_rows
   pub first_own : filter (is_own_move 1) first ≡ queue_of_rows post_rows
@@ -60,18 +60,18 @@ both_of q s lines posts takes j k m n alone none p t legal =
     let two : Stretch of_queue q 0 (queue_of_rows t.taking.rows ++ t.last.row.queue.own) j k =
     Stretch-trans of_queue q 0 (queue_of_rows t.taking.rows) t.last.row.queue.own j t.queue k (Works-queue q s 0 t.taking.works) t.last.stands.queue.stretch in
     let is : q.history k ≡ one.part ++ two.part = two.is ∙ ap (λ u. u ++ two.part) (one.is ∙ ap (λ u. u ++ one.part) none) in
-    let ones : Every (λ e. agent_of_entry e ≡ 1) one.part = only_own agent_of_entry q.crowd alone 1 one.part one.others in
-    let zeros : Every (λ e. agent_of_entry e ≡ 0) two.part = only_own agent_of_entry q.crowd alone 0 two.part two.others in
-    let last : Every (PutFits lines) t.last.row.queue.own = subst (λ (x : Row). Every (PutFits lines) x.queue.own) (sym t.last.is.is) (skips_fit lines 0 t.last.is.skipped t.last.is.skips) in
-    let puts1 : Every (PutFits lines) one.part = own_fits (PutFits lines) (λ a. tt) 1 one.part ones (subst (Every (PutFits lines)) (sym one.own_is) (rows_puts lines 1 posts p.rows p.table)) in
-    let puts2 : Every (PutFits lines) two.part = own_fits (PutFits lines) (λ a. tt) 0 two.part zeros
-    (subst (Every (PutFits lines)) (sym two.own_is) (Every-append (PutFits lines) (queue_of_rows t.taking.rows) t.last.row.queue.own (took_rows_fit lines 0 0 takes t.taking.rows t.taking.table) last)) in
-    let fits : Every (TookFits lines) (one.part ++ two.part) =
-    legal_tooks lines 0 [] (one.part ++ two.part) (subst (IsLegalFrom 0 []) is legal) tt (Every-append (PutFits lines) one.part two.part puts1 puts2) in
-    let own : Every (TookFits lines) (queue_of_rows t.taking.rows ++ t.last.row.queue.own) =
-    subst (Every (TookFits lines)) two.own_is (Every-filter (TookFits lines) (is_own_move 0) two.part (Every-right (TookFits lines) one.part two.part fits)) in
+    let ones : AllByRecursion (λ e. agent_of_entry e ≡ 1) one.part = only_own agent_of_entry q.crowd alone 1 one.part one.others in
+    let zeros : AllByRecursion (λ e. agent_of_entry e ≡ 0) two.part = only_own agent_of_entry q.crowd alone 0 two.part two.others in
+    let last : AllByRecursion (PutFits lines) t.last.row.queue.own = subst (λ (x : Row). AllByRecursion (PutFits lines) x.queue.own) (sym t.last.is.is) (skips_fit lines 0 t.last.is.skipped t.last.is.skips) in
+    let puts1 : AllByRecursion (PutFits lines) one.part = own_fits (PutFits lines) (λ a. tt) 1 one.part ones (subst (AllByRecursion (PutFits lines)) (sym one.own_is) (rows_puts lines 1 posts p.rows p.table)) in
+    let puts2 : AllByRecursion (PutFits lines) two.part = own_fits (PutFits lines) (λ a. tt) 0 two.part zeros
+    (subst (AllByRecursion (PutFits lines)) (sym two.own_is) (AllByRecursion-append (PutFits lines) (queue_of_rows t.taking.rows) t.last.row.queue.own (took_rows_fit lines 0 0 takes t.taking.rows t.taking.table) last)) in
+    let fits : AllByRecursion (TookFits lines) (one.part ++ two.part) =
+    legal_tooks lines 0 [] (one.part ++ two.part) (subst (IsLegalFrom 0 []) is legal) tt (AllByRecursion-append (PutFits lines) one.part two.part puts1 puts2) in
+    let own : AllByRecursion (TookFits lines) (queue_of_rows t.taking.rows ++ t.last.row.queue.own) =
+    subst (AllByRecursion (TookFits lines)) two.own_is (AllByRecursion-filter (TookFits lines) (is_own_move 0) two.part (AllByRecursion-right (TookFits lines) one.part two.part fits)) in
     let skipped : t.last.is.skipped ≡ [] = no_skips lines 0 t.last.is.skipped t.last.is.skips
-    (subst (λ (x : Row). Every (TookFits lines) x.queue.own) t.last.is.is (Every-right (TookFits lines) (queue_of_rows t.taking.rows) t.last.row.queue.own own)) in
+    (subst (λ (x : Row). AllByRecursion (TookFits lines) x.queue.own) t.last.is.is (AllByRecursion-right (TookFits lines) (queue_of_rows t.taking.rows) t.last.row.queue.own own)) in
     let silent : t.last.row ≡ empty_row = t.last.is.is ∙ ap (λ (u : List QueueEntry). record { queue = just u; set = nothing }) skipped in
     record {
       first = one.part;
@@ -83,7 +83,7 @@ both_of q s lines posts takes j k m n alone none p t legal =
       post_table = p.table;
       first_own = one.own_is;
       take_rows = t.taking.rows;
-      take_table = strict_rows lines 0 0 takes t.taking.rows t.taking.table (Every-left (TookFits lines) (queue_of_rows t.taking.rows) t.last.row.queue.own own);
+      take_table = strict_rows lines 0 0 takes t.taking.rows t.taking.table (AllByRecursion-left (TookFits lines) (queue_of_rows t.taking.rows) t.last.row.queue.own own);
       second_own = two.own_is ∙ (ap (λ (x : Row). queue_of_rows t.taking.rows ++ x.queue.own) silent ∙ append-nil (queue_of_rows t.taking.rows));
       works = Works-more q s 0 t.taking.works (subst (λ (x : Row). Stands q s 0 x t.queue t.set k n) silent t.last.stands);
     }
@@ -109,8 +109,8 @@ follows_of {A} {B} q s lines posts takes j k m n alone alone2 none p places b =
     Works-before (beside q C) (beside s C) 0
     (other_empty q s C 1 0 (queue_of_rows p.rows) (set_of_rows p.rows) [] j [] m alone alone2 (omega arith) (omega arith) one one_set)
     (Works-beside q s C few few2 0 b.works) in
-    let ones : Every (λ (r : PostReply). r.poster ≡ 1) posts = posters_of lines 1 posts p.rows p.table in
-    let zeros : Every (λ (r : TakeReply). r.taker ≡ 0) takes = takers_of lines 0 0 takes b.take_rows b.take_table in
+    let ones : AllByRecursion (λ (r : PostReply). r.poster ≡ 1) posts = posters_of lines 1 posts p.rows p.table in
+    let zeros : AllByRecursion (λ (r : TakeReply). r.taker ≡ 0) takes = takers_of lines 0 0 takes b.take_rows b.take_table in
     let posts_are : posts_of 1 posts ≡ posts = filter-all (λ (r : PostReply). r.poster) 1 posts ones in
     let takes_are : takes_of 0 takes ≡ takes = filter-all (λ (r : TakeReply). r.taker) 0 takes zeros in
     let poster_all : Posting (beside q C) (beside s C) lines 1 (posts_of 1 posts) [] [] k n = rw posts_are (record { rows = p.rows; table = p.table; works = poster }) in
@@ -125,7 +125,7 @@ follows_of {A} {B} q s lines posts takes j k m n alone alone2 none p places b =
           subst (λ (x : ℕ). Claiming (beside q C) (beside s C) lines x (taker_agent 1 x) (takes_of x takes) [] [] k n) e taker_all;
       order = record {
         by_poster = one_key (λ (r : PostReply). r.poster) 1 posts ones;
-        none_of_zero = Every-map (λ (r : PostReply). r.poster ≡ 1) (λ (r : PostReply). 1 ≤ r.poster) (λ r h. omega arith) posts ones;
+        none_of_zero = AllByRecursion-map (λ (r : PostReply). r.poster ≡ 1) (λ (r : PostReply). 1 ≤ r.poster) (λ r h. omega arith) posts ones;
         in_file_order = λ i low high.
             let e : 1 ≡ i = omega arith in
             subst (λ (x : ℕ). map (λ (r : PostReply). r.line) (posts_of x posts) ≡ own_records 1 x (length lines)) e order;
@@ -135,14 +135,14 @@ follows_of {A} {B} q s lines posts takes j k m n alone alone2 none p places b =
         front = b.first;
         back = b.second;
         is = b.is;
-        others = Every-map (λ e. agent_of_entry e ≡ 1) (λ e. agent_of_entry e ≢ 0) (λ e h. not_zero (agent_of_entry e) h) b.first b.first_one;
+        others = AllByRecursion-map (λ e. agent_of_entry e ≡ 1) (λ e. agent_of_entry e ≢ 0) (λ e h. not_zero (agent_of_entry e) h) b.first b.first_one;
         zeros = b.second_zero;
       };
       set_zero_last = record {
         front = one_set.part;
         back = two_set.part;
         is = two_set.is ∙ ap (λ u. u ++ two_set.part) (one_set.is ∙ ap (λ u. u ++ one_set.part) none);
-        others = Every-map (λ e. agent_of_set_entry e ≡ 1) (λ e. agent_of_set_entry e ≢ 0) (λ e h. not_zero (agent_of_set_entry e) h) one_set.part (only_own agent_of_set_entry s.crowd alone2 1 one_set.part one_set.others);
+        others = AllByRecursion-map (λ e. agent_of_set_entry e ≡ 1) (λ e. agent_of_set_entry e ≢ 0) (λ e h. not_zero (agent_of_set_entry e) h) one_set.part (only_own agent_of_set_entry s.crowd alone2 1 one_set.part one_set.others);
         zeros = only_own agent_of_set_entry s.crowd alone2 0 two_set.part two_set.others;
       };
       found_empty = λ i low high less. absurd (omega arith);
@@ -155,7 +155,7 @@ empty_at n w agent (Put by job at ∷ es) legal = empty_at (n + 1) (w ++ (job, a
 empty_at n w agent (Took by job at ∷ es) (rest, is, legal) = rw is (empty_at n rest agent es legal)
 empty_at n w agent (Empty by ∷ es) legal = empty_at n w agent es legal.1
 
-no_back : (P Q : QueueEntry → Type 0) → ((e : QueueEntry) → P e → ⊥) → (es : List QueueEntry) → Every P es → es ≡ []
+no_back : (P Q : QueueEntry → Type 0) → ((e : QueueEntry) → P e → ⊥) → (es : List QueueEntry) → AllByRecursion P es → es ≡ []
 no_back P Q f [] h = refl
 no_back P Q f (e ∷ es) h = absurd (f e h.0)
 

@@ -3,9 +3,9 @@ use Rattle.std.proofs.Common.{◌≡◌, ◌≢◌, ℕ, zero, suc, ◌≤◌, �
 use Rattle.std.proofs.lemmas.Bool.Decides.{nat_tests}
 use Rattle.std.specs.List.Sorted.{IsPermutation}
 use Rattle.std.proofs.lemmas.List.Sorted.{IsPermutation-refl, IsPermutation-sym, IsPermutation-trans, IsPermutation-cons, IsPermutation-middle, IsPermutation-append}
-use Rattle.orc_history.specs.Journals.{Every}
+use Rattle.std.specs.List.{AllByRecursion}
 use Rattle.orc_board.specs.Follows.{by_key}
-use Rattle.orc_board.proofs.ListFacts.{Every-append, Every-map, eq-true, filter-none, filter-all}
+use Rattle.orc_board.proofs.ListFacts.{AllByRecursion-append, AllByRecursion-map, eq-true, filter-none, filter-all}
 
 no_way : {Z : Type 0} → true ≡ false → Z
 no_way e = let n : ⊥ = cc in absurd n
@@ -46,7 +46,7 @@ none_below key (x ∷ xs) = let e : ltb (key x) 0 ≡ false = grind (arith, nat_
 ltb-yes : (a b : ℕ) → a < b → ltb a b ≡ true
 ltb-yes a b h = grind (arith, nat_tests)
 
-all_below : {X : Type 0} (key : X → ℕ) (n : ℕ) (xs : List X) → Every (λ x. key x < n) xs → filter (λ x. ltb (key x) n) xs ≡ xs
+all_below : {X : Type 0} (key : X → ℕ) (n : ℕ) (xs : List X) → AllByRecursion (λ x. key x < n) xs → filter (λ x. ltb (key x) n) xs ≡ xs
 all_below key n [] h = refl
 all_below key n (x ∷ xs) h = rw (ltb-yes (key x) n h.0) (ap (λ z. x ∷ z) (all_below key n xs h.1))
 
@@ -65,34 +65,34 @@ same_keys key (suc n) xs ys h =
     ap (λ z. z ++ filter (λ x. key x == n) xs) (same_keys key n xs ys (λ a l. h a (omega arith))) ∙ ap (λ z. by_key key n ys ++ z) (h n (omega arith))
 
 -- lists that agree at each key below n, and have no other keys, hold the same items as often
-pub same_by_keys : {X : Type 0} (key : X → ℕ) (n : ℕ) (xs ys : List X) → Every (λ x. key x < n) xs → Every (λ x. key x < n) ys
+pub same_by_keys : {X : Type 0} (key : X → ℕ) (n : ℕ) (xs ys : List X) → AllByRecursion (λ x. key x < n) xs → AllByRecursion (λ x. key x < n) ys
     → ((a : ℕ) → a < n → filter (λ x. key x == a) xs ≡ filter (λ x. key x == a) ys) → IsPermutation xs ys
 same_by_keys key n xs ys a b h =
     let p : IsPermutation xs (by_key key n xs) = subst (λ z. IsPermutation z (by_key key n xs)) (all_below key n xs a) (sorted_out key n xs) in
     let q : IsPermutation ys (by_key key n ys) = subst (λ z. IsPermutation z (by_key key n ys)) (all_below key n ys b) (sorted_out key n ys) in
     IsPermutation-trans xs (by_key key n xs) ys p (subst (λ z. IsPermutation z ys) (sym (same_keys key n xs ys h)) (IsPermutation-sym ys (by_key key n ys) q))
 
-passed_test : {X : Type 0} (key : X → ℕ) (n : ℕ) (xs : List X) → Every (λ x. key x ≡ n) (filter (λ x. key x == n) xs)
+passed_test : {X : Type 0} (key : X → ℕ) (n : ℕ) (xs : List X) → AllByRecursion (λ x. key x ≡ n) (filter (λ x. key x == n) xs)
 passed_test key n [] = tt
 passed_test {X} key n (x ∷ xs) =
-    let cases : (b : Bool) → (key x == n) ≡ b → Every (λ x. key x ≡ n) (cond b (x ∷ filter (λ x. key x == n) xs) (filter (λ x. key x == n) xs)) =
+    let cases : (b : Bool) → (key x == n) ≡ b → AllByRecursion (λ x. key x ≡ n) (cond b (x ∷ filter (λ x. key x == n) xs) (filter (λ x. key x == n) xs)) =
     elim [ true ↦ λ e. (eq-true (key x) n e, passed_test key n xs) | false ↦ λ e. passed_test key n xs ] in
     cases (key x == n) refl
 
 -- a list in the order of its keys has no others
-pub by_key_below : {X : Type 0} (key : X → ℕ) (n : ℕ) (xs : List X) → Every (λ x. key x < n) (by_key key n xs)
+pub by_key_below : {X : Type 0} (key : X → ℕ) (n : ℕ) (xs : List X) → AllByRecursion (λ x. key x < n) (by_key key n xs)
 by_key_below key zero xs = tt
 by_key_below key (suc n) xs =
-    Every-append (λ x. key x < suc n) (by_key key n xs) (filter (λ x. key x == n) xs)
-    (Every-map (λ x. key x < n) (λ x. key x < suc n) (λ x h. omega arith) (by_key key n xs) (by_key_below key n xs))
-    (Every-map (λ x. key x ≡ n) (λ x. key x < suc n) (λ x h. omega arith) (filter (λ x. key x == n) xs) (passed_test key n xs))
+    AllByRecursion-append (λ x. key x < suc n) (by_key key n xs) (filter (λ x. key x == n) xs)
+    (AllByRecursion-map (λ x. key x < n) (λ x. key x < suc n) (λ x h. omega arith) (by_key key n xs) (by_key_below key n xs))
+    (AllByRecursion-map (λ x. key x ≡ n) (λ x. key x < suc n) (λ x h. omega arith) (filter (λ x. key x == n) xs) (passed_test key n xs))
 
-no_lower : {X : Type 0} (key : X → ℕ) (m n : ℕ) (xs : List X) → m ≤ n → Every (λ x. key x ≡ n) xs → by_key key m xs ≡ []
+no_lower : {X : Type 0} (key : X → ℕ) (m n : ℕ) (xs : List X) → m ≤ n → AllByRecursion (λ x. key x ≡ n) xs → by_key key m xs ≡ []
 no_lower key zero n xs l h = refl
 no_lower {X} key (suc m) n xs l h =
-    ap (λ z. z ++ filter (λ x. key x == m) xs) (no_lower key m n xs (omega arith) h) ∙ filter-none key m xs (Every-map (λ x. key x ≡ n) (λ x. key x ≢ m) (λ x e. omega arith) xs h)
+    ap (λ z. z ++ filter (λ x. key x == m) xs) (no_lower key m n xs (omega arith) h) ∙ filter-none key m xs (AllByRecursion-map (λ x. key x ≡ n) (λ x. key x ≢ m) (λ x e. omega arith) xs h)
 
-pub one_key : {X : Type 0} (key : X → ℕ) (n : ℕ) (xs : List X) → Every (λ x. key x ≡ n) xs → xs ≡ by_key key (suc n) xs
+pub one_key : {X : Type 0} (key : X → ℕ) (n : ℕ) (xs : List X) → AllByRecursion (λ x. key x ≡ n) xs → xs ≡ by_key key (suc n) xs
 one_key key n xs h =
     let none : by_key key n xs ≡ [] = no_lower key n n xs (omega arith) h in
     let all : filter (λ x. key x == n) xs ≡ xs = filter-all key n xs h in

@@ -8,7 +8,6 @@ use Rattle.std.proofs.lemmas.List.FromFn.{length-range_with_len, get_or-range_wi
 use Rattle.std.proofs.lemmas.List.Kept.{IsStrictlyIncreasing-filter}
 use Rattle.std.proofs.lemmas.List.Sorted.{IsPermutation-map, IsPermutation-sym, length_permutation}
 use Rattle.std.proofs.lemmas.Map.Keys.{IsDistinct-IsPermutation}
-use Rattle.orc_history.specs.Journals.{Every}
 use Rattle.orc_jobs.specs.declared.line.Line.{Line}
 use Rattle.orc_board.specs.declared.replies.PostReply.{PostReply}
 use Rattle.orc_board.specs.declared.replies.PostWord.{PostWord}
@@ -16,7 +15,7 @@ use Rattle.orc_board.specs.declared.replies.PostWord.TheVariants as word
 use Rattle.orc_board.specs.declared.replies.TakeReply.{TakeReply}
 use Rattle.orc_board.specs.Follows.{AreInOrder, own_records, posts_of}
 use Rattle.orc_board.specs.Reportable.{posted_by, posted_of}
-use Rattle.orc_board.proofs.ListFacts.{Every-all, Every-map, Every-both, filter-none, eq-true, eq-no, zero_or, le-cases}
+use Rattle.orc_board.proofs.ListFacts.{AllByRecursion-all, AllByRecursion-map, AllByRecursion-both, filter-none, eq-true, eq-no, zero_or, le-cases}
 use Rattle.orc_board.proofs.Keyed.{same_by_keys, by_key_below}
 use Rattle.orc_board.proofs.PairLists.{posted_fewer}
 
@@ -41,7 +40,7 @@ keyed_at {X} key value a (x ∷ xs) =
     ] in
     cases (key x == a) refl
 
-keyed_below : {X : Type 0} (key value : X → ℕ) (n : ℕ) (xs : List X) → Every (λ x. key x < n) xs → Every (λ (z : ℕ × ℕ). z.0 < n) (keyed key value xs)
+keyed_below : {X : Type 0} (key value : X → ℕ) (n : ℕ) (xs : List X) → AllByRecursion (λ x. key x < n) xs → AllByRecursion (λ (z : ℕ × ℕ). z.0 < n) (keyed key value xs)
 keyed_below key value n [] h = tt
 keyed_below key value n (x ∷ xs) h = (h.0, keyed_below key value n xs h.1)
 
@@ -55,16 +54,16 @@ poster_of posters i = i % posters + 1
 
 -- each reply is of a poster of the run
 pub posters_in_range : (lines : List Line) (posters takers : ℕ) (posts : List PostReply) (takes : List TakeReply) → AreInOrder lines posters takers posts takes
-    → Every (λ (r : PostReply). (1 ≤ r.poster) × (r.poster < suc posters)) posts
+    → AllByRecursion (λ (r : PostReply). (1 ≤ r.poster) × (r.poster < suc posters)) posts
 posters_in_range lines posters takers posts takes o =
-    Every-both (λ (r : PostReply). 1 ≤ r.poster) (λ (r : PostReply). r.poster < suc posters) posts o.none_of_zero
-    (subst (Every (λ (r : PostReply). r.poster < suc posters)) (sym o.by_poster) (by_key_below (λ (r : PostReply). r.poster) (suc posters) posts))
+    AllByRecursion-both (λ (r : PostReply). 1 ≤ r.poster) (λ (r : PostReply). r.poster < suc posters) posts o.none_of_zero
+    (subst (AllByRecursion (λ (r : PostReply). r.poster < suc posters)) (sym o.by_poster) (by_key_below (λ (r : PostReply). r.poster) (suc posters) posts))
 
 -- a number that is no poster's has no replies
-pub no_posts : (posters a : ℕ) (posts : List PostReply) → Every (λ (r : PostReply). (1 ≤ r.poster) × (r.poster < suc posters)) posts
+pub no_posts : (posters a : ℕ) (posts : List PostReply) → AllByRecursion (λ (r : PostReply). (1 ≤ r.poster) × (r.poster < suc posters)) posts
     → ((p : ℕ) → (1 ≤ p) × (p < suc posters) → p ≢ a) → posts_of a posts ≡ []
 no_posts posters a posts range other =
-    filter-none (λ (r : PostReply). r.poster) a posts (Every-map (λ (r : PostReply). (1 ≤ r.poster) × (r.poster < suc posters)) (λ (r : PostReply). r.poster ≢ a) (λ r h. other r.poster h) posts range)
+    filter-none (λ (r : PostReply). r.poster) a posts (AllByRecursion-map (λ (r : PostReply). (1 ≤ r.poster) × (r.poster < suc posters)) (λ (r : PostReply). r.poster ≢ a) (λ r h. other r.poster h) posts range)
 
 pub above_zero : (a p posters : ℕ) → a ≡ 0 → (1 ≤ p) × (p < suc posters) → p ≢ a
 above_zero a p posters z h = omega (arith, h.0)
@@ -80,15 +79,15 @@ each_line lines posters takers posts takes some o =
     let all : List ℕ = range_with_len 0 n in
     let xs : List (ℕ × ℕ) = keyed key line posts in
     let ys : List (ℕ × ℕ) = keyed (poster_of posters) self all in
-    let range : Every (λ (r : PostReply). (1 ≤ r.poster) × (r.poster < suc posters)) posts = posters_in_range lines posters takers posts takes o in
-    let low : Every (λ r. key r < suc posters) posts = Every-map (λ (r : PostReply). (1 ≤ r.poster) × (r.poster < suc posters)) (λ r. key r < suc posters) (λ r h. h.1) posts range in
-    let low_records : Every (λ i. poster_of posters i < suc posters) all = Every-all (λ i. poster_of posters i < suc posters) (λ i. omega arith) all in
+    let range : AllByRecursion (λ (r : PostReply). (1 ≤ r.poster) × (r.poster < suc posters)) posts = posters_in_range lines posters takers posts takes o in
+    let low : AllByRecursion (λ r. key r < suc posters) posts = AllByRecursion-map (λ (r : PostReply). (1 ≤ r.poster) × (r.poster < suc posters)) (λ r. key r < suc posters) (λ r h. h.1) posts range in
+    let low_records : AllByRecursion (λ i. poster_of posters i < suc posters) all = AllByRecursion-all (λ i. poster_of posters i < suc posters) (λ i. omega arith) all in
     let at : (a : ℕ) → a < suc posters → filter (λ (z : ℕ × ℕ). z.0 == a) xs ≡ filter (λ (z : ℕ × ℕ). z.0 == a) ys = λ a l.
     let mine : map line (posts_of a posts) ≡ own_records posters a n =
     elim (zero_or a) as (λ _. map line (posts_of a posts) ≡ own_records posters a n) [
       | inl z ↦
           let none : posts_of a posts ≡ [] = no_posts posters a posts range (λ p h. above_zero a p posters z h) in
-          ap (map line) none ∙ sym (filter-none (poster_of posters) a all (Every-all (λ i. poster_of posters i ≢ a) (λ i. omega arith) all))
+          ap (map line) none ∙ sym (filter-none (poster_of posters) a all (AllByRecursion-all (λ i. poster_of posters i ≢ a) (λ i. omega arith) all))
       | inr g ↦
           let high : a ≤ posters = omega arith in
           o.in_file_order a g high

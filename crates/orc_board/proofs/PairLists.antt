@@ -1,10 +1,9 @@
 -- The pairs of job and position in histories, rows and replies.
 use Rattle.std.proofs.Common.{◌≡◌, ◌%◌, ℕ, ◌+◌, ◌≤◌, ◌<◌, List, [], ◌∷◌, ◌++◌, length, map, Bool, filter, ◌==◌, inl, inr, refl, ap, sym, ◌∙◌, arith, append_assoc, append-nil, length-append}
-use Rattle.std.specs.List.{range_with_len}
+use Rattle.std.specs.List.{range_with_len, AllByRecursion}
 use Rattle.std.proofs.lemmas.Option.{slice_get_within}
 use Rattle.std.proofs.lemmas.List.FromFn.{length-range_with_len}
 use Rattle.std.proofs.lemmas.List.Sums.{length-filter, count_by-le-length}
-use Rattle.orc_history.specs.Journals.{Every}
 use Rattle.orc_history.specs.declared.queue.QueueEntry.{QueueEntry}
 use Rattle.orc_history.specs.declared.queue.QueueEntry.TheVariants.{Put, Took, Empty}
 use Rattle.orc_history.specs.QueueHistory.{agent_of_entry, IsLegalFrom, waiting_after}
@@ -65,13 +64,13 @@ legal_positions n w (Took by job at ∷ es) (rest, is, legal) = legal_positions 
 legal_positions n w (Empty by ∷ es) legal = legal_positions n w es legal.1
 
 -- of one agent's entries its own Puts and Tooks are all
-pub own_puts : (agent : ℕ) (es : List QueueEntry) → Every (λ e. agent_of_entry e ≡ agent) es → puts_of (filter (is_own_move agent) es) ≡ puts_of es
+pub own_puts : (agent : ℕ) (es : List QueueEntry) → AllByRecursion (λ e. agent_of_entry e ≡ agent) es → puts_of (filter (is_own_move agent) es) ≡ puts_of es
 own_puts agent [] h = refl
 own_puts agent (Put by job at ∷ es) h = rw (eq-yes by agent h.0) (ap (λ z. (job, at) ∷ z) (own_puts agent es h.1))
 own_puts agent (Took by job at ∷ es) h = rw (eq-yes by agent h.0) (own_puts agent es h.1)
 own_puts agent (Empty by ∷ es) h = own_puts agent es h.1
 
-pub own_tooks : (agent : ℕ) (es : List QueueEntry) → Every (λ e. agent_of_entry e ≡ agent) es → tooks_of (filter (is_own_move agent) es) ≡ tooks_of es
+pub own_tooks : (agent : ℕ) (es : List QueueEntry) → AllByRecursion (λ e. agent_of_entry e ≡ agent) es → tooks_of (filter (is_own_move agent) es) ≡ tooks_of es
 own_tooks agent [] h = refl
 own_tooks agent (Put by job at ∷ es) h = rw (eq-yes by agent h.0) (own_tooks agent es h.1)
 own_tooks agent (Took by job at ∷ es) h = rw (eq-yes by agent h.0) (ap (λ z. (job, at) ∷ z) (own_tooks agent es h.1))
@@ -126,14 +125,14 @@ took_pairs lines taker agent (r ∷ rs) (row ∷ rows) z =
     let more = took_pairs lines taker agent rs rows z.1 in
     (rw z.0.table.is (ap (λ u. (r.line, r.at) ∷ u) more.0), rw z.0.table.is more.1)
 
-pub claims_of : (lines : List Line) (taker agent : ℕ) (rs : List TakeReply) (rows : List Row) → Pointwise (TookRow lines taker agent) rs rows → Every (IsClaim lines) rs
+pub claims_of : (lines : List Line) (taker agent : ℕ) (rs : List TakeReply) (rows : List Row) → Pointwise (TookRow lines taker agent) rs rows → AllByRecursion (IsClaim lines) rs
 claims_of lines taker agent [] [] z = tt
 claims_of lines taker agent [] (row ∷ rows) z = absurd z
 claims_of lines taker agent (r ∷ rs) [] z = absurd z
 claims_of lines taker agent (r ∷ rs) (row ∷ rows) z = (record { id = z.0.table.id; job = z.0.table.job; value = z.0.table.value }, claims_of lines taker agent rs rows z.1)
 
 -- the lines of the replies exist
-pub lines_exist : (lines : List Line) (poster : ℕ) (rs : List PostReply) (rows : List Row) → Pointwise (PosterRow lines poster) rs rows → Every (λ (r : PostReply). r.line < length lines) rs
+pub lines_exist : (lines : List Line) (poster : ℕ) (rs : List PostReply) (rows : List Row) → Pointwise (PosterRow lines poster) rs rows → AllByRecursion (λ (r : PostReply). r.line < length lines) rs
 lines_exist lines poster [] [] z = tt
 lines_exist lines poster [] (row ∷ rows) z = absurd z
 lines_exist lines poster (r ∷ rs) [] z = absurd z

@@ -1,6 +1,6 @@
 -- Where few jobs are put, no reply is Positions.
 use Rattle.std.proofs.Common.{◌≡◌, ◌≢◌, ℕ, ◌≤◌, ◌<◌, ◌^◌, List, [], ◌∷◌, length, Option, Some, refl, ap, subst, arith}
-use Rattle.orc_history.specs.Journals.{Every}
+use Rattle.std.specs.List.{AllByRecursion}
 use Rattle.orc_history.specs.declared.queue.QueueEntry.{QueueEntry}
 use Rattle.orc_history.specs.declared.queue.QueueEntry.TheVariants.{Put, Took, Empty}
 use Rattle.orc_history.specs.declared.queue.QueueRefused.{QueueRefused}
@@ -39,7 +39,7 @@ no_place {A} q many agent why j k h e =
     many agent k told.0 told.1 told.5
 
 pub chain_places : {A B : Type 0} (q : View A QueueEntry QueueRefused) (s : View B SetEntry ListRefused) → ManyPuts q → (agent : ℕ) (rows : List Row) (j k : List A) (m n : List B)
-    → Chain q s agent rows j m k n → Every (NoPlace (puts_in (q.history k))) rows
+    → Chain q s agent rows j m k n → AllByRecursion (NoPlace (puts_in (q.history k))) rows
 chain_places q s many agent [] j k m n c = tt
 chain_places q s many agent (row ∷ rows) j k m n (i, l, one, c) =
     let w : Works q s agent rows i l k n = record { chain = c } in
@@ -54,7 +54,7 @@ told_positions : (agent i : ℕ) (l : Line) (row : Row) → PostRow agent i l wo
 told_positions agent i (line.Post id op text) row h = ap (λ (x : Row). x.queue.refused) h.1
 told_positions agent i (line.Drop id) row h = absurd h
 
-pub no_positions : (lines : List Line) (poster puts : ℕ) → puts < 2 ^ 62 → (rs : List PostReply) (rows : List Row) → Pointwise (PosterRow lines poster) rs rows → Every (NoPlace puts) rows → Every (λ (r : PostReply). r.what ≢ word.Positions) rs
+pub no_positions : (lines : List Line) (poster puts : ℕ) → puts < 2 ^ 62 → (rs : List PostReply) (rows : List Row) → Pointwise (PosterRow lines poster) rs rows → AllByRecursion (NoPlace puts) rows → AllByRecursion (λ (r : PostReply). r.what ≢ word.Positions) rs
 no_positions lines poster puts few [] rows z h = tt
 no_positions lines poster puts few (r ∷ rs) [] z h = absurd z
 no_positions lines poster puts few (r ∷ rs) (row ∷ rows) z h = (

@@ -1,12 +1,11 @@
 -- Replies that follow legal journals can be reported: for any number of posters and takers.
 use Rattle.std.proofs.Common.{◌≡◌, ◌≢◌, ◌^◌, ℕ, zero, suc, ◌+◌, ◌≤◌, ◌<◌, List, [], ◌∷◌, ◌++◌, length, map, Bool, true, false, cond, filter, ◌==◌, inl, inr, refl, ap, sym, ◌∙◌, subst, arith, append-nil}
-use Rattle.std.specs.List.{range_with_len}
+use Rattle.std.specs.List.{range_with_len, AllByRecursion}
 use Rattle.std.specs.List.Sorted.{IsPermutation}
 use Rattle.std.proofs.lemmas.Bool.Decides.{nat_tests}
 use Rattle.std.proofs.lemmas.List.{map-append}
 use Rattle.std.proofs.lemmas.List.Elements.{filter-append}
 use Rattle.std.proofs.lemmas.List.Sorted.{IsPermutation-sym, IsPermutation-trans, IsPermutation-map, length_permutation}
-use Rattle.orc_history.specs.Journals.{Every}
 use Rattle.orc_history.specs.declared.queue.QueueEntry.{QueueEntry}
 use Rattle.orc_history.specs.declared.queue.QueueEntry.TheVariants.{Put, Took, Empty}
 use Rattle.orc_history.specs.declared.queue.QueueRefused.{QueueRefused}
@@ -20,7 +19,7 @@ use Rattle.orc_board.specs.declared.replies.TakeReply.{TakeReply}
 use Rattle.orc_board.specs.Stretches.{View, of_queue, MayStand, is_own_move, beside}
 use Rattle.orc_board.specs.Follows.{WorkersFollow, IsWorker, by_key, taker_agent, posts_of, takes_of}
 use Rattle.orc_board.specs.Reportable.{posted_by, posted_of, claim_of, AreReportable, IsClaim}
-use Rattle.orc_board.proofs.ListFacts.{Every-append, Every-map, eq-true, eq-yes, zero_or}
+use Rattle.orc_board.proofs.ListFacts.{AllByRecursion-append, AllByRecursion-map, eq-true, eq-yes, zero_or}
 use Rattle.orc_board.proofs.Wholes.{queue_of_rows, Works-queue}
 use Rattle.orc_board.proofs.PairLists.{puts_of, tooks_of, legal_lists, legal_positions, rows_pairs, took_pairs, claims_of, lines_exist}
 use Rattle.orc_board.proofs.WorkerCases.{own_whole, worker_cases}
@@ -164,37 +163,37 @@ apart : (posters t p : ℕ) → (1 ≤ p) × (p < suc posters) → p ≢ taker_a
 apart posters zero p h = omega (arith, h.0)
 apart posters (suc t) p h = omega (arith, h.1)
 
-puts_below : (n : ℕ) (es : List QueueEntry) → Every (λ e. agent_of_entry e < n) es → Every (λ (x : ℕ × (ℕ × ℕ)). x.0 < n) (keyed_puts es)
+puts_below : (n : ℕ) (es : List QueueEntry) → AllByRecursion (λ e. agent_of_entry e < n) es → AllByRecursion (λ (x : ℕ × (ℕ × ℕ)). x.0 < n) (keyed_puts es)
 puts_below n [] h = tt
 puts_below n (Put by job at ∷ es) h = (h.0, puts_below n es h.1)
 puts_below n (Took by job at ∷ es) h = puts_below n es h.1
 puts_below n (Empty by ∷ es) h = puts_below n es h.1
 
-tooks_below : (n : ℕ) (es : List QueueEntry) → Every (λ e. agent_of_entry e < n) es → Every (λ (x : ℕ × (ℕ × ℕ)). x.0 < n) (keyed_tooks es)
+tooks_below : (n : ℕ) (es : List QueueEntry) → AllByRecursion (λ e. agent_of_entry e < n) es → AllByRecursion (λ (x : ℕ × (ℕ × ℕ)). x.0 < n) (keyed_tooks es)
 tooks_below n [] h = tt
 tooks_below n (Put by job at ∷ es) h = tooks_below n es h.1
 tooks_below n (Took by job at ∷ es) h = (h.0, tooks_below n es h.1)
 tooks_below n (Empty by ∷ es) h = tooks_below n es h.1
 
-tag_below : (n a : ℕ) (xs : List (ℕ × ℕ)) → a < n → Every (λ (x : ℕ × (ℕ × ℕ)). x.0 < n) (tag a xs)
+tag_below : (n a : ℕ) (xs : List (ℕ × ℕ)) → a < n → AllByRecursion (λ (x : ℕ × (ℕ × ℕ)). x.0 < n) (tag a xs)
 tag_below n a [] h = tt
 tag_below n a (x ∷ xs) h = (h, tag_below n a xs h)
 
-posted_below : (n : ℕ) (rs : List PostReply) → Every (λ (r : PostReply). r.poster < n) rs → Every (λ (x : ℕ × (ℕ × ℕ)). x.0 < n) (keyed_posted rs)
+posted_below : (n : ℕ) (rs : List PostReply) → AllByRecursion (λ (r : PostReply). r.poster < n) rs → AllByRecursion (λ (x : ℕ × (ℕ × ℕ)). x.0 < n) (keyed_posted rs)
 posted_below n [] h = tt
-posted_below n (r ∷ rs) h = Every-append (λ (x : ℕ × (ℕ × ℕ)). x.0 < n) (tag r.poster (posted_by r.line r.what)) (keyed_posted rs) (tag_below n r.poster (posted_by r.line r.what) h.0) (posted_below n rs h.1)
+posted_below n (r ∷ rs) h = AllByRecursion-append (λ (x : ℕ × (ℕ × ℕ)). x.0 < n) (tag r.poster (posted_by r.line r.what)) (keyed_posted rs) (tag_below n r.poster (posted_by r.line r.what) h.0) (posted_below n rs h.1)
 
 agent_below : (posters takers t : ℕ) → t < suc takers → taker_agent posters t < suc (posters + takers)
 agent_below posters takers zero h = omega arith
 agent_below posters takers (suc t) h = omega (arith, h)
 
-takes_below : (posters takers : ℕ) (rs : List TakeReply) → Every (λ (r : TakeReply). r.taker < suc takers) rs → Every (λ (x : ℕ × (ℕ × ℕ)). x.0 < suc (posters + takers)) (keyed_takes posters rs)
+takes_below : (posters takers : ℕ) (rs : List TakeReply) → AllByRecursion (λ (r : TakeReply). r.taker < suc takers) rs → AllByRecursion (λ (x : ℕ × (ℕ × ℕ)). x.0 < suc (posters + takers)) (keyed_takes posters rs)
 takes_below posters takers [] h = tt
 takes_below posters takers (r ∷ rs) h = (agent_below posters takers r.taker h.0, takes_below posters takers rs h.1)
 
-every_key : {X : Type 0} (P : X → Type 0) (key : X → ℕ) (n : ℕ) (xs : List X) → ((a : ℕ) → a < n → Every P (filter (λ x. key x == a) xs)) → Every P (by_key key n xs)
+every_key : {X : Type 0} (P : X → Type 0) (key : X → ℕ) (n : ℕ) (xs : List X) → ((a : ℕ) → a < n → AllByRecursion P (filter (λ x. key x == a) xs)) → AllByRecursion P (by_key key n xs)
 every_key P key zero xs h = tt
-every_key P key (suc n) xs h = Every-append P (by_key key n xs) (filter (λ x. key x == n) xs) (every_key P key n xs (λ a l. h a (omega arith))) (h n (omega arith))
+every_key P key (suc n) xs h = AllByRecursion-append P (by_key key n xs) (filter (λ x. key x == n) xs) (every_key P key n xs (λ a l. h a (omega arith))) (h n (omega arith))
 
 worker_agent : (n : ℕ) (a b : ℕ) → a ≡ b → b ≤ n → a < suc n
 worker_agent n a b e h = omega arith
@@ -208,12 +207,12 @@ reportable_all {A} {B} q s lines posters takers posts takes k n some none legal 
     let N : ℕ = suc (posters + takers) in
     let main = Works-queue (beside q C) (beside s C) 0 (f.claiming 0 (omega arith)).works in
     let is : es ≡ main.part = main.is ∙ ap (λ z. z ++ main.part) none in
-    let agents : Every (λ e. agent_of_entry e < N) es =
-    subst (Every (λ e. agent_of_entry e < N)) (sym is)
-    (Every-map (MayStand of_queue (beside q C) 0) (λ e. agent_of_entry e < N) (λ e h. elim h as (λ _. agent_of_entry e < N) [ inl z ↦ worker_agent (posters + takers) (agent_of_entry e) 0 z (omega arith) | inr w ↦ worker_agent (posters + takers) (agent_of_entry e) (agent_of_entry e) refl w ]) main.part main.others) in
-    let by_poster : Every (λ (r : PostReply). r.poster < suc posters) posts = subst (Every (λ (r : PostReply). r.poster < suc posters)) (sym f.order.by_poster) (by_key_below (λ (r : PostReply). r.poster) (suc posters) posts) in
-    let by_taker : Every (λ (r : TakeReply). r.taker < suc takers) takes = subst (Every (λ (r : TakeReply). r.taker < suc takers)) (sym f.order.by_taker) (by_key_below (λ (r : TakeReply). r.taker) (suc takers) takes) in
-    let in_range : Every (λ (r : PostReply). (1 ≤ r.poster) × (r.poster < suc posters)) posts = posters_in_range lines posters takers posts takes f.order in
+    let agents : AllByRecursion (λ e. agent_of_entry e < N) es =
+    subst (AllByRecursion (λ e. agent_of_entry e < N)) (sym is)
+    (AllByRecursion-map (MayStand of_queue (beside q C) 0) (λ e. agent_of_entry e < N) (λ e h. elim h as (λ _. agent_of_entry e < N) [ inl z ↦ worker_agent (posters + takers) (agent_of_entry e) 0 z (omega arith) | inr w ↦ worker_agent (posters + takers) (agent_of_entry e) (agent_of_entry e) refl w ]) main.part main.others) in
+    let by_poster : AllByRecursion (λ (r : PostReply). r.poster < suc posters) posts = subst (AllByRecursion (λ (r : PostReply). r.poster < suc posters)) (sym f.order.by_poster) (by_key_below (λ (r : PostReply). r.poster) (suc posters) posts) in
+    let by_taker : AllByRecursion (λ (r : TakeReply). r.taker < suc takers) takes = subst (AllByRecursion (λ (r : TakeReply). r.taker < suc takers)) (sym f.order.by_taker) (by_key_below (λ (r : TakeReply). r.taker) (suc takers) takes) in
+    let in_range : AllByRecursion (λ (r : PostReply). (1 ≤ r.poster) × (r.poster < suc posters)) posts = posters_in_range lines posters takers posts takes f.order in
     let put_taker : (t : ℕ) → t ≤ takers → at_key (taker_agent posters t) (keyed_puts es) ≡ at_key (taker_agent posters t) (keyed_posted posts) = λ t h.
     let a : ℕ = taker_agent posters t in
     let w = f.claiming t h in
@@ -239,7 +238,7 @@ reportable_all {A} {B} q s lines posters takers posts takes k n some none legal 
     key_tooks p es ∙ (ap (tag p) left ∙ sym (key_none posters p takes g h)) in
     let key : ℕ × (ℕ × ℕ) → ℕ = λ x. x.0 in
     let puts : IsPermutation (keyed_puts es) (keyed_posted posts) =
-    same_by_keys key N (keyed_puts es) (keyed_posted posts) (puts_below N es agents) (posted_below N posts (Every-map (λ (r : PostReply). r.poster < suc posters) (λ (r : PostReply). r.poster < N) (λ r h. omega arith) posts by_poster))
+    same_by_keys key N (keyed_puts es) (keyed_posted posts) (puts_below N es agents) (posted_below N posts (AllByRecursion-map (λ (r : PostReply). r.poster < suc posters) (λ (r : PostReply). r.poster < N) (λ r h. omega arith) posts by_poster))
     (λ a l. worker_cases posters takers (λ a. at_key a (keyed_puts es) ≡ at_key a (keyed_posted posts)) put_taker put_poster a (omega arith)) in
     let tooks : IsPermutation (keyed_tooks es) (keyed_takes posters takes) =
     same_by_keys key N (keyed_tooks es) (keyed_takes posters takes) (tooks_below N es agents) (takes_below posters takers takes by_taker)
@@ -260,12 +259,12 @@ reportable_all {A} {B} q s lines posters takers posts takes k n some none legal 
       positions = subst (λ (z : List ℕ). IsPermutation z (map at (posted_of posts))) numbered positions;
       claims = IsPermutation-trans (posted_of posts) (tooks_of es) (map claim_of takes)
           (subst (λ (z : List (ℕ × ℕ)). IsPermutation (posted_of posts) z) same (IsPermutation-sym (puts_of es) (posted_of posts) posted)) taken;
-      claimed = subst (Every (IsClaim lines)) (sym f.order.by_taker)
+      claimed = subst (AllByRecursion (IsClaim lines)) (sym f.order.by_taker)
           (every_key (IsClaim lines) (λ (r : TakeReply). r.taker) (suc takers) takes (λ t l. let low : t ≤ takers = omega arith in let w = f.claiming t low in claims_of lines t (taker_agent posters t) _ w.rows w.table));
-      lines_exist = subst (Every (λ (r : PostReply). r.line < length lines)) (sym f.order.by_poster)
+      lines_exist = subst (AllByRecursion (λ (r : PostReply). r.line < length lines)) (sym f.order.by_poster)
           (every_key (λ (r : PostReply). r.line < length lines) (λ (r : PostReply). r.poster) (suc posters) posts
-          (λ p l. elim (zero_or p) as (λ _. Every (λ (r : PostReply). r.line < length lines) (posts_of p posts)) [
-            | inl z ↦ subst (Every (λ (r : PostReply). r.line < length lines)) (sym (no_posts posters p posts in_range (λ x h. above_zero p x posters z h))) tt
+          (λ p l. elim (zero_or p) as (λ _. AllByRecursion (λ (r : PostReply). r.line < length lines) (posts_of p posts)) [
+            | inl z ↦ subst (AllByRecursion (λ (r : PostReply). r.line < length lines)) (sym (no_posts posters p posts in_range (λ x h. above_zero p x posters z h))) tt
             | inr g ↦ let high : p ≤ posters = omega arith in let w = f.posting p g high in lines_exist lines p _ w.rows w.table
           ]));
       different = posted_once lines posters takers posts takes some f.order;
@@ -277,16 +276,16 @@ reportable_all {A} {B} q s lines posters takers posts takes k n some none legal 
 -- where lines are few, no position runs out
 pub no_positions_all : {A B : Type 0} (q : View A QueueEntry QueueRefused) (s : View B SetEntry ListRefused) (lines : List Line) (posters takers : ℕ) (posts : List PostReply) (takes : List TakeReply) (k : List A) (n : List B)
     → ManyPuts q → length lines ≤ 65535 → IsLegalQueue 0 (q.history k) → waiting_after [] (q.history k) ≡ [] → length (puts_of (q.history k)) ≤ length lines
-    → WorkersFollow q s lines posters takers posts takes k n → Every (λ (r : PostReply). r.what ≢ word.Positions) posts
+    → WorkersFollow q s lines posters takers posts takes k n → AllByRecursion (λ (r : PostReply). r.what ≢ word.Positions) posts
 no_positions_all q s lines posters takers posts takes k n many short legal empty few f =
     let C : ℕ → Type 0 = IsWorker posters takers in
     let low : puts_in (q.history k) < 2 ^ 62 = omega (arith, puts_counted (q.history k), few, short) in
-    let in_range : Every (λ (r : PostReply). (1 ≤ r.poster) × (r.poster < suc posters)) posts = posters_in_range lines posters takers posts takes f.order in
+    let in_range : AllByRecursion (λ (r : PostReply). (1 ≤ r.poster) × (r.poster < suc posters)) posts = posters_in_range lines posters takers posts takes f.order in
     let P : PostReply → Type 0 = λ r. r.what ≢ word.Positions in
-    subst (Every P) (sym f.order.by_poster)
+    subst (AllByRecursion P) (sym f.order.by_poster)
     (every_key P (λ (r : PostReply). r.poster) (suc posters) posts
-    (λ p l. elim (zero_or p) as (λ _. Every P (posts_of p posts)) [
-      | inl z ↦ subst (Every P) (sym (no_posts posters p posts in_range (λ x h. above_zero p x posters z h))) tt
+    (λ p l. elim (zero_or p) as (λ _. AllByRecursion P (posts_of p posts)) [
+      | inl z ↦ subst (AllByRecursion P) (sym (no_posts posters p posts in_range (λ x h. above_zero p x posters z h))) tt
       | inr g ↦
           let high : p ≤ posters = omega arith in
           let w = f.posting p g high in

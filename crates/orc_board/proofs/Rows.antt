@@ -1,6 +1,6 @@
 -- The rows of the replies of one call.
 use Rattle.std.proofs.Common.{◌≡◌, ℕ, List, [], ◌∷◌, ◌++◌, Bool, true, Option, Some, None, refl, sym, subst, append-nil}
-use Rattle.orc_history.specs.Journals.{Every}
+use Rattle.std.specs.List.{AllByRecursion}
 use Rattle.orc_history.specs.declared.queue.QueueEntry.{QueueEntry}
 use Rattle.orc_history.specs.declared.queue.QueueEntry.TheVariants.{Took}
 use Rattle.orc_history.specs.declared.queue.QueueRefused.{QueueRefused}
@@ -14,7 +14,7 @@ use Rattle.orc_board.specs.Stretches.{View, of_queue, of_set, Stretch, Did, just
 use Rattle.orc_board.specs.Table.{IsJob, IsNoJob, IsSkip, Closes, TakenRow, EndsWith, answer_of, took_of, last_of}
 use Rattle.orc_board.proofs.Chains.{Stretch-trans, Stretch-refl, Did-just, Did-nothing}
 use Rattle.orc_board.proofs.CallStretches.{ends_later}
-use Rattle.orc_board.proofs.ListFacts.{Every-append}
+use Rattle.orc_board.proofs.ListFacts.{AllByRecursion-append}
 
 -- an id that was opened and closed again, since its job found no place
 pub put_refused : {A B : Type 0} (q : View A QueueEntry QueueRefused) (s : View B SetEntry ListRefused) (agent id : ℕ) (why told : QueueRefused) (added gone : Bool) (qa sa sb : ℕ) (j k : List A) (m l n : List B)
@@ -52,7 +52,7 @@ dropped q s agent id told answer sa j m n e is removed = record {
 -- so far only jobs that no line posts were taken
 pub record Passed {A : Type 0} (q : View A QueueEntry QueueRefused) (lines : List Line) (agent : ℕ) (j k : List A) : Type 0 where
   pub skipped : List QueueEntry
-  pub skips : Every (IsSkip lines agent) skipped
+  pub skips : AllByRecursion (IsSkip lines agent) skipped
   pub stretch : Stretch of_queue q agent skipped j k
 
 pub passed_none : {A : Type 0} (q : View A QueueEntry QueueRefused) (lines : List Line) (agent : ℕ) (j : List A) → Passed q lines agent j j
@@ -67,7 +67,7 @@ pub passed_more : {A : Type 0} (q : View A QueueEntry QueueRefused) (lines : Lis
     → Passed q lines agent i j → qa ≡ agent → got ≡ Some (job, at) → Stretch of_queue q qa (took_of qa got) j k → IsNoJob lines job → Passed q lines agent i k
 passed_more q lines agent job at qa got i j k p e is took none = record {
   skipped = p.skipped ++ Took agent job at ∷ [];
-  skips = Every-append (IsSkip lines agent) p.skipped (Took agent job at ∷ []) p.skips (record { job = job; at = at; is = refl; none = none }, tt);
+  skips = AllByRecursion-append (IsSkip lines agent) p.skipped (Took agent job at ∷ []) p.skips (record { job = job; at = at; is = refl; none = none }, tt);
   stretch = Stretch-trans of_queue q agent p.skipped (Took agent job at ∷ []) i j k p.stretch (took_now q agent job at qa got j k e is took);
 }
 

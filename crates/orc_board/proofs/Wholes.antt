@@ -1,6 +1,6 @@
 -- From a worker's rows to its entries of whole histories.
 use Rattle.std.proofs.Common.{◌≡◌, ◌≢◌, ℕ, List, [], ◌∷◌, ◌++◌, filter, ◌⊎◌, inl, inr, Option, Some, None, refl, sym, ◌∙◌, subst}
-use Rattle.orc_history.specs.Journals.{Every}
+use Rattle.std.specs.List.{AllByRecursion}
 use Rattle.orc_history.specs.declared.queue.QueueEntry.{QueueEntry}
 use Rattle.orc_history.specs.declared.queue.QueueEntry.TheVariants.{Put, Took, Empty}
 use Rattle.orc_history.specs.declared.queue.QueueRefused.{QueueRefused}
@@ -10,7 +10,7 @@ use Rattle.orc_history.specs.QueueHistory.{agent_of_entry}
 use Rattle.orc_history.specs.SetHistory.{agent_of_set_entry}
 use Rattle.orc_board.specs.Stretches.{View, Kind, of_queue, of_set, MayStand, Stretch, Share, Licensed, Did, Row, empty_row, Stands, Chain, Works, is_own_move, beside}
 use Rattle.orc_board.proofs.Chains.{Stretch-trans, Stands-after, Did-just}
-use Rattle.orc_board.proofs.ListFacts.{Every-map, eq-no, filter-none}
+use Rattle.orc_board.proofs.ListFacts.{AllByRecursion-map, eq-no, filter-none}
 
 -- the rows' entries, one after another
 abbrev pub queue_of_rows : List Row → List QueueEntry
@@ -66,7 +66,7 @@ Did-beside kind x C f agent share j k d = record {
     part = d.stretch.part;
     is = d.stretch.is;
     own_is = d.stretch.own_is;
-    others = Every-map (MayStand kind x agent) (MayStand kind (beside x C) agent)
+    others = AllByRecursion-map (MayStand kind x agent) (MayStand kind (beside x C) agent)
         (λ e h. elim h as (λ _. MayStand kind (beside x C) agent e) [ inl a ↦ inl a | inr b ↦ inr (f (kind.agent_of e) b) ]) d.stretch.part d.stretch.others;
   };
   licence = licensed_beside x C agent share.refused j k d.licence;
@@ -87,22 +87,22 @@ pub Works-beside : {A B : Type 0} (q : View A QueueEntry QueueRefused) (s : View
 Works-beside q s C f h agent {rows = rows} {j = j} {k = k} {m = m} {n = n} w = record { chain = chain_beside q s C f h agent rows j k m n w.chain }
 
 -- the entries that a container without a crowd gets are the agent's own
-pub only_own : {E : Type 0} (agent_of : E → ℕ) (crowd : ℕ → Type 0) → Below crowd (λ _. ⊥) → (agent : ℕ) (es : List E) → Every (λ e. (agent_of e ≡ agent) ⊎ crowd (agent_of e)) es → Every (λ e. agent_of e ≡ agent) es
+pub only_own : {E : Type 0} (agent_of : E → ℕ) (crowd : ℕ → Type 0) → Below crowd (λ _. ⊥) → (agent : ℕ) (es : List E) → AllByRecursion (λ e. (agent_of e ≡ agent) ⊎ crowd (agent_of e)) es → AllByRecursion (λ e. agent_of e ≡ agent) es
 only_own agent_of crowd f agent es a =
-    Every-map (λ e. (agent_of e ≡ agent) ⊎ crowd (agent_of e)) (λ e. agent_of e ≡ agent) (λ e h. elim h as (λ _. agent_of e ≡ agent) [ inl s ↦ s | inr c ↦ absurd (f (agent_of e) c) ]) es a
+    AllByRecursion-map (λ e. (agent_of e ≡ agent) ⊎ crowd (agent_of e)) (λ e. agent_of e ≡ agent) (λ e h. elim h as (λ _. agent_of e ≡ agent) [ inl s ↦ s | inr c ↦ absurd (f (agent_of e) c) ]) es a
 
 -- what one agent does is nothing of another's
 differs : (x a b : ℕ) → x ≡ a → a ≢ b → x ≢ b
 differs x a b e other h = other (sym e ∙ h)
 
-none_own : (a b : ℕ) → a ≢ b → (es : List QueueEntry) → Every (λ e. agent_of_entry e ≡ a) es → filter (is_own_move b) es ≡ []
+none_own : (a b : ℕ) → a ≢ b → (es : List QueueEntry) → AllByRecursion (λ e. agent_of_entry e ≡ a) es → filter (is_own_move b) es ≡ []
 none_own a b other [] h = refl
 none_own a b other (Put agent job at ∷ es) h = rw (eq-no agent b (differs agent a b h.0 other)) (none_own a b other es h.1)
 none_own a b other (Took agent job at ∷ es) h = rw (eq-no agent b (differs agent a b h.0 other)) (none_own a b other es h.1)
 none_own a b other (Empty agent ∷ es) h = none_own a b other es h.1
 
 other_stretch : {A E W : Type 0} (kind : Kind E) (x : View A E W) (C : ℕ → Type 0) (a b : ℕ) (own : List E) (j k : List A)
-    → Below x.crowd (λ _. ⊥) → ((es : List E) → Every (λ e. kind.agent_of e ≡ a) es → filter (kind.is_own b) es ≡ []) → C a → Stretch kind x a own j k → Stretch kind (beside x C) b [] j k
+    → Below x.crowd (λ _. ⊥) → ((es : List E) → AllByRecursion (λ e. kind.agent_of e ≡ a) es → filter (kind.is_own b) es ≡ []) → C a → Stretch kind x a own j k → Stretch kind (beside x C) b [] j k
 other_stretch kind x C a b own j k alone none in_run t =
     let mine = only_own kind.agent_of x.crowd alone a t.part t.others in
     record {
@@ -110,7 +110,7 @@ other_stretch kind x C a b own j k alone none in_run t =
       part = t.part;
       is = t.is;
       own_is = none t.part mine;
-      others = Every-map (λ e. kind.agent_of e ≡ a) (MayStand kind (beside x C) b) (λ e is. inr (subst C (sym is) in_run)) t.part mine;
+      others = AllByRecursion-map (λ e. kind.agent_of e ≡ a) (MayStand kind (beside x C) b) (λ e is. inr (subst C (sym is) in_run)) t.part mine;
     }
 
 pub other_empty : {A B : Type 0} (q : View A QueueEntry QueueRefused) (s : View B SetEntry ListRefused) (C : ℕ → Type 0) (a b : ℕ) (xs : List QueueEntry) (ys : List SetEntry) (j k : List A) (m n : List B)
@@ -120,6 +120,6 @@ other_empty q s C a b xs ys j k m n f h other in_run t u = record {
   queue = Did-just of_queue (beside q C) b [] j k (other_stretch of_queue q C a b xs j k f (none_own a b other) in_run t);
   set = Did-just of_set (beside s C) b [] m n
       (other_stretch of_set s C a b ys m n h
-      (λ es is. filter-none agent_of_set_entry b es (Every-map (λ e. agent_of_set_entry e ≡ a) (λ e. agent_of_set_entry e ≢ b) (λ e g. differs (agent_of_set_entry e) a b g other) es is))
+      (λ es is. filter-none agent_of_set_entry b es (AllByRecursion-map (λ e. agent_of_set_entry e ≡ a) (λ e. agent_of_set_entry e ≢ b) (λ e g. differs (agent_of_set_entry e) a b g other) es is))
       in_run u);
 }

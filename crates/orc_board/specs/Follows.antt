@@ -1,8 +1,7 @@
 -- Replies follow two journals: the workers' own entries are those that their replies stand for, and there are no others.
 use Rattle.std.specs.Prelude.{◌≡◌, ◌≢◌, ℕ, suc, ◌+◌, ◌%◌, ◌<◌, ◌≤◌, List, [], ◌∷◌, ◌++◌, length, map, filter, ◌==◌, Some, None, slice_get}
-use Rattle.std.specs.List.{range_with_len}
+use Rattle.std.specs.List.{range_with_len, AllByRecursion}
 use Rattle.std.proofs.Common.{zero}
-use Rattle.orc_history.specs.Journals.{Every}
 use Rattle.orc_history.specs.declared.queue.QueueEntry.{QueueEntry}
 use Rattle.orc_history.specs.declared.queue.QueueEntry.TheVariants.{Empty}
 use Rattle.orc_history.specs.declared.queue.QueueRefused.{QueueRefused}
@@ -95,7 +94,7 @@ takes_of taker takes = filter (λ (r : TakeReply). r.taker == taker) takes
 -- the replies of posters 1 to P, of each one for each of its records in file order; then those of takers 0 to T
 pub record AreInOrder (lines : List Line) (posters takers : ℕ) (posts : List PostReply) (takes : List TakeReply) : Type 0 where
   pub by_poster : posts ≡ by_key (λ (r : PostReply). r.poster) (suc posters) posts
-  pub none_of_zero : Every (λ (r : PostReply). 1 ≤ r.poster) posts
+  pub none_of_zero : AllByRecursion (λ (r : PostReply). 1 ≤ r.poster) posts
   pub in_file_order : (p : ℕ) → 1 ≤ p → p ≤ posters → map (λ (r : PostReply). r.line) (posts_of p posts) ≡ own_records posters p (length lines)
   pub by_taker : takes ≡ by_key (λ (r : TakeReply). r.taker) (suc takers) takes
 
@@ -104,15 +103,15 @@ pub record ZeroLast {E : Type 0} (agent_of : E → ℕ) (history : List E) : Typ
   pub front : List E
   pub back : List E
   pub is : history ≡ front ++ back
-  pub others : Every (λ e. agent_of e ≢ 0) front
-  pub zeros : Every (λ e. agent_of e ≡ 0) back
+  pub others : AllByRecursion (λ e. agent_of e ≢ 0) front
+  pub zeros : AllByRecursion (λ e. agent_of e ≡ 0) back
 
 -- the last entry of this agent is an Empty
 pub record LastIsEmpty (agent : ℕ) (history : List QueueEntry) : Type 0 where
   pub front : List QueueEntry
   pub back : List QueueEntry
   pub is : history ≡ front ++ Empty agent ∷ back
-  pub others : Every (λ e. agent_of_entry e ≢ agent) back
+  pub others : AllByRecursion (λ e. agent_of_entry e ≢ agent) back
 
 -- each worker did what its replies stand for, beside no agent but the workers; agent 0 comes last; and a taker from 1 on that has
 -- fewer replies than there are Posts found the queue empty after its last Took
@@ -129,4 +128,4 @@ pub record WorkersFollow {A B : Type 0} (q : View A QueueEntry QueueRefused) (s 
 -- the replies follow the two journals, and no position ran out
 pub record Follows {A B : Type 0} (q : View A QueueEntry QueueRefused) (s : View B SetEntry ListRefused) (lines : List Line) (posters takers : ℕ) (posts : List PostReply) (takes : List TakeReply) (k : List A) (n : List B) : Type 0 where
   pub workers : WorkersFollow q s lines posters takers posts takes k n
-  pub no_positions : Every (λ (r : PostReply). r.what ≢ word.Positions) posts
+  pub no_positions : AllByRecursion (λ (r : PostReply). r.what ≢ word.Positions) posts

@@ -1,8 +1,7 @@
 -- What the report asks of replies.
 use Rattle.std.specs.Prelude.{◌≡◌, ℕ, ◌<◌, List, [], ◌∷◌, ◌++◌, length, map, ◌==◌}
-use Rattle.std.specs.List.{range_with_len, IsDistinct}
+use Rattle.std.specs.List.{range_with_len, IsDistinct, AllByRecursion}
 use Rattle.std.specs.List.Sorted.{IsPermutation, IsStrictlyIncreasing}
-use Rattle.orc_history.specs.Journals.{Every}
 use Rattle.orc_jobs.specs.declared.line.Line.{Line}
 use Rattle.orc_board.specs.declared.replies.PostReply.{PostReply}
 use Rattle.orc_board.specs.declared.replies.PostWord.{PostWord}
@@ -38,9 +37,9 @@ pub record AreReportable (lines : List Line) (posts : List PostReply) (takes : L
   pub different : IsDistinct (λ x y. x == y) (map (λ (x : ℕ × ℕ). x.0) (posted_of posts))
   -- each of these positions stands in exactly one take reply, with the line of the Posted reply, and there is no other take reply
   pub claims : IsPermutation (posted_of posts) (map claim_of takes)
-  pub claimed : Every (IsClaim lines) takes
+  pub claimed : AllByRecursion (IsClaim lines) takes
   -- the lines of all replies exist
-  pub lines_exist : Every (λ (r : PostReply). r.line < length lines) posts
+  pub lines_exist : AllByRecursion (λ (r : PostReply). r.line < length lines) posts
   -- the replies stand in order of poster, of each one in file order, and in order of taker
   pub by_poster : (n : ℕ) × (posts ≡ by_key (λ (r : PostReply). r.poster) n posts)
   pub in_file_order : (p : ℕ) → IsStrictlyIncreasing (map (λ (r : PostReply). r.line) (posts_of p posts))

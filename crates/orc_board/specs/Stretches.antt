@@ -1,7 +1,8 @@
 -- Stretches of a container's journal, and what a worker adds in them.
 use Rattle.std.specs.Prelude.{◌≡◌, ℕ, List, [], ◌∷◌, ◌++◌, length, Bool, false, filter, ◌==◌, ◌⊎◌, Option, Some, None}
 use mathlib.Core.List.{IsPrefix}
-use Rattle.orc_history.specs.Journals.{Every, Within}
+use Rattle.orc_history.specs.Journals.{Within}
+use Rattle.std.specs.List.{AllByRecursion}
 use Rattle.orc_history.specs.declared.queue.QueueEntry.{QueueEntry}
 use Rattle.orc_history.specs.declared.queue.QueueEntry.TheVariants.{Put, Took, Empty}
 use Rattle.orc_history.specs.declared.queue.QueueRefused.{QueueRefused}
@@ -11,6 +12,7 @@ use Rattle.orc_history.specs.declared.set.ListRefused.{ListRefused}
 use Rattle.orc_history.specs.declared.set.SharedSet.{Ghosts as SetOf}
 use Rattle.orc_history.specs.QueueHistory.{agent_of_entry}
 use Rattle.orc_history.specs.SetHistory.{agent_of_set_entry}
+use Rattle.orc_board.specs.declared.again.TheConstants.{TURNS}
 
 -- what the definitions see of a container with these steps, entries and refusals: the history of a journal, what licenses a
 -- refusal of an agent at two places of a journal, and the agents whose entries may stand between those of another
@@ -19,14 +21,14 @@ pub record View (A E W : Type 0) : Type 1 where
   pub licence : ℕ → W → List A → ℕ → ℕ → Type 0
   pub crowd : ℕ → Type 0
 
--- the view of this queue, and of this set, whose calls have 64 turns
+-- the view of this queue, and of this set, whose calls have so many turns
 abbrev pub queue_view : {Q P A : Type 0} → QueueOf Q P A → Q → View A QueueEntry QueueRefused
 queue_view members queue =
-    record { history = members.history queue; licence = λ agent why. members.licence queue agent 64 why; crowd = members.crowd queue }
+    record { history = members.history queue; licence = λ agent why. members.licence queue agent TURNS why; crowd = members.crowd queue }
 
 abbrev pub set_view : {S P A : Type 0} → SetOf S P A → S → View A SetEntry ListRefused
 set_view members set =
-    record { history = members.history set; licence = λ agent why. members.licence set agent 64 why; crowd = members.crowd set }
+    record { history = members.history set; licence = λ agent why. members.licence set agent TURNS why; crowd = members.crowd set }
 
 -- the same container, with these agents beside the worker
 abbrev pub beside : {A E W : Type 0} → View A E W → (ℕ → Type 0) → View A E W
@@ -63,7 +65,7 @@ pub record Stretch {A E W : Type 0} (kind : Kind E) (x : View A E W) (worker : �
   pub part : List E
   pub is : x.history k ≡ x.history j ++ part
   pub own_is : filter (kind.is_own worker) part ≡ own
-  pub others : Every (MayStand kind x worker) part
+  pub others : AllByRecursion (MayStand kind x worker) part
 
 -- what a reply says of one container: the worker's own entries, and a refusal
 pub record Share (E W : Type 0) : Type 0 where

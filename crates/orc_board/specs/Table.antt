@@ -1,6 +1,6 @@
 -- The table of replies: what a worker did in the two containers for each line and reply.
 use Rattle.std.specs.Prelude.{◌≡◌, ◌≢◌, ℕ, List, [], ◌∷◌, ◌++◌, Bool, true, false, ◌⊎◌, Option, Some, None, slice_get}
-use Rattle.orc_history.specs.Journals.{Every}
+use Rattle.std.specs.List.{AllByRecursion}
 use Rattle.orc_history.specs.declared.queue.QueueEntry.{QueueEntry}
 use Rattle.orc_history.specs.declared.queue.QueueEntry.TheVariants.{Put, Took, Empty}
 use Rattle.orc_history.specs.declared.queue.QueueRefused.{QueueRefused}
@@ -84,13 +84,13 @@ pub record IsSkip (lines : List Line) (agent : ℕ) (e : QueueEntry) : Type 0 wh
 -- the row of a take that claimed line i, after the jobs that it passed over
 pub record TakeRow (lines : List Line) (agent i at : ℕ) (what : TakeWord) (row : Row) : Type 0 where
   pub skipped : List QueueEntry
-  pub skips : Every (IsSkip lines agent) skipped
+  pub skips : AllByRecursion (IsSkip lines agent) skipped
   pub claim : ClaimRow lines agent skipped i at what row
 
 -- the row of a take that found nothing: only jobs that were passed over
 pub record SkipRow (lines : List Line) (agent : ℕ) (row : Row) : Type 0 where
   pub skipped : List QueueEntry
-  pub skips : Every (IsSkip lines agent) skipped
+  pub skips : AllByRecursion (IsSkip lines agent) skipped
   pub is : row ≡ record { queue = just skipped; set = nothing }
 
 -- the rows of what a take answered
@@ -118,11 +118,11 @@ pub record EndsWith {A : Type 0} (q : View A QueueEntry QueueRefused) (agent : �
   pub front : List QueueEntry
   pub back : List QueueEntry
   pub is : q.history k ≡ q.history j ++ (front ++ entry ∷ back)
-  pub others : Every (λ e. (agent_of_entry e ≢ agent) × q.crowd (agent_of_entry e)) back
+  pub others : AllByRecursion (λ e. (agent_of_entry e ≢ agent) × q.crowd (agent_of_entry e)) back
 
 -- the history ends in an Empty of this agent and then entries of others alone
 pub record EndsEmpty {A : Type 0} (q : View A QueueEntry QueueRefused) (agent : ℕ) (k : List A) : Type 0 where
   pub front : List QueueEntry
   pub back : List QueueEntry
   pub is : q.history k ≡ front ++ Empty agent ∷ back
-  pub others : Every (λ e. (agent_of_entry e ≢ agent) × q.crowd (agent_of_entry e)) back
+  pub others : AllByRecursion (λ e. (agent_of_entry e ≢ agent) × q.crowd (agent_of_entry e)) back

@@ -10,12 +10,12 @@ ghost use Rattle.orc_board.specs.Table.{EndsWith, took_of};
 
 use orc_history::{ListRefused, QueueRefused, SharedQueue, SharedSet};
 use std::sync::Wait;
-use std::thread::Threads;
 
-const TURNS: u64 = 64;
+/// How many turns each call of a container has.
+pub const TURNS: u64 = 64;
 
 // Inserts the key.
-pub(crate) fn insert_key<R: Threads + Wait + Sync, S: SharedSet>(
+pub(crate) fn insert_key<R: Wait, S: SharedSet>(
     rt: &R,
     set: &S,
     p: &mut S::Pass,
@@ -40,7 +40,7 @@ pub(crate) fn insert_key<R: Threads + Wait + Sync, S: SharedSet>(
 }
 
 // Removes the key.
-pub(crate) fn remove_key<R: Threads + Wait + Sync, S: SharedSet>(
+pub(crate) fn remove_key<R: Wait, S: SharedSet>(
     rt: &R,
     set: &S,
     p: &mut S::Pass,
@@ -61,7 +61,7 @@ pub(crate) fn remove_key<R: Threads + Wait + Sync, S: SharedSet>(
 }
 
 // Puts the job.
-pub(crate) fn put_job<R: Threads + Wait + Sync, Q: SharedQueue>(
+pub(crate) fn put_job<R: Wait, Q: SharedQueue>(
     rt: &R,
     queue: &Q,
     p: &mut Q::Pass,
@@ -86,7 +86,7 @@ pub(crate) fn put_job<R: Threads + Wait + Sync, Q: SharedQueue>(
 }
 
 // Takes a job, or finds none.
-pub(crate) fn take_job<R: Threads + Wait + Sync, Q: SharedQueue>(
+pub(crate) fn take_job<R: Wait, Q: SharedQueue>(
     rt: &R,
     queue: &Q,
     p: &mut Q::Pass,

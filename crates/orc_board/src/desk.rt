@@ -4,14 +4,13 @@ ghost use Rattle.orc_jobs.specs.Line.{IsPost, IsDrop};
 ghost use Rattle.orc_jobs.specs.GoodLines.{AreGood};
 ghost use Rattle.orc_board.specs.Desk.{IsDesk};
 ghost use Rattle.orc_board.specs.Stretches.{queue_view, set_view, Replied};
-ghost use Rattle.orc_board.specs.Table.{PostRow, JobRow, TakenRow, IsJob, IsNoJob, Closes, EndsWith, last_of};
+ghost use Rattle.orc_board.specs.Table.{PostRow, JobRow, DropRow, TakenRow, IsJob, IsNoJob, Closes, EndsWith, last_of};
 
 use crate::again::{insert_key, put_job, remove_key, take_job};
 use crate::{PostReply, PostWord, TakeReply, TakeWord};
 use orc_history::{ListRefused, QueueRefused, SharedQueue, SharedSet};
 use orc_jobs::{Line, Lines, job_value};
 use std::sync::Wait;
-use std::thread::Threads;
 
 /// A worker's two passes.
 #[derive(Drop)]
@@ -21,7 +20,7 @@ pub struct Desk<A, B> {
 }
 
 /// Opens the id of a line that is a Post, and then puts its number. Where the number can't be put, the id is closed again.
-pub fn post_line<R: Threads + Wait + Sync, Q: SharedQueue, S: SharedSet>(
+pub fn post_line<R: Wait, Q: SharedQueue, S: SharedSet>(
     rt: &R,
     queue: &Q,
     set: &S,
@@ -39,19 +38,11 @@ pub fn post_line<R: Threads + Wait + Sync, Q: SharedQueue, S: SharedSet>(
         (Q.journal desk.old.queue) (S.journal desk.old.set)
         (Q.journal desk.new.queue) (S.journal desk.new.set) }
 {
-    let what = match line {
-        Line::Post { id, .. } => post_job(rt, queue, set, desk, poster, index, *id),
-        Line::Drop { .. } => unreachable!(),
-    };
-    PostReply {
-        poster,
-        line: index,
-        what,
-    }
+    reply_to(rt, queue, set, desk, poster, index, line)
 }
 
 /// Closes the id of a line that is a Drop.
-pub fn drop_line<R: Threads + Wait + Sync, Q: SharedQueue, S: SharedSet>(
+pub fn drop_line<R: Wait, Q: SharedQueue, S: SharedSet>(
     rt: &R,
     queue: &Q,
     set: &S,
@@ -69,25 +60,11 @@ pub fn drop_line<R: Threads + Wait + Sync, Q: SharedQueue, S: SharedSet>(
         (Q.journal desk.old.queue) (S.journal desk.old.set)
         (Q.journal desk.new.queue) (S.journal desk.new.set) }
 {
-    let _ = queue;
-    let id = match line {
-        Line::Drop { id } => *id,
-        Line::Post { .. } => unreachable!(),
-    };
-    let what = if remove_key(rt, set, &mut desk.set, id as u64) {
-        PostWord::Dropped
-    } else {
-        PostWord::Unknown
-    };
-    PostReply {
-        poster,
-        line: index,
-        what,
-    }
+    reply_to(rt, queue, set, desk, poster, index, line)
 }
 
 /// Takes jobs until one is the number of a Post, and closes that line's id; or finds the queue empty. Other jobs are passed over.
-pub fn take_one<R: Threads + Wait + Sync, Q: SharedQueue, S: SharedSet>(
+pub fn take_one<R: Wait, Q: SharedQueue, S: SharedSet>(
     rt: &R,
     queue: &Q,
     set: &S,
@@ -121,8 +98,37 @@ pub fn take_one<R: Threads + Wait + Sync, Q: SharedQueue, S: SharedSet>(
     unreachable!()
 }
 
+// Works through one record, by its kind.
+pub(crate) fn reply_to<R: Wait, Q: SharedQueue, S: SharedSet>(
+    rt: &R,
+    queue: &Q,
+    set: &S,
+    desk: &mut Desk<Q::Pass, S::Pass>,
+    poster: u32,
+    index: u32,
+    line: &Line,
+) -> PostReply
+    requires { IsDesk Q.SharedQueue S.SharedSet queue.now set.now poster desk.old }
+    ensures desk { IsDesk Q.SharedQueue S.SharedSet queue.now set.now poster desk.new }
+    ensures reply { (result.poster ≡ poster) × (result.line ≡ index) }
+    ensures row { Replied (queue_view Q.SharedQueue queue.now) (set_view S.SharedSet set.now)
+        (PostRow poster index line.now result.what) poster
+        (Q.journal desk.old.queue) (S.journal desk.old.set)
+        (Q.journal desk.new.queue) (S.journal desk.new.set) }
+{
+    let what = match line {
+        Line::Post { id, .. } => post_job(rt, queue, set, desk, poster, index, *id),
+        Line::Drop { id } => drop_id(rt, queue, set, desk, poster, *id),
+    };
+    PostReply {
+        poster,
+        line: index,
+        what,
+    }
+}
+
 // Opens the id and puts the job.
-fn post_job<R: Threads + Wait + Sync, Q: SharedQueue, S: SharedSet>(
+fn post_job<R: Wait, Q: SharedQueue, S: SharedSet>(
     rt: &R,
     queue: &Q,
     set: &S,
@@ -158,6 +164,30 @@ fn post_job<R: Threads + Wait + Sync, Q: SharedQueue, S: SharedSet>(
     }
 }
 
+// Closes the id.
+fn drop_id<R: Wait, Q: SharedQueue, S: SharedSet>(
+    rt: &R,
+    queue: &Q,
+    set: &S,
+    desk: &mut Desk<Q::Pass, S::Pass>,
+    poster: u32,
+    id: u32,
+) -> PostWord
+    requires { IsDesk Q.SharedQueue S.SharedSet queue.now set.now poster desk.old }
+    ensures desk { IsDesk Q.SharedQueue S.SharedSet queue.now set.now poster desk.new }
+    ensures row { Replied (queue_view Q.SharedQueue queue.now) (set_view S.SharedSet set.now)
+        (DropRow poster id result) poster
+        (Q.journal desk.old.queue) (S.journal desk.old.set)
+        (Q.journal desk.new.queue) (S.journal desk.new.set) }
+{
+    let _ = queue;
+    if remove_key(rt, set, &mut desk.set, id as u64) {
+        PostWord::Dropped
+    } else {
+        PostWord::Unknown
+    }
+}
+
 // The id of the job with this number, if the line with this number posts one.
 fn posted_id(lines: &Lines, job: u64) -> Option<u32>
     requires { AreGood lines.now }
@@ -174,7 +204,7 @@ fn posted_id(lines: &Lines, job: u64) -> Option<u32>
 }
 
 // Closes the opening of a job that was taken.
-fn close_job<R: Threads + Wait + Sync, S: SharedSet>(
+fn close_job<R: Wait, S: SharedSet>(
     rt: &R,
     set: &S,
     p: &mut S::Pass,

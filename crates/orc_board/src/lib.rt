@@ -10,6 +10,7 @@ mod replies;
 #[cfg(test)]
 mod tests;
 
+pub use again::TURNS;
 pub use desk::{Desk, drop_line, post_line, take_one};
 pub use gate::{Gate, OpenGate};
 pub use lists::{PostList, ReplyList, TakeList};

@@ -36,10 +36,8 @@ impl<T: Drop> ReplyList<T> {
     pub fn new(alloc: Global, room: u32) -> Result<Self, NoMemory>
         ensures { IfOk result (λ l. (l.items ≡ []) × (l.spare ≡ room)) }
     {
-        match Vec::with_capacity(alloc, room as usize) {
-            Ok(items) => Ok(ReplyList { items, spare: room }),
-            Err(_) => Err(NoMemory),
-        }
+        let items = Vec::with_capacity(alloc, room as usize)?;
+        Ok(ReplyList { items, spare: room })
     }
 
     /// Appends a reply, and takes no memory.

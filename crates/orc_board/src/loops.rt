@@ -3,18 +3,18 @@ ghost use Rattle.std.specs.Prelude.{◌≡◌, ◌≤◌, ◌+◌, [], length, m
 ghost use Rattle.orc_history.specs.declared.queue.QueueEntry.{QueueEntry};
 ghost use Rattle.orc_jobs.specs.GoodLines.{AreGood};
 ghost use Rattle.orc_board.specs.Desk.{IsDesk};
-ghost use Rattle.orc_board.specs.Stretches.{queue_view, set_view, Replied};
-ghost use Rattle.orc_board.specs.Table.{PostRow, EndsEmpty, EndsWith};
+ghost use Rattle.orc_board.specs.Stretches.{queue_view, set_view};
+ghost use Rattle.orc_board.specs.Table.{EndsEmpty, EndsWith};
 ghost use Rattle.orc_board.specs.Follows.{Posting, TakingRest, own_records};
 
-use crate::{Desk, Gate, PostList, PostReply, TakeList, drop_line, post_line, take_one};
+use crate::desk::reply_to;
+use crate::{Desk, Gate, PostList, TakeList, take_one};
 use orc_history::{SharedQueue, SharedSet};
-use orc_jobs::{Line, Lines};
+use orc_jobs::Lines;
 use std::sync::Wait;
-use std::thread::Threads;
 
 /// Works through the records of a poster in file order: record i belongs to poster 1 + (i mod `posters`).
-pub fn run_poster<R: Threads + Wait + Sync, Q: SharedQueue, S: SharedSet, G: Gate>(
+pub fn run_poster<R: Wait, Q: SharedQueue, S: SharedSet, G: Gate>(
     rt: &R,
     queue: &Q,
     set: &S,
@@ -41,13 +41,13 @@ pub fn run_poster<R: Threads + Wait + Sync, Q: SharedQueue, S: SharedSet, G: Gat
     for index in 0..lines.len() {
         if index as u32 % posters == poster - 1 {
             gate.before(poster, replies.len() as u64);
-            replies.push(work_line(rt, queue, set, desk, poster, index as u32, lines.get(index)));
+            replies.push(reply_to(rt, queue, set, desk, poster, index as u32, lines.get(index)));
         }
     }
 }
 
 /// Takes jobs until the queue is empty, or until the room is used up, and answers whether it was empty.
-pub fn take_rest<R: Threads + Wait + Sync, Q: SharedQueue, S: SharedSet, G: Gate>(
+pub fn take_rest<R: Wait, Q: SharedQueue, S: SharedSet, G: Gate>(
     rt: &R,
     queue: &Q,
     set: &S,
@@ -84,28 +84,4 @@ pub fn take_rest<R: Threads + Wait + Sync, Q: SharedQueue, S: SharedSet, G: Gate
         }
     }
     unreachable!()
-}
-
-// Works through one record.
-fn work_line<R: Threads + Wait + Sync, Q: SharedQueue, S: SharedSet>(
-    rt: &R,
-    queue: &Q,
-    set: &S,
-    desk: &mut Desk<Q::Pass, S::Pass>,
-    poster: u32,
-    index: u32,
-    line: &Line,
-) -> PostReply
-    requires { IsDesk Q.SharedQueue S.SharedSet queue.now set.now poster desk.old }
-    ensures desk { IsDesk Q.SharedQueue S.SharedSet queue.now set.now poster desk.new }
-    ensures reply { (result.poster ≡ poster) × (result.line ≡ index) }
-    ensures row { Replied (queue_view Q.SharedQueue queue.now) (set_view S.SharedSet set.now)
-        (PostRow poster index line.now result.what) poster
-        (Q.journal desk.old.queue) (S.journal desk.old.set)
-        (Q.journal desk.new.queue) (S.journal desk.new.set) }
-{
-    match line {
-        Line::Post { .. } => post_line(rt, queue, set, desk, poster, index, line),
-        Line::Drop { .. } => drop_line(rt, queue, set, desk, poster, index, line),
-    }
 }

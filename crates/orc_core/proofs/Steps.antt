@@ -3,11 +3,11 @@ use Rattle.std.proofs.Common.{◌≡◌, ◌≢◌, ℕ, ◌<◌, Bool, true, fa
 use Rattle.std.specs.Prelude.{Option, Some, None, ◌↔◌, ◌==◌, slice_index_or, slice_set}
 use Rattle.std.proofs.Math.ListN.{length-replicate}
 use Rattle.std.proofs.lemmas.List.{length-set}
-use Rattle.std.proofs.lemmas.List.FromFn.{length-map-range_with_len}
 use Rattle.std.proofs.lemmas.Bool.{eqb-true, eq-eqb, false≢true}
 use Rattle.orc_words.specs.declared.place.Word.{Word}
 use Rattle.orc_words.specs.Bounds.{Bounds, IsShape}
-use Rattle.orc_words.specs.Places.{IsWithin, place, places}
+use Rattle.orc_words.specs.Places.{IsWithin, place}
+use Rattle.orc_words.proofs.NewWords.{new_words_long}
 use Rattle.orc_words.proofs.Positions.{place_below, same_place}
 use Rattle.orc_core.specs.declared.records.Agent.{Agent}
 use Rattle.orc_core.specs.declared.ops.Op.{Op}
@@ -15,9 +15,10 @@ use Rattle.orc_core.specs.declared.ops.Op.TheVariants.{SetRetired, CounterLoad, 
 use Rattle.orc_core.specs.declared.ops.CounterUse.TheVariants.{Check, Start, End}
 use Rattle.orc_words.specs.Packed.{named}
 use Rattle.orc_core.specs.Listed.{Listed, listed_name}
-use Rattle.orc_core.specs.Actions.{action_of, word_after}
+use Rattle.orc_words.specs.Operations.{word_after}
+use Rattle.orc_core.specs.Actions.{action_of}
 use Rattle.orc_core.specs.After.{after}
-use Rattle.orc_core.specs.Machine.{Machine, IsWhole, EachWithRoom, first_word, is_allowed, new_machine, nobody, record_at, step, word_in, word_read}
+use Rattle.orc_core.specs.Machine.{Machine, IsWhole, EachWithRoom, is_allowed, new_machine, nobody, record_at, step, word_in, word_read}
 use Rattle.orc_core.specs.Runs.{run, IsLawful}
 use Rattle.orc_core.proofs.Within.{may_within, room_of_nobody}
 
@@ -57,7 +58,7 @@ step_whole m a op whole = record {
 new_whole : (b : Bounds) → IsShape b → IsWhole (new_machine b)
 new_whole b shape = record {
   shape = shape;
-  words = length-map-range_with_len (first_word b) 0 (places b);
+  words = new_words_long b;
   agents = length-replicate b.agents (nobody b.rows);
   rooms = room_of_nobody b.agents b.rows;
 }

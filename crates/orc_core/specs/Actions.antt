@@ -2,43 +2,17 @@
 -- agent's number, the op and the agent's record.
 -- Michael and Scott 1996 and Harris 2001 for the links, OrcGC (Correia, Ramalhete and Felber 2021) for the
 -- counter words, slots and handovers; the order and conditions are this project's own.
-use Rattle.std.specs.Prelude.{ℕ, ◌+◌, ◌*◌, ◌/◌, ◌%◌, ◌-◌, ◌^◌, ◌<◌, cond, ◌==◌}
+use Rattle.std.specs.Prelude.{ℕ, ◌+◌, ◌*◌, ◌/◌, ◌%◌, ◌^◌, ◌<◌, cond, ◌==◌}
 use Rattle.std.specs.Option.{ForSome}
 use Rattle.orc_words.specs.declared.packed.TheConstants.{INCREMENT, DECREMENT, RETIRED}
 use Rattle.orc_words.specs.declared.place.Word.TheVariants.{Enrolled, Gate, Counter, First, Second, Next, Slot, Handover}
 use Rattle.orc_words.specs.Packed.{link_word}
 use Rattle.orc_core.specs.declared.records.Agent.{Agent}
-use Rattle.orc_core.specs.declared.actions.Operation.{Operation}
-use Rattle.orc_core.specs.declared.actions.Operation.TheVariants.{Load, Store, Swap, Add, Sub, CompareExchange}
+use Rattle.orc_words.specs.declared.operation.Operation.TheVariants.{Load, Store, Swap, Add, Sub, CompareExchange}
 use Rattle.orc_core.specs.declared.actions.Action.{Action}
 use Rattle.orc_core.specs.declared.ops.Op.{Op}
 use Rattle.orc_core.specs.declared.ops.Op.TheVariants.{Enroll, GateLook, GateTake, Fill, Read, LinkLoad, Publish, Clear, Arm, LinkCas, LinkStore, Inc, Dec, SetRetired, CounterLoad, Unretire, SlotLook, Hand, TakeIn, Free}
 use Rattle.orc_core.specs.RecordParts.{number_of, scanned}
-
--- the sum and the difference of words of 64 bits
-abbrev pub word_add : ℕ → ℕ → ℕ
-word_add w v = (w + v) % 18446744073709551616
-
-abbrev pub word_sub : ℕ → ℕ → ℕ
-word_sub w v = (w + (18446744073709551616 - v)) % 18446744073709551616
-
--- the word after an operation
-abbrev pub word_after : Operation → ℕ → ℕ
-word_after Load w = w
-word_after (Store v) w = v
-word_after (Swap v) w = v
-word_after (Add v) w = word_add w v
-word_after (Sub v) w = word_sub w v
-word_after (CompareExchange e v) w = cond (w == e) v w
-
--- what a step answers: what it read, what a store wrote, or 1 or 0 as a compare_exchange succeeded or not
-abbrev pub answer_of : Operation → ℕ → ℕ
-answer_of Load w = w
-answer_of (Store v) w = v
-answer_of (Swap v) w = w
-answer_of (Add v) w = w
-answer_of (Sub v) w = w
-answer_of (CompareExchange e v) w = cond (w == e) 1 0
 
 -- the counter word with count 0, no bit and this sequence
 abbrev pub clear_word : ℕ → ℕ

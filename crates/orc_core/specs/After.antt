@@ -16,7 +16,8 @@ use Rattle.orc_core.specs.declared.ops.Op.{Op}
 use Rattle.orc_core.specs.declared.ops.Op.TheVariants.{Enroll, GateLook, GateTake, Fill, Read, LinkLoad, Publish, Clear, Arm, LinkCas, LinkStore, Inc, Dec, SetRetired, CounterLoad, Unretire, SlotLook, Hand, TakeIn, Free}
 use Rattle.orc_core.specs.Listed.{Listed, listed_more, listed_rest, listed_name}
 use Rattle.orc_core.specs.RecordParts.{names, same_target, number_of, is_clear, kept}
-use Rattle.orc_core.specs.Actions.{word_add, word_sub, clear_word}
+use Rattle.orc_words.specs.Operations.{word_add, word_sub}
+use Rattle.orc_core.specs.Actions.{clear_word}
 
 -- the row is due where its new counter word w has count 0 and no bit
 abbrev pub due_after : ℕ → ℕ → Option Reading → Option Reading

@@ -1,15 +1,15 @@
 -- The state of the machine, and one step of it.
-use Rattle.std.specs.Prelude.{◌≡◌, ℕ, ◌+◌, ◌*◌, ◌-◌, ◌%◌, ◌<◌, ◌≤◌, Bool, true, false, cond, ◌==◌, ◌&&◌, nat_lt, nat_le, None, List, [], map, replicate, length, slice_index, slice_index_or, slice_set}
-use Rattle.std.specs.List.{range_with_len}
+use Rattle.std.specs.Prelude.{◌≡◌, ℕ, ◌<◌, ◌≤◌, Bool, true, false, nat_lt, None, List, [], replicate, length, slice_index, slice_index_or, slice_set}
 use Rattle.orc_words.specs.declared.place.Word.{Word}
 use Rattle.orc_words.specs.declared.place.Word.TheVariants.{Enrolled}
-use Rattle.orc_words.specs.declared.packed.TheConstants.{NEW_COUNTER}
 use Rattle.orc_words.specs.Bounds.{Bounds, IsShape}
+use Rattle.orc_words.specs.NewWords.{new_words}
 use Rattle.orc_words.specs.Places.{place, places}
 use Rattle.orc_core.specs.declared.records.Agent.{Agent}
 use Rattle.orc_core.specs.declared.records.SlotUse.TheVariants.{Empty}
 use Rattle.orc_core.specs.declared.ops.Op.{Op}
-use Rattle.orc_core.specs.Actions.{action_of, word_after, answer_of}
+use Rattle.orc_words.specs.Operations.{word_after, answer_of}
+use Rattle.orc_core.specs.Actions.{action_of}
 use Rattle.orc_core.specs.After.{after}
 use Rattle.orc_core.specs.Allowed.{may}
 
@@ -83,9 +83,6 @@ LeavesRoom m a op = is_allowed m a op ≡ true → length (after op (record_at m
 abbrev pub has_room : Machine → ℕ → Bool
 has_room m a = nat_lt (length (record_at m a).list.items) m.bounds.rows
 
--- what a place holds at first: the counter of a new row where one stands there, else 0
-abbrev pub first_word : Bounds → ℕ → ℕ
-first_word b p = cond (nat_le (1 + b.roots) p && nat_lt p (1 + b.roots + 5 * b.rows) && ((p - (1 + b.roots)) % 5 == 1)) NEW_COUNTER 0
-
+-- a new table's words, and empty records
 abbrev pub new_machine : Bounds → Machine
-new_machine b = record { bounds = b; words = map (first_word b) (range_with_len 0 (places b)); agents = replicate b.agents (nobody b.rows) }
+new_machine b = record { bounds = b; words = new_words b; agents = replicate b.agents (nobody b.rows) }

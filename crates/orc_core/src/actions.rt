@@ -1,60 +1,18 @@
 //! The first part of a step: the word that a kind works on, and what it does there.
 
 ghost use Rattle.std.specs.Prelude.{◌≡◌, ◌<◌, ◌^◌, cond, ◌==◌};
-ghost use Rattle.orc_core.specs.Actions.{IsPackable, action_of, answer_of, clear_word, word_after};
+ghost use Rattle.orc_core.specs.Actions.{IsPackable, action_of, clear_word};
 
 use crate::ops::Op;
-use crate::parts::{SEQUENCE, number_of, scanned};
+use crate::parts::{SEQUENCE, scanned};
 use crate::records::Agent;
-use orc_words::{DECREMENT, INCREMENT, NEW_COUNTER, RETIRED, Word, pack_link};
-
-/// What a step does to its word, as one atomic operation.
-#[derive(Clone, Copy, Debug, PartialEq, Eq)]
-pub enum Operation {
-    Load,
-    Store(u64),
-    Swap(u64),
-    Add(u64),
-    Sub(u64),
-    /// Where the word is the first number, the second takes its place.
-    CompareExchange(u64, u64),
-}
+use orc_words::{DECREMENT, INCREMENT, NEW_COUNTER, Operation, RETIRED, Word, pack_link};
 
 /// A word, and what is done to it.
 #[derive(Clone, Copy, Debug, PartialEq, Eq)]
 pub struct Action {
     pub word: Word,
     pub operation: Operation,
-}
-
-impl Operation {
-    /// The word after the operation.
-    pub fn word_after(&self, word: u64) -> u64
-        ensures { result ≡ word_after self.now word }
-    {
-        match self {
-            Operation::Load => word,
-            Operation::Store(new) | Operation::Swap(new) => *new,
-            Operation::Add(step) => word.wrapping_add(*step),
-            Operation::Sub(step) => word.wrapping_sub(*step),
-            Operation::CompareExchange(expected, new) => if word == *expected {
-                *new
-            } else {
-                word
-            },
-        }
-    }
-
-    /// What a step answers that read this word.
-    pub fn answer(&self, word: u64) -> u64
-        ensures { result ≡ answer_of self.now word }
-    {
-        match self {
-            Operation::Store(new) => *new,
-            Operation::Load | Operation::Swap(_) | Operation::Add(_) | Operation::Sub(_) => word,
-            Operation::CompareExchange(expected, _) => u64::from(word == *expected),
-        }
-    }
 }
 
 impl Action {
@@ -65,7 +23,7 @@ impl Action {
     }
 }
 
-/// The counter word with count 0, no retired bit and this sequence.
+// The counter word with count 0, no retired bit and this sequence.
 pub(crate) fn clear_word(sequence: u64) -> u64
     requires { sequence < 2 ^ 40 }
     ensures { result ≡ clear_word sequence }
@@ -73,7 +31,7 @@ pub(crate) fn clear_word(sequence: u64) -> u64
     sequence * SEQUENCE + NEW_COUNTER
 }
 
-/// The first or the second value of a row.
+// The first or the second value of a row.
 fn value_word(row: u32, which: u32) -> Word
     ensures { result ≡ cond (which == 0) (Word.First row) (Word.Second row) }
 {
@@ -95,7 +53,7 @@ pub fn action_of(number: u32, op: &Op, agent: &Agent) -> Action
         Op::Enroll => Action::new(Word::Enrolled, Add(1)),
         Op::GateLook { row } => Action::new(Word::Gate(*row), Load),
         Op::GateTake { row } => {
-            let life = number_of(agent.looked);
+            let life = agent.life_seen();
             Action::new(
                 Word::Gate(*row),
                 CompareExchange(2 * life, 2 * (life + 1) + 1),

@@ -7,9 +7,9 @@ ghost use Rattle.orc_core.specs.Counts.{census_of, handovers, is_out, is_next_ta
 
 use crate::counts::Census;
 use crate::state::State;
-use orc_words::{RETIRED, Word, named};
+use orc_words::{Word, named};
 
-/// The greatest number of rows.
+// The greatest number of rows.
 const MOST_ROWS: usize = 65_535;
 
 /// The counts of this state. It takes no memory.
@@ -25,27 +25,13 @@ pub fn census(state: &State) -> Census
     }
 }
 
-fn is_out(state: &State, row: u32) -> bool
-    requires { row < state.now.bounds.rows }
-    ensures { result ≡ is_out state.now row }
-{
-    state.word(Word::Gate(row)) % 2 == 1
-}
-
-fn is_retired(state: &State, row: u32) -> bool
-    requires { row < state.now.bounds.rows }
-    ensures { result ≡ is_retired state.now row }
-{
-    state.word(Word::Counter(row)) / RETIRED % 2 == 1
-}
-
 #[tactic(auto, using(crate::proofs::Counted::count_none, crate::proofs::Counted::count_more, crate::proofs::Counted::count_all))]
 fn count_out(state: &State) -> u32
     ensures { result ≡ count_below state.now.bounds.rows (is_out state.now) }
 {
     let mut count = 0;
     for row in 0..state.shape().rows() {
-        count += u32::from(is_out(state, row));
+        count += u32::from(state.is_out(row));
     }
     count
 }
@@ -56,7 +42,7 @@ fn count_retired(state: &State) -> u32
 {
     let mut count = 0;
     for row in 0..state.shape().rows() {
-        count += u32::from(is_retired(state, row));
+        count += u32::from(state.is_retired(row));
     }
     count
 }
@@ -85,7 +71,7 @@ fn count_handed(state: &State) -> u32
     count
 }
 
-/// How many rows an agent's work list has.
+// How many rows an agent's work list has.
 fn list_length(state: &State, agent: u32) -> u32
     requires { agent < state.now.bounds.agents }
     ensures length { result ≡ length (record_at state.now agent).list.items }
@@ -107,7 +93,7 @@ fn count_listed(state: &State) -> u32
     count
 }
 
-/// Marks the target of a link word.
+// Marks the target of a link word.
 fn mark_target(marked: &mut [bool; MOST_ROWS], word: u64)
     ensures { (r : ℕ) → r < 65535 → slice_index_or marked.new r false
         ≡ (slice_index_or marked.old r false || links_to word r) }
@@ -117,7 +103,7 @@ fn mark_target(marked: &mut [bool; MOST_ROWS], word: u64)
     }
 }
 
-/// Marks the targets of the roots.
+// Marks the targets of the roots.
 fn mark_roots(state: &State, marked: &mut [bool; MOST_ROWS])
     ensures { (r : ℕ) → r < 65535 → slice_index_or marked.new r false
         ≡ (slice_index_or marked.old r false || is_root_target state.now r) }
@@ -127,19 +113,19 @@ fn mark_roots(state: &State, marked: &mut [bool; MOST_ROWS])
     }
 }
 
-/// Marks the targets of the rows that are out.
+// Marks the targets of the rows that are out.
 fn mark_rows(state: &State, marked: &mut [bool; MOST_ROWS])
     ensures { (r : ℕ) → r < 65535 → slice_index_or marked.new r false
         ≡ (slice_index_or marked.old r false || is_next_target state.now r) }
 {
     for row in 0..state.shape().rows() {
-        if is_out(state, row) {
+        if state.is_out(row) {
             mark_target(marked, state.word(Word::Next(row)));
         }
     }
 }
 
-/// The targets of all links, marked.
+// The targets of all links, marked.
 fn marked_targets(state: &State) -> [bool; MOST_ROWS]
     ensures { (r : ℕ) → r < 65535 → slice_index_or result r false ≡ is_target state.now r }
 {
@@ -156,7 +142,7 @@ fn is_linked(state: &State, marked: &[bool; MOST_ROWS], row: u32) -> bool
 {
     let shape = state.shape();
     prove!(shape.rows() <= 65_535);
-    is_out(state, row) && marked[row as usize]
+    state.is_out(row) && marked[row as usize]
 }
 
 #[tactic(auto, using(crate::proofs::Counted::count_none, crate::proofs::Counted::count_more, crate::proofs::Counted::count_all))]

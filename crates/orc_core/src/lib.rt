@@ -13,7 +13,7 @@ mod records;
 mod state;
 mod work_list;
 
-pub use actions::{Action, Operation, action_of};
+pub use actions::{Action, action_of};
 pub use counting::census;
 pub use counts::Census;
 pub use laws::{
@@ -22,6 +22,7 @@ pub use laws::{
 };
 pub use ops::{CounterUse, Op};
 pub use outcome::advance;
+pub use parts::SEQUENCE;
 pub use permission::may_step;
 pub use records::{Agent, Doom, Reading, Scan, SlotUse};
 pub use state::{NotAllowed, State, allowed, apply};

@@ -8,7 +8,7 @@ ghost use Rattle.orc_core.specs.After.{IsRecordable, after, bared, cut_of, due_a
 
 use crate::actions::clear_word;
 use crate::ops::{CounterUse, Op};
-use crate::parts::{SEQUENCE, is_clear, kept, names, number_of, same_target};
+use crate::parts::{SEQUENCE, is_clear, kept, same_target};
 use crate::records::{Agent, Doom, Reading, Scan, SlotUse};
 use orc_words::{DECREMENT, INCREMENT, RETIRED, RowLink, named, pack_link};
 
@@ -98,7 +98,7 @@ pub fn advance(agent: &mut Agent, op: &Op, read: u64)
             }
         }
         Op::Publish { slot, row } => {
-            agent.slots[*slot as usize] = if names(agent.fresh, *row) {
+            agent.slots[*slot as usize] = if agent.is_fresh(*row) {
                 SlotUse::Held(*row)
             } else {
                 SlotUse::Published(*row)
@@ -133,7 +133,7 @@ pub fn advance(agent: &mut Agent, op: &Op, read: u64)
     }
 }
 
-/// A gate was read: a free row is kept with its life.
+// A gate was read: a free row is kept with its life.
 fn gate_seen(agent: &mut Agent, row: u32, read: u64)
     ensures { agent.new ≡ after (Op.GateLook row) agent.old read }
 {
@@ -148,19 +148,19 @@ fn gate_seen(agent: &mut Agent, row: u32, read: u64)
     agent.checked = None;
 }
 
-/// A gate was tried: a row whose gate was as it was seen is out, and fresh.
+// A gate was tried: a row whose gate was as it was seen is out, and fresh.
 fn gate_taken(agent: &mut Agent, row: u32, read: u64)
     requires { IsPackable (Op.GateTake row) agent.old }
     ensures { agent.new ≡ after (Op.GateTake row) agent.old read }
 {
-    if read == 2 * number_of(agent.looked) {
+    if read == 2 * agent.life_seen() {
         agent.fresh = Some(row);
     }
     agent.looked = None;
     agent.checked = None;
 }
 
-/// A link was tried. Where it held `from` and the targets differ, their counts have to follow.
+// A link was tried. Where it held `from` and the targets differ, their counts have to follow.
 fn link_swung(agent: &mut Agent, from: RowLink, to: RowLink, read: u64)
     requires { ForSome from.to (λ r. r < 65535) }
     ensures { (place : Word) → agent.new ≡ after (Op.LinkCas place from to) agent.old read }
@@ -175,7 +175,7 @@ fn link_swung(agent: &mut Agent, from: RowLink, to: RowLink, read: u64)
     agent.checked = None;
 }
 
-/// A link was stored. Where the targets differ, their counts have to follow.
+// A link was stored. Where the targets differ, their counts have to follow.
 fn link_stored(agent: &mut Agent, row: u32, link: RowLink, read: u64)
     ensures { agent.new ≡ after (Op.LinkStore row link) agent.old read }
 {
@@ -188,7 +188,7 @@ fn link_stored(agent: &mut Agent, row: u32, link: RowLink, read: u64)
     agent.doom = cut_of(agent.doom, row);
 }
 
-/// The retired bit was tried. Who sets it puts the row at the end of its list.
+// The retired bit was tried. Who sets it puts the row at the end of its list.
 fn bit_tried(agent: &mut Agent, row: u32, sequence: u64, read: u64)
     requires sequence { sequence < 2 ^ 40 }
     requires room { length (after (Op.SetRetired row sequence) agent.old read).list.items ≤ agent.old.list.room }
@@ -196,14 +196,14 @@ fn bit_tried(agent: &mut Agent, row: u32, sequence: u64, read: u64)
 {
     agent.due = None;
     if read == clear_word(sequence) {
-        if names(agent.fresh, row) {
+        if agent.is_fresh(row) {
             agent.fresh = None;
         }
         agent.list.push(row);
     }
 }
 
-/// The retired bit was cleared. After a scan the row may be due again.
+// The retired bit was cleared. After a scan the row may be due again.
 fn bit_cleared(agent: &mut Agent, row: u32, read: u64)
     ensures { agent.new ≡ after (Op.Unretire row) agent.old read }
 {
@@ -214,7 +214,7 @@ fn bit_cleared(agent: &mut Agent, row: u32, read: u64)
     agent.doom = bared(agent.doom);
 }
 
-/// A counter word was read.
+// A counter word was read.
 fn counter_read(agent: &mut Agent, row: u32, how: CounterUse, read: u64)
     ensures { agent.new ≡ after (Op.CounterLoad row how) agent.old read }
 {
@@ -230,7 +230,7 @@ fn counter_read(agent: &mut Agent, row: u32, how: CounterUse, read: u64)
             number: read / SEQUENCE,
         }),
         CounterUse::Start => {
-            if !names(agent.hand, row) {
+            if !agent.has_in_hand(row) {
                 agent.list.leave_first();
             }
             agent.hand = None;

@@ -6,10 +6,7 @@ ghost use Rattle.orc_core.specs.RecordParts.{any_holds, names};
 ghost use Rattle.orc_core.specs.Allowed.{arms_or_decrements, fits, forced, increments, may, may_change, may_place, may_target, stands, tries_bit};
 
 use crate::ops::{CounterUse, Op};
-use crate::parts::{
-    any_holds, checked_below, doom_bare, doom_cut, doom_uncut, holds, holds_fresh, is_due,
-    is_empty, is_published, names, number_of, saw, scan_at, scan_empty, scan_found, scans, slot_of,
-};
+use crate::parts::{doom_cut, doom_uncut, names, scan_at, scan_empty, scan_found};
 use crate::records::Agent;
 use orc_words::{RowLink, Shape, Word};
 
@@ -43,7 +40,7 @@ fn arms_or_decrements(op: &Op, row: u32) -> bool
     }
 }
 
-/// Whether what must come first lets this step go: due, then inc, then dec.
+// Whether what must come first lets this step go: due, then inc, then dec.
 fn forced(agent: &Agent, op: &Op) -> bool
     ensures { result ≡ forced agent.now op.now }
 {
@@ -60,7 +57,7 @@ fn may_target(shape: &Shape, agent: &Agent, to: Option<u32>) -> bool
 {
     match to {
         None => true,
-        Some(row) => row < shape.rows() && any_holds(&agent.slots, row),
+        Some(row) => row < shape.rows() && agent.holds(row),
     }
 }
 
@@ -69,34 +66,30 @@ fn may_change(agent: &Agent, limit: u64, from: Option<u32>, to: Option<u32>) -> 
 {
     match to {
         None => true,
-        Some(row) => names(from, row) || checked_below(agent.checked, row, limit),
+        Some(row) => names(from, row) || agent.has_checked_below(row, limit),
     }
 }
 
-/// A root, or the next word of a row that the agent holds or has fresh.
+// A root, or the next word of a row that the agent holds or has fresh.
 fn may_read(shape: &Shape, agent: &Agent, place: Word) -> bool
     ensures { result ≡ may_place (bounds_of shape.now) place
         (λ r. any_holds agent.now.slots r || names agent.now.fresh r) }
 {
     match place {
         Word::Root(root) => root < shape.roots(),
-        Word::Next(row) => {
-            row < shape.rows() && (any_holds(&agent.slots, row) || names(agent.fresh, row))
-        }
+        Word::Next(row) => { row < shape.rows() && (agent.holds(row) || agent.is_fresh(row)) }
         _ => false,
     }
 }
 
-/// A root, or the next word of a row that the agent holds and that is not its fresh one.
+// A root, or the next word of a row that the agent holds and that is not its fresh one.
 fn may_write(shape: &Shape, agent: &Agent, place: Word) -> bool
     ensures { result ≡ may_place (bounds_of shape.now) place
         (λ r. any_holds agent.now.slots r && not (names agent.now.fresh r)) }
 {
     match place {
         Word::Root(root) => root < shape.roots(),
-        Word::Next(row) => {
-            row < shape.rows() && (any_holds(&agent.slots, row) && !names(agent.fresh, row))
-        }
+        Word::Next(row) => { row < shape.rows() && (agent.holds(row) && !agent.is_fresh(row)) }
         _ => false,
     }
 }
@@ -106,16 +99,16 @@ fn may_take(shape: &Shape, agent: &Agent, row: u32) -> bool
 {
     row < shape.rows()
         && agent.fresh.is_none()
-        && saw(agent.looked, row)
-        && number_of(agent.looked) < shape.limit()
-        && checked_below(agent.checked, row, shape.limit())
+        && agent.has_looked_at(row)
+        && agent.life_seen() < shape.limit()
+        && agent.has_checked_below(row, shape.limit())
 }
 
 fn may_swing(shape: &Shape, agent: &Agent, place: Word, from: RowLink, to: RowLink) -> bool
     ensures { result ≡ fits (bounds_of shape.now) 0 0 (Op.LinkCas place from to) agent.now }
 {
     may_write(shape, agent, place)
-        && is_empty(slot_of(agent, 0))
+        && agent.slot(0).is_empty()
         && may_target(shape, agent, from.to)
         && may_target(shape, agent, to.to)
         && may_change(agent, shape.limit() + 64, from.to, to.to)
@@ -125,8 +118,8 @@ fn may_store(shape: &Shape, agent: &Agent, row: u32, link: RowLink) -> bool
     ensures { result ≡ fits (bounds_of shape.now) 0 0 (Op.LinkStore row link) agent.now }
 {
     row < shape.rows()
-        && is_empty(slot_of(agent, 0))
-        && ((names(agent.fresh, row)
+        && agent.slot(0).is_empty()
+        && ((agent.is_fresh(row)
             && may_target(shape, agent, link.to)
             && may_change(agent, shape.limit() + 64, None, link.to))
             || (doom_uncut(agent.doom, row) && link.to.is_none() && !link.mark))
@@ -141,18 +134,18 @@ fn may_count(shape: &Shape, agent: &Agent, row: u32, how: CounterUse) -> bool
             row < shape.rows()
                 && agent.scan.is_none()
                 && agent.doom.is_none()
-                && (names(agent.hand, row) || (agent.hand.is_none() && agent.list.first_is(row)))
+                && (agent.has_in_hand(row) || (agent.hand.is_none() && agent.list.first_is(row)))
         }
         CounterUse::End => {
             row < shape.rows()
-                && scans(agent.scan, row)
+                && agent.scans(row)
                 && scan_empty(agent.scan)
                 && scan_at(agent.scan, 8 * shape.agents())
         }
     }
 }
 
-/// Each kind's own condition.
+// Each kind's own condition.
 fn fits(shape: &Shape, enrolled: u64, number: u32, op: &Op, agent: &Agent) -> bool
     ensures { result ≡ fits (bounds_of shape.now) enrolled number op.now agent.now }
 {
@@ -160,49 +153,43 @@ fn fits(shape: &Shape, enrolled: u64, number: u32, op: &Op, agent: &Agent) -> bo
         Op::Enroll => !agent.enrolled && enrolled == u64::from(number),
         Op::GateLook { row } => *row < shape.rows(),
         Op::GateTake { row } => may_take(shape, agent, *row),
-        Op::Fill { row, which, .. } => {
-            *row < shape.rows() && *which < 2 && names(agent.fresh, *row)
-        }
+        Op::Fill { row, which, .. } => { *row < shape.rows() && *which < 2 && agent.is_fresh(*row) }
         Op::Read { row, which } => {
-            *row < shape.rows()
-                && *which < 2
-                && (any_holds(&agent.slots, *row) || names(agent.fresh, *row))
+            *row < shape.rows() && *which < 2 && (agent.holds(*row) || agent.is_fresh(*row))
         }
         Op::LinkLoad { place, slot: None } => may_read(shape, agent, *place),
         Op::LinkLoad {
             place,
             slot: Some(slot),
-        } => may_read(shape, agent, *place) && *slot < 8 && is_published(slot_of(agent, *slot)),
+        } => may_read(shape, agent, *place) && *slot < 8 && agent.slot(*slot).is_published(),
         Op::Publish { slot, row } => {
-            0 < *slot && *slot < 8 && *row < shape.rows() && is_empty(slot_of(agent, *slot))
+            0 < *slot && *slot < 8 && *row < shape.rows() && agent.slot(*slot).is_empty()
         }
         Op::Clear { slot } => {
             *slot < 8
-                && !is_empty(slot_of(agent, *slot))
-                && !holds_fresh(agent.fresh, slot_of(agent, *slot))
+                && !agent.slot(*slot).is_empty()
+                && !agent.slot(*slot).holds_fresh(agent.fresh)
         }
         Op::Arm { row } => {
             *row < shape.rows()
-                && is_empty(slot_of(agent, 0))
-                && (names(agent.dec, *row) || (scans(agent.scan, *row) && !scan_empty(agent.scan)))
+                && agent.slot(0).is_empty()
+                && (agent.has_decrement(*row) || (agent.scans(*row) && !scan_empty(agent.scan)))
         }
         Op::LinkCas { place, from, to } => may_swing(shape, agent, *place, *from, *to),
         Op::LinkStore { row, link } => may_store(shape, agent, *row, *link),
-        Op::Inc { row } => *row < shape.rows() && names(agent.inc, *row),
+        Op::Inc { row } => *row < shape.rows() && agent.has_increment(*row),
         Op::Dec { row } => {
-            *row < shape.rows() && names(agent.dec, *row) && holds(slot_of(agent, 0), *row)
+            *row < shape.rows() && agent.has_decrement(*row) && agent.slot(0).holds(*row)
         }
         Op::SetRetired { row, sequence } => {
             *row < shape.rows()
                 && *sequence < 1_099_511_627_776
-                && (is_due(agent.due, *row, *sequence) || names(agent.fresh, *row))
+                && (agent.has_due_at(*row, *sequence) || agent.is_fresh(*row))
         }
         Op::CounterLoad { row, how } => may_count(shape, agent, *row, *how),
         Op::Unretire { row } => {
             *row < shape.rows()
-                && ((scans(agent.scan, *row)
-                    && !scan_empty(agent.scan)
-                    && holds(slot_of(agent, 0), *row))
+                && ((agent.scans(*row) && !scan_empty(agent.scan) && agent.slot(0).holds(*row))
                     || doom_cut(agent.doom, *row))
         }
         Op::SlotLook { k } => {
@@ -214,12 +201,12 @@ fn fits(shape: &Shape, enrolled: u64, number: u32, op: &Op, agent: &Agent) -> bo
         Op::Hand { k } => {
             *k < 8 * shape.agents() && scan_found(agent.scan) && scan_at(agent.scan, *k)
         }
-        Op::TakeIn { slot } => *slot < 8 && is_empty(slot_of(agent, *slot)),
-        Op::Free { row } => *row < shape.rows() && doom_bare(agent.doom, *row),
+        Op::TakeIn { slot } => *slot < 8 && agent.slot(*slot).is_empty(),
+        Op::Free { row } => *row < shape.rows() && agent.has_bare_doom(*row),
     }
 }
 
-/// Every kind but Enroll needs an enrolled agent.
+// Every kind but Enroll needs an enrolled agent.
 fn stands(op: &Op, agent: &Agent) -> bool
     ensures { result ≡ stands op.now agent.now }
 {

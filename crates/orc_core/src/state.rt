@@ -1,14 +1,15 @@
 //! The state of the machine, and one step of it.
 
-ghost use Rattle.std.specs.Prelude.{◌≡◌, ◌+◌, ◌*◌, ◌<◌, ◌≤◌, true, false, IfOk, IsTrue, OnErr, OnOk, length, map, replicate, slice_index, slice_set};
-ghost use Rattle.std.specs.List.{range_with_len};
+ghost use Rattle.std.specs.Prelude.{◌≡◌, ◌+◌, ◌*◌, ◌<◌, ◌≤◌, true, false, IfOk, IsTrue, OnErr, OnOk, length, replicate, slice_index, slice_set};
 ghost use Rattle.orc_words.specs.Bounds.{bounds_of};
 ghost use Rattle.orc_words.specs.Places.{IsWithin, places};
 ghost use Rattle.orc_core.specs.declared.ops.Op.{Op};
-ghost use Rattle.orc_core.specs.Actions.{action_of, answer_of, word_after};
+ghost use Rattle.orc_words.specs.Operations.{answer_of, word_after};
+ghost use Rattle.orc_core.specs.Actions.{action_of};
 ghost use Rattle.orc_core.specs.After.{after};
 ghost use Rattle.orc_core.specs.Allowed.{may};
-ghost use Rattle.orc_core.specs.Machine.{IsWhole, LeavesRoom, answer, first_word, has_room, is_allowed, new_machine, nobody, place_acted_on, record_at, step, word_in};
+ghost use Rattle.orc_core.specs.Counts.{is_out, is_retired};
+ghost use Rattle.orc_core.specs.Machine.{IsWhole, LeavesRoom, answer, has_room, is_allowed, new_machine, nobody, place_acted_on, record_at, step, word_in};
 
 use crate::actions::action_of;
 use crate::ops::Op;
@@ -16,8 +17,8 @@ use crate::outcome::advance;
 use crate::permission::may_step;
 use crate::records::Agent;
 use orc_fault::NoMemory;
-use orc_words::{NEW_COUNTER, Shape, Word, place_of};
-use std::alloc::{AllocError, Global};
+use orc_words::{RETIRED, Shape, Word, new_words, place_of};
+use std::alloc::Global;
 use std::marker::Model;
 
 /// The words of a table and the records of its agents.
@@ -47,31 +48,7 @@ impl Model for State {
 #[derive(Clone, Copy, Debug, PartialEq, Eq)]
 pub struct NotAllowed;
 
-/// What a place holds at first.
-fn first_word(shape: &Shape, place: u32) -> u64
-    ensures { result ≡ first_word (bounds_of shape.now) place }
-{
-    let first_row = 1 + shape.roots();
-    let first_agent = first_row + 5 * shape.rows();
-    if first_row <= place && place < first_agent && (place - first_row) % 5 == 1 {
-        NEW_COUNTER
-    } else {
-        0
-    }
-}
-
-/// The words of a new table.
-fn new_words(alloc: Global, shape: &Shape) -> Result<Vec<u64>, AllocError>
-    ensures { let bounds = bounds_of shape.now in
-        IfOk result (λ words. words.items ≡ map (first_word bounds) (range_with_len 0 (places bounds))) }
-{
-    let end = 1 + shape.roots() + 5 * shape.rows() + 16 * shape.agents();
-    (0..end)
-        .map(|place| first_word(shape, place))
-        .collect(alloc)
-}
-
-/// The records of a new table.
+// The records of a new table.
 fn new_agents(alloc: Global, shape: &Shape) -> Result<Vec<Agent>, NoMemory>
     ensures { let bounds = bounds_of shape.now in
         IfOk result (λ agents. agents.items ≡ replicate bounds.agents (nobody bounds.rows)) }
@@ -89,9 +66,7 @@ impl State {
     pub fn new(alloc: Global, shape: &Shape) -> Result<State, NoMemory>
         ensures { IfOk result (λ state. state ≡ new_machine (bounds_of shape.now)) }
     {
-        let Ok(words) = new_words(alloc, shape) else {
-            return Err(NoMemory);
-        };
+        let words = new_words(alloc, shape)?;
         let agents = new_agents(alloc, shape)?;
         Ok(State {
             shape: *shape,
@@ -126,7 +101,7 @@ impl State {
         requires { IsWithin self.now.bounds word }
         ensures { result ≡ word_in self.now word }
     {
-        self.words[place_of(&self.shape, word) as usize]
+        self.words[place_of(&self.shape, word)]
     }
 
     /// The record of an agent.
@@ -135,6 +110,22 @@ impl State {
         ensures { result.now ≡ record_at self.now number }
     {
         &self.agents[number as usize]
+    }
+
+    /// Whether the row is out: taken, and not given back.
+    pub fn is_out(&self, row: u32) -> bool
+        requires { row < self.now.bounds.rows }
+        ensures { result ≡ is_out self.now row }
+    {
+        self.word(Word::Gate(row)) % 2 == 1
+    }
+
+    /// Whether the row has the retired bit.
+    pub fn is_retired(&self, row: u32) -> bool
+        requires { row < self.now.bounds.rows }
+        ensures { result ≡ is_retired self.now row }
+    {
+        self.word(Word::Counter(row)) / RETIRED % 2 == 1
     }
 
     /// Whether the agent's work list has a free place. Then any step of the agent leaves it room.
@@ -164,7 +155,7 @@ pub fn allowed(state: &State, agent: u32, op: &Op) -> bool
     )
 }
 
-/// The step that is allowed, on the words and the agent's record.
+// The step that is allowed, on the words and the agent's record.
 fn make_step(shape: &Shape, words: &mut [u64], number: u32, op: &Op, agent: &mut Agent) -> u64
     requires allowed { may (bounds_of shape.now) (slice_index words.old 0) number op.now agent.old ≡ true }
     requires long { length words.old ≡ places (bounds_of shape.now) }
@@ -179,7 +170,7 @@ fn make_step(shape: &Shape, words: &mut [u64], number: u32, op: &Op, agent: &mut
         result ≡ answer_of (action_of number op.now agent.old).operation read }
 {
     let action = action_of(number, op, agent);
-    let place = place_of(shape, action.word) as usize;
+    let place = place_of(shape, action.word);
     let read = words[place];
     words[place] = action.operation.word_after(read);
     advance(agent, op, read);

@@ -7,6 +7,7 @@ use std::process::Abort;
 use std::test::Fail;
 
 mod examples;
+mod permissions;
 
 const NULL: RowLink = RowLink {
     to: None,
@@ -28,7 +29,7 @@ const NONE_OUT: Census = Census {
     linked: 0,
 };
 
-/// Makes a step; a step of an agent whose work list is full counts as refused.
+// Makes a step; a step of an agent whose work list is full counts as refused.
 fn step(state: &mut State, agent: u32, op: Op) -> Result<u64, NotAllowed> {
     if !state.has_room(agent) {
         return Err(NotAllowed);
@@ -36,7 +37,7 @@ fn step(state: &mut State, agent: u32, op: Op) -> Result<u64, NotAllowed> {
     apply(state, agent, &op)
 }
 
-/// Makes these steps of one agent.
+// Makes these steps of one agent.
 fn steps(state: &mut State, agent: u32, ops: &[Op]) -> Result<(), NotAllowed> {
     for op in ops {
         let _ = step(state, agent, *op)?;
@@ -44,7 +45,7 @@ fn steps(state: &mut State, agent: u32, ops: &[Op]) -> Result<(), NotAllowed> {
     Ok(())
 }
 
-/// An agent's looks at the slots of these scan places.
+// An agent's looks at the slots of these scan places.
 fn look_at_slots(state: &mut State, agent: u32, from: u32, end: u32) -> Result<(), NotAllowed> {
     for k in from..end {
         let _ = step(state, agent, Op::SlotLook { k })?;
@@ -52,7 +53,7 @@ fn look_at_slots(state: &mut State, agent: u32, from: u32, end: u32) -> Result<(
     Ok(())
 }
 
-/// The agent takes row 0 and links it from root 0.
+// The agent takes row 0 and links it from root 0.
 fn link_row_0(state: &mut State, agent: u32) -> Result<(), NotAllowed> {
     let check = Op::CounterLoad {
         row: 0,
@@ -77,7 +78,7 @@ fn link_row_0(state: &mut State, agent: u32) -> Result<(), NotAllowed> {
     )
 }
 
-/// The agent holds row 0 in this slot, as root 0 shows it.
+// The agent holds row 0 in this slot, as root 0 shows it.
 fn hold_row_0(state: &mut State, agent: u32, slot: u32) -> Result<(), NotAllowed> {
     steps(
         state,
@@ -96,7 +97,7 @@ fn hold_row_0(state: &mut State, agent: u32, slot: u32) -> Result<(), NotAllowed
     )
 }
 
-/// The agent unlinks row 0 from root 0, retires it and lets it go.
+// The agent unlinks row 0 from root 0, retires it and lets it go.
 fn unlink_row_0(state: &mut State, agent: u32) -> Result<(), NotAllowed> {
     steps(
         state,
@@ -129,7 +130,7 @@ fn start(state: &mut State, agent: u32) -> Result<(), NotAllowed> {
     steps(state, agent, &[op])
 }
 
-/// A whole scan of row 0 by agent 1 that finds no slot, and the row's end.
+// A whole scan of row 0 by agent 1 that finds no slot, and the row's end.
 fn scan_and_free(state: &mut State) -> Result<(), NotAllowed> {
     start(state, 1)?;
     look_at_slots(state, 1, 0, 16)?;
@@ -148,7 +149,7 @@ fn scan_and_free(state: &mut State) -> Result<(), NotAllowed> {
     )
 }
 
-/// Row 0 is linked by agent 0, held by agent 1, unlinked, and found held by a scan of agent 0: 32 steps.
+// Row 0 is linked by agent 0, held by agent 1, unlinked, and found held by a scan of agent 0: 32 steps.
 fn found_held(rt: &impl Abort, alloc: Global) -> Result<State, Fail> {
     let shape = Shape::new(2, 1, 2, 8)?;
     let mut state = State::new(alloc, &shape)?;
@@ -176,7 +177,7 @@ fn found_held(rt: &impl Abort, alloc: Global) -> Result<State, Fail> {
     Ok(state)
 }
 
-/// Row 0's gate and counter, and root 0.
+// Row 0's gate and counter, and root 0.
 fn words_of_row_0(state: &State) -> (u64, u64, u64) {
     (
         word_of(state, Word::Gate(0)),
@@ -185,7 +186,7 @@ fn words_of_row_0(state: &State) -> (u64, u64, u64) {
     )
 }
 
-/// A word of row 0, a root 0 or a slot's word of the small states; 0 for another.
+// A word of row 0, a root 0 or a slot's word of the small states; 0 for another.
 fn word_of(state: &State, word: Word) -> u64 {
     let shape = state.shape();
     match word {
@@ -195,7 +196,7 @@ fn word_of(state: &State, word: Word) -> u64 {
     }
 }
 
-/// Slot 1 of an agent's record, its fresh row and its pending changes.
+// Slot 1 of an agent's record, its fresh row and its pending changes.
 fn record_of(state: &State, agent: u32) -> (SlotUse, Option<u32>, Option<u32>, Option<u32>) {
     if agent >= state.shape().agents() {
         return (SlotUse::Empty, None, None, None);
@@ -211,7 +212,7 @@ fn scan_of(state: &State, agent: u32) -> Option<Scan> {
     state.agent(agent).scan
 }
 
-/// How many entries of the agent's work list are this row.
+// How many entries of the agent's work list are this row.
 fn entries_of(state: &State, agent: u32, row: u32) -> usize {
     if agent >= state.shape().agents() {
         return 0;
@@ -267,7 +268,7 @@ fn handed_over_after_the_clear(rt: HostRuntime) -> Result<(), Fail> {
     Ok(())
 }
 
-/// Agent 1 retires row 0 and scans; agent 2, which held it, links it again behind the scan: 55 steps.
+// Agent 1 retires row 0 and scans; agent 2, which held it, links it again behind the scan: 55 steps.
 fn linked_again_behind_the_scan(rt: &impl Abort, alloc: Global) -> Result<State, Fail> {
     let shape = Shape::new(2, 1, 3, 8)?;
     let mut state = State::new(alloc, &shape)?;

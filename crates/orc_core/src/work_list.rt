@@ -1,6 +1,6 @@
 //! The retired rows that wait for an agent.
 
-ghost use Rattle.std.specs.Prelude.{◌≡◌, ◌<◌, ◌≤◌, ◌==◌, [], IfOk, length};
+ghost use Rattle.std.specs.Prelude.{◌≡◌, ◌<◌, ◌≤◌, ◌==◌, [], IfOk, length, slice_get};
 ghost use Rattle.std.specs.List.{count_by};
 ghost use Rattle.orc_core.specs.Listed.{first_is, listed_more, listed_rest};
 
@@ -43,6 +43,13 @@ impl WorkList {
         ensures room { result ≤ self.now.room }
     {
         self.rows.len()
+    }
+
+    /// The oldest entry, if there is one.
+    pub fn first(&self) -> Option<u32>
+        ensures { result ≡ slice_get self.now.items 0 }
+    {
+        self.rows.front().copied()
     }
 
     /// Whether the oldest entry is this row.

@@ -12,7 +12,7 @@ use Rattle.orc_table.specs.Views.{PlainView, shows}
 use Rattle.orc_table.specs.declared.machine.Plain.{Plain}
 use Rattle.orc_table.specs.declared.machine.PlainOp.{PlainOp}
 use Rattle.orc_table.specs.declared.machine.PlainStep.{PlainStep}
-use Rattle.orc_table.specs.declared.seed.PlainShape.{PlainShape}
+use Rattle.orc_table.specs.declared.shape.PlainShape.{PlainShape}
 use Rattle.orc_domain.specs.Passes.{IsPassOf, domain_bounds, seat_of}
 use Rattle.orc_domain.specs.declared.domain.PlainDomain.{PlainDomain}
 use Rattle.orc_domain.specs.declared.domain.PlainPass.{PlainPass}

@@ -21,7 +21,7 @@ use Rattle.orc_table.specs.Words.{IsOut}
 use Rattle.orc_table.specs.declared.machine.Plain.{Plain}
 use Rattle.orc_table.specs.declared.machine.PlainOp.{PlainOp}
 use Rattle.orc_table.specs.declared.machine.PlainStep.{PlainStep}
-use Rattle.orc_table.specs.declared.seed.PlainShape.{PlainShape}
+use Rattle.orc_table.specs.declared.shape.PlainShape.{PlainShape}
 use Rattle.orc_domain.specs.Rows.{seat_by}
 use Rattle.orc_domain.specs.declared.domain.PlainPass.{PlainPass}
 

@@ -3,15 +3,15 @@ use Rattle.std.specs.Prelude.{◌≡◌, List}
 use Rattle.orc_words.specs.Bounds.{Bounds, bounds_of}
 use Rattle.orc_heap.specs.Heap.{HeapNumbers}
 use Rattle.orc_heap.specs.Seats.{Seat}
+use Rattle.orc_heap.specs.Seeds.{opening_events}
 use Rattle.orc_heap.specs.declared.discipline.Discipline as discipline
 use Rattle.orc_heap.specs.declared.events.Event.{Event}
 use Rattle.orc_shared_words.specs.declared.machine.Machine as machine
-use Rattle.orc_table.specs.Rules.{opening_events}
 use Rattle.orc_table.specs.Views.{Belongs, board_bounds, board_numbers, board_seed, shows, shows_by}
 use Rattle.orc_table.specs.declared.machine.Plain.{Plain}
 use Rattle.orc_table.specs.declared.machine.PlainOp.{PlainOp}
 use Rattle.orc_table.specs.declared.machine.PlainStep.{PlainStep}
-use Rattle.orc_table.specs.declared.seed.PlainShape.{PlainShape}
+use Rattle.orc_table.specs.declared.shape.PlainShape.{PlainShape}
 use Rattle.orc_domain.specs.Rows.{Keeps, seat_by}
 use Rattle.orc_domain.specs.declared.domain.PlainDomain.{PlainDomain}
 use Rattle.orc_domain.specs.declared.domain.PlainPass.{PlainPass}

@@ -5,14 +5,14 @@ ghost use Rattle.orc_words.specs.Bounds.{bounds_of};
 ghost use Rattle.orc_heap.specs.Seats.{IsIdle};
 ghost use Rattle.orc_shared_words.specs.Lists.{EachAt};
 ghost use Rattle.orc_table.specs.Machine.{numbers};
-ghost use Rattle.orc_table.specs.Rules.{SeedAllowed, opening_events};
+ghost use Rattle.orc_heap.specs.Seeds.{SeedAllowed, opening_events};
 ghost use Rattle.orc_table.specs.Views.{EachFrom};
 ghost use Rattle.orc_domain.specs.Passes.{IsPassOf, domain_bounds, domain_opening, seat_of};
 
 use crate::domain::{PlainDomain, PlainPass};
 use orc_fault::NoMemory;
-use orc_heap::Discipline;
-use orc_table::{PlainBoard, Seed};
+use orc_heap::{Discipline, Seed};
+use orc_table::PlainBoard;
 use orc_words::Shape;
 use std::alloc::Global;
 
@@ -28,7 +28,7 @@ impl<D: Discipline> PlainDomain<D> {
         seed: Seed<D::Note>,
     ) -> Result<(PlainDomain<D>, Vec<PlainPass<D>>), NoMemory>
         requires holds { D.holds (numbers (bounds_of shape.now)) [] }
-        requires seed { SeedAllowed (D.may (numbers (bounds_of shape.now))) (bounds_of shape.now) seed }
+        requires seed { SeedAllowed D.may (numbers (bounds_of shape.now)) seed }
         ensures bounds { IfOk result (λ made. domain_bounds made.0 ≡ bounds_of shape.now) }
         ensures opening { IfOk result (λ made. domain_opening made.0 ≡ opening_events seed) }
         ensures passes { IfOk result (λ made. length made.1.items ≡ (bounds_of shape.now).agents) }

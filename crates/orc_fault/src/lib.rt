@@ -1,9 +1,23 @@
 //! The plain fault values that several crates answer.
 #![tactic(auto)]
 
+use std::alloc::{AllocError, AllocFailed};
+
 /// Memory was refused. No other cause stands behind this value.
 #[derive(Clone, Copy, Debug, PartialEq, Eq, Drop)]
 pub struct NoMemory;
+
+impl From<AllocError> for NoMemory {
+    fn from(_refused: AllocError) -> NoMemory {
+        NoMemory
+    }
+}
+
+impl<T: Drop> From<AllocFailed<T>> for NoMemory {
+    fn from(_refused: AllocFailed<T>) -> NoMemory {
+        NoMemory
+    }
+}
 
 /// A container has no room for a further node.
 #[derive(Clone, Copy, Debug, PartialEq, Eq, Drop)]

@@ -9,9 +9,9 @@ pub record TakesWhole (limit : ℕ) (bytes : List ℕ) (after : Option (List ℕ
   pub all : length taken ≤ limit → (taken ≡ bytes) × (after ≡ Some [])
   pub more : limit < length taken → limit < length bytes
 
--- some bytes were taken from the front
-abbrev pub TakesFront : Option (List ℕ) → Option (List ℕ) → Type 0
-TakesFront old new = (front : List ℕ) × Consumes old new front
+-- so many bytes at most were taken from the front
+abbrev pub TakesAtMost : ℕ → Option (List ℕ) → Option (List ℕ) → Type 0
+TakesAtMost most old new = (front : List ℕ) × Consumes old new front × (length front ≤ most)
 
 -- what was written is a prefix of this text
 abbrev pub AppendsPrefix : Option (List ℕ) → Option (List ℕ) → List ℕ → Type 0

@@ -1,17 +1,26 @@
 ghost use Rattle.std.specs.Prelude.{◌≡◌, ◌+◌, ◌^◌, ◌<◌, ◌≤◌, List, IfErr, IfOk, OnErr, OnOk, length, Some, ℕ};
 ghost use Rattle.std.specs.Io.KnownBytes.{Appends, Consumes, IsAtEnd};
-ghost use Rattle.orc_feed.specs.Faults.{HasCause, Rose};
-ghost use Rattle.orc_feed.specs.Whole.{AppendsPrefix, TakesFront, TakesWhole};
+ghost use Rattle.orc_feed.specs.declared.all.ReadAll.TheVariants.{NoMemory};
+ghost use Rattle.orc_feed.specs.Faults.{CountsFaults, Rose};
+ghost use Rattle.orc_feed.specs.Whole.{AppendsPrefix, TakesAtMost, TakesWhole};
 
 use crate::{Sink, Source};
 use orc_fault::Failed;
-use std::alloc::Global;
+use std::alloc::{AllocError, Global};
 
 /// Why not all bytes of a source were taken.
 #[derive(Clone, Copy, Debug, PartialEq, Eq, Drop)]
 pub enum ReadAll {
     Failed,
     NoMemory,
+}
+
+impl From<AllocError> for ReadAll {
+    ghost from_gives = { λ _ e. e ≡ NoMemory };
+
+    fn from(_refused: AllocError) -> ReadAll {
+        ReadAll::NoMemory
+    }
 }
 
 const CHUNK: usize = 4096;
@@ -27,8 +36,11 @@ pub fn read_all<S: Source>(alloc: Global, source: &mut S, limit: u64) -> Result<
     ensures whole { (bytes : List ℕ) → S.left source.old ≡ Some bytes
         → IfOk result (λ v. TakesWhole limit bytes (S.left source.new) v.items) }
 
-    ensures err { OnErr result (TakesFront (S.left source.old) (S.left source.new)) }
-    ensures later { S.faults source.old ≤ S.faults source.new }
+    ensures most { TakesAtMost (limit + 1) (S.left source.old) (S.left source.new) }
+
+    // It ends at the first read that fails, so that no other answer has seen one.
+    ensures answered { OnOk result (S.faults source.new ≡ S.faults source.old) }
+    ensures memory { IfErr result (λ e. e ≡ ReadAll.NoMemory → S.faults source.new ≡ S.faults source.old) }
     ensures failed { IfErr result (λ e. e ≡ ReadAll.Failed
         → Rose (S.faults source.old) (S.faults source.new)) }
 {
@@ -43,9 +55,7 @@ pub fn read_all<S: Source>(alloc: Global, source: &mut S, limit: u64) -> Result<
         if count == 0 {
             return Ok(all);
         }
-        if all.extend_from_slice(&chunk[..count]).is_err() {
-            return Err(ReadAll::NoMemory);
-        }
+        all.extend_from_slice(&chunk[..count])?;
     }
     Ok(all)
 }
@@ -54,7 +64,7 @@ pub fn read_all<S: Source>(alloc: Global, source: &mut S, limit: u64) -> Result<
 pub fn write_all<K: Sink>(sink: &mut K, text: &[u8]) -> Result<(), Failed>
     ensures ok { OnOk result (Appends (K.written sink.old) (K.written sink.new) text.now) }
     ensures err { OnErr result (AppendsPrefix (K.written sink.old) (K.written sink.new) text.now) }
-    ensures cause { HasCause (K.faults sink.old) (K.faults sink.new) result }
+    ensures counted { CountsFaults (K.faults sink.old) (K.faults sink.new) result }
 {
     let mut at = 0;
     while at < text.len() {

@@ -1,7 +1,7 @@
 ghost use Rattle.std.specs.Prelude.{Contains, IfOk, IsErr, OnErr, ◌≡◌, ◌-◌, ◌^◌, ◌<◌, ◌≤◌, ◌↔◌, [], length, Some};
 ghost use Rattle.std.specs.Io.{WritesAtMost};
 ghost use Rattle.std.specs.Io.KnownBytes.{WriteAppends};
-ghost use Rattle.orc_feed.specs.Faults.{HasCause, Rose, one_more};
+ghost use Rattle.orc_feed.specs.Faults.{CountsWriteFaults, one_more};
 ghost use Rattle.orc_feed.specs.InMemory.{moved_count, new_plan, next_plan};
 
 use crate::Sink;
@@ -39,15 +39,13 @@ impl MemorySink {
             ≡ record { written = []; room = room; plan = new_plan piece fails.now; faults = 0 }) }
     {
         let plan = Plan::new(alloc, piece, fails)?;
-        match vec![in alloc; 0u8; room as usize] {
-            Ok(bytes) => Ok(MemorySink {
-                bytes,
-                at: 0,
-                plan,
-                faults: 0,
-            }),
-            Err(_) => Err(NoMemory),
-        }
+        let bytes = vec![in alloc; 0u8; room as usize]?;
+        Ok(MemorySink {
+            bytes,
+            at: 0,
+            plan,
+            faults: 0,
+        })
     }
 
     /// The bytes that were written.
@@ -66,9 +64,7 @@ impl Sink for MemorySink {
     fn write(&mut self, from: &[u8]) -> Result<usize, Failed>
         ensures bound { WritesAtMost result from.now }
         ensures bytes { WriteAppends (Some self.old.written) (Some self.new.written) result from.now }
-        ensures cause { HasCause self.old.faults self.new.faults result }
-        ensures stuck { IfOk result (λ n. n ≡ 0 → 0 < length from.now
-            → Rose self.old.faults self.new.faults) }
+        ensures counted { CountsWriteFaults from.now self.old.faults self.new.faults result }
         ensures limit { self.new.faults < 2 ^ 64 }
 
         // Just the planned calls fail, and each other call moves as much as it may.
@@ -77,8 +73,7 @@ impl Sink for MemorySink {
             (self.old.room - length self.old.written)) }
         ensures plan { self.new.plan ≡ next_plan self.old.plan }
         ensures room { self.new.room ≡ self.old.room }
-        ensures counted { OnErr result (self.new.faults ≡ one_more self.old.faults) }
-        ensures uncounted { IfOk result (λ n. 0 < n → self.new.faults ≡ self.old.faults) }
+        ensures one { OnErr result (self.new.faults ≡ one_more self.old.faults) }
     {
         let faults = self.faults;
         if self.plan.call_fails() {

@@ -1,7 +1,7 @@
-ghost use Rattle.std.specs.Prelude.{Contains, IfOk, IsErr, MatchResult, ◌≡◌, ◌^◌, ◌<◌, ◌≤◌, ◌↔◌, length, Some};
+ghost use Rattle.std.specs.Prelude.{Contains, IfOk, IsErr, OnErr, ◌≡◌, ◌^◌, ◌<◌, ◌≤◌, ◌↔◌, length, Some};
 ghost use Rattle.std.specs.Io.{ReadsAtMost};
 ghost use Rattle.std.specs.Io.KnownBytes.{ReadConsumes};
-ghost use Rattle.orc_feed.specs.Faults.{HasCause, one_more};
+ghost use Rattle.orc_feed.specs.Faults.{CountsFaults, one_more};
 ghost use Rattle.orc_feed.specs.InMemory.{moved_count, new_plan, next_plan};
 
 use crate::Source;
@@ -44,15 +44,13 @@ impl MemorySource {
             ≡ record { left = bytes.now; plan = new_plan piece fails.now; faults = 0 }) }
     {
         let plan = Plan::new(alloc, piece, fails)?;
-        match Vec::from_slice(alloc, bytes) {
-            Ok(bytes) => Ok(MemorySource {
-                bytes,
-                at: 0,
-                plan,
-                faults: 0,
-            }),
-            Err(_) => Err(NoMemory),
-        }
+        let bytes = Vec::from_slice(alloc, bytes)?;
+        Ok(MemorySource {
+            bytes,
+            at: 0,
+            plan,
+            faults: 0,
+        })
     }
 }
 
@@ -64,7 +62,7 @@ impl Source for MemorySource {
     fn read(&mut self, to: &mut [u8]) -> Result<usize, Failed>
         ensures bound { ReadsAtMost result to.new }
         ensures bytes { ReadConsumes (Some self.old.left) (Some self.new.left) result to.new }
-        ensures cause { HasCause self.old.faults self.new.faults result }
+        ensures counted { CountsFaults self.old.faults self.new.faults result }
         ensures limit { self.new.faults < 2 ^ 64 }
 
         // Just the planned calls fail, and each other call moves as much as it may.
@@ -72,9 +70,7 @@ impl Source for MemorySource {
         ensures count { IfOk result (λ n. n
             ≡ moved_count self.old.plan (length to.new) (length self.old.left)) }
         ensures plan { self.new.plan ≡ next_plan self.old.plan }
-        ensures counted { MatchResult result
-            (λ _. self.new.faults ≡ self.old.faults)
-            (λ _. self.new.faults ≡ one_more self.old.faults) }
+        ensures one { OnErr result (self.new.faults ≡ one_more self.old.faults) }
     {
         let faults = self.faults;
         if self.plan.call_fails() {

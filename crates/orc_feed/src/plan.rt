@@ -30,14 +30,12 @@ impl Plan {
         requires { 1 ≤ piece }
         ensures { IfOk result (λ plan. plan ≡ new_plan piece fails.now) }
     {
-        match Vec::from_slice(alloc, fails) {
-            Ok(fails) => Ok(Plan {
-                piece,
-                fails,
-                call: 0,
-            }),
-            Err(_) => Err(NoMemory),
-        }
+        let fails = Vec::from_slice(alloc, fails)?;
+        Ok(Plan {
+            piece,
+            fails,
+            call: 0,
+        })
     }
 
     /// Counts a call, and says whether it is one of those that fail.

@@ -2,7 +2,7 @@ ghost use Rattle.std.specs.Prelude.{List, ◌^◌, ◌<◌, ℕ};
 ghost use Rattle.std.specs.Io.{ReadsAtMost};
 ghost use Rattle.std.specs.Io.KnownBytes.{ReadConsumes};
 ghost use Rattle.std.specs.declared.option.Option.{Option};
-ghost use Rattle.orc_feed.specs.Faults.{HasCause};
+ghost use Rattle.orc_feed.specs.Faults.{CountsFaults};
 
 use orc_fault::Failed;
 
@@ -19,6 +19,6 @@ pub trait Source {
     fn read(&mut self, to: &mut [u8]) -> Result<usize, Failed>
         ensures bound { ReadsAtMost result to.new }
         ensures bytes { ReadConsumes (left self.old) (left self.new) result to.new }
-        ensures cause { HasCause (faults self.old) (faults self.new) result }
+        ensures counted { CountsFaults (faults self.old) (faults self.new) result }
         ensures limit { faults self.new < 2 ^ 64 };
 }

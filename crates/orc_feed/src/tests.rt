@@ -1,7 +1,8 @@
-ghost use Rattle.std.specs.Prelude.{◌≡◌, ◌-◌, ◌^◌, ◌<◌, ◌≤◌, ◌∷◌, [], Some};
-ghost use Rattle.orc_feed.specs.Faults.{Rose, one_more};
+ghost use Rattle.std.specs.Prelude.{ℕ, ◌≡◌, ◌-◌, ◌^◌, ◌<◌, ◌≤◌, ◌∷◌, [], Ok, Some};
+ghost use Rattle.orc_fault.specs.declared.Failed.{Failed as Fault};
+ghost use Rattle.orc_feed.specs.Faults.{CountsFaults, CountsWriteFaults, Rose, one_more};
 ghost use Rattle.orc_feed.specs.InMemory.{moved_count, new_plan, next_plan};
-ghost use Rattle.orc_feed.specs.Whole.{AppendsPrefix, TakesFront, TakesWhole};
+ghost use Rattle.orc_feed.specs.Whole.{AppendsPrefix, TakesAtMost, TakesWhole};
 
 use crate::{MemorySink, MemorySource, ReadAll, Sink, Source, read_all, write_all};
 use orc_fault::{Failed, NoMemory};
@@ -18,6 +19,15 @@ fn counts_by_hand()
     ensures last { Rose (2 ^ 64 - 1) (2 ^ 64 - 1) }
 {}
 
+// A write of two bytes that takes one leaves the count, and one that takes none of them counts one fault.
+fn writes_by_hand()
+    ensures took { CountsWriteFaults {E = Fault} (7 ∷ 8 ∷ []) 3 3 (Ok 1) }
+    ensures stuck { CountsWriteFaults {E = Fault} (7 ∷ 8 ∷ []) 3 4 (Ok 0) }
+    ensures unseen { ¬ CountsWriteFaults {E = Fault} (7 ∷ 8 ∷ []) 3 3 (Ok 0) }
+    ensures nothing_to_take { ¬ CountsWriteFaults {E = Fault} [] 3 4 (Ok 0) }
+    ensures read { ¬ CountsFaults {T = ℕ} {E = Fault} 3 4 (Ok 1) }
+{}
+
 // A call moves what is wanted, what is there and what a piece holds, whichever is least.
 fn calls_by_hand()
     ensures wanted { moved_count (new_plan 4 []) 3 7 ≡ 3 }
@@ -32,8 +42,9 @@ fn whole_by_hand()
     ensures all { TakesWhole 2 (7 ∷ 8 ∷ []) (Some []) (7 ∷ 8 ∷ []) }
     ensures part { ¬ TakesWhole 2 (7 ∷ 8 ∷ []) (Some (8 ∷ [])) (7 ∷ []) }
     ensures more { TakesWhole 2 (7 ∷ 8 ∷ 9 ∷ []) (Some []) (7 ∷ 8 ∷ 9 ∷ []) }
-    ensures front { TakesFront (Some (7 ∷ 8 ∷ [])) (Some (8 ∷ [])) }
-    ensures grown { ¬ TakesFront (Some (8 ∷ [])) (Some (7 ∷ 8 ∷ [])) }
+    ensures front { TakesAtMost 1 (Some (7 ∷ 8 ∷ [])) (Some (8 ∷ [])) }
+    ensures too_many { ¬ TakesAtMost 1 (Some (7 ∷ 8 ∷ [])) (Some []) }
+    ensures grown { ¬ TakesAtMost 1 (Some (8 ∷ [])) (Some (7 ∷ 8 ∷ [])) }
     ensures prefix { AppendsPrefix (Some (1 ∷ [])) (Some (1 ∷ 7 ∷ [])) (7 ∷ 8 ∷ []) }
     ensures other { ¬ AppendsPrefix (Some (1 ∷ [])) (Some (1 ∷ 8 ∷ [])) (7 ∷ 8 ∷ []) }
 {}

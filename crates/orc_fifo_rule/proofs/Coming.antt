@@ -2,9 +2,9 @@
 use Rattle.std.proofs.Common.{List, Some, [], ap, arith, inl, refl, subst, sym, true, ℕ, ◌++◌, ◌+◌, ◌<◌, ◌^◌, ◌∙◌, ◌∷◌, ◌≡◌, ◌≢◌}
 use Rattle.std.specs.List.{slice_get}
 use Rattle.orc_heap.proofs.Known.{linked_known}
-use Rattle.orc_heap.specs.Allowed.{AllowedLater}
-use Rattle.orc_heap.specs.Heap.{Heap, HeapNumbers, Node, null, shown}
-use Rattle.orc_heap.specs.Journals.{run_heap}
+use Rattle.orc_heap.specs.Allowed.{AllowedLater, HasLink}
+use Rattle.orc_heap.specs.Heap.{Heap, HeapNumbers, Node, null, shown, link_to}
+use Rattle.orc_heap.specs.Journals.{run_heap, event_by}
 use Rattle.orc_heap.specs.declared.events.Act.TheVariants.{Look, Move}
 use Rattle.orc_heap.specs.declared.events.Event.{Event}
 use Rattle.orc_heap.specs.declared.events.Place.TheVariants.{Next, Root}
@@ -13,14 +13,16 @@ use Rattle.orc_history.specs.QueueHistory.{puts_in, waiting_after}
 use Rattle.orc_history.specs.declared.queue.QueueEntry.TheVariants.{Empty, Put, Took}
 use Rattle.orc_fifo_rule.specs.declared.fifo.FifoNote.{FifoNote}
 use Rattle.orc_fifo_rule.specs.declared.fifo.FifoNote.TheVariants.{Entry, Swing}
-use Rattle.orc_fifo_rule.specs.QueueDiscipline.{FifoHolds, FifoMay, HasJob, HasLink, IsRunning, entries_of, has_begun, link_to, position_of}
-use Rattle.orc_fifo_rule.specs.Watches.{IsLeft, WasNamed, event_of, node_to_put}
+use Rattle.orc_fifo_rule.specs.QueueDiscipline.{FifoHolds, FifoMay, HasJob, IsRunning, entries_of, has_begun, position_of}
+use Rattle.orc_fifo_rule.specs.Watches.{IsLeft, WasNamed, node_to_put}
 use Rattle.orc_fifo_rule.specs.Kept.Events.{begun_more}
-use Rattle.orc_fifo_rule.specs.Kept.Kinds.{link_same, some_same}
-use Rattle.orc_fifo_rule.specs.Kept.Nodes.{job_linked, shown_link}
+use Rattle.orc_fifo_rule.specs.Kept.Nodes.{job_linked}
 use Rattle.orc_fifo_rule.specs.Kept.Paths.{path_ends, path_step, successor_linked}
-use Rattle.orc_fifo_rule.proofs.Later.{holds_later, job_later, link_later, named_later, next_position, node_later, position_later, still_named}
+use Rattle.orc_heap.proofs.Fresh.{node_later}
+use Rattle.orc_fifo_rule.specs.Kept.Laws.{fifo_fits, fifo_keeps, fifo_moves_linked}
+use Rattle.orc_fifo_rule.proofs.Later.{holds_later, job_later, link_later, named_later, next_position, position_later, still_named}
 use Rattle.orc_fifo_rule.proofs.Leaving.{left_later}
+use Rattle.orc_heap.proofs.SingleActs.{link_same, shown_link, some_same}
 
 -- where root 0 names a node with a null link, nothing waits
 nothing_waits : (h : Heap) (es : List (Event FifoNote)) (id : ℕ) → IsRunning h es → shown h (Root 0) ≡ Some (link_to id) → shown h (Next id) ≡ Some null → waiting_after [] (entries_of es) ≡ []
@@ -33,7 +35,7 @@ nothing_waits h es id run root none =
 
 -- an Empty, wherever root 0 named the node at some time and its link is null
 pub empty_allowed : (n : HeapNumbers) (agent id : ℕ) (seen : List (Event FifoNote)) → FifoHolds n seen → has_begun seen ≡ true → WasNamed (run_heap n seen) 0 id
-    → AllowedLater (FifoMay n) n agent seen (Next id) null (event_of agent (Look (Next id) null) (Some (Entry (Empty agent))))
+    → AllowedLater (FifoMay n) n agent seen (Next id) null (event_by agent (Look (Next id) null) (Some (Entry (Empty agent))))
 empty_allowed n agent id seen holds begun named = λ more later at.
     let es : List (Event FifoNote) = seen ++ more in
     let h : Heap = run_heap n es in
@@ -50,7 +52,7 @@ empty_allowed n agent id seen holds begun named = λ more later at.
 
 -- a Swing of root 1, wherever the node's link leads to the other
 pub swing_allowed : (n : HeapNumbers) (agent id next : ℕ) (seen : List (Event FifoNote)) → FifoHolds n seen → has_begun seen ≡ true → HasLink (run_heap n seen) id (link_to next)
-    → AllowedLater (FifoMay n) n agent seen (Root 1) (link_to id) (event_of agent (Move (Root 1) (link_to id) (link_to next)) (Some Swing))
+    → AllowedLater (FifoMay n) n agent seen (Root 1) (link_to id) (event_by agent (Move (Root 1) (link_to id) (link_to next)) (Some Swing))
 swing_allowed n agent id next seen holds begun link = λ more later at.
     let es : List (Event FifoNote) = seen ++ more in
     let h : Heap = run_heap n es in
@@ -80,7 +82,7 @@ front_waits waiting front back rest put job at all first job_is at_is =
 -- a Took of root 0, wherever root 1 has left the node, whose link leads to the other
 pub took_allowed : (n : HeapNumbers) (agent id next job at : ℕ) (seen : List (Event FifoNote)) → FifoHolds n seen → has_begun seen ≡ true → IsLeft (run_heap n seen) id
     → HasLink (run_heap n seen) id (link_to next) → HasJob (run_heap n seen) next job at
-    → AllowedLater (FifoMay n) n agent seen (Root 0) (link_to id) (event_of agent (Move (Root 0) (link_to id) (link_to next)) (Some (Entry (Took agent job at))))
+    → AllowedLater (FifoMay n) n agent seen (Root 0) (link_to id) (event_by agent (Move (Root 0) (link_to id) (link_to next)) (Some (Entry (Took agent job at))))
 took_allowed n agent id next job at seen holds begun left link has = λ more later shows.
     let es : List (Event FifoNote) = seen ++ more in
     let h : Heap = run_heap n es in
@@ -110,14 +112,14 @@ took_allowed n agent id next job at seen holds begun left link has = λ more lat
 -- a Put of the agent's fresh node, wherever root 1 named the other at some time and its link is null
 pub put_allowed : (n : HeapNumbers) (agent id fresh job at : ℕ) (seen : List (Event FifoNote)) → FifoHolds n seen → has_begun seen ≡ true → WasNamed (run_heap n seen) 1 id
     → position_of (run_heap n seen) id ≡ at → at < 2 ^ 62 → slice_get (run_heap n seen).nodes fresh ≡ Some (node_to_put agent job at)
-    → AllowedLater (FifoMay n) n agent seen (Next id) null (event_of agent (Move (Next id) null (link_to fresh)) (Some (Entry (Put agent job at))))
+    → AllowedLater (FifoMay n) n agent seen (Next id) null (event_by agent (Move (Next id) null (link_to fresh)) (Some (Entry (Put agent job at))))
 put_allowed n agent id fresh job at seen holds begun named position low there = λ more later shows.
     let es : List (Event FifoNote) = seen ++ more in
     let h : Heap = run_heap n es in
     let now = holds_later n seen more holds later.allowed in
     let begun_now = begun_more seen more begun in
     let was = named_later n seen more 1 id named later.allowed in
-    let node = node_later n agent fresh (node_to_put agent job at) seen more holds there refl refl refl later in
+    let node = node_later n (FifoHolds n) (FifoMay n) (fifo_keeps n) (fifo_fits n) (fifo_moves_linked n) agent fresh (node_to_put agent job at) seen more holds there refl refl refl later in
     let place : at ≡ position_of h 0 + puts_in (entries_of es) = sym position ∙ (sym (position_later n seen more id named.linked later.allowed) ∙ next_position n es id now begun_now was shows) in
     record {
       fits = (shows, record { node = node_to_put agent job at; there = node; known = inl refl });

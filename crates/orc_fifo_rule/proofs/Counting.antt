@@ -7,9 +7,9 @@ use Rattle.std.specs.List.{slice_get}
 use Rattle.std.specs.Prelude.{◌||◌}
 use Rattle.orc_heap.proofs.Stays.{stays}
 use Rattle.orc_heap.specs.Acts.{heap_after}
-use Rattle.orc_heap.specs.Allowed.{AllAllowed, IsLinkedNode}
-use Rattle.orc_heap.specs.Heap.{Heap, HeapNumbers, shown}
-use Rattle.orc_heap.specs.Journals.{names_node, points_to, run_heap}
+use Rattle.orc_heap.specs.Allowed.{AllAllowed, IsLinkedNode, HasLink}
+use Rattle.orc_heap.specs.Heap.{Heap, HeapNumbers, shown, link_to}
+use Rattle.orc_heap.specs.Journals.{names_node, points_to, run_heap, event_by}
 use Rattle.orc_heap.specs.declared.events.Act.TheVariants.{Look, Move}
 use Rattle.orc_heap.specs.declared.events.Event.{Event}
 use Rattle.orc_heap.specs.declared.events.Link.{Link}
@@ -18,10 +18,9 @@ use Rattle.orc_history.specs.declared.queue.QueueEntry.TheVariants.{Empty, Put, 
 use Rattle.orc_fifo_rule.specs.declared.fifo.FifoNote.{FifoNote}
 use Rattle.orc_fifo_rule.specs.declared.fifo.FifoNote.TheVariants.{Begin, Entry, Swing}
 use Rattle.orc_heap.specs.Calls.{links_made}
-use Rattle.orc_fifo_rule.specs.QueueDiscipline.{FifoHolds, FifoMay, HasLink, IsRunning, has_begun, is_begin_of, link_to, position_of, root_has_begun}
-use Rattle.orc_fifo_rule.specs.Watches.{event_of}
+use Rattle.orc_fifo_rule.specs.QueueDiscipline.{FifoHolds, FifoMay, IsRunning, has_begun, is_begin_of, position_of, root_has_begun}
 use Rattle.orc_fifo_rule.specs.Kept.Events.{and_both, not_begun_before, root_begun_more}
-use Rattle.orc_fifo_rule.specs.Kept.Kinds.{each_kind, link_same, null_to, plain_points, plain_roots, root_moved, root_next, root_other, some_same}
+use Rattle.orc_fifo_rule.specs.Kept.Kinds.{each_kind}
 use Rattle.orc_fifo_rule.specs.Kept.Laws.{fifo_keeps, late, opening_next}
 use Rattle.orc_fifo_rule.specs.Kept.Nodes.{job_position, linked_next, position_next}
 use Rattle.orc_fifo_rule.specs.Kept.Opening.{begun_root}
@@ -29,6 +28,7 @@ use Rattle.orc_fifo_rule.specs.Kept.Leaves.{names, put_has_job, unlinked_apart}
 use Rattle.orc_fifo_rule.specs.Kept.Paths.{dummy_linked, head_steps, successor_linked, tail_linked, tail_steps}
 use Rattle.orc_fifo_rule.specs.Kept.Running.{begin_late, root_at}
 use Rattle.orc_fifo_rule.proofs.Later.{nothing_yet}
+use Rattle.orc_heap.proofs.SingleActs.{link_same, null_to, plain_points, plain_roots, root_moved, root_next, root_other, some_same}
 
 -- one event more
 
@@ -100,9 +100,9 @@ opening_same es e o misses = record {
 }
 
 opening_begin : (n : HeapNumbers) (es : List (Event FifoNote)) (agent r : ℕ) (from to : Link) → FifoHolds n es → has_begun es ≡ false → OpeningLinks es
-    → FifoMay n es (event_of agent (Move (Root r) from to) (Some Begin)) → OpeningLinks (es ++ event_of agent (Move (Root r) from to) (Some Begin) ∷ [])
+    → FifoMay n es (event_by agent (Move (Root r) from to) (Some Begin)) → OpeningLinks (es ++ event_by agent (Move (Root r) from to) (Some Begin) ∷ [])
 opening_begin n es agent r from to holds early o may =
-    let e : Event FifoNote = event_of agent (Move (Root r) from to) (Some Begin) in
+    let e : Event FifoNote = event_by agent (Move (Root r) from to) (Some Begin) in
     let b = may.may_act in
     let not : root_has_begun r es ≡ true → ⊥ = λ is.
     null_to 0 (sym b.from_is ∙ some_same (sym may.fits.0 ∙ begun_root n es r (holds.opening early).begins holds.lawful is)) in
@@ -114,18 +114,18 @@ opening_begin n es agent r from to holds early o may =
       others = λ id. links_same es e (suc id) (subst (λ (l : Link). names_node l.to (suc id) ≡ false) (sym b.to_is) (ne_eqb 0 (suc id) (λ x. omega (arith, x)))) ∙ o.others id;
     }
   where
-    by_root : (q : ℕ) → q < 2 → begins_in q es ≡ 0 → begins_in q (es ++ event_of agent (Move (Root r) from to) (Some Begin) ∷ []) ≡ 1
-        → links_made (es ++ event_of agent (Move (Root r) from to) (Some Begin) ∷ []) 0 ≡ links_made es 0 + 1
-        → links_made (es ++ event_of agent (Move (Root r) from to) (Some Begin) ∷ []) 0
-        ≤ begins_in 0 (es ++ event_of agent (Move (Root r) from to) (Some Begin) ∷ []) + begins_in 1 (es ++ event_of agent (Move (Root r) from to) (Some Begin) ∷ [])
-    by_root zero low before after more = omega (arith, o.first, before, after, more, begins_more 1 es (event_of agent (Move (Root r) from to) (Some Begin)))
-    by_root (suc zero) low before after more = omega (arith, o.first, before, after, more, begins_more 0 es (event_of agent (Move (Root r) from to) (Some Begin)))
+    by_root : (q : ℕ) → q < 2 → begins_in q es ≡ 0 → begins_in q (es ++ event_by agent (Move (Root r) from to) (Some Begin) ∷ []) ≡ 1
+        → links_made (es ++ event_by agent (Move (Root r) from to) (Some Begin) ∷ []) 0 ≡ links_made es 0 + 1
+        → links_made (es ++ event_by agent (Move (Root r) from to) (Some Begin) ∷ []) 0
+        ≤ begins_in 0 (es ++ event_by agent (Move (Root r) from to) (Some Begin) ∷ []) + begins_in 1 (es ++ event_by agent (Move (Root r) from to) (Some Begin) ∷ [])
+    by_root zero low before after more = omega (arith, o.first, before, after, more, begins_more 1 es (event_by agent (Move (Root r) from to) (Some Begin)))
+    by_root (suc zero) low before after more = omega (arith, o.first, before, after, more, begins_more 0 es (event_by agent (Move (Root r) from to) (Some Begin)))
     by_root (suc (suc q)) low before after more = absurd (omega (arith, low))
 
 opening_links_next : (n : HeapNumbers) (es : List (Event FifoNote)) (e : Event FifoNote) → FifoHolds n es → has_begun es ≡ false → OpeningLinks es → FifoMay n es e → OpeningLinks (es ++ e ∷ [])
 opening_links_next n es e holds early o may =
-    each_kind (run_heap n es) (λ act noted. FifoMay n es (event_of e.agent act noted) → OpeningLinks (es ++ event_of e.agent act noted ∷ []))
-    (λ act plain m. opening_same es (event_of e.agent act None) o (λ id. plain_points act id plain))
+    each_kind (run_heap n es) (λ act noted. FifoMay n es (event_by e.agent act noted) → OpeningLinks (es ++ event_by e.agent act noted ∷ []))
+    (λ act plain m. opening_same es (event_by e.agent act None) o (λ id. plain_points act id plain))
     (λ r from to b m. opening_begin n es e.agent r from to holds early o m)
     (λ r from to b m. absurd (late (has_begun es) early m.in_time))
     (λ r from to by job at b m. absurd (late (has_begun es) early m.in_time))
@@ -221,9 +221,9 @@ came_by_head n es e id dummy tail may l points t step (inr (was, few)) =
     inr (linked_next n es e id may l, omega (arith, few, links_more es e id points, position_next n es e id may l, t, step))
 
 counted_swing : (n : HeapNumbers) (es : List (Event FifoNote)) (agent r : ℕ) (from to : Link) → FifoHolds n es → IsRunning (run_heap n es) es → Counted n es
-    → FifoMay n es (event_of agent (Move (Root r) from to) (Some Swing)) → Counted n (es ++ event_of agent (Move (Root r) from to) (Some Swing) ∷ [])
+    → FifoMay n es (event_by agent (Move (Root r) from to) (Some Swing)) → Counted n (es ++ event_by agent (Move (Root r) from to) (Some Swing) ∷ [])
 counted_swing n es agent r from to holds run c may =
-    let e : Event FifoNote = event_of agent (Move (Root r) from to) (Some Swing) in
+    let e : Event FifoNote = event_by agent (Move (Root r) from to) (Some Swing) in
     let h : Heap = run_heap n es in
     let s = may.may_act.steps in
     let one : r ≡ 1 = may.may_act.root_is in
@@ -242,9 +242,9 @@ counted_swing n es agent r from to holds run c may =
     (came_by_tail n es e s.next c.dummy c.tail may l (subst (λ (x : ℕ). points_to e.act x ≡ true) (sym next_is) points) d step (c.count s.next)))
 
 counted_took : (n : HeapNumbers) (es : List (Event FifoNote)) (agent r by job at : ℕ) (from to : Link) → FifoHolds n es → IsRunning (run_heap n es) es → Counted n es
-    → FifoMay n es (event_of agent (Move (Root r) from to) (Some (Entry (Took by job at)))) → Counted n (es ++ event_of agent (Move (Root r) from to) (Some (Entry (Took by job at))) ∷ [])
+    → FifoMay n es (event_by agent (Move (Root r) from to) (Some (Entry (Took by job at)))) → Counted n (es ++ event_by agent (Move (Root r) from to) (Some (Entry (Took by job at))) ∷ [])
 counted_took n es agent r by job at from to holds run c may =
-    let e : Event FifoNote = event_of agent (Move (Root r) from to) (Some (Entry (Took by job at))) in
+    let e : Event FifoNote = event_by agent (Move (Root r) from to) (Some (Entry (Took by job at))) in
     let h : Heap = run_heap n es in
     let s = may.may_act.steps in
     let zero_root : r ≡ 0 = may.may_act.root_is in
@@ -269,9 +269,9 @@ own_one zero ne = absurd (ne refl)
 own_one (suc id) ne = refl
 
 counted_put : (n : HeapNumbers) (es : List (Event FifoNote)) (agent t by job at : ℕ) (from to : Link) → FifoHolds n es → IsRunning (run_heap n es) es → Counted n es
-    → FifoMay n es (event_of agent (Move (Next t) from to) (Some (Entry (Put by job at)))) → Counted n (es ++ event_of agent (Move (Next t) from to) (Some (Entry (Put by job at))) ∷ [])
+    → FifoMay n es (event_by agent (Move (Next t) from to) (Some (Entry (Put by job at)))) → Counted n (es ++ event_by agent (Move (Next t) from to) (Some (Entry (Put by job at))) ∷ [])
 counted_put n es agent t by job at from to holds run c may =
-    let e : Event FifoNote = event_of agent (Move (Next t) from to) (Some (Entry (Put by job at))) in
+    let e : Event FifoNote = event_by agent (Move (Next t) from to) (Some (Entry (Put by job at))) in
     let h : Heap = run_heap n es in
     let m = may.may_act in
     let j = put_has_job n es agent t by job at from to holds may in
@@ -289,9 +289,9 @@ counts_next : (n : HeapNumbers) (es : List (Event FifoNote)) (e : Event FifoNote
 counts_next n es e holds begun c may =
     let h : Heap = run_heap n es in
     let run = holds.running begun in
-    each_kind h (λ act noted. FifoMay n es (event_of e.agent act noted) → Counted n (es ++ event_of e.agent act noted ∷ []))
+    each_kind h (λ act noted. FifoMay n es (event_by e.agent act noted) → Counted n (es ++ event_by e.agent act noted ∷ []))
     (λ act plain m.
-    let x : Event FifoNote = event_of e.agent act None in
+    let x : Event FifoNote = event_by e.agent act None in
     let roots = plain_roots e.agent act h plain in
     counted_still n es x run c m (root_at n es x 0 ∙ ap (λ (l : List Link). slice_get l 0) roots) (root_at n es x 1 ∙ ap (λ (l : List Link). slice_get l 1) roots)
     (λ id points. missed (points_to act id) (plain_points act id plain) points))
@@ -300,7 +300,7 @@ counts_next n es e holds begun c may =
     (λ r from to by job at b m. counted_took n es e.agent r by job at from to holds run c m)
     (λ t from to by job at b m. counted_put n es e.agent t by job at from to holds run c m)
     (λ d link by b m.
-    let x : Event FifoNote = event_of e.agent (Look (Next d) link) (Some (Entry (Empty by))) in
+    let x : Event FifoNote = event_by e.agent (Look (Next d) link) (Some (Entry (Empty by))) in
     counted_still n es x run c m (root_at n es x 0) (root_at n es x 1) (λ id points. missed false refl points))
     e.act e.note may.may_act may
 

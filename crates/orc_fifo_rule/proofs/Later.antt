@@ -1,11 +1,10 @@
 -- What stays true over all events that the discipline allows.
-use Rattle.std.proofs.Common.{List, None, Option, Some, [], ap, arith, false, inl, inr, refl, subst, sym, true, ℕ, ◌++◌, ◌+◌, ◌∙◌, ◌∷◌, ◌≡◌, ◌⊎◌}
+use Rattle.std.proofs.Common.{List, None, Option, Some, [], ap, arith, inl, inr, refl, subst, sym, true, ℕ, ◌++◌, ◌+◌, ◌∙◌, ◌∷◌, ◌≡◌, ◌⊎◌}
 use Rattle.std.specs.List.{slice_get}
-use Rattle.orc_heap.proofs.Fresh.{fresh_later}
 use Rattle.orc_heap.proofs.Stays.{stays}
-use Rattle.orc_heap.specs.Allowed.{AllAllowed, IsLinkedNode, Later}
-use Rattle.orc_heap.specs.Heap.{Heap, HeapNumbers, Node, null, shown}
-use Rattle.orc_heap.specs.Journals.{run_heap}
+use Rattle.orc_heap.specs.Allowed.{AllAllowed, IsLinkedNode, HasLink}
+use Rattle.orc_heap.specs.Heap.{Heap, HeapNumbers, Node, null, shown, link_to}
+use Rattle.orc_heap.specs.Journals.{run_heap, event_by}
 use Rattle.orc_heap.specs.declared.events.Act.TheVariants.{Look, Move}
 use Rattle.orc_heap.specs.declared.events.Event.{Event}
 use Rattle.orc_heap.specs.declared.events.Link.{Link}
@@ -14,13 +13,14 @@ use Rattle.orc_history.specs.QueueHistory.{puts_in}
 use Rattle.orc_history.specs.declared.queue.QueueEntry.TheVariants.{Empty, Put, Took}
 use Rattle.orc_fifo_rule.specs.declared.fifo.FifoNote.{FifoNote}
 use Rattle.orc_fifo_rule.specs.declared.fifo.FifoNote.TheVariants.{Begin, Entry, Swing}
-use Rattle.orc_fifo_rule.specs.QueueDiscipline.{FifoHolds, FifoMay, HasJob, HasLink, StepsOn, entries_of, has_begun, link_to, position_of}
-use Rattle.orc_fifo_rule.specs.Watches.{WasNamed, event_of}
-use Rattle.orc_fifo_rule.specs.Kept.Kinds.{each_kind, link_same, null_to, plain_roots, root_either, root_next, some_same}
-use Rattle.orc_fifo_rule.specs.Kept.Laws.{fifo_fits, fifo_keeps, fifo_moves_linked}
-use Rattle.orc_fifo_rule.specs.Kept.Nodes.{job_next, linked_next, node_next, position_next, shown_link}
-use Rattle.orc_fifo_rule.specs.Kept.Paths.{has_link, put_at_last}
+use Rattle.orc_fifo_rule.specs.QueueDiscipline.{FifoHolds, FifoMay, HasJob, StepsOn, entries_of, has_begun, position_of}
+use Rattle.orc_fifo_rule.specs.Watches.{WasNamed}
+use Rattle.orc_fifo_rule.specs.Kept.Kinds.{each_kind}
+use Rattle.orc_fifo_rule.specs.Kept.Laws.{fifo_keeps}
+use Rattle.orc_fifo_rule.specs.Kept.Nodes.{job_next, linked_next, node_next, position_next}
+use Rattle.orc_fifo_rule.specs.Kept.Paths.{put_at_last}
 use Rattle.orc_fifo_rule.specs.Kept.Running.{root_at}
+use Rattle.orc_heap.proofs.SingleActs.{has_link, link_same, null_to, plain_roots, root_either, root_next, shown_link, some_same}
 
 no_link : (n : HeapNumbers) (before after : List (Event FifoNote)) (id : ℕ) (link : Link) → [] ≡ before ++ after → HasLink (run_heap n before) id link → HasLink (run_heap {N = FifoNote} n []) id link
 no_link n [] after id link split l = l
@@ -64,38 +64,29 @@ pub first_later : (n : HeapNumbers) (seen more : List (Event FifoNote)) → Fifo
     → position_of (run_heap n (seen ++ more)) 0 ≡ position_of (run_heap n seen) 0
 first_later n seen more holds begun all = position_later n seen more 0 (holds.running begun).zero all
 
--- a fresh node of the agent, over the events of others
-pub node_later : (n : HeapNumbers) (agent id : ℕ) (node : Node) (seen more : List (Event FifoNote)) → FifoHolds n seen
-    → slice_get (run_heap n seen).nodes id ≡ Some node → node.giver ≡ agent → node.named ≡ false → node.linked ≡ false
-    → Later (FifoMay n) agent seen more → slice_get (run_heap n (seen ++ more)).nodes id ≡ Some node
-node_later n agent id node seen more holds there giver unnamed unlinked later =
-    let r = fresh_later n (FifoHolds n) (FifoMay n) (λ es e h may. fifo_keeps n es e h may) (λ es e h may. fifo_fits n es e h may) (λ es e h may. fifo_moves_linked n es e h may)
-    agent id seen more node holds (record { there = there; own = record { mine = giver; unnamed = unnamed; unlinked = unlinked } }) later in
-    r.there
-
 -- a root that names the node still does, or it stepped on to the node's successor
 root_stays : (n : HeapNumbers) (es : List (Event FifoNote)) (e : Event FifoNote) (root id : ℕ) → FifoMay n es e → IsLinkedNode (run_heap n es) id → shown (run_heap n es) (Root root) ≡ Some (link_to id)
     → (shown (run_heap n (es ++ e ∷ [])) (Root root) ≡ Some (link_to id)) ⊎ ((next : ℕ) × HasLink (run_heap n es) id (link_to next))
 root_stays n es e root id may l at =
     let h : Heap = run_heap n es in
     each_kind h
-    (λ act noted. FifoMay n es (event_of e.agent act noted)
-    → (shown (run_heap n (es ++ event_of e.agent act noted ∷ [])) (Root root) ≡ Some (link_to id)) ⊎ ((next : ℕ) × HasLink h id (link_to next)))
-    (λ act plain m. inl (root_at n es (event_of e.agent act None) root ∙ (ap (λ (x : List Link). slice_get x root) (plain_roots e.agent act h plain) ∙ at)))
+    (λ act noted. FifoMay n es (event_by e.agent act noted)
+    → (shown (run_heap n (es ++ event_by e.agent act noted ∷ [])) (Root root) ≡ Some (link_to id)) ⊎ ((next : ℕ) × HasLink h id (link_to next)))
+    (λ act plain m. inl (root_at n es (event_by e.agent act None) root ∙ (ap (λ (x : List Link). slice_get x root) (plain_roots e.agent act h plain) ∙ at)))
     (λ r from to b m. elim (root_either e.agent r root from to h (link_to id) at) [
       | inl c ↦ absurd (null_to id (sym b.from_is ∙ some_same (sym m.fits.0 ∙ same_root h r root c.0 at)))
-      | inr c ↦ inl (root_at n es (event_of e.agent (Move (Root r) from to) (Some Begin)) root ∙ c.1)
+      | inr c ↦ inl (root_at n es (event_by e.agent (Move (Root r) from to) (Some Begin)) root ∙ c.1)
     ])
     (λ r from to b m. elim (root_either e.agent r root from to h (link_to id) at) [
       | inl c ↦ inr (steps_from h id from to b.steps l (some_same (sym (same_root h r root c.0 at) ∙ m.fits.0)))
-      | inr c ↦ inl (root_at n es (event_of e.agent (Move (Root r) from to) (Some Swing)) root ∙ c.1)
+      | inr c ↦ inl (root_at n es (event_by e.agent (Move (Root r) from to) (Some Swing)) root ∙ c.1)
     ])
     (λ r from to by job place b m. elim (root_either e.agent r root from to h (link_to id) at) [
       | inl c ↦ inr (steps_from h id from to b.steps l (some_same (sym (same_root h r root c.0 at) ∙ m.fits.0)))
-      | inr c ↦ inl (root_at n es (event_of e.agent (Move (Root r) from to) (Some (Entry (Took by job place)))) root ∙ c.1)
+      | inr c ↦ inl (root_at n es (event_by e.agent (Move (Root r) from to) (Some (Entry (Took by job place)))) root ∙ c.1)
     ])
-    (λ t from to by job place b m. inl (root_at n es (event_of e.agent (Move (Next t) from to) (Some (Entry (Put by job place)))) root ∙ (root_next e.agent t root from to h ∙ at)))
-    (λ d link by b m. inl (root_at n es (event_of e.agent (Look (Next d) link) (Some (Entry (Empty by)))) root ∙ at))
+    (λ t from to by job place b m. inl (root_at n es (event_by e.agent (Move (Next t) from to) (Some (Entry (Put by job place)))) root ∙ (root_next e.agent t root from to h ∙ at)))
+    (λ d link by b m. inl (root_at n es (event_by e.agent (Look (Next d) link) (Some (Entry (Empty by)))) root ∙ at))
     e.act e.note may.may_act may
   where
     same_root : (h : Heap) (r root : ℕ) → r ≡ root → shown h (Root root) ≡ Some (link_to id) → shown h (Root r) ≡ Some (link_to id)

@@ -2,9 +2,9 @@
 use Rattle.std.proofs.Common.{List, None, Some, [], ap, arith, inl, inr, subst, sym, true, ℕ, ◌++◌, ◌∙◌, ◌∷◌, ◌≡◌, ◌≢◌}
 use Rattle.std.specs.List.{slice_get}
 use Rattle.orc_heap.proofs.Stays.{stays}
-use Rattle.orc_heap.specs.Allowed.{AllAllowed}
-use Rattle.orc_heap.specs.Heap.{Heap, HeapNumbers, null, shown}
-use Rattle.orc_heap.specs.Journals.{run_heap}
+use Rattle.orc_heap.specs.Allowed.{AllAllowed, HasLink}
+use Rattle.orc_heap.specs.Heap.{Heap, HeapNumbers, null, shown, link_to}
+use Rattle.orc_heap.specs.Journals.{run_heap, event_by}
 use Rattle.orc_heap.specs.declared.events.Act.TheVariants.{Look, Move}
 use Rattle.orc_heap.specs.declared.events.Event.{Event}
 use Rattle.orc_heap.specs.declared.events.Link.{Link}
@@ -12,14 +12,15 @@ use Rattle.orc_heap.specs.declared.events.Place.TheVariants.{Next, Root}
 use Rattle.orc_history.specs.declared.queue.QueueEntry.TheVariants.{Empty, Put, Took}
 use Rattle.orc_fifo_rule.specs.declared.fifo.FifoNote.{FifoNote}
 use Rattle.orc_fifo_rule.specs.declared.fifo.FifoNote.TheVariants.{Entry, Swing}
-use Rattle.orc_fifo_rule.specs.QueueDiscipline.{FifoHolds, FifoMay, HasLink, IsPath, IsRunning, has_begun, link_to}
-use Rattle.orc_fifo_rule.specs.Watches.{IsLeft, WasNamed, event_of}
+use Rattle.orc_fifo_rule.specs.QueueDiscipline.{FifoHolds, FifoMay, IsPath, IsRunning, has_begun}
+use Rattle.orc_fifo_rule.specs.Watches.{IsLeft, WasNamed}
 use Rattle.orc_fifo_rule.specs.Kept.Events.{begun_more}
-use Rattle.orc_fifo_rule.specs.Kept.Kinds.{each_kind, link_same, null_to, plain_roots, root_either, root_next, root_other, some_same}
+use Rattle.orc_fifo_rule.specs.Kept.Kinds.{each_kind}
 use Rattle.orc_fifo_rule.specs.Kept.Laws.{fifo_keeps}
-use Rattle.orc_fifo_rule.specs.Kept.Nodes.{node_next, shown_link}
+use Rattle.orc_fifo_rule.specs.Kept.Nodes.{node_next}
 use Rattle.orc_fifo_rule.specs.Kept.Paths.{back_one, tail_steps}
 use Rattle.orc_fifo_rule.specs.Kept.Running.{begin_late, root_at}
+use Rattle.orc_heap.proofs.SingleActs.{link_same, null_to, plain_roots, root_either, root_next, root_other, shown_link, some_same}
 
 -- the tail steps on to the last node, which has no successor
 swing_apart : (h : Heap) (es : List (Event FifoNote)) (run : IsRunning h es) (id next x : ℕ) → HasLink h id (link_to next) → shown h (Next run.tail) ≡ Some (link_to x) → x ≢ id
@@ -33,11 +34,11 @@ still_apart : (n : HeapNumbers) (es : List (Event FifoNote)) (e : Event FifoNote
 still_apart n es e id next run may link apart =
     let h : Heap = run_heap n es in
     each_kind h
-    (λ act noted. FifoMay n es (event_of e.agent act noted) → shown (run_heap n (es ++ event_of e.agent act noted ∷ [])) (Root 1) ≡ Some (link_to id) → ⊥)
-    (λ act plain m now. apart (ap (λ (x : List Link). slice_get x 1) (sym (plain_roots e.agent act h plain)) ∙ (sym (root_at n es (event_of e.agent act None) 1) ∙ now)))
+    (λ act noted. FifoMay n es (event_by e.agent act noted) → shown (run_heap n (es ++ event_by e.agent act noted ∷ [])) (Root 1) ≡ Some (link_to id) → ⊥)
+    (λ act plain m now. apart (ap (λ (x : List Link). slice_get x 1) (sym (plain_roots e.agent act h plain)) ∙ (sym (root_at n es (event_by e.agent act None) 1) ∙ now)))
     (λ r from to b m now. begin_late h es r run b.root_is (m.fits.0 ∙ ap (λ (x : Link). Some x) b.from_is))
     (λ r from to b m now.
-    let x : Event FifoNote = event_of e.agent (Move (Root r) from to) (Some Swing) in
+    let x : Event FifoNote = event_by e.agent (Move (Root r) from to) (Some Swing) in
     let (same, step) = tail_steps h es run r from to b.steps b.root_is m.fits.0 in
     let successor : shown h (Next run.tail) ≡ Some (link_to b.steps.next) = subst (λ (y : ℕ). shown h (Next y) ≡ Some (link_to b.steps.next)) same b.steps.successor in
     elim (root_either e.agent r 1 from to h (link_to run.tail) run.tail_is) [
@@ -45,10 +46,10 @@ still_apart n es e id next run may link apart =
       | inr c ↦ c.0 b.root_is
     ])
     (λ r from to by job at b m now.
-    let x : Event FifoNote = event_of e.agent (Move (Root r) from to) (Some (Entry (Took by job at))) in
+    let x : Event FifoNote = event_by e.agent (Move (Root r) from to) (Some (Entry (Took by job at))) in
     apart (sym (root_other e.agent r 1 from to h (λ y. omega (arith, y, b.root_is))) ∙ (sym (root_at n es x 1) ∙ now)))
-    (λ t from to by job at b m now. apart (sym (root_next e.agent t 1 from to h) ∙ (sym (root_at n es (event_of e.agent (Move (Next t) from to) (Some (Entry (Put by job at)))) 1) ∙ now)))
-    (λ d l by b m now. apart (sym (root_at n es (event_of e.agent (Look (Next d) l) (Some (Entry (Empty by)))) 1) ∙ now))
+    (λ t from to by job at b m now. apart (sym (root_next e.agent t 1 from to h) ∙ (sym (root_at n es (event_by e.agent (Move (Next t) from to) (Some (Entry (Put by job at)))) 1) ∙ now)))
+    (λ d l by b m now. apart (sym (root_at n es (event_by e.agent (Look (Next d) l) (Some (Entry (Empty by)))) 1) ∙ now))
     e.act e.note may.may_act may
 
 -- root 1 doesn't come back

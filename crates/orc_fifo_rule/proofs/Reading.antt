@@ -1,16 +1,16 @@
 -- What a root and a link tell once both roots have begun.
 use Rattle.std.proofs.Common.{List, Some, arith, inl, inr, subst, suc, sym, true, zero, ℕ, ◌<◌, ◌∙◌, ◌≡◌, ◌⊎◌}
-use Rattle.orc_heap.specs.Allowed.{IsLinkedNode}
-use Rattle.orc_heap.specs.Heap.{HeapNumbers, null, shown}
+use Rattle.orc_heap.specs.Allowed.{IsLinkedNode, HasLink}
+use Rattle.orc_heap.specs.Heap.{HeapNumbers, null, shown, link_to}
 use Rattle.orc_heap.specs.Journals.{run_heap}
 use Rattle.orc_heap.specs.declared.events.Event.{Event}
 use Rattle.orc_heap.specs.declared.events.Link.{Link}
 use Rattle.orc_heap.specs.declared.events.Place.TheVariants.{Root}
 use Rattle.orc_fifo_rule.specs.declared.fifo.FifoNote.{FifoNote}
-use Rattle.orc_fifo_rule.specs.QueueDiscipline.{FifoHolds, HasJob, HasLink, has_begun, link_to, position_of}
+use Rattle.orc_fifo_rule.specs.QueueDiscipline.{FifoHolds, HasJob, has_begun, position_of}
 use Rattle.orc_fifo_rule.specs.Watches.{WasNamed}
-use Rattle.orc_fifo_rule.specs.Kept.Kinds.{link_same, null_to, some_same}
 use Rattle.orc_fifo_rule.specs.Kept.Paths.{dummy_linked, tail_linked}
+use Rattle.orc_heap.proofs.SingleActs.{link_same, null_to, some_same}
 
 -- each of the two roots names a once linked node, without a mark
 pub root_names : (n : HeapNumbers) (es : List (Event FifoNote)) (root : ℕ) → FifoHolds n es → has_begun es ≡ true → root < 2

@@ -3,9 +3,9 @@ use Rattle.std.proofs.Common.{List, None, Some, [], ap, arith, inl, inr, length,
 use Rattle.std.specs.List.{slice_get}
 use Rattle.orc_heap.proofs.Runs.{run_heap-snoc}
 use Rattle.orc_heap.specs.Acts.{as_linked, heap_after, moved_link}
-use Rattle.orc_heap.specs.Allowed.{AllAllowed, IsLinkedNode}
-use Rattle.orc_heap.specs.Heap.{Heap, HeapNumbers, null, shown}
-use Rattle.orc_heap.specs.Journals.{run_heap}
+use Rattle.orc_heap.specs.Allowed.{AllAllowed, IsLinkedNode, HasLink}
+use Rattle.orc_heap.specs.Heap.{Heap, HeapNumbers, null, shown, link_to}
+use Rattle.orc_heap.specs.Journals.{run_heap, event_by}
 use Rattle.orc_heap.specs.declared.events.Act.TheVariants.{Look, Move}
 use Rattle.orc_heap.specs.declared.events.Event.{Event}
 use Rattle.orc_heap.specs.declared.events.Link.{Link}
@@ -15,15 +15,15 @@ use Rattle.orc_history.proofs.Histories.{puts_in-append}
 use Rattle.orc_history.specs.declared.queue.QueueEntry.TheVariants.{Empty, Put, Took}
 use Rattle.orc_fifo_rule.specs.declared.fifo.FifoNote.{FifoNote}
 use Rattle.orc_fifo_rule.specs.declared.fifo.FifoNote.TheVariants.{Entry, Swing}
-use Rattle.orc_fifo_rule.specs.QueueDiscipline.{FifoHolds, FifoMay, HasLink, IsPath, IsRunning, entries_in, entries_of, has_begun, link_to}
+use Rattle.orc_fifo_rule.specs.QueueDiscipline.{FifoHolds, FifoMay, IsPath, IsRunning, entries_in, entries_of, has_begun}
 use Rattle.orc_fifo_rule.specs.Counts.{swings_in, swings_with}
-use Rattle.orc_fifo_rule.specs.Watches.{event_of}
 use Rattle.orc_fifo_rule.specs.Kept.Events.{begun_more}
-use Rattle.orc_fifo_rule.specs.Kept.Kinds.{each_kind, link_moved, link_same, null_to, plain_roots, root_moved, root_next, root_other, some_same}
+use Rattle.orc_fifo_rule.specs.Kept.Kinds.{each_kind}
 use Rattle.orc_fifo_rule.specs.Kept.Laws.{fifo_keeps}
-use Rattle.orc_fifo_rule.specs.Kept.Nodes.{PutsAt, link_next, node_next, null_next, shown_link}
+use Rattle.orc_fifo_rule.specs.Kept.Nodes.{PutsAt, link_next, node_next, null_next}
 use Rattle.orc_fifo_rule.specs.Kept.Leaves.{put_node_after, put_tail}
 use Rattle.orc_fifo_rule.specs.Kept.Running.{begin_late, root_at}
+use Rattle.orc_heap.proofs.SingleActs.{link_moved, link_same, null_to, plain_roots, root_moved, root_next, root_other, shown_link, some_same}
 
 -- the tail names the last node, or the one before it
 record Lags (h : Heap) (lag : ℕ) : Type 0 where
@@ -66,9 +66,9 @@ lag_still n es e lag l may root no_put no_swing none = (
 )
 
 lag_swing : (n : HeapNumbers) (es : List (Event FifoNote)) (agent r : ℕ) (from to : Link) (lag : ℕ) → Lags (run_heap n es) lag
-    → (let e : Event FifoNote = event_of agent (Move (Root r) from to) (Some Swing) in FifoMay n es e → LagAfter n es e lag)
+    → (let e : Event FifoNote = event_by agent (Move (Root r) from to) (Some Swing) in FifoMay n es e → LagAfter n es e lag)
 lag_swing n es agent r from to lag l may =
-    let e : Event FifoNote = event_of agent (Move (Root r) from to) (Some Swing) in
+    let e : Event FifoNote = event_by agent (Move (Root r) from to) (Some Swing) in
     let h : Heap = run_heap n es in
     let s = may.may_act.steps in
     let one : r ≡ 1 = may.may_act.root_is in
@@ -87,18 +87,18 @@ lag_swing n es agent r from to lag l may =
     ]
 
 put_link : (n : HeapNumbers) (es : List (Event FifoNote)) (agent t by job at : ℕ) (from to : Link)
-    → (may : FifoMay n es (event_of agent (Move (Next t) from to) (Some (Entry (Put by job at))))) → HasLink (run_heap n es) t null
-    → HasLink (run_heap n (es ++ event_of agent (Move (Next t) from to) (Some (Entry (Put by job at))) ∷ [])) t (link_to may.may_act.id)
+    → (may : FifoMay n es (event_by agent (Move (Next t) from to) (Some (Entry (Put by job at))))) → HasLink (run_heap n es) t null
+    → HasLink (run_heap n (es ++ event_by agent (Move (Next t) from to) (Some (Entry (Put by job at))) ∷ [])) t (link_to may.may_act.id)
 put_link n es agent t by job at from to may l =
-    let e : Event FifoNote = event_of agent (Move (Next t) from to) (Some (Entry (Put by job at))) in
+    let e : Event FifoNote = event_by agent (Move (Next t) from to) (Some (Entry (Put by job at))) in
     let moved : moved_link (Move (Next t) from to) t null ≡ link_to may.may_act.id =
     elim (link_moved t t from to null) [ inl c ↦ c.1 ∙ may.may_act.to_is | inr c ↦ absurd (c.0 refl) ] in
     subst (λ (x : Link). HasLink (run_heap n (es ++ e ∷ [])) t x) moved (link_next n es e t null may l)
 
 lag_put : (n : HeapNumbers) (es : List (Event FifoNote)) (agent t by job at : ℕ) (from to : Link) (lag : ℕ) → FifoHolds n es → Lags (run_heap n es) lag
-    → (let e : Event FifoNote = event_of agent (Move (Next t) from to) (Some (Entry (Put by job at))) in FifoMay n es e → LagAfter n es e lag)
+    → (let e : Event FifoNote = event_by agent (Move (Next t) from to) (Some (Entry (Put by job at))) in FifoMay n es e → LagAfter n es e lag)
 lag_put n es agent t by job at from to lag holds l may =
-    let e : Event FifoNote = event_of agent (Move (Next t) from to) (Some (Entry (Put by job at))) in
+    let e : Event FifoNote = event_by agent (Move (Next t) from to) (Some (Entry (Put by job at))) in
     let h : Heap = run_heap n es in
     let k : Heap = run_heap n (es ++ e ∷ []) in
     let m = may.may_act in
@@ -120,18 +120,18 @@ lag_put n es agent t by job at from to lag holds l may =
 lag_next : (n : HeapNumbers) (es : List (Event FifoNote)) (e : Event FifoNote) (lag : ℕ) → FifoHolds n es → has_begun es ≡ true → Lags (run_heap n es) lag → FifoMay n es e → LagAfter n es e lag
 lag_next n es e lag holds begun l may =
     let h : Heap = run_heap n es in
-    each_kind h (λ act noted. FifoMay n es (event_of e.agent act noted) → LagAfter n es (event_of e.agent act noted) lag)
+    each_kind h (λ act noted. FifoMay n es (event_by e.agent act noted) → LagAfter n es (event_by e.agent act noted) lag)
     (λ act plain m.
-    lag_still n es (event_of e.agent act None) lag l m (root_at n es (event_of e.agent act None) 1 ∙ ap (λ (x : List Link). slice_get x 1) (plain_roots e.agent act h plain))
+    lag_still n es (event_by e.agent act None) lag l m (root_at n es (event_by e.agent act None) 1 ∙ ap (λ (x : List Link). slice_get x 1) (plain_roots e.agent act h plain))
     (λ id p. let is = p.note_is in cc) refl refl)
     (λ r from to b m. absurd (begin_late h es r (holds.running begun) b.root_is (m.fits.0 ∙ ap (λ (x : Link). Some x) b.from_is)))
     (λ r from to b m. lag_swing n es e.agent r from to lag l m)
     (λ r from to by job at b m.
-    let x : Event FifoNote = event_of e.agent (Move (Root r) from to) (Some (Entry (Took by job at))) in
+    let x : Event FifoNote = event_by e.agent (Move (Root r) from to) (Some (Entry (Took by job at))) in
     lag_still n es x lag l m (root_at n es x 1 ∙ root_other e.agent r 1 from to h (λ y. omega (arith, y, b.root_is))) (λ id p. let is = p.note_is in cc) refl refl)
     (λ t from to by job at b m. lag_put n es e.agent t by job at from to lag holds l m)
     (λ d link by b m.
-    let x : Event FifoNote = event_of e.agent (Look (Next d) link) (Some (Entry (Empty by))) in
+    let x : Event FifoNote = event_by e.agent (Look (Next d) link) (Some (Entry (Empty by))) in
     lag_still n es x lag l m (root_at n es x 1) (λ id p. let is = p.note_is in cc) refl refl)
     e.act e.note may.may_act may
 

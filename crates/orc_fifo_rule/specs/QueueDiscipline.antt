@@ -1,9 +1,9 @@
 -- The queue discipline: what the events of a queue of linked nodes obey. After Michael and Scott 1996.
 use Rattle.std.specs.Prelude.{Bool, Contains, List, None, Option, Some, [], false, length, slice_get, true, unwrap_or, ℕ, ◌&&◌, ◌++◌, ◌+◌, ◌<◌, ◌==◌, ◌^◌, ◌∷◌, ◌≡◌, ◌≢◌, ◌≤◌, ◌⊎◌}
-use Rattle.std.specs.List.{list_any}
-use Rattle.orc_heap.specs.Heap.{Heap, HeapNumbers, Node, null, shown}
-use Rattle.orc_heap.specs.Allowed.{IsLinkedNode}
-use Rattle.orc_heap.specs.Journals.{FitsAfter, IsLawful, IsPlainAct, run_heap}
+use Rattle.std.specs.List.{list_any, AllByRecursion}
+use Rattle.orc_heap.specs.Heap.{Heap, HeapNumbers, Node, link_to, null, shown}
+use Rattle.orc_heap.specs.Allowed.{HasLink, IsLinkedNode}
+use Rattle.orc_heap.specs.Journals.{FitsAfter, IsLawful, IsPlainAct, noted_entries, run_heap}
 use Rattle.orc_heap.specs.declared.events.Act.{Act}
 use Rattle.orc_heap.specs.declared.events.Act.TheVariants.{Look, Move}
 use Rattle.orc_heap.specs.declared.events.Event.{Event}
@@ -13,7 +13,6 @@ use Rattle.orc_heap.specs.declared.events.Place.TheVariants.{Next, Root}
 use Rattle.orc_history.specs.QueueHistory.{IsLegalQueue, agent_of_entry, puts_in, waiting_after}
 use Rattle.orc_history.specs.declared.queue.QueueEntry.{QueueEntry}
 use Rattle.orc_history.specs.declared.queue.QueueEntry.TheVariants.{Empty, Put, Took}
-use Rattle.orc_history.specs.Journals.{Every}
 use Rattle.orc_fifo_rule.specs.declared.fifo.FifoNote.{FifoNote}
 use Rattle.orc_fifo_rule.specs.declared.fifo.FifoNote.TheVariants.{Begin, Entry, Swing}
 
@@ -26,12 +25,7 @@ entries_in None = []
 
 -- the queue history of the events
 abbrev pub entries_of : List (Event FifoNote) → List QueueEntry
-entries_of [] = []
-entries_of (e ∷ es) = entries_in e.note ++ entries_of es
-
--- an unmarked link to this node
-abbrev pub link_to : ℕ → Link
-link_to id = record { to = Some id; mark = false }
+entries_of es = noted_entries entries_in es
 
 -- the second value of a node, and 0 where it has none or isn't there
 abbrev pub position_in : Option Node → ℕ
@@ -41,13 +35,6 @@ position_in (Some n) = unwrap_or n.second 0
 -- the same of the node of this id: of node 0 the first position, of the node of a Put the next one after its own
 abbrev pub position_of : Heap → ℕ → ℕ
 position_of h id = position_in (slice_get h.nodes id)
-
--- a once linked node with this link
-pub record HasLink (h : Heap) (id : ℕ) (link : Link) : Type 0 where
-  pub node : Node
-  pub there : slice_get h.nodes id ≡ Some node
-  pub linked : node.linked ≡ true
-  pub link_is : node.link ≡ link
 
 -- the node's values are this job and its position + 1, and the position is below 2 ^ 62
 pub record HoldsJob (node : Node) (job at : ℕ) : Type 0 where
@@ -107,7 +94,7 @@ BeginsIfMoves act noted = Unit {0}
 -- there is no entry yet, each Move is a Begin, and the link of node 0 is null once it is linked
 pub record IsOpening (h : Heap) (es : List (Event FifoNote)) : Type 0 where
   pub none : entries_of es ≡ []
-  pub begins : Every (λ (e : Event FifoNote). BeginsIfMoves e.act e.note) es
+  pub begins : AllByRecursion (λ (e : Event FifoNote). BeginsIfMoves e.act e.note) es
   pub zero_ends : (node : Node) → slice_get h.nodes 0 ≡ Some node → node.linked ≡ true → node.link ≡ null
 
 -- the event is a Begin of this root

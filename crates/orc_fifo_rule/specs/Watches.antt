@@ -1,16 +1,8 @@
 -- What an agent may rely on between its own events, whatever the others do meanwhile.
-use Rattle.std.specs.Prelude.{Option, Some, false, ℕ, ◌+◌, ◌≡◌, ◌≢◌, ◌⊎◌}
-use Rattle.orc_heap.specs.Allowed.{IsLinkedNode}
-use Rattle.orc_heap.specs.Heap.{Heap, Node, null, shown}
-use Rattle.orc_heap.specs.declared.events.Act.{Act}
-use Rattle.orc_heap.specs.declared.events.Event.{Event}
+use Rattle.std.specs.Prelude.{Some, false, ℕ, ◌+◌, ◌≡◌, ◌≢◌, ◌⊎◌}
+use Rattle.orc_heap.specs.Allowed.{IsLinkedNode, HasLink}
+use Rattle.orc_heap.specs.Heap.{Heap, Node, null, shown, link_to}
 use Rattle.orc_heap.specs.declared.events.Place.TheVariants.{Root}
-use Rattle.orc_fifo_rule.specs.declared.fifo.FifoNote.{FifoNote}
-use Rattle.orc_fifo_rule.specs.QueueDiscipline.{HasLink, link_to}
-
--- an act of this agent with this note
-abbrev pub event_of : ℕ → Act → Option FifoNote → Event FifoNote
-event_of agent act noted = record { agent = agent; act = act; note = noted }
 
 -- the root named the node at some time: it still does, or the node has a successor by now
 pub record WasNamed (h : Heap) (root id : ℕ) : Type 0 where

@@ -1,9 +1,9 @@
 //! Laws of the queue discipline.
 
 ghost use Rattle.std.specs.Prelude.{◌≡◌, ◌≢◌, ℕ, ◌+◌, ◌<◌, ◌≤◌, ◌^◌, List, [], ◌∷◌, ◌++◌, Some, true, false, slice_get};
-ghost use Rattle.orc_heap.specs.Allowed.{AllAllowed, AllowedLater, Later, IsLinkedNode, events_by};
-ghost use Rattle.orc_heap.specs.Heap.{HeapNumbers, Node, null, shown};
-ghost use Rattle.orc_heap.specs.Journals.{run_heap};
+ghost use Rattle.orc_heap.specs.Allowed.{AllAllowed, AllowedLater, Later, IsLinkedNode, events_by, HasLink};
+ghost use Rattle.orc_heap.specs.Heap.{HeapNumbers, Node, null, shown, link_to};
+ghost use Rattle.orc_heap.specs.Journals.{run_heap, event_by};
 ghost use Rattle.orc_heap.specs.declared.events.Act.{Act};
 ghost use Rattle.orc_heap.specs.declared.events.Event.{Event};
 ghost use Rattle.orc_heap.specs.declared.events.Place.{Place};
@@ -13,8 +13,8 @@ ghost use Rattle.orc_history.specs.declared.queue.QueueEntry.{QueueEntry};
 ghost use Rattle.orc_fifo_rule.specs.declared.fifo.FifoNote.{FifoNote};
 ghost use Rattle.orc_heap.specs.Calls.{links_made};
 ghost use Rattle.orc_fifo_rule.specs.Counts.{swings_in};
-ghost use Rattle.orc_fifo_rule.specs.QueueDiscipline.{FifoHolds, FifoMay, HasJob, HasLink, entries_of, has_begun, link_to, position_of};
-ghost use Rattle.orc_fifo_rule.specs.Watches.{IsLeft, WasNamed, event_of, node_to_put};
+ghost use Rattle.orc_fifo_rule.specs.QueueDiscipline.{FifoHolds, FifoMay, HasJob, entries_of, has_begun, position_of};
+ghost use Rattle.orc_fifo_rule.specs.Watches.{IsLeft, WasNamed, node_to_put};
 
 /// The empty list obeys the discipline, and so does each list that goes on with events that are allowed where
 /// they stand.
@@ -83,7 +83,7 @@ pub fn an_empty_may_come()
     ensures { (n : HeapNumbers) (agent id : ℕ) (seen : List (Event FifoNote)) → FifoHolds n seen → has_begun seen ≡ true
         → WasNamed (run_heap n seen) 0 id
         → AllowedLater (FifoMay n) n agent seen (Place.Next id) null
-        (event_of agent (Act.Look (Place.Next id) null) (Some (FifoNote.Entry (QueueEntry.Empty agent)))) }
+        (event_by agent (Act.Look (Place.Next id) null) (Some (FifoNote.Entry (QueueEntry.Empty agent)))) }
 {}
 
 /// An agent that saw a node's link lead to another may swing root 1 to that one wherever root 1 names the node.
@@ -91,7 +91,7 @@ pub fn a_swing_may_come()
     ensures { (n : HeapNumbers) (agent id next : ℕ) (seen : List (Event FifoNote)) → FifoHolds n seen → has_begun seen ≡ true
         → HasLink (run_heap n seen) id (link_to next)
         → AllowedLater (FifoMay n) n agent seen (Place.Root 1) (link_to id)
-        (event_of agent (Act.Move (Place.Root 1) (link_to id) (link_to next)) (Some FifoNote.Swing)) }
+        (event_by agent (Act.Move (Place.Root 1) (link_to id) (link_to next)) (Some FifoNote.Swing)) }
 {}
 
 /// An agent that saw that root 1 has left a node, and that the node's link leads to one with this job, may take
@@ -100,7 +100,7 @@ pub fn a_took_may_come()
     ensures took { (n : HeapNumbers) (agent id next job at : ℕ) (seen : List (Event FifoNote)) → FifoHolds n seen → has_begun seen ≡ true
         → IsLeft (run_heap n seen) id → HasLink (run_heap n seen) id (link_to next) → HasJob (run_heap n seen) next job at
         → AllowedLater (FifoMay n) n agent seen (Place.Root 0) (link_to id)
-        (event_of agent (Act.Move (Place.Root 0) (link_to id) (link_to next)) (Some (FifoNote.Entry (QueueEntry.Took agent job at)))) }
+        (event_by agent (Act.Move (Place.Root 0) (link_to id) (link_to next)) (Some (FifoNote.Entry (QueueEntry.Took agent job at)))) }
     ensures left { (n : HeapNumbers) (es : List (Event FifoNote)) (id : ℕ) → FifoHolds n es → has_begun es ≡ true
         → WasNamed (run_heap n es) 0 id → shown (run_heap n es) (Place.Root 1) ≢ Some (link_to id) → IsLeft (run_heap n es) id }
 {}
@@ -112,5 +112,5 @@ pub fn a_put_may_come()
         → WasNamed (run_heap n seen) 1 id → position_of (run_heap n seen) id ≡ at → at < 2 ^ 62
         → slice_get (run_heap n seen).nodes fresh ≡ Some (node_to_put agent job at)
         → AllowedLater (FifoMay n) n agent seen (Place.Next id) null
-        (event_of agent (Act.Move (Place.Next id) null (link_to fresh)) (Some (FifoNote.Entry (QueueEntry.Put agent job at)))) }
+        (event_by agent (Act.Move (Place.Next id) null (link_to fresh)) (Some (FifoNote.Entry (QueueEntry.Put agent job at)))) }
 {}

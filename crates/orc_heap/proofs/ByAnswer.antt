@@ -27,7 +27,7 @@ Looks-null {place = place} {slot = slot} {s = s} {t = t} {seen = seen} r is =
     let tells : Tells place slot s (Stable seen None) t = subst (λ (h : Option Hold). Tells place slot s (Stable seen h) t) is r.tells in
     record { slots = tells.1; puts = tells.2 }
 
--- a look that holds the node that it read
+-- a look that holds the node of its last Look; the first one showed a link with a target, maybe another
 pub record LookedHeld {N : Type 0} (place : Place) (slot : ℕ) (mark : Bool) (h : Hold) (s t : Seat N) : Type 0 where
   pub id : ℕ
   pub at : h.slot ≡ slot

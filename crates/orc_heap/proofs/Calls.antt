@@ -58,10 +58,11 @@ filter-at {X} test (x ∷ xs) us y ys e = cases (λ vs h. filter-at test xs vs y
         skip (u ∷ us) us (more us rest) (ap (λ b. cond b (x ∷ us) us) is ∙ ap (λ z. z ∷ us) first)
     cases more false is us h = skip us us (more us h) (ap (λ b. cond b (x ∷ us) us) is)
 
--- where one of the call's own events stands, it is allowed, and so is all before and after it
-pub record Stood {N : Type 0} (may : List (Event N) → Event N → Type 0) (s : Seat N) (own : List (Event N)) (e : Event N) (rest : List (Event N)) (t : Seat N) : Type 0 where
+-- where one of the call's own events stands in what is new, and that it is allowed, and all before and after it
+pub record Stood {N : Type 0} (may : List (Event N) → Event N → Type 0) (s : Seat N) (own : List (Event N)) (e : Event N) (rest part : List (Event N)) (t : Seat N) : Type 0 where
   pub before : List (Event N)
   pub later : List (Event N)
+  pub part_is : part ≡ before ++ e ∷ later
   pub is : t.seen ≡ ((s.seen ++ before) ++ e ∷ []) ++ later
   pub first : AllAllowed may s.seen before
   pub own_before : events_by s.agent before ≡ own
@@ -70,7 +71,7 @@ pub record Stood {N : Type 0} (may : List (Event N) → Event N → Type 0) (s :
   pub own_later : events_by s.agent later ≡ rest
 
 pub Puts-stood : {N : Type 0} (may : List (Event N) → Event N → Type 0) (s t : Seat N) (own : List (Event N)) (e : Event N) (rest : List (Event N))
-    → Puts s (own ++ e ∷ rest) t → AllAllowed may [] t.seen → Stood may s own e rest t
+    (p : Puts s (own ++ e ∷ rest) t) → AllAllowed may [] t.seen → Stood may s own e rest p.part t
 Puts-stood {N} may s t own e rest p seen_allowed =
     let f = filter-at (λ x. x.agent == s.agent) p.part own e rest p.own_is in
     let all : AllAllowed may s.seen (f.before ++ e ∷ f.later) = subst (λ z. AllAllowed may s.seen z) f.is (part_allowed may s t (own ++ e ∷ rest) p seen_allowed) in
@@ -78,6 +79,7 @@ Puts-stood {N} may s t own e rest p seen_allowed =
     record {
       before = f.before;
       later = f.later;
+      part_is = f.is;
       is = p.is ∙ (ap (λ z. s.seen ++ z) f.is ∙ (sym (append_assoc s.seen f.before (e ∷ f.later)) ∙ sym (append_assoc (s.seen ++ f.before) (e ∷ []) f.later)));
       first = allowed-left may s.seen f.before (e ∷ f.later) all;
       own_before = f.pass_before;

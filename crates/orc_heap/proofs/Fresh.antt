@@ -173,3 +173,9 @@ module _ {N : Type 0} (n : HeapNumbers) (holds : List (Event N) → Type 0) (may
     pub fresh_later : (agent id : ℕ) (seen more : List (Event N)) (x : Node) → holds seen → IsOwnNode n agent id seen x → Later may agent seen more → IsOwnNode n agent id (seen ++ more) x
     fresh_later agent id seen more x h o later =
         subst (λ es. IsOwnNode n agent id (seen ++ more) (touched_by id es x)) later.others (own_node_told agent id seen more x h later.allowed o (rw later.others refl))
+
+    -- and so does what its record says
+    pub node_later : (agent id : ℕ) (node : Node) (seen more : List (Event N)) → holds seen → slice_get (run_heap n seen).nodes id ≡ Some node
+        → node.giver ≡ agent → node.named ≡ false → node.linked ≡ false → Later may agent seen more → slice_get (run_heap n (seen ++ more)).nodes id ≡ Some node
+    node_later agent id node seen more h there giver unnamed unlinked later =
+        (fresh_later agent id seen more node h (record { there = there; own = record { mine = giver; unnamed = unnamed; unlinked = unlinked } }) later).there

@@ -2,10 +2,15 @@ pub mod Before
 pub mod ByAnswer
 pub mod Changes
 pub mod Fresh
+pub mod Hands
+pub mod SingleActs
 pub mod Known
 pub mod Linked
+pub mod Moments
 pub mod Moved
+pub mod OwnEntries
 pub mod OwnParts
+pub mod Pieces
 pub mod Calls
 pub mod Roots
 pub mod Runs

@@ -11,7 +11,7 @@ use Rattle.orc_heap.specs.Acts.{Fits, as_linked, as_named, change_target, heap_a
 use Rattle.orc_heap.specs.Allowed.{AllAllowed}
 use Rattle.orc_heap.specs.Heap.{Heap, HeapNumbers, Node, shown}
 use Rattle.orc_heap.specs.Journals.{FitsAfter, IsLawfulFrom, run_from, run_heap}
-use Rattle.orc_heap.specs.Moves.{IsLinkedPlace, move_with, moves_in, moves_place}
+use Rattle.orc_heap.specs.Moves.{IsLinkedPlace, gives_in, move_with, moves_in, moves_place}
 use Rattle.orc_heap.specs.declared.events.Act.{Act}
 use Rattle.orc_heap.specs.declared.events.Act.TheVariants.{Aim, Fill, Give, Look, Miss, Move}
 use Rattle.orc_heap.specs.declared.events.Event.{Event}
@@ -22,6 +22,10 @@ use Rattle.orc_heap.specs.declared.events.Place.TheVariants.{Next, Root}
 pub moves_in-append : {N : Type 0} (es fs : List (Event N)) → moves_in (es ++ fs) ≡ moves_in es + moves_in fs
 moves_in-append [] fs = omega arith
 moves_in-append (e ∷ es) fs = omega (arith, moves_in-append es fs)
+
+pub gives_in-append : {N : Type 0} (es fs : List (Event N)) → gives_in (es ++ fs) ≡ gives_in es + gives_in fs
+gives_in-append [] fs = omega arith
+gives_in-append (e ∷ es) fs = omega (arith, gives_in-append es fs)
 
 -- a change of a target changes no root
 pub target_roots : (f : Node → Node) (to : Option ℕ) (h : Heap) → (change_target f to h).roots ≡ h.roots
@@ -44,17 +48,19 @@ links_stay (Look place seen) id link none = refl
 links_stay (Move place from to) id link none = cc
 links_stay (Miss place wanted found) id link none = refl
 
-shown_node : (h : Heap) (id : ℕ) (node : Node) → slice_get h.nodes id ≡ Some node → shown h (Next id) ≡ Some node.link
+-- the link of a node that is there
+pub shown_node : (h : Heap) (id : ℕ) (node : Node) → slice_get h.nodes id ≡ Some node → shown h (Next id) ≡ Some node.link
 shown_node h id node there = ap (option_map (λ (x : Node). x.link)) there
 
--- such a place stays one, and only a Move changes what it shows
-linked_place_after : (agent : ℕ) (act : Act) (h : Heap) (place : Place) → Fits agent act h → IsLinkedPlace place h → IsLinkedPlace place (heap_after agent act h)
+-- a root, or the link of a once linked node, stays one
+pub linked_place_after : (agent : ℕ) (act : Act) (h : Heap) (place : Place) → Fits agent act h → IsLinkedPlace place h → IsLinkedPlace place (heap_after agent act h)
 linked_place_after agent act h (Root r) fits l = tt
 linked_place_after agent act h (Next id) fits l =
     let s = linked_after agent act h id l.node fits l.there l.linked in
     record { node = s.node; there = s.there; linked = s.linked }
 
-shown_after : (agent : ℕ) (act : Act) (h : Heap) (place : Place) → Fits agent act h → IsLinkedPlace place h → move_with act ≡ 0 → shown (heap_after agent act h) place ≡ shown h place
+-- an act that is no Move leaves what such a place shows
+pub shown_after : (agent : ℕ) (act : Act) (h : Heap) (place : Place) → Fits agent act h → IsLinkedPlace place h → move_with act ≡ 0 → shown (heap_after agent act h) place ≡ shown h place
 shown_after agent act h (Root r) fits l none = ap (λ (ls : List Link). slice_get ls r) (roots_stay agent act h none)
 shown_after agent act h (Next id) fits l none =
     let s = linked_after agent act h id l.node fits l.there l.linked in

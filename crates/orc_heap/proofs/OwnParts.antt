@@ -1,29 +1,30 @@
 -- A list of events from an agent's first one on, and lists of its events alone.
-use Rattle.std.proofs.Common.{Bool, List, [], ap, arith, cond, false, refl, subst, sym, true, ℕ, ◌++◌, ◌+◌, ◌==◌, ◌∙◌, ◌∷◌, ◌≡◌, ◌≤◌}
+use Rattle.std.proofs.Common.{Bool, List, [], ap, arith, cond, false, length, refl, subst, sym, true, ℕ, ◌++◌, ◌+◌, ◌==◌, ◌∙◌, ◌∷◌, ◌≡◌, ◌≤◌}
 use Rattle.std.proofs.lemmas.Bool.{eq-eqb}
+use Rattle.std.proofs.lemmas.List.Elements.{filter-append}
 use Rattle.std.proofs.lemmas.List.Folds.{list_all-append}
 use Rattle.std.specs.List.{list_all}
 use Rattle.std.specs.Prelude.{◌&&◌}
 use Rattle.orc_heap.proofs.Moved.{moves_in-append}
 use Rattle.orc_heap.specs.Allowed.{events_by}
-use Rattle.orc_heap.specs.Moves.{AllOwn, from_own, moves_in}
+use Rattle.orc_heap.specs.Moves.{AllOwn, from_own, move_with, moves_in}
 use Rattle.orc_heap.specs.declared.events.Event.{Event}
 
-both : (a b : Bool) → (a && b) ≡ true → (a ≡ true) × (b ≡ true)
+pub both : (a b : Bool) → (a && b) ≡ true → (a ≡ true) × (b ≡ true)
 both true b e = (refl, e)
 both false b e = cc
 
 -- the list that ends where the agent's first event stands, and the list from there on
-pub record Begins {N : Type 0} (agent : ℕ) (es : List (Event N)) : Type 0 where
+pub record CutAtOwn {N : Type 0} (agent : ℕ) (es : List (Event N)) : Type 0 where
   pub before : List (Event N)
   pub is : es ≡ before ++ from_own agent es
   pub others : events_by agent before ≡ []
 
-pub begins_own : {N : Type 0} (agent : ℕ) (es : List (Event N)) → Begins agent es
+pub begins_own : {N : Type 0} (agent : ℕ) (es : List (Event N)) → CutAtOwn agent es
 begins_own agent [] = record { before = []; is = refl; others = refl }
 begins_own {N} agent (e ∷ es) = cases (e.agent == agent) refl (begins_own agent es)
   where
-    cases : (b : Bool) → (e.agent == agent) ≡ b → Begins agent es → Begins agent (e ∷ es)
+    cases : (b : Bool) → (e.agent == agent) ≡ b → CutAtOwn agent es → CutAtOwn agent (e ∷ es)
     cases true is k = record { before = []; is = rw is refl; others = refl }
     cases false is k = record { before = e ∷ k.before; is = rw is (ap (λ z. e ∷ z) k.is); others = rw is k.others }
 
@@ -37,12 +38,22 @@ from_own-others {N} agent (e ∷ es) fs none = cases (e.agent == agent) none (λ
     cases true h rest = cc
     cases false h rest = rest h
 
--- one with some in front
+-- one with a Move in front, after an own event
 pub from_own-some : {N : Type 0} (agent : ℕ) (es fs : List (Event N)) → 1 ≤ moves_in (from_own agent es) → from_own agent (es ++ fs) ≡ from_own agent es ++ fs
 from_own-some agent [] fs some = absurd (omega (arith, some))
 from_own-some {N} agent (e ∷ es) fs some = cases (e.agent == agent) some (λ h. from_own-some agent es fs h)
   where
     cases : (b : Bool) → 1 ≤ moves_in (cond b (e ∷ es) (from_own agent es)) → (1 ≤ moves_in (from_own agent es) → from_own agent (es ++ fs) ≡ from_own agent es ++ fs)
+        → cond b (e ∷ (es ++ fs)) (from_own agent (es ++ fs)) ≡ cond b (e ∷ es) (from_own agent es) ++ fs
+    cases true h rest = refl
+    cases false h rest = rest h
+
+-- one in which an own event stands
+pub from_own-begun : {N : Type 0} (agent : ℕ) (es fs : List (Event N)) → 1 ≤ length (events_by agent es) → from_own agent (es ++ fs) ≡ from_own agent es ++ fs
+from_own-begun agent [] fs some = absurd (omega (arith, some))
+from_own-begun {N} agent (e ∷ es) fs some = cases (e.agent == agent) some (λ h. from_own-begun agent es fs h)
+  where
+    cases : (b : Bool) → 1 ≤ length (cond b (e ∷ events_by agent es) (events_by agent es)) → (1 ≤ length (events_by agent es) → from_own agent (es ++ fs) ≡ from_own agent es ++ fs)
         → cond b (e ∷ (es ++ fs)) (from_own agent (es ++ fs)) ≡ cond b (e ∷ es) (from_own agent es) ++ fs
     cases true h rest = refl
     cases false h rest = rest h
@@ -112,3 +123,24 @@ own_from_left {N} agent (e ∷ es) fs all = cases (e.agent == agent) all (λ h. 
 -- where a Move stands after an own event, all that follows is the agent's
 pub own_from_rest : {N : Type 0} (agent : ℕ) (es fs : List (Event N)) → 1 ≤ moves_in (from_own agent es) → AllOwn agent (from_own agent (es ++ fs)) → AllOwn agent fs
 own_from_rest agent es fs some all = own_right agent (from_own agent es) fs (subst (λ z. AllOwn agent z) (from_own-some agent es fs some) all)
+
+-- where no other agent's event stands from the first own one on, these are the own events
+pub alone_own : {N : Type 0} (agent : ℕ) (es own : List (Event N)) → events_by agent es ≡ own → AllOwn agent (from_own agent es) → from_own agent es ≡ own
+alone_own agent es own is alone =
+    let b = begins_own agent es in
+    sym (own_is_all agent (from_own agent es) alone)
+    ∙ (ap (λ z. z ++ events_by agent (from_own agent es)) (sym b.others)
+    ∙ (sym (filter-append (λ e. e.agent == agent) b.before (from_own agent es)) ∙ (ap (λ z. events_by agent z) (sym b.is) ∙ is)))
+
+-- so if a Move stands there, then it is an own one
+pub quiet_not_alone : {N : Type 0} (agent : ℕ) (es own : List (Event N)) → events_by agent es ≡ own → moves_in own ≡ 0 → 1 ≤ moves_in (from_own agent es) → AllOwn agent (from_own agent es) → ⊥
+quiet_not_alone {N} agent es own is none some alone = omega (arith, none, some, ap (λ (z : List (Event N)). moves_in z) (alone_own agent es own is alone))
+
+-- the agent's own Moves stand among all
+pub moves_own : {N : Type 0} (agent : ℕ) (es : List (Event N)) → moves_in (events_by agent es) ≤ moves_in es
+moves_own agent [] = omega arith
+moves_own {N} agent (e ∷ es) = cases (e.agent == agent) (moves_own agent es)
+  where
+    cases : (b : Bool) → moves_in (events_by agent es) ≤ moves_in es → moves_in (cond b (e ∷ events_by agent es) (events_by agent es)) ≤ move_with e.act + moves_in es
+    cases true k = omega (arith, k)
+    cases false k = omega (arith, k)

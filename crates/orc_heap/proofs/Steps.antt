@@ -1,27 +1,18 @@
 -- The steps of a journal and their events: where a call's part begins, and whose events stand in it.
 use Rattle.std.proofs.Common.{Bool, List, [], ap, append-nil, append_assoc, arith, cond, drop, false, length, refl, subst, suc, sym, take, true, ℕ, ◌++◌, ◌+◌, ◌==◌, ◌∙◌, ◌∷◌, ◌≡◌, ◌≤◌}
 use Rattle.std.proofs.lemmas.Bool.{eqb-true}
-use Rattle.std.proofs.lemmas.List.{length-append}
+use Rattle.std.proofs.lemmas.List.{append_cancel_left, length-append}
 use Rattle.std.proofs.lemmas.List.Elements.{filter-append}
 use Rattle.std.proofs.lemmas.List.Folds.{list_all-append}
 use Rattle.std.proofs.Math.Seq.{drop-append_seam, take-append_seam}
 use Rattle.std.specs.List.{list_all}
-use Rattle.std.specs.Prelude.{◌&&◌}
 use mathlib.Core.List.{IsPrefix}
-use Rattle.orc_heap.proofs.OwnParts.{own_join}
+use Rattle.orc_heap.proofs.OwnParts.{both, own_join}
 use Rattle.orc_heap.specs.Allowed.{events_by}
 use Rattle.orc_heap.specs.Moves.{AllOwn}
 use Rattle.orc_history.specs.Journals.{own_of}
 use Rattle.orc_history.specs.Parts.{IsAlone, first_step, part_begin, part_of}
 use Rattle.orc_heap.specs.declared.events.Event.{Event}
-
-both : (a b : Bool) → (a && b) ≡ true → (a ≡ true) × (b ≡ true)
-both true b e = (refl, e)
-both false b e = cc
-
-append-cancel_left : {A : Type 0} (xs ys zs : List A) → xs ++ ys ≡ xs ++ zs → ys ≡ zs
-append-cancel_left [] ys zs e = e
-append-cancel_left (x ∷ xs) ys zs e = append-cancel_left xs ys zs (cc)
 
 -- the steps from the agent's first one on
 from_first : {S : Type 0} → (S → ℕ) → ℕ → List S → List S
@@ -184,7 +175,7 @@ module _ {N S : Type 0} (agent_of : S → ℕ) (events : List S → List (Event 
         record {
           gap = a.new;
           part = b.new;
-          is = append-cancel_left (events before) new (a.new ++ b.new) all;
+          is = append_cancel_left (events before) new (a.new ++ b.new) all;
           begin_events = ap events (rw c.begin_is (ap (λ z. take (length (before ++ c.gap)) z) c.is ∙ take-append_seam (before ++ c.gap) c.part)) ∙ a.is;
           others = a.none c.others;
           alone = λ h. b.own (subst (λ (ss : List S). list_all (λ (s : S). agent_of s == agent) ss ≡ true) c.part_is h);

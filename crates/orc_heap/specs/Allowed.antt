@@ -39,6 +39,13 @@ pub record IsLinkedNode (h : Heap) (id : ℕ) : Type 0 where
   pub there : slice_get h.nodes id ≡ Some node
   pub linked : node.linked ≡ true
 
+-- a once linked node with this link
+pub record HasLink (h : Heap) (id : ℕ) (link : Link) : Type 0 where
+  pub node : Node
+  pub there : slice_get h.nodes id ≡ Some node
+  pub linked : node.linked ≡ true
+  pub link_is : node.link ≡ link
+
 -- if the act is a Move, its place is a root or the link of a once linked node
 abbrev pub MovesLinked : Act → Heap → Type 0
 MovesLinked (Move (Next id) from to) h = IsLinkedNode h id

@@ -5,7 +5,7 @@ use mathlib.Core.List.{IsPrefix}
 use Rattle.orc_fault.specs.declared.Spent.{Spent}
 use Rattle.orc_heap.specs.Allowed.{events_by}
 use Rattle.orc_heap.specs.Heap.{Heap, HeapNumbers, Node, null}
-use Rattle.orc_heap.specs.Journals.{points_to, run_heap}
+use Rattle.orc_heap.specs.Journals.{event_by, points_to, run_heap}
 use Rattle.orc_heap.specs.OwnEvents.{Puts}
 use Rattle.orc_history.specs.Journals.{own_of}
 use Rattle.orc_heap.specs.Seats.{Seat, link_in, place_in}
@@ -23,7 +23,7 @@ use Rattle.orc_heap.specs.declared.holds.Want.TheVariants.{Node as WantNode, Nul
 
 -- an event of the pass's agent
 abbrev pub event_of : {N : Type 0} → Seat N → Act → Option N → Event N
-event_of s act noted = record { agent = s.agent; act = act; note = noted }
+event_of s act noted = event_by s.agent act noted
 
 -- the Move that a caller asks for
 abbrev pub move_of : {N : Type 0} → Seat N → At → Want → Want → Option N → Event N
@@ -48,8 +48,9 @@ pub record Gives {N : Type 0} (n : HeapNumbers) (slot first second : ℕ) (s : S
   pub puts : Puts s (event_of s Give None ∷ event_of s (Fill id 0 first) None ∷ event_of s (Fill id 1 second) None ∷ []) t
   pub node : slice_get (run_heap n t.seen).nodes id ≡ Some (given_node s.agent first second)
 
--- what a look of the place tells, puts and holds, by its answer. A null link is read once. A link that was read twice alike is
--- the one that the last Look shows, and its target is held. Else the two Looks differ, and the first link wasn't null.
+-- what a look of the place tells, puts and holds, by its answer. A null link is loaded once. Where two loads found the same row and
+-- mark, the last Look shows the link whose target is held; the first load was unprotected, so its Look may show another link with
+-- a target, whose row was reused since. Where they differ, so do the two Looks, and the first link wasn't null.
 abbrev pub Tells : {N : Type 0} → Place → ℕ → Seat N → Looked → Seat N → Type 0
 Tells place slot s (Stable seen None) t =
     (seen.null ≡ true) × (t.slots ≡ s.slots) × Puts s (event_of s (Look place (record { to = None; mark = seen.mark })) None ∷ []) t

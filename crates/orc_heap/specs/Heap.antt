@@ -1,5 +1,5 @@
 -- A heap of linked nodes with new memory for every node. After Michael and Scott 1996 and Harris 2001.
-use Rattle.std.specs.Prelude.{List, None, Option, [], false, replicate, slice_get, zero, Bool, suc, ℕ, ◌∷◌}
+use Rattle.std.specs.Prelude.{List, None, Option, Some, [], false, replicate, slice_get, zero, Bool, suc, ℕ, ◌∷◌}
 use Rattle.orc_heap.specs.declared.events.Link.{Link}
 use Rattle.orc_heap.specs.declared.events.Place.{Place}
 use Rattle.orc_heap.specs.declared.events.Place.TheVariants.{Next, Root}
@@ -26,6 +26,10 @@ pub record Heap : Type 0 where
 
 abbrev pub null : Link
 null = record { to = None; mark = false }
+
+-- an unmarked link to this node
+abbrev pub link_to : ℕ → Link
+link_to id = record { to = Some id; mark = false }
 
 abbrev pub new_node : ℕ → Node
 new_node agent = record { giver = agent; first = None; second = None; link = null; named = false; linked = false }

@@ -1,11 +1,20 @@
 -- Lists of events over a heap.
-use Rattle.std.specs.Prelude.{Bool, List, None, Option, Some, [], false, ℕ, ◌==◌, ◌∷◌, ◌≡◌}
+use Rattle.std.specs.Prelude.{Bool, List, None, Option, Some, [], false, ℕ, ◌++◌, ◌==◌, ◌∷◌, ◌≡◌}
 use Rattle.std.specs.List.{list_any}
 use Rattle.orc_heap.specs.Acts.{Fits, heap_after}
 use Rattle.orc_heap.specs.Heap.{Heap, HeapNumbers, new_heap}
 use Rattle.orc_heap.specs.declared.events.Act.{Act}
 use Rattle.orc_heap.specs.declared.events.Act.TheVariants.{Aim, Move}
 use Rattle.orc_heap.specs.declared.events.Event.{Event}
+
+-- an act of this agent with this note
+abbrev pub event_by : {N : Type 0} → ℕ → Act → Option N → Event N
+event_by agent act noted = record { agent = agent; act = act; note = noted }
+
+-- the entries that the notes of the events enter in a history, where `entries_in` says which a note enters
+abbrev pub noted_entries : {N E : Type 0} → (Option N → List E) → List (Event N) → List E
+noted_entries entries_in [] = []
+noted_entries entries_in (e ∷ es) = entries_in e.note ++ noted_entries entries_in es
 
 -- the heap after these events
 abbrev pub run_from : {N : Type 0} → Heap → List (Event N) → Heap

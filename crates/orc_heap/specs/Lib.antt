@@ -4,7 +4,9 @@ pub mod Journals
 pub mod Allowed
 pub mod Slots
 pub mod Seats
+pub mod Hands
 pub mod OwnEvents
 pub mod Calls
 pub mod Moves
+pub mod Domains
 pub mod Seeds

@@ -1,11 +1,13 @@
 -- Moves and Gives in a list of events, and the list from an agent's first event on.
 use Rattle.std.specs.List.{list_all}
-use Rattle.std.specs.Prelude.{Bool, List, [], false, if◌then◌else◌, true, ℕ, ◌+◌, ◌==◌, ◌∷◌, ◌≡◌}
+use Rattle.std.specs.Prelude.{Bool, List, Some, [], false, if◌then◌else◌, true, ℕ, ◌+◌, ◌==◌, ◌∷◌, ◌≡◌, ◌≤◌, ◌⊎◌}
 use Rattle.orc_heap.specs.Allowed.{IsLinkedNode}
-use Rattle.orc_heap.specs.Heap.{Heap}
+use Rattle.orc_heap.specs.Heap.{Heap, HeapNumbers, shown}
+use Rattle.orc_heap.specs.Seats.{Seat, heap_of}
 use Rattle.orc_heap.specs.declared.events.Act.{Act}
 use Rattle.orc_heap.specs.declared.events.Act.TheVariants.{Give, Move}
 use Rattle.orc_heap.specs.declared.events.Event.{Event}
+use Rattle.orc_heap.specs.declared.events.Link.{Link}
 use Rattle.orc_heap.specs.declared.events.Place.{Place}
 use Rattle.orc_heap.specs.declared.events.Place.TheVariants.{Next, Root}
 
@@ -53,3 +55,7 @@ is_at one two = false
 abbrev pub moves_place : Place → Act → Bool
 moves_place place (Move at from to) = is_at at place
 moves_place place act = false
+
+-- the place still shows the link, or a Move stands in what is new, after an own event
+abbrev pub ShowsOrMoved : {N : Type 0} → HeapNumbers → Place → Link → (s t : Seat N) → List (Event N) → Type 0
+ShowsOrMoved n place link s t part = (shown (heap_of n t) place ≡ Some link) ⊎ (1 ≤ moves_in (from_own s.agent part))

@@ -1,5 +1,6 @@
 -- What a call adds to what its pass has seen: events of its own, and others' events among them.
-use Rattle.std.specs.Prelude.{List, [], ℕ, ◌++◌, ◌<◌, ◌∷◌, ◌≡◌}
+use Rattle.std.specs.List.{AllByRecursion}
+use Rattle.std.specs.Prelude.{List, ℕ, ◌++◌, ◌<◌, ◌≡◌}
 use Rattle.orc_heap.specs.Allowed.{events_by}
 use Rattle.orc_heap.specs.Seats.{Seat}
 use Rattle.orc_heap.specs.declared.events.Event.{Event}
@@ -19,5 +20,4 @@ pub record Only {N : Type 0} (own : List (Event N)) (s t : Seat N) : Type 0 wher
 
 -- each event is of an agent below this number
 abbrev pub IsBelow : {N : Type 0} → ℕ → List (Event N) → Type 0
-IsBelow agents [] = Unit {0}
-IsBelow agents (e ∷ es) = (e.agent < agents) × IsBelow agents es
+IsBelow {N} agents es = AllByRecursion (λ (e : Event N). e.agent < agents) es

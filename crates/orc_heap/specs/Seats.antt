@@ -2,7 +2,8 @@
 -- places, links and targets by what the pass holds.
 use Rattle.std.specs.Borrow.{Bor}
 use Rattle.std.specs.Prelude.{List, None, Option, Some, false, replicate, slice_get, ℕ, ◌<◌, ◌≡◌, ◌≢◌}
-use Rattle.orc_heap.specs.Heap.{Heap, Node}
+use Rattle.orc_heap.specs.Heap.{Heap, HeapNumbers, Node}
+use Rattle.orc_heap.specs.Journals.{run_heap}
 use Rattle.orc_heap.specs.Slots.{Hold, Holds, Slots, id_in}
 use Rattle.orc_heap.specs.declared.events.Event.{Event}
 use Rattle.orc_heap.specs.declared.events.Link.{Link}
@@ -19,6 +20,10 @@ pub record Seat (N : Type 0) : Type 0 where
   pub seen : List (Event N)
   pub slots : Slots
   pub fresh : Option ℕ
+
+-- the heap that a pass has seen
+abbrev pub heap_of : {N : Type 0} → HeapNumbers → Seat N → Heap
+heap_of n s = run_heap n s.seen
 
 -- the pass holds nothing, and has no fresh node
 pub record IsIdle {N : Type 0} (s : Seat N) : Type 0 where

@@ -1,6 +1,7 @@
 -- The events with which the journals of a new domain begin. The dummy is that of Michael and Scott 1996.
-use Rattle.std.specs.Prelude.{List, None, Option, Some, [], false, ℕ, ◌++◌, ◌^◌, ◌∷◌, ◌≤◌}
-use Rattle.orc_heap.specs.Heap.{HeapNumbers, null}
+use Rattle.std.specs.Prelude.{List, None, Option, Some, [], ℕ, ◌++◌, ◌^◌, ◌∷◌, ◌≤◌}
+use Rattle.orc_heap.specs.Heap.{HeapNumbers, link_to, null}
+use Rattle.orc_heap.specs.Journals.{event_by}
 use Rattle.orc_heap.specs.declared.events.Act.{Act}
 use Rattle.orc_heap.specs.declared.events.Act.TheVariants.{Fill, Give, Move}
 use Rattle.orc_heap.specs.declared.events.Event.{Event}
@@ -11,7 +12,7 @@ use Rattle.orc_heap.specs.declared.seed.Seed.TheVariants.{Dummy, Empty}
 module _ {N : Type 0} where
   -- an event of the agent that opens the journal, which is agent 0
   abbrev pub opening_event : Act → Option N → Event N
-  opening_event act note = record { agent = 0; act = act; note = note }
+  opening_event act note = event_by 0 act note
 
   -- the dummy node, with its values
   abbrev pub dummy_node : ℕ → List (Event N)
@@ -19,7 +20,7 @@ module _ {N : Type 0} where
 
   -- a link to it from a root
   abbrev pub dummy_link : ℕ → N → Event N
-  dummy_link root begin = opening_event (Move (Root root) null (record { to = Some 0; mark = false })) (Some begin)
+  dummy_link root begin = opening_event (Move (Root root) null (link_to 0)) (Some begin)
 
   -- the events that a new domain begins with
   abbrev pub opening_events : Seed N → List (Event N)

@@ -68,8 +68,11 @@ pub struct Seen {
     pub mark: bool,
 }
 
-/// The answer of a look: a link that was read twice alike, with its target, which is now held, if it has one;
-/// or the link moved in between.
+/// The answer of a look: null; or a link that was read twice alike, with its target, which is now held; or the link
+/// moved in between.
+///
+/// What is read twice is the target's row. The first load is unprotected, so the row may be reused between the two: the
+/// node that is held is the one that the second load found.
 pub enum Looked {
     Stable(Seen, Option<Held>),
     Moved,

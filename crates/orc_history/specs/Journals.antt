@@ -1,11 +1,7 @@
 -- Journals: lists of steps, to which later steps are only appended, and the entries that a call adds to a history.
-use Rattle.std.specs.Prelude.{◌≡◌, ℕ, ◌≤◌, List, [], ◌∷◌, ◌++◌, filter, ◌==◌, ◌⊎◌}
+use Rattle.std.specs.List.{AllByRecursion}
+use Rattle.std.specs.Prelude.{◌≡◌, ℕ, ◌≤◌, List, ◌++◌, filter, ◌==◌, ◌⊎◌}
 use mathlib.Core.List.{IsPrefix}
-
--- each item has the property
-abbrev pub Every : {A : Type 0} → (A → Type 0) → List A → Type 0
-Every P [] = Unit {0}
-Every P (x ∷ xs) = P x × Every P xs
 
 -- the fact holds of two places of this stretch, in their order
 abbrev pub Within : ℕ → ℕ → (ℕ → ℕ → Type 0) → Type 0
@@ -20,7 +16,7 @@ pub record Adds {E : Type 0} (agent_of : E → ℕ) (crowd : ℕ → Type 0) (ag
   pub part : List E
   pub is : after ≡ before ++ part
   pub own_is : own_of agent_of agent part ≡ own
-  pub others : Every (λ e. (agent_of e ≡ agent) ⊎ crowd (agent_of e)) part
+  pub others : AllByRecursion (λ e. (agent_of e ≡ agent) ⊎ crowd (agent_of e)) part
 
 -- two passes learn from each other: each has then seen the longer of their two journals, of which the shorter is the beginning, and
 -- in its history the entries of each of the two agents are those that its own pass had seen

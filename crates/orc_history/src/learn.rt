@@ -1,6 +1,7 @@
 //! Containers whose passes can learn from each other what they have seen.
+ghost use Rattle.std.specs.List.{AllByRecursion};
 ghost use Rattle.std.specs.Prelude.{◌≡◌, ◌≢◌, ℕ, ◌<◌};
-ghost use Rattle.orc_history.specs.Journals.{Every, LearnsEntries};
+ghost use Rattle.orc_history.specs.Journals.{LearnsEntries};
 ghost use Rattle.orc_history.specs.QueueHistory.{agent_of_entry};
 ghost use Rattle.orc_history.specs.SetHistory.{agent_of_set_entry};
 
@@ -25,7 +26,10 @@ pub trait LearnQueue: SharedQueue {
 
     // each entry that a pass has seen is of one of the queue's agents, and so is the pass
     ghost agents_below: { (q : Self) (p : Self.Pass) → Self.usable q p
-        → (Self.agent_of q p < agents q) × Every (λ e. agent_of_entry e < agents q) (Self.history q (Self.journal p)) };
+        → (Self.agent_of q p < agents q) × AllByRecursion (λ e. agent_of_entry e < agents q) (Self.history q (Self.journal p)) };
+
+    // and so is each agent whose entries may come between those of a call
+    ghost crowd_below: { (q : Self) (agent : ℕ) → Self.crowd q agent → agent < agents q };
 }
 
 /// A set for so many agents, whose passes learn from each other: once a pass has learned from all others, it has
@@ -46,5 +50,8 @@ pub trait LearnSet: SharedSet {
 
     // each entry that a pass has seen is of one of the set's agents, and so is the pass
     ghost agents_below: { (s : Self) (p : Self.Pass) → Self.usable s p
-        → (Self.agent_of s p < agents s) × Every (λ e. agent_of_set_entry e < agents s) (Self.history s (Self.journal p)) };
+        → (Self.agent_of s p < agents s) × AllByRecursion (λ e. agent_of_set_entry e < agents s) (Self.history s (Self.journal p)) };
+
+    // and so is each agent whose entries may come between those of a call
+    ghost crowd_below: { (s : Self) (agent : ℕ) → Self.crowd s agent → agent < agents s };
 }

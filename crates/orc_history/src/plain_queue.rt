@@ -1,8 +1,8 @@
 //! A queue on one thread, which stores its history.
-ghost use Rattle.std.specs.Prelude.{◌≡◌, ◌+◌, ◌<◌, ◌≤◌, ◌^◌, ◌↔◌, List, [], ◌∷◌, ◌++◌, length, slice_get, true, false, refl, IfOk, IsErr, OnErr};
+ghost use Rattle.std.specs.Prelude.{◌≡◌, ℕ, ◌+◌, ◌<◌, ◌≤◌, ◌^◌, ◌↔◌, List, [], ◌∷◌, ◌++◌, length, slice_get, true, false, refl, IfOk, IsErr, OnErr};
 ghost use Rattle.orc_history.specs.QueueHistory.{entry_of_dequeue, puts_in, waiting_after};
 ghost use Rattle.orc_history.specs.StoredHistory.{LacksTurn, RefusedAt, RefusedAt-append};
-ghost use Rattle.orc_history.specs.PlainQueue.{IsQueuePass, RefusesEnqueue, enough_puts};
+ghost use Rattle.orc_history.specs.PlainQueue.{IsQueuePass, QueuePassView, RefusesEnqueue, enough_puts};
 ghost use Rattle.orc_history.specs.declared.queue.QueueEntry.{QueueEntry};
 ghost use Rattle.orc_history.specs.declared.queue.QueueRefused.{QueueRefused};
 
@@ -112,6 +112,22 @@ impl PlainQueuePass {
     {
         self.agent = agent;
     }
+}
+
+impl PlainQueue {
+    /// What the members of `SharedQueue` mean here: no other agent's entries come in between, and each refusal has the cause
+    /// that `enqueue` tells.
+    pub fn members(&self)
+        ensures agent_of { (p : QueuePassView) → ⟦<PlainQueue as SharedQueue>⟧.agent_of self.now p ≡ p.agent }
+        ensures journal { (p : QueuePassView) → ⟦<PlainQueue as SharedQueue>⟧.journal p ≡ p.history }
+        ensures history { (journal : List QueueEntry) → ⟦<PlainQueue as SharedQueue>⟧.history self.now journal ≡ journal }
+        ensures first { ⟦<PlainQueue as SharedQueue>⟧.first self.now ≡ self.now.first }
+        ensures usable { (p : QueuePassView) → ⟦<PlainQueue as SharedQueue>⟧.usable self.now p ↔ IsQueuePass self.now p }
+        ensures no_crowd { (agent : ℕ) → ¬ ⟦<PlainQueue as SharedQueue>⟧.crowd self.now agent }
+        ensures licence { (agent turns : ℕ) (why : QueueRefused) (journal : List QueueEntry) (from to : ℕ)
+            → ⟦<PlainQueue as SharedQueue>⟧.licence self.now agent turns why journal from to
+            → RefusedAt (RefusesEnqueue self.now turns) why journal from }
+    {}
 }
 
 impl SharedQueue for PlainQueue {

@@ -1,8 +1,8 @@
 //! A set on one thread, which stores its history.
-ghost use Rattle.std.specs.Prelude.{◌≡◌, ◌≢◌, ◌≤◌, ◌↔◌, List, [], ◌∷◌, ◌++◌, length, true, false, not, refl, IfOk, IsErr, OnErr};
+ghost use Rattle.std.specs.Prelude.{◌≡◌, ℕ, ◌≢◌, ◌≤◌, ◌↔◌, List, [], ◌∷◌, ◌++◌, length, true, false, not, refl, IfOk, IsErr, OnErr};
 ghost use Rattle.orc_history.specs.SetHistory.{has, keys_after};
 ghost use Rattle.orc_history.specs.StoredHistory.{LacksTurn, RefusedAt, RefusedAt-append};
-ghost use Rattle.orc_history.specs.PlainSet.{IsSetPass, RefusesInsert};
+ghost use Rattle.orc_history.specs.PlainSet.{IsSetPass, RefusesInsert, SetPassView};
 ghost use Rattle.orc_history.specs.declared.set.SetEntry.{SetEntry};
 ghost use Rattle.orc_history.specs.declared.set.ListRefused.{ListRefused};
 
@@ -100,6 +100,21 @@ impl PlainSetPass {
     {
         self.agent = agent;
     }
+}
+
+impl PlainSet {
+    /// What the members of `SharedSet` mean here: no other agent's entries come in between, and each refusal has the cause
+    /// that `insert` tells.
+    pub fn members(&self)
+        ensures agent_of { (p : SetPassView) → ⟦<PlainSet as SharedSet>⟧.agent_of self.now p ≡ p.agent }
+        ensures journal { (p : SetPassView) → ⟦<PlainSet as SharedSet>⟧.journal p ≡ p.history }
+        ensures history { (journal : List SetEntry) → ⟦<PlainSet as SharedSet>⟧.history self.now journal ≡ journal }
+        ensures usable { (p : SetPassView) → ⟦<PlainSet as SharedSet>⟧.usable self.now p ↔ IsSetPass self.now p }
+        ensures no_crowd { (agent : ℕ) → ¬ ⟦<PlainSet as SharedSet>⟧.crowd self.now agent }
+        ensures licence { (agent turns : ℕ) (why : ListRefused) (journal : List SetEntry) (from to : ℕ)
+            → ⟦<PlainSet as SharedSet>⟧.licence self.now agent turns why journal from to
+            → RefusedAt (RefusesInsert self.now turns) why journal from }
+    {}
 }
 
 impl SharedSet for PlainSet {

@@ -6,7 +6,7 @@ ghost use Rattle.orc_history.specs.SetHistory.{has, with_key, without_key};
 
 use std::collections::VecDeque;
 
-/// Whether the key is one of these.
+// Answers whether the key is one of these.
 pub(crate) fn has_key(keys: &VecDeque<u64>, key: u64) -> bool
     requires { IsStrictlyIncreasing keys.now.items }
     ensures { result ≡ has key keys.now.items }
@@ -14,7 +14,7 @@ pub(crate) fn has_key(keys: &VecDeque<u64>, key: u64) -> bool
     keys.binary_search(&key).is_ok()
 }
 
-/// Adds the key at its place, and answers whether it was absent. There is memory for one more.
+// Adds the key at its place, and answers whether it was absent. There is memory for one more.
 pub(crate) fn add_key(keys: &mut VecDeque<u64>, key: u64) -> bool
     requires rising { IsStrictlyIncreasing keys.old.items }
     requires reserved { length keys.old.items < deque_capacity keys.old }
@@ -32,7 +32,7 @@ pub(crate) fn add_key(keys: &mut VecDeque<u64>, key: u64) -> bool
     true
 }
 
-/// Takes the key out, and answers whether it was present.
+// Takes the key out, and answers whether it was present.
 pub(crate) fn take_key(keys: &mut VecDeque<u64>, key: u64) -> bool
     requires { IsStrictlyIncreasing keys.old.items }
     ensures answer { result ≡ has key keys.old.items }

@@ -1,3 +1,8 @@
+ghost use Rattle.std.specs.Prelude.{◌≡◌};
+ghost use Rattle.orc_jobs.specs.declared.cause.JobsFault.TheVariants.{NoMemory as Refused};
+
+use orc_fault::NoMemory;
+
 /// What is wrong with a record. Where several causes apply, the first in this order is told.
 #[derive(Clone, Copy, Debug, PartialEq, Eq, Drop)]
 pub enum Cause {
@@ -23,4 +28,12 @@ pub enum JobsFault {
     /// There are 65,535 lines, and then a further record.
     TooMany,
     NoMemory,
+}
+
+impl From<NoMemory> for JobsFault {
+    ghost from_gives = { λ _ e. e ≡ Refused };
+
+    fn from(_refused: NoMemory) -> JobsFault {
+        JobsFault::NoMemory
+    }
 }

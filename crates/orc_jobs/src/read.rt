@@ -3,13 +3,13 @@ ghost use Rattle.orc_jobs.specs.GoodLines.{AreGood};
 ghost use Rattle.orc_jobs.specs.JobGrammar.{IsFileOf, Refuses};
 ghost use Rattle.orc_jobs.specs.OneRecord.{RefusesRecord, TakesRecord};
 ghost use Rattle.csv.specs.Records.{fields_of};
+ghost use Rattle.csv.specs.Reading.{NotLengths, error_kind};
 ghost use Rattle.orc_jobs.specs.declared.cause.Cause.{Cause};
 ghost use Rattle.orc_jobs.specs.declared.line.Line.{Line};
 
 use crate::record::{RecordRefused, line_of};
 use crate::{JobsFault, Lines};
-use csv::{ByteRecord, ReaderBuilder};
-use orc_fault::NoMemory;
+use csv::{ByteRecord, Error, ErrorKind, ReaderBuilder};
 use std::alloc::Global;
 
 // The most records that a job file has.
@@ -46,13 +46,25 @@ fn read_records(alloc: Global, bytes: &[u8]) -> Result<Lines, JobsFault>
         .from_reader(alloc, bytes);
     let mut lines = Lines::new(alloc);
     for row in reader.into_byte_records() {
-        // `csv` doesn't rule out a failing read, which a slice has none of: each error is told as this.
-        let Ok(row) = row else {
-            return Err(JobsFault::NoMemory);
+        let row = match row {
+            Ok(row) => row,
+            Err(error) => return Err(fault_of(error)),
         };
         take_record(alloc, &row, &mut lines)?;
     }
     Ok(lines)
+}
+
+// What an error of the reader is told as. Records of unequal lengths are none. That a slice has no failing
+// reads, `csv` doesn't say.
+fn fault_of(error: Error) -> JobsFault
+    requires { NotLengths (error_kind error) }
+    ensures { result ≡ JobsFault.NoMemory }
+{
+    match error.into_kind() {
+        ErrorKind::UnequalLengths { .. } => unreachable!(),
+        _ => JobsFault::NoMemory,
+    }
 }
 
 // Appends the line of a record, where there is room for one more.
@@ -65,15 +77,14 @@ fn take_record(alloc: Global, row: &ByteRecord, lines: &mut Lines) -> Result<(),
     if place >= MOST {
         return Err(JobsFault::TooMany);
     }
-    match line_of(alloc, row) {
-        Ok(line) => match lines.push(line) {
-            Ok(()) => Ok(()),
-            Err(NoMemory) => Err(JobsFault::NoMemory),
-        },
+    let line = match line_of(alloc, row) {
+        Ok(line) => line,
         Err(RecordRefused::Cause(cause)) => {
             let line = place as u32;
-            Err(JobsFault::Malformed { line, cause })
+            return Err(JobsFault::Malformed { line, cause });
         }
-        Err(RecordRefused::NoMemory) => Err(JobsFault::NoMemory),
-    }
+        Err(RecordRefused::NoMemory) => return Err(JobsFault::NoMemory),
+    };
+    lines.push(line)?;
+    Ok(())
 }

@@ -2,6 +2,7 @@ ghost use Rattle.std.specs.Prelude.{◌≡◌, ◌≢◌, ◌↔◌, All, IfErr,
 ghost use Rattle.csv.specs.Records.{fields_of};
 ghost use Rattle.orc_jobs.specs.JobGrammar.{IsLine, IsOpWord, field, record_of, word_of};
 ghost use Rattle.orc_jobs.specs.OneRecord.{Explains};
+ghost use Rattle.orc_jobs.specs.declared.record.RecordRefused.TheVariants.{NoMemory as Refused};
 
 use crate::number::{is_number_list, number_of};
 use crate::{Cause, Job, Line, Text};
@@ -15,6 +16,14 @@ use std::str;
 pub enum RecordRefused {
     Cause(Cause),
     NoMemory,
+}
+
+impl From<NoMemory> for RecordRefused {
+    ghost from_gives = { λ _ e. e ≡ Refused };
+
+    fn from(_refused: NoMemory) -> RecordRefused {
+        RecordRefused::NoMemory
+    }
 }
 
 /// The line that a record stands for, or the first cause that applies to it.
@@ -47,10 +56,8 @@ pub fn line_of(alloc: Global, row: &ByteRecord) -> Result<Line, RecordRefused>
     if op == Job::Sum && !is_number_list(text) {
         return Err(RecordRefused::Cause(Cause::Sum));
     }
-    match Text::from_slice(alloc, text) {
-        Ok(text) => Ok(Line::Post { id, op, text }),
-        Err(NoMemory) => Err(RecordRefused::NoMemory),
-    }
+    let text = Text::from_slice(alloc, text)?;
+    Ok(Line::Post { id, op, text })
 }
 
 // The operation of a word.

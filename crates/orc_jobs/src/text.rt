@@ -1,4 +1,5 @@
 ghost use Rattle.std.specs.Prelude.{◌≡◌, ◌<◌, ◌++◌, ◌∷◌, [], List, ℕ, OnErr, OnOk, IfOk, length, slice_index};
+ghost use Rattle.std.specs.String.{string_bytes};
 
 use orc_fault::NoMemory;
 use std::alloc::Global;
@@ -32,9 +33,16 @@ impl Text {
     pub fn from_slice(alloc: Global, bytes: &[u8]) -> Result<Text, NoMemory>
         ensures { IfOk result (λ t. t ≡ bytes.now) }
     {
-        match Vec::from_slice(alloc, bytes) {
-            Ok(items) => Ok(Text { items }),
-            Err(_) => Err(NoMemory),
+        let items = Vec::from_slice(alloc, bytes)?;
+        Ok(Text { items })
+    }
+
+    /// The bytes of a string; it takes no memory.
+    pub fn from_string(string: String) -> Text
+        ensures { result ≡ string_bytes string }
+    {
+        Text {
+            items: string.into_bytes(),
         }
     }
 
@@ -43,10 +51,8 @@ impl Text {
         ensures ok { OnOk result (self.new ≡ self.old ++ item ∷ []) }
         ensures err { OnErr result (self.new ≡ self.old) }
     {
-        match self.items.push(item) {
-            Ok(()) => Ok(()),
-            Err(_) => Err(NoMemory),
-        }
+        self.items.push(item)?;
+        Ok(())
     }
 
     /// How many bytes it has.

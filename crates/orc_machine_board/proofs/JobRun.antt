@@ -1,14 +1,20 @@
 -- The discipline of the queue allows the three exchanges of the job's run.
-use Rattle.std.proofs.Common.{List, None, Option, Some, ap, arith, inl, refl, subst, sym, ℕ, ◌<◌, ◌∙◌, ◌≡◌, ◌≢◌}
+use Rattle.std.proofs.Common.{List, None, Option, Some, [], ap, arith, inl, refl, subst, sym, ℕ, ◌++◌, ◌<◌, ◌∙◌, ◌∷◌, ◌≡◌, ◌≢◌}
+use Rattle.std.specs.Option.{IfSome}
+use Rattle.orc_machine_board.proofs.Making.{steps_next}
+use Rattle.orc_machine_board.specs.Passes.{TookInAll}
+use Rattle.orc_machine_board.specs.Rules.{step_of}
+use Rattle.orc_machine_board.specs.declared.machine.Request.{Request}
+use Rattle.orc_shared_words.specs.Runs.{AgentsBelow}
 use Rattle.std.specs.Prelude.{true, unwrap_or}
 use Rattle.orc_fifo_rule.proofs.Coming.{put_allowed, swing_allowed, took_allowed}
-use Rattle.orc_fifo_rule.specs.QueueDiscipline.{FifoHolds, FifoMay, HasJob, HasLink, link_to}
-use Rattle.orc_fifo_rule.specs.Watches.{IsLeft, WasNamed, event_of}
+use Rattle.orc_fifo_rule.specs.QueueDiscipline.{FifoHolds, FifoMay, HasJob, HasLink}
+use Rattle.orc_fifo_rule.specs.Watches.{IsLeft, WasNamed}
 use Rattle.orc_fifo_rule.specs.declared.fifo.FifoNote.{FifoNote}
 use Rattle.orc_fifo_rule.specs.declared.fifo.FifoNote.TheVariants.{Entry, Swing}
 use Rattle.orc_heap.specs.Allowed.{AllowedLater}
-use Rattle.orc_heap.specs.Heap.{Heap, HeapNumbers, Node, null}
-use Rattle.orc_heap.specs.Journals.{run_heap}
+use Rattle.orc_heap.specs.Heap.{Heap, HeapNumbers, Node, link_to, null}
+use Rattle.orc_heap.specs.Journals.{event_by, run_heap}
 use Rattle.orc_heap.specs.declared.events.Act.TheVariants.{Move}
 use Rattle.orc_heap.specs.declared.events.Event.{Event}
 use Rattle.orc_heap.specs.declared.events.Link.{Link}
@@ -17,7 +23,7 @@ use Rattle.orc_heap.specs.declared.events.Place.TheVariants as at
 use Rattle.orc_history.specs.declared.queue.QueueEntry.TheVariants.{Put, Took}
 use Rattle.orc_machine_board.specs.JobRun.{before_put, before_swing, before_took, null_row, row_0, row_1, small}
 use Rattle.orc_machine_board.specs.Licences.{MoveAllowed}
-use Rattle.orc_machine_board.specs.Views.{MachineView}
+use Rattle.orc_machine_board.specs.Views.{MachineView, Makes}
 use Rattle.orc_projection.specs.Mirror.{numbers_of}
 use Rattle.orc_projection.specs.PresentIds.{node_place}
 use Rattle.orc_projection.specs.Projection.{present_ids, project}
@@ -39,10 +45,10 @@ holds_as : (b c : Bounds) (s : MachineView FifoNote) (j : List (Step FifoNote)) 
 holds_as b c s j same seen = subst (λ (z : Bounds × List (Step FifoNote)). FifoHolds (numbers_of z.0) (project z.0 z.1)) (λ i. (same i, seen i))
 
 -- a Move of the one place that the word is
-at_place : (n : HeapNumbers) (seen : List (Event FifoNote)) (o : Option Place) (one : Place) (from to : Link) (note : Option FifoNote) → o ≡ Some one
-    → AllowedLater (FifoMay n) n 0 seen one from (event_of 0 (Move one from to) note)
-    → (p : Place) → o ≡ Some p → AllowedLater (FifoMay n) n 0 seen p from (event_of 0 (Move p from to) note)
-at_place n seen o one from to note is can p e = subst (λ q. AllowedLater (FifoMay n) n 0 seen q from (event_of 0 (Move q from to) note)) (ap (λ (x : Option Place). unwrap_or x one) (sym is ∙ e)) can
+at_word : (n : HeapNumbers) (seen : List (Event FifoNote)) (o : Option Place) (one : Place) (from to : Link) (note : Option FifoNote) → o ≡ Some one
+    → AllowedLater (FifoMay n) n 0 seen one from (event_by 0 (Move one from to) note)
+    → (p : Place) → o ≡ Some p → AllowedLater (FifoMay n) n 0 seen p from (event_by 0 (Move p from to) note)
+at_word n seen o one from to note is can p e = subst (λ q. AllowedLater (FifoMay n) n 0 seen q from (event_by 0 (Move q from to) note)) (ap (λ (x : Option Place). unwrap_or x one) (sym is ∙ e)) can
 
 -- the dummy with this link, and the node of the job
 abbrev dummy : Link → Node
@@ -71,7 +77,7 @@ put_licensed b s same is seen holds =
     let h : Heap = run_heap n es in
     let named : WasNamed h 1 0 = record { linked = record { node = dummy null; there = refl; linked = refl }; either = inl refl } in
     same_allowed b small s 0 before_put (Next 0) null_row row_1 (Some (Entry (Put 0 6 0))) same is seen
-    (at_place n es (node_place (present_ids small before_put) (Next 0)) (at.Next 0) null (link_to 1) (Some (Entry (Put 0 6 0))) refl
+    (at_word n es (node_place (present_ids small before_put) (Next 0)) (at.Next 0) null (link_to 1) (Some (Entry (Put 0 6 0))) refl
     (put_allowed n 0 0 1 6 0 es (holds_as b small s before_put same seen holds) refl named refl (omega arith) refl))
 
 pub swing_licensed : (b : Bounds) (s : MachineView FifoNote) → b ≡ small → s.agent ≡ 0 → s.journal ≡ before_swing → FifoHolds (numbers_of b) (project b s.journal)
@@ -82,7 +88,7 @@ swing_licensed b s same is seen holds =
     let h : Heap = run_heap n es in
     let link : HasLink h 0 (link_to 1) = record { node = dummy (link_to 1); there = refl; linked = refl; link_is = refl } in
     same_allowed b small s 0 before_swing (Root 1) row_0 row_1 (Some Swing) same is seen
-    (at_place n es (node_place (present_ids small before_swing) (Root 1)) (at.Root 1) (link_to 0) (link_to 1) (Some Swing) refl
+    (at_word n es (node_place (present_ids small before_swing) (Root 1)) (at.Root 1) (link_to 0) (link_to 1) (Some Swing) refl
     (swing_allowed n 0 0 1 es (holds_as b small s before_swing same seen holds) refl link))
 
 pub took_licensed : (b : Bounds) (s : MachineView FifoNote) → b ≡ small → s.agent ≡ 0 → s.journal ≡ before_took → FifoHolds (numbers_of b) (project b s.journal)
@@ -95,5 +101,21 @@ took_licensed b s same is seen holds =
     let left : IsLeft h 0 = record { next = 1; link = link; tail_apart = links_apart } in
     let has : HasJob h 1 6 0 = record { node = job; there = refl; linked = refl; holds = record { job_is = refl; position_is = refl; low = omega arith } } in
     same_allowed b small s 0 before_took (Root 0) row_0 row_1 (Some (Entry (Took 0 6 0))) same is seen
-    (at_place n es (node_place (present_ids small before_took) (Root 0)) (at.Root 0) (link_to 0) (link_to 1) (Some (Entry (Took 0 6 0))) refl
+    (at_word n es (node_place (present_ids small before_took) (Root 0)) (at.Root 0) (link_to 0) (link_to 1) (Some (Entry (Took 0 6 0))) refl
     (took_allowed n 0 0 1 6 0 es (holds_as b small s before_took same seen holds) refl left link has))
+
+-- a pass of a board for one agent steps right after what it had seen
+pub sole_next : (b : Bounds) (q : Request) (note : Option FifoNote) (s t : MachineView FifoNote) (n : ℕ) → b ≡ small → s.agent ≡ 0 → Makes b q note s n t
+    → AgentsBelow (λ (x : Step FifoNote). x.agent) b.agents t.journal → t.journal ≡ s.journal ++ step_of 0 q note ∷ []
+sole_next b q note s t n same is made below =
+    let one : b.agents ≡ 1 = ap (λ (c : Bounds). c.agents) same in
+    let all : TookInAll b s = λ a lt. inl (let zero : a ≡ 0 = omega (arith, one, lt) in zero ∙ sym is) in
+    steps_next b q note s t n made all below ∙ ap (λ a. s.journal ++ step_of a q note ∷ []) is
+
+-- a journal that went on twice
+pub on_and_on : {A : Type 0} {x y z w : List A} {p q : List A} → x ≡ y ++ p → y ≡ z ++ q → z ≡ w → x ≡ (w ++ q) ++ p
+on_and_on {p = p} {q = q} e f g = e ∙ ap (λ l. l ++ p) (f ∙ ap (λ l. l ++ q) g)
+
+pub if_some_map : {A : Type 0} {P Q : A → Type 0} (o : Option A) → ((x : A) → P x → Q x) → IfSome o P → IfSome o Q
+if_some_map None f h = tt
+if_some_map (Some x) f h = f x h

@@ -1,5 +1,5 @@
 -- What licenses the steps on links.
-use Rattle.std.proofs.Common.{Bool, List, None, Option, Some, [], ap, arith, eqb-true, false, refl, subst, sym, true, ℕ, ◌++◌, ◌+◌, ◌<◌, ◌∙◌, ◌≡◌, ◌≢◌, ◌≤◌, ◌∷◌, ne_eqb}
+use Rattle.std.proofs.Common.{Bool, List, None, Option, Some, [], ap, arith, eqb-true, false, refl, subst, sym, true, ℕ, ◌++◌, ◌+◌, ◌<◌, ◌∙◌, ◌≡◌, ◌≢◌, ◌≤◌, ◌∷◌}
 use Rattle.std.specs.Option.{option_map}
 use Rattle.std.specs.Prelude.{if◌then◌else◌, is_none, nat_lt, not, ◌&&◌, ◌==◌, ◌||◌}
 use Rattle.orc_core.proofs.Within.{and_both, may_parts}
@@ -9,7 +9,8 @@ use Rattle.orc_core.specs.RecordParts.{any_holds, doom_uncut, is_empty, is_publi
 use Rattle.orc_core.specs.declared.ops.Op.{Op}
 use Rattle.orc_core.specs.declared.ops.Op.TheVariants.{LinkCas, LinkLoad, LinkStore}
 use Rattle.orc_core.specs.declared.records.Agent.{Agent}
-use Rattle.orc_heap.specs.Allowed.{AllAllowed, Later, events_by}
+use Rattle.orc_heap.proofs.Stays.{allowed-right}
+use Rattle.orc_heap.specs.Allowed.{AllAllowed, Later}
 use Rattle.orc_heap.specs.Heap.{HeapNumbers, shown}
 use Rattle.orc_heap.specs.Journals.{FitsAfter, IsPlain as IsPlainEvent, run_heap}
 use Rattle.orc_heap.specs.declared.events.Act.{Act}
@@ -33,7 +34,7 @@ use Rattle.orc_machine_board.specs.Rules.{RequestAllowed, bounds_in, counted_rul
 use Rattle.orc_machine_board.specs.Views.{view_of}
 use Rattle.orc_machine_board.specs.declared.machine.Request.{Request}
 use Rattle.orc_machine_board.specs.declared.machine.MachineShape.{MachineShape}
-use Rattle.orc_shared_words.proofs.Events.{AllBy, NoneBy, allowed-split, others_add}
+use Rattle.orc_shared_words.proofs.Events.{AllBy, others_add}
 use Rattle.orc_shared_words.specs.Lists.{Each}
 use Rattle.orc_shared_words.specs.Steps.{LaterJournal, Licensed}
 use Rattle.orc_shared_words.specs.declared.journal.View.{View}
@@ -103,10 +104,6 @@ module _ {N : Type 0} where
       by_one s None = tt
       by_one s (Some act) = (refl, tt)
 
-  pub none_by : (a : ℕ) (es : List (Event N)) → NoneBy a es → events_by a es ≡ []
-  none_by a [] n = refl
-  none_by a (e ∷ es) n = ap (λ (t : Bool). if t then e ∷ events_by a es else events_by a es) (ne_eqb e.agent a n.0) ∙ none_by a es n.1
-
   -- the events that the pass meets: of others, each allowed where it stands
   pub record Meets (may : List (Event N) → Event N → Type 0) (b : Bounds) (a : ℕ) (seen between : List (Step N)) : Type 0 where
     pub more : List (Event N)
@@ -118,7 +115,7 @@ module _ {N : Type 0} where
   meets k holds may v a between none later =
       let b = bounds_in k in
       let t = others_add counted_rules k (counted_obeys k) (signed b) a v.seen between none in
-      record { more = t.0; later = record { allowed = (allowed-split may [] (project b v.seen) t.0 (subst (AllAllowed may []) t.2 later.each)).1; others = none_by a t.0 t.1 }; is = t.2 }
+      record { more = t.0; later = record { allowed = allowed-right may [] (project b v.seen) t.0 (subst (AllAllowed may []) t.2 later.each); others = t.1 }; is = t.2 }
 
   -- what the agent has keeps its node
   pub stays_for : (k : MachineShape N) (holds : List (Event N) → Type 0) (may : List (Event N) → Event N → Type 0) (v : View (Step N) Agent) (a : ℕ) → a < (bounds_in k).agents → LaterJournal counted_rules k holds may v.seen v a

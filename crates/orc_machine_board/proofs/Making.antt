@@ -1,7 +1,7 @@
 -- A step on shared words is a step of the pass, which the pass shows.
 use Rattle.std.proofs.Common.{List, Option, Some, [], ap, append-nil, length, refl, subst, sym, ℕ, ◌++◌, ◌<◌, ◌∙◌, ◌≡◌, ◌∷◌, ⊎_elim}
 use Rattle.std.specs.Prelude.{slice_index}
-use Rattle.orc_core.specs.Actions.{action_of, answer_of}
+use Rattle.orc_core.specs.Actions.{action_of}
 use Rattle.orc_core.specs.After.{after}
 use Rattle.orc_core.specs.Machine.{record_at, word_read}
 use Rattle.orc_core.specs.declared.records.Agent.{Agent}
@@ -11,7 +11,7 @@ use Rattle.orc_core.proofs.Steps.{every_run_whole}
 use Rattle.orc_machine_board.specs.Laws.{bounds_run, in_range, long_run}
 use Rattle.orc_sound.specs.Journals.{plain}
 use Rattle.orc_words.specs.Bounds.{Bounds}
-use Rattle.orc_machine_board.specs.Rules.{at_place, bounds_in, counted_rules, run_of, step_of}
+use Rattle.orc_machine_board.specs.Rules.{bounds_in, counted_rules, run_of, step_of}
 use Rattle.orc_machine_board.specs.Passes.{TookInAll}
 use Rattle.orc_machine_board.specs.Views.{Keeps, MachineView, Makes, view_of}
 use Rattle.orc_machine_board.specs.declared.machine.Request.{Request}
@@ -19,11 +19,23 @@ use Rattle.orc_machine_board.specs.declared.machine.MachineShape.{MachineShape}
 use Rattle.orc_shared_words.proofs.Runs.{below-front, below-tail, none_left}
 use Rattle.orc_shared_words.proofs.Seats.{one_number}
 use Rattle.orc_shared_words.specs.Runs.{AgentsBelow}
-use Rattle.orc_shared_words.specs.Operations.{answer_by}
+use Rattle.orc_shared_words.specs.Operations.{returned_by}
 use Rattle.orc_shared_words.specs.Steps.{Extends, LaterJournal}
 use Rattle.orc_shared_words.specs.declared.journal.View.{View}
 use Rattle.orc_sound.specs.declared.steps.Step.{Step}
+use Rattle.orc_words.specs.Operations.{answer_of}
 use Rattle.orc_words.specs.Places.{place}
+use Rattle.orc_words.specs.declared.operation.Operation.{Operation}
+use Rattle.orc_words.specs.declared.operation.Operation.TheVariants.{Add, CompareExchange, Load, Store, Sub, Swap}
+
+-- what an operation answers follows from what it returns
+answered : (o : Operation) (word n : ℕ) → n ≡ returned_by o word → answer_of o n ≡ answer_of o word
+answered Load word n e = e
+answered (Store v) word n e = refl
+answered (Swap v) word n e = e
+answered (Add v) word n e = e
+answered (Sub v) word n e = e
+answered (CompareExchange x v) word n e = ap (answer_of (CompareExchange x v)) e
 
 -- a pass's work list has room for all rows
 pub room_of : {N : Type 0} (k : MachineShape N) (holds : List (Event N) → Type 0) (may : List (Event N) → Event N → Type 0) (v : View (Step N) Agent) (a : ℕ)
@@ -47,13 +59,14 @@ module _ {N : Type 0} (k : MachineShape N) (holds : List (Event N) → Type 0) (
   word_found e = let m = run_of (bounds_in k) (v.seen ++ e.between) in
       e.read ∙ (λ i. slice_index m.words (place (sym (bounds_run (bounds_in k) (v.seen ++ e.between)) i) (action_of e.agent q.op (record_at m e.agent)).word))
 
-  pub makes : (answer : ℕ) → Keeps k holds may v a → Extends counted_rules k holds may q note v n w → ((word : ℕ) → n ≡ answer_by (at_place 0 (action_of a q.op v.own).operation) word → answer ≡ answer_of (action_of a q.op v.own).operation word)
-      → Makes (bounds_in k) q note (view_of a v) answer (view_of a w)
-  makes answer kept e answers =
+  pub makes : Keeps k holds may v a → Extends counted_rules k holds may q note v n w
+      → Makes (bounds_in k) q note (view_of a v) (answer_of (action_of a q.op v.own).operation n) (view_of a w)
+  makes kept e =
       let one = same_agent kept e in
       let j = v.seen ++ e.between in
+      let o = (action_of a q.op v.own).operation in
       let word : e.found ≡ word_read (run_of (bounds_in k) j) a q.op = subst (λ z. e.found ≡ word_read (run_of (bounds_in k) j) z q.op) one (word_found e) in
-      let back : n ≡ answer_by (at_place 0 (action_of a q.op v.own).operation) e.found = subst (λ z. n ≡ answer_by (at_place 0 (action_of z q.op v.own).operation) e.found) one e.answers in
+      let back : n ≡ returned_by o e.found = subst (λ z. n ≡ returned_by (action_of z q.op v.own).operation e.found) one e.answers in
       record {
         agent = refl;
         absorbed = e.also;
@@ -61,7 +74,7 @@ module _ {N : Type 0} (k : MachineShape N) (holds : List (Event N) → Type 0) (
         others = subst (λ z. own_of (λ (x : Step N). x.agent) z e.between ≡ []) one e.others;
         retired = e.retired;
         journal = subst (λ z. w.seen ≡ (v.seen ++ e.between) ++ step_of z q note ∷ []) one e.seen;
-        answer = answers e.found back ∙ ap (answer_of (action_of a q.op v.own).operation) word;
+        answer = answered o e.found n back ∙ ap (answer_of o) word;
         record_is = e.mine ∙ ap (after q.op v.own) word;
       }
 

@@ -46,7 +46,7 @@ use Rattle.orc_machine_board.specs.Laws.{bounds_run, run_more, run_next}
 use Rattle.orc_machine_board.specs.Rules.{does, enrolments, newcomer, machine_opening, run_of, seeding}
 use Rattle.orc_heap.specs.declared.seed.Seed.{Seed}
 use Rattle.orc_heap.specs.declared.seed.Seed.TheVariants.{Dummy, Empty}
-use Rattle.orc_sound.proofs.Begins.{counter_first, seats_first, zero_first}
+use Rattle.orc_sound.proofs.NewState.{counter_first, seats_first, zero_first}
 use Rattle.orc_sound.proofs.Bridge.{same_word-true, world_step}
 use Rattle.orc_sound.proofs.Full.{Full, full_first, full_step}
 use Rattle.orc_sound.proofs.World.{World, read_by, same_word, seat, step_world, world_of, write}

@@ -2,16 +2,14 @@
 use Rattle.std.proofs.Common.{Bool, List, None, Option, Some, [], ap, append-nil, false, get_or-set_other, get_or-set_same, length, refl, subst, sym, true, ℕ, ◌++◌, ◌<◌, ◌∙◌, ◌≡◌, ◌≢◌, ◌∷◌, ◌≤◌}
 use Rattle.std.specs.Prelude.{cond, slice_index, slice_index_or, slice_set, ◌==◌}
 use Rattle.std.proofs.lemmas.Bool.{false≢true}
-use prog.Atomic.{either}
 use Rattle.orc_core.proofs.Steps.{every_run_whole, run-append}
 use Rattle.orc_core.proofs.Within.{may_parts}
-use Rattle.orc_core.specs.Actions.{action_of, word_after}
+use Rattle.orc_core.specs.Actions.{action_of}
+use Rattle.orc_words.specs.Operations.{word_after}
 use Rattle.orc_core.specs.After.{after}
 use Rattle.orc_core.specs.Allowed.{may}
 use Rattle.orc_core.specs.Machine.{Machine, is_allowed, new_machine, nobody, record_at, step, word_in, word_read}
 use Rattle.orc_core.specs.Runs.{run}
-use Rattle.orc_core.specs.declared.actions.Operation.{Operation as Action}
-use Rattle.orc_core.specs.declared.actions.Operation.TheVariants.{Load as LoadIt, Store as StoreIt, Swap as SwapIt, Add as AddIt, Sub as SubIt, CompareExchange}
 use Rattle.orc_core.specs.declared.ops.CounterUse.TheVariants.{Check, End, Start}
 use Rattle.orc_core.specs.declared.ops.Op.{Op}
 use Rattle.orc_core.specs.declared.ops.Op.TheVariants.{Arm, Clear, CounterLoad, Dec, Enroll, Fill, Free, GateLook, GateTake, Hand, Inc, LinkCas, LinkLoad, LinkStore, Publish, Read, SetRetired, SlotLook, TakeIn, Unretire}
@@ -19,10 +17,9 @@ use Rattle.orc_core.specs.declared.records.Agent.{Agent}
 use Rattle.orc_projection.proofs.Mirrored.{project-append}
 use Rattle.orc_projection.specs.PresentIds.{no_ids}
 use Rattle.orc_projection.specs.Projection.{StoresUnmarked, IsPlainOp, project}
-use Rattle.orc_machine_board.specs.Rules.{ListHasRoom, RequestAllowed, at_place, bounds_in, counted_rules, events_after, is_enroll, run_of, step_of}
+use Rattle.orc_machine_board.specs.Rules.{ListHasRoom, RequestAllowed, bounds_in, counted_rules, events_after, is_enroll, run_of, step_of}
 use Rattle.orc_machine_board.specs.declared.machine.Request.{Request}
 use Rattle.orc_machine_board.specs.declared.machine.MachineShape.{MachineShape}
-use Rattle.orc_shared_words.specs.Operations.{written_by}
 use Rattle.orc_shared_words.specs.Runs.{Obeys, found_by}
 use Rattle.orc_sound.proofs.AllFits.{run_bounds}
 use Rattle.orc_sound.proofs.ForRuns.{room_left}
@@ -42,19 +39,6 @@ in_range s = record {
   agents = (s.some_agents, s.few_agents);
   limit = (s.some_limit, s.low_limit);
 }
-
--- the machine and the table choose alike
-choose : (t : Bool) (v n : ℕ) → cond t v n ≡ either t v n
-choose true v n = refl
-choose false v n = refl
-
-written_after : (o : Action) (n : ℕ) → word_after o n ≡ written_by (at_place 0 o) n
-written_after LoadIt n = refl
-written_after (StoreIt v) n = refl
-written_after (SwapIt v) n = refl
-written_after (AddIt v) n = refl
-written_after (SubIt v) n = refl
-written_after (CompareExchange e v) n = choose (n == e) v n
 
 -- but for Enroll, the word of enrolments doesn't matter
 pub permission : (b : Bounds) (e f a : ℕ) (op : Op) (d : Agent) → is_enroll op ≡ false → may b e a op d ≡ may b f a op d
@@ -84,11 +68,10 @@ permission b e f a (Free r) d h = refl
 
 -- what a step makes of the words and of the records
 words_of_step : (b : Bounds) (m : Machine) (a : ℕ) (op : Op) → m.bounds ≡ b
-    → let w = (action_of a op (record_at m a)).word in (step m a op).words ≡ slice_set m.words (place b w) (written_by (at_place 0 (action_of a op (record_at m a)).operation) (slice_index m.words (place b w)))
+    → let w = (action_of a op (record_at m a)).word in (step m a op).words ≡ slice_set m.words (place b w) (word_after (action_of a op (record_at m a)).operation (slice_index m.words (place b w)))
 words_of_step b m a op e =
     let action = action_of a op (record_at m a) in
-    (λ i. slice_set m.words (place (e i) action.word) (word_after action.operation (slice_index m.words (place (e i) action.word))))
-    ∙ ap (slice_set m.words (place b action.word)) (written_after action.operation (slice_index m.words (place b action.word)))
+    λ i. slice_set m.words (place (e i) action.word) (word_after action.operation (slice_index m.words (place (e i) action.word)))
 
 its_record : (b : Bounds) (m : Machine) (a : ℕ) (op : Op) → m.bounds ≡ b → a < length m.agents
     → record_at (step m a op) a ≡ after op (record_at m a) (slice_index m.words (place b (action_of a op (record_at m a)).word))

@@ -1,12 +1,10 @@
 -- The journals of the machine of twenty kinds: how they begin, and what one more step does.
 use Rattle.std.specs.Prelude.{Bool, List, None, Option, Some, [], false, length, refl, replicate, suc, true, zero, ℕ, ◌++◌, ◌<◌, ◌∷◌, ◌≡◌, ◌≤◌}
-use Rattle.orc_core.specs.Actions.{action_of, word_after}
+use Rattle.orc_core.specs.Actions.{action_of}
 use Rattle.orc_core.specs.After.{after}
 use Rattle.orc_core.specs.Allowed.{may}
 use Rattle.orc_core.specs.Machine.{Machine, new_machine, nobody, record_at, step, word_read}
 use Rattle.orc_core.specs.Runs.{run}
-use Rattle.orc_core.specs.declared.actions.Operation.{Operation as Action}
-use Rattle.orc_core.specs.declared.actions.Operation.TheVariants.{Load as LoadIt, Store as StoreIt, Swap as SwapIt, Add as AddIt, Sub as SubIt, CompareExchange}
 use Rattle.orc_core.specs.declared.ops.CounterUse.TheVariants.{Check}
 use Rattle.orc_core.specs.declared.ops.Op.{Op}
 use Rattle.orc_core.specs.declared.ops.Op.TheVariants.{Clear, CounterLoad, Enroll, Fill, GateLook, GateTake, Inc, LinkCas, Publish, TakeIn}
@@ -19,26 +17,17 @@ use Rattle.orc_machine_board.specs.declared.machine.Request.{Request}
 use Rattle.orc_machine_board.specs.declared.machine.MachineShape.{MachineShape}
 use Rattle.orc_heap.specs.declared.seed.Seed.{Seed}
 use Rattle.orc_heap.specs.declared.seed.Seed.TheVariants.{Dummy, Empty}
-use Rattle.orc_shared_words.specs.Operations.{answer_by, written_by}
+use Rattle.orc_shared_words.specs.Operations.{returned_by}
 use Rattle.orc_shared_words.specs.Runs.{Obeys, Rules}
-use Rattle.orc_shared_words.specs.declared.operation.Operation.{Operation}
-use Rattle.orc_shared_words.specs.declared.operation.Operation.TheVariants.{Load, Store, Swap, Add, Sub, Exchange}
 use Rattle.orc_sound.specs.Journals.{IsLawfulJournal, IsWanted, plain}
 use Rattle.orc_sound.specs.declared.steps.Step.{Step}
 use Rattle.orc_words.specs.Bounds.{Bounds, bounds_of}
+use Rattle.orc_words.specs.Operations.{word_after}
 use Rattle.orc_words.specs.Places.{place}
 use Rattle.orc_words.specs.declared.packed.RowLink.{RowLink}
 use Rattle.orc_words.specs.declared.place.Word.TheVariants.{Root}
 
--- an action at a place, as an operation on shared words
-abbrev pub at_place : ℕ → Action → Operation
-at_place p LoadIt = Load p
-at_place p (StoreIt v) = Store p v
-at_place p (SwapIt v) = Swap p v
-at_place p (AddIt v) = Add p v
-at_place p (SubIt v) = Sub p v
-at_place p (CompareExchange e v) = Exchange p e v
-
+-- an agent takes its place in the run
 abbrev pub is_enroll : Op → Bool
 is_enroll Enroll = true
 is_enroll op = false
@@ -117,8 +106,8 @@ module _ {N : Type 0} where
     blank = nobody 0;
     born = λ k. newcomer (bounds_in k).rows;
     place = λ k a q d. place (bounds_in k) (action_of a q.op d).word;
-    written = λ k a q d. written_by (at_place 0 (action_of a q.op d).operation);
-    answer = λ k a q d. answer_by (at_place 0 (action_of a q.op d).operation);
+    written = λ k a q d. word_after (action_of a q.op d).operation;
+    answer = λ k a q d. returned_by (action_of a q.op d).operation;
     after = λ k a q d n. after q.op d n;
     allowed = λ k a q d. RequestAllowed (bounds_in k) a q d;
     by = λ s. s.agent;

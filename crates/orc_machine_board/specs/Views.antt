@@ -1,6 +1,6 @@
 -- What a pass shows, and what a step of it tells.
 use Rattle.std.specs.Prelude.{List, None, Option, Some, [], length, slice_index_or, ℕ, ◌++◌, ◌<◌, ◌∷◌, ◌≡◌}
-use Rattle.orc_core.specs.Actions.{action_of, answer_of}
+use Rattle.orc_core.specs.Actions.{action_of}
 use Rattle.orc_core.specs.After.{after}
 use Rattle.orc_core.specs.Machine.{word_read}
 use Rattle.orc_core.specs.declared.ops.Op.{Op}
@@ -23,6 +23,7 @@ use Rattle.orc_shared_words.specs.declared.journal.View.{View}
 use Rattle.orc_shared_words.specs.declared.machine.Machine as machine
 use Rattle.orc_sound.specs.declared.steps.Step.{Step}
 use Rattle.orc_words.specs.Bounds.{Bounds, bounds_of}
+use Rattle.orc_words.specs.Operations.{answer_of}
 
 -- the agent, the steps that it has seen, its record, and the agents whose passes it took in
 pub record MachineView (N : Type 0) : Type 0 where

@@ -4,7 +4,7 @@ ghost use Rattle.std.specs.Prelude.{◌≡◌};
 
 use orc_core::{Agent, Op, action_of, advance};
 use orc_heap::Seed;
-use orc_shared_words::{Machine, Operation};
+use orc_shared_words::{Machine, PlacedOperation};
 use orc_sound::Step;
 use orc_words::{RowLink, Shape, place_of};
 
@@ -51,17 +51,16 @@ impl<N: Copy> Machine<N> for Reclaiming {
 
     ghost leaves_room = { counted_leaves_room };
 
-    fn operation(shape: &MachineShape<N>, agent: u32, op: &Request, own: &Agent) -> Operation {
-        use orc_core::Operation as Action;
+    fn operation(
+        shape: &MachineShape<N>,
+        agent: u32,
+        op: &Request,
+        own: &Agent,
+    ) -> PlacedOperation {
         let action = action_of(agent, &op.op, own);
-        let place = place_of(&shape.shape, action.word) as usize;
-        match action.operation {
-            Action::Load => Operation::Load(place),
-            Action::Store(value) => Operation::Store(place, value),
-            Action::Swap(value) => Operation::Swap(place, value),
-            Action::Add(value) => Operation::Add(place, value),
-            Action::Sub(value) => Operation::Sub(place, value),
-            Action::CompareExchange(wanted, value) => Operation::Exchange(place, wanted, value),
+        PlacedOperation {
+            place: place_of(&shape.shape, action.word),
+            operation: action.operation,
         }
     }
 

@@ -1,33 +1,17 @@
 //! One step of a board's machine.
 
-ghost use Rattle.std.specs.Prelude.{◌≡◌, None, true, ℕ};
-ghost use Rattle.orc_core.specs.Actions.{answer_of};
-ghost use Rattle.orc_shared_words.specs.Operations.{answer_by};
+ghost use Rattle.std.specs.Prelude.{◌≡◌, None, true};
 ghost use Rattle.orc_shared_words.specs.Steps.{Licensed};
 ghost use Rattle.orc_sound.specs.Journals.{IsWanted};
 ghost use Rattle.orc_machine_board.specs.Kinds.{MayDo, is_plain_kind, wants};
-ghost use Rattle.orc_machine_board.specs.Rules.{RequestAllowed, at_place, counted_rules};
+ghost use Rattle.orc_machine_board.specs.Rules.{RequestAllowed, counted_rules};
 ghost use Rattle.orc_machine_board.specs.Views.{Belongs, Makes, board_bounds, board_numbers, shows};
 
 use crate::board::{MachineBoard, MachineBoardPass};
 use crate::machine::Request;
-use orc_core::{Op, Operation, action_of};
+use orc_core::{Op, action_of};
 use orc_heap::Discipline;
 use orc_words::RowLink;
-
-// what `apply` answers of an operation on shared words that answered this
-fn applied(operation: &Operation, n: u64) -> u64
-    ensures { (word : ℕ) → n ≡ answer_by (at_place 0 operation.now) word → result ≡ answer_of operation.now word }
-{
-    match operation {
-        Operation::CompareExchange(expected, _) => u64::from(n == *expected),
-        Operation::Load
-        | Operation::Store(_)
-        | Operation::Swap(_)
-        | Operation::Add(_)
-        | Operation::Sub(_) => n,
-    }
-}
 
 impl<D: Discipline> MachineBoard<D> {
     // one step, and the number that `apply` answers
@@ -41,7 +25,7 @@ impl<D: Discipline> MachineBoard<D> {
     {
         let action = action_of(p.pass.agent, &request.op, &p.pass.own);
         let n = self.words.step(&mut p.pass, &request, note);
-        applied(&action.operation, n)
+        action.operation.answer(n)
     }
 
     // a step that changes no link, without a note

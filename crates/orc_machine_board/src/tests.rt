@@ -1,7 +1,6 @@
 //! Boards under a discipline that allows all that fits, and a job that goes through two rows.
 
 ghost use Rattle.std.specs.Prelude.{◌≡◌, All, IfSome, [], true};
-ghost use Rattle.orc_core.specs.RecordParts.{names};
 ghost use Rattle.orc_machine_board.specs.Kinds.{MakesPlain, MayDo};
 ghost use Rattle.orc_machine_board.specs.Views.{Belongs, board_bounds, shows};
 ghost use Rattle.orc_shared_words.specs.Ticks.{AnyFit, plain_fits};
@@ -128,16 +127,6 @@ fn make_plain<D: Discipline>(
     }
 }
 
-// whether the row is the fresh one
-fn is_fresh<D: Discipline>(p: &MachineBoardPass<D>, row: u32) -> bool
-    ensures { result ≡ names (shows p.now).record_is.fresh row }
-{
-    match p.record().fresh {
-        None => false,
-        Some(fresh) => fresh == row,
-    }
-}
-
 // makes a step that exchanges no link, where the record allows it; of a row that isn't fresh, the link is taken out
 fn make_one<D: Discipline>(
     board: &MachineBoard<D>,
@@ -150,7 +139,7 @@ fn make_one<D: Discipline>(
     ensures absorbed { (shows p.new).absorbed ≡ (shows p.old).absorbed }
 {
     if let Op::LinkStore { row, link } = op {
-        if link.mark || is_fresh(p, row) || !may_make(board, p, &op) {
+        if link.mark || p.record().is_fresh(row) || !may_make(board, p, &op) {
             return None;
         }
         return Some(board.link_store(p, row, link));
@@ -268,7 +257,8 @@ fn reuse_row_0(board: &Board, p: &mut Pass) -> bool
             Op::Free { row: 0 },
         ],
     );
-    unlinked && scanned && freed && link_row_0(board, p, 9)
+    let linked = link_row_0(board, p, 9);
+    unlinked && scanned && freed && linked
 }
 
 // looks at the gate of row 1 again and again; whether it always is free

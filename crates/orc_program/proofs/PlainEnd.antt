@@ -12,6 +12,7 @@ use Rattle.orc_board.specs.declared.replies.PostReply.{PostReply}
 use Rattle.orc_board.specs.declared.replies.TakeReply.{TakeReply}
 use Rattle.orc_board.specs.Table.{EndsEmpty}
 use Rattle.orc_board.specs.Follows.{Posting, TakingRest, own_records}
+use Rattle.orc_board.specs.declared.again.TheConstants.{TURNS}
 use Rattle.orc_board.specs.Runs.{Ran}
 use Rattle.orc_board.proofs.Ends.{ran_of}
 use Rattle.orc_program.specs.PlainRun.{queue_of_run, set_of_run, run_queue, run_set}
@@ -45,5 +46,5 @@ run_end lines posts takes spare room agent b j0 j j1 m0 m m1 last last_set a c d
     (subst (λ (z : List QueueEntry). TakingRest queue_of_run set_of_run lines 0 0 takes z m last.history last_set.history) d
     (subst (λ (z : List SetEntry). TakingRest queue_of_run set_of_run lines 0 0 takes j1 z last.history last_set.history) e
     (subst (λ (z : ℕ). TakingRest queue_of_run set_of_run lines 0 z takes j1 m1 last.history last_set.history) f t)))
-    (λ agent seen from to h. omega (arith, enough_puts run_queue 64 seen from h)) short queue.legal set.legal
+    (λ agent seen from to h. omega (arith, enough_puts run_queue TURNS seen from h)) short queue.legal set.legal
     (at_end agent last.history takes spare room (length lines) b f yes_then no_then sum is)

@@ -1,18 +1,18 @@
 -- What a mode was to write, as what the program was to write.
-use Rattle.std.proofs.Common.{◌≡◌, ◌≢◌, ◌≤◌, ◌⊎◌, List, [], ℕ, refl, sym, subst, inl, inr, IfSome, length}
-use Rattle.std.specs.declared.option.Option.{Option}
-use Rattle.std.specs.declared.option.Option.TheVariants.{Some}
-use Rattle.orc_jobs.specs.JobGrammar.{IsFileOf}
+use Rattle.std.proofs.Common.{◌≡◌, ◌≢◌, ◌∙◌, ◌≤◌, ◌<◌, ◌⊎◌, List, [], ◌∷◌, ℕ, Option, Some, refl, sym, subst, inl, inr, IfSome, codes, length}
+use Rattle.orc_jobs.specs.JobGrammar.{IsFileOf, Refuses}
+use Rattle.orc_jobs.specs.declared.cause.JobsFault.TheVariants as fault
 use Rattle.orc_trace.specs.declared.answers.TraceFault.{TraceFault}
 use Rattle.orc_trace.specs.declared.answers.TraceFault.TheVariants as trace
-use Rattle.orc_trace.specs.Replay.{Refuses}
+use Rattle.orc_trace.specs.Replay.{Refuses as RefusesTrace}
 use Rattle.orc_trace.specs.Answers.{fault_line}
 use Rattle.orc_program.specs.declared.ended.Ended.{Ended}
-use Rattle.orc_program.specs.Ended.{IsNew}
-use Rattle.orc_program.specs.Headline.{Headline}
-use Rattle.orc_program.specs.Modes.{replay_words}
-use Rattle.orc_program.specs.Refusals.{IsTooLarge, NamesFault, NamesRecord, input_limit}
-use Rattle.orc_program.specs.Outcomes.{RunWrites, TellsReplay, WasToWrite}
+use Rattle.orc_program.specs.declared.mode.Mode.{Mode}
+use Rattle.orc_program.specs.declared.mode.Mode.TheVariants as mode
+use Rattle.orc_program.specs.Ended.{HasReported, IsNew}
+use Rattle.orc_program.specs.Modes.{Asks, replay_words}
+use Rattle.orc_program.specs.Refusals.{IsRefusal, IsTooLarge, NamesFault, input_limit, input_too_large}
+use Rattle.orc_program.specs.Outcomes.{ModeWrites, Tells, TellsReplay}
 use Rattle.orc_program.proofs.Inputs.{where-told}
 
 -- where the bytes are told, they are these
@@ -23,8 +23,8 @@ Told left bytes = (b : List ℕ) → left ≡ Some b → b ≡ bytes
 pub of-told : (left : Option (List ℕ)) (bytes : List ℕ) (P : List ℕ → Type 0) → Told left bytes → P bytes → IfSome left P
 of-told left bytes P told h = where-told left P (λ b e. subst P (sym (told b e)) h)
 
-pub Headline-told : (left : Option (List ℕ)) (bytes : List ℕ) (ended : Ended) (text : List ℕ) → Told left bytes → Headline (Some bytes) ended text → Headline left ended text
-Headline-told left bytes ended text told h = record {
+pub HasReported-told : (left : Option (List ℕ)) (bytes : List ℕ) (ended : Ended) (text : List ℕ) → Told left bytes → HasReported (Some bytes) ended text → HasReported left ended text
+HasReported-told left bytes ended text told h = record {
   lines = h.lines;
   file = of-told left bytes (IsFileOf h.lines) told h.file;
   queue = h.queue;
@@ -33,23 +33,32 @@ Headline-told left bytes ended text told h = record {
   queue_is = h.queue_is;
   set_is = h.set_is;
   replies_are = h.replies_are;
-  ran = h.ran;
-  report = h.report;
+  headline = h.headline;
 }
 
-pub run-wrote : (words : List (List ℕ)) (left : Option (List ℕ)) (bytes : List ℕ) (ended : Ended) (text : List ℕ) → words ≡ [] → Told left bytes
-    → RunWrites bytes ended text → WasToWrite words left ended text
-run-wrote words left bytes ended text none told (inl h) = inl (none, Headline-told left bytes ended text told h)
-run-wrote words left bytes ended text none told (inr (new, inl names)) =
-    inr (new, inr (inr (inr (inl (none, of-told left bytes (λ b. NamesRecord b text) told names)))))
-run-wrote words left bytes ended text none told (inr (new, inr (many, says))) =
-    inr (new, inr (inr (inl (of-told left bytes (IsTooLarge words) told (inr (none, many)), says))))
+-- what a mode was to write of these bytes it was to write of those that are told
+pub ModeWrites-told : (m : Mode) (left : Option (List ℕ)) (bytes : List ℕ) (ended : Ended) (text : List ℕ) → Told left bytes
+    → ModeWrites m (Some bytes) ended text → ModeWrites m left ended text
+ModeWrites-told mode.Run left bytes ended text told (inl h) = inl (HasReported-told left bytes ended text told h)
+ModeWrites-told mode.Replay left bytes ended text told (inl (new, tells)) = inl (new, of-told left bytes (λ b. TellsReplay b text) told tells)
+ModeWrites-told m left bytes ended text told (inr (new, refuses)) = inr (new, of-told left bytes (λ b. IsRefusal m b text) told refuses)
 
-pub replay-wrote : (words : List (List ℕ)) (left : Option (List ℕ)) (bytes : List ℕ) (ended : Ended) (text : List ℕ) → words ≡ replay_words → Told left bytes
-    → IsNew ended → TellsReplay bytes text ⊎ NamesFault bytes text → WasToWrite words left ended text
-replay-wrote words left bytes ended text one told new (inl tells) = inr (new, inl (one, of-told left bytes (λ b. TellsReplay b text) told tells))
-replay-wrote words left bytes ended text one told new (inr names) = inr (new, inr (inr (inr (inr (one, of-told left bytes (λ b. NamesFault b text) told names)))))
+-- bytes past the limit are too large in each mode
+pub too_long : (m : Mode) (bytes : List ℕ) → input_limit < length bytes → IsTooLarge m bytes
+too_long mode.Run bytes h = inl h
+too_long mode.Replay bytes h = h
+
+pub refuses_size : (m : Mode) (bytes : List ℕ) → input_limit < length bytes → IsRefusal m bytes input_too_large
+refuses_size mode.Run bytes h = inl (inl h, refl)
+refuses_size mode.Replay bytes h = inl (h, refl)
+
+-- words ask for one mode at most
+pub one_mode : (words : List (List ℕ)) (a b : Mode) → Asks words a → Asks words b → a ≡ b
+one_mode words mode.Run mode.Run h k = refl
+one_mode words mode.Run mode.Replay h k = let bad : ◌≡◌ {A = List (List ℕ)} [] replay_words = sym h ∙ k in absurd (cc bad)
+one_mode words mode.Replay mode.Run h k = let bad : ◌≡◌ {A = List (List ℕ)} [] replay_words = sym k ∙ h in absurd (cc bad)
+one_mode words mode.Replay mode.Replay h k = refl
 
 -- the line of a fault of these bytes names it
-pub names-fault : (bytes : List ℕ) (why : TraceFault) → why ≢ trace.NoMemory → length bytes ≤ input_limit → Refuses bytes why → NamesFault bytes (fault_line why)
+pub names-fault : (bytes : List ℕ) (why : TraceFault) → why ≢ trace.NoMemory → length bytes ≤ input_limit → RefusesTrace bytes why → NamesFault bytes (fault_line why)
 names-fault bytes why some few refused = record { why = why; some = some; few = few; refused = refused; says = refl }

@@ -1,7 +1,6 @@
-pub mod Report
-pub mod Ended
 pub mod PlainRun
 pub mod Headline
+pub mod Ended
 pub mod Modes
 pub mod Refusals
 pub mod Outcomes

@@ -1,15 +1,14 @@
 -- What the program was to write.
-use Rattle.std.specs.Prelude.{◌≡◌, ◌⊎◌, List, [], ℕ, Option, Some, IfSome}
-use Rattle.orc_jobs.specs.JobGrammar.{Refuses}
-use Rattle.orc_jobs.specs.declared.cause.JobsFault.TheVariants as fault
+use Rattle.std.specs.Prelude.{◌≡◌, ◌⊎◌, List, ℕ, Option, IfSome}
 use Rattle.orc_trace.specs.declared.answers.Replayed.{Replayed}
 use Rattle.orc_trace.specs.Replay.{IsReplay}
 use Rattle.orc_trace.specs.Answers.{replay_line}
 use Rattle.orc_program.specs.declared.ended.Ended.{Ended}
-use Rattle.orc_program.specs.Ended.{IsNew}
-use Rattle.orc_program.specs.Headline.{Headline}
-use Rattle.orc_program.specs.Modes.{replay_words}
-use Rattle.orc_program.specs.Refusals.{IsRefusal, NamesRecord, input_too_large}
+use Rattle.orc_program.specs.declared.mode.Mode.{Mode}
+use Rattle.orc_program.specs.declared.mode.Mode.TheVariants as mode
+use Rattle.orc_program.specs.Ended.{HasReported, IsNew}
+use Rattle.orc_program.specs.Modes.{AreRefused, Asks}
+use Rattle.orc_program.specs.Refusals.{IsRefusal, words_refused}
 
 -- the bytes are a trace, and the text tells what its run leaves
 pub record TellsReplay (bytes text : List ℕ) : Type 0 where
@@ -17,14 +16,17 @@ pub record TellsReplay (bytes text : List ℕ) : Type 0 where
   pub is : IsReplay bytes played
   pub says : text ≡ replay_line played
 
--- what mode run was to write of these bytes
-abbrev pub RunWrites : List ℕ → Ended → List ℕ → Type 0
-RunWrites bytes ended text =
-    Headline (Some bytes) ended text
-    ⊎ (IsNew ended × (NamesRecord bytes text ⊎ (Refuses bytes fault.TooMany × (text ≡ input_too_large))))
+-- the mode's whole text of the bytes that were left: the report of what has ended, or what a replay tells
+abbrev pub Tells : Mode → Option (List ℕ) → Ended → List ℕ → Type 0
+Tells mode.Run left ended text = HasReported left ended text
+Tells mode.Replay left ended text = IsNew ended × IfSome left (λ bytes. TellsReplay bytes text)
 
--- the text was to be written: the report of what has ended; or, where nothing has, what a replay tells, or the line of a refusal
+-- the text was to be written in this mode: its whole text, or the line of a refusal, and then nothing has ended
+abbrev pub ModeWrites : Mode → Option (List ℕ) → Ended → List ℕ → Type 0
+ModeWrites m left ended text = Tells m left ended text ⊎ (IsNew ended × IfSome left (λ bytes. IsRefusal m bytes text))
+
+-- the text was to be written: that of the mode that the words ask for, or that they are refused
 abbrev pub WasToWrite : List (List ℕ) → Option (List ℕ) → Ended → List ℕ → Type 0
 WasToWrite words left ended text =
-    ((words ≡ []) × Headline left ended text)
-    ⊎ (IsNew ended × (((words ≡ replay_words) × IfSome left (λ bytes. TellsReplay bytes text)) ⊎ IsRefusal words left text))
+    ((m : Mode) × Asks words m × ModeWrites m left ended text)
+    ⊎ (AreRefused words × IsNew ended × (text ≡ words_refused))

@@ -7,6 +7,7 @@ use Rattle.orc_history.specs.declared.set.ListRefused.{ListRefused}
 use Rattle.orc_history.specs.PlainQueue.{QueueView, RefusesEnqueue}
 use Rattle.orc_history.specs.PlainSet.{SetView, RefusesInsert}
 use Rattle.orc_history.specs.StoredHistory.{RefusedAt}
+use Rattle.orc_board.specs.declared.again.TheConstants.{TURNS}
 use Rattle.orc_board.specs.Stretches.{View}
 
 -- how many items each of the two containers takes
@@ -19,10 +20,10 @@ run_queue = record { room = room; first = 0; whole = false }
 abbrev pub run_set : SetView
 run_set = record { room = room; whole = false }
 
--- the queue of a run, whose first position is 0 and whose calls have 64 turns
+-- the queue of a run, whose first position is 0
 abbrev pub queue_of_run : View QueueEntry QueueEntry QueueRefused
-queue_of_run = record { history = λ j. j; licence = λ agent why j from to. RefusedAt (RefusesEnqueue run_queue 64) why j from; crowd = λ agent. ⊥ }
+queue_of_run = record { history = λ j. j; licence = λ agent why j from to. RefusedAt (RefusesEnqueue run_queue TURNS) why j from; crowd = λ agent. ⊥ }
 
 -- the set of a run
 abbrev pub set_of_run : View SetEntry SetEntry ListRefused
-set_of_run = record { history = λ j. j; licence = λ agent why j from to. RefusedAt (RefusesInsert run_set 64) why j from; crowd = λ agent. ⊥ }
+set_of_run = record { history = λ j. j; licence = λ agent why j from to. RefusedAt (RefusesInsert run_set TURNS) why j from; crowd = λ agent. ⊥ }

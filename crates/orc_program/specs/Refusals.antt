@@ -1,5 +1,5 @@
 -- The lines that are written where an input is refused.
-use Rattle.std.specs.Prelude.{◌≡◌, ◌≢◌, ◌<◌, ◌≤◌, ◌++◌, ◌⊎◌, List, [], ℕ, codes, length, Option, IfSome}
+use Rattle.std.specs.Prelude.{◌≡◌, ◌≢◌, ◌<◌, ◌≤◌, ◌++◌, ◌⊎◌, List, ℕ, codes, length}
 use Rattle.std.specs.Fmt.{decimal}
 use Rattle.orc_jobs.specs.JobGrammar.{Refuses}
 use Rattle.orc_jobs.specs.declared.cause.Cause.{Cause}
@@ -9,7 +9,8 @@ use Rattle.orc_trace.specs.declared.answers.TraceFault.{TraceFault}
 use Rattle.orc_trace.specs.declared.answers.TraceFault.TheVariants as trace
 use Rattle.orc_trace.specs.Replay.{Refuses as RefusesTrace}
 use Rattle.orc_trace.specs.Answers.{fault_line}
-use Rattle.orc_program.specs.Modes.{replay_words}
+use Rattle.orc_program.specs.declared.mode.Mode.{Mode}
+use Rattle.orc_program.specs.declared.mode.Mode.TheVariants as mode
 
 -- the most bytes that an input may have
 abbrev pub input_limit : ℕ
@@ -33,13 +34,10 @@ cause_word cause.Sum = codes "sum"
 abbrev pub malformed_line : ℕ → Cause → List ℕ
 malformed_line place why = codes "line " ++ decimal place ++ codes ": " ++ cause_word why ++ codes "\n"
 
--- the words ask for nothing that there is
-abbrev pub AreRefused : List (List ℕ) → Type 0
-AreRefused words = (words ≢ []) × (words ≢ replay_words)
-
--- more bytes than an input may have, or, where they are to be a job file, more records than one may have
-abbrev pub IsTooLarge : List (List ℕ) → List ℕ → Type 0
-IsTooLarge words bytes = (input_limit < length bytes) ⊎ ((words ≡ []) × Refuses bytes fault.TooMany)
+-- more bytes than an input may have, or, in mode run, more records than a job file may have
+abbrev pub IsTooLarge : Mode → List ℕ → Type 0
+IsTooLarge mode.Run bytes = (input_limit < length bytes) ⊎ Refuses bytes fault.TooMany
+IsTooLarge mode.Replay bytes = input_limit < length bytes
 
 -- the text names the first record of the bytes that is outside the grammar, and its cause
 pub record NamesRecord (bytes text : List ℕ) : Type 0 where
@@ -57,10 +55,7 @@ pub record NamesFault (bytes text : List ℕ) : Type 0 where
   pub refused : RefusesTrace bytes why
   pub says : text ≡ fault_line why
 
--- the text is the line of a refusal: of the words, of the size, of a record, or of a trace
-abbrev pub IsRefusal : List (List ℕ) → Option (List ℕ) → List ℕ → Type 0
-IsRefusal words left text =
-    (AreRefused words × (text ≡ words_refused))
-    ⊎ (IfSome left (IsTooLarge words) × (text ≡ input_too_large))
-    ⊎ ((words ≡ []) × IfSome left (λ bytes. NamesRecord bytes text))
-    ⊎ ((words ≡ replay_words) × IfSome left (λ bytes. NamesFault bytes text))
+-- the text is the line by which this mode refuses the bytes: for their size, for a record, or as a trace
+abbrev pub IsRefusal : Mode → List ℕ → List ℕ → Type 0
+IsRefusal mode.Run bytes text = (IsTooLarge mode.Run bytes × (text ≡ input_too_large)) ⊎ NamesRecord bytes text
+IsRefusal mode.Replay bytes text = (IsTooLarge mode.Replay bytes × (text ≡ input_too_large)) ⊎ NamesFault bytes text

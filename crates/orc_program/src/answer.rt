@@ -8,10 +8,10 @@ ghost use Rattle.orc_program.specs.Answers.{Answers, IsMalformed, IsReport, IsTo
 ghost use Rattle.orc_program.specs.Refusals.{cause_word, malformed_line, input_limit};
 
 use crate::plain_run::{Finished, run_plain};
-use crate::report::report_text;
 use orc_board::Gate;
 use orc_fault::NoMemory;
 use orc_jobs::{Cause, JobsFault, Text, read_jobs};
+use orc_report::report_text;
 use std::alloc::Global;
 use std::sync::Wait;
 use std::thread::Threads;
@@ -56,12 +56,11 @@ fn malformed(alloc: Global, line: u32, cause: Cause) -> Result<String, NoMemory>
     ensures { IfOk result (λ text. string_bytes text ≡ malformed_line line cause) }
 {
     let word = word_of(cause);
-    match format!(in alloc; "line {line}: {word}\n") {
-        Ok(text) => Ok(text),
-        Err(_) => Err(NoMemory),
-    }
+    let text = format!(in alloc; "line {line}: {word}\n")?;
+    Ok(text)
 }
 
+// The word of a cause.
 fn word_of(cause: Cause) -> &'static str
     ensures { result.now ≡ cause_word cause }
 {

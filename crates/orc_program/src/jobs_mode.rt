@@ -6,16 +6,18 @@ ghost use Rattle.orc_feed.specs.Whole.{AppendsPrefix};
 ghost use Rattle.orc_jobs.specs.JobGrammar.{IsFileOf, Refuses};
 ghost use Rattle.orc_jobs.specs.declared.cause.Cause.{Cause};
 ghost use Rattle.orc_jobs.specs.declared.line.Line.{Line};
-ghost use Rattle.orc_program.specs.Ended.{IsNew};
-ghost use Rattle.orc_program.specs.Headline.{Headline};
+ghost use Rattle.orc_program.specs.Ended.{HasReported, IsNew};
+ghost use Rattle.orc_program.specs.declared.mode.Mode.{Mode};
 ghost use Rattle.orc_program.specs.Refusals.{NamesRecord, input_limit, input_too_large, malformed_line};
-ghost use Rattle.orc_program.specs.Outcomes.{RunWrites};
+ghost use Rattle.orc_program.specs.Outcomes.{ModeWrites};
 
 use crate::Ended;
 use crate::answer::{Answer, answer_to};
+use crate::mode::Mode;
+use crate::writing::{refuse_size, write_text};
 use orc_board::Gate;
 use orc_fault::NoMemory;
-use orc_feed::{Sink, write_all};
+use orc_feed::Sink;
 use orc_jobs::JobsFault;
 use std::alloc::Global;
 use std::sync::Wait;
@@ -33,12 +35,13 @@ pub(crate) fn run_jobs<R: Threads + Wait + Sync, K: Sink, G: Gate + Sync>(
     requires new { IsNew ended.old }
     requires few { length bytes.now ≤ input_limit }
     ensures statuses { (result ≡ 0) ⊎ (result ≡ 3) ⊎ (result ≡ 5) ⊎ (result ≡ 6) ⊎ (result ≡ 7) }
-    ensures done { result ≡ 0 → (text : List ℕ) × Headline (Some bytes.now) ended.new text
+    ensures done { result ≡ 0 → (text : List ℕ) × HasReported (Some bytes.now) ended.new text
         × Appends (K.written sink.old) (K.written sink.new) text }
     ensures malformed { result ≡ 3 → (text : List ℕ) × NamesRecord bytes.now text
         × Appends (K.written sink.old) (K.written sink.new) text }
     ensures write_fault { result ≡ 5 → Rose (K.faults sink.old) (K.faults sink.new) }
-    ensures cut_short { result ≡ 5 → (text : List ℕ) × RunWrites bytes.now ended.new text
+    ensures no_fault { result ≢ 5 → K.faults sink.new ≡ K.faults sink.old }
+    ensures cut_short { result ≡ 5 → (text : List ℕ) × ModeWrites Mode.Run (Some bytes.now) ended.new text
         × AppendsPrefix (K.written sink.old) (K.written sink.new) text }
     ensures large { result ≡ 6 → Refuses bytes.now JobsFault.TooMany
         × Appends (K.written sink.old) (K.written sink.new) input_too_large }
@@ -52,19 +55,10 @@ pub(crate) fn run_jobs<R: Threads + Wait + Sync, K: Sink, G: Gate + Sync>(
     match answer_to(rt, alloc, bytes, gate) {
         Ok(Answer::Report { text, finished }) => {
             ended.keep(finished);
-            match write_all(sink, text.bytes()) {
-                Ok(()) => 0,
-                Err(_) => 5,
-            }
+            write_text(sink, text.bytes(), 0)
         }
-        Ok(Answer::Malformed { text }) => match write_all(sink, text.as_bytes()) {
-            Ok(()) => 3,
-            Err(_) => 5,
-        },
-        Ok(Answer::TooMany) => match write_all(sink, b"input too large\n") {
-            Ok(()) => 6,
-            Err(_) => 5,
-        },
+        Ok(Answer::Malformed { text }) => write_text(sink, text.as_bytes(), 3),
+        Ok(Answer::TooMany) => refuse_size(sink),
         Err(NoMemory) => 7,
     }
 }

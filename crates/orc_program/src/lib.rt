@@ -6,18 +6,20 @@ mod ended;
 mod jobs_mode;
 mod mode;
 mod plain_run;
-pub mod report;
+mod run_mode;
 mod streams;
 mod top_call;
 mod trace_mode;
 mod words;
+mod writing;
 
 pub use ended::Ended;
+pub use mode::{Mode, words_ask_for_one_mode};
 pub use plain_run::{Finished, run_plain};
-pub use report::{RestNumbers, report_text};
 pub use streams::{StdSink, StdSource};
 pub use top_call::orc_main;
 pub use words::CommandWords;
+pub use writing::refuse_words;
 
 #[cfg(test)]
 mod tests;

@@ -1,6 +1,6 @@
 //! What the words of the command line ask for.
-ghost use Rattle.std.specs.Prelude.{◌≡◌, ◌↔◌, [], Some};
-ghost use Rattle.orc_program.specs.Modes.{replay_words};
+ghost use Rattle.std.specs.Prelude.{◌≡◌, IfNone, IfSome, List, ℕ};
+ghost use Rattle.orc_program.specs.Modes.{AreRefused, Asks};
 ghost use Rattle.orc_program.specs.declared.mode.Mode.{Mode};
 
 use crate::CommandWords;
@@ -14,10 +14,10 @@ pub enum Mode {
     Replay,
 }
 
-// No words ask for a run, and the one word `replay` for a replay.
+// The mode that the words ask for.
 pub(crate) fn mode_of(words: &CommandWords) -> Option<Mode>
-    ensures run { (result ≡ Some Mode.Run) ↔ (words.now ≡ []) }
-    ensures replay { (result ≡ Some Mode.Replay) ↔ (words.now ≡ replay_words) }
+    ensures some { IfSome result (Asks words.now) }
+    ensures none { IfNone result (AreRefused words.now) }
 {
     match words.words() {
         [] => Some(Mode::Run),
@@ -25,3 +25,8 @@ pub(crate) fn mode_of(words: &CommandWords) -> Option<Mode>
         _ => None,
     }
 }
+
+/// A law, with nothing to run: words ask for one mode at most.
+pub fn words_ask_for_one_mode()
+    ensures { (words : List (List ℕ)) (a b : Mode) → Asks words a → Asks words b → a ≡ b }
+{}

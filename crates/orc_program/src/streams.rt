@@ -1,5 +1,6 @@
-//! Standard input and output as a source and a sink. They tell no contents, and count their faults.
-ghost use Rattle.std.specs.Prelude.{◌≡◌, None};
+//! Readers and writers of std as sources and sinks, which count their faults. What they tell of their bytes is what std tells of
+//! those of the reader or the writer: of standard input and output nothing.
+ghost use Rattle.std.specs.Prelude.{◌≡◌};
 
 use orc_fault::Failed;
 use orc_feed::{Sink, Source};
@@ -15,14 +16,15 @@ pub struct StdSource<R: Read + Drop> {
 impl<R: Read + Drop> StdSource<R> {
     /// No fault yet.
     pub fn new(inner: R) -> StdSource<R>
-        ensures { result.faults ≡ 0 }
+        ensures inner { result.inner ≡ inner }
+        ensures faults { result.faults ≡ 0 }
     {
         StdSource { inner, faults: 0 }
     }
 }
 
 impl<R: Read + Drop> Source for StdSource<R> {
-    ghost left = { λ _. None };
+    ghost left = { λ s. R.remaining s.inner };
 
     ghost faults = { λ s. s.faults };
 
@@ -48,14 +50,15 @@ pub struct StdSink<W: Write + Drop> {
 impl<W: Write + Drop> StdSink<W> {
     /// No fault yet.
     pub fn new(inner: W) -> StdSink<W>
-        ensures { result.faults ≡ 0 }
+        ensures inner { result.inner ≡ inner }
+        ensures faults { result.faults ≡ 0 }
     {
         StdSink { inner, faults: 0 }
     }
 }
 
 impl<W: Write + Drop> Sink for StdSink<W> {
-    ghost written = { λ _. None };
+    ghost written = { λ s. W.contents s.inner };
 
     ghost faults = { λ s. s.faults };
 

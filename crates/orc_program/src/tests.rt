@@ -1,11 +1,10 @@
-ghost use Rattle.std.specs.Prelude.{◌≤◌, ◌≡◌, ◌∷◌, [], codes, None};
-ghost use Rattle.orc_board.specs.declared.replies.TakeWord.{TakeWord};
-ghost use Rattle.orc_program.specs.Report.{by_position, report_of};
+ghost use Rattle.std.specs.Prelude.{◌≤◌};
 
-use crate::{CommandWords, Ended, RestNumbers, orc_main, report_text, run_plain};
+use crate::{CommandWords, Ended, orc_main, run_plain};
 use orc_board::OpenGate;
 use orc_feed::{MemorySink, MemorySource};
 use orc_jobs::read_jobs;
+use orc_report::{RestNumbers, report_text};
 use std::alloc::Global;
 use std::process::Abort;
 use std::sync::Wait;
@@ -20,17 +19,6 @@ const FIVE_LINES_REPORT: &[u8] =
 
 const FIVE_LINES_REST: &[u8] =
     b"rest\nqueue given 3 reused 2 linked 1\nset given 2 reused 2 linked 0\n";
-
-// The report of no line.
-fn empty_report()
-    ensures { report_of [] [] [] None ≡ codes "board\nreplies\n" }
-{}
-
-// Two claims, of which the later position was reported first.
-fn board_in_order()
-    ensures { by_position (record { taker = 0; at = 1; line = 0; what = TakeWord.Void } ∷ record { taker = 1; at = 0; line = 2; what = TakeWord.Done 5 } ∷ [])
-        ≡ record { taker = 1; at = 0; line = 2; what = TakeWord.Done 5 } ∷ record { taker = 0; at = 1; line = 0; what = TakeWord.Void } ∷ [] }
-{}
 
 // Runs an input that is read and written in pieces, with faults at the given calls, and answers whether a run has ended.
 fn run_with<R: Threads + Wait + Sync + Abort>(

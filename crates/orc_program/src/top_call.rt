@@ -1,8 +1,8 @@
 //! The whole program over any source and sink.
-ghost use Rattle.std.specs.Prelude.{◌≡◌, ◌≢◌, ◌<◌, ◌≤◌, ◌⊎◌, [], List, ℕ, IfSome, length, Some};
+ghost use Rattle.std.specs.Prelude.{◌≡◌, ◌≢◌, ◌+◌, ◌≤◌, ◌⊎◌, List, ℕ, IfSome, length, Some};
 ghost use Rattle.std.specs.Io.KnownBytes.{Appends, IsAtEnd, Keeps};
 ghost use Rattle.orc_feed.specs.Faults.{Rose};
-ghost use Rattle.orc_feed.specs.Whole.{AppendsPrefix};
+ghost use Rattle.orc_feed.specs.Whole.{AppendsPrefix, TakesAtMost};
 ghost use Rattle.orc_jobs.specs.JobGrammar.{IsFileOf, Refuses};
 ghost use Rattle.orc_jobs.specs.declared.cause.Cause.{Cause};
 ghost use Rattle.orc_jobs.specs.declared.line.Line.{Line};
@@ -10,26 +10,23 @@ ghost use Rattle.orc_trace.specs.declared.answers.Replayed.{Replayed};
 ghost use Rattle.orc_trace.specs.declared.answers.TraceFault.{TraceFault};
 ghost use Rattle.orc_trace.specs.Replay.{IsReplay, Refuses as RefusesTrace};
 ghost use Rattle.orc_trace.specs.Answers.{fault_line, replay_line};
+ghost use Rattle.orc_program.specs.declared.mode.Mode.{Mode};
 ghost use Rattle.orc_program.specs.Ended.{IsNew};
-ghost use Rattle.orc_program.specs.Headline.{Headline};
-ghost use Rattle.orc_program.specs.Modes.{replay_words};
-ghost use Rattle.orc_program.specs.Refusals.{AreRefused, IsTooLarge, NamesFault, NamesRecord, input_limit, input_too_large, malformed_line, words_refused};
-ghost use Rattle.orc_program.specs.Outcomes.{TellsReplay, WasToWrite};
+ghost use Rattle.orc_program.specs.Modes.{AreRefused, Asks};
+ghost use Rattle.orc_program.specs.Refusals.{IsTooLarge, NamesFault, NamesRecord, input_limit, input_too_large, malformed_line, words_refused};
+ghost use Rattle.orc_program.specs.Outcomes.{Tells, WasToWrite};
 
-use crate::jobs_mode::run_jobs;
-use crate::mode::{Mode, mode_of};
-use crate::trace_mode::play_trace;
+use crate::mode::mode_of;
+use crate::run_mode::run_mode;
+use crate::writing::refuse_words;
 use crate::{CommandWords, Ended};
 use orc_board::Gate;
-use orc_feed::{ReadAll, Sink, Source, read_all, write_all};
+use orc_feed::{Sink, Source};
 use orc_jobs::JobsFault;
 use orc_trace::TraceFault;
 use std::alloc::Global;
 use std::sync::Wait;
 use std::thread::Threads;
-
-/// The most bytes that an input may have.
-const INPUT_LIMIT: u64 = 16777216;
 
 /// Reads a job file, works through it and writes the report; or, with the one word `replay`, reads a
 /// trace, plays it and writes what it leaves; or writes why not.
@@ -58,66 +55,54 @@ pub fn orc_main<R: Threads + Wait + Sync, S: Source, K: Sink, G: Gate + Sync>(
     requires { IsNew ended.old }
     ensures statuses { (result ≡ 0) ⊎ (result ≡ 2) ⊎ (result ≡ 3) ⊎ (result ≡ 4) ⊎ (result ≡ 5) ⊎ (result ≡ 6) ⊎ (result ≡ 7) ⊎ (result ≡ 8) }
 
-    // Status 0: the headline in mode run, and the census of the trace in mode replay.
-    ensures done { result ≡ 0 → words.now ≡ [] → (text : List ℕ) × Headline (S.left source.old) ended.new text
+    // Status 0: the whole text of the mode, which of mode run is the headline's report.
+    ensures done { result ≡ 0 → (mode : Mode) × (text : List ℕ) × Asks words.now mode × Tells mode (S.left source.old) ended.new text
         × Appends (K.written sink.old) (K.written sink.new) text }
-    ensures replayed { result ≡ 0 → words.now ≢ [] → (words.now ≡ replay_words) × IsNew ended.new
-        × ((text : List ℕ) × IfSome (S.left source.old) (λ bytes. TellsReplay bytes text) × Appends (K.written sink.old) (K.written sink.new) text) }
+
+    // What is read: nothing at refused words, no more than one byte past the limit, and all that there is where the bytes are judged.
+    ensures words_first { AreRefused words.now → (S.left source.new ≡ S.left source.old) × (S.faults source.new ≡ S.faults source.old) }
+    ensures most_read { TakesAtMost (input_limit + 1) (S.left source.old) (S.left source.new) }
     ensures all_read { (result ≡ 0) ⊎ (result ≡ 3) ⊎ (result ≡ 8) → IsAtEnd (S.left source.new) }
+    ensures many_read { result ≡ 6 → IfSome (S.left source.old) (λ bytes. length bytes ≤ input_limit → IsAtEnd (S.left source.new)) }
 
     // Each refusal: why it came, and what was written.
     ensures words { result ≡ 2 → AreRefused words.now × Appends (K.written sink.old) (K.written sink.new) words_refused }
-    ensures malformed { result ≡ 3 → (words.now ≡ []) × ((text : List ℕ) × IfSome (S.left source.old) (λ bytes. NamesRecord bytes text)
+    ensures malformed { result ≡ 3 → Asks words.now Mode.Run × ((text : List ℕ) × IfSome (S.left source.old) (λ bytes. NamesRecord bytes text)
         × Appends (K.written sink.old) (K.written sink.new) text) }
     ensures read_fault { result ≡ 4 → Rose (S.faults source.old) (S.faults source.new) × Keeps (K.written sink.old) (K.written sink.new) }
+    ensures no_read_fault { result ≢ 4 → S.faults source.new ≡ S.faults source.old }
     ensures write_fault { result ≡ 5 → Rose (K.faults sink.old) (K.faults sink.new) }
+    ensures no_write_fault { result ≢ 5 → K.faults sink.new ≡ K.faults sink.old }
     ensures cut_short { result ≡ 5 → (text : List ℕ) × WasToWrite words.now (S.left source.old) ended.new text
         × AppendsPrefix (K.written sink.old) (K.written sink.new) text }
-    ensures large { result ≡ 6 → IfSome (S.left source.old) (IsTooLarge words.now)
+    ensures large { result ≡ 6 → (mode : Mode) × Asks words.now mode × IfSome (S.left source.old) (IsTooLarge mode)
         × Appends (K.written sink.old) (K.written sink.new) input_too_large }
     ensures memory { result ≡ 7 → Keeps (K.written sink.old) (K.written sink.new) }
-    ensures refused { result ≡ 8 → (words.now ≡ replay_words) × ((text : List ℕ) × IfSome (S.left source.old) (λ bytes. NamesFault bytes text)
+    ensures refused { result ≡ 8 → Asks words.now Mode.Replay × ((text : List ℕ) × IfSome (S.left source.old) (λ bytes. NamesFault bytes text)
         × Appends (K.written sink.old) (K.written sink.new) text) }
     ensures nothing_ended { result ≢ 0 → result ≢ 5 → IsNew ended.new }
 
     // When each comes, unless a read or a write failed or memory was refused.
-    ensures words_come { AreRefused words.now → (result ≡ 2) ⊎ (result ≡ 5) }
-    ensures malformed_comes { (bytes : List ℕ) (place : ℕ) (why : Cause) → S.left source.old ≡ Some bytes → words.now ≡ []
+    ensures words_come { AreRefused words.now → (result ≡ 2) ⊎ (result ≡ 5) ⊎ (result ≡ 7) }
+    ensures malformed_comes { (bytes : List ℕ) (place : ℕ) (why : Cause) → S.left source.old ≡ Some bytes → Asks words.now Mode.Run
         → length bytes ≤ input_limit → Refuses bytes (JobsFault.Malformed place why)
         → ((result ≡ 3) × Appends (K.written sink.old) (K.written sink.new) (malformed_line place why)) ⊎ (result ≡ 4) ⊎ (result ≡ 5) ⊎ (result ≡ 7) }
-    ensures large_comes { (bytes : List ℕ) → S.left source.old ≡ Some bytes → ¬ AreRefused words.now → IsTooLarge words.now bytes
+    ensures large_comes { (mode : Mode) (bytes : List ℕ) → S.left source.old ≡ Some bytes → Asks words.now mode → IsTooLarge mode bytes
         → (result ≡ 6) ⊎ (result ≡ 4) ⊎ (result ≡ 5) ⊎ (result ≡ 7) }
-    ensures refused_comes { (bytes : List ℕ) (why : TraceFault) → S.left source.old ≡ Some bytes → words.now ≡ replay_words
+    ensures refused_comes { (bytes : List ℕ) (why : TraceFault) → S.left source.old ≡ Some bytes → Asks words.now Mode.Replay
         → length bytes ≤ input_limit → why ≢ TraceFault.NoMemory → RefusesTrace bytes why
         → ((result ≡ 8) × Appends (K.written sink.old) (K.written sink.new) (fault_line why)) ⊎ (result ≡ 4) ⊎ (result ≡ 5) ⊎ (result ≡ 7) }
-    ensures complete { (bytes : List ℕ) (lines : List Line) → S.left source.old ≡ Some bytes → words.now ≡ []
+    ensures complete { (bytes : List ℕ) (lines : List Line) → S.left source.old ≡ Some bytes → Asks words.now Mode.Run
         → length bytes ≤ input_limit → IsFileOf lines bytes
         → ¬ Rose (S.faults source.old) (S.faults source.new) → ¬ Rose (K.faults sink.old) (K.faults sink.new)
         → (result ≡ 0) ⊎ (result ≡ 7) }
-    ensures complete_replay { (bytes : List ℕ) (played : Replayed) → S.left source.old ≡ Some bytes → words.now ≡ replay_words
+    ensures complete_replay { (bytes : List ℕ) (played : Replayed) → S.left source.old ≡ Some bytes → Asks words.now Mode.Replay
         → length bytes ≤ input_limit → IsReplay bytes played
         → ¬ Rose (S.faults source.old) (S.faults source.new) → ¬ Rose (K.faults sink.old) (K.faults sink.new)
         → ((result ≡ 0) × Appends (K.written sink.old) (K.written sink.new) (replay_line played)) ⊎ (result ≡ 7) }
 {
-    let Some(mode) = mode_of(words) else {
-        return match write_all(sink, b"words refused\n") {
-            Ok(()) => 2,
-            Err(_) => 5,
-        };
-    };
-    let bytes = match read_all(alloc, source, INPUT_LIMIT) {
-        Ok(bytes) => bytes,
-        Err(ReadAll::Failed) => return 4,
-        Err(ReadAll::NoMemory) => return 7,
-    };
-    if bytes.len() as u64 > INPUT_LIMIT {
-        return match write_all(sink, b"input too large\n") {
-            Ok(()) => 6,
-            Err(_) => 5,
-        };
-    }
-    match mode {
-        Mode::Run => run_jobs(rt, alloc, bytes.as_slice(), sink, gate, ended),
-        Mode::Replay => play_trace(alloc, bytes.as_slice(), sink),
+    match mode_of(words) {
+        Some(mode) => run_mode(rt, alloc, mode, source, sink, gate, ended),
+        None => refuse_words(sink),
     }
 }

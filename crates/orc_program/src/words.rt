@@ -36,13 +36,9 @@ impl CommandWords {
         ensures ok { OnOk result (self.new ≡ self.old ++ word.now ∷ []) }
         ensures err { OnErr result (self.new ≡ self.old) }
     {
-        let Ok(word) = String::from_str(*self.words.allocator(), word) else {
-            return Err(NoMemory);
-        };
-        match self.words.push(word) {
-            Ok(()) => Ok(()),
-            Err(_) => Err(NoMemory),
-        }
+        let word = String::from_str(*self.words.allocator(), word)?;
+        self.words.push(word)?;
+        Ok(())
     }
 
     // The words in their order.

@@ -3,7 +3,8 @@ use Rattle.std.proofs.Common.{Bool, arith, cond, false, inl, refl, get_or-set_ot
 use Rattle.std.proofs.lemmas.Bool.{eq-eqb, eqb-false, eqb-true, false≢true}
 use Rattle.std.specs.Prelude.{None, Option, Some, not, ◌==◌}
 use Rattle.orc_core.proofs.Within.{and_both}
-use Rattle.orc_core.specs.Actions.{action_of, word_after}
+use Rattle.orc_words.specs.Operations.{word_after}
+use Rattle.orc_core.specs.Actions.{action_of}
 use Rattle.orc_core.specs.After.{after, bared, cut_of}
 use Rattle.orc_core.specs.Allowed.{fits}
 use Rattle.orc_core.specs.RecordParts.{doom_bare, holds, names, slot_of}

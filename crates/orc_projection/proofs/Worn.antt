@@ -6,7 +6,8 @@ use Rattle.std.specs.Option.{option_map}
 use Rattle.std.specs.Prelude.{None, Option, Some, filter, if◌then◌else◌, is_none, nat_lt, ◌&&◌, ◌==◌, ◌||◌}
 use Rattle.orc_core.proofs.Order.{nothing_pending}
 use Rattle.orc_core.proofs.Within.{and_both, may_within}
-use Rattle.orc_core.specs.Actions.{action_of, clear_word, word_after}
+use Rattle.orc_words.specs.Operations.{word_after}
+use Rattle.orc_core.specs.Actions.{action_of, clear_word}
 use Rattle.orc_core.specs.After.{after}
 use Rattle.orc_core.specs.Machine.{Machine, is_allowed, new_machine, record_at, step, word_in, word_read}
 use Rattle.orc_core.specs.RecordParts.{checked_below, names, number_of, same_target, saw}

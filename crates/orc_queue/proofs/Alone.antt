@@ -2,19 +2,19 @@
 use Rattle.std.proofs.Common.{List, Some, None, [], ap, append_assoc, arith, false, inl, inr, refl, subst, sym, true, ℕ, ◌++◌, ◌∙◌, ◌∷◌, ◌≡◌, ◌≤◌}
 use Rattle.std.proofs.lemmas.List.Elements.{filter-append}
 use Rattle.std.specs.Prelude.{◌==◌}
-use Rattle.orc_heap.proofs.OwnParts.{begins_own, moves_after_own, own_from, own_is_all}
-use Rattle.orc_heap.proofs.Calls.{filter-at}
+use Rattle.orc_heap.proofs.OwnParts.{begins_own, moves_after_own, own_from, own_is_all, quiet_not_alone}
+use Rattle.orc_heap.proofs.Calls.{filter-at, part_allowed}
 use Rattle.orc_heap.proofs.Runs.{lawful-right, run_from-append, run_heap-snoc}
 use Rattle.orc_heap.proofs.Moved.{shown_or_moved_there}
 use Rattle.orc_heap.specs.Acts.{Fits}
 use Rattle.orc_heap.proofs.Stays.{allowed-left, allowed-right}
-use Rattle.orc_heap.specs.Allowed.{AllAllowed, events_by}
+use Rattle.orc_heap.specs.Allowed.{AllAllowed, events_by, HasLink}
 use Rattle.orc_heap.specs.Calls.{event_of}
-use Rattle.orc_heap.specs.Heap.{Heap, HeapNumbers, new_heap, null, shown}
+use Rattle.orc_heap.specs.Heap.{Heap, HeapNumbers, new_heap, null, shown, link_to}
 use Rattle.orc_heap.specs.Journals.{IsLawfulFrom, run_from, run_heap}
 use Rattle.orc_heap.specs.Moves.{AllOwn, from_own, moves_in}
 use Rattle.orc_heap.specs.OwnEvents.{Puts}
-use Rattle.orc_heap.specs.Seats.{Seat}
+use Rattle.orc_heap.specs.Seats.{Seat, heap_of}
 use Rattle.orc_heap.specs.declared.events.Act.TheVariants.{Look, Miss, Move}
 use Rattle.orc_heap.specs.declared.events.Act.{Act}
 use Rattle.orc_heap.specs.declared.events.Event.{Event}
@@ -23,40 +23,25 @@ use Rattle.orc_heap.specs.declared.events.Place.TheVariants.{Next, Root}
 use Rattle.orc_fifo_rule.proofs.Later.{holds_later}
 use Rattle.orc_fifo_rule.specs.declared.fifo.FifoNote.{FifoNote}
 use Rattle.orc_fifo_rule.specs.declared.fifo.FifoNote.TheVariants.{Swing}
-use Rattle.orc_fifo_rule.specs.QueueDiscipline.{FifoHolds, FifoMay, HasLink, has_begun, link_to}
+use Rattle.orc_fifo_rule.specs.QueueDiscipline.{FifoHolds, FifoMay, has_begun}
 use Rattle.orc_fifo_rule.specs.Kept.Events.{begun_more}
-use Rattle.orc_fifo_rule.specs.Kept.Kinds.{link_same, null_to, root_moved, root_other, some_same}
-use Rattle.orc_fifo_rule.specs.Kept.Nodes.{link_next, node_next, shown_link}
+use Rattle.orc_fifo_rule.specs.Kept.Nodes.{link_next, node_next}
 use Rattle.orc_fifo_rule.specs.Kept.Paths.{back_one, tail_steps}
-use Rattle.orc_queue.specs.Turns.{EndsHelping, IsOver, KeepsTail, Piece, TailIsLast, TailIsPast, heap_of}
+use Rattle.orc_queue.specs.Turns.{EndsHelping, IsOver, KeepsTail, Piece, TailIsLast, TailIsPast}
 use Rattle.orc_queue.proofs.Filled.{Known}
-use Rattle.orc_queue.proofs.Joins.{Join, own_moves_left}
-use Rattle.orc_queue.proofs.Moments.{look_found_after}
-use Rattle.orc_queue.proofs.Pieces.{new_allowed, new_is}
+use Rattle.orc_queue.proofs.Joins.{Join}
+use Rattle.orc_heap.proofs.SingleActs.{link_same, null_to, root_moved, root_other, shown_link, some_same}
+use Rattle.orc_heap.proofs.Pieces.{new_is, own_moves_left, alone_holds, moves_then}
+use Rattle.orc_heap.proofs.Moments.{look_found}
+use Rattle.orc_fifo_rule.specs.Kept.Laws.{fifo_keeps}
 
--- from the first own event on, these are the own events
-pub alone_own : (agent : ℕ) (es own : List (Event FifoNote)) → events_by agent es ≡ own → AllOwn agent (from_own agent es) → from_own agent es ≡ own
-alone_own agent es own is alone =
-    let b = begins_own agent es in
-    sym (own_is_all agent (from_own agent es) alone)
-    ∙ (ap (λ z. z ++ events_by agent (from_own agent es)) (sym b.others)
-    ∙ (sym (filter-append (λ e. e.agent == agent) b.before (from_own agent es)) ∙ (ap (λ z. events_by agent z) (sym b.is) ∙ is)))
-
--- so what follows from the own events, wherever they stand, then holds of the heap
-pub alone_holds : (n : HeapNumbers) (P : Heap → Type 0) (s t : Seat FifoNote) (own : List (Event FifoNote)) (p : Puts s own t) → Known n s.seen → AllAllowed (FifoMay n) [] t.seen
+-- where no other agent steps, what follows from the own events, wherever they stand once the roots have begun, holds of the heap
+pub alone_runs : (n : HeapNumbers) (P : Heap → Type 0) (s t : Seat FifoNote) (own : List (Event FifoNote)) (p : Puts s own t) → Known n s.seen → AllAllowed (FifoMay n) [] t.seen
     → ((es : List (Event FifoNote)) → FifoHolds n es → has_begun es ≡ true → AllAllowed (FifoMay n) es own → P (run_heap n (es ++ own)))
     → AllOwn s.agent (from_own s.agent p.part) → P (heap_of n t)
-alone_holds n P s t own p k all_t holds alone =
-    let b = begins_own s.agent p.part in
-    let is = b.is ∙ ap (λ z. b.before ++ z) (alone_own s.agent p.part own p.own_is alone) in
-    let whole = subst (λ z. AllAllowed (FifoMay n) s.seen z) is (new_allowed n s t own p all_t) in
-    let first = allowed-left (FifoMay n) s.seen b.before own whole in
-    let there = holds (s.seen ++ b.before) (holds_later n s.seen b.before k.holds first) (begun_more s.seen b.before k.dummy.begun) (allowed-right (FifoMay n) s.seen b.before own whole) in
-    subst (λ z. P (run_heap n z)) (append_assoc s.seen b.before own ∙ (ap (λ z. s.seen ++ z) (sym is) ∙ sym p.is)) there
-
--- so if a Move stands there, then the pass made it
-pub quiet_not_alone : (agent : ℕ) (es own : List (Event FifoNote)) → events_by agent es ≡ own → moves_in own ≡ 0 → 1 ≤ moves_in (from_own agent es) → AllOwn agent (from_own agent es) → ⊥
-quiet_not_alone agent es own is none some alone = omega (arith, none, some, ap (λ (z : List (Event FifoNote)). moves_in z) (alone_own agent es own is alone))
+alone_runs n P s t own p k all told alone =
+    alone_holds n (λ es. FifoHolds n es × (has_begun es ≡ true)) (FifoMay n) (λ es e h may. (fifo_keeps n es e h.0 may, begun_more es (e ∷ []) h.1))
+    P s t own p (k.holds, k.dummy.begun) all (λ es h. told es h.0 h.1) alone
 
 -- a turn without a Move of the pass's own
 pub over_quiet : (n : HeapNumbers) (IsSettled : Heap → Type 0) (s t : Seat FifoNote) (p : Piece 6 s [] t) → t.fresh ≡ s.fresh → moves_in p.own ≡ 0 → 1 ≤ moves_in (from_own s.agent p.puts.part) → IsOver n IsSettled s t
@@ -68,17 +53,6 @@ over_quiet n IsSettled s t p fresh none some = record {
   unsettled = λ alone settled. quiet_not_alone s.agent p.puts.part p.own p.puts.own_is none some (own_from s.agent p.puts.part alone);
 }
 
--- what stands after a call's first event stands after an own event
-pub moves_then : (s a t : Seat FifoNote) (e : Event FifoNote) (rest ys zs : List (Event FifoNote)) (p : Puts s (e ∷ rest) a) (q : Puts a ys t) (w : Puts s zs t) → e.agent ≡ s.agent → moves_in q.part ≤ moves_in (from_own s.agent w.part)
-moves_then s a t e rest ys zs p q w own =
-    let f = filter-at (λ x. x.agent == s.agent) p.part [] e rest p.own_is in
-    let is : w.part ≡ f.before ++ e ∷ (f.later ++ q.part) = new_is s a t (e ∷ rest) ys zs w p q ∙ (ap (λ z. z ++ q.part) f.is ∙ append_assoc f.before (e ∷ f.later) q.part) in
-    rw is (omega (arith, moves_after_own s.agent f.before e (f.later ++ q.part) own, moves_more f.later q.part))
-  where
-    moves_more : (xs ys : List (Event FifoNote)) → moves_in ys ≤ moves_in (xs ++ ys)
-    moves_more [] ys = omega arith
-    moves_more (x ∷ xs) ys = omega (arith, moves_more xs ys)
-
 -- a turn from a look of a root on: the rest made no Move, or it helped
 module _ (n : HeapNumbers) (IsSettled : Heap → Type 0) (root id : ℕ) (one : Link) (s a t : Seat FifoNote) (k : Known n s.seen) (all_a : AllAllowed (FifoMay n) [] a.seen) (all_t : AllAllowed (FifoMay n) [] t.seen)
     (p : Puts s (event_of s (Look (Root root) one) None ∷ event_of s (Look (Root root) (link_to id)) None ∷ []) a) (own : List (Event FifoNote)) (q : Puts a own t)
@@ -87,8 +61,8 @@ module _ (n : HeapNumbers) (IsSettled : Heap → Type 0) (root id : ℕ) (one : 
   where
     moved_since : 1 ≤ moves_in (from_own s.agent j.piece.puts.part)
     moved_since =
-        let found = look_found_after n s a (Root root) (link_to id) None (event_of s (Look (Root root) one) None ∷ []) [] p all_a tt in
-        elim found.either [
+        let found = look_found n (FifoMay n) (λ es x k. k.fits) s a (Root root) (link_to id) None (event_of s (Look (Root root) one) None ∷ []) [] p all_a tt in
+        elim found [
           | inl still ↦ omega (arith, moved still, moves_then s a t _ _ _ _ p q j.piece.puts refl)
           | inr some ↦ omega (arith, some, own_moves_left s a t _ _ _ p q j.piece.puts)
         ]
@@ -105,12 +79,12 @@ module _ (n : HeapNumbers) (IsSettled : Heap → Type 0) (root id : ℕ) (one : 
         → IsOver n IsSettled s t
     over_helped settles unsettled =
         let part = j.piece.puts.part in
-        let new = new_allowed n s t _ j.piece.puts all_t in
+        let new = part_allowed (FifoMay n) s t _ j.piece.puts all_t in
         record {
           piece = j.piece;
           fresh = fresh;
           moved = moved_since;
-          settles = λ alone. alone_holds n IsSettled s t _ (record { part = part; is = j.piece.puts.is; agent = j.piece.puts.agent; own_is = all_own }) k all_t settles alone;
+          settles = λ alone. alone_runs n IsSettled s t _ (record { part = part; is = j.piece.puts.is; agent = j.piece.puts.agent; own_is = all_own }) k all_t settles alone;
           unsettled = λ alone settled.
               let is : part ≡ event_of s (Look (Root root) one) None ∷ event_of s (Look (Root root) (link_to id)) None ∷ own = sym (own_is_all s.agent part alone) ∙ all_own in
               unsettled s.seen (subst (λ z. AllAllowed (FifoMay n) s.seen z) is new) settled;

@@ -21,10 +21,10 @@ use Rattle.orc_fifo_rule.specs.declared.fifo.FifoNote.{FifoNote}
 use Rattle.orc_fifo_rule.specs.QueueDiscipline.{entries_of}
 use Rattle.orc_queue.specs.Answers.{IsCall, PutAnswers, PutFull, PutLacking, PutMade, PutTired, TakeAnswers, TakeMade, Tires, gives_of}
 use Rattle.orc_queue.specs.Turns.{AreOver, EndsHelping, FindsFull, HoldsNode, IsFull, Piece, PutTires, PutsJob, TailIsPast}
-use Rattle.orc_queue.proofs.Joins.{full_join_left, full_join_right, own_moves_left, own_moves_right, own_part_left, own_part_right, puts_released, room_join}
-use Rattle.orc_queue.proofs.Pieces.{InSlot, slot_holds, slot_id, slot_released}
+use Rattle.orc_queue.proofs.Joins.{full_join_left, full_join_right, room_join}
 use Rattle.orc_queue.proofs.PutTurns.{ends_helping}
 use Rattle.orc_queue.proofs.Room.{room_unseen}
+use Rattle.orc_heap.proofs.Pieces.{InSlot, own_moves_left, own_moves_right, own_part_left, own_part_right, puts_released, slot_holds, slot_id, slot_released}
 
 -- one node is given, or none
 gives_one : (turns : ℕ) (r : Result ℕ QueueRefused) → turns ≢ 0 → r ≢ Err NoNode → gives_of turns r ≡ 1

@@ -1,14 +1,14 @@
 -- A put, from the node on that the tail named.
 use Rattle.std.proofs.Common.{List, Some, None, [], ap, arith, false, inl, inr, refl, subst, sym, true, ℕ, ◌<◌, ◌^◌, ◌∙◌, ◌∷◌, ◌≡◌, ◌≢◌, ◌≤◌}
 use Rattle.std.proofs.lemmas.Bool.{ne_eqb}
-use Rattle.orc_heap.proofs.OwnParts.{moves_from_own}
-use Rattle.orc_heap.proofs.Calls.{Puts-trans}
-use Rattle.orc_heap.specs.Allowed.{AllAllowed, IsLinkedNode}
+use Rattle.orc_heap.proofs.OwnParts.{moves_from_own, moves_own}
+use Rattle.orc_heap.proofs.Calls.{Puts-trans, part_allowed}
+use Rattle.orc_heap.specs.Allowed.{AllAllowed, IsLinkedNode, HasLink}
 use Rattle.orc_heap.specs.Calls.{event_of}
-use Rattle.orc_heap.specs.Heap.{HeapNumbers, null}
+use Rattle.orc_heap.specs.Heap.{HeapNumbers, null, link_to}
 use Rattle.orc_heap.specs.Moves.{moves_in}
 use Rattle.orc_heap.specs.OwnEvents.{Puts}
-use Rattle.orc_heap.specs.Seats.{IsUntouched, Seat}
+use Rattle.orc_heap.specs.Seats.{IsUntouched, Seat, heap_of}
 use Rattle.orc_heap.specs.Slots.{Hold, id_in}
 use Rattle.orc_heap.specs.declared.events.Act.TheVariants.{Look, Miss, Move}
 use Rattle.orc_heap.specs.declared.events.Event.{Event}
@@ -18,17 +18,18 @@ use Rattle.orc_history.specs.declared.queue.QueueEntry.TheVariants.{Put}
 use Rattle.orc_fifo_rule.proofs.Reading.{successor_job}
 use Rattle.orc_fifo_rule.specs.declared.fifo.FifoNote.{FifoNote}
 use Rattle.orc_fifo_rule.specs.declared.fifo.FifoNote.TheVariants.{Swing}
-use Rattle.orc_fifo_rule.specs.QueueDiscipline.{FifoMay, HasLink, entries_of, link_to, position_of}
+use Rattle.orc_fifo_rule.specs.QueueDiscipline.{FifoMay, entries_of, position_of}
 use Rattle.orc_fifo_rule.specs.Watches.{WasNamed}
 use Rattle.orc_queue.specs.declared.put.PutTurn.{PutTurn}
 use Rattle.orc_queue.specs.declared.put.PutTurn.TheVariants.{Full, Over as PutOver, Put as PutDone}
-use Rattle.orc_queue.specs.Turns.{FindsFull, Helps, HoldsNode, LinksBehind, PutsBehind, SwingsLast, TurnMissed, heap_of}
+use Rattle.orc_queue.specs.Turns.{FindsFull, Helps, HoldsNode, LinksBehind, PutsBehind, SwingsLast, TurnMissed}
 use Rattle.orc_queue.proofs.Filled.{Known}
-use Rattle.orc_queue.proofs.Joins.{full_join_left, join, moves_left, moves_right, one_part, puts_released, room_join}
+use Rattle.orc_queue.proofs.Joins.{full_join_left, join, room_join}
 use Rattle.orc_queue.proofs.Looking.{next_found}
-use Rattle.orc_queue.proofs.Moments.{look_found, looks_differ, miss_moved, moves_own}
-use Rattle.orc_queue.proofs.Pieces.{linked_not_fresh, linked_puts, new_allowed, node_puts, position_puts}
+use Rattle.orc_queue.proofs.Pieces.{linked_puts, node_puts, position_puts}
 use Rattle.orc_queue.proofs.Room.{full_at, room_at}
+use Rattle.orc_heap.proofs.Pieces.{linked_not_fresh, moves_left, moves_right, one_part, puts_released}
+use Rattle.orc_heap.proofs.Moments.{look_found, looks_differ, miss_moved}
 
 -- a node with a successor has a low position
 pub low_where_linked : (n : HeapNumbers) (s : Seat FifoNote) (id next : ℕ) → Known n s.seen → HasLink (heap_of n s) id (link_to next) → position_of (heap_of n s) id < 2 ^ 62
@@ -52,18 +53,18 @@ module _ (n : HeapNumbers) (job tail : ℕ) (h : Hold) (s a t : Seat FifoNote) (
     node_seen node = node_puts n s a _ p all_a job h node.second k node slots fresh refl refl
 
     room_first : position_of (heap_of n a) tail < 2 ^ 62 → FindsFull n s.agent s.seen p.part → ⊥
-    room_first low = room_at n s a _ tail p k (new_allowed n s a _ p all_a) named ((λ e. (null, refl)), tt) (omega (arith, low, position_puts n s a _ p all_a tail named.linked))
+    room_first low = room_at n s a _ tail p k (part_allowed (FifoMay n) s a _ p all_a) named ((λ e. (null, refl)), tt) (omega (arith, low, position_puts n s a _ p all_a tail named.linked))
 
     pub behind_null : (turn : PutTurn) → LinksBehind n 3 (SwingsLast tail) job tail h a turn t → PutsBehind n job tail h s turn t
     behind_null PutOver l =
         let q = l.stops.piece in
         let j = join 4 s a t (event_of s (Look (Next tail) null) None ∷ []) q.own [] p q.puts (q.slots ∙ slots) q.entries_are (omega (arith, q.no_give)) (omega (arith, q.few)) in
-        let found = look_found n s a (Next tail) null None [] p all_a named.linked in
+        let found = look_found n (FifoMay n) (λ es x k. k.fits) s a (Next tail) null None [] [] p all_a named.linked in
         record {
           stops = record {
             piece = j.piece;
             fresh = l.stops.fresh ∙ fresh;
-            moved = λ at. elim found.either [
+            moved = λ at. elim found [
               | inl still ↦ omega (arith, l.stops.moved still, moves_right s a t _ _ _ p q.puts j.piece.puts)
               | inr some ↦ omega (arith, some, moves_from_own s.agent p.part, moves_left s a t _ _ _ p q.puts j.piece.puts)
             ];
@@ -122,7 +123,7 @@ module _ (n : HeapNumbers) (job tail next : ℕ) (h : Hold) (s a b t : Seat Fifo
               own_moves = inr (next, j.own_is);
             };
             room = subst (λ z. FindsFull n s.agent s.seen z → ⊥) (one_part s t _ _ w j.piece.puts)
-                (room_at n s t _ tail w k (new_allowed n s t _ w all) named ((λ e. not_end e), ((λ e. not_end e), ((λ e. not_end e), tt))) low);
+                (room_at n s t _ tail w k (part_allowed (FifoMay n) s t _ w all) named ((λ e. not_end e), ((λ e. not_end e), ((λ e. not_end e), tt))) low);
             node = node_puts n s t _ w all job h node.second k node slots fresh (rw (ne_eqb next (id_in s.slots h) other) refl) (rw (ne_eqb next (id_in s.slots h) other) refl);
           }
       | inr missed ↦
@@ -135,11 +136,11 @@ module _ (n : HeapNumbers) (job tail next : ℕ) (h : Hold) (s a b t : Seat Fifo
             stops = record {
               piece = j.piece;
               fresh = fresh;
-              moved = λ at. subst (λ z. 1 ≤ moves_in z) (one_part s t _ _ w j.piece.puts) (miss_moved n s t (Root 1) (link_to tail) missed.found (first ∷ first ∷ []) miss [] w refl all tt missed.other at);
+              moved = λ at. subst (λ z. 1 ≤ moves_in z) (one_part s t _ _ w j.piece.puts) (miss_moved n (FifoMay n) (λ es x k. k.fits) s t (Root 1) (link_to tail) missed.found (first ∷ first ∷ []) miss [] w refl all tt missed.other at);
               own_moves = inl (ap (λ (z : List (Event FifoNote)). moves_in z) j.own_is);
             };
             room = subst (λ z. FindsFull n s.agent s.seen z → ⊥) (one_part s t _ _ w j.piece.puts)
-                (room_at n s t _ tail w k (new_allowed n s t _ w all) named ((λ e. not_end e), ((λ e. not_end e), ((λ e. not_end e), tt))) low);
+                (room_at n s t _ tail w k (part_allowed (FifoMay n) s t _ w all) named ((λ e. not_end e), ((λ e. not_end e), ((λ e. not_end e), tt))) low);
             node = node_puts n s t _ w all job h node.second k node slots fresh refl refl;
           }
     ]
@@ -151,10 +152,10 @@ behind_moved n job tail h s t one two k kt named node other slots fresh p = reco
   stops = record {
     piece = record { own = _; slots = slots; puts = p; entries_are = refl; no_give = refl; few = omega arith };
     fresh = fresh;
-    moved = λ at. omega (arith, moves_from_own s.agent p.part, looks_differ n s t (Next tail) one two p kt.all named.linked other);
+    moved = λ at. omega (arith, moves_from_own s.agent p.part, looks_differ n (FifoMay n) (λ es x k. k.fits) s t (Next tail) one two p kt.all named.linked other);
     own_moves = inl refl;
   };
-  room = room_at n s t _ tail p k (new_allowed n s t _ p kt.all) named ((λ e. (one, refl)), ((λ e. (two, refl)), tt)) low;
+  room = room_at n s t _ tail p k (part_allowed (FifoMay n) s t _ p kt.all) named ((λ e. (one, refl)), ((λ e. (two, refl)), tt)) low;
   node = node_puts n s t _ p kt.all job h node.second k node slots fresh refl refl;
 }
   where

@@ -3,10 +3,10 @@ use Rattle.std.proofs.Common.{List, Ok, Err, Option, Result, [], ap, append-nil,
 use Rattle.std.proofs.lemmas.List.{length-append}
 use Rattle.std.proofs.lemmas.List.Elements.{filter-append}
 use Rattle.std.proofs.Math.Seq.{drop-append_seam, take-length}
-use Rattle.std.specs.List.{list_all}
+use Rattle.std.specs.List.{list_all, AllByRecursion}
 use Rattle.std.specs.Prelude.{IfErr, IfOk, IsErr, ◌↔◌}
 use mathlib.Core.List.{IsPrefix}
-use Rattle.orc_heap.proofs.Moved.{moves_in-append}
+use Rattle.orc_heap.proofs.Moved.{moves_in-append, gives_in-append}
 use Rattle.orc_heap.proofs.OwnParts.{from_own-others, moves_from_own, own_from}
 use Rattle.orc_heap.proofs.Steps.{events_grow, part_bounds, part_events}
 use Rattle.orc_heap.proofs.Stays.{allowed-right}
@@ -18,30 +18,31 @@ use Rattle.orc_heap.specs.OwnEvents.{IsBelow}
 use Rattle.orc_history.specs.Parts.{InPart, IsAlone, part_begin}
 use Rattle.orc_heap.specs.Seats.{Seat}
 use Rattle.orc_heap.specs.declared.events.Event.{Event}
-use Rattle.orc_history.specs.Journals.{Adds, Every, LearnsEntries, Within, own_of}
+use Rattle.orc_history.specs.Journals.{Adds, LearnsEntries, Within, own_of}
 use Rattle.orc_history.specs.QueueHistory.{agent_of_entry, entry_of_dequeue, puts_in}
 use Rattle.orc_history.specs.declared.queue.QueueEntry.{QueueEntry}
 use Rattle.orc_history.specs.declared.queue.QueueEntry.TheVariants.{Put}
 use Rattle.orc_history.specs.declared.queue.QueueRefused.{QueueRefused}
 use Rattle.orc_history.specs.declared.queue.QueueRefused.TheVariants.{Again, NoNode, Positions}
 use Rattle.orc_fault.specs.declared.Again.{Again as AgainFault}
-use Rattle.orc_fifo_rule.proofs.OwnEntries.{entries_added, own_of_events}
+use Rattle.orc_fifo_rule.proofs.OwnEntries.{entries_own}
 use Rattle.orc_fifo_rule.specs.declared.fifo.FifoNote.{FifoNote}
-use Rattle.orc_fifo_rule.specs.QueueDiscipline.{FifoMay, entries_of, position_of}
+use Rattle.orc_fifo_rule.specs.QueueDiscipline.{FifoMay, entries_of, position_of, entries_in}
 use Rattle.orc_queue.specs.Answers.{CallFindsFull, IsCall, PutAnswers, TakeAnswers, Tires, gives_of}
 use Rattle.orc_queue.specs.Causes.{Cause, LacksPosition, UsesTurns}
 use Rattle.orc_queue.specs.Turns.{FindsFull, HasDummy, TailIsLast}
 use Rattle.orc_queue.specs.Laws.{first_stays}
-use Rattle.orc_queue.proofs.Alone.{alone_holds, tail_settles}
+use Rattle.orc_queue.proofs.Alone.{tail_settles, alone_runs}
 use Rattle.orc_queue.proofs.Filled.{Known}
-use Rattle.orc_queue.proofs.Pieces.{gives_in-append, new_allowed}
 use Rattle.orc_queue.proofs.Room.{full_puts}
+use Rattle.orc_heap.proofs.OwnEntries.{entries_added, own_of_events}
+use Rattle.orc_heap.proofs.Calls.{part_allowed}
 
 below_right : (agents : ℕ) (es fs : List (Event FifoNote)) → IsBelow agents (es ++ fs) → IsBelow agents fs
 below_right agents [] fs b = b
 below_right agents (e ∷ es) fs b = below_right agents es fs b.1
 
-of_crowd : (agent agents : ℕ) (es : List (Event FifoNote)) → IsBelow agents es → Every (λ (e : Event FifoNote). (e.agent ≡ agent) ⊎ (e.agent < agents)) es
+of_crowd : (agent agents : ℕ) (es : List (Event FifoNote)) → IsBelow agents es → AllByRecursion (λ (e : Event FifoNote). (e.agent ≡ agent) ⊎ (e.agent < agents)) es
 of_crowd agent agents [] b = tt
 of_crowd agent agents (e ∷ es) b = (inr b.0, of_crowd agent agents es b.1)
 
@@ -126,7 +127,7 @@ module _ {S : Type 0} (n : HeapNumbers) (agents : ℕ) (agent_of : S → ℕ) (e
     call_adds given turns es c =
         let p = c.puts in
         let others = of_crowd s.agent agents p.part (below_right agents s.seen p.part (subst (λ z. IsBelow agents z) p.is below)) in
-        let a = entries_added n (λ (x : ℕ). x < agents) s.agent s.seen p.part (new_allowed n s t c.own p all) others in
+        let a = entries_added entries_in agent_of_entry (FifoMay n) (entries_own n) (λ (x : ℕ). x < agents) s.agent s.seen p.part (part_allowed (FifoMay n) s t c.own p all) others in
         let own : entries_of (events_by s.agent p.part) ≡ es = ap entries_of p.own_is ∙ c.entries_are in
         subst (λ z. Adds agent_of_entry (λ (x : ℕ). x < agents) s.agent (entries_of (events j)) es (entries_of z)) (sym p.is ∙ is_t)
         (subst (λ z. Adds agent_of_entry (λ (x : ℕ). x < agents) s.agent (entries_of z) es (entries_of (s.seen ++ p.part))) is_s
@@ -180,7 +181,7 @@ module _ {S : Type 0} (n : HeapNumbers) (agents : ℕ) (agent_of : S → ℕ) (e
         let new : events k ≡ events j ++ p.part = sym is_t ∙ (p.is ∙ ap (λ z. z ++ p.part) is_s) in
         let e = part_events agent_of events adds s.agent j k p.part grows new in
         let own : from_own s.agent p.part ≡ from_own s.agent e.part = ap (λ z. from_own s.agent z) e.is ∙ from_own-others s.agent e.gap e.part e.others in
-        alone_holds n TailIsLast s t l.call.own p known all (tail_settles n l.call.own l.helps) (subst (λ z. AllOwn s.agent z) (sym own) (own_from s.agent e.part (e.alone alone)))
+        alone_runs n TailIsLast s t l.call.own p known all (tail_settles n l.call.own l.helps) (subst (λ z. AllOwn s.agent z) (sym own) (own_from s.agent e.part (e.alone alone)))
     put_tail job turns (Err why) known l = tt
 
     pub put_again : (job turns : ℕ) (r : Result ℕ QueueRefused) → PutAnswers n job turns s r t → r ≡ Err Again → InPart agent_of s.agent j k (λ from to. UsesTurns agent_of events s.agent turns k from to)
@@ -254,4 +255,4 @@ learns {S} n events agent1 agent2 s1 s2 t1 j1 j2 k1 k2 one longer all1 all2 all 
         → own_of agent_of_entry agent (entries_of (events k1)) ≡ own_of agent_of_entry agent (entries_of (events j))
     own agent s j all_s is_j same =
         ap (λ z. own_of agent_of_entry agent (entries_of z)) (sym is)
-        ∙ (own_of_events n agent [] t1.seen all ∙ (ap entries_of same ∙ (sym (own_of_events n agent [] s.seen all_s) ∙ ap (λ z. own_of agent_of_entry agent (entries_of z)) is_j)))
+        ∙ (own_of_events entries_in agent_of_entry (FifoMay n) (entries_own n) agent [] t1.seen all ∙ (ap entries_of same ∙ (sym (own_of_events entries_in agent_of_entry (FifoMay n) (entries_own n) agent [] s.seen all_s) ∙ ap (λ z. own_of agent_of_entry agent (entries_of z)) is_j)))

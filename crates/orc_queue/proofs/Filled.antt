@@ -11,8 +11,8 @@ use Rattle.orc_heap.proofs.Runs.{run_heap-snoc}
 use Rattle.orc_heap.proofs.Stays.{allowed-left, allowed-right}
 use Rattle.orc_heap.specs.Acts.{as_linked, heap_after, with_link}
 use Rattle.orc_heap.specs.Allowed.{AllAllowed, IsLinkedNode}
-use Rattle.orc_heap.specs.Heap.{Heap, HeapNumbers, Node}
-use Rattle.orc_heap.specs.Journals.{IsPlainAct, moves_to, names_node, run_heap}
+use Rattle.orc_heap.specs.Heap.{Heap, HeapNumbers, Node, link_to}
+use Rattle.orc_heap.specs.Journals.{IsPlainAct, moves_to, names_node, run_heap, event_by}
 use Rattle.orc_heap.specs.declared.events.Act.{Act}
 use Rattle.orc_heap.specs.declared.events.Act.TheVariants.{Aim, Fill, Give, Look, Miss, Move}
 use Rattle.orc_heap.specs.declared.events.Event.{Event}
@@ -20,8 +20,7 @@ use Rattle.orc_heap.specs.declared.events.Link.{Link}
 use Rattle.orc_heap.specs.declared.events.Place.TheVariants.{Next, Root}
 use Rattle.orc_fifo_rule.proofs.Later.{holds_later, nothing_yet}
 use Rattle.orc_fifo_rule.specs.declared.fifo.FifoNote.{FifoNote}
-use Rattle.orc_fifo_rule.specs.QueueDiscipline.{FifoHolds, FifoMay, has_begun, link_to}
-use Rattle.orc_fifo_rule.specs.Watches.{event_of}
+use Rattle.orc_fifo_rule.specs.QueueDiscipline.{FifoHolds, FifoMay, has_begun}
 use Rattle.orc_fifo_rule.specs.Kept.Events.{begun_more}
 use Rattle.orc_fifo_rule.specs.Kept.Kinds.{each_kind}
 use Rattle.orc_fifo_rule.specs.Kept.Laws.{fifo_keeps}
@@ -61,7 +60,7 @@ module _ (n : HeapNumbers) (es : List (Event FifoNote)) (holds : FifoHolds n es)
   first_link : (e : Event FifoNote) (old : Node) → FifoMay n es e → slice_get h.nodes id ≡ Some old → old.linked ≡ false → moves_to e.act id ≡ true → Filled old
   first_link e old may there unlinked m =
       let run = holds.running begun in
-      each_kind h (λ act noted. FifoMay n es (event_of e.agent act noted) → moves_to act id ≡ true → Filled old)
+      each_kind h (λ act noted. FifoMay n es (event_by e.agent act noted) → moves_to act id ≡ true → Filled old)
       (λ act plain x k. absurd (no_plain_link act id plain k))
       (λ r from to b x k. absurd (begin_late h es r run b.root_is (x.fits.0 ∙ ap (λ (l : Link). Some l) b.from_is)))
       (λ r from to b x k. absurd (linked_twice b.steps.next old (named_is to b.steps.next (Root r) from b.steps.to_is k)

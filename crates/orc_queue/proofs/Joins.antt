@@ -1,4 +1,4 @@
--- Two pieces of a call, or three of which the last is a release, make one.
+-- Two pieces of a call make one.
 use Rattle.std.proofs.Common.{List, [], ap, append-nil, append_assoc, arith, length, refl, subst, sym, ℕ, ◌++◌, ◌∙◌, ◌∷◌, ◌≡◌, ◌≤◌}
 use mathlib.Core.List.{IsPrefix}
 use Rattle.orc_heap.proofs.Moved.{moves_in-append}
@@ -12,9 +12,9 @@ use Rattle.orc_history.specs.declared.queue.QueueEntry.{QueueEntry}
 use Rattle.orc_fifo_rule.specs.declared.fifo.FifoNote.{FifoNote}
 use Rattle.orc_fifo_rule.specs.QueueDiscipline.{entries_of}
 use Rattle.orc_queue.specs.Turns.{FindsFull, Piece}
-use Rattle.orc_queue.proofs.Pieces.{new_is}
 use Rattle.orc_queue.proofs.Room.{full_left, full_right, room_both}
 use Rattle.orc_heap.specs.Heap.{HeapNumbers}
+use Rattle.orc_heap.proofs.Pieces.{new_is}
 
 -- a piece whose own events are those of two, one after another, and so is what is new
 pub record Join (most : ℕ) (s t : Seat FifoNote) (own : List (Event FifoNote)) (es : List QueueEntry) (first second : List (Event FifoNote)) : Type 0 where
@@ -26,57 +26,20 @@ pub join : (most : ℕ) (s a t : Seat FifoNote) (xs ys : List (Event FifoNote)) 
     → length (xs ++ ys) ≤ most → Join most s t (xs ++ ys) es p.part q.part
 join most s a t xs ys es p q same entries none few =
     let w = Puts-trans s a t xs ys p q in
-    record { piece = record { own = xs ++ ys; slots = same; puts = w; entries_are = entries; no_give = none; few = few }; own_is = refl; part_is = new_is s a t xs ys (xs ++ ys) w p q }
+    record { piece = record { own = xs ++ ys; slots = same; puts = w; entries_are = entries; no_give = none; few = few }; own_is = refl; part_is = new_is s a t xs ys (xs ++ ys) p q w }
 
--- a journal that went on, and on
-pub goes_on : {A : Type 0} (xs ys zs : List A) → IsPrefix xs ys → IsPrefix ys zs → IsPrefix xs zs
-goes_on xs ys zs (us, one) (vs, two) = (us ++ vs, sym (append_assoc xs us vs) ∙ (ap (λ z. z ++ vs) one ∙ two))
-
--- a release at the end
-pub puts_released : (s a t : Seat FifoNote) (xs : List (Event FifoNote)) → Puts s xs a → Puts a [] t → Puts s xs t
-puts_released s a t xs p q = subst (λ z. Puts s z t) (append-nil xs) (Puts-trans s a t xs [] p q)
-
--- the same events, told twice
-pub one_part : (s t : Seat FifoNote) (xs ys : List (Event FifoNote)) (p : Puts s xs t) (q : Puts s ys t) → p.part ≡ q.part
-one_part s t xs ys p q = append-cancel_left s.seen p.part q.part (sym p.is ∙ q.is)
-  where
-    append-cancel_left : (us vs ws : List (Event FifoNote)) → us ++ vs ≡ us ++ ws → vs ≡ ws
-    append-cancel_left [] vs ws e = e
-    append-cancel_left (u ∷ us) vs ws e = append-cancel_left us vs ws (cc)
-
--- Moves of a piece are Moves of what it is a piece of
-pub moves_left : (s a t : Seat FifoNote) (xs ys zs : List (Event FifoNote)) (p : Puts s xs a) (q : Puts a ys t) (w : Puts s zs t) → moves_in p.part ≤ moves_in w.part
-moves_left s a t xs ys zs p q w = rw (new_is s a t xs ys zs w p q) (omega (arith, moves_in-append p.part q.part))
-
-pub moves_right : (s a t : Seat FifoNote) (xs ys zs : List (Event FifoNote)) (p : Puts s xs a) (q : Puts a ys t) (w : Puts s zs t) → moves_in q.part ≤ moves_in w.part
-moves_right s a t xs ys zs p q w = rw (new_is s a t xs ys zs w p q) (omega (arith, moves_in-append p.part q.part))
-
-pub own_moves_left : (s a t : Seat FifoNote) (xs ys zs : List (Event FifoNote)) (p : Puts s xs a) (q : Puts a ys t) (w : Puts s zs t) → moves_in (from_own s.agent p.part) ≤ moves_in (from_own s.agent w.part)
-own_moves_left s a t xs ys zs p q w = rw (new_is s a t xs ys zs w p q) (omega (arith, moves_from_own-append s.agent p.part q.part))
-
-pub own_moves_right : (s a t : Seat FifoNote) (xs ys zs : List (Event FifoNote)) (p : Puts s xs a) (q : Puts a ys t) (w : Puts s zs t) → moves_in (from_own a.agent q.part) ≤ moves_in (from_own s.agent w.part)
-own_moves_right s a t xs ys zs p q w = rw (new_is s a t xs ys zs w p q, p.agent) (omega (arith, moves_from_own-append s.agent p.part q.part))
-
--- a piece of a call in which no other agent steps
-pub own_part_left : (s a t : Seat FifoNote) (xs ys zs : List (Event FifoNote)) (p : Puts s xs a) (q : Puts a ys t) (w : Puts s zs t) → AllOwn s.agent (from_own s.agent w.part) → AllOwn s.agent (from_own s.agent p.part)
-own_part_left s a t xs ys zs p q w alone = own_from_left s.agent p.part q.part (subst (λ z. AllOwn s.agent (from_own s.agent z)) (new_is s a t xs ys zs w p q) alone)
-
-pub own_part_right : (s a t : Seat FifoNote) (xs ys zs : List (Event FifoNote)) (p : Puts s xs a) (q : Puts a ys t) (w : Puts s zs t) → AllOwn s.agent (from_own s.agent w.part) → AllOwn a.agent (from_own a.agent q.part)
-own_part_right s a t xs ys zs p q w alone =
-    subst (λ (x : ℕ). AllOwn x (from_own x q.part)) (sym p.agent) (own_from_right s.agent p.part q.part (subst (λ z. AllOwn s.agent (from_own s.agent z)) (new_is s a t xs ys zs w p q) alone))
-
--- and so it is with a Look where no position is left
+-- a Look where no position is left, in two pieces of a call and in the whole of them
 module _ (n : HeapNumbers) (s a t : Seat FifoNote) (xs ys zs : List (Event FifoNote)) (p : Puts s xs a) (q : Puts a ys t) (w : Puts s zs t) where
   pub room_join : (FindsFull n s.agent s.seen p.part → ⊥) → (FindsFull n a.agent a.seen q.part → ⊥) → FindsFull n s.agent s.seen w.part → ⊥
   room_join first second f =
       let later : FindsFull n s.agent (s.seen ++ p.part) q.part → ⊥ =
       subst (λ z. FindsFull n s.agent z q.part → ⊥) p.is (subst (λ (x : ℕ). FindsFull n x a.seen q.part → ⊥) p.agent second) in
-      room_both n s.agent s.seen p.part q.part first later (subst (λ z. FindsFull n s.agent s.seen z) (new_is s a t xs ys zs w p q) f)
+      room_both n s.agent s.seen p.part q.part first later (subst (λ z. FindsFull n s.agent s.seen z) (new_is s a t xs ys zs p q w) f)
 
   pub full_join_left : FindsFull n s.agent s.seen p.part → FindsFull n s.agent s.seen w.part
-  full_join_left f = subst (λ z. FindsFull n s.agent s.seen z) (sym (new_is s a t xs ys zs w p q)) (full_left n s.agent s.seen p.part q.part f)
+  full_join_left f = subst (λ z. FindsFull n s.agent s.seen z) (sym (new_is s a t xs ys zs p q w)) (full_left n s.agent s.seen p.part q.part f)
 
   pub full_join_right : FindsFull n a.agent a.seen q.part → FindsFull n s.agent s.seen w.part
   full_join_right f =
       let later : FindsFull n s.agent (s.seen ++ p.part) q.part = subst (λ z. FindsFull n s.agent z q.part) p.is (subst (λ (x : ℕ). FindsFull n x a.seen q.part) p.agent f) in
-      subst (λ z. FindsFull n s.agent s.seen z) (sym (new_is s a t xs ys zs w p q)) (full_right n s.agent s.seen p.part q.part later)
+      subst (λ z. FindsFull n s.agent s.seen z) (sym (new_is s a t xs ys zs p q w)) (full_right n s.agent s.seen p.part q.part later)

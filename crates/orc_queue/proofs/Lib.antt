@@ -6,7 +6,6 @@ pub mod Filled
 pub mod Joins
 pub mod Linking
 pub mod Looking
-pub mod Moments
 pub mod Openings
 pub mod Pieces
 pub mod PutTurns

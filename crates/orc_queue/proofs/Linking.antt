@@ -5,14 +5,14 @@ use Rattle.std.proofs.lemmas.List.{length-append}
 use Rattle.std.specs.List.{list_any, slice_get}
 use Rattle.orc_heap.proofs.ByAnswer.{unless_same}
 use Rattle.orc_heap.proofs.Fresh.{touched_by}
-use Rattle.orc_heap.proofs.Calls.{Puts-trans}
-use Rattle.orc_heap.specs.Allowed.{AllAllowed, AllowedLater, IsLinkedNode}
+use Rattle.orc_heap.proofs.Calls.{Puts-trans, Puts-stood}
+use Rattle.orc_heap.specs.Allowed.{AllAllowed, AllowedLater, IsLinkedNode, HasLink}
 use Rattle.orc_heap.specs.Calls.{Misses, ReadsValue, event_of, given_node, unless_node}
-use Rattle.orc_heap.specs.Heap.{HeapNumbers, Node, null}
+use Rattle.orc_heap.specs.Heap.{HeapNumbers, Node, null, link_to}
 use Rattle.orc_heap.specs.Journals.{run_heap}
 use Rattle.orc_heap.specs.OwnEvents.{Only, Puts}
 use Rattle.orc_heap.specs.Moves.{gives_in}
-use Rattle.orc_heap.specs.Seats.{Seat}
+use Rattle.orc_heap.specs.Seats.{Seat, heap_of}
 use Rattle.orc_heap.specs.Slots.{Hold, id_in}
 use Rattle.orc_heap.specs.declared.events.Act.TheVariants.{Fill, Miss, Move}
 use Rattle.orc_heap.specs.declared.events.Event.{Event}
@@ -22,32 +22,33 @@ use Rattle.orc_fifo_rule.proofs.Coming.{put_allowed}
 use Rattle.orc_fifo_rule.proofs.Later.{link_later, linked_later}
 use Rattle.orc_fifo_rule.specs.declared.fifo.FifoNote.{FifoNote}
 use Rattle.orc_fifo_rule.specs.declared.fifo.FifoNote.TheVariants.{Entry}
-use Rattle.orc_fifo_rule.specs.QueueDiscipline.{FifoMay, HasLink, entries_of, link_to, position_of}
+use Rattle.orc_fifo_rule.specs.QueueDiscipline.{FifoMay, entries_of, position_of, entries_in}
 use Rattle.orc_fifo_rule.specs.Watches.{WasNamed, node_to_put}
-use Rattle.orc_fifo_rule.specs.Kept.Events.{entries_of-append}
 use Rattle.orc_fifo_rule.specs.Kept.Nodes.{link_next}
-use Rattle.orc_fifo_rule.specs.Kept.Paths.{has_link}
 use Rattle.orc_queue.specs.declared.put.PutTurn.{PutTurn}
 use Rattle.orc_queue.specs.declared.put.PutTurn.TheVariants.{Full, Over as PutOver, Put as PutDone}
-use Rattle.orc_queue.specs.Turns.{Helps, HoldsNode, KeepsTail, LinkMissed, LinksBehind, LinksJob, SwingsLast, SwingsTail, heap_of}
+use Rattle.orc_queue.specs.Turns.{Helps, HoldsNode, KeepsTail, LinkMissed, LinksBehind, LinksJob, SwingsLast, SwingsTail}
 use Rattle.orc_queue.proofs.Filled.{Known}
 use Rattle.orc_queue.proofs.Joins.{join, room_join}
 use Rattle.orc_queue.proofs.Looking.{position_read}
-use Rattle.orc_queue.proofs.Moments.{miss_moved, moment, seen_is}
-use Rattle.orc_queue.proofs.Pieces.{gives_in-append, link_puts, linked_puts, named_puts, node_puts, node_touched, position_puts}
+use Rattle.orc_queue.proofs.Pieces.{link_puts, linked_puts, named_puts, node_puts, node_touched, position_puts}
 use Rattle.orc_queue.proofs.Room.{looks_at_end, room_unseen}
+use Rattle.orc_heap.proofs.OwnEntries.{noted-append}
+use Rattle.orc_heap.proofs.SingleActs.{has_link}
+use Rattle.orc_heap.proofs.Moments.{miss_moved, seen_is}
+use Rattle.orc_heap.proofs.Moved.{gives_in-append}
 
 -- the Move that links a new node behind this one: its link leads there from then on
 pub put_links : (n : HeapNumbers) (s t : Seat FifoNote) (id to : ℕ) (noted : Option FifoNote) → Puts s (event_of s (Move (Next id) null (link_to to)) noted ∷ []) t → AllAllowed (FifoMay n) [] t.seen
     → IsLinkedNode (heap_of n s) id → HasLink (heap_of n t) id (link_to to)
 put_links n s t id to noted p all l =
     let e : Event FifoNote = event_of s (Move (Next id) null (link_to to)) noted in
-    let m = moment n s t [] e [] p all in
+    let m = Puts-stood (FifoMay n) s t [] e [] p all in
     let es = s.seen ++ m.before in
     let has = has_link (run_heap n es) id null (linked_later n s.seen m.before id l m.first) m.here.fits.0 in
     let next : HasLink (run_heap n (es ++ e ∷ [])) id (link_to to) =
     subst (λ (b : Bool). HasLink (run_heap n (es ++ e ∷ [])) id (cond b (link_to to) null)) (eq-eqb id id refl) (link_next n es e id null m.here has) in
-    subst (λ z. HasLink (run_heap n z) id (link_to to)) (sym (p.is ∙ seen_is n s [] e [] p.part m ∙ sym (append_assoc es (e ∷ []) m.later)))
+    subst (λ z. HasLink (run_heap n z) id (link_to to)) (sym (p.is ∙ seen_is m ∙ sym (append_assoc es (e ∷ []) m.later)))
     (link_later n (es ++ e ∷ []) m.later id to next m.last)
 
 module _ (n : HeapNumbers) (job at tail : ℕ) (h : Hold) (s a b : Seat FifoNote) (k : Known n s.seen) (node : HoldsNode n job h s) (named : WasNamed (heap_of n s) 1 tail)
@@ -95,7 +96,7 @@ module _ (n : HeapNumbers) (job at tail : ℕ) (h : Hold) (s a b : Seat FifoNote
           stops = record {
             piece = record { own = e ∷ f ∷ []; slots = same_slots; puts = p; entries_are = refl; no_give = refl; few = omega arith };
             fresh = same_fresh;
-            moved = miss_moved n s t (Next tail) null miss.found (e ∷ []) f [] p refl all named.linked miss.other;
+            moved = miss_moved n (FifoMay n) (λ es x k. k.fits) s t (Next tail) null miss.found (e ∷ []) f [] p refl all named.linked miss.other;
             own_moves = inl refl;
           };
           room = room_unseen n s t (e ∷ f ∷ []) p refl;
@@ -149,7 +150,7 @@ link_helped n job tail next at h s c t all l helped =
     done e q none no_give unseen swings =
         let p = l.puts.piece in
         let j = join 3 s c t p.own (e ∷ []) (Put s.agent job at ∷ []) p.puts q (helped.slots ∙ p.slots)
-        (entries_of-append p.own (e ∷ []) ∙ (ap (λ z. entries_of p.own ++ z) none ∙ (append-nil (entries_of p.own) ∙ p.entries_are))) (omega (arith, gives_in-append p.own (e ∷ []), p.no_give, no_give))
+        (noted-append entries_in p.own (e ∷ []) ∙ (ap (λ z. entries_of p.own ++ z) none ∙ (append-nil (entries_of p.own) ∙ p.entries_are))) (omega (arith, gives_in-append p.own (e ∷ []), p.no_give, no_give))
         (omega (arith, length-append p.own (e ∷ []), p.few)) in
         record {
           puts = record {

@@ -5,14 +5,14 @@ use Rattle.std.specs.Prelude.{unwrap_or}
 use Rattle.std.proofs.lemmas.List.{length-replicate}
 use Rattle.orc_heap.proofs.ByAnswer.{LookedHeld, LookedNull}
 use Rattle.orc_heap.proofs.Changes.{length-change}
-use Rattle.orc_heap.specs.Allowed.{AllAllowed, IsLinkedNode}
+use Rattle.orc_heap.specs.Allowed.{AllAllowed, IsLinkedNode, HasLink}
 use Rattle.orc_heap.specs.Calls.{ReadsValue, RefusesSwing, event_of}
-use Rattle.orc_heap.specs.Heap.{Heap, HeapNumbers, Node, new_heap, null}
+use Rattle.orc_heap.specs.Heap.{Heap, HeapNumbers, Node, new_heap, null, link_to}
 use Rattle.orc_heap.specs.Acts.{as_linked, as_named, change_target, heap_after}
 use Rattle.orc_heap.specs.Journals.{run_from, run_heap}
 use Rattle.orc_heap.specs.declared.events.Act.{Act}
 use Rattle.orc_heap.specs.OwnEvents.{Puts}
-use Rattle.orc_heap.specs.Seats.{Seat}
+use Rattle.orc_heap.specs.Seats.{Seat, heap_of}
 use Rattle.orc_heap.specs.Slots.{Hold, Slots, id_in}
 use Rattle.orc_heap.specs.declared.events.Act.TheVariants.{Aim, Fill, Give, Look, Miss, Move}
 use Rattle.orc_heap.specs.declared.events.Event.{Event}
@@ -25,16 +25,15 @@ use Rattle.orc_fifo_rule.proofs.Counting.{at_most_three}
 use Rattle.orc_fifo_rule.proofs.Later.{holds_later, link_later, linked_later, named_later}
 use Rattle.orc_fifo_rule.proofs.Reading.{link_leads, look_names, root_names}
 use Rattle.orc_fifo_rule.specs.declared.fifo.FifoNote.{FifoNote}
-use Rattle.orc_fifo_rule.specs.QueueDiscipline.{FifoMay, HasJob, HasLink, link_to, position_of}
+use Rattle.orc_fifo_rule.specs.QueueDiscipline.{FifoMay, HasJob, position_of}
 use Rattle.orc_fifo_rule.specs.Watches.{WasNamed}
 use Rattle.orc_fifo_rule.specs.Kept.Events.{begun_more}
-use Rattle.orc_fifo_rule.specs.Kept.Kinds.{some_same}
 use Rattle.orc_fifo_rule.specs.Kept.Nodes.{position_at}
-use Rattle.orc_fifo_rule.specs.Kept.Paths.{has_link}
-use Rattle.orc_queue.specs.Turns.{heap_of}
 use Rattle.orc_queue.proofs.Filled.{Known, some_value}
-use Rattle.orc_queue.proofs.Moments.{moment, seen_is, since}
-use Rattle.orc_queue.proofs.Pieces.{InSlot}
+use Rattle.orc_heap.proofs.SingleActs.{has_link, some_same}
+use Rattle.orc_heap.proofs.Calls.{Puts-stood}
+use Rattle.orc_heap.proofs.Moments.{seen_is, since}
+use Rattle.orc_heap.proofs.Pieces.{InSlot}
 
 -- three links at most are made to a node, so no swing is refused
 pub never_spent : (n : HeapNumbers) (slots : Slots) (from to : Want) (why : Spent) (seen : List (Event FifoNote)) → AllAllowed (FifoMay n) [] seen → RefusesSwing slots from to why seen → ⊥
@@ -51,14 +50,14 @@ pub root_found : (n : HeapNumbers) (s t : Seat FifoNote) (root : ℕ) (link : Li
     → Puts s (own ++ event_of s (Look (Root root) link) None ∷ rest) t → AllAllowed (FifoMay n) [] t.seen → FindsNode n root link t
 root_found n s t root link own rest low k p all =
     let e : Event FifoNote = event_of s (Look (Root root) link) None in
-    let m = moment n s t own e rest p all in
+    let m = Puts-stood (FifoMay n) s t own e rest p all in
     let holds = holds_later n s.seen m.before k.holds m.first in
     let (id, is, named) = look_names n (s.seen ++ m.before) root link holds (begun_more s.seen m.before k.dummy.begun) low m.here.fits in
     record {
       id = id;
       is = is;
-      named = subst (λ es. WasNamed (run_heap n es) root id) (sym (p.is ∙ seen_is n s own e rest p.part m))
-          (named_later n (s.seen ++ m.before) (e ∷ m.later) root id named (since n s own e rest p.part m));
+      named = subst (λ es. WasNamed (run_heap n es) root id) (sym (p.is ∙ seen_is m))
+          (named_later n (s.seen ++ m.before) (e ∷ m.later) root id named (since m));
     }
 
 -- a look at the link of a once linked node found null, or a link to a node, where it still leads
@@ -69,7 +68,7 @@ pub next_found : (n : HeapNumbers) (s t : Seat FifoNote) (id : ℕ) (link : Link
     → Puts s (own ++ event_of s (Look (Next id) link) None ∷ rest) t → AllAllowed (FifoMay n) [] t.seen → FindsNext n id link t
 next_found n s t id link own rest k l p all =
     let e : Event FifoNote = event_of s (Look (Next id) link) None in
-    let m = moment n s t own e rest p all in
+    let m = Puts-stood (FifoMay n) s t own e rest p all in
     let holds = holds_later n s.seen m.before k.holds m.first in
     let has = has_link (run_heap n (s.seen ++ m.before)) id link (linked_later n s.seen m.before id l m.first) m.here.fits in
     record {
@@ -81,8 +80,8 @@ next_found n s t id link own rest k l p all =
             inr (
               next,
               is,
-              subst (λ es. HasLink (run_heap n es) id (link_to next)) (sym (p.is ∙ seen_is n s own e rest p.part m))
-                  (link_later n (s.seen ++ m.before) (e ∷ m.later) id next there (since n s own e rest p.part m)),
+              subst (λ es. HasLink (run_heap n es) id (link_to next)) (sym (p.is ∙ seen_is m))
+                  (link_later n (s.seen ++ m.before) (e ∷ m.later) id next there (since m)),
             )
       ];
     }

@@ -6,11 +6,11 @@ use Rattle.orc_heap.proofs.Runs.{run_from-append}
 use Rattle.orc_heap.proofs.Stays.{allowed-left, allowed-right}
 use Rattle.orc_heap.specs.Allowed.{AllAllowed}
 use Rattle.orc_heap.specs.Calls.{event_of}
-use Rattle.orc_heap.specs.Heap.{Heap, HeapNumbers, new_heap, null, shown}
+use Rattle.orc_heap.specs.Heap.{Heap, HeapNumbers, new_heap, null, shown, link_to}
 use Rattle.orc_heap.specs.Journals.{run_heap}
 use Rattle.orc_heap.specs.Moves.{AllOwn, from_own, moves_in}
 use Rattle.orc_heap.specs.OwnEvents.{Puts}
-use Rattle.orc_heap.specs.Seats.{Seat}
+use Rattle.orc_heap.specs.Seats.{Seat, heap_of}
 use Rattle.orc_heap.specs.Slots.{Hold, Holds, id_in}
 use Rattle.orc_heap.specs.declared.events.Act.TheVariants.{Look, Move}
 use Rattle.orc_heap.specs.declared.events.Event.{Event}
@@ -20,18 +20,21 @@ use Rattle.orc_history.specs.declared.queue.QueueEntry.TheVariants.{Put}
 use Rattle.orc_fifo_rule.proofs.Later.{holds_later}
 use Rattle.orc_fifo_rule.specs.declared.fifo.FifoNote.{FifoNote}
 use Rattle.orc_fifo_rule.specs.declared.fifo.FifoNote.TheVariants.{Swing}
-use Rattle.orc_fifo_rule.specs.QueueDiscipline.{FifoHolds, FifoMay, entries_of, has_begun, link_to}
-use Rattle.orc_fifo_rule.specs.Kept.Events.{begun_more, entries_of-append}
-use Rattle.orc_fifo_rule.specs.Kept.Kinds.{link_same, null_to, some_same}
+use Rattle.orc_fifo_rule.specs.QueueDiscipline.{FifoHolds, FifoMay, entries_of, has_begun, entries_in}
+use Rattle.orc_fifo_rule.specs.Kept.Events.{begun_more}
 use Rattle.orc_queue.specs.declared.put.PutTurn.{PutTurn}
 use Rattle.orc_queue.specs.declared.put.PutTurn.TheVariants.{Full, Over as PutOver, Put as PutDone}
-use Rattle.orc_queue.specs.Turns.{AreOver, EndsHelping, FindsFull, HoldsNode, IsOver, Piece, PutMissed, PutTires, PutsBehind, PutsTurn, PutsTurns, TailIsLast, heap_of}
+use Rattle.orc_queue.specs.Turns.{AreOver, EndsHelping, FindsFull, HoldsNode, IsOver, Piece, PutMissed, PutTires, PutsBehind, PutsTurn, PutsTurns, TailIsLast}
 use Rattle.orc_queue.proofs.Alone.{over_helped, over_missed, over_quiet, swing_settles}
 use Rattle.orc_queue.proofs.Filled.{Known}
-use Rattle.orc_queue.proofs.Joins.{full_join_left, full_join_right, join, moves_left, one_part, puts_released, room_join}
-use Rattle.orc_queue.proofs.Moments.{looks_differ}
-use Rattle.orc_queue.proofs.Pieces.{gives_in-append, node_held, node_puts}
+use Rattle.orc_queue.proofs.Joins.{full_join_left, full_join_right, join, room_join}
+use Rattle.orc_queue.proofs.Pieces.{node_held, node_puts}
 use Rattle.orc_queue.proofs.Room.{room_unseen}
+use Rattle.orc_heap.proofs.OwnEntries.{noted-append}
+use Rattle.orc_heap.proofs.SingleActs.{link_same, null_to, some_same}
+use Rattle.orc_heap.proofs.Pieces.{moves_left, one_part, puts_released}
+use Rattle.orc_heap.proofs.Moments.{looks_differ}
+use Rattle.orc_heap.proofs.Moved.{gives_in-append}
 
 -- two looks at the tail, two at its link, and the Swing
 module _ (n : HeapNumbers) (s : Seat FifoNote) (one : Link) (tail next : ℕ) where
@@ -129,7 +132,7 @@ pub turn_moved : (n : HeapNumbers) (job : ℕ) (h : Hold) (s t : Seat FifoNote) 
     → Puts s (event_of s (Look (Root 1) one) None ∷ event_of s (Look (Root 1) two) None ∷ []) t → PutMissed n job h s t
 turn_moved n job h s t one two k all node other slots fresh p =
     let piece : Piece 6 s [] t = record { own = _; slots = slots; puts = p; entries_are = refl; no_give = refl; few = omega arith } in
-    let over = over_quiet n TailIsLast s t piece fresh refl (looks_differ n s t (Root 1) one two p all tt other) in
+    let over = over_quiet n TailIsLast s t piece fresh refl (looks_differ n (FifoMay n) (λ es x k. k.fits) s t (Root 1) one two p all tt other) in
     record {
       over = over;
       room = λ f. room_unseen n s t _ p refl (subst (λ z. FindsFull n s.agent s.seen z) (one_part s t _ _ over.piece.puts p) f);
@@ -141,7 +144,7 @@ pub over_next : (n : HeapNumbers) (IsSettled : Heap → Type 0) (turns : ℕ) (s
 over_next n IsSettled turns s t u all one =
     let p = all.piece.puts in
     let q = one.piece.puts in
-    let j = join (6 * (turns + 1)) s t u all.piece.own one.piece.own [] p q (one.piece.slots ∙ all.piece.slots) (entries_of-append all.piece.own one.piece.own ∙ (ap (λ z. z ++ entries_of one.piece.own) all.piece.entries_are ∙ one.piece.entries_are))
+    let j = join (6 * (turns + 1)) s t u all.piece.own one.piece.own [] p q (one.piece.slots ∙ all.piece.slots) (noted-append entries_in all.piece.own one.piece.own ∙ (ap (λ z. z ++ entries_of one.piece.own) all.piece.entries_are ∙ one.piece.entries_are))
     (omega (arith, gives_in-append all.piece.own one.piece.own, all.piece.no_give, one.piece.no_give)) (omega (arith, length-append all.piece.own one.piece.own, all.piece.few, one.piece.few)) in
     let moved : 1 ≤ moves_in (from_own s.agent q.part) = subst (λ (x : ℕ). 1 ≤ moves_in (from_own x q.part)) p.agent one.moved in
     let settles = subst (λ (x : ℕ). AllOwn x (from_own x q.part) → IsSettled (heap_of n u)) p.agent one.settles in
@@ -187,12 +190,12 @@ turns_done n job turns more h s t u PutOver ne low all one = absurd (ne refl)
 turns_done n job turns more h s t u (PutDone at) ne low all one =
     let q = all.over.piece in
     let r = one.piece in
-    let entries : entries_of (q.own ++ r.own) ≡ Put s.agent job at ∷ [] = entries_of-append q.own r.own ∙ (ap (λ z. z ++ entries_of r.own) q.entries_are ∙ (r.entries_are ∙ ap (λ (x : ℕ). Put x job at ∷ []) q.puts.agent)) in
+    let entries : entries_of (q.own ++ r.own) ≡ Put s.agent job at ∷ [] = noted-append entries_in q.own r.own ∙ (ap (λ z. z ++ entries_of r.own) q.entries_are ∙ (r.entries_are ∙ ap (λ (x : ℕ). Put x job at ∷ []) q.puts.agent)) in
     let j = join (6 * more) s t u q.own r.own (Put s.agent job at ∷ []) q.puts r.puts (r.slots ∙ q.slots) entries (omega (arith, gives_in-append q.own r.own, q.no_give, r.no_give)) (omega (arith, length-append q.own r.own, q.few, r.few, low)) in
     record { piece = j.piece; helps = subst EndsHelping (sym j.own_is) (ends_helping q.own r.own one.helps); fresh = one.fresh; low = one.low; room = room_join n s t u _ _ _ q.puts r.puts j.piece.puts all.room one.room }
 turns_done n job turns more h s t u Full ne low all one =
     let q = all.over.piece in
     let r = one.piece in
-    let entries : entries_of (q.own ++ r.own) ≡ [] = entries_of-append q.own r.own ∙ (ap (λ z. z ++ entries_of r.own) q.entries_are ∙ r.entries_are) in
+    let entries : entries_of (q.own ++ r.own) ≡ [] = noted-append entries_in q.own r.own ∙ (ap (λ z. z ++ entries_of r.own) q.entries_are ∙ r.entries_are) in
     let j = join (6 * more) s t u q.own r.own [] q.puts r.puts (r.slots ∙ q.slots) entries (omega (arith, gives_in-append q.own r.own, q.no_give, r.no_give)) (omega (arith, length-append q.own r.own, q.few, r.few, low)) in
     record { piece = j.piece; fresh = one.fresh ∙ all.over.fresh; full = full_join_right n s t u _ _ _ q.puts r.puts j.piece.puts one.full }

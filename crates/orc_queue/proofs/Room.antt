@@ -9,7 +9,7 @@ use Rattle.orc_heap.specs.Calls.{event_of}
 use Rattle.orc_heap.specs.Heap.{HeapNumbers, null, shown}
 use Rattle.orc_heap.specs.Journals.{run_heap}
 use Rattle.orc_heap.specs.OwnEvents.{Puts}
-use Rattle.orc_heap.specs.Seats.{Seat}
+use Rattle.orc_heap.specs.Seats.{Seat, heap_of}
 use Rattle.orc_heap.specs.declared.events.Act.{Act}
 use Rattle.orc_heap.specs.declared.events.Act.TheVariants.{Look}
 use Rattle.orc_heap.specs.declared.events.Event.{Event}
@@ -20,15 +20,16 @@ use Rattle.orc_history.specs.QueueHistory.{puts_in}
 use Rattle.orc_fifo_rule.proofs.Later.{first_later, holds_later, named_later, named_next, next_position as position_is_next, position_later}
 use Rattle.orc_fifo_rule.proofs.Reading.{link_leads}
 use Rattle.orc_fifo_rule.specs.declared.fifo.FifoNote.{FifoNote}
-use Rattle.orc_fifo_rule.specs.QueueDiscipline.{FifoHolds, FifoMay, entries_of, has_begun, position_of}
+use Rattle.orc_fifo_rule.specs.QueueDiscipline.{FifoHolds, FifoMay, entries_of, has_begun, position_of, entries_in}
 use Rattle.orc_fifo_rule.specs.Watches.{WasNamed}
-use Rattle.orc_fifo_rule.specs.Kept.Events.{begun_more, entries_of-append}
+use Rattle.orc_fifo_rule.specs.Kept.Events.{begun_more}
 use Rattle.orc_fifo_rule.specs.Kept.Laws.{fifo_keeps}
 use Rattle.orc_fifo_rule.specs.Kept.Nodes.{position_next}
-use Rattle.orc_fifo_rule.specs.Kept.Paths.{has_link}
-use Rattle.orc_queue.specs.Turns.{FindsFull, heap_of, next_position}
+use Rattle.orc_queue.specs.Turns.{FindsFull, next_position}
 use Rattle.orc_queue.proofs.Filled.{Known}
-use Rattle.orc_queue.proofs.Moments.{moment}
+use Rattle.orc_heap.proofs.OwnEntries.{noted-append}
+use Rattle.orc_heap.proofs.SingleActs.{has_link}
+use Rattle.orc_heap.proofs.Calls.{Puts-stood}
 
 -- the act is a Look that finds the null link of a node
 abbrev pub looks_at_end : Act → Bool
@@ -117,7 +118,7 @@ pub full_at : (n : HeapNumbers) (s t : Seat FifoNote) (id : ℕ) (rest : List (E
     → WasNamed (heap_of n s) 1 id → 2 ^ 62 ≤ position_of (heap_of n s) id → FindsFull n s.agent s.seen p.part
 full_at n s t id rest p k all named high =
     let e : Event FifoNote = event_of s (Look (Next id) null) None in
-    let m = moment n s t [] e rest p all in
+    let m = Puts-stood (FifoMay n) s t [] e rest p all in
     let es = s.seen ++ m.before in
     let holds = holds_later n s.seen m.before k.holds m.first in
     let named_then = named_later n s.seen m.before 1 id named m.first in
@@ -129,7 +130,7 @@ full_at n s t id rest p k all named high =
 pub full_puts : (n : HeapNumbers) (agent : ℕ) (seen es : List (Event FifoNote)) → FifoHolds n seen → has_begun seen ≡ true → AllAllowed (FifoMay n) seen es → FindsFull n agent seen es → 2 ^ 62 ≤ next_position n (seen ++ es)
 full_puts n agent seen [] holds begun all f = absurd f
 full_puts n agent seen (e ∷ es) holds begun all (inl here) =
-    omega (arith, here.full, first_later n seen (e ∷ es) holds begun all, ap puts_in (entries_of-append seen (e ∷ es)), puts_in-append (entries_of seen) (entries_of (e ∷ es)))
+    omega (arith, here.full, first_later n seen (e ∷ es) holds begun all, ap puts_in (noted-append entries_in seen (e ∷ es)), puts_in-append (entries_of seen) (entries_of (e ∷ es)))
 full_puts n agent seen (e ∷ es) holds begun all (inr later) =
     subst (λ z. 2 ^ 62 ≤ next_position n z) (append_assoc seen (e ∷ []) es)
     (full_puts n agent (seen ++ e ∷ []) es (fifo_keeps n seen e holds all.0) (begun_more seen (e ∷ []) begun) all.1 later)

@@ -6,11 +6,11 @@ use Rattle.orc_heap.proofs.Runs.{run_from-append}
 use Rattle.orc_heap.proofs.Stays.{allowed-left, allowed-right}
 use Rattle.orc_heap.specs.Allowed.{AllAllowed, IsLinkedNode}
 use Rattle.orc_heap.specs.Calls.{event_of}
-use Rattle.orc_heap.specs.Heap.{Heap, HeapNumbers, new_heap, null, shown}
+use Rattle.orc_heap.specs.Heap.{Heap, HeapNumbers, new_heap, null, shown, link_to}
 use Rattle.orc_heap.specs.Journals.{run_heap}
 use Rattle.orc_heap.specs.Moves.{moves_in}
 use Rattle.orc_heap.specs.OwnEvents.{Puts}
-use Rattle.orc_heap.specs.Seats.{Seat}
+use Rattle.orc_heap.specs.Seats.{Seat, heap_of}
 use Rattle.orc_heap.specs.declared.events.Act.TheVariants.{Look, Move}
 use Rattle.orc_heap.specs.declared.events.Event.{Event}
 use Rattle.orc_heap.specs.declared.events.Link.{Link}
@@ -19,18 +19,20 @@ use Rattle.orc_history.specs.declared.queue.QueueEntry.TheVariants.{Empty, Took}
 use Rattle.orc_fifo_rule.proofs.Later.{holds_later}
 use Rattle.orc_fifo_rule.specs.declared.fifo.FifoNote.{FifoNote}
 use Rattle.orc_fifo_rule.specs.declared.fifo.FifoNote.TheVariants.{Swing}
-use Rattle.orc_fifo_rule.specs.QueueDiscipline.{FifoHolds, FifoMay, entries_of, has_begun, link_to}
-use Rattle.orc_fifo_rule.specs.Kept.Events.{begun_more, entries_of-append}
-use Rattle.orc_fifo_rule.specs.Kept.Kinds.{link_same, some_same}
+use Rattle.orc_fifo_rule.specs.QueueDiscipline.{FifoHolds, FifoMay, entries_of, has_begun, entries_in}
+use Rattle.orc_fifo_rule.specs.Kept.Events.{begun_more}
 use Rattle.orc_queue.specs.declared.take.TakeTurn.{TakeTurn}
 use Rattle.orc_queue.specs.declared.take.TakeTurn.TheVariants.{Empty as TakeEmpty, Over as TakeOver, Took as TakeDone}
-use Rattle.orc_queue.specs.Turns.{AreOver, HelpsHead, IsOver, Stops, TailIsPast, TakesBehind, TakesJob, TakesNext, TakesNone, TakesTurn, TakesTurns, heap_of}
+use Rattle.orc_queue.specs.Turns.{AreOver, HelpsHead, IsOver, Stops, TailIsPast, TakesBehind, TakesJob, TakesNext, TakesNone, TakesTurn, TakesTurns}
 use Rattle.orc_queue.proofs.Alone.{over_helped, over_missed, over_quiet, swing_past}
 use Rattle.orc_queue.proofs.Filled.{Known}
-use Rattle.orc_queue.proofs.Joins.{join, moves_left, moves_right, puts_released}
-use Rattle.orc_queue.proofs.Moments.{look_found, looks_differ}
-use Rattle.orc_queue.proofs.Pieces.{gives_in-append}
+use Rattle.orc_queue.proofs.Joins.{join}
 use Rattle.orc_queue.proofs.Taking.{still_puts}
+use Rattle.orc_heap.proofs.OwnEntries.{noted-append}
+use Rattle.orc_heap.proofs.SingleActs.{link_same, some_same}
+use Rattle.orc_heap.proofs.Pieces.{moves_left, moves_right, puts_released}
+use Rattle.orc_heap.proofs.Moments.{look_found, looks_differ}
+use Rattle.orc_heap.proofs.Moved.{gives_in-append}
 
 enough : {i j : ℕ} → 1 ≤ i → i ≤ j → 1 ≤ j
 enough p q = omega (arith, p, q)
@@ -49,11 +51,11 @@ module _ (n : HeapNumbers) (head : ℕ) (s a t : Seat FifoNote) (linked : IsLink
     behind_lost l =
         let q = l.piece in
         let j = join 4 s a t (event_of s (Look (Next head) null) None ∷ []) q.own [] p q.puts (q.slots ∙ slots) q.entries_are (omega (arith, q.no_give)) (omega (arith, q.few)) in
-        let found = look_found n s a (Next head) null None [] p all_a linked in
+        let found = look_found n (FifoMay n) (λ es x k. k.fits) s a (Next head) null None [] [] p all_a linked in
         record {
           piece = j.piece;
           fresh = l.fresh ∙ fresh;
-          moved = λ at. elim found.either [
+          moved = λ at. elim found [
             | inl still ↦ omega (arith, l.moved still, moves_right s a t _ _ _ p q.puts j.piece.puts)
             | inr some ↦ omega (arith, some, moves_from_own s.agent p.part, moves_left s a t _ _ _ p q.puts j.piece.puts)
           ];
@@ -100,7 +102,7 @@ pub behind_differs : (n : HeapNumbers) (head : ℕ) (s t : Seat FifoNote) (one t
 behind_differs n head s t one two all linked other slots fresh p = record {
   piece = record { own = _; slots = slots; puts = p; entries_are = refl; no_give = refl; few = omega arith };
   fresh = fresh;
-  moved = λ at. omega (arith, moves_from_own s.agent p.part, looks_differ n s t (Next head) one two p all linked other);
+  moved = λ at. omega (arith, moves_from_own s.agent p.part, looks_differ n (FifoMay n) (λ es x k. k.fits) s t (Next head) one two p all linked other);
   own_moves = inl refl;
 }
 
@@ -200,7 +202,7 @@ module _ (n : HeapNumbers) (one : Link) (head : ℕ) (s a b t : Seat FifoNote) (
 pub turn_differs : (n : HeapNumbers) (s t : Seat FifoNote) (one two : Link) → AllAllowed (FifoMay n) [] t.seen → one ≢ two → t.slots ≡ s.slots → t.fresh ≡ s.fresh
     → Puts s (event_of s (Look (Root 0) one) None ∷ event_of s (Look (Root 0) two) None ∷ []) t → IsOver n TailIsPast s t
 turn_differs n s t one two all other slots fresh p =
-    over_quiet n TailIsPast s t (record { own = _; slots = slots; puts = p; entries_are = refl; no_give = refl; few = omega arith }) fresh refl (looks_differ n s t (Root 0) one two p all tt other)
+    over_quiet n TailIsPast s t (record { own = _; slots = slots; puts = p; entries_are = refl; no_give = refl; few = omega arith }) fresh refl (looks_differ n (FifoMay n) (λ es x k. k.fits) s t (Root 0) one two p all tt other)
 
 -- the turn that answers
 pub turns_taken : (n : HeapNumbers) (turns more : ℕ) (s t u : Seat FifoNote) (turn : TakeTurn) → turn ≢ TakeOver → turns < more → AreOver n TailIsPast turns s t → TakesTurn n t turn u → TakesTurns n more s turn u
@@ -208,12 +210,12 @@ turns_taken n turns more s t u TakeOver ne low all one = absurd (ne refl)
 turns_taken n turns more s t u (TakeDone job at) ne low all one =
     let q = all.piece in
     let r = one.piece in
-    let entries : entries_of (q.own ++ r.own) ≡ Took s.agent job at ∷ [] = entries_of-append q.own r.own ∙ (ap (λ z. z ++ entries_of r.own) q.entries_are ∙ (r.entries_are ∙ ap (λ (x : ℕ). Took x job at ∷ []) q.puts.agent)) in
+    let entries : entries_of (q.own ++ r.own) ≡ Took s.agent job at ∷ [] = noted-append entries_in q.own r.own ∙ (ap (λ z. z ++ entries_of r.own) q.entries_are ∙ (r.entries_are ∙ ap (λ (x : ℕ). Took x job at ∷ []) q.puts.agent)) in
     let j = join (6 * more) s t u q.own r.own (Took s.agent job at ∷ []) q.puts r.puts (r.slots ∙ q.slots) entries (omega (arith, gives_in-append q.own r.own, q.no_give, r.no_give)) (omega (arith, length-append q.own r.own, q.few, r.few, low)) in
     (λ none. omega (arith, none, low), record { piece = j.piece; fresh = one.fresh ∙ all.fresh })
 turns_taken n turns more s t u TakeEmpty ne low all one =
     let q = all.piece in
     let r = one.piece in
-    let entries : entries_of (q.own ++ r.own) ≡ Empty s.agent ∷ [] = entries_of-append q.own r.own ∙ (ap (λ z. z ++ entries_of r.own) q.entries_are ∙ (r.entries_are ∙ ap (λ (x : ℕ). Empty x ∷ []) q.puts.agent)) in
+    let entries : entries_of (q.own ++ r.own) ≡ Empty s.agent ∷ [] = noted-append entries_in q.own r.own ∙ (ap (λ z. z ++ entries_of r.own) q.entries_are ∙ (r.entries_are ∙ ap (λ (x : ℕ). Empty x ∷ []) q.puts.agent)) in
     let j = join (6 * more) s t u q.own r.own (Empty s.agent ∷ []) q.puts r.puts (r.slots ∙ q.slots) entries (omega (arith, gives_in-append q.own r.own, q.no_give, r.no_give)) (omega (arith, length-append q.own r.own, q.few, r.few, low)) in
     (λ none. omega (arith, none, low), record { piece = j.piece; fresh = one.fresh ∙ all.fresh })

@@ -2,16 +2,16 @@
 use Rattle.std.proofs.Common.{Bool, List, Option, Some, None, [], ap, arith, false, inl, inr, length, refl, subst, sym, true, ℕ, ◌++◌, ◌+◌, ◌∙◌, ◌∷◌, ◌≡◌, ◌≢◌, ◌≤◌, ◌⊎◌}
 use Rattle.std.proofs.lemmas.List.{length-append}
 use Rattle.std.specs.Borrow.{Bor}
-use Rattle.orc_heap.proofs.Moved.{moves_in-append, shown_or_moved}
-use Rattle.orc_heap.proofs.OwnParts.{moves_from_own}
-use Rattle.orc_heap.proofs.Calls.{Puts-trans}
-use Rattle.orc_heap.specs.Allowed.{AllAllowed, AllowedLater, IsLinkedNode}
+use Rattle.orc_heap.proofs.Moved.{moves_in-append, shown_or_moved, gives_in-append}
+use Rattle.orc_heap.proofs.OwnParts.{moves_from_own, moves_own}
+use Rattle.orc_heap.proofs.Calls.{Puts-trans, Puts-stood, part_allowed}
+use Rattle.orc_heap.specs.Allowed.{AllAllowed, AllowedLater, IsLinkedNode, HasLink}
 use Rattle.orc_heap.specs.Calls.{Misses, ReadsValue, Swings, Tests, event_of}
-use Rattle.orc_heap.specs.Heap.{HeapNumbers, Node, null, shown}
+use Rattle.orc_heap.specs.Heap.{HeapNumbers, Node, null, shown, link_to}
 use Rattle.orc_heap.specs.Journals.{run_heap}
 use Rattle.orc_heap.specs.Moves.{gives_in, moves_in}
 use Rattle.orc_heap.specs.OwnEvents.{Only, Puts}
-use Rattle.orc_heap.specs.Seats.{Seat}
+use Rattle.orc_heap.specs.Seats.{Seat, heap_of}
 use Rattle.orc_heap.specs.Slots.{Hold, id_in}
 use Rattle.orc_heap.specs.declared.events.Act.TheVariants.{Look, Miss, Move}
 use Rattle.orc_heap.specs.declared.events.Event.{Event}
@@ -27,15 +27,17 @@ use Rattle.orc_fifo_rule.proofs.Later.{holds_later, job_later, named_later}
 use Rattle.orc_fifo_rule.proofs.Leaving.{is_left, left_later}
 use Rattle.orc_fifo_rule.specs.declared.fifo.FifoNote.{FifoNote}
 use Rattle.orc_fifo_rule.specs.declared.fifo.FifoNote.TheVariants.{Entry, Swing}
-use Rattle.orc_fifo_rule.specs.QueueDiscipline.{FifoMay, HasJob, HasLink, entries_of, link_to}
+use Rattle.orc_fifo_rule.specs.QueueDiscipline.{FifoMay, HasJob, entries_of, entries_in}
 use Rattle.orc_fifo_rule.specs.Watches.{IsLeft, WasNamed}
-use Rattle.orc_fifo_rule.specs.Kept.Events.{begun_more, entries_of-append}
-use Rattle.orc_fifo_rule.specs.Kept.Kinds.{some_same}
-use Rattle.orc_queue.specs.Turns.{FindsEnd, Helps, HelpsPast, Stops, TakesFrom, TakesJob, TakesNext, heap_of}
+use Rattle.orc_fifo_rule.specs.Kept.Events.{begun_more}
+use Rattle.orc_queue.specs.Turns.{FindsEnd, Helps, HelpsPast, Stops, TakesFrom, TakesJob, TakesNext}
 use Rattle.orc_queue.proofs.Filled.{Known}
-use Rattle.orc_queue.proofs.Joins.{join, moves_left, moves_right}
-use Rattle.orc_queue.proofs.Moments.{look_found, miss_moved, moment, moves_own, seen_is, since}
-use Rattle.orc_queue.proofs.Pieces.{gives_in-append, left_puts, link_puts, new_allowed, unless_other}
+use Rattle.orc_queue.proofs.Joins.{join}
+use Rattle.orc_queue.proofs.Pieces.{left_puts, link_puts}
+use Rattle.orc_heap.proofs.OwnEntries.{noted-append}
+use Rattle.orc_heap.proofs.SingleActs.{some_same}
+use Rattle.orc_heap.proofs.Pieces.{moves_left, moves_right, unless_other}
+use Rattle.orc_heap.proofs.Moments.{look_found, miss_moved, seen_is, since}
 
 -- the test of the head's link
 pub end_found : (n : HeapNumbers) (s t : Seat FifoNote) (head : Bor Hold) (agent : ℕ) (done : Bool) → agent ≡ s.agent → IsLinkedNode (heap_of n s) (id_in s.slots head.now) → AllAllowed (FifoMay n) [] t.seen
@@ -47,7 +49,7 @@ end_found n s t head agent true agent_is linked all w = record {
 end_found n s t head agent false agent_is linked all w = record {
   piece = record { own = _; slots = w.slots; puts = w.puts.puts; entries_are = refl; no_give = refl; few = omega arith };
   fresh = w.fresh;
-  moved = miss_moved n s t (Next (id_in s.slots head.now)) null w.puts.found [] _ [] w.puts.puts refl all linked w.puts.other;
+  moved = miss_moved n (FifoMay n) (λ es x k. k.fits) s t (Next (id_in s.slots head.now)) null w.puts.found [] _ [] w.puts.puts refl all linked w.puts.other;
   own_moves = inl refl;
 }
 
@@ -59,7 +61,7 @@ second_read n es id job at value j r =
     r.is (at + 1) (ap (λ (x : Node). x.second) same ∙ j.holds.position_is)
 
 pub job_puts : (n : HeapNumbers) (s t : Seat FifoNote) (own : List (Event FifoNote)) (p : Puts s own t) → AllAllowed (FifoMay n) [] t.seen → (id job at : ℕ) → HasJob (heap_of n s) id job at → HasJob (heap_of n t) id job at
-job_puts n s t own p all id job at j = subst (λ es. HasJob (run_heap n es) id job at) (sym p.is) (job_later n s.seen p.part id job at j (new_allowed n s t own p all))
+job_puts n s t own p all id job at j = subst (λ es. HasJob (run_heap n es) id job at) (sym p.is) (job_later n s.seen p.part id job at j (part_allowed (FifoMay n) s t own p all))
 
 -- the swing of the head, after nothing of the pass's own
 pub head_swung : (n : HeapNumbers) (s b t : Seat FifoNote) (head next : Bor Hold) (agent job at : ℕ) (done : Bool) → agent ≡ s.agent → Only [] s b → AllAllowed (FifoMay n) [] t.seen
@@ -82,7 +84,7 @@ head_missed n s b t head next noted false o all w is =
       piece = record { own = _; slots = w.slots ∙ o.slots; puts = p; entries_are = refl; no_give = refl; few = omega arith };
       fresh = w.fresh ∙ o.fresh;
       moved = subst (λ (i : ℕ). shown (heap_of n s) (Root 0) ≡ Some (link_to i) → 1 ≤ moves_in p.part) same
-          (miss_moved n s t (Root 0) (link_to (id_in b.slots head.now)) w.puts.found [] _ [] p refl all tt w.puts.other);
+          (miss_moved n (FifoMay n) (λ es x k. k.fits) s t (Root 0) (link_to (id_in b.slots head.now)) w.puts.found [] _ [] p refl all tt w.puts.other);
       own_moves = inl refl;
     }
 
@@ -90,7 +92,7 @@ head_missed n s b t head next noted false o all w is =
 pub still_puts : (n : HeapNumbers) (s t : Seat FifoNote) (own : List (Event FifoNote)) (p : Puts s own t) → AllAllowed (FifoMay n) [] t.seen → (root : ℕ) (link : Link) → shown (heap_of n s) (Root root) ≡ Some link
     → (shown (heap_of n t) (Root root) ≡ Some link) ⊎ (1 ≤ moves_in p.part)
 still_puts n s t own p all root link at =
-    elim (shown_or_moved n (FifoMay n) (λ es x k. k.fits) (Root root) link s.seen p.part tt (new_allowed n s t own p all) at) [
+    elim (shown_or_moved n (FifoMay n) (λ es x k. k.fits) (Root root) link s.seen p.part tt (part_allowed (FifoMay n) s t own p all) at) [
       | inl still ↦ inl (subst (λ es. shown (run_heap n es) (Root root) ≡ Some link) (sym p.is) still)
       | inr some ↦ inr some
     ]
@@ -111,12 +113,12 @@ past_helped n head next place link s a b p all_a all_b slots fresh helped = elim
       }
   | inr missed ↦
       let j = join 2 s a b (event_of s (Look (Root 1) (link_to head)) None ∷ []) _ [] p missed.puts (helped.slots ∙ slots) refl refl (omega arith) in
-      let found = look_found n s a (Root 1) (link_to head) None [] p all_a tt in
+      let found = look_found n (FifoMay n) (λ es x k. k.fits) s a (Root 1) (link_to head) None [] [] p all_a tt in
       record {
         piece = j.piece;
         fresh = helped.fresh ∙ fresh;
-        moved = λ at. elim found.either [
-          | inl still ↦ omega (arith, miss_moved n a b (Root 1) (link_to head) missed.found [] _ [] missed.puts refl all_b tt missed.other still, moves_right s a b _ _ _ p missed.puts j.piece.puts)
+        moved = λ at. elim found [
+          | inl still ↦ omega (arith, miss_moved n (FifoMay n) (λ es x k. k.fits) a b (Root 1) (link_to head) missed.found [] _ [] missed.puts refl all_b tt missed.other still, moves_right s a b _ _ _ p missed.puts j.piece.puts)
           | inr some ↦ omega (arith, some, moves_from_own s.agent p.part, moves_left s a b _ _ _ p missed.puts j.piece.puts)
         ];
         own_moves = inl (ap (λ (z : List (Event FifoNote)). moves_in z) j.own_is);
@@ -127,19 +129,19 @@ past_helped n head next place link s a b p all_a all_b slots fresh helped = elim
 pub past_left : (n : HeapNumbers) (head : ℕ) (s a : Seat FifoNote) → Known n s.seen → AllAllowed (FifoMay n) [] a.seen → WasNamed (heap_of n s) 0 head → Misses (Root 1) (link_to head) s a → IsLeft (heap_of n a) head
 past_left n head s a k all named miss =
     let e : Event FifoNote = event_of s (Miss (Root 1) (link_to head) miss.found) None in
-    let m = moment n s a [] e [] miss.puts all in
+    let m = Puts-stood (FifoMay n) s a [] e [] miss.puts all in
     let es = s.seen ++ m.before in
     let holds = holds_later n s.seen m.before k.holds m.first in
     let begun = begun_more s.seen m.before k.dummy.begun in
     let left = is_left n es head holds begun (named_later n s.seen m.before 0 head named m.first) (λ x. miss.other (some_same (sym m.here.fits.0 ∙ x))) in
-    subst (λ z. IsLeft (run_heap n z) head) (sym (miss.puts.is ∙ seen_is n s [] e [] miss.puts.part m)) (left_later n es (e ∷ m.later) head holds begun left (since n s [] e [] miss.puts.part m))
+    subst (λ z. IsLeft (run_heap n z) head) (sym (miss.puts.is ∙ seen_is m)) (left_later n es (e ∷ m.later) head holds begun left (since m))
 
 -- and then the job was taken, or not
 pub past_taken : (n : HeapNumbers) (head next : ℕ) (s a t : Seat FifoNote) (own : List (Event FifoNote)) (p : Puts s own a) → AllAllowed (FifoMay n) [] a.seen → a.slots ≡ s.slots → a.fresh ≡ s.fresh
     → entries_of own ≡ [] → gives_in own ≡ 0 → moves_in own ≡ 0 → length own ≤ 1 → (got : Option (ℕ × ℕ)) → TakesFrom n head a got t → TakesNext n head next s got t
 past_taken n head next s a t own p all slots fresh no_entry no_give no_move one None l =
     let q = l.piece in
-    let j = join 2 s a t own q.own [] p q.puts (q.slots ∙ slots) (entries_of-append own q.own ∙ (ap (λ z. z ++ entries_of q.own) no_entry ∙ q.entries_are)) (omega (arith, gives_in-append own q.own, no_give, q.no_give)) (omega (arith, length-append own q.own, one, q.few)) in
+    let j = join 2 s a t own q.own [] p q.puts (q.slots ∙ slots) (noted-append entries_in own q.own ∙ (ap (λ z. z ++ entries_of q.own) no_entry ∙ q.entries_are)) (omega (arith, gives_in-append own q.own, no_give, q.no_give)) (omega (arith, length-append own q.own, one, q.few)) in
     record {
       piece = j.piece;
       fresh = l.fresh ∙ fresh;
@@ -152,7 +154,7 @@ past_taken n head next s a t own p all slots fresh no_entry no_give no_move one 
 past_taken n head next s a t own p all slots fresh no_entry no_give no_move one (Some got) l =
     let q = l.piece in
     let entries : entries_of (own ++ q.own) ≡ Took s.agent got.0 got.1 ∷ [] =
-    entries_of-append own q.own ∙ (ap (λ z. z ++ entries_of q.own) no_entry ∙ (q.entries_are ∙ ap (λ (x : ℕ). Took x got.0 got.1 ∷ []) p.agent)) in
+    noted-append entries_in own q.own ∙ (ap (λ z. z ++ entries_of q.own) no_entry ∙ (q.entries_are ∙ ap (λ (x : ℕ). Took x got.0 got.1 ∷ []) p.agent)) in
     let j = join 2 s a t own q.own (Took s.agent got.0 got.1 ∷ []) p q.puts (q.slots ∙ slots) entries (omega (arith, gives_in-append own q.own, no_give, q.no_give)) (omega (arith, length-append own q.own, one, q.few)) in
     record { piece = j.piece; fresh = l.fresh ∙ fresh }
 

@@ -1,7 +1,7 @@
 -- Proofs of the laws that the queue owes to its traits.
 use Rattle.std.proofs.Common.{List, [], ap, arith, drop, subst, sym, take, ℕ, ◌++◌, ◌+◌, ◌<◌, ◌==◌, ◌^◌, ◌∙◌, ◌∷◌, ◌≡◌, ◌≤◌}
 use Rattle.std.proofs.lemmas.List.{length-append, take-append-drop, take-append-le}
-use Rattle.std.specs.List.{list_all}
+use Rattle.std.specs.List.{list_all, AllByRecursion}
 use Rattle.std.specs.Prelude.{true}
 use mathlib.Core.List.{IsPrefix}
 use Rattle.orc_heap.proofs.Steps.{events_grow}
@@ -12,16 +12,15 @@ use Rattle.orc_heap.specs.Journals.{run_heap}
 use Rattle.orc_heap.specs.OwnEvents.{IsBelow}
 use Rattle.orc_heap.specs.declared.events.Event.{Event}
 use Rattle.orc_history.proofs.Histories.{puts_in-append}
-use Rattle.orc_history.specs.Journals.{Every}
 use Rattle.orc_history.specs.QueueHistory.{IsLegalQueue, agent_of_entry, puts_in}
 use Rattle.orc_history.specs.declared.queue.QueueEntry.{QueueEntry}
 use Rattle.orc_history.specs.declared.queue.QueueRefused.{QueueRefused}
 use Rattle.orc_history.specs.declared.queue.QueueRefused.TheVariants.{Again, NoNode, Positions}
 use Rattle.orc_fifo_rule.proofs.Later.{first_later, holds_later, nothing_yet}
-use Rattle.orc_fifo_rule.proofs.OwnEntries.{entries_agents}
+use Rattle.orc_heap.proofs.OwnEntries.{entries_agents, noted-append}
+use Rattle.orc_fifo_rule.proofs.OwnEntries.{entries_own}
 use Rattle.orc_fifo_rule.specs.declared.fifo.FifoNote.{FifoNote}
-use Rattle.orc_fifo_rule.specs.QueueDiscipline.{FifoHolds, FifoMay, entries_of, position_of}
-use Rattle.orc_fifo_rule.specs.Kept.Events.{entries_of-append}
+use Rattle.orc_fifo_rule.specs.QueueDiscipline.{FifoHolds, FifoMay, entries_of, position_of, entries_in}
 use Rattle.orc_queue.specs.Causes.{Cause, LacksPosition}
 use Rattle.orc_queue.specs.Turns.{HasDummy}
 
@@ -39,7 +38,7 @@ seen_legal n opening seen events made begins all holds is =
     subst (λ z. IsLegalQueue (position_of (run_heap n opening) 0) (entries_of z)) is (subst (λ (f : ℕ). IsLegalQueue f (entries_of seen)) (first_stays n opening seen made begins all) holds.legal)
 
 prefix_entries : (es fs : List (Event FifoNote)) → IsPrefix es fs → IsPrefix (entries_of es) (entries_of fs)
-prefix_entries es fs (more, is) = (entries_of more, sym (entries_of-append es more) ∙ ap entries_of is)
+prefix_entries es fs (more, is) = (entries_of more, sym (noted-append entries_in es more) ∙ ap entries_of is)
 
 -- the history of a longer journal goes on
 pub history_grows : {S : Type 0} (agent_of : S → ℕ) (events : List S → List (Event FifoNote))
@@ -75,11 +74,7 @@ cause_puts agent_of events first turns adds seen to c =
     let all : entries_of (events seen) ≡ entries_of (events (take to seen)) ++ more = ap (λ z. entries_of (events z)) (sym (take-append-drop to seen)) ∙ sym is in
     rw all (omega (arith, c.full, puts_in-append (entries_of (events (take to seen))) more))
 
-below_every : (agents : ℕ) (es : List (Event FifoNote)) → IsBelow agents es → Every (λ (e : Event FifoNote). e.agent < agents) es
-below_every agents [] b = tt
-below_every agents (e ∷ es) b = (b.0, below_every agents es b.1)
-
 -- whose the entries are
-pub entries_below : (n : HeapNumbers) (agents : ℕ) (seen events : List (Event FifoNote)) → AllAllowed (FifoMay n) [] seen → IsBelow agents seen → seen ≡ events → Every (λ (e : QueueEntry). agent_of_entry e < agents) (entries_of events)
+pub entries_below : (n : HeapNumbers) (agents : ℕ) (seen events : List (Event FifoNote)) → AllAllowed (FifoMay n) [] seen → IsBelow agents seen → seen ≡ events → AllByRecursion (λ (e : QueueEntry). agent_of_entry e < agents) (entries_of events)
 entries_below n agents seen events all below is =
-    subst (λ z. Every (λ (e : QueueEntry). agent_of_entry e < agents) (entries_of z)) is (entries_agents n (λ (a : ℕ). a < agents) [] seen all (below_every agents seen below))
+    subst (λ z. AllByRecursion (λ (e : QueueEntry). agent_of_entry e < agents) (entries_of z)) is (entries_agents entries_in agent_of_entry (FifoMay n) (entries_own n) (λ (a : ℕ). a < agents) [] seen all below)

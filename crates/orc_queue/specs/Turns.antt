@@ -1,13 +1,13 @@
 -- What the turns of a call do. After Michael and Scott 1996.
 use Rattle.std.specs.Prelude.{Bool, List, None, Option, Some, [], false, is_some, length, slice_get, true, ℕ, ◌*◌, ◌++◌, ◌+◌, ◌<◌, ◌^◌, ◌∷◌, ◌≡◌, ◌≢◌, ◌≤◌, ◌⊎◌}
 use Rattle.std.specs.List.{list_any}
-use Rattle.orc_heap.specs.Allowed.{IsLinkedNode}
+use Rattle.orc_heap.specs.Allowed.{IsLinkedNode, HasLink}
 use Rattle.orc_heap.specs.Calls.{Misses, event_of, given_node}
-use Rattle.orc_heap.specs.Heap.{Heap, HeapNumbers, Node, null, shown}
+use Rattle.orc_heap.specs.Heap.{Heap, HeapNumbers, Node, null, shown, link_to}
 use Rattle.orc_heap.specs.Journals.{run_heap}
 use Rattle.orc_heap.specs.Moves.{AllOwn, from_own, gives_in, moves_in, moves_place}
 use Rattle.orc_heap.specs.OwnEvents.{Puts}
-use Rattle.orc_heap.specs.Seats.{Seat}
+use Rattle.orc_heap.specs.Seats.{Seat, heap_of}
 use Rattle.orc_heap.specs.Slots.{Hold, Holds, id_in}
 use Rattle.orc_heap.specs.declared.events.Act.TheVariants.{Look, Miss, Move}
 use Rattle.orc_heap.specs.declared.events.Event.{Event}
@@ -19,15 +19,11 @@ use Rattle.orc_history.specs.declared.queue.QueueEntry.{QueueEntry}
 use Rattle.orc_history.specs.declared.queue.QueueEntry.TheVariants.{Empty, Put, Took}
 use Rattle.orc_fifo_rule.specs.declared.fifo.FifoNote.{FifoNote}
 use Rattle.orc_fifo_rule.specs.declared.fifo.FifoNote.TheVariants.{Swing}
-use Rattle.orc_fifo_rule.specs.QueueDiscipline.{HasLink, entries_of, has_begun, link_to, position_of}
+use Rattle.orc_fifo_rule.specs.QueueDiscipline.{entries_of, has_begun, position_of}
 use Rattle.orc_queue.specs.declared.put.PutTurn.{PutTurn}
 use Rattle.orc_queue.specs.declared.put.PutTurn.TheVariants.{Full, Over as PutOver, Put as PutDone}
 use Rattle.orc_queue.specs.declared.take.TakeTurn.{TakeTurn}
 use Rattle.orc_queue.specs.declared.take.TakeTurn.TheVariants.{Empty as TakeEmpty, Over as TakeOver, Took as TakeDone}
-
--- the heap that the pass has seen
-abbrev pub heap_of : HeapNumbers → Seat FifoNote → Heap
-heap_of n s = run_heap n s.seen
 
 -- root 0 and root 1 have begun, and each once linked node has its second value
 pub record HasDummy (n : HeapNumbers) (es : List (Event FifoNote)) : Type 0 where

@@ -195,4 +195,6 @@ impl<L: Links<Rule = Fifo>> LearnQueue for Queue<L> {
       entries_below (L.numbers q.links) (L.agents q.links) (L.seat q.links p).seen
           (L.events q.links (L.journal p)) (L.allowed q.links p h.0) (L.agents_below q.links p h.0).1 (L.seen_is q.links p h.0),
     ) };
+
+    ghost crowd_below = { λ q agent below. below };
 }

@@ -2,13 +2,14 @@
 
 ghost use Rattle.std.specs.Prelude.{◌≡◌, ℕ, Some, true};
 ghost use mathlib.Core.List.{IsPrefix};
-ghost use Rattle.orc_heap.specs.Allowed.{AllowedLater};
+ghost use Rattle.orc_heap.specs.Allowed.{AllowedLater, HasLink};
 ghost use Rattle.orc_heap.specs.Calls.{Swings, move_of};
 ghost use Rattle.orc_heap.specs.Journals.{run_heap};
 ghost use Rattle.orc_heap.specs.Seats.{HoldsPlace, HoldsWant, IsNotFresh, link_in, place_in};
 ghost use Rattle.orc_heap.specs.Slots.{Holds, id_in};
-ghost use Rattle.orc_fifo_rule.specs.QueueDiscipline.{FifoMay, HasLink, link_to};
+ghost use Rattle.orc_fifo_rule.specs.QueueDiscipline.{FifoMay};
 ghost use Rattle.orc_queue.specs.Turns.{HasDummy, Helps};
+ghost use Rattle.orc_heap.specs.Heap.{link_to};
 
 use orc_fifo_rule::{Fifo, FifoNote};
 use orc_heap::{At, Held, Links, Want};

@@ -5,10 +5,11 @@ ghost use mathlib.Core.List.{IsPrefix};
 ghost use Rattle.orc_heap.specs.Journals.{run_heap};
 ghost use Rattle.orc_heap.specs.Seats.{IsIdle};
 ghost use Rattle.orc_heap.specs.Slots.{Holds, IsFree, id_in};
-ghost use Rattle.orc_fifo_rule.specs.QueueDiscipline.{HasLink, link_to};
 ghost use Rattle.orc_fifo_rule.specs.Watches.{IsLeft, WasNamed};
 ghost use Rattle.orc_queue.specs.Answers.{TakeAnswers};
 ghost use Rattle.orc_queue.specs.Turns.{HasDummy, FindsEnd, TakesBehind, TakesFrom, TakesNext, TakesTurn, TakesTurns};
+ghost use Rattle.orc_heap.specs.Allowed.{HasLink};
+ghost use Rattle.orc_heap.specs.Heap.{link_to};
 
 use crate::swings::{HEAD, TAIL, change, help_tail};
 use orc_fault::Again;

@@ -1,17 +1,20 @@
 -- A step that is allowed and licensed keeps the rule.
-use Rattle.std.proofs.Common.{List, Option, Some, [], append-nil, append_assoc, arith, get_or, ap, refl, set, subst, sym, ℕ, ◌++◌, ◌<◌, ◌∙◌, ◌≡◌, ◌≢◌, ◌∷◌, inl}
+use Rattle.std.proofs.Common.{Bool, cond, false, true, ◌==◌, List, Option, Some, [], append-nil, append_assoc, arith, get_or, ap, refl, set, subst, sym, ℕ, ◌++◌, ◌<◌, ◌∙◌, ◌≡◌, ◌≢◌, ◌∷◌, inl}
 use mathlib.Core.Option.{some}
+use prog.Atomic.{either}
 use lib.ListN.{get_elem?}
 use Rattle.atomic_table.specs.Table.{Allows, Me, keeps}
 use Rattle.orc_heap.specs.Allowed.{AllAllowed}
 use Rattle.orc_heap.specs.declared.events.Event.{Event}
 use Rattle.orc_shared_words.specs.declared.journal.View.{View}
-use Rattle.orc_shared_words.specs.declared.operation.Operation.{Operation}
 use Rattle.orc_shared_words.specs.Lists.{Each}
-use Rattle.orc_shared_words.specs.Operations.{place_of, written_by, answer_by}
+use Rattle.orc_shared_words.specs.Operations.{returned_by}
 use Rattle.orc_shared_words.specs.Rule.{Fits, HandsOut, Owns, Shows}
 use Rattle.orc_shared_words.specs.Runs.{Obeys, Rules, found_by}
 use Rattle.orc_history.specs.Journals.{own_of}
+use Rattle.orc_words.specs.Operations.{word_after}
+use Rattle.orc_words.specs.declared.operation.Operation.{Operation}
+use Rattle.orc_words.specs.declared.operation.Operation.TheVariants.{CompareExchange}
 use Rattle.orc_shared_words.specs.Steps.{Did, LaterJournal, Licensed}
 use Rattle.orc_shared_words.proofs.Changes.{AllRetired, AllUnborn, still_one, still_retired, still_unborn}
 use Rattle.orc_shared_words.proofs.Fronts.{begins_itself, begins_more}
@@ -131,17 +134,26 @@ module _ {K S Op Rec N : Type 0} (r : Rules K S Op Rec N) (laws : (k : K) → Ob
         ),
       )
 
--- the same, where the call picks the step, and its operation is known
+-- the same, where the call picks the step, its place and operation are known, and the table writes what the operation does
 pub makes : {K S Op Rec N : Type 0} (r : Rules K S Op Rec N) (laws : (k : K) → Obeys r k) (k : K) (H : K → List (Event N) → Type 0) (Y : K → List (Event N) → Event N → Type 0)
     (law : (past : List (Event N)) (e : Event N) → H k past → Y k past e → H k (past ++ e ∷ [])) (key : K) (slots id : ℕ) (me : Me (Unit {0}) (View S Rec)) (a : ℕ) (own : Rec) (op : Op) (said : Option N)
-    (pick : Option (K × Op × Option N)) (o known : Operation) → key ≡ k → pick ≡ Some (k, op, said)
-    → place_of o ≡ r.place k a op own → written_by o ≡ r.written k a op own → answer_by o ≡ r.answer k a op own → o ≡ known
+    (pick : Option (K × Op × Option N)) (place : ℕ) (o known : Operation) (writes : ℕ → ℕ) → word_after known ≡ writes → key ≡ k → pick ≡ Some (k, op, said)
+    → place ≡ r.place k a op own → word_after o ≡ r.written k a op own → returned_by o ≡ r.answer k a op own → o ≡ known
     → (me.0.agent ≡ Some a) × (me.0.own ≡ own) → r.allowed k a op own → Licensed r k (H k) (Y k) me.0 a op said
-    → Allows (Shows r key (H key) (Y key)) slots id me (place_of known) (written_by known) (λ n. Did r H Y pick me (answer_by known n))
-makes {K} {S} {Op} {Rec} {N} r laws k H Y law key slots id me a own op said pick o known same picked place written answer is named can may_be =
-    let at_own : (place_of o ≡ r.place k a op me.0.own) × (written_by o ≡ r.written k a op me.0.own) × (answer_by o ≡ r.answer k a op me.0.own) =
-    subst (λ z. (place_of o ≡ r.place k a op z) × (written_by o ≡ r.written k a op z) × (answer_by o ≡ r.answer k a op z)) (sym named.1) (place, written, answer) in
+    → Allows (Shows r key (H key) (Y key)) slots id me place writes (λ n. Did r H Y pick me (returned_by known n))
+makes {K} {S} {Op} {Rec} {N} r laws k H Y law key slots id me a own op said pick place o known writes after_is same picked place_is written answer is named can may_be =
+    let at_own : (place ≡ r.place k a op me.0.own) × (word_after o ≡ r.written k a op me.0.own) × (returned_by o ≡ r.answer k a op me.0.own) =
+    subst (λ z. (place ≡ r.place k a op z) × (word_after o ≡ r.written k a op z) × (returned_by o ≡ r.answer k a op z)) (sym named.1) (place_is, written, answer) in
     let first = does r laws k H Y law slots id me a op said named.0 (subst (λ z. r.allowed k a op z) (sym named.1) can) may_be in
-    let second : Allows (Shows r k (H k) (Y k)) slots id me (place_of o) (written_by o) (λ n. Did r H Y (Some (k, op, said)) me (answer_by o n)) =
+    let second : Allows (Shows r k (H k) (Y k)) slots id me place (word_after o) (λ n. Did r H Y (Some (k, op, said)) me (returned_by o n)) =
     subst (λ (z : ℕ × (ℕ → ℕ) × (ℕ → ℕ)). Allows (Shows r k (H k) (Y k)) slots id me z.0 z.1 (λ n. Did r H Y (Some (k, op, said)) me (z.2 n))) (λ i. (sym at_own.0 i, sym at_own.1 i, sym at_own.2 i)) first in
-    subst (λ (z : K × Operation × Option (K × Op × Option N)). Allows (Shows r z.0 (H z.0) (Y z.0)) slots id me (place_of z.1) (written_by z.1) (λ n. Did r H Y z.2 me (answer_by z.1 n))) (λ i. (sym same i, is i, sym picked i)) second
+    subst (λ (z : K × Operation × (ℕ → ℕ) × Option (K × Op × Option N)). Allows (Shows r z.0 (H z.0) (Y z.0)) slots id me place z.2 (λ n. Did r H Y z.3 me (returned_by z.1 n)))
+    (λ i. (sym same i, is i, (ap word_after is ∙ after_is) i, sym picked i)) second
+
+chosen : (b : Bool) (x y : ℕ) → cond b x y ≡ either b x y
+chosen true x y = refl
+chosen false x y = refl
+
+-- a table's compare-and-exchange writes what the operation does
+pub exchanged : (x y : ℕ) → word_after (CompareExchange x y) ≡ (λ n. either (n == x) y n)
+exchanged x y = λ i n. chosen (n == x) y n i

@@ -12,7 +12,7 @@ mod shared_words;
 pub use journal::{JournalStep, View};
 pub use last_words::LastWords;
 pub use machine::Machine;
-pub use operation::Operation;
+pub use operation::PlacedOperation;
 pub use rule::Shown;
 pub use shared_words::{SharedPass, SharedWords};
 

@@ -2,10 +2,11 @@
 
 ghost use Rattle.std.specs.Prelude.{◌≡◌, List, ℕ};
 ghost use Rattle.orc_heap.specs.Heap.{HeapNumbers};
-ghost use Rattle.orc_shared_words.specs.Operations.{place_of, written_by, answer_by};
+ghost use Rattle.orc_words.specs.Operations.{word_after};
+ghost use Rattle.orc_shared_words.specs.Operations.{returned_by};
 ghost use Rattle.orc_shared_words.specs.Runs.{Rules, Obeys, found_by};
 
-use crate::operation::Operation;
+use crate::operation::PlacedOperation;
 
 /// A machine over shared words, for notes of type N.
 pub trait Machine<N> {
@@ -45,11 +46,11 @@ pub trait Machine<N> {
         → has_room k op (rules.own k j a) (found_by rules k j a op) };
 
     /// The step's operation on the words.
-    fn operation(shape: &Self::Shape, agent: u32, op: &Self::Op, own: &Self::Own) -> Operation
+    fn operation(shape: &Self::Shape, agent: u32, op: &Self::Op, own: &Self::Own) -> PlacedOperation
         requires allowed { rules.allowed shape.now agent op.now (shows own.now) }
-        ensures place { place_of result ≡ rules.place shape.now agent op.now (shows own.now) }
-        ensures written { written_by result ≡ rules.written shape.now agent op.now (shows own.now) }
-        ensures answer { answer_by result ≡ rules.answer shape.now agent op.now (shows own.now) };
+        ensures place { result.place ≡ rules.place shape.now agent op.now (shows own.now) }
+        ensures written { word_after result.operation ≡ rules.written shape.now agent op.now (shows own.now) }
+        ensures answer { returned_by result.operation ≡ rules.answer shape.now agent op.now (shows own.now) };
 
     /// Changes the record as a step that answered `n` does.
     fn keep(shape: &Self::Shape, agent: u32, op: &Self::Op, own: &mut Self::Own, n: u64)

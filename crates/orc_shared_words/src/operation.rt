@@ -1,13 +1,10 @@
-//! Operations on one word.
+//! Operations on shared words.
 
-/// One atomic operation on a word: its place and its numbers.
-#[derive(Clone, Copy, Debug, PartialEq, Eq, Drop)]
-pub enum Operation {
-    Load(usize),
-    Store(usize, u64),
-    Swap(usize, u64),
-    Add(usize, u64),
-    Sub(usize, u64),
-    /// The word, if it is the first number, becomes the second.
-    Exchange(usize, u64, u64),
+use orc_words::Operation;
+
+/// An atomic operation, and the place of the word on which it works.
+#[derive(Clone, Copy, Debug, PartialEq, Eq)]
+pub struct PlacedOperation {
+    pub place: usize,
+    pub operation: Operation,
 }

@@ -12,11 +12,12 @@ use crate::journal::View;
 use crate::last_words::LastWords;
 use crate::machine::Machine;
 use crate::moves::{Absorb, Confirm, Does, NextAgent, Note, Picks};
-use crate::operation::Operation;
+use crate::operation::PlacedOperation;
 use crate::rule::Shown;
 use atomic_table::{Seat, Table};
 use orc_fault::NoMemory;
 use orc_heap::Discipline;
+use orc_words::Operation;
 use std::alloc::Global;
 use std::marker::Brand;
 
@@ -169,16 +170,17 @@ impl<M: Machine<D::Note>, D: Discipline> SharedWords<M, D> {
         ensures slots { seat.new.me.1 ≡ seat.old.me.1 }
     {
         let shared = &self.table.shared;
-        match M::operation(&self.shape, agent, op, own) {
-            Operation::Load(place) => shared.load::<Does<M, D, J>>(seat, place),
-            Operation::Store(place, value) => {
+        let PlacedOperation { place, operation } = M::operation(&self.shape, agent, op, own);
+        match operation {
+            Operation::Load => shared.load::<Does<M, D, J>>(seat, place),
+            Operation::Store(value) => {
                 shared.store::<Does<M, D, J>>(seat, place, value);
                 value
             }
-            Operation::Swap(place, value) => shared.swap::<Does<M, D, J>>(seat, place, value),
-            Operation::Add(place, value) => shared.fetch_add::<Does<M, D, J>>(seat, place, value),
-            Operation::Sub(place, value) => shared.fetch_sub::<Does<M, D, J>>(seat, place, value),
-            Operation::Exchange(place, wanted, value) => {
+            Operation::Swap(value) => shared.swap::<Does<M, D, J>>(seat, place, value),
+            Operation::Add(value) => shared.fetch_add::<Does<M, D, J>>(seat, place, value),
+            Operation::Sub(value) => shared.fetch_sub::<Does<M, D, J>>(seat, place, value),
+            Operation::CompareExchange(wanted, value) => {
                 shared.compare_exchange::<Does<M, D, J>>(seat, place, wanted, value)
             }
         }

@@ -6,7 +6,8 @@ use Rattle.orc_words.specs.Packed.{bit, count_bits, link_word, named}
 use Rattle.orc_words.specs.declared.packed.RowLink.{RowLink}
 use Rattle.orc_words.specs.declared.place.Word.{Word}
 use Rattle.orc_words.specs.declared.place.Word.TheVariants.{Counter, Gate, Next, Root}
-use Rattle.orc_core.specs.Actions.{action_of, word_after}
+use Rattle.orc_words.specs.Operations.{word_after}
+use Rattle.orc_core.specs.Actions.{action_of}
 use Rattle.orc_core.specs.After.{after}
 use Rattle.orc_core.specs.RecordParts.{names, same_target}
 use Rattle.orc_core.specs.declared.ops.Op.{Op}

@@ -6,7 +6,8 @@ use Rattle.orc_words.specs.Bounds.{Bounds}
 use Rattle.orc_words.specs.declared.place.Word.{Word}
 use Rattle.orc_words.specs.declared.place.Word.TheVariants.{Enrolled, First, Next, Root, Second}
 use Rattle.orc_core.proofs.Within.{and_both}
-use Rattle.orc_core.specs.Actions.{action_of, word_after}
+use Rattle.orc_words.specs.Operations.{word_after}
+use Rattle.orc_core.specs.Actions.{action_of}
 use Rattle.orc_core.specs.After.{after}
 use Rattle.orc_core.specs.Allowed.{fits, stands}
 use Rattle.orc_core.specs.declared.ops.Op.{Op}

@@ -6,7 +6,8 @@ use Rattle.orc_words.specs.Bounds.{Bounds}
 use Rattle.orc_words.specs.Packed.{bit, sequence_of}
 use Rattle.orc_words.specs.declared.place.Word.TheVariants.{Counter, Enrolled, Gate}
 use Rattle.orc_core.proofs.Within.{may_within}
-use Rattle.orc_core.specs.Actions.{action_of, answer_of}
+use Rattle.orc_words.specs.Operations.{answer_of}
+use Rattle.orc_core.specs.Actions.{action_of}
 use Rattle.orc_core.specs.Counts.{is_out}
 use Rattle.orc_core.specs.Machine.{Machine, answer, is_allowed, record_at, step, word_in, word_read}
 use Rattle.orc_core.specs.RecordParts.{number_of}

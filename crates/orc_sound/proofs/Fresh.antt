@@ -8,7 +8,8 @@ use Rattle.orc_words.specs.declared.packed.RowLink.{RowLink}
 use Rattle.orc_words.specs.declared.place.Word.{Word}
 use Rattle.orc_words.specs.declared.place.Word.TheVariants.{Counter, Enrolled, Gate, Next, Root}
 use Rattle.orc_core.proofs.Within.{and_both}
-use Rattle.orc_core.specs.Actions.{action_of, clear_word, word_after}
+use Rattle.orc_words.specs.Operations.{word_after}
+use Rattle.orc_core.specs.Actions.{action_of, clear_word}
 use Rattle.orc_core.specs.After.{after}
 use Rattle.orc_core.specs.Allowed.{fits, may_change, may_place, may_target}
 use Rattle.orc_core.specs.RecordParts.{any_holds, doom_uncut, is_empty, names, same_target, slot_of}

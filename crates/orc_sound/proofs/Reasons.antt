@@ -8,7 +8,8 @@ use Rattle.orc_words.specs.declared.place.Word.{Word}
 use Rattle.orc_words.specs.declared.place.Word.TheVariants.{Counter, First, Gate, Next, Root, Second}
 use Rattle.orc_core.proofs.Order.{nothing_pending}
 use Rattle.orc_core.proofs.Within.{and_both}
-use Rattle.orc_core.specs.Actions.{action_of, clear_word, word_after}
+use Rattle.orc_words.specs.Operations.{word_after}
+use Rattle.orc_core.specs.Actions.{action_of, clear_word}
 use Rattle.orc_core.specs.After.{after, bared, cut_of, due_after}
 use Rattle.orc_core.specs.Allowed.{fits, forced}
 use Rattle.orc_core.specs.RecordParts.{doom_bare, doom_cut, holds, is_due, kept, names, number_of, same_target, scan_empty, scans, slot_of}

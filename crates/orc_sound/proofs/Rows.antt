@@ -7,7 +7,8 @@ use Rattle.orc_words.specs.Packed.{bit, named}
 use Rattle.orc_words.specs.declared.place.Word.{Word}
 use Rattle.orc_words.specs.declared.place.Word.TheVariants.{Enrolled, First, Handover, Next, Root, Second}
 use Rattle.orc_core.proofs.Within.{and_both}
-use Rattle.orc_core.specs.Actions.{action_of, clear_word, word_after}
+use Rattle.orc_words.specs.Operations.{word_after}
+use Rattle.orc_core.specs.Actions.{action_of, clear_word}
 use Rattle.orc_core.specs.After.{after}
 use Rattle.orc_core.specs.Allowed.{fits}
 use Rattle.orc_core.specs.Listed.{Listed, listed_more, listed_name, listed_rest}

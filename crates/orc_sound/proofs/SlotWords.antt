@@ -7,7 +7,8 @@ use Rattle.orc_words.specs.Bounds.{Bounds}
 use Rattle.orc_words.specs.declared.place.Word.{Word}
 use Rattle.orc_words.specs.declared.place.Word.TheVariants.{Enrolled, First, Next, Root, Second, Slot}
 use Rattle.orc_core.proofs.Within.{and_both}
-use Rattle.orc_core.specs.Actions.{action_of, word_after}
+use Rattle.orc_words.specs.Operations.{word_after}
+use Rattle.orc_core.specs.Actions.{action_of}
 use Rattle.orc_core.specs.After.{after, promoted}
 use Rattle.orc_core.specs.Allowed.{fits}
 use Rattle.orc_core.specs.RecordParts.{is_published, names, slot_of}

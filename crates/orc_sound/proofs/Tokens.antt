@@ -9,7 +9,8 @@ use Rattle.orc_words.specs.Places.{IsWithin}
 use Rattle.orc_words.specs.declared.packed.RowLink.{RowLink}
 use Rattle.orc_words.specs.declared.place.Word.{Word}
 use Rattle.orc_words.specs.declared.place.Word.TheVariants.{Counter, Enrolled, First, Gate, Handover, Next, Root, Second, Slot}
-use Rattle.orc_core.specs.Actions.{action_of, clear_word, word_after}
+use Rattle.orc_words.specs.Operations.{word_after}
+use Rattle.orc_core.specs.Actions.{action_of, clear_word}
 use Rattle.orc_core.specs.After.{after}
 use Rattle.orc_core.specs.Listed.{Listed, first_is, listed_more, listed_name}
 use Rattle.orc_core.specs.RecordParts.{doom_bare, doom_cut, names, scans}

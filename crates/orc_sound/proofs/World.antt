@@ -4,7 +4,8 @@ use Rattle.std.specs.Prelude.{nat_lt, ◌&&◌, ◌==◌}
 use Rattle.orc_words.specs.Bounds.{Bounds}
 use Rattle.orc_words.specs.declared.place.Word.{Word}
 use Rattle.orc_words.specs.declared.place.Word.TheVariants.{Counter, Enrolled, First, Gate, Handover, Next, Root, Second, Slot}
-use Rattle.orc_core.specs.Actions.{action_of, word_after}
+use Rattle.orc_words.specs.Operations.{word_after}
+use Rattle.orc_core.specs.Actions.{action_of}
 use Rattle.orc_core.specs.After.{after}
 use Rattle.orc_core.specs.Machine.{Machine, record_at, word_in}
 use Rattle.orc_core.specs.declared.actions.Action.{Action}

@@ -2,8 +2,8 @@
 use Rattle.std.specs.Prelude.{Bool, List, [], false, ℕ, ◌&&◌, ◌+◌, ◌<◌, ◌==◌, ◌^◌, ◌∷◌, ◌≤◌}
 use Rattle.orc_words.specs.Packed.{bit}
 use Rattle.orc_core.specs.Machine.{Machine, answer, step}
-use Rattle.orc_core.specs.declared.actions.Operation.{Operation}
-use Rattle.orc_core.specs.declared.actions.Operation.TheVariants.{Add, Sub}
+use Rattle.orc_words.specs.declared.operation.Operation.{Operation}
+use Rattle.orc_words.specs.declared.operation.Operation.TheVariants.{Add, Sub}
 use Rattle.orc_core.specs.declared.ops.Op.{Op}
 use Rattle.orc_core.specs.declared.ops.Op.TheVariants.{Free, GateTake}
 

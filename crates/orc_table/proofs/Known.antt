@@ -4,6 +4,7 @@ use Rattle.orc_words.specs.Bounds.{Bounds, bounds_of}
 use Rattle.orc_heap.specs.Allowed.{events_by}
 use Rattle.orc_heap.specs.Seats.{IsUntouched}
 use Rattle.orc_heap.specs.OwnEvents.{IsBelow}
+use Rattle.orc_heap.specs.Seeds.{opening_events}
 use Rattle.orc_heap.specs.Journals.{IsLawful, run_heap}
 use Rattle.orc_heap.specs.declared.discipline.Discipline as discipline
 use Rattle.orc_heap.specs.declared.events.Event.{Event}
@@ -14,11 +15,11 @@ use Rattle.orc_shared_words.specs.declared.journal.View.{View}
 use Rattle.orc_shared_words.proofs.Events.{AllBy}
 use Rattle.orc_table.specs.Calls.{Adds}
 use Rattle.orc_table.specs.Machine.{State, AllowedFrom, events_at, finds, index_of, next, numbers, project, project_from, run, start}
-use Rattle.orc_table.specs.Rules.{opening_events, opening_steps, project-append}
+use Rattle.orc_table.specs.Rules.{opening_steps, project-append}
 use Rattle.orc_table.specs.Views.{FreshHeld, IsFreshRow, Keeps, PlainView, heap_of, view_of}
 use Rattle.orc_table.specs.Words.{Tie}
 use Rattle.orc_table.specs.declared.machine.PlainStep.{PlainStep}
-use Rattle.orc_table.specs.declared.seed.PlainShape.{PlainShape}
+use Rattle.orc_table.specs.declared.shape.PlainShape.{PlainShape}
 use Rattle.orc_table.proofs.Lists.{index_grown}
 use Rattle.orc_table.proofs.Opening.{lawful_roots, opened_events}
 use Rattle.orc_table.proofs.Steps.{heap_is, tied}

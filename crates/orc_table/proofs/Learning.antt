@@ -18,8 +18,8 @@ use Rattle.orc_table.specs.Machine.{State, AllowedFrom, numbers, project, projec
 use Rattle.orc_table.specs.Rules.{opening_steps, project-append, steps-append}
 use Rattle.orc_table.specs.Views.{FreshHeld, Keeps, view_of}
 use Rattle.orc_table.specs.declared.machine.PlainStep.{PlainStep}
-use Rattle.orc_table.specs.declared.seed.PlainShape.{PlainShape}
-use Rattle.orc_table.proofs.Walks.{Mid, by, given_more, mid_fresh, mid_of, none_by, others_none}
+use Rattle.orc_table.specs.declared.shape.PlainShape.{PlainShape}
+use Rattle.orc_table.proofs.Walks.{Mid, by, given_more, mid_fresh, mid_of, others_none}
 
 -- steps of the rest of a list, where the agent's are those of its front
 no_steps : {N : Type 0} (a : ℕ) (xs ys : List (PlainStep N)) → (b : Begins xs ys) → own_of by a xs ≡ own_of by a ys → own_of by a b.0 ≡ []
@@ -31,7 +31,7 @@ same_events {N} k a xs ys b e =
     ap (λ z. events_by a (project k z)) b.1
     ∙ (ap (events_by a) (project-append k (start k) ys b.0)
     ∙ (filter-append (λ (x : Event N). x.agent == a) (project k ys) (project_from k (run k ys) b.0)
-    ∙ (ap (λ l. events_by a (project k ys) ++ l) (none_by a (project_from k (run k ys) b.0) (others_none k a (run k ys) b.0 (no_steps a xs ys b e)))
+    ∙ (ap (λ l. events_by a (project k ys) ++ l) (others_none k a (run k ys) b.0 (no_steps a xs ys b e))
     ∙ append-nil (events_by a (project k ys)))))
 
 begins_events : {N : Type 0} (k : Bounds) (xs ys : List (PlainStep N)) → Begins xs ys → Begins (project k xs) (project k ys)

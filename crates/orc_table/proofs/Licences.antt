@@ -6,6 +6,8 @@ use Rattle.orc_words.specs.Packed.{bit, link_word}
 use Rattle.orc_words.specs.Places.{place}
 use Rattle.orc_words.specs.declared.packed.RowLink.{RowLink}
 use Rattle.orc_words.specs.declared.place.Word.{Word}
+use Rattle.orc_words.specs.declared.shape.Shape.{Shape}
+use Rattle.std.specs.Option.{ForSome}
 use Rattle.orc_words.specs.declared.place.Word.TheVariants as word
 use Rattle.orc_heap.specs.Acts.{Fits, IsFresh, IsTarget}
 use Rattle.orc_heap.specs.Allowed.{AllowedLater}
@@ -22,18 +24,18 @@ use Rattle.orc_shared_words.specs.Lists.{Each}
 use Rattle.orc_shared_words.specs.Steps.{Licensed}
 use Rattle.orc_shared_words.specs.declared.journal.View.{View}
 use Rattle.orc_table.specs.Calls.{KnowsPlace, KnowsRow, KnowsTarget, MayWhereFits, MayWhereShown, aim_event, look_event, move_event}
-use Rattle.orc_table.specs.Machine.{State, IsLinkWord, event, events_of, finds, id_by, index_of, link_at, link_by, numbers, place_by, project, project_from, run, run_from, start, tested}
+use Rattle.orc_table.specs.Machine.{State, IsLinkWord, IsRowLink, event, events_of, finds, id_by, index_of, link_at, link_by, numbers, place_by, project, project_from, run, run_from, start, tested}
 use Rattle.orc_table.specs.Rules.{plain_rules}
 use Rattle.orc_table.specs.Views.{FreshHeld, Keeps, PlainView, heap_of, view_of}
 use Rattle.orc_table.specs.Words.{IsWord}
 use Rattle.orc_table.specs.declared.machine.PlainOp.{PlainOp}
 use Rattle.orc_table.specs.declared.machine.PlainOp.TheVariants.{Fill, LinkLoad, LinkCas, LinkStore}
 use Rattle.orc_table.specs.declared.machine.PlainStep.{PlainStep}
-use Rattle.orc_table.specs.declared.seed.PlainShape.{PlainShape}
+use Rattle.orc_table.specs.declared.shape.PlainShape.{PlainShape}
 use Rattle.orc_table.proofs.Lists.{at_index, get_lt, index_grown, lt_get, some_one}
 use Rattle.orc_table.proofs.Ties.{Given, link_in, one_link, word_by}
 use Rattle.orc_table.proofs.Steps.{Tied, heap_is, tied}
-use Rattle.orc_table.proofs.Walks.{Mid, given_more, lawful_of, mid_fresh, mid_of, mid_target, none_by}
+use Rattle.orc_table.proofs.Walks.{Mid, given_more, lawful_of, mid_fresh, mid_of, mid_target}
 
 -- a root, or the link of a row that was given
 abbrev pub PlaceHeld : Bounds → List ℕ → Word → Type 0
@@ -58,6 +60,10 @@ link_grown g more r l e h = went l.to h
         let one : index_of row r ≡ index_of row g = ap (index_of row) e ∙ index_grown row g more h in
         let long : length r ≡ length g + length more = ap length e ∙ length-append g more in
         (omega (arith, one, long, h), λ i. record { to = Some (one i); mark = l.mark })
+
+-- a link to a row of the table can be packed
+pub packable : (shape : Shape) (to : Option ℕ) → IsRowLink (bounds_of shape) to → ForSome to (λ row. row < 65535)
+packable shape to inside row is = let few = shape.few_rows in let lt = inside row is in omega (arith, few, lt)
 
 -- a place that is held shows a link, and its word
 pub record Shows (k : Bounds) (x : State) (at : Word) : Type 0 where
@@ -146,6 +152,9 @@ module _ {D N : Type 0} (d : discipline.Ghosts D N) (q : PlainShape N) (v : View
   pub row_inside : (row : ℕ) → KnowsRow k s row → row < k.rows
   row_inside row e = now_tied.inside (index_of row g0) row (at_index row g0 (row_given row e))
 
+  pub link_inside : (l : RowLink) → KnowsTarget k s l → IsRowLink k l.to
+  link_inside l known row is = row_inside row (subst (λ t. IsTarget a (heap_of k s) (id_by g0 t)) is known)
+
   -- a step is licensed where its event is allowed at each state that the pass may come upon
   pub from_mid : (op : PlainOp) (said : Option N)
       → ((between : List (PlainStep N)) → Mid k may v.seen between a → holds (project k (v.seen ++ between)) → Each (may (project k (v.seen ++ between))) (events_of (run_from k (run k v.seen) between) a op (finds k (run_from k (run k v.seen) between) op) said))
@@ -192,7 +201,7 @@ module _ {D N : Type 0} (d : discipline.Ghosts D N) (q : PlainShape N) (v : View
       test (v.seen ++ between) x at w (done (place_by x.given at) (link_by x.given w) (link_by x.given t)) m.heap hk m.tie s lw.0
       (λ e.
       let there : shown (run_heap (numbers k) (project k v.seen ++ es)) (place_by g0 at) ≡ Some (link_by g0 w) = subst (λ (z : Heap × Place × Link). shown z.0 z.1 ≡ Some z.2) (λ i. (heap i, sp.1 i, lw.1 i)) e in
-      let ok : may (project k v.seen ++ es) (done (place_by g0 at) (link_by g0 w) (link_by g0 t)) = allowed es record { allowed = m.allowed; others = none_by a es m.none } there in
+      let ok : may (project k v.seen ++ es) (done (place_by g0 at) (link_by g0 w) (link_by g0 t)) = allowed es record { allowed = m.allowed; others = m.none } there in
       subst (λ (z : List (Event N) × Place × Link × Link). may z.0 (done z.1 z.2 z.3)) (λ i. (sym m.events i, sym sp.1 i, sym lw.1 i, sym lt.1 i)) ok)
       (slice_index x.words (place k at) == link_word w)
       refl
@@ -238,5 +247,5 @@ module _ {D N : Type 0} (d : discipline.Ghosts D N) (q : PlainShape N) (v : View
       let heap : x.heap ≡ run_heap (numbers k) (project k v.seen ++ es) = sym m.heap ∙ ap (run_heap (numbers k)) m.events in
       let target : IsTarget a x.heap (id_by g0 l.to) = mid_target k may v.seen between a m (id_by g0 l.to) (subst (λ z. IsTarget a z (id_by g0 l.to)) heap_now knows) in
       let fits : FitsAfter (numbers k) (project k v.seen ++ es) (aim_event s row l) = (subst (λ (z : Heap × ℕ). IsFresh a z.0 z.1) (λ i. (heap i, one i)) (fresh_at between m row is), subst (λ z. IsTarget a z (id_by g0 l.to)) heap target) in
-      let ok : may (project k v.seen ++ es) (aim_event s row l) = allowed es record { allowed = m.allowed; others = none_by a es m.none } fits in
+      let ok : may (project k v.seen ++ es) (aim_event s row l) = allowed es record { allowed = m.allowed; others = m.none } fits in
       subst (λ (z : List (Event N) × ℕ × Option ℕ). may z.0 (event a (act.Aim z.1 z.2) None)) (λ i. (sym m.events i, sym one i, sym to i)) ok)

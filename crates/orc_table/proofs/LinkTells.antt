@@ -20,6 +20,7 @@ use Rattle.orc_heap.specs.declared.events.Event.{Event}
 use Rattle.orc_heap.specs.declared.events.Link.{Link}
 use Rattle.orc_heap.specs.declared.events.Place.{Place}
 use Rattle.orc_heap.specs.declared.events.Place.TheVariants.{Next as AtNext}
+use Rattle.orc_heap.proofs.Untouched.{names_other, target_from, untouched_after}
 use Rattle.orc_shared_words.specs.Steps.{Extends}
 use Rattle.orc_shared_words.specs.declared.journal.View.{View}
 use Rattle.orc_table.specs.Calls.{Adds, Fails, Finds, KnowsPlace, KnowsTarget, Misses, Replaces, look_event, move_event, unless_linked}
@@ -30,11 +31,10 @@ use Rattle.orc_table.specs.Words.{IsWord}
 use Rattle.orc_table.specs.declared.machine.PlainOp.{PlainOp}
 use Rattle.orc_table.specs.declared.machine.PlainOp.TheVariants.{LinkLoad, LinkCas, LinkStore}
 use Rattle.orc_table.specs.declared.machine.PlainStep.{PlainStep}
-use Rattle.orc_table.specs.declared.seed.PlainShape.{PlainShape}
+use Rattle.orc_table.specs.declared.shape.PlainShape.{PlainShape}
 use Rattle.orc_table.proofs.Lists.{at_index, some_one}
 use Rattle.orc_table.proofs.Ties.{Given}
-use Rattle.orc_table.proofs.Untouched.{spared_after, target_from}
-use Rattle.orc_table.proofs.Walks.{Walk, none_by, others_none, given_more, heap_later, later_fresh, mid_fresh, own, rows_later}
+use Rattle.orc_table.proofs.Walks.{Walk, others_none, given_more, heap_later, later_fresh, mid_fresh, own, rows_later}
 use Rattle.orc_table.proofs.Licences.{PlaceHeld, Shows, link_given, link_grown, missed, place_given, place_grown, shows}
 use Rattle.orc_table.proofs.Tells.{added, heap_then, id_met, is_named, keeps, keeps_with, rows_met, walked}
 
@@ -43,7 +43,7 @@ is_equal m n e = grind (arith, nat_tests)
 
 -- a Move leaves a node untouched, unless it links to it
 move_spares : {N : Type 0} (a : ℕ) (x : State) (p : Place) (l m : Link) (said : Option N) (b : Bool) (id : ℕ) → (b ≡ true → m.to ≢ Some id) → IsUntouched a x.heap id → IsUntouched a (heap_from x.heap (tested x a p l (event a (act.Move p l m) said) b ∷ [])) id
-move_spares a x p l m said true id ne u = spared_after a x.heap (act.Move p l m) id (ne refl) u
+move_spares a x p l m said true id ne u = untouched_after a a x.heap (act.Move p l m) id (names_other m.to id (ne refl)) u
 move_spares a x p l m said false id ne u = u
 
 look_spares : {N : Type 0} (a : ℕ) (x : State) (p : Place) (l : Link) (said : Option N) (b : Bool) (id : ℕ) → IsUntouched a x.heap id → IsUntouched a (heap_from x.heap (tested x a p l (event a (act.Look p l) said) b ∷ [])) id
@@ -244,13 +244,13 @@ module _ {D N : Type 0} (d : discipline.Ghosts D N) (q : PlainShape N) (v w : Vi
       let heap : y.heap ≡ run_heap (numbers k) (project k v.seen ++ project_from k (run k v.seen) wk.between) = sym wk.mid.heap ∙ ap (run_heap (numbers k)) wk.mid.events in record {
         adds = record {
           met = es;
-          later = record { allowed = wk.mid.allowed; others = none_by a es wk.mid.none };
+          later = record { allowed = wk.mid.allowed; others = wk.mid.none };
           events = wk.events ∙ (λ i. (project k v.seen ++ es) ++ event a (act.Aim (id i) (to i)) None ∷ []);
           allowed = subst (λ (z : ℕ × Option ℕ). AllAllowed may (project k v.seen ++ es) (event a (act.Aim z.0 z.1) None ∷ [])) (λ i. (id i, to i)) wk.allowed;
           agent = e;
           rows = rows_later k may v w a (LinkStore row l.to) None n wk;
           absorbed = wk.also;
-          retired = λ b there. none_by b es (others_none k b (run k v.seen) wk.between (wk.retired b there));
+          retired = λ b there. others_none k b (run k v.seen) wk.between (wk.retired b there);
         };
         old = sh.link;
         shown_is = subst (λ (z : Heap × ℕ). shown z.0 (AtNext z.1) ≡ Some sh.link) (λ i. (heap i, id i)) sh.is;
@@ -263,8 +263,8 @@ module _ {D N : Type 0} (d : discipline.Ghosts D N) (q : PlainShape N) (v w : Vi
       let y : State = at wk in
       let held = mid_fresh k may v.seen wk.between a wk.mid (Some row) (subst (FreshHeld a (run k v.seen)) is h.untouched) in
       keeps d q v w a c fresh looked fresh2 looked2 h e (LinkStore row l.to) None n x f
-      (λ r r_is u. spared_after a y.heap (act.Aim (index_of row y.given) (id_by y.given l.to)) (index_of r y.given)
-      (spared y.given l.to r (some_one row r (sym is ∙ r_is)) ne (link_met wk l known).0 held.0) u)
+      (λ r r_is u. untouched_after a a y.heap (act.Aim (index_of row y.given) (id_by y.given l.to)) (index_of r y.given)
+      (names_other (id_by y.given l.to) (index_of r y.given) (spared y.given l.to r (some_one row r (sym is ∙ r_is)) ne (link_met wk l known).0 held.0)) u)
     where
       spared : (g : List ℕ) (to : Option ℕ) (r : ℕ) → row ≡ r → to ≢ Some row → Given g to → index_of row g < length g → id_by g to ≢ Some (index_of r g)
       spared g None r same ne gt lt z = cc

@@ -10,7 +10,7 @@ use Rattle.orc_table.specs.Machine.{AllowedFrom, numbers, project}
 use Rattle.orc_table.specs.Rules.{opening_steps, plain_rules}
 use Rattle.orc_table.specs.Views.{Keeps}
 use Rattle.orc_table.specs.declared.machine.PlainStep.{PlainStep}
-use Rattle.orc_table.specs.declared.seed.PlainShape.{PlainShape}
+use Rattle.orc_table.specs.declared.shape.PlainShape.{PlainShape}
 
 module _ {D N : Type 0} (d : discipline.Ghosts D N) where
   opened_keeps : (q : PlainShape N) → Opens plain_rules q (d.holds (numbers (bounds_of q.shape))) (d.may (numbers (bounds_of q.shape))) → d.holds (numbers (bounds_of q.shape)) []

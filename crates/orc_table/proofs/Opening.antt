@@ -1,14 +1,15 @@
 -- The steps that a new board begins with: their events, the words that they leave, and that the discipline allows them.
-use Rattle.std.proofs.Common.{◌≡◌, ℕ, ◌+◌, ◌<◌, ◌≤◌, List, [], ◌∷◌, ◌++◌, Bool, if◌then◌else◌, Some, None, slice_index, slice_set, refl, sym, ap, ◌∙◌, subst, arith, eq-eqb}
-use prog.Atomic.{either}
+use Rattle.std.proofs.Common.{◌≡◌, ℕ, ◌<◌, ◌≤◌, List, [], ◌∷◌, ◌++◌, Bool, cond, if◌then◌else◌, Some, None, slice_index, slice_set, refl, sym, ap, ◌∙◌, subst, arith, eq-eqb}
 use Rattle.orc_words.specs.Bounds.{Bounds, bounds_of}
+use Rattle.orc_words.specs.NewWords.{new_words}
 use Rattle.orc_words.specs.Places.{place}
 use Rattle.orc_words.specs.declared.place.Word.TheVariants as word
 use Rattle.orc_words.specs.declared.shape.Shape.{Shape}
 use Rattle.orc_heap.specs.Acts.{with_value}
 use Rattle.orc_heap.specs.Allowed.{AllAllowed}
-use Rattle.orc_heap.specs.Heap.{new_heap, new_node, null}
+use Rattle.orc_heap.specs.Heap.{HeapNumbers, new_heap, new_node, null}
 use Rattle.orc_heap.specs.Journals.{run_from as heap_from}
+use Rattle.orc_heap.specs.Seeds.{DummyAllowed, HasRoots, SeedAllowed, dummy_link, dummy_node, opening_events}
 use Rattle.orc_heap.specs.declared.discipline.Discipline as discipline
 use Rattle.orc_heap.specs.declared.events.Act.TheVariants as act
 use Rattle.orc_heap.specs.declared.events.Event.{Event}
@@ -16,14 +17,15 @@ use Rattle.orc_heap.specs.declared.events.Place.TheVariants.{Root}
 use Rattle.orc_heap.proofs.Stays.{stays}
 use Rattle.orc_shared_words.specs.Ends.{Opens}
 use Rattle.orc_shared_words.specs.Runs.{AgentsBelow}
-use Rattle.orc_table.specs.Machine.{State, AllowedFrom, event, events_at, new_words, next, numbers, project, project_from, run, run_from, start, tested, unmarked}
-use Rattle.orc_table.specs.Rules.{DummyAllowed, HasRoots, SeedAllowed, dummy_link, dummy_node, opening_events, opening_steps, plain_rules, step_of}
+use Rattle.orc_table.specs.Machine.{State, AllowedFrom, IsRowLink, event, events_at, next, numbers, project, project_from, run, run_from, start, tested, unmarked}
+use Rattle.orc_table.specs.Rules.{opening_steps, plain_rules, step_of}
 use Rattle.orc_table.specs.declared.machine.PlainOp.TheVariants.{GateTake, Fill, LinkCas}
 use Rattle.orc_table.specs.declared.machine.PlainStep.{PlainStep}
-use Rattle.orc_table.specs.declared.seed.Seed.{Seed}
-use Rattle.orc_table.specs.declared.seed.Seed.TheVariants.{Empty, Dummy}
-use Rattle.orc_table.proofs.Lists.{same_word}
-use Rattle.orc_table.proofs.Ties.{tie_start, zero_word}
+use Rattle.orc_heap.specs.declared.seed.Seed.{Seed}
+use Rattle.orc_heap.specs.declared.seed.Seed.TheVariants.{Empty, Dummy}
+use Rattle.orc_table.proofs.Lists.{same_word, some_one}
+use Rattle.orc_table.proofs.Ties.{tie_start}
+use Rattle.orc_words.proofs.NewWords.{new_words_each}
 
 module _ {N : Type 0} (b : Bounds) (first : ℕ) (begin : N) (roots : 2 ≤ b.roots) (rows : 0 < b.rows) where
   -- the words of the dummy, and then of the links to it
@@ -46,7 +48,7 @@ module _ {N : Type 0} (b : Bounds) (first : ℕ) (begin : N) (roots : 2 ≤ b.ro
   zero_gate = ((tie_start b).free 0 rows (λ id e. cc)).gate
 
   zero_root : (r : ℕ) → r < b.roots → slice_index (new_words b) (place b (word.Root r)) ≡ 0
-  zero_root r lt = zero_word b b.rows (1 + r) (λ row e. omega (arith, e, lt))
+  zero_root r lt = new_words_each b (word.Root r) lt
 
   node_root : (r : ℕ) → r < b.roots → slice_index node_words (place b (word.Root r)) ≡ 0
   node_root r lt =
@@ -58,7 +60,7 @@ module _ {N : Type 0} (b : Bounds) (first : ℕ) (begin : N) (roots : 2 ≤ b.ro
   second_root = same_word node_words (place b (word.Root 0)) 2 (place b (word.Root 1)) (λ e. omega (arith, e)) ∙ node_root 1 (omega (arith, roots))
 
   given_first : next b (start b) (step_of {N = N} 0 (GateTake 0) None) ≡ given_state
-  given_first = ap (λ (h : Bool). record { words = slice_set (new_words b) (place b (word.Gate 0)) (either h 3 (slice_index (new_words b) (place b (word.Gate 0)))); given = if h then 0 ∷ [] else []; heap = heap_from (new_heap (numbers b)) (if h then event {N = N} 0 act.Give None ∷ [] else []) })
+  given_first = ap (λ (h : Bool). record { words = slice_set (new_words b) (place b (word.Gate 0)) (cond h 3 (slice_index (new_words b) (place b (word.Gate 0)))); given = if h then 0 ∷ [] else []; heap = heap_from (new_heap (numbers b)) (if h then event {N = N} 0 act.Give None ∷ [] else []) })
       (eq-eqb (slice_index (new_words b) (place b (word.Gate 0))) 0 zero_gate)
 
   give_event : events_at b (start b) (step_of {N = N} 0 (GateTake 0) None) ≡ event 0 act.Give None ∷ []
@@ -68,7 +70,7 @@ module _ {N : Type 0} (b : Bounds) (first : ℕ) (begin : N) (roots : 2 ≤ b.ro
   link_step r = step_of 0 (LinkCas (word.Root r) (unmarked None) (unmarked (Some 0))) (Some begin)
 
   first_linked : next b filled_state (link_step 0) ≡ linked_state
-  first_linked = ap (λ (h : Bool). record { words = slice_set node_words (place b (word.Root 0)) (either h 2 (slice_index node_words (place b (word.Root 0)))); given = 0 ∷ []; heap = heap_from filled_state.heap (tested filled_state 0 (Root 0) null (dummy_link 0 begin) h ∷ []) })
+  first_linked = ap (λ (h : Bool). record { words = slice_set node_words (place b (word.Root 0)) (cond h 2 (slice_index node_words (place b (word.Root 0)))); given = 0 ∷ []; heap = heap_from filled_state.heap (tested filled_state 0 (Root 0) null (dummy_link 0 begin) h ∷ []) })
       (eq-eqb (slice_index node_words (place b (word.Root 0))) 0 (node_root 0 (omega (arith, roots))))
 
   first_event : events_at b filled_state (link_step 0) ≡ dummy_link 0 begin ∷ []
@@ -78,7 +80,7 @@ module _ {N : Type 0} (b : Bounds) (first : ℕ) (begin : N) (roots : 2 ≤ b.ro
   second_event = ap (λ (h : Bool). tested linked_state 0 (Root 1) null (dummy_link 1 begin) h ∷ []) (eq-eqb (slice_index linked_state.words (place b (word.Root 1))) 0 second_root)
 
   second_words : (next b linked_state (link_step 1)).words ≡ dummy_words
-  second_words = ap (λ (h : Bool). slice_set linked_state.words (place b (word.Root 1)) (either h 2 (slice_index linked_state.words (place b (word.Root 1))))) (eq-eqb (slice_index linked_state.words (place b (word.Root 1))) 0 second_root)
+  second_words = ap (λ (h : Bool). slice_set linked_state.words (place b (word.Root 1)) (cond h 2 (slice_index linked_state.words (place b (word.Root 1))))) (eq-eqb (slice_index linked_state.words (place b (word.Root 1))) 0 second_root)
 
   rest : List (PlainStep N)
   rest = step_of 0 (Fill 0 0 0) None ∷ step_of 0 (Fill 0 1 first) None ∷ link_step 0 ∷ link_step 1 ∷ []
@@ -99,7 +101,7 @@ module _ {N : Type 0} (b : Bounds) (first : ℕ) (begin : N) (roots : 2 ≤ b.ro
       → slice_set (slice_set (slice_set (slice_set (slice_set items p1 3) p2 0) p3 first) p4 link) p5 link ≡ (run b (opening_steps (Dummy first begin))).words
   written_words items p1 p2 p3 p4 p5 link e e1 e2 e3 e4 e5 e6 = (λ i. slice_set (slice_set (slice_set (slice_set (slice_set (e i) (e1 i) 3) (e2 i) 0) (e3 i) first) (e4 i) (e6 i)) (e5 i) (e6 i)) ∙ sym dummy_run
 
-module _ {D N : Type 0} (d : discipline.Ghosts D N) (b : Bounds) (first : ℕ) (begin : N) (began : d.holds (numbers b) []) (can : DummyAllowed (d.may (numbers b)) b first begin) where
+module _ {D N : Type 0} (d : discipline.Ghosts D N) (b : Bounds) (first : ℕ) (begin : N) (began : d.holds (numbers b) []) (can : DummyAllowed d.may (numbers b) first begin) where
   abbrev holds : List (Event N) → Type 0
   holds = d.holds (numbers b)
 
@@ -118,23 +120,23 @@ module _ {D N : Type 0} (d : discipline.Ghosts D N) (b : Bounds) (first : ℕ) (
       let m2 : may (e0 ∷ e1 ∷ []) e2 = d.allows_plain (numbers b) (e0 ∷ e1 ∷ []) e2 h2 (record { node = with_value 0 0 (new_node 0); there = refl; mine = refl; unlinked = refl }, omega arith) (refl, tt) in
       (m0, (m1, (m2, (can.first_link, (can.second_link, tt)))))
 
-pub has_roots : {N : Type 0} (may : List (Event N) → Event N → Type 0) (b : Bounds) (seed : Seed N) → SeedAllowed may b seed → HasRoots b seed
-has_roots may b Empty can = tt
-has_roots may b (Dummy first begin) can = can.roots
+pub has_roots : {N : Type 0} (may : HeapNumbers → List (Event N) → Event N → Type 0) (n : HeapNumbers) (seed : Seed N) → SeedAllowed may n seed → HasRoots n seed
+has_roots may n Empty can = tt
+has_roots may n (Dummy first begin) can = can.roots
 
 module _ {D N : Type 0} (d : discipline.Ghosts D N) (shape : Shape) where
   abbrev k : Bounds
   k = bounds_of shape
 
-  pub opened_events : (seed : Seed N) → HasRoots k seed → project k (opening_steps seed) ≡ opening_events seed
+  pub opened_events : (seed : Seed N) → HasRoots (numbers k) seed → project k (opening_steps seed) ≡ opening_events seed
   opened_events Empty roots = refl
   opened_events (Dummy first begin) roots = let some = shape.some_rows in dummy_events k first begin roots (omega (arith, some))
 
-  opened_each : (seed : Seed N) → d.holds (numbers k) [] → SeedAllowed (d.may (numbers k)) k seed → AllAllowed (d.may (numbers k)) [] (opening_events seed)
+  opened_each : (seed : Seed N) → d.holds (numbers k) [] → SeedAllowed d.may (numbers k) seed → AllAllowed (d.may (numbers k)) [] (opening_events seed)
   opened_each Empty began can = tt
   opened_each (Dummy first begin) began can = dummy_each d k first begin began can
 
-  opened_lawful : (seed : Seed N) → SeedAllowed (d.may (numbers k)) k seed → AllowedFrom k (opening_steps seed)
+  opened_lawful : (seed : Seed N) → SeedAllowed d.may (numbers k) seed → AllowedFrom k (opening_steps seed)
   opened_lawful Empty can = tt
   opened_lawful (Dummy first begin) can =
       let some = shape.some_rows in
@@ -142,16 +144,18 @@ module _ {D N : Type 0} (d : discipline.Ghosts D N) (shape : Shape) where
       let rows : 0 < k.rows = omega (arith, some) in
       let one : 0 < k.roots = omega (arith, roots) in
       let two : 1 < k.roots = omega (arith, roots) in
-      (rows, ((rows, omega arith), ((rows, omega arith), (one, (two, tt)))))
+      let null : IsRowLink k None = λ row e. cc in
+      let first_row : IsRowLink k (Some 0) = λ row e. subst (λ z. z < k.rows) (some_one 0 row e) rows in
+      (rows, ((rows, omega arith), ((rows, omega arith), ((one, null, first_row), ((two, null, first_row), tt)))))
 
   opened_below : (seed : Seed N) → AgentsBelow (λ (s : PlainStep N). s.agent) k.agents (opening_steps seed)
   opened_below Empty = tt
   opened_below (Dummy first begin) = let some = shape.some_agents in let one : 0 < k.agents = omega (arith, some) in (one, (one, (one, (one, (one, tt)))))
 
   -- the opening is allowed
-  pub opens : (seed : Seed N) → d.holds (numbers k) [] → SeedAllowed (d.may (numbers k)) k seed → Opens plain_rules (record { shape = shape; seed = seed }) (d.holds (numbers k)) (d.may (numbers k))
+  pub opens : (seed : Seed N) → d.holds (numbers k) [] → SeedAllowed d.may (numbers k) seed → Opens plain_rules (record { shape = shape; seed = seed }) (d.holds (numbers k)) (d.may (numbers k))
   opens seed began can =
-      let events = opened_events seed (has_roots (d.may (numbers k)) k seed can) in
+      let events = opened_events seed (has_roots d.may (numbers k) seed can) in
       let each = subst (AllAllowed (d.may (numbers k)) []) (sym events) (opened_each seed began can) in
       let some = shape.some_agents in record {
         lawful = opened_lawful seed can;
@@ -163,6 +167,6 @@ module _ {D N : Type 0} (d : discipline.Ghosts D N) (shape : Shape) where
       }
 
   -- an opening that is lawful has the roots that it links from
-  pub lawful_roots : (seed : Seed N) → AllowedFrom k (opening_steps seed) → HasRoots k seed
+  pub lawful_roots : (seed : Seed N) → AllowedFrom k (opening_steps seed) → HasRoots (numbers k) seed
   lawful_roots Empty can = tt
-  lawful_roots (Dummy first begin) can = let two = can.1.1.1.1.0 in omega (arith, two)
+  lawful_roots (Dummy first begin) can = let two = can.1.1.1.1.0.0 in omega (arith, two)

@@ -1,8 +1,7 @@
 -- Each step that is allowed, and whose event fits, keeps what the words show.
-use Rattle.std.proofs.Common.{◌≡◌, ℕ, zero, suc, ◌+◌, ◌<◌, ◌==◌, List, [], ◌∷◌, ◌++◌, length, Bool, true, false, if◌then◌else◌, Option, Some, None, slice_get, slice_index, slice_set, refl, sym, ◌∙◌, subst, append-nil, arith}
+use Rattle.std.proofs.Common.{◌≡◌, ℕ, zero, suc, ◌+◌, ◌<◌, ◌==◌, List, [], ◌∷◌, ◌++◌, length, cond, Bool, true, false, if◌then◌else◌, Option, Some, None, slice_get, slice_index, slice_set, refl, sym, ◌∙◌, subst, append-nil, arith}
 use Rattle.std.proofs.lemmas.Bool.Decides.{nat_tests}
 use lib.Seq.{set-get_or}
-use prog.Atomic.{either}
 use Rattle.orc_words.specs.Bounds.{Bounds}
 use Rattle.orc_words.specs.Packed.{link_word}
 use Rattle.orc_words.specs.Places.{place}
@@ -70,7 +69,7 @@ module _ (k : Bounds) (x : State) (tie : Tied k x) where
 module _ {N : Type 0} (k : Bounds) (x : State) (tie : Tied k x) where
   cas : (a : ℕ) (at : Word) (from to : RowLink) (said : Option N) (b : Bool) → IsLinkWord k at
       → IsLawfulFrom x.heap (tested x a (place_by x.given at) (link_by x.given from) (event a (act.Move (place_by x.given at) (link_by x.given from) (link_by x.given to)) said) b ∷ [])
-      → Tie k (slice_set x.words (place k at) (either b (link_word to) (slice_index x.words (place k at)))) (x.given ++ [])
+      → Tie k (slice_set x.words (place k at) (cond b (link_word to) (slice_index x.words (place k at)))) (x.given ++ [])
       (heap_from x.heap (tested x a (place_by x.given at) (link_by x.given from) (event a (act.Move (place_by x.given at) (link_by x.given from) (link_by x.given to)) said) b ∷ []))
   cas a at from to said false there fits = same k x tie (place k at)
   cas a (word.Root r) from to said true there fits =
@@ -92,7 +91,7 @@ module _ {N : Type 0} (k : Bounds) (x : State) (tie : Tied k x) where
   load a at (Some w) n said p = looked a at (link_by x.given w) said p (n == link_word w)
 
   take : (a row : ℕ) (said : Option N) (b : Bool) → row < k.rows → (b ≡ true → slice_index x.words (row_place k row) ≡ 0)
-      → Tie k (slice_set x.words (row_place k row) (either b 3 (slice_index x.words (row_place k row)))) (x.given ++ (if b then row ∷ [] else []))
+      → Tie k (slice_set x.words (row_place k row) (cond b 3 (slice_index x.words (row_place k row)))) (x.given ++ (if b then row ∷ [] else []))
       (heap_from x.heap (if b then event {N = N} a act.Give None ∷ [] else []))
   take a row said true lt zero_gate = tie_take k x.words x.given x.heap a row tie lt (zero_gate refl)
   take a row said false lt zero_gate = same k x tie (row_place k row)
@@ -105,9 +104,9 @@ module _ {N : Type 0} (k : Bounds) (x : State) (tie : Tied k x) where
       given_too k x tie _ _ _ refl (subst (λ p. Tie k (slice_set x.words p value) x.given record { nodes = change (with_value which value) (index_of row x.given) x.heap.nodes; roots = x.heap.roots }) (sym (value_place k row which can.1)) (tie_fill k x.words x.given x.heap row which value tie can.0 (fresh_given k x tie a row fits.0.0) fits.0.1))
   one a (Read row which) said can fits = same k x tie (place k (value_word row which))
   one a (LinkLoad at want) said can fits = load a (place_by x.given at) want (slice_index x.words (place k at)) said (place k at)
-  one a (LinkCas at from to) said can fits = cas a at from to said (slice_index x.words (place k at) == link_word from) can fits
+  one a (LinkCas at from to) said can fits = cas a at from to said (slice_index x.words (place k at) == link_word from) can.0 fits
   one a (LinkStore row to) said can fits =
-      given_too k x tie _ _ _ (target_heap as_named (id_by x.given to) _) (tie_link k x.words x.given x.heap as_named named_alike (λ n. refl) row to false tie can (fresh_given k x tie a row fits.0.0) (given_by k x.words x.given x.heap tie a to fits.0.1))
+      given_too k x tie _ _ _ (target_heap as_named (id_by x.given to) _) (tie_link k x.words x.given x.heap as_named named_alike (λ n. refl) row to false tie can.0 (fresh_given k x tie a row fits.0.0) (given_by k x.words x.given x.heap tie a to fits.0.1))
 
 module _ {N : Type 0} (k : Bounds) where
   pub tie_next : (x : State) (s : PlainStep N) → Tied k x → Allowed k s.op → IsLawfulFrom x.heap (events_at k x s) → Tied k (next k x s)

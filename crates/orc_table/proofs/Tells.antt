@@ -13,6 +13,7 @@ use Rattle.orc_heap.specs.declared.discipline.Discipline as discipline
 use Rattle.orc_heap.specs.declared.events.Act.TheVariants as act
 use Rattle.orc_heap.specs.declared.events.Event.{Event}
 use Rattle.orc_heap.proofs.Changes.{get-added}
+use Rattle.orc_heap.proofs.Untouched.{untouched_after}
 use Rattle.orc_shared_words.specs.Steps.{Extends, LaterJournal}
 use Rattle.orc_shared_words.specs.declared.journal.View.{View}
 use Rattle.orc_heap.specs.Calls.{ReadsValue, value_of}
@@ -24,10 +25,9 @@ use Rattle.orc_table.specs.Words.{Block, IsOut, Named}
 use Rattle.orc_table.specs.declared.machine.PlainOp.{PlainOp}
 use Rattle.orc_table.specs.declared.machine.PlainOp.TheVariants.{GateLook, GateTake, Fill, Read}
 use Rattle.orc_table.specs.declared.machine.PlainStep.{PlainStep}
-use Rattle.orc_table.specs.declared.seed.PlainShape.{PlainShape}
+use Rattle.orc_table.specs.declared.shape.PlainShape.{PlainShape}
 use Rattle.orc_table.proofs.Lists.{at_index, get_last, get_lt, index_at, index_grown, index_in, lt_get, some_one}
 use Rattle.orc_table.proofs.Steps.{Tied, heap_is}
-use Rattle.orc_table.proofs.Untouched.{spared_after}
 use Rattle.orc_table.proofs.Walks.{Walk, adds, given_later, given_more, heap_later, later_fresh, walk}
 use Rattle.orc_table.proofs.Licences.{row_given}
 
@@ -188,7 +188,7 @@ module _ {D N : Type 0} (d : discipline.Ghosts D N) (q : PlainShape N) (v w : Vi
 
   pub fill_keeps : (row which value n : ℕ) → fresh2 ≡ fresh → Made (Fill row which value) None n → Keeps q holds may w c fresh2
   fill_keeps row which value n f x = let y : State = at_step (walked (Fill row which value) None n x) in
-      keeps (Fill row which value) None n x f (λ r _ u. spared_after a y.heap (act.Fill (index_of row y.given) which value) (index_of r y.given) tt u)
+      keeps (Fill row which value) None n x f (λ r _ u. untouched_after a a y.heap (act.Fill (index_of row y.given) which value) (index_of r y.given) refl u)
 
   pub read_adds : (row which n : ℕ) → Made (Read row which) None n → Adds may [] s t
   read_adds row which n x = added (Read row which) None n x

@@ -4,15 +4,17 @@ use Rattle.std.proofs.lemmas.List.{length-replicate}
 use Rattle.std.specs.Option.{option_map}
 use Rattle.orc_words.specs.Bounds.{Bounds}
 use Rattle.orc_words.specs.Packed.{bit, name_word}
+use Rattle.orc_words.specs.NewWords.{new_words}
 use Rattle.orc_words.specs.Places.{places}
-use Rattle.orc_words.specs.declared.packed.TheConstants.{NEW_COUNTER}
+use Rattle.orc_words.specs.declared.place.Word.TheVariants as word
+use Rattle.orc_words.proofs.NewWords.{new_words_each, new_words_long}
 use Rattle.orc_heap.specs.Acts.{IsTarget, with_value}
 use Rattle.orc_heap.specs.Heap.{Heap, Node, change, new_heap, new_node, null, shown}
 use Rattle.orc_heap.specs.declared.events.Link.{Link}
 use Rattle.orc_heap.specs.declared.events.Place.{Place}
 use Rattle.orc_heap.specs.declared.events.Place.TheVariants.{Root as AtRoot, Next}
 use Rattle.orc_heap.proofs.Changes.{get-change, get-grown}
-use Rattle.orc_table.specs.Machine.{index_of, id_by, new_words, numbers, with_counters}
+use Rattle.orc_table.specs.Machine.{index_of, id_by, numbers}
 use Rattle.orc_table.specs.Words.{Block, IsFreeRow, IsWord, Named, Once, Tie}
 use Rattle.orc_table.proofs.Lists.{some_one, get_lt, lt_get, get_end, get_last, change_back, length_change, at_index, index_at, new_word, same_word}
 
@@ -397,31 +399,17 @@ tie_root k w g h f same sets r to mark x lt target =
     ]
     named (Next id) l e = inl (x.targets (Next id) l e)
 
--- a word of a new table that is no row's counter is 0
-zeros : (n i : ℕ) → slice_index (replicate n 0) i ≡ 0
-zeros zero i = refl
-zeros (suc n) zero = refl
-zeros (suc n) (suc i) = zeros n i
-
-pub zero_word : (k : Bounds) (rows p : ℕ) → ((row : ℕ) → p ≢ row_place k row + 1) → slice_index (with_counters k rows (replicate (places k) 0)) p ≡ 0
-zero_word k zero p none = zeros (places k) p
-zero_word k (suc rows) p none = same_word (with_counters k rows (replicate (places k) 0)) (row_place k rows + 1) NEW_COUNTER p (none rows) ∙ zero_word k rows p none
-
-pub counted_length : (k : Bounds) (rows : ℕ) (w : List ℕ) → length (with_counters k rows w) ≡ length w
-counted_length k zero w = refl
-counted_length k (suc rows) w = length-set (with_counters k rows w) (row_place k rows + 1) NEW_COUNTER ∙ counted_length k rows w
-
 -- a new table's words show the new heap
 pub tie_start : (k : Bounds) → Tie k (new_words k) [] (new_heap (numbers k))
 tie_start k = record {
-  long = counted_length k k.rows (replicate (places k) 0) ∙ length-replicate (places k) 0;
+  long = new_words_long k;
   rooted = length-replicate k.roots null;
   even = refl;
   once = λ i j r e q. cc;
   inside = λ i r e. cc;
-  root = λ r l e. let low = get_lt (replicate k.roots null) r l e in let long = length-replicate k.roots null in subst (λ (z : Link). IsWord [] z.to z.mark (slice_index (new_words k) (1 + r))) (sym (all_null k.roots r l e)) (zero_word k k.rows (1 + r) (λ row q. omega (arith, q, low, long)));
+  root = λ r l e. let low = get_lt (replicate k.roots null) r l e in let long = length-replicate k.roots null in subst (λ (z : Link). IsWord [] z.to z.mark (slice_index (new_words k) (1 + r))) (sym (all_null k.roots r l e)) (new_words_each k (word.Root r) (omega (arith, low, long)));
   node = λ id r n e q. cc;
-  free = λ r l none. record { gate = zero_word k k.rows (row_place k r) (λ row q. omega (arith, q)); link = zero_word k k.rows (row_place k r + 4) (λ row q. omega (arith, q)) };
+  free = λ r l none. record { gate = new_words_each k (word.Gate r) l; link = new_words_each k (word.Next r) l };
   targets = targets;
 }
   where
@@ -433,6 +421,3 @@ tie_start k = record {
     targets : (at : Place) (l : Link) → shown (new_heap (numbers k)) at ≡ Some l → Named [] l.to
     targets (AtRoot r) l e = subst (λ (z : Link). Named [] z.to) (sym (all_null k.roots r l e)) tt
     targets (Next id) l e = cc
-
-pub counted_long : (k : Bounds) (rows : ℕ) → length (with_counters k rows (replicate (places k) 0)) ≡ places k
-counted_long k rows = counted_length k rows (replicate (places k) 0) ∙ length-replicate (places k) 0

@@ -1,5 +1,5 @@
 -- What a pass meets between two of its steps, and what its own step does.
-use Rattle.std.proofs.Common.{◌≡◌, ◌≢◌, ℕ, ◌<◌, ◌==◌, List, [], ◌∷◌, ◌++◌, length, Bool, true, false, cond, if◌then◌else◌, Option, Some, None, refl, sym, ap, ◌∙◌, subst, append_assoc, append-nil, length-append, arith, ne_eqb}
+use Rattle.std.proofs.Common.{◌≡◌, ℕ, ◌<◌, ◌==◌, List, [], ◌∷◌, ◌++◌, length, Bool, true, false, if◌then◌else◌, Option, Some, None, refl, sym, ap, ◌∙◌, subst, append_assoc, append-nil, length-append, arith}
 use mathlib.Core.Logic.{dite}
 use native.Mathlib.Decide.{ℕ_discrete}
 use Rattle.orc_words.specs.Bounds.{Bounds, bounds_of}
@@ -16,11 +16,12 @@ use Rattle.orc_heap.specs.declared.events.Link.{Link}
 use Rattle.orc_heap.specs.declared.events.Place.{Place}
 use Rattle.orc_heap.proofs.Runs.{lawful-right, run_heap-snoc}
 use Rattle.orc_heap.proofs.Stays.{allowed-left, allowed-right}
+use Rattle.orc_heap.proofs.Untouched.{target_from, untouched_from}
 use Rattle.orc_shared_words.specs.Lists.{Among, Begins}
 use Rattle.orc_history.specs.Journals.{own_of}
 use Rattle.orc_shared_words.specs.Steps.{Extends, LaterJournal}
 use Rattle.orc_shared_words.specs.declared.journal.View.{View}
-use Rattle.orc_shared_words.proofs.Events.{AllBy, NoneBy}
+use Rattle.orc_shared_words.proofs.Events.{AllBy, none-append, none_of_all}
 use Rattle.orc_shared_words.proofs.Runs.{by_other, by_own, cons_nil}
 use Rattle.orc_table.specs.Calls.{Adds}
 use Rattle.orc_table.specs.Machine.{State, AllowedFrom, answer, event, events_at, events_of, finds, index_of, link_by, load_event, next, numbers, place_by, project, project_from, run, run_from, start, taken, tested}
@@ -29,18 +30,13 @@ use Rattle.orc_table.specs.Views.{FreshHeld, view_of}
 use Rattle.orc_table.specs.declared.machine.PlainOp.{PlainOp}
 use Rattle.orc_table.specs.declared.machine.PlainOp.TheVariants.{GateLook, GateTake, Fill, Read, LinkLoad, LinkCas, LinkStore}
 use Rattle.orc_table.specs.declared.machine.PlainStep.{PlainStep}
-use Rattle.orc_table.specs.declared.seed.PlainShape.{PlainShape}
+use Rattle.orc_table.specs.declared.shape.PlainShape.{PlainShape}
 use Rattle.orc_table.proofs.Lists.{index_grown, some_one}
 use Rattle.orc_table.proofs.Steps.{Tied, heap_is, tied}
-use Rattle.orc_table.proofs.Untouched.{target_from, untouched_from}
 
 module _ {N : Type 0} where
   abbrev pub by : PlainStep N → ℕ
   by s = s.agent
-
-  pub none_by : (a : ℕ) (es : List (Event N)) → NoneBy a es → events_by a es ≡ []
-  none_by a [] x = refl
-  none_by a (e ∷ es) x = ap (λ b. cond b (e ∷ events_by a es) (events_by a es)) (ne_eqb e.agent a x.0) ∙ none_by a es x.1
 
   test_signed : (x : State) (a : ℕ) (at : Place) (want : Link) (done : Event N) (b : Bool) → done.agent ≡ a → AllBy a (tested x a at want done b ∷ [])
   test_signed x a at want done true e = (e, tt)
@@ -63,21 +59,13 @@ module _ {N : Type 0} where
   signed x a (LinkCas at from to) n said = test_signed x a (place_by x.given at) (link_by x.given from) _ (n == link_word from) refl
   signed x a (LinkStore row to) n said = (refl, tt)
 
-  not_of : (a b : ℕ) (es : List (Event N)) → b ≢ a → AllBy b es → NoneBy a es
-  not_of a b [] ne x = tt
-  not_of a b (e ∷ es) ne x = ((λ q. ne (sym x.0 ∙ q)), not_of a b es ne x.1)
-
-  none_join : (a : ℕ) (xs ys : List (Event N)) → NoneBy a xs → NoneBy a ys → NoneBy a (xs ++ ys)
-  none_join a [] ys p q = q
-  none_join a (x ∷ xs) ys p q = (p.0, none_join a xs ys p.1 q)
-
 module _ {N : Type 0} (k : Bounds) where
   -- steps of others have events of others
-  pub others_none : (a : ℕ) (x : State) (ss : List (PlainStep N)) → own_of by a ss ≡ [] → NoneBy a (project_from k x ss)
-  others_none a x [] e = tt
+  pub others_none : (a : ℕ) (x : State) (ss : List (PlainStep N)) → own_of by a ss ≡ [] → events_by a (project_from k x ss) ≡ []
+  others_none a x [] e = refl
   others_none a x (s ∷ ss) e = dite (ℕ_discrete s.agent a)
       (λ own. absurd (cons_nil s (own_of by a ss) (sym (by_own by a s ss own) ∙ e)))
-      (λ ne. none_join a (events_at k x s) (project_from k (next k x s) ss) (not_of a s.agent (events_at k x s) ne (signed x s.agent s.op (finds k x s.op) s.note)) (others_none a (next k x s) ss (sym (by_other by a s ss ne) ∙ e)))
+      (λ ne. none-append a (events_at k x s) (project_from k (next k x s) ss) (none_of_all a s.agent (events_at k x s) ne (signed x s.agent s.op (finds k x s.op) s.note)) (others_none a (next k x s) ss (sym (by_other by a s ss ne) ∙ e)))
 
   -- the given rows grow
   pub given_more : (x : State) (ss : List (PlainStep N)) → Begins (run_from k x ss).given x.given
@@ -99,7 +87,7 @@ fresh_stays a x y more e (Some row) keep h =
 -- a journal that a pass may come upon, from what it has seen
 pub record Mid {N : Type 0} (k : Bounds) (may : List (Event N) → Event N → Type 0) (seen between : List (PlainStep N)) (a : ℕ) : Type 0 where
   pub tie : Tied k (run_from k (run k seen) between)
-  pub none : NoneBy a (project_from k (run k seen) between)
+  pub none : events_by a (project_from k (run k seen) between) ≡ []
   pub fits : IsLawfulFrom (run k seen).heap (project_from k (run k seen) between)
   pub allowed : AllAllowed may (project k seen) (project_from k (run k seen) between)
   pub events : project k (seen ++ between) ≡ project k seen ++ project_from k (run k seen) between
@@ -235,11 +223,11 @@ pub adds : {N : Type 0} (k : Bounds) (may : List (Event N) → Event N → Type 
     → (fresh fresh2 looked looked2 : Option ℕ) → Adds may (own k may v u a op said n w) (view_of k a v fresh looked) (view_of k c u fresh2 looked2)
 adds k may v u a c op said n w e fresh fresh2 looked looked2 = record {
   met = project_from k (run k v.seen) w.between;
-  later = record { allowed = w.mid.allowed; others = none_by a (project_from k (run k v.seen) w.between) w.mid.none };
+  later = record { allowed = w.mid.allowed; others = w.mid.none };
   events = w.events;
   allowed = w.allowed;
   agent = e;
   rows = rows_later k may v u a op said n w;
   absorbed = w.also;
-  retired = λ b there. none_by b (project_from k (run k v.seen) w.between) (others_none k b (run k v.seen) w.between (w.retired b there));
+  retired = λ b there. others_none k b (run k v.seen) w.between (w.retired b there);
 }

@@ -1,14 +1,14 @@
 -- The machine of gates, values and links: its words, its steps, and the heap that the steps' events make. A row's
 -- gate is taken once, and the row is a node from then on. After Michael and Scott 1996 and Harris 2001.
-use Rattle.std.specs.Prelude.{ℕ, zero, suc, ◌<◌, ◌==◌, List, [], ◌∷◌, ◌++◌, length, Bool, true, false, replicate, Option, Some, None, if◌then◌else◌, slice_index, slice_set}
-use prog.Atomic.{either}
+use Rattle.std.specs.Option.{ForSome}
+use Rattle.std.specs.Prelude.{ℕ, zero, suc, ◌<◌, ◌==◌, List, [], ◌∷◌, ◌++◌, length, Bool, true, false, cond, Option, Some, None, if◌then◌else◌, slice_index, slice_set}
 use Rattle.orc_words.specs.Bounds.{Bounds}
 use Rattle.orc_words.specs.Packed.{link_word}
-use Rattle.orc_words.specs.Places.{place, places}
+use Rattle.orc_words.specs.NewWords.{new_words}
+use Rattle.orc_words.specs.Places.{place}
 use Rattle.orc_words.specs.declared.packed.RowLink.{RowLink}
-use Rattle.orc_words.specs.declared.packed.TheConstants.{NEW_COUNTER}
 use Rattle.orc_words.specs.declared.place.Word.{Word}
-use Rattle.orc_words.specs.declared.place.Word.TheVariants.{Root, Gate, Counter, First, Second, Next}
+use Rattle.orc_words.specs.declared.place.Word.TheVariants.{Root, Gate, First, Second, Next}
 use Rattle.orc_heap.specs.Heap.{Heap, HeapNumbers, new_heap, null, shown}
 use Rattle.orc_heap.specs.Journals.{run_from as heap_from}
 use Rattle.orc_heap.specs.declared.events.Act.{Act}
@@ -24,15 +24,6 @@ use Rattle.orc_table.specs.declared.machine.PlainStep.{PlainStep}
 -- the heap of a table has its roots
 abbrev pub numbers : Bounds → HeapNumbers
 numbers b = record { roots = b.roots }
-
--- the words with the counter of a new row at each of the first rows
-abbrev pub with_counters : Bounds → ℕ → List ℕ → List ℕ
-with_counters b zero words = words
-with_counters b (suc row) words = slice_set (with_counters b row words) (place b (Counter row)) NEW_COUNTER
-
--- the words of a new table
-abbrev pub new_words : Bounds → List ℕ
-new_words b = with_counters b b.rows (replicate (places b) 0)
 
 -- the word of a row's first (0) or second (1) value
 abbrev pub value_word : ℕ → ℕ → Word
@@ -55,11 +46,11 @@ unmarked to = record { to = to; mark = false }
 -- the number that it writes, by the number found; 3 is the gate word of a row that is out, in its first life
 abbrev pub written : PlainOp → ℕ → ℕ
 written (GateLook row) n = n
-written (GateTake row) n = either (n == 0) 3 n
+written (GateTake row) n = cond (n == 0) 3 n
 written (Fill row which value) n = value
 written (Read row which) n = n
 written (LinkLoad at want) n = n
-written (LinkCas at from to) n = either (n == link_word from) (link_word to) n
+written (LinkCas at from to) n = cond (n == link_word from) (link_word to) n
 written (LinkStore row to) n = link_word (unmarked to)
 
 -- what it answers: the number found, and after a fill the number written
@@ -78,6 +69,10 @@ IsLinkWord b (Root r) = r < b.roots
 IsLinkWord b (Next row) = row < b.rows
 IsLinkWord b word = ⊥
 
+-- null, or a link to a row of the table
+abbrev pub IsRowLink : Bounds → Option ℕ → Type 0
+IsRowLink b to = ForSome to (λ row. row < b.rows)
+
 -- rows, roots and values are within the table
 abbrev pub Allowed : Bounds → PlainOp → Type 0
 Allowed b (GateLook row) = row < b.rows
@@ -85,8 +80,8 @@ Allowed b (GateTake row) = row < b.rows
 Allowed b (Fill row which value) = (row < b.rows) × (which < 2)
 Allowed b (Read row which) = (row < b.rows) × (which < 2)
 Allowed b (LinkLoad at want) = IsLinkWord b at
-Allowed b (LinkCas at from to) = IsLinkWord b at
-Allowed b (LinkStore row to) = row < b.rows
+Allowed b (LinkCas at from to) = IsLinkWord b at × IsRowLink b from.to × IsRowLink b to.to
+Allowed b (LinkStore row to) = (row < b.rows) × IsRowLink b to
 
 -- the row that is given, if the operation gives one
 abbrev pub taken : PlainOp → ℕ → List ℕ

@@ -1,25 +1,18 @@
 -- The journals of the machine: how they begin, and what one more step does.
-use Rattle.std.specs.Prelude.{false, ◌≡◌, ℕ, ◌≤◌, ◌^◌, List, [], ◌∷◌, ◌++◌, Option, Some, None, refl}
+use Rattle.std.specs.Prelude.{◌≡◌, ℕ, List, [], ◌∷◌, ◌++◌, Option, Some, None, refl}
 use Rattle.std.proofs.Common.{sym, ap, ◌∙◌, append_assoc, append-nil}
 use Rattle.orc_words.specs.Bounds.{Bounds, bounds_of}
 use Rattle.orc_words.specs.Places.{place}
 use Rattle.orc_words.specs.declared.place.Word.TheVariants as word
-use Rattle.orc_heap.specs.Heap.{HeapNumbers, null}
-use Rattle.orc_heap.specs.declared.events.Act.TheVariants as act
-use Rattle.orc_heap.specs.declared.events.Event.{Event}
-use Rattle.orc_heap.specs.declared.events.Link.{Link}
-use Rattle.orc_heap.specs.declared.events.Place.TheVariants.{Root}
+use Rattle.orc_heap.specs.Heap.{HeapNumbers}
 use Rattle.orc_shared_words.specs.Runs.{Obeys, Rules}
-use Rattle.orc_table.specs.Machine.{State, Allowed, AllowedFrom, answer, event, events_at, next, numbers, project, project_from, run, run_from, start, unmarked, word_of, written}
+use Rattle.orc_table.specs.Machine.{State, Allowed, AllowedFrom, answer, events_at, next, numbers, project, project_from, run, run_from, start, unmarked, word_of, written}
 use Rattle.orc_table.specs.declared.machine.PlainOp.{PlainOp}
 use Rattle.orc_table.specs.declared.machine.PlainOp.TheVariants.{GateTake, Fill, LinkCas}
 use Rattle.orc_table.specs.declared.machine.PlainStep.{PlainStep}
-use Rattle.orc_table.specs.declared.seed.PlainShape.{PlainShape}
-use Rattle.orc_table.specs.declared.seed.Seed.{Seed}
-use Rattle.orc_table.specs.declared.seed.Seed.TheVariants.{Empty, Dummy}
-
-abbrev pub to_node : ℕ → Link
-to_node id = record { to = Some id; mark = false }
+use Rattle.orc_table.specs.declared.shape.PlainShape.{PlainShape}
+use Rattle.orc_heap.specs.declared.seed.Seed.{Seed}
+use Rattle.orc_heap.specs.declared.seed.Seed.TheVariants.{Empty, Dummy}
 
 module _ {N : Type 0} where
   abbrev pub step_of : ℕ → PlainOp → Option N → PlainStep N
@@ -35,36 +28,6 @@ module _ {N : Type 0} where
       ∷ step_of 0 (LinkCas (word.Root 0) (unmarked None) (unmarked (Some 0))) (Some begin)
       ∷ step_of 0 (LinkCas (word.Root 1) (unmarked None) (unmarked (Some 0))) (Some begin)
       ∷ []
-
-  -- the dummy node, with its values
-  abbrev pub dummy_node : ℕ → List (Event N)
-  dummy_node first = event 0 act.Give None ∷ event 0 (act.Fill 0 0 0) None ∷ event 0 (act.Fill 0 1 first) None ∷ []
-
-  -- a link to it from a root
-  abbrev pub dummy_link : ℕ → N → Event N
-  dummy_link root begin = event 0 (act.Move (Root root) null (to_node 0)) (Some begin)
-
-  -- the events that a new board begins with
-  abbrev pub opening_events : Seed N → List (Event N)
-  opening_events Empty = []
-  opening_events (Dummy first begin) = dummy_node first ++ dummy_link 0 begin ∷ dummy_link 1 begin ∷ []
-
-  -- two roots, a first position of at most 2 ^ 62, and the discipline allows the two Moves where they stand
-  pub record DummyAllowed (may : List (Event N) → Event N → Type 0) (b : Bounds) (first : ℕ) (begin : N) : Type 0 where
-    pub roots : 2 ≤ b.roots
-    pub low : first ≤ 2 ^ 62
-    pub first_link : may (dummy_node first) (dummy_link 0 begin)
-    pub second_link : may (dummy_node first ++ dummy_link 0 begin ∷ []) (dummy_link 1 begin)
-
-  -- a dummy is linked from two roots
-  abbrev pub HasRoots : Bounds → Seed N → Type 0
-  HasRoots b Empty = Unit {0}
-  HasRoots b (Dummy first begin) = 2 ≤ b.roots
-
-  -- what a seed asks of the discipline
-  abbrev pub SeedAllowed : (List (Event N) → Event N → Type 0) → Bounds → Seed N → Type 0
-  SeedAllowed may b Empty = Unit {0}
-  SeedAllowed may b (Dummy first begin) = DummyAllowed may b first begin
 
   abbrev pub heap_numbers : PlainShape N → HeapNumbers
   heap_numbers k = numbers (bounds_of k.shape)

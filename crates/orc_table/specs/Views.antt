@@ -16,8 +16,8 @@ use Rattle.orc_table.specs.declared.machine.PlainOp.{PlainOp}
 use Rattle.orc_table.specs.declared.machine.PlainStep.{PlainStep}
 use Rattle.orc_table.specs.declared.pass.PlainBoard.{PlainBoard}
 use Rattle.orc_table.specs.declared.pass.PlainBoardPass.{PlainBoardPass}
-use Rattle.orc_table.specs.declared.seed.PlainShape.{PlainShape}
-use Rattle.orc_table.specs.declared.seed.Seed.{Seed}
+use Rattle.orc_table.specs.declared.shape.PlainShape.{PlainShape}
+use Rattle.orc_heap.specs.declared.seed.Seed.{Seed}
 
 -- the agent, the events that it has seen, the rows that these gave, in the order of the Gives, its fresh row, the row
 -- that its last gate look saw free, and the agents whose passes it took in

@@ -10,7 +10,7 @@ ghost use Rattle.orc_heap.specs.declared.events.Event.{Event};
 ghost use Rattle.orc_shared_words.specs.Lists.{Among, Begins};
 ghost use Rattle.orc_table.specs.Calls.{Adds};
 ghost use Rattle.orc_table.specs.Machine.{AllowedFrom, index_of, numbers, project, run};
-ghost use Rattle.orc_table.specs.Rules.{opening_events};
+ghost use Rattle.orc_heap.specs.Seeds.{opening_events};
 ghost use Rattle.orc_table.specs.Views.{Belongs, IsFreshRow, PlainView, board_bounds, board_numbers, board_seed, heap_of, shows};
 ghost use Rattle.orc_table.specs.Words.{Once, Tie};
 ghost use Rattle.orc_table.specs.declared.machine.PlainStep.{PlainStep};

@@ -7,10 +7,10 @@ ghost use Rattle.orc_table.specs.Calls.{Adds, Fails, Finds, KnowsPlace, KnowsTar
 ghost use Rattle.orc_table.specs.Machine.{link_by, place_by};
 ghost use Rattle.orc_table.specs.Views.{Belongs, board_bounds, board_numbers, shows};
 
-use crate::machine::{PlainOp, word};
+use crate::machine::PlainOp;
 use crate::pass::{PlainBoard, PlainBoardPass};
 use orc_heap::Discipline;
-use orc_words::{RowLink, Word};
+use orc_words::{RowLink, Word, pack_link};
 
 impl<D: Discipline> PlainBoard<D> {
     /// Reads a link word. A note goes to the event where the wanted link is found.
@@ -64,8 +64,9 @@ impl<D: Discipline> PlainBoard<D> {
             → Fails (D.may (board_numbers self.now)) (place_by (shows self.now p.old).rows place) (link_by (shows self.now p.old).rows from) (shows self.now p.old) (shows self.now p.new) }
         ensures looked { (shows self.now p.new).looked ≡ (shows self.now p.old).looked }
     {
+        let wanted = pack_link(from);
         let found = self.step(p, PlainOp::LinkCas { place, from, to }, &note);
-        if found == word(from) {
+        if found == wanted {
             p.fresh = unless_linked(p.fresh, to.to);
             return 1;
         }

@@ -1,14 +1,11 @@
 //! The machine of gates, values and links.
 
 ghost use Rattle.std.specs.Prelude.{◌≡◌};
-ghost use Rattle.orc_words.specs.Bounds.{bounds_of};
-ghost use Rattle.orc_words.specs.Packed.{link_word};
-ghost use Rattle.orc_words.specs.Places.{place};
-ghost use Rattle.orc_table.specs.Machine.{unmarked, value_word};
+ghost use Rattle.orc_table.specs.Machine.{value_word, word_of};
 
-use crate::seed::PlainShape;
-use orc_shared_words::{Machine, Operation};
-use orc_words::{RowLink, Shape, Word};
+use crate::shape::PlainShape;
+use orc_shared_words::{Machine, PlacedOperation};
+use orc_words::{Operation, RowLink, Word, pack_link, place_of};
 
 /// An operation of one agent on one word.
 #[derive(Clone, Copy, Debug, PartialEq, Eq)]
@@ -60,36 +57,7 @@ pub struct PlainStep<N> {
 /// The gate word of a row that is out, in its first life. A free row's is 0.
 pub(crate) const OUT: u64 = 3;
 
-// the word of a link to a row of any number
-pub(crate) fn word(link: RowLink) -> u64
-    ensures { result ≡ link_word link }
-{
-    let name = match link.to {
-        None => 0,
-        Some(row) => u64::from(row) + 1,
-    };
-    2 * name + u64::from(link.mark)
-}
-
-// the place of a word, also of one that the table doesn't have
-pub(crate) fn place_in(shape: &Shape, word: Word) -> usize
-    ensures { result ≡ place (bounds_of shape.now) word }
-{
-    let first_row = 1 + shape.roots() as usize;
-    let first_agent = first_row + 5 * shape.rows() as usize;
-    match word {
-        Word::Enrolled => 0,
-        Word::Root(root) => 1 + root as usize,
-        Word::Gate(row) => first_row + 5 * row as usize,
-        Word::Counter(row) => first_row + 5 * row as usize + 1,
-        Word::First(row) => first_row + 5 * row as usize + 2,
-        Word::Second(row) => first_row + 5 * row as usize + 3,
-        Word::Next(row) => first_row + 5 * row as usize + 4,
-        Word::Slot(agent, slot) => first_agent + 16 * agent as usize + slot as usize,
-        Word::Handover(agent, slot) => first_agent + 16 * agent as usize + 8 + slot as usize,
-    }
-}
-
+// The word of a row's first (0) or second (1) value.
 fn value_word(row: u32, which: u32) -> Word
     ensures { result ≡ value_word row which }
 {
@@ -97,6 +65,28 @@ fn value_word(row: u32, which: u32) -> Word
         Word::First(row)
     } else {
         Word::Second(row)
+    }
+}
+
+// The word that the operation reads or writes.
+fn word_of(op: &PlainOp) -> Word
+    ensures { result ≡ word_of op.now }
+{
+    match *op {
+        PlainOp::GateLook { row } | PlainOp::GateTake { row } => Word::Gate(row),
+        PlainOp::Fill {
+            row,
+            which,
+            value: _,
+        }
+        | PlainOp::Read { row, which } => value_word(row, which),
+        PlainOp::LinkLoad { place, want: _ } => place,
+        PlainOp::LinkCas {
+            place,
+            from: _,
+            to: _,
+        } => place,
+        PlainOp::LinkStore { row, to: _ } => Word::Next(row),
     }
 }
 
@@ -128,33 +118,26 @@ impl<N: Copy> Machine<N> for Plain {
 
     ghost obeys = { plain_obeys };
 
-    fn operation(shape: &PlainShape<N>, agent: u32, op: &PlainOp, own: &()) -> Operation {
-        match *op {
-            PlainOp::GateLook { row } => Operation::Load(place_in(&shape.shape, Word::Gate(row))),
-            PlainOp::GateTake { row } => Operation::Exchange(
-                place_in(&shape.shape, Word::Gate(row)),
-                0,
-                OUT,
-            ),
-            PlainOp::Fill { row, which, value } => Operation::Store(
-                place_in(&shape.shape, value_word(row, which)),
+    fn operation(shape: &PlainShape<N>, agent: u32, op: &PlainOp, own: &()) -> PlacedOperation {
+        let place = place_of(&shape.shape, word_of(op));
+        let operation = match *op {
+            PlainOp::GateLook { row: _ } => Operation::Load,
+            PlainOp::GateTake { row: _ } => Operation::CompareExchange(0, OUT),
+            PlainOp::Fill {
+                row: _,
+                which: _,
                 value,
-            ),
-            PlainOp::Read { row, which } => Operation::Load(place_in(
-                &shape.shape,
-                value_word(row, which),
-            )),
-            PlainOp::LinkLoad { place, want: _ } => Operation::Load(place_in(&shape.shape, place)),
-            PlainOp::LinkCas { place, from, to } => Operation::Exchange(
-                place_in(&shape.shape, place),
-                word(from),
-                word(to),
-            ),
-            PlainOp::LinkStore { row, to } => Operation::Swap(
-                place_in(&shape.shape, Word::Next(row)),
-                word(RowLink { to, mark: false }),
-            ),
-        }
+            } => Operation::Store(value),
+            PlainOp::Read { row: _, which: _ } => Operation::Load,
+            PlainOp::LinkLoad { place: _, want: _ } => Operation::Load,
+            PlainOp::LinkCas { place: _, from, to } => {
+                Operation::CompareExchange(pack_link(from), pack_link(to))
+            }
+            PlainOp::LinkStore { row: _, to } => {
+                Operation::Swap(pack_link(RowLink { to, mark: false }))
+            }
+        };
+        PlacedOperation { place, operation }
     }
 
     fn keep(shape: &PlainShape<N>, agent: u32, op: &PlainOp, own: &mut (), n: u64) {}

@@ -4,17 +4,18 @@ ghost use Rattle.std.specs.Prelude.{◌≡◌, ◌<◌, [], All, IfOk, None, len
 ghost use Rattle.orc_words.specs.Bounds.{bounds_of};
 ghost use Rattle.orc_words.specs.Places.{places};
 ghost use Rattle.orc_shared_words.specs.Lists.{EachAt};
-ghost use Rattle.orc_table.specs.Machine.{new_words, numbers, run};
-ghost use Rattle.orc_table.specs.Rules.{HasRoots, SeedAllowed, opening_events, opening_steps};
+ghost use Rattle.orc_table.specs.Machine.{numbers, run};
+ghost use Rattle.orc_heap.specs.Seeds.{HasRoots, SeedAllowed, opening_events};
+ghost use Rattle.orc_table.specs.Rules.{opening_steps};
 ghost use Rattle.orc_table.specs.Views.{Belongs, EachFrom, board_bounds, board_seed, shows};
 
-use crate::machine::{OUT, Plain, place_in, word};
+use crate::machine::{OUT, Plain};
 use crate::pass::{PlainBoard, PlainBoardPass};
-use crate::seed::{PlainShape, Seed};
+use crate::shape::PlainShape;
 use orc_fault::NoMemory;
-use orc_heap::Discipline;
+use orc_heap::{Discipline, Seed};
 use orc_shared_words::{SharedPass, SharedWords};
-use orc_words::{NEW_COUNTER, RowLink, Shape, Word};
+use orc_words::{RowLink, Shape, Word, new_words, pack_link, place_of};
 use std::alloc::Global;
 
 impl<D: Discipline> PlainBoard<D> {
@@ -29,7 +30,7 @@ impl<D: Discipline> PlainBoard<D> {
         seed: Seed<D::Note>,
     ) -> Result<(PlainBoard<D>, Vec<PlainBoardPass<D>>), NoMemory>
         requires holds { D.holds (numbers (bounds_of shape.now)) [] }
-        requires seed { SeedAllowed (D.may (numbers (bounds_of shape.now))) (bounds_of shape.now) seed }
+        requires seed { SeedAllowed D.may (numbers (bounds_of shape.now)) seed }
         ensures bounds { IfOk result (λ made. board_bounds made.0 ≡ bounds_of shape.now) }
         ensures seed { IfOk result (λ made. board_seed made.0 ≡ seed) }
         ensures passes { IfOk result (λ made. length made.1.items ≡ (bounds_of shape.now).agents) }
@@ -71,39 +72,23 @@ fn plain_passes<D: Discipline>(
         .map_err(|_| NoMemory)
 }
 
-// the words of a new table
-fn new_words(alloc: Global, shape: &Shape) -> Result<Vec<u64>, NoMemory>
-    ensures words { IfOk result (λ words. words.items ≡ new_words (bounds_of shape.now)) }
-    ensures long { IfOk result (λ words. length words.items ≡ places (bounds_of shape.now)) }
-{
-    let count = 1
-        + shape.roots() as usize
-        + 5 * shape.rows() as usize
-        + 16 * shape.agents() as usize;
-    let mut words = vec![in alloc; 0u64; count].map_err(|_| NoMemory)?;
-    for row in 0..shape.rows() {
-        words[place_in(shape, Word::Counter(row))] = NEW_COUNTER;
-    }
-    Ok(words)
-}
-
 // the words that the seed's steps leave
 fn opening_words<N>(alloc: Global, shape: &Shape, seed: &Seed<N>) -> Result<Vec<u64>, NoMemory>
-    requires roots { HasRoots (bounds_of shape.now) seed.now }
+    requires roots { HasRoots (numbers (bounds_of shape.now)) seed.now }
     ensures words { IfOk result (λ words. words.items ≡ (run (bounds_of shape.now) (opening_steps seed.now)).words) }
     ensures long { IfOk result (λ words. length words.items ≡ places (bounds_of shape.now)) }
 {
     let mut words = new_words(alloc, shape)?;
     if let Seed::Dummy { first, begin: _ } = seed {
-        let link = word(RowLink {
+        let link = pack_link(RowLink {
             to: Some(0),
             mark: false,
         });
-        words[place_in(shape, Word::Gate(0))] = OUT;
-        words[place_in(shape, Word::First(0))] = 0;
-        words[place_in(shape, Word::Second(0))] = *first;
-        words[place_in(shape, Word::Root(0))] = link;
-        words[place_in(shape, Word::Root(1))] = link;
+        words[place_of(shape, Word::Gate(0))] = OUT;
+        words[place_of(shape, Word::First(0))] = 0;
+        words[place_of(shape, Word::Second(0))] = *first;
+        words[place_of(shape, Word::Root(0))] = link;
+        words[place_of(shape, Word::Root(1))] = link;
     }
     Ok(words)
 }

@@ -7,7 +7,7 @@ ghost use Rattle.orc_table.specs.Views.{Belongs, board_bounds, shows};
 
 use super::*;
 use orc_fault::NoMemory;
-use orc_heap::Discipline;
+use orc_heap::{Discipline, Seed};
 use orc_words::{RowLink, Shape, Word};
 use std::alloc::Global;
 use std::test::Fail;

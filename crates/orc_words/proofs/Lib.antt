@@ -1,1 +1,2 @@
+pub mod NewWords
 pub mod Positions

@@ -2,11 +2,15 @@
 #![tactic(auto)]
 
 mod list;
+mod new_table;
+mod operation;
 mod packed;
 mod place;
 mod shape;
 
 pub use list::Words;
+pub use new_table::{a_new_table_has_each_word, new_words};
+pub use operation::Operation;
 pub use packed::{
     Counter, DECREMENT, INCREMENT, NEW_COUNTER, RETIRED, RowGate, RowLink, named, pack_counter,
     pack_gate, pack_link, read_counter, read_gate, read_link,

@@ -31,25 +31,25 @@ pub enum Word {
 }
 
 /// The place of a word in the table, from 0.
-pub fn place_of(shape: &Shape, word: Word) -> u32
+pub fn place_of(shape: &Shape, word: Word) -> usize
     requires { IsWithin (bounds_of shape.now) word }
     ensures place { result ≡ place (bounds_of shape.now) word }
     ensures inside { result < places (bounds_of shape.now) }
     ensures apart { (other : Word) → IsWithin (bounds_of shape.now) other
         → place (bounds_of shape.now) other ≡ result → other ≡ word }
 {
-    let first_row = 1 + shape.roots();
-    let first_agent = first_row + 5 * shape.rows();
+    let first_row = 1 + shape.roots() as usize;
+    let first_agent = first_row + 5 * shape.rows() as usize;
     match word {
         Word::Enrolled => 0,
-        Word::Root(root) => 1 + root,
-        Word::Gate(row) => first_row + 5 * row,
-        Word::Counter(row) => first_row + 5 * row + 1,
-        Word::First(row) => first_row + 5 * row + 2,
-        Word::Second(row) => first_row + 5 * row + 3,
-        Word::Next(row) => first_row + 5 * row + 4,
-        Word::Slot(agent, slot) => first_agent + 16 * agent + slot,
-        Word::Handover(agent, slot) => first_agent + 16 * agent + 8 + slot,
+        Word::Root(root) => 1 + root as usize,
+        Word::Gate(row) => first_row + 5 * row as usize,
+        Word::Counter(row) => first_row + 5 * row as usize + 1,
+        Word::First(row) => first_row + 5 * row as usize + 2,
+        Word::Second(row) => first_row + 5 * row as usize + 3,
+        Word::Next(row) => first_row + 5 * row as usize + 4,
+        Word::Slot(agent, slot) => first_agent + 16 * agent as usize + slot as usize,
+        Word::Handover(agent, slot) => first_agent + 16 * agent as usize + 8 + slot as usize,
     }
 }
 

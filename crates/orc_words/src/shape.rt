@@ -31,6 +31,7 @@ pub enum ShapeFault {
 impl Shape {
     ghost use Rattle.std.specs.Prelude.{IfOk, IfErr};
     ghost use Rattle.orc_words.specs.Bounds.{Bounds, bounds_of, IsShape, IsFirstFault};
+    ghost use Rattle.orc_words.specs.Places.{places};
 
     /// A shape of 2 to 65,535 rows, 1 to 257 roots and 1 to 16 agents, with a limit of 1 to 2^39.
     pub fn new(rows: u32, roots: u32, agents: u32, limit: u64) -> Result<Shape, ShapeFault>
@@ -86,5 +87,11 @@ impl Shape {
         ensures { result ≡ (bounds_of self.now).limit }
     {
         self.limit
+    }
+    /// The number of words of a table.
+    pub fn words(&self) -> u32
+        ensures { result ≡ places (bounds_of self.now) }
+    {
+        1 + self.roots + 5 * self.rows + 16 * self.agents
     }
 }

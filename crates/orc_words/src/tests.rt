@@ -1,14 +1,16 @@
 //! Worked examples of the definitions, and the calls at concrete values.
 
-ghost use Rattle.std.specs.Prelude.{◌≡◌, ◌≢◌, ◌+◌, ◌<◌, ◌^◌, Some, None, true, false, pos, negsuc};
+ghost use Rattle.std.specs.Prelude.{◌≡◌, ◌≢◌, ◌+◌, ◌<◌, ◌^◌, Some, None, true, false, pos, negsuc, slice_index};
 ghost use Rattle.orc_words.specs.Bounds.{Bounds, IsShape, IsFirstFault};
+ghost use Rattle.orc_words.specs.NewWords.{first_word, new_word, new_words};
+ghost use Rattle.orc_words.specs.Operations.{answer_of, word_after};
 ghost use Rattle.orc_words.specs.Packed.{named, link_word, link_of, counter_word, counter_of, gate_word, gate_of};
 ghost use Rattle.orc_words.specs.Places.{IsWithin, place, places};
 
 use super::*;
 use std::test::Fail;
 
-/// Row 4 with a mark is 2 × 5 + 1, and the greatest link word names row 65,534.
+// Row 4 with a mark is 2 × 5 + 1, and the greatest link word names row 65,534.
 fn link_words()
     ensures null { link_word (record { to = None; mark = false }) ≡ 0 }
     ensures marked_null { link_word (record { to = None; mark = true }) ≡ 1 }
@@ -18,14 +20,14 @@ fn link_words()
     ensures other_row { link_word (record { to = Some 4; mark = false }) ≢ 8 }
 {}
 
-/// A slot that names row 3 holds 4; 0 and 65,536 name no row.
+// A slot that names row 3 holds 4; 0 and 65,536 name no row.
 fn names()
     ensures row { named 4 ≡ Some 3 }
     ensures none { named 0 ≡ None }
     ensures above { named 65536 ≡ None }
 {}
 
-/// Count -1 with the bit and sequence 2: 2 × 2^24 + 2^23 + (2^22 - 1).
+// Count -1 with the bit and sequence 2: 2 × 2^24 + 2^23 + (2^22 - 1).
 fn counter_words()
     ensures new_row { counter_word (record { count = pos 0; retired = false; sequence = 0 }) ≡ 4194304 }
     ensures below_zero { counter_word (record { count = negsuc 0; retired = true; sequence = 2 }) ≡ 46137343 }
@@ -35,14 +37,14 @@ fn counter_words()
     ensures no_bit { counter_of 4194304 ≢ record { count = pos 0; retired = true; sequence = 0 } }
 {}
 
-/// The second life of a row that is out is 2 × 2 + 1.
+// The second life of a row that is out is 2 × 2 + 1.
 fn gate_words()
     ensures out { gate_word (record { life = 2; out = true }) ≡ 5 }
     ensures free { gate_of 4 ≡ record { life = 2; out = false } }
     ensures not_out { gate_of 4 ≢ record { life = 2; out = true } }
 {}
 
-/// Two rows, one root and two agents: 1 + 1 + 5 × 2 + 16 × 2 words.
+// Two rows, one root and two agents: 1 + 1 + 5 × 2 + 16 × 2 words.
 fn word_places()
     ensures all { places (record { rows = 2; roots = 1; agents = 2; limit = 8 }) ≡ 44 }
     ensures second_gate { place (record { rows = 2; roots = 1; agents = 2; limit = 8 }) (Word.Gate 1) ≡ 7 }
@@ -52,7 +54,27 @@ fn word_places()
     ensures no_ninth_slot { ¬ IsWithin (record { rows = 2; roots = 1; agents = 2; limit = 8 }) (Word.Slot 0 8) }
 {}
 
-/// One row is too few, and 17 agents are named only where rows and roots are in range.
+// In that table place 3 is the counter of row 0, and place 2 its gate.
+fn words_of_a_new_table()
+    ensures counter { first_word (record { rows = 2; roots = 1; agents = 2; limit = 8 }) 3 ≡ 4194304 }
+    ensures gate { first_word (record { rows = 2; roots = 1; agents = 2; limit = 8 }) 2 ≡ 0 }
+    ensures second_counter { slice_index (new_words (record { rows = 2; roots = 1; agents = 2; limit = 8 })) 8 ≡ new_word (Word.Counter 1) }
+    ensures slot { new_word (Word.Slot 1 2) ≡ 0 }
+{}
+
+// What the operations leave and answer.
+fn operations()
+    ensures taken { word_after (Operation.CompareExchange 0 3) 0 ≡ 3 }
+    ensures not_taken { word_after (Operation.CompareExchange 0 3) 2 ≡ 2 }
+    ensures failed { answer_of (Operation.CompareExchange 0 3) 2 ≡ 0 }
+    ensures incremented { word_after (Operation.Add 16777217) 4194304 ≡ 20971521 }
+    ensures bit_cleared { word_after (Operation.Sub 8388608) 46137344 ≡ 37748736 }
+    ensures wraps { word_after (Operation.Sub 1) 0 ≡ 18446744073709551615 }
+    ensures stored { answer_of (Operation.Store 5) 9 ≡ 5 }
+    ensures swapped { answer_of (Operation.Swap 5) 9 ≡ 9 }
+{}
+
+// One row is too few, and 17 agents are named only where rows and roots are in range.
 fn shape_ranges()
     ensures fits { IsShape (record { rows = 65535; roots = 257; agents = 16; limit = 549755813888 }) }
     ensures few_rows { IsFirstFault (record { rows = 1; roots = 1; agents = 17; limit = 1 }) (ShapeFault.Rows 1) }
@@ -122,11 +144,37 @@ fn places_of_a_small_table(rt: HostRuntime) -> Result<(), Fail> {
         assert_eq!(rt; place_in_small(&shape, word), want);
     }
     different_words_have_different_places();
+    assert_eq!(rt; shape.words(), 44);
+    let words = new_words(rt.alloc(), &shape)?;
+    assert_eq!(rt; words.len(), 44);
+    assert_eq!(rt;
+        (words[2], words[3], words[8]),
+        (0, NEW_COUNTER, NEW_COUNTER)
+    );
+    a_new_table_has_each_word();
     Ok(())
 }
 
-/// The place of a word that the small table has; the end of the table for another.
-fn place_in_small(shape: &Shape, word: Word) -> u32 {
+#[test]
+fn what_operations_leave_and_answer(rt: HostRuntime) {
+    for (operation, word, left, answer) in [
+        (Operation::Load, 7, 7, 7),
+        (Operation::Store(5), 7, 5, 5),
+        (Operation::Swap(5), 7, 5, 7),
+        (Operation::Add(u64::MAX), 7, 6, 7),
+        (Operation::Sub(8), 7, u64::MAX, 7),
+        (Operation::CompareExchange(7, 5), 7, 5, 1),
+        (Operation::CompareExchange(6, 5), 7, 7, 0),
+    ] {
+        assert_eq!(rt;
+            (operation.word_after(word), operation.answer(word)),
+            (left, answer)
+        );
+    }
+}
+
+// The place of a word that the small table has; the end of the table for another.
+fn place_in_small(shape: &Shape, word: Word) -> usize {
     let within = match word {
         Word::Enrolled => true,
         Word::Root(root) => root < shape.roots(),

@@ -4,18 +4,18 @@ ghost use Rattle.std.specs.Prelude.{◌≡◌, ◌≢◌, ℕ, ◌+◌, ◌∷�
 ghost use Rattle.orc_core.specs.declared.records.Agent.{Agent};
 ghost use Rattle.orc_core.specs.Listed.{listed_more, listed_name, listed_rest, first_is};
 ghost use Rattle.orc_core.specs.RecordParts.{any_holds, checked_below, holds, is_clear, names, scan_empty};
-ghost use Rattle.orc_core.specs.Actions.{action_of, answer_of, clear_word, word_after, IsPackable};
+ghost use Rattle.orc_core.specs.Actions.{action_of, clear_word, IsPackable};
 ghost use Rattle.orc_core.specs.After.{after, bared, cut_of, due_after, promoted, scan_on, IsRecordable};
 ghost use Rattle.orc_core.specs.Allowed.{fits, forced, in_order, may, may_change, may_place};
-ghost use Rattle.orc_core.specs.Machine.{answer, first_word, has_room, is_allowed, new_machine, nobody, step, word_in};
+ghost use Rattle.orc_core.specs.Machine.{answer, has_room, is_allowed, new_machine, nobody, step, word_in};
 ghost use Rattle.orc_core.specs.Runs.{IsLawful, run};
 ghost use Rattle.orc_core.specs.Sums.{count_below, some_below, sum_below};
 ghost use Rattle.orc_core.specs.Counts.{census_of, is_target, links_to};
 
-use crate::{Op, Operation, SlotUse};
-use orc_words::Word;
+use crate::{Op, SlotUse};
+use orc_words::{Operation, Word};
 
-/// A work list is taken from at its front and added to at its end.
+// A work list is taken from at its front and added to at its end.
 fn work_lists()
     ensures more { listed_more (record { items = 4 ∷ []; room = 9 }) 7 ≡ record { items = 4 ∷ 7 ∷ []; room = 9 } }
     ensures rest { listed_rest (record { items = 4 ∷ 7 ∷ []; room = 9 }) ≡ record { items = 7 ∷ []; room = 9 } }
@@ -24,7 +24,7 @@ fn work_lists()
     ensures not_last { first_is (4 ∷ 7 ∷ []) 7 ≡ false }
 {}
 
-/// 37,748,736 is 2 × 2^24 + 2^22: count 0, no bit, sequence 2. With the bit it is 46,137,344.
+// 37,748,736 is 2 × 2^24 + 2^22: count 0, no bit, sequence 2. With the bit it is 46,137,344.
 fn parts()
     ensures named { names (Some 3) 3 ≡ true }
     ensures not_named { names None 0 ≡ false }
@@ -37,21 +37,9 @@ fn parts()
     ensures count_1 { is_clear 20971521 ≡ false }
 {}
 
-/// What the operations leave and answer.
-fn operations()
-    ensures taken { word_after (Operation.CompareExchange 0 3) 0 ≡ 3 }
-    ensures not_taken { word_after (Operation.CompareExchange 0 3) 2 ≡ 2 }
-    ensures failed { answer_of (Operation.CompareExchange 0 3) 2 ≡ 0 }
-    ensures incremented { word_after (Operation.Add 16777217) 4194304 ≡ 20971521 }
-    ensures bit_cleared { word_after (Operation.Sub 8388608) 46137344 ≡ 37748736 }
-    ensures wraps { word_after (Operation.Sub 1) 0 ≡ 18446744073709551615 }
-    ensures stored { answer_of (Operation.Store 5) 9 ≡ 5 }
-    ensures swapped { answer_of (Operation.Swap 5) 9 ≡ 9 }
-    ensures sequence_2 { clear_word 2 ≡ 37748736 }
-{}
-
-/// Scan place 10 is slot 2 of agent 1, and slot words hold the row + 1.
+// Scan place 10 is slot 2 of agent 1, and slot words hold the row + 1.
 fn actions()
+    ensures sequence_2 { clear_word 2 ≡ 37748736 }
     ensures look { action_of 0 (Op.SlotLook 10) (nobody 2) ≡ record { word = Word.Slot 1 2; operation = Operation.Load } }
     ensures hand { action_of 0 (Op.Hand 10) (record (nobody 2) { scan = Some (record { row = 6; word = 4194304; place = 10; found = true }) }) ≡ record { word = Word.Handover 1 2; operation = Operation.Swap 7 } }
     ensures arm { action_of 3 (Op.Arm 6) (nobody 2) ≡ record { word = Word.Slot 3 0; operation = Operation.Store 7 } }
@@ -60,7 +48,7 @@ fn actions()
     ensures too_far { ¬ IsPackable (Op.SetRetired 0 1099511627776) (nobody 2) }
 {}
 
-/// What follows from the word that was read.
+// What follows from the word that was read.
 fn records()
     ensures taken { (after (Op.GateTake 1) (record (nobody 2) { looked = Some (record { row = 1; number = 3 }) }) 6).fresh ≡ Some 1 }
     ensures lost { (after (Op.GateTake 1) (record (nobody 2) { looked = Some (record { row = 1; number = 3 }) }) 9).fresh ≡ None }
@@ -75,7 +63,7 @@ fn records()
     ensures ninth_slot { ¬ IsRecordable (Op.Clear 8) (nobody 2) }
 {}
 
-/// A due row stands before a pending increment, and that before a pending decrement.
+// A due row stands before a pending increment, and that before a pending decrement.
 fn order()
     ensures due { in_order (Some (record { row = 1; number = 2 })) (Some 3) (Some 4) (Op.SetRetired 1 2) ≡ true }
     ensures not_inc { in_order (Some (record { row = 1; number = 2 })) (Some 3) (Some 4) (Op.Inc 3) ≡ false }
@@ -86,7 +74,7 @@ fn order()
     ensures free { in_order None None None Op.Enroll ≡ true }
 {}
 
-/// An agent that isn't enrolled may only enroll, and a look is for every row of the table.
+// An agent that isn't enrolled may only enroll, and a look is for every row of the table.
 fn permissions()
     ensures enroll { may (record { rows = 2; roots = 1; agents = 2; limit = 8 }) 1 1 Op.Enroll (nobody 2) ≡ true }
     ensures too_early { may (record { rows = 2; roots = 1; agents = 2; limit = 8 }) 0 1 Op.Enroll (nobody 2) ≡ false }
@@ -99,10 +87,8 @@ fn permissions()
     ensures gate { may_place (record { rows = 2; roots = 1; agents = 2; limit = 8 }) (Word.Gate 0) (λ r. true) ≡ false }
 {}
 
-/// Place 3 is the counter of row 0 in a table of one root, and place 2 its gate.
+// The first agent enrolls first.
 fn states()
-    ensures counter { first_word (record { rows = 2; roots = 1; agents = 2; limit = 8 }) 3 ≡ 4194304 }
-    ensures gate { first_word (record { rows = 2; roots = 1; agents = 2; limit = 8 }) 2 ≡ 0 }
     ensures enrolled { word_in (step (new_machine (record { rows = 2; roots = 1; agents = 2; limit = 8 })) 0 Op.Enroll) Word.Enrolled ≡ 1 }
     ensures answered { answer (new_machine (record { rows = 2; roots = 1; agents = 2; limit = 8 })) 0 Op.Enroll ≡ 0 }
     ensures room { has_room (new_machine (record { rows = 2; roots = 1; agents = 2; limit = 8 })) 0 ≡ true }
@@ -110,7 +96,7 @@ fn states()
     ensures not_lawful { ¬ IsLawful (new_machine (record { rows = 2; roots = 1; agents = 2; limit = 8 })) ((1, Op.Enroll) ∷ []) }
 {}
 
-/// 0 + 1 + 2 + 3, and which of these are below 2.
+// 0 + 1 + 2 + 3, and which of these are below 2.
 fn sums()
     ensures sum { sum_below 4 (λ i. i) ≡ 6 }
     ensures count { count_below 4 (λ i. nat_lt i 2) ≡ 2 }

@@ -9,8 +9,7 @@ ghost use Rattle.orc_domain.specs.Passes.{domain_bounds, domain_numbers, seat_of
 
 use super::{Domain, Pass};
 use links_example::OwnRoots;
-use orc_heap::{At, Held, Links, Looked, Want};
-use orc_table::Seed;
+use orc_heap::{At, Held, Links, Looked, Seed, Want};
 use orc_words::Shape;
 use std::test::Fail;
 

@@ -1,38 +1,33 @@
 -- One event more: entries, Puts and Begins of a list of events.
-use Rattle.std.proofs.Common.{Bool, Contains, List, Some, [], ap, append-nil, append_assoc, arith, false, inl, inr, refl, suc, sym, true, zero, ℕ, ◌++◌, ◌+◌, ◌∙◌, ◌∷◌, ◌≡◌, ◌⊎◌}
+use Rattle.std.proofs.Common.{Bool, Contains, List, Some, [], ap, append-nil, arith, false, inl, inr, refl, suc, sym, true, zero, ℕ, ◌++◌, ◌+◌, ◌∙◌, ◌∷◌, ◌≡◌, ◌⊎◌}
 use Rattle.std.proofs.lemmas.List.Elements.{Contains-append_cases, Contains-append_right}
 use Rattle.std.proofs.lemmas.List.Folds.{list_any-append}
 use Rattle.std.specs.Prelude.{◌&&◌, ◌||◌}
+use Rattle.orc_heap.proofs.OwnEntries.{noted-snoc}
 use Rattle.orc_heap.specs.declared.events.Act.TheVariants.{Move}
 use Rattle.orc_heap.specs.declared.events.Event.{Event}
 use Rattle.orc_heap.specs.declared.events.Link.{Link}
 use Rattle.orc_heap.specs.declared.events.Place.{Place}
-use Rattle.orc_history.specs.Journals.{Every}
 use Rattle.orc_history.specs.QueueHistory.{puts_in}
 use Rattle.orc_history.specs.declared.queue.QueueEntry.{QueueEntry}
 use Rattle.orc_history.specs.declared.queue.QueueEntry.TheVariants.{Put}
 use Rattle.orc_history.proofs.Histories.{puts_in-append}
 use Rattle.orc_fifo_rule.specs.declared.fifo.FifoNote.{FifoNote}
 use Rattle.orc_fifo_rule.specs.declared.fifo.FifoNote.TheVariants.{Entry}
-use Rattle.orc_fifo_rule.specs.QueueDiscipline.{IsPutNode, entries_in, entries_of, has_begun, is_begin_of, link_to, root_has_begun}
-
-pub entries_of-append : (es fs : List (Event FifoNote)) → entries_of (es ++ fs) ≡ entries_of es ++ entries_of fs
-entries_of-append [] fs = refl
-entries_of-append (e ∷ es) fs = ap (λ z. entries_in e.note ++ z) (entries_of-append es fs) ∙ sym (append_assoc (entries_in e.note) (entries_of es) (entries_of fs))
-
-pub entries_of-snoc : (es : List (Event FifoNote)) (e : Event FifoNote) → entries_of (es ++ e ∷ []) ≡ entries_of es ++ entries_in e.note
-entries_of-snoc es e = entries_of-append es (e ∷ []) ∙ ap (λ z. entries_of es ++ z) (append-nil (entries_in e.note))
+use Rattle.orc_fifo_rule.specs.QueueDiscipline.{IsPutNode, entries_in, entries_of, has_begun, is_begin_of, root_has_begun}
+use Rattle.std.specs.List.{AllByRecursion}
+use Rattle.orc_heap.specs.Heap.{link_to}
 
 -- no entry
 pub entries_same : (es : List (Event FifoNote)) (e : Event FifoNote) → entries_in e.note ≡ [] → entries_of (es ++ e ∷ []) ≡ entries_of es
-entries_same es e none = entries_of-snoc es e ∙ (ap (λ z. entries_of es ++ z) none ∙ append-nil (entries_of es))
+entries_same es e none = noted-snoc entries_in es e ∙ (ap (λ z. entries_of es ++ z) none ∙ append-nil (entries_of es))
 
 -- one entry
 pub entries_more : (es : List (Event FifoNote)) (e : Event FifoNote) (entry : QueueEntry) → e.note ≡ Some (Entry entry) → entries_of (es ++ e ∷ []) ≡ entries_of es ++ entry ∷ []
-entries_more es e entry note_is = entries_of-snoc es e ∙ ap (λ z. entries_of es ++ entries_in z) note_is
+entries_more es e entry note_is = noted-snoc entries_in es e ∙ ap (λ z. entries_of es ++ entries_in z) note_is
 
 pub puts_snoc : (es : List (Event FifoNote)) (e : Event FifoNote) → puts_in (entries_of (es ++ e ∷ [])) ≡ puts_in (entries_of es) + puts_in (entries_in e.note)
-puts_snoc es e = ap puts_in (entries_of-snoc es e) ∙ puts_in-append (entries_of es) (entries_in e.note)
+puts_snoc es e = ap puts_in (noted-snoc entries_in es e) ∙ puts_in-append (entries_of es) (entries_in e.note)
 
 pub contains_one : {A : Type 0} (x y : A) → Contains (x ∷ []) y → x ≡ y
 contains_one x y (zero, low, is) = is
@@ -58,7 +53,7 @@ put_last es e id by job at place from act_is note_is =
     record { event = e; by = by; place = place; from = from; among = contains_last es e; act_is = act_is; note_is = note_is }
 
 -- a fact of each event
-pub every_more : {A : Type 0} (P : A → Type 0) (xs : List A) (x : A) → Every P xs → P x → Every P (xs ++ x ∷ [])
+pub every_more : {A : Type 0} (P : A → Type 0) (xs : List A) (x : A) → AllByRecursion P xs → P x → AllByRecursion P (xs ++ x ∷ [])
 every_more P [] x all one = (one, tt)
 every_more P (y ∷ ys) x all one = (all.0, every_more P ys x all.1 one)
 

@@ -4,25 +4,25 @@ use Rattle.orc_heap.proofs.Runs.{lawful-snoc, run_heap-snoc}
 use Rattle.orc_heap.specs.Acts.{as_linked, heap_after, set_link}
 use Rattle.orc_heap.specs.Allowed.{IsLinkedNode, MovesLinked, Rises}
 use Rattle.orc_heap.specs.Heap.{Heap, HeapNumbers, null}
-use Rattle.orc_heap.specs.Journals.{FitsAfter, IsPlain, IsPlainAct, run_heap}
+use Rattle.orc_heap.specs.Journals.{FitsAfter, IsPlain, IsPlainAct, run_heap, event_by}
 use Rattle.orc_heap.specs.declared.events.Act.{Act}
 use Rattle.orc_heap.specs.declared.events.Act.TheVariants.{Aim, Fill, Give, Look, Miss, Move}
 use Rattle.orc_heap.specs.declared.events.Event.{Event}
 use Rattle.orc_heap.specs.declared.events.Link.{Link}
 use Rattle.orc_heap.specs.declared.events.Place.TheVariants.{Next, Root}
-use Rattle.orc_history.specs.Journals.{Every}
 use Rattle.orc_history.specs.QueueHistory.{IsLegalQueue, waiting_after}
 use Rattle.orc_fifo_rule.specs.declared.fifo.FifoNote.{FifoNote}
 use Rattle.orc_fifo_rule.specs.declared.fifo.FifoNote.TheVariants.{Begin}
 use Rattle.orc_fifo_rule.specs.QueueDiscipline.{BeginsIfMoves, FifoHolds, FifoMay, IsInTime, IsOpening, IsRunning, LeadsOn, MayAct, MayEnter, entries_of, fifo_rank, has_begun, is_begin_of, position_of}
-use Rattle.orc_fifo_rule.specs.Watches.{event_of}
-use Rattle.orc_fifo_rule.specs.Kept.Kinds.{each_kind, link_same, some_same}
+use Rattle.orc_fifo_rule.specs.Kept.Kinds.{each_kind}
 use Rattle.orc_fifo_rule.specs.Kept.Nodes.{job_linked, job_position}
 use Rattle.orc_fifo_rule.specs.Kept.Events.{and_both, entries_same, every_more, not_begun_before, root_begun_before}
 use Rattle.orc_fifo_rule.specs.Kept.Opening.{begun_root, no_puts}
-use Rattle.orc_fifo_rule.specs.Kept.Paths.{shown_node, tail_linked}
+use Rattle.orc_fifo_rule.specs.Kept.Paths.{tail_linked}
 use Rattle.orc_fifo_rule.specs.Kept.Leaves.{frozen_next, legal_next, links_next, puts_next, target_at}
 use Rattle.orc_fifo_rule.specs.Kept.Running.{running_next}
+use Rattle.std.specs.List.{AllByRecursion}
+use Rattle.orc_heap.proofs.SingleActs.{link_same, node_shown, some_same}
 
 pub fifo_fits : (n : HeapNumbers) (seen : List (Event FifoNote)) (e : Event FifoNote) → FifoHolds n seen → FifoMay n seen e → FitsAfter n seen e
 fifo_fits n seen e holds may = may.fits
@@ -80,15 +80,15 @@ late b e f = let bad : false ≡ true = sym e ∙ f in cc
 
 -- the event is plain or a Begin
 opening_entries : (n : HeapNumbers) (es : List (Event FifoNote)) (e : Event FifoNote) → FifoHolds n es → FifoMay n es e → has_begun es ≡ false
-    → (entries_of (es ++ e ∷ []) ≡ []) × Every (λ (x : Event FifoNote). BeginsIfMoves x.act x.note) (es ++ e ∷ [])
+    → (entries_of (es ++ e ∷ []) ≡ []) × AllByRecursion (λ (x : Event FifoNote). BeginsIfMoves x.act x.note) (es ++ e ∷ [])
 opening_entries n es e holds may early =
     let o = holds.opening early in
     each_kind (run_heap n es)
-    (λ act noted. IsInTime (has_begun es) noted → (entries_of (es ++ event_of e.agent act noted ∷ []) ≡ []) × Every (λ (x : Event FifoNote). BeginsIfMoves x.act x.note) (es ++ event_of e.agent act noted ∷ []))
-    (λ act plain time. (entries_same es (event_of e.agent act None) refl ∙ o.none, every_more (λ (x : Event FifoNote). BeginsIfMoves x.act x.note) es (event_of e.agent act None) o.begins (plain_begins act plain)))
+    (λ act noted. IsInTime (has_begun es) noted → (entries_of (es ++ event_by e.agent act noted ∷ []) ≡ []) × AllByRecursion (λ (x : Event FifoNote). BeginsIfMoves x.act x.note) (es ++ event_by e.agent act noted ∷ []))
+    (λ act plain time. (entries_same es (event_by e.agent act None) refl ∙ o.none, every_more (λ (x : Event FifoNote). BeginsIfMoves x.act x.note) es (event_by e.agent act None) o.begins (plain_begins act plain)))
     (λ r from to m time. (
-      entries_same es (event_of e.agent (Move (Root r) from to) (Some Begin)) refl ∙ o.none,
-      every_more (λ (x : Event FifoNote). BeginsIfMoves x.act x.note) es (event_of e.agent (Move (Root r) from to) (Some Begin)) o.begins (m.root_is, m.from_is, m.to_is, refl),
+      entries_same es (event_by e.agent (Move (Root r) from to) (Some Begin)) refl ∙ o.none,
+      every_more (λ (x : Event FifoNote). BeginsIfMoves x.act x.note) es (event_by e.agent (Move (Root r) from to) (Some Begin)) o.begins (m.root_is, m.from_is, m.to_is, refl),
     ))
     (λ r from to m time. absurd (late (has_begun es) early time))
     (λ r from to by job at m time. absurd (late (has_begun es) early time))
@@ -118,10 +118,10 @@ begun_zero : (n : HeapNumbers) (es : List (Event FifoNote)) (e : Event FifoNote)
 begun_zero n es e holds may early now =
     let h : Heap = run_heap n es in
     each_kind h
-    (λ act noted. IsInTime (has_begun es) noted → has_begun (es ++ event_of e.agent act noted ∷ []) ≡ true → IsLinkedNode (run_heap n (es ++ event_of e.agent act noted ∷ [])) 0)
+    (λ act noted. IsInTime (has_begun es) noted → has_begun (es ++ event_by e.agent act noted ∷ []) ≡ true → IsLinkedNode (run_heap n (es ++ event_by e.agent act noted ∷ [])) 0)
     (λ act plain time is.
     let (zero_begun, one_begun) = and_both _ _ is in
-    let x : Event FifoNote = event_of e.agent act None in
+    let x : Event FifoNote = event_by e.agent act None in
     elim (root_begun_before 0 es x zero_begun) [
       | inl a ↦ elim (root_begun_before 1 es x one_begun) [
         | inl b ↦ absurd (late (has_begun es) early (rw (a, b) refl))
@@ -130,8 +130,8 @@ begun_zero n es e holds may early now =
       | inr a ↦ absurd (plain_is_no_begin 0 act a)
     ])
     (λ r from to m time is.
-    let (node, there, link_is) = shown_node h 0 null m.ends in
-    let x : Event FifoNote = event_of e.agent (Move (Root r) from to) (Some Begin) in
+    let (node, there, link_is) = node_shown h 0 null m.ends in
+    let x : Event FifoNote = event_by e.agent (Move (Root r) from to) (Some Begin) in
     let linked : IsLinkedNode (heap_after e.agent (Move (Root r) from to) h) 0 =
     record { node = as_linked node; there = target_at as_linked to 0 (set_link (Root r) to h) node m.to_is there; linked = refl } in
     subst (λ (g : Heap). IsLinkedNode g 0) (sym (run_heap-snoc n es x)) linked)

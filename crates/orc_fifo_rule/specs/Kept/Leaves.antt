@@ -6,9 +6,9 @@ use Rattle.orc_heap.proofs.Before.{IsLinkedBy, linked_before}
 use Rattle.orc_heap.proofs.Changes.{get-change_other, get-change_same}
 use Rattle.orc_heap.proofs.Runs.{run_heap-snoc}
 use Rattle.orc_heap.specs.Acts.{Fits, as_linked, change_node, change_target, heap_after, moved_link, with_link}
-use Rattle.orc_heap.specs.Allowed.{IsLinkedNode}
-use Rattle.orc_heap.specs.Heap.{Heap, HeapNumbers, Node, null, shown}
-use Rattle.orc_heap.specs.Journals.{names_node, run_heap}
+use Rattle.orc_heap.specs.Allowed.{IsLinkedNode, HasLink}
+use Rattle.orc_heap.specs.Heap.{Heap, HeapNumbers, Node, null, shown, link_to}
+use Rattle.orc_heap.specs.Journals.{names_node, run_heap, event_by}
 use Rattle.orc_heap.specs.declared.events.Act.TheVariants.{Move}
 use Rattle.orc_heap.specs.declared.events.Event.{Event}
 use Rattle.orc_heap.specs.declared.events.Link.{Link}
@@ -18,12 +18,13 @@ use Rattle.orc_history.specs.declared.queue.QueueEntry.{QueueEntry}
 use Rattle.orc_history.specs.declared.queue.QueueEntry.TheVariants.{Empty, Put, Took}
 use Rattle.orc_fifo_rule.specs.declared.fifo.FifoNote.{FifoNote}
 use Rattle.orc_fifo_rule.specs.declared.fifo.FifoNote.TheVariants.{Begin, Entry, Swing}
-use Rattle.orc_fifo_rule.specs.QueueDiscipline.{FifoHolds, FifoMay, HasJob, HasLink, IsInTime, IsPutNode, IsRunning, LeadsOn, MayEnter, MayPut, entries_in, entries_of, has_begun, link_to, position_of}
-use Rattle.orc_fifo_rule.specs.Watches.{event_of}
-use Rattle.orc_fifo_rule.specs.Kept.Kinds.{each_kind, link_moved, link_same, plain_moves, some_same}
-use Rattle.orc_fifo_rule.specs.Kept.Nodes.{job_next, link_kept, link_next, link_shown, position_next, put_grown, shown_link, some_next}
-use Rattle.orc_fifo_rule.specs.Kept.Events.{entries_of-snoc, put_before, put_last}
+use Rattle.orc_fifo_rule.specs.QueueDiscipline.{FifoHolds, FifoMay, HasJob, IsInTime, IsPutNode, IsRunning, LeadsOn, MayEnter, MayPut, entries_in, entries_of, has_begun, position_of}
+use Rattle.orc_fifo_rule.specs.Kept.Kinds.{each_kind}
+use Rattle.orc_fifo_rule.specs.Kept.Nodes.{job_next, link_kept, link_next, position_next, put_grown, some_next}
+use Rattle.orc_fifo_rule.specs.Kept.Events.{put_before, put_last}
 use Rattle.orc_fifo_rule.specs.Kept.Paths.{head_steps, put_at_last, successor_linked, tail_linked, tail_steps}
+use Rattle.orc_heap.proofs.SingleActs.{link_moved, link_same, link_shown, plain_moves, shown_link, some_same}
+use Rattle.orc_heap.proofs.OwnEntries.{noted-snoc}
 
 -- the position of a legal Put
 pub legal_put : (next : ℕ) (waiting : List (ℕ × ℕ)) (es : List QueueEntry) (agent job at : ℕ) → IsLegalFrom next waiting (es ++ Put agent job at ∷ []) → at ≡ next + puts_in es
@@ -42,7 +43,7 @@ legal_more first history agent (Some (Entry entry)) legal may = may.1
 pub legal_next : (n : HeapNumbers) (es : List (Event FifoNote)) (e : Event FifoNote) → FifoHolds n es → FifoMay n es e → IsRunning (run_heap n es) es
     → IsLegalQueue (position_of (run_heap n (es ++ e ∷ [])) 0) (entries_of (es ++ e ∷ []))
 legal_next n es e holds may run =
-    rw (position_next n es e 0 may run.zero, entries_of-snoc es e) (legal_more (position_of (run_heap n es) 0) (entries_of es) e.agent e.note holds.legal may.may_enter)
+    rw (position_next n es e 0 may run.zero, noted-snoc entries_in es e) (legal_more (position_of (run_heap n es) 0) (entries_of es) e.agent e.note holds.legal may.may_enter)
 
 -- a Put comes after the Begins, and its position is the second value of the node at whose link it stands
 pub put_runs : (n : HeapNumbers) (es : List (Event FifoNote)) (e : Event FifoNote) (entry : QueueEntry) → FifoHolds n es → FifoMay n es e → e.note ≡ Some (Entry entry) → IsRunning (run_heap n es) es
@@ -83,10 +84,10 @@ put_tail n es e t entry holds may note_is root =
     subst (λ (x : ℕ). IsLinkedNode (run_heap n es) x) (link_same run.tail t (some_same (sym run.tail_is ∙ root))) (tail_linked (run_heap n es) es run)
 
 pub put_has_job : (n : HeapNumbers) (es : List (Event FifoNote)) (agent t by job at : ℕ) (from to : Link) → FifoHolds n es
-    → (may : FifoMay n es (event_of agent (Move (Next t) from to) (Some (Entry (Put by job at)))))
-    → HasJob (run_heap n (es ++ event_of agent (Move (Next t) from to) (Some (Entry (Put by job at))) ∷ [])) may.may_act.id job at
+    → (may : FifoMay n es (event_by agent (Move (Next t) from to) (Some (Entry (Put by job at)))))
+    → HasJob (run_heap n (es ++ event_by agent (Move (Next t) from to) (Some (Entry (Put by job at))) ∷ [])) may.may_act.id job at
 put_has_job n es agent t by job at from to holds may =
-    let e = event_of agent (Move (Next t) from to) (Some (Entry (Put by job at))) in
+    let e = event_by agent (Move (Next t) from to) (Some (Entry (Put by job at))) in
     let m = may.may_act in
     let l = put_tail n es e t (Put by job at) holds may refl m.tail_is in
     rw (run_heap-snoc n es e) (record {
@@ -105,8 +106,8 @@ puts_next n es e id job at holds may put =
       | inr new ↦
           let (by, place, from, act_is, note_is) = new in
           each_kind (run_heap n es)
-          (λ act noted. act ≡ Move place from (link_to id) → noted ≡ Some (Entry (Put by job at)) → FifoMay n es (event_of e.agent act noted)
-          → HasJob (run_heap n (es ++ event_of e.agent act noted ∷ [])) id job at)
+          (λ act noted. act ≡ Move place from (link_to id) → noted ≡ Some (Entry (Put by job at)) → FifoMay n es (event_by e.agent act noted)
+          → HasJob (run_heap n (es ++ event_by e.agent act noted ∷ [])) id job at)
           (λ act plain a b m. let bad : ⊥ = cc in absurd bad)
           (λ r x y k a b m. let bad : ⊥ = cc in absurd bad)
           (λ r x y k a b m. let bad : ⊥ = cc in absurd bad)
@@ -116,7 +117,7 @@ puts_next n es e id job at holds may put =
           let job_is : j ≡ job = cc in
           let at_is : p ≡ at = cc in
           let id_is : m.may_act.id ≡ id = link_same m.may_act.id id (sym m.may_act.to_is ∙ to_is) in
-          let g = run_heap n (es ++ event_of e.agent (Move (Next t) x y) (Some (Entry (Put z j p))) ∷ []) in
+          let g = run_heap n (es ++ event_by e.agent (Move (Next t) x y) (Some (Entry (Put z j p))) ∷ []) in
           subst (λ (i : ℕ). HasJob g i job at) id_is (subst (λ (i : ℕ). HasJob g m.may_act.id job i) at_is (subst (λ (i : ℕ). HasJob g m.may_act.id i p) job_is (put_has_job n es e.agent t z j p x y holds m))))
           (λ d l z k a b m. let bad : ⊥ = cc in absurd bad)
           e.act e.note may.may_act act_is note_is may

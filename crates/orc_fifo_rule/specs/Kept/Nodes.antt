@@ -6,8 +6,8 @@ use Rattle.std.specs.Prelude.{unwrap_or}
 use Rattle.orc_heap.proofs.Linked.{linked_after}
 use Rattle.orc_heap.proofs.Runs.{run_heap-snoc}
 use Rattle.orc_heap.specs.Acts.{Fits, StaysLinked, moved_link}
-use Rattle.orc_heap.specs.Allowed.{IsLinkedNode}
-use Rattle.orc_heap.specs.Heap.{Heap, HeapNumbers, Node, null, shown}
+use Rattle.orc_heap.specs.Allowed.{IsLinkedNode, HasLink}
+use Rattle.orc_heap.specs.Heap.{Heap, HeapNumbers, Node, null, shown, link_to}
 use Rattle.orc_heap.specs.Journals.{run_heap}
 use Rattle.orc_heap.specs.declared.events.Act.{Act}
 use Rattle.orc_heap.specs.declared.events.Act.TheVariants.{Move}
@@ -17,20 +17,9 @@ use Rattle.orc_heap.specs.declared.events.Place.TheVariants.{Next}
 use Rattle.orc_history.specs.declared.queue.QueueEntry.TheVariants.{Put}
 use Rattle.orc_fifo_rule.specs.declared.fifo.FifoNote.{FifoNote}
 use Rattle.orc_fifo_rule.specs.declared.fifo.FifoNote.TheVariants.{Entry}
-use Rattle.orc_fifo_rule.specs.QueueDiscipline.{FifoMay, HasJob, HasLink, IsPath, IsPutNode, MayAct, MayPut, link_to, position_of}
-use Rattle.orc_fifo_rule.specs.Kept.Kinds.{each_kind, link_moved, null_to, plain_link, some_same}
-
--- the link that a place shows is that of its node
-pub shown_link : (h : Heap) (d : ℕ) (link : Link) → HasLink h d link → shown h (Next d) ≡ Some link
-shown_link h d link l = rw l.there (ap (λ (x : Link). Some x) l.link_is)
-
-pub link_shown : (h : Heap) (d : ℕ) (link : Link) (n : Node) → slice_get h.nodes d ≡ Some n → shown h (Next d) ≡ Some link → n.link ≡ link
-link_shown h d link n there at =
-    let is : shown h (Next d) ≡ Some n.link = rw there refl in
-    some_same (sym is ∙ at)
-
-pub linked_node : (h : Heap) (d : ℕ) (link : Link) → HasLink h d link → IsLinkedNode h d
-linked_node h d link l = record { node = l.node; there = l.there; linked = l.linked }
+use Rattle.orc_fifo_rule.specs.QueueDiscipline.{FifoMay, HasJob, IsPath, IsPutNode, MayAct, MayPut, position_of}
+use Rattle.orc_fifo_rule.specs.Kept.Kinds.{each_kind}
+use Rattle.orc_heap.proofs.SingleActs.{link_moved, null_to, plain_link, some_same, shown_link, linked_node}
 
 pub position_at : (h : Heap) (d : ℕ) (n : Node) → slice_get h.nodes d ≡ Some n → position_of h d ≡ unwrap_or n.second 0
 position_at h d n there = rw there refl

@@ -1,25 +1,24 @@
 -- The queue before both roots have begun.
 use Rattle.std.proofs.Common.{Contains, List, None, Option, Some, [], ap, arith, inl, inr, refl, subst, suc, sym, true, zero, ℕ, ◌++◌, ◌∙◌, ◌∷◌, ◌≡◌}
 use Rattle.std.proofs.lemmas.Bool.{eqb-true}
-use Rattle.std.specs.List.{slice_get}
+use Rattle.std.specs.List.{slice_get, AllByRecursion}
 use Rattle.orc_heap.specs.Acts.{Fits, heap_after}
-use Rattle.orc_heap.specs.Heap.{Heap, HeapNumbers, new_heap, shown}
+use Rattle.orc_heap.specs.Heap.{Heap, HeapNumbers, new_heap, shown, link_to}
 use Rattle.orc_heap.specs.Journals.{IsLawful, IsLawfulFrom, run_from, run_heap}
 use Rattle.orc_heap.specs.declared.events.Act.{Act}
 use Rattle.orc_heap.specs.declared.events.Act.TheVariants.{Aim, Fill, Give, Look, Miss, Move}
 use Rattle.orc_heap.specs.declared.events.Event.{Event}
 use Rattle.orc_heap.specs.declared.events.Link.{Link}
 use Rattle.orc_heap.specs.declared.events.Place.TheVariants.{Next, Root}
-use Rattle.orc_history.specs.Journals.{Every}
 use Rattle.orc_history.specs.declared.queue.QueueEntry.TheVariants.{Put}
 use Rattle.orc_fifo_rule.specs.declared.fifo.FifoNote.{FifoNote}
 use Rattle.orc_fifo_rule.specs.declared.fifo.FifoNote.TheVariants.{Begin, Entry, Swing}
-use Rattle.orc_fifo_rule.specs.QueueDiscipline.{BeginsIfMoves, IsPutNode, entries_in, entries_of, is_begin_of, link_to, root_has_begun}
+use Rattle.orc_fifo_rule.specs.QueueDiscipline.{BeginsIfMoves, IsPutNode, entries_in, entries_of, is_begin_of, root_has_begun}
 use Rattle.orc_fifo_rule.specs.Kept.Events.{or_either}
-use Rattle.orc_fifo_rule.specs.Kept.Kinds.{root_either, root_moved}
+use Rattle.orc_heap.proofs.SingleActs.{root_either, root_moved}
 
 abbrev AllBegin : List (Event FifoNote) → Type 0
-AllBegin es = Every (λ (e : Event FifoNote). BeginsIfMoves e.act e.note) es
+AllBegin es = AllByRecursion (λ (e : Event FifoNote). BeginsIfMoves e.act e.note) es
 
 aim_roots : (agent id : ℕ) (to : Option ℕ) (h : Heap) → (heap_after agent (Aim id to) h).roots ≡ h.roots
 aim_roots agent id None h = refl

@@ -1,29 +1,15 @@
 -- Steps along a path of links.
-use Rattle.std.proofs.Common.{List, Option, Some, [], arith, inl, inr, length, refl, subst, sym, ℕ, ◌++◌, ◌∙◌, ◌∷◌, ◌≡◌, ◌≢◌, ◌≤◌}
-use Rattle.std.specs.List.{slice_get}
-use Rattle.std.specs.Prelude.{None}
-use Rattle.std.specs.Option.{option_map}
-use Rattle.orc_heap.specs.Allowed.{IsLinkedNode}
-use Rattle.orc_heap.specs.Heap.{Heap, HeapNumbers, Node, null, shown}
+use Rattle.std.proofs.Common.{List, Some, [], arith, inl, inr, length, refl, subst, sym, ℕ, ◌++◌, ◌∙◌, ◌∷◌, ◌≡◌, ◌≢◌, ◌≤◌}
+use Rattle.orc_heap.specs.Allowed.{IsLinkedNode, HasLink}
+use Rattle.orc_heap.specs.Heap.{Heap, HeapNumbers, null, shown, link_to}
 use Rattle.orc_heap.specs.Journals.{run_heap}
 use Rattle.orc_heap.specs.declared.events.Event.{Event}
 use Rattle.orc_heap.specs.declared.events.Link.{Link}
 use Rattle.orc_heap.specs.declared.events.Place.TheVariants.{Next, Root}
 use Rattle.orc_fifo_rule.specs.declared.fifo.FifoNote.{FifoNote}
-use Rattle.orc_fifo_rule.specs.QueueDiscipline.{FifoHolds, HasLink, IsPath, IsPutNode, IsRunning, StepsOn, link_to}
-use Rattle.orc_fifo_rule.specs.Kept.Kinds.{link_same, null_to, some_same}
-use Rattle.orc_fifo_rule.specs.Kept.Nodes.{job_linked, link_shown, path_linked, shown_link}
-
-node_in : (o : Option Node) (link : Link) → option_map (λ (n : Node). n.link) o ≡ Some link → (n : Node) × (o ≡ Some n) × (n.link ≡ link)
-node_in None link e = cc
-node_in (Some n) link e = (n, refl, some_same e)
-
--- a node whose link shows is there
-pub shown_node : (h : Heap) (id : ℕ) (link : Link) → shown h (Next id) ≡ Some link → (n : Node) × (slice_get h.nodes id ≡ Some n) × (n.link ≡ link)
-shown_node h id link e = node_in (slice_get h.nodes id) link e
-
-pub has_link : (h : Heap) (id : ℕ) (link : Link) → IsLinkedNode h id → shown h (Next id) ≡ Some link → HasLink h id link
-has_link h id link l at = record { node = l.node; there = l.there; linked = l.linked; link_is = link_shown h id link l.node l.there at }
+use Rattle.orc_fifo_rule.specs.QueueDiscipline.{FifoHolds, IsPath, IsPutNode, IsRunning, StepsOn}
+use Rattle.orc_fifo_rule.specs.Kept.Nodes.{job_linked, path_linked}
+use Rattle.orc_heap.proofs.SingleActs.{link_same, null_to, shown_link, some_same, has_link}
 
 -- behind a node with a null link the path ends
 pub path_ends : (es : List (Event FifoNote)) (h : Heap) (d last : ℕ) (puts : List (ℕ × ℕ)) → IsPath es h d puts last → shown h (Next d) ≡ Some null → (puts ≡ []) × (d ≡ last)

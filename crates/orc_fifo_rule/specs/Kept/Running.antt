@@ -3,9 +3,9 @@ use Rattle.std.proofs.Common.{List, None, Some, [], ap, append-nil, arith, drop,
 use Rattle.std.specs.List.{slice_get}
 use Rattle.orc_heap.proofs.Runs.{run_heap-snoc}
 use Rattle.orc_heap.specs.Acts.{as_linked, heap_after, moved_link}
-use Rattle.orc_heap.specs.Allowed.{IsLinkedNode}
-use Rattle.orc_heap.specs.Heap.{Heap, HeapNumbers, null, shown}
-use Rattle.orc_heap.specs.Journals.{run_heap}
+use Rattle.orc_heap.specs.Allowed.{IsLinkedNode, HasLink}
+use Rattle.orc_heap.specs.Heap.{Heap, HeapNumbers, null, shown, link_to}
+use Rattle.orc_heap.specs.Journals.{run_heap, event_by}
 use Rattle.orc_heap.specs.declared.events.Act.TheVariants.{Look, Move}
 use Rattle.orc_heap.specs.declared.events.Event.{Event}
 use Rattle.orc_heap.specs.declared.events.Link.{Link}
@@ -15,13 +15,13 @@ use Rattle.orc_history.specs.declared.queue.QueueEntry.TheVariants.{Empty, Put, 
 use Rattle.orc_history.proofs.Histories.{waiting_after-snoc}
 use Rattle.orc_fifo_rule.specs.declared.fifo.FifoNote.{FifoNote}
 use Rattle.orc_fifo_rule.specs.declared.fifo.FifoNote.TheVariants.{Entry, Swing}
-use Rattle.orc_fifo_rule.specs.QueueDiscipline.{FifoHolds, FifoMay, HasLink, IsPutNode, IsRunning, entries_in, entries_of, link_to, position_of}
-use Rattle.orc_fifo_rule.specs.Watches.{event_of}
-use Rattle.orc_fifo_rule.specs.Kept.Kinds.{each_kind, link_moved, null_to, plain_roots, root_moved, root_next, root_other, some_same}
+use Rattle.orc_fifo_rule.specs.QueueDiscipline.{FifoHolds, FifoMay, IsPutNode, IsRunning, entries_in, entries_of, position_of}
+use Rattle.orc_fifo_rule.specs.Kept.Kinds.{each_kind}
 use Rattle.orc_fifo_rule.specs.Kept.Nodes.{PutsAt, job_position, linked_next, link_next, null_next, path_next, position_next}
 use Rattle.orc_fifo_rule.specs.Kept.Events.{entries_more, entries_same, put_last, puts_snoc}
 use Rattle.orc_fifo_rule.specs.Kept.Paths.{back_one, head_steps, path_snoc, path_step, put_at_last, tail_linked, tail_steps}
 use Rattle.orc_fifo_rule.specs.Kept.Leaves.{put_has_job, put_node_after, put_position}
+use Rattle.orc_heap.proofs.SingleActs.{link_moved, null_to, plain_roots, root_moved, root_next, root_other, some_same}
 
 -- what a root shows after the event
 pub root_at : (n : HeapNumbers) (es : List (Event FifoNote)) (e : Event FifoNote) (r : ℕ) → shown (run_heap n (es ++ e ∷ [])) (Root r) ≡ shown (heap_after e.agent e.act (run_heap n es)) (Root r)
@@ -69,9 +69,9 @@ running_plain n es e run may noted roots =
     (ap (waiting_after []) (entries_same es e (ap entries_in noted))) (ap (λ x. puts_in (entries_in x)) noted)
 
 running_empty : (n : HeapNumbers) (es : List (Event FifoNote)) (agent d by : ℕ) (link : Link) → IsRunning (run_heap n es) es
-    → (let e : Event FifoNote = event_of agent (Look (Next d) link) (Some (Entry (Empty by))) in FifoMay n es e → IsRunning (run_heap n (es ++ e ∷ [])) (es ++ e ∷ []))
+    → (let e : Event FifoNote = event_by agent (Look (Next d) link) (Some (Entry (Empty by))) in FifoMay n es e → IsRunning (run_heap n (es ++ e ∷ [])) (es ++ e ∷ []))
 running_empty n es agent d by link run may =
-    let e : Event FifoNote = event_of agent (Look (Next d) link) (Some (Entry (Empty by))) in
+    let e : Event FifoNote = event_by agent (Look (Next d) link) (Some (Entry (Empty by))) in
     running_still n es e run may refl (λ x p. let is = p.note_is in cc)
     (ap (waiting_after []) (entries_more es e (Empty by) refl) ∙ waiting_after-snoc [] (entries_of es) (Empty by)) refl
 
@@ -83,9 +83,9 @@ begin_late h es (suc (suc r)) run low at = omega (arith, low)
 
 -- root 1 steps on to the last node
 running_swing : (n : HeapNumbers) (es : List (Event FifoNote)) (agent r : ℕ) (from to : Link) → IsRunning (run_heap n es) es
-    → (let e : Event FifoNote = event_of agent (Move (Root r) from to) (Some Swing) in FifoMay n es e → IsRunning (run_heap n (es ++ e ∷ [])) (es ++ e ∷ []))
+    → (let e : Event FifoNote = event_by agent (Move (Root r) from to) (Some Swing) in FifoMay n es e → IsRunning (run_heap n (es ++ e ∷ [])) (es ++ e ∷ []))
 running_swing n es agent r from to run may =
-    let e : Event FifoNote = event_of agent (Move (Root r) from to) (Some Swing) in
+    let e : Event FifoNote = event_by agent (Move (Root r) from to) (Some Swing) in
     let h : Heap = run_heap n es in
     let k : Heap = run_heap n (es ++ e ∷ []) in
     let s = may.may_act.steps in
@@ -115,9 +115,9 @@ running_swing n es agent r from to run may =
 
 -- root 0 steps on
 running_took : (n : HeapNumbers) (es : List (Event FifoNote)) (agent r by job at : ℕ) (from to : Link) → IsRunning (run_heap n es) es
-    → (let e : Event FifoNote = event_of agent (Move (Root r) from to) (Some (Entry (Took by job at))) in FifoMay n es e → IsRunning (run_heap n (es ++ e ∷ [])) (es ++ e ∷ []))
+    → (let e : Event FifoNote = event_by agent (Move (Root r) from to) (Some (Entry (Took by job at))) in FifoMay n es e → IsRunning (run_heap n (es ++ e ∷ [])) (es ++ e ∷ []))
 running_took n es agent r by job at from to run may =
-    let e : Event FifoNote = event_of agent (Move (Root r) from to) (Some (Entry (Took by job at))) in
+    let e : Event FifoNote = event_by agent (Move (Root r) from to) (Some (Entry (Took by job at))) in
     let h : Heap = run_heap n es in
     let s = may.may_act.steps in
     let zero_root : r ≡ 0 = may.may_act.root_is in
@@ -147,9 +147,9 @@ running_took n es agent r by job at from to run may =
 
 -- a node is put behind the last one
 running_put : (n : HeapNumbers) (es : List (Event FifoNote)) (agent t by job at : ℕ) (from to : Link) → FifoHolds n es → IsRunning (run_heap n es) es
-    → (let e : Event FifoNote = event_of agent (Move (Next t) from to) (Some (Entry (Put by job at))) in FifoMay n es e → IsRunning (run_heap n (es ++ e ∷ [])) (es ++ e ∷ []))
+    → (let e : Event FifoNote = event_by agent (Move (Next t) from to) (Some (Entry (Put by job at))) in FifoMay n es e → IsRunning (run_heap n (es ++ e ∷ [])) (es ++ e ∷ []))
 running_put n es agent t by job at from to holds run may =
-    let e : Event FifoNote = event_of agent (Move (Next t) from to) (Some (Entry (Put by job at))) in
+    let e : Event FifoNote = event_by agent (Move (Next t) from to) (Some (Entry (Put by job at))) in
     let h : Heap = run_heap n es in
     let k : Heap = run_heap n (es ++ e ∷ []) in
     let m = may.may_act in
@@ -187,8 +187,8 @@ running_put n es agent t by job at from to holds run may =
 -- a queue that runs goes on running
 pub running_next : (n : HeapNumbers) (es : List (Event FifoNote)) (e : Event FifoNote) → FifoHolds n es → IsRunning (run_heap n es) es → FifoMay n es e → IsRunning (run_heap n (es ++ e ∷ [])) (es ++ e ∷ [])
 running_next n es e holds run may =
-    each_kind (run_heap n es) (λ act noted. let x : Event FifoNote = event_of e.agent act noted in FifoMay n es x → IsRunning (run_heap n (es ++ x ∷ [])) (es ++ x ∷ []))
-    (λ act plain m. running_plain n es (event_of e.agent act None) run m refl (plain_roots e.agent act (run_heap n es) plain))
+    each_kind (run_heap n es) (λ act noted. let x : Event FifoNote = event_by e.agent act noted in FifoMay n es x → IsRunning (run_heap n (es ++ x ∷ [])) (es ++ x ∷ []))
+    (λ act plain m. running_plain n es (event_by e.agent act None) run m refl (plain_roots e.agent act (run_heap n es) plain))
     (λ r from to b m. absurd (begin_late (run_heap n es) es r run b.root_is (m.fits.0 ∙ ap (λ (l : Link). Some l) b.from_is)))
     (λ r from to b m. running_swing n es e.agent r from to run m)
     (λ r from to by job at b m. running_took n es e.agent r by job at from to run m)

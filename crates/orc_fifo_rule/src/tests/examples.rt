@@ -1,9 +1,9 @@
 //! Worked examples of the definitions, computed by hand and proved.
 
 ghost use Rattle.std.specs.Prelude.{◌≡◌, ℕ, ◌-◌, ◌^◌, List, ◌∷◌, [], Some, None, true, false};
-ghost use Rattle.orc_heap.specs.Allowed.{AllAllowed};
-ghost use Rattle.orc_heap.specs.Heap.{Heap, HeapNumbers, Node, null};
-ghost use Rattle.orc_heap.specs.Journals.{run_heap};
+ghost use Rattle.orc_heap.specs.Allowed.{AllAllowed, HasLink};
+ghost use Rattle.orc_heap.specs.Heap.{Heap, HeapNumbers, Node, null, link_to};
+ghost use Rattle.orc_heap.specs.Journals.{run_heap, event_by};
 ghost use Rattle.orc_heap.specs.declared.events.Act.{Act};
 ghost use Rattle.orc_heap.specs.declared.events.Event.{Event};
 ghost use Rattle.orc_heap.specs.declared.events.Place.{Place};
@@ -12,42 +12,42 @@ ghost use Rattle.orc_history.specs.declared.queue.QueueEntry.{QueueEntry};
 ghost use Rattle.orc_fifo_rule.specs.declared.fifo.FifoNote.{FifoNote};
 ghost use Rattle.orc_heap.specs.Calls.{links_made};
 ghost use Rattle.orc_fifo_rule.specs.Counts.{swings_in};
-ghost use Rattle.orc_fifo_rule.specs.QueueDiscipline.{FifoMay, HasLink, IsInTime, IsPath, LeadsOn, MayAct, MayEnter, entries_of, has_begun, link_to, position_of};
-ghost use Rattle.orc_fifo_rule.specs.Watches.{IsLeft, WasNamed, event_of, node_to_put};
+ghost use Rattle.orc_fifo_rule.specs.QueueDiscipline.{FifoMay, IsInTime, IsPath, LeadsOn, MayAct, MayEnter, entries_of, has_begun, position_of};
+ghost use Rattle.orc_fifo_rule.specs.Watches.{IsLeft, WasNamed, node_to_put};
 
-/// Agent 0 makes a queue whose first position is 5: it is given node 0, fills it, and begins both roots.
+// Agent 0 makes a queue whose first position is 5: it is given node 0, fills it, and begins both roots.
 fn the_opening()
     ensures { let es : List (Event FifoNote) =
-        event_of 0 Act.Give None
-        ∷ event_of 0 (Act.Fill 0 1 5) None
-        ∷ event_of 0 (Act.Move (Place.Root 0) null (link_to 0)) (Some FifoNote.Begin)
-        ∷ event_of 0 (Act.Move (Place.Root 1) null (link_to 0)) (Some FifoNote.Begin) ∷ [] in
+        event_by 0 Act.Give None
+        ∷ event_by 0 (Act.Fill 0 1 5) None
+        ∷ event_by 0 (Act.Move (Place.Root 0) null (link_to 0)) (Some FifoNote.Begin)
+        ∷ event_by 0 (Act.Move (Place.Root 1) null (link_to 0)) (Some FifoNote.Begin) ∷ [] in
         AllAllowed (FifoMay (record { roots = 2 })) [] es × (has_begun es ≡ true) × (entries_of es ≡ [])
         × (position_of (run_heap (record { roots = 2 }) es) 0 ≡ 5) }
 {}
 
-/// Then agent 1 puts job 7 with its node 1 and swings the tail, and agent 2 takes the job and finds nothing more.
+// Then agent 1 puts job 7 with its node 1 and swings the tail, and agent 2 takes the job and finds nothing more.
 fn a_job_goes_through_the_queue()
     ensures { let es : List (Event FifoNote) =
-        event_of 0 Act.Give None
-        ∷ event_of 0 (Act.Fill 0 1 5) None
-        ∷ event_of 0 (Act.Move (Place.Root 0) null (link_to 0)) (Some FifoNote.Begin)
-        ∷ event_of 0 (Act.Move (Place.Root 1) null (link_to 0)) (Some FifoNote.Begin)
-        ∷ event_of 1 Act.Give None
-        ∷ event_of 1 (Act.Fill 1 0 7) None
-        ∷ event_of 1 (Act.Fill 1 1 6) None
-        ∷ event_of 1 (Act.Move (Place.Next 0) null (link_to 1)) (Some (FifoNote.Entry (QueueEntry.Put 1 7 5)))
-        ∷ event_of 1 (Act.Move (Place.Root 1) (link_to 0) (link_to 1)) (Some FifoNote.Swing)
-        ∷ event_of 2 (Act.Move (Place.Root 0) (link_to 0) (link_to 1)) (Some (FifoNote.Entry (QueueEntry.Took 2 7 5)))
-        ∷ event_of 2 (Act.Look (Place.Next 1) null) (Some (FifoNote.Entry (QueueEntry.Empty 2))) ∷ [] in
+        event_by 0 Act.Give None
+        ∷ event_by 0 (Act.Fill 0 1 5) None
+        ∷ event_by 0 (Act.Move (Place.Root 0) null (link_to 0)) (Some FifoNote.Begin)
+        ∷ event_by 0 (Act.Move (Place.Root 1) null (link_to 0)) (Some FifoNote.Begin)
+        ∷ event_by 1 Act.Give None
+        ∷ event_by 1 (Act.Fill 1 0 7) None
+        ∷ event_by 1 (Act.Fill 1 1 6) None
+        ∷ event_by 1 (Act.Move (Place.Next 0) null (link_to 1)) (Some (FifoNote.Entry (QueueEntry.Put 1 7 5)))
+        ∷ event_by 1 (Act.Move (Place.Root 1) (link_to 0) (link_to 1)) (Some FifoNote.Swing)
+        ∷ event_by 2 (Act.Move (Place.Root 0) (link_to 0) (link_to 1)) (Some (FifoNote.Entry (QueueEntry.Took 2 7 5)))
+        ∷ event_by 2 (Act.Look (Place.Next 1) null) (Some (FifoNote.Entry (QueueEntry.Empty 2))) ∷ [] in
         AllAllowed (FifoMay (record { roots = 2 })) [] es
         × (entries_of es ≡ QueueEntry.Put 1 7 5 ∷ QueueEntry.Took 2 7 5 ∷ QueueEntry.Empty 2 ∷ [])
         × (links_made es 0 ≡ 2) × (links_made es 1 ≡ 3) × (links_made es 2 ≡ 0) × (swings_in es ≡ 1)
         × (position_of (run_heap (record { roots = 2 }) es) 1 ≡ 6) }
 {}
 
-/// Head and tail name the dummy, node 0, and node 1 of job 7 at position 5 is linked behind it: the tail lags. Root
-/// 1 may swing to node 1 alone, no job may be taken yet, and nobody may say that the queue is empty.
+// Head and tail name the dummy, node 0, and node 1 of job 7 at position 5 is linked behind it: the tail lags. Root
+// 1 may swing to node 1 alone, no job may be taken yet, and nobody may say that the queue is empty.
 fn while_the_tail_lags()
     ensures allowed { let h : Heap = record {
       nodes = record { giver = 0; first = None; second = Some 5; link = link_to 1; named = true; linked = true }
@@ -68,7 +68,7 @@ fn while_the_tail_lags()
         × (¬ WasNamed h 1 1) × (¬ IsLeft h 0) }
 {}
 
-/// Node 1 holds job 7 with the last second value that a Put may give, and with the first that it may not.
+// Node 1 holds job 7 with the last second value that a Put may give, and with the first that it may not.
 fn positions_end()
     ensures last { let h : Heap = record {
       nodes = record { giver = 0; first = None; second = Some (2 ^ 62 - 1); link = null; named = true; linked = true } ∷ node_to_put 1 7 (2 ^ 62 - 1) ∷ [];
@@ -87,8 +87,8 @@ fn positions_end()
         ¬ MayAct h (Act.Move (Place.Next 0) null (link_to 1)) (Some (FifoNote.Entry (QueueEntry.Put 1 7 5))) }
 {}
 
-/// A Move needs a note, an Aim a null target; a note needs its kind of event, the two Begins before it, and an entry
-/// of the event's agent with which the history stays legal.
+// A Move needs a note, an Aim a null target; a note needs its kind of event, the two Begins before it, and an entry
+// of the event's agent with which the history stays legal.
 fn refusals()
     ensures without_a_note { ¬ MayAct (record { nodes = []; roots = null ∷ null ∷ [] }) (Act.Move (Place.Root 0) null (link_to 0)) None }
     ensures aimed { ¬ MayAct (record { nodes = []; roots = null ∷ null ∷ [] }) (Act.Aim 1 (Some 0)) None }
@@ -99,10 +99,10 @@ fn refusals()
     ensures not_legal { ¬ MayEnter 5 [] 1 (Some (FifoNote.Entry (QueueEntry.Put 1 7 6))) }
 {}
 
-/// Where links lead.
+// Where links lead.
 fn links()
     ensures leads { let es : List (Event FifoNote) =
-        event_of 1 (Act.Move (Place.Next 0) null (link_to 1)) (Some (FifoNote.Entry (QueueEntry.Put 1 7 5))) ∷ [] in
+        event_by 1 (Act.Move (Place.Next 0) null (link_to 1)) (Some (FifoNote.Entry (QueueEntry.Put 1 7 5))) ∷ [] in
         LeadsOn es 5 (link_to 1) × LeadsOn es 5 null × (¬ LeadsOn es 6 (link_to 1)) × (¬ LeadsOn es 5 (record { to = Some 1; mark = true })) }
     ensures position { position_of (record { nodes = record { giver = 0; first = None; second = None; link = null; named = true; linked = true } ∷ []; roots = [] }) 0 ≡ 0 }
 {}

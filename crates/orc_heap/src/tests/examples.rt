@@ -9,7 +9,7 @@ ghost use Rattle.orc_heap.specs.Journals.{FitsAfter, IsLawful, IsPlain, is_once_
 
 use crate::{Act, Place};
 
-/// A new heap of two roots has two null links and no node.
+// A new heap of two roots has two null links and no node.
 fn new_heaps()
     ensures new { new_heap (record { roots = 2 }) ≡ record { nodes = []; roots = null ∷ null ∷ [] } }
     ensures root { shown (new_heap (record { roots = 2 })) (Place.Root 1) ≡ Some null }
@@ -19,7 +19,7 @@ fn new_heaps()
     ensures beyond { change (λ (n : ℕ). n + 1) 3 (4 ∷ 7 ∷ 9 ∷ []) ≡ 4 ∷ 7 ∷ 9 ∷ [] }
 {}
 
-/// Agent 3 is given node 0, fills it and links it from the one root: after each act, the heap.
+// Agent 3 is given node 0, fills it and links it from the one root: after each act, the heap.
 fn acts()
     ensures given { heap_after 3 Act.Give (new_heap (record { roots = 1 })) ≡ record { nodes = new_node 3 ∷ []; roots = null ∷ [] } }
     ensures filled { heap_after 3 (Act.Fill 0 1 8) (record { nodes = new_node 3 ∷ []; roots = null ∷ [] })
@@ -35,7 +35,7 @@ fn acts()
     ensures missed { heap_after 3 (Act.Miss (Place.Root 0) (record { to = Some 0; mark = true }) null) (new_heap (record { roots = 1 })) ≡ new_heap (record { roots = 1 }) }
 {}
 
-/// Node 0 was given to agent 3, and nothing was linked.
+// Node 0 was given to agent 3, and nothing was linked.
 fn fitting()
     ensures its_own { Fits 3 (Act.Fill 0 1 8) (record { nodes = new_node 3 ∷ []; roots = null ∷ [] }) }
     ensures no_third_value { ¬ Fits 3 (Act.Fill 0 2 8) (record { nodes = new_node 3 ∷ []; roots = null ∷ [] }) }
@@ -47,7 +47,7 @@ fn fitting()
     ensures no_miss { ¬ Fits 2 (Act.Miss (Place.Root 0) null null) (record { nodes = new_node 3 ∷ []; roots = null ∷ [] }) }
 {}
 
-/// Node 0 still is linked, with its values and this link.
+// Node 0 still is linked, with its values and this link.
 fn nodes_that_stay()
     ensures stays { let old : Node = record { giver = 3; first = Some 7; second = None; link = null; named = true; linked = true } in
         StaysLinked (record { nodes = old ∷ new_node 2 ∷ []; roots = [] }) 0 old null }
@@ -56,14 +56,14 @@ fn nodes_that_stay()
         ¬ StaysLinked (record { nodes = node ∷ []; roots = [] }) 0 old null }
 {}
 
-/// A once linked node's link after a Move of it, and of another place.
+// A once linked node's link after a Move of it, and of another place.
 fn linked_nodes()
     ensures moved { moved_link (Act.Move (Place.Next 4) null (record { to = Some 0; mark = false })) 4 null ≡ record { to = Some 0; mark = false } }
     ensures another { moved_link (Act.Move (Place.Next 5) null (record { to = Some 0; mark = false })) 4 null ≡ null }
     ensures of_a_root { moved_link (Act.Move (Place.Root 4) null (record { to = Some 0; mark = false })) 4 null ≡ null }
 {}
 
-/// Agent 3 links its node 0 from the root; agent 2 looks, and then aims its own node at it.
+// Agent 3 links its node 0 from the root; agent 2 looks, and then aims its own node at it.
 fn journals()
     ensures lawful { let es : List (Event ℕ) =
         record { agent = 3; act = Act.Give; note = None }

@@ -5,7 +5,7 @@ ghost use Rattle.orc_heap.specs.Seeds.{HasRoots, opening_event, opening_events};
 
 use crate::{Act, Place, Seed};
 
-/// No event, or a dummy with the values 0 and 5, and a link to it from root 0 and from root 1.
+// No event, or a dummy with the values 0 and 5, and a link to it from root 0 and from root 1.
 fn openings()
     ensures empty { opening_events {N = Unit {0}} Seed.Empty ≡ [] }
     ensures dummy { opening_events {N = ℕ} (Seed.Dummy 5 4) ≡ opening_event Act.Give None

@@ -7,7 +7,7 @@ ghost use Rattle.orc_history.specs.SetHistory.{IsLegalSet};
 
 use crate::{LearnQueue, LearnSet};
 
-/// Steps are entries, and each is the number of its agent. One pass had seen 1, the other 1 2.
+// Steps are entries, and each is the number of its agent. One pass had seen 1, the other 1 2.
 fn passes_that_learned()
     ensures longer { LearnsEntries {S = ℕ} {E = ℕ} (λ j. j) (λ e. e) 1 2 (1 ∷ []) (1 ∷ 2 ∷ []) (1 ∷ 2 ∷ []) (1 ∷ 2 ∷ []) }
     ensures shorter { ¬ LearnsEntries {S = ℕ} {E = ℕ} (λ j. j) (λ e. e) 1 2 (1 ∷ []) (1 ∷ 2 ∷ []) (1 ∷ []) (1 ∷ []) }
@@ -15,7 +15,7 @@ fn passes_that_learned()
     ensures unseen { ¬ LearnsEntries {S = ℕ} {E = ℕ} (λ j. j) (λ e. e) 1 2 (1 ∷ []) (1 ∷ 2 ∷ 1 ∷ []) (1 ∷ 2 ∷ 1 ∷ []) (1 ∷ 2 ∷ 1 ∷ []) }
 {}
 
-/// What two passes have learned is a legal history of the queue.
+// What two passes have learned is a legal history of the queue.
 fn learn_a_queue<Q: LearnQueue>(queue: &Q, into: &mut Q::Pass, from: &mut Q::Pass)
     requires usable { Q.usable queue.now into.old × Q.usable queue.now from.old }
     requires agents { Q.agent_of queue.now into.old ≢ Q.agent_of queue.now from.old }
@@ -25,7 +25,7 @@ fn learn_a_queue<Q: LearnQueue>(queue: &Q, into: &mut Q::Pass, from: &mut Q::Pas
     queue.learn(into, from);
 }
 
-/// And of the set.
+// What two passes have learned is a legal history of the set.
 fn learn_a_set<S: LearnSet>(set: &S, into: &mut S::Pass, from: &mut S::Pass)
     requires usable { S.usable set.now into.old × S.usable set.now from.old }
     requires agents { S.agent_of set.now into.old ≢ S.agent_of set.now from.old }

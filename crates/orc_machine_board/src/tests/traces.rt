@@ -165,8 +165,10 @@ fn unlink(board: &Board, p: &mut Pass, state: &mut State) -> bool
             Op::SetRetired { row: 0, sequence },
         ],
     );
-    let left = let_go(board, p, state, 0) && let_go(board, p, state, 1);
-    retired && left && play(board, p, state, &[START])
+    let first = let_go(board, p, state, 0);
+    let second = let_go(board, p, state, 1);
+    let started = play(board, p, state, &[START]);
+    retired && first && second && started
 }
 
 // the agent scans for row 0, finds it nowhere, and frees it
@@ -178,7 +180,8 @@ fn free(board: &Board, p: &mut Pass, state: &mut State) -> bool
     ensures bounds { state.new.bounds ≡ state.old.bounds }
 {
     let link = NULL;
-    let scanned = play(board, p, state, &[START]) && play_looks(board, p, state, 0, 16);
+    let started = play(board, p, state, &[START]);
+    let scanned = play_looks(board, p, state, 0, 16);
     let freed = play(
         board,
         p,
@@ -190,37 +193,49 @@ fn free(board: &Board, p: &mut Pass, state: &mut State) -> bool
             Op::Free { row: 0 },
         ],
     );
-    scanned && freed
+    started && scanned && freed
 }
 
-// agent 0 finds row 0, which it unlinked, in a slot of agent 1; then agent 1 lets the row go, and agent 0 hands it
-// over, in this order or in the other, and agent 1 frees it
-fn hand_over(
-    board: &Board,
-    one: &mut Pass,
-    two: &mut Pass,
-    state: &mut State,
-    late: bool,
-) -> bool
+// agent 1 holds row 0, which agent 0 unlinks; agent 0 finds it in the slot of agent 1
+fn find(board: &Board, one: &mut Pass, two: &mut Pass, state: &mut State) -> bool
     requires belongs { Belongs board.now one.old × Belongs board.now two.old }
     ensures belongs { Belongs board.now one.new × Belongs board.now two.new }
     ensures agents { ((shows one.new).agent ≡ (shows one.old).agent) × ((shows two.new).agent ≡ (shows two.old).agent) }
     ensures absorbed { ((shows one.new).absorbed ≡ (shows one.old).absorbed) × ((shows two.new).absorbed ≡ (shows two.old).absorbed) }
     ensures bounds { state.new.bounds ≡ state.old.bounds }
 {
-    let hand = [Op::Hand { k: 10 }];
-    let found = link(board, one, state)
-        && hold(board, two, state, 2)
-        && unlink(board, one, state)
-        && play_looks(board, one, state, 0, 11);
-    let handed = if late {
-        let_go(board, two, state, 2)
-            && play(board, one, state, &hand)
-            && play(board, two, state, &[Op::TakeIn { slot: 2 }])
-    } else {
-        play(board, one, state, &hand) && let_go(board, two, state, 2)
-    };
-    found && handed && free(board, two, state)
+    let linked = link(board, one, state);
+    let held = hold(board, two, state, 2);
+    let unlinked = unlink(board, one, state);
+    let found = play_looks(board, one, state, 0, 11);
+    linked && held && unlinked && found
+}
+
+// agent 0 hands row 0 over while agent 1 holds it, and agent 1 takes it in as it lets it go
+fn hand_over(board: &Board, one: &mut Pass, two: &mut Pass, state: &mut State) -> bool
+    requires belongs { Belongs board.now one.old × Belongs board.now two.old }
+    ensures belongs { Belongs board.now one.new × Belongs board.now two.new }
+    ensures agents { ((shows one.new).agent ≡ (shows one.old).agent) × ((shows two.new).agent ≡ (shows two.old).agent) }
+    ensures absorbed { ((shows one.new).absorbed ≡ (shows one.old).absorbed) × ((shows two.new).absorbed ≡ (shows two.old).absorbed) }
+    ensures bounds { state.new.bounds ≡ state.old.bounds }
+{
+    let handed = play(board, one, state, &[Op::Hand { k: 10 }]);
+    let left = let_go(board, two, state, 2);
+    handed && left
+}
+
+// agent 1 lets row 0 go before agent 0 hands it over, and takes it in afterwards
+fn hand_over_late(board: &Board, one: &mut Pass, two: &mut Pass, state: &mut State) -> bool
+    requires belongs { Belongs board.now one.old × Belongs board.now two.old }
+    ensures belongs { Belongs board.now one.new × Belongs board.now two.new }
+    ensures agents { ((shows one.new).agent ≡ (shows one.old).agent) × ((shows two.new).agent ≡ (shows two.old).agent) }
+    ensures absorbed { ((shows one.new).absorbed ≡ (shows one.old).absorbed) × ((shows two.new).absorbed ≡ (shows two.old).absorbed) }
+    ensures bounds { state.new.bounds ≡ state.old.bounds }
+{
+    let left = let_go(board, two, state, 2);
+    let handed = play(board, one, state, &[Op::Hand { k: 10 }]);
+    let taken = play(board, two, state, &[Op::TakeIn { slot: 2 }]);
+    left && handed && taken
 }
 
 // a run of two agents; whether all answers and all words agree
@@ -239,9 +254,16 @@ fn two_agents(alloc: Global, late: bool) -> Option<bool> {
     if one.agent() != 0 || two.agent() != 1 {
         return None;
     }
-    let alike = hand_over(&board, &mut one, &mut two, &mut state, late);
+    let found = find(&board, &mut one, &mut two, &mut state);
+    let handed = if late {
+        hand_over_late(&board, &mut one, &mut two, &mut state)
+    } else {
+        hand_over(&board, &mut one, &mut two, &mut state)
+    };
+    let freed = free(&board, &mut two, &mut state);
     board.absorb(&mut one, two);
-    Some(alike && words_agree(board, one, state))
+    let words = words_agree(board, one, state);
+    Some(found && handed && freed && words)
 }
 
 #[test]
@@ -251,7 +273,7 @@ fn a_row_is_handed_over_and_freed(rt: HostRuntime) -> Result<(), Fail> {
     Ok(())
 }
 
-// while agent 1 scans for row 0, agent 2 links it again and agent 0 holds it: the scan begins again, with count 1
+// while agent 1 scans for row 0, which it unlinked, agent 2 links it again, and agent 0 holds it
 fn link_again(
     board: &Board,
     zero: &mut Pass,
@@ -265,18 +287,32 @@ fn link_again(
     ensures absorbed { ((shows zero.new).absorbed ≡ (shows zero.old).absorbed) × ((shows one.new).absorbed ≡ (shows one.old).absorbed) × ((shows two.new).absorbed ≡ (shows two.old).absorbed) }
     ensures bounds { state.new.bounds ≡ state.old.bounds }
 {
-    let unlinked = link(board, one, state)
-        && hold(board, two, state, 1)
-        && unlink(board, one, state)
-        && play_looks(board, one, state, 0, 8);
-    let linked = play(board, two, state, &[CHECK, LINK])
-        && hold(board, zero, state, 1)
-        && play(board, two, state, &[Op::Inc { row: 0 }])
-        && let_go(board, two, state, 1);
-    let again = play_looks(board, one, state, 8, 24) && play(board, one, state, &[END]);
+    let linked = link(board, one, state);
+    let held = hold(board, two, state, 1);
+    let unlinked = unlink(board, one, state);
+    let looked = play_looks(board, one, state, 0, 8);
+    let again = play(board, two, state, &[CHECK, LINK]);
+    let shown = hold(board, zero, state, 1);
+    let counted = play(board, two, state, &[Op::Inc { row: 0 }]);
+    let left = let_go(board, two, state, 1);
+    let first = linked && held && unlinked && looked;
+    let second = again && shown && counted && left;
+    first && second
+}
+
+// agent 1 ends its scan: the count is 1, so the retired bit is cleared
+fn keep(board: &Board, p: &mut Pass, state: &mut State) -> bool
+    requires belongs { Belongs board.now p.old }
+    ensures belongs { Belongs board.now p.new }
+    ensures agent { (shows p.new).agent ≡ (shows p.old).agent }
+    ensures absorbed { (shows p.new).absorbed ≡ (shows p.old).absorbed }
+    ensures bounds { state.new.bounds ≡ state.old.bounds }
+{
+    let looked = play_looks(board, p, state, 8, 24);
     let arm = Op::Arm { row: 0 };
-    let kept = play(board, one, state, &[arm, Op::Unretire { row: 0 }]);
-    unlinked && linked && again && kept && let_go(board, one, state, 0)
+    let kept = play(board, p, state, &[END, arm, Op::Unretire { row: 0 }]);
+    let left = let_go(board, p, state, 0);
+    looked && kept && left
 }
 
 // the run of three agents; whether all answers and all words agree
@@ -296,10 +332,12 @@ fn three_agents(alloc: Global) -> Option<bool> {
     if zero.agent() != 0 || one.agent() != 1 || two.agent() != 2 {
         return None;
     }
-    let alike = link_again(&board, &mut zero, &mut one, &mut two, &mut state);
+    let linked = link_again(&board, &mut zero, &mut one, &mut two, &mut state);
+    let kept = keep(&board, &mut one, &mut state);
     board.absorb(&mut zero, one);
     board.absorb(&mut zero, two);
-    Some(alike && words_agree(board, zero, state))
+    let words = words_agree(board, zero, state);
+    Some(linked && kept && words)
 }
 
 #[test]

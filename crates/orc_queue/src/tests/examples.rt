@@ -1,18 +1,17 @@
 //! Worked examples of the definitions, computed by hand and proved.
 
 ghost use Rattle.std.specs.Prelude.{◌≡◌, ℕ, ◌-◌, ◌^◌, List, ◌∷◌, [], Some, None, Ok, Err, true};
-ghost use Rattle.orc_heap.specs.Heap.{null};
+ghost use Rattle.orc_heap.specs.Heap.{null, link_to};
 ghost use Rattle.orc_heap.specs.declared.events.Act.{Act};
 ghost use Rattle.orc_heap.specs.declared.events.Event.{Event};
 ghost use Rattle.orc_heap.specs.declared.events.Place.{Place};
 ghost use Rattle.orc_history.specs.declared.queue.QueueEntry.{QueueEntry};
 ghost use Rattle.orc_history.specs.declared.queue.QueueRefused.{QueueRefused};
 ghost use Rattle.orc_fifo_rule.specs.declared.fifo.FifoNote.{FifoNote};
-ghost use Rattle.orc_fifo_rule.specs.QueueDiscipline.{link_to};
-ghost use Rattle.orc_fifo_rule.specs.Watches.{event_of};
 ghost use Rattle.orc_queue.specs.Answers.{gives_of};
 ghost use Rattle.orc_queue.specs.Causes.{Cause, LacksPosition, UsesTurns};
 ghost use Rattle.orc_queue.specs.Turns.{IsFullLook, KeepsTail, SwingsTail, TailIsLast, TailIsPast, next_position};
+ghost use Rattle.orc_heap.specs.Journals.{event_by};
 
 use orc_fifo_rule::FifoNote;
 use orc_heap::{Act, Place};
@@ -29,18 +28,18 @@ fn nodes_of_a_put()
 
 /// Agent 2 moved the tail once while agent 1 looked: that uses up one turn of agent 1, and not two.
 fn one_turn_is_used()
-    ensures one { UsesTurns {S = Event FifoNote} (λ e. e.agent) (λ j. j) 1 1 (event_of 1 (Act.Look (Place.Root 1) (link_to 0)) None
-        ∷ event_of 2 (Act.Move (Place.Root 1) (link_to 0) (link_to 1)) (Some FifoNote.Swing) ∷ []) 0 2 }
-    ensures not_two { ¬ UsesTurns {S = Event FifoNote} (λ e. e.agent) (λ j. j) 1 2 (event_of 1 (Act.Look (Place.Root 1) (link_to 0)) None
-        ∷ event_of 2 (Act.Move (Place.Root 1) (link_to 0) (link_to 1)) (Some FifoNote.Swing) ∷ []) 0 2 }
-    ensures before { ¬ UsesTurns {S = Event FifoNote} (λ e. e.agent) (λ j. j) 1 1 (event_of 2 (Act.Move (Place.Root 1) (link_to 0) (link_to 1)) (Some FifoNote.Swing)
-        ∷ event_of 1 (Act.Look (Place.Root 1) (link_to 1)) None ∷ []) 1 2 }
+    ensures one { UsesTurns {S = Event FifoNote} (λ e. e.agent) (λ j. j) 1 1 (event_by 1 (Act.Look (Place.Root 1) (link_to 0)) None
+        ∷ event_by 2 (Act.Move (Place.Root 1) (link_to 0) (link_to 1)) (Some FifoNote.Swing) ∷ []) 0 2 }
+    ensures not_two { ¬ UsesTurns {S = Event FifoNote} (λ e. e.agent) (λ j. j) 1 2 (event_by 1 (Act.Look (Place.Root 1) (link_to 0)) None
+        ∷ event_by 2 (Act.Move (Place.Root 1) (link_to 0) (link_to 1)) (Some FifoNote.Swing) ∷ []) 0 2 }
+    ensures before { ¬ UsesTurns {S = Event FifoNote} (λ e. e.agent) (λ j. j) 1 1 (event_by 2 (Act.Move (Place.Root 1) (link_to 0) (link_to 1)) (Some FifoNote.Swing)
+        ∷ event_by 1 (Act.Look (Place.Root 1) (link_to 1)) None ∷ []) 1 2 }
 {}
 
 /// Two Moves of its own use up two turns of no agent.
 fn own_moves_are_no_excuse()
-    ensures { ¬ UsesTurns {S = Event FifoNote} (λ e. e.agent) (λ j. j) 1 2 (event_of 1 (Act.Move (Place.Root 1) (link_to 0) (link_to 1)) (Some FifoNote.Swing)
-        ∷ event_of 1 (Act.Move (Place.Root 1) (link_to 1) (link_to 2)) (Some FifoNote.Swing) ∷ []) 0 2 }
+    ensures { ¬ UsesTurns {S = Event FifoNote} (λ e. e.agent) (λ j. j) 1 2 (event_by 1 (Act.Move (Place.Root 1) (link_to 0) (link_to 1)) (Some FifoNote.Swing)
+        ∷ event_by 1 (Act.Move (Place.Root 1) (link_to 1) (link_to 2)) (Some FifoNote.Swing) ∷ []) 0 2 }
 {}
 
 /// Without turns a lack of rows is no cause. From position 2^62 - 1 on one Put leaves none.
@@ -49,9 +48,9 @@ fn other_causes()
     ensures a_row { ¬ Cause {S = Event FifoNote} (λ e. e.agent) (λ j. j) 0 (◌≡◌ {A = ℕ} 0 1) 1 1 QueueRefused.NoNode [] 0 0 }
     ensures no_turns { ¬ Cause {S = Event FifoNote} (λ e. e.agent) (λ j. j) 0 (◌≡◌ {A = ℕ} 0 0) 1 0 QueueRefused.NoNode [] 0 0 }
     ensures full { LacksPosition {S = Event FifoNote} (λ j. j) (2 ^ 62 - 1) 1
-        (event_of 1 (Act.Move (Place.Next 0) null (link_to 1)) (Some (FifoNote.Entry (QueueEntry.Put 1 7 (2 ^ 62 - 1)))) ∷ []) 1 }
+        (event_by 1 (Act.Move (Place.Next 0) null (link_to 1)) (Some (FifoNote.Entry (QueueEntry.Put 1 7 (2 ^ 62 - 1)))) ∷ []) 1 }
     ensures not_yet { ¬ LacksPosition {S = Event FifoNote} (λ j. j) (2 ^ 62 - 1) 1
-        (event_of 1 (Act.Move (Place.Next 0) null (link_to 1)) (Some (FifoNote.Entry (QueueEntry.Put 1 7 (2 ^ 62 - 1)))) ∷ []) 0 }
+        (event_by 1 (Act.Move (Place.Next 0) null (link_to 1)) (Some (FifoNote.Entry (QueueEntry.Put 1 7 (2 ^ 62 - 1)))) ∷ []) 0 }
 {}
 
 /// Node 0 is the dummy and leads to node 1, the last. A tail at node 0 lags; one at node 1 doesn't, and is past the head.
@@ -72,24 +71,24 @@ fn where_the_tail_is()
 
 /// A swing of root 1, and a miss of it, help the tail on; a move of root 0 leaves it.
 fn help()
-    ensures swing { SwingsTail 0 (event_of 1 (Act.Move (Place.Root 1) (link_to 0) (link_to 1)) (Some FifoNote.Swing)) }
-    ensures miss { SwingsTail 0 (event_of 1 (Act.Miss (Place.Root 1) (link_to 0) (link_to 1)) None) }
-    ensures not_its_own { ¬ SwingsTail 2 (event_of 1 (Act.Miss (Place.Root 1) (link_to 0) (link_to 1)) None) }
-    ensures keeps { KeepsTail (event_of 1 (Act.Move (Place.Root 0) (link_to 0) (link_to 1)) None ∷ []) }
-    ensures moves { ¬ KeepsTail (event_of 1 (Act.Move (Place.Root 1) (link_to 0) (link_to 1)) None ∷ []) }
+    ensures swing { SwingsTail 0 (event_by 1 (Act.Move (Place.Root 1) (link_to 0) (link_to 1)) (Some FifoNote.Swing)) }
+    ensures miss { SwingsTail 0 (event_by 1 (Act.Miss (Place.Root 1) (link_to 0) (link_to 1)) None) }
+    ensures not_its_own { ¬ SwingsTail 2 (event_by 1 (Act.Miss (Place.Root 1) (link_to 0) (link_to 1)) None) }
+    ensures keeps { KeepsTail (event_by 1 (Act.Move (Place.Root 0) (link_to 0) (link_to 1)) None ∷ []) }
+    ensures moves { ¬ KeepsTail (event_by 1 (Act.Move (Place.Root 1) (link_to 0) (link_to 1)) None ∷ []) }
 {}
 
 /// In a queue whose first position is 2^62 a Look at the dummy's null link finds no position left; one at the link of a
 /// node that was never linked does not.
 fn no_position_is_left()
     ensures first { let es : List (Event FifoNote) =
-        event_of 0 Act.Give None
-        ∷ event_of 0 (Act.Fill 0 1 (2 ^ 62)) None
-        ∷ event_of 0 (Act.Move (Place.Root 0) null (link_to 0)) (Some FifoNote.Begin)
-        ∷ event_of 0 (Act.Move (Place.Root 1) null (link_to 0)) (Some FifoNote.Begin) ∷ [] in
-        (next_position (record { roots = 2 }) es ≡ 2 ^ 62) × IsFullLook (record { roots = 2 }) 1 es (event_of 1 (Act.Look (Place.Next 0) null) None) }
+        event_by 0 Act.Give None
+        ∷ event_by 0 (Act.Fill 0 1 (2 ^ 62)) None
+        ∷ event_by 0 (Act.Move (Place.Root 0) null (link_to 0)) (Some FifoNote.Begin)
+        ∷ event_by 0 (Act.Move (Place.Root 1) null (link_to 0)) (Some FifoNote.Begin) ∷ [] in
+        (next_position (record { roots = 2 }) es ≡ 2 ^ 62) × IsFullLook (record { roots = 2 }) 1 es (event_by 1 (Act.Look (Place.Next 0) null) None) }
     ensures unlinked { let es : List (Event FifoNote) =
-        event_of 0 Act.Give None
-        ∷ event_of 0 (Act.Fill 0 1 (2 ^ 62)) None ∷ [] in
-        ¬ IsFullLook (record { roots = 2 }) 1 es (event_of 1 (Act.Look (Place.Next 0) null) None) }
+        event_by 0 Act.Give None
+        ∷ event_by 0 (Act.Fill 0 1 (2 ^ 62)) None ∷ [] in
+        ¬ IsFullLook (record { roots = 2 }) 1 es (event_by 1 (Act.Look (Place.Next 0) null) None) }
 {}

@@ -1,12 +1,14 @@
 //! One word that agents count up.
 
 ghost use Rattle.orc_heap.specs.Heap.{HeapNumbers};
-ghost use Rattle.orc_shared_words.specs.Operations.{answer_by, place_of, written_by};
+ghost use Rattle.orc_shared_words.specs.Operations.{returned_by};
+ghost use Rattle.orc_words.specs.Operations.{word_after};
 ghost use Rattle.orc_shared_words.specs.Ticks.{AnyFit, plain_fits, tick_rules, ticks_obey};
 ghost use Rattle.std.specs.Prelude.{◌≡◌, ℕ};
 
-use crate::{JournalStep, Machine, Operation};
+use crate::{JournalStep, Machine, PlacedOperation};
 use orc_heap::Discipline;
+use orc_words::Operation;
 
 /// An agent counts up (`true`) or looks (`false`), and keeps what it found last. Its shape is the number of agents.
 pub struct Ticks;
@@ -34,11 +36,15 @@ impl<N> Machine<N> for Ticks {
 
     ghost obeys = { ticks_obey };
 
-    fn operation(_shape: &u32, _agent: u32, op: &bool, _own: &u64) -> Operation {
-        if *op {
-            Operation::Add(0, 1)
+    fn operation(_shape: &u32, _agent: u32, op: &bool, _own: &u64) -> PlacedOperation {
+        let operation = if *op {
+            Operation::Add(1)
         } else {
-            Operation::Load(0)
+            Operation::Load
+        };
+        PlacedOperation {
+            place: 0,
+            operation,
         }
     }
 

@@ -3,7 +3,7 @@
 ghost use Rattle.std.specs.Prelude.{◌≡◌, ℕ, Bool, ◌==◌, ◌&&◌, not, List, [], ◌∷◌, replicate, Option, Some, None, true, false, nat_lt, pos};
 ghost use Rattle.orc_words.specs.declared.place.Word.{Word};
 ghost use Rattle.orc_words.specs.Packed.{counter_of};
-ghost use Rattle.orc_core.specs.declared.actions.Operation.{Operation};
+ghost use Rattle.orc_words.specs.declared.operation.Operation.{Operation};
 ghost use Rattle.orc_core.specs.declared.ops.CounterUse.{CounterUse};
 ghost use Rattle.orc_core.specs.declared.ops.Op.{Op};
 ghost use Rattle.orc_core.specs.declared.records.Agent.{Agent};

@@ -6,10 +6,10 @@ ghost use Rattle.orc_heap.specs.declared.events.Act.TheVariants as act;
 ghost use Rattle.orc_heap.specs.declared.events.Place.TheVariants as at;
 ghost use Rattle.orc_table.specs.Calls.{IsGateWord, seen_free, unless_linked};
 ghost use Rattle.orc_table.specs.Machine.{event, index_of, link_by, place_by, project, written};
-ghost use Rattle.orc_table.specs.Rules.{opening_events, step_of};
+ghost use Rattle.orc_table.specs.Rules.{step_of};
 ghost use Rattle.orc_table.specs.Words.{IsOut, IsWord};
 
-use crate::{PlainOp, Seed};
+use crate::PlainOp;
 use orc_words::Word;
 
 /// Rows 3 and then 7 were given: they are nodes 0 and 1.
@@ -48,17 +48,6 @@ fn fresh_rows()
     ensures linked { unless_linked (Some 4) (Some 4) ≡ None }
     ensures other { unless_linked (Some 4) (Some 5) ≡ Some 4 }
     ensures unlinked { unless_linked (Some 4) None ≡ Some 4 }
-{}
-
-/// What a board begins with.
-fn openings()
-    ensures empty { opening_events {N = Unit {0}} Seed.Empty ≡ [] }
-    ensures dummy { opening_events {N = ℕ} (Seed.Dummy 5 4) ≡ event 0 act.Give None
-        ∷ event 0 (act.Fill 0 0 0) None
-        ∷ event 0 (act.Fill 0 1 5) None
-        ∷ event 0 (act.Move (at.Root 0) (record { to = None; mark = false }) (record { to = Some 0; mark = false })) (Some 4)
-        ∷ event 0 (act.Move (at.Root 1) (record { to = None; mark = false }) (record { to = Some 0; mark = false })) (Some 4)
-        ∷ [] }
 {}
 
 /// Two agents take row 1: the first gets it, and the other's step is no event. Then a load finds null.

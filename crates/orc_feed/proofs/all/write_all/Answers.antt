@@ -1,4 +1,4 @@
-use Rattle.std.proofs.Common.{take, drop, sym, arith}
+use Rattle.std.proofs.Common.{rules, take, drop, sym, arith}
 use Rattle.std.proofs.Math.Seq.{take-add}
 use Rattle.std.proofs.lemmas.Result.{err_from_is_err_and}
 use Rattle.std.proofs.lemmas.List.{append-nil, length-drop, take-append-drop, take_rest}
@@ -17,10 +17,9 @@ returns-then-count-eq0-clause-err g c =
 
 pub loop-at-preserved : goal.loop-at-preserved
 loop-at-preserved g c =
-    let later = c.in_ok-count.ensures.cause.later in
     let bound = rw take_rest at c.in_ok-count.ensures.bound in
     record {
       room = omega (arith, length-drop c.loop-at.at c.args.text.now, bound);
-      later = omega (arith, later);
+      faults = search rules;
       bytes = rw (take-add c.loop-at.at c.in_ok-count.count c.args.text.now) (appends-more _ _ _ _ _ c.loop-at.invariant.bytes (rw take_rest at c.in_ok-count.ensures.bytes));
     }

@@ -2,9 +2,14 @@ use Rattle.std.proofs.Common.{◌∷◌, [], arith, ap, length, length-append, r
 use Rattle.orc_feed.proofs.tests.whole_by_hand.Goals as goal
 
 pub returns-clause-front : goal.returns-clause-front
-returns-clause-front c = (7 ∷ [], refl)
+returns-clause-front c = (7 ∷ [], refl, omega arith)
+
+pub returns-clause-too_many : goal.returns-clause-too_many
+returns-clause-too_many c (front, same, few) =
+    let sizes = ap length same in
+    omega (arith, few, sizes, length-append front [])
 
 pub returns-clause-grown : goal.returns-clause-grown
-returns-clause-grown c (front, same) =
+returns-clause-grown c (front, same, few) =
     let sizes = ap length same in
     omega (arith, sizes, length-append front (7 ∷ 8 ∷ []))

@@ -1,8 +1,12 @@
-use Rattle.std.proofs.Common.{Bor, List, ℕ, ◌≡◌, ◌∙◌, sym, refl, inl, inr, map, Some, ◌∷◌, ◌++◌, [], arith}
+use Rattle.std.proofs.Common.{true, false, Bor, List, ℕ, ◌≡◌, ◌∙◌, sym, refl, inl, inr, map, Some, ◌∷◌, ◌++◌, [], arith}
 use Rattle.std.proofs.lemmas.Result.{err_from_is_err_and}
 use Rattle.std.proofs.lemmas.List.{length-append, map-append}
 use Rattle.std.proofs.lemmas.List.Elements.{All-nil, All-push}
-use Rattle.csv.specs.Reading.{Reached, default_config, strip_bom}
+use Rattle.std.specs.declared.option.Option.{Option}
+use Rattle.csv.specs.Reading.{ExplainsRead, NotLengths, Reached, default_config, strip_bom}
+use Rattle.csv.specs.declared.reader.Reader.{Reader}
+use Rattle.csv.specs.declared.error.ErrorKind.{ErrorKind}
+use Rattle.csv.specs.declared.error.ErrorKind.TheVariants as kind
 use Rattle.csv.specs.Records.{fields_of}
 use Rattle.csv.specs.declared.parser.State.TheVariants as st
 use Rattle.csv.proofs.ReadFacts.{rows-more}
@@ -29,6 +33,7 @@ loop-row-init c =
       (sym fr.state, refl),
       All-nil IsLine,
       omega arith,
+      rw f at fr.flexible,
     )
 
 pub returns-in_err-take_record-clause-err : goal.returns-in_err-take_record-clause-err
@@ -56,6 +61,7 @@ loop-row-preserved c =
       rw rows m.2,
       rw took.joined (All-push IsLine c.loop-row.lines took.line inv.7 took.is),
       rw took.joined (omega (arith, room, length-append c.loop-row.lines (took.line ∷ []))),
+      rw (c.in-Some.is, c.in-Ok.is) at ((c.next.ensures.steps inv.2 inv.0).3) ∙ inv.9,
     )
 
 pub returns-clause-ok : goal.returns-clause-ok
@@ -67,3 +73,17 @@ returns-clause-ok c =
       each = inv.7;
       few = inv.8;
     }
+
+explained : {R : Type 0} (rem : R → Option (List ℕ)) (a b : Reader R) (k : ErrorKind) → a.flexible ≡ true → ExplainsRead rem a b false k → NotLengths k
+explained rem a b (kind.Io e) y h = tt
+explained rem a b kind.OutOfMemory y h = tt
+explained rem a b (kind.UnequalLengths pos expected len) y h = absurd (let bad : true ≡ false = sym y ∙ h.0 in cc bad)
+explained rem a b (kind.Utf8 pos err) y h = tt
+explained rem a b (kind.Serialize why) y h = tt
+explained rem a b (kind.Deserialize pos err) y h = tt
+
+pub fault_of-requires : goal.fault_of-requires
+fault_of-requires c =
+    let inv = c.loop-row.invariant in
+    let s = rw (c.in-Some.is, c.in-Err.is) at ((c.next.ensures.steps inv.2 inv.0).0 inv.1) in
+    explained (λ (s : Bor (List ℕ)). Some s.now) c.loop-row.row-iterator.rdr c.next.new.self.rdr c.in-Err.error.kind inv.9 s

@@ -1,10 +1,12 @@
 -- The tail is swung on once the node is linked.
 use Rattle.std.proofs.Common.{subst, sym}
 use Rattle.orc_heap.specs.Slots.{Holds, Slots, id_in}
-use Rattle.orc_fifo_rule.specs.QueueDiscipline.{HasLink, link_to}
-use Rattle.orc_queue.specs.Turns.{Helps, heap_of}
+use Rattle.orc_queue.specs.Turns.{Helps}
 use Rattle.orc_queue.proofs.Linking.{link_helped}
 use Rattle.orc_queue.proofs.put.link_behind.Goals as goal
+use Rattle.orc_heap.specs.Allowed.{HasLink}
+use Rattle.orc_heap.specs.Heap.{link_to}
+use Rattle.orc_heap.specs.Seats.{heap_of}
 
 pub help_tail-requires-clause-held : goal.help_tail-requires-clause-held
 help_tail-requires-clause-held g c =

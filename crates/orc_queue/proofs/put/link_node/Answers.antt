@@ -2,18 +2,17 @@
 use Rattle.std.proofs.Common.{Some, [], arith, refl, subst, ℕ, ◌∙◌, ◌∷◌}
 use Rattle.orc_heap.proofs.ByAnswer.{Swings-fresh, Swings-missed, Swings-moved}
 use Rattle.orc_heap.specs.Calls.{Misses, event_of}
-use Rattle.orc_heap.specs.Heap.{null}
+use Rattle.orc_heap.specs.Heap.{null, link_to}
 use Rattle.orc_heap.specs.OwnEvents.{Puts}
 use Rattle.orc_heap.specs.Slots.{id_in}
 use Rattle.orc_heap.specs.declared.events.Act.TheVariants.{Move}
 use Rattle.orc_heap.specs.declared.events.Place.TheVariants.{Next}
 use Rattle.orc_history.specs.declared.queue.QueueEntry.TheVariants.{Put}
 use Rattle.orc_fifo_rule.specs.declared.fifo.FifoNote.TheVariants.{Entry}
-use Rattle.orc_fifo_rule.specs.QueueDiscipline.{link_to}
 use Rattle.orc_queue.proofs.Filled.{known}
 use Rattle.orc_queue.proofs.Linking.{link_made, link_missed, put_may, read_position, tail_same}
-use Rattle.orc_queue.proofs.Pieces.{missed_fresh}
 use Rattle.orc_queue.proofs.put.link_node.Goals as goal
+use Rattle.orc_heap.proofs.Pieces.{missed_fresh}
 
 pub returns-then-at-ge-POSITIONS-clause-linked : goal.returns-then-at-ge-POSITIONS-clause-linked
 returns-then-at-ge-POSITIONS-clause-linked g c =

@@ -1,18 +1,20 @@
 -- By what the look of the tail's link found.
 use Rattle.std.proofs.Common.{ap, subst, sym, ℕ, ◌∙◌}
 use Rattle.orc_heap.proofs.ByAnswer.{Looks-held, Looks-null}
-use Rattle.orc_heap.specs.Allowed.{IsLinkedNode}
+use Rattle.orc_heap.specs.Allowed.{IsLinkedNode, HasLink}
 use Rattle.orc_heap.specs.Slots.{Holds, Slots, id_in}
 use Rattle.orc_heap.specs.declared.events.Place.TheVariants.{Next}
-use Rattle.orc_fifo_rule.specs.QueueDiscipline.{HasLink, link_to}
 use Rattle.orc_fifo_rule.specs.Watches.{WasNamed}
 use Rattle.orc_fifo_rule.specs.Kept.Paths.{successor_linked}
-use Rattle.orc_queue.specs.Turns.{Helps, LinksBehind, SwingsLast, heap_of}
+use Rattle.orc_queue.specs.Turns.{Helps, LinksBehind, SwingsLast}
 use Rattle.orc_queue.proofs.Behind.{behind_held, behind_moved, behind_null, fresh_apart, linked_helped, node_seen}
 use Rattle.orc_queue.proofs.Filled.{known}
 use Rattle.orc_queue.proofs.Looking.{next_held, next_null}
-use Rattle.orc_queue.proofs.Pieces.{named_puts, release_fresh, slot_holds, slot_id, slot_other, slot_other_id, slot_released}
+use Rattle.orc_queue.proofs.Pieces.{named_puts}
 use Rattle.orc_queue.proofs.put.put_behind.Goals as goal
+use Rattle.orc_heap.specs.Heap.{link_to}
+use Rattle.orc_heap.specs.Seats.{heap_of}
+use Rattle.orc_heap.proofs.Pieces.{release_fresh, slot_holds, slot_id, slot_other, slot_other_id, slot_released}
 
 pub link_behind-requires-clause-node : goal.link_behind-requires-clause-node
 link_behind-requires-clause-node g c =

@@ -1,9 +1,9 @@
 -- One turn after another, until one answers.
 use Rattle.std.proofs.Common.{[], append-nil, arith, subst, ℕ, ◌≡◌}
 use Rattle.orc_queue.specs.Turns.{PutTires}
-use Rattle.orc_queue.proofs.Joins.{goes_on}
 use Rattle.orc_queue.proofs.PutTurns.{tires_next, tires_none, turns_done}
 use Rattle.orc_queue.proofs.put.put_turns.Goals as goal
+use Rattle.orc_heap.proofs.Pieces.{goes_on}
 
 pub loop-init : goal.loop-init
 loop-init g c =

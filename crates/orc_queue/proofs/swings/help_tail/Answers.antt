@@ -5,8 +5,9 @@ use Rattle.orc_fifo_rule.proofs.Coming.{swing_allowed}
 use Rattle.orc_fifo_rule.specs.Kept.Paths.{successor_linked}
 use Rattle.orc_queue.proofs.Filled.{known}
 use Rattle.orc_queue.proofs.Looking.{roots_there}
-use Rattle.orc_queue.proofs.Pieces.{helps, linked_not_fresh}
+use Rattle.orc_queue.proofs.Pieces.{helps}
 use Rattle.orc_queue.proofs.swings.help_tail.Goals as goal
+use Rattle.orc_heap.proofs.Pieces.{linked_not_fresh}
 
 pub change-done-requires-clause-place : goal.change-done-requires-clause-place
 change-done-requires-clause-place g c =

@@ -7,12 +7,12 @@ use Rattle.orc_heap.specs.Slots.{Slots, id_in}
 use Rattle.orc_fifo_rule.proofs.Reading.{successor_job}
 use Rattle.orc_fifo_rule.specs.QueueDiscipline.{position_of}
 use Rattle.orc_fifo_rule.specs.Kept.Nodes.{job_linked}
-use Rattle.orc_queue.specs.Turns.{heap_of}
 use Rattle.orc_queue.proofs.Filled.{known}
 use Rattle.orc_queue.proofs.Looking.{job_read, roots_there}
-use Rattle.orc_queue.proofs.Pieces.{linked_not_fresh}
 use Rattle.orc_queue.proofs.Taking.{head_missed, head_swung, job_puts, second_read, took_may}
 use Rattle.orc_queue.proofs.take.swing_head.Goals as goal
+use Rattle.orc_heap.specs.Seats.{heap_of}
+use Rattle.orc_heap.proofs.Pieces.{linked_not_fresh}
 
 pub overflow_sub-at : goal.overflow_sub-at
 overflow_sub-at g c =

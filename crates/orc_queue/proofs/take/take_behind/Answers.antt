@@ -1,18 +1,20 @@
 -- By what the look of the head's link found.
 use Rattle.std.proofs.Common.{Bool, Option, ap, false, subst, sym, ℕ, ◌∙◌}
 use Rattle.orc_heap.proofs.ByAnswer.{Looks-held, Looks-null}
-use Rattle.orc_heap.specs.Allowed.{IsLinkedNode}
+use Rattle.orc_heap.specs.Allowed.{IsLinkedNode, HasLink}
 use Rattle.orc_heap.specs.Slots.{Holds, Slots, id_in}
 use Rattle.orc_heap.specs.declared.events.Place.TheVariants.{Next}
-use Rattle.orc_fifo_rule.specs.QueueDiscipline.{HasLink, link_to}
 use Rattle.orc_fifo_rule.specs.Watches.{WasNamed}
 use Rattle.orc_fifo_rule.specs.Kept.Paths.{successor_linked}
-use Rattle.orc_queue.specs.Turns.{FindsEnd, TakesNext, heap_of}
+use Rattle.orc_queue.specs.Turns.{FindsEnd, TakesNext}
 use Rattle.orc_queue.proofs.Filled.{known}
 use Rattle.orc_queue.proofs.Looking.{next_held, next_null}
-use Rattle.orc_queue.proofs.Pieces.{linked_puts, named_puts, release_fresh, slot_holds, slot_id, slot_other, slot_other_id, slot_released}
+use Rattle.orc_queue.proofs.Pieces.{linked_puts, named_puts}
 use Rattle.orc_queue.proofs.TakeTurns.{behind_differs, behind_empty, behind_lost, behind_over, behind_taken, next_piece}
 use Rattle.orc_queue.proofs.take.take_behind.Goals as goal
+use Rattle.orc_heap.specs.Heap.{link_to}
+use Rattle.orc_heap.specs.Seats.{heap_of}
+use Rattle.orc_heap.proofs.Pieces.{release_fresh, slot_holds, slot_id, slot_other, slot_other_id, slot_released}
 
 pub finds_end-requires-clause-named : goal.finds_end-requires-clause-named
 finds_end-requires-clause-named g c =

@@ -2,14 +2,16 @@
 use Rattle.std.proofs.Common.{arith, refl, subst, sym}
 use Rattle.orc_heap.proofs.ByAnswer.{Tests-found, Tests-missed}
 use Rattle.orc_heap.specs.Slots.{Slots, id_in}
-use Rattle.orc_fifo_rule.specs.QueueDiscipline.{HasLink, link_to}
 use Rattle.orc_fifo_rule.specs.Watches.{IsLeft}
-use Rattle.orc_queue.specs.Turns.{Helps, TakesFrom, heap_of}
+use Rattle.orc_queue.specs.Turns.{Helps, TakesFrom}
 use Rattle.orc_queue.proofs.Filled.{known}
 use Rattle.orc_queue.proofs.Looking.{roots_there}
 use Rattle.orc_queue.proofs.Pieces.{link_puts}
 use Rattle.orc_queue.proofs.Taking.{past_helped, past_left, past_taken}
 use Rattle.orc_queue.proofs.take.take_next.Goals as goal
+use Rattle.orc_heap.specs.Allowed.{HasLink}
+use Rattle.orc_heap.specs.Heap.{link_to}
+use Rattle.orc_heap.specs.Seats.{heap_of}
 
 pub same-requires-clause-place : goal.same-requires-clause-place
 same-requires-clause-place g c =

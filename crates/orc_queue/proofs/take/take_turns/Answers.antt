@@ -1,10 +1,10 @@
 -- One turn after another, until one answers.
 use Rattle.std.proofs.Common.{[], append-nil, arith, subst, ℕ, ◌≡◌}
 use Rattle.orc_queue.specs.Turns.{AreOver, TailIsPast}
-use Rattle.orc_queue.proofs.Joins.{goes_on}
 use Rattle.orc_queue.proofs.PutTurns.{over_next, over_none}
 use Rattle.orc_queue.proofs.TakeTurns.{turns_taken}
 use Rattle.orc_queue.proofs.take.take_turns.Goals as goal
+use Rattle.orc_heap.proofs.Pieces.{goes_on}
 
 pub loop-init : goal.loop-init
 loop-init g c =

@@ -5,12 +5,14 @@ use Rattle.orc_heap.specs.Allowed.{IsLinkedNode}
 use Rattle.orc_heap.specs.Slots.{Holds, Slots, id_in}
 use Rattle.orc_heap.specs.declared.events.Place.TheVariants.{Root}
 use Rattle.orc_fifo_rule.specs.Watches.{WasNamed}
-use Rattle.orc_queue.specs.Turns.{KeepsTail, heap_of}
+use Rattle.orc_queue.specs.Turns.{KeepsTail}
 use Rattle.orc_queue.proofs.Filled.{known}
 use Rattle.orc_queue.proofs.Linking.{link_kept}
 use Rattle.orc_queue.proofs.Looking.{root_held, root_not_null, roots_there}
-use Rattle.orc_queue.proofs.Pieces.{linked_puts, node_held, release_fresh, slot_holds, slot_id, slot_other, slot_other_id, slot_released}
+use Rattle.orc_queue.proofs.Pieces.{linked_puts, node_held}
 use Rattle.orc_queue.proofs.tests.link_at_tail.Goals as goal
+use Rattle.orc_heap.specs.Seats.{heap_of}
+use Rattle.orc_heap.proofs.Pieces.{release_fresh, slot_holds, slot_id, slot_other, slot_other_id, slot_released}
 
 pub look-requires-clause-place : goal.look-requires-clause-place
 look-requires-clause-place g c =

@@ -1,5 +1,5 @@
 use Rattle.std.proofs.Common.{◌≡◌}
-use Rattle.orc_table.specs.Rules.{opening_events}
+use Rattle.orc_heap.specs.Seeds.{opening_events}
 use Rattle.orc_table.specs.Views.{shows}
 use Rattle.orc_domain.proofs.Making.{all_belong, all_idle, each_at, each_pass}
 use Rattle.orc_domain.proofs.domain.PlainDomain.make.Goals as goal

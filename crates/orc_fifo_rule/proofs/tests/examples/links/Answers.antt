@@ -3,18 +3,18 @@ use Rattle.orc_heap.specs.declared.events.Act.TheVariants.{Move}
 use Rattle.orc_heap.specs.declared.events.Event.{Event}
 use Rattle.orc_heap.specs.declared.events.Link.{Link}
 use Rattle.orc_heap.specs.declared.events.Place.TheVariants.{Next}
-use Rattle.orc_heap.specs.Heap.{null}
+use Rattle.orc_heap.specs.Heap.{null, link_to}
 use Rattle.orc_history.specs.declared.queue.QueueEntry.TheVariants.{Put}
 use Rattle.orc_fifo_rule.specs.declared.fifo.FifoNote.{FifoNote}
 use Rattle.orc_fifo_rule.specs.declared.fifo.FifoNote.TheVariants.{Entry}
-use Rattle.orc_fifo_rule.specs.QueueDiscipline.{IsPutNode, link_to}
-use Rattle.orc_fifo_rule.specs.Watches.{event_of}
+use Rattle.orc_fifo_rule.specs.QueueDiscipline.{IsPutNode}
 use Rattle.orc_fifo_rule.specs.Kept.Events.{contains_one}
-use Rattle.orc_fifo_rule.specs.Kept.Kinds.{null_to}
 use Rattle.orc_fifo_rule.proofs.tests.examples.links.Goals as goal
+use Rattle.orc_heap.specs.Journals.{event_by}
+use Rattle.orc_heap.proofs.SingleActs.{null_to}
 
 the_put : Event FifoNote
-the_put = event_of 1 (Move (Next 0) null (link_to 1)) (Some (Entry (Put 1 7 5)))
+the_put = event_by 1 (Move (Next 0) null (link_to 1)) (Some (Entry (Put 1 7 5)))
 
 no_other : (next job : ℕ) → IsPutNode (the_put ∷ []) next job 6 → ⊥
 unfolding the_put

@@ -1,11 +1,11 @@
 use Rattle.std.proofs.Common.{ap, subst, sym, ℕ, ◌<◌, ◌∙◌, ◌≡◌}
 use Rattle.orc_core.proofs.Within.{may_below, may_packable}
-use Rattle.orc_core.specs.Actions.{IsPackable, action_of, answer_of}
+use Rattle.orc_core.specs.Actions.{IsPackable, action_of}
 use Rattle.orc_core.specs.declared.actions.Action.{Action}
-use Rattle.orc_shared_words.specs.Operations.{answer_by}
-use Rattle.orc_machine_board.specs.Rules.{at_place, heap_numbers}
+use Rattle.orc_machine_board.specs.Rules.{heap_numbers}
 use Rattle.orc_machine_board.specs.Views.{Makes, view_of}
 use Rattle.orc_words.specs.Bounds.{bounds_of}
+use Rattle.orc_words.specs.Operations.{answer_of}
 use Rattle.orc_words.specs.Places.{place, places}
 use Rattle.orc_machine_board.proofs.Making.{makes}
 use Rattle.orc_machine_board.proofs.board.MachineBoard.step.Goals as goal
@@ -30,7 +30,6 @@ returns-clause-makes g c =
     let v = p.seat.me.0 in
     let n = c.step-n.result in
     let op = c.args.request.op in
-    let answers = subst (λ d. (word : ℕ) → n ≡ answer_by (at_place 0 (action_of p.agent op d).operation) word → c.applied.result ≡ answer_of (action_of p.agent op d).operation word) (sym p.mine)
-    (subst (λ (z : Action). (word : ℕ) → n ≡ answer_by (at_place 0 z.operation) word → c.applied.result ≡ answer_of z.operation word) c.action_of-action.ensures c.applied.ensures) in
-    subst (λ z. Makes (bounds_of k.shape) c.args.request c.args.note.now (view_of p.agent v) c.applied.result (view_of z c.step-n.new.p.seat.me.0)) (sym c.step-n.ensures.agent)
-    (makes k (g.D.Discipline.holds (heap_numbers k)) (g.D.Discipline.may (heap_numbers k)) c.args.request c.args.note.now v c.step-n.new.p.seat.me.0 n p.agent c.applied.result c.requires.belongs.keeps c.step-n.ensures.step answers)
+    let says : c.answer.result ≡ answer_of (action_of p.agent op v.own).operation n = c.answer.ensures ∙ (ap (λ (z : Action). answer_of z.operation n) c.action_of-action.ensures ∙ ap (λ d. answer_of (action_of p.agent op d).operation n) (sym p.mine)) in
+    subst (λ (z : ℕ × ℕ). Makes (bounds_of k.shape) c.args.request c.args.note.now (view_of p.agent v) z.0 (view_of z.1 c.step-n.new.p.seat.me.0)) (λ i. (sym says i, sym c.step-n.ensures.agent i))
+    (makes k (g.D.Discipline.holds (heap_numbers k)) (g.D.Discipline.may (heap_numbers k)) c.args.request c.args.note.now v c.step-n.new.p.seat.me.0 n p.agent c.requires.belongs.keeps c.step-n.ensures.step)

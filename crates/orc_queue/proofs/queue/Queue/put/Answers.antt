@@ -5,8 +5,8 @@ use Rattle.orc_history.specs.Parts.{IsAlone}
 use Rattle.orc_queue.proofs.Answering.{put_settled}
 use Rattle.orc_queue.proofs.Causes.{any_gives, any_tries, put_again, put_any, put_err, put_no_turns, put_ok, put_positions, put_some_turn, put_tail, within_stays}
 use Rattle.orc_queue.proofs.Filled.{known}
-use Rattle.orc_queue.proofs.Joins.{goes_on}
 use Rattle.orc_queue.proofs.queue.Queue.put.Goals as goal
+use Rattle.orc_heap.proofs.Pieces.{goes_on}
 
 pub returns-clause-pass : goal.returns-clause-pass
 returns-clause-pass g c =

@@ -4,8 +4,8 @@ use Rattle.orc_heap.proofs.Steps.{alone_later}
 use Rattle.orc_history.specs.Parts.{IsAlone}
 use Rattle.orc_queue.proofs.Answering.{take_settled}
 use Rattle.orc_queue.proofs.Causes.{any_gives, any_tries, take_again, take_any, take_err, take_no_turns, take_ok}
-use Rattle.orc_queue.proofs.Joins.{goes_on}
 use Rattle.orc_queue.proofs.queue.Queue.take.Goals as goal
+use Rattle.orc_heap.proofs.Pieces.{goes_on}
 
 pub returns-clause-pass : goal.returns-clause-pass
 returns-clause-pass g c =

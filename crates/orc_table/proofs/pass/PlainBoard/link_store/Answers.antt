@@ -1,7 +1,11 @@
 use Rattle.std.proofs.Common.{◌∙◌}
 use Rattle.orc_table.proofs.LinkTells.{store_keeps, store_replaces}
-use Rattle.orc_table.proofs.Licences.{store_licence}
+use Rattle.orc_table.proofs.Licences.{link_inside, store_licence}
 use Rattle.orc_table.proofs.pass.PlainBoard.link_store.Goals as goal
+
+pub step-requires-clause-allowed : goal.step-requires-clause-allowed
+step-requires-clause-allowed g c =
+    (c.requires.row, link_inside g.D.Discipline c.args.self.now.words.shape c.args.p.now.pass.seat.me.0 c.args.p.now.pass.agent c.args.p.now.fresh c.args.p.now.looked c.requires.belongs.keeps c.args.link c.requires.target)
 
 pub step-requires-clause-licensed : goal.step-requires-clause-licensed
 step-requires-clause-licensed g c =

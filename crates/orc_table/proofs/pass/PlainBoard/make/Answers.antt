@@ -7,7 +7,7 @@ use Rattle.orc_table.proofs.Opening.{has_roots, opened_events, opens}
 use Rattle.orc_table.proofs.pass.PlainBoard.make.Goals as goal
 
 pub opening_words-requires : goal.opening_words-requires
-opening_words-requires g c = record { roots = has_roots (g.D.Discipline.may (numbers (bounds_of c.args.shape.now))) (bounds_of c.args.shape.now) c.args.seed c.requires.seed }
+opening_words-requires g c = record { roots = has_roots g.D.Discipline.may (numbers (bounds_of c.args.shape.now)) c.args.seed c.requires.seed }
 
 pub make-requires-clause-opening : goal.make-requires-clause-opening
 make-requires-clause-opening g c = opens g.D.Discipline c.args.shape.now c.args.seed c.requires.holds c.requires.seed
@@ -51,4 +51,4 @@ returns-clause-events g c = λ i p lt.
     let lt2 = subst (λ n. i < n) c.in_ok-passes.ensures.long lt in
     let seen = ap (λ z. z.seat.me.0.seen) e ∙ (c.in_ok-words-2.ensures.seen i p.pass lt2).0 in
     let shape = c.in_ok-words-2.ensures.shape in
-    (λ j. project (bounds_of (shape j).shape) (seen j)) ∙ opened_events g.D.Discipline c.args.shape.now c.args.seed (has_roots (g.D.Discipline.may (numbers (bounds_of c.args.shape.now))) (bounds_of c.args.shape.now) c.args.seed c.requires.seed)
+    (λ j. project (bounds_of (shape j).shape) (seen j)) ∙ opened_events g.D.Discipline c.args.shape.now c.args.seed (has_roots g.D.Discipline.may (numbers (bounds_of c.args.shape.now)) c.args.seed c.requires.seed)

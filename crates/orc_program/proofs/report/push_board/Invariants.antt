@@ -1,8 +1,0 @@
-use Rattle.std.proofs.Common.{◌≡◌, ◌++◌, take}
-use Rattle.std.specs.List.{flat_map}
-use Rattle.std.specs.String.{string_bytes}
-use Rattle.orc_program.specs.Report.{board_line}
-use Rattle.orc_program.proofs.report.push_board.Given as goal
-
-abbrev pub invariant-loop-reply : goal.invariant-loop-reply
-invariant-loop-reply l = string_bytes l.text ≡ string_bytes l.initial.text ++ flat_map (board_line l.lines) (take l.reply-index l.board)

@@ -1,0 +1,69 @@
+-- The text of a report: the board in order of position, then every worker's replies.
+use Rattle.std.specs.Prelude.{◌++◌, List, [], ℕ, codes, length, slice_get, Option, Some, None}
+use Rattle.std.specs.List.{flat_map}
+use Rattle.std.specs.Option.{option_map_or}
+use Rattle.std.specs.Fmt.{decimal}
+use Rattle.orc_jobs.specs.declared.line.Line.{Line}
+use Rattle.orc_jobs.specs.Line.{id_of}
+use Rattle.orc_board.specs.Follows.{by_key}
+use Rattle.orc_board.specs.declared.replies.PostReply.{PostReply}
+use Rattle.orc_board.specs.declared.replies.PostWord.{PostWord}
+use Rattle.orc_board.specs.declared.replies.PostWord.TheVariants as post
+use Rattle.orc_board.specs.declared.replies.TakeReply.{TakeReply}
+use Rattle.orc_board.specs.declared.replies.TakeWord.{TakeWord}
+use Rattle.orc_board.specs.declared.replies.TakeWord.TheVariants as take
+use Rattle.orc_report.specs.declared.report.RestNumbers.{RestNumbers}
+
+-- the id of the record with this number
+abbrev pub id_at : List Line → ℕ → ℕ
+id_at lines place = option_map_or id_of (slice_get lines place) 0
+
+-- what became of a job that was taken
+abbrev pub take_word : TakeWord → List ℕ
+take_word (take.Done value) = codes "done " ++ decimal value
+take_word take.Void = codes "void"
+
+-- what became of a record
+abbrev pub post_word : PostWord → List ℕ
+post_word (post.Posted at) = codes "posted " ++ decimal at
+post_word post.Busy = codes "busy"
+post_word post.NoNode = codes "nonode"
+post_word post.Positions = codes "positions"
+post_word post.Spent = codes "spent"
+post_word post.Dropped = codes "dropped"
+post_word post.Unknown = codes "unknown"
+
+-- the board's line of a position: the record that was posted there, and what became of it
+abbrev pub board_row : ℕ → ℕ → ℕ → TakeWord → List ℕ
+board_row at place id what =
+    decimal at ++ codes " line " ++ decimal place ++ codes " id " ++ decimal id ++ codes " " ++ take_word what ++ codes "\n"
+
+abbrev pub board_line : List Line → TakeReply → List ℕ
+board_line lines r = board_row r.at r.line (id_at lines r.line) r.what
+
+-- the line of a poster's reply
+abbrev pub post_line : PostReply → List ℕ
+post_line r = codes "poster " ++ decimal r.poster ++ codes " line " ++ decimal r.line ++ codes " " ++ post_word r.what ++ codes "\n"
+
+-- the line of a taker's reply
+abbrev pub take_line : TakeReply → List ℕ
+take_line r = codes "taker " ++ decimal r.taker ++ codes " at " ++ decimal r.at ++ codes " " ++ take_word r.what ++ codes "\n"
+
+-- the take replies, that of position 0 first
+abbrev pub by_position : List TakeReply → List TakeReply
+by_position takes = by_key (λ (r : TakeReply). r.at) (length takes) takes
+
+-- how many nodes a container was given, had reused, and has linked at rest
+abbrev pub rest_line : List ℕ → ℕ → ℕ → ℕ → List ℕ
+rest_line name given reused linked = name ++ codes " given " ++ decimal given ++ codes " reused " ++ decimal reused ++ codes " linked " ++ decimal linked ++ codes "\n"
+
+abbrev pub rest_lines : Option RestNumbers → List ℕ
+rest_lines None = []
+rest_lines (Some n) =
+    codes "rest\n" ++ rest_line (codes "queue") n.queue_given n.queue_reused n.queue_linked ++ rest_line (codes "set") n.set_given n.set_reused n.set_linked
+
+-- the report of these lines and replies
+abbrev pub report_of : List Line → List PostReply → List TakeReply → Option RestNumbers → List ℕ
+report_of lines posts takes rest =
+    codes "board\n" ++ flat_map (board_line lines) (by_position takes)
+    ++ codes "replies\n" ++ flat_map post_line posts ++ flat_map take_line takes ++ rest_lines rest

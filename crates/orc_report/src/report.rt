@@ -1,0 +1,183 @@
+//! The text of a report.
+ghost use Rattle.std.specs.Prelude.{◌≡◌, ◌<◌, ◌++◌, IfOk, OnOk, length, take, codes, Some};
+ghost use Rattle.std.specs.Option.{option_copied};
+ghost use Rattle.std.specs.List.{flat_map, AllByRecursion};
+ghost use Rattle.std.specs.String.{string_bytes};
+ghost use Rattle.orc_jobs.specs.Line.{id_of};
+ghost use Rattle.orc_jobs.specs.GoodLines.{AreGood};
+ghost use Rattle.orc_board.specs.Reportable.{AreReportable};
+ghost use Rattle.orc_report.specs.Report.{by_position, board_line, board_row, post_line, take_line, post_word, take_word, report_of, rest_line, rest_lines};
+
+use orc_board::{PostReply, PostWord, Replies, TakeReply, TakeWord};
+use orc_fault::NoMemory;
+use orc_jobs::{Line, Lines, Text};
+use std::alloc::{AllocError, Global};
+
+/// How many nodes each container was given, how many of these had been freed before, and how many are linked at rest.
+#[derive(Clone, Copy, Debug, PartialEq, Eq, Drop)]
+pub struct RestNumbers {
+    pub queue_given: u64,
+    pub queue_reused: u64,
+    pub queue_linked: u32,
+    pub set_given: u64,
+    pub set_reused: u64,
+    pub set_linked: u32,
+}
+
+/// The report: the board in order of position, then the replies in their order, then what is at rest.
+pub fn report_text(
+    alloc: Global,
+    lines: &Lines,
+    replies: &Replies,
+    rest: Option<&RestNumbers>,
+) -> Result<Text, NoMemory>
+    requires good { AreGood lines.now }
+    requires reportable { AreReportable lines.now replies.now.posts.items replies.now.takes.items }
+    ensures { IfOk result (λ t. t ≡ report_of lines.now replies.now.posts.items replies.now.takes.items (option_copied rest.entry)) }
+{
+    let text = write_report(alloc, lines, replies, rest)?;
+    Ok(Text::from_string(text))
+}
+
+// The same as a string.
+fn write_report(
+    alloc: Global,
+    lines: &Lines,
+    replies: &Replies,
+    rest: Option<&RestNumbers>,
+) -> Result<String, AllocError>
+    requires good { AreGood lines.now }
+    requires reportable { AreReportable lines.now replies.now.posts.items replies.now.takes.items }
+    ensures { IfOk result (λ t. string_bytes t ≡ report_of lines.now replies.now.posts.items replies.now.takes.items (option_copied rest.entry)) }
+{
+    let board = in_position_order(alloc, replies.takes.items())?;
+    let mut text = String::from_str(alloc, "board\n")?;
+    push_board(&mut text, lines, board.as_slice())?;
+    text.push_str("replies\n")?;
+    push_posts(&mut text, replies.posts.items())?;
+    push_takes(&mut text, replies.takes.items())?;
+    if let Some(numbers) = rest {
+        push_rest(&mut text, numbers)?;
+    }
+    Ok(text)
+}
+
+// The take replies, that of position 0 first.
+fn in_position_order(alloc: Global, takes: &[TakeReply]) -> Result<Vec<TakeReply>, AllocError>
+    requires { AllByRecursion (λ r. r.at < length takes.now) takes.now }
+    ensures { IfOk result (λ v. v.items ≡ by_position takes.now) }
+{
+    let mut board = Vec::from_slice(alloc, takes)?;
+    board.sort_by_key(|r| r.at)?;
+    Ok(board)
+}
+
+// The board's lines at the end of a text.
+fn push_board(text: &mut String, lines: &Lines, board: &[TakeReply]) -> Result<(), AllocError>
+    requires { AllByRecursion (λ r. r.line < length lines.now) board.now }
+    ensures { OnOk result (string_bytes text.new ≡ string_bytes text.old ++ flat_map (board_line lines.now) board.now) }
+{
+    for reply in board {
+        let id = id_of_line(lines.get(reply.line as usize));
+        push_board_row(text, reply.at, reply.line, id, reply.what)?;
+    }
+    Ok(())
+}
+
+// The lines of the posters' replies.
+fn push_posts(text: &mut String, posts: &[PostReply]) -> Result<(), AllocError>
+    ensures { OnOk result (string_bytes text.new ≡ string_bytes text.old ++ flat_map post_line posts.now) }
+{
+    for reply in posts {
+        push_post(text, reply)?;
+    }
+    Ok(())
+}
+
+// The lines of the takers' replies.
+fn push_takes(text: &mut String, takes: &[TakeReply]) -> Result<(), AllocError>
+    ensures { OnOk result (string_bytes text.new ≡ string_bytes text.old ++ flat_map take_line takes.now) }
+{
+    for reply in takes {
+        push_take(text, reply)?;
+    }
+    Ok(())
+}
+
+// The id that a line names.
+fn id_of_line(line: &Line) -> u32
+    ensures { result ≡ id_of line.now }
+{
+    match line {
+        Line::Post { id, .. } => *id,
+        Line::Drop { id } => *id,
+    }
+}
+
+// One line of the board.
+fn push_board_row(
+    text: &mut String,
+    at: u64,
+    place: u32,
+    id: u32,
+    what: TakeWord,
+) -> Result<(), AllocError>
+    ensures { OnOk result (string_bytes text.new ≡ string_bytes text.old ++ board_row at place id what) }
+{
+    match what {
+        TakeWord::Done(value) => writeln!(text, "{at} line {place} id {id} done {value}"),
+        TakeWord::Void => writeln!(text, "{at} line {place} id {id} void"),
+    }
+}
+
+// One poster's reply.
+fn push_post(text: &mut String, reply: &PostReply) -> Result<(), AllocError>
+    ensures { OnOk result (string_bytes text.new ≡ string_bytes text.old ++ post_line reply.now) }
+{
+    let poster = reply.poster;
+    let line = reply.line;
+    match reply.what {
+        PostWord::Posted(at) => writeln!(text, "poster {poster} line {line} posted {at}"),
+        PostWord::Busy => writeln!(text, "poster {poster} line {line} busy"),
+        PostWord::NoNode => writeln!(text, "poster {poster} line {line} nonode"),
+        PostWord::Positions => writeln!(text, "poster {poster} line {line} positions"),
+        PostWord::Spent => writeln!(text, "poster {poster} line {line} spent"),
+        PostWord::Dropped => writeln!(text, "poster {poster} line {line} dropped"),
+        PostWord::Unknown => writeln!(text, "poster {poster} line {line} unknown"),
+    }
+}
+
+// One taker's reply.
+fn push_take(text: &mut String, reply: &TakeReply) -> Result<(), AllocError>
+    ensures { OnOk result (string_bytes text.new ≡ string_bytes text.old ++ take_line reply.now) }
+{
+    let taker = reply.taker;
+    let at = reply.at;
+    match reply.what {
+        TakeWord::Done(value) => writeln!(text, "taker {taker} at {at} done {value}"),
+        TakeWord::Void => writeln!(text, "taker {taker} at {at} void"),
+    }
+}
+
+// What is at rest.
+fn push_rest(text: &mut String, numbers: &RestNumbers) -> Result<(), AllocError>
+    ensures { OnOk result (string_bytes text.new ≡ string_bytes text.old ++ rest_lines (Some numbers.now)) }
+{
+    let n = numbers;
+    text.push_str("rest\n")?;
+    push_rest_line(text, "queue", n.queue_given, n.queue_reused, n.queue_linked)?;
+    push_rest_line(text, "set", n.set_given, n.set_reused, n.set_linked)
+}
+
+// What one container has at rest.
+fn push_rest_line(
+    text: &mut String,
+    name: &str,
+    given: u64,
+    reused: u64,
+    linked: u32,
+) -> Result<(), AllocError>
+    ensures { OnOk result (string_bytes text.new ≡ string_bytes text.old ++ rest_line name.now given reused linked) }
+{
+    writeln!(text, "{name} given {given} reused {reused} linked {linked}")
+}

@@ -1,0 +1,15 @@
+//! Worked examples of the definitions.
+ghost use Rattle.std.specs.Prelude.{◌≡◌, ◌∷◌, [], codes, None};
+ghost use Rattle.orc_board.specs.declared.replies.TakeWord.{TakeWord};
+ghost use Rattle.orc_report.specs.Report.{by_position, report_of};
+
+// The report of no line.
+fn empty_report()
+    ensures { report_of [] [] [] None ≡ codes "board\nreplies\n" }
+{}
+
+// Two claims, of which the later position was reported first.
+fn board_in_order()
+    ensures { by_position (record { taker = 0; at = 1; line = 0; what = TakeWord.Void } ∷ record { taker = 1; at = 0; line = 2; what = TakeWord.Done 5 } ∷ [])
+        ≡ record { taker = 1; at = 0; line = 2; what = TakeWord.Done 5 } ∷ record { taker = 0; at = 1; line = 0; what = TakeWord.Void } ∷ [] }
+{}
