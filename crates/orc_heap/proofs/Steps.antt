@@ -10,8 +10,8 @@ use mathlib.Core.List.{IsPrefix}
 use Rattle.orc_heap.proofs.OwnParts.{both, own_join}
 use Rattle.orc_heap.specs.Allowed.{events_by}
 use Rattle.orc_heap.specs.Moves.{AllOwn}
-use Rattle.orc_history.specs.Journals.{own_of}
-use Rattle.orc_history.specs.Parts.{IsAlone, first_step, part_begin, part_of}
+use Rattle.orc_history.specs.Journals.{Within, own_of}
+use Rattle.orc_history.specs.Parts.{InPart, IsAlone, first_step, part_begin, part_of}
 use Rattle.orc_heap.specs.declared.events.Event.{Event}
 
 -- the steps from the agent's first one on
@@ -78,6 +78,13 @@ part_bounds agent_of agent before after grows =
     let c = cut_at_part agent_of agent before after grows in
     let after_is = ap length c.is in
     (omega (arith, c.begin_is, length-append before c.gap), omega (arith, c.begin_is, after_is, length-append (before ++ c.gap) c.part))
+
+-- so a fact of its places, at some time of a call, is one of two places within what is new
+pub part_within : {S : Type 0} (agent_of : S → ℕ) (agent : ℕ) (before seen after : List S) (Fact : ℕ → ℕ → Type 0) → IsPrefix before seen → IsPrefix seen after
+    → InPart agent_of agent before seen Fact → Within (length before) (length after) Fact
+part_within agent_of agent before seen after Fact grows (more, is) fact =
+    let bounds = part_bounds agent_of agent before seen grows in
+    (part_begin agent_of agent before seen, length seen, bounds.0, bounds.1, omega (arith, length-append seen more, ap length is), fact)
 
 alone_rest : {S : Type 0} (agent_of : S → ℕ) (agent : ℕ) (ss more : List S) → list_all (λ s. agent_of s == agent) (from_first agent_of agent (ss ++ more)) ≡ true
     → list_all (λ s. agent_of s == agent) (from_first agent_of agent more) ≡ true

@@ -1,8 +1,10 @@
 -- What the contracts of a container say of a pass of its domain of links before a call, `old`, and after it, `new`.
-use Rattle.std.specs.Prelude.{List, Option, length, take, ℕ, ◌<◌, ◌≡◌, ◌≤◌}
+use Rattle.std.specs.Prelude.{List, Option, length, ℕ, ◌+◌, ◌<◌, ◌≡◌, ◌≤◌}
+use mathlib.Core.List.{IsPrefix}
 use Rattle.orc_heap.specs.Allowed.{events_by}
 use Rattle.orc_heap.specs.Heap.{Heap}
 use Rattle.orc_heap.specs.Journals.{noted_entries}
+use Rattle.orc_heap.specs.Moves.{gives_in}
 use Rattle.orc_heap.specs.Seats.{heap_of}
 use Rattle.orc_heap.specs.declared.events.Event.{Event}
 use Rattle.orc_heap.specs.declared.links.Links.{Ghosts as LinksOf}
@@ -26,6 +28,14 @@ module _ {L D P S N : Type 0} (members : LinksOf L D P S N) (links : L) where
   abbrev pub MakesNoEvent : P → P → Type 0
   MakesNoEvent old new = own_events new ≡ own_events old
 
+  -- it made at most so many
+  abbrev pub MakesAtMost : ℕ → P → P → Type 0
+  MakesAtMost most old new = length (own_events new) ≤ length (own_events old) + most
+
+  -- it gave so many nodes
+  abbrev pub GivesNodes : ℕ → P → P → Type 0
+  GivesNodes count old new = gives_in (own_events new) ≡ gives_in (own_events old) + count
+
   -- no other agent has a step in the call's part of the journal
   abbrev pub IsCallAlone : P → P → Type 0
   IsCallAlone old new = IsAlone members.agent_of (agent old) (members.journal old) (members.journal new)
@@ -34,10 +44,10 @@ module _ {L D P S N : Type 0} (members : LinksOf L D P S N) (links : L) where
   abbrev pub InCall : P → P → (ℕ → ℕ → Type 0) → Type 0
   InCall old new fact = InPart members.agent_of (agent old) (members.journal old) (members.journal new) fact
 
-  -- a fact of the two places between which the call's part stood at some time of the call
+  -- a fact of the two places between which the call's part stood at some time of the call, when the pass had seen this journal
   abbrev pub DuringCall : P → P → (ℕ → ℕ → Type 0) → Type 0
-  DuringCall old new fact = (end : ℕ) × (length (members.journal old) ≤ end) × (end ≤ length (members.journal new))
-      × InPart members.agent_of (agent old) (members.journal old) (take end (members.journal new)) fact
+  DuringCall old new fact = (seen : List S) × IsPrefix (members.journal old) seen × IsPrefix seen (members.journal new)
+      × InPart members.agent_of (agent old) (members.journal old) seen fact
 
   module _ {E : Type 0} (agent_of_entry : E → ℕ) (entries_in : Option N → List E) where
     -- the history that the pass has seen

@@ -43,6 +43,12 @@ ModeWrites-told mode.Run left bytes ended text told (inl h) = inl (HasReported-t
 ModeWrites-told mode.Replay left bytes ended text told (inl (new, tells)) = inl (new, of-told left bytes (λ b. TellsReplay b text) told tells)
 ModeWrites-told m left bytes ended text told (inr (new, refuses)) = inr (new, of-told left bytes (λ b. IsRefusal m b text) told refuses)
 
+-- what a replay was to write of these bytes
+pub replay_writes : (bytes : List ℕ) (ended : Ended) (text : List ℕ) → IsNew ended → TellsReplay bytes text ⊎ NamesFault bytes text
+    → ModeWrites mode.Replay (Some bytes) ended text
+replay_writes bytes ended text new (inl tells) = inl (new, tells)
+replay_writes bytes ended text new (inr names) = inr (new, inr names)
+
 -- bytes past the limit are too large in each mode
 pub too_long : (m : Mode) (bytes : List ℕ) → input_limit < length bytes → IsTooLarge m bytes
 too_long mode.Run bytes h = inl h

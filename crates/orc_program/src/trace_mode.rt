@@ -57,10 +57,12 @@ fn answer_of(alloc: Global, bytes: &[u8]) -> Result<(String, u8), NoMemory>
             let text = replay_text(alloc, &played)?;
             Ok((text, 0))
         }
-        Err(TraceFault::NoMemory) => Err(NoMemory),
-        Err(fault) => {
-            let text = fault_text(alloc, fault)?;
-            Ok((text, 8))
-        }
+        Err(fault) => match fault {
+            TraceFault::NoMemory => Err(NoMemory),
+            _ => {
+                let text = fault_text(alloc, fault)?;
+                Ok((text, 8))
+            }
+        },
     }
 }

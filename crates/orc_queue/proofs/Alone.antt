@@ -1,9 +1,7 @@
 -- A turn in which no other agent steps: what is new are the pass's own events.
 use Rattle.std.proofs.Common.{List, Some, None, [], ap, append_assoc, arith, false, inl, inr, refl, subst, sym, true, ℕ, ◌++◌, ◌∙◌, ◌∷◌, ◌≡◌, ◌≤◌}
-use Rattle.std.proofs.lemmas.List.Elements.{filter-append}
-use Rattle.std.specs.Prelude.{◌==◌}
-use Rattle.orc_heap.proofs.OwnParts.{begins_own, moves_after_own, own_from, own_is_all, quiet_not_alone}
-use Rattle.orc_heap.proofs.Calls.{filter-at, part_allowed}
+use Rattle.orc_heap.proofs.OwnParts.{own_from, own_is_all, quiet_not_alone}
+use Rattle.orc_heap.proofs.Calls.{part_allowed}
 use Rattle.orc_heap.proofs.Runs.{lawful-right, run_from-append, run_heap-snoc}
 use Rattle.orc_heap.proofs.Moved.{shown_or_moved_there}
 use Rattle.orc_heap.specs.Acts.{Fits}
@@ -31,7 +29,7 @@ use Rattle.orc_queue.specs.Turns.{EndsHelping, IsOver, KeepsTail, Piece, TailIsL
 use Rattle.orc_queue.proofs.Filled.{Known}
 use Rattle.orc_queue.proofs.Joins.{Join}
 use Rattle.orc_heap.proofs.SingleActs.{link_same, null_to, root_moved, root_other, shown_link, some_same}
-use Rattle.orc_heap.proofs.Pieces.{new_is, own_moves_left, alone_holds, moves_then}
+use Rattle.orc_heap.proofs.Pieces.{own_moves_left, alone_holds, moves_then}
 use Rattle.orc_heap.proofs.Moments.{look_found}
 use Rattle.orc_fifo_rule.specs.Kept.Laws.{fifo_keeps}
 

@@ -8,7 +8,7 @@ use Rattle.std.specs.Prelude.{IfErr, IfOk, IsErr, ◌↔◌}
 use mathlib.Core.List.{IsPrefix}
 use Rattle.orc_heap.proofs.Moved.{moves_in-append, gives_in-append}
 use Rattle.orc_heap.proofs.OwnParts.{from_own-others, moves_from_own, own_from}
-use Rattle.orc_heap.proofs.Steps.{events_grow, part_bounds, part_events}
+use Rattle.orc_heap.proofs.Steps.{events_grow, part_bounds, part_within, part_events}
 use Rattle.orc_heap.proofs.Stays.{allowed-right}
 use Rattle.orc_heap.specs.Allowed.{AllAllowed, events_by}
 use Rattle.orc_heap.specs.Heap.{HeapNumbers}
@@ -59,12 +59,6 @@ put_positions n job turns s t (Err Again) l = ((λ e. cc), (λ f. absurd (has_ro
 put_positions n job turns s t (Err NoNode) l = ((λ e. cc), (λ f. absurd (has_room n _ turns s t _ l.call l.room f)))
 put_positions n job turns s t (Err Positions) l = ((λ e. finds_full n _ turns s t _ l.call l.full), (λ f. refl))
 
-pub put_some_turn : (n : HeapNumbers) (job turns : ℕ) (s t : Seat FifoNote) (r : Result ℕ QueueRefused) → PutAnswers n job turns s r t → r ≡ Err NoNode → turns ≢ 0
-put_some_turn n job turns s t (Ok at) l is = l.some_turn
-put_some_turn n job turns s t (Err Again) l is = cc
-put_some_turn n job turns s t (Err NoNode) l is = l.some_turn
-put_some_turn n job turns s t (Err Positions) l is = l.some_turn
-
 -- a call of either kind
 pub record AnyCall (given turns : ℕ) (s t : Seat FifoNote) : Type 0 where
   pub entries : List QueueEntry
@@ -81,19 +75,19 @@ take_any turns s t (Ok got) l = record { entries = _; call = l.call }
 take_any turns s t (Err again) l = record { entries = _; call = l.call }
 
 module _ (given turns : ℕ) (s t : Seat FifoNote) (any : AnyCall given turns s t) where
-  own_events : events_by s.agent t.seen ≡ events_by s.agent s.seen ++ any.call.own
+  own_events : events_by t.agent t.seen ≡ events_by s.agent s.seen ++ any.call.own
   own_events =
       let p = any.call.puts in
-      ap (λ z. events_by s.agent z) p.is ∙ (filter-append (λ e. e.agent == s.agent) s.seen p.part ∙ ap (λ z. events_by s.agent s.seen ++ z) p.own_is)
+      ap (λ (a : ℕ). events_by a t.seen) p.agent ∙ (ap (λ z. events_by s.agent z) p.is ∙ (filter-append (λ e. e.agent == s.agent) s.seen p.part ∙ ap (λ z. events_by s.agent s.seen ++ z) p.own_is))
 
-  pub any_gives : gives_in (events_by s.agent t.seen) ≡ gives_in (events_by s.agent s.seen) + given
+  pub any_gives : gives_in (events_by t.agent t.seen) ≡ gives_in (events_by s.agent s.seen) + given
   any_gives = rw own_events (omega (arith, gives_in-append (events_by s.agent s.seen) any.call.own, any.call.gives))
 
-  pub any_tries : length (events_by s.agent t.seen) ≤ length (events_by s.agent s.seen) + 6 * turns + 3 * given
+  pub any_tries : length (events_by t.agent t.seen) ≤ length (events_by s.agent s.seen) + 6 * turns + 3 * given
   any_tries = rw own_events (omega (arith, length-append (events_by s.agent s.seen) any.call.own, any.call.few))
 
 -- a call with no turn
-any_none : (s t : Seat FifoNote) → AnyCall 0 0 s t → events_by s.agent t.seen ≡ events_by s.agent s.seen
+any_none : (s t : Seat FifoNote) → AnyCall 0 0 s t → events_by t.agent t.seen ≡ events_by s.agent s.seen
 any_none s t any = own_events 0 0 s t any ∙ (ap (λ z. events_by s.agent s.seen ++ z) (empty any.call.own any.call.few) ∙ append-nil (events_by s.agent s.seen))
   where
     empty : (es : List (Event FifoNote)) → length es ≤ 0 → es ≡ []
@@ -101,7 +95,7 @@ any_none s t any = own_events 0 0 s t any ∙ (ap (λ z. events_by s.agent s.see
     empty (e ∷ es) none = absurd (omega (arith, none))
 
 -- no turn
-pub put_no_turns : (n : HeapNumbers) (job turns : ℕ) (s t : Seat FifoNote) (r : Result ℕ QueueRefused) → PutAnswers n job turns s r t → turns ≡ 0 → (r ≡ Err Again) × (events_by s.agent t.seen ≡ events_by s.agent s.seen)
+pub put_no_turns : (n : HeapNumbers) (job turns : ℕ) (s t : Seat FifoNote) (r : Result ℕ QueueRefused) → PutAnswers n job turns s r t → turns ≡ 0 → (r ≡ Err Again) × (events_by t.agent t.seen ≡ events_by s.agent s.seen)
 put_no_turns n job turns s t r l none = (again r l, any_none s t (subst (λ (k : ℕ). AnyCall (gives_of k r) k s t) none (put_any n job turns s t r l)))
   where
     again : (r : Result ℕ QueueRefused) → PutAnswers n job turns s r t → r ≡ Err Again
@@ -110,7 +104,7 @@ put_no_turns n job turns s t r l none = (again r l, any_none s t (subst (λ (k :
     again (Err NoNode) l = absurd (l.some_turn none)
     again (Err Positions) l = absurd (l.some_turn none)
 
-pub take_no_turns : (turns : ℕ) (s t : Seat FifoNote) (r : Result (Option (ℕ × ℕ)) AgainFault) → TakeAnswers turns s r t → turns ≡ 0 → IsErr r × (events_by s.agent t.seen ≡ events_by s.agent s.seen)
+pub take_no_turns : (turns : ℕ) (s t : Seat FifoNote) (r : Result (Option (ℕ × ℕ)) AgainFault) → TakeAnswers turns s r t → turns ≡ 0 → IsErr r × (events_by t.agent t.seen ≡ events_by s.agent s.seen)
 take_no_turns turns s t r l none = (again r l, any_none s t (subst (λ (k : ℕ). AnyCall 0 k s t) none (take_any turns s t r l)))
   where
     again : (r : Result (Option (ℕ × ℕ)) AgainFault) → TakeAnswers turns s r t → IsErr r
@@ -213,14 +207,16 @@ module _ {S : Type 0} (n : HeapNumbers) (agents : ℕ) (agent_of : S → ℕ) (e
     -- the licence of a refusal, from the clauses of a put
     pub put_licence : (turns : ℕ) (opening : List (Event FifoNote)) → HasDummy n opening → IsPrefix opening t.seen → Known n s.seen → (Lacks : ℕ → ℕ → Type 0) (r : Result ℕ QueueRefused)
         → (turns ≡ 0 → r ≡ Err Again) → (r ≡ Err Again → InPart agent_of s.agent j k (λ from to. UsesTurns agent_of events s.agent turns k from to))
-        → (r ≡ Err NoNode → (turns ≢ 0) × Within (length j) (length k) Lacks) → ((r ≡ Err Positions) ↔ CallFindsFull n s t)
+        → (r ≡ Err NoNode → (seen : List S) × IsPrefix j seen × IsPrefix seen k × InPart agent_of s.agent j seen Lacks) → ((r ≡ Err Positions) ↔ CallFindsFull n s t)
         → IfErr r (λ e. Within (length j) (length k) (λ from to. Cause agent_of events (position_of (run_heap n opening) 0) (Lacks from to) s.agent turns e k from to))
     put_licence turns opening made begins known Lacks (Ok at) none again node full = tt
     put_licence turns opening made begins known Lacks (Err Again) none again node full =
         let bounds = part_bounds agent_of s.agent j k grows in
         (part_begin agent_of s.agent j k, length k, bounds.0, bounds.1, omega arith, again refl)
     put_licence turns opening made begins known Lacks (Err NoNode) none again node full =
-        let (some, (from, to, a, b, c, lacks)) = node refl in
+        let some : turns ≢ 0 = λ zero_turns. let bad : ◌≡◌ {A = Result ℕ QueueRefused} (Err NoNode) (Err Again) = none zero_turns in cc in
+        let (seen, one, two, lacks) = node refl in
+        let (from, to, a, b, c, lacks) = part_within agent_of s.agent j seen k Lacks one two lacks in
         (from, to, a, b, c, (some, lacks))
     put_licence turns opening made begins known Lacks (Err Positions) none again node full =
         let some : turns ≢ 0 = λ zero_turns. let bad : ◌≡◌ {A = Result ℕ QueueRefused} (Err Positions) (Err Again) = none zero_turns in cc in
@@ -234,10 +230,12 @@ module _ {S : Type 0} (n : HeapNumbers) (agents : ℕ) (agent_of : S → ℕ) (e
         let bounds = part_bounds agent_of s.agent j k grows in
         (part_begin agent_of s.agent j k, length k, bounds.0, bounds.1, omega arith, again)
 
--- a fact that stays is one of the longer journal
-pub within_stays : {S : Type 0} (Fact : List S → ℕ → ℕ → Type 0) → ((j more : List S) (from to : ℕ) → Fact j from to → Fact (j ++ more) from to) → (begin : ℕ) (k m : List S) → IsPrefix k m → Within begin (length k) (Fact k) → Within begin (length m) (Fact m)
-within_stays Fact stays begin k m (more, is) (from, to, a, b, c, fact) =
-    (from, to, a, b, omega (arith, c, length-append k more, ap length is), subst (λ z. Fact z from to) is (stays k more from to fact))
+-- a fact of the part of a call, as the pass had seen it at some time, stays one of the longer journal
+pub during : {S : Type 0} (agent_of : S → ℕ) (agent : ℕ) (Fact : List S → ℕ → ℕ → Type 0) → ((j more : List S) (from to : ℕ) → Fact j from to → Fact (j ++ more) from to)
+    → (j k m : List S) → IsPrefix j k → IsPrefix k m → InPart agent_of agent j k (Fact k)
+    → (seen : List S) × IsPrefix j seen × IsPrefix seen m × InPart agent_of agent j seen (Fact m)
+during agent_of agent Fact stays j k m grows (more, is) fact =
+    (k, grows, (more, is), subst (λ z. Fact z (part_begin agent_of agent j k) (length k)) is (stays k more _ _ fact))
 
 -- the entries of each of two agents in what both have seen
 pub learns : {S : Type 0} (n : HeapNumbers) (events : List S → List (Event FifoNote)) (agent1 agent2 : ℕ) (s1 s2 t1 : Seat FifoNote) (j1 j2 k1 k2 : List S) → k1 ≡ k2 → (IsPrefix j1 j2 × (k1 ≡ j2)) ⊎ (IsPrefix j2 j1 × (k1 ≡ j1))

@@ -1,10 +1,7 @@
 -- Two pieces of a call make one.
-use Rattle.std.proofs.Common.{List, [], ap, append-nil, append_assoc, arith, length, refl, subst, sym, ℕ, ◌++◌, ◌∙◌, ◌∷◌, ◌≡◌, ◌≤◌}
-use mathlib.Core.List.{IsPrefix}
-use Rattle.orc_heap.proofs.Moved.{moves_in-append}
-use Rattle.orc_heap.proofs.OwnParts.{moves_from_own-append, own_from_left, own_from_right}
+use Rattle.std.proofs.Common.{List, length, refl, subst, sym, ℕ, ◌++◌, ◌≡◌, ◌≤◌}
 use Rattle.orc_heap.proofs.Calls.{Puts-trans}
-use Rattle.orc_heap.specs.Moves.{AllOwn, from_own, gives_in, moves_in}
+use Rattle.orc_heap.specs.Moves.{gives_in}
 use Rattle.orc_heap.specs.OwnEvents.{Puts}
 use Rattle.orc_heap.specs.Seats.{Seat}
 use Rattle.orc_heap.specs.declared.events.Event.{Event}

@@ -1,27 +1,21 @@
 -- Pieces of a call, one after another; and what a pass holds over them.
-use Rattle.std.proofs.Common.{Bool, List, Option, Some, None, [], ap, append_assoc, arith, false, inl, inr, refl, subst, sym, true, ℕ, ◌++◌, ◌+◌, ◌∙◌, ◌∷◌, ◌≡◌, ◌≢◌}
-use Rattle.std.proofs.lemmas.Bool.{ne_eqb}
+use Rattle.std.proofs.Common.{Bool, List, Some, [], ap, false, inl, inr, refl, subst, sym, true, ℕ, ◌∙◌, ◌≡◌, ◌≢◌}
 use Rattle.std.specs.Borrow.{Bor}
-use Rattle.std.specs.List.{list_any, slice_get, slice_set}
-use Rattle.std.specs.Prelude.{if◌then◌else◌}
-use Rattle.orc_heap.proofs.Fresh.{own_node_told, touched_by}
+use Rattle.std.specs.List.{list_any, slice_get}
+use Rattle.orc_heap.proofs.Fresh.{touched_by}
 use Rattle.orc_heap.proofs.Calls.{part_allowed}
-use Rattle.orc_heap.proofs.Slots.{get-set_other, given-back, held_apart, holds-other, holds-there, id-other, id-there}
 use Rattle.orc_heap.specs.Allowed.{AllAllowed, IsLinkedNode, HasLink}
-use Rattle.orc_heap.specs.Calls.{Releases, Swings, given_node, unless_node}
+use Rattle.orc_heap.specs.Calls.{Swings, given_node}
 use Rattle.orc_heap.specs.Heap.{HeapNumbers, Node, link_to}
 use Rattle.orc_heap.specs.Journals.{points_to, run_heap}
-use Rattle.orc_heap.specs.Moves.{gives_in}
 use Rattle.orc_heap.specs.OwnEvents.{Puts}
-use Rattle.orc_heap.specs.Seats.{IsUntouched, Seat, link_in, heap_of}
-use Rattle.orc_heap.specs.Slots.{Hold, Holds, IsFree, id_in}
+use Rattle.orc_heap.specs.Seats.{Seat, heap_of}
+use Rattle.orc_heap.specs.Slots.{Hold, Holds, id_in}
 use Rattle.orc_heap.specs.declared.events.Event.{Event}
 use Rattle.orc_heap.specs.declared.events.Place.TheVariants.{Next}
 use Rattle.orc_heap.specs.declared.holds.At.TheVariants.{Root as AtRoot}
-use Rattle.orc_heap.specs.declared.holds.At.{At}
-use Rattle.orc_heap.specs.declared.holds.Want.{Want}
 use Rattle.orc_heap.specs.declared.holds.Want.TheVariants.{Node as WantNode}
-use Rattle.orc_fifo_rule.proofs.Later.{link_later, linked_later, named_later, position_later}
+use Rattle.orc_fifo_rule.proofs.Later.{link_later, named_later, position_later}
 use Rattle.orc_fifo_rule.proofs.Leaving.{left_later}
 use Rattle.orc_fifo_rule.specs.declared.fifo.FifoNote.{FifoNote}
 use Rattle.orc_fifo_rule.specs.declared.fifo.FifoNote.TheVariants.{Swing}

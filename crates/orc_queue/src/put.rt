@@ -1,12 +1,12 @@
 //! Putting a job at the back, turn by turn.
 
-ghost use Rattle.std.specs.Prelude.{◌≡◌, ℕ, Err, length, true};
+ghost use Rattle.std.specs.Prelude.{◌≡◌, ℕ, Err, true};
 ghost use mathlib.Core.List.{IsPrefix};
 ghost use Rattle.orc_heap.specs.Journals.{run_heap};
 ghost use Rattle.orc_heap.specs.Seats.{IsIdle};
 ghost use Rattle.orc_heap.specs.Slots.{Holds, IsFree, id_in};
 ghost use Rattle.orc_fifo_rule.specs.Watches.{WasNamed};
-ghost use Rattle.orc_history.specs.Journals.{Within};
+ghost use Rattle.orc_history.specs.Parts.{InPart};
 ghost use Rattle.orc_history.specs.declared.queue.QueueRefused.{QueueRefused};
 ghost use Rattle.orc_queue.specs.Answers.{PutAnswers};
 ghost use Rattle.orc_queue.specs.Turns.{HasDummy, HoldsNode, KeepsTail, LinksBehind, PutsBehind, PutsTurn, PutsTurns, SwingsLast};
@@ -117,7 +117,7 @@ fn put_behind<L: Links<Rule = Fifo>>(
     }
 }
 
-// One turn.
+// Makes one turn of a put.
 fn put_turn<L: Links<Rule = Fifo>>(links: &L, p: &mut L::Pass, node: &Held, job: u64) -> PutTurn
     requires pass { L.belongs links.now p.old }
     requires made { HasDummy (L.numbers links.now) (L.opening links.now) }
@@ -138,7 +138,7 @@ fn put_turn<L: Links<Rule = Fifo>>(links: &L, p: &mut L::Pass, node: &Held, job:
     }
 }
 
-/// Puts the fresh node, in at most so many turns.
+// Puts the fresh node, in at most so many turns.
 pub(crate) fn put_turns<L: Links<Rule = Fifo>>(
     links: &L,
     p: &mut L::Pass,
@@ -163,7 +163,7 @@ pub(crate) fn put_turns<L: Links<Rule = Fifo>>(
     PutTurn::Over
 }
 
-/// Puts the job in a new node, in at most so many turns.
+// Puts the job in a new node, in at most so many turns.
 pub(crate) fn put_job<L: Links<Rule = Fifo>>(
     links: &L,
     p: &mut L::Pass,
@@ -176,7 +176,7 @@ pub(crate) fn put_job<L: Links<Rule = Fifo>>(
     ensures pass { L.belongs links.now p.new }
     ensures later { IsPrefix (L.journal p.old) (L.journal p.new) }
     ensures answered { PutAnswers (L.numbers links.now) job turns (L.seat links.now p.old) result (L.seat links.now p.new) }
-    ensures lacking { result ≡ Err QueueRefused.NoNode → Within (length (L.journal p.old)) (length (L.journal p.new))
+    ensures lacking { result ≡ Err QueueRefused.NoNode → InPart L.agent_of (L.seat links.now p.old).agent (L.journal p.old) (L.journal p.new)
         (L.lacking links.now (L.seat links.now p.old).agent (L.journal p.new)) }
 {
     if turns == 0 {

@@ -1,21 +1,19 @@
 //! The queue, and its calls.
 
-ghost use Rattle.std.specs.Prelude.{◌≡◌, ◌≢◌, ℕ, ◌*◌, ◌+◌, ◌<◌, ◌≤◌, ◌↔◌, List, [], ◌∷◌, length, take, Err, IfOk, IfErr, IsErr};
+ghost use Rattle.std.specs.Prelude.{◌≡◌, ℕ, ◌*◌, ◌+◌, ◌<◌, ◌↔◌, List, [], ◌∷◌, Err, IfOk, IfErr, IsErr};
 ghost use mathlib.Core.List.{IsPrefix};
-ghost use Rattle.orc_heap.specs.Allowed.{events_by};
+ghost use Rattle.orc_heap.specs.Domains.{GivesNodes, IsCallAlone, MakesAtMost, MakesNoEvent, agent};
 ghost use Rattle.orc_heap.specs.Journals.{run_heap};
-ghost use Rattle.orc_heap.specs.Moves.{gives_in};
-ghost use Rattle.orc_history.specs.Parts.{InPart, IsAlone};
 ghost use Rattle.orc_heap.specs.Seats.{IsIdle};
-ghost use Rattle.orc_history.specs.Journals.{Adds, Within};
-ghost use Rattle.orc_history.specs.QueueHistory.{agent_of_entry, entry_of_dequeue};
+ghost use Rattle.orc_history.specs.QueueHistory.{entry_of_dequeue};
 ghost use Rattle.orc_history.specs.declared.queue.QueueEntry.{QueueEntry};
 ghost use Rattle.orc_history.specs.declared.queue.QueueRefused.{QueueRefused};
 ghost use Rattle.orc_fifo_rule.specs.QueueDiscipline.{entries_of, position_of};
-ghost use Rattle.orc_queue.specs.Answers.{CallFindsFull, gives_of};
-ghost use Rattle.orc_queue.specs.Causes.{Cause, UsesTurns};
+ghost use Rattle.orc_queue.specs.Answers.{gives_of};
+ghost use Rattle.orc_queue.specs.Causes.{Cause};
 ghost use Rattle.orc_queue.specs.Laws.{cause_puts, cause_stays, entries_below, history_grows, seen_legal};
-ghost use Rattle.orc_queue.specs.Turns.{HasDummy, TailIsLast};
+ghost use Rattle.orc_queue.specs.QueueCalls.{Enters, EntersNone, FindsNoPosition, LacksRow, LeavesTailLast, UsesAllTurns};
+ghost use Rattle.orc_queue.specs.Turns.{HasDummy};
 
 use crate::put::put_job;
 use crate::take::take_job;
@@ -73,27 +71,20 @@ impl<L: Links<Rule = Fifo>> Queue<L> {
         requires idle { IsIdle (L.seat self.now.links p.old) }
         ensures pass { L.belongs self.now.links p.new }
         ensures idle { IsIdle (L.seat self.now.links p.new) }
-        ensures agent { (L.seat self.now.links p.new).agent ≡ (L.seat self.now.links p.old).agent }
+        ensures agent { agent L.Links self.now.links p.new ≡ agent L.Links self.now.links p.old }
         ensures later { IsPrefix (L.journal p.old) (L.journal p.new) }
-        ensures put { IfOk result (λ at. Adds agent_of_entry (λ agent. agent < L.agents self.now.links) (L.seat self.now.links p.old).agent
-            (entries_of (L.events self.now.links (L.journal p.old))) (QueueEntry.Put (L.seat self.now.links p.old).agent job at ∷ [])
-            (entries_of (L.events self.now.links (L.journal p.new)))) }
-        ensures none { IfErr result (λ e. Adds agent_of_entry (λ agent. agent < L.agents self.now.links) (L.seat self.now.links p.old).agent
-            (entries_of (L.events self.now.links (L.journal p.old))) [] (entries_of (L.events self.now.links (L.journal p.new)))) }
-        ensures no_turns { turns ≡ 0 → (result ≡ Err QueueRefused.Again)
-            × (events_by (L.seat self.now.links p.old).agent (L.seat self.now.links p.new).seen ≡ events_by (L.seat self.now.links p.old).agent (L.seat self.now.links p.old).seen) }
-        ensures again { result ≡ Err QueueRefused.Again → InPart L.agent_of (L.seat self.now.links p.old).agent (L.journal p.old) (L.journal p.new)
-            (UsesTurns L.agent_of (L.events self.now.links) (L.seat self.now.links p.old).agent turns (L.journal p.new)) }
-        ensures no_node { result ≡ Err QueueRefused.NoNode → (turns ≢ 0) × Within (length (L.journal p.old)) (length (L.journal p.new))
-            (L.lacking self.now.links (L.seat self.now.links p.old).agent (L.journal p.new)) }
-        ensures positions { (result ≡ Err QueueRefused.Positions) ↔ CallFindsFull (L.numbers self.now.links) (L.seat self.now.links p.old) (L.seat self.now.links p.new) }
-        ensures gives { gives_in (events_by (L.seat self.now.links p.old).agent (L.seat self.now.links p.new).seen)
-            ≡ gives_in (events_by (L.seat self.now.links p.old).agent (L.seat self.now.links p.old).seen) + gives_of turns result }
-        ensures tries { length (events_by (L.seat self.now.links p.old).agent (L.seat self.now.links p.new).seen)
-            ≤ length (events_by (L.seat self.now.links p.old).agent (L.seat self.now.links p.old).seen) + 6 * turns + 3 * gives_of turns result }
-        ensures tail { IfOk result (λ at. IsAlone L.agent_of (L.seat self.now.links p.old).agent (L.journal p.old) (L.journal p.new)
-            → TailIsLast (run_heap (L.numbers self.now.links) (L.seat self.now.links p.new).seen)) }
-        ensures settled { IsAlone L.agent_of (L.seat self.now.links p.old).agent (L.journal p.old) (L.journal p.new) → L.backlog p.new ≡ 0 }
+        ensures put { IfOk result (λ at. Enters L.Links self.now.links p.old p.new (λ agent. QueueEntry.Put agent job at ∷ [])) }
+        ensures none { IfErr result (λ e. EntersNone L.Links self.now.links p.old p.new) }
+        ensures no_turns { turns ≡ 0 → result ≡ Err QueueRefused.Again }
+        ensures no_event { turns ≡ 0 → MakesNoEvent L.Links self.now.links p.old p.new }
+        ensures again { result ≡ Err QueueRefused.Again → UsesAllTurns L.Links self.now.links turns p.old p.new }
+        ensures no_node { result ≡ Err QueueRefused.NoNode → LacksRow L.Links self.now.links p.old p.new }
+        ensures positions { (result ≡ Err QueueRefused.Positions) ↔ FindsNoPosition L.Links self.now.links p.old p.new }
+        ensures gives { GivesNodes L.Links self.now.links (gives_of turns result) p.old p.new }
+        ensures tries { MakesAtMost L.Links self.now.links (6 * turns + 3 * gives_of turns result) p.old p.new }
+        ensures tail { IfOk result (λ at. IsCallAlone L.Links self.now.links p.old p.new
+            → LeavesTailLast L.Links self.now.links p.new) }
+        ensures settled { IsCallAlone L.Links self.now.links p.old p.new → L.backlog p.new ≡ 0 }
     {
         let answer = put_job(&self.links, p, job, turns);
         self.links.settle(p);
@@ -111,27 +102,42 @@ impl<L: Links<Rule = Fifo>> Queue<L> {
         requires idle { IsIdle (L.seat self.now.links p.old) }
         ensures pass { L.belongs self.now.links p.new }
         ensures idle { IsIdle (L.seat self.now.links p.new) }
-        ensures agent { (L.seat self.now.links p.new).agent ≡ (L.seat self.now.links p.old).agent }
+        ensures agent { agent L.Links self.now.links p.new ≡ agent L.Links self.now.links p.old }
         ensures later { IsPrefix (L.journal p.old) (L.journal p.new) }
-        ensures took { IfOk result (λ got. Adds agent_of_entry (λ agent. agent < L.agents self.now.links) (L.seat self.now.links p.old).agent
-            (entries_of (L.events self.now.links (L.journal p.old))) (entry_of_dequeue (L.seat self.now.links p.old).agent got ∷ [])
-            (entries_of (L.events self.now.links (L.journal p.new)))) }
-        ensures none { IfErr result (λ e. Adds agent_of_entry (λ agent. agent < L.agents self.now.links) (L.seat self.now.links p.old).agent
-            (entries_of (L.events self.now.links (L.journal p.old))) [] (entries_of (L.events self.now.links (L.journal p.new)))) }
-        ensures no_turns { turns ≡ 0 → IsErr result
-            × (events_by (L.seat self.now.links p.old).agent (L.seat self.now.links p.new).seen ≡ events_by (L.seat self.now.links p.old).agent (L.seat self.now.links p.old).seen) }
-        ensures again { IfErr result (λ e. InPart L.agent_of (L.seat self.now.links p.old).agent (L.journal p.old) (L.journal p.new)
-            (UsesTurns L.agent_of (L.events self.now.links) (L.seat self.now.links p.old).agent turns (L.journal p.new))) }
-        ensures gives { gives_in (events_by (L.seat self.now.links p.old).agent (L.seat self.now.links p.new).seen)
-            ≡ gives_in (events_by (L.seat self.now.links p.old).agent (L.seat self.now.links p.old).seen) }
-        ensures tries { length (events_by (L.seat self.now.links p.old).agent (L.seat self.now.links p.new).seen)
-            ≤ length (events_by (L.seat self.now.links p.old).agent (L.seat self.now.links p.old).seen) + 6 * turns }
-        ensures settled { IsAlone L.agent_of (L.seat self.now.links p.old).agent (L.journal p.old) (L.journal p.new) → L.backlog p.new ≡ 0 }
+        ensures took { IfOk result (λ got. Enters L.Links self.now.links p.old p.new (λ agent. entry_of_dequeue agent got ∷ [])) }
+        ensures none { IfErr result (λ e. EntersNone L.Links self.now.links p.old p.new) }
+        ensures no_turns { turns ≡ 0 → IsErr result }
+        ensures no_event { turns ≡ 0 → MakesNoEvent L.Links self.now.links p.old p.new }
+        ensures again { IfErr result (λ e. UsesAllTurns L.Links self.now.links turns p.old p.new) }
+        ensures gives { GivesNodes L.Links self.now.links 0 p.old p.new }
+        ensures tries { MakesAtMost L.Links self.now.links (6 * turns) p.old p.new }
+        ensures settled { IsCallAlone L.Links self.now.links p.old p.new → L.backlog p.new ≡ 0 }
     {
         let answer = take_job(&self.links, p, turns);
         self.links.settle(p);
         answer
     }
+}
+
+impl<L: Links<Rule = Fifo>> Queue<L> {
+    /// What the members of `SharedQueue` and `LearnQueue` mean here: the history is that of the domain's events, from
+    /// the first position of its opening on; the domain's agents may step in between; each refusal has its cause.
+    pub fn members(&self)
+        ensures agent_of { (p : L.Pass) → ⟦<Queue<L> as SharedQueue>⟧.agent_of self.now p ≡ agent L.Links self.now.links p }
+        ensures journal { (p : L.Pass) → ⟦<Queue<L> as SharedQueue>⟧.journal p ≡ L.journal p }
+        ensures history { (journal : List L.Step) → ⟦<Queue<L> as SharedQueue>⟧.history self.now journal
+            ≡ entries_of (L.events self.now.links journal) }
+        ensures first { ⟦<Queue<L> as SharedQueue>⟧.first self.now
+            ≡ position_of (run_heap (L.numbers self.now.links) (L.opening self.now.links)) 0 }
+        ensures usable { (p : L.Pass) → ⟦<Queue<L> as SharedQueue>⟧.usable self.now p
+            ↔ (L.belongs self.now.links p × IsIdle (L.seat self.now.links p)) }
+        ensures crowd { (by : ℕ) → ⟦<Queue<L> as SharedQueue>⟧.crowd self.now by → by < L.agents self.now.links }
+        ensures agents { ⟦<Queue<L> as LearnQueue>⟧.agents self.now ≡ L.agents self.now.links }
+        ensures licence { (by turns : ℕ) (why : QueueRefused) (journal : List L.Step) (from to : ℕ)
+            → ⟦<Queue<L> as SharedQueue>⟧.licence self.now by turns why journal from to
+            → Cause L.agent_of (L.events self.now.links) (position_of (run_heap (L.numbers self.now.links) (L.opening self.now.links)) 0)
+            (L.lacking self.now.links by journal from to) by turns why journal from to }
+    {}
 }
 
 impl<L: Links<Rule = Fifo>> SharedQueue for Queue<L> {

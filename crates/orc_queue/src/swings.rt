@@ -14,13 +14,13 @@ ghost use Rattle.orc_heap.specs.Heap.{link_to};
 use orc_fifo_rule::{Fifo, FifoNote};
 use orc_heap::{At, Held, Links, Want};
 
-/// The root that names the dummy in front of the queue.
+// The root that names the dummy in front of the queue.
 pub(crate) const HEAD: u32 = 0;
 
-/// The root that names the last node, or the one before it.
+// The root that names the last node, or the one before it.
 pub(crate) const TAIL: u32 = 1;
 
-/// One compare-and-swap. It is never refused, since three links at most are made to a node in all.
+// Makes one compare-and-swap. It is never refused, since three links at most are made to a node in all.
 pub(crate) fn change<L: Links<Rule = Fifo>>(
     links: &L,
     p: &mut L::Pass,
@@ -47,7 +47,7 @@ pub(crate) fn change<L: Links<Rule = Fifo>>(
     }
 }
 
-/// Swings the tail on from a node to its successor, if the tail still names that node.
+// Swings the tail on from a node to its successor, if the tail still names that node.
 pub(crate) fn help_tail<L: Links<Rule = Fifo>>(links: &L, p: &mut L::Pass, tail: &Held, next: &Held)
     requires pass { L.belongs links.now p.old }
     requires made { HasDummy (L.numbers links.now) (L.opening links.now) }

@@ -89,7 +89,7 @@ fn take_next<L: Links<Rule = Fifo>>(
     swing_head(links, p, head, next)
 }
 
-// Whether the head, whose link was null, still has a null link. Then the queue is empty.
+// Answers whether the head, whose link was null, still has a null link. Then the queue is empty.
 fn finds_end<L: Links<Rule = Fifo>>(links: &L, p: &mut L::Pass, head: &Held) -> bool
     requires pass { L.belongs links.now p.old }
     requires made { HasDummy (L.numbers links.now) (L.opening links.now) }
@@ -135,7 +135,7 @@ fn take_behind<L: Links<Rule = Fifo>>(links: &L, p: &mut L::Pass, head: &Held) -
     }
 }
 
-// One turn.
+// Makes one turn of a take.
 fn take_turn<L: Links<Rule = Fifo>>(links: &L, p: &mut L::Pass) -> TakeTurn
     requires pass { L.belongs links.now p.old }
     requires made { HasDummy (L.numbers links.now) (L.opening links.now) }
@@ -156,7 +156,7 @@ fn take_turn<L: Links<Rule = Fifo>>(links: &L, p: &mut L::Pass) -> TakeTurn
     }
 }
 
-/// Takes a job, in at most so many turns.
+// Takes a job, in at most so many turns.
 pub(crate) fn take_turns<L: Links<Rule = Fifo>>(links: &L, p: &mut L::Pass, turns: u64) -> TakeTurn
     requires pass { L.belongs links.now p.old }
     requires made { HasDummy (L.numbers links.now) (L.opening links.now) }
@@ -175,7 +175,7 @@ pub(crate) fn take_turns<L: Links<Rule = Fifo>>(links: &L, p: &mut L::Pass, turn
     TakeTurn::Over
 }
 
-/// Takes the job at the front, in at most so many turns.
+// Takes the job at the front, in at most so many turns.
 pub(crate) fn take_job<L: Links<Rule = Fifo>>(
     links: &L,
     p: &mut L::Pass,

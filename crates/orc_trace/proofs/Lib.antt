@@ -7,5 +7,4 @@ pub mod Spelled
 pub mod Lines
 pub mod Plays
 pub mod Unique
-pub mod Rooms
 pub mod Verdicts

@@ -1,43 +1,33 @@
 -- One more step in front of those that are played.
-use Rattle.std.proofs.Common.{◌≡◌, ◌≢◌, ◌∙◌, ℕ, ◌+◌, ◌≤◌, Bool, true, false, ◌&&◌, ◌==◌, List, [], ◌∷◌, ◌++◌, append_assoc, refl, sym, ap, arith, length, length-append}
+use Rattle.std.proofs.Common.{◌≡◌, ◌≢◌, ◌∙◌, ℕ, ◌+◌, ◌≤◌, true, false, ◌==◌, List, [], ◌∷◌, ◌++◌, append_assoc, refl, sym, subst, ap, arith, length, length-append}
 use Rattle.std.proofs.lemmas.Bool.Decides.{nat_tests}
 use Rattle.std.proofs.lemmas.List.Elements.{All-cons, All-head, All-nil, All-tail}
-use Rattle.orc_words.specs.Bounds.{Bounds}
+use Rattle.orc_words.specs.Bounds.{Bounds, IsShape}
 use Rattle.orc_core.specs.declared.ops.Op.{Op}
-use Rattle.orc_core.specs.Machine.{Machine, is_allowed, step}
+use Rattle.orc_core.specs.Machine.{LeavesRoom, Machine, is_allowed, new_machine, step}
 use Rattle.orc_core.specs.Runs.{run}
+use Rattle.orc_sound.proofs.ForRuns.{room_left}
 use Rattle.orc_trace.specs.Replay.{Begins, HasStepLine}
-use Rattle.orc_trace.specs.Room.{can_step, has_room_for}
 use Rattle.orc_trace.specs.TraceText.{IsReadable, line_text, steps_text}
 
 pub Begins-nil : (b : Bounds) (m : Machine) (bytes : List ℕ) → Begins b m [] bytes bytes
-Begins-nil b m bytes = record { text = refl; readable = All-nil (IsReadable b); lawful = tt; room = tt }
+Begins-nil b m bytes = record { text = refl; readable = All-nil (IsReadable b); lawful = tt }
 
-pub both_true : (x y : Bool) → (x && y) ≡ true → (x ≡ true) × (y ≡ true)
-both_true true y h = (refl, h)
-both_true false y h = cc h
-
--- a step that can be made, and then others
+-- a step that is allowed, and then others
 pub Begins-cons : (b : Bounds) (m : Machine) (s : ℕ × Op) (front : List (ℕ × Op)) (rest more bytes : List ℕ)
-    → HasStepLine b s more bytes → can_step m s.0 s.1 ≡ true → Begins b (step m s.0 s.1) front rest more → Begins b m (s ∷ front) rest bytes
+    → HasStepLine b s more bytes → is_allowed m s.0 s.1 ≡ true → Begins b (step m s.0 s.1) front rest more → Begins b m (s ∷ front) rest bytes
 Begins-cons b m s front rest more bytes line made h =
-    let can = both_true (is_allowed m s.0 s.1) (has_room_for m s.0 s.1) made in
     record {
       text = line.text ∙ ap (λ (t : List ℕ). line_text s.0 s.1 ++ 10 ∷ t) h.text ∙ sym (append_assoc (line_text s.0 s.1) (10 ∷ steps_text front) rest);
       readable = All-cons (IsReadable b) s front line.readable h.readable;
-      lawful = (can.0, h.lawful);
-      room = (can.1, h.room);
+      lawful = (made, h.lawful);
     }
 
 -- the first of the steps, and the others
 pub record First (b : Bounds) (m : Machine) (s : ℕ × Op) (front : List (ℕ × Op)) (rest bytes : List ℕ) : Type 0 where
   pub line : HasStepLine b s (steps_text front ++ rest) bytes
-  pub made : can_step m s.0 s.1 ≡ true
+  pub made : is_allowed m s.0 s.1 ≡ true
   pub others : Begins b (step m s.0 s.1) front rest (steps_text front ++ rest)
-
-both : (x y : Bool) → x ≡ true → y ≡ true → (x && y) ≡ true
-both true y h k = k
-both false y h k = h
 
 pub Begins-first : (b : Bounds) (m : Machine) (s : ℕ × Op) (front : List (ℕ × Op)) (rest bytes : List ℕ) → Begins b m (s ∷ front) rest bytes → First b m s front rest bytes
 Begins-first b m s front rest bytes h = record {
@@ -45,8 +35,8 @@ Begins-first b m s front rest bytes h = record {
     text = h.text ∙ append_assoc (line_text s.0 s.1) (10 ∷ steps_text front) rest;
     readable = All-head (IsReadable b) s front h.readable;
   };
-  made = both (is_allowed m s.0 s.1) (has_room_for m s.0 s.1) h.lawful.0 h.room.0;
-  others = record { text = refl; readable = All-tail (IsReadable b) s front h.readable; lawful = h.lawful.1; room = h.room.1 };
+  made = h.lawful.0;
+  others = record { text = refl; readable = All-tail (IsReadable b) s front h.readable; lawful = h.lawful.1 };
 }
 
 -- ---- what is played so far
@@ -60,7 +50,7 @@ pub Continues-start : (b : Bounds) (m : Machine) (lines : List ℕ) → Continue
 Continues-start b m lines front rest h = (front, h, omega arith, refl)
 
 pub Continues-step : (b : Bounds) (m : Machine) (lines : List ℕ) (n : ℕ) (now : Machine) (bytes : List ℕ) (s : ℕ × Op) (more : List ℕ)
-    → Continues b m lines n now bytes → HasStepLine b s more bytes → can_step now s.0 s.1 ≡ true → Continues b m lines (n + 1) (step now s.0 s.1) more
+    → Continues b m lines n now bytes → HasStepLine b s more bytes → is_allowed now s.0 s.1 ≡ true → Continues b m lines (n + 1) (step now s.0 s.1) more
 Continues-step b m lines n now bytes s more so line made front rest h =
     let found = so (s ∷ front) rest (Begins-cons b now s front rest more bytes line made h) in
     let size = found.2 in
@@ -73,6 +63,13 @@ Continues-here b m lines n now bytes so =
     let found = so [] bytes (Begins-nil b now bytes) in
     let size = found.2 in
     (found.0, found.1, omega (arith, size), found.3)
+
+-- the next step leaves its agent's work list room
+pub room-here : (b : Bounds) (lines : List ℕ) (n : ℕ) (now : Machine) (bytes : List ℕ) (a : ℕ) (op : Op) → IsShape b
+    → Continues b (new_machine b) lines n now bytes → LeavesRoom now a op
+room-here b lines n now bytes a op shape so =
+    let here = Continues-here b (new_machine b) lines n now bytes so in
+    subst (λ (m : Machine). LeavesRoom m a op) here.3 (room_left b here.0 a op shape here.1.lawful)
 
 -- ---- the bytes that are left
 

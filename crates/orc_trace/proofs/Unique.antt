@@ -3,7 +3,7 @@ use Rattle.std.proofs.Common.{◌≡◌, ◌≢◌, ◌∙◌, ℕ, ◌⊎◌, i
 use Rattle.orc_words.specs.Bounds.{Bounds, IsShape}
 use Rattle.orc_core.specs.declared.ops.Op.{Op}
 use Rattle.orc_core.specs.Counts.{census_of}
-use Rattle.orc_core.specs.Machine.{Machine, new_machine, step}
+use Rattle.orc_core.specs.Machine.{Machine, is_allowed, new_machine, step}
 use Rattle.orc_core.specs.Runs.{run}
 use Rattle.orc_trace.specs.declared.answers.Replayed.{Replayed}
 use Rattle.orc_trace.specs.declared.answers.ShapeWord.{ShapeWord}
@@ -11,7 +11,6 @@ use Rattle.orc_trace.specs.declared.answers.ShapeWord.TheVariants as word
 use Rattle.orc_trace.specs.declared.answers.TraceFault.{TraceFault}
 use Rattle.orc_trace.specs.declared.answers.TraceFault.TheVariants as fault
 use Rattle.orc_trace.specs.Replay.{Begins, HasShapeLine, HasStepLine, HasTable, IsFirstOut, IsRefused, IsReplay, IsShapeFault, IsUnreadable, Refuses}
-use Rattle.orc_trace.specs.Room.{can_step}
 use Rattle.orc_trace.specs.TraceText.{line_text, steps_text}
 use Rattle.orc_trace.proofs.Lines.{shape-unique, step-unique, wide-shape}
 use Rattle.orc_trace.proofs.Plays.{Begins-first}
@@ -47,12 +46,12 @@ same_end b m rest refused unread s h k = absurd (k.1 h.0 h.1 h.2)
 same_end b m rest refused refused s h k = refl
 
 -- no end stands before a step that can be made
-no_end : (b : Bounds) (m : Machine) (s : ℕ × Op) (more rest : List ℕ) (e : End) → IsShape b → HasStepLine b s more rest → can_step m s.0 s.1 ≡ true → Ends b m rest e → ⊥
+no_end : (b : Bounds) (m : Machine) (s : ℕ × Op) (more rest : List ℕ) (e : End) → IsShape b → HasStepLine b s more rest → is_allowed m s.0 s.1 ≡ true → Ends b m rest e → ⊥
 no_end b m s more rest whole shape line made h = not_empty b s more rest line h
 no_end b m s more rest unread shape line made h = h.1 s more line
 no_end b m s more rest refused shape line made h =
     let same = step-unique b s h.0 more h.1 rest shape line h.2 in
-    let yes = subst (λ (x : ℕ × Op). can_step m x.0 x.1 ≡ true) same.0 made in
+    let yes = subst (λ (x : ℕ × Op). is_allowed m x.0 x.1 ≡ true) same.0 made in
     let bad = sym yes ∙ h.3 in
     cc bad
 

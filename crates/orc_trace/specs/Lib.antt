@@ -1,6 +1,5 @@
 pub mod TraceText
 pub mod Reading
 pub mod Asked
-pub mod Room
 pub mod Replay
 pub mod Answers

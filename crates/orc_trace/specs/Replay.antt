@@ -5,14 +5,13 @@ use Rattle.orc_words.specs.declared.shape.ShapeFault.TheVariants as shape
 use Rattle.orc_words.specs.Bounds.{Bounds, IsShape, IsFirstFault}
 use Rattle.orc_core.specs.declared.ops.Op.{Op}
 use Rattle.orc_core.specs.Counts.{census_of}
-use Rattle.orc_core.specs.Machine.{Machine, new_machine}
+use Rattle.orc_core.specs.Machine.{Machine, is_allowed, new_machine}
 use Rattle.orc_core.specs.Runs.{IsLawful, run}
 use Rattle.orc_trace.specs.declared.answers.Replayed.{Replayed}
 use Rattle.orc_trace.specs.declared.answers.ShapeWord.{ShapeWord}
 use Rattle.orc_trace.specs.declared.answers.ShapeWord.TheVariants as word
 use Rattle.orc_trace.specs.declared.answers.TraceFault.{TraceFault}
 use Rattle.orc_trace.specs.declared.answers.TraceFault.TheVariants as fault
-use Rattle.orc_trace.specs.Room.{HaveRoom, can_step}
 use Rattle.orc_trace.specs.TraceText.{AreWide, IsReadable, line_text, shape_text, steps_text}
 
 -- the bytes are the lines of these steps, each readable and allowed where it stands, and then the rest
@@ -20,7 +19,6 @@ pub record Begins (b : Bounds) (m : Machine) (front : List (ℕ × Op)) (rest by
   pub text : bytes ≡ steps_text front ++ rest
   pub readable : All (IsReadable b) front
   pub lawful : IsLawful m front
-  pub room : HaveRoom m front
 
 -- the bytes begin with the line of a shape, its numbers in range or not
 pub record HasShapeLine (b : Bounds) (rest bytes : List ℕ) : Type 0 where
@@ -60,7 +58,7 @@ abbrev pub IsUnreadable : Bounds → List ℕ → Type 0
 IsUnreadable b rest = (rest ≢ []) × ((s : ℕ × Op) (more : List ℕ) → ¬ HasStepLine b s more rest)
 
 abbrev pub IsRefused : Bounds → Machine → List ℕ → Type 0
-IsRefused b m rest = (s : ℕ × Op) × (more : List ℕ) × HasStepLine b s more rest × (can_step m s.0 s.1 ≡ false)
+IsRefused b m rest = (s : ℕ × Op) × (more : List ℕ) × HasStepLine b s more rest × (is_allowed m s.0 s.1 ≡ false)
 
 -- the first fault of the lines, after the steps before it
 abbrev pub IsStepFault : Bounds → Machine → List ℕ → TraceFault → Type 0

@@ -1,6 +1,10 @@
 //! What the replay of a trace answers.
 
+ghost use Rattle.std.specs.Prelude.{◌≡◌};
+ghost use Rattle.orc_trace.specs.declared.answers.TraceFault.TheVariants.{NoMemory as Refused};
+
 use orc_core::Census;
+use orc_fault::NoMemory;
 
 /// A trace that was played to its end.
 #[derive(Clone, Copy, Debug, PartialEq, Eq)]
@@ -26,7 +30,15 @@ pub enum TraceFault {
     Shape(ShapeWord),
     /// The number of a step whose line can't be read.
     Unreadable(u64),
-    /// The number of a step that isn't allowed where it stands, or whose agent's work list is full.
+    /// The number of a step that isn't allowed where it stands.
     NotAllowed(u64),
     NoMemory,
+}
+
+impl From<NoMemory> for TraceFault {
+    ghost from_gives = { λ _ e. e ≡ Refused };
+
+    fn from(_refused: NoMemory) -> TraceFault {
+        TraceFault::NoMemory
+    }
 }

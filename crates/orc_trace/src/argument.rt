@@ -65,7 +65,7 @@ pub fn read_place(shape: &Shape, text: &[u8]) -> Option<Word>
     }
 }
 
-/// The target that a word spells: `-` for none, or a row.
+// The target that a word spells: `-` for none, or a row.
 fn read_target(shape: &Shape, text: &[u8]) -> Option<Option<u32>>
     ensures some { IfSome result (λ to. ForSome to (λ row. row < (bounds_of shape.now).rows) × (text.now ≡ target_text to)) }
     ensures none { IfNone result ((to : Option ℕ) → ForSome to (λ row. row < (bounds_of shape.now).rows) → text.now ≢ target_text to) }

@@ -31,6 +31,7 @@ pub enum Kind {
     Free,
 }
 
+// All of them.
 const KINDS: [Kind; 22] = [
     Kind::Enroll,
     Kind::Look,
@@ -57,6 +58,7 @@ const KINDS: [Kind; 22] = [
 ];
 
 impl Kind {
+    // The word that names it.
     fn word(self) -> &'static [u8]
         ensures { result.now ≡ kind_word self }
     {
@@ -87,6 +89,7 @@ impl Kind {
     }
 }
 
+/// Whether a text is this word.
 pub fn is_word(text: &[u8], word: &[u8]) -> bool
     ensures same { result ≡ true → text.now ≡ word.now }
     ensures other { result ≡ false → text.now ≢ word.now }

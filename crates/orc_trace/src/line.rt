@@ -15,7 +15,7 @@ use orc_core::{CounterUse, Op};
 use orc_decimal::number_of;
 use orc_words::Shape;
 
-/// A row, 0 or 1, and a value.
+// A row, 0 or 1, and a value.
 fn read_fill(shape: &Shape, left: Option<&[u8]>) -> Option<Op>
     ensures some { IfSome result (Spells (bounds_of shape.now) Kind.Fill (words_left (option_copied left.entry))) }
     ensures none { IfNone result ((op : Op) → ¬ Spells (bounds_of shape.now) Kind.Fill (words_left (option_copied left.entry)) op) }
@@ -27,7 +27,7 @@ fn read_fill(shape: &Shape, left: Option<&[u8]>) -> Option<Op>
     Some(Op::Fill { row, which, value })
 }
 
-/// A place, and a slot or none.
+// A place, and a slot or none.
 fn read_load(shape: &Shape, left: Option<&[u8]>) -> Option<Op>
     ensures some { IfSome result (Spells (bounds_of shape.now) Kind.Load (words_left (option_copied left.entry))) }
     ensures none { IfNone result ((op : Op) → ¬ Spells (bounds_of shape.now) Kind.Load (words_left (option_copied left.entry)) op) }
@@ -44,7 +44,7 @@ fn read_load(shape: &Shape, left: Option<&[u8]>) -> Option<Op>
     })
 }
 
-/// A place and two links.
+// A place and two links.
 fn read_cas(shape: &Shape, left: Option<&[u8]>) -> Option<Op>
     ensures some { IfSome result (Spells (bounds_of shape.now) Kind.Cas (words_left (option_copied left.entry))) }
     ensures none { IfNone result ((op : Op) → ¬ Spells (bounds_of shape.now) Kind.Cas (words_left (option_copied left.entry)) op) }
@@ -56,7 +56,7 @@ fn read_cas(shape: &Shape, left: Option<&[u8]>) -> Option<Op>
     Some(Op::LinkCas { place, from, to })
 }
 
-/// A row and a link.
+// A row and a link.
 fn read_store(shape: &Shape, left: Option<&[u8]>) -> Option<Op>
     ensures some { IfSome result (Spells (bounds_of shape.now) Kind.Store (words_left (option_copied left.entry))) }
     ensures none { IfNone result ((op : Op) → ¬ Spells (bounds_of shape.now) Kind.Store (words_left (option_copied left.entry)) op) }
@@ -67,7 +67,7 @@ fn read_store(shape: &Shape, left: Option<&[u8]>) -> Option<Op>
     Some(Op::LinkStore { row, link })
 }
 
-/// A row and a sequence.
+// A row and a sequence.
 fn read_set(shape: &Shape, left: Option<&[u8]>) -> Option<Op>
     ensures some { IfSome result (Spells (bounds_of shape.now) Kind.Set (words_left (option_copied left.entry))) }
     ensures none { IfNone result ((op : Op) → ¬ Spells (bounds_of shape.now) Kind.Set (words_left (option_copied left.entry)) op) }
@@ -78,7 +78,7 @@ fn read_set(shape: &Shape, left: Option<&[u8]>) -> Option<Op>
     Some(Op::SetRetired { row, sequence })
 }
 
-/// A row, and 0 or 1.
+// A row, and 0 or 1.
 fn read_value(shape: &Shape, left: Option<&[u8]>) -> Option<Op>
     ensures some { IfSome result (Spells (bounds_of shape.now) Kind.Read (words_left (option_copied left.entry))) }
     ensures none { IfNone result ((op : Op) → ¬ Spells (bounds_of shape.now) Kind.Read (words_left (option_copied left.entry)) op) }
@@ -87,7 +87,7 @@ fn read_value(shape: &Shape, left: Option<&[u8]>) -> Option<Op>
     Some(Op::Read { row, which })
 }
 
-/// A slot and a row.
+// A slot and a row.
 fn read_publish(shape: &Shape, left: Option<&[u8]>) -> Option<Op>
     ensures some { IfSome result (Spells (bounds_of shape.now) Kind.Publish (words_left (option_copied left.entry))) }
     ensures none { IfNone result ((op : Op) → ¬ Spells (bounds_of shape.now) Kind.Publish (words_left (option_copied left.entry)) op) }
@@ -96,51 +96,48 @@ fn read_publish(shape: &Shape, left: Option<&[u8]>) -> Option<Op>
     Some(Op::Publish { slot, row })
 }
 
-/// The op of a kind, by the words that are left behind its own.
+// The op of a kind, by the words that are left behind its own.
 fn op_of(shape: &Shape, kind: Kind, left: Option<&[u8]>) -> Option<Op>
     ensures some { IfSome result (Spells (bounds_of shape.now) kind (words_left (option_copied left.entry))) }
     ensures none { IfNone result ((op : Op) → ¬ Spells (bounds_of shape.now) kind (words_left (option_copied left.entry)) op) }
 {
-    let row = one_number(left, shape.rows());
-    let slot = one_number(left, 8);
-    let k = one_number(left, 8 * shape.agents());
     match kind {
         Kind::Enroll if left.is_none() => Some(Op::Enroll),
         Kind::Enroll => None,
-        Kind::Look => Some(Op::GateLook { row: row? }),
-        Kind::Take => Some(Op::GateTake { row: row? }),
+        Kind::Look => Some(Op::GateLook { row: one_number(left, shape.rows())? }),
+        Kind::Take => Some(Op::GateTake { row: one_number(left, shape.rows())? }),
         Kind::Fill => read_fill(shape, left),
         Kind::Read => read_value(shape, left),
         Kind::Load => read_load(shape, left),
         Kind::Publish => read_publish(shape, left),
-        Kind::Clear => Some(Op::Clear { slot: slot? }),
-        Kind::Arm => Some(Op::Arm { row: row? }),
+        Kind::Clear => Some(Op::Clear { slot: one_number(left, 8)? }),
+        Kind::Arm => Some(Op::Arm { row: one_number(left, shape.rows())? }),
         Kind::Cas => read_cas(shape, left),
         Kind::Store => read_store(shape, left),
-        Kind::Inc => Some(Op::Inc { row: row? }),
-        Kind::Dec => Some(Op::Dec { row: row? }),
+        Kind::Inc => Some(Op::Inc { row: one_number(left, shape.rows())? }),
+        Kind::Dec => Some(Op::Dec { row: one_number(left, shape.rows())? }),
         Kind::Set => read_set(shape, left),
         Kind::Count => Some(Op::CounterLoad {
-            row: row?,
+            row: one_number(left, shape.rows())?,
             how: CounterUse::Check,
         }),
         Kind::Start => Some(Op::CounterLoad {
-            row: row?,
+            row: one_number(left, shape.rows())?,
             how: CounterUse::Start,
         }),
         Kind::End => Some(Op::CounterLoad {
-            row: row?,
+            row: one_number(left, shape.rows())?,
             how: CounterUse::End,
         }),
-        Kind::Unretire => Some(Op::Unretire { row: row? }),
-        Kind::Slot => Some(Op::SlotLook { k: k? }),
-        Kind::Hand => Some(Op::Hand { k: k? }),
-        Kind::TakeIn => Some(Op::TakeIn { slot: slot? }),
-        Kind::Free => Some(Op::Free { row: row? }),
+        Kind::Unretire => Some(Op::Unretire { row: one_number(left, shape.rows())? }),
+        Kind::Slot => Some(Op::SlotLook { k: one_number(left, 8 * shape.agents())? }),
+        Kind::Hand => Some(Op::Hand { k: one_number(left, 8 * shape.agents())? }),
+        Kind::TakeIn => Some(Op::TakeIn { slot: one_number(left, 8)? }),
+        Kind::Free => Some(Op::Free { row: one_number(left, shape.rows())? }),
     }
 }
 
-/// The agent and the op that a line spells.
+// The agent and the op that a line spells.
 fn step_of(shape: &Shape, line: &[u8]) -> Option<(u32, Op)>
     ensures some { IfSome result (λ step. IsReadable (bounds_of shape.now) step × (line.now ≡ line_text step.0 step.1)) }
     ensures none { IfNone result ((step : ℕ × Op) → IsReadable (bounds_of shape.now) step → line.now ≢ line_text step.0 step.1) }

@@ -12,7 +12,7 @@ use crate::kind::is_word;
 use orc_decimal::number_of;
 use orc_words::{Shape, ShapeFault};
 
-/// The numbers of a first line, in range or not.
+// The numbers of a first line, in range or not.
 #[derive(Clone, Copy)]
 struct Asked {
     rows: u64,
@@ -21,7 +21,7 @@ struct Asked {
     limit: u64,
 }
 
-/// The numbers that a first line spells.
+// The numbers that a first line spells.
 fn numbers_of(line: &[u8]) -> Option<Asked>
     ensures some { IfSome result (λ asked. AreWide (bounds_asked asked) × (line.now ≡ shape_text (bounds_asked asked))) }
     ensures none { IfNone result ((b : Bounds) → AreWide b → line.now ≢ shape_text b) }
@@ -45,7 +45,7 @@ fn numbers_of(line: &[u8]) -> Option<Asked>
     })
 }
 
-/// The number, or the greatest of 32 bits, which is out of every range too.
+// The number, or the greatest of 32 bits, which is out of every range too.
 fn narrow(number: u64) -> u32
     ensures { result ≡ min number u32.MAX }
 {
@@ -55,7 +55,7 @@ fn narrow(number: u64) -> u32
     }
 }
 
-/// The shape of these numbers, or the first that is out of range.
+// The shape of these numbers, or the first that is out of range.
 fn shape_of(asked: &Asked) -> Result<Shape, ShapeWord>
     ensures ok { IfOk result (λ shape. (bounds_of shape ≡ bounds_asked asked.now) × IsShape (bounds_asked asked.now)) }
     ensures err { IfErr result (IsFirstOut (bounds_asked asked.now)) }

@@ -8,29 +8,29 @@ use std::test::Fail;
 
 mod examples;
 
-/// Row 0 is linked from root 0 by agent 0: 9 steps.
+// Row 0 is linked from root 0 by agent 0: 9 steps.
 const LINKED: &str =
     "shape 2 1 2 8\n0 enroll\n1 enroll\n0 look 0\n0 count 0\n0 take 0\n0 publish 1 0\n0 count 0\n0 cas r0 - 0\n0 inc 0\n";
 
-/// Agent 1 holds it, and agent 0 unlinks and retires it: 7 steps.
+// Agent 1 holds it, and agent 0 unlinks and retires it: 7 steps.
 const RETIRED: &str =
     "1 load r0\n1 publish 2 0\n1 load r0 2\n0 cas r0 0 -\n0 arm 0\n0 dec 0\n0 set 0 2\n";
 
-/// Agent 0 lets it go and begins a scan: 5 steps.
+// Agent 0 lets it go and begins a scan: 5 steps.
 const SCANNED: &str = "0 clear 0\n0 takein 0\n0 clear 1\n0 takein 1\n0 start 0\n";
 
-/// Agent 1 ends a scan that found nothing, and frees the row: 4 steps.
+// Agent 1 ends a scan that found nothing, and frees the row: 4 steps.
 const FREED: &str = "1 end 0\n1 store 0 -\n1 unretire 0\n1 free 0\n";
 
-/// Agent 1 links row 0, agent 2 holds it, agent 1 unlinks it and begins a scan: 22 steps.
+// Agent 1 links row 0, agent 2 holds it, agent 1 unlinks it and begins a scan: 22 steps.
 const THREE_AGENTS: &str =
     "shape 2 1 3 8\n0 enroll\n1 enroll\n2 enroll\n1 look 0\n1 count 0\n1 take 0\n1 publish 1 0\n1 count 0\n1 cas r0 - 0\n1 inc 0\n2 load r0\n2 publish 1 0\n2 load r0 1\n1 cas r0 0 -\n1 arm 0\n1 dec 0\n1 set 0 2\n1 clear 0\n1 takein 0\n1 clear 1\n1 takein 1\n1 start 0\n";
 
-/// Agent 2 links it again, agent 0 holds it behind the scan, and agent 2 lets it go: 8 steps.
+// Agent 2 links it again, agent 0 holds it behind the scan, and agent 2 lets it go: 8 steps.
 const LINKED_AGAIN: &str =
     "2 count 0\n2 cas r0 - 0\n0 load r0\n0 publish 1 0\n0 load r0 1\n2 inc 0\n2 clear 1\n2 takein 1\n";
 
-/// The line that a replay of these bytes writes.
+// The line that a replay of these bytes writes.
 fn line_of(alloc: Global, bytes: &[u8]) -> Result<String, NoMemory> {
     match replay(alloc, bytes) {
         Ok(replayed) => replay_text(alloc, &replayed),
@@ -44,7 +44,7 @@ fn check(rt: &impl Abort, alloc: Global, text: &str, want: &str) -> Result<(), F
     Ok(())
 }
 
-/// The looks of an agent at the slots of these scan places.
+// The looks of an agent at the slots of these scan places.
 fn push_slots(text: &mut String, agent: u32, from: u32, end: u32) -> Result<(), AllocError> {
     for k in from..end {
         writeln!(text, "{agent} slot {k}")?;
@@ -127,7 +127,7 @@ fn a_hold_behind_the_scan_is_not_freed(rt: HostRuntime) -> Result<(), Fail> {
     )
 }
 
-/// Agent 0 links and unlinks seven rows that agent 1 holds, and hands each over to it.
+// Agent 0 links and unlinks seven rows that agent 1 holds, and hands each over to it.
 fn push_handed(text: &mut String, row: u32) -> Result<(), AllocError> {
     let slot = u64::from(row) + 1;
     writeln!(

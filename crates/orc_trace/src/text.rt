@@ -21,33 +21,35 @@ pub fn replay_text(alloc: Global, replayed: &Replayed) -> Result<String, NoMemor
         listed,
         linked,
     } = census;
-    match format!(in alloc;
+    let text = format!(in alloc;
         "steps {steps} out {out} retired {retired} handed {handed} listed {listed} linked {linked}\n"
-    ) {
-        Ok(text) => Ok(text),
-        Err(_) => Err(NoMemory),
-    }
+    )?;
+    Ok(text)
 }
 
 /// The line of a fault. Want of memory has none: its text is empty.
 pub fn fault_text(alloc: Global, fault: TraceFault) -> Result<String, NoMemory>
     ensures { IfOk result (λ text. string_bytes text ≡ fault_line fault) }
 {
-    let text = match fault {
+    match fault {
         TraceFault::Shape(word) => {
             let word = name_of(word);
-            format!(in alloc; "shape: {word}\n")
+            let text = format!(in alloc; "shape: {word}\n")?;
+            Ok(text)
         }
-        TraceFault::Unreadable(step) => format!(in alloc; "step {step}: unreadable\n"),
-        TraceFault::NotAllowed(step) => format!(in alloc; "step {step}: not allowed\n"),
-        TraceFault::NoMemory => return Ok(String::new(alloc)),
-    };
-    match text {
-        Ok(text) => Ok(text),
-        Err(_) => Err(NoMemory),
+        TraceFault::Unreadable(step) => {
+            let text = format!(in alloc; "step {step}: unreadable\n")?;
+            Ok(text)
+        }
+        TraceFault::NotAllowed(step) => {
+            let text = format!(in alloc; "step {step}: not allowed\n")?;
+            Ok(text)
+        }
+        TraceFault::NoMemory => Ok(String::new(alloc)),
     }
 }
 
+// The word for what is amiss with a first line.
 fn name_of(word: ShapeWord) -> &'static str
     ensures { result.now ≡ shape_word word }
 {

@@ -17,7 +17,7 @@ use orc_fifo_rule::FifoNote;
 use orc_heap::{Act, Place};
 use orc_history::{QueueEntry, QueueRefused};
 
-/// A put that has turns gives one node, unless it could have none.
+// A put that has turns gives one node, unless it could have none.
 fn nodes_of_a_put()
     ensures no_turns { gives_of 0 (Err QueueRefused.Again) ≡ 0 }
     ensures no_node { gives_of 3 (Err QueueRefused.NoNode) ≡ 0 }
@@ -26,7 +26,7 @@ fn nodes_of_a_put()
     ensures put { gives_of 3 (Ok 5) ≡ 1 }
 {}
 
-/// Agent 2 moved the tail once while agent 1 looked: that uses up one turn of agent 1, and not two.
+// Agent 2 moved the tail once while agent 1 looked: that uses up one turn of agent 1, and not two.
 fn one_turn_is_used()
     ensures one { UsesTurns {S = Event FifoNote} (λ e. e.agent) (λ j. j) 1 1 (event_by 1 (Act.Look (Place.Root 1) (link_to 0)) None
         ∷ event_by 2 (Act.Move (Place.Root 1) (link_to 0) (link_to 1)) (Some FifoNote.Swing) ∷ []) 0 2 }
@@ -36,13 +36,13 @@ fn one_turn_is_used()
         ∷ event_by 1 (Act.Look (Place.Root 1) (link_to 1)) None ∷ []) 1 2 }
 {}
 
-/// Two Moves of its own use up two turns of no agent.
+// Two Moves of its own use up two turns of no agent.
 fn own_moves_are_no_excuse()
     ensures { ¬ UsesTurns {S = Event FifoNote} (λ e. e.agent) (λ j. j) 1 2 (event_by 1 (Act.Move (Place.Root 1) (link_to 0) (link_to 1)) (Some FifoNote.Swing)
         ∷ event_by 1 (Act.Move (Place.Root 1) (link_to 1) (link_to 2)) (Some FifoNote.Swing) ∷ []) 0 2 }
 {}
 
-/// Without turns a lack of rows is no cause. From position 2^62 - 1 on one Put leaves none.
+// Without turns a lack of rows is no cause. From position 2^62 - 1 on one Put leaves none.
 fn other_causes()
     ensures no_row { Cause {S = Event FifoNote} (λ e. e.agent) (λ j. j) 0 (◌≡◌ {A = ℕ} 0 0) 1 1 QueueRefused.NoNode [] 0 0 }
     ensures a_row { ¬ Cause {S = Event FifoNote} (λ e. e.agent) (λ j. j) 0 (◌≡◌ {A = ℕ} 0 1) 1 1 QueueRefused.NoNode [] 0 0 }
@@ -53,7 +53,7 @@ fn other_causes()
         (event_by 1 (Act.Move (Place.Next 0) null (link_to 1)) (Some (FifoNote.Entry (QueueEntry.Put 1 7 (2 ^ 62 - 1)))) ∷ []) 0 }
 {}
 
-/// Node 0 is the dummy and leads to node 1, the last. A tail at node 0 lags; one at node 1 doesn't, and is past the head.
+// Node 0 is the dummy and leads to node 1, the last. A tail at node 0 lags; one at node 1 doesn't, and is past the head.
 fn where_the_tail_is()
     ensures lags { ¬ TailIsLast (record {
       nodes = record { giver = 0; first = None; second = Some 5; link = link_to 1; named = true; linked = true }
@@ -69,7 +69,7 @@ fn where_the_tail_is()
     ensures at_the_head { ¬ TailIsPast (record { nodes = []; roots = link_to 0 ∷ link_to 0 ∷ [] }) }
 {}
 
-/// A swing of root 1, and a miss of it, help the tail on; a move of root 0 leaves it.
+// A swing of root 1, and a miss of it, help the tail on; a move of root 0 leaves it.
 fn help()
     ensures swing { SwingsTail 0 (event_by 1 (Act.Move (Place.Root 1) (link_to 0) (link_to 1)) (Some FifoNote.Swing)) }
     ensures miss { SwingsTail 0 (event_by 1 (Act.Miss (Place.Root 1) (link_to 0) (link_to 1)) None) }
@@ -78,8 +78,8 @@ fn help()
     ensures moves { ¬ KeepsTail (event_by 1 (Act.Move (Place.Root 1) (link_to 0) (link_to 1)) None ∷ []) }
 {}
 
-/// In a queue whose first position is 2^62 a Look at the dummy's null link finds no position left; one at the link of a
-/// node that was never linked does not.
+// In a queue whose first position is 2^62 a Look at the dummy's null link finds no position left; one at the link of a
+// node that was never linked does not.
 fn no_position_is_left()
     ensures first { let es : List (Event FifoNote) =
         event_by 0 Act.Give None

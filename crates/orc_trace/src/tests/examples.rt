@@ -4,12 +4,10 @@ ghost use Rattle.std.specs.Prelude.{◌≡◌, ◌≢◌, ◌∷◌, [], Some, N
 ghost use Rattle.orc_core.specs.declared.ops.Op.{Op};
 ghost use Rattle.orc_core.specs.declared.ops.CounterUse.{CounterUse};
 ghost use Rattle.orc_words.specs.declared.place.Word.{Word};
-ghost use Rattle.orc_core.specs.Machine.{new_machine};
 ghost use Rattle.orc_trace.specs.declared.kind.Kind.{Kind};
 ghost use Rattle.orc_trace.specs.Answers.{fault_line, replay_line};
 ghost use Rattle.orc_trace.specs.Reading.{Cuts, Spells, words_in, words_left};
 ghost use Rattle.orc_trace.specs.Replay.{IsFirstOut, IsReplay, Refuses};
-ghost use Rattle.orc_trace.specs.Room.{HaveRoom, brings_row, can_step, has_room_for};
 ghost use Rattle.orc_trace.specs.TraceText.{AreWide, IsReadable, line_text, link_text, place_text, shape_text, trace_text, words_of};
 
 use crate::kind::Kind;
@@ -17,7 +15,7 @@ use crate::{ShapeWord, TraceFault};
 use orc_core::{CounterUse, Op};
 use orc_words::Word;
 
-/// Agent 1 publishes row 0 in its slot 2; agent 0 links row 1, marked, from row 0.
+// Agent 1 publishes row 0 in its slot 2; agent 0 links row 1, marked, from row 0.
 fn lines()
     ensures root { place_text (Word.Root 3) ≡ codes "r3" }
     ensures row { place_text (Word.Next 3) ≡ codes "n3" }
@@ -31,7 +29,7 @@ fn lines()
     ensures trace { trace_text (record { rows = 2; roots = 1; agents = 1; limit = 8 }) ((0, Op.Enroll) ∷ (0, Op.CounterLoad 0 CounterUse.Start) ∷ []) ≡ codes "shape 2 1 1 8\n0 enroll\n0 start 0\n" }
 {}
 
-/// Two agents have sixteen scan places and eight slots each.
+// Two agents have sixteen scan places and eight slots each.
 fn ranges()
     ensures last_slot { IsReadable (record { rows = 2; roots = 1; agents = 2; limit = 8 }) (1, Op.Clear 7) }
     ensures ninth_slot { ¬ IsReadable (record { rows = 2; roots = 1; agents = 2; limit = 8 }) (1, Op.Clear 8) }
@@ -43,7 +41,7 @@ fn ranges()
     ensures not_first { ¬ IsFirstOut (record { rows = 2; roots = 0; agents = 17; limit = 8 }) ShapeWord.Agents }
 {}
 
-/// What a reader sees of a line.
+// What a reader sees of a line.
 fn words()
     ensures cut { Cuts 32 (codes "0 look 1") (codes "0") (Some (codes "look 1")) }
     ensures not_cut_later { ¬ Cuts 32 (codes "0 look 1") (codes "0 look") (Some (codes "1")) }
@@ -52,19 +50,7 @@ fn words()
     ensures none { words_left None ≡ [] }
 {}
 
-/// A row that is named in a handover word is taken in, and a counter word without count and bit takes the bit.
-fn rooms()
-    ensures taken_in { brings_row (Op.TakeIn 0) 1 ≡ true }
-    ensures nothing_there { brings_row (Op.TakeIn 0) 0 ≡ false }
-    ensures retired { brings_row (Op.SetRetired 0 2) 37748736 ≡ true }
-    ensures not_retired { brings_row (Op.SetRetired 0 2) 46137344 ≡ false }
-    ensures enrolls { can_step (new_machine (record { rows = 2; roots = 1; agents = 2; limit = 8 })) 0 Op.Enroll ≡ true }
-    ensures too_early { can_step (new_machine (record { rows = 2; roots = 1; agents = 2; limit = 8 })) 1 Op.Enroll ≡ false }
-    ensures room { HaveRoom (new_machine (record { rows = 2; roots = 1; agents = 2; limit = 8 })) ((0, Op.Enroll) ∷ []) }
-    ensures place { has_room_for (new_machine (record { rows = 2; roots = 1; agents = 2; limit = 8 })) 0 Op.Enroll ≡ true }
-{}
-
-/// The lines that are written.
+// The lines that are written.
 fn answers()
     ensures played { replay_line (record { steps = 9; census = record { out = 1; retired = 0; handed = 2; listed = 3; linked = 4 } }) ≡ codes "steps 9 out 1 retired 0 handed 2 listed 3 linked 4\n" }
     ensures shape { fault_line (TraceFault.Shape ShapeWord.Agents) ≡ codes "shape: agents\n" }

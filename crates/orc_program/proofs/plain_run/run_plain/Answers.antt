@@ -7,7 +7,7 @@ use Rattle.orc_program.proofs.PlainEnd.{run_end, own_records-few}
 use Rattle.orc_program.proofs.plain_run.run_plain.Goals as goal
 
 pub run_poster-requires-clause-room : goal.run_poster-requires-clause-room
-run_poster-requires-clause-room g c κs within = omega (arith, own_records-few (length c.args.lines.now), c.in_ok-posts.ensures.1, good_few c.requires)
+run_poster-requires-clause-room g c = omega (arith, own_records-few (length c.args.lines.now), c.in_ok-posts.ensures.1, good_few c.requires)
 
 pub returns : goal.returns
 returns g c =

@@ -1,6 +1,5 @@
 -- No turn, no node, or how the turns ended.
-use Rattle.std.proofs.Common.{arith, length, subst, sym, ℕ}
-use Rattle.orc_heap.proofs.Steps.{part_bounds}
+use Rattle.std.proofs.Common.{subst, sym, ℕ}
 use Rattle.orc_queue.specs.Answers.{PutTired}
 use Rattle.orc_queue.proofs.Answering.{given_held, idle_free, put_full, put_lacking, put_made, put_none, put_tired}
 use Rattle.orc_queue.proofs.put.put_job.Goals as goal
@@ -20,17 +19,6 @@ returns-in-Err-clause-answered g c =
     let s = g.L.Links.seat d c.args.p.now in
     let idle = c.requires.idle in
     put_lacking n c.args.turns s (g.L.Links.seat d c.give.new.p) idle c.if-turns-eq0.false c.in-Err.ensures.none
-
-pub returns-in-Err-clause-lacking : goal.returns-in-Err-clause-lacking
-returns-in-Err-clause-lacking g c = λ is.
-    let d = c.args.links.now in
-    let n = g.L.Links.numbers d in
-    let s = g.L.Links.seat d c.args.p.now in
-    let idle = c.requires.idle in
-    let j = g.L.Links.journal c.args.p.now in
-    let k = g.L.Links.journal c.give.new.p in
-    let bounds = part_bounds g.L.Links.agent_of s.agent j k c.give.ensures.later in
-    (_, length k, bounds.0, bounds.1, omega arith, c.in-Err.ensures.lacking)
 
 pub returns-in-Put-clause-answered : goal.returns-in-Put-clause-answered
 returns-in-Put-clause-answered g c =

@@ -1,8 +1,9 @@
-use Rattle.std.proofs.Common.{◌∙◌, ◌+◌, List, ℕ, arith, sym, subst}
+use Rattle.std.proofs.Common.{rules, true, false, ◌≡◌, ◌∙◌, ◌+◌, List, ℕ, arith, sym, subst}
 use Rattle.orc_words.specs.Bounds.{bounds_of}
-use Rattle.orc_core.specs.Machine.{Machine}
+use Rattle.orc_core.specs.Machine.{Machine, is_allowed, step}
 use Rattle.orc_trace.specs.Replay.{Begins}
-use Rattle.orc_trace.proofs.Plays.{Continues, Continues-here, Continues-start, Continues-step, none-left, some-left, step-shorter}
+use Rattle.orc_trace.proofs.Lines.{shape-in_range}
+use Rattle.orc_trace.proofs.Plays.{Continues, Continues-here, Continues-start, Continues-step, none-left, room-here, some-left, step-shorter}
 use Rattle.orc_trace.proofs.playing.play.Goals as goal
 
 pub loop-rest-init : goal.loop-rest-init
@@ -13,10 +14,16 @@ returns-in_default-clause-err c =
     let here = Continues-here (bounds_of c.args.shape.now) c.args.state.now c.args.lines.now c.loop-rest.steps c.loop-rest.state c.loop-rest.rest.now c.loop-rest.invariant.so in
     (here.0, c.loop-rest.rest.now, here.1, here.2, (some-left c.loop-rest.rest.now (sym c.is_empty.ensures ∙ c.loop-rest-test.true), c.in_default.ensures.none))
 
-pub returns-then-not-make_step-clause-err : goal.returns-then-not-make_step-clause-err
-returns-then-not-make_step-clause-err c =
+pub apply-requires : goal.apply-requires
+apply-requires c =
+    let b = bounds_of c.args.shape.now in
+    room-here b c.args.lines.now c.loop-rest.steps c.loop-rest.state c.loop-rest.rest.now c.in-Some.agent c.in-Some.op (shape-in_range c.args.shape.now)
+    (subst (λ (m : Machine). Continues b m c.args.lines.now c.loop-rest.steps c.loop-rest.state c.loop-rest.rest.now) c.requires c.loop-rest.invariant.so)
+
+pub returns-then-is_err-clause-err : goal.returns-then-is_err-clause-err
+returns-then-is_err-clause-err c =
     let here = Continues-here (bounds_of c.args.shape.now) c.args.state.now c.args.lines.now c.loop-rest.steps c.loop-rest.state c.loop-rest.rest.now c.loop-rest.invariant.so in
-    let refused = sym c.make_step.ensures.made ∙ c.if-not-make_step.true in
+    let refused : is_allowed c.loop-rest.state c.in-Some.agent c.in-Some.op ≡ false = search rules in
     (here.0, c.loop-rest.rest.now, here.1, here.2, ((c.in-Some.agent, c.in-Some.op), c.in-Some.more.now, c.in-Some.ensures.some, rw here.3 refused))
 
 pub loop-rest-preserved : goal.loop-rest-preserved
@@ -24,11 +31,12 @@ loop-rest-preserved c =
     let line = c.in-Some.ensures.some in
     let shorter = step-shorter (bounds_of c.args.shape.now) (c.in-Some.agent, c.in-Some.op) c.in-Some.more.now c.loop-rest.rest.now line in
     let short = c.loop-rest.invariant.short in
-    let made = sym c.make_step.ensures.made ∙ c.if-not-make_step.false in
+    let made : is_allowed c.loop-rest.state c.in-Some.agent c.in-Some.op ≡ true = search rules in
+    let stepped : c.apply.new.state ≡ step c.loop-rest.state c.in-Some.agent c.in-Some.op = search rules in
     let on = Continues-step (bounds_of c.args.shape.now) c.args.state.now c.args.lines.now c.loop-rest.steps c.loop-rest.state c.loop-rest.rest.now (c.in-Some.agent, c.in-Some.op) c.in-Some.more.now c.loop-rest.invariant.so line made in
     record {
       short = omega (arith, shorter, short);
-      so = subst (λ (m : Machine). Continues (bounds_of c.args.shape.now) c.args.state.now c.args.lines.now (c.loop-rest.steps + 1) m c.in-Some.more.now) (sym c.if-not-make_step.ensures.step) on;
+      so = subst (λ (m : Machine). Continues (bounds_of c.args.shape.now) c.args.state.now c.args.lines.now (c.loop-rest.steps + 1) m c.in-Some.more.now) (sym stepped) on;
     }
 
 pub returns-clause-ok : goal.returns-clause-ok

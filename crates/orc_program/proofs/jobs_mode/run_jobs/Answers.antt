@@ -1,0 +1,34 @@
+use Rattle.std.proofs.Common.{rules, ◌≡◌, inl, inr, refl, Some}
+use Rattle.std.specs.String.{string_bytes}
+use Rattle.orc_program.specs.Ended.{HasReported}
+use Rattle.orc_program.specs.Refusals.{input_too_large, malformed_line}
+use Rattle.orc_jobs.specs.JobGrammar.{Refuses}
+use Rattle.orc_jobs.specs.declared.cause.JobsFault.TheVariants.{TooMany}
+use Rattle.orc_program.proofs.jobs_mode.run_jobs.Goals as goal
+
+pub returns-in-Ok-Report-clause-cut_short : goal.returns-in-Ok-Report-clause-cut_short
+returns-in-Ok-Report-clause-cut_short g c five =
+    let kept : HasReported (Some c.args.bytes.now) c.keep.new.self c.bytes.result.now = search rules in
+    (c.bytes.result.now, inl kept, c.write_text.ensures.cut_short five)
+
+pub returns-in-Ok-Report-clause-malformed_comes : goal.returns-in-Ok-Report-clause-malformed_comes
+returns-in-Ok-Report-clause-malformed_comes g c place why bad =
+    absurd (rw c.in-Ok-Report.field-0-is at (c.in-Ok-Report.ensures.malformed place why bad))
+
+pub returns-in-Ok-Malformed-clause-malformed_comes : goal.returns-in-Ok-Malformed-clause-malformed_comes
+returns-in-Ok-Malformed-clause-malformed_comes g c place why bad =
+    let says : string_bytes c.in-Ok-Malformed.text ≡ malformed_line place why =
+    rw c.in-Ok-Malformed.field-0-is at (c.in-Ok-Malformed.ensures.malformed place why bad) in
+    elim c.write_text-in-Ok-Malformed.ensures.statuses [
+      | inl three ↦ inl (three, rw (← says, ← c.as_bytes.ensures.value) (c.write_text-in-Ok-Malformed.ensures.written three))
+      | inr five ↦ inr (inl five)
+    ]
+
+pub returns-in-Ok-TooMany-clause-cut_short : goal.returns-in-Ok-TooMany-clause-cut_short
+returns-in-Ok-TooMany-clause-cut_short g c five =
+    let many : Refuses c.args.bytes.now TooMany = search rules in
+    (input_too_large, inr (c.requires.new, inl (inr many, refl)), c.refuse_size.ensures.cut_short five)
+
+pub returns-in-Ok-TooMany-clause-malformed_comes : goal.returns-in-Ok-TooMany-clause-malformed_comes
+returns-in-Ok-TooMany-clause-malformed_comes g c place why bad =
+    absurd (rw c.in-Ok-TooMany.field-0-is at (c.in-Ok-TooMany.ensures.malformed place why bad))

@@ -1,0 +1,36 @@
+-- What the contracts of the queue's calls say of a pass before a call, `old`, and after it, `new`.
+use Rattle.std.specs.Prelude.{List, [], ℕ}
+use Rattle.orc_heap.specs.Domains.{DuringCall, Enters as EntersHistory, InCall, agent, heap}
+use Rattle.orc_heap.specs.declared.links.Links.{Ghosts as LinksOf}
+use Rattle.orc_history.specs.QueueHistory.{agent_of_entry}
+use Rattle.orc_history.specs.declared.queue.QueueEntry.{QueueEntry}
+use Rattle.orc_fifo_rule.specs.declared.fifo.FifoNote.{FifoNote}
+use Rattle.orc_fifo_rule.specs.QueueDiscipline.{entries_in}
+use Rattle.orc_queue.specs.Answers.{CallFindsFull}
+use Rattle.orc_queue.specs.Causes.{UsesTurns}
+use Rattle.orc_queue.specs.Turns.{TailIsLast}
+
+module _ {L D P S : Type 0} (members : LinksOf L D P S FifoNote) (links : L) where
+  -- the call enters these entries of its agent, and others' entries may stand among them
+  abbrev pub Enters : P → P → (ℕ → List QueueEntry) → Type 0
+  Enters old new entries = EntersHistory members links agent_of_entry entries_in old new (entries (agent members links old))
+
+  -- it enters none
+  abbrev pub EntersNone : P → P → Type 0
+  EntersNone old new = Enters old new (λ agent. [])
+
+  -- all turns were used in the call's part of the journal
+  abbrev pub UsesAllTurns : ℕ → P → P → Type 0
+  UsesAllTurns turns old new = InCall members links old new (UsesTurns members.agent_of (members.events links) (agent members links old) turns (members.journal new))
+
+  -- no row could be given to the call's agent in the part that the call had made by some time
+  abbrev pub LacksRow : P → P → Type 0
+  LacksRow old new = DuringCall members links old new (members.lacking links (agent members links old) (members.journal new))
+
+  -- the call found the end of the queue where no position was left
+  abbrev pub FindsNoPosition : P → P → Type 0
+  FindsNoPosition old new = CallFindsFull (members.numbers links) (members.seat links old) (members.seat links new)
+
+  -- the tail is at the last node, as far as the pass has seen
+  abbrev pub LeavesTailLast : P → Type 0
+  LeavesTailLast new = TailIsLast (heap members links new)
