@@ -8,7 +8,7 @@ use std::alloc::Global;
 use std::io;
 use std::time::Instant;
 
-/// How many times each row is taken, linked, retired and freed.
+// How many times each row is taken, linked, retired and freed.
 const LIVES: u32 = 10;
 
 const ROWS: u32 = 65_535;
@@ -18,7 +18,7 @@ const NULL: RowLink = RowLink {
     mark: false,
 };
 
-/// A state, and how many steps were made on it.
+// A state, and how many steps were made on it.
 #[derive(Drop)]
 struct Bench {
     state: State,
@@ -26,7 +26,7 @@ struct Bench {
 }
 
 impl Bench {
-    /// One step of agent 0.
+    // One step of agent 0.
     fn step(&mut self, op: Op) -> Result<(), NotAllowed> {
         if !self.state.has_room(0) {
             return Err(NotAllowed);
@@ -40,7 +40,7 @@ impl Bench {
         self.step(Op::CounterLoad { row, how })
     }
 
-    /// The row is taken, filled, and linked from root 0.
+    // The row is taken, filled, and linked from root 0.
     fn link(&mut self, row: u32) -> Result<(), NotAllowed> {
         self.step(Op::GateLook { row })?;
         self.count(row, CounterUse::Check)?;
@@ -62,7 +62,7 @@ impl Bench {
         self.step(Op::Inc { row })
     }
 
-    /// The row is unlinked from root 0 and retired, and its slots are cleared.
+    // The row is unlinked from root 0 and retired, and its slots are cleared.
     fn retire(&mut self, row: u32, sequence: u64) -> Result<(), NotAllowed> {
         self.step(Op::LinkCas {
             place: Word::Root(0),
@@ -79,7 +79,7 @@ impl Bench {
         Ok(())
     }
 
-    /// The row is scanned for, and freed.
+    // The row is scanned for, and freed.
     fn free(&mut self, row: u32, slots: u32) -> Result<(), NotAllowed> {
         self.count(row, CounterUse::Start)?;
         for k in 0..slots {
@@ -99,13 +99,13 @@ fn to_row(row: u32) -> RowLink {
     }
 }
 
-/// A new state of 65,535 rows, if memory is there for it.
+// A new state of 65,535 rows, if memory is there for it.
 fn new_state(alloc: Global, roots: u32, agents: u32) -> Option<State> {
     let shape = Shape::new(ROWS, roots, agents, 549_755_813_888).ok()?;
     State::new(alloc, &shape).ok()
 }
 
-/// All lives of all rows, one row after another.
+// All lives of all rows, one row after another.
 fn run(bench: &mut Bench) -> Result<(), NotAllowed> {
     bench.step(Op::Enroll)?;
     for life in 1..=LIVES {

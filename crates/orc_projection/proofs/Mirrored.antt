@@ -1,16 +1,17 @@
 -- What the state as functions shows of a heap, said of the words and records themselves.
 use Rattle.std.proofs.Common.{List, [], ap, append_assoc, refl, subst, sym, ⊎_elim, ◌++◌, ◌∙◌, ◌∷◌, ◌≡◌}
-use Rattle.std.specs.Prelude.{Option, Some}
+use Rattle.std.specs.Prelude.{Option, Some, ◌↔◌}
 use Rattle.orc_core.specs.Machine.{Machine, new_machine, record_at, step, word_read}
 use Rattle.orc_core.specs.Runs.{run}
 use Rattle.orc_heap.specs.Heap.{Heap, Node, new_heap}
 use Rattle.orc_heap.specs.Journals.{IsLawful, run_heap}
+use Rattle.orc_projection.proofs.Nodes.{is_fresh, is_known, is_named}
 use Rattle.orc_projection.proofs.Runs.{first_shows, project_shows}
 use Rattle.orc_projection.proofs.Shows.{Shows}
 use Rattle.orc_projection.specs.Mirror.{Mirrors, numbers_of}
 use Rattle.orc_projection.specs.PresentIds.{PresentIds, no_ids, node_link}
 use Rattle.orc_projection.specs.Projection.{StoresUnmarked, act_of, events_of, ids_after, ids_from, present_ids, project, project_from}
-use Rattle.orc_sound.proofs.AllFits.{all_first}
+use Rattle.orc_sound.proofs.AllFits.{all_first, run_bounds}
 use Rattle.orc_sound.proofs.Full.{full_first}
 use Rattle.orc_sound.proofs.Seats.{both_ways}
 use Rattle.orc_sound.proofs.Shown.{out_hidden, word_shown}
@@ -19,7 +20,7 @@ use Rattle.orc_sound.specs.Doomed.{dooms_cut}
 use Rattle.orc_sound.specs.Journals.{IsLawfulJournal, plain}
 use Rattle.orc_sound.specs.declared.steps.Step.{Step}
 use Rattle.orc_words.specs.Bounds.{Bounds, IsShape}
-use Rattle.orc_words.specs.Packed.{link_of}
+use Rattle.orc_words.specs.Packed.{bit, link_of}
 use Rattle.orc_words.specs.declared.place.Word.TheVariants.{First, Next, Root, Second}
 
 -- the node of a row that is out has the row's value
@@ -42,11 +43,11 @@ mirrored m p h s = record {
   second = λ r v n o g e.
       let k = s.rows r (out_hidden m r o) in
       sym (word_shown m (Second r) o.0) ∙ k.so.second v (ap (λ (x : Node). x.second) (same_node _ k.there g) ∙ e);
+  fresh = λ a r k. is_fresh a (p.node r) h (s.fresh a r k);
+  held = λ a k r l g. is_known a (p.node r) h (s.held a k r l g);
+  root_named = λ i r k g. is_named (p.node r) h (s.root_named i r (rw (word_shown m (Root i) k) (ap bit g)));
+  next_named = λ q r o g. is_named (p.node r) h (s.next_named q r (out_hidden m q o) (rw (word_shown m (Next q) o.0) (ap bit g)));
 }
-
-pub run_bounds : {N : Type 0} (m : Machine) (steps : List (Step N)) → (run m (plain steps)).bounds ≡ m.bounds
-run_bounds m [] = refl
-run_bounds m (x ∷ xs) = run_bounds (step m x.agent x.op) xs
 
 pub projection_lawful : {N : Type 0} (b : Bounds) (steps : List (Step N)) → IsShape b → IsLawfulJournal (new_machine b) steps → StoresUnmarked steps → IsLawful (numbers_of b) (project b steps)
 projection_lawful b steps shape l n = (project_shows (new_machine b) no_ids (new_heap (numbers_of b)) steps (full_first b shape) (all_first b) l n (first_shows b)).0
@@ -56,7 +57,7 @@ pub projection_mirrors : {N : Type 0} (b : Bounds) (steps : List (Step N)) → I
 projection_mirrors b steps shape l n =
     let m = run (new_machine b) (plain steps) in
     let s = (project_shows (new_machine b) no_ids (new_heap (numbers_of b)) steps (full_first b shape) (all_first b) l n (first_shows b)).1 in
-    mirrored m (present_ids b steps) (run_heap (numbers_of b) (project b steps)) (subst (λ c. Shows c (world_of m) (present_ids b steps) (run_heap (numbers_of b) (project b steps))) (sym (run_bounds (new_machine b) steps)) s)
+    mirrored m (present_ids b steps) (run_heap (numbers_of b) (project b steps)) (subst (λ c. Shows c (world_of m) (present_ids b steps) (run_heap (numbers_of b) (project b steps))) (sym (run_bounds (new_machine b) (plain steps))) s)
 
 -- the projection of two lists of steps
 pub project-append : {N : Type 0} (m : Machine) (p : PresentIds) (xs ys : List (Step N)) → project_from m p (xs ++ ys) ≡ project_from m p xs ++ project_from (run m (plain xs)) (ids_from m p xs) ys
@@ -71,3 +72,14 @@ project-append m p (x ∷ xs) ys =
 pub ids-append : {N : Type 0} (m : Machine) (p : PresentIds) (xs ys : List (Step N)) → ids_from m p (xs ++ ys) ≡ ids_from (run m (plain xs)) (ids_from m p xs) ys
 ids-append m p [] ys = refl
 ids-append m p (x ∷ xs) ys = ids-append (step m x.agent x.op) (ids_after p (record_at m x.agent) (word_read m x.agent x.op) x.op) xs ys
+
+unmarked_parts : {N : Type 0} (first second : List (Step N)) → StoresUnmarked (first ++ second) → StoresUnmarked first × StoresUnmarked second
+unmarked_parts [] second u = (tt, u)
+unmarked_parts (x ∷ xs) second u = let p = unmarked_parts xs second u.1 in ((u.0, p.0), p.1)
+
+unmarked_whole : {N : Type 0} (first second : List (Step N)) → StoresUnmarked first × StoresUnmarked second → StoresUnmarked (first ++ second)
+unmarked_whole [] second u = u.1
+unmarked_whole (x ∷ xs) second u = (u.0.0, unmarked_whole xs second (u.0.1, u.1))
+
+pub StoresUnmarked-append : {N : Type 0} (first second : List (Step N)) → StoresUnmarked (first ++ second) ↔ (StoresUnmarked first × StoresUnmarked second)
+StoresUnmarked-append first second = (unmarked_parts first second, unmarked_whole first second)

@@ -5,6 +5,7 @@ use Rattle.std.specs.Prelude.{None, Option, Some}
 use Rattle.orc_heap.proofs.Changes.{get-change, get-change_same, get-grown, length-change}
 use Rattle.orc_heap.specs.Acts.{IsFresh, IsKnown, change_target}
 use Rattle.orc_heap.specs.Heap.{Heap, Node, change}
+use Rattle.orc_projection.specs.Mirror.{IsNamed}
 
 -- the heap has the node of this id, and it is so
 pub record HasNode (nodes : List Node) (id : ℕ) (P : Node → Type 0) : Type 0 where
@@ -62,6 +63,9 @@ is_fresh a id h k = record { node = k.node; there = k.there; mine = k.so.giver; 
 
 pub is_known : (a id : ℕ) (h : Heap) → HasNode h.nodes id (Known a) → IsKnown a h id
 is_known a id h k = record { node = k.node; there = k.there; known = k.so.known }
+
+pub is_named : (id : ℕ) (h : Heap) → HasNode h.nodes id Named → IsNamed h id
+is_named id h k = record { node = k.node; there = k.there; named = k.so.named }
 
 pub named_known : (a : ℕ) (n : Node) → Named n → Known a n
 named_known a n h = record { known = inr h.named }

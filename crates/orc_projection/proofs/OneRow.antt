@@ -1,32 +1,29 @@
 -- Each node lies in one row, from its taking on.
-use Rattle.std.proofs.Common.{Bool, List, [], ap, append_assoc, arith, false, length, length-append, refl, subst, sym, true, ℕ, ◌++◌, ◌+◌, ◌<◌, ◌∙◌, ◌∷◌, ◌≡◌, ◌≢◌}
+use Rattle.std.proofs.Common.{Bool, List, [], ap, append_assoc, arith, false, length, length-append, refl, subst, sym, true, ℕ, ◌++◌, ◌+◌, ◌<◌, ◌∙◌, ◌∷◌, ◌≡◌}
 use Rattle.std.proofs.lemmas.Bool.{eqb-true, false≢true}
 use Rattle.std.specs.Option.{option_map}
 use Rattle.std.specs.Prelude.{None, Option, Some, if◌then◌else◌, slice_get, ◌==◌}
-use mathlib.Core.List.{IsPrefix}
 use Rattle.orc_core.proofs.Within.{and_both, may_within}
 use Rattle.orc_core.specs.Actions.{action_of}
 use Rattle.orc_core.specs.Machine.{Machine, is_allowed, new_machine, record_at, step, word_in, word_read}
 use Rattle.orc_core.specs.Runs.{run}
 use Rattle.orc_core.specs.declared.ops.Op.{Op}
 use Rattle.orc_core.specs.declared.ops.Op.TheVariants.{GateTake}
-use Rattle.orc_core.specs.declared.records.Agent.{Agent}
 use Rattle.orc_heap.proofs.Changes.{get-added, get-grown}
 use Rattle.orc_projection.proofs.Links.{named_row}
-use Rattle.orc_projection.proofs.Mirrored.{run_bounds}
 use Rattle.orc_projection.proofs.Still.{out_before}
-use Rattle.orc_projection.specs.PresentIds.{PresentIds, no_ids, node_link, with_taken}
+use Rattle.orc_projection.specs.PresentIds.{PresentIds, no_ids, with_taken}
 use Rattle.orc_projection.specs.Projection.{ids_after, ids_from, is_taken, present_ids}
 use Rattle.orc_projection.specs.Taken.{LinksOut, rows_taken, rows_taken_from, taken_by}
-use Rattle.orc_sound.proofs.AllFits.{AllFits, all_first, all_step, allowed_step}
-use Rattle.orc_sound.proofs.Begins.{zero_first}
+use Rattle.orc_sound.proofs.AllFits.{AllFits, all_first, all_step, allowed_step, run_bounds}
+use Rattle.orc_sound.proofs.NewState.{zero_first}
 use Rattle.orc_sound.proofs.Bridge.{world_step}
 use Rattle.orc_sound.proofs.Facts.{LawfulStep, out}
 use Rattle.orc_sound.proofs.ForRuns.{run_sound}
 use Rattle.orc_sound.proofs.Full.{Full, full_first, full_step}
-use Rattle.orc_sound.proofs.Journals.{plain_lawful}
+use Rattle.orc_sound.proofs.Journals.{IsLawfulJournal-append, plain_lawful}
 use Rattle.orc_sound.proofs.Shown.{out_hidden, word_shown}
-use Rattle.orc_sound.proofs.Sources.{one-true, takes}
+use Rattle.orc_sound.proofs.Sources.{one-true}
 use Rattle.orc_sound.proofs.World.{World, read_by, step_world, world_of}
 use Rattle.orc_sound.specs.Journals.{IsLawfulJournal, plain}
 use Rattle.orc_sound.specs.Linked.{IsOut}
@@ -109,14 +106,10 @@ taken-append m (x ∷ xs) ys =
     ap (λ l. own ++ l) (taken-append (step m x.agent x.op) xs ys)
     ∙ sym (append_assoc own (rows_taken_from (step m x.agent x.op) xs) _)
 
-pub lawful_before : {N : Type 0} (m : Machine) (xs ys : List (Step N)) → IsLawfulJournal m (xs ++ ys) → IsLawfulJournal m xs
-lawful_before m [] ys l = tt
-lawful_before m (x ∷ xs) ys l = (l.0, l.1, lawful_before (step m x.agent x.op) xs ys l.2)
-
 pub one_row : {N : Type 0} (b : Bounds) (j more : List (Step N)) (q r : ℕ) → IsShape b → IsLawfulJournal (new_machine b) (j ++ more) → IsOut (run (new_machine b) (plain j)) q → IsOut (run (new_machine b) (plain (j ++ more))) r
     → (present_ids b j).node q ≡ (present_ids b (j ++ more)).node r → q ≡ r
 one_row b j more q r shape l o u e =
-    let first = row_of_node b j q shape (lawful_before (new_machine b) j more l) o in
+    let first = row_of_node b j q shape (((IsLawfulJournal-append (new_machine b) j more).0 l).0) o in
     let later = row_of_node b (j ++ more) r shape l u in
     let grown : slice_get (rows_taken b (j ++ more)) ((present_ids b j).node q) ≡ Some q = subst (λ rows. slice_get rows ((present_ids b j).node q) ≡ Some q) (sym (taken-append (new_machine b) j more)) (get-grown ((present_ids b j).node q) (rows_taken b j) _ q first) in
     let same : Some q ≡ Some r = sym grown ∙ (ap (slice_get (rows_taken b (j ++ more))) e ∙ later) in
@@ -137,7 +130,7 @@ two_links b j more k l shape lawful o u e = two_targets k.to l.to (present_ids b
 pub root_links_out : {N : Type 0} (b : Bounds) (j : List (Step N)) (i : ℕ) → IsShape b → IsLawfulJournal (new_machine b) j → i < b.roots → LinksOut (run (new_machine b) (plain j)) (link_of (word_in (run (new_machine b) (plain j)) (Root i)))
 root_links_out b j i shape l h r e =
     let m = run (new_machine b) (plain j) in
-    (run_sound b (plain j) shape (plain_lawful (new_machine b) j l)).targets.roots i r (subst (λ (c : Bounds). i < c.roots) (sym (run_bounds (new_machine b) j)) h) (one-true _ (named_row (word_in m (Root i)) r e))
+    (run_sound b (plain j) shape (plain_lawful (new_machine b) j l)).targets.roots i r (subst (λ (c : Bounds). i < c.roots) (sym (run_bounds (new_machine b) (plain j))) h) (one-true _ (named_row (word_in m (Root i)) r e))
 
 pub next_links_out : {N : Type 0} (b : Bounds) (j : List (Step N)) (q : ℕ) → IsShape b → IsLawfulJournal (new_machine b) j → IsOut (run (new_machine b) (plain j)) q → LinksOut (run (new_machine b) (plain j)) (link_of (word_in (run (new_machine b) (plain j)) (Next q)))
 next_links_out b j q shape l o r e =

@@ -23,8 +23,9 @@ use Rattle.orc_projection.specs.Mirror.{numbers_of}
 use Rattle.orc_projection.specs.PresentIds.{PresentIds, no_ids}
 use Rattle.orc_projection.specs.Projection.{StoresUnmarked, IsPlainOp, act_of, events_of, ids_after, ids_from, is_taken, project_from}
 use Rattle.orc_sound.proofs.AllFits.{AllFits, all_step, allowed_step}
-use Rattle.orc_sound.proofs.Begins.{seats_first, zero_first}
+use Rattle.orc_sound.proofs.NewState.{seats_first, zero_first}
 use Rattle.orc_sound.proofs.Bridge.{world_step}
+use Rattle.orc_sound.proofs.DoomedStep.{never_out}
 use Rattle.orc_sound.proofs.Facts.{Counted, LawfulStep, out}
 use Rattle.orc_sound.proofs.Full.{Full, full_step}
 use Rattle.orc_sound.proofs.Outs.{null_row, zero_one}
@@ -86,9 +87,6 @@ get-replicate : {A : Type 0} (n i : ℕ) (x : A) → i < n → slice_get (replic
 get-replicate zero i x h = absurd (omega arith)
 get-replicate (suc n) zero x h = refl
 get-replicate (suc n) (suc i) x h = get-replicate n i x (omega arith)
-
-never_out : (w : ℕ) → w ≡ 0 → out w ≡ 1 → ⊥
-never_out w e h = omega arith
 
 pub first_shows : (b : Bounds) → Shows b (world_of (new_machine b)) no_ids (new_heap (numbers_of b))
 first_shows b = record {

@@ -16,6 +16,7 @@ use Rattle.orc_projection.specs.PresentIds.{PresentIds, node_link}
 use Rattle.orc_sound.proofs.Balances.{OutPlace}
 use Rattle.orc_sound.proofs.DoomedStep.{cut_dooms_row, out_below}
 use Rattle.orc_sound.proofs.Facts.{Counted, Doomed, out, to_row}
+use Rattle.orc_sound.proofs.Outs.{target_out}
 use Rattle.orc_sound.proofs.Quiet.{held_at}
 use Rattle.orc_sound.proofs.Seats.{both_ways}
 use Rattle.orc_sound.proofs.World.{World}
@@ -53,12 +54,6 @@ Fitting a (Some act) h = Fits a act h
 abbrev pub heap_then : ℕ → Option Act → Heap → Heap
 heap_then a None h = h
 heap_then a (Some act) h = heap_after a act h
-
--- the target of a link in use is out, and one of the table's rows
-pub target_out : (b : Bounds) (z : World) (w : Word) (r : ℕ) → Counted b z → OutPlace z.memory w → to_row (z.memory w) r ≡ 1 → out (z.memory (Gate r)) ≡ 1
-target_out b z (Root i) r s o h = s.roots_out i r h
-target_out b z (Next j) r s o h = s.nexts_out j r o h
-target_out b z w r s o h = absurd o
 
 small_target : (b : Bounds) (z : World) (w : Word) (n : ℕ) → IsShape b → Counted b z → OutPlace z.memory w → z.memory w / 2 ≡ n → n ≤ 65535
 small_target b z w n shape s o e = cases (n == 0) refl

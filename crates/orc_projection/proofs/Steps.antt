@@ -16,7 +16,7 @@ use Rattle.orc_heap.specs.declared.events.Place.{Place}
 use Rattle.orc_heap.specs.declared.events.Place.TheVariants.{Next as NodePlace, Root as RootPlace}
 use Rattle.orc_projection.proofs.LinkStep.{Marks, Relinks, next_shows, root_shows}
 use Rattle.orc_projection.proofs.Links.{link_back, named_row, node_link-same, some-names, word_back}
-use Rattle.orc_projection.proofs.Shows.{Fitting, Shows, heap_then, holder_knows, is_target, next_shown, small_word, target_out}
+use Rattle.orc_projection.proofs.Shows.{Fitting, Shows, heap_then, holder_knows, is_target, next_shown, small_word}
 use Rattle.orc_projection.proofs.Still.{fresh_before, not-false}
 use Rattle.orc_projection.proofs.StillStep.{still_shows}
 use Rattle.orc_projection.proofs.TakeStep.{take_shows}
@@ -25,7 +25,7 @@ use Rattle.orc_projection.specs.Projection.{act_of, exchange_act, is_taken, load
 use Rattle.orc_sound.proofs.Balances.{OutPlace, to_row-link}
 use Rattle.orc_sound.proofs.DoomedStep.{out_below}
 use Rattle.orc_sound.proofs.Facts.{Counted, LawfulStep, out}
-use Rattle.orc_sound.proofs.Outs.{cas_place, cas_place_out, load_place, read_out, zero_one}
+use Rattle.orc_sound.proofs.Outs.{cas_place, cas_place_out, held_or_fresh, load_place, read_out, target_out, zero_one}
 use Rattle.orc_sound.proofs.Seats.{both_ways, seat_split}
 use Rattle.orc_sound.proofs.Uses.{fresh_uses, held_uses}
 use Rattle.orc_sound.proofs.World.{World, record_by, step_world, write}
@@ -73,9 +73,6 @@ wanted_out b z a (Some q) r c w e = let k : q ≡ r = cc in rw (← k) (held_out
 wanted_link : (b : Bounds) (z : World) (a : ℕ) (w : Word) (slot : Option ℕ) (want : Option RowLink) (k : RowLink) (r : ℕ) → Counted b z → IsWanted (z.seats a) (LinkLoad w slot) want → want ≡ Some k → k.to ≡ Some r → out (z.memory (Gate r)) ≡ 1
 wanted_link b z a w slot None k r c u e g = cc
 wanted_link b z a w slot (Some l) k r c u e g = let x : l ≡ k = cc in wanted_out b z a l.to r c u (ap (λ (y : RowLink). y.to) x ∙ g)
-
-held_or_fresh : (d : Agent) (j : ℕ) → (any_holds d.slots j || names d.fresh j) ≡ true → uses d j ≡ true
-held_or_fresh d j h = grind arith
 
 load_at : (b : Bounds) (z : World) (p : PresentIds) (h : Heap) (a : ℕ) (w : Word) (slot : Option ℕ) (want : Option RowLink) (place : Place) → LawfulStep b z a (LinkLoad w slot) → IsWanted (z.seats a) (LinkLoad w slot) want → Shows b z p h
     → shown h place ≡ Some (node_link p (link_of (z.memory w)))

@@ -5,7 +5,7 @@ use Rattle.std.specs.Prelude.{None, Option, Some, not, ◌==◌}
 use Rattle.orc_core.proofs.Within.{and_both}
 use Rattle.orc_words.specs.Operations.{word_after}
 use Rattle.orc_core.specs.Actions.{action_of}
-use Rattle.orc_core.specs.After.{after, bared, cut_of}
+use Rattle.orc_core.specs.After.{after, bared}
 use Rattle.orc_core.specs.Allowed.{fits}
 use Rattle.orc_core.specs.RecordParts.{doom_bare, holds, names, slot_of}
 use Rattle.orc_core.specs.declared.ops.CounterUse.TheVariants.{Check, End, Start}
@@ -15,6 +15,7 @@ use Rattle.orc_core.specs.declared.records.Agent.{Agent}
 use Rattle.orc_core.specs.declared.records.Doom.{Doom}
 use Rattle.orc_core.specs.declared.records.SlotUse.TheVariants.{Empty, Held}
 use Rattle.orc_projection.specs.Projection.{is_taken}
+use Rattle.orc_sound.proofs.DoomedStep.{cut_more}
 use Rattle.orc_sound.proofs.CountedStep.{scan_no_doom}
 use Rattle.orc_sound.proofs.Facts.{LawfulStep, out}
 use Rattle.orc_sound.proofs.Outs.{bare_dooms, freed, zero_one}
@@ -106,10 +107,6 @@ seat_put P seats a x d h k = cases (x == a) refl
     cases : (t : Bool) → (x == a) ≡ t → P (cond t d (seats x))
     cases true e = h (eqb-true x a e)
     cases false e = k (eqb-false x a e)
-
-cut_more : (o : Option Doom) (q r : ℕ) → dooms_cut o r ≡ true → dooms_cut (cut_of o q) r ≡ true
-cut_more None q r h = h
-cut_more (Some d) q r h = grind arith
 
 bared_cut : (o : Option Doom) (r : ℕ) → dooms_cut o r ≡ true → dooms_cut (bared o) r ≡ true
 bared_cut None r h = h

@@ -21,6 +21,7 @@ use Rattle.orc_projection.proofs.Shows.{Fitting, RowShows, Shows, heap_then, hol
 use Rattle.orc_projection.proofs.Still.{cut_stays, fresh_before, out_before}
 use Rattle.orc_projection.proofs.Steps.{held_out, named_marks, packs}
 use Rattle.orc_projection.specs.PresentIds.{PresentIds, node_link}
+use Rattle.orc_sound.proofs.Fresh.{no_target}
 use Rattle.orc_sound.proofs.Facts.{LawfulStep, out}
 use Rattle.orc_sound.proofs.Outs.{store_row_out}
 use Rattle.orc_sound.proofs.Seats.{seat_same, seat_split}
@@ -42,10 +43,6 @@ stored_null n e false t c u s k h g = let i = and_both (u && s) k (and_both (n &
 -- a link that is stored in a row that isn't fresh is null, and the row is doomed
 pub store_doomed : (b : Bounds) (e a q : ℕ) (l : RowLink) (d : Agent) → fits b e a (LinkStore q l) d ≡ true → names d.fresh q ≡ false → (doom_uncut d.doom q ≡ true) × (is_none l.to ≡ true)
 store_doomed b e a q l d f g = stored_null (nat_lt q b.rows) (is_empty (slot_of d 0)) (names d.fresh q) (may_target b d l.to) (may_change d (b.limit + 64) None l.to) (doom_uncut d.doom q) (is_none l.to) (not l.mark) f g
-
-no_target : (o : Option ℕ) (r : ℕ) → is_none o ≡ true → names o r ≡ true → ⊥
-no_target None r h k = false≢true k
-no_target (Some x) r h k = false≢true h
 
 now_cut : (o : Option Doom) (q : ℕ) → doom_uncut o q ≡ true → dooms_cut (cut_of o q) q ≡ true
 now_cut None q h = absurd (false≢true h)

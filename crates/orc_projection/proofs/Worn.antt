@@ -1,9 +1,9 @@
 -- A row's sequence rises by two for each link that is made to its present node, and by no more. What is still to be counted
 -- of a link (the increment, and later the decrement) is counted in advance.
-use Rattle.std.proofs.Common.{Bool, List, [], ap, arith, cond, false, length, refl, subst, sym, true, ℕ, ⊎_elim, ◌%◌, ◌*◌, ◌++◌, ◌+◌, ◌/◌, ◌<◌, ◌^◌, ◌∙◌, ◌∷◌, ◌≡◌, ◌≤◌}
+use Rattle.std.proofs.Common.{Bool, List, [], ap, arith, cond, false, refl, subst, sym, true, ℕ, ◌%◌, ◌*◌, ◌++◌, ◌+◌, ◌/◌, ◌<◌, ◌^◌, ◌∙◌, ◌∷◌, ◌≡◌, ◌≤◌}
 use Rattle.std.proofs.lemmas.Bool.{eq-eqb, eqb-true, false≢true, ltb-true}
 use Rattle.std.specs.Option.{option_map}
-use Rattle.std.specs.Prelude.{None, Option, Some, filter, if◌then◌else◌, is_none, nat_lt, ◌&&◌, ◌==◌, ◌||◌}
+use Rattle.std.specs.Prelude.{None, Option, Some, if◌then◌else◌, is_none, ◌==◌}
 use Rattle.orc_core.proofs.Order.{nothing_pending}
 use Rattle.orc_core.proofs.Within.{and_both, may_within}
 use Rattle.orc_words.specs.Operations.{word_after}
@@ -12,7 +12,6 @@ use Rattle.orc_core.specs.After.{after}
 use Rattle.orc_core.specs.Machine.{Machine, is_allowed, new_machine, record_at, step, word_in, word_read}
 use Rattle.orc_core.specs.RecordParts.{checked_below, names, number_of, same_target, saw}
 use Rattle.orc_core.specs.Runs.{run}
-use Rattle.orc_core.specs.Sums.{sum_below}
 use Rattle.orc_core.specs.declared.ops.Op.{Op}
 use Rattle.orc_core.specs.declared.ops.Op.TheVariants.{CounterLoad, Dec, Fill, Free, GateTake, Inc, LinkCas, LinkStore, Read, SetRetired, Unretire}
 use Rattle.orc_core.specs.declared.ops.CounterUse.TheVariants.{Check, End, Start}
@@ -26,24 +25,23 @@ use Rattle.orc_heap.specs.declared.events.Event.{Event}
 use Rattle.orc_heap.specs.declared.events.Link.{Link}
 use Rattle.orc_heap.specs.declared.events.Place.{Place}
 use Rattle.orc_heap.specs.declared.events.Place.TheVariants.{Next as NodePlace, Root as RootPlace}
-use Rattle.orc_projection.proofs.Mirrored.{run_bounds}
 use Rattle.orc_projection.proofs.Still.{out_before}
 use Rattle.orc_projection.proofs.StoreStep.{store_doomed}
 use Rattle.orc_projection.specs.PresentIds.{PresentIds, no_ids, node_link}
 use Rattle.orc_projection.specs.Projection.{act_of, events_of, exchange_act, ids_after, ids_from, is_taken, present_ids, project, project_from}
-use Rattle.orc_sound.proofs.AllFits.{AllFits, all_first, all_step, allowed_step, low_sequences}
-use Rattle.orc_sound.proofs.Begins.{zero_first}
+use Rattle.orc_sound.proofs.AllFits.{AllFits, all_first, all_step, allowed_step, low_sequences, run_bounds}
+use Rattle.orc_sound.proofs.NewState.{zero_first}
 use Rattle.orc_sound.proofs.Bits.{dec_bounds, inc_bounds, unretire_one}
 use Rattle.orc_sound.proofs.Bridge.{world_step}
 use Rattle.orc_sound.proofs.Change.{decs_seat, incs_seat, link_part, linked_write}
 use Rattle.orc_sound.proofs.CountedStep.{balance_kept, step_within}
-use Rattle.orc_sound.proofs.CounterWords.{clear_sequence, dec_sequence, inc_sequence, try_sequence}
+use Rattle.orc_sound.proofs.CounterWords.{clear_sequence, dec_sequence, inc_sequence}
 use Rattle.orc_sound.proofs.DoomedStep.{no_decs, no_incs, out_below}
 use Rattle.orc_sound.proofs.Facts.{Counted, LawfulStep, decs, incs, linked_in, out, to_row}
 use Rattle.orc_sound.proofs.Fresh.{free_unnamed, not_one}
 use Rattle.orc_sound.proofs.Full.{Full, full_first, full_step}
 use Rattle.orc_sound.proofs.Lives.{LivesFit}
-use Rattle.orc_sound.proofs.Outs.{cas_place_out, takes_free, zero_one}
+use Rattle.orc_sound.proofs.Outs.{cas_place_out, zero_one}
 use Rattle.orc_sound.proofs.Quota.{sequence_part, sequence_write}
 use Rattle.orc_sound.proofs.Seats.{not_true}
 use Rattle.orc_sound.proofs.Shown.{linked_shown, out_hidden, word_shown}
@@ -263,10 +261,10 @@ pub row_spends : {N : Type 0} (b : Bounds) (steps : List (Step N)) (r : ℕ) →
 row_spends b steps r shape l o =
     let m = run (new_machine b) (plain steps) in
     let s = spends_run (new_machine b) no_ids (λ id. 0) steps (full_first b shape) (all_first b) l (first_spends b) in
-    let k = subst (λ c. Spends c (world_of m) (present_ids b steps) (λ id. 0 + links_made (project b steps) id)) (sym (run_bounds (new_machine b) steps)) s r (out_hidden m r o) in
+    let k = subst (λ c. Spends c (world_of m) (present_ids b steps) (λ id. 0 + links_made (project b steps) id)) (sym (run_bounds (new_machine b) (plain steps))) s r (out_hidden m r o) in
     let e = word_shown m (Counter r) o.0 in
     let n = linked_shown m r in
-    let c = ap (λ (x : Bounds). x.limit) (run_bounds (new_machine b) steps) in
+    let c = ap (λ (x : Bounds). x.limit) (run_bounds (new_machine b) (plain steps)) in
     omega arith
 
 -- a row at whose sequence no link is made was linked 33 times or more

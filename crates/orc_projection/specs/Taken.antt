@@ -1,5 +1,5 @@
 -- The rows that were taken, in order. The node of id i lies in the row that was taken as the i-th, counted from 0.
-use Rattle.std.specs.Prelude.{List, None, Option, Some, [], if◌then◌else◌, ℕ, ◌++◌, ◌∷◌, ◌≡◌}
+use Rattle.std.specs.Prelude.{List, Some, [], if◌then◌else◌, ℕ, ◌++◌, ◌∷◌, ◌≡◌}
 use Rattle.orc_core.specs.Machine.{Machine, new_machine, record_at, step, word_read}
 use Rattle.orc_core.specs.declared.ops.Op.{Op}
 use Rattle.orc_core.specs.declared.ops.Op.TheVariants.{GateTake}

@@ -1,6 +1,6 @@
 //! Laws of the projection.
 
-ghost use Rattle.std.specs.Prelude.{◌≡◌, ◌++◌, ◌+◌, ◌*◌, ◌<◌, ◌≤◌, List, Some, length, slice_get, ℕ};
+ghost use Rattle.std.specs.Prelude.{◌≡◌, ◌↔◌, ◌++◌, ◌+◌, ◌*◌, ◌<◌, ◌≤◌, List, Some, length, slice_get, ℕ};
 ghost use Rattle.std.specs.Option.{option_map};
 ghost use Rattle.orc_words.specs.Bounds.{Bounds, IsShape};
 ghost use Rattle.orc_words.specs.Packed.{link_of, sequence_of};
@@ -29,12 +29,14 @@ pub fn every_journal_projects_to_a_heap_journal<N>()
 {}
 
 /// The events of two lists of steps are those of the first, and then those of the second from there on; so are
-/// the present ids.
+/// the present ids. Two lists store no marked link where each of them stores none.
 pub fn projections_go_on<N>()
     ensures events { (m : Machine) (p : PresentIds) (first second : List (Step N)) → project_from m p (first ++ second)
         ≡ project_from m p first ++ project_from (run m (plain first)) (ids_from m p first) second }
     ensures ids { (m : Machine) (p : PresentIds) (first second : List (Step N)) → ids_from m p (first ++ second)
         ≡ ids_from (run m (plain first)) (ids_from m p first) second }
+    ensures unmarked { (first second : List (Step N)) → StoresUnmarked (first ++ second)
+        ↔ (StoresUnmarked first × StoresUnmarked second) }
 {}
 
 /// A link that is made to a node raises its row's sequence by two: by one when it is counted, and by one when it is

@@ -17,7 +17,7 @@ const ROW_0: RowLink = RowLink {
     mark: false,
 };
 
-/// Makes these steps of one agent; a step of an agent whose work list is full counts as refused.
+// Makes these steps of one agent; a step of an agent whose work list is full counts as refused.
 fn steps(state: &mut State, agent: u32, ops: &[Op]) -> Result<(), NotAllowed> {
     for op in ops {
         if !state.has_room(agent) {
@@ -28,7 +28,7 @@ fn steps(state: &mut State, agent: u32, ops: &[Op]) -> Result<(), NotAllowed> {
     Ok(())
 }
 
-/// An agent's looks at the slots before this scan place.
+// An agent's looks at the slots before this scan place.
 fn look_at_slots(state: &mut State, agent: u32, end: u32) -> Result<(), NotAllowed> {
     for k in 0..end {
         steps(state, agent, &[Op::SlotLook { k }])?;
@@ -36,12 +36,12 @@ fn look_at_slots(state: &mut State, agent: u32, end: u32) -> Result<(), NotAllow
     Ok(())
 }
 
-/// A load of the counter of row 0.
+// A load of the counter of row 0.
 fn check(how: CounterUse) -> Op {
     Op::CounterLoad { row: 0, how }
 }
 
-/// Sets the second value of row 0.
+// Sets the second value of row 0.
 fn fill(value: u64) -> Op {
     Op::Fill {
         row: 0,
@@ -50,20 +50,20 @@ fn fill(value: u64) -> Op {
     }
 }
 
-/// The agent takes row 0.
+// The agent takes row 0.
 fn take(state: &mut State, agent: u32) -> Result<(), NotAllowed> {
     let look = Op::GateLook { row: 0 };
     let take = Op::GateTake { row: 0 };
     steps(state, agent, &[look, check(CounterUse::Check), take])
 }
 
-/// The agent changes root 0 from one link to another.
+// The agent changes root 0 from one link to another.
 fn exchange(state: &mut State, agent: u32, from: RowLink, to: RowLink) -> Result<(), NotAllowed> {
     let place = Word::Root(0);
     steps(state, agent, &[Op::LinkCas { place, from, to }])
 }
 
-/// The row that root 0 links, and the second value of row 0.
+// The row that root 0 links, and the second value of row 0.
 fn shown(state: &State) -> (Option<RowLink>, u64) {
     let _shape = state.shape();
     (
@@ -72,7 +72,7 @@ fn shown(state: &State) -> (Option<RowLink>, u64) {
     )
 }
 
-/// Agent 1 holds row 0, and agent 0 unlinks it and hands it over to agent 1.
+// Agent 1 holds row 0, and agent 0 unlinks it and hands it over to agent 1.
 fn unlink_and_hand_over(state: &mut State) -> Result<(), NotAllowed> {
     let place = Word::Root(0);
     let slot = Some(2);
@@ -99,7 +99,7 @@ fn unlink_and_hand_over(state: &mut State) -> Result<(), NotAllowed> {
     steps(state, 0, &[Op::Hand { k: 10 }])
 }
 
-/// Agent 1 frees row 0.
+// Agent 1 frees row 0.
 fn free(state: &mut State) -> Result<(), NotAllowed> {
     let take_in = [Op::Clear { slot: 2 }, Op::TakeIn { slot: 2 }];
     steps(state, 1, &take_in)?;
@@ -142,5 +142,8 @@ fn words_show_the_heap_of_the_events(rt: HostRuntime) -> Result<(), Fail> {
     assert_eq!(rt; shown(&state), (Some(NULL), 8));
     every_journal_projects_to_a_heap_journal::<u32>();
     projections_go_on::<u32>();
+    a_worn_row_was_linked::<u32>();
+    each_node_lies_in_one_row::<u32>();
+    links_of_two_rows_are_links_of_two_nodes::<u32>();
     Ok(())
 }

@@ -1,5 +1,5 @@
 -- All that every lawful list of steps keeps.
-use Rattle.std.proofs.Common.{List, [], arith, refl, subst, sym, true, ℕ, ◌+◌, ◌<◌, ◌^◌, ◌∷◌, ◌≡◌, ◌≤◌}
+use Rattle.std.proofs.Common.{List, [], arith, inl, refl, subst, sym, true, ℕ, ◌+◌, ◌<◌, ◌^◌, ◌∷◌, ◌≡◌, ◌≤◌}
 use Rattle.std.proofs.lemmas.Bool.{false≢true}
 use Rattle.std.specs.Prelude.{None}
 use Rattle.orc_words.specs.Bounds.{Bounds, IsShape}
@@ -12,7 +12,7 @@ use Rattle.orc_core.specs.Runs.{IsLawful, run}
 use Rattle.orc_core.specs.declared.ops.CounterUse.TheVariants.{Check, End, Start}
 use Rattle.orc_core.specs.declared.ops.Op.{Op}
 use Rattle.orc_core.specs.declared.ops.Op.TheVariants.{CounterLoad, Free}
-use Rattle.orc_sound.proofs.Begins.{blank_first, blank_linked, counted_first, counter_first, seats_first, zero_first}
+use Rattle.orc_sound.proofs.NewState.{blank_first, blank_linked, counted_first, counter_first, seats_first, zero_first}
 use Rattle.orc_sound.proofs.Bridge.{world_step}
 use Rattle.orc_sound.proofs.CountedStep.{counted_step, scan_no_doom}
 use Rattle.orc_sound.proofs.DoomedStep.{doomed_step}
@@ -20,12 +20,14 @@ use Rattle.orc_sound.proofs.Facts.{Counted, Doomed, LawfulStep, out}
 use Rattle.orc_sound.proofs.Full.{Full, full_first, full_step, none_doomed}
 use Rattle.orc_sound.proofs.Lives.{LivesFit, lives_step}
 use Rattle.orc_sound.proofs.Outs.{freed_row}
+use Rattle.orc_sound.proofs.Pending.{OneChange, one_change}
 use Rattle.orc_sound.proofs.Quota.{quota, quota_low, quota_step, sequence_room}
 use Rattle.orc_sound.proofs.Reasons.{HasReason, no_leak_step, reason}
 use Rattle.orc_sound.proofs.Rows.{RowsFit, rows_step}
 use Rattle.orc_sound.proofs.Scans.{ScanFits, ScanStep, end_parts, ending, none_fits, scans_step}
+use Rattle.orc_sound.proofs.Seats.{seat_join}
 use Rattle.orc_sound.proofs.Sums.{sum_zero}
-use Rattle.orc_sound.proofs.World.{World, record_by, step_world, world_of}
+use Rattle.orc_sound.proofs.World.{World, read_by, record_by, step_world, world_of}
 
 pub record AllFits (b : Bounds) (z : World) : Type 0 where
   pub counted : Counted b z
@@ -35,6 +37,7 @@ pub record AllFits (b : Bounds) (z : World) : Type 0 where
   pub lives : LivesFit b z
   pub reason : (r : ℕ) → r < b.rows → HasReason b z r
   pub rows : RowsFit b z
+  pub change : (a : ℕ) → OneChange (z.seats a)
 
 pub low_sequences : (b : Bounds) (z : World) → IsShape b → AllFits b z → (q : ℕ) → sequence_of (z.memory (Counter q)) < 2 ^ 39 + 2 ^ 19
 low_sequences b z shape s = quota_low b z shape s.counted s.quota
@@ -67,6 +70,7 @@ all_step b z a op p s =
       quota = λ r h. quota_step b z a op r p lo h (s.quota r h);
       lives = lives_step b z a op p lo s.lives;
       rows = rows_step b z a op k s.rows;
+      change = λ x. seat_join OneChange z.seats a x (record_by z a op) (one_change op (z.seats a) (read_by z a op) p.forced (s.change a)) (s.change x);
       reason = λ r h. no_leak_step b z (step_world z a op).memory a (record_by z a op) r p.agent (reason b (z.memory Enrolled) a op (z.seats a) z.memory r p.fits p.forced (end_no_doom b z a op p) (free_word b z a op p s.lives)) (s.reason r h);
     }
 
@@ -101,6 +105,7 @@ first_lives b = record {
 first_rows : (b : Bounds) → RowsFit b (world_of (new_machine b))
 first_rows b = record {
   handed = λ a k r h. let e = zero_first b (Handover a k) refl in absurd (omega arith);
+  in_hand = λ a r h. absurd (false≢true (rw (seats_first b a) at h));
   listed = λ a r h. absurd (none_positive (rw (seats_first b a) at h));
 }
   where
@@ -115,6 +120,7 @@ all_first b = record {
   quota = first_quota b;
   lives = first_lives b;
   rows = first_rows b;
+  change = λ a. inl (rw (seats_first b a));
   reason = λ r h. rw (zero_first b (Gate r) refl) (omega arith);
 }
 

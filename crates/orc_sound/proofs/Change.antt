@@ -1,4 +1,4 @@
--- What bit written word, and bit new record, change in the links, the counts and the pending changes.
+-- What one written word, and one new record, change in the links, the counts and the pending changes.
 use Rattle.std.proofs.Common.{arith, cond, refl, ℕ, ◌*◌, ◌+◌, ◌<◌, ◌≡◌}
 use Rattle.std.specs.Prelude.{◌==◌}
 use Rattle.orc_words.specs.Bounds.{Bounds}

@@ -16,7 +16,6 @@ use Rattle.orc_core.specs.declared.ops.CounterUse.TheVariants.{Check, End, Start
 use Rattle.orc_core.specs.declared.ops.Op.{Op}
 use Rattle.orc_core.specs.declared.ops.Op.TheVariants.{CounterLoad, Dec, Fill, Free, GateTake, Hand, Inc, LinkCas, LinkLoad, LinkStore, Read, SetRetired, SlotLook, TakeIn, Unretire}
 use Rattle.orc_core.specs.declared.records.Agent.{Agent}
-use Rattle.orc_core.specs.declared.records.Doom.{Doom}
 use Rattle.orc_core.specs.declared.records.Scan.{Scan}
 use Rattle.orc_sound.proofs.Balances.{Kept, cas_kept, dec_kept, fill_kept, free_kept, gate_take_kept, inc_kept, set_retired_kept, store_kept, unretire_kept}
 use Rattle.orc_sound.proofs.Bits.{dec_bounds, inc_bounds, unretire_cases, unretire_one}
@@ -26,14 +25,14 @@ use Rattle.orc_sound.proofs.CounterWords.{clear_bit, clear_count, dec_bit, dec_c
 use Rattle.orc_sound.proofs.Enrolment.{enrolment_step}
 use Rattle.orc_sound.proofs.Facts.{Counted, LawfulStep}
 use Rattle.orc_sound.proofs.Fresh.{fresh_alone_step, fresh_bit_step, fresh_next_step, fresh_root_step}
-use Rattle.orc_sound.proofs.OnePart.{parts_kept}
+use Rattle.orc_sound.proofs.OnePart.{parts_kept, scans_some}
 use Rattle.orc_sound.proofs.Outs.{bit_out_step, cas_place_out, free_null_step, freed, nexts_out_step, roots_out_step, store_row_out, used_out_step}
 use Rattle.orc_sound.proofs.Pending.{due_ends, inc_slots}
 use Rattle.orc_sound.proofs.Seats.{both_ways, seat_join}
 use Rattle.orc_sound.proofs.SlotWords.{slots_step}
 use Rattle.orc_sound.proofs.Sources.{counts, due_source, inc_source}
 use Rattle.orc_sound.proofs.Tokens.{KeptToken, end_token, free_token, hand_token, inc_token, set_token, start_token, store_token, take_in_token, token_step, unretire_doom_token, unretire_scan_token}
-use Rattle.orc_sound.proofs.Uses.{counts_held, links_held, links_holds}
+use Rattle.orc_sound.proofs.Uses.{counts_held, links_held, links_holds, cut_some}
 use Rattle.orc_sound.proofs.World.{World, is_within, read_by, record_by, same_word, step_world, write}
 use Rattle.orc_sound.specs.RetirementToken.{HasOnePart}
 
@@ -53,7 +52,7 @@ balance_kept b z a (CounterLoad q End) r p h = refl
 balance_kept b z a (Free q) r p h = free_kept z.memory a q (z.seats a) r (let n = (freed b z a (Free q) q p (eq-eqb q q refl)).null in omega arith)
 balance_kept b z a op r p h = refl
 
-no_part : {A : Type 0} (o : Option A) → is_none o ≡ true → o ≡ None
+pub no_part : {A : Type 0} (o : Option A) → is_none o ≡ true → o ≡ None
 no_part None h = refl
 no_part (Some x) h = absurd (false≢true h)
 
@@ -61,27 +60,19 @@ empty_part : {A : Type 0} (o : Option A) → bit (is_some o) ≡ 0 → o ≡ Non
 empty_part None h = refl
 empty_part (Some x) h = absurd (omega arith)
 
-pub scan_one : (o : Option Scan) (q : ℕ) → scans o q ≡ true → bit (is_some o) ≡ 1
-scan_one None q h = absurd (false≢true h)
-scan_one (Some x) q h = refl
-
-doom_one : (o : Option Doom) (q : ℕ) → doom_cut o q ≡ true → bit (is_some o) ≡ 1
-doom_one None q h = absurd (false≢true h)
-doom_one (Some x) q h = refl
-
 found_one : (o : Option Scan) → scan_found o ≡ true → is_some o ≡ true
 found_one None h = absurd (false≢true h)
 found_one (Some x) h = refl
 
 -- an agent with a scan has no doom and no hand
 pub scan_no_doom : (d : Agent) (q : ℕ) → HasOnePart d → scans d.scan q ≡ true → d.doom ≡ None
-scan_no_doom d q o h = let k = scan_one d.scan q h in empty_part d.doom (omega arith)
+scan_no_doom d q o h = let k = scans_some d.scan q h in empty_part d.doom (omega arith)
 
 scan_no_hand : (d : Agent) → HasOnePart d → is_some d.scan ≡ true → d.hand ≡ None
 scan_no_hand d o h = let k = ap bit h in empty_part d.hand (omega arith)
 
 doom_no_scan : (d : Agent) (q : ℕ) → HasOnePart d → doom_cut d.doom q ≡ true → d.scan ≡ None
-doom_no_scan d q o h = let k = doom_one d.doom q h in empty_part d.scan (omega arith)
+doom_no_scan d q o h = let k = cut_some d.doom q h in empty_part d.scan (omega arith)
 
 from_hand_or_list : (o : Option ℕ) (q : ℕ) (t : Bool) → (names o q || (is_none o && t)) ≡ true → (names o q ≡ true) ⊎ ((o ≡ None) × (t ≡ true))
 from_hand_or_list None q t h = inr (refl, h)

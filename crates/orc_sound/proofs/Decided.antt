@@ -75,9 +75,6 @@ is_target_in m w h = cases (w / 2 == 0) refl
     cases false e = let n : w / 2 ≢ 0 = eqb-false (w / 2) 0 e in is_out_in m (w / 2 - 1) (h (w / 2 - 1) (eq-eqb (w / 2) (w / 2 - 1 + 1) (omega arith)))
 
 -- counts
-pub count_is : (c i l d : ℕ) → c + i ≡ 4194304 + l + d → pos c -ℤ pos 4194304 ≡ (pos l -ℤ pos i) +ℤ pos d
-count_is c i l d e = omega (arith, ints)
-
 pub count_back : (c i l d : ℕ) → pos c -ℤ pos 4194304 ≡ (pos l -ℤ pos i) +ℤ pos d → c + i ≡ 4194304 + l + d
 count_back c i l d e = omega (arith, ints)
 

@@ -1,10 +1,9 @@
 -- A state that passes the tests is sound.
-use Rattle.std.proofs.Common.{Bool, List, [], ap, arith, cond, false, inl, inr, length, refl, set, subst, suc, sym, true, zero, ℕ, ⊎_elim, ◌*◌, ◌+◌, ◌/◌, ◌<◌, ◌∙◌, ◌∷◌, ◌≡◌, ◌≢◌, ◌≤◌, ◌⊎◌}
+use Rattle.std.proofs.Common.{Bool, List, [], ap, arith, cond, false, inl, inr, length, refl, subst, suc, sym, true, zero, ℕ, ⊎_elim, ◌*◌, ◌+◌, ◌/◌, ◌<◌, ◌∙◌, ◌∷◌, ◌≡◌, ◌≢◌, ◌≤◌, ◌⊎◌}
 use Rattle.std.proofs.lemmas.Bool.{eq-eqb, eqb-true, false≢true, lt-ltb, ltb-true, ne_eqb}
 use Rattle.std.proofs.lemmas.List.{get_or_past}
 use Rattle.std.specs.Prelude.{None, Option, Some, is_none, is_some, nat_le, nat_lt, not, replicate, slice_index_or, ◌&&◌, ◌==◌, ◌||◌}
 use Rattle.orc_words.specs.Packed.{bit, count_bits, retired_bit, sequence_of}
-use Rattle.orc_words.specs.Places.{place}
 use Rattle.orc_words.specs.declared.place.Word.TheVariants.{Counter, Enrolled, Gate, Next, Root, Slot}
 use Rattle.orc_core.proofs.Within.{and_both}
 use Rattle.orc_core.specs.Counts.{is_out, is_retired, links_to}
@@ -16,17 +15,16 @@ use Rattle.orc_core.specs.declared.records.Doom.{Doom}
 use Rattle.orc_core.specs.declared.records.Scan.{Scan}
 use Rattle.orc_core.specs.declared.records.SlotUse.{SlotUse}
 use Rattle.orc_core.specs.declared.records.SlotUse.TheVariants.{Empty, Held, Published}
-use Rattle.orc_sound.proofs.Decided.{all_there, count_is, four_true, held_name, not_is, out_is, passes_at, seen_row, target_is, unreachable_is}
-use Rattle.orc_sound.proofs.Facts.{out}
-use Rattle.orc_sound.proofs.Lives.{looks}
+use Rattle.orc_sound.proofs.CountedStep.{no_part}
+use Rattle.orc_sound.proofs.Decided.{all_there, four_true, held_name, not_is, out_is, passes_at, seen_row, target_is, unreachable_is}
 use Rattle.orc_sound.proofs.Quiet.{HeldAt, held_at}
 use Rattle.orc_sound.proofs.Scans.{slot_within}
 use Rattle.orc_sound.proofs.Seats.{both_ways, either}
-use Rattle.orc_sound.proofs.Shown.{below_none, low_count}
+use Rattle.orc_sound.proofs.Shown.{below_none, count_is, low_count}
 use Rattle.orc_sound.specs.Balance.{Balance, decrements, increments}
 use Rattle.orc_sound.specs.Decisions.{agent_fits, all_below, all_fit, count_fits, doom_fits, enrolment_fits, free_fits, fresh_fits, is_nobody, left_in, looks_fit, named_passes, one_part_in, out_in, pending_fits, range_fits, row_fits, row_held, row_seen, same_fits, scan_fits, slot_fits, slots_fit, target_fits, token_fits, unreachable_in}
 use Rattle.orc_sound.specs.Doomed.{DoomedRows, FreeRows, dooms, dooms_cut}
-use Rattle.orc_sound.specs.Linked.{IsOut, IsUnreachable, changes, held, holds_row, linked, uses}
+use Rattle.orc_sound.specs.Linked.{IsOut, IsUnreachable, changes, holds_row, linked, uses}
 use Rattle.orc_sound.specs.NoLeak.{has_reason}
 use Rattle.orc_sound.specs.SoundParts.{Enrolment, FreshRows, Looks, Ranges, Scans, Slots, slot_word}
 use Rattle.orc_sound.specs.QuietScan.{IsLeft, is_linked_anew}
@@ -280,10 +278,6 @@ empties (suc n) (s ∷ ss) e h = joined s (h 0 (omega arith)) (empties n ss (ome
     joined (Published r) h e = absurd (false≢true h)
     joined (Held r) h e = absurd (false≢true h)
 
-none_part : {A : Type 0} (o : Option A) → is_none o ≡ true → o ≡ None
-none_part None h = refl
-none_part (Some x) h = absurd (false≢true h)
-
 no_items : (xs : List ℕ) → (length xs == 0) ≡ true → xs ≡ []
 no_items [] h = refl
 no_items (x ∷ xs) h = let e = eqb-true (length (x ∷ xs)) 0 h in absurd (omega arith)
@@ -294,7 +288,7 @@ nobody_is d room e r h =
     let q = four_true (not d.enrolled && all_below 8 (λ k. is_empty (slot_of d k)) && is_none d.fresh && is_none d.looked && is_none d.checked && is_none d.inc) (is_none d.dec) (is_none d.due) (is_none d.hand) p.0 in
     let s = four_true (not d.enrolled && all_below 8 (λ k. is_empty (slot_of d k)) && is_none d.fresh) (is_none d.looked) (is_none d.checked) (is_none d.inc) q.0 in
     let t = three_true (not d.enrolled) (all_below 8 (λ k. is_empty (slot_of d k))) (is_none d.fresh) s.0 in
-    whole (not_is d.enrolled t.0) (empties 8 d.slots e (λ k l. all_there 8 k (λ j. is_empty (slot_of d j)) t.1 l)) (none_part d.fresh t.2) (none_part d.looked s.1) (none_part d.checked s.2) (none_part d.inc s.3) (none_part d.dec q.1) (none_part d.due q.2) (none_part d.hand q.3) (none_part d.scan p.1) (none_part d.doom p.2) (no_items d.list.items p.3) r
+    whole (not_is d.enrolled t.0) (empties 8 d.slots e (λ k l. all_there 8 k (λ j. is_empty (slot_of d j)) t.1 l)) (no_part d.fresh t.2) (no_part d.looked s.1) (no_part d.checked s.2) (no_part d.inc s.3) (no_part d.dec q.1) (no_part d.due q.2) (no_part d.hand q.3) (no_part d.scan p.1) (no_part d.doom p.2) (no_items d.list.items p.3) r
   where
     whole : d.enrolled ≡ false → d.slots ≡ replicate 8 Empty → d.fresh ≡ None → d.looked ≡ None → d.checked ≡ None → d.inc ≡ None → d.dec ≡ None → d.due ≡ None → d.hand ≡ None → d.scan ≡ None → d.doom ≡ None → d.list.items ≡ [] → d.list.room ≡ room → d ≡ nobody room
     whole a b c f g k l n o s t u v = λ i. record { enrolled = a i; slots = b i; fresh = c i; looked = f i; checked = g i; inc = k i; dec = l i; due = n i; hand = o i; scan = s i; doom = t i; list = record { items = u i; room = v i } }

@@ -1,9 +1,8 @@
 -- A sound state passes the tests.
-use Rattle.std.proofs.Common.{Bool, arith, cond, false, refl, set, sym, true, ℕ, ⊎_elim, ◌*◌, ◌+◌, ◌/◌, ◌<◌, ◌∙◌, ◌≡◌, ◌≤◌}
+use Rattle.std.proofs.Common.{Bool, arith, cond, false, refl, sym, true, ℕ, ⊎_elim, ◌*◌, ◌+◌, ◌/◌, ◌<◌, ◌∙◌, ◌≡◌, ◌≤◌}
 use Rattle.std.proofs.lemmas.Bool.{eq-eqb, eqb-false, eqb-true, lt-ltb, ltb-true}
 use Rattle.std.specs.Prelude.{None, Option, Some, is_some, nat_le, nat_lt, not, ◌&&◌, ◌==◌, ◌||◌}
 use Rattle.orc_words.specs.Packed.{bit, count_bits, retired_bit, sequence_of}
-use Rattle.orc_words.specs.Places.{place}
 use Rattle.orc_words.specs.declared.place.Word.TheVariants.{Counter, Enrolled, Gate, Next, Root, Slot}
 use Rattle.orc_core.proofs.Within.{and_both}
 use Rattle.orc_core.specs.Counts.{is_out, is_retired, links_to}
@@ -15,7 +14,6 @@ use Rattle.orc_core.specs.declared.records.Doom.{Doom}
 use Rattle.orc_core.specs.declared.records.Scan.{Scan}
 use Rattle.orc_sound.proofs.Decided.{all_hold, count_back, held_name, is_not, is_out_in, is_target_in, is_unreachable, passes_all, seen_row}
 use Rattle.orc_sound.proofs.DecidedSound.{DoomShows, ScanShows}
-use Rattle.orc_sound.proofs.Facts.{out}
 use Rattle.orc_sound.proofs.Seats.{not_true}
 use Rattle.orc_sound.proofs.Shown.{none_below}
 use Rattle.orc_sound.proofs.Sources.{any_holds_at}

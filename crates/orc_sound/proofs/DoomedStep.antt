@@ -19,10 +19,11 @@ use Rattle.orc_core.specs.declared.records.Agent.{Agent}
 use Rattle.orc_core.specs.declared.records.Doom.{Doom}
 use Rattle.orc_sound.proofs.Balances.{OutPlace}
 use Rattle.orc_sound.proofs.Bits.{bit_before, retired_one, scan_places, unretire_cases, unretire_one}
-use Rattle.orc_sound.proofs.CountedStep.{scan_no_doom, scan_one}
+use Rattle.orc_sound.proofs.CountedStep.{scan_no_doom}
 use Rattle.orc_sound.proofs.CounterWords.{clear_bit, clear_count, clear_sequence, try_count, try_sequence}
 use Rattle.orc_sound.proofs.Facts.{Counted, Doomed, EnrolmentFits, Gone, LawfulStep, decs, incs, linked_in, out, to_row}
 use Rattle.orc_sound.proofs.Fresh.{small_bit}
+use Rattle.orc_sound.proofs.OnePart.{scans_some}
 use Rattle.orc_sound.proofs.Outs.{bare_dooms, cas_place, cas_place_out, linked_next, linked_root, load_place, none_linked, raiser_uses, read_out, store_cases, store_row_out, takes_free, uncut_dooms, uses_before, zero_one}
 use Rattle.orc_sound.proofs.Quiet.{counts_row}
 use Rattle.orc_sound.proofs.Seats.{both_ways, not_true, seat_split}
@@ -45,16 +46,16 @@ agent_below b z a s n = cases (nat_lt a (z.memory Enrolled)) refl
 doom_agent : (b : Bounds) (z : World) (a r : ℕ) → EnrolmentFits b z → dooms (z.seats a).doom r ≡ true → a < b.agents
 doom_agent b z a r s h = agent_below b z a s (λ e. false≢true (rw e at h))
 
+pub never_out : (w : ℕ) → w ≡ 0 → out w ≡ 1 → ⊥
+never_out w e h = omega arith
+
 -- a row that is out is one of the table's
 pub out_below : (b : Bounds) (z : World) (r : ℕ) → Counted b z → out (z.memory (Gate r)) ≡ 1 → r < b.rows
 out_below b z r s h = cases (nat_lt r b.rows) refl
   where
-    zero_gate : (w : ℕ) → w ≡ 0 → out w ≡ 1 → ⊥
-    zero_gate w e k = omega arith
-
     cases : (t : Bool) → nat_lt r b.rows ≡ t → r < b.rows
     cases true e = ltb-true r b.rows e
-    cases false e = absurd (zero_gate (z.memory (Gate r)) (s.outside (Gate r) e) h)
+    cases false e = absurd (never_out (z.memory (Gate r)) (s.outside (Gate r) e) h)
 
 -- two agents don't have one row in their records
 pub two_places : (b : Bounds) (z : World) (a x r : ℕ) → Counted b z → a < b.agents → x < b.agents → a ≢ x → r < b.rows → 0 < places_of (z.seats a) r → 0 < places_of (z.seats x) r → ⊥
@@ -75,7 +76,7 @@ dooms_one None r h = absurd (false≢true h)
 dooms_one (Some d) r h = refl
 
 two_parts : (d : Agent) (r : ℕ) → HasOnePart d → dooms d.doom r ≡ true → scans d.scan r ≡ true → ⊥
-two_parts d r o h k = let i = dooms_one d.doom r h in let j = scan_one d.scan r k in omega arith
+two_parts d r o h k = let i = dooms_one d.doom r h in let j = scans_some d.scan r k in omega arith
 
 -- a doomed row isn't scanned
 pub unscanned : (b : Bounds) (z : World) (x a r : ℕ) → Counted b z → Doomed b z → dooms (z.seats x).doom r ≡ true → a < b.agents → scans (z.seats a).scan r ≡ true → ⊥
@@ -346,11 +347,11 @@ null_step b z a op p x r h =
     (λ s. old_null b z a op x r p.lawful s.1)
     (seat_split (λ d. dooms_cut d.doom r ≡ true) z.seats a x (record_by z a op) h)
 
-cut_bare : (o : Option Doom) (q r : ℕ) → doom_bare (cut_of o q) r ≡ doom_bare o r
+pub cut_bare : (o : Option Doom) (q r : ℕ) → doom_bare (cut_of o q) r ≡ doom_bare o r
 cut_bare None q r = refl
 cut_bare (Some d) q r = refl
 
-cut_more : (o : Option Doom) (q r : ℕ) → dooms_cut o r ≡ true → dooms_cut (cut_of o q) r ≡ true
+pub cut_more : (o : Option Doom) (q r : ℕ) → dooms_cut o r ≡ true → dooms_cut (cut_of o q) r ≡ true
 cut_more None q r h = h
 cut_more (Some d) q r h = grind arith
 

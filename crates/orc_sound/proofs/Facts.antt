@@ -50,7 +50,7 @@ handed_in s m r = sum_below s.agents (λ a. sum_below 8 (λ k. hands_row (m (Han
 abbrev pub seat_places : Bounds → (ℕ → Agent) → ℕ → ℕ
 seat_places s d r = sum_below s.agents (λ a. places_of (d a) r)
 
--- the bit is set where bit place has the row, and clear where none has it
+-- the bit is set where one place has the row, and clear where none has it
 abbrev pub HasToken : Bounds → World → ℕ → Type 0
 HasToken s z r = retired_bit (z.memory (Counter r)) ≡ seat_places s z.seats r + handed_in s z.memory r
 

@@ -9,17 +9,19 @@ use Rattle.orc_core.proofs.Within.{and_both}
 use Rattle.orc_core.specs.Actions.{action_of}
 use Rattle.orc_core.specs.Counts.{is_out}
 use Rattle.orc_core.specs.Machine.{LeavesRoom, Machine, answer, is_allowed, new_machine, record_at, step, word_read}
+use Rattle.orc_core.specs.RecordParts.{names}
 use Rattle.orc_core.specs.Runs.{IsLawful, run}
 use Rattle.orc_core.specs.declared.ops.Op.{Op}
 use Rattle.orc_core.specs.declared.ops.Op.TheVariants.{Free, GateTake}
 use Rattle.orc_sound.proofs.AllFits.{AllFits, all_first, all_step, allowed_step, low_sequences, run_bounds, run_fits, run_shape}
-use Rattle.orc_sound.proofs.Begins.{zero_first}
+use Rattle.orc_sound.proofs.NewState.{zero_first}
 use Rattle.orc_sound.proofs.Bound.{backlog_bound}
 use Rattle.orc_sound.proofs.Bridge.{world_step}
 use Rattle.orc_sound.proofs.Facts.{LawfulStep, out}
 use Rattle.orc_sound.proofs.FreedOnce.{no_wrap, out_bit, read_shown, run_lives, take_answer}
 use Rattle.orc_sound.proofs.Full.{Full, full_first, full_step}
 use Rattle.orc_sound.proofs.Outs.{bare_dooms, taken_out, takes_free}
+use Rattle.orc_sound.proofs.Pending.{OneChange}
 use Rattle.orc_sound.proofs.Rows.{list_length}
 use Rattle.orc_sound.proofs.Seats.{seat_same}
 use Rattle.orc_sound.proofs.Shown.{sound_shown}
@@ -59,6 +61,14 @@ room_left b steps a op shape l h =
     let s = all_step m.bounds (world_of m) a op p (run_fits b steps shape l) in
     let k = list_length m.bounds (step_world (world_of m) a op) a s.counted s.rows p.agent in
     rw (read_shown m a op h) (rw (seat_same (world_of m).seats a (record_by (world_of m) a op)) at k)
+
+-- a row in hand is one of the table's, and an agent with a due row has no increment pending
+pub hand_within : (b : Bounds) (steps : List (ℕ × Op)) (a r : ℕ) → IsShape b → IsLawful (new_machine b) steps → names (record_at (run (new_machine b) steps) a).hand r ≡ true → r < b.rows
+hand_within b steps a r shape l h =
+    subst (λ (c : Bounds). r < c.rows) (run_bounds (new_machine b) steps) ((run_fits b steps shape l).rows.in_hand a r h)
+
+pub due_alone : (b : Bounds) (steps : List (ℕ × Op)) (a : ℕ) → IsShape b → IsLawful (new_machine b) steps → OneChange (record_at (run (new_machine b) steps) a)
+due_alone b steps a shape l = (run_fits b steps shape l).change a
 
 pub list_within : (b : Bounds) (steps : List (ℕ × Op)) (a : ℕ) → IsShape b → IsLawful (new_machine b) steps → a < b.agents → length (record_at (run (new_machine b) steps) a).list.items ≤ b.rows
 list_within b steps a shape l h =

@@ -146,7 +146,7 @@ fresh_or_null : (n e f t c u s k : Bool) → (n && e && ((f && t && c) || (u && 
 fresh_or_null n e true t c u s k h = inl refl
 fresh_or_null n e false t c u s k h = inr (and_both u s (and_both (u && s) k (and_both (n && e) (u && s && k) h).1).0).1
 
-no_target : (o : Option ℕ) (r : ℕ) → is_none o ≡ true → names o r ≡ true → ⊥
+pub no_target : (o : Option ℕ) (r : ℕ) → is_none o ≡ true → names o r ≡ true → ⊥
 no_target None r h k = false≢true k
 no_target (Some x) r h k = false≢true h
 

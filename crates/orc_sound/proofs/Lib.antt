@@ -17,7 +17,7 @@ pub mod Outs
 pub mod Fresh
 pub mod Enrolment
 pub mod CountedStep
-pub mod Begins
+pub mod NewState
 pub mod Quiet
 pub mod DoomedStep
 pub mod Scans

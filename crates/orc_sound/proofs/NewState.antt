@@ -1,51 +1,34 @@
 -- The new state is sound.
 use Rattle.std.proofs.Common.{Bool, ap, arith, cond, false, get_or, refl, suc, sym, true, zero, ℕ, ◌%◌, ◌*◌, ◌/◌, ◌<◌, ◌∙◌, ◌≡◌}
 use Rattle.std.proofs.lemmas.Bool.{false≢true, lt-ltb}
-use Rattle.std.proofs.lemmas.List.FromFn.{get_or-map-range_with_len}
 use Rattle.std.specs.Prelude.{replicate, slice_index_or}
-use Rattle.orc_words.proofs.Positions.{place_below}
+use Rattle.orc_words.proofs.NewWords.{new_words_each}
 use Rattle.orc_words.specs.Bounds.{Bounds}
+use Rattle.orc_words.specs.NewWords.{new_word}
 use Rattle.orc_words.specs.Packed.{bit}
-use Rattle.orc_words.specs.Places.{IsWithin, place, places}
 use Rattle.orc_words.specs.declared.place.Word.{Word}
-use Rattle.orc_words.specs.declared.place.Word.TheVariants.{Counter, Enrolled, First, Gate, Handover, Next, Root, Second, Slot}
-use Rattle.orc_core.specs.Machine.{first_word, new_machine, nobody}
+use Rattle.orc_words.specs.declared.place.Word.TheVariants.{Counter, Enrolled, Gate, Handover, Next, Root, Slot}
+use Rattle.orc_core.specs.Machine.{new_machine, nobody}
 use Rattle.orc_core.specs.RecordParts.{names}
 use Rattle.orc_core.specs.declared.records.SlotUse.TheVariants.{Empty}
 use Rattle.orc_sound.proofs.Bridge.{is_within-true}
 use Rattle.orc_sound.proofs.Facts.{Counted, SlotsFit, handed_in, hands_row, linked_in, out, to_row}
-use Rattle.orc_sound.proofs.Outs.{null_row}
+use Rattle.orc_sound.proofs.Outs.{null_row, zero_one}
 use Rattle.orc_sound.proofs.Sums.{sum_zero}
 use Rattle.orc_sound.proofs.World.{World, is_within, world_of}
 use Rattle.orc_sound.specs.Linked.{uses}
 use Rattle.orc_sound.specs.SoundParts.{slot_word}
 use Rattle.orc_sound.specs.RetirementToken.{places_of}
 
--- what a word holds at first
-abbrev pub word_first : Word → ℕ
-word_first (Counter r) = 4194304
-word_first _ = 0
-
-first_is : (s : Bounds) (w : Word) → IsWithin s w → first_word s (place s w) ≡ word_first w
-first_is s Enrolled h = grind arith
-first_is s (Root i) h = grind arith
-first_is s (Gate r) h = grind arith
-first_is s (Counter r) h = grind arith
-first_is s (First r) h = grind arith
-first_is s (Second r) h = grind arith
-first_is s (Next r) h = grind arith
-first_is s (Slot a k) h = grind arith
-first_is s (Handover a k) h = grind arith
-
-memory_first : (b : Bounds) (w : Word) (t : Bool) → is_within b w ≡ t → (world_of (new_machine b)).memory w ≡ cond t (word_first w) 0
-memory_first b w true e = rw e (get_or-map-range_with_len (first_word b) 0 (places b) (place b w) (place b w) 0 (place_below b w (is_within-true b w e)) (omega arith) ∙ first_is b w (is_within-true b w e))
+memory_first : (b : Bounds) (w : Word) (t : Bool) → is_within b w ≡ t → (world_of (new_machine b)).memory w ≡ cond t (new_word w) 0
+memory_first b w true e = rw e (new_words_each b w (is_within-true b w e))
 memory_first b w false e = rw e
 
 -- but for the counters each word is 0 at first
-pub zero_first : (b : Bounds) (w : Word) → word_first w ≡ 0 → (world_of (new_machine b)).memory w ≡ 0
+pub zero_first : (b : Bounds) (w : Word) → new_word w ≡ 0 → (world_of (new_machine b)).memory w ≡ 0
 zero_first b w z = memory_first b w (is_within b w) refl ∙ rest (is_within b w)
   where
-    rest : (t : Bool) → cond t (word_first w) 0 ≡ 0
+    rest : (t : Bool) → cond t (new_word w) 0 ≡ 0
     rest true = z
     rest false = refl
 
@@ -54,15 +37,15 @@ same_each zero i x = refl
 same_each (suc n) zero x = refl
 same_each (suc n) (suc i) x = same_each n i x
 
-seat_first : (b : Bounds) (a : ℕ) → (world_of (new_machine b)).seats a ≡ nobody b.rows
-seat_first b a = same_each b.agents a (nobody b.rows)
+pub seats_first : (b : Bounds) (a : ℕ) → (world_of (new_machine b)).seats a ≡ nobody b.rows
+seats_first b a = same_each b.agents a (nobody b.rows)
 
 null_hand : (w r : ℕ) → w ≡ 0 → hands_row w r ≡ 0
 null_hand w r h = grind arith
 
 -- each word is 0, but that each counter has count 0, and each record is empty
 pub record Blank (b : Bounds) (z : World) : Type 0 where
-  zero_word : (w : Word) → word_first w ≡ 0 → z.memory w ≡ 0
+  zero_word : (w : Word) → new_word w ≡ 0 → z.memory w ≡ 0
   counter : (r : ℕ) → r < b.rows → z.memory (Counter r) ≡ 4194304
   no_bit : (r : ℕ) → z.memory (Counter r) / 8388608 ≡ 0
   empty : (a : ℕ) → z.seats a ≡ nobody b.rows
@@ -78,9 +61,6 @@ blank_handed b z r k = sum_zero b.agents _ (λ a. sum_zero 8 _ (λ i. null_hand 
 
 bit_of : (w : ℕ) → w / 8388608 ≡ 0 → w / 8388608 % 2 ≡ 0
 bit_of w h = omega arith
-
-zero_one : {n : ℕ} → n ≡ 0 → n ≡ 1 → ⊥
-zero_one e h = omega arith
 
 nobody_slots : (m : Word → ℕ) (b : Bounds) (a : ℕ) → ((k : ℕ) → m (Slot a k) ≡ 0) → SlotsFit m (nobody b.rows) a
 nobody_slots m b a h = record { eight = refl; words = λ k. h k ∙ sym (empty_word k); first = refl }
@@ -123,7 +103,7 @@ bits_first b r true e = omega arith
 bits_first b r false e = omega arith
 
 pub blank_first : (b : Bounds) → Blank b (world_of (new_machine b))
-blank_first b = record { zero_word = zero_first b; counter = counter_first b; no_bit = λ r. bits_first b r (is_within b (Counter r)) (memory_first b (Counter r) (is_within b (Counter r)) refl); empty = seat_first b }
+blank_first b = record { zero_word = zero_first b; counter = counter_first b; no_bit = λ r. bits_first b r (is_within b (Counter r)) (memory_first b (Counter r) (is_within b (Counter r)) refl); empty = seats_first b }
 
 outside_first : (b : Bounds) (w : Word) → is_within b w ≡ false → (world_of (new_machine b)).memory w ≡ 0
 outside_first b w h = memory_first b w false h
@@ -131,6 +111,3 @@ outside_first b w h = memory_first b w false h
 -- a new state counts nothing, and no row is doomed there
 pub counted_first : (b : Bounds) → Counted b (world_of (new_machine b))
 counted_first b = counted_blank b (world_of (new_machine b)) (blank_first b) (outside_first b)
-
-pub seats_first : (b : Bounds) (a : ℕ) → (world_of (new_machine b)).seats a ≡ nobody b.rows
-seats_first b a = seat_first b a

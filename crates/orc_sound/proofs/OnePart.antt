@@ -1,4 +1,4 @@
--- An agent has at most bit of hand, scan and doom.
+-- An agent has at most one of hand, scan and doom.
 use Rattle.std.proofs.Common.{Bool, arith, cond, false, refl, true, ℕ, ◌+◌, ◌≡◌, ◌≤◌}
 use Rattle.std.proofs.lemmas.Bool.{false≢true}
 use Rattle.std.specs.Prelude.{None, Option, Some, is_none, is_some, ◌==◌}
@@ -32,7 +32,7 @@ one_some : {A : Type 0} (o : Option A) → bit (is_some o) ≤ 1
 one_some None = omega arith
 one_some (Some x) = omega arith
 
-scans_some : (o : Option Scan) (q : ℕ) → scans o q ≡ true → bit (is_some o) ≡ 1
+pub scans_some : (o : Option Scan) (q : ℕ) → scans o q ≡ true → bit (is_some o) ≡ 1
 scans_some None q h = absurd (false≢true h)
 scans_some (Some x) q h = refl
 

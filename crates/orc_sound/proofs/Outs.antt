@@ -59,7 +59,7 @@ stays_out b z a op r p n h = out_stays z.memory b (z.memory Enrolled) a op (z.se
 pub used_stays : (b : Bounds) (z : World) (a : ℕ) (op : Op) (x r : ℕ) → LawfulStep b z a op → uses (z.seats x) r ≡ true → out ((step_world z a op).memory (Gate r)) ≡ 1
 used_stays b z a op x r p h = stays_out b z a op r p (λ f. both_ways _ h (f.gone.unused x)) (p.counted.used_out x r h)
 
-held_or_fresh : (d : Agent) (j : ℕ) → (any_holds d.slots j || names d.fresh j) ≡ true → uses d j ≡ true
+pub held_or_fresh : (d : Agent) (j : ℕ) → (any_holds d.slots j || names d.fresh j) ≡ true → uses d j ≡ true
 held_or_fresh d j h = grind arith
 
 -- the place that may be read is a root, or the next word of a row that the agent uses
@@ -75,7 +75,7 @@ place_out b p t m h g = absurd (false≢true h)
 pub read_out : (b : Bounds) (z : World) (a : ℕ) (p : Word) → Counted b z → may_place b p (λ r. any_holds (z.seats a).slots r || names (z.seats a).fresh r) ≡ true → OutPlace z.memory p
 read_out b z a p s h = place_out b p _ z.memory h (λ j k. s.used_out a j (held_or_fresh (z.seats a) j k))
 
-target_out : (b : Bounds) (z : World) (p : Word) (r : ℕ) → Counted b z → OutPlace z.memory p → to_row (z.memory p) r ≡ 1 → out (z.memory (Gate r)) ≡ 1
+pub target_out : (b : Bounds) (z : World) (p : Word) (r : ℕ) → Counted b z → OutPlace z.memory p → to_row (z.memory p) r ≡ 1 → out (z.memory (Gate r)) ≡ 1
 target_out b z (Root i) r s o h = s.roots_out i r h
 target_out b z (Next j) r s o h = s.nexts_out j r o h
 target_out b z p r s o h = absurd o
@@ -153,7 +153,7 @@ putter_uses b z a op w r p h = held_uses (z.seats a) r (links_held b (z.memory E
 pub null_row : (w r : ℕ) → w ≡ 0 → to_row w r ≡ 0
 null_row w r h = grind arith
 
--- a link within the shape is bit of those that are counted
+-- a link within the shape is one of those that are counted
 pub linked_root : (b : Bounds) (z : World) (i r : ℕ) → Counted b z → to_row (z.memory (Root i)) r ≡ 1 → 0 < linked_in b z.memory r
 linked_root b z i r s h = cases (nat_lt i b.roots) refl
   where

@@ -7,7 +7,7 @@ use Rattle.orc_core.specs.After.{after}
 use Rattle.orc_core.specs.Allowed.{forced, in_order}
 use Rattle.orc_core.specs.RecordParts.{is_due, names, saw}
 use Rattle.orc_core.specs.declared.ops.Op.{Op}
-use Rattle.orc_core.specs.declared.ops.Op.TheVariants.{Arm, Dec, Inc, SetRetired}
+use Rattle.orc_core.specs.declared.ops.Op.TheVariants.{Arm, Dec, Inc, LinkCas, LinkStore, SetRetired, Unretire}
 use Rattle.orc_core.specs.declared.records.Agent.{Agent}
 use Rattle.orc_core.specs.declared.records.Reading.{Reading}
 
@@ -57,3 +57,16 @@ due_ends (Inc q) d v r o h = absurd (not_seen d.due r (inc_waits d.due d.inc d.d
 due_ends (Dec q) d v r o h = absurd (not_seen d.due r (dec_waits d.due d.inc d.dec q o).0 h)
 due_ends (Arm q) d v r o h = absurd (not_seen d.due r (arm_waits d.due d.inc d.dec q o).0 h)
 due_ends op d v r o h = absurd (not_seen d.due r (nothing_pending d.due d.inc d.dec op refl o).0 h)
+
+-- an agent with a due row has no increment pending
+abbrev pub OneChange : Agent → Type 0
+OneChange d = (d.due ≡ None) ⊎ (d.inc ≡ None)
+
+pub one_change : (op : Op) (d : Agent) (v : ℕ) → forced d op ≡ true → OneChange d → OneChange (after op d v)
+one_change (Inc q) d v f o = inr refl
+one_change (Dec q) d v f o = inr (dec_waits d.due d.inc d.dec q f).1
+one_change (Unretire q) d v f o = inr (nothing_pending d.due d.inc d.dec (Unretire q) refl f).1
+one_change (SetRetired q n) d v f o = inl refl
+one_change (LinkCas w x t) d v f o = inl (nothing_pending d.due d.inc d.dec (LinkCas w x t) refl f).0
+one_change (LinkStore q l) d v f o = inl (nothing_pending d.due d.inc d.dec (LinkStore q l) refl f).0
+one_change op d v f o = o

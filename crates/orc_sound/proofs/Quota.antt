@@ -96,7 +96,7 @@ pays b e a op d v r f n = omega arith
 abbrev pub quota : Bounds → World → ℕ → ℕ
 quota b z r = sequence_of (z.memory (Counter r)) + 2 * checks b z.seats r (b.limit + 64) + incs b z.seats r + linked_in b z.memory r + decs b z.seats r
 
--- the change at bit word and bit record
+-- the change at one word and one record
 abbrev LocalQuota : (Word → ℕ) → Word → ℕ → ℕ → Agent → Agent → ℕ → ℕ → Type 0
 LocalQuota m w v x d e r n = sequence_part w x r + 2 * bit (checked_below e.checked r n) + bit (names e.inc r) + link_part m w x r + bit (names e.dec r) ≤ sequence_part w v r + 2 * bit (checked_below d.checked r n) + bit (names d.inc r) + link_part m w v r + bit (names d.dec r)
 

@@ -21,7 +21,7 @@ use Rattle.orc_core.specs.declared.records.Agent.{Agent}
 use Rattle.orc_core.specs.declared.records.Doom.{Doom}
 use Rattle.orc_core.specs.declared.records.Reading.{Reading}
 use Rattle.orc_sound.proofs.Balances.{same_names}
-use Rattle.orc_sound.proofs.DoomedStep.{fill_counter}
+use Rattle.orc_sound.proofs.DoomedStep.{cut_bare, fill_counter}
 use Rattle.orc_sound.proofs.Facts.{out}
 use Rattle.orc_sound.proofs.Pending.{dec_waits, inc_waits, try_waits}
 use Rattle.orc_sound.proofs.Sources.{write_same}
@@ -106,13 +106,9 @@ cas_reason d f t r w true false false h i = let k = none_names d.inc r i in omeg
 cas_reason d f t r w true true n h i = omega arith
 cas_reason d f t r w false s n h i = omega arith
 
-bare_cut : (o : Option Doom) (q r : ℕ) → doom_bare (cut_of o q) r ≡ doom_bare o r
-bare_cut None q r = refl
-bare_cut (Some x) q r = refl
-
 store_reason : (d : Agent) (q : ℕ) (t : Option ℕ) (r w : ℕ) (s : Bool) → is_none d.inc ≡ true → reasons d w r ≤ bit (names d.fresh r) + bit (names (cond s d.inc t) r) + bit (is_due d.due r (sequence_of w)) + bit (doom_bare (cut_of d.doom q) r)
-store_reason d q t r w true i = let c = ap bit (bare_cut d.doom q r) in omega arith
-store_reason d q t r w false i = let c = ap bit (bare_cut d.doom q r) in let k = none_names d.inc r i in omega arith
+store_reason d q t r w true i = let c = ap bit (cut_bare d.doom q r) in omega arith
+store_reason d q t r w false i = let c = ap bit (cut_bare d.doom q r) in let k = none_names d.inc r i in omega arith
 
 bare_others : (o : Option Doom) (q r : ℕ) → doom_bare o q ≡ true → (q == r) ≡ false → bit (doom_bare o r) ≡ 0
 bare_others None q r h n = refl

@@ -1,5 +1,5 @@
--- Handover words and work lists name rows of the table.
-use Rattle.std.proofs.Common.{Bool, List, [], ap, arith, cond, drop, false, inl, inr, length, refl, sym, true, ℕ, ⊎_elim, ◌%◌, ◌++◌, ◌+◌, ◌/◌, ◌<◌, ◌∙◌, ◌∷◌, ◌≡◌, ◌≤◌, ◌⊎◌}
+-- Handover words, hands and work lists name rows of the table.
+use Rattle.std.proofs.Common.{subst, Bool, List, [], ap, arith, cond, drop, false, inl, inr, length, refl, sym, true, ℕ, ⊎_elim, ◌%◌, ◌++◌, ◌+◌, ◌/◌, ◌<◌, ◌∙◌, ◌∷◌, ◌≡◌, ◌≤◌, ◌⊎◌}
 use Rattle.std.proofs.lemmas.Bool.{eq-eqb, eqb-true, false≢true, ltb-true}
 use Rattle.std.specs.Prelude.{None, Option, Some, nat_lt, ◌==◌}
 use Rattle.orc_words.specs.Bounds.{Bounds}
@@ -30,6 +30,7 @@ use Rattle.orc_sound.specs.RetirementToken.{listings, places_of}
 
 pub record RowsFit (b : Bounds) (z : World) : Type 0 where
   pub handed : (a k r : ℕ) → z.memory (Handover a k) ≡ r + 1 → r < b.rows
+  pub in_hand : (a r : ℕ) → names (z.seats a).hand r ≡ true → r < b.rows
   pub listed : (a r : ℕ) → 0 < listings (z.seats a).list.items r → r < b.rows
 
 -- a handover word is new where a row was handed over, or taken in
@@ -114,9 +115,24 @@ added b z a (SetRetired q n) r p s h = rw (← eqb-true q r h) (ltb-true q b.row
 added b z a (TakeIn k) r p s h = s.handed a k r (named_word (z.memory (Handover a k)) r h)
 added b z a op r p s h = absurd (false≢true h)
 
+-- a row is in hand anew where it came out of a handover word
+hand_source : (op : Op) (d : Agent) (v r : ℕ) → names (after op d v).hand r ≡ true → (names d.hand r ≡ true) ⊎ ((k : ℕ) × (op ≡ Hand k) × (v ≡ r + 1))
+hand_source (Hand k) d v r h = inr (k, refl, named_word v r h)
+hand_source (CounterLoad q Check) d v r h = inl h
+hand_source (CounterLoad q Start) d v r h = absurd (false≢true h)
+hand_source (CounterLoad q End) d v r h = inl h
+hand_source op d v r h = inl h
+
+came_out : (b : Bounds) (z : World) (a : ℕ) (op : Op) (r : ℕ) → RowsFit b z → ((k : ℕ) × (op ≡ Hand k) × (read_by z a op ≡ r + 1)) → r < b.rows
+came_out b z a op r s n = s.handed (n.0 / 8) (n.0 % 8) r (subst (λ o. read_by z a o ≡ r + 1) n.1 n.2)
+
 pub rows_step : (b : Bounds) (z : World) (a : ℕ) (op : Op) → ScanStep b z a op → RowsFit b z → RowsFit b (step_world z a op)
 rows_step b z a op p s = record {
   handed = handed_step b z a op p s;
+  in_hand = λ x r h. ⊎_elim
+      (λ n. ⊎_elim (λ old. s.in_hand a r old) (λ new. came_out b z a op r s new) (hand_source op (z.seats a) (read_by z a op) r n.1))
+      (λ n. s.in_hand x r n.1)
+      (seat_split (λ d. names d.hand r ≡ true) z.seats a x (record_by z a op) h);
   listed = λ x r h. ⊎_elim
       (λ n. ⊎_elim (λ old. s.listed a r old) (λ new. added b z a op r p.lawful s new) (list_source op (z.seats a) (read_by z a op) r n.1))
       (λ n. s.listed x r n.1)

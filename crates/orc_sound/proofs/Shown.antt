@@ -65,12 +65,13 @@ linked_shown m r =
     let n = sum_same m.bounds.rows (λ j. out ((world_of m).memory (Gate j)) * to_row ((world_of m).memory (Next j)) r) (λ j. bit (is_out m j && links_to (word_in m (Next j)) r)) (λ j h. rw (word_shown m (Gate j) h, word_shown m (Next j) h) (both_bits (word_in m (Gate j)) (links_to (word_in m (Next j)) r))) in
     omega arith
 
-signed : (c i l d : ℕ) → c + i ≡ 4194304 + l + d → pos c -ℤ pos 4194304 ≡ (pos l -ℤ pos i) +ℤ pos d
-signed c i l d e = omega (arith, ints)
+-- a counter in balance, as an integer
+pub count_is : (c i l d : ℕ) → c + i ≡ 4194304 + l + d → pos c -ℤ pos 4194304 ≡ (pos l -ℤ pos i) +ℤ pos d
+count_is c i l d e = omega (arith, ints)
 
 count_shown : (m : Machine) (r : ℕ) → r < m.bounds.rows → Balanced m.bounds (world_of m) r → (counter_of (word_in m (Counter r))).count ≡ (pos (linked m r) -ℤ pos (increments m r)) +ℤ pos (decrements m r)
 count_shown m r h e =
-    signed (count_bits (word_in m (Counter r))) (increments m r) (linked m r) (decrements m r) (rw (word_shown m (Counter r) h, linked_shown m r) at e)
+    count_is (count_bits (word_in m (Counter r))) (increments m r) (linked m r) (decrements m r) (rw (word_shown m (Counter r) h, linked_shown m r) at e)
 
 pub balance_shown : (m : Machine) → Counted m.bounds (world_of m) → Balance m
 balance_shown m s = record {
@@ -178,8 +179,9 @@ doomed_shown m s d = record {
   bare = λ a r h k. let g = d.gone a r (bare_dooms (record_at m a).doom r k) in (d.cut a r k, bit_clear _ (rw (word_shown m (Counter r) (out_below m.bounds (world_of m) r s g.is_out)) at (d.clear a r k)));
 }
 
-free_gate : (w : ℕ) → (w % 2 == 1) ≡ false → w % 2 ≡ 0
-free_gate w h = let n : w % 2 ≢ 1 = eqb-false (w % 2) 1 h in omega arith
+-- a bit that is not set is 0
+unset : (w : ℕ) → (w % 2 == 1) ≡ false → w % 2 ≡ 0
+unset w h = let n : w % 2 ≢ 1 = eqb-false (w % 2) 1 h in omega arith
 
 -- a free row isn't linked or used
 pub free_gone : (m : Machine) (r : ℕ) → Counted m.bounds (world_of m) → r < m.bounds.rows → out ((world_of m).memory (Gate r)) ≡ 0 → IsUnreachable m r
@@ -209,7 +211,7 @@ free_shown m s d = record {
 }
   where
     hidden : (r : ℕ) → r < m.bounds.rows → is_out m r ≡ false → out ((world_of m).memory (Gate r)) ≡ 0
-    hidden r h k = rw (word_shown m (Gate r) h) (free_gate (word_in m (Gate r)) k)
+    hidden r h k = rw (word_shown m (Gate r) h) (unset (word_in m (Gate r)) k)
 
 reason_bits : (d : Agent) (w r : ℕ) → keeps_out d r (sequence_of w) ≡ false → reasons d w r ≡ 0
 reason_bits d w r h = four (names d.fresh r) (names d.inc r) (is_due d.due r (sequence_of w)) (doom_bare d.doom r) h
@@ -224,9 +226,6 @@ reason_bits d w r h = four (names d.fresh r) (names d.inc r) (is_due d.due r (se
 pub leak_shown : (m : Machine) → ((r : ℕ) → r < m.bounds.rows → HasReason m.bounds (world_of m) r) → NoLeak m
 leak_shown m h r o = cases (not (count_bits (word_in m (Counter r)) == 4194304)) (is_retired m r) (some_below m.bounds.agents (λ a. keeps_out (record_at m a) r (sequence_of (word_in m (Counter r))))) refl refl refl
   where
-    unset : (w : ℕ) → (w % 2 == 1) ≡ false → w % 2 ≡ 0
-    unset w e = free_gate w e
-
     cases : (t u v : Bool) → not (count_bits (word_in m (Counter r)) == 4194304) ≡ t → is_retired m r ≡ u → some_below m.bounds.agents (λ a. keeps_out (record_at m a) r (sequence_of (word_in m (Counter r)))) ≡ v → (t || u || v) ≡ true
     cases true u v e f g = refl
     cases false true v e f g = refl

@@ -22,7 +22,7 @@ use Rattle.orc_sound.proofs.Sources.{write_same}
 use Rattle.orc_sound.proofs.World.{World, read_by, record_by, step_world, write}
 use Rattle.orc_sound.specs.SoundParts.{slot_word}
 
--- what bit write to an agent's own slot leaves
+-- what one write to an agent's own slot leaves
 set_fits : (m : Word → ℕ) (d : Agent) (a j k v : ℕ) (x : SlotUse) → j < length d.slots → v ≡ slot_word x → SlotFits m d a k → write m (Slot a j) v (Slot a k) ≡ slot_word (slice_index_or (slice_set d.slots j x) k Empty)
 set_fits m d a j k v x l e h = rw (eq-eqb a a refl) (cases (k == j) refl)
   where

@@ -30,7 +30,7 @@ pick_other i j v x h = sym (cond-false (j == i) v x (ne_eqb j i h))
 pick_same : {A : Type 0} (i : ℕ) (v x : A) → cond (i == i) v x ≡ v
 pick_same i v x = cond-true (i == i) v x (eq-eqb i i refl)
 
--- bit new value changes the sum by the difference
+-- one new value changes the sum by the difference
 pub sum_put : {A : Type 0} (n i : ℕ) (f : ℕ → A → ℕ) (m : ℕ → A) (v : A) → i < n → sum_below n (λ j. f j (cond (j == i) v (m j))) + f i (m i) ≡ sum_below n (λ j. f j (m j)) + f i v
 sum_put n i f m v h =
     rw pick_same at (sum_change n i (λ j. f j (m j)) (λ j. f j (cond (j == i) v (m j))) h (λ j ne. ap (f j) (pick_other i j v (m j) ne)))

@@ -1,4 +1,4 @@
--- What bit written word and bit new record change in the places that have a row, and that each kind keeps the token.
+-- What one written word and one new record change in the places that have a row, and that each kind keeps the token.
 use Rattle.std.proofs.Common.{Bool, List, [], ap, arith, cond, drop, false, inl, inr, refl, true, ℕ, ◌%◌, ◌++◌, ◌+◌, ◌<◌, ◌∙◌, ◌∷◌, ◌≡◌, ◌≢◌, ◌⊎◌}
 use Rattle.std.proofs.lemmas.Bool.{eq-eqb, eqb-true, ne_eqb}
 use Rattle.std.proofs.lemmas.List.Sums.{sum_by-cons, sum_by_push}

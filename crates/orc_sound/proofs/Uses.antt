@@ -81,7 +81,7 @@ dec_use b e a (LinkCas p x t) d v r f h = inl (held_uses d r (target_held b d x.
 dec_use b e a (LinkStore q l) d v r f h = inr (names_link v r h)
 dec_use b e a op d v r f h = absurd (false≢true h)
 
-cut_some : (o : Option Doom) (q : ℕ) → doom_cut o q ≡ true → bit (is_some o) ≡ 1
+pub cut_some : (o : Option Doom) (q : ℕ) → doom_cut o q ≡ true → bit (is_some o) ≡ 1
 cut_some None q h = absurd (false≢true h)
 cut_some (Some x) q h = refl
 

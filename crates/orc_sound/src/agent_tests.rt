@@ -11,16 +11,13 @@ ghost use Rattle.orc_sound.specs.Doomed.{dooms};
 ghost use Rattle.orc_sound.specs.Linked.{uses};
 ghost use Rattle.orc_sound.specs.QuietScan.{holds_from, is_linked_anew};
 
-use crate::counting::{is_retired, linked_of};
-use crate::parts::{
-    any_holds, dooms, holds, is_empty, is_published, links_to, names, number_of, saw, slot_of,
-    slot_word, uses,
-};
-use crate::row_tests::{SEQUENCE, decrements_of, increments_of, out_in, unreachable_in};
-use orc_core::{Agent, Doom, Reading, Scan, SlotUse, State};
+use crate::counting::linked_of;
+use crate::parts::{dooms, links_to, slot_word, uses};
+use crate::row_tests::{decrements_of, increments_of, out_in, unreachable_in};
+use orc_core::{Agent, Doom, Reading, SEQUENCE, Scan, SlotUse, State};
 use orc_words::{NEW_COUNTER, RETIRED, Word};
 
-/// Whether each slot of the agent that holds the row has scan place `k` or a later one.
+// Whether each slot of the agent that holds the row has scan place `k` or a later one.
 #[tactic(auto, using(crate::proofs::Passed::passed_none, crate::proofs::Passed::passed_more, crate::proofs::Passed::passed_all))]
 fn agent_holds_late(state: &State, agent: u32, row: u32, k: u32) -> bool
     requires { agent < state.now.bounds.agents }
@@ -31,7 +28,7 @@ fn agent_holds_late(state: &State, agent: u32, row: u32, k: u32) -> bool
     let record = state.agent(agent);
     let mut late = true;
     for slot in 0..8 {
-        late &= !holds(slot_of(record, slot), row) || k <= 8 * agent + slot;
+        late &= !record.slot(slot).holds(row) || k <= 8 * agent + slot;
     }
     late
 }
@@ -66,7 +63,7 @@ fn holds_from(state: &State, row: u32, k: u32, agent: u32) -> bool
     let record = state.agent(agent);
     let mut found = false;
     for slot in 0..8 {
-        found |= holds(slot_of(record, slot), row) && k <= 8 * agent + slot;
+        found |= record.slot(slot).holds(row) && k <= 8 * agent + slot;
     }
     found
 }
@@ -75,7 +72,7 @@ fn links_anew(state: &State, row: u32, k: u32, agent: u32) -> bool
     requires { agent < state.now.bounds.agents }
     ensures { result ≡ (names (record_at state.now agent).inc row && holds_from state.now row k agent) }
 {
-    names(state.agent(agent).inc, row) && holds_from(state, row, k, agent)
+    state.agent(agent).has_increment(row) && holds_from(state, row, k, agent)
 }
 
 #[tactic(auto, using(crate::proofs::Found::found_none, crate::proofs::Found::found_more, crate::proofs::Found::found_all))]
@@ -148,7 +145,7 @@ fn doom_fits(state: &State, agent: u32, doom: Option<Doom>) -> bool
     unreachable_in(state, doom.row)
         && is_alone_doomed(state, agent, doom.row)
         && (!doom.cut || state.word(Word::Next(doom.row)) == 0)
-        && (!doom.bare || (doom.cut && !is_retired(state, doom.row)))
+        && (!doom.bare || (doom.cut && !state.is_retired(doom.row)))
 }
 
 #[tactic(auto, using(crate::proofs::Passed::passed_none, crate::proofs::Passed::passed_more, crate::proofs::Passed::passed_all))]
@@ -190,7 +187,7 @@ fn fresh_fits(state: &State, agent: u32, row: u32) -> bool
     if !out_in(state, row) {
         return false;
     }
-    !is_retired(state, row)
+    !state.is_retired(row)
         && is_used_alone(state, agent, row)
         && no_root_links(state, row)
         && no_other_row_links(state, row)
@@ -219,7 +216,7 @@ fn slot_fits(state: &State, agent: u32, slot: u32) -> bool
     requires slot { slot < 8 }
     ensures { result ≡ slot_fits state.now agent slot }
 {
-    let used = slot_of(state.agent(agent), slot);
+    let used = state.agent(agent).slot(slot);
     state.word(Word::Slot(agent, slot)) == slot_word(used) && held_row_fits(state, used)
 }
 
@@ -239,16 +236,16 @@ fn slots_fit(state: &State, agent: u32) -> bool
     requires { agent < state.now.bounds.agents }
     ensures { result ≡ slots_fit state.now agent }
 {
-    all_slots_fit(state, agent) && !is_published(slot_of(state.agent(agent), 0))
+    all_slots_fit(state, agent) && !state.agent(agent).slot(0).is_published()
 }
 
-/// Whether the row, if one is named, is held by the agent and out.
+// Whether the row, if one is named, is held by the agent and out.
 fn held_and_out(state: &State, agent: &Agent, name: Option<u32>) -> bool
     ensures { result ≡ named_passes name (λ r. any_holds agent.now.slots r && out_in state.now r) }
 {
     match name {
         None => true,
-        Some(row) => any_holds(&agent.slots, row) && out_in(state, row),
+        Some(row) => agent.holds(row) && out_in(state, row),
     }
 }
 
@@ -290,13 +287,13 @@ fn one_part_in(agent: &Agent) -> bool
 fn look_fits(state: &State, agent: &Agent, row: u32) -> bool
     ensures { result ≡ (not (nat_lt row state.now.bounds.rows) || not (saw agent.now.checked row) || not (word_in state.now (Word.Gate row) == 2 * number_of agent.now.looked) || (sequence_of (word_in state.now (Word.Counter row)) == number_of agent.now.checked)) }
 {
-    if row >= state.shape().rows() || !saw(agent.checked, row) {
+    if row >= state.shape().rows() || !agent.has_checked(row) {
         return true;
     }
     let gate = state.word(Word::Gate(row));
     gate % 2 == 1
-        || gate / 2 != number_of(agent.looked)
-        || state.word(Word::Counter(row)) / SEQUENCE == number_of(agent.checked)
+        || gate / 2 != agent.life_seen()
+        || state.word(Word::Counter(row)) / SEQUENCE == agent.sequence_seen()
 }
 
 fn looks_fit(state: &State, agent: &Agent) -> bool
@@ -314,7 +311,7 @@ fn all_slots_empty(agent: &Agent) -> bool
 {
     let mut empty = true;
     for slot in 0..8 {
-        empty &= is_empty(slot_of(agent, slot));
+        empty &= agent.slot(slot).is_empty();
     }
     empty
 }

@@ -10,23 +10,9 @@ ghost use Rattle.orc_sound.specs.Backlog.{backlog, is_listed};
 ghost use Rattle.orc_sound.specs.Linked.{held, holds_row, linked};
 ghost use Rattle.orc_sound.specs.RetirementToken.{listings, places_of, tokens};
 
-use crate::parts::{any_holds, dooming, links_to, names, scans};
+use crate::parts::{dooming, links_to};
 use orc_core::State;
-use orc_words::{RETIRED, Word};
-
-pub(crate) fn is_out(state: &State, row: u32) -> bool
-    requires { row < state.now.bounds.rows }
-    ensures { result ≡ is_out state.now row }
-{
-    state.word(Word::Gate(row)) % 2 == 1
-}
-
-pub(crate) fn is_retired(state: &State, row: u32) -> bool
-    requires { row < state.now.bounds.rows }
-    ensures { result ≡ is_retired state.now row }
-{
-    state.word(Word::Counter(row)) / RETIRED % 2 == 1
-}
+use orc_words::Word;
 
 #[tactic(auto, using(orc_core::proofs::Counted::count_none, orc_core::proofs::Counted::count_more, orc_core::proofs::Counted::count_all))]
 fn linked_from_roots(state: &State, row: u32) -> u32
@@ -40,12 +26,12 @@ fn linked_from_roots(state: &State, row: u32) -> u32
     count
 }
 
-/// Whether the row `from` is out and its link's target is the row.
+// Whether the row `from` is out and its link's target is the row.
 fn is_linked_from(state: &State, from: u32, row: u32) -> bool
     requires { from < state.now.bounds.rows }
     ensures { result ≡ (is_out state.now from && links_to (word_in state.now (Word.Next from)) row) }
 {
-    is_out(state, from) && links_to(state.word(Word::Next(from)), row)
+    state.is_out(from) && links_to(state.word(Word::Next(from)), row)
 }
 
 #[tactic(auto, using(orc_core::proofs::Counted::count_none, orc_core::proofs::Counted::count_more, orc_core::proofs::Counted::count_all))]
@@ -78,12 +64,12 @@ pub fn is_held(state: &State, row: u32) -> bool
 {
     let mut found = false;
     for agent in 0..state.shape().agents() {
-        found |= any_holds(&state.agent(agent).slots, row);
+        found |= state.agent(agent).holds(row);
     }
     found
 }
 
-/// How many entries of the agent's work list are the row.
+// How many entries of the agent's work list are the row.
 #[tactic(auto, using(crate::proofs::Found::listings_le))]
 fn listings(state: &State, agent: u32, row: u32) -> u32
     requires { agent < state.now.bounds.agents }
@@ -98,15 +84,15 @@ fn listings(state: &State, agent: u32, row: u32) -> u32
     entries as u32
 }
 
-/// How many places of an agent's record have the row.
+// How many places of an agent's record have the row.
 fn places_of(state: &State, agent: u32, row: u32) -> u32
     requires { agent < state.now.bounds.agents }
     ensures count { result ≡ places_of (record_at state.now agent) row }
     ensures few { result ≤ 65538 }
 {
     let record = state.agent(agent);
-    let hand = u32::from(names(record.hand, row));
-    let scan = u32::from(scans(record.scan, row));
+    let hand = u32::from(record.has_in_hand(row));
+    let scan = u32::from(record.scans(row));
     let doom = u32::from(dooming(record.doom, row));
     hand + scan + doom + listings(state, agent, row)
 }
@@ -159,7 +145,7 @@ pub fn tokens_of(state: &State, row: u32) -> u32
     in_records + in_handovers
 }
 
-/// Whether the agent's work list has the row.
+// Whether the agent's work list has the row.
 fn lists(state: &State, agent: u32, row: u32) -> bool
     requires { agent < state.now.bounds.agents }
     ensures { result ≡ list_any (λ q. q == row) (record_at state.now agent).list.items }
@@ -167,7 +153,7 @@ fn lists(state: &State, agent: u32, row: u32) -> bool
     listings(state, agent, row) != 0
 }
 
-/// Whether some work list has the row.
+// Whether some work list has the row.
 #[tactic(auto, using(crate::proofs::Found::found_none, crate::proofs::Found::found_more, crate::proofs::Found::found_all))]
 fn is_listed(state: &State, row: u32) -> bool
     ensures { result ≡ is_listed state.now row }
@@ -187,7 +173,7 @@ pub fn backlog_of(state: &State) -> u32
 {
     let mut count = 0;
     for row in 0..state.shape().rows() {
-        count += u32::from(is_retired(state, row) && !is_listed(state, row));
+        count += u32::from(state.is_retired(row) && !is_listed(state, row));
     }
     count
 }

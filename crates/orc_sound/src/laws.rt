@@ -1,12 +1,13 @@
 //! Laws over every lawful list of steps, from a new state of any shape on.
 
-ghost use Rattle.std.specs.Prelude.{◌≡◌, ℕ, ◌+◌, ◌*◌, ◌<◌, ◌≤◌, List, length, true};
+ghost use Rattle.std.specs.Prelude.{◌≡◌, ℕ, ◌+◌, ◌*◌, ◌<◌, ◌≤◌, ◌⊎◌, ◌↔◌, ◌++◌, List, None, length, true};
 ghost use Rattle.orc_words.specs.Packed.{bit};
 ghost use Rattle.orc_words.specs.Bounds.{Bounds, IsShape};
 ghost use Rattle.orc_core.specs.declared.ops.Op.{Op};
 ghost use Rattle.orc_core.specs.Actions.{action_of};
 ghost use Rattle.orc_core.specs.Counts.{is_out};
-ghost use Rattle.orc_core.specs.Machine.{LeavesRoom, answer, is_allowed, new_machine, record_at, step, word_read};
+ghost use Rattle.orc_core.specs.Machine.{LeavesRoom, Machine, answer, is_allowed, new_machine, record_at, step, word_read};
+ghost use Rattle.orc_core.specs.RecordParts.{names};
 ghost use Rattle.orc_core.specs.Runs.{IsLawful, run};
 ghost use Rattle.orc_sound.specs.declared.steps.Step.{Step};
 ghost use Rattle.orc_sound.specs.Backlog.{backlog};
@@ -28,6 +29,15 @@ pub fn every_journal_is_sound<N>()
         → IsLawful (new_machine b) (plain journal) }
     ensures sound { (b : Bounds) (journal : List (Step N)) → IsShape b → IsLawfulJournal (new_machine b) journal
         → IsSound (run (new_machine b) (plain journal)) }
+{}
+
+/// A journal of two parts is lawful where its first part is, and its second from the state on that the first leaves.
+pub fn journals_go_on<N>()
+    ensures steps { (first second : List (Step N)) → plain (first ++ second) ≡ plain first ++ plain second }
+    ensures states { (m : Machine) (first second : List (Step N))
+        → run m (plain (first ++ second)) ≡ run (run m (plain first)) (plain second) }
+    ensures lawful { (m : Machine) (first second : List (Step N)) → IsLawfulJournal m (first ++ second)
+        ↔ (IsLawfulJournal m first × IsLawfulJournal (run m (plain first)) second) }
 {}
 
 /// A row that is freed is out, nothing links it, nobody holds it, and no change of it is pending or due.
@@ -66,6 +76,15 @@ pub fn work_lists_have_room()
         → a < b.agents → length (record_at (run (new_machine b) steps) a).list.items ≤ b.rows }
     ensures room { (b : Bounds) (steps : List (ℕ × Op)) (a : ℕ) (op : Op) → IsShape b → IsLawful (new_machine b) steps
         → LeavesRoom (run (new_machine b) steps) a op }
+{}
+
+/// A row that came out of a handover word is one of the table's, so its scan may begin. An agent with a due row has no
+/// increment pending.
+pub fn records_are_in_order()
+    ensures hand { (b : Bounds) (steps : List (ℕ × Op)) (a r : ℕ) → IsShape b → IsLawful (new_machine b) steps
+        → names (record_at (run (new_machine b) steps) a).hand r ≡ true → r < b.rows }
+    ensures due { (b : Bounds) (steps : List (ℕ × Op)) (a : ℕ) → IsShape b → IsLawful (new_machine b) steps
+        → let d = record_at (run (new_machine b) steps) a in (d.due ≡ None) ⊎ (d.inc ≡ None) }
 {}
 
 /// No sum and no difference that a step makes of a word wraps.

@@ -11,15 +11,12 @@ ghost use Rattle.orc_sound.specs.Doomed.{dooms};
 ghost use Rattle.orc_sound.specs.Linked.{changes};
 ghost use Rattle.orc_sound.specs.NoLeak.{has_reason, keeps_out};
 
-use crate::counting::{is_held, is_out, is_retired, linked_of, tokens_of};
-use crate::parts::{changes, dooms, keeps_out, names};
-use orc_core::State;
+use crate::counting::{is_held, linked_of, tokens_of};
+use crate::parts::{changes, dooms, keeps_out};
+use orc_core::{SEQUENCE, State};
 use orc_words::{NEW_COUNTER, RETIRED, Word};
 
-/// The first bit of a sequence.
-pub(crate) const SEQUENCE: u64 = 16_777_216;
-
-/// The greatest life, and what a sequence may exceed it by.
+// The greatest life, and what a sequence may exceed it by.
 const MOST_LIVES: u64 = 549_755_813_888;
 
 const MARGIN: u64 = 524_288;
@@ -31,7 +28,7 @@ pub(crate) fn increments_of(state: &State, row: u32) -> u32
 {
     let mut count = 0;
     for agent in 0..state.shape().agents() {
-        count += u32::from(names(state.agent(agent).inc, row));
+        count += u32::from(state.agent(agent).has_increment(row));
     }
     count
 }
@@ -43,7 +40,7 @@ pub(crate) fn decrements_of(state: &State, row: u32) -> u32
 {
     let mut count = 0;
     for agent in 0..state.shape().agents() {
-        count += u32::from(names(state.agent(agent).dec, row));
+        count += u32::from(state.agent(agent).has_decrement(row));
     }
     count
 }
@@ -81,14 +78,14 @@ fn is_kept_out(state: &State, row: u32, sequence: u64) -> bool
     found
 }
 
-/// Whether the row is one of the table's, and out.
+// Whether the row is one of the table's, and out.
 pub(crate) fn out_in(state: &State, row: u32) -> bool
     ensures { result ≡ out_in state.now row }
 {
-    row < state.shape().rows() && is_out(state, row)
+    row < state.shape().rows() && state.is_out(row)
 }
 
-/// Whether a link word names no row, or one that is out.
+// Whether a link word names no row, or one that is out.
 pub(crate) fn target_fits(state: &State, word: u64) -> bool
     ensures { result ≡ target_fits state.now word }
 {
@@ -96,7 +93,7 @@ pub(crate) fn target_fits(state: &State, word: u64) -> bool
         return true;
     }
     let row = word / 2 - 1;
-    row < u64::from(state.shape().rows()) && is_out(state, row as u32)
+    row < u64::from(state.shape().rows()) && state.is_out(row as u32)
 }
 
 fn count_fits(state: &State, row: u32) -> bool
@@ -116,7 +113,7 @@ fn token_fits(state: &State, row: u32) -> bool
     requires { row < state.now.bounds.rows }
     ensures { result ≡ token_fits state.now row }
 {
-    tokens_of(state, row) == u32::from(is_retired(state, row))
+    tokens_of(state, row) == u32::from(state.is_retired(row))
 }
 
 fn range_fits(state: &State, row: u32) -> bool
@@ -127,7 +124,7 @@ fn range_fits(state: &State, row: u32) -> bool
         && state.word(Word::Gate(row)) / 2 <= MOST_LIVES
 }
 
-/// Whether nothing links the row, nobody holds it, no change of it is pending or due, and its count is 0.
+// Whether nothing links the row, nobody holds it, no change of it is pending or due, and its count is 0.
 pub(crate) fn unreachable_in(state: &State, row: u32) -> bool
     requires { row < state.now.bounds.rows }
     ensures { result ≡ unreachable_in state.now row }
@@ -143,7 +140,7 @@ fn free_fits(state: &State, row: u32) -> bool
     ensures { result ≡ free_fits state.now row }
 {
     unreachable_in(state, row)
-        && !is_retired(state, row)
+        && !state.is_retired(row)
         && state.word(Word::Next(row)) == 0
         && !is_doomed(state, row)
 }
@@ -154,7 +151,7 @@ fn has_reason(state: &State, row: u32) -> bool
 {
     let word = state.word(Word::Counter(row));
     word % RETIRED != NEW_COUNTER
-        || is_retired(state, row)
+        || state.is_retired(row)
         || is_kept_out(state, row, word / SEQUENCE)
 }
 
@@ -165,7 +162,7 @@ pub(crate) fn row_fits(state: &State, row: u32) -> bool
     if !(count_fits(state, row) && token_fits(state, row) && range_fits(state, row)) {
         return false;
     }
-    if is_out(state, row) {
+    if state.is_out(row) {
         target_fits(state, state.word(Word::Next(row))) && has_reason(state, row)
     } else {
         free_fits(state, row)

@@ -44,7 +44,7 @@ fn agents_fit(state: &State) -> bool
     fit
 }
 
-/// A record has eight slots, since its type says so.
+// A record has eight slots, since its type says so.
 fn has_eight_slots(state: &State, agent: u32)
     requires { agent < state.now.bounds.agents }
     ensures { length (record_at state.now agent).slots ≡ 8 }
@@ -53,7 +53,7 @@ fn has_eight_slots(state: &State, agent: u32)
     prove!(slots.len() == 8);
 }
 
-/// Each record has eight slots.
+// Each record has eight slots.
 fn all_have_eight_slots(state: &State)
     ensures { (a : ℕ) → a < state.now.bounds.agents → length (record_at state.now a).slots ≡ 8 }
 {

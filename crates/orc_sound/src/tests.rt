@@ -14,7 +14,7 @@ const NULL: RowLink = RowLink {
     mark: false,
 };
 
-/// Makes these steps of one agent; a step of an agent whose work list is full counts as refused.
+// Makes these steps of one agent; a step of an agent whose work list is full counts as refused.
 fn steps(state: &mut State, agent: u32, ops: &[Op]) -> Result<(), NotAllowed> {
     for op in ops {
         if !state.has_room(agent) {
@@ -25,7 +25,7 @@ fn steps(state: &mut State, agent: u32, ops: &[Op]) -> Result<(), NotAllowed> {
     Ok(())
 }
 
-/// An agent's looks at the slots of these scan places.
+// An agent's looks at the slots of these scan places.
 fn look_at_slots(state: &mut State, agent: u32, from: u32, end: u32) -> Result<(), NotAllowed> {
     for k in from..end {
         steps(state, agent, &[Op::SlotLook { k }])?;
@@ -33,7 +33,7 @@ fn look_at_slots(state: &mut State, agent: u32, from: u32, end: u32) -> Result<(
     Ok(())
 }
 
-/// Agent 0 takes a row and links it from the root of the same number.
+// Agent 0 takes a row and links it from the root of the same number.
 fn link(state: &mut State, row: u32) -> Result<(), NotAllowed> {
     let how = CounterUse::Check;
     let to = RowLink {
@@ -59,7 +59,7 @@ fn link(state: &mut State, row: u32) -> Result<(), NotAllowed> {
     )
 }
 
-/// Agent 1 holds the row in this slot, as the root of the same number shows it.
+// Agent 1 holds the row in this slot, as the root of the same number shows it.
 fn hold(state: &mut State, row: u32, slot: u32) -> Result<(), NotAllowed> {
     let place = Word::Root(row);
     let slot_to_hold = Some(slot);
@@ -77,7 +77,7 @@ fn hold(state: &mut State, row: u32, slot: u32) -> Result<(), NotAllowed> {
     )
 }
 
-/// Agent 0 takes the link out and retires the row.
+// Agent 0 takes the link out and retires the row.
 fn unlink(state: &mut State, row: u32) -> Result<(), NotAllowed> {
     let from = RowLink {
         to: Some(row),
@@ -99,7 +99,7 @@ fn unlink(state: &mut State, row: u32) -> Result<(), NotAllowed> {
     )
 }
 
-/// Agent 0 gives up its holds, and hands the row over at scan place `k`, where it finds it.
+// Agent 0 gives up its holds, and hands the row over at scan place `k`, where it finds it.
 fn hand_over(state: &mut State, row: u32, k: u32) -> Result<(), NotAllowed> {
     let how = CounterUse::Start;
     steps(
@@ -117,12 +117,12 @@ fn hand_over(state: &mut State, row: u32, k: u32) -> Result<(), NotAllowed> {
     steps(state, 0, &[Op::SlotLook { k }, Op::Hand { k }])
 }
 
-/// Agent 1 gives up this slot, and takes in what was handed over there.
+// Agent 1 gives up this slot, and takes in what was handed over there.
 fn take_in(state: &mut State, slot: u32) -> Result<(), NotAllowed> {
     steps(state, 1, &[Op::Clear { slot }, Op::TakeIn { slot }])
 }
 
-/// Agent 1 scans all slots of two agents for row 0 and frees it.
+// Agent 1 scans all slots of two agents for row 0 and frees it.
 fn scan_and_free(state: &mut State) -> Result<(), NotAllowed> {
     let row = 0;
     let start = CounterUse::Start;
@@ -141,7 +141,7 @@ fn scan_and_free(state: &mut State) -> Result<(), NotAllowed> {
     )
 }
 
-/// A new state of two agents, both enrolled.
+// A new state of two agents, both enrolled.
 fn enrolled(rt: &impl Abort, alloc: Global, rows: u32, roots: u32) -> Result<State, Fail> {
     let shape = Shape::new(rows, roots, 2, 8)?;
     let mut state = State::new(alloc, &shape)?;
@@ -151,7 +151,7 @@ fn enrolled(rt: &impl Abort, alloc: Global, rows: u32, roots: u32) -> Result<Sta
     Ok(state)
 }
 
-/// Links to row 0, whether it is held, the places that have it, and the backlog; of a sound state.
+// Links to row 0, whether it is held, the places that have it, and the backlog; of a sound state.
 fn row_0(rt: &impl Abort, state: &State) -> (u32, bool, u32, u32) {
     assert!(rt; sound(state));
     (
@@ -211,7 +211,9 @@ fn a_stopped_agent_keeps_seven_rows_of_a_bound_of_18(rt: HostRuntime) -> Result<
 
 #[test]
 fn the_laws_are_called(_rt: HostRuntime) {
+    journals_go_on::<u32>();
     every_run_is_sound();
+    records_are_in_order();
     every_journal_is_sound::<u32>();
     a_freed_row_is_unreachable();
     a_row_is_freed_once_a_life();

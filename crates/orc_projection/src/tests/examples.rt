@@ -18,7 +18,7 @@ use orc_core::{CounterUse, Op};
 use orc_heap::{Act, Place};
 use orc_words::Word;
 
-/// Row 5 is taken, then row 3, and then row 5 again.
+// Row 5 is taken, then row 3, and then row 5 again.
 fn rows_as_nodes()
     ensures first { (with_taken 5 no_ids).node 5 ≡ 0 }
     ensures second { (with_taken 3 (with_taken 5 no_ids)).node 3 ≡ 1 }
@@ -32,7 +32,7 @@ fn rows_as_nodes()
     ensures no_link { node_place (with_taken 5 no_ids) (Word.Counter 5) ≡ None }
 {}
 
-/// Word 12 links row 5, and 0 is null; row 5 is node 0.
+// Word 12 links row 5, and 0 is null; row 5 is node 0.
 fn acts()
     ensures look { load_act (with_taken 5 no_ids) 12 None (Place.Root 0) ≡ Act.Look (Place.Root 0) (record { to = Some 0; mark = false }) }
     ensures same { load_act (with_taken 5 no_ids) 12 (Some (record { to = Some 5; mark = false })) (Place.Root 0)
@@ -53,15 +53,15 @@ fn acts()
     ensures not_noted { note_on {N = ℕ} (Act.Miss (Place.Root 0) null null) (Some 7) ≡ None }
 {}
 
-/// Lists of steps that store no mark, and one that does.
+// Lists of steps that store no mark, and one that does.
 fn plain_lists()
     ensures unmarked { let steps : List (Step ℕ) = record { agent = 0; op = Op.LinkStore 5 (record { to = Some 4; mark = false }); want = None; note = None } ∷ [] in StoresUnmarked steps }
     ensures marked { let steps : List (Step ℕ) = record { agent = 0; op = Op.LinkStore 5 (record { to = Some 4; mark = true }); want = None; note = None } ∷ [] in ¬ StoresUnmarked steps }
 {}
 
-/// Agent 0 links row 0 from the root and unlinks it while agent 1 holds it; its scan hands the row over to
-/// agent 1, which frees it. It makes no difference to the heap whether agent 1 lets the row go before or after
-/// the handover. If agent 0 then takes the row again, it is node 1.
+// Agent 0 links row 0 from the root and unlinks it while agent 1 holds it; its scan hands the row over to
+// agent 1, which frees it. It makes no difference to the heap whether agent 1 lets the row go before or after
+// the handover. If agent 0 then takes the row again, it is node 1.
 fn rows_that_are_handed_over()
     ensures events { let b : Bounds = record { rows = 2; roots = 1; agents = 2; limit = 8 } in
         let none : RowLink = record { to = None; mark = false } in
@@ -91,7 +91,7 @@ fn rows_that_are_handed_over()
         ≡ record { nodes = record { giver = 0; first = None; second = None; link = null; named = true; linked = true } ∷ []; roots = null ∷ [] }) }
 {}
 
-/// A load that finds the link that it wants has its note, and one that finds another link has none.
+// A load that finds the link that it wants has its note, and one that finds another link has none.
 fn notes()
     ensures { let steps : List (Step ℕ) = record { agent = 0; op = Op.Enroll; want = None; note = None }
         ∷ record { agent = 0; op = Op.LinkLoad (Word.Root 0) None; want = Some (record { to = None; mark = false }); note = Some 7 }
@@ -101,7 +101,7 @@ fn notes()
         ∷ record { agent = 0; act = Act.Miss (Place.Root 0) (record { to = None; mark = true }) null; note = None } ∷ [] }
 {}
 
-/// A new state shows the new heap, and no heap with a marked root.
+// A new state shows the new heap, and no heap with a marked root.
 fn mirrors()
     ensures new { let b : Bounds = record { rows = 2; roots = 1; agents = 1; limit = 8 } in Mirrors (new_machine b) no_ids (new_heap (numbers_of b)) }
     ensures marked { let b : Bounds = record { rows = 2; roots = 1; agents = 1; limit = 8 } in

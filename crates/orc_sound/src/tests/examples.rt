@@ -25,7 +25,7 @@ ghost use Rattle.orc_sound.specs.SoundParts.{slot_word};
 ghost use Rattle.orc_sound.specs.QuietScan.{is_linked_anew};
 ghost use Rattle.orc_sound.specs.RetirementToken.{dooming, tokens};
 
-/// Row 0 is taken, held in slot 1 and linked from root 0, and that link isn't counted yet.
+// Row 0 is taken, held in slot 1 and linked from root 0, and that link isn't counted yet.
 fn a_link_that_is_not_counted_yet()
     ensures linked { let m = run (new_machine (record { rows = 2; roots = 1; agents = 1; limit = 8 })) ((0, Op.Enroll) ∷ (0, Op.GateLook 0) ∷ (0, Op.CounterLoad 0 CounterUse.Check) ∷ (0, Op.GateTake 0) ∷ (0, Op.Publish 1 0) ∷ (0, Op.CounterLoad 0 CounterUse.Check) ∷ (0, Op.LinkCas (Word.Root 0) (record { to = None; mark = false }) (record { to = Some 0; mark = false })) ∷ []) in
         (linked m 0 ≡ 1) × (increments m 0 ≡ 1) × (decrements m 0 ≡ 0) × ((counter_of (word_in m (Word.Counter 0))).count ≡ pos 0) }
@@ -33,7 +33,7 @@ fn a_link_that_is_not_counted_yet()
         (held m 0 ≡ true) × (held m 1 ≡ false) × (is_linked_anew m 0 1 ≡ true) × (is_linked_anew m 0 2 ≡ false) × (has_reason m 0 ≡ true) × (has_reason m 1 ≡ false) }
 {}
 
-/// Row 0 is taken and retired: first it waits in the work list, then it is scanned.
+// Row 0 is taken and retired: first it waits in the work list, then it is scanned.
 fn a_retired_row()
     ensures listed { let m = run (new_machine (record { rows = 2; roots = 1; agents = 1; limit = 8 })) ((0, Op.Enroll) ∷ (0, Op.GateLook 0) ∷ (0, Op.CounterLoad 0 CounterUse.Check) ∷ (0, Op.GateTake 0) ∷ (0, Op.SetRetired 0 0) ∷ []) in
         (tokens m 0 ≡ 1) × (is_listed m 0 ≡ true) × (backlog m ≡ 0) × (tokens m 1 ≡ 0) }
@@ -43,7 +43,7 @@ fn a_retired_row()
     ensures freed { times_freed ((0, Op.Free 0) ∷ (1, Op.Free 1) ∷ (0, Op.Free 0) ∷ []) 0 ≡ 2 }
 {}
 
-/// Parts of a record, and slot words.
+// Parts of a record, and slot words.
 fn parts_of_a_record()
     ensures doom { (dooms (Some (record { row = 3; cut = false; bare = false })) 3 ≡ true) × (dooms (Some (record { row = 3; cut = false; bare = false })) 4 ≡ false) × (dooms_cut (Some (record { row = 3; cut = false; bare = false })) 3 ≡ false) }
     ensures bare { (dooming (Some (record { row = 3; cut = true; bare = false })) 3 ≡ true) × (dooming (Some (record { row = 3; cut = true; bare = true })) 3 ≡ false) }
@@ -52,7 +52,7 @@ fn parts_of_a_record()
     ensures sums { (NoWrap (Operation.Sub 1) 1) × ¬ (NoWrap (Operation.Sub 1) 0) }
 {}
 
-/// The tests that a state is sound by, and the steps of a journal.
+// The tests that a state is sound by, and the steps of a journal.
 fn tests_and_journals()
     ensures numbers { (all_below 3 (λ n. nat_lt n 3) ≡ true) × (all_below 4 (λ n. nat_lt n 3) ≡ false) }
     ensures names { (named_passes None (λ n. false) ≡ true) × (named_passes (Some 2) (λ n. n == 3) ≡ false) × (row_held (SlotUse.Published 4) ≡ None) × (row_held (SlotUse.Held 4) ≡ Some 4) }
@@ -61,8 +61,8 @@ fn tests_and_journals()
     ensures journal { plain {N = ℕ} (record { agent = 1; op = Op.Free 3; want = None; note = Some 7 } ∷ []) ≡ (1, Op.Free 3) ∷ [] }
 {}
 
-/// States made by hand: three that are sound, and thirteen that break one part each. `state` takes the words of root
-/// 0, and of row 0 its gate, counter and link, then the word of slot 1, and the record of the one agent.
+// States made by hand: three that are sound, and thirteen that break one part each. `state` takes the words of root
+// 0, and of row 0 its gate, counter and link, then the word of slot 1, and the record of the one agent.
 fn states_with_one_part_broken()
     ensures one_by_one { let state : ℕ → ℕ → ℕ → ℕ → ℕ → Agent → Machine = λ root gate counter next slot d. record {
       bounds = record { rows = 2; roots = 1; agents = 1; limit = 8 };
