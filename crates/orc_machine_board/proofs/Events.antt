@@ -35,21 +35,25 @@ use Rattle.orc_words.specs.declared.packed.RowLink.{RowLink}
 
 module _ {N : Type 0} where
   -- there is one event or none
-  one_event : (s : Step N) (o : Option Act) (P : Event N → Type 0) → (((act : Act) → o ≡ Some act → P (record { agent = s.agent; act = act; note = note_on act s.note }))) → Each P (events_of s o)
+  one_event : (s : Step N) (o : Option Act) (P : Event N → Type 0)
+      → (((act : Act) → o ≡ Some act → P (record { agent = s.agent; act = act; note = note_on act s.note }))) → Each P (events_of s o)
   one_event s None P h = tt
   one_event s (Some act) P h = h act refl
 
-  each_from : (n : HeapNumbers) (past : List (Event N)) (s : Step N) (o : Option Act) → IsLawfulFrom (run_heap n past) (events_of s o) → Each (FitsAfter n past) (events_of s o)
+  each_from : (n : HeapNumbers) (past : List (Event N)) (s : Step N) (o : Option Act) → IsLawfulFrom (run_heap n past) (events_of s o)
+      → Each (FitsAfter n past) (events_of s o)
   each_from n past s None l = tt
   each_from n past s (Some act) l = l.0
 
   -- the event of a lawful journal's last step fits
-  pub event_fits : (b : Bounds) (j : List (Step N)) (s : Step N) → IsShape b → IsLawfulJournal (new_machine b) (j ++ s ∷ []) → StoresUnmarked (j ++ s ∷ []) → Each (FitsAfter (numbers_of b) (project b j)) (events_after b j s)
+  pub event_fits : (b : Bounds) (j : List (Step N)) (s : Step N) → IsShape b → IsLawfulJournal (new_machine b) (j ++ s ∷ []) → StoresUnmarked (j ++ s ∷ [])
+      → Each (FitsAfter (numbers_of b) (project b j)) (events_after b j s)
   event_fits b j s shape l p =
       let n = numbers_of b in
       let whole : IsLawful n (project b (j ++ s ∷ [])) = projection_lawful b (j ++ s ∷ []) shape l p in
       let parts : project b (j ++ s ∷ []) ≡ project b j ++ (events_after b j s ++ []) = project-append (new_machine b) no_ids j (s ∷ []) in
-      let last : IsLawfulFrom (run_heap n (project b j)) (events_after b j s ++ []) = lawful-right (new_heap n) (project b j) (events_after b j s ++ []) (subst (IsLawful n) parts whole) in
+      let last : IsLawfulFrom (run_heap n (project b j)) (events_after b j s ++ []) = lawful-right (new_heap n) (project b j) (events_after b j s ++ [])
+          (subst (IsLawful n) parts whole) in
       each_from n (project b j) s _ (subst (IsLawfulFrom (run_heap n (project b j))) (append-nil (events_after b j s)) last)
 
 -- acts that are plain, and have no note where none is said
@@ -70,7 +74,8 @@ plain_choice false x y p q = q
 plain_load : (p : PresentIds) (w : ℕ) (want : Option RowLink) (o : Option Place) → PlainAct (option_map (load_act p w want) o)
 plain_load p w want None = tt
 plain_load p w None (Some place) = tt
-plain_load p w (Some k) (Some place) = plain_choice (w == link_word k) (Look place (node_link p (link_of w))) (Miss place (node_link p k) (node_link p (link_of w))) tt tt
+plain_load p w (Some k) (Some place) = plain_choice (w == link_word k) (Look place (node_link p (link_of w)))
+    (Miss place (node_link p k) (node_link p (link_of w))) tt tt
 
 plain_act : (p : PresentIds) (d : Agent) (w : ℕ) (op : Op) (want : Option RowLink) → is_plain_kind op ≡ true → PlainAct (act_of p d w op want)
 plain_act p d w Enroll want e = tt
@@ -99,7 +104,8 @@ module _ {N : Type 0} where
   -- a plain kind's event is allowed in every later journal
   pub plain_licensed : (k : MachineShape N) (holds : List (Event N) → Type 0) (may : List (Event N) → Event N → Type 0)
       → ((past : List (Event N)) (e : Event N) → holds past → FitsAfter (heap_numbers k) past e → IsPlainEvent e → may past e)
-      → (v : View (Step N) Agent) (a : ℕ) (q : Request) → is_plain_kind q.op ≡ true → RequestAllowed (bounds_in k) a q v.own → Licensed counted_rules k holds may v a q None
+      → (v : View (Step N) Agent) (a : ℕ) (q : Request) → is_plain_kind q.op ≡ true → RequestAllowed (bounds_in k) a q v.own
+      → Licensed counted_rules k holds may v a q None
   plain_licensed k holds may law v a q plain can between none later =
       let b = bounds_in k in
       let j = v.seen ++ between in
@@ -108,10 +114,12 @@ module _ {N : Type 0} where
       let d : Agent = record_at (run_of b j) a in
       let w : ℕ = word_read (run_of b j) a q.op in
       let l = (counted_obeys k).lawful_next j a q None later.lawful (subst (RequestAllowed b a q) (sym later.mine) can) in
-      each_both (events_after b j s) (λ e fits is. law (project b j) e later.kept fits is) (event_fits b j s (in_range k.shape) l.0 l.1) (plain_event s (act_of ids d w q.op q.want) refl (plain_act ids d w q.op q.want plain))
+      each_both (events_after b j s) (λ e fits is. law (project b j) e later.kept fits is) (event_fits b j s (in_range k.shape) l.0 l.1)
+          (plain_event s (act_of ids d w q.op q.want) refl (plain_act ids d w q.op q.want plain))
 
 -- what a plain kind's step needs besides its permission
-pub plain_allowed : (b : Bounds) (a : ℕ) (op : Op) (want : Option RowLink) (d : Agent) → is_plain_kind op ≡ true → IsWanted d op want → (IsPlainOp op) × (is_enroll op ≡ false)
+pub plain_allowed : (b : Bounds) (a : ℕ) (op : Op) (want : Option RowLink) (d : Agent) → is_plain_kind op ≡ true → IsWanted d op want
+    → (IsPlainOp op) × (is_enroll op ≡ false)
 plain_allowed b a Enroll want d e w = absurd (false≢true e)
 plain_allowed b a (GateLook r) want d e w = (tt, refl)
 plain_allowed b a (GateTake r) want d e w = (tt, refl)

@@ -9,3 +9,4 @@ pub mod Making
 pub mod Opening
 pub mod Playing
 pub mod Recordable
+pub mod TookIn

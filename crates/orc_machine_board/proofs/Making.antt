@@ -46,7 +46,8 @@ room_of k holds may v a kept =
     let there : a < length (run_of b v.seen).agents = subst (λ n. a < n) (sym (long_run b v.seen (in_range k.shape))) kept.number in
     ap (λ (d : Agent). d.list.room) (sym kept.now.mine) ∙ (whole.rooms a there ∙ ap (λ (c : Bounds). c.rows) (bounds_run b v.seen))
 
-module _ {N : Type 0} (k : MachineShape N) (holds : List (Event N) → Type 0) (may : List (Event N) → Event N → Type 0) (q : Request) (note : Option N) (v w : View (Step N) Agent) (n a : ℕ) where
+module _ {N : Type 0} (k : MachineShape N) (holds : List (Event N) → Type 0) (may : List (Event N) → Event N → Type 0) (q : Request) (note : Option N)
+    (v w : View (Step N) Agent) (n a : ℕ) where
   same_agent : Keeps k holds may v a → (e : Extends counted_rules k holds may q note v n w) → e.agent ≡ a
   same_agent kept e = one_number v.agent a e.agent kept.is e.is
 

@@ -28,13 +28,13 @@ use Rattle.orc_heap.specs.Allowed.{AllAllowed}
 use Rattle.orc_heap.specs.Acts.{with_value}
 use Rattle.orc_heap.specs.Heap.{new_node}
 use Rattle.orc_heap.specs.declared.events.Act.TheVariants as act
-use Rattle.orc_machine_board.specs.Laws.{in_range, plain-append}
+use Rattle.orc_machine_board.specs.Laws.{in_range}
 use Rattle.orc_core.specs.Runs.{IsLawful}
 use Rattle.orc_machine_board.specs.Plays.{GoesOn}
 use Rattle.orc_machine_board.specs.Views.{Keeps}
 use Rattle.orc_shared_words.proofs.LaterJournals.{new_pass_later}
 use Rattle.orc_shared_words.specs.declared.journal.View.{View}
-use Rattle.orc_sound.proofs.Journals.{plain_lawful}
+use Rattle.orc_sound.proofs.Journals.{IsLawfulJournal-append, plain-append, plain_lawful}
 use Rattle.orc_words.specs.Bounds.{bounds_of}
 use Rattle.orc_words.specs.declared.shape.Shape.{Shape}
 use Rattle.orc_machine_board.specs.Rules.{bounds_in, counted_rules, heap_numbers}
@@ -85,14 +85,19 @@ one_more b n lt few = λ i. record { memory = λ w. words w i; seats = λ x. rec
     low : (n + 1) % 18446744073709551616 ≡ suc n
     low = omega arith
 
-    words : (w : Word) → write (write (world_of (new_machine b)).memory Enrolled n) Enrolled ((n + 1) % 18446744073709551616) w ≡ write (world_of (new_machine b)).memory Enrolled (suc n) w
-    words w = twice (same_word w Enrolled) ((n + 1) % 18446744073709551616) n ((world_of (new_machine b)).memory w) ∙ ap (λ v. cond (same_word w Enrolled) v ((world_of (new_machine b)).memory w)) low
+    words : (w : Word) → write (write (world_of (new_machine b)).memory Enrolled n) Enrolled ((n + 1) % 18446744073709551616) w ≡ write
+        (world_of (new_machine b)).memory Enrolled (suc n) w
+    words w = twice (same_word w Enrolled) ((n + 1) % 18446744073709551616) n ((world_of (new_machine b)).memory w)
+        ∙ ap (λ v. cond (same_word w Enrolled) v ((world_of (new_machine b)).memory w)) low
 
     not_yet : nat_lt n n ≡ false
     not_yet = grind arith
 
-    choose : (x : ℕ) (t : Bool) → (x == n) ≡ t → cond t (record (cond (nat_lt n n) (newcomer b.rows) (nobody b.rows)) { enrolled = true }) (cond (nat_lt x n) (newcomer b.rows) (nobody b.rows)) ≡ cond (nat_lt x (suc n)) (newcomer b.rows) (nobody b.rows)
-    choose x true e = ap (λ (t : Bool). record (cond t (newcomer b.rows) (nobody b.rows)) { enrolled = true }) not_yet ∙ ap (λ (t : Bool). cond t (newcomer b.rows) (nobody b.rows)) (sym (lt-ltb x (suc n) (let k = eqb-true x n e in omega arith)))
+    choose : (x : ℕ) (t : Bool) → (x == n) ≡ t
+        → cond t (record (cond (nat_lt n n) (newcomer b.rows) (nobody b.rows)) { enrolled = true })
+        (cond (nat_lt x n) (newcomer b.rows) (nobody b.rows)) ≡ cond (nat_lt x (suc n)) (newcomer b.rows) (nobody b.rows)
+    choose x true e = ap (λ (t : Bool). record (cond t (newcomer b.rows) (nobody b.rows)) { enrolled = true }) not_yet
+        ∙ ap (λ (t : Bool). cond t (newcomer b.rows) (nobody b.rows)) (sym (lt-ltb x (suc n) (let k = eqb-true x n e in omega arith)))
     choose x false e = ap (λ (t : Bool). cond t (newcomer b.rows) (nobody b.rows)) (same x e)
       where
         same : (x : ℕ) → (x == n) ≡ false → nat_lt x n ≡ nat_lt x (suc n)
@@ -102,7 +107,8 @@ one_more b n lt few = λ i. record { memory = λ w. words w i; seats = λ x. rec
     records x = choose x (x == n) refl
 
 none_yet : (b : Bounds) → world_of (new_machine b) ≡ enrolled b 0
-none_yet b = λ i. record { memory = sym (write_same (world_of (new_machine b)).memory Enrolled 0 (zero_first b Enrolled refl)) i; seats = λ a. (seats_first b a ∙ first a) i }
+none_yet b = λ i. record { memory = sym
+    (write_same (world_of (new_machine b)).memory Enrolled 0 (zero_first b Enrolled refl)) i; seats = λ a. (seats_first b a ∙ first a) i }
   where
     first : (a : ℕ) → nobody b.rows ≡ cond (nat_lt a 0) (newcomer b.rows) (nobody b.rows)
     first a = ap (λ (t : Bool). cond t (newcomer b.rows) (nobody b.rows)) (none a)
@@ -127,26 +133,30 @@ is_ready : (b : Bounds) → 0 < b.rows → 0 < b.agents → enrolled b b.agents 
 is_ready b rows agents =
     let m = (enrolled b b.agents).memory in
     let w1 : write m (Gate 0) 0 ≡ m = write_same m (Gate 0) 0 (zero_first b (Gate 0) refl) in
-    let w2 : write (write m (Gate 0) 0) (Counter 0) 4194304 ≡ m = ap (λ z. write z (Counter 0) 4194304) w1 ∙ write_same m (Counter 0) 4194304 (counter_first b 0 rows) in
-    let w3 : write (write (write m (Gate 0) 0) (Counter 0) 4194304) (Root 0) 0 ≡ m = ap (λ z. write z (Root 0) 0) w2 ∙ write_same m (Root 0) 0 (zero_first b (Root 0) refl) in
-    let w4 : write (write (write (write m (Gate 0) 0) (Counter 0) 4194304) (Root 0) 0) (Root 1) 0 ≡ m = ap (λ z. write z (Root 1) 0) w3 ∙ write_same m (Root 1) 0 (zero_first b (Root 1) refl) in
-    let w5 : write (write (write (write (write m (Gate 0) 0) (Counter 0) 4194304) (Root 0) 0) (Root 1) 0) (Handover 0 1) 0 ≡ m = ap (λ z. write z (Handover 0 1) 0) w4 ∙ write_same m (Handover 0 1) 0 (zero_first b (Handover 0 1) refl) in
-    let seats : seat (enrolled b b.agents).seats 0 (newcomer b.rows) ≡ (enrolled b b.agents).seats = seat_same (enrolled b b.agents).seats 0 (newcomer b.rows) (ap (λ (t : Bool). cond t (newcomer b.rows) (nobody b.rows)) (lt-ltb 0 b.agents agents)) in
+    let w2 : write (write m (Gate 0) 0) (Counter 0) 4194304 ≡ m = ap (λ z. write z (Counter 0) 4194304) w1
+        ∙ write_same m (Counter 0) 4194304 (counter_first b 0 rows) in
+    let w3 : write (write (write m (Gate 0) 0) (Counter 0) 4194304) (Root 0) 0 ≡ m = ap (λ z. write z (Root 0) 0) w2
+        ∙ write_same m (Root 0) 0 (zero_first b (Root 0) refl) in
+    let w4 : write (write (write (write m (Gate 0) 0) (Counter 0) 4194304) (Root 0) 0) (Root 1) 0 ≡ m = ap (λ z. write z (Root 1) 0) w3
+        ∙ write_same m (Root 1) 0 (zero_first b (Root 1) refl) in
+    let w5 : write (write (write (write (write m (Gate 0) 0) (Counter 0) 4194304) (Root 0) 0) (Root 1) 0) (Handover 0 1) 0 ≡ m = ap
+        (λ z. write z (Handover 0 1) 0) w4 ∙ write_same m (Handover 0 1) 0 (zero_first b (Handover 0 1) refl) in
+    let seats : seat (enrolled b b.agents).seats 0 (newcomer b.rows) ≡ (enrolled b b.agents).seats = seat_same (enrolled b b.agents).seats 0
+        (newcomer b.rows) (ap (λ (t : Bool). cond t (newcomer b.rows) (nobody b.rows)) (lt-ltb 0 b.agents agents)) in
     λ i. record { memory = sym w5 i; seats = sym seats i }
 
 module _ {N : Type 0} where
   -- lawful, and projected, by the state as functions
   abbrev LawfulSteps : Bounds → World → List (Step N) → Type 0
   LawfulSteps b z [] = Unit {0}
-  LawfulSteps b z (s ∷ ss) = (may b (z.memory Enrolled) s.agent s.op (z.seats s.agent) ≡ true) × IsWanted (z.seats s.agent) s.op s.want × LawfulSteps b (step_world z s.agent s.op) ss
+  LawfulSteps b z (s ∷ ss) = (may b (z.memory Enrolled) s.agent s.op (z.seats s.agent) ≡ true) × IsWanted (z.seats s.agent) s.op s.want × LawfulSteps b
+      (step_world z s.agent s.op) ss
 
   steps_lawful : (m : Machine) (ss : List (Step N)) → Full m → LawfulSteps m.bounds (world_of m) ss → IsLawfulJournal m ss
   steps_lawful m [] w l = tt
-  steps_lawful m (s ∷ ss) w l = (l.0, l.1, steps_lawful (step m s.agent s.op) ss (full_step m s.agent s.op w) (subst (λ z. LawfulSteps m.bounds z ss) (sym (world_step m s.agent s.op w.words w.agents l.0)) l.2))
-
-  lawful_join : (m : Machine) (xs ys : List (Step N)) → IsLawfulJournal m xs → IsLawfulJournal (run m (plain xs)) ys → IsLawfulJournal m (xs ++ ys)
-  lawful_join m [] ys p q = q
-  lawful_join m (x ∷ xs) ys p q = (p.0, p.1, lawful_join (step m x.agent x.op) xs ys p.2 q)
+  steps_lawful m (s ∷ ss) w l =
+      (l.0, l.1, steps_lawful (step m s.agent s.op) ss (full_step m s.agent s.op w)
+      (subst (λ z. LawfulSteps m.bounds z ss) (sym (world_step m s.agent s.op w.words w.agents l.0)) l.2))
 
   pub all_enroll : (b : Bounds) (n : ℕ) → IsShape b → n ≤ b.agents → EnrolledAll N b n
   all_enroll b zero shape le = record { lawful = tt; world = none_yet b; full = full_first b shape }
@@ -156,12 +166,15 @@ module _ {N : Type 0} where
       let few = shape.agents.1 in
       let lt : n < b.agents = omega arith in
       let new : may b n n Enroll (cond (nat_lt n n) (newcomer b.rows) (nobody b.rows)) ≡ true = may_enroll b n lt in
-      let there : may b ((world_of m).memory Enrolled) n Enroll ((world_of m).seats n) ≡ true = subst (λ (z : World). may b (z.memory Enrolled) n Enroll (z.seats n) ≡ true) (sym before.world) new in
-      let can : is_allowed m n Enroll ≡ true = subst (λ (c : Bounds). may c (word_in m Enrolled) n Enroll (record_at m n) ≡ true) (sym (bounds_run b (enrolments {N = N} n))) there in
+      let there : may b ((world_of m).memory Enrolled) n Enroll ((world_of m).seats n) ≡ true = subst
+          (λ (z : World). may b (z.memory Enrolled) n Enroll (z.seats n) ≡ true) (sym before.world) new in
+      let can : is_allowed m n Enroll ≡ true = subst (λ (c : Bounds). may c (word_in m Enrolled) n Enroll (record_at m n) ≡ true)
+          (sym (bounds_run b (enrolments {N = N} n))) there in
       let next = run_next b (enrolments {N = N} n) (does n Enroll None) in
       record {
-        lawful = lawful_join (new_machine b) (enrolments {N = N} n) (does n Enroll None ∷ []) before.lawful (can, tt, tt);
-        world = ap world_of next ∙ (world_step m n Enroll before.full.words before.full.agents can ∙ (ap (λ z. step_world z n Enroll) before.world ∙ one_more b n lt few));
+        lawful = (IsLawfulJournal-append (new_machine b) (enrolments {N = N} n) (does n Enroll None ∷ [])).1 (before.lawful, (can, tt, tt));
+        world = ap world_of next
+            ∙ (world_step m n Enroll before.full.words before.full.agents can ∙ (ap (λ z. step_world z n Enroll) before.world ∙ one_more b n lt few));
         full = subst Full (sym next) (full_step m n Enroll before.full);
       }
     where
@@ -190,31 +203,45 @@ module _ {N : Type 0} where
       let t4 = lt-ltb 1 b.roots two in
       let t5 = lt-ltb 1 (b.limit + 64) more in
       let t6 = lt-ltb 0 (b.limit + 64) more0 in
-      (rw (t0, t1) refl, tt, (rw (t0, t1) refl, tt, (rw (t0, t1, t2) refl, tt, (rw (t0, t1) refl, tt, (rw (t0, t1) refl, tt, (rw (t0, t1) refl, tt, (rw (t0, t1) refl, tt, (rw (t0, t1, t3, t6) refl, tt, (rw (t0, t1) refl, tt, (rw (t0, t1) refl, tt, (rw (t0, t1, t4, t5) refl, tt, (rw (t0, t1) refl, tt, (rw t1 refl, tt, (rw t1 refl, tt, tt))))))))))))))
+      (rw (t0, t1) refl, tt,
+      (rw (t0, t1) refl, tt,
+      (rw (t0, t1, t2) refl, tt,
+      (rw (t0, t1) refl, tt,
+      (rw (t0, t1) refl, tt,
+      (rw (t0, t1) refl, tt,
+      (rw (t0, t1) refl, tt,
+      (rw (t0, t1, t3, t6) refl, tt,
+      (rw (t0, t1) refl, tt, (rw (t0, t1) refl, tt, (rw (t0, t1, t4, t5) refl, tt, (rw (t0, t1) refl, tt, (rw t1 refl, tt, (rw t1 refl, tt, tt))))))))))))))
 
-  pub opening_lawful : (b : Bounds) (seed : Seed N) → IsShape b → HasRoots (numbers_of b) seed → IsLawfulJournal (new_machine b) (machine_opening b.agents seed)
+  pub opening_lawful : (b : Bounds) (seed : Seed N) → IsShape b → HasRoots (numbers_of b) seed
+      → IsLawfulJournal (new_machine b) (machine_opening b.agents seed)
   opening_lawful b seed shape roots =
       let all = all_enroll b b.agents shape (omega arith) in
       let m = run_of b (enrolments {N = N} b.agents) in
       let rows : 0 < b.rows = let r = shape.rows.0 in omega arith in
       let agents : 0 < b.agents = let r = shape.agents.0 in omega arith in
       let world : world_of m ≡ ready b = all.world ∙ is_ready b rows agents in
-      let steps : LawfulSteps m.bounds (world_of m) (seeding seed) = subst (λ (c : Bounds). LawfulSteps c (world_of m) (seeding seed)) (sym (bounds_run b (enrolments {N = N} b.agents))) (subst (λ z. LawfulSteps b z (seeding seed)) (sym world) (seed_lawful b seed shape roots)) in
-      lawful_join (new_machine b) (enrolments {N = N} b.agents) (seeding seed) all.lawful (steps_lawful m (seeding seed) all.full steps)
+      let steps : LawfulSteps m.bounds (world_of m) (seeding seed) = subst (λ (c : Bounds). LawfulSteps c (world_of m) (seeding seed))
+          (sym (bounds_run b (enrolments {N = N} b.agents))) (subst (λ z. LawfulSteps b z (seeding seed)) (sym world) (seed_lawful b seed shape roots)) in
+      (IsLawfulJournal-append (new_machine b) (enrolments {N = N} b.agents) (seeding seed)).1 (all.lawful, steps_lawful m (seeding seed) all.full steps)
 
   -- the events of steps, by the state as functions
   abbrev project_world : World → PresentIds → List (Step N) → List (Event N)
   project_world z p [] = []
-  project_world z p (s ∷ ss) = events_of s (act_of p (z.seats s.agent) (read_by z s.agent s.op) s.op s.want) ++ project_world (step_world z s.agent s.op) (ids_after p (z.seats s.agent) (read_by z s.agent s.op) s.op) ss
+  project_world z p (s ∷ ss) = events_of s (act_of p (z.seats s.agent) (read_by z s.agent s.op) s.op s.want) ++ project_world (step_world z s.agent s.op)
+      (ids_after p (z.seats s.agent) (read_by z s.agent s.op) s.op) ss
 
-  steps_project : (m : Machine) (p : PresentIds) (ss : List (Step N)) → Full m → LawfulSteps m.bounds (world_of m) ss → project_from m p ss ≡ project_world (world_of m) p ss
+  steps_project : (m : Machine) (p : PresentIds) (ss : List (Step N)) → Full m → LawfulSteps m.bounds (world_of m) ss
+      → project_from m p ss ≡ project_world (world_of m) p ss
   steps_project m p [] w l = refl
   steps_project m p (s ∷ ss) w l =
       let next = world_step m s.agent s.op w.words w.agents l.0 in
-      let read : read_by (world_of m) s.agent s.op ≡ word_read m s.agent s.op = word_shown m (action_of s.agent s.op (record_at m s.agent)).word (may_within m.bounds _ s.agent s.op (record_at m s.agent) l.0) in
+      let read : read_by (world_of m) s.agent s.op ≡ word_read m s.agent s.op = word_shown m (action_of s.agent s.op (record_at m s.agent)).word
+          (may_within m.bounds _ s.agent s.op (record_at m s.agent) l.0) in
       let v = word_read m s.agent s.op in
       let d = record_at m s.agent in
-      let rest = steps_project (step m s.agent s.op) (ids_after p d v s.op) ss (full_step m s.agent s.op w) (subst (λ z. LawfulSteps m.bounds z ss) (sym next) l.2) in
+      let rest = steps_project (step m s.agent s.op) (ids_after p d v s.op) ss (full_step m s.agent s.op w)
+          (subst (λ z. LawfulSteps m.bounds z ss) (sym next) l.2) in
       ap (λ es. events_of s (act_of p d v s.op s.want) ++ es) (rest ∙ ap (λ z. project_world z (ids_after p d v s.op) ss) next)
       ∙ ap (λ x. events_of s (act_of p d x s.op s.want) ++ project_world (step_world (world_of m) s.agent s.op) (ids_after p d x s.op) ss) (sym read)
 
@@ -231,17 +258,20 @@ module _ {N : Type 0} where
         ids-append m p (enrolments n) (does n Enroll None ∷ []) ∙ before.1,
       )
 
-  pub opened_events : (b : Bounds) (seed : Seed N) → IsShape b → HasRoots (numbers_of b) seed → project b (machine_opening b.agents seed) ≡ opening_events seed
+  pub opened_events : (b : Bounds) (seed : Seed N) → IsShape b → HasRoots (numbers_of b) seed
+      → project b (machine_opening b.agents seed) ≡ opening_events seed
   opened_events b seed shape roots =
       let all = all_enroll b b.agents shape (omega arith) in
       let m = run_of b (enrolments {N = N} b.agents) in
       let rows : 0 < b.rows = let r = shape.rows.0 in omega arith in
       let agents : 0 < b.agents = let r = shape.agents.0 in omega arith in
       let world : world_of m ≡ ready b = all.world ∙ is_ready b rows agents in
-      let steps : LawfulSteps m.bounds (world_of m) (seeding seed) = subst (λ (c : Bounds). LawfulSteps c (world_of m) (seeding seed)) (sym (bounds_run b (enrolments {N = N} b.agents))) (subst (λ z. LawfulSteps b z (seeding seed)) (sym world) (seed_lawful b seed shape roots)) in
+      let steps : LawfulSteps m.bounds (world_of m) (seeding seed) = subst (λ (c : Bounds). LawfulSteps c (world_of m) (seeding seed))
+          (sym (bounds_run b (enrolments {N = N} b.agents))) (subst (λ z. LawfulSteps b z (seeding seed)) (sym world) (seed_lawful b seed shape roots)) in
       let quiet = quiet_enrolments (new_machine b) no_ids b.agents in
       project-append (new_machine b) no_ids (enrolments b.agents) (seeding seed)
-      ∙ ((λ i. quiet.0 i ++ project_from m (quiet.1 i) (seeding seed)) ∙ (steps_project m no_ids (seeding seed) all.full steps ∙ (ap (λ z. project_world z no_ids (seeding seed)) world ∙ seed_events b seed)))
+      ∙ ((λ i. quiet.0 i ++ project_from m (quiet.1 i) (seeding seed))
+      ∙ (steps_project m no_ids (seeding seed) all.full steps ∙ (ap (λ z. project_world z no_ids (seeding seed)) world ∙ seed_events b seed)))
 
   plain_seeding : (seed : Seed N) → StoresUnmarked (seeding seed)
   plain_seeding Empty = tt
@@ -249,7 +279,8 @@ module _ {N : Type 0} where
 
   plain_enrolments : (n : ℕ) (more : List (Step N)) → StoresUnmarked more → StoresUnmarked (enrolments n ++ more)
   plain_enrolments zero more p = p
-  plain_enrolments (suc n) more p = subst StoresUnmarked (sym (append_assoc (enrolments n) (does n Enroll None ∷ []) more)) (plain_enrolments n (does n Enroll None ∷ more) (tt, p))
+  plain_enrolments (suc n) more p = subst StoresUnmarked (sym (append_assoc (enrolments n) (does n Enroll None ∷ []) more))
+      (plain_enrolments n (does n Enroll None ∷ more) (tt, p))
 
   pub opening_plain : (n : ℕ) (seed : Seed N) → StoresUnmarked (machine_opening n seed)
   opening_plain n seed = plain_enrolments n (seeding seed) (plain_seeding seed)
@@ -258,9 +289,11 @@ module _ {N : Type 0} where
   below_seeding n Empty lt = tt
   below_seeding n (Dummy first begin) lt = (lt, (lt, (lt, (lt, (lt, (lt, (lt, (lt, (lt, (lt, (lt, (lt, (lt, (lt, tt))))))))))))))
 
-  below_enrolments : (n m : ℕ) (more : List (Step N)) → m ≤ n → AgentsBelow (λ (s : Step N). s.agent) n more → AgentsBelow (λ (s : Step N). s.agent) n (enrolments m ++ more)
+  below_enrolments : (n m : ℕ) (more : List (Step N)) → m ≤ n → AgentsBelow (λ (s : Step N). s.agent) n more
+      → AgentsBelow (λ (s : Step N). s.agent) n (enrolments m ++ more)
   below_enrolments n zero more le b = b
-  below_enrolments n (suc m) more le b = subst (AgentsBelow (λ (s : Step N). s.agent) n) (sym (append_assoc (enrolments m) (does m Enroll None ∷ []) more)) (below_enrolments n m (does m Enroll None ∷ more) (omega arith) (omega arith, b))
+  below_enrolments n (suc m) more le b = subst (AgentsBelow (λ (s : Step N). s.agent) n) (sym (append_assoc (enrolments m) (does m Enroll None ∷ []) more))
+      (below_enrolments n m (does m Enroll None ∷ more) (omega arith) (omega arith, b))
 
   pub opening_below : (n : ℕ) (seed : Seed N) → 0 < n → AgentsBelow (λ (s : Step N). s.agent) n (machine_opening n seed)
   opening_below n seed lt = below_enrolments n n (seeding seed) (omega arith) (below_seeding n seed lt)
@@ -270,10 +303,12 @@ module _ {N : Type 0} where
   own_past n a (s ∷ ss) le b = let lt = b.0 in by_other (λ (z : Step N). z.agent) a s ss (λ e. omega (arith, e, lt, le)) ∙ own_past n a ss le b.1
 
   -- the agents after agent 0 have enrolled, and done no more
-  pub opening_born : (b : Bounds) (seed : Seed N) (a : ℕ) → IsShape b → 1 ≤ a → a < b.agents → record_at (run_of b (machine_opening b.agents seed)) a ≡ newcomer b.rows
+  pub opening_born : (b : Bounds) (seed : Seed N) (a : ℕ) → IsShape b → 1 ≤ a → a < b.agents
+      → record_at (run_of b (machine_opening b.agents seed)) a ≡ newcomer b.rows
   opening_born b seed a shape le lt =
       let all = all_enroll b b.agents shape (omega arith) in
-      record_stays b (enrolments {N = N} b.agents) (seeding seed) a (own_past 1 a (seeding seed) le (below_seeding 1 seed (omega arith))) ∙ (ap (λ (z : World). z.seats a) all.world ∙ ap (λ (t : Bool). cond t (newcomer b.rows) (nobody b.rows)) (lt-ltb a b.agents lt))
+      record_stays b (enrolments {N = N} b.agents) (seeding seed) a (own_past 1 a (seeding seed) le (below_seeding 1 seed (omega arith)))
+          ∙ (ap (λ (z : World). z.seats a) all.world ∙ ap (λ (t : Bool). cond t (newcomer b.rows) (nobody b.rows)) (lt-ltb a b.agents lt))
 
 module _ {D N : Type 0} (d : discipline.Ghosts D N) (k : MachineShape N) (began : d.holds (heap_numbers k) []) where
   abbrev may_be : List (Event N) → Event N → Type 0
@@ -290,9 +325,11 @@ module _ {D N : Type 0} (d : discipline.Ghosts D N) (k : MachineShape N) (began 
       let e2 : Event N = opening_event (act.Fill 0 1 first) None in
       let m0 : may_be [] e0 = d.allows_plain (heap_numbers k) [] e0 began tt (refl, tt) in
       let h1 : holds_so (e0 ∷ []) = d.keeps (heap_numbers k) [] e0 began m0 in
-      let m1 : may_be (e0 ∷ []) e1 = d.allows_plain (heap_numbers k) (e0 ∷ []) e1 h1 (record { node = new_node 0; there = refl; mine = refl; unlinked = refl }, omega arith) (refl, tt) in
+      let m1 : may_be (e0 ∷ []) e1 = d.allows_plain (heap_numbers k) (e0 ∷ []) e1 h1
+          (record { node = new_node 0; there = refl; mine = refl; unlinked = refl }, omega arith) (refl, tt) in
       let h2 : holds_so (e0 ∷ e1 ∷ []) = d.keeps (heap_numbers k) (e0 ∷ []) e1 h1 m1 in
-      let m2 : may_be (e0 ∷ e1 ∷ []) e2 = d.allows_plain (heap_numbers k) (e0 ∷ e1 ∷ []) e2 h2 (record { node = with_value 0 0 (new_node 0); there = refl; mine = refl; unlinked = refl }, omega arith) (refl, tt) in
+      let m2 : may_be (e0 ∷ e1 ∷ []) e2 = d.allows_plain (heap_numbers k) (e0 ∷ e1 ∷ []) e2 h2
+          (record { node = with_value 0 0 (new_node 0); there = refl; mine = refl; unlinked = refl }, omega arith) (refl, tt) in
       (m0, (m1, (m2, (can.first_link, (can.second_link, tt)))))
 
   seed_roots : (seed : Seed N) → SeedAllowed d.may (heap_numbers k) seed → HasRoots (heap_numbers k) seed
@@ -316,7 +353,8 @@ module _ {D N : Type 0} (d : discipline.Ghosts D N) (k : MachineShape N) (began 
       }
 
 -- the next agent may enroll
-pub enrolling_goes : (shape : Shape) (m : Machine) (n : ℕ) → n < (bounds_of shape).agents → m ≡ run_of (bounds_of shape) (enrolments {N = Unit {0}} n) → GoesOn (bounds_of shape) m ((n, Enroll) ∷ [])
+pub enrolling_goes : (shape : Shape) (m : Machine) (n : ℕ) → n < (bounds_of shape).agents → m ≡ run_of (bounds_of shape) (enrolments {N = Unit {0}} n)
+    → GoesOn (bounds_of shape) m ((n, Enroll) ∷ [])
 enrolling_goes shape m n lt e =
     let b = bounds_of shape in
     let all = all_enroll {N = Unit {0}} b (suc n) (in_range shape) (omega arith) in
@@ -324,14 +362,17 @@ enrolling_goes shape m n lt e =
       shape = in_range shape;
       before = plain (enrolments {N = Unit {0}} n);
       is = e;
-      lawful = subst (IsLawful (new_machine b)) (plain-append (enrolments {N = Unit {0}} n) (does n Enroll None ∷ [])) (plain_lawful (new_machine b) (enrolments {N = Unit {0}} (suc n)) all.lawful);
+      lawful = subst (IsLawful (new_machine b)) (plain-append (enrolments {N = Unit {0}} n) (does n Enroll None ∷ []))
+          (plain_lawful (new_machine b) (enrolments {N = Unit {0}} (suc n)) all.lawful);
     }
 
 plain_same : (N M : Type 0) (n : ℕ) → plain (enrolments {N = N} n) ≡ plain (enrolments {N = M} n)
 plain_same N M zero = refl
-plain_same N M (suc n) = plain-append (enrolments {N = N} n) (does n Enroll None ∷ []) ∙ (ap (λ l. l ++ (n, Enroll) ∷ []) (plain_same N M n) ∙ sym (plain-append (enrolments {N = M} n) (does n Enroll None ∷ [])))
+plain_same N M (suc n) = plain-append (enrolments {N = N} n) (does n Enroll None ∷ [])
+    ∙ (ap (λ l. l ++ (n, Enroll) ∷ []) (plain_same N M n) ∙ sym (plain-append (enrolments {N = M} n) (does n Enroll None ∷ [])))
 
-module _ {N : Type 0} (shape : Shape) (seed : Seed N) (roots : HasRoots (numbers_of (bounds_of shape)) seed) (m : Machine) (e : m ≡ run_of (bounds_of shape) (enrolments {N = Unit {0}} (bounds_of shape).agents)) where
+module _ {N : Type 0} (shape : Shape) (seed : Seed N) (roots : HasRoots (numbers_of (bounds_of shape)) seed) (m : Machine)
+    (e : m ≡ run_of (bounds_of shape) (enrolments {N = Unit {0}} (bounds_of shape).agents)) where
   abbrev c : Bounds
   c = bounds_of shape
 
@@ -344,14 +385,17 @@ module _ {N : Type 0} (shape : Shape) (seed : Seed N) (roots : HasRoots (numbers
     shape = in_range shape;
     before = plain (enrolments {N = N} c.agents);
     is = enrolled_as;
-    lawful = subst (IsLawful (new_machine c)) (plain-append (enrolments {N = N} c.agents) (seeding seed)) (plain_lawful (new_machine c) (machine_opening c.agents seed) (opening_lawful c seed (in_range shape) roots));
+    lawful = subst (IsLawful (new_machine c)) (plain-append (enrolments {N = N} c.agents) (seeding seed))
+        (plain_lawful (new_machine c) (machine_opening c.agents seed) (opening_lawful c seed (in_range shape) roots));
   }
 
   pub seeded : run m (plain (seeding seed)) ≡ run_of c (machine_opening c.agents seed)
   seeded = ap (λ (z : Machine). run z (plain (seeding seed))) enrolled_as ∙ sym (run_more c (enrolments {N = N} c.agents) (seeding seed))
 
-module _ {N : Type 0} (k r : MachineShape N) (same : r ≡ k) (holds : List (Event N) → Type 0) (may_be : List (Event N) → Event N → Type 0) (o : Opens counted_rules k holds may_be) (began : holds []) (v : View (Step N) Agent) (a : ℕ)
-    (is : v.agent ≡ Some a) (below : a < (bounds_in k).agents) (seen : v.seen ≡ machine_opening (bounds_in k).agents k.seed) (also : v.also ≡ []) (own : v.own ≡ record_at (run_of (bounds_in k) (machine_opening (bounds_in k).agents k.seed)) a) where
+module _ {N : Type 0} (k r : MachineShape N) (same : r ≡ k) (holds : List (Event N) → Type 0) (may_be : List (Event N) → Event N → Type 0)
+    (o : Opens counted_rules k holds may_be) (began : holds []) (v : View (Step N) Agent) (a : ℕ)
+    (is : v.agent ≡ Some a) (below : a < (bounds_in k).agents) (seen : v.seen ≡ machine_opening (bounds_in k).agents k.seed) (also : v.also ≡ [])
+    (own : v.own ≡ record_at (run_of (bounds_in k) (machine_opening (bounds_in k).agents k.seed)) a) where
   -- a new pass
   pub new_keeps : Keeps k holds may_be v a
   new_keeps = record { is = is; number = below; began = began; now = new_pass_later counted_rules k holds may_be v a o seen also own }

@@ -2,7 +2,7 @@
 use Rattle.std.proofs.Common.{Bool, List, None, Option, Some, [], ap, append-nil, false, get_or-set_other, get_or-set_same, length, refl, subst, sym, true, ℕ, ◌++◌, ◌<◌, ◌∙◌, ◌≡◌, ◌≢◌, ◌∷◌, ◌≤◌}
 use Rattle.std.specs.Prelude.{cond, slice_index, slice_index_or, slice_set, ◌==◌}
 use Rattle.std.proofs.lemmas.Bool.{false≢true}
-use Rattle.orc_core.proofs.Steps.{every_run_whole, run-append}
+use Rattle.orc_core.proofs.Steps.{every_run_whole}
 use Rattle.orc_core.proofs.Within.{may_parts}
 use Rattle.orc_core.specs.Actions.{action_of}
 use Rattle.orc_words.specs.Operations.{word_after}
@@ -14,7 +14,7 @@ use Rattle.orc_core.specs.declared.ops.CounterUse.TheVariants.{Check, End, Start
 use Rattle.orc_core.specs.declared.ops.Op.{Op}
 use Rattle.orc_core.specs.declared.ops.Op.TheVariants.{Arm, Clear, CounterLoad, Dec, Enroll, Fill, Free, GateLook, GateTake, Hand, Inc, LinkCas, LinkLoad, LinkStore, Publish, Read, SetRetired, SlotLook, TakeIn, Unretire}
 use Rattle.orc_core.specs.declared.records.Agent.{Agent}
-use Rattle.orc_projection.proofs.Mirrored.{project-append}
+use Rattle.orc_projection.proofs.Mirrored.{StoresUnmarked-append, project-append}
 use Rattle.orc_projection.specs.PresentIds.{no_ids}
 use Rattle.orc_projection.specs.Projection.{StoresUnmarked, IsPlainOp, project}
 use Rattle.orc_machine_board.specs.Rules.{ListHasRoom, RequestAllowed, bounds_in, counted_rules, events_after, is_enroll, run_of, step_of}
@@ -23,7 +23,7 @@ use Rattle.orc_machine_board.specs.declared.machine.MachineShape.{MachineShape}
 use Rattle.orc_shared_words.specs.Runs.{Obeys, found_by}
 use Rattle.orc_sound.proofs.AllFits.{run_bounds}
 use Rattle.orc_sound.proofs.ForRuns.{room_left}
-use Rattle.orc_sound.proofs.Journals.{plain_lawful}
+use Rattle.orc_sound.proofs.Journals.{IsLawfulJournal-append, plain_lawful, run_plain-append}
 use Rattle.orc_sound.specs.Journals.{IsLawfulJournal, IsWanted, plain}
 use Rattle.orc_sound.specs.declared.steps.Step.{Step}
 use Rattle.orc_words.specs.Bounds.{Bounds, IsShape, bounds_of}
@@ -68,7 +68,8 @@ permission b e f a (Free r) d h = refl
 
 -- what a step makes of the words and of the records
 words_of_step : (b : Bounds) (m : Machine) (a : ℕ) (op : Op) → m.bounds ≡ b
-    → let w = (action_of a op (record_at m a)).word in (step m a op).words ≡ slice_set m.words (place b w) (word_after (action_of a op (record_at m a)).operation (slice_index m.words (place b w)))
+    → let w = (action_of a op (record_at m a)).word in (step m a op).words ≡ slice_set m.words (place b w)
+    (word_after (action_of a op (record_at m a)).operation (slice_index m.words (place b w)))
 words_of_step b m a op e =
     let action = action_of a op (record_at m a) in
     λ i. slice_set m.words (place (e i) action.word) (word_after action.operation (slice_index m.words (place (e i) action.word)))
@@ -83,13 +84,9 @@ pub other_record : (m : Machine) (a x : ℕ) (op : Op) → x ≢ a → record_at
 other_record m a x op ne = get_or-set_other m.agents a x (after op (record_at m a) (word_read m a op)) (nobody m.bounds.rows) ne
 
 module _ {N : Type 0} where
-  pub plain-append : (xs ys : List (Step N)) → plain (xs ++ ys) ≡ plain xs ++ plain ys
-  plain-append [] ys = refl
-  plain-append (x ∷ xs) ys = ap (λ l. (x.agent, x.op) ∷ l) (plain-append xs ys)
-
   -- the state after a journal and one more step, and after more steps
   pub run_more : (b : Bounds) (j more : List (Step N)) → run_of b (j ++ more) ≡ run (run_of b j) (plain more)
-  run_more b j more = ap (run (new_machine b)) (plain-append j more) ∙ run-append (new_machine b) (plain j) (plain more)
+  run_more b j more = run_plain-append (new_machine b) j more
 
   pub run_next : (b : Bounds) (j : List (Step N)) (s : Step N) → run_of b (j ++ s ∷ []) ≡ step (run_of b j) s.agent s.op
   run_next b j s = run_more b j (s ∷ [])
@@ -100,20 +97,13 @@ module _ {N : Type 0} where
   pub long_run : (b : Bounds) (j : List (Step N)) → IsShape b → length (run_of b j).agents ≡ b.agents
   long_run b j shape = (every_run_whole b (plain j) shape).agents ∙ ap (λ z. z.agents) (bounds_run b j)
 
-  lawful_more : (m : Machine) (j : List (Step N)) (s : Step N) → IsLawfulJournal m j → is_allowed (run m (plain j)) s.agent s.op ≡ true → IsWanted (record_at (run m (plain j)) s.agent) s.op s.want
-      → IsLawfulJournal m (j ++ s ∷ [])
-  lawful_more m [] s l may wanted = (may, wanted, tt)
-  lawful_more m (x ∷ xs) s l may wanted = (l.0, l.1, lawful_more (step m x.agent x.op) xs s l.2 may wanted)
-
-  plain_more : (j : List (Step N)) (s : Step N) → StoresUnmarked j → IsPlainOp s.op → StoresUnmarked (j ++ s ∷ [])
-  plain_more [] s p q = (q, tt)
-  plain_more (x ∷ xs) s p q = (p.0, plain_more xs s p.1 q)
-
   -- what the record allows is allowed where the step stands
-  pub allowed_there : (b : Bounds) (j : List (Step N)) (a : ℕ) (q : Request) → RequestAllowed b a q (record_at (run_of b j) a) → is_allowed (run_of b j) a q.op ≡ true
+  pub allowed_there : (b : Bounds) (j : List (Step N)) (a : ℕ) (q : Request) → RequestAllowed b a q (record_at (run_of b j) a)
+      → is_allowed (run_of b j) a q.op ≡ true
   allowed_there b j a q h =
       let m = run_of b j in
-      (λ i. may (bounds_run b j i) (word_in m Enrolled) a q.op (record_at m a)) ∙ (permission b (word_in m Enrolled) 0 a q.op (record_at m a) h.enrolled ∙ h.may)
+      (λ i. may (bounds_run b j i) (word_in m Enrolled) a q.op (record_at m a))
+      ∙ (permission b (word_in m Enrolled) 0 a q.op (record_at m a) h.enrolled ∙ h.may)
 
   pub counted_obeys : (k : MachineShape N) → Obeys counted_rules k
   counted_obeys k =
@@ -121,13 +111,18 @@ module _ {N : Type 0} where
       record {
         by_step = λ a q said. refl;
         words_next = λ j a q said. ap (λ m. m.words) (run_next b j (step_of a q said)) ∙ words_of_step b (run_of b j) a q.op (bounds_run b j);
-        own_next = λ j a q said lt. ap (λ m. record_at m a) (run_next b j (step_of a q said)) ∙ its_record b (run_of b j) a q.op (bounds_run b j) (subst (λ n. a < n) (sym (long_run b j (in_range k.shape))) lt);
+        own_next = λ j a q said lt. ap (λ m. record_at m a) (run_next b j (step_of a q said))
+            ∙ its_record b (run_of b j) a q.op (bounds_run b j) (subst (λ n. a < n) (sym (long_run b j (in_range k.shape))) lt);
         own_other = λ j s x ne. ap (λ m. record_at m x) (run_next b j s) ∙ other_record (run_of b j) s.agent x s.op ne;
-        lawful_next = λ j a q said l may. (lawful_more (new_machine b) j (step_of a q said) l.0 (allowed_there b j a q may) may.wanted, plain_more j (step_of a q said) l.1 may.plain);
+        lawful_next = λ j a q said l may. (
+          (IsLawfulJournal-append (new_machine b) j (step_of a q said ∷ [])).1 (l.0, (allowed_there b j a q may, may.wanted, tt)),
+          (StoresUnmarked-append j (step_of a q said ∷ [])).1 (l.1, (may.plain, tt)),
+        );
         project_next = λ j s. project-append (new_machine b) no_ids j (s ∷ []) ∙ ap (λ l. project b j ++ l) (append-nil (events_after b j s));
       }
 
-  pub counted_leaves_room : (k : MachineShape N) (j : List (Step N)) (a : ℕ) (q : Request) → (counted_rules {N = N}).lawful k j → (counted_rules {N = N}).allowed k a q ((counted_rules {N = N}).own k j a)
+  pub counted_leaves_room : (k : MachineShape N) (j : List (Step N)) (a : ℕ) (q : Request) → (counted_rules {N = N}).lawful k j
+      → (counted_rules {N = N}).allowed k a q ((counted_rules {N = N}).own k j a)
       → ListHasRoom q ((counted_rules {N = N}).own k j a) (found_by (counted_rules {N = N}) k j a q)
   counted_leaves_room k j a q l h =
       let b = bounds_in k in
@@ -137,4 +132,5 @@ module _ {N : Type 0} where
       let below : a < length m.agents = subst (λ n. a < n) (sym (long_run b j shape)) (may_parts b 0 a q.op d h.may).agent in
       let room : d.list.room ≡ m.bounds.rows = (every_run_whole b (plain j) shape).rooms a below in
       subst (λ n. length (after q.op d (slice_index m.words (place n (action_of a q.op d).word))).list.items ≤ d.list.room) (bounds_run b j)
-      (subst (λ n. length (after q.op d (word_read m a q.op)).list.items ≤ n) (sym room) (room_left b (plain j) a q.op shape (plain_lawful (new_machine b) j l.0) (allowed_there b j a q h)))
+      (subst (λ n. length (after q.op d (word_read m a q.op)).list.items ≤ n) (sym room)
+      (room_left b (plain j) a q.op shape (plain_lawful (new_machine b) j l.0) (allowed_there b j a q h)))

@@ -31,13 +31,16 @@ module _ {N : Type 0} where
     -- a Move of the place
     abbrev pub MoveAllowed : Word → RowLink → RowLink → Option N → Type 0
     MoveAllowed place from to note = (at : Place) → node_place (ids_of b s) place ≡ Some at
-        → AllowedLater may (numbers_of b) s.agent (events_seen b s) at (node_link (ids_of b s) from) (own_event s (Move at (node_link (ids_of b s) from) (node_link (ids_of b s) to)) note)
+        → AllowedLater may (numbers_of b) s.agent (events_seen b s) at (node_link (ids_of b s) from)
+        (own_event s (Move at (node_link (ids_of b s) from) (node_link (ids_of b s) to)) note)
 
     -- a noted Look at the place
     abbrev pub LookAllowed : Word → RowLink → Option N → Type 0
     LookAllowed place link note = (at : Place) → node_place (ids_of b s) place ≡ Some at
-        → AllowedLater may (numbers_of b) s.agent (events_seen b s) at (node_link (ids_of b s) link) (own_event s (Look at (node_link (ids_of b s) link)) note)
+        → AllowedLater may (numbers_of b) s.agent (events_seen b s) at (node_link (ids_of b s) link)
+        (own_event s (Look at (node_link (ids_of b s) link)) note)
 
     -- an Aim of the fresh row's node
     abbrev pub AimAllowed : ℕ → Option ℕ → Type 0
-    AimAllowed row to = AllowedWhereFits may (numbers_of b) s.agent (events_seen b s) (own_event s (Aim ((ids_of b s).node row) (option_map (ids_of b s).node to)) None)
+    AimAllowed row to = AllowedWhereFits may (numbers_of b) s.agent (events_seen b s)
+        (own_event s (Aim ((ids_of b s).node row) (option_map (ids_of b s).node to)) None)

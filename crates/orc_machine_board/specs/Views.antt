@@ -54,7 +54,8 @@ module _ {N : Type 0} where
     pub record_is : t.record_is ≡ after q.op s.record_is (word_read (run_of b (s.journal ++ met)) s.agent q.op)
 
   -- what is true of a pass between calls
-  pub record Keeps (k : MachineShape N) (holds : List (Event N) → Type 0) (may : List (Event N) → Event N → Type 0) (v : View (Step N) Agent) (a : ℕ) : Type 0 where
+  pub record Keeps (k : MachineShape N) (holds : List (Event N) → Type 0) (may : List (Event N) → Event N → Type 0) (v : View (Step N) Agent)
+      (a : ℕ) : Type 0 where
     pub is : v.agent ≡ Some a
     pub number : a < (bounds_of k.shape).agents
     pub began : holds []

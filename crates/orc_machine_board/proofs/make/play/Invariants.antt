@@ -6,4 +6,5 @@ use Rattle.orc_machine_board.proofs.make.play.Given as goal
 
 -- the steps that are left go on, and lead to where all lead
 abbrev pub invariant-loop-op : goal.invariant-loop-op
-invariant-loop-op l = ((b : Bounds) × GoesOn b l.state (by_agent l.agent (drop l.op-index l.ops))) × (run l.state (by_agent l.agent (drop l.op-index l.ops)) ≡ run l.fn.state (by_agent l.agent l.ops))
+invariant-loop-op l = ((b : Bounds) × GoesOn b l.state (by_agent l.agent (drop l.op-index l.ops))) ×
+    (run l.state (by_agent l.agent (drop l.op-index l.ops)) ≡ run l.fn.state (by_agent l.agent l.ops))

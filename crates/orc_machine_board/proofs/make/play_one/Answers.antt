@@ -7,4 +7,5 @@ pub apply-requires : goal.apply-requires
 apply-requires c = let g = c.requires.goes in goes_room g.0 c.args.state.now c.args.agent c.args.op.now g.1 g.2
 
 pub unreachable-requires : goal.unreachable-requires
-unreachable-requires c = let g = c.requires.goes in false≢true (sym c.in_default.ensures.refused ∙ goes_allowed g.0 c.args.state.now c.args.agent c.args.op.now g.1 g.2)
+unreachable-requires c = let g = c.requires.goes in false≢true
+    (sym c.in_default.ensures.refused ∙ goes_allowed g.0 c.args.state.now c.args.agent c.args.op.now g.1 g.2)

@@ -12,13 +12,15 @@ use Rattle.orc_machine_board.proofs.board.MachineBoard.make.Goals as goal
 pub make-requires-clause-some : goal.make-requires-clause-some
 make-requires-clause-some g c =
     let b = bounds_of c.args.shape.now in
-    let e : length c.as_slice.result.now ≡ places b = ap length (c.as_slice.ensures.value ∙ c.in_ok-words.ensures.words) ∙ long_words b (machine_opening b.agents c.args.seed) (in_range c.args.shape.now) in
+    let e : length c.as_slice.result.now ≡ places b = ap length (c.as_slice.ensures.value ∙ c.in_ok-words.ensures.words)
+        ∙ long_words b (machine_opening b.agents c.args.seed) (in_range c.args.shape.now) in
     omega (arith, e)
 
 pub make-requires-clause-agents : goal.make-requires-clause-agents
 make-requires-clause-agents g c =
     let b = bounds_of c.args.shape.now in
-    let e : length c.in_ok-words.owns.items ≡ b.agents = ap length c.in_ok-words.ensures.agents ∙ long_run b (machine_opening b.agents c.args.seed) (in_range c.args.shape.now) in
+    let e : length c.in_ok-words.owns.items ≡ b.agents = ap length c.in_ok-words.ensures.agents
+        ∙ long_run b (machine_opening b.agents c.args.seed) (in_range c.args.shape.now) in
     let few = c.args.shape.now.few_agents in
     (e, omega (arith, e, few))
 
@@ -28,7 +30,8 @@ make-requires-clause-opening g c = opens g.D.Discipline (record { shape = c.args
 pub invariant_of-result : goal.invariant_of-result
 invariant_of-result g c =
     let b = bounds_of c.args.shape.now in
-    let e : length c.as_slice.result.now ≡ places b = ap length (c.as_slice.ensures.value ∙ c.in_ok-words.ensures.words) ∙ long_words b (machine_opening b.agents c.args.seed) (in_range c.args.shape.now) in
+    let e : length c.as_slice.result.now ≡ places b = ap length (c.as_slice.ensures.value ∙ c.in_ok-words.ensures.words)
+        ∙ long_words b (machine_opening b.agents c.args.seed) (in_range c.args.shape.now) in
     record { sized = c.in_ok-words-2.ensures.words ∙ (e ∙ ap (λ q. places (bounds_in q)) (sym c.in_ok-words-2.ensures.shape)) }
 
 pub returns-clause-agents : goal.returns-clause-agents
@@ -66,5 +69,6 @@ returns-clause-belongs g c = λ i p lt.
     record {
       table = ap (λ z. z.seat.table_id) e ∙ c.in_ok-words-2.ensures.table i p.pass lt2;
       keeps = subst (λ z. Keeps z (d.holds (heap_numbers z)) (d.may (heap_numbers z)) x.pass.seat.me.0 x.pass.agent) (sym c.in_ok-words-2.ensures.shape)
-          (new_keeps k k refl (d.holds (heap_numbers k)) (d.may (heap_numbers k)) (opens d k c.requires.holds c.requires.seed) c.requires.holds x.pass.seat.me.0 x.pass.agent x.pass.named below seen also own);
+          (new_keeps k k refl (d.holds (heap_numbers k)) (d.may (heap_numbers k))
+          (opens d k c.requires.holds c.requires.seed) c.requires.holds x.pass.seat.me.0 x.pass.agent x.pass.named below seen also own);
     }

@@ -10,7 +10,8 @@ overflow_add-result g c =
     let k = c.requires.belongs.0.words.shape in
     let p = c.args.self.now.pass in
     let d = g.D.Discipline in
-    let room : p.own.list.room ≡ (bounds_in k).rows = ap (λ (z : Agent). z.list.room) (sym p.mine) ∙ room_of k (d.holds (heap_numbers k)) (d.may (heap_numbers k)) p.seat.me.0 p.agent c.requires.belongs.1.keeps in
+    let room : p.own.list.room ≡ (bounds_in k).rows = ap (λ (z : Agent). z.list.room) (sym p.mine)
+        ∙ room_of k (d.holds (heap_numbers k)) (d.may (heap_numbers k)) p.seat.me.0 p.agent c.requires.belongs.1.keeps in
     let few = k.shape.few_rows in
     let long = c.len-listed.ensures.room in
     omega (arith, room, few, long)
@@ -20,7 +21,8 @@ overflow_cast-listed g c =
     let k = c.requires.belongs.0.words.shape in
     let p = c.args.self.now.pass in
     let d = g.D.Discipline in
-    let room : p.own.list.room ≡ (bounds_in k).rows = ap (λ (z : Agent). z.list.room) (sym p.mine) ∙ room_of k (d.holds (heap_numbers k)) (d.may (heap_numbers k)) p.seat.me.0 p.agent c.requires.belongs.1.keeps in
+    let room : p.own.list.room ≡ (bounds_in k).rows = ap (λ (z : Agent). z.list.room) (sym p.mine)
+        ∙ room_of k (d.holds (heap_numbers k)) (d.may (heap_numbers k)) p.seat.me.0 p.agent c.requires.belongs.1.keeps in
     let few = k.shape.few_rows in
     let long = c.len-listed.ensures.room in
     omega (arith, room, few, long)

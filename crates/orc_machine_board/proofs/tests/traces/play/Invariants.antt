@@ -3,4 +3,5 @@ use Rattle.orc_machine_board.specs.Views.{Belongs, shows}
 use Rattle.orc_machine_board.proofs.tests.traces.play.Given as goal
 
 abbrev pub invariant-loop-op : goal.invariant-loop-op
-invariant-loop-op l = Belongs l.board l.p × ((shows l.p).agent ≡ (shows l.fn.p).agent) × ((shows l.p).absorbed ≡ (shows l.fn.p).absorbed) × (l.state.bounds ≡ l.fn.state.bounds)
+invariant-loop-op l = Belongs l.board l.p × ((shows l.p).agent ≡ (shows l.fn.p).agent) × ((shows l.p).absorbed ≡ (shows l.fn.p).absorbed) ×
+    (l.state.bounds ≡ l.fn.state.bounds)
