@@ -9,4 +9,3 @@ pub mod Making
 pub mod Opening
 pub mod Playing
 pub mod Recordable
-pub mod TookIn

@@ -147,7 +147,28 @@ fn make_one<D: Discipline>(
     make_plain(board, p, op)
 }
 
-// the same, and exchanges a root's link with a note
+// exchanges the link of a root, with a note, where the record allows it
+fn exchange_root(
+    board: &Board,
+    p: &mut Pass,
+    root: u32,
+    from: RowLink,
+    to: RowLink,
+) -> Option<u64>
+    requires belongs { Belongs board.now p.old }
+    ensures belongs { Belongs board.now p.new }
+    ensures agent { (shows p.new).agent ≡ (shows p.old).agent }
+    ensures absorbed { (shows p.new).absorbed ≡ (shows p.old).absorbed }
+{
+    let place = Word::Root(root);
+    let op = Op::LinkCas { place, from, to };
+    if !may_make(board, p, &op) {
+        return None;
+    }
+    Some(board.link_cas(p, place, from, to, Some(7)))
+}
+
+// makes one of these steps
 fn make_step(board: &Board, p: &mut Pass, op: Op) -> Option<u64>
     requires belongs { Belongs board.now p.old }
     ensures belongs { Belongs board.now p.new }
@@ -158,10 +179,7 @@ fn make_step(board: &Board, p: &mut Pass, op: Op) -> Option<u64>
         let Word::Root(root) = place else {
             return None;
         };
-        if !may_make(board, p, &op) {
-            return None;
-        }
-        return Some(board.link_cas(p, Word::Root(root), from, to, Some(7)));
+        return exchange_root(board, p, root, from, to);
     }
     make_one(board, p, op)
 }

@@ -3,7 +3,7 @@
 ghost use Rattle.std.specs.Prelude.{◌≡◌, ◌++◌, ◌∷◌, [], IfSome, None, Some, true};
 ghost use Rattle.orc_core.specs.declared.ops.Op.{Op};
 ghost use Rattle.orc_fifo_rule.specs.QueueDiscipline.{FifoMay};
-ghost use Rattle.orc_machine_board.specs.JobRun.{IsSolePass, after_put, before_put, before_took, exchanged, opened, own_steps};
+ghost use Rattle.orc_machine_board.specs.JobRun.{IsSolePass, after_put, before_put, before_took, exchanged, opened, own_steps, small};
 ghost use Rattle.orc_machine_board.specs.Licences.{MoveAllowed};
 ghost use Rattle.orc_machine_board.specs.Rules.{does};
 ghost use Rattle.orc_machine_board.specs.Views.{Belongs, board_bounds, board_numbers, shows};
@@ -278,7 +278,9 @@ fn free(board: &Queue, p: &mut QueuePass) -> bool
 
 // a board with a dummy, for one agent, and its pass
 fn with_dummy(alloc: Global) -> Option<(Queue, QueuePass)>
-    ensures sole { IfSome result (λ made. IsSolePass made.0 made.1) }
+    ensures belongs { IfSome result (λ made. Belongs made.0 made.1) }
+    ensures sizes { IfSome result (λ made. board_bounds made.0 ≡ small) }
+    ensures agent { IfSome result (λ made. (shows made.1).agent ≡ 0) }
     ensures journal { IfSome result (λ made. (shows made.1).journal ≡ opened) }
 {
     let Ok(shape) = Shape::new(2, 2, 1, 8) else {
@@ -289,7 +291,9 @@ fn with_dummy(alloc: Global) -> Option<(Queue, QueuePass)>
     let Ok((board, mut passes)) = Queue::make(alloc, &shape, seed) else {
         return None;
     };
-    let pass = passes.pop()?;
+    let Some(pass) = passes.pop() else {
+        return None;
+    };
     if pass.agent() != 0 {
         return None;
     }

@@ -238,6 +238,20 @@ fn hand_over_late(board: &Board, one: &mut Pass, two: &mut Pass, state: &mut Sta
     left && handed && taken
 }
 
+// the one or the other
+fn hand(board: &Board, one: &mut Pass, two: &mut Pass, state: &mut State, late: bool) -> bool
+    requires belongs { Belongs board.now one.old × Belongs board.now two.old }
+    ensures belongs { Belongs board.now one.new × Belongs board.now two.new }
+    ensures agents { ((shows one.new).agent ≡ (shows one.old).agent) × ((shows two.new).agent ≡ (shows two.old).agent) }
+    ensures absorbed { ((shows one.new).absorbed ≡ (shows one.old).absorbed) × ((shows two.new).absorbed ≡ (shows two.old).absorbed) }
+    ensures bounds { state.new.bounds ≡ state.old.bounds }
+{
+    if late {
+        return hand_over_late(board, one, two, state);
+    }
+    hand_over(board, one, two, state)
+}
+
 // a run of two agents; whether all answers and all words agree
 fn two_agents(alloc: Global, late: bool) -> Option<bool> {
     let Ok(shape) = Shape::new(2, 1, 2, 8) else {
@@ -255,11 +269,7 @@ fn two_agents(alloc: Global, late: bool) -> Option<bool> {
         return None;
     }
     let found = find(&board, &mut one, &mut two, &mut state);
-    let handed = if late {
-        hand_over_late(&board, &mut one, &mut two, &mut state)
-    } else {
-        hand_over(&board, &mut one, &mut two, &mut state)
-    };
+    let handed = hand(&board, &mut one, &mut two, &mut state, late);
     let freed = free(&board, &mut two, &mut state);
     board.absorb(&mut one, two);
     let words = words_agree(board, one, state);
