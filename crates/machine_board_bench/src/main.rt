@@ -77,13 +77,7 @@ fn test_record(p: &Pass, shape: &Shape) -> u64 {
     for load in 0..LOADS {
         let place = Word::Root(load % 2);
         let op = Op::LinkLoad { place, slot: None };
-        sum = sum.wrapping_add(u64::from(may_step(
-            shape,
-            0,
-            p.agent(),
-            &op,
-            p.record(),
-        )));
+        sum = sum.wrapping_add(u64::from(may_step(shape, 0, p.agent(), &op, p.record())));
     }
     sum
 }
@@ -117,6 +111,8 @@ fn main(rt: HostRuntime) -> io::Result<()> {
     let start = Instant::now(&rt)?;
     let bare = load_word(&word);
     let alone = start.elapsed(&rt)?.as_micros();
-    eprintln!(rt; "{LOADS} loads: {through} microseconds by link_load with a test of the record, {tested} the test alone, {alone} a bare word")?;
+    eprintln!(rt;
+        "{LOADS} loads: {through} microseconds by link_load with a test of the record, {tested} the test alone, {alone} a bare word"
+    )?;
     println!(rt; "{links} {tests} {bare}")
 }

@@ -43,6 +43,6 @@ any_move k holds v a root from to note kept can = λ place e more later there.
     let ids = present_ids (bounds_in k) v.seen in
     let known = target_known k holds (AnyFit n) v a kept (Root root) from to can in
     let target : IsTarget a (run_heap n (seen ++ more)) (option_map ids.node to.to) = target_later n (AnyFit n) a
-        (option_map ids.node to.to) seen more later.allowed known in
+    (option_map ids.node to.to) seen more later.allowed known in
     let same : at.Root root ≡ place = ap (λ (x : Option Place). unwrap_or x (at.Root root)) e in
     ((there, target), subst (λ p. MovesLinked (Move p (node_link ids from) (node_link ids to)) (run_heap n (seen ++ more))) same tt)

@@ -53,7 +53,7 @@ module _ {N : Type 0} where
       let whole : IsLawful n (project b (j ++ s ∷ [])) = projection_lawful b (j ++ s ∷ []) shape l p in
       let parts : project b (j ++ s ∷ []) ≡ project b j ++ (events_after b j s ++ []) = project-append (new_machine b) no_ids j (s ∷ []) in
       let last : IsLawfulFrom (run_heap n (project b j)) (events_after b j s ++ []) = lawful-right (new_heap n) (project b j) (events_after b j s ++ [])
-          (subst (IsLawful n) parts whole) in
+      (subst (IsLawful n) parts whole) in
       each_from n (project b j) s _ (subst (IsLawfulFrom (run_heap n (project b j))) (append-nil (events_after b j s)) last)
 
 -- acts that are plain, and have no note where none is said
@@ -115,7 +115,7 @@ module _ {N : Type 0} where
       let w : ℕ = word_read (run_of b j) a q.op in
       let l = (counted_obeys k).lawful_next j a q None later.lawful (subst (RequestAllowed b a q) (sym later.mine) can) in
       each_both (events_after b j s) (λ e fits is. law (project b j) e later.kept fits is) (event_fits b j s (in_range k.shape) l.0 l.1)
-          (plain_event s (act_of ids d w q.op q.want) refl (plain_act ids d w q.op q.want plain))
+      (plain_event s (act_of ids d w q.op q.want) refl (plain_act ids d w q.op q.want plain))
 
 -- what a plain kind's step needs besides its permission
 pub plain_allowed : (b : Bounds) (a : ℕ) (op : Op) (want : Option RowLink) (d : Agent) → is_plain_kind op ≡ true → IsWanted d op want

@@ -47,8 +47,8 @@ pub out_stays : (m : Machine) (p : PresentIds) (x : ℕ) (op : Op) (r : ℕ) →
     → (ids_after p (record_at m x) (word_read m x op) op).node r ≡ p.node r
 out_stays m p x op r out = node_after p (record_at m x) (word_read m x op) op r (λ q e taken same.
     was_free (record_at m x) (word_in m (Gate r))
-        (subst (λ z. is_taken (record_at m x) (word_in m (Gate z)) ≡ true) (sym same)
-        (subst (λ z. is_taken (record_at m x) (word_read m x z) ≡ true) e taken)) out)
+    (subst (λ z. is_taken (record_at m x) (word_in m (Gate z)) ≡ true) (sym same)
+    (subst (λ z. is_taken (record_at m x) (word_read m x z) ≡ true) e taken)) out)
 
 pub one_of : (x y : Bool) (A : Type 0) → (x || y) ≡ true → (x ≡ true → A) → (y ≡ true → A) → A
 one_of true y A h f g = f refl
@@ -71,7 +71,7 @@ module _ {N : Type 0} where
       → (s.agent ≢ a) × (own_of (λ (x : Step N). x.agent) a ss ≡ [])
   others_first a s ss e =
       let ne : s.agent ≢ a = λ q. cons_nil s (own_of (λ (x : Step N). x.agent) a ss) (sym (by_own (λ (x : Step N). x.agent) a s ss q) ∙ e) in
-          (ne, sym (by_other (λ (x : Step N). x.agent) a s ss ne) ∙ e)
+      (ne, sym (by_other (λ (x : Step N). x.agent) a s ss ne) ∙ e)
 
   -- steps of others leave the record
   pub record_stays : (b : Bounds) (j more : List (Step N)) (a : ℕ) → own_of (λ (x : Step N). x.agent) a more ≡ []
@@ -80,8 +80,8 @@ module _ {N : Type 0} where
   record_stays b j (s ∷ ss) a e =
       let first = others_first a s ss e in
       ap (λ l. record_at (run_of b l) a) (sym (append_assoc j (s ∷ []) ss))
-          ∙ (record_stays b (j ++ s ∷ []) ss a first.1
-          ∙ (ap (λ m. record_at m a) (run_next b j s) ∙ other_record (run_of b j) s.agent a s.op (λ q. first.0 (sym q))))
+      ∙ (record_stays b (j ++ s ∷ []) ss a first.1
+      ∙ (ap (λ m. record_at m a) (run_next b j s) ∙ other_record (run_of b j) s.agent a s.op (λ q. first.0 (sym q))))
 
   -- and so the node of a row that the agent has
   pub node_stays : (b : Bounds) (j more : List (Step N)) (a r : ℕ) → IsShape b → IsLawfulJournal (new_machine b) (j ++ more) → a < b.agents
@@ -92,7 +92,7 @@ module _ {N : Type 0} where
       let first = others_first a s ss e in
       let again : j ++ s ∷ ss ≡ (j ++ s ∷ []) ++ ss = sym (append_assoc j (s ∷ []) ss) in
       let there : HasRow (record_at (run_of b (j ++ s ∷ [])) a) r = subst (λ d. HasRow d r)
-          (sym (ap (λ m. record_at m a) (run_next b j s) ∙ other_record (run_of b j) s.agent a s.op (λ q. first.0 (sym q)))) has in
+      (sym (ap (λ m. record_at m a) (run_next b j s) ∙ other_record (run_of b j) s.agent a s.op (λ q. first.0 (sym q)))) has in
       let lawful = subst (IsLawfulJournal (new_machine b)) again l in
       let out = has_out b j a r shape ((IsLawfulJournal-append (new_machine b) j (s ∷ ss)).0 l).0 lt has in
       ap (λ t. (present_ids b t).node r) again

@@ -91,9 +91,9 @@ pub cas_has : (b : Bounds) (a : ℕ) (d : Agent) (place : Word) (from to : RowLi
 cas_has b a d place from to h =
     let is = (may_parts b 0 a (LinkCas place from to) d h).fits in
     let one = and_both (may_place b place (λ r. any_holds d.slots r && not (names d.fresh r)) && is_empty
-        (slot_of d 0) && may_target b d from.to && may_target b d to.to) (may_change d (b.limit + 64) from.to to.to) is in
+    (slot_of d 0) && may_target b d from.to && may_target b d to.to) (may_change d (b.limit + 64) from.to to.to) is in
     let two = and_both (may_place b place (λ r. any_holds d.slots r && not (names d.fresh r)) && is_empty (slot_of d 0) && may_target b d from.to)
-        (may_target b d to.to) one.0 in
+    (may_target b d to.to) one.0 in
     let three = and_both (may_place b place (λ r. any_holds d.slots r && not (names d.fresh r)) && is_empty (slot_of d 0)) (may_target b d from.to) two.0 in
     let four = and_both (may_place b place (λ r. any_holds d.slots r && not (names d.fresh r))) (is_empty (slot_of d 0)) three.0 in
     record { place_is = has_place b d place four.0; from_is = has_target b d from.to three.1; to_is = has_target b d to.to two.1 }
@@ -118,8 +118,15 @@ module _ {N : Type 0} where
   meets k holds may v a between none later =
       let b = bounds_in k in
       let t = others_add counted_rules k (counted_obeys k) (signed b) a v.seen between none in
-      record { more = t.0; later = record { allowed = allowed-right may [] (project b v.seen) t.0
-          (subst (AllAllowed may []) t.2 later.each); others = t.1 }; is = t.2 }
+      record {
+        more = t.0;
+        later = record {
+          allowed = allowed-right may [] (project b v.seen) t.0
+              (subst (AllAllowed may []) t.2 later.each);
+          others = t.1;
+        };
+        is = t.2;
+      }
 
   -- what the agent has keeps its node
   pub stays_for : (k : MachineShape N) (holds : List (Event N) → Type 0) (may : List (Event N) → Event N → Type 0) (v : View (Step N) Agent) (a : ℕ)
@@ -161,7 +168,7 @@ module _ {N : Type 0} where
       let j = v.seen ++ between in
       let s : Step N = step_of a (asks (LinkCas place from to)) note in
       let l = (counted_obeys k).lawful_next j a (asks (LinkCas place from to)) note later.lawful
-          (subst (RequestAllowed b a (asks (LinkCas place from to))) (sym later.mine) can) in
+      (subst (RequestAllowed b a (asks (LinkCas place from to))) (sym later.mine) can) in
       let p : PresentIds = present_ids b v.seen in
       let q : PresentIds = present_ids b j in
       let w : ℕ = word_read (run_of b j) a (LinkCas place from to) in
@@ -258,7 +265,7 @@ module _ {N : Type 0} where
         let target : HasTarget v.own link.to = wanted_has v.own link.to can.wanted in
         let stays = stays_for k holds may v a number now between none later in
         let sp : node_place q place ≡ node_place p place = same_place p q v.own stays place
-            (load_has b a v.own place slot (may_parts b 0 a (LinkLoad place slot) v.own can.may).fits) in
+        (load_has b a v.own place slot (may_parts b 0 a (LinkLoad place slot) v.own can.may).fits) in
         let sl : node_link q link ≡ node_link p link = same_link p q v.own stays link target in
         let met = meets k holds may v a between none later in
         let small : (r : ℕ) → link.to ≡ Some r → r < 65535 = λ r e.
@@ -299,10 +306,10 @@ module _ {N : Type 0} where
         let d : Agent = record_at (run_of b j) a in
         let stays = stays_for k holds may v a number now between none later in
         let st : option_map q.node link.to ≡ option_map p.node link.to = same_target p q v.own stays link.to
-            (store_has b a v.own row link (may_parts b 0 a (LinkStore row link) v.own can.may).fits) in
+        (store_has b a v.own row link (may_parts b 0 a (LinkStore row link) v.own can.may).fits) in
         let met = meets k holds may v a between none later in
         aim_may (heap_numbers k) may (project b j) (λ e. law (project b j) e later.kept) s q (word_read (run_of b j) a (LinkStore row link))
-            (names d.fresh row) (q.node row) (option_map q.node link.to)
+        (names d.fresh row) (q.node row) (option_map q.node link.to)
         (λ e fits.
         let fresh : names v.own.fresh row ≡ true = subst (λ (z : Agent). names z.fresh row ≡ true) later.mine e in
         let sr : q.node row ≡ p.node row = stays row (fresh_has (any_holds v.own.slots row) (names v.own.fresh row) fresh) in

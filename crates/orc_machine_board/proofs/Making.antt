@@ -87,5 +87,5 @@ steps_next {N} b q note s t n m all below =
     let own : List (Step N) = step_of s.agent q note ∷ [] in
     let front = below-front by b.agents (s.journal ++ m.met) own (subst (AgentsBelow by b.agents) m.journal below) in
     let none : m.met ≡ [] = none_left by b.agents m.met (below-tail by b.agents s.journal m.met front)
-        (λ a lt. ⊎_elim (λ e. subst (λ z. own_of by z m.met ≡ []) (sym e) m.others) (m.retired a) (all a lt)) in
+    (λ a lt. ⊎_elim (λ e. subst (λ z. own_of by z m.met ≡ []) (sym e) m.others) (m.retired a) (all a lt)) in
     m.journal ∙ ap (λ l. l ++ own) (ap (λ l. s.journal ++ l) none ∙ append-nil s.journal)

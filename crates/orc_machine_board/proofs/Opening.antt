@@ -107,8 +107,11 @@ one_more b n lt few = λ i. record { memory = λ w. words w i; seats = λ x. rec
     records x = choose x (x == n) refl
 
 none_yet : (b : Bounds) → world_of (new_machine b) ≡ enrolled b 0
-none_yet b = λ i. record { memory = sym
-    (write_same (world_of (new_machine b)).memory Enrolled 0 (zero_first b Enrolled refl)) i; seats = λ a. (seats_first b a ∙ first a) i }
+none_yet b = λ i. record {
+  memory = sym
+      (write_same (world_of (new_machine b)).memory Enrolled 0 (zero_first b Enrolled refl)) i;
+  seats = λ a. (seats_first b a ∙ first a) i;
+}
   where
     first : (a : ℕ) → nobody b.rows ≡ cond (nat_lt a 0) (newcomer b.rows) (nobody b.rows)
     first a = ap (λ (t : Bool). cond t (newcomer b.rows) (nobody b.rows)) (none a)
@@ -134,15 +137,15 @@ is_ready b rows agents =
     let m = (enrolled b b.agents).memory in
     let w1 : write m (Gate 0) 0 ≡ m = write_same m (Gate 0) 0 (zero_first b (Gate 0) refl) in
     let w2 : write (write m (Gate 0) 0) (Counter 0) 4194304 ≡ m = ap (λ z. write z (Counter 0) 4194304) w1
-        ∙ write_same m (Counter 0) 4194304 (counter_first b 0 rows) in
+    ∙ write_same m (Counter 0) 4194304 (counter_first b 0 rows) in
     let w3 : write (write (write m (Gate 0) 0) (Counter 0) 4194304) (Root 0) 0 ≡ m = ap (λ z. write z (Root 0) 0) w2
-        ∙ write_same m (Root 0) 0 (zero_first b (Root 0) refl) in
+    ∙ write_same m (Root 0) 0 (zero_first b (Root 0) refl) in
     let w4 : write (write (write (write m (Gate 0) 0) (Counter 0) 4194304) (Root 0) 0) (Root 1) 0 ≡ m = ap (λ z. write z (Root 1) 0) w3
-        ∙ write_same m (Root 1) 0 (zero_first b (Root 1) refl) in
+    ∙ write_same m (Root 1) 0 (zero_first b (Root 1) refl) in
     let w5 : write (write (write (write (write m (Gate 0) 0) (Counter 0) 4194304) (Root 0) 0) (Root 1) 0) (Handover 0 1) 0 ≡ m = ap
-        (λ z. write z (Handover 0 1) 0) w4 ∙ write_same m (Handover 0 1) 0 (zero_first b (Handover 0 1) refl) in
+    (λ z. write z (Handover 0 1) 0) w4 ∙ write_same m (Handover 0 1) 0 (zero_first b (Handover 0 1) refl) in
     let seats : seat (enrolled b b.agents).seats 0 (newcomer b.rows) ≡ (enrolled b b.agents).seats = seat_same (enrolled b b.agents).seats 0
-        (newcomer b.rows) (ap (λ (t : Bool). cond t (newcomer b.rows) (nobody b.rows)) (lt-ltb 0 b.agents agents)) in
+    (newcomer b.rows) (ap (λ (t : Bool). cond t (newcomer b.rows) (nobody b.rows)) (lt-ltb 0 b.agents agents)) in
     λ i. record { memory = sym w5 i; seats = sym seats i }
 
 module _ {N : Type 0} where
@@ -154,9 +157,12 @@ module _ {N : Type 0} where
 
   steps_lawful : (m : Machine) (ss : List (Step N)) → Full m → LawfulSteps m.bounds (world_of m) ss → IsLawfulJournal m ss
   steps_lawful m [] w l = tt
-  steps_lawful m (s ∷ ss) w l =
-      (l.0, l.1, steps_lawful (step m s.agent s.op) ss (full_step m s.agent s.op w)
-      (subst (λ z. LawfulSteps m.bounds z ss) (sym (world_step m s.agent s.op w.words w.agents l.0)) l.2))
+  steps_lawful m (s ∷ ss) w l = (
+    l.0,
+    l.1,
+    steps_lawful (step m s.agent s.op) ss (full_step m s.agent s.op w)
+        (subst (λ z. LawfulSteps m.bounds z ss) (sym (world_step m s.agent s.op w.words w.agents l.0)) l.2),
+  )
 
   pub all_enroll : (b : Bounds) (n : ℕ) → IsShape b → n ≤ b.agents → EnrolledAll N b n
   all_enroll b zero shape le = record { lawful = tt; world = none_yet b; full = full_first b shape }
@@ -167,9 +173,9 @@ module _ {N : Type 0} where
       let lt : n < b.agents = omega arith in
       let new : may b n n Enroll (cond (nat_lt n n) (newcomer b.rows) (nobody b.rows)) ≡ true = may_enroll b n lt in
       let there : may b ((world_of m).memory Enrolled) n Enroll ((world_of m).seats n) ≡ true = subst
-          (λ (z : World). may b (z.memory Enrolled) n Enroll (z.seats n) ≡ true) (sym before.world) new in
+      (λ (z : World). may b (z.memory Enrolled) n Enroll (z.seats n) ≡ true) (sym before.world) new in
       let can : is_allowed m n Enroll ≡ true = subst (λ (c : Bounds). may c (word_in m Enrolled) n Enroll (record_at m n) ≡ true)
-          (sym (bounds_run b (enrolments {N = N} n))) there in
+      (sym (bounds_run b (enrolments {N = N} n))) there in
       let next = run_next b (enrolments {N = N} n) (does n Enroll None) in
       record {
         lawful = (IsLawfulJournal-append (new_machine b) (enrolments {N = N} n) (does n Enroll None ∷ [])).1 (before.lawful, (can, tt, tt));
@@ -202,16 +208,39 @@ module _ {N : Type 0} where
       let t3 = lt-ltb 0 b.roots one in
       let t4 = lt-ltb 1 b.roots two in
       let t5 = lt-ltb 1 (b.limit + 64) more in
-      let t6 = lt-ltb 0 (b.limit + 64) more0 in
-      (rw (t0, t1) refl, tt,
-      (rw (t0, t1) refl, tt,
-      (rw (t0, t1, t2) refl, tt,
-      (rw (t0, t1) refl, tt,
-      (rw (t0, t1) refl, tt,
-      (rw (t0, t1) refl, tt,
-      (rw (t0, t1) refl, tt,
-      (rw (t0, t1, t3, t6) refl, tt,
-      (rw (t0, t1) refl, tt, (rw (t0, t1) refl, tt, (rw (t0, t1, t4, t5) refl, tt, (rw (t0, t1) refl, tt, (rw t1 refl, tt, (rw t1 refl, tt, tt))))))))))))))
+      let t6 = lt-ltb 0 (b.limit + 64) more0 in (
+        rw (t0, t1) refl,
+        tt,
+        (
+          rw (t0, t1) refl,
+          tt,
+          (
+            rw (t0, t1, t2) refl,
+            tt,
+            (
+              rw (t0, t1) refl,
+              tt,
+              (
+                rw (t0, t1) refl,
+                tt,
+                (
+                  rw (t0, t1) refl,
+                  tt,
+                  (
+                    rw (t0, t1) refl,
+                    tt,
+                    (
+                      rw (t0, t1, t3, t6) refl,
+                      tt,
+                      (rw (t0, t1) refl, tt, (rw (t0, t1) refl, tt, (rw (t0, t1, t4, t5) refl, tt, (rw (t0, t1) refl, tt, (rw t1 refl, tt, (rw t1 refl, tt, tt)))))),
+                    ),
+                  ),
+                ),
+              ),
+            ),
+          ),
+        ),
+      )
 
   pub opening_lawful : (b : Bounds) (seed : Seed N) → IsShape b → HasRoots (numbers_of b) seed
       → IsLawfulJournal (new_machine b) (machine_opening b.agents seed)
@@ -222,7 +251,7 @@ module _ {N : Type 0} where
       let agents : 0 < b.agents = let r = shape.agents.0 in omega arith in
       let world : world_of m ≡ ready b = all.world ∙ is_ready b rows agents in
       let steps : LawfulSteps m.bounds (world_of m) (seeding seed) = subst (λ (c : Bounds). LawfulSteps c (world_of m) (seeding seed))
-          (sym (bounds_run b (enrolments {N = N} b.agents))) (subst (λ z. LawfulSteps b z (seeding seed)) (sym world) (seed_lawful b seed shape roots)) in
+      (sym (bounds_run b (enrolments {N = N} b.agents))) (subst (λ z. LawfulSteps b z (seeding seed)) (sym world) (seed_lawful b seed shape roots)) in
       (IsLawfulJournal-append (new_machine b) (enrolments {N = N} b.agents) (seeding seed)).1 (all.lawful, steps_lawful m (seeding seed) all.full steps)
 
   -- the events of steps, by the state as functions
@@ -237,11 +266,11 @@ module _ {N : Type 0} where
   steps_project m p (s ∷ ss) w l =
       let next = world_step m s.agent s.op w.words w.agents l.0 in
       let read : read_by (world_of m) s.agent s.op ≡ word_read m s.agent s.op = word_shown m (action_of s.agent s.op (record_at m s.agent)).word
-          (may_within m.bounds _ s.agent s.op (record_at m s.agent) l.0) in
+      (may_within m.bounds _ s.agent s.op (record_at m s.agent) l.0) in
       let v = word_read m s.agent s.op in
       let d = record_at m s.agent in
       let rest = steps_project (step m s.agent s.op) (ids_after p d v s.op) ss (full_step m s.agent s.op w)
-          (subst (λ z. LawfulSteps m.bounds z ss) (sym next) l.2) in
+      (subst (λ z. LawfulSteps m.bounds z ss) (sym next) l.2) in
       ap (λ es. events_of s (act_of p d v s.op s.want) ++ es) (rest ∙ ap (λ z. project_world z (ids_after p d v s.op) ss) next)
       ∙ ap (λ x. events_of s (act_of p d x s.op s.want) ++ project_world (step_world (world_of m) s.agent s.op) (ids_after p d x s.op) ss) (sym read)
 
@@ -267,7 +296,7 @@ module _ {N : Type 0} where
       let agents : 0 < b.agents = let r = shape.agents.0 in omega arith in
       let world : world_of m ≡ ready b = all.world ∙ is_ready b rows agents in
       let steps : LawfulSteps m.bounds (world_of m) (seeding seed) = subst (λ (c : Bounds). LawfulSteps c (world_of m) (seeding seed))
-          (sym (bounds_run b (enrolments {N = N} b.agents))) (subst (λ z. LawfulSteps b z (seeding seed)) (sym world) (seed_lawful b seed shape roots)) in
+      (sym (bounds_run b (enrolments {N = N} b.agents))) (subst (λ z. LawfulSteps b z (seeding seed)) (sym world) (seed_lawful b seed shape roots)) in
       let quiet = quiet_enrolments (new_machine b) no_ids b.agents in
       project-append (new_machine b) no_ids (enrolments b.agents) (seeding seed)
       ∙ ((λ i. quiet.0 i ++ project_from m (quiet.1 i) (seeding seed))
@@ -308,7 +337,7 @@ module _ {N : Type 0} where
   opening_born b seed a shape le lt =
       let all = all_enroll b b.agents shape (omega arith) in
       record_stays b (enrolments {N = N} b.agents) (seeding seed) a (own_past 1 a (seeding seed) le (below_seeding 1 seed (omega arith)))
-          ∙ (ap (λ (z : World). z.seats a) all.world ∙ ap (λ (t : Bool). cond t (newcomer b.rows) (nobody b.rows)) (lt-ltb a b.agents lt))
+      ∙ (ap (λ (z : World). z.seats a) all.world ∙ ap (λ (t : Bool). cond t (newcomer b.rows) (nobody b.rows)) (lt-ltb a b.agents lt))
 
 module _ {D N : Type 0} (d : discipline.Ghosts D N) (k : MachineShape N) (began : d.holds (heap_numbers k) []) where
   abbrev may_be : List (Event N) → Event N → Type 0
@@ -326,10 +355,10 @@ module _ {D N : Type 0} (d : discipline.Ghosts D N) (k : MachineShape N) (began 
       let m0 : may_be [] e0 = d.allows_plain (heap_numbers k) [] e0 began tt (refl, tt) in
       let h1 : holds_so (e0 ∷ []) = d.keeps (heap_numbers k) [] e0 began m0 in
       let m1 : may_be (e0 ∷ []) e1 = d.allows_plain (heap_numbers k) (e0 ∷ []) e1 h1
-          (record { node = new_node 0; there = refl; mine = refl; unlinked = refl }, omega arith) (refl, tt) in
+      (record { node = new_node 0; there = refl; mine = refl; unlinked = refl }, omega arith) (refl, tt) in
       let h2 : holds_so (e0 ∷ e1 ∷ []) = d.keeps (heap_numbers k) (e0 ∷ []) e1 h1 m1 in
       let m2 : may_be (e0 ∷ e1 ∷ []) e2 = d.allows_plain (heap_numbers k) (e0 ∷ e1 ∷ []) e2 h2
-          (record { node = with_value 0 0 (new_node 0); there = refl; mine = refl; unlinked = refl }, omega arith) (refl, tt) in
+      (record { node = with_value 0 0 (new_node 0); there = refl; mine = refl; unlinked = refl }, omega arith) (refl, tt) in
       (m0, (m1, (m2, (can.first_link, (can.second_link, tt)))))
 
   seed_roots : (seed : Seed N) → SeedAllowed d.may (heap_numbers k) seed → HasRoots (heap_numbers k) seed

@@ -16,7 +16,12 @@ use orc_words::RowLink;
 impl<D: Discipline> MachineBoard<D> {
     // one step, and the number that `apply` answers
     #[inline(always)]
-    pub(crate) fn step(&self, p: &mut MachineBoardPass<D>, request: Request, note: &Option<D::Note>) -> u64
+    pub(crate) fn step(
+        &self,
+        p: &mut MachineBoardPass<D>,
+        request: Request,
+        note: &Option<D::Note>,
+    ) -> u64
         requires belongs { Belongs self.now p.old }
         requires allowed { RequestAllowed (board_bounds self.now) (shows p.old).agent request (shows p.old).record_is }
         requires licensed { Licensed counted_rules self.now.words.shape (D.holds (board_numbers self.now)) (D.may (board_numbers self.now)) p.old.pass.seat.me.0 p.old.pass.agent request note.now }
@@ -30,7 +35,12 @@ impl<D: Discipline> MachineBoard<D> {
 
     // a step that changes no link, without a note
     #[inline(always)]
-    pub(crate) fn plain_step(&self, p: &mut MachineBoardPass<D>, op: Op, want: Option<RowLink>) -> u64
+    pub(crate) fn plain_step(
+        &self,
+        p: &mut MachineBoardPass<D>,
+        op: Op,
+        want: Option<RowLink>,
+    ) -> u64
         requires belongs { Belongs self.now p.old }
         requires plain { is_plain_kind op ≡ true }
         requires allowed { MayDo (board_bounds self.now) (shows p.old) op }

@@ -81,11 +81,7 @@ const UNLINK: Op = Op::LinkCas {
 };
 
 // whether the pass's record allows the op
-fn may_make<D: Discipline>(
-    board: &MachineBoard<D>,
-    p: &MachineBoardPass<D>,
-    op: &Op,
-) -> bool
+fn may_make<D: Discipline>(board: &MachineBoard<D>, p: &MachineBoardPass<D>, op: &Op) -> bool
     ensures { result ≡ true → MayDo (board_bounds board.now) (shows p.now) op.now }
 {
     may_step(&board.shape(), 0, p.agent(), op, p.record())
@@ -148,13 +144,7 @@ fn make_one<D: Discipline>(
 }
 
 // exchanges the link of a root, with a note, where the record allows it
-fn exchange_root(
-    board: &Board,
-    p: &mut Pass,
-    root: u32,
-    from: RowLink,
-    to: RowLink,
-) -> Option<u64>
+fn exchange_root(board: &Board, p: &mut Pass, root: u32, from: RowLink, to: RowLink) -> Option<u64>
     requires belongs { Belongs board.now p.old }
     ensures belongs { Belongs board.now p.new }
     ensures agent { (shows p.new).agent ≡ (shows p.old).agent }

@@ -137,12 +137,7 @@ fn let_go(board: &Board, p: &mut Pass, state: &mut State, slot: u32) -> bool
     ensures absorbed { (shows p.new).absorbed ≡ (shows p.old).absorbed }
     ensures bounds { state.new.bounds ≡ state.old.bounds }
 {
-    play(
-        board,
-        p,
-        state,
-        &[Op::Clear { slot }, Op::TakeIn { slot }],
-    )
+    play(board, p, state, &[Op::Clear { slot }, Op::TakeIn { slot }])
 }
 
 // the agent unlinks row 0 from root 0, retires it, lets it go, and begins to scan for it

@@ -15,8 +15,14 @@ pub play_one-requires : goal.play_one-requires
 play_one-requires c =
     let i = c.loop-op.invariant in
     let next = drop_next c.args.ops.now c.loop-op.op-index Enroll c.loop-op-test.true in
-    record { goes = (i.0.0, by_agent c.args.agent (drop (c.loop-op.op-index + 1) c.args.ops.now), subst
-        (λ (l : List Op). GoesOn i.0.0 c.loop-op.state (by_agent c.args.agent l)) next i.0.1) }
+    record {
+      goes = (
+        i.0.0,
+        by_agent c.args.agent (drop (c.loop-op.op-index + 1) c.args.ops.now),
+        subst
+            (λ (l : List Op). GoesOn i.0.0 c.loop-op.state (by_agent c.args.agent l)) next i.0.1,
+      );
+    }
 
 pub loop-op-preserved : goal.loop-op-preserved
 loop-op-preserved c =

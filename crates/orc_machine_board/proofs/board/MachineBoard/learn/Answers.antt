@@ -32,6 +32,6 @@ returns-clause-learns g c =
     let w = c.learn.new.into.seat.me.0 in
     let x = c.learn.new.from.seat.me.0 in
     subst (λ (z : ℕ × ℕ). LearnsSteps (view_of v.agent v.seat.me.0) (view_of u.agent u.seat.me.0) (view_of z.0 w) (view_of z.1 x))
-        (λ i. (sym l.agents.0 i, sym l.agents.1 i))
+    (λ i. (sym l.agents.0 i, sym l.agents.1 i))
     (learns k (g.D.Discipline.holds (heap_numbers k))
     (g.D.Discipline.may (heap_numbers k)) v.seat.me.0 u.seat.me.0 w x v.agent u.agent c.requires.into.keeps c.requires.from.keeps l.learned)

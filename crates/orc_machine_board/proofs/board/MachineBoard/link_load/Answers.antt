@@ -9,6 +9,6 @@ step-requires-clause-licensed g c =
     let p = c.args.p.now.pass in
     let kept = c.requires.belongs.keeps in
     load_licensed k (g.D.Discipline.holds (heap_numbers k)) (g.D.Discipline.may (heap_numbers k))
-        (g.D.Discipline.allows_plain (heap_numbers k)) p.seat.me.0 p.agent kept.number kept.now
+    (g.D.Discipline.allows_plain (heap_numbers k)) p.seat.me.0 p.agent kept.number kept.now
     c.args.place c.args.slot c.args.want c.args.note
-        (record { may = c.requires.allowed; enrolled = refl; wanted = c.requires.wanted; plain = tt }) c.requires.noted c.requires.licensed
+    (record { may = c.requires.allowed; enrolled = refl; wanted = c.requires.wanted; plain = tt }) c.requires.noted c.requires.licensed

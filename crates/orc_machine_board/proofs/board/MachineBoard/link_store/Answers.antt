@@ -9,5 +9,5 @@ step-requires-clause-licensed g c =
     let p = c.args.p.now.pass in
     let kept = c.requires.belongs.keeps in
     store_licensed k (g.D.Discipline.holds (heap_numbers k)) (g.D.Discipline.may (heap_numbers k))
-        (g.D.Discipline.allows_plain (heap_numbers k)) p.seat.me.0 p.agent kept.number kept.now
+    (g.D.Discipline.allows_plain (heap_numbers k)) p.seat.me.0 p.agent kept.number kept.now
     c.args.row c.args.link (record { may = c.requires.allowed; enrolled = refl; wanted = tt; plain = c.requires.without_mark }) c.requires.licensed

@@ -13,14 +13,14 @@ pub make-requires-clause-some : goal.make-requires-clause-some
 make-requires-clause-some g c =
     let b = bounds_of c.args.shape.now in
     let e : length c.as_slice.result.now ≡ places b = ap length (c.as_slice.ensures.value ∙ c.in_ok-words.ensures.words)
-        ∙ long_words b (machine_opening b.agents c.args.seed) (in_range c.args.shape.now) in
+    ∙ long_words b (machine_opening b.agents c.args.seed) (in_range c.args.shape.now) in
     omega (arith, e)
 
 pub make-requires-clause-agents : goal.make-requires-clause-agents
 make-requires-clause-agents g c =
     let b = bounds_of c.args.shape.now in
     let e : length c.in_ok-words.owns.items ≡ b.agents = ap length c.in_ok-words.ensures.agents
-        ∙ long_run b (machine_opening b.agents c.args.seed) (in_range c.args.shape.now) in
+    ∙ long_run b (machine_opening b.agents c.args.seed) (in_range c.args.shape.now) in
     let few = c.args.shape.now.few_agents in
     (e, omega (arith, e, few))
 
@@ -31,7 +31,7 @@ pub invariant_of-result : goal.invariant_of-result
 invariant_of-result g c =
     let b = bounds_of c.args.shape.now in
     let e : length c.as_slice.result.now ≡ places b = ap length (c.as_slice.ensures.value ∙ c.in_ok-words.ensures.words)
-        ∙ long_words b (machine_opening b.agents c.args.seed) (in_range c.args.shape.now) in
+    ∙ long_words b (machine_opening b.agents c.args.seed) (in_range c.args.shape.now) in
     record { sized = c.in_ok-words-2.ensures.words ∙ (e ∙ ap (λ q. places (bounds_in q)) (sym c.in_ok-words-2.ensures.shape)) }
 
 pub returns-clause-agents : goal.returns-clause-agents

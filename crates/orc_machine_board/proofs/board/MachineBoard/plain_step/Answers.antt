@@ -10,5 +10,5 @@ step-requires-clause-licensed g c =
     let v = p.seat.me.0 in
     let rest = plain_allowed (bounds_of k.shape) p.agent c.args.op c.args.want v.own c.requires.plain c.requires.wanted in
     plain_licensed k (g.D.Discipline.holds (heap_numbers k)) (g.D.Discipline.may (heap_numbers k)) (g.D.Discipline.allows_plain (heap_numbers k)) v p.agent
-        (record { op = c.args.op; want = c.args.want }) c.requires.plain
+    (record { op = c.args.op; want = c.args.want }) c.requires.plain
     (record { may = c.requires.allowed; enrolled = rest.1; wanted = c.requires.wanted; plain = rest.0 })

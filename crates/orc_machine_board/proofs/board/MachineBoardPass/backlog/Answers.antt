@@ -11,7 +11,7 @@ overflow_add-result g c =
     let p = c.args.self.now.pass in
     let d = g.D.Discipline in
     let room : p.own.list.room ≡ (bounds_in k).rows = ap (λ (z : Agent). z.list.room) (sym p.mine)
-        ∙ room_of k (d.holds (heap_numbers k)) (d.may (heap_numbers k)) p.seat.me.0 p.agent c.requires.belongs.1.keeps in
+    ∙ room_of k (d.holds (heap_numbers k)) (d.may (heap_numbers k)) p.seat.me.0 p.agent c.requires.belongs.1.keeps in
     let few = k.shape.few_rows in
     let long = c.len-listed.ensures.room in
     omega (arith, room, few, long)
@@ -22,7 +22,7 @@ overflow_cast-listed g c =
     let p = c.args.self.now.pass in
     let d = g.D.Discipline in
     let room : p.own.list.room ≡ (bounds_in k).rows = ap (λ (z : Agent). z.list.room) (sym p.mine)
-        ∙ room_of k (d.holds (heap_numbers k)) (d.may (heap_numbers k)) p.seat.me.0 p.agent c.requires.belongs.1.keeps in
+    ∙ room_of k (d.holds (heap_numbers k)) (d.may (heap_numbers k)) p.seat.me.0 p.agent c.requires.belongs.1.keeps in
     let few = k.shape.few_rows in
     let long = c.len-listed.ensures.room in
     omega (arith, room, few, long)

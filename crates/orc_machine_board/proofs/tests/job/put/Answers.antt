@@ -13,11 +13,11 @@ pub exchange-requires-2-clause-licensed : goal.exchange-requires-2-clause-licens
 exchange-requires-2-clause-licensed c =
     let sole = c.steps.ensures.sole in
     let seen : (shows c.steps.new.p).journal ≡ before_swing = on_and_on _ _ (c.if-not-steps.ensures.journal refl) (c.if-not-exchange.ensures.journal refl)
-        (c.if-not-give.ensures.journal refl) in
+    (c.if-not-give.ensures.journal refl) in
     swing_licensed (board_bounds c.args.board.now) (shows c.steps.new.p) sole.sizes sole.agent seen sole.belongs.keeps.now.kept
 
 pub returns-clause-journal : goal.returns-clause-journal
 returns-clause-journal c = λ e.
     let seen : (shows c.steps.new.p).journal ≡ before_swing = on_and_on _ _ (c.if-not-steps.ensures.journal refl) (c.if-not-exchange.ensures.journal refl)
-        (c.if-not-give.ensures.journal refl) in
+    (c.if-not-give.ensures.journal refl) in
     on_and_on _ _ (c.steps-2.ensures.journal e) (c.if-not-exchange-2.ensures.journal refl) seen
