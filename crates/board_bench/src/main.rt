@@ -13,10 +13,10 @@ use std::io;
 use std::sync::atomic::{AtomicU64, Ordering};
 use std::time::Instant;
 
-/// How many loads are timed.
+// How many loads are timed.
 const LOADS: u32 = 50_000_000;
 
-/// Whatever fits may follow.
+// Whatever fits may follow.
 struct AnyFit;
 
 impl Discipline for AnyFit {
@@ -35,7 +35,7 @@ impl Discipline for AnyFit {
     ghost moves_linked = { λ _ _ _ _ may. may.1 };
 }
 
-/// The sum of what so many loads of root 0 find.
+// Sums what so many loads of root 0 find.
 fn load_links(board: &PlainBoard<AnyFit>, p: &mut PlainBoardPass<AnyFit>) -> u64
     requires belongs { Belongs board.now p.old }
     requires roots { 0 < (board_bounds board.now).roots }
@@ -49,7 +49,7 @@ fn load_links(board: &PlainBoard<AnyFit>, p: &mut PlainBoardPass<AnyFit>) -> u64
     sum
 }
 
-/// The sum of what as many loads of a bare word find.
+// Sums what as many loads of a bare word find.
 fn load_word(word: &AtomicU64) -> u64 {
     let mut sum: u64 = 0;
     for _load in 0..LOADS {

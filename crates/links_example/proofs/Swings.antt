@@ -1,17 +1,17 @@
 -- Swings of the agent's own root.
 use Rattle.std.proofs.Common.{List, [], ap, false, refl, subst, sym, ℕ, ◌++◌, ◌∙◌, ◌∷◌, ◌≡◌}
 use Rattle.std.specs.List.{slice_get}
-use Rattle.std.specs.Prelude.{None, Option, Some}
+use Rattle.std.specs.Prelude.{Option, Some}
 use Rattle.orc_heap.proofs.Changes.{get-change_same}
 use Rattle.orc_heap.proofs.Fresh.{own_node_told, touched_by}
-use Rattle.orc_heap.proofs.Known.{known-later}
+use Rattle.orc_heap.proofs.Untouched.{target_from}
 use Rattle.orc_heap.proofs.Moved.{target_roots}
 use Rattle.orc_heap.proofs.Calls.{Puts-stood}
-use Rattle.orc_heap.proofs.Runs.{run_heap-snoc}
+use Rattle.orc_heap.proofs.Runs.{run_from-append, run_heap-snoc}
 use Rattle.orc_heap.specs.Acts.{IsTarget, as_linked}
 use Rattle.orc_heap.specs.Allowed.{AllAllowed, AllowedLater, Later}
 use Rattle.orc_heap.specs.Calls.{Misses, event_of}
-use Rattle.orc_heap.specs.Heap.{HeapNumbers, Node, shown}
+use Rattle.orc_heap.specs.Heap.{HeapNumbers, Node, new_heap, shown}
 use Rattle.orc_heap.specs.Journals.{run_heap}
 use Rattle.orc_heap.specs.OwnEvents.{Puts}
 use Rattle.orc_heap.specs.Seats.{Seat, heap_of}
@@ -75,8 +75,6 @@ moved_node n s t id value below from noted all holds p there =
 -- a Move of the agent's root to null or to a node that it knows is allowed in every later journal
 pub move_allowed : (n : HeapNumbers) (s : Seat ℕ) (from to : Link) → to.mark ≡ false → IsTarget s.agent (heap_of n s) to.to
     → AllowedLater (OwnRootsMay n) n s.agent s.seen (Root s.agent) from (event_of s (Move (Root s.agent) from to) (Some s.agent))
-move_allowed n s from to unmarked target = λ more later at. ((at, target_later n s.agent to.to s.seen more later.allowed target), (refl, unmarked, refl))
-  where
-    target_later : (n : HeapNumbers) (agent : ℕ) (to : Option ℕ) (seen more : List (Event ℕ)) → AllAllowed (OwnRootsMay n) seen more → IsTarget agent (run_heap n seen) to → IsTarget agent (run_heap n (seen ++ more)) to
-    target_later n agent None seen more all k = tt
-    target_later n agent (Some id) seen more all k = known-later n (OwnRootsMay n) agent id seen more all k
+move_allowed n s from to unmarked target = λ more later at.
+    let known = target_from s.agent (heap_of n s) more to.to target in
+    ((at, rw (run_from-append (new_heap n) s.seen more) known), (refl, unmarked, refl))

@@ -1,8 +1,7 @@
 -- A stack at an agent's own root.
 use Rattle.std.specs.Borrow.{Bor}
 use Rattle.std.specs.Prelude.{None, Option, Some, false, slice_get, slice_set, true, ℕ, ◌≡◌}
-use Rattle.orc_heap.specs.Heap.{Heap, HeapNumbers, Node, shown}
-use Rattle.orc_heap.specs.Journals.{run_heap}
+use Rattle.orc_heap.specs.Heap.{HeapNumbers, Node, shown}
 use Rattle.orc_heap.specs.Seats.{Seat, heap_of}
 use Rattle.orc_heap.specs.Slots.{Hold, id_in}
 use Rattle.orc_heap.specs.declared.events.Link.{Link}

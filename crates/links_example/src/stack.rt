@@ -16,7 +16,7 @@ pub enum PushRefused {
     Spent(Spent),
 }
 
-/// The unmarked link to what is on top.
+// Names the unmarked link to what is on top.
 fn below<'a>(top: Option<&'a Held>) -> Want<'a>
     ensures link { (slots : Slots) → link_in slots result ≡ plain_link (target_in slots top.entry) }
     ensures held { (s : Seat ℕ) → HoldsTarget s top.entry → HoldsWant s.slots result }
@@ -27,7 +27,7 @@ fn below<'a>(top: Option<&'a Held>) -> Want<'a>
     }
 }
 
-/// Puts a new node with this value on top of the stack.
+// Puts a new node with this value on top of the stack.
 fn push<L: Links<Rule = OwnRoots>>(
     links: &L,
     p: &mut L::Pass,
@@ -72,7 +72,7 @@ fn push<L: Links<Rule = OwnRoots>>(
     }
 }
 
-/// Takes the whole stack away.
+// Takes the whole stack away.
 fn clear<L: Links<Rule = OwnRoots>>(links: &L, p: &mut L::Pass, top: &Held)
     requires pass { L.belongs links.now p.old }
     requires root { (L.seat links.now p.old).agent < (L.numbers links.now).roots }
@@ -96,7 +96,7 @@ fn clear<L: Links<Rule = OwnRoots>>(links: &L, p: &mut L::Pass, top: &Held)
     }
 }
 
-/// Looks at a link of the stack, which nobody else changes.
+// Looks at a link of the stack, which nobody else changes.
 fn look_at<L: Links<Rule = OwnRoots>>(links: &L, p: &mut L::Pass, place: &At, slot: u32) -> Held
     requires pass { L.belongs links.now p.old }
     requires slot { IsFree (L.seat links.now p.old).slots slot }
@@ -112,7 +112,7 @@ fn look_at<L: Links<Rule = OwnRoots>>(links: &L, p: &mut L::Pass, place: &At, sl
     }
 }
 
-/// The values of the two nodes on the stack, the upper one first.
+// Reads the values of the two nodes on the stack, the upper one first.
 fn read_two<L: Links<Rule = OwnRoots>>(links: &L, p: &mut L::Pass) -> (u64, u64)
     requires pass { L.belongs links.now p.old }
     requires slots { IsFree (L.seat links.now p.old).slots 3 × IsFree (L.seat links.now p.old).slots 4 }

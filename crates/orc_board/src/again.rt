@@ -40,12 +40,7 @@ pub(crate) fn insert_key<R: Wait, S: SharedSet>(
 }
 
 // Removes the key.
-pub(crate) fn remove_key<R: Wait, S: SharedSet>(
-    rt: &R,
-    set: &S,
-    p: &mut S::Pass,
-    key: u64,
-) -> bool
+pub(crate) fn remove_key<R: Wait, S: SharedSet>(rt: &R, set: &S, p: &mut S::Pass, key: u64) -> bool
     requires { S.usable set.now p.old }
     ensures usable { S.usable set.now p.new }
     ensures agent { S.agent_of set.now p.new ≡ S.agent_of set.now p.old }

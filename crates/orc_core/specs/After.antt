@@ -29,6 +29,7 @@ promoted Empty w = Empty
 promoted (Held r) w = Held r
 promoted (Published r) w = cond (w / 2 == r + 1) (Held r) (Published r)
 
+-- the slots after a load that names one of them, or none
 abbrev pub promoted_at : Option ℕ → List SlotUse → ℕ → List SlotUse
 promoted_at None slots w = slots
 promoted_at (Some k) slots w = slice_set slots k (promoted (slice_index_or slots k Empty) w)
@@ -38,6 +39,7 @@ abbrev pub cut_of : Option Doom → ℕ → Option Doom
 cut_of None r = None
 cut_of (Some d) r = Some (record { row = d.row; cut = d.cut || (d.row == r); bare = d.bare })
 
+-- the bit of the doomed row is clear
 abbrev pub bared : Option Doom → Option Doom
 bared None = None
 bared (Some d) = Some (record { row = d.row; cut = d.cut; bare = true })
@@ -53,21 +55,25 @@ checked_by Check r w c = Some (record { row = r; number = sequence_of w })
 checked_by Start r w c = c
 checked_by End r w c = c
 
+-- a scan that begins takes the row out of the hand
 abbrev pub hand_by : CounterUse → Option ℕ → Option ℕ
 hand_by Check h = h
 hand_by Start h = None
 hand_by End h = h
 
+-- a scan that begins takes the first row off the list, unless its row was in hand
 abbrev pub list_by : CounterUse → ℕ → Option ℕ → Listed → Listed
 list_by Check r h l = l
 list_by Start r h l = cond (names h r) l (listed_rest l)
 list_by End r h l = l
 
+-- a scan begins at place 0; at its end it is over, or begins again where the word isn't the kept one
 abbrev pub scan_by : CounterUse → ℕ → ℕ → Option Scan → Option Scan
 scan_by Check r w s = s
 scan_by Start r w s = Some (record { row = r; word = w; place = 0; found = false })
 scan_by End r w s = cond (w == kept s) None (Some (record { row = r; word = w; place = 0; found = false }))
 
+-- at the end of a scan the row is doomed where its word is the kept one
 abbrev pub doom_by : CounterUse → ℕ → ℕ → Option Scan → Option Doom → Option Doom
 doom_by Check r w s d = d
 doom_by Start r w s d = d

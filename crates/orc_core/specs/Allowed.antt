@@ -12,14 +12,17 @@ use Rattle.orc_core.specs.declared.ops.Op.TheVariants.{Enroll, GateLook, GateTak
 use Rattle.orc_core.specs.Listed.{first_is}
 use Rattle.orc_core.specs.RecordParts.{names, number_of, saw, checked_below, is_due, holds, is_empty, is_published, any_holds, holds_fresh, slot_of, scans, scan_empty, scan_found, scan_at, doom_uncut, doom_cut, doom_bare}
 
+-- the step tries the bit of this row, at this sequence
 abbrev pub tries_bit : Op → ℕ → ℕ → Bool
 tries_bit (SetRetired q s) r sequence = (q == r) && (s == sequence)
 tries_bit _ r sequence = false
 
+-- the step makes the increment of this row
 abbrev pub increments : Op → ℕ → Bool
 increments (Inc q) r = q == r
 increments _ r = false
 
+-- the step arms this row, or makes its decrement
 abbrev pub arms_or_decrements : Op → ℕ → Bool
 arms_or_decrements (Arm q) r = q == r
 arms_or_decrements (Dec q) r = q == r
@@ -41,6 +44,7 @@ in_order None (Some r) dec op = increments op r
 in_order None None (Some r) op = arms_or_decrements op r
 in_order None None None op = true
 
+-- what the agent has pending lets the step go
 abbrev pub forced : Agent → Op → Bool
 forced d op = in_order d.due d.inc d.dec op
 
@@ -91,5 +95,7 @@ abbrev pub stands : Op → Agent → Bool
 stands Enroll d = true
 stands _ d = d.enrolled
 
+-- the agent of this number may make the step: it is one of the table's, and enrolled but for Enroll, nothing pending comes
+-- first, and the kind's own condition holds
 abbrev pub may : Bounds → ℕ → ℕ → Op → Agent → Bool
 may b e a op d = nat_lt a b.agents && stands op d && forced d op && fits b e a op d

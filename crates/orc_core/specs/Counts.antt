@@ -6,9 +6,11 @@ use Rattle.orc_core.specs.declared.counts.Census.{Census}
 use Rattle.orc_core.specs.Machine.{Machine, word_in, record_at}
 use Rattle.orc_core.specs.Sums.{sum_below, count_below, some_below}
 
+-- the row's gate is out
 abbrev pub is_out : Machine → ℕ → Bool
 is_out m r = word_in m (Gate r) % 2 == 1
 
+-- the row has its retired bit
 abbrev pub is_retired : Machine → ℕ → Bool
 is_retired m r = retired_bit (word_in m (Counter r)) == 1
 
@@ -24,6 +26,7 @@ is_root_target m r = some_below m.bounds.roots (λ i. links_to (word_in m (Root 
 abbrev pub is_next_target : Machine → ℕ → Bool
 is_next_target m r = some_below m.bounds.rows (λ j. is_out m j && links_to (word_in m (Next j)) r)
 
+-- the row is the target of a link in use
 abbrev pub is_target : Machine → ℕ → Bool
 is_target m r = is_root_target m r || is_next_target m r
 
@@ -31,6 +34,8 @@ is_target m r = is_root_target m r || is_next_target m r
 abbrev pub handovers : Machine → ℕ → ℕ
 handovers m a = count_below 8 (λ k. not (word_in m (Handover a k) == 0))
 
+-- the rows that are out, the retired rows, the handover words that aren't 0, the entries of all work lists, and the rows that
+-- are out and linked
 abbrev pub census_of : Machine → Census
 census_of m = record {
   out = count_below m.bounds.rows (is_out m);

@@ -36,12 +36,15 @@ nobody room = record {
   list = record { items = []; room = room };
 }
 
+-- the record of an agent; an empty one for a number that no agent has
 abbrev pub record_at : Machine → ℕ → Agent
 record_at m a = slice_index_or m.agents a (nobody m.bounds.rows)
 
+-- what a word holds
 abbrev pub word_in : Machine → Word → ℕ
 word_in m w = slice_index m.words (place m.bounds w)
 
+-- the agent may make the step in this state
 abbrev pub is_allowed : Machine → ℕ → Op → Bool
 is_allowed m a op = may m.bounds (word_in m Enrolled) a op (record_at m a)
 
@@ -61,6 +64,7 @@ step m a op = record {
   agents = slice_set m.agents a (after op (record_at m a) (word_read m a op));
 }
 
+-- what the step answers
 abbrev pub answer : Machine → ℕ → Op → ℕ
 answer m a op = answer_of (action_of a op (record_at m a)).operation (word_read m a op)
 

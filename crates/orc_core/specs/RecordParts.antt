@@ -14,6 +14,7 @@ abbrev pub names : Option ℕ → ℕ → Bool
 names None r = false
 names (Some q) r = q == r
 
+-- both name one row, or neither names any
 abbrev pub same_target : Option ℕ → Option ℕ → Bool
 same_target None None = true
 same_target None (Some r) = false
@@ -25,6 +26,7 @@ abbrev pub number_of : Option Reading → ℕ
 number_of None = 0
 number_of (Some s) = s.number
 
+-- the row was read
 abbrev pub saw : Option Reading → ℕ → Bool
 saw None r = false
 saw (Some s) r = s.row == r
@@ -49,11 +51,13 @@ holds Empty r = false
 holds (Published q) r = false
 holds (Held q) r = q == r
 
+-- the slot names no row
 abbrev pub is_empty : SlotUse → Bool
 is_empty Empty = true
 is_empty (Published q) = false
 is_empty (Held q) = false
 
+-- the slot names a row that isn't known to be linked
 abbrev pub is_published : SlotUse → Bool
 is_published Empty = false
 is_published (Published q) = true
@@ -68,6 +72,7 @@ abbrev pub holds_fresh : Option ℕ → SlotUse → Bool
 holds_fresh None s = false
 holds_fresh (Some r) s = holds s r
 
+-- the agent's slot; Empty for a number above 7
 abbrev pub slot_of : Agent → ℕ → SlotUse
 slot_of d k = slice_index_or d.slots k Empty
 
@@ -81,6 +86,7 @@ abbrev pub kept : Option Scan → ℕ
 kept None = 0
 kept (Some s) = s.word
 
+-- the row is being scanned
 abbrev pub scans : Option Scan → ℕ → Bool
 scans None r = false
 scans (Some s) r = s.row == r
@@ -90,10 +96,12 @@ abbrev pub scan_empty : Option Scan → Bool
 scan_empty None = false
 scan_empty (Some s) = count_bits s.word == 4194304
 
+-- the scan found its row in a slot
 abbrev pub scan_found : Option Scan → Bool
 scan_found None = false
 scan_found (Some s) = s.found
 
+-- the scan has come to this place
 abbrev pub scan_at : Option Scan → ℕ → Bool
 scan_at None k = false
 scan_at (Some s) k = s.place == k
@@ -108,6 +116,7 @@ abbrev pub doom_cut : Option Doom → ℕ → Bool
 doom_cut None r = false
 doom_cut (Some d) r = (d.row == r) && d.cut && not d.bare
 
+-- the doom is the row, with its bit clear
 abbrev pub doom_bare : Option Doom → ℕ → Bool
 doom_bare None r = false
 doom_bare (Some d) r = (d.row == r) && d.bare

@@ -3,6 +3,7 @@ use Rattle.std.specs.Prelude.{◌≡◌, ℕ, true, List, [], ◌∷◌}
 use Rattle.orc_core.specs.declared.ops.Op.{Op}
 use Rattle.orc_core.specs.Machine.{Machine, is_allowed, step}
 
+-- the state after these steps
 abbrev pub run : Machine → List (ℕ × Op) → Machine
 run m [] = m
 run m (s ∷ ss) = run (step m s.0 s.1) ss

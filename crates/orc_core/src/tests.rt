@@ -220,6 +220,14 @@ fn entries_of(state: &State, agent: u32, row: u32) -> usize {
     state.agent(agent).list.count_of(row)
 }
 
+// The oldest row of the agent's work list.
+fn first_of(state: &State, agent: u32) -> Option<u32> {
+    if agent >= state.shape().agents() {
+        return None;
+    }
+    state.agent(agent).list.first()
+}
+
 #[test]
 fn handed_over_taken_in_and_freed(rt: HostRuntime) -> Result<(), Fail> {
     let mut state = found_held(&rt, rt.alloc())?;
@@ -263,6 +271,7 @@ fn handed_over_after_the_clear(rt: HostRuntime) -> Result<(), Fail> {
         (entries_of(&state, 1, 0), entries_of(&state, 1, 1)),
         (1, 0)
     );
+    assert_eq!(rt; (first_of(&state, 0), first_of(&state, 1)), (None, Some(0)));
     scan_and_free(&mut state)?;
     assert_eq!(rt; census(&state), NONE_OUT);
     Ok(())

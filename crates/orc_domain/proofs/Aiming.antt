@@ -13,7 +13,8 @@ use Rattle.orc_heap.specs.declared.events.Act.TheVariants.{Aim}
 use Rattle.orc_heap.specs.declared.events.Event.{Event}
 use Rattle.orc_shared_words.specs.declared.machine.Machine as machine
 use Rattle.orc_table.specs.Calls.{Adds, MayWhereFits, aim_event}
-use Rattle.orc_table.specs.Machine.{event, id_by, index_of}
+use Rattle.orc_table.specs.Machine.{id_by, index_of}
+use Rattle.orc_heap.specs.Journals.{event_by}
 use Rattle.orc_table.specs.Views.{Belongs, PlainView, shows}
 use Rattle.orc_table.specs.declared.machine.Plain.{Plain}
 use Rattle.orc_table.specs.declared.machine.PlainOp.{PlainOp}
@@ -53,9 +54,9 @@ module _ {D N : Type 0} {d : discipline.Ghosts D N} {m : machine.Ghosts Plain N 
 
     pub may_aim : AllowedWhereFits may (domain_numbers domain) s.agent s.events (event_of (seat_of domain p) (Aim (id_in (seat_of domain p).slots hold) (target_in (seat_of domain p).slots to)) None)
         → MayWhereFits may b s (aim_event s row link)
-    may_aim a = subst (λ (z : ℕ × Option ℕ). AllowedWhereFits may (domain_numbers domain) s.agent s.events (event s.agent (Aim z.0 z.1) None)) (λ i. (sym row_met i, sym target_met i)) a
+    may_aim a = subst (λ (z : ℕ × Option ℕ). AllowedWhereFits may (domain_numbers domain) s.agent s.events (event_by s.agent (Aim z.0 z.1) None)) (λ i. (sym row_met i, sym target_met i)) a
 
     pub aims : Adds may (aim_event s row link ∷ []) s t → t.fresh ≡ s.fresh
         → Only (event_of (seat_of domain p) (Aim (id_in (seat_of domain p).slots hold) (target_in (seat_of domain p).slots to)) None ∷ []) (seat_of domain p) (seat_by t p.slots)
-    aims a f = subst (λ (z : ℕ × Option ℕ). Only (event s.agent (Aim z.0 z.1) None ∷ []) (seat_of domain p) (seat_by t p.slots)) (λ i. (row_met i, target_met i))
+    aims a f = subst (λ (z : ℕ × Option ℕ). Only (event_by s.agent (Aim z.0 z.1) None ∷ []) (seat_of domain p) (seat_by t p.slots)) (λ i. (row_met i, target_met i))
         (only_adds domain p h q x (aim_event s row link ∷ []) a (mine s.agent (Aim (index_of row s.rows) (id_by s.rows link.to)) None) f)

@@ -11,7 +11,7 @@ use Rattle.orc_heap.specs.Acts.{IsKnown, with_value}
 use Rattle.orc_heap.specs.Allowed.{events_by}
 use Rattle.orc_heap.specs.Calls.{given_node}
 use Rattle.orc_heap.specs.Heap.{Node, new_node}
-use Rattle.orc_heap.specs.Journals.{points_to}
+use Rattle.orc_heap.specs.Journals.{event_by, points_to}
 use Rattle.orc_heap.specs.OwnEvents.{Puts}
 use Rattle.orc_heap.specs.declared.discipline.Discipline as discipline
 use Rattle.orc_heap.specs.declared.events.Act.TheVariants.{Fill}
@@ -20,7 +20,7 @@ use Rattle.orc_shared_words.specs.declared.machine.Machine as machine
 use Rattle.orc_table.proofs.Known.{fresh_row}
 use Rattle.orc_table.proofs.Lists.{some_one}
 use Rattle.orc_table.specs.Calls.{Adds, KnowsRow}
-use Rattle.orc_table.specs.Machine.{event, id_by, index_of, numbers}
+use Rattle.orc_table.specs.Machine.{id_by, index_of, numbers}
 use Rattle.orc_table.specs.Views.{Belongs, PlainView, heap_of, shows}
 use Rattle.orc_table.specs.declared.machine.Plain.{Plain}
 use Rattle.orc_table.specs.declared.machine.PlainOp.{PlainOp}
@@ -36,15 +36,15 @@ use Rattle.orc_domain.proofs.Growing.{Grows, adds_grow, adds_put, fresh_given, f
 use Rattle.orc_domain.proofs.Releasing.{keeps_set}
 use Rattle.orc_domain.proofs.Rows.{slots_set}
 
-filled : (N : Type 0) (agent id which value : ℕ) (x : Node) → touched_by {N = N} id (event agent (Fill id which value) None ∷ []) x ≡ with_value which value x
+filled : (N : Type 0) (agent id which value : ℕ) (x : Node) → touched_by {N = N} id (event_by agent (Fill id which value) None ∷ []) x ≡ with_value which value x
 filled N agent id which value x = ap (λ b. if b then with_value which value x else x) (eq-eqb id id refl)
 
 module _ {D N : Type 0} {d : discipline.Ghosts D N} {m : machine.Ghosts Plain N (PlainShape N) PlainOp (PlainStep N) (Unit {0}) (Unit {0})}
     (domain : PlainDomain D N) (p : PlainPass D N (PlainShape N) PlainOp (PlainStep N) (Unit {0}) (Unit {0}) d m) (h : IsPassOf domain p)
     (q r : BoardPass D N (PlainShape N) PlainOp (PlainStep N) (Unit {0}) (Unit {0}) d m) (y : Belongs domain.board q) (z : Belongs domain.board r)
     (row first second : ℕ) (fresh : (shows domain.board p.pass).fresh ≡ Some row)
-    (a : Adds (d.may (domain_numbers domain)) (event (shows domain.board p.pass).agent (Fill (index_of row (shows domain.board p.pass).rows) 0 first) None ∷ []) (shows domain.board p.pass) (shows domain.board q))
-    (c : Adds (d.may (domain_numbers domain)) (event (shows domain.board q).agent (Fill (index_of row (shows domain.board q).rows) 1 second) None ∷ []) (shows domain.board q) (shows domain.board r))
+    (a : Adds (d.may (domain_numbers domain)) (event_by (shows domain.board p.pass).agent (Fill (index_of row (shows domain.board p.pass).rows) 0 first) None ∷ []) (shows domain.board p.pass) (shows domain.board q))
+    (c : Adds (d.may (domain_numbers domain)) (event_by (shows domain.board q).agent (Fill (index_of row (shows domain.board q).rows) 1 second) None ∷ []) (shows domain.board q) (shows domain.board r))
   where
     abbrev b : Bounds
     b = domain_bounds domain
@@ -65,10 +65,10 @@ module _ {D N : Type 0} {d : discipline.Ghosts D N} {m : machine.Ghosts Plain N 
     id = index_of row s.rows
 
     abbrev one : List (Event N)
-    one = event s.agent (Fill id 0 first) None ∷ []
+    one = event_by s.agent (Fill id 0 first) None ∷ []
 
     abbrev two : List (Event N)
-    two = event s.agent (Fill id 1 second) None ∷ []
+    two = event_by s.agent (Fill id 1 second) None ∷ []
 
     grows : Grows b s t
     grows = adds_grow b may one s t a
@@ -78,12 +78,12 @@ module _ {D N : Type 0} {d : discipline.Ghosts D N} {m : machine.Ghosts Plain N 
 
     -- the second Fill, by the first view
     c2 : Adds may two t u
-    c2 = subst (λ (x : ℕ × ℕ). Adds may (event x.0 (Fill x.1 1 second) None ∷ []) t u) (λ i. (a.agent i, index_stays b s t row grows given i)) c
+    c2 = subst (λ (x : ℕ × ℕ). Adds may (event_by x.0 (Fill x.1 1 second) None ∷ []) t u) (λ i. (a.agent i, index_stays b s t row grows given i)) c
 
     both : Grows b s u
     both = grow_trans b s t u grows (adds_grow b may two t u c2)
 
-    puts : (slots : List (Option ℕ)) → Puts (seat_of domain p) (event s.agent (Fill id 0 first) None ∷ event s.agent (Fill id 1 second) None ∷ []) (seat_by u slots)
+    puts : (slots : List (Option ℕ)) → Puts (seat_of domain p) (event_by s.agent (Fill id 0 first) None ∷ event_by s.agent (Fill id 1 second) None ∷ []) (seat_by u slots)
     puts slots = Puts-trans (seat_of domain p) (seat_by t p.slots) (seat_by u slots) one two (adds_put may one s t p.slots p.slots a (mine s.agent (Fill id 0 first) None))
         (adds_put may two t u p.slots slots c2 (subst (λ x. events_by x two ≡ two) (sym a.agent) (mine s.agent (Fill id 1 second) None)))
 

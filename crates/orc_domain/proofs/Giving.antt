@@ -7,7 +7,7 @@ use Rattle.orc_words.specs.Bounds.{Bounds, bounds_of}
 use Rattle.orc_heap.proofs.Changes.{get-grown}
 use Rattle.orc_heap.proofs.Calls.{Only-trans, Puts-trans}
 use Rattle.orc_heap.specs.Calls.{Gives, given_node}
-use Rattle.orc_heap.specs.Journals.{run_heap}
+use Rattle.orc_heap.specs.Journals.{event_by, run_heap}
 use Rattle.orc_heap.specs.OwnEvents.{Only, Puts}
 use Rattle.orc_heap.specs.Slots.{Hold, Slots}
 use Rattle.orc_heap.specs.declared.discipline.Discipline as discipline
@@ -15,7 +15,7 @@ use Rattle.orc_heap.specs.declared.events.Act.TheVariants.{Fill, Give}
 use Rattle.orc_heap.specs.declared.events.Event.{Event}
 use Rattle.orc_shared_words.specs.Lists.{Begins}
 use Rattle.orc_shared_words.specs.declared.machine.Machine as machine
-use Rattle.orc_table.specs.Machine.{event, id_by, index_of}
+use Rattle.orc_table.specs.Machine.{id_by, index_of}
 use Rattle.orc_table.specs.Views.{shows}
 use Rattle.orc_table.specs.Words.{IsOut}
 use Rattle.orc_table.specs.declared.machine.Plain.{Plain}
@@ -112,16 +112,16 @@ module _ {D N : Type 0} {d : discipline.Ghosts D N} {m : machine.Ghosts Plain N 
           pub gives : (hold : Hold) → hold ≡ record { row = row; slot = slot } → Gives (domain_numbers domain) slot first second (seat_of domain p) hold (seat_of domain w)
           gives hold e = subst (λ (z : Hold). Gives (domain_numbers domain) slot first second (seat_of domain p) z (seat_of domain w)) (sym e)
               (let id : ℕ = index_of row (shows domain.board r.pass).rows in
-              let took : Puts (seat_of domain q) (event (seat_of domain q).agent Give None ∷ []) (seat_of domain r) = record { part = k.puts.part; is = k.puts.is; agent = k.puts.agent; own_is = k.puts.own_is } in
+              let took : Puts (seat_of domain q) (event_by (seat_of domain q).agent Give None ∷ []) (seat_of domain r) = record { part = k.puts.part; is = k.puts.is; agent = k.puts.agent; own_is = k.puts.own_is } in
               record {
                 id = id;
                 new = new_id;
                 slot_is = refl;
                 slots = f.slots ∙ ap (λ (z : Slots). slice_set z slot (Some (record { row = row; id = id }))) (slots_kept q r t.pass same k.rows ∙ t.only.slots);
                 fresh = f.fresh ∙ ap (id_by (shows domain.board r.pass).rows) k.fresh;
-                puts = Puts-trans (seat_of domain p) (seat_of domain r) (seat_of domain w) (event (seat_of domain p).agent Give None ∷ []) (event (seat_of domain p).agent (Fill id 0 first) None ∷ event (seat_of domain p).agent (Fill id 1 second) None ∷ [])
-                    (Puts-trans (seat_of domain p) (seat_of domain q) (seat_of domain r) [] (event (seat_of domain p).agent Give None ∷ []) t.only.puts (subst (λ a. Puts (seat_of domain q) (event a Give None ∷ []) (seat_of domain r)) t.only.puts.agent took))
-                    (subst (λ a. Puts (seat_of domain r) (event a (Fill id 0 first) None ∷ event a (Fill id 1 second) None ∷ []) (seat_of domain w)) agent_is f.puts);
+                puts = Puts-trans (seat_of domain p) (seat_of domain r) (seat_of domain w) (event_by (seat_of domain p).agent Give None ∷ []) (event_by (seat_of domain p).agent (Fill id 0 first) None ∷ event_by (seat_of domain p).agent (Fill id 1 second) None ∷ [])
+                    (Puts-trans (seat_of domain p) (seat_of domain q) (seat_of domain r) [] (event_by (seat_of domain p).agent Give None ∷ []) t.only.puts (subst (λ a. Puts (seat_of domain q) (event_by a Give None ∷ []) (seat_of domain r)) t.only.puts.agent took))
+                    (subst (λ a. Puts (seat_of domain r) (event_by a (Fill id 0 first) None ∷ event_by a (Fill id 1 second) None ∷ []) (seat_of domain w)) agent_is f.puts);
                 node = subst (λ a. slice_get (run_heap (domain_numbers domain) (seat_of domain w).seen).nodes id ≡ Some (given_node a first second)) agent_is f.node;
               })
 

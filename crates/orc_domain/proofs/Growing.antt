@@ -4,7 +4,7 @@ use Rattle.std.proofs.lemmas.List.Elements.{filter-append}
 use Rattle.orc_words.specs.Bounds.{Bounds}
 use Rattle.orc_heap.specs.Acts.{IsKnown}
 use Rattle.orc_heap.specs.Allowed.{events_by}
-use Rattle.orc_heap.specs.Journals.{run_heap}
+use Rattle.orc_heap.specs.Journals.{event_by, run_heap}
 use Rattle.orc_heap.specs.OwnEvents.{Only, Puts}
 use Rattle.orc_heap.specs.declared.discipline.Discipline as discipline
 use Rattle.orc_heap.specs.declared.events.Act.{Act}
@@ -17,7 +17,7 @@ use Rattle.orc_table.proofs.Known.{fresh_row, ties}
 use Rattle.orc_table.proofs.Lists.{index_grown}
 use Rattle.orc_table.proofs.Ties.{Given}
 use Rattle.orc_table.specs.Calls.{Adds}
-use Rattle.orc_table.specs.Machine.{event, id_by, index_of, numbers, run}
+use Rattle.orc_table.specs.Machine.{id_by, index_of, numbers, run}
 use Rattle.orc_table.specs.Views.{Belongs, PlainView, heap_of, shows}
 use Rattle.orc_table.specs.Words.{Tie}
 use Rattle.orc_table.specs.declared.machine.Plain.{Plain}
@@ -78,8 +78,8 @@ module _ {N : Type 0} where
   }
 
   -- one event of an agent is its own
-  pub mine : (a : ℕ) (act : Act) (said : Option N) → events_by a (event a act said ∷ []) ≡ event a act said ∷ []
-  mine a act said = ap (λ b. cond b (event a act said ∷ []) []) (eq-eqb a a refl)
+  pub mine : (a : ℕ) (act : Act) (said : Option N) → events_by a (event_by a act said ∷ []) ≡ event_by a act said ∷ []
+  mine a act said = ap (λ b. cond b (event_by a act said ∷ []) []) (eq-eqb a a refl)
 
   pub adds_put : (may : List (Event N) → Event N → Type 0) (own : List (Event N)) (s t : PlainView N) (slots later : List (Option ℕ)) → Adds may own s t → events_by s.agent own ≡ own → Puts (seat_by s slots) own (seat_by t later)
   adds_put may own s t slots later a mine = record {

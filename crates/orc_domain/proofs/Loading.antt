@@ -13,7 +13,8 @@ use Rattle.orc_shared_words.specs.declared.machine.Machine as machine
 use Rattle.orc_table.proofs.Known.{ties}
 use Rattle.orc_table.proofs.Lists.{index_at}
 use Rattle.orc_table.specs.Calls.{Adds, Finds}
-use Rattle.orc_table.specs.Machine.{event, id_by, link_by, place_by}
+use Rattle.orc_table.specs.Machine.{id_by, link_by, place_by}
+use Rattle.orc_heap.specs.Journals.{event_by}
 use Rattle.orc_table.specs.Views.{Belongs, PlainView, heap_of, shows}
 use Rattle.orc_table.specs.Words.{IsWord, Once}
 use Rattle.orc_table.specs.declared.machine.Plain.{Plain}
@@ -87,9 +88,9 @@ module _ {D N : Type 0} {d : discipline.Ghosts D N} {m : machine.Ghosts Plain N 
         let tie = ties d domain.board.words.shape q.pass.seat.me.0 q.pass.agent q.fresh q.looked x.keeps in
         let is : link_by t.rows link ≡ f.link = link_is t.rows tie.once f.link.to f.link.mark word link f.word e in record {
           fresh = fresh;
-          adds = subst (λ (l : Link). Adds may (event s.agent (Look (place_by s.rows place) l) None ∷ []) s t) (sym is) f.adds;
+          adds = subst (λ (l : Link). Adds may (event_by s.agent (Look (place_by s.rows place) l) None ∷ []) s t) (sym is) f.adds;
           known = subst (λ (l : Link). IsTarget s.agent (heap_of b t) l.to) (sym is) f.known;
         }
 
     pub still_loaded : (place : Word) (word : ℕ) → Finds may b (place_by s.rows place) word s t → IsPassOf domain (record { pass = q; slots = p.slots; next = p.next; shape = p.shape })
-    still_loaded place word f = still_adds domain p h q x (event s.agent (Look (place_by s.rows place) f.link) None ∷ []) f.adds
+    still_loaded place word f = still_adds domain p h q x (event_by s.agent (Look (place_by s.rows place) f.link) None ∷ []) f.adds

@@ -20,7 +20,8 @@ use Rattle.orc_shared_words.specs.declared.machine.Machine as machine
 use Rattle.orc_table.proofs.Lists.{some_one}
 use Rattle.orc_table.proofs.Ties.{Given, given_by}
 use Rattle.orc_table.specs.Calls.{KnowsPlace, KnowsRow}
-use Rattle.orc_table.specs.Machine.{event, id_by, index_of, link_by, place_by, run}
+use Rattle.orc_table.specs.Machine.{id_by, index_of, link_by, place_by, run}
+use Rattle.orc_heap.specs.Journals.{event_by}
 use Rattle.orc_table.specs.Views.{PlainView, heap_of, shows}
 use Rattle.orc_table.specs.declared.machine.Plain.{Plain}
 use Rattle.orc_table.specs.declared.machine.PlainOp.{PlainOp}
@@ -63,7 +64,7 @@ module _ {D N : Type 0} {d : discipline.Ghosts D N} {m : machine.Ghosts Plain N 
     t = shows domain.board p1.pass
 
     grows : Grows b s t
-    grows = adds_grow b may (event s.agent (Look (place_by s.rows word) (link_by t.rows one)) None ∷ []) s t l.adds
+    grows = adds_grow b may (event_by s.agent (Look (place_by s.rows word) (link_by t.rows one)) None ∷ []) s t l.adds
 
     pub slots_still : (seat_of domain p1).slots ≡ (seat_of domain p).slots
     slots_still = ap (slots_by t.rows) same.slots ∙ slots_stay b s t p.slots grows (held_given domain p h)
@@ -87,13 +88,13 @@ module _ {D N : Type 0} {d : discipline.Ghosts D N} {m : machine.Ghosts Plain N 
     place_again = ap (place_by t.rows) word_same ∙ (place_is domain p1 h1 at there_still ∙ ap (λ (z : Slots). place_in z at) slots_still)
 
     put_first : (slots : List (Option ℕ)) → Puts (seat_of domain p) (event_of (seat_of domain p) (Look (place_in (seat_of domain p).slots at) (link_by t.rows one)) None ∷ []) (seat_by t slots)
-    put_first slots = subst (λ (z : Place). Puts (seat_of domain p) (event s.agent (Look z (link_by t.rows one)) None ∷ []) (seat_by t slots)) place_first
-        (adds_put may (event s.agent (Look (place_by s.rows word) (link_by t.rows one)) None ∷ []) s t p.slots slots l.adds (mine s.agent (Look (place_by s.rows word) (link_by t.rows one)) None))
+    put_first slots = subst (λ (z : Place). Puts (seat_of domain p) (event_by s.agent (Look z (link_by t.rows one)) None ∷ []) (seat_by t slots)) place_first
+        (adds_put may (event_by s.agent (Look (place_by s.rows word) (link_by t.rows one)) None ∷ []) s t p.slots slots l.adds (mine s.agent (Look (place_by s.rows word) (link_by t.rows one)) None))
 
     pub looks_null : (slot : ℕ) → one.to ≡ None → Looks (place_in (seat_of domain p).slots at) slot (seat_of domain p) (Stable (record { null = true; mark = one.mark }) None) (seat_of domain p1)
     looks_null slot null = record {
       fresh = fresh_still;
-      tells = (refl, slots_still, subst (λ (z : Option ℕ). Puts (seat_of domain p) (event s.agent (Look (place_in (seat_of domain p).slots at) (record { to = z; mark = one.mark })) None ∷ []) (seat_of domain p1)) (ap (id_by t.rows) null) (put_first p1.slots));
+      tells = (refl, slots_still, subst (λ (z : Option ℕ). Puts (seat_of domain p) (event_by s.agent (Look (place_in (seat_of domain p).slots at) (record { to = z; mark = one.mark })) None ∷ []) (seat_of domain p1)) (ap (id_by t.rows) null) (put_first p1.slots));
     }
 
     one_given : Given t.rows one.to
@@ -106,7 +107,7 @@ module _ {D N : Type 0} {d : discipline.Ghosts D N} {m : machine.Ghosts Plain N 
         u = shows domain.board p2.pass
 
         grows2 : Grows b t u
-        grows2 = adds_grow b may (event t.agent (Look (place_by t.rows word) (link_by u.rows two)) None ∷ []) t u k.adds
+        grows2 = adds_grow b may (event_by t.agent (Look (place_by t.rows word) (link_by u.rows two)) None ∷ []) t u k.adds
 
         two_given : Given u.rows two.to
         two_given = given_by b (run b p2.pass.pass.seat.me.0.seen).words u.rows (heap_of b u) (tie domain p2 h2) t.agent two.to k.known
@@ -122,9 +123,9 @@ module _ {D N : Type 0} {d : discipline.Ghosts D N} {m : machine.Ghosts Plain N 
         fresh_last = ap (id_by u.rows) k.fresh ∙ (fresh_stays b t u t.fresh grows2 (fresh_given domain p1 h1) ∙ fresh_still)
 
         put_both : (slots : List (Option ℕ)) → Puts (seat_of domain p) (event_of (seat_of domain p) (Look (place_in (seat_of domain p).slots at) (link_by t.rows one)) None ∷ event_of (seat_of domain p) (Look (place_in (seat_of domain p).slots at) (link_by u.rows two)) None ∷ []) (seat_by u slots)
-        put_both slots = Puts-trans (seat_of domain p) (seat_of domain p1) (seat_by u slots) (event s.agent (Look (place_in (seat_of domain p).slots at) (link_by t.rows one)) None ∷ []) (event s.agent (Look (place_in (seat_of domain p).slots at) (link_by u.rows two)) None ∷ []) (put_first p1.slots)
-            (subst (λ (z : Place × ℕ). Puts (seat_of domain p1) (event z.1 (Look z.0 (link_by u.rows two)) None ∷ []) (seat_by u slots)) (λ i. (place_again i, grows.agent i))
-            (adds_put may (event t.agent (Look (place_by t.rows word) (link_by u.rows two)) None ∷ []) t u p1.slots slots k.adds (mine t.agent (Look (place_by t.rows word) (link_by u.rows two)) None)))
+        put_both slots = Puts-trans (seat_of domain p) (seat_of domain p1) (seat_by u slots) (event_by s.agent (Look (place_in (seat_of domain p).slots at) (link_by t.rows one)) None ∷ []) (event_by s.agent (Look (place_in (seat_of domain p).slots at) (link_by u.rows two)) None ∷ []) (put_first p1.slots)
+            (subst (λ (z : Place × ℕ). Puts (seat_of domain p1) (event_by z.1 (Look z.0 (link_by u.rows two)) None ∷ []) (seat_by u slots)) (λ i. (place_again i, grows.agent i))
+            (adds_put may (event_by t.agent (Look (place_by t.rows word) (link_by u.rows two)) None ∷ []) t u p1.slots slots k.adds (mine t.agent (Look (place_by t.rows word) (link_by u.rows two)) None)))
 
         pub looks_moved : (slot row : ℕ) → one.to ≡ Some row → two ≢ one → Looks (place_in (seat_of domain p).slots at) slot (seat_of domain p) Moved (seat_of domain p2)
         looks_moved slot row is other = record {
@@ -153,7 +154,7 @@ module _ {D N : Type 0} {d : discipline.Ghosts D N} {m : machine.Ghosts Plain N 
               refl,
               refl,
               slots_set u.rows p2.slots slot (Some row) ∙ ap (λ (z : Slots). slice_set z slot (Some (record { row = row; id = index_of row u.rows }))) slots_last,
-              subst (λ (z : Link). Puts (seat_of domain p) (event s.agent (Look (place_in (seat_of domain p).slots at) (link_by t.rows one)) None ∷ event s.agent (Look (place_in (seat_of domain p).slots at) z) None ∷ []) (seat_by u (slice_set p2.slots slot (Some row))))
+              subst (λ (z : Link). Puts (seat_of domain p) (event_by s.agent (Look (place_in (seat_of domain p).slots at) (link_by t.rows one)) None ∷ event_by s.agent (Look (place_in (seat_of domain p).slots at) z) None ∷ []) (seat_by u (slice_set p2.slots slot (Some row))))
                   found (put_both (slice_set p2.slots slot (Some row))),
             );
           }

@@ -8,7 +8,7 @@ use Rattle.orc_heap.proofs.Calls.{Puts-trans}
 use Rattle.orc_heap.proofs.Runs.{run_heap-snoc}
 use Rattle.orc_heap.specs.Allowed.{events_by}
 use Rattle.orc_heap.specs.Heap.{Heap, new_node}
-use Rattle.orc_heap.specs.Journals.{run_heap}
+use Rattle.orc_heap.specs.Journals.{event_by, run_heap}
 use Rattle.orc_heap.specs.OwnEvents.{Puts}
 use Rattle.orc_heap.specs.declared.discipline.Discipline as discipline
 use Rattle.orc_heap.specs.declared.events.Act.TheVariants.{Give}
@@ -16,7 +16,7 @@ use Rattle.orc_heap.specs.declared.events.Event.{Event}
 use Rattle.orc_shared_words.specs.declared.machine.Machine as machine
 use Rattle.orc_table.proofs.Lists.{get_last, index_at}
 use Rattle.orc_table.specs.Calls.{Adds, Gives as BoardGives, Loses as BoardLoses}
-use Rattle.orc_table.specs.Machine.{event, index_of, numbers}
+use Rattle.orc_table.specs.Machine.{index_of, numbers}
 use Rattle.orc_table.specs.Views.{Belongs, PlainView, heap_of, shows}
 use Rattle.orc_table.specs.Words.{IsOut}
 use Rattle.orc_table.specs.declared.machine.Plain.{Plain}
@@ -70,7 +70,7 @@ module _ {D N : Type 0} {d : discipline.Ghosts D N} {m : machine.Ghosts Plain N 
 
     module _ (g : BoardGives may row t u) where
       abbrev give : List (Event N)
-      give = event t.agent Give None ∷ []
+      give = event_by t.agent Give None ∷ []
 
       -- the node is the last
       index_last : index_of row u.rows ≡ length g.before
@@ -82,7 +82,7 @@ module _ {D N : Type 0} {d : discipline.Ghosts D N} {m : machine.Ghosts Plain N 
       past = t.events ++ g.adds.met
 
       heap_is : heap_of b u ≡ record { nodes = (run_heap (numbers b) past).nodes ++ new_node t.agent ∷ []; roots = (run_heap (numbers b) past).roots }
-      heap_is = ap (run_heap (numbers b)) g.adds.events ∙ run_heap-snoc (numbers b) past (event t.agent Give None)
+      heap_is = ap (run_heap (numbers b)) g.adds.events ∙ run_heap-snoc (numbers b) past (event_by t.agent Give None)
 
       past_long : length (run_heap (numbers b) past).nodes ≡ length g.before
       past_long =
@@ -106,7 +106,7 @@ module _ {D N : Type 0} {d : discipline.Ghosts D N} {m : machine.Ghosts Plain N 
         fresh = g.fresh;
         rows = (both give g.adds).rows;
         new = new_node_id;
-        puts = subst (λ (a : ℕ). Puts (seat_by s p.slots) (event a Give None ∷ []) (seat_by u p.slots)) first.agent (put_both give g.adds (mine t.agent Give None));
+        puts = subst (λ (a : ℕ). Puts (seat_by s p.slots) (event_by a Give None ∷ []) (seat_by u p.slots)) first.agent (put_both give g.adds (mine t.agent Give None));
         node = subst (λ (z : Heap × ℕ × ℕ). slice_get z.0.nodes z.1 ≡ Some (new_node z.2)) (λ i. (sym heap_is i, (past_long ∙ sym index_last) i, first.agent i)) (get-added (run_heap (numbers b) past).nodes (new_node t.agent));
       }
 
@@ -133,5 +133,5 @@ module _ {D N : Type 0} {d : discipline.Ghosts D N} {m : machine.Ghosts Plain N 
       still_took = went (answer == 1) refl
         where
           went : (done : Bool) → (answer == 1) ≡ done → IsPassOf domain (record { pass = r; slots = p.slots; next = p.next; shape = p.shape })
-          went true e = let g = won (eqb-true answer 1 e) in still_both (event t.agent Give None ∷ []) g.adds
+          went true e = let g = won (eqb-true answer 1 e) in still_both (event_by t.agent Give None ∷ []) g.adds
           went false e = let l = lost (not_won e) in still_both [] l.adds

@@ -22,7 +22,8 @@ use Rattle.orc_heap.specs.declared.holds.Want.{Want}
 use Rattle.orc_shared_words.specs.declared.machine.Machine as machine
 use Rattle.orc_table.proofs.Ties.{Given}
 use Rattle.orc_table.specs.Calls.{Adds, Fails, KnowsPlace, KnowsTarget, MayWhereShown, Misses, look_event, move_event, unless_linked}
-use Rattle.orc_table.specs.Machine.{event, id_by, index_of, link_by, place_by}
+use Rattle.orc_table.specs.Machine.{id_by, index_of, link_by, place_by}
+use Rattle.orc_heap.specs.Journals.{event_by}
 use Rattle.orc_table.specs.Views.{Belongs, PlainView, shows}
 use Rattle.orc_table.specs.declared.machine.Plain.{Plain}
 use Rattle.orc_table.specs.declared.machine.PlainOp.{PlainOp}
@@ -86,16 +87,16 @@ module _ {D N : Type 0} {d : discipline.Ghosts D N} {m : machine.Ghosts Plain N 
 
     pub may_look : (said : Option N) → AllowedLater may (domain_numbers domain) s.agent s.events (place_in (seat_of domain p).slots at) (link_in (seat_of domain p).slots from) (look_of (seat_of domain p) at from said)
         → MayWhereShown may b s place link (look_event s place link said)
-    may_look said a = subst (λ (z : Place × Link). AllowedLater may (domain_numbers domain) s.agent s.events z.0 z.1 (event s.agent (Look z.0 z.1) said)) (λ i. (sym place_met i, sym link_met i)) a
+    may_look said a = subst (λ (z : Place × Link). AllowedLater may (domain_numbers domain) s.agent s.events z.0 z.1 (event_by s.agent (Look z.0 z.1) said)) (λ i. (sym place_met i, sym link_met i)) a
 
     -- the place showed another link
-    missed : (found : Link) → found ≢ link_by s.rows link → Adds may (event s.agent (Miss (place_by s.rows place) (link_by s.rows link) found) None ∷ []) s t
+    missed : (found : Link) → found ≢ link_by s.rows link → Adds may (event_by s.agent (Miss (place_by s.rows place) (link_by s.rows link) found) None ∷ []) s t
         → HeapMisses (place_in (seat_of domain p).slots at) (link_in (seat_of domain p).slots from) (seat_of domain p) (seat_by t p.slots)
     missed found other a = record {
       found = found;
       other = λ e. other (e ∙ sym link_met);
-      puts = subst (λ (z : Place × Link). Puts (seat_of domain p) (event s.agent (Miss z.0 z.1 found) None ∷ []) (seat_by t p.slots)) (λ i. (place_met i, link_met i))
-          (adds_put may (event s.agent (Miss (place_by s.rows place) (link_by s.rows link) found) None ∷ []) s t p.slots p.slots a (mine s.agent (Miss (place_by s.rows place) (link_by s.rows link) found) None));
+      puts = subst (λ (z : Place × Link). Puts (seat_of domain p) (event_by s.agent (Miss z.0 z.1 found) None ∷ []) (seat_by t p.slots)) (λ i. (place_met i, link_met i))
+          (adds_put may (event_by s.agent (Miss (place_by s.rows place) (link_by s.rows link) found) None ∷ []) s t p.slots p.slots a (mine s.agent (Miss (place_by s.rows place) (link_by s.rows link) found) None));
     }
 
     module _ (said : Option N) (found packed : ℕ) (is_packed : packed ≡ link_word link) (hit : found ≡ link_word link → Adds may (look_event s place link said ∷ []) s t)
@@ -109,7 +110,7 @@ module _ {D N : Type 0} {d : discipline.Ghosts D N} {m : machine.Ghosts Plain N 
           where
             went : (done : Bool) → (found == packed) ≡ done → IsPassOf domain (record { pass = q; slots = p.slots; next = p.next; shape = p.shape })
             went true e = still_adds domain p h q x (look_event s place link said ∷ []) (hit (eqb-true found packed e ∙ is_packed))
-            went false e = let r = miss (not_packed e) in still_adds domain p h q x (event s.agent (Miss (place_by s.rows place) (link_by s.rows link) r.link) None ∷ []) r.adds
+            went false e = let r = miss (not_packed e) in still_adds domain p h q x (event_by s.agent (Miss (place_by s.rows place) (link_by s.rows link) r.link) None ∷ []) r.adds
 
         pub tests : Tests at from said (seat_of domain p) (found == packed) (seat_by t p.slots)
         tests = went (found == packed) refl
@@ -119,12 +120,12 @@ module _ {D N : Type 0} {d : discipline.Ghosts D N} {m : machine.Ghosts Plain N 
                 let a = hit (eqb-true found packed e ∙ is_packed) in record {
                   slots = slots_same domain p h q x (look_event s place link said ∷ []) a;
                   fresh = fresh_same domain p h q x (look_event s place link said ∷ []) a fresh;
-                  puts = subst (λ (z : Place × Link). Puts (seat_of domain p) (event s.agent (Look z.0 z.1) said ∷ []) (seat_by t p.slots)) (λ i. (place_met i, link_met i))
+                  puts = subst (λ (z : Place × Link). Puts (seat_of domain p) (event_by s.agent (Look z.0 z.1) said ∷ []) (seat_by t p.slots)) (λ i. (place_met i, link_met i))
                       (adds_put may (look_event s place link said ∷ []) s t p.slots p.slots a (mine s.agent (Look (place_by s.rows place) (link_by s.rows link)) said));
                 }
             went false e =
                 let r = miss (not_packed e) in
-                let own : List (Event N) = event s.agent (Miss (place_by s.rows place) (link_by s.rows link) r.link) None ∷ [] in record {
+                let own : List (Event N) = event_by s.agent (Miss (place_by s.rows place) (link_by s.rows link) r.link) None ∷ [] in record {
                   slots = slots_same domain p h q x own r.adds;
                   fresh = fresh_same domain p h q x own r.adds fresh;
                   puts = missed r.link r.other r.adds;
@@ -139,7 +140,7 @@ module _ {D N : Type 0} {d : discipline.Ghosts D N} {m : machine.Ghosts Plain N 
 
       pub may_move : (said : Option N) → AllowedLater may (domain_numbers domain) s.agent s.events (place_in (seat_of domain p).slots at) (link_in (seat_of domain p).slots from) (move_of (seat_of domain p) at from to said)
           → MayWhereShown may b s place link (move_event s place link target said)
-      may_move said a = subst (λ (z : Place × Link × Link). AllowedLater may (domain_numbers domain) s.agent s.events z.0 z.1 (event s.agent (Move z.0 z.1 z.2) said)) (λ i. (sym place_met i, sym link_met i, sym target_met i)) a
+      may_move said a = subst (λ (z : Place × Link × Link). AllowedLater may (domain_numbers domain) s.agent s.events z.0 z.1 (event_by s.agent (Move z.0 z.1 z.2) said)) (λ i. (sym place_met i, sym link_met i, sym target_met i)) a
 
       module _ (said : Option N) (moved : ℕ) (answer : moved ≤ 1) (hit : moved ≡ 1 → Adds may (move_event s place link target said ∷ []) s t)
           (linked : moved ≡ 1 → t.fresh ≡ unless_linked s.fresh target.to) (miss : moved ≡ 0 → Fails may (place_by s.rows place) (link_by s.rows link) s t)
@@ -152,7 +153,7 @@ module _ {D N : Type 0} {d : discipline.Ghosts D N} {m : machine.Ghosts Plain N 
             where
               went : (done : Bool) → (moved == 1) ≡ done → IsPassOf domain (record { pass = q; slots = p.slots; next = p.next; shape = p.shape })
               went true e = still_adds domain p h q x (move_event s place link target said ∷ []) (hit (eqb-true moved 1 e))
-              went false e = let r = miss (not_moved e) in still_adds domain p h q x (event s.agent (Miss (place_by s.rows place) (link_by s.rows link) r.link) None ∷ []) r.adds
+              went false e = let r = miss (not_moved e) in still_adds domain p h q x (event_by s.agent (Miss (place_by s.rows place) (link_by s.rows link) r.link) None ∷ []) r.adds
 
           -- what is fresh after the Move
           fresh_after : Adds may (move_event s place link target said ∷ []) s t → t.fresh ≡ unless_linked s.fresh target.to → id_by t.rows t.fresh ≡ unless_node (id_by s.rows s.fresh) (link_in (seat_of domain p).slots to).to
@@ -173,12 +174,12 @@ module _ {D N : Type 0} {d : discipline.Ghosts D N} {m : machine.Ghosts Plain N 
                   let a = hit is in record {
                     slots = slots_same domain p h q x (move_event s place link target said ∷ []) a;
                     fresh = fresh_after a (linked is);
-                    puts = subst (λ (z : Place × Link × Link). Puts (seat_of domain p) (event s.agent (Move z.0 z.1 z.2) said ∷ []) (seat_by t p.slots)) (λ i. (place_met i, link_met i, target_met i))
+                    puts = subst (λ (z : Place × Link × Link). Puts (seat_of domain p) (event_by s.agent (Move z.0 z.1 z.2) said ∷ []) (seat_by t p.slots)) (λ i. (place_met i, link_met i, target_met i))
                         (adds_put may (move_event s place link target said ∷ []) s t p.slots p.slots a (mine s.agent (Move (place_by s.rows place) (link_by s.rows link) (link_by s.rows target)) said));
                   }
               went false e =
                   let r = miss (not_moved e) in
-                  let own : List (Event N) = event s.agent (Miss (place_by s.rows place) (link_by s.rows link) r.link) None ∷ [] in record {
+                  let own : List (Event N) = event_by s.agent (Miss (place_by s.rows place) (link_by s.rows link) r.link) None ∷ [] in record {
                     slots = slots_same domain p h q x own r.adds;
                     fresh = fresh_same domain p h q x own r.adds r.fresh;
                     puts = missed r.link r.other r.adds;

@@ -5,7 +5,7 @@ use Rattle.orc_words.specs.declared.packed.RowLink.{RowLink}
 use Rattle.orc_heap.specs.Acts.{IsTarget}
 use Rattle.orc_heap.specs.Calls.{given_node}
 use Rattle.orc_heap.specs.Heap.{HeapNumbers, new_node}
-use Rattle.orc_heap.specs.Journals.{run_heap}
+use Rattle.orc_heap.specs.Journals.{event_by, run_heap}
 use Rattle.orc_heap.specs.OwnEvents.{Puts}
 use Rattle.orc_heap.specs.Seats.{Seat}
 use Rattle.orc_heap.specs.declared.discipline.Discipline as discipline
@@ -15,7 +15,7 @@ use Rattle.orc_heap.specs.declared.events.Place.{Place}
 use Rattle.orc_shared_words.specs.Lists.{Begins}
 use Rattle.orc_shared_words.specs.declared.machine.Machine as machine
 use Rattle.orc_table.specs.Calls.{Adds, unless_linked}
-use Rattle.orc_table.specs.Machine.{event, id_by, index_of, link_by}
+use Rattle.orc_table.specs.Machine.{id_by, index_of, link_by}
 use Rattle.orc_table.specs.Views.{PlainView, heap_of}
 use Rattle.orc_table.specs.Words.{IsOut}
 use Rattle.orc_table.specs.declared.machine.Plain.{Plain}
@@ -38,7 +38,7 @@ module _ {N : Type 0} where
     pub fresh : t.fresh ≡ Some row
     pub rows : Begins t.rows s.rows
     pub new : length (heap_of b s).nodes ≤ index_of row t.rows
-    pub puts : Puts (seat_by s slots) (event s.agent Give None ∷ []) (seat_by t slots)
+    pub puts : Puts (seat_by s slots) (event_by s.agent Give None ∷ []) (seat_by t slots)
     pub node : slice_get (heap_of b t).nodes (index_of row t.rows) ≡ Some (new_node s.agent)
 
   -- the row was given before
@@ -52,13 +52,13 @@ module _ {N : Type 0} where
   pub record Furnishes (n : HeapNumbers) (row id slot first second : ℕ) (s t : Seat N) : Type 0 where
     pub fresh : t.fresh ≡ s.fresh
     pub slots : t.slots ≡ slice_set s.slots slot (Some (record { row = row; id = id }))
-    pub puts : Puts s (event s.agent (Fill id 0 first) None ∷ event s.agent (Fill id 1 second) None ∷ []) t
+    pub puts : Puts s (event_by s.agent (Fill id 0 first) None ∷ event_by s.agent (Fill id 1 second) None ∷ []) t
     pub node : slice_get (run_heap n t.seen).nodes id ≡ Some (given_node s.agent first second)
 
   -- the link was found at the place, and the agent knows its target from then on
   pub record Loads (may : List (Event N) → Event N → Type 0) (b : Bounds) (place : Place) (link : RowLink) (s t : PlainView N) : Type 0 where
     pub fresh : t.fresh ≡ s.fresh
-    pub adds : Adds may (event s.agent (Look place (link_by t.rows link)) None ∷ []) s t
+    pub adds : Adds may (event_by s.agent (Look place (link_by t.rows link)) None ∷ []) s t
     pub known : IsTarget s.agent (heap_of b t) (id_by t.rows link.to)
 
   -- the row isn't the fresh row any more

@@ -33,7 +33,7 @@ impl<D: Discipline> PlainDomain<D> {
         }
     }
 
-    // the pass learns from each of the others
+    // Lets the pass learn from each of the others.
     fn learn_round(&self, first: &mut PlainPass<D>, others: &mut [PlainPass<D>])
         requires first { IsPassOf self.now first.old }
         requires others { AllByRecursion (λ p. IsPassOf self.now p) others.old }

@@ -43,7 +43,7 @@ impl<D: Discipline> PlainDomain<D> {
     }
 }
 
-// the passes, which hold nothing
+// Makes the domain's passes of these, which hold nothing.
 fn domain_passes<D: Discipline>(
     alloc: Global,
     shape: &Shape,
@@ -62,7 +62,7 @@ fn domain_passes<D: Discipline>(
         .map_err(|_| NoMemory)
 }
 
-// a pass that holds nothing
+// Makes a pass that holds nothing.
 fn new_pass<D: Discipline>(shape: &Shape, pass: orc_table::PlainBoardPass<D>) -> PlainPass<D>
     ensures same { result.pass ≡ pass }
     ensures slots { result.slots ≡ replicate 8 None }
@@ -78,7 +78,7 @@ fn new_pass<D: Discipline>(shape: &Shape, pass: orc_table::PlainBoardPass<D>) ->
     }
 }
 
-// the row with which an agent begins to look for one
+// Answers the row with which an agent begins to look for a free one.
 fn first_row(shape: &Shape, agent: u32) -> u32
     ensures { result < (bounds_of shape.now).rows }
 {

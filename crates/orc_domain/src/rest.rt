@@ -55,7 +55,7 @@ impl<D: Discipline> PlainDomain<D> {
         }
     }
 
-    // takes in the passes, one after another
+    // Takes in the passes, one after another.
     fn take_in_all(&self, into: &mut PlainPass<D>, others: Vec<PlainPass<D>>)
         requires into { IsPassOf self.now into.old }
         requires others { AllByRecursion (λ p. IsPassOf self.now p) others.items }
@@ -75,7 +75,7 @@ impl<D: Discipline> PlainDomain<D> {
         }
     }
 
-    // how many rows are out
+    // Counts the rows that are out.
     fn count_given(&self, p: &mut PlainPass<D>) -> u32
         requires pass { IsPassOf self.now p.old }
         requires alone { CoversAll (domain_bounds self.now).agents (shows self.now.board p.old.pass) }

@@ -13,7 +13,7 @@ use orc_heap::{Discipline, Held};
 use orc_words::{RowLink, Word, read_link};
 
 impl<D: Discipline> PlainDomain<D> {
-    // takes the row out, if it is free
+    // Takes the row out, if it is free.
     pub(crate) fn take(&self, p: &mut PlainPass<D>, row: u32) -> bool
         requires pass { IsPassOf self.now p.old }
         requires row { row < (domain_bounds self.now).rows }
@@ -31,7 +31,7 @@ impl<D: Discipline> PlainDomain<D> {
         self.board.gate_take(&mut p.pass, row) == 1
     }
 
-    // fills the values of the row that was just given, and holds it in the slot
+    // Fills the values of the row that was just given, and holds it in the slot.
     pub(crate) fn furnish(
         &self,
         p: &mut PlainPass<D>,
@@ -44,12 +44,14 @@ impl<D: Discipline> PlainDomain<D> {
         requires row { row < (domain_bounds self.now).rows }
         requires fresh { (shows self.now.board p.old.pass).fresh ≡ Some row }
         requires slot { slot < 8 }
-        requires node { slice_get (heap_of (domain_bounds self.now) (shows self.now.board p.old.pass)).nodes (index_of row (shows self.now.board p.old.pass).rows)
+        requires node { slice_get (heap_of (domain_bounds self.now) (shows self.now.board p.old.pass)).nodes
+            (index_of row (shows self.now.board p.old.pass).rows)
             ≡ Some (new_node (shows self.now.board p.old.pass).agent) }
         ensures pass { IsPassOf self.now p.new }
         ensures shape { p.new.shape ≡ p.old.shape }
         ensures hold { result ≡ record { row = row; slot = slot } }
-        ensures furnished { Furnishes (domain_numbers self.now) row (index_of row (shows self.now.board p.old.pass).rows) slot first second (seat_of self.now p.old) (seat_of self.now p.new) }
+        ensures furnished { Furnishes (domain_numbers self.now) row (index_of row (shows self.now.board p.old.pass).rows) slot first second
+            (seat_of self.now p.old) (seat_of self.now p.new) }
     {
         self.board.fill(&mut p.pass, row, 0, first);
         self.board.fill(&mut p.pass, row, 1, second);
@@ -58,7 +60,7 @@ impl<D: Discipline> PlainDomain<D> {
         Held::new(row, slot)
     }
 
-    // reads a link
+    // Reads a link.
     pub(crate) fn load(&self, p: &mut PlainPass<D>, at: Word) -> RowLink
         requires pass { IsPassOf self.now p.old }
         requires place { KnowsPlace (domain_bounds self.now) (shows self.now.board p.old.pass) at }
@@ -74,7 +76,7 @@ impl<D: Discipline> PlainDomain<D> {
         link
     }
 
-    // the row is fresh no more, if it was
+    // Lets the row be fresh no more, if it was.
     pub(crate) fn retire(&self, p: &mut PlainPass<D>, row: u32)
         requires pass { IsPassOf self.now p.old }
         ensures pass { IsPassOf self.now p.new }

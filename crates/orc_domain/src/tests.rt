@@ -26,7 +26,7 @@ fn is_shared<T: Sync>() {}
 
 fn is_sent<T: Send>() {}
 
-// under each discipline whose notes may cross threads
+// Compiles for each discipline whose notes may cross threads.
 fn domains_and_passes_cross_threads<D: Discipline>()
 where
     D::Note: Send + Sync,
@@ -36,8 +36,8 @@ where
     is_sent::<PlainPass<D>>();
 }
 
-// gives a node, fills it, and releases it, so that it is never given again; its second value, and whether root 0 was
-// null meanwhile
+// Gives a node, fills it, and releases it, so that it is never given again. Answers its second value, and whether
+// root 0 was null meanwhile.
 fn one_node(domain: &Domain, p: &mut Pass) -> Option<(u64, bool)>
     requires pass { IsPassOf domain.now p.old }
     requires idle { IsIdle (seat_of domain.now p.old) }
@@ -56,7 +56,7 @@ fn one_node(domain: &Domain, p: &mut Pass) -> Option<(u64, bool)>
     Some((second, null))
 }
 
-// the first of all passes gives a node
+// Lets the first of all passes give a node.
 fn first_gives(domain: &Domain, passes: &mut [Pass]) -> Option<(u64, bool)>
     requires all { AreAll domain.now passes.old }
     requires idle { All (λ p. IsIdle (seat_of domain.now p)) passes.old }
@@ -70,7 +70,7 @@ fn first_gives(domain: &Domain, passes: &mut [Pass]) -> Option<(u64, bool)>
     one_node(domain, &mut passes[0])
 }
 
-// all passes learn
+// Lets all passes learn.
 fn drain_both(domain: &Domain, passes: &mut Vec<Pass>)
     requires all { AreAll domain.now passes.old.items }
     requires idle { All (λ p. IsIdle (seat_of domain.now p)) passes.old.items }
@@ -80,7 +80,7 @@ fn drain_both(domain: &Domain, passes: &mut Vec<Pass>)
     domain.drain_all(passes.as_mut_slice());
 }
 
-// the numbers of the domain at rest
+// Answers the numbers of the domain at rest.
 fn numbers_at_rest(domain: Domain, passes: Vec<Pass>) -> (u64, u64, u32)
     requires all { AreAll domain passes.items }
     requires idle { All (λ p. IsIdle (seat_of domain p)) passes.items }
@@ -110,7 +110,7 @@ fn two_rows_are_given_once_each(rt: HostRuntime) -> Result<(), Fail> {
     Ok(())
 }
 
-// a domain in which each agent has a root, which is null
+// Makes a domain in which each agent has a root, which is null.
 fn with_roots(alloc: Global, shape: &Shape) -> Result<(Domain, Vec<Pass>), NoMemory>
     requires roots { (bounds_of shape.now).agents ≤ (bounds_of shape.now).roots }
     ensures pass { IfOk result (λ made. All (λ p. IsPassOf made.0 p) made.1.items) }
@@ -119,7 +119,7 @@ fn with_roots(alloc: Global, shape: &Shape) -> Result<(Domain, Vec<Pass>), NoMem
     Domain::make(alloc, shape, Seed::Empty)
 }
 
-// the last of the domain's new passes
+// Answers the last of the domain's new passes.
 fn next_pass(domain: &Domain, passes: &mut Vec<Pass>) -> Option<Pass>
     requires pass { All (λ p. IsPassOf domain.now p) passes.old.items }
     requires ready { All (λ p. IsReady (domain_numbers domain.now) (seat_of domain.now p)) passes.old.items }
@@ -131,7 +131,7 @@ fn next_pass(domain: &Domain, passes: &mut Vec<Pass>) -> Option<Pass>
     passes.pop()
 }
 
-// an agent puts two values on its stack, and reads them there
+// Lets an agent put two values on its stack, and read them there.
 fn through_own_stack(
     domain: &Domain,
     p: &mut Pass,
@@ -146,7 +146,7 @@ fn through_own_stack(
     through_a_stack(domain, p, lower, upper)
 }
 
-// two agents do so, each in a thread of its own
+// Lets two agents do so, each in a thread of its own.
 fn on_two_threads<R: Threads + Sync>(
     rt: &R,
     domain: &Domain,

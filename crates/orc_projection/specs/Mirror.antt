@@ -13,6 +13,7 @@ use Rattle.orc_words.specs.Bounds.{Bounds}
 use Rattle.orc_words.specs.Packed.{link_of}
 use Rattle.orc_words.specs.declared.place.Word.TheVariants.{First, Next, Root, Second}
 
+-- the numbers of the heap that a table of these bounds shows
 abbrev pub numbers_of : Bounds → HeapNumbers
 numbers_of b = record { roots = b.roots }
 

@@ -72,6 +72,7 @@ ids_from m p (s ∷ ss) = ids_from (step m s.agent s.op) (ids_after p (record_at
 abbrev pub project : {N : Type 0} → Bounds → List (Step N) → List (Event N)
 project b steps = project_from (new_machine b) no_ids steps
 
+-- the present ids after these steps, from a new state on
 abbrev pub present_ids : {N : Type 0} → Bounds → List (Step N) → PresentIds
 present_ids b steps = ids_from (new_machine b) no_ids steps
 

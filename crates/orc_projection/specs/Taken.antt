@@ -15,10 +15,12 @@ abbrev pub taken_by : Agent → ℕ → Op → List ℕ
 taken_by d w (GateTake r) = if is_taken d w then r ∷ [] else []
 taken_by d w op = []
 
+-- the rows that these steps take, from this state on
 abbrev pub rows_taken_from : {N : Type 0} → Machine → List (Step N) → List ℕ
 rows_taken_from m [] = []
 rows_taken_from m (s ∷ ss) = taken_by (record_at m s.agent) (word_read m s.agent s.op) s.op ++ rows_taken_from (step m s.agent s.op) ss
 
+-- from a new state on
 abbrev pub rows_taken : {N : Type 0} → Bounds → List (Step N) → List ℕ
 rows_taken b steps = rows_taken_from (new_machine b) steps
 

@@ -7,6 +7,7 @@ use mathlib.Core.List.{IsPrefix}
 use Rattle.orc_heap.proofs.Before.{linked_before}
 use Rattle.orc_heap.proofs.Fresh.{link_touched, node-after, touched}
 use Rattle.orc_heap.proofs.Linked.{linked_after}
+use Rattle.orc_heap.proofs.SingleActs.{plain_moves}
 use Rattle.orc_heap.proofs.Runs.{run_heap-snoc}
 use Rattle.orc_heap.proofs.Stays.{allowed-left, allowed-right}
 use Rattle.orc_heap.specs.Acts.{as_linked, heap_after, with_link}
@@ -29,13 +30,7 @@ use Rattle.orc_fifo_rule.specs.Kept.Running.{begin_late}
 use Rattle.orc_queue.specs.Turns.{HasDummy}
 
 no_plain_link : (act : Act) (id : ℕ) → IsPlainAct act → moves_to act id ≡ true → ⊥
-no_plain_link Give id plain m = cc
-no_plain_link (Fill i which value) id plain m = cc
-no_plain_link (Aim i None) id plain m = cc
-no_plain_link (Aim i (Some to)) id plain m = absurd plain
-no_plain_link (Look place link) id plain m = cc
-no_plain_link (Move place from to) id plain m = absurd plain
-no_plain_link (Miss place wanted found) id plain m = cc
+no_plain_link act id plain m = let bad : true ≡ false = sym m ∙ plain_moves act id plain in cc
 
 -- a node to which the event makes the first link is the node of a Put
 module _ (n : HeapNumbers) (es : List (Event FifoNote)) (holds : FifoHolds n es) (begun : has_begun es ≡ true) (id : ℕ) where

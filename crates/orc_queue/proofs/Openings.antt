@@ -2,13 +2,11 @@
 use Rattle.std.proofs.Common.{Some, arith, inl, refl, suc, zero, ℕ, ◌^◌, ◌≡◌, ◌≤◌}
 use Rattle.std.specs.List.{slice_get}
 use Rattle.std.specs.Prelude.{replicate}
-use Rattle.orc_heap.specs.Heap.{change, null}
+use Rattle.orc_heap.specs.Heap.{HeapNumbers, change, link_to, null}
+use Rattle.orc_heap.specs.Seeds.{DummyAllowed}
 use Rattle.orc_heap.specs.declared.events.Link.{Link}
 use Rattle.orc_fifo_rule.specs.declared.fifo.FifoNote.TheVariants.{Begin}
 use Rattle.orc_fifo_rule.specs.QueueDiscipline.{FifoMay}
-use Rattle.orc_table.specs.Machine.{numbers}
-use Rattle.orc_table.specs.Rules.{DummyAllowed, to_node}
-use Rattle.orc_words.specs.Bounds.{Bounds}
 
 -- the first two roots are null
 first_null : (roots : ℕ) → 2 ≤ roots → slice_get (replicate roots null) 0 ≡ Some null
@@ -21,10 +19,10 @@ second_null (suc zero) link low = absurd (omega (arith, low))
 second_null (suc (suc roots)) link low = refl
 
 -- the discipline allows a dummy
-pub dummy_allowed : (b : Bounds) (first : ℕ) → 2 ≤ b.roots → first ≤ 2 ^ 62 → DummyAllowed (FifoMay (numbers b)) b first Begin
-dummy_allowed b first roots low = record {
+pub dummy_allowed : (n : HeapNumbers) (first : ℕ) → 2 ≤ n.roots → first ≤ 2 ^ 62 → DummyAllowed FifoMay n first Begin
+dummy_allowed n first roots low = record {
   roots = roots;
   low = low;
-  first_link = record { fits = (first_null b.roots roots, record { node = _; there = refl; known = inl refl }); may_act = record { root_is = omega arith; from_is = refl; to_is = refl; ends = refl }; in_time = tt; may_enter = tt };
-  second_link = record { fits = (second_null b.roots (to_node 0) roots, record { node = _; there = refl; known = inl refl }); may_act = record { root_is = omega arith; from_is = refl; to_is = refl; ends = refl }; in_time = tt; may_enter = tt };
+  first_link = record { fits = (first_null n.roots roots, record { node = _; there = refl; known = inl refl }); may_act = record { root_is = omega arith; from_is = refl; to_is = refl; ends = refl }; in_time = tt; may_enter = tt };
+  second_link = record { fits = (second_null n.roots (link_to 0) roots, record { node = _; there = refl; known = inl refl }); may_act = record { root_is = omega arith; from_is = refl; to_is = refl; ends = refl }; in_time = tt; may_enter = tt };
 }

@@ -91,7 +91,7 @@ impl<M: Machine<D::Note>, D: Discipline> SharedWords<M, D> {
         Ok((shared, others))
     }
 
-    // the words, and the pass of agent 0
+    // Makes the words, and the pass of agent 0.
     fn start(
         alloc: Global,
         shape: M::Shape,
@@ -102,7 +102,8 @@ impl<M: Machine<D::Note>, D: Discipline> SharedWords<M, D> {
         requires some { 0 < length words.now }
         requires own { M.shows own ≡ M.rules.own shape (M.rules.opening shape) 0 }
         requires opening { Opens M.rules shape (D.holds (M.numbers shape)) (D.may (M.numbers shape)) }
-        ensures { IfOk result (λ b. (b.1.seat.table_id ≡ b.0.table.shared.table_id) × (b.0.table.shared.table_id.words ≡ length words.now) × (b.0.shape ≡ shape) × (b.1.agent ≡ 0) × (b.1.seat.me.0 ≡ first_view M.rules shape)) }
+        ensures { IfOk result (λ b. (b.1.seat.table_id ≡ b.0.table.shared.table_id) × (b.0.table.shared.table_id.words ≡ length words.now)
+            × (b.0.shape ≡ shape) × (b.1.agent ≡ 0) × (b.1.seat.me.0 ≡ first_view M.rules shape)) }
     {
         let (table, seat) = Table::of_words(alloc, words, &shape).map_err(|_| NoMemory)?;
         let pass = SharedPass {
@@ -113,7 +114,7 @@ impl<M: Machine<D::Note>, D: Discipline> SharedWords<M, D> {
         Ok((SharedWords { table, shape }, pass))
     }
 
-    // the pass of the next agent
+    // Makes the pass of the next agent.
     fn hand_out(&self, first: &mut SharedPass<M, D>, number: u32, own: M::Own) -> SharedPass<M, D>
         requires table { first.old.seat.table_id ≡ self.now.table.shared.table_id }
         requires own { M.shows own ≡ first.old.seat.me.0.born }
@@ -139,17 +140,19 @@ impl<M: Machine<D::Note>, D: Discipline> SharedWords<M, D> {
         requires table { p.old.seat.table_id ≡ self.now.table.shared.table_id }
         requires inside { M.rules.place self.now.shape p.old.agent op.now (M.shows p.old.own) < self.now.table.shared.table_id.words }
         requires allowed { M.rules.allowed self.now.shape p.old.agent op.now (M.shows p.old.own) }
-        requires licensed { Licensed M.rules self.now.shape (D.holds (M.numbers self.now.shape)) (D.may (M.numbers self.now.shape)) p.old.seat.me.0 p.old.agent op.now note.now }
+        requires licensed { Licensed M.rules self.now.shape (D.holds (M.numbers self.now.shape)) (D.may (M.numbers self.now.shape))
+            p.old.seat.me.0 p.old.agent op.now note.now }
         ensures table { p.new.seat.table_id ≡ p.old.seat.table_id }
         ensures agent { p.new.agent ≡ p.old.agent }
-        ensures step { Extends M.rules self.now.shape (D.holds (M.numbers self.now.shape)) (D.may (M.numbers self.now.shape)) op.now note.now p.old.seat.me.0 result p.new.seat.me.0 }
+        ensures step { Extends M.rules self.now.shape (D.holds (M.numbers self.now.shape)) (D.may (M.numbers self.now.shape))
+            op.now note.now p.old.seat.me.0 result p.new.seat.me.0 }
     {
         let n = self.make_step::<Brand>(&mut p.seat, p.agent, &p.own, op, note);
         M::keep(&self.shape, p.agent, op, &mut p.own, n);
         n
     }
 
-    // the step on the table, which the call picks from the arguments
+    // Makes the step on the table, which the call picks from the arguments.
     #[inline(always)]
     fn make_step<J: Picks<M::Shape, M::Op, D::Note>>(
         &self,
@@ -164,9 +167,11 @@ impl<M: Machine<D::Note>, D: Discipline> SharedWords<M, D> {
         requires agent { (seat.old.me.0.agent ≡ Some agent) × (seat.old.me.0.own ≡ M.shows own.now) }
         requires inside { M.rules.place self.now.shape agent op.now (M.shows own.now) < self.now.table.shared.table_id.words }
         requires allowed { M.rules.allowed self.now.shape agent op.now (M.shows own.now) }
-        requires licensed { Licensed M.rules self.now.shape (D.holds (M.numbers self.now.shape)) (D.may (M.numbers self.now.shape)) seat.old.me.0 agent op.now note.now }
+        requires licensed { Licensed M.rules self.now.shape (D.holds (M.numbers self.now.shape)) (D.may (M.numbers self.now.shape))
+            seat.old.me.0 agent op.now note.now }
         ensures table { seat.new.table_id ≡ seat.old.table_id }
-        ensures step { Extends M.rules self.now.shape (D.holds (M.numbers self.now.shape)) (D.may (M.numbers self.now.shape)) op.now note.now seat.old.me.0 result seat.new.me.0 }
+        ensures step { Extends M.rules self.now.shape (D.holds (M.numbers self.now.shape)) (D.may (M.numbers self.now.shape))
+            op.now note.now seat.old.me.0 result seat.new.me.0 }
         ensures slots { seat.new.me.1 ≡ seat.old.me.1 }
     {
         let shared = &self.table.shared;
@@ -198,7 +203,7 @@ impl<M: Machine<D::Note>, D: Discipline> SharedWords<M, D> {
         self.take_note(from, into);
     }
 
-    // `into` takes the list of `from` where it is longer: a split, a join and a confirm
+    // Lets `into` take the list of `from` where that is longer: by a split, a join and a confirm.
     fn take_note(&self, into: &mut SharedPass<M, D>, from: &mut SharedPass<M, D>)
         requires table { (into.old.seat.table_id ≡ self.now.table.shared.table_id) × (from.old.seat.table_id ≡ self.now.table.shared.table_id) }
         ensures table { (into.new.seat.table_id ≡ into.old.seat.table_id) × (from.new.seat.table_id ≡ from.old.seat.table_id) }

@@ -22,7 +22,7 @@ fn is_shared<T: Sync>() {}
 
 fn is_sent<T: Send>() {}
 
-// of each machine whose shape and records may cross threads
+// Compiles for each machine whose shape and records may cross threads.
 fn words_and_passes_cross_threads<M: Machine<D::Note>, D: Discipline>()
 where
     M::Shape: Send + Sync,
@@ -48,7 +48,7 @@ fn two_agents(alloc: Global) -> Result<(Words, Pass, Pass), NoMemory>
     Ok((words, first, second))
 }
 
-// each counts up in a thread of its own; what they found
+// Lets each agent count up in a thread of its own, and answers what they found.
 fn count_on_two_threads<R: Threads + Sync>(
     rt: &R,
     words: &Words,

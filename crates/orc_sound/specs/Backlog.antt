@@ -9,5 +9,6 @@ use Rattle.orc_core.specs.Sums.{count_below, some_below}
 abbrev pub is_listed : Machine → ℕ → Bool
 is_listed m r = some_below m.bounds.agents (λ a. list_any (λ q. q == r) (record_at m a).list.items)
 
+-- how many retired rows are in no work list
 abbrev pub backlog : Machine → ℕ
 backlog m = count_below m.bounds.rows (λ r. is_retired m r && not (is_listed m r))

@@ -8,13 +8,15 @@ use Rattle.orc_core.specs.RecordParts.{names, saw}
 use Rattle.orc_core.specs.Sums.{count_below}
 use Rattle.orc_sound.specs.Linked.{IsOut, changes, holds_row, linked}
 
--- how many agents have an increment, a decrement, of the row pending
+-- how many agents have an increment of the row pending
 abbrev pub increments : Machine → ℕ → ℕ
 increments m r = count_below m.bounds.agents (λ a. names (record_at m a).inc r)
 
+-- how many agents have a decrement of the row pending
 abbrev pub decrements : Machine → ℕ → ℕ
 decrements m r = count_below m.bounds.agents (λ a. names (record_at m a).dec r)
 
+-- counts, links and pending changes agree
 pub record Balance (m : Machine) : Type 0 where
   -- the count is the links to the row, less the pending increments, with the pending decrements
   pub count : (r : ℕ) → r < m.bounds.rows → (counter_of (word_in m (Counter r))).count ≡ (pos (linked m r) -ℤ pos (increments m r)) +ℤ pos (decrements m r)

@@ -13,6 +13,7 @@ abbrev pub plain : {N : Type 0} → List (Step N) → List (ℕ × Op)
 plain [] = []
 plain (s ∷ ss) = (s.agent, s.op) ∷ plain ss
 
+-- no row is named, or one that the agent holds
 abbrev pub IsHeldOrNull : Agent → Option ℕ → Type 0
 IsHeldOrNull d None = Unit {0}
 IsHeldOrNull d (Some r) = any_holds d.slots r ≡ true

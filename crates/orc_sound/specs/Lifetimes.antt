@@ -7,10 +7,12 @@ use Rattle.orc_words.specs.declared.operation.Operation.TheVariants.{Add, Sub}
 use Rattle.orc_core.specs.declared.ops.Op.{Op}
 use Rattle.orc_core.specs.declared.ops.Op.TheVariants.{Free, GateTake}
 
+-- the step is a GateTake of the row
 abbrev pub is_take : Op → ℕ → Bool
 is_take (GateTake q) r = q == r
 is_take _ r = false
 
+-- the step is a Free of the row
 abbrev pub is_free : Op → ℕ → Bool
 is_free (Free q) r = q == r
 is_free _ r = false

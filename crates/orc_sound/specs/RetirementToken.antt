@@ -31,6 +31,7 @@ tokens m r = sum_below m.bounds.agents (λ a. places_of (record_at m a) r) + sum
 abbrev pub HasOnePart : Agent → Type 0
 HasOnePart d = bit (is_some d.hand) + bit (is_some d.scan) + bit (is_some d.doom) ≤ 1
 
+-- a row has its retired bit exactly where one place has it to see to
 pub record RetirementToken (m : Machine) : Type 0 where
   -- one place has the row where its bit is set, and none where it is clear
   pub one : (r : ℕ) → r < m.bounds.rows → tokens m r ≡ bit (is_retired m r)

@@ -7,6 +7,7 @@ use Rattle.orc_sound.specs.SoundParts.{Enrolment, FreshRows, Looks, Ranges, Scan
 use Rattle.orc_sound.specs.QuietScan.{QuietScans}
 use Rattle.orc_sound.specs.RetirementToken.{RetirementToken}
 
+-- what every lawful list of steps leaves
 pub record IsSound (m : Machine) : Type 0 where
   pub balance : Balance m
   pub token : RetirementToken m

@@ -12,7 +12,7 @@ use Rattle.orc_words.specs.declared.place.Word.TheVariants as word
 use Rattle.orc_heap.specs.Acts.{Fits, IsFresh, IsTarget}
 use Rattle.orc_heap.specs.Allowed.{AllowedLater}
 use Rattle.orc_heap.specs.Heap.{Heap, shown}
-use Rattle.orc_heap.specs.Journals.{FitsAfter, IsPlain, run_heap}
+use Rattle.orc_heap.specs.Journals.{FitsAfter, IsPlain, event_by, run_heap}
 use Rattle.orc_heap.specs.declared.discipline.Discipline as discipline
 use Rattle.orc_heap.specs.declared.events.Act.TheVariants as act
 use Rattle.orc_heap.specs.declared.events.Event.{Event}
@@ -24,7 +24,7 @@ use Rattle.orc_shared_words.specs.Lists.{Each}
 use Rattle.orc_shared_words.specs.Steps.{Licensed}
 use Rattle.orc_shared_words.specs.declared.journal.View.{View}
 use Rattle.orc_table.specs.Calls.{KnowsPlace, KnowsRow, KnowsTarget, MayWhereFits, MayWhereShown, aim_event, look_event, move_event}
-use Rattle.orc_table.specs.Machine.{State, IsLinkWord, IsRowLink, event, events_of, finds, id_by, index_of, link_at, link_by, numbers, place_by, project, project_from, run, run_from, start, tested}
+use Rattle.orc_table.specs.Machine.{State, IsLinkWord, IsRowLink, events_of, finds, id_by, index_of, link_at, link_by, numbers, place_by, project, project_from, run, run_from, start, tested}
 use Rattle.orc_table.specs.Rules.{plain_rules}
 use Rattle.orc_table.specs.Views.{FreshHeld, Keeps, PlainView, heap_of, view_of}
 use Rattle.orc_table.specs.Words.{IsWord}
@@ -172,7 +172,7 @@ module _ {D N : Type 0} (d : discipline.Ghosts D N) (q : PlainShape N) (v : View
       (λ between m hk. let x : State = run_from k (run k v.seen) between in
       let g = given_more k (run k v.seen) between in
       let s = shows k x at m.tie (place_grown k g0 g.0 x.given at g.1 (place_given at knows)).0 in
-      stands (v.seen ++ between) x (event a (act.Look (place_by x.given at) (link_at (shown x.heap (place_by x.given at)))) None) m.heap hk (s.is ∙ ap Some (sym (ap link_at s.is))) (refl, tt))
+      stands (v.seen ++ between) x (event_by a (act.Look (place_by x.given at) (link_at (shown x.heap (place_by x.given at)))) None) m.heap hk (s.is ∙ ap Some (sym (ap link_at s.is))) (refl, tt))
 
   test : (seen : List (PlainStep N)) (x : State) (at : Word) (w : RowLink) (done : Event N) (heap : run_heap (numbers k) (project k seen) ≡ x.heap) (hk : holds (project k seen)) (tie : Tied k x) (s : Shows k x at) (given : Given x.given w.to)
       → (shown x.heap (place_by x.given at) ≡ Some (link_by x.given w) → may (project k seen) done)
@@ -180,7 +180,7 @@ module _ {D N : Type 0} (d : discipline.Ghosts D N) (q : PlainShape N) (v : View
   test seen x at w done heap hk tie s given can true e = can (hit k x at w tie s given e)
   test seen x at w done heap hk tie s given can false e =
       let r : s.link ≡ link_at (shown x.heap (place_by x.given at)) = sym (ap link_at s.is) in
-      stands seen x (event a (act.Miss (place_by x.given at) (link_by x.given w) (link_at (shown x.heap (place_by x.given at)))) None) heap hk (s.is ∙ ap Some r, (λ z. missed k x at w tie s given e (r ∙ z))) (refl, tt)
+      stands seen x (event_by a (act.Miss (place_by x.given at) (link_by x.given w) (link_at (shown x.heap (place_by x.given at)))) None) heap hk (s.is ∙ ap Some r, (λ z. missed k x at w tie s given e (r ∙ z))) (refl, tt)
 
   -- the caller's licence, at a state that the pass may come upon
   may_test : (at : Word) (w t : RowLink) (done : Place → Link → Link → Event N) → KnowsPlace k s at → KnowsTarget k s w → KnowsTarget k s t
@@ -212,7 +212,7 @@ module _ {D N : Type 0} (d : discipline.Ghosts D N) (q : PlainShape N) (v : View
       d.allows_plain (numbers k) (project k v.seen ++ more) (look_event s at w None) (stays may holds (λ es e p m. d.keeps (numbers k) es e p m) (project k v.seen) more h.now.kept later.allowed) there (refl, tt)
 
   want_licence : (at : Word) (w : RowLink) (said : Option N) → KnowsPlace k s at → KnowsTarget k s w → MayWhereShown may k s at w (look_event s at w said) → Licensed plain_rules q holds may v a (LinkLoad at (Some w)) said
-  want_licence at w said knows from allowed = from_mid (LinkLoad at (Some w)) said (may_test at w w (λ p l _. event a (act.Look p l) said) knows from from allowed)
+  want_licence at w said knows from allowed = from_mid (LinkLoad at (Some w)) said (may_test at w w (λ p l _. event_by a (act.Look p l) said) knows from from allowed)
 
   -- a load that may want a link, and may have a note
   pub load_licence : (at : Word) (want : Option RowLink) (said : Option N) → KnowsPlace k s at → ((w : RowLink) → want ≡ Some w → KnowsTarget k s w) → (want ≡ None → said ≡ None)
@@ -222,7 +222,7 @@ module _ {D N : Type 0} (d : discipline.Ghosts D N) (q : PlainShape N) (v : View
   load_licence at (Some w) (Some x) knows known none allowed = want_licence at w (Some x) knows (known w refl) (allowed w x refl refl)
 
   pub cas_licence : (at : Word) (w t : RowLink) (said : Option N) → KnowsPlace k s at → KnowsTarget k s w → KnowsTarget k s t → MayWhereShown may k s at w (move_event s at w t said) → Licensed plain_rules q holds may v a (LinkCas at w t) said
-  cas_licence at w t said knows from to allowed = from_mid (LinkCas at w t) said (may_test at w t (λ p l m. event a (act.Move p l m) said) knows from to allowed)
+  cas_licence at w t said knows from to allowed = from_mid (LinkCas at w t) said (may_test at w t (λ p l m. event_by a (act.Move p l m) said) knows from to allowed)
 
   -- the fresh row's node is fresh at each state that the pass may come upon
   fresh_at : (between : List (PlainStep N)) (m : Mid k may v.seen between a) (row : ℕ) → fresh ≡ Some row → IsFresh a (run_from k (run k v.seen) between).heap (index_of row (run_from k (run k v.seen) between).given)
@@ -232,7 +232,7 @@ module _ {D N : Type 0} (d : discipline.Ghosts D N) (q : PlainShape N) (v : View
 
   pub fill_licence : (row which value : ℕ) → fresh ≡ Some row → which < 2 → Licensed plain_rules q holds may v a (Fill row which value) None
   fill_licence row which value is low = from_mid (Fill row which value) None
-      (λ between m hk. let x : State = run_from k (run k v.seen) between in stands (v.seen ++ between) x (event a (act.Fill (index_of row x.given) which value) None) m.heap hk (fresh_at between m row is, low) (refl, tt))
+      (λ between m hk. let x : State = run_from k (run k v.seen) between in stands (v.seen ++ between) x (event_by a (act.Fill (index_of row x.given) which value) None) m.heap hk (fresh_at between m row is, low) (refl, tt))
 
   pub store_licence : (row : ℕ) (l : RowLink) → fresh ≡ Some row → KnowsTarget k s l → MayWhereFits may k s (aim_event s row l) → Licensed plain_rules q holds may v a (LinkStore row l.to) None
   store_licence row l is knows allowed = from_mid (LinkStore row l.to) None
@@ -248,4 +248,4 @@ module _ {D N : Type 0} (d : discipline.Ghosts D N) (q : PlainShape N) (v : View
       let target : IsTarget a x.heap (id_by g0 l.to) = mid_target k may v.seen between a m (id_by g0 l.to) (subst (λ z. IsTarget a z (id_by g0 l.to)) heap_now knows) in
       let fits : FitsAfter (numbers k) (project k v.seen ++ es) (aim_event s row l) = (subst (λ (z : Heap × ℕ). IsFresh a z.0 z.1) (λ i. (heap i, one i)) (fresh_at between m row is), subst (λ z. IsTarget a z (id_by g0 l.to)) heap target) in
       let ok : may (project k v.seen ++ es) (aim_event s row l) = allowed es record { allowed = m.allowed; others = m.none } fits in
-      subst (λ (z : List (Event N) × ℕ × Option ℕ). may z.0 (event a (act.Aim z.1 z.2) None)) (λ i. (sym m.events i, sym one i, sym to i)) ok)
+      subst (λ (z : List (Event N) × ℕ × Option ℕ). may z.0 (event_by a (act.Aim z.1 z.2) None)) (λ i. (sym m.events i, sym one i, sym to i)) ok)

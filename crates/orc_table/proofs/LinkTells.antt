@@ -13,7 +13,7 @@ use Rattle.orc_heap.specs.Acts.{IsTarget}
 use Rattle.orc_heap.specs.Allowed.{AllAllowed}
 use Rattle.orc_heap.specs.Seats.{IsUntouched}
 use Rattle.orc_heap.specs.Heap.{Heap, shown}
-use Rattle.orc_heap.specs.Journals.{run_from as heap_from, run_heap}
+use Rattle.orc_heap.specs.Journals.{event_by, run_from as heap_from, run_heap}
 use Rattle.orc_heap.specs.declared.discipline.Discipline as discipline
 use Rattle.orc_heap.specs.declared.events.Act.TheVariants as act
 use Rattle.orc_heap.specs.declared.events.Event.{Event}
@@ -24,7 +24,7 @@ use Rattle.orc_heap.proofs.Untouched.{names_other, target_from, untouched_after}
 use Rattle.orc_shared_words.specs.Steps.{Extends}
 use Rattle.orc_shared_words.specs.declared.journal.View.{View}
 use Rattle.orc_table.specs.Calls.{Adds, Fails, Finds, KnowsPlace, KnowsTarget, Misses, Replaces, look_event, move_event, unless_linked}
-use Rattle.orc_table.specs.Machine.{State, event, finds, id_by, index_of, link_at, link_by, numbers, place_by, project, project_from, run, run_from, taken, tested}
+use Rattle.orc_table.specs.Machine.{State, finds, id_by, index_of, link_at, link_by, numbers, place_by, project, project_from, run, run_from, taken, tested}
 use Rattle.orc_table.specs.Rules.{plain_rules}
 use Rattle.orc_table.specs.Views.{FreshHeld, Keeps, PlainView, heap_of, view_of}
 use Rattle.orc_table.specs.Words.{IsWord}
@@ -42,11 +42,11 @@ is_equal : (m n : ℕ) → (m == n) ≡ true → m ≡ n
 is_equal m n e = grind (arith, nat_tests)
 
 -- a Move leaves a node untouched, unless it links to it
-move_spares : {N : Type 0} (a : ℕ) (x : State) (p : Place) (l m : Link) (said : Option N) (b : Bool) (id : ℕ) → (b ≡ true → m.to ≢ Some id) → IsUntouched a x.heap id → IsUntouched a (heap_from x.heap (tested x a p l (event a (act.Move p l m) said) b ∷ [])) id
+move_spares : {N : Type 0} (a : ℕ) (x : State) (p : Place) (l m : Link) (said : Option N) (b : Bool) (id : ℕ) → (b ≡ true → m.to ≢ Some id) → IsUntouched a x.heap id → IsUntouched a (heap_from x.heap (tested x a p l (event_by a (act.Move p l m) said) b ∷ [])) id
 move_spares a x p l m said true id ne u = untouched_after a a x.heap (act.Move p l m) id (names_other m.to id (ne refl)) u
 move_spares a x p l m said false id ne u = u
 
-look_spares : {N : Type 0} (a : ℕ) (x : State) (p : Place) (l : Link) (said : Option N) (b : Bool) (id : ℕ) → IsUntouched a x.heap id → IsUntouched a (heap_from x.heap (tested x a p l (event a (act.Look p l) said) b ∷ [])) id
+look_spares : {N : Type 0} (a : ℕ) (x : State) (p : Place) (l : Link) (said : Option N) (b : Bool) (id : ℕ) → IsUntouched a x.heap id → IsUntouched a (heap_from x.heap (tested x a p l (event_by a (act.Look p l) said) b ∷ [])) id
 look_spares a x p l said true id u = u
 look_spares a x p l said false id u = u
 
@@ -110,7 +110,7 @@ module _ {D N : Type 0} (d : discipline.Ghosts D N) (q : PlainShape N) (v w : Vi
         link = sh.link;
         word = word_then wk refl sh.link n (subst (IsWord y.given sh.link.to sh.link.mark) (sym wk.answers) sh.word);
         known = known_then wk (place_by y.given place) sh.link sh.is;
-        adds = subst (λ (z : Place × Link). Adds may (event a (act.Look z.0 z.1) None ∷ []) s t) (λ i. (there.1 i, ap link_at sh.is i)) (added d q v w a c fresh looked fresh2 looked2 h e (LinkLoad place None) said n x);
+        adds = subst (λ (z : Place × Link). Adds may (event_by a (act.Look z.0 z.1) None ∷ []) s t) (λ i. (there.1 i, ap link_at sh.is i)) (added d q v w a c fresh looked fresh2 looked2 h e (LinkLoad place None) said n x);
       }
 
   load_keeps : (place : Word) (said : Option N) (n : ℕ) → fresh2 ≡ fresh → Made (LinkLoad place None) said n → Keeps q holds may w c fresh2
@@ -126,12 +126,12 @@ module _ {D N : Type 0} (d : discipline.Ghosts D N) (q : PlainShape N) (v w : Vi
 
   -- the event of one that found another link
   miss_event : {op : PlainOp} {said : Option N} {n : ℕ} (wk : Walk k may v w a op said n) (place : Word) (from : RowLink) (done : Event N) (found : ℕ) (knows : KnowsPlace k s place) → KnowsTarget k s from → found ≢ link_word from
-      → tested (at wk) a (place_by (at wk).given place) (link_by (at wk).given from) done (found == link_word from) ≡ event a (act.Miss (place_by g0 place) (link_by g0 from) (shows_met wk place knows).link) None
+      → tested (at wk) a (place_by (at wk).given place) (link_by (at wk).given from) done (found == link_word from) ≡ event_by a (act.Miss (place_by g0 place) (link_by g0 from) (shows_met wk place knows).link) None
   miss_event wk place from done found knows known other =
       let y : State = at wk in
       let sh = shows_met wk place knows in
       ap (λ (b : Bool). tested y a (place_by y.given place) (link_by y.given from) done b) (ne_eqb found (link_word from) other)
-      ∙ (λ i. event a (act.Miss ((place_met wk place knows).1 i) ((link_met wk from known).1 i) (ap link_at sh.is i)) None)
+      ∙ (λ i. event_by a (act.Miss ((place_met wk place knows).1 i) ((link_met wk from known).1 i) (ap link_at sh.is i)) None)
 
   other_link : {op : PlainOp} {said : Option N} {n : ℕ} (wk : Walk k may v w a op said n) (place : Word) (from : RowLink) (found : ℕ) (knows : KnowsPlace k s place) (known : KnowsTarget k s from) → found ≡ slice_index (at wk).words (word_place k place) → found ≢ link_word from → (shows_met wk place knows).link ≢ link_by g0 from
   other_link wk place from found knows known is other same =
@@ -142,7 +142,7 @@ module _ {D N : Type 0} (d : discipline.Ghosts D N) (q : PlainShape N) (v w : Vi
   want_meets : (place : Word) (l : RowLink) (said : Option N) (n : ℕ) → KnowsPlace k s place → KnowsTarget k s l → n ≡ link_word l → Made (LinkLoad place (Some l)) said n → Adds may (look_event s place l said ∷ []) s t
   want_meets place l said n knows known is x =
       let wk = walks (LinkLoad place (Some l)) said n x in
-      subst (λ z. Adds may (z ∷ []) s t) (hit_event wk place l l (λ p m _. event a (act.Look p m) said) (finds k (at wk) (LinkLoad place (Some l))) knows known known (sym wk.answers ∙ is)) (added d q v w a c fresh looked fresh2 looked2 h e (LinkLoad place (Some l)) said n x)
+      subst (λ z. Adds may (z ∷ []) s t) (hit_event wk place l l (λ p m _. event_by a (act.Look p m) said) (finds k (at wk) (LinkLoad place (Some l))) knows known known (sym wk.answers ∙ is)) (added d q v w a c fresh looked fresh2 looked2 h e (LinkLoad place (Some l)) said n x)
 
   want_misses : (place : Word) (l : RowLink) (said : Option N) (n : ℕ) → KnowsPlace k s place → KnowsTarget k s l → n ≢ link_word l → Made (LinkLoad place (Some l)) said n → Misses may k (place_by g0 place) (link_by g0 l) n s t
   want_misses place l said n knows known other x =
@@ -155,7 +155,7 @@ module _ {D N : Type 0} (d : discipline.Ghosts D N) (q : PlainShape N) (v w : Vi
         other = other_link wk place l found knows known refl other2;
         word = word_then wk refl sh.link n (subst (IsWord y.given sh.link.to sh.link.mark) (sym wk.answers) sh.word);
         known = known_then wk (place_by y.given place) sh.link sh.is;
-        adds = subst (λ z. Adds may (z ∷ []) s t) (miss_event wk place l (event a (act.Look (place_by y.given place) (link_by y.given l)) said) found knows known other2) (added d q v w a c fresh looked fresh2 looked2 h e (LinkLoad place (Some l)) said n x);
+        adds = subst (λ z. Adds may (z ∷ []) s t) (miss_event wk place l (event_by a (act.Look (place_by y.given place) (link_by y.given l)) said) found knows known other2) (added d q v w a c fresh looked fresh2 looked2 h e (LinkLoad place (Some l)) said n x);
       }
 
   want_keeps : (place : Word) (l : RowLink) (said : Option N) (n : ℕ) → fresh2 ≡ fresh → Made (LinkLoad place (Some l)) said n → Keeps q holds may w c fresh2
@@ -188,7 +188,7 @@ module _ {D N : Type 0} (d : discipline.Ghosts D N) (q : PlainShape N) (v w : Vi
   pub cas_moves : (place : Word) (from to : RowLink) (said : Option N) (n : ℕ) → KnowsPlace k s place → KnowsTarget k s from → KnowsTarget k s to → n ≡ link_word from → Made (LinkCas place from to) said n → Adds may (move_event s place from to said ∷ []) s t
   cas_moves place from to said n knows known known2 is x =
       let wk = walks (LinkCas place from to) said n x in
-      subst (λ z. Adds may (z ∷ []) s t) (hit_event wk place from to (λ p l m. event a (act.Move p l m) said) (finds k (at wk) (LinkCas place from to)) knows known known2 (sym wk.answers ∙ is)) (added d q v w a c fresh looked fresh2 looked2 h e (LinkCas place from to) said n x)
+      subst (λ z. Adds may (z ∷ []) s t) (hit_event wk place from to (λ p l m. event_by a (act.Move p l m) said) (finds k (at wk) (LinkCas place from to)) knows known known2 (sym wk.answers ∙ is)) (added d q v w a c fresh looked fresh2 looked2 h e (LinkCas place from to) said n x)
 
   pub cas_fails : (place : Word) (from to : RowLink) (said : Option N) (n : ℕ) → KnowsPlace k s place → KnowsTarget k s from → n ≢ link_word from → fresh2 ≡ fresh → Made (LinkCas place from to) said n → Fails may (place_by g0 place) (link_by g0 from) s t
   cas_fails place from to said n knows known other f x =
@@ -198,7 +198,7 @@ module _ {D N : Type 0} (d : discipline.Ghosts D N) (q : PlainShape N) (v w : Vi
       let other2 : found ≢ link_word from = λ z. other (wk.answers ∙ z) in record {
         link = (shows_met wk place knows).link;
         other = other_link wk place from found knows known refl other2;
-        adds = subst (λ z. Adds may (z ∷ []) s t) (miss_event wk place from (event a (act.Move (place_by y.given place) (link_by y.given from) (link_by y.given to)) said) found knows known other2) (added d q v w a c fresh looked fresh2 looked2 h e (LinkCas place from to) said n x);
+        adds = subst (λ z. Adds may (z ∷ []) s t) (miss_event wk place from (event_by a (act.Move (place_by y.given place) (link_by y.given from) (link_by y.given to)) said) found knows known other2) (added d q v w a c fresh looked fresh2 looked2 h e (LinkCas place from to) said n x);
         fresh = f;
       }
 
@@ -245,8 +245,8 @@ module _ {D N : Type 0} (d : discipline.Ghosts D N) (q : PlainShape N) (v w : Vi
         adds = record {
           met = es;
           later = record { allowed = wk.mid.allowed; others = wk.mid.none };
-          events = wk.events ∙ (λ i. (project k v.seen ++ es) ++ event a (act.Aim (id i) (to i)) None ∷ []);
-          allowed = subst (λ (z : ℕ × Option ℕ). AllAllowed may (project k v.seen ++ es) (event a (act.Aim z.0 z.1) None ∷ [])) (λ i. (id i, to i)) wk.allowed;
+          events = wk.events ∙ (λ i. (project k v.seen ++ es) ++ event_by a (act.Aim (id i) (to i)) None ∷ []);
+          allowed = subst (λ (z : ℕ × Option ℕ). AllAllowed may (project k v.seen ++ es) (event_by a (act.Aim z.0 z.1) None ∷ [])) (λ i. (id i, to i)) wk.allowed;
           agent = e;
           rows = rows_later k may v w a (LinkStore row l.to) None n wk;
           absorbed = wk.also;

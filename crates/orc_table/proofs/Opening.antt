@@ -8,7 +8,7 @@ use Rattle.orc_words.specs.declared.shape.Shape.{Shape}
 use Rattle.orc_heap.specs.Acts.{with_value}
 use Rattle.orc_heap.specs.Allowed.{AllAllowed}
 use Rattle.orc_heap.specs.Heap.{HeapNumbers, new_heap, new_node, null}
-use Rattle.orc_heap.specs.Journals.{run_from as heap_from}
+use Rattle.orc_heap.specs.Journals.{event_by, run_from as heap_from}
 use Rattle.orc_heap.specs.Seeds.{DummyAllowed, HasRoots, SeedAllowed, dummy_link, dummy_node, opening_events}
 use Rattle.orc_heap.specs.declared.discipline.Discipline as discipline
 use Rattle.orc_heap.specs.declared.events.Act.TheVariants as act
@@ -17,7 +17,7 @@ use Rattle.orc_heap.specs.declared.events.Place.TheVariants.{Root}
 use Rattle.orc_heap.proofs.Stays.{stays}
 use Rattle.orc_shared_words.specs.Ends.{Opens}
 use Rattle.orc_shared_words.specs.Runs.{AgentsBelow}
-use Rattle.orc_table.specs.Machine.{State, AllowedFrom, IsRowLink, event, events_at, next, numbers, project, project_from, run, run_from, start, tested, unmarked}
+use Rattle.orc_table.specs.Machine.{State, AllowedFrom, IsRowLink, events_at, next, numbers, project, project_from, run, run_from, start, tested, unmarked}
 use Rattle.orc_table.specs.Rules.{opening_steps, plain_rules, step_of}
 use Rattle.orc_table.specs.declared.machine.PlainOp.TheVariants.{GateTake, Fill, LinkCas}
 use Rattle.orc_table.specs.declared.machine.PlainStep.{PlainStep}
@@ -36,7 +36,7 @@ module _ {N : Type 0} (b : Bounds) (first : ℕ) (begin : N) (roots : 2 ≤ b.ro
   dummy_words = slice_set (slice_set node_words (place b (word.Root 0)) 2) (place b (word.Root 1)) 2
 
   abbrev given_state : State
-  given_state = record { words = slice_set (new_words b) (place b (word.Gate 0)) 3; given = 0 ∷ []; heap = heap_from (new_heap (numbers b)) (event {N = N} 0 act.Give None ∷ []) }
+  given_state = record { words = slice_set (new_words b) (place b (word.Gate 0)) 3; given = 0 ∷ []; heap = heap_from (new_heap (numbers b)) (event_by {N = N} 0 act.Give None ∷ []) }
 
   abbrev filled_state : State
   filled_state = record { words = node_words; given = 0 ∷ []; heap = heap_from (new_heap (numbers b)) (dummy_node {N = N} first) }
@@ -60,11 +60,11 @@ module _ {N : Type 0} (b : Bounds) (first : ℕ) (begin : N) (roots : 2 ≤ b.ro
   second_root = same_word node_words (place b (word.Root 0)) 2 (place b (word.Root 1)) (λ e. omega (arith, e)) ∙ node_root 1 (omega (arith, roots))
 
   given_first : next b (start b) (step_of {N = N} 0 (GateTake 0) None) ≡ given_state
-  given_first = ap (λ (h : Bool). record { words = slice_set (new_words b) (place b (word.Gate 0)) (cond h 3 (slice_index (new_words b) (place b (word.Gate 0)))); given = if h then 0 ∷ [] else []; heap = heap_from (new_heap (numbers b)) (if h then event {N = N} 0 act.Give None ∷ [] else []) })
+  given_first = ap (λ (h : Bool). record { words = slice_set (new_words b) (place b (word.Gate 0)) (cond h 3 (slice_index (new_words b) (place b (word.Gate 0)))); given = if h then 0 ∷ [] else []; heap = heap_from (new_heap (numbers b)) (if h then event_by {N = N} 0 act.Give None ∷ [] else []) })
       (eq-eqb (slice_index (new_words b) (place b (word.Gate 0))) 0 zero_gate)
 
-  give_event : events_at b (start b) (step_of {N = N} 0 (GateTake 0) None) ≡ event 0 act.Give None ∷ []
-  give_event = ap (λ (h : Bool). if h then event {N = N} 0 act.Give None ∷ [] else []) (eq-eqb (slice_index (new_words b) (place b (word.Gate 0))) 0 zero_gate)
+  give_event : events_at b (start b) (step_of {N = N} 0 (GateTake 0) None) ≡ event_by 0 act.Give None ∷ []
+  give_event = ap (λ (h : Bool). if h then event_by {N = N} 0 act.Give None ∷ [] else []) (eq-eqb (slice_index (new_words b) (place b (word.Gate 0))) 0 zero_gate)
 
   abbrev link_step : ℕ → PlainStep N
   link_step r = step_of 0 (LinkCas (word.Root r) (unmarked None) (unmarked (Some 0))) (Some begin)
@@ -89,8 +89,8 @@ module _ {N : Type 0} (b : Bounds) (first : ℕ) (begin : N) (roots : 2 ≤ b.ro
   unfolding rest
   dummy_events =
       (λ i. give_event i ++ project_from b (given_first i) rest)
-      ∙ ((λ i. event 0 act.Give None ∷ event 0 (act.Fill 0 0 0) None ∷ event 0 (act.Fill 0 1 first) None ∷ (first_event i ++ (events_at b (first_linked i) (link_step 1) ++ [])))
-      ∙ (λ i. event 0 act.Give None ∷ event 0 (act.Fill 0 0 0) None ∷ event 0 (act.Fill 0 1 first) None ∷ dummy_link 0 begin ∷ (second_event i ++ [])))
+      ∙ ((λ i. event_by 0 act.Give None ∷ event_by 0 (act.Fill 0 0 0) None ∷ event_by 0 (act.Fill 0 1 first) None ∷ (first_event i ++ (events_at b (first_linked i) (link_step 1) ++ [])))
+      ∙ (λ i. event_by 0 act.Give None ∷ event_by 0 (act.Fill 0 0 0) None ∷ event_by 0 (act.Fill 0 1 first) None ∷ dummy_link 0 begin ∷ (second_event i ++ [])))
 
   pub dummy_run : (run b (opening_steps (Dummy first begin))).words ≡ dummy_words
   unfolding rest
@@ -110,9 +110,9 @@ module _ {D N : Type 0} (d : discipline.Ghosts D N) (b : Bounds) (first : ℕ) (
 
   pub dummy_each : AllAllowed may [] (opening_events (Dummy first begin))
   dummy_each =
-      let e0 : Event N = event 0 act.Give None in
-      let e1 : Event N = event 0 (act.Fill 0 0 0) None in
-      let e2 : Event N = event 0 (act.Fill 0 1 first) None in
+      let e0 : Event N = event_by 0 act.Give None in
+      let e1 : Event N = event_by 0 (act.Fill 0 0 0) None in
+      let e2 : Event N = event_by 0 (act.Fill 0 1 first) None in
       let m0 : may [] e0 = d.allows_plain (numbers b) [] e0 began tt (refl, tt) in
       let h1 : holds (e0 ∷ []) = d.keeps (numbers b) [] e0 began m0 in
       let m1 : may (e0 ∷ []) e1 = d.allows_plain (numbers b) (e0 ∷ []) e1 h1 (record { node = new_node 0; there = refl; mine = refl; unlinked = refl }, omega arith) (refl, tt) in

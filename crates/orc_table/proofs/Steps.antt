@@ -10,13 +10,13 @@ use Rattle.orc_words.specs.declared.place.Word.{Word}
 use Rattle.orc_words.specs.declared.place.Word.TheVariants as word
 use Rattle.orc_heap.specs.Acts.{IsFresh, as_linked, as_named, change_target, with_value}
 use Rattle.orc_heap.specs.Heap.{Heap, Node, change, shown}
-use Rattle.orc_heap.specs.Journals.{IsLawful, IsLawfulFrom, run_from as heap_from}
+use Rattle.orc_heap.specs.Journals.{IsLawful, IsLawfulFrom, event_by, run_from as heap_from}
 use Rattle.orc_heap.specs.declared.events.Act.TheVariants as act
 use Rattle.orc_heap.specs.declared.events.Link.{Link}
 use Rattle.orc_heap.specs.declared.events.Place.{Place}
 use Rattle.orc_heap.specs.declared.events.Place.TheVariants.{Next}
 use Rattle.orc_heap.proofs.Runs.{lawful-left, lawful-right, run_from-append as heap-append}
-use Rattle.orc_table.specs.Machine.{State, Allowed, AllowedFrom, IsLinkWord, event, events_at, events_of, finds, id_by, index_of, link_by, load_event, next, numbers, place_by, project, project_from, run, run_from, start, taken, tested, value_word, word_of, written}
+use Rattle.orc_table.specs.Machine.{State, Allowed, AllowedFrom, IsLinkWord, events_at, events_of, finds, id_by, index_of, link_by, load_event, next, numbers, place_by, project, project_from, run, run_from, start, taken, tested, value_word, word_of, written}
 use Rattle.orc_table.specs.declared.machine.PlainOp.{PlainOp}
 use Rattle.orc_table.specs.declared.machine.PlainOp.TheVariants.{GateLook, GateTake, Fill, Read, LinkLoad, LinkCas, LinkStore}
 use Rattle.orc_table.specs.declared.machine.PlainStep.{PlainStep}
@@ -68,9 +68,9 @@ module _ (k : Bounds) (x : State) (tie : Tied k x) where
 
 module _ {N : Type 0} (k : Bounds) (x : State) (tie : Tied k x) where
   cas : (a : ℕ) (at : Word) (from to : RowLink) (said : Option N) (b : Bool) → IsLinkWord k at
-      → IsLawfulFrom x.heap (tested x a (place_by x.given at) (link_by x.given from) (event a (act.Move (place_by x.given at) (link_by x.given from) (link_by x.given to)) said) b ∷ [])
+      → IsLawfulFrom x.heap (tested x a (place_by x.given at) (link_by x.given from) (event_by a (act.Move (place_by x.given at) (link_by x.given from) (link_by x.given to)) said) b ∷ [])
       → Tie k (slice_set x.words (place k at) (cond b (link_word to) (slice_index x.words (place k at)))) (x.given ++ [])
-      (heap_from x.heap (tested x a (place_by x.given at) (link_by x.given from) (event a (act.Move (place_by x.given at) (link_by x.given from) (link_by x.given to)) said) b ∷ []))
+      (heap_from x.heap (tested x a (place_by x.given at) (link_by x.given from) (event_by a (act.Move (place_by x.given at) (link_by x.given from) (link_by x.given to)) said) b ∷ []))
   cas a at from to said false there fits = same k x tie (place k at)
   cas a (word.Root r) from to said true there fits =
       given_too k x tie _ _ _ (target_heap as_linked (id_by x.given to.to) _) (tie_root k x.words x.given x.heap as_linked linked_alike (λ n. refl) r to.to to.mark tie there (given_by k x.words x.given x.heap tie a to.to fits.0.1))
@@ -81,7 +81,7 @@ module _ {N : Type 0} (k : Bounds) (x : State) (tie : Tied k x) where
   cas a at from to said true there fits = absurd there
 
   looked : (a : ℕ) (at : Place) (want : Link) (said : Option N) (p : ℕ) (b : Bool)
-      → Tie k (slice_set x.words p (slice_index x.words p)) (x.given ++ []) (heap_from x.heap (tested x a at want (event a (act.Look at want) said) b ∷ []))
+      → Tie k (slice_set x.words p (slice_index x.words p)) (x.given ++ []) (heap_from x.heap (tested x a at want (event_by a (act.Look at want) said) b ∷ []))
   looked a at want said p true = same k x tie p
   looked a at want said p false = same k x tie p
 
@@ -92,7 +92,7 @@ module _ {N : Type 0} (k : Bounds) (x : State) (tie : Tied k x) where
 
   take : (a row : ℕ) (said : Option N) (b : Bool) → row < k.rows → (b ≡ true → slice_index x.words (row_place k row) ≡ 0)
       → Tie k (slice_set x.words (row_place k row) (cond b 3 (slice_index x.words (row_place k row)))) (x.given ++ (if b then row ∷ [] else []))
-      (heap_from x.heap (if b then event {N = N} a act.Give None ∷ [] else []))
+      (heap_from x.heap (if b then event_by {N = N} a act.Give None ∷ [] else []))
   take a row said true lt zero_gate = tie_take k x.words x.given x.heap a row tie lt (zero_gate refl)
   take a row said false lt zero_gate = same k x tie (row_place k row)
 

@@ -8,7 +8,7 @@ use Rattle.orc_words.specs.declared.place.Word.TheVariants as word
 use Rattle.orc_heap.specs.Acts.{IsTarget}
 use Rattle.orc_heap.specs.Seats.{IsUntouched}
 use Rattle.orc_heap.specs.Heap.{Heap, Node, new_node}
-use Rattle.orc_heap.specs.Journals.{run_from as heap_from}
+use Rattle.orc_heap.specs.Journals.{event_by, run_from as heap_from}
 use Rattle.orc_heap.specs.declared.discipline.Discipline as discipline
 use Rattle.orc_heap.specs.declared.events.Act.TheVariants as act
 use Rattle.orc_heap.specs.declared.events.Event.{Event}
@@ -18,7 +18,7 @@ use Rattle.orc_shared_words.specs.Steps.{Extends, LaterJournal}
 use Rattle.orc_shared_words.specs.declared.journal.View.{View}
 use Rattle.orc_heap.specs.Calls.{ReadsValue, value_of}
 use Rattle.orc_table.specs.Calls.{Adds, Gives, IsGateWord, KnowsRow, Loses}
-use Rattle.orc_table.specs.Machine.{State, event, events_of, finds, index_of, numbers, run, run_from, start, taken, value_word}
+use Rattle.orc_table.specs.Machine.{State, events_of, finds, index_of, numbers, run, run_from, start, taken, value_word}
 use Rattle.orc_table.specs.Rules.{plain_rules}
 use Rattle.orc_table.specs.Views.{FreshHeld, Keeps, PlainView, heap_of, view_of}
 use Rattle.orc_table.specs.Words.{Block, IsOut, Named}
@@ -141,7 +141,7 @@ module _ {D N : Type 0} (d : discipline.Ghosts D N) (q : PlainShape N) (v w : Vi
   pub take_gives : (row n : ℕ) → n ≡ 0 → row < k.rows → fresh2 ≡ Some row → Made (GateTake row) None n → Gives may row s t
   take_gives row n zero_gate lt f x =
       let wk = walked (GateTake row) None n x in record {
-        adds = subst (λ l. Adds may l s t) (ap (λ (b : Bool). if b then event {N = N} a act.Give None ∷ [] else []) (taken_is row n zero_gate x)) (added (GateTake row) None n x);
+        adds = subst (λ l. Adds may l s t) (ap (λ (b : Bool). if b then event_by {N = N} a act.Give None ∷ [] else []) (taken_is row n zero_gate x)) (added (GateTake row) None n x);
         before = (at_step wk).given;
         rows = rows_taken row n zero_gate x;
         new = was_new row n zero_gate x lt;
@@ -157,7 +157,7 @@ module _ {D N : Type 0} (d : discipline.Ghosts D N) (q : PlainShape N) (v w : Vi
       let last : slice_get g (length y.given) ≡ Some row = subst (λ z. slice_get z (length y.given) ≡ Some row) (sym rows) (get_last y.given row) in
       let at : index_of row g ≡ length y.given = index_at row g (length y.given) wk.tie.once last in
       let heap : (run k w.seen).heap ≡ record { nodes = y.heap.nodes ++ new_node a ∷ []; roots = y.heap.roots } =
-      heap_later k may v w a (GateTake row) None n wk ∙ ap (λ (b : Bool). heap_from y.heap (if b then event {N = N} a act.Give None ∷ [] else [])) (taken_is row n zero_gate x) in
+      heap_later k may v w a (GateTake row) None n wk ∙ ap (λ (b : Bool). heap_from y.heap (if b then event_by {N = N} a act.Give None ∷ [] else [])) (taken_is row n zero_gate x) in
       let there : slice_get (run k w.seen).heap.nodes (index_of row g) ≡ Some (new_node a) = subst (λ (z : Heap × ℕ). slice_get z.0.nodes z.1 ≡ Some (new_node a)) (λ i. (sym heap i, (sym wk.mid.tie.even ∙ sym at) i)) (get-added y.heap.nodes (new_node a)) in
       keeps_with (GateTake row) None n x (subst (FreshHeld a (run k w.seen)) (sym f) (index_in row g (length y.given) last, record { node = new_node a; there = there; mine = refl; unnamed = refl; unlinked = refl }))
 
@@ -168,23 +168,23 @@ module _ {D N : Type 0} (d : discipline.Ghosts D N) (q : PlainShape N) (v w : Vi
   take_loses row n other lt f x =
       let wk = walked (GateTake row) None n x in
       let read = wk.answers in record {
-        adds = subst (λ l. Adds may l s t) (ap (λ (b : Bool). if b then event {N = N} a act.Give None ∷ [] else []) (lost_is row n other x)) (added (GateTake row) None n x);
+        adds = subst (λ l. Adds may l s t) (ap (λ (b : Bool). if b then event_by {N = N} a act.Give None ∷ [] else []) (lost_is row n other x)) (added (GateTake row) None n x);
         out = subst (λ z. IsOut z row) (rows_met wk (ap (λ (b : Bool). if b then row ∷ [] else []) (lost_is row n other x))) (elim (gate_word k (at_step wk) row wk.mid.tie lt) [ inl p ↦ p.1 | inr p ↦ absurd (other (read ∙ p.0)) ]);
         fresh = f;
       }
 
   pub lost_keeps : (row n : ℕ) → n ≢ 0 → fresh2 ≡ fresh → Made (GateTake row) None n → Keeps q holds may w c fresh2
   lost_keeps row n other f x = keeps (GateTake row) None n x f
-      (λ r _ u. subst (λ l. IsUntouched a (heap_from (at_step (walked (GateTake row) None n x)).heap l) (index_of r (at_step (walked (GateTake row) None n x)).given)) (sym (ap (λ (b : Bool). if b then event {N = N} a act.Give None ∷ [] else []) (lost_is row n other x))) u)
+      (λ r _ u. subst (λ l. IsUntouched a (heap_from (at_step (walked (GateTake row) None n x)).heap l) (index_of r (at_step (walked (GateTake row) None n x)).given)) (sym (ap (λ (b : Bool). if b then event_by {N = N} a act.Give None ∷ [] else []) (lost_is row n other x))) u)
 
   -- a row that was given keeps its id
   pub id_met : {op : PlainOp} {said : Option N} {n : ℕ} (wk : Walk k may v w a op said n) (row : ℕ) → index_of row g0 < length g0 → index_of row (at_step wk).given ≡ index_of row g0
   id_met wk row lt = let g = given_more k (run k v.seen) wk.between in ap (index_of row) g.1 ∙ index_grown row g0 g.0 lt
 
-  pub fill_adds : (row which value n : ℕ) → fresh ≡ Some row → Made (Fill row which value) None n → Adds may (event a (act.Fill (index_of row g0) which value) None ∷ []) s t
+  pub fill_adds : (row which value n : ℕ) → fresh ≡ Some row → Made (Fill row which value) None n → Adds may (event_by a (act.Fill (index_of row g0) which value) None ∷ []) s t
   fill_adds row which value n is x =
       let held = subst (FreshHeld a (run k v.seen)) is h.untouched in
-      subst (λ i. Adds may (event a (act.Fill i which value) None ∷ []) s t) (id_met (walked (Fill row which value) None n x) row held.0) (added (Fill row which value) None n x)
+      subst (λ i. Adds may (event_by a (act.Fill i which value) None ∷ []) s t) (id_met (walked (Fill row which value) None n x) row held.0) (added (Fill row which value) None n x)
 
   pub fill_keeps : (row which value n : ℕ) → fresh2 ≡ fresh → Made (Fill row which value) None n → Keeps q holds may w c fresh2
   fill_keeps row which value n f x = let y : State = at_step (walked (Fill row which value) None n x) in

@@ -8,7 +8,7 @@ use Rattle.orc_words.specs.declared.packed.RowLink.{RowLink}
 use Rattle.orc_heap.specs.Acts.{IsTarget}
 use Rattle.orc_heap.specs.Allowed.{AllAllowed, events_by}
 use Rattle.orc_heap.specs.Seats.{IsUntouched}
-use Rattle.orc_heap.specs.Journals.{IsLawfulFrom, run_from as heap_from, run_heap}
+use Rattle.orc_heap.specs.Journals.{IsLawfulFrom, event_by, run_from as heap_from, run_heap}
 use Rattle.orc_heap.specs.declared.discipline.Discipline as discipline
 use Rattle.orc_heap.specs.declared.events.Act.TheVariants as act
 use Rattle.orc_heap.specs.declared.events.Event.{Event}
@@ -24,7 +24,7 @@ use Rattle.orc_shared_words.specs.declared.journal.View.{View}
 use Rattle.orc_shared_words.proofs.Events.{AllBy, none-append, none_of_all}
 use Rattle.orc_shared_words.proofs.Runs.{by_other, by_own, cons_nil}
 use Rattle.orc_table.specs.Calls.{Adds}
-use Rattle.orc_table.specs.Machine.{State, AllowedFrom, answer, event, events_at, events_of, finds, index_of, link_by, load_event, next, numbers, place_by, project, project_from, run, run_from, start, taken, tested}
+use Rattle.orc_table.specs.Machine.{State, AllowedFrom, answer, events_at, events_of, finds, index_of, link_by, load_event, next, numbers, place_by, project, project_from, run, run_from, start, taken, tested}
 use Rattle.orc_table.specs.Rules.{plain_rules, project-append, step_of, steps-append}
 use Rattle.orc_table.specs.Views.{FreshHeld, view_of}
 use Rattle.orc_table.specs.declared.machine.PlainOp.{PlainOp}
@@ -42,7 +42,7 @@ module _ {N : Type 0} where
   test_signed x a at want done true e = (e, tt)
   test_signed x a at want done false e = (refl, tt)
 
-  take_signed : (a : ℕ) (said : Option N) (b : Bool) → AllBy {N = N} a (if b then event a act.Give None ∷ [] else [])
+  take_signed : (a : ℕ) (said : Option N) (b : Bool) → AllBy {N = N} a (if b then event_by a act.Give None ∷ [] else [])
   take_signed a said true = (refl, tt)
   take_signed a said false = tt
 

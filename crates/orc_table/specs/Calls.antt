@@ -7,14 +7,14 @@ use Rattle.orc_words.specs.declared.place.Word.TheVariants.{Root, Next}
 use Rattle.orc_heap.specs.Acts.{IsKnown, IsTarget}
 use Rattle.orc_heap.specs.Allowed.{AllAllowed, AllowedLater, AllowedWhereFits, Later, events_by}
 use Rattle.orc_heap.specs.Heap.{shown}
-use Rattle.orc_heap.specs.Journals.{run_heap}
+use Rattle.orc_heap.specs.Journals.{event_by, run_heap}
 use Rattle.orc_heap.specs.declared.events.Act.TheVariants as act
 use Rattle.orc_heap.specs.declared.events.Event.{Event}
 use Rattle.orc_heap.specs.declared.events.Link.{Link}
 use Rattle.orc_heap.specs.declared.events.Place.{Place}
 use Rattle.orc_heap.specs.declared.events.Place.TheVariants.{Next as AtNext}
 use Rattle.orc_shared_words.specs.Lists.{Among, Begins}
-use Rattle.orc_table.specs.Machine.{event, id_by, index_of, link_by, numbers, place_by}
+use Rattle.orc_table.specs.Machine.{id_by, index_of, link_by, numbers, place_by}
 use Rattle.orc_table.specs.Views.{PlainView, heap_of}
 use Rattle.orc_table.specs.Words.{IsOut, IsWord}
 
@@ -48,13 +48,13 @@ module _ {N : Type 0} where
 
   -- a look at a link, an exchange of a link, and a store of a link, as events of the pass
   abbrev pub look_event : PlainView N → Word → RowLink → Option N → Event N
-  look_event s place link said = event s.agent (act.Look (place_by s.rows place) (link_by s.rows link)) said
+  look_event s place link said = event_by s.agent (act.Look (place_by s.rows place) (link_by s.rows link)) said
 
   abbrev pub move_event : PlainView N → Word → RowLink → RowLink → Option N → Event N
-  move_event s place from to said = event s.agent (act.Move (place_by s.rows place) (link_by s.rows from) (link_by s.rows to)) said
+  move_event s place from to said = event_by s.agent (act.Move (place_by s.rows place) (link_by s.rows from) (link_by s.rows to)) said
 
   abbrev pub aim_event : PlainView N → ℕ → RowLink → Event N
-  aim_event s row link = event s.agent (act.Aim (index_of row s.rows) (id_by s.rows link.to)) None
+  aim_event s row link = event_by s.agent (act.Aim (index_of row s.rows) (id_by s.rows link.to)) None
 
   module _ (may : List (Event N) → Event N → Type 0) where
     -- the event is allowed in every later journal of the pass, wherever the place shows the link
@@ -80,7 +80,7 @@ module _ {N : Type 0} where
 
     -- the row, which nobody was given before, is the pass's fresh row, and its node is the newest
     pub record Gives (row : ℕ) (s t : PlainView N) : Type 0 where
-      pub adds : Adds (event s.agent act.Give None ∷ []) s t
+      pub adds : Adds (event_by s.agent act.Give None ∷ []) s t
       pub before : List ℕ
       pub rows : t.rows ≡ before ++ row ∷ []
       pub new : ¬ IsOut before row
@@ -97,7 +97,7 @@ module _ {N : Type 0} where
       pub link : Link
       pub word : IsWord t.rows link.to link.mark n
       pub known : IsTarget s.agent (heap_of b t) link.to
-      pub adds : Adds (event s.agent (act.Look place link) None ∷ []) s t
+      pub adds : Adds (event_by s.agent (act.Look place link) None ∷ []) s t
 
     -- the pass finds another link than the wanted one, whose word is the number
     pub record Misses (b : Bounds) (place : Place) (wanted : Link) (n : ℕ) (s t : PlainView N) : Type 0 where
@@ -105,13 +105,13 @@ module _ {N : Type 0} where
       pub other : link ≢ wanted
       pub word : IsWord t.rows link.to link.mark n
       pub known : IsTarget s.agent (heap_of b t) link.to
-      pub adds : Adds (event s.agent (act.Miss place wanted link) None ∷ []) s t
+      pub adds : Adds (event_by s.agent (act.Miss place wanted link) None ∷ []) s t
 
     -- the exchange finds another link than the wanted one
     pub record Fails (place : Place) (wanted : Link) (s t : PlainView N) : Type 0 where
       pub link : Link
       pub other : link ≢ wanted
-      pub adds : Adds (event s.agent (act.Miss place wanted link) None ∷ []) s t
+      pub adds : Adds (event_by s.agent (act.Miss place wanted link) None ∷ []) s t
       pub fresh : t.fresh ≡ s.fresh
 
     -- the store replaces this link, whose word is the number

@@ -10,8 +10,7 @@ use Rattle.orc_words.specs.declared.packed.RowLink.{RowLink}
 use Rattle.orc_words.specs.declared.place.Word.{Word}
 use Rattle.orc_words.specs.declared.place.Word.TheVariants.{Root, Gate, First, Second, Next}
 use Rattle.orc_heap.specs.Heap.{Heap, HeapNumbers, new_heap, null, shown}
-use Rattle.orc_heap.specs.Journals.{run_from as heap_from}
-use Rattle.orc_heap.specs.declared.events.Act.{Act}
+use Rattle.orc_heap.specs.Journals.{event_by, run_from as heap_from}
 use Rattle.orc_heap.specs.declared.events.Act.TheVariants as act
 use Rattle.orc_heap.specs.declared.events.Event.{Event}
 use Rattle.orc_heap.specs.declared.events.Link.{Link}
@@ -127,33 +126,30 @@ finds b x op = slice_index x.words (place b (word_of op))
 abbrev pub start : Bounds → State
 start b = record { words = new_words b; given = []; heap = new_heap (numbers b) }
 
-abbrev pub event : {N : Type 0} → ℕ → Act → Option N → Event N
-event agent what said = record { agent = agent; act = what; note = said }
-
 module _ {N : Type 0} where
   -- the event of an operation that wants a link: the done one, or a Miss of what the place shows
   abbrev pub tested : State → ℕ → Place → Link → Event N → Bool → Event N
   tested x a at want done true = done
-  tested x a at want done false = event a (act.Miss at want (link_at (shown x.heap at))) None
+  tested x a at want done false = event_by a (act.Miss at want (link_at (shown x.heap at))) None
 
   -- a load of the place, which finds the word n, as an event: with a wanted link a test of it
   abbrev pub load_event : State → ℕ → Place → Option RowLink → ℕ → Option N → Event N
-  load_event x a at None n said = event a (act.Look at (link_at (shown x.heap at))) None
-  load_event x a at (Some want) n said = tested x a at (link_by x.given want) (event a (act.Look at (link_by x.given want)) said) (n == link_word want)
+  load_event x a at None n said = event_by a (act.Look at (link_at (shown x.heap at))) None
+  load_event x a at (Some want) n said = tested x a at (link_by x.given want) (event_by a (act.Look at (link_by x.given want)) said) (n == link_word want)
 
   -- a compare-and-swap of the place, which finds the word n, as an event
   abbrev pub cas_event : State → ℕ → Place → RowLink → RowLink → ℕ → Option N → Event N
-  cas_event x a at from to n said = tested x a at (link_by x.given from) (event a (act.Move at (link_by x.given from) (link_by x.given to)) said) (n == link_word from)
+  cas_event x a at from to n said = tested x a at (link_by x.given from) (event_by a (act.Move at (link_by x.given from) (link_by x.given to)) said) (n == link_word from)
 
   -- the events of an operation of this agent, which found n: none or one
   abbrev pub events_of : State → ℕ → PlainOp → ℕ → Option N → List (Event N)
   events_of x a (GateLook row) n said = []
-  events_of x a (GateTake row) n said = if n == 0 then event a act.Give None ∷ [] else []
-  events_of x a (Fill row which value) n said = event a (act.Fill (index_of row x.given) which value) None ∷ []
+  events_of x a (GateTake row) n said = if n == 0 then event_by a act.Give None ∷ [] else []
+  events_of x a (Fill row which value) n said = event_by a (act.Fill (index_of row x.given) which value) None ∷ []
   events_of x a (Read row which) n said = []
   events_of x a (LinkLoad at want) n said = load_event x a (place_by x.given at) want n said ∷ []
   events_of x a (LinkCas at from to) n said = cas_event x a (place_by x.given at) from to n said ∷ []
-  events_of x a (LinkStore row to) n said = event a (act.Aim (index_of row x.given) (id_by x.given to)) None ∷ []
+  events_of x a (LinkStore row to) n said = event_by a (act.Aim (index_of row x.given) (id_by x.given to)) None ∷ []
 
   abbrev pub events_at : Bounds → State → PlainStep N → List (Event N)
   events_at b x s = events_of x s.agent s.op (finds b x s.op) s.note

@@ -26,14 +26,17 @@ impl<D: Discipline> PlainBoard<D> {
         requires want { (link : RowLink) → want ≡ Some link → KnowsTarget (board_bounds self.now) (shows self.now p.old) link }
         requires noted { want ≡ None → note ≡ None }
         requires allowed { (link : RowLink) (said : D.Note) → want ≡ Some link → note ≡ Some said
-            → MayWhereShown (D.may (board_numbers self.now)) (board_bounds self.now) (shows self.now p.old) place link (look_event (shows self.now p.old) place link note) }
+            → MayWhereShown (D.may (board_numbers self.now)) (board_bounds self.now) (shows self.now p.old) place link
+            (look_event (shows self.now p.old) place link note) }
         ensures belongs { Belongs self.now p.new }
         ensures finds { want ≡ None
-            → Finds (D.may (board_numbers self.now)) (board_bounds self.now) (place_by (shows self.now p.old).rows place) result (shows self.now p.old) (shows self.now p.new) }
+            → Finds (D.may (board_numbers self.now)) (board_bounds self.now) (place_by (shows self.now p.old).rows place) result
+            (shows self.now p.old) (shows self.now p.new) }
         ensures meets { (link : RowLink) → want ≡ Some link → result ≡ link_word link
             → Adds (D.may (board_numbers self.now)) (look_event (shows self.now p.old) place link note ∷ []) (shows self.now p.old) (shows self.now p.new) }
         ensures misses { (link : RowLink) → want ≡ Some link → result ≢ link_word link
-            → Misses (D.may (board_numbers self.now)) (board_bounds self.now) (place_by (shows self.now p.old).rows place) (link_by (shows self.now p.old).rows link) result (shows self.now p.old) (shows self.now p.new) }
+            → Misses (D.may (board_numbers self.now)) (board_bounds self.now) (place_by (shows self.now p.old).rows place)
+            (link_by (shows self.now p.old).rows link) result (shows self.now p.old) (shows self.now p.new) }
         ensures looked { (shows self.now p.new).looked ≡ (shows self.now p.old).looked }
         ensures fresh { (shows self.now p.new).fresh ≡ (shows self.now p.old).fresh }
     {
@@ -54,14 +57,17 @@ impl<D: Discipline> PlainBoard<D> {
         requires place { KnowsPlace (board_bounds self.now) (shows self.now p.old) place }
         requires from { KnowsTarget (board_bounds self.now) (shows self.now p.old) from }
         requires to { KnowsTarget (board_bounds self.now) (shows self.now p.old) to }
-        requires allowed { MayWhereShown (D.may (board_numbers self.now)) (board_bounds self.now) (shows self.now p.old) place from (move_event (shows self.now p.old) place from to note) }
+        requires allowed { MayWhereShown (D.may (board_numbers self.now)) (board_bounds self.now) (shows self.now p.old) place from
+            (move_event (shows self.now p.old) place from to note) }
         ensures belongs { Belongs self.now p.new }
         ensures answer { result ≤ 1 }
         ensures moves { result ≡ 1
-            → Adds (D.may (board_numbers self.now)) (move_event (shows self.now p.old) place from to note ∷ []) (shows self.now p.old) (shows self.now p.new) }
+            → Adds (D.may (board_numbers self.now)) (move_event (shows self.now p.old) place from to note ∷ [])
+            (shows self.now p.old) (shows self.now p.new) }
         ensures linked { result ≡ 1 → (shows self.now p.new).fresh ≡ unless_linked (shows self.now p.old).fresh to.to }
         ensures fails { result ≡ 0
-            → Fails (D.may (board_numbers self.now)) (place_by (shows self.now p.old).rows place) (link_by (shows self.now p.old).rows from) (shows self.now p.old) (shows self.now p.new) }
+            → Fails (D.may (board_numbers self.now)) (place_by (shows self.now p.old).rows place) (link_by (shows self.now p.old).rows from)
+            (shows self.now p.old) (shows self.now p.new) }
         ensures looked { (shows self.now p.new).looked ≡ (shows self.now p.old).looked }
     {
         let wanted = pack_link(from);
@@ -81,7 +87,8 @@ impl<D: Discipline> PlainBoard<D> {
         requires unmarked { link.mark ≡ false }
         requires other { link.to ≢ Some row }
         requires target { KnowsTarget (board_bounds self.now) (shows self.now p.old) link }
-        requires allowed { MayWhereFits (D.may (board_numbers self.now)) (board_bounds self.now) (shows self.now p.old) (aim_event (shows self.now p.old) row link) }
+        requires allowed { MayWhereFits (D.may (board_numbers self.now)) (board_bounds self.now) (shows self.now p.old)
+            (aim_event (shows self.now p.old) row link) }
         ensures belongs { Belongs self.now p.new }
         ensures replaces { Replaces (D.may (board_numbers self.now)) (board_bounds self.now) row result link (shows self.now p.old) (shows self.now p.new) }
         ensures looked { (shows self.now p.new).looked ≡ (shows self.now p.old).looked }
@@ -91,7 +98,7 @@ impl<D: Discipline> PlainBoard<D> {
     }
 }
 
-// the fresh row, unless it was linked
+// Answers the fresh row, unless it is the one that was linked.
 fn unless_linked(fresh: Option<u32>, to: Option<u32>) -> Option<u32>
     ensures { result ≡ unless_linked fresh to }
 {

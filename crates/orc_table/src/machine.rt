@@ -57,7 +57,7 @@ pub struct PlainStep<N> {
 /// The gate word of a row that is out, in its first life. A free row's is 0.
 pub(crate) const OUT: u64 = 3;
 
-// The word of a row's first (0) or second (1) value.
+// Names the word of a row's first (0) or second (1) value.
 fn value_word(row: u32, which: u32) -> Word
     ensures { result ≡ value_word row which }
 {
@@ -68,7 +68,7 @@ fn value_word(row: u32, which: u32) -> Word
     }
 }
 
-// The word that the operation reads or writes.
+// Names the word that the operation reads or writes.
 fn word_of(op: &PlainOp) -> Word
     ensures { result ≡ word_of op.now }
 {

@@ -52,7 +52,7 @@ impl<D: Discipline> PlainBoard<D> {
     }
 }
 
-// the passes, with no fresh row
+// Makes the board's passes of these, with no fresh row.
 fn plain_passes<D: Discipline>(
     alloc: Global,
     passes: Vec<SharedPass<Plain, D>>,
@@ -72,7 +72,7 @@ fn plain_passes<D: Discipline>(
         .map_err(|_| NoMemory)
 }
 
-// the words that the seed's steps leave
+// Makes the words that the seed's steps leave.
 fn opening_words<N>(alloc: Global, shape: &Shape, seed: &Seed<N>) -> Result<Vec<u64>, NoMemory>
     requires roots { HasRoots (numbers (bounds_of shape.now)) seed.now }
     ensures words { IfOk result (λ words. words.items ≡ (run (bounds_of shape.now) (opening_steps seed.now)).words) }
@@ -93,7 +93,7 @@ fn opening_words<N>(alloc: Global, shape: &Shape, seed: &Seed<N>) -> Result<Vec<
     Ok(words)
 }
 
-// what each of these agents has for its record, which is nothing
+// Makes the records of so many agents, each of which is nothing.
 fn nothings(alloc: Global, count: u32) -> Result<Vec<()>, NoMemory>
     ensures { IfOk result (λ owns. length owns.items ≡ count) }
 {

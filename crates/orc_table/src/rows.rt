@@ -4,7 +4,8 @@ ghost use Rattle.std.specs.Prelude.{◌≡◌, ◌<◌, ◌≤◌, [], ◌∷◌
 ghost use Rattle.orc_heap.specs.declared.events.Act.TheVariants.{Fill};
 ghost use Rattle.orc_heap.specs.Calls.{ReadsValue};
 ghost use Rattle.orc_table.specs.Calls.{Adds, Gives, IsGateWord, KnowsRow, Loses, seen_free};
-ghost use Rattle.orc_table.specs.Machine.{event, index_of};
+ghost use Rattle.orc_table.specs.Machine.{index_of};
+ghost use Rattle.orc_heap.specs.Journals.{event_by};
 ghost use Rattle.orc_table.specs.Views.{Belongs, board_bounds, board_numbers, heap_of, shows};
 
 use crate::machine::PlainOp;
@@ -56,7 +57,8 @@ impl<D: Discipline> PlainBoard<D> {
         requires which { which < 2 }
         ensures belongs { Belongs self.now p.new }
         ensures answer { result ≡ value }
-        ensures adds { Adds (D.may (board_numbers self.now)) (event (shows self.now p.old).agent (Fill (index_of row (shows self.now p.old).rows) which value) None ∷ []) (shows self.now p.old) (shows self.now p.new) }
+        ensures adds { Adds (D.may (board_numbers self.now)) (event_by (shows self.now p.old).agent
+            (Fill (index_of row (shows self.now p.old).rows) which value) None ∷ []) (shows self.now p.old) (shows self.now p.new) }
         ensures looked { (shows self.now p.new).looked ≡ (shows self.now p.old).looked }
         ensures fresh { (shows self.now p.new).fresh ≡ (shows self.now p.old).fresh }
     {

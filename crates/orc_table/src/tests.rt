@@ -52,7 +52,7 @@ fn to_row(row: u32) -> RowLink
     }
 }
 
-// takes the row out, if it is free
+// Takes the row out, if it is free.
 fn take_row(board: &Board, p: &mut Pass, row: u32) -> bool
     requires belongs { Belongs board.now p.old }
     requires row { row < (board_bounds board.now).rows }
@@ -67,7 +67,7 @@ fn take_row(board: &Board, p: &mut Pass, row: u32) -> bool
     board.gate_take(p, row) == 1
 }
 
-// fills the fresh row, and reads its values
+// Fills the fresh row, and reads its values.
 fn fill_row(board: &Board, p: &mut Pass, row: u32) -> (u64, u64)
     requires belongs { Belongs board.now p.old }
     requires row { row < (board_bounds board.now).rows }
@@ -85,7 +85,7 @@ fn fill_row(board: &Board, p: &mut Pass, row: u32) -> (u64, u64)
     (first, second)
 }
 
-// links the fresh row from root 0, where that is null
+// Links the fresh row from root 0, where that is null.
 fn link_row(board: &Board, p: &mut Pass, row: u32) -> bool
     requires belongs { Belongs board.now p.old }
     requires roots { 0 < (board_bounds board.now).roots }
@@ -97,7 +97,7 @@ fn link_row(board: &Board, p: &mut Pass, row: u32) -> bool
     board.link_cas(p, Word::Root(0), NULL, to_row(row), Some(9)) == 1
 }
 
-// takes rows out until one is linked from root 0, or none is left
+// Takes rows out until one is linked from root 0, or none is left.
 fn work(board: &Board, p: &mut Pass) -> u32
     requires belongs { Belongs board.now p.old }
     requires roots { 0 < (board_bounds board.now).roots }
@@ -118,7 +118,7 @@ fn work(board: &Board, p: &mut Pass) -> u32
     taken
 }
 
-// the link of root 0, twice, the second time with a wanted link and a note
+// Loads the link of root 0 twice, the second time with a wanted link and a note.
 fn look_at_root(board: &Board, p: &mut Pass) -> (u64, u64)
     requires belongs { Belongs board.now p.old }
     requires roots { 0 < (board_bounds board.now).roots }
@@ -130,7 +130,7 @@ fn look_at_root(board: &Board, p: &mut Pass) -> (u64, u64)
     (found, again)
 }
 
-// a board with one node, to which roots 0 and 1 link
+// Makes a board with one node, to which roots 0 and 1 link.
 fn with_dummy(alloc: Global, shape: &Shape) -> Result<(Board, Vec<Pass>), NoMemory>
     requires roots { 2 ≤ (bounds_of shape.now).roots }
     ensures bounds { IfOk result (λ made. board_bounds made.0 ≡ bounds_of shape.now) }
@@ -161,7 +161,7 @@ fn is_shared<T: Sync>() {}
 
 fn is_sent<T: Send>() {}
 
-// under each discipline whose notes may cross threads
+// Compiles for each discipline whose notes may cross threads.
 fn boards_and_passes_cross_threads<D: Discipline>()
 where
     D::Note: Send + Sync,
@@ -171,7 +171,7 @@ where
     is_sent::<PlainBoardPass<D>>();
 }
 
-// the last of the board's new passes
+// Answers the last of the board's new passes.
 fn next_pass(board: &Board, passes: &mut Vec<Pass>) -> Option<Pass>
     requires belongs { All (λ p. Belongs board.now p) passes.old.items }
     requires fresh { All (λ p. (shows board.now p).fresh ≡ None) passes.old.items }
@@ -210,7 +210,7 @@ fn one_agent_makes_each_call(rt: HostRuntime) -> Result<(), Fail> {
     Ok(())
 }
 
-// two agents work, each in a thread of its own; how many rows each took
+// Lets two agents work, each in a thread of its own, and answers how many rows each took.
 fn work_both<R: Threads + Sync>(rt: &R, board: &Board, one: &mut Pass, two: &mut Pass) -> (u32, u32)
     requires belongs { Belongs board.now one.old × Belongs board.now two.old }
     requires roots { 0 < (board_bounds board.now).roots }
@@ -220,7 +220,7 @@ fn work_both<R: Threads + Sync>(rt: &R, board: &Board, one: &mut Pass, two: &mut
     join_mut(rt, &mut || work(board, one), &mut || work(board, two))
 }
 
-// the first learns from each of the others, and they from it
+// Lets the first pass and each of the others learn from each other.
 fn learn_from_all(
     board: &Board,
     first: &mut Pass,

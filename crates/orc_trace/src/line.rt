@@ -104,18 +104,30 @@ fn op_of(shape: &Shape, kind: Kind, left: Option<&[u8]>) -> Option<Op>
     match kind {
         Kind::Enroll if left.is_none() => Some(Op::Enroll),
         Kind::Enroll => None,
-        Kind::Look => Some(Op::GateLook { row: one_number(left, shape.rows())? }),
-        Kind::Take => Some(Op::GateTake { row: one_number(left, shape.rows())? }),
+        Kind::Look => Some(Op::GateLook {
+            row: one_number(left, shape.rows())?,
+        }),
+        Kind::Take => Some(Op::GateTake {
+            row: one_number(left, shape.rows())?,
+        }),
         Kind::Fill => read_fill(shape, left),
         Kind::Read => read_value(shape, left),
         Kind::Load => read_load(shape, left),
         Kind::Publish => read_publish(shape, left),
-        Kind::Clear => Some(Op::Clear { slot: one_number(left, 8)? }),
-        Kind::Arm => Some(Op::Arm { row: one_number(left, shape.rows())? }),
+        Kind::Clear => Some(Op::Clear {
+            slot: one_number(left, 8)?,
+        }),
+        Kind::Arm => Some(Op::Arm {
+            row: one_number(left, shape.rows())?,
+        }),
         Kind::Cas => read_cas(shape, left),
         Kind::Store => read_store(shape, left),
-        Kind::Inc => Some(Op::Inc { row: one_number(left, shape.rows())? }),
-        Kind::Dec => Some(Op::Dec { row: one_number(left, shape.rows())? }),
+        Kind::Inc => Some(Op::Inc {
+            row: one_number(left, shape.rows())?,
+        }),
+        Kind::Dec => Some(Op::Dec {
+            row: one_number(left, shape.rows())?,
+        }),
         Kind::Set => read_set(shape, left),
         Kind::Count => Some(Op::CounterLoad {
             row: one_number(left, shape.rows())?,
@@ -129,11 +141,21 @@ fn op_of(shape: &Shape, kind: Kind, left: Option<&[u8]>) -> Option<Op>
             row: one_number(left, shape.rows())?,
             how: CounterUse::End,
         }),
-        Kind::Unretire => Some(Op::Unretire { row: one_number(left, shape.rows())? }),
-        Kind::Slot => Some(Op::SlotLook { k: one_number(left, 8 * shape.agents())? }),
-        Kind::Hand => Some(Op::Hand { k: one_number(left, 8 * shape.agents())? }),
-        Kind::TakeIn => Some(Op::TakeIn { slot: one_number(left, 8)? }),
-        Kind::Free => Some(Op::Free { row: one_number(left, shape.rows())? }),
+        Kind::Unretire => Some(Op::Unretire {
+            row: one_number(left, shape.rows())?,
+        }),
+        Kind::Slot => Some(Op::SlotLook {
+            k: one_number(left, 8 * shape.agents())?,
+        }),
+        Kind::Hand => Some(Op::Hand {
+            k: one_number(left, 8 * shape.agents())?,
+        }),
+        Kind::TakeIn => Some(Op::TakeIn {
+            slot: one_number(left, 8)?,
+        }),
+        Kind::Free => Some(Op::Free {
+            row: one_number(left, shape.rows())?,
+        }),
     }
 }
 

@@ -15,6 +15,7 @@ pub record Bounds : Type 0 where
 abbrev pub bounds_of : Shape → Bounds
 bounds_of s = record { rows = s.rows; roots = s.roots; agents = s.agents; limit = s.limit }
 
+-- n is at least low and at most high
 abbrev pub IsBetween : ℕ → ℕ → ℕ → Type 0
 IsBetween low high n = (low ≤ n) × (n ≤ high)
 

@@ -23,6 +23,7 @@ named n = cond (n == 0) None (cond (nat_le n 65535) (Some (n - 1)) None)
 abbrev pub link_word : RowLink → ℕ
 link_word l = 2 * name_word l.to + bit l.mark
 
+-- the link that a word stands for
 abbrev pub link_of : ℕ → RowLink
 link_of w = record { to = named (w / 2); mark = w % 2 == 1 }
 
@@ -35,15 +36,19 @@ shifted_count (negsuc n) = 4194304 - (n + 1)
 abbrev pub counter_word : Counter → ℕ
 counter_word c = c.sequence * 16777216 + bit c.retired * 8388608 + shifted_count c.count
 
+-- the part of a counter word that holds its count + 2 ^ 22
 abbrev pub count_bits : ℕ → ℕ
 count_bits w = w % 8388608
 
+-- 1 where the retired bit is set, else 0
 abbrev pub retired_bit : ℕ → ℕ
 retired_bit w = w / 8388608 % 2
 
+-- the part of a counter word that holds its sequence
 abbrev pub sequence_of : ℕ → ℕ
 sequence_of w = w / 16777216
 
+-- the counter that a word stands for
 abbrev pub counter_of : ℕ → Counter
 counter_of w = record { count = pos (count_bits w) -ℤ pos 4194304; retired = retired_bit w == 1; sequence = sequence_of w }
 
@@ -51,5 +56,6 @@ counter_of w = record { count = pos (count_bits w) -ℤ pos 4194304; retired = r
 abbrev pub gate_word : RowGate → ℕ
 gate_word g = 2 * g.life + bit g.out
 
+-- the gate that a word stands for
 abbrev pub gate_of : ℕ → RowGate
 gate_of w = record { life = w / 2; out = w % 2 == 1 }

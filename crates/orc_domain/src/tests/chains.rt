@@ -13,7 +13,7 @@ use orc_heap::{At, Held, Links, Looked, Seed, Want};
 use orc_words::Shape;
 use std::test::Fail;
 
-// a new node with this value, whose link leads to this node
+// Makes a new node with this value, whose link leads to this node.
 fn new_over<L: Links<Rule = OwnRoots>>(
     links: &L,
     p: &mut L::Pass,
@@ -43,7 +43,7 @@ fn new_over<L: Links<Rule = OwnRoots>>(
     }
 }
 
-// puts such a node at the agent's own root, where that is null
+// Puts such a node at the agent's own root, where that is null.
 fn put_over<L: Links<Rule = OwnRoots>>(
     links: &L,
     p: &mut L::Pass,
@@ -76,7 +76,7 @@ fn put_over<L: Links<Rule = OwnRoots>>(
     put == Ok(true)
 }
 
-// puts a node over the one to which this root leads
+// Puts a node over the one to which this root leads.
 fn put_over_root<L: Links<Rule = OwnRoots>>(
     links: &L,
     p: &mut L::Pass,
@@ -101,7 +101,7 @@ fn put_over_root<L: Links<Rule = OwnRoots>>(
     }
 }
 
-// the values of this node and of the one to which its link leads
+// Reads the values of this node and of the one to which its link leads.
 fn read_both<L: Links<Rule = OwnRoots>>(
     links: &L,
     p: &mut L::Pass,
@@ -123,7 +123,7 @@ fn read_both<L: Links<Rule = OwnRoots>>(
     }
 }
 
-// the values of the two nodes to which this root leads, the upper one first
+// Reads the values of the two nodes to which this root leads, the upper one first.
 fn read_chain<L: Links<Rule = OwnRoots>>(
     links: &L,
     p: &mut L::Pass,
@@ -144,7 +144,7 @@ fn read_chain<L: Links<Rule = OwnRoots>>(
     }
 }
 
-// the first pass puts a node, the second one puts another over it; each learns from the other, and both read the chain
+// Lets the first pass put a node and the second one another over it; each learns from the other, and both read the chain.
 fn chain_of_both<L: Links<Rule = OwnRoots>>(
     links: &L,
     first: &mut L::Pass,
@@ -167,7 +167,7 @@ fn chain_of_both<L: Links<Rule = OwnRoots>>(
     ]
 }
 
-// the first two of a domain's passes do so
+// Lets the first two of a domain's passes do so.
 fn chain_of_two(domain: &Domain, passes: &mut [Pass]) -> Option<[Option<(u64, u64)>; 2]>
     requires all { AreAll domain.now passes.old }
     requires idle { All (λ p. IsIdle (seat_of domain.now p)) passes.old }

@@ -5,7 +5,8 @@ ghost use Rattle.orc_words.specs.Bounds.{Bounds};
 ghost use Rattle.orc_heap.specs.declared.events.Act.TheVariants as act;
 ghost use Rattle.orc_heap.specs.declared.events.Place.TheVariants as at;
 ghost use Rattle.orc_table.specs.Calls.{IsGateWord, seen_free, unless_linked};
-ghost use Rattle.orc_table.specs.Machine.{event, index_of, link_by, place_by, project, written};
+ghost use Rattle.orc_table.specs.Machine.{index_of, link_by, place_by, project, written};
+ghost use Rattle.orc_heap.specs.Journals.{event_by};
 ghost use Rattle.orc_table.specs.Rules.{step_of};
 ghost use Rattle.orc_table.specs.Words.{IsOut, IsWord};
 
@@ -54,5 +55,5 @@ fn fresh_rows()
 fn events_of_steps()
     ensures { let b : Bounds = record { rows = 2; roots = 1; agents = 2; limit = 8 } in
         project b (step_of {N = Unit {0}} 0 (PlainOp.GateTake 1) None ∷ step_of 1 (PlainOp.GateTake 1) None ∷ step_of 1 (PlainOp.LinkLoad (Word.Root 0) None) None ∷ [])
-        ≡ event 0 act.Give None ∷ event 1 (act.Look (at.Root 0) (record { to = None; mark = false })) None ∷ [] }
+        ≡ event_by 0 act.Give None ∷ event_by 1 (act.Look (at.Root 0) (record { to = None; mark = false })) None ∷ [] }
 {}

@@ -10,4 +10,4 @@ pub make-requires-clause-holds : goal.make-requires-clause-holds
 make-requires-clause-holds c = nothing_yet (numbers (bounds_of c.args.shape.now))
 
 pub make-requires-clause-seed : goal.make-requires-clause-seed
-make-requires-clause-seed c = dummy_allowed (bounds_of c.args.shape.now) 0 c.requires.roots (omega arith)
+make-requires-clause-seed c = dummy_allowed (numbers (bounds_of c.args.shape.now)) 0 c.requires.roots (omega arith)

@@ -1,5 +1,5 @@
 -- The new node is linked on top of what was there.
-use Rattle.std.proofs.Common.{[], ap, refl, subst, sym, ◌∙◌, ◌∷◌, ℕ}
+use Rattle.std.proofs.Common.{rules, [], ap, refl, subst, sym, ◌∙◌, ◌∷◌, ℕ}
 use Rattle.std.specs.Prelude.{None, Some}
 use Rattle.orc_heap.proofs.ByAnswer.{Swings-fresh, Swings-missed, Swings-moved}
 use Rattle.orc_heap.specs.Allowed.{AllowedLater}
@@ -22,25 +22,20 @@ returns-in-Err-clause-none g c =
     let e = c.in-Err.ensures in
     stack_stays (g.L.Links.numbers d) (g.L.Links.seat d c.args.p.now) (g.L.Links.seat d c.give.new.p) [] (g.met.L.Links.allowed d c.give.new.p e.pass) e.none refl
 
-pub aim-requires-clause-fresh : goal.aim-requires-clause-fresh
-aim-requires-clause-fresh g c =
+pub aim-requires : goal.aim-requires
+aim-requires g c =
     let d = c.args.links.now in
     let n = g.L.Links.numbers d in
     let s = g.L.Links.seat d c.args.p.now in
     let t = g.L.Links.seat d c.give.new.p in
     let e = c.in-Ok.ensures in
     let r = given_ready n c.args.slot c.args.value s c.in-Ok.node t (g.met.L.Links.allowed d c.give.new.p e.pass) e.given in
-    ready_fresh n None c.args.slot c.args.value s c.in-Ok.node t c.requires.slot r
-
-pub aim-requires-clause-target : goal.aim-requires-clause-target
-aim-requires-clause-target g c =
-    let d = c.args.links.now in
-    let n = g.L.Links.numbers d in
-    let s = g.L.Links.seat d c.args.p.now in
-    let t = g.L.Links.seat d c.give.new.p in
-    let e = c.in-Ok.ensures in
-    let r = given_ready n c.args.slot c.args.value s c.in-Ok.node t (g.met.L.Links.allowed d c.give.new.p e.pass) e.given in
-    ready_target n None c.args.slot c.args.value s c.in-Ok.node t c.requires.slot r c.args.top c.requires.held c.requires.node
+    record {
+      pass = e.pass;
+      allowed = search rules;
+      fresh = ready_fresh n None c.args.slot c.args.value s c.in-Ok.node t c.requires.slot r;
+      target = ready_target n None c.args.slot c.args.value s c.in-Ok.node t c.requires.slot r c.args.top c.requires.held c.requires.node;
+    }
 
 pub release-requires-clause-held : goal.release-requires-clause-held
 release-requires-clause-held g c =
@@ -69,8 +64,8 @@ returns-in-Err-aim-clause-none g c =
     let k = ready_after n None c.args.slot c.args.value s c.in-Ok.node t c.requires.slot r u (g.met.L.Links.allowed d c.aim.new.p f.pass) (g.met.L.Links.obeys d c.give.new.p e.pass) f.none in
     ready_released n None c.args.slot c.args.value s c.in-Ok.node u c.requires.slot k v (g.met.L.Links.allowed d c.release.new.p c.release.ensures.pass) c.requires.fresh c.release.ensures.released
 
-pub swing-requires-clause-links : goal.swing-requires-clause-links
-swing-requires-clause-links g c =
+pub swing-requires : goal.swing-requires
+swing-requires g c =
     let d = c.args.links.now in
     let n = g.L.Links.numbers d in
     let s = g.L.Links.seat d c.args.p.now in
@@ -79,30 +74,24 @@ swing-requires-clause-links g c =
     let e = c.in-Ok.ensures in
     let f = c.in_default.ensures in
     let below = target_in s.slots c.args.top in
-    let r = linked_ready n c.args.slot c.args.value s c.in-Ok.node t u c.args.top c.requires.slot (g.met.L.Links.allowed d c.give.new.p e.pass) (g.met.L.Links.allowed d c.aim.new.p f.pass)
-    (g.met.L.Links.obeys d c.give.new.p e.pass) c.requires.held c.requires.node e.given f.aimed in (
-      c.below-below.ensures.held u (ready_target n below c.args.slot c.args.value s c.in-Ok.node u c.requires.slot r c.args.top c.requires.held c.requires.node),
-      ready_holds n below c.args.slot c.args.value s c.in-Ok.node u c.requires.slot r,
-    )
-
-pub swing-requires-clause-allowed : goal.swing-requires-clause-allowed
-swing-requires-clause-allowed g c =
-    let d = c.args.links.now in
-    let n = g.L.Links.numbers d in
-    let s = g.L.Links.seat d c.args.p.now in
-    let t = g.L.Links.seat d c.give.new.p in
-    let u = g.L.Links.seat d c.aim.new.p in
-    let e = c.in-Ok.ensures in
-    let f = c.in_default.ensures in
-    let below = target_in s.slots c.args.top in
-    let r = linked_ready n c.args.slot c.args.value s c.in-Ok.node t u c.args.top c.requires.slot (g.met.L.Links.allowed d c.give.new.p e.pass) (g.met.L.Links.allowed d c.aim.new.p f.pass)
-    (g.met.L.Links.obeys d c.give.new.p e.pass) c.requires.held c.requires.node e.given f.aimed in
-    let node = id_in u.slots c.in-Ok.node in
-    let from = link_in u.slots c.below-below.result in
-    let to = plain_link (Some node) in
-    let known = g.met.L.Links.held_is d c.aim.new.p c.in-Ok.node f.pass (ready_holds n below c.args.slot c.args.value s c.in-Ok.node u c.requires.slot r) in
-    subst (λ (a : ℕ). AllowedLater (OwnRootsMay n) n u.agent u.seen (Root a) from (event_of u (Move (Root a) from to) (Some a))) (r.agent ∙ sym c.agent-agent.ensures)
-    (move_allowed n u from to refl known)
+    record {
+      pass = f.pass;
+      place = search rules;
+      linked = search rules;
+      links = let r = linked_ready n c.args.slot c.args.value s c.in-Ok.node t u c.args.top c.requires.slot (g.met.L.Links.allowed d c.give.new.p e.pass) (g.met.L.Links.allowed d c.aim.new.p f.pass)
+          (g.met.L.Links.obeys d c.give.new.p e.pass) c.requires.held c.requires.node e.given f.aimed in (
+            c.below-below.ensures.held u (ready_target n below c.args.slot c.args.value s c.in-Ok.node u c.requires.slot r c.args.top c.requires.held c.requires.node),
+            ready_holds n below c.args.slot c.args.value s c.in-Ok.node u c.requires.slot r,
+          );
+      allowed = let r = linked_ready n c.args.slot c.args.value s c.in-Ok.node t u c.args.top c.requires.slot (g.met.L.Links.allowed d c.give.new.p e.pass) (g.met.L.Links.allowed d c.aim.new.p f.pass)
+          (g.met.L.Links.obeys d c.give.new.p e.pass) c.requires.held c.requires.node e.given f.aimed in
+          let node = id_in u.slots c.in-Ok.node in
+          let from = link_in u.slots c.below-below.result in
+          let to = plain_link (Some node) in
+          let known = g.met.L.Links.held_is d c.aim.new.p c.in-Ok.node f.pass (ready_holds n below c.args.slot c.args.value s c.in-Ok.node u c.requires.slot r) in
+          subst (λ (a : ℕ). AllowedLater (OwnRootsMay n) n u.agent u.seen (Root a) from (event_of u (Move (Root a) from to) (Some a))) (r.agent ∙ sym c.agent-agent.ensures)
+          (move_allowed n u from to refl known);
+    }
 
 pub unreachable-requires : goal.unreachable-requires
 unreachable-requires g c =

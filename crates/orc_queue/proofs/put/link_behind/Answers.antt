@@ -1,5 +1,5 @@
 -- The tail is swung on once the node is linked.
-use Rattle.std.proofs.Common.{subst, sym}
+use Rattle.std.proofs.Common.{rules, subst, sym}
 use Rattle.orc_heap.specs.Slots.{Holds, Slots, id_in}
 use Rattle.orc_queue.specs.Turns.{Helps}
 use Rattle.orc_queue.proofs.Linking.{link_helped}
@@ -8,19 +8,18 @@ use Rattle.orc_heap.specs.Allowed.{HasLink}
 use Rattle.orc_heap.specs.Heap.{link_to}
 use Rattle.orc_heap.specs.Seats.{heap_of}
 
-pub help_tail-requires-clause-held : goal.help_tail-requires-clause-held
-help_tail-requires-clause-held g c =
-    let s = g.L.Links.seat c.args.links.now c.args.p.now in
-    let u = g.L.Links.seat c.args.links.now c.link_node.new.p in
-    let slots = c.in-Put.ensures.linked.puts.piece.slots in
-    (subst (λ (z : Slots). Holds z c.args.tail.now) (sym slots) c.requires.tail, subst (λ (z : Slots). Holds z c.args.node.now) (sym slots) c.requires.node.held)
-
-pub help_tail-requires-clause-successor : goal.help_tail-requires-clause-successor
-help_tail-requires-clause-successor g c =
+pub help_tail-requires : goal.help_tail-requires
+help_tail-requires g c =
     let n = g.L.Links.numbers c.args.links.now in
     let u = g.L.Links.seat c.args.links.now c.link_node.new.p in
     let l = c.in-Put.ensures.linked in
-    subst (λ (z : Slots). HasLink (heap_of n u) (id_in z c.args.tail.now) (link_to (id_in z c.args.node.now))) (sym l.puts.piece.slots) l.link
+    let slots = c.in-Put.ensures.linked.puts.piece.slots in
+    record {
+      pass = search rules;
+      made = c.requires.made;
+      held = (subst (λ (z : Slots). Holds z c.args.tail.now) (sym slots) c.requires.tail, subst (λ (z : Slots). Holds z c.args.node.now) (sym slots) c.requires.node.held);
+      successor = subst (λ (z : Slots). HasLink (heap_of n u) (id_in z c.args.tail.now) (link_to (id_in z c.args.node.now))) (sym l.puts.piece.slots) l.link;
+    }
 
 pub returns-in-Put-clause-linked : goal.returns-in-Put-clause-linked
 returns-in-Put-clause-linked g c =

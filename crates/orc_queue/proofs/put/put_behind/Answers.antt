@@ -1,5 +1,5 @@
 -- By what the look of the tail's link found.
-use Rattle.std.proofs.Common.{ap, subst, sym, ℕ, ◌∙◌}
+use Rattle.std.proofs.Common.{rules, ap, subst, sym, ℕ, ◌∙◌}
 use Rattle.orc_heap.proofs.ByAnswer.{Looks-held, Looks-null}
 use Rattle.orc_heap.specs.Allowed.{IsLinkedNode, HasLink}
 use Rattle.orc_heap.specs.Slots.{Holds, Slots, id_in}
@@ -16,8 +16,8 @@ use Rattle.orc_heap.specs.Heap.{link_to}
 use Rattle.orc_heap.specs.Seats.{heap_of}
 use Rattle.orc_heap.proofs.Pieces.{release_fresh, slot_holds, slot_id, slot_other, slot_other_id, slot_released}
 
-pub link_behind-requires-clause-node : goal.link_behind-requires-clause-node
-link_behind-requires-clause-node g c =
+pub link_behind-requires : goal.link_behind-requires
+link_behind-requires g c =
     let d = c.args.links.now in
     let n = g.L.Links.numbers d in
     let s = g.L.Links.seat d c.args.p.now in
@@ -32,25 +32,13 @@ link_behind-requires-clause-node g c =
     let all = g.met.L.Links.allowed d c.look.new.p e.pass in
     let l = Looks-null {place = Next id} e.looked c.in-Stable-default-None.field-1-is in
     let p = next_null n s a id _ ks c.requires.named.linked all l in
-    node_seen n job id node s a a ks c.requires.named l.slots e.looked.fresh p all all c.requires.node
-
-pub link_behind-requires-clause-named : goal.link_behind-requires-clause-named
-link_behind-requires-clause-named g c =
-    let d = c.args.links.now in
-    let n = g.L.Links.numbers d in
-    let s = g.L.Links.seat d c.args.p.now in
-    let tail = c.args.tail.now in
-    let id = id_in s.slots tail in
-    let node = c.args.node.now in
-    let job = c.args.job in
-    let kp = c.requires.pass in
-    let ks = known n (g.L.Links.opening d) s.seen c.requires.made (g.met.L.Links.opens d c.args.p.now kp) (g.met.L.Links.allowed d c.args.p.now kp) (g.met.L.Links.obeys d c.args.p.now kp) in
-    let a = g.L.Links.seat d c.look.new.p in
-    let e = c.in-Stable-default-None.ensures in
-    let all = g.met.L.Links.allowed d c.look.new.p e.pass in
-    let l = Looks-null {place = Next id} e.looked c.in-Stable-default-None.field-1-is in
-    let p = next_null n s a id _ ks c.requires.named.linked all l in
-    subst (λ (z : Slots). WasNamed (heap_of n a) 1 (id_in z tail)) (sym l.slots) (named_puts n s a _ p all 1 id c.requires.named)
+    record {
+      pass = e.pass;
+      made = c.requires.made;
+      tail = search rules;
+      node = node_seen n job id node s a a ks c.requires.named l.slots e.looked.fresh p all all c.requires.node;
+      named = subst (λ (z : Slots). WasNamed (heap_of n a) 1 (id_in z tail)) (sym l.slots) (named_puts n s a _ p all 1 id c.requires.named);
+    }
 
 pub returns-in-Stable-default-None-clause-put : goal.returns-in-Stable-default-None-clause-put
 returns-in-Stable-default-None-clause-put g c =
@@ -73,47 +61,28 @@ returns-in-Stable-default-None-clause-put g c =
     let linked = subst (λ (z : Slots). LinksBehind n 3 (SwingsLast (id_in z tail)) job (id_in z tail) node a c.link_behind.result t) l.slots c.link_behind.ensures.linked in
     behind_null n job id node s a t ks c.requires.named l.slots e.looked.fresh p all all_t c.link_behind.result linked
 
-pub help_tail-requires-clause-held : goal.help_tail-requires-clause-held
-help_tail-requires-clause-held g c =
+pub help_tail-requires : goal.help_tail-requires
+help_tail-requires g c =
     let d = c.args.links.now in
     let n = g.L.Links.numbers d in
     let s = g.L.Links.seat d c.args.p.now in
     let tail = c.args.tail.now in
     let id = id_in s.slots tail in
-    let node = c.args.node.now in
-    let job = c.args.job in
     let kp = c.requires.pass in
     let ks = known n (g.L.Links.opening d) s.seen c.requires.made (g.met.L.Links.opens d c.args.p.now kp) (g.met.L.Links.allowed d c.args.p.now kp) (g.met.L.Links.obeys d c.args.p.now kp) in
     let a = g.L.Links.seat d c.look.new.p in
     let e = c.in-Stable-default-Some.ensures in
     let all = g.met.L.Links.allowed d c.look.new.p e.pass in
     let next = c.in-Stable-default-Some.next in
-    let ka = known n (g.L.Links.opening d) a.seen c.requires.made (g.met.L.Links.opens d c.look.new.p e.pass) all (g.met.L.Links.obeys d c.look.new.p e.pass) in
     let x = next_held n s a id 3 _ next ks c.requires.named.linked all (Looks-held {place = Next id} e.looked c.in-Stable-default-Some.field-1-is) in
     let tail_id = slot_other_id s a 3 x.next next c.requires.slot x.in_slot tail c.requires.tail in
     let next_id = slot_id s a 3 x.next next c.requires.slot x.in_slot in
-    (slot_other s a 3 x.next next c.requires.slot x.in_slot tail c.requires.tail, slot_holds s a 3 x.next next c.requires.slot x.in_slot)
-
-pub help_tail-requires-clause-successor : goal.help_tail-requires-clause-successor
-help_tail-requires-clause-successor g c =
-    let d = c.args.links.now in
-    let n = g.L.Links.numbers d in
-    let s = g.L.Links.seat d c.args.p.now in
-    let tail = c.args.tail.now in
-    let id = id_in s.slots tail in
-    let node = c.args.node.now in
-    let job = c.args.job in
-    let kp = c.requires.pass in
-    let ks = known n (g.L.Links.opening d) s.seen c.requires.made (g.met.L.Links.opens d c.args.p.now kp) (g.met.L.Links.allowed d c.args.p.now kp) (g.met.L.Links.obeys d c.args.p.now kp) in
-    let a = g.L.Links.seat d c.look.new.p in
-    let e = c.in-Stable-default-Some.ensures in
-    let all = g.met.L.Links.allowed d c.look.new.p e.pass in
-    let next = c.in-Stable-default-Some.next in
-    let ka = known n (g.L.Links.opening d) a.seen c.requires.made (g.met.L.Links.opens d c.look.new.p e.pass) all (g.met.L.Links.obeys d c.look.new.p e.pass) in
-    let x = next_held n s a id 3 _ next ks c.requires.named.linked all (Looks-held {place = Next id} e.looked c.in-Stable-default-Some.field-1-is) in
-    let tail_id = slot_other_id s a 3 x.next next c.requires.slot x.in_slot tail c.requires.tail in
-    let next_id = slot_id s a 3 x.next next c.requires.slot x.in_slot in
-    subst (λ (i : ℕ). HasLink (heap_of n a) i (link_to (id_in a.slots next))) (sym tail_id) (subst (λ (i : ℕ). HasLink (heap_of n a) id (link_to i)) (sym next_id) x.link)
+    record {
+      pass = e.pass;
+      made = c.requires.made;
+      held = (slot_other s a 3 x.next next c.requires.slot x.in_slot tail c.requires.tail, slot_holds s a 3 x.next next c.requires.slot x.in_slot);
+      successor = subst (λ (i : ℕ). HasLink (heap_of n a) i (link_to (id_in a.slots next))) (sym tail_id) (subst (λ (i : ℕ). HasLink (heap_of n a) id (link_to i)) (sym next_id) x.link);
+    }
 
 pub release-requires-clause-held : goal.release-requires-clause-held
 release-requires-clause-held g c =
@@ -122,18 +91,13 @@ release-requires-clause-held g c =
     let s = g.L.Links.seat d c.args.p.now in
     let tail = c.args.tail.now in
     let id = id_in s.slots tail in
-    let node = c.args.node.now in
-    let job = c.args.job in
     let kp = c.requires.pass in
     let ks = known n (g.L.Links.opening d) s.seen c.requires.made (g.met.L.Links.opens d c.args.p.now kp) (g.met.L.Links.allowed d c.args.p.now kp) (g.met.L.Links.obeys d c.args.p.now kp) in
     let a = g.L.Links.seat d c.look.new.p in
     let e = c.in-Stable-default-Some.ensures in
     let all = g.met.L.Links.allowed d c.look.new.p e.pass in
     let next = c.in-Stable-default-Some.next in
-    let ka = known n (g.L.Links.opening d) a.seen c.requires.made (g.met.L.Links.opens d c.look.new.p e.pass) all (g.met.L.Links.obeys d c.look.new.p e.pass) in
     let x = next_held n s a id 3 _ next ks c.requires.named.linked all (Looks-held {place = Next id} e.looked c.in-Stable-default-Some.field-1-is) in
-    let tail_id = slot_other_id s a 3 x.next next c.requires.slot x.in_slot tail c.requires.tail in
-    let next_id = slot_id s a 3 x.next next c.requires.slot x.in_slot in
     subst (λ (z : Slots). Holds z next) (sym c.help_tail.ensures.helped.slots) (slot_holds s a 3 x.next next c.requires.slot x.in_slot)
 
 pub returns-in-Stable-default-Some-clause-put : goal.returns-in-Stable-default-Some-clause-put

@@ -20,8 +20,6 @@ look-requires-clause-place g c =
     let d = c.args.links.now in
     let n = g.L.Links.numbers d in
     let s = g.L.Links.seat d c.args.p.now in
-    let node = c.args.node.now in
-    let job = c.args.job in
     let kp = c.requires.pass in
     let ks = known n (g.L.Links.opening d) s.seen c.requires.made (g.met.L.Links.opens d c.args.p.now kp) (g.met.L.Links.allowed d c.args.p.now kp) (g.met.L.Links.obeys d c.args.p.now kp) in
     roots_there n s.seen 1 ks (omega arith)
@@ -31,16 +29,14 @@ unreachable-requires g c =
     let d = c.args.links.now in
     let n = g.L.Links.numbers d in
     let s = g.L.Links.seat d c.args.p.now in
-    let node = c.args.node.now in
-    let job = c.args.job in
     let kp = c.requires.pass in
     let ks = known n (g.L.Links.opening d) s.seen c.requires.made (g.met.L.Links.opens d c.args.p.now kp) (g.met.L.Links.allowed d c.args.p.now kp) (g.met.L.Links.obeys d c.args.p.now kp) in
     let a = g.L.Links.seat d c.look.new.p in
     let e = c.in-Stable-default-None.ensures in
     root_not_null n s a 1 _ (omega arith) ks (g.met.L.Links.allowed d c.look.new.p e.pass) (Looks-null {place = Root 1} e.looked c.in-Stable-default-None.field-1-is)
 
-pub put_behind-turn-requires-clause-node : goal.put_behind-turn-requires-clause-node
-put_behind-turn-requires-clause-node g c =
+pub put_behind-turn-requires : goal.put_behind-turn-requires
+put_behind-turn-requires g c =
     let d = c.args.links.now in
     let n = g.L.Links.numbers d in
     let s = g.L.Links.seat d c.args.p.now in
@@ -54,59 +50,15 @@ put_behind-turn-requires-clause-node g c =
     let tail = c.in-Stable-default-Some.tail in
     let x = root_held n s a 1 2 _ tail (omega arith) ks all (Looks-held {place = Root 1} e.looked c.in-Stable-default-Some.field-1-is) in
     let tail_id = slot_id s a 2 x.id tail c.requires.slots.0 x.in_slot in
-    node_held n s a _ x.puts all job node c.requires.node.second ks c.requires.node (slot_other s a 2 x.id tail c.requires.slots.0 x.in_slot node c.requires.node.held)
-    (slot_other_id s a 2 x.id tail c.requires.slots.0 x.in_slot node c.requires.node.held) e.looked.fresh refl refl
-
-pub put_behind-turn-requires-clause-tail : goal.put_behind-turn-requires-clause-tail
-put_behind-turn-requires-clause-tail g c =
-    let d = c.args.links.now in
-    let n = g.L.Links.numbers d in
-    let s = g.L.Links.seat d c.args.p.now in
-    let node = c.args.node.now in
-    let job = c.args.job in
-    let kp = c.requires.pass in
-    let ks = known n (g.L.Links.opening d) s.seen c.requires.made (g.met.L.Links.opens d c.args.p.now kp) (g.met.L.Links.allowed d c.args.p.now kp) (g.met.L.Links.obeys d c.args.p.now kp) in
-    let a = g.L.Links.seat d c.look.new.p in
-    let e = c.in-Stable-default-Some.ensures in
-    let all = g.met.L.Links.allowed d c.look.new.p e.pass in
-    let tail = c.in-Stable-default-Some.tail in
-    let x = root_held n s a 1 2 _ tail (omega arith) ks all (Looks-held {place = Root 1} e.looked c.in-Stable-default-Some.field-1-is) in
-    let tail_id = slot_id s a 2 x.id tail c.requires.slots.0 x.in_slot in
-    slot_holds s a 2 x.id tail c.requires.slots.0 x.in_slot
-
-pub put_behind-turn-requires-clause-slot : goal.put_behind-turn-requires-clause-slot
-put_behind-turn-requires-clause-slot g c =
-    let d = c.args.links.now in
-    let n = g.L.Links.numbers d in
-    let s = g.L.Links.seat d c.args.p.now in
-    let node = c.args.node.now in
-    let job = c.args.job in
-    let kp = c.requires.pass in
-    let ks = known n (g.L.Links.opening d) s.seen c.requires.made (g.met.L.Links.opens d c.args.p.now kp) (g.met.L.Links.allowed d c.args.p.now kp) (g.met.L.Links.obeys d c.args.p.now kp) in
-    let a = g.L.Links.seat d c.look.new.p in
-    let e = c.in-Stable-default-Some.ensures in
-    let all = g.met.L.Links.allowed d c.look.new.p e.pass in
-    let tail = c.in-Stable-default-Some.tail in
-    let x = root_held n s a 1 2 _ tail (omega arith) ks all (Looks-held {place = Root 1} e.looked c.in-Stable-default-Some.field-1-is) in
-    let tail_id = slot_id s a 2 x.id tail c.requires.slots.0 x.in_slot in
-    slot_free s a 2 x.id tail c.requires.slots.0 x.in_slot 3 (λ k. omega (arith, k)) c.requires.slots.1
-
-pub put_behind-turn-requires-clause-named : goal.put_behind-turn-requires-clause-named
-put_behind-turn-requires-clause-named g c =
-    let d = c.args.links.now in
-    let n = g.L.Links.numbers d in
-    let s = g.L.Links.seat d c.args.p.now in
-    let node = c.args.node.now in
-    let job = c.args.job in
-    let kp = c.requires.pass in
-    let ks = known n (g.L.Links.opening d) s.seen c.requires.made (g.met.L.Links.opens d c.args.p.now kp) (g.met.L.Links.allowed d c.args.p.now kp) (g.met.L.Links.obeys d c.args.p.now kp) in
-    let a = g.L.Links.seat d c.look.new.p in
-    let e = c.in-Stable-default-Some.ensures in
-    let all = g.met.L.Links.allowed d c.look.new.p e.pass in
-    let tail = c.in-Stable-default-Some.tail in
-    let x = root_held n s a 1 2 _ tail (omega arith) ks all (Looks-held {place = Root 1} e.looked c.in-Stable-default-Some.field-1-is) in
-    let tail_id = slot_id s a 2 x.id tail c.requires.slots.0 x.in_slot in
-    subst (λ (i : ℕ). WasNamed (heap_of n a) 1 i) (sym tail_id) x.named
+    record {
+      pass = e.pass;
+      made = c.requires.made;
+      node = node_held n s a _ x.puts all job node c.requires.node.second ks c.requires.node (slot_other s a 2 x.id tail c.requires.slots.0 x.in_slot node c.requires.node.held)
+          (slot_other_id s a 2 x.id tail c.requires.slots.0 x.in_slot node c.requires.node.held) e.looked.fresh refl refl;
+      tail = slot_holds s a 2 x.id tail c.requires.slots.0 x.in_slot;
+      slot = slot_free s a 2 x.id tail c.requires.slots.0 x.in_slot 3 (λ k. omega (arith, k)) c.requires.slots.1;
+      named = subst (λ (i : ℕ). WasNamed (heap_of n a) 1 i) (sym tail_id) x.named;
+    }
 
 pub release-requires-clause-held : goal.release-requires-clause-held
 release-requires-clause-held g c =
@@ -122,7 +74,6 @@ release-requires-clause-held g c =
     let all = g.met.L.Links.allowed d c.look.new.p e.pass in
     let tail = c.in-Stable-default-Some.tail in
     let x = root_held n s a 1 2 _ tail (omega arith) ks all (Looks-held {place = Root 1} e.looked c.in-Stable-default-Some.field-1-is) in
-    let tail_id = slot_id s a 2 x.id tail c.requires.slots.0 x.in_slot in
     let b = g.L.Links.seat d c.put_behind-turn.new.p in
     let piece = behind_piece n job (id_in a.slots tail) node a b c.put_behind-turn.result c.put_behind-turn.ensures.put in
     subst (λ (z : Slots). Holds z tail) (sym piece.slots) (slot_holds s a 2 x.id tail c.requires.slots.0 x.in_slot)

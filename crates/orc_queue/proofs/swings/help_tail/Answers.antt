@@ -1,5 +1,5 @@
 -- The successor is a once linked node, so it isn't the fresh one.
-use Rattle.std.proofs.Common.{arith}
+use Rattle.std.proofs.Common.{rules, arith}
 use Rattle.orc_heap.specs.Slots.{id_in}
 use Rattle.orc_fifo_rule.proofs.Coming.{swing_allowed}
 use Rattle.orc_fifo_rule.specs.Kept.Paths.{successor_linked}
@@ -9,23 +9,20 @@ use Rattle.orc_queue.proofs.Pieces.{helps}
 use Rattle.orc_queue.proofs.swings.help_tail.Goals as goal
 use Rattle.orc_heap.proofs.Pieces.{linked_not_fresh}
 
-pub change-done-requires-clause-place : goal.change-done-requires-clause-place
-change-done-requires-clause-place g c =
+pub change-done-requires : goal.change-done-requires
+change-done-requires g c =
     let d = c.args.links.now in
     let n = g.L.Links.numbers d in
     let s = g.L.Links.seat d c.args.p.now in
     let pass = c.requires.pass in
     let k = known n (g.L.Links.opening d) s.seen c.requires.made (g.met.L.Links.opens d c.args.p.now pass) (g.met.L.Links.allowed d c.args.p.now pass) (g.met.L.Links.obeys d c.args.p.now pass) in
-    roots_there n s.seen 1 k (omega arith)
-
-pub change-done-requires-clause-allowed : goal.change-done-requires-clause-allowed
-change-done-requires-clause-allowed g c =
-    let d = c.args.links.now in
-    let n = g.L.Links.numbers d in
-    let s = g.L.Links.seat d c.args.p.now in
-    let pass = c.requires.pass in
-    let k = known n (g.L.Links.opening d) s.seen c.requires.made (g.met.L.Links.opens d c.args.p.now pass) (g.met.L.Links.allowed d c.args.p.now pass) (g.met.L.Links.obeys d c.args.p.now pass) in
-    swing_allowed n s.agent (id_in s.slots c.args.tail.now) (id_in s.slots c.args.next.now) s.seen k.holds k.dummy.begun c.requires.successor
+    record {
+      pass = search rules;
+      linked = search rules;
+      links = search rules;
+      place = roots_there n s.seen 1 k (omega arith);
+      allowed = swing_allowed n s.agent (id_in s.slots c.args.tail.now) (id_in s.slots c.args.next.now) s.seen k.holds k.dummy.begun c.requires.successor;
+    }
 
 pub returns-clause-helped : goal.returns-clause-helped
 returns-clause-helped g c =

@@ -68,8 +68,8 @@ returns-else-finds_end-clause-took g c =
     let found = subst (λ (o : Bool). FindsEnd n (id_in a.slots head.now) a o t) c.if-finds_end.false c.finds_end.ensures.found in
     behind_lost n id s a t c.requires.named.linked p all l.slots e.looked.fresh (subst (λ (z : Slots). FindsEnd n (id_in z head.now) a false t) l.slots found)
 
-pub take_next-took-requires-clause-held : goal.take_next-took-requires-clause-held
-take_next-took-requires-clause-held g c =
+pub take_next-took-requires : goal.take_next-took-requires
+take_next-took-requires g c =
     let d = c.args.links.now in
     let n = g.L.Links.numbers d in
     let s = g.L.Links.seat d c.args.p.now in
@@ -84,43 +84,13 @@ take_next-took-requires-clause-held g c =
     let x = next_held n s a id 2 _ next ks c.requires.named.linked all (Looks-held {place = Next id} e.looked c.in-Stable-default-Some.field-1-is) in
     let head_id = slot_other_id s a 2 x.next next c.requires.slot x.in_slot head.now c.requires.held in
     let next_id = slot_id s a 2 x.next next c.requires.slot x.in_slot in
-    (slot_other s a 2 x.next next c.requires.slot x.in_slot head.now c.requires.held, slot_holds s a 2 x.next next c.requires.slot x.in_slot)
-
-pub take_next-took-requires-clause-named : goal.take_next-took-requires-clause-named
-take_next-took-requires-clause-named g c =
-    let d = c.args.links.now in
-    let n = g.L.Links.numbers d in
-    let s = g.L.Links.seat d c.args.p.now in
-    let kp = c.requires.pass in
-    let ks = known n (g.L.Links.opening d) s.seen c.requires.made (g.met.L.Links.opens d c.args.p.now kp) (g.met.L.Links.allowed d c.args.p.now kp) (g.met.L.Links.obeys d c.args.p.now kp) in
-    let head = c.args.head in
-    let id = id_in s.slots head.now in
-    let a = g.L.Links.seat d c.look.new.p in
-    let e = c.in-Stable-default-Some.ensures in
-    let all = g.met.L.Links.allowed d c.look.new.p e.pass in
-    let next = c.in-Stable-default-Some.next in
-    let x = next_held n s a id 2 _ next ks c.requires.named.linked all (Looks-held {place = Next id} e.looked c.in-Stable-default-Some.field-1-is) in
-    let head_id = slot_other_id s a 2 x.next next c.requires.slot x.in_slot head.now c.requires.held in
-    let next_id = slot_id s a 2 x.next next c.requires.slot x.in_slot in
-    subst (λ (i : ℕ). WasNamed (heap_of n a) 0 i) (sym head_id) (named_puts n s a _ x.puts all 0 id c.requires.named)
-
-pub take_next-took-requires-clause-successor : goal.take_next-took-requires-clause-successor
-take_next-took-requires-clause-successor g c =
-    let d = c.args.links.now in
-    let n = g.L.Links.numbers d in
-    let s = g.L.Links.seat d c.args.p.now in
-    let kp = c.requires.pass in
-    let ks = known n (g.L.Links.opening d) s.seen c.requires.made (g.met.L.Links.opens d c.args.p.now kp) (g.met.L.Links.allowed d c.args.p.now kp) (g.met.L.Links.obeys d c.args.p.now kp) in
-    let head = c.args.head in
-    let id = id_in s.slots head.now in
-    let a = g.L.Links.seat d c.look.new.p in
-    let e = c.in-Stable-default-Some.ensures in
-    let all = g.met.L.Links.allowed d c.look.new.p e.pass in
-    let next = c.in-Stable-default-Some.next in
-    let x = next_held n s a id 2 _ next ks c.requires.named.linked all (Looks-held {place = Next id} e.looked c.in-Stable-default-Some.field-1-is) in
-    let head_id = slot_other_id s a 2 x.next next c.requires.slot x.in_slot head.now c.requires.held in
-    let next_id = slot_id s a 2 x.next next c.requires.slot x.in_slot in
-    subst (λ (i : ℕ). HasLink (heap_of n a) i (link_to (id_in a.slots next))) (sym head_id) (subst (λ (i : ℕ). HasLink (heap_of n a) id (link_to i)) (sym next_id) x.link)
+    record {
+      pass = e.pass;
+      made = c.requires.made;
+      held = (slot_other s a 2 x.next next c.requires.slot x.in_slot head.now c.requires.held, slot_holds s a 2 x.next next c.requires.slot x.in_slot);
+      named = subst (λ (i : ℕ). WasNamed (heap_of n a) 0 i) (sym head_id) (named_puts n s a _ x.puts all 0 id c.requires.named);
+      successor = subst (λ (i : ℕ). HasLink (heap_of n a) i (link_to (id_in a.slots next))) (sym head_id) (subst (λ (i : ℕ). HasLink (heap_of n a) id (link_to i)) (sym next_id) x.link);
+    }
 
 pub release-requires-clause-held : goal.release-requires-clause-held
 release-requires-clause-held g c =
@@ -136,8 +106,6 @@ release-requires-clause-held g c =
     let all = g.met.L.Links.allowed d c.look.new.p e.pass in
     let next = c.in-Stable-default-Some.next in
     let x = next_held n s a id 2 _ next ks c.requires.named.linked all (Looks-held {place = Next id} e.looked c.in-Stable-default-Some.field-1-is) in
-    let head_id = slot_other_id s a 2 x.next next c.requires.slot x.in_slot head.now c.requires.held in
-    let next_id = slot_id s a 2 x.next next c.requires.slot x.in_slot in
     let b = g.L.Links.seat d c.take_next-took.new.p in
     let piece = next_piece n (id_in a.slots head.now) (id_in a.slots next) a b c.take_next-took.result c.take_next-took.ensures.took in
     subst (λ (z : Slots). Holds z next) (sym piece.slots) (slot_holds s a 2 x.next next c.requires.slot x.in_slot)
@@ -211,8 +179,6 @@ returns-in-Moved-clause-took g c =
     let d = c.args.links.now in
     let n = g.L.Links.numbers d in
     let s = g.L.Links.seat d c.args.p.now in
-    let kp = c.requires.pass in
-    let ks = known n (g.L.Links.opening d) s.seen c.requires.made (g.met.L.Links.opens d c.args.p.now kp) (g.met.L.Links.allowed d c.args.p.now kp) (g.met.L.Links.obeys d c.args.p.now kp) in
     let head = c.args.head in
     let id = id_in s.slots head.now in
     let a = g.L.Links.seat d c.look.new.p in

@@ -1,5 +1,5 @@
 -- The tail names the head and is helped on, or it has left the head and the job may be taken.
-use Rattle.std.proofs.Common.{arith, refl, subst, sym}
+use Rattle.std.proofs.Common.{rules, arith, refl, subst, sym}
 use Rattle.orc_heap.proofs.ByAnswer.{Tests-found, Tests-missed}
 use Rattle.orc_heap.specs.Slots.{Slots, id_in}
 use Rattle.orc_fifo_rule.specs.Watches.{IsLeft}
@@ -31,8 +31,6 @@ help_tail-requires-clause-successor g c =
     let s = g.L.Links.seat d c.args.p.now in
     let head = c.args.head in
     let id = id_in s.slots head.now in
-    let kp = c.requires.pass in
-    let ks = known n (g.L.Links.opening d) s.seen c.requires.made (g.met.L.Links.opens d c.args.p.now kp) (g.met.L.Links.allowed d c.args.p.now kp) (g.met.L.Links.obeys d c.args.p.now kp) in
     let next = c.args.next in
     let a = g.L.Links.seat d c.same.new.p in
     let e = c.same.ensures in
@@ -47,8 +45,6 @@ returns-then-same-clause-took g c =
     let s = g.L.Links.seat d c.args.p.now in
     let head = c.args.head in
     let id = id_in s.slots head.now in
-    let kp = c.requires.pass in
-    let ks = known n (g.L.Links.opening d) s.seen c.requires.made (g.met.L.Links.opens d c.args.p.now kp) (g.met.L.Links.allowed d c.args.p.now kp) (g.met.L.Links.obeys d c.args.p.now kp) in
     let next = c.args.next in
     let a = g.L.Links.seat d c.same.new.p in
     let e = c.same.ensures in
@@ -57,36 +53,27 @@ returns-then-same-clause-took g c =
     let helped = subst (λ (z : Slots). Helps (id_in z head.now) (id_in z next.now) a b) e.tested.slots c.help_tail.ensures.helped in
     past_helped n id (id_in s.slots next.now) _ _ s a b (Tests-found e.tested c.if-same.true) all (g.met.L.Links.allowed d c.help_tail.new.p c.help_tail.ensures.pass) e.tested.slots e.tested.fresh helped
 
-pub swing_head-requires-clause-left : goal.swing_head-requires-clause-left
-swing_head-requires-clause-left g c =
+pub swing_head-requires : goal.swing_head-requires
+swing_head-requires g c =
     let d = c.args.links.now in
     let n = g.L.Links.numbers d in
     let s = g.L.Links.seat d c.args.p.now in
     let head = c.args.head in
     let id = id_in s.slots head.now in
+    let next = c.args.next in
     let kp = c.requires.pass in
     let ks = known n (g.L.Links.opening d) s.seen c.requires.made (g.met.L.Links.opens d c.args.p.now kp) (g.met.L.Links.allowed d c.args.p.now kp) (g.met.L.Links.obeys d c.args.p.now kp) in
-    let next = c.args.next in
-    let a = g.L.Links.seat d c.same.new.p in
-    let e = c.same.ensures in
-    let all = g.met.L.Links.allowed d c.same.new.p e.pass in
-    subst (λ (z : Slots). IsLeft (heap_of n a) (id_in z head.now)) (sym e.tested.slots) (past_left n id s a ks all c.requires.named (Tests-missed e.tested c.if-same.false))
-
-pub swing_head-requires-clause-successor : goal.swing_head-requires-clause-successor
-swing_head-requires-clause-successor g c =
-    let d = c.args.links.now in
-    let n = g.L.Links.numbers d in
-    let s = g.L.Links.seat d c.args.p.now in
-    let head = c.args.head in
-    let id = id_in s.slots head.now in
-    let kp = c.requires.pass in
-    let ks = known n (g.L.Links.opening d) s.seen c.requires.made (g.met.L.Links.opens d c.args.p.now kp) (g.met.L.Links.allowed d c.args.p.now kp) (g.met.L.Links.obeys d c.args.p.now kp) in
-    let next = c.args.next in
     let a = g.L.Links.seat d c.same.new.p in
     let e = c.same.ensures in
     let all = g.met.L.Links.allowed d c.same.new.p e.pass in
     let miss = Tests-missed e.tested c.if-same.false in
-    subst (λ (z : Slots). HasLink (heap_of n a) (id_in z head.now) (link_to (id_in z next.now))) (sym e.tested.slots) (link_puts n s a _ miss.puts all id (id_in s.slots next.now) c.requires.successor)
+    record {
+      pass = search rules;
+      made = c.requires.made;
+      held = search rules;
+      left = subst (λ (z : Slots). IsLeft (heap_of n a) (id_in z head.now)) (sym e.tested.slots) (past_left n id s a ks all c.requires.named (Tests-missed e.tested c.if-same.false));
+      successor = subst (λ (z : Slots). HasLink (heap_of n a) (id_in z head.now) (link_to (id_in z next.now))) (sym e.tested.slots) (link_puts n s a _ miss.puts all id (id_in s.slots next.now) c.requires.successor);
+    }
 
 pub returns-clause-took : goal.returns-clause-took
 returns-clause-took g c =

@@ -34,8 +34,8 @@ unreachable-requires g c =
     let e = c.in-Stable-default-None.ensures in
     root_not_null n s a 0 _ (omega arith) ks (g.met.L.Links.allowed d c.look.new.p e.pass) (Looks-null {place = Root 0} e.looked c.in-Stable-default-None.field-1-is)
 
-pub take_behind-turn-requires-clause-held : goal.take_behind-turn-requires-clause-held
-take_behind-turn-requires-clause-held g c =
+pub take_behind-turn-requires : goal.take_behind-turn-requires
+take_behind-turn-requires g c =
     let d = c.args.links.now in
     let n = g.L.Links.numbers d in
     let s = g.L.Links.seat d c.args.p.now in
@@ -47,37 +47,13 @@ take_behind-turn-requires-clause-held g c =
     let head = c.in-Stable-default-Some.head in
     let x = root_held n s a 0 1 _ head (omega arith) ks all (Looks-held {place = Root 0} e.looked c.in-Stable-default-Some.field-1-is) in
     let head_id = slot_id s a 1 x.id head c.requires.slots.0 x.in_slot in
-    slot_holds s a 1 x.id head c.requires.slots.0 x.in_slot
-
-pub take_behind-turn-requires-clause-slot : goal.take_behind-turn-requires-clause-slot
-take_behind-turn-requires-clause-slot g c =
-    let d = c.args.links.now in
-    let n = g.L.Links.numbers d in
-    let s = g.L.Links.seat d c.args.p.now in
-    let kp = c.requires.pass in
-    let ks = known n (g.L.Links.opening d) s.seen c.requires.made (g.met.L.Links.opens d c.args.p.now kp) (g.met.L.Links.allowed d c.args.p.now kp) (g.met.L.Links.obeys d c.args.p.now kp) in
-    let a = g.L.Links.seat d c.look.new.p in
-    let e = c.in-Stable-default-Some.ensures in
-    let all = g.met.L.Links.allowed d c.look.new.p e.pass in
-    let head = c.in-Stable-default-Some.head in
-    let x = root_held n s a 0 1 _ head (omega arith) ks all (Looks-held {place = Root 0} e.looked c.in-Stable-default-Some.field-1-is) in
-    let head_id = slot_id s a 1 x.id head c.requires.slots.0 x.in_slot in
-    slot_free s a 1 x.id head c.requires.slots.0 x.in_slot 2 (λ k. omega (arith, k)) c.requires.slots.1
-
-pub take_behind-turn-requires-clause-named : goal.take_behind-turn-requires-clause-named
-take_behind-turn-requires-clause-named g c =
-    let d = c.args.links.now in
-    let n = g.L.Links.numbers d in
-    let s = g.L.Links.seat d c.args.p.now in
-    let kp = c.requires.pass in
-    let ks = known n (g.L.Links.opening d) s.seen c.requires.made (g.met.L.Links.opens d c.args.p.now kp) (g.met.L.Links.allowed d c.args.p.now kp) (g.met.L.Links.obeys d c.args.p.now kp) in
-    let a = g.L.Links.seat d c.look.new.p in
-    let e = c.in-Stable-default-Some.ensures in
-    let all = g.met.L.Links.allowed d c.look.new.p e.pass in
-    let head = c.in-Stable-default-Some.head in
-    let x = root_held n s a 0 1 _ head (omega arith) ks all (Looks-held {place = Root 0} e.looked c.in-Stable-default-Some.field-1-is) in
-    let head_id = slot_id s a 1 x.id head c.requires.slots.0 x.in_slot in
-    subst (λ (i : ℕ). WasNamed (heap_of n a) 0 i) (sym head_id) x.named
+    record {
+      pass = e.pass;
+      made = c.requires.made;
+      held = slot_holds s a 1 x.id head c.requires.slots.0 x.in_slot;
+      slot = slot_free s a 1 x.id head c.requires.slots.0 x.in_slot 2 (λ k. omega (arith, k)) c.requires.slots.1;
+      named = subst (λ (i : ℕ). WasNamed (heap_of n a) 0 i) (sym head_id) x.named;
+    }
 
 pub release-requires-clause-held : goal.release-requires-clause-held
 release-requires-clause-held g c =
@@ -91,7 +67,6 @@ release-requires-clause-held g c =
     let all = g.met.L.Links.allowed d c.look.new.p e.pass in
     let head = c.in-Stable-default-Some.head in
     let x = root_held n s a 0 1 _ head (omega arith) ks all (Looks-held {place = Root 0} e.looked c.in-Stable-default-Some.field-1-is) in
-    let head_id = slot_id s a 1 x.id head c.requires.slots.0 x.in_slot in
     let b = g.L.Links.seat d c.take_behind-turn.new.p in
     let piece = behind_kept n (id_in a.slots head) a b c.take_behind-turn.result c.take_behind-turn.ensures.took in
     subst (λ (z : Slots). Holds z head) (sym piece.slots) (slot_holds s a 1 x.id head c.requires.slots.0 x.in_slot)
@@ -128,8 +103,6 @@ returns-in-Moved-clause-took g c =
     let d = c.args.links.now in
     let n = g.L.Links.numbers d in
     let s = g.L.Links.seat d c.args.p.now in
-    let kp = c.requires.pass in
-    let ks = known n (g.L.Links.opening d) s.seen c.requires.made (g.met.L.Links.opens d c.args.p.now kp) (g.met.L.Links.allowed d c.args.p.now kp) (g.met.L.Links.obeys d c.args.p.now kp) in
     let a = g.L.Links.seat d c.look.new.p in
     let e = c.in-Moved.ensures in
     let r = e.looked.tells in

@@ -19,8 +19,6 @@ look-requires-clause-place g c =
     let d = c.args.links.now in
     let n = g.L.Links.numbers d in
     let s = g.L.Links.seat d c.args.p.now in
-    let node = c.args.node.now in
-    let job = c.args.job in
     let kp = c.requires.pass in
     let ks = known n (g.L.Links.opening d) s.seen c.requires.made (g.met.L.Links.opens d c.args.p.now kp) (g.met.L.Links.allowed d c.args.p.now kp) (g.met.L.Links.obeys d c.args.p.now kp) in
     roots_there n s.seen 1 ks (omega arith)
@@ -30,8 +28,6 @@ unreachable-requires g c =
     let d = c.args.links.now in
     let n = g.L.Links.numbers d in
     let s = g.L.Links.seat d c.args.p.now in
-    let node = c.args.node.now in
-    let job = c.args.job in
     let kp = c.requires.pass in
     let ks = known n (g.L.Links.opening d) s.seen c.requires.made (g.met.L.Links.opens d c.args.p.now kp) (g.met.L.Links.allowed d c.args.p.now kp) (g.met.L.Links.obeys d c.args.p.now kp) in
     let a = g.L.Links.seat d c.look.new.p in
@@ -52,7 +48,6 @@ link_node-turn-requires-clause-node g c =
     let all = g.met.L.Links.allowed d c.look.new.p e.pass in
     let tail = c.in-Stable-default-Some.tail in
     let x = root_held n s a 1 2 _ tail (omega arith) ks all (Looks-held {place = Root 1} e.looked c.in-Stable-default-Some.field-1-is) in
-    let tail_id = slot_id s a 2 x.id tail c.requires.slot x.in_slot in
     node_held n s a _ x.puts all job node c.requires.node.second ks c.requires.node (slot_other s a 2 x.id tail c.requires.slot x.in_slot node c.requires.node.held)
     (slot_other_id s a 2 x.id tail c.requires.slot x.in_slot node c.requires.node.held) e.looked.fresh refl refl
 
@@ -61,8 +56,6 @@ link_node-turn-requires-clause-tail g c =
     let d = c.args.links.now in
     let n = g.L.Links.numbers d in
     let s = g.L.Links.seat d c.args.p.now in
-    let node = c.args.node.now in
-    let job = c.args.job in
     let kp = c.requires.pass in
     let ks = known n (g.L.Links.opening d) s.seen c.requires.made (g.met.L.Links.opens d c.args.p.now kp) (g.met.L.Links.allowed d c.args.p.now kp) (g.met.L.Links.obeys d c.args.p.now kp) in
     let a = g.L.Links.seat d c.look.new.p in
@@ -70,7 +63,6 @@ link_node-turn-requires-clause-tail g c =
     let all = g.met.L.Links.allowed d c.look.new.p e.pass in
     let tail = c.in-Stable-default-Some.tail in
     let x = root_held n s a 1 2 _ tail (omega arith) ks all (Looks-held {place = Root 1} e.looked c.in-Stable-default-Some.field-1-is) in
-    let tail_id = slot_id s a 2 x.id tail c.requires.slot x.in_slot in
     slot_holds s a 2 x.id tail c.requires.slot x.in_slot
 
 pub link_node-turn-requires-clause-named : goal.link_node-turn-requires-clause-named
@@ -78,8 +70,6 @@ link_node-turn-requires-clause-named g c =
     let d = c.args.links.now in
     let n = g.L.Links.numbers d in
     let s = g.L.Links.seat d c.args.p.now in
-    let node = c.args.node.now in
-    let job = c.args.job in
     let kp = c.requires.pass in
     let ks = known n (g.L.Links.opening d) s.seen c.requires.made (g.met.L.Links.opens d c.args.p.now kp) (g.met.L.Links.allowed d c.args.p.now kp) (g.met.L.Links.obeys d c.args.p.now kp) in
     let a = g.L.Links.seat d c.look.new.p in
@@ -104,7 +94,6 @@ release-requires-clause-held g c =
     let all = g.met.L.Links.allowed d c.look.new.p e.pass in
     let tail = c.in-Stable-default-Some.tail in
     let x = root_held n s a 1 2 _ tail (omega arith) ks all (Looks-held {place = Root 1} e.looked c.in-Stable-default-Some.field-1-is) in
-    let tail_id = slot_id s a 2 x.id tail c.requires.slot x.in_slot in
     let b = g.L.Links.seat d c.link_node-turn.new.p in
     let kept = link_kept n 2 KeepsTail job (id_in a.slots tail) node a b c.link_node-turn.result c.link_node-turn.ensures.linked in
     subst (λ (z : Slots). Holds z tail) (sym kept.slots) (slot_holds s a 2 x.id tail c.requires.slot x.in_slot)
@@ -123,12 +112,9 @@ returns-in-Stable-default-Some-clause-slots g c =
     let all = g.met.L.Links.allowed d c.look.new.p e.pass in
     let tail = c.in-Stable-default-Some.tail in
     let x = root_held n s a 1 2 _ tail (omega arith) ks all (Looks-held {place = Root 1} e.looked c.in-Stable-default-Some.field-1-is) in
-    let tail_id = slot_id s a 2 x.id tail c.requires.slot x.in_slot in
     let b = g.L.Links.seat d c.link_node-turn.new.p in
     let t = g.L.Links.seat d c.release.new.p in
     let l = c.link_node-turn.ensures.linked in
-    let pass_b = c.link_node-turn.ensures.pass in
-    let all_b = g.met.L.Links.allowed d c.link_node-turn.new.p pass_b in
     let kept = link_kept n 2 KeepsTail job (id_in a.slots tail) node a b c.link_node-turn.result l in
     let released = c.release.ensures.released in
     slot_released s a 2 x.id tail c.requires.slot x.in_slot b t kept.slots released

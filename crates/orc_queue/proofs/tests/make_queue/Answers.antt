@@ -9,4 +9,4 @@ pub make-requires-clause-holds : goal.make-requires-clause-holds
 make-requires-clause-holds c = nothing_yet (numbers (bounds_of c.args.shape.now))
 
 pub make-requires-clause-seed : goal.make-requires-clause-seed
-make-requires-clause-seed c = dummy_allowed (bounds_of c.args.shape.now) c.args.first c.requires.roots c.requires.first
+make-requires-clause-seed c = dummy_allowed (numbers (bounds_of c.args.shape.now)) c.args.first c.requires.roots c.requires.first

@@ -1,7 +1,7 @@
-use Rattle.std.proofs.Common.{◌≡◌, ◌<◌, ℕ, false, zero, suc, replicate, Some, slice_get, refl, inl, arith, ◌∙◌}
+use Rattle.std.proofs.Common.{◌≡◌, ◌<◌, ℕ, zero, suc, replicate, Some, slice_get, refl, inl, arith, ◌∙◌}
 use Rattle.orc_words.specs.Bounds.{bounds_of}
 use Rattle.orc_heap.specs.Acts.{as_linked, with_value}
-use Rattle.orc_heap.specs.Heap.{new_node, null}
+use Rattle.orc_heap.specs.Heap.{link_to, new_node, null}
 use Rattle.orc_heap.specs.declared.events.Link.{Link}
 use Rattle.orc_heap.proofs.Changes.{get-change_other}
 use Rattle.orc_table.proofs.tests.with_dummy.Goals as goal
@@ -22,7 +22,7 @@ make-requires-clause-seed c =
       first_link = ((get_replicate (bounds_of c.args.shape.now).roots 0 one, record { node = with_value 1 5 (with_value 0 0 (new_node 0)); there = refl; known = inl refl }), tt);
       second_link = (
         (
-          get-change_other (λ (l : Link). record { to = Some 0; mark = false }) 0 1 (replicate (bounds_of c.args.shape.now).roots null) (λ e. omega (arith, e)) ∙ get_replicate (bounds_of c.args.shape.now).roots 1 two,
+          get-change_other (λ (l : Link). link_to 0) 0 1 (replicate (bounds_of c.args.shape.now).roots null) (λ e. omega (arith, e)) ∙ get_replicate (bounds_of c.args.shape.now).roots 1 two,
           record { node = as_linked (with_value 1 5 (with_value 0 0 (new_node 0))); there = refl; known = inl refl },
         ),
         tt,

@@ -1,5 +1,5 @@
 use Rattle.std.proofs.Common.{append_assoc, ◌∙◌}
 use Rattle.orc_trace.proofs.text.replay_text.Goals as goal
 
-pub returns-in-Ok : goal.returns-in-Ok
-returns-in-Ok c = c.in-Ok.ensures.ok ∙ simp append_assoc
+pub returns : goal.returns
+returns c = c.in_ok-text.ensures.ok ∙ simp append_assoc
