@@ -42,7 +42,7 @@ type Board = MachineBoard<AnyFit>;
 
 type Pass = MachineBoardPass<AnyFit>;
 
-// what a load of root 0 finds, if the record allows it
+// Reads root 0, if the record allows it.
 #[inline(always)]
 fn load_link(board: &Board, p: &mut Pass, shape: &Shape) -> u64
     requires belongs { Belongs board.now p.old }

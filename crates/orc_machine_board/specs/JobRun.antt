@@ -25,6 +25,7 @@ use Rattle.orc_words.specs.declared.packed.RowLink.{RowLink}
 use Rattle.orc_words.specs.declared.place.Word.{Word}
 use Rattle.orc_words.specs.declared.place.Word.TheVariants.{Next, Root}
 
+-- the sizes of the board
 abbrev pub small : Bounds
 small = record { rows = 2; roots = 2; agents = 1; limit = 8 }
 
@@ -37,6 +38,7 @@ own_steps (op ∷ ops) = does 0 op None ∷ own_steps ops
 abbrev pub exchanged : Word → RowLink → RowLink → FifoNote → Step FifoNote
 exchanged place from to note = step_of 0 (asks (LinkCas place from to)) (Some note)
 
+-- the links that are exchanged
 abbrev pub null_row : RowLink
 null_row = without_mark None
 

@@ -15,10 +15,11 @@ is_plain_kind (LinkCas place from to) = false
 is_plain_kind (LinkStore row link) = false
 is_plain_kind op = true
 
--- an op that wants no link
+-- the request of an op that wants no link
 abbrev pub asks : Op → Request
 asks op = record { op = op; want = None }
 
+-- the request of an op that may want a link
 abbrev pub wants : Op → Option RowLink → Request
 wants op want = record { op = op; want = want }
 

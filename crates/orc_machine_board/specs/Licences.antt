@@ -24,6 +24,7 @@ module _ {N : Type 0} where
   abbrev pub events_seen : Bounds → MachineView N → List (Event N)
   events_seen b s = project b s.journal
 
+  -- an event of the pass's agent
   abbrev pub own_event : MachineView N → Act → Option N → Event N
   own_event s act note = record { agent = s.agent; act = act; note = note }
 

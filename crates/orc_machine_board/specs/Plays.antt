@@ -5,6 +5,7 @@ use Rattle.orc_core.specs.Runs.{IsLawful, run}
 use Rattle.orc_core.specs.declared.ops.Op.{Op}
 use Rattle.orc_words.specs.Bounds.{Bounds, IsShape}
 
+-- these ops, each of this agent
 abbrev pub by_agent : ℕ → List Op → List (ℕ × Op)
 by_agent a [] = []
 by_agent a (op ∷ ops) = (a, op) ∷ by_agent a ops

@@ -47,13 +47,16 @@ ListHasRoom q d w = length (after q.op d w).list.items ≤ d.list.room
 abbrev pub newcomer : ℕ → Agent
 newcomer room = record (nobody room) { enrolled = true }
 
+-- a link to this row, or to none
 abbrev pub without_mark : Option ℕ → RowLink
 without_mark to = record { to = to; mark = false }
 
 module _ {N : Type 0} where
+  -- the step of an agent that makes this request
   abbrev pub step_of : ℕ → Request → Option N → Step N
   step_of a q said = record { agent = a; op = q.op; want = q.want; note = said }
 
+  -- the step of an agent that wants no link
   abbrev pub does : ℕ → Op → Option N → Step N
   does a op said = record { agent = a; op = op; want = None; note = said }
 
@@ -82,9 +85,11 @@ module _ {N : Type 0} where
       ∷ does 0 (TakeIn 1) None
       ∷ []
 
+  -- the steps with which each journal begins: all agents enroll, and agent 0 does what the seed says
   abbrev pub machine_opening : ℕ → Seed N → List (Step N)
   machine_opening agents seed = enrolments agents ++ seeding seed
 
+  -- the sizes, and the numbers of the heap
   abbrev pub bounds_in : MachineShape N → Bounds
   bounds_in k = bounds_of k.shape
 

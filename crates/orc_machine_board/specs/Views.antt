@@ -37,6 +37,7 @@ abbrev pub EachFrom : {A B : Type 0} → (A → B) → List A → List B → Typ
 EachFrom {A} {B} part xs ys = (i : ℕ) (x : A) (y : B) → i < length ys → part (slice_index_or xs i x) ≡ slice_index_or ys i y
 
 module _ {N : Type 0} where
+  -- what the pass of an agent shows that has this view
   abbrev pub view_of : ℕ → View (Step N) Agent → MachineView N
   view_of a v = record { agent = a; journal = v.seen; record_is = v.own; absorbed = v.also }
 

@@ -59,7 +59,7 @@ impl<D: Discipline> MachineBoard<D> {
     }
 }
 
-// the passes
+// Wraps the passes.
 fn passes_of<D: Discipline>(
     alloc: Global,
     passes: Vec<SharedPass<Reclaiming, D>>,
@@ -74,7 +74,7 @@ fn passes_of<D: Discipline>(
         .map_err(|_| NoMemory)
 }
 
-// makes a step that goes on
+// Makes a step that is allowed.
 fn play_one(state: &mut State, agent: u32, op: &Op)
     requires goes { (b : Bounds) × (rest : List (ℕ × Op)) × GoesOn b state.old ((agent, op.now) ∷ rest) }
     ensures { state.new ≡ run state.old ((agent, op.now) ∷ []) }
@@ -84,7 +84,7 @@ fn play_one(state: &mut State, agent: u32, op: &Op)
     };
 }
 
-// makes these steps of one agent
+// Makes these steps of one agent.
 fn play(state: &mut State, agent: u32, ops: &[Op])
     requires goes { (b : Bounds) × GoesOn b state.old (by_agent agent ops.now) }
     ensures { state.new ≡ run state.old (by_agent agent ops.now) }
@@ -94,7 +94,7 @@ fn play(state: &mut State, agent: u32, ops: &[Op])
     }
 }
 
-// the agents enroll, in order
+// Enrolls the agents, in order.
 fn enroll_all(state: &mut State, shape: &Shape)
     requires { state.old ≡ new_machine (bounds_of shape.now) }
     ensures { let b = bounds_of shape.now in state.new ≡ run_of b (enrolments {N = Unit {0}} b.agents) }
@@ -119,7 +119,7 @@ const CHECK: Op = Op::CounterLoad {
     how: CounterUse::Check,
 };
 
-// agent 0 makes the steps for the seed
+// Makes the steps of agent 0 for the seed.
 fn plant<N>(state: &mut State, seed: &Seed<N>)
     requires { (b : Bounds) × GoesOn b state.old (plain (seeding seed.now)) }
     ensures { state.new ≡ run state.old (plain (seeding seed.now)) }
@@ -161,7 +161,7 @@ fn plant<N>(state: &mut State, seed: &Seed<N>)
     }
 }
 
-// the words and the records that the opening leaves
+// Runs the opening on the pure machine, and answers the words and the records that it leaves.
 fn opened<N>(
     alloc: Global,
     shape: &Shape,

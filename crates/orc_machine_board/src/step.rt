@@ -14,7 +14,7 @@ use orc_heap::Discipline;
 use orc_words::RowLink;
 
 impl<D: Discipline> MachineBoard<D> {
-    // one step, and the number that `apply` answers
+    // Makes a step, and answers what `apply` does.
     #[inline(always)]
     pub(crate) fn step(
         &self,
@@ -33,7 +33,7 @@ impl<D: Discipline> MachineBoard<D> {
         action.operation.answer(n)
     }
 
-    // a step that changes no link, without a note
+    // Makes a step that changes no link, without a note.
     #[inline(always)]
     pub(crate) fn plain_step(
         &self,

@@ -80,14 +80,14 @@ const UNLINK: Op = Op::LinkCas {
     to: NULL,
 };
 
-// whether the pass's record allows the op
+// Tests whether the pass's record allows the op.
 fn may_make<D: Discipline>(board: &MachineBoard<D>, p: &MachineBoardPass<D>, op: &Op) -> bool
     ensures { result ≡ true → MayDo (board_bounds board.now) (shows p.now) op.now }
 {
     may_step(&board.shape(), 0, p.agent(), op, p.record())
 }
 
-// makes a step that changes no link, where the record allows it
+// Makes a step that changes no link, where the record allows it.
 fn make_plain<D: Discipline>(
     board: &MachineBoard<D>,
     p: &mut MachineBoardPass<D>,
@@ -123,7 +123,7 @@ fn make_plain<D: Discipline>(
     }
 }
 
-// makes a step that exchanges no link, where the record allows it; of a row that isn't fresh, the link is taken out
+// Makes a step that exchanges no link, where the record allows it; of a row that isn't fresh, it takes the link out.
 fn make_one<D: Discipline>(
     board: &MachineBoard<D>,
     p: &mut MachineBoardPass<D>,
@@ -143,7 +143,7 @@ fn make_one<D: Discipline>(
     make_plain(board, p, op)
 }
 
-// exchanges the link of a root, with a note, where the record allows it
+// Exchanges the link of a root, with a note, where the record allows it.
 fn exchange_root(board: &Board, p: &mut Pass, root: u32, from: RowLink, to: RowLink) -> Option<u64>
     requires belongs { Belongs board.now p.old }
     ensures belongs { Belongs board.now p.new }
@@ -158,7 +158,7 @@ fn exchange_root(board: &Board, p: &mut Pass, root: u32, from: RowLink, to: RowL
     Some(board.link_cas(p, place, from, to, Some(7)))
 }
 
-// makes one of these steps
+// Makes a step of either kind.
 fn make_step(board: &Board, p: &mut Pass, op: Op) -> Option<u64>
     requires belongs { Belongs board.now p.old }
     ensures belongs { Belongs board.now p.new }
@@ -174,7 +174,7 @@ fn make_step(board: &Board, p: &mut Pass, op: Op) -> Option<u64>
     make_one(board, p, op)
 }
 
-// makes these steps; whether all were allowed
+// Makes these steps, and tells whether all were allowed.
 fn make_steps(board: &Board, p: &mut Pass, ops: &[Op]) -> bool
     requires belongs { Belongs board.now p.old }
     ensures belongs { Belongs board.now p.new }
@@ -188,7 +188,7 @@ fn make_steps(board: &Board, p: &mut Pass, ops: &[Op]) -> bool
     all
 }
 
-// looks at the slots before this scan place; whether all were allowed
+// Looks at the slots before this scan place, and tells whether all looks were allowed.
 fn look_at_slots(board: &Board, p: &mut Pass, end: u32) -> bool
     requires belongs { Belongs board.now p.old }
     ensures belongs { Belongs board.now p.new }
@@ -202,7 +202,7 @@ fn look_at_slots(board: &Board, p: &mut Pass, end: u32) -> bool
     all
 }
 
-// takes row 0 out, fills in a value, and links it from root 0
+// Takes row 0 out, fills in a value, and links the row from root 0.
 fn link_row_0(board: &Board, p: &mut Pass, value: u64) -> bool
     requires belongs { Belongs board.now p.old }
     ensures belongs { Belongs board.now p.new }
@@ -230,7 +230,7 @@ fn link_row_0(board: &Board, p: &mut Pass, value: u64) -> bool
     )
 }
 
-// unlinks row 0, frees it, and links it again
+// Unlinks row 0, frees it, and links it again.
 fn reuse_row_0(board: &Board, p: &mut Pass) -> bool
     requires belongs { Belongs board.now p.old }
     ensures belongs { Belongs board.now p.new }
@@ -269,7 +269,7 @@ fn reuse_row_0(board: &Board, p: &mut Pass) -> bool
     unlinked && scanned && freed && linked
 }
 
-// looks at the gate of row 1 again and again; whether it always is free
+// Looks at the gate of row 1 again and again, and tells whether the row always is free.
 fn look_elsewhere(board: &Board, p: &mut Pass) -> bool
     requires belongs { Belongs board.now p.old }
     ensures belongs { Belongs board.now p.new }
@@ -283,7 +283,7 @@ fn look_elsewhere(board: &Board, p: &mut Pass) -> bool
     free
 }
 
-// each in a thread of its own
+// Lets the one agent reuse row 0 while the other looks at row 1, each in a thread of its own.
 fn on_two_threads<R: Threads + Sync>(
     rt: &R,
     board: &Board,
@@ -304,7 +304,7 @@ fn is_shared<T: Sync>() {}
 
 fn is_sent<T: Send>() {}
 
-// under each discipline whose notes may cross threads
+// Compiles under each discipline whose notes may cross threads.
 fn boards_and_passes_cross_threads<D: Discipline>()
 where
     D::Note: Send + Sync,
@@ -314,7 +314,7 @@ where
     is_sent::<MachineBoardPass<D>>();
 }
 
-// the last of the board's new passes
+// Takes the last of the board's new passes.
 fn next_pass(board: &Board, passes: &mut Vec<Pass>) -> Option<Pass>
     requires belongs { All (λ p. Belongs board.now p) passes.old.items }
     requires absorbed { All (λ p. (shows p).absorbed ≡ []) passes.old.items }
@@ -326,7 +326,7 @@ fn next_pass(board: &Board, passes: &mut Vec<Pass>) -> Option<Pass>
     passes.pop()
 }
 
-// reads root 0 twice, with a wanted link and a note: as it is, and where another is wanted
+// Reads root 0 twice, each time with a wanted link and a note.
 fn look_at_root(board: &Board, p: &mut Pass) -> Option<(u64, u64)>
     requires belongs { Belongs board.now p.old }
     ensures belongs { Belongs board.now p.new }

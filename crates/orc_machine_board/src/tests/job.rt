@@ -64,7 +64,7 @@ const HOLD_NEXT: Op = Op::LinkLoad {
     slot: Some(2),
 };
 
-// makes a step that changes no link, where the record allows it
+// Makes a step that changes no link, where the record allows it.
 fn step(board: &Queue, p: &mut QueuePass, op: Op) -> Option<u64>
     requires sole { IsSolePass board.now p.old }
     ensures sole { IsSolePass board.now p.new }
@@ -75,7 +75,7 @@ fn step(board: &Queue, p: &mut QueuePass, op: Op) -> Option<u64>
     made
 }
 
-// makes these steps, up to one that the record doesn't allow; whether it allows all
+// Makes these steps, up to one that the record doesn't allow, and tells whether it allows all.
 fn steps(board: &Queue, p: &mut QueuePass, ops: &[Op]) -> bool
     requires sole { IsSolePass board.now p.old }
     ensures sole { IsSolePass board.now p.new }
@@ -89,7 +89,7 @@ fn steps(board: &Queue, p: &mut QueuePass, ops: &[Op]) -> bool
     true
 }
 
-// exchanges a link, where the record allows it; whether it does
+// Exchanges a link, where the record allows it, and tells whether it does.
 fn exchange(
     board: &Queue,
     p: &mut QueuePass,
@@ -112,7 +112,7 @@ fn exchange(
     true
 }
 
-// takes row 1 out for job 6, and holds row 0, as root 1 shows it
+// Takes row 1 out for job 6, and holds row 0, as root 1 shows it.
 fn give(board: &Queue, p: &mut QueuePass) -> bool
     requires sole { IsSolePass board.now p.old }
     requires journal { (shows p.old).journal ≡ opened }
@@ -138,7 +138,7 @@ fn give(board: &Queue, p: &mut QueuePass) -> bool
     )
 }
 
-// puts the job: the link of row 0 leads to row 1, and root 1 steps on
+// Puts the job: the link of row 0 leads to row 1, and root 1 steps on.
 fn put(board: &Queue, p: &mut QueuePass) -> bool
     requires sole { IsSolePass board.now p.old }
     requires journal { (shows p.old).journal ≡ opened }
@@ -179,7 +179,7 @@ fn put(board: &Queue, p: &mut QueuePass) -> bool
     )
 }
 
-// takes the job: holds rows 0 and 1, reads the job, and root 0 steps on
+// Takes the job: rows 0 and 1 are held, the job is read, and root 0 steps on.
 fn take(board: &Queue, p: &mut QueuePass) -> Option<u64>
     requires sole { IsSolePass board.now p.old }
     requires journal { (shows p.old).journal ≡ after_put }
@@ -213,7 +213,7 @@ fn take(board: &Queue, p: &mut QueuePass) -> Option<u64>
     Some(job)
 }
 
-// makes these steps; whether the record allows all
+// Makes these steps, and tells whether the record allows all.
 fn make_ones(board: &Queue, p: &mut QueuePass, ops: &[Op]) -> bool
     requires belongs { Belongs board.now p.old }
     ensures belongs { Belongs board.now p.new }
@@ -225,7 +225,7 @@ fn make_ones(board: &Queue, p: &mut QueuePass, ops: &[Op]) -> bool
     all
 }
 
-// counts the links that changed, and retires row 0
+// Counts the links that changed, and retires row 0.
 fn retire(board: &Queue, p: &mut QueuePass) -> bool
     requires belongs { Belongs board.now p.old }
     ensures belongs { Belongs board.now p.new }
@@ -249,7 +249,7 @@ fn retire(board: &Queue, p: &mut QueuePass) -> bool
     )
 }
 
-// scans for row 0, takes its link out, and frees it
+// Scans for row 0, takes its link out, and frees it.
 fn free(board: &Queue, p: &mut QueuePass) -> bool
     requires belongs { Belongs board.now p.old }
     ensures belongs { Belongs board.now p.new }
@@ -276,7 +276,7 @@ fn free(board: &Queue, p: &mut QueuePass) -> bool
     scanned && freed
 }
 
-// a board with a dummy, for one agent, and its pass
+// Makes a board with a dummy, for one agent, and its pass.
 fn with_dummy(alloc: Global) -> Option<(Queue, QueuePass)>
     ensures belongs { IfSome result (λ made. Belongs made.0 made.1) }
     ensures sizes { IfSome result (λ made. board_bounds made.0 ≡ small) }

@@ -10,7 +10,7 @@ use orc_core::{State, apply};
 use orc_fault::NoMemory;
 use std::alloc::Global;
 
-// makes a step by the pass, and on the state; whether both answer alike
+// Makes a step by the pass and on the state, and tells whether both answer alike.
 fn play_one(board: &Board, p: &mut Pass, state: &mut State, op: Op) -> bool
     requires belongs { Belongs board.now p.old }
     ensures belongs { Belongs board.now p.new }
@@ -30,7 +30,7 @@ fn play_one(board: &Board, p: &mut Pass, state: &mut State, op: Op) -> bool
     }
 }
 
-// the same of each of these
+// Makes each of these steps so.
 fn play(board: &Board, p: &mut Pass, state: &mut State, ops: &[Op]) -> bool
     requires belongs { Belongs board.now p.old }
     ensures belongs { Belongs board.now p.new }
@@ -45,7 +45,7 @@ fn play(board: &Board, p: &mut Pass, state: &mut State, ops: &[Op]) -> bool
     alike
 }
 
-// looks at the slots of these scan places
+// Looks at the slots of these scan places so.
 fn play_looks(board: &Board, p: &mut Pass, state: &mut State, from: u32, end: u32) -> bool
     requires belongs { Belongs board.now p.old }
     ensures belongs { Belongs board.now p.new }
@@ -60,7 +60,7 @@ fn play_looks(board: &Board, p: &mut Pass, state: &mut State, from: u32, end: u3
     alike
 }
 
-// whether the board's words, once no agent shares them, are those of the state
+// Tells whether the board's words, once no agent shares them, are those of the state.
 fn words_agree(board: Board, whole: Pass, state: State) -> bool
     requires belongs { Belongs board whole }
     requires all { TookInAll (board_bounds board) (shows whole) }
@@ -76,7 +76,7 @@ fn words_agree(board: Board, whole: Pass, state: State) -> bool
     alike
 }
 
-// a new state in which these agents have enrolled
+// Makes a new state in which all agents have enrolled.
 fn enrolled(alloc: Global, shape: &Shape) -> Result<State, NoMemory>
     ensures bounds { IfOk result (λ state. state.bounds ≡ bounds_of shape.now) }
 {
@@ -89,7 +89,7 @@ fn enrolled(alloc: Global, shape: &Shape) -> Result<State, NoMemory>
     Ok(state)
 }
 
-// the agent takes row 0 out and links it from root 0
+// Takes row 0 out and links it from root 0.
 fn link(board: &Board, p: &mut Pass, state: &mut State) -> bool
     requires belongs { Belongs board.now p.old }
     ensures belongs { Belongs board.now p.new }
@@ -113,7 +113,7 @@ fn link(board: &Board, p: &mut Pass, state: &mut State) -> bool
     )
 }
 
-// the agent holds row 0 in this slot, as root 0 shows it
+// Holds row 0 in this slot, as root 0 shows it.
 fn hold(board: &Board, p: &mut Pass, state: &mut State, slot: u32) -> bool
     requires belongs { Belongs board.now p.old }
     ensures belongs { Belongs board.now p.new }
@@ -129,7 +129,7 @@ fn hold(board: &Board, p: &mut Pass, state: &mut State, slot: u32) -> bool
     play(board, p, state, &[LOAD, Op::Publish { slot, row: 0 }, held])
 }
 
-// the agent lets row 0 go
+// Lets row 0 go.
 fn let_go(board: &Board, p: &mut Pass, state: &mut State, slot: u32) -> bool
     requires belongs { Belongs board.now p.old }
     ensures belongs { Belongs board.now p.new }
@@ -140,7 +140,7 @@ fn let_go(board: &Board, p: &mut Pass, state: &mut State, slot: u32) -> bool
     play(board, p, state, &[Op::Clear { slot }, Op::TakeIn { slot }])
 }
 
-// the agent unlinks row 0 from root 0, retires it, lets it go, and begins to scan for it
+// Unlinks row 0 from root 0, retires it, lets it go, and begins to scan for it.
 fn unlink(board: &Board, p: &mut Pass, state: &mut State) -> bool
     requires belongs { Belongs board.now p.old }
     ensures belongs { Belongs board.now p.new }
@@ -166,7 +166,7 @@ fn unlink(board: &Board, p: &mut Pass, state: &mut State) -> bool
     retired && first && second && started
 }
 
-// the agent scans for row 0, finds it nowhere, and frees it
+// Scans for row 0, finds it in no slot, and frees it.
 fn free(board: &Board, p: &mut Pass, state: &mut State) -> bool
     requires belongs { Belongs board.now p.old }
     ensures belongs { Belongs board.now p.new }
@@ -191,7 +191,7 @@ fn free(board: &Board, p: &mut Pass, state: &mut State) -> bool
     started && scanned && freed
 }
 
-// agent 1 holds row 0, which agent 0 unlinks; agent 0 finds it in the slot of agent 1
+// Lets agent 1 hold row 0, which agent 0 unlinks and finds in the slot of agent 1.
 fn find(board: &Board, one: &mut Pass, two: &mut Pass, state: &mut State) -> bool
     requires belongs { Belongs board.now one.old × Belongs board.now two.old }
     ensures belongs { Belongs board.now one.new × Belongs board.now two.new }
@@ -206,7 +206,7 @@ fn find(board: &Board, one: &mut Pass, two: &mut Pass, state: &mut State) -> boo
     linked && held && unlinked && found
 }
 
-// agent 0 hands row 0 over while agent 1 holds it, and agent 1 takes it in as it lets it go
+// Lets agent 0 hand row 0 over while agent 1 holds it, and agent 1 take it in as it lets it go.
 fn hand_over(board: &Board, one: &mut Pass, two: &mut Pass, state: &mut State) -> bool
     requires belongs { Belongs board.now one.old × Belongs board.now two.old }
     ensures belongs { Belongs board.now one.new × Belongs board.now two.new }
@@ -219,7 +219,7 @@ fn hand_over(board: &Board, one: &mut Pass, two: &mut Pass, state: &mut State) -
     handed && left
 }
 
-// agent 1 lets row 0 go before agent 0 hands it over, and takes it in afterwards
+// Lets agent 1 let row 0 go before agent 0 hands it over, and take it in afterwards.
 fn hand_over_late(board: &Board, one: &mut Pass, two: &mut Pass, state: &mut State) -> bool
     requires belongs { Belongs board.now one.old × Belongs board.now two.old }
     ensures belongs { Belongs board.now one.new × Belongs board.now two.new }
@@ -233,7 +233,7 @@ fn hand_over_late(board: &Board, one: &mut Pass, two: &mut Pass, state: &mut Sta
     left && handed && taken
 }
 
-// the one or the other
+// Hands row 0 over, late or not.
 fn hand(board: &Board, one: &mut Pass, two: &mut Pass, state: &mut State, late: bool) -> bool
     requires belongs { Belongs board.now one.old × Belongs board.now two.old }
     ensures belongs { Belongs board.now one.new × Belongs board.now two.new }
@@ -247,7 +247,7 @@ fn hand(board: &Board, one: &mut Pass, two: &mut Pass, state: &mut State, late: 
     hand_over(board, one, two, state)
 }
 
-// a run of two agents; whether all answers and all words agree
+// Plays a run of two agents, and tells whether all answers and all words agree.
 fn two_agents(alloc: Global, late: bool) -> Option<bool> {
     let Ok(shape) = Shape::new(2, 1, 2, 8) else {
         return None;
@@ -278,7 +278,7 @@ fn a_row_is_handed_over_and_freed(rt: HostRuntime) -> Result<(), Fail> {
     Ok(())
 }
 
-// while agent 1 scans for row 0, which it unlinked, agent 2 links it again, and agent 0 holds it
+// Lets agent 2 link row 0 again, and agent 0 hold it, while agent 1 scans for it.
 fn link_again(
     board: &Board,
     zero: &mut Pass,
@@ -305,7 +305,7 @@ fn link_again(
     first && second
 }
 
-// agent 1 ends its scan: the count is 1, so the retired bit is cleared
+// Ends the scan, with count 1, and clears the retired bit.
 fn keep(board: &Board, p: &mut Pass, state: &mut State) -> bool
     requires belongs { Belongs board.now p.old }
     ensures belongs { Belongs board.now p.new }
@@ -320,7 +320,7 @@ fn keep(board: &Board, p: &mut Pass, state: &mut State) -> bool
     looked && kept && left
 }
 
-// the run of three agents; whether all answers and all words agree
+// Plays a run of three agents, and tells whether all answers and all words agree.
 fn three_agents(alloc: Global) -> Option<bool> {
     let Ok(shape) = Shape::new(2, 1, 3, 8) else {
         return None;
