@@ -1,5 +1,5 @@
 -- The event of a step fits, and a plain one is allowed.
-use Rattle.std.proofs.Common.{Bool, List, None, Option, Some, [], append-nil, false, refl, subst, sym, true, ℕ, ◌++◌, ◌<◌, ◌∙◌, ◌≡◌, ◌∷◌}
+use Rattle.std.proofs.Common.{Bool, List, None, Option, Some, [], append-nil, false, refl, subst, sym, true, ℕ, ◌++◌, ◌≡◌, ◌∷◌}
 use Rattle.std.proofs.lemmas.Bool.{false≢true}
 use Rattle.std.specs.Option.{option_map}
 use Rattle.std.specs.Prelude.{if◌then◌else◌, ◌==◌}
@@ -14,7 +14,6 @@ use Rattle.orc_heap.specs.declared.events.Act.{Act}
 use Rattle.orc_heap.specs.declared.events.Act.TheVariants.{Aim, Fill, Give, Look, Miss, Move}
 use Rattle.orc_heap.specs.declared.events.Event.{Event}
 use Rattle.orc_heap.specs.declared.events.Place.{Place}
-use Rattle.orc_history.specs.Journals.{own_of}
 use Rattle.orc_projection.proofs.Mirrored.{project-append, projection_lawful}
 use Rattle.orc_projection.specs.PresentIds.{PresentIds, no_ids, node_link, node_place}
 use Rattle.orc_projection.specs.Mirror.{numbers_of}
@@ -25,7 +24,7 @@ use Rattle.orc_machine_board.specs.Rules.{RequestAllowed, bounds_in, counted_rul
 use Rattle.orc_machine_board.specs.declared.machine.Request.{Request}
 use Rattle.orc_machine_board.specs.declared.machine.MachineShape.{MachineShape}
 use Rattle.orc_shared_words.specs.Lists.{Each}
-use Rattle.orc_shared_words.specs.Steps.{LaterJournal, Licensed}
+use Rattle.orc_shared_words.specs.Steps.{Licensed}
 use Rattle.orc_shared_words.specs.declared.journal.View.{View}
 use Rattle.orc_sound.specs.Journals.{IsLawfulJournal, IsWanted}
 use Rattle.orc_sound.specs.declared.steps.Step.{Step}

@@ -1,21 +1,17 @@
 -- A row keeps its node while an agent holds it, or has it fresh.
-use Rattle.std.proofs.Common.{Bool, List, None, Option, Some, [], ap, append-nil, append_assoc, arith, eqb-true, false, ne_eqb, refl, subst, sym, true, ℕ, ◌++◌, ◌+◌, ◌<◌, ◌∙◌, ◌≡◌, ◌≢◌, ◌∷◌}
-use Rattle.std.specs.Option.{option_map}
+use Rattle.std.proofs.Common.{Bool, List, [], ap, append-nil, append_assoc, arith, eqb-true, false, ne_eqb, refl, subst, sym, true, ℕ, ◌++◌, ◌<◌, ◌∙◌, ◌≡◌, ◌≢◌, ◌∷◌}
 use Rattle.std.specs.Prelude.{if◌then◌else◌, ◌%◌, ◌*◌, ◌==◌, ◌||◌}
-use Rattle.std.proofs.lemmas.Bool.{false≢true}
 use Rattle.orc_core.specs.Counts.{is_out}
-use Rattle.orc_core.specs.Machine.{Machine, is_allowed, new_machine, record_at, step, word_in, word_read}
+use Rattle.orc_core.specs.Machine.{Machine, new_machine, record_at, word_in, word_read}
 use Rattle.orc_core.specs.RecordParts.{any_holds, names, number_of}
-use Rattle.orc_core.specs.Runs.{run}
 use Rattle.orc_core.specs.declared.ops.Op.{Op}
 use Rattle.orc_core.specs.declared.ops.Op.TheVariants.{GateTake}
 use Rattle.orc_core.specs.declared.records.Agent.{Agent}
-use Rattle.orc_heap.proofs.Stays.{other_first}
 use Rattle.orc_history.specs.Journals.{own_of}
 use Rattle.orc_projection.proofs.Mirrored.{ids-append}
-use Rattle.orc_projection.specs.PresentIds.{PresentIds, no_ids, node_link, node_place, with_taken}
-use Rattle.orc_projection.specs.Projection.{StoresUnmarked, ids_after, ids_from, is_taken, present_ids}
-use Rattle.orc_machine_board.specs.Holding.{HasRow, HasPlace, HasTarget}
+use Rattle.orc_projection.specs.PresentIds.{PresentIds, no_ids, with_taken}
+use Rattle.orc_projection.specs.Projection.{ids_after, is_taken, present_ids}
+use Rattle.orc_machine_board.specs.Holding.{HasRow}
 use Rattle.orc_machine_board.specs.Laws.{bounds_run, other_record, run_next}
 use Rattle.orc_machine_board.specs.Rules.{run_of}
 use Rattle.orc_shared_words.proofs.Runs.{by_other, by_own, cons_nil}
@@ -25,8 +21,7 @@ use Rattle.orc_sound.specs.Journals.{IsLawfulJournal, plain}
 use Rattle.orc_sound.specs.Linked.{IsOut}
 use Rattle.orc_sound.specs.declared.steps.Step.{Step}
 use Rattle.orc_words.specs.Bounds.{Bounds, IsShape}
-use Rattle.orc_words.specs.declared.place.Word.{Word}
-use Rattle.orc_words.specs.declared.place.Word.TheVariants.{Gate, Next, Root}
+use Rattle.orc_words.specs.declared.place.Word.TheVariants.{Gate}
 
 -- a row that wasn't free keeps its node in a step
 node_after : (p : PresentIds) (d : Agent) (w : ℕ) (op : Op) (r : ℕ) → ((q : ℕ) → op ≡ GateTake q → is_taken d w ≡ true → r ≢ q)

@@ -1,5 +1,5 @@
 -- The discipline of the queue allows the three exchanges of the job's run.
-use Rattle.std.proofs.Common.{List, None, false, Option, Some, [], ap, arith, inl, refl, subst, sym, ℕ, ◌++◌, ◌<◌, ◌≤◌, ◌∙◌, ◌∷◌, ◌≡◌, ◌≢◌}
+use Rattle.std.proofs.Common.{List, None, false, Option, Some, [], ap, arith, inl, refl, subst, sym, ℕ, ◌++◌, ◌∙◌, ◌∷◌, ◌≡◌, ◌≢◌}
 use Rattle.std.specs.Option.{IfSome}
 use Rattle.orc_machine_board.proofs.Making.{steps_next}
 use Rattle.orc_machine_board.specs.Passes.{TookInAll}

@@ -1,5 +1,5 @@
 -- What an exchange of a link may name, its agent knows.
-use Rattle.std.proofs.Common.{List, None, Option, Some, arith, refl, subst, suc, sym, true, zero, ℕ, ◌+◌, ◌<◌, ◌≡◌}
+use Rattle.std.proofs.Common.{List, None, Option, Some, arith, refl, subst, suc, sym, true, zero, ℕ, ◌+◌, ◌≡◌}
 use Rattle.std.proofs.lemmas.Bool.{false≢true}
 use Rattle.std.specs.Option.{option_map}
 use Rattle.std.specs.Prelude.{nat_lt, not, ◌&&◌}

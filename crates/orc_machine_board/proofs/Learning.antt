@@ -1,5 +1,5 @@
 -- Passes that learned from each other, or took in one another, are passes still.
-use Rattle.std.proofs.Common.{List, Option, Some, ap, inl, inr, refl, subst, sym, ℕ, ◌++◌, ◌<◌, ◌∙◌, ◌∷◌, ◌≡◌, ◌⊎◌, ⊎_elim}
+use Rattle.std.proofs.Common.{List, Some, ap, inl, inr, refl, sym, ℕ, ◌++◌, ◌∙◌, ◌∷◌, ◌≡◌, ⊎_elim}
 use Rattle.orc_core.specs.declared.records.Agent.{Agent}
 use Rattle.orc_heap.specs.declared.events.Event.{Event}
 use Rattle.orc_machine_board.specs.Laws.{counted_obeys}
@@ -9,7 +9,6 @@ use Rattle.orc_machine_board.specs.Views.{Keeps, view_of}
 use Rattle.orc_machine_board.specs.declared.machine.MachineShape.{MachineShape}
 use Rattle.orc_shared_words.proofs.LaterJournals.{learned_later}
 use Rattle.orc_shared_words.specs.Learning.{Learned, SameButSeen}
-use Rattle.orc_shared_words.specs.Lists.{Among, IsLonger}
 use Rattle.orc_shared_words.specs.Views.{absorbing, agent_of}
 use Rattle.orc_shared_words.specs.declared.journal.View.{View}
 use Rattle.orc_sound.specs.declared.steps.Step.{Step}

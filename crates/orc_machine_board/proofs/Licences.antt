@@ -1,12 +1,11 @@
 -- What licenses the steps on links.
-use Rattle.std.proofs.Common.{Bool, List, None, Option, Some, [], ap, arith, eqb-true, false, refl, subst, sym, true, ℕ, ◌++◌, ◌+◌, ◌<◌, ◌∙◌, ◌≡◌, ◌≢◌, ◌≤◌, ◌∷◌}
+use Rattle.std.proofs.Common.{Bool, List, None, Option, Some, [], ap, arith, eqb-true, false, refl, subst, sym, true, ℕ, ◌++◌, ◌+◌, ◌<◌, ◌∙◌, ◌≡◌}
 use Rattle.std.specs.Option.{option_map}
 use Rattle.std.specs.Prelude.{if◌then◌else◌, is_none, nat_lt, not, ◌&&◌, ◌==◌, ◌||◌}
 use Rattle.orc_core.proofs.Within.{and_both, may_parts}
 use Rattle.orc_core.specs.Allowed.{fits, may as may_make, may_change, may_place, may_target}
-use Rattle.orc_core.specs.Machine.{new_machine, record_at, word_read}
+use Rattle.orc_core.specs.Machine.{record_at, word_read}
 use Rattle.orc_core.specs.RecordParts.{any_holds, doom_uncut, is_empty, is_published, names, slot_of}
-use Rattle.orc_core.specs.declared.ops.Op.{Op}
 use Rattle.orc_core.specs.declared.ops.Op.TheVariants.{LinkCas, LinkLoad, LinkStore}
 use Rattle.orc_core.specs.declared.records.Agent.{Agent}
 use Rattle.orc_heap.proofs.Stays.{allowed-right}

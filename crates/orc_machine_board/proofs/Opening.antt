@@ -1,12 +1,11 @@
 -- The opening is lawful, and its events are those of the seed. A state is taken as functions of words and agents, so that steps on
 -- named words compute.
-use Rattle.std.proofs.Common.{Bool, List, None, Option, Some, [], ap, append-nil, append_assoc, arith, cond, eqb-true, eq-eqb, false, length, refl, subst, suc, sym, true, zero, ℕ, ◌++◌, ◌+◌, ◌<◌, ◌∙◌, ◌≡◌, ◌≢◌, ◌≤◌, ◌∷◌}
-use Rattle.std.proofs.lemmas.Bool.{ltb-true, lt-ltb}
+use Rattle.std.proofs.Common.{Bool, List, None, Some, [], ap, append-nil, append_assoc, arith, cond, eqb-true, eq-eqb, false, length, refl, subst, suc, sym, true, zero, ℕ, ◌++◌, ◌+◌, ◌<◌, ◌∙◌, ◌≡◌, ◌≤◌, ◌∷◌}
+use Rattle.std.proofs.lemmas.Bool.{lt-ltb}
 use Rattle.std.specs.Prelude.{nat_lt, ◌%◌, ◌==◌}
 use Rattle.orc_core.specs.Allowed.{may}
 use Rattle.orc_core.specs.Machine.{Machine, is_allowed, new_machine, nobody, record_at, step, word_in, word_read}
 use Rattle.orc_core.specs.Runs.{run}
-use Rattle.orc_core.specs.declared.ops.Op.{Op}
 use Rattle.orc_core.specs.declared.ops.Op.TheVariants.{Enroll}
 use Rattle.orc_core.specs.declared.records.Agent.{Agent}
 use Rattle.orc_heap.specs.declared.events.Event.{Event}
@@ -39,7 +38,7 @@ use Rattle.orc_words.specs.Bounds.{bounds_of}
 use Rattle.orc_words.specs.declared.shape.Shape.{Shape}
 use Rattle.orc_machine_board.specs.Rules.{bounds_in, counted_rules, heap_numbers}
 use Rattle.orc_machine_board.specs.declared.machine.MachineShape.{MachineShape}
-use Rattle.orc_heap.specs.Seeds.{DummyAllowed, HasRoots, SeedAllowed, opening_event, opening_events}
+use Rattle.orc_heap.specs.Seeds.{HasRoots, SeedAllowed, opening_event, opening_events}
 use Rattle.orc_sound.proofs.Shown.{word_shown}
 use Rattle.orc_projection.specs.Projection.{StoresUnmarked, act_of, events_of, ids_after, ids_from, project, project_from}
 use Rattle.orc_machine_board.specs.Laws.{bounds_run, run_more, run_next}

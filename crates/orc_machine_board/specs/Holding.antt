@@ -1,9 +1,9 @@
 -- The rows that an agent may name: those that it holds, and its fresh row.
-use Rattle.std.specs.Prelude.{None, Option, Some, true, ℕ, ◌<◌, ◌||◌, ◌≡◌}
+use Rattle.std.specs.Prelude.{None, Option, Some, true, ℕ, ◌||◌, ◌≡◌}
 use Rattle.orc_core.specs.RecordParts.{any_holds, names}
 use Rattle.orc_core.specs.declared.records.Agent.{Agent}
 use Rattle.orc_words.specs.declared.place.Word.{Word}
-use Rattle.orc_words.specs.declared.place.Word.TheVariants.{Next, Root}
+use Rattle.orc_words.specs.declared.place.Word.TheVariants.{Next}
 
 abbrev pub HasRow : Agent → ℕ → Type 0
 HasRow d r = (any_holds d.slots r || names d.fresh r) ≡ true

@@ -1,6 +1,6 @@
 -- A job that goes through a queue of two rows on a board of one agent, step by step. The steps are those of Michael and
 -- Scott's queue (1996), with the counts and slots of OrcGC (Correia, Ramalhete and Felber 2021).
-use Rattle.std.specs.Prelude.{List, None, Some, [], ℕ, ◌++◌, ◌∷◌, ◌≡◌}
+use Rattle.std.specs.Prelude.{List, None, Some, [], ◌++◌, ◌∷◌, ◌≡◌}
 use Rattle.orc_core.specs.declared.ops.CounterUse.TheVariants.{Check}
 use Rattle.orc_core.specs.declared.ops.Op.{Op}
 use Rattle.orc_core.specs.declared.ops.Op.TheVariants.{Arm, Clear, CounterLoad, Dec, Fill, GateLook, GateTake, Inc, LinkCas, LinkLoad, Publish, Read, TakeIn}
@@ -9,7 +9,7 @@ use Rattle.orc_fifo_rule.specs.declared.fifo.FifoNote.{FifoNote}
 use Rattle.orc_fifo_rule.specs.declared.fifo.FifoNote.TheVariants.{Begin, Entry, Swing}
 use Rattle.orc_heap.specs.declared.discipline.Discipline as discipline
 use Rattle.orc_heap.specs.declared.seed.Seed.TheVariants.{Dummy}
-use Rattle.orc_history.specs.declared.queue.QueueEntry.TheVariants.{Put, Took}
+use Rattle.orc_history.specs.declared.queue.QueueEntry.TheVariants.{Put}
 use Rattle.orc_machine_board.specs.Kinds.{asks}
 use Rattle.orc_machine_board.specs.Rules.{does, machine_opening, step_of, without_mark}
 use Rattle.orc_machine_board.specs.Views.{Belongs, board_bounds, shows}

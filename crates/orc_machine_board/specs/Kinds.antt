@@ -1,5 +1,5 @@
 -- Kinds whose event, if they have one, needs no licence of the discipline.
-use Rattle.std.specs.Prelude.{Bool, None, Option, Some, false, is_none, true, ℕ, ◌&&◌, ◌≡◌}
+use Rattle.std.specs.Prelude.{Bool, None, Option, false, true, ℕ, ◌≡◌}
 use Rattle.orc_core.specs.Allowed.{may}
 use Rattle.orc_core.specs.declared.ops.Op.{Op}
 use Rattle.orc_core.specs.declared.ops.Op.TheVariants.{Enroll, LinkCas, LinkStore}

@@ -1,6 +1,6 @@
 -- One more step does what the machine's tables say, and finds room in its agent's work list.
-use Rattle.std.proofs.Common.{Bool, List, None, Option, Some, [], ap, append-nil, false, get_or-set_other, get_or-set_same, length, refl, subst, sym, true, ℕ, ◌++◌, ◌<◌, ◌∙◌, ◌≡◌, ◌≢◌, ◌∷◌, ◌≤◌}
-use Rattle.std.specs.Prelude.{cond, slice_index, slice_index_or, slice_set, ◌==◌}
+use Rattle.std.proofs.Common.{List, None, Some, [], ap, append-nil, false, get_or-set_other, get_or-set_same, length, refl, subst, sym, true, ℕ, ◌++◌, ◌<◌, ◌∙◌, ◌≡◌, ◌≢◌, ◌∷◌, ◌≤◌}
+use Rattle.std.specs.Prelude.{slice_index, slice_set}
 use Rattle.std.proofs.lemmas.Bool.{false≢true}
 use Rattle.orc_core.proofs.Steps.{every_run_whole}
 use Rattle.orc_core.proofs.Within.{may_parts}
@@ -16,7 +16,7 @@ use Rattle.orc_core.specs.declared.ops.Op.TheVariants.{Arm, Clear, CounterLoad, 
 use Rattle.orc_core.specs.declared.records.Agent.{Agent}
 use Rattle.orc_projection.proofs.Mirrored.{StoresUnmarked-append, project-append}
 use Rattle.orc_projection.specs.PresentIds.{no_ids}
-use Rattle.orc_projection.specs.Projection.{StoresUnmarked, IsPlainOp, project}
+use Rattle.orc_projection.specs.Projection.{project}
 use Rattle.orc_machine_board.specs.Rules.{ListHasRoom, RequestAllowed, bounds_in, counted_rules, events_after, is_enroll, run_of, step_of}
 use Rattle.orc_machine_board.specs.declared.machine.Request.{Request}
 use Rattle.orc_machine_board.specs.declared.machine.MachineShape.{MachineShape}
@@ -24,7 +24,7 @@ use Rattle.orc_shared_words.specs.Runs.{Obeys, found_by}
 use Rattle.orc_sound.proofs.AllFits.{run_bounds}
 use Rattle.orc_sound.proofs.ForRuns.{room_left}
 use Rattle.orc_sound.proofs.Journals.{IsLawfulJournal-append, plain_lawful, run_plain-append}
-use Rattle.orc_sound.specs.Journals.{IsLawfulJournal, IsWanted, plain}
+use Rattle.orc_sound.specs.Journals.{plain}
 use Rattle.orc_sound.specs.declared.steps.Step.{Step}
 use Rattle.orc_words.specs.Bounds.{Bounds, IsShape, bounds_of}
 use Rattle.orc_words.specs.Places.{place}

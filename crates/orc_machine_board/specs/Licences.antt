@@ -1,8 +1,7 @@
 -- What the discipline must allow of a step that changes a link, or of a load with a note: the event, by the present ids of the
 -- rows that the agent has, in every later journal of the pass.
 use Rattle.std.specs.Option.{option_map}
-use Rattle.std.specs.Prelude.{List, None, Option, Some, true, ℕ, ◌≡◌}
-use Rattle.orc_core.specs.RecordParts.{names}
+use Rattle.std.specs.Prelude.{List, None, Option, Some, ℕ, ◌≡◌}
 use Rattle.orc_heap.specs.Allowed.{AllowedLater, AllowedWhereFits}
 use Rattle.orc_heap.specs.declared.events.Act.{Act}
 use Rattle.orc_heap.specs.declared.events.Act.TheVariants.{Aim, Look, Move}

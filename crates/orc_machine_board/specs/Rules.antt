@@ -1,9 +1,9 @@
 -- The journals of the machine of twenty kinds: how they begin, and what one more step does.
-use Rattle.std.specs.Prelude.{Bool, List, None, Option, Some, [], false, length, refl, replicate, suc, true, zero, ℕ, ◌++◌, ◌<◌, ◌∷◌, ◌≡◌, ◌≤◌}
+use Rattle.std.specs.Prelude.{Bool, List, None, Option, Some, [], false, length, suc, true, zero, ℕ, ◌++◌, ◌∷◌, ◌≡◌, ◌≤◌}
 use Rattle.orc_core.specs.Actions.{action_of}
 use Rattle.orc_core.specs.After.{after}
 use Rattle.orc_core.specs.Allowed.{may}
-use Rattle.orc_core.specs.Machine.{Machine, new_machine, nobody, record_at, step, word_read}
+use Rattle.orc_core.specs.Machine.{Machine, new_machine, nobody, record_at, word_read}
 use Rattle.orc_core.specs.Runs.{run}
 use Rattle.orc_core.specs.declared.ops.CounterUse.TheVariants.{Check}
 use Rattle.orc_core.specs.declared.ops.Op.{Op}
@@ -18,7 +18,7 @@ use Rattle.orc_machine_board.specs.declared.machine.MachineShape.{MachineShape}
 use Rattle.orc_heap.specs.declared.seed.Seed.{Seed}
 use Rattle.orc_heap.specs.declared.seed.Seed.TheVariants.{Dummy, Empty}
 use Rattle.orc_shared_words.specs.Operations.{returned_by}
-use Rattle.orc_shared_words.specs.Runs.{Obeys, Rules}
+use Rattle.orc_shared_words.specs.Runs.{Rules}
 use Rattle.orc_sound.specs.Journals.{IsLawfulJournal, IsWanted, plain}
 use Rattle.orc_sound.specs.declared.steps.Step.{Step}
 use Rattle.orc_words.specs.Bounds.{Bounds, bounds_of}

@@ -1,4 +1,4 @@
-use Rattle.std.proofs.Common.{List, [], ap, arith, subst, suc, sym, ℕ, ◌++◌, ◌+◌, ◌∙◌, ◌∷◌, ◌≡◌}
+use Rattle.std.proofs.Common.{[], ap, arith, suc, sym, ◌+◌, ◌∙◌, ◌≡◌}
 use Rattle.orc_core.specs.Machine.{Machine, step}
 use Rattle.orc_core.specs.declared.ops.Op.TheVariants.{Enroll}
 use Rattle.orc_machine_board.proofs.Opening.{enrolling_goes}

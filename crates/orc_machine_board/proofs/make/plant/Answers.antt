@@ -2,7 +2,6 @@ use Rattle.std.proofs.Common.{ap, subst, sym, ◌∙◌}
 use Rattle.orc_core.specs.Runs.{run}
 use Rattle.orc_machine_board.specs.Plays.{GoesOn}
 use Rattle.orc_machine_board.specs.Rules.{seeding}
-use Rattle.orc_heap.specs.declared.seed.Seed.{Seed}
 use Rattle.orc_sound.specs.Journals.{plain}
 use Rattle.orc_words.specs.Bounds.{Bounds}
 use Rattle.orc_machine_board.proofs.make.plant.Goals as goal

@@ -1,6 +1,6 @@
-use Rattle.std.proofs.Common.{List, drop, refl, subst, sym, ap, ◌+◌, ◌∙◌, ◌≡◌, ◌∷◌, ℕ, length, arith}
+use Rattle.std.proofs.Common.{List, drop, refl, subst, sym, ap, ◌+◌, ◌∙◌}
 use Rattle.std.specs.Prelude.{slice_index_or}
-use Rattle.orc_core.specs.Machine.{Machine, step}
+use Rattle.orc_core.specs.Machine.{Machine}
 use Rattle.orc_core.specs.Runs.{run}
 use Rattle.orc_core.specs.declared.ops.Op.{Op}
 use Rattle.orc_core.specs.declared.ops.Op.TheVariants.{Enroll}

@@ -1,5 +1,4 @@
-use Rattle.std.proofs.Common.{ap, arith, subst, sym, ◌∙◌, ◌≡◌, ◌≤◌}
-use Rattle.std.specs.Prelude.{is_some, cond, ◌||◌}
+use Rattle.std.proofs.Common.{ap, arith, sym, ◌∙◌, ◌≡◌}
 use Rattle.orc_core.specs.declared.records.Agent.{Agent}
 use Rattle.orc_machine_board.proofs.Making.{room_of}
 use Rattle.orc_machine_board.specs.Rules.{bounds_in, heap_numbers}
