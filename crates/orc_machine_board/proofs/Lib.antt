@@ -1,0 +1,11 @@
+pub mod AnyMoves
+pub mod Events
+pub mod Holds
+pub mod JobRun
+pub mod Known
+pub mod Learning
+pub mod Licences
+pub mod Making
+pub mod Opening
+pub mod Playing
+pub mod Recordable

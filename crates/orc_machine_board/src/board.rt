@@ -1,0 +1,25 @@
+//! The board and its passes.
+
+ghost use Rattle.std.specs.Prelude.{◌≡◌};
+ghost use Rattle.orc_words.specs.Bounds.{bounds_of};
+ghost use Rattle.orc_words.specs.Places.{places};
+
+use crate::machine::Reclaiming;
+use orc_heap::Discipline;
+use orc_shared_words::{Machine, SharedPass, SharedWords};
+
+/// Words that agents share, whose rows are counted, retired, scanned for and freed.
+#[derive(Drop)]
+pub struct MachineBoard<D: Discipline> {
+    pub(crate) words: SharedWords<Reclaiming, D>,
+    ghost sized: { words.table.shared.table_id.words ≡ places (bounds_of words.shape.shape) },
+}
+
+/// An agent's pass to a board, with its record.
+#[derive(Drop)]
+pub struct MachineBoardPass<D: Discipline>
+where
+    Reclaiming: Machine<D::Note>,
+{
+    pub(crate) pass: SharedPass<Reclaiming, D>,
+}

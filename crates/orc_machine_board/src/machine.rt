@@ -1,0 +1,70 @@
+//! The machine of twenty kinds over shared words.
+
+ghost use Rattle.std.specs.Prelude.{◌≡◌};
+
+use orc_core::{Agent, Op, action_of, advance};
+use orc_heap::Seed;
+use orc_shared_words::{Machine, PlacedOperation};
+use orc_sound::Step;
+use orc_words::{RowLink, Shape, place_of};
+
+/// The sizes of a board, and what it begins with.
+#[derive(Clone, Copy)]
+pub struct MachineShape<N> {
+    pub shape: Shape,
+    pub seed: Seed<N>,
+}
+
+/// An op, and the link that its caller wants a load to find.
+#[derive(Clone, Copy, Debug, PartialEq, Eq)]
+pub struct Request {
+    pub op: Op,
+    pub want: Option<RowLink>,
+}
+
+/// Rows that are counted, retired, scanned for and freed, over shared words. No value of it is made.
+pub struct Reclaiming;
+
+impl<N: Copy> Machine<N> for Reclaiming {
+    ghost use Rattle.orc_machine_board.specs.Rules.{ListHasRoom, counted_rules, heap_numbers};
+    ghost use Rattle.orc_machine_board.specs.Laws.{counted_leaves_room, counted_obeys};
+
+    type Shape = MachineShape<N>;
+
+    type Op = Request;
+
+    type Step = Step<N>;
+
+    type Record = Agent;
+
+    type Own = Agent;
+
+    ghost shows = { λ own. own };
+
+    ghost has_room = { λ k op own found. ListHasRoom op own found };
+
+    ghost numbers = { heap_numbers };
+
+    ghost rules = { counted_rules };
+
+    ghost obeys = { counted_obeys };
+
+    ghost leaves_room = { counted_leaves_room };
+
+    fn operation(
+        shape: &MachineShape<N>,
+        agent: u32,
+        op: &Request,
+        own: &Agent,
+    ) -> PlacedOperation {
+        let action = action_of(agent, &op.op, own);
+        PlacedOperation {
+            place: place_of(&shape.shape, action.word),
+            operation: action.operation,
+        }
+    }
+
+    fn keep(shape: &MachineShape<N>, agent: u32, op: &Request, own: &mut Agent, n: u64) {
+        advance(own, &op.op, n);
+    }
+}
