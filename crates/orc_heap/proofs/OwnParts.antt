@@ -11,7 +11,6 @@ use Rattle.orc_heap.specs.Allowed.{events_by}
 use Rattle.orc_heap.specs.Moves.{AllOwn, from_own, move_with, moves_in}
 use Rattle.orc_heap.specs.declared.events.Event.{Event}
 
-
 -- the list that ends where the agent's first event stands, and the list from there on
 pub record CutAtOwn {N : Type 0} (agent : ℕ) (es : List (Event N)) : Type 0 where
   pub before : List (Event N)
