@@ -3,10 +3,9 @@
 #![tactic(auto)]
 
 ghost use Rattle.std.specs.Prelude.{◌<◌};
-ghost use Rattle.orc_shared_words.specs.Ticks.{AnyFit, plain_fits};
 ghost use Rattle.orc_table.specs.Views.{Belongs, board_bounds};
 
-use orc_heap::{Discipline, Seed};
+use orc_heap::{AnyFit, Seed};
 use orc_table::{PlainBoard, PlainBoardPass};
 use orc_words::{Shape, Word};
 use std::io;
@@ -15,25 +14,6 @@ use std::time::Instant;
 
 // How many loads are timed.
 const LOADS: u32 = 50_000_000;
-
-// Whatever fits may follow.
-struct AnyFit;
-
-impl Discipline for AnyFit {
-    type Note = u32;
-
-    ghost holds = { λ _ _. Unit {0} };
-
-    ghost may = { AnyFit };
-
-    ghost keeps = { λ _ _ _ _ _. tt };
-
-    ghost fits = { λ _ _ _ _ may. may.0 };
-
-    ghost allows_plain = { λ n seen e _ fits plain. plain_fits n seen e fits plain };
-
-    ghost moves_linked = { λ _ _ _ _ may. may.1 };
-}
 
 // Sums what so many loads of root 0 find.
 fn load_links(board: &PlainBoard<AnyFit>, p: &mut PlainBoardPass<AnyFit>) -> u64

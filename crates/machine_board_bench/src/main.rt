@@ -5,11 +5,10 @@
 
 ghost use Rattle.std.specs.Prelude.{◌≡◌};
 ghost use Rattle.orc_machine_board.specs.Views.{Belongs, board_bounds};
-ghost use Rattle.orc_shared_words.specs.Ticks.{AnyFit, plain_fits};
 ghost use Rattle.orc_words.specs.Bounds.{bounds_of};
 
 use orc_core::{Op, may_step};
-use orc_heap::{Discipline, Seed};
+use orc_heap::{AnyFit, Seed};
 use orc_machine_board::{MachineBoard, MachineBoardPass};
 use orc_words::{Shape, Word};
 use std::io;
@@ -18,25 +17,6 @@ use std::time::Instant;
 
 /// How many loads are timed.
 const LOADS: u32 = 20_000_000;
-
-/// Whatever fits may follow.
-struct AnyFit;
-
-impl Discipline for AnyFit {
-    type Note = u32;
-
-    ghost holds = { λ _ _. Unit {0} };
-
-    ghost may = { AnyFit };
-
-    ghost keeps = { λ _ _ _ _ _. tt };
-
-    ghost fits = { λ _ _ _ _ may. may.0 };
-
-    ghost allows_plain = { λ n seen e _ fits plain. plain_fits n seen e fits plain };
-
-    ghost moves_linked = { λ _ _ _ _ may. may.1 };
-}
 
 type Board = MachineBoard<AnyFit>;
 

@@ -1,5 +1,6 @@
 -- Tests of rows and links.
 use Rattle.std.proofs.Common.{◌≡◌, ◌≢◌, ℕ, ◌&&◌, eqb, not, eq-eqb, Bool, true, false, cond, Option, Some, None, refl, sym, ap, ◌∙◌, subst}
+use Rattle.std.proofs.Math.Bool.{and-eq-true_iff}
 use Rattle.std.proofs.lemmas.Bool.{eqb-true}
 use Rattle.std.specs.Option.{option_eq}
 use mathlib.Core.Bool.{beq}
@@ -27,10 +28,6 @@ mark_same : (a : Bool) → beq a a ≡ true
 mark_same true = refl
 mark_same false = refl
 
-both_true : (a b : Bool) → (a && b) ≡ true → (a ≡ true) × (b ≡ true)
-both_true true true e = (refl, refl)
-both_true true false e = cc
-both_true false b e = cc
 
 abbrev pub tested : RowLink → RowLink → Bool
 tested l k = option_eq eqb l.to k.to && beq l.mark k.mark
@@ -45,7 +42,7 @@ pub links_agree : (l k : RowLink) (n : Bool) → n ≡ not (tested l k) → n �
 links_agree l k n is no_change = went (tested l k) refl
   where
     went : (b : Bool) → tested l k ≡ b → l ≡ k
-    went true e = let r = both_true _ _ e in λ i. record { to = same_to l.to k.to r.0 i; mark = same_mark l.mark k.mark r.1 i }
+    went true e = let r = (and-eq-true_iff _ _).0 e in λ i. record { to = same_to l.to k.to r.0 i; mark = same_mark l.mark k.mark r.1 i }
     went false e = let f : false ≡ not false = sym no_change ∙ (is ∙ ap not e) in cc
 
 -- the fresh row, where it is this one and where it isn't

@@ -1,5 +1,6 @@
 -- A node is linked by its Put, by one Swing and by one Took; node 0 by the two Begins.
 use Rattle.std.proofs.Common.{Bool, List, None, Some, [], ap, arith, cond, false, filter, inl, inr, length, length-append, refl, subst, suc, sym, true, zero, ℕ, ◌++◌, ◌+◌, ◌-◌, ◌<◌, ◌∙◌, ◌∷◌, ◌≡◌, ◌≢◌, ◌≤◌, ◌⊎◌}
+use Rattle.std.proofs.Math.Bool.{and-eq-true_iff}
 use Rattle.std.proofs.lemmas.Bool.{eq-eqb, ne_eqb}
 use Rattle.std.proofs.lemmas.List.Elements.{filter-append}
 use Rattle.std.proofs.lemmas.List.Folds.{list_any-append}
@@ -19,7 +20,7 @@ use Rattle.orc_fifo_rule.specs.declared.fifo.FifoNote.{FifoNote}
 use Rattle.orc_fifo_rule.specs.declared.fifo.FifoNote.TheVariants.{Begin, Entry, Swing}
 use Rattle.orc_heap.specs.Calls.{links_made}
 use Rattle.orc_fifo_rule.specs.QueueDiscipline.{FifoHolds, FifoMay, IsRunning, has_begun, is_begin_of, position_of, root_has_begun}
-use Rattle.orc_fifo_rule.specs.Kept.Events.{and_both, not_begun_before, root_begun_more}
+use Rattle.orc_fifo_rule.specs.Kept.Events.{not_begun_before, root_begun_more}
 use Rattle.orc_fifo_rule.specs.Kept.Kinds.{each_kind}
 use Rattle.orc_fifo_rule.specs.Kept.Laws.{fifo_keeps, late, opening_next}
 use Rattle.orc_fifo_rule.specs.Kept.Nodes.{job_position, linked_next, position_next}
@@ -313,7 +314,7 @@ counts_begin n es (suc id) holds begun o = inl (o.others id)
 begin_counted : (n : HeapNumbers) (es : List (Event FifoNote)) (e : Event FifoNote) → FifoHolds n es → has_begun es ≡ false → OpeningLinks es → FifoMay n es e → has_begun (es ++ e ∷ []) ≡ true → Counted n (es ++ e ∷ [])
 begin_counted n es e holds early o may now =
     let after = fifo_keeps n es e holds may in
-    let (zero_begun, one_begun) = and_both (root_has_begun 0 (es ++ e ∷ [])) (root_has_begun 1 (es ++ e ∷ [])) now in
+    let (zero_begun, one_begun) = (and-eq-true_iff (root_has_begun 0 (es ++ e ∷ [])) (root_has_begun 1 (es ++ e ∷ []))).0 now in
     let begins = (opening_next n es e holds may early).begins in
     record {
       dummy = 0;

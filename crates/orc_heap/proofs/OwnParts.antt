@@ -1,5 +1,6 @@
 -- A list of events from an agent's first one on, and lists of its events alone.
 use Rattle.std.proofs.Common.{Bool, List, [], ap, arith, cond, false, length, refl, subst, sym, true, ℕ, ◌++◌, ◌+◌, ◌==◌, ◌∙◌, ◌∷◌, ◌≡◌, ◌≤◌}
+use Rattle.std.proofs.Math.Bool.{and-eq-true_iff}
 use Rattle.std.proofs.lemmas.Bool.{eq-eqb}
 use Rattle.std.proofs.lemmas.List.Elements.{filter-append}
 use Rattle.std.proofs.lemmas.List.Folds.{list_all-append}
@@ -9,10 +10,6 @@ use Rattle.orc_heap.proofs.Moved.{moves_in-append}
 use Rattle.orc_heap.specs.Allowed.{events_by}
 use Rattle.orc_heap.specs.Moves.{AllOwn, from_own, move_with, moves_in}
 use Rattle.orc_heap.specs.declared.events.Event.{Event}
-
-pub both : (a b : Bool) → (a && b) ≡ true → (a ≡ true) × (b ≡ true)
-both true b e = (refl, e)
-both false b e = cc
 
 -- the list that ends where the agent's first event stands, and the list from there on
 pub record CutAtOwn {N : Type 0} (agent : ℕ) (es : List (Event N)) : Type 0 where
@@ -87,10 +84,10 @@ moves_after_own {N} agent (x ∷ es) e fs own = cases (x.agent == agent) (moves_
 
 -- a list of the agent's events alone
 pub own_left : {N : Type 0} (agent : ℕ) (es fs : List (Event N)) → AllOwn agent (es ++ fs) → AllOwn agent es
-own_left agent es fs all = (both _ _ (sym (list_all-append (λ e. e.agent == agent) es fs) ∙ all)).0
+own_left agent es fs all = ((and-eq-true_iff _ _).0 (sym (list_all-append (λ e. e.agent == agent) es fs) ∙ all)).0
 
 pub own_right : {N : Type 0} (agent : ℕ) (es fs : List (Event N)) → AllOwn agent (es ++ fs) → AllOwn agent fs
-own_right agent es fs all = (both _ _ (sym (list_all-append (λ e. e.agent == agent) es fs) ∙ all)).1
+own_right agent es fs all = ((and-eq-true_iff _ _).0 (sym (list_all-append (λ e. e.agent == agent) es fs) ∙ all)).1
 
 pub own_join : {N : Type 0} (agent : ℕ) (es fs : List (Event N)) → AllOwn agent es → AllOwn agent fs → AllOwn agent (es ++ fs)
 own_join agent es fs a b = list_all-append (λ e. e.agent == agent) es fs ∙ rw (a, b) refl
@@ -98,7 +95,7 @@ own_join agent es fs a b = list_all-append (λ e. e.agent == agent) es fs ∙ rw
 pub own_is_all : {N : Type 0} (agent : ℕ) (es : List (Event N)) → AllOwn agent es → events_by agent es ≡ es
 own_is_all agent [] all = refl
 own_is_all {N} agent (e ∷ es) all =
-    let k = both (e.agent == agent) (list_all (λ x. x.agent == agent) es) all in
+    let k = (and-eq-true_iff (e.agent == agent) (list_all (λ x. x.agent == agent) es)).0 all in
     rw k.0 (ap (λ z. e ∷ z) (own_is_all agent es k.1))
 
 pub own_from : {N : Type 0} (agent : ℕ) (es : List (Event N)) → AllOwn agent es → AllOwn agent (from_own agent es)

@@ -1,5 +1,6 @@
 -- The steps of a journal and their events: where a call's part begins, and whose events stand in it.
 use Rattle.std.proofs.Common.{Bool, List, [], ap, append-nil, append_assoc, arith, cond, drop, false, length, refl, subst, suc, sym, take, true, ℕ, ◌++◌, ◌+◌, ◌==◌, ◌∙◌, ◌∷◌, ◌≡◌, ◌≤◌}
+use Rattle.std.proofs.Math.Bool.{and-eq-true_iff}
 use Rattle.std.proofs.lemmas.Bool.{eqb-true}
 use Rattle.std.proofs.lemmas.List.{append_cancel_left, length-append}
 use Rattle.std.proofs.lemmas.List.Elements.{filter-append}
@@ -7,7 +8,7 @@ use Rattle.std.proofs.lemmas.List.Folds.{list_all-append}
 use Rattle.std.proofs.Math.Seq.{drop-append_seam, take-append_seam}
 use Rattle.std.specs.List.{list_all}
 use mathlib.Core.List.{IsPrefix}
-use Rattle.orc_heap.proofs.OwnParts.{both, own_join}
+use Rattle.orc_heap.proofs.OwnParts.{own_join}
 use Rattle.orc_heap.specs.Allowed.{events_by}
 use Rattle.orc_heap.specs.Moves.{AllOwn}
 use Rattle.orc_history.specs.Journals.{Within, own_of}
@@ -97,12 +98,12 @@ alone_rest {S} agent_of agent (s ∷ ss) more all = cases (agent_of s == agent) 
 
     suffix : (xs : List S) → list_all test xs ≡ true → list_all test (from_first agent_of agent xs) ≡ true
     suffix [] h = h
-    suffix (x ∷ xs) h = rw (both (test x) (list_all test xs) h).0 h
+    suffix (x ∷ xs) h = rw ((and-eq-true_iff (test x) (list_all test xs)).0 h).0 h
 
     cases : (b : Bool) → list_all test (cond b (s ∷ (ss ++ more)) (from_first agent_of agent (ss ++ more))) ≡ true
         → (list_all test (from_first agent_of agent (ss ++ more)) ≡ true → list_all test (from_first agent_of agent more) ≡ true)
         → list_all test (from_first agent_of agent more) ≡ true
-    cases true h rest = suffix more ((both (list_all test (s ∷ ss)) (list_all test more) (sym (list_all-append test (s ∷ ss) more) ∙ h)).1)
+    cases true h rest = suffix more (((and-eq-true_iff (list_all test (s ∷ ss)) (list_all test more)).0 (sym (list_all-append test (s ∷ ss) more) ∙ h)).1)
     cases false h rest = rest h
 
 -- a call that was alone was so in each later piece of it
@@ -131,7 +132,7 @@ module _ {N S : Type 0} (agent_of : S → ℕ) (events : List S → List (Event 
     one_other : (agent : ℕ) (s : S) (es : List (Event N)) → list_all (λ e. e.agent == agent_of s) es ≡ true → (agent_of s == agent) ≡ false → events_by agent es ≡ []
     one_other agent s [] whose other = refl
     one_other agent s (e ∷ es) whose other =
-        let k = both (e.agent == agent_of s) (list_all (λ (x : Event N). x.agent == agent_of s) es) whose in
+        let k = (and-eq-true_iff (e.agent == agent_of s) (list_all (λ (x : Event N). x.agent == agent_of s) es)).0 whose in
         let here : (e.agent == agent) ≡ false = ap (λ a. a == agent) (eqb-true e.agent (agent_of s) k.0) ∙ other in
         rw here (one_other agent s es k.1 other)
 
@@ -152,7 +153,7 @@ module _ {N S : Type 0} (agent_of : S → ℕ) (events : List S → List (Event 
           is = ap events (sym (append_assoc j (s ∷ []) ss)) ∙ (k.is ∙ (ap (λ z. z ++ k.new) one ∙ append_assoc (events j) es k.new));
           none = λ h. cases_none (agent_of s == agent) refl es whose k h;
           own = λ h.
-              let b = both (agent_of s == agent) (list_all (λ (x : S). agent_of x == agent) ss) h in
+              let b = (and-eq-true_iff (agent_of s == agent) (list_all (λ (x : S). agent_of x == agent) ss)).0 h in
               own_join agent es k.new (one_own agent s es whose b.0) (k.own b.1);
         }
       where

@@ -10,3 +10,4 @@ pub mod Calls
 pub mod Moves
 pub mod Domains
 pub mod Seeds
+pub mod AnyFit

@@ -1,6 +1,7 @@
 //! The heap in which no node is ever reused, its events, and what containers and domains promise each other.
 #![tactic(auto)]
 
+mod any_fit;
 mod discipline;
 mod events;
 mod holds;
@@ -8,6 +9,7 @@ mod laws;
 mod links;
 mod seed;
 
+pub use any_fit::AnyFit;
 pub use discipline::{Discipline, Ranked};
 pub use events::{Act, Event, Link, Place};
 pub use holds::{At, Held, Looked, Seen, Want};

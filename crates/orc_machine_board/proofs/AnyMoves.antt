@@ -21,7 +21,7 @@ use Rattle.orc_machine_board.specs.Views.{Keeps, view_of}
 use Rattle.orc_machine_board.specs.declared.machine.MachineShape.{MachineShape}
 use Rattle.orc_projection.specs.PresentIds.{node_link}
 use Rattle.orc_projection.specs.Projection.{present_ids, project}
-use Rattle.orc_shared_words.specs.Ticks.{AnyFit}
+use Rattle.orc_heap.specs.AnyFit.{AnyFit}
 use Rattle.orc_shared_words.specs.declared.journal.View.{View}
 use Rattle.orc_sound.specs.declared.steps.Step.{Step}
 use Rattle.orc_words.specs.declared.packed.RowLink.{RowLink}

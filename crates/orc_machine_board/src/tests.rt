@@ -3,36 +3,16 @@
 ghost use Rattle.std.specs.Prelude.{◌≡◌, All, IfSome, [], true};
 ghost use Rattle.orc_machine_board.specs.Kinds.{MakesPlain, MayDo};
 ghost use Rattle.orc_machine_board.specs.Views.{Belongs, board_bounds, shows};
-ghost use Rattle.orc_shared_words.specs.Ticks.{AnyFit, plain_fits};
 
 use super::*;
 use orc_core::{CounterUse, Op, may_step};
-use orc_heap::{Discipline, Seed};
+use orc_heap::{AnyFit, Discipline, Seed};
 use orc_words::{RowLink, Shape, Word};
 use std::test::Fail;
 use std::thread::{Threads, join_mut};
 
 mod job;
 mod traces;
-
-/// Whatever fits may follow.
-struct AnyFit;
-
-impl Discipline for AnyFit {
-    type Note = u32;
-
-    ghost holds = { λ _ _. Unit {0} };
-
-    ghost may = { AnyFit };
-
-    ghost keeps = { λ _ _ _ _ _. tt };
-
-    ghost fits = { λ _ _ _ _ may. may.0 };
-
-    ghost allows_plain = { λ n seen e _ fits plain. plain_fits n seen e fits plain };
-
-    ghost moves_linked = { λ _ _ _ _ may. may.1 };
-}
 
 type Board = MachineBoard<AnyFit>;
 

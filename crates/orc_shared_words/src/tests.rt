@@ -4,7 +4,7 @@ ghost use Rattle.std.specs.Prelude.{◌≡◌, IfOk};
 
 use super::*;
 use orc_fault::NoMemory;
-use orc_heap::Discipline;
+use orc_heap::{AnyFit, Discipline};
 use std::alloc::Global;
 use std::test::Fail;
 use std::thread::{Threads, join_mut};
@@ -12,7 +12,7 @@ use std::thread::{Threads, join_mut};
 mod examples;
 mod ticks;
 
-use ticks::{AnyFit, Ticks};
+use ticks::Ticks;
 
 type Words = SharedWords<Ticks, AnyFit>;
 

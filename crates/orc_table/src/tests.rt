@@ -1,38 +1,18 @@
 //! Boards under a discipline that allows all that fits, and worked examples of the definitions.
 
 ghost use Rattle.std.specs.Prelude.{◌≡◌, ◌<◌, ◌≤◌, All, IfOk, IfSome, MatchBool, None, Some, false};
-ghost use Rattle.orc_shared_words.specs.Ticks.{AnyFit, plain_fits};
 ghost use Rattle.orc_words.specs.Bounds.{bounds_of};
 ghost use Rattle.orc_table.specs.Views.{Belongs, board_bounds, shows};
 
 use super::*;
 use orc_fault::NoMemory;
-use orc_heap::{Discipline, Seed};
+use orc_heap::{AnyFit, Discipline, Seed};
 use orc_words::{RowLink, Shape, Word};
 use std::alloc::Global;
 use std::test::Fail;
 use std::thread::{Threads, join_mut};
 
 mod examples;
-
-/// Whatever fits may follow.
-struct AnyFit;
-
-impl Discipline for AnyFit {
-    type Note = u32;
-
-    ghost holds = { λ _ _. Unit {0} };
-
-    ghost may = { AnyFit };
-
-    ghost keeps = { λ _ _ _ _ _. tt };
-
-    ghost fits = { λ _ _ _ _ may. may.0 };
-
-    ghost allows_plain = { λ n seen e _ fits plain. plain_fits n seen e fits plain };
-
-    ghost moves_linked = { λ _ _ _ _ may. may.1 };
-}
 
 type Board = PlainBoard<AnyFit>;
 

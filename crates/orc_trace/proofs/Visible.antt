@@ -1,5 +1,6 @@
 -- Bytes above a space: those of every word.
 use Rattle.std.proofs.Common.{◌≡◌, ◌∙◌, ℕ, suc, ◌^◌, ◌<◌, ◌≤◌, ◌==◌, Bool, true, false, ◌&&◌, List, [], ◌∷◌, ◌++◌, refl, arith, length, get_or, ltb}
+use Rattle.std.proofs.Math.Bool.{and-eq-true_iff}
 use Rattle.std.specs.Fmt.{decimal}
 use Rattle.std.specs.List.{join_with_byte, list_all}
 use Rattle.std.specs.Str.Parse.{digits_value, AllDigits}
@@ -42,9 +43,6 @@ visible-decimal n small = visible_by_index (decimal n) (λ i lt. let range = dig
 pub visible-append : (a b : List ℕ) → IsVisible a → IsVisible b → IsVisible (a ++ b)
 visible-append a b h k = list_all-append (λ c. ltb 32 c) a b ∙ both (is_visible a) (is_visible b) h k
 
-first_of : (a b : Bool) → (a && b) ≡ true → (a ≡ true) × (b ≡ true)
-first_of true b h = (refl, h)
-first_of false b h = cc h
 
 apart : (x byte : ℕ) → byte ≤ 32 → ltb 32 x ≡ true → (x == byte) ≡ false
 apart x byte low h = grind (arith, nat_tests)
@@ -52,7 +50,7 @@ apart x byte low h = grind (arith, nat_tests)
 pub Lacks-visible : (byte : ℕ) (text : List ℕ) → byte ≤ 32 → IsVisible text → Lacks byte text
 Lacks-visible byte [] low h = All-nil (λ b. (b == byte) ≡ false)
 Lacks-visible byte (x ∷ xs) low h =
-    let parts = first_of (ltb 32 x) (is_visible xs) h in
+    let parts = (and-eq-true_iff (ltb 32 x) (is_visible xs)).0 h in
     All-cons (λ b. (b == byte) ≡ false) x xs (apart x byte low parts.0) (Lacks-visible byte xs low parts.1)
 
 pub AreWords-visible : (words : List (List ℕ)) → AreVisible words → AreWords words

@@ -1,5 +1,6 @@
 -- One event more: entries, Puts and Begins of a list of events.
 use Rattle.std.proofs.Common.{Bool, Contains, List, Some, [], ap, append-nil, arith, false, inl, inr, refl, suc, sym, true, zero, ℕ, ◌++◌, ◌+◌, ◌∙◌, ◌∷◌, ◌≡◌, ◌⊎◌}
+use Rattle.std.proofs.Math.Bool.{and-eq-true_iff}
 use Rattle.std.proofs.lemmas.List.Elements.{Contains-append_cases, Contains-append_right}
 use Rattle.std.proofs.lemmas.List.Folds.{list_any-append}
 use Rattle.std.specs.Prelude.{◌&&◌, ◌||◌}
@@ -64,9 +65,6 @@ pub or_either : (a b : Bool) → a || b ≡ true → (a ≡ true) ⊎ (b ≡ tru
 or_either true b e = inl refl
 or_either false b e = inr e
 
-pub and_both : (a b : Bool) → a && b ≡ true → (a ≡ true) × (b ≡ true)
-and_both true b e = (refl, e)
-and_both false b e = cc
 
 pub and_join : (a b : Bool) → a ≡ true → b ≡ true → a && b ≡ true
 and_join a b e f = rw (e, f) refl
@@ -77,7 +75,7 @@ root_begun_more root es more b = list_any-append (λ (e : Event FifoNote). is_be
 
 pub begun_more : (es more : List (Event FifoNote)) → has_begun es ≡ true → has_begun (es ++ more) ≡ true
 begun_more es more b =
-    let (zero_begun, one_begun) = and_both _ _ b in
+    let (zero_begun, one_begun) = (and-eq-true_iff _ _).0 b in
     and_join _ _ (root_begun_more 0 es more zero_begun) (root_begun_more 1 es more one_begun)
 
 -- and before the last event it had, or this event is its Begin

@@ -1,5 +1,6 @@
 -- What the discipline owes to the traits of disciplines.
 use Rattle.std.proofs.Common.{Bool, List, None, Option, Some, [], ap, arith, false, inl, inr, refl, subst, sym, true, ℕ, ◌++◌, ◌∙◌, ◌∷◌, ◌≡◌}
+use Rattle.std.proofs.Math.Bool.{and-eq-true_iff}
 use Rattle.orc_heap.proofs.Runs.{lawful-snoc, run_heap-snoc}
 use Rattle.orc_heap.specs.Acts.{as_linked, heap_after, set_link}
 use Rattle.orc_heap.specs.Allowed.{IsLinkedNode, MovesLinked, Rises}
@@ -16,7 +17,7 @@ use Rattle.orc_fifo_rule.specs.declared.fifo.FifoNote.TheVariants.{Begin}
 use Rattle.orc_fifo_rule.specs.QueueDiscipline.{BeginsIfMoves, FifoHolds, FifoMay, IsInTime, IsOpening, IsRunning, LeadsOn, MayAct, MayEnter, entries_of, fifo_rank, has_begun, is_begin_of, position_of}
 use Rattle.orc_fifo_rule.specs.Kept.Kinds.{each_kind}
 use Rattle.orc_fifo_rule.specs.Kept.Nodes.{job_linked, job_position}
-use Rattle.orc_fifo_rule.specs.Kept.Events.{and_both, entries_same, every_more, not_begun_before, root_begun_before}
+use Rattle.orc_fifo_rule.specs.Kept.Events.{entries_same, every_more, not_begun_before, root_begun_before}
 use Rattle.orc_fifo_rule.specs.Kept.Opening.{begun_root, no_puts}
 use Rattle.orc_fifo_rule.specs.Kept.Paths.{tail_linked}
 use Rattle.orc_fifo_rule.specs.Kept.Leaves.{frozen_next, legal_next, links_next, puts_next, target_at}
@@ -120,7 +121,7 @@ begun_zero n es e holds may early now =
     each_kind h
     (λ act noted. IsInTime (has_begun es) noted → has_begun (es ++ event_by e.agent act noted ∷ []) ≡ true → IsLinkedNode (run_heap n (es ++ event_by e.agent act noted ∷ [])) 0)
     (λ act plain time is.
-    let (zero_begun, one_begun) = and_both _ _ is in
+    let (zero_begun, one_begun) = (and-eq-true_iff _ _).0 is in
     let x : Event FifoNote = event_by e.agent act None in
     elim (root_begun_before 0 es x zero_begun) [
       | inl a ↦ elim (root_begun_before 1 es x one_begun) [
@@ -146,7 +147,7 @@ first_running : (n : HeapNumbers) (es : List (Event FifoNote)) (e : Event FifoNo
 first_running n es e holds may early now =
     let o = opening_next n es e holds may early in
     let lawful = lawful-snoc n es e holds.lawful may.fits in
-    let (zero_begun, one_begun) = and_both _ _ now in
+    let (zero_begun, one_begun) = (and-eq-true_iff _ _).0 now in
     let l = begun_zero n es e holds may early now in
     let k : Heap = run_heap n (es ++ e ∷ []) in
     record {

@@ -3,11 +3,10 @@
 ghost use Rattle.orc_heap.specs.Heap.{HeapNumbers};
 ghost use Rattle.orc_shared_words.specs.Operations.{returned_by};
 ghost use Rattle.orc_words.specs.Operations.{word_after};
-ghost use Rattle.orc_shared_words.specs.Ticks.{AnyFit, plain_fits, tick_rules, ticks_obey};
+ghost use Rattle.orc_shared_words.specs.Ticks.{tick_rules, ticks_obey};
 ghost use Rattle.std.specs.Prelude.{◌≡◌, ℕ};
 
 use crate::{JournalStep, Machine, PlacedOperation};
-use orc_heap::Discipline;
 use orc_words::Operation;
 
 /// An agent counts up (`true`) or looks (`false`), and keeps what it found last. Its shape is the number of agents.
@@ -51,23 +50,4 @@ impl<N> Machine<N> for Ticks {
     fn keep(_shape: &u32, _agent: u32, _op: &bool, own: &mut u64, n: u64) {
         *own = n;
     }
-}
-
-/// Whatever fits may follow.
-pub struct AnyFit;
-
-impl Discipline for AnyFit {
-    type Note = u32;
-
-    ghost holds = { λ _ _. Unit {0} };
-
-    ghost may = { AnyFit };
-
-    ghost keeps = { λ _ _ _ _ _. tt };
-
-    ghost fits = { λ _ _ _ _ may. may.0 };
-
-    ghost allows_plain = { λ n seen e _ fits plain. plain_fits n seen e fits plain };
-
-    ghost moves_linked = { λ _ _ _ _ may. may.1 };
 }

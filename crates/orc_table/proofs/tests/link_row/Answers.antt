@@ -2,7 +2,7 @@ use Rattle.std.proofs.Common.{◌++◌, inl, subst, sym}
 use Rattle.orc_heap.specs.Acts.{IsKnown, IsTarget}
 use Rattle.orc_heap.specs.Journals.{run_heap}
 use Rattle.orc_heap.proofs.Known.{known-later}
-use Rattle.orc_shared_words.specs.Ticks.{AnyFit}
+use Rattle.orc_heap.specs.AnyFit.{AnyFit}
 use Rattle.orc_words.specs.declared.packed.RowLink.{RowLink}
 use Rattle.orc_table.specs.Machine.{id_by, index_of}
 use Rattle.orc_table.specs.Views.{board_numbers, shows}
