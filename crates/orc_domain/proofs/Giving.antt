@@ -13,7 +13,6 @@ use Rattle.orc_heap.specs.Slots.{Hold, Slots}
 use Rattle.orc_heap.specs.declared.discipline.Discipline as discipline
 use Rattle.orc_heap.specs.declared.events.Act.TheVariants.{Fill, Give}
 use Rattle.orc_heap.specs.declared.events.Event.{Event}
-use Rattle.orc_shared_words.specs.Lists.{Begins}
 use Rattle.orc_shared_words.specs.declared.machine.Machine as machine
 use Rattle.orc_table.specs.Machine.{id_by, index_of}
 use Rattle.orc_table.specs.Views.{shows}
@@ -67,10 +66,10 @@ module _ {D N : Type 0} {d : discipline.Ghosts D N} {m : machine.Ghosts Plain N 
         no_row (Some row) e = cc
 
     -- the slots are the same as more rows are given
-    slots_kept : (q r : PlainPass D N (PlainShape N) PlainOp (PlainStep N) (Unit {0}) (Unit {0}) d m) → IsPassOf domain q → IsSame q r → Begins (shows domain.board r.pass).rows (shows domain.board q.pass).rows → (seat_of domain r).slots ≡ (seat_of domain q).slots
+    slots_kept : (q r : PlainPass D N (PlainShape N) PlainOp (PlainStep N) (Unit {0}) (Unit {0}) d m) → IsPassOf domain q → IsSame q r → IsPrefix (shows domain.board q.pass).rows (shows domain.board r.pass).rows → (seat_of domain r).slots ≡ (seat_of domain q).slots
     slots_kept q r x same rows =
         ap (slots_by (shows domain.board r.pass).rows) same.slots
-        ∙ (ap (λ z. slots_by z q.slots) rows.1 ∙ slots_grow (shows domain.board q.pass).rows rows.0 q.slots (held_given domain q x))
+        ∙ (ap (λ z. slots_by z q.slots) (sym rows.1) ∙ slots_grow (shows domain.board q.pass).rows rows.0 q.slots (held_given domain q x))
 
     module _ (p q r : PlainPass D N (PlainShape N) PlainOp (PlainStep N) (Unit {0}) (Unit {0}) d m) (rows begin offset : ℕ) (t : Tried p q rows begin offset) (x : IsPassOf domain r) (same : IsSame q r) where
       pub tried_one : Loses ((begin + offset) % rows) q.slots (shows domain.board q.pass) (shows domain.board r.pass) → Tried p r rows begin (offset + 1)
@@ -92,7 +91,7 @@ module _ {D N : Type 0} {d : discipline.Ghosts D N} {m : machine.Ghosts Plain N 
 
           out : (k : ℕ) → k < offset + 1 → Loses ((begin + offset) % rows) q.slots (shows domain.board q.pass) (shows domain.board r.pass) → IsOut (shows domain.board r.pass).rows ((begin + k) % rows)
           out k m l = dite (dec_lt k offset)
-              (λ lt. subst (λ z. IsOut z ((begin + k) % rows)) (sym l.rows.1) (out_stays (shows domain.board q.pass).rows l.rows.0 ((begin + k) % rows) (t.out k lt)))
+              (λ lt. subst (λ z. IsOut z ((begin + k) % rows)) l.rows.1 (out_stays (shows domain.board q.pass).rows l.rows.0 ((begin + k) % rows) (t.out k lt)))
               (λ ge. let e : k ≡ offset = omega (arith, m, ge) in subst (λ z. IsOut (shows domain.board r.pass).rows ((begin + z) % rows)) (sym e) l.out)
 
       module _ (row : ℕ) (k : Takes (domain_bounds domain) row q.slots (shows domain.board q.pass) (shows domain.board r.pass))

@@ -10,8 +10,9 @@ use Rattle.orc_heap.specs.declared.discipline.Discipline as discipline
 use Rattle.orc_heap.specs.declared.events.Act.{Act}
 use Rattle.orc_heap.specs.declared.events.Event.{Event}
 use Rattle.orc_heap.proofs.Known.{known-later}
+use Rattle.orc_heap.proofs.Pieces.{goes_on}
 use Rattle.orc_heap.proofs.Stays.{allowed-join}
-use Rattle.orc_shared_words.specs.Lists.{Begins}
+use mathlib.Core.List.{IsPrefix}
 use Rattle.orc_shared_words.specs.declared.machine.Machine as machine
 use Rattle.orc_table.proofs.Known.{fresh_row, ties}
 use Rattle.orc_table.proofs.Lists.{index_grown}
@@ -39,15 +40,15 @@ module _ {N : Type 0} where
   -- a pass that shows more
   pub record Grows (b : Bounds) (s t : PlainView N) : Type 0 where
     pub agent : t.agent ≡ s.agent
-    pub events : Begins t.events s.events
-    pub rows : Begins t.rows s.rows
+    pub events : IsPrefix s.events t.events
+    pub rows : IsPrefix s.rows t.rows
     pub known : (id : ℕ) → IsKnown s.agent (heap_of b s) id → IsKnown s.agent (heap_of b t) id
 
   pub adds_grow : (b : Bounds) (may : List (Event N) → Event N → Type 0) (own : List (Event N)) (s t : PlainView N) → Adds may own s t → Grows b s t
   adds_grow b may own s t a =
       let is : t.events ≡ s.events ++ (a.met ++ own) = a.events ∙ append_assoc s.events a.met own in record {
         agent = a.agent;
-        events = (a.met ++ own, is);
+        events = (a.met ++ own, sym is);
         rows = a.rows;
         known = λ id k. subst (λ es. IsKnown s.agent (run_heap (numbers b) es) id) (sym is)
             (known-later (numbers b) may s.agent id s.events (a.met ++ own) (allowed-join may s.events a.met own a.later.allowed a.allowed) k);
@@ -56,19 +57,19 @@ module _ {N : Type 0} where
   pub grow_trans : (b : Bounds) (s t u : PlainView N) → Grows b s t → Grows b t u → Grows b s u
   grow_trans b s t u g k = record {
     agent = k.agent ∙ g.agent;
-    events = (g.events.0 ++ k.events.0, k.events.1 ∙ (ap (λ z. z ++ k.events.0) g.events.1 ∙ append_assoc s.events g.events.0 k.events.0));
-    rows = (g.rows.0 ++ k.rows.0, k.rows.1 ∙ (ap (λ z. z ++ k.rows.0) g.rows.1 ∙ append_assoc s.rows g.rows.0 k.rows.0));
+    events = goes_on s.events t.events u.events g.events k.events;
+    rows = goes_on s.rows t.rows u.rows g.rows k.rows;
     known = λ id x. subst (λ a. IsKnown a (heap_of b u) id) g.agent (k.known id (subst (λ a. IsKnown a (heap_of b t) id) (sym g.agent) (g.known id x)));
   }
 
   pub slots_stay : (b : Bounds) (s t : PlainView N) (slots : List (Option ℕ)) → Grows b s t → AllGiven s.rows slots → slots_by t.rows slots ≡ slots_by s.rows slots
-  slots_stay b s t slots g l = ap (λ rows. slots_by rows slots) g.rows.1 ∙ slots_grow s.rows g.rows.0 slots l
+  slots_stay b s t slots g l = ap (λ rows. slots_by rows slots) (sym g.rows.1) ∙ slots_grow s.rows g.rows.0 slots l
 
   pub index_stays : (b : Bounds) (s t : PlainView N) (row : ℕ) → Grows b s t → index_of row s.rows < length s.rows → index_of row t.rows ≡ index_of row s.rows
-  index_stays b s t row g l = ap (index_of row) g.rows.1 ∙ index_grown row s.rows g.rows.0 l
+  index_stays b s t row g l = ap (index_of row) (sym g.rows.1) ∙ index_grown row s.rows g.rows.0 l
 
   pub fresh_stays : (b : Bounds) (s t : PlainView N) (fresh : Option ℕ) → Grows b s t → Given s.rows fresh → id_by t.rows fresh ≡ id_by s.rows fresh
-  fresh_stays b s t fresh g l = ap (λ rows. id_by rows fresh) g.rows.1 ∙ id_grows s.rows g.rows.0 fresh l
+  fresh_stays b s t fresh g l = ap (λ rows. id_by rows fresh) (sym g.rows.1) ∙ id_grows s.rows g.rows.0 fresh l
 
   pub keeps_stay : (b : Bounds) (s t : PlainView N) (slots : List (Option ℕ)) (next : ℕ) → Grows b s t → AllGiven s.rows slots → Keeps b s slots next → Keeps b t slots next
   keeps_stay b s t slots next g l k = record {

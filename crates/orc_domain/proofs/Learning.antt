@@ -10,7 +10,7 @@ use Rattle.orc_heap.specs.Journals.{run_heap}
 use Rattle.orc_history.specs.Journals.{own_of}
 use Rattle.orc_heap.specs.declared.discipline.Discipline as discipline
 use Rattle.orc_heap.specs.declared.events.Event.{Event}
-use Rattle.orc_shared_words.specs.Lists.{Begins}
+use mathlib.Core.List.{IsPrefix}
 use Rattle.orc_shared_words.specs.declared.machine.Machine as machine
 use Rattle.orc_table.specs.Calls.{IsLonger as BoardLonger, LearnsEvents}
 use Rattle.orc_table.specs.Machine.{id_by, numbers}
@@ -24,6 +24,7 @@ use Rattle.orc_domain.specs.Passes.{IsPassOf, domain_bounds, domain_numbers, sea
 use Rattle.orc_domain.specs.declared.domain.PlainDomain.{PlainDomain}
 use Rattle.orc_domain.specs.declared.domain.PlainPass.{PlainPass}
 use Rattle.orc_domain.specs.Rows.{seat_by}
+use Rattle.orc_shared_words.proofs.Prefixes.{prefix_same}
 use Rattle.orc_domain.proofs.Growing.{Grows, fresh_given, fresh_stays, held_given, slots_stay, still_of}
 
 -- the steps of an agent are its events
@@ -31,29 +32,26 @@ pub steps_are : {N : Type 0} (agent : ℕ) (es : List (Event N)) → own_of (λ 
 steps_are agent [] = refl
 steps_are agent (e ∷ es) = ap (λ z. cond (e.agent == agent) (e ∷ z) z) (steps_are agent es)
 
-pub grow_seen : {N : Type 0} (b : Bounds) (may : List (Event N) → Event N → Type 0) (s t : PlainView N) → t.agent ≡ s.agent → Begins t.events s.events → Begins t.rows s.rows → AllAllowed may [] t.events → Grows b s t
+pub grow_seen : {N : Type 0} (b : Bounds) (may : List (Event N) → Event N → Type 0) (s t : PlainView N) → t.agent ≡ s.agent → IsPrefix s.events t.events → IsPrefix s.rows t.rows → AllAllowed may [] t.events → Grows b s t
 grow_seen b may s t agent events rows each = record {
   agent = agent;
   events = events;
   rows = rows;
-  known = λ id k. subst (λ es. IsKnown s.agent (run_heap (numbers b) es) id) (sym events.1)
-      (known-later (numbers b) may s.agent id s.events events.0 (allowed-right may [] s.events events.0 (subst (AllAllowed may []) events.1 each)) k);
+  known = λ id k. subst (λ es. IsKnown s.agent (run_heap (numbers b) es) id) events.1
+      (known-later (numbers b) may s.agent id s.events events.0 (allowed-right may [] s.events events.0 (subst (AllAllowed may []) (sym events.1) each)) k);
 }
 
-nothing_more : {A : Type 0} (xs ys : List A) → xs ≡ ys → Begins xs ys
-nothing_more xs ys e = ([], e ∙ sym (append-nil ys))
+pub first_more : {N : Type 0} (s u t : PlainView N) → BoardLonger s u t → IsPrefix s.events t.events
+first_more s u t (inl l) = prefix_same s.events t.events l.1
+first_more s u t (inr l) = subst (IsPrefix s.events) (sym l.1) l.0
 
-pub first_more : {N : Type 0} (s u t : PlainView N) → BoardLonger s u t → Begins t.events s.events
-first_more s u t (inl l) = nothing_more t.events s.events l.1
-first_more s u t (inr l) = (l.0.0, l.1 ∙ l.0.1)
-
-second_more : {N : Type 0} (s u t : PlainView N) → BoardLonger s u t → Begins t.events u.events
-second_more s u t (inl l) = (l.0.0, l.1 ∙ l.0.1)
-second_more s u t (inr l) = nothing_more t.events u.events l.1
+second_more : {N : Type 0} (s u t : PlainView N) → BoardLonger s u t → IsPrefix u.events t.events
+second_more s u t (inl l) = subst (IsPrefix u.events) (sym l.1) l.0
+second_more s u t (inr l) = prefix_same u.events t.events l.1
 
 longer_of : {N : Type 0} (s u t : PlainView N) → BoardLonger s u t → IsLonger s.events u.events t.events
-longer_of s u t (inl l) = record { of_both = inr ((l.0.0, sym l.0.1), l.1) }
-longer_of s u t (inr l) = record { of_both = inl ((l.0.0, sym l.0.1), l.1) }
+longer_of s u t (inl l) = record { of_both = inr (l.0, l.1) }
+longer_of s u t (inr l) = record { of_both = inl (l.0, l.1) }
 
 module _ {D N : Type 0} {d : discipline.Ghosts D N} {m : machine.Ghosts Plain N (PlainShape N) PlainOp (PlainStep N) (Unit {0}) (Unit {0})}
     (domain : PlainDomain D N) (into from : PlainPass D N (PlainShape N) PlainOp (PlainStep N) (Unit {0}) (Unit {0}) d m) (h : IsPassOf domain into) (k : IsPassOf domain from)
@@ -82,7 +80,7 @@ module _ {D N : Type 0} {d : discipline.Ghosts D N} {m : machine.Ghosts Plain N 
     into_grows = grow_seen b may s t l.into.agent (first_more s u t l.longer) l.into.rows x.keeps.now.each
 
     from_grows : Grows b u w
-    from_grows = grow_seen b may u w l.from.agent (subst (λ es. Begins es u.events) (sym l.both.0) (second_more s u t l.longer)) l.from.rows y.keeps.now.each
+    from_grows = grow_seen b may u w l.from.agent (subst (IsPrefix u.events) (sym l.both.0) (second_more s u t l.longer)) l.from.rows y.keeps.now.each
 
     pub still_into : IsPassOf domain (record { pass = q; slots = into.slots; next = into.next; shape = into.shape })
     still_into = still_of domain into h q x into_grows

@@ -133,7 +133,7 @@ module _ {D N : Type 0} {d : discipline.Ghosts D N} {m : machine.Ghosts Plain N 
           tells = (
             link_by t.rows one,
             link_by u.rows two,
-            (λ e. other (sym (link_one u.rows one two (subst (λ z. Given z one.to) (sym grows2.rows.1) (given_grows t.rows grows2.rows.0 one.to one_given)) two_given (link_still ∙ e)))),
+            (λ e. other (sym (link_one u.rows one two (subst (λ z. Given z one.to) grows2.rows.1 (given_grows t.rows grows2.rows.0 one.to one_given)) two_given (link_still ∙ e)))),
             slots_last,
             put_both p2.slots,
             (λ none. let e : Some (index_of row t.rows) ≡ None = sym (ap (id_by t.rows) is) ∙ none in cc),

@@ -9,7 +9,8 @@ use Rattle.orc_heap.specs.Journals.{run_heap}
 use Rattle.orc_heap.specs.OwnEvents.{IsBelow}
 use Rattle.orc_heap.specs.declared.discipline.Discipline as discipline
 use Rattle.orc_heap.specs.declared.events.Event.{Event}
-use Rattle.orc_shared_words.specs.Lists.{Among, Begins}
+use mathlib.Core.List.{IsPrefix}
+use Rattle.orc_shared_words.specs.Lists.{Among}
 use Rattle.orc_shared_words.specs.declared.machine.Machine as machine
 use Rattle.orc_table.proofs.Known.{alone, below, below_right, none_at_all}
 use Rattle.orc_table.specs.Calls.{Absorbs, Adds, IsGateWord}
@@ -24,6 +25,8 @@ use Rattle.orc_domain.specs.declared.domain.PlainDomain.{PlainDomain}
 use Rattle.orc_domain.specs.declared.domain.PlainPass.{PlainPass}
 use Rattle.orc_domain.specs.Ends.{AreAll, HasOwn, first_seen}
 use Rattle.orc_heap.specs.Moves.{gives_in}
+use Rattle.orc_heap.proofs.Pieces.{goes_on}
+use Rattle.orc_shared_words.proofs.Prefixes.{prefix_same}
 use Rattle.orc_domain.specs.Rest.{CoversAll, TakesIn}
 use Rattle.orc_domain.proofs.Counting.{bit_free, bit_out, nodes_given, out_bit, outs, outs_all, outs_low}
 use Rattle.orc_domain.proofs.Growing.{still_adds, still_of, tie}
@@ -37,12 +40,9 @@ among_right : {A : Type 0} (a : A) (xs ys : List A) → Among a ys → Among a (
 among_right a [] ys h = h
 among_right a (x ∷ xs) ys h = inr (among_right a xs ys h)
 
-begins_trans : {A : Type 0} (xs ys zs : List A) → Begins ys xs → Begins zs ys → Begins zs xs
-begins_trans xs ys zs p q = (p.0 ++ q.0, q.1 ∙ (ap (λ z. z ++ q.0) p.1 ∙ append_assoc xs p.0 q.0))
-
 module _ {N : Type 0} {W : Type 0} (view : W → PlainView N) where
   pub takes_none : (s : PlainView N) (all : List W) → all ≡ [] → TakesIn view s s all
-  takes_none s all e = subst (TakesIn view s s) (sym e) record { agent = refl; more = ([], sym (append-nil s.events)); own = refl; before = λ b h. (h, refl); taken = tt }
+  takes_none s all e = subst (TakesIn view s s) (sym e) record { agent = refl; more = prefix_same s.events s.events refl; own = refl; before = λ b h. (h, refl); taken = tt }
 
   pub takes_more : (s t u : PlainView N) (w : W) (ws all : List W) → all ≡ w ∷ ws → Absorbs s (view w) t → TakesIn view t u ws → TakesIn view s u all
   takes_more s t u w ws all e a r =
@@ -51,7 +51,7 @@ module _ {N : Type 0} {W : Type 0} (view : W → PlainView N) where
       let last = r.before (view w).agent mine in
       subst (TakesIn view s u) (sym e) record {
         agent = r.agent ∙ a.agent;
-        more = begins_trans s.events t.events u.events (first_more s (view w) t a.longer) r.more;
+        more = goes_on s.events t.events u.events (first_more s (view w) t a.longer) r.more;
         own = subst (λ z. events_by z u.events ≡ events_by z t.events) a.agent r.own ∙ a.own;
         before = λ b h. let k = r.before b (kept b h) in (k.0, k.1 ∙ a.retired b h);
         taken = ((last.0, last.1 ∙ a.taken (view w).agent (inl refl)), r.taken);
@@ -129,10 +129,10 @@ module _ {D N : Type 0} {d : discipline.Ghosts D N} {m : machine.Ghosts Plain N 
           nothing_new =
               let n = (domain_bounds domain).agents in
               let low = below d domain.board.words.shape q.pass.pass.seat.me.0 q.pass.pass.agent q.pass.fresh q.pass.looked x.board.keeps in
-              let none : t.more.0 ≡ [] = none_at_all n t.more.0 (below_right n (view w).events t.more.0 (subst (λ es. IsBelow n es) t.more.1 low))
+              let none : t.more.0 ≡ [] = none_at_all n t.more.0 (below_right n (view w).events t.more.0 (subst (λ es. IsBelow n es) (sym t.more.1) low))
               (λ agent l. append_cancel_left (events_by agent (view w).events) (events_by agent t.more.0) []
-              (sym (filter-append (λ (e : Event N). e.agent == agent) (view w).events t.more.0) ∙ (ap (events_by agent) (sym t.more.1) ∙ (none_new agent l ∙ sym (append-nil (events_by agent (view w).events)))))) in
-              t.more.1 ∙ (ap (λ z. (view w).events ++ z) none ∙ (append-nil (view w).events ∙ ap (first_seen domain) (sym is)))
+              (sym (filter-append (λ (e : Event N). e.agent == agent) (view w).events t.more.0) ∙ (ap (events_by agent) t.more.1 ∙ (none_new agent l ∙ sym (append-nil (events_by agent (view w).events)))))) in
+              sym t.more.1 ∙ (ap (λ z. (view w).events ++ z) none ∙ (append-nil (view w).events ∙ ap (first_seen domain) (sym is)))
 
     -- the rows that were looked at are counted
     pub record Counted (p q : PlainPass D N (PlainShape N) PlainOp (PlainStep N) (Unit {0}) (Unit {0}) d m) (rows row given : ℕ) : Type 0 where
@@ -178,10 +178,10 @@ module _ {D N : Type 0} {d : discipline.Ghosts D N} {m : machine.Ghosts Plain N 
               let one = (tie domain q c.pass).even in
               let two = (tie domain (record { pass = r; slots = q.slots; next = q.next; shape = q.shape }) still).even in
               let nodes = ap (λ (es : List (Event N)). length (run_heap (domain_numbers domain) es).nodes) events in
-              let long = ap (λ (z : List ℕ). length z) a.rows.1 in
+              let long = ap (λ (z : List ℕ). length z) (sym a.rows.1) in
               let joined = length-append (view q).rows a.rows.0 in
               let none : a.rows.0 ≡ [] = nil_from_length a.rows.0 (omega (arith, one, two, nodes, long, joined)) in
-              a.rows.1 ∙ (ap (λ z. (view q).rows ++ z) none ∙ append-nil (view q).rows)
+              sym a.rows.1 ∙ (ap (λ z. (view q).rows ++ z) none ∙ append-nil (view q).rows)
 
           bit : gate % 2 ≡ out_bit row (view p).rows
           bit = subst (λ z. gate % 2 ≡ out_bit row z) (same_rows ∙ c.rows_same) (by_gate is)

@@ -7,22 +7,9 @@ use Rattle.orc_heap.specs.Allowed.{events_by}
 use Rattle.orc_heap.specs.Calls.{Learns}
 use Rattle.orc_heap.specs.Seats.{Seat}
 use Rattle.orc_heap.specs.declared.events.Event.{Event}
+use Rattle.orc_heap.proofs.Pieces.{goes_on}
+use Rattle.orc_shared_words.proofs.Prefixes.{both_prefixes, prefix_same}
 use Rattle.orc_domain.specs.Ends.{Hears, HearsAll, Pairwise, Round}
-
-prefix_same : {A : Type 0} (xs ys : List A) → ys ≡ xs → IsPrefix xs ys
-prefix_same xs ys e = ([], append-nil xs ∙ sym e)
-
-pub prefix_trans : {A : Type 0} (xs ys zs : List A) → IsPrefix xs ys → IsPrefix ys zs → IsPrefix xs zs
-prefix_trans xs ys zs p q = (p.0 ++ q.0, sym (append_assoc xs p.0 q.0) ∙ (ap (λ z. z ++ q.0) p.1 ∙ q.1))
-
-both_prefixes : {A : Type 0} (xs ys : List A) → IsPrefix xs ys → IsPrefix ys xs → ys ≡ xs
-both_prefixes {A} xs ys p q =
-    let long = length-append xs p.0 in
-    let back = length-append ys q.0 in
-    let one = ap (λ (z : List A). length z) p.1 in
-    let two = ap (λ (z : List A). length z) q.1 in
-    let none : p.0 ≡ [] = nil_from_length p.0 (omega (arith, long, back, one, two)) in
-    sym p.1 ∙ (ap (λ z. xs ++ z) none ∙ append-nil xs)
 
 module _ {A B : Type 0} where
   pub pairwise_map : (R S : A → B → Type 0) → ((x : A) (y : B) → R x y → S x y) → (xs : List A) (ys : List B) → Pairwise R xs ys → Pairwise S xs ys
@@ -68,7 +55,7 @@ module _ {N : Type 0} where
     agent = k.agent ∙ h.agent;
     slots = k.slots ∙ h.slots;
     fresh = k.fresh ∙ h.fresh;
-    more = prefix_trans s.seen t.seen u.seen h.more k.more;
+    more = goes_on s.seen t.seen u.seen h.more k.more;
     own = subst (λ a. events_by a u.seen ≡ events_by a t.seen) h.agent k.own ∙ h.own;
   }
 

@@ -95,7 +95,7 @@ module _ {D N : Type 0} {d : discipline.Ghosts D N} {m : machine.Ghosts Plain N 
 
       new_node_id : length (heap_of b s).nodes ≤ index_of row u.rows
       new_node_id =
-          let seen : t.events ≡ s.events ++ met.events.0 = met.events.1 in
+          let seen : t.events ≡ s.events ++ met.events.0 = sym met.events.1 in
           let one = nodes_stay (numbers b) s.events met.events.0 in
           let two = nodes_stay (numbers b) t.events g.adds.met in
           let same : length (run_heap (numbers b) t.events).nodes ≡ length (run_heap (numbers b) (s.events ++ met.events.0)).nodes = ap (λ (es : List (Event N)). length (run_heap (numbers b) es).nodes) seen in

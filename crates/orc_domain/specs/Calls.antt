@@ -12,7 +12,7 @@ use Rattle.orc_heap.specs.declared.discipline.Discipline as discipline
 use Rattle.orc_heap.specs.declared.events.Act.TheVariants.{Fill, Give, Look}
 use Rattle.orc_heap.specs.declared.events.Event.{Event}
 use Rattle.orc_heap.specs.declared.events.Place.{Place}
-use Rattle.orc_shared_words.specs.Lists.{Begins}
+use mathlib.Core.List.{IsPrefix}
 use Rattle.orc_shared_words.specs.declared.machine.Machine as machine
 use Rattle.orc_table.specs.Calls.{Adds, unless_linked}
 use Rattle.orc_table.specs.Machine.{id_by, index_of, link_by}
@@ -36,7 +36,7 @@ module _ {N : Type 0} where
   -- the row was given: it is the fresh row, and its node is new
   pub record Takes (b : Bounds) (row : ℕ) (slots : List (Option ℕ)) (s t : PlainView N) : Type 0 where
     pub fresh : t.fresh ≡ Some row
-    pub rows : Begins t.rows s.rows
+    pub rows : IsPrefix s.rows t.rows
     pub new : length (heap_of b s).nodes ≤ index_of row t.rows
     pub puts : Puts (seat_by s slots) (event_by s.agent Give None ∷ []) (seat_by t slots)
     pub node : slice_get (heap_of b t).nodes (index_of row t.rows) ≡ Some (new_node s.agent)
@@ -44,7 +44,7 @@ module _ {N : Type 0} where
   -- the row was given before
   pub record Loses (row : ℕ) (slots : List (Option ℕ)) (s t : PlainView N) : Type 0 where
     pub fresh : t.fresh ≡ s.fresh
-    pub rows : Begins t.rows s.rows
+    pub rows : IsPrefix s.rows t.rows
     pub puts : Puts (seat_by s slots) [] (seat_by t slots)
     pub out : IsOut t.rows row
 

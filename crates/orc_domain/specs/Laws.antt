@@ -64,7 +64,7 @@ module _ {D N : Type 0} {d : discipline.Ghosts D N} {m : machine.Ghosts Plain N 
     seen_by = ap (λ (b : Bounds). (shows_by b p.pass).events) (sym h.shape)
 
     pub begins_so : IsPrefix (domain_opening domain) (seat_of domain p).seen
-    begins_so = let o = opened d domain.board.words.shape p.pass.pass.seat.me.0 p.pass.pass.agent p.pass.fresh p.pass.looked h.board.keeps in (o.0, sym o.1)
+    begins_so = opened d domain.board.words.shape p.pass.pass.seat.me.0 p.pass.pass.agent p.pass.fresh p.pass.looked h.board.keeps
 
     pub begun : d.holds (domain_numbers domain) []
     begun = h.board.keeps.began

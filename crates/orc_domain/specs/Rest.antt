@@ -4,7 +4,8 @@ use Rattle.std.specs.List.{AllByRecursion}
 use Rattle.orc_heap.specs.Allowed.{events_by}
 use Rattle.orc_heap.specs.declared.discipline.Discipline as discipline
 use Rattle.orc_heap.specs.declared.events.Event.{Event}
-use Rattle.orc_shared_words.specs.Lists.{Among, Begins}
+use mathlib.Core.List.{IsPrefix}
+use Rattle.orc_shared_words.specs.Lists.{Among}
 use Rattle.orc_shared_words.specs.declared.machine.Machine as machine
 use Rattle.orc_table.specs.Views.{PlainView}
 use Rattle.orc_table.specs.declared.machine.Plain.{Plain}
@@ -24,7 +25,7 @@ module _ {N : Type 0} where
   -- it has seen no more than their passes had
   pub record TakesIn {W : Type 0} (view : W → PlainView N) (s t : PlainView N) (ws : List W) : Type 0 where
     pub agent : t.agent ≡ s.agent
-    pub more : Begins t.events s.events
+    pub more : IsPrefix s.events t.events
     pub own : events_by s.agent t.events ≡ events_by s.agent s.events
     pub before : (b : ℕ) → Among b s.absorbed → Among b t.absorbed × (events_by b t.events ≡ events_by b s.events)
     pub taken : AllByRecursion (λ w. Among (view w).agent t.absorbed × (events_by (view w).agent t.events ≡ events_by (view w).agent (view w).events)) ws

@@ -7,7 +7,7 @@ ghost use Rattle.orc_machine_board.specs.Passes.{AbsorbsSteps, LearnsSteps, Took
 ghost use Rattle.orc_machine_board.specs.Rules.{machine_opening, run_of};
 ghost use Rattle.orc_machine_board.specs.Views.{Belongs, board_bounds, board_numbers, board_seed, shows};
 ghost use Rattle.orc_projection.specs.Projection.{StoresUnmarked, project};
-ghost use Rattle.orc_shared_words.specs.Lists.{Begins};
+ghost use mathlib.Core.List.{IsPrefix};
 ghost use Rattle.orc_shared_words.specs.Runs.{AgentsBelow};
 ghost use Rattle.orc_sound.specs.Journals.{IsLawfulJournal};
 ghost use Rattle.orc_words.specs.Bounds.{bounds_of};
@@ -63,7 +63,7 @@ impl<D: Discipline> MachineBoard<D> {
         ensures agent { (shows p.now).agent < (board_bounds self.now).agents }
         ensures lawful { IsLawfulJournal (new_machine (board_bounds self.now)) (shows p.now).journal }
         ensures unmarked { StoresUnmarked (shows p.now).journal }
-        ensures opened { Begins (shows p.now).journal (machine_opening (board_bounds self.now).agents (board_seed self.now)) }
+        ensures opened { IsPrefix (machine_opening (board_bounds self.now).agents (board_seed self.now)) (shows p.now).journal }
         ensures each { AllAllowed (D.may (board_numbers self.now)) [] (project (board_bounds self.now) (shows p.now).journal) }
         ensures kept { D.holds (board_numbers self.now) (project (board_bounds self.now) (shows p.now).journal) }
         ensures below { AgentsBelow (λ s. s.agent) (board_bounds self.now).agents (shows p.now).journal }

@@ -5,13 +5,14 @@ use Rattle.orc_heap.specs.Allowed.{AllAllowed}
 use Rattle.orc_heap.specs.declared.events.Event.{Event}
 use Rattle.orc_shared_words.specs.declared.journal.View.{View}
 use Rattle.orc_shared_words.specs.Ends.{Opens, OwnsAll, Whole}
-use Rattle.orc_shared_words.specs.Lists.{Among, Begins}
+use mathlib.Core.List.{IsPrefix}
+use Rattle.orc_shared_words.specs.Lists.{Among}
 use Rattle.orc_shared_words.specs.Rule.{Fits, HandsOut, Owns, Shows, Unborn}
 use Rattle.orc_shared_words.specs.Runs.{AgentsBelow, Rules}
 use Rattle.orc_history.specs.Journals.{own_of}
 use Rattle.orc_shared_words.specs.Views.{first_view}
 use Rattle.orc_shared_words.proofs.Changes.{one_alone}
-use Rattle.orc_shared_words.proofs.Fronts.{begins_itself}
+use Rattle.orc_shared_words.proofs.Prefixes.{prefix_same}
 use Rattle.orc_shared_words.proofs.Runs.{below-tail, none_behind, none_left}
 use Rattle.orc_shared_words.proofs.Seats.{at_one, one_number}
 
@@ -25,12 +26,12 @@ module _ {K S Op Rec N : Type 0} (r : Rules K S Op Rec N) (k : K) (holds : List 
         journal = j;
         attained = (0, v, refl, inl (0, refl, refl));
         fits = at_one v (λ _ u. Fits r k j u) record {
-          seen = begins_itself j;
+          seen = prefix_same j j refl;
           kept = (j, refl);
-          pass = λ a e. subst (Owns r k j v) (sym (one_number (Some 0) 0 a refl e)) record { below = o.someone; mine = refl; steps = refl; opened = begins_itself j };
+          pass = λ a e. subst (Owns r k j v) (sym (one_number (Some 0) 0 a refl e)) record { below = o.someone; mine = refl; steps = refl; opened = prefix_same j j refl };
         };
         lawful = o.lawful;
-        opened = begins_itself j;
+        opened = prefix_same j j refl;
         words = same;
         apart = λ a. one_alone (λ u. u.agent ≡ Some a) v;
         each = o.each;
@@ -53,12 +54,12 @@ module _ {K S Op Rec N : Type 0} (r : Rules K S Op Rec N) (k : K) (holds : List 
       let f = h.fits id v at in
       let quiet : (a : ℕ) → a < r.agents k → own_of r.by a f.seen.0 ≡ [] = λ a lt.
       none_behind r.by a h.journal v.seen f.seen (⊎_elim (λ e. (f.pass a e).steps) (λ q. (h.retired a id v at q).steps) (all a lt)) in
-      let none : f.seen.0 ≡ [] = none_left r.by (r.agents k) f.seen.0 (below-tail r.by (r.agents k) v.seen f.seen.0 (subst (AgentsBelow r.by (r.agents k)) f.seen.1 h.below)) quiet in
-      let whole : h.journal ≡ v.seen = f.seen.1 ∙ (ap (λ l. v.seen ++ l) none ∙ append-nil v.seen) in
+      let none : f.seen.0 ≡ [] = none_left r.by (r.agents k) f.seen.0 (below-tail r.by (r.agents k) v.seen f.seen.0 (subst (AgentsBelow r.by (r.agents k)) (sym f.seen.1) h.below)) quiet in
+      let whole : h.journal ≡ v.seen = sym f.seen.1 ∙ (ap (λ l. v.seen ++ l) none ∙ append-nil v.seen) in
       record {
         words_are = sym fin.2 ∙ (h.words ∙ ap (λ l. r.words k l) whole);
         lawful = subst (r.lawful k) whole h.lawful;
-        opened = subst (λ l. Begins l (r.opening k)) whole h.opened;
+        opened = subst (IsPrefix (r.opening k)) whole h.opened;
         below = subst (AgentsBelow r.by (r.agents k)) whole h.below;
         each = subst (λ l. AllAllowed may [] (r.project k l)) whole h.each;
         kept = subst (λ l. holds (r.project k l)) whole h.kept;

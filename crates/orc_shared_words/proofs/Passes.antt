@@ -7,16 +7,18 @@ use lib.ListN.{get_elem?}
 use lib.Seq.{set-get_or, set-set, set_comm}
 use Rattle.atomic_table.specs.Table.{Allows, Joins, Me, Splits, State, keeps}
 use Rattle.atomic_table.proofs.Lists.{set_else}
+use Rattle.orc_heap.proofs.Pieces.{goes_on}
 use Rattle.orc_heap.specs.declared.events.Event.{Event}
 use Rattle.orc_shared_words.specs.declared.journal.View.{View}
 use Rattle.orc_shared_words.specs.Learning.{Confirmed, Learned}
-use Rattle.orc_shared_words.specs.Lists.{Among, Begins}
+use mathlib.Core.List.{IsPrefix}
+use Rattle.orc_shared_words.specs.Lists.{Among}
 use Rattle.orc_shared_words.specs.Rule.{Fits, HasSeen, Owns, Retired, Shows}
 use Rattle.orc_shared_words.specs.Runs.{Rules}
 use Rattle.orc_history.specs.Journals.{own_of}
 use Rattle.orc_shared_words.specs.Views.{Covers, absorbing, agent_of, keeping, next_number, next_pass, note_of, one_handed, spent_view}
 use Rattle.orc_shared_words.proofs.Changes.{Attained, IsNew, added, changed}
-use Rattle.orc_shared_words.proofs.Fronts.{begins_with, both_fronts, front_nil, one_begins_other}
+use Rattle.orc_shared_words.proofs.Prefixes.{both_prefixes, front_nil, prefixes_of_one}
 use Rattle.orc_shared_words.proofs.Runs.{none_behind, none_between, own_of-append, own_of-others}
 use Rattle.orc_shared_words.proofs.Seats.{among_behind, among_either, among_front, at_changed, none_some, one_number, set_there}
 
@@ -44,28 +46,28 @@ module _ {S Rec : Type 0} where
       (λ (q : Among j w.taken). inr q)
 
 module _ {K S Op Rec N : Type 0} (r : Rules K S Op Rec N) (k : K) where
-  -- a view with no agent fits where its lists are fronts
-  agentless : (j : List S) (v : View S Rec) → v.agent ≡ None → Begins j v.seen → Begins j v.kept → Fits r k j v
+  -- a view with no agent fits where its lists are prefixes
+  agentless : (j : List S) (v : View S Rec) → v.agent ≡ None → IsPrefix v.seen j → IsPrefix v.kept j → Fits r k j v
   agentless j v none seen kept = record { seen = seen; kept = kept; pass = λ a e. absurd (none_some v.agent a none e) }
 
   -- a pass that keeps another list beside its own
-  refit : (j : List S) (v w : View S Rec) → Fits r k j v → w.agent ≡ v.agent → w.own ≡ v.own → w.seen ≡ v.seen → Begins j w.kept → Fits r k j w
+  refit : (j : List S) (v w : View S Rec) → Fits r k j v → w.agent ≡ v.agent → w.own ≡ v.own → w.seen ≡ v.seen → IsPrefix w.kept j → Fits r k j w
   refit j v w f agent own seen kept = record {
-    seen = subst (Begins j) (sym seen) f.seen;
+    seen = subst (λ l. IsPrefix l j) (sym seen) f.seen;
     kept = kept;
-    pass = λ a e. let o = f.pass a (sym agent ∙ e) in record { below = o.below; mine = o.mine ∙ sym own; steps = o.steps ∙ ap (own_of r.by a) (sym seen); opened = subst (λ l. Begins l (r.opening k)) (sym seen) o.opened };
+    pass = λ a e. let o = f.pass a (sym agent ∙ e) in record { below = o.below; mine = o.mine ∙ sym own; steps = o.steps ∙ ap (own_of r.by a) (sym seen); opened = subst (IsPrefix (r.opening k)) (sym seen) o.opened };
   }
 
   module _ (holds : List (Event N) → Type 0) (may : List (Event N) → Event N → Type 0) where
     -- a pass keeps another list beside its own
-    keeps_list : (s : State (Unit {0}) (View S Rec)) (h : Shows r k holds may s) (id : ℕ) (v : View S Rec) (l : List S) → get_elem? s.views id ≡ some v → Begins h.journal l
+    keeps_list : (s : State (Unit {0}) (View S Rec)) (h : Shows r k holds may s) (id : ℕ) (v : View S Rec) (l : List S) → get_elem? s.views id ≡ some v → IsPrefix l h.journal
         → Shows r k holds may record { words = s.words; homes = s.homes; views = set s.views id (record v { kept = l }) }
     keeps_list s h id v l at front = let w : View S Rec = record v { kept = l } in
         changed r k holds may s.words s h id v w refl at (refit h.journal v w (h.fits id v at) refl refl refl front) (λ a q. q) (λ c q. (c, q, omega arith, refl)) (λ a q. h.retired a id v at q)
         (⊎_elim (λ (t : (a : ℕ) × (v.agent ≡ Some a) × (v.seen ≡ h.journal)). (id, w, set_there s.views id v w at, inl t)) (λ (q : Among h.journal v.taken). (id, w, set_there s.views id v w at, inr q)))
 
     -- a seat loses its agent
-    loses_agent : (s : State (Unit {0}) (View S Rec)) (h : Shows r k holds may s) (id : ℕ) (v w : View S Rec) → get_elem? s.views id ≡ some v → w.agent ≡ None → w.free ≡ None → w.also ≡ [] → Begins h.journal w.seen → Begins h.journal w.kept
+    loses_agent : (s : State (Unit {0}) (View S Rec)) (h : Shows r k holds may s) (id : ℕ) (v w : View S Rec) → get_elem? s.views id ≡ some v → w.agent ≡ None → w.free ≡ None → w.also ≡ [] → IsPrefix w.seen h.journal → IsPrefix w.kept h.journal
         → (HasSeen h.journal v → Attained h.journal (set s.views id w)) → Shows r k holds may record { words = s.words; homes = s.homes; views = set s.views id w }
     loses_agent s h id v w at agent free also seen kept has =
         changed r k holds may s.words s h id v w refl at (agentless h.journal w agent seen kept) (λ a e. absurd (none_some w.agent a agent e)) (λ c e. absurd (none_some w.free c free e)) (λ a q. absurd (subst (Among a) also q)) has
@@ -115,7 +117,7 @@ module _ {K S Op Rec N : Type 0} (r : Rules K S Op Rec N) (k : K) where
         let v : View S Rec = me.0 in
         let f = h.fits id v at in
         ⊎_elim
-        (λ (b : Begins v.seen v.kept). let w : View S Rec = confirmed v v.seen in (
+        (λ (b : IsPrefix v.kept v.seen). let w : View S Rec = confirmed v v.seen in (
           w,
           keeps,
           tt,
@@ -123,18 +125,18 @@ module _ {K S Op Rec N : Type 0} (r : Rules K S Op Rec N) (k : K) where
               (λ q. (id, w, set_there s.views id v w at, q)),
           (record { one = inl (b, refl); same = record { agent = refl; free = refl; also = refl; mine = refl; steps = λ a e. refl } }, refl),
         ))
-        (λ (b : Begins v.kept v.seen).
+        (λ (b : IsPrefix v.seen v.kept).
         let w : View S Rec = confirmed v v.kept in
-        let behind : Begins h.journal v.seen = (b.0 ++ f.kept.0, f.kept.1 ∙ (ap (λ l. l ++ f.kept.0) b.1 ∙ append_assoc v.seen b.0 f.kept.0)) in
+        let behind : IsPrefix v.seen h.journal = (b.0 ++ f.kept.0, sym (append_assoc v.seen b.0 f.kept.0) ∙ (ap (λ l. l ++ f.kept.0) b.1 ∙ f.kept.1)) in
         let same_of : (a : ℕ) → own_of r.by a h.journal ≡ own_of r.by a v.seen → own_of r.by a v.kept ≡ own_of r.by a v.seen = λ a e.
-        ap (own_of r.by a) b.1 ∙ own_of-others r.by a v.seen b.0 (front_nil (own_of r.by a b.0) (own_of r.by a f.kept.0) (sym (own_of-append r.by a b.0 f.kept.0) ∙ none_behind r.by a h.journal v.seen behind e)) in
+        ap (own_of r.by a) (sym b.1) ∙ own_of-others r.by a v.seen b.0 (front_nil (own_of r.by a b.0) (own_of r.by a f.kept.0) (sym (own_of-append r.by a b.0 f.kept.0) ∙ none_behind r.by a h.journal v.seen behind e)) in
         let fits : Fits r k h.journal w = record {
           seen = f.kept;
           kept = (h.journal, refl);
-          pass = λ a e. let o = f.pass a e in record { below = o.below; mine = o.mine; steps = o.steps ∙ sym (same_of a o.steps); opened = begins_with v.kept v.seen (r.opening k) b o.opened };
+          pass = λ a e. let o = f.pass a e in record { below = o.below; mine = o.mine; steps = o.steps ∙ sym (same_of a o.steps); opened = goes_on (r.opening k) v.seen v.kept o.opened b };
         } in
         let whole : HasSeen h.journal v → HasSeen h.journal w = ⊎_elim
-        (λ (t : (a : ℕ) × (v.agent ≡ Some a) × (v.seen ≡ h.journal)). inl (t.0, t.1, both_fronts v.kept h.journal (subst (Begins v.kept) t.2 b) f.kept))
+        (λ (t : (a : ℕ) × (v.agent ≡ Some a) × (v.seen ≡ h.journal)). inl (t.0, t.1, both_prefixes h.journal v.kept (subst (λ l. IsPrefix l v.kept) t.2 b) f.kept))
         (λ (q : Among h.journal v.taken). inr q) in (
           w,
           keeps,
@@ -144,7 +146,7 @@ module _ {K S Op Rec N : Type 0} (r : Rules K S Op Rec N) (k : K) where
               (λ q. (id, w, set_there s.views id v w at, whole q)),
           (record { one = inr (b, refl); same = record { agent = refl; free = refl; also = refl; mine = refl; steps = λ a. ⊎_elim (λ e. same_of a (f.pass a e).steps) (λ q. same_of a (h.retired a id v at q).steps) } }, refl),
         ))
-        (one_begins_other h.journal v.seen v.kept f.seen f.kept)
+        (prefixes_of_one h.journal v.seen v.kept f.seen f.kept)
 
     -- what is left of a pass that was taken in
     abbrev husk : View S Rec → View S Rec
@@ -155,7 +157,7 @@ module _ {K S Op Rec N : Type 0} (r : Rules K S Op Rec N) (k : K) where
     unfolding changed loses_agent
     absorbs id v other w b is same s h at ne there =
         let both : View S Rec = absorbing v w in
-        let nothing : Begins h.journal [] = (h.journal, refl) in
+        let nothing : IsPrefix [] h.journal = (h.journal, refl) in
         let left : View S Rec = husk w in
         let before : get_elem? s.views other ≡ some w = sym (set_else s.views id other both ne) ∙ there in
         let f = h.fits id v at in
@@ -197,12 +199,12 @@ module _ {S Rec : Type 0} where
   learned by v u w x first second = record {
     longer = first.one;
     both = ⊎_elim
-        (λ (p : Begins v.seen u.seen × (w.seen ≡ v.seen)). ⊎_elim
-        (λ (q : Begins u.seen w.seen × (x.seen ≡ u.seen)). q.1 ∙ (both_fronts u.seen v.seen (subst (Begins u.seen) p.1 q.0) p.0 ∙ sym p.1))
-        (λ (q : Begins w.seen u.seen × (x.seen ≡ w.seen)). q.1) second.one)
-        (λ (p : Begins u.seen v.seen × (w.seen ≡ u.seen)). ⊎_elim
-        (λ (q : Begins u.seen w.seen × (x.seen ≡ u.seen)). q.1 ∙ sym p.1)
-        (λ (q : Begins w.seen u.seen × (x.seen ≡ w.seen)). q.1) second.one)
+        (λ (p : IsPrefix u.seen v.seen × (w.seen ≡ v.seen)). ⊎_elim
+        (λ (q : IsPrefix w.seen u.seen × (x.seen ≡ u.seen)). q.1 ∙ (both_prefixes v.seen u.seen (subst (λ l. IsPrefix l u.seen) p.1 q.0) p.0 ∙ sym p.1))
+        (λ (q : IsPrefix u.seen w.seen × (x.seen ≡ w.seen)). q.1) second.one)
+        (λ (p : IsPrefix v.seen u.seen × (w.seen ≡ u.seen)). ⊎_elim
+        (λ (q : IsPrefix w.seen u.seen × (x.seen ≡ u.seen)). q.1 ∙ sym p.1)
+        (λ (q : IsPrefix u.seen w.seen × (x.seen ≡ w.seen)). q.1) second.one)
         first.one;
     into = record { agent = first.same.agent; free = first.same.free; also = first.same.also; mine = first.same.mine; steps = first.same.steps };
     from = record { agent = second.same.agent; free = second.same.free; also = second.same.also; mine = second.same.mine; steps = second.same.steps };

@@ -3,10 +3,10 @@ use Rattle.std.proofs.Common.{Bool, List, [], append-nil, append_assoc, eq-eqb, 
 use Rattle.std.proofs.lemmas.List.{append_cancel_left}
 use mathlib.Core.Logic.{dite}
 use native.Mathlib.Decide.{ℕ_discrete}
-use Rattle.orc_shared_words.specs.Lists.{Begins}
+use mathlib.Core.List.{IsPrefix}
 use Rattle.orc_shared_words.specs.Runs.{AgentsBelow}
 use Rattle.orc_history.specs.Journals.{own_of}
-use Rattle.orc_shared_words.proofs.Fronts.{front_nil}
+use Rattle.orc_shared_words.proofs.Prefixes.{front_nil}
 
 pub cons_nil : {A : Type 0} (x : A) (xs : List A) → x ∷ xs ≡ [] → ⊥
 cons_nil x xs e = absurd (cc)
@@ -28,15 +28,15 @@ module _ {S : Type 0} (by : S → ℕ) where
   pub own_of-others : (a : ℕ) (xs ys : List S) → own_of by a ys ≡ [] → own_of by a (xs ++ ys) ≡ own_of by a xs
   own_of-others a xs ys e = own_of-append a xs ys ∙ (ap (λ l. own_of by a xs ++ l) e ∙ append-nil (own_of by a xs))
 
-  -- where the agent's steps all stand in a front, none of its stand behind it
-  pub none_behind : (a : ℕ) (j seen : List S) (b : Begins j seen) → own_of by a j ≡ own_of by a seen → own_of by a b.0 ≡ []
-  none_behind a j seen b e = append_cancel_left (own_of by a seen) (own_of by a b.0) [] (sym (own_of-append a seen b.0) ∙ (ap (own_of by a) (sym b.1) ∙ (e ∙ sym (append-nil (own_of by a seen)))))
+  -- where the agent's steps all stand in a prefix, none of its stand behind it
+  pub none_behind : (a : ℕ) (j seen : List S) (b : IsPrefix seen j) → own_of by a j ≡ own_of by a seen → own_of by a b.0 ≡ []
+  none_behind a j seen b e = append_cancel_left (own_of by a seen) (own_of by a b.0) [] (sym (own_of-append a seen b.0) ∙ (ap (own_of by a) b.1 ∙ (e ∙ sym (append-nil (own_of by a seen)))))
 
   -- and so none stand in what is between
-  pub none_between : (a : ℕ) (j seen first : List S) → Begins j seen → Begins seen first → own_of by a j ≡ own_of by a first → own_of by a seen ≡ own_of by a first
+  pub none_between : (a : ℕ) (j seen first : List S) → IsPrefix seen j → IsPrefix first seen → own_of by a j ≡ own_of by a first → own_of by a seen ≡ own_of by a first
   none_between a j seen first b c e =
-      let far : own_of by a c.0 ++ own_of by a b.0 ≡ [] = sym (own_of-append a c.0 b.0) ∙ none_behind a j first (c.0 ++ b.0, b.1 ∙ (ap (λ l. l ++ b.0) c.1 ∙ append_assoc first c.0 b.0)) e in
-      ap (own_of by a) c.1 ∙ own_of-others a first c.0 (front_nil (own_of by a c.0) (own_of by a b.0) far)
+      let far : own_of by a c.0 ++ own_of by a b.0 ≡ [] = sym (own_of-append a c.0 b.0) ∙ none_behind a j first (c.0 ++ b.0, sym (append_assoc first c.0 b.0) ∙ (ap (λ l. l ++ b.0) c.1 ∙ b.1)) e in
+      ap (own_of by a) (sym c.1) ∙ own_of-others a first c.0 (front_nil (own_of by a c.0) (own_of by a b.0) far)
 
   pub below-snoc : (n : ℕ) (xs : List S) (s : S) → AgentsBelow by n xs → by s < n → AgentsBelow by n (xs ++ s ∷ [])
   below-snoc n [] s b l = (l, tt)

@@ -17,7 +17,7 @@ use Rattle.orc_words.specs.declared.operation.Operation.{Operation}
 use Rattle.orc_words.specs.declared.operation.Operation.TheVariants.{CompareExchange}
 use Rattle.orc_shared_words.specs.Steps.{Did, LaterJournal, Licensed}
 use Rattle.orc_shared_words.proofs.Changes.{AllRetired, AllUnborn, still_one, still_retired, still_unborn}
-use Rattle.orc_shared_words.proofs.Fronts.{begins_itself, begins_more}
+use Rattle.orc_shared_words.proofs.Prefixes.{prefix_more, prefix_same}
 use Rattle.orc_shared_words.proofs.Runs.{below-snoc, by_other, none_behind, own_of-others}
 use Rattle.orc_shared_words.proofs.Seats.{at_changed, one_number, set_there}
 
@@ -45,8 +45,8 @@ module _ {K S Op Rec N : Type 0} (r : Rules K S Op Rec N) (laws : (k : K) → Ob
 
   other_fits : (j : List S) (a : ℕ) (op : Op) (said : Option N) (v : View S Rec) → ((c : ℕ) → v.agent ≡ Some c → c ≢ a) → Fits r k j v → Fits r k (j ++ r.step a op said ∷ []) v
   other_fits j a op said v ne f = record {
-    seen = begins_more j v.seen (r.step a op said ∷ []) f.seen;
-    kept = begins_more j v.kept (r.step a op said ∷ []) f.kept;
+    seen = prefix_more v.seen j (r.step a op said ∷ []) f.seen;
+    kept = prefix_more v.kept j (r.step a op said ∷ []) f.kept;
     pass = λ c e. let o = f.pass c e in record { below = o.below; mine = other_own j a op said c (ne c e) ∙ o.mine; steps = other_steps j a op said c (ne c e) ∙ o.steps; opened = o.opened };
   }
 
@@ -75,7 +75,7 @@ module _ {K S Op Rec N : Type 0} (r : Rules K S Op Rec N) (laws : (k : K) → Ob
       let t : S = r.step a op said in
       let f : Fits r k j v = h.fits id v at in
       let o : Owns r k j v a = f.pass a is in
-      let e : j ≡ v.seen ++ f.seen.0 = f.seen.1 in
+      let e : j ≡ v.seen ++ f.seen.0 = sym f.seen.1 in
       let none : own_of r.by a f.seen.0 ≡ [] = none_behind r.by a j v.seen f.seen o.steps in
       let at_place : ℕ = r.place k a op v.own in
       let n : ℕ = get_or s.words at_place 0 in
@@ -87,7 +87,7 @@ module _ {K S Op Rec N : Type 0} (r : Rules K S Op Rec N) (laws : (k : K) → Ob
       let kept : H k (r.project k (j ++ t ∷ [])) = subst (H k) (sym ((laws k).project_next j t)) (kept-more (Y k) (H k) law (r.project k j) (r.events k j t) h.kept may_now) in
       let each : AllAllowed (Y k) [] (r.project k (j ++ t ∷ [])) = subst (AllAllowed (Y k) []) (sym ((laws k).project_next j t)) (allowed-more (Y k) [] (r.project k j) (r.events k j t) h.each may_now) in
       let lawful : r.lawful k (j ++ t ∷ []) = (laws k).lawful_next j a op said h.lawful (subst (r.allowed k a op) (sym o.mine) can) in
-      let opened = begins_more j (r.opening k) (t ∷ []) h.opened in
+      let opened = prefix_more (r.opening k) j (t ∷ []) h.opened in
       let below = below-snoc r.by (r.agents k) j t h.below (subst (λ z. z < r.agents k) (sym ((laws k).by_step a op said)) o.below) in (
         w,
         keeps,
@@ -97,8 +97,8 @@ module _ {K S Op Rec N : Type 0} (r : Rules K S Op Rec N) (laws : (k : K) → Ob
           attained = (id, w, set_there s.views id v w at, inl (a, is, refl));
           fits = at_changed (λ i u. Fits r k (j ++ t ∷ []) u) s.views id w
               record {
-                seen = begins_itself (j ++ t ∷ []);
-                kept = begins_more j v.kept (t ∷ []) f.kept;
+                seen = prefix_same (j ++ t ∷ []) (j ++ t ∷ []) refl;
+                kept = prefix_more v.kept j (t ∷ []) f.kept;
                 pass = λ b q. subst (λ z. Owns r k (j ++ t ∷ []) w z) (one_number v.agent b a q is) record { below = o.below; mine = own; steps = refl; opened = opened };
               }
               (λ i u ne ei. other_fits r laws k j a op said u (λ b q x. ne (h.apart a i u ei (q ∙ ap Some x) id v at is)) (h.fits i u ei));

@@ -1,7 +1,7 @@
 -- How a journal begins, and which pass has seen all of it.
 use Rattle.orc_heap.specs.Allowed.{AllAllowed}
 use Rattle.orc_heap.specs.declared.events.Event.{Event}
-use Rattle.orc_shared_words.specs.Lists.{Begins}
+use mathlib.Core.List.{IsPrefix}
 use Rattle.orc_shared_words.specs.Runs.{AgentsBelow, Rules}
 use Rattle.orc_shared_words.specs.Views.{Covers}
 use Rattle.orc_shared_words.specs.declared.journal.View.{View}
@@ -28,7 +28,7 @@ module _ {K S Op Rec N : Type 0} (r : Rules K S Op Rec N) (k : K) where
   pub record Whole (holds : List (Event N) → Type 0) (may : List (Event N) → Event N → Type 0) (j : List S) (words : List ℕ) : Type 0 where
     pub words_are : words ≡ r.words k j
     pub lawful : r.lawful k j
-    pub opened : Begins j (r.opening k)
+    pub opened : IsPrefix (r.opening k) j
     pub below : AgentsBelow r.by (r.agents k) j
     -- each event is allowed where it stands, so that the discipline holds
     pub each : AllAllowed may [] (r.project k j)

@@ -1,13 +1,10 @@
--- Fronts of lists, members, and lists of at most one element.
-use Rattle.std.specs.Prelude.{List, [], length, slice_index_or, ℕ, ◌++◌, ◌<◌, ◌∷◌, ◌≡◌, ◌⊎◌}
+-- The longer of two lists, members, and lists of at most one element.
+use Rattle.std.specs.Prelude.{List, [], length, slice_index_or, ℕ, ◌<◌, ◌∷◌, ◌≡◌, ◌⊎◌}
+use mathlib.Core.List.{IsPrefix}
 
--- xs begins with ys
-abbrev pub Begins : {A : Type 0} → List A → List A → Type 0
-Begins {A} xs ys = (rest : List A) × (xs ≡ ys ++ rest)
-
--- a list is the longer one of two, of which the shorter is a front
+-- a list is the longer one of two, of which the shorter is a prefix
 abbrev pub IsLonger : {A : Type 0} → List A → List A → List A → Type 0
-IsLonger xs ys longer = (Begins xs ys × (longer ≡ xs)) ⊎ (Begins ys xs × (longer ≡ ys))
+IsLonger xs ys longer = (IsPrefix ys xs × (longer ≡ xs)) ⊎ (IsPrefix xs ys × (longer ≡ ys))
 
 -- P holds of the element, if there is one; there aren't two
 abbrev pub Each : {A : Type 0} → (A → Type 0) → List A → Type 0

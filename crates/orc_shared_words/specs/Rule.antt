@@ -2,7 +2,8 @@
 use Rattle.atomic_table.specs.Table.{State}
 use Rattle.orc_heap.specs.Allowed.{AllAllowed}
 use Rattle.orc_heap.specs.declared.events.Event.{Event}
-use Rattle.orc_shared_words.specs.Lists.{Among, Begins}
+use mathlib.Core.List.{IsPrefix}
+use Rattle.orc_shared_words.specs.Lists.{Among}
 use Rattle.orc_shared_words.specs.Runs.{AgentsBelow, Rules}
 use Rattle.orc_history.specs.Journals.{own_of}
 use Rattle.orc_shared_words.specs.declared.journal.View.{View}
@@ -39,14 +40,14 @@ module _ {K S Op Rec N : Type 0} (r : Rules K S Op Rec N) (k : K) where
     pub mine : r.own k j a ≡ v.own
     -- the steps of its agent all stand in what it has seen, which begins with the opening
     pub steps : own_of r.by a j ≡ own_of r.by a v.seen
-    pub opened : Begins v.seen (r.opening k)
+    pub opened : IsPrefix (r.opening k) v.seen
 
   -- what a seat knows: a pass, a note, which has no agent, or a spent view, which has seen nothing
   pub record Fits (j : List S) (v : View S Rec) : Type 0 where
     -- the journal begins with what it has seen
-    pub seen : Begins j v.seen
+    pub seen : IsPrefix v.seen j
     -- and with what it keeps between a join and its confirm
-    pub kept : Begins j v.kept
+    pub kept : IsPrefix v.kept j
     pub pass : (a : ℕ) → v.agent ≡ Some a → Owns j v a
 
   -- an agent whose pass isn't made yet: it has the record that is handed out, and no steps after the opening
@@ -71,7 +72,7 @@ module _ {K S Op Rec N : Type 0} (r : Rules K S Op Rec N) (k : K) where
     -- it is lawful
     pub lawful : r.lawful k journal
     -- it begins with the opening
-    pub opened : Begins journal (r.opening k)
+    pub opened : IsPrefix (r.opening k) journal
     -- the words are those of its run
     pub words : s.words ≡ r.words k journal
     -- no two passes are of one agent

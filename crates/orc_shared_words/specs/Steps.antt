@@ -2,7 +2,8 @@
 use Rattle.atomic_table.specs.Table.{Me}
 use Rattle.orc_heap.specs.Allowed.{AllAllowed}
 use Rattle.orc_heap.specs.declared.events.Event.{Event}
-use Rattle.orc_shared_words.specs.Lists.{Among, Begins, Each}
+use mathlib.Core.List.{IsPrefix}
+use Rattle.orc_shared_words.specs.Lists.{Among, Each}
 use Rattle.orc_shared_words.specs.Runs.{AgentsBelow, Rules, found_by}
 use Rattle.orc_history.specs.Journals.{own_of}
 use Rattle.orc_shared_words.specs.declared.journal.View.{View}
@@ -14,7 +15,7 @@ module _ {K S Op Rec N : Type 0} (r : Rules K S Op Rec N) where
     pub record LaterJournal (j : List S) (v : View S Rec) (a : ℕ) : Type 0 where
       -- it is lawful, begins with the opening, and has steps of agents of the machine alone
       pub lawful : r.lawful k j
-      pub opened : Begins j (r.opening k)
+      pub opened : IsPrefix (r.opening k) j
       pub below : AgentsBelow r.by (r.agents k) j
       -- its events are allowed, each where it stands, so that the discipline holds
       pub each : AllAllowed may [] (r.project k j)

@@ -9,7 +9,8 @@ use Rattle.orc_heap.specs.Journals.{IsLawful, run_heap}
 use Rattle.orc_heap.specs.declared.discipline.Discipline as discipline
 use Rattle.orc_heap.specs.declared.events.Event.{Event}
 use Rattle.orc_heap.proofs.Stays.{other_first}
-use Rattle.orc_shared_words.specs.Lists.{Among, Begins}
+use mathlib.Core.List.{IsPrefix}
+use Rattle.orc_shared_words.specs.Lists.{Among}
 use Rattle.orc_shared_words.specs.Runs.{AgentsBelow}
 use Rattle.orc_shared_words.specs.declared.journal.View.{View}
 use Rattle.orc_shared_words.proofs.Events.{AllBy}
@@ -69,11 +70,12 @@ module _ {D N : Type 0} (d : discipline.Ghosts D N) (q : PlainShape N) (v : View
   pub lawful : IsLawful (numbers k) s.events
   lawful = lawful_of d k [] (project k v.seen) h.began h.now.each
 
-  pub opened : Begins s.events (opening_events q.seed)
+  pub opened : IsPrefix (opening_events q.seed) s.events
   opened =
-      let first : AllowedFrom k (opening_steps q.seed) = allowed_front d k (opening_steps q.seed) h.now.opened.0 (subst (AllowedFrom k) h.now.opened.1 h.now.lawful) in (
+      let first : AllowedFrom k (opening_steps q.seed) = allowed_front d k (opening_steps q.seed) h.now.opened.0 (subst (AllowedFrom k) (sym h.now.opened.1) h.now.lawful) in (
         project_from k (run k (opening_steps q.seed)) h.now.opened.0,
-        ap (project k) h.now.opened.1 ∙ (project-append k (start k) (opening_steps q.seed) h.now.opened.0 ∙ ap (λ l. l ++ project_from k (run k (opening_steps q.seed)) h.now.opened.0) (opened_events d q.shape q.seed (lawful_roots d q.shape q.seed first))),
+        ap (λ l. l ++ project_from k (run k (opening_steps q.seed)) h.now.opened.0) (sym (opened_events d q.shape q.seed (lawful_roots d q.shape q.seed first)))
+            ∙ (sym (project-append k (start k) (opening_steps q.seed) h.now.opened.0) ∙ ap (project k) h.now.opened.1),
       )
 
   pub below : IsBelow k.agents s.events

@@ -171,7 +171,7 @@ module _ {D N : Type 0} (d : discipline.Ghosts D N) (q : PlainShape N) (v : View
   look_licence at knows = from_mid (LinkLoad at None) None
       (λ between m hk. let x : State = run_from k (run k v.seen) between in
       let g = given_more k (run k v.seen) between in
-      let s = shows k x at m.tie (place_grown k g0 g.0 x.given at g.1 (place_given at knows)).0 in
+      let s = shows k x at m.tie (place_grown k g0 g.0 x.given at (sym g.1) (place_given at knows)).0 in
       stands (v.seen ++ between) x (event_by a (act.Look (place_by x.given at) (link_at (shown x.heap (place_by x.given at)))) None) m.heap hk (s.is ∙ ap Some (sym (ap link_at s.is))) (refl, tt))
 
   test : (seen : List (PlainStep N)) (x : State) (at : Word) (w : RowLink) (done : Event N) (heap : run_heap (numbers k) (project k seen) ≡ x.heap) (hk : holds (project k seen)) (tie : Tied k x) (s : Shows k x at) (given : Given x.given w.to)
@@ -193,9 +193,9 @@ module _ {D N : Type 0} (d : discipline.Ghosts D N) (q : PlainShape N) (v : View
       let x : State = run_from k (run k v.seen) between in
       let es : List (Event N) = project_from k (run k v.seen) between in
       let g = given_more k (run k v.seen) between in
-      let sp = place_grown k g0 g.0 x.given at g.1 (place_given at knows) in
-      let lw = link_grown g0 g.0 x.given w g.1 (link_given w from) in
-      let lt = link_grown g0 g.0 x.given t g.1 (link_given t to) in
+      let sp = place_grown k g0 g.0 x.given at (sym g.1) (place_given at knows) in
+      let lw = link_grown g0 g.0 x.given w (sym g.1) (link_given w from) in
+      let lt = link_grown g0 g.0 x.given t (sym g.1) (link_given t to) in
       let s = shows k x at m.tie sp.0 in
       let heap : x.heap ≡ run_heap (numbers k) (project k v.seen ++ es) = sym m.heap ∙ ap (run_heap (numbers k)) m.events in
       test (v.seen ++ between) x at w (done (place_by x.given at) (link_by x.given w) (link_by x.given t)) m.heap hk m.tie s lw.0
@@ -240,9 +240,9 @@ module _ {D N : Type 0} (d : discipline.Ghosts D N) (q : PlainShape N) (v : View
       let x : State = run_from k (run k v.seen) between in
       let es : List (Event N) = project_from k (run k v.seen) between in
       let g = given_more k (run k v.seen) between in
-      let lw = link_grown g0 g.0 x.given l g.1 (link_given l knows) in
+      let lw = link_grown g0 g.0 x.given l (sym g.1) (link_given l knows) in
       let held = subst (FreshHeld a (run k v.seen)) is h.untouched in
-      let one : index_of row x.given ≡ index_of row g0 = ap (index_of row) g.1 ∙ index_grown row g0 g.0 held.0 in
+      let one : index_of row x.given ≡ index_of row g0 = ap (index_of row) (sym g.1) ∙ index_grown row g0 g.0 held.0 in
       let to : id_by x.given l.to ≡ id_by g0 l.to = ap (λ (z : Link). z.to) lw.1 in
       let heap : x.heap ≡ run_heap (numbers k) (project k v.seen ++ es) = sym m.heap ∙ ap (run_heap (numbers k)) m.events in
       let target : IsTarget a x.heap (id_by g0 l.to) = mid_target k may v.seen between a m (id_by g0 l.to) (subst (λ z. IsTarget a z (id_by g0 l.to)) heap_now knows) in

@@ -83,10 +83,10 @@ module _ {D N : Type 0} (d : discipline.Ghosts D N) (q : PlainShape N) (v w : Vi
   at wk = run_from k (run k v.seen) wk.between
 
   place_met : {op : PlainOp} {said : Option N} {n : ℕ} (wk : Walk k may v w a op said n) (place : Word) → KnowsPlace k s place → PlaceHeld k (at wk).given place × (place_by (at wk).given place ≡ place_by g0 place)
-  place_met wk place knows = let g = given_more k (run k v.seen) wk.between in place_grown k g0 g.0 (at wk).given place g.1 (place_given d q v a fresh looked h place knows)
+  place_met wk place knows = let g = given_more k (run k v.seen) wk.between in place_grown k g0 g.0 (at wk).given place (sym g.1) (place_given d q v a fresh looked h place knows)
 
   link_met : {op : PlainOp} {said : Option N} {n : ℕ} (wk : Walk k may v w a op said n) (l : RowLink) → KnowsTarget k s l → Given (at wk).given l.to × (link_by (at wk).given l ≡ link_by g0 l)
-  link_met wk l knows = let g = given_more k (run k v.seen) wk.between in link_grown g0 g.0 (at wk).given l g.1 (link_given d q v a fresh looked h l knows)
+  link_met wk l knows = let g = given_more k (run k v.seen) wk.between in link_grown g0 g.0 (at wk).given l (sym g.1) (link_given d q v a fresh looked h l knows)
 
   -- the place as the step met it
   shows_met : {op : PlainOp} {said : Option N} {n : ℕ} (wk : Walk k may v w a op said n) (place : Word) → KnowsPlace k s place → Shows k (at wk) place

@@ -6,6 +6,7 @@ use Rattle.orc_heap.specs.declared.discipline.Discipline as discipline
 use Rattle.orc_shared_words.specs.Ends.{Opens}
 use Rattle.orc_shared_words.specs.Runs.{AgentsBelow}
 use Rattle.orc_shared_words.specs.declared.journal.View.{View}
+use Rattle.orc_shared_words.proofs.Prefixes.{prefix_same}
 use Rattle.orc_table.specs.Machine.{AllowedFrom, numbers, project}
 use Rattle.orc_table.specs.Rules.{opening_steps, plain_rules}
 use Rattle.orc_table.specs.Views.{Keeps}
@@ -21,7 +22,7 @@ module _ {D N : Type 0} (d : discipline.Ghosts D N) where
     began = began;
     now = record {
       lawful = subst (AllowedFrom (bounds_of q.shape)) (sym seen) opens.lawful;
-      opened = ([], seen ∙ sym (append-nil (opening_steps q.seed)));
+      opened = prefix_same (opening_steps q.seed) v.seen seen;
       below = subst (AgentsBelow (λ (s : PlainStep N). s.agent) (bounds_of q.shape).agents) (sym seen) opens.below;
       each = subst (λ j. AllAllowed (d.may (numbers (bounds_of q.shape))) [] (project (bounds_of q.shape) j)) (sym seen) opens.each;
       kept = subst (λ j. d.holds (numbers (bounds_of q.shape)) (project (bounds_of q.shape) j)) (sym seen) opens.kept;

@@ -179,7 +179,7 @@ module _ {D N : Type 0} (d : discipline.Ghosts D N) (q : PlainShape N) (v w : Vi
 
   -- a row that was given keeps its id
   pub id_met : {op : PlainOp} {said : Option N} {n : ℕ} (wk : Walk k may v w a op said n) (row : ℕ) → index_of row g0 < length g0 → index_of row (at_step wk).given ≡ index_of row g0
-  id_met wk row lt = let g = given_more k (run k v.seen) wk.between in ap (index_of row) g.1 ∙ index_grown row g0 g.0 lt
+  id_met wk row lt = let g = given_more k (run k v.seen) wk.between in ap (index_of row) (sym g.1) ∙ index_grown row g0 g.0 lt
 
   pub fill_adds : (row which value n : ℕ) → fresh ≡ Some row → Made (Fill row which value) None n → Adds may (event_by a (act.Fill (index_of row g0) which value) None ∷ []) s t
   fill_adds row which value n is x =
@@ -211,7 +211,7 @@ module _ {D N : Type 0} (d : discipline.Ghosts D N) (q : PlainShape N) (v w : Vi
       let lt = row_given d q v a fresh looked h row knows in
       let id = id_met wk row lt in
       let g = given_more k (run k v.seen) wk.between in
-      let long : length y.given ≡ length g0 + length g.0 = ap length g.1 ∙ length-append g0 g.0 in
+      let long : length y.given ≡ length g0 + length g.0 = ap length (sym g.1) ∙ length-append g0 g.0 in
       let now : index_of row y.given < length y.given = omega (arith, id, long, lt) in
       let even = wk.mid.tie.even in
       let node = lt_get y.heap.nodes (index_of row y.given) (omega (arith, now, even)) in

@@ -17,10 +17,13 @@ use Rattle.orc_heap.specs.declared.events.Place.{Place}
 use Rattle.orc_heap.proofs.Runs.{lawful-right, run_heap-snoc}
 use Rattle.orc_heap.proofs.Stays.{allowed-left, allowed-right}
 use Rattle.orc_heap.proofs.Untouched.{target_from, untouched_from}
-use Rattle.orc_shared_words.specs.Lists.{Among, Begins}
+use mathlib.Core.List.{IsPrefix}
+use Rattle.orc_shared_words.specs.Lists.{Among}
 use Rattle.orc_history.specs.Journals.{own_of}
 use Rattle.orc_shared_words.specs.Steps.{Extends, LaterJournal}
 use Rattle.orc_shared_words.specs.declared.journal.View.{View}
+use Rattle.orc_heap.proofs.Pieces.{goes_on}
+use Rattle.orc_shared_words.proofs.Prefixes.{prefix_same}
 use Rattle.orc_shared_words.proofs.Events.{AllBy, none-append, none_of_all}
 use Rattle.orc_shared_words.proofs.Runs.{by_other, by_own, cons_nil}
 use Rattle.orc_table.specs.Calls.{Adds}
@@ -68,9 +71,9 @@ module _ {N : Type 0} (k : Bounds) where
       (λ ne. none-append a (events_at k x s) (project_from k (next k x s) ss) (none_of_all a s.agent (events_at k x s) ne (signed x s.agent s.op (finds k x s.op) s.note)) (others_none a (next k x s) ss (sym (by_other by a s ss ne) ∙ e)))
 
   -- the given rows grow
-  pub given_more : (x : State) (ss : List (PlainStep N)) → Begins (run_from k x ss).given x.given
-  given_more x [] = ([], sym (append-nil x.given))
-  given_more x (s ∷ ss) = let t = given_more (next k x s) ss in (taken s.op (finds k x s.op) ++ t.0, t.1 ∙ append_assoc x.given (taken s.op (finds k x s.op)) t.0)
+  pub given_more : (x : State) (ss : List (PlainStep N)) → IsPrefix x.given (run_from k x ss).given
+  given_more x [] = prefix_same x.given x.given refl
+  given_more x (s ∷ ss) = goes_on x.given (next k x s).given (run_from k (next k x s) ss).given (taken s.op (finds k x s.op), refl) (given_more (next k x s) ss)
 
 pub lt_more : (row : ℕ) (g more : List ℕ) → index_of row g < length g → index_of row (g ++ more) < length (g ++ more)
 lt_more row g more lt = let e = index_grown row g more lt in let l = length-append g more in omega (arith, e, l, lt)
@@ -132,7 +135,7 @@ module _ {N : Type 0} (k : Bounds) (may : List (Event N) → Event N → Type 0)
 
   pub mid_fresh : (fresh : Option ℕ) → FreshHeld a (run k seen) fresh → FreshHeld a mid fresh
   mid_fresh fresh h = let g = given_more k (run k seen) between in
-      fresh_stays a (run k seen) mid g.0 g.1 fresh (λ row _ u. subst (λ z. IsUntouched a z (index_of row (run k seen).given)) (sym (heap_is k (run k seen) between)) (untouched_from a (run k seen).heap (project_from k (run k seen) between) (index_of row (run k seen).given) m.none m.fits u)) h
+      fresh_stays a (run k seen) mid g.0 (sym g.1) fresh (λ row _ u. subst (λ z. IsUntouched a z (index_of row (run k seen).given)) (sym (heap_is k (run k seen) between)) (untouched_from a (run k seen).heap (project_from k (run k seen) between) (index_of row (run k seen).given) m.none m.fits u)) h
 
   pub mid_target : (t : Option ℕ) → IsTarget a (run k seen).heap t → IsTarget a mid.heap t
   mid_target t r = subst (λ z. IsTarget a z t) (sym (heap_is k (run k seen) between)) (target_from a (run k seen).heap (project_from k (run k seen) between) t r)
@@ -210,9 +213,8 @@ module _ {N : Type 0} (k : Bounds) (may : List (Event N) → Event N → Type 0)
   pub heap_later : (run k u.seen).heap ≡ heap_from met.heap own
   heap_later = ap (λ z. z.heap) w.state
 
-  pub rows_later : Begins (run k u.seen).given (run k v.seen).given
-  rows_later = let g = given_more k (run k v.seen) w.between in
-      (g.0 ++ taken op (finds k met op), given_later ∙ (ap (λ l. l ++ taken op (finds k met op)) g.1 ∙ append_assoc (run k v.seen).given g.0 (taken op (finds k met op))))
+  pub rows_later : IsPrefix (run k v.seen).given (run k u.seen).given
+  rows_later = goes_on (run k v.seen).given met.given (run k u.seen).given (given_more k (run k v.seen) w.between) (taken op (finds k met op), sym given_later)
 
   -- the fresh node stays so, where the step's event spares it
   pub later_fresh : (fresh : Option ℕ) → ((row : ℕ) → fresh ≡ Some row → IsUntouched a met.heap (index_of row met.given) → IsUntouched a (heap_from met.heap own) (index_of row met.given)) → FreshHeld a (run k v.seen) fresh → FreshHeld a (run k u.seen) fresh

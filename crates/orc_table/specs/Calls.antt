@@ -13,7 +13,8 @@ use Rattle.orc_heap.specs.declared.events.Event.{Event}
 use Rattle.orc_heap.specs.declared.events.Link.{Link}
 use Rattle.orc_heap.specs.declared.events.Place.{Place}
 use Rattle.orc_heap.specs.declared.events.Place.TheVariants.{Next as AtNext}
-use Rattle.orc_shared_words.specs.Lists.{Among, Begins}
+use mathlib.Core.List.{IsPrefix}
+use Rattle.orc_shared_words.specs.Lists.{Among}
 use Rattle.orc_table.specs.Machine.{id_by, index_of, link_by, numbers, place_by}
 use Rattle.orc_table.specs.Views.{PlainView, heap_of}
 use Rattle.orc_table.specs.Words.{IsOut, IsWord}
@@ -73,7 +74,7 @@ module _ {N : Type 0} where
       pub events : t.events ≡ (s.events ++ met) ++ own
       pub allowed : AllAllowed may (s.events ++ met) own
       pub agent : t.agent ≡ s.agent
-      pub rows : Begins t.rows s.rows
+      pub rows : IsPrefix s.rows t.rows
       pub absorbed : t.absorbed ≡ s.absorbed
       -- an agent whose pass was taken in does nothing more
       pub retired : (b : ℕ) → Among b s.absorbed → events_by b met ≡ []
@@ -121,9 +122,9 @@ module _ {N : Type 0} where
       pub shown_is : shown (run_heap (numbers b) (s.events ++ adds.met)) (AtNext (index_of row s.rows)) ≡ Some old
       pub word : IsWord t.rows old.to old.mark n
 
-  -- the events, and the rows that they gave, of the one or the other, whichever has seen more; the other's are a front
+  -- the events, and the rows that they gave, of the one or the other, whichever has seen more; the other's events are a prefix
   abbrev pub IsLonger : PlainView N → PlainView N → PlainView N → Type 0
-  IsLonger s u t = (Begins s.events u.events × (t.events ≡ s.events) × (t.rows ≡ s.rows)) ⊎ (Begins u.events s.events × (t.events ≡ u.events) × (t.rows ≡ u.rows))
+  IsLonger s u t = (IsPrefix u.events s.events × (t.events ≡ s.events) × (t.rows ≡ s.rows)) ⊎ (IsPrefix s.events u.events × (t.events ≡ u.events) × (t.rows ≡ u.rows))
 
   -- a pass is the same but for what it has seen, where no event of its agent, or of one that it took in, is new
   pub record SameButEvents (s t : PlainView N) : Type 0 where
@@ -131,7 +132,7 @@ module _ {N : Type 0} where
     pub fresh : t.fresh ≡ s.fresh
     pub looked : t.looked ≡ s.looked
     pub absorbed : t.absorbed ≡ s.absorbed
-    pub rows : Begins t.rows s.rows
+    pub rows : IsPrefix s.rows t.rows
     pub own : events_by s.agent t.events ≡ events_by s.agent s.events
     pub retired : (b : ℕ) → Among b s.absorbed → events_by b t.events ≡ events_by b s.events
 
@@ -150,7 +151,7 @@ module _ {N : Type 0} where
     pub fresh : t.fresh ≡ s.fresh
     pub looked : t.looked ≡ s.looked
     pub absorbed : t.absorbed ≡ u.agent ∷ u.absorbed ++ s.absorbed
-    pub rows : Begins t.rows s.rows
+    pub rows : IsPrefix s.rows t.rows
     pub own : events_by s.agent t.events ≡ events_by s.agent s.events
     pub retired : (b : ℕ) → Among b s.absorbed → events_by b t.events ≡ events_by b s.events
     pub taken : (b : ℕ) → (b ≡ u.agent) ⊎ Among b u.absorbed → events_by b t.events ≡ events_by b u.events

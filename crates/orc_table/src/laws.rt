@@ -7,7 +7,8 @@ ghost use Rattle.orc_heap.specs.Heap.{HeapNumbers};
 ghost use Rattle.orc_heap.specs.OwnEvents.{IsBelow};
 ghost use Rattle.orc_heap.specs.Journals.{IsLawful, run_heap};
 ghost use Rattle.orc_heap.specs.declared.events.Event.{Event};
-ghost use Rattle.orc_shared_words.specs.Lists.{Among, Begins};
+ghost use mathlib.Core.List.{IsPrefix};
+ghost use Rattle.orc_shared_words.specs.Lists.{Among};
 ghost use Rattle.orc_table.specs.Calls.{Adds};
 ghost use Rattle.orc_table.specs.Machine.{AllowedFrom, index_of, numbers, project, run};
 ghost use Rattle.orc_heap.specs.Seeds.{opening_events};
@@ -45,7 +46,7 @@ impl<D: Discipline> PlainBoard<D> {
         ensures lawful { IsLawful (board_numbers self.now) (shows self.now p.now).events }
         ensures kept { D.holds (board_numbers self.now) (shows self.now p.now).events }
         ensures each { AllAllowed (D.may (board_numbers self.now)) [] (shows self.now p.now).events }
-        ensures opened { Begins (shows self.now p.now).events (opening_events (board_seed self.now)) }
+        ensures opened { IsPrefix (opening_events (board_seed self.now)) (shows self.now p.now).events }
         ensures agent { (shows self.now p.now).agent < (board_bounds self.now).agents }
         ensures below { IsBelow (board_bounds self.now).agents (shows self.now p.now).events }
         ensures even { length (shows self.now p.now).rows ≡ length (heap_of (board_bounds self.now) (shows self.now p.now)).nodes }

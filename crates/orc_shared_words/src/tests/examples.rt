@@ -1,6 +1,7 @@
 //! Worked examples of the definitions, computed by hand and proved.
 
-ghost use Rattle.orc_shared_words.specs.Lists.{Begins, Each, EachAt, IsLonger};
+ghost use mathlib.Core.List.{IsPrefix};
+ghost use Rattle.orc_shared_words.specs.Lists.{Each, EachAt, IsLonger};
 ghost use Rattle.orc_shared_words.specs.Runs.{AgentsBelow};
 ghost use Rattle.orc_history.specs.Journals.{own_of};
 ghost use Rattle.orc_shared_words.specs.Ticks.{counts, looks, tick_rules};
@@ -18,9 +19,9 @@ fn two_counts_and_a_look()
     ensures events { (tick_rules {N = ℕ}).project 2 (counts 0 None ∷ counts 1 (Some 7) ∷ looks 0 ∷ []) ≡ record { agent = 0; act = Act.Give; note = None } ∷ record { agent = 1; act = Act.Give; note = Some 7 } ∷ [] }
 {}
 
-/// Fronts and members of short lists.
+/// Prefixes and members of short lists.
 fn lists()
-    ensures begins { Begins {A = ℕ} (4 ∷ 5 ∷ 6 ∷ []) (4 ∷ []) }
+    ensures prefix { IsPrefix {A = ℕ} (4 ∷ []) (4 ∷ 5 ∷ 6 ∷ []) }
     ensures longer { IsLonger {A = ℕ} (4 ∷ []) (4 ∷ 5 ∷ []) (4 ∷ 5 ∷ []) }
     ensures each_of_one { Each (λ (n : ℕ). n < 5) (4 ∷ []) }
     ensures each_at { EachAt (λ i (n : ℕ). n ≡ i + 4) (4 ∷ 5 ∷ []) }
