@@ -27,20 +27,21 @@ Looks-null {place = place} {slot = slot} {s = s} {t = t} {seen = seen} r is =
     let tells : Tells place slot s (Stable seen None) t = subst (λ (h : Option Hold). Tells place slot s (Stable seen h) t) is r.tells in
     record { slots = tells.1; puts = tells.2 }
 
--- a look that holds the node of its last Look; the first one showed a link with a target, maybe another
+-- a look that holds the node of its last Look; the first one showed a link with its mark and with a target, maybe another
 pub record LookedHeld {N : Type 0} (place : Place) (slot : ℕ) (mark : Bool) (h : Hold) (s t : Seat N) : Type 0 where
   pub id : ℕ
   pub at : h.slot ≡ slot
   pub slots : t.slots ≡ slice_set s.slots slot (Some (record { row = h.row; id = id }))
   pub one : Link
   pub first : one.to ≢ None
+  pub marked : one.mark ≡ mark
   pub puts : Puts s (event_of s (Look place one) None ∷ event_of s (Look place (record { to = Some id; mark = mark })) None ∷ []) t
 
 pub Looks-held : {N : Type 0} {place : Place} {slot : ℕ} {s t : Seat N} {seen : Seen} {held : Option Hold} {h : Hold}
     → Looks place slot s (Stable seen held) t → held ≡ Some h → LookedHeld place slot seen.mark h s t
 Looks-held {place = place} {slot = slot} {s = s} {t = t} {seen = seen} {h = h} r is =
     let tells : Tells place slot s (Stable seen (Some h)) t = subst (λ (x : Option Hold). Tells place slot s (Stable seen x) t) is r.tells in
-    record { id = tells.0; one = tells.1; first = tells.2; at = tells.4; slots = tells.5; puts = tells.6 }
+    record { id = tells.0; one = tells.1; first = tells.2; marked = tells.3; at = tells.5; slots = tells.6; puts = tells.7 }
 
 -- a swing that moved the link, and one that missed
 pub Swings-moved : {N : Type 0} {at : At} {from to : Want} {noted : Option N} {s t : Seat N} {done : Bool} → Swings at from to noted s done t → done ≡ true

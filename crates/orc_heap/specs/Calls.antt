@@ -49,13 +49,13 @@ pub record Gives {N : Type 0} (n : HeapNumbers) (slot first second : ℕ) (s : S
   pub node : slice_get (run_heap n t.seen).nodes id ≡ Some (given_node s.agent first second)
 
 -- what a look of the place tells, puts and holds, by its answer. A null link is loaded once. Where two loads found the same row and
--- mark, the last Look shows the link whose target is held; the first load was unprotected, so its Look may show another link with
--- a target, whose row was reused since. Where they differ, so do the two Looks, and the first link wasn't null.
+-- mark, the last Look shows the link whose target is held; the first load was unprotected, so its Look shows a link with that mark
+-- and with a target, maybe another, whose row was reused since. Where they differ, so do the two Looks, and the first link wasn't null.
 abbrev pub Tells : {N : Type 0} → Place → ℕ → Seat N → Looked → Seat N → Type 0
 Tells place slot s (Stable seen None) t =
     (seen.null ≡ true) × (t.slots ≡ s.slots) × Puts s (event_of s (Look place (record { to = None; mark = seen.mark })) None ∷ []) t
 Tells place slot s (Stable seen (Some h)) t =
-    (id : ℕ) × (one : Link) × (one.to ≢ None) × (seen.null ≡ false) × (h.slot ≡ slot) × (t.slots ≡ slice_set s.slots slot (Some (record { row = h.row; id = id })))
+    (id : ℕ) × (one : Link) × (one.to ≢ None) × (one.mark ≡ seen.mark) × (seen.null ≡ false) × (h.slot ≡ slot) × (t.slots ≡ slice_set s.slots slot (Some (record { row = h.row; id = id })))
     × Puts s (event_of s (Look place one) None ∷ event_of s (Look place (record { to = Some id; mark = seen.mark })) None ∷ []) t
 Tells place slot s Moved t =
     (one : Link) × (two : Link) × (one ≢ two) × (t.slots ≡ s.slots)
