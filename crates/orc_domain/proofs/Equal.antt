@@ -28,7 +28,6 @@ mark_same : (a : Bool) → beq a a ≡ true
 mark_same true = refl
 mark_same false = refl
 
-
 abbrev pub tested : RowLink → RowLink → Bool
 tested l k = option_eq eqb l.to k.to && beq l.mark k.mark
 
