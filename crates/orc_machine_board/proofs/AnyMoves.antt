@@ -37,7 +37,7 @@ pub any_move : {N : Type 0} (k : MachineShape N) (holds : List (Event N) → Typ
     (note : Option N) → Keeps k holds (AnyFit (heap_numbers k)) v a
     → may_make (bounds_in k) 0 a (LinkCas (Root root) from to) v.own ≡ true
     → MoveAllowed (AnyFit (heap_numbers k)) (bounds_in k) (view_of a v) (Root root) from to note
-any_move k holds v a root from to note kept can = λ place e more later there.
+any_move k holds v a root from to said kept can = λ place e more later there.
     let n = heap_numbers k in
     let seen = project (bounds_in k) v.seen in
     let ids = present_ids (bounds_in k) v.seen in

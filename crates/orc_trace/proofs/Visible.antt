@@ -43,7 +43,6 @@ visible-decimal n small = visible_by_index (decimal n) (λ i lt. let range = dig
 pub visible-append : (a b : List ℕ) → IsVisible a → IsVisible b → IsVisible (a ++ b)
 visible-append a b h k = list_all-append (λ c. ltb 32 c) a b ∙ both (is_visible a) (is_visible b) h k
 
-
 apart : (x byte : ℕ) → byte ≤ 32 → ltb 32 x ≡ true → (x == byte) ≡ false
 apart x byte low h = grind (arith, nat_tests)
 

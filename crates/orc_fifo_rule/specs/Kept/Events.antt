@@ -65,7 +65,6 @@ pub or_either : (a b : Bool) → a || b ≡ true → (a ≡ true) ⊎ (b ≡ tru
 or_either true b e = inl refl
 or_either false b e = inr e
 
-
 pub and_join : (a b : Bool) → a ≡ true → b ≡ true → a && b ≡ true
 and_join a b e f = rw (e, f) refl
 

@@ -288,8 +288,10 @@ fn link_again(
 ) -> bool
     requires belongs { Belongs board.now zero.old × Belongs board.now one.old × Belongs board.now two.old }
     ensures belongs { Belongs board.now zero.new × Belongs board.now one.new × Belongs board.now two.new }
-    ensures agents { ((shows zero.new).agent ≡ (shows zero.old).agent) × ((shows one.new).agent ≡ (shows one.old).agent) × ((shows two.new).agent ≡ (shows two.old).agent) }
-    ensures absorbed { ((shows zero.new).absorbed ≡ (shows zero.old).absorbed) × ((shows one.new).absorbed ≡ (shows one.old).absorbed) × ((shows two.new).absorbed ≡ (shows two.old).absorbed) }
+    ensures agents { ((shows zero.new).agent ≡ (shows zero.old).agent) × ((shows one.new).agent ≡ (shows one.old).agent)
+        × ((shows two.new).agent ≡ (shows two.old).agent) }
+    ensures absorbed { ((shows zero.new).absorbed ≡ (shows zero.old).absorbed) × ((shows one.new).absorbed ≡ (shows one.old).absorbed)
+        × ((shows two.new).absorbed ≡ (shows two.old).absorbed) }
     ensures bounds { state.new.bounds ≡ state.old.bounds }
 {
     let linked = link(board, one, state);

@@ -11,7 +11,8 @@ returns-clause-into g c =
     let l = c.learn.ensures in
     let holds = g.D.Discipline.holds (heap_numbers k) in
     let may = g.D.Discipline.may (heap_numbers k) in
-    let both = both_keep k holds may c.args.into.now.pass.seat.me.0 c.args.from.now.pass.seat.me.0 c.learn.new.into.seat.me.0 c.learn.new.from.seat.me.0 c.args.into.now.pass.agent c.args.from.now.pass.agent c.requires.into.keeps c.requires.from.keeps l.learned in
+    let both = both_keep k holds may c.args.into.now.pass.seat.me.0 c.args.from.now.pass.seat.me.0 c.learn.new.into.seat.me.0 c.learn.new.from.seat.me.0
+    c.args.into.now.pass.agent c.args.from.now.pass.agent c.requires.into.keeps c.requires.from.keeps l.learned in
     record { table = l.table.0 ∙ c.requires.into.table; keeps = subst (Keeps k holds may c.learn.new.into.seat.me.0) (sym l.agents.0) both.0 }
 
 pub returns-clause-from : goal.returns-clause-from
@@ -20,7 +21,8 @@ returns-clause-from g c =
     let l = c.learn.ensures in
     let holds = g.D.Discipline.holds (heap_numbers k) in
     let may = g.D.Discipline.may (heap_numbers k) in
-    let both = both_keep k holds may c.args.into.now.pass.seat.me.0 c.args.from.now.pass.seat.me.0 c.learn.new.into.seat.me.0 c.learn.new.from.seat.me.0 c.args.into.now.pass.agent c.args.from.now.pass.agent c.requires.into.keeps c.requires.from.keeps l.learned in
+    let both = both_keep k holds may c.args.into.now.pass.seat.me.0 c.args.from.now.pass.seat.me.0 c.learn.new.into.seat.me.0 c.learn.new.from.seat.me.0
+    c.args.into.now.pass.agent c.args.from.now.pass.agent c.requires.into.keeps c.requires.from.keeps l.learned in
     record { table = l.table.1 ∙ c.requires.from.table; keeps = subst (Keeps k holds may c.learn.new.from.seat.me.0) (sym l.agents.1) both.1 }
 
 pub returns-clause-learns : goal.returns-clause-learns
