@@ -1,5 +1,5 @@
 -- Two passes that learn from each other.
-use Rattle.std.proofs.Common.{◌≡◌, ℕ, ◌==◌, List, [], ◌∷◌, cond, refl, sym, ap, ◌∙◌, subst, inl, inr, append-nil}
+use Rattle.std.proofs.Common.{◌≡◌, ℕ, ◌==◌, List, [], ◌∷◌, cond, refl, sym, ap, ◌∙◌, subst, inl, inr}
 use Rattle.orc_words.specs.Bounds.{Bounds, bounds_of}
 use Rattle.orc_heap.proofs.Known.{known-later}
 use Rattle.orc_heap.proofs.Stays.{allowed-right}
