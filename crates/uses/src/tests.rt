@@ -1,0 +1,51 @@
+//! Each use, run.
+
+use super::*;
+use orc_fault::Again;
+use orc_history::{QueueRefused, SharedQueue};
+use orc_words::ShapeFault;
+use std::test::Fail;
+
+#[test]
+fn a_job_goes_through_a_queue(rt: HostRuntime) -> Result<(), Fail> {
+    assert_eq!(rt; put_and_take(rt.alloc()), Ok(Some((7, 0))));
+    let Err(why) = plain_queue(rt.alloc(), 1, 17) else {
+        panic!(rt; "one row is too few")
+    };
+    assert_eq!(rt; why, Unmade::Shape(ShapeFault::Rows(1)));
+    Ok(())
+}
+
+#[test]
+fn a_full_domain_and_a_refused_turn(rt: HostRuntime) -> Result<(), Fail> {
+    let Ok((queue, mut passes)) = plain_queue(rt.alloc(), 2, 1) else {
+        panic!(rt; "memory")
+    };
+    let Some(mut p) = next_pass(&queue, &mut passes) else {
+        panic!(rt; "a pass")
+    };
+    assert_eq!(rt; queue.enqueue(&mut p, 5, 0), Err(QueueRefused::Again));
+    assert_eq!(rt; queue.enqueue(&mut p, 5, 2), Ok(0));
+    assert_eq!(rt; queue.enqueue(&mut p, 6, 2), Err(QueueRefused::NoNode));
+    assert_eq!(rt; queue.dequeue(&mut p, 0), Err(Again));
+    assert_eq!(rt; queue.dequeue(&mut p, 2), Ok(Some((5, 0))));
+    assert_eq!(rt; queue.dequeue(&mut p, 2), Ok(None));
+    Ok(())
+}
+
+#[test]
+fn one_puts_while_another_takes(rt: HostRuntime) -> Result<(), Fail> {
+    let Ok((queue, mut passes)) = plain_queue(rt.alloc(), 1024, 2) else {
+        panic!(rt; "memory")
+    };
+    let (Some(mut second), Some(mut first)) = (
+        next_pass(&queue, &mut passes),
+        next_pass(&queue, &mut passes),
+    ) else {
+        panic!(rt; "two passes")
+    };
+    let (put, taken) = put_beside_take(&rt, &queue, &mut first, &mut second, 500);
+    assert_eq!(rt; put, 500);
+    assert!(rt; taken <= 500);
+    Ok(())
+}
