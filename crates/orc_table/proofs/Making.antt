@@ -1,5 +1,5 @@
 -- A new pass.
-use Rattle.std.proofs.Common.{◌≡◌, ◌<◌, ℕ, [], Option, Some, None, refl, sym, ◌∙◌, subst, append-nil}
+use Rattle.std.proofs.Common.{◌≡◌, ◌<◌, ℕ, [], Option, Some, None, refl, sym, subst}
 use Rattle.orc_words.specs.Bounds.{bounds_of}
 use Rattle.orc_heap.specs.Allowed.{AllAllowed}
 use Rattle.orc_heap.specs.declared.discipline.Discipline as discipline

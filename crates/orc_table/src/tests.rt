@@ -209,9 +209,13 @@ fn learn_from_all(
     fourth: &mut Pass,
 )
     requires first { Belongs board.now first.old }
-    requires others { Belongs board.now second.old × Belongs board.now third.old × Belongs board.now fourth.old }
+    requires second { Belongs board.now second.old }
+    requires third { Belongs board.now third.old }
+    requires fourth { Belongs board.now fourth.old }
     ensures first { Belongs board.now first.new }
-    ensures others { Belongs board.now second.new × Belongs board.now third.new × Belongs board.now fourth.new }
+    ensures second { Belongs board.now second.new }
+    ensures third { Belongs board.now third.new }
+    ensures fourth { Belongs board.now fourth.new }
 {
     board.learn(first, second);
     board.learn(first, third);
