@@ -51,11 +51,11 @@ fn load_links(board: &Board, p: &mut Pass, shape: &Shape) -> u64
     sum
 }
 
-/// How often the record allows the load of a root, of which every second one is within the shape.
+/// How often the record allows the load of root 0.
 fn test_record(p: &Pass, shape: &Shape) -> u64 {
     let mut sum: u64 = 0;
-    for load in 0..LOADS {
-        let place = Word::Root(load % 2);
+    for _load in 0..LOADS {
+        let place = Word::Root(0);
         let op = Op::LinkLoad { place, slot: None };
         sum = sum.wrapping_add(u64::from(may_step(shape, 0, p.agent(), &op, p.record())));
     }

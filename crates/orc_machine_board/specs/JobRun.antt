@@ -38,13 +38,15 @@ own_steps (op ∷ ops) = does 0 op None ∷ own_steps ops
 abbrev pub exchanged : Word → RowLink → RowLink → FifoNote → Step FifoNote
 exchanged place from to note = step_of 0 (asks (LinkCas place from to)) (Some note)
 
--- the links that are exchanged
+-- the link to no row
 abbrev pub null_row : RowLink
 null_row = without_mark None
 
+-- the link to row 0
 abbrev pub row_0 : RowLink
 row_0 = without_mark (Some 0)
 
+-- the link to row 1
 abbrev pub row_1 : RowLink
 row_1 = without_mark (Some 1)
 

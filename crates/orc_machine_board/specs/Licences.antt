@@ -16,10 +16,11 @@ use Rattle.orc_words.specs.declared.packed.RowLink.{RowLink}
 use Rattle.orc_words.specs.declared.place.Word.{Word}
 
 module _ {N : Type 0} where
-  -- the present ids, and the events, of what the pass has seen
+  -- the present ids of the rows, after what the pass has seen
   abbrev pub ids_of : Bounds → MachineView N → PresentIds
   ids_of b s = present_ids b s.journal
 
+  -- the events of what the pass has seen
   abbrev pub events_seen : Bounds → MachineView N → List (Event N)
   events_seen b s = project b s.journal
 

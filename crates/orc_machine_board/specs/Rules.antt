@@ -89,10 +89,11 @@ module _ {N : Type 0} where
   abbrev pub machine_opening : ℕ → Seed N → List (Step N)
   machine_opening agents seed = enrolments agents ++ seeding seed
 
-  -- the sizes, and the numbers of the heap
+  -- the sizes of a shape
   abbrev pub bounds_in : MachineShape N → Bounds
   bounds_in k = bounds_of k.shape
 
+  -- the numbers of the heap that a shape has room for
   abbrev pub heap_numbers : MachineShape N → HeapNumbers
   heap_numbers k = numbers_of (bounds_in k)
 

@@ -11,6 +11,7 @@ use orc_words::{RowLink, Shape, Word};
 use std::test::Fail;
 use std::thread::{Threads, join_mut};
 
+mod failing;
 mod job;
 mod traces;
 

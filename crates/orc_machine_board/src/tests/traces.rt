@@ -6,9 +6,17 @@ ghost use Rattle.orc_machine_board.specs.Views.{Belongs, board_bounds, shows};
 ghost use Rattle.orc_words.specs.Bounds.{bounds_of};
 
 use super::*;
-use orc_core::{State, apply};
+use orc_core::{Census, State, apply, census};
 use orc_fault::NoMemory;
 use std::alloc::Global;
+
+const NONE_OUT: Census = Census {
+    out: 0,
+    retired: 0,
+    handed: 0,
+    listed: 0,
+    linked: 0,
+};
 
 // Makes a step by the pass and on the state, and tells whether both answer alike.
 fn play_one(board: &Board, p: &mut Pass, state: &mut State, op: Op) -> bool
@@ -247,8 +255,8 @@ fn hand(board: &Board, one: &mut Pass, two: &mut Pass, state: &mut State, late: 
     hand_over(board, one, two, state)
 }
 
-// Plays a run of two agents, and tells whether all answers and all words agree.
-fn two_agents(alloc: Global, late: bool) -> Option<bool> {
+// Plays a run of two agents, and tells whether all answers and all words agree, and the counts of the state at the end.
+fn two_agents(alloc: Global, late: bool) -> Option<(bool, Census)> {
     let Ok(shape) = Shape::new(2, 1, 2, 8) else {
         return None;
     };
@@ -267,14 +275,15 @@ fn two_agents(alloc: Global, late: bool) -> Option<bool> {
     let handed = hand(&board, &mut one, &mut two, &mut state, late);
     let freed = free(&board, &mut two, &mut state);
     board.absorb(&mut one, two);
+    let counts = census(&state);
     let words = words_agree(board, one, state);
-    Some(found && handed && freed && words)
+    Some((found && handed && freed && words, counts))
 }
 
 #[test]
 fn a_row_is_handed_over_and_freed(rt: HostRuntime) -> Result<(), Fail> {
-    assert_eq!(rt; two_agents(rt.alloc(), false), Some(true));
-    assert_eq!(rt; two_agents(rt.alloc(), true), Some(true));
+    assert_eq!(rt; two_agents(rt.alloc(), false), Some((true, NONE_OUT)));
+    assert_eq!(rt; two_agents(rt.alloc(), true), Some((true, NONE_OUT)));
     Ok(())
 }
 
@@ -322,8 +331,8 @@ fn keep(board: &Board, p: &mut Pass, state: &mut State) -> bool
     looked && kept && left
 }
 
-// Plays a run of three agents, and tells whether all answers and all words agree.
-fn three_agents(alloc: Global) -> Option<bool> {
+// Plays a run of three agents, and tells whether all answers and all words agree, and the counts of the state at the end.
+fn three_agents(alloc: Global) -> Option<(bool, Census)> {
     let Ok(shape) = Shape::new(2, 1, 3, 8) else {
         return None;
     };
@@ -343,12 +352,18 @@ fn three_agents(alloc: Global) -> Option<bool> {
     let kept = keep(&board, &mut one, &mut state);
     board.absorb(&mut zero, one);
     board.absorb(&mut zero, two);
+    let counts = census(&state);
     let words = words_agree(board, zero, state);
-    Some(linked && kept && words)
+    Some((linked && kept && words, counts))
 }
 
 #[test]
 fn a_row_is_linked_again_while_it_is_scanned(rt: HostRuntime) -> Result<(), Fail> {
-    assert_eq!(rt; three_agents(rt.alloc()), Some(true));
+    let linked = Census {
+        out: 1,
+        linked: 1,
+        ..NONE_OUT
+    };
+    assert_eq!(rt; three_agents(rt.alloc()), Some((true, linked)));
     Ok(())
 }
