@@ -32,7 +32,9 @@ fn take_both(board: &Board, one: &mut Pass, two: &mut Pass) -> Option<(u64, u64)
     ensures belongs { Belongs board.now one.new × Belongs board.now two.new }
 {
     let looks = [Op::GateLook { row: 0 }, CHECK];
-    if !make_steps(board, one, &looks) || !make_steps(board, two, &looks) {
+    let one_saw = make_steps(board, one, &looks);
+    let two_saw = make_steps(board, two, &looks);
+    if !(one_saw && two_saw) {
         return None;
     }
     let first = make_step(board, one, Op::GateTake { row: 0 })?;
