@@ -5,7 +5,7 @@ use Rattle.orc_core.specs.declared.records.Agent.{Agent}
 use Rattle.orc_words.specs.declared.place.Word.{Word}
 use Rattle.orc_words.specs.declared.place.Word.TheVariants.{Next}
 
--- a slot of the agent names the row, or it is the agent's fresh row
+-- the agent holds the row, or it is its fresh row
 abbrev pub HasRow : Agent → ℕ → Type 0
 HasRow d r = (any_holds d.slots r || names d.fresh r) ≡ true
 

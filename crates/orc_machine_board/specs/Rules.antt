@@ -93,7 +93,7 @@ module _ {N : Type 0} where
   abbrev pub bounds_in : MachineShape N → Bounds
   bounds_in k = bounds_of k.shape
 
-  -- the numbers of the heap that a shape has room for
+  -- the numbers of the heap that a table of this shape shows
   abbrev pub heap_numbers : MachineShape N → HeapNumbers
   heap_numbers k = numbers_of (bounds_in k)
 
