@@ -264,20 +264,66 @@ fn look_elsewhere(board: &Board, p: &mut Pass) -> bool
     free
 }
 
-// Lets the one agent reuse row 0 while the other looks at row 1, each in a thread of its own.
+// Reads root 0, which leads to row 0.
+fn load_root(board: &Board, p: &mut Pass) -> bool
+    requires belongs { Belongs board.now p.old }
+    ensures belongs { Belongs board.now p.new }
+{
+    make_step(board, p, LOAD) == Some(2)
+}
+
+// Publishes row 0, holds it by a second load of root 0, and reads the value of the node that it has by now.
+fn hold_and_read(board: &Board, p: &mut Pass) -> bool
+    requires belongs { Belongs board.now p.old }
+    ensures belongs { Belongs board.now p.new }
+{
+    let publish = Op::Publish { slot: 2, row: 0 };
+    let published = make_step(board, p, publish) == Some(1);
+    let slot = Some(2);
+    let place = Word::Root(0);
+    let held = make_step(board, p, Op::LinkLoad { place, slot }) == Some(2);
+    let read = make_step(board, p, Op::Read { row: 0, which: 0 }) == Some(9);
+    published && held && read
+}
+
+// What an agent does in a thread.
+#[derive(Clone, Copy)]
+enum Part {
+    Load,
+    Reuse,
+    Hold,
+    LookElsewhere,
+}
+
+// Does this part, and tells whether it went as it must.
+fn play_part(board: &Board, p: &mut Pass, part: Part) -> bool
+    requires belongs { Belongs board.now p.old }
+    ensures belongs { Belongs board.now p.new }
+{
+    match part {
+        Part::Load => load_root(board, p),
+        Part::Reuse => reuse_row_0(board, p),
+        Part::Hold => hold_and_read(board, p),
+        Part::LookElsewhere => look_elsewhere(board, p),
+    }
+}
+
+// Lets each of two agents do its part, in a thread of its own.
 fn on_two_threads<R: Threads + Sync>(
     rt: &R,
     board: &Board,
     one: &mut Pass,
+    first: Part,
     two: &mut Pass,
+    second: Part,
 ) -> (bool, bool)
     requires belongs { Belongs board.now one.old × Belongs board.now two.old }
     ensures belongs { Belongs board.now one.new × Belongs board.now two.new }
 {
     join_mut(
         rt,
-        &mut || reuse_row_0(board, one),
-        &mut || look_elsewhere(board, two),
+        &mut || play_part(board, one, first),
+        &mut || play_part(board, two, second),
     )
 }
 
@@ -338,19 +384,14 @@ fn a_row_is_reused_between_two_loads(rt: HostRuntime) -> Result<(), Fail> {
     assert_eq!(rt; (first.agent(), second.agent()), (0, 1));
     assert_eq!(rt; look_at_root(&board, &mut second), Some((0, 0)));
     assert!(rt; link_row_0(&board, &mut first, 8));
-    assert_eq!(rt; make_step(&board, &mut second, LOAD), Some(2));
+    let elsewhere = Part::LookElsewhere;
+    let loaded = on_two_threads(&rt, &board, &mut first, elsewhere, &mut second, Part::Load);
+    let reused = on_two_threads(&rt, &board, &mut first, Part::Reuse, &mut second, elsewhere);
+    let held = on_two_threads(&rt, &board, &mut first, elsewhere, &mut second, Part::Hold);
     assert_eq!(rt;
-        on_two_threads(&rt, &board, &mut first, &mut second),
-        (true, true)
+        (loaded, reused, held),
+        ((true, true), (true, true), (true, true))
     );
-    let publish = Op::Publish { slot: 2, row: 0 };
-    assert_eq!(rt; make_step(&board, &mut second, publish), Some(1));
-    let slot = Some(2);
-    let place = Word::Root(0);
-    let hold = Op::LinkLoad { place, slot };
-    assert_eq!(rt; make_step(&board, &mut second, hold), Some(2));
-    let read = Op::Read { row: 0, which: 0 };
-    assert_eq!(rt; make_step(&board, &mut second, read), Some(9));
     board.learn(&mut first, &mut second);
     Ok(())
 }
