@@ -38,7 +38,7 @@ fn load_link(board: &Board, p: &mut Pass, shape: &Shape) -> u64
     }
 }
 
-/// The sum of what so many loads of root 0 find.
+// The sum of what so many loads of root 0 find.
 fn load_links(board: &Board, p: &mut Pass, shape: &Shape) -> u64
     requires belongs { Belongs board.now p.old }
     requires shape { bounds_of shape.now ≡ board_bounds board.now }
@@ -51,7 +51,7 @@ fn load_links(board: &Board, p: &mut Pass, shape: &Shape) -> u64
     sum
 }
 
-/// How often the record allows the load of root 0.
+// How often the record allows the load of root 0.
 fn test_record(p: &Pass, shape: &Shape) -> u64 {
     let mut sum: u64 = 0;
     for _load in 0..LOADS {
@@ -62,7 +62,7 @@ fn test_record(p: &Pass, shape: &Shape) -> u64 {
     sum
 }
 
-/// The sum of what as many loads of a bare word find.
+// The sum of what as many loads of a bare word find.
 fn load_word(word: &AtomicU64) -> u64 {
     let mut sum: u64 = 0;
     for _load in 0..LOADS {

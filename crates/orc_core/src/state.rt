@@ -53,10 +53,10 @@ fn new_agents(alloc: Global, shape: &Shape) -> Result<Vec<Agent>, NoMemory>
     ensures { let bounds = bounds_of shape.now in
         IfOk result (λ agents. agents.items ≡ replicate bounds.agents (nobody bounds.rows)) }
 {
-    let mut agents = Vec::with_capacity(alloc, shape.agents() as usize).map_err(|_| NoMemory)?;
+    let mut agents = Vec::with_capacity(alloc, shape.agents() as usize)?;
     for _number in 0..shape.agents() {
         let agent = Agent::new(alloc, shape.rows())?;
-        agents.push(agent).map_err(|_| NoMemory)?;
+        agents.push(agent)?;
     }
     Ok(agents)
 }

@@ -33,7 +33,7 @@ impl WorkList {
     pub fn new(alloc: Global, room: u32) -> Result<WorkList, NoMemory>
         ensures { IfOk result (λ list. list ≡ record { items = []; room = room }) }
     {
-        let rows = VecDeque::with_capacity(alloc, room as usize).map_err(|_| NoMemory)?;
+        let rows = VecDeque::with_capacity(alloc, room as usize)?;
         Ok(WorkList { rows, room })
     }
 

@@ -25,7 +25,7 @@ pub fn number_of(text: &[u8]) -> Option<u64>
     }
 }
 
-/// No sign, and no zero in front of a digit.
+// No sign, and no zero in front of a digit.
 fn is_plain(text: &[u8]) -> bool
     ensures plain { result ≡ true → IsCanonical text.now }
     ensures other { result ≡ false → ¬ IsCanonical text.now }

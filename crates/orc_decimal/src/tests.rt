@@ -6,7 +6,7 @@ ghost use Rattle.orc_decimal.specs.Canonical.{IsCanonical};
 
 use super::*;
 
-/// 255 is the greatest number of eight bits.
+// 255 is the greatest number of eight bits.
 fn decimals_by_hand()
     ensures greatest { IsDecimal 8 (codes "255") }
     ensures too_large { ¬ IsDecimal 8 (codes "256") }

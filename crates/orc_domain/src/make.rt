@@ -55,11 +55,11 @@ fn domain_passes<D: Discipline>(
     ensures next { IfOk result (λ made. All (λ p. p.next < (bounds_of shape.now).rows) made.items) }
     ensures shape { IfOk result (λ made. All (λ p. bounds_of p.shape ≡ bounds_of shape.now) made.items) }
 {
-    passes
+    let made = passes
         .into_iter()
         .map(|pass| new_pass(shape, pass))
-        .collect(alloc)
-        .map_err(|_| NoMemory)
+        .collect(alloc)?;
+    Ok(made)
 }
 
 // Makes a pass that holds nothing.

@@ -6,7 +6,7 @@ ghost use Rattle.orc_domain.specs.Rows.{row_link, target_link, word_at};
 use orc_heap::{At, Held, Want};
 use orc_words::{RowLink, Word};
 
-/// The word of a place.
+// The word of a place.
 pub(crate) fn word_at(place: &At) -> Word
     ensures { result ≡ word_at place.now }
 {
@@ -16,7 +16,7 @@ pub(crate) fn word_at(place: &At) -> Word
     }
 }
 
-/// A link, by the row of its target.
+// A link, by the row of its target.
 pub(crate) fn row_link(link: &Want) -> RowLink
     ensures { result ≡ row_link link.now }
 {
@@ -29,7 +29,7 @@ pub(crate) fn row_link(link: &Want) -> RowLink
     }
 }
 
-/// An unmarked link to a target.
+// An unmarked link to a target.
 pub(crate) fn target_link(to: Option<&Held>) -> RowLink
     ensures { result ≡ target_link to.entry }
 {

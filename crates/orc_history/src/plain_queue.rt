@@ -42,9 +42,7 @@ impl PlainQueue {
         requires { first ≤ 2 ^ 62 }
         ensures { IfOk result (λ q. q ≡ record { room = room; first = first; whole = true }) }
     {
-        let Ok(items) = VecDeque::with_capacity(alloc, room as usize) else {
-            return Err(NoMemory);
-        };
+        let items = VecDeque::with_capacity(alloc, room as usize)?;
         let history = new_history(alloc, room)?;
         let state = PlainQueuePass {
             agent: 0,

@@ -38,9 +38,7 @@ impl PlainSet {
     pub fn new(alloc: Global, room: u32) -> Result<PlainSet, NoMemory>
         ensures { IfOk result (λ s. s ≡ record { room = room; whole = true }) }
     {
-        let Ok(keys) = VecDeque::with_capacity(alloc, room as usize) else {
-            return Err(NoMemory);
-        };
+        let keys = VecDeque::with_capacity(alloc, room as usize)?;
         let history = new_history(alloc, room)?;
         let state = PlainSetPass {
             agent: 0,

@@ -10,10 +10,7 @@ pub(crate) fn new_history<E>(alloc: Global, room: u32) -> Result<Vec<E>, NoMemor
     ensures empty { IfOk result (λ history. history.items ≡ []) }
     ensures reserved { IfOk result (λ history. history_room room ≤ vec_capacity history) }
 {
-    let Ok(history) = Vec::with_capacity(alloc, history_room(room)) else {
-        return Err(NoMemory);
-    };
-    Ok(history)
+    Ok(Vec::with_capacity(alloc, history_room(room))?)
 }
 
 // Answers whether a call with these turns may go on: some are given, and the history takes one more entry.

@@ -67,11 +67,11 @@ fn passes_of<D: Discipline>(
     ensures long { IfOk result (λ made. length made.items ≡ length passes.items) }
     ensures same { IfOk result (λ made. EachFrom (λ p. p.pass) made.items passes.items) }
 {
-    passes
+    let made = passes
         .into_iter()
         .map(|pass| MachineBoardPass { pass })
-        .collect(alloc)
-        .map_err(|_| NoMemory)
+        .collect(alloc)?;
+    Ok(made)
 }
 
 // Makes a step that is allowed.

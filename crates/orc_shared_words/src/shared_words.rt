@@ -76,7 +76,7 @@ impl<M: Machine<D::Note>, D: Discipline> SharedWords<M, D> {
         ensures seen { IfOk result (λ b. All (λ p. (p.seat.me.0.seen ≡ M.rules.opening shape) × (p.seat.me.0.also ≡ [])) b.1.items) }
         ensures owns { IfOk result (λ b. EachAt (λ i p. M.shows p.own ≡ M.rules.own shape (M.rules.opening shape) i) b.1.items) }
     {
-        let mut others = Vec::with_capacity(alloc, owns.len()).map_err(|_| NoMemory)?;
+        let mut others = Vec::with_capacity(alloc, owns.len())?;
         let mut owns = owns.into_iter();
         let Some(own) = owns.next() else {
             unreachable!()
@@ -85,9 +85,9 @@ impl<M: Machine<D::Note>, D: Discipline> SharedWords<M, D> {
         for own in owns {
             let number = others.len() as u32 + 1;
             let next = shared.hand_out(&mut first, number, own);
-            others.push(next).map_err(|_| NoMemory)?;
+            others.push(next)?;
         }
-        others.insert(0, first).map_err(|_| NoMemory)?;
+        others.insert(0, first)?;
         Ok((shared, others))
     }
 
@@ -105,7 +105,7 @@ impl<M: Machine<D::Note>, D: Discipline> SharedWords<M, D> {
         ensures { IfOk result (λ b. (b.1.seat.table_id ≡ b.0.table.shared.table_id) × (b.0.table.shared.table_id.words ≡ length words.now)
             × (b.0.shape ≡ shape) × (b.1.agent ≡ 0) × (b.1.seat.me.0 ≡ first_view M.rules shape)) }
     {
-        let (table, seat) = Table::of_words(alloc, words, &shape).map_err(|_| NoMemory)?;
+        let (table, seat) = Table::of_words(alloc, words, &shape)?;
         let pass = SharedPass {
             seat,
             agent: 0,

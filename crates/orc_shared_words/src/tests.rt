@@ -38,9 +38,9 @@ fn two_agents(alloc: Global) -> Result<(Words, Pass, Pass), NoMemory>
     ensures size { IfOk result (λ t. (t.0.shape ≡ 2) × (t.0.table.shared.table_id.words ≡ 1)) }
     ensures agents { IfOk result (λ t. (t.1.agent ≡ 0) × (t.2.agent ≡ 1)) }
 {
-    let mut owns = Vec::with_capacity(alloc, 2).map_err(|_| NoMemory)?;
-    owns.push(0).map_err(|_| NoMemory)?;
-    owns.push(0).map_err(|_| NoMemory)?;
+    let mut owns = Vec::with_capacity(alloc, 2)?;
+    owns.push(0)?;
+    owns.push(0)?;
     let (words, mut passes) = Words::make(alloc, 2, &[0], owns)?;
     let (Some(second), Some(first)) = (passes.pop(), passes.pop()) else {
         unreachable!()

@@ -61,15 +61,15 @@ fn plain_passes<D: Discipline>(
     ensures same { IfOk result (λ made. EachFrom (λ p. p.pass) made.items passes.items) }
     ensures fresh { IfOk result (λ made. All (λ p. p.fresh ≡ None) made.items) }
 {
-    passes
+    let made = passes
         .into_iter()
         .map(|pass| PlainBoardPass {
             pass,
             fresh: None,
             looked: None,
         })
-        .collect(alloc)
-        .map_err(|_| NoMemory)
+        .collect(alloc)?;
+    Ok(made)
 }
 
 // Makes the words that the seed's steps leave.
@@ -97,5 +97,5 @@ fn opening_words<N>(alloc: Global, shape: &Shape, seed: &Seed<N>) -> Result<Vec<
 fn nothings(alloc: Global, count: u32) -> Result<Vec<()>, NoMemory>
     ensures { IfOk result (λ owns. length owns.items ≡ count) }
 {
-    vec![in alloc; (); count as usize].map_err(|_| NoMemory)
+    Ok(vec![in alloc; (); count as usize]?)
 }

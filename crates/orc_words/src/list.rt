@@ -35,7 +35,7 @@ impl Words {
         ensures ok { OnOk result (self.new ≡ self.old ++ item ∷ []) }
         ensures err { OnErr result (self.new ≡ self.old) }
     {
-        self.items.push(item).map_err(|_| NoMemory)
+        Ok(self.items.push(item)?)
     }
 
     /// How many numbers there are.

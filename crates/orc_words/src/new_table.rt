@@ -22,10 +22,7 @@ pub fn new_words(alloc: Global, shape: &Shape) -> Result<Vec<u64>, NoMemory>
 {
     let words = (0..shape.words())
         .map(|place| first_word(shape, place))
-        .collect(alloc);
-    let Ok(words) = words else {
-        return Err(NoMemory);
-    };
+        .collect(alloc)?;
     Ok(words)
 }
 

@@ -10,7 +10,7 @@ ghost use Rattle.std.specs.Prelude.{◌≡◌, ◌+◌, ◌<◌, ◌∷◌, [], 
 
 use orc_heap::Act;
 
-/// Agent 0 counts, agent 1 counts with the note 7, and agent 0 looks.
+// Agent 0 counts, agent 1 counts with the note 7, and agent 0 looks.
 fn two_counts_and_a_look()
     ensures words { (tick_rules {N = ℕ}).words 2 (counts 0 None ∷ counts 1 (Some 7) ∷ looks 0 ∷ []) ≡ 2 ∷ [] }
     ensures found_by_0 { (tick_rules {N = ℕ}).own 2 (counts 0 None ∷ counts 1 (Some 7) ∷ looks 0 ∷ []) 0 ≡ 2 }
@@ -19,7 +19,7 @@ fn two_counts_and_a_look()
     ensures events { (tick_rules {N = ℕ}).project 2 (counts 0 None ∷ counts 1 (Some 7) ∷ looks 0 ∷ []) ≡ record { agent = 0; act = Act.Give; note = None } ∷ record { agent = 1; act = Act.Give; note = Some 7 } ∷ [] }
 {}
 
-/// Prefixes and members of short lists.
+// Prefixes and members of short lists.
 fn lists()
     ensures prefix { IsPrefix {A = ℕ} (4 ∷ []) (4 ∷ 5 ∷ 6 ∷ []) }
     ensures longer { IsLonger {A = ℕ} (4 ∷ []) (4 ∷ 5 ∷ []) (4 ∷ 5 ∷ []) }

@@ -13,7 +13,7 @@ ghost use Rattle.orc_table.specs.Words.{IsOut, IsWord};
 use crate::PlainOp;
 use orc_words::Word;
 
-/// Rows 3 and then 7 were given: they are nodes 0 and 1.
+// Rows 3 and then 7 were given: they are nodes 0 and 1.
 fn rows_and_nodes()
     ensures first { index_of 3 (3 ∷ 7 ∷ []) ≡ 0 }
     ensures second { index_of 7 (3 ∷ 7 ∷ []) ≡ 1 }
@@ -25,7 +25,7 @@ fn rows_and_nodes()
     ensures root { place_by (3 ∷ 7 ∷ []) (Word.Root 1) ≡ at.Root 1 }
 {}
 
-/// Node 1 is row 7, so a marked link to it is 2 × (7 + 1) + 1.
+// Node 1 is row 7, so a marked link to it is 2 × (7 + 1) + 1.
 fn link_words_by_node()
     ensures marked { IsWord (3 ∷ 7 ∷ []) (Some 1) true 17 }
     ensures unmarked { IsWord (3 ∷ 7 ∷ []) (Some 1) false 16 }
@@ -33,7 +33,7 @@ fn link_words_by_node()
     ensures of_another { ¬ IsWord (3 ∷ 7 ∷ []) (Some 0) true 17 }
 {}
 
-/// A gate word is 3 once its row was given, and 0 before; only the free row is seen as free.
+// A gate word is 3 once its row was given, and 0 before; only the free row is seen as free.
 fn gates()
     ensures out { IsGateWord (3 ∷ []) 3 3 }
     ensures free { IsGateWord (3 ∷ []) 7 0 }
@@ -44,14 +44,14 @@ fn gates()
     ensures lost { written (PlainOp.GateTake 3) 3 ≡ 3 }
 {}
 
-/// A fresh row stays fresh until it is linked.
+// A fresh row stays fresh until it is linked.
 fn fresh_rows()
     ensures linked { unless_linked (Some 4) (Some 4) ≡ None }
     ensures other { unless_linked (Some 4) (Some 5) ≡ Some 4 }
     ensures unlinked { unless_linked (Some 4) None ≡ Some 4 }
 {}
 
-/// Two agents take row 1: the first gets it, and the other's step is no event. Then a load finds null.
+// Two agents take row 1: the first gets it, and the other's step is no event. Then a load finds null.
 fn events_of_steps()
     ensures { let b : Bounds = record { rows = 2; roots = 1; agents = 2; limit = 8 } in
         project b (step_of {N = Unit {0}} 0 (PlainOp.GateTake 1) None ∷ step_of 1 (PlainOp.GateTake 1) None ∷ step_of 1 (PlainOp.LinkLoad (Word.Root 0) None) None ∷ [])
