@@ -18,7 +18,8 @@ use Rattle.orc_heap.specs.Slots.{Hold, Holds, IsFree, id_in}
 use Rattle.orc_heap.specs.declared.events.Act.TheVariants.{Aim, Move}
 use Rattle.orc_heap.specs.declared.events.Link.{Link}
 use Rattle.orc_heap.specs.declared.events.Place.TheVariants.{Root}
-use Rattle.links_example.specs.OwnRoots.{OwnRootsHolds, OwnRootsMay, own_roots_keeps, own_roots_moves_linked}
+use Rattle.links_example.specs.Laws.OwnRoots.{own_roots_keeps, own_roots_moves_linked}
+use Rattle.links_example.specs.OwnRoots.{OwnRootsHolds, OwnRootsMay}
 use Rattle.links_example.specs.Stacks.{HasTop, HoldsNode, NodesStay, Pushes, StackStays, plain_link, stack_node}
 use Rattle.links_example.proofs.Stays.{nodes_stay, top_stays}
 use Rattle.links_example.proofs.Swings.{moved_node, moved_top, unlinked_node}

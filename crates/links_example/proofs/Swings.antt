@@ -19,7 +19,8 @@ use Rattle.orc_heap.specs.declared.events.Act.TheVariants.{Move}
 use Rattle.orc_heap.specs.declared.events.Event.{Event}
 use Rattle.orc_heap.specs.declared.events.Link.{Link}
 use Rattle.orc_heap.specs.declared.events.Place.TheVariants.{Root}
-use Rattle.links_example.specs.OwnRoots.{OwnRootsHolds, OwnRootsMay, own_roots_keeps, own_roots_moves_linked}
+use Rattle.links_example.specs.Laws.OwnRoots.{own_roots_keeps, own_roots_moves_linked}
+use Rattle.links_example.specs.OwnRoots.{OwnRootsHolds, OwnRootsMay}
 use Rattle.links_example.specs.Stacks.{plain_link, stack_node}
 use Rattle.links_example.proofs.Stays.{node_later, top_later}
 

@@ -1,2 +1,3 @@
 pub mod OwnRoots
 pub mod Stacks
+pub mod Laws

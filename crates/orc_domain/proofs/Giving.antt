@@ -26,7 +26,7 @@ use Rattle.orc_domain.specs.declared.domain.PlainDomain.{PlainDomain}
 use Rattle.orc_domain.specs.declared.domain.PlainPass.{PlainPass}
 use Rattle.orc_domain.specs.Calls.{Furnishes, IsSame, Loses, Takes}
 use Rattle.orc_domain.specs.Given.{IsLacking}
-use Rattle.orc_domain.specs.Laws.{seen_by}
+use Rattle.orc_domain.specs.Laws.Passes.{seen_by}
 use Rattle.orc_domain.specs.Passes.{journal_of}
 use Rattle.orc_domain.specs.Rows.{slots_by}
 use Rattle.orc_domain.proofs.Counting.{lacks_all, nodes_given, nodes_stay, once_round, rows_all}

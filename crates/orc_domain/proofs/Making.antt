@@ -6,7 +6,8 @@ use Rattle.orc_heap.specs.declared.discipline.Discipline as discipline
 use Rattle.orc_shared_words.specs.Lists.{EachAt}
 use Rattle.orc_shared_words.specs.declared.machine.Machine as machine
 use Rattle.orc_table.specs.Machine.{id_by}
-use Rattle.orc_table.specs.Views.{Belongs, EachFrom, shows}
+use Rattle.orc_shared_words.specs.Lists.{EachFrom}
+use Rattle.orc_table.specs.Views.{Belongs, shows}
 use Rattle.orc_table.specs.declared.machine.Plain.{Plain}
 use Rattle.orc_table.specs.declared.machine.PlainOp.{PlainOp}
 use Rattle.orc_table.specs.declared.machine.PlainStep.{PlainStep}

@@ -21,7 +21,7 @@ use Rattle.orc_table.specs.declared.machine.Plain.{Plain}
 use Rattle.orc_table.specs.declared.machine.PlainOp.{PlainOp}
 use Rattle.orc_table.specs.declared.machine.PlainStep.{PlainStep}
 use Rattle.orc_table.specs.declared.shape.PlainShape.{PlainShape}
-use Rattle.orc_domain.specs.Laws.{row_in}
+use Rattle.orc_domain.specs.Laws.Passes.{row_in}
 use Rattle.orc_domain.specs.Passes.{IsPassOf, domain_bounds, seat_of}
 use Rattle.orc_domain.specs.Rows.{row_link, target_link, word_at}
 use Rattle.orc_domain.specs.declared.domain.PlainDomain.{PlainDomain}

@@ -18,7 +18,7 @@ use orc_words::pack_link;
 
 impl<D: Discipline> Links for PlainDomain<D> {
     ghost use Rattle.orc_domain.specs.Given.{IsLacking};
-    ghost use Rattle.orc_domain.specs.Laws.{all_allowed, all_below, all_given, all_obey, begins_so, begun, fresh_untouched, held_known, lacking_later, one_more, seen_by};
+    ghost use Rattle.orc_domain.specs.Laws.Passes.{all_allowed, all_below, all_given, all_obey, begins_so, begun, fresh_untouched, held_known, lacking_later, one_more, seen_by};
     ghost use Rattle.orc_domain.specs.Passes.{domain_bounds, domain_opening};
 
     type Rule = D;

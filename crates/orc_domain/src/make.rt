@@ -6,7 +6,7 @@ ghost use Rattle.orc_heap.specs.Seats.{IsIdle};
 ghost use Rattle.orc_shared_words.specs.Lists.{EachAt};
 ghost use Rattle.orc_table.specs.Machine.{numbers};
 ghost use Rattle.orc_heap.specs.Seeds.{SeedAllowed, opening_events};
-ghost use Rattle.orc_table.specs.Views.{EachFrom};
+ghost use Rattle.orc_shared_words.specs.Lists.{EachFrom};
 ghost use Rattle.orc_domain.specs.Passes.{IsPassOf, domain_bounds, domain_opening, seat_of};
 
 use crate::domain::{PlainDomain, PlainPass};

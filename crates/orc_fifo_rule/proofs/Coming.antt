@@ -15,11 +15,11 @@ use Rattle.orc_fifo_rule.specs.declared.fifo.FifoNote.{FifoNote}
 use Rattle.orc_fifo_rule.specs.declared.fifo.FifoNote.TheVariants.{Entry, Swing}
 use Rattle.orc_fifo_rule.specs.QueueDiscipline.{FifoHolds, FifoMay, HasJob, IsRunning, entries_of, has_begun, position_of}
 use Rattle.orc_fifo_rule.specs.Watches.{IsLeft, WasNamed, node_to_put}
-use Rattle.orc_fifo_rule.specs.Kept.Events.{begun_more}
-use Rattle.orc_fifo_rule.specs.Kept.Nodes.{job_linked}
-use Rattle.orc_fifo_rule.specs.Kept.Paths.{path_ends, path_step, successor_linked}
+use Rattle.orc_fifo_rule.specs.Laws.Events.{begun_more}
+use Rattle.orc_fifo_rule.specs.Laws.Nodes.{job_linked}
+use Rattle.orc_fifo_rule.specs.Laws.Paths.{path_ends, path_step, successor_linked}
 use Rattle.orc_heap.proofs.Fresh.{node_later}
-use Rattle.orc_fifo_rule.specs.Kept.Laws.{fifo_fits, fifo_keeps, fifo_moves_linked}
+use Rattle.orc_fifo_rule.specs.Laws.Kept.{fifo_fits, fifo_keeps, fifo_moves_linked}
 use Rattle.orc_fifo_rule.proofs.Later.{holds_later, job_later, link_later, named_later, next_position, position_later, still_named}
 use Rattle.orc_fifo_rule.proofs.Leaving.{left_later}
 use Rattle.orc_heap.proofs.SingleActs.{link_same, shown_link, some_same}

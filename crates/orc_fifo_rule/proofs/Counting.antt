@@ -20,14 +20,14 @@ use Rattle.orc_fifo_rule.specs.declared.fifo.FifoNote.{FifoNote}
 use Rattle.orc_fifo_rule.specs.declared.fifo.FifoNote.TheVariants.{Begin, Entry, Swing}
 use Rattle.orc_heap.specs.Calls.{links_made}
 use Rattle.orc_fifo_rule.specs.QueueDiscipline.{FifoHolds, FifoMay, IsRunning, has_begun, is_begin_of, position_of, root_has_begun}
-use Rattle.orc_fifo_rule.specs.Kept.Events.{not_begun_before, root_begun_more}
-use Rattle.orc_fifo_rule.specs.Kept.Kinds.{each_kind}
-use Rattle.orc_fifo_rule.specs.Kept.Laws.{fifo_keeps, late, opening_next}
-use Rattle.orc_fifo_rule.specs.Kept.Nodes.{job_position, linked_next, position_next}
-use Rattle.orc_fifo_rule.specs.Kept.Opening.{begun_root}
-use Rattle.orc_fifo_rule.specs.Kept.Leaves.{names, put_has_job, unlinked_apart}
-use Rattle.orc_fifo_rule.specs.Kept.Paths.{dummy_linked, head_steps, successor_linked, tail_linked, tail_steps}
-use Rattle.orc_fifo_rule.specs.Kept.Running.{begin_late, root_at}
+use Rattle.orc_fifo_rule.specs.Laws.Events.{not_begun_before, root_begun_more}
+use Rattle.orc_fifo_rule.specs.Laws.Kinds.{each_kind}
+use Rattle.orc_fifo_rule.specs.Laws.Kept.{fifo_keeps, late, opening_next}
+use Rattle.orc_fifo_rule.specs.Laws.Nodes.{job_position, linked_next, position_next}
+use Rattle.orc_fifo_rule.specs.Laws.Opening.{begun_root}
+use Rattle.orc_fifo_rule.specs.Laws.Leaves.{names, put_has_job, unlinked_apart}
+use Rattle.orc_fifo_rule.specs.Laws.Paths.{dummy_linked, head_steps, successor_linked, tail_linked, tail_steps}
+use Rattle.orc_fifo_rule.specs.Laws.Running.{begin_late, root_at}
 use Rattle.orc_fifo_rule.proofs.Later.{nothing_yet}
 use Rattle.orc_heap.proofs.SingleActs.{link_same, null_to, plain_points, plain_roots, root_moved, root_next, root_other, some_same}
 

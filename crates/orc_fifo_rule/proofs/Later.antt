@@ -15,11 +15,11 @@ use Rattle.orc_fifo_rule.specs.declared.fifo.FifoNote.{FifoNote}
 use Rattle.orc_fifo_rule.specs.declared.fifo.FifoNote.TheVariants.{Begin, Entry, Swing}
 use Rattle.orc_fifo_rule.specs.QueueDiscipline.{FifoHolds, FifoMay, HasJob, StepsOn, entries_of, has_begun, position_of}
 use Rattle.orc_fifo_rule.specs.Watches.{WasNamed}
-use Rattle.orc_fifo_rule.specs.Kept.Kinds.{each_kind}
-use Rattle.orc_fifo_rule.specs.Kept.Laws.{fifo_keeps}
-use Rattle.orc_fifo_rule.specs.Kept.Nodes.{job_next, linked_next, node_next, position_next}
-use Rattle.orc_fifo_rule.specs.Kept.Paths.{put_at_last}
-use Rattle.orc_fifo_rule.specs.Kept.Running.{root_at}
+use Rattle.orc_fifo_rule.specs.Laws.Kinds.{each_kind}
+use Rattle.orc_fifo_rule.specs.Laws.Kept.{fifo_keeps}
+use Rattle.orc_fifo_rule.specs.Laws.Nodes.{job_next, linked_next, node_next, position_next}
+use Rattle.orc_fifo_rule.specs.Laws.Paths.{put_at_last}
+use Rattle.orc_fifo_rule.specs.Laws.Running.{root_at}
 use Rattle.orc_heap.proofs.SingleActs.{has_link, link_same, null_to, plain_roots, root_either, root_next, shown_link, some_same}
 
 no_link : (n : HeapNumbers) (before after : List (Event FifoNote)) (id : ℕ) (link : Link) → [] ≡ before ++ after → HasLink (run_heap n before) id link → HasLink (run_heap {N = FifoNote} n []) id link

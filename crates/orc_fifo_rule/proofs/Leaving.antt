@@ -14,12 +14,12 @@ use Rattle.orc_fifo_rule.specs.declared.fifo.FifoNote.{FifoNote}
 use Rattle.orc_fifo_rule.specs.declared.fifo.FifoNote.TheVariants.{Entry, Swing}
 use Rattle.orc_fifo_rule.specs.QueueDiscipline.{FifoHolds, FifoMay, IsPath, IsRunning, has_begun}
 use Rattle.orc_fifo_rule.specs.Watches.{IsLeft, WasNamed}
-use Rattle.orc_fifo_rule.specs.Kept.Events.{begun_more}
-use Rattle.orc_fifo_rule.specs.Kept.Kinds.{each_kind}
-use Rattle.orc_fifo_rule.specs.Kept.Laws.{fifo_keeps}
-use Rattle.orc_fifo_rule.specs.Kept.Nodes.{node_next}
-use Rattle.orc_fifo_rule.specs.Kept.Paths.{back_one, tail_steps}
-use Rattle.orc_fifo_rule.specs.Kept.Running.{begin_late, root_at}
+use Rattle.orc_fifo_rule.specs.Laws.Events.{begun_more}
+use Rattle.orc_fifo_rule.specs.Laws.Kinds.{each_kind}
+use Rattle.orc_fifo_rule.specs.Laws.Kept.{fifo_keeps}
+use Rattle.orc_fifo_rule.specs.Laws.Nodes.{node_next}
+use Rattle.orc_fifo_rule.specs.Laws.Paths.{back_one, tail_steps}
+use Rattle.orc_fifo_rule.specs.Laws.Running.{begin_late, root_at}
 use Rattle.orc_heap.proofs.SingleActs.{link_same, null_to, plain_roots, root_either, root_next, root_other, shown_link, some_same}
 
 -- the tail steps on to the last node, which has no successor

@@ -9,7 +9,7 @@ use Rattle.orc_heap.specs.declared.events.Place.TheVariants.{Root}
 use Rattle.orc_fifo_rule.specs.declared.fifo.FifoNote.{FifoNote}
 use Rattle.orc_fifo_rule.specs.QueueDiscipline.{FifoHolds, HasJob, has_begun, position_of}
 use Rattle.orc_fifo_rule.specs.Watches.{WasNamed}
-use Rattle.orc_fifo_rule.specs.Kept.Paths.{dummy_linked, tail_linked}
+use Rattle.orc_fifo_rule.specs.Laws.Paths.{dummy_linked, tail_linked}
 use Rattle.orc_heap.proofs.SingleActs.{link_same, null_to, some_same}
 
 -- each of the two roots names a once linked node, without a mark

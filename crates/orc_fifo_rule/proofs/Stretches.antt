@@ -17,12 +17,12 @@ use Rattle.orc_fifo_rule.specs.declared.fifo.FifoNote.{FifoNote}
 use Rattle.orc_fifo_rule.specs.declared.fifo.FifoNote.TheVariants.{Entry, Swing}
 use Rattle.orc_fifo_rule.specs.QueueDiscipline.{FifoHolds, FifoMay, IsPath, IsRunning, entries_in, entries_of, has_begun}
 use Rattle.orc_fifo_rule.specs.Counts.{swings_in, swings_with}
-use Rattle.orc_fifo_rule.specs.Kept.Events.{begun_more}
-use Rattle.orc_fifo_rule.specs.Kept.Kinds.{each_kind}
-use Rattle.orc_fifo_rule.specs.Kept.Laws.{fifo_keeps}
-use Rattle.orc_fifo_rule.specs.Kept.Nodes.{PutsAt, link_next, node_next, null_next}
-use Rattle.orc_fifo_rule.specs.Kept.Leaves.{put_node_after, put_tail}
-use Rattle.orc_fifo_rule.specs.Kept.Running.{begin_late, root_at}
+use Rattle.orc_fifo_rule.specs.Laws.Events.{begun_more}
+use Rattle.orc_fifo_rule.specs.Laws.Kinds.{each_kind}
+use Rattle.orc_fifo_rule.specs.Laws.Kept.{fifo_keeps}
+use Rattle.orc_fifo_rule.specs.Laws.Nodes.{PutsAt, link_next, node_next, null_next}
+use Rattle.orc_fifo_rule.specs.Laws.Leaves.{put_node_after, put_tail}
+use Rattle.orc_fifo_rule.specs.Laws.Running.{begin_late, root_at}
 use Rattle.orc_heap.proofs.SingleActs.{link_moved, link_same, null_to, plain_roots, root_moved, root_next, root_other, shown_link, some_same}
 
 -- the tail names the last node, or the one before it

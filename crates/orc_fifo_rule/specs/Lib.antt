@@ -1,4 +1,4 @@
 pub mod QueueDiscipline
 pub mod Watches
 pub mod Counts
-pub mod Kept
+pub mod Laws

@@ -7,17 +7,6 @@ use Rattle.orc_heap.specs.declared.events.Act.{Act}
 use Rattle.orc_heap.specs.declared.events.Act.TheVariants.{Aim, Fill, Give, Look, Miss, Move}
 use Rattle.orc_heap.specs.declared.events.Event.{Event}
 
-plain_stays : (act : Act) (h : Heap) → IsPlainAct act → MovesLinked act h
-plain_stays Give h p = tt
-plain_stays (Fill id which value) h p = tt
-plain_stays (Aim id to) h p = tt
-plain_stays (Look place link) h p = tt
-plain_stays (Move place from to) h p = absurd p
-plain_stays (Miss place wanted found) h p = tt
-
 -- whatever fits may follow, but for a Move of a link that no Move made
 abbrev pub AnyFit : {N : Type 0} → HeapNumbers → List (Event N) → Event N → Type 0
 AnyFit n seen e = FitsAfter n seen e × MovesLinked e.act (run_heap n seen)
-
-pub plain_fits : {N : Type 0} (n : HeapNumbers) (seen : List (Event N)) (e : Event N) → FitsAfter n seen e → IsPlain e → AnyFit n seen e
-plain_fits n seen e fits plain = (fits, plain_stays e.act (run_heap n seen) plain.1)

@@ -11,3 +11,4 @@ pub mod Moves
 pub mod Domains
 pub mod Seeds
 pub mod AnyFit
+pub mod Laws

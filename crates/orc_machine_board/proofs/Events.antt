@@ -19,7 +19,7 @@ use Rattle.orc_projection.specs.PresentIds.{PresentIds, no_ids, node_link, node_
 use Rattle.orc_projection.specs.Mirror.{numbers_of}
 use Rattle.orc_projection.specs.Projection.{StoresUnmarked, IsPlainOp, act_of, events_of, is_taken, load_act, note_on, present_ids, project}
 use Rattle.orc_machine_board.specs.Kinds.{is_plain_kind}
-use Rattle.orc_machine_board.specs.Laws.{counted_obeys, in_range}
+use Rattle.orc_machine_board.specs.Laws.Steps.{counted_obeys, in_range}
 use Rattle.orc_machine_board.specs.Rules.{RequestAllowed, bounds_in, counted_rules, events_after, heap_numbers, is_enroll, run_of, step_of}
 use Rattle.orc_machine_board.specs.declared.machine.Request.{Request}
 use Rattle.orc_machine_board.specs.declared.machine.MachineShape.{MachineShape}

@@ -12,7 +12,7 @@ use Rattle.orc_projection.proofs.Mirrored.{ids-append}
 use Rattle.orc_projection.specs.PresentIds.{PresentIds, no_ids, with_taken}
 use Rattle.orc_projection.specs.Projection.{ids_after, is_taken, present_ids}
 use Rattle.orc_machine_board.specs.Holding.{HasRow}
-use Rattle.orc_machine_board.specs.Laws.{bounds_run, other_record, run_next}
+use Rattle.orc_machine_board.specs.Laws.Steps.{bounds_run, other_record, run_next}
 use Rattle.orc_machine_board.specs.Rules.{run_of}
 use Rattle.orc_shared_words.proofs.Runs.{by_other, by_own, cons_nil}
 use Rattle.orc_sound.proofs.ForRuns.{run_sound}

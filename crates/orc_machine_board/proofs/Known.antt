@@ -15,7 +15,7 @@ use Rattle.orc_heap.specs.Acts.{IsKnown, IsTarget}
 use Rattle.orc_heap.specs.Heap.{Heap}
 use Rattle.orc_heap.specs.Journals.{run_heap}
 use Rattle.orc_heap.specs.declared.events.Event.{Event}
-use Rattle.orc_machine_board.specs.Laws.{in_range}
+use Rattle.orc_machine_board.specs.Laws.Steps.{in_range}
 use Rattle.orc_machine_board.specs.Rules.{bounds_in, heap_numbers, run_of}
 use Rattle.orc_machine_board.specs.Views.{Keeps}
 use Rattle.orc_machine_board.specs.declared.machine.MachineShape.{MachineShape}

@@ -2,7 +2,7 @@
 use Rattle.std.proofs.Common.{List, Some, ap, inl, inr, refl, sym, ℕ, ◌++◌, ◌∙◌, ◌∷◌, ◌≡◌, ⊎_elim}
 use Rattle.orc_core.specs.declared.records.Agent.{Agent}
 use Rattle.orc_heap.specs.declared.events.Event.{Event}
-use Rattle.orc_machine_board.specs.Laws.{counted_obeys}
+use Rattle.orc_machine_board.specs.Laws.Steps.{counted_obeys}
 use Rattle.orc_machine_board.specs.Passes.{AbsorbsSteps, LearnsSteps, SameButSteps, steps_of}
 use Rattle.orc_machine_board.specs.Rules.{counted_rules}
 use Rattle.orc_machine_board.specs.Views.{Keeps, view_of}

@@ -27,7 +27,7 @@ use Rattle.std.proofs.lemmas.Bool.{false≢true}
 use Rattle.orc_sound.specs.Journals.{IsHeldOrNull}
 use Rattle.orc_machine_board.specs.Holding.{HasRow, HasPlace, HasTarget}
 use Rattle.orc_machine_board.specs.Kinds.{asks, wants}
-use Rattle.orc_machine_board.specs.Laws.{bounds_run, counted_obeys, in_range}
+use Rattle.orc_machine_board.specs.Laws.Steps.{bounds_run, counted_obeys, in_range}
 use Rattle.orc_machine_board.specs.Licences.{AimAllowed, LookAllowed, MoveAllowed}
 use Rattle.orc_machine_board.specs.Rules.{RequestAllowed, bounds_in, counted_rules, events_after, heap_numbers, run_of, step_of}
 use Rattle.orc_machine_board.specs.Views.{view_of}

@@ -8,7 +8,7 @@ use Rattle.orc_core.specs.declared.records.Agent.{Agent}
 use Rattle.orc_heap.specs.declared.events.Event.{Event}
 use Rattle.orc_history.specs.Journals.{own_of}
 use Rattle.orc_core.proofs.Steps.{every_run_whole}
-use Rattle.orc_machine_board.specs.Laws.{bounds_run, in_range, long_run}
+use Rattle.orc_machine_board.specs.Laws.Steps.{bounds_run, in_range, long_run}
 use Rattle.orc_sound.specs.Journals.{plain}
 use Rattle.orc_words.specs.Bounds.{Bounds}
 use Rattle.orc_machine_board.specs.Rules.{bounds_in, counted_rules, run_of, step_of}

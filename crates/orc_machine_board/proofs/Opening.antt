@@ -27,7 +27,7 @@ use Rattle.orc_heap.specs.Allowed.{AllAllowed}
 use Rattle.orc_heap.specs.Acts.{with_value}
 use Rattle.orc_heap.specs.Heap.{new_node}
 use Rattle.orc_heap.specs.declared.events.Act.TheVariants as act
-use Rattle.orc_machine_board.specs.Laws.{in_range}
+use Rattle.orc_machine_board.specs.Laws.Steps.{in_range}
 use Rattle.orc_core.specs.Runs.{IsLawful}
 use Rattle.orc_machine_board.specs.Plays.{GoesOn}
 use Rattle.orc_machine_board.specs.Views.{Keeps}
@@ -41,7 +41,7 @@ use Rattle.orc_machine_board.specs.declared.machine.MachineShape.{MachineShape}
 use Rattle.orc_heap.specs.Seeds.{HasRoots, SeedAllowed, opening_event, opening_events}
 use Rattle.orc_sound.proofs.Shown.{word_shown}
 use Rattle.orc_projection.specs.Projection.{StoresUnmarked, act_of, events_of, ids_after, ids_from, project, project_from}
-use Rattle.orc_machine_board.specs.Laws.{bounds_run, run_more, run_next}
+use Rattle.orc_machine_board.specs.Laws.Steps.{bounds_run, run_more, run_next}
 use Rattle.orc_machine_board.specs.Rules.{does, enrolments, newcomer, machine_opening, run_of, seeding}
 use Rattle.orc_heap.specs.declared.seed.Seed.{Seed}
 use Rattle.orc_heap.specs.declared.seed.Seed.TheVariants.{Dummy, Empty}

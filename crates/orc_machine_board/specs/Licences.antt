@@ -3,7 +3,7 @@
 use Rattle.std.specs.Option.{option_map}
 use Rattle.std.specs.Prelude.{List, None, Option, Some, ℕ, ◌≡◌}
 use Rattle.orc_heap.specs.Allowed.{AllowedLater, AllowedWhereFits}
-use Rattle.orc_heap.specs.declared.events.Act.{Act}
+use Rattle.orc_heap.specs.Journals.{event_by}
 use Rattle.orc_heap.specs.declared.events.Act.TheVariants.{Aim, Look, Move}
 use Rattle.orc_heap.specs.declared.events.Event.{Event}
 use Rattle.orc_heap.specs.declared.events.Place.{Place}
@@ -24,24 +24,20 @@ module _ {N : Type 0} where
   abbrev pub events_seen : Bounds → MachineView N → List (Event N)
   events_seen b s = project b s.journal
 
-  -- an event of the pass's agent
-  abbrev pub own_event : MachineView N → Act → Option N → Event N
-  own_event s act note = record { agent = s.agent; act = act; note = note }
-
   module _ (may : List (Event N) → Event N → Type 0) (b : Bounds) (s : MachineView N) where
     -- a Move of the place
     abbrev pub MoveAllowed : Word → RowLink → RowLink → Option N → Type 0
     MoveAllowed place from to note = (at : Place) → node_place (ids_of b s) place ≡ Some at
         → AllowedLater may (numbers_of b) s.agent (events_seen b s) at (node_link (ids_of b s) from)
-        (own_event s (Move at (node_link (ids_of b s) from) (node_link (ids_of b s) to)) note)
+        (event_by s.agent (Move at (node_link (ids_of b s) from) (node_link (ids_of b s) to)) note)
 
     -- a noted Look at the place
     abbrev pub LookAllowed : Word → RowLink → Option N → Type 0
     LookAllowed place link note = (at : Place) → node_place (ids_of b s) place ≡ Some at
         → AllowedLater may (numbers_of b) s.agent (events_seen b s) at (node_link (ids_of b s) link)
-        (own_event s (Look at (node_link (ids_of b s) link)) note)
+        (event_by s.agent (Look at (node_link (ids_of b s) link)) note)
 
     -- an Aim of the fresh row's node
     abbrev pub AimAllowed : ℕ → Option ℕ → Type 0
     AimAllowed row to = AllowedWhereFits may (numbers_of b) s.agent (events_seen b s)
-        (own_event s (Aim ((ids_of b s).node row) (option_map (ids_of b s).node to)) None)
+        (event_by s.agent (Aim ((ids_of b s).node row) (option_map (ids_of b s).node to)) None)

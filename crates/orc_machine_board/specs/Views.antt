@@ -1,5 +1,5 @@
 -- What a pass shows, and what a step of it tells.
-use Rattle.std.specs.Prelude.{List, Option, Some, [], length, slice_index_or, ℕ, ◌++◌, ◌<◌, ◌∷◌, ◌≡◌}
+use Rattle.std.specs.Prelude.{List, Option, Some, [], length, ℕ, ◌++◌, ◌<◌, ◌∷◌, ◌≡◌}
 use Rattle.orc_core.specs.Actions.{action_of}
 use Rattle.orc_core.specs.After.{after}
 use Rattle.orc_core.specs.Machine.{word_read}
@@ -30,10 +30,6 @@ pub record MachineView (N : Type 0) : Type 0 where
   pub journal : List (Step N)
   pub record_is : Agent
   pub absorbed : List ℕ
-
--- each item of the one list is this part of the item of the other list at its place
-abbrev pub EachFrom : {A B : Type 0} → (A → B) → List A → List B → Type 0
-EachFrom {A} {B} part xs ys = (i : ℕ) (x : A) (y : B) → i < length ys → part (slice_index_or xs i x) ≡ slice_index_or ys i y
 
 module _ {N : Type 0} where
   -- what the pass of an agent shows that has this view

@@ -27,7 +27,7 @@ pub struct Reclaiming;
 
 impl<N: Copy> Machine<N> for Reclaiming {
     ghost use Rattle.orc_machine_board.specs.Rules.{ListHasRoom, counted_rules, heap_numbers};
-    ghost use Rattle.orc_machine_board.specs.Laws.{counted_leaves_room, counted_obeys};
+    ghost use Rattle.orc_machine_board.specs.Laws.Steps.{counted_leaves_room, counted_obeys};
 
     type Shape = MachineShape<N>;
 

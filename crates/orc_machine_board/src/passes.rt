@@ -33,8 +33,8 @@ impl<D: Discipline> MachineBoardPass<D> {
         &self.pass.own
     }
 
-    /// How many rows the agent has to see to: the entries of its work list, and one more where it keeps a hand or a
-    /// scan.
+    /// How many rows the agent has still to work through: the entries of its work list, and one more where it keeps a
+    /// hand or a scan. A doomed row that it has still to free isn't counted.
     pub fn backlog(&self) -> u32
         requires belongs { (board : MachineBoard D D.Note) × Belongs board self.now }
         ensures { result ≡ backlog_in (shows self.now).record_is }

@@ -22,16 +22,16 @@ use Rattle.orc_fifo_rule.proofs.Later.{holds_later}
 use Rattle.orc_fifo_rule.specs.declared.fifo.FifoNote.{FifoNote}
 use Rattle.orc_fifo_rule.specs.declared.fifo.FifoNote.TheVariants.{Swing}
 use Rattle.orc_fifo_rule.specs.QueueDiscipline.{FifoHolds, FifoMay, has_begun}
-use Rattle.orc_fifo_rule.specs.Kept.Events.{begun_more}
-use Rattle.orc_fifo_rule.specs.Kept.Nodes.{link_next, node_next}
-use Rattle.orc_fifo_rule.specs.Kept.Paths.{back_one, tail_steps}
+use Rattle.orc_fifo_rule.specs.Laws.Events.{begun_more}
+use Rattle.orc_fifo_rule.specs.Laws.Nodes.{link_next, node_next}
+use Rattle.orc_fifo_rule.specs.Laws.Paths.{back_one, tail_steps}
 use Rattle.orc_queue.specs.Turns.{EndsHelping, IsOver, KeepsTail, Piece, TailIsLast, TailIsPast}
 use Rattle.orc_queue.proofs.Filled.{Known}
 use Rattle.orc_queue.proofs.Joins.{Join}
 use Rattle.orc_heap.proofs.SingleActs.{link_same, null_to, root_moved, root_other, shown_link, some_same}
 use Rattle.orc_heap.proofs.Pieces.{own_moves_left, alone_holds, moves_then}
 use Rattle.orc_heap.proofs.Moments.{look_found}
-use Rattle.orc_fifo_rule.specs.Kept.Laws.{fifo_keeps}
+use Rattle.orc_fifo_rule.specs.Laws.Kept.{fifo_keeps}
 
 -- where no other agent steps, what follows from the own events, wherever they stand once the roots have begun, holds of the heap
 pub alone_runs : (n : HeapNumbers) (P : Heap → Type 0) (s t : Seat FifoNote) (own : List (Event FifoNote)) (p : Puts s own t) → Known n s.seen → AllAllowed (FifoMay n) [] t.seen

@@ -31,7 +31,7 @@ use Rattle.orc_fifo_rule.specs.QueueDiscipline.{FifoMay, entries_of, position_of
 use Rattle.orc_queue.specs.Answers.{CallFindsFull, IsCall, PutAnswers, TakeAnswers, Tires, gives_of}
 use Rattle.orc_queue.specs.Causes.{Cause, LacksPosition, UsesTurns}
 use Rattle.orc_queue.specs.Turns.{FindsFull, HasDummy, TailIsLast}
-use Rattle.orc_queue.specs.Laws.{first_stays}
+use Rattle.orc_queue.specs.Laws.Histories.{first_stays}
 use Rattle.orc_queue.proofs.Alone.{tail_settles, alone_runs}
 use Rattle.orc_queue.proofs.Filled.{Known}
 use Rattle.orc_queue.proofs.Room.{full_puts}

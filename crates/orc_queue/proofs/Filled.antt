@@ -22,11 +22,11 @@ use Rattle.orc_heap.specs.declared.events.Place.TheVariants.{Next, Root}
 use Rattle.orc_fifo_rule.proofs.Later.{holds_later, nothing_yet}
 use Rattle.orc_fifo_rule.specs.declared.fifo.FifoNote.{FifoNote}
 use Rattle.orc_fifo_rule.specs.QueueDiscipline.{FifoHolds, FifoMay, has_begun}
-use Rattle.orc_fifo_rule.specs.Kept.Events.{begun_more}
-use Rattle.orc_fifo_rule.specs.Kept.Kinds.{each_kind}
-use Rattle.orc_fifo_rule.specs.Kept.Laws.{fifo_keeps}
-use Rattle.orc_fifo_rule.specs.Kept.Paths.{head_steps, successor_linked, tail_steps}
-use Rattle.orc_fifo_rule.specs.Kept.Running.{begin_late}
+use Rattle.orc_fifo_rule.specs.Laws.Events.{begun_more}
+use Rattle.orc_fifo_rule.specs.Laws.Kinds.{each_kind}
+use Rattle.orc_fifo_rule.specs.Laws.Kept.{fifo_keeps}
+use Rattle.orc_fifo_rule.specs.Laws.Paths.{head_steps, successor_linked, tail_steps}
+use Rattle.orc_fifo_rule.specs.Laws.Running.{begin_late}
 use Rattle.orc_queue.specs.Turns.{HasDummy}
 
 no_plain_link : (act : Act) (id : ℕ) → IsPlainAct act → moves_to act id ≡ true → ⊥

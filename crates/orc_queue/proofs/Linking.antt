@@ -24,7 +24,7 @@ use Rattle.orc_fifo_rule.specs.declared.fifo.FifoNote.{FifoNote}
 use Rattle.orc_fifo_rule.specs.declared.fifo.FifoNote.TheVariants.{Entry}
 use Rattle.orc_fifo_rule.specs.QueueDiscipline.{FifoMay, entries_of, position_of, entries_in}
 use Rattle.orc_fifo_rule.specs.Watches.{WasNamed, node_to_put}
-use Rattle.orc_fifo_rule.specs.Kept.Nodes.{link_next}
+use Rattle.orc_fifo_rule.specs.Laws.Nodes.{link_next}
 use Rattle.orc_queue.specs.declared.put.PutTurn.{PutTurn}
 use Rattle.orc_queue.specs.declared.put.PutTurn.TheVariants.{Full, Over as PutOver, Put as PutDone}
 use Rattle.orc_queue.specs.Turns.{Helps, HoldsNode, KeepsTail, LinkMissed, LinksBehind, LinksJob, SwingsLast, SwingsTail}

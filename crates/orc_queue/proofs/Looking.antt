@@ -27,8 +27,8 @@ use Rattle.orc_fifo_rule.proofs.Reading.{link_leads, look_names, root_names}
 use Rattle.orc_fifo_rule.specs.declared.fifo.FifoNote.{FifoNote}
 use Rattle.orc_fifo_rule.specs.QueueDiscipline.{FifoMay, HasJob, position_of}
 use Rattle.orc_fifo_rule.specs.Watches.{WasNamed}
-use Rattle.orc_fifo_rule.specs.Kept.Events.{begun_more}
-use Rattle.orc_fifo_rule.specs.Kept.Nodes.{position_at}
+use Rattle.orc_fifo_rule.specs.Laws.Events.{begun_more}
+use Rattle.orc_fifo_rule.specs.Laws.Nodes.{position_at}
 use Rattle.orc_queue.proofs.Filled.{Known, some_value}
 use Rattle.orc_heap.proofs.SingleActs.{has_link, some_same}
 use Rattle.orc_heap.proofs.Calls.{Puts-stood}

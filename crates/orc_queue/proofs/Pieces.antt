@@ -21,7 +21,7 @@ use Rattle.orc_fifo_rule.specs.declared.fifo.FifoNote.{FifoNote}
 use Rattle.orc_fifo_rule.specs.declared.fifo.FifoNote.TheVariants.{Swing}
 use Rattle.orc_fifo_rule.specs.QueueDiscipline.{FifoHolds, FifoMay, position_of}
 use Rattle.orc_fifo_rule.specs.Watches.{IsLeft, WasNamed}
-use Rattle.orc_fifo_rule.specs.Kept.Laws.{fifo_fits, fifo_keeps, fifo_moves_linked}
+use Rattle.orc_fifo_rule.specs.Laws.Kept.{fifo_fits, fifo_keeps, fifo_moves_linked}
 use Rattle.orc_queue.specs.Turns.{Helps, HoldsNode}
 use Rattle.orc_queue.proofs.Filled.{Known}
 use Rattle.orc_heap.proofs.Pieces.{own_node_puts, unless_other}

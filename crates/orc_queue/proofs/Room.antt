@@ -22,9 +22,9 @@ use Rattle.orc_fifo_rule.proofs.Reading.{link_leads}
 use Rattle.orc_fifo_rule.specs.declared.fifo.FifoNote.{FifoNote}
 use Rattle.orc_fifo_rule.specs.QueueDiscipline.{FifoHolds, FifoMay, entries_of, has_begun, position_of, entries_in}
 use Rattle.orc_fifo_rule.specs.Watches.{WasNamed}
-use Rattle.orc_fifo_rule.specs.Kept.Events.{begun_more}
-use Rattle.orc_fifo_rule.specs.Kept.Laws.{fifo_keeps}
-use Rattle.orc_fifo_rule.specs.Kept.Nodes.{position_next}
+use Rattle.orc_fifo_rule.specs.Laws.Events.{begun_more}
+use Rattle.orc_fifo_rule.specs.Laws.Kept.{fifo_keeps}
+use Rattle.orc_fifo_rule.specs.Laws.Nodes.{position_next}
 use Rattle.orc_queue.specs.Turns.{FindsFull, next_position}
 use Rattle.orc_queue.proofs.Filled.{Known}
 use Rattle.orc_heap.proofs.OwnEntries.{noted-append}

@@ -29,7 +29,7 @@ use Rattle.orc_fifo_rule.specs.declared.fifo.FifoNote.{FifoNote}
 use Rattle.orc_fifo_rule.specs.declared.fifo.FifoNote.TheVariants.{Entry, Swing}
 use Rattle.orc_fifo_rule.specs.QueueDiscipline.{FifoMay, HasJob, entries_of, entries_in}
 use Rattle.orc_fifo_rule.specs.Watches.{IsLeft, WasNamed}
-use Rattle.orc_fifo_rule.specs.Kept.Events.{begun_more}
+use Rattle.orc_fifo_rule.specs.Laws.Events.{begun_more}
 use Rattle.orc_queue.specs.Turns.{FindsEnd, Helps, HelpsPast, Stops, TakesFrom, TakesJob, TakesNext}
 use Rattle.orc_queue.proofs.Filled.{Known}
 use Rattle.orc_queue.proofs.Joins.{join}

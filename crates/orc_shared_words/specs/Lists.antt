@@ -20,3 +20,7 @@ Among a (x ∷ xs) = (x ≡ a) ⊎ Among a xs
 -- P holds of each element and its place
 abbrev pub EachAt : {A : Type 0} → (ℕ → A → Type 0) → List A → Type 0
 EachAt {A} P xs = (i : ℕ) (d : A) → i < length xs → P i (slice_index_or xs i d)
+
+-- each item of the one list is this part of the item of the other list at its place
+abbrev pub EachFrom : {A B : Type 0} → (A → B) → List A → List B → Type 0
+EachFrom {A} {B} part xs ys = (i : ℕ) (x : A) (y : B) → i < length ys → part (slice_index_or xs i x) ≡ slice_index_or ys i y

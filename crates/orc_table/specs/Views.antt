@@ -1,5 +1,5 @@
 -- What a pass shows, and what is true of it between calls.
-use Rattle.std.specs.Prelude.{[], ◌≡◌, ℕ, ◌<◌, List, length, Option, Some, None, slice_index_or}
+use Rattle.std.specs.Prelude.{[], ◌≡◌, ℕ, ◌<◌, List, length, Option, Some, None}
 use Rattle.orc_words.specs.Bounds.{Bounds, bounds_of}
 use Rattle.orc_heap.specs.Heap.{Heap, HeapNumbers}
 use Rattle.orc_heap.specs.Journals.{run_heap}
@@ -56,10 +56,6 @@ pub record Keeps {N : Type 0} (k : PlainShape N) (holds : List (Event N) → Typ
   pub began : holds []
   pub now : LaterJournal plain_rules k holds may v.seen v a
   pub untouched : FreshHeld a (run (bounds_of k.shape) v.seen) fresh
-
--- each item of the one list is this part of the item of the other list at its place
-abbrev pub EachFrom : {A B : Type 0} → (A → B) → List A → List B → Type 0
-EachFrom {A} {B} part xs ys = (i : ℕ) (x : A) (y : B) → i < length ys → part (slice_index_or xs i x) ≡ slice_index_or ys i y
 
 module _ {D N : Type 0} where
   -- the sizes of a board

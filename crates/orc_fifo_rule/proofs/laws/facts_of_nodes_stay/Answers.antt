@@ -1,6 +1,6 @@
 use Rattle.orc_heap.proofs.Fresh.{node_later}
 use Rattle.orc_fifo_rule.specs.QueueDiscipline.{FifoHolds, FifoMay}
-use Rattle.orc_fifo_rule.specs.Kept.Laws.{fifo_fits, fifo_keeps, fifo_moves_linked}
+use Rattle.orc_fifo_rule.specs.Laws.Kept.{fifo_fits, fifo_keeps, fifo_moves_linked}
 use Rattle.orc_fifo_rule.proofs.Later.{job_later, link_later, named_later, position_later}
 use Rattle.orc_fifo_rule.proofs.Leaving.{left_later}
 use Rattle.orc_fifo_rule.proofs.laws.facts_of_nodes_stay.Goals as goal

@@ -2,7 +2,7 @@ use Rattle.std.proofs.Common.{[], ap, arith, suc, sym, ◌+◌, ◌∙◌, ◌�
 use Rattle.orc_core.specs.Machine.{Machine, step}
 use Rattle.orc_core.specs.declared.ops.Op.TheVariants.{Enroll}
 use Rattle.orc_machine_board.proofs.Opening.{enrolling_goes}
-use Rattle.orc_machine_board.specs.Laws.{run_next}
+use Rattle.orc_machine_board.specs.Laws.Steps.{run_next}
 use Rattle.orc_machine_board.specs.Rules.{does, enrolments, run_of}
 use Rattle.orc_words.specs.Bounds.{bounds_of}
 use Rattle.std.specs.Prelude.{None}

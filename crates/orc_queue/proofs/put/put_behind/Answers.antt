@@ -5,7 +5,7 @@ use Rattle.orc_heap.specs.Allowed.{IsLinkedNode, HasLink}
 use Rattle.orc_heap.specs.Slots.{Holds, Slots, id_in}
 use Rattle.orc_heap.specs.declared.events.Place.TheVariants.{Next}
 use Rattle.orc_fifo_rule.specs.Watches.{WasNamed}
-use Rattle.orc_fifo_rule.specs.Kept.Paths.{successor_linked}
+use Rattle.orc_fifo_rule.specs.Laws.Paths.{successor_linked}
 use Rattle.orc_queue.specs.Turns.{Helps, LinksBehind, SwingsLast}
 use Rattle.orc_queue.proofs.Behind.{behind_held, behind_moved, behind_null, fresh_apart, linked_helped, node_seen}
 use Rattle.orc_queue.proofs.Filled.{known}

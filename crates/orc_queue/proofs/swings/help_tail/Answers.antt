@@ -2,7 +2,7 @@
 use Rattle.std.proofs.Common.{rules, arith}
 use Rattle.orc_heap.specs.Slots.{id_in}
 use Rattle.orc_fifo_rule.proofs.Coming.{swing_allowed}
-use Rattle.orc_fifo_rule.specs.Kept.Paths.{successor_linked}
+use Rattle.orc_fifo_rule.specs.Laws.Paths.{successor_linked}
 use Rattle.orc_queue.proofs.Filled.{known}
 use Rattle.orc_queue.proofs.Looking.{roots_there}
 use Rattle.orc_queue.proofs.Pieces.{helps}

@@ -6,7 +6,7 @@ use Rattle.orc_heap.specs.Calls.{ReadsValue}
 use Rattle.orc_heap.specs.Slots.{Slots, id_in}
 use Rattle.orc_fifo_rule.proofs.Reading.{successor_job}
 use Rattle.orc_fifo_rule.specs.QueueDiscipline.{position_of}
-use Rattle.orc_fifo_rule.specs.Kept.Nodes.{job_linked}
+use Rattle.orc_fifo_rule.specs.Laws.Nodes.{job_linked}
 use Rattle.orc_queue.proofs.Filled.{known}
 use Rattle.orc_queue.proofs.Looking.{job_read, roots_there}
 use Rattle.orc_queue.proofs.Taking.{head_missed, head_swung, job_puts, second_read, took_may}

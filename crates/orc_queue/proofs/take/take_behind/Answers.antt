@@ -5,7 +5,7 @@ use Rattle.orc_heap.specs.Allowed.{IsLinkedNode, HasLink}
 use Rattle.orc_heap.specs.Slots.{Holds, Slots, id_in}
 use Rattle.orc_heap.specs.declared.events.Place.TheVariants.{Next}
 use Rattle.orc_fifo_rule.specs.Watches.{WasNamed}
-use Rattle.orc_fifo_rule.specs.Kept.Paths.{successor_linked}
+use Rattle.orc_fifo_rule.specs.Laws.Paths.{successor_linked}
 use Rattle.orc_queue.specs.Turns.{FindsEnd, TakesNext}
 use Rattle.orc_queue.proofs.Filled.{known}
 use Rattle.orc_queue.proofs.Looking.{next_held, next_null}

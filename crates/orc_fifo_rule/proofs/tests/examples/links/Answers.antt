@@ -8,7 +8,7 @@ use Rattle.orc_history.specs.declared.queue.QueueEntry.TheVariants.{Put}
 use Rattle.orc_fifo_rule.specs.declared.fifo.FifoNote.{FifoNote}
 use Rattle.orc_fifo_rule.specs.declared.fifo.FifoNote.TheVariants.{Entry}
 use Rattle.orc_fifo_rule.specs.QueueDiscipline.{IsPutNode}
-use Rattle.orc_fifo_rule.specs.Kept.Events.{contains_one}
+use Rattle.orc_fifo_rule.specs.Laws.Events.{contains_one}
 use Rattle.orc_fifo_rule.proofs.tests.examples.links.Goals as goal
 use Rattle.orc_heap.specs.Journals.{event_by}
 use Rattle.orc_heap.proofs.SingleActs.{null_to}

@@ -1,7 +1,7 @@
 use Rattle.std.proofs.Common.{ap, arith, length, refl, subst, sym, ◌<◌, ◌∙◌, ◌≡◌}
 use Rattle.std.specs.Prelude.{slice_index_or}
 use Rattle.orc_machine_board.proofs.Opening.{long_words, new_keeps, opens}
-use Rattle.orc_machine_board.specs.Laws.{in_range, long_run}
+use Rattle.orc_machine_board.specs.Laws.Steps.{in_range, long_run}
 use Rattle.orc_machine_board.specs.Rules.{bounds_in, counted_rules, heap_numbers, machine_opening}
 use Rattle.orc_machine_board.specs.Views.{Keeps}
 use Rattle.orc_machine_board.specs.declared.machine.MachineShape.{MachineShape}

@@ -1,6 +1,6 @@
 use Rattle.std.proofs.Common.{ap, length, sym, ◌∙◌}
 use Rattle.orc_machine_board.proofs.Opening.{long_words}
-use Rattle.orc_machine_board.specs.Laws.{in_range}
+use Rattle.orc_machine_board.specs.Laws.Steps.{in_range}
 use Rattle.orc_machine_board.specs.Views.{board_bounds, shows}
 use Rattle.orc_words.specs.Places.{places}
 use Rattle.orc_machine_board.proofs.tests.traces.words_agree.Goals as goal

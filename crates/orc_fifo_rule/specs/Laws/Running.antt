@@ -16,11 +16,11 @@ use Rattle.orc_history.proofs.Histories.{waiting_after-snoc}
 use Rattle.orc_fifo_rule.specs.declared.fifo.FifoNote.{FifoNote}
 use Rattle.orc_fifo_rule.specs.declared.fifo.FifoNote.TheVariants.{Entry, Swing}
 use Rattle.orc_fifo_rule.specs.QueueDiscipline.{FifoHolds, FifoMay, IsPutNode, IsRunning, entries_in, entries_of, position_of}
-use Rattle.orc_fifo_rule.specs.Kept.Kinds.{each_kind}
-use Rattle.orc_fifo_rule.specs.Kept.Nodes.{PutsAt, job_position, linked_next, link_next, null_next, path_next, position_next}
-use Rattle.orc_fifo_rule.specs.Kept.Events.{entries_more, entries_same, put_last, puts_snoc}
-use Rattle.orc_fifo_rule.specs.Kept.Paths.{back_one, head_steps, path_snoc, path_step, put_at_last, tail_linked, tail_steps}
-use Rattle.orc_fifo_rule.specs.Kept.Leaves.{put_has_job, put_node_after, put_position}
+use Rattle.orc_fifo_rule.specs.Laws.Kinds.{each_kind}
+use Rattle.orc_fifo_rule.specs.Laws.Nodes.{PutsAt, job_position, linked_next, link_next, null_next, path_next, position_next}
+use Rattle.orc_fifo_rule.specs.Laws.Events.{entries_more, entries_same, put_last, puts_snoc}
+use Rattle.orc_fifo_rule.specs.Laws.Paths.{back_one, head_steps, path_snoc, path_step, put_at_last, tail_linked, tail_steps}
+use Rattle.orc_fifo_rule.specs.Laws.Leaves.{put_has_job, put_node_after, put_position}
 use Rattle.orc_heap.proofs.SingleActs.{link_moved, null_to, plain_roots, root_moved, root_next, root_other, some_same}
 
 -- what a root shows after the event

@@ -14,7 +14,7 @@ use Rattle.orc_history.specs.declared.queue.QueueEntry.TheVariants.{Put}
 use Rattle.orc_fifo_rule.specs.declared.fifo.FifoNote.{FifoNote}
 use Rattle.orc_fifo_rule.specs.declared.fifo.FifoNote.TheVariants.{Begin, Entry, Swing}
 use Rattle.orc_fifo_rule.specs.QueueDiscipline.{BeginsIfMoves, IsPutNode, entries_in, entries_of, is_begin_of, root_has_begun}
-use Rattle.orc_fifo_rule.specs.Kept.Events.{or_either}
+use Rattle.orc_fifo_rule.specs.Laws.Events.{or_either}
 use Rattle.orc_heap.proofs.SingleActs.{root_either, root_moved}
 
 abbrev AllBegin : List (Event FifoNote) → Type 0

@@ -8,7 +8,7 @@ use Rattle.orc_heap.specs.declared.events.Link.{Link}
 use Rattle.orc_heap.specs.declared.events.Place.TheVariants.{Next, Root}
 use Rattle.orc_fifo_rule.specs.declared.fifo.FifoNote.{FifoNote}
 use Rattle.orc_fifo_rule.specs.QueueDiscipline.{FifoHolds, IsPath, IsPutNode, IsRunning, StepsOn}
-use Rattle.orc_fifo_rule.specs.Kept.Nodes.{job_linked, path_linked}
+use Rattle.orc_fifo_rule.specs.Laws.Nodes.{job_linked, path_linked}
 use Rattle.orc_heap.proofs.SingleActs.{link_same, null_to, shown_link, some_same, has_link}
 
 -- behind a node with a null link the path ends

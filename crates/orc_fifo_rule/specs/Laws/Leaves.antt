@@ -19,10 +19,10 @@ use Rattle.orc_history.specs.declared.queue.QueueEntry.TheVariants.{Empty, Put, 
 use Rattle.orc_fifo_rule.specs.declared.fifo.FifoNote.{FifoNote}
 use Rattle.orc_fifo_rule.specs.declared.fifo.FifoNote.TheVariants.{Begin, Entry, Swing}
 use Rattle.orc_fifo_rule.specs.QueueDiscipline.{FifoHolds, FifoMay, HasJob, IsInTime, IsPutNode, IsRunning, LeadsOn, MayEnter, MayPut, entries_in, entries_of, has_begun, position_of}
-use Rattle.orc_fifo_rule.specs.Kept.Kinds.{each_kind}
-use Rattle.orc_fifo_rule.specs.Kept.Nodes.{job_next, link_kept, link_next, position_next, put_grown, some_next}
-use Rattle.orc_fifo_rule.specs.Kept.Events.{put_before, put_last}
-use Rattle.orc_fifo_rule.specs.Kept.Paths.{head_steps, put_at_last, successor_linked, tail_linked, tail_steps}
+use Rattle.orc_fifo_rule.specs.Laws.Kinds.{each_kind}
+use Rattle.orc_fifo_rule.specs.Laws.Nodes.{job_next, link_kept, link_next, position_next, put_grown, some_next}
+use Rattle.orc_fifo_rule.specs.Laws.Events.{put_before, put_last}
+use Rattle.orc_fifo_rule.specs.Laws.Paths.{head_steps, put_at_last, successor_linked, tail_linked, tail_steps}
 use Rattle.orc_heap.proofs.SingleActs.{link_moved, link_same, link_shown, plain_moves, shown_link, some_same}
 use Rattle.orc_heap.proofs.OwnEntries.{noted-snoc}
 

@@ -6,4 +6,4 @@ pub mod Opening
 pub mod Paths
 pub mod Leaves
 pub mod Running
-pub mod Laws
+pub mod Kept

@@ -18,7 +18,7 @@ use Rattle.orc_history.specs.declared.queue.QueueEntry.TheVariants.{Put}
 use Rattle.orc_fifo_rule.specs.declared.fifo.FifoNote.{FifoNote}
 use Rattle.orc_fifo_rule.specs.declared.fifo.FifoNote.TheVariants.{Entry}
 use Rattle.orc_fifo_rule.specs.QueueDiscipline.{FifoMay, HasJob, IsPath, IsPutNode, MayAct, MayPut, position_of}
-use Rattle.orc_fifo_rule.specs.Kept.Kinds.{each_kind}
+use Rattle.orc_fifo_rule.specs.Laws.Kinds.{each_kind}
 use Rattle.orc_heap.proofs.SingleActs.{link_moved, null_to, plain_link, some_same, shown_link, linked_node}
 
 pub position_at : (h : Heap) (d : ℕ) (n : Node) → slice_get h.nodes d ≡ Some n → position_of h d ≡ unwrap_or n.second 0

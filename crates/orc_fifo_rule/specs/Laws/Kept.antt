@@ -15,13 +15,13 @@ use Rattle.orc_history.specs.QueueHistory.{IsLegalQueue, waiting_after}
 use Rattle.orc_fifo_rule.specs.declared.fifo.FifoNote.{FifoNote}
 use Rattle.orc_fifo_rule.specs.declared.fifo.FifoNote.TheVariants.{Begin}
 use Rattle.orc_fifo_rule.specs.QueueDiscipline.{BeginsIfMoves, FifoHolds, FifoMay, IsInTime, IsOpening, IsRunning, LeadsOn, MayAct, MayEnter, entries_of, fifo_rank, has_begun, is_begin_of, position_of}
-use Rattle.orc_fifo_rule.specs.Kept.Kinds.{each_kind}
-use Rattle.orc_fifo_rule.specs.Kept.Nodes.{job_linked, job_position}
-use Rattle.orc_fifo_rule.specs.Kept.Events.{entries_same, every_more, not_begun_before, root_begun_before}
-use Rattle.orc_fifo_rule.specs.Kept.Opening.{begun_root, no_puts}
-use Rattle.orc_fifo_rule.specs.Kept.Paths.{tail_linked}
-use Rattle.orc_fifo_rule.specs.Kept.Leaves.{frozen_next, legal_next, links_next, puts_next, target_at}
-use Rattle.orc_fifo_rule.specs.Kept.Running.{running_next}
+use Rattle.orc_fifo_rule.specs.Laws.Kinds.{each_kind}
+use Rattle.orc_fifo_rule.specs.Laws.Nodes.{job_linked, job_position}
+use Rattle.orc_fifo_rule.specs.Laws.Events.{entries_same, every_more, not_begun_before, root_begun_before}
+use Rattle.orc_fifo_rule.specs.Laws.Opening.{begun_root, no_puts}
+use Rattle.orc_fifo_rule.specs.Laws.Paths.{tail_linked}
+use Rattle.orc_fifo_rule.specs.Laws.Leaves.{frozen_next, legal_next, links_next, puts_next, target_at}
+use Rattle.orc_fifo_rule.specs.Laws.Running.{running_next}
 use Rattle.std.specs.List.{AllByRecursion}
 use Rattle.orc_heap.proofs.SingleActs.{link_same, node_shown, some_same}
 
