@@ -1,0 +1,5 @@
+pub mod Later
+pub mod Coming
+pub mod OwnEntries
+pub mod Leaving
+pub mod Stretches
