@@ -1,0 +1,6 @@
+//! Harris's sorted list (2001) over any domain of links.
+#![tactic(auto)]
+
+mod answer;
+mod search;
+mod spot;
