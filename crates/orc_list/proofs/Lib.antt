@@ -3,3 +3,7 @@ pub mod Quiets
 pub mod Held
 pub mod Stepping
 pub mod Starting
+pub mod Making
+pub mod Answering
+pub mod Tiring
+pub mod Marking

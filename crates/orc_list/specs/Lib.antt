@@ -1,3 +1,4 @@
 pub mod Searches
 pub mod Turns
 pub mod Answers
+pub mod Causes

@@ -122,6 +122,11 @@ pub record TakesOut (n : HeapNumbers) (key : ℕ) (IsWorn : Type 0) (turns : ℕ
   pub answers : Answers turns s (Removed s.agent key true) t
   pub off : AllOwn s.agent (from_own s.agent answers.made.puts.part) → (IsWorn → ⊥) → LeavesOff key answers.own (heap_of n t)
 
+-- the same at the node that a search found, or its link was another
+abbrev pub RemovesNode : HeapNumbers → ℕ → Type 0 → Seat ChainNote → Bool → Seat ChainNote → Type 0
+RemovesNode n key IsWorn s false t = Tires 1 s t
+RemovesNode n key IsWorn s true t = TakesOut n key IsWorn 1 s t
+
 -- a turn of a remove
 abbrev pub RemovesTurn : HeapNumbers → ℕ → Type 0 → ℕ → Seat ChainNote → Option Bool → Seat ChainNote → Type 0
 RemovesTurn n key IsWorn turns s None t = Tires turns s t

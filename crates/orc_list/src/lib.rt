@@ -2,5 +2,6 @@
 #![tactic(auto)]
 
 mod answer;
+mod remove;
 mod search;
 mod spot;

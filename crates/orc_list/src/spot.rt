@@ -135,3 +135,13 @@ pub(crate) fn link_of<'a>(first: &'a Option<Held>, right: &'a Option<Held>) -> W
         None => link_to(right, false),
     }
 }
+
+// The first of the marked nodes, or else the node behind them.
+pub(crate) fn node_or<'a>(first: &'a Option<Held>, node: &'a Held) -> &'a Held
+    ensures { Some result.now ≡ first_or first.now (Some node.now) }
+{
+    match first {
+        Some(first) => first,
+        None => node,
+    }
+}
