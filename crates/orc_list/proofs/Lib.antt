@@ -7,3 +7,4 @@ pub mod Making
 pub mod Answering
 pub mod Tiring
 pub mod Marking
+pub mod Removing

@@ -33,7 +33,7 @@ use Rattle.orc_list.specs.Searches.{NextFollows}
 use Rattle.orc_list.specs.Turns.{Marks, TriesUnlink}
 use Rattle.orc_list.proofs.Held.{FreshIs}
 use mathlib.Core.List.{IsPrefix}
-use Rattle.std.proofs.Common.{length, arith, ◌≤◌}
+use Rattle.std.proofs.Common.{length, length-append, arith, ◌≤◌, ◌+◌, ◌++◌}
 
 -- a swing is refused only where it would change the target
 pub refused_apart : (slots : Slots) (from to : Want) (why : Spent) (seen : List (Event ChainNote)) → RefusesSwing slots from to why seen → (link_in slots from).to ≡ (link_in slots to).to → ⊥
@@ -108,3 +108,21 @@ pub worn_part : {S : Type 0} (agent_of : S → ℕ) (agent : ℕ) (before after 
     → IfErr result (λ e. InPart agent_of agent before after (worn e after)) → IfErr result (λ e. (why : Spent) × Within (length before) (length after) (worn why after))
 worn_part agent_of agent before after worn grows (Ok done) w = tt
 worn_part agent_of agent before after worn grows (Err e) w = (e, part_fact agent_of agent before after (worn e after) grows w)
+
+-- what was worn in a piece of a call was so in the whole
+pub worn_wider : {S : Type 0} (worn : ℕ → Spent → List S → ℕ → ℕ → Type 0) (a b : ℕ) (j k m o : List S) → ((why : Spent) (xs more : List S) (from to : ℕ) → worn a why xs from to → worn a why (xs ++ more) from to) → b ≡ a → IsPrefix j k → IsPrefix m o
+    → ((why : Spent) × Within (length k) (length m) (worn b why m)) → (why : Spent) × Within (length j) (length o) (worn a why o)
+worn_wider {S} worn a b j k m o stays same (first, one) (more, two) (why, w) =
+    let (from, to, low, order, high, fact) = w in
+    let here : worn a why m from to = subst (λ (x : ℕ). worn x why m from to) same fact in
+    let there : worn a why o from to = subst (λ (z : List S). worn a why z from to) two (stays why m more from to here) in
+    let left : length j + length first ≡ length k = sym (length-append j first) ∙ ap (λ (z : List S). length z) one in
+    let right : length m + length more ≡ length o = sym (length-append m more) ∙ ap (λ (z : List S). length z) two in
+    (why, (from, to, omega (arith, low, left), order, omega (arith, high, right), there))
+
+pub tries_wider : (Worn More : Type 0) (place : Place) (first : ℕ) (to : Option ℕ) (s t : Seat ChainNote) → (Worn → More) → TriesUnlink place first to Worn s t → TriesUnlink place first to More s t
+tries_wider Worn More place first to s t wider w = record {
+  slots = w.slots;
+  fresh = w.fresh;
+  either = elim w.either [ inl swung ↦ inl swung | inr worn ↦ inr (wider worn.0, worn.1) ];
+}

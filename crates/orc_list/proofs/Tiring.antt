@@ -1,7 +1,7 @@
 -- One turn after another, for a call that keeps no node.
-use Rattle.std.proofs.Common.{Bool, List, None, Ok, Option, Result, Some, [], arith, false, refl, subst, sym, true, ℕ, ◌++◌, ◌+◌, ◌∙◌, ◌∷◌, ◌≡◌, ◌≢◌, ◌≤◌}
+use Rattle.std.proofs.Common.{Bool, List, None, Ok, Option, Result, Some, [], arith, false, inl, inr, refl, subst, sym, true, ℕ, ◌++◌, ◌+◌, ◌∙◌, ◌∷◌, ◌≡◌, ◌≢◌, ◌≤◌}
 use Rattle.orc_heap.proofs.Pieces.{own_part_right}
-use Rattle.orc_heap.specs.Heap.{HeapNumbers}
+use Rattle.orc_heap.specs.Heap.{Heap, HeapNumbers}
 use Rattle.orc_heap.specs.Seats.{Seat, heap_of}
 use Rattle.orc_history.specs.declared.set.SetEntry.{SetEntry}
 use Rattle.orc_history.specs.declared.set.SetEntry.TheVariants.{Asked, Removed}
@@ -29,3 +29,44 @@ tires_answer turns most s t u entry w a low = record {
 pub asks_answer : (key turns most : ℕ) (s t u : Seat ChainNote) (answer : Bool) → Tires turns s t → AsksTurn key t (Some answer) u → turns + 1 ≤ most → AsksTurns key most s (Ok answer) u
 asks_answer key turns most s t u answer w a low =
     ((λ e. omega (arith, e, low)), tires_answer turns most s t u (Asked s.agent key answer) w (subst (λ (x : ℕ). Answers 1 t (Asked x key answer) u) w.over.made.puts.agent a) low)
+
+-- a turn of a remove, and what was worn in a longer stretch
+
+pub turn_wider : (n : HeapNumbers) (key turns : ℕ) (Worn More : Type 0) (s t : Seat ChainNote) (result : Option Bool) → (Worn → More) → RemovesTurn n key Worn turns s result t → RemovesTurn n key More turns s result t
+turn_wider n key turns Worn More s t None wider r = r
+turn_wider n key turns Worn More s t (Some false) wider r = r
+turn_wider n key turns Worn More s t (Some true) wider r = record { answers = r.answers; off = λ alone none. r.off alone (λ w. none (wider w)) }
+
+takes_right : (es fs : List (Event ChainNote)) (key id : ℕ) → TakesKey fs key id → TakesKey (es ++ fs) key id
+takes_right [] fs key id k = k
+takes_right (e ∷ es) fs key id k = inr (takes_right es fs key id k)
+
+leaves_right : (key : ℕ) (es fs : List (Event ChainNote)) (h : Heap) → LeavesOff key fs h → LeavesOff key (es ++ fs) h
+leaves_right key es fs h l = record {
+  id = l.id;
+  takes = takes_right es fs key l.id l.takes;
+  place = l.place;
+  from = l.from;
+  plain = l.plain;
+  sees = sees_right es fs l.place l.from l.sees;
+  over = l.over;
+  sees_run = sees_run_right es fs l.from l.over (Some l.id) l.sees_run;
+  off = l.off;
+}
+
+pub removes_answer : (n : HeapNumbers) (key turns most : ℕ) (Worn More : Type 0) (s t u : Seat ChainNote) (answer : Bool) → (Worn → More) → Tires turns s t → RemovesTurn n key Worn 1 t (Some answer) u → turns + 1 ≤ most
+    → RemovesTurns n key More most s (Ok answer) u
+removes_answer n key turns most Worn More s t u false wider w a low =
+    ((λ e. omega (arith, e, low)), tires_answer turns most s t u (Removed s.agent key false) w (subst (λ (x : ℕ). Answers 1 t (Removed x key false) u) w.over.made.puts.agent a) low)
+removes_answer n key turns most Worn More s t u true wider w a low =
+    let own = w.own ++ a.answers.own in
+    let agent = w.over.made.puts.agent in
+    let last : Made 0 1 t a.answers.own (Removed s.agent key true ∷ []) u = subst (λ (x : ℕ). Made 0 1 t a.answers.own (Removed x key true ∷ []) u) agent a.answers.made in
+    let made = made_most 0 (turns + 1) most s u own (Removed s.agent key true ∷ []) (made_next 0 0 turns s t u w.own a.answers.own (Removed s.agent key true ∷ []) w.over last) low in (
+      (λ e. omega (arith, e, low)),
+      record {
+        answers = record { own = own; made = made; slots = a.answers.slots ∙ w.slots; fresh = a.answers.fresh ∙ w.fresh };
+        off = λ alone none. leaves_right key w.own a.answers.own (heap_of n u)
+            (a.off (own_part_right s t u w.own a.answers.own own w.over.made.puts a.answers.made.puts made.puts alone) (λ worn. none (wider worn)));
+      },
+    )
