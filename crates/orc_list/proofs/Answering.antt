@@ -31,6 +31,7 @@ use Rattle.orc_list.specs.Turns.{Enters, IsAbsence, IsPresence, first_or, place_
 use Rattle.orc_list.proofs.Held.{fourth_held, in_hand_on}
 use Rattle.orc_list.proofs.Making.{made_after, made_on, missed, over_on}
 use Rattle.orc_list.proofs.Quiets.{left_place_linked}
+use Rattle.orc_list.proofs.Seen.{loads-append}
 
 -- by what is in hand: the left place and the link that it showed
 
@@ -135,6 +136,7 @@ absent_entered n root key left first right entry at want done s t u y f place_is
         record {
           own = _;
           over = over_on 0 1 s u y _ (record { made = m; no_move = still; moved = moved }) g.puts;
+          loads = loads-append f.own _ f.behind.quiet.loads (tt, tt);
           slots = g.slots_are;
           fresh = g.fresh ∙ (tests.fresh ∙ f.behind.quiet.fresh);
         }
@@ -197,6 +199,7 @@ present_entered n root key left first node next entry at want done s t u y f pla
         record {
           own = _;
           over = over_on 0 1 s u y _ (record { made = m; no_move = still; moved = moved }) g.puts;
+          loads = loads-append f.own _ f.behind.quiet.loads (tt, tt);
           slots = g.slots_are;
           fresh = g.fresh ∙ (tests.fresh ∙ f.behind.quiet.fresh);
         }

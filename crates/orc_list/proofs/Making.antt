@@ -51,6 +51,7 @@ found_over s t f = record {
     no_move = f.quiet.no_move;
     moved = f.moved;
   };
+  loads = f.quiet.loads;
   slots = f.slots;
   fresh = f.quiet.fresh;
 }

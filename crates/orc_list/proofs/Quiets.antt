@@ -20,8 +20,8 @@ use Rattle.orc_chain_rule.proofs.Later.{above_later, follows_later, key_later, l
 use Rattle.orc_chain_rule.specs.declared.chain.ChainNote.{ChainNote}
 use Rattle.orc_chain_rule.specs.ChainDiscipline.{ChainMay, FollowsOn, HasKey, IsAbove, IsRun, entries_in, entries_of}
 use Rattle.orc_chain_rule.specs.Laws.Kinds.{key_linked}
-use Rattle.orc_list.specs.Searches.{Behind, IsLinkedIfAny, IsOf, KeysFall, Looking, NextFollows, Quiet, Visits, left_place}
-use Rattle.orc_list.proofs.Seen.{sees_left, sees_run_left}
+use Rattle.orc_list.specs.Searches.{AreLoads, Behind, IsLinkedIfAny, IsOf, KeysFall, LeadsOver, Looking, NextFollows, Quiet, Visits, left_place}
+use Rattle.orc_list.proofs.Seen.{loads-append, sees_left, sees_run_left}
 
 -- the entries of events, one after another
 pub entries_of-append : (es fs : List (Event ChainNote)) → entries_of (es ++ fs) ≡ entries_of es ++ entries_of fs
@@ -76,37 +76,40 @@ module _ (n : HeapNumbers) (t u : Seat ChainNote) (ys : List (Event ChainNote)) 
       subst (λ es. ShowsOrMoved n place link s u es) (sym (new_is s t u own ys zs p q w))
       (still_puts n (ChainMay n) (λ es e k. k.fits) s t u own ys p q all place link some linked shows)
 
-  pub quiet_puts : (s : Seat ChainNote) (own : List (Event ChainNote)) → Quiet s own t → u.fresh ≡ t.fresh → entries_of ys ≡ [] → gives_in ys ≡ 0 → moves_in ys ≡ 0 → Quiet s (own ++ ys) u
-  quiet_puts s own b fresh no_entries no_give no_move = record {
+  pub quiet_puts : (s : Seat ChainNote) (own : List (Event ChainNote)) → Quiet s own t → AreLoads ys → u.fresh ≡ t.fresh → entries_of ys ≡ [] → gives_in ys ≡ 0 → moves_in ys ≡ 0 → Quiet s (own ++ ys) u
+  quiet_puts s own b loads fresh no_entries no_give no_move = record {
     puts = Puts-trans s t u own ys b.puts q;
     fresh = fresh ∙ b.fresh;
+    loads = loads-append own ys b.loads loads;
     some = omega (arith, b.some, length-append own ys);
     no_entries = entries_of-append own ys ∙ rw (b.no_entries, no_entries) refl;
     no_give = omega (arith, gives_in-append own ys, b.no_give, no_give);
     no_move = omega (arith, moves_in-append own ys, b.no_move, no_move);
   }
 
-  -- a search that has come so far goes on
-  pub behind_puts : (root wanted : ℕ) (left first : Option Hold) (left_id first_id : ℕ) (to : Option ℕ) (s : Seat ChainNote) (own : List (Event ChainNote)) → Behind n root wanted left first left_id first_id to s own t
-      → u.fresh ≡ t.fresh → entries_of ys ≡ [] → gives_in ys ≡ 0 → moves_in ys ≡ 0 → Behind n root wanted left first left_id first_id to s (own ++ ys) u
-  behind_puts root wanted left first left_id first_id to s own b fresh no_entries no_give no_move =
-      let w = quiet_puts s own b.quiet fresh no_entries no_give no_move in
-      let l = b.leads in
+  -- where the left place leads goes on
+  pub leads_puts : (root wanted : ℕ) (left first : Option Hold) (left_id first_id : ℕ) (to : Option ℕ) (s : Seat ChainNote) (own : List (Event ChainNote)) (p : Puts s own t) (w : Puts s (own ++ ys) u) → 1 ≤ length own
+      → LeadsOver n root wanted left first left_id first_id to s own t p.part → LeadsOver n root wanted left first left_id first_id to s (own ++ ys) u w.part
+  leads_puts root wanted left first left_id first_id to s own p w some l =
       let place = left_place root left left_id in
       record {
-        quiet = w;
-        leads = record {
-          from = l.from;
-          plain = l.plain;
-          below = below_puts place wanted l.below;
-          still = shows_on s own (own ++ ys) b.quiet.puts w.puts place l.from b.quiet.some (left_place_linked n t place wanted l.below) l.still;
-          over = l.over;
-          run = run_puts l.from l.over to l.run;
-          begins = l.begins;
-          sees = sees_left own ys place l.from l.sees;
-          sees_run = sees_run_left own ys l.from l.over to l.sees_run;
-        };
+        from = l.from;
+        plain = l.plain;
+        below = below_puts place wanted l.below;
+        still = shows_on s own (own ++ ys) p w place l.from some (left_place_linked n t place wanted l.below) l.still;
+        over = l.over;
+        run = run_puts l.from l.over to l.run;
+        begins = l.begins;
+        sees = sees_left own ys place l.from l.sees;
+        sees_run = sees_run_left own ys l.from l.over to l.sees_run;
       }
+
+  -- a search that has come so far goes on
+  pub behind_puts : (root wanted : ℕ) (left first : Option Hold) (left_id first_id : ℕ) (to : Option ℕ) (s : Seat ChainNote) (own : List (Event ChainNote)) → Behind n root wanted left first left_id first_id to s own t
+      → AreLoads ys → u.fresh ≡ t.fresh → entries_of ys ≡ [] → gives_in ys ≡ 0 → moves_in ys ≡ 0 → Behind n root wanted left first left_id first_id to s (own ++ ys) u
+  behind_puts root wanted left first left_id first_id to s own b loads fresh no_entries no_give no_move =
+      let w = quiet_puts s own b.quiet loads fresh no_entries no_give no_move in
+      record { quiet = w; leads = leads_puts root wanted left first left_id first_id to s own b.quiet.puts w.puts b.quiet.some b.leads }
 
 -- where no own event comes in between
 
@@ -114,7 +117,7 @@ module _ (n : HeapNumbers) (t u : Seat ChainNote) (q : Puts t [] u) (all : AllAl
   pub behind_on : (root wanted : ℕ) (left first : Option Hold) (left_id first_id : ℕ) (to : Option ℕ) (s : Seat ChainNote) (own : List (Event ChainNote)) → Behind n root wanted left first left_id first_id to s own t
       → u.fresh ≡ t.fresh → Behind n root wanted left first left_id first_id to s own u
   behind_on root wanted left first left_id first_id to s own b fresh =
-      subst (λ z. Behind n root wanted left first left_id first_id to s z u) (append-nil own) (behind_puts n t u [] q all root wanted left first left_id first_id to s own b fresh refl refl refl)
+      subst (λ z. Behind n root wanted left first left_id first_id to s z u) (append-nil own) (behind_puts n t u [] q all root wanted left first left_id first_id to s own b tt fresh refl refl refl)
 
   pub visits_on : (bound : ℕ) (own : List (Event ChainNote)) → Visits n bound own t → Visits n bound own u
   visits_on bound own v = record { nodes = v.nodes; fall = falls_puts n t u [] q all bound v.nodes v.fall; seen = v.seen; few = v.few }

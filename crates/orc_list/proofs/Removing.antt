@@ -36,7 +36,7 @@ use Rattle.orc_list.proofs.Answering.{from_is, head_of, place_of_hand, reads_nod
 use Rattle.orc_list.proofs.Held.{first_held, in_hand_on, present_hand, second_held}
 use Rattle.orc_list.proofs.Making.{made_after, made_on, missed, over_on}
 use Rattle.orc_list.proofs.Quiets.{below_puts, left_place_linked, next_puts, run_puts}
-use Rattle.orc_list.proofs.Seen.{sees_left, sees_run_left}
+use Rattle.orc_list.proofs.Seen.{loads-append, sees_left, sees_run_left}
 use Rattle.orc_list.proofs.Stepping.{run_snoc}
 
 -- a node whose link was marked has the marked link from then on
@@ -222,6 +222,7 @@ module _ (n : HeapNumbers) (root key : ℕ) (left first : Option Hold) (node : H
       record {
         own = _;
         over = over_on 0 1 s u y _ (record { made = made; no_move = still; moved = moved }) g.puts;
+        loads = loads-append f.own _ q.loads (tt, tt);
         slots = g.slots_are;
         fresh = g.fresh ∙ (m.fresh ∙ q.fresh);
       }

@@ -12,7 +12,7 @@ use Rattle.orc_chain_rule.specs.declared.chain.ChainNote.{ChainNote}
 use Rattle.orc_chain_rule.specs.ChainDiscipline.{HasKey}
 use Rattle.orc_chain_rule.specs.Laws.Kinds.{key_one}
 use Rattle.orc_chain_rule.specs.Laws.Sets.{has_kept}
-use Rattle.orc_list.specs.Searches.{AllSeen, CoversLooks, IsFew, KeysFall, Sees, SeesRun, Visits}
+use Rattle.orc_list.specs.Searches.{AllSeen, AreLoads, CoversLooks, IsFew, KeysFall, Sees, SeesRun, Visits}
 
 pub sees_left : (es fs : List (Event ChainNote)) (place : Place) (link : Link) → Sees es place link → Sees (es ++ fs) place link
 sees_left [] fs place link s = absurd s
@@ -40,6 +40,11 @@ covers_left ids es fs c = λ id link s. c id link (sees_left es fs (Next id) lin
 
 pub covers_right : (ids : List ℕ) (es fs : List (Event ChainNote)) → CoversLooks ids (es ++ fs) → CoversLooks ids fs
 covers_right ids es fs c = λ id link s. c id link (sees_right es fs (Next id) link s)
+
+-- loads, one after another
+pub loads-append : (es fs : List (Event ChainNote)) → AreLoads es → AreLoads fs → AreLoads (es ++ fs)
+loads-append [] fs a b = b
+loads-append (e ∷ es) fs a b = (a.0, loads-append es fs a.1 b)
 
 -- a list without a number that stands in it is shorter
 

@@ -6,7 +6,7 @@ use Rattle.orc_heap.proofs.Hands.{hands_take, hands_with_none}
 use Rattle.orc_heap.proofs.Moments.{look_found, looks_differ, seen_is, since}
 use Rattle.orc_heap.specs.Allowed.{AllAllowed}
 use Rattle.orc_heap.specs.Calls.{Looks, Tells, event_of}
-use Rattle.orc_heap.specs.Hands.{Hands, hand}
+use Rattle.orc_heap.specs.Hands.{Hands, IsApartOf, hand}
 use Rattle.orc_heap.specs.Heap.{HeapNumbers}
 use Rattle.orc_heap.specs.Journals.{run_heap}
 use Rattle.orc_heap.specs.Moves.{gives_in, moves_in}
@@ -22,7 +22,7 @@ use Rattle.orc_heap.specs.declared.holds.Seen.{Seen}
 use Rattle.orc_chain_rule.proofs.Later.{holds_later, key_later}
 use Rattle.orc_chain_rule.specs.declared.chain.ChainNote.{ChainNote}
 use Rattle.orc_chain_rule.specs.ChainDiscipline.{ChainHolds, ChainMay, HasKey, entries_of}
-use Rattle.orc_list.specs.Searches.{FindsMoved, HasRoom, IsFew, NextIsOf, Passed, node_of}
+use Rattle.orc_list.specs.Searches.{AreLoads, FindsMoved, HasRoom, IsFew, NextIsOf, Passed, node_of}
 use Rattle.orc_list.proofs.Seen.{sees_right}
 
 -- what a Look of a root tells: the link is unmarked, and the next node is of this root
@@ -46,13 +46,14 @@ root_tells n s t root link before rest holds p all =
     }
 
 starts : (n : HeapNumbers) (root wanted : ℕ) (mark : Bool) (next : Option Hold) (next_id : ℕ) (s t : Seat ChainNote) (before : List (Event ChainNote)) → root ≡ wanted % n.roots
-    → Hands s.slots t.slots (hand next next_id ∷ hand None 0 ∷ hand None 0 ∷ [])
+    → Hands s.slots t.slots (hand next next_id ∷ hand None 0 ∷ hand None 0 ∷ []) → IsApartOf 1 next
     → Puts s (before ++ event_of s (Look (Root root) (record { to = node_of next next_id; mark = mark })) None ∷ []) t
+    → AreLoads (before ++ event_of s (Look (Root root) (record { to = node_of next next_id; mark = mark })) None ∷ [])
     → 1 ≤ length (before ++ event_of s (Look (Root root) (record { to = node_of next next_id; mark = mark })) None ∷ []) → length (before ++ event_of s (Look (Root root) (record { to = node_of next next_id; mark = mark })) None ∷ []) ≤ 2
     → entries_of (before ++ event_of s (Look (Root root) (record { to = node_of next next_id; mark = mark })) None ∷ []) ≡ [] → gives_in (before ++ event_of s (Look (Root root) (record { to = node_of next next_id; mark = mark })) None ∷ []) ≡ 0
     → moves_in (before ++ event_of s (Look (Root root) (record { to = node_of next next_id; mark = mark })) None ∷ []) ≡ 0
     → t.fresh ≡ s.fresh → ChainHolds n s.seen → AllAllowed (ChainMay n) [] t.seen → Passed n root wanted 0 None None next s t
-starts n root wanted mark next next_id s t before root_is hands p some short no_entries no_give no_move fresh holds all =
+starts n root wanted mark next next_id s t before root_is hands apart p loads some short no_entries no_give no_move fresh holds all =
     let link : Link = record { to = node_of next next_id; mark = mark } in
     let e : Event ChainNote = event_of s (Look (Root root) link) None in
     let told = root_tells n s t root link before [] holds p all in
@@ -62,8 +63,9 @@ starts n root wanted mark next next_id s t before root_is hands p some short no_
       first_id = 0;
       next_id = next_id;
       hands = hands;
+      apart = (apart, (tt, (tt, tt)));
       behind = record {
-        quiet = record { puts = p; fresh = fresh; some = some; no_entries = no_entries; no_give = no_give; no_move = no_move };
+        quiet = record { puts = p; fresh = fresh; loads = loads; some = some; no_entries = no_entries; no_give = no_give; no_move = no_move };
         leads = record {
           from = link;
           plain = told.plain;
@@ -99,11 +101,11 @@ start_looks n root wanted seen next s t root_is room looks holds all = by_next n
     by_next : (next : Option Hold) → Tells (Root root) 2 s (Stable seen next) t → Passed n root wanted 0 None None next s t
     by_next None (null, slots, puts) =
         let hands = subst (λ (z : Slots). Hands s.slots z (hand None 0 ∷ hand None 0 ∷ hand None 0 ∷ [])) (sym slots) (hands_with_none s.slots s.slots (hand None 0 ∷ hand None 0 ∷ []) 0 none) in
-        starts n root wanted seen.mark None 0 s t [] root_is hands puts (omega arith) (omega arith) refl refl refl looks.fresh holds all
+        starts n root wanted seen.mark None 0 s t [] root_is hands tt puts (tt, tt) (omega arith) (omega arith) refl refl refl looks.fresh holds all
     by_next (Some h) (next_id, one, some, marked, null, at_slot, slots, puts) =
         let hands = hands_take s.slots s.slots t.slots (hand None 0 ∷ hand None 0 ∷ []) h next_id none (tt, (tt, tt)) (subst (λ (i : ℕ). slice_get s.slots i ≡ Some None) (sym at_slot) room.two.empty)
         (subst (λ (i : ℕ). t.slots ≡ slice_set s.slots i (Some (record { row = h.row; id = next_id }))) (sym at_slot) slots) in
-        starts n root wanted seen.mark (Some h) next_id s t (event_of s (Look (Root root) one) None ∷ []) root_is hands puts (omega arith) (omega arith) refl refl refl looks.fresh holds all
+        starts n root wanted seen.mark (Some h) next_id s t (event_of s (Look (Root root) one) None ∷ []) root_is hands (λ e. omega (arith, e, at_slot)) puts (tt, (tt, tt)) (omega arith) (omega arith) refl refl refl looks.fresh holds all
 
 pub start_moved : (n : HeapNumbers) (root : ℕ) (s t : Seat ChainNote) → Looks (Root root) 2 s Moved t → AllAllowed (ChainMay n) [] t.seen → FindsMoved s t
 start_moved n root s t looks all =
@@ -112,7 +114,7 @@ start_moved n root s t looks all =
     let few : IsFew 4 es = λ ids c. omega arith in
     record {
       own = es;
-      quiet = record { puts = puts; fresh = looks.fresh; some = omega arith; no_entries = refl; no_give = refl; no_move = refl };
+      quiet = record { puts = puts; fresh = looks.fresh; loads = (tt, (tt, tt)); some = omega arith; no_entries = refl; no_give = refl; no_move = refl };
       slots = slots;
       moved = looks_differ n (ChainMay n) (λ es x k. k.fits) s t (Root root) one two puts all tt other;
       few = few;

@@ -8,7 +8,7 @@ use Rattle.orc_heap.proofs.Pieces.{own_moves_right}
 use Rattle.orc_heap.proofs.SingleActs.{has_link, some_same}
 use Rattle.orc_heap.specs.Allowed.{AllAllowed, HasLink, IsLinkedNode}
 use Rattle.orc_heap.specs.Calls.{Looks, ReadsValue, Tells, event_of}
-use Rattle.orc_heap.specs.Hands.{Hand, Hands, HoldsId, IsApart, hand}
+use Rattle.orc_heap.specs.Hands.{Hand, Hands, HoldsId, IsApart, IsApartOf, hand}
 use Rattle.orc_heap.specs.Heap.{Heap, HeapNumbers, Node, shown}
 use Rattle.orc_heap.specs.Journals.{run_heap}
 use Rattle.orc_heap.specs.Moves.{ShowsOrMoved, from_own, gives_in, moves_in}
@@ -25,7 +25,7 @@ use Rattle.orc_chain_rule.proofs.Later.{follows_later, holds_later, key_later, l
 use Rattle.orc_chain_rule.specs.declared.chain.ChainNote.{ChainNote}
 use Rattle.orc_chain_rule.specs.ChainDiscipline.{ChainHolds, ChainMay, FollowsOn, HasKey, IsRun, entries_of, link_over}
 use Rattle.orc_chain_rule.specs.Laws.Kinds.{key_linked, key_one}
-use Rattle.orc_list.specs.Searches.{Behind, BeginsRun, FindsAbsent, FindsMoved, FindsPresent, HasRoom, IsOf, KeepsFirst, LetsGo, Looking, LooksOn, NextFollows, NextIsOf, Passed, Sees, SeesRun, Stops, Visits, Walks, AllGone, left_place, node_of, slot_in}
+use Rattle.orc_list.specs.Searches.{AreLoads, Behind, BeginsRun, FindsAbsent, FindsMoved, FindsPresent, HasRoom, IsOf, KeepsFirst, LetsGo, Looking, LooksOn, NextFollows, NextIsOf, Passed, Sees, SeesRun, Stops, Visits, Walks, AllGone, left_place, node_of, slot_in}
 use Rattle.orc_list.proofs.Held.{FreshIs, first_linked, goes_fresh, goes_hands, left_linked, next_linked, room_at, walk_apart}
 use Rattle.orc_list.proofs.Quiets.{behind_on, behind_puts, falls_puts, is_of_puts, key_puts, looking_on, moved_on, visits_on}
 use Rattle.orc_list.proofs.Seen.{all_seen_left, few_more, few_weaker, sees_right, visits_few, visits_weaker}
@@ -88,19 +88,20 @@ next_is_of n t wanted id key (Some next) k (high, own, follows) =
 -- a look at the node that the search has come to
 
 pub looks_on : (n : HeapNumbers) (root wanted : ℕ) (left first : Option Hold) (at : Hold) (key : ℕ) (mark : Bool) (next : Option Hold) (next_id : ℕ) (s t u : Seat ChainNote) (before : List (Event ChainNote))
-    → (w : Walks n root wanted left first at key s t) → Hands s.slots u.slots (hand next next_id ∷ hand left w.left_id ∷ hand first w.first_id ∷ hand (Some at) w.id ∷ [])
-    → (p : Puts t (before ++ event_of t (Look (Next w.id) (record { to = node_of next next_id; mark = mark })) None ∷ []) u) → length before ≤ 1 → entries_of before ≡ [] → gives_in before ≡ 0 → moves_in before ≡ 0
+    → (w : Walks n root wanted left first at key s t) → Hands s.slots u.slots (hand next next_id ∷ hand left w.left_id ∷ hand first w.first_id ∷ hand (Some at) w.id ∷ []) → IsApartOf 1 next
+    → (p : Puts t (before ++ event_of t (Look (Next w.id) (record { to = node_of next next_id; mark = mark })) None ∷ []) u) → length before ≤ 1
+    → AreLoads (before ++ event_of t (Look (Next w.id) (record { to = node_of next next_id; mark = mark })) None ∷ [])
     → entries_of (before ++ event_of t (Look (Next w.id) (record { to = node_of next next_id; mark = mark })) None ∷ []) ≡ [] → gives_in (before ++ event_of t (Look (Next w.id) (record { to = node_of next next_id; mark = mark })) None ∷ []) ≡ 0
     → moves_in (before ++ event_of t (Look (Next w.id) (record { to = node_of next next_id; mark = mark })) None ∷ []) ≡ 0
     → u.fresh ≡ t.fresh → ChainHolds n t.seen → AllAllowed (ChainMay n) [] u.seen → LooksOn n root wanted left first at key mark next s u
-looks_on n root wanted left first at key mark next next_id s t u before w hands p short no_entry no_gift no_motion entries gives moves fresh holds all =
+looks_on n root wanted left first at key mark next next_id s t u before w hands apart p short loads entries gives moves fresh holds all =
     let link : Link = record { to = node_of next next_id; mark = mark } in
     let e : Event ChainNote = event_of t (Look (Next w.id) link) None in
     let ys : List (Event ChainNote) = before ++ e ∷ [] in
     let linked = key_linked (heap_of n t) w.id key w.is_of.has_key in
     let told = look_tells n t u w.id link before [] holds linked p all in
     let found = look_found n (ChainMay n) (λ es x k. k.fits) t u (Next w.id) link None before [] p all linked in
-    let b = behind_puts n t u ys p all root wanted left first w.left_id w.first_id (Some w.id) s w.own w.behind fresh entries gives moves in
+    let b = behind_puts n t u ys p all root wanted left first w.left_id w.first_id (Some w.id) s w.own w.behind loads fresh entries gives moves in
     let seen : Sees (w.own ++ ys) (Next w.id) link = sees_right w.own ys (Next w.id) link (sees_right before (e ∷ []) (Next w.id) link (inl refl)) in
     record {
       own = w.own ++ ys;
@@ -109,6 +110,7 @@ looks_on n root wanted left first at key mark next next_id s t u before w hands 
       id = w.id;
       next_id = next_id;
       hands = hands;
+      apart = (apart, w.apart);
       looking = record {
         behind = b;
         is_of = is_of_puts n t u ys p all wanted w.id key w.is_of;
@@ -200,6 +202,7 @@ passed_marked n root wanted left first at key next kept s t u w keeps fresh all 
         first_id = w.first_id;
         next_id = w.next_id;
         hands = subst (λ (o : Option Hold). Hands s.slots u.slots (hand next w.next_id ∷ hand left w.left_id ∷ hand o w.first_id ∷ [])) c.0 (goes_hands s.slots t u (Some at) w.id hs g d);
+        apart = (w.apart.0, (w.apart.1.0, (subst (λ (o : Option Hold). IsApartOf 1 o) c.0 w.apart.1.1.0, tt)));
         behind = past_marked n root wanted left first w.left_id w.first_id w.id key (node_of next w.next_id) s w.own u j (Some kept) w.first_id
             (λ over b. begins_more kept w.first_id w.id over (subst (λ (o : Option Hold). BeginsRun o w.first_id over) c.0 b));
         next_is = next_is_of n u wanted w.id key (node_of next w.next_id) j.is_of j.follows;
@@ -219,6 +222,7 @@ passed_marked n root wanted left first at key next kept s t u w keeps fresh all 
         first_id = w.id;
         next_id = w.next_id;
         hands = subst (λ (h : Hold). Hands s.slots u.slots (hand next w.next_id ∷ hand left w.left_id ∷ hand (Some h) w.id ∷ [])) (sym c.1) (goes_hands s.slots t u None w.first_id hs g b);
+        apart = (w.apart.0, (w.apart.1.0, (subst (λ (h : Hold). IsApartOf 1 (Some h)) (sym c.1) w.apart.1.1.1.0, tt)));
         behind = past_marked n root wanted left first w.left_id w.first_id w.id key (node_of next w.next_id) s w.own u j (Some kept) w.id
             (λ over b. begins_here kept w.first_id w.id over (subst (λ (o : Option Hold). BeginsRun o w.first_id over) c.0 b));
         next_is = next_is_of n u wanted w.id key (node_of next w.next_id) j.is_of j.follows;
@@ -250,6 +254,7 @@ passed_lower n root wanted left first at key next s t u v w less g h fresh_t fre
       first_id = w.first_id;
       next_id = w.next_id;
       hands = hands_swap s.slots v.slots (x ∷ []) (hand None w.first_id) o [] d;
+      apart = (w.apart.0, (w.apart.1.1.1.0, (tt, tt)));
       behind = past_lower n root wanted left first w.left_id w.first_id w.id key (node_of next w.next_id) at s w.own v i less;
       next_is = next_is_of n v wanted w.id key (node_of next w.next_id) i.is_of i.follows;
       visits = i.visits;
@@ -268,6 +273,7 @@ passed_none n root wanted least left first s t w =
       first_id = w.first_id;
       right_id = w.next_id;
       hands = hands_swap s.slots t.slots (y ∷ []) x z [] (hands_swap s.slots t.slots [] x y (z ∷ []) w.hands);
+      apart = (w.apart.1.0, (w.apart.1.1.0, (tt, tt)));
       behind = w.behind;
       above = tt;
       few = visits_few n least w.own t w.visits;
@@ -293,6 +299,7 @@ passed_some n root wanted least left first at value s t u w only reads all =
         first_id = w.first_id;
         id = w.next_id;
         hands = subst (λ (q : Slots). Hands s.slots q (y ∷ z ∷ x ∷ [])) (sym only.slots) hands;
+        apart = (w.apart.1.0, (w.apart.1.1.0, (w.apart.0, tt)));
         behind = behind_on n t u only.puts all root wanted left first w.left_id w.first_id (Some w.next_id) s w.own w.behind only.fresh;
         is_of = subst (λ (k : ℕ). IsOf n wanted w.next_id k u) (sym is) there;
         visits = visits_weaker n least value w.own u (visits_on n t u only.puts all least w.own w.visits) up;
@@ -340,6 +347,7 @@ looks_above n root wanted left first at key next s t u w less g fresh all =
       first_id = w.first_id;
       right_id = w.id;
       hands = goes_hands s.slots t u next w.next_id hs g w.hands;
+      apart = w.apart.1;
       behind = j.behind;
       above = (key, j.is_of.has_key, less);
       few = visits_few n (key + 1) w.own t k.visits;
@@ -368,7 +376,7 @@ walk_looks n root wanted left first at key slot seen next s t u room w low high 
         let p = subst (λ (i : ℕ). Puts t (event_of t (Look (Next i) (record { to = None; mark = seen.mark })) None ∷ []) u) id_is puts in
         let hs : List Hand = hand left w.left_id ∷ hand first w.first_id ∷ hand (Some at) w.id ∷ [] in
         let hands = subst (λ (z : Slots). Hands s.slots z (hand None 0 ∷ hs)) (sym slots) (hands_with_none s.slots t.slots hs 0 w.hands) in
-        looks_on n root wanted left first at key seen.mark None 0 s t u [] w hands p (omega arith) refl refl refl refl refl refl looks.fresh holds all
+        looks_on n root wanted left first at key seen.mark None 0 s t u [] w hands tt p (omega arith) (tt, tt) refl refl refl looks.fresh holds all
     by_next (Some h) (next_id, one, some, marked, null, at_slot, slots, puts) =
         let link : Link = record { to = Some next_id; mark = seen.mark } in
         let p = subst (λ (i : ℕ). Puts t (event_of t (Look (Next i) one) None ∷ event_of t (Look (Next i) link) None ∷ []) u) id_is puts in
@@ -377,7 +385,7 @@ walk_looks n root wanted left first at key slot seen next s t u room w low high 
         let free = room_at s.slots slot room low high in
         let hands = hands_take s.slots t.slots u.slots hs h next_id w.hands (subst (λ (i : ℕ). IsApart i hs) (sym at_slot) apart) (subst (λ (i : ℕ). slice_get s.slots i ≡ Some None) (sym at_slot) free.empty)
         (subst (λ (i : ℕ). u.slots ≡ slice_set t.slots i (Some (record { row = h.row; id = next_id }))) (sym at_slot) slots) in
-        looks_on n root wanted left first at key seen.mark (Some h) next_id s t u (event_of t (Look (Next w.id) one) None ∷ []) w hands p (omega arith) refl refl refl refl refl refl looks.fresh holds all
+        looks_on n root wanted left first at key seen.mark (Some h) next_id s t u (event_of t (Look (Next w.id) one) None ∷ []) w hands (λ e. omega (arith, e, at_slot, low)) p (omega arith) (tt, (tt, tt)) refl refl refl looks.fresh holds all
 
 pub walk_stops : (n : HeapNumbers) (root wanted : ℕ) (left first : Option Hold) (at : Hold) (key slot : ℕ) (s t u : Seat ChainNote) → Walks n root wanted left first at key s t
     → Looks (Next (id_in t.slots at)) slot t Moved u → AllAllowed (ChainMay n) [] u.seen → Stops n root wanted left first at s u
@@ -388,7 +396,7 @@ walk_stops n root wanted left first at key slot s t u w looks all =
     let ys : List (Event ChainNote) = event_of t (Look (Next w.id) one) None ∷ event_of t (Look (Next w.id) two) None ∷ [] in
     let p : Puts t ys u = subst (λ (i : ℕ). Puts t (event_of t (Look (Next i) one) None ∷ event_of t (Look (Next i) two) None ∷ []) u) id_is puts in
     let moved = looks_differ n (ChainMay n) (λ es x k. k.fits) t u (Next w.id) one two p all linked other in
-    let b = behind_puts n t u ys p all root wanted left first w.left_id w.first_id (Some w.id) s w.own w.behind looks.fresh refl refl refl in
+    let b = behind_puts n t u ys p all root wanted left first w.left_id w.first_id (Some w.id) s w.own w.behind (tt, (tt, tt)) looks.fresh refl refl refl in
     record {
       own = w.own ++ ys;
       left_id = w.left_id;

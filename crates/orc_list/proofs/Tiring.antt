@@ -9,14 +9,14 @@ use Rattle.orc_chain_rule.specs.declared.chain.ChainNote.{ChainNote}
 use Rattle.orc_list.specs.Answers.{AsksTurns, RemovesTurns}
 use Rattle.orc_list.specs.Turns.{Answers, AsksTurn, LeavesOff, Made, RemovesTurn, TakesKey, TakesOut, Tires}
 use Rattle.orc_list.proofs.Making.{made_most, made_next, over_next, over_none}
-use Rattle.orc_list.proofs.Seen.{sees_right, sees_run_right}
+use Rattle.orc_list.proofs.Seen.{loads-append, sees_right, sees_run_right}
 use Rattle.orc_heap.specs.declared.events.Event.{Event}
 
 pub tires_none : (s : Seat ChainNote) → Tires 0 s s
-tires_none s = record { own = []; over = over_none s; slots = refl; fresh = refl }
+tires_none s = record { own = []; over = over_none s; loads = tt; slots = refl; fresh = refl }
 
 pub tires_next : (turns : ℕ) (s t u : Seat ChainNote) → Tires turns s t → Tires 1 t u → Tires (turns + 1) s u
-tires_next turns s t u w f = record { own = w.own ++ f.own; over = over_next 0 0 turns s t u w.own f.own w.over f.over; slots = f.slots ∙ w.slots; fresh = f.fresh ∙ w.fresh }
+tires_next turns s t u w f = record { own = w.own ++ f.own; over = over_next 0 0 turns s t u w.own f.own w.over f.over; loads = loads-append w.own f.own w.loads f.loads; slots = f.slots ∙ w.slots; fresh = f.fresh ∙ w.fresh }
 
 pub tires_answer : (turns most : ℕ) (s t u : Seat ChainNote) (entry : SetEntry) → Tires turns s t → Answers 1 t entry u → turns + 1 ≤ most → Answers most s entry u
 tires_answer turns most s t u entry w a low = record {

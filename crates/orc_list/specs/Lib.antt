@@ -2,3 +2,4 @@ pub mod Searches
 pub mod Turns
 pub mod Answers
 pub mod Causes
+pub mod Inserts

@@ -2,13 +2,14 @@
 use Rattle.std.specs.Prelude.{Bool, List, None, Option, Some, [], false, length, slice_set, true, ℕ, ◌%◌, ◌*◌, ◌+◌, ◌<◌, ◌∷◌, ◌≡◌, ◌≤◌, ◌⊎◌}
 use Rattle.orc_heap.specs.Allowed.{HasLink, IsLinkedNode}
 use Rattle.orc_heap.specs.Calls.{unless_node}
-use Rattle.orc_heap.specs.Hands.{Hands, hand}
+use Rattle.orc_heap.specs.Hands.{Hands, IsApart, hand}
 use Rattle.orc_heap.specs.Heap.{Heap, HeapNumbers}
 use Rattle.orc_heap.specs.Moves.{ShowsOrMoved, from_own, gives_in, moves_in}
 use Rattle.orc_heap.specs.OwnEvents.{Puts}
 use Rattle.orc_heap.specs.Seats.{Seat, heap_of}
 use Rattle.orc_heap.specs.Slots.{Hold, Holds, IsFree, Slots, id_in}
-use Rattle.orc_heap.specs.declared.events.Act.TheVariants.{Look}
+use Rattle.orc_heap.specs.declared.events.Act.{Act}
+use Rattle.orc_heap.specs.declared.events.Act.TheVariants.{Look, Miss}
 use Rattle.orc_heap.specs.declared.events.Event.{Event}
 use Rattle.orc_heap.specs.declared.events.Link.{Link}
 use Rattle.orc_heap.specs.declared.events.Place.{Place}
@@ -56,10 +57,22 @@ pub record Visits (n : HeapNumbers) (bound : ℕ) (own : List (Event ChainNote))
   pub seen : AllSeen own nodes
   pub few : length own ≤ 2 * length nodes + 2
 
+-- a load: a Look or a Miss
+abbrev pub IsLoad : Act → Type 0
+IsLoad (Look place link) = Unit {0}
+IsLoad (Miss place wanted found) = Unit {0}
+IsLoad act = ⊥
+
+-- each of these events is a load
+abbrev pub AreLoads : List (Event ChainNote) → Type 0
+AreLoads [] = Unit {0}
+AreLoads (e ∷ es) = IsLoad e.act × AreLoads es
+
 -- the pass made only loads, and at least one: its own events enter nothing, give no node and move no link
 pub record Quiet (s : Seat ChainNote) (own : List (Event ChainNote)) (t : Seat ChainNote) : Type 0 where
   pub puts : Puts s own t
   pub fresh : t.fresh ≡ s.fresh
+  pub loads : AreLoads own
   pub some : 1 ≤ length own
   pub no_entries : entries_of own ≡ []
   pub no_give : gives_in own ≡ 0
@@ -103,13 +116,14 @@ pub record IsOf (n : HeapNumbers) (wanted id key : ℕ) (t : Seat ChainNote) : T
   pub has_key : HasKey (heap_of n t) id key
   pub same_root : key % n.roots ≡ wanted % n.roots
 
--- a search on its way: behind the left place and a run of marked nodes stands this node, with this key
+-- a search on its way: behind the left place and a run of marked nodes stands this node, with this key. Slot 1 is left free
 pub record Walks (n : HeapNumbers) (root wanted : ℕ) (left first : Option Hold) (at : Hold) (key : ℕ) (s t : Seat ChainNote) : Type 0 where
   pub own : List (Event ChainNote)
   pub left_id : ℕ
   pub first_id : ℕ
   pub id : ℕ
   pub hands : Hands s.slots t.slots (hand left left_id ∷ hand first first_id ∷ hand (Some at) id ∷ [])
+  pub apart : IsApart 1 (hand left left_id ∷ hand first first_id ∷ hand (Some at) id ∷ [])
   pub behind : Behind n root wanted left first left_id first_id (Some id) s own t
   pub is_of : IsOf n wanted id key t
   pub visits : Visits n key own t
@@ -137,6 +151,7 @@ pub record LooksOn (n : HeapNumbers) (root wanted : ℕ) (left first : Option Ho
   pub id : ℕ
   pub next_id : ℕ
   pub hands : Hands s.slots t.slots (hand next next_id ∷ hand left left_id ∷ hand first first_id ∷ hand (Some at) id ∷ [])
+  pub apart : IsApart 1 (hand next next_id ∷ hand left left_id ∷ hand first first_id ∷ hand (Some at) id ∷ [])
   pub looking : Looking n root wanted left first left_id first_id id key mark (node_of next next_id) s own t
 
 -- the node that a link names is of the chain of the wanted key's root, and its key is no lower than this
@@ -151,6 +166,7 @@ pub record Passed (n : HeapNumbers) (root wanted least : ℕ) (left first next :
   pub first_id : ℕ
   pub next_id : ℕ
   pub hands : Hands s.slots t.slots (hand next next_id ∷ hand left left_id ∷ hand first first_id ∷ [])
+  pub apart : IsApart 1 (hand next next_id ∷ hand left left_id ∷ hand first first_id ∷ [])
   pub behind : Behind n root wanted left first left_id first_id (node_of next next_id) s own t
   pub next_is : NextIsOf n wanted least (node_of next next_id) t
   pub visits : Visits n least own t
@@ -162,6 +178,7 @@ pub record FindsAbsent (n : HeapNumbers) (root wanted : ℕ) (left first right :
   pub first_id : ℕ
   pub right_id : ℕ
   pub hands : Hands s.slots t.slots (hand left left_id ∷ hand first first_id ∷ hand right right_id ∷ [])
+  pub apart : IsApart 1 (hand left left_id ∷ hand first first_id ∷ hand right right_id ∷ [])
   pub behind : Behind n root wanted left first left_id first_id (node_of right right_id) s own t
   pub above : IsAbove (heap_of n t) (node_of right right_id) wanted
   pub few : IsFew 2 own

@@ -20,7 +20,7 @@ use Rattle.orc_chain_rule.specs.Watches.{node_to_add}
 use Rattle.orc_chain_rule.specs.declared.chain.ChainNote.{ChainNote}
 use Rattle.orc_chain_rule.specs.declared.chain.ChainNote.TheVariants.{Entry, Unlink}
 use Rattle.orc_chain_rule.specs.ChainDiscipline.{FollowsOn, IsAbove, IsOnNoChain, entries_of, link_over}
-use Rattle.orc_list.specs.Searches.{CoversLooks, Sees, SeesRun, node_of}
+use Rattle.orc_list.specs.Searches.{AreLoads, CoversLooks, Sees, SeesRun}
 
 -- the left place, by what the pass holds
 abbrev pub place_at : Slots → ℕ → Option Hold → Place
@@ -55,10 +55,11 @@ pub record AreOver (given turns : ℕ) (s : Seat ChainNote) (own : List (Event C
   pub no_move : moves_in own ≡ 0
   pub moved : turns ≤ moves_in (from_own s.agent made.puts.part)
 
--- the same, and the pass holds what it held
+-- the same, by loads alone, and the pass holds what it held
 pub record Tires (turns : ℕ) (s t : Seat ChainNote) : Type 0 where
   pub own : List (Event ChainNote)
   pub over : AreOver 0 turns s own t
+  pub loads : AreLoads own
   pub slots : t.slots ≡ s.slots
   pub fresh : t.fresh ≡ s.fresh
 
