@@ -8,3 +8,6 @@ pub mod Answering
 pub mod Tiring
 pub mod Marking
 pub mod Removing
+pub mod Parts
+pub mod Settling
+pub mod Causes
