@@ -11,3 +11,4 @@ pub mod Removing
 pub mod Parts
 pub mod Settling
 pub mod Causes
+pub mod Licences

@@ -22,7 +22,7 @@ use orc_history::ListRefused;
 /// A call's part of the journal begins with the first step of its own agent.
 #[derive(Drop)]
 pub struct List<L: Links<Rule = Chain>> {
-    links: L,
+    pub(crate) links: L,
 }
 
 impl<L: Links<Rule = Chain>> List<L> {

@@ -90,7 +90,7 @@ impl<L: Links<Rule = Chain>> SharedSet for OneList<L> {
     ghost grows = { λ s seen more. history_grows L.agent_of (L.events s.list.links) (L.steps_add s.list.links) seen more };
 
     fn agent(&self, p: &L::Pass) -> u32 {
-        self.list.links().agent(p)
+        self.list.links.agent(p)
     }
 
     fn insert(&self, p: &mut L::Pass, key: u64, turns: u64) -> Result<bool, ListRefused> {
@@ -110,7 +110,7 @@ impl<L: Links<Rule = Chain>> LearnSet for OneList<L> {
     ghost agents = { λ s. L.agents s.list.links };
 
     fn learn(&self, into: &mut L::Pass, from: &mut L::Pass) {
-        self.list.links().learn(into, from);
+        self.list.links.learn(into, from);
     }
 
     ghost agents_below = { λ s p h. (
