@@ -149,7 +149,7 @@ module _ (s t u : Seat ChainNote) (o : Only [] t u) where
     entries_are = refl;
     made = made_settled l.given turns l.own [] l.over.made;
     over = λ e. (l.over.no_move, over_moved l.given turns l.own l.over);
-    no_turns = λ zero. (refl, none_made l.given turns l.own l.over.made.few zero (omega (arith, zero, l.given_few)));
+    no_turns = λ zero. (refl, none_made l.given turns l.own l.over.made.few zero (omega (arith, zero, l.fewer)));
   }
   insert_did n key turns (Err NoNode) l = ended turns [] (Err NoNode) (λ x. Added s.agent key x) refl l.0 (λ e. cc) l.1 l.2
   insert_did n key turns (Err (Spent why)) l = ended turns [] (Err (Spent why)) (λ x. Added s.agent key x) refl l.0 (λ e. cc) l.1 l.2
