@@ -28,10 +28,12 @@ look_linked n s t root id link own rest to all p =
     let st = Puts-stood (OwnRootsMay n) s t own _ rest p all in
     let e : Event ℕ = event_of s (Look (Root root) link) None in
     let once = root_linked n (s.seen ++ st.before) root id link to st.here.0 in
-    subst (λ es. is_once_linked es id ≡ true) (sym st.is) (once_later ((s.seen ++ st.before) ++ e ∷ []) st.later id (once_later (s.seen ++ st.before) (e ∷ []) id once))
+    subst (λ es. is_once_linked es id ≡ true) (sym st.is)
+    (once_later ((s.seen ++ st.before) ++ e ∷ []) st.later id (once_later (s.seen ++ st.before) (e ∷ []) id once))
 
 -- a node that was linked isn't a pass's fresh one
-not_fresh : (n : HeapNumbers) (s : Seat ℕ) (id fresh : ℕ) → IsLawful n s.seen → is_once_linked s.seen id ≡ true → IsUntouched s.agent (run_heap n s.seen) fresh → fresh ≢ id
+not_fresh : (n : HeapNumbers) (s : Seat ℕ) (id fresh : ℕ) → IsLawful n s.seen → is_once_linked s.seen id ≡ true
+    → IsUntouched s.agent (run_heap n s.seen) fresh → fresh ≢ id
 not_fresh n s id fresh lawful once u same =
     let linked : false ≡ true = sym u.unlinked ∙ (linked_told n s.seen fresh u.node lawful u.there ∙ (ap (λ i. is_once_linked s.seen i) same ∙ once)) in
     cc

@@ -20,7 +20,8 @@ look-requires-clause-place g c =
     let n = g.L.Links.numbers d in
     let s = g.L.Links.seat d c.args.p.now in
     let kp = c.requires.pass in
-    let ks = known n (g.L.Links.opening d) s.seen c.requires.made (g.met.L.Links.opens d c.args.p.now kp) (g.met.L.Links.allowed d c.args.p.now kp) (g.met.L.Links.obeys d c.args.p.now kp) in
+    let ks = known n (g.L.Links.opening d) s.seen c.requires.made (g.met.L.Links.opens d c.args.p.now kp) (g.met.L.Links.allowed d c.args.p.now kp)
+    (g.met.L.Links.obeys d c.args.p.now kp) in
     roots_there n s.seen 1 ks (omega arith)
 
 pub unreachable-requires : goal.unreachable-requires
@@ -29,10 +30,12 @@ unreachable-requires g c =
     let n = g.L.Links.numbers d in
     let s = g.L.Links.seat d c.args.p.now in
     let kp = c.requires.pass in
-    let ks = known n (g.L.Links.opening d) s.seen c.requires.made (g.met.L.Links.opens d c.args.p.now kp) (g.met.L.Links.allowed d c.args.p.now kp) (g.met.L.Links.obeys d c.args.p.now kp) in
+    let ks = known n (g.L.Links.opening d) s.seen c.requires.made (g.met.L.Links.opens d c.args.p.now kp) (g.met.L.Links.allowed d c.args.p.now kp)
+    (g.met.L.Links.obeys d c.args.p.now kp) in
     let a = g.L.Links.seat d c.look.new.p in
     let e = c.in-Stable-default-None.ensures in
-    root_not_null n s a 1 _ (omega arith) ks (g.met.L.Links.allowed d c.look.new.p e.pass) (Looks-null {place = Root 1} e.looked c.in-Stable-default-None.field-1-is)
+    root_not_null n s a 1 _ (omega arith) ks (g.met.L.Links.allowed d c.look.new.p e.pass)
+    (Looks-null {place = Root 1} e.looked c.in-Stable-default-None.field-1-is)
 
 pub link_node-turn-requires-clause-node : goal.link_node-turn-requires-clause-node
 link_node-turn-requires-clause-node g c =
@@ -42,13 +45,15 @@ link_node-turn-requires-clause-node g c =
     let node = c.args.node.now in
     let job = c.args.job in
     let kp = c.requires.pass in
-    let ks = known n (g.L.Links.opening d) s.seen c.requires.made (g.met.L.Links.opens d c.args.p.now kp) (g.met.L.Links.allowed d c.args.p.now kp) (g.met.L.Links.obeys d c.args.p.now kp) in
+    let ks = known n (g.L.Links.opening d) s.seen c.requires.made (g.met.L.Links.opens d c.args.p.now kp) (g.met.L.Links.allowed d c.args.p.now kp)
+    (g.met.L.Links.obeys d c.args.p.now kp) in
     let a = g.L.Links.seat d c.look.new.p in
     let e = c.in-Stable-default-Some.ensures in
     let all = g.met.L.Links.allowed d c.look.new.p e.pass in
     let tail = c.in-Stable-default-Some.tail in
     let x = root_held n s a 1 2 _ tail (omega arith) ks all (Looks-held {place = Root 1} e.looked c.in-Stable-default-Some.field-1-is) in
-    node_held n s a _ x.puts all job node c.requires.node.second ks c.requires.node (slot_other s a 2 x.id tail c.requires.slot x.in_slot node c.requires.node.held)
+    node_held n s a _ x.puts all job node c.requires.node.second ks c.requires.node
+    (slot_other s a 2 x.id tail c.requires.slot x.in_slot node c.requires.node.held)
     (slot_other_id s a 2 x.id tail c.requires.slot x.in_slot node c.requires.node.held) e.looked.fresh refl refl
 
 pub link_node-turn-requires-clause-tail : goal.link_node-turn-requires-clause-tail
@@ -57,7 +62,8 @@ link_node-turn-requires-clause-tail g c =
     let n = g.L.Links.numbers d in
     let s = g.L.Links.seat d c.args.p.now in
     let kp = c.requires.pass in
-    let ks = known n (g.L.Links.opening d) s.seen c.requires.made (g.met.L.Links.opens d c.args.p.now kp) (g.met.L.Links.allowed d c.args.p.now kp) (g.met.L.Links.obeys d c.args.p.now kp) in
+    let ks = known n (g.L.Links.opening d) s.seen c.requires.made (g.met.L.Links.opens d c.args.p.now kp) (g.met.L.Links.allowed d c.args.p.now kp)
+    (g.met.L.Links.obeys d c.args.p.now kp) in
     let a = g.L.Links.seat d c.look.new.p in
     let e = c.in-Stable-default-Some.ensures in
     let all = g.met.L.Links.allowed d c.look.new.p e.pass in
@@ -71,7 +77,8 @@ link_node-turn-requires-clause-named g c =
     let n = g.L.Links.numbers d in
     let s = g.L.Links.seat d c.args.p.now in
     let kp = c.requires.pass in
-    let ks = known n (g.L.Links.opening d) s.seen c.requires.made (g.met.L.Links.opens d c.args.p.now kp) (g.met.L.Links.allowed d c.args.p.now kp) (g.met.L.Links.obeys d c.args.p.now kp) in
+    let ks = known n (g.L.Links.opening d) s.seen c.requires.made (g.met.L.Links.opens d c.args.p.now kp) (g.met.L.Links.allowed d c.args.p.now kp)
+    (g.met.L.Links.obeys d c.args.p.now kp) in
     let a = g.L.Links.seat d c.look.new.p in
     let e = c.in-Stable-default-Some.ensures in
     let all = g.met.L.Links.allowed d c.look.new.p e.pass in
@@ -88,7 +95,8 @@ release-requires-clause-held g c =
     let node = c.args.node.now in
     let job = c.args.job in
     let kp = c.requires.pass in
-    let ks = known n (g.L.Links.opening d) s.seen c.requires.made (g.met.L.Links.opens d c.args.p.now kp) (g.met.L.Links.allowed d c.args.p.now kp) (g.met.L.Links.obeys d c.args.p.now kp) in
+    let ks = known n (g.L.Links.opening d) s.seen c.requires.made (g.met.L.Links.opens d c.args.p.now kp) (g.met.L.Links.allowed d c.args.p.now kp)
+    (g.met.L.Links.obeys d c.args.p.now kp) in
     let a = g.L.Links.seat d c.look.new.p in
     let e = c.in-Stable-default-Some.ensures in
     let all = g.met.L.Links.allowed d c.look.new.p e.pass in
@@ -106,7 +114,8 @@ returns-in-Stable-default-Some-clause-slots g c =
     let node = c.args.node.now in
     let job = c.args.job in
     let kp = c.requires.pass in
-    let ks = known n (g.L.Links.opening d) s.seen c.requires.made (g.met.L.Links.opens d c.args.p.now kp) (g.met.L.Links.allowed d c.args.p.now kp) (g.met.L.Links.obeys d c.args.p.now kp) in
+    let ks = known n (g.L.Links.opening d) s.seen c.requires.made (g.met.L.Links.opens d c.args.p.now kp) (g.met.L.Links.allowed d c.args.p.now kp)
+    (g.met.L.Links.obeys d c.args.p.now kp) in
     let a = g.L.Links.seat d c.look.new.p in
     let e = c.in-Stable-default-Some.ensures in
     let all = g.met.L.Links.allowed d c.look.new.p e.pass in
@@ -127,7 +136,8 @@ returns-in-Stable-default-Some-clause-fresh g c =
     let node = c.args.node.now in
     let job = c.args.job in
     let kp = c.requires.pass in
-    let ks = known n (g.L.Links.opening d) s.seen c.requires.made (g.met.L.Links.opens d c.args.p.now kp) (g.met.L.Links.allowed d c.args.p.now kp) (g.met.L.Links.obeys d c.args.p.now kp) in
+    let ks = known n (g.L.Links.opening d) s.seen c.requires.made (g.met.L.Links.opens d c.args.p.now kp) (g.met.L.Links.allowed d c.args.p.now kp)
+    (g.met.L.Links.obeys d c.args.p.now kp) in
     let a = g.L.Links.seat d c.look.new.p in
     let e = c.in-Stable-default-Some.ensures in
     let all = g.met.L.Links.allowed d c.look.new.p e.pass in
@@ -143,7 +153,8 @@ returns-in-Stable-default-Some-clause-fresh g c =
     let released = c.release.ensures.released in
     let same = ap (λ (z : Slots). id_in z tail) kept.slots ∙ tail_id in
     let linked = linked_puts n a b kept.own kept.puts all_b x.id x.named.linked in
-    let fresh = release_fresh n b t tail (λ i is. g.met.L.Links.fresh_is d c.link_node-turn.new.p i pass_b is) (subst (λ (i : ℕ). IsLinkedNode (heap_of n b) i) (sym same) linked) released in
+    let fresh = release_fresh n b t tail (λ i is. g.met.L.Links.fresh_is d c.link_node-turn.new.p i pass_b is)
+    (subst (λ (i : ℕ). IsLinkedNode (heap_of n b) i) (sym same) linked) released in
     elim kept.fresh [ inl is ↦ inl (fresh ∙ (is ∙ e.looked.fresh)) | inr is ↦ inr (fresh ∙ is) ]
 
 pub returns-in-Moved-clause-slots : goal.returns-in-Moved-clause-slots

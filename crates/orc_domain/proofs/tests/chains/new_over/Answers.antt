@@ -46,4 +46,5 @@ returns-in-Err-clause-none g c =
     let u = g.L.Links.seat d c.aim.new.p in
     let v = g.L.Links.seat d c.release.new.p in
     let e = c.in-Err.ensures in
-    given_released (g.L.Links.numbers d) 1 c.args.value s c.in-Ok.node t c.requires.slot c.in-Ok.ensures.given u e.none.slots e.none.fresh v c.release.ensures.released
+    given_released (g.L.Links.numbers d) 1 c.args.value s c.in-Ok.node t c.requires.slot c.in-Ok.ensures.given u e.none.slots e.none.fresh v
+    c.release.ensures.released

@@ -20,5 +20,6 @@ swing-put-requires-clause-allowed g c =
     let e = c.in-Some.ensures in
     let to = plain_link (Some (id_in t.slots c.in-Some.node)) in
     let known = g.met.L.Links.held_is d c.new_over.new.p c.in-Some.node e.pass e.fresh.held in
-    subst (λ (a : ℕ). AllowedLater (OwnRootsMay n) n t.agent t.seen (Root a) null (event_of t (Move (Root a) null to) (Some a))) (e.agent ∙ sym c.agent-agent.ensures)
+    subst (λ (a : ℕ). AllowedLater (OwnRootsMay n) n t.agent t.seen (Root a) null (event_of t (Move (Root a) null to) (Some a)))
+    (e.agent ∙ sym c.agent-agent.ensures)
     (move_allowed n t null to refl known)

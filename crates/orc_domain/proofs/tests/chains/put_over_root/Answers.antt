@@ -19,4 +19,5 @@ put_over-put-requires-clause-linked g c =
     let below = c.in-Stable-default-Some.below in
     let x = Looks-held {place = Root c.args.root} {s = s} {t = t} {h = below} e.looked c.in-Stable-default-Some.field-1-is in
     subst (λ (id : ℕ). is_once_linked t.seen id ≡ true) (sym (id-there s.slots t.slots 2 x.id below (rw c.requires.idle.slots refl) x.at x.slots))
-    (look_linked (g.L.Links.numbers d) s t c.args.root x.id _ (event_of s (Look (Root c.args.root) x.one) None ∷ []) [] refl (g.met.L.Links.allowed d c.look.new.p e.pass) x.puts)
+    (look_linked (g.L.Links.numbers d) s t c.args.root x.id _ (event_of s (Look (Root c.args.root) x.one) None ∷ []) [] refl
+    (g.met.L.Links.allowed d c.look.new.p e.pass) x.puts)

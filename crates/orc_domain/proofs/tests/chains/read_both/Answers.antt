@@ -16,5 +16,6 @@ returns-in-Stable-default-Some-clause-slots g c =
     let e = c.in-Stable-default-Some.ensures in
     let lower = c.in-Stable-default-Some.lower in
     let x = Looks-held {place = Next (id_in s.slots c.args.upper.now)} {s = s} {t = t} {h = lower} e.looked c.in-Stable-default-Some.field-1-is in
-    c.release.ensures.released.slots ∙ (ap (λ z. slice_set z lower.slot None) (c.value-in-Stable-default-Some.ensures.nothing.slots ∙ c.value.ensures.nothing.slots)
+    c.release.ensures.released.slots
+    ∙ (ap (λ z. slice_set z lower.slot None) (c.value-in-Stable-default-Some.ensures.nothing.slots ∙ c.value.ensures.nothing.slots)
     ∙ given-back s.slots t.slots 2 x.id lower c.requires.slot.empty x.at x.slots)
