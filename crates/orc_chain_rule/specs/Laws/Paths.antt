@@ -96,7 +96,7 @@ one_on_line roots h keys c p (u ∷ xs) (v ∷ ys) x y a j k s t =
     one_on_line roots h keys c (Next u) xs ys x y a j k s.1 (subst (λ (z : ℕ). IsPath h (Next z) ys (Some y)) same t.1)
 
 -- a node with an unmarked link is in no run
-not_marked : (h : Heap) (x : ℕ) (link next : Link) → shown h (Next x) ≡ Some link → link.mark ≡ false → shown h (Next x) ≡ Some next → next.mark ≡ true → ⊥
+pub not_marked : (h : Heap) (x : ℕ) (link next : Link) → shown h (Next x) ≡ Some link → link.mark ≡ false → shown h (Next x) ≡ Some next → next.mark ≡ true → ⊥
 not_marked h x link next at plain shows mark =
     let same : link ≡ next = some_same (sym at ∙ shows) in
     let bad : false ≡ true = sym plain ∙ (ap (λ (l : Link). l.mark) same ∙ mark) in
