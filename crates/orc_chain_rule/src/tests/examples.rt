@@ -38,12 +38,12 @@ fn a_chain_of_three()
 {}
 
 // From a root that names the node of 3, marked, and behind it that of 5, marked, and that of 9: agent 1's node with
-// the key 7, aimed at 9, may be linked in place of the run, and the run may be left out.
+// the key 4, aimed at 9, may be linked in place of the run, and the run may be left out.
 fn a_run_of_two_marked_nodes()
     ensures run { let h : Heap = record {
       nodes = with_link (record { to = Some 1; mark = true }) (as_linked (node_to_add 0 3 0 None))
           ∷ with_link (record { to = Some 2; mark = true }) (as_linked (node_to_add 0 5 0 None))
-          ∷ as_linked (node_to_add 0 9 0 None) ∷ node_to_add 1 7 0 (Some 2) ∷ [];
+          ∷ as_linked (node_to_add 0 9 0 None) ∷ node_to_add 1 4 0 (Some 2) ∷ [];
       roots = link_to 0 ∷ [];
     } in
         IsRun h (link_to 0) (0 ∷ 1 ∷ []) (Some 2) × IsPath h (Place.Root 0) (0 ∷ 1 ∷ []) (Some 2) × IsLeftOver h 1
@@ -53,14 +53,14 @@ fn a_run_of_two_marked_nodes()
     ensures inserted_over { let h : Heap = record {
       nodes = with_link (record { to = Some 1; mark = true }) (as_linked (node_to_add 0 3 0 None))
           ∷ with_link (record { to = Some 2; mark = true }) (as_linked (node_to_add 0 5 0 None))
-          ∷ as_linked (node_to_add 0 9 0 None) ∷ node_to_add 1 7 0 (Some 2) ∷ [];
+          ∷ as_linked (node_to_add 0 9 0 None) ∷ node_to_add 1 4 0 (Some 2) ∷ [];
       roots = link_to 0 ∷ [];
     } in
-        MayAct 1 h (9 ∷ []) (Act.Move (Place.Root 0) (link_to 0) (link_to 3)) (Some (ChainNote.Entry (SetEntry.Added 1 7 true))) }
+        MayAct 1 h (9 ∷ []) (Act.Move (Place.Root 0) (link_to 0) (link_to 3)) (Some (ChainNote.Entry (SetEntry.Added 1 4 true))) }
     ensures left_out { let h : Heap = record {
       nodes = with_link (record { to = Some 1; mark = true }) (as_linked (node_to_add 0 3 0 None))
           ∷ with_link (record { to = Some 2; mark = true }) (as_linked (node_to_add 0 5 0 None))
-          ∷ as_linked (node_to_add 0 9 0 None) ∷ node_to_add 1 7 0 (Some 2) ∷ [];
+          ∷ as_linked (node_to_add 0 9 0 None) ∷ node_to_add 1 4 0 (Some 2) ∷ [];
       roots = link_to 0 ∷ [];
     } in
         MayAct 1 h (9 ∷ []) (Act.Move (Place.Root 0) (link_to 0) (link_to 2)) (Some ChainNote.Unlink) }
