@@ -1,0 +1,6 @@
+pub mod Later
+pub mod Coming
+pub mod OwnEntries
+pub mod Leaving
+pub mod Runs
+pub mod Stretches

@@ -1,0 +1,4 @@
+pub mod ChainDiscipline
+pub mod Watches
+pub mod Counts
+pub mod Laws
