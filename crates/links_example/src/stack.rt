@@ -43,8 +43,7 @@ fn push<L: Links<Rule = OwnRoots>>(
     requires top { HasTop (L.numbers links.now) (L.seat links.now p.old) (target_in (L.seat links.now p.old).slots top) }
     requires node { HoldsNode (L.numbers links.now) (L.seat links.now p.old) top }
     ensures pass { L.belongs links.now p.new }
-    ensures pushed
-        { IfOk result (λ h. Pushes (L.numbers links.now) (target_in (L.seat links.now p.old).slots top.entry) slot value (L.seat links.now p.old) h
+    ensures pushed { IfOk result (λ h. Pushes (L.numbers links.now) (target_in (L.seat links.now p.old).slots top.entry) slot value (L.seat links.now p.old) h
         (L.seat links.now p.new)) }
     ensures none { IfErr result (λ e. StackStays (L.numbers links.now) (L.seat links.now p.old) (L.seat links.now p.new)) }
 {

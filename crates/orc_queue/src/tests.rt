@@ -36,8 +36,7 @@ fn make_queue(
     requires roots { 2 ≤ (bounds_of shape.now).roots }
     requires first { first ≤ 2 ^ 62 }
     ensures usable { IfOk result (λ made. All (λ p. ⟦<TestQueue as SharedQueue>⟧.usable made.0 p) made.1.items) }
-    ensures agents
-        { IfOk result (λ made. (i : ℕ) (p : _) → i < length made.1.items → ⟦<TestQueue as SharedQueue>⟧.agent_of made.0 (slice_index_or made.1.items i p) ≡ i) }
+    ensures agents { IfOk result (λ made. (i : ℕ) (p : _) → i < length made.1.items → ⟦<TestQueue as SharedQueue>⟧.agent_of made.0 (slice_index_or made.1.items i p) ≡ i) }
     ensures passes { IfOk result (λ made. length made.1.items ≡ (bounds_of shape.now).agents) }
 {
     let seed = Seed::Dummy {

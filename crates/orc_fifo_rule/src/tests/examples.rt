@@ -104,6 +104,5 @@ fn links()
     ensures leads { let es : List (Event FifoNote) =
         event_by 1 (Act.Move (Place.Next 0) null (link_to 1)) (Some (FifoNote.Entry (QueueEntry.Put 1 7 5))) ∷ [] in
         LeadsOn es 5 (link_to 1) × LeadsOn es 5 null × (¬ LeadsOn es 6 (link_to 1)) × (¬ LeadsOn es 5 (record { to = Some 1; mark = true })) }
-    ensures position
-        { position_of (record { nodes = record { giver = 0; first = None; second = None; link = null; named = true; linked = true } ∷ []; roots = [] }) 0 ≡ 0 }
+    ensures position { position_of (record { nodes = record { giver = 0; first = None; second = None; link = null; named = true; linked = true } ∷ []; roots = [] }) 0 ≡ 0 }
 {}

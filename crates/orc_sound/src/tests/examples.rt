@@ -39,7 +39,7 @@ fn a_link_that_is_not_counted_yet()
         ∷ (0, Op.CounterLoad 0 CounterUse.Check)
         ∷ (0, Op.LinkCas (Word.Root 0) (record { to = None; mark = false }) (record { to = Some 0; mark = false })) ∷ []) in
         (held m 0 ≡ true) × (held m 1 ≡ false) × (is_linked_anew m 0 1 ≡ true) × (is_linked_anew m 0 2 ≡ false) × (has_reason m 0 ≡ true)
-            × (has_reason m 1 ≡ false) }
+        × (has_reason m 1 ≡ false) }
 {}
 
 // Row 0 is taken and retired: first it waits in the work list, then it is scanned.
@@ -89,7 +89,7 @@ fn states_with_one_part_broken()
       agents = d ∷ [];
     } in
         let agent : Bool → List SlotUse → Option ℕ → Option Reading → Option Reading → Option Scan → Option Doom → Agent =
-            λ enrolled slots fresh looked checked scan doom. record {
+        λ enrolled slots fresh looked checked scan doom. record {
           enrolled = enrolled;
           slots = slots;
           fresh = fresh;
@@ -106,7 +106,7 @@ fn states_with_one_part_broken()
         let empty : List SlotUse = replicate 8 SlotUse.Empty in
         let idle : Agent = agent true empty None None None None None in
         let scanning : List SlotUse → ℕ → ℕ → Agent =
-            λ slots word place. agent true slots None None None (Some (record { row = 0; word = word; place = place; found = false })) None in
+        λ slots word place. agent true slots None None None (Some (record { row = 0; word = word; place = place; found = false })) None in
         let holding : List SlotUse = SlotUse.Empty ∷ SlotUse.Held 0 ∷ replicate 6 SlotUse.Empty in
         let breaks : (Machine → Bool) → Machine → Bool = λ part m. not (part m) && not (all_fit m) in
         (all_fit (state 2 1 20971521 0 0 idle) ≡ true)
@@ -116,7 +116,7 @@ fn states_with_one_part_broken()
         × (breaks (λ m. token_fits m 0) (state 2 1 29360129 0 0 idle) ≡ true)
         × (breaks (λ m. scan_fits m (record_at m 0).scan) (state 0 1 29360128 0 1 (scanning holding 29360128 2)) ≡ true)
         × (breaks (λ m. doom_fits m 0 (record_at m 0).doom)
-            (state 2 1 29360129 0 0 (agent true empty None None None None (Some (record { row = 0; cut = false; bare = false })))) ≡ true)
+        (state 2 1 29360129 0 0 (agent true empty None None None None (Some (record { row = 0; cut = false; bare = false })))) ≡ true)
         × (breaks (λ m. free_fits m 0) (state 0 0 4194304 1 0 idle) ≡ true)
         × (breaks (λ m. has_reason m 0) (state 0 1 4194304 0 0 idle) ≡ true)
         × (breaks (λ m. enrolment_fits m 0) (state 2 1 20971521 0 0 (agent false empty None None None None None)) ≡ true)
@@ -125,6 +125,6 @@ fn states_with_one_part_broken()
         × (breaks (λ m. fresh_fits m 0 0) (state 2 1 20971521 0 0 (agent true empty (Some 0) None None None None)) ≡ true)
         × (breaks (λ m. scan_fits m (record_at m 0).scan) (state 0 1 29360128 0 0 (scanning empty 20971520 0)) ≡ true)
         × (breaks (λ m. looks_fit m (record_at m 0))
-            (state 0 0 4194304 0 0 (agent true empty None (Some (record { row = 0; number = 0 })) (Some (record { row = 0; number = 5 })) None None)) ≡ true)
+        (state 0 0 4194304 0 0 (agent true empty None (Some (record { row = 0; number = 0 })) (Some (record { row = 0; number = 5 })) None None)) ≡ true)
         × (breaks (λ m. range_fits m 0) (state 2 1 9223380832951992321 0 0 idle) ≡ true) }
 {}
