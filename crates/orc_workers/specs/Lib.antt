@@ -1,0 +1,3 @@
+pub mod Team
+pub mod Learning
+pub mod Board

@@ -1,0 +1,11 @@
+//! Posters and takers on threads, over one queue and one set.
+#![tactic(auto)]
+
+mod board;
+mod learning;
+mod team;
+mod work;
+
+pub use board::{Finished, run_board};
+pub use team::Worker;
+pub use work::{run_poster, run_taker};
