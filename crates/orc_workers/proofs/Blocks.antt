@@ -3,7 +3,7 @@ use Rattle.std.proofs.Common.{◌≡◌, ◌≢◌, ◌==◌, ℕ, zero, suc, �
 use Rattle.std.proofs.lemmas.List.Elements.{filter-append}
 use Rattle.std.specs.List.{AllByRecursion}
 use Rattle.orc_board.specs.Follows.{by_key}
-use Rattle.orc_workers.specs.Board.{all_of}
+use Rattle.orc_workers.specs.Seats.{all_of}
 use Rattle.orc_board.proofs.ListFacts.{AllByRecursion-map, filter-all, filter-none, le-cases}
 
 -- the blocks below n, one after another

@@ -24,7 +24,7 @@ use Rattle.orc_board.specs.Table.{EndsEmpty}
 use Rattle.orc_board.specs.Follows.{Pointwise, TakingRest, ZeroLast, LastIsEmpty, IsWorker}
 use Rattle.orc_workers.specs.Team.{IsReady, DidWork, DidPost, DidTake}
 use Rattle.orc_workers.specs.Learning.{IsKnown, IsOther, SameWorker, IsWhole, LearnedAll}
-use Rattle.orc_workers.specs.Board.{IsNew, IsTold, IsBack, AreNumbered, AllCameBack}
+use Rattle.orc_workers.specs.CameBack.{IsNew, IsTold, IsBack, AreNumbered, AllCameBack}
 use Rattle.orc_board.proofs.ListFacts.{le-cases, AllByRecursion-map}
 use Rattle.orc_board.proofs.Chains.{Did-just, Works-more, Stands-after, prefix_trans}
 use Rattle.orc_board.proofs.Wholes.{Works-before, Works-beside, Stands-beside, Below}
@@ -223,7 +223,7 @@ back_of q s queue set C lines posters k n [] [] o t l = tt
 back_of q s queue set C lines posters k n [] (v ∷ vs) o t l = absurd l
 back_of q s queue set C lines posters k n (w ∷ ws) [] o t l = absurd l
 back_of q s queue set C lines posters k n (w ∷ ws) (v ∷ vs) o t l = (
-  record { last = record { is_desk = o.0.desk; queue_seen = l.0.queue.is; set_seen = l.0.set.is }; posts_few = t.0.posts_few; takes_few = t.0.takes_few },
+  record { is_desk = o.0.desk; queue_seen = l.0.queue.is; set_seen = l.0.set.is; posts_few = t.0.posts_few; takes_few = t.0.takes_few },
   back_of q s queue set C lines posters k n ws vs o.1 t.1 l.1,
 )
 

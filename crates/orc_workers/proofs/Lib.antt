@@ -4,6 +4,6 @@ pub mod Resting
 pub mod Learned
 pub mod Blocks
 pub mod Boards
-pub mod Made
+pub mod Rooms
 pub mod CameBack
 pub mod Over

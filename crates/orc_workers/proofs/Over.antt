@@ -20,7 +20,9 @@ use Rattle.orc_workers.specs.declared.team.Worker.{Worker}
 use Rattle.orc_board.specs.Stretches.{View, queue_view, set_view, beside, Row}
 use Rattle.orc_board.specs.Follows.{Pointwise, TakerRow, Posting, TakingRest, ZeroLast, LastIsEmpty, IsWorker, own_records, by_key, taker_agent, posts_of, takes_of}
 use Rattle.orc_workers.specs.Team.{DidPost, DidTake}
-use Rattle.orc_workers.specs.Board.{IsTold, IsBack, AreNumbered, AreLast, AllCameBack, IsOver, all_of}
+use Rattle.orc_workers.specs.Desks.{AreIdle, HaveSeen}
+use Rattle.orc_workers.specs.CameBack.{IsTold, IsBack, AreNumbered, AllCameBack, IsOver}
+use Rattle.orc_workers.specs.Seats.{all_of}
 use Rattle.orc_board.proofs.ListFacts.{AllByRecursion-append, AllByRecursion-map, le-cases, zero_or}
 use Rattle.orc_board.proofs.Ends.{posters_of}
 use Rattle.orc_workers.proofs.Blocks.{blocks, AreKeyed, block_of, blocks_by_key, blocks_add, blocks_none, blocks_cons, nth_of, all_blocks}
@@ -67,17 +69,15 @@ abbrev pub take_block : {P R : Type 0} → ℕ → List TakeReply → List (Work
 take_block posters own ws zero = own
 take_block posters own ws (suc t) = nth_of (λ w. w.takes.items) ws (posters + t)
 
-last_desks : {Q S P R A B : Type 0} (q : QueueOf Q P A) (s : SetOf S R B) (queue : Q) (set : S) (lines : List Line) (k : List A) (n : List B) (a : ℕ) (ws : List (Worker P R))
-    → AreNumbered a ws → AllByRecursion (IsBack q s queue set lines k n) ws → AreLast q s queue set k n a (map (λ (w : Worker P R). w.desk) ws)
-last_desks q s queue set lines k n a [] num h = tt
-last_desks q s queue set lines k n a (w ∷ ws) num h = (
-  record {
-    is_desk = subst (λ (x : ℕ). IsDesk q s queue set x w.desk) num.0 h.0.last.is_desk;
-    queue_seen = h.0.last.queue_seen;
-    set_seen = h.0.last.set_seen;
-  },
-  last_desks q s queue set lines k n (suc a) ws num.1 h.1,
-)
+idle_desks : {Q S P R A B : Type 0} (q : QueueOf Q P A) (s : SetOf S R B) (queue : Q) (set : S) (lines : List Line) (k : List A) (n : List B) (a : ℕ) (ws : List (Worker P R))
+    → AreNumbered a ws → AllByRecursion (IsBack q s queue set lines k n) ws → AreIdle q s queue set a (map (λ (w : Worker P R). w.desk) ws)
+idle_desks q s queue set lines k n a [] num h = tt
+idle_desks q s queue set lines k n a (w ∷ ws) num h = (subst (λ (x : ℕ). IsDesk q s queue set x w.desk) num.0 h.0.is_desk, idle_desks q s queue set lines k n (suc a) ws num.1 h.1)
+
+seen_desks : {Q S P R A B : Type 0} (q : QueueOf Q P A) (s : SetOf S R B) (queue : Q) (set : S) (lines : List Line) (k : List A) (n : List B) (ws : List (Worker P R))
+    → AllByRecursion (IsBack q s queue set lines k n) ws → HaveSeen q s k n (map (λ (w : Worker P R). w.desk) ws)
+seen_desks q s queue set lines k n [] h = tt
+seen_desks q s queue set lines k n (w ∷ ws) h = ((h.0.queue_seen, h.0.set_seen), seen_desks q s queue set lines k n ws h.1)
 
 -- what all workers have done, put together
 module _ {P R A B : Type 0} (q : View A QueueEntry QueueRefused) (s : View B SetEntry ListRefused) (lines : List Line) (posters takers : ℕ) (k : List A) (n : List B) (own : List TakeReply) (ws : List (Worker P R))
@@ -221,11 +221,10 @@ over_of {P = P} {R = R} {A = A} q s queue set lines posters takers desk own ws d
       | inl e ↦ inl (zero_ended (q.history queue k) legal c.queue_zero_last e)
       | inr full ↦ inr (omega (arith, full, more))
     ] in
-    record {
-      queue_journal = k;
-      set_journal = n;
-      are_last = subst (λ (ds : List (Desk P R)). AreLast q s queue set k n 0 ds) (sym desks_are)
-          (record { is_desk = c.caller; queue_seen = refl; set_seen = refl }, last_desks q s queue set lines k n 1 ws c.numbered c.back);
-      all = ap length desks_are ∙ ap suc (length-map ws (λ (w : Worker P R). w.desk) ∙ many);
+    let is : IsOver q s queue set lines posters takers (desk ∷ map (λ (w : Worker P R). w.desk) ws) posts takes = record {
+      idle = (c.caller, idle_desks q s queue set lines k n 1 ws c.numbered c.back);
+      all = ap suc (length-map ws (λ (w : Worker P R). w.desk) ∙ many);
+      seen = ((refl, refl), seen_desks q s queue set lines k n ws c.back);
       ran = ran_board (queue_view q queue) (set_view s set) lines posters takers posts takes k n some c.none (λ agent seen from to h. let big = c.known.many_puts agent seen from to h in omega (arith, big, first)) short legal c.known.set_legal end work;
-    }
+    } in
+    subst (λ (ds : List (Desk P R)). IsOver q s queue set lines posters takers ds posts takes) (sym desks_are) is

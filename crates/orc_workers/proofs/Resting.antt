@@ -116,13 +116,13 @@ ends_last q agent j k e = record {
 }
 
 -- what a taker did, where its agent is known by another name
-pub did_take : {A B : Type 0} (q : View A QueueEntry QueueRefused) (s : View B SetEntry ListRefused) (lines : List Line) (posters agent now spare : ℕ) (posts : List PostReply) (takes : List TakeReply) (j k : List A) (m n : List B)
-    → now ≡ agent → posts ≡ [] → (length takes < posts_in lines → spare ≢ 0)
-    → TakingRest q s lines (agent - posters) now takes j m k n → (spare ≢ 0 → EndsWith q now (Empty now) j k)
+pub did_take : {A B : Type 0} (q : View A QueueEntry QueueRefused) (s : View B SetEntry ListRefused) (lines : List Line) (posters agent now : ℕ) (posts : List PostReply) (takes : List TakeReply) (j k : List A) (m n : List B)
+    → now ≡ agent → posts ≡ []
+    → TakingRest q s lines (agent - posters) now takes j m k n → (length takes < posts_in lines → EndsWith q now (Empty now) j k)
     → DidTake q s lines posters agent posts takes j m k n
-did_take q s lines posters agent now spare posts takes j k m n same none some t ends = record {
+did_take q s lines posters agent now posts takes j k m n same none t ends = record {
   taking = subst (λ (x : ℕ). TakingRest q s lines (agent - posters) x takes j m k n) same t;
-  found_empty = λ less. ends_last q agent j k (subst (λ (x : ℕ). EndsWith q x (Empty x) j k) same (ends (some less)));
+  found_empty = λ less. ends_last q agent j k (subst (λ (x : ℕ). EndsWith q x (Empty x) j k) same (ends less));
   no_posts = none;
 }
 

@@ -14,14 +14,6 @@ Team-more R waiting before after x y t r = record {
   each = Pointwise-snoc R waiting t.new x y t.each r;
 }
 
-pub AllByRecursion-before : {X : Type 0} (P : X → Type 0) (xs : List X) (x : X) → AllByRecursion P (xs ++ x ∷ []) → AllByRecursion P xs
-AllByRecursion-before P [] x a = tt
-AllByRecursion-before P (y ∷ xs) x a = (a.0, AllByRecursion-before P xs x a.1)
-
-pub AllByRecursion-end : {X : Type 0} (P : X → Type 0) (xs : List X) (x : X) → AllByRecursion P (xs ++ x ∷ []) → P x
-AllByRecursion-end P [] x a = a.0
-AllByRecursion-end P (y ∷ xs) x a = AllByRecursion-end P xs x a.1
-
 -- what each of the first has becomes what each of the second has
 pub AllByRecursion-next : {X : Type 0} (P Q : X → Type 0) (R : X → X → Type 0) (xs ys : List X) → ((x y : X) → P x → R x y → Q y) → AllByRecursion P xs → Pointwise R xs ys → AllByRecursion Q ys
 AllByRecursion-next P Q R [] [] f p r = tt

@@ -1,18 +1,26 @@
 //! A whole run.
-ghost use Rattle.std.specs.Prelude.{◌≡◌, ℕ, ◌+◌, ◌*◌, ◌<◌, ◌≤◌, [], ◌∷◌, ◌++◌, length, map, IfOk, vec_len, vec_capacity};
+ghost use Rattle.std.specs.Prelude.{◌≡◌, ◌+◌, ◌≤◌, [], length, IfOk, OnOk, OnErr, vec_len, vec_capacity};
 ghost use Rattle.std.specs.List.{AllByRecursion};
+ghost use Rattle.orc_history.specs.QueueHistory.{IsLegalQueue, waiting_after};
+ghost use Rattle.orc_history.specs.SetHistory.{IsLegalSet};
 ghost use Rattle.orc_jobs.specs.GoodLines.{AreGood};
 ghost use Rattle.orc_jobs.specs.Line.{posts_in};
-ghost use Rattle.orc_board.specs.Desk.{IsDesk};
+ghost use Rattle.orc_board.specs.Stretches.{queue_view, set_view};
+ghost use Rattle.orc_board.specs.Follows.{Follows};
+ghost use Rattle.orc_board.specs.Reportable.{AreReportable};
+ghost use Rattle.orc_workers.specs.Desks.{IsFreshDesk, AreFresh, AreIdle, HaveSeen, queue_seen, set_seen};
 ghost use Rattle.orc_workers.specs.Team.{IsReady};
-ghost use Rattle.orc_workers.specs.Board.{IsFreshDesk, AreFresh, AreMade, AreNumbered, IsNew, AllCameBack, IsOver, all_of};
+ghost use Rattle.orc_workers.specs.CameBack.{AreNumbered, IsNew, AllCameBack};
 
 use crate::learning::learn_from_team;
+use crate::reserve::{Reserved, reserve};
+use crate::seating::{hand_back, seat};
 use crate::team::{Worker, run_workers};
-use orc_board::{Desk, Gate, PostList, Replies, TakeList, take_rest};
+use crate::work::count_posts;
+use orc_board::{Desk, Gate, Replies, TakeList, take_rest};
 use orc_fault::NoMemory;
 use orc_history::{LearnQueue, LearnSet};
-use orc_jobs::{Line, Lines};
+use orc_jobs::Lines;
 use std::alloc::Global;
 use std::sync::Wait;
 use std::sync::atomic::AtomicU64;
@@ -33,69 +41,130 @@ pub(crate) struct Seated<A, B> {
     pub(crate) workers: Vec<Worker<A, B>>,
 }
 
-// One for a Post.
-fn count_post(line: &Line) -> usize
-    ensures is { result ≡ posts_in (line.now ∷ []) }
-    ensures few { result ≤ 1 }
-{
-    match line {
-        Line::Post { .. } => 1,
-        Line::Drop { .. } => 0,
-    }
-}
-
-// How many of the lines are Posts.
-pub(crate) fn count_posts(lines: &Lines) -> usize
-    ensures { result ≡ posts_in lines.now }
-{
-    let mut posts = 0;
-    for index in 0..lines.len() {
-        posts += count_post(lines.get(index));
-    }
-    posts
-}
-
-// For how many posts and takes an agent needs room.
-fn rooms_of(agent: u32, posters: u32, lines: usize, posts: usize) -> (usize, usize)
-    ensures poster { agent ≤ posters → result.0 ≡ lines }
-    ensures taker { posters < agent → result.1 ≡ posts }
-    ensures few { (result.0 ≤ lines) × (result.1 ≤ posts) }
-{
-    if agent <= posters {
-        (lines, 0)
-    } else {
-        (0, posts)
-    }
-}
-
-// A worker for each of these desks, in order from agent 1, with room for its replies.
-pub(crate) fn prepare<A: Drop, B: Drop>(
+/// Runs all posters and takers at these desks, each on a thread of its own where one can be started, and then takes what they
+/// left. A worker whose thread can't be started is run by the caller: first such posters, then such takers. The desks are one per
+/// agent in order: the caller's, those of posters 1 to `posters`, and those of takers 1 to `takers`. They come back so, and each
+/// pass has then seen all that happened.
+///
+/// # Errors
+///
+/// `NoMemory` where memory is refused. All of it is taken before the first worker starts: the desks stay as they were, and both
+/// histories are empty.
+pub fn run_at_desks<
+    R: Threads + Wait + Sync,
+    Q: LearnQueue + Sync,
+    S: LearnSet + Sync,
+    G: Gate + Sync,
+>(
+    rt: &R,
     alloc: Global,
+    lines: &Lines,
     posters: u32,
-    lines: usize,
-    posts: usize,
-    mut desks: Vec<Desk<A, B>>,
-) -> Result<Vec<Worker<A, B>>, NoMemory>
-    requires few { vec_len desks < 4294967296 }
-    ensures made { IfOk result (λ v. AreMade posters lines posts 1 desks.items v.items) }
-    ensures len { IfOk result (λ v. vec_len v ≡ vec_len desks) }
+    takers: u32,
+    queue: &Q,
+    set: &S,
+    desks: &mut Vec<Desk<Q::Pass, S::Pass>>,
+    gate: &G,
+) -> Result<Replies, NoMemory>
+where
+    Q::Pass: Send,
+    S::Pass: Send,
+    requires posters { 1 ≤ posters }
+    requires good { AreGood lines.now }
+    requires desks { AreFresh Q.SharedQueue S.SharedSet queue.now set.now 0 desks.old.items }
+    requires count { vec_len desks.old ≡ 1 + (posters + takers) }
+    requires agents { (Q.agents queue.now ≡ 1 + (posters + takers)) × (S.agents set.now ≡ 1 + (posters + takers)) }
+    requires first { Q.first queue.now ≡ 0 }
+    ensures idle { IfOk result (λ r. AreIdle Q.SharedQueue S.SharedSet queue.now set.now 0 desks.new.items) }
+    ensures all { IfOk result (λ r. length desks.new.items ≡ 1 + (posters + takers)) }
+    ensures seen { IfOk result (λ r. HaveSeen Q.SharedQueue S.SharedSet
+        (queue_seen Q.SharedQueue desks.new.items) (set_seen S.SharedSet desks.new.items) desks.new.items) }
+    ensures follows { IfOk result (λ r. Follows (queue_view Q.SharedQueue queue.now) (set_view S.SharedSet set.now)
+        lines.now posters takers r.posts.items r.takes.items
+        (queue_seen Q.SharedQueue desks.new.items) (set_seen S.SharedSet desks.new.items)) }
+    ensures queue_legal { IfOk result (λ r. IsLegalQueue 0 (Q.history queue.now (queue_seen Q.SharedQueue desks.new.items))) }
+    ensures set_legal { IfOk result (λ r. IsLegalSet (S.history set.now (set_seen S.SharedSet desks.new.items))) }
+    ensures empty { IfOk result (λ r. waiting_after [] (Q.history queue.now (queue_seen Q.SharedQueue desks.new.items)) ≡ []) }
+    ensures reportable { IfOk result (λ r. AreReportable lines.now r.posts.items r.takes.items) }
+    ensures kept { OnErr result (desks.new ≡ desks.old) }
 {
-    let Some(desk) = desks.pop() else {
-        return Ok(Vec::new(alloc));
-    };
-    let agent = desks.len() as u32 + 1;
-    let mut workers = prepare(alloc, posters, lines, posts, desks)?;
-    let (post_room, take_room) = rooms_of(agent, posters, lines, posts);
-    let worker = Worker {
-        agent,
+    let Reserved {
+        rooms,
+        waiting,
+        done,
+        own,
+        mut posts,
+        mut takes,
+    } = reserve(
+        alloc,
+        posters,
+        desks.len() - 1,
+        lines.len(),
+        count_posts(lines),
+    )?;
+    let desk = desks.remove(0);
+    let waiting = seat(queue, desks, rooms, waiting);
+    let Seated {
         desk,
-        posts: PostList::new(alloc, post_room)?,
-        takes: TakeList::new(alloc, take_room)?,
+        takes: own,
+        workers,
+    } = run_seated(
+        rt, queue, set, posters, takers, lines, gate, desk, own, waiting, done,
+    );
+    takes.append(own);
+    let Ok(()) = desks.push(desk) else {
+        unreachable!()
     };
-    match workers.push(worker) {
-        Ok(()) => Ok(workers),
-        Err(_) => Err(NoMemory),
-    }
+    hand_back(workers, desks, &mut posts, &mut takes);
+    Ok(Replies { posts, takes })
+}
+
+/// The same, where the desks are handed in and handed back by value.
+///
+/// # Errors
+///
+/// `NoMemory` where memory is refused, before the first worker starts: both histories are empty. The desks are let go.
+pub fn run_board<
+    R: Threads + Wait + Sync,
+    Q: LearnQueue + Sync,
+    S: LearnSet + Sync,
+    G: Gate + Sync,
+>(
+    rt: &R,
+    alloc: Global,
+    lines: &Lines,
+    posters: u32,
+    takers: u32,
+    queue: &Q,
+    set: &S,
+    mut desks: Vec<Desk<Q::Pass, S::Pass>>,
+    gate: &G,
+) -> Result<Finished<Q::Pass, S::Pass>, NoMemory>
+where
+    Q::Pass: Send,
+    S::Pass: Send,
+    requires posters { 1 ≤ posters }
+    requires good { AreGood lines.now }
+    requires desks { AreFresh Q.SharedQueue S.SharedSet queue.now set.now 0 desks.items }
+    requires count { vec_len desks ≡ 1 + (posters + takers) }
+    requires agents { (Q.agents queue.now ≡ 1 + (posters + takers)) × (S.agents set.now ≡ 1 + (posters + takers)) }
+    requires first { Q.first queue.now ≡ 0 }
+    ensures idle { IfOk result (λ f. AreIdle Q.SharedQueue S.SharedSet queue.now set.now 0 f.desks.items) }
+    ensures all { IfOk result (λ f. length f.desks.items ≡ 1 + (posters + takers)) }
+    ensures seen { IfOk result (λ f. HaveSeen Q.SharedQueue S.SharedSet
+        (queue_seen Q.SharedQueue f.desks.items) (set_seen S.SharedSet f.desks.items) f.desks.items) }
+    ensures follows { IfOk result (λ f. Follows (queue_view Q.SharedQueue queue.now) (set_view S.SharedSet set.now)
+        lines.now posters takers f.replies.posts.items f.replies.takes.items
+        (queue_seen Q.SharedQueue f.desks.items) (set_seen S.SharedSet f.desks.items)) }
+    ensures queue_legal { IfOk result (λ f. IsLegalQueue 0 (Q.history queue.now (queue_seen Q.SharedQueue f.desks.items))) }
+    ensures set_legal { IfOk result (λ f. IsLegalSet (S.history set.now (set_seen S.SharedSet f.desks.items))) }
+    ensures empty { IfOk result (λ f. waiting_after [] (Q.history queue.now (queue_seen Q.SharedQueue f.desks.items)) ≡ []) }
+    ensures reportable { IfOk result (λ f. AreReportable lines.now f.replies.posts.items f.replies.takes.items) }
+{
+    let replies = run_at_desks(
+        rt, alloc, lines, posters, takers, queue, set, &mut desks, gate,
+    )?;
+    Ok(Finished { desks, replies })
 }
 
 // Runs the workers, and then takes what they left. All memory has been taken before.
@@ -146,98 +215,4 @@ where
         takes,
         workers,
     }
-}
-
-// The desks and the replies of the workers, behind those that are there. It takes no memory.
-pub(crate) fn hand_back<A: Drop, B: Drop>(
-    mut workers: Vec<Worker<A, B>>,
-    desks: Vec<Desk<A, B>>,
-    posts: PostList,
-    takes: TakeList,
-) -> (Vec<Desk<A, B>>, PostList, TakeList)
-    requires desks { vec_len desks + vec_len workers ≤ vec_capacity desks }
-    requires posts { length (all_of (λ w. w.posts.items) workers.items) ≤ posts.spare }
-    requires takes { length (all_of (λ w. w.takes.items) workers.items) ≤ takes.spare }
-    ensures desks { result.0.items ≡ desks.items ++ map (λ w. w.desk) workers.items }
-    ensures posts { result.1.items ≡ posts.items ++ all_of (λ w. w.posts.items) workers.items }
-    ensures takes { result.2.items ≡ takes.items ++ all_of (λ w. w.takes.items) workers.items }
-    ensures len { vec_len result.0 ≡ vec_len desks + vec_len workers }
-    ensures capacity { vec_capacity desks ≤ vec_capacity result.0 }
-    ensures room_for_posts { result.1.spare + length (all_of (λ w. w.posts.items) workers.items) ≡ posts.spare }
-    ensures room_for_takes { result.2.spare + length (all_of (λ w. w.takes.items) workers.items) ≡ takes.spare }
-{
-    let Some(worker) = workers.pop() else {
-        return (desks, posts, takes);
-    };
-    let (mut desks, mut posts, mut takes) = hand_back(workers, desks, posts, takes);
-    let Worker {
-        agent: _,
-        desk,
-        posts: more_posts,
-        takes: more_takes,
-    } = worker;
-    posts.append(more_posts);
-    takes.append(more_takes);
-    let Ok(()) = desks.push(desk) else {
-        unreachable!()
-    };
-    (desks, posts, takes)
-}
-
-/// Runs all posters and takers, each on a thread of its own where one can be started, and at last takes what they left.
-/// All memory is taken before the first of them starts.
-pub fn run_board<
-    R: Threads + Wait + Sync,
-    Q: LearnQueue + Sync,
-    S: LearnSet + Sync,
-    G: Gate + Sync,
->(
-    rt: &R,
-    alloc: Global,
-    lines: &Lines,
-    posters: u32,
-    takers: u32,
-    queue: &Q,
-    set: &S,
-    mut desks: Vec<Desk<Q::Pass, S::Pass>>,
-    gate: &G,
-) -> Result<Finished<Q::Pass, S::Pass>, NoMemory>
-where
-    Q::Pass: Send,
-    S::Pass: Send,
-    requires posters { 1 ≤ posters }
-    requires good { AreGood lines.now }
-    requires desks { AreFresh Q.SharedQueue S.SharedSet queue.now set.now 0 desks.items }
-    requires few { posters + takers < 4294967295 }
-    requires count { vec_len desks ≡ 1 + (posters + takers) }
-    requires agents { (Q.agents queue.now ≡ 1 + (posters + takers)) × (S.agents set.now ≡ 1 + (posters + takers)) }
-    requires first { Q.first queue.now ≡ 0 }
-    ensures { IfOk result (λ f. IsOver Q.SharedQueue S.SharedSet queue.now set.now lines.now posters takers f.desks.items f.replies.posts.items f.replies.takes.items) }
-{
-    let many = lines.len();
-    let few = count_posts(lines);
-    let desk = desks.remove(0);
-    let agents = desks.len();
-    let waiting = prepare(alloc, posters, many, few, desks)?;
-    let own = TakeList::new(alloc, many)?;
-    let posts = PostList::new(alloc, agents * many)?;
-    let mut takes = TakeList::new(alloc, (agents + 1) * many)?;
-    let done = Vec::with_capacity(alloc, agents)?;
-    let mut back = Vec::with_capacity(alloc, agents + 1)?;
-    let Seated {
-        desk,
-        takes: own,
-        workers,
-    } = run_seated(
-        rt, queue, set, posters, takers, lines, gate, desk, own, waiting, done,
-    );
-    takes.append(own);
-    let Ok(()) = back.push(desk) else {
-        unreachable!()
-    };
-    let (desks, posts, takes) = hand_back(workers, back, posts, takes);
-    Ok(Finished {
-        desks,
-        replies: Replies { posts, takes },
-    })
 }

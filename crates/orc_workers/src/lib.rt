@@ -3,9 +3,11 @@
 
 mod board;
 mod learning;
+mod reserve;
+mod seating;
 mod team;
 mod work;
 
-pub use board::{Finished, run_board};
+pub use board::{Finished, run_at_desks, run_board};
 pub use team::Worker;
 pub use work::{run_poster, run_taker};

@@ -1,5 +1,5 @@
 //! The work of a poster and of a taker, each at a desk of its own.
-ghost use Rattle.std.specs.Prelude.{◌≡◌, ◌≢◌, ◌≤◌, ◌+◌, [], length, map};
+ghost use Rattle.std.specs.Prelude.{◌≡◌, ◌≤◌, ◌<◌, ◌+◌, [], ◌∷◌, length, map};
 ghost use Rattle.orc_history.specs.declared.queue.QueueEntry.{QueueEntry};
 ghost use Rattle.orc_jobs.specs.GoodLines.{AreGood};
 ghost use Rattle.orc_jobs.specs.Line.{posts_in};
@@ -10,7 +10,7 @@ ghost use Rattle.orc_board.specs.Follows.{Posting, TakingRest, own_records};
 
 use orc_board::{Desk, Gate, PostList, TakeList, post_records, take_one};
 use orc_history::{SharedQueue, SharedSet};
-use orc_jobs::Lines;
+use orc_jobs::{Line, Lines};
 use std::sync::Wait;
 use std::sync::atomic::{AtomicU64, Ordering};
 use std::thread;
@@ -57,7 +57,8 @@ pub fn run_poster<R: Wait, Q: SharedQueue, S: SharedSet, G: Gate>(
     (desk, replies)
 }
 
-/// Takes jobs until its room is used up, or until it finds the queue empty after it had read that no poster is left.
+/// Takes jobs until its replies are as many as the Posts of the file, or until it finds the queue empty after it had read that no
+/// poster is left.
 pub fn run_taker<R: Wait, Q: SharedQueue, S: SharedSet, G: Gate>(
     rt: &R,
     queue: &Q,
@@ -78,17 +79,21 @@ pub fn run_taker<R: Wait, Q: SharedQueue, S: SharedSet, G: Gate>(
         lines.now taker (Q.agent_of queue.now desk.queue) result.1.items
         (Q.journal desk.queue) (S.journal desk.set)
         (Q.journal result.0.queue) (S.journal result.0.set) }
-    ensures last { result.1.spare ≢ 0 → EndsWith (queue_view Q.SharedQueue queue.now)
+    ensures few { length result.1.items ≤ posts_in lines.now }
+    ensures last { length result.1.items < posts_in lines.now → EndsWith (queue_view Q.SharedQueue queue.now)
         (Q.agent_of queue.now desk.queue) (QueueEntry.Empty (Q.agent_of queue.now desk.queue))
         (Q.journal desk.queue) (Q.journal result.0.queue) }
     ensures spare { length result.1.items + result.1.spare ≡ replies.spare }
 {
+    let posts = count_posts(lines);
+    let mut call: u64 = 0;
     for _ in rt.forever() {
-        if replies.spare() == 0 {
+        if replies.len() >= posts {
             return (desk, replies);
         }
         let none_left = left.load(Ordering::SeqCst) == 0;
-        gate.before(queue.agent(&desk.queue), replies.len() as u64);
+        gate.before(queue.agent(&desk.queue), call);
+        call = call.wrapping_add(1);
         match take_one(rt, queue, set, &mut desk, taker, lines) {
             Some(reply) => replies.push(reply),
             None => {
@@ -100,4 +105,26 @@ pub fn run_taker<R: Wait, Q: SharedQueue, S: SharedSet, G: Gate>(
         }
     }
     unreachable!()
+}
+
+// One for a Post.
+fn count_post(line: &Line) -> usize
+    ensures is { result ≡ posts_in (line.now ∷ []) }
+    ensures few { result ≤ 1 }
+{
+    match line {
+        Line::Post { .. } => 1,
+        Line::Drop { .. } => 0,
+    }
+}
+
+// How many of the lines are Posts.
+pub(crate) fn count_posts(lines: &Lines) -> usize
+    ensures { result ≡ posts_in lines.now }
+{
+    let mut posts = 0;
+    for index in 0..lines.len() {
+        posts += count_post(lines.get(index));
+    }
+    posts
 }

@@ -11,7 +11,6 @@ returns-else-agent-posters g c =
     let e = c.run_taker-desk.ensures in
     let none : length c.args.worker.posts.items ≡ 0 = ap length r.no_posts in
     let more : c.args.posters < c.args.worker.agent = omega (arith, c.if-agent-posters.false) in
-    let room : posts_in c.args.lines.now ≤ c.args.worker.takes.spare = r.take_room more in
     record {
       agent_is = refl;
       no_caller = r.no_caller;
@@ -19,6 +18,6 @@ returns-else-agent-posters g c =
       posts_fit = omega (arith, none);
       takes_fit = omega (arith, e.spare);
       posted = λ few. absurd (omega (arith, few, more));
-      took = λ h. did_take (queue_view g.Q.SharedQueue c.args.queue.now) (set_view g.S.SharedSet c.args.set.now) _ _ _ _ c.run_taker-desk.result.1.spare _ _ _ _ _ _
-          r.desk.queue_agent r.no_posts (λ less zero. omega (arith, less, zero, room, e.spare)) e.taking e.last;
+      took = λ h. did_take (queue_view g.Q.SharedQueue c.args.queue.now) (set_view g.S.SharedSet c.args.set.now) _ _ _ _ _ _ _ _ _ _
+          r.desk.queue_agent r.no_posts e.taking e.last;
     }

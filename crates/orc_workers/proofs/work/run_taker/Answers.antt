@@ -8,6 +8,7 @@ pub loop-init : goal.loop-init
 loop-init g c = record {
   desk = c.requires.desk;
   spare = let none : length c.args.replies.items ≡ 0 = ap length c.requires.none in omega (arith, none);
+  few = let none : length c.args.replies.items ≡ 0 = ap length c.requires.none in omega (arith, none);
   taking = resting_none (queue_view g.Q.SharedQueue c.args.queue.now) (set_view g.S.SharedSet c.args.set.now) _ _ _ _ _ _ c.requires.none;
 }
 
@@ -15,6 +16,7 @@ pub loop-preserved-in-Some-take_one : goal.loop-preserved-in-Some-take_one
 loop-preserved-in-Some-take_one g c = record {
   desk = subst (λ (a : ℕ). IsDesk g.Q.SharedQueue g.S.SharedSet c.args.queue.now c.args.set.now a c.take_one.new.desk) c.loop.invariant.desk.queue_agent c.take_one.ensures.desk;
   spare = rw c.push.ensures.items (omega (arith, c.loop.invariant.spare, c.push.ensures.spare, length-append c.loop.replies.items (c.in-Some-take_one.reply ∷ [])));
+  few = rw c.push.ensures.items (omega (arith, c.if-len-posts.false, c.len.ensures, c.count_posts-posts.ensures, length-append c.loop.replies.items (c.in-Some-take_one.reply ∷ [])));
   taking = rw c.push.ensures.items (resting_more (queue_view g.Q.SharedQueue c.args.queue.now) (set_view g.S.SharedSet c.args.set.now) _ _ _ _ _ _ _ _ _ _ _ _ c.loop.invariant.taking c.loop.invariant.desk.queue_agent c.in-Some-take_one.ensures.reply c.in-Some-take_one.ensures.row);
 }
 
@@ -22,6 +24,7 @@ pub loop-preserved : goal.loop-preserved
 loop-preserved g c = record {
   desk = subst (λ (a : ℕ). IsDesk g.Q.SharedQueue g.S.SharedSet c.args.queue.now c.args.set.now a c.take_one.new.desk) c.loop.invariant.desk.queue_agent c.take_one.ensures.desk;
   spare = c.loop.invariant.spare;
+  few = c.loop.invariant.few;
   taking = resting_none_more (queue_view g.Q.SharedQueue c.args.queue.now) (set_view g.S.SharedSet c.args.set.now) _ _ _ _ _ _ _ _ _ _ _ c.loop.invariant.taking c.loop.invariant.desk.queue_agent c.in-None-take_one.ensures.row;
 }
 
@@ -30,5 +33,5 @@ returns-then-none_left-clause-taking g c =
     resting_none_more (queue_view g.Q.SharedQueue c.args.queue.now) (set_view g.S.SharedSet c.args.set.now) _ _ _ _ _ _ _ _ _ _ _ c.loop.invariant.taking c.loop.invariant.desk.queue_agent c.in-None-take_one.ensures.row
 
 pub returns-then-none_left-clause-last : goal.returns-then-none_left-clause-last
-returns-then-none_left-clause-last g c = λ some.
+returns-then-none_left-clause-last g c = λ less.
     resting_last (queue_view g.Q.SharedQueue c.args.queue.now) (set_view g.S.SharedSet c.args.set.now) _ _ _ _ _ _ _ _ _ _ c.loop.invariant.taking c.loop.invariant.desk.queue_agent c.in-None-take_one.ensures.last

@@ -1,4 +1,4 @@
--- A run from its desks to its end.
+-- What the caller and its workers have come to at the end of a run.
 use Rattle.std.specs.Prelude.{◌≡◌, ℕ, suc, ◌+◌, ◌-◌, ◌<◌, ◌≤◌, List, [], ◌∷◌, ◌++◌, length, ◌⊎◌}
 use Rattle.std.specs.List.{AllByRecursion}
 use Rattle.orc_history.specs.declared.queue.QueueEntry.{QueueEntry}
@@ -16,55 +16,12 @@ use Rattle.orc_board.specs.declared.replies.TakeReply.{TakeReply}
 use Rattle.orc_board.specs.declared.desk.Desk.{Desk}
 use Rattle.orc_workers.specs.declared.team.Worker.{Worker}
 use Rattle.orc_board.specs.Desk.{IsDesk}
+use Rattle.orc_workers.specs.Desks.{AreIdle, HaveSeen, queue_seen, set_seen}
 use Rattle.orc_board.specs.Stretches.{View, queue_view, set_view, beside}
 use Rattle.orc_board.specs.Follows.{TakingRest, ZeroLast, LastIsEmpty, IsWorker}
 use Rattle.orc_workers.specs.Learning.{IsKnown}
 use Rattle.orc_workers.specs.Team.{DidPost, DidTake}
 use Rattle.orc_board.specs.Runs.{Ran}
-
--- an idle desk of this agent, whose passes have seen no entry
-pub record IsFreshDesk {Q S P R A B : Type 0} (q : QueueOf Q P A) (s : SetOf S R B) (queue : Q) (set : S) (agent : ℕ) (desk : Desk P R) : Type 0 where
-  pub is_desk : IsDesk q s queue set agent desk
-  pub queue_new : q.history queue (q.journal desk.queue) ≡ []
-  pub set_new : s.history set (s.journal desk.set) ≡ []
-
--- one fresh desk per agent, in order from this one
-abbrev pub AreFresh : {Q S P R A B : Type 0} → QueueOf Q P A → SetOf S R B → Q → S → ℕ → List (Desk P R) → Type 0
-AreFresh q s queue set agent [] = Unit {0}
-AreFresh q s queue set agent (desk ∷ desks) = IsFreshDesk q s queue set agent desk × AreFresh q s queue set (suc agent) desks
-
--- one idle desk per agent, in order from this one, of passes that have seen these journals
-pub record IsLastDesk {Q S P R A B : Type 0} (q : QueueOf Q P A) (s : SetOf S R B) (queue : Q) (set : S) (k : List A) (n : List B) (agent : ℕ) (desk : Desk P R) : Type 0 where
-  pub is_desk : IsDesk q s queue set agent desk
-  pub queue_seen : q.journal desk.queue ≡ k
-  pub set_seen : s.journal desk.set ≡ n
-
-abbrev pub AreLast : {Q S P R A B : Type 0} → QueueOf Q P A → SetOf S R B → Q → S → List A → List B → ℕ → List (Desk P R) → Type 0
-AreLast q s queue set k n agent [] = Unit {0}
-AreLast q s queue set k n agent (desk ∷ desks) = IsLastDesk q s queue set k n agent desk × AreLast q s queue set k n (suc agent) desks
-
--- a worker that was made for this desk
-pub record IsMade {P R : Type 0} (posters lines posts agent : ℕ) (desk : Desk P R) (w : Worker P R) : Type 0 where
-  pub agent_is : w.agent ≡ agent
-  pub desk_is : w.desk ≡ desk
-  pub no_posts : w.posts.items ≡ []
-  pub no_takes : w.takes.items ≡ []
-  pub post_room : agent ≤ posters → w.posts.spare ≡ lines
-  pub take_room : posters < agent → w.takes.spare ≡ posts
-  pub post_few : w.posts.spare ≤ lines
-  pub take_few : w.takes.spare ≤ posts
-
--- a worker for each desk, in order from this agent
-abbrev pub AreMade : {P R : Type 0} → ℕ → ℕ → ℕ → ℕ → List (Desk P R) → List (Worker P R) → Type 0
-AreMade posters lines posts agent [] [] = Unit {0}
-AreMade posters lines posts agent [] (w ∷ ws) = ⊥
-AreMade posters lines posts agent (desk ∷ desks) [] = ⊥
-AreMade posters lines posts agent (desk ∷ desks) (w ∷ ws) = IsMade posters lines posts agent desk w × AreMade posters lines posts (suc agent) desks ws
-
--- of a list, the items of each, one after another
-abbrev pub all_of : {W X : Type 0} → (W → List X) → List W → List X
-all_of items [] = []
-all_of items (w ∷ ws) = items w ++ all_of items ws
 
 -- workers of the agents in order from this one
 abbrev pub AreNumbered : {P R : Type 0} → ℕ → List (Worker P R) → Type 0
@@ -83,7 +40,9 @@ pub record IsTold {A B : Type 0} (q : View A QueueEntry QueueRefused) (s : View 
 
 -- a worker at the end: an idle desk that has seen these journals, and few replies
 pub record IsBack {Q S P R A B : Type 0} (q : QueueOf Q P A) (s : SetOf S R B) (queue : Q) (set : S) (lines : List Line) (k : List A) (n : List B) (w : Worker P R) : Type 0 where
-  pub last : IsLastDesk q s queue set k n w.agent w.desk
+  pub is_desk : IsDesk q s queue set w.agent w.desk
+  pub queue_seen : q.journal w.desk.queue ≡ k
+  pub set_seen : s.journal w.desk.set ≡ n
   pub posts_few : length w.posts.items ≤ length lines
   pub takes_few : length w.takes.items ≤ posts_in lines
 
@@ -100,10 +59,9 @@ pub record AllCameBack {Q S P R A B : Type 0} (q : QueueOf Q P A) (s : SetOf S R
   pub set_zero_last : ZeroLast agent_of_set_entry (s.history set (s.journal desk.set))
   pub last : LastIsEmpty 0 (q.history queue (q.journal desk.queue)) ⊎ (length lines ≤ length takes)
 
--- what a run gives back: the desks in order, which have all seen the same journals, and replies that follow these
+-- what a run leaves: idle desks in order, which have all seen the same journals, and replies that follow these
 pub record IsOver {Q S P R A B : Type 0} (q : QueueOf Q P A) (s : SetOf S R B) (queue : Q) (set : S) (lines : List Line) (posters takers : ℕ) (desks : List (Desk P R)) (posts : List PostReply) (takes : List TakeReply) : Type 0 where
-  pub queue_journal : List A
-  pub set_journal : List B
-  pub are_last : AreLast q s queue set queue_journal set_journal 0 desks
+  pub idle : AreIdle q s queue set 0 desks
   pub all : length desks ≡ suc (posters + takers)
-  pub ran : Ran (queue_view q queue) (set_view s set) lines posters takers posts takes queue_journal set_journal
+  pub seen : HaveSeen q s (queue_seen q desks) (set_seen s desks) desks
+  pub ran : Ran (queue_view q queue) (set_view s set) lines posters takers posts takes (queue_seen q desks) (set_seen s desks)

@@ -1,6 +1,6 @@
 use Rattle.std.proofs.Common.{◌≡◌, ◌≤◌, ◌<◌, ◌+◌, arith, suc}
-use Rattle.orc_workers.proofs.Made.{step_known}
-use Rattle.orc_workers.proofs.board.count_posts.Goals as goal
+use Rattle.orc_workers.proofs.Rooms.{step_known}
+use Rattle.orc_workers.proofs.work.count_posts.Goals as goal
 
 pub loop-index-preserved : goal.loop-index-preserved
 loop-index-preserved c = record {

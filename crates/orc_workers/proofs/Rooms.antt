@@ -1,4 +1,4 @@
--- Workers that are made for desks, and given back.
+-- Rooms and desks of workers, and what is handed back.
 use Rattle.std.proofs.Common.{◌≡◌, ◌≢◌, ℕ, zero, suc, ◌+◌, ◌*◌, ◌≤◌, ◌<◌, List, [], ◌∷◌, ◌++◌, length, map, take, Some, None, refl, ap, sym, ◌∙◌, subst, arith, length-append, append_assoc}
 use Rattle.std.specs.List.{slice_get, remove}
 use Rattle.orc_board.proofs.ListFacts.{AllByRecursion-map}
@@ -15,7 +15,10 @@ use Rattle.orc_workers.specs.declared.team.Worker.{Worker}
 use Rattle.orc_board.specs.Desk.{IsDesk}
 use Rattle.orc_board.specs.Follows.{own_records}
 use Rattle.orc_workers.specs.Team.{IsReady}
-use Rattle.orc_workers.specs.Board.{IsFreshDesk, AreFresh, IsMade, AreMade, AreNumbered, IsNew, IsBack, all_of}
+use Rattle.orc_workers.specs.declared.reserve.Room.{Room}
+use Rattle.orc_workers.specs.Desks.{AreFresh}
+use Rattle.orc_workers.specs.Seats.{IsRoom, AreRooms, HaveAgents, seated, all_of}
+use Rattle.orc_workers.specs.CameBack.{AreNumbered, IsNew, IsBack}
 use Rattle.orc_workers.proofs.Blocks.{all_of-snoc}
 use Rattle.orc_board.proofs.PairLists.{records_fewer}
 
@@ -31,54 +34,70 @@ step_known xs i n m l e a b =
     let next : i + 1 ≡ suc i = omega arith in
     rw next (omega (arith, a, b, posts_step xs i l e))
 
-pub AreMade-snoc : {P R : Type 0} (posters lines posts k : ℕ) (ds : List (Desk P R)) (ws : List (Worker P R)) (d : Desk P R) (w : Worker P R)
-    → AreMade posters lines posts k ds ws → IsMade posters lines posts (k + length ds) d w → AreMade posters lines posts k (ds ++ d ∷ []) (ws ++ w ∷ [])
-AreMade-snoc posters lines posts k [] [] d w m i = (subst (λ n. IsMade posters lines posts n d w) (omega arith) i, tt)
-AreMade-snoc posters lines posts k [] (v ∷ ws) d w m i = absurd m
-AreMade-snoc posters lines posts k (e ∷ ds) [] d w m i = absurd m
-AreMade-snoc posters lines posts k (e ∷ ds) (v ∷ ws) d w m i =
-    (m.0, AreMade-snoc posters lines posts (suc k) ds ws d w m.1 (subst (λ n. IsMade posters lines posts n d w) (omega arith) i))
+-- one room more
+pub AreRooms-snoc : (posters lines posts k : ℕ) (rs : List Room) (r : Room) → AreRooms posters lines posts k rs → IsRoom posters lines posts (k + length rs) r → AreRooms posters lines posts k (rs ++ r ∷ [])
+AreRooms-snoc posters lines posts k [] r m i = (subst (λ n. IsRoom posters lines posts n r) (omega arith) i, tt)
+AreRooms-snoc posters lines posts k (e ∷ rs) r m i = (m.0, AreRooms-snoc posters lines posts (suc k) rs r m.1 (subst (λ n. IsRoom posters lines posts n r) (omega arith) i))
 
--- what stands ready where workers are made for fresh desks
+-- the agents of all desks but the last, and of the last
+pub agents_before : {Q P R A : Type 0} (q : QueueOf Q P A) (queue : Q) (k : ℕ) (ds : List (Desk P R)) (d : Desk P R) → HaveAgents q queue k (ds ++ d ∷ []) → HaveAgents q queue k ds × (q.agent_of queue d.queue ≡ k + length ds)
+agents_before q queue k [] d h = (tt, h.0 ∙ omega arith)
+agents_before q queue k (e ∷ ds) d h =
+    let rest = agents_before q queue (suc k) ds d h.1 in
+    ((h.0, rest.0), rest.1 ∙ omega arith)
+
+-- one worker more
+pub seated-snoc : {P R : Type 0} (k : ℕ) (ds : List (Desk P R)) (rs : List Room) (d : Desk P R) (r : Room) → length rs ≡ length ds
+    → seated k (ds ++ d ∷ []) (rs ++ r ∷ []) ≡ seated k ds rs ++ record { agent = k + length ds; desk = d; posts = r.posts; takes = r.takes } ∷ []
+seated-snoc {P} {R} k [] [] d r e = let here : k ≡ k + 0 = omega arith in ap (λ (n : ℕ). record { agent = n; desk = d; posts = r.posts; takes = r.takes } ∷ []) here
+seated-snoc k [] (s ∷ rs) d r e = absurd (omega (arith, e))
+seated-snoc k (f ∷ ds) [] d r e = absurd (omega (arith, e))
+seated-snoc {P} {R} k (f ∷ ds) (s ∷ rs) d r e =
+    let rest = seated-snoc (suc k) ds rs d r (omega (arith, e)) in
+    let next : suc k + length ds ≡ k + suc (length ds) = omega arith in
+    ap (λ (ws : List (Worker P R)). record { agent = k; desk = f; posts = s.posts; takes = s.takes } ∷ ws)
+    (rest ∙ ap (λ (n : ℕ). seated (suc k) ds rs ++ record { agent = n; desk = d; posts = r.posts; takes = r.takes } ∷ []) next)
+
+pub seated_length : {P R : Type 0} (k : ℕ) (ds : List (Desk P R)) (rs : List Room) → length rs ≡ length ds → length (seated k ds rs) ≡ length ds
+seated_length k [] rs e = refl
+seated_length k (d ∷ ds) [] e = absurd (omega (arith, e))
+seated_length k (d ∷ ds) (r ∷ rs) e = ap suc (seated_length (suc k) ds rs (omega (arith, e)))
+
+-- what stands ready where workers sit at fresh desks
 pub record Ready {Q S P R A B : Type 0} (q : QueueOf Q P A) (s : SetOf S R B) (queue : Q) (set : S) (lines : List Line) (posters k : ℕ) (ws : List (Worker P R)) : Type 0 where
   pub ready : AllByRecursion (IsReady q s queue set lines posters) ws
   pub begin : AllByRecursion (IsNew q s queue set) ws
   pub few : AllByRecursion (λ (w : Worker P R). (w.posts.spare ≤ length lines) × (w.takes.spare ≤ posts_in lines)) ws
   pub numbered : AreNumbered k ws
 
-pub ready_of : {Q S P R A B : Type 0} (q : QueueOf Q P A) (s : SetOf S R B) (queue : Q) (set : S) (lines : List Line) (posters k : ℕ) (ds : List (Desk P R)) (ws : List (Worker P R))
-    → AreGood lines → 1 ≤ k → AreFresh q s queue set k ds → AreMade posters (length lines) (posts_in lines) k ds ws → Ready q s queue set lines posters k ws
-ready_of q s queue set lines posters k [] [] good low f m = record { ready = tt; begin = tt; few = tt; numbered = tt }
-ready_of q s queue set lines posters k [] (w ∷ ws) good low f m = absurd m
-ready_of q s queue set lines posters k (d ∷ ds) [] good low f m = absurd m
-ready_of {P = P} {R = R} q s queue set lines posters k (d ∷ ds) (w ∷ ws) good low f m =
-    let rest = ready_of q s queue set lines posters (suc k) ds ws good (omega (arith, low)) f.1 m.1 in
-    let is : w.agent ≡ k = m.0.agent_is in
-    let at : w.desk ≡ d = m.0.desk_is in
-    let fewer : length (own_records posters w.agent (length lines)) ≤ length lines = records_fewer posters w.agent (length lines) in
+pub ready_of : {Q S P R A B : Type 0} (q : QueueOf Q P A) (s : SetOf S R B) (queue : Q) (set : S) (lines : List Line) (posters k : ℕ) (ds : List (Desk P R)) (rs : List Room)
+    → AreGood lines → 1 ≤ k → AreFresh q s queue set k ds → AreRooms posters (length lines) (posts_in lines) k rs → Ready q s queue set lines posters k (seated k ds rs)
+ready_of q s queue set lines posters k [] rs good low f m = record { ready = tt; begin = tt; few = tt; numbered = tt }
+ready_of q s queue set lines posters k (d ∷ ds) [] good low f m = record { ready = tt; begin = tt; few = tt; numbered = tt }
+ready_of q s queue set lines posters k (d ∷ ds) (r ∷ rs) good low f m =
+    let rest = ready_of q s queue set lines posters (suc k) ds rs good (omega (arith, low)) f.1 m.1 in
+    let fewer : length (own_records posters k (length lines)) ≤ length lines = records_fewer posters k (length lines) in
     record {
       ready = (
         record {
           good = good;
-          no_caller = omega (arith, low, is);
-          desk = subst (λ (n : ℕ). IsDesk q s queue set n w.desk) (sym is) (subst (λ (x : Desk P R). IsDesk q s queue set k x) (sym at) f.0.is_desk);
+          no_caller = low;
+          desk = f.0.is_desk;
           no_posts = m.0.no_posts;
           no_takes = m.0.no_takes;
-          post_room = λ h. let room : w.posts.spare ≡ length lines = m.0.post_room (omega (arith, h, is)) in omega (arith, fewer, room);
-          take_room = λ h. let room : w.takes.spare ≡ posts_in lines = m.0.take_room (omega (arith, h, is)) in omega (arith, room);
+          post_room = λ h. let room : r.posts.spare ≡ length lines = m.0.post_room h in omega (arith, fewer, room);
+          take_room = λ h. let room : r.takes.spare ≡ posts_in lines = m.0.take_room h in omega (arith, room);
         },
         rest.ready,
       );
-      begin = (
-        record {
-          queue_new = subst (λ (x : Desk P R). q.history queue (q.journal x.queue) ≡ []) (sym at) f.0.queue_new;
-          set_new = subst (λ (x : Desk P R). s.history set (s.journal x.set) ≡ []) (sym at) f.0.set_new;
-        },
-        rest.begin,
-      );
+      begin = (record { queue_new = f.0.queue_new; set_new = f.0.set_new }, rest.begin);
       few = ((m.0.post_few, m.0.take_few), rest.few);
-      numbered = (is, rest.numbered);
+      numbered = (refl, rest.numbered);
     }
+
+pub fresh_agents : {Q S P R A B : Type 0} (q : QueueOf Q P A) (s : SetOf S R B) (queue : Q) (set : S) (k : ℕ) (ds : List (Desk P R)) → AreFresh q s queue set k ds → HaveAgents q queue k ds
+fresh_agents q s queue set k [] f = tt
+fresh_agents q s queue set k (d ∷ ds) f = (f.0.is_desk.queue_agent, fresh_agents q s queue set (suc k) ds f.1)
 
 -- lists of few items each
 pub all_few : {W X : Type 0} (items : W → List X) (most : ℕ) (ws : List W) → AllByRecursion (λ w. length (items w) ≤ most) ws → length (all_of items ws) ≤ length ws * most
@@ -99,17 +118,19 @@ back_more items ws all w before now after all_is now_is after_is =
 pub all_length : {W X : Type 0} (items : W → List X) (ws all : List W) (w : W) → all ≡ ws ++ w ∷ [] → length (all_of items all) ≡ length (all_of items ws) + length (items w)
 all_length items ws all w is = ap (λ z. length (all_of items z)) is ∙ (ap length (all_of-snoc items ws w) ∙ length-append (all_of items ws) (items w))
 
-fresh_rest : {Q S P R A B : Type 0} (q : QueueOf Q P A) (s : SetOf S R B) (queue : Q) (set : S) (k : ℕ) (all : List (Desk P R)) → AreFresh q s queue set k all → AreFresh q s queue set (suc k) (remove all 0)
-fresh_rest q s queue set k [] f = tt
-fresh_rest q s queue set k (d ∷ ds) f = f.1
+-- the desks of all but the caller
+pub fresh_rest : {Q S P R A B : Type 0} (q : QueueOf Q P A) (s : SetOf S R B) (queue : Q) (set : S) (k : ℕ) (all rest : List (Desk P R)) → rest ≡ remove all 0 → AreFresh q s queue set k all → AreFresh q s queue set (suc k) rest
+fresh_rest {P = P} {R = R} q s queue set k [] rest e f = subst (λ (ds : List (Desk P R)). AreFresh q s queue set (suc k) ds) (sym e) tt
+fresh_rest {P = P} {R = R} q s queue set k (d ∷ ds) rest e f = subst (λ (xs : List (Desk P R)). AreFresh q s queue set (suc k) xs) (sym e) f.1
 
--- the first desk is the caller's, and for the rest workers were made
-pub made_ready : {Q S P R A B : Type 0} (q : QueueOf Q P A) (s : SetOf S R B) (queue : Q) (set : S) (lines : List Line) (posters many few : ℕ) (all rest : List (Desk P R)) (ws : List (Worker P R))
-    → AreGood lines → many ≡ length lines → few ≡ posts_in lines → AreFresh q s queue set 0 all → rest ≡ remove all 0 → AreMade posters many few 1 rest ws → Ready q s queue set lines posters 1 ws
-made_ready {P = P} {R = R} q s queue set lines posters many few all rest ws good m n fresh is made =
-    let f : AreFresh q s queue set 1 rest = subst (λ (ds : List (Desk P R)). AreFresh q s queue set 1 ds) (sym is) (fresh_rest q s queue set 0 all fresh) in
-    let a : AreMade posters (length lines) few 1 rest ws = subst (λ (x : ℕ). AreMade posters x few 1 rest ws) m made in
-    ready_of q s queue set lines posters 1 rest ws good (omega arith) f (subst (λ (x : ℕ). AreMade posters (length lines) x 1 rest ws) n a)
+-- the first desk is the caller's, and at the others workers were seated
+pub seats_ready : {Q S P R A B : Type 0} (q : QueueOf Q P A) (s : SetOf S R B) (queue : Q) (set : S) (lines : List Line) (posters many few : ℕ) (all rest : List (Desk P R)) (rooms : List Room) (ws : List (Worker P R))
+    → AreGood lines → many ≡ length lines → few ≡ posts_in lines → AreFresh q s queue set 0 all → rest ≡ remove all 0 → AreRooms posters many few 1 rooms → ws ≡ seated 1 rest rooms → Ready q s queue set lines posters 1 ws
+seats_ready {P = P} {R = R} q s queue set lines posters many few all rest rooms ws good m n fresh is reserved at =
+    let f : AreFresh q s queue set 1 rest = fresh_rest q s queue set 0 all rest is fresh in
+    let a : AreRooms posters (length lines) few 1 rooms = subst (λ (x : ℕ). AreRooms posters x few 1 rooms) m reserved in
+    let b : AreRooms posters (length lines) (posts_in lines) 1 rooms = subst (λ (x : ℕ). AreRooms posters (length lines) x 1 rooms) n a in
+    subst (λ (xs : List (Worker P R)). Ready q s queue set lines posters 1 xs) (sym at) (ready_of q s queue set lines posters 1 rest rooms good (omega arith) f b)
 
 -- there is room for the replies of all
 pub posts_room : {Q S P R A B : Type 0} (q : QueueOf Q P A) (s : SetOf S R B) (queue : Q) (set : S) (lines : List Line) (k : List A) (n : List B) (agents spare : ℕ) (ws : List (Worker P R))
