@@ -8,7 +8,7 @@ ghost use Rattle.orc_jobs.specs.Line.{posts_in};
 ghost use Rattle.orc_board.specs.Stretches.{queue_view, set_view};
 ghost use Rattle.orc_board.specs.Follows.{Follows};
 ghost use Rattle.orc_board.specs.Reportable.{AreReportable};
-ghost use Rattle.orc_workers.specs.Desks.{IsFreshDesk, AreFresh, AreIdle, HaveSeen, queue_seen, set_seen};
+ghost use Rattle.orc_workers.specs.Desks.{IsFreshDesk, AreFresh, AreIdle, HaveSeenTheSame, queue_seen, set_seen, queue_history, set_history};
 ghost use Rattle.orc_workers.specs.Team.{IsReady};
 ghost use Rattle.orc_workers.specs.CameBack.{AreNumbered, IsNew, AllCameBack};
 
@@ -77,14 +77,13 @@ where
     requires first { Q.first queue.now ≡ 0 }
     ensures idle { IfOk result (λ r. AreIdle Q.SharedQueue S.SharedSet queue.now set.now 0 desks.new.items) }
     ensures all { IfOk result (λ r. length desks.new.items ≡ 1 + (posters + takers)) }
-    ensures seen { IfOk result (λ r. HaveSeen Q.SharedQueue S.SharedSet
-        (queue_seen Q.SharedQueue desks.new.items) (set_seen S.SharedSet desks.new.items) desks.new.items) }
+    ensures seen { IfOk result (λ r. HaveSeenTheSame Q.SharedQueue S.SharedSet desks.new.items) }
     ensures follows { IfOk result (λ r. Follows (queue_view Q.SharedQueue queue.now) (set_view S.SharedSet set.now)
         lines.now posters takers r.posts.items r.takes.items
         (queue_seen Q.SharedQueue desks.new.items) (set_seen S.SharedSet desks.new.items)) }
-    ensures queue_legal { IfOk result (λ r. IsLegalQueue 0 (Q.history queue.now (queue_seen Q.SharedQueue desks.new.items))) }
-    ensures set_legal { IfOk result (λ r. IsLegalSet (S.history set.now (set_seen S.SharedSet desks.new.items))) }
-    ensures empty { IfOk result (λ r. waiting_after [] (Q.history queue.now (queue_seen Q.SharedQueue desks.new.items)) ≡ []) }
+    ensures queue_legal { IfOk result (λ r. IsLegalQueue 0 (queue_history Q.SharedQueue queue.now desks.new.items)) }
+    ensures set_legal { IfOk result (λ r. IsLegalSet (set_history S.SharedSet set.now desks.new.items)) }
+    ensures empty { IfOk result (λ r. waiting_after [] (queue_history Q.SharedQueue queue.now desks.new.items) ≡ []) }
     ensures reportable { IfOk result (λ r. AreReportable lines.now r.posts.items r.takes.items) }
     ensures kept { OnErr result (desks.new ≡ desks.old) }
 {
@@ -151,14 +150,13 @@ where
     requires first { Q.first queue.now ≡ 0 }
     ensures idle { IfOk result (λ f. AreIdle Q.SharedQueue S.SharedSet queue.now set.now 0 f.desks.items) }
     ensures all { IfOk result (λ f. length f.desks.items ≡ 1 + (posters + takers)) }
-    ensures seen { IfOk result (λ f. HaveSeen Q.SharedQueue S.SharedSet
-        (queue_seen Q.SharedQueue f.desks.items) (set_seen S.SharedSet f.desks.items) f.desks.items) }
+    ensures seen { IfOk result (λ f. HaveSeenTheSame Q.SharedQueue S.SharedSet f.desks.items) }
     ensures follows { IfOk result (λ f. Follows (queue_view Q.SharedQueue queue.now) (set_view S.SharedSet set.now)
         lines.now posters takers f.replies.posts.items f.replies.takes.items
         (queue_seen Q.SharedQueue f.desks.items) (set_seen S.SharedSet f.desks.items)) }
-    ensures queue_legal { IfOk result (λ f. IsLegalQueue 0 (Q.history queue.now (queue_seen Q.SharedQueue f.desks.items))) }
-    ensures set_legal { IfOk result (λ f. IsLegalSet (S.history set.now (set_seen S.SharedSet f.desks.items))) }
-    ensures empty { IfOk result (λ f. waiting_after [] (Q.history queue.now (queue_seen Q.SharedQueue f.desks.items)) ≡ []) }
+    ensures queue_legal { IfOk result (λ f. IsLegalQueue 0 (queue_history Q.SharedQueue queue.now f.desks.items)) }
+    ensures set_legal { IfOk result (λ f. IsLegalSet (set_history S.SharedSet set.now f.desks.items)) }
+    ensures empty { IfOk result (λ f. waiting_after [] (queue_history Q.SharedQueue queue.now f.desks.items) ≡ []) }
     ensures reportable { IfOk result (λ f. AreReportable lines.now f.replies.posts.items f.replies.takes.items) }
 {
     let replies = run_at_desks(

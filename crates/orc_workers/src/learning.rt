@@ -8,7 +8,7 @@ ghost use Rattle.orc_board.specs.Desk.{IsDesk};
 ghost use Rattle.orc_board.specs.Follows.{Pointwise};
 ghost use Rattle.orc_workers.specs.Learning.{IsKnown, IsOther, SameWorker, Learned, LearnedAll};
 
-use crate::Worker;
+use crate::team::Worker;
 use orc_board::Desk;
 use orc_history::{LearnQueue, LearnSet};
 

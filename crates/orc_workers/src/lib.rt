@@ -9,5 +9,4 @@ mod team;
 mod work;
 
 pub use board::{Finished, run_at_desks, run_board};
-pub use team::Worker;
 pub use work::{run_poster, run_taker};

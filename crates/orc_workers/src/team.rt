@@ -13,13 +13,13 @@ use std::sync::atomic::AtomicU64;
 use std::thread;
 use std::thread::Threads;
 
-/// A worker before its work, or after it. A poster has no takes, and a taker no posts.
+// A worker before its work, or after it. A poster has no takes, and a taker no posts.
 #[derive(Drop)]
-pub struct Worker<A, B> {
-    pub agent: u32,
-    pub desk: Desk<A, B>,
-    pub posts: PostList,
-    pub takes: TakeList,
+pub(crate) struct Worker<A, B> {
+    pub(crate) agent: u32,
+    pub(crate) desk: Desk<A, B>,
+    pub(crate) posts: PostList,
+    pub(crate) takes: TakeList,
 }
 
 // Runs this worker on the thread that calls.
