@@ -1,0 +1,2 @@
+pub mod WordSet
+pub mod Laws

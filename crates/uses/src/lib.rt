@@ -4,10 +4,12 @@
 mod one_thread;
 mod queue;
 mod two_threads;
+mod word_set;
 
 pub use one_thread::put_and_take;
 pub use queue::{DomainQueue, QueuePass, Unmade, next_pass, plain_queue, queue_over};
 pub use two_threads::put_beside_take;
+pub use word_set::{PresenceWords, WordSet, WordSetCall, WordSetPass, WordSetShape};
 
 #[cfg(test)]
 mod tests;
