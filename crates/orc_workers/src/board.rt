@@ -194,13 +194,11 @@ where
     requires enough { length lines.now ≤ takes.spare }
     requires ready { AllByRecursion (IsReady Q.SharedQueue S.SharedSet queue.now set.now lines.now posters) waiting.items }
     requires begin { AllByRecursion (IsNew Q.SharedQueue S.SharedSet queue.now set.now) waiting.items }
-    requires few { AllByRecursion (λ w. (w.posts.spare ≤ length lines.now) × (w.takes.spare ≤ posts_in lines.now)) waiting.items }
     requires numbered { AreNumbered 1 waiting.items }
     requires count { length waiting.items ≡ posters + takers }
     requires agents { (Q.agents queue.now ≡ 1 + (posters + takers)) × (S.agents set.now ≡ 1 + (posters + takers)) }
     ensures back { AllCameBack Q.SharedQueue S.SharedSet queue.now set.now lines.now posters takers result.desk result.takes.items result.workers.items }
     ensures len { vec_len result.workers ≡ vec_len waiting }
-    ensures own { length result.takes.items + result.takes.spare ≡ takes.spare }
 {
     let _ = takers;
     let left = AtomicU64::new(u64::from(posters));

@@ -1,5 +1,8 @@
 //! Each use, run.
 
+mod meeting;
+mod workers;
+
 use super::*;
 use orc_fault::Again;
 use orc_history::{QueueRefused, SharedQueue};
