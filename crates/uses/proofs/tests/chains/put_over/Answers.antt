@@ -10,7 +10,7 @@ use Rattle.orc_heap.specs.declared.events.Place.TheVariants.{Root}
 use Rattle.links_example.proofs.Swings.{move_allowed}
 use Rattle.links_example.specs.OwnRoots.{OwnRootsMay}
 use Rattle.links_example.specs.Stacks.{plain_link}
-use Rattle.orc_domain.proofs.tests.chains.put_over.Goals as goal
+use Rattle.uses.proofs.tests.chains.put_over.Goals as goal
 
 pub swing-put-requires-clause-allowed : goal.swing-put-requires-clause-allowed
 swing-put-requires-clause-allowed g c =

@@ -10,7 +10,7 @@ use Rattle.orc_queue.proofs.Filled.{known}
 use Rattle.orc_queue.proofs.Linking.{link_kept}
 use Rattle.orc_queue.proofs.Looking.{root_held, root_not_null, roots_there}
 use Rattle.orc_queue.proofs.Pieces.{linked_puts, node_held}
-use Rattle.orc_queue.proofs.tests.link_at_tail.Goals as goal
+use Rattle.orc_queue.proofs.stopped.link_at_tail.Goals as goal
 use Rattle.orc_heap.specs.Seats.{heap_of}
 use Rattle.orc_heap.proofs.Pieces.{release_fresh, slot_holds, slot_id, slot_other, slot_other_id, slot_released}
 

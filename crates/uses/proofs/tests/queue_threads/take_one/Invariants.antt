@@ -1,4 +1,4 @@
-use Rattle.orc_queue.proofs.tests.take_one.Given as goal
+use Rattle.uses.proofs.tests.queue_threads.take_one.Given as goal
 
 -- the pass may be used
 abbrev pub invariant-loop : goal.invariant-loop

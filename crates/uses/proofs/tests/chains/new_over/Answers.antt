@@ -1,6 +1,6 @@
 -- A node that is given, and aimed at the one below it.
-use Rattle.orc_domain.proofs.Chains.{given_back, given_fresh, given_released, given_target}
-use Rattle.orc_domain.proofs.tests.chains.new_over.Goals as goal
+use Rattle.uses.proofs.Chains.{given_back, given_fresh, given_released, given_target}
+use Rattle.uses.proofs.tests.chains.new_over.Goals as goal
 
 pub aim-requires-clause-target : goal.aim-requires-clause-target
 aim-requires-clause-target g c =

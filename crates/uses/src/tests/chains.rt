@@ -4,14 +4,18 @@ ghost use Rattle.std.specs.Prelude.{◌≡◌, ◌≢◌, ◌<◌, ◌≤◌, Al
 ghost use Rattle.orc_heap.specs.Journals.{is_once_linked};
 ghost use Rattle.orc_heap.specs.Seats.{HoldsFresh, HoldsTarget, IsIdle};
 ghost use Rattle.orc_heap.specs.Slots.{Holds, IsFree, id_in};
-ghost use Rattle.orc_domain.specs.Ends.{AreAll};
+ghost use Rattle.orc_domain.specs.Ends.{AreAll, AreIdle};
 ghost use Rattle.orc_domain.specs.Passes.{domain_bounds, domain_numbers, seat_of};
 
-use super::{Domain, Pass};
 use links_example::OwnRoots;
+use orc_domain::{PlainDomain, PlainPass};
 use orc_heap::{At, Held, Links, Looked, Seed, Want};
 use orc_words::Shape;
 use std::test::Fail;
+
+type Domain = PlainDomain<OwnRoots>;
+
+type Pass = PlainPass<OwnRoots>;
 
 // Makes a new node with this value, whose link leads to this node.
 fn new_over<L: Links<Rule = OwnRoots>>(
@@ -170,7 +174,7 @@ fn chain_of_both<L: Links<Rule = OwnRoots>>(
 // Lets the first two of a domain's passes do so.
 fn chain_of_two(domain: &Domain, passes: &mut [Pass]) -> Option<[Option<(u64, u64)>; 2]>
     requires all { AreAll domain.now passes.old }
-    requires idle { All (λ p. IsIdle (seat_of domain.now p)) passes.old }
+    requires idle { AreIdle domain.now passes.old }
     requires roots { (domain_bounds domain.now).agents ≤ (domain_numbers domain.now).roots }
 {
     let (first, others) = passes.split_first_mut()?;

@@ -1,4 +1,4 @@
-use Rattle.orc_queue.proofs.tests.put_all.Given as goal
+use Rattle.uses.proofs.tests.queue_threads.put_all.Given as goal
 
 -- the pass may be used
 abbrev pub invariant-loop-job : goal.invariant-loop-job

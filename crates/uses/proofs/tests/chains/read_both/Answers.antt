@@ -6,7 +6,7 @@ use Rattle.orc_heap.proofs.ByAnswer.{Looks-held}
 use Rattle.orc_heap.proofs.Slots.{given-back}
 use Rattle.orc_heap.specs.declared.events.Place.TheVariants.{Next}
 use Rattle.orc_heap.specs.Slots.{id_in}
-use Rattle.orc_domain.proofs.tests.chains.read_both.Goals as goal
+use Rattle.uses.proofs.tests.chains.read_both.Goals as goal
 
 pub returns-in-Stable-default-Some-clause-slots : goal.returns-in-Stable-default-Some-clause-slots
 returns-in-Stable-default-Some-clause-slots g c =

@@ -4,7 +4,7 @@ use Rattle.std.specs.List.{AllByRecursion}
 use Rattle.orc_heap.specs.Seats.{IsIdle}
 use Rattle.orc_domain.proofs.Draining.{agents_differ, first_of, others_of}
 use Rattle.orc_domain.specs.Passes.{IsPassOf, seat_of}
-use Rattle.orc_domain.proofs.tests.chains.chain_of_two.Goals as goal
+use Rattle.uses.proofs.tests.chains.chain_of_two.Goals as goal
 
 pub chain_of_both-requires-clause-passes : goal.chain_of_both-requires-clause-passes
 chain_of_both-requires-clause-passes c =

@@ -7,8 +7,8 @@ use Rattle.orc_heap.proofs.ByAnswer.{Looks-held}
 use Rattle.orc_heap.proofs.Slots.{id-there}
 use Rattle.orc_heap.specs.Journals.{is_once_linked}
 use Rattle.orc_heap.specs.declared.events.Place.TheVariants.{Root}
-use Rattle.orc_domain.proofs.Chains.{look_linked}
-use Rattle.orc_domain.proofs.tests.chains.put_over_root.Goals as goal
+use Rattle.uses.proofs.Chains.{look_linked}
+use Rattle.uses.proofs.tests.chains.put_over_root.Goals as goal
 
 pub put_over-put-requires-clause-linked : goal.put_over-put-requires-clause-linked
 put_over-put-requires-clause-linked g c =
