@@ -43,7 +43,8 @@ no_move_plain (Look place link) p = refl
 no_move_plain (Move place from to) p = absurd p
 no_move_plain (Miss place wanted found) p = refl
 
-pub chain_allows_plain : (n : HeapNumbers) (seen : List (Event ChainNote)) (e : Event ChainNote) → ChainHolds n seen → FitsAfter n seen e → IsPlain e → ChainMay n seen e
+pub chain_allows_plain : (n : HeapNumbers) (seen : List (Event ChainNote)) (e : Event ChainNote) → ChainHolds n seen → FitsAfter n seen e → IsPlain e
+    → ChainMay n seen e
 chain_allows_plain n seen e holds fits plain = record {
   fits = fits;
   may_act = subst (λ (x : Option ChainNote). MayAct n.roots (run_heap n seen) (set_after seen) e.act x) (sym plain.0) (no_move_plain e.act plain.1);
@@ -59,7 +60,8 @@ moves_linked : (p : Place) (from to : Link) (h : Heap) → IsLinkedPlace p h →
 moves_linked (Root r) from to h l = tt
 moves_linked (Next d) from to h l = l
 
-pub chain_moves_linked : (n : HeapNumbers) (seen : List (Event ChainNote)) (e : Event ChainNote) → ChainHolds n seen → ChainMay n seen e → MovesLinked e.act (run_heap n seen)
+pub chain_moves_linked : (n : HeapNumbers) (seen : List (Event ChainNote)) (e : Event ChainNote) → ChainHolds n seen → ChainMay n seen e
+    → MovesLinked e.act (run_heap n seen)
 chain_moves_linked n seen e holds may =
     let h : Heap = run_heap n seen in
     each_kind n.roots h (set_after seen) (λ act noted. MovesLinked act h)
@@ -72,7 +74,8 @@ chain_moves_linked n seen e holds may =
 
 -- the history
 
-legal_one : (es : List (Event ChainNote)) (e : Event ChainNote) (entry : SetEntry) → e.note ≡ Some (Entry entry) → IsLegalSet (entries_of es) → IsLegalSetFrom (set_after es) (entry ∷ [])
+legal_one : (es : List (Event ChainNote)) (e : Event ChainNote) (entry : SetEntry) → e.note ≡ Some (Entry entry) → IsLegalSet (entries_of es)
+    → IsLegalSetFrom (set_after es) (entry ∷ [])
     → IsLegalSet (entries_of (es ++ e ∷ []))
 legal_one es e entry note_is legal one = rw (entries_more es e entry note_is) (IsLegalSetFrom-snoc [] (entries_of es) entry legal one)
 
@@ -129,7 +132,9 @@ leaves n es e holds may =
     let x : Event ChainNote = event_by e.agent (Move p from to) (Some Unlink) in
     record {
       legal = rw (entries_same es x refl) holds.legal;
-      chains = rw (entries_same es x refl) (chains_unlink n.roots h (heap_after e.agent (Move p from to) h) keys p from to c (move_moves e.agent p from to h fits) u);
+      chains =
+          rw (entries_same es x refl)
+          (chains_unlink n.roots h (heap_after e.agent (Move p from to) h) keys p from to c (move_moves e.agent p from to h fits) u);
     })
     (λ p link entry t fits.
     let x : Event ChainNote = event_by e.agent (Look p link) (Some (Entry entry)) in
@@ -142,12 +147,14 @@ leaves n es e holds may =
 -- a marked link never changes
 
 -- an event that is allowed leaves a marked link
-pub marked_next : (n : HeapNumbers) (es : List (Event ChainNote)) (e : Event ChainNote) (id : ℕ) (link : Link) → ChainMay n es e → HasLink (run_heap n es) id link → link.mark ≡ true
+pub marked_next : (n : HeapNumbers) (es : List (Event ChainNote)) (e : Event ChainNote) (id : ℕ) (link : Link) → ChainMay n es e
+    → HasLink (run_heap n es) id link → link.mark ≡ true
     → HasLink (run_heap n (es ++ e ∷ [])) id link
 marked_next n es e id link may l mark =
     let h : Heap = run_heap n es in
     let at = shown_link h id link l in
-    let moved : (p : Place) (from to : Link) → Fits e.agent (Move p from to) h → from.mark ≡ false → shown (heap_after e.agent (Move p from to) h) (Next id) ≡ Some link
+    let moved : (p : Place) (from to : Link) → Fits e.agent (Move p from to) h → from.mark ≡ false
+    → shown (heap_after e.agent (Move p from to) h) (Next id) ≡ Some link
     = λ p from to fits plain. elim (place_either (Next id) p) [
       | inl same ↦
           let is : link ≡ from = some_same (sym at ∙ subst (λ (z : Place). shown h z ≡ Some from) (sym same) fits.0) in
@@ -181,7 +188,8 @@ split_snoc (y ∷ xs) x (b ∷ bs) after e =
       | inr s ↦ inr (rw (← head) (ap (λ z. y ∷ z) s))
     ]
 
-frozen_next : (n : HeapNumbers) (es : List (Event ChainNote)) (e : Event ChainNote) → ChainHolds n es → ChainMay n es e → (before after : List (Event ChainNote)) (id : ℕ) (link : Link)
+frozen_next : (n : HeapNumbers) (es : List (Event ChainNote)) (e : Event ChainNote) → ChainHolds n es → ChainMay n es e
+    → (before after : List (Event ChainNote)) (id : ℕ) (link : Link)
     → es ++ e ∷ [] ≡ before ++ after → HasLink (run_heap n before) id link → link.mark ≡ true → HasLink (run_heap n (es ++ e ∷ [])) id link
 frozen_next n es e holds may before after id link split l mark =
     elim (split_snoc es e before after split) [
@@ -190,7 +198,8 @@ frozen_next n es e holds may before after id link split l mark =
     ]
 
 -- an event that is allowed keeps what the events of sorted lists obey
-pub chain_keeps : (n : HeapNumbers) (seen : List (Event ChainNote)) (e : Event ChainNote) → ChainHolds n seen → ChainMay n seen e → ChainHolds n (seen ++ e ∷ [])
+pub chain_keeps : (n : HeapNumbers) (seen : List (Event ChainNote)) (e : Event ChainNote) → ChainHolds n seen → ChainMay n seen e
+    → ChainHolds n (seen ++ e ∷ [])
 chain_keeps n seen e holds may =
     let s = leaves n seen e holds may in
     record {
@@ -208,10 +217,13 @@ pub chain_rises : (n : HeapNumbers) (seen : List (Event ChainNote)) → ChainHol
 chain_rises n seen holds = λ id node there linked. cases id node there linked node.link.to refl
   where
     cases : (id : ℕ) (node : Node) → slice_get (run_heap n seen).nodes id ≡ Some node → node.linked ≡ true → (to : Option ℕ) → node.link.to ≡ to
-        → (node.link.to ≡ None) ⊎ ((next : ℕ) × (node.link.to ≡ Some next) × IsLinkedNode (run_heap n seen) next × (chain_rank n seen id < chain_rank n seen next))
+        → (node.link.to ≡ None)
+        ⊎ ((next : ℕ) × (node.link.to ≡ Some next) × IsLinkedNode (run_heap n seen) next × (chain_rank n seen id < chain_rank n seen next))
     cases id node there linked None is = inl is
     cases id node there linked (Some next) is =
         let h : Heap = run_heap n seen in
-        let (key, own, follows) = holds.chains.leads (Next id) next (record { node = node; there = there; linked = linked }) (record { link = node.link; at = shown_node h id node there; to_is = is }) in
+        let (key, own, follows) =
+        holds.chains.leads (Next id) next (record { node = node; there = there; linked = linked })
+        (record { link = node.link; at = shown_node h id node there; to_is = is }) in
         let (low, mine, less, same) = follows in
         inr (next, is, key_linked h next key own, omega (arith, key_at h id low mine, key_at h next key own, less))

@@ -111,19 +111,25 @@ shown_unset : (place q : Place) (to : Link) (h : Heap) → q ≢ place → shown
 shown_unset (Root r) (Root s) to h ne = get-change_other (λ (l : Link). to) r s h.roots (λ e. ne (ap (λ (x : ℕ). Root x) e))
 shown_unset (Root r) (Next id) to h ne = refl
 shown_unset (Next id) (Root s) to h ne = refl
-shown_unset (Next i) (Next j) to h ne = ap (option_map (λ (x : Node). x.link)) (get-change_other (with_link to) i j h.nodes (λ e. ne (ap (λ (x : ℕ). Next x) e)))
+shown_unset (Next i) (Next j) to h ne =
+    ap (option_map (λ (x : Node). x.link)) (get-change_other (with_link to) i j h.nodes (λ e. ne (ap (λ (x : ℕ). Next x) e)))
 
 named : (to : Option ℕ) (id : ℕ) → names_node to id ≡ true → to ≡ Some id
 named None id e = cc
 named (Some i) id e = ap (λ (x : ℕ). Some x) (eqb-true i id e)
 
-pub move_moves : (agent : ℕ) (place : Place) (from to : Link) (h : Heap) → Fits agent (Move place from to) h → IsMoved h (heap_after agent (Move place from to) h) place from to
+pub move_moves : (agent : ℕ) (place : Place) (from to : Link) (h : Heap) → Fits agent (Move place from to) h
+    → IsMoved h (heap_after agent (Move place from to) h) place from to
 move_moves agent place from to h fits = record {
   at = fits.0;
   moved = shown_target as_linked (λ n. refl) to.to (set_link place to h) place ∙ shown_set place from to h fits.0;
   others = λ q ne. shown_target as_linked (λ n. refl) to.to (set_link place to h) q ∙ shown_unset place q to h ne;
   stays = λ id key k. key_after agent (Move place from to) h id key fits k;
-  old = λ id l. elim (linked_before agent (Move place from to) h id l.node l.there l.linked) [ inl before ↦ inl before | inr by ↦ inr (named to.to id by.moves) ];
+  old = λ id l. elim (linked_before agent (Move place from to) h id l.node l.there l.linked) [
+    | inl before ↦ inl before
+    | inr by ↦ inr
+        (named to.to id by.moves)
+  ];
 }
 
 -- any other act

@@ -16,10 +16,12 @@ pub entries_same : (es : List (Event ChainNote)) (e : Event ChainNote) → entri
 entries_same es e none = noted-snoc entries_in es e ∙ (ap (λ z. entries_of es ++ z) none ∙ append-nil (entries_of es))
 
 -- one entry
-pub entries_more : (es : List (Event ChainNote)) (e : Event ChainNote) (entry : SetEntry) → e.note ≡ Some (Entry entry) → entries_of (es ++ e ∷ []) ≡ entries_of es ++ entry ∷ []
+pub entries_more : (es : List (Event ChainNote)) (e : Event ChainNote) (entry : SetEntry) → e.note ≡ Some (Entry entry)
+    → entries_of (es ++ e ∷ []) ≡ entries_of es ++ entry ∷ []
 entries_more es e entry note_is = noted-snoc entries_in es e ∙ ap (λ z. entries_of es ++ entries_in z) note_is
 
-pub set_more : (es : List (Event ChainNote)) (e : Event ChainNote) (entry : SetEntry) → e.note ≡ Some (Entry entry) → set_after (es ++ e ∷ []) ≡ keys_after (set_after es) (entry ∷ [])
+pub set_more : (es : List (Event ChainNote)) (e : Event ChainNote) (entry : SetEntry) → e.note ≡ Some (Entry entry)
+    → set_after (es ++ e ∷ []) ≡ keys_after (set_after es) (entry ∷ [])
 set_more es e entry note_is = ap (keys_after []) (entries_more es e entry note_is) ∙ keys_after-snoc [] (entries_of es) entry
 
 -- one key more
@@ -35,7 +37,8 @@ pub has_old : (key k : ℕ) (keys : List ℕ) → has k keys ≡ true → has k 
 has_old key k keys e = list_any-append (λ (x : ℕ). x == k) keys (key ∷ []) ∙ or_left _ _ e
 
 pub has_new : (key : ℕ) (keys : List ℕ) → has key (keys ++ key ∷ []) ≡ true
-has_new key keys = list_any-append (λ (x : ℕ). x == key) keys (key ∷ []) ∙ or_right (has key keys) (has key (key ∷ [])) (or_left (key == key) false (eq-eqb key key refl))
+has_new key keys =
+    list_any-append (λ (x : ℕ). x == key) keys (key ∷ []) ∙ or_right (has key keys) (has key (key ∷ [])) (or_left (key == key) false (eq-eqb key key refl))
 
 -- one key less
 
@@ -43,7 +46,8 @@ pub has_left : (key k : ℕ) (keys : List ℕ) → has k (filter (λ x. not (x =
 has_left key k [] e = cc
 has_left key k (x ∷ xs) e = cases (has_left key k xs) (x == key) refl e
   where
-    cases : (has k (filter (λ y. not (y == key)) xs) ≡ true → (has k xs ≡ true) × (k ≢ key)) → (b : Bool) → (x == key) ≡ b → has k (cond (not b) (x ∷ filter (λ y. not (y == key)) xs) (filter (λ y. not (y == key)) xs)) ≡ true → (has k (x ∷ xs) ≡ true) × (k ≢ key)
+    cases : (has k (filter (λ y. not (y == key)) xs) ≡ true → (has k xs ≡ true) × (k ≢ key)) → (b : Bool) → (x == key) ≡ b
+        → has k (cond (not b) (x ∷ filter (λ y. not (y == key)) xs) (filter (λ y. not (y == key)) xs)) ≡ true → (has k (x ∷ xs) ≡ true) × (k ≢ key)
     cases rest true is h = let r = rest h in (or_right (x == k) (has k xs) r.0, r.1)
     cases rest false is h = elim (or_cases (x == k) (has k (filter (λ y. not (y == key)) xs)) h) [
       | inl here ↦ (or_left (x == k) (has k xs) here, λ same. let t : true ≡ false = sym (eq-eqb x key (eqb-true x k here ∙ same)) ∙ is in cc)
@@ -54,7 +58,8 @@ pub has_kept : (key k : ℕ) (keys : List ℕ) → has k keys ≡ true → k ≢
 has_kept key k [] e ne = cc
 has_kept key k (x ∷ xs) e ne = cases (λ h. has_kept key k xs h ne) (x == key) refl
   where
-    cases : (has k xs ≡ true → has k (filter (λ y. not (y == key)) xs) ≡ true) → (b : Bool) → (x == key) ≡ b → has k (cond (not b) (x ∷ filter (λ y. not (y == key)) xs) (filter (λ y. not (y == key)) xs)) ≡ true
+    cases : (has k xs ≡ true → has k (filter (λ y. not (y == key)) xs) ≡ true) → (b : Bool) → (x == key) ≡ b
+        → has k (cond (not b) (x ∷ filter (λ y. not (y == key)) xs) (filter (λ y. not (y == key)) xs)) ≡ true
     cases rest true is = elim (or_cases (x == k) (has k xs) e) [
       | inl here ↦ absurd (ne (sym (eqb-true x k here) ∙ eqb-true x key is))
       | inr later ↦ rest later

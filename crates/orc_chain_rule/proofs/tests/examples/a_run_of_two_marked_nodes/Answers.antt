@@ -12,7 +12,13 @@ use Rattle.orc_chain_rule.proofs.tests.examples.a_run_of_two_marked_nodes.Goals 
 
 pub returns-clause-run : goal.returns-clause-run
 returns-clause-run c = (
-  (refl, _, record { node = _; there = refl; linked = refl; link_is = refl }, refl, (refl, _, record { node = _; there = refl; linked = refl; link_is = refl }, refl, refl)),
+  (
+    refl,
+    _,
+    record { node = _; there = refl; linked = refl; link_is = refl },
+    refl,
+    (refl, _, record { node = _; there = refl; linked = refl; link_is = refl }, refl, refl),
+  ),
   (record { link = _; at = refl; to_is = refl }, (record { link = _; at = refl; to_is = refl }, record { link = _; at = refl; to_is = refl })),
   record {
     root = 0;
@@ -24,7 +30,13 @@ returns-clause-run c = (
   record {
     below = refl;
     unmarked = refl;
-    run = (refl, _, record { node = _; there = refl; linked = refl; link_is = refl }, refl, (refl, _, record { node = _; there = refl; linked = refl; link_is = refl }, refl, refl));
+    run = (
+      refl,
+      _,
+      record { node = _; there = refl; linked = refl; link_is = refl },
+      refl,
+      (refl, _, record { node = _; there = refl; linked = refl; link_is = refl }, refl, refl),
+    );
     above = (9, record { node = _; there = refl; linked = refl; key_is = refl }, omega arith);
   },
   (λ run.
@@ -44,7 +56,8 @@ returns-clause-run c = (
 
 -- a marked node that is once linked is node 0 or node 1
 marked_one : (id : ℕ) (h : Heap) (link : Link) → h.nodes ≡ with_link (record { to = Some 1; mark = true }) (as_linked (node_to_add 0 3 0 None))
-    ∷ with_link (record { to = Some 2; mark = true }) (as_linked (node_to_add 0 5 0 None)) ∷ as_linked (node_to_add 0 9 0 None) ∷ node_to_add 1 4 0 (Some 2) ∷ []
+    ∷ with_link (record { to = Some 2; mark = true }) (as_linked (node_to_add 0 5 0 None)) ∷ as_linked (node_to_add 0 9 0 None) ∷ node_to_add 1 4 0
+    (Some 2) ∷ []
     → HasLink h id link → link.mark ≡ true → Contains (0 ∷ 1 ∷ []) id
 marked_one zero h link is own mark = (0, omega arith, refl)
 marked_one (suc zero) h link is own mark = (1, omega arith, refl)
@@ -93,7 +106,13 @@ returns-clause-inserted_over c = (
     key_is = refl;
     own_plain = refl;
     over = 0 ∷ 1 ∷ [];
-    run = (refl, _, record { node = _; there = refl; linked = refl; link_is = refl }, refl, (refl, _, record { node = _; there = refl; linked = refl; link_is = refl }, refl, refl));
+    run = (
+      refl,
+      _,
+      record { node = _; there = refl; linked = refl; link_is = refl },
+      refl,
+      (refl, _, record { node = _; there = refl; linked = refl; link_is = refl }, refl, refl),
+    );
     above = (9, record { node = _; there = refl; linked = refl; key_is = refl }, omega arith);
   },
 )
@@ -105,5 +124,11 @@ returns-clause-left_out c = record {
   plain_after = refl;
   first = 0;
   others = 1 ∷ [];
-  run = (refl, _, record { node = _; there = refl; linked = refl; link_is = refl }, refl, (refl, _, record { node = _; there = refl; linked = refl; link_is = refl }, refl, refl));
+  run = (
+    refl,
+    _,
+    record { node = _; there = refl; linked = refl; link_is = refl },
+    refl,
+    (refl, _, record { node = _; there = refl; linked = refl; link_is = refl }, refl, refl),
+  );
 }

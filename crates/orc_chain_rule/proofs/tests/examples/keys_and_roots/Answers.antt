@@ -35,7 +35,8 @@ two = record { nodes = as_linked (node_to_add 0 3 0 None) ∷ node_to_add 1 5 0 
 -- no place has a link to node 1
 apart : (p : Place) (link : Link) → shown two p ≡ Some link → link.to ≡ Some 1 → ⊥
 apart (Root zero) link at to = let bad : ◌≡◌ {A = Option ℕ} None (Some 1) = ap (λ (l : Link). l.to) (some_same at) ∙ to in cc
-apart (Root (suc zero)) link at to = let bad : ◌≡◌ {A = Option ℕ} (Some 0) (Some 1) = ap (λ (l : Link). l.to) (some_same at) ∙ to in omega (arith, some_same bad)
+apart (Root (suc zero)) link at to =
+    let bad : ◌≡◌ {A = Option ℕ} (Some 0) (Some 1) = ap (λ (l : Link). l.to) (some_same at) ∙ to in omega (arith, some_same bad)
 apart (Root (suc (suc r))) link at to = let bad : ◌≡◌ {A = Option Link} None (Some link) = at in cc
 apart (Next zero) link at to = let bad : ◌≡◌ {A = Option ℕ} None (Some 1) = ap (λ (l : Link). l.to) (some_same at) ∙ to in cc
 apart (Next (suc zero)) link at to = let bad : ◌≡◌ {A = Option ℕ} None (Some 1) = ap (λ (l : Link). l.to) (some_same at) ∙ to in cc
