@@ -1,5 +1,6 @@
 -- The events of a list's calls are allowed in every later journal.
 use Rattle.std.proofs.Common.{List, None, Option, Some, [], false, inl, refl, subst, sym, true, ℕ, ◌%◌, ◌++◌, ◌∷◌, ◌≡◌, slice_get}
+use Rattle.std.proofs.lemmas.Bool.{false_from_ne_true}
 use Rattle.orc_heap.proofs.Fresh.{node_later}
 use Rattle.orc_heap.proofs.Known.{linked_known}
 use Rattle.orc_heap.specs.Acts.{IsTarget}
@@ -19,7 +20,7 @@ use Rattle.orc_chain_rule.specs.declared.chain.ChainNote.TheVariants.{Entry, Unl
 use Rattle.orc_chain_rule.specs.ChainDiscipline.{AreChains, ChainHolds, ChainMay, FollowsOn, HasKey, IsAbove, IsBelow, IsOnChain, IsPlaceOnChain, IsRun, link_over, set_after}
 use Rattle.orc_chain_rule.specs.Watches.{node_to_add}
 use Rattle.orc_chain_rule.specs.Laws.Kinds.{key_linked}
-use Rattle.orc_chain_rule.specs.Laws.Kept.{absent_false, chain_fits, chain_keeps, chain_moves_linked}
+use Rattle.orc_chain_rule.specs.Laws.Kept.{chain_fits, chain_keeps, chain_moves_linked}
 use Rattle.orc_chain_rule.specs.Laws.Paths.{absent, run_follows}
 use Rattle.orc_chain_rule.proofs.Later.{above_later, follows_later, holds_later, key_later, place_later, run_later}
 
@@ -53,7 +54,7 @@ key_absent n es place from over to key holds f at plain run above =
     let h : Heap = run_heap n es in
     let c = holds.chains in
     let (on, under) = place_on_chain n.roots h (set_after es) c place from key f at plain in
-    absent_false key (set_after es) (λ is. absent n.roots h (set_after es) c place from over to key on under at run above ((c.set key).0 is))
+    false_from_ne_true (has key (set_after es)) (λ is. absent n.roots h (set_after es) c place from over to key on under at run above ((c.set key).0 is))
 
 -- and present where its node has an unmarked link
 pub key_present : (n : HeapNumbers) (es : List (Event ChainNote)) (id key : ℕ) (link : Link) → ChainHolds n es → HasKey (run_heap n es) id key

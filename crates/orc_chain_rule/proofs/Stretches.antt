@@ -1,5 +1,5 @@
 -- Unlinks number at most the marked nodes that were still on a chain, and the keys that were taken out since.
-use Rattle.std.proofs.Common.{Bool, Contains, List, Option, Some, [], ap, arith, cond, false, filter, inl, inr, length, not, refl, subst, suc, sym, true, zero, ℕ, ◌%◌, ◌++◌, ◌+◌, ◌==◌, ◌∙◌, ◌∷◌, ◌≡◌, ◌≤◌, ◌⊎◌}
+use Rattle.std.proofs.Common.{Contains, List, Option, Some, [], ap, arith, false, filter, inl, inr, length, not, refl, subst, suc, sym, true, zero, ℕ, ◌%◌, ◌++◌, ◌+◌, ◌==◌, ◌∙◌, ◌∷◌, ◌≡◌, ◌≤◌}
 use Rattle.std.proofs.lemmas.Bool.{eq-eqb, eqb-true, or_cases, or_left, or_right}
 use Rattle.orc_heap.proofs.Runs.{run_heap-snoc}
 use Rattle.orc_heap.specs.Acts.{Fits, heap_after}
@@ -24,30 +24,10 @@ use Rattle.orc_chain_rule.specs.Laws.Kinds.{IsMoved, IsStill, act_still, each_ki
 use Rattle.orc_chain_rule.specs.Laws.Kept.{chain_keeps, place_linked}
 use Rattle.orc_chain_rule.specs.Laws.Paths.{chain_linked}
 use Rattle.orc_chain_rule.specs.Laws.Removing.{chain_before}
-use Rattle.orc_chain_rule.specs.Laws.Sets.{has_kept}
+use Rattle.orc_chain_rule.specs.Laws.Sets.{filter_less, has_kept}
 use Rattle.orc_chain_rule.proofs.Leaving.{chain_back, chains_after, chain_step, passed_off, path_still_back}
 
 -- numbers in a list
-
-filter_less : (x : ℕ) (xs : List ℕ) → has x xs ≡ true → length (filter (λ y. not (y == x)) xs) + 1 ≤ length xs
-filter_less x [] e = cc
-filter_less x (y ∷ xs) e = cases (filter_less x xs) (filter_at_most xs) (y == x) refl (or_cases (y == x) (has x xs) e)
-  where
-    filter_at_most : (zs : List ℕ) → length (filter (λ z. not (z == x)) zs) ≤ length zs
-    filter_at_most [] = omega arith
-    filter_at_most (z ∷ zs) = step (z == x) (filter_at_most zs)
-      where
-        step : (b : Bool) → length (filter (λ v. not (v == x)) zs) ≤ length zs
-            → length (cond (not b) (z ∷ filter (λ v. not (v == x)) zs) (filter (λ v. not (v == x)) zs)) ≤ length (z ∷ zs)
-        step true k = omega (arith, k)
-        step false k = omega (arith, k)
-
-    cases : (has x xs ≡ true → length (filter (λ z. not (z == x)) xs) + 1 ≤ length xs) → length (filter (λ z. not (z == x)) xs) ≤ length xs → (b : Bool)
-        → (y == x) ≡ b → (b ≡ true) ⊎ (has x xs ≡ true)
-        → length (cond (not b) (y ∷ filter (λ z. not (z == x)) xs) (filter (λ z. not (z == x)) xs)) + 1 ≤ length (y ∷ xs)
-    cases rest most true is either = omega (arith, most)
-    cases rest most false is (inl bad) = cc
-    cases rest most false is (inr later) = omega (arith, rest later)
 
 has_among : (x : ℕ) (xs : List ℕ) → Contains xs x → has x xs ≡ true
 has_among x [] (i, low, is) = absurd (omega (arith, low))

@@ -1,5 +1,6 @@
 -- What the discipline owes to the traits of disciplines.
 use Rattle.std.proofs.Common.{List, None, Option, Some, [], ap, arith, false, inl, inr, refl, subst, sym, true, ℕ, ◌++◌, ◌<◌, ◌∙◌, ◌∷◌, ◌≡◌, ◌⊎◌, ◌%◌}
+use Rattle.std.proofs.lemmas.Bool.{false_from_ne_true}
 use Rattle.std.specs.List.{slice_get}
 use Rattle.std.specs.Prelude.{unwrap_or}
 use Rattle.orc_heap.proofs.Linked.{linked_after}
@@ -29,7 +30,7 @@ use Rattle.orc_heap.proofs.SingleActs.{linked_node, shown_link, some_same}
 use Rattle.orc_chain_rule.specs.Laws.Kinds.{act_still, each_kind, key_linked, move_moves, no_move_linked, place_either}
 use Rattle.orc_chain_rule.specs.Laws.Paths.{chain_linked}
 use Rattle.orc_chain_rule.specs.Laws.Removing.{chains_remove, was_present}
-use Rattle.orc_chain_rule.specs.Laws.Sets.{bool_either, entries_more, entries_same, set_more}
+use Rattle.orc_chain_rule.specs.Laws.Sets.{entries_more, entries_same, set_more}
 use Rattle.orc_chain_rule.specs.Laws.Unlinking.{chains_unlink}
 
 pub chain_fits : (n : HeapNumbers) (seen : List (Event ChainNote)) (e : Event ChainNote) → ChainHolds n seen → ChainMay n seen e → FitsAfter n seen e
@@ -89,9 +90,6 @@ answer_keys keys (Added by key answer) (is, there) = rw is refl
 answer_keys keys (Removed by key answer) (is, none) = rw is refl
 answer_keys keys (Asked by key answer) is = refl
 
-pub absent_false : (key : ℕ) (keys : List ℕ) → (has key keys ≡ true → ⊥) → has key keys ≡ false
-absent_false key keys none = elim (bool_either (has key keys)) [ inl is ↦ absurd (none is) | inr is ↦ is ]
-
 -- what an event leaves of the history and of the chains
 record Leaves (n : HeapNumbers) (es : List (Event ChainNote)) (e : Event ChainNote) : Type 0 where
   legal : IsLegalSet (entries_of (es ++ e ∷ []))
@@ -115,7 +113,7 @@ leaves n es e holds may =
     let m = move_moves e.agent p from to h fits in
     let l = place_linked n.roots h keys c (key % n.roots) p a.on_chain in
     let new = added_linked n.roots h keys e.agent p from to key c m a l in
-    let none : has key keys ≡ false = absent_false key keys (λ is. was_absent n.roots h k keys p from to key c m a l new ((c.set key).0 is)) in
+    let none : has key keys ≡ false = false_from_ne_true (has key keys) (λ is. was_absent n.roots h k keys p from to key c m a l new ((c.set key).0 is)) in
     record {
       legal = legal_one es x (Added by key true) refl holds.legal (rw none refl, tt);
       chains = rw (set_more es x (Added by key true) refl) (chains_add n.roots h k keys p from to key c m a l new);

@@ -1,6 +1,6 @@
 -- The kinds of events that the discipline allows, one by one, and what a Move and what any other act does to a heap.
-use Rattle.std.proofs.Common.{Bool, List, Option, Some, None, [], ap, false, inl, inr, refl, subst, suc, sym, true, zero, ℕ, ◌==◌, ◌∙◌, ◌∷◌, ◌≡◌, ◌≢◌, ◌⊎◌}
-use Rattle.std.proofs.lemmas.Bool.{eqb-false, eqb-true}
+use Rattle.std.proofs.Common.{Bool, List, Option, Some, None, [], ap, false, inl, inr, refl, subst, suc, sym, true, zero, ℕ, ◌∙◌, ◌∷◌, ◌≡◌, ◌≢◌, ◌⊎◌}
+use Rattle.std.proofs.lemmas.Bool.{cases_eq, eqb-true}
 use Rattle.std.specs.List.{slice_get}
 use Rattle.std.specs.Option.{option_map}
 use Rattle.orc_heap.proofs.Before.{linked_before}
@@ -65,18 +65,10 @@ key_after agent act h id key fits k =
 -- what places show
 
 pub place_either : (p q : Place) → (p ≡ q) ⊎ (p ≢ q)
-place_either (Root r) (Root s) = cases (r == s) refl
-  where
-    cases : (b : Bool) → (r == s) ≡ b → (Root r ≡ Root s) ⊎ (Root r ≢ Root s)
-    cases true e = inl (ap (λ (x : ℕ). Root x) (eqb-true r s e))
-    cases false e = inr (λ same. eqb-false r s e (cc))
+place_either (Root r) (Root s) = elim (cases_eq r s) [ inl e ↦ inl (ap (λ (x : ℕ). Root x) e) | inr ne ↦ inr (λ same. ne (cc)) ]
 place_either (Root r) (Next id) = inr (λ same. cc)
 place_either (Next id) (Root r) = inr (λ same. cc)
-place_either (Next i) (Next j) = cases (i == j) refl
-  where
-    cases : (b : Bool) → (i == j) ≡ b → (Next i ≡ Next j) ⊎ (Next i ≢ Next j)
-    cases true e = inl (ap (λ (x : ℕ). Next x) (eqb-true i j e))
-    cases false e = inr (λ same. eqb-false i j e (cc))
+place_either (Next i) (Next j) = elim (cases_eq i j) [ inl e ↦ inl (ap (λ (x : ℕ). Next x) e) | inr ne ↦ inr (λ same. ne (cc)) ]
 
 -- a Move
 
