@@ -9,7 +9,7 @@ use Rattle.orc_history.specs.declared.set.ListRefused.{ListRefused}
 use Rattle.orc_board.specs.Stretches.{View, Kind, of_queue, of_set, MayStand, Stretch, Share, just, nothing, Licensed, Did, Row, empty_row, Stands, Chain, Works}
 use Rattle.orc_board.proofs.ListFacts.{AllByRecursion-append}
 
-prefix_trans : {X : Type 0} (a b c : List X) → IsPrefix a b → IsPrefix b c → IsPrefix a c
+pub prefix_trans : {X : Type 0} (a b c : List X) → IsPrefix a b → IsPrefix b c → IsPrefix a c
 prefix_trans a b c (t, e) (u, f) = (t ++ u, sym (append_assoc a t u) ∙ (ap (λ z. z ++ u) e ∙ f))
 
 prefix_length : {X : Type 0} (a b : List X) → IsPrefix a b → length a ≤ length b

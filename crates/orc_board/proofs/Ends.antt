@@ -27,7 +27,7 @@ use Rattle.orc_board.proofs.PairLists.{puts_of, tooks_of, puts_of-append, tooks_
 use Rattle.orc_board.proofs.Orders.{posted_few}
 use Rattle.orc_board.proofs.Reported.{reportable_all, no_positions_all}
 
-posters_of : (lines : List Line) (poster : ℕ) (rs : List PostReply) (rows : List Row) → Pointwise (PosterRow lines poster) rs rows → AllByRecursion (λ (r : PostReply). r.poster ≡ poster) rs
+pub posters_of : (lines : List Line) (poster : ℕ) (rs : List PostReply) (rows : List Row) → Pointwise (PosterRow lines poster) rs rows → AllByRecursion (λ (r : PostReply). r.poster ≡ poster) rs
 posters_of lines poster [] rows z = tt
 posters_of lines poster (r ∷ rs) [] z = absurd z
 posters_of lines poster (r ∷ rs) (row ∷ rows) z = (z.0.poster_is, posters_of lines poster rs rows z.1)

@@ -198,10 +198,11 @@ every_key P key (suc n) xs h = AllByRecursion-append P (by_key key n xs) (filter
 worker_agent : (n : ℕ) (a b : ℕ) → a ≡ b → b ≤ n → a < suc n
 worker_agent n a b e h = omega arith
 
--- replies that follow a legal queue's journal, which leaves it empty, can be reported
-pub reportable_all : {A B : Type 0} (q : View A QueueEntry QueueRefused) (s : View B SetEntry ListRefused) (lines : List Line) (posters takers : ℕ) (posts : List PostReply) (takes : List TakeReply) (k : List A) (n : List B)
-    → 1 ≤ posters → q.history [] ≡ [] → IsLegalQueue 0 (q.history k) → waiting_after [] (q.history k) ≡ [] → WorkersFollow q s lines posters takers posts takes k n → AreReportable lines posts takes
-reportable_all {A} {B} q s lines posters takers posts takes k n some none legal empty f =
+-- the Puts of the history are the posted lines, and its Tooks those of the take replies, in some order
+pub permuted_all : {A B : Type 0} (q : View A QueueEntry QueueRefused) (s : View B SetEntry ListRefused) (lines : List Line) (posters takers : ℕ) (posts : List PostReply) (takes : List TakeReply) (k : List A) (n : List B)
+    → 1 ≤ posters → q.history [] ≡ [] → WorkersFollow q s lines posters takers posts takes k n
+    → IsPermutation (puts_of (q.history k)) (posted_of posts) × IsPermutation (tooks_of (q.history k)) (map claim_of takes)
+permuted_all {A} {B} q s lines posters takers posts takes k n some none f =
     let C : ℕ → Type 0 = IsWorker posters takers in
     let es : List QueueEntry = q.history k in
     let N : ℕ = suc (posters + takers) in
@@ -250,6 +251,17 @@ reportable_all {A} {B} q s lines posters takers posts takes k n some none legal 
     let taken : IsPermutation (tooks_of es) (map claim_of takes) =
     subst (λ (z : List (ℕ × ℕ)). IsPermutation z (map claim_of takes)) (untag_tooks es)
     (subst (λ (z : List (ℕ × ℕ)). IsPermutation (untag (keyed_tooks es)) z) (untag_takes posters takes) (IsPermutation-map snd (keyed_tooks es) (keyed_takes posters takes) tooks)) in
+    (posted, taken)
+
+-- replies that follow a legal queue's journal, which leaves it empty, can be reported
+pub reportable_all : {A B : Type 0} (q : View A QueueEntry QueueRefused) (s : View B SetEntry ListRefused) (lines : List Line) (posters takers : ℕ) (posts : List PostReply) (takes : List TakeReply) (k : List A) (n : List B)
+    → 1 ≤ posters → q.history [] ≡ [] → IsLegalQueue 0 (q.history k) → waiting_after [] (q.history k) ≡ [] → WorkersFollow q s lines posters takers posts takes k n → AreReportable lines posts takes
+reportable_all {A} {B} q s lines posters takers posts takes k n some none legal empty f =
+    let es : List QueueEntry = q.history k in
+    let in_range : AllByRecursion (λ (r : PostReply). (1 ≤ r.poster) × (r.poster < suc posters)) posts = posters_in_range lines posters takers posts takes f.order in
+    let both = permuted_all q s lines posters takers posts takes k n some none f in
+    let posted : IsPermutation (puts_of es) (posted_of posts) = both.0 in
+    let taken : IsPermutation (tooks_of es) (map claim_of takes) = both.1 in
     let same : puts_of es ≡ tooks_of es = legal_lists 0 [] es legal ∙ (ap (λ z. tooks_of es ++ z) empty ∙ append-nil (tooks_of es)) in
     let at : ℕ × ℕ → ℕ = λ x. x.1 in
     let long : length (puts_of es) ≡ length (posted_of posts) = sym (length_permutation (puts_of es) (posted_of posts) posted) in

@@ -82,6 +82,10 @@ chain_beside q s C f h agent (row ∷ rows) j k m n (i, l, one, c) = (
   chain_beside q s C f h agent rows i k l n c,
 )
 
+pub Stands-beside : {A B : Type 0} (q : View A QueueEntry QueueRefused) (s : View B SetEntry ListRefused) (C : ℕ → Type 0) → Below q.crowd C → Below s.crowd C → (agent : ℕ) (row : Row) (j k : List A) (m n : List B)
+    → Stands q s agent row j m k n → Stands (beside q C) (beside s C) agent row j m k n
+Stands-beside q s C f h agent row j k m n d = record { queue = Did-beside of_queue q C f agent row.queue j k d.queue; set = Did-beside of_set s C h agent row.set m n d.set }
+
 pub Works-beside : {A B : Type 0} (q : View A QueueEntry QueueRefused) (s : View B SetEntry ListRefused) (C : ℕ → Type 0) → Below q.crowd C → Below s.crowd C → (agent : ℕ) {rows : List Row} {j k : List A} {m n : List B}
     → Works q s agent rows j m k n → Works (beside q C) (beside s C) agent rows j m k n
 Works-beside q s C f h agent {rows = rows} {j = j} {k = k} {m = m} {n = n} w = record { chain = chain_beside q s C f h agent rows j k m n w.chain }

@@ -19,7 +19,7 @@ use Rattle.orc_board.proofs.CallStretches.{ends_later}
 use Rattle.orc_board.proofs.Wholes.{queue_of_rows, Works-queue}
 use Rattle.orc_board.proofs.ListFacts.{eq-yes, eq-no}
 
-Pointwise-snoc : {X Y : Type 0} (R : X → Y → Type 0) (xs : List X) (ys : List Y) (x : X) (y : Y) → Pointwise R xs ys → R x y → Pointwise R (xs ++ x ∷ []) (ys ++ y ∷ [])
+pub Pointwise-snoc : {X Y : Type 0} (R : X → Y → Type 0) (xs : List X) (ys : List Y) (x : X) (y : Y) → Pointwise R xs ys → R x y → Pointwise R (xs ++ x ∷ []) (ys ++ y ∷ [])
 Pointwise-snoc R [] [] x y z h = (h, tt)
 Pointwise-snoc R [] (b ∷ ys) x y z h = absurd z
 Pointwise-snoc R (a ∷ xs) [] x y z h = absurd z

@@ -13,7 +13,7 @@ use orc_jobs::Lines;
 use std::sync::Wait;
 
 /// Works through the records of a poster in file order: record i belongs to poster 1 + (i mod `posters`).
-pub fn run_poster<R: Wait, Q: SharedQueue, S: SharedSet, G: Gate>(
+pub fn post_records<R: Wait, Q: SharedQueue, S: SharedSet, G: Gate>(
     rt: &R,
     queue: &Q,
     set: &S,

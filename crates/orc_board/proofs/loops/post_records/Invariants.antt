@@ -3,7 +3,7 @@ use Rattle.orc_board.specs.declared.replies.PostReply.{PostReply}
 use Rattle.orc_board.specs.Desk.{IsDesk}
 use Rattle.orc_board.specs.Stretches.{queue_view, set_view}
 use Rattle.orc_board.specs.Follows.{Posting, own_records}
-use Rattle.orc_board.proofs.loops.run_poster.Given as goal
+use Rattle.orc_board.proofs.loops.post_records.Given as goal
 
 abbrev pub invariant-loop-index : goal.invariant-loop-index
 invariant-loop-index g l = record {

@@ -4,8 +4,8 @@ use Rattle.orc_board.specs.declared.replies.PostReply.{PostReply}
 use Rattle.orc_board.specs.Stretches.{queue_view, set_view}
 use Rattle.orc_board.specs.Follows.{own_records}
 use Rattle.orc_board.proofs.Workers.{posting_none, posting_more, own-yes, own-no, own-room, own-length}
-use Rattle.orc_board.proofs.loops.run_poster.Goals as goal
-use Rattle.orc_board.proofs.loops.run_poster.Goals.{then-index-posters, else-index-posters}
+use Rattle.orc_board.proofs.loops.post_records.Goals as goal
+use Rattle.orc_board.proofs.loops.post_records.Goals.{then-index-posters, else-index-posters}
 
 pub loop-index-init : goal.loop-index-init
 loop-index-init g c = record {
