@@ -1,0 +1,4 @@
+pub mod Causes
+pub mod OwnSteps
+pub mod Passes
+pub mod Seats

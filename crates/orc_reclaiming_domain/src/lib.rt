@@ -1,0 +1,7 @@
+//! A domain of links whose rows are reclaimed: each row is counted, retired, scanned for, freed and given again.
+#![tactic(auto)]
+
+mod domain;
+mod make;
+
+pub use domain::{OrcDomain, OrcPass};
