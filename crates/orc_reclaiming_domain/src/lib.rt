@@ -2,6 +2,8 @@
 #![tactic(auto)]
 
 mod domain;
+mod links;
 mod make;
+mod steps;
 
 pub use domain::{OrcDomain, OrcPass};

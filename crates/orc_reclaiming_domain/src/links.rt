@@ -1,0 +1,35 @@
+//! The calls of links, over the board.
+
+ghost use Rattle.std.specs.Prelude.{◌≡◌, ◌<◌, []};
+ghost use mathlib.Core.List.{IsPrefix};
+ghost use Rattle.orc_heap.specs.Calls.{ReadsValue};
+ghost use Rattle.orc_heap.specs.Journals.{run_heap};
+ghost use Rattle.orc_heap.specs.OwnEvents.{Only};
+ghost use Rattle.orc_heap.specs.Slots.{Holds, id_in};
+ghost use Rattle.orc_reclaiming_domain.specs.Passes.{IsPassOf, domain_numbers, journal_of, seat_of};
+
+use crate::domain::{OrcDomain, OrcPass};
+use orc_heap::{Discipline, Held};
+
+impl<D: Discipline> OrcDomain<D> {
+    /// The number of the pass's agent. It makes no step.
+    pub fn agent(&self, p: &OrcPass<D>) -> u32
+        ensures { result ≡ (seat_of self.now p.now).agent }
+    {
+        p.pass.agent()
+    }
+
+    /// The first (0) or second (1) value of a node, if it was filled.
+    pub fn value(&self, p: &mut OrcPass<D>, h: &Held, which: u32) -> u64
+        requires pass { IsPassOf self.now p.old }
+        requires held { Holds (seat_of self.now p.old).slots h.now }
+        requires which { which < 2 }
+        ensures pass { IsPassOf self.now p.new }
+        ensures later { IsPrefix (journal_of p.old) (journal_of p.new) }
+        ensures value { ReadsValue (run_heap (domain_numbers self.now) (seat_of self.now p.new).seen)
+            (id_in (seat_of self.now p.old).slots h.now) which result }
+        ensures nothing { Only [] (seat_of self.now p.old) (seat_of self.now p.new) }
+    {
+        self.board.read(&mut p.pass, h.row(), which)
+    }
+}
