@@ -5,4 +5,5 @@ pub mod Reading
 pub mod Seats
 pub mod Setting
 pub mod Stages
+pub mod Testing
 pub mod Untouched

@@ -75,7 +75,7 @@ module _ {D N : Type 0} where
       abbrev pub its_step : Step N
       its_step = step_of s.view.agent q note
 
-      whole_lawful : IsLawfulJournal (new_machine (bounds_in k)) (before ++ its_step ∷ [])
+      pub whole_lawful : IsLawfulJournal (new_machine (bounds_in k)) (before ++ its_step ∷ [])
       whole_lawful = subst (IsLawfulJournal (new_machine (bounds_in k))) m.journal t.lawful
 
       pub before_lawful : IsLawfulJournal (new_machine (bounds_in k)) before
