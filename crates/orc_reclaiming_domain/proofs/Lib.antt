@@ -1,6 +1,8 @@
 pub mod Held
 pub mod Loading
+pub mod Looking
 pub mod Making
+pub mod Protecting
 pub mod Reading
 pub mod Seats
 pub mod Setting

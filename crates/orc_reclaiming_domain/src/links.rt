@@ -3,16 +3,17 @@
 ghost use Rattle.std.specs.Prelude.{◌≡◌, ◌<◌, []};
 ghost use mathlib.Core.List.{IsPrefix};
 ghost use Rattle.orc_heap.specs.Allowed.{AllowedLater};
-ghost use Rattle.orc_heap.specs.Calls.{ReadsValue, Tests, look_of};
+ghost use Rattle.orc_heap.specs.Calls.{Looks, ReadsValue, Tests, look_of};
 ghost use Rattle.orc_heap.specs.Journals.{run_heap};
 ghost use Rattle.orc_heap.specs.OwnEvents.{Only};
 ghost use Rattle.orc_heap.specs.Seats.{HoldsPlace, HoldsWant, link_in, place_in};
-ghost use Rattle.orc_heap.specs.Slots.{Holds, id_in};
+ghost use Rattle.orc_heap.specs.Slots.{Holds, IsFree, id_in};
+ghost use Rattle.orc_reclaiming_domain.specs.OwnSteps.{LeavesNothing};
 ghost use Rattle.orc_reclaiming_domain.specs.Passes.{IsPassOf, domain_numbers, journal_of, seat_of};
 
 use crate::domain::{OrcDomain, OrcPass};
 use orc_domain::{row_link, word_at};
-use orc_heap::{At, Discipline, Held, Want};
+use orc_heap::{At, Discipline, Held, Looked, Seen, Want};
 use orc_words::pack_link;
 
 impl<D: Discipline> OrcDomain<D> {
@@ -21,6 +22,43 @@ impl<D: Discipline> OrcDomain<D> {
         ensures { result ≡ (seat_of self.now p.now).agent }
     {
         p.pass.agent()
+    }
+
+    /// One try of a protected load: reads the link, protects its target in this slot, and reads the link again. Where the
+    /// link moved, it takes in what was handed over beside the slot meanwhile.
+    pub fn look(&self, p: &mut OrcPass<D>, place: &At, slot: u32) -> Looked
+        requires pass { IsPassOf self.now p.old }
+        requires place { HoldsPlace (domain_numbers self.now).roots (seat_of self.now p.old).slots place.now }
+        requires slot { IsFree (seat_of self.now p.old).slots slot }
+        ensures pass { IsPassOf self.now p.new }
+        ensures later { IsPrefix (journal_of p.old) (journal_of p.new) }
+        ensures looked { Looks (place_in (seat_of self.now p.old).slots place.now) slot (seat_of self.now p.old) result (seat_of self.now p.new) }
+        ensures taken_in { LeavesNothing (seat_of self.now p.old).agent (journal_of p.old) (journal_of p.new) }
+    {
+        let word = word_at(place);
+        let one = self.load(&mut p.pass, word, None);
+        let Some(row) = one.to else {
+            return Looked::Stable(
+                Seen {
+                    null: true,
+                    mark: one.mark,
+                },
+                None,
+            );
+        };
+        self.board.publish(&mut p.pass, slot, row);
+        let two = self.load(&mut p.pass, word, Some(slot));
+        if two != one {
+            self.unlock(&mut p.pass, slot);
+            return Looked::Moved;
+        }
+        Looked::Stable(
+            Seen {
+                null: false,
+                mark: one.mark,
+            },
+            Some(Held::new(row, slot)),
+        )
     }
 
     /// One load: whether the link is this one. Then the note stands in the journal at this load.
