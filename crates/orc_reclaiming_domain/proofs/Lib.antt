@@ -1,11 +1,17 @@
+pub mod Gates
+pub mod Giving
 pub mod Held
 pub mod Loading
 pub mod Looking
 pub mod Making
 pub mod Protecting
 pub mod Reading
+pub mod Rounds
+pub mod Searching
 pub mod Seats
 pub mod Setting
 pub mod Stages
+pub mod Taking
 pub mod Testing
+pub mod Trying
 pub mod Untouched

@@ -2,4 +2,5 @@ pub mod Calls
 pub mod Causes
 pub mod OwnSteps
 pub mod Passes
+pub mod Searches
 pub mod Seats

@@ -2,6 +2,7 @@
 #![tactic(auto)]
 
 mod domain;
+mod give;
 mod links;
 mod make;
 mod steps;
