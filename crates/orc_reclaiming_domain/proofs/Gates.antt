@@ -6,7 +6,7 @@ use Rattle.orc_core.specs.Machine.{Machine, is_allowed, new_machine, step, word_
 use Rattle.orc_core.specs.Runs.{run}
 use Rattle.orc_core.specs.declared.ops.Op.{Op}
 use Rattle.orc_sound.proofs.Journals.{IsLawfulJournal-append}
-use Rattle.orc_machine_board.specs.Laws.{bounds_run, run_next}
+use Rattle.orc_machine_board.specs.Laws.Steps.{bounds_run, run_next}
 use Rattle.orc_machine_board.specs.Rules.{run_of}
 use Rattle.orc_sound.proofs.AllFits.{AllFits, allowed_step, run_fits}
 use Rattle.orc_sound.proofs.Bridge.{world_step}

@@ -20,7 +20,7 @@ use Rattle.orc_heap.specs.Acts.{with_value}
 use Rattle.orc_heap.specs.Allowed.{AllAllowed, events_by}
 use Rattle.orc_heap.specs.Calls.{Gives, given_node}
 use Rattle.orc_heap.specs.Heap.{Node, new_node}
-use Rattle.orc_heap.specs.Journals.{points_to, run_heap}
+use Rattle.orc_heap.specs.Journals.{event_by, points_to, run_heap}
 use Rattle.orc_heap.specs.OwnEvents.{Only, Puts}
 use Rattle.orc_heap.specs.Seats.{IsUntouched}
 use Rattle.orc_heap.specs.Slots.{Hold, IsFree}
@@ -28,7 +28,7 @@ use Rattle.orc_heap.specs.declared.discipline.Discipline as discipline
 use Rattle.orc_heap.specs.declared.events.Act.TheVariants.{Fill, Give}
 use Rattle.orc_heap.specs.declared.events.Event.{Event}
 use Rattle.orc_machine_board.specs.Kinds.{MayDo, asks}
-use Rattle.orc_machine_board.specs.Licences.{ids_of, own_event}
+use Rattle.orc_machine_board.specs.Licences.{ids_of}
 use Rattle.orc_machine_board.specs.Rules.{bounds_in, heap_numbers, step_of}
 use Rattle.orc_machine_board.specs.declared.machine.MachineShape.{MachineShape}
 use Rattle.orc_projection.proofs.Mirrored.{ids-append}
@@ -61,7 +61,7 @@ fill_may b a d r which v h calm its low two =
 module _ {D N : Type 0} {d : discipline.Ghosts D N} {k : MachineShape N} where
   -- a fill of the fresh row
   pub fill_only : (s t : Stage d k) (r which value n : ℕ) → Steps (FillStep r which value) s n t → names s.view.record_is.fresh r ≡ true
-      → Only (own_event s.view (Fill ((ids_of (bounds_in k) s.view).node r) which value) None ∷ []) (seat s) (seat t) × ((ids_of (bounds_in k) t.view).node r ≡ (ids_of (bounds_in k) s.view).node r)
+      → Only (event_by s.view.agent (Fill ((ids_of (bounds_in k) s.view).node r) which value) None ∷ []) (seat s) (seat t) × ((ids_of (bounds_in k) t.view).node r ≡ (ids_of (bounds_in k) s.view).node r)
   fill_only s t r which value n m fresh =
       let b = bounds_in k in
       let q = asks (FillStep r which value) in
@@ -69,7 +69,7 @@ module _ {D N : Type 0} {d : discipline.Ghosts D N} {k : MachineShape N} where
       let kept = ids_keep q None s t n m r (or_right (any_holds s.view.record_is.slots r) (names s.view.record_is.fresh r) fresh) in
       let ids : (ids_of b t.view).node r ≡ (present_ids b (s.view.journal ++ m.met)).node r = ap (λ z. (present_ids b z).node r) m.journal
       ∙ ap (λ (p : PresentIds). p.node r) (ids-append (new_machine b) no_ids (s.view.journal ++ m.met) (x ∷ [])) in (
-        subst (λ id. Only (own_event s.view (Fill id which value) None ∷ []) (seat s) (seat t)) (sym ids ∙ kept)
+        subst (λ id. Only (event_by s.view.agent (Fill id which value) None ∷ []) (seat s) (seat t)) (sym ids ∙ kept)
             (only q None s t n m (ap (λ (e : Agent). e.slots) m.record_is) (ap (λ (e : Agent). e.fresh) m.record_is)),
         kept,
       )
@@ -113,7 +113,7 @@ module _ {D N : Type 0} {d : discipline.Ghosts D N} {k : MachineShape N} where
       pub second_can : (second : ℕ) → MayDo (bounds_in k) u.view (FillStep r 1 second)
       second_can second = fill_may (bounds_in k) u.view.agent u.view.record_is r 1 second u.number (ready_calm u.view.record_is ready2) fresh2 low (omega arith)
 
-      one : Only (own_event t.view (Fill id 0 first) None ∷ []) (seat t) (seat u) × ((ids_of (bounds_in k) u.view).node r ≡ id)
+      one : Only (event_by t.view.agent (Fill id 0 first) None ∷ []) (seat t) (seat u) × ((ids_of (bounds_in k) u.view).node r ≡ id)
       one = fill_only t u r 0 first n1 m1 fresh1
 
       module _ (v : Stage d k) (second n2 : ℕ) (m2 : Steps (FillStep r 1 second) u n2 v) (slot : ℕ) (free : IsFree (seat s).slots slot) where
@@ -131,7 +131,7 @@ module _ {D N : Type 0} {d : discipline.Ghosts D N} {k : MachineShape N} where
         pub publish_can : MayDo (bounds_in k) v.view (Publish slot r)
         publish_can = publish_may (bounds_in k) v.view.agent v.view.record_is slot r v.number (ready_calm v.view.record_is ready3) low free.above free.below empty
 
-        two : Only (own_event u.view (Fill ((ids_of (bounds_in k) u.view).node r) 1 second) None ∷ []) (seat u) (seat v) × ((ids_of (bounds_in k) v.view).node r ≡ (ids_of (bounds_in k) u.view).node r)
+        two : Only (event_by u.view.agent (Fill ((ids_of (bounds_in k) u.view).node r) 1 second) None ∷ []) (seat u) (seat v) × ((ids_of (bounds_in k) v.view).node r ≡ (ids_of (bounds_in k) u.view).node r)
         two = fill_only u v r 1 second n2 m2 fresh2
 
         module _ (w : Stage d k) (n3 : ℕ) (m3 : Steps (Publish slot r) v n3 w) where
@@ -150,8 +150,8 @@ module _ {D N : Type 0} {d : discipline.Ghosts D N} {k : MachineShape N} where
           both : Puts (seat t) fills (seat w)
           both = subst (λ (z : ℕ × ℕ × ℕ). Puts (seat t) (record { agent = z.0; act = Fill id 0 first; note = None } ∷ record { agent = z.1; act = Fill z.2 1 second; note = None } ∷ []) (seat w))
               (λ i. (agent i, (m1.agent ∙ agent) i, one.1 i))
-              (Puts-trans (seat t) (seat u) (seat w) (own_event t.view (Fill id 0 first) None ∷ []) (own_event u.view (Fill ((ids_of (bounds_in k) u.view).node r) 1 second) None ∷ []) one.0.puts
-              (Puts-trans (seat u) (seat v) (seat w) (own_event u.view (Fill ((ids_of (bounds_in k) u.view).node r) 1 second) None ∷ []) [] two.0.puts three.puts))
+              (Puts-trans (seat t) (seat u) (seat w) (event_by t.view.agent (Fill id 0 first) None ∷ []) (event_by u.view.agent (Fill ((ids_of (bounds_in k) u.view).node r) 1 second) None ∷ []) one.0.puts
+              (Puts-trans (seat u) (seat v) (seat w) (event_by u.view.agent (Fill ((ids_of (bounds_in k) u.view).node r) 1 second) None ∷ []) [] two.0.puts three.puts))
 
           -- only the two fills change the node
           node : slice_get (run_heap (heap_numbers k) (seat w).seen).nodes id ≡ Some (given_node s.view.agent first second)
@@ -176,7 +176,7 @@ module _ {D N : Type 0} {d : discipline.Ghosts D N} {k : MachineShape N} where
             slot_is = refl;
             slots = three.slots ∙ (λ i. slice_set ((two.0.slots ∙ (one.0.slots ∙ got.slots)) i) slot (Some (record { row = r; id = kept3 i })));
             fresh = three.fresh ∙ (two.0.fresh ∙ (one.0.fresh ∙ ap (option_map (ids_of (bounds_in k) t.view).node) got.same.fresh));
-            puts = Puts-trans (seat s) (seat t) (seat w) (own_event s.view Give None ∷ []) fills got.puts both;
+            puts = Puts-trans (seat s) (seat t) (seat w) (event_by s.view.agent Give None ∷ []) fills got.puts both;
             node = node;
           }
 

@@ -22,7 +22,7 @@ use Rattle.orc_heap.specs.declared.holds.Want.TheVariants.{Node as WantNode, Nul
 use Rattle.orc_machine_board.proofs.Holds.{has_out}
 use Rattle.orc_machine_board.proofs.Licences.{has_either}
 use Rattle.orc_machine_board.specs.Holding.{HasRow}
-use Rattle.orc_machine_board.specs.Laws.{bounds_run, in_range}
+use Rattle.orc_machine_board.specs.Laws.Steps.{bounds_run, in_range}
 use Rattle.orc_machine_board.specs.Licences.{ids_of}
 use Rattle.orc_machine_board.specs.Rules.{bounds_in, heap_numbers, run_of}
 use Rattle.orc_machine_board.specs.declared.machine.MachineShape.{MachineShape}
@@ -35,7 +35,7 @@ use Rattle.orc_reclaiming_domain.proofs.Stages.{Stage, seat}
 use Rattle.orc_reclaiming_domain.specs.Seats.{IsReady, slot_by}
 use Rattle.orc_words.specs.Bounds.{Bounds}
 
-slot_at : (slots : List SlotUse) (k r : ℕ) → slice_get slots k ≡ Some (Held r) → slice_index_or slots k Empty ≡ Held r
+pub slot_at : (slots : List SlotUse) (k r : ℕ) → slice_get slots k ≡ Some (Held r) → slice_index_or slots k Empty ≡ Held r
 slot_at [] k r e = cc
 slot_at (s ∷ ss) zero r e = cc
 slot_at (s ∷ ss) (suc k) r e = slot_at ss k r e

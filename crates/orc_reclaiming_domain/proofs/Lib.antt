@@ -1,11 +1,14 @@
+pub mod Filling
 pub mod Gates
 pub mod Giving
 pub mod Held
+pub mod Learning
 pub mod Loading
 pub mod Looking
 pub mod Making
 pub mod Protecting
 pub mod Reading
+pub mod Releasing
 pub mod Rounds
 pub mod Searching
 pub mod Seats

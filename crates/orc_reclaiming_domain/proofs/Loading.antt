@@ -10,6 +10,7 @@ use Rattle.orc_core.specs.Machine.{is_allowed, new_machine, record_at, word_in, 
 use Rattle.orc_core.specs.RecordParts.{any_holds, names}
 use Rattle.orc_core.specs.declared.ops.Op.TheVariants.{LinkLoad}
 use Rattle.orc_core.specs.declared.records.Agent.{Agent}
+use Rattle.orc_heap.specs.Journals.{event_by}
 use Rattle.orc_heap.specs.OwnEvents.{Only}
 use Rattle.orc_heap.specs.declared.discipline.Discipline as discipline
 use Rattle.orc_heap.specs.declared.events.Act.TheVariants.{Look}
@@ -17,8 +18,8 @@ use Rattle.orc_heap.specs.declared.events.Event.{Event}
 use Rattle.orc_heap.specs.declared.events.Place.{Place}
 use Rattle.orc_machine_board.proofs.Licences.{load_has, same_place}
 use Rattle.orc_machine_board.specs.Kinds.{MayDo, asks, wants}
-use Rattle.orc_machine_board.specs.Laws.{allowed_there, in_range}
-use Rattle.orc_machine_board.specs.Licences.{ids_of, own_event}
+use Rattle.orc_machine_board.specs.Laws.Steps.{allowed_there, in_range}
+use Rattle.orc_machine_board.specs.Licences.{ids_of}
 use Rattle.orc_machine_board.specs.Rules.{RequestAllowed, bounds_in, run_of, step_of}
 use Rattle.orc_machine_board.specs.Views.{Makes}
 use Rattle.orc_machine_board.specs.declared.machine.MachineShape.{MachineShape}
@@ -120,12 +121,12 @@ module _ {D N : Type 0} {d : discipline.Ghosts D N} {k : MachineShape N} (s t : 
     (m : Makes (bounds_in k) (asks (LinkLoad w slot)) None s.view n t.view) (can : MayDo (bounds_in k) s.view (LinkLoad w slot)) where
   -- the event of a bare load: the link, as the pass then reads its row, is what the place shows
   pub look_event : (x : Place) → node_place (ids_of (bounds_in k) s.view) w ≡ Some x
-      → step_events (asks (LinkLoad w slot)) None s t n m ≡ own_event s.view (Look x (node_link (ids_of (bounds_in k) t.view) (link_of n))) None ∷ []
+      → step_events (asks (LinkLoad w slot)) None s t n m ≡ event_by s.view.agent (Look x (node_link (ids_of (bounds_in k) t.view) (link_of n))) None ∷ []
   look_event x at = load_events s t w slot None None n m can tt x at
-      ∙ ap (λ (p : PresentIds). own_event s.view (Look x (node_link p (link_of n))) None ∷ []) (sym (ids_same s t w slot None None n m can tt))
+      ∙ ap (λ (p : PresentIds). event_by s.view.agent (Look x (node_link p (link_of n))) None ∷ []) (sym (ids_same s t w slot None None n m can tt))
 
   pub looks_at : (x : Place) → node_place (ids_of (bounds_in k) s.view) w ≡ Some x → slot ≡ None
-      → Only (own_event s.view (Look x (node_link (ids_of (bounds_in k) t.view) (link_of n))) None ∷ []) (seat s) (seat t)
+      → Only (event_by s.view.agent (Look x (node_link (ids_of (bounds_in k) t.view) (link_of n))) None ∷ []) (seat s) (seat t)
   looks_at x at bare =
       let bare_slots : t.view.record_is.slots ≡ s.view.record_is.slots = ap (λ (e : Agent). e.slots) m.record_is
       ∙ ap (λ z. promoted_at z s.view.record_is.slots (word_read (run_of (bounds_in k) (s.view.journal ++ m.met)) s.view.agent (LinkLoad w slot))) bare in

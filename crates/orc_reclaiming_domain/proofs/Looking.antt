@@ -20,7 +20,7 @@ use Rattle.orc_heap.proofs.Stays.{allowed-left, allowed-right}
 use Rattle.orc_heap.specs.Allowed.{AllAllowed}
 use Rattle.orc_heap.specs.Calls.{Looks}
 use Rattle.orc_heap.specs.Heap.{Node}
-use Rattle.orc_heap.specs.Journals.{points_to, run_heap}
+use Rattle.orc_heap.specs.Journals.{event_by, points_to, run_heap}
 use Rattle.orc_heap.specs.OwnEvents.{Only, Puts}
 use Rattle.orc_heap.specs.Seats.{HoldsPlace, IsUntouched, place_in}
 use Rattle.orc_heap.specs.Slots.{Hold, IsFree}
@@ -34,8 +34,8 @@ use Rattle.orc_heap.specs.declared.holds.Looked.TheVariants.{Moved, Stable}
 use Rattle.orc_machine_board.proofs.Licences.{load_has, same_place, signed}
 use Rattle.orc_machine_board.specs.Holding.{HasRow}
 use Rattle.orc_machine_board.specs.Kinds.{MayDo, asks}
-use Rattle.orc_machine_board.specs.Laws.{bounds_run, counted_obeys, in_range}
-use Rattle.orc_machine_board.specs.Licences.{ids_of, own_event}
+use Rattle.orc_machine_board.specs.Laws.Steps.{bounds_run, counted_obeys, in_range}
+use Rattle.orc_machine_board.specs.Licences.{ids_of}
 use Rattle.orc_machine_board.specs.Rules.{bounds_in, counted_rules, heap_numbers, run_of, step_of}
 use Rattle.orc_machine_board.specs.declared.machine.MachineShape.{MachineShape}
 use Rattle.orc_projection.proofs.Links.{names-some}
@@ -92,8 +92,8 @@ module _ {D N : Type 0} {d : discipline.Ghosts D N} {k : MachineShape N} {s : St
     abbrev j1 : List (Step N)
     j1 = s.view.journal ++ m1.met
 
-    first : Only (own_event s.view (Look x (node_link (ids_of b t.view) one)) None ∷ []) (seat s) (seat t)
-    first = subst (λ l. Only (own_event s.view (Look x (node_link (ids_of b t.view) l)) None ∷ []) (seat s) (seat t)) is1
+    first : Only (event_by s.view.agent (Look x (node_link (ids_of b t.view) one)) None ∷ []) (seat s) (seat t)
+    first = subst (λ l. Only (event_by s.view.agent (Look x (node_link (ids_of b t.view) l)) None ∷ []) (seat s) (seat t)) is1
         (looks_at s t w None (link_word one) m1 load_can x there refl)
 
     loaded_same : SameParts s.view.record_is t.view.record_is
@@ -117,7 +117,7 @@ module _ {D N : Type 0} {d : discipline.Ghosts D N} {k : MachineShape N} {s : St
       tells = (
         refl,
         first.slots,
-        subst (λ (o : Option ℕ). Puts (seat s) (own_event s.view (Look x (record { to = o; mark = one.mark })) None ∷ []) (seat t))
+        subst (λ (o : Option ℕ). Puts (seat s) (event_by s.view.agent (Look x (record { to = o; mark = one.mark })) None ∷ []) (seat t))
             (ap (option_map (ids_of b t.view).node) none) first.puts,
       );
     }
@@ -237,7 +237,7 @@ module _ {D N : Type 0} {d : discipline.Ghosts D N} {k : MachineShape N} {s : St
               (subst (λ (z : List SlotUse × Option ℕ). (any_holds z.0 q || names z.1 q) ≡ true) (λ i. (sym loaded_same.slots i, sym loaded_same.fresh i)) h) in
               same_place (ids_of b s.view) (ids_of b u.view) s.view.record_is (λ q h. stays2 q h ∙ stays1 q h) w has ∙ there
 
-          third : SetsSlot (own_event s.view (Look x (node_link (ids_of b y.view) two)) None ∷ []) slot (slot_by (ids_of b y.view) held_by) (seat u) (seat y)
+          third : SetsSlot (event_by s.view.agent (Look x (node_link (ids_of b y.view) two)) None ∷ []) slot (slot_by (ids_of b y.view) held_by) (seat u) (seat y)
           third =
               let set = sets (asks (LinkLoad w (Some slot))) None u y (link_word two) m3 slot held_by slots3 (ap (λ (e : Agent). e.fresh) m3.record_is) in
               let event = look_event u y w (Some slot) (link_word two) m3 reload_can x there2 in
@@ -245,12 +245,12 @@ module _ {D N : Type 0} {d : discipline.Ghosts D N} {k : MachineShape N} {s : St
               (event ∙ (λ i. record { agent = agent2 i; act = Look x (node_link (ids_of b y.view) (is3 i)); note = None } ∷ [])) set
 
           abbrev own : List (Event N)
-          own = own_event s.view (Look x (node_link (ids_of b t.view) one)) None ∷ own_event s.view (Look x (node_link (ids_of b y.view) two)) None ∷ []
+          own = event_by s.view.agent (Look x (node_link (ids_of b t.view) one)) None ∷ event_by s.view.agent (Look x (node_link (ids_of b y.view) two)) None ∷ []
 
           both : Puts (seat s) own (seat y)
-          both = Puts-trans (seat s) (seat t) (seat y) (own_event s.view (Look x (node_link (ids_of b t.view) one)) None ∷ [])
-              (own_event s.view (Look x (node_link (ids_of b y.view) two)) None ∷ []) first.puts
-              (Puts-trans (seat t) (seat u) (seat y) [] (own_event s.view (Look x (node_link (ids_of b y.view) two)) None ∷ []) second.puts third.puts)
+          both = Puts-trans (seat s) (seat t) (seat y) (event_by s.view.agent (Look x (node_link (ids_of b t.view) one)) None ∷ [])
+              (event_by s.view.agent (Look x (node_link (ids_of b y.view) two)) None ∷ []) first.puts
+              (Puts-trans (seat t) (seat u) (seat y) [] (event_by s.view.agent (Look x (node_link (ids_of b y.view) two)) None ∷ []) second.puts third.puts)
 
           not_null : (node_link (ids_of b t.view) one).to ≢ None
           not_null e = let some : Some ((ids_of b t.view).node r) ≡ None = sym (ap (option_map (ids_of b t.view).node) to) ∙ e in cc
@@ -275,7 +275,7 @@ module _ {D N : Type 0} {d : discipline.Ghosts D N} {k : MachineShape N} {s : St
                 refl,
                 refl,
                 third.slots ∙ (λ i. slice_set ((second.slots ∙ first.slots) i) slot (slot_by (ids_of b y.view) (held i))),
-                subst (λ (l : Link). Puts (seat s) (own_event s.view (Look x (node_link (ids_of b t.view) one)) None ∷ own_event s.view (Look x l) None ∷ []) (seat y))
+                subst (λ (l : Link). Puts (seat s) (event_by s.view.agent (Look x (node_link (ids_of b t.view) one)) None ∷ event_by s.view.agent (Look x l) None ∷ []) (seat y))
                     (ap (node_link (ids_of b y.view)) same ∙ ap (λ (o : Option ℕ). record { to = o; mark = one.mark }) (ap (option_map (ids_of b y.view).node) to)) both,
               );
             }

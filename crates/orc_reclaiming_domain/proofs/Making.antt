@@ -11,11 +11,11 @@ use Rattle.orc_heap.specs.Seeds.{SeedAllowed, opening_events}
 use Rattle.orc_heap.specs.declared.discipline.Discipline as discipline
 use Rattle.orc_heap.specs.declared.seed.Seed.{Seed}
 use Rattle.orc_machine_board.proofs.Opening.{opened_events, seed_roots}
-use Rattle.orc_machine_board.specs.Laws.{in_range}
+use Rattle.orc_machine_board.specs.Laws.Steps.{in_range}
 use Rattle.orc_machine_board.specs.Licences.{ids_of}
 use Rattle.orc_machine_board.specs.Passes.{HasNothing}
 use Rattle.orc_machine_board.specs.Rules.{machine_opening}
-use Rattle.orc_machine_board.specs.Views.{Belongs, EachFrom, shows}
+use Rattle.orc_machine_board.specs.Views.{Belongs, shows}
 use Rattle.orc_machine_board.specs.declared.board.MachineBoardPass.{MachineBoardPass}
 use Rattle.orc_machine_board.specs.declared.machine.MachineShape.{MachineShape}
 use Rattle.orc_machine_board.specs.declared.machine.Reclaiming.{Reclaiming}
@@ -26,7 +26,7 @@ use Rattle.orc_reclaiming_domain.specs.Passes.{IsPassOf, domain_bounds, seat_of}
 use Rattle.orc_reclaiming_domain.specs.Seats.{IsReady, slot_by}
 use Rattle.orc_reclaiming_domain.specs.declared.domain.OrcDomain.{OrcDomain}
 use Rattle.orc_reclaiming_domain.specs.declared.domain.OrcPass.{OrcPass}
-use Rattle.orc_shared_words.specs.Lists.{EachAt}
+use Rattle.orc_shared_words.specs.Lists.{EachAt, EachFrom}
 use Rattle.orc_shared_words.specs.declared.machine.Machine as machine
 use Rattle.orc_sound.specs.declared.steps.Step.{Step}
 use Rattle.orc_words.specs.Bounds.{Bounds, bounds_of}

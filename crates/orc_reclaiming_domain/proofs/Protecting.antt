@@ -15,7 +15,7 @@ use Rattle.orc_core.specs.declared.records.Agent.{Agent}
 use Rattle.orc_core.specs.declared.records.SlotUse.{SlotUse}
 use Rattle.orc_core.specs.declared.records.SlotUse.TheVariants.{Empty, Held, Published}
 use Rattle.orc_heap.specs.Journals.{run_heap}
-use Rattle.orc_machine_board.specs.Laws.{bounds_run}
+use Rattle.orc_machine_board.specs.Laws.Steps.{bounds_run}
 use Rattle.orc_machine_board.specs.Rules.{run_of}
 use Rattle.orc_projection.proofs.Mirrored.{projection_mirrors}
 use Rattle.orc_projection.specs.Mirror.{IsNamed, numbers_of}

@@ -14,7 +14,7 @@ use Rattle.orc_heap.specs.Slots.{Hold, Holds, id_in}
 use Rattle.orc_heap.specs.declared.discipline.Discipline as discipline
 use Rattle.orc_heap.specs.declared.events.Event.{Event}
 use Rattle.orc_machine_board.specs.Kinds.{MayDo, asks}
-use Rattle.orc_machine_board.specs.Laws.{counted_obeys, in_range}
+use Rattle.orc_machine_board.specs.Laws.Steps.{counted_obeys, in_range}
 use Rattle.orc_machine_board.specs.Rules.{bounds_in, heap_numbers, run_of}
 use Rattle.orc_machine_board.specs.declared.machine.MachineShape.{MachineShape}
 use Rattle.orc_projection.proofs.Mirrored.{projection_mirrors}

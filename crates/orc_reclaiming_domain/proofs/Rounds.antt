@@ -12,13 +12,13 @@ use Rattle.orc_heap.specs.Allowed.{events_by}
 use Rattle.orc_heap.specs.Moves.{gives_in}
 use Rattle.orc_heap.proofs.Calls.{Puts-trans}
 use Rattle.orc_heap.specs.Heap.{new_node}
-use Rattle.orc_heap.specs.Journals.{run_heap}
+use Rattle.orc_heap.specs.Journals.{event_by, run_heap}
 use Rattle.orc_heap.specs.OwnEvents.{Puts}
 use Rattle.orc_heap.specs.declared.events.Act.TheVariants.{Give}
 use Rattle.orc_heap.specs.declared.events.Event.{Event}
 use Rattle.orc_projection.specs.Mirror.{numbers_of}
 use Rattle.orc_domain.proofs.Counting.{nodes_stay}
-use Rattle.orc_machine_board.specs.Licences.{ids_of, own_event}
+use Rattle.orc_machine_board.specs.Licences.{ids_of}
 use Rattle.orc_reclaiming_domain.specs.Seats.{seat_by}
 use Rattle.orc_history.specs.Journals.{own_of}
 use Rattle.orc_history.specs.Parts.{InPart, part_begin}
@@ -28,7 +28,7 @@ use Rattle.orc_heap.specs.declared.discipline.Discipline as discipline
 use Rattle.orc_reclaiming_domain.proofs.Stages.{Stage}
 use Rattle.orc_reclaiming_domain.proofs.Searching.{found_grows, found_since, idle_none, idle_trans}
 use Rattle.orc_reclaiming_domain.specs.Causes.{IsLacking, IsOfDomain}
-use Rattle.orc_machine_board.specs.Laws.{counted_obeys, in_range}
+use Rattle.orc_machine_board.specs.Laws.Steps.{counted_obeys, in_range}
 use Rattle.orc_machine_board.specs.Rules.{bounds_in, counted_rules}
 use Rattle.orc_reclaiming_domain.specs.Searches.{Fails, Found, Gets, Idles, Tries}
 use Rattle.orc_machine_board.specs.Views.{MachineView}
@@ -113,7 +113,7 @@ module _ {N : Type 0} where
       doom = q.same.doom ∙ p.idle.same.doom;
     };
     slots = q.slots ∙ p.idle.only.slots;
-    puts = Puts-trans (seat_by b s) (seat_by b t) (seat_by b u) [] (own_event s Give None ∷ []) p.idle.only.puts (subst (λ z. Puts (seat_by b t) (record { agent = z; act = Give; note = None } ∷ []) (seat_by b u)) p.idle.only.puts.agent q.puts);
+    puts = Puts-trans (seat_by b s) (seat_by b t) (seat_by b u) [] (event_by s.agent Give None ∷ []) p.idle.only.puts (subst (λ z. Puts (seat_by b t) (record { agent = z; act = Give; note = None } ∷ []) (seat_by b u)) p.idle.only.puts.agent q.puts);
     new =
         let e = nodes_stay (numbers_of b) (seat_by b s).seen p.idle.only.puts.part in
         let same = ap (λ l. length (run_heap (numbers_of b) l).nodes) p.idle.only.puts.is in

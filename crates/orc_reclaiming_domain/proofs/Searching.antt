@@ -26,7 +26,7 @@ use Rattle.orc_reclaiming_domain.proofs.Stages.{Stage, seat}
 use Rattle.orc_heap.specs.declared.discipline.Discipline as discipline
 use Rattle.orc_reclaiming_domain.specs.Causes.{IsSpentFree, IsTaken}
 use Rattle.orc_machine_board.specs.Kinds.{MakesPlain, asks}
-use Rattle.orc_machine_board.specs.Laws.{in_range}
+use Rattle.orc_machine_board.specs.Laws.Steps.{in_range}
 use Rattle.orc_machine_board.specs.Rules.{bounds_in, events_after, run_of, step_of}
 use Rattle.orc_reclaiming_domain.specs.Calls.{SameParts}
 use Rattle.orc_reclaiming_domain.specs.Searches.{Fails, Found, Idles}

@@ -21,7 +21,7 @@ use Rattle.orc_heap.specs.declared.events.Event.{Event}
 use Rattle.orc_machine_board.proofs.Holds.{node_stays, out_stays}
 use Rattle.orc_machine_board.proofs.Licences.{has_either, signed}
 use Rattle.orc_machine_board.specs.Holding.{HasRow}
-use Rattle.orc_machine_board.specs.Laws.{counted_obeys, in_range}
+use Rattle.orc_machine_board.specs.Laws.Steps.{counted_obeys, in_range}
 use Rattle.orc_machine_board.specs.Licences.{ids_of}
 use Rattle.orc_machine_board.specs.Rules.{bounds_in, counted_rules, events_after, run_of, step_of}
 use Rattle.orc_machine_board.specs.Views.{Makes}

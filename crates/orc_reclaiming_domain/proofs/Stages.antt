@@ -12,7 +12,7 @@ use Rattle.orc_history.specs.Journals.{own_of}
 use Rattle.orc_machine_board.proofs.Holds.{has_out, record_stays}
 use Rattle.orc_machine_board.specs.Holding.{HasRow}
 use Rattle.orc_machine_board.specs.Kinds.{MakesPlain}
-use Rattle.orc_machine_board.specs.Laws.{in_range}
+use Rattle.orc_machine_board.specs.Laws.Steps.{in_range}
 use Rattle.orc_machine_board.specs.Rules.{bounds_in, heap_numbers, run_of, step_of}
 use Rattle.orc_machine_board.specs.Views.{Keeps, MachineView, Makes, view_of}
 use Rattle.orc_machine_board.specs.declared.machine.MachineShape.{MachineShape}

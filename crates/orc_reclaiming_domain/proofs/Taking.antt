@@ -7,15 +7,15 @@ use Rattle.orc_core.specs.declared.records.Agent.{Agent}
 use Rattle.orc_domain.proofs.Counting.{nodes_stay}
 use Rattle.orc_heap.proofs.Runs.{run_heap-snoc}
 use Rattle.orc_heap.specs.Heap.{Heap, Node, new_node}
-use Rattle.orc_heap.specs.Journals.{run_heap}
+use Rattle.orc_heap.specs.Journals.{event_by, run_heap}
 use Rattle.orc_heap.specs.OwnEvents.{Puts}
 use Rattle.orc_heap.specs.declared.discipline.Discipline as discipline
 use Rattle.orc_heap.specs.declared.events.Act.TheVariants.{Give}
 use Rattle.orc_heap.specs.declared.events.Event.{Event}
 use Rattle.orc_machine_board.proofs.Licences.{signed}
 use Rattle.orc_machine_board.specs.Kinds.{asks}
-use Rattle.orc_machine_board.specs.Laws.{counted_obeys, in_range}
-use Rattle.orc_machine_board.specs.Licences.{ids_of, own_event}
+use Rattle.orc_machine_board.specs.Laws.Steps.{counted_obeys, in_range}
+use Rattle.orc_machine_board.specs.Licences.{ids_of}
 use Rattle.orc_machine_board.specs.Rules.{bounds_in, counted_rules, heap_numbers, run_of, step_of}
 use Rattle.orc_machine_board.specs.declared.machine.MachineShape.{MachineShape}
 use Rattle.orc_projection.proofs.Mirrored.{ids-append, projection_mirrors}
@@ -38,7 +38,7 @@ module _ {D N : Type 0} {d : discipline.Ghosts D N} {k : MachineShape N} where
   -- what a take that succeeded tells: its node is the last one that was given
   pub record Takes (r : ℕ) (s t : Stage d k) : Type 0 where
     pub fresh : t.view.record_is.fresh ≡ Some r
-    pub puts : Puts (seat s) (own_event s.view Give None ∷ []) (seat t)
+    pub puts : Puts (seat s) (event_by s.view.agent Give None ∷ []) (seat t)
     pub node : slice_get (run_heap (heap_numbers k) (seat t).seen).nodes ((ids_of (bounds_in k) t.view).node r) ≡ Some (new_node s.view.agent)
     pub new : length (run_heap (heap_numbers k) (seat s).seen).nodes ≤ (ids_of (bounds_in k) t.view).node r
 
@@ -55,7 +55,7 @@ module _ {D N : Type 0} {d : discipline.Ghosts D N} {k : MachineShape N} where
     there : is_taken (record_at (run_of (bounds_in k) j) s.view.agent) w ≡ true
     there = subst (λ (e : Agent). is_taken e w ≡ true) (sym (before_record (asks (GateTake r)) None s t n m)) taken
 
-    gives : step_events (asks (GateTake r)) None s t n m ≡ own_event s.view Give None ∷ []
+    gives : step_events (asks (GateTake r)) None s t n m ≡ event_by s.view.agent Give None ∷ []
     gives = ap (λ (z : Bool). events_of (step_of s.view.agent (asks (GateTake r)) None) (if z then Some Give else None)) there
 
     ids : ids_of (bounds_in k) t.view ≡ with_taken r (present_ids (bounds_in k) j)
@@ -71,10 +71,10 @@ module _ {D N : Type 0} {d : discipline.Ghosts D N} {k : MachineShape N} where
         let p = present_ids b j in
         let mirror = projection_mirrors b j (in_range k.shape) (before_lawful q None s t n m) (before_unmarked q None s t n m) in
         let h = run_heap (heap_numbers k) (project b j) in
-        let events : project b t.view.journal ≡ project b j ++ own_event s.view Give None ∷ [] = ap (project b) m.journal
+        let events : project b t.view.journal ≡ project b j ++ event_by s.view.agent Give None ∷ [] = ap (project b) m.journal
         ∙ ((counted_obeys k).project_next j x ∙ ap (λ l. project b j ++ l) gives) in
         let heap : (run_heap (heap_numbers k) (project b t.view.journal)).nodes ≡ h.nodes ++ new_node s.view.agent ∷ [] =
-        ap (λ l. (run_heap (heap_numbers k) l).nodes) events ∙ ap (λ (g : Heap). g.nodes) (run_heap-snoc (heap_numbers k) (project b j) (own_event s.view Give None)) in
+        ap (λ l. (run_heap (heap_numbers k) l).nodes) events ∙ ap (λ (g : Heap). g.nodes) (run_heap-snoc (heap_numbers k) (project b j) (event_by s.view.agent Give None)) in
         let id : (ids_of b t.view).node r ≡ length h.nodes = ap (λ (z : PresentIds). z.node r) ids
         ∙ (ap (λ (z : Bool). if z then p.given else p.node r) (eq-eqb r r refl) ∙ sym mirror.given) in
         record {

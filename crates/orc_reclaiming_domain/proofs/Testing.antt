@@ -8,7 +8,7 @@ use Rattle.orc_core.specs.declared.records.Agent.{Agent}
 use Rattle.orc_domain.specs.Rows.{row_link, word_at}
 use Rattle.orc_heap.specs.Allowed.{AllowedLater}
 use Rattle.orc_heap.specs.Calls.{Misses, Tests, look_of}
-use Rattle.orc_heap.specs.Journals.{FitsAfter}
+use Rattle.orc_heap.specs.Journals.{FitsAfter, event_by}
 use Rattle.orc_heap.specs.OwnEvents.{Only, Puts}
 use Rattle.orc_heap.specs.Seats.{HoldsPlace, HoldsWant, link_in, place_in}
 use Rattle.orc_heap.specs.declared.discipline.Discipline as discipline
@@ -24,8 +24,8 @@ use Rattle.orc_machine_board.proofs.Events.{event_fits}
 use Rattle.orc_machine_board.proofs.Licences.{same_link}
 use Rattle.orc_machine_board.specs.Holding.{HasTarget}
 use Rattle.orc_machine_board.specs.Kinds.{MayDo, wants}
-use Rattle.orc_machine_board.specs.Laws.{in_range}
-use Rattle.orc_machine_board.specs.Licences.{LookAllowed, ids_of, own_event}
+use Rattle.orc_machine_board.specs.Laws.Steps.{in_range}
+use Rattle.orc_machine_board.specs.Licences.{LookAllowed, ids_of}
 use Rattle.orc_machine_board.specs.Rules.{bounds_in, heap_numbers, step_of}
 use Rattle.orc_machine_board.specs.Views.{Makes}
 use Rattle.orc_machine_board.specs.declared.machine.MachineShape.{MachineShape}
@@ -73,7 +73,7 @@ module _ {D N : Type 0} {d : discipline.Ghosts D N} {k : MachineShape N} (s : St
       let one : Some (place_in (seat s).slots at) ≡ Some place = sym (place_named p (bounds_in k).roots s.view.record_is.slots at there) ∙ is in
       let same : place_in (seat s).slots at ≡ place = cc in
       let link = link_named p s.view.record_is.slots w held in
-      subst (λ (z : Place × Link). AllowedLater (d.may (heap_numbers k)) (heap_numbers k) s.view.agent (seat s).seen z.0 z.1 (own_event s.view (Look z.0 z.1) note))
+      subst (λ (z : Place × Link). AllowedLater (d.may (heap_numbers k)) (heap_numbers k) s.view.agent (seat s).seen z.0 z.1 (event_by s.view.agent (Look z.0 z.1) note))
       (λ i. (same i, sym link i)) allowed
 
 module _ {D N : Type 0} {d : discipline.Ghosts D N} {k : MachineShape N} (s t : Stage d k) (at : At) (w : Want) (note : Option N) (n : ℕ)
@@ -118,14 +118,14 @@ module _ {D N : Type 0} {d : discipline.Ghosts D N} {k : MachineShape N} (s t : 
       let link : node_link (present_ids b j) (link_of n) ≡ link_in (seat s).slots w = ap (λ z. node_link (present_ids b j) (link_of z)) is
       ∙ (ap (node_link (present_ids b j)) (link_back (row_link w) (want_low s w held)) ∙ wanted) in
       let one : step_events q note s t n m ≡ look_of (seat s) at w note ∷ [] = events
-      ∙ (ap (λ z. events_of (step_of s.view.agent q note) (Some (found_act z))) e ∙ ap (λ l. own_event s.view (Look place l) note ∷ []) link) in
+      ∙ (ap (λ z. events_of (step_of s.view.agent q note) (Some (found_act z))) e ∙ ap (λ l. event_by s.view.agent (Look place l) note ∷ []) link) in
       record { slots = unchanged.slots; fresh = unchanged.fresh; puts = subst (λ es. Puts (seat s) es (seat t)) one unchanged.puts }
   tests_so false e =
       let found : Link = node_link (present_ids b j) (link_of n) in
-      let one : step_events q note s t n m ≡ own_event s.view (Miss place (node_link (present_ids b j) (row_link w)) found) None ∷ [] = events
+      let one : step_events q note s t n m ≡ event_by s.view.agent (Miss place (node_link (present_ids b j) (row_link w)) found) None ∷ [] = events
       ∙ ap (λ z. events_of (step_of s.view.agent q note) (Some (found_act z))) e in
-      let two : step_events q note s t n m ≡ own_event s.view (Miss place (link_in (seat s).slots w) found) None ∷ [] = one
-      ∙ ap (λ l. own_event s.view (Miss place l found) None ∷ []) wanted in
+      let two : step_events q note s t n m ≡ event_by s.view.agent (Miss place (link_in (seat s).slots w) found) None ∷ [] = one
+      ∙ ap (λ l. event_by s.view.agent (Miss place l found) None ∷ []) wanted in
       let fit = subst (Each (FitsAfter (heap_numbers k) (project b j))) two fits in
       record {
         slots = unchanged.slots;

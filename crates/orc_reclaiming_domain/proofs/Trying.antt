@@ -11,14 +11,14 @@ use Rattle.orc_core.specs.declared.records.Agent.{Agent}
 use Rattle.orc_domain.proofs.Counting.{nodes_stay}
 use Rattle.orc_heap.proofs.Calls.{Puts-trans}
 use Rattle.orc_heap.specs.Heap.{new_node}
-use Rattle.orc_heap.specs.Journals.{run_heap}
+use Rattle.orc_heap.specs.Journals.{event_by, run_heap}
 use Rattle.orc_heap.specs.OwnEvents.{Puts}
 use Rattle.orc_heap.specs.declared.discipline.Discipline as discipline
 use Rattle.orc_heap.specs.declared.events.Act.TheVariants.{Give}
 use Rattle.orc_heap.specs.declared.events.Event.{Event}
 use Rattle.orc_machine_board.specs.Kinds.{asks}
-use Rattle.orc_machine_board.specs.Laws.{in_range}
-use Rattle.orc_machine_board.specs.Licences.{ids_of, own_event}
+use Rattle.orc_machine_board.specs.Laws.Steps.{in_range}
+use Rattle.orc_machine_board.specs.Licences.{ids_of}
 use Rattle.orc_machine_board.specs.Rules.{bounds_in, heap_numbers, run_of, step_of}
 use Rattle.orc_machine_board.specs.declared.machine.MachineShape.{MachineShape}
 use Rattle.orc_projection.specs.Projection.{events_of, is_taken}
@@ -194,7 +194,7 @@ module _ {D N : Type 0} {d : discipline.Ghosts D N} {k : MachineShape N} (s t : 
               doom = ap (λ (e : Agent). e.doom) m3.record_is ∙ old.doom;
             };
             slots = ap (map (slot_by (ids_of b w.view))) slots3 ∙ (slots_keep q None u w o m3 ∙ count_idle.only.slots);
-            puts = Puts-trans (seat s) (seat u) (seat w) [] (own_event s.view Give None ∷ []) count_idle.only.puts
+            puts = Puts-trans (seat s) (seat u) (seat w) [] (event_by s.view.agent Give None ∷ []) count_idle.only.puts
                 (subst (λ z. Puts (seat u) (record { agent = z; act = Give; note = None } ∷ []) (seat w)) agents t3.puts);
             new =
                 let e = nodes_stay (heap_numbers k) (seat s).seen count_idle.only.puts.part in

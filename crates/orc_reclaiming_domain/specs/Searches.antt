@@ -1,10 +1,10 @@
 -- A search for a row that may be given.
 use Rattle.std.specs.Prelude.{List, None, Option, Some, [], length, slice_get, take, ℕ, ◌%◌, ◌++◌, ◌∷◌, ◌+◌, ◌<◌, ◌≡◌, ◌≤◌}
 use Rattle.orc_heap.specs.Heap.{new_node}
-use Rattle.orc_heap.specs.Journals.{run_heap}
+use Rattle.orc_heap.specs.Journals.{event_by, run_heap}
 use Rattle.orc_heap.specs.OwnEvents.{Only, Puts}
 use Rattle.orc_heap.specs.declared.events.Act.TheVariants.{Give}
-use Rattle.orc_machine_board.specs.Licences.{ids_of, own_event}
+use Rattle.orc_machine_board.specs.Licences.{ids_of}
 use Rattle.orc_machine_board.specs.Rules.{run_of}
 use Rattle.orc_machine_board.specs.Views.{MachineView}
 use Rattle.orc_projection.specs.Mirror.{numbers_of}
@@ -45,7 +45,7 @@ module _ {N : Type 0} where
     pub journal : t.journal ≡ s.journal ++ more
     pub same : SameParts (record s.record_is { fresh = Some r }) t.record_is
     pub slots : (seat_by b t).slots ≡ (seat_by b s).slots
-    pub puts : Puts (seat_by b s) (own_event s Give None ∷ []) (seat_by b t)
+    pub puts : Puts (seat_by b s) (event_by s.agent Give None ∷ []) (seat_by b t)
     pub new : length (run_heap (numbers_of b) (seat_by b s).seen).nodes ≤ (ids_of b t).node r
     pub node : slice_get (run_heap (numbers_of b) (seat_by b t).seen).nodes ((ids_of b t).node r) ≡ Some (new_node s.agent)
 

@@ -4,9 +4,8 @@ ghost use Rattle.std.specs.Prelude.{◌≡◌, ◌<◌, [], All, IfOk, length};
 ghost use Rattle.orc_words.specs.Bounds.{bounds_of};
 ghost use Rattle.orc_heap.specs.Seats.{IsIdle};
 ghost use Rattle.orc_heap.specs.Seeds.{SeedAllowed, opening_events};
-ghost use Rattle.orc_machine_board.specs.Views.{EachFrom};
 ghost use Rattle.orc_projection.specs.Mirror.{numbers_of};
-ghost use Rattle.orc_shared_words.specs.Lists.{EachAt};
+ghost use Rattle.orc_shared_words.specs.Lists.{EachAt, EachFrom};
 ghost use Rattle.orc_reclaiming_domain.specs.Passes.{IsPassOf, domain_bounds, domain_opening, seat_of};
 
 use crate::domain::{OrcDomain, OrcPass};
