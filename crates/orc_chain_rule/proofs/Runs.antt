@@ -13,7 +13,8 @@ pub link_one : (h : Heap) (id : ℕ) (link next : Link) → shown h (Next id) �
 link_one h id link next at own = some_same (sym (shown_link h id next own) ∙ at)
 
 -- a run doesn't go past an unmarked node
-pub run_ends : (h : Heap) (from : Link) (over : List ℕ) (to : Option ℕ) (id : ℕ) (link : Link) → from.to ≡ Some id → shown h (Next id) ≡ Some link → link.mark ≡ false → IsRun h from over to → to ≡ Some id
+pub run_ends : (h : Heap) (from : Link) (over : List ℕ) (to : Option ℕ) (id : ℕ) (link : Link) → from.to ≡ Some id → shown h (Next id) ≡ Some link
+    → link.mark ≡ false → IsRun h from over to → to ≡ Some id
 run_ends h from [] to id link is at plain run = sym run ∙ is
 run_ends h from (x ∷ xs) to id link is at plain (leads, next, own, mark, run) =
     let same : x ≡ id = some_same (sym leads ∙ is) in

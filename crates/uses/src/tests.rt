@@ -1,13 +1,17 @@
 //! Each use, run.
 
-mod meeting;
-mod workers;
-
 use super::*;
 use orc_fault::Again;
 use orc_history::{QueueRefused, SharedQueue};
 use orc_words::ShapeFault;
 use std::test::Fail;
+
+mod chains;
+mod domain_threads;
+mod meeting;
+mod queue_calls;
+mod queue_threads;
+mod workers;
 
 #[test]
 fn a_job_goes_through_a_queue(rt: HostRuntime) -> Result<(), Fail> {

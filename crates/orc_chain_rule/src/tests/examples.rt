@@ -12,8 +12,8 @@ ghost use Rattle.orc_heap.specs.declared.events.Link.{Link};
 ghost use Rattle.orc_heap.specs.declared.events.Place.{Place};
 ghost use Rattle.orc_history.specs.declared.set.SetEntry.{SetEntry};
 ghost use Rattle.orc_chain_rule.specs.declared.chain.ChainNote.{ChainNote};
-ghost use Rattle.orc_chain_rule.specs.ChainDiscipline.{ChainMay, IsAbove, IsPath, IsRun, MayAct, entries_of, set_after};
-ghost use Rattle.orc_chain_rule.specs.Counts.{IsLeftOver, adds_in, removes_in, unlinks_in};
+ghost use Rattle.orc_chain_rule.specs.ChainDiscipline.{ChainMay, FollowsOn, IsAbove, IsOnNoChain, IsPath, IsPresent, IsRun, MayAct, entries_of, key_of, set_after};
+ghost use Rattle.orc_chain_rule.specs.Counts.{AreLeftOver, IsLeftOver, adds_in, removes_in, unlinks_in};
 ghost use Rattle.orc_chain_rule.specs.Watches.{LeavesOut, node_to_add};
 
 // Agents 0 and 1 make a chain of three: 5, then 3 before it, then 9 behind them. Node 1 has the key 3, node 0 the key
@@ -50,6 +50,13 @@ fn a_run_of_two_marked_nodes()
         × LeavesOut 1 h (Place.Root 0) (link_to 0) (0 ∷ 1 ∷ []) (Some 2) 5
         × (¬ IsRun h (link_to 0) (0 ∷ []) (Some 2)) × (¬ IsRun h (link_to 0) (0 ∷ 1 ∷ 2 ∷ []) None)
         × (¬ LeavesOut 1 h (Place.Root 0) (link_to 0) (0 ∷ 1 ∷ []) (Some 2) 9) }
+    ensures left_over { let h : Heap = record {
+      nodes = with_link (record { to = Some 1; mark = true }) (as_linked (node_to_add 0 3 0 None))
+          ∷ with_link (record { to = Some 2; mark = true }) (as_linked (node_to_add 0 5 0 None))
+          ∷ as_linked (node_to_add 0 9 0 None) ∷ node_to_add 1 4 0 (Some 2) ∷ [];
+      roots = link_to 0 ∷ [];
+    } in
+        AreLeftOver h (0 ∷ 1 ∷ []) × (¬ AreLeftOver h (0 ∷ [])) }
     ensures inserted_over { let h : Heap = record {
       nodes = with_link (record { to = Some 1; mark = true }) (as_linked (node_to_add 0 3 0 None))
           ∷ with_link (record { to = Some 2; mark = true }) (as_linked (node_to_add 0 5 0 None))
@@ -64,6 +71,27 @@ fn a_run_of_two_marked_nodes()
       roots = link_to 0 ∷ [];
     } in
         MayAct 1 h (9 ∷ []) (Act.Move (Place.Root 0) (link_to 0) (link_to 2)) (Some ChainNote.Unlink) }
+{}
+
+// With two roots, root 1 names node 0 with the key 3, behind which a key must be greater and odd. Node 1 with the key 5
+// is given, and nothing links to it.
+fn keys_and_roots()
+    ensures follows { let h : Heap = record {
+      nodes = as_linked (node_to_add 0 3 0 None) ∷ node_to_add 1 5 0 None ∷ [];
+      roots = null ∷ link_to 0 ∷ [];
+    } in
+        FollowsOn 2 h (Place.Root 1) 5 × FollowsOn 2 h (Place.Next 0) 5 × (¬ FollowsOn 2 h (Place.Root 0) 5) × (¬ FollowsOn 2 h (Place.Next 0) 4)
+        × (¬ FollowsOn 2 h (Place.Next 0) 3) × (¬ FollowsOn 2 h (Place.Next 1) 7) }
+    ensures above { let h : Heap = record {
+      nodes = as_linked (node_to_add 0 3 0 None) ∷ node_to_add 1 5 0 None ∷ [];
+      roots = null ∷ link_to 0 ∷ [];
+    } in
+        IsAbove h None 5 × IsAbove h (Some 0) 2 × (¬ IsAbove h (Some 0) 3) × (key_of h 0 ≡ 3) × (key_of h 2 ≡ 0) }
+    ensures present { let h : Heap = record {
+      nodes = as_linked (node_to_add 0 3 0 None) ∷ node_to_add 1 5 0 None ∷ [];
+      roots = null ∷ link_to 0 ∷ [];
+    } in
+        IsPresent 2 h 3 × IsOnNoChain h 1 }
 {}
 
 // Agent 0 adds 5, agent 1 marks its node, and agent 0 adds 7 in place of it and leads the root past 7 once that is marked

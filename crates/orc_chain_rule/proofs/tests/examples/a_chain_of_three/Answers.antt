@@ -12,7 +12,22 @@ returns c = (
           fits = (refl, record { node = _; there = refl; known = inl refl });
           may_act = (
             refl,
-            record { on_chain = refl; below = tt; plain = refl; id = 0; to_is = refl; node = _; there = refl; unlinked = refl; key_is = refl; own_plain = refl; over = []; run = refl; above = tt },
+            record {
+              on_chain = refl;
+              below = tt;
+              plain = refl;
+              id = 0;
+              to_is = refl;
+              node = _;
+              there = refl;
+              unlinked = refl;
+              key_is = refl;
+              own_plain =
+                  refl;
+              over = [];
+              run = refl;
+              above = tt;
+            },
           );
           own = refl;
         },
@@ -21,7 +36,12 @@ returns c = (
           (
             record { fits = (record { node = _; there = refl; mine = refl; unlinked = refl }, omega arith); may_act = refl; own = tt },
             (
-              record { fits = (record { node = _; there = refl; mine = refl; unlinked = refl }, record { node = _; there = refl; known = inr refl }); may_act = refl; own = tt },
+              record {
+                fits = (record { node = _; there = refl; mine = refl; unlinked = refl }, record { node = _; there = refl; known = inr refl });
+                may_act
+                    = refl;
+                own = tt;
+              },
               (
                 record {
                   fits = (refl, record { node = _; there = refl; known = inl refl });
@@ -55,7 +75,11 @@ returns c = (
                         may_act = (
                           refl,
                           record {
-                            on_chain = record { over = 1 ∷ []; path = (record { link = _; at = refl; to_is = refl }, record { link = _; at = refl; to_is = refl }) };
+                            on_chain = record {
+                              over = 1 ∷ [];
+                              path =
+                                  (record { link = _; at = refl; to_is = refl }, record { link = _; at = refl; to_is = refl });
+                            };
                             below = (5, record { node = _; there = refl; linked = refl; key_is = refl }, omega arith);
                             plain = refl;
                             id = 2;

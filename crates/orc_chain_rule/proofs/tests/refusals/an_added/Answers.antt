@@ -30,7 +30,9 @@ returns-clause-allowed c = (
 pub returns-clause-past_an_unmarked_node : goal.returns-clause-past_an_unmarked_node
 returns-clause-past_an_unmarked_node c = λ may.
     let m = may.1 in
-    let there : Some (node_to_add 1 5 0 None) ≡ Some m.node = subst (λ (x : ℕ). slice_get (as_linked (node_to_add 0 3 0 (Some 2)) ∷ node_to_add 1 5 0 None ∷ as_linked (node_to_add 0 9 0 None) ∷ []) x ≡ Some m.node) (sym (link_same 1 m.id m.to_is)) m.there in
+    let there : Some (node_to_add 1 5 0 None) ≡ Some m.node =
+    subst (λ (x : ℕ). slice_get (as_linked (node_to_add 0 3 0 (Some 2)) ∷ node_to_add 1 5 0 None ∷ as_linked (node_to_add 0 9 0 None) ∷ []) x ≡ Some m.node)
+    (sym (link_same 1 m.id m.to_is)) m.there in
     let own : m.node.link.to ≡ None = ap (λ (x : Node). x.link.to) (sym (some_same there)) in
     let ends : m.node.link.to ≡ Some 2 = run_ends _ (link_to 2) m.over m.node.link.to 2 null refl refl refl m.run in
     let bad : ◌≡◌ {A = Option ℕ} None (Some 2) = sym own ∙ ends in
