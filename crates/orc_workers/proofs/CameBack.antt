@@ -1,5 +1,5 @@
 -- What all workers and the caller have come to, once the caller's passes have learned from all others twice.
-use Rattle.std.proofs.Common.{◌≡◌, ◌≢◌, ℕ, zero, suc, ◌+◌, ◌-◌, ◌≤◌, ◌<◌, List, [], ◌∷◌, ◌++◌, length, Bool, true, false, ◌⊎◌, inl, inr, Some, None, refl, ap, sym, ◌∙◌, subst, arith, append-nil}
+use Rattle.std.proofs.Common.{◌≡◌, ◌≢◌, ℕ, suc, ◌+◌, ◌-◌, ◌≤◌, ◌<◌, List, [], ◌∷◌, ◌++◌, length, Bool, true, false, ◌⊎◌, inl, inr, refl, ap, sym, ◌∙◌, subst, arith, append-nil}
 use mathlib.Core.List.{IsPrefix}
 use Rattle.orc_history.specs.Journals.{own_of}
 use Rattle.std.specs.List.{AllByRecursion}
@@ -12,17 +12,16 @@ use Rattle.orc_history.specs.declared.set.SharedSet.{Ghosts as SetOf}
 use Rattle.orc_history.specs.QueueHistory.{agent_of_entry}
 use Rattle.orc_history.specs.SetHistory.{agent_of_set_entry}
 use Rattle.orc_jobs.specs.declared.line.Line.{Line}
-use Rattle.orc_jobs.specs.Line.{posts_in}
 use Rattle.orc_board.specs.declared.replies.PostReply.{PostReply}
 use Rattle.orc_board.specs.declared.replies.TakeReply.{TakeReply}
 use Rattle.orc_board.specs.declared.desk.Desk.{Desk}
 use Rattle.orc_workers.specs.declared.team.Worker.{Worker}
 use Rattle.orc_board.specs.Desk.{IsDesk}
 use Rattle.orc_board.specs.Reserved.{Reserved}
-use Rattle.orc_board.specs.Stretches.{View, queue_view, set_view, beside, of_queue, of_set, Row, Stands, empty_row, just, nothing}
+use Rattle.orc_board.specs.Stretches.{View, queue_view, set_view, beside, of_queue, of_set, Row, Stands, empty_row}
 use Rattle.orc_board.specs.Table.{EndsEmpty}
-use Rattle.orc_board.specs.Follows.{Pointwise, TakingRest, ZeroLast, LastIsEmpty, IsWorker}
-use Rattle.orc_workers.specs.Team.{IsReady, DidWork, DidPost, DidTake}
+use Rattle.orc_board.specs.Follows.{Pointwise, TakingRest, LastIsEmpty, IsWorker}
+use Rattle.orc_workers.specs.Team.{DidWork, DidPost, DidTake}
 use Rattle.orc_workers.specs.Learning.{IsKnown, IsOther, SameWorker, IsWhole, LearnedAll}
 use Rattle.orc_workers.specs.CameBack.{IsNew, IsTold, IsBack, AreNumbered, AllCameBack}
 use Rattle.orc_board.proofs.ListFacts.{le-cases, AllByRecursion-map}

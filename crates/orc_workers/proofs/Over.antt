@@ -1,5 +1,5 @@
 -- The end of a run: desks and replies of all workers in order.
-use Rattle.std.proofs.Common.{◌≡◌, ◌≢◌, ◌^◌, ℕ, zero, suc, ◌+◌, ◌-◌, ◌*◌, ◌≤◌, ◌<◌, List, [], ◌∷◌, ◌++◌, length, map, ◌⊎◌, inl, inr, refl, ap, sym, ◌∙◌, subst, arith, append-nil, length-append}
+use Rattle.std.proofs.Common.{◌≡◌, ℕ, zero, suc, ◌+◌, ◌-◌, ◌≤◌, ◌<◌, List, [], ◌∷◌, ◌++◌, length, map, ◌⊎◌, inl, inr, refl, ap, sym, ◌∙◌, subst, arith, append-nil, length-append}
 use Rattle.std.proofs.lemmas.List.{length-map}
 use Rattle.std.proofs.lemmas.List.Sorted.{length_permutation}
 use Rattle.std.proofs.lemmas.List.FromFn.{length-range_with_len}
@@ -24,11 +24,10 @@ use Rattle.orc_board.specs.declared.desk.Desk.{Desk}
 use Rattle.orc_workers.specs.declared.team.Worker.{Worker}
 use Rattle.orc_board.specs.Stretches.{View, queue_view, set_view, beside, Row}
 use Rattle.orc_board.specs.Follows.{Pointwise, TakerRow, Posting, TakingRest, ZeroLast, LastIsEmpty, IsWorker, own_records, by_key, taker_agent, posts_of, takes_of}
-use Rattle.orc_workers.specs.Team.{DidPost, DidTake}
 use Rattle.orc_workers.specs.Desks.{AreIdle, HaveSeen}
 use Rattle.orc_workers.specs.CameBack.{IsTold, IsBack, AreNumbered, AllCameBack, IsOver}
 use Rattle.orc_workers.specs.Seats.{all_of}
-use Rattle.orc_board.proofs.ListFacts.{AllByRecursion-append, AllByRecursion-map, le-cases, zero_or}
+use Rattle.orc_board.proofs.ListFacts.{AllByRecursion-append, AllByRecursion-map, le-cases}
 use Rattle.orc_board.proofs.Ends.{posters_of}
 use Rattle.orc_workers.proofs.Blocks.{blocks, AreKeyed, block_of, blocks_by_key, blocks_add, blocks_none, blocks_cons, nth_of, all_blocks}
 use Rattle.orc_workers.proofs.Learned.{zero_ended}

@@ -1,8 +1,6 @@
 -- Rooms and desks of workers, and what is handed back.
-use Rattle.std.proofs.Common.{◌≡◌, ◌≢◌, ℕ, zero, suc, ◌+◌, ◌*◌, ◌≤◌, ◌<◌, List, [], ◌∷◌, ◌++◌, length, map, take, Some, None, refl, ap, sym, ◌∙◌, subst, arith, length-append, append_assoc}
+use Rattle.std.proofs.Common.{◌≡◌, ℕ, zero, suc, ◌+◌, ◌≤◌, List, [], ◌∷◌, ◌++◌, length, take, Some, refl, ap, sym, ◌∙◌, subst, arith, length-append, append_assoc}
 use Rattle.std.specs.List.{slice_get, remove}
-use Rattle.orc_board.proofs.ListFacts.{AllByRecursion-map}
-use Rattle.std.proofs.lemmas.List.{map-append}
 use Rattle.std.specs.List.{AllByRecursion}
 use Rattle.orc_history.specs.declared.queue.SharedQueue.{Ghosts as QueueOf}
 use Rattle.orc_history.specs.declared.set.SharedSet.{Ghosts as SetOf}
@@ -12,13 +10,12 @@ use Rattle.orc_jobs.specs.Line.{posts_in}
 use Rattle.orc_jobs.specs.GoodLines.{AreGood}
 use Rattle.orc_board.specs.declared.desk.Desk.{Desk}
 use Rattle.orc_workers.specs.declared.team.Worker.{Worker}
-use Rattle.orc_board.specs.Desk.{IsDesk}
 use Rattle.orc_board.specs.Follows.{own_records}
 use Rattle.orc_workers.specs.Team.{IsReady}
 use Rattle.orc_workers.specs.declared.reserve.Room.{Room}
 use Rattle.orc_workers.specs.Desks.{AreFresh}
 use Rattle.orc_workers.specs.Seats.{IsRoom, AreRooms, HaveAgents, seated, all_of}
-use Rattle.orc_workers.specs.CameBack.{AreNumbered, IsNew, IsBack}
+use Rattle.orc_workers.specs.CameBack.{AreNumbered, IsNew}
 use Rattle.orc_workers.proofs.Blocks.{all_of-snoc}
 use Rattle.orc_board.proofs.PairLists.{records_fewer}
 

@@ -1,4 +1,4 @@
-use Rattle.std.proofs.Common.{◌≡◌, ◌+◌, ℕ, subst, refl, arith, length, suc}
+use Rattle.std.proofs.Common.{◌+◌, ℕ, subst, arith, length, suc}
 use Rattle.orc_history.specs.QueueHistory.{agent_of_entry}
 use Rattle.orc_history.specs.SetHistory.{agent_of_set_entry}
 use Rattle.orc_board.specs.Stretches.{queue_view, set_view}

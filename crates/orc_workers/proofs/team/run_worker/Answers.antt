@@ -1,5 +1,4 @@
-use Rattle.std.proofs.Common.{◌≡◌, ◌≢◌, ◌+◌, ◌≤◌, ◌<◌, ℕ, length, ap, arith, refl, subst, []}
-use Rattle.orc_jobs.specs.Line.{posts_in}
+use Rattle.std.proofs.Common.{◌≡◌, ◌<◌, ℕ, length, ap, arith, refl, subst}
 use Rattle.orc_board.specs.Desk.{IsDesk}
 use Rattle.orc_board.specs.Stretches.{queue_view, set_view}
 use Rattle.orc_workers.proofs.Resting.{did_take}
