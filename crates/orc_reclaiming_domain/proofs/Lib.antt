@@ -1,7 +1,9 @@
+pub mod Adding
 pub mod Filling
 pub mod Gates
 pub mod Giving
 pub mod Held
+pub mod Lasting
 pub mod Learning
 pub mod Loading
 pub mod Looking
