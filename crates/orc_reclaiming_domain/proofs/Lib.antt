@@ -1,8 +1,10 @@
 pub mod Adding
+pub mod Counters
 pub mod Filling
 pub mod Gates
 pub mod Giving
 pub mod Held
+pub mod Lacking
 pub mod Lasting
 pub mod Learning
 pub mod Loading

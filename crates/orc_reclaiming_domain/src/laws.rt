@@ -29,7 +29,8 @@ impl<D: Discipline> OrcDomain<D> {
         ensures obeys { D.holds (domain_numbers self.now) (seat_of self.now p.now).seen }
         ensures fresh_is { IsFreshUntouched (domain_numbers self.now) (seat_of self.now p.now) }
         ensures held_is { (h : Hold) → Holds (seat_of self.now p.now).slots h
-            → IsKnown (seat_of self.now p.now).agent (run_heap (domain_numbers self.now) (seat_of self.now p.now).seen) (id_in (seat_of self.now p.now).slots h) }
+            → IsKnown (seat_of self.now p.now).agent (run_heap (domain_numbers self.now) (seat_of self.now p.now).seen)
+            (id_in (seat_of self.now p.now).slots h) }
     {}
 }
 
@@ -45,4 +46,10 @@ pub fn causes_stay<N>()
         → IsLacking b agent j from to → IsLacking b agent (j ++ more) from to }
     ensures worn { (b : Bounds) (agent : ℕ) (why : Spent) (j more : List (Step N)) (from to : ℕ)
         → IsWornIn b agent why j from to → IsWornIn b agent why (j ++ more) from to }
+{}
+
+/// Where no row could be given, as many nodes as there are rows had been given.
+pub fn a_lack_has_given_all_rows<N>()
+    ensures { (b : Bounds) (agent : ℕ) (j : List (Step N)) (from to : ℕ)
+        → IsLacking b agent j from to → b.rows ≤ gives_in (project b (take to j)) }
 {}

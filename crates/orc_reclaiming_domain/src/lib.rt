@@ -9,7 +9,7 @@ mod make;
 mod steps;
 
 pub use domain::{OrcDomain, OrcPass};
-pub use laws::{a_step_adds_events_of_its_agent, causes_stay};
+pub use laws::{a_lack_has_given_all_rows, a_step_adds_events_of_its_agent, causes_stay};
 
 #[cfg(test)]
 mod tests;
