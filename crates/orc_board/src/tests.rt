@@ -8,7 +8,7 @@ mod examples;
 
 use crate::{
     Desk, Gate, OpenGate, PostList, PostReply, PostWord, Replies, TakeList, TakeReply, TakeWord,
-    drop_line, post_line, run_poster, take_one, take_rest,
+    drop_line, post_line, post_records, take_one, take_rest,
 };
 use orc_fault::NoMemory;
 use orc_history::{PlainQueue, PlainQueuePass, PlainSet, PlainSetPass, SharedQueue, SharedSet};
@@ -88,10 +88,10 @@ fn stored_run_of_one_poster(rt: HostRuntime) -> Result<(), Fail> {
         calls: Cell::new(0),
     };
     let mut replies = Replies {
-        posts: PostList::new(alloc, lines.len() as u32)?,
+        posts: PostList::new(alloc, lines.len())?,
         takes: TakeList::new(alloc, 5)?,
     };
-    run_poster(
+    post_records(
         &rt,
         &queue,
         &set,
@@ -151,6 +151,52 @@ fn stored_run_of_one_poster(rt: HostRuntime) -> Result<(), Fail> {
     assert_eq!(rt; replies.takes.spare(), 3);
     assert!(rt; was_empty);
     assert_eq!(rt; gate.calls.get(), 1011121314_000102);
+    Ok(())
+}
+
+// The five records of the stored run, each by a call of its own.
+#[test]
+fn stored_run_by_single_calls(rt: HostRuntime) -> Result<(), Fail> {
+    let alloc = rt.alloc();
+    let lines = stored_run(alloc)?;
+    let Board {
+        queue,
+        set,
+        mut desk,
+    } = empty_board(alloc, 8, 8)?;
+    let words = [
+        PostWord::Posted(0),
+        PostWord::Posted(1),
+        PostWord::Dropped,
+        PostWord::Busy,
+        PostWord::Unknown,
+    ];
+    for (index, what) in (0..5u32).zip(words) {
+        if index as usize >= lines.len() {
+            panic!(rt; "a line is missing")
+        }
+        let line = lines.get(index as usize);
+        let reply = match line {
+            Line::Post { .. } => post_line(&rt, &queue, &set, &mut desk, 1, index, line),
+            Line::Drop { .. } => drop_line(&rt, &queue, &set, &mut desk, 1, index, line),
+        };
+        assert_eq!(rt; reply, PostReply { poster: 1, line: index, what });
+    }
+    let done = TakeReply {
+        taker: 3,
+        at: 0,
+        line: 0,
+        what: TakeWord::Done(5),
+    };
+    let void = TakeReply {
+        taker: 3,
+        at: 1,
+        line: 1,
+        what: TakeWord::Void,
+    };
+    assert_eq!(rt; take_one(&rt, &queue, &set, &mut desk, 3, &lines), Some(done));
+    assert_eq!(rt; take_one(&rt, &queue, &set, &mut desk, 3, &lines), Some(void));
+    assert_eq!(rt; take_one(&rt, &queue, &set, &mut desk, 3, &lines), None);
     Ok(())
 }
 
