@@ -8,3 +8,5 @@ pub mod Answering
 pub mod Tiring
 pub mod Marking
 pub mod Removing
+pub mod Linking
+pub mod Adding
