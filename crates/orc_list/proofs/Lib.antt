@@ -10,3 +10,4 @@ pub mod Marking
 pub mod Removing
 pub mod Linking
 pub mod Adding
+pub mod Parting
