@@ -304,6 +304,7 @@ adds_inserts n key h id given base slots had s u Over a is first count = record 
   own = a.own;
   given = given;
   over = a.over;
+  fewer = omega (arith, count);
   count = count;
   keeps = record { id = id; slots_are = a.slots_are ∙ is; slot_is = first; to_add = a.holds };
 }
@@ -321,6 +322,7 @@ keeps_on n key node slots s t k w holds all = record {
   own = w.own;
   given = 0;
   over = w.over;
+  fewer = omega arith;
   count = omega arith;
   keeps = record { id = k.id; slots_are = w.slots ∙ k.slots_are; slot_is = k.slot_is; to_add = by node k.to_add };
 }

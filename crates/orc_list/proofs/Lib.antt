@@ -11,3 +11,5 @@ pub mod Removing
 pub mod Linking
 pub mod Adding
 pub mod Parting
+pub mod Inserting
+pub mod Calling

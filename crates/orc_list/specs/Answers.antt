@@ -47,6 +47,7 @@ pub record InsertTires (turns : ℕ) (s t : Seat ChainNote) : Type 0 where
   pub own : List (Event ChainNote)
   pub given : ℕ
   pub at_most : given ≤ 1
+  pub fewer : given ≤ turns
   pub over : AreOver given turns s own t
   pub slots : t.slots ≡ s.slots
   pub fresh : t.fresh ≡ None

@@ -3,3 +3,4 @@ pub mod Turns
 pub mod Answers
 pub mod Causes
 pub mod Inserts
+pub mod ListCalls
