@@ -71,13 +71,13 @@ pub next_linked : (n : HeapNumbers) (t : Seat ChainNote) (next : Option Hold) (i
 next_linked n t None id next_id f = tt
 next_linked n t (Some h) id next_id (key, own, follows) = key_linked (heap_of n t) next_id key own
 
-right_linked : (n : HeapNumbers) (t : Seat ChainNote) (right : Option Hold) (id key : ℕ) → IsAbove (heap_of n t) (node_of right id) key → IsLinkedIfAny n t right id
+pub right_linked : (n : HeapNumbers) (t : Seat ChainNote) (right : Option Hold) (id key : ℕ) → IsAbove (heap_of n t) (node_of right id) key → IsLinkedIfAny n t right id
 right_linked n t None id key a = tt
 right_linked n t (Some h) id key (high, own, less) = key_linked (heap_of n t) id high own
 
 -- so they can be let go
 
-three_hands : (s t : Slots) (x y z : Hand) → Hands s t (x ∷ y ∷ z ∷ []) → Hands s t (x ∷ y ∷ z ∷ hand None 0 ∷ [])
+pub three_hands : (s t : Slots) (x y z : Hand) → Hands s t (x ∷ y ∷ z ∷ []) → Hands s t (x ∷ y ∷ z ∷ hand None 0 ∷ [])
 three_hands s t x y z k =
     let o = hand None 0 in
     let a = hands_with_none s t (x ∷ y ∷ z ∷ []) 0 k in

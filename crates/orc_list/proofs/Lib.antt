@@ -8,6 +8,10 @@ pub mod Answering
 pub mod Tiring
 pub mod Marking
 pub mod Removing
+pub mod Linking
+pub mod Adding
+pub mod Parting
+pub mod Inserting
 pub mod Parts
 pub mod Settling
 pub mod Causes

@@ -33,7 +33,7 @@ use Rattle.orc_list.specs.Searches.{NextFollows}
 use Rattle.orc_list.specs.Turns.{Marks, TriesUnlink}
 use Rattle.orc_list.proofs.Held.{FreshIs}
 use mathlib.Core.List.{IsPrefix}
-use Rattle.std.proofs.Common.{length, length-append, arith, ◌≤◌, ◌+◌, ◌++◌}
+use Rattle.std.proofs.Common.{append-nil, length, length-append, arith, ◌≤◌, ◌+◌, ◌++◌}
 
 -- a swing is refused only where it would change the target
 pub refused_apart : (slots : Slots) (from to : Want) (why : Spent) (seen : List (Event ChainNote)) → RefusesSwing slots from to why seen → (link_in slots from).to ≡ (link_in slots to).to → ⊥
@@ -126,3 +126,22 @@ tries_wider Worn More place first to s t wider w = record {
   fresh = w.fresh;
   either = elim w.either [ inl swung ↦ inl swung | inr worn ↦ inr (wider worn.0, worn.1) ];
 }
+
+-- a fact of two places of a piece of a call is one of two places of the whole
+pub within_wider : {S : Type 0} (fact : List S → ℕ → ℕ → Type 0) (j k m o : List S) → ((xs more : List S) (from to : ℕ) → fact xs from to → fact (xs ++ more) from to) → IsPrefix j k → IsPrefix m o
+    → Within (length k) (length m) (fact m) → Within (length j) (length o) (fact o)
+within_wider {S} fact j k m o stays (first, one) (more, two) w =
+    let (from, to, low, order, high, here) = w in
+    let there : fact o from to = subst (λ (z : List S). fact z from to) two (stays m more from to here) in
+    let left : length j + length first ≡ length k = sym (length-append j first) ∙ ap (λ (z : List S). length z) one in
+    let right : length m + length more ≡ length o = sym (length-append m more) ∙ ap (λ (z : List S). length z) two in
+    (from, to, omega (arith, low, left), order, omega (arith, high, right), there)
+
+-- what was worn in the last piece of a call
+pub worn_since : {S : Type 0} (worn : ℕ → Spent → List S → ℕ → ℕ → Type 0) (agent_of : S → ℕ) (a b : ℕ) (j k m : List S) → ((why : Spent) (xs more : List S) (from to : ℕ) → worn a why xs from to → worn a why (xs ++ more) from to) → b ≡ a → IsPrefix j k → IsPrefix k m
+    → (result : Result Bool Spent) → IfErr result (λ e. InPart agent_of b k m (worn b e m)) → IfErr result (λ e. Within (length j) (length m) (worn a e m))
+worn_since worn agent_of a b j k m stays same one two (Ok done) w = tt
+worn_since {S} worn agent_of a b j k m stays same one two (Err e) w =
+    let here : Within (length k) (length m) (worn b e m) = part_fact agent_of b k m (worn b e m) two w in
+    let there : Within (length k) (length m) (worn a e m) = subst (λ (x : ℕ). Within (length k) (length m) (worn x e m)) same here in
+    within_wider (worn a e) j k m m (stays e) one ([], append-nil m) there

@@ -82,7 +82,7 @@ first_or_held slots None node a b = b
 first_or_held slots (Some h) node a b = a
 
 -- where the pass was alone, its own events are all that is new
-alone_exact : (s t y : Seat ChainNote) (own ys : List (Event ChainNote)) (q : Puts s own t) (p : Puts t ys y) (w : Puts s (own ++ ys) y) → 1 ≤ length own → AllOwn s.agent (from_own s.agent w.part)
+pub alone_exact : (s t y : Seat ChainNote) (own ys : List (Event ChainNote)) (q : Puts s own t) (p : Puts t ys y) (w : Puts s (own ++ ys) y) → 1 ≤ length own → AllOwn s.agent (from_own s.agent w.part)
     → (AllOwn s.agent (from_own s.agent q.part)) × (p.part ≡ ys)
 alone_exact s t y own ys q p w some alone =
     let begun = from_own-begun s.agent q.part p.part (rw q.own_is some) in

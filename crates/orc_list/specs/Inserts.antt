@@ -141,6 +141,7 @@ pub record InsertsOn (n : HeapNumbers) (key turns : ℕ) (slots : Slots) (node k
   pub own : List (Event ChainNote)
   pub given : ℕ
   pub over : AreOver given turns s own t
+  pub fewer : given ≤ turns
   pub count : count_of node + given ≡ count_of kept
   pub keeps : KeepsNode n key kept slots t
 
