@@ -13,3 +13,4 @@ pub mod Adding
 pub mod Parting
 pub mod Inserting
 pub mod Calling
+pub mod Licensing

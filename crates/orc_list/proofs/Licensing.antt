@@ -18,6 +18,7 @@ use Rattle.orc_history.specs.declared.set.ListRefused.TheVariants.{Again, NoNode
 use Rattle.orc_chain_rule.proofs.OwnEntries.{entries_own}
 use Rattle.orc_chain_rule.specs.ChainDiscipline.{ChainMay, entries_in, entries_of}
 use Rattle.orc_chain_rule.specs.declared.chain.ChainNote.{ChainNote}
+use Rattle.std.proofs.Math.Nat.{mod-one}
 use Rattle.orc_list.specs.Causes.{Cause, UsesTurns, WithinPart}
 
 module _ {S : Type 0} (agent_of : S → ℕ) (events : List S → List (Event ChainNote)) (agent turns : ℕ) (j k : List S) (grows : IsPrefix j k) where

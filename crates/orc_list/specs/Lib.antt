@@ -4,3 +4,4 @@ pub mod Answers
 pub mod Causes
 pub mod Inserts
 pub mod ListCalls
+pub mod Laws
