@@ -29,7 +29,8 @@ leads_later n s (Root r) to more l all none = rw l.0 (top_later n s.agent _ s.se
 leads_later n s (Next id) to more l all none = ap (option_map (λ (x : Node). x.link)) (node_later n s.agent id l.0 (Some to) s.seen more all l.1)
 
 -- so each Look of a call finds it
-pub look_finds : (n : HeapNumbers) (s t : Seat ℕ) (place : Place) (to : ℕ) (own : List (Event ℕ)) (found : Link) (rest : List (Event ℕ)) → AllAllowed (OwnRootsMay n) [] t.seen → LeadsTo n s place to
+pub look_finds : (n : HeapNumbers) (s t : Seat ℕ) (place : Place) (to : ℕ) (own : List (Event ℕ)) (found : Link) (rest : List (Event ℕ))
+    → AllAllowed (OwnRootsMay n) [] t.seen → LeadsTo n s place to
     → list_any (λ e. is_move e.act) own ≡ false → Puts s (own ++ event_of s (Look place found) None ∷ rest) t → found ≡ plain_link (Some to)
 look_finds n s t place to own found rest all l none p =
     let st = Puts-stood (OwnRootsMay n) s t own _ rest p all in
@@ -37,23 +38,27 @@ look_finds n s t place to own found rest all l none p =
     cc
 
 -- a look at the stack finds its node twice alike
-pub not_moved : (n : HeapNumbers) (s t : Seat ℕ) (place : Place) (slot to : ℕ) → AllAllowed (OwnRootsMay n) [] t.seen → LeadsTo n s place to → Looks place slot s Moved t → ⊥
+pub not_moved : (n : HeapNumbers) (s t : Seat ℕ) (place : Place) (slot to : ℕ) → AllAllowed (OwnRootsMay n) [] t.seen → LeadsTo n s place to
+    → Looks place slot s Moved t → ⊥
 not_moved n s t place slot to all l r =
     let (one, two, other, slots, puts, first) = r.tells in
     let first = look_finds n s t place to [] one _ all l refl puts in
     let second = look_finds n s t place to (event_of s (Look place one) None ∷ []) two [] all l refl puts in
     other (first ∙ sym second)
 
-pub not_null : (n : HeapNumbers) (s t : Seat ℕ) (place : Place) (mark : Bool) (to : ℕ) → AllAllowed (OwnRootsMay n) [] t.seen → LeadsTo n s place to → LookedNull place mark s t → ⊥
+pub not_null : (n : HeapNumbers) (s t : Seat ℕ) (place : Place) (mark : Bool) (to : ℕ) → AllAllowed (OwnRootsMay n) [] t.seen → LeadsTo n s place to
+    → LookedNull place mark s t → ⊥
 not_null n s t place mark to all l r =
     let e = look_finds n s t place to [] _ [] all l refl r.puts in
     let none : None ≡ Some to = ap (λ (x : Link). x.to) e in
     cc
 
-pub finds : (n : HeapNumbers) (s t : Seat ℕ) (place : Place) (slot : ℕ) (mark : Bool) (h : Hold) → AllAllowed (OwnRootsMay n) [] t.seen → t.fresh ≡ s.fresh → LookedHeld place slot mark h s t → Finds n place slot s h t
+pub finds : (n : HeapNumbers) (s t : Seat ℕ) (place : Place) (slot : ℕ) (mark : Bool) (h : Hold) → AllAllowed (OwnRootsMay n) [] t.seen
+    → t.fresh ≡ s.fresh → LookedHeld place slot mark h s t → Finds n place slot s h t
 finds n s t place slot mark h all fresh r = record {
   id = r.id;
-  is = λ to l. let e : Some r.id ≡ Some to = ap (λ (x : Link). x.to) (look_finds n s t place to (event_of s (Look place r.one) None ∷ []) _ [] all l refl r.puts) in cc;
+  is = λ to l. let e : Some r.id ≡ Some to =
+      ap (λ (x : Link). x.to) (look_finds n s t place to (event_of s (Look place r.one) None ∷ []) _ [] all l refl r.puts) in cc;
   slot_is = r.at;
   agent = r.puts.agent;
   slots = r.slots;

@@ -35,7 +35,8 @@ pub record Readied (n : HeapNumbers) (below : Option ℕ) (slot value : ℕ) (s 
   pub top : (to : Option ℕ) → HasTop n s to → HasTop n t to
   pub nodes : NodesStay n s t
 
-pub given_ready : (n : HeapNumbers) (slot value : ℕ) (s : Seat ℕ) (h : Hold) (t : Seat ℕ) → AllAllowed (OwnRootsMay n) [] t.seen → Gives n slot value 0 s h t → Readied n None slot value s h t
+pub given_ready : (n : HeapNumbers) (slot value : ℕ) (s : Seat ℕ) (h : Hold) (t : Seat ℕ) → AllAllowed (OwnRootsMay n) [] t.seen
+    → Gives n slot value 0 s h t → Readied n None slot value s h t
 given_ready n slot value s h t all g = record {
   id = g.id;
   slot_is = g.slot_is;
@@ -47,7 +48,8 @@ given_ready n slot value s h t all g = record {
   nodes = nodes_stay n s t _ all g.puts;
 }
 
-module _ (n : HeapNumbers) (below : Option ℕ) (slot value : ℕ) (s : Seat ℕ) (h : Hold) (t : Seat ℕ) (free : IsFree s.slots slot) (r : Readied n below slot value s h t) where
+module _ (n : HeapNumbers) (below : Option ℕ) (slot value : ℕ) (s : Seat ℕ) (h : Hold) (t : Seat ℕ) (free : IsFree s.slots slot)
+    (r : Readied n below slot value s h t) where
   pub ready_holds : Holds t.slots h
   ready_holds = holds-there s.slots t.slots slot r.id h free.empty r.slot_is r.slots
 
@@ -69,7 +71,8 @@ module _ (n : HeapNumbers) (below : Option ℕ) (slot value : ℕ) (s : Seat ℕ
         subst (λ z. Holds z k.now) (sym r.slots) (holds-other s.slots slot _ k.now (held_apart s.slots k.now slot held.0 free) held.0),
         λ e.
             let same : r.id ≡ id_in s.slots k.now = some_of (sym r.fresh ∙ (e ∙ ap Some is)) in
-            let both : Some (unlinked_node s.agent value below) ≡ Some (stack_node t.agent node.0 node.1) = sym r.node ∙ (ap (λ i. slice_get (heap_of n t).nodes i) same ∙ there) in
+            let both : Some (unlinked_node s.agent value below) ≡ Some (stack_node t.agent node.0 node.1) =
+            sym r.node ∙ (ap (λ i. slice_get (heap_of n t).nodes i) same ∙ there) in
             let linked : false ≡ true = ap is_linked both in
             cc,
       )
@@ -101,16 +104,21 @@ module _ (n : HeapNumbers) (below : Option ℕ) (slot value : ℕ) (s : Seat ℕ
     where
       node_told : slice_get (heap_of n u).nodes r.id ≡ Some (unlinked_node s.agent value below)
       node_told =
-          let k = own_node_told n (OwnRootsHolds n) (OwnRootsMay n) (own_roots_keeps n) (λ es e a m. m.0) (own_roots_moves_linked n) t.agent r.id t.seen o.puts.part (unlinked_node s.agent value below)
-          holds (part_allowed (OwnRootsMay n) t u [] o.puts all) (record { there = r.node; own = record { mine = sym r.agent; unnamed = refl; unlinked = refl } }) (rw o.puts.own_is refl) in
-          rw o.puts.is (subst (λ es. slice_get (run_heap n (t.seen ++ o.puts.part)).nodes r.id ≡ Some (touched_by r.id es (unlinked_node s.agent value below))) o.puts.own_is k.there)
+          let k = own_node_told n (OwnRootsHolds n) (OwnRootsMay n) (own_roots_keeps n) (λ es e a m. m.0)
+          (own_roots_moves_linked n) t.agent r.id t.seen o.puts.part (unlinked_node s.agent value below)
+          holds (part_allowed (OwnRootsMay n) t u [] o.puts all)
+          (record { there = r.node; own = record { mine = sym r.agent; unnamed = refl; unlinked = refl } }) (rw o.puts.own_is refl) in
+          rw o.puts.is
+          (subst (λ es. slice_get (run_heap n (t.seen ++ o.puts.part)).nodes r.id ≡ Some (touched_by r.id es (unlinked_node s.agent value below)))
+          o.puts.own_is k.there)
 
   -- a release gives all back
   pub ready_released : (u : Seat ℕ) → AllAllowed (OwnRootsMay n) [] u.seen → s.fresh ≡ None → Releases t h u → StackStays n s u
   ready_released u all none w = record {
     agent = w.puts.agent ∙ r.agent;
     slots = w.slots ∙ given-back s.slots t.slots slot r.id h free.empty r.slot_is r.slots;
-    fresh = w.fresh ∙ (ap (λ f. unless_node f (Some (id_in t.slots h))) r.fresh ∙ (ap (λ i. unless_node (Some r.id) (Some i)) ready_id ∙ (unless_same r.id ∙ sym none)));
+    fresh = w.fresh
+        ∙ (ap (λ f. unless_node f (Some (id_in t.slots h))) r.fresh ∙ (ap (λ i. unless_node (Some r.id) (Some i)) ready_id ∙ (unless_same r.id ∙ sym none)));
     top = λ to k. top_stays n t u [] all w.puts refl to (r.top to k);
     nodes = λ id v b k. nodes_stay n t u [] all w.puts id v b (r.nodes id v b k);
   }
@@ -128,14 +136,17 @@ module _ (n : HeapNumbers) (below : Option ℕ) (slot value : ℕ) (s : Seat ℕ
         slot_is = r.slot_is;
         agent = p.agent ∙ r.agent;
         slots = slots ∙ r.slots;
-        fresh = fresh ∙ (ap (λ f. unless_node f (Some (id_in t.slots h))) r.fresh ∙ (ap (λ i. unless_node (Some r.id) (Some i)) ready_id ∙ (unless_same r.id ∙ sym none)));
+        fresh = fresh
+            ∙ (ap (λ f. unless_node f (Some (id_in t.slots h))) r.fresh
+            ∙ (ap (λ i. unless_node (Some r.id) (Some i)) ready_id ∙ (unless_same r.id ∙ sym none)));
         top = rw p.agent (moved_top n t u from (plain_link (Some r.id)) noted all q);
         node = rw p.agent (moved_node n t u r.id value below from noted all holds q here);
         nodes = λ id v b k. nodes_stay n t u _ all p id v b (r.nodes id v b k);
       }
 
 -- the link of the new node is set
-pub aimed_ready : (n : HeapNumbers) (slot value : ℕ) (s : Seat ℕ) (h : Hold) (t u : Seat ℕ) (to : Option ℕ) → IsFree s.slots slot → (r : Readied n None slot value s h t)
+pub aimed_ready : (n : HeapNumbers) (slot value : ℕ) (s : Seat ℕ) (h : Hold) (t u : Seat ℕ) (to : Option ℕ) → IsFree s.slots slot
+    → (r : Readied n None slot value s h t)
     → AllAllowed (OwnRootsMay n) [] u.seen → OwnRootsHolds n t.seen → (t.fresh ≢ to)
     → Only (event_of t (Aim (id_in t.slots h) to) None ∷ []) t u → Readied n to slot value s h u
 aimed_ready n slot value s h t u to free r all holds other o = record {
@@ -169,8 +180,10 @@ aimed_ready n slot value s h t u to free r all holds other o = record {
     node_told : slice_get (heap_of n u).nodes r.id ≡ Some (unlinked_node s.agent value to)
     node_told =
         let x : Node = unlinked_node s.agent value None in
-        let k = own_node_told n (OwnRootsHolds n) (OwnRootsMay n) (own_roots_keeps n) (λ es e a m. m.0) (own_roots_moves_linked n) t.agent r.id t.seen o.puts.part x
-        holds (part_allowed (OwnRootsMay n) t u _ o.puts all) (record { there = r.node; own = record { mine = sym r.agent; unnamed = refl; unlinked = refl } }) (rw (own_is, away) refl) in
+        let k = own_node_told n (OwnRootsHolds n) (OwnRootsMay n) (own_roots_keeps n) (λ es e a m. m.0)
+        (own_roots_moves_linked n) t.agent r.id t.seen o.puts.part x
+        holds (part_allowed (OwnRootsMay n) t u _ o.puts all)
+        (record { there = r.node; own = record { mine = sym r.agent; unnamed = refl; unlinked = refl } }) (rw (own_is, away) refl) in
         let now : slice_get (run_heap n (t.seen ++ o.puts.part)).nodes r.id ≡ Some (touched_by r.id (event_of t (Aim r.id to) None ∷ []) x)
         = subst (λ es. slice_get (run_heap n (t.seen ++ o.puts.part)).nodes r.id ≡ Some (touched_by r.id es x)) own_is k.there in
         rw o.puts.is (now ∙ rw (away, eq-eqb r.id r.id refl) refl)
@@ -178,7 +191,8 @@ aimed_ready n slot value s h t u to free r all holds other o = record {
 -- both in one: a node that was given and whose link was set to what was on top
 pub linked_ready : (n : HeapNumbers) (slot value : ℕ) (s : Seat ℕ) (h : Hold) (t u : Seat ℕ) (top : Option (Bor Hold)) → IsFree s.slots slot
     → AllAllowed (OwnRootsMay n) [] t.seen → AllAllowed (OwnRootsMay n) [] u.seen → OwnRootsHolds n t.seen → HoldsTarget s top → HoldsNode n s top
-    → Gives n slot value 0 s h t → Only (event_of t (Aim (id_in t.slots h) (target_in t.slots top)) None ∷ []) t u → Readied n (target_in s.slots top) slot value s h u
+    → Gives n slot value 0 s h t → Only (event_of t (Aim (id_in t.slots h) (target_in t.slots top)) None ∷ []) t u
+    → Readied n (target_in s.slots top) slot value s h u
 linked_ready n slot value s h t u top free all_t all_u holds held node g o =
     let r = given_ready n slot value s h t all_t g in
     let target = ready_target n None slot value s h t free r top held node in

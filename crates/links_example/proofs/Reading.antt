@@ -58,7 +58,8 @@ module _ (n : HeapNumbers) (place : Place) (slot : ℕ) (s : Seat ℕ) (h : Hold
   found_other_id k ne = ap (λ z. id_in z k) f.slots ∙ id-other s.slots slot _ k ne
 
 -- the value of a node of the stack
-pub value_read : (n : HeapNumbers) (t : Seat ℕ) (id value result : ℕ) (below : Option ℕ) → HasNode n t id value below → ReadsValue (heap_of n t) id 0 result → result ≡ value
+pub value_read : (n : HeapNumbers) (t : Seat ℕ) (id value result : ℕ) (below : Option ℕ) → HasNode n t id value below
+    → ReadsValue (heap_of n t) id 0 result → result ≡ value
 value_read n t id value result below node r =
     let both : Some r.node ≡ Some (stack_node t.agent value below) = sym r.there ∙ node in
     let same : r.node ≡ stack_node t.agent value below = cc in

@@ -34,13 +34,15 @@ pub no_miss : (n : HeapNumbers) (s t : Seat ℕ) (wanted : Link) → AllAllowed 
     → shown (heap_of n s) (Root s.agent) ≡ Some wanted → Misses (Root s.agent) wanted s t → ⊥
 no_miss n s t wanted all there m =
     let st = Puts-stood (OwnRootsMay n) s t [] _ [] m.puts all in
-    let both : Some m.found ≡ Some wanted = sym st.here.0.0 ∙ root_then n s.agent wanted s.seen st.before (record { allowed = st.first; others = st.own_before }) there in
+    let both : Some m.found ≡ Some wanted =
+    sym st.here.0.0 ∙ root_then n s.agent wanted s.seen st.before (record { allowed = st.first; others = st.own_before }) there in
     m.other (cc)
 
 moved_roots : (n : HeapNumbers) (agent : ℕ) (from to : Link) (es : List (Event ℕ)) (e : Event ℕ) → e.act ≡ Move (Root agent) from to
     → shown (run_heap n es) (Root agent) ≡ Some from → shown (run_heap n (es ++ e ∷ [])) (Root agent) ≡ Some to
 moved_roots n agent from to es e is there =
-    rw (run_heap-snoc n es e, is) (ap (λ rs. slice_get rs agent) (target_roots as_linked to.to _) ∙ get-change_same (λ (l : Link). to) agent (run_heap n es).roots from there)
+    rw (run_heap-snoc n es e, is) (ap (λ rs. slice_get rs agent) (target_roots as_linked to.to _)
+    ∙ get-change_same (λ (l : Link). to) agent (run_heap n es).roots from there)
 
 -- after its Move the root shows the new link
 pub moved_top : (n : HeapNumbers) (s t : Seat ℕ) (from to : Link) (noted : Option ℕ) → AllAllowed (OwnRootsMay n) [] t.seen
@@ -53,25 +55,30 @@ moved_top n s t from to noted all p =
 abbrev pub unlinked_node : ℕ → ℕ → Option ℕ → Node
 unlinked_node agent value below = record { giver = agent; first = Some value; second = Some 0; link = plain_link below; named = false; linked = false }
 
-linked_now : (n : HeapNumbers) (agent id value : ℕ) (below : Option ℕ) (from : Link) (es : List (Event ℕ)) (e : Event ℕ) → e.act ≡ Move (Root agent) from (plain_link (Some id))
-    → slice_get (run_heap n es).nodes id ≡ Some (unlinked_node agent value below) → slice_get (run_heap n (es ++ e ∷ [])).nodes id ≡ Some (stack_node agent value below)
+linked_now : (n : HeapNumbers) (agent id value : ℕ) (below : Option ℕ) (from : Link) (es : List (Event ℕ)) (e : Event ℕ)
+    → e.act ≡ Move (Root agent) from (plain_link (Some id))
+    → slice_get (run_heap n es).nodes id ≡ Some (unlinked_node agent value below)
+    → slice_get (run_heap n (es ++ e ∷ [])).nodes id ≡ Some (stack_node agent value below)
 linked_now n agent id value below from es e is there =
     rw (run_heap-snoc n es e, is) (get-change_same as_linked id (run_heap n es).nodes (unlinked_node agent value below) there)
 
 -- a fresh node that is linked by the Move is a node of the stack from then on
-pub moved_node : (n : HeapNumbers) (s t : Seat ℕ) (id value : ℕ) (below : Option ℕ) (from : Link) (noted : Option ℕ) → AllAllowed (OwnRootsMay n) [] t.seen → OwnRootsHolds n s.seen
+pub moved_node : (n : HeapNumbers) (s t : Seat ℕ) (id value : ℕ) (below : Option ℕ) (from : Link) (noted : Option ℕ)
+    → AllAllowed (OwnRootsMay n) [] t.seen → OwnRootsHolds n s.seen
     → Puts s (event_of s (Move (Root s.agent) from (plain_link (Some id))) noted ∷ []) t
     → slice_get (heap_of n s).nodes id ≡ Some (unlinked_node s.agent value below)
     → slice_get (heap_of n t).nodes id ≡ Some (stack_node s.agent value below)
 moved_node n s t id value below from noted all holds p there =
     let x : Node = unlinked_node s.agent value below in
     let st = Puts-stood (OwnRootsMay n) s t [] _ [] p all in
-    let k = own_node_told n (OwnRootsHolds n) (OwnRootsMay n) (own_roots_keeps n) (λ es e h m. m.0) (own_roots_moves_linked n) s.agent id s.seen st.before x holds st.first
+    let k = own_node_told n (OwnRootsHolds n) (OwnRootsMay n) (own_roots_keeps n) (λ es e h m. m.0)
+    (own_roots_moves_linked n) s.agent id s.seen st.before x holds st.first
     (record { there = there; own = record { mine = refl; unnamed = refl; unlinked = refl } }) (rw st.own_before refl) in
     let now : slice_get (run_heap n (s.seen ++ st.before)).nodes id ≡ Some x
     = subst (λ es. slice_get (run_heap n (s.seen ++ st.before)).nodes id ≡ Some (touched_by id es x)) st.own_before k.there in
     let after = linked_now n s.agent id value below from (s.seen ++ st.before) (event_of s (Move (Root s.agent) from (plain_link (Some id))) noted) refl now in
-    subst (λ es. slice_get (run_heap n es).nodes id ≡ Some (stack_node s.agent value below)) (sym st.is) (node_later n s.agent id value below _ st.later st.last after)
+    subst (λ es. slice_get (run_heap n es).nodes id ≡ Some (stack_node s.agent value below)) (sym st.is)
+    (node_later n s.agent id value below _ st.later st.last after)
 
 -- a Move of the agent's root to null or to a node that it knows is allowed in every later journal
 pub move_allowed : (n : HeapNumbers) (s : Seat ℕ) (from to : Link) → to.mark ≡ false → IsTarget s.agent (heap_of n s) to.to

@@ -43,7 +43,8 @@ fn push<L: Links<Rule = OwnRoots>>(
     requires top { HasTop (L.numbers links.now) (L.seat links.now p.old) (target_in (L.seat links.now p.old).slots top) }
     requires node { HoldsNode (L.numbers links.now) (L.seat links.now p.old) top }
     ensures pass { L.belongs links.now p.new }
-    ensures pushed { IfOk result (λ h. Pushes (L.numbers links.now) (target_in (L.seat links.now p.old).slots top.entry) slot value (L.seat links.now p.old) h (L.seat links.now p.new)) }
+    ensures pushed { IfOk result (λ h. Pushes (L.numbers links.now) (target_in (L.seat links.now p.old).slots top.entry) slot value (L.seat links.now p.old) h
+        (L.seat links.now p.new)) }
     ensures none { IfErr result (λ e. StackStays (L.numbers links.now) (L.seat links.now p.old) (L.seat links.now p.new)) }
 {
     let agent = links.agent(p);
@@ -103,7 +104,8 @@ fn look_at<L: Links<Rule = OwnRoots>>(links: &L, p: &mut L::Pass, place: &At, sl
     requires place { HoldsPlace (L.numbers links.now).roots (L.seat links.now p.old).slots place.now }
     requires stack { (to : ℕ) × LeadsTo (L.numbers links.now) (L.seat links.now p.old) (place_in (L.seat links.now p.old).slots place.now) to }
     ensures pass { L.belongs links.now p.new }
-    ensures found { Finds (L.numbers links.now) (place_in (L.seat links.now p.old).slots place.now) slot (L.seat links.now p.old) result (L.seat links.now p.new) }
+    ensures found { Finds (L.numbers links.now) (place_in (L.seat links.now p.old).slots place.now) slot (L.seat links.now p.old) result
+        (L.seat links.now p.new) }
 {
     match links.look(p, place, slot) {
         Looked::Stable(_, Some(h)) => h,

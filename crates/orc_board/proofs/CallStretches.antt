@@ -23,15 +23,20 @@ is_move (Empty by) = false
 pub own_moves : (agent : ℕ) (es : List QueueEntry) → filter (is_own_move agent) es ≡ filter is_move (own_of agent_of_entry agent es)
 own_moves agent [] = refl
 own_moves agent (Put by job at ∷ es) =
-    let cases : (b : Bool) → cond b (Put by job at ∷ filter (is_own_move agent) es) (filter (is_own_move agent) es) ≡ filter is_move (cond b (Put by job at ∷ own_of agent_of_entry agent es) (own_of agent_of_entry agent es)) =
+    let cases : (b : Bool)
+    → cond b (Put by job at ∷ filter (is_own_move agent) es) (filter (is_own_move agent) es) ≡ filter is_move
+    (cond b (Put by job at ∷ own_of agent_of_entry agent es) (own_of agent_of_entry agent es)) =
     elim [ true ↦ ap (λ z. Put by job at ∷ z) (own_moves agent es) | false ↦ own_moves agent es ] in
     cases (by == agent)
 own_moves agent (Took by job at ∷ es) =
-    let cases : (b : Bool) → cond b (Took by job at ∷ filter (is_own_move agent) es) (filter (is_own_move agent) es) ≡ filter is_move (cond b (Took by job at ∷ own_of agent_of_entry agent es) (own_of agent_of_entry agent es)) =
+    let cases : (b : Bool)
+    → cond b (Took by job at ∷ filter (is_own_move agent) es) (filter (is_own_move agent) es) ≡ filter is_move
+    (cond b (Took by job at ∷ own_of agent_of_entry agent es) (own_of agent_of_entry agent es)) =
     elim [ true ↦ ap (λ z. Took by job at ∷ z) (own_moves agent es) | false ↦ own_moves agent es ] in
     cases (by == agent)
 own_moves agent (Empty by ∷ es) =
-    let cases : (b : Bool) → filter (is_own_move agent) es ≡ filter is_move (cond b (Empty by ∷ own_of agent_of_entry agent es) (own_of agent_of_entry agent es)) =
+    let cases : (b : Bool)
+    → filter (is_own_move agent) es ≡ filter is_move (cond b (Empty by ∷ own_of agent_of_entry agent es) (own_of agent_of_entry agent es)) =
     elim [ true ↦ own_moves agent es | false ↦ own_moves agent es ] in
     cases (by == agent)
 
@@ -52,18 +57,21 @@ SetAdds-stretch s agent own j k later a = record { later = later; part = a.part;
 
 -- calls after refusals that were made again; `now` is the agent as the last call has it
 pub queue_call : {A : Type 0} (q : View A QueueEntry QueueRefused) (agent now : ℕ) → now ≡ agent → (own : ℕ → List QueueEntry) (i j k : List A)
-    → Stretch of_queue q agent [] i j → IsPrefix j k → Adds agent_of_entry q.crowd now (q.history j) (own now) (q.history k) → Stretch of_queue q agent (filter is_move (own agent)) i k
+    → Stretch of_queue q agent [] i j → IsPrefix j k → Adds agent_of_entry q.crowd now (q.history j) (own now) (q.history k)
+    → Stretch of_queue q agent (filter is_move (own agent)) i k
 queue_call q agent now same own i j k before later a =
     Stretch-trans of_queue q agent [] (filter is_move (own agent)) i j k before
     (subst (λ (x : ℕ). Stretch of_queue q x (filter is_move (own x)) j k) same (Adds-stretch q now (own now) j k later a))
 
 pub dequeue_call : {A : Type 0} (q : View A QueueEntry QueueRefused) (agent now : ℕ) → now ≡ agent → (got : Option (ℕ × ℕ)) (i j k : List A)
-    → Stretch of_queue q agent [] i j → IsPrefix j k → Adds agent_of_entry q.crowd now (q.history j) (entry_of_dequeue now got ∷ []) (q.history k) → Stretch of_queue q agent (took_of agent got) i k
+    → Stretch of_queue q agent [] i j → IsPrefix j k → Adds agent_of_entry q.crowd now (q.history j) (entry_of_dequeue now got ∷ []) (q.history k)
+    → Stretch of_queue q agent (took_of agent got) i k
 dequeue_call q agent now same None i j k before later a = queue_call q agent now same (λ x. Empty x ∷ []) i j k before later a
 dequeue_call q agent now same (Some got) i j k before later a = queue_call q agent now same (λ x. Took x got.0 got.1 ∷ []) i j k before later a
 
 pub set_call : {B : Type 0} (s : View B SetEntry ListRefused) (agent now : ℕ) → now ≡ agent → (own : ℕ → List SetEntry) (i j k : List B)
-    → Stretch of_set s agent [] i j → IsPrefix j k → Adds agent_of_set_entry s.crowd now (s.history j) (own now) (s.history k) → Stretch of_set s agent (own agent) i k
+    → Stretch of_set s agent [] i j → IsPrefix j k → Adds agent_of_set_entry s.crowd now (s.history j) (own now) (s.history k)
+    → Stretch of_set s agent (own agent) i k
 set_call s agent now same own i j k before later a =
     Stretch-trans of_set s agent [] (own agent) i j k before
     (subst (λ (x : ℕ). Stretch of_set s x (own x) j k) same (SetAdds-stretch s now (own now) j k later a))
@@ -80,7 +88,8 @@ refused_call {W = W} kind x agent now same why told is i j k before whole h = re
 }
 
 none_own : (agent : ℕ) (crowd : ℕ → Type 0) (es : List QueueEntry) → own_of agent_of_entry agent es ≡ []
-    → AllByRecursion (λ e. (agent_of_entry e ≡ agent) ⊎ crowd (agent_of_entry e)) es → AllByRecursion (λ e. (agent_of_entry e ≢ agent) × crowd (agent_of_entry e)) es
+    → AllByRecursion (λ e. (agent_of_entry e ≡ agent) ⊎ crowd (agent_of_entry e)) es
+    → AllByRecursion (λ e. (agent_of_entry e ≢ agent) × crowd (agent_of_entry e)) es
 none_own agent crowd [] own all = tt
 none_own agent crowd (e ∷ es) own all =
     let cases : (b : Bool) → (agent_of_entry e == agent) ≡ b → cond b (e ∷ own_of agent_of_entry agent es) (own_of agent_of_entry agent es) ≡ []
@@ -96,11 +105,13 @@ none_own agent crowd (e ∷ es) own all =
 -- where the agent's first own entry stands
 split_own : (agent : ℕ) (crowd : ℕ → Type 0) (y : QueueEntry) (es : List QueueEntry) → own_of agent_of_entry agent es ≡ y ∷ []
     → AllByRecursion (λ e. (agent_of_entry e ≡ agent) ⊎ crowd (agent_of_entry e)) es
-    → (front : List QueueEntry) × (back : List QueueEntry) × (es ≡ front ++ y ∷ back) × AllByRecursion (λ e. (agent_of_entry e ≢ agent) × crowd (agent_of_entry e)) back
+    → (front : List QueueEntry) × (back : List QueueEntry) × (es ≡ front ++ y ∷ back)
+    × AllByRecursion (λ e. (agent_of_entry e ≢ agent) × crowd (agent_of_entry e)) back
 split_own agent crowd y [] own all = cc
 split_own agent crowd y (e ∷ es) own all =
     let cases : (b : Bool) → (agent_of_entry e == agent) ≡ b → cond b (e ∷ own_of agent_of_entry agent es) (own_of agent_of_entry agent es) ≡ y ∷ []
-    → (front : List QueueEntry) × (back : List QueueEntry) × (e ∷ es ≡ front ++ y ∷ back) × AllByRecursion (λ x. (agent_of_entry x ≢ agent) × crowd (agent_of_entry x)) back =
+    → (front : List QueueEntry) × (back : List QueueEntry) × (e ∷ es ≡ front ++ y ∷ back)
+    × AllByRecursion (λ x. (agent_of_entry x ≢ agent) × crowd (agent_of_entry x)) back =
     elim [
       | true ↦ λ is h. ([], es, (let same : e ≡ y = cc in ap (λ z. z ∷ es) same), none_own agent crowd es (cc) all.1)
       | false ↦ λ is h. let r = split_own agent crowd y es h all.1 in (e ∷ r.0, r.1, ap (λ z. e ∷ z) r.2, r.3)
@@ -121,11 +132,18 @@ ends_later q agent entry own i j k t e = record {
 
 -- a history whose last entry of the agent is an Empty
 pub ends_empty : {A : Type 0} (q : View A QueueEntry QueueRefused) (agent : ℕ) (j k : List A) → EndsWith q agent (Empty agent) j k → EndsEmpty q agent k
-ends_empty q agent j k e = record { front = q.history j ++ e.front; back = e.back; is = e.is ∙ sym (append_assoc (q.history j) e.front (Empty agent ∷ e.back)); others = e.others }
+ends_empty q agent j k e = record {
+  front = q.history j ++ e.front;
+  back = e.back;
+  is = e.is
+      ∙ sym (append_assoc (q.history j) e.front (Empty agent ∷ e.back));
+  others = e.others;
+}
 
 -- the agent's last entry after a dequeue
 pub dequeue_last : {A : Type 0} (q : View A QueueEntry QueueRefused) (agent now : ℕ) → now ≡ agent → (got : Option (ℕ × ℕ)) (i j k : List A)
-    → Stretch of_queue q agent [] i j → Adds agent_of_entry q.crowd now (q.history j) (entry_of_dequeue now got ∷ []) (q.history k) → EndsWith q agent (entry_of_dequeue agent got) i k
+    → Stretch of_queue q agent [] i j → Adds agent_of_entry q.crowd now (q.history j) (entry_of_dequeue now got ∷ []) (q.history k)
+    → EndsWith q agent (entry_of_dequeue agent got) i k
 dequeue_last q agent now same got i j k before a =
     let r = split_own now q.crowd (entry_of_dequeue now got) a.part a.own_is a.others in
     let moved : EndsWith q now (entry_of_dequeue now got) j k = record { front = r.0; back = r.1; is = a.is ∙ ap (λ z. q.history j ++ z) r.2; others = r.3 } in

@@ -9,7 +9,7 @@ use Rattle.orc_history.specs.declared.set.ListRefused.{ListRefused}
 use Rattle.orc_board.specs.Stretches.{View, Kind, of_queue, of_set, MayStand, Stretch, Share, just, nothing, Licensed, Did, Row, empty_row, Stands, Chain, Works}
 use Rattle.orc_board.proofs.ListFacts.{AllByRecursion-append}
 
-prefix_trans : {X : Type 0} (a b c : List X) → IsPrefix a b → IsPrefix b c → IsPrefix a c
+pub prefix_trans : {X : Type 0} (a b c : List X) → IsPrefix a b → IsPrefix b c → IsPrefix a c
 prefix_trans a b c (t, e) (u, f) = (t ++ u, sym (append_assoc a t u) ∙ (ap (λ z. z ++ u) e ∙ f))
 
 prefix_length : {X : Type 0} (a b : List X) → IsPrefix a b → length a ≤ length b
@@ -29,7 +29,8 @@ pub Stretch-refl : {A E W : Type 0} (kind : Kind E) (x : View A E W) (agent : �
 Stretch-refl kind x agent j = record { later = ([], append-nil j); part = []; is = sym (append-nil (x.history j)); own_is = refl; others = tt }
 
 -- a stretch that begins earlier
-pub licensed_from : {A E W : Type 0} (x : View A E W) (agent : ℕ) (why : Option W) (i j k : List A) → IsPrefix i j → Licensed x agent why j k → Licensed x agent why i k
+pub licensed_from : {A E W : Type 0} (x : View A E W) (agent : ℕ) (why : Option W) (i j k : List A) → IsPrefix i j → Licensed x agent why j k
+    → Licensed x agent why i k
 licensed_from x agent None i j k p h = tt
 licensed_from x agent (Some why) i j k p (from, to, a, b, c, h) = (from, to, omega (arith, prefix_length i j p), b, c, h)
 
@@ -49,35 +50,48 @@ Did-just kind x agent own j k h = record { stretch = h; licence = tt }
 pub Did-nothing : {A E W : Type 0} (kind : Kind E) (x : View A E W) (agent : ℕ) (j : List A) → Did kind x agent nothing j j
 Did-nothing kind x agent j = Did-just kind x agent [] j j (Stretch-refl kind x agent j)
 
-pub Stands-after : {A B : Type 0} (q : View A QueueEntry QueueRefused) (s : View B SetEntry ListRefused) (agent : ℕ) (row : Row) (i j k : List A) (l m n : List B)
+pub Stands-after : {A B : Type 0} (q : View A QueueEntry QueueRefused) (s : View B SetEntry ListRefused) (agent : ℕ) (row : Row) (i j k : List A)
+    (l m n : List B)
     → Stands q s agent empty_row i l j m → Stands q s agent row j m k n → Stands q s agent row i l k n
 Stands-after q s agent row i j k l m n a b = record {
   queue = Did-after of_queue q agent row.queue i j k a.queue.stretch b.queue;
   set = Did-after of_set s agent row.set l m n a.set.stretch b.set;
 }
 
-pub Stands-empty : {A B : Type 0} (q : View A QueueEntry QueueRefused) (s : View B SetEntry ListRefused) (agent : ℕ) (j : List A) (m : List B) → Stands q s agent empty_row j m j m
+pub Stands-empty : {A B : Type 0} (q : View A QueueEntry QueueRefused) (s : View B SetEntry ListRefused) (agent : ℕ) (j : List A) (m : List B)
+    → Stands q s agent empty_row j m j m
 Stands-empty q s agent j m = record { queue = Did-nothing of_queue q agent j; set = Did-nothing of_set s agent m }
 
-chain_more : {A B : Type 0} (q : View A QueueEntry QueueRefused) (s : View B SetEntry ListRefused) (agent : ℕ) (rows : List Row) (j k k2 : List A) (m n n2 : List B)
+chain_more : {A B : Type 0} (q : View A QueueEntry QueueRefused) (s : View B SetEntry ListRefused) (agent : ℕ) (rows : List Row) (j k k2 : List A)
+    (m n n2 : List B)
     → Chain q s agent rows j m k n → Stands q s agent empty_row k n k2 n2 → Chain q s agent rows j m k2 n2
 chain_more q s agent [] j k k2 m n n2 c h = Stands-after q s agent empty_row j k k2 m n n2 c h
 chain_more q s agent (row ∷ rows) j k k2 m n n2 (i, l, one, c) h = (i, l, one, chain_more q s agent rows i k k2 l n n2 c h)
 
-chain_snoc : {A B : Type 0} (q : View A QueueEntry QueueRefused) (s : View B SetEntry ListRefused) (agent : ℕ) (rows : List Row) (row : Row) (j k k2 : List A) (m n n2 : List B)
+chain_snoc : {A B : Type 0} (q : View A QueueEntry QueueRefused) (s : View B SetEntry ListRefused) (agent : ℕ) (rows : List Row) (row : Row) (j k k2 : List A)
+    (m n n2 : List B)
     → Chain q s agent rows j m k n → Stands q s agent row k n k2 n2 → Chain q s agent (rows ++ row ∷ []) j m k2 n2
 chain_snoc q s agent [] row j k k2 m n n2 c h = (k2, n2, Stands-after q s agent row j k k2 m n n2 c h, Stands-empty q s agent k2 n2)
 chain_snoc q s agent (r ∷ rows) row j k k2 m n n2 (i, l, one, c) h = (i, l, one, chain_snoc q s agent rows row i k k2 l n n2 c h)
 
 -- one reply more
-pub Works-row : {A B : Type 0} (q : View A QueueEntry QueueRefused) (s : View B SetEntry ListRefused) (agent : ℕ) {rows : List Row} {row : Row} {j k k2 : List A} {m n n2 : List B}
+pub Works-row : {A B : Type 0} (q : View A QueueEntry QueueRefused) (s : View B SetEntry ListRefused)
+    (agent : ℕ) {rows : List Row} {row : Row} {j k k2 : List A} {m n n2 : List B}
     → Works q s agent rows j m k n → Stands q s agent row k n k2 n2 → Works q s agent (rows ++ row ∷ []) j m k2 n2
-Works-row q s agent {rows = rows} {row = row} {j = j} {k = k} {k2 = k2} {m = m} {n = n} {n2 = n2} w h = record { chain = chain_snoc q s agent rows row j k k2 m n n2 w.chain h }
+Works-row q s agent {rows = rows} {row = row} {j = j} {k = k} {k2 = k2} {m = m} {n = n} {n2 = n2} w h = record {
+  chain = chain_snoc q s agent rows row j k k2
+      m n n2 w.chain h;
+}
 
 -- what others add later, and the agent's own Empties
-pub Works-more : {A B : Type 0} (q : View A QueueEntry QueueRefused) (s : View B SetEntry ListRefused) (agent : ℕ) {rows : List Row} {j k k2 : List A} {m n n2 : List B}
+pub Works-more : {A B : Type 0} (q : View A QueueEntry QueueRefused) (s : View B SetEntry ListRefused)
+    (agent : ℕ) {rows : List Row} {j k k2 : List A} {m n n2 : List B}
     → Works q s agent rows j m k n → Stands q s agent empty_row k n k2 n2 → Works q s agent rows j m k2 n2
-Works-more q s agent {rows = rows} {j = j} {k = k} {k2 = k2} {m = m} {n = n} {n2 = n2} w h = record { chain = chain_more q s agent rows j k k2 m n n2 w.chain h }
+Works-more q s agent {rows = rows} {j = j} {k = k} {k2 = k2} {m = m} {n = n} {n2 = n2} w h = record {
+  chain = chain_more q s agent rows j k k2 m n n2 w.chain
+      h;
+}
 
-pub Works-none : {A B : Type 0} (q : View A QueueEntry QueueRefused) (s : View B SetEntry ListRefused) (agent : ℕ) (j : List A) (m : List B) → Works q s agent [] j m j m
+pub Works-none : {A B : Type 0} (q : View A QueueEntry QueueRefused) (s : View B SetEntry ListRefused) (agent : ℕ) (j : List A) (m : List B)
+    → Works q s agent [] j m j m
 Works-none q s agent j m = record { chain = Stands-empty q s agent j m }

@@ -10,13 +10,15 @@ use Rattle.orc_board.proofs.ListFacts.{AllByRecursion-append, AllByRecursion-map
 no_way : {Z : Type 0} → true ≡ false → Z
 no_way e = let n : ⊥ = cc in absurd n
 
-split_step : {X : Type 0} (x : X) (less same more : Bool) (F G H : List X) → (more ≡ true → (less ≡ true) ⊎ (same ≡ true)) → (less ≡ true → same ≡ false) → (less ≡ true → more ≡ true) → (same ≡ true → more ≡ true)
+split_step : {X : Type 0} (x : X) (less same more : Bool) (F G H : List X) → (more ≡ true → (less ≡ true) ⊎ (same ≡ true)) → (less ≡ true → same ≡ false)
+    → (less ≡ true → more ≡ true) → (same ≡ true → more ≡ true)
     → IsPermutation H (F ++ G) → IsPermutation (cond more (x ∷ H) H) (cond less (x ∷ F) F ++ cond same (x ∷ G) G)
 split_step x true true more F G H a b c d p = no_way (b refl)
 split_step x true false true F G H a b c d p = IsPermutation-cons x H (F ++ G) p
 split_step x true false false F G H a b c d p = no_way (sym (c refl))
 split_step x false true true F G H a b c d p =
-    IsPermutation-trans (x ∷ H) (x ∷ (F ++ G)) (F ++ x ∷ G) (IsPermutation-cons x H (F ++ G) p) (IsPermutation-sym (F ++ x ∷ G) (x ∷ (F ++ G)) (IsPermutation-middle F x G))
+    IsPermutation-trans (x ∷ H) (x ∷ (F ++ G)) (F ++ x ∷ G) (IsPermutation-cons x H (F ++ G) p)
+    (IsPermutation-sym (F ++ x ∷ G) (x ∷ (F ++ G)) (IsPermutation-middle F x G))
 split_step x false true false F G H a b c d p = no_way (sym (d refl))
 split_step x false false true F G H a b c d p = elim (a refl) as (λ _. IsPermutation (x ∷ H) (F ++ G)) [ inl e ↦ no_way (sym e) | inr e ↦ no_way (sym e) ]
 split_step x false false false F G H a b c d p = p
@@ -33,10 +35,12 @@ tests_c k n e = grind (arith, nat_tests)
 tests_d : (k n : ℕ) → (k == n) ≡ true → ltb k (suc n) ≡ true
 tests_d k n e = grind (arith, nat_tests)
 
-one_more : {X : Type 0} (key : X → ℕ) (n : ℕ) (xs : List X) → IsPermutation (filter (λ x. ltb (key x) (suc n)) xs) (filter (λ x. ltb (key x) n) xs ++ filter (λ x. key x == n) xs)
+one_more : {X : Type 0} (key : X → ℕ) (n : ℕ) (xs : List X)
+    → IsPermutation (filter (λ x. ltb (key x) (suc n)) xs) (filter (λ x. ltb (key x) n) xs ++ filter (λ x. key x == n) xs)
 one_more key n [] = IsPermutation-refl []
 one_more key n (x ∷ xs) =
-    split_step x (ltb (key x) n) (key x == n) (ltb (key x) (suc n)) (filter (λ x. ltb (key x) n) xs) (filter (λ x. key x == n) xs) (filter (λ x. ltb (key x) (suc n)) xs)
+    split_step x (ltb (key x) n) (key x == n) (ltb (key x) (suc n)) (filter (λ x. ltb (key x) n) xs) (filter (λ x. key x == n) xs)
+    (filter (λ x. ltb (key x) (suc n)) xs)
     (tests_a (key x) n) (tests_b (key x) n) (tests_c (key x) n) (tests_d (key x) n) (one_more key n xs)
 
 none_below : {X : Type 0} (key : X → ℕ) (xs : List X) → filter (λ x. ltb (key x) 0) xs ≡ []
@@ -59,7 +63,8 @@ sorted_out {X} key (suc n) xs =
     (IsPermutation-append few (by_key key n xs) rest rest (sorted_out key n xs) (IsPermutation-refl rest))
 
 -- lists that agree at each key below n give the same in the order of keys
-pub same_keys : {X : Type 0} (key : X → ℕ) (n : ℕ) (xs ys : List X) → ((a : ℕ) → a < n → filter (λ x. key x == a) xs ≡ filter (λ x. key x == a) ys) → by_key key n xs ≡ by_key key n ys
+pub same_keys : {X : Type 0} (key : X → ℕ) (n : ℕ) (xs ys : List X) → ((a : ℕ) → a < n → filter (λ x. key x == a) xs ≡ filter (λ x. key x == a) ys)
+    → by_key key n xs ≡ by_key key n ys
 same_keys key zero xs ys h = refl
 same_keys key (suc n) xs ys h =
     ap (λ z. z ++ filter (λ x. key x == n) xs) (same_keys key n xs ys (λ a l. h a (omega arith))) ∙ ap (λ z. by_key key n ys ++ z) (h n (omega arith))
@@ -90,7 +95,8 @@ by_key_below key (suc n) xs =
 no_lower : {X : Type 0} (key : X → ℕ) (m n : ℕ) (xs : List X) → m ≤ n → AllByRecursion (λ x. key x ≡ n) xs → by_key key m xs ≡ []
 no_lower key zero n xs l h = refl
 no_lower {X} key (suc m) n xs l h =
-    ap (λ z. z ++ filter (λ x. key x == m) xs) (no_lower key m n xs (omega arith) h) ∙ filter-none key m xs (AllByRecursion-map (λ x. key x ≡ n) (λ x. key x ≢ m) (λ x e. omega arith) xs h)
+    ap (λ z. z ++ filter (λ x. key x == m) xs) (no_lower key m n xs (omega arith) h)
+    ∙ filter-none key m xs (AllByRecursion-map (λ x. key x ≡ n) (λ x. key x ≢ m) (λ x e. omega arith) xs h)
 
 pub one_key : {X : Type 0} (key : X → ℕ) (n : ℕ) (xs : List X) → AllByRecursion (λ x. key x ≡ n) xs → xs ≡ by_key key (suc n) xs
 one_key key n xs h =

@@ -50,7 +50,8 @@ AllByRecursion-right P (x ∷ xs) ys a = AllByRecursion-right P xs ys a.1
 pub AllByRecursion-filter : {X : Type 0} (P : X → Type 0) (test : X → Bool) (xs : List X) → AllByRecursion P xs → AllByRecursion P (filter test xs)
 AllByRecursion-filter P test [] a = tt
 AllByRecursion-filter {X} P test (x ∷ xs) a =
-    let cases : (b : Bool) → AllByRecursion P (cond b (x ∷ filter test xs) (filter test xs)) = elim [ true ↦ (a.0, AllByRecursion-filter P test xs a.1) | false ↦ AllByRecursion-filter P test xs a.1 ] in
+    let cases : (b : Bool) → AllByRecursion P (cond b (x ∷ filter test xs) (filter test xs)) =
+    elim [ true ↦ (a.0, AllByRecursion-filter P test xs a.1) | false ↦ AllByRecursion-filter P test xs a.1 ] in
     cases (test x)
 
 -- a key that no item has

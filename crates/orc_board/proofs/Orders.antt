@@ -28,7 +28,8 @@ values : {X : Type 0} (key value : X → ℕ) (xs : List X) → map (λ (z : ℕ
 values key value [] = refl
 values key value (x ∷ xs) = ap (λ z. value x ∷ z) (values key value xs)
 
-keyed_at : {X : Type 0} (key value : X → ℕ) (a : ℕ) (xs : List X) → filter (λ (z : ℕ × ℕ). z.0 == a) (keyed key value xs) ≡ map (λ (v : ℕ). (a, v)) (map value (filter (λ x. key x == a) xs))
+keyed_at : {X : Type 0} (key value : X → ℕ) (a : ℕ) (xs : List X)
+    → filter (λ (z : ℕ × ℕ). z.0 == a) (keyed key value xs) ≡ map (λ (v : ℕ). (a, v)) (map value (filter (λ x. key x == a) xs))
 keyed_at key value a [] = refl
 keyed_at {X} key value a (x ∷ xs) =
     let F : List X = filter (λ y. key y == a) xs in
@@ -40,7 +41,8 @@ keyed_at {X} key value a (x ∷ xs) =
     ] in
     cases (key x == a) refl
 
-keyed_below : {X : Type 0} (key value : X → ℕ) (n : ℕ) (xs : List X) → AllByRecursion (λ x. key x < n) xs → AllByRecursion (λ (z : ℕ × ℕ). z.0 < n) (keyed key value xs)
+keyed_below : {X : Type 0} (key value : X → ℕ) (n : ℕ) (xs : List X) → AllByRecursion (λ x. key x < n) xs
+    → AllByRecursion (λ (z : ℕ × ℕ). z.0 < n) (keyed key value xs)
 keyed_below key value n [] h = tt
 keyed_below key value n (x ∷ xs) h = (h.0, keyed_below key value n xs h.1)
 
@@ -63,13 +65,16 @@ posters_in_range lines posters takers posts takes o =
 pub no_posts : (posters a : ℕ) (posts : List PostReply) → AllByRecursion (λ (r : PostReply). (1 ≤ r.poster) × (r.poster < suc posters)) posts
     → ((p : ℕ) → (1 ≤ p) × (p < suc posters) → p ≢ a) → posts_of a posts ≡ []
 no_posts posters a posts range other =
-    filter-none (λ (r : PostReply). r.poster) a posts (AllByRecursion-map (λ (r : PostReply). (1 ≤ r.poster) × (r.poster < suc posters)) (λ (r : PostReply). r.poster ≢ a) (λ r h. other r.poster h) posts range)
+    filter-none (λ (r : PostReply). r.poster) a posts
+    (AllByRecursion-map (λ (r : PostReply). (1 ≤ r.poster) × (r.poster < suc posters)) (λ (r : PostReply). r.poster ≢ a)
+    (λ r h. other r.poster h) posts range)
 
 pub above_zero : (a p posters : ℕ) → a ≡ 0 → (1 ≤ p) × (p < suc posters) → p ≢ a
 above_zero a p posters z h = omega (arith, h.0)
 
 -- each line has one reply
-pub each_line : (lines : List Line) (posters takers : ℕ) (posts : List PostReply) (takes : List TakeReply) → 1 ≤ posters → AreInOrder lines posters takers posts takes
+pub each_line : (lines : List Line) (posters takers : ℕ) (posts : List PostReply) (takes : List TakeReply) → 1 ≤ posters
+    → AreInOrder lines posters takers posts takes
     → IsPermutation (map (λ (r : PostReply). r.line) posts) (range_with_len 0 (length lines))
 each_line lines posters takers posts takes some o =
     let key : PostReply → ℕ = λ r. r.poster in
@@ -80,8 +85,10 @@ each_line lines posters takers posts takes some o =
     let xs : List (ℕ × ℕ) = keyed key line posts in
     let ys : List (ℕ × ℕ) = keyed (poster_of posters) self all in
     let range : AllByRecursion (λ (r : PostReply). (1 ≤ r.poster) × (r.poster < suc posters)) posts = posters_in_range lines posters takers posts takes o in
-    let low : AllByRecursion (λ r. key r < suc posters) posts = AllByRecursion-map (λ (r : PostReply). (1 ≤ r.poster) × (r.poster < suc posters)) (λ r. key r < suc posters) (λ r h. h.1) posts range in
-    let low_records : AllByRecursion (λ i. poster_of posters i < suc posters) all = AllByRecursion-all (λ i. poster_of posters i < suc posters) (λ i. omega arith) all in
+    let low : AllByRecursion (λ r. key r < suc posters) posts =
+    AllByRecursion-map (λ (r : PostReply). (1 ≤ r.poster) × (r.poster < suc posters)) (λ r. key r < suc posters) (λ r h. h.1) posts range in
+    let low_records : AllByRecursion (λ i. poster_of posters i < suc posters) all =
+    AllByRecursion-all (λ i. poster_of posters i < suc posters) (λ i. omega arith) all in
     let at : (a : ℕ) → a < suc posters → filter (λ (z : ℕ × ℕ). z.0 == a) xs ≡ filter (λ (z : ℕ × ℕ). z.0 == a) ys = λ a l.
     let mine : map line (posts_of a posts) ≡ own_records posters a n =
     elim (zero_or a) as (λ _. map line (posts_of a posts) ≡ own_records posters a n) [
@@ -92,14 +99,18 @@ each_line lines posters takers posts takes some o =
           let high : a ≤ posters = omega arith in
           o.in_file_order a g high
     ] in
-    keyed_at key line a posts ∙ (ap (map (λ (v : ℕ). (a, v))) (mine ∙ sym (map_self (own_records posters a n))) ∙ sym (keyed_at (poster_of posters) self a all)) in
-    let whole : IsPermutation xs ys = same_by_keys (λ (z : ℕ × ℕ). z.0) (suc posters) xs ys (keyed_below key line (suc posters) posts low) (keyed_below (poster_of posters) self (suc posters) all low_records) at in
+    keyed_at key line a posts
+    ∙ (ap (map (λ (v : ℕ). (a, v))) (mine ∙ sym (map_self (own_records posters a n))) ∙ sym (keyed_at (poster_of posters) self a all)) in
+    let whole : IsPermutation xs ys =
+    same_by_keys (λ (z : ℕ × ℕ). z.0) (suc posters) xs ys (keyed_below key line (suc posters) posts low)
+    (keyed_below (poster_of posters) self (suc posters) all low_records) at in
     let second : ℕ × ℕ → ℕ = λ z. z.1 in
     subst (λ (u : List ℕ). IsPermutation u all) (values key line posts)
     (subst (λ (u : List ℕ). IsPermutation (map second xs) u) (values (poster_of posters) self all ∙ map_self all) (IsPermutation-map second xs ys whole))
 
 -- no more lines were posted than there are
-pub posted_few : (lines : List Line) (posters takers : ℕ) (posts : List PostReply) (takes : List TakeReply) → 1 ≤ posters → AreInOrder lines posters takers posts takes
+pub posted_few : (lines : List Line) (posters takers : ℕ) (posts : List PostReply) (takes : List TakeReply) → 1 ≤ posters
+    → AreInOrder lines posters takers posts takes
     → length (posted_of posts) ≤ length lines
 posted_few lines posters takers posts takes some o =
     let line : PostReply → ℕ = λ r. r.line in
@@ -123,7 +134,8 @@ lines_rise lines posters takers posts takes o p =
     elim (zero_or p) as (λ _. IsStrictlyIncreasing (map line (posts_of p posts))) [
       | inl z ↦ none (no_posts posters p posts range (λ x h. above_zero p x posters z h))
       | inr low ↦ elim (le-cases p posters) as (λ _. IsStrictlyIncreasing (map line (posts_of p posts))) [
-        | inl high ↦ subst IsStrictlyIncreasing (sym (o.in_file_order p low high)) (IsStrictlyIncreasing-filter (λ i. poster_of posters i == p) (range_with_len 0 (length lines)) (range_rises (length lines)))
+        | inl high ↦ subst IsStrictlyIncreasing (sym (o.in_file_order p low high))
+            (IsStrictlyIncreasing-filter (λ i. poster_of posters i == p) (range_with_len 0 (length lines)) (range_rises (length lines)))
         | inr high ↦ none (no_posts posters p posts range (λ x h. omega (arith, h.1, high)))
       ]
     ]
@@ -143,7 +155,8 @@ unfolding IsDistinct
 range_distinct a zero = tt
 range_distinct a (suc n) = (later a (a + 1) n (omega arith), range_distinct (a + 1) n)
 
-posted_all : (P : ℕ → Type 0) (i : ℕ) (w : PostWord) (xs : List (ℕ × ℕ)) → P i → AllByRecursion P (map (λ (x : ℕ × ℕ). x.0) xs) → AllByRecursion P (map (λ (x : ℕ × ℕ). x.0) (posted_by i w ++ xs))
+posted_all : (P : ℕ → Type 0) (i : ℕ) (w : PostWord) (xs : List (ℕ × ℕ)) → P i → AllByRecursion P (map (λ (x : ℕ × ℕ). x.0) xs)
+    → AllByRecursion P (map (λ (x : ℕ × ℕ). x.0) (posted_by i w ++ xs))
 posted_all P i (word.Posted at) xs h a = (h, a)
 posted_all P i word.Busy xs h a = a
 posted_all P i word.NoNode xs h a = a
@@ -152,11 +165,13 @@ posted_all P i word.Spent xs h a = a
 posted_all P i word.Dropped xs h a = a
 posted_all P i word.Unknown xs h a = a
 
-all_posted : (P : ℕ → Type 0) (rs : List PostReply) → AllByRecursion P (map (λ (r : PostReply). r.line) rs) → AllByRecursion P (map (λ (x : ℕ × ℕ). x.0) (posted_of rs))
+all_posted : (P : ℕ → Type 0) (rs : List PostReply) → AllByRecursion P (map (λ (r : PostReply). r.line) rs)
+    → AllByRecursion P (map (λ (x : ℕ × ℕ). x.0) (posted_of rs))
 all_posted P [] a = tt
 all_posted P (r ∷ rs) a = posted_all P r.line r.what (posted_of rs) a.0 (all_posted P rs a.1)
 
-posted_cons : (i : ℕ) (w : PostWord) (xs : List (ℕ × ℕ)) → AllByRecursion (λ y. same i y ≡ false) (map (λ (x : ℕ × ℕ). x.0) xs) → IsDistinct same (map (λ (x : ℕ × ℕ). x.0) xs)
+posted_cons : (i : ℕ) (w : PostWord) (xs : List (ℕ × ℕ)) → AllByRecursion (λ y. same i y ≡ false) (map (λ (x : ℕ × ℕ). x.0) xs)
+    → IsDistinct same (map (λ (x : ℕ × ℕ). x.0) xs)
     → IsDistinct same (map (λ (x : ℕ × ℕ). x.0) (posted_by i w ++ xs))
 unfolding IsDistinct
 posted_cons i (word.Posted at) xs h d = (h, d)
@@ -173,10 +188,12 @@ posted_distinct [] d = tt
 posted_distinct (r ∷ rs) d = posted_cons r.line r.what (posted_of rs) (all_posted (λ y. same r.line y ≡ false) rs d.0) (posted_distinct rs d.1)
 
 -- no line was posted twice
-pub posted_once : (lines : List Line) (posters takers : ℕ) (posts : List PostReply) (takes : List TakeReply) → 1 ≤ posters → AreInOrder lines posters takers posts takes
+pub posted_once : (lines : List Line) (posters takers : ℕ) (posts : List PostReply) (takes : List TakeReply) → 1 ≤ posters
+    → AreInOrder lines posters takers posts takes
     → IsDistinct same (map (λ (x : ℕ × ℕ). x.0) (posted_of posts))
 posted_once lines posters takers posts takes some o =
     let lines_of : List ℕ = map (λ (r : PostReply). r.line) posts in
     let all : List ℕ = range_with_len 0 (length lines) in
     posted_distinct posts
-    (IsDistinct-IsPermutation same flips all lines_of (IsPermutation-sym lines_of all (each_line lines posters takers posts takes some o)) (range_distinct 0 (length lines)))
+    (IsDistinct-IsPermutation same flips all lines_of (IsPermutation-sym lines_of all (each_line lines posters takers posts takes some o))
+    (range_distinct 0 (length lines)))

@@ -55,7 +55,8 @@ legal_lists n w (Took by job at ∷ es) (rest, is, legal) =
 legal_lists n w (Empty by ∷ es) legal = legal_lists n w es legal.1
 
 -- and their positions are the next numbers
-pub legal_positions : (n : ℕ) (w : List (ℕ × ℕ)) (es : List QueueEntry) → IsLegalFrom n w es → map (λ (x : ℕ × ℕ). x.1) (puts_of es) ≡ range_with_len n (length (puts_of es))
+pub legal_positions : (n : ℕ) (w : List (ℕ × ℕ)) (es : List QueueEntry) → IsLegalFrom n w es
+    → map (λ (x : ℕ × ℕ). x.1) (puts_of es) ≡ range_with_len n (length (puts_of es))
 legal_positions n w [] legal = refl
 legal_positions n w (Put by job at ∷ es) legal =
     let tail = legal_positions (n + 1) (w ++ (job, at) ∷ []) es legal.1 in
@@ -104,7 +105,8 @@ line_pairs : (agent i : ℕ) (l : Line) (w : PostWord) (row : Row) → PostRow a
 line_pairs agent i (line.Post id op text) w row h = job_pairs agent i id w row h
 line_pairs agent i (line.Drop id) w row h = drop_pairs agent i id w row h
 
-pub rows_pairs : (lines : List Line) (poster : ℕ) (rs : List PostReply) (rows : List Row) → Pointwise (PosterRow lines poster) rs rows → PutsOf (queue_of_rows rows) (posted_of rs)
+pub rows_pairs : (lines : List Line) (poster : ℕ) (rs : List PostReply) (rows : List Row) → Pointwise (PosterRow lines poster) rs rows
+    → PutsOf (queue_of_rows rows) (posted_of rs)
 rows_pairs lines poster [] [] z = record { puts = refl; tooks = refl }
 rows_pairs lines poster [] (row ∷ rows) z = absurd z
 rows_pairs lines poster (r ∷ rs) [] z = absurd z
@@ -112,7 +114,8 @@ rows_pairs lines poster (r ∷ rs) (row ∷ rows) z =
     let one = line_pairs poster r.line z.0.line r.what row z.0.table in
     let more = rows_pairs lines poster rs rows z.1 in
     record {
-      puts = puts_of-append row.queue.own (queue_of_rows rows) ∙ (ap (λ u. u ++ puts_of (queue_of_rows rows)) one.puts ∙ ap (λ u. posted_by r.line r.what ++ u) more.puts);
+      puts = puts_of-append row.queue.own (queue_of_rows rows)
+          ∙ (ap (λ u. u ++ puts_of (queue_of_rows rows)) one.puts ∙ ap (λ u. posted_by r.line r.what ++ u) more.puts);
       tooks = tooks_of-append row.queue.own (queue_of_rows rows) ∙ (ap (λ u. u ++ tooks_of (queue_of_rows rows)) one.tooks ∙ more.tooks);
     }
 
@@ -125,14 +128,17 @@ took_pairs lines taker agent (r ∷ rs) (row ∷ rows) z =
     let more = took_pairs lines taker agent rs rows z.1 in
     (rw z.0.table.is (ap (λ u. (r.line, r.at) ∷ u) more.0), rw z.0.table.is more.1)
 
-pub claims_of : (lines : List Line) (taker agent : ℕ) (rs : List TakeReply) (rows : List Row) → Pointwise (TookRow lines taker agent) rs rows → AllByRecursion (IsClaim lines) rs
+pub claims_of : (lines : List Line) (taker agent : ℕ) (rs : List TakeReply) (rows : List Row) → Pointwise (TookRow lines taker agent) rs rows
+    → AllByRecursion (IsClaim lines) rs
 claims_of lines taker agent [] [] z = tt
 claims_of lines taker agent [] (row ∷ rows) z = absurd z
 claims_of lines taker agent (r ∷ rs) [] z = absurd z
-claims_of lines taker agent (r ∷ rs) (row ∷ rows) z = (record { id = z.0.table.id; job = z.0.table.job; value = z.0.table.value }, claims_of lines taker agent rs rows z.1)
+claims_of lines taker agent (r ∷ rs) (row ∷ rows) z =
+    (record { id = z.0.table.id; job = z.0.table.job; value = z.0.table.value }, claims_of lines taker agent rs rows z.1)
 
 -- the lines of the replies exist
-pub lines_exist : (lines : List Line) (poster : ℕ) (rs : List PostReply) (rows : List Row) → Pointwise (PosterRow lines poster) rs rows → AllByRecursion (λ (r : PostReply). r.line < length lines) rs
+pub lines_exist : (lines : List Line) (poster : ℕ) (rs : List PostReply) (rows : List Row) → Pointwise (PosterRow lines poster) rs rows
+    → AllByRecursion (λ (r : PostReply). r.line < length lines) rs
 lines_exist lines poster [] [] z = tt
 lines_exist lines poster [] (row ∷ rows) z = absurd z
 lines_exist lines poster (r ∷ rs) [] z = absurd z

@@ -33,12 +33,14 @@ ManyPuts {A} q = (agent : ℕ) (seen : List A) (from to : ℕ) → q.licence age
 abbrev pub NoPlace : ℕ → Row → Type 0
 NoPlace puts row = row.queue.refused ≡ Some queue_refused.Positions → 2 ^ 62 ≤ puts
 
-no_place : {A : Type 0} (q : View A QueueEntry QueueRefused) → ManyPuts q → (agent : ℕ) (why : Option QueueRefused) (j k : List A) → Licensed q agent why j k → why ≡ Some queue_refused.Positions → 2 ^ 62 ≤ puts_in (q.history k)
+no_place : {A : Type 0} (q : View A QueueEntry QueueRefused) → ManyPuts q → (agent : ℕ) (why : Option QueueRefused) (j k : List A) → Licensed q agent why j k
+    → why ≡ Some queue_refused.Positions → 2 ^ 62 ≤ puts_in (q.history k)
 no_place {A} q many agent why j k h e =
     let told : Licensed q agent (Some queue_refused.Positions) j k = subst (λ (w : Option QueueRefused). Licensed q agent w j k) e h in
     many agent k told.0 told.1 told.5
 
-pub chain_places : {A B : Type 0} (q : View A QueueEntry QueueRefused) (s : View B SetEntry ListRefused) → ManyPuts q → (agent : ℕ) (rows : List Row) (j k : List A) (m n : List B)
+pub chain_places : {A B : Type 0} (q : View A QueueEntry QueueRefused) (s : View B SetEntry ListRefused) → ManyPuts q
+    → (agent : ℕ) (rows : List Row) (j k : List A) (m n : List B)
     → Chain q s agent rows j m k n → AllByRecursion (NoPlace (puts_in (q.history k))) rows
 chain_places q s many agent [] j k m n c = tt
 chain_places q s many agent (row ∷ rows) j k m n (i, l, one, c) =
@@ -54,7 +56,8 @@ told_positions : (agent i : ℕ) (l : Line) (row : Row) → PostRow agent i l wo
 told_positions agent i (line.Post id op text) row h = ap (λ (x : Row). x.queue.refused) h.1
 told_positions agent i (line.Drop id) row h = absurd h
 
-pub no_positions : (lines : List Line) (poster puts : ℕ) → puts < 2 ^ 62 → (rs : List PostReply) (rows : List Row) → Pointwise (PosterRow lines poster) rs rows → AllByRecursion (NoPlace puts) rows → AllByRecursion (λ (r : PostReply). r.what ≢ word.Positions) rs
+pub no_positions : (lines : List Line) (poster puts : ℕ) → puts < 2 ^ 62 → (rs : List PostReply) (rows : List Row)
+    → Pointwise (PosterRow lines poster) rs rows → AllByRecursion (NoPlace puts) rows → AllByRecursion (λ (r : PostReply). r.what ≢ word.Positions) rs
 no_positions lines poster puts few [] rows z h = tt
 no_positions lines poster puts few (r ∷ rs) [] z h = absurd z
 no_positions lines poster puts few (r ∷ rs) (row ∷ rows) z h = (

@@ -88,28 +88,34 @@ at_key a xs = filter (λ (x : ℕ × (ℕ × ℕ)). x.0 == a) xs
 key_puts : (a : ℕ) (es : List QueueEntry) → at_key a (keyed_puts es) ≡ tag a (puts_of (filter (is_own_move a) es))
 key_puts a [] = refl
 key_puts a (Put by job at ∷ es) =
-    let cases : (b : Bool) → (by == a) ≡ b → cond b ((by, (job, at)) ∷ at_key a (keyed_puts es)) (at_key a (keyed_puts es)) ≡ tag a (puts_of (cond b (Put by job at ∷ filter (is_own_move a) es) (filter (is_own_move a) es))) =
+    let cases : (b : Bool) → (by == a) ≡ b
+    → cond b ((by, (job, at)) ∷ at_key a (keyed_puts es)) (at_key a (keyed_puts es)) ≡ tag a
+    (puts_of (cond b (Put by job at ∷ filter (is_own_move a) es) (filter (is_own_move a) es))) =
     elim [
       | true ↦ λ e. ap (λ (x : ℕ). (x, (job, at)) ∷ at_key a (keyed_puts es)) (eq-true by a e) ∙ ap (λ (z : Keyed). (a, (job, at)) ∷ z) (key_puts a es)
       | false ↦ λ e. key_puts a es
     ] in
     cases (by == a) refl
 key_puts a (Took by job at ∷ es) =
-    let cases : (b : Bool) → at_key a (keyed_puts es) ≡ tag a (puts_of (cond b (Took by job at ∷ filter (is_own_move a) es) (filter (is_own_move a) es))) = elim [ true ↦ key_puts a es | false ↦ key_puts a es ] in
+    let cases : (b : Bool) → at_key a (keyed_puts es) ≡ tag a (puts_of (cond b (Took by job at ∷ filter (is_own_move a) es) (filter (is_own_move a) es))) =
+    elim [ true ↦ key_puts a es | false ↦ key_puts a es ] in
     cases (by == a)
 key_puts a (Empty by ∷ es) = key_puts a es
 
 key_tooks : (a : ℕ) (es : List QueueEntry) → at_key a (keyed_tooks es) ≡ tag a (tooks_of (filter (is_own_move a) es))
 key_tooks a [] = refl
 key_tooks a (Took by job at ∷ es) =
-    let cases : (b : Bool) → (by == a) ≡ b → cond b ((by, (job, at)) ∷ at_key a (keyed_tooks es)) (at_key a (keyed_tooks es)) ≡ tag a (tooks_of (cond b (Took by job at ∷ filter (is_own_move a) es) (filter (is_own_move a) es))) =
+    let cases : (b : Bool) → (by == a) ≡ b
+    → cond b ((by, (job, at)) ∷ at_key a (keyed_tooks es)) (at_key a (keyed_tooks es)) ≡ tag a
+    (tooks_of (cond b (Took by job at ∷ filter (is_own_move a) es) (filter (is_own_move a) es))) =
     elim [
       | true ↦ λ e. ap (λ (x : ℕ). (x, (job, at)) ∷ at_key a (keyed_tooks es)) (eq-true by a e) ∙ ap (λ (z : Keyed). (a, (job, at)) ∷ z) (key_tooks a es)
       | false ↦ λ e. key_tooks a es
     ] in
     cases (by == a) refl
 key_tooks a (Put by job at ∷ es) =
-    let cases : (b : Bool) → at_key a (keyed_tooks es) ≡ tag a (tooks_of (cond b (Put by job at ∷ filter (is_own_move a) es) (filter (is_own_move a) es))) = elim [ true ↦ key_tooks a es | false ↦ key_tooks a es ] in
+    let cases : (b : Bool) → at_key a (keyed_tooks es) ≡ tag a (tooks_of (cond b (Put by job at ∷ filter (is_own_move a) es) (filter (is_own_move a) es))) =
+    elim [ true ↦ key_tooks a es | false ↦ key_tooks a es ] in
     cases (by == a)
 key_tooks a (Empty by ∷ es) = key_tooks a es
 
@@ -123,10 +129,12 @@ key_posted : (a : ℕ) (rs : List PostReply) → at_key a (keyed_posted rs) ≡ 
 key_posted a [] = refl
 key_posted a (r ∷ rs) =
     let F : List PostReply = filter (λ (x : PostReply). x.poster == a) rs in
-    let cases : (b : Bool) → (r.poster == a) ≡ b → at_key a (tag r.poster (posted_by r.line r.what)) ++ at_key a (keyed_posted rs) ≡ tag a (posted_of (cond b (r ∷ F) F)) =
+    let cases : (b : Bool) → (r.poster == a) ≡ b
+    → at_key a (tag r.poster (posted_by r.line r.what)) ++ at_key a (keyed_posted rs) ≡ tag a (posted_of (cond b (r ∷ F) F)) =
     elim [
       | true ↦ λ e. ap (λ z. z ++ at_key a (keyed_posted rs)) (key_tag a r.poster true e (posted_by r.line r.what))
-          ∙ (ap (λ z. tag a (posted_by r.line r.what) ++ z) (key_posted a rs) ∙ sym (map-append (λ (x : ℕ × ℕ). (a, x)) (posted_by r.line r.what) (posted_of F)))
+          ∙ (ap (λ z. tag a (posted_by r.line r.what) ++ z) (key_posted a rs)
+          ∙ sym (map-append (λ (x : ℕ × ℕ). (a, x)) (posted_by r.line r.what) (posted_of F)))
       | false ↦ λ e. ap (λ z. z ++ at_key a (keyed_posted rs)) (key_tag a r.poster false e (posted_by r.line r.what)) ∙ key_posted a rs
     ] in
     filter-append (λ (x : ℕ × (ℕ × ℕ)). x.0 == a) (tag r.poster (posted_by r.line r.what)) (keyed_posted rs) ∙ cases (r.poster == a) refl
@@ -138,14 +146,18 @@ same_agent posters zero (suc u) = grind (arith, nat_tests)
 same_agent posters (suc t) zero = grind (arith, nat_tests)
 same_agent posters (suc t) (suc u) = grind (arith, nat_tests)
 
-key_takes : (posters t : ℕ) (rs : List TakeReply) → at_key (taker_agent posters t) (keyed_takes posters rs) ≡ tag (taker_agent posters t) (map claim_of (filter (λ (r : TakeReply). r.taker == t) rs))
+key_takes : (posters t : ℕ) (rs : List TakeReply)
+    → at_key (taker_agent posters t) (keyed_takes posters rs) ≡ tag (taker_agent posters t) (map claim_of (filter (λ (r : TakeReply). r.taker == t) rs))
 key_takes posters t [] = refl
 key_takes posters t (r ∷ rs) =
     let a : ℕ = taker_agent posters t in
     let F : List TakeReply = filter (λ (x : TakeReply). x.taker == t) rs in
-    let cases : (b : Bool) → (r.taker == t) ≡ b → cond b ((taker_agent posters r.taker, claim_of r) ∷ at_key a (keyed_takes posters rs)) (at_key a (keyed_takes posters rs)) ≡ tag a (map claim_of (cond b (r ∷ F) F)) =
+    let cases : (b : Bool) → (r.taker == t) ≡ b
+    → cond b ((taker_agent posters r.taker, claim_of r) ∷ at_key a (keyed_takes posters rs)) (at_key a (keyed_takes posters rs)) ≡ tag a
+    (map claim_of (cond b (r ∷ F) F)) =
     elim [
-      | true ↦ λ e. ap (λ (x : ℕ). (taker_agent posters x, claim_of r) ∷ at_key a (keyed_takes posters rs)) (eq-true r.taker t e) ∙ ap (λ (z : Keyed). (a, claim_of r) ∷ z) (key_takes posters t rs)
+      | true ↦ λ e. ap (λ (x : ℕ). (taker_agent posters x, claim_of r) ∷ at_key a (keyed_takes posters rs)) (eq-true r.taker t e)
+          ∙ ap (λ (z : Keyed). (a, claim_of r) ∷ z) (key_takes posters t rs)
       | false ↦ λ e. key_takes posters t rs
     ] in
     rw (same_agent posters r.taker t) (cases (r.taker == t) refl)
@@ -179,29 +191,37 @@ tag_below : (n a : ℕ) (xs : List (ℕ × ℕ)) → a < n → AllByRecursion (�
 tag_below n a [] h = tt
 tag_below n a (x ∷ xs) h = (h, tag_below n a xs h)
 
-posted_below : (n : ℕ) (rs : List PostReply) → AllByRecursion (λ (r : PostReply). r.poster < n) rs → AllByRecursion (λ (x : ℕ × (ℕ × ℕ)). x.0 < n) (keyed_posted rs)
+posted_below : (n : ℕ) (rs : List PostReply) → AllByRecursion (λ (r : PostReply). r.poster < n) rs
+    → AllByRecursion (λ (x : ℕ × (ℕ × ℕ)). x.0 < n) (keyed_posted rs)
 posted_below n [] h = tt
-posted_below n (r ∷ rs) h = AllByRecursion-append (λ (x : ℕ × (ℕ × ℕ)). x.0 < n) (tag r.poster (posted_by r.line r.what)) (keyed_posted rs) (tag_below n r.poster (posted_by r.line r.what) h.0) (posted_below n rs h.1)
+posted_below n (r ∷ rs) h =
+    AllByRecursion-append (λ (x : ℕ × (ℕ × ℕ)). x.0 < n) (tag r.poster (posted_by r.line r.what)) (keyed_posted rs)
+    (tag_below n r.poster (posted_by r.line r.what) h.0) (posted_below n rs h.1)
 
 agent_below : (posters takers t : ℕ) → t < suc takers → taker_agent posters t < suc (posters + takers)
 agent_below posters takers zero h = omega arith
 agent_below posters takers (suc t) h = omega (arith, h)
 
-takes_below : (posters takers : ℕ) (rs : List TakeReply) → AllByRecursion (λ (r : TakeReply). r.taker < suc takers) rs → AllByRecursion (λ (x : ℕ × (ℕ × ℕ)). x.0 < suc (posters + takers)) (keyed_takes posters rs)
+takes_below : (posters takers : ℕ) (rs : List TakeReply) → AllByRecursion (λ (r : TakeReply). r.taker < suc takers) rs
+    → AllByRecursion (λ (x : ℕ × (ℕ × ℕ)). x.0 < suc (posters + takers)) (keyed_takes posters rs)
 takes_below posters takers [] h = tt
 takes_below posters takers (r ∷ rs) h = (agent_below posters takers r.taker h.0, takes_below posters takers rs h.1)
 
-every_key : {X : Type 0} (P : X → Type 0) (key : X → ℕ) (n : ℕ) (xs : List X) → ((a : ℕ) → a < n → AllByRecursion P (filter (λ x. key x == a) xs)) → AllByRecursion P (by_key key n xs)
+every_key : {X : Type 0} (P : X → Type 0) (key : X → ℕ) (n : ℕ) (xs : List X) → ((a : ℕ) → a < n → AllByRecursion P (filter (λ x. key x == a) xs))
+    → AllByRecursion P (by_key key n xs)
 every_key P key zero xs h = tt
-every_key P key (suc n) xs h = AllByRecursion-append P (by_key key n xs) (filter (λ x. key x == n) xs) (every_key P key n xs (λ a l. h a (omega arith))) (h n (omega arith))
+every_key P key (suc n) xs h =
+    AllByRecursion-append P (by_key key n xs) (filter (λ x. key x == n) xs) (every_key P key n xs (λ a l. h a (omega arith))) (h n (omega arith))
 
 worker_agent : (n : ℕ) (a b : ℕ) → a ≡ b → b ≤ n → a < suc n
 worker_agent n a b e h = omega arith
 
--- replies that follow a legal queue's journal, which leaves it empty, can be reported
-pub reportable_all : {A B : Type 0} (q : View A QueueEntry QueueRefused) (s : View B SetEntry ListRefused) (lines : List Line) (posters takers : ℕ) (posts : List PostReply) (takes : List TakeReply) (k : List A) (n : List B)
-    → 1 ≤ posters → q.history [] ≡ [] → IsLegalQueue 0 (q.history k) → waiting_after [] (q.history k) ≡ [] → WorkersFollow q s lines posters takers posts takes k n → AreReportable lines posts takes
-reportable_all {A} {B} q s lines posters takers posts takes k n some none legal empty f =
+-- the Puts of the history are the posted lines, and its Tooks those of the take replies, in some order
+pub permuted_all : {A B : Type 0} (q : View A QueueEntry QueueRefused) (s : View B SetEntry ListRefused) (lines : List Line) (posters takers : ℕ)
+    (posts : List PostReply) (takes : List TakeReply) (k : List A) (n : List B)
+    → 1 ≤ posters → q.history [] ≡ [] → WorkersFollow q s lines posters takers posts takes k n
+    → IsPermutation (puts_of (q.history k)) (posted_of posts) × IsPermutation (tooks_of (q.history k)) (map claim_of takes)
+permuted_all {A} {B} q s lines posters takers posts takes k n some none f =
     let C : ℕ → Type 0 = IsWorker posters takers in
     let es : List QueueEntry = q.history k in
     let N : ℕ = suc (posters + takers) in
@@ -209,36 +229,52 @@ reportable_all {A} {B} q s lines posters takers posts takes k n some none legal 
     let is : es ≡ main.part = main.is ∙ ap (λ z. z ++ main.part) none in
     let agents : AllByRecursion (λ e. agent_of_entry e < N) es =
     subst (AllByRecursion (λ e. agent_of_entry e < N)) (sym is)
-    (AllByRecursion-map (MayStand of_queue (beside q C) 0) (λ e. agent_of_entry e < N) (λ e h. elim h as (λ _. agent_of_entry e < N) [ inl z ↦ worker_agent (posters + takers) (agent_of_entry e) 0 z (omega arith) | inr w ↦ worker_agent (posters + takers) (agent_of_entry e) (agent_of_entry e) refl w ]) main.part main.others) in
-    let by_poster : AllByRecursion (λ (r : PostReply). r.poster < suc posters) posts = subst (AllByRecursion (λ (r : PostReply). r.poster < suc posters)) (sym f.order.by_poster) (by_key_below (λ (r : PostReply). r.poster) (suc posters) posts) in
-    let by_taker : AllByRecursion (λ (r : TakeReply). r.taker < suc takers) takes = subst (AllByRecursion (λ (r : TakeReply). r.taker < suc takers)) (sym f.order.by_taker) (by_key_below (λ (r : TakeReply). r.taker) (suc takers) takes) in
-    let in_range : AllByRecursion (λ (r : PostReply). (1 ≤ r.poster) × (r.poster < suc posters)) posts = posters_in_range lines posters takers posts takes f.order in
+    (AllByRecursion-map (MayStand of_queue (beside q C) 0) (λ e. agent_of_entry e < N)
+    (λ e h. elim h as (λ _. agent_of_entry e < N) [
+      | inl z ↦ worker_agent (posters + takers) (agent_of_entry e) 0 z (omega arith)
+      | inr w ↦ worker_agent
+          (posters + takers) (agent_of_entry e) (agent_of_entry e) refl w
+    ]) main.part main.others) in
+    let by_poster : AllByRecursion (λ (r : PostReply). r.poster < suc posters) posts =
+    subst (AllByRecursion (λ (r : PostReply). r.poster < suc posters)) (sym f.order.by_poster)
+    (by_key_below (λ (r : PostReply). r.poster) (suc posters) posts) in
+    let by_taker : AllByRecursion (λ (r : TakeReply). r.taker < suc takers) takes =
+    subst (AllByRecursion (λ (r : TakeReply). r.taker < suc takers)) (sym f.order.by_taker) (by_key_below (λ (r : TakeReply). r.taker) (suc takers) takes) in
+    let in_range : AllByRecursion (λ (r : PostReply). (1 ≤ r.poster) × (r.poster < suc posters)) posts =
+    posters_in_range lines posters takers posts takes f.order in
     let put_taker : (t : ℕ) → t ≤ takers → at_key (taker_agent posters t) (keyed_puts es) ≡ at_key (taker_agent posters t) (keyed_posted posts) = λ t h.
     let a : ℕ = taker_agent posters t in
     let w = f.claiming t h in
-    let own : filter (is_own_move a) es ≡ queue_of_rows w.rows = own_whole (beside q C) a (queue_of_rows w.rows) k none (Works-queue (beside q C) (beside s C) a w.works) in
+    let own : filter (is_own_move a) es ≡ queue_of_rows w.rows =
+    own_whole (beside q C) a (queue_of_rows w.rows) k none (Works-queue (beside q C) (beside s C) a w.works) in
     let left : puts_of (filter (is_own_move a) es) ≡ [] = ap puts_of own ∙ (took_pairs lines t a _ w.rows w.table).1 in
     let right : posts_of a posts ≡ [] = no_posts posters a posts in_range (λ p h. apart posters t p h) in
     key_puts a es ∙ (ap (tag a) (left ∙ sym (ap posted_of right)) ∙ sym (key_posted a posts)) in
     let put_poster : (p : ℕ) → 1 ≤ p → p ≤ posters → at_key p (keyed_puts es) ≡ at_key p (keyed_posted posts) = λ p g h.
     let w = f.posting p g h in
-    let own : filter (is_own_move p) es ≡ queue_of_rows w.rows = own_whole (beside q C) p (queue_of_rows w.rows) k none (Works-queue (beside q C) (beside s C) p w.works) in
+    let own : filter (is_own_move p) es ≡ queue_of_rows w.rows =
+    own_whole (beside q C) p (queue_of_rows w.rows) k none (Works-queue (beside q C) (beside s C) p w.works) in
     let left : puts_of (filter (is_own_move p) es) ≡ posted_of (posts_of p posts) = ap puts_of own ∙ (rows_pairs lines p _ w.rows w.table).puts in
     key_puts p es ∙ (ap (tag p) left ∙ sym (key_posted p posts)) in
-    let took_taker : (t : ℕ) → t ≤ takers → at_key (taker_agent posters t) (keyed_tooks es) ≡ at_key (taker_agent posters t) (keyed_takes posters takes) = λ t h.
+    let took_taker : (t : ℕ) → t ≤ takers → at_key (taker_agent posters t) (keyed_tooks es) ≡ at_key (taker_agent posters t) (keyed_takes posters takes) =
+    λ t h.
     let a : ℕ = taker_agent posters t in
     let w = f.claiming t h in
-    let own : filter (is_own_move a) es ≡ queue_of_rows w.rows = own_whole (beside q C) a (queue_of_rows w.rows) k none (Works-queue (beside q C) (beside s C) a w.works) in
+    let own : filter (is_own_move a) es ≡ queue_of_rows w.rows =
+    own_whole (beside q C) a (queue_of_rows w.rows) k none (Works-queue (beside q C) (beside s C) a w.works) in
     let left : tooks_of (filter (is_own_move a) es) ≡ map claim_of (takes_of t takes) = ap tooks_of own ∙ (took_pairs lines t a _ w.rows w.table).0 in
     key_tooks a es ∙ (ap (tag a) left ∙ sym (key_takes posters t takes)) in
     let took_poster : (p : ℕ) → 1 ≤ p → p ≤ posters → at_key p (keyed_tooks es) ≡ at_key p (keyed_takes posters takes) = λ p g h.
     let w = f.posting p g h in
-    let own : filter (is_own_move p) es ≡ queue_of_rows w.rows = own_whole (beside q C) p (queue_of_rows w.rows) k none (Works-queue (beside q C) (beside s C) p w.works) in
+    let own : filter (is_own_move p) es ≡ queue_of_rows w.rows =
+    own_whole (beside q C) p (queue_of_rows w.rows) k none (Works-queue (beside q C) (beside s C) p w.works) in
     let left : tooks_of (filter (is_own_move p) es) ≡ [] = ap tooks_of own ∙ (rows_pairs lines p _ w.rows w.table).tooks in
     key_tooks p es ∙ (ap (tag p) left ∙ sym (key_none posters p takes g h)) in
     let key : ℕ × (ℕ × ℕ) → ℕ = λ x. x.0 in
     let puts : IsPermutation (keyed_puts es) (keyed_posted posts) =
-    same_by_keys key N (keyed_puts es) (keyed_posted posts) (puts_below N es agents) (posted_below N posts (AllByRecursion-map (λ (r : PostReply). r.poster < suc posters) (λ (r : PostReply). r.poster < N) (λ r h. omega arith) posts by_poster))
+    same_by_keys key N (keyed_puts es) (keyed_posted posts) (puts_below N es agents)
+    (posted_below N posts
+    (AllByRecursion-map (λ (r : PostReply). r.poster < suc posters) (λ (r : PostReply). r.poster < N) (λ r h. omega arith) posts by_poster))
     (λ a l. worker_cases posters takers (λ a. at_key a (keyed_puts es) ≡ at_key a (keyed_posted posts)) put_taker put_poster a (omega arith)) in
     let tooks : IsPermutation (keyed_tooks es) (keyed_takes posters takes) =
     same_by_keys key N (keyed_tooks es) (keyed_takes posters takes) (tooks_below N es agents) (takes_below posters takers takes by_taker)
@@ -246,10 +282,26 @@ reportable_all {A} {B} q s lines posters takers posts takes k n some none legal 
     let snd : ℕ × (ℕ × ℕ) → ℕ × ℕ = λ x. x.1 in
     let posted : IsPermutation (puts_of es) (posted_of posts) =
     subst (λ (z : List (ℕ × ℕ)). IsPermutation z (posted_of posts)) (untag_puts es)
-    (subst (λ (z : List (ℕ × ℕ)). IsPermutation (untag (keyed_puts es)) z) (untag_posted posts) (IsPermutation-map snd (keyed_puts es) (keyed_posted posts) puts)) in
+    (subst (λ (z : List (ℕ × ℕ)). IsPermutation (untag (keyed_puts es)) z) (untag_posted posts)
+    (IsPermutation-map snd (keyed_puts es) (keyed_posted posts) puts)) in
     let taken : IsPermutation (tooks_of es) (map claim_of takes) =
     subst (λ (z : List (ℕ × ℕ)). IsPermutation z (map claim_of takes)) (untag_tooks es)
-    (subst (λ (z : List (ℕ × ℕ)). IsPermutation (untag (keyed_tooks es)) z) (untag_takes posters takes) (IsPermutation-map snd (keyed_tooks es) (keyed_takes posters takes) tooks)) in
+    (subst (λ (z : List (ℕ × ℕ)). IsPermutation (untag (keyed_tooks es)) z) (untag_takes posters takes)
+    (IsPermutation-map snd (keyed_tooks es) (keyed_takes posters takes) tooks)) in
+    (posted, taken)
+
+-- replies that follow a legal queue's journal, which leaves it empty, can be reported
+pub reportable_all : {A B : Type 0} (q : View A QueueEntry QueueRefused) (s : View B SetEntry ListRefused) (lines : List Line) (posters takers : ℕ)
+    (posts : List PostReply) (takes : List TakeReply) (k : List A) (n : List B)
+    → 1 ≤ posters → q.history [] ≡ [] → IsLegalQueue 0 (q.history k) → waiting_after [] (q.history k) ≡ []
+    → WorkersFollow q s lines posters takers posts takes k n → AreReportable lines posts takes
+reportable_all {A} {B} q s lines posters takers posts takes k n some none legal empty f =
+    let es : List QueueEntry = q.history k in
+    let in_range : AllByRecursion (λ (r : PostReply). (1 ≤ r.poster) × (r.poster < suc posters)) posts =
+    posters_in_range lines posters takers posts takes f.order in
+    let both = permuted_all q s lines posters takers posts takes k n some none f in
+    let posted : IsPermutation (puts_of es) (posted_of posts) = both.0 in
+    let taken : IsPermutation (tooks_of es) (map claim_of takes) = both.1 in
     let same : puts_of es ≡ tooks_of es = legal_lists 0 [] es legal ∙ (ap (λ z. tooks_of es ++ z) empty ∙ append-nil (tooks_of es)) in
     let at : ℕ × ℕ → ℕ = λ x. x.1 in
     let long : length (puts_of es) ≡ length (posted_of posts) = sym (length_permutation (puts_of es) (posted_of posts) posted) in
@@ -260,11 +312,13 @@ reportable_all {A} {B} q s lines posters takers posts takes k n some none legal 
       claims = IsPermutation-trans (posted_of posts) (tooks_of es) (map claim_of takes)
           (subst (λ (z : List (ℕ × ℕ)). IsPermutation (posted_of posts) z) same (IsPermutation-sym (puts_of es) (posted_of posts) posted)) taken;
       claimed = subst (AllByRecursion (IsClaim lines)) (sym f.order.by_taker)
-          (every_key (IsClaim lines) (λ (r : TakeReply). r.taker) (suc takers) takes (λ t l. let low : t ≤ takers = omega arith in let w = f.claiming t low in claims_of lines t (taker_agent posters t) _ w.rows w.table));
+          (every_key (IsClaim lines) (λ (r : TakeReply). r.taker) (suc takers) takes
+          (λ t l. let low : t ≤ takers = omega arith in let w = f.claiming t low in claims_of lines t (taker_agent posters t) _ w.rows w.table));
       lines_exist = subst (AllByRecursion (λ (r : PostReply). r.line < length lines)) (sym f.order.by_poster)
           (every_key (λ (r : PostReply). r.line < length lines) (λ (r : PostReply). r.poster) (suc posters) posts
           (λ p l. elim (zero_or p) as (λ _. AllByRecursion (λ (r : PostReply). r.line < length lines) (posts_of p posts)) [
-            | inl z ↦ subst (AllByRecursion (λ (r : PostReply). r.line < length lines)) (sym (no_posts posters p posts in_range (λ x h. above_zero p x posters z h))) tt
+            | inl z ↦ subst (AllByRecursion (λ (r : PostReply). r.line < length lines))
+                (sym (no_posts posters p posts in_range (λ x h. above_zero p x posters z h))) tt
             | inr g ↦ let high : p ≤ posters = omega arith in let w = f.posting p g high in lines_exist lines p _ w.rows w.table
           ]));
       different = posted_once lines posters takers posts takes some f.order;
@@ -274,13 +328,15 @@ reportable_all {A} {B} q s lines posters takers posts takes k n some none legal 
     }
 
 -- where lines are few, no position runs out
-pub no_positions_all : {A B : Type 0} (q : View A QueueEntry QueueRefused) (s : View B SetEntry ListRefused) (lines : List Line) (posters takers : ℕ) (posts : List PostReply) (takes : List TakeReply) (k : List A) (n : List B)
+pub no_positions_all : {A B : Type 0} (q : View A QueueEntry QueueRefused) (s : View B SetEntry ListRefused) (lines : List Line) (posters takers : ℕ)
+    (posts : List PostReply) (takes : List TakeReply) (k : List A) (n : List B)
     → ManyPuts q → length lines ≤ 65535 → IsLegalQueue 0 (q.history k) → waiting_after [] (q.history k) ≡ [] → length (puts_of (q.history k)) ≤ length lines
     → WorkersFollow q s lines posters takers posts takes k n → AllByRecursion (λ (r : PostReply). r.what ≢ word.Positions) posts
 no_positions_all q s lines posters takers posts takes k n many short legal empty few f =
     let C : ℕ → Type 0 = IsWorker posters takers in
     let low : puts_in (q.history k) < 2 ^ 62 = omega (arith, puts_counted (q.history k), few, short) in
-    let in_range : AllByRecursion (λ (r : PostReply). (1 ≤ r.poster) × (r.poster < suc posters)) posts = posters_in_range lines posters takers posts takes f.order in
+    let in_range : AllByRecursion (λ (r : PostReply). (1 ≤ r.poster) × (r.poster < suc posters)) posts =
+    posters_in_range lines posters takers posts takes f.order in
     let P : PostReply → Type 0 = λ r. r.what ≢ word.Positions in
     subst (AllByRecursion P) (sym f.order.by_poster)
     (every_key P (λ (r : PostReply). r.poster) (suc posters) posts
@@ -289,5 +345,6 @@ no_positions_all q s lines posters takers posts takes k n many short legal empty
       | inr g ↦
           let high : p ≤ posters = omega arith in
           let w = f.posting p g high in
-          no_positions lines p (puts_in (q.history k)) low (posts_of p posts) w.rows w.table (chain_places (beside q C) (beside s C) many p w.rows [] k [] n w.works.chain)
+          no_positions lines p (puts_in (q.history k)) low (posts_of p posts) w.rows w.table
+          (chain_places (beside q C) (beside s C) many p w.rows [] k [] n w.works.chain)
     ]))

@@ -19,17 +19,20 @@ use Rattle.orc_board.proofs.CallStretches.{ends_later}
 use Rattle.orc_board.proofs.Wholes.{queue_of_rows, Works-queue}
 use Rattle.orc_board.proofs.ListFacts.{eq-yes, eq-no}
 
-Pointwise-snoc : {X Y : Type 0} (R : X → Y → Type 0) (xs : List X) (ys : List Y) (x : X) (y : Y) → Pointwise R xs ys → R x y → Pointwise R (xs ++ x ∷ []) (ys ++ y ∷ [])
+pub Pointwise-snoc : {X Y : Type 0} (R : X → Y → Type 0) (xs : List X) (ys : List Y) (x : X) (y : Y) → Pointwise R xs ys → R x y
+    → Pointwise R (xs ++ x ∷ []) (ys ++ y ∷ [])
 Pointwise-snoc R [] [] x y z h = (h, tt)
 Pointwise-snoc R [] (b ∷ ys) x y z h = absurd z
 Pointwise-snoc R (a ∷ xs) [] x y z h = absurd z
 Pointwise-snoc R (a ∷ xs) (b ∷ ys) x y z h = (z.0, Pointwise-snoc R xs ys x y z.1 h)
 
-pub posting_none : {A B : Type 0} (q : View A QueueEntry QueueRefused) (s : View B SetEntry ListRefused) (lines : List Line) (poster : ℕ) (replies : List PostReply) (j : List A) (m : List B)
+pub posting_none : {A B : Type 0} (q : View A QueueEntry QueueRefused) (s : View B SetEntry ListRefused) (lines : List Line) (poster : ℕ)
+    (replies : List PostReply) (j : List A) (m : List B)
     → replies ≡ [] → Posting q s lines poster replies j m j m
 posting_none q s lines poster replies j m e = record { rows = []; table = rw e tt; works = Works-none q s poster j m }
 
-pub posting_more : {A B : Type 0} (q : View A QueueEntry QueueRefused) (s : View B SetEntry ListRefused) (lines : List Line) (poster index : ℕ) (line : Line) (replies : List PostReply) (r : PostReply) (j k k2 : List A) (m n n2 : List B)
+pub posting_more : {A B : Type 0} (q : View A QueueEntry QueueRefused) (s : View B SetEntry ListRefused) (lines : List Line) (poster index : ℕ) (line : Line)
+    (replies : List PostReply) (r : PostReply) (j k k2 : List A) (m n n2 : List B)
     → Posting q s lines poster replies j m k n → (r.poster ≡ poster) × (r.line ≡ index) → slice_get lines index ≡ Some line
     → Replied q s (PostRow poster index line r.what) poster k n k2 n2 → Posting q s lines poster (replies ++ r ∷ []) j m k2 n2
 posting_more q s lines poster index line replies r j k k2 m n n2 p same at done = record {
@@ -55,7 +58,8 @@ own-next posters poster n =
     let test : ℕ → Bool = λ i. i % posters + 1 == poster in
     let e : 0 + n ≡ n = omega arith in
     ap (own_records posters poster) (add-one n)
-    ∙ (ap (filter test) (range-snoc 0 n) ∙ (filter-append test (range_with_len 0 n) ((0 + n) ∷ []) ∙ ap (λ (x : ℕ). own_records posters poster n ++ filter test (x ∷ [])) e))
+    ∙ (ap (filter test) (range-snoc 0 n)
+    ∙ (filter-append test (range_with_len 0 n) ((0 + n) ∷ []) ∙ ap (λ (x : ℕ). own_records posters poster n ++ filter test (x ∷ [])) e))
 
 pub own-yes : (posters poster n : ℕ) → 1 ≤ poster → n % posters ≡ poster - 1 → own_records posters poster n ++ n ∷ [] ≡ own_records posters poster (n + 1)
 own-yes posters poster n some e =
@@ -79,18 +83,21 @@ pub own-length : (replies : List PostReply) (own : List ℕ) → map (λ (r : Po
 own-length replies own e = sym (length-map replies (λ (r : PostReply). r.line)) ∙ ap length e
 
 -- there is room for one record more
-pub own-room : (posters poster i n : ℕ) → 1 ≤ poster → i < n → i % posters ≡ poster - 1 → length (own_records posters poster i) < length (own_records posters poster n)
+pub own-room : (posters poster i n : ℕ) → 1 ≤ poster → i < n → i % posters ≡ poster - 1
+    → length (own_records posters poster i) < length (own_records posters poster n)
 own-room posters poster i n some low e =
     let is : i + 1 + (n - (i + 1)) ≡ n = omega arith in
     let grown : length (own_records posters poster (i + 1)) ≤ length (own_records posters poster n) =
     subst (λ (x : ℕ). length (own_records posters poster (i + 1)) ≤ length (own_records posters poster x)) is (own-grow posters poster (i + 1) (n - (i + 1))) in
     omega (arith, grown, ap length (own-yes posters poster i some e), length-append (own_records posters poster i) (i ∷ []))
 
-pub taking_none : {A B : Type 0} (q : View A QueueEntry QueueRefused) (s : View B SetEntry ListRefused) (lines : List Line) (taker agent : ℕ) (replies : List TakeReply) (j : List A) (m : List B)
+pub taking_none : {A B : Type 0} (q : View A QueueEntry QueueRefused) (s : View B SetEntry ListRefused) (lines : List Line) (taker agent : ℕ)
+    (replies : List TakeReply) (j : List A) (m : List B)
     → replies ≡ [] → Taking q s lines taker agent replies j m j m
 taking_none q s lines taker agent replies j m e = record { rows = []; table = rw e tt; works = Works-none q s agent j m }
 
-pub taking_more : {A B : Type 0} (q : View A QueueEntry QueueRefused) (s : View B SetEntry ListRefused) (lines : List Line) (taker agent now : ℕ) (replies : List TakeReply) (r : TakeReply) (j k k2 : List A) (m n n2 : List B)
+pub taking_more : {A B : Type 0} (q : View A QueueEntry QueueRefused) (s : View B SetEntry ListRefused) (lines : List Line) (taker agent now : ℕ)
+    (replies : List TakeReply) (r : TakeReply) (j k k2 : List A) (m n n2 : List B)
     → Taking q s lines taker agent replies j m k n → now ≡ agent → r.taker ≡ taker
     → Replied q s (TakenRow lines now (Some r)) now k n k2 n2 → Taking q s lines taker agent (replies ++ r ∷ []) j m k2 n2
 taking_more q s lines taker agent now replies r j k k2 m n n2 p e same replied =
@@ -101,8 +108,10 @@ taking_more q s lines taker agent now replies r j k k2 m n n2 p e same replied =
       works = Works-row q s agent p.works done.stands;
     }
 
-pub taking_end : {A B : Type 0} (q : View A QueueEntry QueueRefused) (s : View B SetEntry ListRefused) (lines : List Line) (taker agent now : ℕ) (replies : List TakeReply) (j k k2 : List A) (m n n2 : List B)
-    → Taking q s lines taker agent replies j m k n → now ≡ agent → Replied q s (TakenRow lines now None) now k n k2 n2 → TakingRest q s lines taker agent replies j m k2 n2
+pub taking_end : {A B : Type 0} (q : View A QueueEntry QueueRefused) (s : View B SetEntry ListRefused) (lines : List Line) (taker agent now : ℕ)
+    (replies : List TakeReply) (j k k2 : List A) (m n n2 : List B)
+    → Taking q s lines taker agent replies j m k n → now ≡ agent → Replied q s (TakenRow lines now None) now k n k2 n2
+    → TakingRest q s lines taker agent replies j m k2 n2
 taking_end {A = A} {B = B} q s lines taker agent now replies j k k2 m n n2 p e last = record {
   queue = k;
   set = n;
@@ -110,7 +119,8 @@ taking_end {A = A} {B = B} q s lines taker agent now replies j k k2 m n n2 p e l
   last = subst (λ (x : ℕ). Replied q s (TakenRow lines x None) x k n k2 n2) e last;
 }
 
-pub taking_full : {A B : Type 0} (q : View A QueueEntry QueueRefused) (s : View B SetEntry ListRefused) (lines : List Line) (taker agent : ℕ) (replies : List TakeReply) (j k : List A) (m n : List B)
+pub taking_full : {A B : Type 0} (q : View A QueueEntry QueueRefused) (s : View B SetEntry ListRefused) (lines : List Line) (taker agent : ℕ)
+    (replies : List TakeReply) (j k : List A) (m n : List B)
     → Taking q s lines taker agent replies j m k n → TakingRest q s lines taker agent replies j m k n
 taking_full q s lines taker agent replies j k m n p = record {
   queue = k;
@@ -120,7 +130,8 @@ taking_full q s lines taker agent replies j k m n p = record {
 }
 
 -- a take that found nothing, after others
-pub taking_last : {A B : Type 0} (q : View A QueueEntry QueueRefused) (s : View B SetEntry ListRefused) (lines : List Line) (taker agent now : ℕ) (replies : List TakeReply) (j k k2 : List A) (m n : List B)
+pub taking_last : {A B : Type 0} (q : View A QueueEntry QueueRefused) (s : View B SetEntry ListRefused) (lines : List Line) (taker agent now : ℕ)
+    (replies : List TakeReply) (j k k2 : List A) (m n : List B)
     → Taking q s lines taker agent replies j m k n → now ≡ agent → EndsWith q now (Empty now) k k2 → EndsWith q agent (Empty agent) j k2
 taking_last q s lines taker agent now replies j k k2 m n p e ends =
     ends_later q agent (Empty agent) (queue_of_rows p.rows) j k k2 (Works-queue q s agent p.works) (subst (λ (x : ℕ). EndsWith q x (Empty x) k k2) e ends)

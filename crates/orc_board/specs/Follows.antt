@@ -42,26 +42,30 @@ pub record TookRow (lines : List Line) (taker agent : ℕ) (r : TakeReply) (row 
   pub table : ClaimRow lines agent [] r.line r.at r.what row
 
 -- what a poster did between these journals is what these replies stand for, in their order
-pub record Posting {A B : Type 0} (q : View A QueueEntry QueueRefused) (s : View B SetEntry ListRefused) (lines : List Line) (poster : ℕ) (replies : List PostReply) (j : List A) (m : List B) (k : List A) (n : List B) : Type 0 where
+pub record Posting {A B : Type 0} (q : View A QueueEntry QueueRefused) (s : View B SetEntry ListRefused) (lines : List Line) (poster : ℕ)
+    (replies : List PostReply) (j : List A) (m : List B) (k : List A) (n : List B) : Type 0 where
   pub rows : List Row
   pub table : Pointwise (PosterRow lines poster) replies rows
   pub works : Works q s poster rows j m k n
 
 -- what a taker did between these journals is what these replies stand for, with jobs that it passed over
-pub record Taking {A B : Type 0} (q : View A QueueEntry QueueRefused) (s : View B SetEntry ListRefused) (lines : List Line) (taker agent : ℕ) (replies : List TakeReply) (j : List A) (m : List B) (k : List A) (n : List B) : Type 0 where
+pub record Taking {A B : Type 0} (q : View A QueueEntry QueueRefused) (s : View B SetEntry ListRefused) (lines : List Line) (taker agent : ℕ)
+    (replies : List TakeReply) (j : List A) (m : List B) (k : List A) (n : List B) : Type 0 where
   pub rows : List Row
   pub table : Pointwise (TakerRow lines taker agent) replies rows
   pub works : Works q s agent rows j m k n
 
 -- the same, and at last the jobs that it passed over before it found nothing
-pub record TakingRest {A B : Type 0} (q : View A QueueEntry QueueRefused) (s : View B SetEntry ListRefused) (lines : List Line) (taker agent : ℕ) (replies : List TakeReply) (j : List A) (m : List B) (k : List A) (n : List B) : Type 0 where
+pub record TakingRest {A B : Type 0} (q : View A QueueEntry QueueRefused) (s : View B SetEntry ListRefused) (lines : List Line) (taker agent : ℕ)
+    (replies : List TakeReply) (j : List A) (m : List B) (k : List A) (n : List B) : Type 0 where
   pub queue : List A
   pub set : List B
   pub taking : Taking q s lines taker agent replies j m queue set
   pub last : Replied q s (TakenRow lines agent None) agent queue set k n
 
 -- what a taker did between these journals is what these replies stand for, in their order, and it passed over no job
-pub record Claiming {A B : Type 0} (q : View A QueueEntry QueueRefused) (s : View B SetEntry ListRefused) (lines : List Line) (taker agent : ℕ) (replies : List TakeReply) (j : List A) (m : List B) (k : List A) (n : List B) : Type 0 where
+pub record Claiming {A B : Type 0} (q : View A QueueEntry QueueRefused) (s : View B SetEntry ListRefused) (lines : List Line) (taker agent : ℕ)
+    (replies : List TakeReply) (j : List A) (m : List B) (k : List A) (n : List B) : Type 0 where
   pub rows : List Row
   pub table : Pointwise (TookRow lines taker agent) replies rows
   pub works : Works q s agent rows j m k n
@@ -115,7 +119,8 @@ pub record LastIsEmpty (agent : ℕ) (history : List QueueEntry) : Type 0 where
 
 -- each worker did what its replies stand for, beside no agent but the workers; agent 0 comes last; and a taker from 1 on that has
 -- fewer replies than there are Posts found the queue empty after its last Took
-pub record WorkersFollow {A B : Type 0} (q : View A QueueEntry QueueRefused) (s : View B SetEntry ListRefused) (lines : List Line) (posters takers : ℕ) (posts : List PostReply) (takes : List TakeReply) (k : List A) (n : List B) : Type 0 where
+pub record WorkersFollow {A B : Type 0} (q : View A QueueEntry QueueRefused) (s : View B SetEntry ListRefused) (lines : List Line) (posters takers : ℕ)
+    (posts : List PostReply) (takes : List TakeReply) (k : List A) (n : List B) : Type 0 where
   pub posting : (p : ℕ) → 1 ≤ p → p ≤ posters
       → Posting (beside q (IsWorker posters takers)) (beside s (IsWorker posters takers)) lines p (posts_of p posts) [] [] k n
   pub claiming : (t : ℕ) → t ≤ takers
@@ -126,6 +131,7 @@ pub record WorkersFollow {A B : Type 0} (q : View A QueueEntry QueueRefused) (s 
   pub found_empty : (t : ℕ) → 1 ≤ t → t ≤ takers → length (takes_of t takes) < posts_in lines → LastIsEmpty (posters + t) (q.history k)
 
 -- the replies follow the two journals, and no position ran out
-pub record Follows {A B : Type 0} (q : View A QueueEntry QueueRefused) (s : View B SetEntry ListRefused) (lines : List Line) (posters takers : ℕ) (posts : List PostReply) (takes : List TakeReply) (k : List A) (n : List B) : Type 0 where
+pub record Follows {A B : Type 0} (q : View A QueueEntry QueueRefused) (s : View B SetEntry ListRefused) (lines : List Line) (posters takers : ℕ)
+    (posts : List PostReply) (takes : List TakeReply) (k : List A) (n : List B) : Type 0 where
   pub workers : WorkersFollow q s lines posters takers posts takes k n
   pub no_positions : AllByRecursion (λ (r : PostReply). r.what ≢ word.Positions) posts

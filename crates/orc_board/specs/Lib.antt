@@ -5,3 +5,4 @@ pub mod Follows
 pub mod Reportable
 pub mod Runs
 pub mod Reserved
+pub mod DeskCalls

@@ -14,7 +14,8 @@ use Rattle.orc_board.specs.Follows.{Follows}
 use Rattle.orc_board.specs.Reportable.{AreReportable}
 
 -- the replies follow the two journals, whose histories are legal, the queue's leaves the empty list, and the replies can be reported
-pub record Ran {A B : Type 0} (q : View A QueueEntry QueueRefused) (s : View B SetEntry ListRefused) (lines : List Line) (posters takers : ℕ) (posts : List PostReply) (takes : List TakeReply) (k : List A) (n : List B) : Type 0 where
+pub record Ran {A B : Type 0} (q : View A QueueEntry QueueRefused) (s : View B SetEntry ListRefused) (lines : List Line) (posters takers : ℕ)
+    (posts : List PostReply) (takes : List TakeReply) (k : List A) (n : List B) : Type 0 where
   pub follows : Follows q s lines posters takers posts takes k n
   pub queue_legal : IsLegalQueue 0 (q.history k)
   pub set_legal : IsLegalSet (s.history n)

@@ -104,12 +104,14 @@ abbrev pub empty_row : Row
 empty_row = record { queue = nothing; set = nothing }
 
 -- the row is what the worker did, from the journals j and m to k and n
-pub record Stands {A B : Type 0} (q : View A QueueEntry QueueRefused) (s : View B SetEntry ListRefused) (worker : ℕ) (row : Row) (j : List A) (m : List B) (k : List A) (n : List B) : Type 0 where
+pub record Stands {A B : Type 0} (q : View A QueueEntry QueueRefused) (s : View B SetEntry ListRefused) (worker : ℕ) (row : Row) (j : List A) (m : List B)
+    (k : List A) (n : List B) : Type 0 where
   pub queue : Did of_queue q worker row.queue j k
   pub set : Did of_set s worker row.set m n
 
 -- one of these rows is what the worker did
-pub record Replied {A B : Type 0} (q : View A QueueEntry QueueRefused) (s : View B SetEntry ListRefused) (rows : Row → Type 0) (worker : ℕ) (j : List A) (m : List B) (k : List A) (n : List B) : Type 0 where
+pub record Replied {A B : Type 0} (q : View A QueueEntry QueueRefused) (s : View B SetEntry ListRefused) (rows : Row → Type 0) (worker : ℕ) (j : List A)
+    (m : List B) (k : List A) (n : List B) : Type 0 where
   pub row : Row
   pub is : rows row
   pub stands : Stands q s worker row j m k n
@@ -120,5 +122,6 @@ Chain q s worker [] j m k n = Stands q s worker empty_row j m k n
 Chain {A} {B} q s worker (row ∷ rows) j m k n = (i : List A) × (l : List B) × Stands q s worker row j m i l × Chain q s worker rows i l k n
 
 -- these rows are all that the worker did
-pub record Works {A B : Type 0} (q : View A QueueEntry QueueRefused) (s : View B SetEntry ListRefused) (worker : ℕ) (rows : List Row) (j : List A) (m : List B) (k : List A) (n : List B) : Type 0 where
+pub record Works {A B : Type 0} (q : View A QueueEntry QueueRefused) (s : View B SetEntry ListRefused) (worker : ℕ) (rows : List Row) (j : List A)
+    (m : List B) (k : List A) (n : List B) : Type 0 where
   pub chain : Chain q s worker rows j m k n

@@ -5,8 +5,8 @@ ghost use Rattle.orc_history.specs.declared.queue.QueueRefused.{QueueRefused};
 ghost use Rattle.orc_history.specs.declared.set.SetEntry.{SetEntry};
 ghost use Rattle.orc_history.specs.declared.set.ListRefused.{ListRefused};
 ghost use Rattle.orc_history.specs.QueueHistory.{entry_of_dequeue};
-ghost use Rattle.orc_board.specs.Stretches.{queue_view, set_view, Stretch, Did, of_queue, of_set, refusal};
-ghost use Rattle.orc_board.specs.Table.{EndsWith, took_of};
+ghost use Rattle.orc_board.specs.DeskCalls.{KeepsQueueAgent, KeepsSetAgent, QueueCall, QueueEndsWith, QueueRefuses, SetCall, SetRefuses};
+ghost use Rattle.orc_board.specs.Table.{took_of};
 
 use orc_history::{ListRefused, QueueRefused, SharedQueue, SharedSet};
 use std::sync::Wait;
@@ -23,9 +23,9 @@ pub(crate) fn insert_key<R: Wait, S: SharedSet>(
 ) -> Result<bool, ListRefused>
     requires { S.usable set.now p.old }
     ensures usable { S.usable set.now p.new }
-    ensures agent { S.agent_of set.now p.new ≡ S.agent_of set.now p.old }
-    ensures added { IfOk result (λ yes. Stretch of_set (set_view S.SharedSet set.now) (S.agent_of set.now p.old) (SetEntry.Added (S.agent_of set.now p.old) key yes ∷ []) (S.journal p.old) (S.journal p.new)) }
-    ensures refused { IfErr result (λ e. Did of_set (set_view S.SharedSet set.now) (S.agent_of set.now p.old) (refusal e) (S.journal p.old) (S.journal p.new)) }
+    ensures agent { KeepsSetAgent S.SharedSet set.now p.old p.new }
+    ensures added { IfOk result (λ yes. SetCall S.SharedSet set.now p.old p.new (λ agent. SetEntry.Added agent key yes ∷ [])) }
+    ensures refused { IfErr result (λ e. SetRefuses S.SharedSet set.now p.old p.new e) }
     ensures answered { IfErr result (λ e. e ≢ ListRefused.Again) }
 {
     for _ in rt.forever() {
@@ -43,8 +43,8 @@ pub(crate) fn insert_key<R: Wait, S: SharedSet>(
 pub(crate) fn remove_key<R: Wait, S: SharedSet>(rt: &R, set: &S, p: &mut S::Pass, key: u64) -> bool
     requires { S.usable set.now p.old }
     ensures usable { S.usable set.now p.new }
-    ensures agent { S.agent_of set.now p.new ≡ S.agent_of set.now p.old }
-    ensures removed { Stretch of_set (set_view S.SharedSet set.now) (S.agent_of set.now p.old) (SetEntry.Removed (S.agent_of set.now p.old) key result ∷ []) (S.journal p.old) (S.journal p.new) }
+    ensures agent { KeepsSetAgent S.SharedSet set.now p.old p.new }
+    ensures removed { SetCall S.SharedSet set.now p.old p.new (λ agent. SetEntry.Removed agent key result ∷ []) }
 {
     for _ in rt.forever() {
         match set.remove(p, key, TURNS) {
@@ -64,9 +64,9 @@ pub(crate) fn put_job<R: Wait, Q: SharedQueue>(
 ) -> Result<u64, QueueRefused>
     requires { Q.usable queue.now p.old }
     ensures usable { Q.usable queue.now p.new }
-    ensures agent { Q.agent_of queue.now p.new ≡ Q.agent_of queue.now p.old }
-    ensures put { IfOk result (λ at. Stretch of_queue (queue_view Q.SharedQueue queue.now) (Q.agent_of queue.now p.old) (QueueEntry.Put (Q.agent_of queue.now p.old) job at ∷ []) (Q.journal p.old) (Q.journal p.new)) }
-    ensures refused { IfErr result (λ e. Did of_queue (queue_view Q.SharedQueue queue.now) (Q.agent_of queue.now p.old) (refusal e) (Q.journal p.old) (Q.journal p.new)) }
+    ensures agent { KeepsQueueAgent Q.SharedQueue queue.now p.old p.new }
+    ensures put { IfOk result (λ at. QueueCall Q.SharedQueue queue.now p.old p.new (λ agent. QueueEntry.Put agent job at ∷ [])) }
+    ensures refused { IfErr result (λ e. QueueRefuses Q.SharedQueue queue.now p.old p.new e) }
     ensures answered { IfErr result (λ e. e ≢ QueueRefused.Again) }
 {
     for _ in rt.forever() {
@@ -88,9 +88,9 @@ pub(crate) fn take_job<R: Wait, Q: SharedQueue>(
 ) -> Option<(u64, u64)>
     requires { Q.usable queue.now p.old }
     ensures usable { Q.usable queue.now p.new }
-    ensures agent { Q.agent_of queue.now p.new ≡ Q.agent_of queue.now p.old }
-    ensures took { Stretch of_queue (queue_view Q.SharedQueue queue.now) (Q.agent_of queue.now p.old) (took_of (Q.agent_of queue.now p.old) result) (Q.journal p.old) (Q.journal p.new) }
-    ensures last { EndsWith (queue_view Q.SharedQueue queue.now) (Q.agent_of queue.now p.old) (entry_of_dequeue (Q.agent_of queue.now p.old) result) (Q.journal p.old) (Q.journal p.new) }
+    ensures agent { KeepsQueueAgent Q.SharedQueue queue.now p.old p.new }
+    ensures took { QueueCall Q.SharedQueue queue.now p.old p.new (λ agent. took_of agent result) }
+    ensures last { QueueEndsWith Q.SharedQueue queue.now p.old p.new (λ agent. entry_of_dequeue agent result) }
 {
     for _ in rt.forever() {
         match queue.dequeue(p, TURNS) {

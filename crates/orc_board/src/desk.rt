@@ -3,8 +3,8 @@ ghost use Rattle.std.specs.Prelude.{◌≡◌, Some, None, IfSome, IfNone};
 ghost use Rattle.orc_jobs.specs.Line.{IsPost, IsDrop};
 ghost use Rattle.orc_jobs.specs.GoodLines.{AreGood};
 ghost use Rattle.orc_board.specs.Desk.{IsDesk};
-ghost use Rattle.orc_board.specs.Stretches.{queue_view, set_view, Replied};
-ghost use Rattle.orc_board.specs.Table.{PostRow, JobRow, DropRow, TakenRow, IsJob, IsNoJob, Closes, EndsWith, last_of};
+ghost use Rattle.orc_board.specs.DeskCalls.{Closes, KeepsSetAgent, QueueEndsWith, Replies};
+ghost use Rattle.orc_board.specs.Table.{PostRow, JobRow, DropRow, TakenRow, IsJob, IsNoJob, last_of};
 
 use crate::again::{insert_key, put_job, remove_key, take_job};
 use crate::{PostReply, PostWord, TakeReply, TakeWord};
@@ -33,10 +33,8 @@ pub fn post_line<R: Wait, Q: SharedQueue, S: SharedSet>(
     requires line { IsPost line.now }
     ensures desk { IsDesk Q.SharedQueue S.SharedSet queue.now set.now poster desk.new }
     ensures reply { (result.poster ≡ poster) × (result.line ≡ index) }
-    ensures row { Replied (queue_view Q.SharedQueue queue.now) (set_view S.SharedSet set.now)
-        (PostRow poster index line.now result.what) poster
-        (Q.journal desk.old.queue) (S.journal desk.old.set)
-        (Q.journal desk.new.queue) (S.journal desk.new.set) }
+    ensures row { Replies Q.SharedQueue S.SharedSet queue.now set.now desk.old desk.new poster
+        (PostRow poster index line.now result.what) }
 {
     reply_to(rt, queue, set, desk, poster, index, line)
 }
@@ -55,10 +53,8 @@ pub fn drop_line<R: Wait, Q: SharedQueue, S: SharedSet>(
     requires line { IsDrop line.now }
     ensures desk { IsDesk Q.SharedQueue S.SharedSet queue.now set.now poster desk.new }
     ensures reply { (result.poster ≡ poster) × (result.line ≡ index) }
-    ensures row { Replied (queue_view Q.SharedQueue queue.now) (set_view S.SharedSet set.now)
-        (PostRow poster index line.now result.what) poster
-        (Q.journal desk.old.queue) (S.journal desk.old.set)
-        (Q.journal desk.new.queue) (S.journal desk.new.set) }
+    ensures row { Replies Q.SharedQueue S.SharedSet queue.now set.now desk.old desk.new poster
+        (PostRow poster index line.now result.what) }
 {
     reply_to(rt, queue, set, desk, poster, index, line)
 }
@@ -76,13 +72,9 @@ pub fn take_one<R: Wait, Q: SharedQueue, S: SharedSet>(
     requires good { AreGood lines.now }
     ensures desk { IsDesk Q.SharedQueue S.SharedSet queue.now set.now (Q.agent_of queue.now desk.old.queue) desk.new }
     ensures reply { IfSome result (λ r. r.taker ≡ taker) }
-    ensures last { EndsWith (queue_view Q.SharedQueue queue.now)
-        (Q.agent_of queue.now desk.old.queue) (last_of (Q.agent_of queue.now desk.old.queue) result)
-        (Q.journal desk.old.queue) (Q.journal desk.new.queue) }
-    ensures row { Replied (queue_view Q.SharedQueue queue.now) (set_view S.SharedSet set.now)
-        (TakenRow lines.now (Q.agent_of queue.now desk.old.queue) result) (Q.agent_of queue.now desk.old.queue)
-        (Q.journal desk.old.queue) (S.journal desk.old.set)
-        (Q.journal desk.new.queue) (S.journal desk.new.set) }
+    ensures last { QueueEndsWith Q.SharedQueue queue.now desk.old.queue desk.new.queue (λ agent. last_of agent result) }
+    ensures row { Replies Q.SharedQueue S.SharedSet queue.now set.now desk.old desk.new (Q.agent_of queue.now desk.old.queue)
+        (TakenRow lines.now (Q.agent_of queue.now desk.old.queue) result) }
 {
     for _ in rt.forever() {
         match take_job(rt, queue, &mut desk.queue) {
@@ -111,10 +103,8 @@ pub(crate) fn reply_to<R: Wait, Q: SharedQueue, S: SharedSet>(
     requires { IsDesk Q.SharedQueue S.SharedSet queue.now set.now poster desk.old }
     ensures desk { IsDesk Q.SharedQueue S.SharedSet queue.now set.now poster desk.new }
     ensures reply { (result.poster ≡ poster) × (result.line ≡ index) }
-    ensures row { Replied (queue_view Q.SharedQueue queue.now) (set_view S.SharedSet set.now)
-        (PostRow poster index line.now result.what) poster
-        (Q.journal desk.old.queue) (S.journal desk.old.set)
-        (Q.journal desk.new.queue) (S.journal desk.new.set) }
+    ensures row { Replies Q.SharedQueue S.SharedSet queue.now set.now desk.old desk.new poster
+        (PostRow poster index line.now result.what) }
 {
     let what = match line {
         Line::Post { id, .. } => post_job(rt, queue, set, desk, poster, index, *id),
@@ -139,10 +129,8 @@ fn post_job<R: Wait, Q: SharedQueue, S: SharedSet>(
 ) -> PostWord
     requires { IsDesk Q.SharedQueue S.SharedSet queue.now set.now poster desk.old }
     ensures desk { IsDesk Q.SharedQueue S.SharedSet queue.now set.now poster desk.new }
-    ensures row { Replied (queue_view Q.SharedQueue queue.now) (set_view S.SharedSet set.now)
-        (JobRow poster index id result) poster
-        (Q.journal desk.old.queue) (S.journal desk.old.set)
-        (Q.journal desk.new.queue) (S.journal desk.new.set) }
+    ensures row { Replies Q.SharedQueue S.SharedSet queue.now set.now desk.old desk.new poster
+        (JobRow poster index id result) }
 {
     match insert_key(rt, set, &mut desk.set, id as u64) {
         Ok(true) => match put_job(rt, queue, &mut desk.queue, index as u64) {
@@ -175,10 +163,8 @@ fn drop_id<R: Wait, Q: SharedQueue, S: SharedSet>(
 ) -> PostWord
     requires { IsDesk Q.SharedQueue S.SharedSet queue.now set.now poster desk.old }
     ensures desk { IsDesk Q.SharedQueue S.SharedSet queue.now set.now poster desk.new }
-    ensures row { Replied (queue_view Q.SharedQueue queue.now) (set_view S.SharedSet set.now)
-        (DropRow poster id result) poster
-        (Q.journal desk.old.queue) (S.journal desk.old.set)
-        (Q.journal desk.new.queue) (S.journal desk.new.set) }
+    ensures row { Replies Q.SharedQueue S.SharedSet queue.now set.now desk.old desk.new poster
+        (DropRow poster id result) }
 {
     let _ = queue;
     if remove_key(rt, set, &mut desk.set, id as u64) {
@@ -218,10 +204,9 @@ fn close_job<R: Wait, S: SharedSet>(
     requires good { AreGood lines.now }
     requires job { IsJob lines.now job id }
     ensures set { S.usable set.now p.new }
-    ensures agent { S.agent_of set.now p.new ≡ S.agent_of set.now p.old }
+    ensures agent { KeepsSetAgent S.SharedSet set.now p.old p.new }
     ensures reply { (result.taker ≡ taker) × (result.at ≡ at) × (result.line ≡ job) }
-    ensures closed { Closes (set_view S.SharedSet set.now) lines.now (S.agent_of set.now p.old) id
-        result.line result.what (S.journal p.old) (S.journal p.new) }
+    ensures closed { Closes S.SharedSet set.now lines.now p.old p.new id result.line result.what }
 {
     let what = if remove_key(rt, set, p, id as u64) {
         TakeWord::Done(job_value(lines.get(job as usize)))

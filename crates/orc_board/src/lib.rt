@@ -14,5 +14,5 @@ pub use again::TURNS;
 pub use desk::{Desk, drop_line, post_line, take_one};
 pub use gate::{Gate, OpenGate};
 pub use lists::{PostList, ReplyList, TakeList};
-pub use loops::{run_poster, take_rest};
+pub use loops::{post_records, take_rest};
 pub use replies::{PostReply, PostWord, Replies, TakeReply, TakeWord};

@@ -1,5 +1,5 @@
 //! Lists of replies, whose room is reserved when they are made.
-ghost use Rattle.std.specs.Prelude.{◌≡◌, ◌≢◌, ◌+◌, ◌<◌, ◌++◌, ◌∷◌, [], IfOk, IsTrue, ◌↔◌, Some, length, slice_get};
+ghost use Rattle.std.specs.Prelude.{◌≡◌, ◌≢◌, ◌+◌, ◌<◌, ◌≤◌, ◌++◌, ◌∷◌, [], IfOk, IsTrue, ◌↔◌, Some, length, slice_get};
 
 use crate::{PostReply, TakeReply};
 use orc_fault::NoMemory;
@@ -10,7 +10,7 @@ use std::marker::Model;
 #[derive(Drop)]
 pub struct ReplyList<T> {
     items: Vec<T>,
-    spare: u32,
+    spare: usize,
 }
 
 /// The replies of posters.
@@ -33,10 +33,10 @@ impl<T> Model for ReplyList<T> {
 
 impl<T: Drop> ReplyList<T> {
     /// An empty list with room for so many replies.
-    pub fn new(alloc: Global, room: u32) -> Result<Self, NoMemory>
+    pub fn new(alloc: Global, room: usize) -> Result<Self, NoMemory>
         ensures { IfOk result (λ l. (l.items ≡ []) × (l.spare ≡ room)) }
     {
-        let items = Vec::with_capacity(alloc, room as usize)?;
+        let items = Vec::with_capacity(alloc, room)?;
         Ok(ReplyList { items, spare: room })
     }
 
@@ -50,8 +50,24 @@ impl<T: Drop> ReplyList<T> {
         self.spare -= 1;
     }
 
+    /// Appends all replies of another list, and takes no memory.
+    pub fn append(&mut self, other: Self)
+        requires { length other.items ≤ self.old.spare }
+        ensures items { self.new.items ≡ self.old.items ++ other.items }
+        ensures spare { self.new.spare + length other.items ≡ self.old.spare }
+    {
+        let ReplyList {
+            items: mut more,
+            spare: _,
+        } = other;
+        self.spare -= more.len();
+        let Ok(()) = self.items.append(&mut more) else {
+            unreachable!()
+        };
+    }
+
     /// For how many more replies there is room.
-    pub fn spare(&self) -> u32
+    pub fn spare(&self) -> usize
         ensures { result ≡ self.now.spare }
     {
         self.spare

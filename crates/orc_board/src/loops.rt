@@ -3,9 +3,8 @@ ghost use Rattle.std.specs.Prelude.{◌≡◌, ◌≤◌, ◌+◌, [], length, m
 ghost use Rattle.orc_history.specs.declared.queue.QueueEntry.{QueueEntry};
 ghost use Rattle.orc_jobs.specs.GoodLines.{AreGood};
 ghost use Rattle.orc_board.specs.Desk.{IsDesk};
-ghost use Rattle.orc_board.specs.Stretches.{queue_view, set_view};
-ghost use Rattle.orc_board.specs.Table.{EndsEmpty, EndsWith};
-ghost use Rattle.orc_board.specs.Follows.{Posting, TakingRest, own_records};
+ghost use Rattle.orc_board.specs.DeskCalls.{LeavesEmpty, Posts, QueueEndsWith, TakesRest};
+ghost use Rattle.orc_board.specs.Follows.{own_records};
 
 use crate::desk::reply_to;
 use crate::{Desk, Gate, PostList, TakeList, take_one};
@@ -14,7 +13,7 @@ use orc_jobs::Lines;
 use std::sync::Wait;
 
 /// Works through the records of a poster in file order: record i belongs to poster 1 + (i mod `posters`).
-pub fn run_poster<R: Wait, Q: SharedQueue, S: SharedSet, G: Gate>(
+pub fn post_records<R: Wait, Q: SharedQueue, S: SharedSet, G: Gate>(
     rt: &R,
     queue: &Q,
     set: &S,
@@ -31,10 +30,7 @@ pub fn run_poster<R: Wait, Q: SharedQueue, S: SharedSet, G: Gate>(
     requires none { replies.old.items ≡ [] }
     requires room { length (own_records posters poster (length lines.now)) ≤ replies.old.spare }
     ensures desk { IsDesk Q.SharedQueue S.SharedSet queue.now set.now poster desk.new }
-    ensures posting { Posting (queue_view Q.SharedQueue queue.now) (set_view S.SharedSet set.now)
-        lines.now poster replies.new.items
-        (Q.journal desk.old.queue) (S.journal desk.old.set)
-        (Q.journal desk.new.queue) (S.journal desk.new.set) }
+    ensures posting { Posts Q.SharedQueue S.SharedSet queue.now set.now desk.old desk.new lines.now poster replies.new.items }
     ensures in_file_order { map (λ r. r.line) replies.new.items ≡ own_records posters poster (length lines.now) }
     ensures spare { length replies.new.items + replies.new.spare ≡ replies.old.spare }
 {
@@ -61,15 +57,10 @@ pub fn take_rest<R: Wait, Q: SharedQueue, S: SharedSet, G: Gate>(
     requires good { AreGood lines.now }
     requires none { replies.old.items ≡ [] }
     ensures desk { IsDesk Q.SharedQueue S.SharedSet queue.now set.now (Q.agent_of queue.now desk.old.queue) desk.new }
-    ensures taking { TakingRest (queue_view Q.SharedQueue queue.now) (set_view S.SharedSet set.now)
-        lines.now taker (Q.agent_of queue.now desk.old.queue) replies.new.items
-        (Q.journal desk.old.queue) (S.journal desk.old.set)
-        (Q.journal desk.new.queue) (S.journal desk.new.set) }
-    ensures last { result ≡ true → EndsWith (queue_view Q.SharedQueue queue.now)
-        (Q.agent_of queue.now desk.old.queue) (QueueEntry.Empty (Q.agent_of queue.now desk.old.queue))
-        (Q.journal desk.old.queue) (Q.journal desk.new.queue) }
-    ensures empty { result ≡ true → EndsEmpty (queue_view Q.SharedQueue queue.now)
-        (Q.agent_of queue.now desk.old.queue) (Q.journal desk.new.queue) }
+    ensures taking { TakesRest Q.SharedQueue S.SharedSet queue.now set.now desk.old desk.new lines.now taker replies.new.items }
+    ensures last { result ≡ true
+        → QueueEndsWith Q.SharedQueue queue.now desk.old.queue desk.new.queue (λ agent. QueueEntry.Empty agent) }
+    ensures empty { result ≡ true → LeavesEmpty Q.SharedQueue S.SharedSet queue.now set.now desk.old desk.new }
     ensures full { result ≡ false → replies.new.spare ≡ 0 }
     ensures spare { length replies.new.items + replies.new.spare ≡ replies.old.spare }
 {

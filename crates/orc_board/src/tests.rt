@@ -8,7 +8,7 @@ mod examples;
 
 use crate::{
     Desk, Gate, OpenGate, PostList, PostReply, PostWord, Replies, TakeList, TakeReply, TakeWord,
-    drop_line, post_line, run_poster, take_one, take_rest,
+    drop_line, post_line, post_records, take_one, take_rest,
 };
 use orc_fault::NoMemory;
 use orc_history::{PlainQueue, PlainQueuePass, PlainSet, PlainSetPass, SharedQueue, SharedSet};
@@ -88,10 +88,10 @@ fn stored_run_of_one_poster(rt: HostRuntime) -> Result<(), Fail> {
         calls: Cell::new(0),
     };
     let mut replies = Replies {
-        posts: PostList::new(alloc, lines.len() as u32)?,
+        posts: PostList::new(alloc, lines.len())?,
         takes: TakeList::new(alloc, 5)?,
     };
-    run_poster(
+    post_records(
         &rt,
         &queue,
         &set,

@@ -1,5 +1,6 @@
 -- The events of a list's calls are allowed in every later journal.
 use Rattle.std.proofs.Common.{List, None, Option, Some, [], false, inl, refl, subst, sym, true, ℕ, ◌%◌, ◌++◌, ◌∷◌, ◌≡◌, slice_get}
+use Rattle.std.proofs.lemmas.Bool.{false_from_ne_true}
 use Rattle.orc_heap.proofs.Fresh.{node_later}
 use Rattle.orc_heap.proofs.Known.{linked_known}
 use Rattle.orc_heap.specs.Acts.{IsTarget}
@@ -19,22 +20,25 @@ use Rattle.orc_chain_rule.specs.declared.chain.ChainNote.TheVariants.{Entry, Unl
 use Rattle.orc_chain_rule.specs.ChainDiscipline.{AreChains, ChainHolds, ChainMay, FollowsOn, HasKey, IsAbove, IsBelow, IsOnChain, IsPlaceOnChain, IsRun, link_over, set_after}
 use Rattle.orc_chain_rule.specs.Watches.{node_to_add}
 use Rattle.orc_chain_rule.specs.Laws.Kinds.{key_linked}
-use Rattle.orc_chain_rule.specs.Laws.Kept.{absent_false, chain_fits, chain_keeps, chain_moves_linked}
+use Rattle.orc_chain_rule.specs.Laws.Kept.{chain_fits, chain_keeps, chain_moves_linked}
 use Rattle.orc_chain_rule.specs.Laws.Paths.{absent, run_follows}
 use Rattle.orc_chain_rule.proofs.Later.{above_later, follows_later, holds_later, key_later, place_later, run_later}
 
 -- a place that shows an unmarked link is on its root's chain
-pub place_on_chain : (roots : ℕ) (h : Heap) (keys : List ℕ) → AreChains roots h keys → (place : Place) (from : Link) (key : ℕ) → FollowsOn roots h place key → shown h place ≡ Some from → from.mark ≡ false
+pub place_on_chain : (roots : ℕ) (h : Heap) (keys : List ℕ) → AreChains roots h keys → (place : Place) (from : Link) (key : ℕ) → FollowsOn roots h place key
+    → shown h place ≡ Some from → from.mark ≡ false
     → IsPlaceOnChain h (key % roots) place × IsBelow h place key
 place_on_chain roots h keys c (Root r) from key f at plain = (sym f, tt)
-place_on_chain roots h keys c (Next id) from key (low, own, less, same) at plain = (subst (λ (z : ℕ). IsOnChain h z id) (sym same) (c.kept id low from own at plain), (low, own, less))
+place_on_chain roots h keys c (Next id) from key (low, own, less, same) at plain =
+    (subst (λ (z : ℕ). IsOnChain h z id) (sym same) (c.kept id low from own at plain), (low, own, less))
 
 follows_linked : (roots : ℕ) (h : Heap) (place : Place) (key : ℕ) → FollowsOn roots h place key → IsLinkedPlace place h
 follows_linked roots h (Root r) key f = tt
 follows_linked roots h (Next id) key (low, own, less, same) = key_linked h id low own
 
 -- what a linked place leads to, over a run, is known to every agent
-run_target : (n : HeapNumbers) (es : List (Event ChainNote)) (agent : ℕ) (place : Place) (from : Link) (over : List ℕ) (to : Option ℕ) → ChainHolds n es → IsLinkedPlace place (run_heap n es)
+run_target : (n : HeapNumbers) (es : List (Event ChainNote)) (agent : ℕ) (place : Place) (from : Link) (over : List ℕ) (to : Option ℕ) → ChainHolds n es
+    → IsLinkedPlace place (run_heap n es)
     → shown (run_heap n es) place ≡ Some from → IsRun (run_heap n es) from over to → IsTarget agent (run_heap n es) to
 run_target n es agent place from over None holds l at run = tt
 run_target n es agent place from over (Some id) holds l at run =
@@ -42,23 +46,27 @@ run_target n es agent place from over (Some id) holds l at run =
     linked_known n es agent id holds.lawful (key_linked (run_heap n es) id key own)
 
 -- the key is absent where a place below it, with an unmarked link, leads over a run above it
-pub key_absent : (n : HeapNumbers) (es : List (Event ChainNote)) (place : Place) (from : Link) (over : List ℕ) (to : Option ℕ) (key : ℕ) → ChainHolds n es → FollowsOn n.roots (run_heap n es) place key
-    → shown (run_heap n es) place ≡ Some from → from.mark ≡ false → IsRun (run_heap n es) from over to → IsAbove (run_heap n es) to key → has key (set_after es) ≡ false
+pub key_absent : (n : HeapNumbers) (es : List (Event ChainNote)) (place : Place) (from : Link) (over : List ℕ) (to : Option ℕ) (key : ℕ) → ChainHolds n es
+    → FollowsOn n.roots (run_heap n es) place key
+    → shown (run_heap n es) place ≡ Some from → from.mark ≡ false → IsRun (run_heap n es) from over to → IsAbove (run_heap n es) to key
+    → has key (set_after es) ≡ false
 key_absent n es place from over to key holds f at plain run above =
     let h : Heap = run_heap n es in
     let c = holds.chains in
     let (on, under) = place_on_chain n.roots h (set_after es) c place from key f at plain in
-    absent_false key (set_after es) (λ is. absent n.roots h (set_after es) c place from over to key on under at run above ((c.set key).0 is))
+    false_from_ne_true (has key (set_after es)) (λ is. absent n.roots h (set_after es) c place from over to key on under at run above ((c.set key).0 is))
 
 -- and present where its node has an unmarked link
-pub key_present : (n : HeapNumbers) (es : List (Event ChainNote)) (id key : ℕ) (link : Link) → ChainHolds n es → HasKey (run_heap n es) id key → shown (run_heap n es) (Next id) ≡ Some link → link.mark ≡ false
+pub key_present : (n : HeapNumbers) (es : List (Event ChainNote)) (id key : ℕ) (link : Link) → ChainHolds n es → HasKey (run_heap n es) id key
+    → shown (run_heap n es) (Next id) ≡ Some link → link.mark ≡ false
     → has key (set_after es) ≡ true
 key_present n es id key link holds own at plain =
     let c = holds.chains in
     (c.set key).1 (record { id = id; has_key = own; link = link; at = at; unmarked = plain; on_chain = c.kept id key link own at plain })
 
 -- an Added true of the agent's fresh node
-pub added_allowed : (n : HeapNumbers) (agent : ℕ) (place : Place) (from : Link) (over : List ℕ) (to : Option ℕ) (key second fresh : ℕ) (seen : List (Event ChainNote)) → ChainHolds n seen
+pub added_allowed : (n : HeapNumbers) (agent : ℕ) (place : Place) (from : Link) (over : List ℕ) (to : Option ℕ) (key second fresh : ℕ)
+    (seen : List (Event ChainNote)) → ChainHolds n seen
     → FollowsOn n.roots (run_heap n seen) place key → from.mark ≡ false → IsRun (run_heap n seen) from over to → IsAbove (run_heap n seen) to key
     → slice_get (run_heap n seen).nodes fresh ≡ Some (node_to_add agent key second to)
     → AllowedLater (ChainMay n) n agent seen place from (event_by agent (Move place from (link_to fresh)) (Some (Entry (Added agent key true))))
@@ -66,8 +74,11 @@ added_allowed n agent place from over to key second fresh seen holds f plain run
     let es : List (Event ChainNote) = seen ++ more in
     let h : Heap = run_heap n es in
     let now = holds_later n seen more holds later.allowed in
-    let node = node_later n (ChainHolds n) (ChainMay n) (chain_keeps n) (chain_fits n) (chain_moves_linked n) agent fresh (node_to_add agent key second to) seen more holds there refl refl refl later in
-    let (on, under) = place_on_chain n.roots h (set_after es) now.chains place from key (follows_later n seen more n.roots place key f later.allowed) at plain in
+    let node =
+    node_later n (ChainHolds n) (ChainMay n) (chain_keeps n) (chain_fits n) (chain_moves_linked n) agent fresh
+    (node_to_add agent key second to) seen more holds there refl refl refl later in
+    let (on, under) =
+    place_on_chain n.roots h (set_after es) now.chains place from key (follows_later n seen more n.roots place key f later.allowed) at plain in
     record {
       fits = (at, record { node = node_to_add agent key second to; there = node; known = inl refl });
       may_act = (
@@ -92,8 +103,10 @@ added_allowed n agent place from over to key second fresh seen holds f plain run
     }
 
 -- a Removed true of a once linked node with the key
-pub removed_allowed : (n : HeapNumbers) (agent id key : ℕ) (from : Link) (seen : List (Event ChainNote)) → ChainHolds n seen → HasKey (run_heap n seen) id key → from.mark ≡ false
-    → AllowedLater (ChainMay n) n agent seen (Next id) from (event_by agent (Move (Next id) from (record { to = from.to; mark = true })) (Some (Entry (Removed agent key true))))
+pub removed_allowed : (n : HeapNumbers) (agent id key : ℕ) (from : Link) (seen : List (Event ChainNote)) → ChainHolds n seen → HasKey (run_heap n seen) id key
+    → from.mark ≡ false
+    → AllowedLater (ChainMay n) n agent seen (Next id) from
+    (event_by agent (Move (Next id) from (record { to = from.to; mark = true })) (Some (Entry (Removed agent key true))))
 removed_allowed n agent id key from seen holds own plain = λ more later at.
     let es : List (Event ChainNote) = seen ++ more in
     let now = holds_later n seen more holds later.allowed in
@@ -105,7 +118,8 @@ removed_allowed n agent id key from seen holds own plain = λ more later at.
     }
 
 -- an Unlink of a run
-pub unlink_allowed : (n : HeapNumbers) (agent : ℕ) (place : Place) (from : Link) (first : ℕ) (others : List ℕ) (to : Option ℕ) (seen : List (Event ChainNote)) → ChainHolds n seen
+pub unlink_allowed : (n : HeapNumbers) (agent : ℕ) (place : Place) (from : Link) (first : ℕ) (others : List ℕ) (to : Option ℕ) (seen : List (Event ChainNote))
+    → ChainHolds n seen
     → IsLinkedPlace place (run_heap n seen) → from.mark ≡ false → IsRun (run_heap n seen) from (first ∷ others) to
     → AllowedLater (ChainMay n) n agent seen place from (event_by agent (Move place from (link_over to)) (Some Unlink))
 unlink_allowed n agent place from first others to seen holds l plain run = λ more later at.
@@ -120,33 +134,41 @@ unlink_allowed n agent place from first others to seen holds l plain run = λ mo
     }
 
 -- the answer that a key is absent
-pub removed_absent_allowed : (n : HeapNumbers) (agent : ℕ) (place : Place) (from : Link) (over : List ℕ) (to : Option ℕ) (key : ℕ) (seen : List (Event ChainNote)) → ChainHolds n seen
+pub removed_absent_allowed : (n : HeapNumbers) (agent : ℕ) (place : Place) (from : Link) (over : List ℕ) (to : Option ℕ) (key : ℕ)
+    (seen : List (Event ChainNote)) → ChainHolds n seen
     → FollowsOn n.roots (run_heap n seen) place key → from.mark ≡ false → IsRun (run_heap n seen) from over to → IsAbove (run_heap n seen) to key
     → AllowedLater (ChainMay n) n agent seen place from (event_by agent (Look place from) (Some (Entry (Removed agent key false))))
 removed_absent_allowed n agent place from over to key seen holds f plain run above = λ more later at.
     let now = holds_later n seen more holds later.allowed in
-    let none = key_absent n (seen ++ more) place from over to key now (follows_later n seen more n.roots place key f later.allowed) at plain (run_later n seen more from over to run later.allowed)
+    let none =
+    key_absent n (seen ++ more) place from over to key now (follows_later n seen more n.roots place key f later.allowed) at plain
+    (run_later n seen more from over to run later.allowed)
     (above_later n seen more to key above later.allowed) in
     record { fits = at; may_act = (refl, none); own = refl }
 
-pub asked_absent_allowed : (n : HeapNumbers) (agent : ℕ) (place : Place) (from : Link) (over : List ℕ) (to : Option ℕ) (key : ℕ) (seen : List (Event ChainNote)) → ChainHolds n seen
+pub asked_absent_allowed : (n : HeapNumbers) (agent : ℕ) (place : Place) (from : Link) (over : List ℕ) (to : Option ℕ) (key : ℕ)
+    (seen : List (Event ChainNote)) → ChainHolds n seen
     → FollowsOn n.roots (run_heap n seen) place key → from.mark ≡ false → IsRun (run_heap n seen) from over to → IsAbove (run_heap n seen) to key
     → AllowedLater (ChainMay n) n agent seen place from (event_by agent (Look place from) (Some (Entry (Asked agent key false))))
 asked_absent_allowed n agent place from over to key seen holds f plain run above = λ more later at.
     let now = holds_later n seen more holds later.allowed in
-    let none = key_absent n (seen ++ more) place from over to key now (follows_later n seen more n.roots place key f later.allowed) at plain (run_later n seen more from over to run later.allowed)
+    let none =
+    key_absent n (seen ++ more) place from over to key now (follows_later n seen more n.roots place key f later.allowed) at plain
+    (run_later n seen more from over to run later.allowed)
     (above_later n seen more to key above later.allowed) in
     record { fits = at; may_act = sym none; own = refl }
 
 -- the answer that a key is present
-pub added_present_allowed : (n : HeapNumbers) (agent id key : ℕ) (link : Link) (seen : List (Event ChainNote)) → ChainHolds n seen → HasKey (run_heap n seen) id key → link.mark ≡ false
+pub added_present_allowed : (n : HeapNumbers) (agent id key : ℕ) (link : Link) (seen : List (Event ChainNote)) → ChainHolds n seen
+    → HasKey (run_heap n seen) id key → link.mark ≡ false
     → AllowedLater (ChainMay n) n agent seen (Next id) link (event_by agent (Look (Next id) link) (Some (Entry (Added agent key false))))
 added_present_allowed n agent id key link seen holds own plain = λ more later at.
     let now = holds_later n seen more holds later.allowed in
     let there = key_present n (seen ++ more) id key link now (key_later n seen more id key own later.allowed) at plain in
     record { fits = at; may_act = (refl, there); own = refl }
 
-pub asked_present_allowed : (n : HeapNumbers) (agent id key : ℕ) (link : Link) (seen : List (Event ChainNote)) → ChainHolds n seen → HasKey (run_heap n seen) id key → link.mark ≡ false
+pub asked_present_allowed : (n : HeapNumbers) (agent id key : ℕ) (link : Link) (seen : List (Event ChainNote)) → ChainHolds n seen
+    → HasKey (run_heap n seen) id key → link.mark ≡ false
     → AllowedLater (ChainMay n) n agent seen (Next id) link (event_by agent (Look (Next id) link) (Some (Entry (Asked agent key true))))
 asked_present_allowed n agent id key link seen holds own plain = λ more later at.
     let now = holds_later n seen more holds later.allowed in

@@ -31,7 +31,8 @@ leads_nowhere n (Root r) id l to =
     cc
 leads_nowhere n (Next d) id l to = no_node d l.node l.there
 
-no_frozen : (n : HeapNumbers) (before after : List (Event ChainNote)) (id : ℕ) (link : Link) → [] ≡ before ++ after → HasLink (run_heap n before) id link → HasLink (run_heap {N = ChainNote} n []) id link
+no_frozen : (n : HeapNumbers) (before after : List (Event ChainNote)) (id : ℕ) (link : Link) → [] ≡ before ++ after → HasLink (run_heap n before) id link
+    → HasLink (run_heap {N = ChainNote} n []) id link
 no_frozen n [] after id link split l = l
 no_frozen n (e ∷ before) after id link split l = let bad : ⊥ = cc in absurd bad
 
@@ -53,42 +54,54 @@ nothing_yet n = record {
 pub holds_later : (n : HeapNumbers) (seen more : List (Event ChainNote)) → ChainHolds n seen → AllAllowed (ChainMay n) seen more → ChainHolds n (seen ++ more)
 holds_later n seen more holds all = stays (ChainMay n) (ChainHolds n) (λ es e h may. chain_keeps n es e h may) seen more holds all
 
-pub linked_later : (n : HeapNumbers) (seen more : List (Event ChainNote)) (id : ℕ) → IsLinkedNode (run_heap n seen) id → AllAllowed (ChainMay n) seen more → IsLinkedNode (run_heap n (seen ++ more)) id
+pub linked_later : (n : HeapNumbers) (seen more : List (Event ChainNote)) (id : ℕ) → IsLinkedNode (run_heap n seen) id → AllAllowed (ChainMay n) seen more
+    → IsLinkedNode (run_heap n (seen ++ more)) id
 linked_later n seen more id l all =
     stays (ChainMay n) (λ es. IsLinkedNode (run_heap n es) id)
-    (λ es e x may. let s = linked_after e.agent e.act (run_heap n es) id x.node may.fits x.there x.linked in rw (run_heap-snoc n es e) (record { node = s.node; there = s.there; linked = s.linked }))
+    (λ es e x may. let s = linked_after e.agent e.act (run_heap n es) id x.node may.fits x.there x.linked in rw (run_heap-snoc n es e)
+    (record { node = s.node; there = s.there; linked = s.linked }))
     seen more l all
 
-pub place_later : (n : HeapNumbers) (seen more : List (Event ChainNote)) (place : Place) → IsLinkedPlace place (run_heap n seen) → AllAllowed (ChainMay n) seen more → IsLinkedPlace place (run_heap n (seen ++ more))
+pub place_later : (n : HeapNumbers) (seen more : List (Event ChainNote)) (place : Place) → IsLinkedPlace place (run_heap n seen)
+    → AllAllowed (ChainMay n) seen more → IsLinkedPlace place (run_heap n (seen ++ more))
 place_later n seen more (Root r) l all = tt
 place_later n seen more (Next id) l all = linked_later n seen more id l all
 
 -- a once linked node keeps its key, and a marked link
-pub key_later : (n : HeapNumbers) (seen more : List (Event ChainNote)) (id key : ℕ) → HasKey (run_heap n seen) id key → AllAllowed (ChainMay n) seen more → HasKey (run_heap n (seen ++ more)) id key
+pub key_later : (n : HeapNumbers) (seen more : List (Event ChainNote)) (id key : ℕ) → HasKey (run_heap n seen) id key → AllAllowed (ChainMay n) seen more
+    → HasKey (run_heap n (seen ++ more)) id key
 key_later n seen more id key k all =
-    stays (ChainMay n) (λ es. HasKey (run_heap n es) id key) (λ es e x may. rw (run_heap-snoc n es e) (key_after e.agent e.act (run_heap n es) id key may.fits x)) seen more k all
+    stays (ChainMay n) (λ es. HasKey (run_heap n es) id key)
+    (λ es e x may. rw (run_heap-snoc n es e) (key_after e.agent e.act (run_heap n es) id key may.fits x)) seen more k all
 
-pub marked_later : (n : HeapNumbers) (seen more : List (Event ChainNote)) (id : ℕ) (link : Link) → HasLink (run_heap n seen) id link → link.mark ≡ true → AllAllowed (ChainMay n) seen more
+pub marked_later : (n : HeapNumbers) (seen more : List (Event ChainNote)) (id : ℕ) (link : Link) → HasLink (run_heap n seen) id link → link.mark ≡ true
+    → AllAllowed (ChainMay n) seen more
     → HasLink (run_heap n (seen ++ more)) id link
-marked_later n seen more id link l mark all = stays (ChainMay n) (λ es. HasLink (run_heap n es) id link) (λ es e x may. marked_next n es e id link may x mark) seen more l all
+marked_later n seen more id link l mark all =
+    stays (ChainMay n) (λ es. HasLink (run_heap n es) id link) (λ es e x may. marked_next n es e id link may x mark) seen more l all
 
 -- so do a run, and what lies below and above a key
-pub run_later : (n : HeapNumbers) (seen more : List (Event ChainNote)) (from : Link) (over : List ℕ) (to : Option ℕ) → IsRun (run_heap n seen) from over to → AllAllowed (ChainMay n) seen more
+pub run_later : (n : HeapNumbers) (seen more : List (Event ChainNote)) (from : Link) (over : List ℕ) (to : Option ℕ) → IsRun (run_heap n seen) from over to
+    → AllAllowed (ChainMay n) seen more
     → IsRun (run_heap n (seen ++ more)) from over to
 run_later n seen more from [] to run all = run
-run_later n seen more from (x ∷ xs) to (is, next, own, mark, run) all = (is, next, marked_later n seen more x next own mark all, mark, run_later n seen more next xs to run all)
+run_later n seen more from (x ∷ xs) to (is, next, own, mark, run) all =
+    (is, next, marked_later n seen more x next own mark all, mark, run_later n seen more next xs to run all)
 
-pub follows_later : (n : HeapNumbers) (seen more : List (Event ChainNote)) (roots : ℕ) (place : Place) (key : ℕ) → FollowsOn roots (run_heap n seen) place key → AllAllowed (ChainMay n) seen more
+pub follows_later : (n : HeapNumbers) (seen more : List (Event ChainNote)) (roots : ℕ) (place : Place) (key : ℕ) → FollowsOn roots (run_heap n seen) place key
+    → AllAllowed (ChainMay n) seen more
     → FollowsOn roots (run_heap n (seen ++ more)) place key
 follows_later n seen more roots (Root r) key f all = f
 follows_later n seen more roots (Next id) key (low, own, less, same) all = (low, key_later n seen more id low own all, less, same)
 
-pub above_later : (n : HeapNumbers) (seen more : List (Event ChainNote)) (to : Option ℕ) (key : ℕ) → IsAbove (run_heap n seen) to key → AllAllowed (ChainMay n) seen more → IsAbove (run_heap n (seen ++ more)) to key
+pub above_later : (n : HeapNumbers) (seen more : List (Event ChainNote)) (to : Option ℕ) (key : ℕ) → IsAbove (run_heap n seen) to key
+    → AllAllowed (ChainMay n) seen more → IsAbove (run_heap n (seen ++ more)) to key
 above_later n seen more None key a all = tt
 above_later n seen more (Some id) key (high, own, less) all = (high, key_later n seen more id high own all, less)
 
 pub left_out_later : (n : HeapNumbers) (seen more : List (Event ChainNote)) (roots : ℕ) (place : Place) (from : Link) (over : List ℕ) (to : Option ℕ) (key : ℕ)
-    → LeavesOut roots (run_heap n seen) place from over to key → AllAllowed (ChainMay n) seen more → LeavesOut roots (run_heap n (seen ++ more)) place from over to key
+    → LeavesOut roots (run_heap n seen) place from over to key → AllAllowed (ChainMay n) seen more
+    → LeavesOut roots (run_heap n (seen ++ more)) place from over to key
 left_out_later n seen more roots place from over to key out all = record {
   below = follows_later n seen more roots place key out.below all;
   unmarked = out.unmarked;

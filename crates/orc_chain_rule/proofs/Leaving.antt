@@ -50,7 +50,8 @@ past_path k p (x ∷ xs) to (v ∷ ids) y way path =
     ]
 
 -- a node on a chain was on it before, or it is new
-module _ (h k : Heap) (root : ℕ) (p : Place) (from : Link) (run new : List ℕ) (to : Option ℕ) (at : shown h p ≡ Some from) (r : IsRun h from run to) (way : IsPath k p new to)
+module _ (h k : Heap) (root : ℕ) (p : Place) (from : Link) (run new : List ℕ) (to : Option ℕ) (at : shown h p ≡ Some from) (r : IsRun h from run to)
+    (way : IsPath k p new to)
     (others : (q : Place) → q ≢ p → shown k q ≡ shown h q) (y : ℕ)
   where
     back_step : (q : Place) (ids : List ℕ) → IsPlaceOnChain h root q → IsPath k q ids (Some y)
@@ -73,19 +74,23 @@ module _ (h k : Heap) (root : ℕ) (p : Place) (from : Link) (run new : List ℕ
             ]
 
         straight : (ids : List ℕ) → IsPath k q ids (Some y)
-            → ((d : ℕ) (rest : List ℕ) → length rest < length ids → IsOnChain h root d → IsPath k (Next d) rest (Some y) → (has y new ≡ true) ⊎ IsOnChain h root y)
+            → ((d : ℕ) (rest : List ℕ) → length rest < length ids → IsOnChain h root d → IsPath k (Next d) rest (Some y) → (has y new ≡ true)
+            ⊎ IsOnChain h root y)
             → q ≢ p → (has y new ≡ true) ⊎ IsOnChain h root y
         straight [] path go ne = inr (chain_step h root q [] y on (leads_same k h q (Some y) (sym (others q ne)) path))
         straight (v ∷ ids) path go ne = go v ids (omega arith) (chain_step h root q [] v on (leads_same k h q (Some v) (sym (others q ne)) path.0)) path.1
 
-    back_of : (fuel : ℕ) (q : Place) (ids : List ℕ) → length ids ≤ fuel → IsPlaceOnChain h root q → IsPath k q ids (Some y) → (has y new ≡ true) ⊎ IsOnChain h root y
+    back_of : (fuel : ℕ) (q : Place) (ids : List ℕ) → length ids ≤ fuel → IsPlaceOnChain h root q → IsPath k q ids (Some y)
+        → (has y new ≡ true) ⊎ IsOnChain h root y
     back_of zero q ids few on path = back_step q ids on path (λ d rest less on_d path_d. absurd (omega (arith, few, less)))
-    back_of (suc fuel) q ids few on path = back_step q ids on path (λ d rest less on_d path_d. back_of fuel (Next d) rest (omega (arith, few, less)) on_d path_d)
+    back_of (suc fuel) q ids few on path =
+        back_step q ids on path (λ d rest less on_d path_d. back_of fuel (Next d) rest (omega (arith, few, less)) on_d path_d)
 
     pub chain_back : IsOnChain k root y → (has y new ≡ true) ⊎ IsOnChain h root y
     chain_back on = back_of (length on.over) (Root root) on.over (omega arith) refl on.path
 
-pub path_still_back : (roots : ℕ) (h k : Heap) (keys : List ℕ) → AreChains roots h keys → IsStill h k → (p : Place) (ids : List ℕ) (to : Option ℕ) → IsLinkedPlace p h → IsPath k p ids to → IsPath h p ids to
+pub path_still_back : (roots : ℕ) (h k : Heap) (keys : List ℕ) → AreChains roots h keys → IsStill h k → (p : Place) (ids : List ℕ) (to : Option ℕ)
+    → IsLinkedPlace p h → IsPath k p ids to → IsPath h p ids to
 path_still_back roots h k keys c s p [] to l path = leads_same k h p to (sym (s.shows p l)) path
 path_still_back roots h k keys c s p (x ∷ xs) to l path =
     let first = leads_same k h p (Some x) (sym (s.shows p l)) path.0 in
@@ -103,7 +108,8 @@ reaches h p from (x ∷ xs) to z at (leads, next, own, mark, run) (suc i, low, i
     let (ids, link, rest, path, mine, further) = reaches h (Next x) next xs to z (shown_link h x next own) run (i, omega (arith, low), is) in
     (x ∷ ids, link, rest, (record { link = from; at = at; to_is = leads }, path), mine, further)
 
-run_above : (roots : ℕ) (h : Heap) (keys : List ℕ) → AreChains roots h keys → (x : ℕ) (key : ℕ) (next : Link) (others : List ℕ) (z : ℕ) → HasKey h x key → HasLink h x next → IsRun h next others (Some z)
+run_above : (roots : ℕ) (h : Heap) (keys : List ℕ) → AreChains roots h keys → (x : ℕ) (key : ℕ) (next : Link) (others : List ℕ) (z : ℕ) → HasKey h x key
+    → HasLink h x next → IsRun h next others (Some z)
     → (high : ℕ) × HasKey h z high × (key < high)
 run_above roots h keys c x key next others z own l run =
     let (high, mine, follows) = run_follows roots h keys c (Next x) next others z (key_linked h x key own) (shown_link h x next l) run in
@@ -112,10 +118,12 @@ run_above roots h keys c x key next others z own l run =
 
 -- a node of a run that a place leads past is on no chain
 
-module _ (roots : ℕ) (h k : Heap) (keys more : List ℕ) (p : Place) (from to : Link) (over new : List ℕ) (target : Option ℕ) (c : AreChains roots h keys) (d : AreChains roots k more)
+module _ (roots : ℕ) (h k : Heap) (keys more : List ℕ) (p : Place) (from to : Link) (over new : List ℕ) (target : Option ℕ) (c : AreChains roots h keys)
+    (d : AreChains roots k more)
     (m : IsMoved h k p from to) (linked : IsLinkedPlace p h) (plain : to.mark ≡ false) (run : IsRun h from over target) (way : IsPath k p new target)
   where
-    from_place : (root z key : ℕ) (q : Place) → shown k q ≡ Some to → HasKey k z key → key % roots ≡ root → FollowsOn roots h q key → IsOnChain k root z → (ids : List ℕ) × IsPath k q ids (Some z)
+    from_place : (root z key : ℕ) (q : Place) → shown k q ≡ Some to → HasKey k z key → key % roots ≡ root → FollowsOn roots h q key → IsOnChain k root z
+        → (ids : List ℕ) × IsPath k q ids (Some z)
     from_place root z key (Root r) at own same f on = (on.over, subst (λ (x : ℕ). IsPath k (Root x) on.over (Some z)) (sym same ∙ f) on.path)
     from_place root z key (Next e) at own same (low, mine, less, one) on =
         let mine_k = m.stays e low mine in
@@ -143,7 +151,8 @@ module _ (roots : ℕ) (h k : Heap) (keys more : List ℕ) (p : Place) (from to 
         ]
 
 -- a node that was never linked is no linked one
-unlinked_apart : (h : Heap) (fresh id : ℕ) (node : Node) → slice_get h.nodes fresh ≡ Some node → node.linked ≡ false → IsLinkedNode h id → has id (fresh ∷ []) ≡ true → ⊥
+unlinked_apart : (h : Heap) (fresh id : ℕ) (node : Node) → slice_get h.nodes fresh ≡ Some node → node.linked ≡ false → IsLinkedNode h id
+    → has id (fresh ∷ []) ≡ true → ⊥
 unlinked_apart h fresh id node there unlinked l is = elim (or_cases (fresh == id) false is) [
   | inl same ↦
       let one : node ≡ l.node = some_same (sym there ∙ (ap (λ (x : ℕ). slice_get h.nodes x) (eqb-true fresh id same) ∙ l.there)) in
@@ -152,28 +161,31 @@ unlinked_apart h fresh id node there unlinked l is = elim (or_cases (fresh == id
   | inr bad ↦ cc
 ]
 
--- what an event that is allowed leaves of the chains
-
-record Ends (n : HeapNumbers) (es : List (Event ChainNote)) (e : Event ChainNote) : Type 0 where
-  chains : AreChains n.roots (heap_after e.agent e.act (run_heap n es)) (set_after (es ++ e ∷ []))
-
-ends : (n : HeapNumbers) (es : List (Event ChainNote)) (e : Event ChainNote) → ChainHolds n es → ChainMay n es e → Ends n es e
-ends n es e holds may = record { chains = subst (λ (g : Heap). AreChains n.roots g (set_after (es ++ e ∷ []))) (run_heap-snoc n es e) (chain_keeps n es e holds may).chains }
+-- the chains after an event that is allowed
+pub chains_after : (n : HeapNumbers) (es : List (Event ChainNote)) (e : Event ChainNote) → ChainHolds n es → ChainMay n es e
+    → AreChains n.roots (heap_after e.agent e.act (run_heap n es)) (set_after (es ++ e ∷ []))
+chains_after n es e holds may = subst (λ (g : Heap). AreChains n.roots g (set_after (es ++ e ∷ []))) (run_heap-snoc n es e) (chain_keeps n es e holds may).chains
 
 -- the nodes of a run that an Unlink leads past
-pub unlinked_off : (n : HeapNumbers) (agent : ℕ) (place : Place) (from : Link) (over : List ℕ) (to : Option ℕ) (id : ℕ) (seen : List (Event ChainNote)) → ChainHolds n seen
-    → (let e : Event ChainNote = event_by agent (Move place from (link_over to)) (Some Unlink) in ChainMay n seen e → IsRun (run_heap n seen) from over to → Contains over id → IsOnNoChain (run_heap n (seen ++ e ∷ [])) id)
+pub unlinked_off : (n : HeapNumbers) (agent : ℕ) (place : Place) (from : Link) (over : List ℕ) (to : Option ℕ) (id : ℕ) (seen : List (Event ChainNote))
+    → ChainHolds n seen
+    → (let e : Event ChainNote = event_by agent (Move place from (link_over to)) (Some Unlink) in ChainMay n seen e → IsRun (run_heap n seen) from over to
+    → Contains over id → IsOnNoChain (run_heap n (seen ++ e ∷ [])) id)
 unlinked_off n agent place from over to id seen holds may run among =
     let e : Event ChainNote = event_by agent (Move place from (link_over to)) (Some Unlink) in
     let h : Heap = run_heap n seen in
     let m = move_moves agent place from (link_over to) h may.fits in
-    rw (run_heap-snoc n seen e) (passed_off n.roots h (heap_after agent e.act h) (set_after seen) (set_after (seen ++ e ∷ [])) place from (link_over to) over [] to holds.chains (ends n seen e holds may).chains
+    rw (run_heap-snoc n seen e)
+    (passed_off n.roots h (heap_after agent e.act h) (set_after seen) (set_after (seen ++ e ∷ [])) place from (link_over to) over [] to holds.chains
+    (chains_after n seen e holds may)
     m may.may_act.linked refl run (record { link = link_over to; at = m.moved; to_is = refl }) id among (λ bad. cc))
 
 -- the nodes of a run that an Added leads past, from the new node on
-pub added_off : (n : HeapNumbers) (agent : ℕ) (place : Place) (from : Link) (over : List ℕ) (to : Option ℕ) (key fresh id : ℕ) (seen : List (Event ChainNote)) → ChainHolds n seen
+pub added_off : (n : HeapNumbers) (agent : ℕ) (place : Place) (from : Link) (over : List ℕ) (to : Option ℕ) (key fresh id : ℕ) (seen : List (Event ChainNote))
+    → ChainHolds n seen
     → (let e : Event ChainNote = event_by agent (Move place from (link_to fresh)) (Some (Entry (Added agent key true))) in
-    ChainMay n seen e → shown (run_heap n seen) (Next fresh) ≡ Some (link_over to) → IsRun (run_heap n seen) from over to → Contains over id → IsOnNoChain (run_heap n (seen ++ e ∷ [])) id)
+    ChainMay n seen e → shown (run_heap n seen) (Next fresh) ≡ Some (link_over to) → IsRun (run_heap n seen) from over to → Contains over id
+    → IsOnNoChain (run_heap n (seen ++ e ∷ [])) id)
 added_off n agent place from over to key fresh id seen holds may at run among =
     let e : Event ChainNote = event_by agent (Move place from (link_to fresh)) (Some (Entry (Added agent key true))) in
     let h : Heap = run_heap n seen in
@@ -185,49 +197,63 @@ added_off n agent place from over to key fresh id seen holds may at run among =
     let l = place_linked n.roots h keys c (key % n.roots) place a.on_chain in
     let new = added_linked n.roots h keys agent place from (link_to fresh) key c m a l in
     let same : fresh ≡ a.id = some_same (ap (λ (x : Link). x.to) a.to_is) in
-    let own : a.node.link ≡ link_over to = link_shown h a.id (link_over to) a.node a.there (subst (λ (x : ℕ). shown h (Next x) ≡ Some (link_over to)) same at) in
+    let own : a.node.link ≡ link_over to =
+    link_shown h a.id (link_over to) a.node a.there (subst (λ (x : ℕ). shown h (Next x) ≡ Some (link_over to)) same at) in
     let way : IsPath k place (a.id ∷ []) to = (
       record { link = link_to fresh; at = m.moved; to_is = ap (λ (x : ℕ). Some x) same },
       record { link = a.node.link; at = new.shows; to_is = ap (λ (x : Link). x.to) own },
     ) in
-    rw (run_heap-snoc n seen e) (passed_off n.roots h k keys (set_after (seen ++ e ∷ [])) place from (link_to fresh) over (a.id ∷ []) to c (ends n seen e holds may).chains m l refl run way id among
+    rw (run_heap-snoc n seen e)
+    (passed_off n.roots h k keys (set_after (seen ++ e ∷ [])) place from (link_to fresh) over (a.id ∷ []) to c
+    (chains_after n seen e holds may) m l refl run way id among
     (λ is_new.
     let (ids, next, rest, path, own_link, further) = reaches h place from over to id m.at run among in
     unlinked_apart h a.id id a.node a.there a.unlinked (linked_node h id next own_link) is_new))
 
 -- a once linked node that is on no chain stays on none
 
-on_before : (n : HeapNumbers) (es : List (Event ChainNote)) (e : Event ChainNote) (root id : ℕ) → ChainHolds n es → ChainMay n es e → IsLinkedNode (run_heap n es) id
+on_before : (n : HeapNumbers) (es : List (Event ChainNote)) (e : Event ChainNote) (root id : ℕ) → ChainHolds n es → ChainMay n es e
+    → IsLinkedNode (run_heap n es) id
     → IsOnChain (heap_after e.agent e.act (run_heap n es)) root id → IsOnChain (run_heap n es) root id
 on_before n es e root id holds may linked =
     let h : Heap = run_heap n es in
     let keys : List ℕ = set_after es in
     let c = holds.chains in
     each_kind n.roots h keys (λ act noted. Fits e.agent act h → IsOnChain (heap_after e.agent act h) root id → IsOnChain h root id)
-    (λ act plain fits on. record { over = on.over; path = path_still_back n.roots h (heap_after e.agent act h) keys c (act_still e.agent act h fits plain) (Root root) on.over (Some id) tt on.path })
+    (λ act plain fits on. record {
+      over = on.over;
+      path = path_still_back n.roots h (heap_after e.agent act h) keys c (act_still e.agent act h fits plain)
+          (Root root) on.over (Some id) tt on.path;
+    })
     (λ p from to by key a fits on.
     let k : Heap = heap_after e.agent (Move p from to) h in
     let m = move_moves e.agent p from to h fits in
     let new = added_linked n.roots h keys e.agent p from to key c m a (place_linked n.roots h keys c (key % n.roots) p a.on_chain) in
-    let way : IsPath k p (a.id ∷ []) a.node.link.to = (record { link = to; at = m.moved; to_is = ap (λ (x : Link). x.to) a.to_is }, record { link = a.node.link; at = new.shows; to_is = refl }) in
+    let way : IsPath k p (a.id ∷ []) a.node.link.to =
+    (record { link = to; at = m.moved; to_is = ap (λ (x : Link). x.to) a.to_is }, record { link = a.node.link; at = new.shows; to_is = refl }) in
     elim (chain_back h k root p from a.over (a.id ∷ []) a.node.link.to m.at a.run way m.others id on) [
       | inl is_new ↦ absurd (unlinked_apart h a.id id a.node a.there a.unlinked linked is_new)
       | inr before ↦ before
     ])
-    (λ x from to by key r fits on. chain_before n.roots h (heap_after e.agent (Move (Next x) from to) h) keys x from to key c (move_moves e.agent (Next x) from to h fits) r root id on)
+    (λ x from to by key r fits on. chain_before n.roots h (heap_after e.agent (Move (Next x) from to) h) keys x from to key c
+    (move_moves e.agent (Next x) from to h fits) r root id on)
     (λ p from to u fits on.
     let m = move_moves e.agent p from to h fits in
-    elim (chain_back h (heap_after e.agent (Move p from to) h) root p from (u.first ∷ u.others) [] to.to m.at u.run (record { link = to; at = m.moved; to_is = refl }) m.others id on) [
+    elim (chain_back h (heap_after e.agent (Move p from to) h) root p from (u.first ∷ u.others) [] to.to m.at u.run
+    (record { link = to; at = m.moved; to_is = refl }) m.others id on) [
       | inl bad ↦ cc
       | inr before ↦ before
     ])
     (λ p link entry t fits on. on)
     e.act e.note may.may_act may.fits
 
-pub off_later : (n : HeapNumbers) (seen more : List (Event ChainNote)) (id : ℕ) → ChainHolds n seen → AllAllowed (ChainMay n) seen more → IsLinkedNode (run_heap n seen) id
+pub off_later : (n : HeapNumbers) (seen more : List (Event ChainNote)) (id : ℕ) → ChainHolds n seen → AllAllowed (ChainMay n) seen more
+    → IsLinkedNode (run_heap n seen) id
     → IsOnNoChain (run_heap n seen) id → IsOnNoChain (run_heap n (seen ++ more)) id
 off_later n seen [] id holds all linked off = rw (append-nil seen) off
 off_later n seen (e ∷ more) id holds all linked off =
     let s = linked_later n seen (e ∷ []) id linked (all.0, tt) in
-    let next : IsOnNoChain (run_heap n (seen ++ e ∷ [])) id = λ root on. off root (on_before n seen e root id holds all.0 linked (subst (λ (g : Heap). IsOnChain g root id) (run_heap-snoc n seen e) on)) in
-    subst (λ (xs : List (Event ChainNote)). IsOnNoChain (run_heap n xs) id) (append_assoc seen (e ∷ []) more) (off_later n (seen ++ e ∷ []) more id (chain_keeps n seen e holds all.0) all.1 s next)
+    let next : IsOnNoChain (run_heap n (seen ++ e ∷ [])) id =
+    λ root on. off root (on_before n seen e root id holds all.0 linked (subst (λ (g : Heap). IsOnChain g root id) (run_heap-snoc n seen e) on)) in
+    subst (λ (xs : List (Event ChainNote)). IsOnNoChain (run_heap n xs) id) (append_assoc seen (e ∷ []) more)
+    (off_later n (seen ++ e ∷ []) more id (chain_keeps n seen e holds all.0) all.1 s next)

@@ -2,4 +2,5 @@ pub mod Later
 pub mod Coming
 pub mod OwnEntries
 pub mod Leaving
+pub mod Runs
 pub mod Stretches

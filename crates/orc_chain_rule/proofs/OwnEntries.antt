@@ -15,5 +15,6 @@ of_note by (Some Unlink) own = tt
 of_note by (Some (Entry entry)) own = (own, tt)
 
 -- each entry of an allowed event is of the event's agent
-pub entries_own : (n : HeapNumbers) (es : List (Event ChainNote)) (e : Event ChainNote) → ChainMay n es e → AllByRecursion (λ (x : SetEntry). agent_of_set_entry x ≡ e.agent) (entries_in e.note)
+pub entries_own : (n : HeapNumbers) (es : List (Event ChainNote)) (e : Event ChainNote) → ChainMay n es e
+    → AllByRecursion (λ (x : SetEntry). agent_of_set_entry x ≡ e.agent) (entries_in e.note)
 entries_own n es e may = of_note e.agent e.note may.own

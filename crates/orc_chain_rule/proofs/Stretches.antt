@@ -1,5 +1,5 @@
 -- Unlinks number at most the marked nodes that were still on a chain, and the keys that were taken out since.
-use Rattle.std.proofs.Common.{Bool, Contains, List, Option, Some, [], ap, arith, cond, false, filter, inl, inr, length, not, refl, subst, suc, sym, true, zero, ℕ, ◌%◌, ◌++◌, ◌+◌, ◌==◌, ◌∙◌, ◌∷◌, ◌≡◌, ◌≤◌, ◌⊎◌}
+use Rattle.std.proofs.Common.{Contains, List, Option, Some, [], ap, arith, false, filter, inl, inr, length, not, refl, subst, suc, sym, true, zero, ℕ, ◌%◌, ◌++◌, ◌+◌, ◌==◌, ◌∙◌, ◌∷◌, ◌≡◌, ◌≤◌}
 use Rattle.std.proofs.lemmas.Bool.{eq-eqb, eqb-true, or_cases, or_left, or_right}
 use Rattle.orc_heap.proofs.Runs.{run_heap-snoc}
 use Rattle.orc_heap.specs.Acts.{Fits, heap_after}
@@ -24,28 +24,10 @@ use Rattle.orc_chain_rule.specs.Laws.Kinds.{IsMoved, IsStill, act_still, each_ki
 use Rattle.orc_chain_rule.specs.Laws.Kept.{chain_keeps, place_linked}
 use Rattle.orc_chain_rule.specs.Laws.Paths.{chain_linked}
 use Rattle.orc_chain_rule.specs.Laws.Removing.{chain_before}
-use Rattle.orc_chain_rule.specs.Laws.Sets.{has_kept}
-use Rattle.orc_chain_rule.proofs.Leaving.{chain_back, chain_step, passed_off, path_still_back}
+use Rattle.orc_chain_rule.specs.Laws.Sets.{filter_less, has_kept}
+use Rattle.orc_chain_rule.proofs.Leaving.{chain_back, chains_after, chain_step, passed_off, path_still_back}
 
 -- numbers in a list
-
-filter_less : (x : ℕ) (xs : List ℕ) → has x xs ≡ true → length (filter (λ y. not (y == x)) xs) + 1 ≤ length xs
-filter_less x [] e = cc
-filter_less x (y ∷ xs) e = cases (filter_less x xs) (filter_at_most xs) (y == x) refl (or_cases (y == x) (has x xs) e)
-  where
-    filter_at_most : (zs : List ℕ) → length (filter (λ z. not (z == x)) zs) ≤ length zs
-    filter_at_most [] = omega arith
-    filter_at_most (z ∷ zs) = step (z == x) (filter_at_most zs)
-      where
-        step : (b : Bool) → length (filter (λ v. not (v == x)) zs) ≤ length zs → length (cond (not b) (z ∷ filter (λ v. not (v == x)) zs) (filter (λ v. not (v == x)) zs)) ≤ length (z ∷ zs)
-        step true k = omega (arith, k)
-        step false k = omega (arith, k)
-
-    cases : (has x xs ≡ true → length (filter (λ z. not (z == x)) xs) + 1 ≤ length xs) → length (filter (λ z. not (z == x)) xs) ≤ length xs → (b : Bool) → (y == x) ≡ b → (b ≡ true) ⊎ (has x xs ≡ true)
-        → length (cond (not b) (y ∷ filter (λ z. not (z == x)) xs) (filter (λ z. not (z == x)) xs)) + 1 ≤ length (y ∷ xs)
-    cases rest most true is either = omega (arith, most)
-    cases rest most false is (inl bad) = cc
-    cases rest most false is (inr later) = omega (arith, rest later)
 
 has_among : (x : ℕ) (xs : List ℕ) → Contains xs x → has x xs ≡ true
 has_among x [] (i, low, is) = absurd (omega (arith, low))
@@ -56,12 +38,24 @@ has_among x (y ∷ ys) (suc i, low, is) = or_right (y == x) (has x ys) (has_amon
 
 left_still : (roots : ℕ) (h k : Heap) (keys : List ℕ) → AreChains roots h keys → IsStill h k → (id : ℕ) → IsLeftOver k id → IsLeftOver h id
 left_still roots h k keys c s id w =
-    let on : IsOnChain h w.root id = record { over = w.on_chain.over; path = path_still_back roots h k keys c s (Root w.root) w.on_chain.over (Some id) tt w.on_chain.path } in
+    let on : IsOnChain h w.root id = record {
+      over = w.on_chain.over;
+      path = path_still_back roots h k keys c s (Root w.root) w.on_chain.over
+          (Some id) tt w.on_chain.path;
+    } in
     let l = chain_linked roots h keys c w.root id on in
-    record { root = w.root; on_chain = on; link = w.link; has_link = has_link h id w.link l (sym (s.shows (Next id) l) ∙ shown_link k id w.link w.has_link); marked = w.marked }
+    record {
+      root = w.root;
+      on_chain = on;
+      link = w.link;
+      has_link = has_link h id w.link l
+          (sym (s.shows (Next id) l) ∙ shown_link k id w.link w.has_link);
+      marked = w.marked;
+    }
 
 -- a marked link is no moved one, where the new link is unmarked
-not_moved : (h k : Heap) (p : Place) (from to : Link) (id : ℕ) (link : Link) → IsMoved h k p from to → to.mark ≡ false → shown k (Next id) ≡ Some link → link.mark ≡ true → shown h (Next id) ≡ Some link
+not_moved : (h k : Heap) (p : Place) (from to : Link) (id : ℕ) (link : Link) → IsMoved h k p from to → to.mark ≡ false → shown k (Next id) ≡ Some link
+    → link.mark ≡ true → shown h (Next id) ≡ Some link
 not_moved h k p from to id link m plain at mark = elim (place_either (Next id) p) [
   | inl same ↦
       let is : link ≡ to = some_same (sym at ∙ subst (λ (z : Place). shown k z ≡ Some to) (sym same) m.moved) in
@@ -70,10 +64,18 @@ not_moved h k p from to id link m plain at mark = elim (place_either (Next id) p
   | inr ne ↦ sym (m.others (Next id) ne) ∙ at
 ]
 
-left_moved : (roots : ℕ) (h k : Heap) (keys : List ℕ) (p : Place) (from to : Link) (id : ℕ) → AreChains roots h keys → IsMoved h k p from to → to.mark ≡ false → (w : IsLeftOver k id) → IsOnChain h w.root id → IsLeftOver h id
+left_moved : (roots : ℕ) (h k : Heap) (keys : List ℕ) (p : Place) (from to : Link) (id : ℕ) → AreChains roots h keys → IsMoved h k p from to → to.mark ≡ false
+    → (w : IsLeftOver k id) → IsOnChain h w.root id → IsLeftOver h id
 left_moved roots h k keys p from to id c m plain w on =
     let l = chain_linked roots h keys c w.root id on in
-    record { root = w.root; on_chain = on; link = w.link; has_link = has_link h id w.link l (not_moved h k p from to id w.link m plain (shown_link k id w.link w.has_link) w.marked); marked = w.marked }
+    record {
+      root = w.root;
+      on_chain = on;
+      link = w.link;
+      has_link = has_link h id w.link l
+          (not_moved h k p from to id w.link m plain (shown_link k id w.link w.has_link) w.marked);
+      marked = w.marked;
+    }
 
 -- what is left over after an event
 
@@ -82,21 +84,29 @@ record LeftAfter (k : Heap) (noted : Option ChainNote) (ids : List ℕ) : Type 0
   all : (id : ℕ) → IsLeftOver k id → has id now ≡ true
   count : length now + unlinks_with noted ≤ length ids + removes_in (entries_in noted)
 
-left_next : (n : HeapNumbers) (es : List (Event ChainNote)) (e : Event ChainNote) (ids : List ℕ) → ChainHolds n es → ChainMay n es e → ((id : ℕ) → IsLeftOver (run_heap n es) id → has id ids ≡ true)
+left_next : (n : HeapNumbers) (es : List (Event ChainNote)) (e : Event ChainNote) (ids : List ℕ) → ChainHolds n es → ChainMay n es e
+    → ((id : ℕ) → IsLeftOver (run_heap n es) id → has id ids ≡ true)
     → LeftAfter (heap_after e.agent e.act (run_heap n es)) e.note ids
 left_next n es e ids holds may left =
     let h : Heap = run_heap n es in
     let keys : List ℕ = set_after es in
     let c = holds.chains in
-    let after : AreChains n.roots (heap_after e.agent e.act h) (set_after (es ++ e ∷ [])) = subst (λ (g : Heap). AreChains n.roots g (set_after (es ++ e ∷ []))) (run_heap-snoc n es e) (chain_keeps n es e holds may).chains in
-    each_kind n.roots h keys (λ act noted. (more : List ℕ) → AreChains n.roots (heap_after e.agent act h) more → Fits e.agent act h → LeftAfter (heap_after e.agent act h) noted ids)
-    (λ act plain more d fits. record { now = ids; all = λ id w. left id (left_still n.roots h (heap_after e.agent act h) keys c (act_still e.agent act h fits plain) id w); count = omega arith })
+    let after = chains_after n es e holds may in
+    each_kind n.roots h keys
+    (λ act noted. (more : List ℕ) → AreChains n.roots (heap_after e.agent act h) more → Fits e.agent act h → LeftAfter (heap_after e.agent act h) noted ids)
+    (λ act plain more d fits. record {
+      now = ids;
+      all = λ id w. left id
+          (left_still n.roots h (heap_after e.agent act h) keys c (act_still e.agent act h fits plain) id w);
+      count = omega arith;
+    })
     (λ p from to by key a more d fits.
     let k : Heap = heap_after e.agent (Move p from to) h in
     let m = move_moves e.agent p from to h fits in
     let l = place_linked n.roots h keys c (key % n.roots) p a.on_chain in
     let new = added_linked n.roots h keys e.agent p from to key c m a l in
-    let way : IsPath k p (a.id ∷ []) a.node.link.to = (record { link = to; at = m.moved; to_is = ap (λ (x : Link). x.to) a.to_is }, record { link = a.node.link; at = new.shows; to_is = refl }) in
+    let way : IsPath k p (a.id ∷ []) a.node.link.to =
+    (record { link = to; at = m.moved; to_is = ap (λ (x : Link). x.to) a.to_is }, record { link = a.node.link; at = new.shows; to_is = refl }) in
     record {
       now = ids;
       all = λ id w. elim (chain_back h k w.root p from a.over (a.id ∷ []) a.node.link.to m.at a.run way m.others id w.on_chain) [
@@ -123,7 +133,14 @@ left_next n es e ids holds may left =
         | inr ne ↦
             let on = chain_before n.roots h k keys x from to key c m r w.root id w.on_chain in
             let l = chain_linked n.roots h keys c w.root id on in
-            let was : IsLeftOver h id = record { root = w.root; on_chain = on; link = w.link; has_link = has_link h id w.link l (sym (m.others (Next id) ne) ∙ shown_link k id w.link w.has_link); marked = w.marked } in
+            let was : IsLeftOver h id = record {
+              root = w.root;
+              on_chain = on;
+              link = w.link;
+              has_link = has_link h id w.link l
+                  (sym (m.others (Next id) ne) ∙ shown_link k id w.link w.has_link);
+              marked = w.marked;
+            } in
             or_right (x == id) (has id ids) ((left id was))
       ];
       count = omega arith;
@@ -133,21 +150,25 @@ left_next n es e ids holds may left =
     let m = move_moves e.agent p from to h fits in
     let (is, next, own_link, mark, run) = u.run in
     let back : (id : ℕ) → (w : IsLeftOver k id) → IsOnChain h w.root id
-    = λ id w. elim (chain_back h k w.root p from (u.first ∷ u.others) [] to.to m.at u.run (record { link = to; at = m.moved; to_is = refl }) m.others id w.on_chain) [ inl bad ↦ cc | inr on ↦ on ] in
+    = λ id w. elim (chain_back h k w.root p from (u.first ∷ u.others) [] to.to m.at u.run
+    (record { link = to; at = m.moved; to_is = refl }) m.others id w.on_chain) [ inl bad ↦ cc | inr on ↦ on ] in
     let first_left : has u.first ids ≡ true = first_was p keys c u.linked m.at u is next own_link mark in
     record {
       now = filter (λ y. not (y == u.first)) ids;
       all = λ id w. has_kept u.first id ids (left id (left_moved n.roots h k keys p from to id c m u.plain_after w (back id w)))
-          (λ same. passed_off n.roots h k keys more p from to (u.first ∷ u.others) [] to.to c d m u.linked u.plain_after u.run (record { link = to; at = m.moved; to_is = refl }) u.first (zero, omega arith, refl)
+          (λ same. passed_off n.roots h k keys more p from to (u.first ∷ u.others) [] to.to c d m u.linked u.plain_after u.run
+          (record { link = to; at = m.moved; to_is = refl }) u.first (zero, omega arith, refl)
           (λ bad. cc) w.root (subst (λ (z : ℕ). IsOnChain k w.root z) same w.on_chain));
       count = omega (arith, filter_less u.first ids first_left);
     })
     (λ p link entry t more d fits. record { now = ids; all = λ id w. left id w; count = omega arith })
     e.act e.note may.may_act (set_after (es ++ e ∷ [])) after may.fits
   where
-    first_was : (p : Place) (keys : List ℕ) → AreChains n.roots (run_heap n es) keys → IsLinkedPlace p (run_heap n es) → {from to : Link} → shown (run_heap n es) p ≡ Some from → (u : MayUnlink (run_heap n es) p from to)
+    first_was : (p : Place) (keys : List ℕ) → AreChains n.roots (run_heap n es) keys → IsLinkedPlace p (run_heap n es) → {from to : Link}
+        → shown (run_heap n es) p ≡ Some from → (u : MayUnlink (run_heap n es) p from to)
         → from.to ≡ Some u.first → (next : Link) → HasLink (run_heap n es) u.first next → next.mark ≡ true → has u.first ids ≡ true
-    first_was p keys c l {from} {to} at u is next own mark = left u.first (was p l u.plain at (record { link = from; at = at; to_is = is }) (c.leads p u.first l (record { link = from; at = at; to_is = is })))
+    first_was p keys c l {from} {to} at u is next own mark =
+        left u.first (was p l u.plain at (record { link = from; at = at; to_is = is }) (c.leads p u.first l (record { link = from; at = at; to_is = is })))
       where
         was : (q : Place) → IsLinkedPlace q (run_heap n es) → from.mark ≡ false → shown (run_heap n es) q ≡ Some from → LeadsTo (run_heap n es) q (Some u.first)
             → (key : ℕ) × HasKey (run_heap n es) u.first key × FollowsOn n.roots (run_heap n es) q key → IsLeftOver (run_heap n es) u.first
@@ -155,14 +176,22 @@ left_next n es e ids holds may left =
         was (Next e) l plain at to_first (key, mine, follows) =
             let (low, low_key, less, same) = follows in
             let on = c.kept e low from low_key at plain in
-            record { root = low % n.roots; on_chain = chain_step (run_heap n es) (low % n.roots) (Next e) [] u.first on to_first; link = next; has_link = own; marked = mark }
+            record {
+              root = low % n.roots;
+              on_chain = chain_step (run_heap n es) (low % n.roots)
+                  (Next e) [] u.first on to_first;
+              link = next;
+              has_link = own;
+              marked = mark;
+            }
 
 removes_in-append : (es fs : List SetEntry) → removes_in (es ++ fs) ≡ removes_in es + removes_in fs
 removes_in-append [] fs = omega arith
 removes_in-append (e ∷ es) fs = omega (arith, removes_in-append es fs)
 
 -- Unlinks number at most what was left over and what was taken out since
-unlinks_over : (n : HeapNumbers) (seen more : List (Event ChainNote)) (ids : List ℕ) → ChainHolds n seen → AllAllowed (ChainMay n) seen more → ((id : ℕ) → IsLeftOver (run_heap n seen) id → has id ids ≡ true)
+unlinks_over : (n : HeapNumbers) (seen more : List (Event ChainNote)) (ids : List ℕ) → ChainHolds n seen → AllAllowed (ChainMay n) seen more
+    → ((id : ℕ) → IsLeftOver (run_heap n seen) id → has id ids ≡ true)
     → unlinks_in more ≤ removes_in (entries_of more) + length ids
 unlinks_over n seen [] ids holds all left = omega arith
 unlinks_over n seen (e ∷ more) ids holds all left =
@@ -170,7 +199,8 @@ unlinks_over n seen (e ∷ more) ids holds all left =
     let rest = unlinks_over n (seen ++ e ∷ []) more r.now (chain_keeps n seen e holds all.0) all.1 (rw (run_heap-snoc n seen e) r.all) in
     omega (arith, r.count, rest, removes_in-append (entries_in e.note) (entries_of more))
 
-pub unlinks_bounded : (n : HeapNumbers) (seen more : List (Event ChainNote)) (ids : List ℕ) → ChainHolds n seen → AllAllowed (ChainMay n) seen more → AreLeftOver (run_heap n seen) ids
+pub unlinks_bounded : (n : HeapNumbers) (seen more : List (Event ChainNote)) (ids : List ℕ) → ChainHolds n seen → AllAllowed (ChainMay n) seen more
+    → AreLeftOver (run_heap n seen) ids
     → unlinks_in more ≤ removes_in (entries_of more) + length ids
 unlinks_bounded n seen more ids holds all left = unlinks_over n seen more ids holds all (λ id w. has_among id ids (left id w))
 
@@ -185,9 +215,11 @@ answer_none keys (Added by key answer) (is, there) = rw is refl
 answer_none keys (Removed by key answer) (is, none) = rw is refl
 answer_none keys (Asked by key answer) is = refl
 
-move_counted : (n : HeapNumbers) (es : List (Event ChainNote)) (e : Event ChainNote) → ChainMay n es e → move_with e.act ≡ adds_in (entries_in e.note) + removes_in (entries_in e.note) + unlinks_with e.note
+move_counted : (n : HeapNumbers) (es : List (Event ChainNote)) (e : Event ChainNote) → ChainMay n es e
+    → move_with e.act ≡ adds_in (entries_in e.note) + removes_in (entries_in e.note) + unlinks_with e.note
 move_counted n es e may =
-    each_kind n.roots (run_heap n es) (set_after es) (λ act noted. move_with act ≡ adds_in (entries_in noted) + removes_in (entries_in noted) + unlinks_with noted)
+    each_kind n.roots (run_heap n es) (set_after es)
+    (λ act noted. move_with act ≡ adds_in (entries_in noted) + removes_in (entries_in noted) + unlinks_with noted)
     (λ act plain. omega (arith, plain))
     (λ p from to by key a. refl)
     (λ x from to by key r. refl)
@@ -195,7 +227,15 @@ move_counted n es e may =
     (λ p link entry t. omega (arith, answer_none (set_after es) entry t))
     e.act e.note may.may_act
 
-pub moves_counted : (n : HeapNumbers) (seen more : List (Event ChainNote)) → AllAllowed (ChainMay n) seen more → moves_in more ≡ adds_in (entries_of more) + removes_in (entries_of more) + unlinks_in more
+pub moves_counted : (n : HeapNumbers) (seen more : List (Event ChainNote)) → AllAllowed (ChainMay n) seen more
+    → moves_in more ≡ adds_in (entries_of more) + removes_in (entries_of more) + unlinks_in more
 moves_counted n seen [] all = refl
 moves_counted n seen (e ∷ more) all =
-    omega (arith, move_counted n seen e all.0, moves_counted n (seen ++ e ∷ []) more all.1, adds_in-append (entries_in e.note) (entries_of more), removes_in-append (entries_in e.note) (entries_of more))
+    omega (
+      arith,
+      move_counted n seen e all.0,
+      moves_counted n (seen ++ e ∷ []) more all.1,
+      adds_in-append (entries_in e.note)
+          (entries_of more),
+      removes_in-append (entries_in e.note) (entries_of more),
+    )

@@ -57,14 +57,14 @@ pub record IsOnChain (h : Heap) (root id : ℕ) : Type 0 where
   pub over : List ℕ
   pub path : IsPath h (Root root) over (Some id)
 
--- no root's links lead to the node
-abbrev pub IsOnNoChain : Heap → ℕ → Type 0
-IsOnNoChain h id = (root : ℕ) → ¬ IsOnChain h root id
-
 -- the same of a place: it is the root itself, or the link of such a node
 abbrev pub IsPlaceOnChain : Heap → ℕ → Place → Type 0
 IsPlaceOnChain h root (Root r) = r ≡ root
 IsPlaceOnChain h root (Next id) = IsOnChain h root id
+
+-- no root's links lead to the node
+abbrev pub IsOnNoChain : Heap → ℕ → Type 0
+IsOnNoChain h id = (root : ℕ) → ¬ IsOnChain h root id
 
 -- this link leads over these nodes, each once linked and with a marked link, to the target
 abbrev pub IsRun : Heap → Link → List ℕ → Option ℕ → Type 0

@@ -138,7 +138,8 @@ pub fn nodes_of_a_run_leave_the_chain()
         ChainMay n seen e → IsRun (run_heap n seen) from over to → Contains over id → IsOnNoChain (run_heap n (seen ++ e ∷ [])) id) }
     ensures added { (n : HeapNumbers) (agent : ℕ) (place : Place) (from : Link) (over : List ℕ) (to : Option ℕ) (key fresh id : ℕ)
         (seen : List (Event ChainNote)) → ChainHolds n seen
-        → (let e : Event ChainNote = event_by agent (Act.Move place from (link_to fresh)) (Some (ChainNote.Entry (SetEntry.Added agent key true))) in
+        → (let e : Event ChainNote = event_by agent (Act.Move place from (link_to fresh))
+        (Some (ChainNote.Entry (SetEntry.Added agent key true))) in
         ChainMay n seen e → shown (run_heap n seen) (Place.Next fresh) ≡ Some (link_over to)
         → IsRun (run_heap n seen) from over to → Contains over id → IsOnNoChain (run_heap n (seen ++ e ∷ [])) id) }
     ensures later { (n : HeapNumbers) (seen more : List (Event ChainNote)) (id : ℕ) → ChainHolds n seen → AllAllowed (ChainMay n) seen more

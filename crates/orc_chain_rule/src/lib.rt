@@ -3,6 +3,8 @@
 
 mod chain;
 mod laws;
+#[cfg(test)]
+mod tests;
 
 pub use chain::{Chain, ChainNote};
 pub use laws::{

@@ -21,7 +21,8 @@ no_decrement (Dec x) r h = absurd (false≢true (sym h))
 no_decrement op r h = refl
 
 -- a kind that completes no pending change waits until nothing is pending
-pub nothing_pending : (due : Option Reading) (inc dec : Option ℕ) (op : Op) → completes op ≡ false → in_order due inc dec op ≡ true → (due ≡ None) × (inc ≡ None) × (dec ≡ None)
+pub nothing_pending : (due : Option Reading) (inc dec : Option ℕ) (op : Op) → completes op ≡ false → in_order due inc dec op ≡ true
+    → (due ≡ None) × (inc ≡ None) × (dec ≡ None)
 nothing_pending (Some s) inc dec op n h = absurd (false≢true (sym (no_try op s.row s.number n) ∙ h))
 nothing_pending None (Some r) dec op n h = absurd (false≢true (sym (no_increment op r n) ∙ h))
 nothing_pending None None (Some r) op n h = absurd (false≢true (sym (no_decrement op r n) ∙ h))

@@ -22,12 +22,15 @@ use Rattle.orc_core.specs.Machine.{Machine, IsWhole, EachWithRoom, is_allowed, n
 use Rattle.orc_core.specs.Runs.{run, IsLawful}
 use Rattle.orc_core.proofs.Within.{may_within, room_of_nobody}
 
-pub its_word : (m : Machine) (a : ℕ) (op : Op) → IsWhole m → is_allowed m a op ≡ true → word_in (step m a op) (action_of a op (record_at m a)).word ≡ word_after (action_of a op (record_at m a)).operation (word_read m a op)
+pub its_word : (m : Machine) (a : ℕ) (op : Op) → IsWhole m → is_allowed m a op ≡ true
+    → word_in (step m a op) (action_of a op (record_at m a)).word ≡ word_after (action_of a op (record_at m a)).operation (word_read m a op)
 its_word m a op whole h = get_or-set_same m.words _ _ 0 (rw whole.words (place_below m.bounds _ (may_within m.bounds _ a op (record_at m a) h)))
 
-pub other_words : (m : Machine) (a : ℕ) (op : Op) (w : Word) → IsWhole m → is_allowed m a op ≡ true → IsWithin m.bounds w → w ≢ (action_of a op (record_at m a)).word → word_in (step m a op) w ≡ word_in m w
+pub other_words : (m : Machine) (a : ℕ) (op : Op) (w : Word) → IsWhole m → is_allowed m a op ≡ true → IsWithin m.bounds w
+    → w ≢ (action_of a op (record_at m a)).word → word_in (step m a op) w ≡ word_in m w
 other_words m a op w whole h within other =
-    get_or-set_other m.words (place m.bounds (action_of a op (record_at m a)).word) (place m.bounds w) _ 0 (λ p. other (same_place m.bounds w _ within (may_within m.bounds _ a op (record_at m a) h) p))
+    get_or-set_other m.words (place m.bounds (action_of a op (record_at m a)).word) (place m.bounds w) _ 0
+    (λ p. other (same_place m.bounds w _ within (may_within m.bounds _ a op (record_at m a) h) p))
 
 -- a step leaves the room of its agent's work list
 after_room : (op : Op) (d : Agent) (w : ℕ) → (after op d w).list.room ≡ d.list.room
@@ -42,7 +45,8 @@ after_room (TakeIn k) d w = named_room (named w) d.list
     named_room (Some r) l = refl
 after_room op d w = refl
 
-rooms_set : (room : ℕ) (agents : List Agent) (a : ℕ) (d : Agent) → EachWithRoom room agents → (a < length agents → d.list.room ≡ room) → (x : ℕ) → x < length agents → (t : Bool) → (x == a) ≡ t → (slice_index_or (slice_set agents a d) x (nobody room)).list.room ≡ room
+rooms_set : (room : ℕ) (agents : List Agent) (a : ℕ) (d : Agent) → EachWithRoom room agents → (a < length agents → d.list.room ≡ room) → (x : ℕ)
+    → x < length agents → (t : Bool) → (x == a) ≡ t → (slice_index_or (slice_set agents a d) x (nobody room)).list.room ≡ room
 rooms_set room agents a d h new x l true t = let e = eqb-true x a t in rw (e, get_or-set_same agents a d (nobody room) (rw e at l)) (new (rw e at l))
 rooms_set room agents a d h new x l false t = rw (get_or-set_other agents a x d (nobody room) (λ p. false≢true (sym t ∙ eq-eqb x a p))) (h x l)
 
@@ -52,7 +56,8 @@ step_whole m a op whole = record {
   words = length-set m.words _ _ ∙ whole.words;
   agents = length-set m.agents a _ ∙ whole.agents;
   rooms = λ x l.
-      rooms_set m.bounds.rows m.agents a _ whole.rooms (λ h. after_room op (record_at m a) _ ∙ whole.rooms a h) x (rw (length-set m.agents a _) at l) (x == a) refl;
+      rooms_set m.bounds.rows m.agents a _ whole.rooms (λ h. after_room op (record_at m a) _ ∙ whole.rooms a h) x (rw (length-set m.agents a _) at l)
+      (x == a) refl;
 }
 
 new_whole : (b : Bounds) → IsShape b → IsWhole (new_machine b)

@@ -76,8 +76,12 @@ fits b e a (LinkLoad p (Some k)) d = may_place b p (λ r. any_holds d.slots r ||
 fits b e a (Publish k r) d = nat_lt 0 k && nat_lt k 8 && nat_lt r b.rows && is_empty (slot_of d k)
 fits b e a (Clear k) d = nat_lt k 8 && not (is_empty (slot_of d k)) && not (holds_fresh d.fresh (slot_of d k))
 fits b e a (Arm r) d = nat_lt r b.rows && is_empty (slot_of d 0) && (names d.dec r || (scans d.scan r && not (scan_empty d.scan)))
-fits b e a (LinkCas p f t) d = may_place b p (λ r. any_holds d.slots r && not (names d.fresh r)) && is_empty (slot_of d 0) && may_target b d f.to && may_target b d t.to && may_change d (b.limit + 64) f.to t.to
-fits b e a (LinkStore r l) d = nat_lt r b.rows && is_empty (slot_of d 0) && ((names d.fresh r && may_target b d l.to && may_change d (b.limit + 64) None l.to) || (doom_uncut d.doom r && is_none l.to && not l.mark))
+fits b e a (LinkCas p f t) d =
+    may_place b p (λ r. any_holds d.slots r && not (names d.fresh r)) && is_empty (slot_of d 0) && may_target b d f.to && may_target b d t.to &&
+    may_change d (b.limit + 64) f.to t.to
+fits b e a (LinkStore r l) d =
+    nat_lt r b.rows && is_empty (slot_of d 0) &&
+    ((names d.fresh r && may_target b d l.to && may_change d (b.limit + 64) None l.to) || (doom_uncut d.doom r && is_none l.to && not l.mark))
 fits b e a (Inc r) d = nat_lt r b.rows && names d.inc r
 fits b e a (Dec r) d = nat_lt r b.rows && names d.dec r && holds (slot_of d 0) r
 fits b e a (SetRetired r q) d = nat_lt r b.rows && nat_lt q 1099511627776 && (is_due d.due r q || names d.fresh r)

@@ -38,7 +38,8 @@ IsCanonical-decimal n h = elim (zero_or_more n) [
 ]
 
 -- a plain text that parses is what printing its number gives
-pub parsed : {E : Type 0} (text : List ℕ) (r : Result ℕ E) (n : ℕ) → IsCanonical text → ParsesUnsigned 64 10 text r → r ≡ Ok n → (n < 2 ^ 64) × (text ≡ decimal n)
+pub parsed : {E : Type 0} (text : List ℕ) (r : Result ℕ E) (n : ℕ) → IsCanonical text → ParsesUnsigned 64 10 text r → r ≡ Ok n
+    → (n < 2 ^ 64) × (text ≡ decimal n)
 parsed {E} text r n plain h e =
     let p = parse_plain own 64 text r h plain.unsigned in
     let q = rw e at p in

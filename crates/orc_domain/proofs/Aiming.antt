@@ -52,11 +52,15 @@ module _ {D N : Type 0} {d : discipline.Ghosts D N} {m : machine.Ghosts Plain N 
     target_met : id_by s.rows link.to ≡ target_in (seat_of domain p).slots to
     target_met = ap (λ (l : RowLink). id_by s.rows l.to) link_same ∙ target_is domain p h to holds_to
 
-    pub may_aim : AllowedWhereFits may (domain_numbers domain) s.agent s.events (event_of (seat_of domain p) (Aim (id_in (seat_of domain p).slots hold) (target_in (seat_of domain p).slots to)) None)
+    pub may_aim : AllowedWhereFits may (domain_numbers domain) s.agent s.events
+        (event_of (seat_of domain p) (Aim (id_in (seat_of domain p).slots hold) (target_in (seat_of domain p).slots to)) None)
         → MayWhereFits may b s (aim_event s row link)
-    may_aim a = subst (λ (z : ℕ × Option ℕ). AllowedWhereFits may (domain_numbers domain) s.agent s.events (event_by s.agent (Aim z.0 z.1) None)) (λ i. (sym row_met i, sym target_met i)) a
+    may_aim a = subst (λ (z : ℕ × Option ℕ). AllowedWhereFits may (domain_numbers domain) s.agent s.events (event_by s.agent (Aim z.0 z.1) None))
+        (λ i. (sym row_met i, sym target_met i)) a
 
     pub aims : Adds may (aim_event s row link ∷ []) s t → t.fresh ≡ s.fresh
-        → Only (event_of (seat_of domain p) (Aim (id_in (seat_of domain p).slots hold) (target_in (seat_of domain p).slots to)) None ∷ []) (seat_of domain p) (seat_by t p.slots)
-    aims a f = subst (λ (z : ℕ × Option ℕ). Only (event_by s.agent (Aim z.0 z.1) None ∷ []) (seat_of domain p) (seat_by t p.slots)) (λ i. (row_met i, target_met i))
+        → Only (event_of (seat_of domain p) (Aim (id_in (seat_of domain p).slots hold) (target_in (seat_of domain p).slots to)) None ∷ [])
+        (seat_of domain p) (seat_by t p.slots)
+    aims a f = subst (λ (z : ℕ × Option ℕ). Only (event_by s.agent (Aim z.0 z.1) None ∷ []) (seat_of domain p) (seat_by t p.slots))
+        (λ i. (row_met i, target_met i))
         (only_adds domain p h q x (aim_event s row link ∷ []) a (mine s.agent (Aim (index_of row s.rows) (id_by s.rows link.to)) None) f)

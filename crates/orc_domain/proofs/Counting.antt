@@ -1,5 +1,6 @@
 -- How many rows were given.
 use Rattle.std.proofs.Common.{◌≡◌, ◌≢◌, ℕ, zero, suc, ◌+◌, ◌-◌, ◌<◌, ◌≤◌, ◌%◌, ◌==◌, List, [], ◌∷◌, ◌++◌, length, length-append, false, Option, Some, None, slice_get, refl, sym, ap, ◌∙◌, subst, arith, eq-eqb, ne_eqb}
+use Rattle.orc_heap.proofs.Moved.{target_length}
 use Rattle.std.proofs.Math.Decide.{dec_lt}
 use Rattle.std.proofs.Math.Nat.{add-mod_right, mod-eq_of_lt}
 use Rattle.std.proofs.Math.Seq.{take-length}
@@ -43,14 +44,17 @@ instead_else f k n i ne = ap (λ b. if b then f k else f i) (ne_eqb (f i) n ne)
 fewer : (k n : ℕ) (f : ℕ → ℕ) → Different (suc k) (suc n) f → Different k n (instead f k n)
 fewer k n f d = record {
   low = λ i l. dite (ℕ_discrete (f i) n)
-      (λ e. let ne : f k ≢ n = λ q. let same = d.apart i k (omega (arith, l)) (omega arith) (e ∙ sym q) in omega (arith, same, l) in let b = d.low k (omega arith) in let is = instead_last f k n i e in omega (arith, ne, b, is))
+      (λ e. let ne : f k ≢ n = λ q. let same = d.apart i k (omega (arith, l)) (omega arith) (e ∙ sym q) in omega (arith, same, l) in
+      let b = d.low k (omega arith) in let is = instead_last f k n i e in omega (arith, ne, b, is))
       (λ ne. let b = d.low i (omega (arith, l)) in let is = instead_else f k n i ne in omega (arith, ne, b, is));
   apart = λ i j l m e. dite (ℕ_discrete (f i) n)
       (λ x. dite (ℕ_discrete (f j) n)
       (λ y. d.apart i j (omega (arith, l)) (omega (arith, m)) (x ∙ sym y))
-      (λ y. let same = d.apart k j (omega arith) (omega (arith, m)) (sym (instead_last f k n i x) ∙ (e ∙ instead_else f k n j y)) in absurd (omega (arith, same, m))))
+      (λ y. let same = d.apart k j (omega arith) (omega (arith, m)) (sym (instead_last f k n i x) ∙ (e ∙ instead_else f k n j y)) in
+      absurd (omega (arith, same, m))))
       (λ x. dite (ℕ_discrete (f j) n)
-      (λ y. let same = d.apart i k (omega (arith, l)) (omega arith) (sym (instead_else f k n i x) ∙ (e ∙ instead_last f k n j y)) in absurd (omega (arith, same, l)))
+      (λ y. let same = d.apart i k (omega (arith, l)) (omega arith) (sym (instead_else f k n i x) ∙ (e ∙ instead_last f k n j y)) in
+      absurd (omega (arith, same, l)))
       (λ y. d.apart i j (omega (arith, l)) (omega (arith, m)) (sym (instead_else f k n i x) ∙ (e ∙ instead_else f k n j y))));
 }
 
@@ -73,7 +77,8 @@ rows_at_most rows most once inside = no_more (length rows) most (slice_index row
 })
 
 -- where each row is out, all were given
-pub rows_all : (rows : List ℕ) (most : ℕ) → Once rows → ((i row : ℕ) → slice_get rows i ≡ Some row → row < most) → ((row : ℕ) → row < most → IsOut rows row) → length rows ≡ most
+pub rows_all : (rows : List ℕ) (most : ℕ) → Once rows → ((i row : ℕ) → slice_get rows i ≡ Some row → row < most)
+    → ((row : ℕ) → row < most → IsOut rows row) → length rows ≡ most
 rows_all rows most once inside all =
     let low = rows_at_most rows most once inside in
     let high = no_more most (length rows) (λ row. index_of row rows) (record {
@@ -81,12 +86,14 @@ rows_all rows most once inside all =
       apart = λ row other l m e.
           let o = all row l in
           let q = all other m in
-          some_one row other (sym (at_index row rows (index_in row rows o.0 o.1)) ∙ (ap (slice_get rows) e ∙ at_index other rows (index_in other rows q.0 q.1)));
+          some_one row other
+          (sym (at_index row rows (index_in row rows o.0 o.1)) ∙ (ap (slice_get rows) e ∙ at_index other rows (index_in other rows q.0 q.1)));
     }) in
     omega (arith, low, high)
 
 -- once round from any row, each row comes
-pub once_round : (rows : List ℕ) (begin most : ℕ) → begin < most → ((k : ℕ) → k < most → IsOut rows ((begin + k) % most)) → (row : ℕ) → row < most → IsOut rows row
+pub once_round : (rows : List ℕ) (begin most : ℕ) → begin < most → ((k : ℕ) → k < most → IsOut rows ((begin + k) % most)) → (row : ℕ) → row < most
+    → IsOut rows row
 once_round rows begin most l out row m = dite (dec_lt row begin)
     (λ lt.
     let e : begin + (row + most - begin) ≡ row + most = omega (arith, l, lt) in
@@ -160,11 +167,9 @@ outs_low rows (suc n) = let a = outs_low rows n in let b = bit_low n rows in ome
   where
     bit_low : (row : ℕ) (rows : List ℕ) → out_bit row rows ≤ 1
     bit_low row [] = omega arith
-    bit_low row (x ∷ xs) = dite (ℕ_discrete x row) (λ same. let e = bit_here row x xs same in omega (arith, e)) (λ ne. let e = bit_later row x xs ne in let l = bit_low row xs in omega (arith, e, l))
-
-nodes_target : (f : Node → Node) (to : Option ℕ) (h : Heap) → length (change_target f to h).nodes ≡ length h.nodes
-nodes_target f None h = refl
-nodes_target f (Some i) h = length-change f i h.nodes
+    bit_low row (x ∷ xs) =
+        dite (ℕ_discrete x row) (λ same. let e = bit_here row x xs same in omega (arith, e)) (λ ne. let e = bit_later row x xs ne in
+        let l = bit_low row xs in omega (arith, e, l))
 
 nodes_link : (place : Place) (link : Link) (h : Heap) → length (set_link place link h).nodes ≡ length h.nodes
 nodes_link (Root r) link h = refl
@@ -175,11 +180,11 @@ nodes_after agent Give h = length-append h.nodes (new_node agent ∷ [])
 nodes_after agent (Fill id which value) h = let e = length-change (with_value which value) id h.nodes in omega (arith, e)
 nodes_after agent (Aim id to) h =
     let l : Node → Node = with_link (record { to = to; mark = false }) in
-    let e = nodes_target as_named to (record { nodes = change l id h.nodes; roots = h.roots }) in
+    let e = target_length as_named to (record { nodes = change l id h.nodes; roots = h.roots }) in
     let f = length-change l id h.nodes in
     omega (arith, e, f)
 nodes_after agent (Look place link) h = omega arith
-nodes_after agent (Move place from to) h = let e = nodes_target as_linked to.to (set_link place to h) in let f = nodes_link place to h in omega (arith, e, f)
+nodes_after agent (Move place from to) h = let e = target_length as_linked to.to (set_link place to h) in let f = nodes_link place to h in omega (arith, e, f)
 nodes_after agent (Miss place wanted found) h = omega arith
 
 nodes_from : {N : Type 0} (h : Heap) (es : List (Event N)) → length (run_from h es).nodes ≡ length h.nodes + gives_in es

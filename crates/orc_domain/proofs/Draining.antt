@@ -19,7 +19,9 @@ use Rattle.orc_domain.specs.Ends.{AreAll, HasOwn, Hears, HearsAll, Pairwise, Rou
 use Rattle.orc_domain.proofs.Rounds.{all_heard, hears_trans, pairwise_all, pairwise_at, pairwise_long, pairwise_map}
 
 module _ {D N : Type 0} {d : discipline.Ghosts D N} {m : machine.Ghosts Plain N (PlainShape N) PlainOp (PlainStep N) (Unit {0}) (Unit {0})}
-    (domain : PlainDomain D N) (ps : List (PlainPass D N (PlainShape N) PlainOp (PlainStep N) (Unit {0}) (Unit {0}) d m)) (w : PlainPass D N (PlainShape N) PlainOp (PlainStep N) (Unit {0}) (Unit {0}) d m) (ws : List (PlainPass D N (PlainShape N) PlainOp (PlainStep N) (Unit {0}) (Unit {0}) d m)) (is : ps ≡ w ∷ ws) (all : AreAll domain ps)
+    (domain : PlainDomain D N) (ps : List (PlainPass D N (PlainShape N) PlainOp (PlainStep N) (Unit {0}) (Unit {0}) d m))
+    (w : PlainPass D N (PlainShape N) PlainOp (PlainStep N) (Unit {0}) (Unit {0}) d m)
+    (ws : List (PlainPass D N (PlainShape N) PlainOp (PlainStep N) (Unit {0}) (Unit {0}) d m)) (is : ps ≡ w ∷ ws) (all : AreAll domain ps)
   where
     abbrev seat : PlainPass D N (PlainShape N) PlainOp (PlainStep N) (Unit {0}) (Unit {0}) d m → Seat N
     seat p = seat_of domain p
@@ -37,26 +39,34 @@ module _ {D N : Type 0} {d : discipline.Ghosts D N} {m : machine.Ghosts Plain N 
     first_number = same_all.order 0 w (omega arith)
 
     pub agents_differ : AllByRecursion (λ p. (seat w).agent ≢ (seat p).agent) ws
-    agents_differ = recursion_from_All (λ p. (seat w).agent ≢ (seat p).agent) ws (λ i p l e. let f = first_number in let o = same_all.order (suc i) p (omega (arith, l)) in omega (arith, e, f, o))
+    agents_differ = recursion_from_All (λ p. (seat w).agent ≢ (seat p).agent) ws (λ i p l e. let f = first_number in
+        let o = same_all.order (suc i) p (omega (arith, l)) in omega (arith, e, f, o))
 
-    module _ (w1 : PlainPass D N (PlainShape N) PlainOp (PlainStep N) (Unit {0}) (Unit {0}) d m) (vs : List (PlainPass D N (PlainShape N) PlainOp (PlainStep N) (Unit {0}) (Unit {0}) d m)) (r : Round seat (seat w) (seat w1) ws vs) where
+    module _ (w1 : PlainPass D N (PlainShape N) PlainOp (PlainStep N) (Unit {0}) (Unit {0}) d m)
+        (vs : List (PlainPass D N (PlainShape N) PlainOp (PlainStep N) (Unit {0}) (Unit {0}) d m)) (r : Round seat (seat w) (seat w1) ws vs) where
       pub agents_differ_still : AllByRecursion (λ p. (seat w1).agent ≢ (seat p).agent) vs
       agents_differ_still = pairwise_all (λ x v. Hears (seat x) (seat v)) (λ p. (seat w).agent ≢ (seat p).agent) (λ p. (seat w1).agent ≢ (seat p).agent)
-          (λ x v h ne e. ne (sym r.first.agent ∙ (e ∙ h.agent))) ws vs (pairwise_map (λ x v. Hears (seat x) (seat v) × IsPrefix (seat v).seen (seat w1).seen) (λ x v. Hears (seat x) (seat v)) (λ x v h. h.0) ws vs r.others) agents_differ
+          (λ x v h ne e. ne (sym r.first.agent ∙ (e ∙ h.agent))) ws vs
+          (pairwise_map (λ x v. Hears (seat x) (seat v) × IsPrefix (seat v).seen (seat w1).seen) (λ x v. Hears (seat x) (seat v))
+          (λ x v h. h.0) ws vs r.others) agents_differ
 
-      module _ (w2 : PlainPass D N (PlainShape N) PlainOp (PlainStep N) (Unit {0}) (Unit {0}) d m) (xs : List (PlainPass D N (PlainShape N) PlainOp (PlainStep N) (Unit {0}) (Unit {0}) d m)) (q : Round seat (seat w1) (seat w2) vs xs) where
+      module _ (w2 : PlainPass D N (PlainShape N) PlainOp (PlainStep N) (Unit {0}) (Unit {0}) d m)
+          (xs : List (PlainPass D N (PlainShape N) PlainOp (PlainStep N) (Unit {0}) (Unit {0}) d m)) (q : Round seat (seat w1) (seat w2) vs xs) where
         abbrev seen : List (Event N)
         seen = (seat w2).seen
 
         heard_all : Pairwise (λ x v. HearsAll seen (seat x) (seat v)) (w ∷ ws) (w2 ∷ xs)
         heard_all =
-            let a = all_heard seat (seat w) (seat w1) (seat w2) ws vs xs r q in
-            (record { hears = hears_trans (seat w) (seat w1) (seat w2) r.first q.first; seen = refl }, subst (λ (z : List (Event N)). Pairwise (λ x v. HearsAll z (seat x) (seat v)) ws xs) (sym a.0) a.1)
+            let a = all_heard seat (seat w) (seat w1) (seat w2) ws vs xs r q in (
+              record { hears = hears_trans (seat w) (seat w1) (seat w2) r.first q.first; seen = refl },
+              subst (λ (z : List (Event N)). Pairwise (λ x v. HearsAll z (seat x) (seat v)) ws xs) (sym a.0) a.1,
+            )
 
         pub learned : Pairwise (λ x v. HearsAll seen (seat x) (seat v)) ps (w2 ∷ xs)
         learned = subst (λ z. Pairwise (λ x v. HearsAll seen (seat x) (seat v)) z (w2 ∷ xs)) (sym is) heard_all
 
-        at : (i : ℕ) (p : PlainPass D N (PlainShape N) PlainOp (PlainStep N) (Unit {0}) (Unit {0}) d m) → i < length (w2 ∷ xs) → HearsAll seen (seat (slice_index_or (w ∷ ws) i p)) (seat (slice_index_or (w2 ∷ xs) i p))
+        at : (i : ℕ) (p : PlainPass D N (PlainShape N) PlainOp (PlainStep N) (Unit {0}) (Unit {0}) d m) → i < length (w2 ∷ xs)
+            → HearsAll seen (seat (slice_index_or (w ∷ ws) i p)) (seat (slice_index_or (w2 ∷ xs) i p))
         at i p l = pairwise_at (λ x v. HearsAll seen (seat x) (seat v)) (w ∷ ws) (w2 ∷ xs) heard_all i p p l
 
         long : length (w2 ∷ xs) ≡ length (w ∷ ws)

@@ -45,11 +45,14 @@ module _ {D N : Type 0} {d : discipline.Ghosts D N} {m : machine.Ghosts Plain N 
     pub fresh_is : HoldsFresh (seat_of domain p) hold → s.fresh ≡ Some row
     fresh_is e = hold_fresh domain p h hold e ∙ ap Some (sym same)
 
-    pub fills : (which value : ℕ) → HoldsFresh (seat_of domain p) hold → Adds may (event_by s.agent (Fill (index_of row s.rows) which value) None ∷ []) s t → t.fresh ≡ s.fresh
+    pub fills : (which value : ℕ) → HoldsFresh (seat_of domain p) hold
+        → Adds may (event_by s.agent (Fill (index_of row s.rows) which value) None ∷ []) s t → t.fresh ≡ s.fresh
         → Only (event_of (seat_of domain p) (Fill (id_in (seat_of domain p).slots hold) which value) None ∷ []) (seat_of domain p) (seat_by t p.slots)
     fills which value e a f =
-        subst (λ id. Only (event_by s.agent (Fill id which value) None ∷ []) (seat_of domain p) (seat_by t p.slots)) (ap (λ r. index_of r s.rows) same ∙ sym (hold_in domain p h hold e.held).1)
-        (only_adds domain p h q x (event_by s.agent (Fill (index_of row s.rows) which value) None ∷ []) a (mine s.agent (Fill (index_of row s.rows) which value) None) f)
+        subst (λ id. Only (event_by s.agent (Fill id which value) None ∷ []) (seat_of domain p) (seat_by t p.slots))
+        (ap (λ r. index_of r s.rows) same ∙ sym (hold_in domain p h hold e.held).1)
+        (only_adds domain p h q x (event_by s.agent (Fill (index_of row s.rows) which value) None ∷ []) a
+        (mine s.agent (Fill (index_of row s.rows) which value) None) f)
 
     pub reads : (which value : ℕ) → Holds (seat_of domain p).slots hold → ReadsValue (heap_of b t) (index_of row s.rows) which value
         → ReadsValue (run_heap (domain_numbers domain) t.events) (id_in (seat_of domain p).slots hold) which value

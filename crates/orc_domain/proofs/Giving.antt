@@ -40,7 +40,8 @@ module _ {D N : Type 0} {d : discipline.Ghosts D N} {m : machine.Ghosts Plain N 
     (domain : PlainDomain D N)
   where
     -- what is new in a seat is new in the journal
-    pub journal_later : (p q : PlainPass D N (PlainShape N) PlainOp (PlainStep N) (Unit {0}) (Unit {0}) d m) (own : List (Event N)) → IsPassOf domain p → IsPassOf domain q → Puts (seat_of domain p) own (seat_of domain q) → IsPrefix (journal_of p) (journal_of q)
+    pub journal_later : (p q : PlainPass D N (PlainShape N) PlainOp (PlainStep N) (Unit {0}) (Unit {0}) d m) (own : List (Event N))
+        → IsPassOf domain p → IsPassOf domain q → Puts (seat_of domain p) own (seat_of domain q) → IsPrefix (journal_of p) (journal_of q)
     journal_later p q own h x puts = (puts.part, ap (λ es. es ++ puts.part) (sym (seen_by domain p h)) ∙ (sym puts.is ∙ seen_by domain q x))
 
     -- the rows that were tried, from `begin` on, were out
@@ -51,7 +52,8 @@ module _ {D N : Type 0} {d : discipline.Ghosts D N} {m : machine.Ghosts Plain N 
       pub inside : (rows ≡ (domain_bounds domain).rows) × (begin < rows)
       pub out : (k : ℕ) → k < offset → IsOut (shows domain.board q.pass).rows ((begin + k) % rows)
 
-    pub tried_none : (p : PlainPass D N (PlainShape N) PlainOp (PlainStep N) (Unit {0}) (Unit {0}) d m) (rows begin : ℕ) → IsPassOf domain p → (seat_of domain p).fresh ≡ None → rows ≡ (bounds_of p.shape).rows → begin ≡ p.next → Tried p p rows begin 0
+    pub tried_none : (p : PlainPass D N (PlainShape N) PlainOp (PlainStep N) (Unit {0}) (Unit {0}) d m) (rows begin : ℕ) → IsPassOf domain p
+        → (seat_of domain p).fresh ≡ None → rows ≡ (bounds_of p.shape).rows → begin ≡ p.next → Tried p p rows begin 0
     tried_none p rows begin h fresh is next =
         let same : rows ≡ (domain_bounds domain).rows = is ∙ ap (λ (z : Bounds). z.rows) h.shape in record {
           pass = h;
@@ -66,12 +68,14 @@ module _ {D N : Type 0} {d : discipline.Ghosts D N} {m : machine.Ghosts Plain N 
         no_row (Some row) e = cc
 
     -- the slots are the same as more rows are given
-    slots_kept : (q r : PlainPass D N (PlainShape N) PlainOp (PlainStep N) (Unit {0}) (Unit {0}) d m) → IsPassOf domain q → IsSame q r → IsPrefix (shows domain.board q.pass).rows (shows domain.board r.pass).rows → (seat_of domain r).slots ≡ (seat_of domain q).slots
+    slots_kept : (q r : PlainPass D N (PlainShape N) PlainOp (PlainStep N) (Unit {0}) (Unit {0}) d m) → IsPassOf domain q → IsSame q r
+        → IsPrefix (shows domain.board q.pass).rows (shows domain.board r.pass).rows → (seat_of domain r).slots ≡ (seat_of domain q).slots
     slots_kept q r x same rows =
         ap (slots_by (shows domain.board r.pass).rows) same.slots
         ∙ (ap (λ z. slots_by z q.slots) (sym rows.1) ∙ slots_grow (shows domain.board q.pass).rows rows.0 q.slots (held_given domain q x))
 
-    module _ (p q r : PlainPass D N (PlainShape N) PlainOp (PlainStep N) (Unit {0}) (Unit {0}) d m) (rows begin offset : ℕ) (t : Tried p q rows begin offset) (x : IsPassOf domain r) (same : IsSame q r) where
+    module _ (p q r : PlainPass D N (PlainShape N) PlainOp (PlainStep N) (Unit {0}) (Unit {0}) d m) (rows begin offset : ℕ)
+        (t : Tried p q rows begin offset) (x : IsPassOf domain r) (same : IsSame q r) where
       pub tried_one : Loses ((begin + offset) % rows) q.slots (shows domain.board q.pass) (shows domain.board r.pass) → Tried p r rows begin (offset + 1)
       tried_one l =
           let last : Only [] (seat_of domain q) (seat_of domain r) = record {
@@ -89,13 +93,16 @@ module _ {D N : Type 0} {d : discipline.Ghosts D N} {m : machine.Ghosts Plain N 
           none_both : (f g : Option ℕ) → f ≡ None → g ≡ None → id_by (shows domain.board r.pass).rows g ≡ id_by (shows domain.board q.pass).rows f
           none_both f g e k = ap (id_by (shows domain.board r.pass).rows) k ∙ sym (ap (id_by (shows domain.board q.pass).rows) e)
 
-          out : (k : ℕ) → k < offset + 1 → Loses ((begin + offset) % rows) q.slots (shows domain.board q.pass) (shows domain.board r.pass) → IsOut (shows domain.board r.pass).rows ((begin + k) % rows)
+          out : (k : ℕ) → k < offset + 1 → Loses ((begin + offset) % rows) q.slots (shows domain.board q.pass) (shows domain.board r.pass)
+              → IsOut (shows domain.board r.pass).rows ((begin + k) % rows)
           out k m l = dite (dec_lt k offset)
               (λ lt. subst (λ z. IsOut z ((begin + k) % rows)) l.rows.1 (out_stays (shows domain.board q.pass).rows l.rows.0 ((begin + k) % rows) (t.out k lt)))
               (λ ge. let e : k ≡ offset = omega (arith, m, ge) in subst (λ z. IsOut (shows domain.board r.pass).rows ((begin + z) % rows)) (sym e) l.out)
 
       module _ (row : ℕ) (k : Takes (domain_bounds domain) row q.slots (shows domain.board q.pass) (shows domain.board r.pass))
-          (w : PlainPass D N (PlainShape N) PlainOp (PlainStep N) (Unit {0}) (Unit {0}) d m) (slot first second : ℕ) (f : Furnishes (domain_numbers domain) row (index_of row (shows domain.board r.pass).rows) slot first second (seat_of domain r) (seat_of domain w))
+          (w : PlainPass D N (PlainShape N) PlainOp (PlainStep N) (Unit {0}) (Unit {0}) d m) (slot first second : ℕ)
+          (f : Furnishes (domain_numbers domain) row (index_of row (shows domain.board r.pass).rows) slot first second (seat_of domain r)
+          (seat_of domain w))
         where
           agent_is : (seat_of domain r).agent ≡ (seat_of domain p).agent
           agent_is = k.puts.agent ∙ t.only.puts.agent
@@ -104,33 +111,46 @@ module _ {D N : Type 0} {d : discipline.Ghosts D N} {m : machine.Ghosts Plain N 
           new_id =
               let n = domain_numbers domain in
               let more = nodes_stay n (seat_of domain p).seen t.only.puts.part in
-              let same : length (run_heap n (seat_of domain q).seen).nodes ≡ length (run_heap n ((seat_of domain p).seen ++ t.only.puts.part)).nodes = ap (λ (es : List (Event N)). length (run_heap n es).nodes) t.only.puts.is in
+              let same : length (run_heap n (seat_of domain q).seen).nodes ≡ length (run_heap n ((seat_of domain p).seen ++ t.only.puts.part)).nodes =
+              ap (λ (es : List (Event N)). length (run_heap n es).nodes) t.only.puts.is in
               let new = k.new in
               omega (arith, more, same, new)
 
-          pub gives : (hold : Hold) → hold ≡ record { row = row; slot = slot } → Gives (domain_numbers domain) slot first second (seat_of domain p) hold (seat_of domain w)
+          pub gives : (hold : Hold) → hold ≡ record { row = row; slot = slot }
+              → Gives (domain_numbers domain) slot first second (seat_of domain p) hold (seat_of domain w)
           gives hold e = subst (λ (z : Hold). Gives (domain_numbers domain) slot first second (seat_of domain p) z (seat_of domain w)) (sym e)
               (let id : ℕ = index_of row (shows domain.board r.pass).rows in
-              let took : Puts (seat_of domain q) (event_by (seat_of domain q).agent Give None ∷ []) (seat_of domain r) = record { part = k.puts.part; is = k.puts.is; agent = k.puts.agent; own_is = k.puts.own_is } in
+              let took : Puts (seat_of domain q) (event_by (seat_of domain q).agent Give None ∷ []) (seat_of domain r) =
+              record { part = k.puts.part; is = k.puts.is; agent = k.puts.agent; own_is = k.puts.own_is } in
               record {
                 id = id;
                 new = new_id;
                 slot_is = refl;
-                slots = f.slots ∙ ap (λ (z : Slots). slice_set z slot (Some (record { row = row; id = id }))) (slots_kept q r t.pass same k.rows ∙ t.only.slots);
+                slots = f.slots ∙ ap (λ (z : Slots). slice_set z slot (Some (record { row = row; id = id })))
+                    (slots_kept q r t.pass same k.rows ∙ t.only.slots);
                 fresh = f.fresh ∙ ap (id_by (shows domain.board r.pass).rows) k.fresh;
-                puts = Puts-trans (seat_of domain p) (seat_of domain r) (seat_of domain w) (event_by (seat_of domain p).agent Give None ∷ []) (event_by (seat_of domain p).agent (Fill id 0 first) None ∷ event_by (seat_of domain p).agent (Fill id 1 second) None ∷ [])
-                    (Puts-trans (seat_of domain p) (seat_of domain q) (seat_of domain r) [] (event_by (seat_of domain p).agent Give None ∷ []) t.only.puts (subst (λ a. Puts (seat_of domain q) (event_by a Give None ∷ []) (seat_of domain r)) t.only.puts.agent took))
-                    (subst (λ a. Puts (seat_of domain r) (event_by a (Fill id 0 first) None ∷ event_by a (Fill id 1 second) None ∷ []) (seat_of domain w)) agent_is f.puts);
-                node = subst (λ a. slice_get (run_heap (domain_numbers domain) (seat_of domain w).seen).nodes id ≡ Some (given_node a first second)) agent_is f.node;
+                puts = Puts-trans (seat_of domain p) (seat_of domain r) (seat_of domain w) (event_by (seat_of domain p).agent Give None ∷ [])
+                    (event_by (seat_of domain p).agent (Fill id 0 first) None ∷ event_by (seat_of domain p).agent (Fill id 1 second) None ∷ [])
+                    (Puts-trans (seat_of domain p) (seat_of domain q) (seat_of domain r) []
+                    (event_by (seat_of domain p).agent Give None ∷ []) t.only.puts
+                    (subst (λ a. Puts (seat_of domain q) (event_by a Give None ∷ []) (seat_of domain r)) t.only.puts.agent took))
+                    (subst (λ a. Puts (seat_of domain r) (event_by a (Fill id 0 first) None ∷ event_by a (Fill id 1 second) None ∷ [])
+                    (seat_of domain w)) agent_is f.puts);
+                node = subst (λ a. slice_get (run_heap (domain_numbers domain) (seat_of domain w).seen).nodes id ≡ Some (given_node a first second))
+                    agent_is f.node;
               })
 
           pub gives_later : IsPassOf domain p → IsPassOf domain w → IsPrefix (journal_of p) (journal_of w)
           gives_later h y = let hold : Hold = record { row = row; slot = slot } in let g = gives hold refl in journal_later p w _ h y g.puts
 
-    pub tried_all : (p q : PlainPass D N (PlainShape N) PlainOp (PlainStep N) (Unit {0}) (Unit {0}) d m) (rows begin offset : ℕ) → offset ≡ rows → Tried p q rows begin offset → IsLacking (domain_bounds domain).rows (journal_of q) (length (journal_of q))
+    pub tried_all : (p q : PlainPass D N (PlainShape N) PlainOp (PlainStep N) (Unit {0}) (Unit {0}) d m) (rows begin offset : ℕ) → offset ≡ rows
+        → Tried p q rows begin offset → IsLacking (domain_bounds domain).rows (journal_of q) (length (journal_of q))
     tried_all p q rows begin offset end t =
         let s = shows domain.board q.pass in
         let k = tie domain q t.pass in
-        let all = rows_all s.rows (domain_bounds domain).rows k.once k.inside (once_round s.rows begin (domain_bounds domain).rows (subst (λ z. begin < z) t.inside.0 t.inside.1)
+        let all = rows_all s.rows (domain_bounds domain).rows k.once k.inside
+        (once_round s.rows begin (domain_bounds domain).rows (subst (λ z. begin < z) t.inside.0 t.inside.1)
         (λ j l. subst (λ z. IsOut s.rows ((begin + j) % z)) t.inside.0 (t.out j (subst (λ z. j < z) (sym t.inside.0 ∙ sym end) l)))) in
-        lacks_all (domain_bounds domain).rows (journal_of q) (sym (nodes_given (domain_numbers domain) (journal_of q)) ∙ (ap (λ (es : List (Event N)). length (run_heap (domain_numbers domain) es).nodes) (sym (seen_by domain q t.pass)) ∙ (sym k.even ∙ all)))
+        lacks_all (domain_bounds domain).rows (journal_of q)
+        (sym (nodes_given (domain_numbers domain) (journal_of q))
+        ∙ (ap (λ (es : List (Event N)). length (run_heap (domain_numbers domain) es).nodes) (sym (seen_by domain q t.pass)) ∙ (sym k.even ∙ all)))

@@ -62,7 +62,8 @@ module _ {N : Type 0} where
     known = λ id x. subst (λ a. IsKnown a (heap_of b u) id) g.agent (k.known id (subst (λ a. IsKnown a (heap_of b t) id) (sym g.agent) (g.known id x)));
   }
 
-  pub slots_stay : (b : Bounds) (s t : PlainView N) (slots : List (Option ℕ)) → Grows b s t → AllGiven s.rows slots → slots_by t.rows slots ≡ slots_by s.rows slots
+  pub slots_stay : (b : Bounds) (s t : PlainView N) (slots : List (Option ℕ)) → Grows b s t → AllGiven s.rows slots
+      → slots_by t.rows slots ≡ slots_by s.rows slots
   slots_stay b s t slots g l = ap (λ rows. slots_by rows slots) (sym g.rows.1) ∙ slots_grow s.rows g.rows.0 slots l
 
   pub index_stays : (b : Bounds) (s t : PlainView N) (row : ℕ) → Grows b s t → index_of row s.rows < length s.rows → index_of row t.rows ≡ index_of row s.rows
@@ -71,10 +72,12 @@ module _ {N : Type 0} where
   pub fresh_stays : (b : Bounds) (s t : PlainView N) (fresh : Option ℕ) → Grows b s t → Given s.rows fresh → id_by t.rows fresh ≡ id_by s.rows fresh
   fresh_stays b s t fresh g l = ap (λ rows. id_by rows fresh) (sym g.rows.1) ∙ id_grows s.rows g.rows.0 fresh l
 
-  pub keeps_stay : (b : Bounds) (s t : PlainView N) (slots : List (Option ℕ)) (next : ℕ) → Grows b s t → AllGiven s.rows slots → Keeps b s slots next → Keeps b t slots next
+  pub keeps_stay : (b : Bounds) (s t : PlainView N) (slots : List (Option ℕ)) (next : ℕ) → Grows b s t → AllGiven s.rows slots → Keeps b s slots next
+      → Keeps b t slots next
   keeps_stay b s t slots next g l k = record {
     eight = k.eight;
-    known = λ slot row e. subst (λ (z : ℕ × ℕ). IsKnown z.0 (heap_of b t) z.1) (λ i. (sym g.agent i, sym (index_stays b s t row g (l slot row e)) i)) (g.known (index_of row s.rows) (k.known slot row e));
+    known = λ slot row e. subst (λ (z : ℕ × ℕ). IsKnown z.0 (heap_of b t) z.1) (λ i. (sym g.agent i, sym (index_stays b s t row g (l slot row e)) i))
+        (g.known (index_of row s.rows) (k.known slot row e));
     inside = k.inside;
   }
 
@@ -82,7 +85,8 @@ module _ {N : Type 0} where
   pub mine : (a : ℕ) (act : Act) (said : Option N) → events_by a (event_by a act said ∷ []) ≡ event_by a act said ∷ []
   mine a act said = ap (λ b. cond b (event_by a act said ∷ []) []) (eq-eqb a a refl)
 
-  pub adds_put : (may : List (Event N) → Event N → Type 0) (own : List (Event N)) (s t : PlainView N) (slots later : List (Option ℕ)) → Adds may own s t → events_by s.agent own ≡ own → Puts (seat_by s slots) own (seat_by t later)
+  pub adds_put : (may : List (Event N) → Event N → Type 0) (own : List (Event N)) (s t : PlainView N) (slots later : List (Option ℕ))
+      → Adds may own s t → events_by s.agent own ≡ own → Puts (seat_by s slots) own (seat_by t later)
   adds_put may own s t slots later a mine = record {
     part = a.met ++ own;
     is = a.events ∙ append_assoc s.events a.met own;
@@ -133,5 +137,6 @@ module _ {D N : Type 0} {d : discipline.Ghosts D N} {m : machine.Ghosts Plain N 
       pub fresh_same : (own : List (Event N)) → Adds may own s t → t.fresh ≡ s.fresh → id_by t.rows t.fresh ≡ id_by s.rows s.fresh
       fresh_same own a e = ap (id_by t.rows) e ∙ fresh_stays b s t s.fresh (adds_grow b may own s t a) fresh_given
 
-      pub only_adds : (own : List (Event N)) → Adds may own s t → events_by s.agent own ≡ own → t.fresh ≡ s.fresh → Only own (seat_of domain p) (seat_by t p.slots)
+      pub only_adds : (own : List (Event N)) → Adds may own s t → events_by s.agent own ≡ own → t.fresh ≡ s.fresh
+          → Only own (seat_of domain p) (seat_by t p.slots)
       only_adds own a mine e = record { slots = slots_same own a; fresh = fresh_same own a e; puts = adds_put may own s t p.slots p.slots a mine }

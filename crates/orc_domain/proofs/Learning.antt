@@ -32,7 +32,8 @@ pub steps_are : {N : Type 0} (agent : ℕ) (es : List (Event N)) → own_of (λ 
 steps_are agent [] = refl
 steps_are agent (e ∷ es) = ap (λ z. cond (e.agent == agent) (e ∷ z) z) (steps_are agent es)
 
-pub grow_seen : {N : Type 0} (b : Bounds) (may : List (Event N) → Event N → Type 0) (s t : PlainView N) → t.agent ≡ s.agent → IsPrefix s.events t.events → IsPrefix s.rows t.rows → AllAllowed may [] t.events → Grows b s t
+pub grow_seen : {N : Type 0} (b : Bounds) (may : List (Event N) → Event N → Type 0) (s t : PlainView N) → t.agent ≡ s.agent
+    → IsPrefix s.events t.events → IsPrefix s.rows t.rows → AllAllowed may [] t.events → Grows b s t
 grow_seen b may s t agent events rows each = record {
   agent = agent;
   events = events;
@@ -54,7 +55,8 @@ longer_of s u t (inl l) = record { of_both = inr (l.0, l.1) }
 longer_of s u t (inr l) = record { of_both = inl (l.0, l.1) }
 
 module _ {D N : Type 0} {d : discipline.Ghosts D N} {m : machine.Ghosts Plain N (PlainShape N) PlainOp (PlainStep N) (Unit {0}) (Unit {0})}
-    (domain : PlainDomain D N) (into from : PlainPass D N (PlainShape N) PlainOp (PlainStep N) (Unit {0}) (Unit {0}) d m) (h : IsPassOf domain into) (k : IsPassOf domain from)
+    (domain : PlainDomain D N) (into from : PlainPass D N (PlainShape N) PlainOp (PlainStep N) (Unit {0}) (Unit {0}) d m) (h : IsPassOf domain into)
+    (k : IsPassOf domain from)
     (q r : BoardPass D N (PlainShape N) PlainOp (PlainStep N) (Unit {0}) (Unit {0}) d m) (x : Belongs domain.board q) (y : Belongs domain.board r)
     (l : LearnsEvents (shows domain.board into.pass) (shows domain.board from.pass) (shows domain.board q) (shows domain.board r))
   where
@@ -99,8 +101,11 @@ module _ {D N : Type 0} {d : discipline.Ghosts D N} {m : machine.Ghosts Plain N 
     steps_of agent es fs e = steps_are agent es ∙ (e ∙ sym (steps_are agent fs))
 
     pub learns : Learns (λ e. e.agent) (seat_of domain into) (seat_of domain from) (seat_by t into.slots) (seat_by w from.slots)
-        (seen_with (bounds_of into.shape) into.pass) (seen_with (bounds_of from.shape) from.pass) (seen_with (bounds_of into.shape) q) (seen_with (bounds_of from.shape) r)
-    learns = subst (λ (z : Bounds × Bounds). Learns (λ e. e.agent) (seat_of domain into) (seat_of domain from) (seat_by t into.slots) (seat_by w from.slots) (seen_with z.0 into.pass) (seen_with z.1 from.pass) (seen_with z.0 q) (seen_with z.1 r))
+        (seen_with (bounds_of into.shape) into.pass) (seen_with (bounds_of from.shape) from.pass) (seen_with (bounds_of into.shape) q)
+        (seen_with (bounds_of from.shape) r)
+    learns = subst
+        (λ (z : Bounds × Bounds). Learns (λ e. e.agent) (seat_of domain into) (seat_of domain from) (seat_by t into.slots) (seat_by w from.slots)
+        (seen_with z.0 into.pass) (seen_with z.1 from.pass) (seen_with z.0 q) (seen_with z.1 r))
         (λ i. (sym h.shape i, sym k.shape i)) record {
           agents = (l.into.agent, l.from.agent);
           slots = (slots_stay b s t into.slots into_grows (held_given domain into h), slots_stay b u w from.slots from_grows (held_given domain from k));

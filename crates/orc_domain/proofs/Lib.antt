@@ -5,7 +5,6 @@ pub mod Naming
 pub mod Filling
 pub mod Testing
 pub mod Aiming
-pub mod Chains
 pub mod Releasing
 pub mod Loading
 pub mod Looking

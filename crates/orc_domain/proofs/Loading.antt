@@ -50,7 +50,8 @@ one_word (Some t) (Some u) a b e =
     (ap Some same, one_bit a b (omega (arith, e, same)))
 
 -- the link that a word names, by rows and by nodes
-link_is : (rows : List ℕ) (once : Once rows) (to : Option ℕ) (mark : Bool) (n : ℕ) (l : RowLink) → IsWord rows to mark n → link_word l ≡ n → link_by rows l ≡ record { to = to; mark = mark }
+link_is : (rows : List ℕ) (once : Once rows) (to : Option ℕ) (mark : Bool) (n : ℕ) (l : RowLink) → IsWord rows to mark n → link_word l ≡ n
+    → link_by rows l ≡ record { to = to; mark = mark }
 link_is rows once None mark n l w e =
     let r = one_word l.to None l.mark mark (let v : n ≡ bit mark = w in omega (arith, e, v)) in
     λ i. record { to = id_by rows (r.0 i); mark = r.1 i }
@@ -58,7 +59,8 @@ link_is rows once (Some id) mark n l w e =
     let r = one_word l.to (Some w.0) l.mark mark (e ∙ w.2) in
     (λ i. record { to = id_by rows (r.0 i); mark = r.1 i }) ∙ ap (λ (z : ℕ). record { to = Some z; mark = mark }) (index_at w.0 rows id once w.1)
 
-word_low : (rows : List ℕ) (most : ℕ) → ((i row : ℕ) → slice_get rows i ≡ Some row → row < most) → most ≤ 65535 → (to : Option ℕ) (mark : Bool) (n : ℕ) → IsWord rows to mark n → n ≤ 131071
+word_low : (rows : List ℕ) (most : ℕ) → ((i row : ℕ) → slice_get rows i ≡ Some row → row < most) → most ≤ 65535
+    → (to : Option ℕ) (mark : Bool) (n : ℕ) → IsWord rows to mark n → n ≤ 131071
 word_low rows most inside few None mark n w = let l = bit_low mark in let v : n ≡ bit mark = w in omega (arith, l, v)
 word_low rows most inside few (Some id) mark n w = let l = bit_low mark in let k = inside id w.0 w.1 in let v = w.2 in omega (arith, l, k, v, few)
 
@@ -83,7 +85,8 @@ module _ {D N : Type 0} {d : discipline.Ghosts D N} {m : machine.Ghosts Plain N 
         let tie = ties d domain.board.words.shape q.pass.seat.me.0 q.pass.agent q.fresh q.looked x.keeps in
         word_low t.rows b.rows tie.inside domain.board.words.shape.shape.few_rows f.link.to f.link.mark word f.word
 
-    pub loads : (place : Word) (word : ℕ) (link : RowLink) → link_word link ≡ word → Finds may b (place_by s.rows place) word s t → t.fresh ≡ s.fresh → Loads may b (place_by s.rows place) link s t
+    pub loads : (place : Word) (word : ℕ) (link : RowLink) → link_word link ≡ word → Finds may b (place_by s.rows place) word s t → t.fresh ≡ s.fresh
+        → Loads may b (place_by s.rows place) link s t
     loads place word link e f fresh =
         let tie = ties d domain.board.words.shape q.pass.seat.me.0 q.pass.agent q.fresh q.looked x.keeps in
         let is : link_by t.rows link ≡ f.link = link_is t.rows tie.once f.link.to f.link.mark word link f.word e in record {
@@ -92,5 +95,6 @@ module _ {D N : Type 0} {d : discipline.Ghosts D N} {m : machine.Ghosts Plain N 
           known = subst (λ (l : Link). IsTarget s.agent (heap_of b t) l.to) (sym is) f.known;
         }
 
-    pub still_loaded : (place : Word) (word : ℕ) → Finds may b (place_by s.rows place) word s t → IsPassOf domain (record { pass = q; slots = p.slots; next = p.next; shape = p.shape })
+    pub still_loaded : (place : Word) (word : ℕ) → Finds may b (place_by s.rows place) word s t
+        → IsPassOf domain (record { pass = q; slots = p.slots; next = p.next; shape = p.shape })
     still_loaded place word f = still_adds domain p h q x (event_by s.agent (Look (place_by s.rows place) f.link) None ∷ []) f.adds

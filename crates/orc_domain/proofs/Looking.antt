@@ -47,9 +47,12 @@ link_one rows l k g f e = let r = went l.to k.to g f (ap (λ (z : Link). z.to) e
     went (Some t) (Some u) g f e = ap Some (one_row rows t u g f (some_one (index_of t rows) (index_of u rows) e))
 
 module _ {D N : Type 0} {d : discipline.Ghosts D N} {m : machine.Ghosts Plain N (PlainShape N) PlainOp (PlainStep N) (Unit {0}) (Unit {0})}
-    (domain : PlainDomain D N) (p p1 : PlainPass D N (PlainShape N) PlainOp (PlainStep N) (Unit {0}) (Unit {0}) d m) (h : IsPassOf domain p) (h1 : IsPassOf domain p1) (same : IsSame p p1)
+    (domain : PlainDomain D N) (p p1 : PlainPass D N (PlainShape N) PlainOp (PlainStep N) (Unit {0}) (Unit {0}) d m) (h : IsPassOf domain p)
+    (h1 : IsPassOf domain p1) (same : IsSame p p1)
     (at : At) (word : Word) (there : HoldsPlace (domain_bounds domain).roots (seat_of domain p).slots at) (word_same : word ≡ word_at at)
-    (one : RowLink) (l : Loads (d.may (domain_numbers domain)) (domain_bounds domain) (place_by (shows domain.board p.pass).rows word) one (shows domain.board p.pass) (shows domain.board p1.pass))
+    (one : RowLink)
+    (l : Loads (d.may (domain_numbers domain)) (domain_bounds domain) (place_by (shows domain.board p.pass).rows word) one
+    (shows domain.board p.pass) (shows domain.board p1.pass))
   where
     abbrev b : Bounds
     b = domain_bounds domain
@@ -87,21 +90,32 @@ module _ {D N : Type 0} {d : discipline.Ghosts D N} {m : machine.Ghosts Plain N 
     place_again : place_by t.rows word ≡ place_in (seat_of domain p).slots at
     place_again = ap (place_by t.rows) word_same ∙ (place_is domain p1 h1 at there_still ∙ ap (λ (z : Slots). place_in z at) slots_still)
 
-    put_first : (slots : List (Option ℕ)) → Puts (seat_of domain p) (event_of (seat_of domain p) (Look (place_in (seat_of domain p).slots at) (link_by t.rows one)) None ∷ []) (seat_by t slots)
+    put_first : (slots : List (Option ℕ))
+        → Puts (seat_of domain p) (event_of (seat_of domain p) (Look (place_in (seat_of domain p).slots at) (link_by t.rows one)) None ∷ []) (seat_by t slots)
     put_first slots = subst (λ (z : Place). Puts (seat_of domain p) (event_by s.agent (Look z (link_by t.rows one)) None ∷ []) (seat_by t slots)) place_first
-        (adds_put may (event_by s.agent (Look (place_by s.rows word) (link_by t.rows one)) None ∷ []) s t p.slots slots l.adds (mine s.agent (Look (place_by s.rows word) (link_by t.rows one)) None))
+        (adds_put may (event_by s.agent (Look (place_by s.rows word) (link_by t.rows one)) None ∷ []) s t p.slots slots l.adds
+        (mine s.agent (Look (place_by s.rows word) (link_by t.rows one)) None))
 
-    pub looks_null : (slot : ℕ) → one.to ≡ None → Looks (place_in (seat_of domain p).slots at) slot (seat_of domain p) (Stable (record { null = true; mark = one.mark }) None) (seat_of domain p1)
+    pub looks_null : (slot : ℕ) → one.to ≡ None
+        → Looks (place_in (seat_of domain p).slots at) slot (seat_of domain p) (Stable (record { null = true; mark = one.mark }) None) (seat_of domain p1)
     looks_null slot null = record {
       fresh = fresh_still;
-      tells = (refl, slots_still, subst (λ (z : Option ℕ). Puts (seat_of domain p) (event_by s.agent (Look (place_in (seat_of domain p).slots at) (record { to = z; mark = one.mark })) None ∷ []) (seat_of domain p1)) (ap (id_by t.rows) null) (put_first p1.slots));
+      tells = (
+        refl,
+        slots_still,
+        subst (λ (z : Option ℕ). Puts (seat_of domain p)
+            (event_by s.agent (Look (place_in (seat_of domain p).slots at) (record { to = z; mark = one.mark })) None ∷ []) (seat_of domain p1))
+            (ap (id_by t.rows) null) (put_first p1.slots),
+      );
     }
 
     one_given : Given t.rows one.to
     one_given = given_by b (run b p1.pass.pass.seat.me.0.seen).words t.rows (heap_of b t) (tie domain p1 h1) s.agent one.to l.known
 
     module _ (p2 : PlainPass D N (PlainShape N) PlainOp (PlainStep N) (Unit {0}) (Unit {0}) d m) (h2 : IsPassOf domain p2) (same2 : IsSame p1 p2)
-        (two : RowLink) (k : Loads (d.may (domain_numbers domain)) (domain_bounds domain) (place_by (shows domain.board p1.pass).rows word) two (shows domain.board p1.pass) (shows domain.board p2.pass))
+        (two : RowLink)
+        (k : Loads (d.may (domain_numbers domain)) (domain_bounds domain) (place_by (shows domain.board p1.pass).rows word) two
+        (shows domain.board p1.pass) (shows domain.board p2.pass))
       where
         abbrev u : PlainView N
         u = shows domain.board p2.pass
@@ -122,18 +136,28 @@ module _ {D N : Type 0} {d : discipline.Ghosts D N} {m : machine.Ghosts Plain N 
         fresh_last : (seat_of domain p2).fresh ≡ (seat_of domain p).fresh
         fresh_last = ap (id_by u.rows) k.fresh ∙ (fresh_stays b t u t.fresh grows2 (fresh_given domain p1 h1) ∙ fresh_still)
 
-        put_both : (slots : List (Option ℕ)) → Puts (seat_of domain p) (event_of (seat_of domain p) (Look (place_in (seat_of domain p).slots at) (link_by t.rows one)) None ∷ event_of (seat_of domain p) (Look (place_in (seat_of domain p).slots at) (link_by u.rows two)) None ∷ []) (seat_by u slots)
-        put_both slots = Puts-trans (seat_of domain p) (seat_of domain p1) (seat_by u slots) (event_by s.agent (Look (place_in (seat_of domain p).slots at) (link_by t.rows one)) None ∷ []) (event_by s.agent (Look (place_in (seat_of domain p).slots at) (link_by u.rows two)) None ∷ []) (put_first p1.slots)
-            (subst (λ (z : Place × ℕ). Puts (seat_of domain p1) (event_by z.1 (Look z.0 (link_by u.rows two)) None ∷ []) (seat_by u slots)) (λ i. (place_again i, grows.agent i))
-            (adds_put may (event_by t.agent (Look (place_by t.rows word) (link_by u.rows two)) None ∷ []) t u p1.slots slots k.adds (mine t.agent (Look (place_by t.rows word) (link_by u.rows two)) None)))
+        put_both : (slots : List (Option ℕ))
+            → Puts (seat_of domain p) (event_of (seat_of domain p) (Look (place_in (seat_of domain p).slots at) (link_by t.rows one)) None
+            ∷ event_of (seat_of domain p) (Look (place_in (seat_of domain p).slots at) (link_by u.rows two)) None ∷ []) (seat_by u slots)
+        put_both slots =
+            Puts-trans (seat_of domain p) (seat_of domain p1) (seat_by u slots)
+            (event_by s.agent (Look (place_in (seat_of domain p).slots at) (link_by t.rows one)) None ∷ [])
+            (event_by s.agent (Look (place_in (seat_of domain p).slots at) (link_by u.rows two)) None ∷ []) (put_first p1.slots)
+            (subst (λ (z : Place × ℕ). Puts (seat_of domain p1) (event_by z.1 (Look z.0 (link_by u.rows two)) None ∷ []) (seat_by u slots))
+            (λ i. (place_again i, grows.agent i))
+            (adds_put may (event_by t.agent (Look (place_by t.rows word) (link_by u.rows two)) None ∷ []) t u p1.slots slots k.adds
+            (mine t.agent (Look (place_by t.rows word) (link_by u.rows two)) None)))
 
-        pub looks_moved : (slot row : ℕ) → one.to ≡ Some row → two ≢ one → Looks (place_in (seat_of domain p).slots at) slot (seat_of domain p) Moved (seat_of domain p2)
+        pub looks_moved : (slot row : ℕ) → one.to ≡ Some row → two ≢ one
+            → Looks (place_in (seat_of domain p).slots at) slot (seat_of domain p) Moved (seat_of domain p2)
         looks_moved slot row is other = record {
           fresh = fresh_last;
           tells = (
             link_by t.rows one,
             link_by u.rows two,
-            (λ e. other (sym (link_one u.rows one two (subst (λ z. Given z one.to) grows2.rows.1 (given_grows t.rows grows2.rows.0 one.to one_given)) two_given (link_still ∙ e)))),
+            (λ e. other (sym
+                (link_one u.rows one two (subst (λ z. Given z one.to) grows2.rows.1 (given_grows t.rows grows2.rows.0 one.to one_given)) two_given
+                (link_still ∙ e)))),
             slots_last,
             put_both p2.slots,
             (λ none. let e : Some (index_of row t.rows) ≡ None = sym (ap (id_by t.rows) is) ∙ none in cc),
@@ -144,28 +168,36 @@ module _ {D N : Type 0} {d : discipline.Ghosts D N} {m : machine.Ghosts Plain N 
           found : link_by u.rows two ≡ record { to = Some (index_of row u.rows); mark = one.mark }
           found = ap (link_by u.rows) twice ∙ ap (λ (z : Option ℕ). record { to = id_by u.rows z; mark = one.mark }) is
 
-          pub looks_held : (hold : Hold) → hold ≡ record { row = row; slot = slot } → Looks (place_in (seat_of domain p).slots at) slot (seat_of domain p) (Stable (record { null = false; mark = one.mark }) (Some hold)) (seat_by u (slice_set p2.slots slot (Some row)))
-          looks_held hold e = subst (λ (z : Hold). Looks (place_in (seat_of domain p).slots at) slot (seat_of domain p) (Stable (record { null = false; mark = one.mark }) (Some z)) (seat_by u (slice_set p2.slots slot (Some row)))) (sym e) record {
-            fresh = fresh_last;
-            tells = (
-              index_of row u.rows,
-              link_by t.rows one,
-              (λ none. let e : Some (index_of row t.rows) ≡ None = sym (ap (id_by t.rows) is) ∙ none in cc),
-              refl,
-              refl,
-              refl,
-              slots_set u.rows p2.slots slot (Some row) ∙ ap (λ (z : Slots). slice_set z slot (Some (record { row = row; id = index_of row u.rows }))) slots_last,
-              subst (λ (z : Link). Puts (seat_of domain p) (event_by s.agent (Look (place_in (seat_of domain p).slots at) (link_by t.rows one)) None ∷ event_by s.agent (Look (place_in (seat_of domain p).slots at) z) None ∷ []) (seat_by u (slice_set p2.slots slot (Some row))))
-                  found (put_both (slice_set p2.slots slot (Some row))),
-            );
-          }
+          pub looks_held : (hold : Hold) → hold ≡ record { row = row; slot = slot }
+              → Looks (place_in (seat_of domain p).slots at) slot (seat_of domain p) (Stable (record { null = false; mark = one.mark }) (Some hold))
+              (seat_by u (slice_set p2.slots slot (Some row)))
+          looks_held hold e =
+              subst (λ (z : Hold). Looks (place_in (seat_of domain p).slots at) slot (seat_of domain p)
+              (Stable (record { null = false; mark = one.mark }) (Some z)) (seat_by u (slice_set p2.slots slot (Some row)))) (sym e) record {
+                fresh = fresh_last;
+                tells = (
+                  index_of row u.rows,
+                  link_by t.rows one,
+                  (λ none. let e : Some (index_of row t.rows) ≡ None = sym (ap (id_by t.rows) is) ∙ none in cc),
+                  refl,
+                  refl,
+                  refl,
+                  slots_set u.rows p2.slots slot (Some row)
+                      ∙ ap (λ (z : Slots). slice_set z slot (Some (record { row = row; id = index_of row u.rows }))) slots_last,
+                  subst (λ (z : Link). Puts (seat_of domain p) (event_by s.agent (Look (place_in (seat_of domain p).slots at) (link_by t.rows one)) None
+                      ∷ event_by s.agent (Look (place_in (seat_of domain p).slots at) z) None ∷ []) (seat_by u (slice_set p2.slots slot (Some row))))
+                      found (put_both (slice_set p2.slots slot (Some row))),
+                );
+              }
 
           known : KnowsRow b u row
-          known = subst (λ a. IsKnown a (heap_of b u) (index_of row u.rows)) (sym grows2.agent) (subst (λ (z : Link). IsTarget t.agent (heap_of b u) z.to) found k.known)
+          known = subst (λ a. IsKnown a (heap_of b u) (index_of row u.rows)) (sym grows2.agent)
+              (subst (λ (z : Link). IsTarget t.agent (heap_of b u) z.to) found k.known)
 
           pub still_looked : IsPassOf domain (record { pass = p2.pass; slots = slice_set p2.slots slot (Some row); next = p2.next; shape = p2.shape })
           still_looked = record {
             board = h2.board;
             shape = h2.shape;
-            keeps = keeps_set b u p2.slots p2.next p2.next slot (Some row) (λ r e. subst (λ z. KnowsRow b u z) (some_one row r e) known) h2.keeps.inside h2.keeps;
+            keeps = keeps_set b u p2.slots p2.next p2.next slot (Some row) (λ r e. subst (λ z. KnowsRow b u z) (some_one row r e) known)
+                h2.keeps.inside h2.keeps;
           }

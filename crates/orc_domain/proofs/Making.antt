@@ -28,18 +28,25 @@ slots_none rows zero = refl
 slots_none rows (suc n) = ap (λ z. None ∷ z) (slots_none rows n)
 
 module _ {D N : Type 0} {d : discipline.Ghosts D N} {m : machine.Ghosts Plain N (PlainShape N) PlainOp (PlainStep N) (Unit {0}) (Unit {0})}
-    (domain : PlainDomain D N) (xs : List (PlainPass D N (PlainShape N) PlainOp (PlainStep N) (Unit {0}) (Unit {0}) d m)) (ys : List (BoardPass D N (PlainShape N) PlainOp (PlainStep N) (Unit {0}) (Unit {0}) d m))
+    (domain : PlainDomain D N) (xs : List (PlainPass D N (PlainShape N) PlainOp (PlainStep N) (Unit {0}) (Unit {0}) d m))
+    (ys : List (BoardPass D N (PlainShape N) PlainOp (PlainStep N) (Unit {0}) (Unit {0}) d m))
     (long : length xs ≡ length ys) (same : EachFrom (λ (p : PlainPass D N (PlainShape N) PlainOp (PlainStep N) (Unit {0}) (Unit {0}) d m). p.pass) xs ys)
   where
     -- what holds of each pass of the board holds of the passes of the domain
-    pub each_pass : (P : (BoardPass D N (PlainShape N) PlainOp (PlainStep N) (Unit {0}) (Unit {0}) d m) → Type 0) → All P ys → All (λ (p : PlainPass D N (PlainShape N) PlainOp (PlainStep N) (Unit {0}) (Unit {0}) d m). P p.pass) xs
+    pub each_pass : (P : (BoardPass D N (PlainShape N) PlainOp (PlainStep N) (Unit {0}) (Unit {0}) d m) → Type 0) → All P ys
+        → All (λ (p : PlainPass D N (PlainShape N) PlainOp (PlainStep N) (Unit {0}) (Unit {0}) d m). P p.pass) xs
     each_pass P all i p l = let k : i < length ys = subst (λ n. i < n) long l in subst P (sym (same i p p.pass k)) (all i p.pass k)
 
-    pub each_at : (P : ℕ → (BoardPass D N (PlainShape N) PlainOp (PlainStep N) (Unit {0}) (Unit {0}) d m) → Type 0) → EachAt P ys → EachAt (λ i (p : PlainPass D N (PlainShape N) PlainOp (PlainStep N) (Unit {0}) (Unit {0}) d m). P i p.pass) xs
+    pub each_at : (P : ℕ → (BoardPass D N (PlainShape N) PlainOp (PlainStep N) (Unit {0}) (Unit {0}) d m) → Type 0) → EachAt P ys
+        → EachAt (λ i (p : PlainPass D N (PlainShape N) PlainOp (PlainStep N) (Unit {0}) (Unit {0}) d m). P i p.pass) xs
     each_at P all i p l = let k : i < length ys = subst (λ n. i < n) long l in subst (P i) (sym (same i p p.pass k)) (all i p.pass k)
 
-    pub all_belong : (asked : Bounds) → domain_bounds domain ≡ asked → All (λ (q : BoardPass D N (PlainShape N) PlainOp (PlainStep N) (Unit {0}) (Unit {0}) d m). Belongs domain.board q) ys → All (λ (p : PlainPass D N (PlainShape N) PlainOp (PlainStep N) (Unit {0}) (Unit {0}) d m). p.slots ≡ replicate 8 None) xs → All (λ (p : PlainPass D N (PlainShape N) PlainOp (PlainStep N) (Unit {0}) (Unit {0}) d m). p.next < asked.rows) xs
-        → All (λ (p : PlainPass D N (PlainShape N) PlainOp (PlainStep N) (Unit {0}) (Unit {0}) d m). bounds_of p.shape ≡ asked) xs → All (λ (p : PlainPass D N (PlainShape N) PlainOp (PlainStep N) (Unit {0}) (Unit {0}) d m). IsPassOf domain p) xs
+    pub all_belong : (asked : Bounds) → domain_bounds domain ≡ asked
+        → All (λ (q : BoardPass D N (PlainShape N) PlainOp (PlainStep N) (Unit {0}) (Unit {0}) d m). Belongs domain.board q) ys
+        → All (λ (p : PlainPass D N (PlainShape N) PlainOp (PlainStep N) (Unit {0}) (Unit {0}) d m). p.slots ≡ replicate 8 None) xs
+        → All (λ (p : PlainPass D N (PlainShape N) PlainOp (PlainStep N) (Unit {0}) (Unit {0}) d m). p.next < asked.rows) xs
+        → All (λ (p : PlainPass D N (PlainShape N) PlainOp (PlainStep N) (Unit {0}) (Unit {0}) d m). bounds_of p.shape ≡ asked) xs
+        → All (λ (p : PlainPass D N (PlainShape N) PlainOp (PlainStep N) (Unit {0}) (Unit {0}) d m). IsPassOf domain p) xs
     all_belong asked bounds belong slots next shape i p l = record {
       board = each_pass (λ q. Belongs domain.board q) belong i p l;
       shape = shape i p l ∙ sym bounds;
@@ -50,7 +57,9 @@ module _ {D N : Type 0} {d : discipline.Ghosts D N} {m : machine.Ghosts Plain N 
       };
     }
 
-    pub all_idle : All (λ (q : BoardPass D N (PlainShape N) PlainOp (PlainStep N) (Unit {0}) (Unit {0}) d m). (shows domain.board q).fresh ≡ None) ys → All (λ (p : PlainPass D N (PlainShape N) PlainOp (PlainStep N) (Unit {0}) (Unit {0}) d m). p.slots ≡ replicate 8 None) xs → All (λ (p : PlainPass D N (PlainShape N) PlainOp (PlainStep N) (Unit {0}) (Unit {0}) d m). IsIdle (seat_of domain p)) xs
+    pub all_idle : All (λ (q : BoardPass D N (PlainShape N) PlainOp (PlainStep N) (Unit {0}) (Unit {0}) d m). (shows domain.board q).fresh ≡ None) ys
+        → All (λ (p : PlainPass D N (PlainShape N) PlainOp (PlainStep N) (Unit {0}) (Unit {0}) d m). p.slots ≡ replicate 8 None) xs
+        → All (λ (p : PlainPass D N (PlainShape N) PlainOp (PlainStep N) (Unit {0}) (Unit {0}) d m). IsIdle (seat_of domain p)) xs
     all_idle fresh slots i p l =
         let q = slice_index_or xs i p in record {
           slots = ap (slots_by (shows domain.board q.pass).rows) (slots i p l) ∙ slots_none (shows domain.board q.pass).rows 8;

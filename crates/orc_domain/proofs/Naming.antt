@@ -39,7 +39,8 @@ module _ {D N : Type 0} {d : discipline.Ghosts D N} {m : machine.Ghosts Plain N 
     s = shows domain.board p.pass
 
     -- a hold's slot has its row, and its node is that of the row
-    pub hold_in : (hold : Hold) → Holds (seat_of domain p).slots hold → (slice_get p.slots hold.slot ≡ Some (Some hold.row)) × (id_in (seat_of domain p).slots hold ≡ index_of hold.row s.rows)
+    pub hold_in : (hold : Hold) → Holds (seat_of domain p).slots hold → (slice_get p.slots hold.slot ≡ Some (Some hold.row))
+        × (id_in (seat_of domain p).slots hold ≡ index_of hold.row s.rows)
     hold_in hold e = row_in s.rows p.slots hold.slot (record { row = hold.row; id = id_in (seat_of domain p).slots hold }) e
 
     pub hold_given : (hold : Hold) → Holds (seat_of domain p).slots hold → index_of hold.row s.rows < length s.rows
@@ -57,7 +58,8 @@ module _ {D N : Type 0} {d : discipline.Ghosts D N} {m : machine.Ghosts Plain N 
       where
         went : (fresh : Option ℕ) → s.fresh ≡ fresh → Given s.rows fresh → id_by s.rows fresh ≡ Some (index_of hold.row s.rows) → s.fresh ≡ Some hold.row
         went None is g f = cc
-        went (Some row) is g f = is ∙ ap Some (one_row s.rows row hold.row g (hold_given hold e.held) (some_one (index_of row s.rows) (index_of hold.row s.rows) f))
+        went (Some row) is g f =
+            is ∙ ap Some (one_row s.rows row hold.row g (hold_given hold e.held) (some_one (index_of row s.rows) (index_of hold.row s.rows) f))
 
     pub place_known : (at : At) → HoldsPlace b.roots (seat_of domain p).slots at → KnowsPlace b s (word_at at)
     place_known (AtRoot r) l = l

@@ -1,11 +1,12 @@
 -- Slots that are set, and holds that are released.
 use Rattle.std.proofs.Common.{◌≡◌, ℕ, zero, suc, ◌<◌, List, [], ◌∷◌, length, length-set, Option, Some, None, slice_get, slice_set, refl, sym, ap, ◌∙◌, subst, ◌⊎◌, inl, inr, append-nil}
+use Rattle.orc_heap.proofs.Changes.{get_lt}
 use Rattle.orc_words.specs.Bounds.{Bounds}
 use Rattle.orc_heap.specs.Calls.{Releases, unless_node}
 use Rattle.orc_heap.specs.Slots.{Hold, Holds}
 use Rattle.orc_heap.specs.declared.discipline.Discipline as discipline
 use Rattle.orc_shared_words.specs.declared.machine.Machine as machine
-use Rattle.orc_table.proofs.Lists.{get_lt, some_one}
+use Rattle.orc_table.proofs.Lists.{some_one}
 use Rattle.orc_table.specs.Calls.{KnowsRow, unless_linked}
 use Rattle.orc_table.specs.Machine.{id_by}
 use Rattle.orc_table.specs.Views.{PlainView, shows}
@@ -40,7 +41,8 @@ keeps_set b s slots next other i y known inside k = record {
 }
 
 module _ {D N : Type 0} {d : discipline.Ghosts D N} {m : machine.Ghosts Plain N (PlainShape N) PlainOp (PlainStep N) (Unit {0}) (Unit {0})}
-    (domain : PlainDomain D N) (p q : PlainPass D N (PlainShape N) PlainOp (PlainStep N) (Unit {0}) (Unit {0}) d m) (h : IsPassOf domain p) (x : IsPassOf domain q) (same : IsSame p q)
+    (domain : PlainDomain D N) (p q : PlainPass D N (PlainShape N) PlainOp (PlainStep N) (Unit {0}) (Unit {0}) d m) (h : IsPassOf domain p)
+    (x : IsPassOf domain q) (same : IsSame p q)
     (hold : Hold) (held : Holds (seat_of domain p).slots hold)
   where
     abbrev s : PlainView N
@@ -50,7 +52,8 @@ module _ {D N : Type 0} {d : discipline.Ghosts D N} {m : machine.Ghosts Plain N 
     t = shows domain.board q.pass
 
     pub slot_below : (slot : ℕ) → slot ≡ hold.slot → slot < 8
-    slot_below slot e = let l = get_lt p.slots hold.slot (Some hold.row) (hold_in domain p h hold held).0 in subst (λ n. slot < n) h.keeps.eight (subst (λ i. i < length p.slots) (sym e) l)
+    slot_below slot e = let l = get_lt p.slots hold.slot (Some hold.row) (hold_in domain p h hold held).0 in
+        subst (λ n. slot < n) h.keeps.eight (subst (λ i. i < length p.slots) (sym e) l)
 
     pub still_released : (slot : ℕ) → IsPassOf domain (record { pass = q.pass; slots = slice_set q.slots slot None; next = q.next; shape = q.shape })
     still_released slot = record {
@@ -59,7 +62,8 @@ module _ {D N : Type 0} {d : discipline.Ghosts D N} {m : machine.Ghosts Plain N 
       keeps = keeps_set (domain_bounds domain) t q.slots q.next q.next slot None (λ row e. cc) x.keeps.inside x.keeps;
     }
 
-    pub releases : (slot row : ℕ) → slot ≡ hold.slot → row ≡ hold.row → Retires row s t → Releases (seat_of domain p) hold (seat_by t (slice_set q.slots slot None))
+    pub releases : (slot row : ℕ) → slot ≡ hold.slot → row ≡ hold.row → Retires row s t
+        → Releases (seat_of domain p) hold (seat_by t (slice_set q.slots slot None))
     releases slot row at is r =
         let rows : t.rows ≡ s.rows = ap (λ (z : PlainView N). z.rows) r.same in record {
           slots = (λ i. slots_by (rows i) (slice_set (same.slots i) (at i) None)) ∙ slots_set s.rows p.slots hold.slot None;
@@ -67,5 +71,11 @@ module _ {D N : Type 0} {d : discipline.Ghosts D N} {m : machine.Ghosts Plain N 
               ∙ (ap (λ z. id_by s.rows (unless_linked s.fresh (Some z))) is
               ∙ (unless_is s.rows s.fresh (Some hold.row) (fresh_given domain p h) (hold_given domain p h hold held)
               ∙ ap (λ z. unless_node (id_by s.rows s.fresh) (Some z)) (sym (hold_in domain p h hold held).1)));
-          puts = record { part = []; is = ap (λ (z : PlainView N). z.events) r.same ∙ sym (append-nil s.events); agent = ap (λ (z : PlainView N). z.agent) r.same; own_is = refl };
+          puts = record {
+            part = [];
+            is = ap (λ (z : PlainView N). z.events) r.same ∙ sym (append-nil s.events);
+            agent =
+                ap (λ (z : PlainView N). z.agent) r.same;
+            own_is = refl;
+          };
         }

@@ -17,7 +17,8 @@ module _ {A B : Type 0} where
   pairwise_map R S f [] (y ∷ ys) h = absurd h
   pairwise_map R S f (x ∷ xs) [] h = absurd h
 
-  pub pairwise_all : (R : A → B → Type 0) (P : A → Type 0) (Q : B → Type 0) → ((x : A) (y : B) → R x y → P x → Q y) → (xs : List A) (ys : List B) → Pairwise R xs ys → AllByRecursion P xs → AllByRecursion Q ys
+  pub pairwise_all : (R : A → B → Type 0) (P : A → Type 0) (Q : B → Type 0) → ((x : A) (y : B) → R x y → P x → Q y) → (xs : List A) (ys : List B)
+      → Pairwise R xs ys → AllByRecursion P xs → AllByRecursion Q ys
   pairwise_all R P Q f [] [] h p = tt
   pairwise_all R P Q f (x ∷ xs) (y ∷ ys) h p = (f x y h.0 p.0, pairwise_all R P Q f xs ys h.1 p.1)
   pairwise_all R P Q f [] (y ∷ ys) h p = absurd h
@@ -29,7 +30,8 @@ module _ {A B : Type 0} where
   pairwise_long R [] (y ∷ ys) h = absurd h
   pairwise_long R (x ∷ xs) [] h = absurd h
 
-pub pairwise_at : {A B : Type 0} (R : A → B → Type 0) (xs : List A) (ys : List B) → Pairwise R xs ys → (i : ℕ) (a : A) (b : B) → i < length ys → R (slice_index_or xs i a) (slice_index_or ys i b)
+pub pairwise_at : {A B : Type 0} (R : A → B → Type 0) (xs : List A) (ys : List B) → Pairwise R xs ys → (i : ℕ) (a : A) (b : B) → i < length ys
+    → R (slice_index_or xs i a) (slice_index_or ys i b)
 pairwise_at R [] [] h i a b l = absurd (omega (arith, l))
 pairwise_at R (x ∷ xs) (y ∷ ys) h zero a b l = h.0
 pairwise_at R (x ∷ xs) (y ∷ ys) h (suc i) a b l = pairwise_at R xs ys h.1 i a b (omega (arith, l))
@@ -82,13 +84,19 @@ module _ {N : Type 0} where
     no_news p = elim l.longer_list.of_both [ inl q ↦ q.1 ∙ both_prefixes s.seen w.seen q.0 p | inr q ↦ q.1 ]
 
     pub at_most : (most : ℕ) → length s.seen ≤ most → length w.seen ≤ most → length t.seen ≤ most
-    at_most most a b = elim l.longer_list.of_both [ inl q ↦ subst (λ (z : List (Event N)). length z ≤ most) (sym q.1) b | inr q ↦ subst (λ (z : List (Event N)). length z ≤ most) (sym q.1) a ]
+    at_most most a b =
+        elim l.longer_list.of_both [
+          | inl q ↦ subst (λ (z : List (Event N)). length z ≤ most) (sym q.1) b
+          | inr q ↦
+              subst (λ (z : List (Event N)). length z ≤ most) (sym q.1) a
+        ]
 
   module _ {W : Type 0} (seat : W → Seat N) where
     pub round_none : (s : Seat N) → Round seat s s [] []
     round_none s = record { first = hears_itself s; others = tt; again = λ _. (refl, tt); longest = λ most a _. a }
 
-    pub round_more : (s t u : Seat N) (w v : W) (ws vs all : List W) → all ≡ w ∷ ws → (before1 before2 after1 after2 : List (Event N)) → Learns (λ e. e.agent) s (seat w) t (seat v) before1 before2 after1 after2 → Round seat t u ws vs → Round seat s u all (v ∷ vs)
+    pub round_more : (s t u : Seat N) (w v : W) (ws vs all : List W) → all ≡ w ∷ ws → (before1 before2 after1 after2 : List (Event N))
+        → Learns (λ e. e.agent) s (seat w) t (seat v) before1 before2 after1 after2 → Round seat t u ws vs → Round seat s u all (v ∷ vs)
     round_more s t u w v ws vs all is b1 b2 a1 a2 l r =
         let first = first_hears s (seat w) t (seat v) b1 b2 a1 a2 l in
         let other = other_hears s (seat w) t (seat v) b1 b2 a1 a2 l in
@@ -97,18 +105,27 @@ module _ {N : Type 0} where
           others = ((other, subst (λ z. IsPrefix z u.seen) l.one_list r.first.more), r.others);
           again = λ p.
               let same = no_news s (seat w) t (seat v) b1 b2 a1 a2 l p.0 in
-              let rest = r.again (subst (λ (z : List (Event N)). AllByRecursion (λ x. IsPrefix (seat x).seen z) ws) (sym same) p.1) in
-              (rest.0 ∙ same, (record { hears = other; seen = sym l.one_list ∙ same }, subst (λ (z : List (Event N)). Pairwise (λ x y. HearsAll z (seat x) (seat y)) ws vs) same rest.1));
+              let rest = r.again (subst (λ (z : List (Event N)). AllByRecursion (λ x. IsPrefix (seat x).seen z) ws) (sym same) p.1) in (
+                rest.0 ∙ same,
+                (
+                  record { hears = other; seen = sym l.one_list ∙ same },
+                  subst (λ (z : List (Event N)). Pairwise (λ x y. HearsAll z (seat x) (seat y)) ws vs) same rest.1,
+                ),
+              );
           longest = λ most a b. r.longest most (at_most s (seat w) t (seat v) b1 b2 a1 a2 l most a b.0) b.1;
         }
 
     -- two rounds, and all have seen one list
-    pub all_heard : (s t u : Seat N) (ws vs xs : List W) → Round seat s t ws vs → Round seat t u vs xs → (u.seen ≡ t.seen) × Pairwise (λ w x. HearsAll t.seen (seat w) (seat x)) ws xs
+    pub all_heard : (s t u : Seat N) (ws vs xs : List W) → Round seat s t ws vs → Round seat t u vs xs
+        → (u.seen ≡ t.seen) × Pairwise (λ w x. HearsAll t.seen (seat w) (seat x)) ws xs
     all_heard s t u ws vs xs r q =
-        let seen : AllByRecursion (λ v. IsPrefix (seat v).seen t.seen) vs = pairwise_all (λ w v. Hears (seat w) (seat v) × IsPrefix (seat v).seen t.seen) (λ w. Unit {0}) (λ v. IsPrefix (seat v).seen t.seen) (λ w v h _. h.1) ws vs r.others (all_unit ws) in
+        let seen : AllByRecursion (λ v. IsPrefix (seat v).seen t.seen) vs =
+        pairwise_all (λ w v. Hears (seat w) (seat v) × IsPrefix (seat v).seen t.seen) (λ w. Unit {0}) (λ v. IsPrefix (seat v).seen t.seen)
+        (λ w v h _. h.1) ws vs r.others (all_unit ws) in
         let a = q.again seen in (
           a.0,
-          pairwise_join (λ w v. Hears (seat w) (seat v) × IsPrefix (seat v).seen t.seen) (λ v x. HearsAll t.seen (seat v) (seat x)) (λ w x. HearsAll t.seen (seat w) (seat x))
+          pairwise_join (λ w v. Hears (seat w) (seat v) × IsPrefix (seat v).seen t.seen) (λ v x. HearsAll t.seen (seat v) (seat x))
+              (λ w x. HearsAll t.seen (seat w) (seat x))
               (λ w v x h k. record { hears = hears_trans (seat w) (seat v) (seat x) h.0 k.hears; seen = k.seen }) ws vs xs r.others a.1,
         )
       where

@@ -35,7 +35,8 @@ use Rattle.orc_domain.proofs.Growing.{Grows, adds_grow, adds_put, grow_trans, mi
 module _ {D N : Type 0} {d : discipline.Ghosts D N} {m : machine.Ghosts Plain N (PlainShape N) PlainOp (PlainStep N) (Unit {0}) (Unit {0})}
     (domain : PlainDomain D N) (p : PlainPass D N (PlainShape N) PlainOp (PlainStep N) (Unit {0}) (Unit {0}) d m) (h : IsPassOf domain p)
     (q r : BoardPass D N (PlainShape N) PlainOp (PlainStep N) (Unit {0}) (Unit {0}) d m) (y : Belongs domain.board r)
-    (row : ℕ) (first : Adds (d.may (domain_numbers domain)) [] (shows domain.board p.pass) (shows domain.board q)) (fresh : (shows domain.board q).fresh ≡ (shows domain.board p.pass).fresh)
+    (row : ℕ) (first : Adds (d.may (domain_numbers domain)) [] (shows domain.board p.pass) (shows domain.board q))
+    (fresh : (shows domain.board q).fresh ≡ (shows domain.board p.pass).fresh)
   where
     abbrev b : Bounds
     b = domain_bounds domain
@@ -98,7 +99,8 @@ module _ {D N : Type 0} {d : discipline.Ghosts D N} {m : machine.Ghosts Plain N 
           let seen : t.events ≡ s.events ++ met.events.0 = sym met.events.1 in
           let one = nodes_stay (numbers b) s.events met.events.0 in
           let two = nodes_stay (numbers b) t.events g.adds.met in
-          let same : length (run_heap (numbers b) t.events).nodes ≡ length (run_heap (numbers b) (s.events ++ met.events.0)).nodes = ap (λ (es : List (Event N)). length (run_heap (numbers b) es).nodes) seen in
+          let same : length (run_heap (numbers b) t.events).nodes ≡ length (run_heap (numbers b) (s.events ++ met.events.0)).nodes =
+          ap (λ (es : List (Event N)). length (run_heap (numbers b) es).nodes) seen in
           omega (arith, one, two, same, past_long, index_last)
 
       takes : Takes b row p.slots s u
@@ -106,8 +108,10 @@ module _ {D N : Type 0} {d : discipline.Ghosts D N} {m : machine.Ghosts Plain N 
         fresh = g.fresh;
         rows = (both give g.adds).rows;
         new = new_node_id;
-        puts = subst (λ (a : ℕ). Puts (seat_by s p.slots) (event_by a Give None ∷ []) (seat_by u p.slots)) first.agent (put_both give g.adds (mine t.agent Give None));
-        node = subst (λ (z : Heap × ℕ × ℕ). slice_get z.0.nodes z.1 ≡ Some (new_node z.2)) (λ i. (sym heap_is i, (past_long ∙ sym index_last) i, first.agent i)) (get-added (run_heap (numbers b) past).nodes (new_node t.agent));
+        puts = subst (λ (a : ℕ). Puts (seat_by s p.slots) (event_by a Give None ∷ []) (seat_by u p.slots)) first.agent
+            (put_both give g.adds (mine t.agent Give None));
+        node = subst (λ (z : Heap × ℕ × ℕ). slice_get z.0.nodes z.1 ≡ Some (new_node z.2))
+            (λ i. (sym heap_is i, (past_long ∙ sym index_last) i, first.agent i)) (get-added (run_heap (numbers b) past).nodes (new_node t.agent));
       }
 
     loses : BoardLoses may row t u → Loses row p.slots s u

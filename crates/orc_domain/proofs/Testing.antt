@@ -46,14 +46,18 @@ unless_given rows (Some row) (Some other) g = dite (ℕ_discrete row other)
     (λ e. subst (λ (b : Bool). Given rows (cond b None (Some row))) (sym (eq-eqb row other e)) tt)
     (λ ne. subst (λ (b : Bool). Given rows (cond b None (Some row))) (sym (ne_eqb row other ne)) g)
 
-pub unless_is : (rows : List ℕ) (fresh to : Option ℕ) → Given rows fresh → Given rows to → id_by rows (unless_linked fresh to) ≡ unless_node (id_by rows fresh) (id_by rows to)
+pub unless_is : (rows : List ℕ) (fresh to : Option ℕ) → Given rows fresh → Given rows to
+    → id_by rows (unless_linked fresh to) ≡ unless_node (id_by rows fresh) (id_by rows to)
 unless_is rows None None g k = refl
 unless_is rows None (Some other) g k = refl
 unless_is rows (Some row) None g k = refl
 unless_is rows (Some row) (Some other) g k = dite (ℕ_discrete row other)
-    (λ e. ap (λ (b : Bool). id_by rows (cond b None (Some row))) (eq-eqb row other e) ∙ sym (ap (λ (b : Bool). if b then None else Some (index_of row rows)) (eq-eqb (index_of other rows) (index_of row rows) (ap (λ r. index_of r rows) (sym e)))))
+    (λ e. ap (λ (b : Bool). id_by rows (cond b None (Some row))) (eq-eqb row other e)
+    ∙ sym (ap (λ (b : Bool). if b then None else Some (index_of row rows))
+    (eq-eqb (index_of other rows) (index_of row rows) (ap (λ r. index_of r rows) (sym e)))))
     (λ ne. ap (λ (b : Bool). id_by rows (cond b None (Some row))) (ne_eqb row other ne)
-    ∙ sym (ap (λ (b : Bool). if b then None else Some (index_of row rows)) (ne_eqb (index_of other rows) (index_of row rows) (λ e. ne (one_row rows row other g k (sym e))))))
+    ∙ sym (ap (λ (b : Bool). if b then None else Some (index_of row rows))
+    (ne_eqb (index_of other rows) (index_of row rows) (λ e. ne (one_row rows row other g k (sym e))))))
 
 module _ {D N : Type 0} {d : discipline.Ghosts D N} {m : machine.Ghosts Plain N (PlainShape N) PlainOp (PlainStep N) (Unit {0}) (Unit {0})}
     (domain : PlainDomain D N) (p : PlainPass D N (PlainShape N) PlainOp (PlainStep N) (Unit {0}) (Unit {0}) d m) (h : IsPassOf domain p)
@@ -85,9 +89,12 @@ module _ {D N : Type 0} {d : discipline.Ghosts D N} {m : machine.Ghosts Plain N 
     link_met : link_by s.rows link ≡ link_in (seat_of domain p).slots from
     link_met = ap (link_by s.rows) link_same ∙ want_is domain p h from holds_from
 
-    pub may_look : (said : Option N) → AllowedLater may (domain_numbers domain) s.agent s.events (place_in (seat_of domain p).slots at) (link_in (seat_of domain p).slots from) (look_of (seat_of domain p) at from said)
+    pub may_look : (said : Option N) → AllowedLater may (domain_numbers domain) s.agent s.events (place_in (seat_of domain p).slots at)
+        (link_in (seat_of domain p).slots from) (look_of (seat_of domain p) at from said)
         → MayWhereShown may b s place link (look_event s place link said)
-    may_look said a = subst (λ (z : Place × Link). AllowedLater may (domain_numbers domain) s.agent s.events z.0 z.1 (event_by s.agent (Look z.0 z.1) said)) (λ i. (sym place_met i, sym link_met i)) a
+    may_look said a =
+        subst (λ (z : Place × Link). AllowedLater may (domain_numbers domain) s.agent s.events z.0 z.1 (event_by s.agent (Look z.0 z.1) said))
+        (λ i. (sym place_met i, sym link_met i)) a
 
     -- the place showed another link
     missed : (found : Link) → found ≢ link_by s.rows link → Adds may (event_by s.agent (Miss (place_by s.rows place) (link_by s.rows link) found) None ∷ []) s t
@@ -95,11 +102,14 @@ module _ {D N : Type 0} {d : discipline.Ghosts D N} {m : machine.Ghosts Plain N 
     missed found other a = record {
       found = found;
       other = λ e. other (e ∙ sym link_met);
-      puts = subst (λ (z : Place × Link). Puts (seat_of domain p) (event_by s.agent (Miss z.0 z.1 found) None ∷ []) (seat_by t p.slots)) (λ i. (place_met i, link_met i))
-          (adds_put may (event_by s.agent (Miss (place_by s.rows place) (link_by s.rows link) found) None ∷ []) s t p.slots p.slots a (mine s.agent (Miss (place_by s.rows place) (link_by s.rows link) found) None));
+      puts = subst (λ (z : Place × Link). Puts (seat_of domain p) (event_by s.agent (Miss z.0 z.1 found) None ∷ []) (seat_by t p.slots))
+          (λ i. (place_met i, link_met i))
+          (adds_put may (event_by s.agent (Miss (place_by s.rows place) (link_by s.rows link) found) None ∷ []) s t p.slots p.slots a
+          (mine s.agent (Miss (place_by s.rows place) (link_by s.rows link) found) None));
     }
 
-    module _ (said : Option N) (found packed : ℕ) (is_packed : packed ≡ link_word link) (hit : found ≡ link_word link → Adds may (look_event s place link said ∷ []) s t)
+    module _ (said : Option N) (found packed : ℕ) (is_packed : packed ≡ link_word link)
+        (hit : found ≡ link_word link → Adds may (look_event s place link said ∷ []) s t)
         (miss : found ≢ link_word link → Misses may b (place_by s.rows place) (link_by s.rows link) found s t) (fresh : t.fresh ≡ s.fresh)
       where
         not_packed : (found == packed) ≡ false → found ≢ link_word link
@@ -110,7 +120,8 @@ module _ {D N : Type 0} {d : discipline.Ghosts D N} {m : machine.Ghosts Plain N 
           where
             went : (done : Bool) → (found == packed) ≡ done → IsPassOf domain (record { pass = q; slots = p.slots; next = p.next; shape = p.shape })
             went true e = still_adds domain p h q x (look_event s place link said ∷ []) (hit (eqb-true found packed e ∙ is_packed))
-            went false e = let r = miss (not_packed e) in still_adds domain p h q x (event_by s.agent (Miss (place_by s.rows place) (link_by s.rows link) r.link) None ∷ []) r.adds
+            went false e = let r = miss (not_packed e) in
+                still_adds domain p h q x (event_by s.agent (Miss (place_by s.rows place) (link_by s.rows link) r.link) None ∷ []) r.adds
 
         pub tests : Tests at from said (seat_of domain p) (found == packed) (seat_by t p.slots)
         tests = went (found == packed) refl
@@ -120,8 +131,10 @@ module _ {D N : Type 0} {d : discipline.Ghosts D N} {m : machine.Ghosts Plain N 
                 let a = hit (eqb-true found packed e ∙ is_packed) in record {
                   slots = slots_same domain p h q x (look_event s place link said ∷ []) a;
                   fresh = fresh_same domain p h q x (look_event s place link said ∷ []) a fresh;
-                  puts = subst (λ (z : Place × Link). Puts (seat_of domain p) (event_by s.agent (Look z.0 z.1) said ∷ []) (seat_by t p.slots)) (λ i. (place_met i, link_met i))
-                      (adds_put may (look_event s place link said ∷ []) s t p.slots p.slots a (mine s.agent (Look (place_by s.rows place) (link_by s.rows link)) said));
+                  puts = subst (λ (z : Place × Link). Puts (seat_of domain p) (event_by s.agent (Look z.0 z.1) said ∷ []) (seat_by t p.slots))
+                      (λ i. (place_met i, link_met i))
+                      (adds_put may (look_event s place link said ∷ []) s t p.slots p.slots a
+                      (mine s.agent (Look (place_by s.rows place) (link_by s.rows link)) said));
                 }
             went false e =
                 let r = miss (not_packed e) in
@@ -138,9 +151,12 @@ module _ {D N : Type 0} {d : discipline.Ghosts D N} {m : machine.Ghosts Plain N 
       target_met : link_by s.rows target ≡ link_in (seat_of domain p).slots to
       target_met = ap (link_by s.rows) target_same ∙ want_is domain p h to holds_to
 
-      pub may_move : (said : Option N) → AllowedLater may (domain_numbers domain) s.agent s.events (place_in (seat_of domain p).slots at) (link_in (seat_of domain p).slots from) (move_of (seat_of domain p) at from to said)
+      pub may_move : (said : Option N) → AllowedLater may (domain_numbers domain) s.agent s.events (place_in (seat_of domain p).slots at)
+          (link_in (seat_of domain p).slots from) (move_of (seat_of domain p) at from to said)
           → MayWhereShown may b s place link (move_event s place link target said)
-      may_move said a = subst (λ (z : Place × Link × Link). AllowedLater may (domain_numbers domain) s.agent s.events z.0 z.1 (event_by s.agent (Move z.0 z.1 z.2) said)) (λ i. (sym place_met i, sym link_met i, sym target_met i)) a
+      may_move said a =
+          subst (λ (z : Place × Link × Link). AllowedLater may (domain_numbers domain) s.agent s.events z.0 z.1
+          (event_by s.agent (Move z.0 z.1 z.2) said)) (λ i. (sym place_met i, sym link_met i, sym target_met i)) a
 
       module _ (said : Option N) (moved : ℕ) (answer : moved ≤ 1) (hit : moved ≡ 1 → Adds may (move_event s place link target said ∷ []) s t)
           (linked : moved ≡ 1 → t.fresh ≡ unless_linked s.fresh target.to) (miss : moved ≡ 0 → Fails may (place_by s.rows place) (link_by s.rows link) s t)
@@ -153,15 +169,18 @@ module _ {D N : Type 0} {d : discipline.Ghosts D N} {m : machine.Ghosts Plain N 
             where
               went : (done : Bool) → (moved == 1) ≡ done → IsPassOf domain (record { pass = q; slots = p.slots; next = p.next; shape = p.shape })
               went true e = still_adds domain p h q x (move_event s place link target said ∷ []) (hit (eqb-true moved 1 e))
-              went false e = let r = miss (not_moved e) in still_adds domain p h q x (event_by s.agent (Miss (place_by s.rows place) (link_by s.rows link) r.link) None ∷ []) r.adds
+              went false e = let r = miss (not_moved e) in
+                  still_adds domain p h q x (event_by s.agent (Miss (place_by s.rows place) (link_by s.rows link) r.link) None ∷ []) r.adds
 
           -- what is fresh after the Move
-          fresh_after : Adds may (move_event s place link target said ∷ []) s t → t.fresh ≡ unless_linked s.fresh target.to → id_by t.rows t.fresh ≡ unless_node (id_by s.rows s.fresh) (link_in (seat_of domain p).slots to).to
+          fresh_after : Adds may (move_event s place link target said ∷ []) s t → t.fresh ≡ unless_linked s.fresh target.to
+              → id_by t.rows t.fresh ≡ unless_node (id_by s.rows s.fresh) (link_in (seat_of domain p).slots to).to
           fresh_after a f =
               let given = fresh_given domain p h in
               let to_given : Given s.rows target.to = subst (λ (l : RowLink). Given s.rows l.to) (sym target_same) (want_given domain p h to holds_to) in
               ap (id_by t.rows) f
-              ∙ (fresh_stays b s t (unless_linked s.fresh target.to) (adds_grow b may (move_event s place link target said ∷ []) s t a) (unless_given s.rows s.fresh target.to given)
+              ∙ (fresh_stays b s t (unless_linked s.fresh target.to) (adds_grow b may (move_event s place link target said ∷ []) s t a)
+              (unless_given s.rows s.fresh target.to given)
               ∙ (unless_is s.rows s.fresh target.to given to_given
               ∙ ap (λ (l : Link). unless_node (id_by s.rows s.fresh) l.to) target_met))
 
@@ -174,8 +193,11 @@ module _ {D N : Type 0} {d : discipline.Ghosts D N} {m : machine.Ghosts Plain N 
                   let a = hit is in record {
                     slots = slots_same domain p h q x (move_event s place link target said ∷ []) a;
                     fresh = fresh_after a (linked is);
-                    puts = subst (λ (z : Place × Link × Link). Puts (seat_of domain p) (event_by s.agent (Move z.0 z.1 z.2) said ∷ []) (seat_by t p.slots)) (λ i. (place_met i, link_met i, target_met i))
-                        (adds_put may (move_event s place link target said ∷ []) s t p.slots p.slots a (mine s.agent (Move (place_by s.rows place) (link_by s.rows link) (link_by s.rows target)) said));
+                    puts = subst
+                        (λ (z : Place × Link × Link). Puts (seat_of domain p) (event_by s.agent (Move z.0 z.1 z.2) said ∷ []) (seat_by t p.slots))
+                        (λ i. (place_met i, link_met i, target_met i))
+                        (adds_put may (move_event s place link target said ∷ []) s t p.slots p.slots a
+                        (mine s.agent (Move (place_by s.rows place) (link_by s.rows link) (link_by s.rows target)) said));
                   }
               went false e =
                   let r = miss (not_moved e) in

@@ -3,7 +3,7 @@ use Rattle.std.specs.Prelude.{All, List, [], length, ℕ, ◌∷◌, ◌≡◌, 
 use Rattle.std.specs.List.{AllByRecursion}
 use mathlib.Core.List.{IsPrefix}
 use Rattle.orc_heap.specs.Allowed.{events_by}
-use Rattle.orc_heap.specs.Seats.{Seat}
+use Rattle.orc_heap.specs.Seats.{IsIdle, Seat}
 use Rattle.orc_heap.specs.declared.discipline.Discipline as discipline
 use Rattle.orc_heap.specs.declared.events.Event.{Event}
 use Rattle.orc_shared_words.specs.Lists.{EachAt}
@@ -46,7 +46,8 @@ module _ {N : Type 0} where
   pub record Round {W : Type 0} (seat : W → Seat N) (s t : Seat N) (before after : List W) : Type 0 where
     pub first : Hears s t
     pub others : Pairwise (λ w v. Hears (seat w) (seat v) × IsPrefix (seat v).seen t.seen) before after
-    pub again : AllByRecursion (λ w. IsPrefix (seat w).seen s.seen) before → (t.seen ≡ s.seen) × Pairwise (λ w v. HearsAll s.seen (seat w) (seat v)) before after
+    pub again : AllByRecursion (λ w. IsPrefix (seat w).seen s.seen) before
+        → (t.seen ≡ s.seen) × Pairwise (λ w v. HearsAll s.seen (seat w) (seat v)) before after
     pub longest : (most : ℕ) → length s.seen ≤ most → AllByRecursion (λ w. length (seat w).seen ≤ most) before → length t.seen ≤ most
 
 module _ {D N : Type 0} {d : discipline.Ghosts D N} {m : machine.Ghosts Plain N (PlainShape N) PlainOp (PlainStep N) (Unit {0}) (Unit {0})}
@@ -62,3 +63,19 @@ module _ {D N : Type 0} {d : discipline.Ghosts D N} {m : machine.Ghosts Plain N 
     abbrev pub first_seen : List (PlainPass D N (PlainShape N) PlainOp (PlainStep N) (Unit {0}) (Unit {0}) d m) → List (Event N)
     first_seen [] = []
     first_seen (p ∷ ps) = (seat_of domain p).seen
+
+    -- all passes are idle
+    abbrev pub AreIdle : List (PlainPass D N (PlainShape N) PlainOp (PlainStep N) (Unit {0}) (Unit {0}) d m) → Type 0
+    AreIdle passes = All (λ p. IsIdle (seat_of domain p)) passes
+
+    -- the first pass has seen all events that the agents of the passes made
+    abbrev pub FirstSawAll : List (PlainPass D N (PlainShape N) PlainOp (PlainStep N) (Unit {0}) (Unit {0}) d m) → Type 0
+    FirstSawAll passes = All (λ p. HasOwn (first_seen passes) (seat_of domain p)) passes
+
+    -- passes, which were `before` and are `after`, have all seen what the first one has seen now, and no new event of their own agents
+    abbrev pub AllHear : (before after : List (PlainPass D N (PlainShape N) PlainOp (PlainStep N) (Unit {0}) (Unit {0}) d m)) → Type 0
+    AllHear before after = Pairwise (λ w v. HearsAll (first_seen after) (seat_of domain w) (seat_of domain v)) before after
+
+    -- what the first pass has seen now is no longer than the longest list that one of the passes had seen
+    abbrev pub IsNoLonger : (before after : List (PlainPass D N (PlainShape N) PlainOp (PlainStep N) (Unit {0}) (Unit {0}) d m)) → Type 0
+    IsNoLonger before after = (most : ℕ) → All (λ p. length (seat_of domain p).seen ≤ most) before → length (first_seen after) ≤ most

@@ -5,4 +5,3 @@ pub mod Calls
 pub mod Laws
 pub mod Ends
 pub mod Rest
-pub mod Ready

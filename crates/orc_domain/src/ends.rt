@@ -1,9 +1,9 @@
 //! Passes that learn from all others.
 
-ghost use Rattle.std.specs.Prelude.{◌≡◌, ◌≢◌, ◌≤◌, ℕ, All, length};
+ghost use Rattle.std.specs.Prelude.{◌≡◌, ◌≢◌};
 ghost use Rattle.std.specs.List.{AllByRecursion};
 ghost use Rattle.orc_heap.specs.Seats.{IsIdle};
-ghost use Rattle.orc_domain.specs.Ends.{AreAll, HasOwn, HearsAll, Pairwise, Round, first_seen};
+ghost use Rattle.orc_domain.specs.Ends.{AllHear, AreAll, AreIdle, FirstSawAll, IsNoLonger, Round};
 ghost use Rattle.orc_domain.specs.Passes.{IsPassOf, seat_of};
 
 use crate::domain::{PlainDomain, PlainPass};
@@ -20,12 +20,12 @@ impl<D: Discipline> PlainDomain<D> {
     /// Lets the first pass learn from all others, twice. All passes have then seen one list.
     pub fn drain_all(&self, passes: &mut [PlainPass<D>])
         requires all { AreAll self.now passes.old }
-        requires idle { All (λ p. IsIdle (seat_of self.now p)) passes.old }
+        requires idle { AreIdle self.now passes.old }
         ensures all { AreAll self.now passes.new }
-        ensures idle { All (λ p. IsIdle (seat_of self.now p)) passes.new }
-        ensures own { All (λ p. HasOwn (first_seen self.now passes.new) (seat_of self.now p)) passes.new }
-        ensures learned { Pairwise (λ w v. HearsAll (first_seen self.now passes.new) (seat_of self.now w) (seat_of self.now v)) passes.old passes.new }
-        ensures longest { (most : ℕ) → All (λ p. length (seat_of self.now p).seen ≤ most) passes.old → length (first_seen self.now passes.new) ≤ most }
+        ensures idle { AreIdle self.now passes.new }
+        ensures own { FirstSawAll self.now passes.new }
+        ensures learned { AllHear self.now passes.old passes.new }
+        ensures longest { IsNoLonger self.now passes.old passes.new }
     {
         if let Some((first, others)) = passes.split_first_mut() {
             self.learn_round(first, others);

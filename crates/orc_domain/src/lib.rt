@@ -11,6 +11,7 @@ mod rest;
 mod steps;
 
 pub use domain::{PlainDomain, PlainPass, PlainRest};
+pub use names::{row_link, word_at};
 
 #[cfg(test)]
 mod tests;

@@ -3,11 +3,10 @@
 ghost use Rattle.std.specs.Prelude.{◌≡◌, ℕ, ◌∷◌, [], None, Some, IfErr, IfOk, refl, true};
 ghost use mathlib.Core.List.{IsPrefix};
 ghost use Rattle.orc_fault.specs.declared.Spent.{Spent};
-ghost use Rattle.orc_heap.specs.Allowed.{AllowedLater};
-ghost use Rattle.orc_heap.specs.Calls.{RefusesSwing, Swings, Tests, look_of, move_of};
+ghost use Rattle.orc_heap.specs.Calls.{MayLook, MayMove, RefusesSwing, Swings, Tests};
 ghost use Rattle.orc_heap.specs.OwnEvents.{Only};
 ghost use Rattle.orc_history.specs.Parts.{InPart};
-ghost use Rattle.orc_heap.specs.Seats.{HoldsPlace, HoldsWant, IsNotFresh, Seat, link_in, place_in};
+ghost use Rattle.orc_heap.specs.Seats.{HoldsPlace, HoldsWant, IsNotFresh, Seat};
 ghost use Rattle.orc_domain.specs.Passes.{IsPassOf, domain_numbers, journal_of, seat_of};
 
 use crate::domain::{PlainDomain, PlainPass};
@@ -113,10 +112,7 @@ impl<D: Discipline> Links for PlainDomain<D> {
         requires pass { IsPassOf self.now p.old }
         requires place { HoldsPlace (domain_numbers self.now).roots (seat_of self.now p.old).slots place.now }
         requires link { HoldsWant (seat_of self.now p.old).slots link.now }
-        requires allowed { AllowedLater (D.may (domain_numbers self.now)) (domain_numbers self.now)
-            (seat_of self.now p.old).agent (seat_of self.now p.old).seen
-            (place_in (seat_of self.now p.old).slots place.now) (link_in (seat_of self.now p.old).slots link.now)
-            (look_of (seat_of self.now p.old) place.now link.now note) }
+        requires allowed { MayLook (D.may (domain_numbers self.now)) (domain_numbers self.now) (seat_of self.now p.old) place.now link.now note }
         ensures pass { IsPassOf self.now p.new }
         ensures later { IsPrefix (journal_of p.old) (journal_of p.new) }
         ensures tested { Tests place.now link.now note (seat_of self.now p.old) result (seat_of self.now p.new) }
@@ -150,10 +146,7 @@ impl<D: Discipline> Links for PlainDomain<D> {
         requires place { HoldsPlace (domain_numbers self.now).roots (seat_of self.now p.old).slots place.now }
         requires linked { IsNotFresh (seat_of self.now p.old) place.now }
         requires links { HoldsWant (seat_of self.now p.old).slots from.now × HoldsWant (seat_of self.now p.old).slots to.now }
-        requires allowed { AllowedLater (D.may (domain_numbers self.now)) (domain_numbers self.now)
-            (seat_of self.now p.old).agent (seat_of self.now p.old).seen
-            (place_in (seat_of self.now p.old).slots place.now) (link_in (seat_of self.now p.old).slots from.now)
-            (move_of (seat_of self.now p.old) place.now from.now to.now note) }
+        requires allowed { MayMove (D.may (domain_numbers self.now)) (domain_numbers self.now) (seat_of self.now p.old) place.now from.now to.now note }
         ensures pass { IsPassOf self.now p.new }
         ensures later { IsPrefix (journal_of p.old) (journal_of p.new) }
         ensures swung { IfOk result (λ done. Swings place.now from.now to.now note (seat_of self.now p.old) done (seat_of self.now p.new)) }

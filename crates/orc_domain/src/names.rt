@@ -6,8 +6,8 @@ ghost use Rattle.orc_domain.specs.Rows.{row_link, target_link, word_at};
 use orc_heap::{At, Held, Want};
 use orc_words::{RowLink, Word};
 
-// The word of a place.
-pub(crate) fn word_at(place: &At) -> Word
+/// The link word of a place that a caller names.
+pub fn word_at(place: &At) -> Word
     ensures { result ≡ word_at place.now }
 {
     match *place {
@@ -16,8 +16,8 @@ pub(crate) fn word_at(place: &At) -> Word
     }
 }
 
-// A link, by the row of its target.
-pub(crate) fn row_link(link: &Want) -> RowLink
+/// The link that a caller names, by the row of its target.
+pub fn row_link(link: &Want) -> RowLink
     ensures { result ≡ row_link link.now }
 {
     match *link {

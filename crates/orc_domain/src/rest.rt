@@ -1,10 +1,10 @@
 //! Domains at rest.
 
-ghost use Rattle.std.specs.Prelude.{◌≡◌, ◌<◌, ◌⊎◌, ℕ, All};
+ghost use Rattle.std.specs.Prelude.{◌≡◌};
 ghost use Rattle.std.specs.List.{AllByRecursion};
 ghost use Rattle.orc_shared_words.specs.Lists.{Among};
 ghost use Rattle.orc_table.specs.Views.{shows};
-ghost use Rattle.orc_domain.specs.Ends.{AreAll, HasOwn, first_seen};
+ghost use Rattle.orc_domain.specs.Ends.{AreAll, FirstSawAll, first_seen};
 ghost use Rattle.orc_heap.specs.Moves.{gives_in};
 ghost use Rattle.orc_domain.specs.Passes.{IsPassOf, domain_bounds, seat_of};
 ghost use Rattle.orc_domain.specs.Rest.{CoversAll, TakesIn, rest_domain, rest_journal};
@@ -40,7 +40,7 @@ impl<D: Discipline> PlainDomain<D> {
     /// `drain_all`.
     pub fn rest(self, passes: Vec<PlainPass<D>>) -> PlainRest<D>
         requires all { AreAll self passes.items }
-        requires own { All (λ p. HasOwn (first_seen self passes.items) (seat_of self p)) passes.items }
+        requires own { FirstSawAll self passes.items }
         ensures domain { rest_domain result ≡ self }
         ensures journal { rest_journal result ≡ first_seen self passes.items }
     {

@@ -25,7 +25,8 @@ use Rattle.orc_fifo_rule.proofs.Leaving.{left_later}
 use Rattle.orc_heap.proofs.SingleActs.{link_same, shown_link, some_same}
 
 -- where root 0 names a node with a null link, nothing waits
-nothing_waits : (h : Heap) (es : List (Event FifoNote)) (id : ℕ) → IsRunning h es → shown h (Root 0) ≡ Some (link_to id) → shown h (Next id) ≡ Some null → waiting_after [] (entries_of es) ≡ []
+nothing_waits : (h : Heap) (es : List (Event FifoNote)) (id : ℕ) → IsRunning h es → shown h (Root 0) ≡ Some (link_to id)
+    → shown h (Next id) ≡ Some null → waiting_after [] (entries_of es) ≡ []
 nothing_waits h es id run root none =
     let same : id ≡ run.dummy = link_same id run.dummy (some_same (sym root ∙ run.head_is)) in
     let at : shown h (Next run.dummy) ≡ Some null = subst (λ (x : ℕ). shown h (Next x) ≡ Some null) same none in
@@ -51,7 +52,8 @@ empty_allowed n agent id seen holds begun named = λ more later at.
     }
 
 -- a Swing of root 1, wherever the node's link leads to the other
-pub swing_allowed : (n : HeapNumbers) (agent id next : ℕ) (seen : List (Event FifoNote)) → FifoHolds n seen → has_begun seen ≡ true → HasLink (run_heap n seen) id (link_to next)
+pub swing_allowed : (n : HeapNumbers) (agent id next : ℕ) (seen : List (Event FifoNote)) → FifoHolds n seen → has_begun seen ≡ true
+    → HasLink (run_heap n seen) id (link_to next)
     → AllowedLater (FifoMay n) n agent seen (Root 1) (link_to id) (event_by agent (Move (Root 1) (link_to id) (link_to next)) (Some Swing))
 swing_allowed n agent id next seen holds begun link = λ more later at.
     let es : List (Event FifoNote) = seen ++ more in
@@ -74,15 +76,18 @@ one_job h id job at j p a b =
     (job_is, omega (arith, at_is))
 
 -- what waits, where its first Put is this job
-front_waits : (waiting front back rest : List (ℕ × ℕ)) (put : ℕ × ℕ) (job at : ℕ) → waiting ≡ front ++ back → front ≡ put ∷ rest → put.0 ≡ job → put.1 ≡ at → waiting ≡ (job, at) ∷ (rest ++ back)
+front_waits : (waiting front back rest : List (ℕ × ℕ)) (put : ℕ × ℕ) (job at : ℕ) → waiting ≡ front ++ back → front ≡ put ∷ rest → put.0 ≡ job
+    → put.1 ≡ at → waiting ≡ (job, at) ∷ (rest ++ back)
 front_waits waiting front back rest put job at all first job_is at_is =
     let whole : put ≡ (job, at) = ap (λ (x : ℕ). (x, put.1)) job_is ∙ ap (λ (x : ℕ). (job, x)) at_is in
     all ∙ (ap (λ z. z ++ back) first ∙ ap (λ (x : ℕ × ℕ). x ∷ (rest ++ back)) whole)
 
 -- a Took of root 0, wherever root 1 has left the node, whose link leads to the other
-pub took_allowed : (n : HeapNumbers) (agent id next job at : ℕ) (seen : List (Event FifoNote)) → FifoHolds n seen → has_begun seen ≡ true → IsLeft (run_heap n seen) id
+pub took_allowed : (n : HeapNumbers) (agent id next job at : ℕ) (seen : List (Event FifoNote)) → FifoHolds n seen → has_begun seen ≡ true
+    → IsLeft (run_heap n seen) id
     → HasLink (run_heap n seen) id (link_to next) → HasJob (run_heap n seen) next job at
-    → AllowedLater (FifoMay n) n agent seen (Root 0) (link_to id) (event_by agent (Move (Root 0) (link_to id) (link_to next)) (Some (Entry (Took agent job at))))
+    → AllowedLater (FifoMay n) n agent seen (Root 0) (link_to id)
+    (event_by agent (Move (Root 0) (link_to id) (link_to next)) (Some (Entry (Took agent job at))))
 took_allowed n agent id next job at seen holds begun left link has = λ more later shows.
     let es : List (Event FifoNote) = seen ++ more in
     let h : Heap = run_heap n es in
@@ -92,7 +97,8 @@ took_allowed n agent id next job at seen holds begun left link has = λ more lat
     let away = left_later n seen more id holds begun left later.allowed in
     let j = job_later n seen more next job at has later.allowed in
     let same : run.dummy ≡ id = link_same run.dummy id (some_same (sym run.head_is ∙ shows)) in
-    let successor : shown h (Next run.dummy) ≡ Some (link_to next) = subst (λ (x : ℕ). shown h (Next x) ≡ Some (link_to next)) (sym same) (shown_link h id (link_to next) l) in
+    let successor : shown h (Next run.dummy) ≡ Some (link_to next) =
+    subst (λ (x : ℕ). shown h (Next x) ≡ Some (link_to next)) (sym same) (shown_link h id (link_to next) l) in
     let apart : run.dummy ≢ run.tail = λ x. away.tail_apart (run.tail_is ∙ ap (λ (y : ℕ). Some (link_to y)) (sym x ∙ same)) in
     let (put, rest, front_is, put_node, path) = path_step es h run.dummy run.tail run.front next run.to_tail successor apart in
     let (job_is, at_is) = one_job h next job at put.0 put.1 j (now.puts next put.0 put.1 put_node) in
@@ -110,7 +116,8 @@ took_allowed n agent id next job at seen holds begun left link has = λ more lat
     }
 
 -- a Put of the agent's fresh node, wherever root 1 named the other at some time and its link is null
-pub put_allowed : (n : HeapNumbers) (agent id fresh job at : ℕ) (seen : List (Event FifoNote)) → FifoHolds n seen → has_begun seen ≡ true → WasNamed (run_heap n seen) 1 id
+pub put_allowed : (n : HeapNumbers) (agent id fresh job at : ℕ) (seen : List (Event FifoNote)) → FifoHolds n seen → has_begun seen ≡ true
+    → WasNamed (run_heap n seen) 1 id
     → position_of (run_heap n seen) id ≡ at → at < 2 ^ 62 → slice_get (run_heap n seen).nodes fresh ≡ Some (node_to_put agent job at)
     → AllowedLater (FifoMay n) n agent seen (Next id) null (event_by agent (Move (Next id) null (link_to fresh)) (Some (Entry (Put agent job at))))
 put_allowed n agent id fresh job at seen holds begun named position low there = λ more later shows.
@@ -119,8 +126,10 @@ put_allowed n agent id fresh job at seen holds begun named position low there = 
     let now = holds_later n seen more holds later.allowed in
     let begun_now = begun_more seen more begun in
     let was = named_later n seen more 1 id named later.allowed in
-    let node = node_later n (FifoHolds n) (FifoMay n) (fifo_keeps n) (fifo_fits n) (fifo_moves_linked n) agent fresh (node_to_put agent job at) seen more holds there refl refl refl later in
-    let place : at ≡ position_of h 0 + puts_in (entries_of es) = sym position ∙ (sym (position_later n seen more id named.linked later.allowed) ∙ next_position n es id now begun_now was shows) in
+    let node = node_later n (FifoHolds n) (FifoMay n) (fifo_keeps n) (fifo_fits n) (fifo_moves_linked n) agent fresh
+    (node_to_put agent job at) seen more holds there refl refl refl later in
+    let place : at ≡ position_of h 0 + puts_in (entries_of es) =
+    sym position ∙ (sym (position_later n seen more id named.linked later.allowed) ∙ next_position n es id now begun_now was shows) in
     record {
       fits = (shows, record { node = node_to_put agent job at; there = node; known = inl refl });
       may_act = record {

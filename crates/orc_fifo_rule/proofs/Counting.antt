@@ -87,7 +87,8 @@ begins_few root es = cases (root_has_begun root es)
     cases false = omega arith
 
 begins_now : (root : ℕ) (es : List (Event FifoNote)) (e : Event FifoNote) → is_begin_of root e.act e.note ≡ true → root_has_begun root (es ++ e ∷ []) ≡ true
-begins_now root es e is = list_any-append (λ (x : Event FifoNote). is_begin_of root x.act x.note) es (e ∷ []) ∙ last (root_has_begun root es) (is_begin_of root e.act e.note) is
+begins_now root es e is = list_any-append (λ (x : Event FifoNote). is_begin_of root x.act x.note) es (e ∷ [])
+    ∙ last (root_has_begun root es) (is_begin_of root e.act e.note) is
   where
     last : (a b : Bool) → b ≡ true → a || (b || false) ≡ true
     last true b i = refl
@@ -112,18 +113,22 @@ opening_begin n es agent r from to holds early o may =
     let points : points_to e.act 0 ≡ true = subst (λ (l : Link). names_node l.to 0 ≡ true) (sym b.to_is) refl in
     record {
       first = by_root r b.root_is before after (links_more es e 0 points);
-      others = λ id. links_same es e (suc id) (subst (λ (l : Link). names_node l.to (suc id) ≡ false) (sym b.to_is) (ne_eqb 0 (suc id) (λ x. omega (arith, x)))) ∙ o.others id;
+      others = λ id. links_same es e (suc id)
+          (subst (λ (l : Link). names_node l.to (suc id) ≡ false) (sym b.to_is) (ne_eqb 0 (suc id) (λ x. omega (arith, x)))) ∙ o.others id;
     }
   where
     by_root : (q : ℕ) → q < 2 → begins_in q es ≡ 0 → begins_in q (es ++ event_by agent (Move (Root r) from to) (Some Begin) ∷ []) ≡ 1
         → links_made (es ++ event_by agent (Move (Root r) from to) (Some Begin) ∷ []) 0 ≡ links_made es 0 + 1
         → links_made (es ++ event_by agent (Move (Root r) from to) (Some Begin) ∷ []) 0
-        ≤ begins_in 0 (es ++ event_by agent (Move (Root r) from to) (Some Begin) ∷ []) + begins_in 1 (es ++ event_by agent (Move (Root r) from to) (Some Begin) ∷ [])
+        ≤ begins_in 0 (es ++ event_by agent (Move (Root r) from to) (Some Begin) ∷ [])
+        + begins_in 1 (es ++ event_by agent (Move (Root r) from to) (Some Begin) ∷ [])
     by_root zero low before after more = omega (arith, o.first, before, after, more, begins_more 1 es (event_by agent (Move (Root r) from to) (Some Begin)))
-    by_root (suc zero) low before after more = omega (arith, o.first, before, after, more, begins_more 0 es (event_by agent (Move (Root r) from to) (Some Begin)))
+    by_root (suc zero) low before after more =
+        omega (arith, o.first, before, after, more, begins_more 0 es (event_by agent (Move (Root r) from to) (Some Begin)))
     by_root (suc (suc q)) low before after more = absurd (omega (arith, low))
 
-opening_links_next : (n : HeapNumbers) (es : List (Event FifoNote)) (e : Event FifoNote) → FifoHolds n es → has_begun es ≡ false → OpeningLinks es → FifoMay n es e → OpeningLinks (es ++ e ∷ [])
+opening_links_next : (n : HeapNumbers) (es : List (Event FifoNote)) (e : Event FifoNote) → FifoHolds n es → has_begun es ≡ false → OpeningLinks es
+    → FifoMay n es e → OpeningLinks (es ++ e ∷ [])
 opening_links_next n es e holds early o may =
     each_kind (run_heap n es) (λ act noted. FifoMay n es (event_by e.agent act noted) → OpeningLinks (es ++ event_by e.agent act noted ∷ []))
     (λ act plain m. opening_same es (event_by e.agent act None) o (λ id. plain_points act id plain))
@@ -153,8 +158,10 @@ record Counted (n : HeapNumbers) (es : List (Event FifoNote)) : Type 0 where
   tail_is : shown (run_heap n es) (Root 1) ≡ Some (link_to tail)
   count : (id : ℕ) → CountsAt (run_heap n es) es dummy tail id
 
-counts_missed : (n : HeapNumbers) (es : List (Event FifoNote)) (e : Event FifoNote) (id dummy tail dummy_now tail_now : ℕ) → FifoMay n es e → points_to e.act id ≡ false
-    → position_of (run_heap n es) dummy ≤ position_of (run_heap n (es ++ e ∷ [])) dummy_now → position_of (run_heap n es) tail ≤ position_of (run_heap n (es ++ e ∷ [])) tail_now
+counts_missed : (n : HeapNumbers) (es : List (Event FifoNote)) (e : Event FifoNote) (id dummy tail dummy_now tail_now : ℕ) → FifoMay n es e
+    → points_to e.act id ≡ false
+    → position_of (run_heap n es) dummy ≤ position_of (run_heap n (es ++ e ∷ [])) dummy_now
+    → position_of (run_heap n es) tail ≤ position_of (run_heap n (es ++ e ∷ [])) tail_now
     → CountsAt (run_heap n es) es dummy tail id → CountsAt (run_heap n (es ++ e ∷ [])) (es ++ e ∷ []) dummy_now tail_now id
 counts_missed n es e id dummy tail dummy_now tail_now may misses d t (inl none) = inl (links_same es e id misses ∙ none)
 counts_missed n es e id dummy tail dummy_now tail_now may misses d t (inr (l, few)) =
@@ -162,7 +169,8 @@ counts_missed n es e id dummy tail dummy_now tail_now may misses d t (inr (l, fe
 
 counted_next : (n : HeapNumbers) (es : List (Event FifoNote)) (e : Event FifoNote) (c : Counted n es) (dummy tail : ℕ) → FifoMay n es e
     → shown (run_heap n (es ++ e ∷ [])) (Root 0) ≡ Some (link_to dummy) → shown (run_heap n (es ++ e ∷ [])) (Root 1) ≡ Some (link_to tail)
-    → position_of (run_heap n es) c.dummy ≤ position_of (run_heap n (es ++ e ∷ [])) dummy → position_of (run_heap n es) c.tail ≤ position_of (run_heap n (es ++ e ∷ [])) tail
+    → position_of (run_heap n es) c.dummy ≤ position_of (run_heap n (es ++ e ∷ [])) dummy
+    → position_of (run_heap n es) c.tail ≤ position_of (run_heap n (es ++ e ∷ [])) tail
     → ((id : ℕ) → points_to e.act id ≡ true → CountsAt (run_heap n (es ++ e ∷ [])) (es ++ e ∷ []) dummy tail id) → Counted n (es ++ e ∷ [])
 counted_next n es e c dummy tail may head_is tail_is d t hit = record {
   dummy = dummy;
@@ -177,10 +185,12 @@ counted_next n es e c dummy tail may head_is tail_is d t hit = record {
     by_test id false is = counts_missed n es e id c.dummy c.tail dummy tail may is d t (c.count id)
 
 head_linked : (n : HeapNumbers) (es : List (Event FifoNote)) (c : Counted n es) → IsRunning (run_heap n es) es → IsLinkedNode (run_heap n es) c.dummy
-head_linked n es c run = subst (λ (x : ℕ). IsLinkedNode (run_heap n es) x) (link_same run.dummy c.dummy (some_same (sym run.head_is ∙ c.head_is))) (dummy_linked (run_heap n es) es run)
+head_linked n es c run = subst (λ (x : ℕ). IsLinkedNode (run_heap n es) x) (link_same run.dummy c.dummy (some_same (sym run.head_is ∙ c.head_is)))
+    (dummy_linked (run_heap n es) es run)
 
 last_linked : (n : HeapNumbers) (es : List (Event FifoNote)) (c : Counted n es) → IsRunning (run_heap n es) es → IsLinkedNode (run_heap n es) c.tail
-last_linked n es c run = subst (λ (x : ℕ). IsLinkedNode (run_heap n es) x) (link_same run.tail c.tail (some_same (sym run.tail_is ∙ c.tail_is))) (tail_linked (run_heap n es) es run)
+last_linked n es c run = subst (λ (x : ℕ). IsLinkedNode (run_heap n es) x) (link_same run.tail c.tail (some_same (sym run.tail_is ∙ c.tail_is)))
+    (tail_linked (run_heap n es) es run)
 
 same_le : (a b : ℕ) → b ≡ a → a ≤ b
 same_le a b e = omega (arith, e)
@@ -196,7 +206,8 @@ missed : {A : Type 0} (b : Bool) → b ≡ false → b ≡ true → A
 missed b e f = absurd (late b e f)
 
 -- a node's successor has the next position
-successor_position : (n : HeapNumbers) (es : List (Event FifoNote)) (id next : ℕ) → FifoHolds n es → HasLink (run_heap n es) id (link_to next) → position_of (run_heap n es) next ≡ position_of (run_heap n es) id + 1
+successor_position : (n : HeapNumbers) (es : List (Event FifoNote)) (id next : ℕ) → FifoHolds n es → HasLink (run_heap n es) id (link_to next)
+    → position_of (run_heap n es) next ≡ position_of (run_heap n es) id + 1
 successor_position n es id next holds link =
     let h : Heap = run_heap n es in
     elim (holds.links id (link_to next) link) [
@@ -207,14 +218,16 @@ successor_position n es id next holds link =
     ]
 
 -- a root that steps on comes to a node that it had not come to
-came_by_tail : (n : HeapNumbers) (es : List (Event FifoNote)) (e : Event FifoNote) (id dummy tail : ℕ) → FifoMay n es e → IsLinkedNode (run_heap n es) id → points_to e.act id ≡ true
+came_by_tail : (n : HeapNumbers) (es : List (Event FifoNote)) (e : Event FifoNote) (id dummy tail : ℕ) → FifoMay n es e
+    → IsLinkedNode (run_heap n es) id → points_to e.act id ≡ true
     → position_of (run_heap n es) dummy ≤ position_of (run_heap n (es ++ e ∷ [])) dummy → position_of (run_heap n es) id ≡ position_of (run_heap n es) tail + 1
     → CountsAt (run_heap n es) es dummy tail id → CountsAt (run_heap n (es ++ e ∷ [])) (es ++ e ∷ []) dummy id id
 came_by_tail n es e id dummy tail may l points d step (inl none) = inr (linked_next n es e id may l, omega (arith, none, links_more es e id points))
 came_by_tail n es e id dummy tail may l points d step (inr (was, few)) =
     inr (linked_next n es e id may l, omega (arith, few, links_more es e id points, position_next n es e id may l, d, step))
 
-came_by_head : (n : HeapNumbers) (es : List (Event FifoNote)) (e : Event FifoNote) (id dummy tail : ℕ) → FifoMay n es e → IsLinkedNode (run_heap n es) id → points_to e.act id ≡ true
+came_by_head : (n : HeapNumbers) (es : List (Event FifoNote)) (e : Event FifoNote) (id dummy tail : ℕ) → FifoMay n es e
+    → IsLinkedNode (run_heap n es) id → points_to e.act id ≡ true
     → position_of (run_heap n es) tail ≤ position_of (run_heap n (es ++ e ∷ [])) tail → position_of (run_heap n es) id ≡ position_of (run_heap n es) dummy + 1
     → CountsAt (run_heap n es) es dummy tail id → CountsAt (run_heap n (es ++ e ∷ [])) (es ++ e ∷ []) id tail id
 came_by_head n es e id dummy tail may l points t step (inl none) = inr (linked_next n es e id may l, omega (arith, none, links_more es e id points))
@@ -231,7 +244,8 @@ counted_swing n es agent r from to holds run c may =
     let (same, link) = tail_steps h es run r from to s one may.fits.0 in
     let tail_same : s.id ≡ c.tail = same ∙ link_same run.tail c.tail (some_same (sym run.tail_is ∙ c.tail_is)) in
     let l = successor_linked n es s.id s.next holds link in
-    let step : position_of h s.next ≡ position_of h c.tail + 1 = successor_position n es s.id s.next holds link ∙ ap (λ (x : ℕ). position_of h x + 1) tail_same in
+    let step : position_of h s.next ≡ position_of h c.tail + 1 = successor_position n es s.id s.next holds link
+    ∙ ap (λ (x : ℕ). position_of h x + 1) tail_same in
     let moved : shown (heap_after agent (Move (Root r) from to) h) (Root 1) ≡ Some to =
     subst (λ (x : ℕ). shown (heap_after agent (Move (Root r) from to) h) (Root x) ≡ Some to) one (root_moved agent r from to h may.fits.0) in
     let d = same_le _ _ (position_next n es e c.dummy may (head_linked n es c run)) in
@@ -242,8 +256,10 @@ counted_swing n es agent r from to holds run c may =
     subst (λ (x : ℕ). CountsAt (run_heap n (es ++ e ∷ [])) (es ++ e ∷ []) c.dummy s.next x) next_is
     (came_by_tail n es e s.next c.dummy c.tail may l (subst (λ (x : ℕ). points_to e.act x ≡ true) (sym next_is) points) d step (c.count s.next)))
 
-counted_took : (n : HeapNumbers) (es : List (Event FifoNote)) (agent r by job at : ℕ) (from to : Link) → FifoHolds n es → IsRunning (run_heap n es) es → Counted n es
-    → FifoMay n es (event_by agent (Move (Root r) from to) (Some (Entry (Took by job at)))) → Counted n (es ++ event_by agent (Move (Root r) from to) (Some (Entry (Took by job at))) ∷ [])
+counted_took : (n : HeapNumbers) (es : List (Event FifoNote)) (agent r by job at : ℕ) (from to : Link) → FifoHolds n es → IsRunning (run_heap n es) es
+    → Counted n es
+    → FifoMay n es (event_by agent (Move (Root r) from to) (Some (Entry (Took by job at))))
+    → Counted n (es ++ event_by agent (Move (Root r) from to) (Some (Entry (Took by job at))) ∷ [])
 counted_took n es agent r by job at from to holds run c may =
     let e : Event FifoNote = event_by agent (Move (Root r) from to) (Some (Entry (Took by job at))) in
     let h : Heap = run_heap n es in
@@ -252,12 +268,14 @@ counted_took n es agent r by job at from to holds run c may =
     let (same, link) = head_steps h es run r from to s zero_root may.fits.0 in
     let head_same : s.id ≡ c.dummy = same ∙ link_same run.dummy c.dummy (some_same (sym run.head_is ∙ c.head_is)) in
     let l = successor_linked n es s.id s.next holds link in
-    let step : position_of h s.next ≡ position_of h c.dummy + 1 = successor_position n es s.id s.next holds link ∙ ap (λ (x : ℕ). position_of h x + 1) head_same in
+    let step : position_of h s.next ≡ position_of h c.dummy + 1 = successor_position n es s.id s.next holds link
+    ∙ ap (λ (x : ℕ). position_of h x + 1) head_same in
     let moved : shown (heap_after agent (Move (Root r) from to) h) (Root 0) ≡ Some to =
     subst (λ (x : ℕ). shown (heap_after agent (Move (Root r) from to) h) (Root x) ≡ Some to) zero_root (root_moved agent r from to h may.fits.0) in
     let t = same_le _ _ (position_next n es e c.tail may (last_linked n es c run)) in
     counted_next n es e c s.next c.tail may (root_at n es e 0 ∙ (moved ∙ ap (λ (x : Link). Some x) s.to_is))
-    (root_at n es e 1 ∙ (root_other agent r 1 from to h (λ x. omega (arith, x, zero_root)) ∙ c.tail_is)) (omega (arith, step, position_next n es e s.next may l)) t
+    (root_at n es e 1 ∙ (root_other agent r 1 from to h (λ x. omega (arith, x, zero_root)) ∙ c.tail_is))
+    (omega (arith, step, position_next n es e s.next may l)) t
     (λ id points.
     let next_is : s.next ≡ id = names to s.next id s.to_is points in
     subst (λ (x : ℕ). CountsAt (run_heap n (es ++ e ∷ [])) (es ++ e ∷ []) s.next c.tail x) next_is
@@ -269,8 +287,10 @@ unfolding own_link
 own_one zero ne = absurd (ne refl)
 own_one (suc id) ne = refl
 
-counted_put : (n : HeapNumbers) (es : List (Event FifoNote)) (agent t by job at : ℕ) (from to : Link) → FifoHolds n es → IsRunning (run_heap n es) es → Counted n es
-    → FifoMay n es (event_by agent (Move (Next t) from to) (Some (Entry (Put by job at)))) → Counted n (es ++ event_by agent (Move (Next t) from to) (Some (Entry (Put by job at))) ∷ [])
+counted_put : (n : HeapNumbers) (es : List (Event FifoNote)) (agent t by job at : ℕ) (from to : Link) → FifoHolds n es → IsRunning (run_heap n es) es
+    → Counted n es
+    → FifoMay n es (event_by agent (Move (Next t) from to) (Some (Entry (Put by job at))))
+    → Counted n (es ++ event_by agent (Move (Next t) from to) (Some (Entry (Put by job at))) ∷ [])
 counted_put n es agent t by job at from to holds run c may =
     let e : Event FifoNote = event_by agent (Move (Next t) from to) (Some (Entry (Put by job at))) in
     let h : Heap = run_heap n es in
@@ -279,14 +299,16 @@ counted_put n es agent t by job at from to holds run c may =
     counted_still n es e run c may (root_at n es e 0 ∙ root_next agent t 0 from to h) (root_at n es e 1 ∙ root_next agent t 1 from to h)
     (λ id points.
     let id_is : m.id ≡ id = names to m.id id m.to_is points in
-    let new : IsLinkedNode (run_heap n (es ++ e ∷ [])) id = subst (λ (x : ℕ). IsLinkedNode (run_heap n (es ++ e ∷ [])) x) id_is (record { node = j.node; there = j.there; linked = j.linked }) in
+    let new : IsLinkedNode (run_heap n (es ++ e ∷ [])) id =
+    subst (λ (x : ℕ). IsLinkedNode (run_heap n (es ++ e ∷ [])) x) id_is (record { node = j.node; there = j.there; linked = j.linked }) in
     let own : own_link id ≡ 1 = own_one id (λ x. unlinked_apart h 0 m.id m.node run.zero m.there m.unlinked (x ∙ sym id_is)) in
     elim (c.count id) [
       | inl none ↦ inr (new, omega (arith, none, own, links_more es e id points))
       | inr was ↦ absurd (unlinked_apart h id m.id m.node was.0 m.there m.unlinked (sym id_is))
     ])
 
-counts_next : (n : HeapNumbers) (es : List (Event FifoNote)) (e : Event FifoNote) → FifoHolds n es → has_begun es ≡ true → Counted n es → FifoMay n es e → Counted n (es ++ e ∷ [])
+counts_next : (n : HeapNumbers) (es : List (Event FifoNote)) (e : Event FifoNote) → FifoHolds n es → has_begun es ≡ true → Counted n es
+    → FifoMay n es e → Counted n (es ++ e ∷ [])
 counts_next n es e holds begun c may =
     let h : Heap = run_heap n es in
     let run = holds.running begun in
@@ -294,7 +316,8 @@ counts_next n es e holds begun c may =
     (λ act plain m.
     let x : Event FifoNote = event_by e.agent act None in
     let roots = plain_roots e.agent act h plain in
-    counted_still n es x run c m (root_at n es x 0 ∙ ap (λ (l : List Link). slice_get l 0) roots) (root_at n es x 1 ∙ ap (λ (l : List Link). slice_get l 1) roots)
+    counted_still n es x run c m (root_at n es x 0 ∙ ap (λ (l : List Link). slice_get l 0) roots)
+    (root_at n es x 1 ∙ ap (λ (l : List Link). slice_get l 1) roots)
     (λ id points. missed (points_to act id) (plain_points act id plain) points))
     (λ r from to b m. absurd (begin_late h es r run b.root_is (m.fits.0 ∙ ap (λ (x : Link). Some x) b.from_is)))
     (λ r from to b m. counted_swing n es e.agent r from to holds run c m)
@@ -307,11 +330,13 @@ counts_next n es e holds begun c may =
 
 -- the second Begin
 
-counts_begin : (n : HeapNumbers) (es : List (Event FifoNote)) (id : ℕ) → FifoHolds n es → has_begun es ≡ true → OpeningLinks es → CountsAt (run_heap n es) es 0 0 id
+counts_begin : (n : HeapNumbers) (es : List (Event FifoNote)) (id : ℕ) → FifoHolds n es → has_begun es ≡ true → OpeningLinks es
+    → CountsAt (run_heap n es) es 0 0 id
 counts_begin n es zero holds begun o = inr ((holds.running begun).zero, omega (arith, o.first, begins_few 0 es, begins_few 1 es))
 counts_begin n es (suc id) holds begun o = inl (o.others id)
 
-begin_counted : (n : HeapNumbers) (es : List (Event FifoNote)) (e : Event FifoNote) → FifoHolds n es → has_begun es ≡ false → OpeningLinks es → FifoMay n es e → has_begun (es ++ e ∷ []) ≡ true → Counted n (es ++ e ∷ [])
+begin_counted : (n : HeapNumbers) (es : List (Event FifoNote)) (e : Event FifoNote) → FifoHolds n es → has_begun es ≡ false → OpeningLinks es
+    → FifoMay n es e → has_begun (es ++ e ∷ []) ≡ true → Counted n (es ++ e ∷ [])
 begin_counted n es e holds early o may now =
     let after = fifo_keeps n es e holds may in
     let (zero_begun, one_begun) = (and-eq-true_iff (root_has_begun 0 (es ++ e ∷ [])) (root_has_begun 1 (es ++ e ∷ []))).0 now in

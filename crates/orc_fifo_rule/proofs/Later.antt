@@ -22,7 +22,8 @@ use Rattle.orc_fifo_rule.specs.Laws.Paths.{put_at_last}
 use Rattle.orc_fifo_rule.specs.Laws.Running.{root_at}
 use Rattle.orc_heap.proofs.SingleActs.{has_link, link_same, null_to, plain_roots, root_either, root_next, shown_link, some_same}
 
-no_link : (n : HeapNumbers) (before after : List (Event FifoNote)) (id : ℕ) (link : Link) → [] ≡ before ++ after → HasLink (run_heap n before) id link → HasLink (run_heap {N = FifoNote} n []) id link
+no_link : (n : HeapNumbers) (before after : List (Event FifoNote)) (id : ℕ) (link : Link) → [] ≡ before ++ after → HasLink (run_heap n before) id link
+    → HasLink (run_heap {N = FifoNote} n []) id link
 no_link n [] after id link split l = l
 no_link n (e ∷ before) after id link split l = let bad : ⊥ = cc in absurd bad
 
@@ -42,22 +43,28 @@ pub holds_later : (n : HeapNumbers) (seen more : List (Event FifoNote)) → Fifo
 holds_later n seen more holds all = stays (FifoMay n) (FifoHolds n) (λ es e h may. fifo_keeps n es e h may) seen more holds all
 
 -- a once linked node keeps its position, a link to a node, and the job of a Put
-pub linked_later : (n : HeapNumbers) (seen more : List (Event FifoNote)) (id : ℕ) → IsLinkedNode (run_heap n seen) id → AllAllowed (FifoMay n) seen more → IsLinkedNode (run_heap n (seen ++ more)) id
+pub linked_later : (n : HeapNumbers) (seen more : List (Event FifoNote)) (id : ℕ) → IsLinkedNode (run_heap n seen) id
+    → AllAllowed (FifoMay n) seen more → IsLinkedNode (run_heap n (seen ++ more)) id
 linked_later n seen more id l all = stays (FifoMay n) (λ es. IsLinkedNode (run_heap n es) id) (λ es e x may. linked_next n es e id may x) seen more l all
 
 pub position_later : (n : HeapNumbers) (seen more : List (Event FifoNote)) (id : ℕ) → IsLinkedNode (run_heap n seen) id → AllAllowed (FifoMay n) seen more
     → position_of (run_heap n (seen ++ more)) id ≡ position_of (run_heap n seen) id
 position_later n seen more id l all =
     let P : List (Event FifoNote) → Type 0 = λ es. IsLinkedNode (run_heap n es) id × (position_of (run_heap n es) id ≡ position_of (run_heap n seen) id) in
-    let r : P (seen ++ more) = stays (FifoMay n) P (λ es e x may. (linked_next n es e id may x.0, position_next n es e id may x.0 ∙ x.1)) seen more (l, refl) all in
+    let r : P (seen ++ more) = stays (FifoMay n) P (λ es e x may. (linked_next n es e id may x.0, position_next n es e id may x.0 ∙ x.1)) seen more
+    (l, refl) all in
     r.1
 
-pub link_later : (n : HeapNumbers) (seen more : List (Event FifoNote)) (id next : ℕ) → HasLink (run_heap n seen) id (link_to next) → AllAllowed (FifoMay n) seen more
+pub link_later : (n : HeapNumbers) (seen more : List (Event FifoNote)) (id next : ℕ) → HasLink (run_heap n seen) id (link_to next)
+    → AllAllowed (FifoMay n) seen more
     → HasLink (run_heap n (seen ++ more)) id (link_to next)
-link_later n seen more id next l all = stays (FifoMay n) (λ es. HasLink (run_heap n es) id (link_to next)) (λ es e x may. node_next n es e id next may x) seen more l all
+link_later n seen more id next l all =
+    stays (FifoMay n) (λ es. HasLink (run_heap n es) id (link_to next)) (λ es e x may. node_next n es e id next may x) seen more l all
 
-pub job_later : (n : HeapNumbers) (seen more : List (Event FifoNote)) (id job at : ℕ) → HasJob (run_heap n seen) id job at → AllAllowed (FifoMay n) seen more → HasJob (run_heap n (seen ++ more)) id job at
-job_later n seen more id job at j all = stays (FifoMay n) (λ es. HasJob (run_heap n es) id job at) (λ es e x may. job_next n es e id job at may x) seen more j all
+pub job_later : (n : HeapNumbers) (seen more : List (Event FifoNote)) (id job at : ℕ) → HasJob (run_heap n seen) id job at
+    → AllAllowed (FifoMay n) seen more → HasJob (run_heap n (seen ++ more)) id job at
+job_later n seen more id job at j all =
+    stays (FifoMay n) (λ es. HasJob (run_heap n es) id job at) (λ es e x may. job_next n es e id job at may x) seen more j all
 
 -- the first position, once both roots have begun
 pub first_later : (n : HeapNumbers) (seen more : List (Event FifoNote)) → FifoHolds n seen → has_begun seen ≡ true → AllAllowed (FifoMay n) seen more
@@ -65,7 +72,8 @@ pub first_later : (n : HeapNumbers) (seen more : List (Event FifoNote)) → Fifo
 first_later n seen more holds begun all = position_later n seen more 0 (holds.running begun).zero all
 
 -- a root that names the node still does, or it stepped on to the node's successor
-root_stays : (n : HeapNumbers) (es : List (Event FifoNote)) (e : Event FifoNote) (root id : ℕ) → FifoMay n es e → IsLinkedNode (run_heap n es) id → shown (run_heap n es) (Root root) ≡ Some (link_to id)
+root_stays : (n : HeapNumbers) (es : List (Event FifoNote)) (e : Event FifoNote) (root id : ℕ) → FifoMay n es e → IsLinkedNode (run_heap n es) id
+    → shown (run_heap n es) (Root root) ≡ Some (link_to id)
     → (shown (run_heap n (es ++ e ∷ [])) (Root root) ≡ Some (link_to id)) ⊎ ((next : ℕ) × HasLink (run_heap n es) id (link_to next))
 root_stays n es e root id may l at =
     let h : Heap = run_heap n es in
@@ -85,7 +93,8 @@ root_stays n es e root id may l at =
       | inl c ↦ inr (steps_from h id from to b.steps l (some_same (sym (same_root h r root c.0 at) ∙ m.fits.0)))
       | inr c ↦ inl (root_at n es (event_by e.agent (Move (Root r) from to) (Some (Entry (Took by job place)))) root ∙ c.1)
     ])
-    (λ t from to by job place b m. inl (root_at n es (event_by e.agent (Move (Next t) from to) (Some (Entry (Put by job place)))) root ∙ (root_next e.agent t root from to h ∙ at)))
+    (λ t from to by job place b m. inl (root_at n es (event_by e.agent (Move (Next t) from to) (Some (Entry (Put by job place)))) root
+    ∙ (root_next e.agent t root from to h ∙ at)))
     (λ d link by b m. inl (root_at n es (event_by e.agent (Look (Next d) link) (Some (Entry (Empty by)))) root ∙ at))
     e.act e.note may.may_act may
   where
@@ -97,7 +106,8 @@ root_stays n es e root id may l at =
         let same : s.id ≡ id = link_same s.id id (sym s.from_is ∙ sym from_is) in
         (s.next, has_link h id (link_to s.next) l (subst (λ (x : ℕ). shown h (Next x) ≡ Some (link_to s.next)) same s.successor))
 
-pub named_next : (n : HeapNumbers) (es : List (Event FifoNote)) (e : Event FifoNote) (root id : ℕ) → FifoMay n es e → WasNamed (run_heap n es) root id → WasNamed (run_heap n (es ++ e ∷ [])) root id
+pub named_next : (n : HeapNumbers) (es : List (Event FifoNote)) (e : Event FifoNote) (root id : ℕ) → FifoMay n es e → WasNamed (run_heap n es) root id
+    → WasNamed (run_heap n (es ++ e ∷ [])) root id
 named_next n es e root id may w = record {
   linked = linked_next n es e id may w.linked;
   either = elim w.either [
@@ -106,15 +116,18 @@ named_next n es e root id may w = record {
   ];
 }
 
-pub named_later : (n : HeapNumbers) (seen more : List (Event FifoNote)) (root id : ℕ) → WasNamed (run_heap n seen) root id → AllAllowed (FifoMay n) seen more → WasNamed (run_heap n (seen ++ more)) root id
-named_later n seen more root id w all = stays (FifoMay n) (λ es. WasNamed (run_heap n es) root id) (λ es e x may. named_next n es e root id may x) seen more w all
+pub named_later : (n : HeapNumbers) (seen more : List (Event FifoNote)) (root id : ℕ) → WasNamed (run_heap n seen) root id
+    → AllAllowed (FifoMay n) seen more → WasNamed (run_heap n (seen ++ more)) root id
+named_later n seen more root id w all =
+    stays (FifoMay n) (λ es. WasNamed (run_heap n es) root id) (λ es e x may. named_next n es e root id may x) seen more w all
 
 -- where its link is null, the root still names it
 pub still_named : (h : Heap) (root id : ℕ) → WasNamed h root id → shown h (Next id) ≡ Some null → shown h (Root root) ≡ Some (link_to id)
 still_named h root id w none = elim w.either [ inl at ↦ at | inr l ↦ absurd (null_to l.0 (some_same (sym none ∙ shown_link h id (link_to l.0) l.1))) ]
 
 -- the last node says the next position
-pub next_position : (n : HeapNumbers) (es : List (Event FifoNote)) (id : ℕ) → FifoHolds n es → has_begun es ≡ true → WasNamed (run_heap n es) 1 id → shown (run_heap n es) (Next id) ≡ Some null
+pub next_position : (n : HeapNumbers) (es : List (Event FifoNote)) (id : ℕ) → FifoHolds n es → has_begun es ≡ true → WasNamed (run_heap n es) 1 id
+    → shown (run_heap n es) (Next id) ≡ Some null
     → position_of (run_heap n es) id ≡ position_of (run_heap n es) 0 + puts_in (entries_of es)
 next_position n es id holds begun w none =
     let h : Heap = run_heap n es in

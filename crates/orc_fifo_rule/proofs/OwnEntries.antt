@@ -17,5 +17,6 @@ of_note first history by (Some Begin) may = tt
 of_note first history by (Some (Entry entry)) may = (may.0, tt)
 
 -- each entry of an allowed event is of the event's agent
-pub entries_own : (n : HeapNumbers) (es : List (Event FifoNote)) (e : Event FifoNote) → FifoMay n es e → AllByRecursion (λ (x : QueueEntry). agent_of_entry x ≡ e.agent) (entries_in e.note)
+pub entries_own : (n : HeapNumbers) (es : List (Event FifoNote)) (e : Event FifoNote) → FifoMay n es e
+    → AllByRecursion (λ (x : QueueEntry). agent_of_entry x ≡ e.agent) (entries_in e.note)
 entries_own n es e may = of_note _ _ e.agent e.note may.may_enter

@@ -20,7 +20,8 @@ root_names n es (suc zero) holds begun low = let run = holds.running begun in (r
 root_names n es (suc (suc root)) holds begun low = absurd (omega (arith, low))
 
 -- so the link that a look of it finds is a link to a node, which it has named from then on
-pub look_names : (n : HeapNumbers) (es : List (Event FifoNote)) (root : ℕ) (link : Link) → FifoHolds n es → has_begun es ≡ true → root < 2 → shown (run_heap n es) (Root root) ≡ Some link
+pub look_names : (n : HeapNumbers) (es : List (Event FifoNote)) (root : ℕ) (link : Link) → FifoHolds n es → has_begun es ≡ true → root < 2
+    → shown (run_heap n es) (Root root) ≡ Some link
     → (id : ℕ) × (link ≡ link_to id) × WasNamed (run_heap n es) root id
 look_names n es root link holds begun low at =
     let (id, here, linked) = root_names n es root holds begun low in
@@ -40,5 +41,6 @@ pub successor_job : (n : HeapNumbers) (es : List (Event FifoNote)) (id next : �
 successor_job n es id next holds l =
     elim (link_leads n es id (link_to next) holds l) [
       | inl none ↦ absurd (null_to next (sym none))
-      | inr leads ↦ let (x, job, is, has) = leads in (job, subst (λ (y : ℕ). HasJob (run_heap n es) y job (position_of (run_heap n es) id)) (sym (link_same next x is)) has)
+      | inr leads ↦ let (x, job, is, has) = leads in
+          (job, subst (λ (y : ℕ). HasJob (run_heap n es) y job (position_of (run_heap n es) id)) (sym (link_same next x is)) has)
     ]

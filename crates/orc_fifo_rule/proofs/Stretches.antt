@@ -35,16 +35,26 @@ lags_running : (h : Heap) (es : List (Event FifoNote)) → (run : IsRunning h es
 lags_running h es run = by_back run.back run.to_last run.short
   where
     by_back : (back : List (ℕ × ℕ)) → IsPath es h run.tail back run.last → length back ≤ 1 → (lag : ℕ) × Lags h lag × (lag ≤ 1)
-    by_back [] path short = (0, record { tail = run.tail; tail_is = run.tail_is; either = inl (refl, subst (λ (x : ℕ). HasLink h x null) (sym path) run.ends) }, omega arith)
-    by_back (put ∷ []) (next, link, node, path) short =
-        (1, record { tail = run.tail; tail_is = run.tail_is; either = inr (refl, next, link, subst (λ (x : ℕ). HasLink h x null) (sym path) run.ends) }, omega arith)
+    by_back [] path short =
+        (0, record { tail = run.tail; tail_is = run.tail_is; either = inl (refl, subst (λ (x : ℕ). HasLink h x null) (sym path) run.ends) }, omega arith)
+    by_back (put ∷ []) (next, link, node, path) short = (
+      1,
+      record {
+        tail = run.tail;
+        tail_is = run.tail_is;
+        either =
+            inr (refl, next, link, subst (λ (x : ℕ). HasLink h x null) (sym path) run.ends);
+      },
+      omega arith,
+    )
     by_back (put ∷ other ∷ puts) path short = absurd (omega (arith, short))
 
 -- the lag after an event, with its Swings and Puts
 abbrev LagAfter : HeapNumbers → List (Event FifoNote) → Event FifoNote → ℕ → Type 0
 LagAfter n es e lag = (now : ℕ) × Lags (run_heap n (es ++ e ∷ [])) now × (now + swings_with e.note ≡ lag + puts_in (entries_in e.note))
 
-null_stays : (n : HeapNumbers) (es : List (Event FifoNote)) (e : Event FifoNote) (id : ℕ) → FifoMay n es e → (PutsAt (run_heap n es) e.act e.note id → ⊥) → HasLink (run_heap n es) id null
+null_stays : (n : HeapNumbers) (es : List (Event FifoNote)) (e : Event FifoNote) (id : ℕ) → FifoMay n es e
+    → (PutsAt (run_heap n es) e.act e.note id → ⊥) → HasLink (run_heap n es) id null
     → HasLink (run_heap n (es ++ e ∷ [])) id null
 null_stays n es e id may no_put l = elim (null_next n es e id may l) [ inl same ↦ same | inr put ↦ absurd (no_put put.0) ]
 
@@ -103,39 +113,46 @@ lag_put n es agent t by job at from to lag holds l may =
     let k : Heap = run_heap n (es ++ e ∷ []) in
     let m = may.may_act in
     let same : l.tail ≡ t = link_same l.tail t (some_same (sym l.tail_is ∙ m.tail_is)) in
-    let none : shown h (Next l.tail) ≡ Some null = subst (λ (x : ℕ). shown h (Next x) ≡ Some null) (sym same) (may.fits.0 ∙ ap (λ (x : Link). Some x) m.from_is) in
+    let none : shown h (Next l.tail) ≡ Some null =
+    subst (λ (x : ℕ). shown h (Next x) ≡ Some null) (sym same) (may.fits.0 ∙ ap (λ (x : Link). Some x) m.from_is) in
     elim l.either [
       | inl a ↦
           let t_linked : IsLinkedNode h t = put_tail n es e t (Put by job at) holds may refl m.tail_is in
           let there : slice_get k.nodes m.id ≡ Some (as_linked m.node) =
-          subst (λ (g : Heap). slice_get g.nodes m.id ≡ Some (as_linked m.node)) (sym (run_heap-snoc n es e)) (put_node_after h agent t from to job at m t_linked) in
+          subst (λ (g : Heap). slice_get g.nodes m.id ≡ Some (as_linked m.node)) (sym (run_heap-snoc n es e))
+          (put_node_after h agent t from to job at m t_linked) in
           let ends : HasLink k m.id null = record { node = as_linked m.node; there = there; linked = refl; link_is = m.ends } in
           let root : shown k (Root 1) ≡ Some (link_to l.tail) = root_at n es e 1 ∙ (root_next agent t 1 from to h ∙ l.tail_is) in
           let link : HasLink k l.tail (link_to m.id) =
-          subst (λ (x : ℕ). HasLink k x (link_to m.id)) (sym same) (put_link n es agent t by job at from to may (subst (λ (x : ℕ). HasLink h x null) same a.1)) in
+          subst (λ (x : ℕ). HasLink k x (link_to m.id)) (sym same)
+          (put_link n es agent t by job at from to may (subst (λ (x : ℕ). HasLink h x null) same a.1)) in
           (1, record { tail = l.tail; tail_is = root; either = inr (refl, m.id, link, ends) }, omega (arith, a.0))
       | inr b ↦ absurd (null_to b.1 (some_same (sym none ∙ shown_link h l.tail (link_to b.1) b.2)))
     ]
 
-lag_next : (n : HeapNumbers) (es : List (Event FifoNote)) (e : Event FifoNote) (lag : ℕ) → FifoHolds n es → has_begun es ≡ true → Lags (run_heap n es) lag → FifoMay n es e → LagAfter n es e lag
+lag_next : (n : HeapNumbers) (es : List (Event FifoNote)) (e : Event FifoNote) (lag : ℕ) → FifoHolds n es → has_begun es ≡ true
+    → Lags (run_heap n es) lag → FifoMay n es e → LagAfter n es e lag
 lag_next n es e lag holds begun l may =
     let h : Heap = run_heap n es in
     each_kind h (λ act noted. FifoMay n es (event_by e.agent act noted) → LagAfter n es (event_by e.agent act noted) lag)
     (λ act plain m.
-    lag_still n es (event_by e.agent act None) lag l m (root_at n es (event_by e.agent act None) 1 ∙ ap (λ (x : List Link). slice_get x 1) (plain_roots e.agent act h plain))
+    lag_still n es (event_by e.agent act None) lag l m
+    (root_at n es (event_by e.agent act None) 1 ∙ ap (λ (x : List Link). slice_get x 1) (plain_roots e.agent act h plain))
     (λ id p. let is = p.note_is in cc) refl refl)
     (λ r from to b m. absurd (begin_late h es r (holds.running begun) b.root_is (m.fits.0 ∙ ap (λ (x : Link). Some x) b.from_is)))
     (λ r from to b m. lag_swing n es e.agent r from to lag l m)
     (λ r from to by job at b m.
     let x : Event FifoNote = event_by e.agent (Move (Root r) from to) (Some (Entry (Took by job at))) in
-    lag_still n es x lag l m (root_at n es x 1 ∙ root_other e.agent r 1 from to h (λ y. omega (arith, y, b.root_is))) (λ id p. let is = p.note_is in cc) refl refl)
+    lag_still n es x lag l m (root_at n es x 1 ∙ root_other e.agent r 1 from to h (λ y. omega (arith, y, b.root_is))) (λ id p. let is = p.note_is in
+    cc) refl refl)
     (λ t from to by job at b m. lag_put n es e.agent t by job at from to lag holds l m)
     (λ d link by b m.
     let x : Event FifoNote = event_by e.agent (Look (Next d) link) (Some (Entry (Empty by))) in
     lag_still n es x lag l m (root_at n es x 1) (λ id p. let is = p.note_is in cc) refl refl)
     e.act e.note may.may_act may
 
-lag_over : (n : HeapNumbers) (seen more : List (Event FifoNote)) (lag : ℕ) → FifoHolds n seen → has_begun seen ≡ true → Lags (run_heap n seen) lag → AllAllowed (FifoMay n) seen more
+lag_over : (n : HeapNumbers) (seen more : List (Event FifoNote)) (lag : ℕ) → FifoHolds n seen → has_begun seen ≡ true → Lags (run_heap n seen) lag
+    → AllAllowed (FifoMay n) seen more
     → swings_in more ≤ lag + puts_in (entries_of more)
 lag_over n seen [] lag holds begun l all = omega arith
 lag_over n seen (e ∷ more) lag holds begun l all =
@@ -144,7 +161,8 @@ lag_over n seen (e ∷ more) lag holds begun l all =
     omega (arith, count, rest, puts_in-append (entries_in e.note) (entries_of more))
 
 -- Swings number at most the Puts and one
-pub swings_bounded : (n : HeapNumbers) (seen more : List (Event FifoNote)) → FifoHolds n seen → has_begun seen ≡ true → AllAllowed (FifoMay n) seen more → swings_in more ≤ puts_in (entries_of more) + 1
+pub swings_bounded : (n : HeapNumbers) (seen more : List (Event FifoNote)) → FifoHolds n seen → has_begun seen ≡ true
+    → AllAllowed (FifoMay n) seen more → swings_in more ≤ puts_in (entries_of more) + 1
 swings_bounded n seen more holds begun all =
     let (lag, l, low) = lags_running (run_heap n seen) seen (holds.running begun) in
     omega (arith, lag_over n seen more lag holds begun l all, low)

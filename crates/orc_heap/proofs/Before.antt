@@ -37,13 +37,15 @@ pub record IsLinkedBy (act : Act) (h : Heap) (id : ℕ) (node : Node) : Type 0 w
   pub link_is : node.link ≡ moved_link act id old.link
 
 -- a node before a change that links none
-unlinked_change : (f : Node → Node) → ((n : Node) → (f n).linked ≡ n.linked) → (i id : ℕ) (ns : List Node) (node : Node) → slice_get (change f i ns) id ≡ Some node → node.linked ≡ true
+unlinked_change : (f : Node → Node) → ((n : Node) → (f n).linked ≡ n.linked) → (i id : ℕ) (ns : List Node) (node : Node)
+    → slice_get (change f i ns) id ≡ Some node → node.linked ≡ true
     → (old : Node) × (slice_get ns id ≡ Some old) × (old.linked ≡ true)
 unlinked_change f k i id ns node there linked =
     let (x, at, either) = get-changed f i id ns node there in
     (x, at, elim either [ inl c ↦ sym (k x) ∙ (ap (λ (n : Node). n.linked) c.1 ∙ linked) | inr c ↦ ap (λ (n : Node). n.linked) c.1 ∙ linked ])
 
-unlinked_target : (f : Node → Node) → ((n : Node) → (f n).linked ≡ n.linked) → (to : Option ℕ) (id : ℕ) (h : Heap) (node : Node) → slice_get (change_target f to h).nodes id ≡ Some node → node.linked ≡ true
+unlinked_target : (f : Node → Node) → ((n : Node) → (f n).linked ≡ n.linked) → (to : Option ℕ) (id : ℕ) (h : Heap) (node : Node)
+    → slice_get (change_target f to h).nodes id ≡ Some node → node.linked ≡ true
     → (old : Node) × (slice_get h.nodes id ≡ Some old) × (old.linked ≡ true)
 unlinked_target f k None id h node there linked = (node, there, linked)
 unlinked_target f k (Some i) id h node there linked = unlinked_change f k i id h.nodes node there linked
@@ -79,8 +81,10 @@ linked_before agent Give h id node there linked =
       | inl old ↦ inl (record { node = node; there = old; linked = linked })
       | inr same ↦ let bad : false ≡ true = ap (λ (n : Node). n.linked) same ∙ linked in cc
     ]
-linked_before agent (Fill i zero value) h id node there linked = inl (was_linked h id (unlinked_change (with_value zero value) (λ n. refl) i id h.nodes node there linked))
-linked_before agent (Fill i (suc which) value) h id node there linked = inl (was_linked h id (unlinked_change (with_value (suc which) value) (λ n. refl) i id h.nodes node there linked))
+linked_before agent (Fill i zero value) h id node there linked =
+    inl (was_linked h id (unlinked_change (with_value zero value) (λ n. refl) i id h.nodes node there linked))
+linked_before agent (Fill i (suc which) value) h id node there linked =
+    inl (was_linked h id (unlinked_change (with_value (suc which) value) (λ n. refl) i id h.nodes node there linked))
 linked_before agent (Aim i to) h id node there linked =
     let l = with_link (record { to = to; mark = false }) in
     let (x, at, was) = unlinked_target as_named (λ n. refl) to id (change_node l i h) node there linked in
@@ -93,7 +97,8 @@ linked_before agent (Move (Root r) from to) h id node there linked =
 linked_before agent (Move (Next t) from to) h id node there linked =
     let (x, at, link_is, either) = linked_target to.to id (set_link (Next t) to h) node there in
     let (y, was, moved) = get-changed (with_link to) t id h.nodes x at in
-    by_flag (Move (Next t) from to) h id y node was linked (link_is ∙ link_of y x moved) (elim either [ inl same ↦ inl (same ∙ flag_of y x moved) | inr named ↦ inr named ])
+    by_flag (Move (Next t) from to) h id y node was linked (link_is ∙ link_of y x moved)
+    (elim either [ inl same ↦ inl (same ∙ flag_of y x moved) | inr named ↦ inr named ])
   where
     flag_of : (y x : Node) → ((t ≡ id) × (with_link to y ≡ x)) ⊎ ((t ≢ id) × (y ≡ x)) → x.linked ≡ y.linked
     flag_of y x (inl c) = sym (ap (λ (n : Node). n.linked) c.1)

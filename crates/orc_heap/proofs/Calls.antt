@@ -59,7 +59,8 @@ filter-at {X} test (x ∷ xs) us y ys e = cases (λ vs h. filter-at test xs vs y
     cases more false is us h = skip us us (more us h) (ap (λ b. cond b (x ∷ us) us) is)
 
 -- where one of the call's own events stands in what is new, and that it is allowed, and all before and after it
-pub record Stood {N : Type 0} (may : List (Event N) → Event N → Type 0) (s : Seat N) (own : List (Event N)) (e : Event N) (rest part : List (Event N)) (t : Seat N) : Type 0 where
+pub record Stood {N : Type 0} (may : List (Event N) → Event N → Type 0) (s : Seat N) (own : List (Event N)) (e : Event N) (rest part : List (Event N))
+    (t : Seat N) : Type 0 where
   pub before : List (Event N)
   pub later : List (Event N)
   pub part_is : part ≡ before ++ e ∷ later
@@ -74,7 +75,8 @@ pub Puts-stood : {N : Type 0} (may : List (Event N) → Event N → Type 0) (s t
     (p : Puts s (own ++ e ∷ rest) t) → AllAllowed may [] t.seen → Stood may s own e rest p.part t
 Puts-stood {N} may s t own e rest p seen_allowed =
     let f = filter-at (λ x. x.agent == s.agent) p.part own e rest p.own_is in
-    let all : AllAllowed may s.seen (f.before ++ e ∷ f.later) = subst (λ z. AllAllowed may s.seen z) f.is (part_allowed may s t (own ++ e ∷ rest) p seen_allowed) in
+    let all : AllAllowed may s.seen (f.before ++ e ∷ f.later) =
+    subst (λ z. AllAllowed may s.seen z) f.is (part_allowed may s t (own ++ e ∷ rest) p seen_allowed) in
     let right = allowed-right may s.seen f.before (e ∷ f.later) all in
     record {
       before = f.before;

@@ -1,5 +1,5 @@
--- Items of a list of which one is changed.
-use Rattle.std.proofs.Common.{List, [], ap, inl, inr, length, refl, suc, zero, ℕ, ◌++◌, ◌∷◌, ◌≡◌, ◌≢◌, ◌⊎◌}
+-- Places of lists, and items of a list of which one is changed.
+use Rattle.std.proofs.Common.{List, [], ap, arith, inl, inr, length, refl, suc, zero, ℕ, ◌++◌, ◌∷◌, ◌<◌, ◌≡◌, ◌≢◌, ◌⊎◌}
 use Rattle.std.specs.List.{slice_get}
 use Rattle.std.specs.Prelude.{Some}
 use Rattle.orc_heap.specs.Heap.{change}
@@ -43,3 +43,8 @@ get-change f zero (suc j) (y ∷ xs) x e = inr ((λ h. cc), e)
 get-change f (suc i) zero (y ∷ xs) x e = inr ((λ h. cc), e)
 get-change f (suc i) (suc j) (y ∷ xs) x e =
     elim (get-change f i j xs x e) [ inl r ↦ inl (ap suc r.0, r.1) | inr r ↦ inr ((λ h. r.0 (cc)), r.1) ]
+
+pub get_lt : {A : Type 0} (xs : List A) (i : ℕ) (x : A) → slice_get xs i ≡ Some x → i < length xs
+get_lt [] i x e = cc
+get_lt (y ∷ xs) zero x e = omega arith
+get_lt (y ∷ xs) (suc i) x e = let l = get_lt xs i x e in omega arith

@@ -26,7 +26,8 @@ link_touched (Next i) to id x = if i == id then with_link to x else x
 abbrev pub touched : Act → ℕ → Node → Node
 touched Give id x = x
 touched (Fill i which value) id x = if i == id then with_value which value x else x
-touched (Aim i to) id x = if names_node to id then as_named (if i == id then with_link (record { to = to; mark = false }) x else x) else (if i == id then with_link (record { to = to; mark = false }) x else x)
+touched (Aim i to) id x = if names_node to id then as_named (if i == id then with_link (record { to = to; mark = false }) x else x) else
+    (if i == id then with_link (record { to = to; mark = false }) x else x)
 touched (Look place link) id x = x
 touched (Move place from to) id x = if names_node to.to id then as_linked (link_touched place to id x) else link_touched place to id x
 touched (Miss place wanted found) id x = x
@@ -36,15 +37,18 @@ abbrev pub touched_by : {N : Type 0} → ℕ → List (Event N) → Node → Nod
 touched_by id [] x = x
 touched_by id (e ∷ es) x = touched_by id es (touched e.act id x)
 
-get-change_if : {A : Type 0} (f : A → A) (i j : ℕ) (xs : List A) (x : A) → slice_get xs j ≡ Some x → slice_get (change f i xs) j ≡ Some (if i == j then f x else x)
+get-change_if : {A : Type 0} (f : A → A) (i j : ℕ) (xs : List A) (x : A) → slice_get xs j ≡ Some x
+    → slice_get (change f i xs) j ≡ Some (if i == j then f x else x)
 get-change_if f i j xs x e =
     elim (get-change f i j xs x e) [ inl r ↦ rw (eq-eqb i j r.0) r.1 | inr r ↦ rw (ne_eqb i j r.0) r.1 ]
 
-get-target : (f : Node → Node) (to : Option ℕ) (h : Heap) (id : ℕ) (x : Node) → slice_get h.nodes id ≡ Some x → slice_get (change_target f to h).nodes id ≡ Some (if names_node to id then f x else x)
+get-target : (f : Node → Node) (to : Option ℕ) (h : Heap) (id : ℕ) (x : Node) → slice_get h.nodes id ≡ Some x
+    → slice_get (change_target f to h).nodes id ≡ Some (if names_node to id then f x else x)
 get-target f None h id x e = e
 get-target f (Some i) h id x e = get-change_if f i id h.nodes x e
 
-pub node-after : (agent : ℕ) (act : Act) (h : Heap) (id : ℕ) (x : Node) → slice_get h.nodes id ≡ Some x → slice_get (heap_after agent act h).nodes id ≡ Some (touched act id x)
+pub node-after : (agent : ℕ) (act : Act) (h : Heap) (id : ℕ) (x : Node) → slice_get h.nodes id ≡ Some x
+    → slice_get (heap_after agent act h).nodes id ≡ Some (touched act id x)
 node-after agent Give h id x e = get-grown id h.nodes _ x e
 node-after agent (Fill i which value) h id x e = get-change_if (with_value which value) i id h.nodes x e
 node-after agent (Aim i to) h id x e =
@@ -61,7 +65,7 @@ pub record IsOwn (agent : ℕ) (x : Node) : Type 0 where
   pub unnamed : x.named ≡ false
   pub unlinked : x.linked ≡ false
 
-unless : {A : Type 0} (b : Bool) (x y : A) → (b ≡ true → ⊥) → (if b then x else y) ≡ y
+pub unless : {A : Type 0} (b : Bool) (x y : A) → (b ≡ true → ⊥) → (if b then x else y) ≡ y
 unless true x y no_such = absurd (no_such refl)
 unless false x y no_such = refl
 
@@ -70,7 +74,8 @@ same_node h i id x y a b e =
     let both : Some y ≡ Some x = sym a ∙ (ap (λ j. slice_get h.nodes j) e ∙ b) in
     cc
 
-not_theirs : (agent by : ℕ) (h : Heap) (i id : ℕ) (x : Node) → by ≢ agent → slice_get h.nodes id ≡ Some x → IsOwn agent x → IsFresh by h i → (i == id) ≡ true → ⊥
+not_theirs : (agent by : ℕ) (h : Heap) (i id : ℕ) (x : Node) → by ≢ agent → slice_get h.nodes id ≡ Some x → IsOwn agent x → IsFresh by h i
+    → (i == id) ≡ true → ⊥
 not_theirs agent by h i id x other there own fresh e =
     let k = same_node h i id x fresh.node fresh.there there (eqb-true i id e) in
     other (sym fresh.mine ∙ (ap (λ z. z.giver) k ∙ own.mine))
@@ -82,7 +87,8 @@ not_linked agent h i id x there own l e =
     cc
 
 -- another agent may not name it
-pub not_reached : (agent by : ℕ) (h : Heap) (to : Option ℕ) (id : ℕ) (x : Node) → by ≢ agent → slice_get h.nodes id ≡ Some x → IsOwn agent x → IsTarget by h to → names_node to id ≡ true → ⊥
+pub not_reached : (agent by : ℕ) (h : Heap) (to : Option ℕ) (id : ℕ) (x : Node) → by ≢ agent → slice_get h.nodes id ≡ Some x → IsOwn agent x
+    → IsTarget by h to → names_node to id ≡ true → ⊥
 not_reached agent by h None id x other there own reach e = cc
 not_reached agent by h (Some i) id x other there own reach e =
     let k = same_node h i id x reach.node reach.there there (eqb-true i id e) in
@@ -92,14 +98,16 @@ not_reached agent by h (Some i) id x other there own reach e =
     ]
 
 -- acts of others leave it as it is
-pub others_leave : (agent by : ℕ) (act : Act) (h : Heap) (id : ℕ) (x : Node) → by ≢ agent → Fits by act h → MovesLinked act h → slice_get h.nodes id ≡ Some x → IsOwn agent x → touched act id x ≡ x
+pub others_leave : (agent by : ℕ) (act : Act) (h : Heap) (id : ℕ) (x : Node) → by ≢ agent → Fits by act h → MovesLinked act h
+    → slice_get h.nodes id ≡ Some x → IsOwn agent x → touched act id x ≡ x
 others_leave agent by Give h id x other fits moves there own = refl
 others_leave agent by (Fill i which value) h id x other fits moves there own = unless (i == id) _ x (not_theirs agent by h i id x other there own fits.0)
 others_leave agent by (Aim i to) h id x other fits moves there own =
     unless (names_node to id) _ _ (not_reached agent by h to id x other there own fits.1)
     ∙ unless (i == id) _ x (not_theirs agent by h i id x other there own fits.0)
 others_leave agent by (Look place link) h id x other fits moves there own = refl
-others_leave agent by (Move (Root r) from to) h id x other fits moves there own = unless (names_node to.to id) _ x (not_reached agent by h to.to id x other there own fits.1)
+others_leave agent by (Move (Root r) from to) h id x other fits moves there own =
+    unless (names_node to.to id) _ x (not_reached agent by h to.to id x other there own fits.1)
 others_leave agent by (Move (Next i) from to) h id x other fits moves there own =
     unless (names_node to.to id) _ _ (not_reached agent by h to.to id x other there own fits.1)
     ∙ unless (i == id) _ x (not_linked agent h i id x there own moves)
@@ -166,13 +174,16 @@ module _ {N : Type 0} (n : HeapNumbers) (holds : List (Event N) → Type 0) (may
             go_on (touched e.act id x) (record { there = after; own = stays_own agent e.act id x first o.own }) rest
         cases go_on false is far =
             let other : e.agent ≢ agent = λ k. let t : true ≡ false = sym (eq-eqb e.agent agent k) ∙ is in cc in
-            let same : touched e.act id x ≡ x = others_leave agent e.agent e.act (run_heap n seen) id x other (fits seen e h all.0) (moves seen e h all.0) o.there o.own in
+            let same : touched e.act id x ≡ x =
+            others_leave agent e.agent e.act (run_heap n seen) id x other (fits seen e h all.0) (moves seen e h all.0) o.there o.own in
             go_on x (record { there = subst (λ y. slice_get (run_heap n (seen ++ e ∷ [])).nodes id ≡ Some y) same after; own = o.own }) far
 
     -- over allowed events of others it stays as it is
-    pub fresh_later : (agent id : ℕ) (seen more : List (Event N)) (x : Node) → holds seen → IsOwnNode n agent id seen x → Later may agent seen more → IsOwnNode n agent id (seen ++ more) x
+    pub fresh_later : (agent id : ℕ) (seen more : List (Event N)) (x : Node) → holds seen → IsOwnNode n agent id seen x → Later may agent seen more
+        → IsOwnNode n agent id (seen ++ more) x
     fresh_later agent id seen more x h o later =
-        subst (λ es. IsOwnNode n agent id (seen ++ more) (touched_by id es x)) later.others (own_node_told agent id seen more x h later.allowed o (rw later.others refl))
+        subst (λ es. IsOwnNode n agent id (seen ++ more) (touched_by id es x)) later.others
+        (own_node_told agent id seen more x h later.allowed o (rw later.others refl))
 
     -- and so does what its record says
     pub node_later : (agent id : ℕ) (node : Node) (seen more : List (Event N)) → holds seen → slice_get (run_heap n seen).nodes id ≡ Some node

@@ -24,7 +24,8 @@ held_other s t slot x (y ∷ hs) apart held = (one y.hold apart.0 held.0, held_o
     one None ne held = tt
     one (Some h) ne held = (get-set_other t slot h.slot x (λ e. ne (sym e)) ∙ held.0, held.1, held.2)
 
-pub hands_take : (s t u : Slots) (hs : List Hand) (h : Hold) (id : ℕ) → Hands s t hs → IsApart h.slot hs → slice_get s h.slot ≡ Some None → u ≡ slice_set t h.slot (Some (record { row = h.row; id = id }))
+pub hands_take : (s t u : Slots) (hs : List Hand) (h : Hold) (id : ℕ) → Hands s t hs → IsApart h.slot hs → slice_get s h.slot ≡ Some None
+    → u ≡ slice_set t h.slot (Some (record { row = h.row; id = id }))
     → Hands s u (hand (Some h) id ∷ hs)
 hands_take s t u hs h id k apart free is =
     let node : Option SlotNode = Some (record { row = h.row; id = id }) in
@@ -82,7 +83,8 @@ held_swap s t (z ∷ xs) x y ys held = (one z.hold held.0, held_swap s t xs x y 
     one (Some h) held = (held.0, held.1, apart_swap h.slot xs x y ys held.2)
 
 pub hands_swap : (s t : Slots) (xs : List Hand) (x y : Hand) (ys : List Hand) → Hands s t (xs ++ x ∷ y ∷ ys) → Hands s t (xs ++ y ∷ x ∷ ys)
-hands_swap s t xs x y ys k = record { same_length = k.same_length; others = λ slot a. k.others slot (apart_swap slot xs y x ys a); held = held_swap s t xs x y ys k.held }
+hands_swap s t xs x y ys k =
+    record { same_length = k.same_length; others = λ slot a. k.others slot (apart_swap slot xs y x ys a); held = held_swap s t xs x y ys k.held }
 
 -- no hand is left
 

@@ -40,7 +40,8 @@ keeps-touched : (act : Act) (id : ℕ) (x : Node) → Keeps x (touched act id x)
 keeps-touched Give id x = same x
 keeps-touched (Fill i which value) id x = either (Keeps x) (i == id) _ _ (keeps_value which value x) (same x)
 keeps-touched (Aim i to) id x =
-    let k : Keeps x (if i == id then with_link (record { to = to; mark = false }) x else x) = either (Keeps x) (i == id) _ _ (record { giver = refl; named = λ e. e }) (same x) in
+    let k : Keeps x (if i == id then with_link (record { to = to; mark = false }) x else x) =
+    either (Keeps x) (i == id) _ _ (record { giver = refl; named = λ e. e }) (same x) in
     either (Keeps x) (names_node to id) _ _ (record { giver = k.giver; named = λ e. refl }) k
 keeps-touched (Look place link) id x = same x
 keeps-touched (Move place from to) id x =
@@ -51,9 +52,15 @@ keeps-touched (Miss place wanted found) id x = same x
 pub known-after : (agent by : ℕ) (act : Act) (h : Heap) (id : ℕ) → IsKnown agent h id → IsKnown agent (heap_after by act h) id
 known-after agent by act h id k =
     let t = keeps-touched act id k.node in
-    record { node = touched act id k.node; there = node-after by act h id k.node k.there; known = elim k.known [ inl g ↦ inl (t.giver ∙ g) | inr m ↦ inr (t.named m) ] }
+    record {
+      node = touched act id k.node;
+      there = node-after by act h id k.node k.there;
+      known =
+          elim k.known [ inl g ↦ inl (t.giver ∙ g) | inr m ↦ inr (t.named m) ];
+    }
 
-pub known-later : {N : Type 0} (n : HeapNumbers) (may : List (Event N) → Event N → Type 0) (agent id : ℕ) (seen more : List (Event N)) → AllAllowed may seen more
+pub known-later : {N : Type 0} (n : HeapNumbers) (may : List (Event N) → Event N → Type 0) (agent id : ℕ) (seen more : List (Event N))
+    → AllAllowed may seen more
     → IsKnown agent (run_heap n seen) id → IsKnown agent (run_heap n (seen ++ more)) id
 known-later {N} n may agent id seen more all k =
     let P : List (Event N) → Type 0 = λ es. IsKnown agent (run_heap n es) id in
@@ -89,7 +96,8 @@ named_where_linked (e ∷ es) id l =
     ]
 
 -- a once linked node is known to every agent
-pub linked_known : {N : Type 0} (n : HeapNumbers) (es : List (Event N)) (agent id : ℕ) → IsLawful n es → IsLinkedNode (run_heap n es) id → IsKnown agent (run_heap n es) id
+pub linked_known : {N : Type 0} (n : HeapNumbers) (es : List (Event N)) (agent id : ℕ) → IsLawful n es → IsLinkedNode (run_heap n es) id
+    → IsKnown agent (run_heap n es) id
 linked_known n es agent id lawful l = record {
   node = l.node;
   there = l.there;

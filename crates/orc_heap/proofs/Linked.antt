@@ -64,7 +64,8 @@ moved : (t d : ℕ) (to : Link) (h : Heap) (old : Node) → slice_get h.nodes d 
     → StaysLinked (change_node (with_link to) t h) d old (if t == d then to else old.link)
 moved t d to h old there linked =
     elim (get-change (with_link to) t d h.nodes old there) [
-      | inl r ↦ rw (eq-eqb t d r.0) (record { node = with_link to old; there = r.1; linked = linked; giver = refl; first = refl; second = refl; link_is = refl })
+      | inl r ↦ rw (eq-eqb t d r.0)
+          (record { node = with_link to old; there = r.1; linked = linked; giver = refl; first = refl; second = refl; link_is = refl })
       | inr r ↦ rw (ne_eqb t d r.0) (record { node = old; there = r.1; linked = linked; giver = refl; first = refl; second = refl; link_is = refl })
     ]
 
@@ -74,10 +75,12 @@ linked_after agent Give h d old fits there linked =
     record { node = old; there = get-grown d h.nodes _ old there; linked = linked; giver = refl; first = refl; second = refl; link_is = refl }
 linked_after agent (Fill id which value) h d old fits there linked = other_keeps (with_value which value) agent h id d old fits.0 there linked
 linked_after agent (Aim id to) h d old fits there linked =
-    target_keeps as_named named_keeps (λ n. refl) to (change_node (with_link (record { to = to; mark = false })) id h) d old old.link (other_keeps _ agent h id d old fits.0 there linked)
+    target_keeps as_named named_keeps (λ n. refl) to (change_node (with_link (record { to = to; mark = false })) id h) d old old.link
+    (other_keeps _ agent h id d old fits.0 there linked)
 linked_after agent (Look place link) h d old fits there linked = unchanged h d old there linked
 linked_after agent (Move (Root r) from to) h d old fits there linked =
-    target_keeps as_linked linked_keeps (λ n. refl) to.to _ d old old.link (record { node = old; there = there; linked = linked; giver = refl; first = refl; second = refl; link_is = refl })
+    target_keeps as_linked linked_keeps (λ n. refl) to.to _ d old old.link
+    (record { node = old; there = there; linked = linked; giver = refl; first = refl; second = refl; link_is = refl })
 linked_after agent (Move (Next t) from to) h d old fits there linked =
     target_keeps as_linked linked_keeps (λ n. refl) to.to (change_node (with_link to) t h) d old _ (moved t d to h old there linked)
 linked_after agent (Miss place wanted found) h d old fits there linked = unchanged h d old there linked

@@ -18,7 +18,8 @@ use Rattle.orc_heap.specs.declared.events.Event.{Event}
 use Rattle.orc_heap.specs.declared.events.Link.{Link}
 use Rattle.orc_heap.specs.declared.events.Place.{Place}
 
-module _ {N : Type 0} {may : List (Event N) → Event N → Type 0} {s t : Seat N} {own : List (Event N)} {e : Event N} {rest part : List (Event N)} (m : Stood may s own e rest part t) where
+module _ {N : Type 0} {may : List (Event N) → Event N → Type 0} {s t : Seat N} {own : List (Event N)} {e : Event N} {rest part : List (Event N)}
+    (m : Stood may s own e rest part t) where
   -- the event and all after it
   pub since : AllAllowed may (s.seen ++ m.before) (e ∷ m.later)
   since = (m.here, m.last)
@@ -36,16 +37,19 @@ module _ {N : Type 0} {may : List (Event N) → Event N → Type 0} {s t : Seat 
   pub moves_before : moves_in m.before ≤ moves_in part
   moves_before = rw m.part_is (omega (arith, moves_in-append m.before (e ∷ m.later)))
 
-module _ {N : Type 0} (n : HeapNumbers) (may : List (Event N) → Event N → Type 0) (fits : (es : List (Event N)) (e : Event N) → may es e → FitsAfter n es e) where
+module _ {N : Type 0} (n : HeapNumbers) (may : List (Event N) → Event N → Type 0) (fits : (es : List (Event N)) (e : Event N) → may es e
+    → FitsAfter n es e) where
   -- what a Look found, the place still shows, or a Move stands after the Look
-  pub look_found : (s t : Seat N) (place : Place) (link : Link) (noted : Option N) (own rest : List (Event N)) (p : Puts s (own ++ event_of s (Look place link) noted ∷ rest) t)
+  pub look_found : (s t : Seat N) (place : Place) (link : Link) (noted : Option N) (own rest : List (Event N))
+      (p : Puts s (own ++ event_of s (Look place link) noted ∷ rest) t)
       → AllAllowed may [] t.seen → IsLinkedPlace place (heap_of n s) → ShowsOrMoved n place link s t p.part
   look_found s t place link noted own rest p all l =
       let e : Event N = event_of s (Look place link) noted in
       let m = Puts-stood may s t own e rest p all in
       let there = linked_place_later n may fits place s.seen m.before l m.first in
       let k = moves_later m refl [] in
-      elim (shown_or_moved n may fits place link (s.seen ++ m.before) (e ∷ m.later) there (since m) (fits (s.seen ++ m.before) e m.here)) as (λ _. ShowsOrMoved n place link s t p.part) [
+      elim (shown_or_moved n may fits place link (s.seen ++ m.before) (e ∷ m.later) there (since m) (fits (s.seen ++ m.before) e m.here)) as
+      (λ _. ShowsOrMoved n place link s t p.part) [
         | inl still ↦ inl (subst (λ es. shown (run_heap n es) place ≡ Some link) (sym (p.is ∙ seen_is m)) still)
         | inr some ↦ inr (subst (λ es. 1 ≤ moves_in (from_own s.agent es)) (append-nil p.part) (omega (arith, some, k)))
       ]
@@ -59,18 +63,22 @@ module _ {N : Type 0} (n : HeapNumbers) (may : List (Event N) → Event N → Ty
       let m = Puts-stood may s t [] e (f ∷ []) p all in
       let g = filter-at (λ x. x.agent == s.agent) m.later [] f [] m.own_later in
       let there = linked_place_later n may fits place s.seen m.before l m.first in
-      let whole : AllAllowed may (s.seen ++ m.before) ((e ∷ g.before) ++ f ∷ g.later) = subst (λ z. AllAllowed may (s.seen ++ m.before) (e ∷ z)) g.is (since m) in
+      let whole : AllAllowed may (s.seen ++ m.before) ((e ∷ g.before) ++ f ∷ g.later) =
+      subst (λ z. AllAllowed may (s.seen ++ m.before) (e ∷ z)) g.is (since m) in
       let left = allowed-left may (s.seen ++ m.before) (e ∷ g.before) (f ∷ g.later) whole in
       let right = allowed-right may (s.seen ++ m.before) (e ∷ g.before) (f ∷ g.later) whole in
       let first = fits (s.seen ++ m.before) e m.here in
       let second = fits ((s.seen ++ m.before) ++ (e ∷ g.before)) f right.0 in
       let some = moved_between n may fits place one two (s.seen ++ m.before) (e ∷ g.before) there left first second other in
       let k = moves_later m refl [] in
-      subst (λ es. 1 ≤ moves_in (from_own s.agent es)) (append-nil p.part) (omega (arith, some, k, ap (λ z. moves_in z) g.is, moves_in-append g.before (f ∷ g.later)))
+      subst (λ es. 1 ≤ moves_in (from_own s.agent es)) (append-nil p.part)
+      (omega (arith, some, k, ap (λ z. moves_in z) g.is, moves_in-append g.before (f ∷ g.later)))
 
   -- a Miss where the place showed the wanted link before: a Move stands in what is new
-  pub miss_moved : (s t : Seat N) (place : Place) (wanted found : Link) (own : List (Event N)) (e : Event N) (rest : List (Event N)) (p : Puts s (own ++ e ∷ rest) t)
-      → e.act ≡ Miss place wanted found → AllAllowed may [] t.seen → IsLinkedPlace place (heap_of n s) → found ≢ wanted → shown (heap_of n s) place ≡ Some wanted → 1 ≤ moves_in p.part
+  pub miss_moved : (s t : Seat N) (place : Place) (wanted found : Link) (own : List (Event N)) (e : Event N) (rest : List (Event N))
+      (p : Puts s (own ++ e ∷ rest) t)
+      → e.act ≡ Miss place wanted found → AllAllowed may [] t.seen → IsLinkedPlace place (heap_of n s) → found ≢ wanted
+      → shown (heap_of n s) place ≡ Some wanted → 1 ≤ moves_in p.part
   miss_moved s t place wanted found own e rest p act_is all l other at =
       let m = Puts-stood may s t own e rest p all in
       let h = run_heap n (s.seen ++ m.before) in
@@ -79,7 +87,8 @@ module _ {N : Type 0} (n : HeapNumbers) (may : List (Event N) → Event N → Ty
       omega (arith, some, moves_before m)
 
   -- what the place showed, or that a Move stands there, goes on with more of the call
-  pub still_puts : (s t u : Seat N) (xs ys : List (Event N)) (p : Puts s xs t) (q : Puts t ys u) → AllAllowed may [] u.seen → (place : Place) (link : Link) → 1 ≤ length xs → IsLinkedPlace place (heap_of n t)
+  pub still_puts : (s t u : Seat N) (xs ys : List (Event N)) (p : Puts s xs t) (q : Puts t ys u) → AllAllowed may [] u.seen
+      → (place : Place) (link : Link) → 1 ≤ length xs → IsLinkedPlace place (heap_of n t)
       → ShowsOrMoved n place link s t p.part → ShowsOrMoved n place link s u (p.part ++ q.part)
   still_puts s t u xs ys p q all place link some linked (inr moved) = inr (omega (arith, moved, moves_from_own-append s.agent p.part q.part))
   still_puts s t u xs ys p q all place link some linked (inl shows) =

@@ -1,10 +1,10 @@
 -- A place that showed one link and later shows another was moved in between.
-use Rattle.std.proofs.Common.{Bool, List, Option, false, None, Some, [], append-nil, append_assoc, ap, arith, inl, inr, refl, subst, suc, sym, true, zero, ℕ, ◌++◌, ◌+◌, ◌∙◌, ◌∷◌, ◌≡◌, ◌≢◌, ◌≤◌, ◌⊎◌}
+use Rattle.std.proofs.Common.{length, Bool, List, Option, false, None, Some, [], append-nil, append_assoc, ap, arith, inl, inr, refl, subst, suc, sym, true, zero, ℕ, ◌++◌, ◌+◌, ◌∙◌, ◌∷◌, ◌≡◌, ◌≢◌, ◌≤◌, ◌⊎◌}
 use Rattle.std.proofs.lemmas.Bool.{eq-eqb}
 use Rattle.std.specs.List.{list_any, slice_get}
 use Rattle.std.specs.Prelude.{if◌then◌else◌, ◌||◌}
 use Rattle.std.specs.Option.{option_map}
-use Rattle.orc_heap.proofs.Changes.{get-change_other}
+use Rattle.orc_heap.proofs.Changes.{get-change_other, length-change}
 use Rattle.orc_heap.proofs.Linked.{linked_after}
 use Rattle.orc_heap.proofs.Runs.{run_heap-snoc}
 use Rattle.orc_heap.specs.Acts.{Fits, as_linked, as_named, change_target, heap_after, moved_link}
@@ -32,6 +32,10 @@ pub target_roots : (f : Node → Node) (to : Option ℕ) (h : Heap) → (change_
 target_roots f None h = refl
 target_roots f (Some id) h = refl
 
+pub target_length : (f : Node → Node) (to : Option ℕ) (h : Heap) → length (change_target f to h).nodes ≡ length h.nodes
+target_length f None h = refl
+target_length f (Some id) h = length-change f id h.nodes
+
 roots_stay : (agent : ℕ) (act : Act) (h : Heap) → move_with act ≡ 0 → (heap_after agent act h).roots ≡ h.roots
 roots_stay agent Give h none = refl
 roots_stay agent (Fill id which value) h none = refl
@@ -53,24 +57,28 @@ pub shown_node : (h : Heap) (id : ℕ) (node : Node) → slice_get h.nodes id �
 shown_node h id node there = ap (option_map (λ (x : Node). x.link)) there
 
 -- a root, or the link of a once linked node, stays one
-pub linked_place_after : (agent : ℕ) (act : Act) (h : Heap) (place : Place) → Fits agent act h → IsLinkedPlace place h → IsLinkedPlace place (heap_after agent act h)
+pub linked_place_after : (agent : ℕ) (act : Act) (h : Heap) (place : Place) → Fits agent act h → IsLinkedPlace place h
+    → IsLinkedPlace place (heap_after agent act h)
 linked_place_after agent act h (Root r) fits l = tt
 linked_place_after agent act h (Next id) fits l =
     let s = linked_after agent act h id l.node fits l.there l.linked in
     record { node = s.node; there = s.there; linked = s.linked }
 
 -- an act that is no Move leaves what such a place shows
-pub shown_after : (agent : ℕ) (act : Act) (h : Heap) (place : Place) → Fits agent act h → IsLinkedPlace place h → move_with act ≡ 0 → shown (heap_after agent act h) place ≡ shown h place
+pub shown_after : (agent : ℕ) (act : Act) (h : Heap) (place : Place) → Fits agent act h → IsLinkedPlace place h → move_with act ≡ 0
+    → shown (heap_after agent act h) place ≡ shown h place
 shown_after agent act h (Root r) fits l none = ap (λ (ls : List Link). slice_get ls r) (roots_stay agent act h none)
 shown_after agent act h (Next id) fits l none =
     let s = linked_after agent act h id l.node fits l.there l.linked in
-    shown_node (heap_after agent act h) id s.node s.there ∙ (ap (λ (x : Link). Some x) (s.link_is ∙ links_stay act id l.node.link none) ∙ sym (shown_node h id l.node l.there))
+    shown_node (heap_after agent act h) id s.node s.there
+    ∙ (ap (λ (x : Link). Some x) (s.link_is ∙ links_stay act id l.node.link none) ∙ sym (shown_node h id l.node l.there))
 
 none_or_some : (k : ℕ) → (k ≡ 0) ⊎ (1 ≤ k)
 none_or_some zero = inl refl
 none_or_some (suc k) = inr (omega arith)
 
-module _ {N : Type 0} (n : HeapNumbers) (may : List (Event N) → Event N → Type 0) (fits : (es : List (Event N)) (e : Event N) → may es e → FitsAfter n es e) where
+module _ {N : Type 0} (n : HeapNumbers) (may : List (Event N) → Event N → Type 0) (fits : (es : List (Event N)) (e : Event N) → may es e
+    → FitsAfter n es e) where
   -- over allowed events without a Move it shows what it showed
   pub shown_still : (place : Place) (seen more : List (Event N)) → IsLinkedPlace place (run_heap n seen) → AllAllowed may seen more → moves_in more ≡ 0
       → shown (run_heap n (seen ++ more)) place ≡ shown (run_heap n seen) place
@@ -78,24 +86,30 @@ module _ {N : Type 0} (n : HeapNumbers) (may : List (Event N) → Event N → Ty
   shown_still place seen (e ∷ more) l all none =
       let f = fits seen e all.0 in
       let h = run_heap n seen in
-      let here : shown (run_heap n (seen ++ e ∷ [])) place ≡ shown h place = rw (run_heap-snoc n seen e) (shown_after e.agent e.act h place f l (omega (arith, none))) in
+      let here : shown (run_heap n (seen ++ e ∷ [])) place ≡ shown h place =
+      rw (run_heap-snoc n seen e) (shown_after e.agent e.act h place f l (omega (arith, none))) in
       let still : IsLinkedPlace place (run_heap n (seen ++ e ∷ [])) = rw (run_heap-snoc n seen e) (linked_place_after e.agent e.act h place f l) in
-      ap (λ es. shown (run_heap n es) place) (sym (append_assoc seen (e ∷ []) more)) ∙ (shown_still place (seen ++ e ∷ []) more still all.1 (omega (arith, none)) ∙ here)
+      ap (λ es. shown (run_heap n es) place) (sym (append_assoc seen (e ∷ []) more))
+      ∙ (shown_still place (seen ++ e ∷ []) more still all.1 (omega (arith, none)) ∙ here)
 
-  pub linked_place_later : (place : Place) (seen more : List (Event N)) → IsLinkedPlace place (run_heap n seen) → AllAllowed may seen more → IsLinkedPlace place (run_heap n (seen ++ more))
+  pub linked_place_later : (place : Place) (seen more : List (Event N)) → IsLinkedPlace place (run_heap n seen) → AllAllowed may seen more
+      → IsLinkedPlace place (run_heap n (seen ++ more))
   linked_place_later place seen [] l all = rw (append-nil seen) l
   linked_place_later place seen (e ∷ more) l all =
-      let still : IsLinkedPlace place (run_heap n (seen ++ e ∷ [])) = rw (run_heap-snoc n seen e) (linked_place_after e.agent e.act (run_heap n seen) place (fits seen e all.0) l) in
+      let still : IsLinkedPlace place (run_heap n (seen ++ e ∷ [])) =
+      rw (run_heap-snoc n seen e) (linked_place_after e.agent e.act (run_heap n seen) place (fits seen e all.0) l) in
       subst (λ es. IsLinkedPlace place (run_heap n es)) (append_assoc seen (e ∷ []) more) (linked_place_later place (seen ++ e ∷ []) more still all.1)
 
   -- it still shows the link, or a Move stands in between
-  pub shown_or_moved : (place : Place) (link : Link) (seen more : List (Event N)) → IsLinkedPlace place (run_heap n seen) → AllAllowed may seen more → shown (run_heap n seen) place ≡ Some link
+  pub shown_or_moved : (place : Place) (link : Link) (seen more : List (Event N)) → IsLinkedPlace place (run_heap n seen) → AllAllowed may seen more
+      → shown (run_heap n seen) place ≡ Some link
       → (shown (run_heap n (seen ++ more)) place ≡ Some link) ⊎ (1 ≤ moves_in more)
   shown_or_moved place link seen more l all at =
       elim (none_or_some (moves_in more)) [ inl none ↦ inl (shown_still place seen more l all none ∙ at) | inr some ↦ inr some ]
 
   -- if it shows another link, then a Move does
-  pub moved_between : (place : Place) (one two : Link) (seen more : List (Event N)) → IsLinkedPlace place (run_heap n seen) → AllAllowed may seen more → shown (run_heap n seen) place ≡ Some one
+  pub moved_between : (place : Place) (one two : Link) (seen more : List (Event N)) → IsLinkedPlace place (run_heap n seen) → AllAllowed may seen more
+      → shown (run_heap n seen) place ≡ Some one
       → shown (run_heap n (seen ++ more)) place ≡ Some two → one ≢ two → 1 ≤ moves_in more
   moved_between place one two seen more l all at later other =
       elim (shown_or_moved place one seen more l all at) [
@@ -104,7 +118,8 @@ module _ {N : Type 0} (n : HeapNumbers) (may : List (Event N) → Event N → Ty
       ]
 
 -- an act that is no Move of such a place leaves what it shows
-shown_elsewhere : (agent : ℕ) (act : Act) (h : Heap) (place : Place) → Fits agent act h → IsLinkedPlace place h → moves_place place act ≡ false → shown (heap_after agent act h) place ≡ shown h place
+shown_elsewhere : (agent : ℕ) (act : Act) (h : Heap) (place : Place) → Fits agent act h → IsLinkedPlace place h → moves_place place act ≡ false
+    → shown (heap_after agent act h) place ≡ shown h place
 shown_elsewhere agent Give h place fits l away = shown_after agent Give h place fits l refl
 shown_elsewhere agent (Fill i which value) h place fits l away = shown_after agent (Fill i which value) h place fits l refl
 shown_elsewhere agent (Aim i to) h place fits l away = shown_after agent (Aim i to) h place fits l refl
@@ -120,17 +135,20 @@ shown_elsewhere agent (Move (Root r) from to) h (Next id) fits l away =
 shown_elsewhere agent (Move (Next i) from to) h (Next id) fits l away =
     let s = linked_after agent (Move (Next i) from to) h id l.node fits l.there l.linked in
     let same : moved_link (Move (Next i) from to) id l.node.link ≡ l.node.link = ap (λ b. if b then to else l.node.link) away in
-    shown_node (heap_after agent (Move (Next i) from to) h) id s.node s.there ∙ (ap (λ (x : Link). Some x) (s.link_is ∙ same) ∙ sym (shown_node h id l.node l.there))
+    shown_node (heap_after agent (Move (Next i) from to) h) id s.node s.there
+    ∙ (ap (λ (x : Link). Some x) (s.link_is ∙ same) ∙ sym (shown_node h id l.node l.there))
 
 -- over a lawful list it shows the same link, or some event is a Move of it
 pub shown_or_moved_there : {N : Type 0} (h : Heap) (place : Place) (es : List (Event N)) → IsLawfulFrom h es → IsLinkedPlace place h
     → (shown (run_from h es) place ≡ shown h place) ⊎ (list_any (λ e. moves_place place e.act) es ≡ true)
 shown_or_moved_there h place [] lawful l = inl refl
 shown_or_moved_there {N} h place (e ∷ es) lawful l =
-    by_case (moves_place place e.act) refl (shown_or_moved_there (heap_after e.agent e.act h) place es lawful.1 (linked_place_after e.agent e.act h place lawful.0 l))
+    by_case (moves_place place e.act) refl
+    (shown_or_moved_there (heap_after e.agent e.act h) place es lawful.1 (linked_place_after e.agent e.act h place lawful.0 l))
   where
     by_case : (b : Bool) → moves_place place e.act ≡ b
-        → (shown (run_from (heap_after e.agent e.act h) es) place ≡ shown (heap_after e.agent e.act h) place) ⊎ (list_any (λ x. moves_place place x.act) es ≡ true)
+        → (shown (run_from (heap_after e.agent e.act h) es) place ≡ shown (heap_after e.agent e.act h) place)
+        ⊎ (list_any (λ x. moves_place place x.act) es ≡ true)
         → (shown (run_from (heap_after e.agent e.act h) es) place ≡ shown h place) ⊎ ((b || list_any (λ x. moves_place place x.act) es) ≡ true)
     by_case true is rest = inr refl
     by_case false is (inl same) = inl (same ∙ shown_elsewhere e.agent e.act h place lawful.0 l is)

@@ -34,7 +34,8 @@ module _ {N E : Type 0} (entries_in : Option N → List E) where
           → own_of agent_of agent (entries_in e.note) ++ noted_entries entries_in mine ≡ noted_entries entries_in (cond (e.agent == agent) (e ∷ mine) mine)
       own_of_event agent e mine all = cases (e.agent == agent) refl
         where
-          cases : (b : Bool) → (e.agent == agent) ≡ b → own_of agent_of agent (entries_in e.note) ++ noted_entries entries_in mine ≡ noted_entries entries_in (cond b (e ∷ mine) mine)
+          cases : (b : Bool) → (e.agent == agent) ≡ b → own_of agent_of agent (entries_in e.note)
+              ++ noted_entries entries_in mine ≡ noted_entries entries_in (cond b (e ∷ mine) mine)
           cases true is =
               let by : e.agent ≡ agent = eqb-true e.agent agent is in
               ap (λ z. z ++ noted_entries entries_in mine) (own_all agent (entries_in e.note) (rw by at all))
@@ -46,7 +47,8 @@ module _ {N E : Type 0} (entries_in : Option N → List E) where
       own_of_events agent seen [] all = refl
       own_of_events agent seen (e ∷ es) all =
           filter-append (λ (x : E). agent_of x == agent) (entries_in e.note) (noted_entries entries_in es)
-          ∙ (ap (λ z. own_of agent_of agent (entries_in e.note) ++ z) (own_of_events agent (seen ++ e ∷ []) es all.1) ∙ own_of_event agent e (events_by agent es) (own seen e all.0))
+          ∙ (ap (λ z. own_of agent_of agent (entries_in e.note) ++ z) (own_of_events agent (seen ++ e ∷ []) es all.1)
+          ∙ own_of_event agent e (events_by agent es) (own seen e all.0))
 
       of_event : (P : ℕ → Type 0) (by : ℕ) (rest : List E) → P by → AllByRecursion (λ (x : E). P (agent_of x)) rest
           → (xs : List E) → AllByRecursion (λ (x : E). agent_of x ≡ by) xs → AllByRecursion (λ (x : E). P (agent_of x)) (xs ++ rest)
@@ -63,7 +65,8 @@ module _ {N E : Type 0} (entries_in : Option N → List E) where
       -- what allowed events add to the history
       pub entries_added : (crowd : ℕ → Type 0) (agent : ℕ) (seen more : List (Event N)) → AllAllowed may seen more
           → AllByRecursion (λ (e : Event N). (e.agent ≡ agent) ⊎ crowd e.agent) more
-          → Adds agent_of crowd agent (noted_entries entries_in seen) (noted_entries entries_in (events_by agent more)) (noted_entries entries_in (seen ++ more))
+          → Adds agent_of crowd agent (noted_entries entries_in seen) (noted_entries entries_in (events_by agent more))
+          (noted_entries entries_in (seen ++ more))
       entries_added crowd agent seen more all agents = record {
         part = noted_entries entries_in more;
         is = noted-append seen more;

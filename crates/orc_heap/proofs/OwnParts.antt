@@ -40,7 +40,8 @@ pub from_own-some : {N : Type 0} (agent : ℕ) (es fs : List (Event N)) → 1 �
 from_own-some agent [] fs some = absurd (omega (arith, some))
 from_own-some {N} agent (e ∷ es) fs some = cases (e.agent == agent) some (λ h. from_own-some agent es fs h)
   where
-    cases : (b : Bool) → 1 ≤ moves_in (cond b (e ∷ es) (from_own agent es)) → (1 ≤ moves_in (from_own agent es) → from_own agent (es ++ fs) ≡ from_own agent es ++ fs)
+    cases : (b : Bool) → 1 ≤ moves_in (cond b (e ∷ es) (from_own agent es))
+        → (1 ≤ moves_in (from_own agent es) → from_own agent (es ++ fs) ≡ from_own agent es ++ fs)
         → cond b (e ∷ (es ++ fs)) (from_own agent (es ++ fs)) ≡ cond b (e ∷ es) (from_own agent es) ++ fs
     cases true h rest = refl
     cases false h rest = rest h
@@ -50,7 +51,8 @@ pub from_own-begun : {N : Type 0} (agent : ℕ) (es fs : List (Event N)) → 1 �
 from_own-begun agent [] fs some = absurd (omega (arith, some))
 from_own-begun {N} agent (e ∷ es) fs some = cases (e.agent == agent) some (λ h. from_own-begun agent es fs h)
   where
-    cases : (b : Bool) → 1 ≤ length (cond b (e ∷ events_by agent es) (events_by agent es)) → (1 ≤ length (events_by agent es) → from_own agent (es ++ fs) ≡ from_own agent es ++ fs)
+    cases : (b : Bool) → 1 ≤ length (cond b (e ∷ events_by agent es) (events_by agent es))
+        → (1 ≤ length (events_by agent es) → from_own agent (es ++ fs) ≡ from_own agent es ++ fs)
         → cond b (e ∷ (es ++ fs)) (from_own agent (es ++ fs)) ≡ cond b (e ∷ es) (from_own agent es) ++ fs
     cases true h rest = refl
     cases false h rest = rest h
@@ -64,7 +66,8 @@ moves_from_own {N} agent (e ∷ es) = cases (e.agent == agent) (moves_from_own a
     cases true k = omega arith
     cases false k = omega (arith, k)
 
-pub moves_from_own-append : {N : Type 0} (agent : ℕ) (es fs : List (Event N)) → moves_in (from_own agent es) + moves_in (from_own agent fs) ≤ moves_in (from_own agent (es ++ fs))
+pub moves_from_own-append : {N : Type 0} (agent : ℕ) (es fs : List (Event N)) → moves_in (from_own agent es)
+    + moves_in (from_own agent fs) ≤ moves_in (from_own agent (es ++ fs))
 moves_from_own-append agent [] fs = omega arith
 moves_from_own-append {N} agent (e ∷ es) fs = cases (e.agent == agent) (moves_from_own-append agent es fs)
   where
@@ -74,11 +77,13 @@ moves_from_own-append {N} agent (e ∷ es) fs = cases (e.agent == agent) (moves_
     cases false k = k
 
 -- what stands after an event of the agent's own
-pub moves_after_own : {N : Type 0} (agent : ℕ) (es : List (Event N)) (e : Event N) (fs : List (Event N)) → e.agent ≡ agent → moves_in fs ≤ moves_in (from_own agent (es ++ e ∷ fs))
+pub moves_after_own : {N : Type 0} (agent : ℕ) (es : List (Event N)) (e : Event N) (fs : List (Event N)) → e.agent ≡ agent
+    → moves_in fs ≤ moves_in (from_own agent (es ++ e ∷ fs))
 moves_after_own agent [] e fs own = rw (eq-eqb e.agent agent own) (omega arith)
 moves_after_own {N} agent (x ∷ es) e fs own = cases (x.agent == agent) (moves_after_own agent es e fs own)
   where
-    cases : (b : Bool) → moves_in fs ≤ moves_in (from_own agent (es ++ e ∷ fs)) → moves_in fs ≤ moves_in (cond b (x ∷ (es ++ e ∷ fs)) (from_own agent (es ++ e ∷ fs)))
+    cases : (b : Bool) → moves_in fs ≤ moves_in (from_own agent (es ++ e ∷ fs))
+        → moves_in fs ≤ moves_in (cond b (x ∷ (es ++ e ∷ fs)) (from_own agent (es ++ e ∷ fs)))
     cases true k = omega (arith, moves_in-append es (e ∷ fs))
     cases false k = k
 
@@ -105,7 +110,8 @@ pub own_from_right : {N : Type 0} (agent : ℕ) (es fs : List (Event N)) → All
 own_from_right agent [] fs all = all
 own_from_right {N} agent (e ∷ es) fs all = cases (e.agent == agent) all (λ h. own_from_right agent es fs h)
   where
-    cases : (b : Bool) → AllOwn agent (cond b (e ∷ (es ++ fs)) (from_own agent (es ++ fs))) → (AllOwn agent (from_own agent (es ++ fs)) → AllOwn agent (from_own agent fs)) → AllOwn agent (from_own agent fs)
+    cases : (b : Bool) → AllOwn agent (cond b (e ∷ (es ++ fs)) (from_own agent (es ++ fs)))
+        → (AllOwn agent (from_own agent (es ++ fs)) → AllOwn agent (from_own agent fs)) → AllOwn agent (from_own agent fs)
     cases true h rest = own_from agent fs (own_right agent (e ∷ es) fs h)
     cases false h rest = rest h
 
@@ -113,12 +119,14 @@ pub own_from_left : {N : Type 0} (agent : ℕ) (es fs : List (Event N)) → AllO
 own_from_left agent [] fs all = refl
 own_from_left {N} agent (e ∷ es) fs all = cases (e.agent == agent) all (λ h. own_from_left agent es fs h)
   where
-    cases : (b : Bool) → AllOwn agent (cond b (e ∷ (es ++ fs)) (from_own agent (es ++ fs))) → (AllOwn agent (from_own agent (es ++ fs)) → AllOwn agent (from_own agent es)) → AllOwn agent (cond b (e ∷ es) (from_own agent es))
+    cases : (b : Bool) → AllOwn agent (cond b (e ∷ (es ++ fs)) (from_own agent (es ++ fs)))
+        → (AllOwn agent (from_own agent (es ++ fs)) → AllOwn agent (from_own agent es)) → AllOwn agent (cond b (e ∷ es) (from_own agent es))
     cases true h rest = own_left agent (e ∷ es) fs h
     cases false h rest = rest h
 
 -- where a Move stands after an own event, all that follows is the agent's
-pub own_from_rest : {N : Type 0} (agent : ℕ) (es fs : List (Event N)) → 1 ≤ moves_in (from_own agent es) → AllOwn agent (from_own agent (es ++ fs)) → AllOwn agent fs
+pub own_from_rest : {N : Type 0} (agent : ℕ) (es fs : List (Event N)) → 1 ≤ moves_in (from_own agent es) → AllOwn agent (from_own agent (es ++ fs))
+    → AllOwn agent fs
 own_from_rest agent es fs some all = own_right agent (from_own agent es) fs (subst (λ z. AllOwn agent z) (from_own-some agent es fs some) all)
 
 -- where no other agent's event stands from the first own one on, these are the own events
@@ -130,7 +138,8 @@ alone_own agent es own is alone =
     ∙ (sym (filter-append (λ e. e.agent == agent) b.before (from_own agent es)) ∙ (ap (λ z. events_by agent z) (sym b.is) ∙ is)))
 
 -- so if a Move stands there, then it is an own one
-pub quiet_not_alone : {N : Type 0} (agent : ℕ) (es own : List (Event N)) → events_by agent es ≡ own → moves_in own ≡ 0 → 1 ≤ moves_in (from_own agent es) → AllOwn agent (from_own agent es) → ⊥
+pub quiet_not_alone : {N : Type 0} (agent : ℕ) (es own : List (Event N)) → events_by agent es ≡ own → moves_in own ≡ 0
+    → 1 ≤ moves_in (from_own agent es) → AllOwn agent (from_own agent es) → ⊥
 quiet_not_alone {N} agent es own is none some alone = omega (arith, none, some, ap (λ (z : List (Event N)). moves_in z) (alone_own agent es own is alone))
 
 -- the agent's own Moves stand among all
@@ -138,6 +147,7 @@ pub moves_own : {N : Type 0} (agent : ℕ) (es : List (Event N)) → moves_in (e
 moves_own agent [] = omega arith
 moves_own {N} agent (e ∷ es) = cases (e.agent == agent) (moves_own agent es)
   where
-    cases : (b : Bool) → moves_in (events_by agent es) ≤ moves_in es → moves_in (cond b (e ∷ events_by agent es) (events_by agent es)) ≤ move_with e.act + moves_in es
+    cases : (b : Bool) → moves_in (events_by agent es) ≤ moves_in es
+        → moves_in (cond b (e ∷ events_by agent es) (events_by agent es)) ≤ move_with e.act + moves_in es
     cases true k = omega (arith, k)
     cases false k = omega (arith, k)

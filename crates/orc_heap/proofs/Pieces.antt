@@ -61,14 +61,17 @@ module _ {N : Type 0} where
 
     pub own_part_right : AllOwn s.agent (from_own s.agent w.part) → AllOwn a.agent (from_own a.agent q.part)
     own_part_right alone =
-        subst (λ (x : ℕ). AllOwn x (from_own x q.part)) (sym p.agent) (own_from_right s.agent p.part q.part (subst (λ z. AllOwn s.agent (from_own s.agent z)) new_is alone))
+        subst (λ (x : ℕ). AllOwn x (from_own x q.part)) (sym p.agent)
+        (own_from_right s.agent p.part q.part (subst (λ z. AllOwn s.agent (from_own s.agent z)) new_is alone))
 
   -- what stands after a call's first event stands after an own event
-  pub moves_then : (s a t : Seat N) (e : Event N) (rest ys zs : List (Event N)) (p : Puts s (e ∷ rest) a) (q : Puts a ys t) (w : Puts s zs t) → e.agent ≡ s.agent
+  pub moves_then : (s a t : Seat N) (e : Event N) (rest ys zs : List (Event N)) (p : Puts s (e ∷ rest) a) (q : Puts a ys t) (w : Puts s zs t)
+      → e.agent ≡ s.agent
       → moves_in q.part ≤ moves_in (from_own s.agent w.part)
   moves_then s a t e rest ys zs p q w own =
       let f = filter-at (λ x. x.agent == s.agent) p.part [] e rest p.own_is in
-      let is : w.part ≡ f.before ++ e ∷ (f.later ++ q.part) = new_is s a t (e ∷ rest) ys zs p q w ∙ (ap (λ z. z ++ q.part) f.is ∙ append_assoc f.before (e ∷ f.later) q.part) in
+      let is : w.part ≡ f.before ++ e ∷ (f.later ++ q.part) = new_is s a t (e ∷ rest) ys zs p q w
+      ∙ (ap (λ z. z ++ q.part) f.is ∙ append_assoc f.before (e ∷ f.later) q.part) in
       rw is (omega (arith, moves_after_own s.agent f.before e (f.later ++ q.part) own, moves_in-append f.later q.part))
 
   -- what a look put into a free slot
@@ -101,7 +104,8 @@ module _ {N : Type 0} where
     slot_released u v same w = w.slots ∙ (ap (λ z. slice_set z h.slot None) same ∙ given-back s.slots t.slots slot id h free.empty i.at i.slots)
 
   -- a once linked node isn't the fresh one
-  pub linked_not_fresh : (n : HeapNumbers) (s : Seat N) (id : ℕ) → ((i : ℕ) → s.fresh ≡ Some i → IsUntouched s.agent (heap_of n s) i) → IsLinkedNode (heap_of n s) id → s.fresh ≢ Some id
+  pub linked_not_fresh : (n : HeapNumbers) (s : Seat N) (id : ℕ) → ((i : ℕ) → s.fresh ≡ Some i → IsUntouched s.agent (heap_of n s) i)
+      → IsLinkedNode (heap_of n s) id → s.fresh ≢ Some id
   linked_not_fresh n s id untouched l = λ e.
       let u = untouched id e in
       let both : Some u.node ≡ Some l.node = sym u.there ∙ l.there in
@@ -115,12 +119,14 @@ unless_other None id ne = refl
 unless_other (Some i) id ne = rw (ne_eqb id i (λ e. ne (ap (λ (x : ℕ). Some x) (sym e)))) refl
 
 module _ {N : Type 0} where
-  pub release_fresh : (n : HeapNumbers) (u v : Seat N) (h : Hold) → ((i : ℕ) → u.fresh ≡ Some i → IsUntouched u.agent (heap_of n u) i) → IsLinkedNode (heap_of n u) (id_in u.slots h)
+  pub release_fresh : (n : HeapNumbers) (u v : Seat N) (h : Hold) → ((i : ℕ) → u.fresh ≡ Some i → IsUntouched u.agent (heap_of n u) i)
+      → IsLinkedNode (heap_of n u) (id_in u.slots h)
       → Releases u h v → v.fresh ≡ u.fresh
   release_fresh n u v h untouched l w = w.fresh ∙ unless_other u.fresh (id_in u.slots h) (linked_not_fresh n u (id_in u.slots h) untouched l)
 
   -- a swing that missed leaves the fresh node
-  pub missed_fresh : {at : At} {from to : Want} {noted : Option N} {s t : Seat N} {done : Bool} → Swings at from to noted s done t → done ≡ false → t.fresh ≡ s.fresh
+  pub missed_fresh : {at : At} {from to : Want} {noted : Option N} {s t : Seat N} {done : Bool} → Swings at from to noted s done t → done ≡ false
+      → t.fresh ≡ s.fresh
   missed_fresh {to = to} {s = s} {t = t} w is = subst (λ (b : Bool). t.fresh ≡ (if b then unless_node s.fresh (link_in s.slots to).to else s.fresh)) is w.fresh
 
 -- what a call's events leave, where the discipline allows them
@@ -143,7 +149,8 @@ module _ {N : Type 0} (n : HeapNumbers) (holds : List (Event N) → Type 0) (may
     pub own_node_puts : (fits : (es : List (Event N)) (e : Event N) → holds es → may es e → FitsAfter n es e)
         → (moves : (es : List (Event N)) (e : Event N) → holds es → may es e → MovesLinked e.act (run_heap n es))
         → (s t : Seat N) (own : List (Event N)) (p : Puts s own t) → holds s.seen → AllAllowed may [] t.seen
-        → (id : ℕ) (x : Node) → IsOwnNode n s.agent id s.seen x → list_any (λ e. points_to e.act id) own ≡ false → IsOwnNode n s.agent id t.seen (touched_by id own x)
+        → (id : ℕ) (x : Node) → IsOwnNode n s.agent id s.seen x → list_any (λ e. points_to e.act id) own ≡ false
+        → IsOwnNode n s.agent id t.seen (touched_by id own x)
     own_node_puts fits moves s t own p k all id x o away =
         let r = own_node_told n holds may keeps fits moves s.agent id s.seen p.part x k (part_allowed may s t own p all) o (rw p.own_is away) in
         subst (λ (es : List (Event N)). IsOwnNode n s.agent id es (touched_by id own x)) (sym p.is)

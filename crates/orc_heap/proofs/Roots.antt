@@ -14,7 +14,8 @@ use Rattle.orc_heap.specs.declared.events.Event.{Event}
 use Rattle.orc_heap.specs.declared.events.Link.{Link}
 use Rattle.orc_heap.specs.declared.events.Place.TheVariants.{Next, Root}
 
-changed : (to link : Link) (root r : ℕ) (links : List Link) → slice_get (change (λ (l : Link). to) r links) root ≡ Some link → (slice_get links root ≡ Some link) ⊎ (link ≡ to)
+changed : (to link : Link) (root r : ℕ) (links : List Link) → slice_get (change (λ (l : Link). to) r links) root ≡ Some link
+    → (slice_get links root ≡ Some link) ⊎ (link ≡ to)
 changed to link root r [] e = inl e
 changed to link zero zero (x ∷ xs) e = inr (cc)
 changed to link (suc root) zero (x ∷ xs) e = inl e
@@ -29,9 +30,11 @@ root_after agent (Fill i which value) h root id link to at = inl at
 root_after agent (Aim i target) h root id link to at = inl (ap (λ (ls : List Link). slice_get ls root) (sym (target_roots as_named target _)) ∙ at)
 root_after agent (Look place seen) h root id link to at = inl at
 root_after agent (Miss place wanted found) h root id link to at = inl at
-root_after agent (Move (Next i) from target) h root id link to at = inl (ap (λ (ls : List Link). slice_get ls root) (sym (target_roots as_linked target.to _)) ∙ at)
+root_after agent (Move (Next i) from target) h root id link to at =
+    inl (ap (λ (ls : List Link). slice_get ls root) (sym (target_roots as_linked target.to _)) ∙ at)
 root_after agent (Move (Root r) from target) h root id link to at =
-    elim (changed target link root r h.roots (ap (λ (ls : List Link). slice_get ls root) (sym (target_roots as_linked target.to (set_link (Root r) target h))) ∙ at)) [
+    elim (changed target link root r h.roots
+    (ap (λ (ls : List Link). slice_get ls root) (sym (target_roots as_linked target.to (set_link (Root r) target h))) ∙ at)) [
       | inl before ↦ inl before
       | inr is ↦ inr (ap (λ (t : Option ℕ). names_node t id) (ap (λ (l : Link). l.to) (sym is) ∙ to) ∙ eq-eqb id id refl)
     ]
@@ -43,7 +46,11 @@ root_run h [] root id link to at = inl at
 root_run h (e ∷ es) root id link to at =
     elim (root_run (heap_after e.agent e.act h) es root id link to at) [
       | inr later ↦ inr (or_true (moves_to e.act id) (is_once_linked es id) (inr later))
-      | inl now ↦ elim (root_after e.agent e.act h root id link to now) [ inl before ↦ inl before | inr moved ↦ inr (or_true (moves_to e.act id) (is_once_linked es id) (inl moved)) ]
+      | inl now ↦ elim (root_after e.agent e.act h root id link to now) [
+        | inl before ↦ inl before
+        | inr moved ↦
+            inr (or_true (moves_to e.act id) (is_once_linked es id) (inl moved))
+      ]
     ]
   where
     or_true : (a b : Bool) → (a ≡ true) ⊎ (b ≡ true) → (a || b) ≡ true
@@ -57,7 +64,8 @@ null_root (suc roots) zero link e = cc
 null_root (suc roots) (suc root) link e = null_root roots root link e
 
 -- a node to which a root leads was linked
-pub root_linked : {N : Type 0} (n : HeapNumbers) (es : List (Event N)) (root id : ℕ) (link : Link) → link.to ≡ Some id → shown (run_heap n es) (Root root) ≡ Some link → is_once_linked es id ≡ true
+pub root_linked : {N : Type 0} (n : HeapNumbers) (es : List (Event N)) (root id : ℕ) (link : Link) → link.to ≡ Some id
+    → shown (run_heap n es) (Root root) ≡ Some link → is_once_linked es id ≡ true
 root_linked n es root id link to at =
     elim (root_run (new_heap n) es root id link to at) [
       | inl new ↦ absurd (let none : None ≡ Some id = ap (λ (l : Link). l.to) (sym (null_root n.roots root link new)) ∙ to in cc)

@@ -80,7 +80,8 @@ plain_moves (Move place from to) d p = absurd p
 plain_moves (Miss place wanted found) d p = refl
 
 -- the moved root, and another
-pub root_moved : (agent r : ℕ) (from to : Link) (h : Heap) → shown h (Root r) ≡ Some from → shown (heap_after agent (Move (Root r) from to) h) (Root r) ≡ Some to
+pub root_moved : (agent r : ℕ) (from to : Link) (h : Heap) → shown h (Root r) ≡ Some from
+    → shown (heap_after agent (Move (Root r) from to) h) (Root r) ≡ Some to
 root_moved agent r from to h at =
     ap (λ (l : List Link). slice_get l r) (target_roots as_linked to.to (set_link (Root r) to h)) ∙ get-change_same (λ (l : Link). to) r h.roots from at
 

@@ -43,7 +43,8 @@ module _ (old new : Slots) (slot id : ℕ) (h : Hold) (free : slice_get old slot
 
 -- a slot that is held is another than a free one
 pub held_apart : (slots : Slots) (h : Hold) (slot : ℕ) → Holds slots h → IsFree slots slot → h.slot ≢ slot
-held_apart slots h slot held free = λ e. let both : ◌≡◌ {A = Option (Option SlotNode)} (Some (Some (record { row = h.row; id = id_in slots h }))) (Some None) = sym held ∙ (ap (λ i. slice_get slots i) e ∙ free.empty) in cc
+held_apart slots h slot held free = λ e. let both : ◌≡◌ {A = Option (Option SlotNode)} (Some (Some (record { row = h.row; id = id_in slots h })))
+    (Some None) = sym held ∙ (ap (λ i. slice_get slots i) e ∙ free.empty) in cc
 
 -- what another slot holds stays held
 pub holds-other : (slots : Slots) (slot : ℕ) (x : Option SlotNode) (h : Hold) → h.slot ≢ slot → Holds slots h → Holds (slice_set slots slot x) h

@@ -34,7 +34,13 @@ opens_own {S} agent_of agent place (s ∷ ss) = cases (agent_of s == agent) refl
   where
     cases : (b : Bool) → (agent_of s == agent) ≡ b → Opens agent_of agent (suc place) ss → Opens agent_of agent place (s ∷ ss)
     cases true is k = record { before = []; is = rw is refl; begin_is = rw is (omega arith); others = refl }
-    cases false is k = record { before = s ∷ k.before; is = rw is (ap (λ z. s ∷ z) k.is); begin_is = rw is (omega (arith, k.begin_is)); others = rw is k.others }
+    cases false is k = record {
+      before = s ∷ k.before;
+      is = rw is (ap (λ z. s ∷ z) k.is);
+      begin_is = rw is (omega (arith, k.begin_is));
+      others =
+          rw is k.others;
+    }
 
 -- a journal that went on, cut where the call's part begins
 pub record Cut {S : Type 0} (agent_of : S → ℕ) (agent : ℕ) (before after : List S) : Type 0 where
@@ -87,7 +93,8 @@ part_within agent_of agent before seen after Fact grows (more, is) fact =
     let bounds = part_bounds agent_of agent before seen grows in
     (part_begin agent_of agent before seen, length seen, bounds.0, bounds.1, omega (arith, length-append seen more, ap length is), fact)
 
-alone_rest : {S : Type 0} (agent_of : S → ℕ) (agent : ℕ) (ss more : List S) → list_all (λ s. agent_of s == agent) (from_first agent_of agent (ss ++ more)) ≡ true
+alone_rest : {S : Type 0} (agent_of : S → ℕ) (agent : ℕ) (ss more : List S)
+    → list_all (λ s. agent_of s == agent) (from_first agent_of agent (ss ++ more)) ≡ true
     → list_all (λ s. agent_of s == agent) (from_first agent_of agent more) ≡ true
 unfolding from_first
 alone_rest agent_of agent [] more all = all
@@ -107,7 +114,8 @@ alone_rest {S} agent_of agent (s ∷ ss) more all = cases (agent_of s == agent) 
     cases false h rest = rest h
 
 -- a call that was alone was so in each later piece of it
-pub alone_later : {S : Type 0} (agent_of : S → ℕ) (agent : ℕ) (before mid after : List S) → IsPrefix before mid → IsPrefix mid after → IsAlone agent_of agent before after → IsAlone agent_of agent mid after
+pub alone_later : {S : Type 0} (agent_of : S → ℕ) (agent : ℕ) (before mid after : List S) → IsPrefix before mid → IsPrefix mid after
+    → IsAlone agent_of agent before after → IsAlone agent_of agent mid after
 alone_later {S} agent_of agent before mid after (first, one) (more, two) alone =
     let c = cut_more agent_of agent before after (first ++ more) (sym (append_assoc before first more) ∙ (ap (λ z. z ++ more) one ∙ two)) in
     let k = cut_more agent_of agent mid after more two in
@@ -127,9 +135,11 @@ module _ {N S : Type 0} (agent_of : S → ℕ) (events : List S → List (Event 
         (es ++ fs, sym (append_assoc (events j) es fs) ∙ (ap (λ z. z ++ fs) (sym one) ∙ (rest ∙ ap events (append_assoc j (s ∷ []) more))))
 
     one_own : (agent : ℕ) (s : S) (es : List (Event N)) → list_all (λ e. e.agent == agent_of s) es ≡ true → (agent_of s == agent) ≡ true → AllOwn agent es
-    one_own agent s es whose own = let same : agent_of s ≡ agent = eqb-true (agent_of s) agent own in subst (λ (a : ℕ). list_all (λ (e : Event N). e.agent == a) es ≡ true) same whose
+    one_own agent s es whose own = let same : agent_of s ≡ agent = eqb-true (agent_of s) agent own in
+        subst (λ (a : ℕ). list_all (λ (e : Event N). e.agent == a) es ≡ true) same whose
 
-    one_other : (agent : ℕ) (s : S) (es : List (Event N)) → list_all (λ e. e.agent == agent_of s) es ≡ true → (agent_of s == agent) ≡ false → events_by agent es ≡ []
+    one_other : (agent : ℕ) (s : S) (es : List (Event N)) → list_all (λ e. e.agent == agent_of s) es ≡ true → (agent_of s == agent) ≡ false
+        → events_by agent es ≡ []
     one_other agent s [] whose other = refl
     one_other agent s (e ∷ es) whose other =
         let k = (and-eq-true_iff (e.agent == agent_of s) (list_all (λ (x : Event N). x.agent == agent_of s) es)).0 whose in
@@ -157,7 +167,8 @@ module _ {N S : Type 0} (agent_of : S → ℕ) (events : List S → List (Event 
               own_join agent es k.new (one_own agent s es whose b.0) (k.own b.1);
         }
       where
-        cases_none : (b : Bool) → (agent_of s == agent) ≡ b → (es : List (Event N)) → list_all (λ e. e.agent == agent_of s) es ≡ true → (k : Adds agent (j ++ s ∷ []) ss)
+        cases_none : (b : Bool) → (agent_of s == agent) ≡ b → (es : List (Event N)) → list_all (λ e. e.agent == agent_of s) es ≡ true
+            → (k : Adds agent (j ++ s ∷ []) ss)
             → cond b (s ∷ own_of agent_of agent ss) (own_of agent_of agent ss) ≡ [] → events_by agent (es ++ k.new) ≡ []
         cases_none true is es whose k h = cc
         cases_none false is es whose k h =
@@ -173,7 +184,8 @@ module _ {N S : Type 0} (agent_of : S → ℕ) (events : List S → List (Event 
       pub others : events_by agent gap ≡ []
       pub alone : IsAlone agent_of agent before after → AllOwn agent part
 
-    pub part_events : (agent : ℕ) (before after : List S) (new : List (Event N)) → IsPrefix before after → events after ≡ events before ++ new → PartEvents agent before after new
+    pub part_events : (agent : ℕ) (before after : List S) (new : List (Event N)) → IsPrefix before after → events after ≡ events before ++ new
+        → PartEvents agent before after new
     part_events agent before after new grows new_is =
         let c = cut_at_part agent_of agent before after grows in
         let a = steps_add agent before c.gap in

@@ -47,7 +47,8 @@ eqb-suc i j = cases (i == j) refl
     cases true e = let k = eqb-true i j e in sym (eq-eqb (suc i) (suc j) (ap suc k))
     cases false e = let k = eqb-false i j e in sym (ne_eqb (suc i) (suc j) (λ h. k (omega arith)))
 
-flag-set : (p : Node → Bool) (f : Node → Node) → ((n : Node) → p (f n) ≡ true) → (i id : ℕ) (ns : List Node) (x : Node) → slice_get ns i ≡ Some x → flag p (change f i ns) id ≡ flag p ns id || (i == id)
+flag-set : (p : Node → Bool) (f : Node → Node) → ((n : Node) → p (f n) ≡ true) → (i id : ℕ) (ns : List Node) (x : Node) → slice_get ns i ≡ Some x
+    → flag p (change f i ns) id ≡ flag p ns id || (i == id)
 unfolding part_of
 flag-set p f k i id [] x e = cc
 flag-set p f k zero zero (n ∷ ns) x e = k n ∙ sym (ap (λ b. p n || b) (eq-eqb 0 0 refl) ∙ or-true (p n))
@@ -83,28 +84,34 @@ unfolding IsThereTo
 there_to-change f k ns None t = tt
 there_to-change f k ns (Some i) t = there-change f k i ns t
 
-target-kept : (p : Node → Bool) (f : Node → Node) → ((n : Node) → p (f n) ≡ p n) → (to : Option ℕ) (id : ℕ) (h : Heap) → flag p (change_target f to h).nodes id ≡ flag p h.nodes id
+target-kept : (p : Node → Bool) (f : Node → Node) → ((n : Node) → p (f n) ≡ p n) → (to : Option ℕ) (id : ℕ) (h : Heap)
+    → flag p (change_target f to h).nodes id ≡ flag p h.nodes id
 target-kept p f k None id h = refl
 target-kept p f k (Some i) id h = flag-kept p f k i id h.nodes
 
-target-set : (p : Node → Bool) (f : Node → Node) → ((n : Node) → p (f n) ≡ true) → (to : Option ℕ) (id : ℕ) (h : Heap) → IsThereTo h.nodes to → flag p (change_target f to h).nodes id ≡ flag p h.nodes id || names_node to id
+target-set : (p : Node → Bool) (f : Node → Node) → ((n : Node) → p (f n) ≡ true) → (to : Option ℕ) (id : ℕ) (h : Heap) → IsThereTo h.nodes to
+    → flag p (change_target f to h).nodes id ≡ flag p h.nodes id || names_node to id
 unfolding IsThereTo
 target-set p f k None id h t = sym (or-false _)
 target-set p f k (Some i) id h t = flag-set p f k i id h.nodes t.0 t.1
 
-linked-act : (agent : ℕ) (act : Act) (h : Heap) (id : ℕ) → Fits agent act h → flag (λ n. n.linked) (heap_after agent act h).nodes id ≡ flag (λ n. n.linked) h.nodes id || moves_to act id
+linked-act : (agent : ℕ) (act : Act) (h : Heap) (id : ℕ) → Fits agent act h
+    → flag (λ n. n.linked) (heap_after agent act h).nodes id ≡ flag (λ n. n.linked) h.nodes id || moves_to act id
 linked-act agent Give h id f = flag-grown _ h.nodes (new_node agent) id refl ∙ sym (or-false _)
 linked-act agent (Fill i zero value) h id f = flag-kept _ (with_value zero value) (λ n. refl) i id h.nodes ∙ sym (or-false _)
 linked-act agent (Fill i (suc which) value) h id f = flag-kept _ (with_value (suc which) value) (λ n. refl) i id h.nodes ∙ sym (or-false _)
-linked-act agent (Aim i to) h id f = target-kept _ as_named (λ n. refl) to id _ ∙ flag-kept _ (with_link (record { to = to; mark = false })) (λ n. refl) i id h.nodes ∙ sym (or-false _)
+linked-act agent (Aim i to) h id f = target-kept _ as_named (λ n. refl) to id _ ∙ flag-kept _ (with_link (record { to = to; mark = false }))
+    (λ n. refl) i id h.nodes ∙ sym (or-false _)
 linked-act agent (Look place link) h id f = sym (or-false _)
 linked-act agent (Move (Root r) from to) h id f = target-set _ as_linked (λ n. refl) to.to id _ (target_there agent h to.to f.1)
 linked-act agent (Move (Next i) from to) h id f =
-    target-set _ as_linked (λ n. refl) to.to id (change_node (with_link to) i h) (there_to-change (with_link to) i h.nodes to.to (target_there agent h to.to f.1))
+    target-set _ as_linked (λ n. refl) to.to id (change_node (with_link to) i h)
+    (there_to-change (with_link to) i h.nodes to.to (target_there agent h to.to f.1))
     ∙ ap (λ b. b || names_node to.to id) (flag-kept _ (with_link to) (λ n. refl) i id h.nodes)
 linked-act agent (Miss place wanted found) h id f = sym (or-false _)
 
-named-act : (agent : ℕ) (act : Act) (h : Heap) (id : ℕ) → Fits agent act h → flag (λ n. n.named) (heap_after agent act h).nodes id ≡ flag (λ n. n.named) h.nodes id || points_to act id
+named-act : (agent : ℕ) (act : Act) (h : Heap) (id : ℕ) → Fits agent act h
+    → flag (λ n. n.named) (heap_after agent act h).nodes id ≡ flag (λ n. n.named) h.nodes id || points_to act id
 named-act agent Give h id f = flag-grown _ h.nodes (new_node agent) id refl ∙ sym (or-false _)
 named-act agent (Fill i zero value) h id f = flag-kept _ (with_value zero value) (λ n. refl) i id h.nodes ∙ sym (or-false _)
 named-act agent (Fill i (suc which) value) h id f = flag-kept _ (with_value (suc which) value) (λ n. refl) i id h.nodes ∙ sym (or-false _)
@@ -115,18 +122,21 @@ named-act agent (Aim i to) h id f =
 named-act agent (Look place link) h id f = sym (or-false _)
 named-act agent (Move (Root r) from to) h id f = target-set _ as_linked (λ n. refl) to.to id _ (target_there agent h to.to f.1)
 named-act agent (Move (Next i) from to) h id f =
-    target-set _ as_linked (λ n. refl) to.to id (change_node (with_link to) i h) (there_to-change (with_link to) i h.nodes to.to (target_there agent h to.to f.1))
+    target-set _ as_linked (λ n. refl) to.to id (change_node (with_link to) i h)
+    (there_to-change (with_link to) i h.nodes to.to (target_there agent h to.to f.1))
     ∙ ap (λ b. b || names_node to.to id) (flag-kept _ (with_link to) (λ n. refl) i id h.nodes)
 named-act agent (Miss place wanted found) h id f = sym (or-false _)
 
-linked-run : {N : Type 0} (h : Heap) (es : List (Event N)) (id : ℕ) → IsLawfulFrom h es → flag (λ n. n.linked) (run_from h es).nodes id ≡ flag (λ n. n.linked) h.nodes id || is_once_linked es id
+linked-run : {N : Type 0} (h : Heap) (es : List (Event N)) (id : ℕ) → IsLawfulFrom h es
+    → flag (λ n. n.linked) (run_from h es).nodes id ≡ flag (λ n. n.linked) h.nodes id || is_once_linked es id
 linked-run h [] id l = sym (or-false _)
 linked-run h (e ∷ es) id l =
     linked-run (heap_after e.agent e.act h) es id l.1
     ∙ ap (λ b. b || is_once_linked es id) (linked-act e.agent e.act h id l.0)
     ∙ or-assoc _ (moves_to e.act id) (is_once_linked es id)
 
-named-run : {N : Type 0} (h : Heap) (es : List (Event N)) (id : ℕ) → IsLawfulFrom h es → flag (λ n. n.named) (run_from h es).nodes id ≡ flag (λ n. n.named) h.nodes id || is_once_named es id
+named-run : {N : Type 0} (h : Heap) (es : List (Event N)) (id : ℕ) → IsLawfulFrom h es
+    → flag (λ n. n.named) (run_from h es).nodes id ≡ flag (λ n. n.named) h.nodes id || is_once_named es id
 named-run h [] id l = sym (or-false _)
 named-run h (e ∷ es) id l =
     named-run (heap_after e.agent e.act h) es id l.1
@@ -141,10 +151,12 @@ there_part : (p : Node → Bool) (o : Option Node) (n : Node) → o ≡ Some n �
 unfolding part_of
 there_part p o n e = rw e
 
-pub linked_told : {N : Type 0} (n : HeapNumbers) (es : List (Event N)) (id : ℕ) (node : Node) → IsLawful n es → slice_get (run_heap n es).nodes id ≡ Some node → node.linked ≡ is_once_linked es id
+pub linked_told : {N : Type 0} (n : HeapNumbers) (es : List (Event N)) (id : ℕ) (node : Node) → IsLawful n es
+    → slice_get (run_heap n es).nodes id ≡ Some node → node.linked ≡ is_once_linked es id
 linked_told n es id node l e =
     there_part (λ x. x.linked) _ node e ∙ linked-run (new_heap n) es id l ∙ ap (λ b. b || is_once_linked es id) (none-there (λ x. x.linked) id)
 
-pub named_told : {N : Type 0} (n : HeapNumbers) (es : List (Event N)) (id : ℕ) (node : Node) → IsLawful n es → slice_get (run_heap n es).nodes id ≡ Some node → node.named ≡ is_once_named es id
+pub named_told : {N : Type 0} (n : HeapNumbers) (es : List (Event N)) (id : ℕ) (node : Node) → IsLawful n es
+    → slice_get (run_heap n es).nodes id ≡ Some node → node.named ≡ is_once_named es id
 named_told n es id node l e =
     there_part (λ x. x.named) _ node e ∙ named-run (new_heap n) es id l ∙ ap (λ b. b || is_once_named es id) (none-there (λ x. x.named) id)

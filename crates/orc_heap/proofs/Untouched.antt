@@ -29,7 +29,8 @@ names_other None id other = refl
 names_other (Some i) id other = ne_eqb i id (λ e. other (ap Some e))
 
 -- an act that makes no link to an untouched node leaves it so
-pub untouched_after : (agent by : ℕ) (h : Heap) (act : Act) (id : ℕ) → points_to act id ≡ false → IsUntouched agent h id → IsUntouched agent (heap_after by act h) id
+pub untouched_after : (agent by : ℕ) (h : Heap) (act : Act) (id : ℕ) → points_to act id ≡ false → IsUntouched agent h id
+    → IsUntouched agent (heap_after by act h) id
 untouched_after agent by h act id away u =
     let own = stays_own agent act id u.node away (record { mine = u.mine; unnamed = u.unnamed; unlinked = u.unlinked }) in
     record { node = touched act id u.node; there = node-after by act h id u.node u.there; mine = own.mine; unnamed = own.unnamed; unlinked = own.unlinked }
@@ -39,7 +40,9 @@ others_away : (agent by : ℕ) (h : Heap) (act : Act) (id : ℕ) → by ≢ agen
 others_away agent by h act id other fits u = away act fits
   where
     none_names : (to : Option ℕ) → IsTarget by h to → names_node to id ≡ false
-    none_names to known = false_from_ne_true (names_node to id) (not_reached agent by h to id u.node other u.there (record { mine = u.mine; unnamed = u.unnamed; unlinked = u.unlinked }) known)
+    none_names to known =
+        false_from_ne_true (names_node to id)
+        (not_reached agent by h to id u.node other u.there (record { mine = u.mine; unnamed = u.unnamed; unlinked = u.unlinked }) known)
 
     away : (act : Act) → Fits by act h → points_to act id ≡ false
     away Give fits = refl
@@ -50,8 +53,10 @@ others_away agent by h act id other fits u = away act fits
     away (Miss place wanted found) fits = refl
 
 -- over other agents' events that fit, an untouched node stays so
-pub untouched_from : {N : Type 0} (agent : ℕ) (h : Heap) (es : List (Event N)) (id : ℕ) → events_by agent es ≡ [] → IsLawfulFrom h es → IsUntouched agent h id → IsUntouched agent (run_from h es) id
+pub untouched_from : {N : Type 0} (agent : ℕ) (h : Heap) (es : List (Event N)) (id : ℕ) → events_by agent es ≡ [] → IsLawfulFrom h es
+    → IsUntouched agent h id → IsUntouched agent (run_from h es) id
 untouched_from agent h [] id none fits u = u
 untouched_from agent h (e ∷ es) id none fits u =
     let o = other_first agent e es none in
-    untouched_from agent (heap_after e.agent e.act h) es id o.1 fits.1 (untouched_after agent e.agent h e.act id (others_away agent e.agent h e.act id o.0 fits.0 u) u)
+    untouched_from agent (heap_after e.agent e.act h) es id o.1 fits.1
+    (untouched_after agent e.agent h e.act id (others_away agent e.agent h e.act id o.0 fits.0 u) u)

@@ -3,15 +3,15 @@ use Rattle.std.specs.Borrow.{Bor}
 use Rattle.std.specs.Prelude.{Bool, List, MatchBool, None, Option, Some, [], filter, false, if◌then◌else◌, length, slice_get, slice_set, suc, true, zero, ℕ, ◌==◌, ◌∷◌, ◌≡◌, ◌≢◌, ◌≤◌, ◌⊎◌}
 use mathlib.Core.List.{IsPrefix}
 use Rattle.orc_fault.specs.declared.Spent.{Spent}
-use Rattle.orc_heap.specs.Allowed.{events_by}
+use Rattle.orc_heap.specs.Allowed.{AllowedLater, AllowedWhereFits, events_by}
 use Rattle.orc_heap.specs.Heap.{Heap, HeapNumbers, Node, null}
 use Rattle.orc_heap.specs.Journals.{event_by, points_to, run_heap}
 use Rattle.orc_heap.specs.OwnEvents.{Puts}
 use Rattle.orc_history.specs.Journals.{own_of}
-use Rattle.orc_heap.specs.Seats.{Seat, link_in, place_in}
+use Rattle.orc_heap.specs.Seats.{Seat, link_in, place_in, target_in}
 use Rattle.orc_heap.specs.Slots.{Hold, Slots, id_in}
 use Rattle.orc_heap.specs.declared.events.Act.{Act}
-use Rattle.orc_heap.specs.declared.events.Act.TheVariants.{Fill, Give, Look, Miss, Move}
+use Rattle.orc_heap.specs.declared.events.Act.TheVariants.{Aim, Fill, Give, Look, Miss, Move}
 use Rattle.orc_heap.specs.declared.events.Event.{Event}
 use Rattle.orc_heap.specs.declared.events.Link.{Link}
 use Rattle.orc_heap.specs.declared.events.Place.{Place}
@@ -32,6 +32,29 @@ move_of s at from to noted = event_of s (Move (place_in s.slots at) (link_in s.s
 -- the Look that a caller asks for
 abbrev pub look_of : {N : Type 0} → Seat N → At → Want → Option N → Event N
 look_of s at wanted noted = event_of s (Look (place_in s.slots at) (link_in s.slots wanted)) noted
+
+-- the Fill that a caller asks for
+abbrev pub fill_of : {N : Type 0} → Seat N → Hold → ℕ → ℕ → Event N
+fill_of s fresh which value = event_of s (Fill (id_in s.slots fresh) which value) None
+
+-- the Aim that a caller asks for
+abbrev pub aim_of : {N : Type 0} → Seat N → Hold → Option (Bor Hold) → Event N
+aim_of s fresh to = event_of s (Aim (id_in s.slots fresh) (target_in s.slots to)) None
+
+module _ {N : Type 0} (may : List (Event N) → Event N → Type 0) (n : HeapNumbers) where
+  -- the discipline allows this Look, wherever the place shows the link
+  abbrev pub MayLook : Seat N → At → Want → Option N → Type 0
+  MayLook s at wanted noted =
+      AllowedLater may n s.agent s.seen (place_in s.slots at) (link_in s.slots wanted) (look_of s at wanted noted)
+
+  -- it allows this Move, wherever the place shows the first link
+  abbrev pub MayMove : Seat N → At → Want → Want → Option N → Type 0
+  MayMove s at from to noted =
+      AllowedLater may n s.agent s.seen (place_in s.slots at) (link_in s.slots from) (move_of s at from to noted)
+
+  -- it allows this Aim, wherever that fits
+  abbrev pub MayAim : Seat N → Hold → Option (Bor Hold) → Type 0
+  MayAim s fresh to = AllowedWhereFits may n s.agent s.seen (aim_of s fresh to)
 
 -- a node that was given to this agent and has these values, a null link, and no link to it
 abbrev pub given_node : ℕ → ℕ → ℕ → Node
@@ -55,7 +78,8 @@ abbrev pub Tells : {N : Type 0} → Place → ℕ → Seat N → Looked → Seat
 Tells place slot s (Stable seen None) t =
     (seen.null ≡ true) × (t.slots ≡ s.slots) × Puts s (event_of s (Look place (record { to = None; mark = seen.mark })) None ∷ []) t
 Tells place slot s (Stable seen (Some h)) t =
-    (id : ℕ) × (one : Link) × (one.to ≢ None) × (one.mark ≡ seen.mark) × (seen.null ≡ false) × (h.slot ≡ slot) × (t.slots ≡ slice_set s.slots slot (Some (record { row = h.row; id = id })))
+    (id : ℕ) × (one : Link) × (one.to ≢ None) × (one.mark ≡ seen.mark) × (seen.null ≡ false) × (h.slot ≡ slot)
+    × (t.slots ≡ slice_set s.slots slot (Some (record { row = h.row; id = id })))
     × Puts s (event_of s (Look place one) None ∷ event_of s (Look place (record { to = Some id; mark = seen.mark })) None ∷ []) t
 Tells place slot s Moved t =
     (one : Link) × (two : Link) × (one ≢ two) × (t.slots ≡ s.slots)

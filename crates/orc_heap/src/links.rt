@@ -8,13 +8,12 @@ ghost use Rattle.orc_heap.specs.Heap.{HeapNumbers};
 ghost use Rattle.orc_heap.specs.Acts.{IsKnown};
 ghost use Rattle.orc_heap.specs.Journals.{run_heap};
 ghost use Rattle.orc_heap.specs.Moves.{gives_in};
-ghost use Rattle.orc_heap.specs.Allowed.{AllAllowed, AllowedLater, AllowedWhereFits};
+ghost use Rattle.orc_heap.specs.Allowed.{AllAllowed};
 ghost use Rattle.orc_heap.specs.Slots.{Hold, Holds, IsFree, id_in};
-ghost use Rattle.orc_heap.specs.Seats.{HoldsFresh, HoldsPlace, HoldsTarget, HoldsWant, IsIdle, IsNotFresh, IsUntouched, Seat, link_in, place_in, target_in};
+ghost use Rattle.orc_heap.specs.Seats.{HoldsFresh, HoldsPlace, HoldsTarget, HoldsWant, IsIdle, IsNotFresh, IsUntouched, Seat, place_in};
 ghost use Rattle.orc_heap.specs.OwnEvents.{IsBelow, Only};
 ghost use Rattle.orc_history.specs.Parts.{InPart, IsAlone};
-ghost use Rattle.orc_heap.specs.Calls.{Gives, IsWorn, Learns, Looks, ReadsValue, RefusesAim, RefusesSwing, Releases, Swings, Tests, event_of, look_of, move_of};
-ghost use Rattle.orc_heap.specs.declared.events.Act.TheVariants.{Aim, Fill};
+ghost use Rattle.orc_heap.specs.Calls.{Gives, Learns, Looks, MayAim, MayLook, MayMove, ReadsValue, RefusesAim, RefusesSwing, Releases, Swings, Tests, aim_of, fill_of};
 ghost use Rattle.orc_heap.specs.declared.events.Event.{Event};
 
 use crate::discipline::Discipline;
@@ -97,8 +96,7 @@ pub trait Links {
         requires which { which < 2 }
         ensures pass { belongs self.now p.new }
         ensures later { IsPrefix (journal p.old) (journal p.new) }
-        ensures filled { Only (event_of (seat self.now p.old) (Fill (id_in (seat self.now p.old).slots fresh.now) which value) None ∷ [])
-            (seat self.now p.old) (seat self.now p.new) };
+        ensures filled { Only (fill_of (seat self.now p.old) fresh.now which value ∷ []) (seat self.now p.old) (seat self.now p.new) };
 
     /// One try of a protected load: reads the link, protects its target in this slot, and reads the link again.
     fn look(&self, p: &mut Self::Pass, place: &At, slot: u32) -> Looked
@@ -120,10 +118,7 @@ pub trait Links {
         requires pass { belongs self.now p.old }
         requires place { HoldsPlace (numbers self.now).roots (seat self.now p.old).slots place.now }
         requires link { HoldsWant (seat self.now p.old).slots link.now }
-        requires allowed { AllowedLater (Self.Rule.may (numbers self.now)) (numbers self.now)
-            (seat self.now p.old).agent (seat self.now p.old).seen
-            (place_in (seat self.now p.old).slots place.now) (link_in (seat self.now p.old).slots link.now)
-            (look_of (seat self.now p.old) place.now link.now note) }
+        requires allowed { MayLook (Self.Rule.may (numbers self.now)) (numbers self.now) (seat self.now p.old) place.now link.now note }
         ensures pass { belongs self.now p.new }
         ensures later { IsPrefix (journal p.old) (journal p.new) }
         ensures tested { Tests place.now link.now note (seat self.now p.old) result (seat self.now p.new) };
@@ -143,13 +138,10 @@ pub trait Links {
         requires pass { belongs self.now p.old }
         requires fresh { HoldsFresh (seat self.now p.old) fresh.now }
         requires target { HoldsTarget (seat self.now p.old) to }
-        requires allowed { AllowedWhereFits (Self.Rule.may (numbers self.now)) (numbers self.now)
-            (seat self.now p.old).agent (seat self.now p.old).seen
-            (event_of (seat self.now p.old) (Aim (id_in (seat self.now p.old).slots fresh.now) (target_in (seat self.now p.old).slots to)) None) }
+        requires allowed { MayAim (Self.Rule.may (numbers self.now)) (numbers self.now) (seat self.now p.old) fresh.now to }
         ensures pass { belongs self.now p.new }
         ensures later { IsPrefix (journal p.old) (journal p.new) }
-        ensures aimed { IfOk result (λ _. Only (event_of (seat self.now p.old) (Aim (id_in (seat self.now p.old).slots fresh.now)
-            (target_in (seat self.now p.old).slots to.entry)) None ∷ []) (seat self.now p.old) (seat self.now p.new)) }
+        ensures aimed { IfOk result (λ _. Only (aim_of (seat self.now p.old) fresh.now to.entry ∷ []) (seat self.now p.old) (seat self.now p.new)) }
         ensures none { IfErr result (λ e. Only [] (seat self.now p.old) (seat self.now p.new)) }
         ensures spent { IfErr result (λ e. RefusesAim (seat self.now p.old).slots to.entry e (seat self.now p.new).seen) }
         ensures worn { IfErr result (λ e. InPart agent_of (seat self.now p.old).agent (journal p.old) (journal p.new)
@@ -168,10 +160,7 @@ pub trait Links {
         requires place { HoldsPlace (numbers self.now).roots (seat self.now p.old).slots place.now }
         requires linked { IsNotFresh (seat self.now p.old) place.now }
         requires links { HoldsWant (seat self.now p.old).slots from.now × HoldsWant (seat self.now p.old).slots to.now }
-        requires allowed { AllowedLater (Self.Rule.may (numbers self.now)) (numbers self.now)
-            (seat self.now p.old).agent (seat self.now p.old).seen
-            (place_in (seat self.now p.old).slots place.now) (link_in (seat self.now p.old).slots from.now)
-            (move_of (seat self.now p.old) place.now from.now to.now note) }
+        requires allowed { MayMove (Self.Rule.may (numbers self.now)) (numbers self.now) (seat self.now p.old) place.now from.now to.now note }
         ensures pass { belongs self.now p.new }
         ensures later { IsPrefix (journal p.old) (journal p.new) }
         ensures swung { IfOk result (λ done. Swings place.now from.now to.now note (seat self.now p.old) done (seat self.now p.new)) }

@@ -22,8 +22,11 @@ pub IsLegalFrom-snoc : (n : ℕ) (w : List (ℕ × ℕ)) (es : List QueueEntry) 
     → IsLegalFrom n w es → IsLegalFrom (n + puts_in es) (waiting_after w es) (e ∷ []) → IsLegalFrom n w (es ++ e ∷ [])
 IsLegalFrom-snoc n w [] e legal fits = subst (λ k. IsLegalFrom k w (e ∷ [])) (add-zero n) fits
 IsLegalFrom-snoc n w (Put agent job at ∷ es) e legal fits =
-    let same : n + (puts_in es + 1) ≡ (n + 1) + puts_in es = omega arith in
-    (legal.0, IsLegalFrom-snoc (n + 1) (w ++ (job, at) ∷ []) es e legal.1 (subst (λ k. IsLegalFrom k (waiting_after (w ++ (job, at) ∷ []) es) (e ∷ [])) same fits))
+    let same : n + (puts_in es + 1) ≡ (n + 1) + puts_in es = omega arith in (
+      legal.0,
+      IsLegalFrom-snoc (n + 1) (w ++ (job, at) ∷ []) es e legal.1
+          (subst (λ k. IsLegalFrom k (waiting_after (w ++ (job, at) ∷ []) es) (e ∷ [])) same fits),
+    )
 IsLegalFrom-snoc n w (Took agent job at ∷ es) e (rest, is, legal) fits =
     (rest, is, IsLegalFrom-snoc n rest es e legal (rw is at fits))
 IsLegalFrom-snoc n w (Empty agent ∷ es) e legal fits = (legal.0, IsLegalFrom-snoc n w es e legal.1 fits)

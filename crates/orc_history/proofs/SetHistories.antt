@@ -29,7 +29,8 @@ pub IsPermutation-with_key : (key : ℕ) (answer : Bool) (xs ys : List ℕ) → 
 IsPermutation-with_key key true xs ys same = IsPermutation-append_left (key ∷ []) xs ys same
 IsPermutation-with_key key false xs ys same = same
 
-pub IsPermutation-without_key : (key : ℕ) (answer : Bool) (xs ys : List ℕ) → IsPermutation xs ys → IsPermutation (without_key key answer xs) (without_key key answer ys)
+pub IsPermutation-without_key : (key : ℕ) (answer : Bool) (xs ys : List ℕ) → IsPermutation xs ys
+    → IsPermutation (without_key key answer xs) (without_key key answer ys)
 IsPermutation-without_key key true xs ys same = IsPermutation-filter _ xs ys same
 IsPermutation-without_key key false xs ys same = same
 

@@ -73,7 +73,9 @@ pub remove-without_key : (key : ℕ) (xs : List ℕ) (i : ℕ) → IsStrictlyInc
 remove-without_key key [] i rising low is = absurd (omega arith)
 remove-without_key key (x ∷ xs) zero rising low is =
     let first : (x == key) ≡ true = grind (arith, nat_tests) in
-    rw first (sym (filter_none key xs (λ k low. let below : x < get_or xs k 0 = AllPairs-from_increasing (x ∷ xs) rising 0 (suc k) 0 (omega arith) (omega arith) in omega arith)))
+    rw first (sym
+    (filter_none key xs (λ k low. let below : x < get_or xs k 0 =
+    AllPairs-from_increasing (x ∷ xs) rising 0 (suc k) 0 (omega arith) (omega arith) in omega arith)))
 remove-without_key key (x ∷ xs) (suc i) rising low is =
     let below : x < get_or xs i 0 = AllPairs-from_increasing (x ∷ xs) rising 0 (suc i) 0 (omega arith) (omega arith) in
     let first : (x == key) ≡ false = grind (arith, nat_tests) in
@@ -96,4 +98,5 @@ IsStrictlyIncreasing-insert key (x ∷ []) (suc (suc i)) rising below above =
     rising_cons x (key ∷ []) (λ _. below 0 (omega arith)) (rising_cons key [] (λ low. absurd (omega arith)) (rising_tail x [] rising))
 IsStrictlyIncreasing-insert key (x ∷ y ∷ xs) (suc (suc i)) rising below above =
     rising_cons x (y ∷ insert xs i key) (λ _. rising 0 (omega arith))
-    (IsStrictlyIncreasing-insert key (y ∷ xs) (suc i) (rising_tail x (y ∷ xs) rising) (λ k low. below (suc k) (omega arith)) (λ k low high. above (suc k) (omega arith) (omega arith)))
+    (IsStrictlyIncreasing-insert key (y ∷ xs) (suc i) (rising_tail x (y ∷ xs) rising) (λ k low. below (suc k) (omega arith))
+    (λ k low high. above (suc k) (omega arith) (omega arith)))

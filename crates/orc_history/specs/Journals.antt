@@ -20,7 +20,8 @@ pub record Adds {E : Type 0} (agent_of : E → ℕ) (crowd : ℕ → Type 0) (ag
 
 -- two passes learn from each other: each has then seen the longer of their two journals, of which the shorter is the beginning, and
 -- in its history the entries of each of the two agents are those that its own pass had seen
-pub record LearnsEntries {S E : Type 0} (history : List S → List E) (agent_of : E → ℕ) (agent1 agent2 : ℕ) (before1 before2 after1 after2 : List S) : Type 0 where
+pub record LearnsEntries {S E : Type 0} (history : List S → List E) (agent_of : E → ℕ) (agent1 agent2 : ℕ)
+    (before1 before2 after1 after2 : List S) : Type 0 where
   pub one : after1 ≡ after2
   pub longer : (IsPrefix before1 before2 × (after1 ≡ before2)) ⊎ (IsPrefix before2 before1 × (after1 ≡ before1))
   pub own1 : own_of agent_of agent1 (history after1) ≡ own_of agent_of agent1 (history before1)

@@ -25,7 +25,8 @@ two-fields (x ∷ []) a b n p q = absurd (omega (arith, n))
 two-fields (x ∷ y ∷ []) a b n p q = cc
 two-fields (x ∷ y ∷ z ∷ rest) a b n p q = absurd (omega (arith, n))
 
-four-fields : (fields : List (List ℕ)) (a b c d : List ℕ) → length fields ≡ 4 → field fields 0 ≡ a → field fields 1 ≡ b → field fields 2 ≡ c → field fields 3 ≡ d
+four-fields : (fields : List (List ℕ)) (a b c d : List ℕ) → length fields ≡ 4 → field fields 0 ≡ a → field fields 1 ≡ b → field fields 2 ≡ c
+    → field fields 3 ≡ d
     → fields ≡ a ∷ b ∷ c ∷ d ∷ []
 four-fields [] a b c d n p q r s = absurd (omega (arith, n))
 four-fields (x ∷ []) a b c d n p q r s = absurd (omega (arith, n))

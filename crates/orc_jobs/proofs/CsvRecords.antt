@@ -87,7 +87,8 @@ reached-few s xs (row ∷ rows) s2 ys r h =
     omega arith
 
 -- the records that were reached, and then the others
-pub reached-from : (n : ℕ) (s : State) (xs : List ℕ) (rows : List (List (List ℕ))) (s2 : State) (ys : List ℕ) → length rows ≤ n → Reached default_config s xs rows s2 ys
+pub reached-from : (n : ℕ) (s : State) (xs : List ℕ) (rows : List (List (List ℕ))) (s2 : State) (ys : List ℕ) → length rows ≤ n
+    → Reached default_config s xs rows s2 ys
     → records_from default_config n s xs ≡ rows ++ records_from default_config (n - length rows) s2 ys
 unfolding Reached records_from
 reached-from n s xs [] s2 ys few h =
@@ -100,7 +101,8 @@ reached-from (suc n) s xs (row ∷ rows) s2 ys few h =
     rw (h.1, h.2) (ap (λ (t : List (List (List ℕ))). h.0.0 ∷ t) (more ∙ ap (λ m. rows ++ records_from default_config m s2 ys) same))
 
 -- past the last record there is none
-pub none-from : (n : ℕ) (s : State) (ys : List ℕ) → next_record default_config s [] [] ys ≡ None → ◌≡◌ {A = List (List (List ℕ))} (records_from default_config n s ys) []
+pub none-from : (n : ℕ) (s : State) (ys : List ℕ) → next_record default_config s [] [] ys ≡ None
+    → ◌≡◌ {A = List (List (List ℕ))} (records_from default_config n s ys) []
 unfolding records_from
 none-from zero s ys e = refl
 none-from (suc n) s ys e = rw e refl

@@ -148,7 +148,8 @@ same-lines (x ∷ xs) [] h k e = cc e
 same-lines (x ∷ xs) (y ∷ ys) h k e =
     let first : record_of x ≡ record_of y = cc e in
     let rest : map record_of xs ≡ map record_of ys = cc e in
-    ap₂ (λ l ls. l ∷ ls) (same-line x y (All-head IsLine x xs h) (All-head IsLine y ys k) first) (same-lines xs ys (All-tail IsLine x xs h) (All-tail IsLine y ys k) rest)
+    ap₂ (λ l ls. l ∷ ls) (same-line x y (All-head IsLine x xs h) (All-head IsLine y ys k) first)
+    (same-lines xs ys (All-tail IsLine x xs h) (All-tail IsLine y ys k) rest)
 
 -- no record of a list of lines has a cause
 none-bad : (lines front : List Line) (bad : List (List ℕ)) (rest : List (List (List ℕ))) (why : Cause) → All IsLine lines
@@ -174,7 +175,8 @@ none-bad-before (l ∷ ls) (f ∷ fs) bad more rest why each lt e h =
     none-bad-before ls fs bad more rest why (All-tail IsLine l ls each) (omega (arith, lt)) same h
 
 -- behind as many lines stands the same record
-same-place : (a b : List Line) (x y : List (List ℕ)) (xs ys : List (List (List ℕ))) → length a ≡ length b → map record_of a ++ (x ∷ xs) ≡ map record_of b ++ (y ∷ ys) → x ≡ y
+same-place : (a b : List Line) (x y : List (List ℕ)) (xs ys : List (List (List ℕ))) → length a ≡ length b
+    → map record_of a ++ (x ∷ xs) ≡ map record_of b ++ (y ∷ ys) → x ≡ y
 same-place [] [] x y xs ys n e = cc e
 same-place [] (b ∷ bs) x y xs ys n e = absurd (omega (arith, n))
 same-place (a ∷ as1) [] x y xs ys n e = absurd (omega (arith, n))
@@ -192,7 +194,15 @@ file-refused bytes lines (fault.Malformed at why) file refusal =
 file-refused bytes lines fault.TooMany file refusal =
     let sizes = ap length (sym file.records ∙ refusal.3.records) in
     let few = file.few in
-    absurd (omega (arith, sizes, few, refusal.4, length-map lines record_of, length-map refusal.0 record_of, length-append (map record_of refusal.0) (refusal.1 ∷ refusal.2)))
+    absurd (omega (
+      arith,
+      sizes,
+      few,
+      refusal.4,
+      length-map lines record_of,
+      length-map refusal.0 record_of,
+      length-append (map record_of refusal.0) (refusal.1 ∷ refusal.2),
+    ))
 file-refused bytes lines fault.NoMemory file refusal = refl
 
 -- a file with a cause is no file of lines, and one with too many records neither
@@ -211,7 +221,8 @@ not-too-many bytes at why bad many =
     none-bad-before many.0 bad.0 bad.1 (many.1 ∷ many.2) bad.2 why many.3.each (omega arith) (sym many.3.records ∙ bad.3.records) bad.6
 
 -- and the first record with a cause is one
-same-refusal : (bytes : List ℕ) (at : ℕ) (why : Cause) (there : ℕ) (other : Cause) → Refuses bytes (fault.Malformed at why) → Refuses bytes (fault.Malformed there other)
+same-refusal : (bytes : List ℕ) (at : ℕ) (why : Cause) (there : ℕ) (other : Cause) → Refuses bytes (fault.Malformed at why)
+    → Refuses bytes (fault.Malformed there other)
     → fault.Malformed there other ≡ fault.Malformed at why
 same-refusal bytes at why there other x y =
     let place = x.4 in
@@ -226,7 +237,8 @@ same-refusal bytes at why there other x y =
       ]
     ]
 
-pub refused-bad : (bytes : List ℕ) (at : ℕ) (why : Cause) (f : JobsFault) → Refuses bytes (fault.Malformed at why) → Refuses bytes f → (f ≡ fault.Malformed at why) ⊎ (f ≡ fault.NoMemory)
+pub refused-bad : (bytes : List ℕ) (at : ℕ) (why : Cause) (f : JobsFault) → Refuses bytes (fault.Malformed at why) → Refuses bytes f
+    → (f ≡ fault.Malformed at why) ⊎ (f ≡ fault.NoMemory)
 refused-bad bytes at why (fault.Malformed there other) bad found = inl (same-refusal bytes at why there other bad found)
 refused-bad bytes at why fault.TooMany bad found = absurd (not-too-many bytes at why bad found)
 refused-bad bytes at why fault.NoMemory bad found = inr refl

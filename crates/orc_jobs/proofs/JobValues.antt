@@ -28,7 +28,8 @@ count_by-places_more p n =
     let e : 0 + n ≡ n = omega arith in
     rw (next, range_with_len-push 0 n, e) (sum_by_push (λ k. cond (p k) 1 0) (range_with_len 0 n) n)
 
-pub count_by-places : (p : ℕ → Bool) (n words : ℕ) (b : Bool) → words ≡ count_by p (range_with_len 0 n) → p n ≡ b → words + cond b 1 0 ≡ count_by p (range_with_len 0 (n + 1))
+pub count_by-places : (p : ℕ → Bool) (n words : ℕ) (b : Bool) → words ≡ count_by p (range_with_len 0 n) → p n ≡ b
+    → words + cond b 1 0 ≡ count_by p (range_with_len 0 (n + 1))
 count_by-places p n words b h e = rw (count_by-places_more p n, e, h) refl
 
 -- the byte before a place, as the loop keeps it

@@ -15,7 +15,8 @@ use Rattle.orc_jobs.specs.declared.line.Line.{Line}
 
 -- one more record after those of some lines
 pub line-and-more : {R : Type 0} (rem : R → Option (List ℕ)) (a b : Reader R) (f : List (List ℕ)) (bytes : List ℕ) (lines : List Line) (y : List ℕ)
-    → a.config ≡ default_config → source_of rem a ≡ Some y → Reached default_config st.StartRecord (strip_bom bytes) (map record_of lines) a.state y → ReadRecord rem a b true f
+    → a.config ≡ default_config → source_of rem a ≡ Some y → Reached default_config st.StartRecord (strip_bom bytes) (map record_of lines) a.state y
+    → ReadRecord rem a b true f
     → (rest : List (List (List ℕ))) × (records_of bytes ≡ map record_of lines ++ (f ∷ rest))
 line-and-more rem a b f bytes lines y config source reached read =
     let m = rows-more rem a b f default_config st.StartRecord (strip_bom bytes) y (map record_of lines) config source reached read in
@@ -24,7 +25,8 @@ line-and-more rem a b f bytes lines y config source reached read =
 
 -- no more record after those of some lines
 pub lines-end : {R : Type 0} (rem : R → Option (List ℕ)) (a b : Reader R) (f : List (List ℕ)) (bytes : List ℕ) (lines : List Line) (y : List ℕ)
-    → a.config ≡ default_config → source_of rem a ≡ Some y → Reached default_config st.StartRecord (strip_bom bytes) (map record_of lines) a.state y → ReadRecord rem a b false f
+    → a.config ≡ default_config → source_of rem a ≡ Some y → Reached default_config st.StartRecord (strip_bom bytes) (map record_of lines) a.state y
+    → ReadRecord rem a b false f
     → records_of bytes ≡ map record_of lines
 lines-end rem a b f bytes lines y config source reached read =
     all-records (strip_bom bytes) (map record_of lines) a.state y reached (rows-end rem a b f default_config y config source read)

@@ -54,7 +54,8 @@ print_at (n ∷ ns) (suc i) d lt = print_at ns i d (omega (arith, lt))
 pub length-pieces : (n : ℕ) (ns text : List ℕ) → SpellsNumbers (n ∷ ns) text → length (pieces_of text) ≡ length (n ∷ ns)
 length-pieces n ns text h = ap length (pieces_of-spelled n ns text h) ∙ length-map (n ∷ ns) decimal
 
-piece_at : (n : ℕ) (ns text : List ℕ) (i : ℕ) (d : List ℕ) → SpellsNumbers (n ∷ ns) text → i < length (pieces_of text) → get_or (pieces_of text) i d ≡ decimal (get_or (n ∷ ns) i 0)
+piece_at : (n : ℕ) (ns text : List ℕ) (i : ℕ) (d : List ℕ) → SpellsNumbers (n ∷ ns) text → i < length (pieces_of text)
+    → get_or (pieces_of text) i d ≡ decimal (get_or (n ∷ ns) i 0)
 piece_at n ns text i d h lt =
     let size = length-pieces n ns text h in
     ap (λ (t : List (List ℕ)). get_or t i d) (pieces_of-spelled n ns text h) ∙ print_at (n ∷ ns) i d (omega (arith, size, lt))
@@ -63,7 +64,8 @@ small_at : (ns : List ℕ) (i : ℕ) → All IsSmall ns → i < length ns → Is
 small_at ns i small lt = All-get_or IsSmall ns i 0 lt small
 
 -- each piece of a text that spells some numbers is a number
-pub piece-number : (text : List ℕ) (i : ℕ) (d : List ℕ) → 0 < length text → i < length (pieces_of text) → IsNumberList text → IsNumber (get_or (pieces_of text) i d)
+pub piece-number : (text : List ℕ) (i : ℕ) (d : List ℕ) → 0 < length text → i < length (pieces_of text) → IsNumberList text
+    → IsNumber (get_or (pieces_of text) i d)
 piece-number text i d some lt ([], spells) = let size = ap length spells.spelling in absurd (omega (arith, size, some))
 piece-number text i d some lt (n ∷ ns, spells) =
     let size = length-pieces n ns text spells in
@@ -87,7 +89,8 @@ same_numbers (x ∷ xs) (y ∷ ys) h k e =
     let rest : map decimal xs ≡ map decimal ys = cc e in
     let p = All-head IsSmall x xs h in
     let q = All-head IsSmall y ys k in
-    ap₂ (λ n ns. n ∷ ns) (decimal_injective x y (omega (arith, p)) (omega (arith, q)) first) (same_numbers xs ys (All-tail IsSmall x xs h) (All-tail IsSmall y ys k) rest)
+    ap₂ (λ n ns. n ∷ ns) (decimal_injective x y (omega (arith, p)) (omega (arith, q)) first)
+    (same_numbers xs ys (All-tail IsSmall x xs h) (All-tail IsSmall y ys k) rest)
 
 pub SpellsNumbers-unique : (a b text : List ℕ) → SpellsNumbers a text → SpellsNumbers b text → a ≡ b
 SpellsNumbers-unique [] [] text h k = refl
@@ -99,7 +102,8 @@ SpellsNumbers-unique (x ∷ xs) (y ∷ ys) text h k =
 -- ---- sums of the numbers in front
 
 -- the next piece is a number
-pub sum-take_more : (numbers text : List ℕ) (i n : ℕ) (piece : List ℕ) → SpellsNumbers numbers text → i < length (pieces_of text) → piece ≡ get_or (pieces_of text) i piece
+pub sum-take_more : (numbers text : List ℕ) (i n : ℕ) (piece : List ℕ) → SpellsNumbers numbers text → i < length (pieces_of text)
+    → piece ≡ get_or (pieces_of text) i piece
     → n < 2 ^ 32 → piece ≡ decimal n → sum (take i numbers) + n ≡ sum (take (i + 1) numbers)
 sum-take_more [] text i n piece h lt at small e =
     let one : pieces_of text ≡ [] ∷ [] = ap pieces_of h.spelling in
@@ -118,7 +122,8 @@ sum-take_more (m ∷ ms) text i n piece h lt at small e =
     rw same (sym (sum_by_more (λ x. x) (m ∷ ms) i 0 inside))
 
 -- the next piece is none: the text is empty
-pub sum-take_skip : (numbers text : List ℕ) (i : ℕ) (piece : List ℕ) → SpellsNumbers numbers text → i < length (pieces_of text) → piece ≡ get_or (pieces_of text) i piece
+pub sum-take_skip : (numbers text : List ℕ) (i : ℕ) (piece : List ℕ) → SpellsNumbers numbers text → i < length (pieces_of text)
+    → piece ≡ get_or (pieces_of text) i piece
     → ¬ IsNumber piece → sum (take i numbers) ≡ sum (take (i + 1) numbers)
 sum-take_skip [] text i piece h lt at other = rw (take_all {A = ℕ} i [] (omega arith), take_all {A = ℕ} (i + 1) [] (omega arith)) refl
 sum-take_skip (m ∷ ms) text i piece h lt at other =
@@ -145,14 +150,17 @@ pub number-missed : (o : Option ℕ) (text : List ℕ) → IfNone o (¬ IsNumber
 number-missed None text h e = h
 number-missed (Some n) text h e = absurd (e n refl)
 
-pub one-is-none : (text : List ℕ) (i : ℕ) (piece : List ℕ) → 0 < length text → i < length (pieces_of text) → piece ≡ get_or (pieces_of text) i piece → ¬ IsNumber piece → ¬ IsNumberList text
+pub one-is-none : (text : List ℕ) (i : ℕ) (piece : List ℕ) → 0 < length text → i < length (pieces_of text) → piece ≡ get_or (pieces_of text) i piece
+    → ¬ IsNumber piece → ¬ IsNumberList text
 one-is-none text i piece some lt at other list =
     let there = piece-number text i piece some lt list in
     other (there.0, there.1, at ∙ there.2)
 
-pub one-more : (text : List ℕ) (i : ℕ) (piece : List ℕ) → i < length (pieces_of text) → piece ≡ get_or (pieces_of text) i piece → All IsNumber (take i (pieces_of text)) → IsNumber piece
+pub one-more : (text : List ℕ) (i : ℕ) (piece : List ℕ) → i < length (pieces_of text) → piece ≡ get_or (pieces_of text) i piece
+    → All IsNumber (take i (pieces_of text)) → IsNumber piece
     → All IsNumber (take (i + 1) (pieces_of text))
 one-more text i piece lt at before number = All-more IsNumber (pieces_of text) i piece lt before (number.0, number.1, sym at ∙ number.2)
 
 pub all-numbers : (text : List ℕ) (i : ℕ) → i ≡ length (pieces_of text) → All IsNumber (take i (pieces_of text)) → IsNumberList text
-all-numbers text i e before = IsNumberList-from_pieces text (All-same IsNumber (pieces_of text) (take i (pieces_of text)) (sym (take_all i (pieces_of text) (omega (arith, e)))) before)
+all-numbers text i e before =
+    IsNumberList-from_pieces text (All-same IsNumber (pieces_of text) (take i (pieces_of text)) (sym (take_all i (pieces_of text) (omega (arith, e)))) before)

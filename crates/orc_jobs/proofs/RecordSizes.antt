@@ -39,7 +39,8 @@ went_on act.Skip f c w = omega arith
 went_on act.Copy f c w = omega (arith, length-append w (c ∷ []))
 went_on act.EndRecord f c w = omega (arith, size_of-push f w)
 
-size-next_record : (s : State) (f : List (List ℕ)) (w xs : List ℕ) (p : Read) → next_record default_config s f w xs ≡ Some p → size_of p.0 + length p.2 ≤ size_of f + length w + length xs
+size-next_record : (s : State) (f : List (List ℕ)) (w xs : List ℕ) (p : Read) → next_record default_config s f w xs ≡ Some p
+    → size_of p.0 + length p.2 ≤ size_of f + length w + length xs
 unfolding next_record
 size-next_record s f w [] p e = elim (cases_Bool (ends_at_end s)) [
   | inl ends ↦
@@ -55,7 +56,8 @@ size-next_record s f w (c ∷ rest) p e = elim (cases_Bool (is_end (step default
       rw (← same) (omega (arith, ended (step default_config s c).1 f w))
   | inr goes ↦
       let q = rw goes at e in
-      let more = size-next_record (step default_config s c).0 (fields_after (step default_config s c).1 f w) (field_after (step default_config s c).1 c w) rest p q in
+      let more = size-next_record (step default_config s c).0 (fields_after (step default_config s c).1 f w)
+      (field_after (step default_config s c).1 c w) rest p q in
       omega (arith, more, went_on (step default_config s c).1 f c w)
 ]
 

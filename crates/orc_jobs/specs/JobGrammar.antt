@@ -85,5 +85,6 @@ pub record BeginsWith (bytes : List ℕ) (front : List Line) (rest : List (List 
 abbrev pub Refuses : List ℕ → JobsFault → Type 0
 Refuses bytes (fault.Malformed at why) = (front : List Line) × (bad : List (List ℕ)) × (rest : List (List (List ℕ))) × BeginsWith bytes front (bad ∷ rest)
     × (length front ≡ at) × (at < 65535) × HasCause bad why
-Refuses bytes fault.TooMany = (front : List Line) × (more : List (List ℕ)) × (rest : List (List (List ℕ))) × BeginsWith bytes front (more ∷ rest) × (length front ≡ 65535)
+Refuses bytes fault.TooMany = (front : List Line) × (more : List (List ℕ)) × (rest : List (List (List ℕ))) × BeginsWith bytes front (more ∷ rest)
+    × (length front ≡ 65535)
 Refuses bytes fault.NoMemory = ⊤

@@ -1,5 +1,6 @@
 -- What an exchange of a link may name, its agent knows.
 use Rattle.std.proofs.Common.{List, None, Option, Some, arith, refl, subst, suc, sym, true, zero, ℕ, ◌+◌, ◌≡◌}
+use Rattle.orc_projection.proofs.Shows.{empty_holds}
 use Rattle.std.proofs.lemmas.Bool.{false≢true}
 use Rattle.std.specs.Option.{option_map}
 use Rattle.std.specs.Prelude.{nat_lt, not, ◌&&◌}
@@ -46,11 +47,6 @@ exchanges b a d place from to h =
 
 held_target : (b : Bounds) (d : Agent) (to : Option ℕ) (r : ℕ) → may_target b d to ≡ true → to ≡ Some r → any_holds d.slots r ≡ true
 held_target b d to r h e = let held = subst (λ t. may_target b d t ≡ true) e h in (and_both (nat_lt r b.rows) (any_holds d.slots r) held).1
-
-empty_holds : (s : SlotUse) (r : ℕ) → is_empty s ≡ true → holds s r ≡ true → ⊥
-empty_holds Empty r e h = false≢true h
-empty_holds (Published q) r e h = false≢true e
-empty_holds (Held q) r e h = false≢true e
 
 -- what an agent holds while its slot 0 is empty is known to it
 holder_knows : (m : Machine) (p : PresentIds) (h : Heap) (a r : ℕ) → Mirrors m p h → is_empty (slot_of (record_at m a) 0) ≡ true

@@ -29,6 +29,7 @@ use Rattle.orc_heap.specs.Heap.{new_node}
 use Rattle.orc_heap.specs.declared.events.Act.TheVariants as act
 use Rattle.orc_machine_board.specs.Laws.Steps.{in_range}
 use Rattle.orc_core.specs.Runs.{IsLawful}
+use Rattle.orc_machine_board.specs.Passes.{HasNothing}
 use Rattle.orc_machine_board.specs.Plays.{GoesOn}
 use Rattle.orc_machine_board.specs.Views.{Keeps}
 use Rattle.orc_shared_words.proofs.LaterJournals.{new_pass_later}
@@ -146,6 +147,9 @@ is_ready b rows agents =
     let seats : seat (enrolled b b.agents).seats 0 (newcomer b.rows) ≡ (enrolled b b.agents).seats = seat_same (enrolled b b.agents).seats 0
     (newcomer b.rows) (ap (λ (t : Bool). cond t (newcomer b.rows) (nobody b.rows)) (lt-ltb 0 b.agents agents)) in
     λ i. record { memory = sym w5 i; seats = sym seats i }
+
+new_nothing : (room : ℕ) → HasNothing (newcomer room)
+new_nothing room = record { enrolled = refl; slots = refl; fresh = refl; due = refl; inc = refl; dec = refl; hand = refl; scan = refl; doom = refl; list = refl }
 
 module _ {N : Type 0} where
   -- lawful, and projected, by the state as functions
@@ -277,6 +281,23 @@ module _ {N : Type 0} where
   seed_events b Empty = refl
   seed_events b (Dummy first begin) = refl
 
+  -- the state that steps leave, as functions
+  abbrev run_world : World → List (Step N) → World
+  run_world z [] = z
+  run_world z (s ∷ ss) = run_world (step_world z s.agent s.op) ss
+
+  steps_run : (m : Machine) (ss : List (Step N)) → Full m → LawfulSteps m.bounds (world_of m) ss → world_of (run m (plain ss)) ≡ run_world (world_of m) ss
+  steps_run m [] w l = refl
+  steps_run m (s ∷ ss) w l =
+      let next = world_step m s.agent s.op w.words w.agents l.0 in
+      steps_run (step m s.agent s.op) ss (full_step m s.agent s.op w) (subst (λ z. LawfulSteps m.bounds z ss) (sym next) l.2)
+      ∙ ap (λ z. run_world z ss) next
+
+  seed_nothing : (b : Bounds) (seed : Seed N) → HasNothing ((run_world (ready b) (seeding seed)).seats 0)
+  seed_nothing b Empty = new_nothing b.rows
+  seed_nothing b (Dummy first begin) =
+      record { enrolled = refl; slots = refl; fresh = refl; due = refl; inc = refl; dec = refl; hand = refl; scan = refl; doom = refl; list = refl }
+
   -- enrolments are no events
   quiet_enrolments : (m : Machine) (p : PresentIds) (n : ℕ) → (project_from m p (enrolments {N = N} n) ≡ []) × (ids_from m p (enrolments {N = N} n) ≡ p)
   quiet_enrolments m p zero = (refl, refl)
@@ -338,6 +359,21 @@ module _ {N : Type 0} where
       record_stays b (enrolments {N = N} b.agents) (seeding seed) a (own_past 1 a (seeding seed) le (below_seeding 1 seed (omega arith)))
       ∙ (ap (λ (z : World). z.seats a) all.world ∙ ap (λ (t : Bool). cond t (newcomer b.rows) (nobody b.rows)) (lt-ltb a b.agents lt))
 
+  -- each agent then has nothing
+  pub opening_nothing : (b : Bounds) (seed : Seed N) (a : ℕ) → IsShape b → HasRoots (numbers_of b) seed → a < b.agents
+      → HasNothing (record_at (run_of b (machine_opening b.agents seed)) a)
+  opening_nothing b seed zero shape roots lt =
+      let all = all_enroll b b.agents shape (omega arith) in
+      let m = run_of b (enrolments {N = N} b.agents) in
+      let rows : 0 < b.rows = let r = shape.rows.0 in omega arith in
+      let world : world_of m ≡ ready b = all.world ∙ is_ready b rows lt in
+      let steps : LawfulSteps m.bounds (world_of m) (seeding seed) = subst (λ (c : Bounds). LawfulSteps c (world_of m) (seeding seed))
+      (sym (bounds_run b (enrolments {N = N} b.agents))) (subst (λ z. LawfulSteps b z (seeding seed)) (sym world) (seed_lawful b seed shape roots)) in
+      let left = steps_run m (seeding seed) all.full steps ∙ ap (λ z. run_world z (seeding seed)) world in
+      let whole = run_more b (enrolments {N = N} b.agents) (seeding seed) in
+      subst (λ (z : Machine). HasNothing (record_at z 0)) (sym whole) (subst (λ (z : World). HasNothing (z.seats 0)) (sym left) (seed_nothing b seed))
+  opening_nothing b seed (suc a) shape roots lt = subst HasNothing (sym (opening_born b seed (suc a) shape (omega arith) lt)) (new_nothing b.rows)
+
 module _ {D N : Type 0} (d : discipline.Ghosts D N) (k : MachineShape N) (began : d.holds (heap_numbers k) []) where
   abbrev may_be : List (Event N) → Event N → Type 0
   may_be = d.may (heap_numbers k)
@@ -360,7 +396,7 @@ module _ {D N : Type 0} (d : discipline.Ghosts D N) (k : MachineShape N) (began 
       (record { node = with_value 0 0 (new_node 0); there = refl; mine = refl; unlinked = refl }, omega arith) (refl, tt) in
       (m0, (m1, (m2, (can.first_link, (can.second_link, tt)))))
 
-  seed_roots : (seed : Seed N) → SeedAllowed d.may (heap_numbers k) seed → HasRoots (heap_numbers k) seed
+  pub seed_roots : (seed : Seed N) → SeedAllowed d.may (heap_numbers k) seed → HasRoots (heap_numbers k) seed
   seed_roots Empty can = tt
   seed_roots (Dummy first begin) can = can.roots
 

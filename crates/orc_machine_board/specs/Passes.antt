@@ -1,6 +1,7 @@
 -- What a pass has to see to, what passes learn from each other, and which pass has seen all.
-use Rattle.std.specs.Prelude.{List, cond, is_some, length, ℕ, ◌+◌, ◌++◌, ◌<◌, ◌∷◌, ◌≡◌, ◌||◌, ◌⊎◌}
+use Rattle.std.specs.Prelude.{List, None, [], cond, is_some, length, replicate, true, ℕ, ◌+◌, ◌++◌, ◌<◌, ◌∷◌, ◌≡◌, ◌||◌, ◌⊎◌}
 use Rattle.orc_core.specs.declared.records.Agent.{Agent}
+use Rattle.orc_core.specs.declared.records.SlotUse.TheVariants.{Empty}
 use Rattle.orc_history.specs.Journals.{own_of}
 use Rattle.orc_machine_board.specs.Views.{MachineView}
 use Rattle.orc_shared_words.specs.Lists.{Among, IsLonger}
@@ -10,6 +11,19 @@ use Rattle.orc_words.specs.Bounds.{Bounds}
 -- the entries of the work list, and one more where the agent keeps a hand or a scan
 abbrev pub backlog_in : Agent → ℕ
 backlog_in d = length d.list.items + cond (is_some d.hand || is_some d.scan) 1 0
+
+-- the agent is enrolled; it has no row in a slot, fresh, pending, in hand or listed
+pub record HasNothing (d : Agent) : Type 0 where
+  pub enrolled : d.enrolled ≡ true
+  pub slots : d.slots ≡ replicate 8 Empty
+  pub fresh : d.fresh ≡ None
+  pub due : d.due ≡ None
+  pub inc : d.inc ≡ None
+  pub dec : d.dec ≡ None
+  pub hand : d.hand ≡ None
+  pub scan : d.scan ≡ None
+  pub doom : d.doom ≡ None
+  pub list : d.list.items ≡ []
 
 module _ {N : Type 0} where
   -- the steps of an agent

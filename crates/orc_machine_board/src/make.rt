@@ -5,6 +5,7 @@ ghost use Rattle.orc_core.specs.Runs.{run};
 ghost use Rattle.orc_core.specs.Machine.{new_machine};
 ghost use Rattle.orc_words.specs.Bounds.{Bounds, bounds_of};
 ghost use Rattle.orc_heap.specs.Seeds.{HasRoots, SeedAllowed};
+ghost use Rattle.orc_machine_board.specs.Passes.{HasNothing};
 ghost use Rattle.orc_machine_board.specs.Rules.{enrolments, machine_opening, run_of, seeding};
 ghost use Rattle.orc_machine_board.specs.Views.{Belongs, board_bounds, board_seed, shows};
 ghost use Rattle.orc_projection.specs.Mirror.{numbers_of};
@@ -40,6 +41,7 @@ impl<D: Discipline> MachineBoard<D> {
         ensures belongs { IfOk result (λ made. All (λ p. Belongs made.0 p) made.1.items) }
         ensures agents { IfOk result (λ made. EachAt (λ i p. (shows p).agent ≡ i) made.1.items) }
         ensures seed { IfOk result (λ made. board_seed made.0 ≡ seed) }
+        ensures idle { IfOk result (λ made. All (λ p. HasNothing (shows p).record_is) made.1.items) }
         ensures absorbed { IfOk result (λ made. All (λ p. (shows p).absorbed ≡ []) made.1.items) }
         ensures journal { IfOk result (λ made. All (λ p. (shows p).journal ≡ machine_opening (bounds_of shape.now).agents seed) made.1.items) }
     {

@@ -29,7 +29,8 @@ many-is-none f place why is (inl e) = cc (is, e)
 many-is-none f place why is (inr e) = cc (is, e)
 
 -- one word, whose text is this
-pub one-word : {X : Type 0} (f : X → List ℕ) (xs : List X) (x : X) (word : List ℕ) → 1 ≤ length xs → length xs < 2 → x ≡ get_or xs 0 x → f x ≡ word → map f xs ≡ word ∷ []
+pub one-word : {X : Type 0} (f : X → List ℕ) (xs : List X) (x : X) (word : List ℕ) → 1 ≤ length xs → length xs < 2 → x ≡ get_or xs 0 x → f x ≡ word
+    → map f xs ≡ word ∷ []
 one-word f [] x word some few is same = absurd (omega (arith, some))
 one-word f (y ∷ []) x word some few is same = ap (λ z. z ∷ []) (ap f (sym is) ∙ same)
 one-word f (y ∷ z ∷ ys) x word some few is same = absurd (omega (arith, few))

@@ -31,7 +31,8 @@ at_end : (agent : ℕ) (k : List QueueEntry) (takes : List TakeReply) (spare roo
 at_end agent k takes spare room n true e yes_then no_then sum is = inl (subst (λ (a : ℕ). EndsEmpty queue_of_run a k) e (yes_then refl))
 at_end agent k takes spare room n false e yes_then no_then sum is = let none : spare ≡ 0 = no_then refl in inr (omega (arith, none, sum, is))
 
-pub run_end : (lines : List Line) (posts : List PostReply) (takes : List TakeReply) (spare room agent : ℕ) (b : Bool) (j0 j j1 : List QueueEntry) (m0 m m1 : List SetEntry) (last : QueuePassView) (last_set : SetPassView)
+pub run_end : (lines : List Line) (posts : List PostReply) (takes : List TakeReply) (spare room agent : ℕ) (b : Bool) (j0 j j1 : List QueueEntry)
+    (m0 m m1 : List SetEntry) (last : QueuePassView) (last_set : SetPassView)
     → j0 ≡ [] → m0 ≡ [] → j1 ≡ j → m1 ≡ m → agent ≡ 0
     → Posting queue_of_run set_of_run lines 1 posts j0 m0 j m → map (λ (r : PostReply). r.line) posts ≡ own_records 1 1 (length lines)
     → TakingRest queue_of_run set_of_run lines 0 agent takes j1 m1 last.history last_set.history

@@ -17,7 +17,8 @@ Told left bytes = (b : List ℕ) → left ≡ Some b → b ≡ bytes
 pub of-told : (left : Option (List ℕ)) (bytes : List ℕ) (P : List ℕ → Type 0) → Told left bytes → P bytes → IfSome left P
 of-told left bytes P told h = where-told left P (λ b e. subst P (sym (told b e)) h)
 
-pub HasReported-told : (left : Option (List ℕ)) (bytes : List ℕ) (ended : Ended) (text : List ℕ) → Told left bytes → HasReported (Some bytes) ended text → HasReported left ended text
+pub HasReported-told : (left : Option (List ℕ)) (bytes : List ℕ) (ended : Ended) (text : List ℕ) → Told left bytes
+    → HasReported (Some bytes) ended text → HasReported left ended text
 HasReported-told left bytes ended text told h = record {
   lines = h.lines;
   file = of-told left bytes (IsFileOf h.lines) told h.file;

@@ -4,7 +4,7 @@ ghost use Rattle.orc_jobs.specs.GoodLines.{AreGood};
 ghost use Rattle.orc_board.specs.Runs.{Ran};
 ghost use Rattle.orc_program.specs.PlainRun.{queue_of_run, set_of_run};
 
-use orc_board::{Desk, Gate, PostList, Replies, TakeList, run_poster, take_rest};
+use orc_board::{Desk, Gate, PostList, Replies, TakeList, post_records, take_rest};
 use orc_fault::NoMemory;
 use orc_history::{PlainQueue, PlainQueuePass, PlainSet, PlainSetPass};
 use orc_jobs::Lines;
@@ -34,8 +34,8 @@ pub fn run_plain<R: Threads + Wait + Sync, G: Gate + Sync>(
 {
     let queue = PlainQueue::new(alloc, ROOM, 0)?;
     let set = PlainSet::new(alloc, ROOM)?;
-    let mut posts = PostList::new(alloc, lines.len() as u32)?;
-    let mut takes = TakeList::new(alloc, lines.len() as u32)?;
+    let mut posts = PostList::new(alloc, lines.len())?;
+    let mut takes = TakeList::new(alloc, lines.len())?;
     let (queue, mut queue_pass) = queue.pass();
     let (set, mut set_pass) = set.pass();
     queue_pass.act_as(1);
@@ -44,7 +44,7 @@ pub fn run_plain<R: Threads + Wait + Sync, G: Gate + Sync>(
         queue: queue_pass,
         set: set_pass,
     };
-    run_poster(rt, &queue, &set, &mut desk, 1, 1, lines, gate, &mut posts);
+    post_records(rt, &queue, &set, &mut desk, 1, 1, lines, gate, &mut posts);
     desk.queue.act_as(0);
     desk.set.act_as(0);
     take_rest(rt, &queue, &set, &mut desk, 0, lines, gate, &mut takes);

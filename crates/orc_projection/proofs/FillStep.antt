@@ -44,13 +44,16 @@ owned_filled : (x which v : ℕ) (n : Node) → Owned x n → Owned x (with_valu
 owned_filled x zero v n k = record { giver = k.giver; unlinked = k.unlinked }
 owned_filled x (suc which) v n k = record { giver = k.giver; unlinked = k.unlinked }
 
-fill_parts : (b : Bounds) (a q which : ℕ) (d : Agent) → (nat_lt q b.rows && nat_lt which 2 && names d.fresh q) ≡ true → (nat_lt which 2 ≡ true) × (names d.fresh q ≡ true)
+fill_parts : (b : Bounds) (a q which : ℕ) (d : Agent) → (nat_lt q b.rows && nat_lt which 2 && names d.fresh q) ≡ true
+    → (nat_lt which 2 ≡ true) × (names d.fresh q ≡ true)
 fill_parts b a q which d f =
     let k = and_both (nat_lt q b.rows && nat_lt which 2) (names d.fresh q) f in
     ((and_both (nat_lt q b.rows) (nat_lt which 2) k.0).1, k.1)
 
 -- the filled row shows the filled node
-own_row : (b : Bounds) (z : World) (p : PresentIds) (a q which v : ℕ) → LawfulStep b z a (FillStep q which v) → out ((step_world z a (FillStep q which v)).memory (Gate q)) ≡ 1 → (n : Node) → RowShows b z p q n → RowShows b (step_world z a (FillStep q which v)) p q (with_value which v n)
+own_row : (b : Bounds) (z : World) (p : PresentIds) (a q which v : ℕ) → LawfulStep b z a (FillStep q which v)
+    → out ((step_world z a (FillStep q which v)).memory (Gate q)) ≡ 1 → (n : Node) → RowShows b z p q n
+    → RowShows b (step_world z a (FillStep q which v)) p q (with_value which v n)
 own_row b z p a q zero v l o n r = record {
   link = ⊎_elim (λ c. inl (cut_stays b z a (FillStep q 0 v) q l o c)) (λ e. inr e) r.link;
   first = λ u e. rw (eq-eqb q q refl) (cc);
@@ -61,10 +64,12 @@ own_row b z p a q (suc zero) v l o n r = record {
   first = r.first;
   second = λ u e. rw (eq-eqb q q refl) (cc);
 }
-own_row b z p a q (suc (suc which)) v l o n r = let k : suc (suc which) < 2 = ltb-true (suc (suc which)) 2 (fill_parts b a q (suc (suc which)) (z.seats a) l.fits).0 in absurd (omega arith)
+own_row b z p a q (suc (suc which)) v l o n r = let k : suc (suc which) < 2 =
+    ltb-true (suc (suc which)) 2 (fill_parts b a q (suc (suc which)) (z.seats a) l.fits).0 in absurd (omega arith)
 
 -- and every other row its node
-other_row : (b : Bounds) (z : World) (p : PresentIds) (a q which v j : ℕ) → LawfulStep b z a (FillStep q which v) → j ≢ q → out ((step_world z a (FillStep q which v)).memory (Gate j)) ≡ 1 → (n : Node) → RowShows b z p j n → RowShows b (step_world z a (FillStep q which v)) p j n
+other_row : (b : Bounds) (z : World) (p : PresentIds) (a q which v j : ℕ) → LawfulStep b z a (FillStep q which v) → j ≢ q
+    → out ((step_world z a (FillStep q which v)).memory (Gate j)) ≡ 1 → (n : Node) → RowShows b z p j n → RowShows b (step_world z a (FillStep q which v)) p j n
 other_row b z p a q which v j l ne o n r = record {
   link = ⊎_elim (λ c. inl (cut_stays b z a (FillStep q which v) j l o c)) (λ e. inr (rw (next_same z.memory q v j (which == 0)) e)) r.link;
   first = λ u e. rw (first_same (which == 0)) (r.first u e);
@@ -86,7 +91,8 @@ fill_shows b z p h a q which v l s = record {
   there = λ j o. s.there j (was_out j o);
   apart = λ i j o u e. s.apart i j (was_out i o) (was_out j u) e;
   roots = λ i k. rw (root_same z.memory q v i (which == 0)) (s.roots i k);
-  rows = λ j o. node-change (with_value which v) (p.node q) (p.node j) h.nodes (λ n e r. at_own j o n (s.apart q j fresh_out (was_out j o) e) r) (λ n ne r. other_row b z p a q which v j l (λ e. ne (rw e)) o n r) (s.rows j (was_out j o));
+  rows = λ j o. node-change (with_value which v) (p.node q) (p.node j) h.nodes (λ n e r. at_own j o n (s.apart q j fresh_out (was_out j o) e) r)
+      (λ n ne r. other_row b z p a q which v j l (λ e. ne (rw e)) o n r) (s.rows j (was_out j o));
   fresh = λ x j k. lift (owned_filled x which v) (s.fresh x j (fresh_before z a (FillStep q which v) x j false≢true k));
   held = λ x k j g e. lift (known_filled x which v) (s.held x k j g (was_held x k j e));
   root_named = λ i j k. lift (named_filled which v) (s.root_named i j (rw (root_same z.memory q v i (which == 0)) at k));
@@ -102,13 +108,16 @@ fill_shows b z p h a q which v l s = record {
     was_held : (x k j : ℕ) → holds (slot_of ((step_world z a (FillStep q which v)).seats x) k) j ≡ true → holds (slot_of (z.seats x) k) j ≡ true
     was_held x k j e = ⊎_elim (λ t. rw t.0 t.1) (λ t. t.1) (seat_split (λ d. holds (slot_of d k) j ≡ true) z.seats a x (record_by z a (FillStep q which v)) e)
 
-    lift : {P : Node → Type 0} {id : ℕ} → ((n : Node) → P n → P (with_value which v n)) → HasNode h.nodes id P → HasNode (change (with_value which v) (p.node q) h.nodes) id P
+    lift : {P : Node → Type 0} {id : ℕ} → ((n : Node) → P n → P (with_value which v n)) → HasNode h.nodes id P
+        → HasNode (change (with_value which v) (p.node q) h.nodes) id P
     lift {id = id} k n = node-change (with_value which v) (p.node q) id h.nodes (λ x e r. k x r) (λ x ne r. r) n
 
-    at_own : (j : ℕ) → out ((step_world z a (FillStep q which v)).memory (Gate j)) ≡ 1 → (n : Node) → q ≡ j → RowShows b z p j n → RowShows b (step_world z a (FillStep q which v)) p j (with_value which v n)
+    at_own : (j : ℕ) → out ((step_world z a (FillStep q which v)).memory (Gate j)) ≡ 1 → (n : Node) → q ≡ j → RowShows b z p j n
+        → RowShows b (step_world z a (FillStep q which v)) p j (with_value which v n)
     at_own j o n e r = rw (← e) (own_row b z p a q which v l (rw (← e) at o) n (rw (← e) at r))
 
-pub fill_fits : (b : Bounds) (z : World) (p : PresentIds) (h : Heap) (a q which v : ℕ) → LawfulStep b z a (FillStep q which v) → Shows b z p h → Fits a (Fill (p.node q) which v) h
+pub fill_fits : (b : Bounds) (z : World) (p : PresentIds) (h : Heap) (a q which v : ℕ) → LawfulStep b z a (FillStep q which v) → Shows b z p h
+    → Fits a (Fill (p.node q) which v) h
 fill_fits b z p h a q which v l s =
     let k = fill_parts b a q which (z.seats a) l.fits in
     (is_fresh a (p.node q) h (s.fresh a q k.1), ltb-true which 2 k.0)

@@ -14,11 +14,14 @@ use Rattle.orc_words.specs.declared.packed.RowLink.{RowLink}
 pub link_back : (l : RowLink) → ((r : ℕ) → l.to ≡ Some r → r < 65535) → link_of (link_word l) ≡ l
 link_back l h = back l.to l.mark h
   where
-    back : (o : Option ℕ) (b : Bool) → ((r : ℕ) → o ≡ Some r → r < 65535) → (let x : RowLink = link_of (link_word (record { to = o; mark = b })) in x) ≡ record { to = o; mark = b }
+    back : (o : Option ℕ) (b : Bool) → ((r : ℕ) → o ≡ Some r → r < 65535)
+        → (let x : RowLink = link_of (link_word (record { to = o; mark = b })) in x) ≡ record { to = o; mark = b }
     back None true h = refl
     back None false h = refl
-    back (Some r) true h = let k = h r refl in let e : named ((2 * (r + 1) + 1) / 2) ≡ Some r = grind arith in let f : ((2 * (r + 1) + 1) % 2 == 1) ≡ true = grind arith in λ i. record { to = e i; mark = f i }
-    back (Some r) false h = let k = h r refl in let e : named ((2 * (r + 1) + 0) / 2) ≡ Some r = grind arith in let f : ((2 * (r + 1) + 0) % 2 == 1) ≡ false = grind arith in λ i. record { to = e i; mark = f i }
+    back (Some r) true h = let k = h r refl in let e : named ((2 * (r + 1) + 1) / 2) ≡ Some r = grind arith in
+        let f : ((2 * (r + 1) + 1) % 2 == 1) ≡ true = grind arith in λ i. record { to = e i; mark = f i }
+    back (Some r) false h = let k = h r refl in let e : named ((2 * (r + 1) + 0) / 2) ≡ Some r = grind arith in
+        let f : ((2 * (r + 1) + 0) % 2 == 1) ≡ false = grind arith in λ i. record { to = e i; mark = f i }
 
 -- a link word packs what it reads as
 pub word_back : (w : ℕ) → w / 2 ≤ 65535 → link_word (link_of w) ≡ w
@@ -45,7 +48,8 @@ option-same f (Some q) None h e = cc
 option-same f (Some q) (Some r) h e = ap Some (h q r refl refl (cc))
 
 -- links of different rows are links of different nodes, where the rows have different nodes
-pub node_link-same : (p : PresentIds) (k l : RowLink) → ((q r : ℕ) → k.to ≡ Some q → l.to ≡ Some r → p.node q ≡ p.node r → q ≡ r) → node_link p k ≡ node_link p l → k ≡ l
+pub node_link-same : (p : PresentIds) (k l : RowLink) → ((q r : ℕ) → k.to ≡ Some q → l.to ≡ Some r → p.node q ≡ p.node r → q ≡ r)
+    → node_link p k ≡ node_link p l → k ≡ l
 node_link-same p k l h e =
     let t = option-same p.node k.to l.to h (ap (λ (x : Link). x.to) e) in
     let m : k.mark ≡ l.mark = ap (λ (x : Link). x.mark) e in

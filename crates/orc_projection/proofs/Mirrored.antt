@@ -35,7 +35,8 @@ mirrored m p h s = record {
   roots = λ i k. s.roots i k ∙ ap (λ w. Some (node_link p (link_of w))) (word_shown m (Root i) k);
   nexts = λ r o n.
       let k = s.rows r (out_hidden m r o) in
-      let e : k.node.link ≡ node_link p (link_of ((world_of m).memory (Next r))) = ⊎_elim (λ c. absurd (both_ways (dooms_cut (record_at m c.agent).doom r) c.cut (n c.agent c.below))) (λ e. e) k.so.link in
+      let e : k.node.link ≡ node_link p (link_of ((world_of m).memory (Next r))) =
+      ⊎_elim (λ c. absurd (both_ways (dooms_cut (record_at m c.agent).doom r) c.cut (n c.agent c.below))) (λ e. e) k.so.link in
       rw k.there (ap Some (e ∙ ap (λ w. node_link p (link_of w)) (word_shown m (Next r) o.0)));
   first = λ r v n o g e.
       let k = s.rows r (out_hidden m r o) in
@@ -49,18 +50,22 @@ mirrored m p h s = record {
   next_named = λ q r o g. is_named (p.node r) h (s.next_named q r (out_hidden m q o) (rw (word_shown m (Next q) o.0) (ap bit g)));
 }
 
-pub projection_lawful : {N : Type 0} (b : Bounds) (steps : List (Step N)) → IsShape b → IsLawfulJournal (new_machine b) steps → StoresUnmarked steps → IsLawful (numbers_of b) (project b steps)
-projection_lawful b steps shape l n = (project_shows (new_machine b) no_ids (new_heap (numbers_of b)) steps (full_first b shape) (all_first b) l n (first_shows b)).0
+pub projection_lawful : {N : Type 0} (b : Bounds) (steps : List (Step N)) → IsShape b → IsLawfulJournal (new_machine b) steps → StoresUnmarked steps
+    → IsLawful (numbers_of b) (project b steps)
+projection_lawful b steps shape l n =
+    (project_shows (new_machine b) no_ids (new_heap (numbers_of b)) steps (full_first b shape) (all_first b) l n (first_shows b)).0
 
 pub projection_mirrors : {N : Type 0} (b : Bounds) (steps : List (Step N)) → IsShape b → IsLawfulJournal (new_machine b) steps → StoresUnmarked steps
     → Mirrors (run (new_machine b) (plain steps)) (present_ids b steps) (run_heap (numbers_of b) (project b steps))
 projection_mirrors b steps shape l n =
     let m = run (new_machine b) (plain steps) in
     let s = (project_shows (new_machine b) no_ids (new_heap (numbers_of b)) steps (full_first b shape) (all_first b) l n (first_shows b)).1 in
-    mirrored m (present_ids b steps) (run_heap (numbers_of b) (project b steps)) (subst (λ c. Shows c (world_of m) (present_ids b steps) (run_heap (numbers_of b) (project b steps))) (sym (run_bounds (new_machine b) (plain steps))) s)
+    mirrored m (present_ids b steps) (run_heap (numbers_of b) (project b steps))
+    (subst (λ c. Shows c (world_of m) (present_ids b steps) (run_heap (numbers_of b) (project b steps))) (sym (run_bounds (new_machine b) (plain steps))) s)
 
 -- the projection of two lists of steps
-pub project-append : {N : Type 0} (m : Machine) (p : PresentIds) (xs ys : List (Step N)) → project_from m p (xs ++ ys) ≡ project_from m p xs ++ project_from (run m (plain xs)) (ids_from m p xs) ys
+pub project-append : {N : Type 0} (m : Machine) (p : PresentIds) (xs ys : List (Step N)) → project_from m p (xs ++ ys) ≡ project_from m p xs
+    ++ project_from (run m (plain xs)) (ids_from m p xs) ys
 project-append m p [] ys = refl
 project-append m p (x ∷ xs) ys =
     let d = record_at m x.agent in
@@ -69,7 +74,8 @@ project-append m p (x ∷ xs) ys =
     ap (λ es. own ++ es) (project-append (step m x.agent x.op) (ids_after p d v x.op) xs ys)
     ∙ sym (append_assoc own (project_from (step m x.agent x.op) (ids_after p d v x.op) xs) _)
 
-pub ids-append : {N : Type 0} (m : Machine) (p : PresentIds) (xs ys : List (Step N)) → ids_from m p (xs ++ ys) ≡ ids_from (run m (plain xs)) (ids_from m p xs) ys
+pub ids-append : {N : Type 0} (m : Machine) (p : PresentIds) (xs ys : List (Step N))
+    → ids_from m p (xs ++ ys) ≡ ids_from (run m (plain xs)) (ids_from m p xs) ys
 ids-append m p [] ys = refl
 ids-append m p (x ∷ xs) ys = ids-append (step m x.agent x.op) (ids_after p (record_at m x.agent) (word_read m x.agent x.op) x.op) xs ys
 

@@ -20,7 +20,8 @@ pub node-grown : {P : Node → Type 0} (ns ms : List Node) (id : ℕ) → HasNod
 node-grown ns ms id h = record { node = h.node; there = get-grown id ns ms h.node h.there; so = h.so }
 
 -- after a change of node i
-pub node-change : {P Q : Node → Type 0} (f : Node → Node) (i id : ℕ) (ns : List Node) → ((n : Node) → i ≡ id → P n → Q (f n)) → ((n : Node) → i ≢ id → P n → Q n)
+pub node-change : {P Q : Node → Type 0} (f : Node → Node) (i id : ℕ) (ns : List Node) → ((n : Node) → i ≡ id → P n → Q (f n))
+    → ((n : Node) → i ≢ id → P n → Q n)
     → HasNode ns id P → HasNode (change f i ns) id Q
 node-change f i id ns same other h =
     elim (get-change f i id ns h.node h.there) [
@@ -38,14 +39,6 @@ node-target f (Some i) h id k n = node-change f i id h.nodes (λ x e. k x (ap So
 pub node-aimed : {P Q : Node → Type 0} (f : Node → Node) (to : Option ℕ) (h : Heap) (id : ℕ) → to ≡ Some id → ((n : Node) → P n → Q (f n))
     → HasNode h.nodes id P → HasNode (change_target f to h).nodes id Q
 node-aimed f to h id e k n = rw e (record { node = f n.node; there = get-change_same f id h.nodes n.node n.there; so = k n.node n.so })
-
-pub roots-target : (f : Node → Node) (to : Option ℕ) (h : Heap) → (change_target f to h).roots ≡ h.roots
-roots-target f None h = refl
-roots-target f (Some i) h = refl
-
-pub length-target : (f : Node → Node) (to : Option ℕ) (h : Heap) → length (change_target f to h).nodes ≡ length h.nodes
-length-target f None h = refl
-length-target f (Some i) h = length-change f i h.nodes
 
 -- a node that was given to the agent, or to which an Aim or a Move made a link; to which no Move made a link
 pub record Known (agent : ℕ) (n : Node) : Type 0 where

@@ -38,7 +38,8 @@ pub record Lies (z : World) (p : PresentIds) (rows : List ℕ) : Type 0 where
   pub given : length rows ≡ p.given
   pub at : (r : ℕ) → out (z.memory (Gate r)) ≡ 1 → slice_get rows (p.node r) ≡ Some r
 
-take_lies : (z y : World) (p : PresentIds) (rows : List ℕ) (q : ℕ) → Lies z p rows → ((r : ℕ) → (r == q) ≡ false → out (y.memory (Gate r)) ≡ 1 → out (z.memory (Gate r)) ≡ 1) → Lies y (with_taken q p) (rows ++ q ∷ [])
+take_lies : (z y : World) (p : PresentIds) (rows : List ℕ) (q : ℕ) → Lies z p rows
+    → ((r : ℕ) → (r == q) ≡ false → out (y.memory (Gate r)) ≡ 1 → out (z.memory (Gate r)) ≡ 1) → Lies y (with_taken q p) (rows ++ q ∷ [])
 take_lies z y p rows q l before = record {
   given = length-append rows (q ∷ []) ∙ ap (λ n. n + 1) l.given;
   at = λ r o. cases r o (r == q) refl;
@@ -52,7 +53,8 @@ nil_more : (xs : List ℕ) → xs ++ [] ≡ xs
 nil_more [] = refl
 nil_more (x ∷ xs) = ap (λ t. x ∷ t) (nil_more xs)
 
-still_lies : (z y : World) (p : PresentIds) (rows : List ℕ) → Lies z p rows → ((r : ℕ) → out (y.memory (Gate r)) ≡ 1 → out (z.memory (Gate r)) ≡ 1) → Lies y p (rows ++ [])
+still_lies : (z y : World) (p : PresentIds) (rows : List ℕ) → Lies z p rows → ((r : ℕ) → out (y.memory (Gate r)) ≡ 1 → out (z.memory (Gate r)) ≡ 1)
+    → Lies y p (rows ++ [])
 still_lies z y p rows l before = subst (Lies y p) (sym (nil_more rows)) (record { given = l.given; at = λ r o. l.at r (before r o) })
 
 same_false : (q r : ℕ) → (r == q) ≡ false → (q == r) ≡ true → ⊥
@@ -62,56 +64,74 @@ lies_step : (b : Bounds) (z : World) (p : PresentIds) (rows : List ℕ) (a : ℕ
     → Lies (step_world z a op) (ids_after p (z.seats a) (read_by z a op) op) (rows ++ taken_by (z.seats a) (read_by z a op) op)
 lies_step b z p rows a (GateTake q) s l = cases (is_taken (z.seats a) (z.memory (Gate q))) refl
   where
-    cases : (t : Bool) → is_taken (z.seats a) (z.memory (Gate q)) ≡ t → Lies (step_world z a (GateTake q)) (if t then with_taken q p else p) (rows ++ (if t then q ∷ [] else []))
-    cases true e = take_lies z (step_world z a (GateTake q)) p rows q l (λ r f o. out_before b z a (GateTake q) r s (λ t. same_false q r f (and_both _ _ t).0) o)
-    cases false e = still_lies z (step_world z a (GateTake q)) p rows l (λ r o. out_before b z a (GateTake q) r s (λ t. false≢true (sym e ∙ (and_both _ _ t).1)) o)
+    cases : (t : Bool) → is_taken (z.seats a) (z.memory (Gate q)) ≡ t
+        → Lies (step_world z a (GateTake q)) (if t then with_taken q p else p) (rows ++ (if t then q ∷ [] else []))
+    cases true e =
+        take_lies z (step_world z a (GateTake q)) p rows q l (λ r f o. out_before b z a (GateTake q) r s (λ t. same_false q r f (and_both _ _ t).0) o)
+    cases false e =
+        still_lies z (step_world z a (GateTake q)) p rows l (λ r o. out_before b z a (GateTake q) r s (λ t. false≢true (sym e ∙ (and_both _ _ t).1)) o)
 lies_step b z p rows a op s l = still_lies z (step_world z a op) p rows l (λ r o. out_before b z a op r s false≢true o)
 
-machine_lies : (m : Machine) (p : PresentIds) (rows : List ℕ) (a : ℕ) (op : Op) → Full m → AllFits m.bounds (world_of m) → is_allowed m a op ≡ true → Lies (world_of m) p rows
+machine_lies : (m : Machine) (p : PresentIds) (rows : List ℕ) (a : ℕ) (op : Op) → Full m → AllFits m.bounds (world_of m) → is_allowed m a op ≡ true
+    → Lies (world_of m) p rows
     → Lies (world_of (step m a op)) (ids_after p (record_at m a) (word_read m a op) op) (rows ++ taken_by (record_at m a) (word_read m a op) op)
 machine_lies m p rows a op w s l h =
     let done = lies_step m.bounds (world_of m) p rows a op (allowed_step m a op w s l) h in
-    let read : read_by (world_of m) a op ≡ word_read m a op = word_shown m (action_of a op (record_at m a)).word (may_within m.bounds _ a op (record_at m a) l) in
+    let read : read_by (world_of m) a op ≡ word_read m a op =
+    word_shown m (action_of a op (record_at m a)).word (may_within m.bounds _ a op (record_at m a) l) in
     subst (λ v. Lies (world_of (step m a op)) (ids_after p (record_at m a) v op) (rows ++ taken_by (record_at m a) v op)) read
-    (subst (λ y. Lies y (ids_after p (record_at m a) (read_by (world_of m) a op) op) (rows ++ taken_by (record_at m a) (read_by (world_of m) a op) op)) (sym (world_step m a op w.words w.agents l)) done)
+    (subst (λ y. Lies y (ids_after p (record_at m a) (read_by (world_of m) a op) op)
+    (rows ++ taken_by (record_at m a) (read_by (world_of m) a op) op)) (sym (world_step m a op w.words w.agents l)) done)
 
-lies_run : {N : Type 0} (m : Machine) (p : PresentIds) (rows : List ℕ) (steps : List (Step N)) → Full m → AllFits m.bounds (world_of m) → IsLawfulJournal m steps → Lies (world_of m) p rows
+lies_run : {N : Type 0} (m : Machine) (p : PresentIds) (rows : List ℕ) (steps : List (Step N)) → Full m → AllFits m.bounds (world_of m)
+    → IsLawfulJournal m steps → Lies (world_of m) p rows
     → Lies (world_of (run m (plain steps))) (ids_from m p steps) (rows ++ rows_taken_from m steps)
 lies_run m p rows [] w s l h = subst (Lies (world_of m) p) (sym (nil_more rows)) h
 lies_run m p rows (x ∷ xs) w s l h =
     let d = record_at m x.agent in
     let v = word_read m x.agent x.op in
-    let fitting = subst (λ z. AllFits m.bounds z) (sym (world_step m x.agent x.op w.words w.agents l.0)) (all_step m.bounds (world_of m) x.agent x.op (allowed_step m x.agent x.op w s l.0) s) in
-    let rest = lies_run (step m x.agent x.op) (ids_after p d v x.op) (rows ++ taken_by d v x.op) xs (full_step m x.agent x.op w) fitting l.2 (machine_lies m p rows x.agent x.op w s l.0 h) in
-    subst (Lies (world_of (run (step m x.agent x.op) (plain xs))) (ids_from (step m x.agent x.op) (ids_after p d v x.op) xs)) (append_assoc rows (taken_by d v x.op) (rows_taken_from (step m x.agent x.op) xs)) rest
+    let fitting =
+    subst (λ z. AllFits m.bounds z) (sym (world_step m x.agent x.op w.words w.agents l.0))
+    (all_step m.bounds (world_of m) x.agent x.op (allowed_step m x.agent x.op w s l.0) s) in
+    let rest = lies_run (step m x.agent x.op) (ids_after p d v x.op) (rows ++ taken_by d v x.op) xs (full_step m x.agent x.op w) fitting l.2
+    (machine_lies m p rows x.agent x.op w s l.0 h) in
+    subst (Lies (world_of (run (step m x.agent x.op) (plain xs))) (ids_from (step m x.agent x.op) (ids_after p d v x.op) xs))
+    (append_assoc rows (taken_by d v x.op) (rows_taken_from (step m x.agent x.op) xs)) rest
 
 first_lies : (b : Bounds) → Lies (world_of (new_machine b)) no_ids []
 first_lies b = record { given = refl; at = λ r o. let e = zero_first b (Gate r) refl in absurd (omega arith) }
 
-journal_lies : {N : Type 0} (b : Bounds) (steps : List (Step N)) → IsShape b → IsLawfulJournal (new_machine b) steps → Lies (world_of (run (new_machine b) (plain steps))) (present_ids b steps) (rows_taken b steps)
+journal_lies : {N : Type 0} (b : Bounds) (steps : List (Step N)) → IsShape b → IsLawfulJournal (new_machine b) steps
+    → Lies (world_of (run (new_machine b) (plain steps))) (present_ids b steps) (rows_taken b steps)
 journal_lies b steps shape l = lies_run (new_machine b) no_ids [] steps (full_first b shape) (all_first b) l (first_lies b)
 
-pub row_of_node : {N : Type 0} (b : Bounds) (steps : List (Step N)) (r : ℕ) → IsShape b → IsLawfulJournal (new_machine b) steps → IsOut (run (new_machine b) (plain steps)) r
+pub row_of_node : {N : Type 0} (b : Bounds) (steps : List (Step N)) (r : ℕ) → IsShape b → IsLawfulJournal (new_machine b) steps
+    → IsOut (run (new_machine b) (plain steps)) r
     → slice_get (rows_taken b steps) ((present_ids b steps).node r) ≡ Some r
 row_of_node b steps r shape l o = (journal_lies b steps shape l).at r (out_hidden (run (new_machine b) (plain steps)) r o)
 
-pub taken_count : {N : Type 0} (b : Bounds) (steps : List (Step N)) → IsShape b → IsLawfulJournal (new_machine b) steps → length (rows_taken b steps) ≡ (present_ids b steps).given
+pub taken_count : {N : Type 0} (b : Bounds) (steps : List (Step N)) → IsShape b → IsLawfulJournal (new_machine b) steps
+    → length (rows_taken b steps) ≡ (present_ids b steps).given
 taken_count b steps shape l = (journal_lies b steps shape l).given
 
 -- the takings only grow
-pub taken-append : {N : Type 0} (m : Machine) (xs ys : List (Step N)) → rows_taken_from m (xs ++ ys) ≡ rows_taken_from m xs ++ rows_taken_from (run m (plain xs)) ys
+pub taken-append : {N : Type 0} (m : Machine) (xs ys : List (Step N)) → rows_taken_from m (xs ++ ys) ≡ rows_taken_from m xs
+    ++ rows_taken_from (run m (plain xs)) ys
 taken-append m [] ys = refl
 taken-append m (x ∷ xs) ys =
     let own = taken_by (record_at m x.agent) (word_read m x.agent x.op) x.op in
     ap (λ l. own ++ l) (taken-append (step m x.agent x.op) xs ys)
     ∙ sym (append_assoc own (rows_taken_from (step m x.agent x.op) xs) _)
 
-pub one_row : {N : Type 0} (b : Bounds) (j more : List (Step N)) (q r : ℕ) → IsShape b → IsLawfulJournal (new_machine b) (j ++ more) → IsOut (run (new_machine b) (plain j)) q → IsOut (run (new_machine b) (plain (j ++ more))) r
+pub one_row : {N : Type 0} (b : Bounds) (j more : List (Step N)) (q r : ℕ) → IsShape b → IsLawfulJournal (new_machine b) (j ++ more)
+    → IsOut (run (new_machine b) (plain j)) q → IsOut (run (new_machine b) (plain (j ++ more))) r
     → (present_ids b j).node q ≡ (present_ids b (j ++ more)).node r → q ≡ r
 one_row b j more q r shape l o u e =
     let first = row_of_node b j q shape (((IsLawfulJournal-append (new_machine b) j more).0 l).0) o in
     let later = row_of_node b (j ++ more) r shape l u in
-    let grown : slice_get (rows_taken b (j ++ more)) ((present_ids b j).node q) ≡ Some q = subst (λ rows. slice_get rows ((present_ids b j).node q) ≡ Some q) (sym (taken-append (new_machine b) j more)) (get-grown ((present_ids b j).node q) (rows_taken b j) _ q first) in
+    let grown : slice_get (rows_taken b (j ++ more)) ((present_ids b j).node q) ≡ Some q =
+    subst (λ rows. slice_get rows ((present_ids b j).node q) ≡ Some q) (sym (taken-append (new_machine b) j more))
+    (get-grown ((present_ids b j).node q) (rows_taken b j) _ q first) in
     let same : Some q ≡ Some r = sym grown ∙ (ap (slice_get (rows_taken b (j ++ more))) e ∙ later) in
     cc
 
@@ -122,17 +142,22 @@ two_targets None (Some r) f g h e = cc
 two_targets (Some q) None f g h e = cc
 two_targets (Some q) (Some r) f g h e = ap Some (h q r refl refl (cc))
 
-pub two_links : {N : Type 0} (b : Bounds) (j more : List (Step N)) (k l : RowLink) → IsShape b → IsLawfulJournal (new_machine b) (j ++ more) → LinksOut (run (new_machine b) (plain j)) k → LinksOut (run (new_machine b) (plain (j ++ more))) l
+pub two_links : {N : Type 0} (b : Bounds) (j more : List (Step N)) (k l : RowLink) → IsShape b → IsLawfulJournal (new_machine b) (j ++ more)
+    → LinksOut (run (new_machine b) (plain j)) k → LinksOut (run (new_machine b) (plain (j ++ more))) l
     → option_map (present_ids b j).node k.to ≡ option_map (present_ids b (j ++ more)).node l.to → k.to ≡ l.to
-two_links b j more k l shape lawful o u e = two_targets k.to l.to (present_ids b j).node (present_ids b (j ++ more)).node (λ q r f g h. one_row b j more q r shape lawful (o q f) (u r g) h) e
+two_links b j more k l shape lawful o u e =
+    two_targets k.to l.to (present_ids b j).node (present_ids b (j ++ more)).node (λ q r f g h. one_row b j more q r shape lawful (o q f) (u r g) h) e
 
 -- the target of a root's link, and of the link of a row that is out, is out
-pub root_links_out : {N : Type 0} (b : Bounds) (j : List (Step N)) (i : ℕ) → IsShape b → IsLawfulJournal (new_machine b) j → i < b.roots → LinksOut (run (new_machine b) (plain j)) (link_of (word_in (run (new_machine b) (plain j)) (Root i)))
+pub root_links_out : {N : Type 0} (b : Bounds) (j : List (Step N)) (i : ℕ) → IsShape b → IsLawfulJournal (new_machine b) j → i < b.roots
+    → LinksOut (run (new_machine b) (plain j)) (link_of (word_in (run (new_machine b) (plain j)) (Root i)))
 root_links_out b j i shape l h r e =
     let m = run (new_machine b) (plain j) in
-    (run_sound b (plain j) shape (plain_lawful (new_machine b) j l)).targets.roots i r (subst (λ (c : Bounds). i < c.roots) (sym (run_bounds (new_machine b) (plain j))) h) (one-true _ (named_row (word_in m (Root i)) r e))
+    (run_sound b (plain j) shape (plain_lawful (new_machine b) j l)).targets.roots i r
+    (subst (λ (c : Bounds). i < c.roots) (sym (run_bounds (new_machine b) (plain j))) h) (one-true _ (named_row (word_in m (Root i)) r e))
 
-pub next_links_out : {N : Type 0} (b : Bounds) (j : List (Step N)) (q : ℕ) → IsShape b → IsLawfulJournal (new_machine b) j → IsOut (run (new_machine b) (plain j)) q → LinksOut (run (new_machine b) (plain j)) (link_of (word_in (run (new_machine b) (plain j)) (Next q)))
+pub next_links_out : {N : Type 0} (b : Bounds) (j : List (Step N)) (q : ℕ) → IsShape b → IsLawfulJournal (new_machine b) j
+    → IsOut (run (new_machine b) (plain j)) q → LinksOut (run (new_machine b) (plain j)) (link_of (word_in (run (new_machine b) (plain j)) (Next q)))
 next_links_out b j q shape l o r e =
     let m = run (new_machine b) (plain j) in
     (run_sound b (plain j) shape (plain_lawful (new_machine b) j l)).targets.nexts q r o (one-true _ (named_row (word_in m (Next q)) r e))

@@ -42,7 +42,8 @@ use Rattle.orc_words.specs.declared.place.Word.TheVariants.{Gate, Root}
 abbrev Keeps : (b : Bounds) (y : World) (p : PresentIds) (h : Heap) (a : ℕ) (op : Op) (want : Option RowLink) (d : Agent) (v : ℕ) → Type 0
 Keeps b y p h a op want d v = Fitting a (act_of p d v op want) h × Shows b y (ids_after p d v op) (heap_then a (act_of p d v op want) h)
 
-step_shows : (b : Bounds) (z : World) (p : PresentIds) (h : Heap) (a : ℕ) (op : Op) (want : Option RowLink) → LawfulStep b z a op → Counted b (step_world z a op) → IsWanted (z.seats a) op want → IsPlainOp op → Shows b z p h
+step_shows : (b : Bounds) (z : World) (p : PresentIds) (h : Heap) (a : ℕ) (op : Op) (want : Option RowLink) → LawfulStep b z a op
+    → Counted b (step_world z a op) → IsWanted (z.seats a) op want → IsPlainOp op → Shows b z p h
     → Keeps b (step_world z a op) p h a op want (z.seats a) (read_by z a op)
 step_shows b z p h a (GateTake q) want l c u n s = take_step b z p h a q l s (is_taken (z.seats a) (z.memory (Gate q))) refl
 step_shows b z p h a (FillStep q which v) want l c u n s = (fill_fits b z p h a q which v l s, fill_shows b z p h a q which v l s)
@@ -51,24 +52,29 @@ step_shows b z p h a (LinkCas w x t) want l c u n s = exchange_step b z p h a w 
 step_shows b z p h a (LinkStore q k) want l c u n s = store_step b z p h a q k l n s (names (z.seats a).fresh q) refl
 step_shows b z p h a op want l c u n s = (tt, still_shows b z p h a op l refl s)
 
-events_lawful : {N : Type 0} (s : Step N) (o : Option Act) (h : Heap) (rest : List (Event N)) → Fitting s.agent o h → IsLawfulFrom (heap_then s.agent o h) rest → IsLawfulFrom h (events_of s o ++ rest)
+events_lawful : {N : Type 0} (s : Step N) (o : Option Act) (h : Heap) (rest : List (Event N)) → Fitting s.agent o h
+    → IsLawfulFrom (heap_then s.agent o h) rest → IsLawfulFrom h (events_of s o ++ rest)
 events_lawful s None h rest f l = l
 events_lawful s (Some act) h rest f l = (f, l)
 
-events_run : {N : Type 0} (s : Step N) (o : Option Act) (h : Heap) (rest : List (Event N)) → run_from h (events_of s o ++ rest) ≡ run_from (heap_then s.agent o h) rest
+events_run : {N : Type 0} (s : Step N) (o : Option Act) (h : Heap) (rest : List (Event N))
+    → run_from h (events_of s o ++ rest) ≡ run_from (heap_then s.agent o h) rest
 events_run s None h rest = refl
 events_run s (Some act) h rest = refl
 
-machine_step : (m : Machine) (p : PresentIds) (h : Heap) (a : ℕ) (op : Op) (want : Option RowLink) → Full m → AllFits m.bounds (world_of m) → is_allowed m a op ≡ true → IsWanted (record_at m a) op want → IsPlainOp op → Shows m.bounds (world_of m) p h
+machine_step : (m : Machine) (p : PresentIds) (h : Heap) (a : ℕ) (op : Op) (want : Option RowLink) → Full m → AllFits m.bounds (world_of m)
+    → is_allowed m a op ≡ true → IsWanted (record_at m a) op want → IsPlainOp op → Shows m.bounds (world_of m) p h
     → Keeps m.bounds (world_of (step m a op)) p h a op want (record_at m a) (word_read m a op)
 machine_step m p h a op want w s l u n k =
     let legal = allowed_step m a op w s l in
     let made = step_shows m.bounds (world_of m) p h a op want legal (all_step m.bounds (world_of m) a op legal s).counted u n k in
-    let read : read_by (world_of m) a op ≡ word_read m a op = word_shown m (action_of a op (record_at m a)).word (may_within m.bounds _ a op (record_at m a) l) in
+    let read : read_by (world_of m) a op ≡ word_read m a op =
+    word_shown m (action_of a op (record_at m a)).word (may_within m.bounds _ a op (record_at m a) l) in
     subst (λ v. Keeps m.bounds (world_of (step m a op)) p h a op want (record_at m a) v) read
     (subst (λ y. Keeps m.bounds y p h a op want (record_at m a) (read_by (world_of m) a op)) (sym (world_step m a op w.words w.agents l)) made)
 
-pub project_shows : {N : Type 0} (m : Machine) (p : PresentIds) (h : Heap) (steps : List (Step N)) → Full m → AllFits m.bounds (world_of m) → IsLawfulJournal m steps → StoresUnmarked steps → Shows m.bounds (world_of m) p h
+pub project_shows : {N : Type 0} (m : Machine) (p : PresentIds) (h : Heap) (steps : List (Step N)) → Full m → AllFits m.bounds (world_of m)
+    → IsLawfulJournal m steps → StoresUnmarked steps → Shows m.bounds (world_of m) p h
     → IsLawfulFrom h (project_from m p steps) × Shows m.bounds (world_of (run m (plain steps))) (ids_from m p steps) (run_from h (project_from m p steps))
 project_shows m p h [] w s l n k = (tt, k)
 project_shows m p h (x ∷ xs) w s l n k =
@@ -76,10 +82,13 @@ project_shows m p h (x ∷ xs) w s l n k =
     let v = word_read m x.agent x.op in
     let o = act_of p d v x.op x.want in
     let made = machine_step m p h x.agent x.op x.want w s l.0 l.1 n.0 k in
-    let fitting = subst (λ z. AllFits m.bounds z) (sym (world_step m x.agent x.op w.words w.agents l.0)) (all_step m.bounds (world_of m) x.agent x.op (allowed_step m x.agent x.op w s l.0) s) in
+    let fitting =
+    subst (λ z. AllFits m.bounds z) (sym (world_step m x.agent x.op w.words w.agents l.0))
+    (all_step m.bounds (world_of m) x.agent x.op (allowed_step m x.agent x.op w s l.0) s) in
     let rest = project_shows (step m x.agent x.op) (ids_after p d v x.op) (heap_then x.agent o h) xs (full_step m x.agent x.op w) fitting l.2 n.1 made.1 in (
       events_lawful x o h (project_from (step m x.agent x.op) (ids_after p d v x.op) xs) made.0 rest.0,
-      subst (λ g. Shows m.bounds (world_of (run (step m x.agent x.op) (plain xs))) (ids_from (step m x.agent x.op) (ids_after p d v x.op) xs) g) (sym (events_run x o h (project_from (step m x.agent x.op) (ids_after p d v x.op) xs))) rest.1,
+      subst (λ g. Shows m.bounds (world_of (run (step m x.agent x.op) (plain xs))) (ids_from (step m x.agent x.op) (ids_after p d v x.op) xs) g)
+          (sym (events_run x o h (project_from (step m x.agent x.op) (ids_after p d v x.op) xs))) rest.1,
     )
 
 -- a new state shows the new heap

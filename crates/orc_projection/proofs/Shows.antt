@@ -85,19 +85,21 @@ next_shown b z p h a j s d k u =
     let e : n.node.link ≡ node_link p (link_of (z.memory (Next j))) = ⊎_elim (λ c. absurd (uncut b z a j d u c)) (λ e. e) n.so.link in
     rw (n.there, e)
 
-empty_holds : (s : SlotUse) (r : ℕ) → is_empty s ≡ true → holds s r ≡ true → ⊥
+pub empty_holds : (s : SlotUse) (r : ℕ) → is_empty s ≡ true → holds s r ≡ true → ⊥
 empty_holds Empty r h k = false≢true k
 empty_holds (Published q) r h k = false≢true k
 empty_holds (Held q) r h k = false≢true h
 
 -- what is held while slot 0 is empty is known
-pub holder_knows : (b : Bounds) (z : World) (p : PresentIds) (h : Heap) (a r : ℕ) → Shows b z p h → is_empty (slot_of (z.seats a) 0) ≡ true → any_holds (z.seats a).slots r ≡ true → HasNode h.nodes (p.node r) (Known a)
+pub holder_knows : (b : Bounds) (z : World) (p : PresentIds) (h : Heap) (a r : ℕ) → Shows b z p h → is_empty (slot_of (z.seats a) 0) ≡ true
+    → any_holds (z.seats a).slots r ≡ true → HasNode h.nodes (p.node r) (Known a)
 holder_knows b z p h a r s e k = let w = held_at (z.seats a).slots r k in cases w.at (w.at == 0) refl w.hold
   where
     cases : (j : ℕ) (t : Bool) → (j == 0) ≡ t → holds (slot_of (z.seats a) j) r ≡ true → HasNode h.nodes (p.node r) (Known a)
     cases j true f g = absurd (empty_holds (slot_of (z.seats a) 0) r e (rw (eqb-true j 0 f) at g))
     cases j false f g = let n = eqb-false j 0 f in let ne : j ≢ 0 = n in s.held a j r (omega arith) g
 
-pub is_target : (a : ℕ) (p : PresentIds) (h : Heap) (to : Option ℕ) → ((r : ℕ) → to ≡ Some r → HasNode h.nodes (p.node r) (Known a)) → IsTarget a h (option_map p.node to)
+pub is_target : (a : ℕ) (p : PresentIds) (h : Heap) (to : Option ℕ) → ((r : ℕ) → to ≡ Some r → HasNode h.nodes (p.node r) (Known a))
+    → IsTarget a h (option_map p.node to)
 is_target a p h None k = tt
 is_target a p h (Some r) k = is_known a (p.node r) h (k r refl)

@@ -44,7 +44,8 @@ differs b z p h w k shape c o s outs lost e =
     let same = node_link-same p (link_of (z.memory w)) k (λ q r x y g. s.apart q r (target_out b z w q c o (named_row (z.memory w) q x)) (outs r y) g) e in
     eqb-false (z.memory w) (link_word k) lost (sym (word_back (z.memory w) (small_word b z w shape c o)) ∙ ap link_word same)
 
-pub packs : (b : Bounds) (z : World) (l : RowLink) → IsShape b → Counted b z → ((r : ℕ) → l.to ≡ Some r → out (z.memory (Gate r)) ≡ 1) → link_of (link_word l) ≡ l
+pub packs : (b : Bounds) (z : World) (l : RowLink) → IsShape b → Counted b z → ((r : ℕ) → l.to ≡ Some r → out (z.memory (Gate r)) ≡ 1)
+    → link_of (link_word l) ≡ l
 packs b z l shape c outs = link_back l (λ r e. let k = out_below b z r c (outs r e) in let m = shape.rows.1 in omega arith)
 
 pub held_out : (b : Bounds) (z : World) (a r : ℕ) → Counted b z → any_holds (z.seats a).slots r ≡ true → out (z.memory (Gate r)) ≡ 1
@@ -52,7 +53,8 @@ held_out b z a r c h = c.used_out a r (held_uses (z.seats a) r h)
 
 -- a load finds the link, or another one than was wanted
 load_fits : (a : ℕ) (p : PresentIds) (h : Heap) (v : ℕ) (want : Option RowLink) (place : Place) → shown h place ≡ Some (node_link p (link_of v))
-    → ((k : RowLink) → want ≡ Some k → (v == link_word k) ≡ false → node_link p (link_of v) ≢ node_link p k) → Fits a (load_act p v want place) h × (heap_after a (load_act p v want place) h ≡ h)
+    → ((k : RowLink) → want ≡ Some k → (v == link_word k) ≡ false → node_link p (link_of v) ≢ node_link p k) → Fits a (load_act p v want place) h
+    × (heap_after a (load_act p v want place) h ≡ h)
 load_fits a p h v None place e n = (e, refl)
 load_fits a p h v (Some k) place e n = cases (v == link_word k) refl
   where
@@ -70,23 +72,31 @@ wanted_out : (b : Bounds) (z : World) (a : ℕ) (o : Option ℕ) (r : ℕ) → C
 wanted_out b z a None r c w e = cc
 wanted_out b z a (Some q) r c w e = let k : q ≡ r = cc in rw (← k) (held_out b z a q c w)
 
-wanted_link : (b : Bounds) (z : World) (a : ℕ) (w : Word) (slot : Option ℕ) (want : Option RowLink) (k : RowLink) (r : ℕ) → Counted b z → IsWanted (z.seats a) (LinkLoad w slot) want → want ≡ Some k → k.to ≡ Some r → out (z.memory (Gate r)) ≡ 1
+wanted_link : (b : Bounds) (z : World) (a : ℕ) (w : Word) (slot : Option ℕ) (want : Option RowLink) (k : RowLink) (r : ℕ) → Counted b z
+    → IsWanted (z.seats a) (LinkLoad w slot) want → want ≡ Some k → k.to ≡ Some r → out (z.memory (Gate r)) ≡ 1
 wanted_link b z a w slot None k r c u e g = cc
 wanted_link b z a w slot (Some l) k r c u e g = let x : l ≡ k = cc in wanted_out b z a l.to r c u (ap (λ (y : RowLink). y.to) x ∙ g)
 
-load_at : (b : Bounds) (z : World) (p : PresentIds) (h : Heap) (a : ℕ) (w : Word) (slot : Option ℕ) (want : Option RowLink) (place : Place) → LawfulStep b z a (LinkLoad w slot) → IsWanted (z.seats a) (LinkLoad w slot) want → Shows b z p h
+load_at : (b : Bounds) (z : World) (p : PresentIds) (h : Heap) (a : ℕ) (w : Word) (slot : Option ℕ) (want : Option RowLink) (place : Place)
+    → LawfulStep b z a (LinkLoad w slot) → IsWanted (z.seats a) (LinkLoad w slot) want → Shows b z p h
     → shown h place ≡ Some (node_link p (link_of (z.memory w)))
     → Fits a (load_act p (z.memory w) want place) h × Shows b (step_world z a (LinkLoad w slot)) p (heap_after a (load_act p (z.memory w) want place) h)
 load_at b z p h a w slot want place l u s e =
     let o = read_out b z a w l.counted (load_place b (z.memory Enrolled) a w slot (z.seats a) l.fits) in
-    let f = load_fits a p h (z.memory w) want place e (λ k g lost. differs b z p h w k l.shape l.counted o s (λ r y. wanted_link b z a w slot want k r l.counted u g y) lost) in
+    let f = load_fits a p h (z.memory w) want place e
+    (λ k g lost. differs b z p h w k l.shape l.counted o s (λ r y. wanted_link b z a w slot want k r l.counted u g y) lost) in
     (f.0, subst (λ g. Shows b (step_world z a (LinkLoad w slot)) p g) (sym f.1) (still_shows b z p h a (LinkLoad w slot) l refl s))
 
-pub load_step : (b : Bounds) (z : World) (p : PresentIds) (h : Heap) (a : ℕ) (w : Word) (slot : Option ℕ) (want : Option RowLink) → LawfulStep b z a (LinkLoad w slot) → IsWanted (z.seats a) (LinkLoad w slot) want → Shows b z p h
-    → Fitting a (act_of p (z.seats a) (z.memory w) (LinkLoad w slot) want) h × Shows b (step_world z a (LinkLoad w slot)) p (heap_then a (act_of p (z.seats a) (z.memory w) (LinkLoad w slot) want) h)
-load_step b z p h a (Root i) slot want l u s = load_at b z p h a (Root i) slot want (RootPlace i) l u s (s.roots i (ltb-true i b.roots (load_place b (z.memory Enrolled) a (Root i) slot (z.seats a) l.fits)))
+pub load_step : (b : Bounds) (z : World) (p : PresentIds) (h : Heap) (a : ℕ) (w : Word) (slot : Option ℕ) (want : Option RowLink)
+    → LawfulStep b z a (LinkLoad w slot) → IsWanted (z.seats a) (LinkLoad w slot) want → Shows b z p h
+    → Fitting a (act_of p (z.seats a) (z.memory w) (LinkLoad w slot) want) h
+    × Shows b (step_world z a (LinkLoad w slot)) p (heap_then a (act_of p (z.seats a) (z.memory w) (LinkLoad w slot) want) h)
+load_step b z p h a (Root i) slot want l u s =
+    load_at b z p h a (Root i) slot want (RootPlace i) l u s
+    (s.roots i (ltb-true i b.roots (load_place b (z.memory Enrolled) a (Root i) slot (z.seats a) l.fits)))
 load_step b z p h a (Next q) slot want l u s =
-    let k = (and_both (nat_lt q b.rows) (any_holds (z.seats a).slots q || names (z.seats a).fresh q) (load_place b (z.memory Enrolled) a (Next q) slot (z.seats a) l.fits)).1 in
+    let k = (and_both (nat_lt q b.rows) (any_holds (z.seats a).slots q || names (z.seats a).fresh q)
+    (load_place b (z.memory Enrolled) a (Next q) slot (z.seats a) l.fits)).1 in
     load_at b z p h a (Next q) slot want (NodePlace (p.node q)) l u s (next_shown b z p h a q l.counted l.doomed s (held_or_fresh (z.seats a) q k))
 load_step b z p h a w slot want l u s = absurd (false≢true (load_place b (z.memory Enrolled) a w slot (z.seats a) l.fits))
 
@@ -127,20 +137,24 @@ aimed_row f (Some r) i e = (r, refl, cc)
 -- a row whose link is exchanged isn't the agent's fresh one
 place_unfresh : (b : Bounds) (z : World) (a q : ℕ) (x t : RowLink) → LawfulStep b z a (LinkCas (Next q) x t) → names (z.seats a).fresh q ≡ false
 place_unfresh b z a q x t l =
-    let k = and_both (nat_lt q b.rows) (any_holds (z.seats a).slots q && not (names (z.seats a).fresh q)) (cas_place b (z.memory Enrolled) a (Next q) x t (z.seats a) l.fits) in
+    let k = and_both (nat_lt q b.rows) (any_holds (z.seats a).slots q && not (names (z.seats a).fresh q))
+    (cas_place b (z.memory Enrolled) a (Next q) x t (z.seats a) l.fits) in
     not-false (names (z.seats a).fresh q) (and_both (any_holds (z.seats a).slots q) (not (names (z.seats a).fresh q)) k.1).1
 
 -- the place of a link that was made names its target
-exchanged : (b : Bounds) (z : World) (a : ℕ) (w : Word) (x t : RowLink) (j : ℕ) → LawfulStep b z a (LinkCas w x t) → Counted b (step_world z a (LinkCas w x t)) → (z.memory w == link_word x) ≡ true
+exchanged : (b : Bounds) (z : World) (a : ℕ) (w : Word) (x t : RowLink) (j : ℕ) → LawfulStep b z a (LinkCas w x t)
+    → Counted b (step_world z a (LinkCas w x t)) → (z.memory w == link_word x) ≡ true
     → names t.to j ≡ true → names ((step_world z a (LinkCas w x t)).seats a).fresh j ≡ true → names (z.seats a).fresh j ≡ true → ⊥
 exchanged b z a (Root i) x t j l c won e k old =
     zero_one (c.fresh_root a i j k) (rw (eq-eqb i i refl, won) (to_row-link t j ∙ ap bit e))
 exchanged b z a (Next i) x t j l c won e k old =
-    zero_one (c.fresh_next a i j k (λ g. both_ways (names (z.seats a).fresh i) (rw g old) (place_unfresh b z a i x t l))) (rw (eq-eqb i i refl, won) (to_row-link t j ∙ ap bit e))
+    zero_one (c.fresh_next a i j k (λ g. both_ways (names (z.seats a).fresh i) (rw g old) (place_unfresh b z a i x t l)))
+    (rw (eq-eqb i i refl, won) (to_row-link t j ∙ ap bit e))
 exchanged b z a w x t j l c won e k old = cas_place_out b z a w x t l
 
 -- a row that still is fresh isn't the target
-exchange_unfresh : (b : Bounds) (z : World) (p : PresentIds) (h : Heap) (a : ℕ) (w : Word) (x t : RowLink) (y j : ℕ) → LawfulStep b z a (LinkCas w x t) → Counted b (step_world z a (LinkCas w x t)) → Shows b z p h → (z.memory w == link_word x) ≡ true
+exchange_unfresh : (b : Bounds) (z : World) (p : PresentIds) (h : Heap) (a : ℕ) (w : Word) (x t : RowLink) (y j : ℕ)
+    → LawfulStep b z a (LinkCas w x t) → Counted b (step_world z a (LinkCas w x t)) → Shows b z p h → (z.memory w == link_word x) ≡ true
     → names ((step_world z a (LinkCas w x t)).seats y).fresh j ≡ true → option_map p.node t.to ≡ Some (p.node j) → ⊥
 exchange_unfresh b z p h a w x t y j l c s won k e =
     let old = fresh_before z a (LinkCas w x t) y j false≢true k in
@@ -150,9 +164,11 @@ exchange_unfresh b z p h a w x t y j l c s won k e =
     let target : names t.to j ≡ true = some-names t.to j (r.1 ∙ ap Some same) in
     cases (y == a) refl old k target (rw same at held)
   where
-    cases : (u : Bool) → (y == a) ≡ u → names (z.seats y).fresh j ≡ true → names ((step_world z a (LinkCas w x t)).seats y).fresh j ≡ true → names t.to j ≡ true → any_holds (z.seats a).slots j ≡ true → ⊥
+    cases : (u : Bool) → (y == a) ≡ u → names (z.seats y).fresh j ≡ true → names ((step_world z a (LinkCas w x t)).seats y).fresh j ≡ true
+        → names t.to j ≡ true → any_holds (z.seats a).slots j ≡ true → ⊥
     cases true g old k target held = let f = eqb-true y a g in exchanged b z a w x t j l c won target (rw f at k) (rw f at old)
-    cases false g old k target held = both_ways (uses (z.seats a) j) (held_uses (z.seats a) j held) (l.counted.fresh_alone y a j old (λ f. eqb-false y a g (sym f)))
+    cases false g old k target held =
+        both_ways (uses (z.seats a) j) (held_uses (z.seats a) j held) (l.counted.fresh_alone y a j old (λ f. eqb-false y a g (sym f)))
 
 linked_marks : Marks as_linked
 linked_marks = record { named = λ n. refl; link = λ n. refl; first = λ n. refl; second = λ n. refl }
@@ -160,7 +176,8 @@ linked_marks = record { named = λ n. refl; link = λ n. refl; first = λ n. ref
 pub named_marks : Marks as_named
 named_marks = record { named = λ n. refl; link = λ n. refl; first = λ n. refl; second = λ n. refl }
 
-exchange_relinks : (b : Bounds) (z : World) (p : PresentIds) (h : Heap) (a : ℕ) (w : Word) (x t : RowLink) → LawfulStep b z a (LinkCas w x t) → Counted b (step_world z a (LinkCas w x t)) → Shows b z p h → (z.memory w == link_word x) ≡ true
+exchange_relinks : (b : Bounds) (z : World) (p : PresentIds) (h : Heap) (a : ℕ) (w : Word) (x t : RowLink) → LawfulStep b z a (LinkCas w x t)
+    → Counted b (step_world z a (LinkCas w x t)) → Shows b z p h → (z.memory w == link_word x) ≡ true
     → Relinks b z p h a (LinkCas w x t) t as_linked
 exchange_relinks b z p h a w x t l c s won = record {
   lawful = l;
@@ -176,19 +193,22 @@ exchange_relinks b z p h a w x t l c s won = record {
   owned = λ y j n k e o. absurd (exchange_unfresh b z p h a w x t y j l c s won k e);
 }
 
-lost_fits : (b : Bounds) (z : World) (p : PresentIds) (h : Heap) (a : ℕ) (w : Word) (x t : RowLink) (place : Place) → LawfulStep b z a (LinkCas w x t) → Shows b z p h → (z.memory w == link_word x) ≡ false
+lost_fits : (b : Bounds) (z : World) (p : PresentIds) (h : Heap) (a : ℕ) (w : Word) (x t : RowLink) (place : Place) → LawfulStep b z a (LinkCas w x t)
+    → Shows b z p h → (z.memory w == link_word x) ≡ false
     → shown h place ≡ Some (node_link p (link_of (z.memory w))) → Fits a (Miss place (node_link p x) (node_link p (link_of (z.memory w)))) h
 lost_fits b z p h a w x t place l s lost e =
     (e, differs b z p h w x l.shape l.counted (cas_place_out b z a w x t l) s (λ r g. held_out b z a r l.counted ((exchange b z a w x t l).from r g)) lost)
 
-won_shown : (b : Bounds) (z : World) (p : PresentIds) (h : Heap) (a : ℕ) (w : Word) (x t : RowLink) (place : Place) → LawfulStep b z a (LinkCas w x t) → (z.memory w == link_word x) ≡ true
+won_shown : (b : Bounds) (z : World) (p : PresentIds) (h : Heap) (a : ℕ) (w : Word) (x t : RowLink) (place : Place) → LawfulStep b z a (LinkCas w x t)
+    → (z.memory w == link_word x) ≡ true
     → shown h place ≡ Some (node_link p (link_of (z.memory w))) → shown h place ≡ Some (node_link p x)
 won_shown b z p h a w x t place l won e =
     e ∙ ap (λ v. Some (node_link p (link_of v))) (eqb-true (z.memory w) (link_word x) won)
     ∙ ap (λ (k : RowLink). Some (node_link p k)) (packs b z x l.shape l.counted (λ r g. held_out b z a r l.counted ((exchange b z a w x t l).from r g)))
 
 -- the step's act on a place, and the heap after it
-exchange_at : (b : Bounds) (z : World) (p : PresentIds) (h : Heap) (a : ℕ) (w : Word) (x t : RowLink) (place : Place) → LawfulStep b z a (LinkCas w x t) → Shows b z p h → shown h place ≡ Some (node_link p (link_of (z.memory w)))
+exchange_at : (b : Bounds) (z : World) (p : PresentIds) (h : Heap) (a : ℕ) (w : Word) (x t : RowLink) (place : Place)
+    → LawfulStep b z a (LinkCas w x t) → Shows b z p h → shown h place ≡ Some (node_link p (link_of (z.memory w)))
     → ((z.memory w == link_word x) ≡ true → Shows b (step_world z a (LinkCas w x t)) p (heap_after a (Move place (node_link p x) (node_link p t)) h))
     → Fits a (exchange_act p (z.memory w) x t place) h × Shows b (step_world z a (LinkCas w x t)) p (heap_after a (exchange_act p (z.memory w) x t place) h)
 exchange_at b z p h a w x t place l s e move = cases (z.memory w == link_word x) refl
@@ -199,24 +219,37 @@ exchange_at b z p h a w x t place l s e move = cases (z.memory w == link_word x)
     missed : Act
     missed = Miss place (node_link p x) (node_link p (link_of (z.memory w)))
 
-    cases : (u : Bool) → (z.memory w == link_word x) ≡ u → Fits a (if u then made else missed) h × Shows b (step_world z a (LinkCas w x t)) p (heap_after a (if u then made else missed) h)
-    cases true g = ((won_shown b z p h a w x t place l g e, is_target a p h t.to (λ r k. holder_knows b z p h a r s (exchange b z a w x t l).empty ((exchange b z a w x t l).to r k))), move g)
+    cases : (u : Bool) → (z.memory w == link_word x) ≡ u → Fits a (if u then made else missed) h
+        × Shows b (step_world z a (LinkCas w x t)) p (heap_after a (if u then made else missed) h)
+    cases true g = (
+      (
+        won_shown b z p h a w x t place l g e,
+        is_target a p h t.to (λ r k. holder_knows b z p h a r s (exchange b z a w x t l).empty ((exchange b z a w x t l).to r k)),
+      ),
+      move g,
+    )
     cases false g = (lost_fits b z p h a w x t place l s g e, still_shows b z p h a (LinkCas w x t) l (rw g refl) s)
 
-pub exchange_step : (b : Bounds) (z : World) (p : PresentIds) (h : Heap) (a : ℕ) (w : Word) (x t : RowLink) (want : Option RowLink) → LawfulStep b z a (LinkCas w x t) → Counted b (step_world z a (LinkCas w x t)) → Shows b z p h
-    → Fitting a (act_of p (z.seats a) (z.memory w) (LinkCas w x t) want) h × Shows b (step_world z a (LinkCas w x t)) p (heap_then a (act_of p (z.seats a) (z.memory w) (LinkCas w x t) want) h)
+pub exchange_step : (b : Bounds) (z : World) (p : PresentIds) (h : Heap) (a : ℕ) (w : Word) (x t : RowLink) (want : Option RowLink)
+    → LawfulStep b z a (LinkCas w x t) → Counted b (step_world z a (LinkCas w x t)) → Shows b z p h
+    → Fitting a (act_of p (z.seats a) (z.memory w) (LinkCas w x t) want) h
+    × Shows b (step_world z a (LinkCas w x t)) p (heap_then a (act_of p (z.seats a) (z.memory w) (LinkCas w x t) want) h)
 exchange_step b z p h a (Root i) x t want l c s =
     let below = ltb-true i b.roots (cas_place b (z.memory Enrolled) a (Root i) x t (z.seats a) l.fits) in
     exchange_at b z p h a (Root i) x t (RootPlace i) l s (s.roots i below)
     (λ won. root_shows b z p h a (LinkCas (Root i) x t) t as_linked i (exchange_relinks b z p h a (Root i) x t l c s won) below (λ j. rw won refl) (λ j. refl))
 exchange_step b z p h a (Next q) x t want l c s =
-    let k = (and_both (nat_lt q b.rows) (any_holds (z.seats a).slots q && not (names (z.seats a).fresh q)) (cas_place b (z.memory Enrolled) a (Next q) x t (z.seats a) l.fits)).1 in
+    let k = (and_both (nat_lt q b.rows) (any_holds (z.seats a).slots q && not (names (z.seats a).fresh q))
+    (cas_place b (z.memory Enrolled) a (Next q) x t (z.seats a) l.fits)).1 in
     let u = held_uses (z.seats a) q (and_both (any_holds (z.seats a).slots q) (not (names (z.seats a).fresh q)) k).0 in
     exchange_at b z p h a (Next q) x t (NodePlace (p.node q)) l s (next_shown b z p h a q l.counted l.doomed s u)
-    (λ won. next_shows b z p h a (LinkCas (Next q) x t) t as_linked q (exchange_relinks b z p h a (Next q) x t l c s won) (l.counted.used_out a q u) (λ j. rw won refl) (λ j. refl))
+    (λ won. next_shows b z p h a (LinkCas (Next q) x t) t as_linked q (exchange_relinks b z p h a (Next q) x t l c s won) (l.counted.used_out a q u)
+    (λ j. rw won refl) (λ j. refl))
 exchange_step b z p h a w x t want l c s = absurd (cas_place_out b z a w x t l)
 
-pub take_step : (b : Bounds) (z : World) (p : PresentIds) (h : Heap) (a q : ℕ) → LawfulStep b z a (GateTake q) → Shows b z p h → (t : Bool) → is_taken (z.seats a) (z.memory (Gate q)) ≡ t
-    → Fitting a (if t then Some Give else None) h × Shows b (step_world z a (GateTake q)) (if t then with_taken q p else p) (heap_then a (if t then Some Give else None) h)
+pub take_step : (b : Bounds) (z : World) (p : PresentIds) (h : Heap) (a q : ℕ) → LawfulStep b z a (GateTake q) → Shows b z p h → (t : Bool)
+    → is_taken (z.seats a) (z.memory (Gate q)) ≡ t
+    → Fitting a (if t then Some Give else None) h × Shows b (step_world z a (GateTake q)) (if t then with_taken q p else p)
+    (heap_then a (if t then Some Give else None) h)
 take_step b z p h a q l s true e = (tt, take_shows b z p h a q l e s)
 take_step b z p h a q l s false e = (tt, still_shows b z p h a (GateTake q) l (rw e refl) s)

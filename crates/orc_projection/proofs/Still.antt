@@ -73,7 +73,8 @@ still_takes (GateTake q) d v r s h = false≢true (sym (not-false _ s) ∙ (and_
 still_takes op d v r s h = false≢true h
 
 -- a row that is out after a step that doesn't take it was out before
-pub out_before : (b : Bounds) (z : World) (a : ℕ) (op : Op) (j : ℕ) → LawfulStep b z a op → (takes op (z.seats a) (read_by z a op) j ≡ true → ⊥) → out ((step_world z a op).memory (Gate j)) ≡ 1 → out (z.memory (Gate j)) ≡ 1
+pub out_before : (b : Bounds) (z : World) (a : ℕ) (op : Op) (j : ℕ) → LawfulStep b z a op → (takes op (z.seats a) (read_by z a op) j ≡ true → ⊥)
+    → out ((step_world z a op).memory (Gate j)) ≡ 1 → out (z.memory (Gate j)) ≡ 1
 out_before b z a op j l n h = cases (frees op j) refl
   where
     cases : (t : Bool) → frees op j ≡ t → out (z.memory (Gate j)) ≡ 1
@@ -81,7 +82,8 @@ out_before b z a op j l n h = cases (frees op j) refl
     cases false e = ⊎_elim (λ o. o) (λ t. absurd (n t)) (gate_source b (z.memory Enrolled) a op (z.seats a) z.memory j l.fits e h)
 
 -- a row that is fresh after a step that doesn't take it was fresh before
-pub fresh_before : (z : World) (a : ℕ) (op : Op) (x j : ℕ) → (takes op (z.seats a) (read_by z a op) j ≡ true → ⊥) → names ((step_world z a op).seats x).fresh j ≡ true → names (z.seats x).fresh j ≡ true
+pub fresh_before : (z : World) (a : ℕ) (op : Op) (x j : ℕ) → (takes op (z.seats a) (read_by z a op) j ≡ true → ⊥)
+    → names ((step_world z a op).seats x).fresh j ≡ true → names (z.seats x).fresh j ≡ true
 fresh_before z a op x j n h =
     ⊎_elim
     (λ s. ⊎_elim (λ old. rw s.0 old) (λ t. absurd (n t)) (fresh_source op (z.seats a) (read_by z a op) j s.1))
@@ -94,7 +96,8 @@ NewlyHeld (LinkLoad w k) d v r = NewHold (LinkLoad w k) d v r
 NewlyHeld (Publish k q) d v r = NewHold (Publish k q) d v r
 NewlyHeld op d v r = ⊥
 
-pub hold_before : (b : Bounds) (e a : ℕ) (op : Op) (d : Agent) (v k r : ℕ) → fits b e a op d ≡ true → 0 < k → holds (slot_of (after op d v) k) r ≡ true → (holds (slot_of d k) r ≡ true) ⊎ NewlyHeld op d v r
+pub hold_before : (b : Bounds) (e a : ℕ) (op : Op) (d : Agent) (v k r : ℕ) → fits b e a op d ≡ true → 0 < k
+    → holds (slot_of (after op d v) k) r ≡ true → (holds (slot_of d k) r ≡ true) ⊎ NewlyHeld op d v r
 hold_before b e a (LinkLoad w j) d v k r f g h = slot_source b e a (LinkLoad w j) d v k r f h
 hold_before b e a (Publish j q) d v k r f g h = slot_source b e a (Publish j q) d v k r f h
 hold_before b e a (Arm q) d v k r f g h = inl (rw (get_or-set_other d.slots 0 k (Held q) Empty (λ e. omega arith)) at h)
@@ -119,7 +122,8 @@ bare_row (Some d) q r h k = let x = eqb-true d.row q (and_both _ _ h).0 in let y
 freed_even : (w : ℕ) → out w ≡ 1 → out ((w + 18446744073709551615) % 18446744073709551616) ≡ 0
 freed_even w h = omega arith
 
-own_cut : (b : Bounds) (z : World) (a : ℕ) (op : Op) (j : ℕ) → LawfulStep b z a op → out ((step_world z a op).memory (Gate j)) ≡ 1 → dooms_cut (z.seats a).doom j ≡ true → dooms_cut (record_by z a op).doom j ≡ true
+own_cut : (b : Bounds) (z : World) (a : ℕ) (op : Op) (j : ℕ) → LawfulStep b z a op → out ((step_world z a op).memory (Gate j)) ≡ 1
+    → dooms_cut (z.seats a).doom j ≡ true → dooms_cut (record_by z a op).doom j ≡ true
 own_cut b z a (LinkStore q l) j p o h = cut_more (z.seats a).doom q j h
 own_cut b z a (CounterLoad q Check) j p o h = h
 own_cut b z a (CounterLoad q Start) j p o h = h
@@ -140,7 +144,8 @@ pub record IsCut (b : Bounds) (z : World) (j : ℕ) : Type 0 where
   pub below : agent < b.agents
   pub cut : dooms_cut (z.seats agent).doom j ≡ true
 
-pub cut_stays : (b : Bounds) (z : World) (a : ℕ) (op : Op) (j : ℕ) → LawfulStep b z a op → out ((step_world z a op).memory (Gate j)) ≡ 1 → IsCut b z j → IsCut b (step_world z a op) j
+pub cut_stays : (b : Bounds) (z : World) (a : ℕ) (op : Op) (j : ℕ) → LawfulStep b z a op → out ((step_world z a op).memory (Gate j)) ≡ 1 → IsCut b z j
+    → IsCut b (step_world z a op) j
 cut_stays b z a op j p o c = record {
   agent = c.agent;
   below = c.below;

@@ -17,24 +17,31 @@ use Rattle.orc_words.specs.Bounds.{Bounds}
 use Rattle.orc_words.specs.declared.place.Word.{Word}
 use Rattle.orc_words.specs.declared.place.Word.TheVariants.{Enrolled, First, Gate, Next, Root, Second}
 
-place_named : (b : Bounds) (z : World) (p : PresentIds) (h : Heap) (w : Word) (j : ℕ) → Shows b z p h → OutPlace z.memory w → to_row (z.memory w) j ≡ 1 → HasNode h.nodes (p.node j) Named
+place_named : (b : Bounds) (z : World) (p : PresentIds) (h : Heap) (w : Word) (j : ℕ) → Shows b z p h → OutPlace z.memory w
+    → to_row (z.memory w) j ≡ 1 → HasNode h.nodes (p.node j) Named
 place_named b z p h (Root i) j s o t = s.root_named i j t
 place_named b z p h (Next i) j s o t = s.next_named i j o t
 place_named b z p h w j s o t = absurd o
 
-newly_known : (b : Bounds) (z : World) (p : PresentIds) (h : Heap) (a : ℕ) (op : Op) (j : ℕ) → LawfulStep b z a op → Shows b z p h → NewlyHeld op (z.seats a) (read_by z a op) j → HasNode h.nodes (p.node j) (Known a)
-newly_known b z p h a (LinkLoad w k) j l s n = node-map h.nodes (p.node j) (named_known a) (place_named b z p h w j s (read_out b z a w l.counted (load_place b (z.memory Enrolled) a w k (z.seats a) l.fits)) n)
+newly_known : (b : Bounds) (z : World) (p : PresentIds) (h : Heap) (a : ℕ) (op : Op) (j : ℕ) → LawfulStep b z a op → Shows b z p h
+    → NewlyHeld op (z.seats a) (read_by z a op) j → HasNode h.nodes (p.node j) (Known a)
+newly_known b z p h a (LinkLoad w k) j l s n =
+    node-map h.nodes (p.node j) (named_known a)
+    (place_named b z p h w j s (read_out b z a w l.counted (load_place b (z.memory Enrolled) a w k (z.seats a) l.fits)) n)
 newly_known b z p h a (Publish k q) j l s n = node-map h.nodes (p.node j) (owned_known a) (s.fresh a j n)
 newly_known b z p h a op j l s n = absurd n
 
-still_row : (b : Bounds) (z : World) (p : PresentIds) (a : ℕ) (op : Op) (j : ℕ) → LawfulStep b z a op → is_still op (z.seats a) (read_by z a op) ≡ true → out ((step_world z a op).memory (Gate j)) ≡ 1 → (n : Node) → RowShows b z p j n → RowShows b (step_world z a op) p j n
+still_row : (b : Bounds) (z : World) (p : PresentIds) (a : ℕ) (op : Op) (j : ℕ) → LawfulStep b z a op
+    → is_still op (z.seats a) (read_by z a op) ≡ true → out ((step_world z a op).memory (Gate j)) ≡ 1 → (n : Node) → RowShows b z p j n
+    → RowShows b (step_world z a op) p j n
 still_row b z p a op j l q o n r = record {
   link = ⊎_elim (λ c. inl (cut_stays b z a op j l o c)) (λ e. inr (rw (still_words a op (z.seats a) z.memory (Next j) q refl) e)) r.link;
   first = λ v e. rw (still_words a op (z.seats a) z.memory (First j) q refl) (r.first v e);
   second = λ v e. rw (still_words a op (z.seats a) z.memory (Second j) q refl) (r.second v e);
 }
 
-pub still_shows : (b : Bounds) (z : World) (p : PresentIds) (h : Heap) (a : ℕ) (op : Op) → LawfulStep b z a op → is_still op (z.seats a) (read_by z a op) ≡ true → Shows b z p h → Shows b (step_world z a op) p h
+pub still_shows : (b : Bounds) (z : World) (p : PresentIds) (h : Heap) (a : ℕ) (op : Op) → LawfulStep b z a op
+    → is_still op (z.seats a) (read_by z a op) ≡ true → Shows b z p h → Shows b (step_world z a op) p h
 still_shows b z p h a op l q s = record {
   given = s.given;
   there = λ j o. s.there j (was_out j o);
@@ -43,7 +50,8 @@ still_shows b z p h a op l q s = record {
   rows = λ j o. node-map h.nodes (p.node j) (still_row b z p a op j l q o) (s.rows j (was_out j o));
   fresh = λ x j k. s.fresh x j (fresh_before z a op x j (still_takes op (z.seats a) (read_by z a op) j q) k);
   held = λ x k j g e. ⊎_elim
-      (λ t. ⊎_elim (λ old. rw t.0 (s.held a k j g old)) (λ new. rw t.0 (newly_known b z p h a op j l s new)) (hold_before b (z.memory Enrolled) a op (z.seats a) (read_by z a op) k j l.fits g t.1))
+      (λ t. ⊎_elim (λ old. rw t.0 (s.held a k j g old)) (λ new. rw t.0 (newly_known b z p h a op j l s new))
+      (hold_before b (z.memory Enrolled) a op (z.seats a) (read_by z a op) k j l.fits g t.1))
       (λ t. s.held x k j g t.1)
       (seat_split (λ d. holds (slot_of d k) j ≡ true) z.seats a x (record_by z a op) e);
   root_named = λ i j k. s.root_named i j (rw (still_words a op (z.seats a) z.memory (Root i) q refl) at k);

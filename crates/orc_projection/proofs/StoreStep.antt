@@ -41,17 +41,21 @@ stored_null n e true t c u s k h g = absurd (false≢true (sym g))
 stored_null n e false t c u s k h g = let i = and_both (u && s) k (and_both (n && e) (u && s && k) h).1 in and_both u s i.0
 
 -- a link that is stored in a row that isn't fresh is null, and the row is doomed
-pub store_doomed : (b : Bounds) (e a q : ℕ) (l : RowLink) (d : Agent) → fits b e a (LinkStore q l) d ≡ true → names d.fresh q ≡ false → (doom_uncut d.doom q ≡ true) × (is_none l.to ≡ true)
-store_doomed b e a q l d f g = stored_null (nat_lt q b.rows) (is_empty (slot_of d 0)) (names d.fresh q) (may_target b d l.to) (may_change d (b.limit + 64) None l.to) (doom_uncut d.doom q) (is_none l.to) (not l.mark) f g
+pub store_doomed : (b : Bounds) (e a q : ℕ) (l : RowLink) (d : Agent) → fits b e a (LinkStore q l) d ≡ true → names d.fresh q ≡ false
+    → (doom_uncut d.doom q ≡ true) × (is_none l.to ≡ true)
+store_doomed b e a q l d f g = stored_null (nat_lt q b.rows) (is_empty (slot_of d 0)) (names d.fresh q) (may_target b d l.to)
+    (may_change d (b.limit + 64) None l.to) (doom_uncut d.doom q) (is_none l.to) (not l.mark) f g
 
 now_cut : (o : Option Doom) (q : ℕ) → doom_uncut o q ≡ true → dooms_cut (cut_of o q) q ≡ true
 now_cut None q h = absurd (false≢true h)
 now_cut (Some d) q h = grind arith
 
-was_held : (z : World) (a q : ℕ) (l : RowLink) (x k j : ℕ) → holds (slot_of ((step_world z a (LinkStore q l)).seats x) k) j ≡ true → holds (slot_of (z.seats x) k) j ≡ true
+was_held : (z : World) (a q : ℕ) (l : RowLink) (x k j : ℕ) → holds (slot_of ((step_world z a (LinkStore q l)).seats x) k) j ≡ true
+    → holds (slot_of (z.seats x) k) j ≡ true
 was_held z a q l x k j e = ⊎_elim (λ t. rw t.0 t.1) (λ t. t.1) (seat_split (λ d. holds (slot_of d k) j ≡ true) z.seats a x (record_by z a (LinkStore q l)) e)
 
-doom_shows : (b : Bounds) (z : World) (p : PresentIds) (h : Heap) (a q : ℕ) (l : RowLink) → LawfulStep b z a (LinkStore q l) → names (z.seats a).fresh q ≡ false → Shows b z p h → Shows b (step_world z a (LinkStore q l)) p h
+doom_shows : (b : Bounds) (z : World) (p : PresentIds) (h : Heap) (a q : ℕ) (l : RowLink) → LawfulStep b z a (LinkStore q l)
+    → names (z.seats a).fresh q ≡ false → Shows b z p h → Shows b (step_world z a (LinkStore q l)) p h
 doom_shows b z p h a q l k f s = record {
   given = s.given;
   there = λ j o. s.there j (was_out j o);
@@ -61,7 +65,8 @@ doom_shows b z p h a q l k f s = record {
   fresh = λ x j e. s.fresh x j (fresh_before z a (LinkStore q l) x j false≢true e);
   held = λ x i j g e. s.held x i j g (was_held z a q l x i j e);
   root_named = s.root_named;
-  next_named = λ i j o e. ⊎_elim (λ old. s.next_named i j (was_out i o) old) (λ new. absurd (no_target l.to j doomed.1 (and_both _ _ new).1)) (next_source b (z.memory Enrolled) a (LinkStore q l) (z.seats a) z.memory i j k.fits e);
+  next_named = λ i j o e. ⊎_elim (λ old. s.next_named i j (was_out i o) old) (λ new. absurd (no_target l.to j doomed.1 (and_both _ _ new).1))
+      (next_source b (z.memory Enrolled) a (LinkStore q l) (z.seats a) z.memory i j k.fits e);
 }
   where
     doomed : (doom_uncut (z.seats a).doom q ≡ true) × (is_none l.to ≡ true)
@@ -70,9 +75,15 @@ doom_shows b z p h a q l k f s = record {
     was_out : (j : ℕ) → out ((step_world z a (LinkStore q l)).memory (Gate j)) ≡ 1 → out (z.memory (Gate j)) ≡ 1
     was_out j o = out_before b z a (LinkStore q l) j k false≢true o
 
-    at_row : (j : ℕ) → out ((step_world z a (LinkStore q l)).memory (Gate j)) ≡ 1 → (t : Bool) → (j == q) ≡ t → (n : Node) → RowShows b z p j n → RowShows b (step_world z a (LinkStore q l)) p j n
+    at_row : (j : ℕ) → out ((step_world z a (LinkStore q l)).memory (Gate j)) ≡ 1 → (t : Bool) → (j == q) ≡ t → (n : Node) → RowShows b z p j n
+        → RowShows b (step_world z a (LinkStore q l)) p j n
     at_row j o true e n r = record {
-      link = inl (record { agent = a; below = k.agent; cut = rw (seat_same z.seats a (record_by z a (LinkStore q l)), eqb-true j q e) (now_cut (z.seats a).doom q doomed.0) });
+      link = inl (record {
+        agent = a;
+        below = k.agent;
+        cut =
+            rw (seat_same z.seats a (record_by z a (LinkStore q l)), eqb-true j q e) (now_cut (z.seats a).doom q doomed.0);
+      });
       first = r.first;
       second = r.second;
     }
@@ -85,7 +96,8 @@ doom_shows b z p h a q l k f s = record {
 target_held : (b : Bounds) (z : World) (a q : ℕ) (l : RowLink) (r : ℕ) → LawfulStep b z a (LinkStore q l) → l.to ≡ Some r → any_holds (z.seats a).slots r ≡ true
 target_held b z a q l r k e = links_held b (z.memory Enrolled) a (LinkStore q l) (z.seats a) r k.fits (some-names l.to r e)
 
-store_relinks : (b : Bounds) (z : World) (p : PresentIds) (h : Heap) (a q : ℕ) (l : RowLink) → LawfulStep b z a (LinkStore q l) → Shows b z p h → Relinks b z p h a (LinkStore q l) l as_named
+store_relinks : (b : Bounds) (z : World) (p : PresentIds) (h : Heap) (a q : ℕ) (l : RowLink) → LawfulStep b z a (LinkStore q l) → Shows b z p h
+    → Relinks b z p h a (LinkStore q l) l as_named
 store_relinks b z p h a q l k s = record {
   lawful = k;
   shows = s;
@@ -103,11 +115,17 @@ store_relinks b z p h a q l k s = record {
 aimed_link : (p : PresentIds) (l : RowLink) → l.mark ≡ false → (let x : Link = node_link p l in x) ≡ record { to = option_map p.node l.to; mark = false }
 aimed_link p l e = λ i. record { to = option_map p.node l.to; mark = e i }
 
-pub store_step : (b : Bounds) (z : World) (p : PresentIds) (h : Heap) (a q : ℕ) (l : RowLink) → LawfulStep b z a (LinkStore q l) → l.mark ≡ false → Shows b z p h → (t : Bool) → names (z.seats a).fresh q ≡ t
-    → Fitting a (if t then Some (Aim (p.node q) (option_map p.node l.to)) else None) h × Shows b (step_world z a (LinkStore q l)) p (heap_then a (if t then Some (Aim (p.node q) (option_map p.node l.to)) else None) h)
+pub store_step : (b : Bounds) (z : World) (p : PresentIds) (h : Heap) (a q : ℕ) (l : RowLink) → LawfulStep b z a (LinkStore q l) → l.mark ≡ false
+    → Shows b z p h → (t : Bool) → names (z.seats a).fresh q ≡ t
+    → Fitting a (if t then Some (Aim (p.node q) (option_map p.node l.to)) else None) h
+    × Shows b (step_world z a (LinkStore q l)) p (heap_then a (if t then Some (Aim (p.node q) (option_map p.node l.to)) else None) h)
 store_step b z p h a q l k plain s true e = (
-  (is_fresh a (p.node q) h (s.fresh a q e), is_target a p h l.to (λ r g. holder_knows b z p h a r s (store_empty b (z.memory Enrolled) a q l (z.seats a) k.fits) (target_held b z a q l r k g))),
-  subst (λ (x : Link). Shows b (step_world z a (LinkStore q l)) p (change_target as_named (option_map p.node l.to) (change_node (with_link x) (p.node q) h))) (aimed_link p l plain)
+  (
+    is_fresh a (p.node q) h (s.fresh a q e),
+    is_target a p h l.to (λ r g. holder_knows b z p h a r s (store_empty b (z.memory Enrolled) a q l (z.seats a) k.fits) (target_held b z a q l r k g)),
+  ),
+  subst (λ (x : Link). Shows b (step_world z a (LinkStore q l)) p
+      (change_target as_named (option_map p.node l.to) (change_node (with_link x) (p.node q) h))) (aimed_link p l plain)
       (next_shows b z p h a (LinkStore q l) l as_named q (store_relinks b z p h a q l k s) (store_row_out b z a q l k) (λ j. refl) (λ j. refl)),
 )
 store_step b z p h a q l k plain s false e = (tt, doom_shows b z p h a q l k e s)

@@ -25,19 +25,23 @@ use Rattle.orc_words.specs.Bounds.{Bounds}
 use Rattle.orc_words.specs.Packed.{link_of}
 use Rattle.orc_words.specs.declared.place.Word.TheVariants.{Gate, Next, Root}
 
-pub take_shows : (b : Bounds) (z : World) (p : PresentIds) (h : Heap) (a q : ℕ) → LawfulStep b z a (GateTake q) → is_taken (z.seats a) (z.memory (Gate q)) ≡ true → Shows b z p h
+pub take_shows : (b : Bounds) (z : World) (p : PresentIds) (h : Heap) (a q : ℕ) → LawfulStep b z a (GateTake q)
+    → is_taken (z.seats a) (z.memory (Gate q)) ≡ true → Shows b z p h
     → Shows b (step_world z a (GateTake q)) (with_taken q p) (heap_after a Give h)
 take_shows b z p h a q l won s = record {
   given = length-append h.nodes (new_node a ∷ []) ∙ ap (λ n. n + 1) s.given;
   there = λ j o. at_there j (j == q) refl o;
   apart = λ i j o u e. at_apart i j (i == q) (j == q) refl refl o u e;
-  roots = λ i k. s.roots i k ∙ ap Some (sym (node_link-taken p q (link_of (z.memory (Root i))) (λ r e. other_row r (l.counted.roots_out i r (named_row _ r e)))));
+  roots = λ i k. s.roots i k
+      ∙ ap Some (sym (node_link-taken p q (link_of (z.memory (Root i))) (λ r e. other_row r (l.counted.roots_out i r (named_row _ r e)))));
   rows = λ j o. at_row j (j == q) refl o;
   fresh = λ x j k. ⊎_elim
-      (λ t. ⊎_elim (λ old. rw t.0 (old_node j (fresh_out a j old) (s.fresh a j old))) (λ new. rw (t.0, ← eqb-true q j (and_both _ _ new).0) taken_node) (fresh_source (GateTake q) (z.seats a) (z.memory (Gate q)) j t.1))
+      (λ t. ⊎_elim (λ old. rw t.0 (old_node j (fresh_out a j old) (s.fresh a j old)))
+      (λ new. rw (t.0, ← eqb-true q j (and_both _ _ new).0) taken_node) (fresh_source (GateTake q) (z.seats a) (z.memory (Gate q)) j t.1))
       (λ t. old_node j (fresh_out x j t.1) (s.fresh x j t.1))
       (seat_split (λ d. names d.fresh j ≡ true) z.seats a x (record_by z a (GateTake q)) k);
-  held = λ x k j g e. let t = was_held x k j e in old_node j (l.counted.used_out x j (held_uses (z.seats x) j (any_holds_at (z.seats x).slots k j t))) (s.held x k j g t);
+  held = λ x k j g e. let t = was_held x k j e in
+      old_node j (l.counted.used_out x j (held_uses (z.seats x) j (any_holds_at (z.seats x).slots k j t))) (s.held x k j g t);
   root_named = λ i j k. old_node j (l.counted.roots_out i j k) (s.root_named i j k);
   next_named = λ i j o k. at_next i j (i == q) refl o k;
 }
@@ -57,7 +61,8 @@ take_shows b z p h a q l won s = record {
     was_held : (x k j : ℕ) → holds (slot_of ((step_world z a (GateTake q)).seats x) k) j ≡ true → holds (slot_of (z.seats x) k) j ≡ true
     was_held x k j e = ⊎_elim (λ t. rw t.0 t.1) (λ t. t.1) (seat_split (λ d. holds (slot_of d k) j ≡ true) z.seats a x (record_by z a (GateTake q)) e)
 
-    old_node : {P : Node → Type 0} (j : ℕ) → out (z.memory (Gate j)) ≡ 1 → HasNode h.nodes (p.node j) P → HasNode (h.nodes ++ new_node a ∷ []) ((with_taken q p).node j) P
+    old_node : {P : Node → Type 0} (j : ℕ) → out (z.memory (Gate j)) ≡ 1 → HasNode h.nodes (p.node j) P
+        → HasNode (h.nodes ++ new_node a ∷ []) ((with_taken q p).node j) P
     old_node {P} j o n = cases (j == q) refl
       where
         cases : (t : Bool) → (j == q) ≡ t → HasNode (h.nodes ++ new_node a ∷ []) (if t then p.given else p.node j) P
@@ -74,7 +79,8 @@ take_shows b z p h a q l won s = record {
     at_there j true e o = omega arith
     at_there j false e o = let k = s.there j (was_out j e o) in omega arith
 
-    at_apart : (i j : ℕ) (t u : Bool) → (i == q) ≡ t → (j == q) ≡ u → out ((step_world z a (GateTake q)).memory (Gate i)) ≡ 1 → out ((step_world z a (GateTake q)).memory (Gate j)) ≡ 1
+    at_apart : (i j : ℕ) (t u : Bool) → (i == q) ≡ t → (j == q) ≡ u → out ((step_world z a (GateTake q)).memory (Gate i)) ≡ 1
+        → out ((step_world z a (GateTake q)).memory (Gate j)) ≡ 1
         → (if t then p.given else p.node i) ≡ (if u then p.given else p.node j) → i ≡ j
     at_apart i j true true e f o u g = eqb-true i q e ∙ sym (eqb-true j q f)
     at_apart i j true false e f o u g = let k = s.there j (was_out j f u) in absurd (omega arith)
@@ -88,7 +94,8 @@ take_shows b z p h a q l won s = record {
         new_there (record { link = inr (rw zero refl); first = λ v k. cc; second = λ v k. cc })
     at_row j false e o = node-grown h.nodes (new_node a ∷ []) (p.node j) (node-map h.nodes (p.node j) (old_row j o (was_out j e o)) (s.rows j (was_out j e o)))
       where
-        old_row : (j : ℕ) → out ((step_world z a (GateTake q)).memory (Gate j)) ≡ 1 → out (z.memory (Gate j)) ≡ 1 → (n : Node) → RowShows b z p j n → RowShows b (step_world z a (GateTake q)) (with_taken q p) j n
+        old_row : (j : ℕ) → out ((step_world z a (GateTake q)).memory (Gate j)) ≡ 1 → out (z.memory (Gate j)) ≡ 1 → (n : Node) → RowShows b z p j n
+            → RowShows b (step_world z a (GateTake q)) (with_taken q p) j n
         old_row j o u n r = record {
           link = ⊎_elim
               (λ c. inl (cut_stays b z a (GateTake q) j l o c))
@@ -98,6 +105,7 @@ take_shows b z p h a q l won s = record {
           second = r.second;
         }
 
-    at_next : (i j : ℕ) (t : Bool) → (i == q) ≡ t → out ((step_world z a (GateTake q)).memory (Gate i)) ≡ 1 → to_row (z.memory (Next i)) j ≡ 1 → HasNode (h.nodes ++ new_node a ∷ []) ((with_taken q p).node j) Named
+    at_next : (i j : ℕ) (t : Bool) → (i == q) ≡ t → out ((step_world z a (GateTake q)).memory (Gate i)) ≡ 1 → to_row (z.memory (Next i)) j ≡ 1
+        → HasNode (h.nodes ++ new_node a ∷ []) ((with_taken q p).node j) Named
     at_next i j true e o k = absurd (zero_one (null_row (z.memory (Next i)) j (rw (eqb-true i q e) (l.counted.free_null q free))) k)
     at_next i j false e o k = let u = was_out i e o in old_node j (l.counted.nexts_out i j u k) (s.next_named i j u k)

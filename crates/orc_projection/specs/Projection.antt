@@ -20,11 +20,13 @@ use Rattle.orc_words.specs.declared.packed.RowLink.{RowLink}
 -- a load of the link word w: a Look, or a Miss where another link was wanted
 abbrev pub load_act : PresentIds → ℕ → Option RowLink → Place → Act
 load_act p w None place = Look place (node_link p (link_of w))
-load_act p w (Some wanted) place = if w == link_word wanted then Look place (node_link p (link_of w)) else Miss place (node_link p wanted) (node_link p (link_of w))
+load_act p w (Some wanted) place =
+    if w == link_word wanted then Look place (node_link p (link_of w)) else Miss place (node_link p wanted) (node_link p (link_of w))
 
 -- a compare_exchange that found the link word w: a Move if it succeeded, else a Miss
 abbrev pub exchange_act : PresentIds → ℕ → RowLink → RowLink → Place → Act
-exchange_act p w from to place = if w == link_word from then Move place (node_link p from) (node_link p to) else Miss place (node_link p from) (node_link p (link_of w))
+exchange_act p w from to place =
+    if w == link_word from then Move place (node_link p from) (node_link p to) else Miss place (node_link p from) (node_link p (link_of w))
 
 -- the row was free in the life that the agent saw, and is taken
 abbrev pub is_taken : Agent → ℕ → Bool

@@ -34,7 +34,8 @@ use Rattle.orc_heap.proofs.Moments.{look_found}
 use Rattle.orc_fifo_rule.specs.Laws.Kept.{fifo_keeps}
 
 -- where no other agent steps, what follows from the own events, wherever they stand once the roots have begun, holds of the heap
-pub alone_runs : (n : HeapNumbers) (P : Heap → Type 0) (s t : Seat FifoNote) (own : List (Event FifoNote)) (p : Puts s own t) → Known n s.seen → AllAllowed (FifoMay n) [] t.seen
+pub alone_runs : (n : HeapNumbers) (P : Heap → Type 0) (s t : Seat FifoNote) (own : List (Event FifoNote)) (p : Puts s own t) → Known n s.seen
+    → AllAllowed (FifoMay n) [] t.seen
     → ((es : List (Event FifoNote)) → FifoHolds n es → has_begun es ≡ true → AllAllowed (FifoMay n) es own → P (run_heap n (es ++ own)))
     → AllOwn s.agent (from_own s.agent p.part) → P (heap_of n t)
 alone_runs n P s t own p k all told alone =
@@ -42,7 +43,8 @@ alone_runs n P s t own p k all told alone =
     P s t own p (k.holds, k.dummy.begun) all (λ es h. told es h.0 h.1) alone
 
 -- a turn without a Move of the pass's own
-pub over_quiet : (n : HeapNumbers) (IsSettled : Heap → Type 0) (s t : Seat FifoNote) (p : Piece 6 s [] t) → t.fresh ≡ s.fresh → moves_in p.own ≡ 0 → 1 ≤ moves_in (from_own s.agent p.puts.part) → IsOver n IsSettled s t
+pub over_quiet : (n : HeapNumbers) (IsSettled : Heap → Type 0) (s t : Seat FifoNote) (p : Piece 6 s [] t) → t.fresh ≡ s.fresh → moves_in p.own ≡ 0
+    → 1 ≤ moves_in (from_own s.agent p.puts.part) → IsOver n IsSettled s t
 over_quiet n IsSettled s t p fresh none some = record {
   piece = p;
   fresh = fresh;
@@ -52,9 +54,12 @@ over_quiet n IsSettled s t p fresh none some = record {
 }
 
 -- a turn from a look of a root on: the rest made no Move, or it helped
-module _ (n : HeapNumbers) (IsSettled : Heap → Type 0) (root id : ℕ) (one : Link) (s a t : Seat FifoNote) (k : Known n s.seen) (all_a : AllAllowed (FifoMay n) [] a.seen) (all_t : AllAllowed (FifoMay n) [] t.seen)
-    (p : Puts s (event_of s (Look (Root root) one) None ∷ event_of s (Look (Root root) (link_to id)) None ∷ []) a) (own : List (Event FifoNote)) (q : Puts a own t)
-    (j : Join 6 s t (event_of s (Look (Root root) one) None ∷ event_of s (Look (Root root) (link_to id)) None ∷ own) [] p.part q.part) (fresh : t.fresh ≡ s.fresh)
+module _ (n : HeapNumbers) (IsSettled : Heap → Type 0) (root id : ℕ) (one : Link) (s a t : Seat FifoNote) (k : Known n s.seen)
+    (all_a : AllAllowed (FifoMay n) [] a.seen) (all_t : AllAllowed (FifoMay n) [] t.seen)
+    (p : Puts s (event_of s (Look (Root root) one) None ∷ event_of s (Look (Root root) (link_to id)) None ∷ []) a) (own : List (Event FifoNote))
+    (q : Puts a own t)
+    (j : Join 6 s t (event_of s (Look (Root root) one) None ∷ event_of s (Look (Root root) (link_to id)) None ∷ own) [] p.part q.part)
+    (fresh : t.fresh ≡ s.fresh)
     (moved : shown (heap_of n a) (Root root) ≡ Some (link_to id) → 1 ≤ moves_in q.part)
   where
     moved_since : 1 ≤ moves_in (from_own s.agent j.piece.puts.part)
@@ -71,9 +76,12 @@ module _ (n : HeapNumbers) (IsSettled : Heap → Type 0) (root id : ℕ) (one : 
     pub over_missed : moves_in own ≡ 0 → IsOver n IsSettled s t
     over_missed none = over_quiet n IsSettled s t j.piece fresh (ap (λ (z : List (Event FifoNote)). moves_in z) j.own_is ∙ omega (arith, none)) moved_since
 
-    pub over_helped : ((es : List (Event FifoNote)) → FifoHolds n es → has_begun es ≡ true → AllAllowed (FifoMay n) es (event_of s (Look (Root root) one) None ∷ event_of s (Look (Root root) (link_to id)) None ∷ own)
+    pub over_helped : ((es : List (Event FifoNote)) → FifoHolds n es → has_begun es ≡ true
+        → AllAllowed (FifoMay n) es (event_of s (Look (Root root) one) None ∷ event_of s (Look (Root root) (link_to id)) None ∷ own)
         → IsSettled (run_heap n (es ++ event_of s (Look (Root root) one) None ∷ event_of s (Look (Root root) (link_to id)) None ∷ own)))
-        → ((es : List (Event FifoNote)) → AllAllowed (FifoMay n) es (event_of s (Look (Root root) one) None ∷ event_of s (Look (Root root) (link_to id)) None ∷ own) → IsSettled (run_heap n es) → ⊥)
+        → ((es : List (Event FifoNote))
+        → AllAllowed (FifoMay n) es (event_of s (Look (Root root) one) None ∷ event_of s (Look (Root root) (link_to id)) None ∷ own)
+        → IsSettled (run_heap n es) → ⊥)
         → IsOver n IsSettled s t
     over_helped settles unsettled =
         let part = j.piece.puts.part in
@@ -82,15 +90,18 @@ module _ (n : HeapNumbers) (IsSettled : Heap → Type 0) (root id : ℕ) (one : 
           piece = j.piece;
           fresh = fresh;
           moved = moved_since;
-          settles = λ alone. alone_runs n IsSettled s t _ (record { part = part; is = j.piece.puts.is; agent = j.piece.puts.agent; own_is = all_own }) k all_t settles alone;
+          settles = λ alone. alone_runs n IsSettled s t _ (record { part = part; is = j.piece.puts.is; agent = j.piece.puts.agent; own_is = all_own })
+              k all_t settles alone;
           unsettled = λ alone settled.
-              let is : part ≡ event_of s (Look (Root root) one) None ∷ event_of s (Look (Root root) (link_to id)) None ∷ own = sym (own_is_all s.agent part alone) ∙ all_own in
+              let is : part ≡ event_of s (Look (Root root) one) None ∷ event_of s (Look (Root root) (link_to id)) None ∷ own =
+              sym (own_is_all s.agent part alone) ∙ all_own in
               unsettled s.seen (subst (λ z. AllAllowed (FifoMay n) s.seen z) is new) settled;
         }
 
 -- after a Swing the tail names the last node
 pub swing_settles : (n : HeapNumbers) (es : List (Event FifoNote)) (agent tail next : ℕ) → FifoHolds n es → has_begun es ≡ true
-    → (let e : Event FifoNote = record { agent = agent; act = Move (Root 1) (link_to tail) (link_to next); note = Some Swing } in FifoMay n es e → TailIsLast (run_heap n (es ++ e ∷ [])))
+    → (let e : Event FifoNote = record { agent = agent; act = Move (Root 1) (link_to tail) (link_to next); note = Some Swing } in
+    FifoMay n es e → TailIsLast (run_heap n (es ++ e ∷ [])))
 swing_settles n es agent tail next holds begun may =
     let e : Event FifoNote = record { agent = agent; act = Move (Root 1) (link_to tail) (link_to next); note = Some Swing } in
     let h = run_heap n es in
@@ -98,17 +109,21 @@ swing_settles n es agent tail next holds begun may =
     let steps = may.may_act.steps in
     let next_is : steps.next ≡ next = link_same steps.next next (sym steps.to_is) in
     let (same, has) = tail_steps h es run 1 (link_to tail) (link_to next) steps refl may.fits.0 in
-    let successor : shown h (Next run.tail) ≡ Some (link_to next) = subst (λ (x : ℕ). shown h (Next run.tail) ≡ Some (link_to x)) next_is (subst (λ (x : ℕ). shown h (Next x) ≡ Some (link_to steps.next)) same steps.successor) in
+    let successor : shown h (Next run.tail) ≡ Some (link_to next) =
+    subst (λ (x : ℕ). shown h (Next run.tail) ≡ Some (link_to x)) next_is
+    (subst (λ (x : ℕ). shown h (Next x) ≡ Some (link_to steps.next)) same steps.successor) in
     let (put, back_is, link, put_node, is_last) = back_one es h run.tail run.last run.back next run.to_last run.ends run.short successor in
     let ends = link_next n es e run.last null may run.ends in
     record {
       last = next;
       tail_is = rw (run_heap-snoc n es e) (root_moved agent 1 (link_to tail) (link_to next) h may.fits.0);
-      ends = subst (λ (x : ℕ). shown (run_heap n (es ++ e ∷ [])) (Next x) ≡ Some null) (sym is_last) (shown_link (run_heap n (es ++ e ∷ [])) run.last null ends);
+      ends = subst (λ (x : ℕ). shown (run_heap n (es ++ e ∷ [])) (Next x) ≡ Some null) (sym is_last)
+          (shown_link (run_heap n (es ++ e ∷ [])) run.last null ends);
     }
 
 -- so it does after events that end with help of the tail
-pub tail_settles : (n : HeapNumbers) (own : List (Event FifoNote)) → EndsHelping own → (es : List (Event FifoNote)) → FifoHolds n es → has_begun es ≡ true → AllAllowed (FifoMay n) es own → TailIsLast (run_heap n (es ++ own))
+pub tail_settles : (n : HeapNumbers) (own : List (Event FifoNote)) → EndsHelping own → (es : List (Event FifoNote)) → FifoHolds n es
+    → has_begun es ≡ true → AllAllowed (FifoMay n) es own → TailIsLast (run_heap n (es ++ own))
 tail_settles n own h es holds begun all =
     let w = h.swings in
     let looks : List (Event FifoNote) = h.look ∷ w.before in
@@ -123,25 +138,34 @@ tail_settles n own h es holds begun all =
     let begun_last = begun_more seen looks (begun_more es h.before begun) in
     let at : shown (run_heap n seen) (Root 1) ≡ Some (link_to h.tail) = subst (λ (a : Act). Fits h.look.agent a (run_heap n seen)) h.sees rest.0.fits in
     let still : shown (run_heap n (seen ++ looks)) (Root 1) ≡ Some (link_to h.tail) =
-    ap (λ (g : Heap). shown g (Root 1)) (run_from-append (new_heap n) seen looks) ∙ (tail_stays (run_heap n seen) looks (lawful-right (new_heap n) seen looks holds_last.lawful) (keeps_looks h.look w.before h.tail h.sees w.keeps) ∙ at) in
+    ap (λ (g : Heap). shown g (Root 1)) (run_from-append (new_heap n) seen looks)
+    ∙ (tail_stays (run_heap n seen) looks (lawful-right (new_heap n) seen looks holds_last.lawful)
+    (keeps_looks h.look w.before h.tail h.sees w.keeps) ∙ at) in
     let settled : TailIsLast (run_heap n ((seen ++ looks) ++ w.last ∷ [])) = elim w.swings [
       | inl swing ↦ subst (λ (e : Event FifoNote). TailIsLast (run_heap n ((seen ++ looks) ++ e ∷ []))) (sym swing.1)
-          (swing_settles n (seen ++ looks) w.last.agent h.tail swing.0 holds_last begun_last (subst (λ (e : Event FifoNote). FifoMay n (seen ++ looks) e) swing.1 may))
+          (swing_settles n (seen ++ looks) w.last.agent h.tail swing.0 holds_last begun_last
+          (subst (λ (e : Event FifoNote). FifoMay n (seen ++ looks) e) swing.1 may))
       | inr missed ↦
-          let fits : Fits w.last.agent (Miss (Root 1) (link_to h.tail) missed.0) (run_heap n (seen ++ looks)) = subst (λ (a : Act). Fits w.last.agent a (run_heap n (seen ++ looks))) missed.1 may.fits in
+          let fits : Fits w.last.agent (Miss (Root 1) (link_to h.tail) missed.0) (run_heap n (seen ++ looks)) =
+          subst (λ (a : Act). Fits w.last.agent a (run_heap n (seen ++ looks))) missed.1 may.fits in
           absurd (fits.1 (some_same (sym fits.0 ∙ still)))
     ] in
-    subst (λ z. TailIsLast (run_heap n z)) (append_assoc seen looks (w.last ∷ []) ∙ (append_assoc es h.before (looks ++ w.last ∷ []) ∙ ap (λ z. es ++ z) (sym own_is))) settled
+    subst (λ z. TailIsLast (run_heap n z))
+    (append_assoc seen looks (w.last ∷ []) ∙ (append_assoc es h.before (looks ++ w.last ∷ []) ∙ ap (λ z. es ++ z) (sym own_is))) settled
   where
     tail_stays : (g : Heap) (fs : List (Event FifoNote)) → IsLawfulFrom g fs → KeepsTail fs → shown (run_from g fs) (Root 1) ≡ shown g (Root 1)
-    tail_stays g fs lawful keeps = elim (shown_or_moved_there g (Root 1) fs lawful tt) [ inl same ↦ same | inr moved ↦ let bad : true ≡ false = sym moved ∙ keeps in absurd (cc) ]
+    tail_stays g fs lawful keeps =
+        elim (shown_or_moved_there g (Root 1) fs lawful tt) [ inl same ↦ same | inr moved ↦ let bad : true ≡ false = sym moved ∙ keeps in absurd (cc) ]
 
-    keeps_looks : (look : Event FifoNote) (fs : List (Event FifoNote)) (tail : ℕ) → look.act ≡ Look (Root 1) (link_to tail) → KeepsTail fs → KeepsTail (look ∷ fs)
+    keeps_looks : (look : Event FifoNote) (fs : List (Event FifoNote)) (tail : ℕ) → look.act ≡ Look (Root 1) (link_to tail) → KeepsTail fs
+        → KeepsTail (look ∷ fs)
     keeps_looks look fs tail sees keeps = rw sees keeps
 
 -- and it names another node than before
-pub swing_past : (n : HeapNumbers) (es : List (Event FifoNote)) (agent head next : ℕ) → FifoHolds n es → has_begun es ≡ true → shown (run_heap n es) (Root 0) ≡ Some (link_to head)
-    → (let e : Event FifoNote = record { agent = agent; act = Move (Root 1) (link_to head) (link_to next); note = Some Swing } in FifoMay n es e → TailIsPast (run_heap n (es ++ e ∷ [])))
+pub swing_past : (n : HeapNumbers) (es : List (Event FifoNote)) (agent head next : ℕ) → FifoHolds n es → has_begun es ≡ true
+    → shown (run_heap n es) (Root 0) ≡ Some (link_to head)
+    → (let e : Event FifoNote = record { agent = agent; act = Move (Root 1) (link_to head) (link_to next); note = Some Swing } in
+    FifoMay n es e → TailIsPast (run_heap n (es ++ e ∷ [])))
 swing_past n es agent head next holds begun at may =
     let e : Event FifoNote = record { agent = agent; act = Move (Root 1) (link_to head) (link_to next); note = Some Swing } in
     let h = run_heap n es in
@@ -152,7 +176,8 @@ swing_past n es agent head next holds begun at may =
     let (same, has) = tail_steps h es (holds.running begun) 1 (link_to head) (link_to next) steps refl may.fits.0 in
     let leads : HasLink g head (link_to steps.next) =
     node_next n es e head steps.next may (subst (λ (x : ℕ). HasLink h x (link_to steps.next)) (link_same steps.id head (sym steps.from_is)) has) in
-    let ends : shown g (Next next) ≡ Some null = subst (λ (x : ℕ). shown g (Next x) ≡ Some null) (link_same last.last next (some_same (sym last.tail_is ∙ tail_is))) last.ends in
+    let ends : shown g (Next next) ≡ Some null =
+    subst (λ (x : ℕ). shown g (Next x) ≡ Some null) (link_same last.last next (some_same (sym last.tail_is ∙ tail_is))) last.ends in
     record {
       head = head;
       head_is = rw (run_heap-snoc n es e) (root_other agent 1 0 (link_to head) (link_to next) h (λ x. omega (arith, x)) ∙ at);

@@ -53,9 +53,18 @@ take_tired n turns s t idle o = record {
   busy = o.busy;
 }
 
-pub take_made : (turns : ℕ) (got : Option (ℕ × ℕ)) (s t : Seat FifoNote) → IsIdle s → turns ≢ 0 → (p : Piece (6 * turns) s (entry_of_dequeue s.agent got ∷ []) t) → t.fresh ≡ s.fresh → TakeMade turns got s t
+pub take_made : (turns : ℕ) (got : Option (ℕ × ℕ)) (s t : Seat FifoNote) → IsIdle s → turns ≢ 0
+    → (p : Piece (6 * turns) s (entry_of_dequeue s.agent got ∷ []) t) → t.fresh ≡ s.fresh → TakeMade turns got s t
 take_made turns got s t idle some p fresh = record {
-  call = record { idle = record { slots = p.slots ∙ idle.slots; fresh = fresh ∙ idle.fresh }; own = p.own; puts = p.puts; entries_are = p.entries_are; gives = p.no_give; few = omega (arith, p.few) };
+  call = record {
+    idle = record { slots = p.slots ∙ idle.slots; fresh = fresh ∙ idle.fresh };
+    own = p.own;
+    puts = p.puts;
+    entries_are =
+        p.entries_are;
+    gives = p.no_give;
+    few = omega (arith, p.few);
+  };
   some_turn = some;
 }
 
@@ -74,13 +83,15 @@ given_held n job h s a free g =
     record { held = slot_holds s a 1 g.id h free i; fresh = g.fresh ∙ ap (λ (x : ℕ). Some x) (sym is); second = 0; node = rw (is, g.puts.agent) g.node }
 
 -- a put, from its Give to its release
-module _ (n : HeapNumbers) (job turns : ℕ) (h : Hold) (s a b t : Seat FifoNote) (idle : IsIdle s) (free : IsFree s.slots 1) (g : Gives n 1 job 0 s h a) (some : turns ≢ 0) (w : Releases b h t) (node : HoldsNode n job h a) where
+module _ (n : HeapNumbers) (job turns : ℕ) (h : Hold) (s a b t : Seat FifoNote) (idle : IsIdle s) (free : IsFree s.slots 1)
+    (g : Gives n 1 job 0 s h a) (some : turns ≢ 0) (w : Releases b h t) (node : HoldsNode n job h a) where
   put_idle : b.slots ≡ a.slots → t.fresh ≡ None → IsIdle t
   put_idle same none = record { slots = slot_released s a 1 g.id h free (given_in n job h s a g) b t same w ∙ idle.slots; fresh = none }
 
   fresh_released : b.slots ≡ a.slots → b.fresh ≡ a.fresh → t.fresh ≡ None
   fresh_released same fresh =
-      w.fresh ∙ (ap (λ o. unless_node o (Some (id_in b.slots h))) (fresh ∙ (node.fresh ∙ ap (λ (z : Slots). Some (id_in z h)) (sym same))) ∙ unless_same (id_in b.slots h))
+      w.fresh ∙ (ap (λ o. unless_node o (Some (id_in b.slots h))) (fresh ∙ (node.fresh ∙ ap (λ (z : Slots). Some (id_in z h)) (sym same)))
+      ∙ unless_same (id_in b.slots h))
 
   given_room : FindsFull n s.agent s.seen g.puts.part → ⊥
   given_room = room_unseen n s a _ g.puts refl
@@ -89,12 +100,14 @@ module _ (n : HeapNumbers) (job turns : ℕ) (h : Hold) (s a b t : Seat FifoNote
     all_puts : Puts s (event_of s Give None ∷ event_of s (Fill g.id 0 job) None ∷ event_of s (Fill g.id 1 0) None ∷ own) t
     all_puts = Puts-trans s a t _ own g.puts (puts_released a b t own q0 w.puts)
 
-    abbrev put_call : (r : Result ℕ QueueRefused) (es : List QueueEntry) → r ≢ Err NoNode → b.slots ≡ a.slots → t.fresh ≡ None → entries_of own ≡ es → IsCall (gives_of turns r) turns s es t
+    abbrev put_call : (r : Result ℕ QueueRefused) (es : List QueueEntry) → r ≢ Err NoNode → b.slots ≡ a.slots → t.fresh ≡ None → entries_of own ≡ es
+        → IsCall (gives_of turns r) turns s es t
     put_call r es has same fresh entries =
         let one = gives_one turns r some has in
         record { idle = put_idle same fresh; own = _; puts = all_puts; entries_are = entries; gives = omega (arith, none, one); few = omega (arith, few, one) }
 
-    room_all : {given : ℕ} {es : List QueueEntry} (c : IsCall given turns s es t) → (FindsFull n a.agent a.seen q0.part → ⊥) → FindsFull n s.agent s.seen c.puts.part → ⊥
+    room_all : {given : ℕ} {es : List QueueEntry} (c : IsCall given turns s es t) → (FindsFull n a.agent a.seen q0.part → ⊥)
+        → FindsFull n s.agent s.seen c.puts.part → ⊥
     room_all c room =
         let q = puts_released a b t own q0 w.puts in
         room_join n s a t _ _ _ g.puts q c.puts given_room (room_join n a b t _ _ _ q0 w.puts q room (room_unseen n b t [] w.puts refl))
@@ -128,22 +141,43 @@ module _ (n : HeapNumbers) (job turns : ℕ) (h : Hold) (s a b t : Seat FifoNote
   put_made at l =
       let p = l.piece in
       let fresh : t.fresh ≡ None = w.fresh ∙ ap (λ o. unless_node o (Some (id_in b.slots h))) l.fresh in
-      let c = put_call p.own p.puts p.no_give p.few (Ok at) (Put s.agent job at ∷ []) (λ e. cc) p.slots fresh (p.entries_are ∙ ap (λ (x : ℕ). Put x job at ∷ []) g.puts.agent) in
-      record { call = c; some_turn = some; low = l.low; room = room_all p.own p.puts p.no_give p.few c l.room; helps = ends_helping (event_of s Give None ∷ event_of s (Fill g.id 0 job) None ∷ event_of s (Fill g.id 1 0) None ∷ []) p.own l.helps }
+      let c = put_call p.own p.puts p.no_give p.few (Ok at) (Put s.agent job at ∷ []) (λ e. cc) p.slots fresh
+      (p.entries_are ∙ ap (λ (x : ℕ). Put x job at ∷ []) g.puts.agent) in
+      record {
+        call = c;
+        some_turn = some;
+        low = l.low;
+        room = room_all p.own p.puts p.no_give p.few c l.room;
+        helps =
+            ends_helping (event_of s Give None ∷ event_of s (Fill g.id 0 job) None ∷ event_of s (Fill g.id 1 0) None ∷ []) p.own l.helps;
+      }
 
 -- no turn
 pub put_none : (n : HeapNumbers) (s : Seat FifoNote) → IsIdle s → PutTired n 0 s s
 put_none n s idle =
     let p : Puts s [] s = record { part = []; is = sym (append-nil s.seen); agent = refl; own_is = refl } in
     record {
-      tires = record { call = record { idle = idle; own = []; puts = p; entries_are = refl; gives = refl; few = omega arith }; moved = omega arith; busy = λ two alone. omega (arith, two) };
+      tires = record {
+        call = record { idle = idle; own = []; puts = p; entries_are = refl; gives = refl; few = omega arith };
+        moved =
+            omega arith;
+        busy = λ two alone. omega (arith, two);
+      };
       room = λ f. f;
     }
 
 -- no node
 pub put_lacking : (n : HeapNumbers) (turns : ℕ) (s t : Seat FifoNote) → IsIdle s → turns ≢ 0 → Only [] s t → PutLacking n turns s t
 put_lacking n turns s t idle some o = record {
-  call = record { idle = record { slots = o.slots ∙ idle.slots; fresh = o.fresh ∙ idle.fresh }; own = []; puts = o.puts; entries_are = refl; gives = sym (gives_none turns); few = omega arith };
+  call = record {
+    idle = record { slots = o.slots ∙ idle.slots; fresh = o.fresh ∙ idle.fresh };
+    own = [];
+    puts = o.puts;
+    entries_are = refl;
+    gives =
+        sym (gives_none turns);
+    few = omega arith;
+  };
   some_turn = some;
   room = room_unseen n s t [] o.puts refl;
 }
@@ -169,7 +203,8 @@ tires_settled given turns s t u k o =
     }
 
 module _ (n : HeapNumbers) (s t u : Seat FifoNote) (o : Only [] t u) where
-  room_settled : {given turns : ℕ} {es : List QueueEntry} (c : IsCall given turns s es t) (k : IsCall given turns s es u) → (FindsFull n s.agent s.seen c.puts.part → ⊥) → FindsFull n s.agent s.seen k.puts.part → ⊥
+  room_settled : {given turns : ℕ} {es : List QueueEntry} (c : IsCall given turns s es t) (k : IsCall given turns s es u)
+      → (FindsFull n s.agent s.seen c.puts.part → ⊥) → FindsFull n s.agent s.seen k.puts.part → ⊥
   room_settled c k room = room_join n s t u _ _ _ c.puts o.puts k.puts room (room_unseen n t u [] o.puts refl)
 
   pub put_settled : (job turns : ℕ) (r : Result ℕ QueueRefused) → PutAnswers n job turns s r t → PutAnswers n job turns s r u

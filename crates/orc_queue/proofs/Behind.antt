@@ -32,20 +32,24 @@ use Rattle.orc_heap.proofs.Pieces.{linked_not_fresh, moves_left, moves_right, on
 use Rattle.orc_heap.proofs.Moments.{look_found, looks_differ, miss_moved}
 
 -- a node with a successor has a low position
-pub low_where_linked : (n : HeapNumbers) (s : Seat FifoNote) (id next : ℕ) → Known n s.seen → HasLink (heap_of n s) id (link_to next) → position_of (heap_of n s) id < 2 ^ 62
+pub low_where_linked : (n : HeapNumbers) (s : Seat FifoNote) (id next : ℕ) → Known n s.seen → HasLink (heap_of n s) id (link_to next)
+    → position_of (heap_of n s) id < 2 ^ 62
 low_where_linked n s id next k l = let (job, j) = successor_job n s.seen id next k.holds l in j.holds.low
 
 -- the node that was seen behind it isn't the fresh one
 pub fresh_apart : (n : HeapNumbers) (job next : ℕ) (h : Hold) (s a : Seat FifoNote) → HoldsNode n job h s → a.fresh ≡ s.fresh
     → ((i : ℕ) → a.fresh ≡ Some i → IsUntouched a.agent (heap_of n a) i) → IsLinkedNode (heap_of n a) next → next ≢ id_in s.slots h
-fresh_apart n job next h s a node fresh untouched linked = λ e. linked_not_fresh n a next untouched linked (fresh ∙ (node.fresh ∙ ap (λ (i : ℕ). Some i) (sym e)))
+fresh_apart n job next h s a node fresh untouched linked =
+    λ e. linked_not_fresh n a next untouched linked (fresh ∙ (node.fresh ∙ ap (λ (i : ℕ). Some i) (sym e)))
 
 -- over the help of the tail
-pub linked_helped : (n : HeapNumbers) (a b : Seat FifoNote) (tail next : ℕ) → Helps tail next a b → AllAllowed (FifoMay n) [] b.seen → (id : ℕ) → IsLinkedNode (heap_of n a) id → IsLinkedNode (heap_of n b) id
+pub linked_helped : (n : HeapNumbers) (a b : Seat FifoNote) (tail next : ℕ) → Helps tail next a b → AllAllowed (FifoMay n) [] b.seen → (id : ℕ)
+    → IsLinkedNode (heap_of n a) id → IsLinkedNode (heap_of n b) id
 linked_helped n a b tail next helped all id l = elim helped.either [ inl p ↦ linked_puts n a b _ p all id l | inr m ↦ linked_puts n a b _ m.puts all id l ]
 
 -- the link was null
-module _ (n : HeapNumbers) (job tail : ℕ) (h : Hold) (s a t : Seat FifoNote) (k : Known n s.seen) (named : WasNamed (heap_of n s) 1 tail) (slots : a.slots ≡ s.slots) (fresh : a.fresh ≡ s.fresh)
+module _ (n : HeapNumbers) (job tail : ℕ) (h : Hold) (s a t : Seat FifoNote) (k : Known n s.seen) (named : WasNamed (heap_of n s) 1 tail)
+    (slots : a.slots ≡ s.slots) (fresh : a.fresh ≡ s.fresh)
     (p : Puts s (event_of s (Look (Next tail) null) None ∷ []) a) (all_a : AllAllowed (FifoMay n) [] a.seen) (all_t : AllAllowed (FifoMay n) [] t.seen)
   where
     -- the node is as it was
@@ -53,12 +57,14 @@ module _ (n : HeapNumbers) (job tail : ℕ) (h : Hold) (s a t : Seat FifoNote) (
     node_seen node = node_puts n s a _ p all_a job h node.second k node slots fresh refl refl
 
     room_first : position_of (heap_of n a) tail < 2 ^ 62 → FindsFull n s.agent s.seen p.part → ⊥
-    room_first low = room_at n s a _ tail p k (part_allowed (FifoMay n) s a _ p all_a) named ((λ e. (null, refl)), tt) (omega (arith, low, position_puts n s a _ p all_a tail named.linked))
+    room_first low = room_at n s a _ tail p k (part_allowed (FifoMay n) s a _ p all_a) named ((λ e. (null, refl)), tt)
+        (omega (arith, low, position_puts n s a _ p all_a tail named.linked))
 
     pub behind_null : (turn : PutTurn) → LinksBehind n 3 (SwingsLast tail) job tail h a turn t → PutsBehind n job tail h s turn t
     behind_null PutOver l =
         let q = l.stops.piece in
-        let j = join 4 s a t (event_of s (Look (Next tail) null) None ∷ []) q.own [] p q.puts (q.slots ∙ slots) q.entries_are (omega (arith, q.no_give)) (omega (arith, q.few)) in
+        let j = join 4 s a t (event_of s (Look (Next tail) null) None ∷ []) q.own [] p q.puts (q.slots ∙ slots) q.entries_are
+        (omega (arith, q.no_give)) (omega (arith, q.few)) in
         let found = look_found n (FifoMay n) (λ es x k. k.fits) s a (Next tail) null None [] [] p all_a named.linked in
         record {
           stops = record {
@@ -68,7 +74,8 @@ module _ (n : HeapNumbers) (job tail : ℕ) (h : Hold) (s a t : Seat FifoNote) (
               | inl still ↦ omega (arith, l.stops.moved still, moves_right s a t _ _ _ p q.puts j.piece.puts)
               | inr some ↦ omega (arith, some, moves_from_own s.agent p.part, moves_left s a t _ _ _ p q.puts j.piece.puts)
             ];
-            own_moves = inl (ap (λ (z : List (Event FifoNote)). moves_in z) j.own_is ∙ elim l.stops.own_moves [ inl none ↦ omega (arith, none) | inr bad ↦ absurd bad ]);
+            own_moves = inl
+                (ap (λ (z : List (Event FifoNote)). moves_in z) j.own_is ∙ elim l.stops.own_moves [ inl none ↦ omega (arith, none) | inr bad ↦ absurd bad ]);
           };
           room = room_join n s a t _ _ _ p q.puts j.piece.puts (room_first l.low) l.room;
           node = l.node;
@@ -77,27 +84,40 @@ module _ (n : HeapNumbers) (job tail : ℕ) (h : Hold) (s a t : Seat FifoNote) (
         let q = l.puts.piece in
         let h = l.puts.helps in
         let entries : entries_of q.own ≡ Put s.agent job at ∷ [] = q.entries_are ∙ ap (λ (x : ℕ). Put x job at ∷ []) p.agent in
-        let j = join 4 s a t (event_of s (Look (Next tail) null) None ∷ []) q.own (Put s.agent job at ∷ []) p q.puts (q.slots ∙ slots) entries (omega (arith, q.no_give)) (omega (arith, q.few)) in
+        let j = join 4 s a t (event_of s (Look (Next tail) null) None ∷ []) q.own (Put s.agent job at ∷ []) p q.puts (q.slots ∙ slots) entries
+        (omega (arith, q.no_give)) (omega (arith, q.few)) in
         record {
           piece = j.piece;
-          helps = record { before = event_of s (Look (Next tail) null) None ∷ h.before; keeps = h.keeps; last = h.last; es_are = j.own_is ∙ ap (λ z. event_of s (Look (Next tail) null) None ∷ z) h.es_are; swings = h.swings };
+          helps = record {
+            before = event_of s (Look (Next tail) null) None ∷ h.before;
+            keeps = h.keeps;
+            last = h.last;
+            es_are =
+                j.own_is ∙ ap (λ z. event_of s (Look (Next tail) null) None ∷ z) h.es_are;
+            swings = h.swings;
+          };
           fresh = l.puts.fresh;
           low = l.puts.low;
           room = room_join n s a t _ _ _ p q.puts j.piece.puts (room_first l.low) l.puts.room;
         }
     behind_null Full l =
         let q = l.piece in
-        let j = join 4 s a t (event_of s (Look (Next tail) null) None ∷ []) q.own [] p q.puts (q.slots ∙ slots) q.entries_are (omega (arith, q.no_give)) (omega (arith, q.few)) in
+        let j = join 4 s a t (event_of s (Look (Next tail) null) None ∷ []) q.own [] p q.puts (q.slots ∙ slots) q.entries_are
+        (omega (arith, q.no_give)) (omega (arith, q.few)) in
         record {
           piece = j.piece;
           fresh = l.fresh ∙ fresh;
-          full = full_join_left n s a t _ _ _ p q.puts j.piece.puts (full_at n s a tail [] p k all_a named (omega (arith, l.none, position_puts n s a _ p all_a tail named.linked)));
+          full = full_join_left n s a t _ _ _ p q.puts j.piece.puts
+              (full_at n s a tail [] p k all_a named (omega (arith, l.none, position_puts n s a _ p all_a tail named.linked)));
         }
 
 -- the link led to a node: the tail was helped on
-module _ (n : HeapNumbers) (job tail next : ℕ) (h : Hold) (s a b t : Seat FifoNote) (k : Known n s.seen) (ka : Known n a.seen) (named : WasNamed (heap_of n s) 1 tail) (node : HoldsNode n job h s)
-    (p : Puts s (event_of s (Look (Next tail) (link_to next)) None ∷ event_of s (Look (Next tail) (link_to next)) None ∷ []) a) (has : HasLink (heap_of n a) tail (link_to next))
-    (helped : Helps tail next a b) (freed : Puts b [] t) (slots : t.slots ≡ s.slots) (fresh : t.fresh ≡ s.fresh) (all : AllAllowed (FifoMay n) [] t.seen) (other : next ≢ id_in s.slots h)
+module _ (n : HeapNumbers) (job tail next : ℕ) (h : Hold) (s a b t : Seat FifoNote) (k : Known n s.seen) (ka : Known n a.seen)
+    (named : WasNamed (heap_of n s) 1 tail) (node : HoldsNode n job h s)
+    (p : Puts s (event_of s (Look (Next tail) (link_to next)) None ∷ event_of s (Look (Next tail) (link_to next)) None ∷ []) a)
+    (has : HasLink (heap_of n a) tail (link_to next))
+    (helped : Helps tail next a b) (freed : Puts b [] t) (slots : t.slots ≡ s.slots) (fresh : t.fresh ≡ s.fresh)
+    (all : AllAllowed (FifoMay n) [] t.seen) (other : next ≢ id_in s.slots h)
   where
     low : position_of (heap_of n s) tail < 2 ^ 62
     low = omega (arith, low_where_linked n a tail next ka has, position_puts n s a _ p ka.all tail named.linked)
@@ -110,7 +130,8 @@ module _ (n : HeapNumbers) (job tail next : ℕ) (h : Hold) (s a b t : Seat Fifo
       | inl moved ↦
           let act = Move (Root 1) (link_to tail) (link_to next) in
           let move : Event FifoNote = event_of s act (Some Swing) in
-          let q : Puts a (move ∷ []) t = subst (λ (x : ℕ). Puts a (record { agent = x; act = act; note = Some Swing } ∷ []) t) p.agent (puts_released a b t _ moved freed) in
+          let q : Puts a (move ∷ []) t = subst (λ (x : ℕ). Puts a (record { agent = x; act = act; note = Some Swing } ∷ []) t) p.agent
+          (puts_released a b t _ moved freed) in
           let first : Event FifoNote = event_of s (Look (Next tail) (link_to next)) None in
           let j = join 4 s a t (first ∷ first ∷ []) (move ∷ []) [] p q slots refl refl (omega arith) in
           let w : Puts s (first ∷ first ∷ move ∷ []) t = Puts-trans s a t (first ∷ first ∷ []) (move ∷ []) p q in
@@ -124,7 +145,8 @@ module _ (n : HeapNumbers) (job tail next : ℕ) (h : Hold) (s a b t : Seat Fifo
             };
             room = subst (λ z. FindsFull n s.agent s.seen z → ⊥) (one_part s t _ _ w j.piece.puts)
                 (room_at n s t _ tail w k (part_allowed (FifoMay n) s t _ w all) named ((λ e. not_end e), ((λ e. not_end e), ((λ e. not_end e), tt))) low);
-            node = node_puts n s t _ w all job h node.second k node slots fresh (rw (ne_eqb next (id_in s.slots h) other) refl) (rw (ne_eqb next (id_in s.slots h) other) refl);
+            node = node_puts n s t _ w all job h node.second k node slots fresh (rw (ne_eqb next (id_in s.slots h) other) refl)
+                (rw (ne_eqb next (id_in s.slots h) other) refl);
           }
       | inr missed ↦
           let miss : Event FifoNote = event_of a (Miss (Root 1) (link_to tail) missed.found) None in
@@ -136,7 +158,9 @@ module _ (n : HeapNumbers) (job tail next : ℕ) (h : Hold) (s a b t : Seat Fifo
             stops = record {
               piece = j.piece;
               fresh = fresh;
-              moved = λ at. subst (λ z. 1 ≤ moves_in z) (one_part s t _ _ w j.piece.puts) (miss_moved n (FifoMay n) (λ es x k. k.fits) s t (Root 1) (link_to tail) missed.found (first ∷ first ∷ []) miss [] w refl all tt missed.other at);
+              moved = λ at. subst (λ z. 1 ≤ moves_in z) (one_part s t _ _ w j.piece.puts)
+                  (miss_moved n (FifoMay n) (λ es x k. k.fits) s t (Root 1) (link_to tail) missed.found
+                  (first ∷ first ∷ []) miss [] w refl all tt missed.other at);
               own_moves = inl (ap (λ (z : List (Event FifoNote)). moves_in z) j.own_is);
             };
             room = subst (λ z. FindsFull n s.agent s.seen z → ⊥) (one_part s t _ _ w j.piece.puts)
@@ -146,13 +170,16 @@ module _ (n : HeapNumbers) (job tail next : ℕ) (h : Hold) (s a b t : Seat Fifo
     ]
 
 -- the link moved between two looks
-pub behind_moved : (n : HeapNumbers) (job tail : ℕ) (h : Hold) (s t : Seat FifoNote) (one two : Link) → Known n s.seen → Known n t.seen → WasNamed (heap_of n s) 1 tail → HoldsNode n job h s → one ≢ two
-    → t.slots ≡ s.slots → t.fresh ≡ s.fresh → Puts s (event_of s (Look (Next tail) one) None ∷ event_of s (Look (Next tail) two) None ∷ []) t → TurnMissed n job tail h s t
+pub behind_moved : (n : HeapNumbers) (job tail : ℕ) (h : Hold) (s t : Seat FifoNote) (one two : Link) → Known n s.seen → Known n t.seen
+    → WasNamed (heap_of n s) 1 tail → HoldsNode n job h s → one ≢ two
+    → t.slots ≡ s.slots → t.fresh ≡ s.fresh → Puts s (event_of s (Look (Next tail) one) None ∷ event_of s (Look (Next tail) two) None ∷ []) t
+    → TurnMissed n job tail h s t
 behind_moved n job tail h s t one two k kt named node other slots fresh p = record {
   stops = record {
     piece = record { own = _; slots = slots; puts = p; entries_are = refl; no_give = refl; few = omega arith };
     fresh = fresh;
-    moved = λ at. omega (arith, moves_from_own s.agent p.part, looks_differ n (FifoMay n) (λ es x k. k.fits) s t (Next tail) one two p kt.all named.linked other);
+    moved = λ at. omega
+        (arith, moves_from_own s.agent p.part, looks_differ n (FifoMay n) (λ es x k. k.fits) s t (Next tail) one two p kt.all named.linked other);
     own_moves = inl refl;
   };
   room = room_at n s t _ tail p k (part_allowed (FifoMay n) s t _ p kt.all) named ((λ e. (one, refl)), ((λ e. (two, refl)), tt)) low;

@@ -42,18 +42,24 @@ below_right : (agents : ℕ) (es fs : List (Event FifoNote)) → IsBelow agents 
 below_right agents [] fs b = b
 below_right agents (e ∷ es) fs b = below_right agents es fs b.1
 
-of_crowd : (agent agents : ℕ) (es : List (Event FifoNote)) → IsBelow agents es → AllByRecursion (λ (e : Event FifoNote). (e.agent ≡ agent) ⊎ (e.agent < agents)) es
+of_crowd : (agent agents : ℕ) (es : List (Event FifoNote)) → IsBelow agents es
+    → AllByRecursion (λ (e : Event FifoNote). (e.agent ≡ agent) ⊎ (e.agent < agents)) es
 of_crowd agent agents [] b = tt
 of_crowd agent agents (e ∷ es) b = (inr b.0, of_crowd agent agents es b.1)
 
 -- the answer and the Look at the end
-finds_full : (n : HeapNumbers) (given turns : ℕ) (s t : Seat FifoNote) (es : List QueueEntry) (c : IsCall given turns s es t) → FindsFull n s.agent s.seen c.puts.part → CallFindsFull n s t
-finds_full n given turns s t es c f = subst (λ z. FindsFull n s.agent s.seen z) (sym (ap (λ z. drop (length s.seen) z) c.puts.is ∙ drop-append_seam s.seen c.puts.part)) f
+finds_full : (n : HeapNumbers) (given turns : ℕ) (s t : Seat FifoNote) (es : List QueueEntry) (c : IsCall given turns s es t)
+    → FindsFull n s.agent s.seen c.puts.part → CallFindsFull n s t
+finds_full n given turns s t es c f =
+    subst (λ z. FindsFull n s.agent s.seen z) (sym (ap (λ z. drop (length s.seen) z) c.puts.is ∙ drop-append_seam s.seen c.puts.part)) f
 
-has_room : (n : HeapNumbers) (given turns : ℕ) (s t : Seat FifoNote) (es : List QueueEntry) (c : IsCall given turns s es t) → (FindsFull n s.agent s.seen c.puts.part → ⊥) → CallFindsFull n s t → ⊥
-has_room n given turns s t es c room f = room (subst (λ z. FindsFull n s.agent s.seen z) (ap (λ z. drop (length s.seen) z) c.puts.is ∙ drop-append_seam s.seen c.puts.part) f)
+has_room : (n : HeapNumbers) (given turns : ℕ) (s t : Seat FifoNote) (es : List QueueEntry) (c : IsCall given turns s es t)
+    → (FindsFull n s.agent s.seen c.puts.part → ⊥) → CallFindsFull n s t → ⊥
+has_room n given turns s t es c room f =
+    room (subst (λ z. FindsFull n s.agent s.seen z) (ap (λ z. drop (length s.seen) z) c.puts.is ∙ drop-append_seam s.seen c.puts.part) f)
 
-pub put_positions : (n : HeapNumbers) (job turns : ℕ) (s t : Seat FifoNote) (r : Result ℕ QueueRefused) → PutAnswers n job turns s r t → (r ≡ Err Positions) ↔ CallFindsFull n s t
+pub put_positions : (n : HeapNumbers) (job turns : ℕ) (s t : Seat FifoNote) (r : Result ℕ QueueRefused) → PutAnswers n job turns s r t
+    → (r ≡ Err Positions) ↔ CallFindsFull n s t
 put_positions n job turns s t (Ok at) l = ((λ e. cc), (λ f. absurd (has_room n _ turns s t _ l.call l.room f)))
 put_positions n job turns s t (Err Again) l = ((λ e. cc), (λ f. absurd (has_room n _ turns s t _ l.tires.call l.room f)))
 put_positions n job turns s t (Err NoNode) l = ((λ e. cc), (λ f. absurd (has_room n _ turns s t _ l.call l.room f)))
@@ -64,7 +70,8 @@ pub record AnyCall (given turns : ℕ) (s t : Seat FifoNote) : Type 0 where
   pub entries : List QueueEntry
   pub call : IsCall given turns s entries t
 
-pub put_any : (n : HeapNumbers) (job turns : ℕ) (s t : Seat FifoNote) (r : Result ℕ QueueRefused) → PutAnswers n job turns s r t → AnyCall (gives_of turns r) turns s t
+pub put_any : (n : HeapNumbers) (job turns : ℕ) (s t : Seat FifoNote) (r : Result ℕ QueueRefused) → PutAnswers n job turns s r t
+    → AnyCall (gives_of turns r) turns s t
 put_any n job turns s t (Ok at) l = record { entries = _; call = l.call }
 put_any n job turns s t (Err Again) l = record { entries = _; call = l.tires.call }
 put_any n job turns s t (Err NoNode) l = record { entries = _; call = l.call }
@@ -78,7 +85,8 @@ module _ (given turns : ℕ) (s t : Seat FifoNote) (any : AnyCall given turns s 
   own_events : events_by t.agent t.seen ≡ events_by s.agent s.seen ++ any.call.own
   own_events =
       let p = any.call.puts in
-      ap (λ (a : ℕ). events_by a t.seen) p.agent ∙ (ap (λ z. events_by s.agent z) p.is ∙ (filter-append (λ e. e.agent == s.agent) s.seen p.part ∙ ap (λ z. events_by s.agent s.seen ++ z) p.own_is))
+      ap (λ (a : ℕ). events_by a t.seen) p.agent
+      ∙ (ap (λ z. events_by s.agent z) p.is ∙ (filter-append (λ e. e.agent == s.agent) s.seen p.part ∙ ap (λ z. events_by s.agent s.seen ++ z) p.own_is))
 
   pub any_gives : gives_in (events_by t.agent t.seen) ≡ gives_in (events_by s.agent s.seen) + given
   any_gives = rw own_events (omega (arith, gives_in-append (events_by s.agent s.seen) any.call.own, any.call.gives))
@@ -95,7 +103,8 @@ any_none s t any = own_events 0 0 s t any ∙ (ap (λ z. events_by s.agent s.see
     empty (e ∷ es) none = absurd (omega (arith, none))
 
 -- no turn
-pub put_no_turns : (n : HeapNumbers) (job turns : ℕ) (s t : Seat FifoNote) (r : Result ℕ QueueRefused) → PutAnswers n job turns s r t → turns ≡ 0 → (r ≡ Err Again) × (events_by t.agent t.seen ≡ events_by s.agent s.seen)
+pub put_no_turns : (n : HeapNumbers) (job turns : ℕ) (s t : Seat FifoNote) (r : Result ℕ QueueRefused) → PutAnswers n job turns s r t → turns ≡ 0
+    → (r ≡ Err Again) × (events_by t.agent t.seen ≡ events_by s.agent s.seen)
 put_no_turns n job turns s t r l none = (again r l, any_none s t (subst (λ (k : ℕ). AnyCall (gives_of k r) k s t) none (put_any n job turns s t r l)))
   where
     again : (r : Result ℕ QueueRefused) → PutAnswers n job turns s r t → r ≡ Err Again
@@ -104,7 +113,8 @@ put_no_turns n job turns s t r l none = (again r l, any_none s t (subst (λ (k :
     again (Err NoNode) l = absurd (l.some_turn none)
     again (Err Positions) l = absurd (l.some_turn none)
 
-pub take_no_turns : (turns : ℕ) (s t : Seat FifoNote) (r : Result (Option (ℕ × ℕ)) AgainFault) → TakeAnswers turns s r t → turns ≡ 0 → IsErr r × (events_by t.agent t.seen ≡ events_by s.agent s.seen)
+pub take_no_turns : (turns : ℕ) (s t : Seat FifoNote) (r : Result (Option (ℕ × ℕ)) AgainFault) → TakeAnswers turns s r t → turns ≡ 0
+    → IsErr r × (events_by t.agent t.seen ≡ events_by s.agent s.seen)
 take_no_turns turns s t r l none = (again r l, any_none s t (subst (λ (k : ℕ). AnyCall 0 k s t) none (take_any turns s t r l)))
   where
     again : (r : Result (Option (ℕ × ℕ)) AgainFault) → TakeAnswers turns s r t → IsErr r
@@ -114,14 +124,17 @@ take_no_turns turns s t r l none = (again r l, any_none s t (subst (λ (k : ℕ)
 -- over the journals of a domain
 module _ {S : Type 0} (n : HeapNumbers) (agents : ℕ) (agent_of : S → ℕ) (events : List S → List (Event FifoNote))
     (adds : (j : List S) (x : S) → (es : List (Event FifoNote)) × (events (j ++ x ∷ []) ≡ events j ++ es) × (list_all (λ e. e.agent == agent_of x) es ≡ true))
-    (s t : Seat FifoNote) (j k : List S) (grows : IsPrefix j k) (is_s : s.seen ≡ events j) (is_t : t.seen ≡ events k) (all : AllAllowed (FifoMay n) [] t.seen) (below : IsBelow agents t.seen)
+    (s t : Seat FifoNote) (j k : List S) (grows : IsPrefix j k) (is_s : s.seen ≡ events j) (is_t : t.seen ≡ events k)
+    (all : AllAllowed (FifoMay n) [] t.seen) (below : IsBelow agents t.seen)
   where
     -- the entries
-    pub call_adds : (given turns : ℕ) (es : List QueueEntry) → IsCall given turns s es t → Adds agent_of_entry (λ (a : ℕ). a < agents) s.agent (entries_of (events j)) es (entries_of (events k))
+    pub call_adds : (given turns : ℕ) (es : List QueueEntry) → IsCall given turns s es t
+        → Adds agent_of_entry (λ (a : ℕ). a < agents) s.agent (entries_of (events j)) es (entries_of (events k))
     call_adds given turns es c =
         let p = c.puts in
         let others = of_crowd s.agent agents p.part (below_right agents s.seen p.part (subst (λ z. IsBelow agents z) p.is below)) in
-        let a = entries_added entries_in agent_of_entry (FifoMay n) (entries_own n) (λ (x : ℕ). x < agents) s.agent s.seen p.part (part_allowed (FifoMay n) s t c.own p all) others in
+        let a = entries_added entries_in agent_of_entry (FifoMay n) (entries_own n) (λ (x : ℕ). x < agents) s.agent s.seen p.part
+        (part_allowed (FifoMay n) s t c.own p all) others in
         let own : entries_of (events_by s.agent p.part) ≡ es = ap entries_of p.own_is ∙ c.entries_are in
         subst (λ z. Adds agent_of_entry (λ (x : ℕ). x < agents) s.agent (entries_of (events j)) es (entries_of z)) (sym p.is ∙ is_t)
         (subst (λ z. Adds agent_of_entry (λ (x : ℕ). x < agents) s.agent (entries_of z) es (entries_of (s.seen ++ p.part))) is_s
@@ -140,7 +153,8 @@ module _ {S : Type 0} (n : HeapNumbers) (agents : ℕ) (agent_of : S → ℕ) (e
     put_err job turns (Err Positions) l = call_adds _ turns [] l.call
 
     pub take_ok : (turns : ℕ) (r : Result (Option (ℕ × ℕ)) AgainFault) → TakeAnswers turns s r t
-        → IfOk r (λ got. Adds agent_of_entry (λ (a : ℕ). a < agents) s.agent (entries_of (events j)) (entry_of_dequeue s.agent got ∷ []) (entries_of (events k)))
+        → IfOk r (λ got. Adds agent_of_entry (λ (a : ℕ). a < agents) s.agent (entries_of (events j)) (entry_of_dequeue s.agent got ∷ [])
+        (entries_of (events k)))
     take_ok turns (Ok got) l = call_adds _ turns (entry_of_dequeue s.agent got ∷ []) l.call
     take_ok turns (Err again) l = tt
 
@@ -158,33 +172,39 @@ module _ {S : Type 0} (n : HeapNumbers) (agents : ℕ) (agent_of : S → ℕ) (e
         let bounds = part_bounds agent_of s.agent j k grows in
         let own : from_own s.agent p.part ≡ from_own s.agent e.part = ap (λ z. from_own s.agent z) e.is ∙ from_own-others s.agent e.gap e.part e.others in
         let moved : turns ≤ moves_in (from_own s.agent e.part) = subst (λ z. turns ≤ moves_in z) own l.moved in
-        let whole : events (take (length k) k) ≡ (events j ++ e.gap) ++ e.part = ap events (take-length k) ∙ (new ∙ (ap (λ z. events j ++ z) e.is ∙ sym (append_assoc (events j) e.gap e.part))) in
+        let whole : events (take (length k) k) ≡ (events j ++ e.gap) ++ e.part =
+        ap events (take-length k) ∙ (new ∙ (ap (λ z. events j ++ z) e.is ∙ sym (append_assoc (events j) e.gap e.part))) in
         record {
           in_order = bounds.1;
           in_journal = omega arith;
           moves = rw (e.begin_events, whole) (omega (arith, moved, moves_from_own s.agent e.part, moves_in-append (events j ++ e.gap) e.part));
           not_alone = λ two alone.
-              let part = e.alone (subst (λ z. list_all (λ (x : S). agent_of x == s.agent) (drop (part_begin agent_of s.agent j k) z) ≡ true) (take-length k) alone) in
+              let part = e.alone
+              (subst (λ z. list_all (λ (x : S). agent_of x == s.agent) (drop (part_begin agent_of s.agent j k) z) ≡ true) (take-length k) alone) in
               l.busy two (subst (λ z. AllOwn s.agent z) (sym own) (own_from s.agent e.part part));
         }
 
     -- a put that was alone leaves the tail at the last node
-    pub put_tail : (job turns : ℕ) (r : Result ℕ QueueRefused) → Known n s.seen → PutAnswers n job turns s r t → IfOk r (λ at. IsAlone agent_of s.agent j k → TailIsLast (run_heap n t.seen))
+    pub put_tail : (job turns : ℕ) (r : Result ℕ QueueRefused) → Known n s.seen → PutAnswers n job turns s r t
+        → IfOk r (λ at. IsAlone agent_of s.agent j k → TailIsLast (run_heap n t.seen))
     put_tail job turns (Ok at) known l = λ alone.
         let p = l.call.puts in
         let new : events k ≡ events j ++ p.part = sym is_t ∙ (p.is ∙ ap (λ z. z ++ p.part) is_s) in
         let e = part_events agent_of events adds s.agent j k p.part grows new in
         let own : from_own s.agent p.part ≡ from_own s.agent e.part = ap (λ z. from_own s.agent z) e.is ∙ from_own-others s.agent e.gap e.part e.others in
-        alone_runs n TailIsLast s t l.call.own p known all (tail_settles n l.call.own l.helps) (subst (λ z. AllOwn s.agent z) (sym own) (own_from s.agent e.part (e.alone alone)))
+        alone_runs n TailIsLast s t l.call.own p known all (tail_settles n l.call.own l.helps)
+        (subst (λ z. AllOwn s.agent z) (sym own) (own_from s.agent e.part (e.alone alone)))
     put_tail job turns (Err why) known l = tt
 
-    pub put_again : (job turns : ℕ) (r : Result ℕ QueueRefused) → PutAnswers n job turns s r t → r ≡ Err Again → InPart agent_of s.agent j k (λ from to. UsesTurns agent_of events s.agent turns k from to)
+    pub put_again : (job turns : ℕ) (r : Result ℕ QueueRefused) → PutAnswers n job turns s r t → r ≡ Err Again
+        → InPart agent_of s.agent j k (λ from to. UsesTurns agent_of events s.agent turns k from to)
     put_again job turns (Ok at) l is = cc
     put_again job turns (Err Again) l is = turns_used _ turns l.tires
     put_again job turns (Err NoNode) l is = cc
     put_again job turns (Err Positions) l is = cc
 
-    pub take_again : (turns : ℕ) (r : Result (Option (ℕ × ℕ)) AgainFault) → TakeAnswers turns s r t → IfErr r (λ e. InPart agent_of s.agent j k (λ from to. UsesTurns agent_of events s.agent turns k from to))
+    pub take_again : (turns : ℕ) (r : Result (Option (ℕ × ℕ)) AgainFault) → TakeAnswers turns s r t
+        → IfErr r (λ e. InPart agent_of s.agent j k (λ from to. UsesTurns agent_of events s.agent turns k from to))
     take_again turns (Ok got) l = tt
     take_again turns (Err again) l = turns_used _ turns l
 
@@ -196,8 +216,10 @@ module _ {S : Type 0} (n : HeapNumbers) (agents : ℕ) (agent_of : S → ℕ) (e
         let (new, there) = events_grow agent_of events adds j more in
         let seen : t.seen ≡ s.seen ++ new = is_t ∙ (ap events (sym is) ∙ (sym there ∙ ap (λ z. z ++ new) (sym is_s))) in
         let allowed = allowed-right (FifoMay n) [] s.seen new (subst (λ z. AllAllowed (FifoMay n) [] z) seen all) in
-        let found : FindsFull n s.agent s.seen new = subst (λ z. FindsFull n s.agent s.seen z) (ap (λ z. drop (length s.seen) z) seen ∙ drop-append_seam s.seen new) full in
-        let high = subst (λ z. 2 ^ 62 ≤ position_of (run_heap n z) 0 + puts_in (entries_of z)) (sym seen) (full_puts n s.agent s.seen new known.holds known.dummy.begun allowed found) in
+        let found : FindsFull n s.agent s.seen new =
+        subst (λ z. FindsFull n s.agent s.seen z) (ap (λ z. drop (length s.seen) z) seen ∙ drop-append_seam s.seen new) full in
+        let high = subst (λ z. 2 ^ 62 ≤ position_of (run_heap n z) 0 + puts_in (entries_of z)) (sym seen)
+        (full_puts n s.agent s.seen new known.holds known.dummy.begun allowed found) in
         record {
           some_turn = some;
           in_journal = omega arith;
@@ -205,10 +227,13 @@ module _ {S : Type 0} (n : HeapNumbers) (agents : ℕ) (agent_of : S → ℕ) (e
         }
 
     -- the licence of a refusal, from the clauses of a put
-    pub put_licence : (turns : ℕ) (opening : List (Event FifoNote)) → HasDummy n opening → IsPrefix opening t.seen → Known n s.seen → (Lacks : ℕ → ℕ → Type 0) (r : Result ℕ QueueRefused)
+    pub put_licence : (turns : ℕ) (opening : List (Event FifoNote)) → HasDummy n opening → IsPrefix opening t.seen → Known n s.seen
+        → (Lacks : ℕ → ℕ → Type 0) (r : Result ℕ QueueRefused)
         → (turns ≡ 0 → r ≡ Err Again) → (r ≡ Err Again → InPart agent_of s.agent j k (λ from to. UsesTurns agent_of events s.agent turns k from to))
-        → (r ≡ Err NoNode → (seen : List S) × IsPrefix j seen × IsPrefix seen k × InPart agent_of s.agent j seen Lacks) → ((r ≡ Err Positions) ↔ CallFindsFull n s t)
-        → IfErr r (λ e. Within (length j) (length k) (λ from to. Cause agent_of events (position_of (run_heap n opening) 0) (Lacks from to) s.agent turns e k from to))
+        → (r ≡ Err NoNode → (seen : List S) × IsPrefix j seen × IsPrefix seen k × InPart agent_of s.agent j seen Lacks)
+        → ((r ≡ Err Positions) ↔ CallFindsFull n s t)
+        → IfErr r (λ e. Within (length j) (length k)
+        (λ from to. Cause agent_of events (position_of (run_heap n opening) 0) (Lacks from to) s.agent turns e k from to))
     put_licence turns opening made begins known Lacks (Ok at) none again node full = tt
     put_licence turns opening made begins known Lacks (Err Again) none again node full =
         let bounds = part_bounds agent_of s.agent j k grows in
@@ -223,7 +248,8 @@ module _ {S : Type 0} (n : HeapNumbers) (agents : ℕ) (agent_of : S → ℕ) (e
         let bounds = part_bounds agent_of s.agent j k grows in
         (length j, length k, omega arith, omega (arith, bounds), omega arith, full_lacks turns opening made begins known some (full.0 refl))
 
-    pub take_licence : (turns first : ℕ) (Lacks : ℕ → ℕ → Type 0) (r : Result (Option (ℕ × ℕ)) AgainFault) → IfErr r (λ e. InPart agent_of s.agent j k (λ from to. UsesTurns agent_of events s.agent turns k from to))
+    pub take_licence : (turns first : ℕ) (Lacks : ℕ → ℕ → Type 0) (r : Result (Option (ℕ × ℕ)) AgainFault)
+        → IfErr r (λ e. InPart agent_of s.agent j k (λ from to. UsesTurns agent_of events s.agent turns k from to))
         → IfErr r (λ e. Within (length j) (length k) (λ from to. Cause agent_of events first (Lacks from to) s.agent turns Again k from to))
     take_licence turns first Lacks (Ok got) again = tt
     take_licence turns first Lacks (Err e) again =
@@ -231,15 +257,18 @@ module _ {S : Type 0} (n : HeapNumbers) (agents : ℕ) (agent_of : S → ℕ) (e
         (part_begin agent_of s.agent j k, length k, bounds.0, bounds.1, omega arith, again)
 
 -- a fact of the part of a call, as the pass had seen it at some time, stays one of the longer journal
-pub during : {S : Type 0} (agent_of : S → ℕ) (agent : ℕ) (Fact : List S → ℕ → ℕ → Type 0) → ((j more : List S) (from to : ℕ) → Fact j from to → Fact (j ++ more) from to)
+pub during : {S : Type 0} (agent_of : S → ℕ) (agent : ℕ) (Fact : List S → ℕ → ℕ → Type 0)
+    → ((j more : List S) (from to : ℕ) → Fact j from to → Fact (j ++ more) from to)
     → (j k m : List S) → IsPrefix j k → IsPrefix k m → InPart agent_of agent j k (Fact k)
     → (seen : List S) × IsPrefix j seen × IsPrefix seen m × InPart agent_of agent j seen (Fact m)
 during agent_of agent Fact stays j k m grows (more, is) fact =
     (k, grows, (more, is), subst (λ z. Fact z (part_begin agent_of agent j k) (length k)) is (stays k more _ _ fact))
 
 -- the entries of each of two agents in what both have seen
-pub learns : {S : Type 0} (n : HeapNumbers) (events : List S → List (Event FifoNote)) (agent1 agent2 : ℕ) (s1 s2 t1 : Seat FifoNote) (j1 j2 k1 k2 : List S) → k1 ≡ k2 → (IsPrefix j1 j2 × (k1 ≡ j2)) ⊎ (IsPrefix j2 j1 × (k1 ≡ j1))
-    → AllAllowed (FifoMay n) [] s1.seen → AllAllowed (FifoMay n) [] s2.seen → AllAllowed (FifoMay n) [] t1.seen → s1.seen ≡ events j1 → s2.seen ≡ events j2 → t1.seen ≡ events k1
+pub learns : {S : Type 0} (n : HeapNumbers) (events : List S → List (Event FifoNote)) (agent1 agent2 : ℕ) (s1 s2 t1 : Seat FifoNote)
+    (j1 j2 k1 k2 : List S) → k1 ≡ k2 → (IsPrefix j1 j2 × (k1 ≡ j2)) ⊎ (IsPrefix j2 j1 × (k1 ≡ j1))
+    → AllAllowed (FifoMay n) [] s1.seen → AllAllowed (FifoMay n) [] s2.seen → AllAllowed (FifoMay n) [] t1.seen → s1.seen ≡ events j1
+    → s2.seen ≡ events j2 → t1.seen ≡ events k1
     → events_by agent1 t1.seen ≡ events_by agent1 s1.seen → events_by agent2 t1.seen ≡ events_by agent2 s2.seen
     → LearnsEntries (λ j. entries_of (events j)) agent_of_entry agent1 agent2 j1 j2 k1 k2
 learns {S} n events agent1 agent2 s1 s2 t1 j1 j2 k1 k2 one longer all1 all2 all is1 is2 is own1 own2 = record {
@@ -253,4 +282,7 @@ learns {S} n events agent1 agent2 s1 s2 t1 j1 j2 k1 k2 one longer all1 all2 all 
         → own_of agent_of_entry agent (entries_of (events k1)) ≡ own_of agent_of_entry agent (entries_of (events j))
     own agent s j all_s is_j same =
         ap (λ z. own_of agent_of_entry agent (entries_of z)) (sym is)
-        ∙ (own_of_events entries_in agent_of_entry (FifoMay n) (entries_own n) agent [] t1.seen all ∙ (ap entries_of same ∙ (sym (own_of_events entries_in agent_of_entry (FifoMay n) (entries_own n) agent [] s.seen all_s) ∙ ap (λ z. own_of agent_of_entry agent (entries_of z)) is_j)))
+        ∙ (own_of_events entries_in agent_of_entry (FifoMay n) (entries_own n) agent [] t1.seen all
+        ∙ (ap entries_of same
+        ∙ (sym (own_of_events entries_in agent_of_entry (FifoMay n) (entries_own n) agent [] s.seen all_s)
+        ∙ ap (λ z. own_of agent_of_entry agent (entries_of z)) is_j)))

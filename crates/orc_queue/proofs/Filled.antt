@@ -87,7 +87,8 @@ filled_next : (n : HeapNumbers) (es : List (Event FifoNote)) (e : Event FifoNote
 filled_next n es e holds d may = record {
   begun = begun_more es (e ∷ []) d.begun;
   filled = λ id node there linked.
-      let at : slice_get (heap_after e.agent e.act (run_heap n es)).nodes id ≡ Some node = subst (λ (g : Heap). slice_get g.nodes id ≡ Some node) (run_heap-snoc n es e) there in
+      let at : slice_get (heap_after e.agent e.act (run_heap n es)).nodes id ≡ Some node =
+      subst (λ (g : Heap). slice_get g.nodes id ≡ Some node) (run_heap-snoc n es e) there in
       elim (linked_before e.agent e.act (run_heap n es) id node at linked) [
         | inl l ↦
             let s = linked_after e.agent e.act (run_heap n es) id l.node may.fits l.there l.linked in
@@ -95,7 +96,8 @@ filled_next n es e holds d may = record {
             let same : s.node ≡ node = cc in
             ap (λ (x : Node). is_some x.second) (sym same) ∙ (ap (λ (o : Option ℕ). is_some o) s.second ∙ d.filled id l.node l.there l.linked)
         | inr new ↦
-            let after : slice_get (heap_after e.agent e.act (run_heap n es)).nodes id ≡ Some (touched e.act id new.old) = node-after e.agent e.act (run_heap n es) id new.old new.there in
+            let after : slice_get (heap_after e.agent e.act (run_heap n es)).nodes id ≡ Some (touched e.act id new.old) =
+            node-after e.agent e.act (run_heap n es) id new.old new.there in
             let both : Some (touched e.act id new.old) ≡ Some node = sym after ∙ at in
             let same : touched e.act id new.old ≡ node = cc in
             let (value, is) = first_link n es holds d.begun id e new.old may new.there new.unlinked new.moves in
@@ -103,7 +105,8 @@ filled_next n es e holds d may = record {
       ];
 }
 
-pub dummy_later : (n : HeapNumbers) (seen more : List (Event FifoNote)) → FifoHolds n seen → HasDummy n seen → AllAllowed (FifoMay n) seen more → HasDummy n (seen ++ more)
+pub dummy_later : (n : HeapNumbers) (seen more : List (Event FifoNote)) → FifoHolds n seen → HasDummy n seen → AllAllowed (FifoMay n) seen more
+    → HasDummy n (seen ++ more)
 dummy_later n seen [] holds d all = subst (λ es. HasDummy n es) (sym (append-nil seen)) d
 dummy_later n seen (e ∷ more) holds d all =
     subst (λ es. HasDummy n es) (append_assoc seen (e ∷ []) more)
@@ -115,7 +118,8 @@ pub record Known (n : HeapNumbers) (es : List (Event FifoNote)) : Type 0 where
   pub all : AllAllowed (FifoMay n) [] es
   pub dummy : HasDummy n es
 
-pub known : (n : HeapNumbers) (opening es : List (Event FifoNote)) → HasDummy n opening → IsPrefix opening es → AllAllowed (FifoMay n) [] es → FifoHolds n es → Known n es
+pub known : (n : HeapNumbers) (opening es : List (Event FifoNote)) → HasDummy n opening → IsPrefix opening es → AllAllowed (FifoMay n) [] es
+    → FifoHolds n es → Known n es
 known n opening es made (more, is) all holds =
     let whole : AllAllowed (FifoMay n) [] (opening ++ more) = subst (λ z. AllAllowed (FifoMay n) [] z) (sym is) all in
     let begin = holds_later n [] opening (nothing_yet n) (allowed-left (FifoMay n) [] opening more whole) in

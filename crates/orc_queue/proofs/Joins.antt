@@ -19,11 +19,17 @@ pub record Join (most : ℕ) (s t : Seat FifoNote) (own : List (Event FifoNote))
   pub own_is : piece.own ≡ own
   pub part_is : piece.puts.part ≡ first ++ second
 
-pub join : (most : ℕ) (s a t : Seat FifoNote) (xs ys : List (Event FifoNote)) (es : List QueueEntry) (p : Puts s xs a) (q : Puts a ys t) → t.slots ≡ s.slots → entries_of (xs ++ ys) ≡ es → gives_in (xs ++ ys) ≡ 0
+pub join : (most : ℕ) (s a t : Seat FifoNote) (xs ys : List (Event FifoNote)) (es : List QueueEntry) (p : Puts s xs a) (q : Puts a ys t)
+    → t.slots ≡ s.slots → entries_of (xs ++ ys) ≡ es → gives_in (xs ++ ys) ≡ 0
     → length (xs ++ ys) ≤ most → Join most s t (xs ++ ys) es p.part q.part
 join most s a t xs ys es p q same entries none few =
     let w = Puts-trans s a t xs ys p q in
-    record { piece = record { own = xs ++ ys; slots = same; puts = w; entries_are = entries; no_give = none; few = few }; own_is = refl; part_is = new_is s a t xs ys (xs ++ ys) p q w }
+    record {
+      piece = record { own = xs ++ ys; slots = same; puts = w; entries_are = entries; no_give = none; few = few };
+      own_is = refl;
+      part_is =
+          new_is s a t xs ys (xs ++ ys) p q w;
+    }
 
 -- a Look where no position is left, in two pieces of a call and in the whole of them
 module _ (n : HeapNumbers) (s a t : Seat FifoNote) (xs ys zs : List (Event FifoNote)) (p : Puts s xs a) (q : Puts a ys t) (w : Puts s zs t) where
@@ -38,5 +44,6 @@ module _ (n : HeapNumbers) (s a t : Seat FifoNote) (xs ys zs : List (Event FifoN
 
   pub full_join_right : FindsFull n a.agent a.seen q.part → FindsFull n s.agent s.seen w.part
   full_join_right f =
-      let later : FindsFull n s.agent (s.seen ++ p.part) q.part = subst (λ z. FindsFull n s.agent z q.part) p.is (subst (λ (x : ℕ). FindsFull n x a.seen q.part) p.agent f) in
+      let later : FindsFull n s.agent (s.seen ++ p.part) q.part =
+      subst (λ z. FindsFull n s.agent z q.part) p.is (subst (λ (x : ℕ). FindsFull n x a.seen q.part) p.agent f) in
       subst (λ z. FindsFull n s.agent s.seen z) (sym (new_is s a t xs ys zs p q w)) (full_right n s.agent s.seen p.part q.part later)

@@ -39,7 +39,8 @@ use Rattle.orc_heap.proofs.Moments.{miss_moved, seen_is}
 use Rattle.orc_heap.proofs.Moved.{gives_in-append}
 
 -- the Move that links a new node behind this one: its link leads there from then on
-pub put_links : (n : HeapNumbers) (s t : Seat FifoNote) (id to : ℕ) (noted : Option FifoNote) → Puts s (event_of s (Move (Next id) null (link_to to)) noted ∷ []) t → AllAllowed (FifoMay n) [] t.seen
+pub put_links : (n : HeapNumbers) (s t : Seat FifoNote) (id to : ℕ) (noted : Option FifoNote)
+    → Puts s (event_of s (Move (Next id) null (link_to to)) noted ∷ []) t → AllAllowed (FifoMay n) [] t.seen
     → IsLinkedNode (heap_of n s) id → HasLink (heap_of n t) id (link_to to)
 put_links n s t id to noted p all l =
     let e : Event FifoNote = event_of s (Move (Next id) null (link_to to)) noted in
@@ -51,13 +52,16 @@ put_links n s t id to noted p all l =
     subst (λ z. HasLink (run_heap n z) id (link_to to)) (sym (p.is ∙ seen_is m ∙ sym (append_assoc es (e ∷ []) m.later)))
     (link_later n (es ++ e ∷ []) m.later id to next m.last)
 
-module _ (n : HeapNumbers) (job at tail : ℕ) (h : Hold) (s a b : Seat FifoNote) (k : Known n s.seen) (node : HoldsNode n job h s) (named : WasNamed (heap_of n s) 1 tail)
-    (read : Only [] s a) (fill : Only (event_of a (Fill (id_in a.slots h) 1 (at + 1)) None ∷ []) a b) (all_a : AllAllowed (FifoMay n) [] a.seen) (all_b : AllAllowed (FifoMay n) [] b.seen)
+module _ (n : HeapNumbers) (job at tail : ℕ) (h : Hold) (s a b : Seat FifoNote) (k : Known n s.seen) (node : HoldsNode n job h s)
+    (named : WasNamed (heap_of n s) 1 tail)
+    (read : Only [] s a) (fill : Only (event_of a (Fill (id_in a.slots h) 1 (at + 1)) None ∷ []) a b) (all_a : AllAllowed (FifoMay n) [] a.seen)
+    (all_b : AllAllowed (FifoMay n) [] b.seen)
   where
     same_id : id_in a.slots h ≡ id_in s.slots h
     same_id = ap (λ z. id_in z h) read.slots
 
-    filled_is : (v : ℕ) (more : List (Event FifoNote)) → touched_by (id_in s.slots h) (event_of a (Fill (id_in a.slots h) 1 (at + 1)) None ∷ more) (given_node s.agent job v) ≡ touched_by (id_in s.slots h) more (given_node s.agent job (at + 1))
+    filled_is : (v : ℕ) (more : List (Event FifoNote)) → touched_by (id_in s.slots h) (event_of a (Fill (id_in a.slots h) 1 (at + 1)) None ∷ more)
+        (given_node s.agent job v) ≡ touched_by (id_in s.slots h) more (given_node s.agent job (at + 1))
     filled_is v more = rw (same_id, eq-eqb (id_in s.slots h) (id_in s.slots h) refl) refl
 
     filled_puts : Puts s (event_of a (Fill (id_in a.slots h) 1 (at + 1)) None ∷ []) b
@@ -85,7 +89,8 @@ module _ (n : HeapNumbers) (job at tail : ℕ) (h : Hold) (s a b : Seat FifoNote
     filled_fresh = fill.fresh ∙ (read.fresh ∙ (node.fresh ∙ ap (λ z. Some (id_in z h)) (sym filled_slots)))
 
     -- the link was no more null
-    pub link_missed : (t : Seat FifoNote) → AllAllowed (FifoMay n) [] t.seen → t.slots ≡ b.slots → t.fresh ≡ b.fresh → Misses (Next tail) null b t → position_of (heap_of n s) tail < 2 ^ 62 → LinkMissed n job tail h s t
+    pub link_missed : (t : Seat FifoNote) → AllAllowed (FifoMay n) [] t.seen → t.slots ≡ b.slots → t.fresh ≡ b.fresh → Misses (Next tail) null b t
+        → position_of (heap_of n s) tail < 2 ^ 62 → LinkMissed n job tail h s t
     link_missed t all slots fresh miss low =
         let e : Event FifoNote = event_of a (Fill (id_in a.slots h) 1 (at + 1)) None in
         let f : Event FifoNote = event_of b (Miss (Next tail) null miss.found) None in
@@ -105,7 +110,8 @@ module _ (n : HeapNumbers) (job at tail : ℕ) (h : Hold) (s a b : Seat FifoNote
         }
 
     -- the node is linked
-    pub link_made : (t : Seat FifoNote) (agent : ℕ) → AllAllowed (FifoMay n) [] t.seen → agent ≡ s.agent → t.slots ≡ b.slots → t.fresh ≡ unless_node b.fresh (Some (id_in b.slots h))
+    pub link_made : (t : Seat FifoNote) (agent : ℕ) → AllAllowed (FifoMay n) [] t.seen → agent ≡ s.agent → t.slots ≡ b.slots
+        → t.fresh ≡ unless_node b.fresh (Some (id_in b.slots h))
         → Puts b (event_of b (Move (Next tail) null (link_to (id_in b.slots h))) (Some (Entry (Put agent job at))) ∷ []) t
         → position_of (heap_of n s) tail < 2 ^ 62 → at ≡ position_of (heap_of n s) tail → LinksJob n 2 KeepsTail job tail at h s t
     link_made t agent all agent_is slots fresh put low at_is =
@@ -114,7 +120,15 @@ module _ (n : HeapNumbers) (job at tail : ℕ) (h : Hold) (s a b : Seat FifoNote
         let p : Puts s (e ∷ m ∷ []) t = Puts-trans s b t (e ∷ []) (m ∷ []) filled_puts put in
         record {
           puts = record {
-            piece = record { own = _; slots = slots ∙ filled_slots; puts = p; entries_are = ap (λ (x : ℕ). Put x job at ∷ []) agent_is; no_give = refl; few = omega arith };
+            piece = record {
+              own = _;
+              slots = slots ∙ filled_slots;
+              puts = p;
+              entries_are = ap (λ (x : ℕ). Put x job at ∷ []) agent_is;
+              no_give =
+                  refl;
+              few = omega arith;
+            };
             helps = refl;
             fresh = fresh ∙ (ap (λ o. unless_node o (Some (id_in b.slots h))) filled_fresh ∙ unless_same (id_in b.slots h));
             low = omega (arith, low, at_is);
@@ -126,31 +140,39 @@ module _ (n : HeapNumbers) (job at tail : ℕ) (h : Hold) (s a b : Seat FifoNote
 
     -- the Put may come
     pub put_may : (th : Hold) (agent : ℕ) → tail ≡ id_in s.slots th → Known n b.seen → agent ≡ b.agent → at ≡ position_of (heap_of n s) tail → at < 2 ^ 62
-        → AllowedLater (FifoMay n) n b.agent b.seen (Next (id_in b.slots th)) null (event_of b (Move (Next (id_in b.slots th)) null (link_to (id_in b.slots h))) (Some (Entry (Put agent job at))))
+        → AllowedLater (FifoMay n) n b.agent b.seen (Next (id_in b.slots th)) null
+        (event_of b (Move (Next (id_in b.slots th)) null (link_to (id_in b.slots h))) (Some (Entry (Put agent job at))))
     put_may th agent tail_is kb agent_is at_is low =
         let same : tail ≡ id_in b.slots th = tail_is ∙ ap (λ z. id_in z th) (sym filled_slots) in
         let position : position_of (heap_of n b) tail ≡ at = position_puts n s b _ filled_puts all_b tail named.linked ∙ sym at_is in
         let may = put_allowed n b.agent tail (id_in b.slots h) job at b.seen kb.holds kb.dummy.begun filled_named position low filled_node in
-        subst (λ (i : ℕ). AllowedLater (FifoMay n) n b.agent b.seen (Next i) null (event_of b (Move (Next i) null (link_to (id_in b.slots h))) (Some (Entry (Put agent job at))))) same
-        (subst (λ (x : ℕ). AllowedLater (FifoMay n) n b.agent b.seen (Next tail) null (event_of b (Move (Next tail) null (link_to (id_in b.slots h))) (Some (Entry (Put x job at))))) (sym agent_is) may)
+        subst (λ (i : ℕ). AllowedLater (FifoMay n) n b.agent b.seen (Next i) null
+        (event_of b (Move (Next i) null (link_to (id_in b.slots h))) (Some (Entry (Put agent job at))))) same
+        (subst (λ (x : ℕ). AllowedLater (FifoMay n) n b.agent b.seen (Next tail) null
+        (event_of b (Move (Next tail) null (link_to (id_in b.slots h))) (Some (Entry (Put x job at))))) (sym agent_is) may)
 
 -- the value that was read
-pub read_position : (n : HeapNumbers) (s a : Seat FifoNote) (tail value : ℕ) → Known n a.seen → Only [] s a → IsLinkedNode (heap_of n s) tail → ReadsValue (heap_of n a) tail 1 value → value ≡ position_of (heap_of n s) tail
-read_position n s a tail value k o l r = position_read n a.seen tail value k (linked_puts n s a [] o.puts k.all tail l) r ∙ position_puts n s a [] o.puts k.all tail l
+pub read_position : (n : HeapNumbers) (s a : Seat FifoNote) (tail value : ℕ) → Known n a.seen → Only [] s a → IsLinkedNode (heap_of n s) tail
+    → ReadsValue (heap_of n a) tail 1 value → value ≡ position_of (heap_of n s) tail
+read_position n s a tail value k o l r = position_read n a.seen tail value k (linked_puts n s a [] o.puts k.all tail l) r
+    ∙ position_puts n s a [] o.puts k.all tail l
 
 -- and then the tail was swung on, or not
-pub link_helped : (n : HeapNumbers) (job tail next at : ℕ) (h : Hold) (s c t : Seat FifoNote) → AllAllowed (FifoMay n) [] t.seen → LinksJob n 2 KeepsTail job tail at h s c → Helps tail next c t → LinksJob n 3 (SwingsLast tail) job tail at h s t
+pub link_helped : (n : HeapNumbers) (job tail next at : ℕ) (h : Hold) (s c t : Seat FifoNote) → AllAllowed (FifoMay n) [] t.seen
+    → LinksJob n 2 KeepsTail job tail at h s c → Helps tail next c t → LinksJob n 3 (SwingsLast tail) job tail at h s t
 link_helped n job tail next at h s c t all l helped =
     elim helped.either [
       | inl moved ↦ done _ moved refl refl refl (inl (next, refl))
       | inr missed ↦ done _ missed.puts refl refl refl (inr (missed.found, refl))
     ]
   where
-    done : (e : Event FifoNote) (q : Puts c (e ∷ []) t) → entries_of (e ∷ []) ≡ [] → gives_in (e ∷ []) ≡ 0 → list_any (λ x. looks_at_end x.act) (e ∷ []) ≡ false → SwingsTail tail e → LinksJob n 3 (SwingsLast tail) job tail at h s t
+    done : (e : Event FifoNote) (q : Puts c (e ∷ []) t) → entries_of (e ∷ []) ≡ [] → gives_in (e ∷ []) ≡ 0
+        → list_any (λ x. looks_at_end x.act) (e ∷ []) ≡ false → SwingsTail tail e → LinksJob n 3 (SwingsLast tail) job tail at h s t
     done e q none no_give unseen swings =
         let p = l.puts.piece in
         let j = join 3 s c t p.own (e ∷ []) (Put s.agent job at ∷ []) p.puts q (helped.slots ∙ p.slots)
-        (noted-append entries_in p.own (e ∷ []) ∙ (ap (λ z. entries_of p.own ++ z) none ∙ (append-nil (entries_of p.own) ∙ p.entries_are))) (omega (arith, gives_in-append p.own (e ∷ []), p.no_give, no_give))
+        (noted-append entries_in p.own (e ∷ []) ∙ (ap (λ z. entries_of p.own ++ z) none ∙ (append-nil (entries_of p.own) ∙ p.entries_are)))
+        (omega (arith, gives_in-append p.own (e ∷ []), p.no_give, no_give))
         (omega (arith, length-append p.own (e ∷ []), p.few)) in
         record {
           puts = record {
@@ -171,7 +193,10 @@ pub record LinkKept (s t : Seat FifoNote) : Type 0 where
   pub puts : Puts s own t
   pub fresh : (t.fresh ≡ s.fresh) ⊎ (t.fresh ≡ None)
 
-pub link_kept : (n : HeapNumbers) (most : ℕ) (IsHelping : List (Event FifoNote) → Type 0) (job tail : ℕ) (h : Hold) (s t : Seat FifoNote) (turn : PutTurn) → LinksBehind n most IsHelping job tail h s turn t → LinkKept s t
-link_kept n most IsHelping job tail h s t PutOver l = record { own = l.stops.piece.own; slots = l.stops.piece.slots; puts = l.stops.piece.puts; fresh = inl l.stops.fresh }
-link_kept n most IsHelping job tail h s t (PutDone at) l = record { own = l.puts.piece.own; slots = l.puts.piece.slots; puts = l.puts.piece.puts; fresh = inr l.puts.fresh }
+pub link_kept : (n : HeapNumbers) (most : ℕ) (IsHelping : List (Event FifoNote) → Type 0) (job tail : ℕ) (h : Hold) (s t : Seat FifoNote)
+    (turn : PutTurn) → LinksBehind n most IsHelping job tail h s turn t → LinkKept s t
+link_kept n most IsHelping job tail h s t PutOver l =
+    record { own = l.stops.piece.own; slots = l.stops.piece.slots; puts = l.stops.piece.puts; fresh = inl l.stops.fresh }
+link_kept n most IsHelping job tail h s t (PutDone at) l =
+    record { own = l.puts.piece.own; slots = l.puts.piece.slots; puts = l.puts.piece.puts; fresh = inr l.puts.fresh }
 link_kept n most IsHelping job tail h s t Full l = record { own = l.piece.own; slots = l.piece.slots; puts = l.piece.puts; fresh = inl l.fresh }

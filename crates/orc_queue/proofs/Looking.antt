@@ -1,10 +1,11 @@
 -- What a look at a root, and one at the link of a once linked node, find.
 use Rattle.std.proofs.Common.{Bool, List, length, suc, zero, Option, Some, None, [], ap, arith, inl, inr, refl, subst, sym, ℕ, ◌++◌, ◌<◌, ◌∙◌, ◌∷◌, ◌≡◌, ◌⊎◌}
+use Rattle.orc_heap.proofs.Moved.{target_roots}
 use Rattle.std.specs.List.{slice_get, slice_set}
 use Rattle.std.specs.Prelude.{unwrap_or}
 use Rattle.std.proofs.lemmas.List.{length-replicate}
 use Rattle.orc_heap.proofs.ByAnswer.{LookedHeld, LookedNull}
-use Rattle.orc_heap.proofs.Changes.{length-change}
+use Rattle.orc_heap.proofs.Changes.{length-change, get_lt}
 use Rattle.orc_heap.specs.Allowed.{AllAllowed, IsLinkedNode, HasLink}
 use Rattle.orc_heap.specs.Calls.{ReadsValue, RefusesSwing, event_of}
 use Rattle.orc_heap.specs.Heap.{Heap, HeapNumbers, Node, new_heap, null, link_to}
@@ -36,7 +37,8 @@ use Rattle.orc_heap.proofs.Moments.{seen_is, since}
 use Rattle.orc_heap.proofs.Pieces.{InSlot}
 
 -- three links at most are made to a node, so no swing is refused
-pub never_spent : (n : HeapNumbers) (slots : Slots) (from to : Want) (why : Spent) (seen : List (Event FifoNote)) → AllAllowed (FifoMay n) [] seen → RefusesSwing slots from to why seen → ⊥
+pub never_spent : (n : HeapNumbers) (slots : Slots) (from to : Want) (why : Spent) (seen : List (Event FifoNote)) → AllAllowed (FifoMay n) [] seen
+    → RefusesSwing slots from to why seen → ⊥
 never_spent n slots from (WantNull mark) why seen all r = r
 never_spent n slots from (WantNode h mark) why seen all r = omega (arith, r.1.links, at_most_three n seen (id_in slots h.now) all)
 
@@ -64,7 +66,8 @@ root_found n s t root link own rest low k p all =
 pub record FindsNext (n : HeapNumbers) (id : ℕ) (link : Link) (t : Seat FifoNote) : Type 0 where
   pub either : (link ≡ null) ⊎ ((next : ℕ) × (link ≡ link_to next) × HasLink (heap_of n t) id (link_to next))
 
-pub next_found : (n : HeapNumbers) (s t : Seat FifoNote) (id : ℕ) (link : Link) (own rest : List (Event FifoNote)) → Known n s.seen → IsLinkedNode (heap_of n s) id
+pub next_found : (n : HeapNumbers) (s t : Seat FifoNote) (id : ℕ) (link : Link) (own rest : List (Event FifoNote)) → Known n s.seen
+    → IsLinkedNode (heap_of n s) id
     → Puts s (own ++ event_of s (Look (Next id) link) None ∷ rest) t → AllAllowed (FifoMay n) [] t.seen → FindsNext n id link t
 next_found n s t id link own rest k l p all =
     let e : Event FifoNote = event_of s (Look (Next id) link) None in
@@ -76,7 +79,8 @@ next_found n s t id link own rest k l p all =
         | inl none ↦ inl none
         | inr leads ↦
             let (next, job, is, j) = leads in
-            let there : HasLink (run_heap n (s.seen ++ m.before)) id (link_to next) = subst (λ (x : Link). HasLink (run_heap n (s.seen ++ m.before)) id x) is has in
+            let there : HasLink (run_heap n (s.seen ++ m.before)) id (link_to next) =
+            subst (λ (x : Link). HasLink (run_heap n (s.seen ++ m.before)) id x) is has in
             inr (
               next,
               is,
@@ -109,7 +113,8 @@ root_held n s t root slot mark h low k all l =
     }
 
 -- no look of a root finds null
-pub root_not_null : (n : HeapNumbers) (s t : Seat FifoNote) (root : ℕ) (mark : Bool) → root < 2 → Known n s.seen → AllAllowed (FifoMay n) [] t.seen → LookedNull (Root root) mark s t → ⊥
+pub root_not_null : (n : HeapNumbers) (s t : Seat FifoNote) (root : ℕ) (mark : Bool) → root < 2 → Known n s.seen → AllAllowed (FifoMay n) [] t.seen
+    → LookedNull (Root root) mark s t → ⊥
 root_not_null n s t root mark low k all l =
     let f = root_found n s t root (record { to = None; mark = mark }) [] [] low k l.puts all in
     let bad : None ≡ Some f.id = ap (λ (x : Link). x.to) f.is in
@@ -138,10 +143,12 @@ next_both n s t id slot mark h l some (inr first) =
       next = next;
       in_slot = record { at = l.at; slots = subst (λ (i : ℕ). t.slots ≡ slice_set s.slots slot (Some (record { row = h.row; id = i }))) id_is l.slots };
       link = has;
-      puts = subst (λ (z : Link × Link). Puts s (event_of s (Look (Next id) z.0) None ∷ event_of s (Look (Next id) z.1) None ∷ []) t) (λ i. (one_is i, is i)) l.puts;
+      puts = subst (λ (z : Link × Link). Puts s (event_of s (Look (Next id) z.0) None ∷ event_of s (Look (Next id) z.1) None ∷ []) t)
+          (λ i. (one_is i, is i)) l.puts;
     }
 
-pub next_held : (n : HeapNumbers) (s t : Seat FifoNote) (id slot : ℕ) (mark : Bool) (h : Hold) → Known n s.seen → IsLinkedNode (heap_of n s) id → AllAllowed (FifoMay n) [] t.seen
+pub next_held : (n : HeapNumbers) (s t : Seat FifoNote) (id slot : ℕ) (mark : Bool) (h : Hold) → Known n s.seen → IsLinkedNode (heap_of n s) id
+    → AllAllowed (FifoMay n) [] t.seen
     → LookedHeld (Next id) slot mark h s t → HoldsNext n id slot s h t
 next_held n s t id slot mark h k linked all l =
     let link : Link = record { to = Some l.id; mark = mark } in
@@ -153,7 +160,8 @@ next_held n s t id slot mark h k linked all l =
     ]
 
 -- a look that found the end
-pub next_null : (n : HeapNumbers) (s t : Seat FifoNote) (id : ℕ) (mark : Bool) → Known n s.seen → IsLinkedNode (heap_of n s) id → AllAllowed (FifoMay n) [] t.seen
+pub next_null : (n : HeapNumbers) (s t : Seat FifoNote) (id : ℕ) (mark : Bool) → Known n s.seen → IsLinkedNode (heap_of n s) id
+    → AllAllowed (FifoMay n) [] t.seen
     → LookedNull (Next id) mark s t → Puts s (event_of s (Look (Next id) null) None ∷ []) t
 next_null n s t id mark k linked all l =
     let link : Link = record { to = None; mark = mark } in
@@ -164,7 +172,8 @@ next_null n s t id mark k linked all l =
     ]
 
 -- the second value of a once linked node is its position
-pub position_read : (n : HeapNumbers) (es : List (Event FifoNote)) (id value : ℕ) → Known n es → IsLinkedNode (run_heap n es) id → ReadsValue (run_heap n es) id 1 value → value ≡ position_of (run_heap n es) id
+pub position_read : (n : HeapNumbers) (es : List (Event FifoNote)) (id value : ℕ) → Known n es → IsLinkedNode (run_heap n es) id
+    → ReadsValue (run_heap n es) id 1 value → value ≡ position_of (run_heap n es) id
 position_read n es id value k l r =
     let both : Some r.node ≡ Some l.node = sym r.there ∙ l.there in
     let same : r.node ≡ l.node = cc in
@@ -172,30 +181,22 @@ position_read n es id value k l r =
     let read : value ≡ filled = r.is filled (ap (λ (x : Node). x.second) same ∙ is) in
     read ∙ sym (position_at (run_heap n es) id l.node l.there ∙ ap (λ (x : Option ℕ). unwrap_or x 0) is)
 
-pub job_read : (n : HeapNumbers) (es : List (Event FifoNote)) (id job at value : ℕ) → HasJob (run_heap n es) id job at → ReadsValue (run_heap n es) id 0 value → value ≡ job
+pub job_read : (n : HeapNumbers) (es : List (Event FifoNote)) (id job at value : ℕ) → HasJob (run_heap n es) id job at
+    → ReadsValue (run_heap n es) id 0 value → value ≡ job
 job_read n es id job at value j r =
     let both : Some r.node ≡ Some j.node = sym r.there ∙ j.there in
     let same : r.node ≡ j.node = cc in
     r.is job (ap (λ (x : Node). x.first) same ∙ j.holds.job_is)
 
--- root 0 and root 1 are there
-slice_low : {A : Type 0} (xs : List A) (i : ℕ) (x : A) → slice_get xs i ≡ Some x → i < length xs
-slice_low [] i x e = absurd (let none : ◌≡◌ {A = Option _} None (Some x) = e in cc)
-slice_low (y ∷ xs) zero x e = omega arith
-slice_low (y ∷ xs) (suc i) x e = omega (arith, slice_low xs i x e)
-
-roots_of_target : (f : Node → Node) (to : Option ℕ) (h : Heap) → (change_target f to h).roots ≡ h.roots
-roots_of_target f None h = refl
-roots_of_target f (Some id) h = refl
-
 roots_after : (agent : ℕ) (act : Act) (h : Heap) → length (heap_after agent act h).roots ≡ length h.roots
 roots_after agent Give h = refl
 roots_after agent (Fill id which value) h = refl
-roots_after agent (Aim id to) h = ap (λ (xs : List Link). length xs) (roots_of_target as_named to _)
+roots_after agent (Aim id to) h = ap (λ (xs : List Link). length xs) (target_roots as_named to _)
 roots_after agent (Look place link) h = refl
 roots_after agent (Miss place wanted found) h = refl
-roots_after agent (Move (Root r) from to) h = ap (λ (xs : List Link). length xs) (roots_of_target as_linked to.to _) ∙ length-change (λ (l : Link). to) r h.roots
-roots_after agent (Move (Next id) from to) h = ap (λ (xs : List Link). length xs) (roots_of_target as_linked to.to _)
+roots_after agent (Move (Root r) from to) h = ap (λ (xs : List Link). length xs) (target_roots as_linked to.to _)
+    ∙ length-change (λ (l : Link). to) r h.roots
+roots_after agent (Move (Next id) from to) h = ap (λ (xs : List Link). length xs) (target_roots as_linked to.to _)
 
 roots_from : (h : Heap) (es : List (Event FifoNote)) → length (run_from h es).roots ≡ length h.roots
 roots_from h [] = refl
@@ -204,5 +205,5 @@ roots_from h (e ∷ es) = roots_from (heap_after e.agent e.act h) es ∙ roots_a
 pub roots_there : (n : HeapNumbers) (es : List (Event FifoNote)) (root : ℕ) → Known n es → root < 2 → root < n.roots
 roots_there n es root k low =
     let (id, at, linked) = root_names n es root k.holds k.dummy.begun low in
-    let there = slice_low (run_heap n es).roots root (link_to id) at in
+    let there = get_lt (run_heap n es).roots root (link_to id) at in
     omega (arith, there, roots_from (new_heap n) es, length-replicate n.roots null)

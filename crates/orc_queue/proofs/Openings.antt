@@ -23,6 +23,20 @@ pub dummy_allowed : (n : HeapNumbers) (first : ℕ) → 2 ≤ n.roots → first 
 dummy_allowed n first roots low = record {
   roots = roots;
   low = low;
-  first_link = record { fits = (first_null n.roots roots, record { node = _; there = refl; known = inl refl }); may_act = record { root_is = omega arith; from_is = refl; to_is = refl; ends = refl }; in_time = tt; may_enter = tt };
-  second_link = record { fits = (second_null n.roots (link_to 0) roots, record { node = _; there = refl; known = inl refl }); may_act = record { root_is = omega arith; from_is = refl; to_is = refl; ends = refl }; in_time = tt; may_enter = tt };
+  first_link =
+      record {
+        fits = (first_null n.roots roots, record { node = _; there = refl; known = inl refl });
+        may_act =
+            record { root_is = omega arith; from_is = refl; to_is = refl; ends = refl };
+        in_time = tt;
+        may_enter = tt;
+      };
+  second_link =
+      record {
+        fits = (second_null n.roots (link_to 0) roots, record { node = _; there = refl; known = inl refl });
+        may_act =
+            record { root_is = omega arith; from_is = refl; to_is = refl; ends = refl };
+        in_time = tt;
+        may_enter = tt;
+      };
 }

@@ -36,7 +36,8 @@ module _ (n : HeapNumbers) (s t : Seat FifoNote) (own : List (Event FifoNote)) (
   named_puts root id w = subst (λ es. WasNamed (run_heap n es) root id) (sym p.is) (named_later n s.seen p.part root id w new)
 
   pub linked_puts : (id : ℕ) → IsLinkedNode (heap_of n s) id → IsLinkedNode (heap_of n t) id
-  linked_puts id l = subst (λ es. IsLinkedNode (run_heap n es) id) (sym p.is) (linked_place_later n (FifoMay n) (λ es e m. m.fits) (Next id) s.seen p.part l new)
+  linked_puts id l =
+      subst (λ es. IsLinkedNode (run_heap n es) id) (sym p.is) (linked_place_later n (FifoMay n) (λ es e m. m.fits) (Next id) s.seen p.part l new)
 
   pub link_puts : (id next : ℕ) → HasLink (heap_of n s) id (link_to next) → HasLink (heap_of n t) id (link_to next)
   link_puts id next l = subst (λ es. HasLink (run_heap n es) id (link_to next)) (sym p.is) (link_later n s.seen p.part id next l new)
@@ -53,9 +54,11 @@ module _ (n : HeapNumbers) (s t : Seat FifoNote) (own : List (Event FifoNote)) (
   node_touched job h k node away =
       let id = id_in s.slots h in
       let x : Node = given_node s.agent job node.second in
-      (own_node_puts n (FifoHolds n) (FifoMay n) (fifo_keeps n) (fifo_fits n) (fifo_moves_linked n) s t own p k.holds all id x (record { there = node.node; own = record { mine = refl; unnamed = refl; unlinked = refl } }) away).there
+      (own_node_puts n (FifoHolds n) (FifoMay n) (fifo_keeps n) (fifo_fits n) (fifo_moves_linked n) s t own p k.holds all id x
+      (record { there = node.node; own = record { mine = refl; unnamed = refl; unlinked = refl } }) away).there
 
-  pub node_held : (job : ℕ) (h : Hold) (second : ℕ) → Known n s.seen → (node : HoldsNode n job h s) → Holds t.slots h → id_in t.slots h ≡ id_in s.slots h → t.fresh ≡ s.fresh
+  pub node_held : (job : ℕ) (h : Hold) (second : ℕ) → Known n s.seen → (node : HoldsNode n job h s) → Holds t.slots h
+      → id_in t.slots h ≡ id_in s.slots h → t.fresh ≡ s.fresh
       → list_any (λ e. points_to e.act (id_in s.slots h)) own ≡ false
       → touched_by (id_in s.slots h) own (given_node s.agent job node.second) ≡ given_node s.agent job second → HoldsNode n job h t
   node_held job h second k node held same_id fresh away is = record {

@@ -53,7 +53,8 @@ module _ (n : HeapNumbers) (s : Seat FifoNote) (one : Link) (tail next : ℕ) wh
   looks_change_nothing : (es : List (Event FifoNote)) → run_heap n (es ++ at_first ∷ at_tail ∷ at_next ∷ at_next ∷ []) ≡ run_heap n es
   looks_change_nothing es = run_from-append (new_heap n) es (at_first ∷ at_tail ∷ at_next ∷ at_next ∷ [])
 
-  helped_settles : (es : List (Event FifoNote)) → FifoHolds n es → has_begun es ≡ true → AllAllowed (FifoMay n) es (at_first ∷ at_tail ∷ at_next ∷ at_next ∷ swing ∷ [])
+  helped_settles : (es : List (Event FifoNote)) → FifoHolds n es → has_begun es ≡ true
+      → AllAllowed (FifoMay n) es (at_first ∷ at_tail ∷ at_next ∷ at_next ∷ swing ∷ [])
       → TailIsLast (run_heap n (es ++ at_first ∷ at_tail ∷ at_next ∷ at_next ∷ swing ∷ []))
   helped_settles es holds begun all =
       let looks : List (Event FifoNote) = at_first ∷ at_tail ∷ at_next ∷ at_next ∷ [] in
@@ -62,10 +63,13 @@ module _ (n : HeapNumbers) (s : Seat FifoNote) (one : Link) (tail next : ℕ) wh
       let r = swing_settles n (es ++ looks) s.agent tail next (holds_later n es looks holds first) (begun_more es looks begun) last.0 in
       subst (λ z. TailIsLast (run_heap n z)) (append_assoc es looks (swing ∷ [])) r
 
-  helped_unsettled : (es : List (Event FifoNote)) → AllAllowed (FifoMay n) es (at_first ∷ at_tail ∷ at_next ∷ at_next ∷ swing ∷ []) → TailIsLast (run_heap n es) → ⊥
+  helped_unsettled : (es : List (Event FifoNote)) → AllAllowed (FifoMay n) es (at_first ∷ at_tail ∷ at_next ∷ at_next ∷ swing ∷ [])
+      → TailIsLast (run_heap n es) → ⊥
   helped_unsettled es all settled =
-      let same : run_heap n ((es ++ at_first ∷ []) ++ at_tail ∷ []) ≡ run_heap n es = ap (λ z. run_heap n z) (append_assoc es (at_first ∷ []) (at_tail ∷ [])) ∙ run_from-append (new_heap n) es (at_first ∷ at_tail ∷ []) in
-      let link : shown (run_heap n es) (Next tail) ≡ Some (link_to next) = subst (λ (h : Heap). shown h (Next tail) ≡ Some (link_to next)) same all.1.1.0.fits in
+      let same : run_heap n ((es ++ at_first ∷ []) ++ at_tail ∷ []) ≡ run_heap n es =
+      ap (λ z. run_heap n z) (append_assoc es (at_first ∷ []) (at_tail ∷ [])) ∙ run_from-append (new_heap n) es (at_first ∷ at_tail ∷ []) in
+      let link : shown (run_heap n es) (Next tail) ≡ Some (link_to next) =
+      subst (λ (h : Heap). shown h (Next tail) ≡ Some (link_to next)) same all.1.1.0.fits in
       let before : run_heap n (es ++ at_first ∷ []) ≡ run_heap n es = run_from-append (new_heap n) es (at_first ∷ []) in
       let tail_at : shown (run_heap n es) (Root 1) ≡ Some (link_to tail) = subst (λ (h : Heap). shown h (Root 1) ≡ Some (link_to tail)) before all.1.0.fits in
       let last_is : settled.last ≡ tail = link_same settled.last tail (some_same (sym settled.tail_is ∙ tail_at)) in
@@ -75,8 +79,10 @@ enough : {i j : ℕ} → 1 ≤ i → i ≤ j → 1 ≤ j
 enough p q = omega (arith, p, q)
 
 -- from a look of the tail to its release
-module _ (n : HeapNumbers) (one : Link) (job tail : ℕ) (h : Hold) (s a b t : Seat FifoNote) (k : Known n s.seen) (kb : Known n b.seen) (all_a : AllAllowed (FifoMay n) [] a.seen) (all_t : AllAllowed (FifoMay n) [] t.seen)
-    (p : Puts s (event_of s (Look (Root 1) one) None ∷ event_of s (Look (Root 1) (link_to tail)) None ∷ []) a) (freed : Puts b [] t) (slots : t.slots ≡ s.slots) (fresh_a : a.fresh ≡ s.fresh) (fresh_t : t.fresh ≡ b.fresh)
+module _ (n : HeapNumbers) (one : Link) (job tail : ℕ) (h : Hold) (s a b t : Seat FifoNote) (k : Known n s.seen) (kb : Known n b.seen)
+    (all_a : AllAllowed (FifoMay n) [] a.seen) (all_t : AllAllowed (FifoMay n) [] t.seen)
+    (p : Puts s (event_of s (Look (Root 1) one) None ∷ event_of s (Look (Root 1) (link_to tail)) None ∷ []) a) (freed : Puts b [] t)
+    (slots : t.slots ≡ s.slots) (fresh_a : a.fresh ≡ s.fresh) (fresh_t : t.fresh ≡ b.fresh)
     (held : Holds t.slots h) (same_id : id_in t.slots h ≡ id_in b.slots h)
   where
     first_room : FindsFull n s.agent s.seen p.part → ⊥
@@ -86,33 +92,50 @@ module _ (n : HeapNumbers) (one : Link) (job tail : ℕ) (h : Hold) (s a b t : S
     turn_done PutOver l =
         let q0 = l.stops.piece in
         let q = puts_released a b t q0.own q0.puts freed in
-        let j = join 6 s a t (at_first n s one tail 0 ∷ at_tail n s one tail 0 ∷ []) q0.own [] p q slots q0.entries_are (omega (arith, q0.no_give)) (omega (arith, q0.few)) in
+        let j = join 6 s a t (at_first n s one tail 0 ∷ at_tail n s one tail 0 ∷ []) q0.own [] p q slots q0.entries_are (omega (arith, q0.no_give))
+        (omega (arith, q0.few)) in
         let fresh = fresh_t ∙ (l.stops.fresh ∙ fresh_a) in
-        let moved = λ (at : shown (heap_of n a) (Root 1) ≡ Some (link_to tail)). enough (l.stops.moved at) (moves_left a b t q0.own [] q0.own q0.puts freed q) in
+        let moved = λ (at : shown (heap_of n a) (Root 1) ≡ Some (link_to tail)). enough (l.stops.moved at)
+        (moves_left a b t q0.own [] q0.own q0.puts freed q) in
         let over : IsOver n TailIsLast s t = elim l.stops.own_moves [
           | inl none ↦ over_missed n TailIsLast 1 tail one s a t k all_a all_t p q0.own q j fresh moved none
           | inr helping ↦
               let next : ℕ = helping.0 in
-              let is : q0.own ≡ at_next n s one tail next ∷ at_next n s one tail next ∷ swing n s one tail next ∷ [] = helping.1 ∙ ap (λ (x : ℕ). record { agent = x; act = Look (Next tail) (link_to next); note = None }
-              ∷ record { agent = x; act = Look (Next tail) (link_to next); note = None } ∷ record { agent = x; act = Move (Root 1) (link_to tail) (link_to next); note = Some Swing } ∷ []) p.agent in
+              let is : q0.own ≡ at_next n s one tail next ∷ at_next n s one tail next ∷ swing n s one tail next ∷ [] =
+              helping.1 ∙ ap (λ (x : ℕ). record { agent = x; act = Look (Next tail) (link_to next); note = None }
+              ∷ record { agent = x; act = Look (Next tail) (link_to next); note = None }
+              ∷ record { agent = x; act = Move (Root 1) (link_to tail) (link_to next); note = Some Swing } ∷ []) p.agent in
               over_helped n TailIsLast 1 tail one s a t k all_a all_t p q0.own q j fresh moved
               (λ es holds begun all. subst (λ z. TailIsLast (run_heap n (es ++ at_first n s one tail 0 ∷ at_tail n s one tail 0 ∷ z))) (sym is)
-              (helped_settles n s one tail next es holds begun (subst (λ z. AllAllowed (FifoMay n) es (at_first n s one tail 0 ∷ at_tail n s one tail 0 ∷ z)) is all)))
-              (λ es all settled. helped_unsettled n s one tail next es (subst (λ z. AllAllowed (FifoMay n) es (at_first n s one tail 0 ∷ at_tail n s one tail 0 ∷ z)) is all) settled)
+              (helped_settles n s one tail next es holds begun
+              (subst (λ z. AllAllowed (FifoMay n) es (at_first n s one tail 0 ∷ at_tail n s one tail 0 ∷ z)) is all)))
+              (λ es all settled. helped_unsettled n s one tail next es
+              (subst (λ z. AllAllowed (FifoMay n) es (at_first n s one tail 0 ∷ at_tail n s one tail 0 ∷ z)) is all) settled)
         ] in
         record {
           over = over;
-          room = room_join n s a t _ _ over.piece.own p q over.piece.puts first_room (room_join n a b t _ _ _ q0.puts freed q l.room (room_unseen n b t [] freed refl));
+          room = room_join n s a t _ _ over.piece.own p q over.piece.puts first_room
+              (room_join n a b t _ _ _ q0.puts freed q l.room (room_unseen n b t [] freed refl));
           node = node_held n b t [] freed all_t job h l.node.second kb l.node held same_id fresh_t refl refl;
         }
     turn_done (PutDone at) l =
         let q0 = l.piece in
         let q = puts_released a b t q0.own q0.puts freed in
         let entries : entries_of q0.own ≡ Put s.agent job at ∷ [] = q0.entries_are ∙ ap (λ (x : ℕ). Put x job at ∷ []) p.agent in
-        let j = join 6 s a t (at_first n s one tail 0 ∷ at_tail n s one tail 0 ∷ []) q0.own (Put s.agent job at ∷ []) p q slots entries (omega (arith, q0.no_give)) (omega (arith, q0.few)) in
+        let j = join 6 s a t (at_first n s one tail 0 ∷ at_tail n s one tail 0 ∷ []) q0.own (Put s.agent job at ∷ []) p q slots entries
+        (omega (arith, q0.no_give)) (omega (arith, q0.few)) in
         record {
           piece = j.piece;
-          helps = record { before = at_first n s one tail 0 ∷ []; tail = tail; look = at_tail n s one tail 0; sees = refl; rest = q0.own; es_are = j.own_is; swings = l.helps };
+          helps = record {
+            before = at_first n s one tail 0 ∷ [];
+            tail = tail;
+            look = at_tail n s one tail 0;
+            sees = refl;
+            rest = q0.own;
+            es_are =
+                j.own_is;
+            swings = l.helps;
+          };
           fresh = fresh_t ∙ l.fresh;
           low = l.low;
           room = room_join n s a t _ _ _ p q j.piece.puts first_room (room_join n a b t _ _ _ q0.puts freed q l.room (room_unseen n b t [] freed refl));
@@ -120,7 +143,8 @@ module _ (n : HeapNumbers) (one : Link) (job tail : ℕ) (h : Hold) (s a b t : S
     turn_done Full l =
         let q0 = l.piece in
         let q = puts_released a b t q0.own q0.puts freed in
-        let j = join 6 s a t (at_first n s one tail 0 ∷ at_tail n s one tail 0 ∷ []) q0.own [] p q slots q0.entries_are (omega (arith, q0.no_give)) (omega (arith, q0.few)) in
+        let j = join 6 s a t (at_first n s one tail 0 ∷ at_tail n s one tail 0 ∷ []) q0.own [] p q slots q0.entries_are (omega (arith, q0.no_give))
+        (omega (arith, q0.few)) in
         record {
           piece = j.piece;
           fresh = fresh_t ∙ (l.fresh ∙ fresh_a);
@@ -128,7 +152,8 @@ module _ (n : HeapNumbers) (one : Link) (job tail : ℕ) (h : Hold) (s a b t : S
         }
 
 -- the tail moved between two looks
-pub turn_moved : (n : HeapNumbers) (job : ℕ) (h : Hold) (s t : Seat FifoNote) (one two : Link) → Known n s.seen → AllAllowed (FifoMay n) [] t.seen → HoldsNode n job h s → one ≢ two → t.slots ≡ s.slots → t.fresh ≡ s.fresh
+pub turn_moved : (n : HeapNumbers) (job : ℕ) (h : Hold) (s t : Seat FifoNote) (one two : Link) → Known n s.seen → AllAllowed (FifoMay n) [] t.seen
+    → HoldsNode n job h s → one ≢ two → t.slots ≡ s.slots → t.fresh ≡ s.fresh
     → Puts s (event_of s (Look (Root 1) one) None ∷ event_of s (Look (Root 1) two) None ∷ []) t → PutMissed n job h s t
 turn_moved n job h s t one two k all node other slots fresh p =
     let piece : Piece 6 s [] t = record { own = _; slots = slots; puts = p; entries_are = refl; no_give = refl; few = omega arith } in
@@ -140,12 +165,15 @@ turn_moved n job h s t one two k all node other slots fresh p =
     }
 
 -- one turn more
-pub over_next : (n : HeapNumbers) (IsSettled : Heap → Type 0) (turns : ℕ) (s t u : Seat FifoNote) → AreOver n IsSettled turns s t → IsOver n IsSettled t u → AreOver n IsSettled (turns + 1) s u
+pub over_next : (n : HeapNumbers) (IsSettled : Heap → Type 0) (turns : ℕ) (s t u : Seat FifoNote) → AreOver n IsSettled turns s t
+    → IsOver n IsSettled t u → AreOver n IsSettled (turns + 1) s u
 over_next n IsSettled turns s t u all one =
     let p = all.piece.puts in
     let q = one.piece.puts in
-    let j = join (6 * (turns + 1)) s t u all.piece.own one.piece.own [] p q (one.piece.slots ∙ all.piece.slots) (noted-append entries_in all.piece.own one.piece.own ∙ (ap (λ z. z ++ entries_of one.piece.own) all.piece.entries_are ∙ one.piece.entries_are))
-    (omega (arith, gives_in-append all.piece.own one.piece.own, all.piece.no_give, one.piece.no_give)) (omega (arith, length-append all.piece.own one.piece.own, all.piece.few, one.piece.few)) in
+    let j = join (6 * (turns + 1)) s t u all.piece.own one.piece.own [] p q (one.piece.slots ∙ all.piece.slots)
+    (noted-append entries_in all.piece.own one.piece.own ∙ (ap (λ z. z ++ entries_of one.piece.own) all.piece.entries_are ∙ one.piece.entries_are))
+    (omega (arith, gives_in-append all.piece.own one.piece.own, all.piece.no_give, one.piece.no_give))
+    (omega (arith, length-append all.piece.own one.piece.own, all.piece.few, one.piece.few)) in
     let moved : 1 ≤ moves_in (from_own s.agent q.part) = subst (λ (x : ℕ). 1 ≤ moves_in (from_own x q.part)) p.agent one.moved in
     let settles = subst (λ (x : ℕ). AllOwn x (from_own x q.part) → IsSettled (heap_of n u)) p.agent one.settles in
     let unsettled = subst (λ (x : ℕ). AllOwn x q.part → IsSettled (heap_of n t) → ⊥) p.agent one.unsettled in
@@ -163,7 +191,15 @@ over_next n IsSettled turns s t u all one =
 -- no turn yet
 pub over_none : (n : HeapNumbers) (IsSettled : Heap → Type 0) (s : Seat FifoNote) → AreOver n IsSettled 0 s s
 over_none n IsSettled s = record {
-  piece = record { own = []; slots = refl; puts = record { part = []; is = sym (append-nil s.seen); agent = refl; own_is = refl }; entries_are = refl; no_give = refl; few = omega arith };
+  piece = record {
+    own = [];
+    slots = refl;
+    puts = record { part = []; is = sym (append-nil s.seen); agent = refl; own_is = refl };
+    entries_are =
+        refl;
+    no_give = refl;
+    few = omega arith;
+  };
   fresh = refl;
   moved = omega arith;
   settles = λ some alone. absurd (omega (arith, some));
@@ -173,29 +209,57 @@ over_none n IsSettled s = record {
 pub tires_none : (n : HeapNumbers) (job : ℕ) (h : Hold) (s : Seat FifoNote) → HoldsNode n job h s → PutTires n job 0 h s s
 tires_none n job h s node =
     let over = over_none n TailIsLast s in
-    record { over = over; room = λ f. room_unseen n s s _ (record { part = []; is = sym (append-nil s.seen); agent = refl; own_is = refl }) refl (subst (λ z. FindsFull n s.agent s.seen z) (one_part s s _ [] over.piece.puts (record { part = []; is = sym (append-nil s.seen); agent = refl; own_is = refl })) f); node = node }
+    record {
+      over = over;
+      room = λ f. room_unseen n s s _ (record { part = []; is = sym (append-nil s.seen); agent = refl; own_is = refl }) refl
+          (subst (λ z. FindsFull n s.agent s.seen z)
+          (one_part s s _ [] over.piece.puts (record { part = []; is = sym (append-nil s.seen); agent = refl; own_is = refl })) f);
+      node = node;
+    }
 
-pub tires_next : (n : HeapNumbers) (job turns : ℕ) (h : Hold) (s t u : Seat FifoNote) → PutTires n job turns h s t → PutMissed n job h t u → PutTires n job (turns + 1) h s u
+pub tires_next : (n : HeapNumbers) (job turns : ℕ) (h : Hold) (s t u : Seat FifoNote) → PutTires n job turns h s t → PutMissed n job h t u
+    → PutTires n job (turns + 1) h s u
 tires_next n job turns h s t u all one =
     let over = over_next n TailIsLast turns s t u all.over one.over in
     record { over = over; room = room_join n s t u _ _ _ all.over.piece.puts one.over.piece.puts over.piece.puts all.room one.room; node = one.node }
 
 -- the help of the tail after other events
 pub ends_helping : (es fs : List (Event FifoNote)) → EndsHelping fs → EndsHelping (es ++ fs)
-ends_helping es fs h = record { before = es ++ h.before; tail = h.tail; look = h.look; sees = h.sees; rest = h.rest; es_are = ap (λ z. es ++ z) h.es_are ∙ sym (append_assoc es h.before (h.look ∷ h.rest)); swings = h.swings }
+ends_helping es fs h =
+    record {
+      before = es ++ h.before;
+      tail = h.tail;
+      look = h.look;
+      sees = h.sees;
+      rest = h.rest;
+      es_are =
+          ap (λ z. es ++ z) h.es_are ∙ sym (append_assoc es h.before (h.look ∷ h.rest));
+      swings = h.swings;
+    }
 
 -- the turn that answers
-pub turns_done : (n : HeapNumbers) (job turns more : ℕ) (h : Hold) (s t u : Seat FifoNote) (turn : PutTurn) → turn ≢ PutOver → turns < more → PutTires n job turns h s t → PutsTurn n job h t turn u → PutsTurns n job more h s turn u
+pub turns_done : (n : HeapNumbers) (job turns more : ℕ) (h : Hold) (s t u : Seat FifoNote) (turn : PutTurn) → turn ≢ PutOver → turns < more
+    → PutTires n job turns h s t → PutsTurn n job h t turn u → PutsTurns n job more h s turn u
 turns_done n job turns more h s t u PutOver ne low all one = absurd (ne refl)
 turns_done n job turns more h s t u (PutDone at) ne low all one =
     let q = all.over.piece in
     let r = one.piece in
-    let entries : entries_of (q.own ++ r.own) ≡ Put s.agent job at ∷ [] = noted-append entries_in q.own r.own ∙ (ap (λ z. z ++ entries_of r.own) q.entries_are ∙ (r.entries_are ∙ ap (λ (x : ℕ). Put x job at ∷ []) q.puts.agent)) in
-    let j = join (6 * more) s t u q.own r.own (Put s.agent job at ∷ []) q.puts r.puts (r.slots ∙ q.slots) entries (omega (arith, gives_in-append q.own r.own, q.no_give, r.no_give)) (omega (arith, length-append q.own r.own, q.few, r.few, low)) in
-    record { piece = j.piece; helps = subst EndsHelping (sym j.own_is) (ends_helping q.own r.own one.helps); fresh = one.fresh; low = one.low; room = room_join n s t u _ _ _ q.puts r.puts j.piece.puts all.room one.room }
+    let entries : entries_of (q.own ++ r.own) ≡ Put s.agent job at ∷ [] = noted-append entries_in q.own r.own
+    ∙ (ap (λ z. z ++ entries_of r.own) q.entries_are ∙ (r.entries_are ∙ ap (λ (x : ℕ). Put x job at ∷ []) q.puts.agent)) in
+    let j = join (6 * more) s t u q.own r.own (Put s.agent job at ∷ []) q.puts r.puts (r.slots ∙ q.slots) entries
+    (omega (arith, gives_in-append q.own r.own, q.no_give, r.no_give)) (omega (arith, length-append q.own r.own, q.few, r.few, low)) in
+    record {
+      piece = j.piece;
+      helps = subst EndsHelping (sym j.own_is) (ends_helping q.own r.own one.helps);
+      fresh = one.fresh;
+      low = one.low;
+      room =
+          room_join n s t u _ _ _ q.puts r.puts j.piece.puts all.room one.room;
+    }
 turns_done n job turns more h s t u Full ne low all one =
     let q = all.over.piece in
     let r = one.piece in
     let entries : entries_of (q.own ++ r.own) ≡ [] = noted-append entries_in q.own r.own ∙ (ap (λ z. z ++ entries_of r.own) q.entries_are ∙ r.entries_are) in
-    let j = join (6 * more) s t u q.own r.own [] q.puts r.puts (r.slots ∙ q.slots) entries (omega (arith, gives_in-append q.own r.own, q.no_give, r.no_give)) (omega (arith, length-append q.own r.own, q.few, r.few, low)) in
+    let j = join (6 * more) s t u q.own r.own [] q.puts r.puts (r.slots ∙ q.slots) entries
+    (omega (arith, gives_in-append q.own r.own, q.no_give, r.no_give)) (omega (arith, length-append q.own r.own, q.few, r.few, low)) in
     record { piece = j.piece; fresh = one.fresh ∙ all.over.fresh; full = full_join_right n s t u _ _ _ q.puts r.puts j.piece.puts one.full }

@@ -38,19 +38,22 @@ enough : {i j : ℕ} → 1 ≤ i → i ≤ j → 1 ≤ j
 enough p q = omega (arith, p, q)
 
 -- the head's link was null
-module _ (n : HeapNumbers) (head : ℕ) (s a t : Seat FifoNote) (linked : IsLinkedNode (heap_of n s) head) (p : Puts s (event_of s (Look (Next head) null) None ∷ []) a) (all_a : AllAllowed (FifoMay n) [] a.seen)
+module _ (n : HeapNumbers) (head : ℕ) (s a t : Seat FifoNote) (linked : IsLinkedNode (heap_of n s) head)
+    (p : Puts s (event_of s (Look (Next head) null) None ∷ []) a) (all_a : AllAllowed (FifoMay n) [] a.seen)
     (slots : a.slots ≡ s.slots) (fresh : a.fresh ≡ s.fresh)
   where
     pub behind_empty : TakesNone 1 a t → TakesNone 4 s t
     behind_empty l =
         let q = l.piece in
-        let j = join 4 s a t (event_of s (Look (Next head) null) None ∷ []) q.own (Empty s.agent ∷ []) p q.puts (q.slots ∙ slots) (q.entries_are ∙ ap (λ (x : ℕ). Empty x ∷ []) p.agent) (omega (arith, q.no_give)) (omega (arith, q.few)) in
+        let j = join 4 s a t (event_of s (Look (Next head) null) None ∷ []) q.own (Empty s.agent ∷ []) p q.puts (q.slots ∙ slots)
+        (q.entries_are ∙ ap (λ (x : ℕ). Empty x ∷ []) p.agent) (omega (arith, q.no_give)) (omega (arith, q.few)) in
         record { piece = j.piece; fresh = l.fresh ∙ fresh }
 
     pub behind_lost : Stops n 1 (Next head) null (λ own. ⊥) a t → Stops n 4 (Root 0) (link_to head) (HelpsHead s head) s t
     behind_lost l =
         let q = l.piece in
-        let j = join 4 s a t (event_of s (Look (Next head) null) None ∷ []) q.own [] p q.puts (q.slots ∙ slots) q.entries_are (omega (arith, q.no_give)) (omega (arith, q.few)) in
+        let j = join 4 s a t (event_of s (Look (Next head) null) None ∷ []) q.own [] p q.puts (q.slots ∙ slots) q.entries_are
+        (omega (arith, q.no_give)) (omega (arith, q.few)) in
         let found = look_found n (FifoMay n) (λ es x k. k.fits) s a (Next head) null None [] [] p all_a linked in
         record {
           piece = j.piece;
@@ -59,11 +62,13 @@ module _ (n : HeapNumbers) (head : ℕ) (s a t : Seat FifoNote) (linked : IsLink
             | inl still ↦ omega (arith, l.moved still, moves_right s a t _ _ _ p q.puts j.piece.puts)
             | inr some ↦ omega (arith, some, moves_from_own s.agent p.part, moves_left s a t _ _ _ p q.puts j.piece.puts)
           ];
-          own_moves = inl (ap (λ (z : List (Event FifoNote)). moves_in z) j.own_is ∙ elim l.own_moves [ inl none ↦ omega (arith, none) | inr bad ↦ absurd bad ]);
+          own_moves = inl
+              (ap (λ (z : List (Event FifoNote)). moves_in z) j.own_is ∙ elim l.own_moves [ inl none ↦ omega (arith, none) | inr bad ↦ absurd bad ]);
         }
 
 -- the head's link led to a node
-module _ (n : HeapNumbers) (head next : ℕ) (s a b t : Seat FifoNote) (p : Puts s (event_of s (Look (Next head) (link_to next)) None ∷ event_of s (Look (Next head) (link_to next)) None ∷ []) a)
+module _ (n : HeapNumbers) (head next : ℕ) (s a b t : Seat FifoNote)
+    (p : Puts s (event_of s (Look (Next head) (link_to next)) None ∷ event_of s (Look (Next head) (link_to next)) None ∷ []) a)
     (all_a : AllAllowed (FifoMay n) [] a.seen) (freed : Puts b [] t) (slots : t.slots ≡ s.slots) (fresh_a : a.fresh ≡ s.fresh) (fresh_t : t.fresh ≡ b.fresh)
   where
     pub behind_over : TakesNext n head next a None b → Stops n 4 (Root 0) (link_to head) (HelpsHead s head) s t
@@ -93,11 +98,13 @@ module _ (n : HeapNumbers) (head next : ℕ) (s a b t : Seat FifoNote) (p : Puts
     behind_taken job at l =
         let q0 = l.piece in
         let q = puts_released a b t q0.own q0.puts freed in
-        let j = join 4 s a t _ q0.own (Took s.agent job at ∷ []) p q slots (q0.entries_are ∙ ap (λ (x : ℕ). Took x job at ∷ []) p.agent) (omega (arith, q0.no_give)) (omega (arith, q0.few)) in
+        let j = join 4 s a t _ q0.own (Took s.agent job at ∷ []) p q slots (q0.entries_are ∙ ap (λ (x : ℕ). Took x job at ∷ []) p.agent)
+        (omega (arith, q0.no_give)) (omega (arith, q0.few)) in
         record { piece = j.piece; fresh = fresh_t ∙ (l.fresh ∙ fresh_a) }
 
 -- the head's link moved between two looks
-pub behind_differs : (n : HeapNumbers) (head : ℕ) (s t : Seat FifoNote) (one two : Link) → AllAllowed (FifoMay n) [] t.seen → IsLinkedNode (heap_of n s) head → one ≢ two → t.slots ≡ s.slots → t.fresh ≡ s.fresh
+pub behind_differs : (n : HeapNumbers) (head : ℕ) (s t : Seat FifoNote) (one two : Link) → AllAllowed (FifoMay n) [] t.seen
+    → IsLinkedNode (heap_of n s) head → one ≢ two → t.slots ≡ s.slots → t.fresh ≡ s.fresh
     → Puts s (event_of s (Look (Next head) one) None ∷ event_of s (Look (Next head) two) None ∷ []) t → Stops n 4 (Root 0) (link_to head) (HelpsHead s head) s t
 behind_differs n head s t one two all linked other slots fresh p = record {
   piece = record { own = _; slots = slots; puts = p; entries_are = refl; no_give = refl; few = omega arith };
@@ -142,7 +149,8 @@ module _ (n : HeapNumbers) (s : Seat FifoNote) (one : Link) (head next : ℕ) wh
   abbrev helping : List (Event FifoNote)
   helping = at_next ∷ at_next ∷ at_tail ∷ swing ∷ []
 
-  helped_settles : (es : List (Event FifoNote)) → FifoHolds n es → has_begun es ≡ true → AllAllowed (FifoMay n) es (at_first ∷ at_head ∷ helping) → TailIsPast (run_heap n (es ++ at_first ∷ at_head ∷ helping))
+  helped_settles : (es : List (Event FifoNote)) → FifoHolds n es → has_begun es ≡ true → AllAllowed (FifoMay n) es (at_first ∷ at_head ∷ helping)
+      → TailIsPast (run_heap n (es ++ at_first ∷ at_head ∷ helping))
   helped_settles es holds begun all =
       let looks : List (Event FifoNote) = at_first ∷ at_head ∷ at_next ∷ at_next ∷ at_tail ∷ [] in
       let first = allowed-left (FifoMay n) es looks (swing ∷ []) all in
@@ -165,8 +173,10 @@ module _ (n : HeapNumbers) (s : Seat FifoNote) (one : Link) (head next : ℕ) wh
       settled.tail_apart (tail_is ∙ ap (λ (x : ℕ). Some (link_to x)) (sym head_same))
 
 -- from a look of the head to its release
-module _ (n : HeapNumbers) (one : Link) (head : ℕ) (s a b t : Seat FifoNote) (k : Known n s.seen) (all_a : AllAllowed (FifoMay n) [] a.seen) (all_t : AllAllowed (FifoMay n) [] t.seen)
-    (p : Puts s (event_of s (Look (Root 0) one) None ∷ event_of s (Look (Root 0) (link_to head)) None ∷ []) a) (freed : Puts b [] t) (slots : t.slots ≡ s.slots) (fresh_a : a.fresh ≡ s.fresh) (fresh_t : t.fresh ≡ b.fresh)
+module _ (n : HeapNumbers) (one : Link) (head : ℕ) (s a b t : Seat FifoNote) (k : Known n s.seen) (all_a : AllAllowed (FifoMay n) [] a.seen)
+    (all_t : AllAllowed (FifoMay n) [] t.seen)
+    (p : Puts s (event_of s (Look (Root 0) one) None ∷ event_of s (Look (Root 0) (link_to head)) None ∷ []) a) (freed : Puts b [] t)
+    (slots : t.slots ≡ s.slots) (fresh_a : a.fresh ≡ s.fresh) (fresh_t : t.fresh ≡ b.fresh)
   where
     pub turn_taken : (turn : TakeTurn) → TakesBehind n head a turn b → TakesTurn n s turn t
     turn_taken TakeOver l =
@@ -180,42 +190,56 @@ module _ (n : HeapNumbers) (one : Link) (head : ℕ) (s a b t : Seat FifoNote) (
           | inl none ↦ over_missed n TailIsPast 0 head one s a t k all_a all_t p q0.own q j fresh moved none
           | inr helped ↦
               let next : ℕ = helped.0 in
-              let is : q0.own ≡ helping n s one head next = helped.1 ∙ ap (λ (x : ℕ). record { agent = x; act = Look (Next head) (link_to next); note = None } ∷ record { agent = x; act = Look (Next head) (link_to next); note = None }
-              ∷ record { agent = x; act = Look (Root 1) (link_to head); note = None } ∷ record { agent = x; act = Move (Root 1) (link_to head) (link_to next); note = Some Swing } ∷ []) p.agent in
+              let is : q0.own ≡ helping n s one head next =
+              helped.1 ∙ ap (λ (x : ℕ). record { agent = x; act = Look (Next head) (link_to next); note = None }
+              ∷ record { agent = x; act = Look (Next head) (link_to next); note = None }
+              ∷ record { agent = x; act = Look (Root 1) (link_to head); note = None }
+              ∷ record { agent = x; act = Move (Root 1) (link_to head) (link_to next); note = Some Swing } ∷ []) p.agent in
               over_helped n TailIsPast 0 head one s a t k all_a all_t p q0.own q j fresh moved
               (λ es holds begun all. subst (λ z. TailIsPast (run_heap n (es ++ at_first n s one head 0 ∷ at_head n s one head 0 ∷ z))) (sym is)
-              (helped_settles n s one head next es holds begun (subst (λ z. AllAllowed (FifoMay n) es (at_first n s one head 0 ∷ at_head n s one head 0 ∷ z)) is all)))
-              (λ es all settled. helped_unsettled n s one head next es (subst (λ z. AllAllowed (FifoMay n) es (at_first n s one head 0 ∷ at_head n s one head 0 ∷ z)) is all) settled)
+              (helped_settles n s one head next es holds begun
+              (subst (λ z. AllAllowed (FifoMay n) es (at_first n s one head 0 ∷ at_head n s one head 0 ∷ z)) is all)))
+              (λ es all settled. helped_unsettled n s one head next es
+              (subst (λ z. AllAllowed (FifoMay n) es (at_first n s one head 0 ∷ at_head n s one head 0 ∷ z)) is all) settled)
         ]
     turn_taken (TakeDone job at) l =
         let q0 = l.piece in
         let q = puts_released a b t q0.own q0.puts freed in
-        let j = join 6 s a t _ q0.own (Took s.agent job at ∷ []) p q slots (q0.entries_are ∙ ap (λ (x : ℕ). Took x job at ∷ []) p.agent) (omega (arith, q0.no_give)) (omega (arith, q0.few)) in
+        let j = join 6 s a t _ q0.own (Took s.agent job at ∷ []) p q slots (q0.entries_are ∙ ap (λ (x : ℕ). Took x job at ∷ []) p.agent)
+        (omega (arith, q0.no_give)) (omega (arith, q0.few)) in
         record { piece = j.piece; fresh = fresh_t ∙ (l.fresh ∙ fresh_a) }
     turn_taken TakeEmpty l =
         let q0 = l.piece in
         let q = puts_released a b t q0.own q0.puts freed in
-        let j = join 6 s a t _ q0.own (Empty s.agent ∷ []) p q slots (q0.entries_are ∙ ap (λ (x : ℕ). Empty x ∷ []) p.agent) (omega (arith, q0.no_give)) (omega (arith, q0.few)) in
+        let j = join 6 s a t _ q0.own (Empty s.agent ∷ []) p q slots (q0.entries_are ∙ ap (λ (x : ℕ). Empty x ∷ []) p.agent)
+        (omega (arith, q0.no_give)) (omega (arith, q0.few)) in
         record { piece = j.piece; fresh = fresh_t ∙ (l.fresh ∙ fresh_a) }
 
 -- the head moved between two looks
-pub turn_differs : (n : HeapNumbers) (s t : Seat FifoNote) (one two : Link) → AllAllowed (FifoMay n) [] t.seen → one ≢ two → t.slots ≡ s.slots → t.fresh ≡ s.fresh
+pub turn_differs : (n : HeapNumbers) (s t : Seat FifoNote) (one two : Link) → AllAllowed (FifoMay n) [] t.seen → one ≢ two → t.slots ≡ s.slots
+    → t.fresh ≡ s.fresh
     → Puts s (event_of s (Look (Root 0) one) None ∷ event_of s (Look (Root 0) two) None ∷ []) t → IsOver n TailIsPast s t
 turn_differs n s t one two all other slots fresh p =
-    over_quiet n TailIsPast s t (record { own = _; slots = slots; puts = p; entries_are = refl; no_give = refl; few = omega arith }) fresh refl (looks_differ n (FifoMay n) (λ es x k. k.fits) s t (Root 0) one two p all tt other)
+    over_quiet n TailIsPast s t (record { own = _; slots = slots; puts = p; entries_are = refl; no_give = refl; few = omega arith }) fresh refl
+    (looks_differ n (FifoMay n) (λ es x k. k.fits) s t (Root 0) one two p all tt other)
 
 -- the turn that answers
-pub turns_taken : (n : HeapNumbers) (turns more : ℕ) (s t u : Seat FifoNote) (turn : TakeTurn) → turn ≢ TakeOver → turns < more → AreOver n TailIsPast turns s t → TakesTurn n t turn u → TakesTurns n more s turn u
+pub turns_taken : (n : HeapNumbers) (turns more : ℕ) (s t u : Seat FifoNote) (turn : TakeTurn) → turn ≢ TakeOver → turns < more
+    → AreOver n TailIsPast turns s t → TakesTurn n t turn u → TakesTurns n more s turn u
 turns_taken n turns more s t u TakeOver ne low all one = absurd (ne refl)
 turns_taken n turns more s t u (TakeDone job at) ne low all one =
     let q = all.piece in
     let r = one.piece in
-    let entries : entries_of (q.own ++ r.own) ≡ Took s.agent job at ∷ [] = noted-append entries_in q.own r.own ∙ (ap (λ z. z ++ entries_of r.own) q.entries_are ∙ (r.entries_are ∙ ap (λ (x : ℕ). Took x job at ∷ []) q.puts.agent)) in
-    let j = join (6 * more) s t u q.own r.own (Took s.agent job at ∷ []) q.puts r.puts (r.slots ∙ q.slots) entries (omega (arith, gives_in-append q.own r.own, q.no_give, r.no_give)) (omega (arith, length-append q.own r.own, q.few, r.few, low)) in
+    let entries : entries_of (q.own ++ r.own) ≡ Took s.agent job at ∷ [] = noted-append entries_in q.own r.own
+    ∙ (ap (λ z. z ++ entries_of r.own) q.entries_are ∙ (r.entries_are ∙ ap (λ (x : ℕ). Took x job at ∷ []) q.puts.agent)) in
+    let j = join (6 * more) s t u q.own r.own (Took s.agent job at ∷ []) q.puts r.puts (r.slots ∙ q.slots) entries
+    (omega (arith, gives_in-append q.own r.own, q.no_give, r.no_give)) (omega (arith, length-append q.own r.own, q.few, r.few, low)) in
     (λ none. omega (arith, none, low), record { piece = j.piece; fresh = one.fresh ∙ all.fresh })
 turns_taken n turns more s t u TakeEmpty ne low all one =
     let q = all.piece in
     let r = one.piece in
-    let entries : entries_of (q.own ++ r.own) ≡ Empty s.agent ∷ [] = noted-append entries_in q.own r.own ∙ (ap (λ z. z ++ entries_of r.own) q.entries_are ∙ (r.entries_are ∙ ap (λ (x : ℕ). Empty x ∷ []) q.puts.agent)) in
-    let j = join (6 * more) s t u q.own r.own (Empty s.agent ∷ []) q.puts r.puts (r.slots ∙ q.slots) entries (omega (arith, gives_in-append q.own r.own, q.no_give, r.no_give)) (omega (arith, length-append q.own r.own, q.few, r.few, low)) in
+    let entries : entries_of (q.own ++ r.own) ≡ Empty s.agent ∷ [] = noted-append entries_in q.own r.own
+    ∙ (ap (λ z. z ++ entries_of r.own) q.entries_are ∙ (r.entries_are ∙ ap (λ (x : ℕ). Empty x ∷ []) q.puts.agent)) in
+    let j = join (6 * more) s t u q.own r.own (Empty s.agent ∷ []) q.puts r.puts (r.slots ∙ q.slots) entries
+    (omega (arith, gives_in-append q.own r.own, q.no_give, r.no_give)) (omega (arith, length-append q.own r.own, q.few, r.few, low)) in
     (λ none. omega (arith, none, low), record { piece = j.piece; fresh = one.fresh ∙ all.fresh })

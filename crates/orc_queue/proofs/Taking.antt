@@ -40,7 +40,8 @@ use Rattle.orc_heap.proofs.Pieces.{moves_left, moves_right, unless_other}
 use Rattle.orc_heap.proofs.Moments.{look_found, miss_moved, seen_is, since}
 
 -- the test of the head's link
-pub end_found : (n : HeapNumbers) (s t : Seat FifoNote) (head : Bor Hold) (agent : ℕ) (done : Bool) → agent ≡ s.agent → IsLinkedNode (heap_of n s) (id_in s.slots head.now) → AllAllowed (FifoMay n) [] t.seen
+pub end_found : (n : HeapNumbers) (s t : Seat FifoNote) (head : Bor Hold) (agent : ℕ) (done : Bool) → agent ≡ s.agent
+    → IsLinkedNode (heap_of n s) (id_in s.slots head.now) → AllAllowed (FifoMay n) [] t.seen
     → Tests (AtNode head) (WantNull false) (Some (Entry (Empty agent))) s done t → FindsEnd n (id_in s.slots head.now) s done t
 end_found n s t head agent true agent_is linked all w = record {
   piece = record { own = _; slots = w.slots; puts = w.puts; entries_are = ap (λ (x : ℕ). Empty x ∷ []) agent_is; no_give = refl; few = omega arith };
@@ -54,28 +55,43 @@ end_found n s t head agent false agent_is linked all w = record {
 }
 
 -- the values of the successor
-pub second_read : (n : HeapNumbers) (es : List (Event FifoNote)) (id job at value : ℕ) → HasJob (run_heap n es) id job at → ReadsValue (run_heap n es) id 1 value → value ≡ at + 1
+pub second_read : (n : HeapNumbers) (es : List (Event FifoNote)) (id job at value : ℕ) → HasJob (run_heap n es) id job at
+    → ReadsValue (run_heap n es) id 1 value → value ≡ at + 1
 second_read n es id job at value j r =
     let both : Some r.node ≡ Some j.node = sym r.there ∙ j.there in
     let same : r.node ≡ j.node = cc in
     r.is (at + 1) (ap (λ (x : Node). x.second) same ∙ j.holds.position_is)
 
-pub job_puts : (n : HeapNumbers) (s t : Seat FifoNote) (own : List (Event FifoNote)) (p : Puts s own t) → AllAllowed (FifoMay n) [] t.seen → (id job at : ℕ) → HasJob (heap_of n s) id job at → HasJob (heap_of n t) id job at
-job_puts n s t own p all id job at j = subst (λ es. HasJob (run_heap n es) id job at) (sym p.is) (job_later n s.seen p.part id job at j (part_allowed (FifoMay n) s t own p all))
+pub job_puts : (n : HeapNumbers) (s t : Seat FifoNote) (own : List (Event FifoNote)) (p : Puts s own t) → AllAllowed (FifoMay n) [] t.seen
+    → (id job at : ℕ) → HasJob (heap_of n s) id job at → HasJob (heap_of n t) id job at
+job_puts n s t own p all id job at j =
+    subst (λ es. HasJob (run_heap n es) id job at) (sym p.is) (job_later n s.seen p.part id job at j (part_allowed (FifoMay n) s t own p all))
 
 -- the swing of the head, after nothing of the pass's own
-pub head_swung : (n : HeapNumbers) (s b t : Seat FifoNote) (head next : Bor Hold) (agent job at : ℕ) (done : Bool) → agent ≡ s.agent → Only [] s b → AllAllowed (FifoMay n) [] t.seen
-    → Swings (AtRoot 0) (WantNode head false) (WantNode next false) (Some (Entry (Took agent job at))) b done t → done ≡ true → b.fresh ≢ Some (id_in b.slots next.now) → TakesJob 1 job at s t
+pub head_swung : (n : HeapNumbers) (s b t : Seat FifoNote) (head next : Bor Hold) (agent job at : ℕ) (done : Bool) → agent ≡ s.agent → Only [] s b
+    → AllAllowed (FifoMay n) [] t.seen
+    → Swings (AtRoot 0) (WantNode head false) (WantNode next false) (Some (Entry (Took agent job at))) b done t → done ≡ true
+    → b.fresh ≢ Some (id_in b.slots next.now) → TakesJob 1 job at s t
 head_swung n s b t head next agent job at true agent_is o all w is other =
     let p = Puts-trans s b t [] _ o.puts w.puts in
     record {
-      piece = record { own = _; slots = w.slots ∙ o.slots; puts = p; entries_are = ap (λ (x : ℕ). Took x job at ∷ []) agent_is; no_give = refl; few = omega arith };
+      piece = record {
+        own = _;
+        slots = w.slots ∙ o.slots;
+        puts = p;
+        entries_are = ap (λ (x : ℕ). Took x job at ∷ []) agent_is;
+        no_give = refl;
+        few =
+            omega arith;
+      };
       fresh = w.fresh ∙ (unless_other b.fresh (id_in b.slots next.now) other ∙ o.fresh);
     }
 head_swung n s b t head next agent job at false agent_is o all w is other = cc
 
-pub head_missed : (n : HeapNumbers) (s b t : Seat FifoNote) (head next : Bor Hold) (noted : Option FifoNote) (done : Bool) → Only [] s b → AllAllowed (FifoMay n) [] t.seen
-    → Swings (AtRoot 0) (WantNode head false) (WantNode next false) noted b done t → done ≡ false → Stops n 1 (Root 0) (link_to (id_in s.slots head.now)) (λ own. ⊥) s t
+pub head_missed : (n : HeapNumbers) (s b t : Seat FifoNote) (head next : Bor Hold) (noted : Option FifoNote) (done : Bool) → Only [] s b
+    → AllAllowed (FifoMay n) [] t.seen
+    → Swings (AtRoot 0) (WantNode head false) (WantNode next false) noted b done t → done ≡ false
+    → Stops n 1 (Root 0) (link_to (id_in s.slots head.now)) (λ own. ⊥) s t
 head_missed n s b t head next noted true o all w is = cc
 head_missed n s b t head next noted false o all w is =
     let p = Puts-trans s b t [] _ o.puts w.puts.puts in
@@ -89,7 +105,8 @@ head_missed n s b t head next noted false o all w is =
     }
 
 -- over a piece a root still shows the link, or a Move stands in what is new
-pub still_puts : (n : HeapNumbers) (s t : Seat FifoNote) (own : List (Event FifoNote)) (p : Puts s own t) → AllAllowed (FifoMay n) [] t.seen → (root : ℕ) (link : Link) → shown (heap_of n s) (Root root) ≡ Some link
+pub still_puts : (n : HeapNumbers) (s t : Seat FifoNote) (own : List (Event FifoNote)) (p : Puts s own t) → AllAllowed (FifoMay n) [] t.seen
+    → (root : ℕ) (link : Link) → shown (heap_of n s) (Root root) ≡ Some link
     → (shown (heap_of n t) (Root root) ≡ Some link) ⊎ (1 ≤ moves_in p.part)
 still_puts n s t own p all root link at =
     elim (shown_or_moved n (FifoMay n) (λ es x k. k.fits) (Root root) link s.seen p.part tt (part_allowed (FifoMay n) s t own p all) at) [
@@ -98,13 +115,16 @@ still_puts n s t own p all root link at =
     ]
 
 -- the tail named the head: it was helped on
-pub past_helped : (n : HeapNumbers) (head next : ℕ) (place : Place) (link : Link) (s a b : Seat FifoNote) (p : Puts s (event_of s (Look (Root 1) (link_to head)) None ∷ []) a) → AllAllowed (FifoMay n) [] a.seen → AllAllowed (FifoMay n) [] b.seen
+pub past_helped : (n : HeapNumbers) (head next : ℕ) (place : Place) (link : Link) (s a b : Seat FifoNote)
+    (p : Puts s (event_of s (Look (Root 1) (link_to head)) None ∷ []) a) → AllAllowed (FifoMay n) [] a.seen → AllAllowed (FifoMay n) [] b.seen
     → a.slots ≡ s.slots → a.fresh ≡ s.fresh → Helps head next a b → Stops n 2 place link (HelpsPast s head next) s b
 past_helped n head next place link s a b p all_a all_b slots fresh helped = elim helped.either [
   | inl moved ↦
       let act = Move (Root 1) (link_to head) (link_to next) in
-      let q : Puts a (event_of s act (Some Swing) ∷ []) b = subst (λ (x : ℕ). Puts a (record { agent = x; act = act; note = Some Swing } ∷ []) b) p.agent moved in
-      let j = join 2 s a b (event_of s (Look (Root 1) (link_to head)) None ∷ []) (event_of s act (Some Swing) ∷ []) [] p q (helped.slots ∙ slots) refl refl (omega arith) in
+      let q : Puts a (event_of s act (Some Swing) ∷ []) b =
+      subst (λ (x : ℕ). Puts a (record { agent = x; act = act; note = Some Swing } ∷ []) b) p.agent moved in
+      let j = join 2 s a b (event_of s (Look (Root 1) (link_to head)) None ∷ []) (event_of s act (Some Swing) ∷ []) [] p q
+      (helped.slots ∙ slots) refl refl (omega arith) in
       record {
         piece = j.piece;
         fresh = helped.fresh ∙ fresh;
@@ -118,7 +138,13 @@ past_helped n head next place link s a b p all_a all_b slots fresh helped = elim
         piece = j.piece;
         fresh = helped.fresh ∙ fresh;
         moved = λ at. elim found [
-          | inl still ↦ omega (arith, miss_moved n (FifoMay n) (λ es x k. k.fits) a b (Root 1) (link_to head) missed.found [] _ [] missed.puts refl all_b tt missed.other still, moves_right s a b _ _ _ p missed.puts j.piece.puts)
+          | inl still ↦
+              omega (
+                arith,
+                miss_moved n (FifoMay n) (λ es x k. k.fits) a b (Root 1) (link_to head) missed.found [] _ [] missed.puts refl all_b tt missed.other
+                    still,
+                moves_right s a b _ _ _ p missed.puts j.piece.puts,
+              )
           | inr some ↦ omega (arith, some, moves_from_own s.agent p.part, moves_left s a b _ _ _ p missed.puts j.piece.puts)
         ];
         own_moves = inl (ap (λ (z : List (Event FifoNote)). moves_in z) j.own_is);
@@ -126,7 +152,8 @@ past_helped n head next place link s a b p all_a all_b slots fresh helped = elim
 ]
 
 -- the tail named another node: it has left the head
-pub past_left : (n : HeapNumbers) (head : ℕ) (s a : Seat FifoNote) → Known n s.seen → AllAllowed (FifoMay n) [] a.seen → WasNamed (heap_of n s) 0 head → Misses (Root 1) (link_to head) s a → IsLeft (heap_of n a) head
+pub past_left : (n : HeapNumbers) (head : ℕ) (s a : Seat FifoNote) → Known n s.seen → AllAllowed (FifoMay n) [] a.seen → WasNamed (heap_of n s) 0 head
+    → Misses (Root 1) (link_to head) s a → IsLeft (heap_of n a) head
 past_left n head s a k all named miss =
     let e : Event FifoNote = event_of s (Miss (Root 1) (link_to head) miss.found) None in
     let m = Puts-stood (FifoMay n) s a [] e [] miss.puts all in
@@ -137,11 +164,15 @@ past_left n head s a k all named miss =
     subst (λ z. IsLeft (run_heap n z) head) (sym (miss.puts.is ∙ seen_is m)) (left_later n es (e ∷ m.later) head holds begun left (since m))
 
 -- and then the job was taken, or not
-pub past_taken : (n : HeapNumbers) (head next : ℕ) (s a t : Seat FifoNote) (own : List (Event FifoNote)) (p : Puts s own a) → AllAllowed (FifoMay n) [] a.seen → a.slots ≡ s.slots → a.fresh ≡ s.fresh
-    → entries_of own ≡ [] → gives_in own ≡ 0 → moves_in own ≡ 0 → length own ≤ 1 → (got : Option (ℕ × ℕ)) → TakesFrom n head a got t → TakesNext n head next s got t
+pub past_taken : (n : HeapNumbers) (head next : ℕ) (s a t : Seat FifoNote) (own : List (Event FifoNote)) (p : Puts s own a)
+    → AllAllowed (FifoMay n) [] a.seen → a.slots ≡ s.slots → a.fresh ≡ s.fresh
+    → entries_of own ≡ [] → gives_in own ≡ 0 → moves_in own ≡ 0 → length own ≤ 1 → (got : Option (ℕ × ℕ)) → TakesFrom n head a got t
+    → TakesNext n head next s got t
 past_taken n head next s a t own p all slots fresh no_entry no_give no_move one None l =
     let q = l.piece in
-    let j = join 2 s a t own q.own [] p q.puts (q.slots ∙ slots) (noted-append entries_in own q.own ∙ (ap (λ z. z ++ entries_of q.own) no_entry ∙ q.entries_are)) (omega (arith, gives_in-append own q.own, no_give, q.no_give)) (omega (arith, length-append own q.own, one, q.few)) in
+    let j = join 2 s a t own q.own [] p q.puts (q.slots ∙ slots)
+    (noted-append entries_in own q.own ∙ (ap (λ z. z ++ entries_of q.own) no_entry ∙ q.entries_are))
+    (omega (arith, gives_in-append own q.own, no_give, q.no_give)) (omega (arith, length-append own q.own, one, q.few)) in
     record {
       piece = j.piece;
       fresh = l.fresh ∙ fresh;
@@ -149,24 +180,36 @@ past_taken n head next s a t own p all slots fresh no_entry no_give no_move one 
         | inl still ↦ omega (arith, l.moved still, moves_right s a t _ _ _ p q.puts j.piece.puts)
         | inr some ↦ omega (arith, some, moves_left s a t _ _ _ p q.puts j.piece.puts)
       ];
-      own_moves = inl (ap (λ (z : List (Event FifoNote)). moves_in z) j.own_is ∙ elim l.own_moves [ inl none ↦ omega (arith, moves_in-append own q.own, no_move, none) | inr bad ↦ absurd bad ]);
+      own_moves = inl
+          (ap (λ (z : List (Event FifoNote)). moves_in z) j.own_is
+          ∙ elim l.own_moves [ inl none ↦ omega (arith, moves_in-append own q.own, no_move, none) | inr bad ↦ absurd bad ]);
     }
 past_taken n head next s a t own p all slots fresh no_entry no_give no_move one (Some got) l =
     let q = l.piece in
     let entries : entries_of (own ++ q.own) ≡ Took s.agent got.0 got.1 ∷ [] =
     noted-append entries_in own q.own ∙ (ap (λ z. z ++ entries_of q.own) no_entry ∙ (q.entries_are ∙ ap (λ (x : ℕ). Took x got.0 got.1 ∷ []) p.agent)) in
-    let j = join 2 s a t own q.own (Took s.agent got.0 got.1 ∷ []) p q.puts (q.slots ∙ slots) entries (omega (arith, gives_in-append own q.own, no_give, q.no_give)) (omega (arith, length-append own q.own, one, q.few)) in
+    let j = join 2 s a t own q.own (Took s.agent got.0 got.1 ∷ []) p q.puts (q.slots ∙ slots) entries
+    (omega (arith, gives_in-append own q.own, no_give, q.no_give)) (omega (arith, length-append own q.own, one, q.few)) in
     record { piece = j.piece; fresh = l.fresh ∙ fresh }
 
 -- the Took may come
-pub took_may : (n : HeapNumbers) (s b : Seat FifoNote) (head next : Hold) (job at agent read_job read_at : ℕ) → Only [] s b → Known n b.seen → Known n s.seen → agent ≡ b.agent → read_job ≡ job → read_at ≡ at
-    → IsLeft (heap_of n s) (id_in s.slots head) → HasLink (heap_of n s) (id_in s.slots head) (link_to (id_in s.slots next)) → HasJob (heap_of n b) (id_in s.slots next) job at
-    → AllowedLater (FifoMay n) n b.agent b.seen (Root 0) (link_to (id_in b.slots head)) (event_of b (Move (Root 0) (link_to (id_in b.slots head)) (link_to (id_in b.slots next))) (Some (Entry (Took agent read_job read_at))))
+pub took_may : (n : HeapNumbers) (s b : Seat FifoNote) (head next : Hold) (job at agent read_job read_at : ℕ) → Only [] s b → Known n b.seen
+    → Known n s.seen → agent ≡ b.agent → read_job ≡ job → read_at ≡ at
+    → IsLeft (heap_of n s) (id_in s.slots head) → HasLink (heap_of n s) (id_in s.slots head) (link_to (id_in s.slots next))
+    → HasJob (heap_of n b) (id_in s.slots next) job at
+    → AllowedLater (FifoMay n) n b.agent b.seen (Root 0) (link_to (id_in b.slots head))
+    (event_of b (Move (Root 0) (link_to (id_in b.slots head)) (link_to (id_in b.slots next))) (Some (Entry (Took agent read_job read_at))))
 took_may n s b head next job at agent read_job read_at o kb ks agent_is job_is at_is left link has =
     let h = id_in s.slots head in
     let x = id_in s.slots next in
-    let may = took_allowed n b.agent h x job at b.seen kb.holds kb.dummy.begun (left_puts n s b [] o.puts kb.all h ks left) (link_puts n s b [] o.puts kb.all h x link) has in
-    let one = subst (λ (i : ℕ). AllowedLater (FifoMay n) n b.agent b.seen (Root 0) (link_to i) (event_of b (Move (Root 0) (link_to i) (link_to x)) (Some (Entry (Took b.agent job at))))) (sym (ap (λ z. id_in z head) o.slots)) may in
-    let two = subst (λ (i : ℕ). AllowedLater (FifoMay n) n b.agent b.seen (Root 0) (link_to (id_in b.slots head)) (event_of b (Move (Root 0) (link_to (id_in b.slots head)) (link_to i)) (Some (Entry (Took b.agent job at)))))
+    let may = took_allowed n b.agent h x job at b.seen kb.holds kb.dummy.begun (left_puts n s b [] o.puts kb.all h ks left)
+    (link_puts n s b [] o.puts kb.all h x link) has in
+    let one = subst
+    (λ (i : ℕ). AllowedLater (FifoMay n) n b.agent b.seen (Root 0) (link_to i)
+    (event_of b (Move (Root 0) (link_to i) (link_to x)) (Some (Entry (Took b.agent job at))))) (sym (ap (λ z. id_in z head) o.slots)) may in
+    let two = subst
+    (λ (i : ℕ). AllowedLater (FifoMay n) n b.agent b.seen (Root 0) (link_to (id_in b.slots head))
+    (event_of b (Move (Root 0) (link_to (id_in b.slots head)) (link_to i)) (Some (Entry (Took b.agent job at)))))
     (sym (ap (λ z. id_in z next) o.slots)) one in
-    subst (λ (e : QueueEntry). AllowedLater (FifoMay n) n b.agent b.seen (Root 0) (link_to (id_in b.slots head)) (event_of b (Move (Root 0) (link_to (id_in b.slots head)) (link_to (id_in b.slots next))) (Some (Entry e)))) (rw (agent_is, job_is, at_is) refl) two
+    subst (λ (e : QueueEntry). AllowedLater (FifoMay n) n b.agent b.seen (Root 0) (link_to (id_in b.slots head))
+    (event_of b (Move (Root 0) (link_to (id_in b.slots head)) (link_to (id_in b.slots next))) (Some (Entry e)))) (rw (agent_is, job_is, at_is) refl) two

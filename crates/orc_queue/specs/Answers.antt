@@ -36,7 +36,8 @@ abbrev pub CallFindsFull : HeapNumbers → Seat FifoNote → Seat FifoNote → T
 CallFindsFull n s t = FindsFull n s.agent s.seen (drop (length s.seen) t.seen)
 
 -- the call found no Look at the end without a position
-abbrev pub HasRoom : HeapNumbers → {given turns : ℕ} {s : Seat FifoNote} {entries : List QueueEntry} {t : Seat FifoNote} → IsCall given turns s entries t → Type 0
+abbrev pub HasRoom : HeapNumbers → {given turns : ℕ} {s : Seat FifoNote} {entries : List QueueEntry} {t : Seat FifoNote}
+    → IsCall given turns s entries t → Type 0
 HasRoom n {s = s} call = FindsFull n s.agent s.seen call.puts.part → ⊥
 
 -- how many nodes a put gives: none without a turn, or where none could be had; else one

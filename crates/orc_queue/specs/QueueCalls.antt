@@ -21,7 +21,8 @@ module _ {L D P S : Type 0} (members : LinksOf L D P S FifoNote) (links : L) whe
 
   -- all turns were used in the call's part of the journal
   abbrev pub UsesAllTurns : ℕ → P → P → Type 0
-  UsesAllTurns turns old new = InCall members links old new (UsesTurns members.agent_of (members.events links) (agent members links old) turns (members.journal new))
+  UsesAllTurns turns old new =
+      InCall members links old new (UsesTurns members.agent_of (members.events links) (agent members links old) turns (members.journal new))
 
   -- no row could be given to the call's agent in the part that the call had made by some time
   abbrev pub LacksRow : P → P → Type 0

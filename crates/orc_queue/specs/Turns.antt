@@ -113,7 +113,8 @@ KeepsTail es = list_any (λ e. moves_place (Root 1) e.act) es ≡ false
 -- the event swings root 1 on from this node, or finds that root 1 names it no more
 abbrev pub SwingsTail : ℕ → Event FifoNote → Type 0
 SwingsTail tail e =
-    ((next : ℕ) × (e ≡ record { agent = e.agent; act = Move (Root 1) (link_to tail) (link_to next); note = Some Swing })) ⊎ ((found : Link) × (e.act ≡ Miss (Root 1) (link_to tail) found))
+    ((next : ℕ) × (e ≡ record { agent = e.agent; act = Move (Root 1) (link_to tail) (link_to next); note = Some Swing }))
+    ⊎ ((found : Link) × (e.act ≡ Miss (Root 1) (link_to tail) found))
 
 -- the last of the events does so, and none before it moves root 1
 pub record SwingsLast (tail : ℕ) (es : List (Event FifoNote)) : Type 0 where

@@ -3,6 +3,7 @@
 
 mod put;
 mod queue;
+mod stopped;
 mod swings;
 mod take;
 

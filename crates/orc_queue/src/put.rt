@@ -45,7 +45,8 @@ pub(crate) fn link_node<L: Links<Rule = Fifo>>(
     requires named { WasNamed (run_heap (L.numbers links.now) (L.seat links.now p.old).seen) 1 (id_in (L.seat links.now p.old).slots tail.now) }
     ensures pass { L.belongs links.now p.new }
     ensures later { IsPrefix (L.journal p.old) (L.journal p.new) }
-    ensures linked { LinksBehind (L.numbers links.now) 2 KeepsTail job (id_in (L.seat links.now p.old).slots tail.now) node.now (L.seat links.now p.old) result (L.seat links.now p.new) }
+    ensures linked { LinksBehind (L.numbers links.now) 2 KeepsTail job (id_in (L.seat links.now p.old).slots tail.now) node.now
+        (L.seat links.now p.old) result (L.seat links.now p.new) }
 {
     let at = links.value(p, tail, 1);
     if at >= POSITIONS {
@@ -77,7 +78,8 @@ fn link_behind<L: Links<Rule = Fifo>>(
     requires named { WasNamed (run_heap (L.numbers links.now) (L.seat links.now p.old).seen) 1 (id_in (L.seat links.now p.old).slots tail.now) }
     ensures pass { L.belongs links.now p.new }
     ensures later { IsPrefix (L.journal p.old) (L.journal p.new) }
-    ensures linked { LinksBehind (L.numbers links.now) 3 (SwingsLast (id_in (L.seat links.now p.old).slots tail.now)) job (id_in (L.seat links.now p.old).slots tail.now) node.now (L.seat links.now p.old) result (L.seat links.now p.new) }
+    ensures linked { LinksBehind (L.numbers links.now) 3 (SwingsLast (id_in (L.seat links.now p.old).slots tail.now)) job
+        (id_in (L.seat links.now p.old).slots tail.now) node.now (L.seat links.now p.old) result (L.seat links.now p.new) }
 {
     match link_node(links, p, node, job, tail) {
         PutTurn::Put(at) => {
@@ -104,7 +106,8 @@ fn put_behind<L: Links<Rule = Fifo>>(
     requires named { WasNamed (run_heap (L.numbers links.now) (L.seat links.now p.old).seen) 1 (id_in (L.seat links.now p.old).slots tail.now) }
     ensures pass { L.belongs links.now p.new }
     ensures later { IsPrefix (L.journal p.old) (L.journal p.new) }
-    ensures put { PutsBehind (L.numbers links.now) job (id_in (L.seat links.now p.old).slots tail.now) node.now (L.seat links.now p.old) result (L.seat links.now p.new) }
+    ensures put { PutsBehind (L.numbers links.now) job (id_in (L.seat links.now p.old).slots tail.now) node.now (L.seat links.now p.old) result
+        (L.seat links.now p.new) }
 {
     match links.look(p, &At::Node(tail), 3) {
         Looked::Stable(_, None) => link_behind(links, p, node, job, tail),

@@ -16,6 +16,7 @@ ghost use Rattle.orc_queue.specs.QueueCalls.{Enters, EntersNone, FindsNoPosition
 ghost use Rattle.orc_queue.specs.Turns.{HasDummy};
 
 use crate::put::put_job;
+use crate::stopped::stop_a_put;
 use crate::take::take_job;
 use orc_fault::Again;
 use orc_fifo_rule::Fifo;
@@ -120,6 +121,20 @@ impl<L: Links<Rule = Fifo>> Queue<L> {
 }
 
 impl<L: Links<Rule = Fifo>> Queue<L> {
+    /// Links a node with the job behind the node that the tail names, in one try, and leaves the tail there: the state in
+    /// which a thread leaves the queue that is stopped in `put` before its last step. For tests of what the others do then.
+    /// Answers the job's position; None where nothing was linked, because no row or no position was left, or the tail
+    /// lagged or moved on meanwhile.
+    pub fn put_and_stop(&self, p: &mut L::Pass, job: u64) -> Option<u64>
+        requires pass { L.belongs self.now.links p.old }
+        requires idle { IsIdle (L.seat self.now.links p.old) }
+        ensures pass { L.belongs self.now.links p.new }
+        ensures idle { IsIdle (L.seat self.now.links p.new) }
+        ensures later { IsPrefix (L.journal p.old) (L.journal p.new) }
+    {
+        stop_a_put(&self.links, p, job)
+    }
+
     /// What the members of `SharedQueue` and `LearnQueue` mean here: the history is that of the domain's events, from
     /// the first position of its opening on; the domain's agents may step in between; each refusal has its cause.
     pub fn members(&self)

@@ -65,7 +65,12 @@ by_key-sorted key n (x ∷ xs) up low = first_out key n x xs up.0 low.0 ∙ ap (
 
 pub all_of : {X : Type 0} (P : X → Type 0) (xs : List X) → AllByRecursion P xs → All P xs
 all_of P [] h = λ i d low. absurd (omega (arith, low))
-all_of P (x ∷ xs) h = λ i d low. elim i as (λ i. i < suc (length xs) → P (slice_index_or (x ∷ xs) i d)) [ zero ↦ λ l. h.0 | suc j ↦ λ l. all_of P xs h.1 j d (omega (arith, l)) ] low
+all_of P (x ∷ xs) h =
+    λ i d low. elim i as (λ i. i < suc (length xs) → P (slice_index_or (x ∷ xs) i d)) [
+      | zero ↦ λ l. h.0
+      | suc j ↦
+          λ l. all_of P xs h.1 j d (omega (arith, l))
+    ] low
 
 ties-equal : (a b : ℕ) → (not (is_lt (nat_cmp a b)) && not (is_lt (nat_cmp b a))) ≡ (b == a)
 ties-equal a b = grind (arith, nat_tests)
@@ -78,10 +83,13 @@ by_key-stable {X} key n of_key names xs ys up stable moved low =
     λ k i x. sym (ties-equal (key (of_key k)) (key x) ∙ ap (λ z. key x == z) (names k)) i in
     let at : (k : ℕ) → k < n → filter (λ x. key x == k) ys ≡ filter (λ x. key x == k) xs =
     λ k l. ap (λ f. filter f ys) (tests k) ∙ (stable (of_key k) ∙ sym (ap (λ f. filter f xs) (tests k))) in
-    let few : AllByRecursion (λ x. key x < n) ys = every_at (λ x. key x < n) ys (All-permutation (λ x. key x < n) xs ys moved (all_of (λ x. key x < n) xs low)) in
+    let few : AllByRecursion (λ x. key x < n) ys =
+    every_at (λ x. key x < n) ys (All-permutation (λ x. key x < n) xs ys moved (all_of (λ x. key x < n) xs low)) in
     sym (by_key-sorted key n ys (Rises-from key ys up) few) ∙ same_keys key n ys xs at
 
 -- what holds of all holds in the order of keys
 pub AllByRecursion-by_key : {X : Type 0} (P : X → Type 0) (key : X → ℕ) (n : ℕ) (xs : List X) → AllByRecursion P xs → AllByRecursion P (by_key key n xs)
 AllByRecursion-by_key P key zero xs h = tt
-AllByRecursion-by_key P key (suc n) xs h = AllByRecursion-append P (by_key key n xs) (filter (λ x. key x == n) xs) (AllByRecursion-by_key P key n xs h) (AllByRecursion-filter P (λ x. key x == n) xs h)
+AllByRecursion-by_key P key (suc n) xs h =
+    AllByRecursion-append P (by_key key n xs) (filter (λ x. key x == n) xs) (AllByRecursion-by_key P key n xs h)
+    (AllByRecursion-filter P (λ x. key x == n) xs h)

@@ -25,7 +25,8 @@ map-claims : (takes : List TakeReply) → map (λ (x : ℕ × ℕ). x.1) (map cl
 map-claims [] = refl
 map-claims (r ∷ rs) = ap (λ z. r.at ∷ z) (map-claims rs)
 
-pub positions_below : (lines : List Line) (posts : List PostReply) (takes : List TakeReply) → AreReportable lines posts takes → AllByRecursion (λ (r : TakeReply). r.at < length takes) takes
+pub positions_below : (lines : List Line) (posts : List PostReply) (takes : List TakeReply) → AreReportable lines posts takes
+    → AllByRecursion (λ (r : TakeReply). r.at < length takes) takes
 positions_below lines posts takes h =
     let n : ℕ = length (posted_of posts) in
     let moved : IsPermutation (range_with_len 0 n) (map (λ (r : TakeReply). r.at) takes) =
@@ -35,10 +36,12 @@ positions_below lines posts takes h =
     let long : length takes ≡ n = sym (length-map takes claim_of) ∙ length_permutation (posted_of posts) (map claim_of takes) h.claims in
     let below : AllByRecursion (λ x. x < n) (map (λ (r : TakeReply). r.at) takes) =
     every_at (λ x. x < n) (map (λ (r : TakeReply). r.at) takes)
-    (All-permutation (λ x. x < n) (range_with_len 0 n) (map (λ (r : TakeReply). r.at) takes) moved (all_of (λ x. x < n) (range_with_len 0 n) (numbers_below 0 n n (omega arith)))) in
+    (All-permutation (λ x. x < n) (range_with_len 0 n) (map (λ (r : TakeReply). r.at) takes) moved
+    (all_of (λ x. x < n) (range_with_len 0 n) (numbers_below 0 n n (omega arith)))) in
     subst (λ m. AllByRecursion (λ (r : TakeReply). r.at < m) takes) (sym long) (AllByRecursion-from_map (λ x. x < n) (λ (r : TakeReply). r.at) takes below)
 
-pub board_lines : (lines : List Line) (posts : List PostReply) (takes : List TakeReply) → AreReportable lines posts takes → AllByRecursion (λ (r : TakeReply). r.line < length lines) (by_position takes)
+pub board_lines : (lines : List Line) (posts : List PostReply) (takes : List TakeReply) → AreReportable lines posts takes
+    → AllByRecursion (λ (r : TakeReply). r.line < length lines) (by_position takes)
 board_lines lines posts takes h =
     AllByRecursion-by_key (λ (r : TakeReply). r.line < length lines) (λ (r : TakeReply). r.at) (length takes) takes
     (AllByRecursion-map (IsClaim lines) (λ (r : TakeReply). r.line < length lines) (λ r c. slice_get_within lines r.line _ c.job.is) takes h.claimed)

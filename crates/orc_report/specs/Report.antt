@@ -55,7 +55,8 @@ by_position takes = by_key (λ (r : TakeReply). r.at) (length takes) takes
 
 -- how many nodes a container was given, had reused, and has linked at rest
 abbrev pub rest_line : List ℕ → ℕ → ℕ → ℕ → List ℕ
-rest_line name given reused linked = name ++ codes " given " ++ decimal given ++ codes " reused " ++ decimal reused ++ codes " linked " ++ decimal linked ++ codes "\n"
+rest_line name given reused linked = name ++ codes " given " ++ decimal given ++ codes " reused " ++ decimal reused ++ codes " linked "
+    ++ decimal linked ++ codes "\n"
 
 abbrev pub rest_lines : Option RestNumbers → List ℕ
 rest_lines None = []

@@ -28,7 +28,13 @@ module _ {K S Op Rec N : Type 0} (r : Rules K S Op Rec N) (k : K) (holds : List 
         fits = at_one v (λ _ u. Fits r k j u) record {
           seen = prefix_same j j refl;
           kept = (j, refl);
-          pass = λ a e. subst (Owns r k j v) (sym (one_number (Some 0) 0 a refl e)) record { below = o.someone; mine = refl; steps = refl; opened = prefix_same j j refl };
+          pass = λ a e. subst (Owns r k j v) (sym (one_number (Some 0) 0 a refl e)) record {
+            below = o.someone;
+            mine = refl;
+            steps = refl;
+            opened =
+                prefix_same j j refl;
+          };
         };
         lawful = o.lawful;
         opened = prefix_same j j refl;
@@ -39,7 +45,12 @@ module _ {K S Op Rec N : Type 0} (r : Rules K S Op Rec N) (k : K) (holds : List 
         below = o.below;
         unborn = λ a. at_one v (λ _ u. u.free ≡ Some a → (b : ℕ) → a ≤ b → b < r.agents k → Unborn r k j (v ∷ []) u.born b) (λ e b le lt.
             let first : a ≡ 1 = one_number (Some 1) 1 a refl e in
-            record { mine = o.born b (omega arith) lt; steps = refl; passless = at_one v (λ _ z. ¬ (z.agent ≡ Some b)) (λ p. let z : b ≡ 0 = one_number (Some 0) 0 b refl p in omega arith) });
+            record {
+              mine = o.born b (omega arith) lt;
+              steps = refl;
+              passless =
+                  at_one v (λ _ z. ¬ (z.agent ≡ Some b)) (λ p. let z : b ≡ 0 = one_number (Some 0) 0 b refl p in omega arith);
+            });
         lone = one_alone HandsOut v;
         retired = λ a i u ei q. absurd (at_one v (λ _ u. Among a u.also → ⊥) (λ q. q) i u ei q);
       }
@@ -54,7 +65,9 @@ module _ {K S Op Rec N : Type 0} (r : Rules K S Op Rec N) (k : K) (holds : List 
       let f = h.fits id v at in
       let quiet : (a : ℕ) → a < r.agents k → own_of r.by a f.seen.0 ≡ [] = λ a lt.
       none_behind r.by a h.journal v.seen f.seen (⊎_elim (λ e. (f.pass a e).steps) (λ q. (h.retired a id v at q).steps) (all a lt)) in
-      let none : f.seen.0 ≡ [] = none_left r.by (r.agents k) f.seen.0 (below-tail r.by (r.agents k) v.seen f.seen.0 (subst (AgentsBelow r.by (r.agents k)) (sym f.seen.1) h.below)) quiet in
+      let none : f.seen.0 ≡ [] =
+      none_left r.by (r.agents k) f.seen.0
+      (below-tail r.by (r.agents k) v.seen f.seen.0 (subst (AgentsBelow r.by (r.agents k)) (sym f.seen.1) h.below)) quiet in
       let whole : h.journal ≡ v.seen = sym f.seen.1 ∙ (ap (λ l. v.seen ++ l) none ∙ append-nil v.seen) in
       record {
         words_are = sym fin.2 ∙ (h.words ∙ ap (λ l. r.words k l) whole);

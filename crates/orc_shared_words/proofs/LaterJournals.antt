@@ -18,7 +18,8 @@ use Rattle.orc_shared_words.proofs.Seats.{one_number}
 
 module _ {K S Op Rec N : Type 0} (r : Rules K S Op Rec N) (k : K) (holds : List (Event N) → Type 0) (may : List (Event N) → Event N → Type 0) where
   -- a pass that was just made
-  pub new_pass_later : (v : View S Rec) (a : ℕ) → Opens r k holds may → v.seen ≡ r.opening k → v.also ≡ [] → v.own ≡ r.own k (r.opening k) a → LaterJournal r k holds may v.seen v a
+  pub new_pass_later : (v : View S Rec) (a : ℕ) → Opens r k holds may → v.seen ≡ r.opening k → v.also ≡ [] → v.own ≡ r.own k (r.opening k) a
+      → LaterJournal r k holds may v.seen v a
   new_pass_later v a o seen also own = record {
     lawful = subst (r.lawful k) (sym seen) o.lawful;
     opened = subst (IsPrefix (r.opening k)) (sym seen) (prefix_same (r.opening k) (r.opening k) refl);
@@ -34,13 +35,16 @@ module _ {K S Op Rec N : Type 0} (r : Rules K S Op Rec N) (k : K) (holds : List 
   own_stays laws a j [] e = ap (λ l. r.own k l a) (append-nil j)
   own_stays laws a j (s ∷ ss) e = dite (ℕ_discrete (r.by s) a)
       (λ same. absurd (cons_nil s (own_of r.by a ss) (sym (by_own r.by a s ss same) ∙ e)))
-      (λ ne. ap (λ l. r.own k l a) (sym (append_assoc j (s ∷ []) ss)) ∙ (own_stays laws a (j ++ s ∷ []) ss (sym (by_other r.by a s ss ne) ∙ e) ∙ laws.own_other j s a (λ q. ne (sym q))))
+      (λ ne. ap (λ l. r.own k l a) (sym (append_assoc j (s ∷ []) ss))
+      ∙ (own_stays laws a (j ++ s ∷ []) ss (sym (by_other r.by a s ss ne) ∙ e) ∙ laws.own_other j s a (λ q. ne (sym q))))
 
   -- a pass whose list is now a longer one that another pass knew
-  grown_later : Obeys r k → (v u w : View S Rec) (a b : ℕ) → v.agent ≡ Some a → LaterJournal r k holds may v.seen v a → LaterJournal r k holds may u.seen u b → IsPrefix v.seen u.seen → w.seen ≡ u.seen → SameButSeen r.by v w → LaterJournal r k holds may w.seen w a
+  grown_later : Obeys r k → (v u w : View S Rec) (a b : ℕ) → v.agent ≡ Some a → LaterJournal r k holds may v.seen v a
+      → LaterJournal r k holds may u.seen u b → IsPrefix v.seen u.seen → w.seen ≡ u.seen → SameButSeen r.by v w → LaterJournal r k holds may w.seen w a
   grown_later laws v u w a b is mine other longer seen same =
       let steps : own_of r.by a u.seen ≡ own_of r.by a v.seen = ap (own_of r.by a) (sym seen) ∙ same.steps a (inl is) in
-      let stays : r.own k u.seen a ≡ r.own k v.seen a = ap (λ l. r.own k l a) (sym longer.1) ∙ own_stays laws a v.seen longer.0 (none_behind r.by a u.seen v.seen longer steps) in record {
+      let stays : r.own k u.seen a ≡ r.own k v.seen a = ap (λ l. r.own k l a) (sym longer.1)
+      ∙ own_stays laws a v.seen longer.0 (none_behind r.by a u.seen v.seen longer steps) in record {
         lawful = subst (r.lawful k) (sym seen) other.lawful;
         opened = subst (IsPrefix (r.opening k)) (sym seen) other.opened;
         below = subst (AgentsBelow r.by (r.agents k)) (sym seen) other.below;
@@ -50,7 +54,8 @@ module _ {K S Op Rec N : Type 0} (r : Rules K S Op Rec N) (k : K) (holds : List 
         retired = λ c q. refl;
       }
 
-  same_later : (v w : View S Rec) (a : ℕ) → LaterJournal r k holds may v.seen v a → w.seen ≡ v.seen → SameButSeen r.by v w → LaterJournal r k holds may w.seen w a
+  same_later : (v w : View S Rec) (a : ℕ) → LaterJournal r k holds may v.seen v a → w.seen ≡ v.seen → SameButSeen r.by v w
+      → LaterJournal r k holds may w.seen w a
   same_later v w a mine seen same = record {
     lawful = subst (r.lawful k) (sym seen) mine.lawful;
     opened = subst (IsPrefix (r.opening k)) (sym seen) mine.opened;
@@ -62,18 +67,26 @@ module _ {K S Op Rec N : Type 0} (r : Rules K S Op Rec N) (k : K) (holds : List 
   }
 
   -- two passes that learned from each other
-  pub learned_later : Obeys r k → (v u w x : View S Rec) (a b : ℕ) → v.agent ≡ Some a → u.agent ≡ Some b → Learned r.by v u w x → LaterJournal r k holds may v.seen v a → LaterJournal r k holds may u.seen u b
+  pub learned_later : Obeys r k → (v u w x : View S Rec) (a b : ℕ) → v.agent ≡ Some a → u.agent ≡ Some b → Learned r.by v u w x
+      → LaterJournal r k holds may v.seen v a → LaterJournal r k holds may u.seen u b
       → LaterJournal r k holds may w.seen w a × LaterJournal r k holds may x.seen x b
   learned_later laws v u w x a b va ub learned mine other = ⊎_elim
-      (λ (p : IsPrefix u.seen v.seen × (w.seen ≡ v.seen)). (same_later v w a mine p.1 learned.into, grown_later laws u v x b a ub other mine p.0 (learned.both ∙ p.1) learned.from))
-      (λ (p : IsPrefix v.seen u.seen × (w.seen ≡ u.seen)). (grown_later laws v u w a b va mine other p.0 p.1 learned.into, same_later u x b other (learned.both ∙ p.1) learned.from))
+      (λ (p : IsPrefix u.seen v.seen × (w.seen ≡ v.seen)).
+      (same_later v w a mine p.1 learned.into, grown_later laws u v x b a ub other mine p.0 (learned.both ∙ p.1) learned.from))
+      (λ (p : IsPrefix v.seen u.seen × (w.seen ≡ u.seen)). (
+        grown_later laws v u w a b va mine other p.0 p.1 learned.into,
+        same_later u x b other (learned.both ∙ p.1) learned.from,
+      ))
       learned.longer
 
   -- a pass that took in all others goes on alone: nothing stands between what it had seen and its step
-  pub nothing_between : (op : Op) (said : Option N) (v : View S Rec) (n : ℕ) (w : View S Rec) → OwnsAll r k v → (x : Extends r k holds may op said v n w) → x.between ≡ []
+  pub nothing_between : (op : Op) (said : Option N) (v : View S Rec) (n : ℕ) (w : View S Rec) → OwnsAll r k v
+      → (x : Extends r k holds may op said v n w) → x.between ≡ []
   nothing_between op said v n w all x = none_left r.by (r.agents k) x.between
-      (below-tail r.by (r.agents k) v.seen x.between (below-front r.by (r.agents k) (v.seen ++ x.between) (r.step x.agent op said ∷ []) (subst (AgentsBelow r.by (r.agents k)) x.seen x.now.below)))
+      (below-tail r.by (r.agents k) v.seen x.between
+      (below-front r.by (r.agents k) (v.seen ++ x.between) (r.step x.agent op said ∷ []) (subst (AgentsBelow r.by (r.agents k)) x.seen x.now.below)))
       (λ a lt. ⊎_elim (λ e. subst (λ b. own_of r.by b x.between ≡ []) (one_number v.agent a x.agent e x.is) x.others) (x.retired a) (all a lt))
 
-  pub still_owns_all : (op : Op) (said : Option N) (v : View S Rec) (n : ℕ) (w : View S Rec) → OwnsAll r k v → Extends r k holds may op said v n w → OwnsAll r k w
+  pub still_owns_all : (op : Op) (said : Option N) (v : View S Rec) (n : ℕ) (w : View S Rec) → OwnsAll r k v → Extends r k holds may op said v n w
+      → OwnsAll r k w
   still_owns_all op said v n w all x a lt = ⊎_elim (λ e. inl (x.same ∙ (sym x.is ∙ e))) (λ q. inr (subst (Among a) (sym x.also) q)) (all a lt)

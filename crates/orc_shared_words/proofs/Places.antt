@@ -12,7 +12,8 @@ module _ {A : Type 0} where
 
   pub each_at-push : (P : ℕ → A → Type 0) (xs : List A) (y : A) → EachAt P xs → P (length xs) y → EachAt P (xs ++ y ∷ [])
   each_at-push P [] y h p = each_at-cons P y [] p (each_at-nil (λ i. P (suc i)))
-  each_at-push P (x ∷ xs) y h p = each_at-cons P x (xs ++ y ∷ []) (h 0 x (omega arith)) (each_at-push (λ i. P (suc i)) xs y (λ i d lt. h (suc i) d (omega arith)) p)
+  each_at-push P (x ∷ xs) y h p =
+      each_at-cons P x (xs ++ y ∷ []) (h 0 x (omega arith)) (each_at-push (λ i. P (suc i)) xs y (λ i d lt. h (suc i) d (omega arith)) p)
 
   module _ (P : ℕ → A → Type 0) (x : A) (xs all : List A) (split : all ≡ x ∷ xs) where
     -- of elements that stand from place n on: the first, and those from place m on
@@ -20,7 +21,8 @@ module _ {A : Type 0} where
     first_placed n h = let same : n + 0 ≡ n = omega arith in subst (λ k. P k x) same (subst (EachAt (λ i. P (n + i))) split h 0 x (omega arith))
 
     pub rest_placed : (n m : ℕ) → m ≡ n + 1 → EachAt (λ i. P (n + i)) all → EachAt (λ i. P (m + i)) xs
-    rest_placed n m next h i d lt = let same : n + suc i ≡ m + i = omega arith in subst (λ k. P k (slice_index_or xs i d)) same (subst (EachAt (λ i. P (n + i))) split h (suc i) d (omega arith))
+    rest_placed n m next h i d lt = let same : n + suc i ≡ m + i = omega arith in
+        subst (λ k. P k (slice_index_or xs i d)) same (subst (EachAt (λ i. P (n + i))) split h (suc i) d (omega arith))
 
   pub from_start : (P : ℕ → A → Type 0) (xs : List A) → EachAt P xs → EachAt (λ i. P (0 + i)) xs
   from_start P xs h i d lt = let same : i ≡ 0 + i = omega arith in subst (λ k. P k (slice_index_or xs i d)) same (h i d lt)

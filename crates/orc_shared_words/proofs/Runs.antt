@@ -30,12 +30,16 @@ module _ {S : Type 0} (by : S → ℕ) where
 
   -- where the agent's steps all stand in a prefix, none of its stand behind it
   pub none_behind : (a : ℕ) (j seen : List S) (b : IsPrefix seen j) → own_of by a j ≡ own_of by a seen → own_of by a b.0 ≡ []
-  none_behind a j seen b e = append_cancel_left (own_of by a seen) (own_of by a b.0) [] (sym (own_of-append a seen b.0) ∙ (ap (own_of by a) b.1 ∙ (e ∙ sym (append-nil (own_of by a seen)))))
+  none_behind a j seen b e =
+      append_cancel_left (own_of by a seen) (own_of by a b.0) []
+      (sym (own_of-append a seen b.0) ∙ (ap (own_of by a) b.1 ∙ (e ∙ sym (append-nil (own_of by a seen)))))
 
   -- and so none stand in what is between
-  pub none_between : (a : ℕ) (j seen first : List S) → IsPrefix seen j → IsPrefix first seen → own_of by a j ≡ own_of by a first → own_of by a seen ≡ own_of by a first
+  pub none_between : (a : ℕ) (j seen first : List S) → IsPrefix seen j → IsPrefix first seen → own_of by a j ≡ own_of by a first
+      → own_of by a seen ≡ own_of by a first
   none_between a j seen first b c e =
-      let far : own_of by a c.0 ++ own_of by a b.0 ≡ [] = sym (own_of-append a c.0 b.0) ∙ none_behind a j first (c.0 ++ b.0, sym (append_assoc first c.0 b.0) ∙ (ap (λ l. l ++ b.0) c.1 ∙ b.1)) e in
+      let far : own_of by a c.0 ++ own_of by a b.0 ≡ [] =
+      sym (own_of-append a c.0 b.0) ∙ none_behind a j first (c.0 ++ b.0, sym (append_assoc first c.0 b.0) ∙ (ap (λ l. l ++ b.0) c.1 ∙ b.1)) e in
       ap (own_of by a) (sym c.1) ∙ own_of-others a first c.0 (front_nil (own_of by a c.0) (own_of by a b.0) far)
 
   pub below-snoc : (n : ℕ) (xs : List S) (s : S) → AgentsBelow by n xs → by s < n → AgentsBelow by n (xs ++ s ∷ [])

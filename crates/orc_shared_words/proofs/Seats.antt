@@ -39,7 +39,8 @@ at_end (x ∷ xs) a b (suc i) e = ⊎_elim inl (λ t. inr (t.0, ap suc t.1)) (at
 -- a seat of the view w came
 pub at_grown : {V : Type 0} (P : ℕ → V → Type 0) (views : List V) (w : V) → P (length views) w → ((i : ℕ) (u : V) → get_elem? views i ≡ some u → P i u)
     → (i : ℕ) (u : V) → get_elem? (views ++ w ∷ []) i ≡ some u → P i u
-at_grown {V} P views w new old i u e = ⊎_elim (old i u) (λ (t : (w ≡ u) × (i ≡ length views)). subst (λ (z : ℕ × V). P z.0 z.1) (λ x. (sym t.1 x, t.0 x)) new) (at_end views w u i e)
+at_grown {V} P views w new old i u e =
+    ⊎_elim (old i u) (λ (t : (w ≡ u) × (i ≡ length views)). subst (λ (z : ℕ × V). P z.0 z.1) (λ x. (sym t.1 x, t.0 x)) new) (at_end views w u i e)
 
 -- there is one seat
 pub at_one : {V : Type 0} (v : V) (P : ℕ → V → Type 0) → P 0 v → (i : ℕ) (u : V) → get_elem? (v ∷ []) i ≡ some u → P i u

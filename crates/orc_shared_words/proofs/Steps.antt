@@ -29,7 +29,8 @@ module _ {N : Type 0} (may : List (Event N) → Event N → Type 0) where
   allowed-more past [] (x ∷ y ∷ es) a e = absurd e
   allowed-more past (d ∷ ds) es a e = (a.0, allowed-more (past ++ d ∷ []) ds es a.1 (subst (λ p. Each (may p) es) (sym (append_assoc past (d ∷ []) ds)) e))
 
-  pub kept-more : (holds : List (Event N) → Type 0) → ((past : List (Event N)) (e : Event N) → holds past → may past e → holds (past ++ e ∷ [])) → (past es : List (Event N)) → holds past → Each (may past) es → holds (past ++ es)
+  pub kept-more : (holds : List (Event N) → Type 0) → ((past : List (Event N)) (e : Event N) → holds past → may past e → holds (past ++ e ∷ []))
+      → (past es : List (Event N)) → holds past → Each (may past) es → holds (past ++ es)
   kept-more holds law past [] h e = subst holds (sym (append-nil past)) h
   kept-more holds law past (x ∷ []) h e = law past x h e
   kept-more holds law past (x ∷ y ∷ ys) h e = absurd e
@@ -37,38 +38,46 @@ module _ {N : Type 0} (may : List (Event N) → Event N → Type 0) where
 module _ {K S Op Rec N : Type 0} (r : Rules K S Op Rec N) (laws : (k : K) → Obeys r k) (k : K) where
   -- another agent's steps stay
   other_steps : (j : List S) (a : ℕ) (op : Op) (said : Option N) (b : ℕ) → b ≢ a → own_of r.by b (j ++ r.step a op said ∷ []) ≡ own_of r.by b j
-  other_steps j a op said b ne = own_of-others r.by b j (r.step a op said ∷ []) (by_other r.by b (r.step a op said) [] (λ q. ne (sym q ∙ (laws k).by_step a op said)))
+  other_steps j a op said b ne =
+      own_of-others r.by b j (r.step a op said ∷ []) (by_other r.by b (r.step a op said) [] (λ q. ne (sym q ∙ (laws k).by_step a op said)))
 
   -- and so does its record
   other_own : (j : List S) (a : ℕ) (op : Op) (said : Option N) (b : ℕ) → b ≢ a → r.own k (j ++ r.step a op said ∷ []) b ≡ r.own k j b
   other_own j a op said b ne = (laws k).own_other j (r.step a op said) b (λ q. ne (q ∙ (laws k).by_step a op said))
 
-  other_fits : (j : List S) (a : ℕ) (op : Op) (said : Option N) (v : View S Rec) → ((c : ℕ) → v.agent ≡ Some c → c ≢ a) → Fits r k j v → Fits r k (j ++ r.step a op said ∷ []) v
+  other_fits : (j : List S) (a : ℕ) (op : Op) (said : Option N) (v : View S Rec) → ((c : ℕ) → v.agent ≡ Some c → c ≢ a) → Fits r k j v
+      → Fits r k (j ++ r.step a op said ∷ []) v
   other_fits j a op said v ne f = record {
     seen = prefix_more v.seen j (r.step a op said ∷ []) f.seen;
     kept = prefix_more v.kept j (r.step a op said ∷ []) f.kept;
-    pass = λ c e. let o = f.pass c e in record { below = o.below; mine = other_own j a op said c (ne c e) ∙ o.mine; steps = other_steps j a op said c (ne c e) ∙ o.steps; opened = o.opened };
+    pass = λ c e. let o = f.pass c e in
+        record { below = o.below; mine = other_own j a op said c (ne c e) ∙ o.mine; steps = other_steps j a op said c (ne c e) ∙ o.steps; opened = o.opened };
   }
 
-  later_unborn : (j : List S) (a : ℕ) (op : Op) (said : Option N) (views : List (View S Rec)) (id : ℕ) (v : View S Rec) → get_elem? views id ≡ some v → v.agent ≡ Some a → AllUnborn r k j views → AllUnborn r k (j ++ r.step a op said ∷ []) views
+  later_unborn : (j : List S) (a : ℕ) (op : Op) (said : Option N) (views : List (View S Rec)) (id : ℕ) (v : View S Rec) → get_elem? views id ≡ some v
+      → v.agent ≡ Some a → AllUnborn r k j views → AllUnborn r k (j ++ r.step a op said ∷ []) views
   later_unborn j a op said views id v at is m c i u ei q b le lt =
       let x = m c i u ei q b le lt in
       let ne : b ≢ a = λ e. x.passless id v at (is ∙ ap Some (sym e)) in
       record { mine = other_own j a op said b ne ∙ x.mine; steps = other_steps j a op said b ne ∙ x.steps; passless = x.passless }
 
-  later_retired : (j : List S) (z : ℕ) (op : Op) (said : Option N) (views : List (View S Rec)) (id : ℕ) (v : View S Rec) → get_elem? views id ≡ some v → v.agent ≡ Some z → AllRetired r k j views → AllRetired r k (j ++ r.step z op said ∷ []) views
+  later_retired : (j : List S) (z : ℕ) (op : Op) (said : Option N) (views : List (View S Rec)) (id : ℕ) (v : View S Rec) → get_elem? views id ≡ some v
+      → v.agent ≡ Some z → AllRetired r k j views → AllRetired r k (j ++ r.step z op said ∷ []) views
   later_retired j z op said views id v at is all a i u ei q =
       let x = all a i u ei q in
       record { steps = other_steps j z op said a (λ e. x.passless id v at (is ∙ ap Some (sym e))) ∙ x.steps; passless = x.passless; handed = x.handed }
 
-module _ {K S Op Rec N : Type 0} (r : Rules K S Op Rec N) (laws : (k : K) → Obeys r k) (k : K) (H : K → List (Event N) → Type 0) (Y : K → List (Event N) → Event N → Type 0)
+module _ {K S Op Rec N : Type 0} (r : Rules K S Op Rec N) (laws : (k : K) → Obeys r k) (k : K) (H : K → List (Event N) → Type 0)
+    (Y : K → List (Event N) → Event N → Type 0)
     (law : (past : List (Event N)) (e : Event N) → H k past → Y k past e → H k (past ++ e ∷ [])) where
   abbrev stepped_view : List S → View S Rec → ℕ → Op → Option N → ℕ → View S Rec
   stepped_view j v a op said n = record v { seen = j ++ r.step a op said ∷ []; own = r.after k a op v.own n }
 
   -- the one law of all operations
-  does : (slots id : ℕ) (me : Me (Unit {0}) (View S Rec)) (a : ℕ) (op : Op) (said : Option N) → me.0.agent ≡ Some a → r.allowed k a op me.0.own → Licensed r k (H k) (Y k) me.0 a op said
-      → Allows (Shows r k (H k) (Y k)) slots id me (r.place k a op me.0.own) (r.written k a op me.0.own) (λ n. Did r H Y (Some (k, op, said)) me (r.answer k a op me.0.own n))
+  does : (slots id : ℕ) (me : Me (Unit {0}) (View S Rec)) (a : ℕ) (op : Op) (said : Option N) → me.0.agent ≡ Some a → r.allowed k a op me.0.own
+      → Licensed r k (H k) (Y k) me.0 a op said
+      → Allows (Shows r k (H k) (Y k)) slots id me (r.place k a op me.0.own) (r.written k a op me.0.own)
+      (λ n. Did r H Y (Some (k, op, said)) me (r.answer k a op me.0.own n))
   does slots id me a op said is can may_be s h _ at fits64 =
       let v : View S Rec = me.0 in
       let j : List S = h.journal in
@@ -82,10 +91,23 @@ module _ {K S Op Rec N : Type 0} (r : Rules K S Op Rec N) (laws : (k : K) → Ob
       let found : n ≡ found_by r k j a op = λ i. get_or (h.words i) (r.place k a op (sym o.mine i)) 0 in
       let w : View S Rec = stepped_view j v a op said n in
       let own : r.own k (j ++ t ∷ []) a ≡ r.after k a op v.own n = (laws k).own_next j a op said o.below ∙ λ i. r.after k a op (o.mine i) (sym found i) in
-      let met : LaterJournal r k (H k) (Y k) j v a = record { lawful = h.lawful; opened = h.opened; below = h.below; each = h.each; kept = h.kept; mine = o.mine; retired = λ b q. (h.retired b id v at q).steps } in
-      let may_now : Each (Y k (r.project k j)) (r.events k j t) = subst (λ l. Each (Y k (r.project k l)) (r.events k l t)) (sym e) (may_be f.seen.0 none (subst (λ l. LaterJournal r k (H k) (Y k) l v a) e met)) in
-      let kept : H k (r.project k (j ++ t ∷ [])) = subst (H k) (sym ((laws k).project_next j t)) (kept-more (Y k) (H k) law (r.project k j) (r.events k j t) h.kept may_now) in
-      let each : AllAllowed (Y k) [] (r.project k (j ++ t ∷ [])) = subst (AllAllowed (Y k) []) (sym ((laws k).project_next j t)) (allowed-more (Y k) [] (r.project k j) (r.events k j t) h.each may_now) in
+      let met : LaterJournal r k (H k) (Y k) j v a =
+      record {
+        lawful = h.lawful;
+        opened = h.opened;
+        below = h.below;
+        each = h.each;
+        kept = h.kept;
+        mine = o.mine;
+        retired =
+            λ b q. (h.retired b id v at q).steps;
+      } in
+      let may_now : Each (Y k (r.project k j)) (r.events k j t) =
+      subst (λ l. Each (Y k (r.project k l)) (r.events k l t)) (sym e) (may_be f.seen.0 none (subst (λ l. LaterJournal r k (H k) (Y k) l v a) e met)) in
+      let kept : H k (r.project k (j ++ t ∷ [])) =
+      subst (H k) (sym ((laws k).project_next j t)) (kept-more (Y k) (H k) law (r.project k j) (r.events k j t) h.kept may_now) in
+      let each : AllAllowed (Y k) [] (r.project k (j ++ t ∷ [])) =
+      subst (AllAllowed (Y k) []) (sym ((laws k).project_next j t)) (allowed-more (Y k) [] (r.project k j) (r.events k j t) h.each may_now) in
       let lawful : r.lawful k (j ++ t ∷ []) = (laws k).lawful_next j a op said h.lawful (subst (r.allowed k a op) (sym o.mine) can) in
       let opened = prefix_more (r.opening k) j (t ∷ []) h.opened in
       let below = below-snoc r.by (r.agents k) j t h.below (subst (λ z. z < r.agents k) (sym ((laws k).by_step a op said)) o.below) in (
@@ -99,7 +121,13 @@ module _ {K S Op Rec N : Type 0} (r : Rules K S Op Rec N) (laws : (k : K) → Ob
               record {
                 seen = prefix_same (j ++ t ∷ []) (j ++ t ∷ []) refl;
                 kept = prefix_more v.kept j (t ∷ []) f.kept;
-                pass = λ b q. subst (λ z. Owns r k (j ++ t ∷ []) w z) (one_number v.agent b a q is) record { below = o.below; mine = own; steps = refl; opened = opened };
+                pass = λ b q. subst (λ z. Owns r k (j ++ t ∷ []) w z) (one_number v.agent b a q is) record {
+                  below = o.below;
+                  mine = own;
+                  steps =
+                      refl;
+                  opened = opened;
+                };
               }
               (λ i u ne ei. other_fits r laws k j a op said u (λ b q x. ne (h.apart a i u ei (q ∙ ap Some x) id v at is)) (h.fits i u ei));
           lawful = lawful;
@@ -109,9 +137,12 @@ module _ {K S Op Rec N : Type 0} (r : Rules K S Op Rec N) (laws : (k : K) → Ob
           each = each;
           kept = kept;
           below = below;
-          unborn = still_unborn r k (j ++ t ∷ []) s.views id v w at (λ b q. q) (λ c q. (c, q, omega arith, refl)) (later_unborn r laws k j a op said s.views id v at is h.unborn);
+          unborn = still_unborn r k (j ++ t ∷ []) s.views id v w at (λ b q. q) (λ c q. (c, q, omega arith, refl))
+              (later_unborn r laws k j a op said s.views id v at is h.unborn);
           lone = still_one HandsOut s.views id v w at (λ q. q) h.lone;
-          retired = still_retired r k (j ++ t ∷ []) s.views id v w at (λ b q. q) (λ c q. (c, q, omega arith, refl)) (λ b q. let x = h.retired b id v at q in record { steps = refl; passless = x.passless; handed = x.handed }) (later_retired r laws k j a op said s.views id v at is h.retired);
+          retired = still_retired r k (j ++ t ∷ []) s.views id v w at (λ b q. q) (λ c q. (c, q, omega arith, refl))
+              (λ b q. let x = h.retired b id v at q in record { steps = refl; passless = x.passless; handed = x.handed })
+              (later_retired r laws k j a op said s.views id v at is h.retired);
         },
         (
           record {
@@ -135,19 +166,25 @@ module _ {K S Op Rec N : Type 0} (r : Rules K S Op Rec N) (laws : (k : K) → Ob
       )
 
 -- the same, where the call picks the step, its place and operation are known, and the table writes what the operation does
-pub makes : {K S Op Rec N : Type 0} (r : Rules K S Op Rec N) (laws : (k : K) → Obeys r k) (k : K) (H : K → List (Event N) → Type 0) (Y : K → List (Event N) → Event N → Type 0)
-    (law : (past : List (Event N)) (e : Event N) → H k past → Y k past e → H k (past ++ e ∷ [])) (key : K) (slots id : ℕ) (me : Me (Unit {0}) (View S Rec)) (a : ℕ) (own : Rec) (op : Op) (said : Option N)
+pub makes : {K S Op Rec N : Type 0} (r : Rules K S Op Rec N) (laws : (k : K) → Obeys r k) (k : K) (H : K → List (Event N) → Type 0)
+    (Y : K → List (Event N) → Event N → Type 0)
+    (law : (past : List (Event N)) (e : Event N) → H k past → Y k past e → H k (past ++ e ∷ [])) (key : K) (slots id : ℕ)
+    (me : Me (Unit {0}) (View S Rec)) (a : ℕ) (own : Rec) (op : Op) (said : Option N)
     (pick : Option (K × Op × Option N)) (place : ℕ) (o known : Operation) (writes : ℕ → ℕ) → word_after known ≡ writes → key ≡ k → pick ≡ Some (k, op, said)
     → place ≡ r.place k a op own → word_after o ≡ r.written k a op own → returned_by o ≡ r.answer k a op own → o ≡ known
     → (me.0.agent ≡ Some a) × (me.0.own ≡ own) → r.allowed k a op own → Licensed r k (H k) (Y k) me.0 a op said
     → Allows (Shows r key (H key) (Y key)) slots id me place writes (λ n. Did r H Y pick me (returned_by known n))
-makes {K} {S} {Op} {Rec} {N} r laws k H Y law key slots id me a own op said pick place o known writes after_is same picked place_is written answer is named can may_be =
+makes {K} {S} {Op} {Rec} {N} r laws k H Y law key slots id me a own op said pick place o known writes after_is same picked place_is written answer is
+    named can may_be =
     let at_own : (place ≡ r.place k a op me.0.own) × (word_after o ≡ r.written k a op me.0.own) × (returned_by o ≡ r.answer k a op me.0.own) =
-    subst (λ z. (place ≡ r.place k a op z) × (word_after o ≡ r.written k a op z) × (returned_by o ≡ r.answer k a op z)) (sym named.1) (place_is, written, answer) in
+    subst (λ z. (place ≡ r.place k a op z) × (word_after o ≡ r.written k a op z) × (returned_by o ≡ r.answer k a op z)) (sym named.1)
+    (place_is, written, answer) in
     let first = does r laws k H Y law slots id me a op said named.0 (subst (λ z. r.allowed k a op z) (sym named.1) can) may_be in
     let second : Allows (Shows r k (H k) (Y k)) slots id me place (word_after o) (λ n. Did r H Y (Some (k, op, said)) me (returned_by o n)) =
-    subst (λ (z : ℕ × (ℕ → ℕ) × (ℕ → ℕ)). Allows (Shows r k (H k) (Y k)) slots id me z.0 z.1 (λ n. Did r H Y (Some (k, op, said)) me (z.2 n))) (λ i. (sym at_own.0 i, sym at_own.1 i, sym at_own.2 i)) first in
-    subst (λ (z : K × Operation × (ℕ → ℕ) × Option (K × Op × Option N)). Allows (Shows r z.0 (H z.0) (Y z.0)) slots id me place z.2 (λ n. Did r H Y z.3 me (returned_by z.1 n)))
+    subst (λ (z : ℕ × (ℕ → ℕ) × (ℕ → ℕ)). Allows (Shows r k (H k) (Y k)) slots id me z.0 z.1 (λ n. Did r H Y (Some (k, op, said)) me (z.2 n)))
+    (λ i. (sym at_own.0 i, sym at_own.1 i, sym at_own.2 i)) first in
+    subst (λ (z : K × Operation × (ℕ → ℕ) × Option (K × Op × Option N)). Allows (Shows r z.0 (H z.0) (Y z.0)) slots id me place z.2
+    (λ n. Did r H Y z.3 me (returned_by z.1 n)))
     (λ i. (sym same i, is i, (ap word_after is ∙ after_is) i, sym picked i)) second
 
 chosen : (b : Bool) (x y : ℕ) → cond b x y ≡ either b x y

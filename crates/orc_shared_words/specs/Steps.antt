@@ -53,6 +53,7 @@ module _ {K S Op Rec N : Type 0} (r : Rules K S Op Rec N) where
       pub now : LaterJournal w.seen w agent
 
   -- what the picked step tells
-  abbrev pub Did : (K → List (Event N) → Type 0) → (K → List (Event N) → Event N → Type 0) → Option (K × Op × Option N) → Me (Unit {0}) (View S Rec) → ℕ → Me (Unit {0}) (View S Rec) → Type 0
+  abbrev pub Did : (K → List (Event N) → Type 0) → (K → List (Event N) → Event N → Type 0) → Option (K × Op × Option N) → Me (Unit {0}) (View S Rec)
+      → ℕ → Me (Unit {0}) (View S Rec) → Type 0
   Did holds may None me n me' = Unit {0}
   Did holds may (Some p) me n me' = Extends p.0 (holds p.0) (may p.0) p.1 p.2 me.0 n me'.0 × (me'.1 ≡ me.1)

@@ -48,8 +48,10 @@ allowed_step m a op w s h =
     let p = may_parts m.bounds (word_in m Enrolled) a op (record_at m a) h in
     record { shape = w.shape; counted = s.counted; doomed = s.doomed; agent = p.agent; stands = p.stands; forced = p.forced; fits = p.fits }
 
-free_word : (b : Bounds) (z : World) (a : ℕ) (op : Op) → LawfulStep b z a op → LivesFit b z → (q : ℕ) → op ≡ Free q → (out (z.memory (Gate q)) ≡ 1) × (z.memory (Gate q) < 18446744073709551616)
-free_word b z a (Free r) p s q e = let k : r ≡ q = cc in rw (← k) ((freed_row b z a r p).gone.is_out, let l = s.within r in let h = p.shape.limit.1 in omega arith)
+free_word : (b : Bounds) (z : World) (a : ℕ) (op : Op) → LawfulStep b z a op → LivesFit b z → (q : ℕ) → op ≡ Free q → (out (z.memory (Gate q)) ≡ 1)
+    × (z.memory (Gate q) < 18446744073709551616)
+free_word b z a (Free r) p s q e = let k : r ≡ q = cc in
+    rw (← k) ((freed_row b z a r p).gone.is_out, let l = s.within r in let h = p.shape.limit.1 in omega arith)
 free_word b z a op p s q e = cc
 
 end_no_doom : (b : Bounds) (z : World) (a : ℕ) (op : Op) → LawfulStep b z a op → (q : ℕ) → op ≡ CounterLoad q End → (z.seats a).doom ≡ None
@@ -71,14 +73,16 @@ all_step b z a op p s =
       lives = lives_step b z a op p lo s.lives;
       rows = rows_step b z a op k s.rows;
       change = λ x. seat_join OneChange z.seats a x (record_by z a op) (one_change op (z.seats a) (read_by z a op) p.forced (s.change a)) (s.change x);
-      reason = λ r h. no_leak_step b z (step_world z a op).memory a (record_by z a op) r p.agent (reason b (z.memory Enrolled) a op (z.seats a) z.memory r p.fits p.forced (end_no_doom b z a op p) (free_word b z a op p s.lives)) (s.reason r h);
+      reason = λ r h. no_leak_step b z (step_world z a op).memory a (record_by z a op) r p.agent
+          (reason b (z.memory Enrolled) a op (z.seats a) z.memory r p.fits p.forced (end_no_doom b z a op p) (free_word b z a op p s.lives)) (s.reason r h);
     }
 
 pub all_run : (m : Machine) (steps : List (ℕ × Op)) → Full m → AllFits m.bounds (world_of m) → IsLawful m steps → AllFits m.bounds (world_of (run m steps))
 all_run m [] w s l = s
 all_run m (x ∷ xs) w s l =
     all_run (step m x.0 x.1) xs (full_step m x.0 x.1 w)
-    (subst (λ z. AllFits m.bounds z) (sym (world_step m x.0 x.1 w.words w.agents l.0)) (all_step m.bounds (world_of m) x.0 x.1 (allowed_step m x.0 x.1 w s l.0) s))
+    (subst (λ z. AllFits m.bounds z) (sym (world_step m x.0 x.1 w.words w.agents l.0))
+    (all_step m.bounds (world_of m) x.0 x.1 (allowed_step m x.0 x.1 w s l.0) s))
     l.1
 
 -- a new state
@@ -129,7 +133,8 @@ run_bounds m [] = refl
 run_bounds m (x ∷ xs) = run_bounds (step m x.0 x.1) xs
 
 -- every lawful list of steps keeps it all
-pub run_fits : (b : Bounds) (steps : List (ℕ × Op)) → IsShape b → IsLawful (new_machine b) steps → AllFits (run (new_machine b) steps).bounds (world_of (run (new_machine b) steps))
+pub run_fits : (b : Bounds) (steps : List (ℕ × Op)) → IsShape b → IsLawful (new_machine b) steps
+    → AllFits (run (new_machine b) steps).bounds (world_of (run (new_machine b) steps))
 run_fits b steps shape l =
     subst (λ c. AllFits c (world_of (run (new_machine b) steps))) (sym (run_bounds (new_machine b) steps))
     (all_run (new_machine b) steps (full_first b shape) (all_first b) l)

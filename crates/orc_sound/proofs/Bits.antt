@@ -28,7 +28,8 @@ bit_le false = omega arith
 pub link_le : (g l r : ℕ) → out g * to_row l r ≤ 1
 link_le g l r = grind (arith, bit_le)
 
-pub count_bounds : (b : Bounds) (z : World) (r : ℕ) → IsShape b → Counted b z → r < b.rows → (0 < count_bits (z.memory (Counter r))) × (count_bits (z.memory (Counter r)) + 1 < 8388608)
+pub count_bounds : (b : Bounds) (z : World) (r : ℕ) → IsShape b → Counted b z → r < b.rows → (0 < count_bits (z.memory (Counter r)))
+    × (count_bits (z.memory (Counter r)) + 1 < 8388608)
 count_bounds b z r shape s h =
     let i = sum_le b.agents (λ a. bit (names (z.seats a).inc r)) (λ a. bit_le _) in
     let d = sum_le b.agents (λ a. bit (names (z.seats a).dec r)) (λ a. bit_le _) in
@@ -39,7 +40,8 @@ count_bounds b z r shape s h =
     (omega arith, omega arith)
 
 -- a row that a scan, a hand, a doom or a list has is retired
-pub retired_one : (b : Bounds) (z : World) (a r : ℕ) → Counted b z → a < b.agents → r < b.rows → 0 < places_of (z.seats a) r → retired_bit (z.memory (Counter r)) ≡ 1
+pub retired_one : (b : Bounds) (z : World) (a r : ℕ) → Counted b z → a < b.agents → r < b.rows → 0 < places_of (z.seats a) r
+    → retired_bit (z.memory (Counter r)) ≡ 1
 retired_one b z a r s ha hr h =
     let m = sum_member b.agents a (λ x. places_of (z.seats x) r) ha in
     let t = s.token r hr in
@@ -74,7 +76,8 @@ inc_bounds b z a q p = (count_bounds b z q p.shape p.counted (ltb-true _ _ (and_
 pub dec_bounds : (b : Bounds) (z : World) (a q : ℕ) → LawfulStep b z a (Dec q) → 0 < count_bits (z.memory (Counter q))
 dec_bounds b z a q p = (count_bounds b z q p.shape p.counted (ltb-true _ _ (and_both _ _ (and_both _ _ p.fits).0).0)).0
 
-write_cases : (P : Type 0) (m : Word → ℕ) (q x r : ℕ) → (r ≡ q → retired_bit x ≡ 1 → P) → (retired_bit (m (Counter r)) ≡ 1 → P) → retired_bit (write m (Counter q) x (Counter r)) ≡ 1 → P
+write_cases : (P : Type 0) (m : Word → ℕ) (q x r : ℕ) → (r ≡ q → retired_bit x ≡ 1 → P) → (retired_bit (m (Counter r)) ≡ 1 → P)
+    → retired_bit (write m (Counter q) x (Counter r)) ≡ 1 → P
 write_cases P m q x r new old h = cases (r == q) refl h
   where
     cases : (t : Bool) → (r == q) ≡ t → retired_bit (cond t x (m (Counter r))) ≡ 1 → P
@@ -89,14 +92,17 @@ abbrev pub raises : Op → ℕ → ℕ → Bool
 raises (SetRetired q n) v r = (q == r) && (v == clear_word n)
 raises _ v r = false
 
-try_bit : (m : Word → ℕ) (q n r : ℕ) → r ≡ q → retired_bit (cond (m (Counter q) == clear_word n) (clear_word n + 8388608) (m (Counter q))) ≡ 1 → (retired_bit (m (Counter r)) ≡ 1) ⊎ (raises (SetRetired q n) (m (Counter q)) r ≡ true)
+try_bit : (m : Word → ℕ) (q n r : ℕ) → r ≡ q → retired_bit (cond (m (Counter q) == clear_word n) (clear_word n + 8388608) (m (Counter q))) ≡ 1
+    → (retired_bit (m (Counter r)) ≡ 1) ⊎ (raises (SetRetired q n) (m (Counter q)) r ≡ true)
 try_bit m q n r e h = cases (m (Counter q) == clear_word n) refl h
   where
-    cases : (t : Bool) → (m (Counter q) == clear_word n) ≡ t → retired_bit (cond t (clear_word n + 8388608) (m (Counter q))) ≡ 1 → (retired_bit (m (Counter r)) ≡ 1) ⊎ (raises (SetRetired q n) (m (Counter q)) r ≡ true)
+    cases : (t : Bool) → (m (Counter q) == clear_word n) ≡ t → retired_bit (cond t (clear_word n + 8388608) (m (Counter q))) ≡ 1
+        → (retired_bit (m (Counter r)) ≡ 1) ⊎ (raises (SetRetired q n) (m (Counter q)) r ≡ true)
     cases true t k = inr (rw (t, eq-eqb q r (sym e)))
     cases false t k = inl (rw e k)
 
-pub bit_before : (b : Bounds) (z : World) (a : ℕ) (op : Op) (r : ℕ) → LawfulStep b z a op → retired_bit ((step_world z a op).memory (Counter r)) ≡ 1 → (retired_bit (z.memory (Counter r)) ≡ 1) ⊎ (raises op (read_by z a op) r ≡ true)
+pub bit_before : (b : Bounds) (z : World) (a : ℕ) (op : Op) (r : ℕ) → LawfulStep b z a op → retired_bit ((step_world z a op).memory (Counter r)) ≡ 1
+    → (retired_bit (z.memory (Counter r)) ≡ 1) ⊎ (raises op (read_by z a op) r ≡ true)
 bit_before b z a (Inc q) r p h = write_cases _ z.memory q _ r (λ k t. inl (rw k (sym (inc_bit _ (inc_bounds b z a q p)) ∙ t))) (λ k. inl k) h
 bit_before b z a (Dec q) r p h = write_cases _ z.memory q _ r (λ k t. inl (rw k (sym (dec_bit _ (dec_bounds b z a q p)) ∙ t))) (λ k. inl k) h
 bit_before b z a (SetRetired q n) r p h = write_cases _ z.memory q _ r (λ k t. try_bit z.memory q n r k t) (λ k. inl k) h

@@ -39,7 +39,8 @@ and_le false b = omega arith
 
 doom_once : (n : ℕ) (o : Option Doom) → sum_below n (λ r. bit (dooming o r)) ≤ bit (is_some o)
 doom_once n None = let e = sum_zero n (λ r. 0) (λ r. refl) in omega arith
-doom_once n (Some d) = let e = sum_mono n (λ r. bit ((d.row == r) && not d.bare)) (λ r. bit (d.row == r)) (λ r l. and_le (d.row == r) (not d.bare)) in let p = sum_point_le n d.row in omega arith
+doom_once n (Some d) = let e = sum_mono n (λ r. bit ((d.row == r) && not d.bare)) (λ r. bit (d.row == r)) (λ r l. and_le (d.row == r) (not d.bare)) in
+    let p = sum_point_le n d.row in omega arith
 
 parts_once : (n : ℕ) (d : Agent) → HasOnePart d → sum_below n (λ r. held_parts d r) ≤ 1
 parts_once n d o =
@@ -67,22 +68,26 @@ unlisted : (xs : List ℕ) (r : ℕ) → list_any (λ q. q == r) xs ≡ false �
 unlisted [] r h = refl
 unlisted (x ∷ xs) r h = first (x == r) refl h (unlisted xs r)
   where
-    first : (t : Bool) → (x == r) ≡ t → (t || list_any (λ q. q == r) xs) ≡ false → (list_any (λ q. q == r) xs ≡ false → listings xs r ≡ 0) → listings (x ∷ xs) r ≡ 0
+    first : (t : Bool) → (x == r) ≡ t → (t || list_any (λ q. q == r) xs) ≡ false → (list_any (λ q. q == r) xs ≡ false → listings xs r ≡ 0)
+        → listings (x ∷ xs) r ≡ 0
     first true e g rest = absurd (false≢true (sym g))
     first false e g rest = let k = listings_cons x xs r in let i = rest g in let j = ap bit e in omega arith
 
 -- a retired row in no work list is in a handover word, or in an agent's hand, scan or doom
-one_place : (m : Machine) (r : ℕ) → Counted m.bounds (world_of m) → r < m.bounds.rows → bit (is_retired m r && not (is_listed m r)) ≤ sum_below m.bounds.agents (λ a. held_parts (record_at m a) r) + handed_in m.bounds (world_of m).memory r
+one_place : (m : Machine) (r : ℕ) → Counted m.bounds (world_of m) → r < m.bounds.rows
+    → bit (is_retired m r && not (is_listed m r)) ≤ sum_below m.bounds.agents (λ a. held_parts (record_at m a) r) + handed_in m.bounds (world_of m).memory r
 one_place m r s h = cases (is_retired m r) (is_listed m r) refl refl
   where
-    cases : (t u : Bool) → is_retired m r ≡ t → is_listed m r ≡ u → bit (t && not u) ≤ sum_below m.bounds.agents (λ a. held_parts (record_at m a) r) + handed_in m.bounds (world_of m).memory r
+    cases : (t u : Bool) → is_retired m r ≡ t → is_listed m r ≡ u → bit (t && not u) ≤ sum_below m.bounds.agents (λ a. held_parts (record_at m a) r)
+        + handed_in m.bounds (world_of m).memory r
     cases false u e f = omega arith
     cases true true e f = omega arith
     cases true false e f =
         let b = rw (word_shown m (Counter r) h) at (s.token r h) in
         let c = eqb-true (retired_bit (word_in m (Counter r))) 1 e in
         let p = sum_add m.bounds.agents (λ a. held_parts (record_at m a) r) (λ a. listings (record_at m a).list.items r) in
-        let l = sum_same m.bounds.agents (λ a. listings (record_at m a).list.items r) (λ a. 0) (λ a k. unlisted (record_at m a).list.items r (below_none m.bounds.agents a (λ x. list_any (λ q. q == r) (record_at m x).list.items) f k)) in
+        let l = sum_same m.bounds.agents (λ a. listings (record_at m a).list.items r) (λ a. 0)
+        (λ a k. unlisted (record_at m a).list.items r (below_none m.bounds.agents a (λ x. list_any (λ q. q == r) (record_at m x).list.items) f k)) in
         let z = sum_zero m.bounds.agents (λ a. 0) (λ a. refl) in
         omega arith
 
@@ -90,12 +95,14 @@ pub backlog_bound : (m : Machine) → Counted m.bounds (world_of m) → backlog 
 backlog_bound m s =
     let n = m.bounds.rows in
     let k = m.bounds.agents in
-    let e = sum_mono n (λ r. bit (is_retired m r && not (is_listed m r))) (λ r. sum_below k (λ a. held_parts (record_at m a) r) + handed_in m.bounds (world_of m).memory r) (λ r h. one_place m r s h) in
+    let e = sum_mono n (λ r. bit (is_retired m r && not (is_listed m r)))
+    (λ r. sum_below k (λ a. held_parts (record_at m a) r) + handed_in m.bounds (world_of m).memory r) (λ r h. one_place m r s h) in
     let d = sum_add n (λ r. sum_below k (λ a. held_parts (record_at m a) r)) (λ r. handed_in m.bounds (world_of m).memory r) in
     let p = sum_swap n k (λ r a. held_parts (record_at m a) r) in
     let q = sum_swap n k (λ r a. sum_below 8 (λ j. hands_row ((world_of m).memory (Handover a j)) r)) in
     let i = sum_mono k (λ a. sum_below n (λ r. held_parts (record_at m a) r)) (λ a. 1) (λ a h. parts_once n (record_at m a) (s.one_part a)) in
-    let j = sum_mono k (λ a. sum_below n (λ r. sum_below 8 (λ j. hands_row ((world_of m).memory (Handover a j)) r))) (λ a. 8) (λ a h. eight_words n a (world_of m).memory) in
+    let j = sum_mono k (λ a. sum_below n (λ r. sum_below 8 (λ j. hands_row ((world_of m).memory (Handover a j)) r))) (λ a. 8)
+    (λ a h. eight_words n a (world_of m).memory) in
     let t = sum_times k 1 in
     let u = sum_times k 8 in
     omega arith

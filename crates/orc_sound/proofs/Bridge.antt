@@ -64,12 +64,14 @@ IsWithin-is_within s (Handover a k) h = grind arith
 shown : Bounds → List ℕ → Word → ℕ
 shown s ws x = cond (is_within s x) (slice_index ws (place s x)) 0
 
-shown_set : (s : Bounds) (ws : List ℕ) (w : Word) (v : ℕ) (x : Word) → IsWithin s w → length ws ≡ places s → (a b : Bool) → same_word x w ≡ a → is_within s x ≡ b → cond b (slice_index (slice_set ws (place s w) v) (place s x)) 0 ≡ cond a v (cond b (slice_index ws (place s x)) 0)
+shown_set : (s : Bounds) (ws : List ℕ) (w : Word) (v : ℕ) (x : Word) → IsWithin s w → length ws ≡ places s → (a b : Bool) → same_word x w ≡ a
+    → is_within s x ≡ b → cond b (slice_index (slice_set ws (place s w) v) (place s x)) 0 ≡ cond a v (cond b (slice_index ws (place s x)) 0)
 shown_set s ws w v x h long true true e f = rw (same_word-true x w e) (get_or-set_same ws (place s w) v 0 (rw long (place_below s w h)))
 shown_set s ws w v x h long true false e f = absurd (false≢true (sym f ∙ ap (is_within s) (same_word-true x w e) ∙ IsWithin-is_within s w h))
 shown_set s ws w v x h long false false e f = refl
 shown_set s ws w v x h long false true e f =
-    get_or-set_other ws (place s w) (place s x) v 0 (λ p. false≢true (sym e ∙ ap (λ y. same_word y w) (same_place s x w (is_within-true s x f) h p) ∙ same_word-self w))
+    get_or-set_other ws (place s w) (place s x) v 0
+    (λ p. false≢true (sym e ∙ ap (λ y. same_word y w) (same_place s x w (is_within-true s x f) h p) ∙ same_word-self w))
 
 memory_set : (s : Bounds) (ws : List ℕ) (w : Word) (v : ℕ) → IsWithin s w → length ws ≡ places s → shown s (slice_set ws (place s w) v) ≡ write (shown s ws) w v
 unfolding shown
@@ -79,20 +81,24 @@ shown_within : (s : Bounds) (ws : List ℕ) (w : Word) → IsWithin s w → show
 unfolding shown
 shown_within s ws w h = rw (IsWithin-is_within s w h)
 
-seats_at : (agents : List Agent) (a : ℕ) (d e : Agent) (b : ℕ) → a < length agents → (t : Bool) → (b == a) ≡ t → slice_index_or (slice_set agents a d) b e ≡ cond t d (slice_index_or agents b e)
+seats_at : (agents : List Agent) (a : ℕ) (d e : Agent) (b : ℕ) → a < length agents → (t : Bool) → (b == a) ≡ t
+    → slice_index_or (slice_set agents a d) b e ≡ cond t d (slice_index_or agents b e)
 seats_at agents a d e b h true t = rw (eqb-true b a t) (get_or-set_same agents a d e h)
 seats_at agents a d e b h false t = get_or-set_other agents a b d e (λ p. false≢true (sym t ∙ eq-eqb b a p))
 
-seats_set : (agents : List Agent) (a : ℕ) (d e : Agent) → a < length agents → (λ b. slice_index_or (slice_set agents a d) b e) ≡ seat (λ b. slice_index_or agents b e) a d
+seats_set : (agents : List Agent) (a : ℕ) (d e : Agent) → a < length agents
+    → (λ b. slice_index_or (slice_set agents a d) b e) ≡ seat (λ b. slice_index_or agents b e) a d
 seats_set agents a d e h = fun_ext (λ b. seats_at agents a d e b h (b == a) refl)
 
 same_world : (m n : Word → ℕ) (p q : ℕ → Agent) → m ≡ n → p ≡ q → (let w : World = record { memory = m; seats = p } in w) ≡ record { memory = n; seats = q }
 same_world m n p q e f = λ i. record { memory = e i; seats = f i }
 
-pub world_step : (m : Machine) (a : ℕ) (op : Op) → length m.words ≡ places m.bounds → length m.agents ≡ m.bounds.agents → is_allowed m a op ≡ true → world_of (step m a op) ≡ step_world (world_of m) a op
+pub world_step : (m : Machine) (a : ℕ) (op : Op) → length m.words ≡ places m.bounds → length m.agents ≡ m.bounds.agents → is_allowed m a op ≡ true
+    → world_of (step m a op) ≡ step_world (world_of m) a op
 unfolding shown
 world_step m a op long many h =
     let within : IsWithin m.bounds (action_of a op (record_at m a)).word = may_within m.bounds _ a op (record_at m a) h in
     let agent : a < length m.agents = rw many (may_parts m.bounds _ a op (record_at m a) h).agent in
     let read = shown_within m.bounds m.words (action_of a op (record_at m a)).word within in
-    same_world _ _ _ _ (rw read (memory_set m.bounds m.words (action_of a op (record_at m a)).word _ within long)) (rw read (seats_set m.agents a _ (nobody m.bounds.rows) agent))
+    same_world _ _ _ _ (rw read (memory_set m.bounds m.words (action_of a op (record_at m a)).word _ within long))
+    (rw read (seats_set m.agents a _ (nobody m.bounds.rows) agent))

@@ -40,8 +40,10 @@ pub balance_kept : (b : Bounds) (z : World) (a : ℕ) (op : Op) (r : ℕ) → La
 balance_kept b z a (GateTake q) r p h = gate_take_kept z.memory a q (z.seats a) r (λ o. let n = p.counted.free_null q o in omega arith)
 balance_kept b z a (Fill q w v) r p h = fill_kept z.memory a q w v (z.seats a) r
 balance_kept b z a (Read q w) r p h = grind arith
-balance_kept b z a (LinkCas w x t) r p h = let n = nothing_pending (z.seats a).due (z.seats a).inc (z.seats a).dec (LinkCas w x t) refl p.forced in cas_kept z.memory a w x t (z.seats a) r (cas_place_out b z a w x t p) n.1 n.2
-balance_kept b z a (LinkStore q l) r p h = let n = nothing_pending (z.seats a).due (z.seats a).inc (z.seats a).dec (LinkStore q l) refl p.forced in let k = p.shape.rows.1 in store_kept z.memory a q l (z.seats a) r (omega arith) (store_row_out b z a q l p) n.1 n.2
+balance_kept b z a (LinkCas w x t) r p h = let n = nothing_pending (z.seats a).due (z.seats a).inc (z.seats a).dec (LinkCas w x t) refl p.forced in
+    cas_kept z.memory a w x t (z.seats a) r (cas_place_out b z a w x t p) n.1 n.2
+balance_kept b z a (LinkStore q l) r p h = let n = nothing_pending (z.seats a).due (z.seats a).inc (z.seats a).dec (LinkStore q l) refl p.forced in
+    let k = p.shape.rows.1 in store_kept z.memory a q l (z.seats a) r (omega arith) (store_row_out b z a q l p) n.1 n.2
 balance_kept b z a (Inc q) r p h = inc_kept z.memory a q (z.seats a) r (and_both _ _ p.fits).1 (inc_count _ (inc_bounds b z a q p))
 balance_kept b z a (Dec q) r p h = dec_kept z.memory a q (z.seats a) r (and_both _ _ (and_both _ _ p.fits).0).1 (dec_count _ (dec_bounds b z a q p))
 balance_kept b z a (SetRetired q n) r p h = set_retired_kept z.memory a q n (z.seats a) r
@@ -102,30 +104,40 @@ token_kept b z a (Dec q) r p h = rw (dec_bit _ (dec_bounds b z a q p))
 token_kept b z a (SetRetired q n) r p h = set_token z.memory a q n (z.seats a) r (ltb-true _ _ (and_both _ _ (and_both _ _ p.fits).0).1)
 token_kept b z a (Unretire q) r p h = unretire_token b z a q r p
 token_kept b z a (CounterLoad q Check) r p h = refl
-token_kept b z a (CounterLoad q Start) r p h = start_token z.memory a q (z.seats a) r (no_part _ (and_both _ _ (and_both _ _ (and_both _ _ p.fits).0).0).1) (from_hand_or_list _ q _ (and_both _ _ p.fits).1)
-token_kept b z a (CounterLoad q End) r p h = let s = (and_both _ _ (and_both _ _ (and_both _ _ p.fits).0).0).1 in end_token z.memory a q (z.seats a) r (scan_no_doom (z.seats a) q (p.counted.one_part a) s) s
+token_kept b z a (CounterLoad q Start) r p h =
+    start_token z.memory a q (z.seats a) r (no_part _ (and_both _ _ (and_both _ _ (and_both _ _ p.fits).0).0).1)
+    (from_hand_or_list _ q _ (and_both _ _ p.fits).1)
+token_kept b z a (CounterLoad q End) r p h = let s = (and_both _ _ (and_both _ _ (and_both _ _ p.fits).0).0).1 in
+    end_token z.memory a q (z.seats a) r (scan_no_doom (z.seats a) q (p.counted.one_part a) s) s
 token_kept b z a (LinkLoad w k) r p h = refl
 token_kept b z a (SlotLook k) r p h = rw (scans_on (z.seats a).scan (z.memory (Slot (k / 8) (k % 8))) r)
-token_kept b z a (Hand k) r p h = let s = found_one (z.seats a).scan (and_both _ _ (and_both _ _ p.fits).0).1 in let g = p.shape.rows.1 in hand_token z.memory a k (z.seats a) r (omega arith) (scan_no_hand (z.seats a) (p.counted.one_part a) s) s
+token_kept b z a (Hand k) r p h = let s = found_one (z.seats a).scan (and_both _ _ (and_both _ _ p.fits).0).1 in let g = p.shape.rows.1 in
+    hand_token z.memory a k (z.seats a) r (omega arith) (scan_no_hand (z.seats a) (p.counted.one_part a) s) s
 token_kept b z a (TakeIn k) r p h = let g = p.shape.rows.1 in take_in_token z.memory a k (z.seats a) r (omega arith)
 token_kept b z a (Free q) r p h = free_token z.memory a q (z.seats a) r (and_both _ _ p.fits).1
 token_kept b z a op r p h = refl
 
-outside_step : (b : Bounds) (m : Word → ℕ) (w : Word) (v : ℕ) → IsWithin b w → ((x : Word) → is_within b x ≡ false → m x ≡ 0) → (x : Word) → is_within b x ≡ false → write m w v x ≡ 0
+outside_step : (b : Bounds) (m : Word → ℕ) (w : Word) (v : ℕ) → IsWithin b w → ((x : Word) → is_within b x ≡ false → m x ≡ 0) → (x : Word)
+    → is_within b x ≡ false → write m w v x ≡ 0
 outside_step b m w v h s x n = cases (same_word x w) refl
   where
     cases : (t : Bool) → same_word x w ≡ t → cond t v (m x) ≡ 0
     cases true e = absurd (false≢true (sym n ∙ ap (is_within b) (same_word-true x w e) ∙ IsWithin-is_within b w h))
     cases false e = s x n
 
-inc_held_step : (b : Bounds) (z : World) (a : ℕ) (op : Op) → LawfulStep b z a op → (x r : ℕ) → names ((step_world z a op).seats x).inc r ≡ true → any_holds ((step_world z a op).seats x).slots r ≡ true
+inc_held_step : (b : Bounds) (z : World) (a : ℕ) (op : Op) → LawfulStep b z a op → (x r : ℕ) → names ((step_world z a op).seats x).inc r ≡ true
+    → any_holds ((step_world z a op).seats x).slots r ≡ true
 inc_held_step b z a op p x r g = cases (x == a) refl g
   where
-    cases : (t : Bool) → (x == a) ≡ t → names (cond t (record_by z a op) (z.seats x)).inc r ≡ true → any_holds (cond t (record_by z a op) (z.seats x)).slots r ≡ true
-    cases true e k = ⊎_elim (λ old. rw (inc_slots op (z.seats a) (read_by z a op) r p.forced old) (p.counted.inc_held a r old)) (λ new. links_holds op (z.seats a) (read_by z a op) r new (links_held b (z.memory Enrolled) a op (z.seats a) r p.fits new)) (inc_source op (z.seats a) (read_by z a op) r k)
+    cases : (t : Bool) → (x == a) ≡ t → names (cond t (record_by z a op) (z.seats x)).inc r ≡ true
+        → any_holds (cond t (record_by z a op) (z.seats x)).slots r ≡ true
+    cases true e k = ⊎_elim (λ old. rw (inc_slots op (z.seats a) (read_by z a op) r p.forced old) (p.counted.inc_held a r old))
+        (λ new. links_holds op (z.seats a) (read_by z a op) r new (links_held b (z.memory Enrolled) a op (z.seats a) r p.fits new))
+        (inc_source op (z.seats a) (read_by z a op) r k)
     cases false e k = p.counted.inc_held x r k
 
-due_held_step : (b : Bounds) (z : World) (a : ℕ) (op : Op) → LawfulStep b z a op → (x r : ℕ) → saw ((step_world z a op).seats x).due r ≡ true → any_holds ((step_world z a op).seats x).slots r ≡ true
+due_held_step : (b : Bounds) (z : World) (a : ℕ) (op : Op) → LawfulStep b z a op → (x r : ℕ) → saw ((step_world z a op).seats x).due r ≡ true
+    → any_holds ((step_world z a op).seats x).slots r ≡ true
 due_held_step b z a op p x r g = cases (x == a) refl g
   where
     counts_holds : (op : Op) (d : Agent) (v r : ℕ) → counts op d.scan r ≡ true → any_holds d.slots r ≡ true → any_holds (after op d v).slots r ≡ true
@@ -134,8 +146,12 @@ due_held_step b z a op p x r g = cases (x == a) refl g
     counts_holds (Unretire q) d v r n h = h
     counts_holds op d v r n h = absurd (false≢true n)
 
-    cases : (t : Bool) → (x == a) ≡ t → saw (cond t (record_by z a op) (z.seats x)).due r ≡ true → any_holds (cond t (record_by z a op) (z.seats x)).slots r ≡ true
-    cases true e k = ⊎_elim (λ old. absurd (both_ways _ k (due_ends op (z.seats a) (read_by z a op) r p.forced old))) (λ new. counts_holds op (z.seats a) (read_by z a op) r new (counts_held b (z.memory Enrolled) a op (z.seats a) r p.fits (p.counted.one_part a) (p.counted.inc_held a r) new)) (due_source op (z.seats a) (read_by z a op) r k)
+    cases : (t : Bool) → (x == a) ≡ t → saw (cond t (record_by z a op) (z.seats x)).due r ≡ true
+        → any_holds (cond t (record_by z a op) (z.seats x)).slots r ≡ true
+    cases true e k = ⊎_elim (λ old. absurd (both_ways _ k (due_ends op (z.seats a) (read_by z a op) r p.forced old)))
+        (λ new. counts_holds op (z.seats a) (read_by z a op) r new
+        (counts_held b (z.memory Enrolled) a op (z.seats a) r p.fits (p.counted.one_part a) (p.counted.inc_held a r) new))
+        (due_source op (z.seats a) (read_by z a op) r k)
     cases false e k = p.counted.due_held x r k
 
 pub step_within : (b : Bounds) (z : World) (a : ℕ) (op : Op) → LawfulStep b z a op → IsWithin b (action_of a op (z.seats a)).word
@@ -151,7 +167,8 @@ counted_step b z a op p = record {
   inc_held = inc_held_step b z a op p;
   due_held = due_held_step b z a op p;
   token = λ r h. token_step b z a _ _ _ r (step_within b z a op p) p.agent (token_kept b z a op r p h) (p.counted.token r h);
-  one_part = λ x. seat_join HasOnePart z.seats a x (record_by z a op) (parts_kept b (z.memory Enrolled) a op (z.seats a) (read_by z a op) p.fits (p.counted.one_part a)) (p.counted.one_part x);
+  one_part = λ x. seat_join HasOnePart z.seats a x (record_by z a op)
+      (parts_kept b (z.memory Enrolled) a op (z.seats a) (read_by z a op) p.fits (p.counted.one_part a)) (p.counted.one_part x);
   used_out = used_out_step b z a op p;
   bit_out = bit_out_step b z a op p;
   free_null = free_null_step b z a op p;

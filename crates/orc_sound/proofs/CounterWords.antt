@@ -10,7 +10,8 @@ inc_count w h = omega arith
 pub inc_bit : (w : ℕ) → count_bits w + 1 < 8388608 → retired_bit ((w + 16777217) % 18446744073709551616) ≡ retired_bit w
 inc_bit w h = omega arith
 
-pub inc_sequence : (w : ℕ) → sequence_of w < 2 ^ 39 + 2 ^ 19 → count_bits w + 1 < 8388608 → sequence_of ((w + 16777217) % 18446744073709551616) ≡ sequence_of w + 1
+pub inc_sequence : (w : ℕ) → sequence_of w < 2 ^ 39 + 2 ^ 19 → count_bits w + 1 < 8388608
+    → sequence_of ((w + 16777217) % 18446744073709551616) ≡ sequence_of w + 1
 inc_sequence w l h = omega arith
 
 pub dec_count : (w : ℕ) → 0 < count_bits w → count_bits ((w + 16777215) % 18446744073709551616) + 1 ≡ count_bits w
@@ -28,7 +29,8 @@ clear_bit w h = omega arith
 pub dec_sequence : (w : ℕ) → sequence_of w < 2 ^ 39 + 2 ^ 19 → 0 < count_bits w → sequence_of ((w + 16777215) % 18446744073709551616) ≡ sequence_of w + 1
 dec_sequence w l h = omega arith
 
-pub clear_sequence : (w : ℕ) → sequence_of w < 2 ^ 39 + 2 ^ 19 → retired_bit w ≡ 1 → sequence_of ((w + 18446744073701163008) % 18446744073709551616) ≡ sequence_of w
+pub clear_sequence : (w : ℕ) → sequence_of w < 2 ^ 39 + 2 ^ 19 → retired_bit w ≡ 1
+    → sequence_of ((w + 18446744073701163008) % 18446744073709551616) ≡ sequence_of w
 clear_sequence w l h = omega arith
 
 -- a bit that is tried leaves the count and the sequence

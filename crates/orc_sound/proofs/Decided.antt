@@ -94,8 +94,22 @@ is_not false h = refl
 
 pub unreachable_is : (m : Machine) (r : ℕ) → unreachable_in m r ≡ true → IsUnreachable m r
 unreachable_is m r h =
-    let p = four_true (linked m r == 0) (not (held m r)) (not (some_below m.bounds.agents (λ a. changes (record_at m a) r))) (count_bits (word_in m (Counter r)) == 4194304) h in
-    record { linked = eqb-true (linked m r) 0 p.0; held = not_is (held m r) p.1; changes = not_is (some_below m.bounds.agents (λ a. changes (record_at m a) r)) p.2; count = count_zero (word_in m (Counter r)) (eqb-true (count_bits (word_in m (Counter r))) 4194304 p.3) }
+    let p = four_true (linked m r == 0) (not (held m r)) (not (some_below m.bounds.agents (λ a. changes (record_at m a) r)))
+    (count_bits (word_in m (Counter r)) == 4194304) h in
+    record {
+      linked = eqb-true (linked m r) 0 p.0;
+      held = not_is (held m r) p.1;
+      changes =
+          not_is (some_below m.bounds.agents (λ a. changes (record_at m a) r)) p.2;
+      count =
+          count_zero (word_in m (Counter r)) (eqb-true (count_bits (word_in m (Counter r))) 4194304 p.3);
+    }
 
 pub is_unreachable : (m : Machine) (r : ℕ) → IsUnreachable m r → unreachable_in m r ≡ true
-is_unreachable m r h = rw (eq-eqb (linked m r) 0 h.linked, h.held, h.changes, eq-eqb (count_bits (word_in m (Counter r))) 4194304 (zero_count (count_bits (word_in m (Counter r))) h.count))
+is_unreachable m r h =
+    rw (
+      eq-eqb (linked m r) 0 h.linked,
+      h.held,
+      h.changes,
+      eq-eqb (count_bits (word_in m (Counter r))) 4194304 (zero_count (count_bits (word_in m (Counter r))) h.count),
+    )

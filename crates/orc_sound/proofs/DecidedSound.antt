@@ -46,8 +46,15 @@ le_is x y h = grind arith
 
 pub tests_pass : (m : Machine) → all_fit m ≡ true → TestsPass m
 tests_pass m h =
-    let p = four_true (nat_le (word_in m Enrolled) m.bounds.agents) (all_below m.bounds.roots (λ i. target_fits m (word_in m (Root i)))) (all_below m.bounds.rows (row_fits m)) (all_below m.bounds.agents (agent_fits m)) h in
-    record { enrolments = le_is (word_in m Enrolled) m.bounds.agents p.0; roots = λ i l. all_there m.bounds.roots i (λ j. target_fits m (word_in m (Root j))) p.1 l; rows = λ r l. all_there m.bounds.rows r (row_fits m) p.2 l; agents = λ a l. all_there m.bounds.agents a (agent_fits m) p.3 l }
+    let p = four_true (nat_le (word_in m Enrolled) m.bounds.agents) (all_below m.bounds.roots (λ i. target_fits m (word_in m (Root i))))
+    (all_below m.bounds.rows (row_fits m)) (all_below m.bounds.agents (agent_fits m)) h in
+    record {
+      enrolments = le_is (word_in m Enrolled) m.bounds.agents p.0;
+      roots =
+          λ i l. all_there m.bounds.roots i (λ j. target_fits m (word_in m (Root j))) p.1 l;
+      rows = λ r l. all_there m.bounds.rows r (row_fits m) p.2 l;
+      agents = λ a l. all_there m.bounds.agents a (agent_fits m) p.3 l;
+    }
 
 -- the tests of one row
 record RowPasses (m : Machine) (r : ℕ) : Type 0 where
@@ -57,7 +64,9 @@ record RowPasses (m : Machine) (r : ℕ) : Type 0 where
   rest : cond (is_out m r) (target_fits m (word_in m (Next r)) && has_reason m r) (free_fits m r) ≡ true
 
 row_passes : (m : Machine) (r : ℕ) → row_fits m r ≡ true → RowPasses m r
-row_passes m r h = let p = four_true (count_fits m r) (token_fits m r) (range_fits m r) (cond (is_out m r) (target_fits m (word_in m (Next r)) && has_reason m r) (free_fits m r)) h in record { count = p.0; token = p.1; range = p.2; rest = p.3 }
+row_passes m r h = let p =
+    four_true (count_fits m r) (token_fits m r) (range_fits m r)
+    (cond (is_out m r) (target_fits m (word_in m (Next r)) && has_reason m r) (free_fits m r)) h in record { count = p.0; token = p.1; range = p.2; rest = p.3 }
 
 -- the tests of one agent
 record AgentPasses (m : Machine) (a : ℕ) : Type 0 where
@@ -72,18 +81,23 @@ record AgentPasses (m : Machine) (a : ℕ) : Type 0 where
 
 agent_passes : (m : Machine) (a : ℕ) → agent_fits m a ≡ true → AgentPasses m a
 agent_passes m a h =
-    let p = four_true (enrolment_fits m a && slots_fit m a && pending_fits m (record_at m a) && one_part_in (record_at m a) && scan_fits m (record_at m a).scan) (doom_fits m a (record_at m a).doom) (named_passes (record_at m a).fresh (fresh_fits m a)) (looks_fit m (record_at m a)) h in
-    let q = four_true (enrolment_fits m a && slots_fit m a) (pending_fits m (record_at m a)) (one_part_in (record_at m a)) (scan_fits m (record_at m a).scan) p.0 in
+    let p = four_true
+    (enrolment_fits m a && slots_fit m a && pending_fits m (record_at m a) && one_part_in (record_at m a) && scan_fits m (record_at m a).scan)
+    (doom_fits m a (record_at m a).doom) (named_passes (record_at m a).fresh (fresh_fits m a)) (looks_fit m (record_at m a)) h in
+    let q = four_true (enrolment_fits m a && slots_fit m a) (pending_fits m (record_at m a)) (one_part_in (record_at m a))
+    (scan_fits m (record_at m a).scan) p.0 in
     let s = and_both (enrolment_fits m a) (slots_fit m a) q.0 in
     record { enrolment = s.0; slots = s.1; pending = q.1; part = q.2; scan = q.3; doom = p.1; fresh = p.2; looks = p.3 }
 
 three_true : (a b c : Bool) → (a && b && c) ≡ true → (a ≡ true) × (b ≡ true) × (c ≡ true)
 three_true a b c h = let p = and_both (a && b) c h in let q = and_both a b p.0 in (q.0, q.1, p.1)
 
-held_or_due : (m : Machine) (a r : ℕ) → pending_fits m (record_at m a) ≡ true → (names (record_at m a).inc r || saw (record_at m a).due r) ≡ true → holds_row m a r ≡ true
+held_or_due : (m : Machine) (a r : ℕ) → pending_fits m (record_at m a) ≡ true → (names (record_at m a).inc r || saw (record_at m a).due r) ≡ true
+    → holds_row m a r ≡ true
 held_or_due m a r f h =
     let d = record_at m a in
-    let p = three_true (named_passes d.inc (λ q. any_holds d.slots q && out_in m q)) (named_passes d.dec (out_in m)) (named_passes (row_seen d.due) (λ q. any_holds d.slots q && out_in m q)) f in
+    let p = three_true (named_passes d.inc (λ q. any_holds d.slots q && out_in m q)) (named_passes d.dec (out_in m))
+    (named_passes (row_seen d.due) (λ q. any_holds d.slots q && out_in m q)) f in
     ⊎_elim
     (λ i. (and_both (any_holds d.slots r) (out_in m r) (passes_at d.inc (λ q. any_holds d.slots q && out_in m q) r p.0 i)).0)
     (λ u. (and_both (any_holds d.slots r) (out_in m r) (passes_at (row_seen d.due) (λ q. any_holds d.slots q && out_in m q) r p.2 (seen_row d.due r ∙ u))).0)
@@ -92,7 +106,8 @@ held_or_due m a r f h =
 changing_out : (m : Machine) (a r : ℕ) → pending_fits m (record_at m a) ≡ true → changes (record_at m a) r ≡ true → IsOut m r
 changing_out m a r f h =
     let d = record_at m a in
-    let p = three_true (named_passes d.inc (λ q. any_holds d.slots q && out_in m q)) (named_passes d.dec (out_in m)) (named_passes (row_seen d.due) (λ q. any_holds d.slots q && out_in m q)) f in
+    let p = three_true (named_passes d.inc (λ q. any_holds d.slots q && out_in m q)) (named_passes d.dec (out_in m))
+    (named_passes (row_seen d.due) (λ q. any_holds d.slots q && out_in m q)) f in
     out_is m r
     (⊎_elim
     (λ k. ⊎_elim
@@ -104,7 +119,8 @@ changing_out m a r f h =
 
 balance_is : (m : Machine) → TestsPass m → Balance m
 balance_is m t = record {
-  count = λ r h. count_is (count_bits (word_in m (Counter r))) (increments m r) (linked m r) (decrements m r) (eqb-true (count_bits (word_in m (Counter r)) + increments m r) (4194304 + linked m r + decrements m r) (row_passes m r (t.rows r h)).count);
+  count = λ r h. count_is (count_bits (word_in m (Counter r))) (increments m r) (linked m r) (decrements m r)
+      (eqb-true (count_bits (word_in m (Counter r)) + increments m r) (4194304 + linked m r + decrements m r) (row_passes m r (t.rows r h)).count);
   held = λ a r l h. held_or_due m a r (agent_passes m a (t.agents a l)).pending h;
   out = λ a r l h. changing_out m a r (agent_passes m a (t.agents a l)).pending h;
 }
@@ -112,21 +128,26 @@ balance_is m t = record {
 token_is : (m : Machine) → TestsPass m → RetirementToken m
 token_is m t = record {
   one = λ r h. eqb-true (tokens m r) (bit (is_retired m r)) (row_passes m r (t.rows r h)).token;
-  part = λ a h. le_is (bit (is_some (record_at m a).hand) + bit (is_some (record_at m a).scan) + bit (is_some (record_at m a).doom)) 1 (agent_passes m a (t.agents a h)).part;
+  part = λ a h. le_is (bit (is_some (record_at m a).hand) + bit (is_some (record_at m a).scan) + bit (is_some (record_at m a).doom)) 1
+      (agent_passes m a (t.agents a h)).part;
 }
 
 left_is : (m : Machine) (r k : ℕ) → left_in m r k ≡ true → IsLeft m r k
 left_is m r k h =
-    let p = four_true (linked m r == 0) (increments m r == 0) (decrements m r == 0) (all_below m.bounds.agents (λ a. all_below 8 (λ j. not (holds (slot_of (record_at m a) j) r) || nat_le k (8 * a + j)))) h in
+    let p = four_true (linked m r == 0) (increments m r == 0) (decrements m r == 0)
+    (all_below m.bounds.agents (λ a. all_below 8 (λ j. not (holds (slot_of (record_at m a) j) r) || nat_le k (8 * a + j)))) h in
     record {
       linked = eqb-true (linked m r) 0 p.0;
       increments = eqb-true (increments m r) 0 p.1;
       decrements = eqb-true (decrements m r) 0 p.2;
-      holds = λ a j l g e. late a j e (all_there 8 j (λ y. not (holds (slot_of (record_at m a) y) r) || nat_le k (8 * a + y)) (all_there m.bounds.agents a (λ x. all_below 8 (λ y. not (holds (slot_of (record_at m x) y) r) || nat_le k (8 * x + y))) p.3 l) g);
+      holds = λ a j l g e. late a j e
+          (all_there 8 j (λ y. not (holds (slot_of (record_at m a) y) r) || nat_le k (8 * a + y))
+          (all_there m.bounds.agents a (λ x. all_below 8 (λ y. not (holds (slot_of (record_at m x) y) r) || nat_le k (8 * x + y))) p.3 l) g);
     }
   where
     late : (a j : ℕ) → holds (slot_of (record_at m a) j) r ≡ true → (not (holds (slot_of (record_at m a) j) r) || nat_le k (8 * a + j)) ≡ true → k ≤ 8 * a + j
-    late a j e h = ⊎_elim (λ n. absurd (both_ways (holds (slot_of (record_at m a) j) r) e (not_is (holds (slot_of (record_at m a) j) r) n))) (λ n. le_is k (8 * a + j) n) (either (not (holds (slot_of (record_at m a) j) r)) (nat_le k (8 * a + j)) h)
+    late a j e h = ⊎_elim (λ n. absurd (both_ways (holds (slot_of (record_at m a) j) r) e (not_is (holds (slot_of (record_at m a) j) r) n)))
+        (λ n. le_is k (8 * a + j) n) (either (not (holds (slot_of (record_at m a) j) r)) (nat_le k (8 * a + j)) h)
 
 -- the tests of one scan
 record ScanPasses (m : Machine) (s : Scan) : Type 0 where
@@ -138,26 +159,41 @@ record ScanPasses (m : Machine) (s : Scan) : Type 0 where
 
 scan_passes : (m : Machine) (s : Scan) → scan_fits m (Some s) ≡ true → ScanPasses m s
 scan_passes m s h =
-    let p = four_true (nat_lt s.row m.bounds.rows && (retired_bit s.word == 1)) (nat_le (sequence_of s.word) (sequence_of (word_in m (Counter s.row)))) (not (sequence_of (word_in m (Counter s.row)) == sequence_of s.word) || same_fits m s) (not s.found || ((count_bits s.word == 4194304) && nat_lt s.place (8 * m.bounds.agents))) h in
+    let p = four_true (nat_lt s.row m.bounds.rows && (retired_bit s.word == 1))
+    (nat_le (sequence_of s.word) (sequence_of (word_in m (Counter s.row))))
+    (not (sequence_of (word_in m (Counter s.row)) == sequence_of s.word) || same_fits m s)
+    (not s.found || ((count_bits s.word == 4194304) && nat_lt s.place (8 * m.bounds.agents))) h in
     let q = and_both (nat_lt s.row m.bounds.rows) (retired_bit s.word == 1) p.0 in
-    record { row = ltb-true s.row m.bounds.rows q.0; set = eqb-true (retired_bit s.word) 1 q.1; behind = le_is (sequence_of s.word) (sequence_of (word_in m (Counter s.row))) p.1; same = p.2; found = p.3 }
+    record {
+      row = ltb-true s.row m.bounds.rows q.0;
+      set = eqb-true (retired_bit s.word) 1 q.1;
+      behind =
+          le_is (sequence_of s.word) (sequence_of (word_in m (Counter s.row))) p.1;
+      same = p.2;
+      found = p.3;
+    }
 
 same_sequence : (m : Machine) (s : Scan) → ScanPasses m s → sequence_of (word_in m (Counter s.row)) ≡ sequence_of s.word → same_fits m s ≡ true
 same_sequence m s p e =
     ⊎_elim
-    (λ n. absurd (both_ways (sequence_of (word_in m (Counter s.row)) == sequence_of s.word) (eq-eqb (sequence_of (word_in m (Counter s.row))) (sequence_of s.word) e) (not_is (sequence_of (word_in m (Counter s.row)) == sequence_of s.word) n)))
+    (λ n. absurd
+    (both_ways (sequence_of (word_in m (Counter s.row)) == sequence_of s.word)
+    (eq-eqb (sequence_of (word_in m (Counter s.row))) (sequence_of s.word) e) (not_is (sequence_of (word_in m (Counter s.row)) == sequence_of s.word) n)))
     (λ k. k)
     (either (not (sequence_of (word_in m (Counter s.row)) == sequence_of s.word)) (same_fits m s) p.same)
 
-quiet_is : (m : Machine) (o : Option Scan) → scan_fits m o ≡ true → (r k : ℕ) → scans o r ≡ true → scan_at o k ≡ true → scan_empty o ≡ true → sequence_of (word_in m (Counter r)) ≡ sequence_of (kept o) → (is_linked_anew m r k ≡ true) ⊎ IsLeft m r k
+quiet_is : (m : Machine) (o : Option Scan) → scan_fits m o ≡ true → (r k : ℕ) → scans o r ≡ true → scan_at o k ≡ true → scan_empty o ≡ true
+    → sequence_of (word_in m (Counter r)) ≡ sequence_of (kept o) → (is_linked_anew m r k ≡ true) ⊎ IsLeft m r k
 quiet_is m None f r k h i j e = absurd (false≢true h)
 quiet_is m (Some s) f r k h i j e =
     let q = eqb-true s.row r h in
     let n = eqb-true s.place k i in
-    let g = (and_both (count_bits (word_in m (Counter s.row)) == count_bits s.word) (not (count_bits s.word == 4194304) || is_linked_anew m s.row s.place || left_in m s.row s.place) (same_sequence m s (scan_passes m s f) (rw q e))).1 in
+    let g = (and_both (count_bits (word_in m (Counter s.row)) == count_bits s.word)
+    (not (count_bits s.word == 4194304) || is_linked_anew m s.row s.place || left_in m s.row s.place) (same_sequence m s (scan_passes m s f) (rw q e))).1 in
     rw (← q, ← n)
     (⊎_elim
-    (λ u. ⊎_elim (λ z. absurd (both_ways (count_bits s.word == 4194304) j (not_is (count_bits s.word == 4194304) z))) (λ z. inl z) (either (not (count_bits s.word == 4194304)) (is_linked_anew m s.row s.place) u))
+    (λ u. ⊎_elim (λ z. absurd (both_ways (count_bits s.word == 4194304) j (not_is (count_bits s.word == 4194304) z))) (λ z. inl z)
+    (either (not (count_bits s.word == 4194304)) (is_linked_anew m s.row s.place) u))
     (λ u. inr (left_is m s.row s.place u))
     (either (not (count_bits s.word == 4194304) || is_linked_anew m s.row s.place) (left_in m s.row s.place) g))
 
@@ -169,7 +205,8 @@ pub record ScanShows (m : Machine) (o : Option Scan) : Type 0 where
   pub count : (r : ℕ) → scans o r ≡ true → sequence_of (word_in m (Counter r)) ≡ sequence_of (kept o) → count_bits (word_in m (Counter r)) ≡ count_bits (kept o)
   pub found : scan_found o ≡ true → scan_empty o ≡ true
   pub place : (k : ℕ) → scan_found o ≡ true → scan_at o k ≡ true → k < 8 * m.bounds.agents
-  pub quiet : (r k : ℕ) → scans o r ≡ true → scan_at o k ≡ true → scan_empty o ≡ true → sequence_of (word_in m (Counter r)) ≡ sequence_of (kept o) → (is_linked_anew m r k ≡ true) ⊎ IsLeft m r k
+  pub quiet : (r k : ℕ) → scans o r ≡ true → scan_at o k ≡ true → scan_empty o ≡ true → sequence_of (word_in m (Counter r)) ≡ sequence_of (kept o)
+      → (is_linked_anew m r k ≡ true) ⊎ IsLeft m r k
 
 scan_shows : (m : Machine) (o : Option Scan) → scan_fits m o ≡ true → ScanShows m o
 scan_shows m None f = record {
@@ -185,7 +222,10 @@ scan_shows m (Some s) f = record {
   row = λ r h. rw (← eqb-true s.row r h) p.row;
   set = λ r h. p.set;
   behind = λ r h. rw (← eqb-true s.row r h) p.behind;
-  count = λ r h e. rw (← eqb-true s.row r h) (eqb-true (count_bits (word_in m (Counter s.row))) (count_bits s.word) (and_both (count_bits (word_in m (Counter s.row)) == count_bits s.word) (not (count_bits s.word == 4194304) || is_linked_anew m s.row s.place || left_in m s.row s.place) (same_sequence m s p (rw (eqb-true s.row r h) e))).0);
+  count = λ r h e. rw (← eqb-true s.row r h)
+      (eqb-true (count_bits (word_in m (Counter s.row))) (count_bits s.word)
+      (and_both (count_bits (word_in m (Counter s.row)) == count_bits s.word)
+      (not (count_bits s.word == 4194304) || is_linked_anew m s.row s.place || left_in m s.row s.place) (same_sequence m s p (rw (eqb-true s.row r h) e))).0);
   found = λ h. (found_both h).0;
   place = λ k h i. rw (← eqb-true s.place k i) (ltb-true s.place (8 * m.bounds.agents) (found_both h).1);
   quiet = quiet_is m (Some s) f;
@@ -195,7 +235,10 @@ scan_shows m (Some s) f = record {
     p = scan_passes m s f
 
     found_both : s.found ≡ true → ((count_bits s.word == 4194304) ≡ true) × (nat_lt s.place (8 * m.bounds.agents) ≡ true)
-    found_both h = ⊎_elim (λ n. absurd (both_ways s.found h (not_is s.found n))) (λ k. and_both (count_bits s.word == 4194304) (nat_lt s.place (8 * m.bounds.agents)) k) (either (not s.found) ((count_bits s.word == 4194304) && nat_lt s.place (8 * m.bounds.agents)) p.found)
+    found_both h =
+        ⊎_elim (λ n. absurd (both_ways s.found h (not_is s.found n)))
+        (λ k. and_both (count_bits s.word == 4194304) (nat_lt s.place (8 * m.bounds.agents)) k)
+        (either (not s.found) ((count_bits s.word == 4194304) && nat_lt s.place (8 * m.bounds.agents)) p.found)
 
 -- the tests of one doom
 record DoomPasses (m : Machine) (a : ℕ) (d : Doom) : Type 0 where
@@ -216,14 +259,18 @@ either_not false false h k = absurd (false≢true k)
 
 doom_passes : (m : Machine) (a : ℕ) (d : Doom) → doom_fits m a (Some d) ≡ true → DoomPasses m a d
 doom_passes m a d h =
-    let p = four_true (out_in m d.row && unreachable_in m d.row) (all_below m.bounds.agents (λ x. (x == a) || not (dooms (record_at m x).doom d.row))) (not d.cut || (word_in m (Next d.row) == 0)) (not d.bare || (d.cut && not (is_retired m d.row))) h in
+    let p = four_true (out_in m d.row && unreachable_in m d.row) (all_below m.bounds.agents (λ x. (x == a) || not (dooms (record_at m x).doom d.row)))
+    (not d.cut || (word_in m (Next d.row) == 0)) (not d.bare || (d.cut && not (is_retired m d.row))) h in
     let q = and_both (out_in m d.row) (unreachable_in m d.row) p.0 in
     record {
       out = out_is m d.row q.0;
       unreachable = unreachable_is m d.row q.1;
-      alone = λ x l e. eqb-true x a (either_not (x == a) (dooms (record_at m x).doom d.row) (all_there m.bounds.agents x (λ y. (y == a) || not (dooms (record_at m y).doom d.row)) p.1 l) e);
+      alone = λ x l e. eqb-true x a
+          (either_not (x == a) (dooms (record_at m x).doom d.row)
+          (all_there m.bounds.agents x (λ y. (y == a) || not (dooms (record_at m y).doom d.row)) p.1 l) e);
       null = λ c. eqb-true (word_in m (Next d.row)) 0 (only d.cut (word_in m (Next d.row) == 0) p.2 c);
-      bare = λ c. let g = and_both d.cut (not (is_retired m d.row)) (only d.bare (d.cut && not (is_retired m d.row)) p.3 c) in (g.0, not_is (is_retired m d.row) g.1);
+      bare = λ c. let g = and_both d.cut (not (is_retired m d.row)) (only d.bare (d.cut && not (is_retired m d.row)) p.3 c) in
+          (g.0, not_is (is_retired m d.row) g.1);
     }
 
 -- what a sound state says of one doom
@@ -253,15 +300,19 @@ doom_shows m a (Some d) f = record {
     p : DoomPasses m a d
     p = doom_passes m a d f
 
-free_part : (m : Machine) (r : ℕ) → TestsPass m → r < m.bounds.rows → is_out m r ≡ false → (unreachable_in m r ≡ true) × (not (is_retired m r) ≡ true) × ((word_in m (Next r) == 0) ≡ true) × (not (some_below m.bounds.agents (λ a. dooms (record_at m a).doom r)) ≡ true)
-free_part m r t h k = four_true (unreachable_in m r) (not (is_retired m r)) (word_in m (Next r) == 0) (not (some_below m.bounds.agents (λ a. dooms (record_at m a).doom r))) (rw k at (row_passes m r (t.rows r h)).rest)
+free_part : (m : Machine) (r : ℕ) → TestsPass m → r < m.bounds.rows → is_out m r ≡ false → (unreachable_in m r ≡ true) × (not (is_retired m r) ≡ true)
+    × ((word_in m (Next r) == 0) ≡ true) × (not (some_below m.bounds.agents (λ a. dooms (record_at m a).doom r)) ≡ true)
+free_part m r t h k =
+    four_true (unreachable_in m r) (not (is_retired m r)) (word_in m (Next r) == 0)
+    (not (some_below m.bounds.agents (λ a. dooms (record_at m a).doom r))) (rw k at (row_passes m r (t.rows r h)).rest)
 
 free_is : (m : Machine) → TestsPass m → FreeRows m
 free_is m t = record {
   unreachable = λ r h k. unreachable_is m r (free_part m r t h k).0;
   clear = λ r h k. not_is (is_retired m r) (free_part m r t h k).1;
   null = λ r h k. eqb-true (word_in m (Next r)) 0 (free_part m r t h k).2;
-  undoomed = λ a r l h k. below_none m.bounds.agents a (λ x. dooms (record_at m x).doom r) (not_is (some_below m.bounds.agents (λ x. dooms (record_at m x).doom r)) (free_part m r t h k).3) l;
+  undoomed = λ a r l h k. below_none m.bounds.agents a (λ x. dooms (record_at m x).doom r)
+      (not_is (some_below m.bounds.agents (λ x. dooms (record_at m x).doom r)) (free_part m r t h k).3) l;
 }
 
 out_part : (m : Machine) (r : ℕ) → TestsPass m → IsOut m r → (target_fits m (word_in m (Next r)) ≡ true) × (has_reason m r ≡ true)
@@ -284,14 +335,37 @@ no_items (x ∷ xs) h = let e = eqb-true (length (x ∷ xs)) 0 h in absurd (omeg
 
 nobody_is : (d : Agent) (room : ℕ) → length d.slots ≡ 8 → d.list.room ≡ room → is_nobody d ≡ true → d ≡ nobody room
 nobody_is d room e r h =
-    let p = four_true (not d.enrolled && all_below 8 (λ k. is_empty (slot_of d k)) && is_none d.fresh && is_none d.looked && is_none d.checked && is_none d.inc && is_none d.dec && is_none d.due && is_none d.hand) (is_none d.scan) (is_none d.doom) (length d.list.items == 0) h in
-    let q = four_true (not d.enrolled && all_below 8 (λ k. is_empty (slot_of d k)) && is_none d.fresh && is_none d.looked && is_none d.checked && is_none d.inc) (is_none d.dec) (is_none d.due) (is_none d.hand) p.0 in
-    let s = four_true (not d.enrolled && all_below 8 (λ k. is_empty (slot_of d k)) && is_none d.fresh) (is_none d.looked) (is_none d.checked) (is_none d.inc) q.0 in
+    let p = four_true
+    (not d.enrolled && all_below 8 (λ k. is_empty (slot_of d k)) && is_none d.fresh && is_none d.looked && is_none d.checked && is_none d.inc &&
+    is_none d.dec && is_none d.due && is_none d.hand) (is_none d.scan) (is_none d.doom) (length d.list.items == 0) h in
+    let q = four_true
+    (not d.enrolled && all_below 8 (λ k. is_empty (slot_of d k)) && is_none d.fresh && is_none d.looked && is_none d.checked && is_none d.inc)
+    (is_none d.dec) (is_none d.due) (is_none d.hand) p.0 in
+    let s = four_true (not d.enrolled && all_below 8 (λ k. is_empty (slot_of d k)) && is_none d.fresh) (is_none d.looked) (is_none d.checked)
+    (is_none d.inc) q.0 in
     let t = three_true (not d.enrolled) (all_below 8 (λ k. is_empty (slot_of d k))) (is_none d.fresh) s.0 in
-    whole (not_is d.enrolled t.0) (empties 8 d.slots e (λ k l. all_there 8 k (λ j. is_empty (slot_of d j)) t.1 l)) (no_part d.fresh t.2) (no_part d.looked s.1) (no_part d.checked s.2) (no_part d.inc s.3) (no_part d.dec q.1) (no_part d.due q.2) (no_part d.hand q.3) (no_part d.scan p.1) (no_part d.doom p.2) (no_items d.list.items p.3) r
+    whole (not_is d.enrolled t.0) (empties 8 d.slots e (λ k l. all_there 8 k (λ j. is_empty (slot_of d j)) t.1 l)) (no_part d.fresh t.2)
+    (no_part d.looked s.1) (no_part d.checked s.2) (no_part d.inc s.3) (no_part d.dec q.1) (no_part d.due q.2) (no_part d.hand q.3)
+    (no_part d.scan p.1) (no_part d.doom p.2) (no_items d.list.items p.3) r
   where
-    whole : d.enrolled ≡ false → d.slots ≡ replicate 8 Empty → d.fresh ≡ None → d.looked ≡ None → d.checked ≡ None → d.inc ≡ None → d.dec ≡ None → d.due ≡ None → d.hand ≡ None → d.scan ≡ None → d.doom ≡ None → d.list.items ≡ [] → d.list.room ≡ room → d ≡ nobody room
-    whole a b c f g k l n o s t u v = λ i. record { enrolled = a i; slots = b i; fresh = c i; looked = f i; checked = g i; inc = k i; dec = l i; due = n i; hand = o i; scan = s i; doom = t i; list = record { items = u i; room = v i } }
+    whole : d.enrolled ≡ false → d.slots ≡ replicate 8 Empty → d.fresh ≡ None → d.looked ≡ None → d.checked ≡ None → d.inc ≡ None → d.dec ≡ None
+        → d.due ≡ None → d.hand ≡ None → d.scan ≡ None → d.doom ≡ None → d.list.items ≡ [] → d.list.room ≡ room → d ≡ nobody room
+    whole a b c f g k l n o s t u v =
+        λ i. record {
+          enrolled = a i;
+          slots = b i;
+          fresh = c i;
+          looked = f i;
+          checked = g i;
+          inc = k i;
+          dec = l i;
+          due = n i;
+          hand = o i;
+          scan =
+              s i;
+          doom = t i;
+          list = record { items = u i; room = v i };
+        }
 
 others_is : (m : Machine) (a : ℕ) → IsWhole m → HasEightSlots m → TestsPass m → word_in m Enrolled ≤ a → record_at m a ≡ nobody m.bounds.rows
 others_is m a w e t h = cases (nat_lt a m.bounds.agents) refl
@@ -306,22 +380,30 @@ others_is m a w e t h = cases (nat_lt a m.bounds.agents) refl
 enrolment_is : (m : Machine) → IsWhole m → HasEightSlots m → TestsPass m → Enrolment m
 enrolment_is m w e t = record {
   most = t.enrolments;
-  enrolled = λ a h. let k = t.enrolments in let l : a < m.bounds.agents = omega arith in rw (lt-ltb a (word_in m Enrolled) h) at (agent_passes m a (t.agents a l)).enrolment;
+  enrolled = λ a h. let k = t.enrolments in let l : a < m.bounds.agents = omega arith in
+      rw (lt-ltb a (word_in m Enrolled) h) at (agent_passes m a (t.agents a l)).enrolment;
   others = λ a h. others_is m a w e t h;
 }
 
 slots_is : (m : Machine) → HasEightSlots m → TestsPass m → Slots m
 slots_is m e t = record {
   words = λ a k l h. eqb-true (word_in m (Slot a k)) (slot_word (slot_of (record_at m a) k)) (slot_part a k l h).0;
-  first = λ a l. not_is (is_published (slot_of (record_at m a) 0)) (and_both (all_below 8 (slot_fits m a)) (not (is_published (slot_of (record_at m a) 0))) (agent_passes m a (t.agents a l)).slots).1;
+  first = λ a l. not_is (is_published (slot_of (record_at m a) 0))
+      (and_both (all_below 8 (slot_fits m a)) (not (is_published (slot_of (record_at m a) 0))) (agent_passes m a (t.agents a l)).slots).1;
   held = λ a r l h. held_slot a r l (held_at (record_at m a).slots r h);
 }
   where
-    slot_part : (a k : ℕ) → a < m.bounds.agents → k < 8 → ((word_in m (Slot a k) == slot_word (slot_of (record_at m a) k)) ≡ true) × (named_passes (row_held (slot_of (record_at m a) k)) (out_in m) ≡ true)
-    slot_part a k l h = and_both (word_in m (Slot a k) == slot_word (slot_of (record_at m a) k)) (named_passes (row_held (slot_of (record_at m a) k)) (out_in m)) (all_there 8 k (slot_fits m a) (and_both (all_below 8 (slot_fits m a)) (not (is_published (slot_of (record_at m a) 0))) (agent_passes m a (t.agents a l)).slots).0 h)
+    slot_part : (a k : ℕ) → a < m.bounds.agents → k < 8 → ((word_in m (Slot a k) == slot_word (slot_of (record_at m a) k)) ≡ true)
+        × (named_passes (row_held (slot_of (record_at m a) k)) (out_in m) ≡ true)
+    slot_part a k l h =
+        and_both (word_in m (Slot a k) == slot_word (slot_of (record_at m a) k)) (named_passes (row_held (slot_of (record_at m a) k)) (out_in m))
+        (all_there 8 k (slot_fits m a)
+        (and_both (all_below 8 (slot_fits m a)) (not (is_published (slot_of (record_at m a) 0))) (agent_passes m a (t.agents a l)).slots).0 h)
 
     held_slot : (a r : ℕ) → a < m.bounds.agents → HeldAt (record_at m a).slots r → IsOut m r
-    held_slot a r l w = out_is m r (passes_at (row_held (slot_of (record_at m a) w.at)) (out_in m) r (slot_part a w.at l (slot_within (record_at m a).slots w.at r (e a l) w.hold)).1 (held_name (slot_of (record_at m a) w.at) r ∙ w.hold))
+    held_slot a r l w =
+        out_is m r (passes_at (row_held (slot_of (record_at m a) w.at)) (out_in m) r
+        (slot_part a w.at l (slot_within (record_at m a).slots w.at r (e a l) w.hold)).1 (held_name (slot_of (record_at m a) w.at) r ∙ w.hold))
 
 -- the tests of a fresh row
 record FreshPasses (m : Machine) (a r : ℕ) : Type 0 where
@@ -338,14 +420,18 @@ unless false false h k = refl
 
 fresh_passes : (m : Machine) (a r : ℕ) → fresh_fits m a r ≡ true → FreshPasses m a r
 fresh_passes m a r h =
-    let p = four_true (out_in m r && not (is_retired m r)) (all_below m.bounds.agents (λ x. (x == a) || not (uses (record_at m x) r))) (all_below m.bounds.roots (λ i. not (links_to (word_in m (Root i)) r))) (all_below m.bounds.rows (λ j. (j == r) || not (links_to (word_in m (Next j)) r))) h in
+    let p = four_true (out_in m r && not (is_retired m r)) (all_below m.bounds.agents (λ x. (x == a) || not (uses (record_at m x) r)))
+    (all_below m.bounds.roots (λ i. not (links_to (word_in m (Root i)) r)))
+    (all_below m.bounds.rows (λ j. (j == r) || not (links_to (word_in m (Next j)) r))) h in
     let q = and_both (out_in m r) (not (is_retired m r)) p.0 in
     record {
       out = out_is m r q.0;
       clear = not_is (is_retired m r) q.1;
-      alone = λ x l n. unless (x == a) (uses (record_at m x) r) (all_there m.bounds.agents x (λ y. (y == a) || not (uses (record_at m y) r)) p.1 l) (ne_eqb x a n);
+      alone = λ x l n. unless (x == a) (uses (record_at m x) r) (all_there m.bounds.agents x (λ y. (y == a) || not (uses (record_at m y) r)) p.1 l)
+          (ne_eqb x a n);
       roots = λ i l. not_is (links_to (word_in m (Root i)) r) (all_there m.bounds.roots i (λ y. not (links_to (word_in m (Root y)) r)) p.2 l);
-      nexts = λ j l n. unless (j == r) (links_to (word_in m (Next j)) r) (all_there m.bounds.rows j (λ y. (y == r) || not (links_to (word_in m (Next y)) r)) p.3 l) (ne_eqb j r n);
+      nexts = λ j l n. unless (j == r) (links_to (word_in m (Next j)) r)
+          (all_there m.bounds.rows j (λ y. (y == r) || not (links_to (word_in m (Next y)) r)) p.3 l) (ne_eqb j r n);
     }
 
 fresh_is : (m : Machine) → TestsPass m → FreshRows m
@@ -363,9 +449,12 @@ fresh_is m t = record {
 looks_is : (m : Machine) → TestsPass m → Looks m
 looks_is m t a r l h i j e =
     let d = record_at m a in
-    let p = passes_at (row_seen d.looked) (λ q. not (nat_lt q m.bounds.rows) || not (saw d.checked q) || not (word_in m (Gate q) == 2 * number_of d.looked) || (sequence_of (word_in m (Counter q)) == number_of d.checked)) r (agent_passes m a (t.agents a l)).looks (seen_row d.looked r ∙ i) in
+    let p = passes_at (row_seen d.looked)
+    (λ q. not (nat_lt q m.bounds.rows) || not (saw d.checked q) || not (word_in m (Gate q) == 2 * number_of d.looked) ||
+    (sequence_of (word_in m (Counter q)) == number_of d.checked)) r (agent_passes m a (t.agents a l)).looks (seen_row d.looked r ∙ i) in
     eqb-true (sequence_of (word_in m (Counter r))) (number_of d.checked)
-    (last (nat_lt r m.bounds.rows) (saw d.checked r) (word_in m (Gate r) == 2 * number_of d.looked) (sequence_of (word_in m (Counter r)) == number_of d.checked) (lt-ltb r m.bounds.rows h) j (eq-eqb (word_in m (Gate r)) (2 * number_of d.looked) e) p)
+    (last (nat_lt r m.bounds.rows) (saw d.checked r) (word_in m (Gate r) == 2 * number_of d.looked)
+    (sequence_of (word_in m (Counter r)) == number_of d.checked) (lt-ltb r m.bounds.rows h) j (eq-eqb (word_in m (Gate r)) (2 * number_of d.looked) e) p)
   where
     last : (a b c d : Bool) → a ≡ true → b ≡ true → c ≡ true → (not a || not b || not c || d) ≡ true → d ≡ true
     last true true true d h i j p = p
@@ -380,8 +469,10 @@ ranges_is m t = record {
   count = λ r h. low_count (word_in m (Counter r));
 }
   where
-    range : (r : ℕ) → r < m.bounds.rows → (nat_lt (sequence_of (word_in m (Counter r))) 549756338176 ≡ true) × (nat_le (word_in m (Gate r) / 2) 549755813888 ≡ true)
-    range r h = and_both (nat_lt (sequence_of (word_in m (Counter r))) 549756338176) (nat_le (word_in m (Gate r) / 2) 549755813888) (row_passes m r (t.rows r h)).range
+    range : (r : ℕ) → r < m.bounds.rows → (nat_lt (sequence_of (word_in m (Counter r))) 549756338176 ≡ true)
+        × (nat_le (word_in m (Gate r) / 2) 549755813888 ≡ true)
+    range r h = and_both (nat_lt (sequence_of (word_in m (Counter r))) 549756338176) (nat_le (word_in m (Gate r) / 2) 549755813888)
+        (row_passes m r (t.rows r h)).range
 
 pub sound_is : (m : Machine) → IsWhole m → HasEightSlots m → all_fit m ≡ true → IsSound m
 sound_is m w e f =
@@ -395,7 +486,11 @@ sound_is m w e f =
       no_leak = λ r h. (out_part m r t h).1;
       enrolment = enrolment_is m w e t;
       slots = slots_is m e t;
-      targets = record { roots = λ i r l h. target_is m (word_in m (Root i)) r (t.roots i l) h; nexts = λ j r o h. target_is m (word_in m (Next j)) r (out_part m j t o).0 h };
+      targets = record {
+        roots = λ i r l h. target_is m (word_in m (Root i)) r (t.roots i l) h;
+        nexts =
+            λ j r o h. target_is m (word_in m (Next j)) r (out_part m j t o).0 h;
+      };
       fresh = fresh_is m t;
       scans = scans_is m t;
       looks = looks_is m t;

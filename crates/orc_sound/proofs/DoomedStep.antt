@@ -58,7 +58,8 @@ out_below b z r s h = cases (nat_lt r b.rows) refl
     cases false e = absurd (never_out (z.memory (Gate r)) (s.outside (Gate r) e) h)
 
 -- two agents don't have one row in their records
-pub two_places : (b : Bounds) (z : World) (a x r : ℕ) → Counted b z → a < b.agents → x < b.agents → a ≢ x → r < b.rows → 0 < places_of (z.seats a) r → 0 < places_of (z.seats x) r → ⊥
+pub two_places : (b : Bounds) (z : World) (a x r : ℕ) → Counted b z → a < b.agents → x < b.agents → a ≢ x → r < b.rows → 0 < places_of (z.seats a) r
+    → 0 < places_of (z.seats x) r → ⊥
 two_places b z a x r s ha hx n hr h k =
     let m = sum_two b.agents a x (λ y. places_of (z.seats y) r) ha hx n in
     let t = s.token r hr in
@@ -79,7 +80,8 @@ two_parts : (d : Agent) (r : ℕ) → HasOnePart d → dooms d.doom r ≡ true �
 two_parts d r o h k = let i = dooms_one d.doom r h in let j = scans_some d.scan r k in omega arith
 
 -- a doomed row isn't scanned
-pub unscanned : (b : Bounds) (z : World) (x a r : ℕ) → Counted b z → Doomed b z → dooms (z.seats x).doom r ≡ true → a < b.agents → scans (z.seats a).scan r ≡ true → ⊥
+pub unscanned : (b : Bounds) (z : World) (x a r : ℕ) → Counted b z → Doomed b z → dooms (z.seats x).doom r ≡ true → a < b.agents
+    → scans (z.seats a).scan r ≡ true → ⊥
 unscanned b z x a r s d h ha k = cases (doom_bare (z.seats x).doom r) (x == a) refl refl
   where
     below : r < b.rows
@@ -88,7 +90,9 @@ unscanned b z x a r s d h ha k = cases (doom_bare (z.seats x).doom r) (x == a) r
     cases : (t u : Bool) → doom_bare (z.seats x).doom r ≡ t → (x == a) ≡ u → ⊥
     cases true u e f = zero_one (d.clear x r e) (retired_one b z a r s ha below (scan_places (z.seats a) r k))
     cases false true e f = two_parts (z.seats a) r (s.one_part a) (rw (eqb-true x a f) at h) k
-    cases false false e f = two_places b z x a r s (doom_agent b z x r s.enrolment h) ha (eqb-false x a f) below (dooming_places (z.seats x) r (unbare (z.seats x).doom r h e)) (scan_places (z.seats a) r k)
+    cases false false e f =
+        two_places b z x a r s (doom_agent b z x r s.enrolment h) ha (eqb-false x a f) below
+        (dooming_places (z.seats x) r (unbare (z.seats x).doom r h e)) (scan_places (z.seats a) r k)
 
 -- a scan that ends at the word of its start dooms its row
 abbrev pub ends : Op → Agent → ℕ → ℕ → Bool
@@ -103,7 +107,8 @@ bared_row : (o : Option Doom) (r : ℕ) → dooms (bared o) r ≡ dooms o r
 bared_row None r = refl
 bared_row (Some d) r = refl
 
-end_doom : (o : Option Doom) (q r : ℕ) (t : Bool) → dooms (cond t (Some (record { row = q; cut = false; bare = false })) o) r ≡ true → (dooms o r ≡ true) ⊎ (((q == r) && t) ≡ true)
+end_doom : (o : Option Doom) (q r : ℕ) (t : Bool) → dooms (cond t (Some (record { row = q; cut = false; bare = false })) o) r ≡ true
+    → (dooms o r ≡ true) ⊎ (((q == r) && t) ≡ true)
 end_doom o q r true h = inr (grind arith)
 end_doom o q r false h = inl h
 
@@ -135,7 +140,8 @@ gone_before b z a op x r p h =
     (seat_split (λ d. dooms d.doom r ≡ true) z.seats a x (record_by z a op) h)
 
 -- a doomed row isn't freed by a step that leaves it doomed
-not_freed : (b : Bounds) (z : World) (a : ℕ) (op : Op) (x r : ℕ) → LawfulStep b z a op → dooms ((step_world z a op).seats x).doom r ≡ true → frees op r ≡ true → ⊥
+not_freed : (b : Bounds) (z : World) (a : ℕ) (op : Op) (x r : ℕ) → LawfulStep b z a op → dooms ((step_world z a op).seats x).doom r ≡ true
+    → frees op r ≡ true → ⊥
 not_freed b z a (Free q) x r p h f =
     ⊎_elim
     (λ s. false≢true s.1)
@@ -149,15 +155,18 @@ unlinked_place b z (Next j) r s g o h = none_linked g.unlinked (linked_next b z 
 unlinked_place b z w r s g o h = o
 
 -- nobody comes to use a row that nothing links, uses or scans
-new_use_gone : (b : Bounds) (z : World) (a : ℕ) (op : Op) (r : ℕ) → LawfulStep b z a op → Gone b z r → ((q : ℕ) → op ≡ Arm q → scans (z.seats a).scan r ≡ true → ⊥) → NewUse op (z.seats a) (read_by z a op) r → ⊥
-new_use_gone b z a (LinkLoad w k) r p g n h = unlinked_place b z w r p.counted g (read_out b z a w p.counted (load_place b (z.memory Enrolled) a w k (z.seats a) p.fits)) h
+new_use_gone : (b : Bounds) (z : World) (a : ℕ) (op : Op) (r : ℕ) → LawfulStep b z a op → Gone b z r
+    → ((q : ℕ) → op ≡ Arm q → scans (z.seats a).scan r ≡ true → ⊥) → NewUse op (z.seats a) (read_by z a op) r → ⊥
+new_use_gone b z a (LinkLoad w k) r p g n h =
+    unlinked_place b z w r p.counted g (read_out b z a w p.counted (load_place b (z.memory Enrolled) a w k (z.seats a) p.fits)) h
 new_use_gone b z a (LinkStore q l) r p g n h = none_linked g.unlinked (linked_next b z q r p.counted (store_row_out b z a q l p) h)
 new_use_gone b z a (Arm q) r p g n h = n q refl (rw h.0 h.1)
 new_use_gone b z a (GateTake q) r p g n h = zero_one (takes_free (GateTake q) (z.seats a) z.memory a r h) g.is_out
 new_use_gone b z a op r p g n h = h
 
 -- a row that was doomed before isn't armed by its scan; a scan that ends arms nothing
-arms_not : (b : Bounds) (z : World) (a : ℕ) (op : Op) (x r : ℕ) → LawfulStep b z a op → dooms ((step_world z a op).seats x).doom r ≡ true → (q : ℕ) → op ≡ Arm q → scans (z.seats a).scan r ≡ true → ⊥
+arms_not : (b : Bounds) (z : World) (a : ℕ) (op : Op) (x r : ℕ) → LawfulStep b z a op → dooms ((step_world z a op).seats x).doom r ≡ true → (q : ℕ)
+    → op ≡ Arm q → scans (z.seats a).scan r ≡ true → ⊥
 arms_not b z a (Arm q) x r p h k e s =
     ⊎_elim
     (λ t. unscanned b z a a r p.counted p.doomed t.1 p.agent s)
@@ -165,11 +174,13 @@ arms_not b z a (Arm q) x r p h k e s =
     (seat_split (λ d. dooms d.doom r ≡ true) z.seats a x (record_by z a (Arm q)) h)
 arms_not b z a op x r p h q e s = cc
 
-unused_step : (b : Bounds) (z : World) (a : ℕ) (op : Op) (x r : ℕ) → LawfulStep b z a op → Gone b z r → dooms ((step_world z a op).seats x).doom r ≡ true → (y : ℕ) → uses ((step_world z a op).seats y) r ≡ false
+unused_step : (b : Bounds) (z : World) (a : ℕ) (op : Op) (x r : ℕ) → LawfulStep b z a op → Gone b z r
+    → dooms ((step_world z a op).seats x).doom r ≡ true → (y : ℕ) → uses ((step_world z a op).seats y) r ≡ false
 unused_step b z a op x r p g h y =
     not_true (uses ((step_world z a op).seats y) r)
     (λ u. ⊎_elim
-    (λ s. ⊎_elim (λ old. both_ways (uses (z.seats a) r) old (g.unused a)) (λ new. new_use_gone b z a op r p g (arms_not b z a op x r p h) new) (uses_before b z a op r p s.1))
+    (λ s. ⊎_elim (λ old. both_ways (uses (z.seats a) r) old (g.unused a)) (λ new. new_use_gone b z a op r p g (arms_not b z a op x r p h) new)
+    (uses_before b z a op r p s.1))
     (λ s. both_ways (uses (z.seats y) r) s.1 (g.unused y))
     (seat_split (λ d. uses d r ≡ true) z.seats a y (record_by z a op) u))
 
@@ -188,7 +199,8 @@ pub fill_counter : (m : Word → ℕ) (q w v r : ℕ) → write m (cond (w == 0)
 fill_counter m q w v r = grind arith
 
 -- a step that doesn't count the row leaves its count
-pub count_stays : (b : Bounds) (z : World) (a : ℕ) (op : Op) (r : ℕ) → LawfulStep b z a op → counts_row op r ≡ false → count_bits ((step_world z a op).memory (Counter r)) ≡ count_bits (z.memory (Counter r))
+pub count_stays : (b : Bounds) (z : World) (a : ℕ) (op : Op) (r : ℕ) → LawfulStep b z a op → counts_row op r ≡ false
+    → count_bits ((step_world z a op).memory (Counter r)) ≡ count_bits (z.memory (Counter r))
 count_stays b z a (Inc q) r p n = ap count_bits (other_counter z.memory q ((z.memory (Counter q) + 16777217) % 18446744073709551616) r n)
 count_stays b z a (Dec q) r p n = ap count_bits (other_counter z.memory q ((z.memory (Counter q) + 16777215) % 18446744073709551616) r n)
 count_stays b z a (SetRetired q k) r p n = same_counter count_bits z.memory q _ r (try_count (z.memory (Counter q)) k)
@@ -203,7 +215,9 @@ count_stays b z a (Read q w) r p n = ap count_bits (write_same z.memory (cond (w
 count_stays b z a op r p n = refl
 
 -- a step that doesn't count the row leaves its sequence
-pub sequence_stays : (b : Bounds) (z : World) (a : ℕ) (op : Op) (r : ℕ) → LawfulStep b z a op → ((q : ℕ) → sequence_of (z.memory (Counter q)) < 2 ^ 39 + 2 ^ 19) → counts_row op r ≡ false → sequence_of ((step_world z a op).memory (Counter r)) ≡ sequence_of (z.memory (Counter r))
+pub sequence_stays : (b : Bounds) (z : World) (a : ℕ) (op : Op) (r : ℕ) → LawfulStep b z a op
+    → ((q : ℕ) → sequence_of (z.memory (Counter q)) < 2 ^ 39 + 2 ^ 19) → counts_row op r ≡ false
+    → sequence_of ((step_world z a op).memory (Counter r)) ≡ sequence_of (z.memory (Counter r))
 sequence_stays b z a (Inc q) r p l n = ap sequence_of (other_counter z.memory q ((z.memory (Counter q) + 16777217) % 18446744073709551616) r n)
 sequence_stays b z a (Dec q) r p l n = ap sequence_of (other_counter z.memory q ((z.memory (Counter q) + 16777215) % 18446744073709551616) r n)
 sequence_stays b z a (SetRetired q k) r p l n = same_counter sequence_of z.memory q _ r (try_sequence (z.memory (Counter q)) k)
@@ -236,36 +250,46 @@ no_decs b z r h = sum_zero b.agents (λ y. bit (names (z.seats y).dec r)) (λ y.
 
 -- a row that nothing links or uses has count 0
 pub gone_count : (b : Bounds) (z : World) (r : ℕ) → Counted b z → Gone b z r → count_bits (z.memory (Counter r)) ≡ 4194304
-gone_count b z r s g = let e = s.balance r (out_below b z r s g.is_out) in let i = no_incs b z r g.unused in let d = no_decs b z r g.unused in let l = g.unlinked in omega arith
+gone_count b z r s g = let e = s.balance r (out_below b z r s g.is_out) in let i = no_incs b z r g.unused in let d = no_decs b z r g.unused in
+    let l = g.unlinked in omega arith
 
-count_unlinked : (b : Bounds) (z : World) (r : ℕ) → r < b.rows → Counted b z → count_bits (z.memory (Counter r)) ≡ 4194304 → ((y : ℕ) → uses (z.seats y) r ≡ false) → linked_in b z.memory r ≡ 0
+count_unlinked : (b : Bounds) (z : World) (r : ℕ) → r < b.rows → Counted b z → count_bits (z.memory (Counter r)) ≡ 4194304
+    → ((y : ℕ) → uses (z.seats y) r ≡ false) → linked_in b z.memory r ≡ 0
 count_unlinked b z r h s c u = let e = s.balance r h in let i = no_incs b z r u in let d = no_decs b z r u in omega arith
 
-gone_step : (b : Bounds) (z : World) (a : ℕ) (op : Op) → EndingStep b z a op → Counted b (step_world z a op) → (x r : ℕ) → dooms ((step_world z a op).seats x).doom r ≡ true → Gone b (step_world z a op) r
+gone_step : (b : Bounds) (z : World) (a : ℕ) (op : Op) → EndingStep b z a op → Counted b (step_world z a op) → (x r : ℕ)
+    → dooms ((step_world z a op).seats x).doom r ≡ true → Gone b (step_world z a op) r
 gone_step b z a op p s x r h =
     let g = gone_before b z a op x r p h in
-    let n : counts_row op r ≡ false = not_true (counts_row op r) (λ k. both_ways (uses (z.seats a) r) (counts_uses b (z.memory Enrolled) a op (z.seats a) r p.lawful.fits k) (g.unused a)) in
+    let n : counts_row op r ≡ false =
+    not_true (counts_row op r) (λ k. both_ways (uses (z.seats a) r) (counts_uses b (z.memory Enrolled) a op (z.seats a) r p.lawful.fits k) (g.unused a)) in
     let u = unused_step b z a op x r p.lawful g h in
     record {
       is_out = out_stays z.memory b (z.memory Enrolled) a op (z.seats a) r p.lawful.fits (not_true (frees op r) (not_freed b z a op x r p.lawful h)) g.is_out;
-      unlinked = count_unlinked b (step_world z a op) r (out_below b z r p.lawful.counted g.is_out) s (count_stays b z a op r p.lawful n ∙ gone_count b z r p.lawful.counted g) u;
+      unlinked = count_unlinked b (step_world z a op) r (out_below b z r p.lawful.counted g.is_out) s
+          (count_stays b z a op r p.lawful n ∙ gone_count b z r p.lawful.counted g) u;
       unused = u;
     }
 
-alone_step : (b : Bounds) (z : World) (a : ℕ) (op : Op) → EndingStep b z a op → (x y r : ℕ) → dooms ((step_world z a op).seats x).doom r ≡ true → dooms ((step_world z a op).seats y).doom r ≡ true → y ≡ x
+alone_step : (b : Bounds) (z : World) (a : ℕ) (op : Op) → EndingStep b z a op → (x y r : ℕ) → dooms ((step_world z a op).seats x).doom r ≡ true
+    → dooms ((step_world z a op).seats y).doom r ≡ true → y ≡ x
 alone_step b z a op p x y r h k =
     ⊎_elim
     (λ s. ⊎_elim
     (λ t. t.0 ∙ sym s.0)
     (λ t. ⊎_elim
     (λ old. p.lawful.doomed.alone a y r old t.1 ∙ sym s.0)
-    (λ new. absurd (unscanned b z y a r p.lawful.counted p.lawful.doomed t.1 p.lawful.agent (end_scans b (z.memory Enrolled) a op (z.seats a) (read_by z a op) r p.lawful.fits new)))
+    (λ new. absurd
+    (unscanned b z y a r p.lawful.counted p.lawful.doomed t.1 p.lawful.agent
+    (end_scans b (z.memory Enrolled) a op (z.seats a) (read_by z a op) r p.lawful.fits new)))
     (doom_source op (z.seats a) (read_by z a op) r s.1))
     (seat_split (λ d. dooms d.doom r ≡ true) z.seats a y (record_by z a op) k))
     (λ s. ⊎_elim
     (λ t. ⊎_elim
     (λ old. t.0 ∙ p.lawful.doomed.alone x a r s.1 old)
-    (λ new. absurd (unscanned b z x a r p.lawful.counted p.lawful.doomed s.1 p.lawful.agent (end_scans b (z.memory Enrolled) a op (z.seats a) (read_by z a op) r p.lawful.fits new)))
+    (λ new. absurd
+    (unscanned b z x a r p.lawful.counted p.lawful.doomed s.1 p.lawful.agent
+    (end_scans b (z.memory Enrolled) a op (z.seats a) (read_by z a op) r p.lawful.fits new)))
     (doom_source op (z.seats a) (read_by z a op) r t.1))
     (λ t. p.lawful.doomed.alone x y r s.1 t.1)
     (seat_split (λ d. dooms d.doom r ≡ true) z.seats a y (record_by z a op) k))
@@ -313,37 +337,52 @@ store_null : (n e f t c u s k : Bool) → (n && e && ((f && t && c) || (u && s &
 store_null n e true t c u s k h g = absurd (false≢true (sym g))
 store_null n e false t c u s k h g = let a = and_both (u && s) k (and_both (n && e) (u && s && k) h).1 in let c = and_both u s a.0 in (c.0, c.1, a.1)
 
-store_parts : (b : Bounds) (e a q : ℕ) (l : RowLink) (d : Agent) → fits b e a (LinkStore q l) d ≡ true → names d.fresh q ≡ false → (doom_uncut d.doom q ≡ true) × (is_none l.to ≡ true) × (not l.mark ≡ true)
-store_parts b e a q l d f g = store_null (nat_lt q b.rows) (is_empty (slot_of d 0)) (names d.fresh q) (may_target b d l.to) (may_change d (b.limit + 64) None l.to) (doom_uncut d.doom q) (is_none l.to) (not l.mark) f g
+store_parts : (b : Bounds) (e a q : ℕ) (l : RowLink) (d : Agent) → fits b e a (LinkStore q l) d ≡ true → names d.fresh q ≡ false
+    → (doom_uncut d.doom q ≡ true) × (is_none l.to ≡ true) × (not l.mark ≡ true)
+store_parts b e a q l d f g = store_null (nat_lt q b.rows) (is_empty (slot_of d 0)) (names d.fresh q) (may_target b d l.to)
+    (may_change d (b.limit + 64) None l.to) (doom_uncut d.doom q) (is_none l.to) (not l.mark) f g
 
 -- a step that cuts a row stores 0 in its link word
-cut_null : (b : Bounds) (z : World) (a : ℕ) (op : Op) (r : ℕ) → LawfulStep b z a op → uses (z.seats a) r ≡ false → cuts op r ≡ true → (step_world z a op).memory (Next r) ≡ 0
-cut_null b z a (LinkStore q l) r p u h = rw (eq-eqb r q (sym (eqb-true q r h))) (stored (store_parts b (z.memory Enrolled) a q l (z.seats a) p.fits (not_true (names (z.seats a).fresh q) (λ k. both_ways (uses (z.seats a) r) (fresh_uses (z.seats a) r (rw (eqb-true q r h) at k)) u))))
+cut_null : (b : Bounds) (z : World) (a : ℕ) (op : Op) (r : ℕ) → LawfulStep b z a op → uses (z.seats a) r ≡ false → cuts op r ≡ true
+    → (step_world z a op).memory (Next r) ≡ 0
+cut_null b z a (LinkStore q l) r p u h =
+    rw (eq-eqb r q (sym (eqb-true q r h)))
+    (stored (store_parts b (z.memory Enrolled) a q l (z.seats a) p.fits
+    (not_true (names (z.seats a).fresh q) (λ k. both_ways (uses (z.seats a) r) (fresh_uses (z.seats a) r (rw (eqb-true q r h) at k)) u))))
   where
     stored : (doom_uncut (z.seats a).doom q ≡ true) × (is_none l.to ≡ true) × (not l.mark ≡ true) → link_word l ≡ 0
     stored k = null_link l k.1 k.2
 cut_null b z a op r p u h = absurd (false≢true h)
 
 -- nobody else changes the link of a row that is cut
-cut_unchanged : (b : Bounds) (z : World) (a : ℕ) (op : Op) (x r : ℕ) → LawfulStep b z a op → Gone b z r → dooms_cut (z.seats x).doom r ≡ true → changes_next op r ≡ true → ⊥
-cut_unchanged b z a (LinkCas (Next q) f t) x r p g c h = both_ways (uses (z.seats a) r) (rw (eqb-true r q h) (held_uses (z.seats a) q (and_both _ _ (and_both _ _ (cas_place b (z.memory Enrolled) a (Next q) f t (z.seats a) p.fits)).1).0)) (g.unused a)
+cut_unchanged : (b : Bounds) (z : World) (a : ℕ) (op : Op) (x r : ℕ) → LawfulStep b z a op → Gone b z r → dooms_cut (z.seats x).doom r ≡ true
+    → changes_next op r ≡ true → ⊥
+cut_unchanged b z a (LinkCas (Next q) f t) x r p g c h =
+    both_ways (uses (z.seats a) r)
+    (rw (eqb-true r q h)
+    (held_uses (z.seats a) q (and_both _ _ (and_both _ _ (cas_place b (z.memory Enrolled) a (Next q) f t (z.seats a) p.fits)).1).0)) (g.unused a)
 cut_unchanged b z a (LinkStore q l) x r p g c h =
     let e = eqb-true r q h in
     ⊎_elim
     (λ k. both_ways (uses (z.seats a) r) (rw e (fresh_uses (z.seats a) q k)) (g.unused a))
-    (λ k. uncut_not_cut (z.seats a).doom r (rw e k) (rw (p.doomed.alone x a r (cut_dooms_row (z.seats x).doom r c) (rw e (uncut_dooms (z.seats a).doom q k))) c))
+    (λ k. uncut_not_cut (z.seats a).doom r (rw e k)
+    (rw (p.doomed.alone x a r (cut_dooms_row (z.seats x).doom r c) (rw e (uncut_dooms (z.seats a).doom q k))) c))
     (store_cases b (z.memory Enrolled) a q l (z.seats a) p.fits)
 cut_unchanged b z a op x r p g c h = false≢true h
 
-old_null : (b : Bounds) (z : World) (a : ℕ) (op : Op) (x r : ℕ) → LawfulStep b z a op → dooms_cut (z.seats x).doom r ≡ true → (step_world z a op).memory (Next r) ≡ 0
+old_null : (b : Bounds) (z : World) (a : ℕ) (op : Op) (x r : ℕ) → LawfulStep b z a op → dooms_cut (z.seats x).doom r ≡ true
+    → (step_world z a op).memory (Next r) ≡ 0
 old_null b z a op x r p c =
-    next_stays b (z.memory Enrolled) a op (z.seats a) z.memory r p.fits (not_true (changes_next op r) (cut_unchanged b z a op x r p (p.doomed.gone x r (cut_dooms_row (z.seats x).doom r c)) c)) ∙ p.doomed.null x r c
+    next_stays b (z.memory Enrolled) a op (z.seats a) z.memory r p.fits
+    (not_true (changes_next op r) (cut_unchanged b z a op x r p (p.doomed.gone x r (cut_dooms_row (z.seats x).doom r c)) c)) ∙ p.doomed.null x r c
 
-null_step : (b : Bounds) (z : World) (a : ℕ) (op : Op) → EndingStep b z a op → (x r : ℕ) → dooms_cut ((step_world z a op).seats x).doom r ≡ true → (step_world z a op).memory (Next r) ≡ 0
+null_step : (b : Bounds) (z : World) (a : ℕ) (op : Op) → EndingStep b z a op → (x r : ℕ) → dooms_cut ((step_world z a op).seats x).doom r ≡ true
+    → (step_world z a op).memory (Next r) ≡ 0
 null_step b z a op p x r h =
     let g = gone_before b z a op x r p (cut_dooms_row ((step_world z a op).seats x).doom r h) in
     ⊎_elim
-    (λ s. ⊎_elim (λ old. old_null b z a op a r p.lawful old) (λ new. cut_null b z a op r p.lawful (g.unused a) new) (cut_source op (z.seats a) (read_by z a op) r s.1))
+    (λ s. ⊎_elim (λ old. old_null b z a op a r p.lawful old) (λ new. cut_null b z a op r p.lawful (g.unused a) new)
+    (cut_source op (z.seats a) (read_by z a op) r s.1))
     (λ s. old_null b z a op x r p.lawful s.1)
     (seat_split (λ d. dooms_cut d.doom r ≡ true) z.seats a x (record_by z a op) h)
 
@@ -355,7 +394,8 @@ pub cut_more : (o : Option Doom) (q r : ℕ) → dooms_cut o r ≡ true → doom
 cut_more None q r h = h
 cut_more (Some d) q r h = grind arith
 
-end_bare : (o : Option Doom) (q r : ℕ) (t : Bool) → doom_bare (cond t (Some (record { row = q; cut = false; bare = false })) o) r ≡ true → (t ≡ false) × (doom_bare o r ≡ true)
+end_bare : (o : Option Doom) (q r : ℕ) (t : Bool) → doom_bare (cond t (Some (record { row = q; cut = false; bare = false })) o) r ≡ true
+    → (t ≡ false) × (doom_bare o r ≡ true)
 end_bare o q r true h = grind arith
 end_bare o q r false h = (refl, h)
 
@@ -372,7 +412,9 @@ abbrev pub bares : Op → ℕ → Bool
 bares (Unretire q) r = q == r
 bares _ r = false
 
-bare_source : (b : Bounds) (e a : ℕ) (op : Op) (d : Agent) (v r : ℕ) → fits b e a op d ≡ true → HasOnePart d → doom_bare (after op d v).doom r ≡ true → (((doom_bare d.doom r ≡ true) × (dooms_cut d.doom r ≡ true → dooms_cut (after op d v).doom r ≡ true))) ⊎ ((bares op r ≡ true) × (dooms_cut (after op d v).doom r ≡ true))
+bare_source : (b : Bounds) (e a : ℕ) (op : Op) (d : Agent) (v r : ℕ) → fits b e a op d ≡ true → HasOnePart d → doom_bare (after op d v).doom r ≡ true
+    → (((doom_bare d.doom r ≡ true) × (dooms_cut d.doom r ≡ true → dooms_cut (after op d v).doom r ≡ true)))
+    ⊎ ((bares op r ≡ true) × (dooms_cut (after op d v).doom r ≡ true))
 bare_source b e a (LinkStore q l) d v r f o h = inl (sym (cut_bare d.doom q r) ∙ h, cut_more d.doom q r)
 bare_source b e a (CounterLoad q Check) d v r f o h = inl (h, λ k. k)
 bare_source b e a (CounterLoad q Start) d v r f o h = inl (h, λ k. k)
@@ -385,18 +427,24 @@ bare_source b e a (Unretire q) d v r f o h =
 bare_source b e a (Free q) d v r f o h = absurd (false≢true h)
 bare_source b e a op d v r f o h = inl (h, λ k. k)
 
-cut_step : (b : Bounds) (z : World) (a : ℕ) (op : Op) → LawfulStep b z a op → (x r : ℕ) → doom_bare ((step_world z a op).seats x).doom r ≡ true → dooms_cut ((step_world z a op).seats x).doom r ≡ true
+cut_step : (b : Bounds) (z : World) (a : ℕ) (op : Op) → LawfulStep b z a op → (x r : ℕ) → doom_bare ((step_world z a op).seats x).doom r ≡ true
+    → dooms_cut ((step_world z a op).seats x).doom r ≡ true
 cut_step b z a op p x r h = cases (x == a) h
   where
     cases : (t : Bool) → doom_bare (cond t (record_by z a op) (z.seats x)).doom r ≡ true → dooms_cut (cond t (record_by z a op) (z.seats x)).doom r ≡ true
-    cases true k = ⊎_elim (λ s. s.1 (p.doomed.cut a r s.0)) (λ s. s.1) (bare_source b (z.memory Enrolled) a op (z.seats a) (read_by z a op) r p.fits (p.counted.one_part a) k)
+    cases true k =
+        ⊎_elim (λ s. s.1 (p.doomed.cut a r s.0)) (λ s. s.1)
+        (bare_source b (z.memory Enrolled) a op (z.seats a) (read_by z a op) r p.fits (p.counted.one_part a) k)
     cases false k = p.doomed.cut x r k
 
-cleared : (b : Bounds) (z : World) (a : ℕ) (op : Op) (r : ℕ) → LawfulStep b z a op → bares op r ≡ true → retired_bit ((step_world z a op).memory (Counter r)) ≡ 0
-cleared b z a (Unretire q) r p h = rw (eq-eqb r q (sym (eqb-true q r h))) (let k = clear_bit (z.memory (Counter q)) (unretire_one b z a q p) in let u = unretire_one b z a q p in omega arith)
+cleared : (b : Bounds) (z : World) (a : ℕ) (op : Op) (r : ℕ) → LawfulStep b z a op → bares op r ≡ true
+    → retired_bit ((step_world z a op).memory (Counter r)) ≡ 0
+cleared b z a (Unretire q) r p h = rw (eq-eqb r q (sym (eqb-true q r h))) (let k = clear_bit (z.memory (Counter q)) (unretire_one b z a q p) in
+    let u = unretire_one b z a q p in omega arith)
 cleared b z a op r p h = absurd (false≢true h)
 
-old_clear : (b : Bounds) (z : World) (a : ℕ) (op : Op) (x r : ℕ) → LawfulStep b z a op → doom_bare (z.seats x).doom r ≡ true → retired_bit ((step_world z a op).memory (Counter r)) ≡ 0
+old_clear : (b : Bounds) (z : World) (a : ℕ) (op : Op) (x r : ℕ) → LawfulStep b z a op → doom_bare (z.seats x).doom r ≡ true
+    → retired_bit ((step_world z a op).memory (Counter r)) ≡ 0
 old_clear b z a op x r p h =
     small_bit ((step_world z a op).memory (Counter r))
     (λ k. ⊎_elim
@@ -404,10 +452,12 @@ old_clear b z a op x r p h =
     (λ new. both_ways (uses (z.seats a) r) (raiser_uses b z a op r p new) ((p.doomed.gone x r (bare_dooms (z.seats x).doom r h)).unused a))
     (bit_before b z a op r p k))
 
-clear_step : (b : Bounds) (z : World) (a : ℕ) (op : Op) → LawfulStep b z a op → (x r : ℕ) → doom_bare ((step_world z a op).seats x).doom r ≡ true → retired_bit ((step_world z a op).memory (Counter r)) ≡ 0
+clear_step : (b : Bounds) (z : World) (a : ℕ) (op : Op) → LawfulStep b z a op → (x r : ℕ) → doom_bare ((step_world z a op).seats x).doom r ≡ true
+    → retired_bit ((step_world z a op).memory (Counter r)) ≡ 0
 clear_step b z a op p x r h =
     ⊎_elim
-    (λ s. ⊎_elim (λ old. old_clear b z a op a r p old.0) (λ new. cleared b z a op r p new.0) (bare_source b (z.memory Enrolled) a op (z.seats a) (read_by z a op) r p.fits (p.counted.one_part a) s.1))
+    (λ s. ⊎_elim (λ old. old_clear b z a op a r p old.0) (λ new. cleared b z a op r p new.0)
+    (bare_source b (z.memory Enrolled) a op (z.seats a) (read_by z a op) r p.fits (p.counted.one_part a) s.1))
     (λ s. old_clear b z a op x r p s.1)
     (seat_split (λ d. doom_bare d.doom r ≡ true) z.seats a x (record_by z a op) h)
 

@@ -19,7 +19,8 @@ use Rattle.orc_sound.proofs.Sources.{write_same}
 use Rattle.orc_sound.proofs.World.{World, read_by, record_by, step_world, write}
 
 -- a step of another kind leaves the word of enrolments
-enrolled_word : (b : Bounds) (e a : ℕ) (op : Op) (d : Agent) (m : Word → ℕ) → fits b e a op d ≡ true → op ≢ Enroll → write m (action_of a op d).word (word_after (action_of a op d).operation (m (action_of a op d).word)) Enrolled ≡ m Enrolled
+enrolled_word : (b : Bounds) (e a : ℕ) (op : Op) (d : Agent) (m : Word → ℕ) → fits b e a op d ≡ true → op ≢ Enroll
+    → write m (action_of a op d).word (word_after (action_of a op d).operation (m (action_of a op d).word)) Enrolled ≡ m Enrolled
 enrolled_word b e a Enroll d m f n = absurd (n refl)
 enrolled_word b e a (LinkLoad p k) d m f n = write_same m p Enrolled
 enrolled_word b e a (LinkCas (Root i) x t) d m f n = refl
@@ -52,7 +53,8 @@ others_step b z a op p n =
     let l = below b z a s (stands_enrolled op (z.seats a) n p.stands) in
     record {
       most = rw same s.most;
-      enrolled = λ x h. seat_join (λ d. d.enrolled ≡ true) z.seats a x (record_by z a op) (stays_enrolled op (z.seats a) (read_by z a op) (s.enrolled a l)) (s.enrolled x (rw same at h));
+      enrolled = λ x h. seat_join (λ d. d.enrolled ≡ true) z.seats a x (record_by z a op)
+          (stays_enrolled op (z.seats a) (read_by z a op) (s.enrolled a l)) (s.enrolled x (rw same at h));
       empty = λ x h. let k : z.memory Enrolled ≤ x = rw same at h in seat_other z.seats a x (record_by z a op) (omega arith) ∙ s.empty x k;
     }
 
@@ -74,7 +76,8 @@ enroll_step b z a p =
       where
         cases : (t : Bool) → (x == a) ≡ t → (cond t (record_by z a Enroll) (z.seats x)).enrolled ≡ true
         cases true t = refl
-        cases false t = let n : x ≢ a = eqb-false x a t in let e : z.memory Enrolled ≡ a = eqb-true (z.memory Enrolled) a (and_both _ _ p.fits).1 in p.counted.enrolment.enrolled x (omega arith)
+        cases false t = let n : x ≢ a = eqb-false x a t in let e : z.memory Enrolled ≡ a = eqb-true (z.memory Enrolled) a (and_both _ _ p.fits).1 in
+            p.counted.enrolment.enrolled x (omega arith)
 
 pub enrolment_step : (b : Bounds) (z : World) (a : ℕ) (op : Op) → LawfulStep b z a op → EnrolmentFits b (step_world z a op)
 enrolment_step b z a Enroll p = enroll_step b z a p

@@ -38,10 +38,12 @@ run_sound b steps shape l = sound_shown (run (new_machine b) steps) (run_shape b
 pub run_full : (b : Bounds) (steps : List (ℕ × Op)) → IsShape b → Full (run (new_machine b) steps)
 run_full b steps shape = let w = every_run_whole b steps shape in record { shape = w.shape; words = w.words; agents = w.agents }
 
-pub next_step : (b : Bounds) (steps : List (ℕ × Op)) (a : ℕ) (op : Op) → IsShape b → IsLawful (new_machine b) steps → is_allowed (run (new_machine b) steps) a op ≡ true → LawfulStep (run (new_machine b) steps).bounds (world_of (run (new_machine b) steps)) a op
+pub next_step : (b : Bounds) (steps : List (ℕ × Op)) (a : ℕ) (op : Op) → IsShape b → IsLawful (new_machine b) steps
+    → is_allowed (run (new_machine b) steps) a op ≡ true → LawfulStep (run (new_machine b) steps).bounds (world_of (run (new_machine b) steps)) a op
 next_step b steps a op shape l h = allowed_step (run (new_machine b) steps) a op (run_full b steps shape) (run_fits b steps shape l) h
 
-pub freed_unreachable : (b : Bounds) (steps : List (ℕ × Op)) (a r : ℕ) → IsShape b → IsLawful (new_machine b) steps → is_allowed (run (new_machine b) steps) a (Free r) ≡ true → IsOut (run (new_machine b) steps) r × IsUnreachable (run (new_machine b) steps) r
+pub freed_unreachable : (b : Bounds) (steps : List (ℕ × Op)) (a r : ℕ) → IsShape b → IsLawful (new_machine b) steps
+    → is_allowed (run (new_machine b) steps) a (Free r) ≡ true → IsOut (run (new_machine b) steps) r × IsUnreachable (run (new_machine b) steps) r
 freed_unreachable b steps a r shape l h =
     let p = next_step b steps a (Free r) shape l h in
     let s = run_sound b steps shape l in
@@ -51,10 +53,13 @@ freed_unreachable b steps a r shape l h =
 zero_machine : (b : Bounds) (r : ℕ) → r < b.rows → bit (is_out (new_machine b) r) ≡ 0
 zero_machine b r h = let e = out_bit (new_machine b) r h in let z = zero_first b (Gate r) refl in omega arith
 
-pub lives_counted : (b : Bounds) (steps : List (ℕ × Op)) (r : ℕ) → IsShape b → r < b.rows → IsLawful (new_machine b) steps → times_taken (new_machine b) steps r ≡ times_freed steps r + bit (is_out (run (new_machine b) steps) r)
-lives_counted b steps r shape h l = let e = run_lives (new_machine b) steps r h (full_first b shape) (all_first b) l in let z = zero_machine b r h in omega arith
+pub lives_counted : (b : Bounds) (steps : List (ℕ × Op)) (r : ℕ) → IsShape b → r < b.rows → IsLawful (new_machine b) steps
+    → times_taken (new_machine b) steps r ≡ times_freed steps r + bit (is_out (run (new_machine b) steps) r)
+lives_counted b steps r shape h l = let e = run_lives (new_machine b) steps r h (full_first b shape) (all_first b) l in let z = zero_machine b r h in
+    omega arith
 
-pub room_left : (b : Bounds) (steps : List (ℕ × Op)) (a : ℕ) (op : Op) → IsShape b → IsLawful (new_machine b) steps → LeavesRoom (run (new_machine b) steps) a op
+pub room_left : (b : Bounds) (steps : List (ℕ × Op)) (a : ℕ) (op : Op) → IsShape b → IsLawful (new_machine b) steps
+    → LeavesRoom (run (new_machine b) steps) a op
 room_left b steps a op shape l h =
     let m = run (new_machine b) steps in
     let p = next_step b steps a op shape l h in
@@ -71,29 +76,41 @@ hand_within b steps a r shape l h =
 pub due_alone : (b : Bounds) (steps : List (ℕ × Op)) (a : ℕ) → IsShape b → IsLawful (new_machine b) steps → OneChange (record_at (run (new_machine b) steps) a)
 due_alone b steps a shape l = (run_fits b steps shape l).change a
 
-pub list_within : (b : Bounds) (steps : List (ℕ × Op)) (a : ℕ) → IsShape b → IsLawful (new_machine b) steps → a < b.agents → length (record_at (run (new_machine b) steps) a).list.items ≤ b.rows
+pub list_within : (b : Bounds) (steps : List (ℕ × Op)) (a : ℕ) → IsShape b → IsLawful (new_machine b) steps → a < b.agents
+    → length (record_at (run (new_machine b) steps) a).list.items ≤ b.rows
 list_within b steps a shape l h =
     let s = run_fits b steps shape l in
     let e = run_bounds (new_machine b) steps in
-    let k = list_length (run (new_machine b) steps).bounds (world_of (run (new_machine b) steps)) a s.counted s.rows (subst (λ (c : Bounds). a < c.agents) (sym e) h) in
+    let k = list_length (run (new_machine b) steps).bounds (world_of (run (new_machine b) steps)) a s.counted s.rows
+    (subst (λ (c : Bounds). a < c.agents) (sym e) h) in
     subst (λ (c : Bounds). length (record_at (run (new_machine b) steps) a).list.items ≤ c.rows) e k
 
-pub sums_within : (b : Bounds) (steps : List (ℕ × Op)) (a : ℕ) (op : Op) → IsShape b → IsLawful (new_machine b) steps → is_allowed (run (new_machine b) steps) a op ≡ true → NoWrap (action_of a op (record_at (run (new_machine b) steps) a)).operation (word_read (run (new_machine b) steps) a op)
+pub sums_within : (b : Bounds) (steps : List (ℕ × Op)) (a : ℕ) (op : Op) → IsShape b → IsLawful (new_machine b) steps
+    → is_allowed (run (new_machine b) steps) a op ≡ true
+    → NoWrap (action_of a op (record_at (run (new_machine b) steps) a)).operation (word_read (run (new_machine b) steps) a op)
 sums_within b steps a op shape l h =
     let m = run (new_machine b) steps in
     let s = run_fits b steps shape l in
-    rw (read_shown m a op h) (no_wrap m.bounds (world_of m) a op (next_step b steps a op shape l h) s.lives (low_sequences m.bounds (world_of m) (run_shape b steps shape) s))
+    rw (read_shown m a op h)
+    (no_wrap m.bounds (world_of m) a op (next_step b steps a op shape l h) s.lives (low_sequences m.bounds (world_of m) (run_shape b steps shape) s))
 
 pub bound_kept : (b : Bounds) (steps : List (ℕ × Op)) → IsShape b → IsLawful (new_machine b) steps → backlog (run (new_machine b) steps) ≤ 9 * b.agents
-bound_kept b steps shape l = subst (λ (c : Bounds). backlog (run (new_machine b) steps) ≤ 9 * c.agents) (run_bounds (new_machine b) steps) (backlog_bound (run (new_machine b) steps) (run_fits b steps shape l).counted)
+bound_kept b steps shape l = subst (λ (c : Bounds). backlog (run (new_machine b) steps) ≤ 9 * c.agents) (run_bounds (new_machine b) steps)
+    (backlog_bound (run (new_machine b) steps) (run_fits b steps shape l).counted)
 
 take_row : (b : Bounds) (z : World) (a r : ℕ) → LawfulStep b z a (GateTake r) → r < b.rows
 take_row b z a r p = ltb-true r b.rows (and_both _ _ (and_both _ _ (and_both _ _ (and_both _ _ p.fits).0).0).0).0
 
-taken_by : (m : Machine) (a r : ℕ) → is_allowed m a (GateTake r) ≡ true → answer m a (GateTake r) ≡ 1 → takes (GateTake r) (record_at m a) (read_by (world_of m) a (GateTake r)) r ≡ true
+taken_by : (m : Machine) (a r : ℕ) → is_allowed m a (GateTake r) ≡ true → answer m a (GateTake r) ≡ 1
+    → takes (GateTake r) (record_at m a) (read_by (world_of m) a (GateTake r)) r ≡ true
 taken_by m a r h e = sym (take_answer m a (GateTake r) r (read_shown m a (GateTake r) h)) ∙ rw (eq-eqb r r refl, e)
 
-pub freed_between : (b : Bounds) (before between : List (ℕ × Op)) (a x r : ℕ) → IsShape b → IsLawful (new_machine b) before → is_allowed (run (new_machine b) before) a (GateTake r) ≡ true → answer (run (new_machine b) before) a (GateTake r) ≡ 1 → IsLawful (step (run (new_machine b) before) a (GateTake r)) between → is_allowed (run (step (run (new_machine b) before) a (GateTake r)) between) x (GateTake r) ≡ true → answer (run (step (run (new_machine b) before) a (GateTake r)) between) x (GateTake r) ≡ 1 → times_freed between r ≡ times_taken (step (run (new_machine b) before) a (GateTake r)) between r + 1
+pub freed_between : (b : Bounds) (before between : List (ℕ × Op)) (a x r : ℕ) → IsShape b → IsLawful (new_machine b) before
+    → is_allowed (run (new_machine b) before) a (GateTake r) ≡ true → answer (run (new_machine b) before) a (GateTake r) ≡ 1
+    → IsLawful (step (run (new_machine b) before) a (GateTake r)) between
+    → is_allowed (run (step (run (new_machine b) before) a (GateTake r)) between) x (GateTake r) ≡ true
+    → answer (run (step (run (new_machine b) before) a (GateTake r)) between) x (GateTake r) ≡ 1
+    → times_freed between r ≡ times_taken (step (run (new_machine b) before) a (GateTake r)) between r + 1
 freed_between b before between a x r shape l h e k i f =
     let m = run (new_machine b) before in
     let t = step m a (GateTake r) in

@@ -29,7 +29,8 @@ use Rattle.orc_sound.proofs.World.{World, read_by, step_world, world_of}
 use Rattle.orc_sound.specs.Lifetimes.{NoWrap, is_free, is_take, times_freed, times_taken}
 
 -- a row that is out, or is taken, is freed or out
-out_step : (b : Bounds) (z : World) (a : ℕ) (op : Op) (r : ℕ) → LawfulStep b z a op → LivesFit b z → out (z.memory (Gate r)) + bit (takes op (z.seats a) (read_by z a op) r) ≡ bit (frees op r) + out ((step_world z a op).memory (Gate r))
+out_step : (b : Bounds) (z : World) (a : ℕ) (op : Op) (r : ℕ) → LawfulStep b z a op → LivesFit b z
+    → out (z.memory (Gate r)) + bit (takes op (z.seats a) (read_by z a op) r) ≡ bit (frees op r) + out ((step_world z a op).memory (Gate r))
 out_step b z a op r p s = cases (takes op (z.seats a) (read_by z a op) r) (frees op r) refl refl
   where
     not_both : (op : Op) (d : Agent) (v r : ℕ) → takes op d v r ≡ true → frees op r ≡ true → ⊥
@@ -44,20 +45,25 @@ out_step b z a op r p s = cases (takes op (z.seats a) (read_by z a op) r) (frees
         parity false e = let k : w % 2 ≢ 1 = eqb-false (w % 2) 1 e in omega arith
 
     freed_gate : (op : Op) → LawfulStep b z a op → frees op r ≡ true → out ((step_world z a op).memory (Gate r)) ≡ 0
-    freed_gate (Free q) l h = rw (← eqb-true q r h, eq-eqb q q refl) (let o = (freed_row b z a q l).gone.is_out in let w = s.within q in let i = l.shape.limit.1 in omega arith)
+    freed_gate (Free q) l h = rw (← eqb-true q r h, eq-eqb q q refl) (let o = (freed_row b z a q l).gone.is_out in let w = s.within q in
+        let i = l.shape.limit.1 in omega arith)
     freed_gate op l h = absurd (false≢true h)
 
-    cases : (t u : Bool) → takes op (z.seats a) (read_by z a op) r ≡ t → frees op r ≡ u → out (z.memory (Gate r)) + bit t ≡ bit u + out ((step_world z a op).memory (Gate r))
+    cases : (t u : Bool) → takes op (z.seats a) (read_by z a op) r ≡ t → frees op r ≡ u → out (z.memory (Gate r)) + bit t ≡ bit u
+        + out ((step_world z a op).memory (Gate r))
     cases true true e f = absurd (not_both op (z.seats a) (read_by z a op) r e f)
     cases true false e f = let i = takes_free op (z.seats a) z.memory a r e in let j = taken_out op (z.seats a) z.memory a r e in omega arith
     cases false true e f = let i = (freed b z a op r p f).gone.is_out in let j = freed_gate op p f in omega arith
     cases false false e f = same (out (z.memory (Gate r)) == 1) refl
       where
         same : (t : Bool) → (out (z.memory (Gate r)) == 1) ≡ t → out (z.memory (Gate r)) + 0 ≡ 0 + out ((step_world z a op).memory (Gate r))
-        same true g = let i = eqb-true (out (z.memory (Gate r))) 1 g in let j = out_stays z.memory b (z.memory Enrolled) a op (z.seats a) r p.fits f i in omega arith
+        same true g = let i = eqb-true (out (z.memory (Gate r))) 1 g in
+            let j = out_stays z.memory b (z.memory Enrolled) a op (z.seats a) r p.fits f i in omega arith
         same false g =
             let i : out (z.memory (Gate r)) ≢ 1 = eqb-false (out (z.memory (Gate r))) 1 g in
-            let j = odd ((step_world z a op).memory (Gate r)) (λ k. ⊎_elim (λ old. i old) (λ new. both_ways (takes op (z.seats a) (read_by z a op) r) new e) (gate_source b (z.memory Enrolled) a op (z.seats a) z.memory r p.fits f k)) in
+            let j = odd ((step_world z a op).memory (Gate r))
+            (λ k. ⊎_elim (λ old. i old) (λ new. both_ways (takes op (z.seats a) (read_by z a op) r) new e)
+            (gate_source b (z.memory Enrolled) a op (z.seats a) z.memory r p.fits f k)) in
             omega arith
 
 won : (t : Bool) → (cond t 1 0 == 1) ≡ t
@@ -69,7 +75,8 @@ take_core (GateTake q) a d v r = ap (λ t. (q == r) && t) (won (v == 2 * number_
 take_core op a d v r = refl
 
 -- a GateTake that answers 1 takes the row
-pub take_answer : (m : Machine) (a : ℕ) (op : Op) (r : ℕ) → word_read m a op ≡ read_by (world_of m) a op → (is_take op r && (answer m a op == 1)) ≡ takes op (record_at m a) (read_by (world_of m) a op) r
+pub take_answer : (m : Machine) (a : ℕ) (op : Op) (r : ℕ) → word_read m a op ≡ read_by (world_of m) a op
+    → (is_take op r && (answer m a op == 1)) ≡ takes op (record_at m a) (read_by (world_of m) a op) r
 take_answer m a op r e = take_core op a (record_at m a) (word_read m a op) r ∙ ap (λ v. takes op (record_at m a) v r) e
 
 free_same : (op : Op) (r : ℕ) → is_free op r ≡ frees op r
@@ -83,7 +90,8 @@ pub out_bit : (m : Machine) (r : ℕ) → r < m.bounds.rows → out ((world_of m
 out_bit m r h = rw (word_shown m (Gate r) h) (low_bit (word_in m (Gate r)))
 
 -- in a run, a row that is out or is taken is freed or out in the end, as often as that is
-pub run_lives : (m : Machine) (steps : List (ℕ × Op)) (r : ℕ) → r < m.bounds.rows → Full m → AllFits m.bounds (world_of m) → IsLawful m steps → bit (is_out m r) + times_taken m steps r ≡ times_freed steps r + bit (is_out (run m steps) r)
+pub run_lives : (m : Machine) (steps : List (ℕ × Op)) (r : ℕ) → r < m.bounds.rows → Full m → AllFits m.bounds (world_of m) → IsLawful m steps
+    → bit (is_out m r) + times_taken m steps r ≡ times_freed steps r + bit (is_out (run m steps) r)
 run_lives m [] r h w s l = omega arith
 run_lives m (x ∷ xs) r h w s l =
     let p = allowed_step m x.0 x.1 w s l.0 in
@@ -99,7 +107,8 @@ run_lives m (x ∷ xs) r h w s l =
     omega arith
 
 -- no sum or difference of a step that is allowed wraps
-pub no_wrap : (b : Bounds) (z : World) (a : ℕ) (op : Op) → LawfulStep b z a op → LivesFit b z → ((q : ℕ) → sequence_of (z.memory (Counter q)) < 2 ^ 39 + 2 ^ 19) → NoWrap (action_of a op (z.seats a)).operation (read_by z a op)
+pub no_wrap : (b : Bounds) (z : World) (a : ℕ) (op : Op) → LawfulStep b z a op → LivesFit b z
+    → ((q : ℕ) → sequence_of (z.memory (Counter q)) < 2 ^ 39 + 2 ^ 19) → NoWrap (action_of a op (z.seats a)).operation (read_by z a op)
 no_wrap b z a Enroll p s lo = let e = p.counted.enrolment.most in let k = p.shape.agents.1 in omega arith
 no_wrap b z a (Inc q) p s lo = let l = lo q in omega arith
 no_wrap b z a (Dec q) p s lo = let l = lo q in omega arith

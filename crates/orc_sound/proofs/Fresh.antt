@@ -27,11 +27,13 @@ use Rattle.orc_sound.proofs.World.{World, read_by, record_by, step_world, write}
 use Rattle.orc_sound.specs.Linked.{uses}
 
 -- a row that was free when it was taken isn't used, retired or linked_in
-taken_unused : (b : Bounds) (z : World) (a : ℕ) (op : Op) (x r : ℕ) → Counted b z → takes op (z.seats a) (read_by z a op) r ≡ true → uses (z.seats x) r ≡ true → ⊥
+taken_unused : (b : Bounds) (z : World) (a : ℕ) (op : Op) (x r : ℕ) → Counted b z → takes op (z.seats a) (read_by z a op) r ≡ true
+    → uses (z.seats x) r ≡ true → ⊥
 taken_unused b z a op x r s h u = zero_one (takes_free op (z.seats a) z.memory a r h) (s.used_out x r u)
 
 -- who has the row fresh after a step had it before, or took it
-fresh_before : (z : World) (a : ℕ) (op : Op) (r : ℕ) → names (record_by z a op).fresh r ≡ true → (names (z.seats a).fresh r ≡ true) ⊎ (takes op (z.seats a) (read_by z a op) r ≡ true)
+fresh_before : (z : World) (a : ℕ) (op : Op) (r : ℕ) → names (record_by z a op).fresh r ≡ true → (names (z.seats a).fresh r ≡ true)
+    ⊎ (takes op (z.seats a) (read_by z a op) r ≡ true)
 fresh_before z a op r h = fresh_source op (z.seats a) (read_by z a op) r h
 
 -- who sets the bit of a row has it fresh no longer
@@ -47,14 +49,17 @@ raised_fresh (SetRetired q n) d v r h k = tried d.fresh q r (v == clear_word n) 
     tried o q r false e f h = false≢true e
 raised_fresh op d v r h k = false≢true h
 
-old_bit_clear : (b : Bounds) (z : World) (a : ℕ) (op : Op) (x r : ℕ) → LawfulStep b z a op → names ((step_world z a op).seats x).fresh r ≡ true → retired_bit (z.memory (Counter r)) ≡ 1 → ⊥
+old_bit_clear : (b : Bounds) (z : World) (a : ℕ) (op : Op) (x r : ℕ) → LawfulStep b z a op → names ((step_world z a op).seats x).fresh r ≡ true
+    → retired_bit (z.memory (Counter r)) ≡ 1 → ⊥
 old_bit_clear b z a op x r p h k =
     ⊎_elim
-    (λ s. ⊎_elim (λ old. zero_one (p.counted.fresh_bit a r old) k) (λ got. zero_one (takes_free op (z.seats a) z.memory a r got) (p.counted.bit_out r k)) (fresh_before z a op r s.1))
+    (λ s. ⊎_elim (λ old. zero_one (p.counted.fresh_bit a r old) k)
+    (λ got. zero_one (takes_free op (z.seats a) z.memory a r got) (p.counted.bit_out r k)) (fresh_before z a op r s.1))
     (λ s. zero_one (p.counted.fresh_bit x r s.1) k)
     (seat_split (λ d. names d.fresh r ≡ true) z.seats a x (record_by z a op) h)
 
-new_bit_clear : (b : Bounds) (z : World) (a : ℕ) (op : Op) (x r : ℕ) → LawfulStep b z a op → names ((step_world z a op).seats x).fresh r ≡ true → raises op (read_by z a op) r ≡ true → ⊥
+new_bit_clear : (b : Bounds) (z : World) (a : ℕ) (op : Op) (x r : ℕ) → LawfulStep b z a op → names ((step_world z a op).seats x).fresh r ≡ true
+    → raises op (read_by z a op) r ≡ true → ⊥
 new_bit_clear b z a op x r p h k =
     ⊎_elim
     (λ s. raised_fresh op (z.seats a) (read_by z a op) r k s.1)
@@ -68,12 +73,16 @@ small_bit w h = cases (retired_bit w == 1) refl
     cases true e = absurd (h (eqb-true (retired_bit w) 1 e))
     cases false e = let k = eqb-false (retired_bit w) 1 e in let n : retired_bit w ≢ 1 = k in omega arith
 
-pub fresh_bit_step : (b : Bounds) (z : World) (a : ℕ) (op : Op) → LawfulStep b z a op → (x r : ℕ) → names ((step_world z a op).seats x).fresh r ≡ true → retired_bit ((step_world z a op).memory (Counter r)) ≡ 0
+pub fresh_bit_step : (b : Bounds) (z : World) (a : ℕ) (op : Op) → LawfulStep b z a op → (x r : ℕ) → names ((step_world z a op).seats x).fresh r ≡ true
+    → retired_bit ((step_world z a op).memory (Counter r)) ≡ 0
 fresh_bit_step b z a op p x r h =
-    small_bit ((step_world z a op).memory (Counter r)) (λ k. ⊎_elim (λ old. old_bit_clear b z a op x r p h old) (λ new. new_bit_clear b z a op x r p h new) (bit_before b z a op r p k))
+    small_bit ((step_world z a op).memory (Counter r))
+    (λ k. ⊎_elim (λ old. old_bit_clear b z a op x r p h old) (λ new. new_bit_clear b z a op x r p h new) (bit_before b z a op r p k))
 
 -- a link to another agent's fresh row can be read only at that row, which no other agent uses
-place_alone : (b : Bounds) (z : World) (a : ℕ) (w : Word) (x r : ℕ) → Counted b z → may_place b w (λ j. any_holds (z.seats a).slots j || names (z.seats a).fresh j) ≡ true → to_row (z.memory w) r ≡ 1 → names (z.seats x).fresh r ≡ true → a ≢ x → ⊥
+place_alone : (b : Bounds) (z : World) (a : ℕ) (w : Word) (x r : ℕ) → Counted b z
+    → may_place b w (λ j. any_holds (z.seats a).slots j || names (z.seats a).fresh j) ≡ true → to_row (z.memory w) r ≡ 1
+    → names (z.seats x).fresh r ≡ true → a ≢ x → ⊥
 place_alone b z a (Root i) x r s m h f n = zero_one (s.fresh_root x i r f) h
 place_alone b z a (Next j) x r s m h f n = cases (j == r) refl
   where
@@ -82,7 +91,8 @@ place_alone b z a (Next j) x r s m h f n = cases (j == r) refl
     cases false e = zero_one (s.fresh_next x j r f (eqb-false j r e)) h
 place_alone b z a w x r s m h f n = false≢true m
 
-store_alone : (b : Bounds) (z : World) (a q : ℕ) (l : RowLink) (x r : ℕ) → LawfulStep b z a (LinkStore q l) → to_row (z.memory (Next q)) r ≡ 1 → names (z.seats x).fresh r ≡ true → a ≢ x → ⊥
+store_alone : (b : Bounds) (z : World) (a q : ℕ) (l : RowLink) (x r : ℕ) → LawfulStep b z a (LinkStore q l) → to_row (z.memory (Next q)) r ≡ 1
+    → names (z.seats x).fresh r ≡ true → a ≢ x → ⊥
 store_alone b z a q l x r p h f n = cases (q == r) refl
   where
     cases : (t : Bool) → (q == r) ≡ t → ⊥
@@ -95,14 +105,16 @@ store_alone b z a q l x r p h f n = cases (q == r) refl
     cases false e = zero_one (p.counted.fresh_next x q r f (eqb-false q r e)) h
 
 -- no other agent comes to use a fresh row
-new_use_alone : (b : Bounds) (z : World) (a : ℕ) (op : Op) (x r : ℕ) → LawfulStep b z a op → NewUse op (z.seats a) (read_by z a op) r → names (z.seats x).fresh r ≡ true → a ≢ x → ⊥
+new_use_alone : (b : Bounds) (z : World) (a : ℕ) (op : Op) (x r : ℕ) → LawfulStep b z a op → NewUse op (z.seats a) (read_by z a op) r
+    → names (z.seats x).fresh r ≡ true → a ≢ x → ⊥
 new_use_alone b z a (LinkLoad w k) x r p h f n = place_alone b z a w x r p.counted (load_place b (z.memory Enrolled) a w k (z.seats a) p.fits) h f n
 new_use_alone b z a (LinkStore q l) x r p h f n = store_alone b z a q l x r p h f n
 new_use_alone b z a (Arm q) x r p h f n = zero_one (p.counted.fresh_bit x r f) (rw h.0 (arm_retired b z a q p h.1))
 new_use_alone b z a (GateTake q) x r p h f n = taken_unused b z a (GateTake q) x r p.counted h (fresh_uses (z.seats x) r f)
 new_use_alone b z a op x r p h f n = h
 
-pub fresh_alone_step : (b : Bounds) (z : World) (a : ℕ) (op : Op) → LawfulStep b z a op → (x y r : ℕ) → names ((step_world z a op).seats x).fresh r ≡ true → y ≢ x → uses ((step_world z a op).seats y) r ≡ false
+pub fresh_alone_step : (b : Bounds) (z : World) (a : ℕ) (op : Op) → LawfulStep b z a op → (x y r : ℕ)
+    → names ((step_world z a op).seats x).fresh r ≡ true → y ≢ x → uses ((step_world z a op).seats y) r ≡ false
 fresh_alone_step b z a op p x y r h n =
     not_true (uses ((step_world z a op).seats y) r)
     (λ u. ⊎_elim
@@ -123,7 +135,9 @@ fresh_alone_step b z a op p x y r h n =
     (seat_split (λ d. names d.fresh r ≡ true) z.seats a x (record_by z a op) h))
 
 -- an agent whose compare_exchange links its fresh row has it fresh no longer
-cas_fresh : (v w : ℕ) (x t : RowLink) (o : Option ℕ) (r : ℕ) (e s f u : Bool) → (e ≡ true → w ≡ v) → (s ≡ true → v ≡ link_word x) → (f ≡ true → names x.to r ≡ names t.to r) → (u ≡ false → names o r ≡ true → names t.to r ≡ true → ⊥) → names (cond s (cond f o (cond u None o)) o) r ≡ true → to_row (cond e (cond s (link_word t) v) w) r ≡ 1 → to_row w r ≡ 1
+cas_fresh : (v w : ℕ) (x t : RowLink) (o : Option ℕ) (r : ℕ) (e s f u : Bool) → (e ≡ true → w ≡ v) → (s ≡ true → v ≡ link_word x)
+    → (f ≡ true → names x.to r ≡ names t.to r) → (u ≡ false → names o r ≡ true → names t.to r ≡ true → ⊥)
+    → names (cond s (cond f o (cond u None o)) o) r ≡ true → to_row (cond e (cond s (link_word t) v) w) r ≡ 1 → to_row w r ≡ 1
 cas_fresh v w x t o r false s f u a b c d h k = k
 cas_fresh v w x t o r true false f u a b c d h k = rw (a refl) k
 cas_fresh v w x t o r true true true u a b c d h k = rw (a refl, b refl) (omega (arith, to_row-link x r, to_row-link t r, ap bit (c refl)))
@@ -135,9 +149,12 @@ differ None t r h k l = false≢true k
 differ (Some x) None r h k l = false≢true l
 differ (Some x) (Some y) r h k l = let e = eqb-true x r k in let f = eqb-true y r l in eqb-false x y h (e ∙ sym f)
 
-own_root : (b : Bounds) (e a : ℕ) (op : Op) (d : Agent) (m : Word → ℕ) (i r : ℕ) → fits b e a op d ≡ true → names (after op d (m (action_of a op d).word)).fresh r ≡ true → to_row (write m (action_of a op d).word (word_after (action_of a op d).operation (m (action_of a op d).word)) (Root i)) r ≡ 1 → to_row (m (Root i)) r ≡ 1
+own_root : (b : Bounds) (e a : ℕ) (op : Op) (d : Agent) (m : Word → ℕ) (i r : ℕ) → fits b e a op d ≡ true
+    → names (after op d (m (action_of a op d).word)).fresh r ≡ true
+    → to_row (write m (action_of a op d).word (word_after (action_of a op d).operation (m (action_of a op d).word)) (Root i)) r ≡ 1 → to_row (m (Root i)) r ≡ 1
 own_root b e a (LinkCas (Root j) x t) d m i r f h k =
-    cas_fresh (m (Root j)) (m (Root i)) x t d.fresh r (i == j) (m (Root j) == link_word x) (same_target x.to t.to) (same_target d.fresh t.to) (λ q. ap (λ n. m (Root n)) (eqb-true i j q)) (eqb-true (m (Root j)) (link_word x)) (same_names x.to t.to r) (differ d.fresh t.to r) h k
+    cas_fresh (m (Root j)) (m (Root i)) x t d.fresh r (i == j) (m (Root j) == link_word x) (same_target x.to t.to) (same_target d.fresh t.to)
+    (λ q. ap (λ n. m (Root n)) (eqb-true i j q)) (eqb-true (m (Root j)) (link_word x)) (same_names x.to t.to r) (differ d.fresh t.to r) h k
 own_root b e a (LinkCas (Next j) x t) d m i r f h k = k
 own_root b e a (LinkCas w x t) d m i r f h k = grind arith
 own_root b e a op d m i r f h k = ⊎_elim (λ old. old) (λ new. absurd (false≢true new)) (root_source b e a op d m i r f k)
@@ -155,19 +172,27 @@ two_names None q r h k = absurd (false≢true h)
 two_names (Some x) q r h k = sym (eqb-true x q h) ∙ eqb-true x r k
 
 -- the row that is linked_in to the agent's fresh row by a store is that row
-own_store : (b : Bounds) (e a q : ℕ) (l : RowLink) (d : Agent) (r : ℕ) → fits b e a (LinkStore q l) d ≡ true → names d.fresh r ≡ true → names l.to r ≡ true → q ≡ r
+own_store : (b : Bounds) (e a q : ℕ) (l : RowLink) (d : Agent) (r : ℕ) → fits b e a (LinkStore q l) d ≡ true → names d.fresh r ≡ true
+    → names l.to r ≡ true → q ≡ r
 own_store b e a q l d r f h k =
     ⊎_elim
     (λ mine. two_names d.fresh q r mine h)
     (λ null. absurd (no_target l.to r null k))
-    (fresh_or_null (nat_lt q b.rows) (is_empty (slot_of d 0)) (names d.fresh q) (may_target b d l.to) (may_change d (b.limit + 64) None l.to) (doom_uncut d.doom q) (is_none l.to) (not l.mark) f)
+    (fresh_or_null (nat_lt q b.rows) (is_empty (slot_of d 0)) (names d.fresh q) (may_target b d l.to) (may_change d (b.limit + 64) None l.to)
+    (doom_uncut d.doom q) (is_none l.to) (not l.mark) f)
 
-own_next : (b : Bounds) (e a : ℕ) (op : Op) (d : Agent) (m : Word → ℕ) (i r : ℕ) → fits b e a op d ≡ true → names (after op d (m (action_of a op d).word)).fresh r ≡ true → to_row (write m (action_of a op d).word (word_after (action_of a op d).operation (m (action_of a op d).word)) (Next i)) r ≡ 1 → (to_row (m (Next i)) r ≡ 1) ⊎ (i ≡ r)
+own_next : (b : Bounds) (e a : ℕ) (op : Op) (d : Agent) (m : Word → ℕ) (i r : ℕ) → fits b e a op d ≡ true
+    → names (after op d (m (action_of a op d).word)).fresh r ≡ true
+    → to_row (write m (action_of a op d).word (word_after (action_of a op d).operation (m (action_of a op d).word)) (Next i)) r ≡ 1
+    → (to_row (m (Next i)) r ≡ 1) ⊎ (i ≡ r)
 own_next b e a (LinkCas (Next j) x t) d m i r f h k =
-    inl (cas_fresh (m (Next j)) (m (Next i)) x t d.fresh r (i == j) (m (Next j) == link_word x) (same_target x.to t.to) (same_target d.fresh t.to) (λ q. ap (λ n. m (Next n)) (eqb-true i j q)) (eqb-true (m (Next j)) (link_word x)) (same_names x.to t.to r) (differ d.fresh t.to r) h k)
+    inl (cas_fresh (m (Next j)) (m (Next i)) x t d.fresh r (i == j) (m (Next j) == link_word x) (same_target x.to t.to) (same_target d.fresh t.to)
+    (λ q. ap (λ n. m (Next n)) (eqb-true i j q)) (eqb-true (m (Next j)) (link_word x)) (same_names x.to t.to r) (differ d.fresh t.to r) h k)
 own_next b e a (LinkCas (Root j) x t) d m i r f h k = inl k
 own_next b e a (LinkCas w x t) d m i r f h k = grind arith
-own_next b e a (LinkStore q l) d m i r f h k = ⊎_elim (λ old. inl old) (λ new. inr (eqb-true i q (and_both _ _ new).0 ∙ own_store b e a q l d r f h (and_both _ _ new).1)) (next_source b e a (LinkStore q l) d m i r f k)
+own_next b e a (LinkStore q l) d m i r f h k =
+    ⊎_elim (λ old. inl old) (λ new. inr (eqb-true i q (and_both _ _ new).0 ∙ own_store b e a q l d r f h (and_both _ _ new).1))
+    (next_source b e a (LinkStore q l) d m i r f k)
 own_next b e a op d m i r f h k = ⊎_elim (λ old. inl old) (λ new. absurd (false≢true new)) (next_source b e a op d m i r f k)
 
 pub not_one : (b : Bool) → (bit b ≡ 1 → ⊥) → bit b ≡ 0
@@ -175,15 +200,20 @@ not_one true h = absurd (h refl)
 not_one false h = refl
 
 -- a link to another agent's fresh row isn't made
-put_alone : (b : Bounds) (z : World) (a : ℕ) (op : Op) (w : Word) (x r : ℕ) → LawfulStep b z a op → puts op w r ≡ true → names (z.seats x).fresh r ≡ true → x ≢ a → ⊥
+put_alone : (b : Bounds) (z : World) (a : ℕ) (op : Op) (w : Word) (x r : ℕ) → LawfulStep b z a op → puts op w r ≡ true
+    → names (z.seats x).fresh r ≡ true → x ≢ a → ⊥
 put_alone b z a op w x r p h f n = both_ways (uses (z.seats a) r) (putter_uses b z a op w r p h) (p.counted.fresh_alone x a r f (λ e. n (sym e)))
 
-pub fresh_root_step : (b : Bounds) (z : World) (a : ℕ) (op : Op) → LawfulStep b z a op → (x i r : ℕ) → names ((step_world z a op).seats x).fresh r ≡ true → to_row ((step_world z a op).memory (Root i)) r ≡ 0
+pub fresh_root_step : (b : Bounds) (z : World) (a : ℕ) (op : Op) → LawfulStep b z a op → (x i r : ℕ)
+    → names ((step_world z a op).seats x).fresh r ≡ true → to_row ((step_world z a op).memory (Root i)) r ≡ 0
 fresh_root_step b z a op p x i r h =
     not_one _
     (λ k. ⊎_elim
-    (λ s. let was = own_root b (z.memory Enrolled) a op (z.seats a) z.memory i r p.fits s.1 k in ⊎_elim (λ old. zero_one (p.counted.fresh_root a i r old) was) (λ got. zero_one (takes_free op (z.seats a) z.memory a r got) (p.counted.roots_out i r was)) (fresh_before z a op r s.1))
-    (λ s. ⊎_elim (λ old. zero_one (p.counted.fresh_root x i r s.1) old) (λ new. put_alone b z a op (Root i) x r p new s.1 s.0) (root_source b (z.memory Enrolled) a op (z.seats a) z.memory i r p.fits k))
+    (λ s. let was = own_root b (z.memory Enrolled) a op (z.seats a) z.memory i r p.fits s.1 k in
+    ⊎_elim (λ old. zero_one (p.counted.fresh_root a i r old) was)
+    (λ got. zero_one (takes_free op (z.seats a) z.memory a r got) (p.counted.roots_out i r was)) (fresh_before z a op r s.1))
+    (λ s. ⊎_elim (λ old. zero_one (p.counted.fresh_root x i r s.1) old) (λ new. put_alone b z a op (Root i) x r p new s.1 s.0)
+    (root_source b (z.memory Enrolled) a op (z.seats a) z.memory i r p.fits k))
     (seat_split (λ d. names d.fresh r ≡ true) z.seats a x (record_by z a op) h))
 
 -- no link word names a row that is free
@@ -194,13 +224,16 @@ free_unnamed b z j r s f h = cases (out (z.memory (Gate j)) == 1) refl
     cases true e = zero_one f (s.nexts_out j r (eqb-true (out (z.memory (Gate j))) 1 e) h)
     cases false e = let n : out (z.memory (Gate j)) ≢ 1 = eqb-false (out (z.memory (Gate j))) 1 e in zero_one (null_row _ r (s.free_null j (omega arith))) h
 
-pub fresh_next_step : (b : Bounds) (z : World) (a : ℕ) (op : Op) → LawfulStep b z a op → (x j r : ℕ) → names ((step_world z a op).seats x).fresh r ≡ true → j ≢ r → to_row ((step_world z a op).memory (Next j)) r ≡ 0
+pub fresh_next_step : (b : Bounds) (z : World) (a : ℕ) (op : Op) → LawfulStep b z a op → (x j r : ℕ)
+    → names ((step_world z a op).seats x).fresh r ≡ true → j ≢ r → to_row ((step_world z a op).memory (Next j)) r ≡ 0
 fresh_next_step b z a op p x j r h n =
     not_one _
     (λ k. ⊎_elim
     (λ s. ⊎_elim
-    (λ was. ⊎_elim (λ old. zero_one (p.counted.fresh_next a j r old n) was) (λ got. free_unnamed b z j r p.counted (takes_free op (z.seats a) z.memory a r got) was) (fresh_before z a op r s.1))
+    (λ was. ⊎_elim (λ old. zero_one (p.counted.fresh_next a j r old n) was)
+    (λ got. free_unnamed b z j r p.counted (takes_free op (z.seats a) z.memory a r got) was) (fresh_before z a op r s.1))
     n
     (own_next b (z.memory Enrolled) a op (z.seats a) z.memory j r p.fits s.1 k))
-    (λ s. ⊎_elim (λ old. zero_one (p.counted.fresh_next x j r s.1 n) old) (λ new. put_alone b z a op (Next j) x r p new s.1 s.0) (next_source b (z.memory Enrolled) a op (z.seats a) z.memory j r p.fits k))
+    (λ s. ⊎_elim (λ old. zero_one (p.counted.fresh_next x j r s.1 n) old) (λ new. put_alone b z a op (Next j) x r p new s.1 s.0)
+    (next_source b (z.memory Enrolled) a op (z.seats a) z.memory j r p.fits k))
     (seat_split (λ d. names d.fresh r ≡ true) z.seats a x (record_by z a op) h))

@@ -74,12 +74,19 @@ nobody_uses room r h = false≢true h
 counted_blank : (b : Bounds) (z : World) → Blank b z → ((w : Word) → is_within b w ≡ false → z.memory w ≡ 0) → Counted b z
 counted_blank b z k out = record {
   outside = out;
-  enrolment = record { most = rw (k.zero_word Enrolled refl) (omega arith); enrolled = λ a h. absurd (none_less a (rw (k.zero_word Enrolled refl) at h)); empty = λ a h. k.empty a };
+  enrolment = record {
+    most = rw (k.zero_word Enrolled refl) (omega arith);
+    enrolled =
+        λ a h. absurd (none_less a (rw (k.zero_word Enrolled refl) at h));
+    empty = λ a h. k.empty a;
+  };
   slots = λ a. rw (k.empty a) (nobody_slots z.memory b a (λ j. k.zero_word (Slot a j) refl));
-  balance = λ r h. let l = blank_linked b z r k in let i = sum_zero b.agents (λ a. bit (names (z.seats a).inc r)) (λ a. rw (k.empty a)) in let d = sum_zero b.agents (λ a. bit (names (z.seats a).dec r)) (λ a. rw (k.empty a)) in rw (k.counter r h) (omega arith);
+  balance = λ r h. let l = blank_linked b z r k in let i = sum_zero b.agents (λ a. bit (names (z.seats a).inc r)) (λ a. rw (k.empty a)) in
+      let d = sum_zero b.agents (λ a. bit (names (z.seats a).dec r)) (λ a. rw (k.empty a)) in rw (k.counter r h) (omega arith);
   inc_held = λ a r h. absurd (false≢true (rw (k.empty a) at h));
   due_held = λ a r h. absurd (false≢true (rw (k.empty a) at h));
-  token = λ r h. let l = blank_handed b z r k in let i = sum_zero b.agents (λ a. places_of (z.seats a) r) (λ a. rw (k.empty a)) in let c = bit_of _ (k.no_bit r) in omega arith;
+  token = λ r h. let l = blank_handed b z r k in let i = sum_zero b.agents (λ a. places_of (z.seats a) r) (λ a. rw (k.empty a)) in
+      let c = bit_of _ (k.no_bit r) in omega arith;
   one_part = λ a. rw (k.empty a) (omega arith);
   used_out = λ a r h. absurd (nobody_uses b.rows r (rw (k.empty a) at h));
   bit_out = λ r h. absurd (zero_one (bit_of _ (k.no_bit r)) h);
@@ -103,7 +110,14 @@ bits_first b r true e = omega arith
 bits_first b r false e = omega arith
 
 pub blank_first : (b : Bounds) → Blank b (world_of (new_machine b))
-blank_first b = record { zero_word = zero_first b; counter = counter_first b; no_bit = λ r. bits_first b r (is_within b (Counter r)) (memory_first b (Counter r) (is_within b (Counter r)) refl); empty = seats_first b }
+blank_first b =
+    record {
+      zero_word = zero_first b;
+      counter = counter_first b;
+      no_bit =
+          λ r. bits_first b r (is_within b (Counter r)) (memory_first b (Counter r) (is_within b (Counter r)) refl);
+      empty = seats_first b;
+    }
 
 outside_first : (b : Bounds) (w : Word) → is_within b w ≡ false → (world_of (new_machine b)).memory w ≡ 0
 outside_first b w h = memory_first b w false h

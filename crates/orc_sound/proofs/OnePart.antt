@@ -44,7 +44,8 @@ none_zero : {A : Type 0} (o : Option A) → is_none o ≡ true → bit (is_some 
 none_zero None h = refl
 none_zero (Some x) h = absurd (false≢true h)
 
-end_parts : (t : Bool) (h : ℕ) (s : Scan) (c : Doom) (m : Option Doom) → h ≡ 0 → bit (is_some m) ≡ 0 → h + bit (is_some (cond t None (Some s))) + bit (is_some (cond t (Some c) m)) ≤ 1
+end_parts : (t : Bool) (h : ℕ) (s : Scan) (c : Doom) (m : Option Doom) → h ≡ 0 → bit (is_some m) ≡ 0 → h + bit (is_some (cond t None (Some s)))
+    + bit (is_some (cond t (Some c) m)) ≤ 1
 end_parts true h s c m e k = omega arith
 end_parts false h s c m e k = omega arith
 
@@ -52,7 +53,8 @@ pub parts_kept : (b : Bounds) (e a : ℕ) (op : Op) (d : Agent) (v : ℕ) → fi
 parts_kept b e a (LinkStore q l) d v f h = rw (some_cut d.doom q) h
 parts_kept b e a (CounterLoad q Check) d v f h = h
 parts_kept b e a (CounterLoad q Start) d v f h = let k = none_zero d.doom (and_both _ _ (and_both _ _ f).0).1 in omega arith
-parts_kept b e a (CounterLoad q End) d v f h = let s = scans_some d.scan q (and_both _ _ (and_both _ _ (and_both _ _ f).0).0).1 in end_parts (v == kept d.scan) (bit (is_some d.hand)) _ _ d.doom (omega arith) (omega arith)
+parts_kept b e a (CounterLoad q End) d v f h = let s = scans_some d.scan q (and_both _ _ (and_both _ _ (and_both _ _ f).0).0).1 in
+    end_parts (v == kept d.scan) (bit (is_some d.hand)) _ _ d.doom (omega arith) (omega arith)
 parts_kept b e a (Unretire q) d v f h = rw (some_bared d.doom) (omega arith)
 parts_kept b e a (SlotLook k) d v f h = rw (some_on d.scan v) h
 parts_kept b e a (Hand k) d v f h = let s = found_some d.scan (and_both _ _ (and_both _ _ f).0).1 in let k = one_some (named v) in omega arith

@@ -53,7 +53,8 @@ freed b z a op r p h = absurd (false≢true h)
 pub unfreed : (b : Bounds) (z : World) (a : ℕ) (op : Op) (r : ℕ) → LawfulStep b z a op → (Freed b z r → ⊥) → frees op r ≡ false
 unfreed b z a op r p n = not_true (frees op r) (λ h. n (freed b z a op r p h))
 
-pub stays_out : (b : Bounds) (z : World) (a : ℕ) (op : Op) (r : ℕ) → LawfulStep b z a op → (Freed b z r → ⊥) → out (z.memory (Gate r)) ≡ 1 → out ((step_world z a op).memory (Gate r)) ≡ 1
+pub stays_out : (b : Bounds) (z : World) (a : ℕ) (op : Op) (r : ℕ) → LawfulStep b z a op → (Freed b z r → ⊥) → out (z.memory (Gate r)) ≡ 1
+    → out ((step_world z a op).memory (Gate r)) ≡ 1
 stays_out b z a op r p n h = out_stays z.memory b (z.memory Enrolled) a op (z.seats a) r p.fits (unfreed b z a op r p n) h
 
 pub used_stays : (b : Bounds) (z : World) (a : ℕ) (op : Op) (x r : ℕ) → LawfulStep b z a op → uses (z.seats x) r ≡ true → out ((step_world z a op).memory (Gate r)) ≡ 1
@@ -63,7 +64,8 @@ pub held_or_fresh : (d : Agent) (j : ℕ) → (any_holds d.slots j || names d.fr
 held_or_fresh d j h = grind arith
 
 -- the place that may be read is a root, or the next word of a row that the agent uses
-pub place_used : (b : Bounds) (p : Word) (d : Agent) → may_place b p (λ r. any_holds d.slots r || names d.fresh r) ≡ true → (j : ℕ) → p ≡ Next j → uses d j ≡ true
+pub place_used : (b : Bounds) (p : Word) (d : Agent) → may_place b p (λ r. any_holds d.slots r || names d.fresh r) ≡ true → (j : ℕ) → p ≡ Next j
+    → uses d j ≡ true
 place_used b (Next i) d h j e = let k : i ≡ j = cc in rw (← k) (held_or_fresh d i (and_both _ _ h).1)
 place_used b p d h j e = cc
 
@@ -72,7 +74,8 @@ place_out b (Root i) t m h g = tt
 place_out b (Next j) t m h g = g j (and_both _ _ h).1
 place_out b p t m h g = absurd (false≢true h)
 
-pub read_out : (b : Bounds) (z : World) (a : ℕ) (p : Word) → Counted b z → may_place b p (λ r. any_holds (z.seats a).slots r || names (z.seats a).fresh r) ≡ true → OutPlace z.memory p
+pub read_out : (b : Bounds) (z : World) (a : ℕ) (p : Word) → Counted b z
+    → may_place b p (λ r. any_holds (z.seats a).slots r || names (z.seats a).fresh r) ≡ true → OutPlace z.memory p
 read_out b z a p s h = place_out b p _ z.memory h (λ j k. s.used_out a j (held_or_fresh (z.seats a) j k))
 
 pub target_out : (b : Bounds) (z : World) (p : Word) (r : ℕ) → Counted b z → OutPlace z.memory p → to_row (z.memory p) r ≡ 1 → out (z.memory (Gate r)) ≡ 1
@@ -80,12 +83,14 @@ target_out b z (Root i) r s o h = s.roots_out i r h
 target_out b z (Next j) r s o h = s.nexts_out j r o h
 target_out b z p r s o h = absurd o
 
-pub load_place : (b : Bounds) (e a : ℕ) (p : Word) (k : Option ℕ) (d : Agent) → fits b e a (LinkLoad p k) d ≡ true → may_place b p (λ r. any_holds d.slots r || names d.fresh r) ≡ true
+pub load_place : (b : Bounds) (e a : ℕ) (p : Word) (k : Option ℕ) (d : Agent) → fits b e a (LinkLoad p k) d ≡ true
+    → may_place b p (λ r. any_holds d.slots r || names d.fresh r) ≡ true
 load_place b e a p None d h = h
 load_place b e a p (Some k) d h = (and_both _ _ (and_both _ _ h).0).0
 
 -- the row whose link is stored is fresh, or doomed with its link in
-pub store_cases : (b : Bounds) (e a q : ℕ) (l : RowLink) (d : Agent) → fits b e a (LinkStore q l) d ≡ true → (names d.fresh q ≡ true) ⊎ (doom_uncut d.doom q ≡ true)
+pub store_cases : (b : Bounds) (e a q : ℕ) (l : RowLink) (d : Agent) → fits b e a (LinkStore q l) d ≡ true → (names d.fresh q ≡ true)
+    ⊎ (doom_uncut d.doom q ≡ true)
 store_cases b e a q l d f = grind arith
 
 pub store_row_out : (b : Bounds) (z : World) (a q : ℕ) (l : RowLink) → LawfulStep b z a (LinkStore q l) → out (z.memory (Gate q)) ≡ 1
@@ -99,15 +104,19 @@ pub takes_free : (op : Op) (d : Agent) (m : Word → ℕ) (a r : ℕ) → takes 
 takes_free (GateTake q) d m a r h = grind arith
 takes_free op d m a r h = absurd (false≢true h)
 
-pub taken_out : (op : Op) (d : Agent) (m : Word → ℕ) (a r : ℕ) → takes op d (m (action_of a op d).word) r ≡ true → out (write m (action_of a op d).word (word_after (action_of a op d).operation (m (action_of a op d).word)) (Gate r)) ≡ 1
+pub taken_out : (op : Op) (d : Agent) (m : Word → ℕ) (a r : ℕ) → takes op d (m (action_of a op d).word) r ≡ true
+    → out (write m (action_of a op d).word (word_after (action_of a op d).operation (m (action_of a op d).word)) (Gate r)) ≡ 1
 taken_out (GateTake q) d m a r h = grind arith
 taken_out op d m a r h = absurd (false≢true h)
 
 pub arm_retired : (b : Bounds) (z : World) (a q : ℕ) → LawfulStep b z a (Arm q) → scans (z.seats a).scan q ≡ true → retired_bit (z.memory (Counter q)) ≡ 1
 arm_retired b z a q p h = retired_one b z a q p.counted p.agent (ltb-true _ _ (and_both _ _ (and_both _ _ p.fits).0).0) (scan_places (z.seats a) q h)
 
-new_use_out : (b : Bounds) (z : World) (a : ℕ) (op : Op) (r : ℕ) → LawfulStep b z a op → NewUse op (z.seats a) (read_by z a op) r → out ((step_world z a op).memory (Gate r)) ≡ 1
-new_use_out b z a (LinkLoad w k) r p h = out_stays z.memory b (z.memory Enrolled) a (LinkLoad w k) (z.seats a) r p.fits refl (target_out b z w r p.counted (read_out b z a w p.counted (load_place b (z.memory Enrolled) a w k (z.seats a) p.fits)) h)
+new_use_out : (b : Bounds) (z : World) (a : ℕ) (op : Op) (r : ℕ) → LawfulStep b z a op → NewUse op (z.seats a) (read_by z a op) r
+    → out ((step_world z a op).memory (Gate r)) ≡ 1
+new_use_out b z a (LinkLoad w k) r p h =
+    out_stays z.memory b (z.memory Enrolled) a (LinkLoad w k) (z.seats a) r p.fits refl
+    (target_out b z w r p.counted (read_out b z a w p.counted (load_place b (z.memory Enrolled) a w k (z.seats a) p.fits)) h)
 new_use_out b z a (LinkStore q l) r p h = p.counted.nexts_out q r (store_row_out b z a q l p) h
 new_use_out b z a (Arm q) r p h = rw h.0 (p.counted.bit_out q (arm_retired b z a q p h.1))
 new_use_out b z a (GateTake q) r p h = taken_out (GateTake q) (z.seats a) z.memory a r h
@@ -134,7 +143,8 @@ raiser_uses b z a op r p h = raises_used b (z.memory Enrolled) a op (z.seats a) 
 pub zero_one : {n : ℕ} → n ≡ 0 → n ≡ 1 → ⊥
 zero_one h k = omega arith
 
-pub bit_out_step : (b : Bounds) (z : World) (a : ℕ) (op : Op) → LawfulStep b z a op → (r : ℕ) → retired_bit ((step_world z a op).memory (Counter r)) ≡ 1 → out ((step_world z a op).memory (Gate r)) ≡ 1
+pub bit_out_step : (b : Bounds) (z : World) (a : ℕ) (op : Op) → LawfulStep b z a op → (r : ℕ)
+    → retired_bit ((step_world z a op).memory (Counter r)) ≡ 1 → out ((step_world z a op).memory (Gate r)) ≡ 1
 bit_out_step b z a op p r h =
     ⊎_elim
     (λ old. stays_out b z a op r p (λ f. zero_one f.clear old) (p.counted.bit_out r old))
@@ -165,13 +175,15 @@ pub linked_next : (b : Bounds) (z : World) (j r : ℕ) → Counted b z → out (
 linked_next b z j r s o h = cases (nat_lt j b.rows) refl
   where
     cases : (t : Bool) → nat_lt j b.rows ≡ t → 0 < linked_in b z.memory r
-    cases true e = let m = sum_member b.rows j (λ i. out (z.memory (Gate i)) * to_row (z.memory (Next i)) r) (ltb-true j b.rows e) in let f : out (z.memory (Gate j)) * to_row (z.memory (Next j)) r ≡ 1 = rw (o, h) in omega arith
+    cases true e = let m = sum_member b.rows j (λ i. out (z.memory (Gate i)) * to_row (z.memory (Next i)) r) (ltb-true j b.rows e) in
+        let f : out (z.memory (Gate j)) * to_row (z.memory (Next j)) r ≡ 1 = rw (o, h) in omega arith
     cases false e = absurd (zero_one (null_row _ r (s.outside (Next j) e)) h)
 
 pub none_linked : {n : ℕ} → n ≡ 0 → 0 < n → ⊥
 none_linked h k = omega arith
 
-pub roots_out_step : (b : Bounds) (z : World) (a : ℕ) (op : Op) → LawfulStep b z a op → (i r : ℕ) → to_row ((step_world z a op).memory (Root i)) r ≡ 1 → out ((step_world z a op).memory (Gate r)) ≡ 1
+pub roots_out_step : (b : Bounds) (z : World) (a : ℕ) (op : Op) → LawfulStep b z a op → (i r : ℕ) → to_row ((step_world z a op).memory (Root i)) r ≡ 1
+    → out ((step_world z a op).memory (Gate r)) ≡ 1
 roots_out_step b z a op p i r h =
     ⊎_elim
     (λ old. stays_out b z a op r p (λ f. none_linked f.gone.unlinked (linked_root b z i r p.counted old)) (p.counted.roots_out i r old))
@@ -182,14 +194,16 @@ taken_null : (b : Bounds) (z : World) (a : ℕ) (op : Op) (j : ℕ) → Counted 
 taken_null b z a op j s h = s.free_null j (takes_free op (z.seats a) z.memory a j h)
 
 -- a gate that is out was out, or was taken
-gate_before : (b : Bounds) (z : World) (a : ℕ) (op : Op) (j : ℕ) → LawfulStep b z a op → out ((step_world z a op).memory (Gate j)) ≡ 1 → (out (z.memory (Gate j)) ≡ 1) ⊎ (takes op (z.seats a) (read_by z a op) j ≡ true)
+gate_before : (b : Bounds) (z : World) (a : ℕ) (op : Op) (j : ℕ) → LawfulStep b z a op → out ((step_world z a op).memory (Gate j)) ≡ 1
+    → (out (z.memory (Gate j)) ≡ 1) ⊎ (takes op (z.seats a) (read_by z a op) j ≡ true)
 gate_before b z a op j p h = cases (frees op j) refl
   where
     cases : (t : Bool) → frees op j ≡ t → (out (z.memory (Gate j)) ≡ 1) ⊎ (takes op (z.seats a) (read_by z a op) j ≡ true)
     cases true e = inl (freed b z a op j p e).gone.is_out
     cases false e = gate_source b (z.memory Enrolled) a op (z.seats a) z.memory j p.fits e h
 
-pub nexts_out_step : (b : Bounds) (z : World) (a : ℕ) (op : Op) → LawfulStep b z a op → (j r : ℕ) → out ((step_world z a op).memory (Gate j)) ≡ 1 → to_row ((step_world z a op).memory (Next j)) r ≡ 1 → out ((step_world z a op).memory (Gate r)) ≡ 1
+pub nexts_out_step : (b : Bounds) (z : World) (a : ℕ) (op : Op) → LawfulStep b z a op → (j r : ℕ) → out ((step_world z a op).memory (Gate j)) ≡ 1
+    → to_row ((step_world z a op).memory (Next j)) r ≡ 1 → out ((step_world z a op).memory (Gate r)) ≡ 1
 nexts_out_step b z a op p j r o h =
     ⊎_elim
     (λ old. ⊎_elim
@@ -199,13 +213,17 @@ nexts_out_step b z a op p j r o h =
     (λ new. used_stays b z a op a r p (putter_uses b z a op (Next j) r p new))
     (next_source b (z.memory Enrolled) a op (z.seats a) z.memory j r p.fits h)
 
-pub cas_place : (b : Bounds) (e a : ℕ) (p : Word) (x t : RowLink) (d : Agent) → fits b e a (LinkCas p x t) d ≡ true → may_place b p (λ r. any_holds d.slots r && not (names d.fresh r)) ≡ true
+pub cas_place : (b : Bounds) (e a : ℕ) (p : Word) (x t : RowLink) (d : Agent) → fits b e a (LinkCas p x t) d ≡ true
+    → may_place b p (λ r. any_holds d.slots r && not (names d.fresh r)) ≡ true
 cas_place b e a p x t d f = (and_both _ _ (and_both _ _ (and_both _ _ (and_both _ _ f).0).0).0).0
 
 pub cas_place_out : (b : Bounds) (z : World) (a : ℕ) (p : Word) (x t : RowLink) → LawfulStep b z a (LinkCas p x t) → OutPlace z.memory p
-cas_place_out b z a p x t s = place_out b p _ z.memory (cas_place b (z.memory Enrolled) a p x t (z.seats a) s.fits) (λ j h. s.counted.used_out a j (held_uses (z.seats a) j (and_both _ _ h).0))
+cas_place_out b z a p x t s =
+    place_out b p _ z.memory (cas_place b (z.memory Enrolled) a p x t (z.seats a) s.fits)
+    (λ j h. s.counted.used_out a j (held_uses (z.seats a) j (and_both _ _ h).0))
 
-changed_out : (b : Bounds) (z : World) (a : ℕ) (op : Op) (j : ℕ) → LawfulStep b z a op → changes_next op j ≡ true → (frees op j ≡ false) × (out (z.memory (Gate j)) ≡ 1)
+changed_out : (b : Bounds) (z : World) (a : ℕ) (op : Op) (j : ℕ) → LawfulStep b z a op → changes_next op j ≡ true
+    → (frees op j ≡ false) × (out (z.memory (Gate j)) ≡ 1)
 changed_out b z a (LinkCas (Next q) x t) j p h = (refl, rw (eqb-true j q h) (cas_place_out b z a (Next q) x t p))
 changed_out b z a (LinkStore q l) j p h = (refl, rw (eqb-true j q h) (store_row_out b z a q l p))
 changed_out b z a (LinkCas w x t) j p h = absurd (false≢true h)
@@ -214,10 +232,14 @@ changed_out b z a op j p h = absurd (false≢true h)
 bit_zero : (w x : ℕ) → (out w ≡ 1 → out x ≡ 1) → out x ≡ 0 → out w ≡ 0
 bit_zero w x g h = grind arith
 
-pub free_null_step : (b : Bounds) (z : World) (a : ℕ) (op : Op) → LawfulStep b z a op → (j : ℕ) → out ((step_world z a op).memory (Gate j)) ≡ 0 → (step_world z a op).memory (Next j) ≡ 0
+pub free_null_step : (b : Bounds) (z : World) (a : ℕ) (op : Op) → LawfulStep b z a op → (j : ℕ) → out ((step_world z a op).memory (Gate j)) ≡ 0
+    → (step_world z a op).memory (Next j) ≡ 0
 free_null_step b z a op p j h = cases (changes_next op j) (frees op j) refl refl
   where
     cases : (t u : Bool) → changes_next op j ≡ t → frees op j ≡ u → (step_world z a op).memory (Next j) ≡ 0
     cases true u t e = let c = changed_out b z a op j p t in absurd (zero_one h (out_stays z.memory b (z.memory Enrolled) a op (z.seats a) j p.fits c.0 c.1))
     cases false true t e = rw (next_stays b (z.memory Enrolled) a op (z.seats a) z.memory j p.fits t) (freed b z a op j p e).null
-    cases false false t e = rw (next_stays b (z.memory Enrolled) a op (z.seats a) z.memory j p.fits t) (p.counted.free_null j (bit_zero (z.memory (Gate j)) ((step_world z a op).memory (Gate j)) (out_stays z.memory b (z.memory Enrolled) a op (z.seats a) j p.fits e) h))
+    cases false false t e =
+        rw (next_stays b (z.memory Enrolled) a op (z.seats a) z.memory j p.fits t)
+        (p.counted.free_null j
+        (bit_zero (z.memory (Gate j)) ((step_world z a op).memory (Gate j)) (out_stays z.memory b (z.memory Enrolled) a op (z.seats a) j p.fits e) h))

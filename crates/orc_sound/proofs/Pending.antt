@@ -28,7 +28,8 @@ arm_waits None (Some r) dec q h = absurd (false≢true h)
 arm_waits (Some s) inc dec q h = absurd (false≢true h)
 
 -- a bit is tried for the due row, or with nothing pending
-pub try_waits : (due : Option Reading) (inc dec : Option ℕ) (q n : ℕ) → in_order due inc dec (SetRetired q n) ≡ true → (is_due due q n ≡ true) ⊎ ((due ≡ None) × (inc ≡ None) × (dec ≡ None))
+pub try_waits : (due : Option Reading) (inc dec : Option ℕ) (q n : ℕ) → in_order due inc dec (SetRetired q n) ≡ true → (is_due due q n ≡ true)
+    ⊎ ((due ≡ None) × (inc ≡ None) × (dec ≡ None))
 try_waits (Some s) inc dec q n h = inl (grind arith)
 try_waits None (Some r) dec q n h = absurd (false≢true h)
 try_waits None None (Some r) q n h = absurd (false≢true h)

@@ -39,7 +39,9 @@ HasReason s z r = out (z.memory (Gate r)) ≤ shows (z.memory (Counter r)) + sum
 
 -- the step itself gives a reason, or the row is not out, or nothing that counts fell
 abbrev pub Reason : (Word → ℕ) → (Word → ℕ) → Agent → Agent → ℕ → Type 0
-Reason m n d e r = (0 < shows (n (Counter r)) + reasons e (n (Counter r)) r) ⊎ ((n (Counter r) ≡ m (Counter r)) × (out (n (Gate r)) ≤ out (m (Gate r))) × (reasons d (m (Counter r)) r ≤ reasons e (m (Counter r)) r)) ⊎ (out (n (Gate r)) ≡ 0)
+Reason m n d e r = (0 < shows (n (Counter r)) + reasons e (n (Counter r)) r)
+    ⊎ ((n (Counter r) ≡ m (Counter r)) × (out (n (Gate r)) ≤ out (m (Gate r))) × (reasons d (m (Counter r)) r ≤ reasons e (m (Counter r)) r))
+    ⊎ (out (n (Gate r)) ≡ 0)
 
 is_none_of : {A : Type 0} (o : Option A) → o ≡ None → is_none o ≡ true
 is_none_of None h = refl
@@ -48,7 +50,8 @@ is_none_of (Some x) h = cc
 out_le : (w : ℕ) → out w ≤ 1
 out_le w = omega arith
 
-pub no_leak_step : (s : Bounds) (z : World) (n : Word → ℕ) (a : ℕ) (e : Agent) (r : ℕ) → a < s.agents → Reason z.memory n (z.seats a) e r → HasReason s z r → HasReason s (record { memory = n; seats = seat z.seats a e }) r
+pub no_leak_step : (s : Bounds) (z : World) (n : Word → ℕ) (a : ℕ) (e : Agent) (r : ℕ) → a < s.agents → Reason z.memory n (z.seats a) e r
+    → HasReason s z r → HasReason s (record { memory = n; seats = seat z.seats a e }) r
 no_leak_step s z n a e r h (inl own) l =
     let g = sum_member s.agents a (λ x. reasons (seat z.seats a e x) (n (Counter r)) r) h in
     let i : reasons (seat z.seats a e a) (n (Counter r)) r ≡ reasons e (n (Counter r)) r = rw (eq-eqb a a refl) in
@@ -63,13 +66,15 @@ no_leak_step s z n a e r h (inr (inl k)) l =
 counted : (w r : ℕ) (due : Option Reading) → 0 < shows w + bit (is_due (due_after r w due) r (sequence_of w))
 counted w r due = cases (count_bits w == 4194304) (retired_bit w == 0) refl refl
   where
-    cases : (t u : Bool) → (count_bits w == 4194304) ≡ t → (retired_bit w == 0) ≡ u → 0 < bit (not (count_bits w == 4194304)) + retired_bit w + bit (is_due (cond ((count_bits w == 4194304) && (retired_bit w == 0)) (Some (record { row = r; number = sequence_of w })) due) r (sequence_of w))
+    cases : (t u : Bool) → (count_bits w == 4194304) ≡ t → (retired_bit w == 0) ≡ u → 0 < bit (not (count_bits w == 4194304)) + retired_bit w
+        + bit (is_due (cond ((count_bits w == 4194304) && (retired_bit w == 0)) (Some (record { row = r; number = sequence_of w })) due) r (sequence_of w))
     cases true true e f = rw (e, f, eq-eqb r r refl, eq-eqb (sequence_of w) (sequence_of w) refl) (omega arith)
     cases true false e f = let g = eqb-false (retired_bit w) 0 f in let h : retired_bit w ≢ 0 = g in omega arith
     cases false u e f = rw e (omega arith)
 
 abbrev pub Keeps : (Word → ℕ) → ℕ → Op → Agent → ℕ → Type 0
-Keeps m a op d r = Reason m (write m (action_of a op d).word (word_after (action_of a op d).operation (m (action_of a op d).word))) d (after op d (m (action_of a op d).word)) r
+Keeps m a op d r = Reason m (write m (action_of a op d).word (word_after (action_of a op d).operation (m (action_of a op d).word))) d
+    (after op d (m (action_of a op d).word)) r
 
 fill_gate : (m : Word → ℕ) (q w v r : ℕ) → out (write m (cond (w == 0) (First q) (Second q)) v (Gate r)) ≤ out (m (Gate r))
 fill_gate m q w v r = grind arith
@@ -82,31 +87,51 @@ others : (o : Option ℕ) (q r : ℕ) → names o q ≡ true → (q == r) ≡ fa
 others None q r h n = refl
 others (Some k) q r h n = rw (eqb-true k q h, n)
 
-inc_reason : (m : Word → ℕ) (d : Agent) (q r x : ℕ) (t : Bool) → (r == q) ≡ t → names d.inc q ≡ true → is_none d.due ≡ true → (0 < shows (cond t x (m (Counter r))) + (bit (names d.fresh r) + 0 + bit (is_due (due_after q x d.due) r (sequence_of (cond t x (m (Counter r))))) + bit (doom_bare d.doom r))) ⊎ ((cond t x (m (Counter r)) ≡ m (Counter r)) × (reasons d (m (Counter r)) r ≤ bit (names d.fresh r) + 0 + bit (is_due (due_after q x d.due) r (sequence_of (m (Counter r)))) + bit (doom_bare d.doom r)))
+inc_reason : (m : Word → ℕ) (d : Agent) (q r x : ℕ) (t : Bool) → (r == q) ≡ t → names d.inc q ≡ true → is_none d.due ≡ true
+    → (0 < shows (cond t x (m (Counter r)))
+    + (bit (names d.fresh r) + 0 + bit (is_due (due_after q x d.due) r (sequence_of (cond t x (m (Counter r))))) + bit (doom_bare d.doom r)))
+    ⊎ ((cond t x (m (Counter r)) ≡ m (Counter r))
+    × (reasons d (m (Counter r)) r ≤ bit (names d.fresh r) + 0 + bit (is_due (due_after q x d.due) r (sequence_of (m (Counter r)))) + bit (doom_bare d.doom r)))
 inc_reason m d q r x true e i u = let k = counted x r d.due in inl (rw (← eqb-true r q e) (omega arith))
-inc_reason m d q r x false e i u = let n : (q == r) ≡ false = ne_eqb q r (λ p. eqb-false r q e (sym p)) in let o = others d.inc q r i n in let s = same_due q r x d.due (sequence_of (m (Counter r))) u n in inr (refl, omega arith)
+inc_reason m d q r x false e i u = let n : (q == r) ≡ false = ne_eqb q r (λ p. eqb-false r q e (sym p)) in let o = others d.inc q r i n in
+    let s = same_due q r x d.due (sequence_of (m (Counter r))) u n in inr (refl, omega arith)
 
-dec_reason : (m : Word → ℕ) (d : Agent) (q r x : ℕ) (t : Bool) → (r == q) ≡ t → is_none d.due ≡ true → (0 < shows (cond t x (m (Counter r))) + (bit (names d.fresh r) + bit (names d.inc r) + bit (is_due (due_after q x d.due) r (sequence_of (cond t x (m (Counter r))))) + bit (doom_bare d.doom r))) ⊎ ((cond t x (m (Counter r)) ≡ m (Counter r)) × (reasons d (m (Counter r)) r ≤ bit (names d.fresh r) + bit (names d.inc r) + bit (is_due (due_after q x d.due) r (sequence_of (m (Counter r)))) + bit (doom_bare d.doom r)))
+dec_reason : (m : Word → ℕ) (d : Agent) (q r x : ℕ) (t : Bool) → (r == q) ≡ t → is_none d.due ≡ true
+    → (0 < shows (cond t x (m (Counter r)))
+    + (bit (names d.fresh r) + bit (names d.inc r) + bit (is_due (due_after q x d.due) r (sequence_of (cond t x (m (Counter r)))))
+    + bit (doom_bare d.doom r)))
+    ⊎ ((cond t x (m (Counter r)) ≡ m (Counter r))
+    × (reasons d (m (Counter r)) r ≤ bit (names d.fresh r) + bit (names d.inc r) + bit (is_due (due_after q x d.due) r (sequence_of (m (Counter r))))
+    + bit (doom_bare d.doom r)))
 dec_reason m d q r x true e u = let k = counted x r d.due in inl (rw (← eqb-true r q e) (omega arith))
-dec_reason m d q r x false e u = let n : (q == r) ≡ false = ne_eqb q r (λ p. eqb-false r q e (sym p)) in let s = same_due q r x d.due (sequence_of (m (Counter r))) u n in inr (refl, omega arith)
+dec_reason m d q r x false e u = let n : (q == r) ≡ false = ne_eqb q r (λ p. eqb-false r q e (sym p)) in
+    let s = same_due q r x d.due (sequence_of (m (Counter r))) u n in inr (refl, omega arith)
 
-none_names : (o : Option ℕ) (r : ℕ) → is_none o ≡ true → bit (names o r) ≡ 0
+pub none_names : (o : Option ℕ) (r : ℕ) → is_none o ≡ true → bit (names o r) ≡ 0
 none_names None r h = refl
 none_names (Some k) r h = absurd (false≢true h)
 
-take_reason : (m : Word → ℕ) (d : Agent) (q r x : ℕ) (t u : Bool) → (r == q) ≡ u → is_none d.fresh ≡ true → (0 < shows (m (Counter r)) + (bit (names (cond t (Some q) d.fresh) r) + bit (names d.inc r) + bit (is_due d.due r (sequence_of (m (Counter r)))) + bit (doom_bare d.doom r))) ⊎ ((m (Counter r) ≡ m (Counter r)) × (out (cond u (cond t x (m (Gate q))) (m (Gate r))) ≤ out (m (Gate r))) × (reasons d (m (Counter r)) r ≤ bit (names (cond t (Some q) d.fresh) r) + bit (names d.inc r) + bit (is_due d.due r (sequence_of (m (Counter r)))) + bit (doom_bare d.doom r))) ⊎ (out (cond u (cond t x (m (Gate q))) (m (Gate r))) ≡ 0)
+take_reason : (m : Word → ℕ) (d : Agent) (q r x : ℕ) (t u : Bool) → (r == q) ≡ u → is_none d.fresh ≡ true
+    → (0 < shows (m (Counter r))
+    + (bit (names (cond t (Some q) d.fresh) r) + bit (names d.inc r) + bit (is_due d.due r (sequence_of (m (Counter r)))) + bit (doom_bare d.doom r)))
+    ⊎ ((m (Counter r) ≡ m (Counter r)) × (out (cond u (cond t x (m (Gate q))) (m (Gate r))) ≤ out (m (Gate r)))
+    × (reasons d (m (Counter r)) r ≤ bit (names (cond t (Some q) d.fresh) r) + bit (names d.inc r)
+    + bit (is_due d.due r (sequence_of (m (Counter r)))) + bit (doom_bare d.doom r))) ⊎ (out (cond u (cond t x (m (Gate q))) (m (Gate r))) ≡ 0)
 take_reason m d q r x true true e n = inl (rw (eqb-true r q e, eq-eqb q q refl) (omega arith))
 take_reason m d q r x true false e n = let k = none_names d.fresh r n in inr (inl (refl, omega arith, omega arith))
 take_reason m d q r x false true e n = inr (inl (refl, rw (eqb-true r q e) (omega arith), omega arith))
 take_reason m d q r x false false e n = inr (inl (refl, omega arith, omega arith))
 
-cas_reason : (d : Agent) (f t : Option ℕ) (r w : ℕ) (a s n : Bool) → (n ≡ true → names d.fresh r ≡ names t r) → is_none d.inc ≡ true → reasons d w r ≤ bit (names (cond a (cond s d.fresh (cond n None d.fresh)) d.fresh) r) + bit (names (cond a (cond s d.inc t) d.inc) r) + bit (is_due d.due r (sequence_of w)) + bit (doom_bare d.doom r)
+cas_reason : (d : Agent) (f t : Option ℕ) (r w : ℕ) (a s n : Bool) → (n ≡ true → names d.fresh r ≡ names t r) → is_none d.inc ≡ true
+    → reasons d w r ≤ bit (names (cond a (cond s d.fresh (cond n None d.fresh)) d.fresh) r) + bit (names (cond a (cond s d.inc t) d.inc) r)
+    + bit (is_due d.due r (sequence_of w)) + bit (doom_bare d.doom r)
 cas_reason d f t r w true false true h i = let k = none_names d.inc r i in let g = ap bit (h refl) in omega arith
 cas_reason d f t r w true false false h i = let k = none_names d.inc r i in omega arith
 cas_reason d f t r w true true n h i = omega arith
 cas_reason d f t r w false s n h i = omega arith
 
-store_reason : (d : Agent) (q : ℕ) (t : Option ℕ) (r w : ℕ) (s : Bool) → is_none d.inc ≡ true → reasons d w r ≤ bit (names d.fresh r) + bit (names (cond s d.inc t) r) + bit (is_due d.due r (sequence_of w)) + bit (doom_bare (cut_of d.doom q) r)
+store_reason : (d : Agent) (q : ℕ) (t : Option ℕ) (r w : ℕ) (s : Bool) → is_none d.inc ≡ true → reasons d w r ≤ bit (names d.fresh r)
+    + bit (names (cond s d.inc t) r) + bit (is_due d.due r (sequence_of w)) + bit (doom_bare (cut_of d.doom q) r)
 store_reason d q t r w true i = let c = ap bit (cut_bare d.doom q r) in omega arith
 store_reason d q t r w false i = let c = ap bit (cut_bare d.doom q r) in let k = none_names d.inc r i in omega arith
 
@@ -117,11 +142,17 @@ bare_others (Some x) q r h n = rw (eqb-true x.row q (and_both _ _ h).0, n)
 gate_down : (g : ℕ) → out g ≡ 1 → g < 18446744073709551616 → out ((g + 18446744073709551615) % 18446744073709551616) ≡ 0
 gate_down g h l = omega arith
 
-free_reason : (m : Word → ℕ) (d : Agent) (q r : ℕ) (t : Bool) → (r == q) ≡ t → doom_bare d.doom q ≡ true → out (m (Gate q)) ≡ 1 → m (Gate q) < 18446744073709551616 → ((m (Counter r) ≡ m (Counter r)) × (out (cond t ((m (Gate q) + 18446744073709551615) % 18446744073709551616) (m (Gate r))) ≤ out (m (Gate r))) × (reasons d (m (Counter r)) r ≤ bit (names d.fresh r) + bit (names d.inc r) + bit (is_due d.due r (sequence_of (m (Counter r)))) + 0)) ⊎ (out (cond t ((m (Gate q) + 18446744073709551615) % 18446744073709551616) (m (Gate r))) ≡ 0)
+free_reason : (m : Word → ℕ) (d : Agent) (q r : ℕ) (t : Bool) → (r == q) ≡ t → doom_bare d.doom q ≡ true → out (m (Gate q)) ≡ 1
+    → m (Gate q) < 18446744073709551616
+    → ((m (Counter r) ≡ m (Counter r)) × (out (cond t ((m (Gate q) + 18446744073709551615) % 18446744073709551616) (m (Gate r))) ≤ out (m (Gate r)))
+    × (reasons d (m (Counter r)) r ≤ bit (names d.fresh r) + bit (names d.inc r) + bit (is_due d.due r (sequence_of (m (Counter r)))) + 0))
+    ⊎ (out (cond t ((m (Gate q) + 18446744073709551615) % 18446744073709551616) (m (Gate r))) ≡ 0)
 free_reason m d q r true e h o l = inr (gate_down (m (Gate q)) o l)
-free_reason m d q r false e h o l = let n : (q == r) ≡ false = ne_eqb q r (λ p. eqb-false r q e (sym p)) in let k = bare_others d.doom q r h n in inl (refl, omega arith, omega arith)
+free_reason m d q r false e h o l = let n : (q == r) ≡ false = ne_eqb q r (λ p. eqb-false r q e (sym p)) in let k = bare_others d.doom q r h n in
+    inl (refl, omega arith, omega arith)
 
-end_reason : (d : Agent) (q r w : ℕ) (t : Bool) → d.doom ≡ None → reasons d w r ≤ bit (names d.fresh r) + bit (names d.inc r) + bit (is_due d.due r (sequence_of w)) + bit (doom_bare (cond t (Some (record { row = q; cut = false; bare = false })) d.doom) r)
+end_reason : (d : Agent) (q r w : ℕ) (t : Bool) → d.doom ≡ None → reasons d w r ≤ bit (names d.fresh r) + bit (names d.inc r)
+    + bit (is_due d.due r (sequence_of w)) + bit (doom_bare (cond t (Some (record { row = q; cut = false; bare = false })) d.doom) r)
 end_reason d q r w t h = rw h (omega arith)
 
 bare_more : (o : Option Doom) (r : ℕ) → bit (doom_bare o r) ≤ bit (doom_bare (bared o) r)
@@ -132,7 +163,8 @@ cut_bared : (o : Option Doom) (q : ℕ) → doom_cut o q ≡ true → doom_bare 
 cut_bared None q h = h
 cut_bared (Some x) q h = grind arith
 
-due_if : (t : Bool) (q r x s : ℕ) (o : Option Reading) → is_none o ≡ true → (q == r) ≡ false → bit (is_due o r s) ≤ bit (is_due (cond t (due_after q x o) o) r s)
+due_if : (t : Bool) (q r x s : ℕ) (o : Option Reading) → is_none o ≡ true → (q == r) ≡ false
+    → bit (is_due o r s) ≤ bit (is_due (cond t (due_after q x o) o) r s)
 due_if true q r x s o h n = same_due q r x o s h n
 due_if false q r x s o h n = omega arith
 
@@ -147,7 +179,8 @@ shows_other v n h e = cases (count_bits v == 4194304) refl
 due_here : (o : Option Reading) (q n r s : ℕ) → (is_due o q n ≡ true) ⊎ (is_none o ≡ true) → (is_due o r s ≡ true) → (q ≡ r) × (s ≡ n)
 due_here None q n r s h k = absurd (false≢true k)
 due_here (Some x) q n r s (inr h) k = absurd (false≢true h)
-due_here (Some x) q n r s (inl h) k = let a = and_both _ _ h in let c = and_both _ _ k in (sym (eqb-true x.row q a.0) ∙ eqb-true x.row r c.0, sym (eqb-true x.number s c.1) ∙ eqb-true x.number n a.1)
+due_here (Some x) q n r s (inl h) k = let a = and_both _ _ h in let c = and_both _ _ k in
+    (sym (eqb-true x.row q a.0) ∙ eqb-true x.row r c.0, sym (eqb-true x.number s c.1) ∙ eqb-true x.number n a.1)
 
 fresh_kept : (o : Option ℕ) (q r : ℕ) (a : Bool) → (q == r) ≡ false → bit (names o r) ≤ bit (names (cond a (cond (names o q) None o) o) r)
 fresh_kept o q r false n = omega arith
@@ -157,46 +190,105 @@ fresh_kept o q r true n = cases (names o q) refl
     cases true h = let k = others o q r h n in omega arith
     cases false h = omega arith
 
-set_reason : (m : Word → ℕ) (d : Agent) (q n r : ℕ) (a t : Bool) → (m (Counter q) == clear_word n) ≡ a → (r == q) ≡ t → (is_due d.due q n ≡ true) ⊎ (is_none d.due ≡ true) → (0 < shows (cond t (cond a (clear_word n + 8388608) (m (Counter q))) (m (Counter r))) + (bit (names (cond a (cond (names d.fresh q) None d.fresh) d.fresh) r) + bit (names d.inc r) + 0 + bit (doom_bare d.doom r))) ⊎ ((cond t (cond a (clear_word n + 8388608) (m (Counter q))) (m (Counter r)) ≡ m (Counter r)) × (reasons d (m (Counter r)) r ≤ bit (names (cond a (cond (names d.fresh q) None d.fresh) d.fresh) r) + bit (names d.inc r) + 0 + bit (doom_bare d.doom r)))
+set_reason : (m : Word → ℕ) (d : Agent) (q n r : ℕ) (a t : Bool) → (m (Counter q) == clear_word n) ≡ a → (r == q) ≡ t → (is_due d.due q n ≡ true)
+    ⊎ (is_none d.due ≡ true)
+    → (0 < shows (cond t (cond a (clear_word n + 8388608) (m (Counter q))) (m (Counter r)))
+    + (bit (names (cond a (cond (names d.fresh q) None d.fresh) d.fresh) r) + bit (names d.inc r) + 0 + bit (doom_bare d.doom r)))
+    ⊎ ((cond t (cond a (clear_word n + 8388608) (m (Counter q))) (m (Counter r)) ≡ m (Counter r))
+    × (reasons d (m (Counter r)) r ≤ bit (names (cond a (cond (names d.fresh q) None d.fresh) d.fresh) r) + bit (names d.inc r) + 0 + bit (doom_bare d.doom r)))
 set_reason m d q n r true true w e u = let k : retired_bit (clear_word n + 8388608) ≡ 1 = omega arith in inl (omega arith)
 set_reason m d q n r false true w e u = cases (is_due d.due r (sequence_of (m (Counter r)))) refl
   where
-    cases : (v : Bool) → is_due d.due r (sequence_of (m (Counter r))) ≡ v → (0 < shows (m (Counter q)) + (bit (names d.fresh r) + bit (names d.inc r) + 0 + bit (doom_bare d.doom r))) ⊎ ((m (Counter q) ≡ m (Counter r)) × (reasons d (m (Counter r)) r ≤ bit (names d.fresh r) + bit (names d.inc r) + 0 + bit (doom_bare d.doom r)))
-    cases true h = let p = due_here d.due q n r (sequence_of (m (Counter r))) u h in let s = shows_other (m (Counter q)) n w (rw (ap (λ x. m (Counter x)) p.0) p.1) in inl (omega arith)
+    cases : (v : Bool) → is_due d.due r (sequence_of (m (Counter r))) ≡ v
+        → (0 < shows (m (Counter q)) + (bit (names d.fresh r) + bit (names d.inc r) + 0 + bit (doom_bare d.doom r)))
+        ⊎ ((m (Counter q) ≡ m (Counter r)) × (reasons d (m (Counter r)) r ≤ bit (names d.fresh r) + bit (names d.inc r) + 0 + bit (doom_bare d.doom r)))
+    cases true h = let p = due_here d.due q n r (sequence_of (m (Counter r))) u h in
+        let s = shows_other (m (Counter q)) n w (rw (ap (λ x. m (Counter x)) p.0) p.1) in inl (omega arith)
     cases false h = let g = ap bit h in inr (ap (λ x. m (Counter x)) (sym (eqb-true r q e)), omega arith)
 set_reason m d q n r a false w e u =
     let no : (q == r) ≡ false = ne_eqb q r (λ p. eqb-false r q e (sym p)) in
     let k = fresh_kept d.fresh q r a no in
     inr (refl, cases (is_due d.due r (sequence_of (m (Counter r)))) refl k)
   where
-    cases : (v : Bool) → is_due d.due r (sequence_of (m (Counter r))) ≡ v → bit (names d.fresh r) ≤ bit (names (cond a (cond (names d.fresh q) None d.fresh) d.fresh) r) → reasons d (m (Counter r)) r ≤ bit (names (cond a (cond (names d.fresh q) None d.fresh) d.fresh) r) + bit (names d.inc r) + 0 + bit (doom_bare d.doom r)
+    cases : (v : Bool) → is_due d.due r (sequence_of (m (Counter r))) ≡ v
+        → bit (names d.fresh r) ≤ bit (names (cond a (cond (names d.fresh q) None d.fresh) d.fresh) r)
+        → reasons d (m (Counter r)) r ≤ bit (names (cond a (cond (names d.fresh q) None d.fresh) d.fresh) r) + bit (names d.inc r) + 0
+        + bit (doom_bare d.doom r)
     cases true h k = absurd (eqb-false r q e (sym (due_here d.due q n r (sequence_of (m (Counter r))) u h).0))
     cases false h k = let g = ap bit h in omega arith
 
-no_scan_cut : (b : Bounds) (d : Agent) (q : ℕ) → is_some d.scan ≡ false → ((scans d.scan q && not (scan_empty d.scan) && holds (slot_of d 0) q) || doom_cut d.doom q) ≡ true → doom_cut d.doom q ≡ true
+no_scan_cut : (b : Bounds) (d : Agent) (q : ℕ) → is_some d.scan ≡ false
+    → ((scans d.scan q && not (scan_empty d.scan) && holds (slot_of d 0) q) || doom_cut d.doom q) ≡ true → doom_cut d.doom q ≡ true
 no_scan_cut b d q n h = grind arith
 
-unretire_reason : (m : Word → ℕ) (d : Agent) (q r x : ℕ) (t s : Bool) → (r == q) ≡ t → (s ≡ false → doom_cut d.doom q ≡ true) → is_none d.due ≡ true → (0 < shows (cond t x (m (Counter r))) + (bit (names d.fresh r) + bit (names d.inc r) + bit (is_due (cond s (due_after q x d.due) d.due) r (sequence_of (cond t x (m (Counter r))))) + bit (doom_bare (bared d.doom) r))) ⊎ ((cond t x (m (Counter r)) ≡ m (Counter r)) × (reasons d (m (Counter r)) r ≤ bit (names d.fresh r) + bit (names d.inc r) + bit (is_due (cond s (due_after q x d.due) d.due) r (sequence_of (m (Counter r)))) + bit (doom_bare (bared d.doom) r)))
+unretire_reason : (m : Word → ℕ) (d : Agent) (q r x : ℕ) (t s : Bool) → (r == q) ≡ t → (s ≡ false → doom_cut d.doom q ≡ true) → is_none d.due ≡ true
+    → (0 < shows (cond t x (m (Counter r)))
+    + (bit (names d.fresh r) + bit (names d.inc r) + bit (is_due (cond s (due_after q x d.due) d.due) r (sequence_of (cond t x (m (Counter r)))))
+    + bit (doom_bare (bared d.doom) r)))
+    ⊎ ((cond t x (m (Counter r)) ≡ m (Counter r))
+    × (reasons d (m (Counter r)) r ≤ bit (names d.fresh r) + bit (names d.inc r)
+    + bit (is_due (cond s (due_after q x d.due) d.due) r (sequence_of (m (Counter r)))) + bit (doom_bare (bared d.doom) r)))
 unretire_reason m d q r x true true e c u = let k = counted x r d.due in inl (rw (← eqb-true r q e) (omega arith))
-unretire_reason m d q r x true false e c u = let k : doom_bare (bared d.doom) r ≡ true = rw (eqb-true r q e) (cut_bared d.doom q (c refl)) in let g = ap bit k in inl (omega arith)
-unretire_reason m d q r x false s e c u = let n : (q == r) ≡ false = ne_eqb q r (λ p. eqb-false r q e (sym p)) in let k = due_if s q r x (sequence_of (m (Counter r))) d.due u n in let g = bare_more d.doom r in inr (refl, omega arith)
+unretire_reason m d q r x true false e c u = let k : doom_bare (bared d.doom) r ≡ true = rw (eqb-true r q e) (cut_bared d.doom q (c refl)) in
+    let g = ap bit k in inl (omega arith)
+unretire_reason m d q r x false s e c u = let n : (q == r) ≡ false = ne_eqb q r (λ p. eqb-false r q e (sym p)) in
+    let k = due_if s q r x (sequence_of (m (Counter r))) d.due u n in let g = bare_more d.doom r in inr (refl, omega arith)
 
-pub reason : (b : Bounds) (e a : ℕ) (op : Op) (d : Agent) (m : Word → ℕ) (r : ℕ) → fits b e a op d ≡ true → forced d op ≡ true → ((q : ℕ) → op ≡ CounterLoad q End → d.doom ≡ None) → ((q : ℕ) → op ≡ Free q → (out (m (Gate q)) ≡ 1) × (m (Gate q) < 18446744073709551616)) → Keeps m a op d r
+pub reason : (b : Bounds) (e a : ℕ) (op : Op) (d : Agent) (m : Word → ℕ) (r : ℕ) → fits b e a op d ≡ true → forced d op ≡ true
+    → ((q : ℕ) → op ≡ CounterLoad q End → d.doom ≡ None) → ((q : ℕ) → op ≡ Free q → (out (m (Gate q)) ≡ 1) × (m (Gate q) < 18446744073709551616))
+    → Keeps m a op d r
 reason b e a (GateLook q) d m r f u z g = inr (inl (refl, rw (write_same m (Gate q) (Gate r)) (omega arith), omega arith))
-reason b e a (GateTake q) d m r f u z g = take_reason m d q r _ (m (Gate q) == 2 * number_of d.looked) (r == q) refl (and_both _ _ (and_both _ _ (and_both _ _ (and_both _ _ f).0).0).0).1
+reason b e a (GateTake q) d m r f u z g =
+    take_reason m d q r _ (m (Gate q) == 2 * number_of d.looked) (r == q) refl (and_both _ _ (and_both _ _ (and_both _ _ (and_both _ _ f).0).0).0).1
 reason b e a (LinkLoad p k) d m r f u z g = inr (inl (write_same m p (Counter r), rw (write_same m p (Gate r)) (omega arith), omega arith))
-reason b e a (LinkCas (Root i) x t) d m r f u z g = inr (inl (refl, omega arith, cas_reason d x.to t.to r (m (Counter r)) (m (Root i) == link_word x) (same_target x.to t.to) (same_target d.fresh t.to) (same_names d.fresh t.to r) (is_none_of d.inc (nothing_pending d.due d.inc d.dec (LinkCas (Root i) x t) refl u).1)))
-reason b e a (LinkCas (Next i) x t) d m r f u z g = inr (inl (refl, omega arith, cas_reason d x.to t.to r (m (Counter r)) (m (Next i) == link_word x) (same_target x.to t.to) (same_target d.fresh t.to) (same_names d.fresh t.to r) (is_none_of d.inc (nothing_pending d.due d.inc d.dec (LinkCas (Next i) x t) refl u).1)))
+reason b e a (LinkCas (Root i) x t) d m r f u z g =
+    inr (inl (
+      refl,
+      omega arith,
+      cas_reason d x.to t.to r (m (Counter r)) (m (Root i) == link_word x) (same_target x.to t.to)
+          (same_target d.fresh t.to) (same_names d.fresh t.to r) (is_none_of d.inc (nothing_pending d.due d.inc d.dec (LinkCas (Root i) x t) refl u).1),
+    ))
+reason b e a (LinkCas (Next i) x t) d m r f u z g =
+    inr (inl (
+      refl,
+      omega arith,
+      cas_reason d x.to t.to r (m (Counter r)) (m (Next i) == link_word x) (same_target x.to t.to)
+          (same_target d.fresh t.to) (same_names d.fresh t.to r) (is_none_of d.inc (nothing_pending d.due d.inc d.dec (LinkCas (Next i) x t) refl u).1),
+    ))
 reason b e a (LinkCas p x t) d m r f u z g = grind arith
-reason b e a (LinkStore q l) d m r f u z g = inr (inl (refl, omega arith, store_reason d q l.to r (m (Counter r)) (same_target (named (m (Next q) / 2)) l.to) (is_none_of d.inc (nothing_pending d.due d.inc d.dec (LinkStore q l) refl u).1)))
-reason b e a (Inc q) d m r f u z g = ⊎_elim (λ k. inl k) (λ k. inr (inl (k.0, omega arith, k.1))) (inc_reason m d q r ((m (Counter q) + 16777217) % 18446744073709551616) (r == q) refl (and_both _ _ f).1 (is_none_of d.due (inc_waits d.due d.inc d.dec q u)))
-reason b e a (Dec q) d m r f u z g = ⊎_elim (λ k. inl k) (λ k. inr (inl (k.0, omega arith, k.1))) (dec_reason m d q r ((m (Counter q) + 16777215) % 18446744073709551616) (r == q) refl (is_none_of d.due (dec_waits d.due d.inc d.dec q u).0))
-reason b e a (SetRetired q n) d m r f u z g = ⊎_elim (λ k. inl k) (λ k. inr (inl (k.0, omega arith, k.1))) (set_reason m d q n r (m (Counter q) == clear_word n) (r == q) refl refl (⊎_elim (λ k. inl k) (λ k. inr (is_none_of d.due k.0)) (try_waits d.due d.inc d.dec q n u)))
+reason b e a (LinkStore q l) d m r f u z g =
+    inr (inl (
+      refl,
+      omega arith,
+      store_reason d q l.to r (m (Counter r)) (same_target (named (m (Next q) / 2)) l.to)
+          (is_none_of d.inc (nothing_pending d.due d.inc d.dec (LinkStore q l) refl u).1),
+    ))
+reason b e a (Inc q) d m r f u z g =
+    ⊎_elim (λ k. inl k) (λ k. inr (inl (k.0, omega arith, k.1)))
+    (inc_reason m d q r ((m (Counter q) + 16777217) % 18446744073709551616) (r == q) refl (and_both _ _ f).1
+    (is_none_of d.due (inc_waits d.due d.inc d.dec q u)))
+reason b e a (Dec q) d m r f u z g =
+    ⊎_elim (λ k. inl k) (λ k. inr (inl (k.0, omega arith, k.1)))
+    (dec_reason m d q r ((m (Counter q) + 16777215) % 18446744073709551616) (r == q) refl (is_none_of d.due (dec_waits d.due d.inc d.dec q u).0))
+reason b e a (SetRetired q n) d m r f u z g =
+    ⊎_elim (λ k. inl k) (λ k. inr (inl (k.0, omega arith, k.1)))
+    (set_reason m d q n r (m (Counter q) == clear_word n) (r == q) refl refl
+    (⊎_elim (λ k. inl k) (λ k. inr (is_none_of d.due k.0)) (try_waits d.due d.inc d.dec q n u)))
 reason b e a (CounterLoad q Check) d m r f u z g = inr (inl (write_same m (Counter q) (Counter r), omega arith, omega arith))
 reason b e a (CounterLoad q Start) d m r f u z g = inr (inl (write_same m (Counter q) (Counter r), omega arith, omega arith))
-reason b e a (CounterLoad q End) d m r f u z g = inr (inl (write_same m (Counter q) (Counter r), omega arith, end_reason d q r (m (Counter r)) (m (Counter q) == kept d.scan) (z q refl)))
-reason b e a (Unretire q) d m r f u z g = ⊎_elim (λ k. inl k) (λ k. inr (inl (k.0, omega arith, k.1))) (unretire_reason m d q r ((m (Counter q) + 18446744073701163008) % 18446744073709551616) (r == q) (is_some d.scan) refl (λ n. no_scan_cut b d q n (and_both _ _ f).1) (is_none_of d.due (nothing_pending d.due d.inc d.dec (Unretire q) refl u).0))
+reason b e a (CounterLoad q End) d m r f u z g =
+    inr (inl (write_same m (Counter q) (Counter r), omega arith, end_reason d q r (m (Counter r)) (m (Counter q) == kept d.scan) (z q refl)))
+reason b e a (Unretire q) d m r f u z g =
+    ⊎_elim (λ k. inl k) (λ k. inr (inl (k.0, omega arith, k.1)))
+    (unretire_reason m d q r ((m (Counter q) + 18446744073701163008) % 18446744073709551616) (r == q) (is_some d.scan) refl
+    (λ n. no_scan_cut b d q n (and_both _ _ f).1) (is_none_of d.due (nothing_pending d.due d.inc d.dec (Unretire q) refl u).0))
 reason b e a (Fill q w v) d m r f u z g = inr (inl (fill_counter m q w v r, fill_gate m q w v r, omega arith))
-reason b e a (Read q w) d m r f u z g = inr (inl (write_same m (cond (w == 0) (First q) (Second q)) (Counter r), rw (write_same m (cond (w == 0) (First q) (Second q)) (Gate r)) (omega arith), omega arith))
+reason b e a (Read q w) d m r f u z g =
+    inr (inl (
+      write_same m (cond (w == 0) (First q) (Second q)) (Counter r),
+      rw (write_same m (cond (w == 0) (First q) (Second q)) (Gate r))
+          (omega arith),
+      omega arith,
+    ))
 reason b e a (Free q) d m r f u z g = inr (free_reason m d q r (r == q) refl (and_both _ _ f).1 (g q refl).0 (g q refl).1)
 reason b e a op d m r f u z g = inr (inl (refl, omega arith, omega arith))

@@ -39,7 +39,8 @@ hands (Hand k) = true
 hands (TakeIn k) = true
 hands _ = false
 
-handover_stays : (b : Bounds) (e a : ℕ) (op : Op) (d : Agent) (m : Word → ℕ) (x k : ℕ) → fits b e a op d ≡ true → hands op ≡ false → write m (action_of a op d).word (word_after (action_of a op d).operation (m (action_of a op d).word)) (Handover x k) ≡ m (Handover x k)
+handover_stays : (b : Bounds) (e a : ℕ) (op : Op) (d : Agent) (m : Word → ℕ) (x k : ℕ) → fits b e a op d ≡ true → hands op ≡ false
+    → write m (action_of a op d).word (word_after (action_of a op d).operation (m (action_of a op d).word)) (Handover x k) ≡ m (Handover x k)
 handover_stays b e a (LinkLoad p j) d m x k f n = write_same m p (Handover x k)
 handover_stays b e a (LinkCas (Root i) y t) d m x k f n = refl
 handover_stays b e a (LinkCas (Next i) y t) d m x k f n = refl
@@ -54,14 +55,16 @@ found_scans : (o : Option Scan) → scan_found o ≡ true → scans o (scanned o
 found_scans None h = h
 found_scans (Some s) h = eq-eqb s.row s.row refl
 
-handed_step : (b : Bounds) (z : World) (a : ℕ) (op : Op) → ScanStep b z a op → RowsFit b z → (x k r : ℕ) → (step_world z a op).memory (Handover x k) ≡ r + 1 → r < b.rows
+handed_step : (b : Bounds) (z : World) (a : ℕ) (op : Op) → ScanStep b z a op → RowsFit b z → (x k r : ℕ)
+    → (step_world z a op).memory (Handover x k) ≡ r + 1 → r < b.rows
 handed_step b z a (Hand j) p s x k r h = cases (same_word (Handover x k) (Handover (j / 8) (j % 8))) h
   where
     named_row : scanned (z.seats a).scan + 1 ≡ r + 1 → scanned (z.seats a).scan ≡ r
     named_row e = omega arith
 
     cases : (t : Bool) → cond t (scanned (z.seats a).scan + 1) (z.memory (Handover x k)) ≡ r + 1 → r < b.rows
-    cases true e = rw (← named_row e) ((p.scans a).row (scanned (z.seats a).scan) (found_scans (z.seats a).scan (and_both _ _ (and_both _ _ p.lawful.fits).0).1))
+    cases true e =
+        rw (← named_row e) ((p.scans a).row (scanned (z.seats a).scan) (found_scans (z.seats a).scan (and_both _ _ (and_both _ _ p.lawful.fits).0).1))
     cases false e = s.handed x k r e
 handed_step b z a (TakeIn j) p s x k r h = cases (same_word (Handover x k) (Handover a j)) h
   where

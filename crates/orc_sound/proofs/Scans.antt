@@ -44,7 +44,8 @@ pub record ScanFits (b : Bounds) (z : World) (s : Option Scan) : Type 0 where
   pub count : (r : ℕ) → scans s r ≡ true → sequence_of (z.memory (Counter r)) ≡ sequence_of (kept s) → count_bits (z.memory (Counter r)) ≡ count_bits (kept s)
   pub empty : scan_found s ≡ true → scan_empty s ≡ true
   pub place : (k : ℕ) → scan_found s ≡ true → scan_at s k ≡ true → k < 8 * b.agents
-  pub quiet : (r k : ℕ) → scans s r ≡ true → scan_empty s ≡ true → scan_at s k ≡ true → sequence_of (z.memory (Counter r)) ≡ sequence_of (kept s) → IsQuiet b z r k
+  pub quiet : (r k : ℕ) → scans s r ≡ true → scan_empty s ≡ true → scan_at s k ≡ true → sequence_of (z.memory (Counter r)) ≡ sequence_of (kept s)
+      → IsQuiet b z r k
 
 -- a step at a state whose scans fit, and whose sequences are low
 pub record ScanStep (b : Bounds) (z : World) (a : ℕ) (op : Op) : Type 0 where
@@ -68,15 +69,20 @@ one_scan b z x a r s l h k = cases (x == a) refl
   where
     cases : (t : Bool) → (x == a) ≡ t → x ≡ a
     cases true e = eqb-true x a e
-    cases false e = absurd (two_places b z x a r s (scan_agent b z x r s.enrolment h) (scan_agent b z a r s.enrolment k) (eqb-false x a e) l (scan_places (z.seats x) r h) (scan_places (z.seats a) r k))
+    cases false e =
+        absurd (two_places b z x a r s (scan_agent b z x r s.enrolment h) (scan_agent b z a r s.enrolment k) (eqb-false x a e) l
+        (scan_places (z.seats x) r h) (scan_places (z.seats a) r k))
 
 -- a step that counts the row raises its sequence by one
-pub sequence_counts : (b : Bounds) (z : World) (a : ℕ) (op : Op) (r : ℕ) → LawfulStep b z a op → ((q : ℕ) → sequence_of (z.memory (Counter q)) < 2 ^ 39 + 2 ^ 19) → counts_row op r ≡ true → sequence_of ((step_world z a op).memory (Counter r)) ≡ sequence_of (z.memory (Counter r)) + 1
+pub sequence_counts : (b : Bounds) (z : World) (a : ℕ) (op : Op) (r : ℕ) → LawfulStep b z a op
+    → ((q : ℕ) → sequence_of (z.memory (Counter q)) < 2 ^ 39 + 2 ^ 19) → counts_row op r ≡ true
+    → sequence_of ((step_world z a op).memory (Counter r)) ≡ sequence_of (z.memory (Counter r)) + 1
 sequence_counts b z a (Inc q) r p l h = rw (← eqb-true q r h, eq-eqb q q refl) (inc_sequence (z.memory (Counter q)) (l q) (inc_bounds b z a q p))
 sequence_counts b z a (Dec q) r p l h = rw (← eqb-true q r h, eq-eqb q q refl) (dec_sequence (z.memory (Counter q)) (l q) (dec_bounds b z a q p))
 sequence_counts b z a op r p l h = absurd (false≢true h)
 
-pub sequence_rises : (b : Bounds) (z : World) (a : ℕ) (op : Op) (r : ℕ) → ScanStep b z a op → sequence_of (z.memory (Counter r)) ≤ sequence_of ((step_world z a op).memory (Counter r))
+pub sequence_rises : (b : Bounds) (z : World) (a : ℕ) (op : Op) (r : ℕ) → ScanStep b z a op
+    → sequence_of (z.memory (Counter r)) ≤ sequence_of ((step_world z a op).memory (Counter r))
 sequence_rises b z a op r p = cases (counts_row op r) refl
   where
     cases : (t : Bool) → counts_row op r ≡ t → sequence_of (z.memory (Counter r)) ≤ sequence_of ((step_world z a op).memory (Counter r))
@@ -84,14 +90,17 @@ sequence_rises b z a op r p = cases (counts_row op r) refl
     cases false e = let k = sequence_stays b z a op r p.lawful p.low e in omega arith
 
 -- where a row's sequence is still the kept one, the step doesn't count the row
-pub uncounted : (b : Bounds) (z : World) (a : ℕ) (op : Op) (x r : ℕ) → ScanStep b z a op → scans (z.seats x).scan r ≡ true → sequence_of ((step_world z a op).memory (Counter r)) ≡ sequence_of (kept (z.seats x).scan) → (counts_row op r ≡ false) × (sequence_of (z.memory (Counter r)) ≡ sequence_of (kept (z.seats x).scan))
+pub uncounted : (b : Bounds) (z : World) (a : ℕ) (op : Op) (x r : ℕ) → ScanStep b z a op → scans (z.seats x).scan r ≡ true
+    → sequence_of ((step_world z a op).memory (Counter r)) ≡ sequence_of (kept (z.seats x).scan)
+    → (counts_row op r ≡ false) × (sequence_of (z.memory (Counter r)) ≡ sequence_of (kept (z.seats x).scan))
 uncounted b z a op x r p h e = cases (counts_row op r) refl
   where
     cases : (t : Bool) → counts_row op r ≡ t → (counts_row op r ≡ false) × (sequence_of (z.memory (Counter r)) ≡ sequence_of (kept (z.seats x).scan))
     cases true t = let k = sequence_counts b z a op r p.lawful p.low t in let o = (p.scans x).older r h in absurd (omega arith)
     cases false t = (t, sym (sequence_stays b z a op r p.lawful p.low t) ∙ e)
 
-around : (b : Bounds) (z : World) (a : ℕ) (op : Op) (x r : ℕ) → ScanStep b z a op → scans (z.seats x).scan r ≡ true → scan_empty (z.seats x).scan ≡ true → sequence_of (z.memory (Counter r)) ≡ sequence_of (kept (z.seats x).scan) → Around b z a op r
+around : (b : Bounds) (z : World) (a : ℕ) (op : Op) (x r : ℕ) → ScanStep b z a op → scans (z.seats x).scan r ≡ true
+    → scan_empty (z.seats x).scan ≡ true → sequence_of (z.memory (Counter r)) ≡ sequence_of (kept (z.seats x).scan) → Around b z a op r
 around b z a op x r p h e q =
     let l = (p.scans x).row r h in
     let s = p.lawful.counted in
@@ -130,7 +139,8 @@ none_fits b z = record {
 }
 
 -- a scan that begins fits
-start_fits : (b : Bounds) (z : World) (q w : ℕ) → Counted b z → q < b.rows → retired_bit w ≡ 1 → z.memory (Counter q) ≡ w → ScanFits b z (Some (record { row = q; word = w; place = 0; found = false }))
+start_fits : (b : Bounds) (z : World) (q w : ℕ) → Counted b z → q < b.rows → retired_bit w ≡ 1 → z.memory (Counter q) ≡ w
+    → ScanFits b z (Some (record { row = q; word = w; place = 0; found = false }))
 start_fits b z q w s l t m = record {
   row = λ r h. rw (← eqb-true q r h) l;
   set = λ r h. t;
@@ -160,7 +170,8 @@ hold_word b z x j r s h = (slot_within (z.seats x).slots j r (s.slots x).eight h
     held_word (Published q) r h = absurd (false≢true h)
     held_word (Held q) r h = ap (λ n. n + 1) (eqb-true q r h)
 
-look_fits : (b : Bounds) (z : World) (k v : ℕ) (s : Option Scan) → Counted b z → k < 8 * b.agents → scan_empty s ≡ true → scan_at s k ≡ true → v ≡ z.memory (Slot (k / 8) (k % 8)) → ScanFits b z s → ScanFits b z (scan_on s v)
+look_fits : (b : Bounds) (z : World) (k v : ℕ) (s : Option Scan) → Counted b z → k < 8 * b.agents → scan_empty s ≡ true → scan_at s k ≡ true
+    → v ≡ z.memory (Slot (k / 8) (k % 8)) → ScanFits b z s → ScanFits b z (scan_on s v)
 look_fits b z k v None c l e g m f = f
 look_fits b z k v (Some s) c l e g m f = record {
   row = f.row;
@@ -176,7 +187,8 @@ look_fits b z k v (Some s) c l e g m f = record {
     found_place j true h i = let n = eqb-true s.place j i in let o = eqb-true s.place k g in omega arith
     found_place j false h i = absurd (false≢true h)
 
-    look_quiet : (r j : ℕ) (t : Bool) → (v == s.row + 1) ≡ t → (s.row == r) ≡ true → (count_bits s.word == 4194304) ≡ true → (cond t s.place (s.place + 1) == j) ≡ true → sequence_of (z.memory (Counter r)) ≡ sequence_of s.word → IsQuiet b z r j
+    look_quiet : (r j : ℕ) (t : Bool) → (v == s.row + 1) ≡ t → (s.row == r) ≡ true → (count_bits s.word == 4194304) ≡ true
+        → (cond t s.place (s.place + 1) == j) ≡ true → sequence_of (z.memory (Counter r)) ≡ sequence_of s.word → IsQuiet b z r j
     look_quiet r j true u h o i q = f.quiet r j h o i q
     look_quiet r j false u h o i q =
         let n = eqb-true (s.place + 1) j i in
@@ -192,19 +204,24 @@ list_places : (d : Agent) (q : ℕ) → first_is d.list.items q ≡ true → 0 <
 list_places d q h = let e = listings_first d.list.items q q h in let f = ap bit (eq-eqb q q refl) in omega arith
 
 start_places : (d : Agent) (q : ℕ) → (names d.hand q || (is_none d.hand && first_is d.list.items q)) ≡ true → 0 < places_of d q
-start_places d q h = ⊎_elim (λ k. hand_places d q k) (λ k. list_places d q (and_both _ _ k).1) (either (names d.hand q) (is_none d.hand && first_is d.list.items q) h)
+start_places d q h =
+    ⊎_elim (λ k. hand_places d q k) (λ k. list_places d q (and_both _ _ k).1) (either (names d.hand q) (is_none d.hand && first_is d.list.items q) h)
 
 pub end_parts : (b : Bounds) (e a q : ℕ) (d : Agent) → fits b e a (CounterLoad q End) d ≡ true → (q < b.rows) × (scans d.scan q ≡ true)
 end_parts b e a q d f =
-    let g = and_both (nat_lt q b.rows) (scans d.scan q) (and_both (nat_lt q b.rows && scans d.scan q) (scan_empty d.scan) (and_both (nat_lt q b.rows && scans d.scan q && scan_empty d.scan) (scan_at d.scan (8 * b.agents)) f).0).0 in
+    let g = and_both (nat_lt q b.rows) (scans d.scan q)
+    (and_both (nat_lt q b.rows && scans d.scan q) (scan_empty d.scan)
+    (and_both (nat_lt q b.rows && scans d.scan q && scan_empty d.scan) (scan_at d.scan (8 * b.agents)) f).0).0 in
     (ltb-true q b.rows g.0, g.1)
 
 -- the stepping agent's new scan fits, where its old one does
-fits_new : (b : Bounds) (z : World) (a : ℕ) (op : Op) → LawfulStep b z a op → Counted b (step_world z a op) → ScanFits b (step_world z a op) (z.seats a).scan → ScanFits b (step_world z a op) (record_by z a op).scan
+fits_new : (b : Bounds) (z : World) (a : ℕ) (op : Op) → LawfulStep b z a op → Counted b (step_world z a op)
+    → ScanFits b (step_world z a op) (z.seats a).scan → ScanFits b (step_world z a op) (record_by z a op).scan
 fits_new b z a (CounterLoad q Check) p s f = f
 fits_new b z a (CounterLoad q Start) p s f =
     let l = ltb-true q b.rows (and_both _ _ (and_both _ _ (and_both _ _ p.fits).0).0).0 in
-    start_fits b (step_world z a (CounterLoad q Start)) q (z.memory (Counter q)) s l (retired_one b z a q p.counted p.agent l (start_places (z.seats a) q (and_both _ _ p.fits).1)) (write_same z.memory (Counter q) (Counter q))
+    start_fits b (step_world z a (CounterLoad q Start)) q (z.memory (Counter q)) s l
+    (retired_one b z a q p.counted p.agent l (start_places (z.seats a) q (and_both _ _ p.fits).1)) (write_same z.memory (Counter q) (Counter q))
 fits_new b z a (CounterLoad q End) p s f = cases (z.memory (Counter q) == kept (z.seats a).scan)
   where
     l : q < b.rows
@@ -213,16 +230,22 @@ fits_new b z a (CounterLoad q End) p s f = cases (z.memory (Counter q) == kept (
     h : scans (z.seats a).scan q ≡ true
     h = (end_parts b (z.memory Enrolled) a q (z.seats a) p.fits).1
 
-    cases : (t : Bool) → ScanFits b (step_world z a (CounterLoad q End)) (cond t None (Some (record { row = q; word = z.memory (Counter q); place = 0; found = false })))
+    cases : (t : Bool)
+        → ScanFits b (step_world z a (CounterLoad q End)) (cond t None (Some (record { row = q; word = z.memory (Counter q); place = 0; found = false })))
     cases true = none_fits b (step_world z a (CounterLoad q End))
-    cases false = start_fits b (step_world z a (CounterLoad q End)) q (z.memory (Counter q)) s l (scanned_bit b z a q p.counted l h) (write_same z.memory (Counter q) (Counter q))
+    cases false = start_fits b (step_world z a (CounterLoad q End)) q (z.memory (Counter q)) s l (scanned_bit b z a q p.counted l h)
+        (write_same z.memory (Counter q) (Counter q))
 fits_new b z a (Unretire q) p s f = none_fits b (step_world z a (Unretire q))
 fits_new b z a (Hand k) p s f = none_fits b (step_world z a (Hand k))
 fits_new b z a (SlotLook k) p s f =
-    look_fits b (step_world z a (SlotLook k)) k (z.memory (Slot (k / 8) (k % 8))) (z.seats a).scan s (ltb-true k (8 * b.agents) (and_both _ _ (and_both _ _ (and_both _ _ p.fits).0).0).0) (and_both _ _ (and_both _ _ (and_both _ _ p.fits).0).0).1 (and_both _ _ p.fits).1 (sym (write_same z.memory (Slot (k / 8) (k % 8)) (Slot (k / 8) (k % 8)))) f
+    look_fits b (step_world z a (SlotLook k)) k (z.memory (Slot (k / 8) (k % 8))) (z.seats a).scan s
+    (ltb-true k (8 * b.agents) (and_both _ _ (and_both _ _ (and_both _ _ p.fits).0).0).0)
+    (and_both _ _ (and_both _ _ (and_both _ _ p.fits).0).0).1 (and_both _ _ p.fits).1
+    (sym (write_same z.memory (Slot (k / 8) (k % 8)) (Slot (k / 8) (k % 8)))) f
 fits_new b z a op p s f = f
 
-pub scans_step : (b : Bounds) (z : World) (a : ℕ) (op : Op) → ScanStep b z a op → Counted b (step_world z a op) → (x : ℕ) → ScanFits b (step_world z a op) ((step_world z a op).seats x).scan
+pub scans_step : (b : Bounds) (z : World) (a : ℕ) (op : Op) → ScanStep b z a op → Counted b (step_world z a op) → (x : ℕ)
+    → ScanFits b (step_world z a op) ((step_world z a op).seats x).scan
 scans_step b z a op p s x = cases (x == a)
   where
     cases : (t : Bool) → ScanFits b (step_world z a op) (cond t (record_by z a op) (z.seats x)).scan
@@ -233,7 +256,8 @@ summand_zero : {n m : ℕ} → n ≤ m → m ≡ 0 → n ≡ 0
 summand_zero h k = omega arith
 
 -- a row that a quiet scan found in no slot is gone
-quiet_gone : (b : Bounds) (z : World) (a r : ℕ) → Counted b z → r < b.rows → scans (z.seats a).scan r ≡ true → count_bits (z.memory (Counter r)) ≡ 4194304 → Loose b z r (8 * b.agents) → Gone b z r
+quiet_gone : (b : Bounds) (z : World) (a r : ℕ) → Counted b z → r < b.rows → scans (z.seats a).scan r ≡ true
+    → count_bits (z.memory (Counter r)) ≡ 4194304 → Loose b z r (8 * b.agents) → Gone b z r
 quiet_gone b z a r s l h c q = record {
   is_out = s.bit_out r t;
   unlinked = let e = s.balance r l in let n = q.no_inc in omega arith;
@@ -287,5 +311,6 @@ ending b z a op p = record { lawful = p.lawful; gone = gone_by b z a op p }
     gone_by : (b : Bounds) (z : World) (a : ℕ) (op : Op) → ScanStep b z a op → (r : ℕ) → ends op (z.seats a) (read_by z a op) r ≡ true → Gone b z r
     gone_by b z a (CounterLoad q Check) p r h = absurd (false≢true h)
     gone_by b z a (CounterLoad q Start) p r h = absurd (false≢true h)
-    gone_by b z a (CounterLoad q End) p r h = rw (← eqb-true q r (and_both _ _ h).0) (end_gone b z a q p (eqb-true (z.memory (Counter q)) (kept (z.seats a).scan) (and_both _ _ h).1))
+    gone_by b z a (CounterLoad q End) p r h =
+        rw (← eqb-true q r (and_both _ _ h).0) (end_gone b z a q p (eqb-true (z.memory (Counter q)) (kept (z.seats a).scan) (and_both _ _ h).1))
     gone_by b z a op p r h = absurd (false≢true h)

@@ -61,15 +61,19 @@ both_bits g l = cases (g % 2 == 1) l refl
 
 pub linked_shown : (m : Machine) (r : ℕ) → linked_in m.bounds (world_of m).memory r ≡ linked m r
 linked_shown m r =
-    let i = sum_same m.bounds.roots (λ j. to_row ((world_of m).memory (Root j)) r) (λ j. bit (links_to (word_in m (Root j)) r)) (λ j h. rw (word_shown m (Root j) h)) in
-    let n = sum_same m.bounds.rows (λ j. out ((world_of m).memory (Gate j)) * to_row ((world_of m).memory (Next j)) r) (λ j. bit (is_out m j && links_to (word_in m (Next j)) r)) (λ j h. rw (word_shown m (Gate j) h, word_shown m (Next j) h) (both_bits (word_in m (Gate j)) (links_to (word_in m (Next j)) r))) in
+    let i = sum_same m.bounds.roots (λ j. to_row ((world_of m).memory (Root j)) r) (λ j. bit (links_to (word_in m (Root j)) r))
+    (λ j h. rw (word_shown m (Root j) h)) in
+    let n = sum_same m.bounds.rows (λ j. out ((world_of m).memory (Gate j)) * to_row ((world_of m).memory (Next j)) r)
+    (λ j. bit (is_out m j && links_to (word_in m (Next j)) r))
+    (λ j h. rw (word_shown m (Gate j) h, word_shown m (Next j) h) (both_bits (word_in m (Gate j)) (links_to (word_in m (Next j)) r))) in
     omega arith
 
 -- a counter in balance, as an integer
 pub count_is : (c i l d : ℕ) → c + i ≡ 4194304 + l + d → pos c -ℤ pos 4194304 ≡ (pos l -ℤ pos i) +ℤ pos d
 count_is c i l d e = omega (arith, ints)
 
-count_shown : (m : Machine) (r : ℕ) → r < m.bounds.rows → Balanced m.bounds (world_of m) r → (counter_of (word_in m (Counter r))).count ≡ (pos (linked m r) -ℤ pos (increments m r)) +ℤ pos (decrements m r)
+count_shown : (m : Machine) (r : ℕ) → r < m.bounds.rows → Balanced m.bounds (world_of m) r
+    → (counter_of (word_in m (Counter r))).count ≡ (pos (linked m r) -ℤ pos (increments m r)) +ℤ pos (decrements m r)
 count_shown m r h e =
     count_is (count_bits (word_in m (Counter r))) (increments m r) (linked m r) (decrements m r) (rw (word_shown m (Counter r) h, linked_shown m r) at e)
 
@@ -77,13 +81,19 @@ pub balance_shown : (m : Machine) → Counted m.bounds (world_of m) → Balance 
 balance_shown m s = record {
   count = λ r h. count_shown m r h (s.balance r h);
   held = λ a r l h. ⊎_elim (λ i. s.inc_held a r i) (λ d. s.due_held a r d) (either _ _ h);
-  out = λ a r l h. out_shown m r (s.used_out a r (⊎_elim (λ i. ⊎_elim (λ j. inc_uses (record_at m a) r j) (λ j. dec_uses (record_at m a) r j) (either _ _ i)) (λ d. due_uses (record_at m a) r d) (either _ _ h)));
+  out = λ a r l h. out_shown m r
+      (s.used_out a r
+      (⊎_elim (λ i. ⊎_elim (λ j. inc_uses (record_at m a) r j) (λ j. dec_uses (record_at m a) r j) (either _ _ i)) (λ d. due_uses (record_at m a) r d)
+      (either _ _ h)));
 }
 
-handed_shown : (m : Machine) (r : ℕ) → handed_in m.bounds (world_of m).memory r ≡ sum_below m.bounds.agents (λ a. count_below 8 (λ k. word_in m (Handover a k) == r + 1))
+handed_shown : (m : Machine) (r : ℕ)
+    → handed_in m.bounds (world_of m).memory r ≡ sum_below m.bounds.agents (λ a. count_below 8 (λ k. word_in m (Handover a k) == r + 1))
 handed_shown m r =
-    sum_same m.bounds.agents (λ a. sum_below 8 (λ k. hands_row ((world_of m).memory (Handover a k)) r)) (λ a. count_below 8 (λ k. word_in m (Handover a k) == r + 1))
-    (λ a h. sum_same 8 (λ k. hands_row ((world_of m).memory (Handover a k)) r) (λ k. bit (word_in m (Handover a k) == r + 1)) (λ k l. rw (word_shown m (Handover a k) (h, l))))
+    sum_same m.bounds.agents (λ a. sum_below 8 (λ k. hands_row ((world_of m).memory (Handover a k)) r))
+    (λ a. count_below 8 (λ k. word_in m (Handover a k) == r + 1))
+    (λ a h. sum_same 8 (λ k. hands_row ((world_of m).memory (Handover a k)) r) (λ k. bit (word_in m (Handover a k) == r + 1))
+    (λ k l. rw (word_shown m (Handover a k) (h, l))))
 
 pub low_bit : (w : ℕ) → w % 2 ≡ bit (w % 2 == 1)
 low_bit w = grind arith
@@ -139,7 +149,8 @@ pub below_none : (n i : ℕ) (p : ℕ → Bool) → some_below n p ≡ false →
 below_none zero i p h l = absurd (omega arith)
 below_none (suc n) i p h l = last n i p l (some_below n p) (p n) refl refl h (below_none n i p)
   where
-    last : (n i : ℕ) (p : ℕ → Bool) → i < suc n → (s t : Bool) → some_below n p ≡ s → p n ≡ t → (s || t) ≡ false → (some_below n p ≡ false → i < n → p i ≡ false) → p i ≡ false
+    last : (n i : ℕ) (p : ℕ → Bool) → i < suc n → (s t : Bool) → some_below n p ≡ s → p n ≡ t → (s || t) ≡ false
+        → (some_below n p ≡ false → i < n → p i ≡ false) → p i ≡ false
     last n i p l false false e f h before = cases (i == n) refl
       where
         cases : (u : Bool) → (i == n) ≡ u → p i ≡ false
@@ -159,11 +170,14 @@ pub count_zero : (w : ℕ) → count_bits w ≡ 4194304 → pos (count_bits w) -
 count_zero w h = rw h refl
 
 -- a row that nothing links or uses, whose count is 0, can't be reached
-unreachable : (m : Machine) (r : ℕ) → r < m.bounds.rows → linked_in m.bounds (world_of m).memory r ≡ 0 → count_bits ((world_of m).memory (Counter r)) ≡ 4194304 → ((a : ℕ) → uses (record_at m a) r ≡ false) → IsUnreachable m r
+unreachable : (m : Machine) (r : ℕ) → r < m.bounds.rows → linked_in m.bounds (world_of m).memory r ≡ 0
+    → count_bits ((world_of m).memory (Counter r)) ≡ 4194304 → ((a : ℕ) → uses (record_at m a) r ≡ false) → IsUnreachable m r
 unreachable m r l n c u = record {
   linked = sym (linked_shown m r) ∙ n;
-  held = none_below m.bounds.agents (λ a. holds_row m a r) (λ a h. not_true (holds_row m a r) (λ k. both_ways (uses (record_at m a) r) (held_uses (record_at m a) r k) (u a)));
-  changes = none_below m.bounds.agents (λ a. changes (record_at m a) r) (λ a h. not_true (changes (record_at m a) r) (λ k. both_ways (uses (record_at m a) r) (changes_use (record_at m a) r k) (u a)));
+  held = none_below m.bounds.agents (λ a. holds_row m a r)
+      (λ a h. not_true (holds_row m a r) (λ k. both_ways (uses (record_at m a) r) (held_uses (record_at m a) r k) (u a)));
+  changes = none_below m.bounds.agents (λ a. changes (record_at m a) r)
+      (λ a h. not_true (changes (record_at m a) r) (λ k. both_ways (uses (record_at m a) r) (changes_use (record_at m a) r k) (u a)));
   count = count_zero (word_in m (Counter r)) (rw (word_shown m (Counter r) l) at c);
 }
   where
@@ -173,10 +187,13 @@ unreachable m r l n c u = record {
 pub doomed_shown : (m : Machine) → Counted m.bounds (world_of m) → Doomed m.bounds (world_of m) → DoomedRows m
 doomed_shown m s d = record {
   out = λ a r h k. out_shown m r (d.gone a r k).is_out;
-  unreachable = λ a r h k. let g = d.gone a r k in unreachable m r (out_below m.bounds (world_of m) r s g.is_out) g.unlinked (gone_count m.bounds (world_of m) r s g) g.unused;
+  unreachable = λ a r h k. let g = d.gone a r k in
+      unreachable m r (out_below m.bounds (world_of m) r s g.is_out) g.unlinked (gone_count m.bounds (world_of m) r s g) g.unused;
   alone = λ a x r h g k l. d.alone a x r k l;
-  null = λ a r h k. let g = d.gone a r (cut_dooms_row (record_at m a).doom r k) in rw (word_shown m (Next r) (out_below m.bounds (world_of m) r s g.is_out)) at (d.null a r k);
-  bare = λ a r h k. let g = d.gone a r (bare_dooms (record_at m a).doom r k) in (d.cut a r k, bit_clear _ (rw (word_shown m (Counter r) (out_below m.bounds (world_of m) r s g.is_out)) at (d.clear a r k)));
+  null = λ a r h k. let g = d.gone a r (cut_dooms_row (record_at m a).doom r k) in
+      rw (word_shown m (Next r) (out_below m.bounds (world_of m) r s g.is_out)) at (d.null a r k);
+  bare = λ a r h k. let g = d.gone a r (bare_dooms (record_at m a).doom r k) in
+      (d.cut a r k, bit_clear _ (rw (word_shown m (Counter r) (out_below m.bounds (world_of m) r s g.is_out)) at (d.clear a r k)));
 }
 
 -- a bit that is not set is 0
@@ -197,7 +214,8 @@ free_gone m r s l f = unreachable m r l unlinked (count_zero_of unlinked) unused
     next_none j = rw (not_one _ (λ k. free_unnamed m.bounds (world_of m) j r s f k)) (omega arith)
 
     unlinked : linked_in m.bounds (world_of m).memory r ≡ 0
-    unlinked = let i = sum_zero m.bounds.roots (λ i. to_row ((world_of m).memory (Root i)) r) root_none in let j = sum_zero m.bounds.rows (λ j. out ((world_of m).memory (Gate j)) * to_row ((world_of m).memory (Next j)) r) next_none in omega arith
+    unlinked = let i = sum_zero m.bounds.roots (λ i. to_row ((world_of m).memory (Root i)) r) root_none in
+        let j = sum_zero m.bounds.rows (λ j. out ((world_of m).memory (Gate j)) * to_row ((world_of m).memory (Next j)) r) next_none in omega arith
 
     count_zero_of : linked_in m.bounds (world_of m).memory r ≡ 0 → count_bits ((world_of m).memory (Counter r)) ≡ 4194304
     count_zero_of n = let e = s.balance r l in let i = no_incs m.bounds (world_of m) r unused in let d = no_decs m.bounds (world_of m) r unused in omega arith
@@ -205,7 +223,8 @@ free_gone m r s l f = unreachable m r l unlinked (count_zero_of unlinked) unused
 pub free_shown : (m : Machine) → Counted m.bounds (world_of m) → Doomed m.bounds (world_of m) → FreeRows m
 free_shown m s d = record {
   unreachable = λ r h k. free_gone m r s h (hidden r h k);
-  clear = λ r h k. not_true (is_retired m r) (λ t. both_ways (is_out m r) (out_shown m r (s.bit_out r (rw (word_shown m (Counter r) h) (eqb-true (retired_bit (word_in m (Counter r))) 1 t)))).1 k);
+  clear = λ r h k. not_true (is_retired m r)
+      (λ t. both_ways (is_out m r) (out_shown m r (s.bit_out r (rw (word_shown m (Counter r) h) (eqb-true (retired_bit (word_in m (Counter r))) 1 t)))).1 k);
   null = λ r h k. rw (word_shown m (Next r) h) at (s.free_null r (hidden r h k));
   undoomed = λ a r h l k. not_true (dooms (record_at m a).doom r) (λ t. zero_one (hidden r l k) (d.gone a r t).is_out);
 }
@@ -224,16 +243,21 @@ reason_bits d w r h = four (names d.fresh r) (names d.inc r) (is_due d.due r (se
     four false false false true h = absurd (false≢true (sym h))
 
 pub leak_shown : (m : Machine) → ((r : ℕ) → r < m.bounds.rows → HasReason m.bounds (world_of m) r) → NoLeak m
-leak_shown m h r o = cases (not (count_bits (word_in m (Counter r)) == 4194304)) (is_retired m r) (some_below m.bounds.agents (λ a. keeps_out (record_at m a) r (sequence_of (word_in m (Counter r))))) refl refl refl
+leak_shown m h r o =
+    cases (not (count_bits (word_in m (Counter r)) == 4194304)) (is_retired m r)
+    (some_below m.bounds.agents (λ a. keeps_out (record_at m a) r (sequence_of (word_in m (Counter r))))) refl refl refl
   where
-    cases : (t u v : Bool) → not (count_bits (word_in m (Counter r)) == 4194304) ≡ t → is_retired m r ≡ u → some_below m.bounds.agents (λ a. keeps_out (record_at m a) r (sequence_of (word_in m (Counter r)))) ≡ v → (t || u || v) ≡ true
+    cases : (t u v : Bool) → not (count_bits (word_in m (Counter r)) == 4194304) ≡ t → is_retired m r ≡ u
+        → some_below m.bounds.agents (λ a. keeps_out (record_at m a) r (sequence_of (word_in m (Counter r)))) ≡ v → (t || u || v) ≡ true
     cases true u v e f g = refl
     cases false true v e f g = refl
     cases false false true e f g = refl
     cases false false false e f g =
         let c = ap bit e in
         let i = unset (word_in m (Counter r) / 8388608) f in
-        let z = sum_same m.bounds.agents (λ a. reasons (record_at m a) (word_in m (Counter r)) r) (λ a. 0) (λ a l. reason_bits (record_at m a) (word_in m (Counter r)) r (below_none m.bounds.agents a (λ x. keeps_out (record_at m x) r (sequence_of (word_in m (Counter r)))) g l)) in
+        let z = sum_same m.bounds.agents (λ a. reasons (record_at m a) (word_in m (Counter r)) r) (λ a. 0)
+        (λ a l. reason_bits (record_at m a) (word_in m (Counter r)) r
+        (below_none m.bounds.agents a (λ x. keeps_out (record_at m x) r (sequence_of (word_in m (Counter r)))) g l)) in
         let y = sum_zero m.bounds.agents (λ a. 0) (λ a. refl) in
         let k = out_hidden m r o in
         let n = rw (word_shown m (Counter r) o.0) at (h r o.0) in
@@ -254,7 +278,11 @@ quiet_shown m s f a r k h i j o e =
     anew : Pinned m.bounds (world_of m) r k → is_linked_anew m r k ≡ true
     anew p =
         some_here m.bounds.agents p.who (λ x. names (record_at m x).inc r && holds_from m r k x) p.agent
-        (rw (p.inc, some_here 8 p.slot (λ y. holds (slot_of (record_at m p.who) y) r && nat_le k (8 * p.who + y)) (hold_word m.bounds (world_of m) p.who p.slot r s p.hold).0 (rw (p.hold, late k (8 * p.who + p.slot) p.late))))
+        (rw (
+          p.inc,
+          some_here 8 p.slot (λ y. holds (slot_of (record_at m p.who) y) r && nat_le k (8 * p.who + y))
+              (hold_word m.bounds (world_of m) p.who p.slot r s p.hold).0 (rw (p.hold, late k (8 * p.who + p.slot) p.late)),
+        ))
 
     left : Loose m.bounds (world_of m) r k → r < m.bounds.rows → count_bits ((world_of m).memory (Counter r)) ≡ 4194304 → IsLeft m r k
     left n l c = record {
@@ -280,7 +308,8 @@ looks_shown m s a r h l i j e = rw (word_shown m (Counter r) l) at (s.checked a 
 pub low_count : (w : ℕ) → (negsuc 4194303 ≤ℤ (counter_of w).count) × ((counter_of w).count ≤ℤ pos 4194303)
 low_count w = (omega (arith, ints), omega (arith, ints))
 
-pub ranges_shown : (m : Machine) → IsShape m.bounds → ((q : ℕ) → sequence_of ((world_of m).memory (Counter q)) < 2 ^ 39 + 2 ^ 19) → LivesFit m.bounds (world_of m) → Ranges m
+pub ranges_shown : (m : Machine) → IsShape m.bounds → ((q : ℕ) → sequence_of ((world_of m).memory (Counter q)) < 2 ^ 39 + 2 ^ 19)
+    → LivesFit m.bounds (world_of m) → Ranges m
 ranges_shown m shape lo s = record {
   sequence = λ r h. rw (word_shown m (Counter r) h) at (lo r);
   life = λ r h. let k = rw (word_shown m (Gate r) h) at (s.within r) in let l = shape.limit.1 in omega arith;

@@ -45,9 +45,11 @@ NewHold (Publish k q) d v r = names d.fresh r ≡ true
 NewHold (Arm q) d v r = (r ≡ q) × ((names d.dec q ≡ true) ⊎ (scans d.scan q ≡ true))
 NewHold _ d v r = ⊥
 
-pub holds_source : (b : Bounds) (e a : ℕ) (op : Op) (d : Agent) (v r : ℕ) → fits b e a op d ≡ true → any_holds (after op d v).slots r ≡ true → (any_holds d.slots r ≡ true) ⊎ NewHold op d v r
+pub holds_source : (b : Bounds) (e a : ℕ) (op : Op) (d : Agent) (v r : ℕ) → fits b e a op d ≡ true → any_holds (after op d v).slots r ≡ true
+    → (any_holds d.slots r ≡ true) ⊎ NewHold op d v r
 holds_source b e a (LinkLoad p None) d v r f h = inl h
-holds_source b e a (LinkLoad p (Some k)) d v r f h = grind (arith, any_holds_set d.slots k (promoted (slot_of d k) v) r h, promoted_holds (slot_of d k) v r, any_holds_at d.slots k r)
+holds_source b e a (LinkLoad p (Some k)) d v r f h =
+    grind (arith, any_holds_set d.slots k (promoted (slot_of d k) v) r h, promoted_holds (slot_of d k) v r, any_holds_at d.slots k r)
 holds_source b e a (Publish k q) d v r f h = grind (arith, any_holds_set d.slots k (cond (names d.fresh q) (Held q) (Published q)) r h)
 holds_source b e a (Clear k) d v r f h = grind (arith, any_holds_set d.slots k Empty r h)
 holds_source b e a (Arm q) d v r f h = grind (arith, any_holds_set d.slots 0 (Held q) r h)
@@ -101,7 +103,8 @@ frees (Free q) r = q == r
 frees _ r = false
 
 -- the gates that are out stay out, but at Free
-pub out_stays : (m : Word → ℕ) (b : Bounds) (e a : ℕ) (op : Op) (d : Agent) (r : ℕ) → fits b e a op d ≡ true → frees op r ≡ false → out (m (Gate r)) ≡ 1 → out (write m (action_of a op d).word (word_after (action_of a op d).operation (m (action_of a op d).word)) (Gate r)) ≡ 1
+pub out_stays : (m : Word → ℕ) (b : Bounds) (e a : ℕ) (op : Op) (d : Agent) (r : ℕ) → fits b e a op d ≡ true → frees op r ≡ false
+    → out (m (Gate r)) ≡ 1 → out (write m (action_of a op d).word (word_after (action_of a op d).operation (m (action_of a op d).word)) (Gate r)) ≡ 1
 out_stays m b e a (GateLook q) d r f n h = rw (write_same m (Gate q) (Gate r)) h
 out_stays m b e a (GateTake q) d r f n h = grind arith
 out_stays m b e a (LinkLoad p k) d r f n h = rw (write_same m p (Gate r)) h
@@ -137,23 +140,30 @@ pub one-true : (b : Bool) → bit b ≡ 1 → b ≡ true
 one-true true h = refl
 one-true false h = grind arith
 
-link_source : (v w : ℕ) (t : RowLink) (r : ℕ) (a b : Bool) → (a ≡ true → w ≡ v) → to_row (cond a (cond b (link_word t) v) w) r ≡ 1 → (to_row w r ≡ 1) ⊎ ((a && names t.to r) ≡ true)
+link_source : (v w : ℕ) (t : RowLink) (r : ℕ) (a b : Bool) → (a ≡ true → w ≡ v) → to_row (cond a (cond b (link_word t) v) w) r ≡ 1 → (to_row w r ≡ 1)
+    ⊎ ((a && names t.to r) ≡ true)
 link_source v w t r false b e h = inl h
 link_source v w t r true false e h = inl (rw (e refl) h)
 link_source v w t r true true e h = inr (one-true (names t.to r) (rw to_row-link at h))
 
-pub root_source : (b : Bounds) (e a : ℕ) (op : Op) (d : Agent) (m : Word → ℕ) (i r : ℕ) → fits b e a op d ≡ true → to_row (write m (action_of a op d).word (word_after (action_of a op d).operation (m (action_of a op d).word)) (Root i)) r ≡ 1 → (to_row (m (Root i)) r ≡ 1) ⊎ (puts op (Root i) r ≡ true)
+pub root_source : (b : Bounds) (e a : ℕ) (op : Op) (d : Agent) (m : Word → ℕ) (i r : ℕ) → fits b e a op d ≡ true
+    → to_row (write m (action_of a op d).word (word_after (action_of a op d).operation (m (action_of a op d).word)) (Root i)) r ≡ 1
+    → (to_row (m (Root i)) r ≡ 1) ⊎ (puts op (Root i) r ≡ true)
 root_source b e a (LinkLoad p k) d m i r f h = inl (rw (write_same m p (Root i)) at h)
-root_source b e a (LinkCas (Root j) x t) d m i r f h = link_source (m (Root j)) (m (Root i)) t r (i == j) (m (Root j) == link_word x) (λ p. ap (λ n. m (Root n)) (eqb-true i j p)) h
+root_source b e a (LinkCas (Root j) x t) d m i r f h =
+    link_source (m (Root j)) (m (Root i)) t r (i == j) (m (Root j) == link_word x) (λ p. ap (λ n. m (Root n)) (eqb-true i j p)) h
 root_source b e a (LinkCas (Next j) x t) d m i r f h = inl h
 root_source b e a (LinkCas p x t) d m i r f h = grind arith
 root_source b e a (Fill q w v) d m i r f h = grind arith
 root_source b e a (Read q w) d m i r f h = grind arith
 root_source b e a op d m i r f h = inl h
 
-pub next_source : (b : Bounds) (e a : ℕ) (op : Op) (d : Agent) (m : Word → ℕ) (i r : ℕ) → fits b e a op d ≡ true → to_row (write m (action_of a op d).word (word_after (action_of a op d).operation (m (action_of a op d).word)) (Next i)) r ≡ 1 → (to_row (m (Next i)) r ≡ 1) ⊎ (puts op (Next i) r ≡ true)
+pub next_source : (b : Bounds) (e a : ℕ) (op : Op) (d : Agent) (m : Word → ℕ) (i r : ℕ) → fits b e a op d ≡ true
+    → to_row (write m (action_of a op d).word (word_after (action_of a op d).operation (m (action_of a op d).word)) (Next i)) r ≡ 1
+    → (to_row (m (Next i)) r ≡ 1) ⊎ (puts op (Next i) r ≡ true)
 next_source b e a (LinkLoad p k) d m i r f h = inl (rw (write_same m p (Next i)) at h)
-next_source b e a (LinkCas (Next j) x t) d m i r f h = link_source (m (Next j)) (m (Next i)) t r (i == j) (m (Next j) == link_word x) (λ p. ap (λ n. m (Next n)) (eqb-true i j p)) h
+next_source b e a (LinkCas (Next j) x t) d m i r f h =
+    link_source (m (Next j)) (m (Next i)) t r (i == j) (m (Next j) == link_word x) (λ p. ap (λ n. m (Next n)) (eqb-true i j p)) h
 next_source b e a (LinkStore j l) d m i r f h = link_source (m (Next j)) (m (Next i)) l r (i == j) true (λ p. ap (λ n. m (Next n)) (eqb-true i j p)) h
 next_source b e a (LinkCas (Root j) x t) d m i r f h = inl h
 next_source b e a (LinkCas p x t) d m i r f h = grind arith
@@ -162,7 +172,9 @@ next_source b e a (Read q w) d m i r f h = grind arith
 next_source b e a op d m i r f h = inl h
 
 -- a gate is out anew where a GateTake won it
-pub gate_source : (b : Bounds) (e a : ℕ) (op : Op) (d : Agent) (m : Word → ℕ) (r : ℕ) → fits b e a op d ≡ true → frees op r ≡ false → out (write m (action_of a op d).word (word_after (action_of a op d).operation (m (action_of a op d).word)) (Gate r)) ≡ 1 → (out (m (Gate r)) ≡ 1) ⊎ (takes op d (m (action_of a op d).word) r ≡ true)
+pub gate_source : (b : Bounds) (e a : ℕ) (op : Op) (d : Agent) (m : Word → ℕ) (r : ℕ) → fits b e a op d ≡ true → frees op r ≡ false
+    → out (write m (action_of a op d).word (word_after (action_of a op d).operation (m (action_of a op d).word)) (Gate r)) ≡ 1
+    → (out (m (Gate r)) ≡ 1) ⊎ (takes op d (m (action_of a op d).word) r ≡ true)
 gate_source b e a (GateLook q) d m r f n h = inl (rw (write_same m (Gate q) (Gate r)) at h)
 gate_source b e a (GateTake q) d m r f n h = grind arith
 gate_source b e a (LinkLoad p k) d m r f n h = inl (rw (write_same m p (Gate r)) at h)
@@ -180,7 +192,8 @@ changes_next (LinkCas p f t) r = same_word (Next r) p
 changes_next (LinkStore q l) r = r == q
 changes_next _ r = false
 
-pub next_stays : (b : Bounds) (e a : ℕ) (op : Op) (d : Agent) (m : Word → ℕ) (i : ℕ) → fits b e a op d ≡ true → changes_next op i ≡ false → write m (action_of a op d).word (word_after (action_of a op d).operation (m (action_of a op d).word)) (Next i) ≡ m (Next i)
+pub next_stays : (b : Bounds) (e a : ℕ) (op : Op) (d : Agent) (m : Word → ℕ) (i : ℕ) → fits b e a op d ≡ true → changes_next op i ≡ false
+    → write m (action_of a op d).word (word_after (action_of a op d).operation (m (action_of a op d).word)) (Next i) ≡ m (Next i)
 next_stays b e a (LinkLoad p k) d m i f n = write_same m p (Next i)
 next_stays b e a (LinkCas p x t) d m i f n = rw n
 next_stays b e a (LinkStore j l) d m i f n = rw n

@@ -17,7 +17,9 @@ pub sum_change : (n i : ℕ) (f g : ℕ → ℕ) → i < n → ((j : ℕ) → j 
 sum_change zero i f g l h = omega arith
 sum_change (suc n) i f g l h = at_end n i f g l h (sum_change n i f g) (sum_same n f g)
   where
-    at_end : (n i : ℕ) (f g : ℕ → ℕ) → i < suc n → ((j : ℕ) → j ≢ i → f j ≡ g j) → (i < n → ((j : ℕ) → j ≢ i → f j ≡ g j) → sum_below n g + f i ≡ sum_below n f + g i) → (((j : ℕ) → j < n → f j ≡ g j) → sum_below n f ≡ sum_below n g) → sum_below n g + g n + f i ≡ sum_below n f + f n + g i
+    at_end : (n i : ℕ) (f g : ℕ → ℕ) → i < suc n → ((j : ℕ) → j ≢ i → f j ≡ g j)
+        → (i < n → ((j : ℕ) → j ≢ i → f j ≡ g j) → sum_below n g + f i ≡ sum_below n f + g i)
+        → (((j : ℕ) → j < n → f j ≡ g j) → sum_below n f ≡ sum_below n g) → sum_below n g + g n + f i ≡ sum_below n f + f n + g i
     at_end n i f g l h before same = grind arith
 
 pub sum_le : (n : ℕ) (f : ℕ → ℕ) → ((i : ℕ) → f i ≤ 1) → sum_below n f ≤ n
@@ -31,7 +33,8 @@ pick_same : {A : Type 0} (i : ℕ) (v x : A) → cond (i == i) v x ≡ v
 pick_same i v x = cond-true (i == i) v x (eq-eqb i i refl)
 
 -- one new value changes the sum by the difference
-pub sum_put : {A : Type 0} (n i : ℕ) (f : ℕ → A → ℕ) (m : ℕ → A) (v : A) → i < n → sum_below n (λ j. f j (cond (j == i) v (m j))) + f i (m i) ≡ sum_below n (λ j. f j (m j)) + f i v
+pub sum_put : {A : Type 0} (n i : ℕ) (f : ℕ → A → ℕ) (m : ℕ → A) (v : A) → i < n → sum_below n (λ j. f j (cond (j == i) v (m j)))
+    + f i (m i) ≡ sum_below n (λ j. f j (m j)) + f i v
 sum_put n i f m v h =
     rw pick_same at (sum_change n i (λ j. f j (m j)) (λ j. f j (cond (j == i) v (m j))) h (λ j ne. ap (f j) (pick_other i j v (m j) ne)))
 
@@ -42,7 +45,8 @@ pub sum_member : (n i : ℕ) (f : ℕ → ℕ) → i < n → f i ≤ sum_below n
 sum_member zero i f h = omega arith
 sum_member (suc n) i f h = member_next n i f h (sum_member n i f)
 
-two_next : (n i j : ℕ) (f : ℕ → ℕ) → i < suc n → j < suc n → i ≢ j → (i < n → j < n → f i + f j ≤ sum_below n f) → (i < n → f i ≤ sum_below n f) → (j < n → f j ≤ sum_below n f) → f i + f j ≤ sum_below n f + f n
+two_next : (n i j : ℕ) (f : ℕ → ℕ) → i < suc n → j < suc n → i ≢ j → (i < n → j < n → f i + f j ≤ sum_below n f) → (i < n → f i ≤ sum_below n f)
+    → (j < n → f j ≤ sum_below n f) → f i + f j ≤ sum_below n f + f n
 two_next n i j f h k d both left right = grind arith
 
 pub sum_two : (n i j : ℕ) (f : ℕ → ℕ) → i < n → j < n → i ≢ j → f i + f j ≤ sum_below n f
@@ -66,12 +70,15 @@ sum_times zero c = omega arith
 sum_times (suc n) c = let e = sum_times n c in omega arith
 
 -- a number below the bound is met once, and another one never
-meet_next : (n w : ℕ) → (n ≤ w → sum_below n (λ r. bit (w == r)) ≡ 0) → (w < n → sum_below n (λ r. bit (w == r)) ≡ 1) → (suc n ≤ w → sum_below n (λ r. bit (w == r)) + bit (w == n) ≡ 0) × (w < suc n → sum_below n (λ r. bit (w == r)) + bit (w == n) ≡ 1)
+meet_next : (n w : ℕ) → (n ≤ w → sum_below n (λ r. bit (w == r)) ≡ 0) → (w < n → sum_below n (λ r. bit (w == r)) ≡ 1)
+    → (suc n ≤ w → sum_below n (λ r. bit (w == r)) + bit (w == n) ≡ 0) × (w < suc n → sum_below n (λ r. bit (w == r)) + bit (w == n) ≡ 1)
 meet_next n w h k = cases (w == n) refl
   where
-    cases : (t : Bool) → (w == n) ≡ t → (suc n ≤ w → sum_below n (λ r. bit (w == r)) + bit (w == n) ≡ 0) × (w < suc n → sum_below n (λ r. bit (w == r)) + bit (w == n) ≡ 1)
+    cases : (t : Bool) → (w == n) ≡ t → (suc n ≤ w → sum_below n (λ r. bit (w == r)) + bit (w == n) ≡ 0)
+        × (w < suc n → sum_below n (λ r. bit (w == r)) + bit (w == n) ≡ 1)
     cases true e = let f = eqb-true w n e in let g = ap bit e in (λ l. absurd (omega arith), λ l. let z = h (omega arith) in omega arith)
-    cases false e = let f : w ≢ n = eqb-false w n e in let g = ap bit e in (λ l. let z = h (omega arith) in omega arith, λ l. let z = k (omega arith) in omega arith)
+    cases false e = let f : w ≢ n = eqb-false w n e in let g = ap bit e in
+        (λ l. let z = h (omega arith) in omega arith, λ l. let z = k (omega arith) in omega arith)
 
 meets : (n w : ℕ) → (n ≤ w → sum_below n (λ r. bit (w == r)) ≡ 0) × (w < n → sum_below n (λ r. bit (w == r)) ≡ 1)
 meets zero w = (λ l. refl, λ l. absurd (omega arith))

@@ -43,19 +43,24 @@ bit_write m (Next q) v r = refl
 bit_write m (Slot a k) v r = refl
 bit_write m (Handover a k) v r = refl
 
-other_row : (m : Word → ℕ) (a k v r j : ℕ) → j ≢ a → sum_below 8 (λ i. hands_row (m (Handover j i)) r) ≡ sum_below 8 (λ i. hands_row (write m (Handover a k) v (Handover j i)) r)
+other_row : (m : Word → ℕ) (a k v r j : ℕ) → j ≢ a
+    → sum_below 8 (λ i. hands_row (m (Handover j i)) r) ≡ sum_below 8 (λ i. hands_row (write m (Handover a k) v (Handover j i)) r)
 other_row m a k v r j ne = rw (ne_eqb j a ne)
 
-same_row : (m : Word → ℕ) (a k v r : ℕ) → k < 8 → sum_below 8 (λ i. hands_row (write m (Handover a k) v (Handover a i)) r) + hands_row (m (Handover a k)) r ≡ sum_below 8 (λ i. hands_row (m (Handover a i)) r) + hands_row v r
+same_row : (m : Word → ℕ) (a k v r : ℕ) → k < 8 → sum_below 8 (λ i. hands_row (write m (Handover a k) v (Handover a i)) r)
+    + hands_row (m (Handover a k)) r ≡ sum_below 8 (λ i. hands_row (m (Handover a i)) r) + hands_row v r
 same_row m a k v r h = rw (eq-eqb a a refl) (sum_put 8 k (λ _ x. hands_row x r) (λ i. m (Handover a i)) v h)
 
-handed_at : (s : Bounds) (m : Word → ℕ) (a k v r : ℕ) → a < s.agents → k < 8 → handed_in s (write m (Handover a k) v) r + hands_row (m (Handover a k)) r ≡ handed_in s m r + hands_row v r
+handed_at : (s : Bounds) (m : Word → ℕ) (a k v r : ℕ) → a < s.agents → k < 8 → handed_in s (write m (Handover a k) v) r
+    + hands_row (m (Handover a k)) r ≡ handed_in s m r + hands_row v r
 handed_at s m a k v r ha hk =
-    let e = sum_change s.agents a (λ j. sum_below 8 (λ i. hands_row (m (Handover j i)) r)) (λ j. sum_below 8 (λ i. hands_row (write m (Handover a k) v (Handover j i)) r)) ha (λ j ne. other_row m a k v r j ne) in
+    let e = sum_change s.agents a (λ j. sum_below 8 (λ i. hands_row (m (Handover j i)) r))
+    (λ j. sum_below 8 (λ i. hands_row (write m (Handover a k) v (Handover j i)) r)) ha (λ j ne. other_row m a k v r j ne) in
     let f = same_row m a k v r hk in
     omega arith
 
-pub handed_write : (s : Bounds) (m : Word → ℕ) (w : Word) (v r : ℕ) → IsWithin s w → handed_in s (write m w v) r + hand_part w (m w) r ≡ handed_in s m r + hand_part w v r
+pub handed_write : (s : Bounds) (m : Word → ℕ) (w : Word) (v r : ℕ) → IsWithin s w
+    → handed_in s (write m w v) r + hand_part w (m w) r ≡ handed_in s m r + hand_part w v r
 handed_write s m Enrolled v r h = refl
 handed_write s m (Counter q) v r h = refl
 handed_write s m (Root i) v r h = refl
@@ -66,13 +71,15 @@ handed_write s m (Next q) v r h = refl
 handed_write s m (Slot a k) v r h = refl
 handed_write s m (Handover a k) v r h = handed_at s m a k v r h.0 h.1
 
-pub seat_places_seat : (s : Bounds) (d : ℕ → Agent) (a : ℕ) (e : Agent) (r : ℕ) → a < s.agents → seat_places s (seat d a e) r + places_of (d a) r ≡ seat_places s d r + places_of e r
+pub seat_places_seat : (s : Bounds) (d : ℕ → Agent) (a : ℕ) (e : Agent) (r : ℕ) → a < s.agents → seat_places s (seat d a e) r
+    + places_of (d a) r ≡ seat_places s d r + places_of e r
 seat_places_seat s d a e r h = sum_put s.agents a (λ _ x. places_of x r) d e h
 
 abbrev pub LocalToken : Word → ℕ → ℕ → Agent → Agent → ℕ → Type 0
 LocalToken w v x d e r = bit_part w x r + hand_part w v r + places_of d r ≡ bit_part w v r + hand_part w x r + places_of e r
 
-pub token_step : (s : Bounds) (z : World) (a : ℕ) (w : Word) (x : ℕ) (e : Agent) (r : ℕ) → IsWithin s w → a < s.agents → LocalToken w (z.memory w) x (z.seats a) e r → HasToken s z r → HasToken s (record { memory = write z.memory w x; seats = seat z.seats a e }) r
+pub token_step : (s : Bounds) (z : World) (a : ℕ) (w : Word) (x : ℕ) (e : Agent) (r : ℕ) → IsWithin s w → a < s.agents
+    → LocalToken w (z.memory w) x (z.seats a) e r → HasToken s z r → HasToken s (record { memory = write z.memory w x; seats = seat z.seats a e }) r
 token_step s z a w x e r within agent local token =
     let c = bit_write z.memory w x r in
     let l = handed_write s z.memory w x r within in
@@ -80,7 +87,9 @@ token_step s z a w x e r within agent local token =
     omega arith
 
 abbrev pub KeptToken : (Word → ℕ) → ℕ → Op → Agent → ℕ → Type 0
-KeptToken m a op d r = LocalToken (action_of a op d).word (m (action_of a op d).word) (word_after (action_of a op d).operation (m (action_of a op d).word)) d (after op d (m (action_of a op d).word)) r
+KeptToken m a op d r =
+    LocalToken (action_of a op d).word (m (action_of a op d).word) (word_after (action_of a op d).operation (m (action_of a op d).word)) d
+    (after op d (m (action_of a op d).word)) r
 
 bit_cond : (t : Bool) → cond t 1 0 ≡ bit t
 bit_cond true = refl
@@ -96,7 +105,10 @@ listings_first (x ∷ xs) q r h = rw (eqb-true x q h) (sum_by-cons (λ y. cond (
 pub set_token : (m : Word → ℕ) (a q n : ℕ) (d : Agent) (r : ℕ) → n < 1099511627776 → KeptToken m a (SetRetired q n) d r
 set_token m a q n d r h = set_cases (m (Counter q)) q n d r (m (Counter q) == clear_word n) (eqb-true _ _) (listings_more d.list.items q r)
   where
-    set_cases : (v q n : ℕ) (d : Agent) (r : ℕ) (b : Bool) → (b ≡ true → v ≡ clear_word n) → listings (d.list.items ++ q ∷ []) r ≡ listings d.list.items r + bit (q == r) → cond (q == r) (retired_bit (cond b (clear_word n + 8388608) v)) 0 + 0 + places_of d r ≡ cond (q == r) (retired_bit v) 0 + 0 + (bit (names d.hand r) + bit (scans d.scan r) + bit (dooming d.doom r) + listings (cond b (listed_more d.list q) d.list).items r)
+    set_cases : (v q n : ℕ) (d : Agent) (r : ℕ) (b : Bool) → (b ≡ true → v ≡ clear_word n)
+        → listings (d.list.items ++ q ∷ []) r ≡ listings d.list.items r + bit (q == r)
+        → cond (q == r) (retired_bit (cond b (clear_word n + 8388608) v)) 0 + 0 + places_of d r ≡ cond (q == r) (retired_bit v) 0 + 0
+        + (bit (names d.hand r) + bit (scans d.scan r) + bit (dooming d.doom r) + listings (cond b (listed_more d.list q) d.list).items r)
     set_cases v q n d r false e l = omega arith
     set_cases v q n d r true e l = rw (e refl, l) (grind arith)
 
@@ -104,7 +116,8 @@ named_is : (o : Option ℕ) (q r : ℕ) → names o q ≡ true → names o r ≡
 named_is None q r h = grind arith
 named_is (Some x) q r h = rw (eqb-true x q h)
 
-pub start_token : (m : Word → ℕ) (a q : ℕ) (d : Agent) (r : ℕ) → d.scan ≡ None → (names d.hand q ≡ true) ⊎ ((d.hand ≡ None) × (first_is d.list.items q ≡ true)) → KeptToken m a (CounterLoad q Start) d r
+pub start_token : (m : Word → ℕ) (a q : ℕ) (d : Agent) (r : ℕ) → d.scan ≡ None → (names d.hand q ≡ true)
+    ⊎ ((d.hand ≡ None) × (first_is d.list.items q ≡ true)) → KeptToken m a (CounterLoad q Start) d r
 start_token m a q d r ns (inl h) = rw (ns, h) (omega (arith, ap bit (named_is d.hand q r h)))
 start_token m a q d r ns (inr h) = rw (h.0, ns) (omega (arith, listings_first d.list.items q r h.1))
 
@@ -125,9 +138,11 @@ hands_row-zero : (r : ℕ) → hands_row 0 r ≡ 0
 hands_row-zero r = grind arith
 
 pub take_in_token : (m : Word → ℕ) (a k : ℕ) (d : Agent) (r : ℕ) → r < 65535 → KeptToken m a (TakeIn k) d r
-take_in_token m a k d r b = let e = hands_row-named (m (Handover a k)) r b in let l = listed_named d.list (named (m (Handover a k))) r in let z = hands_row-zero r in grind arith
+take_in_token m a k d r b = let e = hands_row-named (m (Handover a k)) r b in let l = listed_named d.list (named (m (Handover a k))) r in
+    let z = hands_row-zero r in grind arith
 
-pub inc_token : (m : Word → ℕ) (a q : ℕ) (d : Agent) (r : ℕ) → retired_bit ((m (Counter q) + 16777217) % 18446744073709551616) ≡ retired_bit (m (Counter q)) → KeptToken m a (Inc q) d r
+pub inc_token : (m : Word → ℕ) (a q : ℕ) (d : Agent) (r : ℕ)
+    → retired_bit ((m (Counter q) + 16777217) % 18446744073709551616) ≡ retired_bit (m (Counter q)) → KeptToken m a (Inc q) d r
 inc_token m a q d r same = rw same
 
 pub store_token : (m : Word → ℕ) (a q : ℕ) (l : RowLink) (d : Agent) (r : ℕ) → KeptToken m a (LinkStore q l) d r
@@ -137,8 +152,10 @@ pub free_token : (m : Word → ℕ) (a q : ℕ) (d : Agent) (r : ℕ) → doom_b
 free_token m a q d r h = grind arith
 
 -- a scan ends, or a doom becomes bare, and the bit goes
-pub unretire_scan_token : (m : Word → ℕ) (a q : ℕ) (d : Agent) (r : ℕ) → d.doom ≡ None → scans d.scan q ≡ true → retired_bit ((m (Counter q) + 18446744073701163008) % 18446744073709551616) + 1 ≡ retired_bit (m (Counter q)) → KeptToken m a (Unretire q) d r
+pub unretire_scan_token : (m : Word → ℕ) (a q : ℕ) (d : Agent) (r : ℕ) → d.doom ≡ None → scans d.scan q ≡ true
+    → retired_bit ((m (Counter q) + 18446744073701163008) % 18446744073709551616) + 1 ≡ retired_bit (m (Counter q)) → KeptToken m a (Unretire q) d r
 unretire_scan_token m a q d r nd h less = grind arith
 
-pub unretire_doom_token : (m : Word → ℕ) (a q : ℕ) (d : Agent) (r : ℕ) → d.scan ≡ None → doom_cut d.doom q ≡ true → retired_bit ((m (Counter q) + 18446744073701163008) % 18446744073709551616) + 1 ≡ retired_bit (m (Counter q)) → KeptToken m a (Unretire q) d r
+pub unretire_doom_token : (m : Word → ℕ) (a q : ℕ) (d : Agent) (r : ℕ) → d.scan ≡ None → doom_cut d.doom q ≡ true
+    → retired_bit ((m (Counter q) + 18446744073701163008) % 18446744073709551616) + 1 ≡ retired_bit (m (Counter q)) → KeptToken m a (Unretire q) d r
 unretire_doom_token m a q d r ns h less = grind arith

@@ -86,7 +86,8 @@ cut_some None q h = absurd (false≢true h)
 cut_some (Some x) q h = refl
 
 -- an agent with a scan, that may clear a bit, holds the row in slot 0
-pub unretire_holds : (b : Bounds) (e a q : ℕ) (d : Agent) → fits b e a (Unretire q) d ≡ true → is_some d.scan ≡ true → HasOnePart d → holds (slot_of d 0) q ≡ true
+pub unretire_holds : (b : Bounds) (e a q : ℕ) (d : Agent) → fits b e a (Unretire q) d ≡ true → is_some d.scan ≡ true → HasOnePart d
+    → holds (slot_of d 0) q ≡ true
 unretire_holds b e a q d f s o = cases (doom_cut d.doom q) refl
   where
     cases : (t : Bool) → doom_cut d.doom q ≡ t → holds (slot_of d 0) q ≡ true
@@ -94,7 +95,8 @@ unretire_holds b e a q d f s o = cases (doom_cut d.doom q) refl
     cases false h = grind arith
 
 -- a row that is due anew is held
-pub counts_held : (b : Bounds) (e a : ℕ) (op : Op) (d : Agent) (r : ℕ) → fits b e a op d ≡ true → HasOnePart d → (names d.inc r ≡ true → any_holds d.slots r ≡ true) → counts op d.scan r ≡ true → any_holds d.slots r ≡ true
+pub counts_held : (b : Bounds) (e a : ℕ) (op : Op) (d : Agent) (r : ℕ) → fits b e a op d ≡ true → HasOnePart d
+    → (names d.inc r ≡ true → any_holds d.slots r ≡ true) → counts op d.scan r ≡ true → any_holds d.slots r ≡ true
 counts_held b e a (Inc q) d r f o i h = i (rw (← eqb-true q r h) (and_both _ _ f).1)
 counts_held b e a (Dec q) d r f o i h = rw (← eqb-true q r h) (any_holds_at d.slots 0 q (and_both _ _ f).1)
 counts_held b e a (Unretire q) d r f o i h = rw (← eqb-true q r (and_both _ _ h).0) (any_holds_at d.slots 0 q (unretire_holds b e a q d f (and_both _ _ h).1 o))

@@ -63,7 +63,8 @@ range_fits m r = nat_lt (sequence_of (word_in m (Counter r))) 549756338176 && na
 
 -- nothing links the row, holds it or changes it, and its count is 0
 abbrev pub unreachable_in : Machine → ℕ → Bool
-unreachable_in m r = (linked m r == 0) && not (held m r) && not (some_below m.bounds.agents (λ a. changes (record_at m a) r)) && (count_bits (word_in m (Counter r)) == 4194304)
+unreachable_in m r = (linked m r == 0) && not (held m r) && not (some_below m.bounds.agents (λ a. changes (record_at m a) r)) &&
+    (count_bits (word_in m (Counter r)) == 4194304)
 
 -- a free row is unreachable, has no bit and no link, and is in no doom
 abbrev pub free_fits : Machine → ℕ → Bool
@@ -75,7 +76,8 @@ row_fits m r = count_fits m r && token_fits m r && range_fits m r && cond (is_ou
 
 -- rows that are pending or due are out, and held where they are to be
 abbrev pub pending_fits : Machine → Agent → Bool
-pending_fits m d = named_passes d.inc (λ r. any_holds d.slots r && out_in m r) && named_passes d.dec (out_in m) && named_passes (row_seen d.due) (λ r. any_holds d.slots r && out_in m r)
+pending_fits m d = named_passes d.inc (λ r. any_holds d.slots r && out_in m r) && named_passes d.dec (out_in m) && named_passes (row_seen d.due)
+    (λ r. any_holds d.slots r && out_in m r)
 
 -- at most one of hand, scan and doom is there
 abbrev pub one_part_in : Agent → Bool
@@ -83,25 +85,35 @@ one_part_in d = nat_le (bit (is_some d.hand) + bit (is_some d.scan) + bit (is_so
 
 -- nothing links the row or is about to, and each hold of it is at place k or later
 abbrev pub left_in : Machine → ℕ → ℕ → Bool
-left_in m r k = (linked m r == 0) && (increments m r == 0) && (decrements m r == 0) && all_below m.bounds.agents (λ a. all_below 8 (λ j. not (holds (slot_of (record_at m a) j) r) || nat_le k (8 * a + j)))
+left_in m r k = (linked m r == 0) && (increments m r == 0) && (decrements m r == 0) && all_below m.bounds.agents
+    (λ a. all_below 8 (λ j. not (holds (slot_of (record_at m a) j) r) || nat_le k (8 * a + j)))
 
 -- the kept word is the row's, by its sequence: then its count is the row's, and a scan with count 0 is quiet
 abbrev pub same_fits : Machine → Scan → Bool
-same_fits m s = (count_bits (word_in m (Counter s.row)) == count_bits s.word) && (not (count_bits s.word == 4194304) || is_linked_anew m s.row s.place || left_in m s.row s.place)
+same_fits m s =
+    (count_bits (word_in m (Counter s.row)) == count_bits s.word) &&
+    (not (count_bits s.word == 4194304) || is_linked_anew m s.row s.place || left_in m s.row s.place)
 
 -- the scan, if there is one, keeps a word of its row that isn't ahead of it, and is quiet
 abbrev pub scan_fits : Machine → Option Scan → Bool
 scan_fits m None = true
-scan_fits m (Some s) = nat_lt s.row m.bounds.rows && (retired_bit s.word == 1) && nat_le (sequence_of s.word) (sequence_of (word_in m (Counter s.row))) && (not (sequence_of (word_in m (Counter s.row)) == sequence_of s.word) || same_fits m s) && (not s.found || ((count_bits s.word == 4194304) && nat_lt s.place (8 * m.bounds.agents)))
+scan_fits m (Some s) =
+    nat_lt s.row m.bounds.rows && (retired_bit s.word == 1) && nat_le (sequence_of s.word) (sequence_of (word_in m (Counter s.row))) &&
+    (not (sequence_of (word_in m (Counter s.row)) == sequence_of s.word) || same_fits m s) &&
+    (not s.found || ((count_bits s.word == 4194304) && nat_lt s.place (8 * m.bounds.agents)))
 
 -- the doom, if there is one, is of a row that is out, unreachable and in no other doom
 abbrev pub doom_fits : Machine → ℕ → Option Doom → Bool
 doom_fits m a None = true
-doom_fits m a (Some d) = out_in m d.row && unreachable_in m d.row && all_below m.bounds.agents (λ x. (x == a) || not (dooms (record_at m x).doom d.row)) && (not d.cut || (word_in m (Next d.row) == 0)) && (not d.bare || (d.cut && not (is_retired m d.row)))
+doom_fits m a (Some d) =
+    out_in m d.row && unreachable_in m d.row && all_below m.bounds.agents (λ x. (x == a) || not (dooms (record_at m x).doom d.row)) &&
+    (not d.cut || (word_in m (Next d.row) == 0)) && (not d.bare || (d.cut && not (is_retired m d.row)))
 
 -- the fresh row is out, has no bit, and is the agent's alone
 abbrev pub fresh_fits : Machine → ℕ → ℕ → Bool
-fresh_fits m a r = out_in m r && not (is_retired m r) && all_below m.bounds.agents (λ x. (x == a) || not (uses (record_at m x) r)) && all_below m.bounds.roots (λ i. not (links_to (word_in m (Root i)) r)) && all_below m.bounds.rows (λ j. (j == r) || not (links_to (word_in m (Next j)) r))
+fresh_fits m a r =
+    out_in m r && not (is_retired m r) && all_below m.bounds.agents (λ x. (x == a) || not (uses (record_at m x) r)) && all_below m.bounds.roots
+    (λ i. not (links_to (word_in m (Root i)) r)) && all_below m.bounds.rows (λ j. (j == r) || not (links_to (word_in m (Next j)) r))
 
 -- a slot's word is that of the record, and what it holds is out
 abbrev pub slot_fits : Machine → ℕ → ℕ → Bool
@@ -113,12 +125,16 @@ slots_fit m a = all_below 8 (slot_fits m a) && not (is_published (slot_of (recor
 
 -- a row that was looked at and then checked has the sequence that was read, while it is free in that life
 abbrev pub looks_fit : Machine → Agent → Bool
-looks_fit m d = named_passes (row_seen d.looked) (λ r. not (nat_lt r m.bounds.rows) || not (saw d.checked r) || not (word_in m (Gate r) == 2 * number_of d.looked) || (sequence_of (word_in m (Counter r)) == number_of d.checked))
+looks_fit m d =
+    named_passes (row_seen d.looked)
+    (λ r. not (nat_lt r m.bounds.rows) || not (saw d.checked r) || not (word_in m (Gate r) == 2 * number_of d.looked) ||
+    (sequence_of (word_in m (Counter r)) == number_of d.checked))
 
 -- all parts of the record are empty
 abbrev pub is_nobody : Agent → Bool
 is_nobody d =
-    not d.enrolled && all_below 8 (λ k. is_empty (slot_of d k)) && is_none d.fresh && is_none d.looked && is_none d.checked && is_none d.inc && is_none d.dec && is_none d.due && is_none d.hand && is_none d.scan && is_none d.doom && (length d.list.items == 0)
+    not d.enrolled && all_below 8 (λ k. is_empty (slot_of d k)) && is_none d.fresh && is_none d.looked && is_none d.checked && is_none d.inc &&
+    is_none d.dec && is_none d.due && is_none d.hand && is_none d.scan && is_none d.doom && (length d.list.items == 0)
 
 -- an agent below the word of enrolments is enrolled, and another one's record is empty
 abbrev pub enrolment_fits : Machine → ℕ → Bool
@@ -127,9 +143,11 @@ enrolment_fits m a = cond (nat_lt a (word_in m Enrolled)) (record_at m a).enroll
 -- an agent's own conditions
 abbrev pub agent_fits : Machine → ℕ → Bool
 agent_fits m a =
-    enrolment_fits m a && slots_fit m a && pending_fits m (record_at m a) && one_part_in (record_at m a) && scan_fits m (record_at m a).scan && doom_fits m a (record_at m a).doom && named_passes (record_at m a).fresh (fresh_fits m a) && looks_fit m (record_at m a)
+    enrolment_fits m a && slots_fit m a && pending_fits m (record_at m a) && one_part_in (record_at m a) && scan_fits m
+    (record_at m a).scan && doom_fits m a (record_at m a).doom && named_passes (record_at m a).fresh (fresh_fits m a) && looks_fit m (record_at m a)
 
 -- all conditions of a sound state
 abbrev pub all_fit : Machine → Bool
 all_fit m =
-    nat_le (word_in m Enrolled) m.bounds.agents && all_below m.bounds.roots (λ i. target_fits m (word_in m (Root i))) && all_below m.bounds.rows (row_fits m) && all_below m.bounds.agents (agent_fits m)
+    nat_le (word_in m Enrolled) m.bounds.agents && all_below m.bounds.roots (λ i. target_fits m (word_in m (Root i))) && all_below m.bounds.rows
+    (row_fits m) && all_below m.bounds.agents (agent_fits m)

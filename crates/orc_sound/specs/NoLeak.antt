@@ -15,7 +15,8 @@ keeps_out d r sequence = names d.fresh r || names d.inc r || is_due d.due r sequ
 
 -- the row's count isn't 0, or its bit is set, or an agent keeps it out
 abbrev pub has_reason : Machine → ℕ → Bool
-has_reason m r = not (count_bits (word_in m (Counter r)) == 4194304) || is_retired m r || some_below m.bounds.agents (λ a. keeps_out (record_at m a) r (sequence_of (word_in m (Counter r))))
+has_reason m r = not (count_bits (word_in m (Counter r)) == 4194304) || is_retired m r || some_below m.bounds.agents
+    (λ a. keeps_out (record_at m a) r (sequence_of (word_in m (Counter r))))
 
 -- each row that is out has a reason to be
 abbrev pub NoLeak : Machine → Type 0

@@ -27,4 +27,6 @@ is_linked_anew m r k = some_below m.bounds.agents (λ a. names (record_at m a).i
 -- each scan whose kept word has count 0 is quiet, while the row's sequence is the kept one
 abbrev pub QuietScans : Machine → Type 0
 QuietScans m =
-    (a r k : ℕ) → a < m.bounds.agents → scans (record_at m a).scan r ≡ true → scan_at (record_at m a).scan k ≡ true → scan_empty (record_at m a).scan ≡ true → sequence_of (word_in m (Counter r)) ≡ sequence_of (kept (record_at m a).scan) → (is_linked_anew m r k ≡ true) ⊎ IsLeft m r k
+    (a r k : ℕ) → a < m.bounds.agents → scans (record_at m a).scan r ≡ true → scan_at (record_at m a).scan k ≡ true
+    → scan_empty (record_at m a).scan ≡ true → sequence_of (word_in m (Counter r)) ≡ sequence_of (kept (record_at m a).scan)
+    → (is_linked_anew m r k ≡ true) ⊎ IsLeft m r k

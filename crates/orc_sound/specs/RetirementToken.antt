@@ -25,7 +25,8 @@ places_of d r = bit (names d.hand r) + bit (scans d.scan r) + bit (dooming d.doo
 
 -- the places of all records, and the handover words, that have the row
 abbrev pub tokens : Machine → ℕ → ℕ
-tokens m r = sum_below m.bounds.agents (λ a. places_of (record_at m a) r) + sum_below m.bounds.agents (λ a. count_below 8 (λ k. word_in m (Handover a k) == r + 1))
+tokens m r = sum_below m.bounds.agents (λ a. places_of (record_at m a) r)
+    + sum_below m.bounds.agents (λ a. count_below 8 (λ k. word_in m (Handover a k) == r + 1))
 
 -- an agent has at most one of hand, scan and doom
 abbrev pub HasOnePart : Agent → Type 0

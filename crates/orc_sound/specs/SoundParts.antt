@@ -45,18 +45,23 @@ pub record FreshRows (m : Machine) : Type 0 where
 pub record Scans (m : Machine) : Type 0 where
   pub row : (a r : ℕ) → a < m.bounds.agents → scans (record_at m a).scan r ≡ true → r < m.bounds.rows
   pub set : (a r : ℕ) → a < m.bounds.agents → scans (record_at m a).scan r ≡ true → retired_bit (kept (record_at m a).scan) ≡ 1
-  pub behind : (a r : ℕ) → a < m.bounds.agents → scans (record_at m a).scan r ≡ true → sequence_of (kept (record_at m a).scan) ≤ sequence_of (word_in m (Counter r))
-  pub count : (a r : ℕ) → a < m.bounds.agents → scans (record_at m a).scan r ≡ true → sequence_of (word_in m (Counter r)) ≡ sequence_of (kept (record_at m a).scan) → count_bits (word_in m (Counter r)) ≡ count_bits (kept (record_at m a).scan)
+  pub behind : (a r : ℕ) → a < m.bounds.agents → scans (record_at m a).scan r ≡ true
+      → sequence_of (kept (record_at m a).scan) ≤ sequence_of (word_in m (Counter r))
+  pub count : (a r : ℕ) → a < m.bounds.agents → scans (record_at m a).scan r ≡ true
+      → sequence_of (word_in m (Counter r)) ≡ sequence_of (kept (record_at m a).scan)
+      → count_bits (word_in m (Counter r)) ≡ count_bits (kept (record_at m a).scan)
   pub found : (a : ℕ) → a < m.bounds.agents → scan_found (record_at m a).scan ≡ true → scan_empty (record_at m a).scan ≡ true
   pub place : (a k : ℕ) → a < m.bounds.agents → scan_found (record_at m a).scan ≡ true → scan_at (record_at m a).scan k ≡ true → k < 8 * m.bounds.agents
 
 -- an agent that looked at a row and then checked it knows the row's sequence, as long as the row is free in that life
 abbrev pub Looks : Machine → Type 0
 Looks m =
-    (a r : ℕ) → a < m.bounds.agents → r < m.bounds.rows → saw (record_at m a).looked r ≡ true → saw (record_at m a).checked r ≡ true → word_in m (Gate r) ≡ 2 * number_of (record_at m a).looked → sequence_of (word_in m (Counter r)) ≡ number_of (record_at m a).checked
+    (a r : ℕ) → a < m.bounds.agents → r < m.bounds.rows → saw (record_at m a).looked r ≡ true → saw (record_at m a).checked r ≡ true
+    → word_in m (Gate r) ≡ 2 * number_of (record_at m a).looked → sequence_of (word_in m (Counter r)) ≡ number_of (record_at m a).checked
 
 -- no number of a row comes near the end of its bits
 pub record Ranges (m : Machine) : Type 0 where
   pub sequence : (r : ℕ) → r < m.bounds.rows → sequence_of (word_in m (Counter r)) < 2 ^ 39 + 2 ^ 19
   pub life : (r : ℕ) → r < m.bounds.rows → word_in m (Gate r) / 2 ≤ 2 ^ 39
-  pub count : (r : ℕ) → r < m.bounds.rows → (negsuc 4194303 ≤ℤ (counter_of (word_in m (Counter r))).count) × ((counter_of (word_in m (Counter r))).count ≤ℤ pos 4194303)
+  pub count : (r : ℕ) → r < m.bounds.rows → (negsuc 4194303 ≤ℤ (counter_of (word_in m (Counter r))).count)
+      × ((counter_of (word_in m (Counter r))).count ≤ℤ pos 4194303)

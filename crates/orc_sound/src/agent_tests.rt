@@ -285,7 +285,10 @@ fn one_part_in(agent: &Agent) -> bool
 }
 
 fn look_fits(state: &State, agent: &Agent, row: u32) -> bool
-    ensures { result ≡ (not (nat_lt row state.now.bounds.rows) || not (saw agent.now.checked row) || not (word_in state.now (Word.Gate row) == 2 * number_of agent.now.looked) || (sequence_of (word_in state.now (Word.Counter row)) == number_of agent.now.checked)) }
+    ensures { result ≡
+        (not (nat_lt row state.now.bounds.rows) || not (saw agent.now.checked row) || not
+        (word_in state.now (Word.Gate row) == 2 * number_of agent.now.looked) ||
+        (sequence_of (word_in state.now (Word.Counter row)) == number_of agent.now.checked)) }
 {
     if row >= state.shape().rows() || !agent.has_checked(row) {
         return true;

@@ -27,7 +27,8 @@ use Rattle.orc_table.proofs.Steps.{heap_is, tied}
 use Rattle.orc_table.proofs.Walks.{allowed_front, by, lawful_of, signed}
 
 -- the words of each journal show the heap of its events
-pub words_show : {N : Type 0} (b : Bounds) (j : List (PlainStep N)) → AllowedFrom b j → IsLawful (numbers b) (project b j) → Tie b (run b j).words (run b j).given (run_heap (numbers b) (project b j))
+pub words_show : {N : Type 0} (b : Bounds) (j : List (PlainStep N)) → AllowedFrom b j → IsLawful (numbers b) (project b j)
+    → Tie b (run b j).words (run b j).given (run_heap (numbers b) (project b j))
 words_show b j can lawful = subst (Tie b (run b j).words (run b j).given) (heap_is b (start b) j) (tied b j can lawful)
 
 pub ids_stay : (rows more : List ℕ) (row : ℕ) → index_of row rows < length rows → index_of row (rows ++ more) ≡ index_of row rows
@@ -39,7 +40,9 @@ below_join n a (e ∷ es) fs lt all b = (subst (λ z. z < n) (sym all.0) lt, bel
 
 events_below : {N : Type 0} (b : Bounds) (n : ℕ) (x : State) (j : List (PlainStep N)) → AgentsBelow by n j → IsBelow n (project_from b x j)
 events_below b n x [] l = tt
-events_below b n x (s ∷ ss) l = below_join n s.agent (events_at b x s) (project_from b (next b x s) ss) l.0 (signed x s.agent s.op (finds b x s.op) s.note) (events_below b n (next b x s) ss l.1)
+events_below b n x (s ∷ ss) l =
+    below_join n s.agent (events_at b x s) (project_from b (next b x s) ss) l.0 (signed x s.agent s.op (finds b x s.op) s.note)
+    (events_below b n (next b x s) ss l.1)
 
 pub below_right : {N : Type 0} (n : ℕ) (es fs : List (Event N)) → IsBelow n (es ++ fs) → IsBelow n fs
 below_right n [] fs b = b
@@ -55,12 +58,16 @@ none_at_all n [] b none = refl
 none_at_all n (e ∷ es) b none = absurd ((other_first e.agent e es (none e.agent b.0)).0 refl)
 
 -- a pass that took in those of all other agents meets no event
-pub alone : {N : Type 0} (n : ℕ) (may : List (Event N) → Event N → Type 0) (own : List (Event N)) (s t : PlainView N) → Adds may own s t → IsBelow n t.events → ((a : ℕ) → a < n → (s.agent ≡ a) ⊎ Among a s.absorbed) → t.events ≡ s.events ++ own
+pub alone : {N : Type 0} (n : ℕ) (may : List (Event N) → Event N → Type 0) (own : List (Event N)) (s t : PlainView N) → Adds may own s t
+    → IsBelow n t.events → ((a : ℕ) → a < n → (s.agent ≡ a) ⊎ Among a s.absorbed) → t.events ≡ s.events ++ own
 alone n may own s t adds below all =
-    let none : adds.met ≡ [] = none_at_all n adds.met (below_right n s.events adds.met (below_left n (s.events ++ adds.met) own (subst (IsBelow n) adds.events below))) (λ a lt. elim (all a lt) [ inl same ↦ subst (λ z. events_by z adds.met ≡ []) same adds.later.others | inr there ↦ adds.retired a there ]) in
+    let none : adds.met ≡ [] =
+    none_at_all n adds.met (below_right n s.events adds.met (below_left n (s.events ++ adds.met) own (subst (IsBelow n) adds.events below)))
+    (λ a lt. elim (all a lt) [ inl same ↦ subst (λ z. events_by z adds.met ≡ []) same adds.later.others | inr there ↦ adds.retired a there ]) in
     adds.events ∙ ap (λ l. l ++ own) (ap (λ l. s.events ++ l) none ∙ append-nil s.events)
 
-module _ {D N : Type 0} (d : discipline.Ghosts D N) (q : PlainShape N) (v : View (PlainStep N) (Unit {0})) (a : ℕ) (fresh looked : Option ℕ) (h : Keeps q (d.holds (numbers (bounds_of q.shape))) (d.may (numbers (bounds_of q.shape))) v a fresh) where
+module _ {D N : Type 0} (d : discipline.Ghosts D N) (q : PlainShape N) (v : View (PlainStep N) (Unit {0})) (a : ℕ) (fresh looked : Option ℕ)
+    (h : Keeps q (d.holds (numbers (bounds_of q.shape))) (d.may (numbers (bounds_of q.shape))) v a fresh) where
   abbrev k : Bounds
   k = bounds_of q.shape
 
@@ -72,7 +79,8 @@ module _ {D N : Type 0} (d : discipline.Ghosts D N) (q : PlainShape N) (v : View
 
   pub opened : IsPrefix (opening_events q.seed) s.events
   opened =
-      let first : AllowedFrom k (opening_steps q.seed) = allowed_front d k (opening_steps q.seed) h.now.opened.0 (subst (AllowedFrom k) (sym h.now.opened.1) h.now.lawful) in (
+      let first : AllowedFrom k (opening_steps q.seed) =
+      allowed_front d k (opening_steps q.seed) h.now.opened.0 (subst (AllowedFrom k) (sym h.now.opened.1) h.now.lawful) in (
         project_from k (run k (opening_steps q.seed)) h.now.opened.0,
         ap (λ l. l ++ project_from k (run k (opening_steps q.seed)) h.now.opened.0) (sym (opened_events d q.shape q.seed (lawful_roots d q.shape q.seed first)))
             ∙ (sym (project-append k (start k) (opening_steps q.seed) h.now.opened.0) ∙ ap (project k) h.now.opened.1),

@@ -1,5 +1,6 @@
 -- What licenses each step.
 use Rattle.std.proofs.Common.{◌≡◌, ◌≢◌, ℕ, ◌+◌, ◌*◌, ◌<◌, ◌==◌, List, [], ◌++◌, length, Bool, true, false, Option, Some, None, slice_index, refl, sym, ap, ◌∙◌, subst, arith, eq-eqb, length-append}
+use Rattle.orc_heap.proofs.Changes.{get_lt}
 use Rattle.std.proofs.lemmas.Bool.Decides.{nat_tests}
 use Rattle.orc_words.specs.Bounds.{Bounds, bounds_of}
 use Rattle.orc_words.specs.Packed.{bit, link_word}
@@ -32,7 +33,7 @@ use Rattle.orc_table.specs.declared.machine.PlainOp.{PlainOp}
 use Rattle.orc_table.specs.declared.machine.PlainOp.TheVariants.{Fill, LinkLoad, LinkCas, LinkStore}
 use Rattle.orc_table.specs.declared.machine.PlainStep.{PlainStep}
 use Rattle.orc_table.specs.declared.shape.PlainShape.{PlainShape}
-use Rattle.orc_table.proofs.Lists.{at_index, get_lt, index_grown, lt_get, some_one}
+use Rattle.orc_table.proofs.Lists.{at_index, index_grown, lt_get, some_one}
 use Rattle.orc_table.proofs.Ties.{Given, link_in, one_link, word_by}
 use Rattle.orc_table.proofs.Steps.{Tied, heap_is, tied}
 use Rattle.orc_table.proofs.Walks.{Mid, given_more, lawful_of, mid_fresh, mid_of, mid_target}
@@ -81,7 +82,13 @@ shows k x (word.Next row) tie h =
     let even = tie.even in
     let n = lt_get x.heap.nodes (index_of row x.given) (omega (arith, even, h)) in
     let here = at_index row x.given h in
-    record { link = n.0.link; is = ap link_in n.1; word = (tie.node (index_of row x.given) row n.0 here n.1).link; spot = tie.inside (index_of row x.given) row here }
+    record {
+      link = n.0.link;
+      is = ap link_in n.1;
+      word = (tie.node (index_of row x.given) row n.0 here n.1).link;
+      spot =
+          tie.inside (index_of row x.given) row here;
+    }
 shows k x at tie h = absurd h
 
 pub one_word : (g : List ℕ) (t : Option ℕ) (m : Bool) (n o : ℕ) → IsWord g t m n → IsWord g t m o → n ≡ o
@@ -92,20 +99,25 @@ is_equal : (m n : ℕ) → (m == n) ≡ true → m ≡ n
 is_equal m n e = grind (arith, nat_tests)
 
 -- the word found is the wanted one just where the place shows the wanted link
-pub hit : (k : Bounds) (x : State) (at : Word) (w : RowLink) (tie : Tied k x) (s : Shows k x at) → Given x.given w.to → (slice_index x.words (place k at) == link_word w) ≡ true → shown x.heap (place_by x.given at) ≡ Some (link_by x.given w)
+pub hit : (k : Bounds) (x : State) (at : Word) (w : RowLink) (tie : Tied k x) (s : Shows k x at) → Given x.given w.to
+    → (slice_index x.words (place k at) == link_word w) ≡ true → shown x.heap (place_by x.given at) ≡ Some (link_by x.given w)
 hit k x at w tie s given e =
     let n = is_equal _ (link_word w) e in
-    let both = one_link x.given tie.once s.link.to (id_by x.given w.to) s.link.mark w.mark (slice_index x.words (place k at)) s.word (subst (IsWord x.given (id_by x.given w.to) w.mark) (sym n) (word_by x.given w.to w.mark given)) in
+    let both = one_link x.given tie.once s.link.to (id_by x.given w.to) s.link.mark w.mark (slice_index x.words (place k at)) s.word
+    (subst (IsWord x.given (id_by x.given w.to) w.mark) (sym n) (word_by x.given w.to w.mark given)) in
     s.is ∙ λ i. Some (record { to = both.0 i; mark = both.1 i })
 
-pub missed : (k : Bounds) (x : State) (at : Word) (w : RowLink) (tie : Tied k x) (s : Shows k x at) → Given x.given w.to → (slice_index x.words (place k at) == link_word w) ≡ false → s.link ≢ link_by x.given w
+pub missed : (k : Bounds) (x : State) (at : Word) (w : RowLink) (tie : Tied k x) (s : Shows k x at) → Given x.given w.to
+    → (slice_index x.words (place k at) == link_word w) ≡ false → s.link ≢ link_by x.given w
 missed k x at w tie s given e q =
-    let same : IsWord x.given (id_by x.given w.to) w.mark (slice_index x.words (place k at)) = subst (λ (z : Link). IsWord x.given z.to z.mark (slice_index x.words (place k at))) q s.word in
+    let same : IsWord x.given (id_by x.given w.to) w.mark (slice_index x.words (place k at)) =
+    subst (λ (z : Link). IsWord x.given z.to z.mark (slice_index x.words (place k at))) q s.word in
     let n = one_word x.given (id_by x.given w.to) w.mark (slice_index x.words (place k at)) (link_word w) same (word_by x.given w.to w.mark given) in
     let t = eq-eqb (slice_index x.words (place k at)) (link_word w) n in
     cc
 
-module _ {D N : Type 0} (d : discipline.Ghosts D N) (q : PlainShape N) (v : View (PlainStep N) (Unit {0})) (a : ℕ) (fresh looked : Option ℕ) (h : Keeps q (d.holds (numbers (bounds_of q.shape))) (d.may (numbers (bounds_of q.shape))) v a fresh) where
+module _ {D N : Type 0} (d : discipline.Ghosts D N) (q : PlainShape N) (v : View (PlainStep N) (Unit {0})) (a : ℕ) (fresh looked : Option ℕ)
+    (h : Keeps q (d.holds (numbers (bounds_of q.shape))) (d.may (numbers (bounds_of q.shape))) v a fresh) where
   abbrev k : Bounds
   k = bounds_of q.shape
 
@@ -157,14 +169,16 @@ module _ {D N : Type 0} (d : discipline.Ghosts D N) (q : PlainShape N) (v : View
 
   -- a step is licensed where its event is allowed at each state that the pass may come upon
   pub from_mid : (op : PlainOp) (said : Option N)
-      → ((between : List (PlainStep N)) → Mid k may v.seen between a → holds (project k (v.seen ++ between)) → Each (may (project k (v.seen ++ between))) (events_of (run_from k (run k v.seen) between) a op (finds k (run_from k (run k v.seen) between) op) said))
+      → ((between : List (PlainStep N)) → Mid k may v.seen between a → holds (project k (v.seen ++ between))
+      → Each (may (project k (v.seen ++ between))) (events_of (run_from k (run k v.seen) between) a op (finds k (run_from k (run k v.seen) between) op) said))
       → Licensed plain_rules q holds may v a op said
   from_mid op said f between none later =
       let m = mid_of d k v.seen between a h.began none later.lawful later.each in
       subst (λ z. Each (may (project k (v.seen ++ between))) (events_of z a op (finds k z op) said)) (sym m.state) (f between m later.kept)
 
   -- a plain event that fits
-  pub stands : (seen : List (PlainStep N)) (x : State) (e : Event N) → run_heap (numbers k) (project k seen) ≡ x.heap → holds (project k seen) → Fits e.agent e.act x.heap → IsPlain e → may (project k seen) e
+  pub stands : (seen : List (PlainStep N)) (x : State) (e : Event N) → run_heap (numbers k) (project k seen) ≡ x.heap → holds (project k seen)
+      → Fits e.agent e.act x.heap → IsPlain e → may (project k seen) e
   stands seen x e heap hk f plain = d.allows_plain (numbers k) (project k seen) e hk (subst (λ z. Fits e.agent e.act z) (sym heap) f) plain
 
   look_licence : (at : Word) → KnowsPlace k s at → Licensed plain_rules q holds may v a (LinkLoad at None) None
@@ -172,22 +186,28 @@ module _ {D N : Type 0} (d : discipline.Ghosts D N) (q : PlainShape N) (v : View
       (λ between m hk. let x : State = run_from k (run k v.seen) between in
       let g = given_more k (run k v.seen) between in
       let s = shows k x at m.tie (place_grown k g0 g.0 x.given at (sym g.1) (place_given at knows)).0 in
-      stands (v.seen ++ between) x (event_by a (act.Look (place_by x.given at) (link_at (shown x.heap (place_by x.given at)))) None) m.heap hk (s.is ∙ ap Some (sym (ap link_at s.is))) (refl, tt))
+      stands (v.seen ++ between) x (event_by a (act.Look (place_by x.given at) (link_at (shown x.heap (place_by x.given at)))) None) m.heap hk
+      (s.is ∙ ap Some (sym (ap link_at s.is))) (refl, tt))
 
-  test : (seen : List (PlainStep N)) (x : State) (at : Word) (w : RowLink) (done : Event N) (heap : run_heap (numbers k) (project k seen) ≡ x.heap) (hk : holds (project k seen)) (tie : Tied k x) (s : Shows k x at) (given : Given x.given w.to)
+  test : (seen : List (PlainStep N)) (x : State) (at : Word) (w : RowLink) (done : Event N) (heap : run_heap (numbers k) (project k seen) ≡ x.heap)
+      (hk : holds (project k seen)) (tie : Tied k x) (s : Shows k x at) (given : Given x.given w.to)
       → (shown x.heap (place_by x.given at) ≡ Some (link_by x.given w) → may (project k seen) done)
       → (b : Bool) → (slice_index x.words (place k at) == link_word w) ≡ b → may (project k seen) (tested x a (place_by x.given at) (link_by x.given w) done b)
   test seen x at w done heap hk tie s given can true e = can (hit k x at w tie s given e)
   test seen x at w done heap hk tie s given can false e =
       let r : s.link ≡ link_at (shown x.heap (place_by x.given at)) = sym (ap link_at s.is) in
-      stands seen x (event_by a (act.Miss (place_by x.given at) (link_by x.given w) (link_at (shown x.heap (place_by x.given at)))) None) heap hk (s.is ∙ ap Some r, (λ z. missed k x at w tie s given e (r ∙ z))) (refl, tt)
+      stands seen x (event_by a (act.Miss (place_by x.given at) (link_by x.given w) (link_at (shown x.heap (place_by x.given at)))) None) heap hk
+      (s.is ∙ ap Some r, (λ z. missed k x at w tie s given e (r ∙ z))) (refl, tt)
 
   -- the caller's licence, at a state that the pass may come upon
   may_test : (at : Word) (w t : RowLink) (done : Place → Link → Link → Event N) → KnowsPlace k s at → KnowsTarget k s w → KnowsTarget k s t
       → AllowedLater may (numbers k) a (project k v.seen) (place_by g0 at) (link_by g0 w) (done (place_by g0 at) (link_by g0 w) (link_by g0 t))
       → (between : List (PlainStep N)) (m : Mid k may v.seen between a) → holds (project k (v.seen ++ between))
-      → may (project k (v.seen ++ between)) (tested (run_from k (run k v.seen) between) a (place_by (run_from k (run k v.seen) between).given at) (link_by (run_from k (run k v.seen) between).given w)
-      (done (place_by (run_from k (run k v.seen) between).given at) (link_by (run_from k (run k v.seen) between).given w) (link_by (run_from k (run k v.seen) between).given t))
+      → may (project k (v.seen ++ between))
+      (tested (run_from k (run k v.seen) between) a (place_by (run_from k (run k v.seen) between).given at)
+      (link_by (run_from k (run k v.seen) between).given w)
+      (done (place_by (run_from k (run k v.seen) between).given at) (link_by (run_from k (run k v.seen) between).given w)
+      (link_by (run_from k (run k v.seen) between).given t))
       (slice_index (run_from k (run k v.seen) between).words (place k at) == link_word w))
   may_test at w t done knows from to allowed between m hk =
       let x : State = run_from k (run k v.seen) between in
@@ -200,8 +220,10 @@ module _ {D N : Type 0} (d : discipline.Ghosts D N) (q : PlainShape N) (v : View
       let heap : x.heap ≡ run_heap (numbers k) (project k v.seen ++ es) = sym m.heap ∙ ap (run_heap (numbers k)) m.events in
       test (v.seen ++ between) x at w (done (place_by x.given at) (link_by x.given w) (link_by x.given t)) m.heap hk m.tie s lw.0
       (λ e.
-      let there : shown (run_heap (numbers k) (project k v.seen ++ es)) (place_by g0 at) ≡ Some (link_by g0 w) = subst (λ (z : Heap × Place × Link). shown z.0 z.1 ≡ Some z.2) (λ i. (heap i, sp.1 i, lw.1 i)) e in
-      let ok : may (project k v.seen ++ es) (done (place_by g0 at) (link_by g0 w) (link_by g0 t)) = allowed es record { allowed = m.allowed; others = m.none } there in
+      let there : shown (run_heap (numbers k) (project k v.seen ++ es)) (place_by g0 at) ≡ Some (link_by g0 w) =
+      subst (λ (z : Heap × Place × Link). shown z.0 z.1 ≡ Some z.2) (λ i. (heap i, sp.1 i, lw.1 i)) e in
+      let ok : may (project k v.seen ++ es) (done (place_by g0 at) (link_by g0 w) (link_by g0 t)) =
+      allowed es record { allowed = m.allowed; others = m.none } there in
       subst (λ (z : List (Event N) × Place × Link × Link). may z.0 (done z.1 z.2 z.3)) (λ i. (sym m.events i, sym sp.1 i, sym lw.1 i, sym lt.1 i)) ok)
       (slice_index x.words (place k at) == link_word w)
       refl
@@ -209,32 +231,42 @@ module _ {D N : Type 0} (d : discipline.Ghosts D N) (q : PlainShape N) (v : View
   -- a look that has no note is allowed wherever it fits
   plain_look : (at : Word) (w : RowLink) → MayWhereShown may k s at w (look_event s at w None)
   plain_look at w more later there =
-      d.allows_plain (numbers k) (project k v.seen ++ more) (look_event s at w None) (stays may holds (λ es e p m. d.keeps (numbers k) es e p m) (project k v.seen) more h.now.kept later.allowed) there (refl, tt)
+      d.allows_plain (numbers k) (project k v.seen ++ more) (look_event s at w None)
+      (stays may holds (λ es e p m. d.keeps (numbers k) es e p m) (project k v.seen) more h.now.kept later.allowed) there (refl, tt)
 
-  want_licence : (at : Word) (w : RowLink) (said : Option N) → KnowsPlace k s at → KnowsTarget k s w → MayWhereShown may k s at w (look_event s at w said) → Licensed plain_rules q holds may v a (LinkLoad at (Some w)) said
-  want_licence at w said knows from allowed = from_mid (LinkLoad at (Some w)) said (may_test at w w (λ p l _. event_by a (act.Look p l) said) knows from from allowed)
+  want_licence : (at : Word) (w : RowLink) (said : Option N) → KnowsPlace k s at → KnowsTarget k s w
+      → MayWhereShown may k s at w (look_event s at w said) → Licensed plain_rules q holds may v a (LinkLoad at (Some w)) said
+  want_licence at w said knows from allowed =
+      from_mid (LinkLoad at (Some w)) said (may_test at w w (λ p l _. event_by a (act.Look p l) said) knows from from allowed)
 
   -- a load that may want a link, and may have a note
-  pub load_licence : (at : Word) (want : Option RowLink) (said : Option N) → KnowsPlace k s at → ((w : RowLink) → want ≡ Some w → KnowsTarget k s w) → (want ≡ None → said ≡ None)
-      → ((w : RowLink) (x : N) → want ≡ Some w → said ≡ Some x → MayWhereShown may k s at w (look_event s at w said)) → Licensed plain_rules q holds may v a (LinkLoad at want) said
+  pub load_licence : (at : Word) (want : Option RowLink) (said : Option N) → KnowsPlace k s at → ((w : RowLink) → want ≡ Some w → KnowsTarget k s w)
+      → (want ≡ None → said ≡ None)
+      → ((w : RowLink) (x : N) → want ≡ Some w → said ≡ Some x → MayWhereShown may k s at w (look_event s at w said))
+      → Licensed plain_rules q holds may v a (LinkLoad at want) said
   load_licence at None said knows known none allowed = subst (Licensed plain_rules q holds may v a (LinkLoad at None)) (sym (none refl)) (look_licence at knows)
   load_licence at (Some w) None knows known none allowed = want_licence at w None knows (known w refl) (plain_look at w)
   load_licence at (Some w) (Some x) knows known none allowed = want_licence at w (Some x) knows (known w refl) (allowed w x refl refl)
 
-  pub cas_licence : (at : Word) (w t : RowLink) (said : Option N) → KnowsPlace k s at → KnowsTarget k s w → KnowsTarget k s t → MayWhereShown may k s at w (move_event s at w t said) → Licensed plain_rules q holds may v a (LinkCas at w t) said
-  cas_licence at w t said knows from to allowed = from_mid (LinkCas at w t) said (may_test at w t (λ p l m. event_by a (act.Move p l m) said) knows from to allowed)
+  pub cas_licence : (at : Word) (w t : RowLink) (said : Option N) → KnowsPlace k s at → KnowsTarget k s w → KnowsTarget k s t
+      → MayWhereShown may k s at w (move_event s at w t said) → Licensed plain_rules q holds may v a (LinkCas at w t) said
+  cas_licence at w t said knows from to allowed =
+      from_mid (LinkCas at w t) said (may_test at w t (λ p l m. event_by a (act.Move p l m) said) knows from to allowed)
 
   -- the fresh row's node is fresh at each state that the pass may come upon
-  fresh_at : (between : List (PlainStep N)) (m : Mid k may v.seen between a) (row : ℕ) → fresh ≡ Some row → IsFresh a (run_from k (run k v.seen) between).heap (index_of row (run_from k (run k v.seen) between).given)
+  fresh_at : (between : List (PlainStep N)) (m : Mid k may v.seen between a) (row : ℕ) → fresh ≡ Some row
+      → IsFresh a (run_from k (run k v.seen) between).heap (index_of row (run_from k (run k v.seen) between).given)
   fresh_at between m row e =
       let u = mid_fresh k may v.seen between a m (Some row) (subst (FreshHeld a (run k v.seen)) e h.untouched) in
       record { node = u.1.node; there = u.1.there; mine = u.1.mine; unlinked = u.1.unlinked }
 
   pub fill_licence : (row which value : ℕ) → fresh ≡ Some row → which < 2 → Licensed plain_rules q holds may v a (Fill row which value) None
   fill_licence row which value is low = from_mid (Fill row which value) None
-      (λ between m hk. let x : State = run_from k (run k v.seen) between in stands (v.seen ++ between) x (event_by a (act.Fill (index_of row x.given) which value) None) m.heap hk (fresh_at between m row is, low) (refl, tt))
+      (λ between m hk. let x : State = run_from k (run k v.seen) between in
+      stands (v.seen ++ between) x (event_by a (act.Fill (index_of row x.given) which value) None) m.heap hk (fresh_at between m row is, low) (refl, tt))
 
-  pub store_licence : (row : ℕ) (l : RowLink) → fresh ≡ Some row → KnowsTarget k s l → MayWhereFits may k s (aim_event s row l) → Licensed plain_rules q holds may v a (LinkStore row l.to) None
+  pub store_licence : (row : ℕ) (l : RowLink) → fresh ≡ Some row → KnowsTarget k s l → MayWhereFits may k s (aim_event s row l)
+      → Licensed plain_rules q holds may v a (LinkStore row l.to) None
   store_licence row l is knows allowed = from_mid (LinkStore row l.to) None
       (λ between m hk.
       let x : State = run_from k (run k v.seen) between in
@@ -245,7 +277,11 @@ module _ {D N : Type 0} (d : discipline.Ghosts D N) (q : PlainShape N) (v : View
       let one : index_of row x.given ≡ index_of row g0 = ap (index_of row) (sym g.1) ∙ index_grown row g0 g.0 held.0 in
       let to : id_by x.given l.to ≡ id_by g0 l.to = ap (λ (z : Link). z.to) lw.1 in
       let heap : x.heap ≡ run_heap (numbers k) (project k v.seen ++ es) = sym m.heap ∙ ap (run_heap (numbers k)) m.events in
-      let target : IsTarget a x.heap (id_by g0 l.to) = mid_target k may v.seen between a m (id_by g0 l.to) (subst (λ z. IsTarget a z (id_by g0 l.to)) heap_now knows) in
-      let fits : FitsAfter (numbers k) (project k v.seen ++ es) (aim_event s row l) = (subst (λ (z : Heap × ℕ). IsFresh a z.0 z.1) (λ i. (heap i, one i)) (fresh_at between m row is), subst (λ z. IsTarget a z (id_by g0 l.to)) heap target) in
+      let target : IsTarget a x.heap (id_by g0 l.to) =
+      mid_target k may v.seen between a m (id_by g0 l.to) (subst (λ z. IsTarget a z (id_by g0 l.to)) heap_now knows) in
+      let fits : FitsAfter (numbers k) (project k v.seen ++ es) (aim_event s row l) = (
+        subst (λ (z : Heap × ℕ). IsFresh a z.0 z.1) (λ i. (heap i, one i)) (fresh_at between m row is),
+        subst (λ z. IsTarget a z (id_by g0 l.to)) heap target,
+      ) in
       let ok : may (project k v.seen ++ es) (aim_event s row l) = allowed es record { allowed = m.allowed; others = m.none } fits in
       subst (λ (z : List (Event N) × ℕ × Option ℕ). may z.0 (event_by a (act.Aim z.1 z.2) None)) (λ i. (sym m.events i, sym one i, sym to i)) ok)

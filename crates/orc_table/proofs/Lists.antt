@@ -9,11 +9,6 @@ use Rattle.orc_table.specs.Words.{Once}
 pub some_one : {A : Type 0} (a b : A) → Some a ≡ Some b → a ≡ b
 some_one a b e = cc
 
-pub get_lt : {A : Type 0} (xs : List A) (i : ℕ) (x : A) → slice_get xs i ≡ Some x → i < length xs
-get_lt [] i x e = cc
-get_lt (y ∷ xs) zero x e = omega arith
-get_lt (y ∷ xs) (suc i) x e = let l = get_lt xs i x e in omega arith
-
 pub lt_get : {A : Type 0} (xs : List A) (i : ℕ) → i < length xs → (x : A) × (slice_get xs i ≡ Some x)
 lt_get [] i l = absurd (omega arith)
 lt_get (y ∷ xs) zero l = (y, refl)
@@ -39,11 +34,6 @@ change_back f zero (suc j) (x ∷ xs) y e = inr ((λ h. cc), e)
 change_back f (suc i) zero (x ∷ xs) y e = inr ((λ h. cc), e)
 change_back f (suc i) (suc j) (x ∷ xs) y e =
     elim (change_back f i j xs y e) [ inl r ↦ inl (ap suc r.0, r.1, r.2, r.3) | inr r ↦ inr ((λ h. r.0 (cc)), r.1) ]
-
-pub length_change : {A : Type 0} (f : A → A) (i : ℕ) (xs : List A) → length (change f i xs) ≡ length xs
-length_change f i [] = refl
-length_change f zero (x ∷ xs) = refl
-length_change f (suc i) (x ∷ xs) = ap suc (length_change f i xs)
 
 pub index_here : (row x : ℕ) (xs : List ℕ) → x ≡ row → index_of row (x ∷ xs) ≡ 0
 index_here row x xs e = ap (λ (b : Bool). if b then 0 else suc (index_of row xs)) (eq-eqb x row e)

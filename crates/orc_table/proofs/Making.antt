@@ -14,8 +14,10 @@ use Rattle.orc_table.specs.declared.machine.PlainStep.{PlainStep}
 use Rattle.orc_table.specs.declared.shape.PlainShape.{PlainShape}
 
 module _ {D N : Type 0} (d : discipline.Ghosts D N) where
-  opened_keeps : (q : PlainShape N) → Opens plain_rules q (d.holds (numbers (bounds_of q.shape))) (d.may (numbers (bounds_of q.shape))) → d.holds (numbers (bounds_of q.shape)) []
-      → (v : View (PlainStep N) (Unit {0})) (a : ℕ) → v.agent ≡ Some a → a < (bounds_of q.shape).agents → v.seen ≡ opening_steps q.seed → Keeps q (d.holds (numbers (bounds_of q.shape))) (d.may (numbers (bounds_of q.shape))) v a None
+  opened_keeps : (q : PlainShape N) → Opens plain_rules q (d.holds (numbers (bounds_of q.shape))) (d.may (numbers (bounds_of q.shape)))
+      → d.holds (numbers (bounds_of q.shape)) []
+      → (v : View (PlainStep N) (Unit {0})) (a : ℕ) → v.agent ≡ Some a → a < (bounds_of q.shape).agents → v.seen ≡ opening_steps q.seed
+      → Keeps q (d.holds (numbers (bounds_of q.shape))) (d.may (numbers (bounds_of q.shape))) v a None
   opened_keeps q opens began v a is below seen = record {
     is = is;
     number = below;
@@ -33,6 +35,10 @@ module _ {D N : Type 0} (d : discipline.Ghosts D N) where
   }
 
   -- a pass that has seen the opening, of a board of this shape
-  pub new_keeps : (q r : PlainShape N) → r ≡ q → Opens plain_rules q (d.holds (numbers (bounds_of q.shape))) (d.may (numbers (bounds_of q.shape))) → d.holds (numbers (bounds_of q.shape)) []
-      → (v : View (PlainStep N) (Unit {0})) (a : ℕ) → v.agent ≡ Some a → a < (bounds_of q.shape).agents → v.seen ≡ opening_steps q.seed → (fresh : Option ℕ) → fresh ≡ None → Keeps r (d.holds (numbers (bounds_of r.shape))) (d.may (numbers (bounds_of r.shape))) v a fresh
-  new_keeps q r same opens began v a is below seen fresh none = subst (λ (z : PlainShape N × Option ℕ). Keeps z.0 (d.holds (numbers (bounds_of z.0.shape))) (d.may (numbers (bounds_of z.0.shape))) v a z.1) (λ i. (sym same i, sym none i)) (opened_keeps q opens began v a is below seen)
+  pub new_keeps : (q r : PlainShape N) → r ≡ q → Opens plain_rules q (d.holds (numbers (bounds_of q.shape))) (d.may (numbers (bounds_of q.shape)))
+      → d.holds (numbers (bounds_of q.shape)) []
+      → (v : View (PlainStep N) (Unit {0})) (a : ℕ) → v.agent ≡ Some a → a < (bounds_of q.shape).agents → v.seen ≡ opening_steps q.seed
+      → (fresh : Option ℕ) → fresh ≡ None → Keeps r (d.holds (numbers (bounds_of r.shape))) (d.may (numbers (bounds_of r.shape))) v a fresh
+  new_keeps q r same opens began v a is below seen fresh none =
+      subst (λ (z : PlainShape N × Option ℕ). Keeps z.0 (d.holds (numbers (bounds_of z.0.shape))) (d.may (numbers (bounds_of z.0.shape))) v a z.1)
+      (λ i. (sym same i, sym none i)) (opened_keeps q opens began v a is below seen)

@@ -36,13 +36,25 @@ module _ {N : Type 0} (b : Bounds) (first : ℕ) (begin : N) (roots : 2 ≤ b.ro
   dummy_words = slice_set (slice_set node_words (place b (word.Root 0)) 2) (place b (word.Root 1)) 2
 
   abbrev given_state : State
-  given_state = record { words = slice_set (new_words b) (place b (word.Gate 0)) 3; given = 0 ∷ []; heap = heap_from (new_heap (numbers b)) (event_by {N = N} 0 act.Give None ∷ []) }
+  given_state =
+      record {
+        words = slice_set (new_words b) (place b (word.Gate 0)) 3;
+        given = 0 ∷ [];
+        heap =
+            heap_from (new_heap (numbers b)) (event_by {N = N} 0 act.Give None ∷ []);
+      }
 
   abbrev filled_state : State
   filled_state = record { words = node_words; given = 0 ∷ []; heap = heap_from (new_heap (numbers b)) (dummy_node {N = N} first) }
 
   abbrev linked_state : State
-  linked_state = record { words = slice_set node_words (place b (word.Root 0)) 2; given = 0 ∷ []; heap = heap_from (new_heap (numbers b)) (dummy_node {N = N} first ++ dummy_link 0 begin ∷ []) }
+  linked_state =
+      record {
+        words = slice_set node_words (place b (word.Root 0)) 2;
+        given = 0 ∷ [];
+        heap =
+            heap_from (new_heap (numbers b)) (dummy_node {N = N} first ++ dummy_link 0 begin ∷ []);
+      }
 
   zero_gate : slice_index (new_words b) (place b (word.Gate 0)) ≡ 0
   zero_gate = ((tie_start b).free 0 rows (λ id e. cc)).gate
@@ -52,7 +64,8 @@ module _ {N : Type 0} (b : Bounds) (first : ℕ) (begin : N) (roots : 2 ≤ b.ro
 
   node_root : (r : ℕ) → r < b.roots → slice_index node_words (place b (word.Root r)) ≡ 0
   node_root r lt =
-      same_word (slice_set (slice_set (new_words b) (place b (word.Gate 0)) 3) (place b (word.First 0)) 0) (place b (word.Second 0)) first (place b (word.Root r)) (λ e. omega (arith, e, lt))
+      same_word (slice_set (slice_set (new_words b) (place b (word.Gate 0)) 3) (place b (word.First 0)) 0) (place b (word.Second 0)) first
+      (place b (word.Root r)) (λ e. omega (arith, e, lt))
       ∙ (same_word (slice_set (new_words b) (place b (word.Gate 0)) 3) (place b (word.First 0)) 0 (place b (word.Root r)) (λ e. omega (arith, e, lt))
       ∙ (same_word (new_words b) (place b (word.Gate 0)) 3 (place b (word.Root r)) (λ e. omega (arith, e, lt)) ∙ zero_root r lt))
 
@@ -60,27 +73,46 @@ module _ {N : Type 0} (b : Bounds) (first : ℕ) (begin : N) (roots : 2 ≤ b.ro
   second_root = same_word node_words (place b (word.Root 0)) 2 (place b (word.Root 1)) (λ e. omega (arith, e)) ∙ node_root 1 (omega (arith, roots))
 
   given_first : next b (start b) (step_of {N = N} 0 (GateTake 0) None) ≡ given_state
-  given_first = ap (λ (h : Bool). record { words = slice_set (new_words b) (place b (word.Gate 0)) (cond h 3 (slice_index (new_words b) (place b (word.Gate 0)))); given = if h then 0 ∷ [] else []; heap = heap_from (new_heap (numbers b)) (if h then event_by {N = N} 0 act.Give None ∷ [] else []) })
+  given_first =
+      ap (λ (h : Bool). record {
+        words =
+            slice_set (new_words b) (place b (word.Gate 0)) (cond h 3 (slice_index (new_words b) (place b (word.Gate 0))));
+        given =
+            if h then 0 ∷ [] else [];
+        heap = heap_from (new_heap (numbers b)) (if h then event_by {N = N} 0 act.Give None ∷ [] else []);
+      })
       (eq-eqb (slice_index (new_words b) (place b (word.Gate 0))) 0 zero_gate)
 
   give_event : events_at b (start b) (step_of {N = N} 0 (GateTake 0) None) ≡ event_by 0 act.Give None ∷ []
-  give_event = ap (λ (h : Bool). if h then event_by {N = N} 0 act.Give None ∷ [] else []) (eq-eqb (slice_index (new_words b) (place b (word.Gate 0))) 0 zero_gate)
+  give_event =
+      ap (λ (h : Bool). if h then event_by {N = N} 0 act.Give None ∷ [] else []) (eq-eqb (slice_index (new_words b) (place b (word.Gate 0))) 0 zero_gate)
 
   abbrev link_step : ℕ → PlainStep N
   link_step r = step_of 0 (LinkCas (word.Root r) (unmarked None) (unmarked (Some 0))) (Some begin)
 
   first_linked : next b filled_state (link_step 0) ≡ linked_state
-  first_linked = ap (λ (h : Bool). record { words = slice_set node_words (place b (word.Root 0)) (cond h 2 (slice_index node_words (place b (word.Root 0)))); given = 0 ∷ []; heap = heap_from filled_state.heap (tested filled_state 0 (Root 0) null (dummy_link 0 begin) h ∷ []) })
+  first_linked =
+      ap (λ (h : Bool). record {
+        words = slice_set node_words (place b (word.Root 0)) (cond h 2 (slice_index node_words (place b (word.Root 0))));
+        given = 0 ∷ [];
+        heap = heap_from filled_state.heap (tested filled_state 0 (Root 0) null (dummy_link 0 begin) h ∷ []);
+      })
       (eq-eqb (slice_index node_words (place b (word.Root 0))) 0 (node_root 0 (omega (arith, roots))))
 
   first_event : events_at b filled_state (link_step 0) ≡ dummy_link 0 begin ∷ []
-  first_event = ap (λ (h : Bool). tested filled_state 0 (Root 0) null (dummy_link 0 begin) h ∷ []) (eq-eqb (slice_index node_words (place b (word.Root 0))) 0 (node_root 0 (omega (arith, roots))))
+  first_event =
+      ap (λ (h : Bool). tested filled_state 0 (Root 0) null (dummy_link 0 begin) h ∷ [])
+      (eq-eqb (slice_index node_words (place b (word.Root 0))) 0 (node_root 0 (omega (arith, roots))))
 
   second_event : events_at b linked_state (link_step 1) ≡ dummy_link 1 begin ∷ []
-  second_event = ap (λ (h : Bool). tested linked_state 0 (Root 1) null (dummy_link 1 begin) h ∷ []) (eq-eqb (slice_index linked_state.words (place b (word.Root 1))) 0 second_root)
+  second_event =
+      ap (λ (h : Bool). tested linked_state 0 (Root 1) null (dummy_link 1 begin) h ∷ [])
+      (eq-eqb (slice_index linked_state.words (place b (word.Root 1))) 0 second_root)
 
   second_words : (next b linked_state (link_step 1)).words ≡ dummy_words
-  second_words = ap (λ (h : Bool). slice_set linked_state.words (place b (word.Root 1)) (cond h 2 (slice_index linked_state.words (place b (word.Root 1))))) (eq-eqb (slice_index linked_state.words (place b (word.Root 1))) 0 second_root)
+  second_words =
+      ap (λ (h : Bool). slice_set linked_state.words (place b (word.Root 1)) (cond h 2 (slice_index linked_state.words (place b (word.Root 1)))))
+      (eq-eqb (slice_index linked_state.words (place b (word.Root 1))) 0 second_root)
 
   rest : List (PlainStep N)
   rest = step_of 0 (Fill 0 0 0) None ∷ step_of 0 (Fill 0 1 first) None ∷ link_step 0 ∷ link_step 1 ∷ []
@@ -89,7 +121,8 @@ module _ {N : Type 0} (b : Bounds) (first : ℕ) (begin : N) (roots : 2 ≤ b.ro
   unfolding rest
   dummy_events =
       (λ i. give_event i ++ project_from b (given_first i) rest)
-      ∙ ((λ i. event_by 0 act.Give None ∷ event_by 0 (act.Fill 0 0 0) None ∷ event_by 0 (act.Fill 0 1 first) None ∷ (first_event i ++ (events_at b (first_linked i) (link_step 1) ++ [])))
+      ∙ ((λ i. event_by 0 act.Give None ∷ event_by 0 (act.Fill 0 0 0) None ∷ event_by 0 (act.Fill 0 1 first) None
+      ∷ (first_event i ++ (events_at b (first_linked i) (link_step 1) ++ [])))
       ∙ (λ i. event_by 0 act.Give None ∷ event_by 0 (act.Fill 0 0 0) None ∷ event_by 0 (act.Fill 0 1 first) None ∷ dummy_link 0 begin ∷ (second_event i ++ [])))
 
   pub dummy_run : (run b (opening_steps (Dummy first begin))).words ≡ dummy_words
@@ -97,11 +130,14 @@ module _ {N : Type 0} (b : Bounds) (first : ℕ) (begin : N) (roots : 2 ≤ b.ro
   dummy_run = ap (λ (x : State). (run_from b x rest).words) given_first ∙ (ap (λ (x : State). (next b x (link_step 1)).words) first_linked ∙ second_words)
 
   -- the writes of the code
-  pub written_words : (items : List ℕ) (p1 p2 p3 p4 p5 link : ℕ) → items ≡ new_words b → p1 ≡ place b (word.Gate 0) → p2 ≡ place b (word.First 0) → p3 ≡ place b (word.Second 0) → p4 ≡ place b (word.Root 0) → p5 ≡ place b (word.Root 1) → link ≡ 2
+  pub written_words : (items : List ℕ) (p1 p2 p3 p4 p5 link : ℕ) → items ≡ new_words b → p1 ≡ place b (word.Gate 0) → p2 ≡ place b (word.First 0)
+      → p3 ≡ place b (word.Second 0) → p4 ≡ place b (word.Root 0) → p5 ≡ place b (word.Root 1) → link ≡ 2
       → slice_set (slice_set (slice_set (slice_set (slice_set items p1 3) p2 0) p3 first) p4 link) p5 link ≡ (run b (opening_steps (Dummy first begin))).words
-  written_words items p1 p2 p3 p4 p5 link e e1 e2 e3 e4 e5 e6 = (λ i. slice_set (slice_set (slice_set (slice_set (slice_set (e i) (e1 i) 3) (e2 i) 0) (e3 i) first) (e4 i) (e6 i)) (e5 i) (e6 i)) ∙ sym dummy_run
+  written_words items p1 p2 p3 p4 p5 link e e1 e2 e3 e4 e5 e6 =
+      (λ i. slice_set (slice_set (slice_set (slice_set (slice_set (e i) (e1 i) 3) (e2 i) 0) (e3 i) first) (e4 i) (e6 i)) (e5 i) (e6 i)) ∙ sym dummy_run
 
-module _ {D N : Type 0} (d : discipline.Ghosts D N) (b : Bounds) (first : ℕ) (begin : N) (began : d.holds (numbers b) []) (can : DummyAllowed d.may (numbers b) first begin) where
+module _ {D N : Type 0} (d : discipline.Ghosts D N) (b : Bounds) (first : ℕ) (begin : N) (began : d.holds (numbers b) [])
+    (can : DummyAllowed d.may (numbers b) first begin) where
   abbrev holds : List (Event N) → Type 0
   holds = d.holds (numbers b)
 
@@ -115,12 +151,18 @@ module _ {D N : Type 0} (d : discipline.Ghosts D N) (b : Bounds) (first : ℕ) (
       let e2 : Event N = event_by 0 (act.Fill 0 1 first) None in
       let m0 : may [] e0 = d.allows_plain (numbers b) [] e0 began tt (refl, tt) in
       let h1 : holds (e0 ∷ []) = d.keeps (numbers b) [] e0 began m0 in
-      let m1 : may (e0 ∷ []) e1 = d.allows_plain (numbers b) (e0 ∷ []) e1 h1 (record { node = new_node 0; there = refl; mine = refl; unlinked = refl }, omega arith) (refl, tt) in
+      let m1 : may (e0 ∷ []) e1 =
+      d.allows_plain (numbers b) (e0 ∷ []) e1 h1 (record { node = new_node 0; there = refl; mine = refl; unlinked = refl }, omega arith) (refl, tt) in
       let h2 : holds (e0 ∷ e1 ∷ []) = d.keeps (numbers b) (e0 ∷ []) e1 h1 m1 in
-      let m2 : may (e0 ∷ e1 ∷ []) e2 = d.allows_plain (numbers b) (e0 ∷ e1 ∷ []) e2 h2 (record { node = with_value 0 0 (new_node 0); there = refl; mine = refl; unlinked = refl }, omega arith) (refl, tt) in
+      let m2 : may (e0 ∷ e1 ∷ []) e2 =
+      d.allows_plain (numbers b) (e0 ∷ e1 ∷ []) e2 h2 (
+        record { node = with_value 0 0 (new_node 0); there = refl; mine = refl; unlinked = refl },
+        omega arith,
+      ) (refl, tt) in
       (m0, (m1, (m2, (can.first_link, (can.second_link, tt)))))
 
-pub has_roots : {N : Type 0} (may : HeapNumbers → List (Event N) → Event N → Type 0) (n : HeapNumbers) (seed : Seed N) → SeedAllowed may n seed → HasRoots n seed
+pub has_roots : {N : Type 0} (may : HeapNumbers → List (Event N) → Event N → Type 0) (n : HeapNumbers) (seed : Seed N) → SeedAllowed may n seed
+    → HasRoots n seed
 has_roots may n Empty can = tt
 has_roots may n (Dummy first begin) can = can.roots
 
@@ -153,7 +195,8 @@ module _ {D N : Type 0} (d : discipline.Ghosts D N) (shape : Shape) where
   opened_below (Dummy first begin) = let some = shape.some_agents in let one : 0 < k.agents = omega (arith, some) in (one, (one, (one, (one, (one, tt)))))
 
   -- the opening is allowed
-  pub opens : (seed : Seed N) → d.holds (numbers k) [] → SeedAllowed d.may (numbers k) seed → Opens plain_rules (record { shape = shape; seed = seed }) (d.holds (numbers k)) (d.may (numbers k))
+  pub opens : (seed : Seed N) → d.holds (numbers k) [] → SeedAllowed d.may (numbers k) seed
+      → Opens plain_rules (record { shape = shape; seed = seed }) (d.holds (numbers k)) (d.may (numbers k))
   opens seed began can =
       let events = opened_events seed (has_roots d.may (numbers k) seed can) in
       let each = subst (AllAllowed (d.may (numbers k)) []) (sym events) (opened_each seed began can) in

@@ -1,5 +1,6 @@
 -- Each step that is allowed, and whose event fits, keeps what the words show.
 use Rattle.std.proofs.Common.{◌≡◌, ℕ, zero, suc, ◌+◌, ◌<◌, ◌==◌, List, [], ◌∷◌, ◌++◌, length, cond, Bool, true, false, if◌then◌else◌, Option, Some, None, slice_get, slice_index, slice_set, refl, sym, ◌∙◌, subst, append-nil, arith}
+use Rattle.orc_heap.proofs.Changes.{get_lt}
 use Rattle.std.proofs.lemmas.Bool.Decides.{nat_tests}
 use lib.Seq.{set-get_or}
 use Rattle.orc_words.specs.Bounds.{Bounds}
@@ -20,7 +21,6 @@ use Rattle.orc_table.specs.Machine.{State, Allowed, AllowedFrom, IsLinkWord, eve
 use Rattle.orc_table.specs.declared.machine.PlainOp.{PlainOp}
 use Rattle.orc_table.specs.declared.machine.PlainOp.TheVariants.{GateLook, GateTake, Fill, Read, LinkLoad, LinkCas, LinkStore}
 use Rattle.orc_table.specs.declared.machine.PlainStep.{PlainStep}
-use Rattle.orc_table.proofs.Lists.{get_lt}
 use Rattle.orc_table.specs.Words.{Tie}
 use Rattle.orc_table.proofs.Ties.{Alike, given_by, link_in, row_place, target_nodes, tie_fill, tie_link, tie_root, tie_start, tie_take}
 
@@ -58,7 +58,8 @@ linked_alike n = record { link = refl; first = refl; second = refl }
 module _ (k : Bounds) (x : State) (tie : Tied k x) where
   -- nothing changes
   same : (p : ℕ) → Tie k (slice_set x.words p (slice_index x.words p)) (x.given ++ []) x.heap
-  same p = tie_words k x.words (slice_set x.words p (slice_index x.words p)) x.given (x.given ++ []) x.heap x.heap (set-get_or x.words p 0) (append-nil x.given) refl tie
+  same p = tie_words k x.words (slice_set x.words p (slice_index x.words p)) x.given (x.given ++ []) x.heap x.heap (set-get_or x.words p 0)
+      (append-nil x.given) refl tie
 
   given_too : (w : List ℕ) (h i : Heap) → i ≡ h → Tie k w x.given h → Tie k w (x.given ++ []) i
   given_too w h i e t = tie_words k w w x.given (x.given ++ []) h i refl (append-nil x.given) e t
@@ -68,16 +69,24 @@ module _ (k : Bounds) (x : State) (tie : Tied k x) where
 
 module _ {N : Type 0} (k : Bounds) (x : State) (tie : Tied k x) where
   cas : (a : ℕ) (at : Word) (from to : RowLink) (said : Option N) (b : Bool) → IsLinkWord k at
-      → IsLawfulFrom x.heap (tested x a (place_by x.given at) (link_by x.given from) (event_by a (act.Move (place_by x.given at) (link_by x.given from) (link_by x.given to)) said) b ∷ [])
+      → IsLawfulFrom x.heap
+      (tested x a (place_by x.given at) (link_by x.given from)
+      (event_by a (act.Move (place_by x.given at) (link_by x.given from) (link_by x.given to)) said) b ∷ [])
       → Tie k (slice_set x.words (place k at) (cond b (link_word to) (slice_index x.words (place k at)))) (x.given ++ [])
-      (heap_from x.heap (tested x a (place_by x.given at) (link_by x.given from) (event_by a (act.Move (place_by x.given at) (link_by x.given from) (link_by x.given to)) said) b ∷ []))
+      (heap_from x.heap
+      (tested x a (place_by x.given at) (link_by x.given from)
+      (event_by a (act.Move (place_by x.given at) (link_by x.given from) (link_by x.given to)) said) b ∷ []))
   cas a at from to said false there fits = same k x tie (place k at)
   cas a (word.Root r) from to said true there fits =
-      given_too k x tie _ _ _ (target_heap as_linked (id_by x.given to.to) _) (tie_root k x.words x.given x.heap as_linked linked_alike (λ n. refl) r to.to to.mark tie there (given_by k x.words x.given x.heap tie a to.to fits.0.1))
+      given_too k x tie _ _ _ (target_heap as_linked (id_by x.given to.to) _)
+      (tie_root k x.words x.given x.heap as_linked linked_alike (λ n. refl) r to.to to.mark tie there
+      (given_by k x.words x.given x.heap tie a to.to fits.0.1))
   cas a (word.Next row) from to said true there fits =
       let l = shown_lt x.heap (index_of row x.given) (link_by x.given from) fits.0.0 in
       let even = tie.even in
-      given_too k x tie _ _ _ (target_heap as_linked (id_by x.given to.to) _) (tie_link k x.words x.given x.heap as_linked linked_alike (λ n. refl) row to.to to.mark tie there (omega (arith, l, even)) (given_by k x.words x.given x.heap tie a to.to fits.0.1))
+      given_too k x tie _ _ _ (target_heap as_linked (id_by x.given to.to) _)
+      (tie_link k x.words x.given x.heap as_linked linked_alike (λ n. refl) row to.to to.mark tie there (omega (arith, l, even))
+      (given_by k x.words x.given x.heap tie a to.to fits.0.1))
   cas a at from to said true there fits = absurd there
 
   looked : (a : ℕ) (at : Place) (want : Link) (said : Option N) (p : ℕ) (b : Bool)
@@ -97,16 +106,24 @@ module _ {N : Type 0} (k : Bounds) (x : State) (tie : Tied k x) where
   take a row said false lt zero_gate = same k x tie (row_place k row)
 
   one : (a : ℕ) (op : PlainOp) (said : Option N) → Allowed k op → IsLawfulFrom x.heap (events_of x a op (finds k x op) said)
-      → Tie k (slice_set x.words (place k (word_of op)) (written op (finds k x op))) (x.given ++ taken op (finds k x op)) (heap_from x.heap (events_of x a op (finds k x op) said))
+      → Tie k (slice_set x.words (place k (word_of op)) (written op (finds k x op))) (x.given ++ taken op (finds k x op))
+      (heap_from x.heap (events_of x a op (finds k x op) said))
   one a (GateLook row) said can fits = same k x tie (row_place k row)
   one a (GateTake row) said can fits = take a row said (slice_index x.words (row_place k row) == 0) can (is_equal _ 0)
   one a (Fill row which value) said can fits =
-      given_too k x tie _ _ _ refl (subst (λ p. Tie k (slice_set x.words p value) x.given record { nodes = change (with_value which value) (index_of row x.given) x.heap.nodes; roots = x.heap.roots }) (sym (value_place k row which can.1)) (tie_fill k x.words x.given x.heap row which value tie can.0 (fresh_given k x tie a row fits.0.0) fits.0.1))
+      given_too k x tie _ _ _ refl
+      (subst (λ p. Tie k (slice_set x.words p value) x.given record {
+        nodes = change (with_value which value) (index_of row x.given) x.heap.nodes;
+        roots = x.heap.roots;
+      }) (sym (value_place k row which can.1))
+      (tie_fill k x.words x.given x.heap row which value tie can.0 (fresh_given k x tie a row fits.0.0) fits.0.1))
   one a (Read row which) said can fits = same k x tie (place k (value_word row which))
   one a (LinkLoad at want) said can fits = load a (place_by x.given at) want (slice_index x.words (place k at)) said (place k at)
   one a (LinkCas at from to) said can fits = cas a at from to said (slice_index x.words (place k at) == link_word from) can.0 fits
   one a (LinkStore row to) said can fits =
-      given_too k x tie _ _ _ (target_heap as_named (id_by x.given to) _) (tie_link k x.words x.given x.heap as_named named_alike (λ n. refl) row to false tie can.0 (fresh_given k x tie a row fits.0.0) (given_by k x.words x.given x.heap tie a to fits.0.1))
+      given_too k x tie _ _ _ (target_heap as_named (id_by x.given to) _)
+      (tie_link k x.words x.given x.heap as_named named_alike (λ n. refl) row to false tie can.0 (fresh_given k x tie a row fits.0.0)
+      (given_by k x.words x.given x.heap tie a to fits.0.1))
 
 module _ {N : Type 0} (k : Bounds) where
   pub tie_next : (x : State) (s : PlainStep N) → Tied k x → Allowed k s.op → IsLawfulFrom x.heap (events_at k x s) → Tied k (next k x s)
@@ -115,7 +132,8 @@ module _ {N : Type 0} (k : Bounds) where
   pub tie_from : (x : State) (ss : List (PlainStep N)) → Tied k x → AllowedFrom k ss → IsLawfulFrom x.heap (project_from k x ss) → Tied k (run_from k x ss)
   tie_from x [] tie can fits = tie
   tie_from x (s ∷ ss) tie can fits =
-      tie_from (next k x s) ss (tie_next x s tie can.0 (lawful-left x.heap (events_at k x s) (project_from k (next k x s) ss) fits)) can.1 (lawful-right x.heap (events_at k x s) (project_from k (next k x s) ss) fits)
+      tie_from (next k x s) ss (tie_next x s tie can.0 (lawful-left x.heap (events_at k x s) (project_from k (next k x s) ss) fits)) can.1
+      (lawful-right x.heap (events_at k x s) (project_from k (next k x s) ss) fits)
 
   -- the words of each journal show its heap
   pub tied : (j : List (PlainStep N)) → AllowedFrom k j → IsLawful (numbers k) (project k j) → Tied k (run k j)

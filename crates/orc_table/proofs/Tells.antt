@@ -12,7 +12,7 @@ use Rattle.orc_heap.specs.Journals.{event_by, run_from as heap_from}
 use Rattle.orc_heap.specs.declared.discipline.Discipline as discipline
 use Rattle.orc_heap.specs.declared.events.Act.TheVariants as act
 use Rattle.orc_heap.specs.declared.events.Event.{Event}
-use Rattle.orc_heap.proofs.Changes.{get-added}
+use Rattle.orc_heap.proofs.Changes.{get-added, get_lt}
 use Rattle.orc_heap.proofs.Untouched.{untouched_after}
 use Rattle.orc_shared_words.specs.Steps.{Extends, LaterJournal}
 use Rattle.orc_shared_words.specs.declared.journal.View.{View}
@@ -26,7 +26,7 @@ use Rattle.orc_table.specs.declared.machine.PlainOp.{PlainOp}
 use Rattle.orc_table.specs.declared.machine.PlainOp.TheVariants.{GateLook, GateTake, Fill, Read}
 use Rattle.orc_table.specs.declared.machine.PlainStep.{PlainStep}
 use Rattle.orc_table.specs.declared.shape.PlainShape.{PlainShape}
-use Rattle.orc_table.proofs.Lists.{at_index, get_last, get_lt, index_at, index_grown, index_in, lt_get, some_one}
+use Rattle.orc_table.proofs.Lists.{at_index, get_last, index_at, index_grown, index_in, lt_get, some_one}
 use Rattle.orc_table.proofs.Steps.{Tied, heap_is}
 use Rattle.orc_table.proofs.Walks.{Walk, adds, given_later, given_more, heap_later, later_fresh, walk}
 use Rattle.orc_table.proofs.Licences.{row_given}
@@ -56,7 +56,9 @@ pub is_named : (a : ℕ) (h : Heap) (t : Option ℕ) → Named h.nodes t → IsT
 is_named a h None x = tt
 is_named a h (Some id) x = record { node = x.0; there = x.1; known = inr x.2 }
 
-module _ {D N : Type 0} (d : discipline.Ghosts D N) (q : PlainShape N) (v w : View (PlainStep N) (Unit {0})) (a c : ℕ) (fresh looked fresh2 looked2 : Option ℕ) (h : Keeps q (d.holds (numbers (bounds_of q.shape))) (d.may (numbers (bounds_of q.shape))) v a fresh) (e : c ≡ a) where
+module _ {D N : Type 0} (d : discipline.Ghosts D N) (q : PlainShape N) (v w : View (PlainStep N) (Unit {0})) (a c : ℕ)
+    (fresh looked fresh2 looked2 : Option ℕ) (h : Keeps q (d.holds (numbers (bounds_of q.shape))) (d.may (numbers (bounds_of q.shape))) v a fresh)
+    (e : c ≡ a) where
   abbrev k : Bounds
   k = bounds_of q.shape
 
@@ -100,16 +102,21 @@ module _ {D N : Type 0} (d : discipline.Ghosts D N) (q : PlainShape N) (v w : Vi
   -- the same, where the step's event spares the fresh node
   pub keeps : (op : PlainOp) (said : Option N) (n : ℕ) (x : Made op said n) → fresh2 ≡ fresh
       → ((row : ℕ) → fresh ≡ Some row → IsUntouched a (at_step (walked op said n x)).heap (index_of row (at_step (walked op said n x)).given)
-      → IsUntouched a (heap_from (at_step (walked op said n x)).heap (events_of (at_step (walked op said n x)) a op (finds k (at_step (walked op said n x)) op) said)) (index_of row (at_step (walked op said n x)).given))
+      → IsUntouched a
+      (heap_from (at_step (walked op said n x)).heap
+      (events_of (at_step (walked op said n x)) a op (finds k (at_step (walked op said n x)) op) said)) (index_of row (at_step (walked op said n x)).given))
       → Keeps q holds may w c fresh2
-  keeps op said n x f spares = keeps_with op said n x (subst (FreshHeld a (run k w.seen)) (sym f) (later_fresh k may v w a op said n (walked op said n x) fresh spares h.untouched))
+  keeps op said n x f spares =
+      keeps_with op said n x (subst (FreshHeld a (run k w.seen)) (sym f) (later_fresh k may v w a op said n (walked op said n x) fresh spares h.untouched))
 
   -- what the step added
-  pub added : (op : PlainOp) (said : Option N) (n : ℕ) (x : Made op said n) → Adds may (events_of (at_step (walked op said n x)) a op (finds k (at_step (walked op said n x)) op) said) s t
+  pub added : (op : PlainOp) (said : Option N) (n : ℕ) (x : Made op said n)
+      → Adds may (events_of (at_step (walked op said n x)) a op (finds k (at_step (walked op said n x)) op) said) s t
   added op said n x = adds k may v w a c op said n (walked op said n x) e fresh fresh2 looked looked2
 
   -- where the step gives no row, the rows are those that it met
-  pub rows_met : {op : PlainOp} {said : Option N} {n : ℕ} (wk : Walk k may v w a op said n) → taken op (finds k (at_step wk) op) ≡ [] → (at_step wk).given ≡ (run k w.seen).given
+  pub rows_met : {op : PlainOp} {said : Option N} {n : ℕ} (wk : Walk k may v w a op said n) → taken op (finds k (at_step wk) op) ≡ []
+      → (at_step wk).given ≡ (run k w.seen).given
   rows_met {op} {said} {n} wk none = sym (given_later k may v w a op said n wk ∙ (ap (λ l. (at_step wk).given ++ l) none ∙ append-nil (at_step wk).given))
 
   pub look_keeps : (row n : ℕ) → fresh2 ≡ fresh → Made (GateLook row) None n → Keeps q holds may w c fresh2
@@ -125,7 +132,8 @@ module _ {D N : Type 0} (d : discipline.Ghosts D N) (q : PlainShape N) (v w : Vi
 
   -- the row was free
   taken_is : (row n : ℕ) → n ≡ 0 → (x : Made (GateTake row) None n) → (finds k (at_step (walked (GateTake row) None n x)) (GateTake row) == 0) ≡ true
-  taken_is row n zero_gate x = eq-eqb (finds k (at_step (walked (GateTake row) None n x)) (GateTake row)) 0 (sym (walked (GateTake row) None n x).answers ∙ zero_gate)
+  taken_is row n zero_gate x =
+      eq-eqb (finds k (at_step (walked (GateTake row) None n x)) (GateTake row)) 0 (sym (walked (GateTake row) None n x).answers ∙ zero_gate)
 
   was_new : (row n : ℕ) → n ≡ 0 → (x : Made (GateTake row) None n) → row < k.rows → ¬ IsOut (at_step (walked (GateTake row) None n x)).given row
   was_new row n zero_gate x lt o =
@@ -141,7 +149,8 @@ module _ {D N : Type 0} (d : discipline.Ghosts D N) (q : PlainShape N) (v w : Vi
   pub take_gives : (row n : ℕ) → n ≡ 0 → row < k.rows → fresh2 ≡ Some row → Made (GateTake row) None n → Gives may row s t
   take_gives row n zero_gate lt f x =
       let wk = walked (GateTake row) None n x in record {
-        adds = subst (λ l. Adds may l s t) (ap (λ (b : Bool). if b then event_by {N = N} a act.Give None ∷ [] else []) (taken_is row n zero_gate x)) (added (GateTake row) None n x);
+        adds = subst (λ l. Adds may l s t) (ap (λ (b : Bool). if b then event_by {N = N} a act.Give None ∷ [] else []) (taken_is row n zero_gate x))
+            (added (GateTake row) None n x);
         before = (at_step wk).given;
         rows = rows_taken row n zero_gate x;
         new = was_new row n zero_gate x lt;
@@ -157,34 +166,48 @@ module _ {D N : Type 0} (d : discipline.Ghosts D N) (q : PlainShape N) (v w : Vi
       let last : slice_get g (length y.given) ≡ Some row = subst (λ z. slice_get z (length y.given) ≡ Some row) (sym rows) (get_last y.given row) in
       let at : index_of row g ≡ length y.given = index_at row g (length y.given) wk.tie.once last in
       let heap : (run k w.seen).heap ≡ record { nodes = y.heap.nodes ++ new_node a ∷ []; roots = y.heap.roots } =
-      heap_later k may v w a (GateTake row) None n wk ∙ ap (λ (b : Bool). heap_from y.heap (if b then event_by {N = N} a act.Give None ∷ [] else [])) (taken_is row n zero_gate x) in
-      let there : slice_get (run k w.seen).heap.nodes (index_of row g) ≡ Some (new_node a) = subst (λ (z : Heap × ℕ). slice_get z.0.nodes z.1 ≡ Some (new_node a)) (λ i. (sym heap i, (sym wk.mid.tie.even ∙ sym at) i)) (get-added y.heap.nodes (new_node a)) in
-      keeps_with (GateTake row) None n x (subst (FreshHeld a (run k w.seen)) (sym f) (index_in row g (length y.given) last, record { node = new_node a; there = there; mine = refl; unnamed = refl; unlinked = refl }))
+      heap_later k may v w a (GateTake row) None n wk ∙ ap (λ (b : Bool). heap_from y.heap (if b then event_by {N = N} a act.Give None ∷ [] else []))
+      (taken_is row n zero_gate x) in
+      let there : slice_get (run k w.seen).heap.nodes (index_of row g) ≡ Some (new_node a) =
+      subst (λ (z : Heap × ℕ). slice_get z.0.nodes z.1 ≡ Some (new_node a)) (λ i. (sym heap i, (sym wk.mid.tie.even ∙ sym at) i))
+      (get-added y.heap.nodes (new_node a)) in
+      keeps_with (GateTake row) None n x
+      (subst (FreshHeld a (run k w.seen)) (sym f)
+      (index_in row g (length y.given) last, record { node = new_node a; there = there; mine = refl; unnamed = refl; unlinked = refl }))
 
   lost_is : (row n : ℕ) → n ≢ 0 → (x : Made (GateTake row) None n) → (finds k (at_step (walked (GateTake row) None n x)) (GateTake row) == 0) ≡ false
-  lost_is row n other x = ne_eqb (finds k (at_step (walked (GateTake row) None n x)) (GateTake row)) 0 (λ z. other ((walked (GateTake row) None n x).answers ∙ z))
+  lost_is row n other x =
+      ne_eqb (finds k (at_step (walked (GateTake row) None n x)) (GateTake row)) 0 (λ z. other ((walked (GateTake row) None n x).answers ∙ z))
 
   pub take_loses : (row n : ℕ) → n ≢ 0 → row < k.rows → fresh2 ≡ fresh → Made (GateTake row) None n → Loses may row s t
   take_loses row n other lt f x =
       let wk = walked (GateTake row) None n x in
       let read = wk.answers in record {
-        adds = subst (λ l. Adds may l s t) (ap (λ (b : Bool). if b then event_by {N = N} a act.Give None ∷ [] else []) (lost_is row n other x)) (added (GateTake row) None n x);
-        out = subst (λ z. IsOut z row) (rows_met wk (ap (λ (b : Bool). if b then row ∷ [] else []) (lost_is row n other x))) (elim (gate_word k (at_step wk) row wk.mid.tie lt) [ inl p ↦ p.1 | inr p ↦ absurd (other (read ∙ p.0)) ]);
+        adds = subst (λ l. Adds may l s t) (ap (λ (b : Bool). if b then event_by {N = N} a act.Give None ∷ [] else []) (lost_is row n other x))
+            (added (GateTake row) None n x);
+        out = subst (λ z. IsOut z row) (rows_met wk (ap (λ (b : Bool). if b then row ∷ [] else []) (lost_is row n other x)))
+            (elim (gate_word k (at_step wk) row wk.mid.tie lt) [ inl p ↦ p.1 | inr p ↦ absurd (other (read ∙ p.0)) ]);
         fresh = f;
       }
 
   pub lost_keeps : (row n : ℕ) → n ≢ 0 → fresh2 ≡ fresh → Made (GateTake row) None n → Keeps q holds may w c fresh2
   lost_keeps row n other f x = keeps (GateTake row) None n x f
-      (λ r _ u. subst (λ l. IsUntouched a (heap_from (at_step (walked (GateTake row) None n x)).heap l) (index_of r (at_step (walked (GateTake row) None n x)).given)) (sym (ap (λ (b : Bool). if b then event_by {N = N} a act.Give None ∷ [] else []) (lost_is row n other x))) u)
+      (λ r _ u. subst
+      (λ l. IsUntouched a (heap_from (at_step (walked (GateTake row) None n x)).heap l)
+      (index_of r (at_step (walked (GateTake row) None n x)).given))
+      (sym (ap (λ (b : Bool). if b then event_by {N = N} a act.Give None ∷ [] else []) (lost_is row n other x))) u)
 
   -- a row that was given keeps its id
-  pub id_met : {op : PlainOp} {said : Option N} {n : ℕ} (wk : Walk k may v w a op said n) (row : ℕ) → index_of row g0 < length g0 → index_of row (at_step wk).given ≡ index_of row g0
+  pub id_met : {op : PlainOp} {said : Option N} {n : ℕ} (wk : Walk k may v w a op said n) (row : ℕ) → index_of row g0 < length g0
+      → index_of row (at_step wk).given ≡ index_of row g0
   id_met wk row lt = let g = given_more k (run k v.seen) wk.between in ap (index_of row) (sym g.1) ∙ index_grown row g0 g.0 lt
 
-  pub fill_adds : (row which value n : ℕ) → fresh ≡ Some row → Made (Fill row which value) None n → Adds may (event_by a (act.Fill (index_of row g0) which value) None ∷ []) s t
+  pub fill_adds : (row which value n : ℕ) → fresh ≡ Some row → Made (Fill row which value) None n
+      → Adds may (event_by a (act.Fill (index_of row g0) which value) None ∷ []) s t
   fill_adds row which value n is x =
       let held = subst (FreshHeld a (run k v.seen)) is h.untouched in
-      subst (λ i. Adds may (event_by a (act.Fill i which value) None ∷ []) s t) (id_met (walked (Fill row which value) None n x) row held.0) (added (Fill row which value) None n x)
+      subst (λ i. Adds may (event_by a (act.Fill i which value) None ∷ []) s t) (id_met (walked (Fill row which value) None n x) row held.0)
+      (added (Fill row which value) None n x)
 
   pub fill_keeps : (row which value n : ℕ) → fresh2 ≡ fresh → Made (Fill row which value) None n → Keeps q holds may w c fresh2
   fill_keeps row which value n f x = let y : State = at_step (walked (Fill row which value) None n x) in
@@ -200,7 +223,8 @@ module _ {D N : Type 0} (d : discipline.Ghosts D N) (q : PlainShape N) (v w : Vi
   pub heap_then : heap_of k t ≡ (run k w.seen).heap
   heap_then = sym (heap_is k (start k) w.seen)
 
-  valued : (row which : ℕ) (y : State) (m : Node) → Block k y.words y.given row m → (u : ℕ) → value_of which m ≡ Some u → slice_index y.words (place k (value_word row which)) ≡ u
+  valued : (row which : ℕ) (y : State) (m : Node) → Block k y.words y.given row m → (u : ℕ) → value_of which m ≡ Some u
+      → slice_index y.words (place k (value_word row which)) ≡ u
   valued row zero y m b u is = b.first u is
   valued row (suc which) y m b u is = b.second u is
 

@@ -13,10 +13,10 @@ use Rattle.orc_heap.specs.Heap.{Heap, Node, change, new_heap, new_node, null, sh
 use Rattle.orc_heap.specs.declared.events.Link.{Link}
 use Rattle.orc_heap.specs.declared.events.Place.{Place}
 use Rattle.orc_heap.specs.declared.events.Place.TheVariants.{Root as AtRoot, Next}
-use Rattle.orc_heap.proofs.Changes.{get-change, get-grown}
+use Rattle.orc_heap.proofs.Changes.{get-change, get-grown, get_lt, length-change}
 use Rattle.orc_table.specs.Machine.{index_of, id_by, numbers}
 use Rattle.orc_table.specs.Words.{Block, IsFreeRow, IsWord, Named, Once, Tie}
-use Rattle.orc_table.proofs.Lists.{some_one, get_lt, lt_get, get_end, get_last, change_back, length_change, at_index, index_at, new_word, same_word}
+use Rattle.orc_table.proofs.Lists.{some_one, lt_get, get_end, get_last, change_back, at_index, index_at, new_word, same_word}
 
 -- the place of a row's gate; its values stand two and three after it, its link four
 abbrev pub row_place : Bounds → ℕ → ℕ
@@ -65,18 +65,22 @@ pub word_by : (g : List ℕ) (t : Option ℕ) (a : Bool) → Given g t → IsWor
 word_by g None a x = omega arith
 word_by g (Some row) a x = (row, at_index row g x, refl)
 
-named_change : (f : Node → Node) → ((n : Node) → n.named ≡ true → (f n).named ≡ true) → (i : ℕ) (nodes : List Node) (t : Option ℕ) → Named nodes t → Named (change f i nodes) t
+named_change : (f : Node → Node) → ((n : Node) → n.named ≡ true → (f n).named ≡ true) → (i : ℕ) (nodes : List Node) (t : Option ℕ) → Named nodes t
+    → Named (change f i nodes) t
 named_change f keeps i nodes None x = x
 named_change f keeps i nodes (Some id) x = elim (get-change f i id nodes x.0 x.1) [ inl r ↦ (f x.0, r.1, keeps x.0 x.2) | inr r ↦ (x.0, r.1, x.2) ]
 
-named_target : (f : Node → Node) → ((n : Node) → (f n).named ≡ true) → (to : Option ℕ) (nodes : List Node) (t : Option ℕ) → Named nodes t → Named (target_nodes f to nodes) t
+named_target : (f : Node → Node) → ((n : Node) → (f n).named ≡ true) → (to : Option ℕ) (nodes : List Node) (t : Option ℕ) → Named nodes t
+    → Named (target_nodes f to nodes) t
 named_target f sets None nodes t x = x
 named_target f sets (Some i) nodes t x = named_change f (λ n e. sets n) i nodes t x
 
 -- the target itself
-now_named : (f : Node → Node) → ((n : Node) → (f n).named ≡ true) → (to : Option ℕ) (nodes : List Node) → ((id : ℕ) → to ≡ Some id → (n : Node) × (slice_get nodes id ≡ Some n)) → Named (target_nodes f to nodes) to
+now_named : (f : Node → Node) → ((n : Node) → (f n).named ≡ true) → (to : Option ℕ) (nodes : List Node)
+    → ((id : ℕ) → to ≡ Some id → (n : Node) × (slice_get nodes id ≡ Some n)) → Named (target_nodes f to nodes) to
 now_named f sets None nodes there = tt
-now_named f sets (Some i) nodes there = let t = there i refl in elim (get-change f i i nodes t.0 t.1) [ inl r ↦ (f t.0, r.1, sets t.0) | inr r ↦ absurd (r.0 refl) ]
+now_named f sets (Some i) nodes there = let t = there i refl in
+    elim (get-change f i i nodes t.0 t.1) [ inl r ↦ (f t.0, r.1, sets t.0) | inr r ↦ absurd (r.0 refl) ]
 
 -- a node shows the same words as the other
 pub record Alike (n m : Node) : Type 0 where
@@ -84,17 +88,23 @@ pub record Alike (n m : Node) : Type 0 where
   pub first : n.first ≡ m.first
   pub second : n.second ≡ m.second
 
-target_back : (f : Node → Node) → ((n : Node) → Alike (f n) n) → (to : Option ℕ) (nodes : List Node) (id : ℕ) (n : Node) → slice_get (target_nodes f to nodes) id ≡ Some n
+target_back : (f : Node → Node) → ((n : Node) → Alike (f n) n) → (to : Option ℕ) (nodes : List Node) (id : ℕ) (n : Node)
+    → slice_get (target_nodes f to nodes) id ≡ Some n
     → (m : Node) × (slice_get nodes id ≡ Some m) × Alike n m
 target_back f same None nodes id n e = (n, e, record { link = refl; first = refl; second = refl })
 target_back f same (Some i) nodes id n e = elim (change_back f i id nodes n e) [
-  | inl r ↦ (r.1, r.2, let s = same r.1 in record { link = ap (λ x. x.link) r.3 ∙ s.link; first = ap (λ x. x.first) r.3 ∙ s.first; second = ap (λ x. x.second) r.3 ∙ s.second })
+  | inl r ↦ (
+    r.1,
+    r.2,
+    let s = same r.1 in
+        record { link = ap (λ x. x.link) r.3 ∙ s.link; first = ap (λ x. x.first) r.3 ∙ s.first; second = ap (λ x. x.second) r.3 ∙ s.second },
+  )
   | inr r ↦ (n, r.1, record { link = refl; first = refl; second = refl })
 ]
 
 pub length_target : (f : Node → Node) (to : Option ℕ) (nodes : List Node) → length (target_nodes f to nodes) ≡ length nodes
 length_target f None nodes = refl
-length_target f (Some i) nodes = length_change f i nodes
+length_target f (Some i) nodes = length-change f i nodes
 
 block_alike : (k : Bounds) (w g : List ℕ) (row : ℕ) (n m : Node) → Alike n m → Block k w g row m → Block k w g row n
 block_alike k w g row n m a b = record {
@@ -105,7 +115,8 @@ block_alike k w g row n m a b = record {
 }
 
 -- a word that is none of the row's
-block_else : (k : Bounds) (w g : List ℕ) (row : ℕ) (n : Node) (p v : ℕ) → row_place k row ≢ p → row_place k row + 2 ≢ p → row_place k row + 3 ≢ p → row_place k row + 4 ≢ p
+block_else : (k : Bounds) (w g : List ℕ) (row : ℕ) (n : Node) (p v : ℕ) → row_place k row ≢ p → row_place k row + 2 ≢ p → row_place k row + 3 ≢ p
+    → row_place k row + 4 ≢ p
     → Block k w g row n → Block k (slice_set w p v) g row n
 block_else k w g row n p v a b c d x = record {
   gate = same_word w p v (row_place k row) a ∙ x.gate;
@@ -118,7 +129,8 @@ block_else k w g row n p v a b c d x = record {
 tie_target : (k : Bounds) (w g : List ℕ) (h : Heap) (f : Node → Node) → ((n : Node) → Alike (f n) n) → ((n : Node) → (f n).named ≡ true) → (to : Option ℕ)
     → ((at : Place) (l : Link) → shown h at ≡ Some l → Named h.nodes l.to ⊎ (l.to ≡ to))
     → ((id : ℕ) → to ≡ Some id → (n : Node) × (slice_get h.nodes id ≡ Some n))
-    → (long : length w ≡ places k) (rooted : length h.roots ≡ k.roots) (even : length g ≡ length h.nodes) (once : Once g) (inside : (i row : ℕ) → slice_get g i ≡ Some row → row < k.rows)
+    → (long : length w ≡ places k) (rooted : length h.roots ≡ k.roots) (even : length g ≡ length h.nodes) (once : Once g)
+    (inside : (i row : ℕ) → slice_get g i ≡ Some row → row < k.rows)
     → ((r : ℕ) (l : Link) → slice_get h.roots r ≡ Some l → IsWord g l.to l.mark (slice_index w (1 + r)))
     → ((id row : ℕ) (n : Node) → slice_get g id ≡ Some row → slice_get h.nodes id ≡ Some n → Block k w g row n)
     → ((row : ℕ) → row < k.rows → ((id : ℕ) → slice_get g id ≢ Some row) → IsFreeRow k w row)
@@ -147,7 +159,8 @@ tie_target k w g h f same sets to named there long rooted even once inside root 
         went (Some n) q x = let b = target_back f same to h.nodes id n q in ap link_in b.1 ∙ (ap Some (sym b.2.link) ∙ x)
 
 -- a target that was given is there
-there_by : (k : Bounds) (w g : List ℕ) (h : Heap) → Tie k w g h → (t : Option ℕ) → Given g t → (id : ℕ) → id_by g t ≡ Some id → (n : Node) × (slice_get h.nodes id ≡ Some n)
+there_by : (k : Bounds) (w g : List ℕ) (h : Heap) → Tie k w g h → (t : Option ℕ) → Given g t → (id : ℕ) → id_by g t ≡ Some id
+    → (n : Node) × (slice_get h.nodes id ≡ Some n)
 there_by k w g h x None l id e = cc
 there_by k w g h x (Some row) l id e = let q = some_one (index_of row g) id e in let v = x.even in lt_get h.nodes id (omega (arith, l, q, v))
 
@@ -157,7 +170,8 @@ given_by k w g h x a None r = tt
 given_by k w g h x a (Some row) r = let l = get_lt h.nodes (index_of row g) r.node r.there in let v = x.even in omega (arith, l, v)
 
 -- a row that is linked from somewhere else keeps its words
-apart_rows : (k : Bounds) (g : List ℕ) (once : Once g) (id row other : ℕ) → slice_get g id ≡ Some other → index_of row g < length g → index_of row g ≢ id → other ≢ row
+apart_rows : (k : Bounds) (g : List ℕ) (once : Once g) (id row other : ℕ) → slice_get g id ≡ Some other → index_of row g < length g
+    → index_of row g ≢ id → other ≢ row
 apart_rows k g once id row other e l ne q = ne (index_at row g id once (e ∙ ap Some q))
 
 -- a row's gate is taken, and its node is new
@@ -182,7 +196,8 @@ tie_take k w g h a row x lt zero_gate =
       root = λ r l e.
           let below = get_lt h.roots r l e in
           let rooted = x.rooted in
-          subst (IsWord (g ++ more) l.to l.mark) (sym (same_word w (row_place k row) 3 (1 + r) (λ q. omega (arith, q, below, rooted)))) (word_grown g more l.to l.mark (slice_index w (1 + r)) (x.root r l e));
+          subst (IsWord (g ++ more) l.to l.mark) (sym (same_word w (row_place k row) 3 (1 + r) (λ q. omega (arith, q, below, rooted))))
+          (word_grown g more l.to l.mark (slice_index w (1 + r)) (x.root r l e));
       node = λ id r n e q. elim (get_end g row id r e) [
         | inl s ↦
             let in_old = get_lt g id r s in
@@ -191,7 +206,8 @@ tie_take k w g h a row x lt zero_gate =
               | inl t ↦
                   let b = x.node id r n s t in
                   let ne : r ≢ row = λ z. new id (s ∙ ap Some z) in
-                  let old = block_else k w g r n (row_place k row) 3 (λ z. ne (omega (arith, z))) (λ z. absurd (omega (arith, z))) (λ z. absurd (omega (arith, z))) (λ z. absurd (omega (arith, z))) b in
+                  let old = block_else k w g r n (row_place k row) 3 (λ z. ne (omega (arith, z))) (λ z. absurd (omega (arith, z)))
+                  (λ z. absurd (omega (arith, z))) (λ z. absurd (omega (arith, z))) b in
                   record { gate = old.gate; link = word_grown g more n.link.to n.link.mark _ old.link; first = old.first; second = old.second }
               | inr t ↦ let z = t.0 in absurd (omega (arith, z, in_old, even))
             ]
@@ -200,16 +216,18 @@ tie_take k w g h a row x lt zero_gate =
             let even = x.even in
             elim (get_end h.nodes (new_node a) id n q) [
               | inl t ↦ let l = get_lt h.nodes id n t in absurd (omega (arith, z, l, even))
-              | inr t ↦ subst (λ (m : Node). Block k (slice_set w (row_place k row) 3) (g ++ more) r m) (sym t.1) (subst (λ (i : ℕ). Block k (slice_set w (row_place k row) 3) (g ++ more) i (new_node a)) (sym s.1) record {
-                gate = new_word w (row_place k row) 3 (omega (arith, long, lt));
-                link = same_word w (row_place k row) 3 (row_place k row + 4) (λ z. omega (arith, z)) ∙ (x.free row lt new).link;
-                first = λ v e. cc;
-                second = λ v e. cc;
-              })
+              | inr t ↦ subst (λ (m : Node). Block k (slice_set w (row_place k row) 3) (g ++ more) r m) (sym t.1)
+                  (subst (λ (i : ℕ). Block k (slice_set w (row_place k row) 3) (g ++ more) i (new_node a)) (sym s.1) record {
+                    gate = new_word w (row_place k row) 3 (omega (arith, long, lt));
+                    link = same_word w (row_place k row) 3 (row_place k row + 4) (λ z. omega (arith, z)) ∙ (x.free row lt new).link;
+                    first = λ v e. cc;
+                    second = λ v e. cc;
+                  })
             ]
       ];
       free = λ r l none. let f = x.free r l (λ id e. none id (get-grown id g more r e)) in record {
-        gate = same_word w (row_place k row) 3 (row_place k r) (λ z. let q : r ≡ row = omega (arith, z) in none (length g) (subst (λ s. slice_get (g ++ row ∷ []) (length g) ≡ Some s) (sym q) (get_last g row))) ∙ f.gate;
+        gate = same_word w (row_place k row) 3 (row_place k r) (λ z. let q : r ≡ row = omega (arith, z) in
+            none (length g) (subst (λ s. slice_get (g ++ row ∷ []) (length g) ≡ Some s) (sym q) (get_last g row))) ∙ f.gate;
         link = same_word w (row_place k row) 3 (row_place k r + 4) (λ z. absurd (omega (arith, z))) ∙ f.link;
       };
       targets = λ at l e. targets at l e;
@@ -222,7 +240,8 @@ tie_take k w g h a row x lt zero_gate =
     null_named : (l : Link) → l ≡ null → Named (h.nodes ++ new_node a ∷ []) l.to
     null_named l e = subst (λ (z : Link). Named (h.nodes ++ new_node a ∷ []) z.to) (sym e) tt
 
-    targets : (at : Place) (l : Link) → shown record { nodes = h.nodes ++ new_node a ∷ []; roots = h.roots } at ≡ Some l → Named (h.nodes ++ new_node a ∷ []) l.to
+    targets : (at : Place) (l : Link) → shown record { nodes = h.nodes ++ new_node a ∷ []; roots = h.roots } at ≡ Some l
+        → Named (h.nodes ++ new_node a ∷ []) l.to
     targets (AtRoot r) l e = old_named l.to (x.targets (AtRoot r) l e)
     targets (Next id) l e = went (slice_get (h.nodes ++ new_node a ∷ []) id) refl e
       where
@@ -241,7 +260,7 @@ tie_fill k w g h row which value x lt given low =
     record {
       long = length-set w (row_place k row + 2 + which) value ∙ long;
       rooted = x.rooted;
-      even = x.even ∙ sym (length_change (with_value which value) (index_of row g) h.nodes);
+      even = x.even ∙ sym (length-change (with_value which value) (index_of row g) h.nodes);
       once = x.once;
       inside = x.inside;
       root = λ r l e.
@@ -251,10 +270,13 @@ tie_fill k w g h row which value x lt given low =
       node = λ id r n e q. elim (change_back (with_value which value) (index_of row g) id h.nodes n q) [
         | inl t ↦
             let same : r ≡ row = some_one r row (sym e ∙ (ap (slice_get g) (sym t.0) ∙ at_index row g given)) in
-            subst (λ (m : Node). Block k (slice_set w (row_place k row + 2 + which) value) g r m) (sym t.3) (subst (λ i. Block k (slice_set w (row_place k row + 2 + which) value) g i (with_value which value t.1)) (sym same) (filled_block which low t.1 long (x.node id row t.1 (e ∙ ap Some same) t.2)))
+            subst (λ (m : Node). Block k (slice_set w (row_place k row + 2 + which) value) g r m) (sym t.3)
+            (subst (λ i. Block k (slice_set w (row_place k row + 2 + which) value) g i (with_value which value t.1)) (sym same)
+            (filled_block which low t.1 long (x.node id row t.1 (e ∙ ap Some same) t.2)))
         | inr t ↦
             let ne = apart_rows k g x.once id row r e given t.0 in
-            block_else k w g r n (row_place k row + 2 + which) value (λ z. ne (omega (arith, z, low))) (λ z. ne (omega (arith, z, low))) (λ z. ne (omega (arith, z, low))) (λ z. ne (omega (arith, z, low))) (x.node id r n e t.1)
+            block_else k w g r n (row_place k row + 2 + which) value (λ z. ne (omega (arith, z, low))) (λ z. ne (omega (arith, z, low)))
+            (λ z. ne (omega (arith, z, low))) (λ z. ne (omega (arith, z, low))) (x.node id r n e t.1)
       ];
       free = λ r l none. record {
         gate = same_word w (row_place k row + 2 + which) value (row_place k r) (λ z. absurd (omega (arith, z, low))) ∙ (x.free r l none).gate;
@@ -263,21 +285,27 @@ tie_fill k w g h row which value x lt given low =
       targets = targets;
     }
   where
-    filled_block : (i : ℕ) → i < 2 → (m : Node) → length w ≡ places k → Block k w g row m → Block k (slice_set w (row_place k row + 2 + i) value) g row (with_value i value m)
+    filled_block : (i : ℕ) → i < 2 → (m : Node) → length w ≡ places k → Block k w g row m
+        → Block k (slice_set w (row_place k row + 2 + i) value) g row (with_value i value m)
     filled_block zero low m long b = record {
       gate = same_word w (row_place k row + 2 + 0) value (row_place k row) (λ z. omega (arith, z)) ∙ b.gate;
       link = subst (IsWord g m.link.to m.link.mark) (sym (same_word w (row_place k row + 2 + 0) value (row_place k row + 4) (λ z. omega (arith, z)))) b.link;
-      first = λ v e. subst (λ z. slice_index (slice_set w z value) (row_place k row + 2) ≡ v) (let p : row_place k row + 2 ≡ row_place k row + 2 + 0 = omega arith in p) (new_word w (row_place k row + 2) value (omega (arith, long, lt)) ∙ some_one value v e);
+      first = λ v e. subst (λ z. slice_index (slice_set w z value) (row_place k row + 2) ≡ v) (let p : row_place k row + 2 ≡ row_place k row + 2 + 0 =
+          omega arith in p) (new_word w (row_place k row + 2) value (omega (arith, long, lt)) ∙ some_one value v e);
       second = λ v e. same_word w (row_place k row + 2 + 0) value (row_place k row + 3) (λ z. omega (arith, z)) ∙ b.second v e;
     }
     filled_block (suc i) low m long b = let none : i ≡ 0 = omega (arith, low) in record {
       gate = same_word w (row_place k row + 2 + suc i) value (row_place k row) (λ z. omega (arith, z)) ∙ b.gate;
-      link = subst (IsWord g m.link.to m.link.mark) (sym (same_word w (row_place k row + 2 + suc i) value (row_place k row + 4) (λ z. omega (arith, z, none)))) b.link;
+      link = subst (IsWord g m.link.to m.link.mark)
+          (sym (same_word w (row_place k row + 2 + suc i) value (row_place k row + 4) (λ z. omega (arith, z, none)))) b.link;
       first = λ v e. same_word w (row_place k row + 2 + suc i) value (row_place k row + 2) (λ z. omega (arith, z)) ∙ b.first v e;
-      second = λ v e. subst (λ z. slice_index (slice_set w z value) (row_place k row + 3) ≡ v) (let p : row_place k row + 3 ≡ row_place k row + 2 + suc i = omega (arith, none) in p) (new_word w (row_place k row + 3) value (omega (arith, long, lt)) ∙ some_one value v e);
+      second = λ v e. subst (λ z. slice_index (slice_set w z value) (row_place k row + 3) ≡ v)
+          (let p : row_place k row + 3 ≡ row_place k row + 2 + suc i = omega (arith, none) in p)
+          (new_word w (row_place k row + 3) value (omega (arith, long, lt)) ∙ some_one value v e);
     }
 
-    targets : (at : Place) (l : Link) → shown record { nodes = change (with_value which value) (index_of row g) h.nodes; roots = h.roots } at ≡ Some l → Named (change (with_value which value) (index_of row g) h.nodes) l.to
+    targets : (at : Place) (l : Link) → shown record { nodes = change (with_value which value) (index_of row g) h.nodes; roots = h.roots } at ≡ Some l
+        → Named (change (with_value which value) (index_of row g) h.nodes) l.to
     targets at l e = named_change (with_value which value) (keeps_named which) (index_of row g) h.nodes l.to (x.targets at l (before at e))
       where
         keeps_named : (i : ℕ) (n : Node) → n.named ≡ true → (with_value i value n).named ≡ true
@@ -288,11 +316,13 @@ tie_fill k w g h row which value x lt given low =
         keeps_link zero n = refl
         keeps_link (suc i) n = refl
 
-        before : (at : Place) → shown record { nodes = change (with_value which value) (index_of row g) h.nodes; roots = h.roots } at ≡ Some l → shown h at ≡ Some l
+        before : (at : Place) → shown record { nodes = change (with_value which value) (index_of row g) h.nodes; roots = h.roots } at ≡ Some l
+            → shown h at ≡ Some l
         before (AtRoot r) e = e
         before (Next id) e = went (slice_get (change (with_value which value) (index_of row g) h.nodes) id) refl e
           where
-            went : (o : Option Node) → slice_get (change (with_value which value) (index_of row g) h.nodes) id ≡ o → link_in o ≡ Some l → shown h (Next id) ≡ Some l
+            went : (o : Option Node) → slice_get (change (with_value which value) (index_of row g) h.nodes) id ≡ o → link_in o ≡ Some l
+                → shown h (Next id) ≡ Some l
             went None q e = cc
             went (Some n) q e = elim (change_back (with_value which value) (index_of row g) id h.nodes n q) [
               | inl t ↦ ap link_in t.2 ∙ (ap Some (sym (keeps_link which t.1) ∙ ap (λ (m : Node). m.link) (sym t.3)) ∙ e)
@@ -300,16 +330,20 @@ tie_fill k w g h row which value x lt given low =
             ]
 
 -- a node's link is set, and its target is noted
-pub tie_link : (k : Bounds) (w g : List ℕ) (h : Heap) (f : Node → Node) → ((n : Node) → Alike (f n) n) → ((n : Node) → (f n).named ≡ true) → (row : ℕ) (to : Option ℕ) (mark : Bool)
+pub tie_link : (k : Bounds) (w g : List ℕ) (h : Heap) (f : Node → Node) → ((n : Node) → Alike (f n) n) → ((n : Node) → (f n).named ≡ true)
+    → (row : ℕ) (to : Option ℕ) (mark : Bool)
     → Tie k w g h → row < k.rows → index_of row g < length g → Given g to
     → Tie k (slice_set w (row_place k row + 4) (2 * name_word to + bit mark)) g
-    record { nodes = target_nodes f (id_by g to) (change (λ n. record n { link = record { to = id_by g to; mark = mark } }) (index_of row g) h.nodes); roots = h.roots }
+    record {
+      nodes = target_nodes f (id_by g to) (change (λ n. record n { link = record { to = id_by g to; mark = mark } }) (index_of row g) h.nodes);
+      roots = h.roots;
+    }
 tie_link k w g h f same sets row to mark x lt given target =
     let long = x.long in
     tie_target k (slice_set w (row_place k row + 4) v) g h1 f same sets (id_by g to) named there
     (length-set w (row_place k row + 4) v ∙ long)
     x.rooted
-    (x.even ∙ sym (length_change linked_to (index_of row g) h.nodes))
+    (x.even ∙ sym (length-change linked_to (index_of row g) h.nodes))
     x.once
     x.inside
     (λ r l e.
@@ -319,14 +353,18 @@ tie_link k w g h f same sets row to mark x lt given target =
     (λ id r n e q. elim (change_back linked_to (index_of row g) id h.nodes n q) [
       | inl t ↦
           let same : r ≡ row = some_one r row (sym e ∙ (ap (slice_get g) (sym t.0) ∙ at_index row g given)) in
-          subst (λ (m : Node). Block k (slice_set w (row_place k row + 4) v) g r m) (sym t.3) (subst (λ i. Block k (slice_set w (row_place k row + 4) v) g i (linked_to t.1)) (sym same) (own t.1 long (x.node id row t.1 (e ∙ ap Some same) t.2)))
+          subst (λ (m : Node). Block k (slice_set w (row_place k row + 4) v) g r m) (sym t.3)
+          (subst (λ i. Block k (slice_set w (row_place k row + 4) v) g i (linked_to t.1)) (sym same)
+          (own t.1 long (x.node id row t.1 (e ∙ ap Some same) t.2)))
       | inr t ↦
           let ne = apart_rows k g x.once id row r e given t.0 in
-          block_else k w g r n (row_place k row + 4) v (λ z. ne (omega (arith, z))) (λ z. ne (omega (arith, z))) (λ z. ne (omega (arith, z))) (λ z. ne (omega (arith, z))) (x.node id r n e t.1)
+          block_else k w g r n (row_place k row + 4) v (λ z. ne (omega (arith, z))) (λ z. ne (omega (arith, z))) (λ z. ne (omega (arith, z)))
+          (λ z. ne (omega (arith, z))) (x.node id r n e t.1)
     ])
     (λ r l none. record {
       gate = same_word w (row_place k row + 4) v (row_place k r) (λ z. absurd (omega (arith, z))) ∙ (x.free r l none).gate;
-      link = same_word w (row_place k row + 4) v (row_place k r + 4) (λ z. let q : r ≡ row = omega (arith, z) in none (index_of row g) (at_index row g given ∙ ap Some (sym q))) ∙ (x.free r l none).link;
+      link = same_word w (row_place k row + 4) v (row_place k r + 4) (λ z. let q : r ≡ row = omega (arith, z) in
+          none (index_of row g) (at_index row g given ∙ ap Some (sym q))) ∙ (x.free r l none).link;
     })
   where
     v : ℕ
@@ -339,7 +377,8 @@ tie_link k w g h f same sets row to mark x lt given target =
     h1 = record { nodes = change linked_to (index_of row g) h.nodes; roots = h.roots }
 
     there : (id : ℕ) → id_by g to ≡ Some id → (n : Node) × (slice_get (change linked_to (index_of row g) h.nodes) id ≡ Some n)
-    there id e = let t = there_by k w g h x to target id e in elim (get-change linked_to (index_of row g) id h.nodes t.0 t.1) [ inl r ↦ (linked_to t.0, r.1) | inr r ↦ (t.0, r.1) ]
+    there id e = let t = there_by k w g h x to target id e in
+        elim (get-change linked_to (index_of row g) id h.nodes t.0 t.1) [ inl r ↦ (linked_to t.0, r.1) | inr r ↦ (t.0, r.1) ]
 
     own : (m : Node) → length w ≡ places k → Block k w g row m → Block k (slice_set w (row_place k row + 4) v) g row (linked_to m)
     own m long b = record {
@@ -361,7 +400,8 @@ tie_link k w g h f same sets row to mark x lt given target =
         ]
 
 -- a root is set, and its target is noted
-pub tie_root : (k : Bounds) (w g : List ℕ) (h : Heap) (f : Node → Node) → ((n : Node) → Alike (f n) n) → ((n : Node) → (f n).named ≡ true) → (r : ℕ) (to : Option ℕ) (mark : Bool)
+pub tie_root : (k : Bounds) (w g : List ℕ) (h : Heap) (f : Node → Node) → ((n : Node) → Alike (f n) n) → ((n : Node) → (f n).named ≡ true)
+    → (r : ℕ) (to : Option ℕ) (mark : Bool)
     → Tie k w g h → r < k.roots → Given g to
     → Tie k (slice_set w (1 + r) (2 * name_word to + bit mark)) g
     record { nodes = target_nodes f (id_by g to) h.nodes; roots = change (λ l. record { to = id_by g to; mark = mark }) r h.roots }
@@ -369,15 +409,18 @@ tie_root k w g h f same sets r to mark x lt target =
     let long = x.long in
     tie_target k (slice_set w (1 + r) v) g h1 f same sets (id_by g to) named (λ id e. there_by k w g h x to target id e)
     (length-set w (1 + r) v ∙ long)
-    (length_change (λ l. new) r h.roots ∙ x.rooted)
+    (length-change (λ l. new) r h.roots ∙ x.rooted)
     x.even
     x.once
     x.inside
     (λ i l e. elim (change_back (λ l. new) r i h.roots l e) [
-      | inl t ↦ subst (λ (z : Link). IsWord g z.to z.mark (slice_index (slice_set w (1 + r) v) (1 + i))) (sym t.3) (subst (λ z. IsWord g (id_by g to) mark (slice_index (slice_set w (1 + r) v) (1 + z))) t.0 (subst (IsWord g (id_by g to) mark) (sym (new_word w (1 + r) v (omega (arith, long, lt)))) (word_by g to mark target)))
+      | inl t ↦ subst (λ (z : Link). IsWord g z.to z.mark (slice_index (slice_set w (1 + r) v) (1 + i))) (sym t.3)
+          (subst (λ z. IsWord g (id_by g to) mark (slice_index (slice_set w (1 + r) v) (1 + z))) t.0
+          (subst (IsWord g (id_by g to) mark) (sym (new_word w (1 + r) v (omega (arith, long, lt)))) (word_by g to mark target)))
       | inr t ↦ subst (IsWord g l.to l.mark) (sym (same_word w (1 + r) v (1 + i) (λ z. t.0 (omega (arith, z))))) (x.root i l t.1)
     ])
-    (λ id i n e q. block_else k w g i n (1 + r) v (λ z. omega (arith, z, lt)) (λ z. omega (arith, z, lt)) (λ z. omega (arith, z, lt)) (λ z. omega (arith, z, lt)) (x.node id i n e q))
+    (λ id i n e q. block_else k w g i n (1 + r) v (λ z. omega (arith, z, lt)) (λ z. omega (arith, z, lt)) (λ z. omega (arith, z, lt))
+    (λ z. omega (arith, z, lt)) (x.node id i n e q))
     (λ i l none. record {
       gate = same_word w (1 + r) v (row_place k i) (λ z. omega (arith, z, lt)) ∙ (x.free i l none).gate;
       link = same_word w (1 + r) v (row_place k i + 4) (λ z. omega (arith, z, lt)) ∙ (x.free i l none).link;
@@ -407,7 +450,9 @@ tie_start k = record {
   even = refl;
   once = λ i j r e q. cc;
   inside = λ i r e. cc;
-  root = λ r l e. let low = get_lt (replicate k.roots null) r l e in let long = length-replicate k.roots null in subst (λ (z : Link). IsWord [] z.to z.mark (slice_index (new_words k) (1 + r))) (sym (all_null k.roots r l e)) (new_words_each k (word.Root r) (omega (arith, low, long)));
+  root = λ r l e. let low = get_lt (replicate k.roots null) r l e in let long = length-replicate k.roots null in
+      subst (λ (z : Link). IsWord [] z.to z.mark (slice_index (new_words k) (1 + r))) (sym (all_null k.roots r l e))
+      (new_words_each k (word.Root r) (omega (arith, low, long)));
   node = λ id r n e q. cc;
   free = λ r l none. record { gate = new_words_each k (word.Gate r) l; link = new_words_each k (word.Next r) l };
   targets = targets;

@@ -68,7 +68,9 @@ module _ {N : Type 0} (k : Bounds) where
   others_none a x [] e = refl
   others_none a x (s ∷ ss) e = dite (ℕ_discrete s.agent a)
       (λ own. absurd (cons_nil s (own_of by a ss) (sym (by_own by a s ss own) ∙ e)))
-      (λ ne. none-append a (events_at k x s) (project_from k (next k x s) ss) (none_of_all a s.agent (events_at k x s) ne (signed x s.agent s.op (finds k x s.op) s.note)) (others_none a (next k x s) ss (sym (by_other by a s ss ne) ∙ e)))
+      (λ ne. none-append a (events_at k x s) (project_from k (next k x s) ss)
+      (none_of_all a s.agent (events_at k x s) ne (signed x s.agent s.op (finds k x s.op) s.note))
+      (others_none a (next k x s) ss (sym (by_other by a s ss ne) ∙ e)))
 
   -- the given rows grow
   pub given_more : (x : State) (ss : List (PlainStep N)) → IsPrefix x.given (run_from k x ss).given
@@ -79,7 +81,9 @@ pub lt_more : (row : ℕ) (g more : List ℕ) → index_of row g < length g → 
 lt_more row g more lt = let e = index_grown row g more lt in let l = length-append g more in omega (arith, e, l, lt)
 
 -- the fresh row stays so, where its node stays untouched
-pub fresh_stays : (a : ℕ) (x y : State) (more : List ℕ) → y.given ≡ x.given ++ more → (fresh : Option ℕ) → ((row : ℕ) → fresh ≡ Some row → IsUntouched a x.heap (index_of row x.given) → IsUntouched a y.heap (index_of row x.given)) → FreshHeld a x fresh → FreshHeld a y fresh
+pub fresh_stays : (a : ℕ) (x y : State) (more : List ℕ) → y.given ≡ x.given ++ more → (fresh : Option ℕ)
+    → ((row : ℕ) → fresh ≡ Some row → IsUntouched a x.heap (index_of row x.given) → IsUntouched a y.heap (index_of row x.given)) → FreshHeld a x fresh
+    → FreshHeld a y fresh
 fresh_stays a x y more e None keep h = tt
 fresh_stays a x y more e (Some row) keep h =
     let one : index_of row x.given ≡ index_of row y.given = sym (ap (index_of row) e ∙ index_grown row x.given more h.0) in (
@@ -106,13 +110,18 @@ module _ {D N : Type 0} (d : discipline.Ghosts D N) (k : Bounds) where
 
   pub lawful_of : (past es : List (Event N)) → holds past → AllAllowed may past es → IsLawfulFrom (run_heap (numbers k) past) es
   lawful_of past [] h a = tt
-  lawful_of past (e ∷ es) h a = (d.fits (numbers k) past e h a.0, subst (λ z. IsLawfulFrom z es) (run_heap-snoc (numbers k) past e) (lawful_of (past ++ e ∷ []) es (d.keeps (numbers k) past e h a.0) a.1))
+  lawful_of past (e ∷ es) h a = (
+    d.fits (numbers k) past e h a.0,
+    subst (λ z. IsLawfulFrom z es) (run_heap-snoc (numbers k) past e)
+        (lawful_of (past ++ e ∷ []) es (d.keeps (numbers k) past e h a.0) a.1),
+  )
 
   pub allowed_front : (xs ys : List (PlainStep N)) → AllowedFrom k (xs ++ ys) → AllowedFrom k xs
   allowed_front [] ys h = tt
   allowed_front (x ∷ xs) ys h = (h.0, allowed_front xs ys h.1)
 
-  pub mid_of : (seen between : List (PlainStep N)) (a : ℕ) → holds [] → own_of by a between ≡ [] → AllowedFrom k (seen ++ between) → AllAllowed may [] (project k (seen ++ between)) → Mid k may seen between a
+  pub mid_of : (seen between : List (PlainStep N)) (a : ℕ) → holds [] → own_of by a between ≡ [] → AllowedFrom k (seen ++ between)
+      → AllAllowed may [] (project k (seen ++ between)) → Mid k may seen between a
   mid_of seen between a began none can each =
       let events : project k (seen ++ between) ≡ project k seen ++ project_from k (run k seen) between = project-append k (start k) seen between in
       let state : run k (seen ++ between) ≡ run_from k (run k seen) between = steps-append k (start k) seen between in
@@ -122,7 +131,8 @@ module _ {D N : Type 0} (d : discipline.Ghosts D N) (k : Bounds) where
       record {
         tie = subst (Tied k) state (tied k (seen ++ between) can lawful);
         none = others_none k a (run k seen) between none;
-        fits = subst (λ z. IsLawfulFrom z (project_from k (run k seen) between)) (sym (heap_is k (start k) seen)) (lawful-right (start k).heap (project k seen) (project_from k (run k seen) between) first);
+        fits = subst (λ z. IsLawfulFrom z (project_from k (run k seen) between)) (sym (heap_is k (start k) seen))
+            (lawful-right (start k).heap (project k seen) (project_from k (run k seen) between) first);
         allowed = allowed-right may [] (project k seen) (project_from k (run k seen) between) all;
         events = events;
         state = state;
@@ -135,21 +145,28 @@ module _ {N : Type 0} (k : Bounds) (may : List (Event N) → Event N → Type 0)
 
   pub mid_fresh : (fresh : Option ℕ) → FreshHeld a (run k seen) fresh → FreshHeld a mid fresh
   mid_fresh fresh h = let g = given_more k (run k seen) between in
-      fresh_stays a (run k seen) mid g.0 (sym g.1) fresh (λ row _ u. subst (λ z. IsUntouched a z (index_of row (run k seen).given)) (sym (heap_is k (run k seen) between)) (untouched_from a (run k seen).heap (project_from k (run k seen) between) (index_of row (run k seen).given) m.none m.fits u)) h
+      fresh_stays a (run k seen) mid g.0 (sym g.1) fresh
+      (λ row _ u. subst (λ z. IsUntouched a z (index_of row (run k seen).given)) (sym (heap_is k (run k seen) between))
+      (untouched_from a (run k seen).heap (project_from k (run k seen) between) (index_of row (run k seen).given) m.none m.fits u)) h
 
   pub mid_target : (t : Option ℕ) → IsTarget a (run k seen).heap t → IsTarget a mid.heap t
-  mid_target t r = subst (λ z. IsTarget a z t) (sym (heap_is k (run k seen) between)) (target_from a (run k seen).heap (project_from k (run k seen) between) t r)
+  mid_target t r =
+      subst (λ z. IsTarget a z t) (sym (heap_is k (run k seen) between)) (target_from a (run k seen).heap (project_from k (run k seen) between) t r)
 
 -- what the step of a pass did
-pub record Walk {N : Type 0} (k : Bounds) (may : List (Event N) → Event N → Type 0) (v u : View (PlainStep N) (Unit {0})) (a : ℕ) (op : PlainOp) (said : Option N) (n : ℕ) : Type 0 where
+pub record Walk {N : Type 0} (k : Bounds) (may : List (Event N) → Event N → Type 0) (v u : View (PlainStep N) (Unit {0})) (a : ℕ) (op : PlainOp)
+    (said : Option N) (n : ℕ) : Type 0 where
   pub between : List (PlainStep N)
   pub mid : Mid k may v.seen between a
   pub answers : n ≡ answer op (finds k (run_from k (run k v.seen) between) op)
   pub state : run k u.seen ≡ next k (run_from k (run k v.seen) between) (step_of a op said)
-  pub fits : IsLawfulFrom (run_from k (run k v.seen) between).heap (events_of (run_from k (run k v.seen) between) a op (finds k (run_from k (run k v.seen) between) op) said)
+  pub fits : IsLawfulFrom (run_from k (run k v.seen) between).heap
+      (events_of (run_from k (run k v.seen) between) a op (finds k (run_from k (run k v.seen) between) op) said)
   pub tie : Tied k (run k u.seen)
-  pub events : project k u.seen ≡ (project k v.seen ++ project_from k (run k v.seen) between) ++ events_of (run_from k (run k v.seen) between) a op (finds k (run_from k (run k v.seen) between) op) said
-  pub allowed : AllAllowed may (project k v.seen ++ project_from k (run k v.seen) between) (events_of (run_from k (run k v.seen) between) a op (finds k (run_from k (run k v.seen) between) op) said)
+  pub events : project k u.seen ≡ (project k v.seen ++ project_from k (run k v.seen) between)
+      ++ events_of (run_from k (run k v.seen) between) a op (finds k (run_from k (run k v.seen) between) op) said
+  pub allowed : AllAllowed may (project k v.seen ++ project_from k (run k v.seen) between)
+      (events_of (run_from k (run k v.seen) between) a op (finds k (run_from k (run k v.seen) between) op) said)
   pub longer : u.seen ≡ (v.seen ++ between) ++ step_of a op said ∷ []
   pub also : u.also ≡ v.also
   pub retired : (b : ℕ) → Among b v.also → own_of by b between ≡ []
@@ -158,13 +175,16 @@ module _ {D N : Type 0} (d : discipline.Ghosts D N) (q : PlainShape N) where
   abbrev kk : Bounds
   kk = bounds_of q.shape
 
-  pub walk : (v w : View (PlainStep N) (Unit {0})) (a : ℕ) (op : PlainOp) (said : Option N) (n : ℕ) → d.holds (numbers kk) [] → v.agent ≡ Some a → Extends plain_rules q (d.holds (numbers kk)) (d.may (numbers kk)) op said v n w → Walk kk (d.may (numbers kk)) v w a op said n
-  walk v w a op said n began is x = subst (λ b. Walk kk (d.may (numbers kk)) v w b op said n) (some_one x.agent a (sym x.is ∙ is)) (made x.agent x.others x.answers x.seen x.now x.read)
+  pub walk : (v w : View (PlainStep N) (Unit {0})) (a : ℕ) (op : PlainOp) (said : Option N) (n : ℕ) → d.holds (numbers kk) [] → v.agent ≡ Some a
+      → Extends plain_rules q (d.holds (numbers kk)) (d.may (numbers kk)) op said v n w → Walk kk (d.may (numbers kk)) v w a op said n
+  walk v w a op said n began is x = subst (λ b. Walk kk (d.may (numbers kk)) v w b op said n) (some_one x.agent a (sym x.is ∙ is))
+      (made x.agent x.others x.answers x.seen x.now x.read)
     where
       may2 : List (Event N) → Event N → Type 0
       may2 = d.may (numbers kk)
 
-      made : (b : ℕ) → own_of by b x.between ≡ [] → n ≡ answer op x.found → w.seen ≡ (v.seen ++ x.between) ++ step_of b op said ∷ [] → LaterJournal plain_rules q (d.holds (numbers kk)) (d.may (numbers kk)) w.seen w b
+      made : (b : ℕ) → own_of by b x.between ≡ [] → n ≡ answer op x.found → w.seen ≡ (v.seen ++ x.between) ++ step_of b op said ∷ []
+          → LaterJournal plain_rules q (d.holds (numbers kk)) (d.may (numbers kk)) w.seen w b
           → x.found ≡ finds kk (run kk (v.seen ++ x.between)) op → Walk kk (d.may (numbers kk)) v w b op said n
       made b none answers seen now read =
           let k : Bounds = kk in
@@ -176,7 +196,9 @@ module _ {D N : Type 0} (d : discipline.Ghosts D N) (q : PlainShape N) where
           let each : AllAllowed may [] (project k (front ++ s ∷ [])) = subst (λ z. AllAllowed may [] (project k z)) seen now.each in
           let split : project k (front ++ s ∷ []) ≡ project k front ++ (events_at k (run k front) s ++ []) = project-append k (start k) front (s ∷ []) in
           let each2 : AllAllowed may [] (project k front ++ (events_at k (run k front) s ++ [])) = subst (AllAllowed may []) split each in
-          let m : Mid k may v.seen x.between b = mid_of d k v.seen x.between b began none (allowed_front d k front (s ∷ []) can) (allowed-left may [] (project k front) (events_at k (run k front) s ++ []) each2) in
+          let m : Mid k may v.seen x.between b =
+          mid_of d k v.seen x.between b began none (allowed_front d k front (s ∷ []) can)
+          (allowed-left may [] (project k front) (events_at k (run k front) s ++ []) each2) in
           let own : List (Event N) = events_at k middle s in
           let es : List (Event N) = project_from k (run k v.seen) x.between in
           let tail : events_at k (run k front) s ++ [] ≡ own = append-nil (events_at k (run k front) s) ∙ ap (λ z. events_at k z s) m.state in
@@ -199,7 +221,8 @@ module _ {D N : Type 0} (d : discipline.Ghosts D N) (q : PlainShape N) where
             retired = x.retired;
           }
 
-module _ {N : Type 0} (k : Bounds) (may : List (Event N) → Event N → Type 0) (v u : View (PlainStep N) (Unit {0})) (a : ℕ) (op : PlainOp) (said : Option N) (n : ℕ) (w : Walk k may v u a op said n) where
+module _ {N : Type 0} (k : Bounds) (may : List (Event N) → Event N → Type 0) (v u : View (PlainStep N) (Unit {0})) (a : ℕ) (op : PlainOp)
+    (said : Option N) (n : ℕ) (w : Walk k may v u a op said n) where
   -- the state in which the step was made
   abbrev pub met : State
   met = run_from k (run k v.seen) w.between
@@ -217,11 +240,16 @@ module _ {N : Type 0} (k : Bounds) (may : List (Event N) → Event N → Type 0)
   rows_later = goes_on (run k v.seen).given met.given (run k u.seen).given (given_more k (run k v.seen) w.between) (taken op (finds k met op), sym given_later)
 
   -- the fresh node stays so, where the step's event spares it
-  pub later_fresh : (fresh : Option ℕ) → ((row : ℕ) → fresh ≡ Some row → IsUntouched a met.heap (index_of row met.given) → IsUntouched a (heap_from met.heap own) (index_of row met.given)) → FreshHeld a (run k v.seen) fresh → FreshHeld a (run k u.seen) fresh
-  later_fresh fresh spares h = fresh_stays a met (run k u.seen) (taken op (finds k met op)) given_later fresh (λ row e u. subst (λ z. IsUntouched a z (index_of row met.given)) (sym heap_later) (spares row e u)) (mid_fresh k may v.seen w.between a w.mid fresh h)
+  pub later_fresh : (fresh : Option ℕ)
+      → ((row : ℕ) → fresh ≡ Some row → IsUntouched a met.heap (index_of row met.given)
+      → IsUntouched a (heap_from met.heap own) (index_of row met.given)) → FreshHeld a (run k v.seen) fresh → FreshHeld a (run k u.seen) fresh
+  later_fresh fresh spares h =
+      fresh_stays a met (run k u.seen) (taken op (finds k met op)) given_later fresh
+      (λ row e u. subst (λ z. IsUntouched a z (index_of row met.given)) (sym heap_later) (spares row e u)) (mid_fresh k may v.seen w.between a w.mid fresh h)
 
 -- what the step adds to what the pass has seen
-pub adds : {N : Type 0} (k : Bounds) (may : List (Event N) → Event N → Type 0) (v u : View (PlainStep N) (Unit {0})) (a c : ℕ) (op : PlainOp) (said : Option N) (n : ℕ) (w : Walk k may v u a op said n) → c ≡ a
+pub adds : {N : Type 0} (k : Bounds) (may : List (Event N) → Event N → Type 0) (v u : View (PlainStep N) (Unit {0})) (a c : ℕ) (op : PlainOp)
+    (said : Option N) (n : ℕ) (w : Walk k may v u a op said n) → c ≡ a
     → (fresh fresh2 looked looked2 : Option ℕ) → Adds may (own k may v u a op said n w) (view_of k a v fresh looked) (view_of k c u fresh2 looked2)
 adds k may v u a c op said n w e fresh fresh2 looked looked2 = record {
   met = project_from k (run k v.seen) w.between;

@@ -124,7 +124,8 @@ module _ {N : Type 0} where
 
   -- the events, and the rows that they gave, of the one or the other, whichever has seen more; the other's events are a prefix
   abbrev pub IsLonger : PlainView N → PlainView N → PlainView N → Type 0
-  IsLonger s u t = (IsPrefix u.events s.events × (t.events ≡ s.events) × (t.rows ≡ s.rows)) ⊎ (IsPrefix s.events u.events × (t.events ≡ u.events) × (t.rows ≡ u.rows))
+  IsLonger s u t = (IsPrefix u.events s.events × (t.events ≡ s.events) × (t.rows ≡ s.rows))
+      ⊎ (IsPrefix s.events u.events × (t.events ≡ u.events) × (t.rows ≡ u.rows))
 
   -- a pass is the same but for what it has seen, where no event of its agent, or of one that it took in, is new
   pub record SameButEvents (s t : PlainView N) : Type 0 where

@@ -3,3 +3,4 @@ pub mod Words
 pub mod Rules
 pub mod Views
 pub mod Calls
+pub mod BoardCalls

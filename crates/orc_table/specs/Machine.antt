@@ -139,7 +139,8 @@ module _ {N : Type 0} where
 
   -- a compare-and-swap of the place, which finds the word n, as an event
   abbrev pub cas_event : State → ℕ → Place → RowLink → RowLink → ℕ → Option N → Event N
-  cas_event x a at from to n said = tested x a at (link_by x.given from) (event_by a (act.Move at (link_by x.given from) (link_by x.given to)) said) (n == link_word from)
+  cas_event x a at from to n said = tested x a at (link_by x.given from) (event_by a (act.Move at (link_by x.given from) (link_by x.given to)) said)
+      (n == link_word from)
 
   -- the events of an operation of this agent, which found n: none or one
   abbrev pub events_of : State → ℕ → PlainOp → ℕ → Option N → List (Event N)

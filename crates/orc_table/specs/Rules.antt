@@ -57,10 +57,12 @@ module _ {N : Type 0} where
   steps-append b x [] ys = refl
   steps-append b x (y ∷ xs) ys = steps-append b (next b x y) xs ys
 
-  pub project-append : (b : Bounds) (x : State) (xs ys : List (PlainStep N)) → project_from b x (xs ++ ys) ≡ project_from b x xs ++ project_from b (run_from b x xs) ys
+  pub project-append : (b : Bounds) (x : State) (xs ys : List (PlainStep N)) → project_from b x (xs ++ ys) ≡ project_from b x xs
+      ++ project_from b (run_from b x xs) ys
   project-append b x [] ys = refl
   project-append b x (y ∷ xs) ys =
-      ap (λ l. events_at b x y ++ l) (project-append b (next b x y) xs ys) ∙ sym (append_assoc (events_at b x y) (project_from b (next b x y) xs) (project_from b (run_from b x (y ∷ xs)) ys))
+      ap (λ l. events_at b x y ++ l) (project-append b (next b x y) xs ys)
+      ∙ sym (append_assoc (events_at b x y) (project_from b (next b x y) xs) (project_from b (run_from b x (y ∷ xs)) ys))
 
   pub allowed-snoc : (b : Bounds) (j : List (PlainStep N)) (s : PlainStep N) → AllowedFrom b j → Allowed b s.op → AllowedFrom b (j ++ s ∷ [])
   allowed-snoc b [] s h a = (a, tt)
@@ -74,5 +76,6 @@ module _ {N : Type 0} where
     own_next = λ j a op said l. refl;
     own_other = λ j s b ne. refl;
     lawful_next = λ j a op said h l. allowed-snoc (bounds_of k.shape) j (step_of a op said) h l;
-    project_next = λ j s. project-append (bounds_of k.shape) (start (bounds_of k.shape)) j (s ∷ []) ∙ ap (λ l. project (bounds_of k.shape) j ++ l) (append-nil (events_at (bounds_of k.shape) (run (bounds_of k.shape) j) s));
+    project_next = λ j s. project-append (bounds_of k.shape) (start (bounds_of k.shape)) j (s ∷ [])
+        ∙ ap (λ l. project (bounds_of k.shape) j ++ l) (append-nil (events_at (bounds_of k.shape) (run (bounds_of k.shape) j) s));
   }

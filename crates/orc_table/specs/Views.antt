@@ -50,7 +50,8 @@ FreshHeld a x None = Unit {0}
 FreshHeld a x (Some row) = (index_of row x.given < length x.given) × IsUntouched a x.heap (index_of row x.given)
 
 -- what is true of a pass between calls
-pub record Keeps {N : Type 0} (k : PlainShape N) (holds : List (Event N) → Type 0) (may : List (Event N) → Event N → Type 0) (v : View (PlainStep N) (Unit {0})) (a : ℕ) (fresh : Option ℕ) : Type 0 where
+pub record Keeps {N : Type 0} (k : PlainShape N) (holds : List (Event N) → Type 0) (may : List (Event N) → Event N → Type 0)
+    (v : View (PlainStep N) (Unit {0})) (a : ℕ) (fresh : Option ℕ) : Type 0 where
   pub is : v.agent ≡ Some a
   pub number : a < (bounds_of k.shape).agents
   pub began : holds []

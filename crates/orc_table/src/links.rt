@@ -1,11 +1,11 @@
 //! Calls on links.
 
-ghost use Rattle.std.specs.Prelude.{◌≡◌, ◌≢◌, ◌<◌, ◌≤◌, ℕ, [], ◌∷◌, None, Some, false};
+ghost use Rattle.std.specs.Prelude.{◌≡◌, ◌≢◌, ◌<◌, ◌≤◌, None, Some, false};
 ghost use Rattle.orc_words.specs.Packed.{link_word};
 ghost use Rattle.orc_words.specs.declared.packed.RowLink.{RowLink};
-ghost use Rattle.orc_table.specs.Calls.{Adds, Fails, Finds, KnowsPlace, KnowsTarget, MayWhereFits, MayWhereShown, Misses, Replaces, aim_event, look_event, move_event, unless_linked};
-ghost use Rattle.orc_table.specs.Machine.{link_by, place_by};
-ghost use Rattle.orc_table.specs.Views.{Belongs, board_bounds, board_numbers, shows};
+ghost use Rattle.orc_table.specs.BoardCalls.{FailsToMove, FindsWord, IsFresh, KeepsFresh, KeepsFreshUnless, KeepsLook, KnowsLink, KnowsPlace, MakesLook, MakesMove, MayAim, MayLook, MayMove, MissesLink, ReplacesWord};
+ghost use Rattle.orc_table.specs.Calls.{unless_linked};
+ghost use Rattle.orc_table.specs.Views.{Belongs, board_bounds};
 
 use crate::machine::PlainOp;
 use crate::pass::{PlainBoard, PlainBoardPass};
@@ -22,23 +22,19 @@ impl<D: Discipline> PlainBoard<D> {
         note: Option<D::Note>,
     ) -> u64
         requires belongs { Belongs self.now p.old }
-        requires place { KnowsPlace (board_bounds self.now) (shows self.now p.old) place }
-        requires want { (link : RowLink) → want ≡ Some link → KnowsTarget (board_bounds self.now) (shows self.now p.old) link }
+        requires place { KnowsPlace self.now p.old place }
+        requires want { (link : RowLink) → want ≡ Some link → KnowsLink self.now p.old link }
         requires noted { want ≡ None → note ≡ None }
         requires allowed { (link : RowLink) (said : D.Note) → want ≡ Some link → note ≡ Some said
-            → MayWhereShown (D.may (board_numbers self.now)) (board_bounds self.now) (shows self.now p.old) place link
-            (look_event (shows self.now p.old) place link note) }
+            → MayLook self.now p.old place link note }
         ensures belongs { Belongs self.now p.new }
-        ensures finds { want ≡ None
-            → Finds (D.may (board_numbers self.now)) (board_bounds self.now) (place_by (shows self.now p.old).rows place) result
-            (shows self.now p.old) (shows self.now p.new) }
+        ensures finds { want ≡ None → FindsWord self.now p.old p.new place result }
         ensures meets { (link : RowLink) → want ≡ Some link → result ≡ link_word link
-            → Adds (D.may (board_numbers self.now)) (look_event (shows self.now p.old) place link note ∷ []) (shows self.now p.old) (shows self.now p.new) }
+            → MakesLook self.now p.old p.new place link note }
         ensures misses { (link : RowLink) → want ≡ Some link → result ≢ link_word link
-            → Misses (D.may (board_numbers self.now)) (board_bounds self.now) (place_by (shows self.now p.old).rows place)
-            (link_by (shows self.now p.old).rows link) result (shows self.now p.old) (shows self.now p.new) }
-        ensures looked { (shows self.now p.new).looked ≡ (shows self.now p.old).looked }
-        ensures fresh { (shows self.now p.new).fresh ≡ (shows self.now p.old).fresh }
+            → MissesLink self.now p.old p.new place link result }
+        ensures looked { KeepsLook self.now p.old p.new }
+        ensures fresh { KeepsFresh self.now p.old p.new }
     {
         self.step(p, PlainOp::LinkLoad { place, want }, &note)
     }
@@ -54,21 +50,16 @@ impl<D: Discipline> PlainBoard<D> {
         note: Option<D::Note>,
     ) -> u64
         requires belongs { Belongs self.now p.old }
-        requires place { KnowsPlace (board_bounds self.now) (shows self.now p.old) place }
-        requires from { KnowsTarget (board_bounds self.now) (shows self.now p.old) from }
-        requires to { KnowsTarget (board_bounds self.now) (shows self.now p.old) to }
-        requires allowed { MayWhereShown (D.may (board_numbers self.now)) (board_bounds self.now) (shows self.now p.old) place from
-            (move_event (shows self.now p.old) place from to note) }
+        requires place { KnowsPlace self.now p.old place }
+        requires from { KnowsLink self.now p.old from }
+        requires to { KnowsLink self.now p.old to }
+        requires allowed { MayMove self.now p.old place from to note }
         ensures belongs { Belongs self.now p.new }
         ensures answer { result ≤ 1 }
-        ensures moves { result ≡ 1
-            → Adds (D.may (board_numbers self.now)) (move_event (shows self.now p.old) place from to note ∷ [])
-            (shows self.now p.old) (shows self.now p.new) }
-        ensures linked { result ≡ 1 → (shows self.now p.new).fresh ≡ unless_linked (shows self.now p.old).fresh to.to }
-        ensures fails { result ≡ 0
-            → Fails (D.may (board_numbers self.now)) (place_by (shows self.now p.old).rows place) (link_by (shows self.now p.old).rows from)
-            (shows self.now p.old) (shows self.now p.new) }
-        ensures looked { (shows self.now p.new).looked ≡ (shows self.now p.old).looked }
+        ensures moves { result ≡ 1 → MakesMove self.now p.old p.new place from to note }
+        ensures linked { result ≡ 1 → KeepsFreshUnless self.now p.old p.new to.to }
+        ensures fails { result ≡ 0 → FailsToMove self.now p.old p.new place from }
+        ensures looked { KeepsLook self.now p.old p.new }
     {
         let wanted = pack_link(from);
         let found = self.step(p, PlainOp::LinkCas { place, from, to }, &note);
@@ -83,16 +74,15 @@ impl<D: Discipline> PlainBoard<D> {
     pub fn link_store(&self, p: &mut PlainBoardPass<D>, row: u32, link: RowLink) -> u64
         requires belongs { Belongs self.now p.old }
         requires row { row < (board_bounds self.now).rows }
-        requires fresh { (shows self.now p.old).fresh ≡ Some row }
+        requires fresh { IsFresh self.now p.old row }
         requires unmarked { link.mark ≡ false }
         requires other { link.to ≢ Some row }
-        requires target { KnowsTarget (board_bounds self.now) (shows self.now p.old) link }
-        requires allowed { MayWhereFits (D.may (board_numbers self.now)) (board_bounds self.now) (shows self.now p.old)
-            (aim_event (shows self.now p.old) row link) }
+        requires target { KnowsLink self.now p.old link }
+        requires allowed { MayAim self.now p.old row link }
         ensures belongs { Belongs self.now p.new }
-        ensures replaces { Replaces (D.may (board_numbers self.now)) (board_bounds self.now) row result link (shows self.now p.old) (shows self.now p.new) }
-        ensures looked { (shows self.now p.new).looked ≡ (shows self.now p.old).looked }
-        ensures fresh { (shows self.now p.new).fresh ≡ (shows self.now p.old).fresh }
+        ensures replaces { ReplacesWord self.now p.old p.new row result link }
+        ensures looked { KeepsLook self.now p.old p.new }
+        ensures fresh { KeepsFresh self.now p.old p.new }
     {
         self.step(p, PlainOp::LinkStore { row, to: link.to }, &None)
     }

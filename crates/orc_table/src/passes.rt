@@ -1,9 +1,9 @@
 //! What passes tell, learn from each other and give up.
 
-ghost use Rattle.std.specs.Prelude.{◌≡◌, None, Some};
+ghost use Rattle.std.specs.Prelude.{◌≡◌};
 ghost use Rattle.orc_words.specs.Bounds.{Bounds, bounds_of};
-ghost use Rattle.orc_table.specs.Calls.{Absorbs, LearnsEvents};
-ghost use Rattle.orc_table.specs.Views.{Belongs, board_bounds, shows, shows_by};
+ghost use Rattle.orc_table.specs.BoardCalls.{GivesUp, IsFresh, Learn, TakesIn};
+ghost use Rattle.orc_table.specs.Views.{Belongs, board_bounds, shows_by};
 
 use crate::pass::{PlainBoard, PlainBoardPass};
 use orc_heap::Discipline;
@@ -36,9 +36,9 @@ impl<D: Discipline> PlainBoard<D> {
     /// The row is the pass's fresh row no more. It is never given again.
     pub fn give_up(&self, p: &mut PlainBoardPass<D>, row: u32)
         requires belongs { Belongs self.now p.old }
-        requires fresh { (shows self.now p.old).fresh ≡ Some row }
+        requires fresh { IsFresh self.now p.old row }
         ensures belongs { Belongs self.now p.new }
-        ensures given_up { shows self.now p.new ≡ record (shows self.now p.old) { fresh = None } }
+        ensures given_up { GivesUp self.now p.old p.new }
     {
         p.fresh = None;
     }
@@ -49,7 +49,7 @@ impl<D: Discipline> PlainBoard<D> {
         requires from { Belongs self.now from.old }
         ensures into { Belongs self.now into.new }
         ensures from { Belongs self.now from.new }
-        ensures learns { LearnsEvents (shows self.now into.old) (shows self.now from.old) (shows self.now into.new) (shows self.now from.new) }
+        ensures learns { Learn self.now into.old from.old into.new from.new }
     {
         self.words.learn(&mut into.pass, &mut from.pass);
     }
@@ -59,7 +59,7 @@ impl<D: Discipline> PlainBoard<D> {
         requires into { Belongs self.now into.old }
         requires from { Belongs self.now from }
         ensures into { Belongs self.now into.new }
-        ensures absorbs { Absorbs (shows self.now into.old) (shows self.now from) (shows self.now into.new) }
+        ensures absorbs { TakesIn self.now into.old from into.new }
     {
         let PlainBoardPass {
             mut pass,

@@ -1,12 +1,9 @@
 //! Calls on gates and values.
 
-ghost use Rattle.std.specs.Prelude.{◌≡◌, ◌<◌, ◌≤◌, [], ◌∷◌, None, Some};
-ghost use Rattle.orc_heap.specs.declared.events.Act.TheVariants.{Fill};
-ghost use Rattle.orc_heap.specs.Calls.{ReadsValue};
-ghost use Rattle.orc_table.specs.Calls.{Adds, Gives, IsGateWord, KnowsRow, Loses, seen_free};
-ghost use Rattle.orc_table.specs.Machine.{index_of};
-ghost use Rattle.orc_heap.specs.Journals.{event_by};
-ghost use Rattle.orc_table.specs.Views.{Belongs, board_bounds, board_numbers, heap_of, shows};
+ghost use Rattle.std.specs.Prelude.{◌≡◌, ◌<◌, ◌≤◌, None};
+ghost use Rattle.orc_table.specs.BoardCalls.{GivesRow, HasNoFresh, IsFresh, KeepsFresh, KeepsLook, KnowsRow, LosesRow, MakesFill, MakesNoEvent, ReadsRow, SawFree};
+ghost use Rattle.orc_table.specs.Calls.{IsGateWord, seen_free};
+ghost use Rattle.orc_table.specs.Views.{Belongs, board_bounds, shows};
 
 use crate::machine::PlainOp;
 use crate::pass::{PlainBoard, PlainBoardPass};
@@ -19,9 +16,9 @@ impl<D: Discipline> PlainBoard<D> {
         requires row { row < (board_bounds self.now).rows }
         ensures belongs { Belongs self.now p.new }
         ensures gate { IsGateWord (shows self.now p.new).rows row result }
-        ensures adds { Adds (D.may (board_numbers self.now)) [] (shows self.now p.old) (shows self.now p.new) }
+        ensures adds { MakesNoEvent self.now p.old p.new }
         ensures looked { (shows self.now p.new).looked ≡ seen_free row result }
-        ensures fresh { (shows self.now p.new).fresh ≡ (shows self.now p.old).fresh }
+        ensures fresh { KeepsFresh self.now p.old p.new }
     {
         let gate = self.step(p, PlainOp::GateLook { row }, &None);
         p.looked = if gate % 2 == 0 { Some(row) } else { None };
@@ -32,12 +29,12 @@ impl<D: Discipline> PlainBoard<D> {
     pub fn gate_take(&self, p: &mut PlainBoardPass<D>, row: u32) -> u64
         requires belongs { Belongs self.now p.old }
         requires row { row < (board_bounds self.now).rows }
-        requires looked { (shows self.now p.old).looked ≡ Some row }
-        requires fresh { (shows self.now p.old).fresh ≡ None }
+        requires looked { SawFree self.now p.old row }
+        requires fresh { HasNoFresh self.now p.old }
         ensures belongs { Belongs self.now p.new }
         ensures answer { result ≤ 1 }
-        ensures won { result ≡ 1 → Gives (D.may (board_numbers self.now)) row (shows self.now p.old) (shows self.now p.new) }
-        ensures lost { result ≡ 0 → Loses (D.may (board_numbers self.now)) row (shows self.now p.old) (shows self.now p.new) }
+        ensures won { result ≡ 1 → GivesRow self.now p.old p.new row }
+        ensures lost { result ≡ 0 → LosesRow self.now p.old p.new row }
         ensures looked { (shows self.now p.new).looked ≡ None }
     {
         let gate = self.step(p, PlainOp::GateTake { row }, &None);
@@ -53,14 +50,13 @@ impl<D: Discipline> PlainBoard<D> {
     pub fn fill(&self, p: &mut PlainBoardPass<D>, row: u32, which: u32, value: u64) -> u64
         requires belongs { Belongs self.now p.old }
         requires row { row < (board_bounds self.now).rows }
-        requires fresh { (shows self.now p.old).fresh ≡ Some row }
+        requires fresh { IsFresh self.now p.old row }
         requires which { which < 2 }
         ensures belongs { Belongs self.now p.new }
         ensures answer { result ≡ value }
-        ensures adds { Adds (D.may (board_numbers self.now)) (event_by (shows self.now p.old).agent
-            (Fill (index_of row (shows self.now p.old).rows) which value) None ∷ []) (shows self.now p.old) (shows self.now p.new) }
-        ensures looked { (shows self.now p.new).looked ≡ (shows self.now p.old).looked }
-        ensures fresh { (shows self.now p.new).fresh ≡ (shows self.now p.old).fresh }
+        ensures adds { MakesFill self.now p.old p.new row which value }
+        ensures looked { KeepsLook self.now p.old p.new }
+        ensures fresh { KeepsFresh self.now p.old p.new }
     {
         self.step(p, PlainOp::Fill { row, which, value }, &None)
     }
@@ -68,13 +64,13 @@ impl<D: Discipline> PlainBoard<D> {
     /// Reads a row's first (0) or second (1) value.
     pub fn read(&self, p: &mut PlainBoardPass<D>, row: u32, which: u32) -> u64
         requires belongs { Belongs self.now p.old }
-        requires row { KnowsRow (board_bounds self.now) (shows self.now p.old) row }
+        requires row { KnowsRow self.now p.old row }
         requires which { which < 2 }
         ensures belongs { Belongs self.now p.new }
-        ensures value { ReadsValue (heap_of (board_bounds self.now) (shows self.now p.new)) (index_of row (shows self.now p.old).rows) which result }
-        ensures adds { Adds (D.may (board_numbers self.now)) [] (shows self.now p.old) (shows self.now p.new) }
-        ensures looked { (shows self.now p.new).looked ≡ (shows self.now p.old).looked }
-        ensures fresh { (shows self.now p.new).fresh ≡ (shows self.now p.old).fresh }
+        ensures value { ReadsRow self.now p.old p.new row which result }
+        ensures adds { MakesNoEvent self.now p.old p.new }
+        ensures looked { KeepsLook self.now p.old p.new }
+        ensures fresh { KeepsFresh self.now p.old p.new }
     {
         self.step(p, PlainOp::Read { row, which }, &None)
     }

@@ -94,7 +94,8 @@ abbrev pub behind : Bool → Option (List ℕ)
 behind true = Some []
 behind false = None
 
-marks-cut : (m : Bool) (t text front : List ℕ) (rest : Option (List ℕ)) → Lacks 109 t → text ≡ marked m t → Cuts 109 text front rest → (front ≡ t) × (rest ≡ behind m)
+marks-cut : (m : Bool) (t text front : List ℕ) (rest : Option (List ℕ)) → Lacks 109 t → text ≡ marked m t → Cuts 109 text front rest
+    → (front ≡ t) × (rest ≡ behind m)
 marks-cut true t text front None h e cut = absurd (cut-none 109 front t [] cut.1 (sym cut.0 ∙ e))
 marks-cut true t text front (Some more) h e cut =
     let parts = cut-unique 109 front t more [] cut.1 h (sym cut.0 ∙ e) in
@@ -103,7 +104,8 @@ marks-cut false t text front None h e cut = (sym cut.0 ∙ e, refl)
 marks-cut false t text front (Some more) h e cut = absurd (cut-none 109 t front more h (sym e ∙ cut.0))
 
 -- the text of a link, cut at its first `m`
-pub link-cut : (b : Bounds) (l : RowLink) (text front : List ℕ) (rest : Option (List ℕ)) → IsShape b → IsLink b l → text ≡ link_text l → Cuts 109 text front rest
+pub link-cut : (b : Bounds) (l : RowLink) (text front : List ℕ) (rest : Option (List ℕ)) → IsShape b → IsLink b l → text ≡ link_text l
+    → Cuts 109 text front rest
     → (front ≡ target_text l.to) × (rest ≡ behind l.mark)
 link-cut b l text front rest s h e cut = marks-cut l.mark (target_text l.to) text front rest (Lacks-target b l.to s h) e cut
 

@@ -35,13 +35,16 @@ line-same b s t shape h k e =
     let pair : ℕ → Op → ℕ × Op = λ a o. (a, o) in
     ap₂ pair agent op
 
-pub step-unique : (b : Bounds) (s t : ℕ × Op) (more other bytes : List ℕ) → IsShape b → HasStepLine b s more bytes → HasStepLine b t other bytes → (s ≡ t) × (more ≡ other)
+pub step-unique : (b : Bounds) (s t : ℕ × Op) (more other bytes : List ℕ) → IsShape b → HasStepLine b s more bytes → HasStepLine b t other bytes
+    → (s ≡ t) × (more ≡ other)
 step-unique b s t more other bytes shape h k =
-    let cut = cut-unique 10 (line_text s.0 s.1) (line_text t.0 t.1) more other (Lacks-line b s shape h.readable) (Lacks-line b t shape k.readable) (sym h.text ∙ k.text) in
+    let cut = cut-unique 10 (line_text s.0 s.1) (line_text t.0 t.1) more other (Lacks-line b s shape h.readable) (Lacks-line b t shape k.readable)
+    (sym h.text ∙ k.text) in
     (line-same b s t shape h.readable k.readable cut.0, cut.1)
 
 -- a line that spells a step, cut at its first space
-pub line-parts : (b : Bounds) (s : ℕ × Op) (line front : List ℕ) (rest : Option (List ℕ)) → IsShape b → IsReadable b s → line ≡ line_text s.0 s.1 → Cuts 32 line front rest
+pub line-parts : (b : Bounds) (s : ℕ × Op) (line front : List ℕ) (rest : Option (List ℕ)) → IsShape b → IsReadable b s → line ≡ line_text s.0 s.1
+    → Cuts 32 line front rest
     → (front ≡ decimal s.0) × (words_left rest ≡ words_of s.1)
 line-parts b s line front rest shape h e cut =
     let words : front ∷ words_left rest ≡ decimal s.0 ∷ words_of s.1 = sym (words-cut line front rest cut) ∙ ap words_in e ∙ line-words b s shape h in
@@ -53,10 +56,13 @@ abbrev pub shape_words : Bounds → List (List ℕ)
 shape_words b = codes "shape" ∷ decimal b.rows ∷ decimal b.roots ∷ decimal b.agents ∷ decimal b.limit ∷ []
 
 visible-shape : (b : Bounds) → AreWide b → AreVisible (shape_words b)
-visible-shape b w = (refl, (visible-decimal b.rows w.rows, (visible-decimal b.roots w.roots, (visible-decimal b.agents w.agents, (visible-decimal b.limit w.limit, tt)))))
+visible-shape b w =
+    (refl, (visible-decimal b.rows w.rows, (visible-decimal b.roots w.roots, (visible-decimal b.agents w.agents, (visible-decimal b.limit w.limit, tt)))))
 
-pub shape-words : (b : Bounds) → AreWide b → words_in (shape_text b) ≡ codes "shape" ∷ decimal b.rows ∷ decimal b.roots ∷ decimal b.agents ∷ decimal b.limit ∷ []
-shape-words b w = words-joined (codes "shape") (decimal b.rows ∷ decimal b.roots ∷ decimal b.agents ∷ decimal b.limit ∷ []) (AreWords-visible (shape_words b) (visible-shape b w))
+pub shape-words : (b : Bounds) → AreWide b → words_in (shape_text b) ≡ codes "shape" ∷ decimal b.rows ∷ decimal b.roots ∷ decimal b.agents
+    ∷ decimal b.limit ∷ []
+shape-words b w = words-joined (codes "shape") (decimal b.rows ∷ decimal b.roots ∷ decimal b.agents ∷ decimal b.limit ∷ [])
+    (AreWords-visible (shape_words b) (visible-shape b w))
 
 -- a first line, cut at its first space
 pub shape-parts : (b : Bounds) (line front : List ℕ) (rest : Option (List ℕ)) → AreWide b → line ≡ shape_text b → Cuts 32 line front rest

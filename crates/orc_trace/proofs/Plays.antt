@@ -29,7 +29,8 @@ pub record First (b : Bounds) (m : Machine) (s : ℕ × Op) (front : List (ℕ �
   pub made : is_allowed m s.0 s.1 ≡ true
   pub others : Begins b (step m s.0 s.1) front rest (steps_text front ++ rest)
 
-pub Begins-first : (b : Bounds) (m : Machine) (s : ℕ × Op) (front : List (ℕ × Op)) (rest bytes : List ℕ) → Begins b m (s ∷ front) rest bytes → First b m s front rest bytes
+pub Begins-first : (b : Bounds) (m : Machine) (s : ℕ × Op) (front : List (ℕ × Op)) (rest bytes : List ℕ) → Begins b m (s ∷ front) rest bytes
+    → First b m s front rest bytes
 Begins-first b m s front rest bytes h = record {
   line = record {
     text = h.text ∙ append_assoc (line_text s.0 s.1) (10 ∷ steps_text front) rest;

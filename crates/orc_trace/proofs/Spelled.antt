@@ -48,13 +48,17 @@ abbrev pub OfNumbers : ℕ → ℕ → (ℕ → ℕ → Op) → List (List ℕ) 
 OfNumbers end last make ws o = (m : ℕ) × (n : ℕ) × (m < end) × (n < last) × (ws ≡ decimal m ∷ decimal n ∷ []) × (o ≡ make m n)
 
 abbrev pub OfFill : Bounds → List (List ℕ) → Op → Type 0
-OfFill b ws o = (r : ℕ) × (which : ℕ) × (v : ℕ) × (r < b.rows) × (which < 2) × IsWide v × (ws ≡ decimal r ∷ decimal which ∷ decimal v ∷ []) × (o ≡ op.Fill r which v)
+OfFill b ws o = (r : ℕ) × (which : ℕ) × (v : ℕ) × (r < b.rows) × (which < 2) × IsWide v × (ws ≡ decimal r ∷ decimal which ∷ decimal v ∷ [])
+    × (o ≡ op.Fill r which v)
 
 abbrev pub OfLoad : Bounds → List (List ℕ) → Op → Type 0
-OfLoad b ws o = (p : Word) × IsPlace b p × (((ws ≡ place_text p ∷ []) × (o ≡ op.LinkLoad p None)) ⊎ ((k : ℕ) × (k < 8) × (ws ≡ place_text p ∷ decimal k ∷ []) × (o ≡ op.LinkLoad p (Some k))))
+OfLoad b ws o =
+    (p : Word) × IsPlace b p
+    × (((ws ≡ place_text p ∷ []) × (o ≡ op.LinkLoad p None)) ⊎ ((k : ℕ) × (k < 8) × (ws ≡ place_text p ∷ decimal k ∷ []) × (o ≡ op.LinkLoad p (Some k))))
 
 abbrev pub OfCas : Bounds → List (List ℕ) → Op → Type 0
-OfCas b ws o = (p : Word) × (f : RowLink) × (t : RowLink) × IsPlace b p × IsLink b f × IsLink b t × (ws ≡ place_text p ∷ link_text f ∷ link_text t ∷ []) × (o ≡ op.LinkCas p f t)
+OfCas b ws o = (p : Word) × (f : RowLink) × (t : RowLink) × IsPlace b p × IsLink b f × IsLink b t
+    × (ws ≡ place_text p ∷ link_text f ∷ link_text t ∷ []) × (o ≡ op.LinkCas p f t)
 
 abbrev pub OfStore : Bounds → List (List ℕ) → Op → Type 0
 OfStore b ws o = (r : ℕ) × (l : RowLink) × (r < b.rows) × IsLink b l × (ws ≡ decimal r ∷ link_text l ∷ []) × (o ≡ op.LinkStore r l)
@@ -125,7 +129,8 @@ one-number end make ws o p wide h k =
     let same : decimal h.0 ∷ [] ≡ decimal k.0 ∷ [] = sym h.2 ∙ k.2 in
     h.3 ∙ ap make (number-same end h.0 k.0 wide h.1 k.1 (cc same)) ∙ sym k.3
 
-two-numbers : (end last : ℕ) (make : ℕ → ℕ → Op) (ws : List (List ℕ)) (o p : Op) → end ≤ 2 ^ 64 → last ≤ 2 ^ 64 → OfNumbers end last make ws o → OfNumbers end last make ws p → o ≡ p
+two-numbers : (end last : ℕ) (make : ℕ → ℕ → Op) (ws : List (List ℕ)) (o p : Op) → end ≤ 2 ^ 64 → last ≤ 2 ^ 64 → OfNumbers end last make ws o
+    → OfNumbers end last make ws p → o ≡ p
 two-numbers end last make ws o p wide also h k =
     let same : decimal h.0 ∷ decimal h.1 ∷ [] ≡ decimal k.0 ∷ decimal k.1 ∷ [] = sym h.4 ∙ k.4 in
     h.5 ∙ ap₂ make (number-same end h.0 k.0 wide h.2 k.2 (cc same)) (number-same last h.1 k.1 also h.3 k.3 (cc same)) ∙ sym k.5
@@ -147,7 +152,8 @@ one-load b ws o p s (q, at, inl h) (q', at', inr k) = let bad : place_text q ∷
 one-load b ws o p s (q, at, inr h) (q', at', inl k) = let bad : place_text q ∷ decimal h.0 ∷ [] ≡ place_text q' ∷ [] = sym h.2 ∙ k.0 in cc bad
 one-load b ws o p s (q, at, inr h) (q', at', inr k) =
     let same : place_text q ∷ decimal h.0 ∷ [] ≡ place_text q' ∷ decimal k.0 ∷ [] = sym h.2 ∙ k.2 in
-    h.3 ∙ ap₂ (λ (w : Word) (n : ℕ). op.LinkLoad w (Some n)) (place-same b q q' s at at' (cc same)) (number-same 8 h.0 k.0 (omega arith) h.1 k.1 (cc same)) ∙ sym k.3
+    h.3 ∙ ap₂ (λ (w : Word) (n : ℕ). op.LinkLoad w (Some n)) (place-same b q q' s at at' (cc same))
+    (number-same 8 h.0 k.0 (omega arith) h.1 k.1 (cc same)) ∙ sym k.3
 
 one-cas : (b : Bounds) (ws : List (List ℕ)) (o p : Op) → IsShape b → OfCas b ws o → OfCas b ws p → o ≡ p
 one-cas b ws o p s h k =

@@ -46,7 +46,8 @@ same_end b m rest refused unread s h k = absurd (k.1 h.0 h.1 h.2)
 same_end b m rest refused refused s h k = refl
 
 -- no end stands before a step that can be made
-no_end : (b : Bounds) (m : Machine) (s : ℕ × Op) (more rest : List ℕ) (e : End) → IsShape b → HasStepLine b s more rest → is_allowed m s.0 s.1 ≡ true → Ends b m rest e → ⊥
+no_end : (b : Bounds) (m : Machine) (s : ℕ × Op) (more rest : List ℕ) (e : End) → IsShape b → HasStepLine b s more rest → is_allowed m s.0 s.1 ≡ true
+    → Ends b m rest e → ⊥
 no_end b m s more rest whole shape line made h = not_empty b s more rest line h
 no_end b m s more rest unread shape line made h = h.1 s more line
 no_end b m s more rest refused shape line made h =
@@ -62,10 +63,12 @@ one_end b m [] [] rest left bytes e f shape h i k j =
     (refl, same_end b m left e f shape (subst (λ (x : List ℕ). Ends b m x e) same i) j)
 one_end b m [] (t ∷ ts) rest left bytes e f shape h i k j =
     let first = Begins-first b m t ts left bytes k in
-    absurd (no_end b m t (steps_text ts ++ left) rest e shape (subst (λ (x : List ℕ). HasStepLine b t (steps_text ts ++ left) x) h.text first.line) first.made i)
+    absurd (no_end b m t (steps_text ts ++ left) rest e shape (subst (λ (x : List ℕ). HasStepLine b t (steps_text ts ++ left) x) h.text first.line)
+    first.made i)
 one_end b m (s ∷ ss) [] rest left bytes e f shape h i k j =
     let first = Begins-first b m s ss rest bytes h in
-    absurd (no_end b m s (steps_text ss ++ rest) left f shape (subst (λ (x : List ℕ). HasStepLine b s (steps_text ss ++ rest) x) k.text first.line) first.made j)
+    absurd (no_end b m s (steps_text ss ++ rest) left f shape (subst (λ (x : List ℕ). HasStepLine b s (steps_text ss ++ rest) x) k.text first.line)
+    first.made j)
 one_end b m (s ∷ ss) (t ∷ ts) rest left bytes e f shape h i k j =
     let first = Begins-first b m s ss rest bytes h in
     let other = Begins-first b m t ts left bytes k in
@@ -89,7 +92,8 @@ record Reached (bytes : List ℕ) (b : Bounds) (front : List (ℕ × Op)) (e : E
 shape_line : (b : Bounds) (lines bytes : List ℕ) → HasTable b lines bytes → HasShapeLine b lines bytes
 shape_line b lines bytes h = record { text = h.text; wide = wide-shape b h.shape }
 
-one_reached : (bytes : List ℕ) (b c : Bounds) (front back : List (ℕ × Op)) (e f : End) → Reached bytes b front e → Reached bytes c back f → (b ≡ c) × (front ≡ back) × (e ≡ f)
+one_reached : (bytes : List ℕ) (b c : Bounds) (front back : List (ℕ × Op)) (e f : End) → Reached bytes b front e → Reached bytes c back f
+    → (b ≡ c) × (front ≡ back) × (e ≡ f)
 one_reached bytes b c front back e f h k =
     let same = shape-unique b c h.lines k.lines bytes (shape_line b h.lines bytes h.table) (shape_line c k.lines bytes k.table) in
     let moved = subst (λ (x : Bounds). Begins x (new_machine x) back k.rest k.lines) (sym same.0) k.steps in
@@ -113,7 +117,8 @@ refused_step bytes n h = record { lines = h.1; rest = h.3.1; table = h.2; steps 
 abbrev OutOfRange : List ℕ → ShapeWord → Type 0
 OutOfRange bytes w = (b : Bounds) × (rest : List ℕ) × HasShapeLine b rest bytes × IsFirstOut b w
 
-shape_fault : (bytes : List ℕ) (w : ShapeWord) → IsShapeFault bytes w → ((w ≡ word.Unreadable) × ((b : Bounds) (rest : List ℕ) → ¬ HasShapeLine b rest bytes)) ⊎ OutOfRange bytes w
+shape_fault : (bytes : List ℕ) (w : ShapeWord) → IsShapeFault bytes w
+    → ((w ≡ word.Unreadable) × ((b : Bounds) (rest : List ℕ) → ¬ HasShapeLine b rest bytes)) ⊎ OutOfRange bytes w
 shape_fault bytes word.Unreadable h = inl (refl, h)
 shape_fault bytes word.Rows h = inr h
 shape_fault bytes word.Roots h = inr h

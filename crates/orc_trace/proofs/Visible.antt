@@ -33,7 +33,8 @@ both false b h k = h
 
 visible_by_index : (xs : List ℕ) → ((i : ℕ) → i < length xs → 32 < get_or xs i 0) → IsVisible xs
 visible_by_index [] h = refl
-visible_by_index (x ∷ xs) h = both (ltb 32 x) (is_visible xs) (let first = h 0 (omega arith) in grind (arith, nat_tests)) (visible_by_index xs (λ i lt. h (suc i) (omega arith)))
+visible_by_index (x ∷ xs) h = both (ltb 32 x) (is_visible xs) (let first = h 0 (omega arith) in grind (arith, nat_tests))
+    (visible_by_index xs (λ i lt. h (suc i) (omega arith)))
 
 pub visible-decimal : (n : ℕ) → n < 2 ^ 64 → IsVisible (decimal n)
 visible-decimal n small = visible_by_index (decimal n) (λ i lt. let range = digit_at (decimal n) i (digits_decimal own n small) lt in omega (arith, range))

@@ -63,7 +63,8 @@ IsRefused b m rest = (s : ℕ × Op) × (more : List ℕ) × HasStepLine b s mor
 -- the first fault of the lines, after the steps before it
 abbrev pub IsStepFault : Bounds → Machine → List ℕ → TraceFault → Type 0
 IsStepFault b m lines (fault.Unreadable n) = (front : List (ℕ × Op)) × (rest : List ℕ) × Begins b m front rest lines × (length front ≡ n) × IsUnreadable b rest
-IsStepFault b m lines (fault.NotAllowed n) = (front : List (ℕ × Op)) × (rest : List ℕ) × Begins b m front rest lines × (length front ≡ n) × IsRefused b (run m front) rest
+IsStepFault b m lines (fault.NotAllowed n) = (front : List (ℕ × Op)) × (rest : List ℕ) × Begins b m front rest lines × (length front ≡ n)
+    × IsRefused b (run m front) rest
 IsStepFault b m lines (fault.Shape w) = ⊥
 IsStepFault b m lines fault.NoMemory = ⊥
 

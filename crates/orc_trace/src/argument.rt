@@ -39,7 +39,8 @@ pub fn one_number(left: Option<&[u8]>, end: u32) -> Option<u32>
 /// The numbers below `end` and below `last` that the two words left spell.
 pub fn two_numbers(left: Option<&[u8]>, end: u32, last: u32) -> Option<(u32, u32)>
     ensures some { IfSome result (λ found. (found.0 < end) × (found.1 < last) × (words_left (option_copied left.entry) ≡ decimal found.0 ∷ decimal found.1 ∷ [])) }
-    ensures none { IfNone result ((first second : ℕ) → first < end → second < last → words_left (option_copied left.entry) ≢ decimal first ∷ decimal second ∷ []) }
+    ensures none { IfNone result ((first second : ℕ) → first < end → second < last → words_left (option_copied left.entry) ≢ decimal first
+        ∷ decimal second ∷ []) }
 {
     let (first, second) = two_words(left)?;
     let first = number_below(first, end)?;

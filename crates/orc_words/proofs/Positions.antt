@@ -16,7 +16,10 @@ agent_word k a = cond (ltb k 8) (Slot a k) (Handover a (k - 8))
 -- the word at a place
 abbrev word_at : Bounds → ℕ → Word
 word_at b p =
-    cond (eqb p 0) Enrolled (cond (ltb p (1 + b.roots)) (Root (p - 1)) (cond (ltb p (1 + b.roots + 5 * b.rows)) (row_word ((p - (1 + b.roots)) % 5) ((p - (1 + b.roots)) / 5)) (agent_word ((p - (1 + b.roots + 5 * b.rows)) % 16) ((p - (1 + b.roots + 5 * b.rows)) / 16))))
+    cond (eqb p 0) Enrolled
+    (cond (ltb p (1 + b.roots)) (Root (p - 1))
+    (cond (ltb p (1 + b.roots + 5 * b.rows)) (row_word ((p - (1 + b.roots)) % 5) ((p - (1 + b.roots)) / 5))
+    (agent_word ((p - (1 + b.roots + 5 * b.rows)) % 16) ((p - (1 + b.roots + 5 * b.rows)) / 16))))
 
 word_at-place : (b : Bounds) (w : Word) → IsWithin b w → word_at b (place b w) ≡ w
 word_at-place b Enrolled h = grind arith

@@ -6,6 +6,11 @@ use orc_history::{QueueRefused, SharedQueue};
 use orc_words::ShapeFault;
 use std::test::Fail;
 
+mod chains;
+mod domain_threads;
+mod queue_calls;
+mod queue_threads;
+
 #[test]
 fn a_job_goes_through_a_queue(rt: HostRuntime) -> Result<(), Fail> {
     assert_eq!(rt; put_and_take(rt.alloc()), Ok(Some((7, 0))));

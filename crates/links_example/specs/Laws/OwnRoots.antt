@@ -21,7 +21,8 @@ plain_own agent (Look place link) noted p = tt
 plain_own agent (Move place from to) noted p = absurd p
 plain_own agent (Miss place wanted found) noted p = tt
 
-pub own_roots_allows_plain : (n : HeapNumbers) (seen : List (Event ℕ)) (e : Event ℕ) → OwnRootsHolds n seen → FitsAfter n seen e → IsPlain e → OwnRootsMay n seen e
+pub own_roots_allows_plain : (n : HeapNumbers) (seen : List (Event ℕ)) (e : Event ℕ) → OwnRootsHolds n seen → FitsAfter n seen e → IsPlain e
+    → OwnRootsMay n seen e
 own_roots_allows_plain n seen e h f p = (f, plain_own e.agent e.act e.note p.1)
 
 own_linked : (agent : ℕ) (act : Act) (noted : Option ℕ) (h : Heap) → IsOwnMove agent act noted → MovesLinked act h
@@ -33,5 +34,6 @@ own_linked agent (Move (Root r) from to) noted h m = tt
 own_linked agent (Move (Next id) from to) noted h m = absurd m
 own_linked agent (Miss place wanted found) noted h m = tt
 
-pub own_roots_moves_linked : (n : HeapNumbers) (seen : List (Event ℕ)) (e : Event ℕ) → OwnRootsHolds n seen → OwnRootsMay n seen e → MovesLinked e.act (run_heap n seen)
+pub own_roots_moves_linked : (n : HeapNumbers) (seen : List (Event ℕ)) (e : Event ℕ) → OwnRootsHolds n seen → OwnRootsMay n seen e
+    → MovesLinked e.act (run_heap n seen)
 own_roots_moves_linked n seen e h m = own_linked e.agent e.act e.note (run_heap n seen) m.1

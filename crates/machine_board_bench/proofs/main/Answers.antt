@@ -5,4 +5,6 @@ use Rattle.orc_machine_board.specs.Views.{Belongs}
 use Rattle.machine_board_bench.proofs.main.Goals as goal
 
 pub load_links-links-requires-clause-belongs : goal.load_links-links-requires-clause-belongs
-load_links-links-requires-clause-belongs c = subst (λ o. IfSome o (λ p. Belongs c.in-Ok-make.board p)) c.in-Some.is (All-pop (λ p. Belongs c.in-Ok-make.board p) c.in-Ok-make.passes.items c.pop.new.self.items c.pop.result c.pop.ensures.items c.in-Ok-make.ensures.belongs).1
+load_links-links-requires-clause-belongs c =
+    subst (λ o. IfSome o (λ p. Belongs c.in-Ok-make.board p)) c.in-Some.is
+    (All-pop (λ p. Belongs c.in-Ok-make.board p) c.in-Ok-make.passes.items c.pop.new.self.items c.pop.result c.pop.ensures.items c.in-Ok-make.ensures.belongs).1

@@ -32,7 +32,8 @@ unlinked_place h (Next d) id node l there unlinked same =
     let bad : true ≡ false = sym l.linked ∙ (ap (λ (x : Node). x.linked) one ∙ unlinked) in
     cc
 
-pub added_linked : (roots : ℕ) (h : Heap) (keys : List ℕ) (agent : ℕ) (p : Place) (from to : Link) (key : ℕ) → AreChains roots h keys → (m : IsMoved h (heap_after agent (Move p from to) h) p from to)
+pub added_linked : (roots : ℕ) (h : Heap) (keys : List ℕ) (agent : ℕ) (p : Place) (from to : Link) (key : ℕ) → AreChains roots h keys
+    → (m : IsMoved h (heap_after agent (Move p from to) h) p from to)
     → (a : MayAdd roots h p from to key) → IsLinkedPlace p h → IsLinkedIn (heap_after agent (Move p from to) h) a.id key a.node.link
 added_linked roots h keys agent p from to key c m a l = record {
   has_key = record { node = as_linked a.node; there = there p l; linked = refl; key_is = a.key_is };
@@ -40,14 +41,19 @@ added_linked roots h keys agent p from to key c m a l = record {
 }
   where
     target : (g : Heap) → slice_get g.nodes a.id ≡ Some a.node → slice_get (change_target as_linked to.to g).nodes a.id ≡ Some (as_linked a.node)
-    target g at = subst (λ (t : Link). slice_get (change_target as_linked t.to g).nodes a.id ≡ Some (as_linked a.node)) (sym a.to_is) (get-change_same as_linked a.id g.nodes a.node at)
+    target g at =
+        subst (λ (t : Link). slice_get (change_target as_linked t.to g).nodes a.id ≡ Some (as_linked a.node)) (sym a.to_is)
+        (get-change_same as_linked a.id g.nodes a.node at)
 
     there : (p : Place) → IsLinkedPlace p h → slice_get (change_target as_linked to.to (set_link p to h)).nodes a.id ≡ Some (as_linked a.node)
     there (Root r) l = target (set_link (Root r) to h) a.there
     there (Next d) l =
-        target (set_link (Next d) to h) (get-change_other (with_link to) d a.id h.nodes (λ same. unlinked_place h (Next d) a.id a.node l a.there a.unlinked (ap (λ (x : ℕ). Next x) same)) ∙ a.there)
+        target (set_link (Next d) to h)
+        (get-change_other (with_link to) d a.id h.nodes (λ same. unlinked_place h (Next d) a.id a.node l a.there a.unlinked (ap (λ (x : ℕ). Next x) same))
+        ∙ a.there)
 
-module _ (roots : ℕ) (h k : Heap) (keys : List ℕ) (p : Place) (from to : Link) (key : ℕ) (c : AreChains roots h keys) (m : IsMoved h k p from to) (a : MayAdd roots h p from to key)
+module _ (roots : ℕ) (h k : Heap) (keys : List ℕ) (p : Place) (from to : Link) (key : ℕ) (c : AreChains roots h keys) (m : IsMoved h k p from to)
+    (a : MayAdd roots h p from to key)
     (p_linked : IsLinkedPlace p h) (new : IsLinkedIn k a.id key a.node.link)
   where
     unlinked : IsLinkedNode h a.id → ⊥
@@ -85,8 +91,12 @@ module _ (roots : ℕ) (h k : Heap) (keys : List ℕ) (p : Place) (from to : Lin
     leads q id l to_node = elim (place_either q p) [
       | inl same ↦
           let here : LeadsTo k p (Some id) = subst (λ (z : Place). LeadsTo k z (Some id)) same to_node in
-          let is : a.id ≡ id = some_same (sym (ap (λ (x : Link). x.to) a.to_is) ∙ (ap (λ (x : Link). x.to) (some_same (sym m.moved ∙ here.at)) ∙ here.to_is)) in
-          (key, subst (λ (z : ℕ). HasKey k z key) is new.has_key, subst (λ (z : Place). FollowsOn roots k z key) (sym same) (follows_stays roots h k p key m.stays follows))
+          let is : a.id ≡ id = some_same (sym (ap (λ (x : Link). x.to) a.to_is) ∙ (ap (λ (x : Link). x.to) (some_same (sym m.moved ∙ here.at)) ∙ here.to_is)) in (
+            key,
+            subst (λ (z : ℕ). HasKey k z key) is new.has_key,
+            subst (λ (z : Place). FollowsOn roots k z key) (sym same)
+                (follows_stays roots h k p key m.stays follows),
+          )
       | inr ne ↦ other q l to_node ne
     ]
       where
@@ -142,7 +152,15 @@ module _ (roots : ℕ) (h k : Heap) (keys : List ℕ) (p : Place) (from to : Lin
     present : (b : ℕ) → IsPresent roots h b → IsPresent roots k b
     present b y =
         let (own, at, plain) = unmarked_after (Next y.id) y.link y.at y.unmarked in
-        record { id = y.id; has_key = m.stays y.id b y.has_key; link = own; at = at; unmarked = plain; on_chain = on_chain (b % roots) y.id y.link y.at y.unmarked y.on_chain }
+        record {
+          id = y.id;
+          has_key = m.stays y.id b y.has_key;
+          link = own;
+          at = at;
+          unmarked = plain;
+          on_chain = on_chain
+              (b % roots) y.id y.link y.at y.unmarked y.on_chain;
+        }
 
     new_present : IsPresent roots k key
     new_present = record { id = a.id; has_key = new.has_key; link = a.node.link; at = new.shows; unmarked = a.own_plain; on_chain = new_on_chain }
@@ -181,7 +199,11 @@ module _ (roots : ℕ) (h k : Heap) (keys : List ℕ) (p : Place) (from to : Lin
             subst (λ (z : ℕ). IsOnChain k (z % roots) id) (key_new id b own_key same) (subst (λ (z : ℕ). IsOnChain k (key % roots) z) (sym same) new_on_chain)
       ];
       set = λ b. (
-        (λ is. elim (has_added key b keys is) [ inl before ↦ present b ((c.set b).0 before) | inr same ↦ subst (λ (z : ℕ). IsPresent roots k z) same new_present ]),
+        (λ is. elim (has_added key b keys is) [
+          | inl before ↦ present b ((c.set b).0 before)
+          | inr same ↦ subst
+              (λ (z : ℕ). IsPresent roots k z) same new_present
+        ]),
         (λ y. elim (old y.id (key_linked k y.id b y.has_key)) [
           | inl before ↦ has_old key b keys ((c.set b).1 (was_there b y.id y.link y.has_key y.at y.unmarked before))
           | inr same ↦ subst (λ (z : ℕ). has z (keys ++ key ∷ []) ≡ true) (key_new y.id b y.has_key same) (has_new key keys)

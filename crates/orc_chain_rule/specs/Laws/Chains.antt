@@ -13,7 +13,8 @@ pub next_same : (i j : ℕ) → Next i ≡ Next j → i ≡ j
 next_same i j e = cc
 
 -- a key may follow after the act what it may follow before it
-pub follows_stays : (roots : ℕ) (h k : Heap) (p : Place) (key : ℕ) → ((id key : ℕ) → HasKey h id key → HasKey k id key) → FollowsOn roots h p key → FollowsOn roots k p key
+pub follows_stays : (roots : ℕ) (h k : Heap) (p : Place) (key : ℕ) → ((id key : ℕ) → HasKey h id key → HasKey k id key) → FollowsOn roots h p key
+    → FollowsOn roots k p key
 follows_stays roots h k (Root r) key stays f = f
 follows_stays roots h k (Next id) key stays (low, own_key, less, same) = (low, stays id low own_key, less, same)
 
@@ -22,12 +23,14 @@ linked_place_before h k (Root r) old l = tt
 linked_place_before h k (Next id) old l = old id l
 
 -- the key of a node that was linked before
-pub key_before : (roots : ℕ) (h k : Heap) (keys : List ℕ) → AreChains roots h keys → ((id key : ℕ) → HasKey h id key → HasKey k id key) → (id key : ℕ) → IsLinkedNode h id → HasKey k id key → HasKey h id key
+pub key_before : (roots : ℕ) (h k : Heap) (keys : List ℕ) → AreChains roots h keys → ((id key : ℕ) → HasKey h id key → HasKey k id key) → (id key : ℕ)
+    → IsLinkedNode h id → HasKey k id key → HasKey h id key
 key_before roots h k keys c stays id key l own_key =
     let (a, own) = c.keyed id l in
     subst (λ (x : ℕ). HasKey h id x) (key_one k id a key (stays id a own) own_key) own
 
-path_still : (roots : ℕ) (h k : Heap) (keys : List ℕ) → AreChains roots h keys → IsStill h k → (p : Place) (ids : List ℕ) (to : Option ℕ) → IsLinkedPlace p h → IsPath h p ids to → IsPath k p ids to
+path_still : (roots : ℕ) (h k : Heap) (keys : List ℕ) → AreChains roots h keys → IsStill h k → (p : Place) (ids : List ℕ) (to : Option ℕ) → IsLinkedPlace p h
+    → IsPath h p ids to → IsPath k p ids to
 path_still roots h k keys c s p [] to l path = leads_same h k p to (s.shows p l) path
 path_still roots h k keys c s p (x ∷ xs) to l path =
     let (a, own_key, f) = c.leads p x l path.0 in
@@ -47,7 +50,8 @@ chains_still roots h k keys c s = record {
   plain_roots = λ r link at. c.plain_roots r link (sym (s.shows (Root r) tt) ∙ at);
   kept = λ id key link own_key at plain.
       let l = s.old id (key_linked k id key own_key) in
-      chain_still roots h k keys c s (key % roots) id (c.kept id key link (key_before roots h k keys c s.stays id key l own_key) (sym (s.shows (Next id) l) ∙ at) plain);
+      chain_still roots h k keys c s (key % roots) id
+      (c.kept id key link (key_before roots h k keys c s.stays id key l own_key) (sym (s.shows (Next id) l) ∙ at) plain);
   set = λ key. (
     (λ is.
         let y = (c.set key).0 is in
@@ -63,6 +67,14 @@ chains_still roots h k keys c s = record {
         let l = s.old y.id (key_linked k y.id key y.has_key) in
         let own_key = key_before roots h k keys c s.stays y.id key l y.has_key in
         let at = sym (s.shows (Next y.id) l) ∙ y.at in
-        (c.set key).1 (record { id = y.id; has_key = own_key; link = y.link; at = at; unmarked = y.unmarked; on_chain = c.kept y.id key y.link own_key at y.unmarked })),
+        (c.set key).1 (record {
+          id = y.id;
+          has_key = own_key;
+          link = y.link;
+          at = at;
+          unmarked = y.unmarked;
+          on_chain = c.kept y.id key y.link own_key at
+              y.unmarked;
+        })),
   );
 }

@@ -1,5 +1,6 @@
 -- What the discipline owes to the traits of disciplines.
 use Rattle.std.proofs.Common.{List, None, Option, Some, [], ap, arith, false, inl, inr, refl, subst, sym, true, ℕ, ◌++◌, ◌<◌, ◌∙◌, ◌∷◌, ◌≡◌, ◌⊎◌, ◌%◌}
+use Rattle.std.proofs.lemmas.Bool.{false_from_ne_true}
 use Rattle.std.specs.List.{slice_get}
 use Rattle.std.specs.Prelude.{unwrap_or}
 use Rattle.orc_heap.proofs.Linked.{linked_after}
@@ -29,7 +30,7 @@ use Rattle.orc_heap.proofs.SingleActs.{linked_node, shown_link, some_same}
 use Rattle.orc_chain_rule.specs.Laws.Kinds.{act_still, each_kind, key_linked, move_moves, no_move_linked, place_either}
 use Rattle.orc_chain_rule.specs.Laws.Paths.{chain_linked}
 use Rattle.orc_chain_rule.specs.Laws.Removing.{chains_remove, was_present}
-use Rattle.orc_chain_rule.specs.Laws.Sets.{bool_either, entries_more, entries_same, set_more}
+use Rattle.orc_chain_rule.specs.Laws.Sets.{entries_more, entries_same, set_more}
 use Rattle.orc_chain_rule.specs.Laws.Unlinking.{chains_unlink}
 
 pub chain_fits : (n : HeapNumbers) (seen : List (Event ChainNote)) (e : Event ChainNote) → ChainHolds n seen → ChainMay n seen e → FitsAfter n seen e
@@ -43,7 +44,8 @@ no_move_plain (Look place link) p = refl
 no_move_plain (Move place from to) p = absurd p
 no_move_plain (Miss place wanted found) p = refl
 
-pub chain_allows_plain : (n : HeapNumbers) (seen : List (Event ChainNote)) (e : Event ChainNote) → ChainHolds n seen → FitsAfter n seen e → IsPlain e → ChainMay n seen e
+pub chain_allows_plain : (n : HeapNumbers) (seen : List (Event ChainNote)) (e : Event ChainNote) → ChainHolds n seen → FitsAfter n seen e → IsPlain e
+    → ChainMay n seen e
 chain_allows_plain n seen e holds fits plain = record {
   fits = fits;
   may_act = subst (λ (x : Option ChainNote). MayAct n.roots (run_heap n seen) (set_after seen) e.act x) (sym plain.0) (no_move_plain e.act plain.1);
@@ -59,7 +61,8 @@ moves_linked : (p : Place) (from to : Link) (h : Heap) → IsLinkedPlace p h →
 moves_linked (Root r) from to h l = tt
 moves_linked (Next d) from to h l = l
 
-pub chain_moves_linked : (n : HeapNumbers) (seen : List (Event ChainNote)) (e : Event ChainNote) → ChainHolds n seen → ChainMay n seen e → MovesLinked e.act (run_heap n seen)
+pub chain_moves_linked : (n : HeapNumbers) (seen : List (Event ChainNote)) (e : Event ChainNote) → ChainHolds n seen → ChainMay n seen e
+    → MovesLinked e.act (run_heap n seen)
 chain_moves_linked n seen e holds may =
     let h : Heap = run_heap n seen in
     each_kind n.roots h (set_after seen) (λ act noted. MovesLinked act h)
@@ -72,7 +75,8 @@ chain_moves_linked n seen e holds may =
 
 -- the history
 
-legal_one : (es : List (Event ChainNote)) (e : Event ChainNote) (entry : SetEntry) → e.note ≡ Some (Entry entry) → IsLegalSet (entries_of es) → IsLegalSetFrom (set_after es) (entry ∷ [])
+legal_one : (es : List (Event ChainNote)) (e : Event ChainNote) (entry : SetEntry) → e.note ≡ Some (Entry entry) → IsLegalSet (entries_of es)
+    → IsLegalSetFrom (set_after es) (entry ∷ [])
     → IsLegalSet (entries_of (es ++ e ∷ []))
 legal_one es e entry note_is legal one = rw (entries_more es e entry note_is) (IsLegalSetFrom-snoc [] (entries_of es) entry legal one)
 
@@ -85,9 +89,6 @@ answer_keys : (keys : List ℕ) (entry : SetEntry) → MayAnswer keys entry → 
 answer_keys keys (Added by key answer) (is, there) = rw is refl
 answer_keys keys (Removed by key answer) (is, none) = rw is refl
 answer_keys keys (Asked by key answer) is = refl
-
-pub absent_false : (key : ℕ) (keys : List ℕ) → (has key keys ≡ true → ⊥) → has key keys ≡ false
-absent_false key keys none = elim (bool_either (has key keys)) [ inl is ↦ absurd (none is) | inr is ↦ is ]
 
 -- what an event leaves of the history and of the chains
 record Leaves (n : HeapNumbers) (es : List (Event ChainNote)) (e : Event ChainNote) : Type 0 where
@@ -112,7 +113,7 @@ leaves n es e holds may =
     let m = move_moves e.agent p from to h fits in
     let l = place_linked n.roots h keys c (key % n.roots) p a.on_chain in
     let new = added_linked n.roots h keys e.agent p from to key c m a l in
-    let none : has key keys ≡ false = absent_false key keys (λ is. was_absent n.roots h k keys p from to key c m a l new ((c.set key).0 is)) in
+    let none : has key keys ≡ false = false_from_ne_true (has key keys) (λ is. was_absent n.roots h k keys p from to key c m a l new ((c.set key).0 is)) in
     record {
       legal = legal_one es x (Added by key true) refl holds.legal (rw none refl, tt);
       chains = rw (set_more es x (Added by key true) refl) (chains_add n.roots h k keys p from to key c m a l new);
@@ -129,7 +130,9 @@ leaves n es e holds may =
     let x : Event ChainNote = event_by e.agent (Move p from to) (Some Unlink) in
     record {
       legal = rw (entries_same es x refl) holds.legal;
-      chains = rw (entries_same es x refl) (chains_unlink n.roots h (heap_after e.agent (Move p from to) h) keys p from to c (move_moves e.agent p from to h fits) u);
+      chains =
+          rw (entries_same es x refl)
+          (chains_unlink n.roots h (heap_after e.agent (Move p from to) h) keys p from to c (move_moves e.agent p from to h fits) u);
     })
     (λ p link entry t fits.
     let x : Event ChainNote = event_by e.agent (Look p link) (Some (Entry entry)) in
@@ -142,12 +145,14 @@ leaves n es e holds may =
 -- a marked link never changes
 
 -- an event that is allowed leaves a marked link
-pub marked_next : (n : HeapNumbers) (es : List (Event ChainNote)) (e : Event ChainNote) (id : ℕ) (link : Link) → ChainMay n es e → HasLink (run_heap n es) id link → link.mark ≡ true
+pub marked_next : (n : HeapNumbers) (es : List (Event ChainNote)) (e : Event ChainNote) (id : ℕ) (link : Link) → ChainMay n es e
+    → HasLink (run_heap n es) id link → link.mark ≡ true
     → HasLink (run_heap n (es ++ e ∷ [])) id link
 marked_next n es e id link may l mark =
     let h : Heap = run_heap n es in
     let at = shown_link h id link l in
-    let moved : (p : Place) (from to : Link) → Fits e.agent (Move p from to) h → from.mark ≡ false → shown (heap_after e.agent (Move p from to) h) (Next id) ≡ Some link
+    let moved : (p : Place) (from to : Link) → Fits e.agent (Move p from to) h → from.mark ≡ false
+    → shown (heap_after e.agent (Move p from to) h) (Next id) ≡ Some link
     = λ p from to fits plain. elim (place_either (Next id) p) [
       | inl same ↦
           let is : link ≡ from = some_same (sym at ∙ subst (λ (z : Place). shown h z ≡ Some from) (sym same) fits.0) in
@@ -181,7 +186,8 @@ split_snoc (y ∷ xs) x (b ∷ bs) after e =
       | inr s ↦ inr (rw (← head) (ap (λ z. y ∷ z) s))
     ]
 
-frozen_next : (n : HeapNumbers) (es : List (Event ChainNote)) (e : Event ChainNote) → ChainHolds n es → ChainMay n es e → (before after : List (Event ChainNote)) (id : ℕ) (link : Link)
+frozen_next : (n : HeapNumbers) (es : List (Event ChainNote)) (e : Event ChainNote) → ChainHolds n es → ChainMay n es e
+    → (before after : List (Event ChainNote)) (id : ℕ) (link : Link)
     → es ++ e ∷ [] ≡ before ++ after → HasLink (run_heap n before) id link → link.mark ≡ true → HasLink (run_heap n (es ++ e ∷ [])) id link
 frozen_next n es e holds may before after id link split l mark =
     elim (split_snoc es e before after split) [
@@ -190,7 +196,8 @@ frozen_next n es e holds may before after id link split l mark =
     ]
 
 -- an event that is allowed keeps what the events of sorted lists obey
-pub chain_keeps : (n : HeapNumbers) (seen : List (Event ChainNote)) (e : Event ChainNote) → ChainHolds n seen → ChainMay n seen e → ChainHolds n (seen ++ e ∷ [])
+pub chain_keeps : (n : HeapNumbers) (seen : List (Event ChainNote)) (e : Event ChainNote) → ChainHolds n seen → ChainMay n seen e
+    → ChainHolds n (seen ++ e ∷ [])
 chain_keeps n seen e holds may =
     let s = leaves n seen e holds may in
     record {
@@ -208,10 +215,13 @@ pub chain_rises : (n : HeapNumbers) (seen : List (Event ChainNote)) → ChainHol
 chain_rises n seen holds = λ id node there linked. cases id node there linked node.link.to refl
   where
     cases : (id : ℕ) (node : Node) → slice_get (run_heap n seen).nodes id ≡ Some node → node.linked ≡ true → (to : Option ℕ) → node.link.to ≡ to
-        → (node.link.to ≡ None) ⊎ ((next : ℕ) × (node.link.to ≡ Some next) × IsLinkedNode (run_heap n seen) next × (chain_rank n seen id < chain_rank n seen next))
+        → (node.link.to ≡ None)
+        ⊎ ((next : ℕ) × (node.link.to ≡ Some next) × IsLinkedNode (run_heap n seen) next × (chain_rank n seen id < chain_rank n seen next))
     cases id node there linked None is = inl is
     cases id node there linked (Some next) is =
         let h : Heap = run_heap n seen in
-        let (key, own, follows) = holds.chains.leads (Next id) next (record { node = node; there = there; linked = linked }) (record { link = node.link; at = shown_node h id node there; to_is = is }) in
+        let (key, own, follows) =
+        holds.chains.leads (Next id) next (record { node = node; there = there; linked = linked })
+        (record { link = node.link; at = shown_node h id node there; to_is = is }) in
         let (low, mine, less, same) = follows in
         inr (next, is, key_linked h next key own, omega (arith, key_at h id low mine, key_at h next key own, less))

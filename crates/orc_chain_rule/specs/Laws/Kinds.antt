@@ -1,6 +1,6 @@
 -- The kinds of events that the discipline allows, one by one, and what a Move and what any other act does to a heap.
-use Rattle.std.proofs.Common.{Bool, List, Option, Some, None, [], ap, false, inl, inr, refl, subst, suc, sym, true, zero, ℕ, ◌==◌, ◌∙◌, ◌∷◌, ◌≡◌, ◌≢◌, ◌⊎◌}
-use Rattle.std.proofs.lemmas.Bool.{eqb-false, eqb-true}
+use Rattle.std.proofs.Common.{Bool, List, Option, Some, None, [], ap, false, inl, inr, refl, subst, suc, sym, true, zero, ℕ, ◌∙◌, ◌∷◌, ◌≡◌, ◌≢◌, ◌⊎◌}
+use Rattle.std.proofs.lemmas.Bool.{cases_eq, eqb-true}
 use Rattle.std.specs.List.{slice_get}
 use Rattle.std.specs.Option.{option_map}
 use Rattle.orc_heap.proofs.Before.{linked_before}
@@ -65,18 +65,10 @@ key_after agent act h id key fits k =
 -- what places show
 
 pub place_either : (p q : Place) → (p ≡ q) ⊎ (p ≢ q)
-place_either (Root r) (Root s) = cases (r == s) refl
-  where
-    cases : (b : Bool) → (r == s) ≡ b → (Root r ≡ Root s) ⊎ (Root r ≢ Root s)
-    cases true e = inl (ap (λ (x : ℕ). Root x) (eqb-true r s e))
-    cases false e = inr (λ same. eqb-false r s e (cc))
+place_either (Root r) (Root s) = elim (cases_eq r s) [ inl e ↦ inl (ap (λ (x : ℕ). Root x) e) | inr ne ↦ inr (λ same. ne (cc)) ]
 place_either (Root r) (Next id) = inr (λ same. cc)
 place_either (Next id) (Root r) = inr (λ same. cc)
-place_either (Next i) (Next j) = cases (i == j) refl
-  where
-    cases : (b : Bool) → (i == j) ≡ b → (Next i ≡ Next j) ⊎ (Next i ≢ Next j)
-    cases true e = inl (ap (λ (x : ℕ). Next x) (eqb-true i j e))
-    cases false e = inr (λ same. eqb-false i j e (cc))
+place_either (Next i) (Next j) = elim (cases_eq i j) [ inl e ↦ inl (ap (λ (x : ℕ). Next x) e) | inr ne ↦ inr (λ same. ne (cc)) ]
 
 -- a Move
 
@@ -111,19 +103,25 @@ shown_unset : (place q : Place) (to : Link) (h : Heap) → q ≢ place → shown
 shown_unset (Root r) (Root s) to h ne = get-change_other (λ (l : Link). to) r s h.roots (λ e. ne (ap (λ (x : ℕ). Root x) e))
 shown_unset (Root r) (Next id) to h ne = refl
 shown_unset (Next id) (Root s) to h ne = refl
-shown_unset (Next i) (Next j) to h ne = ap (option_map (λ (x : Node). x.link)) (get-change_other (with_link to) i j h.nodes (λ e. ne (ap (λ (x : ℕ). Next x) e)))
+shown_unset (Next i) (Next j) to h ne =
+    ap (option_map (λ (x : Node). x.link)) (get-change_other (with_link to) i j h.nodes (λ e. ne (ap (λ (x : ℕ). Next x) e)))
 
 named : (to : Option ℕ) (id : ℕ) → names_node to id ≡ true → to ≡ Some id
 named None id e = cc
 named (Some i) id e = ap (λ (x : ℕ). Some x) (eqb-true i id e)
 
-pub move_moves : (agent : ℕ) (place : Place) (from to : Link) (h : Heap) → Fits agent (Move place from to) h → IsMoved h (heap_after agent (Move place from to) h) place from to
+pub move_moves : (agent : ℕ) (place : Place) (from to : Link) (h : Heap) → Fits agent (Move place from to) h
+    → IsMoved h (heap_after agent (Move place from to) h) place from to
 move_moves agent place from to h fits = record {
   at = fits.0;
   moved = shown_target as_linked (λ n. refl) to.to (set_link place to h) place ∙ shown_set place from to h fits.0;
   others = λ q ne. shown_target as_linked (λ n. refl) to.to (set_link place to h) q ∙ shown_unset place q to h ne;
   stays = λ id key k. key_after agent (Move place from to) h id key fits k;
-  old = λ id l. elim (linked_before agent (Move place from to) h id l.node l.there l.linked) [ inl before ↦ inl before | inr by ↦ inr (named to.to id by.moves) ];
+  old = λ id l. elim (linked_before agent (Move place from to) h id l.node l.there l.linked) [
+    | inl before ↦ inl before
+    | inr by ↦ inr
+        (named to.to id by.moves)
+  ];
 }
 
 -- any other act

@@ -27,7 +27,8 @@ follows_trans roots h (Next id) x a b (first, own, under, one) k (low, has, less
     (first, own, omega (arith, is, under, less), same ∙ (ap (λ (z : ℕ). z % roots) is ∙ one))
 
 -- a path leads to keys that may follow
-pub path_follows : (roots : ℕ) (h : Heap) (keys : List ℕ) → AreChains roots h keys → (p : Place) (ids : List ℕ) (id : ℕ) → IsLinkedPlace p h → IsPath h p ids (Some id)
+pub path_follows : (roots : ℕ) (h : Heap) (keys : List ℕ) → AreChains roots h keys → (p : Place) (ids : List ℕ) (id : ℕ) → IsLinkedPlace p h
+    → IsPath h p ids (Some id)
     → (key : ℕ) × HasKey h id key × FollowsOn roots h p key
 path_follows roots h keys c p [] id l path = c.leads p id l path
 path_follows roots h keys c p (x ∷ xs) id l path =
@@ -36,7 +37,8 @@ path_follows roots h keys c p (x ∷ xs) id l path =
     (b, j, follows_trans roots h p x a b f k g)
 
 -- a node is reached only from the root of its key
-pub chain_root : (roots : ℕ) (h : Heap) (keys : List ℕ) → AreChains roots h keys → (root id key : ℕ) → IsOnChain h root id → HasKey h id key → key % roots ≡ root
+pub chain_root : (roots : ℕ) (h : Heap) (keys : List ℕ) → AreChains roots h keys → (root id key : ℕ) → IsOnChain h root id → HasKey h id key
+    → key % roots ≡ root
 chain_root roots h keys c root id key on k =
     let (a, j, f) = path_follows roots h keys c (Root root) on.over id tt on.path in
     ap (λ (z : ℕ). z % roots) (key_one h id key a k j) ∙ f
@@ -49,24 +51,29 @@ chain_linked roots h keys c root id on =
 -- a run is a path
 pub run_path : (h : Heap) (p : Place) (from : Link) (ids : List ℕ) (to : Option ℕ) → shown h p ≡ Some from → IsRun h from ids to → IsPath h p ids to
 run_path h p from [] to at run = record { link = from; at = at; to_is = run }
-run_path h p from (x ∷ xs) to at (is, next, own, mark, run) = (record { link = from; at = at; to_is = is }, run_path h (Next x) next xs to (shown_link h x next own) run)
+run_path h p from (x ∷ xs) to at (is, next, own, mark, run) =
+    (record { link = from; at = at; to_is = is }, run_path h (Next x) next xs to (shown_link h x next own) run)
 
-pub run_follows : (roots : ℕ) (h : Heap) (keys : List ℕ) → AreChains roots h keys → (p : Place) (from : Link) (ids : List ℕ) (id : ℕ) → IsLinkedPlace p h → shown h p ≡ Some from → IsRun h from ids (Some id)
+pub run_follows : (roots : ℕ) (h : Heap) (keys : List ℕ) → AreChains roots h keys → (p : Place) (from : Link) (ids : List ℕ) (id : ℕ) → IsLinkedPlace p h
+    → shown h p ≡ Some from → IsRun h from ids (Some id)
     → (key : ℕ) × HasKey h id key × FollowsOn roots h p key
 run_follows roots h keys c p from ids id l at run = path_follows roots h keys c p ids id l (run_path h p from ids (Some id) at run)
 
-pub path_join : (h : Heap) (p : Place) (xs : List ℕ) (d : ℕ) (ys : List ℕ) (to : Option ℕ) → IsPath h p xs (Some d) → IsPath h (Next d) ys to → IsPath h p (xs ++ d ∷ ys) to
+pub path_join : (h : Heap) (p : Place) (xs : List ℕ) (d : ℕ) (ys : List ℕ) (to : Option ℕ) → IsPath h p xs (Some d) → IsPath h (Next d) ys to
+    → IsPath h p (xs ++ d ∷ ys) to
 path_join h p [] d ys to a b = (a, b)
 path_join h p (x ∷ xs) d ys to a b = (a.0, path_join h (Next x) xs d ys to a.1 b)
 
-pub below : (roots : ℕ) (h : Heap) (keys : List ℕ) → AreChains roots h keys → (x : ℕ) (ids : List ℕ) (y a b : ℕ) → HasKey h x a → HasKey h y b → IsPath h (Next x) ids (Some y) → a < b
+pub below : (roots : ℕ) (h : Heap) (keys : List ℕ) → AreChains roots h keys → (x : ℕ) (ids : List ℕ) (y a b : ℕ) → HasKey h x a → HasKey h y b
+    → IsPath h (Next x) ids (Some y) → a < b
 below roots h keys c x ids y a b j k path =
     let (key, has, follows) = path_follows roots h keys c (Next x) ids y (key_linked h x a j) path in
     let (low, own, less, same) = follows in
     omega (arith, key_one h y key b has k, key_one h x low a own j, less)
 
 -- of two nodes on one line, the one with the lower key leads to the other
-pub from_low : (roots : ℕ) (h : Heap) (keys : List ℕ) → AreChains roots h keys → (p : Place) (xs ys : List ℕ) (x y a b : ℕ) → HasKey h x a → HasKey h y b → a < b
+pub from_low : (roots : ℕ) (h : Heap) (keys : List ℕ) → AreChains roots h keys → (p : Place) (xs ys : List ℕ) (x y a b : ℕ) → HasKey h x a → HasKey h y b
+    → a < b
     → IsPath h p xs (Some x) → IsPath h p ys (Some y) → (zs : List ℕ) × IsPath h (Next x) zs (Some y)
 from_low roots h keys c p [] [] x y a b j k less s t =
     let same : x ≡ y = some_same (leads_one h p (Some x) (Some y) s t) in
@@ -96,14 +103,15 @@ one_on_line roots h keys c p (u ∷ xs) (v ∷ ys) x y a j k s t =
     one_on_line roots h keys c (Next u) xs ys x y a j k s.1 (subst (λ (z : ℕ). IsPath h (Next z) ys (Some y)) same t.1)
 
 -- a node with an unmarked link is in no run
-not_marked : (h : Heap) (x : ℕ) (link next : Link) → shown h (Next x) ≡ Some link → link.mark ≡ false → shown h (Next x) ≡ Some next → next.mark ≡ true → ⊥
+pub not_marked : (h : Heap) (x : ℕ) (link next : Link) → shown h (Next x) ≡ Some link → link.mark ≡ false → shown h (Next x) ≡ Some next → next.mark ≡ true → ⊥
 not_marked h x link next at plain shows mark =
     let same : link ≡ next = some_same (sym at ∙ shows) in
     let bad : false ≡ true = sym plain ∙ (ap (λ (l : Link). l.mark) same ∙ mark) in
     cc
 
 -- a path to a node with an unmarked link goes past a run: it ends there, or goes on, and is shorter
-pub past_run : (h : Heap) (p : Place) (from : Link) (run : List ℕ) (to : Option ℕ) (ids : List ℕ) (y : ℕ) (link : Link) → shown h (Next y) ≡ Some link → link.mark ≡ false
+pub past_run : (h : Heap) (p : Place) (from : Link) (run : List ℕ) (to : Option ℕ) (ids : List ℕ) (y : ℕ) (link : Link) → shown h (Next y) ≡ Some link
+    → link.mark ≡ false
     → shown h p ≡ Some from → IsRun h from run to → IsPath h p ids (Some y)
     → (to ≡ Some y) ⊎ ((d : ℕ) × (rest : List ℕ) × (to ≡ Some d) × IsPath h (Next d) rest (Some y) × (length rest < length ids))
 past_run h p from [] to [] y link own plain at run path = inl (sym run ∙ (ap (λ (l : Link). l.to) (some_same (sym at ∙ path.at)) ∙ path.to_is))
@@ -114,7 +122,8 @@ past_run h p from (x ∷ xs) to [] y link own plain at (is, next, has_link, mark
     absurd (not_marked h y link next own plain (subst (λ (z : ℕ). shown h (Next z) ≡ Some next) same (shown_link h x next has_link)) mark)
 past_run h p from (x ∷ xs) to (v ∷ ids) y link own plain at (is, next, has_link, mark, run) path =
     let same : v ≡ x = some_same (sym path.0.to_is ∙ (ap (λ (l : Link). l.to) (some_same (sym path.0.at ∙ at)) ∙ is)) in
-    elim (past_run h (Next x) next xs to ids y link own plain (shown_link h x next has_link) run (subst (λ (z : ℕ). IsPath h (Next z) ids (Some y)) same path.1)) [
+    elim (past_run h (Next x) next xs to ids y link own plain (shown_link h x next has_link) run
+    (subst (λ (z : ℕ). IsPath h (Next z) ids (Some y)) same path.1)) [
       | inl end ↦ inl end
       | inr more ↦ inr (more.0, more.1, more.2, more.3, omega (arith, more.4))
     ]
@@ -135,10 +144,12 @@ absent roots h keys c p from run to key on under at r above y =
   where
     reach : (p : Place) → IsPlaceOnChain h (key % roots) p → IsBelow h p key → (ids : List ℕ) × IsPath h p ids (Some y.id)
     reach (Root r) on under = (y.on_chain.over, subst (λ (z : ℕ). IsPath h (Root z) y.on_chain.over (Some y.id)) (sym on) y.on_chain.path)
-    reach (Next d) on (low, own, less) = from_low roots h keys c (Root (key % roots)) on.over y.on_chain.over d y.id low key own y.has_key less on.path y.on_chain.path
+    reach (Next d) on (low, own, less) =
+        from_low roots h keys c (Root (key % roots)) on.over y.on_chain.over d y.id low key own y.has_key less on.path y.on_chain.path
 
 -- a path to a node with an unmarked link goes on where one place leads another way over its run
-detour_step : (h k : Heap) (p : Place) (from : Link) (run : List ℕ) (to : Option ℕ) (new : List ℕ) → shown h p ≡ Some from → IsRun h from run to → IsPath k p new to
+detour_step : (h k : Heap) (p : Place) (from : Link) (run : List ℕ) (to : Option ℕ) (new : List ℕ) → shown h p ≡ Some from → IsRun h from run to
+    → IsPath k p new to
     → ((q : Place) → q ≢ p → shown k q ≡ shown h q)
     → (y : ℕ) (link : Link) → shown h (Next y) ≡ Some link → link.mark ≡ false
     → (q : Place) (ids : List ℕ) → IsPath h q ids (Some y)
@@ -167,7 +178,8 @@ detour_step h k p from run to new at r way others y link own plain q ids path go
         let (over, further) = go v ids (omega arith) path.1 in
         (v ∷ over, (leads_same h k q (Some v) (others q ne) path.0, further))
 
-detour_of : (h k : Heap) (p : Place) (from : Link) (run : List ℕ) (to : Option ℕ) (new : List ℕ) → shown h p ≡ Some from → IsRun h from run to → IsPath k p new to
+detour_of : (h k : Heap) (p : Place) (from : Link) (run : List ℕ) (to : Option ℕ) (new : List ℕ) → shown h p ≡ Some from → IsRun h from run to
+    → IsPath k p new to
     → ((q : Place) → q ≢ p → shown k q ≡ shown h q)
     → (y : ℕ) (link : Link) → shown h (Next y) ≡ Some link → link.mark ≡ false
     → (fuel : ℕ) (q : Place) (ids : List ℕ) → length ids ≤ fuel → IsPath h q ids (Some y) → (over : List ℕ) × IsPath k q over (Some y)
@@ -177,7 +189,8 @@ detour_of h k p from run to new at r way others y link own plain (suc fuel) q id
     detour_step h k p from run to new at r way others y link own plain q ids path (λ d rest less on.
     detour_of h k p from run to new at r way others y link own plain fuel (Next d) rest (omega (arith, few, less)) on)
 
-pub detour : (h k : Heap) (p : Place) (from : Link) (run : List ℕ) (to : Option ℕ) (new : List ℕ) → shown h p ≡ Some from → IsRun h from run to → IsPath k p new to
+pub detour : (h k : Heap) (p : Place) (from : Link) (run : List ℕ) (to : Option ℕ) (new : List ℕ) → shown h p ≡ Some from → IsRun h from run to
+    → IsPath k p new to
     → ((q : Place) → q ≢ p → shown k q ≡ shown h q)
     → (y : ℕ) (link : Link) → shown h (Next y) ≡ Some link → link.mark ≡ false
     → (root : ℕ) → IsOnChain h root y → IsOnChain k root y

@@ -12,7 +12,8 @@ use Rattle.orc_chain_rule.specs.Laws.Paths.{leads_same, one_on_line}
 use Rattle.orc_chain_rule.specs.Laws.Sets.{has_kept, has_left}
 use Rattle.orc_chain_rule.specs.Laws.Chains.{follows_stays, key_before, linked_place_before, next_same}
 
-module _ (roots : ℕ) (h k : Heap) (keys : List ℕ) (x : ℕ) (from to : Link) (key : ℕ) (c : AreChains roots h keys) (m : IsMoved h k (Next x) from to) (r : MayRemove h x from to key) where
+module _ (roots : ℕ) (h k : Heap) (keys : List ℕ) (x : ℕ) (from to : Link) (key : ℕ) (c : AreChains roots h keys) (m : IsMoved h k (Next x) from to)
+    (r : MayRemove h x from to key) where
   target_is : to.to ≡ from.to
   target_is = ap (λ (l : Link). l.to) r.to_is
 
@@ -80,18 +81,36 @@ module _ (roots : ℕ) (h k : Heap) (keys : List ℕ) (x : ℕ) (from to : Link)
   present : (a : ℕ) → a ≢ key → IsPresent roots h a → IsPresent roots k a
   present a ne y =
       let apart : Next y.id ≢ Next x = λ same. ne (key_one h x a key (subst (λ (z : ℕ). HasKey h z a) (next_same y.id x same) y.has_key) r.has_key) in
-      record { id = y.id; has_key = m.stays y.id a y.has_key; link = y.link; at = m.others (Next y.id) apart ∙ y.at; unmarked = y.unmarked; on_chain = chain_after (a % roots) y.id y.on_chain }
+      record {
+        id = y.id;
+        has_key = m.stays y.id a y.has_key;
+        link = y.link;
+        at = m.others (Next y.id) apart
+            ∙ y.at;
+        unmarked = y.unmarked;
+        on_chain = chain_after (a % roots) y.id y.on_chain;
+      }
 
   present_before : (a : ℕ) → IsPresent roots k a → (a ≢ key) × IsPresent roots h a
   unfolding was_present
   present_before a y =
       let (apart, at) = unmarked_before (Next y.id) y.link y.at y.unmarked in
       let own_key = key_old y.id a y.has_key in
-      let was : IsPresent roots h a = record { id = y.id; has_key = own_key; link = y.link; at = at; unmarked = y.unmarked; on_chain = c.kept y.id a y.link own_key at y.unmarked } in
+      let was : IsPresent roots h a = record {
+        id = y.id;
+        has_key = own_key;
+        link = y.link;
+        at = at;
+        unmarked = y.unmarked;
+        on_chain = c.kept y.id a y.link
+            own_key at y.unmarked;
+      } in
       let ne : a ≢ key = λ same.
       let on : IsOnChain h (key % roots) y.id = subst (λ (z : ℕ). IsOnChain h (z % roots) y.id) same was.on_chain in
       let mine = was_present.on_chain in
-      let one : y.id ≡ x = one_on_line roots h keys c (Root (key % roots)) on.over mine.over y.id x key (subst (λ (z : ℕ). HasKey h y.id z) same own_key) r.has_key on.path mine.path in
+      let one : y.id ≡ x =
+      one_on_line roots h keys c (Root (key % roots)) on.over mine.over y.id x key
+      (subst (λ (z : ℕ). HasKey h y.id z) same own_key) r.has_key on.path mine.path in
       apart (ap (λ (z : ℕ). Next z) one)
       in
       (ne, was)

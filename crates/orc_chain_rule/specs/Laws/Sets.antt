@@ -1,6 +1,9 @@
 -- Keys of a set, and entries of a history, one more.
-use Rattle.std.proofs.Common.{Bool, List, Some, [], ap, append-nil, cond, false, filter, inl, inr, not, refl, sym, true, ℕ, ◌++◌, ◌==◌, ◌∙◌, ◌∷◌, ◌≡◌, ◌≢◌, ◌⊎◌}
-use Rattle.std.proofs.lemmas.Bool.{eq-eqb, eqb-true, or_cases, or_left, or_right}
+use Rattle.std.proofs.Common.{List, Some, [], ap, append-nil, false, filter, inl, inr, not, refl, sym, true, ℕ, ◌++◌, ◌==◌, ◌∙◌, ◌∷◌, ◌≡◌, ◌≢◌, ◌⊎◌, arith, length, ◌+◌, ◌≤◌}
+use Rattle.std.proofs.lemmas.Bool.{eq-eqb, eqb-true, ne_eqb, or_cases, or_left, or_right}
+use Rattle.std.proofs.Math.Bool.{not-not}
+use Rattle.std.proofs.lemmas.List.Filters.{length-filter_both}
+use Rattle.std.proofs.lemmas.Map.Views.{any-filter_same}
 use Rattle.std.proofs.lemmas.List.Folds.{list_any-append}
 use Rattle.orc_heap.proofs.OwnEntries.{noted-snoc}
 use Rattle.orc_heap.specs.declared.events.Event.{Event}
@@ -16,10 +19,12 @@ pub entries_same : (es : List (Event ChainNote)) (e : Event ChainNote) → entri
 entries_same es e none = noted-snoc entries_in es e ∙ (ap (λ z. entries_of es ++ z) none ∙ append-nil (entries_of es))
 
 -- one entry
-pub entries_more : (es : List (Event ChainNote)) (e : Event ChainNote) (entry : SetEntry) → e.note ≡ Some (Entry entry) → entries_of (es ++ e ∷ []) ≡ entries_of es ++ entry ∷ []
+pub entries_more : (es : List (Event ChainNote)) (e : Event ChainNote) (entry : SetEntry) → e.note ≡ Some (Entry entry)
+    → entries_of (es ++ e ∷ []) ≡ entries_of es ++ entry ∷ []
 entries_more es e entry note_is = noted-snoc entries_in es e ∙ ap (λ z. entries_of es ++ entries_in z) note_is
 
-pub set_more : (es : List (Event ChainNote)) (e : Event ChainNote) (entry : SetEntry) → e.note ≡ Some (Entry entry) → set_after (es ++ e ∷ []) ≡ keys_after (set_after es) (entry ∷ [])
+pub set_more : (es : List (Event ChainNote)) (e : Event ChainNote) (entry : SetEntry) → e.note ≡ Some (Entry entry)
+    → set_after (es ++ e ∷ []) ≡ keys_after (set_after es) (entry ∷ [])
 set_more es e entry note_is = ap (keys_after []) (entries_more es e entry note_is) ∙ keys_after-snoc [] (entries_of es) entry
 
 -- one key more
@@ -35,35 +40,36 @@ pub has_old : (key k : ℕ) (keys : List ℕ) → has k keys ≡ true → has k 
 has_old key k keys e = list_any-append (λ (x : ℕ). x == k) keys (key ∷ []) ∙ or_left _ _ e
 
 pub has_new : (key : ℕ) (keys : List ℕ) → has key (keys ++ key ∷ []) ≡ true
-has_new key keys = list_any-append (λ (x : ℕ). x == key) keys (key ∷ []) ∙ or_right (has key keys) (has key (key ∷ [])) (or_left (key == key) false (eq-eqb key key refl))
+has_new key keys =
+    list_any-append (λ (x : ℕ). x == key) keys (key ∷ []) ∙ or_right (has key keys) (has key (key ∷ [])) (or_left (key == key) false (eq-eqb key key refl))
 
 -- one key less
 
-pub has_left : (key k : ℕ) (keys : List ℕ) → has k (filter (λ x. not (x == key)) keys) ≡ true → (has k keys ≡ true) × (k ≢ key)
-has_left key k [] e = cc
-has_left key k (x ∷ xs) e = cases (has_left key k xs) (x == key) refl e
-  where
-    cases : (has k (filter (λ y. not (y == key)) xs) ≡ true → (has k xs ≡ true) × (k ≢ key)) → (b : Bool) → (x == key) ≡ b → has k (cond (not b) (x ∷ filter (λ y. not (y == key)) xs) (filter (λ y. not (y == key)) xs)) ≡ true → (has k (x ∷ xs) ≡ true) × (k ≢ key)
-    cases rest true is h = let r = rest h in (or_right (x == k) (has k xs) r.0, r.1)
-    cases rest false is h = elim (or_cases (x == k) (has k (filter (λ y. not (y == key)) xs)) h) [
-      | inl here ↦ (or_left (x == k) (has k xs) here, λ same. let t : true ≡ false = sym (eq-eqb x key (eqb-true x k here ∙ same)) ∙ is in cc)
-      | inr later ↦ let r = rest later in (or_right (x == k) (has k xs) r.0, r.1)
-    ]
+other_kept : (key k : ℕ) → k ≢ key → (x : ℕ) → (x == k) ≡ true → not (x == key) ≡ true
+other_kept key k ne x is = rw (ne_eqb x key (λ same. ne (sym (eqb-true x k is) ∙ same))) refl
+
+same_lost : (key k : ℕ) → k ≡ key → (x : ℕ) → (x == k) ≡ true → not (x == key) ≡ false
+same_lost key k same x is = rw (eq-eqb x key (eqb-true x k is ∙ same)) refl
 
 pub has_kept : (key k : ℕ) (keys : List ℕ) → has k keys ≡ true → k ≢ key → has k (filter (λ x. not (x == key)) keys) ≡ true
-has_kept key k [] e ne = cc
-has_kept key k (x ∷ xs) e ne = cases (λ h. has_kept key k xs h ne) (x == key) refl
-  where
-    cases : (has k xs ≡ true → has k (filter (λ y. not (y == key)) xs) ≡ true) → (b : Bool) → (x == key) ≡ b → has k (cond (not b) (x ∷ filter (λ y. not (y == key)) xs) (filter (λ y. not (y == key)) xs)) ≡ true
-    cases rest true is = elim (or_cases (x == k) (has k xs) e) [
-      | inl here ↦ absurd (ne (sym (eqb-true x k here) ∙ eqb-true x key is))
-      | inr later ↦ rest later
-    ]
-    cases rest false is = elim (or_cases (x == k) (has k xs) e) [
-      | inl here ↦ or_left (x == k) _ here
-      | inr later ↦ or_right (x == k) _ (rest later)
-    ]
+has_kept key k keys e ne = any-filter_same (λ x. x == k) (λ x. not (x == key)) true (other_kept key k ne) keys ∙ e
 
-pub bool_either : (b : Bool) → (b ≡ true) ⊎ (b ≡ false)
-bool_either true = inl refl
-bool_either false = inr refl
+pub has_left : (key k : ℕ) (keys : List ℕ) → has k (filter (λ x. not (x == key)) keys) ≡ true → (has k keys ≡ true) × (k ≢ key)
+has_left key k keys e =
+    let ne : k ≢ key = λ same.
+    let bad : true ≡ false = sym e ∙ any-filter_same (λ x. x == k) (λ x. not (x == key)) false (same_lost key k same) keys in
+    cc in
+    (sym (any-filter_same (λ x. x == k) (λ x. not (x == key)) true (other_kept key k ne) keys) ∙ e, ne)
+
+-- a list is shorter without a number that it has
+pub filter_less : (x : ℕ) (xs : List ℕ) → has x xs ≡ true → length (filter (λ y. not (y == x)) xs) + 1 ≤ length xs
+filter_less x xs e =
+    omega (
+      arith,
+      length-filter_both (λ y. not (y == x)) (λ y. y == x) (λ y. sym (not-not (y == x))) xs,
+      some_left (filter (λ y. y == x) xs) (any-filter_same (λ y. y == x) (λ y. y == x) true (λ y is. is) xs ∙ e),
+    )
+  where
+    some_left : (ys : List ℕ) → has x ys ≡ true → 1 ≤ length ys
+    some_left [] bad = cc
+    some_left (y ∷ ys) is = omega arith

@@ -12,9 +12,11 @@ use Rattle.orc_chain_rule.specs.Laws.Kinds.{IsMoved, key_linked, place_either}
 use Rattle.orc_chain_rule.specs.Laws.Paths.{detour, leads_same, run_follows}
 use Rattle.orc_chain_rule.specs.Laws.Chains.{follows_stays, key_before, linked_place_before}
 
-module _ (roots : ℕ) (h k : Heap) (keys : List ℕ) (p : Place) (from to : Link) (c : AreChains roots h keys) (m : IsMoved h k p from to) (u : MayUnlink h p from to) where
+module _ (roots : ℕ) (h k : Heap) (keys : List ℕ) (p : Place) (from to : Link) (c : AreChains roots h keys) (m : IsMoved h k p from to)
+    (u : MayUnlink h p from to) where
   target_linked : (id : ℕ) → to.to ≡ Some id → (key : ℕ) × HasKey h id key × FollowsOn roots h p key
-  target_linked id is = run_follows roots h keys c p from (u.first ∷ u.others) id u.linked m.at (subst (λ (t : Option ℕ). IsRun h from (u.first ∷ u.others) t) is u.run)
+  target_linked id is =
+      run_follows roots h keys c p from (u.first ∷ u.others) id u.linked m.at (subst (λ (t : Option ℕ). IsRun h from (u.first ∷ u.others) t) is u.run)
 
   old : (id : ℕ) → IsLinkedNode k id → IsLinkedNode h id
   old id l = elim (m.old id l) [ inl before ↦ before | inr is ↦ (let (key, own_key, f) = target_linked id is in key_linked h id key own_key) ]
@@ -51,7 +53,15 @@ module _ (roots : ℕ) (h k : Heap) (keys : List ℕ) (p : Place) (from to : Lin
   present : (key : ℕ) → IsPresent roots h key → IsPresent roots k key
   present key y =
       let (own, at, plain) = unmarked_after (Next y.id) y.link y.at y.unmarked in
-      record { id = y.id; has_key = m.stays y.id key y.has_key; link = own; at = at; unmarked = plain; on_chain = on_chain (key % roots) y.id y.link y.at y.unmarked y.on_chain }
+      record {
+        id = y.id;
+        has_key = m.stays y.id key y.has_key;
+        link = own;
+        at = at;
+        unmarked = plain;
+        on_chain = on_chain
+            (key % roots) y.id y.link y.at y.unmarked y.on_chain;
+      }
 
   present_before : (key : ℕ) → IsPresent roots k key → IsPresent roots h key
   present_before key y =

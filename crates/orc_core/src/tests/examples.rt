@@ -41,9 +41,11 @@ fn parts()
 fn actions()
     ensures sequence_2 { clear_word 2 ≡ 37748736 }
     ensures look { action_of 0 (Op.SlotLook 10) (nobody 2) ≡ record { word = Word.Slot 1 2; operation = Operation.Load } }
-    ensures hand { action_of 0 (Op.Hand 10) (record (nobody 2) { scan = Some (record { row = 6; word = 4194304; place = 10; found = true }) }) ≡ record { word = Word.Handover 1 2; operation = Operation.Swap 7 } }
+    ensures hand { action_of 0 (Op.Hand 10) (record (nobody 2) { scan = Some (record { row = 6; word = 4194304; place = 10; found = true }) })
+        ≡ record { word = Word.Handover 1 2; operation = Operation.Swap 7 } }
     ensures arm { action_of 3 (Op.Arm 6) (nobody 2) ≡ record { word = Word.Slot 3 0; operation = Operation.Store 7 } }
-    ensures take { action_of 0 (Op.GateTake 5) (record (nobody 2) { looked = Some (record { row = 5; number = 2 }) }) ≡ record { word = Word.Gate 5; operation = Operation.CompareExchange 4 7 } }
+    ensures take { action_of 0 (Op.GateTake 5) (record (nobody 2) { looked = Some (record { row = 5; number = 2 }) })
+        ≡ record { word = Word.Gate 5; operation = Operation.CompareExchange 4 7 } }
     ensures not_the_second { action_of 0 (Op.Fill 5 0 9) (nobody 2) ≢ record { word = Word.Second 5; operation = Operation.Store 9 } }
     ensures too_far { ¬ IsPackable (Op.SetRetired 0 1099511627776) (nobody 2) }
 {}
@@ -57,7 +59,8 @@ fn records()
     ensures held { promoted (SlotUse.Published 4) 11 ≡ SlotUse.Held 4 }
     ensures another_row { promoted (SlotUse.Published 4) 12 ≡ SlotUse.Published 4 }
     ensures found { scan_on (Some (record { row = 4; word = 9; place = 3; found = false })) 5 ≡ Some (record { row = 4; word = 9; place = 3; found = true }) }
-    ensures goes_on { scan_on (Some (record { row = 4; word = 9; place = 3; found = false })) 0 ≡ Some (record { row = 4; word = 9; place = 4; found = false }) }
+    ensures goes_on { scan_on (Some (record { row = 4; word = 9; place = 3; found = false })) 0 ≡ Some
+        (record { row = 4; word = 9; place = 4; found = false }) }
     ensures listed { (after (Op.TakeIn 2) (nobody 2) 1).list.items ≡ 0 ∷ [] }
     ensures nothing_in { (after (Op.TakeIn 2) (nobody 2) 0).list.items ≡ [] }
     ensures ninth_slot { ¬ IsRecordable (Op.Clear 8) (nobody 2) }

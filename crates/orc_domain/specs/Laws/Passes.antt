@@ -29,7 +29,8 @@ use Rattle.orc_domain.specs.declared.domain.PlainDomain.{PlainDomain}
 use Rattle.orc_domain.specs.declared.domain.PlainPass.{PlainPass}
 
 -- one event more
-pub one_more : {N : Type 0} (j : List (Event N)) (e : Event N) → (es : List (Event N)) × (j ++ e ∷ [] ≡ j ++ es) × (list_all (λ z. z.agent == e.agent) es ≡ true)
+pub one_more : {N : Type 0} (j : List (Event N)) (e : Event N) → (es : List (Event N)) × (j ++ e ∷ [] ≡ j ++ es)
+    × (list_all (λ z. z.agent == e.agent) es ≡ true)
 one_more j e = (e ∷ [], refl, ap (λ b. b && true) (eq-eqb e.agent e.agent refl))
 
 take_first : {A : Type 0} (n : ℕ) (xs ys : List A) → n ≤ length xs → take n (xs ++ ys) ≡ take n xs
@@ -51,7 +52,8 @@ pub row_in : (rows : List ℕ) (slots : List (Option ℕ)) (i : ℕ) (x : SlotNo
     → (slice_get slots i ≡ Some (Some x.row)) × (x.id ≡ index_of x.row rows)
 row_in rows [] i x e = cc
 row_in rows (None ∷ slots) zero x e = cc
-row_in rows (Some row ∷ slots) zero x e = let same : record { row = row; id = index_of row rows } ≡ x = cc in (ap (λ (y : SlotNode). Some (Some y.row)) same, ap (λ (y : SlotNode). y.id) (sym same) ∙ ap (λ (y : SlotNode). index_of y.row rows) same)
+row_in rows (Some row ∷ slots) zero x e = let same : record { row = row; id = index_of row rows } ≡ x = cc in
+    (ap (λ (y : SlotNode). Some (Some y.row)) same, ap (λ (y : SlotNode). y.id) (sym same) ∙ ap (λ (y : SlotNode). index_of y.row rows) same)
 row_in rows (slot ∷ slots) (suc i) x e = row_in rows slots i x e
 
 module _ {D N : Type 0} {d : discipline.Ghosts D N} {m : machine.Ghosts Plain N (PlainShape N) PlainOp (PlainStep N) (Unit {0}) (Unit {0})}
@@ -78,7 +80,8 @@ module _ {D N : Type 0} {d : discipline.Ghosts D N} {m : machine.Ghosts Plain N 
     pub all_below : ((seat_of domain p).agent < (domain_bounds domain).agents) × IsBelow (domain_bounds domain).agents (seat_of domain p).seen
     all_below = (h.board.keeps.number, below d domain.board.words.shape p.pass.pass.seat.me.0 p.pass.pass.agent p.pass.fresh p.pass.looked h.board.keeps)
 
-    pub fresh_untouched : (id : ℕ) → (seat_of domain p).fresh ≡ Some id → IsUntouched (seat_of domain p).agent (run_heap (domain_numbers domain) (seat_of domain p).seen) id
+    pub fresh_untouched : (id : ℕ) → (seat_of domain p).fresh ≡ Some id
+        → IsUntouched (seat_of domain p).agent (run_heap (domain_numbers domain) (seat_of domain p).seen) id
     fresh_untouched id e = went s.fresh refl e
       where
         went : (fresh : Option ℕ) → s.fresh ≡ fresh → id_by s.rows fresh ≡ Some id → IsUntouched s.agent (heap_of (domain_bounds domain) s) id
@@ -88,7 +91,8 @@ module _ {D N : Type 0} {d : discipline.Ghosts D N} {m : machine.Ghosts Plain N 
             let u = (fresh_row d domain.board.words.shape p.pass.pass.seat.me.0 p.pass.pass.agent p.pass.fresh p.pass.looked h.board.keeps row is).untouched in
             subst (λ i. IsUntouched s.agent (heap_of (domain_bounds domain) s) i) same u
 
-    pub held_known : (hold : Hold) → Holds (seat_of domain p).slots hold → IsKnown (seat_of domain p).agent (run_heap (domain_numbers domain) (seat_of domain p).seen) (id_in (seat_of domain p).slots hold)
+    pub held_known : (hold : Hold) → Holds (seat_of domain p).slots hold
+        → IsKnown (seat_of domain p).agent (run_heap (domain_numbers domain) (seat_of domain p).seen) (id_in (seat_of domain p).slots hold)
     held_known hold e =
         let r = row_in s.rows p.slots hold.slot (record { row = hold.row; id = id_in (seat_of domain p).slots hold }) e in
         subst (λ i. IsKnown s.agent (heap_of (domain_bounds domain) s) i) (sym r.1) (h.keeps.known hold.slot hold.row r.0)

@@ -24,7 +24,8 @@ pub entries_same : (es : List (Event FifoNote)) (e : Event FifoNote) → entries
 entries_same es e none = noted-snoc entries_in es e ∙ (ap (λ z. entries_of es ++ z) none ∙ append-nil (entries_of es))
 
 -- one entry
-pub entries_more : (es : List (Event FifoNote)) (e : Event FifoNote) (entry : QueueEntry) → e.note ≡ Some (Entry entry) → entries_of (es ++ e ∷ []) ≡ entries_of es ++ entry ∷ []
+pub entries_more : (es : List (Event FifoNote)) (e : Event FifoNote) (entry : QueueEntry) → e.note ≡ Some (Entry entry)
+    → entries_of (es ++ e ∷ []) ≡ entries_of es ++ entry ∷ []
 entries_more es e entry note_is = noted-snoc entries_in es e ∙ ap (λ z. entries_of es ++ entries_in z) note_is
 
 pub puts_snoc : (es : List (Event FifoNote)) (e : Event FifoNote) → puts_in (entries_of (es ++ e ∷ [])) ≡ puts_in (entries_of es) + puts_in (entries_in e.note)
@@ -48,7 +49,8 @@ put_before es e id job at p =
           inr (p.by, p.place, p.from, ap (λ (x : Event FifoNote). x.act) same ∙ p.act_is, ap (λ (x : Event FifoNote). x.note) same ∙ p.note_is)
     ]
 
-pub put_last : (es : List (Event FifoNote)) (e : Event FifoNote) (id by job at : ℕ) (place : Place) (from : Link) → e.act ≡ Move place from (link_to id) → e.note ≡ Some (Entry (Put by job at))
+pub put_last : (es : List (Event FifoNote)) (e : Event FifoNote) (id by job at : ℕ) (place : Place) (from : Link)
+    → e.act ≡ Move place from (link_to id) → e.note ≡ Some (Entry (Put by job at))
     → IsPutNode (es ++ e ∷ []) id job at
 put_last es e id by job at place from act_is note_is =
     record { event = e; by = by; place = place; from = from; among = contains_last es e; act_is = act_is; note_is = note_is }

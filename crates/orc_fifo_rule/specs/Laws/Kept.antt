@@ -28,7 +28,8 @@ use Rattle.orc_heap.proofs.SingleActs.{link_same, node_shown, some_same}
 pub fifo_fits : (n : HeapNumbers) (seen : List (Event FifoNote)) (e : Event FifoNote) → FifoHolds n seen → FifoMay n seen e → FitsAfter n seen e
 fifo_fits n seen e holds may = may.fits
 
-pub fifo_allows_plain : (n : HeapNumbers) (seen : List (Event FifoNote)) (e : Event FifoNote) → FifoHolds n seen → FitsAfter n seen e → IsPlain e → FifoMay n seen e
+pub fifo_allows_plain : (n : HeapNumbers) (seen : List (Event FifoNote)) (e : Event FifoNote) → FifoHolds n seen → FitsAfter n seen e → IsPlain e
+    → FifoMay n seen e
 fifo_allows_plain n seen e holds fits plain = record {
   fits = fits;
   may_act = subst (λ (x : Option FifoNote). MayAct (run_heap n seen) e.act x) (sym plain.0) plain.1;
@@ -44,7 +45,8 @@ plain_moves_linked (Look place link) h p = tt
 plain_moves_linked (Move place from to) h p = absurd p
 plain_moves_linked (Miss place wanted found) h p = tt
 
-pub fifo_moves_linked : (n : HeapNumbers) (seen : List (Event FifoNote)) (e : Event FifoNote) → FifoHolds n seen → FifoMay n seen e → MovesLinked e.act (run_heap n seen)
+pub fifo_moves_linked : (n : HeapNumbers) (seen : List (Event FifoNote)) (e : Event FifoNote) → FifoHolds n seen → FifoMay n seen e
+    → MovesLinked e.act (run_heap n seen)
 fifo_moves_linked n seen e holds may =
     each_kind (run_heap n seen) (λ act noted. IsInTime (has_begun seen) noted → MovesLinked act (run_heap n seen))
     (λ act plain time. plain_moves_linked act (run_heap n seen) plain)
@@ -53,7 +55,8 @@ fifo_moves_linked n seen e holds may =
     (λ r from to by job at m time. tt)
     (λ t from to by job at m time.
     let run = holds.running time in
-    subst (λ (x : ℕ). IsLinkedNode (run_heap n seen) x) (link_same run.tail t (some_same (sym run.tail_is ∙ m.tail_is))) (tail_linked (run_heap n seen) seen run))
+    subst (λ (x : ℕ). IsLinkedNode (run_heap n seen) x) (link_same run.tail t (some_same (sym run.tail_is ∙ m.tail_is)))
+    (tail_linked (run_heap n seen) seen run))
     (λ d link by m time. tt)
     e.act e.note may.may_act may.in_time
 
@@ -85,11 +88,17 @@ opening_entries : (n : HeapNumbers) (es : List (Event FifoNote)) (e : Event Fifo
 opening_entries n es e holds may early =
     let o = holds.opening early in
     each_kind (run_heap n es)
-    (λ act noted. IsInTime (has_begun es) noted → (entries_of (es ++ event_by e.agent act noted ∷ []) ≡ []) × AllByRecursion (λ (x : Event FifoNote). BeginsIfMoves x.act x.note) (es ++ event_by e.agent act noted ∷ []))
-    (λ act plain time. (entries_same es (event_by e.agent act None) refl ∙ o.none, every_more (λ (x : Event FifoNote). BeginsIfMoves x.act x.note) es (event_by e.agent act None) o.begins (plain_begins act plain)))
+    (λ act noted. IsInTime (has_begun es) noted → (entries_of (es ++ event_by e.agent act noted ∷ []) ≡ [])
+    × AllByRecursion (λ (x : Event FifoNote). BeginsIfMoves x.act x.note) (es ++ event_by e.agent act noted ∷ []))
+    (λ act plain time. (
+      entries_same es (event_by e.agent act None) refl ∙ o.none,
+      every_more (λ (x : Event FifoNote). BeginsIfMoves x.act x.note) es
+          (event_by e.agent act None) o.begins (plain_begins act plain),
+    ))
     (λ r from to m time. (
       entries_same es (event_by e.agent (Move (Root r) from to) (Some Begin)) refl ∙ o.none,
-      every_more (λ (x : Event FifoNote). BeginsIfMoves x.act x.note) es (event_by e.agent (Move (Root r) from to) (Some Begin)) o.begins (m.root_is, m.from_is, m.to_is, refl),
+      every_more (λ (x : Event FifoNote). BeginsIfMoves x.act x.note) es (event_by e.agent (Move (Root r) from to) (Some Begin)) o.begins
+          (m.root_is, m.from_is, m.to_is, refl),
     ))
     (λ r from to m time. absurd (late (has_begun es) early time))
     (λ r from to by job at m time. absurd (late (has_begun es) early time))
@@ -102,24 +111,28 @@ no_links : (n : HeapNumbers) (es : List (Event FifoNote)) (position : ℕ) (link
 no_links n es position link none (inl is) = is
 no_links n es position link none (inr (next, job, is, put)) = absurd (no_puts es next job position none put)
 
-pub opening_next : (n : HeapNumbers) (es : List (Event FifoNote)) (e : Event FifoNote) → FifoHolds n es → FifoMay n es e → has_begun es ≡ false → IsOpening (run_heap n (es ++ e ∷ [])) (es ++ e ∷ [])
+pub opening_next : (n : HeapNumbers) (es : List (Event FifoNote)) (e : Event FifoNote) → FifoHolds n es → FifoMay n es e → has_begun es ≡ false
+    → IsOpening (run_heap n (es ++ e ∷ [])) (es ++ e ∷ [])
 opening_next n es e holds may early =
     let (none, begins) = opening_entries n es e holds may early in
     record {
       none = none;
       begins = begins;
       zero_ends = λ node there linked.
-          no_links n (es ++ e ∷ []) _ node.link none (links_next n es e 0 node.link holds may (record { node = node; there = there; linked = linked; link_is = refl }));
+          no_links n (es ++ e ∷ []) _ node.link none
+          (links_next n es e 0 node.link holds may (record { node = node; there = there; linked = linked; link_is = refl }));
     }
 
 -- the last Begin
 
-begun_zero : (n : HeapNumbers) (es : List (Event FifoNote)) (e : Event FifoNote) → FifoHolds n es → FifoMay n es e → has_begun es ≡ false → has_begun (es ++ e ∷ []) ≡ true
+begun_zero : (n : HeapNumbers) (es : List (Event FifoNote)) (e : Event FifoNote) → FifoHolds n es → FifoMay n es e → has_begun es ≡ false
+    → has_begun (es ++ e ∷ []) ≡ true
     → IsLinkedNode (run_heap n (es ++ e ∷ [])) 0
 begun_zero n es e holds may early now =
     let h : Heap = run_heap n es in
     each_kind h
-    (λ act noted. IsInTime (has_begun es) noted → has_begun (es ++ event_by e.agent act noted ∷ []) ≡ true → IsLinkedNode (run_heap n (es ++ event_by e.agent act noted ∷ [])) 0)
+    (λ act noted. IsInTime (has_begun es) noted → has_begun (es ++ event_by e.agent act noted ∷ []) ≡ true
+    → IsLinkedNode (run_heap n (es ++ event_by e.agent act noted ∷ [])) 0)
     (λ act plain time is.
     let (zero_begun, one_begun) = (and-eq-true_iff _ _).0 is in
     let x : Event FifoNote = event_by e.agent act None in
@@ -142,7 +155,8 @@ begun_zero n es e holds may early now =
     (λ d link by m time is. absurd (late (has_begun es) early time))
     e.act e.note may.may_act may.in_time now
 
-first_running : (n : HeapNumbers) (es : List (Event FifoNote)) (e : Event FifoNote) → FifoHolds n es → FifoMay n es e → has_begun es ≡ false → has_begun (es ++ e ∷ []) ≡ true
+first_running : (n : HeapNumbers) (es : List (Event FifoNote)) (e : Event FifoNote) → FifoHolds n es → FifoMay n es e → has_begun es ≡ false
+    → has_begun (es ++ e ∷ []) ≡ true
     → IsRunning (run_heap n (es ++ e ∷ [])) (es ++ e ∷ [])
 first_running n es e holds may early now =
     let o = opening_next n es e holds may early in
@@ -167,7 +181,8 @@ first_running n es e holds may early now =
       next = rw o.none (omega arith);
     }
 
-running_after : (n : HeapNumbers) (es : List (Event FifoNote)) (e : Event FifoNote) → FifoHolds n es → FifoMay n es e → has_begun (es ++ e ∷ []) ≡ true → (b : Bool) → has_begun es ≡ b
+running_after : (n : HeapNumbers) (es : List (Event FifoNote)) (e : Event FifoNote) → FifoHolds n es → FifoMay n es e
+    → has_begun (es ++ e ∷ []) ≡ true → (b : Bool) → has_begun es ≡ b
     → IsRunning (run_heap n (es ++ e ∷ [])) (es ++ e ∷ [])
 running_after n es e holds may now true is = running_next n es e holds (holds.running is) may
 running_after n es e holds may now false is = first_running n es e holds may is now

@@ -27,13 +27,15 @@ use Rattle.orc_heap.proofs.SingleActs.{link_moved, link_same, link_shown, plain_
 use Rattle.orc_heap.proofs.OwnEntries.{noted-snoc}
 
 -- the position of a legal Put
-pub legal_put : (next : ℕ) (waiting : List (ℕ × ℕ)) (es : List QueueEntry) (agent job at : ℕ) → IsLegalFrom next waiting (es ++ Put agent job at ∷ []) → at ≡ next + puts_in es
+pub legal_put : (next : ℕ) (waiting : List (ℕ × ℕ)) (es : List QueueEntry) (agent job at : ℕ) → IsLegalFrom next waiting (es ++ Put agent job at ∷ [])
+    → at ≡ next + puts_in es
 legal_put next waiting [] agent job at legal = omega (arith, legal.0)
 legal_put next waiting (Put a j p ∷ es) agent job at legal = omega (arith, legal_put (next + 1) (waiting ++ (j, p) ∷ []) es agent job at legal.1)
 legal_put next waiting (Took a j p ∷ es) agent job at (rest, is, legal) = legal_put next rest es agent job at legal
 legal_put next waiting (Empty a ∷ es) agent job at legal = legal_put next waiting es agent job at legal.1
 
-legal_more : (first : ℕ) (history : List QueueEntry) (agent : ℕ) (noted : Option FifoNote) → IsLegalQueue first history → MayEnter first history agent noted → IsLegalQueue first (history ++ entries_in noted)
+legal_more : (first : ℕ) (history : List QueueEntry) (agent : ℕ) (noted : Option FifoNote) → IsLegalQueue first history
+    → MayEnter first history agent noted → IsLegalQueue first (history ++ entries_in noted)
 legal_more first history agent None legal may = rw append-nil legal
 legal_more first history agent (Some Begin) legal may = rw append-nil legal
 legal_more first history agent (Some Swing) legal may = rw append-nil legal
@@ -43,13 +45,16 @@ legal_more first history agent (Some (Entry entry)) legal may = may.1
 pub legal_next : (n : HeapNumbers) (es : List (Event FifoNote)) (e : Event FifoNote) → FifoHolds n es → FifoMay n es e → IsRunning (run_heap n es) es
     → IsLegalQueue (position_of (run_heap n (es ++ e ∷ [])) 0) (entries_of (es ++ e ∷ []))
 legal_next n es e holds may run =
-    rw (position_next n es e 0 may run.zero, noted-snoc entries_in es e) (legal_more (position_of (run_heap n es) 0) (entries_of es) e.agent e.note holds.legal may.may_enter)
+    rw (position_next n es e 0 may run.zero, noted-snoc entries_in es e)
+    (legal_more (position_of (run_heap n es) 0) (entries_of es) e.agent e.note holds.legal may.may_enter)
 
 -- a Put comes after the Begins, and its position is the second value of the node at whose link it stands
-pub put_runs : (n : HeapNumbers) (es : List (Event FifoNote)) (e : Event FifoNote) (entry : QueueEntry) → FifoHolds n es → FifoMay n es e → e.note ≡ Some (Entry entry) → IsRunning (run_heap n es) es
+pub put_runs : (n : HeapNumbers) (es : List (Event FifoNote)) (e : Event FifoNote) (entry : QueueEntry) → FifoHolds n es → FifoMay n es e
+    → e.note ≡ Some (Entry entry) → IsRunning (run_heap n es) es
 put_runs n es e entry holds may note_is = holds.running (subst (λ (x : Option FifoNote). IsInTime (has_begun es) x) note_is may.in_time)
 
-pub put_position : (n : HeapNumbers) (es : List (Event FifoNote)) (e : Event FifoNote) (t by job at : ℕ) → FifoHolds n es → FifoMay n es e → e.note ≡ Some (Entry (Put by job at))
+pub put_position : (n : HeapNumbers) (es : List (Event FifoNote)) (e : Event FifoNote) (t by job at : ℕ) → FifoHolds n es → FifoMay n es e
+    → e.note ≡ Some (Entry (Put by job at))
     → shown (run_heap n es) (Root 1) ≡ Some (link_to t) → shown (run_heap n es) (Next t) ≡ Some null → at ≡ position_of (run_heap n es) t
 put_position n es e t by job at holds may note_is root none =
     let h : Heap = run_heap n es in
@@ -60,7 +65,8 @@ put_position n es e t by job at holds may note_is root none =
     legal_put (position_of h 0) [] (entries_of es) by job at enter.1 ∙ (sym run.next ∙ ap (λ (x : ℕ). position_of h x) last.2)
 
 -- the target of an act is changed
-pub target_at : (f : Node → Node) (to : Link) (id : ℕ) (h : Heap) (node : Node) → to ≡ link_to id → slice_get h.nodes id ≡ Some node → slice_get (change_target f to.to h).nodes id ≡ Some (f node)
+pub target_at : (f : Node → Node) (to : Link) (id : ℕ) (h : Heap) (node : Node) → to ≡ link_to id → slice_get h.nodes id ≡ Some node
+    → slice_get (change_target f to.to h).nodes id ≡ Some (f node)
 target_at f to id h node to_is there =
     subst (λ (l : Link). slice_get (change_target f l.to h).nodes id ≡ Some (f node)) (sym to_is) (get-change_same f id h.nodes node there)
 
@@ -77,7 +83,8 @@ put_node_after h agent t from to job at m l =
     let apart : m.id ≢ t = λ same. unlinked_apart h t m.id m.node l m.there m.unlinked (sym same) in
     target_at as_linked to m.id (change_node (with_link to) t h) m.node m.to_is (get-change_other (with_link to) t m.id h.nodes apart ∙ m.there)
 
-pub put_tail : (n : HeapNumbers) (es : List (Event FifoNote)) (e : Event FifoNote) (t : ℕ) (entry : QueueEntry) → FifoHolds n es → FifoMay n es e → e.note ≡ Some (Entry entry)
+pub put_tail : (n : HeapNumbers) (es : List (Event FifoNote)) (e : Event FifoNote) (t : ℕ) (entry : QueueEntry) → FifoHolds n es → FifoMay n es e
+    → e.note ≡ Some (Entry entry)
     → shown (run_heap n es) (Root 1) ≡ Some (link_to t) → IsLinkedNode (run_heap n es) t
 put_tail n es e t entry holds may note_is root =
     let run = put_runs n es e entry holds may note_is in
@@ -98,7 +105,8 @@ put_has_job n es agent t by job at from to holds may =
     })
 
 -- the node of each Put has its job
-pub puts_next : (n : HeapNumbers) (es : List (Event FifoNote)) (e : Event FifoNote) (id job at : ℕ) → FifoHolds n es → FifoMay n es e → IsPutNode (es ++ e ∷ []) id job at
+pub puts_next : (n : HeapNumbers) (es : List (Event FifoNote)) (e : Event FifoNote) (id job at : ℕ) → FifoHolds n es → FifoMay n es e
+    → IsPutNode (es ++ e ∷ []) id job at
     → HasJob (run_heap n (es ++ e ∷ [])) id job at
 puts_next n es e id job at holds may put =
     elim (put_before es e id job at put) [
@@ -118,7 +126,9 @@ puts_next n es e id job at holds may put =
           let at_is : p ≡ at = cc in
           let id_is : m.may_act.id ≡ id = link_same m.may_act.id id (sym m.may_act.to_is ∙ to_is) in
           let g = run_heap n (es ++ event_by e.agent (Move (Next t) x y) (Some (Entry (Put z j p))) ∷ []) in
-          subst (λ (i : ℕ). HasJob g i job at) id_is (subst (λ (i : ℕ). HasJob g m.may_act.id job i) at_is (subst (λ (i : ℕ). HasJob g m.may_act.id i p) job_is (put_has_job n es e.agent t z j p x y holds m))))
+          subst (λ (i : ℕ). HasJob g i job at) id_is
+          (subst (λ (i : ℕ). HasJob g m.may_act.id job i) at_is
+          (subst (λ (i : ℕ). HasJob g m.may_act.id i p) job_is (put_has_job n es e.agent t z j p x y holds m))))
           (λ d l z k a b m. let bad : ⊥ = cc in absurd bad)
           e.act e.note may.may_act act_is note_is may
     ]
@@ -127,7 +137,8 @@ pub names : (to : Link) (x id : ℕ) → to ≡ link_to x → names_node to.to i
 names to x id to_is named = eqb-true x id (subst (λ (l : Link). names_node l.to id ≡ true) to_is named)
 
 -- the link of a node that the event links for the first time is null
-first_link : (n : HeapNumbers) (es : List (Event FifoNote)) (e : Event FifoNote) (id : ℕ) (node : Node) → FifoHolds n es → FifoMay n es e → IsLinkedBy e.act (run_heap n es) id node → node.link ≡ null
+first_link : (n : HeapNumbers) (es : List (Event FifoNote)) (e : Event FifoNote) (id : ℕ) (node : Node) → FifoHolds n es → FifoMay n es e
+    → IsLinkedBy e.act (run_heap n es) id node → node.link ≡ null
 first_link n es e id node holds may by =
     let h : Heap = run_heap n es in
     each_kind h (λ act noted. IsInTime (has_begun es) noted → Fits e.agent act h → IsLinkedBy act h id node → node.link ≡ null)
@@ -165,24 +176,30 @@ leads_more es fs position link (inl none) = inl none
 leads_more es fs position link (inr (next, job, is, put)) = inr (next, job, is, put_grown es fs next job position put)
 
 -- each link of a once linked node is null or leads to the node of the next Put
-pub links_next : (n : HeapNumbers) (es : List (Event FifoNote)) (e : Event FifoNote) (id : ℕ) (link : Link) → FifoHolds n es → FifoMay n es e → HasLink (run_heap n (es ++ e ∷ [])) id link
+pub links_next : (n : HeapNumbers) (es : List (Event FifoNote)) (e : Event FifoNote) (id : ℕ) (link : Link) → FifoHolds n es → FifoMay n es e
+    → HasLink (run_heap n (es ++ e ∷ [])) id link
     → LeadsOn (es ++ e ∷ []) (position_of (run_heap n (es ++ e ∷ [])) id) link
 links_next n es e id link holds may l =
     let h : Heap = run_heap n es in
     let k : Heap = run_heap n (es ++ e ∷ []) in
-    let there : slice_get (heap_after e.agent e.act h).nodes id ≡ Some l.node = subst (λ (g : Heap). slice_get g.nodes id ≡ Some l.node) (run_heap-snoc n es e) l.there in
+    let there : slice_get (heap_after e.agent e.act h).nodes id ≡ Some l.node =
+    subst (λ (g : Heap). slice_get g.nodes id ≡ Some l.node) (run_heap-snoc n es e) l.there in
     elim (linked_before e.agent e.act h id l.node there l.linked) [
       | inl was ↦
           let old : HasLink h id was.node.link = record { node = was.node; there = was.there; linked = was.linked; link_is = refl } in
-          let new : link ≡ moved_link e.act id was.node.link = same_link k id link (moved_link e.act id was.node.link) l (link_next n es e id was.node.link may old) in
+          let new : link ≡ moved_link e.act id was.node.link =
+          same_link k id link (moved_link e.act id was.node.link) l (link_next n es e id was.node.link may old) in
           let place : position_of k id ≡ position_of h id = position_next n es e id may was in
           elim (link_kept h e.agent e.act e.note id was.node.link may.may_act may.fits (shown_link h id was.node.link old)) [
             | inl same ↦
                 subst (λ (x : ℕ). LeadsOn (es ++ e ∷ []) x link) (sym place)
-                (subst (λ (x : Link). LeadsOn (es ++ e ∷ []) (position_of h id) x) (sym (new ∙ same)) (leads_more es (e ∷ []) (position_of h id) was.node.link (holds.links id was.node.link old)))
+                (subst (λ (x : Link). LeadsOn (es ++ e ∷ []) (position_of h id) x) (sym (new ∙ same))
+                (leads_more es (e ∷ []) (position_of h id) was.node.link (holds.links id was.node.link old)))
             | inr put ↦
                 let (p, none, moved) = put in
-                let at_is : p.at ≡ position_of h id = put_position n es e id p.by p.job p.at holds may p.note_is p.may.tail_is (shown_link h id was.node.link old ∙ ap (λ (x : Link). Some x) none) in
+                let at_is : p.at ≡ position_of h id =
+                put_position n es e id p.by p.job p.at holds may p.note_is p.may.tail_is
+                (shown_link h id was.node.link old ∙ ap (λ (x : Link). Some x) none) in
                 let act_is : e.act ≡ Move (Next id) p.from (link_to p.may.id) = p.act_is ∙ ap (λ (x : Link). Move (Next id) p.from x) p.may.to_is in
                 let node : IsPutNode (es ++ e ∷ []) p.may.id p.job p.at = put_last es e p.may.id p.by p.job p.at (Next id) p.from act_is p.note_is in
                 inr (p.may.id, p.job, new ∙ moved, subst (λ (x : ℕ). IsPutNode (es ++ e ∷ []) p.may.id p.job x) (at_is ∙ sym place) node)
@@ -209,7 +226,8 @@ split_more (w ∷ xs) x (y ∷ ys) zs e =
     ]
 
 -- a link that isn't null never changes
-pub frozen_next : (n : HeapNumbers) (es : List (Event FifoNote)) (e : Event FifoNote) (before after : List (Event FifoNote)) (id : ℕ) (link : Link) → FifoHolds n es → FifoMay n es e
+pub frozen_next : (n : HeapNumbers) (es : List (Event FifoNote)) (e : Event FifoNote) (before after : List (Event FifoNote)) (id : ℕ) (link : Link)
+    → FifoHolds n es → FifoMay n es e
     → es ++ e ∷ [] ≡ before ++ after → HasLink (run_heap n before) id link → link ≢ null → HasLink (run_heap n (es ++ e ∷ [])) id link
 frozen_next n es e before after id link holds may split l some =
     elim (split_more es e before after split) [

@@ -36,10 +36,12 @@ pub record PutsAt (h : Heap) (act : Act) (noted : Option FifoNote) (d : ℕ) : T
   pub may : MayPut h d from to job at
 
 -- a link stays, but where a Put stands at it
-pub link_kept : (h : Heap) (agent : ℕ) (act : Act) (noted : Option FifoNote) (d : ℕ) (link : Link) → MayAct h act noted → Fits agent act h → shown h (Next d) ≡ Some link
+pub link_kept : (h : Heap) (agent : ℕ) (act : Act) (noted : Option FifoNote) (d : ℕ) (link : Link) → MayAct h act noted → Fits agent act h
+    → shown h (Next d) ≡ Some link
     → (moved_link act d link ≡ link) ⊎ ((p : PutsAt h act noted d) × (link ≡ null) × (moved_link act d link ≡ link_to p.may.id))
 link_kept h agent act noted d link may =
-    each_kind h (λ act noted. Fits agent act h → shown h (Next d) ≡ Some link → (moved_link act d link ≡ link) ⊎ ((p : PutsAt h act noted d) × (link ≡ null) × (moved_link act d link ≡ link_to p.may.id)))
+    each_kind h (λ act noted. Fits agent act h → shown h (Next d) ≡ Some link → (moved_link act d link ≡ link)
+    ⊎ ((p : PutsAt h act noted d) × (link ≡ null) × (moved_link act d link ≡ link_to p.may.id)))
     (λ act plain fits at. inl (plain_link act d link plain))
     (λ r from to m fits at. inl refl)
     (λ r from to m fits at. inl refl)
@@ -68,11 +70,13 @@ link_kept h agent act noted d link may =
     act noted may
 
 -- an allowed event, with the heaps before and after it
-pub stays_linked : (n : HeapNumbers) (es : List (Event FifoNote)) (e : Event FifoNote) (d : ℕ) (old : Node) → FifoMay n es e → slice_get (run_heap n es).nodes d ≡ Some old → old.linked ≡ true
+pub stays_linked : (n : HeapNumbers) (es : List (Event FifoNote)) (e : Event FifoNote) (d : ℕ) (old : Node) → FifoMay n es e
+    → slice_get (run_heap n es).nodes d ≡ Some old → old.linked ≡ true
     → StaysLinked (run_heap n (es ++ e ∷ [])) d old (moved_link e.act d old.link)
 stays_linked n es e d old may there linked = rw (run_heap-snoc n es e) (linked_after e.agent e.act (run_heap n es) d old may.fits there linked)
 
-pub linked_next : (n : HeapNumbers) (es : List (Event FifoNote)) (e : Event FifoNote) (d : ℕ) → FifoMay n es e → IsLinkedNode (run_heap n es) d → IsLinkedNode (run_heap n (es ++ e ∷ [])) d
+pub linked_next : (n : HeapNumbers) (es : List (Event FifoNote)) (e : Event FifoNote) (d : ℕ) → FifoMay n es e → IsLinkedNode (run_heap n es) d
+    → IsLinkedNode (run_heap n (es ++ e ∷ [])) d
 linked_next n es e d may l =
     let s = stays_linked n es e d l.node may l.there l.linked in
     record { node = s.node; there = s.there; linked = s.linked }
@@ -81,7 +85,8 @@ pub position_next : (n : HeapNumbers) (es : List (Event FifoNote)) (e : Event Fi
     → position_of (run_heap n (es ++ e ∷ [])) d ≡ position_of (run_heap n es) d
 position_next n es e d may l =
     let s = stays_linked n es e d l.node may l.there l.linked in
-    position_at (run_heap n (es ++ e ∷ [])) d s.node s.there ∙ (ap (λ (o : Option ℕ). unwrap_or o 0) s.second ∙ sym (position_at (run_heap n es) d l.node l.there))
+    position_at (run_heap n (es ++ e ∷ [])) d s.node s.there
+    ∙ (ap (λ (o : Option ℕ). unwrap_or o 0) s.second ∙ sym (position_at (run_heap n es) d l.node l.there))
 
 -- the link after the event
 pub link_next : (n : HeapNumbers) (es : List (Event FifoNote)) (e : Event FifoNote) (d : ℕ) (link : Link) → FifoMay n es e → HasLink (run_heap n es) d link
@@ -99,7 +104,8 @@ null_next n es e d may l =
       | inr p ↦ inr (p.0, subst (λ (x : Link). HasLink (run_heap n (es ++ e ∷ [])) d x) p.2 next)
     ]
 
-pub some_next : (n : HeapNumbers) (es : List (Event FifoNote)) (e : Event FifoNote) (d : ℕ) (link : Link) → FifoMay n es e → link ≢ null → HasLink (run_heap n es) d link
+pub some_next : (n : HeapNumbers) (es : List (Event FifoNote)) (e : Event FifoNote) (d : ℕ) (link : Link) → FifoMay n es e → link ≢ null
+    → HasLink (run_heap n es) d link
     → HasLink (run_heap n (es ++ e ∷ [])) d link
 some_next n es e d link may some l =
     let next = link_next n es e d link may l in
@@ -115,7 +121,16 @@ node_next n es e d next may l = some_next n es e d (link_to next) may (λ none. 
 -- a Put's node stays one, and keeps its job
 pub put_grown : (es fs : List (Event FifoNote)) (id job at : ℕ) → IsPutNode es id job at → IsPutNode (es ++ fs) id job at
 put_grown es fs id job at p =
-    record { event = p.event; by = p.by; place = p.place; from = p.from; among = Contains-append_left es fs p.event p.among; act_is = p.act_is; note_is = p.note_is }
+    record {
+      event = p.event;
+      by = p.by;
+      place = p.place;
+      from = p.from;
+      among = Contains-append_left es fs p.event p.among;
+      act_is =
+          p.act_is;
+      note_is = p.note_is;
+    }
 
 pub job_next : (n : HeapNumbers) (es : List (Event FifoNote)) (e : Event FifoNote) (id job at : ℕ) → FifoMay n es e → HasJob (run_heap n es) id job at
     → HasJob (run_heap n (es ++ e ∷ [])) id job at
@@ -128,7 +143,8 @@ job_next n es e id job at may j =
       holds = record { job_is = s.first ∙ j.holds.job_is; position_is = s.second ∙ j.holds.position_is; low = j.holds.low };
     }
 
-pub path_next : (n : HeapNumbers) (es : List (Event FifoNote)) (e : Event FifoNote) (d last : ℕ) (puts : List (ℕ × ℕ)) → FifoMay n es e → IsPath es (run_heap n es) d puts last
+pub path_next : (n : HeapNumbers) (es : List (Event FifoNote)) (e : Event FifoNote) (d last : ℕ) (puts : List (ℕ × ℕ)) → FifoMay n es e
+    → IsPath es (run_heap n es) d puts last
     → IsPath (es ++ e ∷ []) (run_heap n (es ++ e ∷ [])) d puts last
 path_next n es e d last [] may path = path
 path_next n es e d last (put ∷ puts) may (next, link, put_node, rest) =

@@ -25,7 +25,8 @@ aim_roots agent id None h = refl
 aim_roots agent id (Some i) h = refl
 
 -- a root that names node 0 still does after a Begin
-still_zero : (agent : ℕ) (act : Act) (noted : Option FifoNote) (h : Heap) (r : ℕ) → BeginsIfMoves act noted → shown h (Root r) ≡ Some (link_to 0) → shown (heap_after agent act h) (Root r) ≡ Some (link_to 0)
+still_zero : (agent : ℕ) (act : Act) (noted : Option FifoNote) (h : Heap) (r : ℕ) → BeginsIfMoves act noted → shown h (Root r) ≡ Some (link_to 0)
+    → shown (heap_after agent act h) (Root r) ≡ Some (link_to 0)
 still_zero agent Give noted h r b at = at
 still_zero agent (Fill id which value) noted h r b at = at
 still_zero agent (Aim id to) noted h r b at = ap (λ (l : List Link). slice_get l r) (aim_roots agent id to h) ∙ at
@@ -36,10 +37,12 @@ still_zero agent (Move (Root q) from to) noted h r b at =
 still_zero agent (Move (Next t) from to) noted h r b at = absurd b
 
 -- after its Begin a root names node 0
-begin_zero : (agent : ℕ) (act : Act) (noted : Option FifoNote) (h : Heap) (r : ℕ) → BeginsIfMoves act noted → Fits agent act h → is_begin_of r act noted ≡ true → shown (heap_after agent act h) (Root r) ≡ Some (link_to 0)
+begin_zero : (agent : ℕ) (act : Act) (noted : Option FifoNote) (h : Heap) (r : ℕ) → BeginsIfMoves act noted → Fits agent act h
+    → is_begin_of r act noted ≡ true → shown (heap_after agent act h) (Root r) ≡ Some (link_to 0)
 begin_zero agent (Move (Root q) from to) (Some Begin) h r b fits is =
     let same : q ≡ r = eqb-true q r is in
-    subst (λ (x : ℕ). shown (heap_after agent (Move (Root q) from to) h) (Root x) ≡ Some (link_to 0)) same (root_moved agent q from to h fits.0 ∙ ap (λ (l : Link). Some l) b.2)
+    subst (λ (x : ℕ). shown (heap_after agent (Move (Root q) from to) h) (Root x) ≡ Some (link_to 0)) same
+    (root_moved agent q from to h fits.0 ∙ ap (λ (l : Link). Some l) b.2)
 begin_zero agent (Move (Root q) from to) (Some Swing) h r b fits is = cc
 begin_zero agent (Move (Root q) from to) (Some (Entry entry)) h r b fits is = cc
 begin_zero agent (Move (Root q) from to) None h r b fits is = cc
@@ -50,11 +53,13 @@ begin_zero agent (Aim id to) noted h r b fits is = cc
 begin_zero agent (Look place link) noted h r b fits is = cc
 begin_zero agent (Miss place wanted found) noted h r b fits is = cc
 
-still_from : (h : Heap) (es : List (Event FifoNote)) (r : ℕ) → AllBegin es → shown h (Root r) ≡ Some (link_to 0) → shown (run_from h es) (Root r) ≡ Some (link_to 0)
+still_from : (h : Heap) (es : List (Event FifoNote)) (r : ℕ) → AllBegin es → shown h (Root r) ≡ Some (link_to 0)
+    → shown (run_from h es) (Root r) ≡ Some (link_to 0)
 still_from h [] r all at = at
 still_from h (e ∷ es) r all at = still_from (heap_after e.agent e.act h) es r all.1 (still_zero e.agent e.act e.note h r all.0 at)
 
-begun_from : (h : Heap) (es : List (Event FifoNote)) (r : ℕ) → AllBegin es → IsLawfulFrom h es → root_has_begun r es ≡ true → shown (run_from h es) (Root r) ≡ Some (link_to 0)
+begun_from : (h : Heap) (es : List (Event FifoNote)) (r : ℕ) → AllBegin es → IsLawfulFrom h es → root_has_begun r es ≡ true
+    → shown (run_from h es) (Root r) ≡ Some (link_to 0)
 begun_from h [] r all lawful b = cc
 begun_from h (e ∷ es) r all lawful b =
     elim (or_either (is_begin_of r e.act e.note) (root_has_begun r es) b) [
@@ -62,7 +67,8 @@ begun_from h (e ∷ es) r all lawful b =
       | inr later ↦ begun_from (heap_after e.agent e.act h) es r all.1 lawful.1 later
     ]
 
-pub begun_root : (n : HeapNumbers) (es : List (Event FifoNote)) (r : ℕ) → AllBegin es → IsLawful n es → root_has_begun r es ≡ true → shown (run_heap n es) (Root r) ≡ Some (link_to 0)
+pub begun_root : (n : HeapNumbers) (es : List (Event FifoNote)) (r : ℕ) → AllBegin es → IsLawful n es → root_has_begun r es ≡ true
+    → shown (run_heap n es) (Root r) ≡ Some (link_to 0)
 begun_root n es r all lawful b = begun_from (new_heap n) es r all lawful b
 
 none_right : {A : Type 0} (xs ys : List A) → xs ++ ys ≡ [] → ys ≡ []
@@ -75,7 +81,8 @@ no_put_at (x ∷ es) e by job at (zero, low, is) none note_is =
     let noted : x.note ≡ Some (Entry (Put by job at)) = ap (λ (z : Event FifoNote). z.note) is ∙ note_is in
     let more : entries_in (Some (Entry (Put by job at))) ++ entries_of es ≡ [] = ap (λ z. entries_in z ++ entries_of es) (sym noted) ∙ none in
     cc
-no_put_at (x ∷ es) e by job at (suc k, low, is) none note_is = no_put_at es e by job at (k, omega (arith, low), is) (none_right (entries_in x.note) (entries_of es) none) note_is
+no_put_at (x ∷ es) e by job at (suc k, low, is) none note_is =
+    no_put_at es e by job at (k, omega (arith, low), is) (none_right (entries_in x.note) (entries_of es) none) note_is
 
 -- where there is no entry, there is no Put
 pub no_puts : (es : List (Event FifoNote)) (id job at : ℕ) → entries_of es ≡ [] → IsPutNode es id job at → ⊥

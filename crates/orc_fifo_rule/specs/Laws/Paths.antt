@@ -12,12 +12,14 @@ use Rattle.orc_fifo_rule.specs.Laws.Nodes.{job_linked, path_linked}
 use Rattle.orc_heap.proofs.SingleActs.{link_same, null_to, shown_link, some_same, has_link}
 
 -- behind a node with a null link the path ends
-pub path_ends : (es : List (Event FifoNote)) (h : Heap) (d last : ℕ) (puts : List (ℕ × ℕ)) → IsPath es h d puts last → shown h (Next d) ≡ Some null → (puts ≡ []) × (d ≡ last)
+pub path_ends : (es : List (Event FifoNote)) (h : Heap) (d last : ℕ) (puts : List (ℕ × ℕ)) → IsPath es h d puts last → shown h (Next d) ≡ Some null
+    → (puts ≡ []) × (d ≡ last)
 path_ends es h d last [] path at = (refl, path)
 path_ends es h d last (put ∷ puts) (next, link, put_node, rest) at = absurd (null_to next (some_same (sym at ∙ shown_link h d (link_to next) link)))
 
 -- the one step behind the tail
-pub back_one : (es : List (Event FifoNote)) (h : Heap) (tail last : ℕ) (back : List (ℕ × ℕ)) (x : ℕ) → IsPath es h tail back last → HasLink h last null → length back ≤ 1 → shown h (Next tail) ≡ Some (link_to x)
+pub back_one : (es : List (Event FifoNote)) (h : Heap) (tail last : ℕ) (back : List (ℕ × ℕ)) (x : ℕ) → IsPath es h tail back last
+    → HasLink h last null → length back ≤ 1 → shown h (Next tail) ≡ Some (link_to x)
     → (put : ℕ × ℕ) × (back ≡ put ∷ []) × HasLink h tail (link_to x) × IsPutNode es x put.0 put.1 × (x ≡ last)
 back_one es h tail last [] x path ends short at =
     let there : shown h (Next tail) ≡ Some null = subst (λ (y : ℕ). shown h (Next y) ≡ Some null) (sym path) (shown_link h last null ends) in
@@ -27,13 +29,15 @@ back_one es h tail last (put ∷ []) x (next, link, put_node, rest) ends short a
     (put, refl, subst (λ (y : ℕ). HasLink h tail (link_to y)) same link, subst (λ (y : ℕ). IsPutNode es y put.0 put.1) same put_node, sym same ∙ rest)
 back_one es h tail last (put ∷ other ∷ puts) x path ends short at = absurd (omega arith)
 
-pub path_snoc : (es : List (Event FifoNote)) (h : Heap) (d m x : ℕ) (puts : List (ℕ × ℕ)) (put : ℕ × ℕ) → IsPath es h d puts m → HasLink h m (link_to x) → IsPutNode es x put.0 put.1
+pub path_snoc : (es : List (Event FifoNote)) (h : Heap) (d m x : ℕ) (puts : List (ℕ × ℕ)) (put : ℕ × ℕ) → IsPath es h d puts m
+    → HasLink h m (link_to x) → IsPutNode es x put.0 put.1
     → IsPath es h d (puts ++ put ∷ []) x
 path_snoc es h d m x [] put path link put_node = (x, subst (λ (y : ℕ). HasLink h y (link_to x)) (sym path) link, put_node, refl)
 path_snoc es h d m x (other ∷ puts) put (next, one, two, rest) link put_node = (next, one, two, path_snoc es h next m x puts put rest link put_node)
 
 -- the first step of a path that leads elsewhere
-pub path_step : (es : List (Event FifoNote)) (h : Heap) (d tail : ℕ) (front : List (ℕ × ℕ)) (x : ℕ) → IsPath es h d front tail → shown h (Next d) ≡ Some (link_to x) → d ≢ tail
+pub path_step : (es : List (Event FifoNote)) (h : Heap) (d tail : ℕ) (front : List (ℕ × ℕ)) (x : ℕ) → IsPath es h d front tail
+    → shown h (Next d) ≡ Some (link_to x) → d ≢ tail
     → (put : ℕ × ℕ) × (rest : List (ℕ × ℕ)) × (front ≡ put ∷ rest) × IsPutNode es x put.0 put.1 × IsPath es h x rest tail
 path_step es h d tail [] x path at apart = absurd (apart path)
 path_step es h d tail (put ∷ puts) x (next, link, put_node, rest) at apart =
@@ -51,7 +55,8 @@ dummy_linked h es run = over run.front run.to_tail
     over (put ∷ puts) (next, link, put_node, rest) = record { node = link.node; there = link.there; linked = link.linked }
 
 -- the node to which a once linked node leads is once linked
-pub successor_linked : (n : HeapNumbers) (es : List (Event FifoNote)) (t x : ℕ) → FifoHolds n es → HasLink (run_heap n es) t (link_to x) → IsLinkedNode (run_heap n es) x
+pub successor_linked : (n : HeapNumbers) (es : List (Event FifoNote)) (t x : ℕ) → FifoHolds n es → HasLink (run_heap n es) t (link_to x)
+    → IsLinkedNode (run_heap n es) x
 successor_linked n es t x holds link =
     elim (holds.links t (link_to x) link) [
       | inl none ↦ absurd (null_to x (sym none))
@@ -61,14 +66,16 @@ successor_linked n es t x holds link =
     ]
 
 -- a root that steps on leaves a once linked node for its successor
-pub tail_steps : (h : Heap) (es : List (Event FifoNote)) (run : IsRunning h es) (r : ℕ) (from to : Link) (s : StepsOn h from to) → r ≡ 1 → shown h (Root r) ≡ Some from
+pub tail_steps : (h : Heap) (es : List (Event FifoNote)) (run : IsRunning h es) (r : ℕ) (from to : Link) (s : StepsOn h from to) → r ≡ 1
+    → shown h (Root r) ≡ Some from
     → (s.id ≡ run.tail) × HasLink h s.id (link_to s.next)
 tail_steps h es run r from to s one at =
     let here : shown h (Root 1) ≡ Some from = subst (λ (x : ℕ). shown h (Root x) ≡ Some from) one at in
     let same : s.id ≡ run.tail = link_same s.id run.tail (sym s.from_is ∙ some_same (sym here ∙ run.tail_is)) in
     (same, has_link h s.id (link_to s.next) (subst (λ (x : ℕ). IsLinkedNode h x) (sym same) (tail_linked h es run)) s.successor)
 
-pub head_steps : (h : Heap) (es : List (Event FifoNote)) (run : IsRunning h es) (r : ℕ) (from to : Link) (s : StepsOn h from to) → r ≡ 0 → shown h (Root r) ≡ Some from
+pub head_steps : (h : Heap) (es : List (Event FifoNote)) (run : IsRunning h es) (r : ℕ) (from to : Link) (s : StepsOn h from to) → r ≡ 0
+    → shown h (Root r) ≡ Some from
     → (s.id ≡ run.dummy) × HasLink h s.id (link_to s.next)
 head_steps h es run r from to s zero_root at =
     let here : shown h (Root 0) ≡ Some from = subst (λ (x : ℕ). shown h (Root x) ≡ Some from) zero_root at in

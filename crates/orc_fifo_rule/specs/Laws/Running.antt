@@ -24,18 +24,21 @@ use Rattle.orc_fifo_rule.specs.Laws.Leaves.{put_has_job, put_node_after, put_pos
 use Rattle.orc_heap.proofs.SingleActs.{link_moved, null_to, plain_roots, root_moved, root_next, root_other, some_same}
 
 -- what a root shows after the event
-pub root_at : (n : HeapNumbers) (es : List (Event FifoNote)) (e : Event FifoNote) (r : ℕ) → shown (run_heap n (es ++ e ∷ [])) (Root r) ≡ shown (heap_after e.agent e.act (run_heap n es)) (Root r)
+pub root_at : (n : HeapNumbers) (es : List (Event FifoNote)) (e : Event FifoNote) (r : ℕ)
+    → shown (run_heap n (es ++ e ∷ [])) (Root r) ≡ shown (heap_after e.agent e.act (run_heap n es)) (Root r)
 root_at n es e r = ap (λ (h : Heap). shown h (Root r)) (run_heap-snoc n es e)
 
 -- the next position, where there is no Put
-next_same : (n : HeapNumbers) (es : List (Event FifoNote)) (e : Event FifoNote) (run : IsRunning (run_heap n es) es) → FifoMay n es e → puts_in (entries_in e.note) ≡ 0
+next_same : (n : HeapNumbers) (es : List (Event FifoNote)) (e : Event FifoNote) (run : IsRunning (run_heap n es) es) → FifoMay n es e
+    → puts_in (entries_in e.note) ≡ 0
     → position_of (run_heap n (es ++ e ∷ [])) run.last ≡ position_of (run_heap n (es ++ e ∷ [])) 0 + puts_in (entries_of (es ++ e ∷ []))
 next_same n es e run may none =
     let last = position_next n es e run.last may (record { node = run.ends.node; there = run.ends.there; linked = run.ends.linked }) in
     let first = position_next n es e 0 may run.zero in
     omega (arith, last, first, run.next, puts_snoc es e, none)
 
-ends_next : (n : HeapNumbers) (es : List (Event FifoNote)) (e : Event FifoNote) (run : IsRunning (run_heap n es) es) → FifoMay n es e → (PutsAt (run_heap n es) e.act e.note run.last → ⊥)
+ends_next : (n : HeapNumbers) (es : List (Event FifoNote)) (e : Event FifoNote) (run : IsRunning (run_heap n es) es) → FifoMay n es e
+    → (PutsAt (run_heap n es) e.act e.note run.last → ⊥)
     → HasLink (run_heap n (es ++ e ∷ [])) run.last null
 ends_next n es e run may no_put = elim (null_next n es e run.last may run.ends) [ inl same ↦ same | inr put ↦ absurd (no_put put.0) ]
 
@@ -69,7 +72,8 @@ running_plain n es e run may noted roots =
     (ap (waiting_after []) (entries_same es e (ap entries_in noted))) (ap (λ x. puts_in (entries_in x)) noted)
 
 running_empty : (n : HeapNumbers) (es : List (Event FifoNote)) (agent d by : ℕ) (link : Link) → IsRunning (run_heap n es) es
-    → (let e : Event FifoNote = event_by agent (Look (Next d) link) (Some (Entry (Empty by))) in FifoMay n es e → IsRunning (run_heap n (es ++ e ∷ [])) (es ++ e ∷ []))
+    → (let e : Event FifoNote = event_by agent (Look (Next d) link) (Some (Entry (Empty by))) in
+    FifoMay n es e → IsRunning (run_heap n (es ++ e ∷ [])) (es ++ e ∷ []))
 running_empty n es agent d by link run may =
     let e : Event FifoNote = event_by agent (Look (Next d) link) (Some (Entry (Empty by))) in
     running_still n es e run may refl (λ x p. let is = p.note_is in cc)
@@ -115,7 +119,8 @@ running_swing n es agent r from to run may =
 
 -- root 0 steps on
 running_took : (n : HeapNumbers) (es : List (Event FifoNote)) (agent r by job at : ℕ) (from to : Link) → IsRunning (run_heap n es) es
-    → (let e : Event FifoNote = event_by agent (Move (Root r) from to) (Some (Entry (Took by job at))) in FifoMay n es e → IsRunning (run_heap n (es ++ e ∷ [])) (es ++ e ∷ []))
+    → (let e : Event FifoNote = event_by agent (Move (Root r) from to) (Some (Entry (Took by job at))) in
+    FifoMay n es e → IsRunning (run_heap n (es ++ e ∷ [])) (es ++ e ∷ []))
 running_took n es agent r by job at from to run may =
     let e : Event FifoNote = event_by agent (Move (Root r) from to) (Some (Entry (Took by job at))) in
     let h : Heap = run_heap n es in
@@ -123,7 +128,8 @@ running_took n es agent r by job at from to run may =
     let zero_root : r ≡ 0 = may.may_act.root_is in
     let (same, step) = head_steps h es run r from to s zero_root may.fits.0 in
     let successor : shown h (Next run.dummy) ≡ Some (link_to s.next) = subst (λ (x : ℕ). shown h (Next x) ≡ Some (link_to s.next)) same s.successor in
-    let apart : run.dummy ≢ run.tail = λ x. may.may_act.tail_apart (run.tail_is ∙ ap (λ (l : Link). Some l) (ap link_to (sym x) ∙ (ap link_to (sym same) ∙ sym s.from_is))) in
+    let apart : run.dummy ≢ run.tail =
+    λ x. may.may_act.tail_apart (run.tail_is ∙ ap (λ (l : Link). Some l) (ap link_to (sym x) ∙ (ap link_to (sym same) ∙ sym s.from_is))) in
     let (put, rest, front_is, put_node, path) = path_step es h run.dummy run.tail run.front s.next run.to_tail successor apart in
     let moved : shown (heap_after agent (Move (Root r) from to) h) (Root 0) ≡ Some to =
     subst (λ (x : ℕ). shown (heap_after agent (Move (Root r) from to) h) (Root x) ≡ Some to) zero_root (root_moved agent r from to h may.fits.0) in
@@ -147,7 +153,8 @@ running_took n es agent r by job at from to run may =
 
 -- a node is put behind the last one
 running_put : (n : HeapNumbers) (es : List (Event FifoNote)) (agent t by job at : ℕ) (from to : Link) → FifoHolds n es → IsRunning (run_heap n es) es
-    → (let e : Event FifoNote = event_by agent (Move (Next t) from to) (Some (Entry (Put by job at))) in FifoMay n es e → IsRunning (run_heap n (es ++ e ∷ [])) (es ++ e ∷ []))
+    → (let e : Event FifoNote = event_by agent (Move (Next t) from to) (Some (Entry (Put by job at))) in
+    FifoMay n es e → IsRunning (run_heap n (es ++ e ∷ [])) (es ++ e ∷ []))
 running_put n es agent t by job at from to holds run may =
     let e : Event FifoNote = event_by agent (Move (Next t) from to) (Some (Entry (Put by job at))) in
     let h : Heap = run_heap n es in
@@ -157,11 +164,14 @@ running_put n es agent t by job at from to holds run may =
     let (tail_at, no_back, last_at) = put_at_last h es run t m.tail_is none in
     let t_linked : IsLinkedNode h t = subst (λ (x : ℕ). IsLinkedNode h x) tail_at (tail_linked h es run) in
     let ends : HasLink h t null = subst (λ (x : ℕ). HasLink h x null) last_at run.ends in
-    let moved : moved_link (Move (Next t) from to) t null ≡ link_to m.id = elim (link_moved t t from to null) [ inl c ↦ c.1 ∙ m.to_is | inr c ↦ absurd (c.0 refl) ] in
+    let moved : moved_link (Move (Next t) from to) t null ≡ link_to m.id =
+    elim (link_moved t t from to null) [ inl c ↦ c.1 ∙ m.to_is | inr c ↦ absurd (c.0 refl) ] in
     let link : HasLink k run.tail (link_to m.id) =
     subst (λ (x : ℕ). HasLink k x (link_to m.id)) (sym tail_at) (subst (λ (l : Link). HasLink k t l) moved (link_next n es e t null may ends)) in
     let node : IsPutNode (es ++ e ∷ []) m.id job at = put_last es e m.id by job at (Next t) from (ap (λ (l : Link). Move (Next t) from l) m.to_is) refl in
-    let there : slice_get k.nodes m.id ≡ Some (as_linked m.node) = subst (λ (g : Heap). slice_get g.nodes m.id ≡ Some (as_linked m.node)) (sym (run_heap-snoc n es e)) (put_node_after h agent t from to job at m t_linked) in
+    let there : slice_get k.nodes m.id ≡ Some (as_linked m.node) =
+    subst (λ (g : Heap). slice_get g.nodes m.id ≡ Some (as_linked m.node)) (sym (run_heap-snoc n es e))
+    (put_node_after h agent t from to job at m t_linked) in
     let position : position_of k m.id ≡ at + 1 = job_position k m.id job at (put_has_job n es agent t by job at from to holds may) in
     let before : at ≡ position_of h t = put_position n es e t by job at holds may refl m.tail_is none in
     let last : position_of h t ≡ position_of h run.last = ap (λ (x : ℕ). position_of h x) (sym last_at) in
@@ -179,15 +189,18 @@ running_put n es agent t by job at from to holds run may =
       ends = record { node = as_linked m.node; there = there; linked = refl; link_is = m.ends };
       short = omega arith;
       waiting = ap (waiting_after []) (entries_more es e (Put by job at) refl)
-          ∙ (waiting_after-snoc [] (entries_of es) (Put by job at) ∙ ap (λ z. z ++ (job, at) ∷ []) (run.waiting ∙ (ap (λ z. run.front ++ z) no_back ∙ append-nil run.front)));
+          ∙ (waiting_after-snoc [] (entries_of es) (Put by job at)
+          ∙ ap (λ z. z ++ (job, at) ∷ []) (run.waiting ∙ (ap (λ z. run.front ++ z) no_back ∙ append-nil run.front)));
       zero = linked_next n es e 0 may run.zero;
       next = omega (arith, position, before, last, first, run.next, puts_snoc es e);
     }
 
 -- a queue that runs goes on running
-pub running_next : (n : HeapNumbers) (es : List (Event FifoNote)) (e : Event FifoNote) → FifoHolds n es → IsRunning (run_heap n es) es → FifoMay n es e → IsRunning (run_heap n (es ++ e ∷ [])) (es ++ e ∷ [])
+pub running_next : (n : HeapNumbers) (es : List (Event FifoNote)) (e : Event FifoNote) → FifoHolds n es → IsRunning (run_heap n es) es
+    → FifoMay n es e → IsRunning (run_heap n (es ++ e ∷ [])) (es ++ e ∷ [])
 running_next n es e holds run may =
-    each_kind (run_heap n es) (λ act noted. let x : Event FifoNote = event_by e.agent act noted in FifoMay n es x → IsRunning (run_heap n (es ++ x ∷ [])) (es ++ x ∷ []))
+    each_kind (run_heap n es) (λ act noted. let x : Event FifoNote = event_by e.agent act noted in
+    FifoMay n es x → IsRunning (run_heap n (es ++ x ∷ [])) (es ++ x ∷ []))
     (λ act plain m. running_plain n es (event_by e.agent act None) run m refl (plain_roots e.agent act (run_heap n es) plain))
     (λ r from to b m. absurd (begin_late (run_heap n es) es r run b.root_is (m.fits.0 ∙ ap (λ (l : Link). Some l) b.from_is)))
     (λ r from to b m. running_swing n es e.agent r from to run m)

@@ -19,7 +19,8 @@ use crate::{Act, Place};
 
 // Of three events, agent 1 made the first and the last.
 fn whose_events()
-    ensures own { events_by {N = ℕ} 1 (record { agent = 1; act = Act.Give; note = Some 7 } ∷ record { agent = 2; act = Act.Give; note = None } ∷ record { agent = 1; act = Act.Give; note = None } ∷ [])
+    ensures own { events_by {N = ℕ} 1 (record { agent = 1; act = Act.Give; note = Some 7 } ∷ record { agent = 2; act = Act.Give; note = None }
+        ∷ record { agent = 1; act = Act.Give; note = None } ∷ [])
         ≡ record { agent = 1; act = Act.Give; note = Some 7 } ∷ record { agent = 1; act = Act.Give; note = None } ∷ [] }
     ensures below { IsBelow {N = ℕ} 3 (record { agent = 1; act = Act.Give; note = Some 7 } ∷ record { agent = 2; act = Act.Give; note = None } ∷ []) }
     ensures not_below { ¬ IsBelow {N = ℕ} 2 (record { agent = 1; act = Act.Give; note = Some 7 } ∷ record { agent = 2; act = Act.Give; note = None } ∷ []) }
@@ -90,8 +91,11 @@ fn moves_of_places()
     ensures there { moves_place (Place.Root 1) (Act.Move (Place.Root 1) null null) ≡ true }
     ensures elsewhere { moves_place (Place.Next 1) (Act.Move (Place.Root 1) null null) ≡ false }
     ensures look { moves_place (Place.Root 1) (Act.Look (Place.Root 1) null) ≡ false }
-    ensures moves { moves_in {N = ℕ} (record { agent = 1; act = Act.Give; note = None } ∷ record { agent = 1; act = Act.Move (Place.Root 1) null null; note = None } ∷ []) ≡ 1 }
-    ensures gives { gives_in {N = ℕ} (record { agent = 1; act = Act.Give; note = None } ∷ record { agent = 1; act = Act.Move (Place.Root 1) null null; note = None } ∷ []) ≡ 1 }
-    ensures own { from_own {N = ℕ} 2 (record { agent = 1; act = Act.Give; note = None } ∷ record { agent = 2; act = Act.Give; note = None } ∷ []) ≡ record { agent = 2; act = Act.Give; note = None } ∷ [] }
+    ensures moves { moves_in {N = ℕ}
+        (record { agent = 1; act = Act.Give; note = None } ∷ record { agent = 1; act = Act.Move (Place.Root 1) null null; note = None } ∷ []) ≡ 1 }
+    ensures gives { gives_in {N = ℕ}
+        (record { agent = 1; act = Act.Give; note = None } ∷ record { agent = 1; act = Act.Move (Place.Root 1) null null; note = None } ∷ []) ≡ 1 }
+    ensures own { from_own {N = ℕ} 2 (record { agent = 1; act = Act.Give; note = None } ∷ record { agent = 2; act = Act.Give; note = None } ∷ [])
+        ≡ record { agent = 2; act = Act.Give; note = None } ∷ [] }
     ensures unlinked { ¬ IsLinkedPlace (Place.Next 0) (record { nodes = new_node 3 ∷ []; roots = [] }) }
 {}

@@ -25,14 +25,19 @@ fn acts()
     ensures filled { heap_after 3 (Act.Fill 0 1 8) (record { nodes = new_node 3 ∷ []; roots = null ∷ [] })
         ≡ record { nodes = record { giver = 3; first = None; second = Some 8; link = null; named = false; linked = false } ∷ []; roots = null ∷ [] } }
     ensures moved { heap_after 3 (Act.Move (Place.Root 0) null (record { to = Some 0; mark = false })) (record { nodes = new_node 3 ∷ []; roots = null ∷ [] })
-        ≡ record { nodes = record { giver = 3; first = None; second = None; link = null; named = true; linked = true } ∷ []; roots = record { to = Some 0; mark = false } ∷ [] } }
+        ≡ record {
+          nodes = record { giver = 3; first = None; second = None; link = null; named = true; linked = true } ∷ [];
+          roots =
+              record { to = Some 0; mark = false } ∷ [];
+        } }
     ensures aimed { heap_after 3 (Act.Aim 1 (Some 0)) (record { nodes = new_node 2 ∷ new_node 3 ∷ []; roots = null ∷ [] })
         ≡ record {
           nodes = record { giver = 2; first = None; second = None; link = null; named = true; linked = false }
               ∷ record { giver = 3; first = None; second = None; link = record { to = Some 0; mark = false }; named = false; linked = false } ∷ [];
           roots = null ∷ [];
         } }
-    ensures missed { heap_after 3 (Act.Miss (Place.Root 0) (record { to = Some 0; mark = true }) null) (new_heap (record { roots = 1 })) ≡ new_heap (record { roots = 1 }) }
+    ensures missed { heap_after 3 (Act.Miss (Place.Root 0) (record { to = Some 0; mark = true }) null) (new_heap (record { roots = 1 })) ≡ new_heap
+        (record { roots = 1 }) }
 {}
 
 // Node 0 was given to agent 3, and nothing was linked.
@@ -41,7 +46,8 @@ fn fitting()
     ensures no_third_value { ¬ Fits 3 (Act.Fill 0 2 8) (record { nodes = new_node 3 ∷ []; roots = null ∷ [] }) }
     ensures of_another { ¬ Fits 2 (Act.Fill 0 1 8) (record { nodes = new_node 3 ∷ []; roots = null ∷ [] }) }
     ensures reaches { Fits 3 (Act.Move (Place.Root 0) null (record { to = Some 0; mark = false })) (record { nodes = new_node 3 ∷ []; roots = null ∷ [] }) }
-    ensures out_of_reach { ¬ Fits 2 (Act.Move (Place.Root 0) null (record { to = Some 0; mark = false })) (record { nodes = new_node 3 ∷ []; roots = null ∷ [] }) }
+    ensures out_of_reach { ¬ Fits 2 (Act.Move (Place.Root 0) null (record { to = Some 0; mark = false }))
+        (record { nodes = new_node 3 ∷ []; roots = null ∷ [] }) }
     ensures looks { Fits 2 (Act.Look (Place.Root 0) null) (record { nodes = new_node 3 ∷ []; roots = null ∷ [] }) }
     ensures looks_elsewhere { ¬ Fits 2 (Act.Look (Place.Root 1) null) (record { nodes = new_node 3 ∷ []; roots = null ∷ [] }) }
     ensures no_miss { ¬ Fits 2 (Act.Miss (Place.Root 0) null null) (record { nodes = new_node 3 ∷ []; roots = null ∷ [] }) }

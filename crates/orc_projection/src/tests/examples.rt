@@ -55,8 +55,10 @@ fn acts()
 
 // Lists of steps that store no mark, and one that does.
 fn plain_lists()
-    ensures unmarked { let steps : List (Step ℕ) = record { agent = 0; op = Op.LinkStore 5 (record { to = Some 4; mark = false }); want = None; note = None } ∷ [] in StoresUnmarked steps }
-    ensures marked { let steps : List (Step ℕ) = record { agent = 0; op = Op.LinkStore 5 (record { to = Some 4; mark = true }); want = None; note = None } ∷ [] in ¬ StoresUnmarked steps }
+    ensures unmarked { let steps : List (Step ℕ) =
+        record { agent = 0; op = Op.LinkStore 5 (record { to = Some 4; mark = false }); want = None; note = None } ∷ [] in StoresUnmarked steps }
+    ensures marked { let steps : List (Step ℕ) =
+        record { agent = 0; op = Op.LinkStore 5 (record { to = Some 4; mark = true }); want = None; note = None } ∷ [] in ¬ StoresUnmarked steps }
 {}
 
 // Agent 0 links row 0 from the root and unlinks it while agent 1 holds it; its scan hands the row over to

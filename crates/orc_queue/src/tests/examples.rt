@@ -32,7 +32,8 @@ fn one_turn_is_used()
         ∷ event_by 2 (Act.Move (Place.Root 1) (link_to 0) (link_to 1)) (Some FifoNote.Swing) ∷ []) 0 2 }
     ensures not_two { ¬ UsesTurns {S = Event FifoNote} (λ e. e.agent) (λ j. j) 1 2 (event_by 1 (Act.Look (Place.Root 1) (link_to 0)) None
         ∷ event_by 2 (Act.Move (Place.Root 1) (link_to 0) (link_to 1)) (Some FifoNote.Swing) ∷ []) 0 2 }
-    ensures before { ¬ UsesTurns {S = Event FifoNote} (λ e. e.agent) (λ j. j) 1 1 (event_by 2 (Act.Move (Place.Root 1) (link_to 0) (link_to 1)) (Some FifoNote.Swing)
+    ensures before { ¬ UsesTurns {S = Event FifoNote} (λ e. e.agent) (λ j. j) 1 1
+        (event_by 2 (Act.Move (Place.Root 1) (link_to 0) (link_to 1)) (Some FifoNote.Swing)
         ∷ event_by 1 (Act.Look (Place.Root 1) (link_to 1)) None ∷ []) 1 2 }
 {}
 

@@ -16,7 +16,12 @@ fn two_counts_and_a_look()
     ensures found_by_0 { (tick_rules {N = ℕ}).own 2 (counts 0 None ∷ counts 1 (Some 7) ∷ looks 0 ∷ []) 0 ≡ 2 }
     ensures found_by_1 { (tick_rules {N = ℕ}).own 2 (counts 0 None ∷ counts 1 (Some 7) ∷ looks 0 ∷ []) 1 ≡ 1 }
     ensures steps_of_1 { own_of (λ (s : JournalStep Bool ℕ). s.agent) 1 (counts 0 None ∷ counts 1 (Some 7) ∷ looks 0 ∷ []) ≡ counts 1 (Some 7) ∷ [] }
-    ensures events { (tick_rules {N = ℕ}).project 2 (counts 0 None ∷ counts 1 (Some 7) ∷ looks 0 ∷ []) ≡ record { agent = 0; act = Act.Give; note = None } ∷ record { agent = 1; act = Act.Give; note = Some 7 } ∷ [] }
+    ensures events { (tick_rules {N = ℕ}).project 2 (counts 0 None ∷ counts 1 (Some 7) ∷ looks 0 ∷ []) ≡ record {
+      agent = 0;
+      act = Act.Give;
+      note =
+          None;
+    } ∷ record { agent = 1; act = Act.Give; note = Some 7 } ∷ [] }
 {}
 
 // Prefixes and members of short lists.

@@ -19,7 +19,8 @@ unreachable-requires-in-Moved g c =
     let s = g.L.Links.seat d c.args.p.now in
     let t = g.L.Links.seat d c.look.new.p in
     let e = c.in-Moved.ensures in
-    not_moved (g.L.Links.numbers d) s t (place_in s.slots c.args.place.now) c.args.slot c.requires.stack.0 (g.met.L.Links.allowed d c.look.new.p e.pass) c.requires.stack.1 e.looked
+    not_moved (g.L.Links.numbers d) s t (place_in s.slots c.args.place.now) c.args.slot c.requires.stack.0
+    (g.met.L.Links.allowed d c.look.new.p e.pass) c.requires.stack.1 e.looked
 
 pub returns-clause-found : goal.returns-clause-found
 returns-clause-found g c =
@@ -27,5 +28,6 @@ returns-clause-found g c =
     let s = g.L.Links.seat d c.args.p.now in
     let t = g.L.Links.seat d c.look.new.p in
     let e = c.in-Stable-default-Some.ensures in
-    finds (g.L.Links.numbers d) s t (place_in s.slots c.args.place.now) c.args.slot _ c.in-Stable-default-Some.h (g.met.L.Links.allowed d c.look.new.p e.pass) e.looked.fresh
+    finds (g.L.Links.numbers d) s t (place_in s.slots c.args.place.now) c.args.slot _ c.in-Stable-default-Some.h
+    (g.met.L.Links.allowed d c.look.new.p e.pass) e.looked.fresh
     (Looks-held {place = place_in s.slots c.args.place.now} e.looked c.in-Stable-default-Some.field-1-is)

@@ -97,7 +97,8 @@ release-requires-2-clause-held g c =
     let v2 = stack_stays n s3 s4 [] (g.met.L.Links.allowed d c.value-second.new.p c.value-second.ensures.pass) c.value-second.ensures.nothing refl in
     let v = StackStays-trans n s2 s3 s4 v1 v2 in
     let s5 = g.L.Links.seat d c.release.new.p in
-    let w1 = found_released n link 4 s1 lower s2 free4 f2 s4 s5 (g.met.L.Links.allowed d c.release.new.p c.release.ensures.pass) v (f1.fresh ∙ c.requires.fresh) c.release.ensures.released in
+    let w1 = found_released n link 4 s1 lower s2 free4 f2 s4 s5 (g.met.L.Links.allowed d c.release.new.p c.release.ensures.pass) v
+    (f1.fresh ∙ c.requires.fresh) c.release.ensures.released in
     subst (λ z. Holds z upper) (sym w1.slots) (found_holds n root 3 s0 upper s1 c.requires.slots.0 f1)
 
 pub returns : goal.returns
@@ -120,19 +121,26 @@ returns g c =
     let v2 = stack_stays n s3 s4 [] (g.met.L.Links.allowed d c.value-second.new.p c.value-second.ensures.pass) c.value-second.ensures.nothing refl in
     let v = StackStays-trans n s2 s3 s4 v1 v2 in
     let s5 = g.L.Links.seat d c.release.new.p in
-    let w1 = found_released n link 4 s1 lower s2 free4 f2 s4 s5 (g.met.L.Links.allowed d c.release.new.p c.release.ensures.pass) v (f1.fresh ∙ c.requires.fresh) c.release.ensures.released in
+    let w1 = found_released n link 4 s1 lower s2 free4 f2 s4 s5 (g.met.L.Links.allowed d c.release.new.p c.release.ensures.pass) v
+    (f1.fresh ∙ c.requires.fresh) c.release.ensures.released in
     let s6 = g.L.Links.seat d c.release-2.new.p in
     record {
       pass = c.release-2.ensures.pass;
-      stays = found_released n root 3 s0 upper s1 c.requires.slots.0 f1 s5 s6 (g.met.L.Links.allowed d c.release-2.new.p c.release-2.ensures.pass) w1 c.requires.fresh c.release-2.ensures.released;
+      stays = found_released n root 3 s0 upper s1 c.requires.slots.0 f1 s5 s6 (g.met.L.Links.allowed d c.release-2.new.p c.release-2.ensures.pass) w1
+          c.requires.fresh c.release-2.ensures.released;
       read = λ a b pair.
           let upper_is = found_id n root 3 s0 upper s1 c.requires.slots.0 f1 ∙ f1.is pair.upper_id (c.agent-agent.ensures, pair.top) in
           let at = subst (λ i. HasNode n s1 i a (Some pair.lower_id)) (sym upper_is) (f1.nodes pair.upper_id a (Some pair.lower_id) pair.upper_node) in
           let lower_is = found_id n link 4 s1 lower s2 free4 f2 ∙ f2.is pair.lower_id (a, at) in
           let upper_stays = found_other_id n link 4 s1 lower s2 free4 f2 upper (λ e. omega (arith, e, f1.slot_is)) ∙ upper_is in
-          let first = v1.nodes pair.upper_id a (Some pair.lower_id) (f2.nodes pair.upper_id a (Some pair.lower_id) (f1.nodes pair.upper_id a (Some pair.lower_id) pair.upper_node)) in
+          let first = v1.nodes pair.upper_id a (Some pair.lower_id)
+          (f2.nodes pair.upper_id a (Some pair.lower_id) (f1.nodes pair.upper_id a (Some pair.lower_id) pair.upper_node)) in
           let second = v.nodes pair.lower_id b None (f2.nodes pair.lower_id b None (f1.nodes pair.lower_id b None pair.lower_node)) in
-          let one : c.value-first.result ≡ a = value_read n s3 _ a c.value-first.result (Some pair.lower_id) (subst (λ i. HasNode n s3 i a (Some pair.lower_id)) (sym upper_stays) first) c.value-first.ensures.value in
-          let two : c.value-second.result ≡ b = value_read n s4 _ b c.value-second.result None (subst (λ i. HasNode n s4 i b None) (sym (ap (λ z. id_in z lower) v1.slots ∙ lower_is)) second) c.value-second.ensures.value in
+          let one : c.value-first.result ≡ a =
+          value_read n s3 _ a c.value-first.result (Some pair.lower_id)
+          (subst (λ i. HasNode n s3 i a (Some pair.lower_id)) (sym upper_stays) first) c.value-first.ensures.value in
+          let two : c.value-second.result ≡ b =
+          value_read n s4 _ b c.value-second.result None
+          (subst (λ i. HasNode n s4 i b None) (sym (ap (λ z. id_in z lower) v1.slots ∙ lower_is)) second) c.value-second.ensures.value in
           rw (one, two) refl;
     }

@@ -8,20 +8,30 @@ pub loop-init : goal.loop-init
 loop-init g c = record { usable = c.requires; agent = refl; quiet = Stretch-refl of_queue _ _ _ }
 
 pub returns-in-Ok-Some-clause-took : goal.returns-in-Ok-Some-clause-took
-returns-in-Ok-Some-clause-took g c = dequeue_call (queue_view g.Q.SharedQueue c.args.queue.now) _ _ c.loop.invariant.agent (Some c.in-Ok-Some.got) _ _ _ c.loop.invariant.quiet c.dequeue.ensures.later (rw c.in-Ok-Some.field-0-is at c.in-Ok-Some.ensures.took)
+returns-in-Ok-Some-clause-took g c =
+    dequeue_call (queue_view g.Q.SharedQueue c.args.queue.now) _ _ c.loop.invariant.agent
+    (Some c.in-Ok-Some.got) _ _ _ c.loop.invariant.quiet c.dequeue.ensures.later (rw c.in-Ok-Some.field-0-is at c.in-Ok-Some.ensures.took)
 
 pub returns-in-Ok-None-clause-took : goal.returns-in-Ok-None-clause-took
-returns-in-Ok-None-clause-took g c = dequeue_call (queue_view g.Q.SharedQueue c.args.queue.now) _ _ c.loop.invariant.agent None _ _ _ c.loop.invariant.quiet c.dequeue.ensures.later (rw c.in-Ok-None.field-0-is at c.in-Ok-None.ensures.took)
+returns-in-Ok-None-clause-took g c =
+    dequeue_call (queue_view g.Q.SharedQueue c.args.queue.now) _ _ c.loop.invariant.agent None _ _ _ c.loop.invariant.quiet c.dequeue.ensures.later
+    (rw c.in-Ok-None.field-0-is at c.in-Ok-None.ensures.took)
 
 pub returns-in-Ok-Some-clause-last : goal.returns-in-Ok-Some-clause-last
-returns-in-Ok-Some-clause-last g c = dequeue_last (queue_view g.Q.SharedQueue c.args.queue.now) _ _ c.loop.invariant.agent (Some c.in-Ok-Some.got) _ _ _ c.loop.invariant.quiet (rw c.in-Ok-Some.field-0-is at c.in-Ok-Some.ensures.took)
+returns-in-Ok-Some-clause-last g c =
+    dequeue_last (queue_view g.Q.SharedQueue c.args.queue.now) _ _ c.loop.invariant.agent (Some c.in-Ok-Some.got) _ _ _ c.loop.invariant.quiet
+    (rw c.in-Ok-Some.field-0-is at c.in-Ok-Some.ensures.took)
 
 pub returns-in-Ok-None-clause-last : goal.returns-in-Ok-None-clause-last
-returns-in-Ok-None-clause-last g c = dequeue_last (queue_view g.Q.SharedQueue c.args.queue.now) _ _ c.loop.invariant.agent None _ _ _ c.loop.invariant.quiet (rw c.in-Ok-None.field-0-is at c.in-Ok-None.ensures.took)
+returns-in-Ok-None-clause-last g c =
+    dequeue_last (queue_view g.Q.SharedQueue c.args.queue.now) _ _ c.loop.invariant.agent None _ _ _ c.loop.invariant.quiet
+    (rw c.in-Ok-None.field-0-is at c.in-Ok-None.ensures.took)
 
 pub loop-preserved : goal.loop-preserved
 loop-preserved g c = record {
   usable = c.dequeue.ensures.usable;
   agent = c.dequeue.ensures.agent ∙ c.loop.invariant.agent;
-  quiet = queue_call (queue_view g.Q.SharedQueue c.args.queue.now) _ _ c.loop.invariant.agent (λ a. []) _ _ _ c.loop.invariant.quiet c.dequeue.ensures.later c.in-Err.ensures.none;
+  quiet =
+      queue_call (queue_view g.Q.SharedQueue c.args.queue.now) _ _ c.loop.invariant.agent
+      (λ a. []) _ _ _ c.loop.invariant.quiet c.dequeue.ensures.later c.in-Err.ensures.none;
 }

@@ -19,7 +19,8 @@ returns-in-Err-NoNode-put_job-clause-row g c = record {
   row = _;
   is = inr (c.remove_key-in-Err-NoNode-put_job.result, refl);
   stands = put_refused (queue_view g.Q.SharedQueue c.args.queue.now) (set_view g.S.SharedSet c.args.set.now) _ _ queue_refused.NoNode _ _ _ _ _ _ _ _ _ _ _
-      c.requires.queue_agent c.requires.set_agent (c.insert_key.ensures.agent ∙ c.requires.set_agent) c.in-Err-NoNode-put_job.field-0-is c.in-Ok-true.field-0-test
+      c.requires.queue_agent c.requires.set_agent
+      (c.insert_key.ensures.agent ∙ c.requires.set_agent) c.in-Err-NoNode-put_job.field-0-is c.in-Ok-true.field-0-test
       c.in-Ok-true.ensures.added c.in-Err-NoNode-put_job.ensures.refused c.remove_key-in-Err-NoNode-put_job.ensures.removed;
 }
 
@@ -27,7 +28,9 @@ pub returns-in-Err-Spent-clause-row : goal.returns-in-Err-Spent-clause-row
 returns-in-Err-Spent-clause-row g c = record {
   row = _;
   is = (c.in-Err-Spent.field-0-0, refl);
-  stands = insert_refused (queue_view g.Q.SharedQueue c.args.queue.now) (set_view g.S.SharedSet c.args.set.now) _ (list_refused.Spent c.in-Err-Spent.field-0-0) _ _ _ _ _
+  stands =
+      insert_refused (queue_view g.Q.SharedQueue c.args.queue.now) (set_view g.S.SharedSet c.args.set.now) _
+      (list_refused.Spent c.in-Err-Spent.field-0-0) _ _ _ _ _
       c.requires.set_agent c.in-Err-Spent.field-0-is c.in-Err-Spent.ensures.refused;
 }
 

@@ -8,5 +8,7 @@ abbrev pub invariant-loop : goal.invariant-loop
 invariant-loop g l = record {
   desk : IsDesk g.Q.SharedQueue g.S.SharedSet l.queue l.set (g.Q.SharedQueue.agent_of l.queue l.initial.desk.queue) l.desk;
   spare : length l.replies.items + l.replies.spare ≡ l.initial.replies.spare;
-  taking : Taking (queue_view g.Q.SharedQueue l.queue) (set_view g.S.SharedSet l.set) l.lines l.taker (g.Q.SharedQueue.agent_of l.queue l.initial.desk.queue) l.replies.items (g.Q.SharedQueue.journal l.initial.desk.queue) (g.S.SharedSet.journal l.initial.desk.set) (g.Q.SharedQueue.journal l.desk.queue) (g.S.SharedSet.journal l.desk.set);
+  taking : Taking (queue_view g.Q.SharedQueue l.queue) (set_view g.S.SharedSet l.set) l.lines l.taker
+      (g.Q.SharedQueue.agent_of l.queue l.initial.desk.queue) l.replies.items (g.Q.SharedQueue.journal l.initial.desk.queue)
+      (g.S.SharedSet.journal l.initial.desk.set) (g.Q.SharedQueue.journal l.desk.queue) (g.S.SharedSet.journal l.desk.set);
 }

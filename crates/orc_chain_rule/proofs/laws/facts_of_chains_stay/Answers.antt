@@ -24,4 +24,5 @@ returns-clause-left_out c = λ n seen more roots place from over to key all out.
 
 pub returns-clause-fresh : goal.returns-clause-fresh
 returns-clause-fresh c = λ n seen more agent id node holds later there giver unnamed unlinked.
-    node_later n (ChainHolds n) (ChainMay n) (chain_keeps n) (chain_fits n) (chain_moves_linked n) agent id node seen more holds there giver unnamed unlinked later
+    node_later n (ChainHolds n) (ChainMay n) (chain_keeps n) (chain_fits n)
+    (chain_moves_linked n) agent id node seen more holds there giver unnamed unlinked later

@@ -7,4 +7,5 @@ use Rattle.orc_core.specs.Counts.{links_to}
 use Rattle.orc_core.proofs.counting.mark_roots.Given as goal
 
 abbrev pub invariant-loop-root : goal.invariant-loop-root
-invariant-loop-root l = (r : ℕ) → r < 65535 → slice_index_or l.marked r false ≡ (slice_index_or l.fn.marked r false || some_below l.root (λ i. links_to (word_in l.state (Root i)) r))
+invariant-loop-root l = (r : ℕ) → r < 65535
+    → slice_index_or l.marked r false ≡ (slice_index_or l.fn.marked r false || some_below l.root (λ i. links_to (word_in l.state (Root i)) r))

@@ -7,4 +7,6 @@ use Rattle.orc_core.specs.Counts.{is_out, links_to}
 use Rattle.orc_core.proofs.counting.mark_rows.Given as goal
 
 abbrev pub invariant-loop-row : goal.invariant-loop-row
-invariant-loop-row l = (r : ℕ) → r < 65535 → slice_index_or l.marked r false ≡ (slice_index_or l.fn.marked r false || some_below l.row (λ j. is_out l.state j && links_to (word_in l.state (Next j)) r))
+invariant-loop-row l = (r : ℕ) → r < 65535
+    → slice_index_or l.marked r false ≡
+    (slice_index_or l.fn.marked r false || some_below l.row (λ j. is_out l.state j && links_to (word_in l.state (Next j)) r))

@@ -4,7 +4,8 @@ use Rattle.orc_domain.specs.Passes.{IsPassOf, seat_of}
 use Rattle.orc_domain.proofs.tests.first_gives.Goals as goal
 
 -- one item is set
-at_set : {A : Type 0} (P : ℕ → A → Type 0) (xs : List A) (y d : A) (i : ℕ) → P 0 y → (i < length xs → P i (slice_index_or xs i d)) → i < length (slice_set xs 0 y) → P i (slice_index_or (slice_set xs 0 y) i d)
+at_set : {A : Type 0} (P : ℕ → A → Type 0) (xs : List A) (y d : A) (i : ℕ) → P 0 y → (i < length xs → P i (slice_index_or xs i d))
+    → i < length (slice_set xs 0 y) → P i (slice_index_or (slice_set xs 0 y) i d)
 at_set P [] y d i p h l = h l
 at_set P (x ∷ xs) y d zero p h l = p
 at_set P (x ∷ xs) y d (suc i) p h l = h l
@@ -23,4 +24,5 @@ returns-clause-all c =
     }
 
 pub returns-clause-idle : goal.returns-clause-idle
-returns-clause-idle c i d l = at_set (λ i p. IsIdle (seat_of c.args.domain.now p)) c.args.passes.now c.one_node.new.p d i c.one_node.ensures.idle (λ k. c.requires.idle i d k) l
+returns-clause-idle c i d l = at_set (λ i p. IsIdle (seat_of c.args.domain.now p)) c.args.passes.now c.one_node.new.p d i c.one_node.ensures.idle
+    (λ k. c.requires.idle i d k) l

@@ -11,14 +11,16 @@ use Rattle.orc_jobs.proofs.read.read_jobs.Goals as goal
 
 pub returns-clause-good : goal.returns-clause-good
 returns-clause-good c =
-    IfOk-weaker c.read_records.result (λ lines. IsFileOf lines c.args.bytes.now) AreGood (λ lines h. good_file lines c.args.bytes.now c.requires h) c.read_records.ensures.ok
+    IfOk-weaker c.read_records.result (λ lines. IsFileOf lines c.args.bytes.now) AreGood
+    (λ lines h. good_file lines c.args.bytes.now c.requires h) c.read_records.ensures.ok
 
 pub returns-clause-only : goal.returns-clause-only
 returns-clause-only c file is =
     let found : List Line → Type 0 = λ lines. lines ≡ file in
     let failed : JobsFault → Type 0 = λ e. e ≡ NoMemory in
     MatchResult-from_both c.read_records.result found failed
-    (IfOk-weaker c.read_records.result (λ lines. IsFileOf lines c.args.bytes.now) found (λ lines h. file-read c.args.bytes.now lines file h is) c.read_records.ensures.ok)
+    (IfOk-weaker c.read_records.result (λ lines. IsFileOf lines c.args.bytes.now) found
+    (λ lines h. file-read c.args.bytes.now lines file h is) c.read_records.ensures.ok)
     (IfErr-weaker c.read_records.result (Refuses c.args.bytes.now) failed (λ e h. file-refused c.args.bytes.now file e is h) c.read_records.ensures.err)
 
 pub returns-clause-bad : goal.returns-clause-bad
@@ -26,7 +28,8 @@ returns-clause-bad c at why is =
     let found : List Line → Type 0 = λ lines. ⊥ in
     let failed : JobsFault → Type 0 = λ e. (e ≡ Malformed at why) ⊎ (e ≡ NoMemory) in
     MatchResult-from_both c.read_records.result found failed
-    (IfOk-weaker c.read_records.result (λ lines. IsFileOf lines c.args.bytes.now) found (λ lines h. not-read c.args.bytes.now lines at why is h) c.read_records.ensures.ok)
+    (IfOk-weaker c.read_records.result (λ lines. IsFileOf lines c.args.bytes.now) found
+    (λ lines h. not-read c.args.bytes.now lines at why is h) c.read_records.ensures.ok)
     (IfErr-weaker c.read_records.result (Refuses c.args.bytes.now) failed (λ e h. refused-bad c.args.bytes.now at why e is h) c.read_records.ensures.err)
 
 pub returns-clause-many : goal.returns-clause-many
@@ -34,5 +37,6 @@ returns-clause-many c is =
     let found : List Line → Type 0 = λ lines. ⊥ in
     let failed : JobsFault → Type 0 = λ e. (e ≡ TooMany) ⊎ (e ≡ NoMemory) in
     MatchResult-from_both c.read_records.result found failed
-    (IfOk-weaker c.read_records.result (λ lines. IsFileOf lines c.args.bytes.now) found (λ lines h. not-few c.args.bytes.now lines is h) c.read_records.ensures.ok)
+    (IfOk-weaker c.read_records.result (λ lines. IsFileOf lines c.args.bytes.now) found
+    (λ lines h. not-few c.args.bytes.now lines is h) c.read_records.ensures.ok)
     (IfErr-weaker c.read_records.result (Refuses c.args.bytes.now) failed (λ e h. refused-many c.args.bytes.now e is h) c.read_records.ensures.err)

@@ -40,18 +40,23 @@ pub returns-in_err-take_record-clause-err : goal.returns-in_err-take_record-clau
 returns-in_err-take_record-clause-err c =
     let inv = c.loop-row.invariant in
     let s = rw (c.in-Some.is, c.in-Ok.is) at ((c.next.ensures.steps inv.2 inv.0).0 inv.1) in
-    let m = line-and-more (λ (s : Bor (List ℕ)). Some s.now) c.loop-row.row-iterator.rdr c.next.new.self.rdr (fields_of c.in-Ok.row) c.args.bytes.now c.loop-row.lines inv.4 inv.3 inv.5 inv.6 s.0 in
+    let m = line-and-more (λ (s : Bor (List ℕ)). Some s.now) c.loop-row.row-iterator.rdr c.next.new.self.rdr
+    (fields_of c.in-Ok.row) c.args.bytes.now c.loop-row.lines inv.4 inv.3 inv.5 inv.6 s.0 in
     let p = err_from_is_err_and c.from_residual.result c.from_residual.ensures.1 in
-    rw (p.1, p.2) (refused-here c.args.bytes.now c.loop-row.lines (fields_of c.in-Ok.row) m.0 c.in_err-take_record.field-0.0 (record { records = m.1; each = inv.7 }) c.in_err-take_record.ensures.err)
+    rw (p.1, p.2)
+    (refused-here c.args.bytes.now c.loop-row.lines (fields_of c.in-Ok.row) m.0 c.in_err-take_record.field-0.0
+    (record { records = m.1; each = inv.7 }) c.in_err-take_record.ensures.err)
 
 pub loop-row-preserved : goal.loop-row-preserved
 loop-row-preserved c =
     let inv = c.loop-row.invariant in
     let s = rw (c.in-Some.is, c.in-Ok.is) at ((c.next.ensures.steps inv.2 inv.0).0 inv.1) in
-    let m = rows-more (λ (s : Bor (List ℕ)). Some s.now) c.loop-row.row-iterator.rdr c.next.new.self.rdr (fields_of c.in-Ok.row) default_config st.StartRecord (strip_bom c.args.bytes.now) inv.4 (map record_of c.loop-row.lines) inv.3 inv.5 inv.6 s.0 in
+    let m = rows-more (λ (s : Bor (List ℕ)). Some s.now) c.loop-row.row-iterator.rdr c.next.new.self.rdr
+    (fields_of c.in-Ok.row) default_config st.StartRecord (strip_bom c.args.bytes.now) inv.4 (map record_of c.loop-row.lines) inv.3 inv.5 inv.6 s.0 in
     let took = c.in_ok-take_record.ensures.ok in
     let room = took.room in
-    let rows : map record_of c.take_record.new.lines ≡ map record_of c.loop-row.lines ++ (fields_of c.in-Ok.row ∷ []) = rw (took.joined, map-append record_of c.loop-row.lines (took.line ∷ []), took.spelled) refl in (
+    let rows : map record_of c.take_record.new.lines ≡ map record_of c.loop-row.lines ++ (fields_of c.in-Ok.row ∷ []) =
+    rw (took.joined, map-append record_of c.loop-row.lines (took.line ∷ []), took.spelled) refl in (
       s.0.3 ∙ inv.0,
       inl s.1,
       s.2,
@@ -69,7 +74,8 @@ returns-clause-ok c =
     let inv = c.loop-row.invariant in
     let s = rw c.in-None.is at ((c.next.ensures.steps inv.2 inv.0).0 inv.1) in
     record {
-      records = lines-end (λ (s : Bor (List ℕ)). Some s.now) c.loop-row.row-iterator.rdr c.next.new.self.rdr [] c.args.bytes.now c.loop-row.lines inv.4 inv.3 inv.5 inv.6 s;
+      records = lines-end (λ (s : Bor (List ℕ)). Some s.now) c.loop-row.row-iterator.rdr c.next.new.self.rdr [] c.args.bytes.now c.loop-row.lines
+          inv.4 inv.3 inv.5 inv.6 s;
       each = inv.7;
       few = inv.8;
     }

@@ -24,7 +24,11 @@ put-text =
 
 put-no_verb : Applies cause.Verb put
 unfolding put
-put-no_verb = (λ e. let second : 117 ≡ 111 = ap (λ t. get_or t 1 0) e in omega (arith, second), λ e. let first : 112 ≡ 100 = ap (λ t. get_or t 0 0) e in omega (arith, first))
+put-no_verb = (
+  λ e. let second : 117 ≡ 111 = ap (λ t. get_or t 1 0) e in omega (arith, second),
+  λ e. let first : 112 ≡ 100 = ap (λ t. get_or t 0 0) e in
+      omega (arith, first),
+)
 
 put-before : (earlier : Cause) → rank_of earlier < 2 → ¬ Applies earlier put
 unfolding put

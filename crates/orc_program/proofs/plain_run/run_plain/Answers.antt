@@ -6,8 +6,8 @@ use Rattle.orc_program.specs.PlainRun.{run_queue, run_set}
 use Rattle.orc_program.proofs.PlainEnd.{run_end, own_records-few}
 use Rattle.orc_program.proofs.plain_run.run_plain.Goals as goal
 
-pub run_poster-requires-clause-room : goal.run_poster-requires-clause-room
-run_poster-requires-clause-room g c = omega (arith, own_records-few (length c.args.lines.now), c.in_ok-posts.ensures.1, good_few c.requires)
+pub post_records-requires-clause-room : goal.post_records-requires-clause-room
+post_records-requires-clause-room g c = omega (arith, own_records-few (length c.args.lines.now), c.in_ok-posts.ensures.1, good_few c.requires)
 
 pub returns : goal.returns
 returns g c =
@@ -19,8 +19,8 @@ returns g c =
     (ap (λ (p : QueuePassView). p.history) c.act_as-3.ensures)
     (ap (λ (p : SetPassView). p.history) c.act_as-4.ensures)
     (ap (λ (p : QueuePassView). p.agent) c.act_as-3.ensures)
-    (rw (queue, set) at c.run_poster.ensures.posting)
-    c.run_poster.ensures.in_file_order
+    (rw (queue, set) at c.post_records.ensures.posting)
+    c.post_records.ensures.in_file_order
     (rw (queue, set) at c.take_rest.ensures.taking)
     (rw queue at c.take_rest.ensures.empty) c.take_rest.ensures.full c.take_rest.ensures.spare (omega (arith, c.in_ok-takes.ensures.1)) (good_few c.requires)
     (rw queue at c.take_rest.ensures.desk.queue_pass) (rw set at c.take_rest.ensures.desk.set_pass)

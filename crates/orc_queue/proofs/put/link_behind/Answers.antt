@@ -17,7 +17,10 @@ help_tail-requires g c =
     record {
       pass = search rules;
       made = c.requires.made;
-      held = (subst (λ (z : Slots). Holds z c.args.tail.now) (sym slots) c.requires.tail, subst (λ (z : Slots). Holds z c.args.node.now) (sym slots) c.requires.node.held);
+      held = (
+        subst (λ (z : Slots). Holds z c.args.tail.now) (sym slots) c.requires.tail,
+        subst (λ (z : Slots). Holds z c.args.node.now) (sym slots) c.requires.node.held,
+      );
       successor = subst (λ (z : Slots). HasLink (heap_of n u) (id_in z c.args.tail.now) (link_to (id_in z c.args.node.now))) (sym l.puts.piece.slots) l.link;
     }
 
@@ -31,4 +34,5 @@ returns-in-Put-clause-linked g c =
     let l = c.in-Put.ensures.linked in
     let e = c.help_tail.ensures in
     let helped = subst (λ (z : Slots). Helps (id_in z c.args.tail.now) (id_in u.slots c.args.node.now) u t) l.puts.piece.slots e.helped in
-    link_helped n c.args.job (id_in s.slots c.args.tail.now) (id_in u.slots c.args.node.now) c.in-Put.at c.args.node.now s u t (g.met.L.Links.allowed d c.help_tail.new.p e.pass) l helped
+    link_helped n c.args.job (id_in s.slots c.args.tail.now) (id_in u.slots c.args.node.now) c.in-Put.at c.args.node.now s u t
+    (g.met.L.Links.allowed d c.help_tail.new.p e.pass) l helped

@@ -26,7 +26,8 @@ link_behind-requires g c =
     let node = c.args.node.now in
     let job = c.args.job in
     let kp = c.requires.pass in
-    let ks = known n (g.L.Links.opening d) s.seen c.requires.made (g.met.L.Links.opens d c.args.p.now kp) (g.met.L.Links.allowed d c.args.p.now kp) (g.met.L.Links.obeys d c.args.p.now kp) in
+    let ks = known n (g.L.Links.opening d) s.seen c.requires.made (g.met.L.Links.opens d c.args.p.now kp) (g.met.L.Links.allowed d c.args.p.now kp)
+    (g.met.L.Links.obeys d c.args.p.now kp) in
     let a = g.L.Links.seat d c.look.new.p in
     let e = c.in-Stable-default-None.ensures in
     let all = g.met.L.Links.allowed d c.look.new.p e.pass in
@@ -50,7 +51,8 @@ returns-in-Stable-default-None-clause-put g c =
     let node = c.args.node.now in
     let job = c.args.job in
     let kp = c.requires.pass in
-    let ks = known n (g.L.Links.opening d) s.seen c.requires.made (g.met.L.Links.opens d c.args.p.now kp) (g.met.L.Links.allowed d c.args.p.now kp) (g.met.L.Links.obeys d c.args.p.now kp) in
+    let ks = known n (g.L.Links.opening d) s.seen c.requires.made (g.met.L.Links.opens d c.args.p.now kp) (g.met.L.Links.allowed d c.args.p.now kp)
+    (g.met.L.Links.obeys d c.args.p.now kp) in
     let a = g.L.Links.seat d c.look.new.p in
     let e = c.in-Stable-default-None.ensures in
     let all = g.met.L.Links.allowed d c.look.new.p e.pass in
@@ -58,7 +60,9 @@ returns-in-Stable-default-None-clause-put g c =
     let p = next_null n s a id _ ks c.requires.named.linked all l in
     let t = g.L.Links.seat d c.link_behind.new.p in
     let all_t = g.met.L.Links.allowed d c.link_behind.new.p c.link_behind.ensures.pass in
-    let linked = subst (λ (z : Slots). LinksBehind n 3 (SwingsLast (id_in z tail)) job (id_in z tail) node a c.link_behind.result t) l.slots c.link_behind.ensures.linked in
+    let linked =
+    subst (λ (z : Slots). LinksBehind n 3 (SwingsLast (id_in z tail)) job (id_in z tail) node a c.link_behind.result t) l.slots
+    c.link_behind.ensures.linked in
     behind_null n job id node s a t ks c.requires.named l.slots e.looked.fresh p all all_t c.link_behind.result linked
 
 pub help_tail-requires : goal.help_tail-requires
@@ -69,7 +73,8 @@ help_tail-requires g c =
     let tail = c.args.tail.now in
     let id = id_in s.slots tail in
     let kp = c.requires.pass in
-    let ks = known n (g.L.Links.opening d) s.seen c.requires.made (g.met.L.Links.opens d c.args.p.now kp) (g.met.L.Links.allowed d c.args.p.now kp) (g.met.L.Links.obeys d c.args.p.now kp) in
+    let ks = known n (g.L.Links.opening d) s.seen c.requires.made (g.met.L.Links.opens d c.args.p.now kp) (g.met.L.Links.allowed d c.args.p.now kp)
+    (g.met.L.Links.obeys d c.args.p.now kp) in
     let a = g.L.Links.seat d c.look.new.p in
     let e = c.in-Stable-default-Some.ensures in
     let all = g.met.L.Links.allowed d c.look.new.p e.pass in
@@ -81,7 +86,8 @@ help_tail-requires g c =
       pass = e.pass;
       made = c.requires.made;
       held = (slot_other s a 3 x.next next c.requires.slot x.in_slot tail c.requires.tail, slot_holds s a 3 x.next next c.requires.slot x.in_slot);
-      successor = subst (λ (i : ℕ). HasLink (heap_of n a) i (link_to (id_in a.slots next))) (sym tail_id) (subst (λ (i : ℕ). HasLink (heap_of n a) id (link_to i)) (sym next_id) x.link);
+      successor = subst (λ (i : ℕ). HasLink (heap_of n a) i (link_to (id_in a.slots next))) (sym tail_id)
+          (subst (λ (i : ℕ). HasLink (heap_of n a) id (link_to i)) (sym next_id) x.link);
     }
 
 pub release-requires-clause-held : goal.release-requires-clause-held
@@ -92,7 +98,8 @@ release-requires-clause-held g c =
     let tail = c.args.tail.now in
     let id = id_in s.slots tail in
     let kp = c.requires.pass in
-    let ks = known n (g.L.Links.opening d) s.seen c.requires.made (g.met.L.Links.opens d c.args.p.now kp) (g.met.L.Links.allowed d c.args.p.now kp) (g.met.L.Links.obeys d c.args.p.now kp) in
+    let ks = known n (g.L.Links.opening d) s.seen c.requires.made (g.met.L.Links.opens d c.args.p.now kp) (g.met.L.Links.allowed d c.args.p.now kp)
+    (g.met.L.Links.obeys d c.args.p.now kp) in
     let a = g.L.Links.seat d c.look.new.p in
     let e = c.in-Stable-default-Some.ensures in
     let all = g.met.L.Links.allowed d c.look.new.p e.pass in
@@ -110,7 +117,8 @@ returns-in-Stable-default-Some-clause-put g c =
     let node = c.args.node.now in
     let job = c.args.job in
     let kp = c.requires.pass in
-    let ks = known n (g.L.Links.opening d) s.seen c.requires.made (g.met.L.Links.opens d c.args.p.now kp) (g.met.L.Links.allowed d c.args.p.now kp) (g.met.L.Links.obeys d c.args.p.now kp) in
+    let ks = known n (g.L.Links.opening d) s.seen c.requires.made (g.met.L.Links.opens d c.args.p.now kp) (g.met.L.Links.allowed d c.args.p.now kp)
+    (g.met.L.Links.obeys d c.args.p.now kp) in
     let a = g.L.Links.seat d c.look.new.p in
     let e = c.in-Stable-default-Some.ensures in
     let all = g.met.L.Links.allowed d c.look.new.p e.pass in
@@ -127,10 +135,12 @@ returns-in-Stable-default-Some-clause-put g c =
     let linked = successor_linked n a.seen id x.next ka.holds x.link in
     let same = ap (λ (z : Slots). id_in z next) c.help_tail.ensures.helped.slots ∙ next_id in
     let linked_b = linked_helped n a b id x.next helped (g.met.L.Links.allowed d c.help_tail.new.p c.help_tail.ensures.pass) x.next linked in
-    let fresh = release_fresh n b t next (λ i is. g.met.L.Links.fresh_is d c.help_tail.new.p i c.help_tail.ensures.pass is) (subst (λ (i : ℕ). IsLinkedNode (heap_of n b) i) (sym same) linked_b) released in
+    let fresh = release_fresh n b t next (λ i is. g.met.L.Links.fresh_is d c.help_tail.new.p i c.help_tail.ensures.pass is)
+    (subst (λ (i : ℕ). IsLinkedNode (heap_of n b) i) (sym same) linked_b) released in
     let slots = slot_released s a 3 x.next next c.requires.slot x.in_slot b t c.help_tail.ensures.helped.slots released in
     let apart = fresh_apart n job x.next node s a c.requires.node e.looked.fresh (λ i is. g.met.L.Links.fresh_is d c.look.new.p i e.pass is) linked in
-    behind_held n job id x.next node s a b t ks ka c.requires.named c.requires.node x.puts x.link helped released.puts slots (fresh ∙ (c.help_tail.ensures.helped.fresh ∙ e.looked.fresh)) all_t apart
+    behind_held n job id x.next node s a b t ks ka c.requires.named c.requires.node x.puts x.link helped released.puts slots
+    (fresh ∙ (c.help_tail.ensures.helped.fresh ∙ e.looked.fresh)) all_t apart
 
 pub returns-in-Moved-clause-put : goal.returns-in-Moved-clause-put
 returns-in-Moved-clause-put g c =
@@ -142,9 +152,11 @@ returns-in-Moved-clause-put g c =
     let node = c.args.node.now in
     let job = c.args.job in
     let kp = c.requires.pass in
-    let ks = known n (g.L.Links.opening d) s.seen c.requires.made (g.met.L.Links.opens d c.args.p.now kp) (g.met.L.Links.allowed d c.args.p.now kp) (g.met.L.Links.obeys d c.args.p.now kp) in
+    let ks = known n (g.L.Links.opening d) s.seen c.requires.made (g.met.L.Links.opens d c.args.p.now kp) (g.met.L.Links.allowed d c.args.p.now kp)
+    (g.met.L.Links.obeys d c.args.p.now kp) in
     let a = g.L.Links.seat d c.look.new.p in
     let e = c.in-Moved.ensures in
-    let ka = known n (g.L.Links.opening d) a.seen c.requires.made (g.met.L.Links.opens d c.look.new.p e.pass) (g.met.L.Links.allowed d c.look.new.p e.pass) (g.met.L.Links.obeys d c.look.new.p e.pass) in
+    let ka = known n (g.L.Links.opening d) a.seen c.requires.made (g.met.L.Links.opens d c.look.new.p e.pass)
+    (g.met.L.Links.allowed d c.look.new.p e.pass) (g.met.L.Links.obeys d c.look.new.p e.pass) in
     let r = e.looked.tells in
     behind_moved n job id node s a r.0 r.1 ks ka c.requires.named c.requires.node r.2 r.3 e.looked.fresh r.4

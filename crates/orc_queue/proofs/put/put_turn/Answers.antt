@@ -21,7 +21,8 @@ look-requires-clause-place g c =
     let n = g.L.Links.numbers d in
     let s = g.L.Links.seat d c.args.p.now in
     let kp = c.requires.pass in
-    let ks = known n (g.L.Links.opening d) s.seen c.requires.made (g.met.L.Links.opens d c.args.p.now kp) (g.met.L.Links.allowed d c.args.p.now kp) (g.met.L.Links.obeys d c.args.p.now kp) in
+    let ks = known n (g.L.Links.opening d) s.seen c.requires.made (g.met.L.Links.opens d c.args.p.now kp) (g.met.L.Links.allowed d c.args.p.now kp)
+    (g.met.L.Links.obeys d c.args.p.now kp) in
     roots_there n s.seen 1 ks (omega arith)
 
 pub unreachable-requires : goal.unreachable-requires
@@ -30,10 +31,12 @@ unreachable-requires g c =
     let n = g.L.Links.numbers d in
     let s = g.L.Links.seat d c.args.p.now in
     let kp = c.requires.pass in
-    let ks = known n (g.L.Links.opening d) s.seen c.requires.made (g.met.L.Links.opens d c.args.p.now kp) (g.met.L.Links.allowed d c.args.p.now kp) (g.met.L.Links.obeys d c.args.p.now kp) in
+    let ks = known n (g.L.Links.opening d) s.seen c.requires.made (g.met.L.Links.opens d c.args.p.now kp) (g.met.L.Links.allowed d c.args.p.now kp)
+    (g.met.L.Links.obeys d c.args.p.now kp) in
     let a = g.L.Links.seat d c.look.new.p in
     let e = c.in-Stable-default-None.ensures in
-    root_not_null n s a 1 _ (omega arith) ks (g.met.L.Links.allowed d c.look.new.p e.pass) (Looks-null {place = Root 1} e.looked c.in-Stable-default-None.field-1-is)
+    root_not_null n s a 1 _ (omega arith) ks (g.met.L.Links.allowed d c.look.new.p e.pass)
+    (Looks-null {place = Root 1} e.looked c.in-Stable-default-None.field-1-is)
 
 pub put_behind-turn-requires : goal.put_behind-turn-requires
 put_behind-turn-requires g c =
@@ -43,7 +46,8 @@ put_behind-turn-requires g c =
     let node = c.args.node.now in
     let job = c.args.job in
     let kp = c.requires.pass in
-    let ks = known n (g.L.Links.opening d) s.seen c.requires.made (g.met.L.Links.opens d c.args.p.now kp) (g.met.L.Links.allowed d c.args.p.now kp) (g.met.L.Links.obeys d c.args.p.now kp) in
+    let ks = known n (g.L.Links.opening d) s.seen c.requires.made (g.met.L.Links.opens d c.args.p.now kp) (g.met.L.Links.allowed d c.args.p.now kp)
+    (g.met.L.Links.obeys d c.args.p.now kp) in
     let a = g.L.Links.seat d c.look.new.p in
     let e = c.in-Stable-default-Some.ensures in
     let all = g.met.L.Links.allowed d c.look.new.p e.pass in
@@ -53,7 +57,8 @@ put_behind-turn-requires g c =
     record {
       pass = e.pass;
       made = c.requires.made;
-      node = node_held n s a _ x.puts all job node c.requires.node.second ks c.requires.node (slot_other s a 2 x.id tail c.requires.slots.0 x.in_slot node c.requires.node.held)
+      node = node_held n s a _ x.puts all job node c.requires.node.second ks c.requires.node
+          (slot_other s a 2 x.id tail c.requires.slots.0 x.in_slot node c.requires.node.held)
           (slot_other_id s a 2 x.id tail c.requires.slots.0 x.in_slot node c.requires.node.held) e.looked.fresh refl refl;
       tail = slot_holds s a 2 x.id tail c.requires.slots.0 x.in_slot;
       slot = slot_free s a 2 x.id tail c.requires.slots.0 x.in_slot 3 (λ k. omega (arith, k)) c.requires.slots.1;
@@ -68,7 +73,8 @@ release-requires-clause-held g c =
     let node = c.args.node.now in
     let job = c.args.job in
     let kp = c.requires.pass in
-    let ks = known n (g.L.Links.opening d) s.seen c.requires.made (g.met.L.Links.opens d c.args.p.now kp) (g.met.L.Links.allowed d c.args.p.now kp) (g.met.L.Links.obeys d c.args.p.now kp) in
+    let ks = known n (g.L.Links.opening d) s.seen c.requires.made (g.met.L.Links.opens d c.args.p.now kp) (g.met.L.Links.allowed d c.args.p.now kp)
+    (g.met.L.Links.obeys d c.args.p.now kp) in
     let a = g.L.Links.seat d c.look.new.p in
     let e = c.in-Stable-default-Some.ensures in
     let all = g.met.L.Links.allowed d c.look.new.p e.pass in
@@ -86,7 +92,8 @@ returns-in-Stable-default-Some-clause-put g c =
     let node = c.args.node.now in
     let job = c.args.job in
     let kp = c.requires.pass in
-    let ks = known n (g.L.Links.opening d) s.seen c.requires.made (g.met.L.Links.opens d c.args.p.now kp) (g.met.L.Links.allowed d c.args.p.now kp) (g.met.L.Links.obeys d c.args.p.now kp) in
+    let ks = known n (g.L.Links.opening d) s.seen c.requires.made (g.met.L.Links.opens d c.args.p.now kp) (g.met.L.Links.allowed d c.args.p.now kp)
+    (g.met.L.Links.obeys d c.args.p.now kp) in
     let a = g.L.Links.seat d c.look.new.p in
     let e = c.in-Stable-default-Some.ensures in
     let all = g.met.L.Links.allowed d c.look.new.p e.pass in
@@ -99,15 +106,19 @@ returns-in-Stable-default-Some-clause-put g c =
     let turn = c.put_behind-turn.result in
     let pass_b = c.put_behind-turn.ensures.pass in
     let piece = behind_piece n job (id_in a.slots tail) node a b turn put in
-    let kb = known n (g.L.Links.opening d) b.seen c.requires.made (g.met.L.Links.opens d c.put_behind-turn.new.p pass_b) (g.met.L.Links.allowed d c.put_behind-turn.new.p pass_b) (g.met.L.Links.obeys d c.put_behind-turn.new.p pass_b) in
+    let kb = known n (g.L.Links.opening d) b.seen c.requires.made (g.met.L.Links.opens d c.put_behind-turn.new.p pass_b)
+    (g.met.L.Links.allowed d c.put_behind-turn.new.p pass_b) (g.met.L.Links.obeys d c.put_behind-turn.new.p pass_b) in
     let released = c.release.ensures.released in
     let same = ap (λ (z : Slots). id_in z tail) piece.slots ∙ tail_id in
     let linked = linked_puts n a b piece.own piece.puts kb.all x.id x.named.linked in
-    let fresh = release_fresh n b t tail (λ i is. g.met.L.Links.fresh_is d c.put_behind-turn.new.p i pass_b is) (subst (λ (i : ℕ). IsLinkedNode (heap_of n b) i) (sym same) linked) released in
+    let fresh = release_fresh n b t tail (λ i is. g.met.L.Links.fresh_is d c.put_behind-turn.new.p i pass_b is)
+    (subst (λ (i : ℕ). IsLinkedNode (heap_of n b) i) (sym same) linked) released in
     let slots = slot_released s a 2 x.id tail c.requires.slots.0 x.in_slot b t piece.slots released in
     let node_b = ap (λ (z : Slots). id_in z node) piece.slots ∙ slot_other_id s a 2 x.id tail c.requires.slots.0 x.in_slot node c.requires.node.held in
-    turn_done n x.one job x.id node s a b t ks kb all (g.met.L.Links.allowed d c.release.new.p c.release.ensures.pass) x.puts released.puts slots e.looked.fresh fresh
-    (subst (λ (z : Slots). Holds z node) (sym slots) c.requires.node.held) (ap (λ (z : Slots). id_in z node) slots ∙ sym node_b) turn (subst (λ (i : ℕ). PutsBehind n job i node a turn b) tail_id put)
+    turn_done n x.one job x.id node s a b t ks kb all (g.met.L.Links.allowed d c.release.new.p c.release.ensures.pass) x.puts released.puts slots
+    e.looked.fresh fresh
+    (subst (λ (z : Slots). Holds z node) (sym slots) c.requires.node.held) (ap (λ (z : Slots). id_in z node) slots ∙ sym node_b) turn
+    (subst (λ (i : ℕ). PutsBehind n job i node a turn b) tail_id put)
 
 pub returns-in-Moved-clause-put : goal.returns-in-Moved-clause-put
 returns-in-Moved-clause-put g c =
@@ -117,7 +128,8 @@ returns-in-Moved-clause-put g c =
     let node = c.args.node.now in
     let job = c.args.job in
     let kp = c.requires.pass in
-    let ks = known n (g.L.Links.opening d) s.seen c.requires.made (g.met.L.Links.opens d c.args.p.now kp) (g.met.L.Links.allowed d c.args.p.now kp) (g.met.L.Links.obeys d c.args.p.now kp) in
+    let ks = known n (g.L.Links.opening d) s.seen c.requires.made (g.met.L.Links.opens d c.args.p.now kp) (g.met.L.Links.allowed d c.args.p.now kp)
+    (g.met.L.Links.obeys d c.args.p.now kp) in
     let a = g.L.Links.seat d c.look.new.p in
     let e = c.in-Moved.ensures in
     let r = e.looked.tells in

@@ -8,7 +8,12 @@ use Rattle.orc_heap.proofs.Pieces.{goes_on}
 pub loop-init : goal.loop-init
 loop-init g c =
     let d = c.args.links.now in
-    record { pass = c.requires.pass; later = ([], append-nil _); tires = tires_none (g.L.Links.numbers d) c.args.job c.args.node.now (g.L.Links.seat d c.args.p.now) c.requires.node }
+    record {
+      pass = c.requires.pass;
+      later = ([], append-nil _);
+      tires =
+          tires_none (g.L.Links.numbers d) c.args.job c.args.node.now (g.L.Links.seat d c.args.p.now) c.requires.node;
+    }
 
 pub loop-preserved : goal.loop-preserved
 loop-preserved g c =
@@ -18,7 +23,8 @@ loop-preserved g c =
     record {
       pass = e.pass;
       later = goes_on _ _ _ i.later e.later;
-      tires = tires_next (g.L.Links.numbers d) c.args.job c.loop.counter c.args.node.now (g.L.Links.seat d c.args.p.now) (g.L.Links.seat d c.loop.p) (g.L.Links.seat d c.put_turn.new.p) i.tires e.put;
+      tires = tires_next (g.L.Links.numbers d) c.args.job c.loop.counter c.args.node.now (g.L.Links.seat d c.args.p.now) (g.L.Links.seat d c.loop.p)
+          (g.L.Links.seat d c.put_turn.new.p) i.tires e.put;
     }
 
 pub returns-in_default : goal.returns-in_default
@@ -31,7 +37,8 @@ returns-in_default g c =
     record {
       pass = e.pass;
       later = goes_on _ _ _ i.later e.later;
-      put = turns_done (g.L.Links.numbers d) c.args.job c.loop.counter c.args.turns c.args.node.now (g.L.Links.seat d c.args.p.now) (g.L.Links.seat d c.loop.p) (g.L.Links.seat d c.put_turn.new.p) c.put_turn.result
+      put = turns_done (g.L.Links.numbers d) c.args.job c.loop.counter c.args.turns c.args.node.now (g.L.Links.seat d c.args.p.now)
+          (g.L.Links.seat d c.loop.p) (g.L.Links.seat d c.put_turn.new.p) c.put_turn.result
           not_over (omega (arith, c.loop-test.true)) i.tires e.put;
     }
 
@@ -39,4 +46,5 @@ pub returns-clause-put : goal.returns-clause-put
 returns-clause-put g c =
     let d = c.args.links.now in
     let all : c.loop.counter ≡ c.args.turns = omega (arith, c.loop-test.false, c.loop.auto.counter-end) in
-    subst (λ (k : ℕ). PutTires (g.L.Links.numbers d) c.args.job k c.args.node.now (g.L.Links.seat d c.args.p.now) (g.L.Links.seat d c.loop.p)) all c.loop.invariant.tires
+    subst (λ (k : ℕ). PutTires (g.L.Links.numbers d) c.args.job k c.args.node.now (g.L.Links.seat d c.args.p.now) (g.L.Links.seat d c.loop.p)) all
+    c.loop.invariant.tires

@@ -7,4 +7,5 @@ unreachable-requires g c =
     let d = c.args.links.now in
     let s = g.L.Links.seat d c.args.p.now in
     let e = c.in-Err.ensures in
-    never_spent (g.L.Links.numbers d) s.slots c.args.from.now c.args.to.now _ (g.L.Links.seat d c.swing.new.p).seen (g.met.L.Links.allowed d c.swing.new.p e.pass) e.spent
+    never_spent (g.L.Links.numbers d) s.slots c.args.from.now c.args.to.now _ (g.L.Links.seat d c.swing.new.p).seen
+    (g.met.L.Links.allowed d c.swing.new.p e.pass) e.spent

@@ -15,7 +15,8 @@ change-done-requires g c =
     let n = g.L.Links.numbers d in
     let s = g.L.Links.seat d c.args.p.now in
     let pass = c.requires.pass in
-    let k = known n (g.L.Links.opening d) s.seen c.requires.made (g.met.L.Links.opens d c.args.p.now pass) (g.met.L.Links.allowed d c.args.p.now pass) (g.met.L.Links.obeys d c.args.p.now pass) in
+    let k = known n (g.L.Links.opening d) s.seen c.requires.made (g.met.L.Links.opens d c.args.p.now pass) (g.met.L.Links.allowed d c.args.p.now pass)
+    (g.met.L.Links.obeys d c.args.p.now pass) in
     record {
       pass = search rules;
       linked = search rules;
@@ -31,5 +32,8 @@ returns-clause-helped g c =
     let s = g.L.Links.seat d c.args.p.now in
     let t = g.L.Links.seat d c.change-done.new.p in
     let pass = c.requires.pass in
-    let linked = successor_linked n s.seen (id_in s.slots c.args.tail.now) (id_in s.slots c.args.next.now) (g.met.L.Links.obeys d c.args.p.now pass) c.requires.successor in
-    helps n s t c.args.tail c.args.next c.change-done.result (linked_not_fresh n s (id_in s.slots c.args.next.now) (λ i e. g.met.L.Links.fresh_is d c.args.p.now i pass e) linked) c.change-done.ensures.swung
+    let linked =
+    successor_linked n s.seen (id_in s.slots c.args.tail.now) (id_in s.slots c.args.next.now)
+    (g.met.L.Links.obeys d c.args.p.now pass) c.requires.successor in
+    helps n s t c.args.tail c.args.next c.change-done.result
+    (linked_not_fresh n s (id_in s.slots c.args.next.now) (λ i e. g.met.L.Links.fresh_is d c.args.p.now i pass e) linked) c.change-done.ensures.swung

@@ -22,8 +22,10 @@ same-requires-clause-allowed g c =
     let head = c.args.head in
     let id = id_in s.slots head.now in
     let kp = c.requires.pass in
-    let ks = known n (g.L.Links.opening d) s.seen c.requires.made (g.met.L.Links.opens d c.args.p.now kp) (g.met.L.Links.allowed d c.args.p.now kp) (g.met.L.Links.obeys d c.args.p.now kp) in
-    subst (λ (x : ℕ). AllowedLater (FifoMay n) n s.agent s.seen (Next id) null (event_of s (Look (Next id) null) (Some (Entry (Empty x))))) (sym c.agent-agent.ensures)
+    let ks = known n (g.L.Links.opening d) s.seen c.requires.made (g.met.L.Links.opens d c.args.p.now kp) (g.met.L.Links.allowed d c.args.p.now kp)
+    (g.met.L.Links.obeys d c.args.p.now kp) in
+    subst (λ (x : ℕ). AllowedLater (FifoMay n) n s.agent s.seen (Next id) null (event_of s (Look (Next id) null) (Some (Entry (Empty x)))))
+    (sym c.agent-agent.ensures)
     (empty_allowed n s.agent id s.seen ks.holds ks.dummy.begun c.requires.named)
 
 pub returns-clause-found : goal.returns-clause-found
@@ -33,4 +35,5 @@ returns-clause-found g c =
     let s = g.L.Links.seat d c.args.p.now in
     let head = c.args.head in
     let t = g.L.Links.seat d c.same.new.p in
-    end_found n s t head c.agent-agent.result c.same.result c.agent-agent.ensures c.requires.named.linked (g.met.L.Links.allowed d c.same.new.p c.same.ensures.pass) c.same.ensures.tested
+    end_found n s t head c.agent-agent.result c.same.result c.agent-agent.ensures c.requires.named.linked
+    (g.met.L.Links.allowed d c.same.new.p c.same.ensures.pass) c.same.ensures.tested

@@ -22,7 +22,8 @@ overflow_sub-at g c =
     let head = c.args.head in
     let id = id_in s.slots head.now in
     let kp = c.requires.pass in
-    let ks = known n (g.L.Links.opening d) s.seen c.requires.made (g.met.L.Links.opens d c.args.p.now kp) (g.met.L.Links.allowed d c.args.p.now kp) (g.met.L.Links.obeys d c.args.p.now kp) in
+    let ks = known n (g.L.Links.opening d) s.seen c.requires.made (g.met.L.Links.opens d c.args.p.now kp) (g.met.L.Links.allowed d c.args.p.now kp)
+    (g.met.L.Links.obeys d c.args.p.now kp) in
     let next = c.args.next in
     let a = g.L.Links.seat d c.value-job.new.p in
     let ea = c.value-job.ensures in
@@ -36,7 +37,9 @@ overflow_sub-at g c =
     let all_b = g.met.L.Links.allowed d c.value-at.new.p eb.pass in
     let same_next = ap (λ (z : Slots). id_in z next.now) ea.nothing.slots in
     let job_b = job_puts n a b [] eb.nothing.puts all_b (id_in s.slots next.now) found.0 at job_a in
-    let is_second = second_read n b.seen (id_in s.slots next.now) found.0 at c.value-at.result job_b (subst (λ (i : ℕ). ReadsValue (heap_of n b) i 1 c.value-at.result) same_next eb.value) in
+    let is_second =
+    second_read n b.seen (id_in s.slots next.now) found.0 at c.value-at.result job_b
+    (subst (λ (i : ℕ). ReadsValue (heap_of n b) i 1 c.value-at.result) same_next eb.value) in
     omega (arith, is_second)
 
 pub change-requires : goal.change-requires
@@ -47,7 +50,8 @@ change-requires g c =
     let head = c.args.head in
     let id = id_in s.slots head.now in
     let kp = c.requires.pass in
-    let ks = known n (g.L.Links.opening d) s.seen c.requires.made (g.met.L.Links.opens d c.args.p.now kp) (g.met.L.Links.allowed d c.args.p.now kp) (g.met.L.Links.obeys d c.args.p.now kp) in
+    let ks = known n (g.L.Links.opening d) s.seen c.requires.made (g.met.L.Links.opens d c.args.p.now kp) (g.met.L.Links.allowed d c.args.p.now kp)
+    (g.met.L.Links.obeys d c.args.p.now kp) in
     let next = c.args.next in
     let a = g.L.Links.seat d c.value-job.new.p in
     let ea = c.value-job.ensures in
@@ -61,8 +65,11 @@ change-requires g c =
     let all_b = g.met.L.Links.allowed d c.value-at.new.p eb.pass in
     let same_next = ap (λ (z : Slots). id_in z next.now) ea.nothing.slots in
     let job_b = job_puts n a b [] eb.nothing.puts all_b (id_in s.slots next.now) found.0 at job_a in
-    let is_second = second_read n b.seen (id_in s.slots next.now) found.0 at c.value-at.result job_b (subst (λ (i : ℕ). ReadsValue (heap_of n b) i 1 c.value-at.result) same_next eb.value) in
-    let kb = known n (g.L.Links.opening d) b.seen c.requires.made (g.met.L.Links.opens d c.value-at.new.p eb.pass) all_b (g.met.L.Links.obeys d c.value-at.new.p eb.pass) in
+    let is_second =
+    second_read n b.seen (id_in s.slots next.now) found.0 at c.value-at.result job_b
+    (subst (λ (i : ℕ). ReadsValue (heap_of n b) i 1 c.value-at.result) same_next eb.value) in
+    let kb = known n (g.L.Links.opening d) b.seen c.requires.made (g.met.L.Links.opens d c.value-at.new.p eb.pass) all_b
+    (g.met.L.Links.obeys d c.value-at.new.p eb.pass) in
     let o = Only-trans s a b [] [] ea.nothing eb.nothing in
     let slots = o.slots in
     let is_at : c.value-at.result - 1 ≡ at = omega (arith, is_second) in
@@ -71,7 +78,8 @@ change-requires g c =
       linked = search rules;
       links = search rules;
       place = roots_there n s.seen 0 ks (omega arith);
-      allowed = took_may n s b head.now next.now found.0 at c.agent-agent.result c.value-job.result _ o kb ks c.agent-agent.ensures is_job is_at c.requires.left c.requires.successor job_b;
+      allowed = took_may n s b head.now next.now found.0 at c.agent-agent.result c.value-job.result _ o kb ks c.agent-agent.ensures is_job is_at
+          c.requires.left c.requires.successor job_b;
     }
 
 pub returns-then-change-clause-took : goal.returns-then-change-clause-took
@@ -82,7 +90,8 @@ returns-then-change-clause-took g c =
     let head = c.args.head in
     let id = id_in s.slots head.now in
     let kp = c.requires.pass in
-    let ks = known n (g.L.Links.opening d) s.seen c.requires.made (g.met.L.Links.opens d c.args.p.now kp) (g.met.L.Links.allowed d c.args.p.now kp) (g.met.L.Links.obeys d c.args.p.now kp) in
+    let ks = known n (g.L.Links.opening d) s.seen c.requires.made (g.met.L.Links.opens d c.args.p.now kp) (g.met.L.Links.allowed d c.args.p.now kp)
+    (g.met.L.Links.obeys d c.args.p.now kp) in
     let next = c.args.next in
     let a = g.L.Links.seat d c.value-job.new.p in
     let ea = c.value-job.ensures in
@@ -97,8 +106,10 @@ returns-then-change-clause-took g c =
     let o = Only-trans s a b [] [] ea.nothing eb.nothing in
     let slots = o.slots in
     let t = g.L.Links.seat d c.change.new.p in
-    let linked = subst (λ (i : ℕ). IsLinkedNode (heap_of n b) i) (sym (ap (λ (z : Slots). id_in z next.now) slots)) (job_linked (heap_of n b) (id_in s.slots next.now) found.0 at job_b) in
-    head_swung n s b t head next c.agent-agent.result c.value-job.result _ c.change.result (c.agent-agent.ensures ∙ o.puts.agent) o (g.met.L.Links.allowed d c.change.new.p c.change.ensures.pass) c.change.ensures.swung c.if-change.true
+    let linked = subst (λ (i : ℕ). IsLinkedNode (heap_of n b) i) (sym (ap (λ (z : Slots). id_in z next.now) slots))
+    (job_linked (heap_of n b) (id_in s.slots next.now) found.0 at job_b) in
+    head_swung n s b t head next c.agent-agent.result c.value-job.result _ c.change.result (c.agent-agent.ensures ∙ o.puts.agent) o
+    (g.met.L.Links.allowed d c.change.new.p c.change.ensures.pass) c.change.ensures.swung c.if-change.true
     (linked_not_fresh n b (id_in b.slots next.now) (λ i is. g.met.L.Links.fresh_is d c.value-at.new.p i eb.pass is) linked)
 
 pub returns-else-change-clause-took : goal.returns-else-change-clause-took

@@ -22,7 +22,8 @@ finds_end-requires-clause-named g c =
     let n = g.L.Links.numbers d in
     let s = g.L.Links.seat d c.args.p.now in
     let kp = c.requires.pass in
-    let ks = known n (g.L.Links.opening d) s.seen c.requires.made (g.met.L.Links.opens d c.args.p.now kp) (g.met.L.Links.allowed d c.args.p.now kp) (g.met.L.Links.obeys d c.args.p.now kp) in
+    let ks = known n (g.L.Links.opening d) s.seen c.requires.made (g.met.L.Links.opens d c.args.p.now kp) (g.met.L.Links.allowed d c.args.p.now kp)
+    (g.met.L.Links.obeys d c.args.p.now kp) in
     let head = c.args.head in
     let id = id_in s.slots head.now in
     let a = g.L.Links.seat d c.look.new.p in
@@ -38,7 +39,8 @@ returns-then-finds_end-clause-took g c =
     let n = g.L.Links.numbers d in
     let s = g.L.Links.seat d c.args.p.now in
     let kp = c.requires.pass in
-    let ks = known n (g.L.Links.opening d) s.seen c.requires.made (g.met.L.Links.opens d c.args.p.now kp) (g.met.L.Links.allowed d c.args.p.now kp) (g.met.L.Links.obeys d c.args.p.now kp) in
+    let ks = known n (g.L.Links.opening d) s.seen c.requires.made (g.met.L.Links.opens d c.args.p.now kp) (g.met.L.Links.allowed d c.args.p.now kp)
+    (g.met.L.Links.obeys d c.args.p.now kp) in
     let head = c.args.head in
     let id = id_in s.slots head.now in
     let a = g.L.Links.seat d c.look.new.p in
@@ -56,7 +58,8 @@ returns-else-finds_end-clause-took g c =
     let n = g.L.Links.numbers d in
     let s = g.L.Links.seat d c.args.p.now in
     let kp = c.requires.pass in
-    let ks = known n (g.L.Links.opening d) s.seen c.requires.made (g.met.L.Links.opens d c.args.p.now kp) (g.met.L.Links.allowed d c.args.p.now kp) (g.met.L.Links.obeys d c.args.p.now kp) in
+    let ks = known n (g.L.Links.opening d) s.seen c.requires.made (g.met.L.Links.opens d c.args.p.now kp) (g.met.L.Links.allowed d c.args.p.now kp)
+    (g.met.L.Links.obeys d c.args.p.now kp) in
     let head = c.args.head in
     let id = id_in s.slots head.now in
     let a = g.L.Links.seat d c.look.new.p in
@@ -74,7 +77,8 @@ take_next-took-requires g c =
     let n = g.L.Links.numbers d in
     let s = g.L.Links.seat d c.args.p.now in
     let kp = c.requires.pass in
-    let ks = known n (g.L.Links.opening d) s.seen c.requires.made (g.met.L.Links.opens d c.args.p.now kp) (g.met.L.Links.allowed d c.args.p.now kp) (g.met.L.Links.obeys d c.args.p.now kp) in
+    let ks = known n (g.L.Links.opening d) s.seen c.requires.made (g.met.L.Links.opens d c.args.p.now kp) (g.met.L.Links.allowed d c.args.p.now kp)
+    (g.met.L.Links.obeys d c.args.p.now kp) in
     let head = c.args.head in
     let id = id_in s.slots head.now in
     let a = g.L.Links.seat d c.look.new.p in
@@ -89,7 +93,8 @@ take_next-took-requires g c =
       made = c.requires.made;
       held = (slot_other s a 2 x.next next c.requires.slot x.in_slot head.now c.requires.held, slot_holds s a 2 x.next next c.requires.slot x.in_slot);
       named = subst (λ (i : ℕ). WasNamed (heap_of n a) 0 i) (sym head_id) (named_puts n s a _ x.puts all 0 id c.requires.named);
-      successor = subst (λ (i : ℕ). HasLink (heap_of n a) i (link_to (id_in a.slots next))) (sym head_id) (subst (λ (i : ℕ). HasLink (heap_of n a) id (link_to i)) (sym next_id) x.link);
+      successor = subst (λ (i : ℕ). HasLink (heap_of n a) i (link_to (id_in a.slots next))) (sym head_id)
+          (subst (λ (i : ℕ). HasLink (heap_of n a) id (link_to i)) (sym next_id) x.link);
     }
 
 pub release-requires-clause-held : goal.release-requires-clause-held
@@ -98,7 +103,8 @@ release-requires-clause-held g c =
     let n = g.L.Links.numbers d in
     let s = g.L.Links.seat d c.args.p.now in
     let kp = c.requires.pass in
-    let ks = known n (g.L.Links.opening d) s.seen c.requires.made (g.met.L.Links.opens d c.args.p.now kp) (g.met.L.Links.allowed d c.args.p.now kp) (g.met.L.Links.obeys d c.args.p.now kp) in
+    let ks = known n (g.L.Links.opening d) s.seen c.requires.made (g.met.L.Links.opens d c.args.p.now kp) (g.met.L.Links.allowed d c.args.p.now kp)
+    (g.met.L.Links.obeys d c.args.p.now kp) in
     let head = c.args.head in
     let id = id_in s.slots head.now in
     let a = g.L.Links.seat d c.look.new.p in
@@ -116,7 +122,8 @@ returns-in-Some-clause-took g c =
     let n = g.L.Links.numbers d in
     let s = g.L.Links.seat d c.args.p.now in
     let kp = c.requires.pass in
-    let ks = known n (g.L.Links.opening d) s.seen c.requires.made (g.met.L.Links.opens d c.args.p.now kp) (g.met.L.Links.allowed d c.args.p.now kp) (g.met.L.Links.obeys d c.args.p.now kp) in
+    let ks = known n (g.L.Links.opening d) s.seen c.requires.made (g.met.L.Links.opens d c.args.p.now kp) (g.met.L.Links.allowed d c.args.p.now kp)
+    (g.met.L.Links.obeys d c.args.p.now kp) in
     let head = c.args.head in
     let id = id_in s.slots head.now in
     let a = g.L.Links.seat d c.look.new.p in
@@ -136,9 +143,11 @@ returns-in-Some-clause-took g c =
     let same = ap (λ (z : Slots). id_in z next) piece.slots ∙ next_id in
     let ka = known n (g.L.Links.opening d) a.seen c.requires.made (g.met.L.Links.opens d c.look.new.p e.pass) all (g.met.L.Links.obeys d c.look.new.p e.pass) in
     let linked = linked_puts n a b piece.own piece.puts all_b x.next (successor_linked n a.seen id x.next ka.holds x.link) in
-    let fresh = release_fresh n b t next (λ i is. g.met.L.Links.fresh_is d c.take_next-took.new.p i pass_b is) (subst (λ (i : ℕ). IsLinkedNode (heap_of n b) i) (sym same) linked) released in
+    let fresh = release_fresh n b t next (λ i is. g.met.L.Links.fresh_is d c.take_next-took.new.p i pass_b is)
+    (subst (λ (i : ℕ). IsLinkedNode (heap_of n b) i) (sym same) linked) released in
     let slots = slot_released s a 2 x.next next c.requires.slot x.in_slot b t piece.slots released in
-    let told = subst (λ (i : ℕ). TakesNext n i x.next a c.take_next-took.result b) head_id (subst (λ (i : ℕ). TakesNext n (id_in a.slots head.now) i a c.take_next-took.result b) next_id took) in
+    let told = subst (λ (i : ℕ). TakesNext n i x.next a c.take_next-took.result b) head_id
+    (subst (λ (i : ℕ). TakesNext n (id_in a.slots head.now) i a c.take_next-took.result b) next_id took) in
     let got = subst (λ (o : Option (ℕ × ℕ)). TakesNext n id x.next a o b) c.in-Some.is told in
     behind_taken n id x.next s a b t x.puts all released.puts slots e.looked.fresh fresh _ _ got
 
@@ -148,7 +157,8 @@ returns-in-None-clause-took g c =
     let n = g.L.Links.numbers d in
     let s = g.L.Links.seat d c.args.p.now in
     let kp = c.requires.pass in
-    let ks = known n (g.L.Links.opening d) s.seen c.requires.made (g.met.L.Links.opens d c.args.p.now kp) (g.met.L.Links.allowed d c.args.p.now kp) (g.met.L.Links.obeys d c.args.p.now kp) in
+    let ks = known n (g.L.Links.opening d) s.seen c.requires.made (g.met.L.Links.opens d c.args.p.now kp) (g.met.L.Links.allowed d c.args.p.now kp)
+    (g.met.L.Links.obeys d c.args.p.now kp) in
     let head = c.args.head in
     let id = id_in s.slots head.now in
     let a = g.L.Links.seat d c.look.new.p in
@@ -168,9 +178,11 @@ returns-in-None-clause-took g c =
     let same = ap (λ (z : Slots). id_in z next) piece.slots ∙ next_id in
     let ka = known n (g.L.Links.opening d) a.seen c.requires.made (g.met.L.Links.opens d c.look.new.p e.pass) all (g.met.L.Links.obeys d c.look.new.p e.pass) in
     let linked = linked_puts n a b piece.own piece.puts all_b x.next (successor_linked n a.seen id x.next ka.holds x.link) in
-    let fresh = release_fresh n b t next (λ i is. g.met.L.Links.fresh_is d c.take_next-took.new.p i pass_b is) (subst (λ (i : ℕ). IsLinkedNode (heap_of n b) i) (sym same) linked) released in
+    let fresh = release_fresh n b t next (λ i is. g.met.L.Links.fresh_is d c.take_next-took.new.p i pass_b is)
+    (subst (λ (i : ℕ). IsLinkedNode (heap_of n b) i) (sym same) linked) released in
     let slots = slot_released s a 2 x.next next c.requires.slot x.in_slot b t piece.slots released in
-    let told = subst (λ (i : ℕ). TakesNext n i x.next a c.take_next-took.result b) head_id (subst (λ (i : ℕ). TakesNext n (id_in a.slots head.now) i a c.take_next-took.result b) next_id took) in
+    let told = subst (λ (i : ℕ). TakesNext n i x.next a c.take_next-took.result b) head_id
+    (subst (λ (i : ℕ). TakesNext n (id_in a.slots head.now) i a c.take_next-took.result b) next_id took) in
     let got = subst (λ (o : Option (ℕ × ℕ)). TakesNext n id x.next a o b) c.in-None.is told in
     behind_over n id x.next s a b t x.puts all released.puts slots e.looked.fresh fresh got
 

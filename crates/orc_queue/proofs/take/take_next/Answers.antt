@@ -21,7 +21,8 @@ same-requires-clause-place g c =
     let head = c.args.head in
     let id = id_in s.slots head.now in
     let kp = c.requires.pass in
-    let ks = known n (g.L.Links.opening d) s.seen c.requires.made (g.met.L.Links.opens d c.args.p.now kp) (g.met.L.Links.allowed d c.args.p.now kp) (g.met.L.Links.obeys d c.args.p.now kp) in
+    let ks = known n (g.L.Links.opening d) s.seen c.requires.made (g.met.L.Links.opens d c.args.p.now kp) (g.met.L.Links.allowed d c.args.p.now kp)
+    (g.met.L.Links.obeys d c.args.p.now kp) in
     roots_there n s.seen 1 ks (omega arith)
 
 pub help_tail-requires-clause-successor : goal.help_tail-requires-clause-successor
@@ -51,7 +52,8 @@ returns-then-same-clause-took g c =
     let all = g.met.L.Links.allowed d c.same.new.p e.pass in
     let b = g.L.Links.seat d c.help_tail.new.p in
     let helped = subst (λ (z : Slots). Helps (id_in z head.now) (id_in z next.now) a b) e.tested.slots c.help_tail.ensures.helped in
-    past_helped n id (id_in s.slots next.now) _ _ s a b (Tests-found e.tested c.if-same.true) all (g.met.L.Links.allowed d c.help_tail.new.p c.help_tail.ensures.pass) e.tested.slots e.tested.fresh helped
+    past_helped n id (id_in s.slots next.now) _ _ s a b (Tests-found e.tested c.if-same.true) all
+    (g.met.L.Links.allowed d c.help_tail.new.p c.help_tail.ensures.pass) e.tested.slots e.tested.fresh helped
 
 pub swing_head-requires : goal.swing_head-requires
 swing_head-requires g c =
@@ -62,7 +64,8 @@ swing_head-requires g c =
     let id = id_in s.slots head.now in
     let next = c.args.next in
     let kp = c.requires.pass in
-    let ks = known n (g.L.Links.opening d) s.seen c.requires.made (g.met.L.Links.opens d c.args.p.now kp) (g.met.L.Links.allowed d c.args.p.now kp) (g.met.L.Links.obeys d c.args.p.now kp) in
+    let ks = known n (g.L.Links.opening d) s.seen c.requires.made (g.met.L.Links.opens d c.args.p.now kp) (g.met.L.Links.allowed d c.args.p.now kp)
+    (g.met.L.Links.obeys d c.args.p.now kp) in
     let a = g.L.Links.seat d c.same.new.p in
     let e = c.same.ensures in
     let all = g.met.L.Links.allowed d c.same.new.p e.pass in
@@ -71,8 +74,10 @@ swing_head-requires g c =
       pass = search rules;
       made = c.requires.made;
       held = search rules;
-      left = subst (λ (z : Slots). IsLeft (heap_of n a) (id_in z head.now)) (sym e.tested.slots) (past_left n id s a ks all c.requires.named (Tests-missed e.tested c.if-same.false));
-      successor = subst (λ (z : Slots). HasLink (heap_of n a) (id_in z head.now) (link_to (id_in z next.now))) (sym e.tested.slots) (link_puts n s a _ miss.puts all id (id_in s.slots next.now) c.requires.successor);
+      left = subst (λ (z : Slots). IsLeft (heap_of n a) (id_in z head.now)) (sym e.tested.slots)
+          (past_left n id s a ks all c.requires.named (Tests-missed e.tested c.if-same.false));
+      successor = subst (λ (z : Slots). HasLink (heap_of n a) (id_in z head.now) (link_to (id_in z next.now))) (sym e.tested.slots)
+          (link_puts n s a _ miss.puts all id (id_in s.slots next.now) c.requires.successor);
     }
 
 pub returns-clause-took : goal.returns-clause-took
@@ -83,7 +88,8 @@ returns-clause-took g c =
     let head = c.args.head in
     let id = id_in s.slots head.now in
     let kp = c.requires.pass in
-    let ks = known n (g.L.Links.opening d) s.seen c.requires.made (g.met.L.Links.opens d c.args.p.now kp) (g.met.L.Links.allowed d c.args.p.now kp) (g.met.L.Links.obeys d c.args.p.now kp) in
+    let ks = known n (g.L.Links.opening d) s.seen c.requires.made (g.met.L.Links.opens d c.args.p.now kp) (g.met.L.Links.allowed d c.args.p.now kp)
+    (g.met.L.Links.obeys d c.args.p.now kp) in
     let next = c.args.next in
     let a = g.L.Links.seat d c.same.new.p in
     let e = c.same.ensures in

@@ -20,7 +20,8 @@ look-requires-clause-place g c =
     let n = g.L.Links.numbers d in
     let s = g.L.Links.seat d c.args.p.now in
     let kp = c.requires.pass in
-    let ks = known n (g.L.Links.opening d) s.seen c.requires.made (g.met.L.Links.opens d c.args.p.now kp) (g.met.L.Links.allowed d c.args.p.now kp) (g.met.L.Links.obeys d c.args.p.now kp) in
+    let ks = known n (g.L.Links.opening d) s.seen c.requires.made (g.met.L.Links.opens d c.args.p.now kp) (g.met.L.Links.allowed d c.args.p.now kp)
+    (g.met.L.Links.obeys d c.args.p.now kp) in
     roots_there n s.seen 0 ks (omega arith)
 
 pub unreachable-requires : goal.unreachable-requires
@@ -29,10 +30,12 @@ unreachable-requires g c =
     let n = g.L.Links.numbers d in
     let s = g.L.Links.seat d c.args.p.now in
     let kp = c.requires.pass in
-    let ks = known n (g.L.Links.opening d) s.seen c.requires.made (g.met.L.Links.opens d c.args.p.now kp) (g.met.L.Links.allowed d c.args.p.now kp) (g.met.L.Links.obeys d c.args.p.now kp) in
+    let ks = known n (g.L.Links.opening d) s.seen c.requires.made (g.met.L.Links.opens d c.args.p.now kp) (g.met.L.Links.allowed d c.args.p.now kp)
+    (g.met.L.Links.obeys d c.args.p.now kp) in
     let a = g.L.Links.seat d c.look.new.p in
     let e = c.in-Stable-default-None.ensures in
-    root_not_null n s a 0 _ (omega arith) ks (g.met.L.Links.allowed d c.look.new.p e.pass) (Looks-null {place = Root 0} e.looked c.in-Stable-default-None.field-1-is)
+    root_not_null n s a 0 _ (omega arith) ks (g.met.L.Links.allowed d c.look.new.p e.pass)
+    (Looks-null {place = Root 0} e.looked c.in-Stable-default-None.field-1-is)
 
 pub take_behind-turn-requires : goal.take_behind-turn-requires
 take_behind-turn-requires g c =
@@ -40,7 +43,8 @@ take_behind-turn-requires g c =
     let n = g.L.Links.numbers d in
     let s = g.L.Links.seat d c.args.p.now in
     let kp = c.requires.pass in
-    let ks = known n (g.L.Links.opening d) s.seen c.requires.made (g.met.L.Links.opens d c.args.p.now kp) (g.met.L.Links.allowed d c.args.p.now kp) (g.met.L.Links.obeys d c.args.p.now kp) in
+    let ks = known n (g.L.Links.opening d) s.seen c.requires.made (g.met.L.Links.opens d c.args.p.now kp) (g.met.L.Links.allowed d c.args.p.now kp)
+    (g.met.L.Links.obeys d c.args.p.now kp) in
     let a = g.L.Links.seat d c.look.new.p in
     let e = c.in-Stable-default-Some.ensures in
     let all = g.met.L.Links.allowed d c.look.new.p e.pass in
@@ -61,7 +65,8 @@ release-requires-clause-held g c =
     let n = g.L.Links.numbers d in
     let s = g.L.Links.seat d c.args.p.now in
     let kp = c.requires.pass in
-    let ks = known n (g.L.Links.opening d) s.seen c.requires.made (g.met.L.Links.opens d c.args.p.now kp) (g.met.L.Links.allowed d c.args.p.now kp) (g.met.L.Links.obeys d c.args.p.now kp) in
+    let ks = known n (g.L.Links.opening d) s.seen c.requires.made (g.met.L.Links.opens d c.args.p.now kp) (g.met.L.Links.allowed d c.args.p.now kp)
+    (g.met.L.Links.obeys d c.args.p.now kp) in
     let a = g.L.Links.seat d c.look.new.p in
     let e = c.in-Stable-default-Some.ensures in
     let all = g.met.L.Links.allowed d c.look.new.p e.pass in
@@ -77,7 +82,8 @@ returns-in-Stable-default-Some-clause-took g c =
     let n = g.L.Links.numbers d in
     let s = g.L.Links.seat d c.args.p.now in
     let kp = c.requires.pass in
-    let ks = known n (g.L.Links.opening d) s.seen c.requires.made (g.met.L.Links.opens d c.args.p.now kp) (g.met.L.Links.allowed d c.args.p.now kp) (g.met.L.Links.obeys d c.args.p.now kp) in
+    let ks = known n (g.L.Links.opening d) s.seen c.requires.made (g.met.L.Links.opens d c.args.p.now kp) (g.met.L.Links.allowed d c.args.p.now kp)
+    (g.met.L.Links.obeys d c.args.p.now kp) in
     let a = g.L.Links.seat d c.look.new.p in
     let e = c.in-Stable-default-Some.ensures in
     let all = g.met.L.Links.allowed d c.look.new.p e.pass in
@@ -94,9 +100,11 @@ returns-in-Stable-default-Some-clause-took g c =
     let released = c.release.ensures.released in
     let same = ap (λ (z : Slots). id_in z head) piece.slots ∙ head_id in
     let linked = linked_puts n a b piece.own piece.puts all_b x.id x.named.linked in
-    let fresh = release_fresh n b t head (λ i is. g.met.L.Links.fresh_is d c.take_behind-turn.new.p i pass_b is) (subst (λ (i : ℕ). IsLinkedNode (heap_of n b) i) (sym same) linked) released in
+    let fresh = release_fresh n b t head (λ i is. g.met.L.Links.fresh_is d c.take_behind-turn.new.p i pass_b is)
+    (subst (λ (i : ℕ). IsLinkedNode (heap_of n b) i) (sym same) linked) released in
     let slots = slot_released s a 1 x.id head c.requires.slots.0 x.in_slot b t piece.slots released in
-    turn_taken n x.one x.id s a b t ks all (g.met.L.Links.allowed d c.release.new.p c.release.ensures.pass) x.puts released.puts slots e.looked.fresh fresh turn (subst (λ (i : ℕ). TakesBehind n i a turn b) head_id took)
+    turn_taken n x.one x.id s a b t ks all (g.met.L.Links.allowed d c.release.new.p c.release.ensures.pass) x.puts released.puts slots e.looked.fresh
+    fresh turn (subst (λ (i : ℕ). TakesBehind n i a turn b) head_id took)
 
 pub returns-in-Moved-clause-took : goal.returns-in-Moved-clause-took
 returns-in-Moved-clause-took g c =

@@ -19,7 +19,8 @@ loop-preserved g c =
     record {
       pass = e.pass;
       later = goes_on _ _ _ i.later e.later;
-      over = over_next (g.L.Links.numbers d) TailIsPast c.loop.counter (g.L.Links.seat d c.args.p.now) (g.L.Links.seat d c.loop.p) (g.L.Links.seat d c.take_turn.new.p) i.over e.took;
+      over = over_next (g.L.Links.numbers d) TailIsPast c.loop.counter (g.L.Links.seat d c.args.p.now) (g.L.Links.seat d c.loop.p)
+          (g.L.Links.seat d c.take_turn.new.p) i.over e.took;
     }
 
 pub returns-in_default : goal.returns-in_default
@@ -30,7 +31,8 @@ returns-in_default g c =
     record {
       pass = e.pass;
       later = goes_on _ _ _ i.later e.later;
-      took = turns_taken (g.L.Links.numbers d) c.loop.counter c.args.turns (g.L.Links.seat d c.args.p.now) (g.L.Links.seat d c.loop.p) (g.L.Links.seat d c.take_turn.new.p) c.take_turn.result c.in_default.not-Over (omega (arith, c.loop-test.true)) i.over e.took;
+      took = turns_taken (g.L.Links.numbers d) c.loop.counter c.args.turns (g.L.Links.seat d c.args.p.now) (g.L.Links.seat d c.loop.p)
+          (g.L.Links.seat d c.take_turn.new.p) c.take_turn.result c.in_default.not-Over (omega (arith, c.loop-test.true)) i.over e.took;
     }
 
 pub returns-clause-took : goal.returns-clause-took

@@ -7,4 +7,5 @@ use Rattle.orc_core.proofs.Counted.{counted}
 use Rattle.orc_sound.proofs.counting.linked_from_rows.Given as goal
 
 abbrev pub invariant-loop-from : goal.invariant-loop-from
-invariant-loop-from l = record { so_far : l.count ≡ counted l.from (λ j. is_out l.state j && links_to (word_in l.state (Next j)) l.row); small : l.count ≤ l.from }
+invariant-loop-from l =
+    record { so_far : l.count ≡ counted l.from (λ j. is_out l.state j && links_to (word_in l.state (Next j)) l.row); small : l.count ≤ l.from }

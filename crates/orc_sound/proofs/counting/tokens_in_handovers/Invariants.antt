@@ -7,4 +7,5 @@ use Rattle.orc_core.proofs.Counted.{summed}
 use Rattle.orc_sound.proofs.counting.tokens_in_handovers.Given as goal
 
 abbrev pub invariant-loop-agent : goal.invariant-loop-agent
-invariant-loop-agent l = record { so_far : l.count ≡ summed l.agent (λ a. count_below 8 (λ k. word_in l.state (Handover a k) == l.row + 1)); small : l.count ≤ 8 * l.agent }
+invariant-loop-agent l =
+    record { so_far : l.count ≡ summed l.agent (λ a. count_below 8 (λ k. word_in l.state (Handover a k) == l.row + 1)); small : l.count ≤ 8 * l.agent }

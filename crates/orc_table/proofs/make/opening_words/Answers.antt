@@ -14,7 +14,10 @@ returns-clause-words g c = elim c.match-seed.branch [
       let some = c.args.shape.now.some_rows in
       let roots = subst (HasRoots (numbers b)) w.in-Dummy.is c.requires.roots in
       ap (λ v. v.items) w.words-is
-      ∙ (written_words b w.in-Dummy.first w.in-Dummy.begin roots (omega (arith, some)) c.in_ok-words.words.items _ _ _ _ _ _ c.in_ok-words.ensures.words w.place_of.ensures.place w.place_of-in-Dummy.ensures.place w.place_of-in-Dummy-2.ensures.place w.place_of-in-Dummy-3.ensures.place w.place_of-in-Dummy-4.ensures.place w.pack_link-link.ensures.word
+      ∙ (written_words b w.in-Dummy.first w.in-Dummy.begin roots (omega (arith, some)) c.in_ok-words.words.items _ _ _ _ _ _
+      c.in_ok-words.ensures.words w.place_of.ensures.place w.place_of-in-Dummy.ensures.place w.place_of-in-Dummy-2.ensures.place
+      w.place_of-in-Dummy-3.ensures.place w.place_of-in-Dummy-4.ensures.place w.pack_link-link.ensures.word
       ∙ ap (λ s. (run b (opening_steps s)).words) (sym w.in-Dummy.is))
-  | in_default w ↦ ap (λ v. v.items) w.words-is ∙ (c.in_ok-words.ensures.words ∙ ap (λ s. (run (bounds_of c.args.shape.now) (opening_steps s)).words) (sym w.in_default.is))
+  | in_default w ↦
+      ap (λ v. v.items) w.words-is ∙ (c.in_ok-words.ensures.words ∙ ap (λ s. (run (bounds_of c.args.shape.now) (opening_steps s)).words) (sym w.in_default.is))
 ]

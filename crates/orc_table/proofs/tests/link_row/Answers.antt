@@ -14,5 +14,7 @@ link_cas-requires-clause-allowed c = λ more later there.
     let n = board_numbers c.args.board.now in
     let u = (c.seen_by.ensures.fresh c.args.row c.requires.fresh).untouched in
     let known : IsKnown s.agent (run_heap n s.events) (index_of c.args.row s.rows) = record { node = u.node; there = u.there; known = inl u.mine } in
-    let target : IsTarget s.agent (run_heap n (s.events ++ more)) (id_by s.rows c.to_row.result.to) = subst (λ (l : RowLink). IsTarget s.agent (run_heap n (s.events ++ more)) (id_by s.rows l.to)) (sym c.to_row.ensures) (known-later n (AnyFit n) s.agent (index_of c.args.row s.rows) s.events more later.allowed known) in
+    let target : IsTarget s.agent (run_heap n (s.events ++ more)) (id_by s.rows c.to_row.result.to) =
+    subst (λ (l : RowLink). IsTarget s.agent (run_heap n (s.events ++ more)) (id_by s.rows l.to)) (sym c.to_row.ensures)
+    (known-later n (AnyFit n) s.agent (index_of c.args.row s.rows) s.events more later.allowed known) in
     ((there, target), tt)

@@ -19,10 +19,17 @@ make-requires-clause-seed c =
     record {
       roots = roots;
       low = omega arith;
-      first_link = ((get_replicate (bounds_of c.args.shape.now).roots 0 one, record { node = with_value 1 5 (with_value 0 0 (new_node 0)); there = refl; known = inl refl }), tt);
+      first_link = (
+        (
+          get_replicate (bounds_of c.args.shape.now).roots 0 one,
+          record { node = with_value 1 5 (with_value 0 0 (new_node 0)); there = refl; known = inl refl },
+        ),
+        tt,
+      );
       second_link = (
         (
-          get-change_other (λ (l : Link). link_to 0) 0 1 (replicate (bounds_of c.args.shape.now).roots null) (λ e. omega (arith, e)) ∙ get_replicate (bounds_of c.args.shape.now).roots 1 two,
+          get-change_other (λ (l : Link). link_to 0) 0 1 (replicate (bounds_of c.args.shape.now).roots null) (λ e. omega (arith, e))
+              ∙ get_replicate (bounds_of c.args.shape.now).roots 1 two,
           record { node = as_linked (with_value 1 5 (with_value 0 0 (new_node 0))); there = refl; known = inl refl },
         ),
         tt,

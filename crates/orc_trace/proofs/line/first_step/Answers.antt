@@ -13,5 +13,6 @@ returns-in_err-rest-clause-none c = rw c.from_residual.ensures (λ s rest h.
 pub returns-in_err-agent-clause-none : goal.returns-in_err-agent-clause-none
 returns-in_err-agent-clause-none c = rw c.from_residual-in_err-agent.ensures (λ s rest h.
     let cut = rw c.in_ok-rest.was at c.cut.ensures in
-    let same = cut-unique 10 c.cut.result.0.now (line_text s.0 s.1) c.in_ok-rest.rest.now rest cut.1 (Lacks-line (bounds_of c.args.shape.now) s (shape-in_range c.args.shape.now) h.readable) (sym cut.0 ∙ h.text) in
+    let same = cut-unique 10 c.cut.result.0.now (line_text s.0 s.1) c.in_ok-rest.rest.now rest cut.1
+    (Lacks-line (bounds_of c.args.shape.now) s (shape-in_range c.args.shape.now) h.readable) (sym cut.0 ∙ h.text) in
     c.in_err-agent.ensures.none s h.readable same.0)

@@ -79,8 +79,10 @@ returns-clause-some c =
     let roots = c.in_ok-roots-2.ensures.some in
     let agents = c.in_ok-agents-2.ensures.some in
     let limit = c.in_ok-limit.ensures.some in
-    let words : words_in c.args.line.now ≡ codes "shape" ∷ decimal c.in_ok-rows-2.rows ∷ decimal c.in_ok-roots-2.roots ∷ decimal c.in_ok-agents-2.agents ∷ decimal c.in_ok-limit.limit ∷ [] =
+    let words : words_in c.args.line.now ≡ codes "shape" ∷ decimal c.in_ok-rows-2.rows ∷ decimal c.in_ok-roots-2.roots
+    ∷ decimal c.in_ok-agents-2.agents ∷ decimal c.in_ok-limit.limit ∷ [] =
     cc (cut, name, first, second, two, rows.1, roots.1, agents.1, limit.1) in (
       record { rows = rows.0; roots = roots.0; agents = agents.0; limit = limit.0 },
-      text-of_words c.args.line.now (codes "shape" ∷ decimal c.in_ok-rows-2.rows ∷ decimal c.in_ok-roots-2.roots ∷ decimal c.in_ok-agents-2.agents ∷ decimal c.in_ok-limit.limit ∷ []) words,
+      text-of_words c.args.line.now (codes "shape" ∷ decimal c.in_ok-rows-2.rows ∷ decimal c.in_ok-roots-2.roots ∷ decimal c.in_ok-agents-2.agents
+          ∷ decimal c.in_ok-limit.limit ∷ []) words,
     )

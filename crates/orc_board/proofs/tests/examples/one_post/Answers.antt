@@ -64,8 +64,28 @@ poster = record {
         set = record { stretch = record { later = (_, refl); part = Added 1 7 true ∷ []; is = refl; own_is = refl; others = (inl refl, tt) }; licence = tt };
       },
       record {
-        queue = record { stretch = record { later = (_, refl); part = Took 0 0 0 ∷ Empty 0 ∷ []; is = refl; own_is = refl; others = (inr (omega arith), (inr (omega arith), tt)) }; licence = tt };
-        set = record { stretch = record { later = (_, refl); part = Removed 0 7 true ∷ []; is = refl; own_is = refl; others = (inr (omega arith), tt) }; licence = tt };
+        queue = record {
+          stretch = record {
+            later = (_, refl);
+            part = Took 0 0 0 ∷ Empty 0 ∷ [];
+            is = refl;
+            own_is = refl;
+            others =
+                (inr (omega arith), (inr (omega arith), tt));
+          };
+          licence = tt;
+        };
+        set = record {
+          stretch = record {
+            later = (_, refl);
+            part = Removed 0 7 true ∷ [];
+            is = refl;
+            own_is = refl;
+            others =
+                (inr (omega arith), tt);
+          };
+          licence = tt;
+        };
       },
     );
   };
@@ -80,7 +100,17 @@ taker = record {
       k,
       n,
       record {
-        queue = record { stretch = record { later = (_, refl); part = k; is = refl; own_is = refl; others = (inr (omega arith), (inl refl, (inl refl, tt))) }; licence = tt };
+        queue = record {
+          stretch = record {
+            later = (_, refl);
+            part = k;
+            is = refl;
+            own_is = refl;
+            others =
+                (inr (omega arith), (inl refl, (inl refl, tt)));
+          };
+          licence = tt;
+        };
         set = record { stretch = record { later = (_, refl); part = n; is = refl; own_is = refl; others = (inr (omega arith), (inl refl, tt)) }; licence = tt };
       },
       Stands-empty q s 0 k n,
@@ -92,14 +122,23 @@ follow : Follows Q S lines 1 0 posts (takes (take.Done 5)) k n
 follow = record {
   workers = record {
     posting = λ p low high. let e : 1 ≡ p = omega arith in subst (λ (x : ℕ). Posting q s lines x (posts_of x posts) [] [] k n) e poster;
-    claiming = λ t high. let e : 0 ≡ t = omega arith in subst (λ (x : ℕ). Claiming q s lines x (taker_agent 1 x) (takes_of x (takes (take.Done 5))) [] [] k n) e taker;
+    claiming =
+        λ t high. let e : 0 ≡ t = omega arith in subst (λ (x : ℕ). Claiming q s lines x (taker_agent 1 x) (takes_of x (takes (take.Done 5))) [] [] k n) e taker;
     order = record {
       by_poster = refl;
       none_of_zero = (omega arith, tt);
-      in_file_order = λ p low high. let e : 1 ≡ p = omega arith in subst (λ (x : ℕ). map (λ (r : PostReply). r.line) (posts_of x posts) ≡ own_records 1 x 1) e refl;
+      in_file_order =
+          λ p low high. let e : 1 ≡ p = omega arith in subst (λ (x : ℕ). map (λ (r : PostReply). r.line) (posts_of x posts) ≡ own_records 1 x 1) e refl;
       by_taker = refl;
     };
-    queue_zero_last = record { front = Put 1 0 0 ∷ []; back = Took 0 0 0 ∷ Empty 0 ∷ []; is = refl; others = (λ e. omega arith, tt); zeros = (refl, (refl, tt)) };
+    queue_zero_last = record {
+      front = Put 1 0 0 ∷ [];
+      back = Took 0 0 0 ∷ Empty 0 ∷ [];
+      is = refl;
+      others = (λ e. omega arith, tt);
+      zeros =
+          (refl, (refl, tt));
+    };
     set_zero_last = record { front = Added 1 7 true ∷ []; back = Removed 0 7 true ∷ []; is = refl; others = (λ e. omega arith, tt); zeros = (refl, tt) };
     found_empty = λ t low high less. absurd (omega arith);
   };
@@ -122,7 +161,8 @@ not_void f =
 
 rising : (p : ℕ) → IsStrictlyIncreasing (map (λ (r : PostReply). r.line) (posts_of p posts))
 rising p =
-    let cases : (b : Bool) → IsStrictlyIncreasing (map (λ (r : PostReply). r.line) (cond b posts [])) = elim [ true ↦ λ k h. absurd (omega arith) | false ↦ λ k h. absurd (omega arith) ] in
+    let cases : (b : Bool) → IsStrictlyIncreasing (map (λ (r : PostReply). r.line) (cond b posts [])) =
+    elim [ true ↦ λ k h. absurd (omega arith) | false ↦ λ k h. absurd (omega arith) ] in
     cases (1 == p)
 
 reportable : AreReportable lines posts (takes (take.Done 5))

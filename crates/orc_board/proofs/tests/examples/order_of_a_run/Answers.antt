@@ -8,7 +8,8 @@ use Rattle.orc_board.proofs.tests.examples.order_of_a_run.Goals as goal
 pub returns-clause-last : goal.returns-clause-last
 returns-clause-last c = record { front = Put 1 0 0 ∷ []; back = Took 0 0 0 ∷ []; is = refl; others = (λ e. omega arith, tt); zeros = (refl, tt) }
 
-put_last : (front back : List QueueEntry) → Empty 0 ∷ Put 1 0 0 ∷ [] ≡ front ++ back → AllByRecursion (λ e. agent_of_entry e ≢ 0) front → AllByRecursion (λ e. agent_of_entry e ≡ 0) back → ⊥
+put_last : (front back : List QueueEntry) → Empty 0 ∷ Put 1 0 0 ∷ [] ≡ front ++ back → AllByRecursion (λ e. agent_of_entry e ≢ 0) front
+    → AllByRecursion (λ e. agent_of_entry e ≡ 0) back → ⊥
 put_last [] back is others zeros =
     let both : AllByRecursion (λ e. agent_of_entry e ≡ 0) (Empty 0 ∷ Put 1 0 0 ∷ []) = subst (AllByRecursion (λ e. agent_of_entry e ≡ 0)) (sym is) zeros in
     omega (arith, both.1.0)

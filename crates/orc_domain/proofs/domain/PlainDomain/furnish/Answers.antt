@@ -9,10 +9,12 @@ pub returns-clause-pass : goal.returns-clause-pass
 returns-clause-pass g c =
     let same : c.rows.result ≡ (domain_bounds c.args.self.now).rows = c.rows.ensures ∙ ap (λ (b : Bounds). b.rows) c.requires.pass.shape in
     let some : 0 < c.rows.result = let l = c.requires.row in omega (arith, l, same) in
-    still_furnished c.args.self.now c.args.p.now c.requires.pass c.fill.new.p c.fill-2.new.p c.fill.ensures.belongs c.fill-2.ensures.belongs c.args.row c.args.first c.args.second c.requires.fresh c.fill.ensures.adds c.fill-2.ensures.adds
+    still_furnished c.args.self.now c.args.p.now c.requires.pass c.fill.new.p c.fill-2.new.p c.fill.ensures.belongs c.fill-2.ensures.belongs
+    c.args.row c.args.first c.args.second c.requires.fresh c.fill.ensures.adds c.fill-2.ensures.adds
     c.args.slot ((c.args.row + 1) % c.rows.result) (subst (λ n. (c.args.row + 1) % c.rows.result < n) same (mod-lt (c.args.row + 1) some))
 
 pub returns-clause-furnished : goal.returns-clause-furnished
 returns-clause-furnished g c =
-    furnished c.args.self.now c.args.p.now c.requires.pass c.fill.new.p c.fill-2.new.p c.fill.ensures.belongs c.fill-2.ensures.belongs c.args.row c.args.first c.args.second c.requires.fresh c.fill.ensures.adds c.fill-2.ensures.adds
+    furnished c.args.self.now c.args.p.now c.requires.pass c.fill.new.p c.fill-2.new.p c.fill.ensures.belongs c.fill-2.ensures.belongs c.args.row
+    c.args.first c.args.second c.requires.fresh c.fill.ensures.adds c.fill-2.ensures.adds
     c.args.slot c.fill.ensures.fresh c.fill-2.ensures.fresh c.requires.node

@@ -9,4 +9,7 @@ pub returns : goal.returns
 returns g c =
     let k = tie c.args.self.now c.args.p.now c.requires.pass in
     let s = shows c.args.self.now.board c.args.p.now.pass in
-    record { rows = subst (λ n. n ≤ (domain_bounds c.args.self.now).rows) (k.even ∙ nodes_given (domain_numbers c.args.self.now) s.events) (rows_at_most s.rows (domain_bounds c.args.self.now).rows k.once k.inside) }
+    record {
+      rows = subst (λ n. n ≤ (domain_bounds c.args.self.now).rows) (k.even ∙ nodes_given (domain_numbers c.args.self.now) s.events)
+          (rows_at_most s.rows (domain_bounds c.args.self.now).rows k.once k.inside);
+    }

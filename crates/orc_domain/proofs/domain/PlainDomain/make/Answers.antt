@@ -6,20 +6,24 @@ use Rattle.orc_domain.proofs.domain.PlainDomain.make.Goals as goal
 
 pub returns-clause-belongs : goal.returns-clause-belongs
 returns-clause-belongs g c =
-    all_belong (record { board = c.in_ok-board.board }) c.in_ok-passes.passes.items c.in_ok-board.passes.items c.in_ok-passes.ensures.long c.in_ok-passes.ensures.same
+    all_belong (record { board = c.in_ok-board.board }) c.in_ok-passes.passes.items c.in_ok-board.passes.items c.in_ok-passes.ensures.long
+    c.in_ok-passes.ensures.same
     _ c.in_ok-board.ensures.bounds c.in_ok-board.ensures.belongs c.in_ok-passes.ensures.slots c.in_ok-passes.ensures.next c.in_ok-passes.ensures.shape
 
 pub returns-clause-agents : goal.returns-clause-agents
 returns-clause-agents g c =
-    each_at (record { board = c.in_ok-board.board }) c.in_ok-passes.passes.items c.in_ok-board.passes.items c.in_ok-passes.ensures.long c.in_ok-passes.ensures.same
+    each_at (record { board = c.in_ok-board.board }) c.in_ok-passes.passes.items c.in_ok-board.passes.items c.in_ok-passes.ensures.long
+    c.in_ok-passes.ensures.same
     (λ i q. (shows c.in_ok-board.board q).agent ≡ i) c.in_ok-board.ensures.agents
 
 pub returns-clause-idle : goal.returns-clause-idle
 returns-clause-idle g c =
-    all_idle (record { board = c.in_ok-board.board }) c.in_ok-passes.passes.items c.in_ok-board.passes.items c.in_ok-passes.ensures.long c.in_ok-passes.ensures.same
+    all_idle (record { board = c.in_ok-board.board }) c.in_ok-passes.passes.items c.in_ok-board.passes.items c.in_ok-passes.ensures.long
+    c.in_ok-passes.ensures.same
     c.in_ok-board.ensures.fresh c.in_ok-passes.ensures.slots
 
 pub returns-clause-seen : goal.returns-clause-seen
 returns-clause-seen g c =
-    each_pass (record { board = c.in_ok-board.board }) c.in_ok-passes.passes.items c.in_ok-board.passes.items c.in_ok-passes.ensures.long c.in_ok-passes.ensures.same
+    each_pass (record { board = c.in_ok-board.board }) c.in_ok-passes.passes.items c.in_ok-board.passes.items c.in_ok-passes.ensures.long
+    c.in_ok-passes.ensures.same
     (λ q. (shows c.in_ok-board.board q).events ≡ opening_events c.args.seed) c.in_ok-board.ensures.events

@@ -7,9 +7,11 @@ pub loop-rest-preserved : goal.loop-rest-preserved
 loop-rest-preserved g c =
     let some : 0 < length c.loop-rest.rest.items = search rules in
     taking_next c.args.self.now c.args.into.now c.loop-rest.into c.args.others.items c.loop-rest.rest.items c.loop-rest.invariant
-    c.remove-next.result (first_removed c.loop-rest.rest.items c.remove-next.result c.remove-next.ensures.value some) c.remove-next.new.self.items c.remove-next.ensures.items c.absorb.new.into c.absorb.ensures.into c.absorb.ensures.absorbs
+    c.remove-next.result (first_removed c.loop-rest.rest.items c.remove-next.result c.remove-next.ensures.value some) c.remove-next.new.self.items
+    c.remove-next.ensures.items c.absorb.new.into c.absorb.ensures.into c.absorb.ensures.absorbs
 
 pub returns-clause-taken : goal.returns-clause-taken
 returns-clause-taken g c =
     let long : length c.loop-rest.rest.items ≡ 0 = search rules in
-    taking_done c.args.self.now c.args.into.now c.loop-rest.into c.args.others.items c.loop-rest.rest.items c.loop-rest.invariant (nil_from_length c.loop-rest.rest.items long)
+    taking_done c.args.self.now c.args.into.now c.loop-rest.into c.args.others.items c.loop-rest.rest.items c.loop-rest.invariant
+    (nil_from_length c.loop-rest.rest.items long)

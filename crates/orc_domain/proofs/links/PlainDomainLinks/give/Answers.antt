@@ -7,12 +7,14 @@ loop-offset-init g c = tried_none c.args.self.now c.args.p.now c.rows-rows.resul
 
 pub returns-then-take-clause-given : goal.returns-then-take-clause-given
 returns-then-take-clause-given g c =
-    gives c.args.self.now c.args.p.now c.loop-offset.p c.take.new.p c.rows-rows.result c.args.p.now.next c.loop-offset.offset c.loop-offset.invariant c.take.ensures.pass c.take.ensures.same
+    gives c.args.self.now c.args.p.now c.loop-offset.p c.take.new.p c.rows-rows.result c.args.p.now.next c.loop-offset.offset c.loop-offset.invariant
+    c.take.ensures.pass c.take.ensures.same
     _ c.if-take.ensures.took c.furnish.new.p c.args.slot c.args.first c.args.second c.furnish.ensures.furnished c.furnish.result c.furnish.ensures.hold
 
 pub loop-offset-preserved : goal.loop-offset-preserved
 loop-offset-preserved g c =
-    tried_one c.args.self.now c.args.p.now c.loop-offset.p c.take.new.p c.rows-rows.result c.args.p.now.next c.loop-offset.offset c.loop-offset.invariant c.take.ensures.pass c.take.ensures.same c.if-take.ensures.took
+    tried_one c.args.self.now c.args.p.now c.loop-offset.p c.take.new.p c.rows-rows.result c.args.p.now.next c.loop-offset.offset
+    c.loop-offset.invariant c.take.ensures.pass c.take.ensures.same c.if-take.ensures.took
 
 pub returns-clause-lacking : goal.returns-clause-lacking
 returns-clause-lacking g c =

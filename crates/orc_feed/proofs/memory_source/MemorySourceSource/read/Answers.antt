@@ -18,5 +18,12 @@ returns-clause-bytes c =
     let small : length bytes ≤ at + count = search rules in
     drop_of_length-le bytes small in (
       sym left ∙ moved _ _ _ _ _ fits copied,
-      λ none room. at_end none (omega (arith, length-append c.copy_from_slice.new.self (drop count c.args.to.now), length-drop count c.args.to.now, length-take count c.args.to.now, size)),
+      λ none room. at_end none
+          (omega (
+            arith,
+            length-append c.copy_from_slice.new.self (drop count c.args.to.now),
+            length-drop count c.args.to.now,
+            length-take count c.args.to.now,
+            size,
+          )),
     )

@@ -19,7 +19,8 @@ the_put = event_by 1 (Move (Next 0) null (link_to 1)) (Some (Entry (Put 1 7 5)))
 no_other : (next job : ℕ) → IsPutNode (the_put ∷ []) next job 6 → ⊥
 unfolding the_put
 no_other next job put =
-    let note : Some (Entry (Put 1 7 5)) ≡ Some (Entry (Put put.by job 6)) = ap (λ (e : Event FifoNote). e.note) (contains_one the_put put.event put.among) ∙ put.note_is in
+    let note : Some (Entry (Put 1 7 5)) ≡ Some (Entry (Put put.by job 6)) =
+    ap (λ (e : Event FifoNote). e.note) (contains_one the_put put.event put.among) ∙ put.note_is in
     let at : ◌≡◌ {A = ℕ} 5 6 = cc in
     omega (arith, at)
 

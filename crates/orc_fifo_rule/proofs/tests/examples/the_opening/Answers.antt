@@ -8,9 +8,21 @@ returns c = (
     (
       record { fits = (record { node = _; there = refl; mine = refl; unlinked = refl }, omega arith); may_act = tt; in_time = tt; may_enter = tt },
       (
-        record { fits = (refl, record { node = _; there = refl; known = inl refl }); may_act = record { root_is = omega arith; from_is = refl; to_is = refl; ends = refl }; in_time = tt; may_enter = tt },
+        record {
+          fits = (refl, record { node = _; there = refl; known = inl refl });
+          may_act =
+              record { root_is = omega arith; from_is = refl; to_is = refl; ends = refl };
+          in_time = tt;
+          may_enter = tt;
+        },
         (
-          record { fits = (refl, record { node = _; there = refl; known = inl refl }); may_act = record { root_is = omega arith; from_is = refl; to_is = refl; ends = refl }; in_time = tt; may_enter = tt },
+          record {
+            fits = (refl, record { node = _; there = refl; known = inl refl });
+            may_act =
+                record { root_is = omega arith; from_is = refl; to_is = refl; ends = refl };
+            in_time = tt;
+            may_enter = tt;
+          },
           tt,
         ),
       ),

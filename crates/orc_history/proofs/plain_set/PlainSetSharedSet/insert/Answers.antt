@@ -13,7 +13,8 @@ pub invariant_of-p : goal.invariant_of-p
 invariant_of-p c =
     let room : c.p.inside.room ≡ c.args.self.now.room = ap (λ (v : SetPassView). v.room) c.p.view_is ∙ c.requires.same_room in
     let own : c.self.inside.room ≡ c.args.self.now.room = ap (λ (v : SetView). v.room) c.self.view_is in
-    let longer : length c.add_key-yes.new.keys.items ≤ length c.p.inside.keys.items + 1 = omega (arith, length_permutation _ _ c.add_key-yes.ensures.keys, length-with_key c.args.key c.add_key-yes.result c.p.inside.keys.items) in
+    let longer : length c.add_key-yes.new.keys.items ≤ length c.p.inside.keys.items + 1 =
+    omega (arith, length_permutation _ _ c.add_key-yes.ensures.keys, length-with_key c.args.key c.add_key-yes.result c.p.inside.keys.items) in
     let fits : length c.add_key-yes.new.keys.items ≤ c.p.inside.room = omega (arith, longer, c.p.inside.keys.ok.0) in
     let same = c.p.invariant.0.keys_are in
     rw c.push_reserved.ensures.items (

@@ -7,7 +7,8 @@ use Rattle.orc_history.proofs.plain_set.PlainSetSharedSet.remove.Goals as goal
 pub invariant_of-p : goal.invariant_of-p
 invariant_of-p c =
     let left = c.take_key-yes.ensures.keys in
-    let fits : length c.take_key-yes.new.keys.items ≤ c.p.inside.room = omega (arith, ap length left, length-without_key c.args.key c.take_key-yes.result c.p.inside.keys.items, c.p.invariant.0.keys_fit) in
+    let fits : length c.take_key-yes.new.keys.items ≤ c.p.inside.room =
+    omega (arith, ap length left, length-without_key c.args.key c.take_key-yes.result c.p.inside.keys.items, c.p.invariant.0.keys_fit) in
     let same = c.p.invariant.0.keys_are in
     rw c.push_reserved.ensures.items (
       HoldsSet-snoc _ _ _ _ (Removed _ _ _) c.p.invariant.0 fits c.take_key-yes.ensures.rising

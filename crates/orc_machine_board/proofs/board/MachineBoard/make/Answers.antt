@@ -1,7 +1,8 @@
 use Rattle.std.proofs.Common.{ap, arith, length, refl, subst, sym, ◌<◌, ◌∙◌, ◌≡◌}
 use Rattle.std.specs.Prelude.{slice_index_or}
-use Rattle.orc_machine_board.proofs.Opening.{long_words, new_keeps, opens}
+use Rattle.orc_machine_board.proofs.Opening.{long_words, new_keeps, opening_nothing, opens, seed_roots}
 use Rattle.orc_machine_board.specs.Laws.Steps.{in_range, long_run}
+use Rattle.orc_machine_board.specs.Passes.{HasNothing}
 use Rattle.orc_machine_board.specs.Rules.{bounds_in, counted_rules, heap_numbers, machine_opening}
 use Rattle.orc_machine_board.specs.Views.{Keeps}
 use Rattle.orc_machine_board.specs.declared.machine.MachineShape.{MachineShape}
@@ -45,6 +46,21 @@ returns-clause-journal g c = λ i p lt.
     let lt2 = subst (λ n. i < n) c.in_ok-passes.ensures.long lt in
     let e = c.in_ok-passes.ensures.same i p p.pass lt2 in
     ap (λ z. z.seat.me.0.seen) e ∙ (c.in_ok-words-2.ensures.seen i p.pass lt2).0
+
+pub returns-clause-idle : goal.returns-clause-idle
+returns-clause-idle g c = λ i p lt.
+    let lt2 = subst (λ n. i < n) c.in_ok-passes.ensures.long lt in
+    let e = c.in_ok-passes.ensures.same i p p.pass lt2 in
+    let b = bounds_of c.args.shape.now in
+    let x = slice_index_or c.in_ok-passes.passes.items i p in
+    let agent = ap (λ z. z.agent) e ∙ c.in_ok-words-2.ensures.agents i p.pass lt2 in
+    let count = c.in_ok-words-2.ensures.passes in
+    let below : x.pass.agent < b.agents = omega (arith, agent, count, lt2) in
+    let k : MachineShape _ = record { shape = c.args.shape.now; seed = c.args.seed } in
+    let owned = c.in_ok-words-2.ensures.owns i p.pass lt2 in
+    let own = x.pass.mine ∙ (ap (λ z. z.own) e ∙ (owned ∙ ap ((counted_rules {N = _}).own k ((counted_rules {N = _}).opening k)) (sym agent))) in
+    subst HasNothing (sym own) (opening_nothing b c.args.seed x.pass.agent (in_range c.args.shape.now)
+    (seed_roots g.D.Discipline k c.requires.holds c.args.seed c.requires.seed) below)
 
 pub returns-clause-absorbed : goal.returns-clause-absorbed
 returns-clause-absorbed g c = λ i p lt.

@@ -8,7 +8,13 @@ use Rattle.orc_projection.proofs.tests.examples.mirrors.Goals as goal
 pub returns-clause-new : goal.returns-clause-new
 returns-clause-new c =
     projection_mirrors {N = Unit {0}} (record { rows = 2; roots = 1; agents = 1; limit = 8 }) []
-    (record { rows = (omega arith, omega arith); roots = (omega arith, omega arith); agents = (omega arith, omega arith); limit = (omega arith, omega arith) }) tt tt
+    (record {
+      rows = (omega arith, omega arith);
+      roots = (omega arith, omega arith);
+      agents = (omega arith, omega arith);
+      limit =
+          (omega arith, omega arith);
+    }) tt tt
 
 abbrev mark_of : Option Link → Bool
 mark_of None = false

@@ -30,7 +30,8 @@ returns g c =
     let is_u = g.met.L.Links.seen_is d c.settle.new.p settle.pass in
     let all = g.met.L.Links.allowed d c.settle.new.p settle.pass in
     let below = (g.met.L.Links.agents_below d c.settle.new.p settle.pass).1 in
-    let ks = known n (g.L.Links.opening d) s.seen c.args.self.now.made (g.met.L.Links.opens d c.args.p.now pass) (g.met.L.Links.allowed d c.args.p.now pass) (g.met.L.Links.obeys d c.args.p.now pass) in
+    let ks = known n (g.L.Links.opening d) s.seen c.args.self.now.made (g.met.L.Links.opens d c.args.p.now pass)
+    (g.met.L.Links.allowed d c.args.p.now pass) (g.met.L.Links.obeys d c.args.p.now pass) in
     let agents = g.L.Links.agents d in
     let by = g.L.Links.agent_of in
     let events = g.L.Links.events d in
@@ -50,5 +51,6 @@ returns g c =
       gives = any_gives _ c.args.turns s u any;
       tries = omega (arith, any_tries _ c.args.turns s u any);
       tail = put_tail n agents by events adds s u j m grows is_s is_u all below c.args.job c.args.turns r ks l;
-      settled = λ alone. settle.settled (subst (λ (x : ℕ). IsAlone by x k m) (sym before.call.puts.agent) (alone_later by s.agent j k m done.later settle.later alone));
+      settled = λ alone. settle.settled
+          (subst (λ (x : ℕ). IsAlone by x k m) (sym before.call.puts.agent) (alone_later by s.agent j k m done.later settle.later alone));
     }

@@ -44,5 +44,6 @@ returns g c =
       again = take_again n agents by events adds s u j m grows is_s is_u all below c.args.turns r l;
       gives = any_gives 0 c.args.turns s u any;
       tries = omega (arith, any_tries 0 c.args.turns s u any);
-      settled = λ alone. settle.settled (subst (λ (x : ℕ). IsAlone by x k m) (sym before.call.puts.agent) (alone_later by s.agent j k m done.later settle.later alone));
+      settled = λ alone. settle.settled
+          (subst (λ (x : ℕ). IsAlone by x k m) (sym before.call.puts.agent) (alone_later by s.agent j k m done.later settle.later alone));
     }

@@ -20,4 +20,5 @@ returns-clause-licence g c =
     let all = g.met.L.Links.allowed d c.take.new.p e.pass in
     let below = (g.met.L.Links.agents_below d c.take.new.p e.pass).1 in
     let adds = g.met.L.Links.steps_add d in
-    take_licence n (g.L.Links.agents d) g.L.Links.agent_of (g.L.Links.events d) adds s u j m grows is_s is_u all below c.args.turns (position_of (run_heap n (g.L.Links.opening d)) 0) (g.L.Links.lacking d s.agent m) c.take.result e.again
+    take_licence n (g.L.Links.agents d) g.L.Links.agent_of (g.L.Links.events d) adds s u j m grows is_s is_u all below c.args.turns
+    (position_of (run_heap n (g.L.Links.opening d)) 0) (g.L.Links.lacking d s.agent m) c.take.result e.again

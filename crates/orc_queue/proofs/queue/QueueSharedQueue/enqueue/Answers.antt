@@ -20,5 +20,8 @@ returns-clause-licence g c =
     let below = (g.met.L.Links.agents_below d c.put.new.p e.pass).1 in
     let adds = g.met.L.Links.steps_add d in
     let made = c.args.self.now.made in
-    let ks = known n (g.L.Links.opening d) s.seen made (g.met.L.Links.opens d c.args.p.now pass) (g.met.L.Links.allowed d c.args.p.now pass) (g.met.L.Links.obeys d c.args.p.now pass) in
-    put_licence n (g.L.Links.agents d) g.L.Links.agent_of (g.L.Links.events d) adds s u j m grows is_s is_u all below c.args.turns (g.L.Links.opening d) made (g.met.L.Links.opens d c.put.new.p e.pass) ks (g.L.Links.lacking d s.agent m) c.put.result e.no_turns e.again e.no_node e.positions
+    let ks = known n (g.L.Links.opening d) s.seen made (g.met.L.Links.opens d c.args.p.now pass) (g.met.L.Links.allowed d c.args.p.now pass)
+    (g.met.L.Links.obeys d c.args.p.now pass) in
+    put_licence n (g.L.Links.agents d) g.L.Links.agent_of (g.L.Links.events d) adds s u j m grows is_s is_u all below c.args.turns
+    (g.L.Links.opening d) made (g.met.L.Links.opens d c.put.new.p e.pass) ks (g.L.Links.lacking d s.agent m) c.put.result e.no_turns e.again
+    e.no_node e.positions

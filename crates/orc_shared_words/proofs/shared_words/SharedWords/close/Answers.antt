@@ -9,4 +9,6 @@ returns-clause-whole g c =
     let v = c.args.pass.seat.me.0 in
     let key = c.args.self.table.shared.key in
     subst (λ k. Whole r k (g.D.Discipline.holds (g.M.Machine.numbers k)) (g.D.Discipline.may (g.M.Machine.numbers k)) v.seen c.new.result) c.args.self.shaped
-    (subst (Whole r key _ _ v.seen) (sym c.new.ensures) (closes r key (g.D.Discipline.holds (g.M.Machine.numbers key)) (g.D.Discipline.may (g.M.Machine.numbers key)) _ v _ _ (subst (λ k. OwnsAll r k v) (sym c.args.self.shaped) c.requires.all) c.close_with.ensures.values.2))
+    (subst (Whole r key _ _ v.seen) (sym c.new.ensures)
+    (closes r key (g.D.Discipline.holds (g.M.Machine.numbers key)) (g.D.Discipline.may (g.M.Machine.numbers key)) _ v _ _
+    (subst (λ k. OwnsAll r k v) (sym c.args.self.shaped) c.requires.all) c.close_with.ensures.values.2))

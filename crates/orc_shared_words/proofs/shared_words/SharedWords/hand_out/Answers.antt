@@ -6,5 +6,6 @@ pub split_seat-seat-requires : goal.split_seat-seat-requires
 split_seat-seat-requires g c = (
   search rules,
   c.args.self.now.some,
-  hands g.M.Machine.rules _ _ _ _ _ c.args.first.now.agent c.args.number c.args.first.now.named c.requires.free.0 (subst (λ k. c.args.number < g.M.Machine.rules.agents k) (sym c.args.self.now.shaped) c.requires.free.1),
+  hands g.M.Machine.rules _ _ _ _ _ c.args.first.now.agent c.args.number c.args.first.now.named c.requires.free.0
+      (subst (λ k. c.args.number < g.M.Machine.rules.agents k) (sym c.args.self.now.shaped) c.requires.free.1),
 )

@@ -12,9 +12,13 @@ keep-requires-clause-room g c =
     let s = c.make_step-n.ensures.step in
     let j = v.seen ++ s.between in
     let one : s.agent ≡ p.agent = one_number v.agent p.agent s.agent p.named s.is in
-    let may : r.allowed k s.agent op (r.own k j s.agent) = subst (r.allowed k s.agent op) (sym s.met.mine) (subst (λ z. r.allowed k z op v.own) (sym one) (subst (r.allowed k p.agent op) (sym p.mine) c.requires.allowed)) in
-    let room : g.M.Machine.has_room k op (r.own k j s.agent) s.found = subst (g.M.Machine.has_room k op (r.own k j s.agent)) (sym s.read) (g.M.Machine.leaves_room k j s.agent op s.met.lawful may) in (
+    let may : r.allowed k s.agent op (r.own k j s.agent) =
+    subst (r.allowed k s.agent op) (sym s.met.mine)
+    (subst (λ z. r.allowed k z op v.own) (sym one) (subst (r.allowed k p.agent op) (sym p.mine) c.requires.allowed)) in
+    let room : g.M.Machine.has_room k op (r.own k j s.agent) s.found =
+    subst (g.M.Machine.has_room k op (r.own k j s.agent)) (sym s.read) (g.M.Machine.leaves_room k j s.agent op s.met.lawful may) in (
       s.found,
-      subst (λ z. c.make_step-n.result ≡ r.answer k p.agent op z s.found) p.mine (subst (λ z. c.make_step-n.result ≡ r.answer k z op v.own s.found) one s.answers),
+      subst (λ z. c.make_step-n.result ≡ r.answer k p.agent op z s.found) p.mine
+          (subst (λ z. c.make_step-n.result ≡ r.answer k z op v.own s.found) one s.answers),
       subst (λ z. g.M.Machine.has_room k op z s.found) p.mine (subst (λ z. g.M.Machine.has_room k op z s.found) s.met.mine room),
     )

@@ -7,7 +7,8 @@ returns-then-gate-eq0-clause-belongs g c =
     record {
       table = c.step-gate.ensures.table ∙ c.requires.belongs.table;
       keeps = take_keeps g.D.Discipline _ _ _ _ _ _ c.args.p.now.looked
-          (Some c.args.row) None c.requires.belongs.keeps c.step-gate.ensures.agent c.args.row _ c.if-gate-eq0.true c.requires.row refl c.step-gate.ensures.step;
+          (Some c.args.row) None c.requires.belongs.keeps c.step-gate.ensures.agent c.args.row _ c.if-gate-eq0.true c.requires.row refl
+          c.step-gate.ensures.step;
     }
 
 pub returns-then-gate-eq0-clause-won : goal.returns-then-gate-eq0-clause-won

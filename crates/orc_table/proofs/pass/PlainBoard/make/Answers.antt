@@ -13,10 +13,16 @@ pub make-requires-clause-opening : goal.make-requires-clause-opening
 make-requires-clause-opening g c = opens g.D.Discipline c.args.shape.now c.args.seed c.requires.holds c.requires.seed
 
 pub make-requires-clause-some : goal.make-requires-clause-some
-make-requires-clause-some g c = let e : length c.as_slice.result.now ≡ places (bounds_of c.args.shape.now) = ap length c.as_slice.ensures.value ∙ c.in_ok-words.ensures.long in omega (arith, e)
+make-requires-clause-some g c = let e : length c.as_slice.result.now ≡ places (bounds_of c.args.shape.now) = ap length c.as_slice.ensures.value
+    ∙ c.in_ok-words.ensures.long in omega (arith, e)
 
 pub invariant_of-result : goal.invariant_of-result
-invariant_of-result g c = record { sized = c.in_ok-words-2.ensures.words ∙ (ap length c.as_slice.ensures.value ∙ (c.in_ok-words.ensures.long ∙ ap (λ q. places (bounds_of q.shape)) (sym c.in_ok-words-2.ensures.shape))) }
+invariant_of-result g c =
+    record {
+      sized =
+          c.in_ok-words-2.ensures.words
+          ∙ (ap length c.as_slice.ensures.value ∙ (c.in_ok-words.ensures.long ∙ ap (λ q. places (bounds_of q.shape)) (sym c.in_ok-words-2.ensures.shape)));
+    }
 
 pub returns-clause-agents : goal.returns-clause-agents
 returns-clause-agents g c = λ i p lt.
@@ -42,7 +48,9 @@ returns-clause-belongs g c = λ i p lt.
     let below : x.pass.agent < (bounds_of c.args.shape.now).agents = omega (arith, agent, count, lt2) in
     record {
       table = ap (λ z. z.seat.table_id) e ∙ c.in_ok-words-2.ensures.table i p.pass lt2;
-      keeps = new_keeps d (record { shape = c.args.shape.now; seed = c.args.seed }) c.in_ok-words-2.words.shape c.in_ok-words-2.ensures.shape (opens d c.args.shape.now c.args.seed c.requires.holds c.requires.seed) c.requires.holds x.pass.seat.me.0 x.pass.agent x.pass.named below seen x.fresh (c.in_ok-passes.ensures.fresh i p lt);
+      keeps = new_keeps d (record { shape = c.args.shape.now; seed = c.args.seed }) c.in_ok-words-2.words.shape c.in_ok-words-2.ensures.shape
+          (opens d c.args.shape.now c.args.seed c.requires.holds c.requires.seed) c.requires.holds x.pass.seat.me.0 x.pass.agent x.pass.named below
+          seen x.fresh (c.in_ok-passes.ensures.fresh i p lt);
     }
 
 pub returns-clause-events : goal.returns-clause-events
@@ -51,4 +59,5 @@ returns-clause-events g c = λ i p lt.
     let lt2 = subst (λ n. i < n) c.in_ok-passes.ensures.long lt in
     let seen = ap (λ z. z.seat.me.0.seen) e ∙ (c.in_ok-words-2.ensures.seen i p.pass lt2).0 in
     let shape = c.in_ok-words-2.ensures.shape in
-    (λ j. project (bounds_of (shape j).shape) (seen j)) ∙ opened_events g.D.Discipline c.args.shape.now c.args.seed (has_roots g.D.Discipline.may (numbers (bounds_of c.args.shape.now)) c.args.seed c.requires.seed)
+    (λ j. project (bounds_of (shape j).shape) (seen j)) ∙ opened_events g.D.Discipline c.args.shape.now c.args.seed
+    (has_roots g.D.Discipline.may (numbers (bounds_of c.args.shape.now)) c.args.seed c.requires.seed)

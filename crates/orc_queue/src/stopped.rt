@@ -1,0 +1,54 @@
+//! A put that stops half-way, as a thread does that is stopped there: what tests of a lagging tail begin with.
+
+ghost use Rattle.std.specs.Prelude.{◌≡◌, ◌⊎◌, None};
+ghost use mathlib.Core.List.{IsPrefix};
+ghost use Rattle.orc_heap.specs.Seats.{IsIdle};
+ghost use Rattle.orc_heap.specs.Slots.{IsFree};
+ghost use Rattle.orc_queue.specs.Turns.{HasDummy, HoldsNode};
+
+use crate::put::{PutTurn, link_node};
+use crate::swings::TAIL;
+use orc_fifo_rule::Fifo;
+use orc_heap::{At, Held, Links, Looked};
+
+// Puts a job, and stops before the tail is swung on.
+pub(crate) fn stop_a_put<L: Links<Rule = Fifo>>(links: &L, p: &mut L::Pass, job: u64) -> Option<u64>
+    requires pass { L.belongs links.now p.old }
+    requires made { HasDummy (L.numbers links.now) (L.opening links.now) }
+    requires idle { IsIdle (L.seat links.now p.old) }
+    ensures pass { L.belongs links.now p.new }
+    ensures later { IsPrefix (L.journal p.old) (L.journal p.new) }
+    ensures idle { IsIdle (L.seat links.now p.new) }
+{
+    let Ok(node) = links.give(p, 1, job, 0) else {
+        return None;
+    };
+    let turn = link_at_tail(links, p, &node, job);
+    links.release(p, node);
+    match turn {
+        PutTurn::Put(at) => Some(at),
+        PutTurn::Full | PutTurn::Over => None,
+    }
+}
+
+// Links a fresh node behind the node that the tail names, and leaves the tail there.
+fn link_at_tail<L: Links<Rule = Fifo>>(links: &L, p: &mut L::Pass, node: &Held, job: u64) -> PutTurn
+    requires pass { L.belongs links.now p.old }
+    requires made { HasDummy (L.numbers links.now) (L.opening links.now) }
+    requires node { HoldsNode (L.numbers links.now) job node.now (L.seat links.now p.old) }
+    requires slot { IsFree (L.seat links.now p.old).slots 2 }
+    ensures pass { L.belongs links.now p.new }
+    ensures later { IsPrefix (L.journal p.old) (L.journal p.new) }
+    ensures slots { (L.seat links.now p.new).slots ≡ (L.seat links.now p.old).slots }
+    ensures fresh { ((L.seat links.now p.new).fresh ≡ (L.seat links.now p.old).fresh) ⊎ ((L.seat links.now p.new).fresh ≡ None) }
+{
+    match links.look(p, &At::Root(TAIL), 2) {
+        Looked::Stable(_, Some(tail)) => {
+            let turn = link_node(links, p, node, job, &tail);
+            links.release(p, tail);
+            turn
+        }
+        Looked::Stable(_, None) => unreachable!(),
+        Looked::Moved => PutTurn::Over,
+    }
+}

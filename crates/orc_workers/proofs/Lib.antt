@@ -1,0 +1,9 @@
+pub mod Teams
+pub mod Lessons
+pub mod Resting
+pub mod Learned
+pub mod Blocks
+pub mod Boards
+pub mod Rooms
+pub mod CameBack
+pub mod Over

@@ -1,0 +1,5 @@
+pub mod Desks
+pub mod Team
+pub mod Seats
+pub mod Learning
+pub mod CameBack

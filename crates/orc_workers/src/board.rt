@@ -1,0 +1,216 @@
+//! A whole run.
+ghost use Rattle.std.specs.Prelude.{◌≡◌, ◌+◌, ◌≤◌, [], length, IfOk, OnOk, OnErr, vec_len, vec_capacity};
+ghost use Rattle.std.specs.List.{AllByRecursion};
+ghost use Rattle.orc_history.specs.QueueHistory.{IsLegalQueue, waiting_after};
+ghost use Rattle.orc_history.specs.SetHistory.{IsLegalSet};
+ghost use Rattle.orc_jobs.specs.GoodLines.{AreGood};
+ghost use Rattle.orc_jobs.specs.Line.{posts_in};
+ghost use Rattle.orc_board.specs.Stretches.{queue_view, set_view};
+ghost use Rattle.orc_board.specs.Follows.{Follows};
+ghost use Rattle.orc_board.specs.Reportable.{AreReportable};
+ghost use Rattle.orc_workers.specs.Desks.{IsFreshDesk, AreFresh, AreIdle, HaveSeenTheSame, queue_seen, set_seen, queue_history, set_history};
+ghost use Rattle.orc_workers.specs.Team.{IsReady};
+ghost use Rattle.orc_workers.specs.CameBack.{AreNumbered, IsNew, AllCameBack};
+
+use crate::learning::learn_from_team;
+use crate::reserve::{Reserved, reserve};
+use crate::seating::{hand_back, seat};
+use crate::team::{Worker, run_workers};
+use crate::work::count_posts;
+use orc_board::{Desk, Gate, Replies, TakeList, take_rest};
+use orc_fault::NoMemory;
+use orc_history::{LearnQueue, LearnSet};
+use orc_jobs::Lines;
+use std::alloc::Global;
+use std::sync::Wait;
+use std::sync::atomic::AtomicU64;
+use std::thread::Threads;
+
+/// What a run gives back: one idle desk per agent in order, and all replies.
+#[derive(Drop)]
+pub struct Finished<A, B> {
+    pub desks: Vec<Desk<A, B>>,
+    pub replies: Replies,
+}
+
+// The caller's desk and replies, and the workers in order.
+#[derive(Drop)]
+pub(crate) struct Seated<A, B> {
+    pub(crate) desk: Desk<A, B>,
+    pub(crate) takes: TakeList,
+    pub(crate) workers: Vec<Worker<A, B>>,
+}
+
+/// Runs all posters and takers at these desks, each on a thread of its own where one can be started, and then takes what they
+/// left. A worker whose thread can't be started is run by the caller: first such posters, then such takers. The desks are one per
+/// agent in order: the caller's, those of posters 1 to `posters`, and those of takers 1 to `takers`. They come back so, and each
+/// pass has then seen all that happened.
+///
+/// # Errors
+///
+/// `NoMemory` where memory is refused. All of it is taken before the first worker starts: the desks stay as they were, and both
+/// histories are empty.
+pub fn run_at_desks<
+    R: Threads + Wait + Sync,
+    Q: LearnQueue + Sync,
+    S: LearnSet + Sync,
+    G: Gate + Sync,
+>(
+    rt: &R,
+    alloc: Global,
+    lines: &Lines,
+    posters: u32,
+    takers: u32,
+    queue: &Q,
+    set: &S,
+    desks: &mut Vec<Desk<Q::Pass, S::Pass>>,
+    gate: &G,
+) -> Result<Replies, NoMemory>
+where
+    Q::Pass: Send,
+    S::Pass: Send,
+    requires posters { 1 ≤ posters }
+    requires good { AreGood lines.now }
+    requires desks { AreFresh Q.SharedQueue S.SharedSet queue.now set.now 0 desks.old.items }
+    requires count { vec_len desks.old ≡ 1 + (posters + takers) }
+    requires agents { (Q.agents queue.now ≡ 1 + (posters + takers)) × (S.agents set.now ≡ 1 + (posters + takers)) }
+    requires first { Q.first queue.now ≡ 0 }
+    ensures idle { IfOk result (λ r. AreIdle Q.SharedQueue S.SharedSet queue.now set.now 0 desks.new.items) }
+    ensures all { IfOk result (λ r. length desks.new.items ≡ 1 + (posters + takers)) }
+    ensures seen { IfOk result (λ r. HaveSeenTheSame Q.SharedQueue S.SharedSet desks.new.items) }
+    ensures follows { IfOk result (λ r. Follows (queue_view Q.SharedQueue queue.now) (set_view S.SharedSet set.now)
+        lines.now posters takers r.posts.items r.takes.items
+        (queue_seen Q.SharedQueue desks.new.items) (set_seen S.SharedSet desks.new.items)) }
+    ensures queue_legal { IfOk result (λ r. IsLegalQueue 0 (queue_history Q.SharedQueue queue.now desks.new.items)) }
+    ensures set_legal { IfOk result (λ r. IsLegalSet (set_history S.SharedSet set.now desks.new.items)) }
+    ensures empty { IfOk result (λ r. waiting_after [] (queue_history Q.SharedQueue queue.now desks.new.items) ≡ []) }
+    ensures reportable { IfOk result (λ r. AreReportable lines.now r.posts.items r.takes.items) }
+    ensures kept { OnErr result (desks.new ≡ desks.old) }
+{
+    let Reserved {
+        rooms,
+        waiting,
+        done,
+        own,
+        mut posts,
+        mut takes,
+    } = reserve(
+        alloc,
+        posters,
+        desks.len() - 1,
+        lines.len(),
+        count_posts(lines),
+    )?;
+    let desk = desks.remove(0);
+    let waiting = seat(queue, desks, rooms, waiting);
+    let Seated {
+        desk,
+        takes: own,
+        workers,
+    } = run_seated(
+        rt, queue, set, posters, takers, lines, gate, desk, own, waiting, done,
+    );
+    takes.append(own);
+    let Ok(()) = desks.push(desk) else {
+        unreachable!()
+    };
+    hand_back(workers, desks, &mut posts, &mut takes);
+    Ok(Replies { posts, takes })
+}
+
+/// The same, where the desks are handed in and handed back by value.
+///
+/// # Errors
+///
+/// `NoMemory` where memory is refused, before the first worker starts: both histories are empty. The desks are let go.
+pub fn run_board<
+    R: Threads + Wait + Sync,
+    Q: LearnQueue + Sync,
+    S: LearnSet + Sync,
+    G: Gate + Sync,
+>(
+    rt: &R,
+    alloc: Global,
+    lines: &Lines,
+    posters: u32,
+    takers: u32,
+    queue: &Q,
+    set: &S,
+    mut desks: Vec<Desk<Q::Pass, S::Pass>>,
+    gate: &G,
+) -> Result<Finished<Q::Pass, S::Pass>, NoMemory>
+where
+    Q::Pass: Send,
+    S::Pass: Send,
+    requires posters { 1 ≤ posters }
+    requires good { AreGood lines.now }
+    requires desks { AreFresh Q.SharedQueue S.SharedSet queue.now set.now 0 desks.items }
+    requires count { vec_len desks ≡ 1 + (posters + takers) }
+    requires agents { (Q.agents queue.now ≡ 1 + (posters + takers)) × (S.agents set.now ≡ 1 + (posters + takers)) }
+    requires first { Q.first queue.now ≡ 0 }
+    ensures idle { IfOk result (λ f. AreIdle Q.SharedQueue S.SharedSet queue.now set.now 0 f.desks.items) }
+    ensures all { IfOk result (λ f. length f.desks.items ≡ 1 + (posters + takers)) }
+    ensures seen { IfOk result (λ f. HaveSeenTheSame Q.SharedQueue S.SharedSet f.desks.items) }
+    ensures follows { IfOk result (λ f. Follows (queue_view Q.SharedQueue queue.now) (set_view S.SharedSet set.now)
+        lines.now posters takers f.replies.posts.items f.replies.takes.items
+        (queue_seen Q.SharedQueue f.desks.items) (set_seen S.SharedSet f.desks.items)) }
+    ensures queue_legal { IfOk result (λ f. IsLegalQueue 0 (queue_history Q.SharedQueue queue.now f.desks.items)) }
+    ensures set_legal { IfOk result (λ f. IsLegalSet (set_history S.SharedSet set.now f.desks.items)) }
+    ensures empty { IfOk result (λ f. waiting_after [] (queue_history Q.SharedQueue queue.now f.desks.items) ≡ []) }
+    ensures reportable { IfOk result (λ f. AreReportable lines.now f.replies.posts.items f.replies.takes.items) }
+{
+    let replies = run_at_desks(
+        rt, alloc, lines, posters, takers, queue, set, &mut desks, gate,
+    )?;
+    Ok(Finished { desks, replies })
+}
+
+// Runs the workers, and then takes what they left. All memory has been taken before.
+pub(crate) fn run_seated<
+    R: Threads + Wait + Sync,
+    Q: LearnQueue + Sync,
+    S: LearnSet + Sync,
+    G: Gate + Sync,
+>(
+    rt: &R,
+    queue: &Q,
+    set: &S,
+    posters: u32,
+    takers: u32,
+    lines: &Lines,
+    gate: &G,
+    mut desk: Desk<Q::Pass, S::Pass>,
+    mut takes: TakeList,
+    waiting: Vec<Worker<Q::Pass, S::Pass>>,
+    done: Vec<Worker<Q::Pass, S::Pass>>,
+) -> Seated<Q::Pass, S::Pass>
+where
+    Q::Pass: Send,
+    S::Pass: Send,
+    requires good { AreGood lines.now }
+    requires room { (vec_len done ≡ 0) × (done.items ≡ []) × (vec_len waiting ≤ vec_capacity done) }
+    requires desk { IsFreshDesk Q.SharedQueue S.SharedSet queue.now set.now 0 desk }
+    requires none { takes.items ≡ [] }
+    requires enough { length lines.now ≤ takes.spare }
+    requires ready { AllByRecursion (IsReady Q.SharedQueue S.SharedSet queue.now set.now lines.now posters) waiting.items }
+    requires begin { AllByRecursion (IsNew Q.SharedQueue S.SharedSet queue.now set.now) waiting.items }
+    requires few { AllByRecursion (λ w. (w.posts.spare ≤ length lines.now) × (w.takes.spare ≤ posts_in lines.now)) waiting.items }
+    requires numbered { AreNumbered 1 waiting.items }
+    requires count { length waiting.items ≡ posters + takers }
+    requires agents { (Q.agents queue.now ≡ 1 + (posters + takers)) × (S.agents set.now ≡ 1 + (posters + takers)) }
+    ensures back { AllCameBack Q.SharedQueue S.SharedSet queue.now set.now lines.now posters takers result.desk result.takes.items result.workers.items }
+    ensures len { vec_len result.workers ≡ vec_len waiting }
+    ensures own { length result.takes.items + result.takes.spare ≡ takes.spare }
+{
+    let _ = takers;
+    let left = AtomicU64::new(u64::from(posters));
+    let mut workers = run_workers(rt, queue, set, posters, lines, gate, &left, waiting, done);
+    learn_from_team(queue, set, 0, &mut desk, &mut workers);
+    take_rest(rt, queue, set, &mut desk, 0, lines, gate, &mut takes);
+    learn_from_team(queue, set, 0, &mut desk, &mut workers);
+    Seated {
+        desk,
+        takes,
+        workers,
+    }
+}

@@ -1,0 +1,78 @@
+//! A desk learns from the desks of all others.
+ghost use Rattle.std.specs.Prelude.{◌≡◌, ◌≢◌, vec_len};
+ghost use Rattle.orc_history.specs.Journals.{own_of};
+ghost use Rattle.std.specs.List.{AllByRecursion};
+ghost use Rattle.orc_history.specs.QueueHistory.{agent_of_entry};
+ghost use Rattle.orc_history.specs.SetHistory.{agent_of_set_entry};
+ghost use Rattle.orc_board.specs.Desk.{IsDesk};
+ghost use Rattle.orc_board.specs.Follows.{Pointwise};
+ghost use Rattle.orc_workers.specs.Learning.{IsKnown, IsOther, SameWorker, Learned, LearnedAll};
+
+use crate::team::Worker;
+use orc_board::Desk;
+use orc_history::{LearnQueue, LearnSet};
+
+// The desk learns from each of the others once.
+pub(crate) fn learn_once<Q: LearnQueue, S: LearnSet>(
+    queue: &Q,
+    set: &S,
+    me: u32,
+    desk: &mut Desk<Q::Pass, S::Pass>,
+    others: &mut [Worker<Q::Pass, S::Pass>],
+)
+    requires desk { IsDesk Q.SharedQueue S.SharedSet queue.now set.now me desk.old }
+    requires others { AllByRecursion (IsOther Q.SharedQueue S.SharedSet queue.now set.now me) others.old }
+    ensures desk { IsDesk Q.SharedQueue S.SharedSet queue.now set.now me desk.new }
+    ensures others { AllByRecursion (IsOther Q.SharedQueue S.SharedSet queue.now set.now me) others.new }
+    ensures same { Pointwise SameWorker others.old others.new }
+    ensures queue { Learned (λ w. w.agent) (λ w. Q.journal w.desk.queue) (λ a j. own_of agent_of_entry a (Q.history queue.now j)) me (Q.journal desk.old.queue) (Q.journal desk.new.queue) others.old others.new }
+    ensures set { Learned (λ w. w.agent) (λ w. S.journal w.desk.set) (λ a j. own_of agent_of_set_entry a (S.history set.now j)) me (S.journal desk.old.set) (S.journal desk.new.set) others.old others.new }
+{
+    let Some((first, rest)) = others.split_first_mut() else {
+        return;
+    };
+    queue.learn(&mut desk.queue, &mut first.desk.queue);
+    set.learn(&mut desk.set, &mut first.desk.set);
+    learn_once(queue, set, me, desk, rest);
+}
+
+// The desk learns from each of the others twice over.
+pub(crate) fn learn_all<Q: LearnQueue, S: LearnSet>(
+    queue: &Q,
+    set: &S,
+    me: u32,
+    desk: &mut Desk<Q::Pass, S::Pass>,
+    others: &mut [Worker<Q::Pass, S::Pass>],
+)
+    requires desk { IsDesk Q.SharedQueue S.SharedSet queue.now set.now me desk.old }
+    requires others { AllByRecursion (IsOther Q.SharedQueue S.SharedSet queue.now set.now me) others.old }
+    ensures desk { IsDesk Q.SharedQueue S.SharedSet queue.now set.now me desk.new }
+    ensures others { AllByRecursion (IsOther Q.SharedQueue S.SharedSet queue.now set.now me) others.new }
+    ensures same { Pointwise SameWorker others.old others.new }
+    ensures queue { LearnedAll (λ w. w.agent) (λ w. Q.journal w.desk.queue) (λ a j. own_of agent_of_entry a (Q.history queue.now j)) me (Q.journal desk.old.queue) (Q.journal desk.new.queue) others.old others.new }
+    ensures set { LearnedAll (λ w. w.agent) (λ w. S.journal w.desk.set) (λ a j. own_of agent_of_set_entry a (S.history set.now j)) me (S.journal desk.old.set) (S.journal desk.new.set) others.old others.new }
+{
+    learn_once(queue, set, me, desk, others);
+    learn_once(queue, set, me, desk, others)
+}
+
+// The same for the workers of a vector.
+pub(crate) fn learn_from_team<Q: LearnQueue, S: LearnSet>(
+    queue: &Q,
+    set: &S,
+    me: u32,
+    desk: &mut Desk<Q::Pass, S::Pass>,
+    others: &mut Vec<Worker<Q::Pass, S::Pass>>,
+)
+    requires desk { IsDesk Q.SharedQueue S.SharedSet queue.now set.now me desk.old }
+    requires others { AllByRecursion (IsOther Q.SharedQueue S.SharedSet queue.now set.now me) others.old.items }
+    ensures desk { IsDesk Q.SharedQueue S.SharedSet queue.now set.now me desk.new }
+    ensures known { IsKnown Q.SharedQueue S.SharedSet queue.now set.now (Q.agents queue.now) (S.agents set.now) desk.new }
+    ensures others { AllByRecursion (IsOther Q.SharedQueue S.SharedSet queue.now set.now me) others.new.items }
+    ensures same { Pointwise SameWorker others.old.items others.new.items }
+    ensures len { vec_len others.new ≡ vec_len others.old }
+    ensures queue { LearnedAll (λ w. w.agent) (λ w. Q.journal w.desk.queue) (λ a j. own_of agent_of_entry a (Q.history queue.now j)) me (Q.journal desk.old.queue) (Q.journal desk.new.queue) others.old.items others.new.items }
+    ensures set { LearnedAll (λ w. w.agent) (λ w. S.journal w.desk.set) (λ a j. own_of agent_of_set_entry a (S.history set.now j)) me (S.journal desk.old.set) (S.journal desk.new.set) others.old.items others.new.items }
+{
+    learn_all(queue, set, me, desk, others.as_mut_slice());
+}

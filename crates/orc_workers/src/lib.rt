@@ -1,0 +1,12 @@
+//! Posters and takers on threads, over one queue and one set.
+#![tactic(auto)]
+
+mod board;
+mod learning;
+mod reserve;
+mod seating;
+mod team;
+mod work;
+
+pub use board::{Finished, run_at_desks, run_board};
+pub use work::{run_poster, run_taker};

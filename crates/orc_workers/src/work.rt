@@ -1,0 +1,130 @@
+//! The work of a poster and of a taker, each at a desk of its own.
+ghost use Rattle.std.specs.Prelude.{◌≡◌, ◌≤◌, ◌<◌, ◌+◌, [], ◌∷◌, length, map};
+ghost use Rattle.orc_history.specs.declared.queue.QueueEntry.{QueueEntry};
+ghost use Rattle.orc_jobs.specs.GoodLines.{AreGood};
+ghost use Rattle.orc_jobs.specs.Line.{posts_in};
+ghost use Rattle.orc_board.specs.Desk.{IsDesk};
+ghost use Rattle.orc_board.specs.Stretches.{queue_view, set_view};
+ghost use Rattle.orc_board.specs.Table.{EndsWith};
+ghost use Rattle.orc_board.specs.Follows.{Posting, TakingRest, own_records};
+
+use orc_board::{Desk, Gate, PostList, TakeList, post_records, take_one};
+use orc_history::{SharedQueue, SharedSet};
+use orc_jobs::{Line, Lines};
+use std::sync::Wait;
+use std::sync::atomic::{AtomicU64, Ordering};
+use std::thread;
+
+/// Works through the records of a poster in file order: record i belongs to poster 1 + (i mod `posters`). At its end it
+/// takes one from `left`.
+pub fn run_poster<R: Wait, Q: SharedQueue, S: SharedSet, G: Gate>(
+    rt: &R,
+    queue: &Q,
+    set: &S,
+    mut desk: Desk<Q::Pass, S::Pass>,
+    poster: u32,
+    posters: u32,
+    lines: &Lines,
+    gate: &G,
+    left: &AtomicU64,
+    mut replies: PostList,
+) -> (Desk<Q::Pass, S::Pass>, PostList)
+    requires desk { IsDesk Q.SharedQueue S.SharedSet queue.now set.now poster desk }
+    requires good { AreGood lines.now }
+    requires poster { (1 ≤ poster) × (poster ≤ posters) }
+    requires none { replies.items ≡ [] }
+    requires room { length (own_records posters poster (length lines.now)) ≤ replies.spare }
+    ensures desk { IsDesk Q.SharedQueue S.SharedSet queue.now set.now poster result.0 }
+    ensures posting { Posting (queue_view Q.SharedQueue queue.now) (set_view S.SharedSet set.now)
+        lines.now poster result.1.items
+        (Q.journal desk.queue) (S.journal desk.set)
+        (Q.journal result.0.queue) (S.journal result.0.set) }
+    ensures in_file_order { map (λ r. r.line) result.1.items ≡ own_records posters poster (length lines.now) }
+    ensures spare { length result.1.items + result.1.spare ≡ replies.spare }
+{
+    post_records(
+        rt,
+        queue,
+        set,
+        &mut desk,
+        poster,
+        posters,
+        lines,
+        gate,
+        &mut replies,
+    );
+    left.fetch_sub(1, Ordering::SeqCst);
+    (desk, replies)
+}
+
+/// Takes jobs until its replies are as many as the Posts of the file, or until it finds the queue empty after it had read that no
+/// poster is left.
+pub fn run_taker<R: Wait, Q: SharedQueue, S: SharedSet, G: Gate>(
+    rt: &R,
+    queue: &Q,
+    set: &S,
+    mut desk: Desk<Q::Pass, S::Pass>,
+    taker: u32,
+    lines: &Lines,
+    gate: &G,
+    left: &AtomicU64,
+    mut replies: TakeList,
+) -> (Desk<Q::Pass, S::Pass>, TakeList)
+    requires desk { IsDesk Q.SharedQueue S.SharedSet queue.now set.now (Q.agent_of queue.now desk.queue) desk }
+    requires good { AreGood lines.now }
+    requires none { replies.items ≡ [] }
+    requires room { posts_in lines.now ≤ replies.spare }
+    ensures desk { IsDesk Q.SharedQueue S.SharedSet queue.now set.now (Q.agent_of queue.now desk.queue) result.0 }
+    ensures taking { TakingRest (queue_view Q.SharedQueue queue.now) (set_view S.SharedSet set.now)
+        lines.now taker (Q.agent_of queue.now desk.queue) result.1.items
+        (Q.journal desk.queue) (S.journal desk.set)
+        (Q.journal result.0.queue) (S.journal result.0.set) }
+    ensures few { length result.1.items ≤ posts_in lines.now }
+    ensures last { length result.1.items < posts_in lines.now → EndsWith (queue_view Q.SharedQueue queue.now)
+        (Q.agent_of queue.now desk.queue) (QueueEntry.Empty (Q.agent_of queue.now desk.queue))
+        (Q.journal desk.queue) (Q.journal result.0.queue) }
+    ensures spare { length result.1.items + result.1.spare ≡ replies.spare }
+{
+    let posts = count_posts(lines);
+    let mut call: u64 = 0;
+    for _ in rt.forever() {
+        if replies.len() >= posts {
+            return (desk, replies);
+        }
+        let none_left = left.load(Ordering::SeqCst) == 0;
+        gate.before(queue.agent(&desk.queue), call);
+        call = call.wrapping_add(1);
+        match take_one(rt, queue, set, &mut desk, taker, lines) {
+            Some(reply) => replies.push(reply),
+            None => {
+                if none_left {
+                    return (desk, replies);
+                }
+                thread::yield_now();
+            }
+        }
+    }
+    unreachable!()
+}
+
+// One for a Post.
+fn count_post(line: &Line) -> usize
+    ensures is { result ≡ posts_in (line.now ∷ []) }
+    ensures few { result ≤ 1 }
+{
+    match line {
+        Line::Post { .. } => 1,
+        Line::Drop { .. } => 0,
+    }
+}
+
+// How many of the lines are Posts.
+pub(crate) fn count_posts(lines: &Lines) -> usize
+    ensures { result ≡ posts_in lines.now }
+{
+    let mut posts = 0;
+    for index in 0..lines.len() {
+        posts += count_post(lines.get(index));
+    }
+    posts
+}
