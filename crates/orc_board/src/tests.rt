@@ -154,6 +154,52 @@ fn stored_run_of_one_poster(rt: HostRuntime) -> Result<(), Fail> {
     Ok(())
 }
 
+// The five records of the stored run, each by a call of its own.
+#[test]
+fn stored_run_by_single_calls(rt: HostRuntime) -> Result<(), Fail> {
+    let alloc = rt.alloc();
+    let lines = stored_run(alloc)?;
+    let Board {
+        queue,
+        set,
+        mut desk,
+    } = empty_board(alloc, 8, 8)?;
+    let words = [
+        PostWord::Posted(0),
+        PostWord::Posted(1),
+        PostWord::Dropped,
+        PostWord::Busy,
+        PostWord::Unknown,
+    ];
+    for (index, what) in (0..5u32).zip(words) {
+        if index as usize >= lines.len() {
+            panic!(rt; "a line is missing")
+        }
+        let line = lines.get(index as usize);
+        let reply = match line {
+            Line::Post { .. } => post_line(&rt, &queue, &set, &mut desk, 1, index, line),
+            Line::Drop { .. } => drop_line(&rt, &queue, &set, &mut desk, 1, index, line),
+        };
+        assert_eq!(rt; reply, PostReply { poster: 1, line: index, what });
+    }
+    let done = TakeReply {
+        taker: 3,
+        at: 0,
+        line: 0,
+        what: TakeWord::Done(5),
+    };
+    let void = TakeReply {
+        taker: 3,
+        at: 1,
+        line: 1,
+        what: TakeWord::Void,
+    };
+    assert_eq!(rt; take_one(&rt, &queue, &set, &mut desk, 3, &lines), Some(done));
+    assert_eq!(rt; take_one(&rt, &queue, &set, &mut desk, 3, &lines), Some(void));
+    assert_eq!(rt; take_one(&rt, &queue, &set, &mut desk, 3, &lines), None);
+    Ok(())
+}
+
 // The queue has room for one job, and the set for two ids.
 #[test]
 fn second_post_finds_no_place(rt: HostRuntime) -> Result<(), Fail> {

@@ -12,5 +12,7 @@ pub mod Linking
 pub mod Adding
 pub mod Parting
 pub mod Inserting
-pub mod Calling
-pub mod Licensing
+pub mod Parts
+pub mod Settling
+pub mod Causes
+pub mod Licences

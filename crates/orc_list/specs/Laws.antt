@@ -1,2 +1,2 @@
--- Proofs of the laws that the list owes to its traits.
-pub mod Histories
+-- Proofs of the laws that sets over chains owe to their traits.
+pub mod SetLaws

@@ -4,4 +4,5 @@ pub mod Answers
 pub mod Causes
 pub mod Inserts
 pub mod ListCalls
+pub mod SetMembers
 pub mod Laws

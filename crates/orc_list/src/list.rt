@@ -1,29 +1,28 @@
-//! Sorted lists, and their calls.
+//! The list, and its calls.
 
-ghost use Rattle.std.specs.Prelude.{◌≡◌, ◌%◌, ◌<◌, ℕ, List, [], ◌∷◌, Err, IfErr, IfOk, IsErr, Ok, true};
+ghost use Rattle.std.specs.Prelude.{◌≡◌, [], ◌∷◌, Err, IfErr, IfOk, IsErr, Ok, true};
 ghost use mathlib.Core.List.{IsPrefix};
-ghost use Rattle.orc_fault.specs.declared.Spent.{Spent};
-ghost use Rattle.orc_heap.specs.Domains.{GivesNodes, IsCallAlone, MakesNoEvent, agent};
+ghost use Rattle.orc_heap.specs.Domains.{IsCallAlone, MakesNoEvent, agent};
 ghost use Rattle.orc_heap.specs.Seats.{IsIdle};
 ghost use Rattle.orc_history.specs.declared.set.ListRefused.{ListRefused};
 ghost use Rattle.orc_history.specs.declared.set.SetEntry.{SetEntry};
-ghost use Rattle.orc_list.specs.ListCalls.{Enters, EntersNone, FindsKeyAbsent, FindsWorn, GivesAtMostOne, IsUnworn, LacksRow, LeavesKeyOff, MakesFewEvents, UsesAllTurns};
+ghost use Rattle.orc_list.specs.ListCalls.{Enters, EntersNone, FindsAbsent, FindsNoneWorn, FindsWorn, GivesAtMost, IsRootOf, LacksRow, LeavesOffChain, MakesFew, UsesAllTurns};
 
 use crate::answer::ask_turns;
 use crate::insert::insert_key;
 use crate::remove::remove_turns;
 use orc_chain_rule::Chain;
-use orc_fault::Again;
+use orc_fault::{Again, Spent};
 use orc_heap::Links;
 use orc_history::ListRefused;
 
-/// Harris's sorted lists over a domain of links, one for each root. A key belongs to the root of its remainder by the
-/// number of roots. No call takes memory or waits.
+/// Sorted lists over a domain of links, one chain of nodes at each root. A key stands on the chain of the root that is
+/// its remainder by the number of roots. No call takes memory or waits.
 ///
 /// A call's part of the journal begins with the first step of its own agent.
 #[derive(Drop)]
 pub struct List<L: Links<Rule = Chain>> {
-    links: L,
+    pub(crate) links: L,
 }
 
 impl<L: Links<Rule = Chain>> List<L> {
@@ -49,14 +48,14 @@ impl<L: Links<Rule = Chain>> List<L> {
         links
     }
 
-    /// Adds a key, and answers true where it was absent, in at most `turns` tries. In each try its agent makes at most two
-    /// events for each node that it visits and four more, and three more in all for the new node.
+    /// Adds a key, and answers true where it was absent, in at most `turns` tries. Its agent makes at most two events in
+    /// each try for each node at whose link it looked, and 4, and 3 more for the new node.
     ///
     /// # Errors
     ///
-    /// * `Again` if all tries were used up: in each of them another agent made a Move. With no turns it makes no event.
-    /// * `NoNode` if it found the key absent, and the domain had no node to give.
-    /// * `Spent` if it found the key absent, and a row that it would link was used up.
+    /// * `Again` if all tries were used up, each by a Move of another agent. With no turns it makes no event.
+    /// * `NoNode` if the key was found absent, and the domain had no node to give.
+    /// * `Spent` if a row that was to be linked is used up.
     pub fn insert(
         &self,
         p: &mut L::Pass,
@@ -66,8 +65,7 @@ impl<L: Links<Rule = Chain>> List<L> {
     ) -> Result<bool, ListRefused>
         requires pass { L.belongs self.now.links p.old }
         requires idle { IsIdle (L.seat self.now.links p.old) }
-        requires root { root < (L.numbers self.now.links).roots }
-        requires of_key { root ≡ key % (L.numbers self.now.links).roots }
+        requires root { IsRootOf L.Links self.now.links root key }
         ensures pass { L.belongs self.now.links p.new }
         ensures idle { IsIdle (L.seat self.now.links p.new) }
         ensures agent { agent L.Links self.now.links p.new ≡ agent L.Links self.now.links p.old }
@@ -78,10 +76,10 @@ impl<L: Links<Rule = Chain>> List<L> {
         ensures no_event { turns ≡ 0 → MakesNoEvent L.Links self.now.links p.old p.new }
         ensures again { result ≡ Err ListRefused.Again → UsesAllTurns L.Links self.now.links turns p.old p.new }
         ensures no_node { result ≡ Err ListRefused.NoNode → LacksRow L.Links self.now.links p.old p.new }
-        ensures absent { result ≡ Err ListRefused.NoNode → FindsKeyAbsent L.Links self.now.links key p.old p.new }
+        ensures absent { result ≡ Err ListRefused.NoNode → FindsAbsent L.Links self.now.links key p.old p.new }
         ensures spent { (why : Spent) → result ≡ Err (ListRefused.Spent why) → FindsWorn L.Links self.now.links why p.old p.new }
-        ensures gives { GivesAtMostOne L.Links self.now.links p.old p.new }
-        ensures tries { MakesFewEvents L.Links self.now.links turns 3 p.old p.new }
+        ensures gives { GivesAtMost L.Links self.now.links 1 p.old p.new }
+        ensures tries { MakesFew L.Links self.now.links turns 3 p.old p.new }
         ensures settled { IsCallAlone L.Links self.now.links p.old p.new → L.backlog p.new ≡ 0 }
     {
         let answer = insert_key(&self.links, p, root, key, turns);
@@ -89,20 +87,25 @@ impl<L: Links<Rule = Chain>> List<L> {
         answer
     }
 
-    /// Takes a key out, and answers true where it was present, in at most `turns` tries. In each try its agent makes at
-    /// most two events for each node that it visits and four more. It gives no node.
+    /// Takes a key out, and answers true where it was present, in at most `turns` tries. Its agent makes at most two
+    /// events in each try for each node at whose link it looked, and 4.
     ///
-    /// A call that took the key out tries once to leave its node out of the chain, with the marked nodes before it. Where
-    /// no other agent has a step in its part of the journal, and no row was used up, they are off the chain.
+    /// Where no other agent has a step in its part of the journal, and no row is worn, a remove that answered true leaves
+    /// the node of the key, and the marked nodes before it, on no chain.
     ///
     /// # Errors
     ///
-    /// `Again` if all tries were used up: in each of them another agent made a Move. With no turns it makes no event.
-    pub fn remove(&self, p: &mut L::Pass, root: u32, key: u64, turns: u64) -> Result<bool, Again>
+    /// `Again` if all tries were used up, each by a Move of another agent. With no turns it makes no event.
+    pub fn remove(
+        &self,
+        p: &mut L::Pass,
+        root: u32,
+        key: u64,
+        turns: u64,
+    ) -> Result<bool, Again>
         requires pass { L.belongs self.now.links p.old }
         requires idle { IsIdle (L.seat self.now.links p.old) }
-        requires root { root < (L.numbers self.now.links).roots }
-        requires of_key { root ≡ key % (L.numbers self.now.links).roots }
+        requires root { IsRootOf L.Links self.now.links root key }
         ensures pass { L.belongs self.now.links p.new }
         ensures idle { IsIdle (L.seat self.now.links p.new) }
         ensures agent { agent L.Links self.now.links p.new ≡ agent L.Links self.now.links p.old }
@@ -112,10 +115,10 @@ impl<L: Links<Rule = Chain>> List<L> {
         ensures no_turns { turns ≡ 0 → IsErr result }
         ensures no_event { turns ≡ 0 → MakesNoEvent L.Links self.now.links p.old p.new }
         ensures again { IfErr result (λ e. UsesAllTurns L.Links self.now.links turns p.old p.new) }
-        ensures gives { GivesNodes L.Links self.now.links 0 p.old p.new }
-        ensures tries { MakesFewEvents L.Links self.now.links turns 0 p.old p.new }
-        ensures off { result ≡ Ok true → IsCallAlone L.Links self.now.links p.old p.new → IsUnworn L.Links self.now.links p.old p.new
-            → LeavesKeyOff L.Links self.now.links key p.old p.new }
+        ensures gives { GivesAtMost L.Links self.now.links 0 p.old p.new }
+        ensures tries { MakesFew L.Links self.now.links turns 0 p.old p.new }
+        ensures off_the_chain { result ≡ Ok true → IsCallAlone L.Links self.now.links p.old p.new
+            → FindsNoneWorn L.Links self.now.links p.old p.new → LeavesOffChain L.Links self.now.links key p.old p.new }
         ensures settled { IsCallAlone L.Links self.now.links p.old p.new → L.backlog p.new ≡ 0 }
     {
         let answer = remove_turns(&self.links, p, root, key, turns);
@@ -123,17 +126,22 @@ impl<L: Links<Rule = Chain>> List<L> {
         answer
     }
 
-    /// Answers whether a key is present, in at most `turns` tries. In each try its agent makes at most two events for each
-    /// node that it visits and four more. It gives no node.
+    /// Answers whether a key is present, in at most `turns` tries. Its agent makes at most two events in each try for each
+    /// node at whose link it looked, and 4.
     ///
     /// # Errors
     ///
-    /// `Again` if all tries were used up: in each of them another agent made a Move. With no turns it makes no event.
-    pub fn contains(&self, p: &mut L::Pass, root: u32, key: u64, turns: u64) -> Result<bool, Again>
+    /// `Again` if all tries were used up, each by a Move of another agent. With no turns it makes no event.
+    pub fn contains(
+        &self,
+        p: &mut L::Pass,
+        root: u32,
+        key: u64,
+        turns: u64,
+    ) -> Result<bool, Again>
         requires pass { L.belongs self.now.links p.old }
         requires idle { IsIdle (L.seat self.now.links p.old) }
-        requires root { root < (L.numbers self.now.links).roots }
-        requires of_key { root ≡ key % (L.numbers self.now.links).roots }
+        requires root { IsRootOf L.Links self.now.links root key }
         ensures pass { L.belongs self.now.links p.new }
         ensures idle { IsIdle (L.seat self.now.links p.new) }
         ensures agent { agent L.Links self.now.links p.new ≡ agent L.Links self.now.links p.old }
@@ -143,8 +151,8 @@ impl<L: Links<Rule = Chain>> List<L> {
         ensures no_turns { turns ≡ 0 → IsErr result }
         ensures no_event { turns ≡ 0 → MakesNoEvent L.Links self.now.links p.old p.new }
         ensures again { IfErr result (λ e. UsesAllTurns L.Links self.now.links turns p.old p.new) }
-        ensures gives { GivesNodes L.Links self.now.links 0 p.old p.new }
-        ensures tries { MakesFewEvents L.Links self.now.links turns 0 p.old p.new }
+        ensures gives { GivesAtMost L.Links self.now.links 0 p.old p.new }
+        ensures tries { MakesFew L.Links self.now.links turns 0 p.old p.new }
         ensures settled { IsCallAlone L.Links self.now.links p.old p.new → L.backlog p.new ≡ 0 }
     {
         let answer = ask_turns(&self.links, p, root, key, turns);

@@ -1,12 +1,10 @@
-//! One list, as a set that several agents share.
+//! One list as a set that agents share.
 
-ghost use Rattle.std.specs.Prelude.{◌≡◌, ◌<◌, ◌++◌, ◌↔◌, ℕ, List as ListOf};
+ghost use Rattle.std.specs.Prelude.{◌≡◌, ◌<◌, ◌↔◌, ℕ};
 ghost use Rattle.orc_heap.specs.Domains.{agent};
-ghost use Rattle.orc_heap.specs.Seats.{IsIdle};
 ghost use Rattle.orc_history.specs.declared.set.ListRefused.{ListRefused};
-ghost use Rattle.orc_chain_rule.specs.ChainDiscipline.{entries_of};
-ghost use Rattle.orc_list.specs.Causes.{Cause};
-ghost use Rattle.orc_list.specs.Laws.Histories.{cause_stays, entries_below, history_grows, seen_legal};
+ghost use Rattle.orc_list.specs.SetMembers.{HasCause, IsUsable, set_history};
+ghost use Rattle.orc_list.specs.Laws.SetLaws.{cause_stays, entries_below, history_grows, seen_legal};
 
 use crate::list::List;
 use orc_chain_rule::Chain;
@@ -14,30 +12,33 @@ use orc_fault::Again;
 use orc_heap::Links;
 use orc_history::{LearnSet, ListRefused, SharedSet};
 
-/// The list of a domain with one root: a set of numbers that several agents share.
+/// One sorted list over a domain of links with one root: a set of numbers that agents share. No call takes memory or
+/// waits.
 #[derive(Drop)]
 pub struct OneList<L: Links<Rule = Chain>> {
     list: List<L>,
-    ghost one: { (L.numbers list.links).roots ≡ 1 },
+    ghost one_root: { (L.numbers list.links).roots ≡ 1 },
 }
 
 impl<L: Links<Rule = Chain>> OneList<L> {
-    /// The only list of a domain with one root.
-    pub fn new(list: List<L>) -> OneList<L>
-        requires { (L.numbers list.links).roots ≡ 1 }
-        ensures { result.list ≡ list }
+    /// The set of a domain with one root.
+    pub fn new(links: L) -> OneList<L>
+        requires { (L.numbers links).roots ≡ 1 }
+        ensures { result.list.links ≡ links }
     {
-        OneList { list }
+        OneList {
+            list: List::new(links),
+        }
     }
 
-    /// The domain of links that the list stands on.
+    /// The domain of links that the set stands on.
     pub fn links(&self) -> &L
         ensures { result.now ≡ self.now.list.links }
     {
         self.list.links()
     }
 
-    /// Gives the list up for its domain of links.
+    /// Gives the set up for its domain of links.
     pub fn into_links(self) -> L
         ensures { result ≡ self.list.links }
     {
@@ -49,16 +50,14 @@ impl<L: Links<Rule = Chain>> OneList<L> {
     /// agents may step in between; each refusal has its cause.
     pub fn members(&self)
         ensures agent_of { (p : L.Pass) → ⟦<OneList<L> as SharedSet>⟧.agent_of self.now p ≡ agent L.Links self.now.list.links p }
-        ensures history { (journal : ListOf L.Step) → ⟦<OneList<L> as SharedSet>⟧.history self.now journal
-            ≡ entries_of (L.events self.now.list.links journal) }
-        ensures usable { (p : L.Pass) → ⟦<OneList<L> as SharedSet>⟧.usable self.now p
-            ↔ (L.belongs self.now.list.links p × IsIdle (L.seat self.now.list.links p)) }
+        ensures journal { (p : L.Pass) → ⟦<OneList<L> as SharedSet>⟧.journal p ≡ L.journal p }
+        ensures history { (journal : _) → ⟦<OneList<L> as SharedSet>⟧.history self.now journal ≡ set_history L.Links self.now.list.links journal }
+        ensures usable { (p : L.Pass) → ⟦<OneList<L> as SharedSet>⟧.usable self.now p ↔ IsUsable L.Links self.now.list.links p }
         ensures crowd { (by : ℕ) → ⟦<OneList<L> as SharedSet>⟧.crowd self.now by → by < L.agents self.now.list.links }
         ensures agents { ⟦<OneList<L> as LearnSet>⟧.agents self.now ≡ L.agents self.now.list.links }
-        ensures licence { (by turns : ℕ) (why : ListRefused) (journal : ListOf L.Step) (from to : ℕ)
+        ensures licence { (by turns : ℕ) (why : ListRefused) (journal : _) (from to : ℕ)
             → ⟦<OneList<L> as SharedSet>⟧.licence self.now by turns why journal from to
-            → Cause L.agent_of (L.events self.now.list.links) (L.lacking self.now.list.links by journal from to)
-            (λ row. L.worn self.now.list.links by row journal from to) by turns why journal from to }
+            → HasCause L.Links self.now.list.links by turns why journal from to }
     {}
 }
 
@@ -67,34 +66,31 @@ impl<L: Links<Rule = Chain>> SharedSet for OneList<L> {
 
     type Step = L::Step;
 
-    ghost agent_of = { λ s p. (L.seat s.list.links p).agent };
+    ghost agent_of = { λ s p. agent L.Links s.list.links p };
 
     ghost journal = { λ p. L.journal p };
 
-    ghost history = { λ s journal. entries_of (L.events s.list.links journal) };
+    ghost history = { λ s journal. set_history L.Links s.list.links journal };
 
-    ghost usable = { λ s p. L.belongs s.list.links p × IsIdle (L.seat s.list.links p) };
+    ghost usable = { λ s p. IsUsable L.Links s.list.links p };
 
     ghost crowd = { λ s agent. agent < L.agents s.list.links };
 
-    ghost licence = { λ s agent turns why journal from to.
-        Cause L.agent_of (L.events s.list.links) (L.lacking s.list.links agent journal from to)
-        (λ row. L.worn s.list.links agent row journal from to) agent turns why journal from to };
+    ghost licence = { λ s agent turns why journal from to. HasCause L.Links s.list.links agent turns why journal from to };
 
-    ghost legal = { λ s p h. seen_legal (L.numbers s.list.links) (L.seat s.list.links p).seen
-        (L.events s.list.links (L.journal p)) (L.obeys s.list.links p h.0) (L.seen_is s.list.links p h.0) };
+    ghost legal = { λ s p h. seen_legal (L.numbers s.list.links) (L.seat s.list.links p).seen (L.events s.list.links (L.journal p))
+        (L.obeys s.list.links p h.0) (L.seen_is s.list.links p h.0) };
 
     ghost licence_stays = { λ s agent turns why seen more from to h.
-        cause_stays L.agent_of (L.events s.list.links) (L.lacking s.list.links agent seen from to)
-        (L.lacking s.list.links agent (seen ++ more) from to) (λ row. L.worn s.list.links agent row seen from to)
-        (λ row. L.worn s.list.links agent row (seen ++ more) from to) agent turns why seen more from to
+        cause_stays L.agent_of (L.events s.list.links) (L.lacking s.list.links agent seen from to) _
+        (λ spent. L.worn s.list.links agent spent seen from to) _ agent turns why seen more from to
         (L.lacking_stays s.list.links agent seen more from to)
-        (λ row. L.worn_stays s.list.links agent row seen more from to) h };
+        (λ spent. L.worn_stays s.list.links agent spent seen more from to) h };
 
     ghost grows = { λ s seen more. history_grows L.agent_of (L.events s.list.links) (L.steps_add s.list.links) seen more };
 
     fn agent(&self, p: &L::Pass) -> u32 {
-        self.list.links().agent(p)
+        self.list.links.agent(p)
     }
 
     fn insert(&self, p: &mut L::Pass, key: u64, turns: u64) -> Result<bool, ListRefused> {
@@ -114,7 +110,7 @@ impl<L: Links<Rule = Chain>> LearnSet for OneList<L> {
     ghost agents = { λ s. L.agents s.list.links };
 
     fn learn(&self, into: &mut L::Pass, from: &mut L::Pass) {
-        self.list.links().learn(into, from);
+        self.list.links.learn(into, from);
     }
 
     ghost agents_below = { λ s p h. (

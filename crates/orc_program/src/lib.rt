@@ -10,15 +10,14 @@ mod run_mode;
 mod streams;
 mod top_call;
 mod trace_mode;
-mod words;
 mod writing;
 
 pub use ended::Ended;
 pub use mode::{Mode, words_ask_for_one_mode};
+pub use orc_options::CommandWords;
 pub use plain_run::{Finished, run_plain};
 pub use streams::{StdSink, StdSource};
 pub use top_call::orc_main;
-pub use words::CommandWords;
 pub use writing::refuse_words;
 
 #[cfg(test)]

@@ -1,5 +1,5 @@
 -- From what all workers did to the whole run, for any number of posters and takers.
-use Rattle.std.proofs.Common.{◌≡◌, ◌≢◌, ℕ, zero, suc, ◌+◌, ◌-◌, ◌≤◌, ◌<◌, List, [], ◌∷◌, ◌++◌, length, map, Bool, true, false, cond, filter, ◌==◌, ◌⊎◌, inl, inr, refl, ap, sym, ◌∙◌, subst, arith, append-nil, length-append}
+use Rattle.std.proofs.Common.{◌≡◌, ℕ, ◌+◌, ◌≤◌, ◌<◌, List, [], ◌∷◌, ◌++◌, length, map, Bool, true, false, cond, filter, ◌⊎◌, inl, inr, refl, ap, sym, ◌∙◌, subst, arith, length-append}
 use Rattle.std.proofs.lemmas.List.{length-map}
 use Rattle.std.proofs.lemmas.List.Sorted.{length_permutation}
 use Rattle.std.specs.List.{AllByRecursion}
@@ -8,19 +8,19 @@ use Rattle.orc_history.specs.declared.queue.QueueEntry.TheVariants.{Put, Took, E
 use Rattle.orc_history.specs.declared.queue.QueueRefused.{QueueRefused}
 use Rattle.orc_history.specs.declared.set.SetEntry.{SetEntry}
 use Rattle.orc_history.specs.declared.set.ListRefused.{ListRefused}
-use Rattle.orc_history.specs.QueueHistory.{agent_of_entry, IsLegalFrom, IsLegalQueue, waiting_after}
+use Rattle.orc_history.specs.QueueHistory.{agent_of_entry, IsLegalQueue, waiting_after}
 use Rattle.orc_history.specs.SetHistory.{agent_of_set_entry, IsLegalSet}
 use Rattle.orc_jobs.specs.declared.line.Line.{Line}
 use Rattle.orc_jobs.specs.Line.{posts_in}
 use Rattle.orc_board.specs.declared.replies.PostReply.{PostReply}
 use Rattle.orc_board.specs.declared.replies.TakeReply.{TakeReply}
-use Rattle.orc_board.specs.Stretches.{View, of_queue, Stretch, Row, Stands, empty_row, just, nothing, Works, is_own_move, beside}
+use Rattle.orc_board.specs.Stretches.{View, of_queue, Stretch, Row, Stands, empty_row, just, nothing, is_own_move, beside}
 use Rattle.orc_board.specs.Follows.{Posting, TakingRest, Claiming, AreInOrder, WorkersFollow, ZeroLast, LastIsEmpty, IsWorker, taker_agent, posts_of, takes_of}
-use Rattle.orc_board.specs.Reportable.{posted_of, claim_of, AreReportable}
+use Rattle.orc_board.specs.Reportable.{posted_of, claim_of}
 use Rattle.orc_board.specs.Runs.{Ran}
 use Rattle.orc_board.proofs.ListFacts.{AllByRecursion-append, AllByRecursion-left, AllByRecursion-right, AllByRecursion-filter, eq-yes}
 use Rattle.orc_board.proofs.Chains.{Works-more}
-use Rattle.orc_board.proofs.Wholes.{queue_of_rows, Works-queue, Below}
+use Rattle.orc_board.proofs.Wholes.{queue_of_rows, Works-queue}
 use Rattle.orc_board.proofs.JobsTaken.{PutFits, TookFits, legal_tooks, rows_puts, took_rows_fit, skips_fit, no_skips, strict_rows}
 use Rattle.orc_board.proofs.WorkerCases.{own_whole, worker_cases}
 use Rattle.orc_workers.proofs.Resting.{resting_stretch}

@@ -1,5 +1,5 @@
 -- What all workers and the caller have come to, once the caller's passes have learned from all others twice.
-use Rattle.std.proofs.Common.{◌≡◌, ◌≢◌, ℕ, zero, suc, ◌+◌, ◌-◌, ◌≤◌, ◌<◌, List, [], ◌∷◌, ◌++◌, length, Bool, true, false, ◌⊎◌, inl, inr, Some, None, refl, ap, sym, ◌∙◌, subst, arith, append-nil}
+use Rattle.std.proofs.Common.{◌≡◌, ◌≢◌, ℕ, suc, ◌+◌, ◌-◌, ◌≤◌, ◌<◌, List, [], ◌∷◌, ◌++◌, length, Bool, true, false, ◌⊎◌, inl, inr, refl, ap, sym, ◌∙◌, subst, arith, append-nil}
 use mathlib.Core.List.{IsPrefix}
 use Rattle.orc_history.specs.Journals.{own_of}
 use Rattle.std.specs.List.{AllByRecursion}
@@ -12,17 +12,16 @@ use Rattle.orc_history.specs.declared.set.SharedSet.{Ghosts as SetOf}
 use Rattle.orc_history.specs.QueueHistory.{agent_of_entry}
 use Rattle.orc_history.specs.SetHistory.{agent_of_set_entry}
 use Rattle.orc_jobs.specs.declared.line.Line.{Line}
-use Rattle.orc_jobs.specs.Line.{posts_in}
 use Rattle.orc_board.specs.declared.replies.PostReply.{PostReply}
 use Rattle.orc_board.specs.declared.replies.TakeReply.{TakeReply}
 use Rattle.orc_board.specs.declared.desk.Desk.{Desk}
 use Rattle.orc_workers.specs.declared.team.Worker.{Worker}
 use Rattle.orc_board.specs.Desk.{IsDesk}
 use Rattle.orc_board.specs.Reserved.{Reserved}
-use Rattle.orc_board.specs.Stretches.{View, queue_view, set_view, beside, of_queue, of_set, Row, Stands, empty_row, just, nothing}
+use Rattle.orc_board.specs.Stretches.{View, queue_view, set_view, beside, of_queue, of_set, Row, Stands, empty_row}
 use Rattle.orc_board.specs.Table.{EndsEmpty}
-use Rattle.orc_board.specs.Follows.{Pointwise, TakingRest, ZeroLast, LastIsEmpty, IsWorker}
-use Rattle.orc_workers.specs.Team.{IsReady, DidWork, DidPost, DidTake}
+use Rattle.orc_board.specs.Follows.{Pointwise, TakingRest, LastIsEmpty, IsWorker}
+use Rattle.orc_workers.specs.Team.{DidWork, DidPost, DidTake}
 use Rattle.orc_workers.specs.Learning.{IsKnown, IsOther, SameWorker, IsWhole, LearnedAll}
 use Rattle.orc_workers.specs.CameBack.{IsNew, IsTold, IsBack, AreNumbered, AllCameBack}
 use Rattle.orc_board.proofs.ListFacts.{le-cases, AllByRecursion-map}
@@ -143,8 +142,6 @@ told_more q s C lines posters agent posts takes j k m n laws below later later2 
 -- a worker as its own passes tell of it
 pub record Tells {P R A B : Type 0} (q : View A QueueEntry QueueRefused) (s : View B SetEntry ListRefused) (jq : P → List A) (js : R → List B) (lines : List Line) (posters : ℕ) (w : Worker P R) : Type 0 where
   pub told : IsTold q s lines posters (jq w.desk.queue) (js w.desk.set) w.agent w.posts.items w.takes.items
-  pub posts_few : length w.posts.items ≤ length lines
-  pub takes_few : length w.takes.items ≤ posts_in lines
 
 -- what learning twice over has made of a worker
 pub record Learnt {P R A B : Type 0} (q : View A QueueEntry QueueRefused) (s : View B SetEntry ListRefused) (jq : P → List A) (js : R → List B) (k : List A) (n : List B) (w v : Worker P R) : Type 0 where
@@ -174,8 +171,6 @@ tells_more {P} {R} {A} {B} q s C jq js lines posters k n w v laws below t l =
     let d : IsTold qc sc lines posters (jq v.desk.queue) (js v.desk.set) v.agent v.posts.items w.takes.items = subst (λ (x : Reserved PostReply). IsTold qc sc lines posters (jq v.desk.queue) (js v.desk.set) v.agent x.items w.takes.items) (sym l.same.posts_are) c in
     record {
       told = subst (λ (x : Reserved TakeReply). IsTold qc sc lines posters (jq v.desk.queue) (js v.desk.set) v.agent v.posts.items x.items) (sym l.same.takes_are) d;
-      posts_few = omega (arith, t.posts_few, ap (λ (x : Reserved PostReply). length x.items) l.same.posts_are);
-      takes_few = omega (arith, t.takes_few, ap (λ (x : Reserved TakeReply). length x.items) l.same.takes_are);
     }
 
 numbered_next : {P R : Type 0} (X : Worker P R → Worker P R → Type 0) (k : ℕ) (ws vs : List (Worker P R)) → ((w v : Worker P R) → X w v → v.agent ≡ w.agent) → AreNumbered k ws → Pointwise X ws vs → AreNumbered k vs
@@ -201,19 +196,17 @@ others_after q s queue set lines posters (w ∷ ws) [] p = absurd p
 others_after q s queue set lines posters (w ∷ ws) (v ∷ vs) p = (record { desk = p.0.desk; other = λ e. absurd (omega (arith, e, p.0.no_caller)) }, others_after q s queue set lines posters ws vs p.1)
 
 tells_first : {Q S P R A B : Type 0} (q : QueueOf Q P A) (s : SetOf S R B) (queue : Q) (set : S) (C : ℕ → Type 0) (lines : List Line) (posters : ℕ) (ws vs : List (Worker P R))
-    → Laws (queue_view q queue) (set_view s set) C → AllByRecursion (IsNew q s queue set) ws → AllByRecursion (λ (w : Worker P R). (w.posts.spare ≤ length lines) × (w.takes.spare ≤ posts_in lines)) ws
+    → Laws (queue_view q queue) (set_view s set) C → AllByRecursion (IsNew q s queue set) ws
     → Pointwise (DidWork q s queue set lines posters) ws vs → AllByRecursion (Tells (beside (queue_view q queue) C) (beside (set_view s set) C) q.journal s.journal lines posters) vs
-tells_first q s queue set C lines posters [] [] laws new few p = tt
-tells_first q s queue set C lines posters [] (v ∷ vs) laws new few p = absurd p
-tells_first q s queue set C lines posters (w ∷ ws) [] laws new few p = absurd p
-tells_first q s queue set C lines posters (w ∷ ws) (v ∷ vs) laws new few p = (
+tells_first q s queue set C lines posters [] [] laws new p = tt
+tells_first q s queue set C lines posters [] (v ∷ vs) laws new p = absurd p
+tells_first q s queue set C lines posters (w ∷ ws) [] laws new p = absurd p
+tells_first q s queue set C lines posters (w ∷ ws) (v ∷ vs) laws new p = (
   record {
     told = told_first (queue_view q queue) (set_view s set) C lines posters v.agent v.posts.items v.takes.items (q.journal w.desk.queue) (q.journal v.desk.queue) (s.journal w.desk.set) (s.journal v.desk.set)
         laws new.0.queue_new new.0.set_new p.0.posted p.0.took;
-    posts_few = omega (arith, few.0.0, p.0.posts_fit);
-    takes_few = omega (arith, few.0.1, p.0.takes_fit);
   },
-  tells_first q s queue set C lines posters ws vs laws new.1 few.1 p.1,
+  tells_first q s queue set C lines posters ws vs laws new.1 p.1,
 )
 
 back_of : {Q S P R A B : Type 0} (q : QueueOf Q P A) (s : SetOf S R B) (queue : Q) (set : S) (C : ℕ → Type 0) (lines : List Line) (posters : ℕ) (k : List A) (n : List B) (us ts : List (Worker P R))
@@ -223,7 +216,7 @@ back_of q s queue set C lines posters k n [] [] o t l = tt
 back_of q s queue set C lines posters k n [] (v ∷ vs) o t l = absurd l
 back_of q s queue set C lines posters k n (w ∷ ws) [] o t l = absurd l
 back_of q s queue set C lines posters k n (w ∷ ws) (v ∷ vs) o t l = (
-  record { is_desk = o.0.desk; queue_seen = l.0.queue.is; set_seen = l.0.set.is; posts_few = t.0.posts_few; takes_few = t.0.takes_few },
+  record { is_desk = o.0.desk; queue_seen = l.0.queue.is; set_seen = l.0.set.is },
   back_of q s queue set C lines posters k n ws vs o.1 t.1 l.1,
 )
 
@@ -268,7 +261,7 @@ pub came_back : {Q S P R A B : Type 0} (q : QueueOf Q P A) (s : SetOf S R B) (qu
     → AllBelow (queue_view q queue) (set_view s set) (IsWorker posters takers) (q.journal d3.queue) (s.journal d3.set)
     → q.history queue (q.journal d0.queue) ≡ [] → s.history set (s.journal d0.set) ≡ []
     → AreNumbered 1 ws → length ws ≡ posters + takers
-    → AllByRecursion (IsNew q s queue set) ws → AllByRecursion (λ (w : Worker P R). (w.posts.spare ≤ length lines) × (w.takes.spare ≤ posts_in lines)) ws
+    → AllByRecursion (IsNew q s queue set) ws
     → Pointwise (DidWork q s queue set lines posters) ws vs
     → LearnedAll (λ (x : Worker P R). x.agent) (λ (x : Worker P R). q.journal x.desk.queue) (λ a j. own_of agent_of_entry a (q.history queue j)) 0 (q.journal d0.queue) (q.journal d1.queue) vs us
     → LearnedAll (λ (x : Worker P R). x.agent) (λ (x : Worker P R). s.journal x.desk.set) (λ a j. own_of agent_of_set_entry a (s.history set j)) 0 (s.journal d0.set) (s.journal d1.set) vs us
@@ -280,7 +273,7 @@ pub came_back : {Q S P R A B : Type 0} (q : QueueOf Q P A) (s : SetOf S R B) (qu
     → Pointwise SameWorker us ts
     → IsDesk q s queue set 0 d3 → IsKnown q s queue set (suc (posters + takers)) (suc (posters + takers)) d3 → AllByRecursion (IsOther q s queue set 0) ts
     → AllCameBack q s queue set lines posters takers d3 takes ts
-came_back {P = P} {R = R} {A = A} {B = B} q s queue set lines posters takers d0 d1 d2 d3 takes ws vs us ts laws below1 below3 none none2 num many new few did l1q l1s same1 took last l2q l2s same2 desk known others =
+came_back {P = P} {R = R} {A = A} {B = B} q s queue set lines posters takers d0 d1 d2 d3 takes ws vs us ts laws below1 below3 none none2 num many new did l1q l1s same1 took last l2q l2s same2 desk known others =
     let C : ℕ → Type 0 = IsWorker posters takers in
     let qv : View A QueueEntry QueueRefused = queue_view q queue in
     let sv : View B SetEntry ListRefused = set_view s set in
@@ -291,7 +284,7 @@ came_back {P = P} {R = R} {A = A} {B = B} q s queue set lines posters takers d0 
     let one : Pointwise (Learnt qv sv q.journal s.journal x1 y1) vs us = learnt_all qv sv q.journal s.journal x1 y1 vs us l1q.each l1s.each same1 in
     let two : Pointwise (Learnt qv sv q.journal s.journal x3 y3) us ts = learnt_all qv sv q.journal s.journal x3 y3 us ts l2q.each l2s.each same2 in
     let T : Worker P R → Type 0 = Tells (beside qv C) (beside sv C) q.journal s.journal lines posters in
-    let t1 : AllByRecursion T vs = tells_first q s queue set C lines posters ws vs laws new few did in
+    let t1 : AllByRecursion T vs = tells_first q s queue set C lines posters ws vs laws new did in
     let t2 : AllByRecursion T us = AllByRecursion-next T T (Learnt qv sv q.journal s.journal x1 y1) vs us (λ w v t l. tells_more qv sv C q.journal s.journal lines posters x1 y1 w v laws below1 t l) t1 one in
     let t3 : AllByRecursion T ts = AllByRecursion-next T T (Learnt qv sv q.journal s.journal x3 y3) us ts (λ w v t l. tells_more qv sv C q.journal s.journal lines posters x3 y3 w v laws below3 t l) t2 two in
     let num1 : AreNumbered 1 vs = numbered_next (DidWork q s queue set lines posters) 1 ws vs (λ w v d. d.agent_is) num did in

@@ -1,5 +1,5 @@
 -- Learning from all others twice over.
-use Rattle.std.proofs.Common.{◌≡◌, ◌≢◌, ℕ, length, arith, length-append, List, [], ◌∷◌, ◌++◌, ◌⊎◌, inl, inr, refl, ap, sym, ◌∙◌, subst, append_assoc, append-nil}
+use Rattle.std.proofs.Common.{◌≡◌, ℕ, length, arith, length-append, List, [], ◌∷◌, ◌++◌, inl, inr, refl, ap, sym, ◌∙◌, subst, append-nil}
 use mathlib.Core.List.{IsPrefix}
 use Rattle.orc_history.specs.Journals.{LearnsEntries, own_of}
 use Rattle.orc_board.specs.Follows.{Pointwise}

@@ -1,6 +1,11 @@
 -- The end of a run: desks and replies of all workers in order.
-use Rattle.std.proofs.Common.{◌≡◌, ◌≢◌, ◌^◌, ℕ, zero, suc, ◌+◌, ◌-◌, ◌*◌, ◌≤◌, ◌<◌, List, [], ◌∷◌, ◌++◌, length, map, ◌⊎◌, inl, inr, refl, ap, sym, ◌∙◌, subst, arith, append-nil, length-append}
+use Rattle.std.proofs.Common.{◌≡◌, ℕ, zero, suc, ◌+◌, ◌-◌, ◌≤◌, ◌<◌, List, [], ◌∷◌, ◌++◌, length, map, ◌⊎◌, inl, inr, refl, ap, sym, ◌∙◌, subst, arith, append-nil, length-append}
 use Rattle.std.proofs.lemmas.List.{length-map}
+use Rattle.std.proofs.lemmas.List.Sorted.{length_permutation}
+use Rattle.std.proofs.lemmas.List.FromFn.{length-range_with_len}
+use Rattle.std.specs.List.{range_with_len}
+use Rattle.orc_board.specs.Reportable.{claim_of, posted_of}
+use Rattle.orc_board.proofs.Orders.{each_line, posted_few}
 use Rattle.std.specs.List.{AllByRecursion}
 use Rattle.orc_history.specs.declared.queue.QueueEntry.{QueueEntry}
 use Rattle.orc_history.specs.declared.queue.QueueRefused.{QueueRefused}
@@ -19,11 +24,10 @@ use Rattle.orc_board.specs.declared.desk.Desk.{Desk}
 use Rattle.orc_workers.specs.declared.team.Worker.{Worker}
 use Rattle.orc_board.specs.Stretches.{View, queue_view, set_view, beside, Row}
 use Rattle.orc_board.specs.Follows.{Pointwise, TakerRow, Posting, TakingRest, ZeroLast, LastIsEmpty, IsWorker, own_records, by_key, taker_agent, posts_of, takes_of}
-use Rattle.orc_workers.specs.Team.{DidPost, DidTake}
 use Rattle.orc_workers.specs.Desks.{AreIdle, HaveSeen}
 use Rattle.orc_workers.specs.CameBack.{IsTold, IsBack, AreNumbered, AllCameBack, IsOver}
 use Rattle.orc_workers.specs.Seats.{all_of}
-use Rattle.orc_board.proofs.ListFacts.{AllByRecursion-append, AllByRecursion-map, le-cases, zero_or}
+use Rattle.orc_board.proofs.ListFacts.{AllByRecursion-append, AllByRecursion-map, le-cases}
 use Rattle.orc_board.proofs.Ends.{posters_of}
 use Rattle.orc_workers.proofs.Blocks.{blocks, AreKeyed, block_of, blocks_by_key, blocks_add, blocks_none, blocks_cons, nth_of, all_blocks}
 use Rattle.orc_workers.proofs.Learned.{zero_ended}
@@ -228,3 +232,22 @@ over_of {P = P} {R = R} {A = A} q s queue set lines posters takers desk own ws d
       ran = ran_board (queue_view q queue) (set_view s set) lines posters takers posts takes k n some c.none (λ agent seen from to h. let big = c.known.many_puts agent seen from to h in omega (arith, big, first)) short legal c.known.set_legal end work;
     } in
     subst (λ (ds : List (Desk P R)). IsOver q s queue set lines posters takers ds posts takes) (sym desks_are) is
+
+-- there are no more replies of either kind than lines
+pub few_replies : {Q S P R A B : Type 0} (q : QueueOf Q P A) (s : SetOf S R B) (queue : Q) (set : S) (lines : List Line) (posters takers : ℕ) (desk : Desk P R) (own : List TakeReply) (ws : List (Worker P R))
+    → 1 ≤ posters → length lines ≤ 65535 → q.first queue ≡ 0 → length ws ≡ posters + takers
+    → AllCameBack q s queue set lines posters takers desk own ws
+    → (length (all_of (λ (w : Worker P R). w.posts.items) ws) ≤ length lines) × (length own + length (all_of (λ (w : Worker P R). w.takes.items) ws) ≤ length lines)
+few_replies {P = P} {R = R} q s queue set lines posters takers desk own ws some short first many c =
+    let posts : List PostReply = all_of (λ (w : Worker P R). w.posts.items) ws in
+    let takes : List TakeReply = own ++ all_of (λ (w : Worker P R). w.takes.items) ws in
+    let over = over_of q s queue set lines posters takers desk own ws (desk ∷ map (λ (w : Worker P R). w.desk) ws) posts takes some short first many c refl refl refl in
+    let order = over.ran.follows.workers.order in
+    let line : PostReply → ℕ = λ r. r.line in
+    let each : length (map line posts) ≡ length (range_with_len 0 (length lines)) =
+    sym (length_permutation (map line posts) (range_with_len 0 (length lines)) (each_line lines posters takers posts takes some order)) in
+    let claims : length (map claim_of takes) ≡ length (posted_of posts) = length_permutation (posted_of posts) (map claim_of takes) over.ran.reportable.claims in
+    let few : length (posted_of posts) ≤ length lines = posted_few lines posters takers posts takes some order in (
+      omega (arith, length-map posts line, each, length-range_with_len 0 (length lines)),
+      omega (arith, length-map takes claim_of, claims, few, length-append own (all_of (λ (w : Worker P R). w.takes.items) ws)),
+    )

@@ -1,7 +1,6 @@
 -- What a taker's answers stand for grows answer by answer, also after answers that found nothing.
 use Rattle.orc_history.specs.QueueHistory.{agent_of_entry}
-use Rattle.std.proofs.Common.{◌≡◌, ◌≢◌, ℕ, ◌-◌, ◌<◌, length, List, [], ◌∷◌, ◌++◌, Some, None, refl, ap, sym, ◌∙◌, subst, append_assoc, append-nil}
-use Rattle.std.specs.List.{AllByRecursion}
+use Rattle.std.proofs.Common.{◌≡◌, ◌≢◌, ℕ, ◌-◌, ◌<◌, length, List, [], ◌∷◌, ◌++◌, Some, None, refl, ap, sym, ◌∙◌, subst, append_assoc}
 use Rattle.orc_history.specs.declared.queue.QueueEntry.{QueueEntry}
 use Rattle.orc_history.specs.declared.queue.QueueEntry.TheVariants.{Took, Empty}
 use Rattle.orc_history.specs.declared.queue.QueueRefused.{QueueRefused}
@@ -11,7 +10,7 @@ use Rattle.orc_history.specs.declared.set.ListRefused.{ListRefused}
 use Rattle.orc_jobs.specs.declared.line.Line.{Line}
 use Rattle.orc_board.specs.declared.replies.TakeReply.{TakeReply}
 use Rattle.orc_board.specs.Stretches.{View, Row, Stretch, Stands, Replied, just, nothing, of_queue, of_set}
-use Rattle.orc_board.specs.Table.{IsSkip, ClaimRow, TakeRow, TakenRow, EndsWith, answer_of}
+use Rattle.orc_board.specs.Table.{IsSkip, TakeRow, TakenRow, EndsWith, answer_of}
 use Rattle.orc_board.specs.Follows.{TakingRest, TakerRow, LastIsEmpty}
 use Rattle.orc_board.specs.declared.replies.PostReply.{PostReply}
 use Rattle.orc_jobs.specs.Line.{posts_in}

@@ -1,8 +1,6 @@
 -- Rooms and desks of workers, and what is handed back.
-use Rattle.std.proofs.Common.{◌≡◌, ◌≢◌, ℕ, zero, suc, ◌+◌, ◌*◌, ◌≤◌, ◌<◌, List, [], ◌∷◌, ◌++◌, length, map, take, Some, None, refl, ap, sym, ◌∙◌, subst, arith, length-append, append_assoc}
+use Rattle.std.proofs.Common.{◌≡◌, ℕ, zero, suc, ◌+◌, ◌≤◌, List, [], ◌∷◌, ◌++◌, length, take, Some, refl, ap, sym, ◌∙◌, subst, arith, length-append, append_assoc}
 use Rattle.std.specs.List.{slice_get, remove}
-use Rattle.orc_board.proofs.ListFacts.{AllByRecursion-map}
-use Rattle.std.proofs.lemmas.List.{map-append}
 use Rattle.std.specs.List.{AllByRecursion}
 use Rattle.orc_history.specs.declared.queue.SharedQueue.{Ghosts as QueueOf}
 use Rattle.orc_history.specs.declared.set.SharedSet.{Ghosts as SetOf}
@@ -12,13 +10,12 @@ use Rattle.orc_jobs.specs.Line.{posts_in}
 use Rattle.orc_jobs.specs.GoodLines.{AreGood}
 use Rattle.orc_board.specs.declared.desk.Desk.{Desk}
 use Rattle.orc_workers.specs.declared.team.Worker.{Worker}
-use Rattle.orc_board.specs.Desk.{IsDesk}
 use Rattle.orc_board.specs.Follows.{own_records}
 use Rattle.orc_workers.specs.Team.{IsReady}
 use Rattle.orc_workers.specs.declared.reserve.Room.{Room}
 use Rattle.orc_workers.specs.Desks.{AreFresh}
 use Rattle.orc_workers.specs.Seats.{IsRoom, AreRooms, HaveAgents, seated, all_of}
-use Rattle.orc_workers.specs.CameBack.{AreNumbered, IsNew, IsBack}
+use Rattle.orc_workers.specs.CameBack.{AreNumbered, IsNew}
 use Rattle.orc_workers.proofs.Blocks.{all_of-snoc}
 use Rattle.orc_board.proofs.PairLists.{records_fewer}
 
@@ -67,13 +64,12 @@ seated_length k (d ∷ ds) (r ∷ rs) e = ap suc (seated_length (suc k) ds rs (o
 pub record Ready {Q S P R A B : Type 0} (q : QueueOf Q P A) (s : SetOf S R B) (queue : Q) (set : S) (lines : List Line) (posters k : ℕ) (ws : List (Worker P R)) : Type 0 where
   pub ready : AllByRecursion (IsReady q s queue set lines posters) ws
   pub begin : AllByRecursion (IsNew q s queue set) ws
-  pub few : AllByRecursion (λ (w : Worker P R). (w.posts.spare ≤ length lines) × (w.takes.spare ≤ posts_in lines)) ws
   pub numbered : AreNumbered k ws
 
 pub ready_of : {Q S P R A B : Type 0} (q : QueueOf Q P A) (s : SetOf S R B) (queue : Q) (set : S) (lines : List Line) (posters k : ℕ) (ds : List (Desk P R)) (rs : List Room)
     → AreGood lines → 1 ≤ k → AreFresh q s queue set k ds → AreRooms posters (length lines) (posts_in lines) k rs → Ready q s queue set lines posters k (seated k ds rs)
-ready_of q s queue set lines posters k [] rs good low f m = record { ready = tt; begin = tt; few = tt; numbered = tt }
-ready_of q s queue set lines posters k (d ∷ ds) [] good low f m = record { ready = tt; begin = tt; few = tt; numbered = tt }
+ready_of q s queue set lines posters k [] rs good low f m = record { ready = tt; begin = tt; numbered = tt }
+ready_of q s queue set lines posters k (d ∷ ds) [] good low f m = record { ready = tt; begin = tt; numbered = tt }
 ready_of q s queue set lines posters k (d ∷ ds) (r ∷ rs) good low f m =
     let rest = ready_of q s queue set lines posters (suc k) ds rs good (omega (arith, low)) f.1 m.1 in
     let fewer : length (own_records posters k (length lines)) ≤ length lines = records_fewer posters k (length lines) in
@@ -91,21 +87,12 @@ ready_of q s queue set lines posters k (d ∷ ds) (r ∷ rs) good low f m =
         rest.ready,
       );
       begin = (record { queue_new = f.0.queue_new; set_new = f.0.set_new }, rest.begin);
-      few = ((m.0.post_few, m.0.take_few), rest.few);
       numbered = (refl, rest.numbered);
     }
 
 pub fresh_agents : {Q S P R A B : Type 0} (q : QueueOf Q P A) (s : SetOf S R B) (queue : Q) (set : S) (k : ℕ) (ds : List (Desk P R)) → AreFresh q s queue set k ds → HaveAgents q queue k ds
 fresh_agents q s queue set k [] f = tt
 fresh_agents q s queue set k (d ∷ ds) f = (f.0.is_desk.queue_agent, fresh_agents q s queue set (suc k) ds f.1)
-
--- lists of few items each
-pub all_few : {W X : Type 0} (items : W → List X) (most : ℕ) (ws : List W) → AllByRecursion (λ w. length (items w) ≤ most) ws → length (all_of items ws) ≤ length ws * most
-all_few items most [] h = omega arith
-all_few items most (w ∷ ws) h =
-    let rest : length (all_of items ws) ≤ length ws * most = all_few items most ws h.1 in
-    let split : suc (length ws) * most ≡ most + length ws * most = omega arith in
-    omega (arith, h.0, rest, split, length-append (items w) (all_of items ws))
 
 -- one more that is given back
 pub back_more : {W X : Type 0} (items : W → List X) (ws all : List W) (w : W) (before now after : List X)
@@ -131,27 +118,3 @@ seats_ready {P = P} {R = R} q s queue set lines posters many few all rest rooms 
     let a : AreRooms posters (length lines) few 1 rooms = subst (λ (x : ℕ). AreRooms posters x few 1 rooms) m reserved in
     let b : AreRooms posters (length lines) (posts_in lines) 1 rooms = subst (λ (x : ℕ). AreRooms posters (length lines) x 1 rooms) n a in
     subst (λ (xs : List (Worker P R)). Ready q s queue set lines posters 1 xs) (sym at) (ready_of q s queue set lines posters 1 rest rooms good (omega arith) f b)
-
--- there is room for the replies of all
-pub posts_room : {Q S P R A B : Type 0} (q : QueueOf Q P A) (s : SetOf S R B) (queue : Q) (set : S) (lines : List Line) (k : List A) (n : List B) (agents spare : ℕ) (ws : List (Worker P R))
-    → AllByRecursion (IsBack q s queue set lines k n) ws → length ws ≡ agents → spare ≡ agents * length lines → length (all_of (λ (w : Worker P R). w.posts.items) ws) ≤ spare
-posts_room {P = P} {R = R} q s queue set lines k n agents spare ws h a b =
-    let most : length (all_of (λ (w : Worker P R). w.posts.items) ws) ≤ length ws * length lines =
-    all_few (λ (w : Worker P R). w.posts.items) (length lines) ws (AllByRecursion-map (IsBack q s queue set lines k n) (λ (w : Worker P R). length w.posts.items ≤ length lines) (λ w x. x.posts_few) ws h) in
-    let e : length ws * length lines ≡ spare = ap (λ (x : ℕ). x * length lines) a ∙ sym b in
-    omega (arith, most, e)
-
-posts_fewer : (lines : List Line) → posts_in lines ≤ length lines
-posts_fewer [] = omega arith
-posts_fewer (line.Post id op text ∷ lines) = omega (arith, posts_fewer lines)
-posts_fewer (line.Drop id ∷ lines) = omega (arith, posts_fewer lines)
-
-pub takes_room : {Q S P R A B : Type 0} (q : QueueOf Q P A) (s : SetOf S R B) (queue : Q) (set : S) (lines : List Line) (k : List A) (n : List B) (agents spare own left : ℕ) (ws : List (Worker P R))
-    → AllByRecursion (IsBack q s queue set lines k n) ws → length ws ≡ agents → spare ≡ (agents + 1) * length lines → own ≤ length lines → left + own ≡ spare
-    → length (all_of (λ (w : Worker P R). w.takes.items) ws) ≤ left
-takes_room {P = P} {R = R} q s queue set lines k n agents spare own left ws h a b few is =
-    let most : length (all_of (λ (w : Worker P R). w.takes.items) ws) ≤ length ws * length lines =
-    all_few (λ (w : Worker P R). w.takes.items) (length lines) ws (AllByRecursion-map (IsBack q s queue set lines k n) (λ (w : Worker P R). length w.takes.items ≤ length lines) (λ w x. omega (arith, x.takes_few, posts_fewer lines)) ws h) in
-    let e : length ws * length lines ≡ agents * length lines = ap (λ (x : ℕ). x * length lines) a in
-    let split : (agents + 1) * length lines ≡ agents * length lines + length lines = omega arith in
-    omega (arith, most, e, split, b, few, is)

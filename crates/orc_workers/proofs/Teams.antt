@@ -1,5 +1,5 @@
 -- Lists of workers, popped from the end and pushed at the end.
-use Rattle.std.proofs.Common.{◌≡◌, ℕ, List, [], ◌∷◌, ◌++◌, ap, sym, ◌∙◌, subst, append_assoc, append-nil}
+use Rattle.std.proofs.Common.{◌≡◌, List, [], ◌∷◌, ◌++◌, ap, sym, ◌∙◌, subst, append_assoc}
 use Rattle.std.specs.List.{AllByRecursion}
 use Rattle.orc_board.specs.Follows.{Pointwise}
 use Rattle.orc_workers.specs.Team.{Team}

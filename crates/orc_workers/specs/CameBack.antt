@@ -1,5 +1,5 @@
 -- What the caller and its workers have come to at the end of a run.
-use Rattle.std.specs.Prelude.{◌≡◌, ℕ, suc, ◌+◌, ◌-◌, ◌<◌, ◌≤◌, List, [], ◌∷◌, ◌++◌, length, ◌⊎◌}
+use Rattle.std.specs.Prelude.{◌≡◌, ℕ, suc, ◌+◌, ◌<◌, ◌≤◌, List, [], ◌∷◌, length, ◌⊎◌}
 use Rattle.std.specs.List.{AllByRecursion}
 use Rattle.orc_history.specs.declared.queue.QueueEntry.{QueueEntry}
 use Rattle.orc_history.specs.declared.queue.QueueRefused.{QueueRefused}
@@ -10,7 +10,6 @@ use Rattle.orc_history.specs.declared.set.SharedSet.{Ghosts as SetOf}
 use Rattle.orc_history.specs.QueueHistory.{agent_of_entry}
 use Rattle.orc_history.specs.SetHistory.{agent_of_set_entry}
 use Rattle.orc_jobs.specs.declared.line.Line.{Line}
-use Rattle.orc_jobs.specs.Line.{posts_in}
 use Rattle.orc_board.specs.declared.replies.PostReply.{PostReply}
 use Rattle.orc_board.specs.declared.replies.TakeReply.{TakeReply}
 use Rattle.orc_board.specs.declared.desk.Desk.{Desk}
@@ -38,13 +37,11 @@ pub record IsTold {A B : Type 0} (q : View A QueueEntry QueueRefused) (s : View 
   pub posted : agent ≤ posters → DidPost q s lines posters agent posts takes [] [] k n
   pub took : posters < agent → DidTake q s lines posters agent posts takes [] [] k n
 
--- a worker at the end: an idle desk that has seen these journals, and few replies
+-- a worker at the end: an idle desk that has seen these journals
 pub record IsBack {Q S P R A B : Type 0} (q : QueueOf Q P A) (s : SetOf S R B) (queue : Q) (set : S) (lines : List Line) (k : List A) (n : List B) (w : Worker P R) : Type 0 where
   pub is_desk : IsDesk q s queue set w.agent w.desk
   pub queue_seen : q.journal w.desk.queue ≡ k
   pub set_seen : s.journal w.desk.set ≡ n
-  pub posts_few : length w.posts.items ≤ length lines
-  pub takes_few : length w.takes.items ≤ posts_in lines
 
 -- what the caller and the workers have come to
 pub record AllCameBack {Q S P R A B : Type 0} (q : QueueOf Q P A) (s : SetOf S R B) (queue : Q) (set : S) (lines : List Line) (posters takers : ℕ) (desk : Desk P R) (takes : List TakeReply) (ws : List (Worker P R)) : Type 0 where

@@ -6,7 +6,11 @@ use Rattle.orc_history.specs.declared.set.SetEntry.{SetEntry}
 use Rattle.orc_history.specs.declared.queue.SharedQueue.{Ghosts as QueueOf}
 use Rattle.orc_history.specs.declared.set.SharedSet.{Ghosts as SetOf}
 use Rattle.orc_board.specs.declared.desk.Desk.{Desk}
+use Rattle.orc_board.specs.declared.replies.Replies.{Replies}
 use Rattle.orc_board.specs.Desk.{IsDesk}
+use Rattle.orc_board.specs.Stretches.{queue_view, set_view}
+use Rattle.orc_board.specs.Follows.{Follows}
+use Rattle.orc_jobs.specs.declared.line.Line.{Line}
 
 -- an idle desk of this agent, whose passes have seen no entry
 pub record IsFreshDesk {Q S P R A B : Type 0} (q : QueueOf Q P A) (s : SetOf S R B) (queue : Q) (set : S) (agent : ℕ) (desk : Desk P R) : Type 0 where
@@ -48,3 +52,8 @@ HaveSeen q s k n desks = AllByRecursion (λ desk. (q.journal desk.queue ≡ k) �
 -- the passes of all desks have seen the same two journals
 abbrev pub HaveSeenTheSame : {Q S P R A B : Type 0} → QueueOf Q P A → SetOf S R B → List (Desk P R) → Type 0
 HaveSeenTheSame q s desks = HaveSeen q s (queue_seen q desks) (set_seen s desks) desks
+
+-- the replies follow the two journals that the first desk's passes have seen
+abbrev pub RepliesFollow : {Q S P R A B : Type 0} → QueueOf Q P A → SetOf S R B → Q → S → List Line → ℕ → ℕ → List (Desk P R) → Replies → Type 0
+RepliesFollow q s queue set lines posters takers desks replies =
+    Follows (queue_view q queue) (set_view s set) lines posters takers replies.posts.items replies.takes.items (queue_seen q desks) (set_seen s desks)

@@ -1,6 +1,7 @@
 -- What a pass learns from others.
 use Rattle.std.specs.Prelude.{◌≡◌, ◌≢◌, ℕ, List, ◌++◌, ◌<◌, ◌≤◌, ◌+◌, ◌^◌}
 use Rattle.std.specs.List.{AllByRecursion}
+use Rattle.orc_history.specs.Journals.{own_of}
 use Rattle.orc_history.specs.QueueHistory.{agent_of_entry, IsLegalQueue, puts_in}
 use Rattle.orc_history.specs.SetHistory.{agent_of_set_entry, IsLegalSet}
 use Rattle.orc_history.specs.declared.queue.QueueRefused.TheVariants.{Positions}
@@ -66,3 +67,21 @@ module _ {W A E : Type 0} (agent : W → ℕ) (journal : W → List A) (own : �
     pub grows : IsPrefix before after
     pub own_is : own me after ≡ own me before
     pub each : Pointwise (IsWhole after) ws vs
+
+-- a desk's pass of the queue, or of the set, learned from those of these workers once, or twice over
+module _ {Q S P R A B : Type 0} (q : QueueOf Q P A) (s : SetOf S R B) (queue : Q) (set : S) (me : ℕ) (old new : Desk P R) (ws vs : List (Worker P R)) where
+  abbrev pub LearnsQueue : Type 0
+  LearnsQueue = Learned (λ (w : Worker P R). w.agent) (λ (w : Worker P R). q.journal w.desk.queue) (λ a j. own_of agent_of_entry a (q.history queue j)) me
+      (q.journal old.queue) (q.journal new.queue) ws vs
+
+  abbrev pub LearnsSet : Type 0
+  LearnsSet = Learned (λ (w : Worker P R). w.agent) (λ (w : Worker P R). s.journal w.desk.set) (λ a j. own_of agent_of_set_entry a (s.history set j)) me
+      (s.journal old.set) (s.journal new.set) ws vs
+
+  abbrev pub LearnsAllOfQueue : Type 0
+  LearnsAllOfQueue = LearnedAll (λ (w : Worker P R). w.agent) (λ (w : Worker P R). q.journal w.desk.queue) (λ a j. own_of agent_of_entry a (q.history queue j)) me
+      (q.journal old.queue) (q.journal new.queue) ws vs
+
+  abbrev pub LearnsAllOfSet : Type 0
+  LearnsAllOfSet = LearnedAll (λ (w : Worker P R). w.agent) (λ (w : Worker P R). s.journal w.desk.set) (λ a j. own_of agent_of_set_entry a (s.history set j)) me
+      (s.journal old.set) (s.journal new.set) ws vs

@@ -1,5 +1,5 @@
 -- What is reserved for a run, and the workers at their desks.
-use Rattle.std.specs.Prelude.{◌≡◌, ℕ, suc, ◌+◌, ◌*◌, ◌<◌, ◌≤◌, List, [], ◌∷◌, ◌++◌, length}
+use Rattle.std.specs.Prelude.{◌≡◌, ℕ, suc, ◌<◌, ◌≤◌, List, [], ◌∷◌, ◌++◌, length}
 use Rattle.std.specs.Vec.{vec_capacity}
 use Rattle.orc_history.specs.declared.queue.SharedQueue.{Ghosts as QueueOf}
 use Rattle.orc_board.specs.declared.desk.Desk.{Desk}
@@ -13,8 +13,6 @@ pub record IsRoom (posters lines posts agent : ℕ) (room : Room) : Type 0 where
   pub no_takes : room.takes.items ≡ []
   pub post_room : agent ≤ posters → room.posts.spare ≡ lines
   pub take_room : posters < agent → room.takes.spare ≡ posts
-  pub post_few : room.posts.spare ≤ lines
-  pub take_few : room.takes.spare ≤ posts
 
 -- a room for each agent, in order from this one
 abbrev pub AreRooms : ℕ → ℕ → ℕ → ℕ → List Room → Type 0
@@ -32,9 +30,9 @@ pub record IsReserved {P R : Type 0} (posters lines posts workers : ℕ) (r : Re
   pub no_own : r.own.items ≡ []
   pub own_room : r.own.spare ≡ lines
   pub no_posts : r.posts.items ≡ []
-  pub post_room : r.posts.spare ≡ workers * lines
+  pub post_room : r.posts.spare ≡ lines
   pub no_takes : r.takes.items ≡ []
-  pub take_room : r.takes.spare ≡ (workers + 1) * lines
+  pub take_room : r.takes.spare ≡ lines
 
 -- the queue passes are of the agents in order from this one
 abbrev pub HaveAgents : {Q P R A : Type 0} → QueueOf Q P A → Q → ℕ → List (Desk P R) → Type 0

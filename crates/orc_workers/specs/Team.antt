@@ -1,5 +1,5 @@
 -- Workers before and after their work.
-use Rattle.std.specs.Prelude.{◌≡◌, ℕ, ◌-◌, ◌<◌, ◌≤◌, List, [], ◌∷◌, ◌++◌, length, map}
+use Rattle.std.specs.Prelude.{◌≡◌, ℕ, ◌-◌, ◌<◌, ◌≤◌, List, [], ◌++◌, length, map}
 use Rattle.orc_history.specs.declared.queue.QueueEntry.{QueueEntry}
 use Rattle.orc_history.specs.declared.queue.QueueRefused.{QueueRefused}
 use Rattle.orc_history.specs.declared.queue.SharedQueue.{Ghosts as QueueOf}
@@ -49,8 +49,6 @@ pub record DidWork {Q S P R A B : Type 0} (q : QueueOf Q P A) (s : SetOf S R B) 
   pub agent_is : v.agent ≡ w.agent
   pub no_caller : 1 ≤ v.agent
   pub desk : IsDesk q s queue set v.agent v.desk
-  pub posts_fit : length v.posts.items ≤ w.posts.spare
-  pub takes_fit : length v.takes.items ≤ w.takes.spare
   pub posted : v.agent ≤ posters
       → DidPost (queue_view q queue) (set_view s set) lines posters v.agent v.posts.items v.takes.items (q.journal w.desk.queue) (s.journal w.desk.set) (q.journal v.desk.queue) (s.journal v.desk.set)
   pub took : posters < v.agent

@@ -5,10 +5,8 @@ ghost use Rattle.orc_history.specs.QueueHistory.{IsLegalQueue, waiting_after};
 ghost use Rattle.orc_history.specs.SetHistory.{IsLegalSet};
 ghost use Rattle.orc_jobs.specs.GoodLines.{AreGood};
 ghost use Rattle.orc_jobs.specs.Line.{posts_in};
-ghost use Rattle.orc_board.specs.Stretches.{queue_view, set_view};
-ghost use Rattle.orc_board.specs.Follows.{Follows};
 ghost use Rattle.orc_board.specs.Reportable.{AreReportable};
-ghost use Rattle.orc_workers.specs.Desks.{IsFreshDesk, AreFresh, AreIdle, HaveSeenTheSame, queue_seen, set_seen, queue_history, set_history};
+ghost use Rattle.orc_workers.specs.Desks.{IsFreshDesk, AreFresh, AreIdle, HaveSeenTheSame, RepliesFollow, queue_history, set_history};
 ghost use Rattle.orc_workers.specs.Team.{IsReady};
 ghost use Rattle.orc_workers.specs.CameBack.{AreNumbered, IsNew, AllCameBack};
 
@@ -78,9 +76,7 @@ where
     ensures idle { IfOk result (λ r. AreIdle Q.SharedQueue S.SharedSet queue.now set.now 0 desks.new.items) }
     ensures all { IfOk result (λ r. length desks.new.items ≡ 1 + (posters + takers)) }
     ensures seen { IfOk result (λ r. HaveSeenTheSame Q.SharedQueue S.SharedSet desks.new.items) }
-    ensures follows { IfOk result (λ r. Follows (queue_view Q.SharedQueue queue.now) (set_view S.SharedSet set.now)
-        lines.now posters takers r.posts.items r.takes.items
-        (queue_seen Q.SharedQueue desks.new.items) (set_seen S.SharedSet desks.new.items)) }
+    ensures follows { IfOk result (λ r. RepliesFollow Q.SharedQueue S.SharedSet queue.now set.now lines.now posters takers desks.new.items r) }
     ensures queue_legal { IfOk result (λ r. IsLegalQueue 0 (queue_history Q.SharedQueue queue.now desks.new.items)) }
     ensures set_legal { IfOk result (λ r. IsLegalSet (set_history S.SharedSet set.now desks.new.items)) }
     ensures empty { IfOk result (λ r. waiting_after [] (queue_history Q.SharedQueue queue.now desks.new.items) ≡ []) }
@@ -151,9 +147,7 @@ where
     ensures idle { IfOk result (λ f. AreIdle Q.SharedQueue S.SharedSet queue.now set.now 0 f.desks.items) }
     ensures all { IfOk result (λ f. length f.desks.items ≡ 1 + (posters + takers)) }
     ensures seen { IfOk result (λ f. HaveSeenTheSame Q.SharedQueue S.SharedSet f.desks.items) }
-    ensures follows { IfOk result (λ f. Follows (queue_view Q.SharedQueue queue.now) (set_view S.SharedSet set.now)
-        lines.now posters takers f.replies.posts.items f.replies.takes.items
-        (queue_seen Q.SharedQueue f.desks.items) (set_seen S.SharedSet f.desks.items)) }
+    ensures follows { IfOk result (λ f. RepliesFollow Q.SharedQueue S.SharedSet queue.now set.now lines.now posters takers f.desks.items f.replies) }
     ensures queue_legal { IfOk result (λ f. IsLegalQueue 0 (queue_history Q.SharedQueue queue.now f.desks.items)) }
     ensures set_legal { IfOk result (λ f. IsLegalSet (set_history S.SharedSet set.now f.desks.items)) }
     ensures empty { IfOk result (λ f. waiting_after [] (queue_history Q.SharedQueue queue.now f.desks.items) ≡ []) }
@@ -194,13 +188,11 @@ where
     requires enough { length lines.now ≤ takes.spare }
     requires ready { AllByRecursion (IsReady Q.SharedQueue S.SharedSet queue.now set.now lines.now posters) waiting.items }
     requires begin { AllByRecursion (IsNew Q.SharedQueue S.SharedSet queue.now set.now) waiting.items }
-    requires few { AllByRecursion (λ w. (w.posts.spare ≤ length lines.now) × (w.takes.spare ≤ posts_in lines.now)) waiting.items }
     requires numbered { AreNumbered 1 waiting.items }
     requires count { length waiting.items ≡ posters + takers }
     requires agents { (Q.agents queue.now ≡ 1 + (posters + takers)) × (S.agents set.now ≡ 1 + (posters + takers)) }
     ensures back { AllCameBack Q.SharedQueue S.SharedSet queue.now set.now lines.now posters takers result.desk result.takes.items result.workers.items }
     ensures len { vec_len result.workers ≡ vec_len waiting }
-    ensures own { length result.takes.items + result.takes.spare ≡ takes.spare }
 {
     let _ = takers;
     let left = AtomicU64::new(u64::from(posters));

@@ -1,12 +1,9 @@
 //! A desk learns from the desks of all others.
 ghost use Rattle.std.specs.Prelude.{◌≡◌, ◌≢◌, vec_len};
-ghost use Rattle.orc_history.specs.Journals.{own_of};
 ghost use Rattle.std.specs.List.{AllByRecursion};
-ghost use Rattle.orc_history.specs.QueueHistory.{agent_of_entry};
-ghost use Rattle.orc_history.specs.SetHistory.{agent_of_set_entry};
 ghost use Rattle.orc_board.specs.Desk.{IsDesk};
 ghost use Rattle.orc_board.specs.Follows.{Pointwise};
-ghost use Rattle.orc_workers.specs.Learning.{IsKnown, IsOther, SameWorker, Learned, LearnedAll};
+ghost use Rattle.orc_workers.specs.Learning.{IsKnown, IsOther, SameWorker, LearnsQueue, LearnsSet, LearnsAllOfQueue, LearnsAllOfSet};
 
 use crate::team::Worker;
 use orc_board::Desk;
@@ -25,8 +22,8 @@ pub(crate) fn learn_once<Q: LearnQueue, S: LearnSet>(
     ensures desk { IsDesk Q.SharedQueue S.SharedSet queue.now set.now me desk.new }
     ensures others { AllByRecursion (IsOther Q.SharedQueue S.SharedSet queue.now set.now me) others.new }
     ensures same { Pointwise SameWorker others.old others.new }
-    ensures queue { Learned (λ w. w.agent) (λ w. Q.journal w.desk.queue) (λ a j. own_of agent_of_entry a (Q.history queue.now j)) me (Q.journal desk.old.queue) (Q.journal desk.new.queue) others.old others.new }
-    ensures set { Learned (λ w. w.agent) (λ w. S.journal w.desk.set) (λ a j. own_of agent_of_set_entry a (S.history set.now j)) me (S.journal desk.old.set) (S.journal desk.new.set) others.old others.new }
+    ensures queue { LearnsQueue Q.SharedQueue S.SharedSet queue.now set.now me desk.old desk.new others.old others.new }
+    ensures set { LearnsSet Q.SharedQueue S.SharedSet queue.now set.now me desk.old desk.new others.old others.new }
 {
     let Some((first, rest)) = others.split_first_mut() else {
         return;
@@ -49,8 +46,8 @@ pub(crate) fn learn_all<Q: LearnQueue, S: LearnSet>(
     ensures desk { IsDesk Q.SharedQueue S.SharedSet queue.now set.now me desk.new }
     ensures others { AllByRecursion (IsOther Q.SharedQueue S.SharedSet queue.now set.now me) others.new }
     ensures same { Pointwise SameWorker others.old others.new }
-    ensures queue { LearnedAll (λ w. w.agent) (λ w. Q.journal w.desk.queue) (λ a j. own_of agent_of_entry a (Q.history queue.now j)) me (Q.journal desk.old.queue) (Q.journal desk.new.queue) others.old others.new }
-    ensures set { LearnedAll (λ w. w.agent) (λ w. S.journal w.desk.set) (λ a j. own_of agent_of_set_entry a (S.history set.now j)) me (S.journal desk.old.set) (S.journal desk.new.set) others.old others.new }
+    ensures queue { LearnsAllOfQueue Q.SharedQueue S.SharedSet queue.now set.now me desk.old desk.new others.old others.new }
+    ensures set { LearnsAllOfSet Q.SharedQueue S.SharedSet queue.now set.now me desk.old desk.new others.old others.new }
 {
     learn_once(queue, set, me, desk, others);
     learn_once(queue, set, me, desk, others)
@@ -71,8 +68,8 @@ pub(crate) fn learn_from_team<Q: LearnQueue, S: LearnSet>(
     ensures others { AllByRecursion (IsOther Q.SharedQueue S.SharedSet queue.now set.now me) others.new.items }
     ensures same { Pointwise SameWorker others.old.items others.new.items }
     ensures len { vec_len others.new ≡ vec_len others.old }
-    ensures queue { LearnedAll (λ w. w.agent) (λ w. Q.journal w.desk.queue) (λ a j. own_of agent_of_entry a (Q.history queue.now j)) me (Q.journal desk.old.queue) (Q.journal desk.new.queue) others.old.items others.new.items }
-    ensures set { LearnedAll (λ w. w.agent) (λ w. S.journal w.desk.set) (λ a j. own_of agent_of_set_entry a (S.history set.now j)) me (S.journal desk.old.set) (S.journal desk.new.set) others.old.items others.new.items }
+    ensures queue { LearnsAllOfQueue Q.SharedQueue S.SharedSet queue.now set.now me desk.old desk.new others.old.items others.new.items }
+    ensures set { LearnsAllOfSet Q.SharedQueue S.SharedSet queue.now set.now me desk.old desk.new others.old.items others.new.items }
 {
     learn_all(queue, set, me, desk, others.as_mut_slice());
 }

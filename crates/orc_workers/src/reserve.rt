@@ -34,7 +34,6 @@ pub(crate) fn reserve<A: Drop, B: Drop>(
     lines: usize,
     posts: usize,
 ) -> Result<Reserved<A, B>, NoMemory>
-    requires few { (workers < 8589934592) × (lines < 65536) }
     ensures { IfOk result (IsReserved posters lines posts workers) }
 {
     Ok(Reserved {
@@ -42,8 +41,8 @@ pub(crate) fn reserve<A: Drop, B: Drop>(
         waiting: Vec::with_capacity(alloc, workers)?,
         done: Vec::with_capacity(alloc, workers)?,
         own: TakeList::new(alloc, lines)?,
-        posts: PostList::new(alloc, workers * lines)?,
-        takes: TakeList::new(alloc, (workers + 1) * lines)?,
+        posts: PostList::new(alloc, lines)?,
+        takes: TakeList::new(alloc, lines)?,
     })
 }
 
@@ -55,7 +54,6 @@ fn reserve_rooms(
     lines: usize,
     posts: usize,
 ) -> Result<Vec<Room>, NoMemory>
-    requires few { workers < 8589934592 }
     ensures rooms { IfOk result (λ v. AreRooms posters lines posts 1 v.items) }
     ensures all { IfOk result (λ v. vec_len v ≡ workers) }
 {
@@ -86,7 +84,6 @@ fn reserve_room(
 fn rooms_of(agent: usize, posters: u32, lines: usize, posts: usize) -> (usize, usize)
     ensures poster { agent ≤ posters → result.0 ≡ lines }
     ensures taker { posters < agent → result.1 ≡ posts }
-    ensures few { (result.0 ≤ lines) × (result.1 ≤ posts) }
 {
     if agent <= posters as usize {
         (lines, 0)

@@ -4,9 +4,8 @@ ghost use Rattle.orc_history.specs.declared.queue.QueueEntry.{QueueEntry};
 ghost use Rattle.orc_jobs.specs.GoodLines.{AreGood};
 ghost use Rattle.orc_jobs.specs.Line.{posts_in};
 ghost use Rattle.orc_board.specs.Desk.{IsDesk};
-ghost use Rattle.orc_board.specs.Stretches.{queue_view, set_view};
-ghost use Rattle.orc_board.specs.Table.{EndsWith};
-ghost use Rattle.orc_board.specs.Follows.{Posting, TakingRest, own_records};
+ghost use Rattle.orc_board.specs.DeskCalls.{Posts, QueueEndsWith, TakesRest};
+ghost use Rattle.orc_board.specs.Follows.{own_records};
 
 use orc_board::{Desk, Gate, PostList, TakeList, post_records, take_one};
 use orc_history::{SharedQueue, SharedSet};
@@ -35,10 +34,7 @@ pub fn run_poster<R: Wait, Q: SharedQueue, S: SharedSet, G: Gate>(
     requires none { replies.items ≡ [] }
     requires room { length (own_records posters poster (length lines.now)) ≤ replies.spare }
     ensures desk { IsDesk Q.SharedQueue S.SharedSet queue.now set.now poster result.0 }
-    ensures posting { Posting (queue_view Q.SharedQueue queue.now) (set_view S.SharedSet set.now)
-        lines.now poster result.1.items
-        (Q.journal desk.queue) (S.journal desk.set)
-        (Q.journal result.0.queue) (S.journal result.0.set) }
+    ensures posting { Posts Q.SharedQueue S.SharedSet queue.now set.now desk result.0 lines.now poster result.1.items }
     ensures in_file_order { map (λ r. r.line) result.1.items ≡ own_records posters poster (length lines.now) }
     ensures spare { length result.1.items + result.1.spare ≡ replies.spare }
 {
@@ -75,14 +71,10 @@ pub fn run_taker<R: Wait, Q: SharedQueue, S: SharedSet, G: Gate>(
     requires none { replies.items ≡ [] }
     requires room { posts_in lines.now ≤ replies.spare }
     ensures desk { IsDesk Q.SharedQueue S.SharedSet queue.now set.now (Q.agent_of queue.now desk.queue) result.0 }
-    ensures taking { TakingRest (queue_view Q.SharedQueue queue.now) (set_view S.SharedSet set.now)
-        lines.now taker (Q.agent_of queue.now desk.queue) result.1.items
-        (Q.journal desk.queue) (S.journal desk.set)
-        (Q.journal result.0.queue) (S.journal result.0.set) }
+    ensures taking { TakesRest Q.SharedQueue S.SharedSet queue.now set.now desk result.0 lines.now taker result.1.items }
     ensures few { length result.1.items ≤ posts_in lines.now }
-    ensures last { length result.1.items < posts_in lines.now → EndsWith (queue_view Q.SharedQueue queue.now)
-        (Q.agent_of queue.now desk.queue) (QueueEntry.Empty (Q.agent_of queue.now desk.queue))
-        (Q.journal desk.queue) (Q.journal result.0.queue) }
+    ensures last { length result.1.items < posts_in lines.now
+        → QueueEndsWith Q.SharedQueue queue.now desk.queue result.0.queue (λ agent. QueueEntry.Empty agent) }
     ensures spare { length result.1.items + result.1.spare ≡ replies.spare }
 {
     let posts = count_posts(lines);

@@ -1,13 +1,17 @@
 //! The containers in their smallest uses, over the plain domain: each public call once, as a program makes it.
 #![tactic(auto)]
 
+mod board_run;
 mod one_thread;
 mod queue;
 mod two_threads;
+mod word_set;
 
+pub use board_run::{fresh_desks, run_over_words};
 pub use one_thread::put_and_take;
 pub use queue::{DomainQueue, QueuePass, Unmade, next_pass, plain_queue, queue_over};
 pub use two_threads::put_beside_take;
+pub use word_set::{PresenceWords, WordSet, WordSetCall, WordSetPass, WordSetShape};
 
 #[cfg(test)]
 mod tests;

@@ -1,13 +1,13 @@
 //! A queue in one call, and its passes.
 
-ghost use Rattle.std.specs.Prelude.{◌≡◌, ◌+◌, ◌<◌, ◌≤◌, ◌^◌, ℕ, All, IfOk, IfSome, length, slice_index_or};
+ghost use Rattle.std.specs.Prelude.{◌≡◌, ◌+◌, ◌<◌, ◌≤◌, ◌^◌, ℕ, [], All, IfOk, IfSome, length, slice_index_or};
 ghost use Rattle.orc_words.specs.Bounds.{bounds_of};
 
 use orc_domain::{PlainDomain, PlainPass};
 use orc_fault::NoMemory;
 use orc_fifo_rule::{Fifo, FifoNote};
 use orc_heap::Seed;
-use orc_history::SharedQueue;
+use orc_history::{LearnQueue, SharedQueue};
 use orc_queue::Queue;
 use orc_words::{Shape, ShapeFault};
 use std::alloc::Global;
@@ -27,6 +27,18 @@ pub enum Unmade {
     NoMemory,
 }
 
+impl From<ShapeFault> for Unmade {
+    fn from(fault: ShapeFault) -> Unmade {
+        Unmade::Shape(fault)
+    }
+}
+
+impl From<NoMemory> for Unmade {
+    fn from(_refused: NoMemory) -> Unmade {
+        Unmade::NoMemory
+    }
+}
+
 /// A queue over a plain domain of this shape, whose first job gets the position `first`, at most 2^62, and a pass for
 /// each agent, in order.
 ///
@@ -44,6 +56,9 @@ pub fn queue_over(
     ensures agents { IfOk result (λ made. (i : ℕ) (p : _) → i < length made.1.items
         → ⟦<DomainQueue as SharedQueue>⟧.agent_of made.0 (slice_index_or made.1.items i p) ≡ i) }
     ensures passes { IfOk result (λ made. length made.1.items ≡ (bounds_of shape.now).agents) }
+    ensures fresh { IfOk result (λ made. All (λ p. ⟦<DomainQueue as SharedQueue>⟧.history made.0 (⟦<DomainQueue as SharedQueue>⟧.journal p) ≡ []) made.1.items) }
+    ensures all { IfOk result (λ made. ⟦<DomainQueue as LearnQueue>⟧.agents made.0 ≡ (bounds_of shape.now).agents) }
+    ensures first { IfOk result (λ made. ⟦<DomainQueue as SharedQueue>⟧.first made.0 ≡ first) }
 {
     let seed = Seed::Dummy {
         first,
@@ -69,15 +84,13 @@ pub fn plain_queue(
     ensures agents { IfOk result (λ made. (i : ℕ) (p : _) → i < length made.1.items
         → ⟦<DomainQueue as SharedQueue>⟧.agent_of made.0 (slice_index_or made.1.items i p) ≡ i) }
     ensures passes { IfOk result (λ made. length made.1.items ≡ agents) }
+    ensures fresh { IfOk result (λ made. All (λ p. ⟦<DomainQueue as SharedQueue>⟧.history made.0 (⟦<DomainQueue as SharedQueue>⟧.journal p) ≡ []) made.1.items) }
+    ensures all { IfOk result (λ made. ⟦<DomainQueue as LearnQueue>⟧.agents made.0 ≡ agents) }
+    ensures first { IfOk result (λ made. ⟦<DomainQueue as SharedQueue>⟧.first made.0 ≡ 0) }
 {
-    let shape = match Shape::new(rows, 2, agents, 1) {
-        Ok(shape) => shape,
-        Err(fault) => return Err(Unmade::Shape(fault)),
-    };
-    match queue_over(alloc, &shape, 0) {
-        Ok(made) => Ok(made),
-        Err(NoMemory) => Err(Unmade::NoMemory),
-    }
+    let shape = Shape::new(rows, 2, agents, 1)?;
+    let made = queue_over(alloc, &shape, 0)?;
+    Ok(made)
 }
 
 /// The pass of the last agent that is left.

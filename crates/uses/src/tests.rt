@@ -8,8 +8,10 @@ use std::test::Fail;
 
 mod chains;
 mod domain_threads;
+mod meeting;
 mod queue_calls;
 mod queue_threads;
+mod workers;
 
 #[test]
 fn a_job_goes_through_a_queue(rt: HostRuntime) -> Result<(), Fail> {

@@ -1,11 +1,11 @@
-use Rattle.std.proofs.Common.{rules, ◌≡◌, ◌+◌, ◌-◌, ◌*◌, ◌≤◌, ◌++◌, ◌∷◌, [], refl, sym, ap, ◌∙◌, length, map, arith, vec_len, List}
+use Rattle.std.proofs.Common.{rules, ◌≡◌, ◌+◌, ◌++◌, ◌∷◌, [], ap, ◌∙◌, length, map, arith, List}
 use Rattle.orc_board.specs.declared.desk.Desk.{Desk}
 use Rattle.orc_board.specs.declared.replies.PostReply.{PostReply}
 use Rattle.orc_board.specs.declared.replies.TakeReply.{TakeReply}
 use Rattle.orc_workers.specs.declared.team.Worker.{Worker}
 use Rattle.orc_workers.specs.Seats.{all_of}
-use Rattle.orc_workers.proofs.Over.{over_of}
-use Rattle.orc_workers.proofs.Rooms.{fresh_rest, fresh_agents, seats_ready, seated_length, posts_room, takes_room}
+use Rattle.orc_workers.proofs.Over.{over_of, few_replies}
+use Rattle.orc_workers.proofs.Rooms.{fresh_rest, fresh_agents, seats_ready, seated_length}
 use Rattle.orc_workers.proofs.board.run_at_desks.Goals as goal
 
 pub seat-waiting-requires-clause-agents : goal.seat-waiting-requires-clause-agents
@@ -38,12 +38,6 @@ run_seated-desk-requires-clause-begin g c κs within =
     c.requires.good c.len-2.ensures c.count_posts.ensures c.requires.desks c.remove-desk.ensures.items c.in_ok-rooms.ensures.rooms c.seat-waiting.ensures.seated in
     r.begin
 
-pub run_seated-desk-requires-clause-few : goal.run_seated-desk-requires-clause-few
-run_seated-desk-requires-clause-few g c κs within =
-    let r = seats_ready g.Q.SharedQueue g.S.SharedSet c.args.queue.now c.args.set.now c.args.lines.now c.args.posters _ _ c.args.desks.now.items c.remove-desk.new.self.items _ _
-    c.requires.good c.len-2.ensures c.count_posts.ensures c.requires.desks c.remove-desk.ensures.items c.in_ok-rooms.ensures.rooms c.seat-waiting.ensures.seated in
-    r.few
-
 pub run_seated-desk-requires-clause-numbered : goal.run_seated-desk-requires-clause-numbered
 run_seated-desk-requires-clause-numbered g c κs within =
     let r = seats_ready g.Q.SharedQueue g.S.SharedSet c.args.queue.now c.args.set.now c.args.lines.now c.args.posters _ _ c.args.desks.now.items c.remove-desk.new.self.items _ _
@@ -57,23 +51,35 @@ hand_back-requires-clause-desks g c =
     let none : length c.seat-waiting.new.desks.items ≡ 0 = ap length c.seat-waiting.ensures.none in
     search rules
 
-pub hand_back-requires-clause-posts : goal.hand_back-requires-clause-posts
-hand_back-requires-clause-posts g c =
+pub append-requires : goal.append-requires
+append-requires g c =
+    let rest : length c.remove-desk.new.self.items ≡ c.args.posters + c.args.takers = search rules in
     let rooms : length c.in_ok-rooms.field-0.rooms.items ≡ length c.remove-desk.new.self.items = search rules in
     let all : length c.seat-waiting.result.items ≡ length c.remove-desk.new.self.items = ap length c.seat-waiting.ensures.seated ∙ seated_length 1 _ _ rooms in
-    let workers : length c.run_seated-desk.result.workers.items ≡ c.len.result - 1 = search rules in
-    let room : c.in_ok-rooms.field-0.posts.spare ≡ (c.len.result - 1) * length c.args.lines.now = c.in_ok-rooms.ensures.post_room ∙ ap (λ n. (c.len.result - 1) * n) c.len-2.ensures in
-    posts_room g.Q.SharedQueue g.S.SharedSet c.args.queue.now c.args.set.now c.args.lines.now _ _ (c.len.result - 1) c.in_ok-rooms.field-0.posts.spare c.run_seated-desk.result.workers.items c.run_seated-desk.ensures.back.back workers room
+    let many : length c.run_seated-desk.result.workers.items ≡ c.args.posters + c.args.takers = search rules in
+    let few = few_replies g.Q.SharedQueue g.S.SharedSet c.args.queue.now c.args.set.now c.args.lines.now c.args.posters c.args.takers c.run_seated-desk.result.desk c.run_seated-desk.result.takes.items c.run_seated-desk.result.workers.items
+    c.requires.posters c.requires.good.few c.requires.first many c.run_seated-desk.ensures.back in
+    omega (arith, few.1, c.in_ok-rooms.ensures.take_room, c.len-2.ensures)
+
+pub hand_back-requires-clause-posts : goal.hand_back-requires-clause-posts
+hand_back-requires-clause-posts g c =
+    let rest : length c.remove-desk.new.self.items ≡ c.args.posters + c.args.takers = search rules in
+    let rooms : length c.in_ok-rooms.field-0.rooms.items ≡ length c.remove-desk.new.self.items = search rules in
+    let all : length c.seat-waiting.result.items ≡ length c.remove-desk.new.self.items = ap length c.seat-waiting.ensures.seated ∙ seated_length 1 _ _ rooms in
+    let many : length c.run_seated-desk.result.workers.items ≡ c.args.posters + c.args.takers = search rules in
+    let few = few_replies g.Q.SharedQueue g.S.SharedSet c.args.queue.now c.args.set.now c.args.lines.now c.args.posters c.args.takers c.run_seated-desk.result.desk c.run_seated-desk.result.takes.items c.run_seated-desk.result.workers.items
+    c.requires.posters c.requires.good.few c.requires.first many c.run_seated-desk.ensures.back in
+    omega (arith, few.0, c.in_ok-rooms.ensures.post_room, c.len-2.ensures)
 
 pub hand_back-requires-clause-takes : goal.hand_back-requires-clause-takes
 hand_back-requires-clause-takes g c =
+    let rest : length c.remove-desk.new.self.items ≡ c.args.posters + c.args.takers = search rules in
     let rooms : length c.in_ok-rooms.field-0.rooms.items ≡ length c.remove-desk.new.self.items = search rules in
     let all : length c.seat-waiting.result.items ≡ length c.remove-desk.new.self.items = ap length c.seat-waiting.ensures.seated ∙ seated_length 1 _ _ rooms in
-    let workers : length c.run_seated-desk.result.workers.items ≡ c.len.result - 1 = search rules in
-    let room : c.in_ok-rooms.field-0.takes.spare ≡ (c.len.result - 1 + 1) * length c.args.lines.now = c.in_ok-rooms.ensures.take_room ∙ ap (λ n. (c.len.result - 1 + 1) * n) c.len-2.ensures in
-    let few : length c.run_seated-desk.result.takes.items ≤ length c.args.lines.now = omega (arith, c.run_seated-desk.ensures.own, c.in_ok-rooms.ensures.own_room, c.len-2.ensures) in
-    takes_room g.Q.SharedQueue g.S.SharedSet c.args.queue.now c.args.set.now c.args.lines.now _ _ (c.len.result - 1) c.in_ok-rooms.field-0.takes.spare (length c.run_seated-desk.result.takes.items) c.append.new.self.spare c.run_seated-desk.result.workers.items
-    c.run_seated-desk.ensures.back.back workers room few c.append.ensures.spare
+    let many : length c.run_seated-desk.result.workers.items ≡ c.args.posters + c.args.takers = search rules in
+    let few = few_replies g.Q.SharedQueue g.S.SharedSet c.args.queue.now c.args.set.now c.args.lines.now c.args.posters c.args.takers c.run_seated-desk.result.desk c.run_seated-desk.result.takes.items c.run_seated-desk.result.workers.items
+    c.requires.posters c.requires.good.few c.requires.first many c.run_seated-desk.ensures.back in
+    omega (arith, few.1, c.in_ok-rooms.ensures.take_room, c.len-2.ensures, c.append.ensures.spare)
 
 pub returns : goal.returns
 returns g c =

@@ -1,7 +1,4 @@
 use Rattle.std.proofs.Common.{◌∙◌}
-use Rattle.orc_history.specs.Journals.{own_of}
-use Rattle.orc_history.specs.QueueHistory.{agent_of_entry}
-use Rattle.orc_history.specs.SetHistory.{agent_of_set_entry}
 use Rattle.orc_workers.specs.Learning.{SameWorker}
 use Rattle.orc_workers.proofs.Lessons.{Learned-twice}
 use Rattle.orc_workers.proofs.Teams.{Pointwise-through}

@@ -1,6 +1,5 @@
-use Rattle.std.proofs.Common.{rules, ◌≡◌, ◌+◌, ◌++◌, ◌∷◌, [], length, List, ap, sym, ◌∙◌, subst, arith, length-append}
-use Rattle.orc_workers.specs.declared.reserve.Room.{Room}
-use Rattle.orc_workers.specs.Seats.{IsRoom, AreRooms}
+use Rattle.std.proofs.Common.{rules, ◌≡◌, ◌+◌, ◌++◌, ◌∷◌, [], length, subst, arith, length-append}
+use Rattle.orc_workers.specs.Seats.{IsRoom}
 use Rattle.orc_workers.proofs.Rooms.{AreRooms-snoc}
 use Rattle.orc_workers.proofs.reserve.reserve_rooms.Goals as goal
 

@@ -1,5 +1,5 @@
-use Rattle.std.proofs.Common.{◌≡◌, ◌+◌, length, arith}
-use Rattle.orc_workers.proofs.Rooms.{all_length, back_more}
+use Rattle.std.proofs.Common.{arith}
+use Rattle.orc_workers.proofs.Rooms.{all_length}
 use Rattle.orc_workers.proofs.seating.+hand_back.Goals as goal
 
 pub append-requires : goal.append-requires

@@ -1,8 +1,6 @@
-use Rattle.std.proofs.Common.{rules, ◌≡◌, ◌+◌, ◌++◌, ◌∷◌, [], length, List, ap, sym, ◌∙◌, subst, arith}
+use Rattle.std.proofs.Common.{rules, ◌≡◌, ◌+◌, ◌++◌, ◌∷◌, [], length, List, ap, ◌∙◌, subst}
 use Rattle.orc_board.specs.declared.desk.Desk.{Desk}
-use Rattle.orc_workers.specs.declared.reserve.Room.{Room}
-use Rattle.orc_workers.specs.declared.team.Worker.{Worker}
-use Rattle.orc_workers.specs.Seats.{HaveAgents, seated}
+use Rattle.orc_workers.specs.Seats.{HaveAgents}
 use Rattle.orc_workers.proofs.Rooms.{agents_before, seated-snoc, seated_length}
 use Rattle.orc_workers.proofs.seating.+seat.Goals as goal
 

@@ -1,5 +1,4 @@
-use Rattle.std.proofs.Common.{◌≡◌, ◌≢◌, ◌+◌, ◌≤◌, ◌<◌, ℕ, length, ap, arith, refl, subst, []}
-use Rattle.orc_jobs.specs.Line.{posts_in}
+use Rattle.std.proofs.Common.{◌≡◌, ◌<◌, ℕ, length, ap, arith, refl, subst}
 use Rattle.orc_board.specs.Desk.{IsDesk}
 use Rattle.orc_board.specs.Stretches.{queue_view, set_view}
 use Rattle.orc_workers.proofs.Resting.{did_take}
@@ -15,8 +14,6 @@ returns-else-agent-posters g c =
       agent_is = refl;
       no_caller = r.no_caller;
       desk = subst (λ (a : ℕ). IsDesk g.Q.SharedQueue g.S.SharedSet c.args.queue.now c.args.set.now a c.run_taker-desk.result.0) r.desk.queue_agent e.desk;
-      posts_fit = omega (arith, none);
-      takes_fit = omega (arith, e.spare);
       posted = λ few. absurd (omega (arith, few, more));
       took = λ h. did_take (queue_view g.Q.SharedQueue c.args.queue.now) (set_view g.S.SharedSet c.args.set.now) _ _ _ _ _ _ _ _ _ _
           r.desk.queue_agent r.no_posts e.taking e.last;

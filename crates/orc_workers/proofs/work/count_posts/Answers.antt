@@ -1,4 +1,4 @@
-use Rattle.std.proofs.Common.{◌≡◌, ◌≤◌, ◌<◌, ◌+◌, arith, suc}
+use Rattle.std.proofs.Common.{arith}
 use Rattle.orc_workers.proofs.Rooms.{step_known}
 use Rattle.orc_workers.proofs.work.count_posts.Goals as goal
 

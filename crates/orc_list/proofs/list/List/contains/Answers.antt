@@ -1,27 +1,28 @@
 -- What the call did, and the settling after it.
-use Rattle.std.proofs.Common.{subst, sym, ℕ, ◌∙◌}
+use Rattle.std.proofs.Common.{Bool, subst, sym, ℕ}
 use Rattle.orc_heap.proofs.Pieces.{goes_on}
 use Rattle.orc_heap.proofs.Steps.{alone_later}
 use Rattle.orc_history.specs.Parts.{IsAlone}
-use Rattle.orc_list.proofs.Calling.{any_idle, ask_again, ask_any, ask_err, ask_no_turns, ask_ok, ask_settled, few_since, gives_made}
-use Rattle.orc_list.proofs.Inserting.{idle_room}
+use Rattle.orc_history.specs.declared.set.SetEntry.{SetEntry}
+use Rattle.orc_history.specs.declared.set.SetEntry.TheVariants.{Asked}
+use Rattle.orc_list.proofs.Causes.{did_enter, did_few, did_give, did_not_enter, did_nothing, if_err, turns_used}
+use Rattle.orc_list.proofs.Settling.{ask_did, ask_keeps, idle_settled}
 use Rattle.orc_list.proofs.list.List.contains.Goals as goal
 
 pub returns : goal.returns
 returns g c =
     let d = c.args.self.now.links in
     let n = g.L.Links.numbers d in
-    let key = c.args.key in
-    let turns = c.args.turns in
     let s = g.L.Links.seat d c.args.p.now in
     let t = g.L.Links.seat d c.ask_turns-answer.new.p in
     let u = g.L.Links.seat d c.settle.new.p in
     let r = c.ask_turns-answer.result in
+    let turns = c.args.turns in
     let done = c.ask_turns-answer.ensures in
     let settle = c.settle.ensures in
-    let l = ask_settled key turns s t u r settle.nothing done.asked in
-    let (any, fresh) = ask_any key turns s u r l in
-    let (before, fresh_before) = ask_any key turns s t r done.asked in
+    let entry : Bool → SetEntry = λ answer. Asked s.agent c.args.key answer in
+    let did = ask_did s t u settle.nothing c.args.key turns r done.asked in
+    let keeps = ask_keeps c.args.key turns s t r done.asked c.requires.idle in
     let j = g.L.Links.journal c.args.p.now in
     let k = g.L.Links.journal c.ask_turns-answer.new.p in
     let m = g.L.Links.journal c.settle.new.p in
@@ -36,15 +37,15 @@ returns g c =
     let adds = g.met.L.Links.steps_add d in
     record {
       pass = settle.pass;
-      idle = any_idle 0 turns s u any (fresh ∙ c.requires.idle.fresh) c.requires.idle;
-      agent = any.made.puts.agent;
+      idle = idle_settled t u keeps.0 settle.nothing;
+      agent = did.made.puts.agent;
       later = grows;
-      asked = ask_ok n agents by events adds s u j m grows is_s is_u all below key turns r l;
-      none = ask_err n agents by events adds s u j m grows is_s is_u all below key turns r l;
-      no_turns = λ zero. (ask_no_turns key turns s u r l zero).0;
-      no_event = λ zero. (ask_no_turns key turns s u r l zero).1;
-      again = ask_again n agents by events adds s u j m grows is_s is_u all below key turns r l;
-      gives = gives_made 0 s u any.own any.made.puts any.made.gives;
-      tries = few_since turns 0 s u any.own any.made.puts any.made.few;
-      settled = λ alone. settle.settled (subst (λ (x : ℕ). IsAlone by x k m) (sym before.made.puts.agent) (alone_later by s.agent j k m done.later settle.later alone));
+      asked = did_enter n agents by events adds s u j m grows is_s is_u all below 0 turns entry r did;
+      none = did_not_enter n agents by events adds s u j m grows is_s is_u all below 0 turns entry r did;
+      no_turns = λ zero. (did.no_turns zero).0;
+      no_event = did_nothing 0 turns entry s u r did;
+      again = if_err r _ (turns_used n agents by events adds s u j m grows is_s is_u all below 0 turns entry r did);
+      gives = did_give 0 turns entry s u r did;
+      tries = did_few 0 turns entry s u r did;
+      settled = λ alone. settle.settled (subst (λ (x : ℕ). IsAlone by x k m) (sym keeps.1) (alone_later by s.agent j k m done.later settle.later alone));
     }

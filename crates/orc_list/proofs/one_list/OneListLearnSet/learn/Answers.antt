@@ -1,5 +1,5 @@
 -- An agent's entries are those of its own events.
-use Rattle.orc_list.proofs.Licensing.{learns}
+use Rattle.orc_list.proofs.Licences.{learns}
 use Rattle.orc_list.proofs.one_list.OneListLearnSet.learn.Goals as goal
 
 pub returns-clause-learned : goal.returns-clause-learned

@@ -1,15 +1,12 @@
--- The only root, and the causes as licences.
-use Rattle.orc_list.proofs.Licensing.{of_one, other_licence}
+-- The cause as a licence.
+use Rattle.orc_list.proofs.Licences.{again_licence}
 use Rattle.orc_list.proofs.one_list.OneListSharedSet.contains.Goals as goal
-
-pub contains-requires-clause-of_key : goal.contains-requires-clause-of_key
-contains-requires-clause-of_key g c = of_one (g.L.Links.numbers c.args.self.now.list.links).roots c.args.key c.args.self.now.one
 
 pub returns-clause-licence : goal.returns-clause-licence
 returns-clause-licence g c =
     let d = c.args.self.now.list.links in
-    let s = g.L.Links.seat d c.args.p.now in
+    let agent = (g.L.Links.seat d c.args.p.now).agent in
     let j = g.L.Links.journal c.args.p.now in
     let m = g.L.Links.journal c.contains.new.p in
     let e = c.contains.ensures in
-    other_licence g.L.Links.agent_of (g.L.Links.events d) s.agent c.args.turns j m e.later (g.L.Links.lacking d s.agent m) (λ row. g.L.Links.worn d s.agent row m) c.contains.result e.again
+    again_licence g.L.Links.agent_of (g.L.Links.events d) agent c.args.turns j m e.later (g.L.Links.lacking d agent m) (λ spent. g.L.Links.worn d agent spent m) c.contains.result e.again

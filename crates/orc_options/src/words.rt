@@ -41,8 +41,8 @@ impl CommandWords {
         Ok(())
     }
 
-    // The words in their order.
-    pub(crate) fn words(&self) -> &[String]
+    /// The words in their order.
+    pub fn words(&self) -> &[String]
         ensures { map string_bytes result.now ≡ self.now }
     {
         self.words.as_slice()

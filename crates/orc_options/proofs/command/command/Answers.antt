@@ -1,0 +1,21 @@
+-- Each option is added to the command as it is.
+use Rattle.std.proofs.Common.{ap, ap₂, true, ◌∙◌, ◌≡◌}
+use Rattle.std.proofs.lemmas.Result.{IfOk-weaker}
+use Rattle.clap.specs.Words.{App, app_of, with_rule}
+use Rattle.clap.specs.Simple.{app_of_fields}
+use Rattle.orc_options.specs.Options.{first_app}
+use Rattle.orc_options.proofs.command.command.Goals as goal
+
+pub returns : goal.returns
+returns c =
+    let modes = c.mode_words.result in
+    let a0 : app_of c.no_binary_name-command.result ≡ first_app =
+    ap app_of_fields c.no_binary_name-command.ensures ∙ ap (λ (a : App). record a { top = record a.top { no_binary_name = true } }) c.new.ensures.app in
+    let a1 = c.in_ok-command.ensures.shape c.choice_option.ensures.local ∙ ap₂ with_rule a0 c.choice_option.ensures.rule in
+    let a2 = c.in_ok-command-2.ensures.shape c.number_option.ensures.local ∙ ap₂ with_rule a1 c.number_option.ensures.rule in
+    let a3 = c.in_ok-command-3.ensures.shape c.number_option-2.ensures.local ∙ ap₂ with_rule a2 c.number_option-2.ensures.rule in
+    IfOk-weaker c.arg-4.result _ _ (λ d h. record {
+      modes = modes;
+      mode_words = c.mode_words.ensures;
+      app = h.shape c.number_option-3.ensures.local ∙ ap₂ with_rule a3 c.number_option-3.ensures.rule;
+    }) c.arg-4.ensures

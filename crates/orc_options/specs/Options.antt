@@ -1,0 +1,42 @@
+-- The one command, as `clap` sees it.
+use Rattle.std.specs.Prelude.{◌≡◌, ◌∷◌, [], List, Some, codes, map, pos, true, ℕ}
+use Rattle.std.specs.Borrow.{Bor}
+use Rattle.clap.specs.Words.{App, Rule, Text, new_app, new_rule, with_rule}
+use Rattle.clap.specs.declared.builder.value_parser.ValueParser.TheVariants as vp
+
+-- an option with a number from low to high
+abbrev pub number_rule : Text → Text → ℕ → ℕ → Rule
+number_rule id default low high = record (new_rule id) {
+  long = Some id;
+  parser = Some (vp.Signed (pos low) (pos high));
+  defaults = default ∷ [];
+}
+
+-- an option with one of these words
+abbrev pub choice_rule : Text → Text → Bor (List (Bor Text)) → Rule
+choice_rule id default names = record (new_rule id) {
+  long = Some id;
+  parser = Some (vp.Names names);
+  defaults = default ∷ [];
+}
+
+-- the command without options, whose words come without the program's name
+abbrev pub first_app : App
+first_app =
+    let a = new_app (codes "mooringakee") in
+    record a { top = record a.top { no_binary_name = true } }
+
+-- the command, where `modes` are the words that the program holds
+abbrev pub command_app : Bor (List (Bor Text)) → App
+command_app modes =
+    with_rule (with_rule (with_rule (with_rule first_app
+    (choice_rule (codes "mode") (codes "run") modes))
+    (number_rule (codes "posters") (codes "1") 1 8))
+    (number_rule (codes "takers") (codes "0") 0 7))
+    (number_rule (codes "rows") (codes "65535") 8 65535)
+
+-- the one simple command, with its options
+pub record IsCommand (a : App) : Type 0 where
+  pub modes : Bor (List (Bor Text))
+  pub mode_words : map (λ n. n.now) modes.now ≡ codes "run" ∷ codes "replay" ∷ []
+  pub app : a ≡ command_app modes

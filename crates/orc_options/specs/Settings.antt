@@ -1,0 +1,44 @@
+-- What the words of a command line say.
+use Rattle.std.specs.Prelude.{◌≡◌, ◌≢◌, List, [], ℕ, Option, Some, None, codes, if◌then◌else◌}
+use Rattle.std.specs.Str.{bytes_eq}
+use Rattle.std.specs.Str.Parse.{digits_value, without_leading_plus}
+use Rattle.clap.specs.ValueTests.{is_unsigned_in}
+use Rattle.clap.specs.Words.{App, Row, Text, first_of, matches_of, one_of}
+use Rattle.clap.specs.Faults.{fault_of}
+use Rattle.orc_options.specs.Options.{IsCommand}
+use Rattle.orc_options.specs.declared.settings.Mode.{Mode}
+use Rattle.orc_options.specs.declared.settings.Mode.TheVariants as mode
+use Rattle.orc_options.specs.declared.settings.Settings.{Settings}
+
+-- the number that an option's text is, from low to high, or the default
+abbrev pub number_in : ℕ → ℕ → ℕ → Option Text → ℕ
+number_in low high default None = default
+number_in low high default (Some text) =
+    if is_unsigned_in low high text then digits_value 10 (without_leading_plus text) else default
+
+-- the mode that the option's word names
+abbrev pub mode_in : Option Text → Mode
+mode_in None = mode.Run
+mode_in (Some text) = if bytes_eq text (codes "replay") then mode.Replay else mode.Run
+
+-- the settings that the matches give
+abbrev pub settings_in : List Row → Settings
+settings_in rows = record {
+  mode = mode_in (first_of (codes "mode") rows);
+  posters = number_in 1 8 1 (one_of (codes "posters") rows);
+  takers = number_in 0 7 0 (one_of (codes "takers") rows);
+  rows = number_in 8 65535 65535 (one_of (codes "rows") rows);
+}
+
+-- `clap` takes the words, and its matches give these settings
+pub record Gives (words : List Text) (s : Settings) : Type 0 where
+  pub app : App
+  pub is_command : IsCommand app
+  pub taken : fault_of app words ≡ []
+  pub settings : s ≡ settings_in (matches_of app words)
+
+-- `clap` refuses the words, for another cause than memory
+pub record Refuses (words : List Text) : Type 0 where
+  pub app : App
+  pub is_command : IsCommand app
+  pub refused : fault_of app words ≢ []

@@ -1,0 +1,51 @@
+//! The one command, with its options.
+
+ghost use Rattle.std.specs.Prelude.{◌≡◌, ◌∷◌, [], codes, map, false, IfOk};
+ghost use Rattle.clap.specs.Words.{app_of, rule_of};
+ghost use Rattle.orc_options.specs.Options.{IsCommand, choice_rule, number_rule};
+
+use clap::builder::ValueParser;
+use clap::{Arg, Command};
+use std::alloc::{AllocError, Global};
+
+static MODES: [&str; 2] = ["run", "replay"];
+
+// The words of the modes.
+fn mode_words<'a>() -> &'a [&'a str]
+    ensures { map (λ n. n.now) result.now ≡ codes "run" ∷ codes "replay" ∷ [] }
+{
+    MODES.as_slice()
+}
+
+// An option with a number in a range.
+fn number_option<'a>(alloc: Global, id: &'a str, default: &'a str, low: u32, high: u32) -> Arg<'a>
+    ensures rule { rule_of result ≡ number_rule id.entry.now default.entry.now low high }
+    ensures local { result.global ≡ false }
+{
+    Arg::new(alloc, id)
+        .long(id)
+        .value_parser(ValueParser::Signed(low as i64, high as i64))
+        .default_value(default)
+}
+
+// An option with one of several words.
+fn choice_option<'a>(alloc: Global, id: &'a str, default: &'a str, names: &'a [&'a str]) -> Arg<'a>
+    ensures rule { rule_of result ≡ choice_rule id.entry.now default.entry.now names.entry }
+    ensures local { result.global ≡ false }
+{
+    Arg::new(alloc, id)
+        .long(id)
+        .value_parser(ValueParser::Names(names))
+        .default_value(default)
+}
+
+// The command with its options.
+pub(crate) fn command<'a>(alloc: Global) -> Result<Command<'a>, AllocError>
+    ensures { IfOk result (λ c. IsCommand (app_of c)) }
+{
+    let command = Command::new(alloc, "mooringakee").no_binary_name(true);
+    let command = command.arg(choice_option(alloc, "mode", "run", mode_words()))?;
+    let command = command.arg(number_option(alloc, "posters", "1", 1, 8))?;
+    let command = command.arg(number_option(alloc, "takers", "0", 0, 7))?;
+    command.arg(number_option(alloc, "rows", "65535", 8, 65535))
+}

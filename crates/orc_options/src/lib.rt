@@ -1,0 +1,12 @@
+//! The words of the command line, and the settings that they give, read by `clap`.
+#![tactic(auto)]
+
+mod command;
+mod settings;
+mod words;
+
+pub use settings::{Mode, Refused, Settings, settings_of};
+pub use words::CommandWords;
+
+#[cfg(test)]
+mod tests;

@@ -1,0 +1,110 @@
+//! What the words say.
+
+ghost use Rattle.std.specs.Prelude.{◌≡◌, ◌≢◌, IfErr, IfOk, option_map};
+ghost use Rattle.clap.specs.Words.{found_of, one_text, rows_of};
+ghost use Rattle.orc_options.specs.Settings.{Gives, Refuses, mode_in, number_in, settings_in as read_settings};
+
+use crate::CommandWords;
+use crate::command::command;
+use clap::ArgMatches;
+use clap::error::ErrorKind;
+use std::alloc::Global;
+
+/// What the program is to do.
+#[derive(Clone, Copy, Debug, PartialEq, Eq, Drop)]
+pub enum Mode {
+    /// Run a job file, and write the report.
+    Run,
+    /// Play a trace of the machine, and write what it leaves.
+    Replay,
+}
+
+/// What the options say.
+#[derive(Clone, Copy, Debug, PartialEq, Eq, Drop)]
+pub struct Settings {
+    /// `--mode`; run, where it isn't given.
+    pub mode: Mode,
+    /// `--posters`, 1 to 8: how many posters; 1, where it isn't given.
+    pub posters: u32,
+    /// `--takers`, 0 to 7: how many takers; 0, where it isn't given.
+    pub takers: u32,
+    /// `--rows`, 8 to 65,535: how many rows each container has; 65,535, where it isn't given.
+    pub rows: u32,
+}
+
+/// Why words give no settings.
+#[derive(Clone, Copy, Debug, PartialEq, Eq, Drop)]
+pub enum Refused {
+    /// `clap` refuses the words, or answers help or a version.
+    Words,
+    /// Memory was refused.
+    NoMemory,
+}
+
+// The number of an option.
+fn number_of(matches: &ArgMatches<'_>, id: &str, low: u32, high: u32, default: u32) -> u32
+    ensures { result ≡ number_in low high default (one_text (found_of matches.now) id.now) }
+{
+    match matches.get_one::<u32>(id) {
+        Some(number) => {
+            if low <= number && number <= high {
+                number
+            } else {
+                default
+            }
+        }
+        None => default,
+    }
+}
+
+// The mode that a word names.
+fn mode_of(word: Option<&str>) -> Mode
+    ensures { result ≡ mode_in (option_map (λ s. s.now) word.entry) }
+{
+    match word {
+        Some("replay") => Mode::Replay,
+        _ => Mode::Run,
+    }
+}
+
+// What an error of clap means here.
+fn refused_by(kind: ErrorKind) -> Refused
+    ensures { result ≡ Refused.Words → kind ≢ ErrorKind.OutOfMemory }
+{
+    match kind {
+        ErrorKind::OutOfMemory => Refused::NoMemory,
+        _ => Refused::Words,
+    }
+}
+
+/// The settings that the words give. An option stands at most once, as `--rows 8` or `--rows=8`; numbers are those that
+/// `clap` reads, so `+8` and `008` are 8.
+///
+/// # Errors
+///
+/// * `Words` exactly where `clap` refuses the words for another cause than memory; help and a version count as refused.
+/// * `NoMemory` where memory is refused.
+pub fn settings_of(alloc: Global, words: &CommandWords) -> Result<Settings, Refused>
+    ensures gives { IfOk result (Gives words.now) }
+    ensures refuses { IfErr result (λ why. why ≡ Refused.Words → Refuses words.now) }
+{
+    let Ok(command) = command(alloc) else {
+        return Err(Refused::NoMemory);
+    };
+    match command.try_get_matches_from(words.words()) {
+        Ok(matches) => Ok(settings_in(&matches)),
+        Err(error) => Err(refused_by(error.kind())),
+    }
+}
+
+// The settings of these matches.
+fn settings_in(matches: &ArgMatches<'_>) -> Settings
+    ensures { result ≡ read_settings (rows_of (found_of matches.now)) }
+{
+    Settings {
+        mode: mode_of(matches.get_str("mode")),
+        posters: number_of(matches, "posters", 1, 8, 1),
+        takers: number_of(matches, "takers", 0, 7, 0),
+        rows: number_of(matches, "rows", 8, 65535, 65535),
+    }
+}

@@ -1,0 +1,100 @@
+//! Words that give settings, and words that are refused.
+
+use crate::{CommandWords, Mode, Refused, Settings, settings_of};
+use orc_fault::NoMemory;
+use std::alloc::Global;
+use std::test::Fail;
+
+// The words of a command line.
+fn words_of(alloc: Global, words: &[&str]) -> Result<CommandWords, NoMemory> {
+    let mut all = CommandWords::new(alloc);
+    for word in words {
+        all.push(word)?;
+    }
+    Ok(all)
+}
+
+// What no words say.
+const DEFAULTS: Settings = Settings {
+    mode: Mode::Run,
+    posters: 1,
+    takers: 0,
+    rows: 65535,
+};
+
+#[test]
+fn words_give_settings(rt: HostRuntime) -> Result<(), Fail> {
+    let given: [(&[&str], Settings); 7] = [
+        (&[], DEFAULTS),
+        (
+            &["--mode", "replay"],
+            Settings {
+                mode: Mode::Replay,
+                ..DEFAULTS
+            },
+        ),
+        (&["--mode=run"], DEFAULTS),
+        (
+            &["--posters=8", "--takers", "7", "--rows=8"],
+            Settings {
+                posters: 8,
+                takers: 7,
+                rows: 8,
+                ..DEFAULTS
+            },
+        ),
+        (&["--posters", "1", "--takers=0", "--rows=65535"], DEFAULTS),
+        (
+            &["--takers", "+7"],
+            Settings {
+                takers: 7,
+                ..DEFAULTS
+            },
+        ),
+        (
+            &["--rows", "0008"],
+            Settings {
+                rows: 8,
+                ..DEFAULTS
+            },
+        ),
+    ];
+    for (words, settings) in given {
+        let got = settings_of(rt.alloc(), &words_of(rt.alloc(), words)?);
+        assert!(rt; got == Ok(settings));
+    }
+    Ok(())
+}
+
+#[test]
+fn words_are_refused(rt: HostRuntime) -> Result<(), Fail> {
+    for word in [
+        "--help",
+        "-h",
+        "--version",
+        "help",
+        "replay",
+        "--posters=0",
+        "--posters=9",
+        "--posters",
+        "--posters=",
+        "--takers=8",
+        "--takers=-1",
+        "--rows=7",
+        "--rows=65536",
+        "--rows=4294967304",
+        "--rows= 8",
+        "--mode=Run",
+        "--mode=make",
+        "--mode",
+        "--row=8",
+        "--seed=1",
+        "x",
+    ] {
+        let got = settings_of(rt.alloc(), &words_of(rt.alloc(), &[word])?);
+        assert!(rt; got == Err(Refused::Words), "at {word}");
+    }
+    let twice = words_of(rt.alloc(), &["--rows=8", "--rows=8"])?;
+    assert!(rt; settings_of(rt.alloc(), &twice) == Err(Refused::Words));
+    Ok(())
+}

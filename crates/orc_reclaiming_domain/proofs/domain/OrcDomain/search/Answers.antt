@@ -1,0 +1,52 @@
+use Rattle.std.proofs.Common.{None, ap, arith, refl, subst, ◌∙◌, ◌%◌, ◌+◌, ◌<◌, ◌≡◌}
+use Rattle.std.proofs.Math.Nat.{mod-lt}
+use Rattle.orc_machine_board.specs.Views.{shows}
+use Rattle.orc_reclaiming_domain.proofs.Rounds.{tries_all, tries_gets, tries_none, tries_one}
+use Rattle.orc_reclaiming_domain.proofs.Stages.{stage}
+use Rattle.orc_reclaiming_domain.specs.Passes.{domain_bounds}
+use Rattle.orc_reclaiming_domain.specs.Searches.{Gets}
+use Rattle.orc_words.specs.Bounds.{Bounds}
+use Rattle.orc_reclaiming_domain.proofs.domain.OrcDomain.search.Goals as goal
+
+pub loop-offset-init : goal.loop-offset-init
+loop-offset-init g c = (
+  c.requires.belongs,
+  c.rows-rows.ensures ∙ ap (λ (b : Bounds). b.rows) c.shape.ensures,
+  tries_none
+      (domain_bounds c.args.self.now) c.args.begin c.rows-rows.result (shows c.args.p.now),
+)
+
+pub returns-then-try_take-clause-found : goal.returns-then-try_take-clause-found
+returns-then-try_take-clause-found g c x e =
+    let i = c.loop-offset.invariant in
+    let b = domain_bounds c.args.self.now in
+    let row = (c.args.begin + c.loop-offset.offset) % c.rows-rows.result in
+    let same : row ≡ x = cc in
+    let some : 0 < c.rows-rows.result = let h = c.requires.begin in let r = i.1 in omega (arith, h, r) in
+    let low : row < b.rows = subst (λ z. row < z) i.1 (mod-lt (c.args.begin + c.loop-offset.offset) some) in
+    subst (λ z. (z < b.rows) × Gets b z (shows c.args.p.now) (shows c.try_take.new.p)) same (
+      low,
+      tries_gets b c.args.begin c.rows-rows.result c.loop-offset.offset row (shows c.args.p.now) (shows c.loop-offset.p) (shows c.try_take.new.p) i.2
+          (c.if-try_take.ensures.took refl),
+    )
+
+pub loop-offset-preserved : goal.loop-offset-preserved
+loop-offset-preserved g c =
+    let i = c.loop-offset.invariant in (
+      c.try_take.ensures.belongs,
+      i.1,
+      tries_one (domain_bounds c.args.self.now) c.args.begin c.rows-rows.result c.loop-offset.offset
+          (shows c.args.p.now) (shows c.loop-offset.p) (shows c.try_take.new.p) i.2 (c.if-try_take.ensures.lost refl),
+    )
+
+pub returns-clause-lacking : goal.returns-clause-lacking
+returns-clause-lacking g c e =
+    let i = c.loop-offset.invariant in
+    let k = c.args.self.now.board.words.shape in
+    let s = stage g.D.Discipline k _ _ c.requires.belongs.keeps in
+    let t = stage g.D.Discipline k _ _ i.0.keeps in
+    let low = c.loop-offset-test.false in
+    let high = c.loop-offset.auto.offset-end in
+    let inside : c.args.begin < c.rows-rows.result = let h = c.requires.begin in let r = i.1 in omega (arith, h, r) in
+    let end : c.loop-offset.offset ≡ c.rows-rows.result = omega (arith, low, high) in
+    tries_all c.args.begin c.rows-rows.result c.loop-offset.offset s t i.1 inside end i.2

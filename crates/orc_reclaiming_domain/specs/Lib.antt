@@ -1,0 +1,6 @@
+pub mod Calls
+pub mod Causes
+pub mod OwnSteps
+pub mod Passes
+pub mod Searches
+pub mod Seats

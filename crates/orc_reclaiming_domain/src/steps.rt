@@ -1,0 +1,44 @@
+//! The parts of which the calls are made.
+
+ghost use Rattle.std.specs.Prelude.{◌≡◌};
+ghost use Rattle.orc_core.specs.declared.ops.Op.{Op};
+ghost use Rattle.orc_machine_board.specs.Kinds.{MakesPlain, MayDo};
+ghost use Rattle.orc_machine_board.specs.Views.{Belongs, shows};
+ghost use Rattle.orc_words.specs.Packed.{link_of, link_word};
+ghost use Rattle.orc_reclaiming_domain.specs.Calls.{Unlocks};
+ghost use Rattle.orc_reclaiming_domain.specs.Passes.{domain_bounds};
+ghost use Rattle.orc_reclaiming_domain.specs.Seats.{IsCalm};
+
+use crate::domain::OrcDomain;
+use orc_heap::Discipline;
+use orc_machine_board::MachineBoardPass;
+use orc_words::{RowLink, Word, read_link};
+
+impl<D: Discipline> OrcDomain<D> {
+    // Reads a link. A slot that is named holds the link's target from then on, if that is the row in the slot.
+    pub(crate) fn load(&self, p: &mut MachineBoardPass<D>, at: Word, slot: Option<u32>) -> RowLink
+        requires belongs { Belongs self.now.board p.old }
+        requires allowed { MayDo (domain_bounds self.now) (shows p.old) (Op.LinkLoad at slot) }
+        ensures belongs { Belongs self.now.board p.new }
+        ensures made { MakesPlain (domain_bounds self.now) (Op.LinkLoad at slot) (shows p.old) (link_word result) (shows p.new) }
+        ensures link { link_of (link_word result) ≡ result }
+    {
+        let word = self.board.link_load(p, at, slot, None, None);
+        let Some(link) = read_link(word) else {
+            unreachable!()
+        };
+        link
+    }
+
+    // Clears a slot, and takes in what was handed over beside it.
+    pub(crate) fn unlock(&self, p: &mut MachineBoardPass<D>, slot: u32)
+        requires belongs { Belongs self.now.board p.old }
+        requires calm { IsCalm (shows p.old).record_is }
+        requires allowed { MayDo (domain_bounds self.now) (shows p.old) (Op.Clear slot) }
+        ensures belongs { Belongs self.now.board p.new }
+        ensures unlocks { Unlocks (domain_bounds self.now) slot (shows p.old) (shows p.new) }
+    {
+        self.board.clear(p, slot);
+        self.board.take_in(p, slot);
+    }
+}

@@ -1,0 +1,118 @@
+//! A queue whose first calls by agents 1, 2 and 3 wait for each other.
+
+ghost use Rattle.std.specs.Prelude.{◌≡◌};
+
+use super::workers::{came, is_each_taken_once, posts};
+use crate::{WordSet, fresh_desks, plain_queue};
+use orc_board::OpenGate;
+use orc_fault::Again;
+use orc_history::{LearnQueue, QueueRefused, SharedQueue};
+use orc_workers::run_board;
+use std::sync::atomic::{AtomicU64, Ordering};
+use std::test::Fail;
+
+// Passes each call on, and holds the first one of each of three agents until all three have come.
+#[derive(Drop)]
+struct Meeting<Q> {
+    inner: Q,
+    first: AtomicU64,
+    second: AtomicU64,
+    third: AtomicU64,
+    met: AtomicU64,
+}
+
+impl<Q> Meeting<Q> {
+    // Notes that the agent has come, and waits for the others if it is its first call.
+    fn meet(&self, agent: u32) {
+        let own = match agent {
+            1 => &self.first,
+            2 => &self.second,
+            3 => &self.third,
+            _ => return,
+        };
+        if own.swap(1, Ordering::SeqCst) == 0
+            && came(&self.first)
+            && came(&self.second)
+            && came(&self.third)
+        {
+            self.met.fetch_add(1, Ordering::SeqCst);
+        }
+    }
+}
+
+impl<Q: SharedQueue> SharedQueue for Meeting<Q> {
+    type Pass = Q::Pass;
+
+    type Step = Q::Step;
+
+    ghost agent_of = { λ m p. Q.agent_of m.inner p };
+
+    ghost journal = { λ p. Q.journal p };
+
+    ghost history = { λ m journal. Q.history m.inner journal };
+
+    ghost first = { λ m. Q.first m.inner };
+
+    ghost usable = { λ m p. Q.usable m.inner p };
+
+    ghost crowd = { λ m agent. Q.crowd m.inner agent };
+
+    ghost licence = { λ m agent turns why journal from to. Q.licence m.inner agent turns why journal from to };
+
+    ghost legal = { λ m p h. Q.legal m.inner p h };
+
+    ghost licence_stays = { λ m agent turns why seen more from to h. Q.licence_stays m.inner agent turns why seen more from to h };
+
+    ghost grows = { λ m seen more. Q.grows m.inner seen more };
+
+    ghost many_puts = { λ m agent turns seen from to h. Q.many_puts m.inner agent turns seen from to h };
+
+    fn agent(&self, p: &Q::Pass) -> u32 {
+        self.inner.agent(p)
+    }
+
+    fn enqueue(&self, p: &mut Q::Pass, job: u64, turns: u64) -> Result<u64, QueueRefused> {
+        self.meet(self.inner.agent(p));
+        self.inner.enqueue(p, job, turns)
+    }
+
+    fn dequeue(&self, p: &mut Q::Pass, turns: u64) -> Result<Option<(u64, u64)>, Again> {
+        self.meet(self.inner.agent(p));
+        self.inner.dequeue(p, turns)
+    }
+}
+
+impl<Q: LearnQueue> LearnQueue for Meeting<Q> {
+    ghost agents = { λ m. Q.agents m.inner };
+
+    fn learn(&self, into: &mut Q::Pass, from: &mut Q::Pass) {
+        self.inner.learn(into, from);
+    }
+
+    ghost agents_below = { λ m p h. Q.agents_below m.inner p h };
+
+    ghost crowd_below = { λ m agent h. Q.crowd_below m.inner agent h };
+}
+
+#[test]
+fn the_calls_of_three_agents_are_made_at_once(rt: HostRuntime) -> Result<(), Fail> {
+    let alloc = rt.alloc();
+    let lines = posts(alloc, 2)?;
+    let Ok((inner, queue_passes)) = plain_queue(alloc, 16, 4) else {
+        panic!(rt; "memory")
+    };
+    let queue = Meeting {
+        inner,
+        first: AtomicU64::new(0),
+        second: AtomicU64::new(0),
+        third: AtomicU64::new(0),
+        met: AtomicU64::new(0),
+    };
+    let (set, set_passes) = WordSet::make(alloc, 16, 4)?;
+    let desks = fresh_desks(alloc, &queue, &set, queue_passes, set_passes)?;
+    let finished = run_board(&rt, alloc, &lines, 2, 1, &queue, &set, desks, &OpenGate)?;
+    assert_eq!(rt; queue.met.load(Ordering::SeqCst), 3);
+    assert_eq!(rt; finished.desks.len(), 4);
+    assert!(rt; is_each_taken_once(alloc, &finished.replies)?);
+    Ok(())
+}
