@@ -96,13 +96,7 @@ impl<L: Links<Rule = Chain>> List<L> {
     /// # Errors
     ///
     /// `Again` if all tries were used up, each by a Move of another agent. With no turns it makes no event.
-    pub fn remove(
-        &self,
-        p: &mut L::Pass,
-        root: u32,
-        key: u64,
-        turns: u64,
-    ) -> Result<bool, Again>
+    pub fn remove(&self, p: &mut L::Pass, root: u32, key: u64, turns: u64) -> Result<bool, Again>
         requires pass { L.belongs self.now.links p.old }
         requires idle { IsIdle (L.seat self.now.links p.old) }
         requires root { IsRootOf L.Links self.now.links root key }
@@ -132,13 +126,7 @@ impl<L: Links<Rule = Chain>> List<L> {
     /// # Errors
     ///
     /// `Again` if all tries were used up, each by a Move of another agent. With no turns it makes no event.
-    pub fn contains(
-        &self,
-        p: &mut L::Pass,
-        root: u32,
-        key: u64,
-        turns: u64,
-    ) -> Result<bool, Again>
+    pub fn contains(&self, p: &mut L::Pass, root: u32, key: u64, turns: u64) -> Result<bool, Again>
         requires pass { L.belongs self.now.links p.old }
         requires idle { IsIdle (L.seat self.now.links p.old) }
         requires root { IsRootOf L.Links self.now.links root key }
