@@ -89,7 +89,8 @@ counter_change b z a (LinkCas (Root i) f t) r l = inl refl
 counter_change b z a (LinkCas (Next q) f t) r l = inl refl
 counter_change b z a (LinkCas p f t) r l = absurd (false≢true l.fits)
 counter_change b z a (LinkStore q k) r l = inl refl
-counter_change b z a (Inc q) r l = write_counter z.memory q _ r (l.counted.used_out a q (uses_inc (z.seats a) q (and_both (nat_lt q b.rows) (names (z.seats a).inc q) l.fits).1))
+counter_change b z a (Inc q) r l = write_counter z.memory q _ r
+    (l.counted.used_out a q (uses_inc (z.seats a) q (and_both (nat_lt q b.rows) (names (z.seats a).inc q) l.fits).1))
 counter_change b z a (Dec q) r l =
     let d = z.seats a in
     let two = and_both (nat_lt q b.rows && names d.dec q) (holds (slot_of d 0) q) l.fits in
@@ -103,7 +104,8 @@ counter_change b z a (CounterLoad q how) r l = inl (write_same z.memory (Counter
 counter_change b z a (Unretire q) r l =
     let d = z.seats a in
     let h = (and_both (nat_lt q b.rows) ((scans d.scan q && not (scan_empty d.scan) && holds (slot_of d 0) q) || doom_cut d.doom q) l.fits).1 in
-    write_counter z.memory q _ r (one_of (scans d.scan q && not (scan_empty d.scan) && holds (slot_of d 0) q) (doom_cut d.doom q) (out (z.memory (Gate q)) ≡ 1) h
+    write_counter z.memory q _ r (one_of (scans d.scan q && not (scan_empty d.scan) && holds (slot_of d 0) q) (doom_cut d.doom q)
+    (out (z.memory (Gate q)) ≡ 1) h
     (λ e. l.counted.used_out a q (uses_held d q (any_holds_at d.slots 0 q (and_both (scans d.scan q && not (scan_empty d.scan)) (holds (slot_of d 0) q) e).1)))
     (λ e. (l.doomed.gone a q (cut_dooms d.doom q e)).is_out))
 counter_change b z a (SlotLook j) r l = inl refl

@@ -67,7 +67,8 @@ module _ {D N : Type 0} {d : discipline.Ghosts D N} {k : MachineShape N} (s : St
       subst (λ (c : Bounds). r < c.rows) (bounds_run (bounds_in k) s.view.journal) out.0
 
   -- what is held: the slot's row and node, and that the agent has the row
-  pub hold_slot : (h : Hold) → Holds (seat s).slots h → (slice_get s.view.record_is.slots h.slot ≡ Some (Held h.row)) × (id_in (seat s).slots h ≡ (ids_of (bounds_in k) s.view).node h.row)
+  pub hold_slot : (h : Hold) → Holds (seat s).slots h → (slice_get s.view.record_is.slots h.slot ≡ Some (Held h.row))
+      × (id_in (seat s).slots h ≡ (ids_of (bounds_in k) s.view).node h.row)
   hold_slot h e = held_slot (ids_of (bounds_in k) s.view) s.view.record_is.slots h.slot (record { row = h.row; id = id_in (seat s).slots h }) e
 
   pub hold_has : (h : Hold) → Holds (seat s).slots h → HasRow s.view.record_is h.row

@@ -32,10 +32,15 @@ use Rattle.orc_words.specs.declared.place.Word.TheVariants.{Counter, Gate}
 module _ {N : Type 0} where
   -- a row that was taken stays among the rows that were
   taken_later : (b : Bounds) (early late : List (Step N)) (r : ℕ) → IsOut (rows_taken b early) r → IsOut (rows_taken b (early ++ late)) r
-  taken_later b early late r o = (o.0, subst (λ rows. slice_get rows o.0 ≡ Some r) (sym (taken-append (new_machine b) early late)) (get-grown o.0 (rows_taken b early) _ r o.1))
+  taken_later b early late r o = (
+    o.0,
+    subst (λ rows. slice_get rows o.0 ≡ Some r) (sym (taken-append (new_machine b) early late))
+        (get-grown o.0 (rows_taken b early) _ r o.1),
+  )
 
   -- a row that is out was taken
-  out_taken : (b : Bounds) (j : List (Step N)) (r : ℕ) → IsShape b → IsLawfulJournal (new_machine b) j → r < b.rows → is_out (run_of b j) r ≡ true → IsOut (rows_taken b j) r
+  out_taken : (b : Bounds) (j : List (Step N)) (r : ℕ) → IsShape b → IsLawfulJournal (new_machine b) j → r < b.rows → is_out (run_of b j) r ≡ true
+      → IsOut (rows_taken b j) r
   out_taken b j r shape l h o = ((present_ids b j).node r, row_of_node b j r shape l (subst (λ (c : Bounds). r < c.rows) (sym (bounds_run b j)) h, o))
 
   once_out : (b : Bounds) (j : List (Step N)) (r : ℕ) → IsShape b → IsLawfulJournal (new_machine b) j → r < b.rows → OutIn b [] j r → IsOut (rows_taken b j) r
@@ -44,7 +49,8 @@ module _ {N : Type 0} where
       subst (λ z. IsOut (rows_taken b z) r) (sym o.is) (taken_later b o.early o.late r (out_taken b o.early r shape lawful h o.out))
 
   -- so was one whose life or sequence is at the limit
-  pub was_taken : (b : Bounds) (j : List (Step N)) (r : ℕ) → IsShape b → IsLawfulJournal (new_machine b) j → r < b.rows → IsTaken b (run_of b j) r → IsOut (rows_taken b j) r
+  pub was_taken : (b : Bounds) (j : List (Step N)) (r : ℕ) → IsShape b → IsLawfulJournal (new_machine b) j → r < b.rows → IsTaken b (run_of b j) r
+      → IsOut (rows_taken b j) r
   was_taken b j r shape l h t = ⊎_elim (λ o. out_taken b j r shape l h o)
       (λ s. ⊎_elim
       (λ life. ⊎_elim

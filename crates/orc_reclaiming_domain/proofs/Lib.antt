@@ -10,6 +10,7 @@ pub mod Learning
 pub mod Loading
 pub mod Looking
 pub mod Making
+pub mod Opened
 pub mod Protecting
 pub mod Reading
 pub mod Releasing

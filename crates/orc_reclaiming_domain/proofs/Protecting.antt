@@ -61,7 +61,8 @@ still_ready d e p r = record {
 }
 
 -- a slot in which the pass shows nothing is empty, where none is only published
-pub empty_slot : (p : PresentIds) (slots : List SlotUse) (k : ℕ) → is_published (slice_index_or slots k Empty) ≡ false → slice_get (map (slot_by p) slots) k ≡ Some None
+pub empty_slot : (p : PresentIds) (slots : List SlotUse) (k : ℕ) → is_published (slice_index_or slots k Empty) ≡ false
+    → slice_get (map (slot_by p) slots) k ≡ Some None
     → slice_index_or slots k Empty ≡ Empty
 empty_slot p [] k h e = refl
 empty_slot p (Empty ∷ ss) zero h e = refl
@@ -96,7 +97,8 @@ held_ready d e slot r above h s = still_ready (record d { slots = slice_set d.sl
   doom = h.doom;
 }
 
-pub publish_may : (b : Bounds) (a : ℕ) (d : Agent) (k r : ℕ) → a < b.agents → IsCalm d → r < b.rows → 0 < k → k < 8 → slot_of d k ≡ Empty → may b 0 a (Publish k r) d ≡ true
+pub publish_may : (b : Bounds) (a : ℕ) (d : Agent) (k r : ℕ) → a < b.agents → IsCalm d → r < b.rows → 0 < k → k < 8 → slot_of d k ≡ Empty
+    → may b 0 a (Publish k r) d ≡ true
 publish_may b a d k r h calm low above below empty =
     let agent = lt-ltb a b.agents h in
     let on = calm.enrolled in

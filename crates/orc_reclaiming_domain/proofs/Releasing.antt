@@ -35,7 +35,8 @@ set_zero [] k e = refl
 set_zero (s ∷ ss) zero e = refl
 set_zero (s ∷ ss) (suc k) e = e
 
-set_bare : (slots : List SlotUse) (k j : ℕ) → is_published (slice_index_or slots j Empty) ≡ false → is_published (slice_index_or (slice_set slots k Empty) j Empty) ≡ false
+set_bare : (slots : List SlotUse) (k j : ℕ) → is_published (slice_index_or slots j Empty) ≡ false
+    → is_published (slice_index_or (slice_set slots k Empty) j Empty) ≡ false
 set_bare [] k j h = h
 set_bare (s ∷ ss) zero zero h = refl
 set_bare (s ∷ ss) zero (suc j) h = h

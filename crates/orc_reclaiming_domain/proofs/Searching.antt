@@ -79,11 +79,24 @@ module _ {N : Type 0} where
     taken = subst (λ z. IsTaken b (run_of b z) r) (sym (take_front f.place after more f.within)) f.taken;
   }
 
-  pub found_since : (b : Bounds) (a : ℕ) (first before after : List (Step N)) (r : ℕ) → length first ≤ length before → Found b a before after r → Found b a first after r
-  found_since b a first before after r h f = record { own = f.own; step = f.step; there = f.there; its = f.its; early = let e = f.early in omega arith; place = f.place; later = f.later; within = f.within; taken = f.taken }
+  pub found_since : (b : Bounds) (a : ℕ) (first before after : List (Step N)) (r : ℕ) → length first ≤ length before → Found b a before after r
+      → Found b a first after r
+  found_since b a first before after r h f = record {
+    own = f.own;
+    step = f.step;
+    there = f.there;
+    its = f.its;
+    early = let e = f.early in
+        omega arith;
+    place = f.place;
+    later = f.later;
+    within = f.within;
+    taken = f.taken;
+  }
 
   -- at a state since an own step
-  pub found_at : (b : Bounds) (a : ℕ) (before met : List (Step N)) (x : Step N) (rest early late after : List (Step N)) (r : ℕ) → x.agent ≡ a → after ≡ (before ++ met) ++ x ∷ rest → x ∷ rest ≡ early ++ late
+  pub found_at : (b : Bounds) (a : ℕ) (before met : List (Step N)) (x : Step N) (rest early late after : List (Step N)) (r : ℕ) → x.agent ≡ a
+      → after ≡ (before ++ met) ++ x ∷ rest → x ∷ rest ≡ early ++ late
       → IsTaken b (run_of b ((before ++ met) ++ early)) r → Found b a before after r
   found_at b a before met x rest early late after r its is cut taken =
       let j = before ++ met in
@@ -102,16 +115,21 @@ module _ {N : Type 0} where
       }
 
   -- since a step of its own, the gate is the same, or the row was out
-  pub found_or_same : (b : Bounds) (a : ℕ) (before met : List (Step N)) (x : Step N) (rest : List (Step N)) (last : Step N) (after : List (Step N)) (r : ℕ) → IsShape b → r < b.rows → x.agent ≡ a → after ≡ ((before ++ met) ++ x ∷ rest) ++ last ∷ []
-      → IsLawfulJournal (new_machine b) ((before ++ met) ++ x ∷ rest) → (word_in (run_of b ((before ++ met) ++ x ∷ rest)) (Gate r) ≡ word_in (run_of b (before ++ met)) (Gate r)) ⊎ Found b a before after r
+  pub found_or_same : (b : Bounds) (a : ℕ) (before met : List (Step N)) (x : Step N) (rest : List (Step N)) (last : Step N) (after : List (Step N)) (r : ℕ)
+      → IsShape b → r < b.rows → x.agent ≡ a → after ≡ ((before ++ met) ++ x ∷ rest) ++ last ∷ []
+      → IsLawfulJournal (new_machine b) ((before ++ met) ++ x ∷ rest)
+      → (word_in (run_of b ((before ++ met) ++ x ∷ rest)) (Gate r) ≡ word_in (run_of b (before ++ met)) (Gate r)) ⊎ Found b a before after r
   found_or_same b a before met x rest last after r shape h its is l =
       ⊎_elim (λ same. inl same)
-      (λ (o : OutIn b (before ++ met) (x ∷ rest) r). inr (found_at b a before met x (rest ++ last ∷ []) o.early (o.late ++ last ∷ []) after r its (is ∙ append_assoc (before ++ met) (x ∷ rest) (last ∷ [])) (ap (λ z. z ++ last ∷ []) o.is ∙ append_assoc o.early o.late (last ∷ [])) (inl o.out)))
+      (λ (o : OutIn b (before ++ met) (x ∷ rest) r). inr (found_at b a before met x (rest ++ last ∷ []) o.early (o.late ++ last ∷ []) after r its
+      (is ∙ append_assoc (before ++ met) (x ∷ rest) (last ∷ [])) (ap (λ z. z ++ last ∷ []) o.is ∙ append_assoc o.early o.late (last ∷ [])) (inl o.out)))
       (gate_between b (before ++ met) (x ∷ rest) r shape l h)
 
-  pub found_now : (b : Bounds) (a : ℕ) (before met : List (Step N)) (x : Step N) (rest : List (Step N)) (last : Step N) (after : List (Step N)) (r : ℕ) → x.agent ≡ a → after ≡ ((before ++ met) ++ x ∷ rest) ++ last ∷ []
+  pub found_now : (b : Bounds) (a : ℕ) (before met : List (Step N)) (x : Step N) (rest : List (Step N)) (last : Step N) (after : List (Step N)) (r : ℕ)
+      → x.agent ≡ a → after ≡ ((before ++ met) ++ x ∷ rest) ++ last ∷ []
       → IsTaken b (run_of b ((before ++ met) ++ x ∷ rest)) r → Found b a before after r
-  found_now b a before met x rest last after r its is taken = found_at b a before met x (rest ++ last ∷ []) (x ∷ rest) (last ∷ []) after r its (is ∙ append_assoc (before ++ met) (x ∷ rest) (last ∷ [])) refl taken
+  found_now b a before met x rest last after r its is taken = found_at b a before met x (rest ++ last ∷ []) (x ∷ rest) (last ∷ []) after r its
+      (is ∙ append_assoc (before ++ met) (x ∷ rest) (last ∷ [])) refl taken
 
 module _ {D N : Type 0} {d : discipline.Ghosts D N} {k : MachineShape N} where
   -- a step without an event that leaves these parts of the record

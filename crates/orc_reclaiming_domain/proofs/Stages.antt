@@ -42,7 +42,8 @@ module _ {D N : Type 0} where
     pub each : AllAllowed (d.may (heap_numbers k)) [] (project (bounds_in k) view.journal)
 
   -- a pass of the board is at one
-  abbrev pub stage : (d : discipline.Ghosts D N) (k : MachineShape N) (v : View (Step N) Agent) (a : ℕ) → Keeps k (d.holds (heap_numbers k)) (d.may (heap_numbers k)) v a → Stage d k
+  abbrev pub stage : (d : discipline.Ghosts D N) (k : MachineShape N) (v : View (Step N) Agent) (a : ℕ)
+      → Keeps k (d.holds (heap_numbers k)) (d.may (heap_numbers k)) v a → Stage d k
   stage d k v a kept = record {
     view = view_of a v;
     number = kept.number;

@@ -74,13 +74,15 @@ module _ {D N : Type 0} {d : discipline.Ghosts D N} {k : MachineShape N} where
         let events : project b t.view.journal ≡ project b j ++ event_by s.view.agent Give None ∷ [] = ap (project b) m.journal
         ∙ ((counted_obeys k).project_next j x ∙ ap (λ l. project b j ++ l) gives) in
         let heap : (run_heap (heap_numbers k) (project b t.view.journal)).nodes ≡ h.nodes ++ new_node s.view.agent ∷ [] =
-        ap (λ l. (run_heap (heap_numbers k) l).nodes) events ∙ ap (λ (g : Heap). g.nodes) (run_heap-snoc (heap_numbers k) (project b j) (event_by s.view.agent Give None)) in
+        ap (λ l. (run_heap (heap_numbers k) l).nodes) events ∙ ap (λ (g : Heap). g.nodes)
+        (run_heap-snoc (heap_numbers k) (project b j) (event_by s.view.agent Give None)) in
         let id : (ids_of b t.view).node r ≡ length h.nodes = ap (λ (z : PresentIds). z.node r) ids
         ∙ (ap (λ (z : Bool). if z then p.given else p.node r) (eq-eqb r r refl) ∙ sym mirror.given) in
         record {
           fresh = ap (λ (e : Agent). e.fresh) m.record_is ∙ ap (λ (z : Bool). cond z (Some r) s.view.record_is.fresh) taken;
           puts = subst (λ es. Puts (seat s) es (seat t)) gives (puts q None s t n m);
-          node = subst (λ (z : List Node × ℕ). slice_get z.0 z.1 ≡ Some (new_node s.view.agent)) (λ i. (sym heap i, sym id i)) (get_last h.nodes (new_node s.view.agent));
+          node = subst (λ (z : List Node × ℕ). slice_get z.0 z.1 ≡ Some (new_node s.view.agent)) (λ i. (sym heap i, sym id i))
+              (get_last h.nodes (new_node s.view.agent));
           new =
               let more = others_add counted_rules k (counted_obeys k) (signed b) s.view.agent s.view.journal m.met m.others in
               let e = nodes_stay (heap_numbers k) (project b s.view.journal) more.0 in

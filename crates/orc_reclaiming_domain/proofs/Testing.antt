@@ -66,14 +66,16 @@ module _ {D N : Type 0} {d : discipline.Ghosts D N} {k : MachineShape N} (s : St
 
   -- what the discipline allows by nodes is allowed by rows
   pub look_allowed : (at : At) (w : Want) (note : Option N) → HoldsPlace (bounds_in k).roots (seat s).slots at → HoldsWant (seat s).slots w
-      → AllowedLater (d.may (heap_numbers k)) (heap_numbers k) s.view.agent (seat s).seen (place_in (seat s).slots at) (link_in (seat s).slots w) (look_of (seat s) at w note)
+      → AllowedLater (d.may (heap_numbers k)) (heap_numbers k) s.view.agent (seat s).seen (place_in (seat s).slots at) (link_in (seat s).slots w)
+      (look_of (seat s) at w note)
       → LookAllowed (d.may (heap_numbers k)) (bounds_in k) s.view (word_at at) (row_link w) note
   look_allowed at w note there held allowed place is =
       let p = ids_of (bounds_in k) s.view in
       let one : Some (place_in (seat s).slots at) ≡ Some place = sym (place_named p (bounds_in k).roots s.view.record_is.slots at there) ∙ is in
       let same : place_in (seat s).slots at ≡ place = cc in
       let link = link_named p s.view.record_is.slots w held in
-      subst (λ (z : Place × Link). AllowedLater (d.may (heap_numbers k)) (heap_numbers k) s.view.agent (seat s).seen z.0 z.1 (event_by s.view.agent (Look z.0 z.1) note))
+      subst (λ (z : Place × Link). AllowedLater (d.may (heap_numbers k)) (heap_numbers k) s.view.agent (seat s).seen z.0 z.1
+      (event_by s.view.agent (Look z.0 z.1) note))
       (λ i. (same i, sym link i)) allowed
 
 module _ {D N : Type 0} {d : discipline.Ghosts D N} {k : MachineShape N} (s t : Stage d k) (at : At) (w : Want) (note : Option N) (n : ℕ)
@@ -95,7 +97,8 @@ module _ {D N : Type 0} {d : discipline.Ghosts D N} {k : MachineShape N} (s t : 
   can = load_may b s.view.agent s.view.record_is (word_at at) s.number (ready_calm s.view.record_is ready) (place_may s at there)
 
   events : step_events q note s t n m ≡ events_of (step_of s.view.agent q note) (Some (load_act (present_ids b j) n (Some (row_link w)) place))
-  events = load_events s t (word_at at) None (Some (row_link w)) note n m can (want_held s w held) place (place_named (ids_of b s.view) b.roots s.view.record_is.slots at there)
+  events = load_events s t (word_at at) None (Some (row_link w)) note n m can (want_held s w held) place
+      (place_named (ids_of b s.view) b.roots s.view.record_is.slots at there)
 
   -- the wanted link, as nodes, at the load
   wanted : node_link (present_ids b j) (row_link w) ≡ link_in (seat s).slots w
@@ -107,7 +110,8 @@ module _ {D N : Type 0} {d : discipline.Ghosts D N} {k : MachineShape N} (s t : 
 
   -- the event that the load put
   abbrev found_act : Bool → Act
-  found_act done = if done then Look place (node_link (present_ids b j) (link_of n)) else Miss place (node_link (present_ids b j) (row_link w)) (node_link (present_ids b j) (link_of n))
+  found_act done = if done then Look place (node_link (present_ids b j) (link_of n)) else Miss place (node_link (present_ids b j) (row_link w))
+      (node_link (present_ids b j) (link_of n))
 
   fits : Each (FitsAfter (heap_numbers k) (project b j)) (step_events q note s t n m)
   fits = event_fits b j (its_step q note s t n m) (in_range k.shape) (whole_lawful q note s t n m) (subst StoresUnmarked m.journal t.unmarked)

@@ -48,7 +48,8 @@ taken_by_gate b m r n e h = cases (is_out m r) refl
     cases false o = ⊎_elim (λ x. absurd (false≢true (sym o ∙ (same ∙ x)))) (λ l. inr (record { free = o; spent = inl (subst (λ w. b.limit ≤ w / 2) e l) })) h
 
 -- a gate that isn't, with a sequence at the limit
-taken_by_count : (b : Bounds) (m : Machine) (r n c : ℕ) → word_in m (Gate r) ≡ n → (n % 2 == 1) ≡ false → c ≡ word_in m (Counter r) → b.limit ≤ sequence_of c → IsTaken b m r
+taken_by_count : (b : Bounds) (m : Machine) (r n c : ℕ) → word_in m (Gate r) ≡ n → (n % 2 == 1) ≡ false → c ≡ word_in m (Counter r) → b.limit ≤ sequence_of c
+    → IsTaken b m r
 taken_by_count b m r n c e free is high = inr (record { free = ap (λ w. w % 2 == 1) e ∙ free; spent = inr (subst (λ w. b.limit ≤ sequence_of w) is high) })
 
 looked_number : (n r : ℕ) → (n % 2 == 1) ≡ false → 2 * number_of (cond (n % 2 == 0) (Some (record { row = r; number = n / 2 })) None) ≡ n
@@ -62,7 +63,8 @@ was_none false n e ne = refl
 parts : (d e f : Agent) → f ≡ e → SameParts d e → SameParts d f
 parts d e f is p = subst (SameParts d) (sym is) p
 
-module _ {D N : Type 0} {d : discipline.Ghosts D N} {k : MachineShape N} (s t : Stage d k) (r n : ℕ) (below : r < (bounds_in k).rows) (m1 : Steps (GateLook r) s n t) where
+module _ {D N : Type 0} {d : discipline.Ghosts D N} {k : MachineShape N} (s t : Stage d k) (r n : ℕ) (below : r < (bounds_in k).rows)
+    (m1 : Steps (GateLook r) s n t) where
   abbrev b : Bounds
   b = bounds_in k
 
@@ -89,7 +91,8 @@ module _ {D N : Type 0} {d : discipline.Ghosts D N} {k : MachineShape N} (s t : 
     x2 = step_of t.view.agent (asks (CounterLoad r Check)) None
 
     count_idle : Idles b s.view u.view
-    count_idle = idle_trans b s.view t.view u.view look_idle (idles (asks (CounterLoad r Check)) t u c m2 refl (parts t.view.record_is _ u.view.record_is m2.record_is
+    count_idle = idle_trans b s.view t.view u.view look_idle (idles (asks (CounterLoad r Check)) t u c m2 refl
+        (parts t.view.record_is _ u.view.record_is m2.record_is
         (record { enrolled = refl; slots = refl; fresh = refl; due = refl; inc = refl; dec = refl; doom = refl })))
 
     -- where the counter is read
@@ -108,7 +111,8 @@ module _ {D N : Type 0} {d : discipline.Ghosts D N} {k : MachineShape N} (s t : 
       idle = count_idle;
       found = ⊎_elim
           (λ same. found_now b s.view.agent s.view.journal m1.met x1 m2.met x2 u.view.journal r refl after2
-          (taken_by_count b (run_of b (j1 ++ x1 ∷ m2.met)) r n c (same ∙ sym m1.answer) free (m2.answer ∙ ap (λ z. word_in (run_of b z) (Counter r)) before2) high))
+          (taken_by_count b (run_of b (j1 ++ x1 ∷ m2.met)) r n c (same ∙ sym m1.answer) free
+          (m2.answer ∙ ap (λ z. word_in (run_of b z) (Counter r)) before2) high))
           (λ f. f)
           (found_or_same b s.view.agent s.view.journal m1.met x1 m2.met x2 u.view.journal r (in_range k.shape) below refl after2 lawful2);
     }

@@ -17,7 +17,8 @@ unlock-requires-clause-allowed g c =
     let is = c.requires.pass in
     let s = stage g.D.Discipline k _ _ is.board.keeps in
     let start : Between s = record { ready = is.ready; untouched = is.untouched } in
-    subst (λ slot. MayDo (domain_bounds c.args.self.now) s.view (Clear slot)) (sym c.slot.ensures) (release_can s start c.args.h c.requires.held c.requires.linked)
+    subst (λ slot. MayDo (domain_bounds c.args.self.now) s.view (Clear slot)) (sym c.slot.ensures)
+    (release_can s start c.args.h c.requires.held c.requires.linked)
 
 pub returns-clause-released : goal.returns-clause-released
 returns-clause-released g c =

@@ -9,8 +9,12 @@ use Rattle.orc_words.specs.Bounds.{Bounds}
 use Rattle.orc_reclaiming_domain.proofs.domain.OrcDomain.search.Goals as goal
 
 pub loop-offset-init : goal.loop-offset-init
-loop-offset-init g c =
-    (c.requires.belongs, c.rows-rows.ensures ∙ ap (λ (b : Bounds). b.rows) c.shape.ensures, tries_none (domain_bounds c.args.self.now) c.args.begin c.rows-rows.result (shows c.args.p.now))
+loop-offset-init g c = (
+  c.requires.belongs,
+  c.rows-rows.ensures ∙ ap (λ (b : Bounds). b.rows) c.shape.ensures,
+  tries_none
+      (domain_bounds c.args.self.now) c.args.begin c.rows-rows.result (shows c.args.p.now),
+)
 
 pub returns-then-try_take-clause-found : goal.returns-then-try_take-clause-found
 returns-then-try_take-clause-found g c x e =
