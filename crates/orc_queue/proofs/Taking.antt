@@ -101,7 +101,7 @@ successor_read n head next read_job read_at s a b before after all link first se
     }
 
 -- the swing of the head, after nothing of the pass's own
-pub head_swung : (n : HeapNumbers) (s b t : Seat FifoNote) (head next : Bor Hold) (agent job at : ℕ) (done : Bool) → agent ≡ s.agent → Only [] s b
+pub head_swung : (n : HeapNumbers) (s b t : Seat FifoNote) (head next : Bor Hold) (agent job at : ℕ) (done : Bool) → agent ≡ b.agent → Only [] s b
     → AllAllowed (FifoMay n) [] t.seen
     → Swings (AtRoot 0) (WantNode head false) (WantNode next false) (Some (Entry (Took agent job at))) b done t → done ≡ true
     → b.fresh ≢ Some (id_in b.slots next.now) → TakesJob 1 job at s t
@@ -112,7 +112,7 @@ head_swung n s b t head next agent job at true agent_is o all w is other =
         own = _;
         slots = w.slots ∙ o.slots;
         puts = p;
-        entries_are = ap (λ (x : ℕ). Took x job at ∷ []) agent_is;
+        entries_are = ap (λ (x : ℕ). Took x job at ∷ []) (agent_is ∙ o.puts.agent);
         no_give = refl;
         few =
             omega arith;

@@ -51,7 +51,7 @@ returns-then-change-clause-took g c =
     let e = c.change.ensures in
     let linked = subst (λ (i : ℕ). IsLinkedNode (heap_of n b) i) (sym (ap (λ (z : Slots). id_in z next.now) r.nothing.slots))
     (job_linked (heap_of n b) (id_in s.slots next.now) r.job _ r.holds) in
-    head_swung n s b _ c.args.head next c.agent-agent.result c.value-job.result _ c.change.result (c.agent-agent.ensures ∙ r.nothing.puts.agent) r.nothing
+    head_swung n s b _ c.args.head next c.agent-agent.result c.value-job.result _ c.change.result c.agent-agent.ensures r.nothing
     (g.met.L.Links.allowed d c.change.new.p e.pass) e.swung c.if-change.true
     (linked_not_fresh n b (id_in b.slots next.now) (λ i is. g.met.L.Links.fresh_is d c.value-at.new.p i c.value-at.ensures.pass is) linked)
 
