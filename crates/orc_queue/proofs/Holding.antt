@@ -1,5 +1,5 @@
 -- What a pass knows of the events that it has seen, and of the node that a look has put into one of its slots.
-use Rattle.std.proofs.Common.{List, Some, [], ap, subst, sym, ℕ, ◌∙◌, ◌≡◌, ◌≢◌}
+use Rattle.std.proofs.Common.{Some, [], ap, subst, sym, ℕ, ◌∙◌, ◌≡◌, ◌≢◌}
 use mathlib.Core.List.{IsPrefix}
 use Rattle.orc_heap.proofs.Pieces.{InSlot, release_fresh, slot_free, slot_holds, slot_id, slot_other, slot_other_id, slot_released}
 use Rattle.orc_heap.specs.Allowed.{AllAllowed, IsLinkedNode}

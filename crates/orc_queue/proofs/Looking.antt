@@ -1,7 +1,7 @@
 -- What a look at a root, and one at the link of a once linked node, find.
-use Rattle.std.proofs.Common.{Bool, List, length, suc, zero, Option, Some, None, [], ap, arith, inl, inr, refl, subst, sym, ℕ, ◌++◌, ◌<◌, ◌∙◌, ◌∷◌, ◌≡◌, ◌⊎◌}
+use Rattle.std.proofs.Common.{Bool, List, length, Option, Some, None, [], ap, arith, inl, inr, refl, subst, sym, ℕ, ◌++◌, ◌<◌, ◌∙◌, ◌∷◌, ◌≡◌, ◌⊎◌}
 use Rattle.orc_heap.proofs.Moved.{target_roots}
-use Rattle.std.specs.List.{slice_get, slice_set}
+use Rattle.std.specs.List.{slice_set}
 use Rattle.std.specs.Prelude.{unwrap_or}
 use Rattle.std.proofs.lemmas.List.{length-replicate}
 use Rattle.orc_heap.proofs.ByAnswer.{LookedHeld, LookedNull}
@@ -9,7 +9,7 @@ use Rattle.orc_heap.proofs.Changes.{length-change, get_lt}
 use Rattle.orc_heap.specs.Allowed.{AllAllowed, IsLinkedNode, HasLink}
 use Rattle.orc_heap.specs.Calls.{ReadsValue, RefusesSwing, event_of}
 use Rattle.orc_heap.specs.Heap.{Heap, HeapNumbers, Node, new_heap, null, link_to}
-use Rattle.orc_heap.specs.Acts.{as_linked, as_named, change_target, heap_after}
+use Rattle.orc_heap.specs.Acts.{as_linked, as_named, heap_after}
 use Rattle.orc_heap.specs.Journals.{run_from, run_heap}
 use Rattle.orc_heap.specs.declared.events.Act.{Act}
 use Rattle.orc_heap.specs.OwnEvents.{Puts}
@@ -112,11 +112,11 @@ root_held n s t root slot mark h low free before after l =
       before = before;
       after = after;
       node = record {
-            id = f.id;
-            free = free;
-            in_slot = record { at = l.at; slots = subst (λ (i : ℕ). t.slots ≡ slice_set s.slots slot (Some (record { row = h.row; id = i }))) id_is l.slots };
-            linked = f.named.linked;
-          };
+        id = f.id;
+        free = free;
+        in_slot = record { at = l.at; slots = subst (λ (i : ℕ). t.slots ≡ slice_set s.slots slot (Some (record { row = h.row; id = i }))) id_is l.slots };
+        linked = f.named.linked;
+      };
       named = f.named;
       one = l.one;
       puts = subst (λ (x : Link). Puts s (event_of s (Look (Root root) l.one) None ∷ event_of s (Look (Root root) x) None ∷ []) t) f.is l.puts;
@@ -165,11 +165,11 @@ module _ (n : HeapNumbers) (s t : Seat FifoNote) (id slot : ℕ) (mark : Bool) (
         before = before;
         after = after;
         node = record {
-              id = next;
-              free = free;
-              in_slot = record { at = l.at; slots = subst (λ (i : ℕ). t.slots ≡ slice_set s.slots slot (Some (record { row = h.row; id = i }))) id_is l.slots };
-              linked = successor_linked n t.seen id next after.holds has;
-            };
+          id = next;
+          free = free;
+          in_slot = record { at = l.at; slots = subst (λ (i : ℕ). t.slots ≡ slice_set s.slots slot (Some (record { row = h.row; id = i }))) id_is l.slots };
+          linked = successor_linked n t.seen id next after.holds has;
+        };
         link = has;
         puts = subst (λ (z : Link × Link). Puts s (event_of s (Look (Next id) z.0) None ∷ event_of s (Look (Next id) z.1) None ∷ []) t)
             (λ i. (one_is i, is i)) l.puts;

@@ -29,7 +29,7 @@ use Rattle.orc_queue.proofs.Alone.{over_helped, over_missed, over_quiet, swing_p
 use Rattle.orc_queue.proofs.Filled.{Known}
 use Rattle.orc_queue.proofs.Holding.{found_fresh, found_id, found_other_id, found_released}
 use Rattle.orc_queue.proofs.Joins.{join}
-use Rattle.orc_queue.proofs.Looking.{HoldsNext}
+use Rattle.orc_queue.proofs.Looking.{HoldsNext, HoldsRoot}
 use Rattle.orc_queue.proofs.Pieces.{linked_puts}
 use Rattle.orc_queue.proofs.Taking.{still_puts}
 use Rattle.orc_heap.proofs.OwnEntries.{noted-append}
@@ -247,6 +247,16 @@ module _ (n : HeapNumbers) (one : Link) (head : ℕ) (s a b t : Seat FifoNote) (
         let j = join 6 s a t _ q0.own (Empty s.agent ∷ []) p q slots (q0.entries_are ∙ ap (λ (x : ℕ). Empty x ∷ []) p.agent)
         (omega (arith, q0.no_give)) (omega (arith, q0.few)) in
         record { piece = j.piece; fresh = fresh_t ∙ (l.fresh ∙ fresh_a) }
+
+-- by what the look of the head found
+pub turn_found : {n : HeapNumbers} {head : Hold} {s a b t : Seat FifoNote} → HoldsRoot n 0 1 s head a → AllAllowed (FifoMay n) [] b.seen
+    → AllAllowed (FifoMay n) [] t.seen → a.fresh ≡ s.fresh → ((i : ℕ) → b.fresh ≡ Some i → IsUntouched b.agent (heap_of n b) i)
+    → Releases b head t → (turn : TakeTurn) → TakesBehind n (id_in a.slots head) a turn b → TakesTurn n s turn t
+turn_found {n} {head} {s} {a} {b} {t} f all_b all_t fresh_a untouched released turn took =
+    let piece = behind_kept n (id_in a.slots head) a b turn took in
+    let linked = linked_puts n a b piece.own piece.puts all_b f.node.id f.node.linked in
+    turn_taken n f.one f.node.id s a b t f.before f.after.all all_t f.puts released.puts (found_released f.node piece.slots released) fresh_a
+    (found_fresh f.node piece.slots untouched linked released) turn (subst (λ (i : ℕ). TakesBehind n i a turn b) (found_id f.node) took)
 
 -- the head moved between two looks
 pub turn_differs : (n : HeapNumbers) (s t : Seat FifoNote) (one two : Link) → AllAllowed (FifoMay n) [] t.seen → one ≢ two → t.slots ≡ s.slots

@@ -185,16 +185,18 @@ past_helped n head next place link s a b p all_a all_b slots fresh helped = elim
 ]
 
 -- the tail named another node: it has left the head
-pub past_left : (n : HeapNumbers) (head : ℕ) (s a : Seat FifoNote) → Known n s.seen → AllAllowed (FifoMay n) [] a.seen → WasNamed (heap_of n s) 0 head
-    → Misses (Root 1) (link_to head) s a → IsLeft (heap_of n a) head
-past_left n head s a k all named miss =
+pub past_left : (n : HeapNumbers) (h : Hold) (s a : Seat FifoNote) → Known n s.seen → AllAllowed (FifoMay n) [] a.seen → a.slots ≡ s.slots
+    → WasNamed (heap_of n s) 0 (id_in s.slots h) → Misses (Root 1) (link_to (id_in s.slots h)) s a → IsLeft (heap_of n a) (id_in a.slots h)
+past_left n h s a k all slots named miss =
+    let head = id_in s.slots h in
     let e : Event FifoNote = event_of s (Miss (Root 1) (link_to head) miss.found) None in
     let m = Puts-stood (FifoMay n) s a [] e [] miss.puts all in
     let es = s.seen ++ m.before in
     let holds = holds_later n s.seen m.before k.holds m.first in
     let begun = begun_more s.seen m.before k.dummy.begun in
     let left = is_left n es head holds begun (named_later n s.seen m.before 0 head named m.first) (λ x. miss.other (some_same (sym m.here.fits.0 ∙ x))) in
-    subst (λ z. IsLeft (run_heap n z) head) (sym (miss.puts.is ∙ seen_is m)) (left_later n es (e ∷ m.later) head holds begun left (since m))
+    subst (λ z. IsLeft (heap_of n a) (id_in z h)) (sym slots)
+    (subst (λ z. IsLeft (run_heap n z) head) (sym (miss.puts.is ∙ seen_is m)) (left_later n es (e ∷ m.later) head holds begun left (since m)))
 
 -- and then the job was taken, or not
 pub past_taken : (n : HeapNumbers) (head next : ℕ) (s a t : Seat FifoNote) (own : List (Event FifoNote)) (p : Puts s own a)
@@ -235,15 +237,16 @@ took_may n s b head next agent read_job read_at value r value_is agent_is left l
     let o = r.nothing in
     let h = id_in s.slots head in
     let x = id_in s.slots next in
-    let at : read_at ≡ position_of (heap_of n s) h = omega (arith, value_is, r.at_is) in
-    let may = took_allowed n b.agent h x r.job (position_of (heap_of n s) h) b.seen r.after.holds r.after.dummy.begun
+    let at = position_of (heap_of n s) h in
+    let at_is : read_at ≡ at = omega (arith, value_is, r.at_is) in
+    let may = took_allowed n b.agent h x r.job at b.seen r.after.holds r.after.dummy.begun
     (left_puts n s b [] o.puts r.after.all h r.before left) (link_puts n s b [] o.puts r.after.all h x link) r.holds in
     let one = subst
     (λ (i : ℕ). AllowedLater (FifoMay n) n b.agent b.seen (Root 0) (link_to i)
-    (event_of b (Move (Root 0) (link_to i) (link_to x)) (Some (Entry (Took b.agent r.job (position_of (heap_of n s) h)))))) (sym (ap (λ z. id_in z head) o.slots)) may in
+    (event_of b (Move (Root 0) (link_to i) (link_to x)) (Some (Entry (Took b.agent r.job at))))) (sym (ap (λ z. id_in z head) o.slots)) may in
     let two = subst
     (λ (i : ℕ). AllowedLater (FifoMay n) n b.agent b.seen (Root 0) (link_to (id_in b.slots head))
-    (event_of b (Move (Root 0) (link_to (id_in b.slots head)) (link_to i)) (Some (Entry (Took b.agent r.job (position_of (heap_of n s) h))))))
+    (event_of b (Move (Root 0) (link_to (id_in b.slots head)) (link_to i)) (Some (Entry (Took b.agent r.job at)))))
     (sym (ap (λ z. id_in z next) o.slots)) one in
     subst (λ (e : QueueEntry). AllowedLater (FifoMay n) n b.agent b.seen (Root 0) (link_to (id_in b.slots head))
-    (event_of b (Move (Root 0) (link_to (id_in b.slots head)) (link_to (id_in b.slots next))) (Some (Entry e)))) (rw (agent_is, r.job_is, at) refl) two
+    (event_of b (Move (Root 0) (link_to (id_in b.slots head)) (link_to (id_in b.slots next))) (Some (Entry e)))) (rw (agent_is, r.job_is, at_is) refl) two

@@ -1,11 +1,11 @@
 -- By what the look of the tail's link found.
-use Rattle.std.proofs.Common.{rules, ap, subst, ℕ, ◌∙◌}
+use Rattle.std.proofs.Common.{rules, subst}
 use Rattle.orc_heap.proofs.ByAnswer.{Looks-held, Looks-null}
 use Rattle.orc_heap.specs.Slots.{Slots, id_in}
 use Rattle.orc_heap.specs.declared.events.Place.TheVariants.{Next}
-use Rattle.orc_queue.specs.Turns.{Helps, LinksBehind, SwingsLast}
-use Rattle.orc_queue.proofs.Behind.{behind_held, behind_moved, behind_null, fresh_apart, linked_helped, node_seen}
-use Rattle.orc_queue.proofs.Holding.{found_fresh, found_holds, found_id, found_kept, found_other, found_other_id, found_released, pass_known}
+use Rattle.orc_queue.specs.Turns.{LinksBehind, SwingsLast}
+use Rattle.orc_queue.proofs.Behind.{behind_found, behind_moved, behind_null, node_seen}
+use Rattle.orc_queue.proofs.Holding.{found_holds, found_kept, found_other, pass_known}
 use Rattle.orc_queue.proofs.Looking.{FindsNull, HoldsNext, next_held, next_link, next_null, null_named}
 use Rattle.orc_queue.proofs.put.put_behind.Given.{Over}
 use Rattle.orc_queue.proofs.put.put_behind.Goals.{In-Stable-default-None, In-Stable-default-Some}
@@ -80,26 +80,12 @@ pub returns-in-Stable-default-Some-clause-put : goal.returns-in-Stable-default-S
 returns-in-Stable-default-Some-clause-put g c =
     let f = found g (goal.at.returns-in-Stable-default-Some-clause-put g c).In-Stable-default-Some in
     let d = c.args.links.now in
-    let n = g.L.Links.numbers d in
-    let s = g.L.Links.seat d c.args.p.now in
-    let a = g.L.Links.seat d c.look.new.p in
-    let b = g.L.Links.seat d c.help_tail.new.p in
-    let t = g.L.Links.seat d c.release.new.p in
-    let tail = c.args.tail.now in
-    let node = c.args.node.now in
-    let job = c.args.job in
-    let looked = c.in-Stable-default-Some.ensures in
-    let e = c.help_tail.ensures in
-    let released = c.release.ensures.released in
-    let helped = subst (λ (i : ℕ). Helps i f.node.id a b) (found_other_id f.node tail c.requires.tail)
-    (subst (λ (i : ℕ). Helps (id_in a.slots tail) i a b) (found_id f.node) e.helped) in
-    let linked = linked_helped n a b (id_in s.slots tail) f.node.id helped (g.met.L.Links.allowed d c.help_tail.new.p e.pass) f.node.id f.node.linked in
-    let fresh = found_fresh f.node e.helped.slots (λ i is. g.met.L.Links.fresh_is d c.help_tail.new.p i e.pass is) linked released in
-    let slots = found_released f.node e.helped.slots released in
-    let untouched = g.met.L.Links.fresh_is d c.look.new.p in
-    let apart = fresh_apart n job f.node.id node s a c.requires.node looked.looked.fresh (λ i is. untouched i looked.pass is) f.node.linked in
-    behind_held n job (id_in s.slots tail) f.node.id node s a b t f.before f.after c.requires.named c.requires.node f.puts f.link helped released.puts slots
-    (fresh ∙ (e.helped.fresh ∙ looked.looked.fresh)) (g.met.L.Links.allowed d c.release.new.p c.release.ensures.pass) apart
+    let e = c.in-Stable-default-Some.ensures in
+    let h = c.help_tail.ensures in
+    let untouched = g.met.L.Links.fresh_is d in
+    behind_found c.args.tail.now f (g.met.L.Links.allowed d c.help_tail.new.p h.pass) (g.met.L.Links.allowed d c.release.new.p c.release.ensures.pass)
+    c.requires.named c.requires.node c.requires.tail e.looked.fresh (λ i is. untouched c.look.new.p i e.pass is)
+    (λ i is. untouched c.help_tail.new.p i h.pass is) h.helped c.release.ensures.released
 
 pub returns-in-Moved-clause-put : goal.returns-in-Moved-clause-put
 returns-in-Moved-clause-put g c =

@@ -1,16 +1,14 @@
 -- A turn: what the look of the tail found, and what came of it.
-use Rattle.std.proofs.Common.{ap, arith, refl, subst, sym, ℕ, ◌∙◌}
+use Rattle.std.proofs.Common.{arith}
 use Rattle.orc_heap.proofs.ByAnswer.{Looks-held, Looks-null}
-use Rattle.orc_heap.specs.Slots.{Holds, Slots, id_in}
+use Rattle.orc_heap.specs.Slots.{id_in}
 use Rattle.orc_heap.specs.declared.events.Place.TheVariants.{Root}
-use Rattle.orc_queue.specs.Turns.{PutsBehind}
-use Rattle.orc_queue.proofs.Behind.{BehindPiece, behind_piece}
-use Rattle.orc_queue.proofs.Holding.{found_free, found_fresh, found_holds, found_id, found_kept, found_other_id, found_released, pass_known}
+use Rattle.orc_queue.proofs.Behind.{behind_piece}
+use Rattle.orc_queue.proofs.Holding.{found_free, found_holds, found_kept, pass_known}
 use Rattle.orc_queue.proofs.Looking.{HoldsRoot, root_fresh, root_held, root_named, root_not_null, roots_there}
-use Rattle.orc_queue.proofs.Pieces.{linked_puts}
-use Rattle.orc_queue.proofs.PutTurns.{turn_done, turn_moved}
+use Rattle.orc_queue.proofs.PutTurns.{turn_found, turn_moved}
 use Rattle.orc_queue.proofs.put.put_turn.Given.{Over}
-use Rattle.orc_queue.proofs.put.put_turn.Goals.{After-put_behind-turn, In-Stable-default-Some}
+use Rattle.orc_queue.proofs.put.put_turn.Goals.{In-Stable-default-Some}
 use Rattle.orc_queue.proofs.put.put_turn.Goals as goal
 
 -- what the look of the tail found
@@ -22,14 +20,6 @@ found g c =
     let known = pass_known g.L.Links g.met.L.Links.opens g.met.L.Links.allowed g.met.L.Links.obeys d in
     root_held _ _ _ 1 2 _ _ (omega arith) c.requires.slots.0 (known c.args.p.now c.requires.made c.requires.pass)
     (known c.look.new.p c.requires.made e.pass) (Looks-held {place = Root 1} e.looked c.in-Stable-default-Some.field-1-is)
-
--- what the pass did behind it
-behind : (g : Over) (c : After-put_behind-turn g) → let d = c.args.links.now in
-    BehindPiece (g.L.Links.seat d c.look.new.p) (g.L.Links.seat d c.put_behind-turn.new.p)
-behind g c =
-    let d = c.args.links.now in
-    let tail = id_in (g.L.Links.seat d c.look.new.p).slots c.in-Stable-default-Some.tail in
-    behind_piece (g.L.Links.numbers d) c.args.job tail c.args.node.now _ _ c.put_behind-turn.result c.put_behind-turn.ensures.put
 
 pub look-requires-clause-place : goal.look-requires-clause-place
 look-requires-clause-place g c =
@@ -60,32 +50,21 @@ put_behind-turn-requires g c =
 
 pub release-requires-clause-held : goal.release-requires-clause-held
 release-requires-clause-held g c =
-    let at = goal.at.release-requires-clause-held g c in
-    found_kept (found g at.In-Stable-default-Some).node (behind g at.After-put_behind-turn).slots
+    let f = found g (goal.at.release-requires-clause-held g c).In-Stable-default-Some in
+    let d = c.args.links.now in
+    let tail = id_in (g.L.Links.seat d c.look.new.p).slots c.in-Stable-default-Some.tail in
+    let turn = c.put_behind-turn.result in
+    found_kept f.node (behind_piece (g.L.Links.numbers d) c.args.job tail c.args.node.now _ _ turn c.put_behind-turn.ensures.put).slots
 
 pub returns-in-Stable-default-Some-clause-put : goal.returns-in-Stable-default-Some-clause-put
 returns-in-Stable-default-Some-clause-put g c =
-    let at = goal.at.returns-in-Stable-default-Some-clause-put g c in
-    let f = found g at.In-Stable-default-Some in
-    let piece = behind g at.After-put_behind-turn in
+    let f = found g (goal.at.returns-in-Stable-default-Some-clause-put g c).In-Stable-default-Some in
     let d = c.args.links.now in
-    let n = g.L.Links.numbers d in
-    let a = g.L.Links.seat d c.look.new.p in
-    let b = g.L.Links.seat d c.put_behind-turn.new.p in
-    let job = c.args.job in
-    let node = c.args.node.now in
     let e = c.put_behind-turn.ensures in
-    let turn = c.put_behind-turn.result in
-    let released = c.release.ensures.released in
     let kb = pass_known g.L.Links g.met.L.Links.opens g.met.L.Links.allowed g.met.L.Links.obeys d c.put_behind-turn.new.p c.requires.made e.pass in
-    let linked = linked_puts n a b piece.own piece.puts kb.all f.node.id f.node.linked in
-    let fresh = found_fresh f.node piece.slots (λ i is. g.met.L.Links.fresh_is d c.put_behind-turn.new.p i e.pass is) linked released in
-    let slots = found_released f.node piece.slots released in
-    let node_b = ap (λ (z : Slots). id_in z node) piece.slots ∙ found_other_id f.node node c.requires.node.held in
-    turn_done n f.one job f.node.id node _ a b _ f.before kb f.after.all (g.met.L.Links.allowed d c.release.new.p c.release.ensures.pass) f.puts
-    released.puts slots c.in-Stable-default-Some.ensures.looked.fresh fresh
-    (subst (λ (z : Slots). Holds z node) (sym slots) c.requires.node.held) (ap (λ (z : Slots). id_in z node) slots ∙ sym node_b) turn
-    (subst (λ (i : ℕ). PutsBehind n job i node a turn b) (found_id f.node) e.put)
+    turn_found c.args.job c.args.node.now f kb (g.met.L.Links.allowed d c.release.new.p c.release.ensures.pass) c.requires.node.held
+    c.in-Stable-default-Some.ensures.looked.fresh (λ i is. g.met.L.Links.fresh_is d c.put_behind-turn.new.p i e.pass is) c.release.ensures.released
+    c.put_behind-turn.result e.put
 
 pub returns-in-Moved-clause-put : goal.returns-in-Moved-clause-put
 returns-in-Moved-clause-put g c =

@@ -1,10 +1,9 @@
 -- The successor has the job and its position; the head goes on to it, or it was moved.
-use Rattle.std.proofs.Common.{rules, ap, arith, subst, sym, ℕ, ◌+◌, ◌-◌, ◌∙◌, ◌≡◌}
+use Rattle.std.proofs.Common.{rules, ap, arith, subst, sym, ℕ}
 use Rattle.orc_heap.proofs.Pieces.{linked_not_fresh}
 use Rattle.orc_heap.specs.Allowed.{IsLinkedNode}
 use Rattle.orc_heap.specs.Seats.{heap_of}
 use Rattle.orc_heap.specs.Slots.{Slots, id_in}
-use Rattle.orc_fifo_rule.specs.QueueDiscipline.{position_of}
 use Rattle.orc_fifo_rule.specs.Laws.Nodes.{job_linked}
 use Rattle.orc_queue.proofs.Holding.{pass_known}
 use Rattle.orc_queue.proofs.Looking.{roots_there}

@@ -1,15 +1,13 @@
 -- A turn: what the look of the head found, and what came of it.
-use Rattle.std.proofs.Common.{arith, subst, ℕ}
+use Rattle.std.proofs.Common.{arith}
 use Rattle.orc_heap.proofs.ByAnswer.{Looks-held, Looks-null}
 use Rattle.orc_heap.specs.Slots.{id_in}
 use Rattle.orc_heap.specs.declared.events.Place.TheVariants.{Root}
-use Rattle.orc_queue.specs.Turns.{TakesBehind}
-use Rattle.orc_queue.proofs.Holding.{found_free, found_fresh, found_holds, found_id, found_kept, found_released, pass_known}
+use Rattle.orc_queue.proofs.Holding.{found_free, found_holds, found_kept, pass_known}
 use Rattle.orc_queue.proofs.Looking.{HoldsRoot, root_held, root_named, root_not_null, roots_there}
-use Rattle.orc_queue.proofs.Pieces.{linked_puts}
-use Rattle.orc_queue.proofs.TakeTurns.{TakenPiece, behind_kept, turn_differs, turn_taken}
+use Rattle.orc_queue.proofs.TakeTurns.{behind_kept, turn_differs, turn_found}
 use Rattle.orc_queue.proofs.take.take_turn.Given.{Over}
-use Rattle.orc_queue.proofs.take.take_turn.Goals.{After-take_behind-turn, In-Stable-default-Some}
+use Rattle.orc_queue.proofs.take.take_turn.Goals.{In-Stable-default-Some}
 use Rattle.orc_queue.proofs.take.take_turn.Goals as goal
 
 -- what the look of the head found
@@ -21,14 +19,6 @@ found g c =
     let known = pass_known g.L.Links g.met.L.Links.opens g.met.L.Links.allowed g.met.L.Links.obeys d in
     root_held _ _ _ 0 1 _ _ (omega arith) c.requires.slots.0 (known c.args.p.now c.requires.made c.requires.pass)
     (known c.look.new.p c.requires.made e.pass) (Looks-held {place = Root 0} e.looked c.in-Stable-default-Some.field-1-is)
-
--- what the pass did behind it
-behind : (g : Over) (c : After-take_behind-turn g) → let d = c.args.links.now in
-    TakenPiece (g.L.Links.seat d c.look.new.p) (g.L.Links.seat d c.take_behind-turn.new.p)
-behind g c =
-    let d = c.args.links.now in
-    let head = id_in (g.L.Links.seat d c.look.new.p).slots c.in-Stable-default-Some.head in
-    behind_kept (g.L.Links.numbers d) head _ _ c.take_behind-turn.result c.take_behind-turn.ensures.took
 
 pub look-requires-clause-place : goal.look-requires-clause-place
 look-requires-clause-place g c =
@@ -57,27 +47,19 @@ take_behind-turn-requires g c =
 
 pub release-requires-clause-held : goal.release-requires-clause-held
 release-requires-clause-held g c =
-    let at = goal.at.release-requires-clause-held g c in
-    found_kept (found g at.In-Stable-default-Some).node (behind g at.After-take_behind-turn).slots
+    let f = found g (goal.at.release-requires-clause-held g c).In-Stable-default-Some in
+    let d = c.args.links.now in
+    let head = id_in (g.L.Links.seat d c.look.new.p).slots c.in-Stable-default-Some.head in
+    found_kept f.node (behind_kept (g.L.Links.numbers d) head _ _ c.take_behind-turn.result c.take_behind-turn.ensures.took).slots
 
 pub returns-in-Stable-default-Some-clause-took : goal.returns-in-Stable-default-Some-clause-took
 returns-in-Stable-default-Some-clause-took g c =
-    let at = goal.at.returns-in-Stable-default-Some-clause-took g c in
-    let f = found g at.In-Stable-default-Some in
-    let piece = behind g at.After-take_behind-turn in
+    let f = found g (goal.at.returns-in-Stable-default-Some-clause-took g c).In-Stable-default-Some in
     let d = c.args.links.now in
-    let n = g.L.Links.numbers d in
-    let a = g.L.Links.seat d c.look.new.p in
-    let b = g.L.Links.seat d c.take_behind-turn.new.p in
     let e = c.take_behind-turn.ensures in
-    let turn = c.take_behind-turn.result in
-    let released = c.release.ensures.released in
-    let all_b = g.met.L.Links.allowed d c.take_behind-turn.new.p e.pass in
-    let linked = linked_puts n a b piece.own piece.puts all_b f.node.id f.node.linked in
-    let fresh = found_fresh f.node piece.slots (λ i is. g.met.L.Links.fresh_is d c.take_behind-turn.new.p i e.pass is) linked released in
-    turn_taken n f.one f.node.id _ a b _ f.before f.after.all (g.met.L.Links.allowed d c.release.new.p c.release.ensures.pass) f.puts released.puts
-    (found_released f.node piece.slots released) c.in-Stable-default-Some.ensures.looked.fresh fresh turn
-    (subst (λ (i : ℕ). TakesBehind n i a turn b) (found_id f.node) e.took)
+    turn_found f (g.met.L.Links.allowed d c.take_behind-turn.new.p e.pass) (g.met.L.Links.allowed d c.release.new.p c.release.ensures.pass)
+    c.in-Stable-default-Some.ensures.looked.fresh (λ i is. g.met.L.Links.fresh_is d c.take_behind-turn.new.p i e.pass is) c.release.ensures.released
+    c.take_behind-turn.result e.took
 
 pub returns-in-Moved-clause-took : goal.returns-in-Moved-clause-took
 returns-in-Moved-clause-took g c =
