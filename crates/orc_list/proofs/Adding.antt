@@ -1,5 +1,5 @@
 -- A node for a key is linked where a search found that the key belongs.
-use Rattle.std.proofs.Common.{Bool, Err, List, None, Ok, Option, Result, Some, [], ap, append_assoc, arith, false, inl, inr, length, length-append, length-set, refl, subst, sym, true, zero, suc, ℕ, ◌*◌, ◌++◌, ◌+◌, ◌==◌, ◌∙◌, ◌∷◌, ◌≡◌, ◌≢◌, ◌≤◌, ◌⊎◌}
+use Rattle.std.proofs.Common.{Bool, Err, List, None, Ok, Option, Result, Some, [], ap, arith, false, inl, inr, length, length-append, length-set, refl, subst, sym, true, ℕ, ◌*◌, ◌++◌, ◌+◌, ◌==◌, ◌∙◌, ◌∷◌, ◌≡◌, ◌≢◌, ◌≤◌, ◌⊎◌}
 use Rattle.std.proofs.lemmas.Bool.{eqb-false, eqb-true}
 use Rattle.std.specs.List.{slice_get, slice_set}
 use Rattle.orc_fault.specs.declared.Spent.{Spent as SpentRow}
@@ -12,7 +12,7 @@ use Rattle.orc_heap.specs.Allowed.{AllAllowed}
 use Rattle.orc_heap.specs.Calls.{Gives, Misses, event_of}
 use Rattle.orc_heap.specs.Hands.{AreHeld, Hand, Hands, HoldsId, IsApart, IsApartOf, IsHeldApart, hand}
 use Rattle.orc_heap.specs.Heap.{HeapNumbers}
-use Rattle.orc_heap.specs.Moves.{from_own, gives_in, moves_in}
+use Rattle.orc_heap.specs.Moves.{gives_in, moves_in}
 use Rattle.orc_heap.specs.OwnEvents.{Only, Puts}
 use Rattle.orc_heap.specs.Seats.{Seat, heap_of}
 use Rattle.orc_heap.specs.Slots.{Hold, IsFree, SlotNode, Slots}
@@ -26,15 +26,15 @@ use Rattle.orc_chain_rule.proofs.Later.{holds_later, nothing_yet}
 use Rattle.orc_chain_rule.specs.ChainDiscipline.{ChainHolds, ChainMay, FollowsOn, IsAbove, IsRun, entries_of, link_over}
 use Rattle.orc_chain_rule.specs.Watches.{node_to_add}
 use Rattle.orc_chain_rule.specs.declared.chain.ChainNote.{ChainNote}
-use Rattle.orc_list.specs.Inserts.{AddEnds, AddOver, AddsAt, AddsNode, EndsWith, HasRoomFor, HoldsKey, InsertEnds, Inserts, InsertsOn, IsInFirst, IsToAdd, KeepsNode, LinkMissed, LinkRefused, LinksNode, LinksTo, SeesAbsent, count_of, slots_with}
-use Rattle.orc_list.specs.Searches.{AllGone, FindsAbsent, FindsMoved, HasRoom, HoldsIfAny, InHand, IsFew, LeadsOver, Quiet, left_place, node_of}
-use Rattle.orc_list.specs.Turns.{Answers, AreOver, Made, Tires, first_or, place_at, target_at}
+use Rattle.orc_list.specs.Inserts.{AddEnds, AddOver, AddsAt, AddsNode, HasRoomFor, InsertEnds, Inserts, InsertsOn, IsInFirst, IsToAdd, KeepsNode, LinkMissed, LinkRefused, LinksNode, LinksTo, SeesAbsent, count_of, slots_with}
+use Rattle.orc_list.specs.Searches.{AllGone, FindsAbsent, HasRoom, HoldsIfAny, InHand, IsFew, left_place, node_of}
+use Rattle.orc_list.specs.Turns.{Answers, Made, Tires, first_or, place_at, target_at}
 use Rattle.orc_list.specs.declared.insert.InsertTurn.{InsertTurn}
 use Rattle.orc_list.specs.declared.insert.InsertTurn.TheVariants.{Answered, NoNode, Over, Spent}
-use Rattle.orc_list.proofs.Answering.{from_is, head_of, place_of_hand, target_is, target_of_hand}
+use Rattle.orc_list.proofs.Answering.{from_is, place_of_hand, target_is, target_of_hand}
 use Rattle.orc_list.proofs.Held.{absent_hand, first_held, first_linked, in_hand_on, left_linked, right_linked, second_held, third_held, three_hands}
 use Rattle.orc_list.proofs.Linking.{holds_on, loads_leave}
-use Rattle.orc_list.proofs.Making.{made_after, made_on, missed, over_on}
+use Rattle.orc_list.proofs.Making.{made_on, missed, over_on}
 use Rattle.orc_list.proofs.Quiets.{above_puts, below_puts, entries_of-append, leads_puts, left_place_linked, shows_on}
 use Rattle.orc_list.proofs.Seen.{covers_left, few_more}
 
@@ -97,9 +97,11 @@ module _ (n : HeapNumbers) (root key : ℕ) (left first right : Option Hold) (no
   z = hand right a.right_id
 
   pub adds_held : HoldsIfAny t.slots left × HoldsIfAny t.slots first × HoldsIfAny t.slots right
-  adds_held = (first_held slots t.slots left a.left_id (hand first a.first_id ∷ hand right a.right_id ∷ []) a.hands,
+  adds_held = (
+    first_held slots t.slots left a.left_id (hand first a.first_id ∷ hand right a.right_id ∷ []) a.hands,
     second_held slots t.slots (hand left a.left_id) first a.first_id (hand right a.right_id ∷ []) a.hands,
-    third_held slots t.slots (hand left a.left_id) (hand first a.first_id) right a.right_id [] a.hands)
+    third_held slots t.slots (hand left a.left_id) (hand first a.first_id) right a.right_id [] a.hands,
+  )
 
   pub adds_place : place_at t.slots root left ≡ left_place root left a.left_id
   adds_place = place_of_hand slots t.slots root left a.left_id (hand first a.first_id ∷ hand right a.right_id ∷ []) a.hands.held.0
@@ -115,9 +117,11 @@ module _ (n : HeapNumbers) (root key : ℕ) (left first right : Option Hold) (no
   adds_below = subst (λ (p : Place). FollowsOn n.roots (heap_of n t) p key) (sym adds_place) a.leads.below
 
   pub adds_run : (over : List ℕ) × IsRun (heap_of n t) (link_over (target_at t.slots (first_or first right))) over (target_at t.slots right)
-  adds_run =
-      (a.leads.over, subst (λ (o : Option ℕ). IsRun (heap_of n t) (link_over (target_at t.slots (first_or first right))) a.leads.over o) (sym adds_right)
-      (subst (λ (l : Link). IsRun (heap_of n t) l a.leads.over (node_of right a.right_id)) (sym adds_link) a.leads.run))
+  adds_run = (
+    a.leads.over,
+    subst (λ (o : Option ℕ). IsRun (heap_of n t) (link_over (target_at t.slots (first_or first right))) a.leads.over o) (sym adds_right)
+        (subst (λ (l : Link). IsRun (heap_of n t) l a.leads.over (node_of right a.right_id)) (sym adds_link) a.leads.run),
+  )
 
   pub adds_above : IsAbove (heap_of n t) (target_at t.slots right) key
   adds_above = subst (λ (o : Option ℕ). IsAbove (heap_of n t) o key) (sym adds_right) a.above
@@ -356,8 +360,12 @@ seen_holds n s t own p all =
 
 -- slots 2 to 5 are free beside the node
 pub has_room : (n : HeapNumbers) (key : ℕ) (node : Option Hold) (slots : Slots) (s : Seat ChainNote) → HasRoomFor slots → KeepsNode n key node slots s → HasRoom s.slots
-has_room n key node slots s room k = record { two = free node k.slots_are k.slot_is 2 (λ e. omega (arith, e)) room.room.two; three = free node k.slots_are k.slot_is 3 (λ e. omega (arith, e)) room.room.three;
-    four = free node k.slots_are k.slot_is 4 (λ e. omega (arith, e)) room.room.four; five = free node k.slots_are k.slot_is 5 (λ e. omega (arith, e)) room.room.five }
+has_room n key node slots s room k = record {
+  two = free node k.slots_are k.slot_is 2 (λ e. omega (arith, e)) room.room.two;
+  three = free node k.slots_are k.slot_is 3 (λ e. omega (arith, e)) room.room.three;
+  four = free node k.slots_are k.slot_is 4 (λ e. omega (arith, e)) room.room.four;
+  five = free node k.slots_are k.slot_is 5 (λ e. omega (arith, e)) room.room.five;
+}
   where
     free : (o : Option Hold) → s.slots ≡ slots_with slots o k.id → IsInFirst o → (slot : ℕ) → slot ≢ 1 → IsFree slots slot → IsFree s.slots slot
     free None is first slot ne f = subst (λ (z : Slots). IsFree z slot) (sym is) f

@@ -1,7 +1,6 @@
 -- From what a search found to an answer.
-use Rattle.std.proofs.Common.{Bool, List, None, Option, Some, [], ap, arith, false, inl, inr, refl, subst, sym, true, ℕ, ◌++◌, ◌∙◌, ◌∷◌, ◌≡◌, ◌≤◌}
+use Rattle.std.proofs.Common.{Bool, List, None, Option, Some, [], ap, arith, false, inl, inr, refl, subst, sym, true, ℕ, ◌++◌, ◌∙◌, ◌∷◌, ◌≡◌}
 use Rattle.orc_heap.proofs.ByAnswer.{Tests-found, Tests-missed}
-use Rattle.orc_heap.proofs.Calls.{Puts-trans}
 use Rattle.orc_heap.proofs.Hands.{holds_of}
 use Rattle.orc_heap.proofs.Moved.{moves_in-append}
 use Rattle.orc_heap.specs.Allowed.{AllAllowed, AllowedLater}
@@ -10,7 +9,6 @@ use Rattle.orc_heap.specs.Hands.{Hand, IsHeldApart, hand}
 use Rattle.orc_heap.specs.Heap.{HeapNumbers}
 use Rattle.orc_heap.specs.Journals.{event_by, run_heap}
 use Rattle.orc_heap.specs.Moves.{moves_in}
-use Rattle.orc_heap.specs.OwnEvents.{Puts}
 use Rattle.orc_heap.specs.Seats.{Seat, heap_of, link_in, place_in}
 use Rattle.orc_heap.specs.Slots.{Hold, Holds, Slots, id_in}
 use Rattle.orc_heap.specs.declared.events.Act.TheVariants.{Look, Miss}

@@ -1,15 +1,12 @@
 -- From what a call did to its clauses on journals.
-use Rattle.std.proofs.Common.{Bool, Err, List, Ok, Result, [], ap, append-nil, append_assoc, arith, drop, inr, length, refl, subst, sym, take, true, ℕ, ◌*◌, ◌++◌, ◌+◌, ◌<◌, ◌==◌, ◌∙◌, ◌∷◌, ◌≡◌, ◌≢◌, ◌≤◌, ◌⊎◌}
-use Rattle.std.proofs.lemmas.List.{length-append}
+use Rattle.std.proofs.Common.{Bool, Err, List, Ok, Result, [], ap, append-nil, append_assoc, arith, drop, inr, length, refl, subst, sym, take, true, ℕ, ◌*◌, ◌++◌, ◌<◌, ◌==◌, ◌∙◌, ◌∷◌, ◌≡◌, ◌≤◌, ◌⊎◌}
 use Rattle.std.proofs.lemmas.List.Elements.{filter-append}
 use Rattle.std.proofs.Math.Seq.{drop-append_seam, take-length}
 use Rattle.std.specs.List.{list_all, AllByRecursion}
 use Rattle.std.specs.Prelude.{IfErr, IfOk, IsErr}
 use mathlib.Core.List.{IsPrefix}
-use Rattle.orc_fault.specs.declared.Again.{Again as AgainFault}
-use Rattle.orc_fault.specs.declared.Spent.{Spent as SpentRow}
 use Rattle.orc_heap.proofs.Calls.{part_allowed}
-use Rattle.orc_heap.proofs.OwnEntries.{entries_added, own_of_events}
+use Rattle.orc_heap.proofs.OwnEntries.{entries_added}
 use Rattle.orc_heap.proofs.OwnParts.{from_own-others, moves_from_own, own_from, quiet_not_alone}
 use Rattle.orc_heap.proofs.Steps.{part_bounds, part_events}
 use Rattle.orc_heap.specs.Allowed.{AllAllowed, events_by}
@@ -18,17 +15,15 @@ use Rattle.orc_heap.specs.Moves.{AllOwn, from_own, gives_in, moves_in}
 use Rattle.orc_heap.specs.OwnEvents.{IsBelow, Puts}
 use Rattle.orc_heap.specs.Seats.{Seat}
 use Rattle.orc_heap.specs.declared.events.Event.{Event}
-use Rattle.orc_history.specs.Journals.{Adds, LearnsEntries, Within, own_of}
+use Rattle.orc_history.specs.Journals.{Adds}
 use Rattle.orc_history.specs.Parts.{InPart, IsAlone, part_begin}
 use Rattle.orc_history.specs.SetHistory.{agent_of_set_entry}
-use Rattle.orc_history.specs.declared.set.ListRefused.{ListRefused}
-use Rattle.orc_history.specs.declared.set.ListRefused.TheVariants.{Again, NoNode, Spent}
 use Rattle.orc_history.specs.declared.set.SetEntry.{SetEntry}
 use Rattle.orc_chain_rule.proofs.OwnEntries.{entries_own}
 use Rattle.orc_chain_rule.specs.ChainDiscipline.{ChainMay, entries_in, entries_of}
 use Rattle.orc_chain_rule.specs.declared.chain.ChainNote.{ChainNote}
-use Rattle.orc_list.specs.Causes.{Cause, UsesTurns, WithinPart, others_moves}
-use Rattle.orc_list.specs.Turns.{AreFew, Made}
+use Rattle.orc_list.specs.Causes.{UsesTurns}
+use Rattle.orc_list.specs.Turns.{AreFew}
 use Rattle.orc_list.proofs.Parts.{others_append, others_split}
 use Rattle.orc_list.proofs.Settling.{Did}
 

@@ -1,19 +1,17 @@
 -- The nodes that a search has in hand, and that they are let go.
-use Rattle.std.proofs.Common.{Bool, List, None, Option, Some, [], ap, arith, false, inl, inr, refl, subst, suc, sym, true, zero, ℕ, ◌++◌, ◌+◌, ◌<◌, ◌∙◌, ◌∷◌, ◌≡◌, ◌≢◌, ◌≤◌}
-use Rattle.std.specs.List.{slice_get}
+use Rattle.std.proofs.Common.{List, None, Option, Some, [], ap, arith, subst, suc, sym, zero, ℕ, ◌<◌, ◌∙◌, ◌∷◌, ◌≡◌, ◌≢◌, ◌≤◌}
 use Rattle.orc_heap.proofs.Calls.{Puts-trans}
-use Rattle.orc_heap.proofs.Hands.{free_in, hand_held, hands_done, hands_drop, hands_none, hands_swap, hands_with_none, holds_of}
+use Rattle.orc_heap.proofs.Hands.{hand_held, hands_done, hands_drop, hands_none, hands_swap, hands_with_none, holds_of}
 use Rattle.orc_heap.proofs.Pieces.{linked_not_fresh, unless_other}
-use Rattle.orc_heap.specs.Allowed.{AllAllowed, HasLink, IsLinkedNode}
+use Rattle.orc_heap.specs.Allowed.{AllAllowed, IsLinkedNode}
 use Rattle.orc_heap.specs.Calls.{Releases, unless_node}
-use Rattle.orc_heap.specs.Hands.{Hand, Hands, HoldsId, IsApart, IsApartOf, IsHeldApart, hand}
-use Rattle.orc_heap.specs.Heap.{Heap, HeapNumbers}
+use Rattle.orc_heap.specs.Hands.{Hand, Hands, IsApart, IsApartOf, IsHeldApart, hand}
+use Rattle.orc_heap.specs.Heap.{HeapNumbers}
 use Rattle.orc_heap.specs.OwnEvents.{Puts}
 use Rattle.orc_heap.specs.Seats.{IsUntouched, Seat, heap_of}
-use Rattle.orc_heap.specs.Slots.{Hold, Holds, IsFree, Slots, id_in}
+use Rattle.orc_heap.specs.Slots.{Hold, IsFree, Slots}
 use Rattle.orc_heap.specs.declared.events.Event.{Event}
 use Rattle.orc_heap.specs.declared.events.Link.{Link}
-use Rattle.orc_heap.specs.declared.events.Place.TheVariants.{Next, Root}
 use Rattle.orc_heap.proofs.SingleActs.{linked_node}
 use Rattle.orc_chain_rule.specs.declared.chain.ChainNote.{ChainNote}
 use Rattle.orc_chain_rule.specs.ChainDiscipline.{ChainMay, FollowsOn, IsAbove, IsRun}

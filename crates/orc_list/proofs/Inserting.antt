@@ -1,5 +1,5 @@
 -- One turn of an insert after another, and its answer.
-use Rattle.std.proofs.Common.{Bool, Err, List, None, Ok, Option, Result, Some, [], ap, arith, false, inl, inr, refl, subst, sym, true, ℕ, ◌++◌, ◌+◌, ◌∙◌, ◌≡◌, ◌≢◌, ◌≤◌, ◌⊎◌, ◌∷◌}
+use Rattle.std.proofs.Common.{Bool, Err, List, None, Option, Result, Some, [], ap, arith, inl, inr, refl, subst, sym, ℕ, ◌++◌, ◌+◌, ◌∙◌, ◌≡◌, ◌≤◌, ◌⊎◌, ◌∷◌}
 use Rattle.std.specs.List.{slice_get, slice_set}
 use Rattle.orc_fault.specs.declared.Spent.{Spent as SpentRow}
 use Rattle.orc_heap.proofs.ByAnswer.{unless_fresh, unless_same}
@@ -9,9 +9,8 @@ use Rattle.orc_heap.specs.Allowed.{AllAllowed}
 use Rattle.orc_heap.specs.Calls.{unless_node}
 use Rattle.orc_heap.specs.Hands.{HoldsId}
 use Rattle.orc_heap.specs.Heap.{HeapNumbers}
-use Rattle.orc_heap.specs.OwnEvents.{Puts}
 use Rattle.orc_heap.specs.Seats.{IsIdle, Seat}
-use Rattle.orc_heap.specs.Slots.{Hold, IsFree, SlotNode, Slots, id_in}
+use Rattle.orc_heap.specs.Slots.{Hold, SlotNode, Slots}
 use Rattle.orc_heap.specs.declared.events.Event.{Event}
 use Rattle.orc_history.specs.declared.set.ListRefused.{ListRefused}
 use Rattle.orc_history.specs.declared.set.ListRefused.TheVariants.{Spent as RefusedSpent}
@@ -20,9 +19,8 @@ use Rattle.orc_history.specs.declared.set.SetEntry.TheVariants.{Added}
 use Rattle.orc_chain_rule.specs.ChainDiscipline.{ChainMay}
 use Rattle.orc_chain_rule.specs.declared.chain.ChainNote.{ChainNote}
 use Rattle.orc_list.specs.Answers.{InsertCall, InsertTires, InsertsTurns}
-use Rattle.orc_list.specs.Inserts.{EndsWith, HasRoomFor, InsertEnds, Inserts, InsertsOn, IsToAdd, KeepsNode, SeesAbsent, count_of, slots_with}
+use Rattle.orc_list.specs.Inserts.{EndsWith, HasRoomFor, InsertEnds, Inserts, InsertsOn, IsToAdd, KeepsNode, SeesAbsent, count_of}
 use Rattle.orc_list.specs.Searches.{HoldsIfAny, LetsGo, node_of}
-use Rattle.orc_list.specs.Turns.{AreOver, Made}
 use Rattle.orc_list.specs.declared.insert.InsertTurn.{InsertTurn}
 use Rattle.orc_list.specs.declared.insert.InsertTurn.TheVariants.{Answered, NoNode, Over, Spent}
 use Rattle.orc_list.proofs.Making.{made_most, made_next, made_on, over_next, over_none, over_on}

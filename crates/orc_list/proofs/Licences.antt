@@ -1,5 +1,5 @@
 -- From the clauses of a call to what the trait of shared sets asks, and what two passes learn from each other.
-use Rattle.std.proofs.Common.{Bool, Err, List, Ok, Result, [], ap, arith, length, refl, sym, ℕ, ◌∙◌, ◌≡◌, ◌≢◌, ◌≤◌, ◌⊎◌}
+use Rattle.std.proofs.Common.{Bool, Err, List, Ok, Result, [], ap, arith, length, refl, sym, ℕ, ◌∙◌, ◌≡◌, ◌≢◌, ◌⊎◌}
 use Rattle.std.specs.Prelude.{IfErr}
 use mathlib.Core.List.{IsPrefix}
 use Rattle.orc_fault.specs.declared.Again.{Again as AgainFault}

@@ -1,9 +1,8 @@
 -- A fresh node is aimed, and linked.
-use Rattle.std.proofs.Common.{Bool, Err, List, None, Ok, Option, Result, Some, [], ap, arith, false, length, refl, subst, sym, true, ℕ, ◌++◌, ◌+◌, ◌∙◌, ◌∷◌, ◌≡◌, ◌≢◌, ◌≤◌}
+use Rattle.std.proofs.Common.{Bool, Err, List, None, Ok, Option, Result, Some, [], ap, arith, false, refl, subst, sym, true, ℕ, ◌∙◌, ◌∷◌, ◌≡◌, ◌≢◌}
 use Rattle.std.proofs.lemmas.Bool.{eq-eqb, ne_eqb}
 use Rattle.std.specs.List.{list_any, slice_get}
 use Rattle.std.specs.Prelude.{IfErr, IfOk, ◌||◌}
-use mathlib.Core.List.{IsPrefix}
 use Rattle.orc_fault.specs.declared.Spent.{Spent as SpentRow}
 use Rattle.orc_heap.proofs.ByAnswer.{Swings-fresh, Swings-missed, Swings-moved, unless_same}
 use Rattle.orc_heap.proofs.Calls.{Puts-trans}
@@ -14,7 +13,7 @@ use Rattle.orc_heap.specs.Allowed.{AllAllowed, AllowedLater}
 use Rattle.orc_heap.specs.Calls.{Misses, Swings, event_of, unless_node}
 use Rattle.orc_heap.specs.Hands.{HoldsId}
 use Rattle.orc_heap.specs.Heap.{HeapNumbers, Node, link_to}
-use Rattle.orc_heap.specs.Journals.{names_node, points_to, run_heap}
+use Rattle.orc_heap.specs.Journals.{names_node, points_to}
 use Rattle.orc_heap.specs.OwnEvents.{Only, Puts}
 use Rattle.orc_heap.specs.Seats.{Seat, heap_of, link_in, place_in}
 use Rattle.orc_heap.specs.Slots.{Hold, Slots, id_in}
@@ -25,7 +24,6 @@ use Rattle.orc_heap.specs.declared.events.Link.{Link}
 use Rattle.orc_heap.specs.declared.events.Place.{Place}
 use Rattle.orc_heap.specs.declared.holds.At.{At}
 use Rattle.orc_heap.specs.declared.holds.Want.{Want}
-use Rattle.orc_heap.specs.declared.holds.Want.TheVariants.{Node as WantNode}
 use Rattle.orc_history.specs.declared.set.SetEntry.TheVariants.{Added}
 use Rattle.orc_chain_rule.proofs.Coming.{added_allowed}
 use Rattle.orc_chain_rule.specs.ChainDiscipline.{ChainHolds, ChainMay, FollowsOn, IsAbove, IsRun}
@@ -34,7 +32,7 @@ use Rattle.orc_chain_rule.specs.Laws.Kinds.{key_linked}
 use Rattle.orc_chain_rule.specs.Watches.{node_to_add}
 use Rattle.orc_chain_rule.specs.declared.chain.ChainNote.{ChainNote}
 use Rattle.orc_chain_rule.specs.declared.chain.ChainNote.TheVariants.{Entry}
-use Rattle.orc_list.specs.Inserts.{HoldsKey, LinkMissed, LinkRefused, LinksNode, LinksTo}
+use Rattle.orc_list.specs.Inserts.{HoldsKey, LinkRefused, LinksTo}
 use Rattle.orc_list.specs.Searches.{AreLoads, IsLoad}
 use Rattle.orc_list.proofs.Held.{FreshIs}
 use Rattle.orc_list.proofs.Quiets.{above_puts, below_puts, run_puts}

@@ -1,10 +1,10 @@
 -- What the pass did in a turn, one piece after another.
-use Rattle.std.proofs.Common.{Bool, List, None, Option, Some, [], ap, append-nil, arith, inl, inr, length, length-append, refl, subst, sym, ℕ, ◌*◌, ◌++◌, ◌+◌, ◌∙◌, ◌∷◌, ◌≡◌, ◌≤◌}
+use Rattle.std.proofs.Common.{List, None, [], append-nil, arith, inl, inr, length, length-append, refl, subst, sym, ℕ, ◌*◌, ◌++◌, ◌+◌, ◌∙◌, ◌∷◌, ◌≡◌, ◌≤◌}
 use Rattle.orc_heap.proofs.Calls.{Puts-trans}
 use Rattle.orc_heap.proofs.Moments.{miss_moved}
 use Rattle.orc_heap.proofs.Moved.{gives_in-append, moves_in-append}
 use Rattle.orc_heap.proofs.OwnParts.{from_own-begun, moves_from_own-append}
-use Rattle.orc_heap.proofs.Pieces.{new_is, own_moves_left, own_moves_right, puts_released}
+use Rattle.orc_heap.proofs.Pieces.{new_is, own_moves_left, puts_released}
 use Rattle.std.proofs.Math.Nat.{suc-mul}
 use Rattle.orc_heap.specs.Allowed.{AllAllowed}
 use Rattle.orc_heap.specs.Calls.{Misses, event_of}

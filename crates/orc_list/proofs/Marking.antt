@@ -1,6 +1,6 @@
 -- A node is marked, and a place is led past a run of marked nodes.
 use Rattle.std.proofs.Common.{Bool, List, None, Ok, Err, Option, Result, Some, [], ap, false, inl, inr, refl, subst, sym, true, ℕ, ◌∙◌, ◌∷◌, ◌≡◌}
-use Rattle.std.specs.Prelude.{IfErr, IfOk, if◌then◌else◌}
+use Rattle.std.specs.Prelude.{IfErr, IfOk}
 use Rattle.orc_fault.specs.declared.Spent.{Spent}
 use Rattle.orc_heap.proofs.ByAnswer.{Swings-fresh, Swings-missed, Swings-moved, unless_none}
 use Rattle.orc_heap.proofs.Pieces.{linked_not_fresh, missed_fresh, unless_other}
@@ -33,7 +33,7 @@ use Rattle.orc_list.specs.Searches.{NextFollows}
 use Rattle.orc_list.specs.Turns.{Marks, TriesUnlink}
 use Rattle.orc_list.proofs.Held.{FreshIs}
 use mathlib.Core.List.{IsPrefix}
-use Rattle.std.proofs.Common.{append-nil, length, length-append, arith, ◌≤◌, ◌+◌, ◌++◌}
+use Rattle.std.proofs.Common.{append-nil, length, length-append, arith, ◌+◌, ◌++◌}
 
 -- a swing is refused only where it would change the target
 pub refused_apart : (slots : Slots) (from to : Want) (why : Spent) (seen : List (Event ChainNote)) → RefusesSwing slots from to why seen → (link_in slots from).to ≡ (link_in slots to).to → ⊥

@@ -1,11 +1,10 @@
 -- Where a call's part of the journal begins, and what stands in it.
-use Rattle.std.proofs.Common.{Bool, List, [], ap, append-nil, append_assoc, arith, cond, drop, false, length, length-append, refl, subst, suc, sym, true, ℕ, ◌++◌, ◌+◌, ◌<◌, ◌==◌, ◌∙◌, ◌∷◌, ◌≡◌, ◌≢◌, ◌≤◌}
+use Rattle.std.proofs.Common.{Bool, List, [], ap, append_assoc, arith, cond, false, length, length-append, refl, subst, suc, sym, true, ℕ, ◌++◌, ◌+◌, ◌<◌, ◌==◌, ◌∙◌, ◌∷◌, ◌≡◌, ◌≢◌, ◌≤◌}
 use Rattle.std.proofs.Math.Seq.{drop-append_seam}
 use Rattle.std.proofs.lemmas.List.{append_cancel_left}
 use Rattle.std.specs.List.{list_all}
 use mathlib.Core.List.{IsPrefix}
 use Rattle.orc_heap.proofs.Steps.{steps_add}
-use Rattle.orc_heap.proofs.Pieces.{goes_on}
 use Rattle.orc_heap.specs.Allowed.{events_by}
 use Rattle.orc_heap.specs.OwnEvents.{Puts}
 use Rattle.orc_heap.specs.Seats.{Seat}
@@ -110,8 +109,8 @@ part_begun {N} {S} agent_of events adds agent j k part own (more, is) new own_is
     let a = steps_add agent_of events adds agent j more in
     let same : part ≡ a.new = append_cancel_left (events j) part a.new (sym new ∙ (ap events (sym is) ∙ a.is)) in
     let begins : own_of agent_of agent more ≢ [] = λ none.
-        let nothing : own ≡ [] = sym own_is ∙ (ap (λ (z : List (Event N)). events_by agent z) same ∙ a.none none) in
-        omega (arith, some, ap (λ (z : List (Event N)). length z) nothing) in
+    let nothing : own ≡ [] = sym own_is ∙ (ap (λ (z : List (Event N)). events_by agent z) same ∙ a.none none) in
+    omega (arith, some, ap (λ (z : List (Event N)). length z) nothing) in
     let first = first_some agent_of agent (length j) more begins in
     let at : part_begin agent_of agent j k ≡ first_step agent_of agent (length j) more = ap (λ (z : List S). part_begin agent_of agent j z) (sym is) ∙ begin_is agent_of agent j more in
     let k_is : length j + length more ≡ length k = sym (length-append j more) ∙ ap (λ (z : List S). length z) is in

@@ -1,12 +1,12 @@
 -- Quiet pieces of a call go on.
-use Rattle.std.proofs.Common.{Bool, List, None, Option, Some, [], ap, append-nil, arith, inl, inr, length, length-append, refl, subst, sym, true, ℕ, ◌++◌, ◌+◌, ◌∙◌, ◌∷◌, ◌≡◌, ◌≤◌}
+use Rattle.std.proofs.Common.{Bool, List, None, Option, Some, [], append-nil, arith, length, length-append, refl, subst, sym, true, ℕ, ◌++◌, ◌+◌, ◌∙◌, ◌∷◌, ◌≡◌, ◌≤◌}
 use Rattle.orc_heap.proofs.Calls.{Puts-trans, part_allowed}
 use Rattle.orc_heap.proofs.Moments.{still_puts}
 use Rattle.orc_heap.proofs.Moved.{gives_in-append, moves_in-append}
 use Rattle.orc_heap.proofs.OwnEntries.{noted-append}
 use Rattle.orc_heap.proofs.Pieces.{new_is, own_moves_left}
 use Rattle.orc_heap.specs.Allowed.{AllAllowed, HasLink, IsLinkedNode}
-use Rattle.orc_heap.specs.Heap.{Heap, HeapNumbers, shown}
+use Rattle.orc_heap.specs.Heap.{HeapNumbers}
 use Rattle.orc_heap.specs.Journals.{run_heap}
 use Rattle.orc_heap.specs.Moves.{IsLinkedPlace, ShowsOrMoved, from_own, gives_in, moves_in}
 use Rattle.orc_heap.specs.OwnEvents.{Puts}

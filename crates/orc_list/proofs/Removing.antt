@@ -1,5 +1,5 @@
 -- A key is taken out at the node that a search found.
-use Rattle.std.proofs.Common.{Bool, List, None, Option, Some, [], ap, append_assoc, arith, false, inl, inr, refl, subst, sym, true, ℕ, ◌++◌, ◌<◌, ◌∙◌, ◌∷◌, ◌≡◌, ◌≢◌, ◌≤◌, length}
+use Rattle.std.proofs.Common.{Bool, List, None, Option, Some, [], ap, append_assoc, arith, false, inl, inr, refl, subst, sym, true, ℕ, ◌++◌, ◌∙◌, ◌∷◌, ◌≡◌, ◌≢◌, ◌≤◌, length}
 use Rattle.std.specs.List.{Contains}
 use Rattle.orc_heap.proofs.Calls.{Puts-stood, Puts-trans, part_allowed}
 use Rattle.orc_heap.proofs.Moved.{moves_in-append}
@@ -9,7 +9,7 @@ use Rattle.orc_heap.proofs.Runs.{run_heap-snoc}
 use Rattle.orc_heap.proofs.SingleActs.{has_link, some_same}
 use Rattle.orc_heap.specs.Acts.{Fits}
 use Rattle.orc_heap.specs.Allowed.{AllAllowed, HasLink, IsLinkedNode, events_by}
-use Rattle.orc_heap.specs.Calls.{Misses, event_of}
+use Rattle.orc_heap.specs.Calls.{event_of}
 use Rattle.orc_heap.specs.Hands.{Hand, hand}
 use Rattle.orc_heap.specs.Heap.{Heap, HeapNumbers, link_to, shown}
 use Rattle.orc_heap.specs.Journals.{run_heap}
@@ -21,7 +21,7 @@ use Rattle.orc_heap.specs.declared.events.Act.TheVariants.{Miss, Move}
 use Rattle.orc_heap.specs.declared.events.Event.{Event}
 use Rattle.orc_heap.specs.declared.events.Link.{Link}
 use Rattle.orc_heap.specs.declared.events.Place.{Place}
-use Rattle.orc_heap.specs.declared.events.Place.TheVariants.{Next, Root}
+use Rattle.orc_heap.specs.declared.events.Place.TheVariants.{Next}
 use Rattle.orc_history.specs.declared.set.SetEntry.TheVariants.{Removed}
 use Rattle.orc_chain_rule.proofs.Later.{linked_later, marked_later, run_later}
 use Rattle.orc_chain_rule.proofs.Leaving.{unlinked_off}

@@ -1,18 +1,15 @@
 -- What a call did, by its answer, up to the pass that has settled.
-use Rattle.std.proofs.Common.{Bool, Err, List, None, Ok, Option, Result, Some, [], ap, append-nil, arith, inl, inr, length, refl, subst, sym, true, ℕ, ◌*◌, ◌++◌, ◌+◌, ◌==◌, ◌∙◌, ◌∷◌, ◌≡◌, ◌≢◌, ◌≤◌}
+use Rattle.std.proofs.Common.{Bool, Err, List, Ok, Result, [], ap, append-nil, arith, inl, inr, length, refl, subst, sym, true, ℕ, ◌*◌, ◌++◌, ◌+◌, ◌==◌, ◌∙◌, ◌∷◌, ◌≡◌, ◌≢◌, ◌≤◌}
 use Rattle.std.proofs.lemmas.Bool.{eq-eqb, or_left, or_right}
-use Rattle.std.proofs.lemmas.List.{length-append}
-use Rattle.std.proofs.lemmas.List.Elements.{filter-append}
-use Rattle.std.proofs.Math.Seq.{drop-append_seam}
 use Rattle.std.specs.Prelude.{IsErr}
 use Rattle.orc_fault.specs.declared.Again.{Again as AgainFault}
 use Rattle.orc_heap.proofs.Calls.{part_allowed}
 use Rattle.orc_heap.proofs.OwnParts.{from_own-begun, own_is_all, own_right}
 use Rattle.orc_heap.proofs.Pieces.{new_is, own_moves_left, own_part_left, puts_released}
 use Rattle.orc_heap.specs.Allowed.{AllAllowed, events_by}
-use Rattle.orc_heap.specs.Heap.{Heap, HeapNumbers}
+use Rattle.orc_heap.specs.Heap.{HeapNumbers}
 use Rattle.orc_heap.specs.Journals.{run_heap}
-use Rattle.orc_heap.specs.Moves.{AllOwn, from_own, gives_in, moves_in}
+use Rattle.orc_heap.specs.Moves.{AllOwn, from_own, moves_in}
 use Rattle.orc_heap.specs.OwnEvents.{Only, Puts}
 use Rattle.orc_heap.specs.Seats.{IsIdle, Seat, heap_of}
 use Rattle.orc_heap.specs.declared.events.Act.{Act}
@@ -29,7 +26,7 @@ use Rattle.orc_chain_rule.specs.ChainDiscipline.{ChainMay, FollowsOn, IsAbove, e
 use Rattle.orc_chain_rule.specs.declared.chain.ChainNote.{ChainNote}
 use Rattle.orc_list.specs.Answers.{AsksTurns, InsertAnswers, InsertCall, RemovesTurns}
 use Rattle.orc_list.specs.Inserts.{SeesAbsent}
-use Rattle.orc_list.specs.Searches.{CoversLooks, Sees}
+use Rattle.orc_list.specs.Searches.{CoversLooks}
 use Rattle.orc_list.specs.Turns.{Answers, AreFew, AreOver, LeavesOff, Made, Tires}
 
 -- the entries of a call, by its answer

@@ -1,5 +1,5 @@
 -- One step of a search after another.
-use Rattle.std.proofs.Common.{Bool, List, None, Option, Some, [], ap, arith, false, inl, inr, length, length-append, refl, subst, sym, true, ℕ, ◌%◌, ◌*◌, ◌++◌, ◌+◌, ◌<◌, ◌∙◌, ◌∷◌, ◌≡◌, ◌≢◌, ◌≤◌, ◌⊎◌}
+use Rattle.std.proofs.Common.{Bool, List, None, Option, Some, [], ap, arith, false, inl, inr, length, length-append, refl, subst, sym, true, ℕ, ◌%◌, ◌++◌, ◌+◌, ◌<◌, ◌∙◌, ◌∷◌, ◌≡◌, ◌≢◌, ◌≤◌, ◌⊎◌}
 use Rattle.std.specs.List.{slice_get, slice_set}
 use Rattle.orc_heap.proofs.Calls.{Puts-stood}
 use Rattle.orc_heap.proofs.Hands.{free_in, hand_held, hands_swap, hands_take, hands_with_none, holds_of}
@@ -11,7 +11,7 @@ use Rattle.orc_heap.specs.Calls.{Looks, ReadsValue, Tells, event_of}
 use Rattle.orc_heap.specs.Hands.{Hand, Hands, HoldsId, IsApart, IsApartOf, hand}
 use Rattle.orc_heap.specs.Heap.{Heap, HeapNumbers, Node, shown}
 use Rattle.orc_heap.specs.Journals.{run_heap}
-use Rattle.orc_heap.specs.Moves.{ShowsOrMoved, from_own, gives_in, moves_in}
+use Rattle.orc_heap.specs.Moves.{ShowsOrMoved, gives_in, moves_in}
 use Rattle.orc_heap.specs.OwnEvents.{Only, Puts}
 use Rattle.orc_heap.specs.Seats.{Seat, heap_of}
 use Rattle.orc_heap.specs.Slots.{Hold, IsFree, Slots, id_in}
@@ -25,10 +25,10 @@ use Rattle.orc_chain_rule.proofs.Later.{follows_later, holds_later, key_later, l
 use Rattle.orc_chain_rule.specs.declared.chain.ChainNote.{ChainNote}
 use Rattle.orc_chain_rule.specs.ChainDiscipline.{ChainHolds, ChainMay, FollowsOn, HasKey, IsRun, entries_of, link_over}
 use Rattle.orc_chain_rule.specs.Laws.Kinds.{key_linked, key_one}
-use Rattle.orc_list.specs.Searches.{AreLoads, Behind, BeginsRun, FindsAbsent, FindsMoved, FindsPresent, HasRoom, IsOf, KeepsFirst, LetsGo, Looking, LooksOn, NextFollows, NextIsOf, Passed, Sees, SeesRun, Stops, Visits, Walks, AllGone, left_place, node_of, slot_in}
+use Rattle.orc_list.specs.Searches.{AreLoads, Behind, BeginsRun, FindsAbsent, FindsMoved, FindsPresent, HasRoom, IsOf, KeepsFirst, LetsGo, Looking, LooksOn, NextFollows, NextIsOf, Passed, Sees, SeesRun, Stops, Walks, AllGone, node_of, slot_in}
 use Rattle.orc_list.proofs.Held.{FreshIs, first_linked, goes_fresh, goes_hands, left_linked, next_linked, room_at, walk_apart}
 use Rattle.orc_list.proofs.Quiets.{behind_on, behind_puts, falls_puts, is_of_puts, key_puts, looking_on, moved_on, visits_on}
-use Rattle.orc_list.proofs.Seen.{all_seen_left, few_more, few_weaker, sees_right, visits_few, visits_weaker}
+use Rattle.orc_list.proofs.Seen.{all_seen_left, few_more, sees_right, visits_few, visits_weaker}
 
 -- a Look of the node's link, at which the discipline holds: the next node may follow, and a marked link stays
 pub record TellsNext (n : HeapNumbers) (id : ℕ) (link : Link) (u : Seat ChainNote) : Type 0 where

@@ -1,5 +1,5 @@
 -- One turn after another, for a call that keeps no node.
-use Rattle.std.proofs.Common.{Bool, List, None, Ok, Option, Result, Some, [], arith, false, inl, inr, refl, subst, sym, true, ℕ, ◌++◌, ◌+◌, ◌∙◌, ◌∷◌, ◌≡◌, ◌≢◌, ◌≤◌}
+use Rattle.std.proofs.Common.{Bool, List, None, Ok, Option, Some, [], arith, false, inr, refl, subst, true, ℕ, ◌++◌, ◌+◌, ◌∙◌, ◌∷◌, ◌≤◌}
 use Rattle.orc_heap.proofs.Pieces.{own_part_right}
 use Rattle.orc_heap.specs.Heap.{Heap, HeapNumbers}
 use Rattle.orc_heap.specs.Seats.{Seat, heap_of}
@@ -7,7 +7,7 @@ use Rattle.orc_history.specs.declared.set.SetEntry.{SetEntry}
 use Rattle.orc_history.specs.declared.set.SetEntry.TheVariants.{Asked, Removed}
 use Rattle.orc_chain_rule.specs.declared.chain.ChainNote.{ChainNote}
 use Rattle.orc_list.specs.Answers.{AsksTurns, RemovesTurns}
-use Rattle.orc_list.specs.Turns.{Answers, AsksTurn, LeavesOff, Made, RemovesTurn, TakesKey, TakesOut, Tires}
+use Rattle.orc_list.specs.Turns.{Answers, AsksTurn, LeavesOff, Made, RemovesTurn, TakesKey, Tires}
 use Rattle.orc_list.proofs.Making.{made_most, made_next, over_next, over_none}
 use Rattle.orc_list.proofs.Seen.{loads-append, sees_right, sees_run_right}
 use Rattle.orc_heap.specs.declared.events.Event.{Event}

@@ -1,5 +1,5 @@
 -- The node is linked, and all other nodes are let go.
-use Rattle.std.proofs.Common.{Bool, Err, None, Ok, Result, ap, false, length, subst, true, [], append-nil, ◌∙◌, ℕ}
+use Rattle.std.proofs.Common.{Bool, Err, Ok, Result, ap, false, length, subst, true, [], append-nil, ◌∙◌}
 use Rattle.std.specs.Prelude.{IfErr}
 use Rattle.orc_fault.specs.declared.Spent.{Spent}
 use Rattle.orc_history.specs.Journals.{Within}

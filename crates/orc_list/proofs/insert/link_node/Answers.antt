@@ -9,7 +9,7 @@ use Rattle.orc_heap.specs.declared.events.Act.TheVariants.{Aim}
 use Rattle.orc_chain_rule.specs.ChainDiscipline.{link_over}
 use Rattle.orc_list.specs.Searches.{HoldsIfAny}
 use Rattle.orc_list.specs.Turns.{first_or, place_at, target_at}
-use Rattle.orc_list.proofs.Linking.{above_not_fresh, aim_refused, link_allowed, links_to}
+use Rattle.orc_list.proofs.Linking.{above_not_fresh, link_allowed, links_to}
 use Rattle.orc_list.proofs.Marking.{part_fact, worn_since}
 use Rattle.orc_list.proofs.insert.link_node.Goals as goal
 

@@ -1,10 +1,9 @@
 -- By what the search found.
-use Rattle.std.proofs.Common.{Bool, [], append-nil, false, subst, true}
+use Rattle.std.proofs.Common.{Bool, [], append-nil, subst}
 use Rattle.orc_list.specs.Causes.{HasWorn}
 use Rattle.orc_list.specs.Turns.{RemovesNode, TakesOut}
 use Rattle.orc_list.proofs.Making.{found_over}
 use Rattle.orc_list.proofs.Marking.{worn_wider}
-use Rattle.orc_list.proofs.Tiring.{turn_wider}
 use Rattle.orc_list.proofs.remove.remove_turn.Goals as goal
 
 pub returns-in-Over-clause-removed : goal.returns-in-Over-clause-removed

@@ -1,8 +1,7 @@
 -- The node is marked, the left place led past the run, and all nodes are let go.
 use Rattle.std.proofs.Common.{Bool, false, subst, true}
-use Rattle.orc_heap.proofs.Pieces.{goes_on}
 use Rattle.orc_list.specs.Causes.{HasWorn}
-use Rattle.orc_list.specs.Turns.{Marks, TriesUnlink, place_at, target_at}
+use Rattle.orc_list.specs.Turns.{Marks, target_at}
 use Rattle.orc_heap.specs.Slots.{id_in}
 use Rattle.orc_list.proofs.Answering.{reads_node}
 use Rattle.orc_list.proofs.Marking.{tries_wider, worn_wider}

@@ -1,5 +1,4 @@
 -- One node after another is let go.
-use Rattle.std.proofs.Common.{[]}
 use Rattle.orc_list.proofs.Held.{first_held, four_go, goes_hands}
 use Rattle.orc_list.proofs.spot.let_all_go.Goals as goal
 
