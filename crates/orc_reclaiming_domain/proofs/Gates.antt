@@ -1,4 +1,4 @@
--- A gate that has changed was out in between.
+-- A row whose gate or counter has changed was out in between.
 use Rattle.std.proofs.Common.{Bool, List, [], ap, append_assoc, append-nil, arith, eq-eqb, inl, inr, refl, subst, sym, true, ℕ, ⊎_elim, ◌++◌, ◌+◌, ◌<◌, ◌∙◌, ◌≡◌, ◌∷◌, ◌⊎◌}
 use Rattle.std.specs.Prelude.{◌%◌, ◌==◌}
 use Rattle.orc_core.specs.Counts.{is_out}
@@ -15,21 +15,24 @@ use Rattle.orc_sound.proofs.Full.{Full}
 use Rattle.orc_sound.proofs.Journals.{plain_lawful}
 use Rattle.orc_sound.proofs.Lives.{GateChange, gate_change}
 use Rattle.orc_sound.proofs.Shown.{word_shown}
-use Rattle.orc_sound.proofs.World.{World, world_of}
+use Rattle.orc_reclaiming_domain.proofs.Counters.{counter_change}
+use Rattle.orc_sound.proofs.World.{World, step_world, world_of}
+use Rattle.orc_words.specs.Places.{IsWithin}
+use Rattle.orc_words.specs.declared.place.Word.{Word}
 use Rattle.orc_sound.specs.Journals.{IsLawfulJournal, plain}
 use Rattle.orc_sound.specs.declared.steps.Step.{Step}
 use Rattle.orc_words.specs.Bounds.{Bounds, IsShape}
-use Rattle.orc_words.specs.declared.place.Word.TheVariants.{Gate}
+use Rattle.orc_words.specs.declared.place.Word.TheVariants.{Counter, Gate}
 
--- a gate stays, or the row is out before the step or after it
-abbrev GateStep : Machine → Machine → ℕ → Type 0
-GateStep m n r = (word_in n (Gate r) ≡ word_in m (Gate r)) ⊎ (is_out m r ≡ true) ⊎ (is_out n r ≡ true)
+-- the word stays, or the row is out before the step or after it
+abbrev WordStep : Word → Machine → Machine → ℕ → Type 0
+WordStep w m n r = (word_in n w ≡ word_in m w) ⊎ (is_out m r ≡ true) ⊎ (is_out n r ≡ true)
 
 odd_out : (w : ℕ) → w % 2 ≡ 1 → (w % 2 == 1) ≡ true
 odd_out w h = eq-eqb (w % 2) 1 h
 
-change_out : (b : Bounds) (v w : ℕ) → GateChange b v w → (w ≡ v) ⊎ ((v % 2 == 1) ≡ true) ⊎ ((w % 2 == 1) ≡ true)
-change_out b v w c =
+gate_out : (b : Bounds) (v w : ℕ) → GateChange b v w → (w ≡ v) ⊎ ((v % 2 == 1) ≡ true) ⊎ ((w % 2 == 1) ≡ true)
+gate_out b v w c =
     ⊎_elim
     (λ same. inl same)
     (λ c. ⊎_elim
@@ -38,23 +41,47 @@ change_out b v w c =
     c)
     c
 
-gate_step : (m : Machine) (a : ℕ) (op : Op) (r : ℕ) → Full m → AllFits m.bounds (world_of m) → is_allowed m a op ≡ true → r < m.bounds.rows → GateStep m (step m a op) r
-gate_step m a op r w s l h =
-    let c = gate_change m.bounds (world_of m) a op r (allowed_step m a op w s l) s.lives in
-    let now : (world_of m).memory (Gate r) ≡ word_in m (Gate r) = word_shown m (Gate r) h in
-    let later = ap (λ (z : World). z.memory (Gate r)) (sym (world_step m a op w.words w.agents l)) ∙ word_shown (step m a op) (Gate r) h in
-    change_out m.bounds (word_in m (Gate r)) (word_in (step m a op) (Gate r)) (subst (λ (z : ℕ × ℕ). GateChange m.bounds z.0 z.1) (λ i. (now i, later i)) c)
+module _ (m : Machine) (a : ℕ) (op : Op) (r : ℕ) (full : Full m) (fits : AllFits m.bounds (world_of m)) (can : is_allowed m a op ≡ true) (low : r < m.bounds.rows) where
+  -- a word of the row before and after the step, as functions and as read
+  shown_before : (w : Word) → IsWithin m.bounds w → (world_of m).memory w ≡ word_in m w
+  shown_before w within = word_shown m w within
+
+  shown_after : (w : Word) → IsWithin m.bounds w → (step_world (world_of m) a op).memory w ≡ word_in (step m a op) w
+  shown_after w within = ap (λ (z : World). z.memory w) (sym (world_step m a op full.words full.agents can)) ∙ word_shown (step m a op) w within
+
+  gate_step : WordStep (Gate r) m (step m a op) r
+  gate_step =
+      let c = gate_change m.bounds (world_of m) a op r (allowed_step m a op full fits can) fits.lives in
+      gate_out m.bounds (word_in m (Gate r)) (word_in (step m a op) (Gate r))
+      (subst (λ (z : ℕ × ℕ). GateChange m.bounds z.0 z.1) (λ i. (shown_before (Gate r) low i, shown_after (Gate r) low i)) c)
+
+  counter_step : WordStep (Counter r) m (step m a op) r
+  counter_step = ⊎_elim
+      (λ same. inl (sym (shown_after (Counter r) low) ∙ (same ∙ shown_before (Counter r) low)))
+      (λ o. inr (inl (odd_out (word_in m (Gate r)) (subst (λ v. v % 2 ≡ 1) (shown_before (Gate r) low) o))))
+      (counter_change m.bounds (world_of m) a op r (allowed_step m a op full fits can))
 
 module _ {N : Type 0} where
   pub lawful_last : (m : Machine) (j : List (Step N)) (s : Step N) → IsLawfulJournal m (j ++ s ∷ []) → is_allowed (run m (plain j)) s.agent s.op ≡ true
   lawful_last m [] s l = l.0
   lawful_last m (x ∷ xs) s l = lawful_last (step m x.agent x.op) xs s l.2
 
-  gate_next : (b : Bounds) (j : List (Step N)) (s : Step N) (r : ℕ) → IsShape b → IsLawfulJournal (new_machine b) (j ++ s ∷ []) → r < b.rows → GateStep (run_of b j) (run_of b (j ++ s ∷ [])) r
-  gate_next b j s r shape l h =
+  -- one more step of a lawful journal does so
+  next_step : (w : Word) (r : ℕ) → ((m : Machine) (a : ℕ) (op : Op) → Full m → AllFits m.bounds (world_of m) → is_allowed m a op ≡ true → r < m.bounds.rows → WordStep w m (step m a op) r)
+      → (b : Bounds) (j : List (Step N)) (s : Step N) → IsShape b → IsLawfulJournal (new_machine b) (j ++ s ∷ []) → r < b.rows → WordStep w (run_of b j) (run_of b (j ++ s ∷ [])) r
+  next_step w r law b j s shape l h =
       let before = plain_lawful (new_machine b) j (((IsLawfulJournal-append (new_machine b) j (s ∷ [])).0 l).0) in
-      subst (λ (m : Machine). GateStep (run_of b j) m r) (sym (run_next b j s))
-      (gate_step (run_of b j) s.agent s.op r (run_full b (plain j) shape) (run_fits b (plain j) shape before) (lawful_last (new_machine b) j s l) (subst (λ (c : Bounds). r < c.rows) (sym (bounds_run b j)) h))
+      subst (λ (m : Machine). WordStep w (run_of b j) m r) (sym (run_next b j s))
+      (law (run_of b j) s.agent s.op (run_full b (plain j) shape) (run_fits b (plain j) shape before) (lawful_last (new_machine b) j s l)
+      (subst (λ (c : Bounds). r < c.rows) (sym (bounds_run b j)) h))
+
+  next_gate : (b : Bounds) (j : List (Step N)) (s : Step N) (r : ℕ) → IsShape b → IsLawfulJournal (new_machine b) (j ++ s ∷ []) → r < b.rows
+      → WordStep (Gate r) (run_of b j) (run_of b (j ++ s ∷ [])) r
+  next_gate b j s r shape l h = next_step (Gate r) r (λ m a op. gate_step m a op r) b j s shape l h
+
+  next_counter : (b : Bounds) (j : List (Step N)) (s : Step N) (r : ℕ) → IsShape b → IsLawfulJournal (new_machine b) (j ++ s ∷ []) → r < b.rows
+      → WordStep (Counter r) (run_of b j) (run_of b (j ++ s ∷ [])) r
+  next_counter b j s r shape l h = next_step (Counter r) r (λ m a op. counter_step m a op r) b j s shape l h
 
   -- the row is out after some of these steps
   pub record OutIn (b : Bounds) (j more : List (Step N)) (r : ℕ) : Type 0 where
@@ -63,19 +90,34 @@ module _ {N : Type 0} where
     pub is : more ≡ early ++ late
     pub out : is_out (run_of b (j ++ early)) r ≡ true
 
-  pub gate_between : (b : Bounds) (j more : List (Step N)) (r : ℕ) → IsShape b → IsLawfulJournal (new_machine b) (j ++ more) → r < b.rows → (word_in (run_of b (j ++ more)) (Gate r) ≡ word_in (run_of b j) (Gate r)) ⊎ OutIn b j more r
-  gate_between b j [] r shape l h = inl (ap (λ z. word_in (run_of b z) (Gate r)) (append-nil j))
-  gate_between b j (s ∷ ss) r shape l h =
+  -- over any lawful steps the word is the same at the end, or the row was out
+  word_between : (w : Word) (b : Bounds) (r : ℕ) → ((j : List (Step N)) (s : Step N) → IsLawfulJournal (new_machine b) (j ++ s ∷ []) → WordStep w (run_of b j) (run_of b (j ++ s ∷ [])) r)
+      → (j more : List (Step N)) → IsLawfulJournal (new_machine b) (j ++ more) → (word_in (run_of b (j ++ more)) w ≡ word_in (run_of b j) w) ⊎ OutIn b j more r
+  word_between w b r law j [] l = inl (ap (λ z. word_in (run_of b z) w) (append-nil j))
+  word_between w b r law j (s ∷ ss) l =
       let again : j ++ s ∷ ss ≡ (j ++ s ∷ []) ++ ss = sym (append_assoc j (s ∷ []) ss) in
       let lawful = subst (IsLawfulJournal (new_machine b)) again l in
-      let rest = gate_between b (j ++ s ∷ []) ss r shape lawful h in
+      let rest = word_between w b r law (j ++ s ∷ []) ss lawful in
       ⊎_elim
       (λ same. ⊎_elim
-      (λ kept. inl (ap (λ z. word_in (run_of b z) (Gate r)) again ∙ (kept ∙ same)))
-      (λ o. inr (record { early = s ∷ o.early; late = o.late; is = ap (λ z. s ∷ z) o.is; out = subst (λ z. is_out (run_of b z) r ≡ true) (append_assoc j (s ∷ []) o.early) o.out }))
+      (λ kept. inl (ap (λ z. word_in (run_of b z) w) again ∙ (kept ∙ same)))
+      (λ (o : OutIn b (j ++ s ∷ []) ss r). inr (record {
+        early = s ∷ o.early;
+        late = o.late;
+        is = ap (λ z. s ∷ z) o.is;
+        out = subst (λ z. is_out (run_of b z) r ≡ true) (append_assoc j (s ∷ []) o.early) o.out;
+      }))
       rest)
       (λ c. ⊎_elim
       (λ now. inr (record { early = []; late = s ∷ ss; is = refl; out = subst (λ z. is_out (run_of b z) r ≡ true) (sym (append-nil j)) now }))
       (λ later. inr (record { early = s ∷ []; late = ss; is = refl; out = later }))
       c)
-      (gate_next b j s r shape (((IsLawfulJournal-append (new_machine b) (j ++ s ∷ []) ss).0 lawful).0) h)
+      (law j s ((IsLawfulJournal-append (new_machine b) (j ++ s ∷ []) ss).0 lawful).0)
+
+  pub gate_between : (b : Bounds) (j more : List (Step N)) (r : ℕ) → IsShape b → IsLawfulJournal (new_machine b) (j ++ more) → r < b.rows
+      → (word_in (run_of b (j ++ more)) (Gate r) ≡ word_in (run_of b j) (Gate r)) ⊎ OutIn b j more r
+  gate_between b j more r shape l h = word_between (Gate r) b r (λ x s lawful. next_gate b x s r shape lawful h) j more l
+
+  pub counter_between : (b : Bounds) (j more : List (Step N)) (r : ℕ) → IsShape b → IsLawfulJournal (new_machine b) (j ++ more) → r < b.rows
+      → (word_in (run_of b (j ++ more)) (Counter r) ≡ word_in (run_of b j) (Counter r)) ⊎ OutIn b j more r
+  counter_between b j more r shape l h = word_between (Counter r) b r (λ x s lawful. next_counter b x s r shape lawful h) j more l

@@ -1,7 +1,11 @@
+pub mod Adding
+pub mod Counters
 pub mod Filling
 pub mod Gates
 pub mod Giving
 pub mod Held
+pub mod Lacking
+pub mod Lasting
 pub mod Learning
 pub mod Loading
 pub mod Looking

@@ -25,7 +25,7 @@ use Rattle.orc_reclaiming_domain.specs.Calls.{Unlocks}
 use Rattle.orc_reclaiming_domain.specs.OwnSteps.{LeavesNothing}
 use Rattle.orc_reclaiming_domain.specs.Seats.{IsReady}
 
-get_low : {A : Type 0} (xs : List A) (i : ℕ) (x : A) → slice_get xs i ≡ Some x → i < length xs
+pub get_low : {A : Type 0} (xs : List A) (i : ℕ) (x : A) → slice_get xs i ≡ Some x → i < length xs
 get_low [] i x e = cc
 get_low (y ∷ ys) zero x e = omega arith
 get_low (y ∷ ys) (suc i) x e = let h = get_low ys i x e in omega arith
