@@ -133,3 +133,8 @@ abbrev pub RemovesTurn : HeapNumbers → ℕ → Type 0 → ℕ → Seat ChainNo
 RemovesTurn n key IsWorn turns s None t = Tires turns s t
 RemovesTurn n key IsWorn turns s (Some false) t = Answers turns s (Removed s.agent key false) t
 RemovesTurn n key IsWorn turns s (Some true) t = TakesOut n key IsWorn turns s t
+
+-- the pass holds what it held
+pub record HoldsWhatItHeld (s t : Seat ChainNote) : Type 0 where
+  pub slots : t.slots ≡ s.slots
+  pub fresh : t.fresh ≡ s.fresh

@@ -10,11 +10,11 @@ ghost use Rattle.orc_chain_rule.specs.declared.chain.ChainNote.{ChainNote};
 ghost use Rattle.orc_list.specs.Answers.{RemovesTurns};
 ghost use Rattle.orc_list.specs.Causes.{HasWorn};
 ghost use Rattle.orc_list.specs.Searches.{FindsPresent, HasRoom, HoldsIfAny, NextFollows};
-ghost use Rattle.orc_list.specs.Turns.{Marks, RemovesNode, RemovesTurn, TriesUnlink, place_at, target_at};
+ghost use Rattle.orc_list.specs.Turns.{HoldsWhatItHeld, Marks, RemovesNode, RemovesTurn, TriesUnlink, place_at, target_at};
 
 use crate::answer::enter_absent;
 use crate::search::{Searched, search};
-use crate::spot::{let_all_go, link_to, node_or, place_of};
+use crate::spot::{Spot, let_all_go, link_to, node_or, place_of};
 use orc_chain_rule::{Chain, ChainNote};
 use orc_fault::Again;
 use orc_heap::{At, Held, Links, Want};
@@ -183,4 +183,57 @@ pub(crate) fn remove_turns<L: Links<Rule = Chain>>(
         }
     }
     Err(Again)
+}
+
+// Marks the node that a search found, and lets all nodes go.
+fn mark_and_go<L: Links<Rule = Chain>>(
+    links: &L,
+    p: &mut L::Pass,
+    root: u32,
+    key: u64,
+    left: Option<Held>,
+    first: Option<Held>,
+    node: Held,
+    next: Option<Held>,
+) -> bool
+    requires pass { L.belongs links.now p.old }
+    requires root { root < (L.numbers links.now).roots }
+    requires present { (s : Seat ChainNote) × FindsPresent (L.numbers links.now) root key left first node next s (L.seat links.now p.old) }
+    ensures pass { L.belongs links.now p.new }
+    ensures later { IsPrefix (L.journal p.old) (L.journal p.new) }
+    ensures held { (s : Seat ChainNote) → FindsPresent (L.numbers links.now) root key left first node next s (L.seat links.now p.old)
+        → HoldsWhatItHeld s (L.seat links.now p.new) }
+{
+    let marked = mark_node(links, p, key, &node, &next);
+    let_all_go(links, p, left, first, Some(node), next);
+    marked
+}
+
+// Marks the node with the key, in one turn, and stops before any place is led past it.
+pub(crate) fn stop_a_remove<L: Links<Rule = Chain>>(
+    links: &L,
+    p: &mut L::Pass,
+    root: u32,
+    key: u64,
+) -> bool
+    requires pass { L.belongs links.now p.old }
+    requires root { (root < (L.numbers links.now).roots) × (root ≡ key % (L.numbers links.now).roots) }
+    requires room { HasRoom (L.seat links.now p.old).slots }
+    ensures pass { L.belongs links.now p.new }
+    ensures later { IsPrefix (L.journal p.old) (L.journal p.new) }
+    ensures held { HoldsWhatItHeld (L.seat links.now p.old) (L.seat links.now p.new) }
+{
+    match search(links, p, root, key) {
+        Searched::Over => false,
+        Searched::Absent(Spot { left, first, right }) => {
+            let_all_go(links, p, left, first, right, None);
+            false
+        }
+        Searched::Present {
+            left,
+            first,
+            node,
+            next,
+        } => mark_and_go(links, p, root, key, left, first, node, next),
+    }
 }
