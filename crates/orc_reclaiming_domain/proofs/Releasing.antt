@@ -65,13 +65,6 @@ module _ {D N : Type 0} {d : discipline.Ghosts D N} {k : MachineShape N} (s : St
       (ap (holds_fresh s.view.record_is.fresh) at ∙ other)
 
   module _ (t : Stage d k) (un : Unlocks (bounds_in k) h.slot s.view t.view) where
-    pub releases : Releases (seat s) h (seat t)
-    releases = record {
-      slots = un.sets.slots;
-      fresh = un.sets.fresh ∙ sym (unless_other (seat s).fresh (id_in (seat s).slots h) linked);
-      puts = un.sets.puts;
-    }
-
     ready : IsReady t.view.record_is
     ready =
         let r = between.ready in
@@ -89,6 +82,3 @@ module _ {D N : Type 0} {d : discipline.Ghosts D N} {k : MachineShape N} (s : St
 
     pub release_between : Between t
     release_between = still_between s t [] between un.sets.puts un.sets.fresh (λ id. refl) ready
-
-    pub release_leaves : LeavesNothing s.view.agent s.view.journal t.view.journal
-    release_leaves = record { ops = Clear h.slot ∷ TakeIn h.slot ∷ []; done = un.done; taken_in = (refl, tt) }

@@ -29,7 +29,8 @@ module _ {D N : Type 0} (d : discipline.Ghosts D N) (k : MachineShape N) where
 module _ {D N : Type 0} {d : discipline.Ghosts D N} {k : MachineShape N} where
   -- over a part of a call
   pub still_untouched : (s t : Stage d k) (own : List (Event N)) → Puts (seat s) own (seat t) → ((id : ℕ) → list_any (λ e. points_to e.act id) own ≡ false)
-      → (id : ℕ) → IsUntouched s.view.agent (run_heap (heap_numbers k) (seat s).seen) id → IsUntouched t.view.agent (run_heap (heap_numbers k) (seat t).seen) id
+      → (id : ℕ) → IsUntouched s.view.agent (run_heap (heap_numbers k) (seat s).seen) id
+      → IsUntouched t.view.agent (run_heap (heap_numbers k) (seat t).seen) id
   still_untouched s t own p away id u =
       let allowed = allowed-right (d.may (heap_numbers k)) [] (seat s).seen p.part (subst (AllAllowed (d.may (heap_numbers k)) []) p.is t.each) in
       subst (λ (z : ℕ × List (Event N)). IsUntouched z.0 (run_heap (heap_numbers k) z.1) id) (λ i. (sym p.agent i, sym p.is i))
