@@ -3,9 +3,9 @@ use Rattle.std.proofs.Common.{Bool, List, None, Option, Some, [], ap, append-nil
 use Rattle.std.proofs.lemmas.Bool.{lt-ltb}
 use Rattle.std.specs.List.{list_any}
 use Rattle.std.specs.Option.{option_map}
-use Rattle.std.specs.Prelude.{cond, if◌then◌else◌, map, slice_set, nat_lt, ◌&&◌, ◌==◌, ◌||◌}
+use Rattle.std.specs.Prelude.{cond, if◌then◌else◌, map, slice_set, ◌&&◌, ◌==◌}
 use Rattle.orc_core.specs.Actions.{clear_word}
-use Rattle.orc_core.specs.Machine.{new_machine, record_at, word_in}
+use Rattle.orc_core.specs.Machine.{record_at, word_in}
 use Rattle.orc_core.specs.RecordParts.{any_holds, is_due, names}
 use Rattle.orc_core.specs.declared.ops.CounterUse.TheVariants.{Check}
 use Rattle.orc_core.specs.declared.ops.Op.{Op}
@@ -45,7 +45,6 @@ use Rattle.orc_reclaiming_domain.specs.OwnSteps.{HasDone, LeavesNothing, TakesIn
 use Rattle.orc_reclaiming_domain.specs.Passes.{IsFreshUntouched}
 use Rattle.orc_reclaiming_domain.specs.Seats.{IsReady, seat_by, slot_by}
 use Rattle.orc_shared_words.proofs.Events.{others_add}
-use Rattle.orc_sound.specs.Journals.{IsLawfulJournal}
 use Rattle.orc_sound.specs.declared.steps.Step.{Step}
 use Rattle.orc_words.specs.Bounds.{Bounds}
 use Rattle.orc_words.specs.Packed.{sequence_of}
