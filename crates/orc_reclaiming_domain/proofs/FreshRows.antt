@@ -124,7 +124,8 @@ module _ {N : Type 0} (b : Bounds) (a r : ℕ) (shape : IsShape b) (low : r < b.
       source in
       let before : z.memory (Counter r) ≡ word_in m (Counter r) = word_shown m (Counter r) (row_low j) in
       let after : (step_world z s.agent s.op).memory (Counter r) ≡ word_in (step m s.agent s.op) (Counter r) =
-      ap (λ (y : World). y.memory (Counter r)) (sym (world_step m s.agent s.op full.words full.agents can)) ∙ word_shown (step m s.agent s.op) (Counter r) (row_low j) in
+      ap (λ (y : World). y.memory (Counter r)) (sym (world_step m s.agent s.op full.words full.agents can))
+      ∙ word_shown (step m s.agent s.op) (Counter r) (row_low j) in
       ap (λ y. word_in y (Counter r)) (run_next b j s) ∙ (sym after ∙ (kept ∙ before))
 
   -- so do steps of others
@@ -153,7 +154,8 @@ module _ {N : Type 0} (b : Bounds) (a r : ℕ) (shape : IsShape b) (low : r < b.
       ap (λ op. (step_world z s.agent op).memory (Counter r)) is ∙ write_same z.memory (Counter r) (Counter r) in
       let before : z.memory (Counter r) ≡ word_in m (Counter r) = word_shown m (Counter r) (row_low j) in
       let after : (step_world z s.agent s.op).memory (Counter r) ≡ word_in (step m s.agent s.op) (Counter r) =
-      ap (λ (y : World). y.memory (Counter r)) (sym (world_step m s.agent s.op full.words full.agents can)) ∙ word_shown (step m s.agent s.op) (Counter r) (row_low j) in
+      ap (λ (y : World). y.memory (Counter r)) (sym (world_step m s.agent s.op full.words full.agents can))
+      ∙ word_shown (step m s.agent s.op) (Counter r) (row_low j) in
       ap (λ y. word_in y (Counter r)) (run_next b j s) ∙ (sym after ∙ (kept ∙ before))
 
   pub low_sequence : (j : List (Step N)) → IsLawfulJournal (new_machine b) j → sequence_of (word_in (run_of b j) (Counter r)) < 2 ^ 39 + 2 ^ 19
