@@ -89,18 +89,21 @@ AsksTurn key s (Some answer) t = Answers 1 s (Asked s.agent key answer) t
 pub record Marks (key id : ℕ) (to : Option ℕ) (s : Seat ChainNote) (done : Bool) (t : Seat ChainNote) : Type 0 where
   pub slots : t.slots ≡ s.slots
   pub fresh : t.fresh ≡ s.fresh
-  pub puts : MatchBool done (Puts s (event_of s (Move (Next id) (link_over to) (record { to = to; mark = true })) (Some (Entry (Removed s.agent key true))) ∷ []) t) (Misses (Next id) (link_over to) s t)
+  pub puts : MatchBool done (Puts s (event_of s (Move (Next id) (link_over to) (record { to = to; mark = true }))
+      (Some (Entry (Removed s.agent key true))) ∷ []) t) (Misses (Next id) (link_over to) s t)
 
 -- the place was led past the run, or showed another link, or something was worn
 pub record TriesUnlink (place : Place) (first : ℕ) (to : Option ℕ) (IsWorn : Type 0) (s t : Seat ChainNote) : Type 0 where
   pub slots : t.slots ≡ s.slots
   pub fresh : t.fresh ≡ s.fresh
-  pub either : (Puts s (event_of s (Move place (link_to first) (link_over to)) (Some Unlink) ∷ []) t ⊎ Misses place (link_to first) s t) ⊎ (IsWorn × Puts s [] t)
+  pub either : (Puts s (event_of s (Move place (link_to first) (link_over to))
+      (Some Unlink) ∷ []) t ⊎ Misses place (link_to first) s t) ⊎ (IsWorn × Puts s [] t)
 
 -- one of these events takes the key out at this node: it marks the node's link
 abbrev pub TakesKey : List (Event ChainNote) → ℕ → ℕ → Type 0
 TakesKey [] key id = ⊥
-TakesKey (e ∷ es) key id = ((from : Link) × (to : Link) × (e.act ≡ Move (Next id) from to) × (e.note ≡ Some (Entry (Removed e.agent key true)))) ⊎ TakesKey es key id
+TakesKey (e ∷ es) key id = ((from : Link) × (to : Link) × (e.act ≡ Move (Next id) from to) × (e.note ≡ Some (Entry (Removed e.agent key true)))) ⊎ TakesKey
+    es key id
 
 -- these events took the key out at a node, to which Looks among them found an unmarked link lead over a run of marked nodes; and
 -- neither the node nor one of the run is on a chain

@@ -32,10 +32,12 @@ fn mark_node<L: Links<Rule = Chain>>(
     requires node { Holds (L.seat links.now p.old).slots node.now }
     requires next { HoldsIfAny (L.seat links.now p.old).slots next.now }
     requires key { HasKey (heap_of (L.numbers links.now) (L.seat links.now p.old)) (id_in (L.seat links.now p.old).slots node.now) key }
-    requires follows { NextFollows (L.numbers links.now) (id_in (L.seat links.now p.old).slots node.now) (target_at (L.seat links.now p.old).slots next.now) (L.seat links.now p.old) }
+    requires follows { NextFollows (L.numbers links.now) (id_in (L.seat links.now p.old).slots node.now) (target_at
+        (L.seat links.now p.old).slots next.now) (L.seat links.now p.old) }
     ensures pass { L.belongs links.now p.new }
     ensures later { IsPrefix (L.journal p.old) (L.journal p.new) }
-    ensures marked { Marks key (id_in (L.seat links.now p.old).slots node.now) (target_at (L.seat links.now p.old).slots next.now) (L.seat links.now p.old) result (L.seat links.now p.new) }
+    ensures marked { Marks key (id_in (L.seat links.now p.old).slots node.now) (target_at (L.seat links.now p.old).slots next.now)
+        (L.seat links.now p.old) result (L.seat links.now p.new) }
 {
     let agent = links.agent(p);
     let yes = true;
@@ -63,14 +65,17 @@ fn unlink_run<L: Links<Rule = Chain>>(
 )
     requires pass { L.belongs links.now p.old }
     requires root { root < (L.numbers links.now).roots }
-    requires held { HoldsIfAny (L.seat links.now p.old).slots left.now × Holds (L.seat links.now p.old).slots first.now × HoldsIfAny (L.seat links.now p.old).slots next.now }
+    requires held { HoldsIfAny (L.seat links.now p.old).slots left.now × Holds (L.seat links.now p.old).slots first.now
+        × HoldsIfAny (L.seat links.now p.old).slots next.now }
     requires left { IsLinkedPlace (place_at (L.seat links.now p.old).slots root left.now) (heap_of (L.numbers links.now) (L.seat links.now p.old)) }
-    requires run { (others : List ℕ) × IsRun (heap_of (L.numbers links.now) (L.seat links.now p.old)) (link_over (target_at (L.seat links.now p.old).slots (Some first.now)))
+    requires run { (others : List ℕ) × IsRun (heap_of (L.numbers links.now) (L.seat links.now p.old)) (link_over (target_at (L.seat links.now p.old).slots
+        (Some first.now)))
         (id_in (L.seat links.now p.old).slots first.now ∷ others) (target_at (L.seat links.now p.old).slots next.now) }
     requires follows { (id : ℕ) × NextFollows (L.numbers links.now) id (target_at (L.seat links.now p.old).slots next.now) (L.seat links.now p.old) }
     ensures pass { L.belongs links.now p.new }
     ensures later { IsPrefix (L.journal p.old) (L.journal p.new) }
-    ensures tried { TriesUnlink (place_at (L.seat links.now p.old).slots root left.now) (id_in (L.seat links.now p.old).slots first.now) (target_at (L.seat links.now p.old).slots next.now)
+    ensures tried { TriesUnlink (place_at (L.seat links.now p.old).slots root left.now) (id_in (L.seat links.now p.old).slots first.now) (target_at
+        (L.seat links.now p.old).slots next.now)
         (HasWorn (L.worn links.now (L.seat links.now p.old).agent) (L.journal p.old) (L.journal p.new))
         (L.seat links.now p.old) (L.seat links.now p.new) }
 {
@@ -100,7 +105,8 @@ fn take_out<L: Links<Rule = Chain>>(
     ensures pass { L.belongs links.now p.new }
     ensures later { IsPrefix (L.journal p.old) (L.journal p.new) }
     ensures removed { (s : Seat ChainNote) → FindsPresent (L.numbers links.now) root key left first node next s (L.seat links.now p.old)
-        → RemovesNode (L.numbers links.now) key (HasWorn (L.worn links.now (L.seat links.now p.old).agent) (L.journal p.old) (L.journal p.new)) s result (L.seat links.now p.new) }
+        → RemovesNode (L.numbers links.now) key (HasWorn (L.worn links.now (L.seat links.now p.old).agent) (L.journal p.old) (L.journal p.new)) s result
+        (L.seat links.now p.new) }
 {
     if !mark_node(links, p, key, &node, &next) {
         let_all_go(links, p, left, first, Some(node), next);
@@ -123,7 +129,8 @@ fn remove_turn<L: Links<Rule = Chain>>(
     requires room { HasRoom (L.seat links.now p.old).slots }
     ensures pass { L.belongs links.now p.new }
     ensures later { IsPrefix (L.journal p.old) (L.journal p.new) }
-    ensures removed { RemovesTurn (L.numbers links.now) key (HasWorn (L.worn links.now (L.seat links.now p.old).agent) (L.journal p.old) (L.journal p.new)) 1
+    ensures removed { RemovesTurn (L.numbers links.now) key (HasWorn (L.worn links.now (L.seat links.now p.old).agent) (L.journal p.old)
+        (L.journal p.new)) 1
         (L.seat links.now p.old) result (L.seat links.now p.new) }
 {
     let agent = links.agent(p);
@@ -166,7 +173,8 @@ pub(crate) fn remove_turns<L: Links<Rule = Chain>>(
     requires room { HasRoom (L.seat links.now p.old).slots }
     ensures pass { L.belongs links.now p.new }
     ensures later { IsPrefix (L.journal p.old) (L.journal p.new) }
-    ensures removed { RemovesTurns (L.numbers links.now) key (HasWorn (L.worn links.now (L.seat links.now p.old).agent) (L.journal p.old) (L.journal p.new)) turns
+    ensures removed { RemovesTurns (L.numbers links.now) key (HasWorn (L.worn links.now (L.seat links.now p.old).agent) (L.journal p.old)
+        (L.journal p.new)) turns
         (L.seat links.now p.old) result (L.seat links.now p.new) }
 {
     for _ in 0..turns {

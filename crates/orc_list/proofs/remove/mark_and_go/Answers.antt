@@ -19,8 +19,11 @@ let_all_go-requires-clause-hands g c =
     let t = g.L.Links.seat d a.p.now in
     let u = g.L.Links.seat d c.mark_node-marked.new.p in
     let (s, f) = c.requires.present in
-    let e = c.mark_node-marked.ensures in
-    (s.slots, marked_hand n a.root a.key a.left a.first a.node a.next s t f _ u (marks_at n a.root a.key a.left a.first a.node a.next s t f _ u e.marked) (g.met.L.Links.allowed d c.mark_node-marked.new.p e.pass))
+    let e = c.mark_node-marked.ensures in (
+      s.slots,
+      marked_hand n a.root a.key a.left a.first a.node a.next s t f _ u (marks_at n a.root a.key a.left a.first a.node a.next s t f _ u e.marked)
+          (g.met.L.Links.allowed d c.mark_node-marked.new.p e.pass),
+    )
 
 pub returns-clause-held : goal.returns-clause-held
 returns-clause-held g c = λ s f.
@@ -30,5 +33,6 @@ returns-clause-held g c = λ s f.
     let t = g.L.Links.seat d a.p.now in
     let u = g.L.Links.seat d c.mark_node-marked.new.p in
     let e = c.mark_node-marked.ensures in
-    let gone = c.let_all_go.ensures.gone s.slots (marked_hand n a.root a.key a.left a.first a.node a.next s t f _ u (marks_at n a.root a.key a.left a.first a.node a.next s t f _ u e.marked) (g.met.L.Links.allowed d c.mark_node-marked.new.p e.pass)) in
+    let gone = c.let_all_go.ensures.gone s.slots (marked_hand n a.root a.key a.left a.first a.node a.next s t f _ u
+    (marks_at n a.root a.key a.left a.first a.node a.next s t f _ u e.marked) (g.met.L.Links.allowed d c.mark_node-marked.new.p e.pass)) in
     record { slots = gone.slots_are; fresh = gone.fresh ∙ (e.marked.fresh ∙ f.behind.quiet.fresh) }
