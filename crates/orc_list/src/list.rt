@@ -147,6 +147,7 @@ impl<L: Links<Rule = Chain>> List<L> {
         self.links.settle(p);
         answer
     }
+
     /// Marks the node with the key in one try, and leaves it on its chain: the state in which a thread leaves the list that
     /// is stopped in `remove` before its last step. For tests of what the others do then. Answers whether a node was marked:
     /// none was where the key was absent, or a link moved meanwhile.
