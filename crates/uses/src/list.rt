@@ -23,10 +23,7 @@ pub type ListPass = PlainPass<Chain>;
 /// # Errors
 ///
 /// `NoMemory` where memory is refused.
-pub fn one_list_over(
-    alloc: Global,
-    shape: &Shape,
-) -> Result<(DomainList, Vec<ListPass>), NoMemory>
+pub fn one_list_over(alloc: Global, shape: &Shape) -> Result<(DomainList, Vec<ListPass>), NoMemory>
     requires root { (bounds_of shape.now).roots ≡ 1 }
     ensures usable { IfOk result (λ made. All (λ p. ⟦<DomainList as SharedSet>⟧.usable made.0 p) made.1.items) }
     ensures agents { IfOk result (λ made. (i : ℕ) (p : _) → i < length made.1.items
