@@ -1,5 +1,5 @@
 -- A row whose gate or counter has changed was out in between.
-use Rattle.std.proofs.Common.{Bool, List, [], ap, append_assoc, append-nil, arith, eq-eqb, inl, inr, refl, subst, sym, true, ℕ, ⊎_elim, ◌++◌, ◌+◌, ◌<◌, ◌∙◌, ◌≡◌, ◌∷◌, ◌⊎◌}
+use Rattle.std.proofs.Common.{List, [], ap, append_assoc, append-nil, arith, eq-eqb, inl, inr, refl, subst, sym, true, ℕ, ⊎_elim, ◌++◌, ◌<◌, ◌∙◌, ◌≡◌, ◌∷◌, ◌⊎◌}
 use Rattle.std.specs.Prelude.{◌%◌, ◌==◌}
 use Rattle.orc_core.specs.Counts.{is_out}
 use Rattle.orc_core.specs.Machine.{Machine, is_allowed, new_machine, step, word_in}
@@ -41,7 +41,8 @@ gate_out b v w c =
     c)
     c
 
-module _ (m : Machine) (a : ℕ) (op : Op) (r : ℕ) (full : Full m) (fits : AllFits m.bounds (world_of m)) (can : is_allowed m a op ≡ true) (low : r < m.bounds.rows) where
+module _ (m : Machine) (a : ℕ) (op : Op) (r : ℕ) (full : Full m) (fits : AllFits m.bounds (world_of m)) (can : is_allowed m a op ≡ true)
+    (low : r < m.bounds.rows) where
   -- a word of the row before and after the step, as functions and as read
   shown_before : (w : Word) → IsWithin m.bounds w → (world_of m).memory w ≡ word_in m w
   shown_before w within = word_shown m w within
@@ -67,8 +68,10 @@ module _ {N : Type 0} where
   lawful_last m (x ∷ xs) s l = lawful_last (step m x.agent x.op) xs s l.2
 
   -- one more step of a lawful journal does so
-  next_step : (w : Word) (r : ℕ) → ((m : Machine) (a : ℕ) (op : Op) → Full m → AllFits m.bounds (world_of m) → is_allowed m a op ≡ true → r < m.bounds.rows → WordStep w m (step m a op) r)
-      → (b : Bounds) (j : List (Step N)) (s : Step N) → IsShape b → IsLawfulJournal (new_machine b) (j ++ s ∷ []) → r < b.rows → WordStep w (run_of b j) (run_of b (j ++ s ∷ [])) r
+  next_step : (w : Word) (r : ℕ) → ((m : Machine) (a : ℕ) (op : Op) → Full m → AllFits m.bounds (world_of m) → is_allowed m a op ≡ true → r < m.bounds.rows
+      → WordStep w m (step m a op) r)
+      → (b : Bounds) (j : List (Step N)) (s : Step N) → IsShape b → IsLawfulJournal (new_machine b) (j ++ s ∷ []) → r < b.rows
+      → WordStep w (run_of b j) (run_of b (j ++ s ∷ [])) r
   next_step w r law b j s shape l h =
       let before = plain_lawful (new_machine b) j (((IsLawfulJournal-append (new_machine b) j (s ∷ [])).0 l).0) in
       subst (λ (m : Machine). WordStep w (run_of b j) m r) (sym (run_next b j s))
@@ -91,8 +94,10 @@ module _ {N : Type 0} where
     pub out : is_out (run_of b (j ++ early)) r ≡ true
 
   -- over any lawful steps the word is the same at the end, or the row was out
-  word_between : (w : Word) (b : Bounds) (r : ℕ) → ((j : List (Step N)) (s : Step N) → IsLawfulJournal (new_machine b) (j ++ s ∷ []) → WordStep w (run_of b j) (run_of b (j ++ s ∷ [])) r)
-      → (j more : List (Step N)) → IsLawfulJournal (new_machine b) (j ++ more) → (word_in (run_of b (j ++ more)) w ≡ word_in (run_of b j) w) ⊎ OutIn b j more r
+  word_between : (w : Word) (b : Bounds) (r : ℕ) → ((j : List (Step N)) (s : Step N) → IsLawfulJournal (new_machine b) (j ++ s ∷ [])
+      → WordStep w (run_of b j) (run_of b (j ++ s ∷ [])) r)
+      → (j more : List (Step N)) → IsLawfulJournal (new_machine b) (j ++ more)
+      → (word_in (run_of b (j ++ more)) w ≡ word_in (run_of b j) w) ⊎ OutIn b j more r
   word_between w b r law j [] l = inl (ap (λ z. word_in (run_of b z) w) (append-nil j))
   word_between w b r law j (s ∷ ss) l =
       let again : j ++ s ∷ ss ≡ (j ++ s ∷ []) ++ ss = sym (append_assoc j (s ∷ []) ss) in

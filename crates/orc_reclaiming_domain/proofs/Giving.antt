@@ -1,13 +1,13 @@
 -- A row that was taken is filled and held.
-use Rattle.std.proofs.Common.{Bool, List, None, Option, Some, [], ap, arith, eq-eqb, false, length, refl, subst, sym, true, ℕ, ◌++◌, ◌<◌, ◌∙◌, ◌≡◌, ◌∷◌}
+use Rattle.std.proofs.Common.{Bool, List, None, Option, Some, [], ap, arith, eq-eqb, refl, subst, sym, true, ℕ, ◌++◌, ◌<◌, ◌∙◌, ◌≡◌, ◌∷◌}
 use Rattle.std.proofs.lemmas.Bool.{lt-ltb}
 use Rattle.std.specs.List.{list_any}
 use Rattle.std.specs.Option.{option_map}
-use Rattle.std.specs.Prelude.{cond, if◌then◌else◌, slice_get, slice_index_or, slice_set, ◌==◌, ◌&&◌, ◌||◌}
+use Rattle.std.specs.Prelude.{cond, if◌then◌else◌, slice_get, slice_index_or, slice_set, ◌&&◌}
 use mathlib.Core.List.{IsPrefix}
 use Rattle.orc_core.specs.Allowed.{may as may_make}
 use Rattle.orc_core.specs.Machine.{new_machine}
-use Rattle.orc_core.specs.RecordParts.{any_holds, is_published, names, slot_of}
+use Rattle.orc_core.specs.RecordParts.{any_holds, names, slot_of}
 use Rattle.orc_core.specs.declared.ops.Op.TheVariants.{Fill as FillStep, Publish}
 use Rattle.orc_core.specs.declared.records.Agent.{Agent}
 use Rattle.orc_core.specs.declared.records.SlotUse.{SlotUse}
@@ -37,7 +37,6 @@ use Rattle.orc_projection.specs.Projection.{present_ids}
 use Rattle.orc_reclaiming_domain.proofs.Protecting.{empty_slot, held_ready, publish_may, still_ready}
 use Rattle.orc_reclaiming_domain.proofs.Seats.{calm_forced, ids_keep, only, or_right, ready_calm, sets}
 use Rattle.orc_reclaiming_domain.proofs.Stages.{Between, Stage, Steps, done_later, done_one, seat}
-use Rattle.orc_reclaiming_domain.specs.Calls.{SameParts}
 use Rattle.orc_reclaiming_domain.specs.Searches.{Gets}
 use Rattle.orc_reclaiming_domain.specs.Seats.{IsCalm, IsReady, SetsSlot}
 use Rattle.orc_words.specs.Bounds.{Bounds}
@@ -46,10 +45,12 @@ pub no_fresh : (f : ℕ → ℕ) (o : Option ℕ) → option_map f o ≡ None �
 no_fresh f None e = refl
 no_fresh f (Some r) e = cc
 
-filled : (N : Type 0) (agent id which value : ℕ) (x : Node) → touched_by {N = N} id (record { agent = agent; act = Fill id which value; note = None } ∷ []) x ≡ with_value which value x
+filled : (N : Type 0) (agent id which value : ℕ) (x : Node) → touched_by {N = N} id
+    (record { agent = agent; act = Fill id which value; note = None } ∷ []) x ≡ with_value which value x
 filled N agent id which value x = ap (λ b. if b then with_value which value x else x) (eq-eqb id id refl)
 
-pub fill_may : (b : Bounds) (a : ℕ) (d : Agent) (r which v : ℕ) → a < b.agents → IsCalm d → names d.fresh r ≡ true → r < b.rows → which < 2 → may_make b 0 a (FillStep r which v) d ≡ true
+pub fill_may : (b : Bounds) (a : ℕ) (d : Agent) (r which v : ℕ) → a < b.agents → IsCalm d → names d.fresh r ≡ true → r < b.rows → which < 2
+    → may_make b 0 a (FillStep r which v) d ≡ true
 fill_may b a d r which v h calm its low two =
     let agent = lt-ltb a b.agents h in
     let on = calm.enrolled in
@@ -61,7 +62,8 @@ fill_may b a d r which v h calm its low two =
 module _ {D N : Type 0} {d : discipline.Ghosts D N} {k : MachineShape N} where
   -- a fill of the fresh row
   pub fill_only : (s t : Stage d k) (r which value n : ℕ) → Steps (FillStep r which value) s n t → names s.view.record_is.fresh r ≡ true
-      → Only (event_by s.view.agent (Fill ((ids_of (bounds_in k) s.view).node r) which value) None ∷ []) (seat s) (seat t) × ((ids_of (bounds_in k) t.view).node r ≡ (ids_of (bounds_in k) s.view).node r)
+      → Only (event_by s.view.agent (Fill ((ids_of (bounds_in k) s.view).node r) which value) None ∷ []) (seat s) (seat t)
+      × ((ids_of (bounds_in k) t.view).node r ≡ (ids_of (bounds_in k) s.view).node r)
   fill_only s t r which value n m fresh =
       let b = bounds_in k in
       let q = asks (FillStep r which value) in
@@ -129,9 +131,11 @@ module _ {D N : Type 0} {d : discipline.Ghosts D N} {k : MachineShape N} where
             ∙ empty_slot (ids_of (bounds_in k) s.view) s.view.record_is.slots slot (between.ready.published slot) free.empty)
 
         pub publish_can : MayDo (bounds_in k) v.view (Publish slot r)
-        publish_can = publish_may (bounds_in k) v.view.agent v.view.record_is slot r v.number (ready_calm v.view.record_is ready3) low free.above free.below empty
+        publish_can = publish_may (bounds_in k) v.view.agent v.view.record_is slot r v.number
+            (ready_calm v.view.record_is ready3) low free.above free.below empty
 
-        two : Only (event_by u.view.agent (Fill ((ids_of (bounds_in k) u.view).node r) 1 second) None ∷ []) (seat u) (seat v) × ((ids_of (bounds_in k) v.view).node r ≡ (ids_of (bounds_in k) u.view).node r)
+        two : Only (event_by u.view.agent (Fill ((ids_of (bounds_in k) u.view).node r) 1 second) None ∷ []) (seat u) (seat v)
+            × ((ids_of (bounds_in k) v.view).node r ≡ (ids_of (bounds_in k) u.view).node r)
         two = fill_only u v r 1 second n2 m2 fresh2
 
         module _ (w : Stage d k) (n3 : ℕ) (m3 : Steps (Publish slot r) v n3 w) where
@@ -142,30 +146,47 @@ module _ {D N : Type 0} {d : discipline.Ghosts D N} {k : MachineShape N} where
           three = sets (asks (Publish slot r)) None v w n3 m3 slot (Held r) holds3 (ap (λ (e : Agent). e.fresh) m3.record_is)
 
           kept3 : (ids_of (bounds_in k) w.view).node r ≡ id
-          kept3 = ids_keep (asks (Publish slot r)) None v w n3 m3 r (or_right (any_holds v.view.record_is.slots r) (names v.view.record_is.fresh r) fresh3) ∙ (two.1 ∙ one.1)
+          kept3 = ids_keep (asks (Publish slot r)) None v w n3 m3 r (or_right (any_holds v.view.record_is.slots r) (names v.view.record_is.fresh r) fresh3)
+              ∙ (two.1 ∙ one.1)
 
           abbrev fills : List (Event N)
-          fills = record { agent = s.view.agent; act = Fill id 0 first; note = None } ∷ record { agent = s.view.agent; act = Fill id 1 second; note = None } ∷ []
+          fills = record { agent = s.view.agent; act = Fill id 0 first; note = None } ∷ record {
+            agent = s.view.agent;
+            act = Fill id 1 second;
+            note = None;
+          } ∷ []
 
           both : Puts (seat t) fills (seat w)
-          both = subst (λ (z : ℕ × ℕ × ℕ). Puts (seat t) (record { agent = z.0; act = Fill id 0 first; note = None } ∷ record { agent = z.1; act = Fill z.2 1 second; note = None } ∷ []) (seat w))
+          both = subst (λ (z : ℕ × ℕ × ℕ). Puts (seat t) (record { agent = z.0; act = Fill id 0 first; note = None } ∷ record {
+            agent = z.1;
+            act = Fill z.2 1
+                second;
+            note = None;
+          } ∷ []) (seat w))
               (λ i. (agent i, (m1.agent ∙ agent) i, one.1 i))
-              (Puts-trans (seat t) (seat u) (seat w) (event_by t.view.agent (Fill id 0 first) None ∷ []) (event_by u.view.agent (Fill ((ids_of (bounds_in k) u.view).node r) 1 second) None ∷ []) one.0.puts
-              (Puts-trans (seat u) (seat v) (seat w) (event_by u.view.agent (Fill ((ids_of (bounds_in k) u.view).node r) 1 second) None ∷ []) [] two.0.puts three.puts))
+              (Puts-trans (seat t) (seat u) (seat w) (event_by t.view.agent (Fill id 0 first) None ∷ [])
+              (event_by u.view.agent (Fill ((ids_of (bounds_in k) u.view).node r) 1 second) None ∷ []) one.0.puts
+              (Puts-trans (seat u) (seat v) (seat w) (event_by u.view.agent (Fill ((ids_of (bounds_in k) u.view).node r) 1 second) None ∷ []) [] two.0.puts
+              three.puts))
 
           -- only the two fills change the node
           node : slice_get (run_heap (heap_numbers k) (seat w).seen).nodes id ≡ Some (given_node s.view.agent first second)
           node =
               let n = heap_numbers k in
               let own : events_by s.view.agent both.part ≡ fills = subst (λ a. events_by a both.part ≡ fills) agent both.own_is in
-              let allowed : AllAllowed (d.may n) (seat t).seen both.part = allowed-right (d.may n) [] (seat t).seen both.part (subst (AllAllowed (d.may n) []) both.is w.each) in
-              let at : IsOwnNode n s.view.agent id (seat t).seen (new_node s.view.agent) = record { there = got.node; own = record { mine = refl; unnamed = refl; unlinked = refl } } in
-              let told = own_node_told n (d.holds n) (d.may n) (d.keeps n) (d.fits n) (d.moves_linked n) s.view.agent id (seat t).seen both.part (new_node s.view.agent) t.kept allowed at
+              let allowed : AllAllowed (d.may n) (seat t).seen both.part = allowed-right (d.may n) [] (seat t).seen both.part
+              (subst (AllAllowed (d.may n) []) both.is w.each) in
+              let at : IsOwnNode n s.view.agent id (seat t).seen
+              (new_node s.view.agent) = record { there = got.node; own = record { mine = refl; unnamed = refl; unlinked = refl } } in
+              let told = own_node_told n (d.holds n) (d.may n) (d.keeps n) (d.fits n) (d.moves_linked n) s.view.agent id (seat t).seen both.part
+              (new_node s.view.agent) t.kept allowed at
               (ap (λ es. list_any (λ e. points_to e.act id) es) own) in
-              let there = subst (λ es. IsOwnNode n s.view.agent id es (touched_by id (events_by s.view.agent both.part) (new_node s.view.agent))) (sym both.is) told in
+              let there = subst (λ es. IsOwnNode n s.view.agent id es (touched_by id (events_by s.view.agent both.part) (new_node s.view.agent)))
+              (sym both.is) told in
               let is : touched_by id (events_by s.view.agent both.part) (new_node s.view.agent) ≡ given_node s.view.agent first second =
               ap (λ es. touched_by id es (new_node s.view.agent)) own
-              ∙ (filled N s.view.agent id 1 second (touched_by {N = N} id (record { agent = s.view.agent; act = Fill id 0 first; note = None } ∷ []) (new_node s.view.agent))
+              ∙ (filled N s.view.agent id 1 second (touched_by {N = N} id (record { agent = s.view.agent; act = Fill id 0 first; note = None } ∷ [])
+              (new_node s.view.agent))
               ∙ ap (with_value 1 second) (filled N s.view.agent id 0 first (new_node s.view.agent))) in
               subst (λ x. slice_get (run_heap n (seat w).seen).nodes id ≡ Some x) is there.there
 

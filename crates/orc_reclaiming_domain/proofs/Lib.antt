@@ -1,6 +1,7 @@
 pub mod Adding
 pub mod Counters
 pub mod Filling
+pub mod FreshRows
 pub mod Gates
 pub mod Giving
 pub mod Held
@@ -10,9 +11,11 @@ pub mod Learning
 pub mod Loading
 pub mod Looking
 pub mod Making
+pub mod Opened
 pub mod Protecting
 pub mod Reading
 pub mod Releasing
+pub mod Retiring
 pub mod Rounds
 pub mod Searching
 pub mod Seats

@@ -14,7 +14,6 @@ use Rattle.orc_heap.specs.Journals.{event_by}
 use Rattle.orc_heap.specs.OwnEvents.{Only}
 use Rattle.orc_heap.specs.declared.discipline.Discipline as discipline
 use Rattle.orc_heap.specs.declared.events.Act.TheVariants.{Look}
-use Rattle.orc_heap.specs.declared.events.Event.{Event}
 use Rattle.orc_heap.specs.declared.events.Place.{Place}
 use Rattle.orc_machine_board.proofs.Licences.{load_has, same_place}
 use Rattle.orc_machine_board.specs.Kinds.{MayDo, asks, wants}
@@ -76,7 +75,8 @@ module _ {N : Type 0} where
   links_out_at b j shape l p h (Next q) e = next_links_out b j q shape l (h q (and_both (nat_lt q b.rows) (p q) e).1)
   links_out_at b j shape l p h w e = absurd (false≢true e)
 
-module _ {D N : Type 0} {d : discipline.Ghosts D N} {k : MachineShape N} (s t : Stage d k) (w : Word) (slot : Option ℕ) (want : Option RowLink) (note : Option N) (n : ℕ)
+module _ {D N : Type 0} {d : discipline.Ghosts D N} {k : MachineShape N} (s t : Stage d k) (w : Word) (slot : Option ℕ) (want : Option RowLink)
+    (note : Option N) (n : ℕ)
     (m : Makes (bounds_in k) (wants (LinkLoad w slot) want) note s.view n t.view) (can : MayDo (bounds_in k) s.view (LinkLoad w slot))
     (held : IsWanted s.view.record_is (LinkLoad w slot) want) where
   abbrev b : Bounds
@@ -92,7 +92,8 @@ module _ {D N : Type 0} {d : discipline.Ghosts D N} {k : MachineShape N} (s t : 
   is_low =
       let here : RequestAllowed b s.view.agent q (record_at (run_of b j) s.view.agent) = subst (RequestAllowed b s.view.agent q)
       (sym (before_record q note s t n m)) (record { may = can; enrolled = refl; wanted = held; plain = tt }) in
-      subst (λ z. z ≤ 131071) (sym m.answer) (found_low b j s.view.agent w slot (in_range k.shape) (before_lawful q note s t n m) (allowed_there b j s.view.agent q here))
+      subst (λ z. z ≤ 131071) (sym m.answer) (found_low b j s.view.agent w slot (in_range k.shape) (before_lawful q note s t n m)
+      (allowed_there b j s.view.agent q here))
 
   -- a load leaves all present ids
   pub ids_same : ids_of b t.view ≡ present_ids b j

@@ -3,13 +3,10 @@ use Rattle.std.proofs.Common.{Bool, List, None, Option, Some, [], ap, append_ass
 use Rattle.std.specs.List.{list_any}
 use Rattle.std.specs.Option.{option_map}
 use Rattle.std.specs.Prelude.{cond, slice_get, slice_index_or, slice_set, ◌||◌}
-use mathlib.Core.List.{IsPrefix}
-use Rattle.orc_core.proofs.Within.{may_parts}
 use Rattle.orc_core.specs.After.{promoted}
 use Rattle.orc_core.specs.Allowed.{may_place}
-use Rattle.orc_core.specs.Machine.{new_machine, word_in, word_read}
+use Rattle.orc_core.specs.Machine.{new_machine, word_in}
 use Rattle.orc_core.specs.RecordParts.{any_holds, holds_fresh, is_empty, names, slot_of}
-use Rattle.orc_core.specs.declared.ops.Op.{Op}
 use Rattle.orc_core.specs.declared.ops.Op.TheVariants.{Clear, LinkLoad, Publish, TakeIn}
 use Rattle.orc_core.specs.declared.records.Agent.{Agent}
 use Rattle.orc_core.specs.declared.records.SlotUse.{SlotUse}
@@ -52,7 +49,7 @@ use Rattle.orc_reclaiming_domain.proofs.Stages.{Between, Stage, Steps, before_la
 use Rattle.orc_reclaiming_domain.proofs.Untouched.{still_between, untouched_more}
 use Rattle.orc_reclaiming_domain.specs.Calls.{SameParts, Unlocks}
 use Rattle.orc_reclaiming_domain.specs.OwnSteps.{HasDone, LeavesNothing}
-use Rattle.orc_reclaiming_domain.specs.Seats.{IsCalm, IsReady, SetsSlot, slot_by}
+use Rattle.orc_reclaiming_domain.specs.Seats.{IsCalm, SetsSlot, slot_by}
 use Rattle.orc_shared_words.proofs.Events.{others_add}
 use Rattle.orc_sound.specs.Journals.{IsLawfulJournal}
 use Rattle.orc_sound.specs.declared.steps.Step.{Step}
@@ -155,7 +152,8 @@ module _ {D N : Type 0} {d : discipline.Ghosts D N} {k : MachineShape N} {s : St
           let target : (link_of (word_in (run_of b j1) w)).to ≡ Some r = ap (λ (l : RowLink). l.to) (sym (ap link_of m1.answer) ∙ is1) ∙ to in
           let named = target_named b j1 (in_range k.shape) (before_lawful q None s t (link_word one) m1) (before_unmarked q None s t (link_word one) m1)
           (λ y. any_holds s.view.record_is.slots y || names s.view.record_is.fresh y) (before_out q None s t (link_word one) m1) w place_ok r target in
-          let at_id : slice_get (run_heap n (project b j1)).nodes id ≡ Some named.node = subst (λ z. slice_get (run_heap n (project b j1)).nodes z ≡ Some named.node)
+          let at_id : slice_get (run_heap n (project b j1)).nodes id ≡ Some named.node = subst
+          (λ z. slice_get (run_heap n (project b j1)).nodes z ≡ Some named.node)
           same named.there in
           let node : Some named.node ≡ Some u1.node = sym at_id ∙ u1.there in
           let one_node : named.node ≡ u1.node = cc in
@@ -232,12 +230,15 @@ module _ {D N : Type 0} {d : discipline.Ghosts D N} {k : MachineShape N} {s : St
           there2 : node_place (ids_of b u.view) w ≡ Some x
           there2 =
               let has = load_has b s.view.agent s.view.record_is w None place_ok in
-              let stays1 : (q : ℕ) → HasRow s.view.record_is q → (ids_of b t.view).node q ≡ (ids_of b s.view).node q = ids_keep (asks (LinkLoad w None)) None s t (link_word one) m1 in
-              let stays2 : (q : ℕ) → HasRow s.view.record_is q → (ids_of b u.view).node q ≡ (ids_of b t.view).node q = λ q h. ids_keep (asks (Publish slot r)) None t u n2 m2 q
+              let stays1 : (q : ℕ) → HasRow s.view.record_is q
+              → (ids_of b t.view).node q ≡ (ids_of b s.view).node q = ids_keep (asks (LinkLoad w None)) None s t (link_word one) m1 in
+              let stays2 : (q : ℕ) → HasRow s.view.record_is q
+              → (ids_of b u.view).node q ≡ (ids_of b t.view).node q = λ q h. ids_keep (asks (Publish slot r)) None t u n2 m2 q
               (subst (λ (z : List SlotUse × Option ℕ). (any_holds z.0 q || names z.1 q) ≡ true) (λ i. (sym loaded_same.slots i, sym loaded_same.fresh i)) h) in
               same_place (ids_of b s.view) (ids_of b u.view) s.view.record_is (λ q h. stays2 q h ∙ stays1 q h) w has ∙ there
 
-          third : SetsSlot (event_by s.view.agent (Look x (node_link (ids_of b y.view) two)) None ∷ []) slot (slot_by (ids_of b y.view) held_by) (seat u) (seat y)
+          third : SetsSlot (event_by s.view.agent (Look x (node_link (ids_of b y.view) two)) None ∷ []) slot (slot_by (ids_of b y.view) held_by) (seat u)
+              (seat y)
           third =
               let set = sets (asks (LinkLoad w (Some slot))) None u y (link_word two) m3 slot held_by slots3 (ap (λ (e : Agent). e.fresh) m3.record_is) in
               let event = look_event u y w (Some slot) (link_word two) m3 reload_can x there2 in
@@ -245,7 +246,8 @@ module _ {D N : Type 0} {d : discipline.Ghosts D N} {k : MachineShape N} {s : St
               (event ∙ (λ i. record { agent = agent2 i; act = Look x (node_link (ids_of b y.view) (is3 i)); note = None } ∷ [])) set
 
           abbrev own : List (Event N)
-          own = event_by s.view.agent (Look x (node_link (ids_of b t.view) one)) None ∷ event_by s.view.agent (Look x (node_link (ids_of b y.view) two)) None ∷ []
+          own = event_by s.view.agent (Look x (node_link (ids_of b t.view) one)) None ∷ event_by s.view.agent
+              (Look x (node_link (ids_of b y.view) two)) None ∷ []
 
           both : Puts (seat s) own (seat y)
           both = Puts-trans (seat s) (seat t) (seat y) (event_by s.view.agent (Look x (node_link (ids_of b t.view) one)) None ∷ [])
@@ -256,15 +258,18 @@ module _ {D N : Type 0} {d : discipline.Ghosts D N} {k : MachineShape N} {s : St
           not_null e = let some : Some ((ids_of b t.view).node r) ≡ None = sym (ap (option_map (ids_of b t.view).node) to) ∙ e in cc
 
           done3 : HasDone s.view.agent (LinkLoad w None ∷ Publish slot r ∷ LinkLoad w (Some slot) ∷ []) s.view.journal y.view.journal
-          done3 = done_then s.view.agent s.view.journal u.view.journal y.view.journal (LinkLoad w None ∷ Publish slot r ∷ []) (LinkLoad w (Some slot) ∷ []) done2
-              (subst (λ a. HasDone a (LinkLoad w (Some slot) ∷ []) u.view.journal y.view.journal) agent2 (done_one (asks (LinkLoad w (Some slot))) None u y (link_word two) m3))
+          done3 = done_then s.view.agent s.view.journal u.view.journal y.view.journal (LinkLoad w None ∷ Publish slot r ∷ [])
+              (LinkLoad w (Some slot) ∷ []) done2
+              (subst (λ a. HasDone a (LinkLoad w (Some slot) ∷ []) u.view.journal y.view.journal) agent2
+              (done_one (asks (LinkLoad w (Some slot))) None u y (link_word two) m3))
 
           -- the same link twice: the slot holds its target
           module _ (same : two ≡ one) where
             held : held_by ≡ Held r
             held = ap (λ (z : Bool). cond z (Held r) (Published r)) (word_row two r (ap (λ (l : RowLink). l.to) same ∙ to))
 
-            pub look_held : (h : Hold) → h ≡ record { row = r; slot = slot } → Looks x slot (seat s) (Stable (record { null = false; mark = one.mark }) (Some h)) (seat y)
+            pub look_held : (h : Hold) → h ≡ record { row = r; slot = slot }
+                → Looks x slot (seat s) (Stable (record { null = false; mark = one.mark }) (Some h)) (seat y)
             look_held h e = subst (λ (z : Hold). Looks x slot (seat s) (Stable (record { null = false; mark = one.mark }) (Some z)) (seat y)) (sym e) record {
               fresh = third.fresh ∙ (second.fresh ∙ first.fresh);
               tells = (
@@ -275,8 +280,10 @@ module _ {D N : Type 0} {d : discipline.Ghosts D N} {k : MachineShape N} {s : St
                 refl,
                 refl,
                 third.slots ∙ (λ i. slice_set ((second.slots ∙ first.slots) i) slot (slot_by (ids_of b y.view) (held i))),
-                subst (λ (l : Link). Puts (seat s) (event_by s.view.agent (Look x (node_link (ids_of b t.view) one)) None ∷ event_by s.view.agent (Look x l) None ∷ []) (seat y))
-                    (ap (node_link (ids_of b y.view)) same ∙ ap (λ (o : Option ℕ). record { to = o; mark = one.mark }) (ap (option_map (ids_of b y.view).node) to)) both,
+                subst (λ (l : Link). Puts (seat s) (event_by s.view.agent (Look x (node_link (ids_of b t.view) one)) None ∷ event_by s.view.agent
+                    (Look x l) None ∷ []) (seat y))
+                    (ap (node_link (ids_of b y.view)) same ∙ ap (λ (o : Option ℕ). record { to = o; mark = one.mark })
+                    (ap (option_map (ids_of b y.view).node) to)) both,
               );
             }
 
@@ -357,7 +364,8 @@ module _ {D N : Type 0} {d : discipline.Ghosts D N} {k : MachineShape N} {s : St
             moved_same : SameParts s.view.record_is z.view.record_is
             moved_same = let f = un.same in let g = reloaded_same in record {
               enrolled = f.enrolled ∙ g.enrolled;
-              slots = f.slots ∙ (ap (λ l. slice_set l slot Empty) g.slots ∙ (set_twice s.view.record_is.slots slot held_by Empty ∙ set_back s.view.record_is.slots slot empty));
+              slots = f.slots ∙ (ap (λ l. slice_set l slot Empty) g.slots
+                  ∙ (set_twice s.view.record_is.slots slot held_by Empty ∙ set_back s.view.record_is.slots slot empty));
               fresh = f.fresh ∙ g.fresh;
               due = f.due ∙ g.due;
               inc = f.inc ∙ g.inc;
@@ -372,6 +380,7 @@ module _ {D N : Type 0} {d : discipline.Ghosts D N} {k : MachineShape N} {s : St
             moved_leaves = record {
               ops = LinkLoad w None ∷ Publish slot r ∷ LinkLoad w (Some slot) ∷ Clear slot ∷ TakeIn slot ∷ [];
               done = done_then s.view.agent s.view.journal y.view.journal z.view.journal (LinkLoad w None ∷ Publish slot r ∷ LinkLoad w (Some slot) ∷ [])
-                  (Clear slot ∷ TakeIn slot ∷ []) done3 (subst (λ a. HasDone a (Clear slot ∷ TakeIn slot ∷ []) y.view.journal z.view.journal) (m3.agent ∙ agent2) un.done);
+                  (Clear slot ∷ TakeIn slot ∷ []) done3 (subst (λ a. HasDone a (Clear slot ∷ TakeIn slot ∷ []) y.view.journal z.view.journal)
+                  (m3.agent ∙ agent2) un.done);
               taken_in = (refl, tt);
             }

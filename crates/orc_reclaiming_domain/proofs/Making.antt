@@ -57,7 +57,8 @@ module _ {D N : Type 0} where
   DomainPass d m = OrcPass D N (MachineShape N) Request (Step N) Agent Agent d m
 
 module _ {D N : Type 0} {d : discipline.Ghosts D N} {m : machine.Ghosts Reclaiming N (MachineShape N) Request (Step N) Agent Agent} where
-  module _ (domain : OrcDomain D N) (xs : List (DomainPass d m)) (ys : List (BoardPass d m)) (long : length xs ≡ length ys) (same : EachFrom (λ (p : DomainPass d m). p.pass) xs ys) where
+  module _ (domain : OrcDomain D N) (xs : List (DomainPass d m)) (ys : List (BoardPass d m)) (long : length xs ≡ length ys)
+      (same : EachFrom (λ (p : DomainPass d m). p.pass) xs ys) where
     -- what holds of each pass of the board holds of the passes of the domain
     pub each_pass : (P : BoardPass d m → Type 0) → All P ys → All (λ (p : DomainPass d m). P p.pass) xs
     each_pass P all i p l = let k : i < length ys = subst (λ n. i < n) long l in subst P (sym (same i p p.pass k)) (all i p.pass k)
@@ -66,7 +67,8 @@ module _ {D N : Type 0} {d : discipline.Ghosts D N} {m : machine.Ghosts Reclaimi
     each_at P all i p l = let k : i < length ys = subst (λ n. i < n) long l in subst (P i) (sym (same i p p.pass k)) (all i p.pass k)
 
     pub all_belong : (asked : Bounds) → domain_bounds domain ≡ asked → All (λ (q : BoardPass d m). Belongs domain.board q) ys
-        → All (λ (q : BoardPass d m). HasNothing (shows q).record_is) ys → All (λ (p : DomainPass d m). p.next < asked.rows) xs → All (λ (p : DomainPass d m). IsPassOf domain p) xs
+        → All (λ (q : BoardPass d m). HasNothing (shows q).record_is) ys → All (λ (p : DomainPass d m). p.next < asked.rows) xs
+        → All (λ (p : DomainPass d m). IsPassOf domain p) xs
     all_belong asked bounds belong nothing next i p l =
         let q = slice_index_or xs i p in
         let none = each_pass (λ r. HasNothing (shows r).record_is) nothing i p l in
@@ -88,9 +90,12 @@ module _ {D N : Type 0} {d : discipline.Ghosts D N} {m : machine.Ghosts Reclaimi
         record { slots = ap (map (slot_by ids)) none.slots; fresh = ap (option_map ids.node) none.fresh }
 
   -- a new pass has seen the seed's events
-  pub opening_seen : (e : discipline.Ghosts D N) (domain : OrcDomain D N) (xs : List (DomainPass d m)) (ys : List (BoardPass d m)) → length xs ≡ length ys → EachFrom (λ (p : DomainPass d m). p.pass) xs ys
-      → (shape : Shape) (seed : Seed N) → domain_bounds domain ≡ bounds_of shape → e.holds (numbers_of (bounds_of shape)) [] → SeedAllowed e.may (numbers_of (bounds_of shape)) seed
-      → All (λ (q : BoardPass d m). (shows q).journal ≡ machine_opening (bounds_of shape).agents seed) ys → All (λ (p : DomainPass d m). (seat_of domain p).seen ≡ opening_events seed) xs
+  pub opening_seen : (e : discipline.Ghosts D N) (domain : OrcDomain D N) (xs : List (DomainPass d m)) (ys : List (BoardPass d m)) → length xs ≡ length ys
+      → EachFrom (λ (p : DomainPass d m). p.pass) xs ys
+      → (shape : Shape) (seed : Seed N) → domain_bounds domain ≡ bounds_of shape → e.holds (numbers_of (bounds_of shape)) []
+      → SeedAllowed e.may (numbers_of (bounds_of shape)) seed
+      → All (λ (q : BoardPass d m). (shows q).journal ≡ machine_opening (bounds_of shape).agents seed) ys
+      → All (λ (p : DomainPass d m). (seat_of domain p).seen ≡ opening_events seed) xs
   opening_seen e domain xs ys long same shape seed bounds began can journals i p l =
       let k : MachineShape N = record { shape = shape; seed = seed } in
       let q = slice_index_or xs i p in

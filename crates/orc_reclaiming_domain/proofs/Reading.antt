@@ -1,9 +1,8 @@
 -- A read of a held row's value.
-use Rattle.std.proofs.Common.{Bool, List, None, Option, Some, [], ap, append-nil, arith, length, refl, subst, suc, sym, true, zero, ℕ, ◌++◌, ◌<◌, ◌∙◌, ◌≡◌, ◌∷◌}
+use Rattle.std.proofs.Common.{List, None, Some, [], ap, append-nil, arith, length, refl, subst, suc, sym, zero, ℕ, ◌++◌, ◌<◌, ◌∙◌, ◌≡◌, ◌∷◌}
 use Rattle.std.proofs.lemmas.Bool.{lt-ltb}
 use Rattle.std.specs.Prelude.{slice_get, ◌&&◌}
 use Rattle.orc_core.specs.Machine.{word_read}
-use Rattle.orc_core.specs.RecordParts.{any_holds, names}
 use Rattle.orc_core.specs.declared.ops.Op.TheVariants.{Read}
 use Rattle.orc_core.specs.declared.records.Agent.{Agent}
 use Rattle.orc_heap.specs.Calls.{ReadsValue, value_of}
@@ -33,7 +32,8 @@ there [] i lt = absurd (omega arith)
 there (x ∷ xs) zero lt = (x, refl)
 there (x ∷ xs) (suc i) lt = there xs i (omega arith)
 
-module _ {D N : Type 0} {d : discipline.Ghosts D N} {k : MachineShape N} (s : Stage d k) (h : Hold) (held : Holds (seat s).slots h) (which : ℕ) (low : which < 2) where
+module _ {D N : Type 0} {d : discipline.Ghosts D N} {k : MachineShape N} (s : Stage d k) (h : Hold) (held : Holds (seat s).slots h) (which : ℕ)
+    (low : which < 2) where
   pub may_read : IsReady s.view.record_is → MayDo (bounds_in k) s.view (Read h.row which)
   may_read ready =
       let b = bounds_in k in
@@ -56,8 +56,10 @@ module _ {D N : Type 0} {d : discipline.Ghosts D N} {k : MachineShape N} (s : St
     read_between is = still_between s t [] is read_only.puts read_only.fresh (λ id. refl) (subst IsReady (sym m.record_is) is.ready)
 
     -- the value word of a row that is out is its node's value
-    word_is : (Mirrors (run_of (bounds_in k) j) (present_ids (bounds_in k) j) (run_heap (heap_numbers k) (project (bounds_in k) j))) → (w : ℕ) (node : Node) → w < 2
-        → IsOut (run_of (bounds_in k) j) h.row → slice_get (run_heap (heap_numbers k) (project (bounds_in k) j)).nodes ((present_ids (bounds_in k) j).node h.row) ≡ Some node
+    word_is : (Mirrors (run_of (bounds_in k) j) (present_ids (bounds_in k) j) (run_heap (heap_numbers k) (project (bounds_in k) j))) → (w : ℕ) (node : Node)
+        → w < 2
+        → IsOut (run_of (bounds_in k) j) h.row → slice_get (run_heap (heap_numbers k) (project (bounds_in k) j)).nodes
+        ((present_ids (bounds_in k) j).node h.row) ≡ Some node
         → (filled : ℕ) → value_of w node ≡ Some filled → word_read (run_of (bounds_in k) j) s.view.agent (Read h.row w) ≡ filled
     word_is mirror zero node two out e filled f = mirror.first h.row filled node out e f
     word_is mirror (suc zero) node two out e filled f = mirror.second h.row filled node out e f

@@ -1,5 +1,5 @@
 -- All rows were tried, and none could be given.
-use Rattle.std.proofs.Common.{Bool, List, None, Option, Some, [], ap, append_assoc, append-nil, arith, length, length-append, refl, subst, suc, sym, take, true, zero, ℕ, ◌++◌, ◌+◌, ◌-◌, ◌%◌, ◌<◌, ◌∙◌, ◌≡◌, ◌≢◌, ◌∷◌, ◌≤◌}
+use Rattle.std.proofs.Common.{List, None, Some, [], ap, append_assoc, append-nil, arith, length, length-append, subst, suc, sym, take, zero, ℕ, ◌++◌, ◌+◌, ◌-◌, ◌%◌, ◌<◌, ◌∙◌, ◌≡◌, ◌∷◌, ◌≤◌}
 use Rattle.std.proofs.Math.Decide.{dec_lt}
 use Rattle.std.proofs.Math.Seq.{take-append_seam, take-length}
 use Rattle.std.proofs.Math.Nat.{add-mod_right, mod-eq_of_lt}
@@ -7,7 +7,7 @@ use Rattle.std.specs.Prelude.{slice_get}
 use native.Mathlib.Decide.{ℕ_discrete}
 use mathlib.Core.List.{IsPrefix}
 use mathlib.Core.Logic.{dite}
-use Rattle.orc_heap.proofs.Steps.{Cut, cut_at_part, part_bounds}
+use Rattle.orc_heap.proofs.Steps.{cut_at_part, part_bounds}
 use Rattle.orc_heap.specs.Allowed.{events_by}
 use Rattle.orc_heap.specs.Moves.{gives_in}
 use Rattle.orc_heap.proofs.Calls.{Puts-trans}
@@ -30,7 +30,7 @@ use Rattle.orc_reclaiming_domain.proofs.Searching.{found_grows, found_since, idl
 use Rattle.orc_reclaiming_domain.specs.Causes.{IsLacking, IsOfDomain}
 use Rattle.orc_machine_board.specs.Laws.Steps.{counted_obeys, in_range}
 use Rattle.orc_machine_board.specs.Rules.{bounds_in, counted_rules}
-use Rattle.orc_reclaiming_domain.specs.Searches.{Fails, Found, Gets, Idles, Tries}
+use Rattle.orc_reclaiming_domain.specs.Searches.{Fails, Found, Gets, Tries}
 use Rattle.orc_machine_board.specs.Views.{MachineView}
 use Rattle.orc_machine_board.specs.declared.machine.MachineShape.{MachineShape}
 use Rattle.orc_shared_words.proofs.Events.{others_add}
@@ -75,27 +75,33 @@ module _ {N : Type 0} where
           (λ ne. sym (by_other (λ (s : Step N). s.agent) a s ss ne) ∙ e)
 
   -- the part begins at the first step of its agent
-  pub begin_le : (a : ℕ) (before after : List (Step N)) (i : ℕ) (x : Step N) → IsPrefix before after → slice_get after i ≡ Some x → x.agent ≡ a → length before ≤ i → part_begin (λ (s : Step N). s.agent) a before after ≤ i
+  pub begin_le : (a : ℕ) (before after : List (Step N)) (i : ℕ) (x : Step N) → IsPrefix before after → slice_get after i ≡ Some x → x.agent ≡ a
+      → length before ≤ i → part_begin (λ (s : Step N). s.agent) a before after ≤ i
   begin_le a before after i x grows there its h =
       let c = cut_at_part (λ (s : Step N). s.agent) a before after grows in
       dite (dec_lt i (length (before ++ c.gap)))
-      (λ lt. absurd (let in_front = get_front (before ++ c.gap) c.part i x lt (ap (λ z. slice_get z i) (sym c.is) ∙ there) in let in_gap = get_after before c.gap i x h in_front in none_own a c.gap in_gap.0 x c.others in_gap.1 its))
+      (λ lt. absurd (let in_front = get_front (before ++ c.gap) c.part i x lt
+      (ap (λ z. slice_get z i) (sym c.is) ∙ there) in let in_gap = get_after before c.gap i x h in_front in
+      none_own a c.gap in_gap.0 x c.others in_gap.1 its))
       (λ ge. let e = c.begin_is in omega (arith, e, ge))
 
   pub tries_none : (b : Bounds) (begin rows : ℕ) (s : MachineView N) → Tries b begin rows 0 s s
   tries_none b begin rows s = record { idle = idle_none b s; found = λ k h. absurd (omega arith) }
 
-  pub tries_one : (b : Bounds) (begin rows offset : ℕ) (s t u : MachineView N) → Tries b begin rows offset s t → Fails b ((begin + offset) % rows) t u → Tries b begin rows (offset + 1) s u
+  pub tries_one : (b : Bounds) (begin rows offset : ℕ) (s t u : MachineView N) → Tries b begin rows offset s t → Fails b ((begin + offset) % rows) t u
+      → Tries b begin rows (offset + 1) s u
   tries_one b begin rows offset s t u p f = record {
     idle = idle_trans b s t u p.idle f.idle;
     found = λ k h. dite (dec_lt k offset)
-        (λ lt. subst (λ z. Found b s.agent s.journal z ((begin + k) % rows)) (sym f.idle.journal) (found_grows b s.agent s.journal t.journal f.idle.more ((begin + k) % rows) (p.found k lt)))
+        (λ lt. subst (λ z. Found b s.agent s.journal z ((begin + k) % rows)) (sym f.idle.journal)
+        (found_grows b s.agent s.journal t.journal f.idle.more ((begin + k) % rows) (p.found k lt)))
         (λ ge.
         let e : k ≡ offset = omega (arith, h, ge) in
         let longer = ap length p.idle.journal in
         let long : length s.journal ≤ length t.journal = omega (arith, longer, length-append s.journal p.idle.more) in
         subst (λ z. Found b s.agent s.journal u.journal ((begin + z) % rows)) (sym e)
-        (found_since b s.agent s.journal t.journal u.journal ((begin + offset) % rows) long (subst (λ z. Found b z t.journal u.journal ((begin + offset) % rows)) p.idle.only.puts.agent f.found)));
+        (found_since b s.agent s.journal t.journal u.journal ((begin + offset) % rows) long
+        (subst (λ z. Found b z t.journal u.journal ((begin + offset) % rows)) p.idle.only.puts.agent f.found)));
   }
 
   -- the row that is taken after others were tried
@@ -113,7 +119,8 @@ module _ {N : Type 0} where
       doom = q.same.doom ∙ p.idle.same.doom;
     };
     slots = q.slots ∙ p.idle.only.slots;
-    puts = Puts-trans (seat_by b s) (seat_by b t) (seat_by b u) [] (event_by s.agent Give None ∷ []) p.idle.only.puts (subst (λ z. Puts (seat_by b t) (record { agent = z; act = Give; note = None } ∷ []) (seat_by b u)) p.idle.only.puts.agent q.puts);
+    puts = Puts-trans (seat_by b s) (seat_by b t) (seat_by b u) [] (event_by s.agent Give None ∷ []) p.idle.only.puts
+        (subst (λ z. Puts (seat_by b t) (record { agent = z; act = Give; note = None } ∷ []) (seat_by b u)) p.idle.only.puts.agent q.puts);
     new =
         let e = nodes_stay (numbers_of b) (seat_by b s).seen p.idle.only.puts.part in
         let same = ap (λ l. length (run_heap (numbers_of b) l).nodes) p.idle.only.puts.is in
@@ -124,7 +131,8 @@ module _ {N : Type 0} where
 
 module _ {D N : Type 0} {d : discipline.Ghosts D N} {k : MachineShape N} where
   -- where all rows were tried, none could be given
-  pub tries_all : (begin rows offset : ℕ) (s t : Stage d k) → rows ≡ (bounds_in k).rows → begin < rows → offset ≡ rows → Tries (bounds_in k) begin rows offset s.view t.view
+  pub tries_all : (begin rows offset : ℕ) (s t : Stage d k) → rows ≡ (bounds_in k).rows → begin < rows → offset ≡ rows
+      → Tries (bounds_in k) begin rows offset s.view t.view
       → InPart (λ (x : Step N). x.agent) s.view.agent s.view.journal t.view.journal (IsLacking (bounds_in k) s.view.agent t.view.journal)
   tries_all begin rows offset s t same inside end p =
       let b = bounds_in k in

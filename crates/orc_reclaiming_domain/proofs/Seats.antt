@@ -1,5 +1,5 @@
 -- What a step does to what a pass shows.
-use Rattle.std.proofs.Common.{Bool, List, None, Option, Some, [], ap, append_assoc, eq-eqb, false, refl, subst, suc, sym, true, zero, ℕ, ◌++◌, ◌<◌, ◌∙◌, ◌≡◌, ◌∷◌}
+use Rattle.std.proofs.Common.{Bool, List, None, Option, Some, [], ap, append_assoc, eq-eqb, false, refl, subst, suc, sym, true, zero, ℕ, ◌++◌, ◌∙◌, ◌≡◌, ◌∷◌}
 use Rattle.std.specs.Option.{option_map}
 use Rattle.std.specs.Prelude.{if◌then◌else◌, map, slice_get, slice_set, ◌||◌}
 use Rattle.orc_core.specs.Allowed.{forced, in_order}
@@ -114,7 +114,8 @@ module _ {D N : Type 0} {d : discipline.Ghosts D N} {k : MachineShape N} (q : Re
       let b = bounds_in k in
       let more = others_add counted_rules k (counted_obeys k) (signed b) s.view.agent s.view.journal m.met m.others in
       let all : project b t.view.journal ≡ project b s.view.journal ++ (more.0 ++ step_events) =
-      ap (project b) m.journal ∙ ((counted_obeys k).project_next j x ∙ (ap (λ l. l ++ step_events) more.2 ∙ append_assoc (project b s.view.journal) more.0 step_events)) in
+      ap (project b) m.journal ∙ ((counted_obeys k).project_next j x
+      ∙ (ap (λ l. l ++ step_events) more.2 ∙ append_assoc (project b s.view.journal) more.0 step_events)) in
       record {
         part = more.0 ++ step_events;
         is = all;

@@ -1,5 +1,5 @@
 -- Slots that are cleared and set.
-use Rattle.std.proofs.Common.{List, None, Option, Some, [], ap, false, refl, subst, suc, sym, true, zero, ℕ, ◌++◌, ◌<◌, ◌∙◌, ◌≡◌, ◌∷◌}
+use Rattle.std.proofs.Common.{List, None, Some, [], ap, false, refl, subst, suc, sym, true, zero, ℕ, ◌<◌, ◌∙◌, ◌≡◌, ◌∷◌}
 use Rattle.std.proofs.lemmas.Bool.{lt-ltb}
 use Rattle.std.specs.Prelude.{length, nat_lt, not, slice_get, slice_index_or, slice_set, ◌&&◌, ◌||◌}
 use Rattle.orc_core.proofs.Within.{and_both, may_parts}
@@ -8,14 +8,14 @@ use Rattle.orc_core.specs.RecordParts.{any_holds, holds, holds_fresh, is_empty, 
 use Rattle.orc_core.specs.declared.ops.Op.TheVariants.{Clear, TakeIn}
 use Rattle.orc_core.specs.declared.records.Agent.{Agent}
 use Rattle.orc_core.specs.declared.records.SlotUse.{SlotUse}
-use Rattle.orc_core.specs.declared.records.SlotUse.TheVariants.{Empty, Held, Published}
+use Rattle.orc_core.specs.declared.records.SlotUse.TheVariants.{Empty, Published}
 use Rattle.orc_heap.specs.declared.discipline.Discipline as discipline
 use Rattle.orc_machine_board.specs.Kinds.{asks}
 use Rattle.orc_machine_board.specs.Rules.{bounds_in}
 use Rattle.orc_machine_board.specs.declared.machine.MachineShape.{MachineShape}
 use Rattle.orc_reclaiming_domain.proofs.Seats.{calm_forced, only, set_then, sets}
 use Rattle.orc_reclaiming_domain.proofs.Stages.{Stage, Steps, done_one, done_then, seat}
-use Rattle.orc_reclaiming_domain.specs.Calls.{SameParts, Unlocks}
+use Rattle.orc_reclaiming_domain.specs.Calls.{Unlocks}
 use Rattle.orc_reclaiming_domain.specs.OwnSteps.{HasDone}
 use Rattle.orc_reclaiming_domain.specs.Seats.{IsCalm}
 use Rattle.orc_words.specs.Bounds.{Bounds}
@@ -54,7 +54,8 @@ set_empty (s ∷ ss) zero = refl
 set_empty (s ∷ ss) (suc k) = set_empty ss k
 
 -- a calm agent may clear a slot that names a row, unless it holds the fresh row
-pub clear_may : (b : Bounds) (a k : ℕ) (e : Agent) → a < b.agents → k < 8 → IsCalm e → is_empty (slot_of e k) ≡ false → holds_fresh e.fresh (slot_of e k) ≡ false
+pub clear_may : (b : Bounds) (a k : ℕ) (e : Agent) → a < b.agents → k < 8 → IsCalm e → is_empty (slot_of e k) ≡ false
+    → holds_fresh e.fresh (slot_of e k) ≡ false
     → may b 0 a (Clear k) e ≡ true
 clear_may b a k e h eight calm full free =
     let agent = lt-ltb a b.agents h in
@@ -76,11 +77,13 @@ may_take_in b a k d e calm can is =
     let empty = set_empty d.slots k in
     let on = calm.enrolled in
     let next : Agent = record d { slots = slice_set d.slots k Empty } in
-    let first : forced next (TakeIn k) ≡ true = calm_forced next (TakeIn k) (record { enrolled = calm.enrolled; due = calm.due; inc = calm.inc; dec = calm.dec }) in
+    let first : forced next (TakeIn k) ≡ true = calm_forced next (TakeIn k)
+    (record { enrolled = calm.enrolled; due = calm.due; inc = calm.inc; dec = calm.dec }) in
     let free : is_empty (slot_of next k) ≡ true = ap is_empty empty in
     subst (λ (z : Agent). may b 0 a (TakeIn k) z ≡ true) (sym is) (λ i. ((agent i && on i) && first i) && (eight i && free i))
 
-module _ {D N : Type 0} {d : discipline.Ghosts D N} {k : MachineShape N} (s t u : Stage d k) (slot n o : ℕ) (one : Steps (Clear slot) s n t) (two : Steps (TakeIn slot) t o u) where
+module _ {D N : Type 0} {d : discipline.Ghosts D N} {k : MachineShape N} (s t u : Stage d k) (slot n o : ℕ) (one : Steps (Clear slot) s n t)
+    (two : Steps (TakeIn slot) t o u) where
   pub unlocks : Unlocks (bounds_in k) slot s.view u.view
   unlocks =
       let first = sets (asks (Clear slot)) None s t n one slot Empty (ap (λ (e : Agent). e.slots) one.record_is) (ap (λ (e : Agent). e.fresh) one.record_is) in
@@ -96,6 +99,7 @@ module _ {D N : Type 0} {d : discipline.Ghosts D N} {k : MachineShape N} (s t u 
           dec = ap (λ (e : Agent). e.dec) two.record_is ∙ ap (λ (e : Agent). e.dec) one.record_is;
           doom = ap (λ (e : Agent). e.doom) two.record_is ∙ ap (λ (e : Agent). e.doom) one.record_is;
         };
-        done = done_then s.view.agent s.view.journal t.view.journal u.view.journal (Clear slot ∷ []) (TakeIn slot ∷ []) (done_one (asks (Clear slot)) None s t n one)
+        done = done_then s.view.agent s.view.journal t.view.journal u.view.journal (Clear slot ∷ []) (TakeIn slot ∷ [])
+            (done_one (asks (Clear slot)) None s t n one)
             (subst (λ a. HasDone a (TakeIn slot ∷ []) t.view.journal u.view.journal) one.agent (done_one (asks (TakeIn slot)) None t u o two));
       }

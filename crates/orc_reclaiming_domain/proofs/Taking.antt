@@ -1,6 +1,6 @@
 -- A row that is taken is the pass's fresh row, and its node is new.
-use Rattle.std.proofs.Common.{Bool, List, None, Option, Some, [], ap, append-nil, arith, eq-eqb, false, length, refl, subst, suc, sym, true, zero, ℕ, ◌++◌, ◌<◌, ◌∙◌, ◌≡◌, ◌≤◌, ◌∷◌}
-use Rattle.std.specs.Prelude.{cond, if◌then◌else◌, slice_get, ◌==◌}
+use Rattle.std.proofs.Common.{Bool, List, None, Some, [], ap, arith, eq-eqb, false, length, refl, subst, sym, true, ℕ, ◌++◌, ◌∙◌, ◌≡◌, ◌≤◌, ◌∷◌}
+use Rattle.std.specs.Prelude.{cond, if◌then◌else◌, slice_get}
 use Rattle.orc_core.specs.Machine.{new_machine, record_at, word_read}
 use Rattle.orc_core.specs.declared.ops.Op.TheVariants.{GateTake}
 use Rattle.orc_core.specs.declared.records.Agent.{Agent}
@@ -11,7 +11,6 @@ use Rattle.orc_heap.specs.Journals.{event_by, run_heap}
 use Rattle.orc_heap.specs.OwnEvents.{Puts}
 use Rattle.orc_heap.specs.declared.discipline.Discipline as discipline
 use Rattle.orc_heap.specs.declared.events.Act.TheVariants.{Give}
-use Rattle.orc_heap.specs.declared.events.Event.{Event}
 use Rattle.orc_machine_board.proofs.Licences.{signed}
 use Rattle.orc_machine_board.specs.Kinds.{asks}
 use Rattle.orc_machine_board.specs.Laws.Steps.{counted_obeys, in_range}
@@ -74,13 +73,15 @@ module _ {D N : Type 0} {d : discipline.Ghosts D N} {k : MachineShape N} where
         let events : project b t.view.journal ≡ project b j ++ event_by s.view.agent Give None ∷ [] = ap (project b) m.journal
         ∙ ((counted_obeys k).project_next j x ∙ ap (λ l. project b j ++ l) gives) in
         let heap : (run_heap (heap_numbers k) (project b t.view.journal)).nodes ≡ h.nodes ++ new_node s.view.agent ∷ [] =
-        ap (λ l. (run_heap (heap_numbers k) l).nodes) events ∙ ap (λ (g : Heap). g.nodes) (run_heap-snoc (heap_numbers k) (project b j) (event_by s.view.agent Give None)) in
+        ap (λ l. (run_heap (heap_numbers k) l).nodes) events ∙ ap (λ (g : Heap). g.nodes)
+        (run_heap-snoc (heap_numbers k) (project b j) (event_by s.view.agent Give None)) in
         let id : (ids_of b t.view).node r ≡ length h.nodes = ap (λ (z : PresentIds). z.node r) ids
         ∙ (ap (λ (z : Bool). if z then p.given else p.node r) (eq-eqb r r refl) ∙ sym mirror.given) in
         record {
           fresh = ap (λ (e : Agent). e.fresh) m.record_is ∙ ap (λ (z : Bool). cond z (Some r) s.view.record_is.fresh) taken;
           puts = subst (λ es. Puts (seat s) es (seat t)) gives (puts q None s t n m);
-          node = subst (λ (z : List Node × ℕ). slice_get z.0 z.1 ≡ Some (new_node s.view.agent)) (λ i. (sym heap i, sym id i)) (get_last h.nodes (new_node s.view.agent));
+          node = subst (λ (z : List Node × ℕ). slice_get z.0 z.1 ≡ Some (new_node s.view.agent)) (λ i. (sym heap i, sym id i))
+              (get_last h.nodes (new_node s.view.agent));
           new =
               let more = others_add counted_rules k (counted_obeys k) (signed b) s.view.agent s.view.journal m.met m.others in
               let e = nodes_stay (heap_numbers k) (project b s.view.journal) more.0 in

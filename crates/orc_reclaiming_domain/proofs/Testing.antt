@@ -1,20 +1,18 @@
 -- A load that tests a link.
-use Rattle.std.proofs.Common.{Bool, List, None, Option, Some, [], ap, append-nil, arith, false, refl, subst, sym, true, ℕ, ◌+◌, ◌++◌, ◌<◌, ◌∙◌, ◌≡◌, ◌≢◌, ◌≤◌, ◌∷◌}
+use Rattle.std.proofs.Common.{Bool, List, None, Option, Some, [], ap, arith, false, refl, subst, sym, true, ℕ, ◌++◌, ◌<◌, ◌∙◌, ◌≡◌, ◌∷◌}
 use Rattle.std.proofs.lemmas.Bool.{eqb-true}
-use Rattle.std.specs.Prelude.{MatchBool, if◌then◌else◌, ◌==◌}
-use Rattle.orc_core.specs.RecordParts.{any_holds}
+use Rattle.std.specs.Prelude.{if◌then◌else◌, ◌==◌}
 use Rattle.orc_core.specs.declared.ops.Op.TheVariants.{LinkLoad}
 use Rattle.orc_core.specs.declared.records.Agent.{Agent}
 use Rattle.orc_domain.specs.Rows.{row_link, word_at}
 use Rattle.orc_heap.specs.Allowed.{AllowedLater}
-use Rattle.orc_heap.specs.Calls.{Misses, Tests, look_of}
+use Rattle.orc_heap.specs.Calls.{Tests, look_of}
 use Rattle.orc_heap.specs.Journals.{FitsAfter, event_by}
 use Rattle.orc_heap.specs.OwnEvents.{Only, Puts}
 use Rattle.orc_heap.specs.Seats.{HoldsPlace, HoldsWant, link_in, place_in}
 use Rattle.orc_heap.specs.declared.discipline.Discipline as discipline
 use Rattle.orc_heap.specs.declared.events.Act.{Act}
 use Rattle.orc_heap.specs.declared.events.Act.TheVariants.{Look, Miss}
-use Rattle.orc_heap.specs.declared.events.Event.{Event}
 use Rattle.orc_heap.specs.declared.events.Link.{Link}
 use Rattle.orc_heap.specs.declared.events.Place.{Place}
 use Rattle.orc_heap.specs.declared.holds.At.{At}
@@ -31,20 +29,19 @@ use Rattle.orc_machine_board.specs.Views.{Makes}
 use Rattle.orc_machine_board.specs.declared.machine.MachineShape.{MachineShape}
 use Rattle.orc_machine_board.specs.declared.machine.Request.{Request}
 use Rattle.orc_projection.proofs.Links.{link_back}
-use Rattle.orc_projection.specs.PresentIds.{PresentIds, node_link, node_place}
+use Rattle.orc_projection.specs.PresentIds.{node_link}
 use Rattle.orc_projection.specs.Projection.{StoresUnmarked, events_of, load_act, present_ids, project}
 use Rattle.orc_reclaiming_domain.proofs.Held.{hold_has, hold_low, hold_slot, link_named, place_may, place_named}
 use Rattle.orc_reclaiming_domain.proofs.Loading.{load_events, load_may}
 use Rattle.orc_reclaiming_domain.proofs.Seats.{before_keep, only, ready_calm, slot_holds, step_events}
 use Rattle.orc_reclaiming_domain.proofs.Stages.{Between, Stage, its_step, seat, whole_lawful}
 use Rattle.orc_reclaiming_domain.proofs.Untouched.{still_between}
-use Rattle.orc_reclaiming_domain.specs.Seats.{IsReady, slot_by}
+use Rattle.orc_reclaiming_domain.specs.Seats.{IsReady}
 use Rattle.orc_shared_words.specs.Lists.{Each}
 use Rattle.orc_sound.specs.Journals.{IsHeldOrNull}
 use Rattle.orc_sound.specs.declared.steps.Step.{Step}
 use Rattle.orc_words.specs.Bounds.{Bounds}
 use Rattle.orc_words.specs.Packed.{link_of, link_word}
-use Rattle.orc_words.specs.declared.packed.RowLink.{RowLink}
 
 module _ {D N : Type 0} {d : discipline.Ghosts D N} {k : MachineShape N} (s : Stage d k) where
   -- a link that a caller names is null, or to a row that the agent holds
@@ -66,14 +63,16 @@ module _ {D N : Type 0} {d : discipline.Ghosts D N} {k : MachineShape N} (s : St
 
   -- what the discipline allows by nodes is allowed by rows
   pub look_allowed : (at : At) (w : Want) (note : Option N) → HoldsPlace (bounds_in k).roots (seat s).slots at → HoldsWant (seat s).slots w
-      → AllowedLater (d.may (heap_numbers k)) (heap_numbers k) s.view.agent (seat s).seen (place_in (seat s).slots at) (link_in (seat s).slots w) (look_of (seat s) at w note)
+      → AllowedLater (d.may (heap_numbers k)) (heap_numbers k) s.view.agent (seat s).seen (place_in (seat s).slots at) (link_in (seat s).slots w)
+      (look_of (seat s) at w note)
       → LookAllowed (d.may (heap_numbers k)) (bounds_in k) s.view (word_at at) (row_link w) note
   look_allowed at w note there held allowed place is =
       let p = ids_of (bounds_in k) s.view in
       let one : Some (place_in (seat s).slots at) ≡ Some place = sym (place_named p (bounds_in k).roots s.view.record_is.slots at there) ∙ is in
       let same : place_in (seat s).slots at ≡ place = cc in
       let link = link_named p s.view.record_is.slots w held in
-      subst (λ (z : Place × Link). AllowedLater (d.may (heap_numbers k)) (heap_numbers k) s.view.agent (seat s).seen z.0 z.1 (event_by s.view.agent (Look z.0 z.1) note))
+      subst (λ (z : Place × Link). AllowedLater (d.may (heap_numbers k)) (heap_numbers k) s.view.agent (seat s).seen z.0 z.1
+      (event_by s.view.agent (Look z.0 z.1) note))
       (λ i. (same i, sym link i)) allowed
 
 module _ {D N : Type 0} {d : discipline.Ghosts D N} {k : MachineShape N} (s t : Stage d k) (at : At) (w : Want) (note : Option N) (n : ℕ)
@@ -95,7 +94,8 @@ module _ {D N : Type 0} {d : discipline.Ghosts D N} {k : MachineShape N} (s t : 
   can = load_may b s.view.agent s.view.record_is (word_at at) s.number (ready_calm s.view.record_is ready) (place_may s at there)
 
   events : step_events q note s t n m ≡ events_of (step_of s.view.agent q note) (Some (load_act (present_ids b j) n (Some (row_link w)) place))
-  events = load_events s t (word_at at) None (Some (row_link w)) note n m can (want_held s w held) place (place_named (ids_of b s.view) b.roots s.view.record_is.slots at there)
+  events = load_events s t (word_at at) None (Some (row_link w)) note n m can (want_held s w held) place
+      (place_named (ids_of b s.view) b.roots s.view.record_is.slots at there)
 
   -- the wanted link, as nodes, at the load
   wanted : node_link (present_ids b j) (row_link w) ≡ link_in (seat s).slots w
@@ -107,7 +107,8 @@ module _ {D N : Type 0} {d : discipline.Ghosts D N} {k : MachineShape N} (s t : 
 
   -- the event that the load put
   abbrev found_act : Bool → Act
-  found_act done = if done then Look place (node_link (present_ids b j) (link_of n)) else Miss place (node_link (present_ids b j) (row_link w)) (node_link (present_ids b j) (link_of n))
+  found_act done = if done then Look place (node_link (present_ids b j) (link_of n)) else Miss place (node_link (present_ids b j) (row_link w))
+      (node_link (present_ids b j) (link_of n))
 
   fits : Each (FitsAfter (heap_numbers k) (project b j)) (step_events q note s t n m)
   fits = event_fits b j (its_step q note s t n m) (in_range k.shape) (whole_lawful q note s t n m) (subst StoresUnmarked m.journal t.unmarked)

@@ -1,10 +1,10 @@
 -- The three steps by which a row is tried.
-use Rattle.std.proofs.Common.{Bool, List, None, Option, Some, [], ap, append_assoc, append-nil, arith, eq-eqb, false, inl, inr, length, refl, subst, sym, true, ℕ, ⊎_elim, ◌++◌, ◌<◌, ◌∙◌, ◌≡◌, ◌≢◌, ◌∷◌, ◌≤◌, ◌⊎◌}
-use Rattle.std.proofs.lemmas.Bool.{eqb-false, false≢true}
+use Rattle.std.proofs.Common.{Bool, List, None, Some, [], ap, append_assoc, append-nil, arith, eq-eqb, false, inl, inr, length, refl, subst, sym, true, ℕ, ⊎_elim, ◌++◌, ◌<◌, ◌∙◌, ◌≡◌, ◌≢◌, ◌∷◌, ◌≤◌, ◌⊎◌}
+use Rattle.std.proofs.lemmas.Bool.{false≢true}
 use Rattle.std.specs.Prelude.{cond, if◌then◌else◌, map, slice_get, ◌%◌, ◌*◌, ◌/◌, ◌==◌}
 use Rattle.orc_core.specs.Counts.{is_out}
 use Rattle.orc_core.specs.Machine.{Machine, new_machine, word_in}
-use Rattle.orc_core.specs.RecordParts.{any_holds, names, number_of}
+use Rattle.orc_core.specs.RecordParts.{number_of}
 use Rattle.orc_core.specs.declared.ops.CounterUse.TheVariants.{Check}
 use Rattle.orc_core.specs.declared.ops.Op.TheVariants.{CounterLoad, GateLook, GateTake}
 use Rattle.orc_core.specs.declared.records.Agent.{Agent}
@@ -15,7 +15,6 @@ use Rattle.orc_heap.specs.Journals.{event_by, run_heap}
 use Rattle.orc_heap.specs.OwnEvents.{Puts}
 use Rattle.orc_heap.specs.declared.discipline.Discipline as discipline
 use Rattle.orc_heap.specs.declared.events.Act.TheVariants.{Give}
-use Rattle.orc_heap.specs.declared.events.Event.{Event}
 use Rattle.orc_machine_board.specs.Kinds.{asks}
 use Rattle.orc_machine_board.specs.Laws.Steps.{in_range}
 use Rattle.orc_machine_board.specs.Licences.{ids_of}
@@ -23,12 +22,12 @@ use Rattle.orc_machine_board.specs.Rules.{bounds_in, heap_numbers, run_of, step_
 use Rattle.orc_machine_board.specs.declared.machine.MachineShape.{MachineShape}
 use Rattle.orc_projection.specs.Projection.{events_of, is_taken}
 use Rattle.orc_reclaiming_domain.proofs.Searching.{found_at, found_now, found_or_same, idle_trans, idles}
-use Rattle.orc_reclaiming_domain.proofs.Seats.{ids_keep, slots_keep, step_events}
+use Rattle.orc_reclaiming_domain.proofs.Seats.{slots_keep, step_events}
 use Rattle.orc_reclaiming_domain.proofs.Stages.{Stage, Steps, before_lawful, before_record, seat}
 use Rattle.orc_reclaiming_domain.proofs.Taking.{Takes, takes}
 use Rattle.orc_reclaiming_domain.specs.Calls.{SameParts}
-use Rattle.orc_reclaiming_domain.specs.Causes.{IsSpentFree, IsTaken}
-use Rattle.orc_reclaiming_domain.specs.Searches.{Fails, Found, Gets, Idles}
+use Rattle.orc_reclaiming_domain.specs.Causes.{IsTaken}
+use Rattle.orc_reclaiming_domain.specs.Searches.{Fails, Gets, Idles}
 use Rattle.orc_reclaiming_domain.specs.Seats.{slot_by}
 use Rattle.orc_sound.specs.Journals.{IsLawfulJournal}
 use Rattle.orc_sound.specs.declared.steps.Step.{Step}
@@ -48,7 +47,8 @@ taken_by_gate b m r n e h = cases (is_out m r) refl
     cases false o = ⊎_elim (λ x. absurd (false≢true (sym o ∙ (same ∙ x)))) (λ l. inr (record { free = o; spent = inl (subst (λ w. b.limit ≤ w / 2) e l) })) h
 
 -- a gate that isn't, with a sequence at the limit
-taken_by_count : (b : Bounds) (m : Machine) (r n c : ℕ) → word_in m (Gate r) ≡ n → (n % 2 == 1) ≡ false → c ≡ word_in m (Counter r) → b.limit ≤ sequence_of c → IsTaken b m r
+taken_by_count : (b : Bounds) (m : Machine) (r n c : ℕ) → word_in m (Gate r) ≡ n → (n % 2 == 1) ≡ false → c ≡ word_in m (Counter r) → b.limit ≤ sequence_of c
+    → IsTaken b m r
 taken_by_count b m r n c e free is high = inr (record { free = ap (λ w. w % 2 == 1) e ∙ free; spent = inr (subst (λ w. b.limit ≤ sequence_of w) is high) })
 
 looked_number : (n r : ℕ) → (n % 2 == 1) ≡ false → 2 * number_of (cond (n % 2 == 0) (Some (record { row = r; number = n / 2 })) None) ≡ n
@@ -62,7 +62,8 @@ was_none false n e ne = refl
 parts : (d e f : Agent) → f ≡ e → SameParts d e → SameParts d f
 parts d e f is p = subst (SameParts d) (sym is) p
 
-module _ {D N : Type 0} {d : discipline.Ghosts D N} {k : MachineShape N} (s t : Stage d k) (r n : ℕ) (below : r < (bounds_in k).rows) (m1 : Steps (GateLook r) s n t) where
+module _ {D N : Type 0} {d : discipline.Ghosts D N} {k : MachineShape N} (s t : Stage d k) (r n : ℕ) (below : r < (bounds_in k).rows)
+    (m1 : Steps (GateLook r) s n t) where
   abbrev b : Bounds
   b = bounds_in k
 
@@ -89,7 +90,8 @@ module _ {D N : Type 0} {d : discipline.Ghosts D N} {k : MachineShape N} (s t : 
     x2 = step_of t.view.agent (asks (CounterLoad r Check)) None
 
     count_idle : Idles b s.view u.view
-    count_idle = idle_trans b s.view t.view u.view look_idle (idles (asks (CounterLoad r Check)) t u c m2 refl (parts t.view.record_is _ u.view.record_is m2.record_is
+    count_idle = idle_trans b s.view t.view u.view look_idle (idles (asks (CounterLoad r Check)) t u c m2 refl
+        (parts t.view.record_is _ u.view.record_is m2.record_is
         (record { enrolled = refl; slots = refl; fresh = refl; due = refl; inc = refl; dec = refl; doom = refl })))
 
     -- where the counter is read
@@ -108,7 +110,8 @@ module _ {D N : Type 0} {d : discipline.Ghosts D N} {k : MachineShape N} (s t : 
       idle = count_idle;
       found = ⊎_elim
           (λ same. found_now b s.view.agent s.view.journal m1.met x1 m2.met x2 u.view.journal r refl after2
-          (taken_by_count b (run_of b (j1 ++ x1 ∷ m2.met)) r n c (same ∙ sym m1.answer) free (m2.answer ∙ ap (λ z. word_in (run_of b z) (Counter r)) before2) high))
+          (taken_by_count b (run_of b (j1 ++ x1 ∷ m2.met)) r n c (same ∙ sym m1.answer) free
+          (m2.answer ∙ ap (λ z. word_in (run_of b z) (Counter r)) before2) high))
           (λ f. f)
           (found_or_same b s.view.agent s.view.journal m1.met x1 m2.met x2 u.view.journal r (in_range k.shape) below refl after2 lawful2);
     }

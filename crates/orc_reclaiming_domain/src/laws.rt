@@ -2,28 +2,33 @@
 
 ghost use Rattle.std.specs.Prelude.{◌≡◌, ◌<◌, ◌≤◌, ◌++◌, ◌∷◌, ◌==◌, [], List, take, true, ℕ};
 ghost use Rattle.std.specs.List.{list_all};
+ghost use mathlib.Core.List.{IsPrefix};
 ghost use Rattle.orc_fault.specs.declared.Spent.{Spent};
 ghost use Rattle.orc_heap.specs.Acts.{IsKnown};
 ghost use Rattle.orc_heap.specs.Allowed.{AllAllowed};
 ghost use Rattle.orc_heap.specs.Journals.{run_heap};
 ghost use Rattle.orc_heap.specs.Moves.{gives_in};
+ghost use Rattle.orc_heap.specs.OwnEvents.{IsBelow};
 ghost use Rattle.orc_heap.specs.Slots.{Hold, Holds, id_in};
 ghost use Rattle.orc_heap.specs.declared.events.Event.{Event};
 ghost use Rattle.orc_projection.specs.Projection.{project};
 ghost use Rattle.orc_sound.specs.declared.steps.Step.{Step};
 ghost use Rattle.orc_words.specs.Bounds.{Bounds};
 ghost use Rattle.orc_reclaiming_domain.specs.Causes.{IsLacking, IsWornIn};
-ghost use Rattle.orc_reclaiming_domain.specs.Passes.{IsFreshUntouched, IsPassOf, domain_bounds, domain_numbers, seat_of};
+ghost use Rattle.orc_reclaiming_domain.specs.Passes.{IsFreshUntouched, IsPassOf, domain_bounds, domain_numbers, domain_opening, seat_of};
 
 use crate::domain::{OrcDomain, OrcPass};
 use orc_heap::Discipline;
 
 impl<D: Discipline> OrcDomain<D> {
-    /// What a pass has seen is allowed event by event, so that the discipline holds of it. What the pass holds is known
-    /// to its agent, and its fresh node was given to it, with no link to it made since.
+    /// What a pass has seen begins with the opening, is of the domain's agents, and is allowed event by event, so that
+    /// the discipline holds of it. What the pass holds is known to its agent, and its fresh node was given to it, with no
+    /// link to it made since.
     pub fn what_a_pass_shows(&self, p: &OrcPass<D>)
         requires pass { IsPassOf self.now p.now }
+        ensures opens { IsPrefix (domain_opening self.now) (seat_of self.now p.now).seen }
         ensures agent { (seat_of self.now p.now).agent < (domain_bounds self.now).agents }
+        ensures agents_below { IsBelow (domain_bounds self.now).agents (seat_of self.now p.now).seen }
         ensures begins { D.holds (domain_numbers self.now) [] }
         ensures allowed { AllAllowed (D.may (domain_numbers self.now)) [] (seat_of self.now p.now).seen }
         ensures obeys { D.holds (domain_numbers self.now) (seat_of self.now p.now).seen }

@@ -17,7 +17,8 @@ returns-clause-filled g c =
     let k = c.args.self.now.board.words.shape in
     let s = stage g.D.Discipline k _ _ c.requires.pass.board.keeps in
     let t = stage g.D.Discipline k _ _ c.fill.ensures.belongs.keeps in
-    let m = subst (λ r. MakesPlain (domain_bounds c.args.self.now) (Fill r c.args.which c.args.value) s.view c.fill.result t.view) c.row.ensures c.fill.ensures.made in
+    let m = subst (λ r. MakesPlain (domain_bounds c.args.self.now) (Fill r c.args.which c.args.value) s.view c.fill.result t.view) c.row.ensures
+    c.fill.ensures.made in
     fills s c.args.fresh.now c.requires.fresh c.args.which c.requires.which c.args.value t c.fill.result m
 
 pub returns-clause-later : goal.returns-clause-later
@@ -33,7 +34,8 @@ returns-clause-pass g c =
     let is = c.requires.pass in
     let s = stage g.D.Discipline k _ _ is.board.keeps in
     let t = stage g.D.Discipline k _ _ c.fill.ensures.belongs.keeps in
-    let m = subst (λ r. MakesPlain (domain_bounds c.args.self.now) (Fill r c.args.which c.args.value) s.view c.fill.result t.view) c.row.ensures c.fill.ensures.made in
+    let m = subst (λ r. MakesPlain (domain_bounds c.args.self.now) (Fill r c.args.which c.args.value) s.view c.fill.result t.view) c.row.ensures
+    c.fill.ensures.made in
     let next = fills_between s c.args.fresh.now c.requires.fresh c.args.which c.requires.which c.args.value t c.fill.result m
     (record { ready = is.ready; untouched = is.untouched }) in
     record { board = c.fill.ensures.belongs; ready = next.ready; untouched = next.untouched; inside = is.inside }

@@ -1,4 +1,4 @@
-use Rattle.std.proofs.Common.{None, Some, ap, arith, refl, subst, ◌∙◌, ◌%◌, ◌+◌, ◌<◌, ◌≡◌}
+use Rattle.std.proofs.Common.{ap, arith, refl, subst, ◌∙◌, ◌%◌, ◌+◌, ◌<◌, ◌≡◌}
 use Rattle.std.proofs.Math.Nat.{mod-lt}
 use Rattle.orc_reclaiming_domain.proofs.Giving.{first_can, gives, gives_between, gives_later, publish_can, second_can}
 use Rattle.orc_reclaiming_domain.proofs.Stages.{Between, stage}
@@ -73,7 +73,13 @@ returns-clause-pass g c =
     let low : (c.in-Some.row + 1) % c.rows.result < c.rows.result = mod-lt (c.in-Some.row + 1) some in
     let next = gives_between s t c.in-Some.row got.1 got.0 start u c.args.first c.fill.result c.fill.ensures.made
     v c.args.second c.fill-2.result c.fill-2.ensures.made c.args.slot c.requires.slot w c.publish.result c.publish.ensures.made in
-    record { board = c.publish.ensures.belongs; ready = next.ready; untouched = next.untouched; inside = subst (λ z. (c.in-Some.row + 1) % c.rows.result < z) rows low }
+    record {
+      board = c.publish.ensures.belongs;
+      ready = next.ready;
+      untouched = next.untouched;
+      inside = subst
+          (λ z. (c.in-Some.row + 1) % c.rows.result < z) rows low;
+    }
 
 pub returns-clause-later : goal.returns-clause-later
 returns-clause-later g c =

@@ -1,27 +1,28 @@
-use Rattle.std.proofs.Common.{ap, sym, ◌∙◌, ◌≡◌}
-use Rattle.orc_heap.specs.Seeds.{opening_events}
+use Rattle.std.proofs.Common.{◌≡◌}
 use Rattle.orc_machine_board.specs.Views.{shows}
-use Rattle.orc_projection.specs.Projection.{project}
-use Rattle.orc_reclaiming_domain.proofs.Making.{all_belong, all_idle, each_at, each_pass, opening_seen}
-use Rattle.orc_reclaiming_domain.specs.Passes.{domain_bounds}
+use Rattle.orc_reclaiming_domain.proofs.Making.{all_belong, all_idle, each_at, opening_seen}
 use Rattle.orc_reclaiming_domain.proofs.domain.OrcDomain.make.Goals as goal
 
 pub returns-clause-belongs : goal.returns-clause-belongs
 returns-clause-belongs g c =
-    all_belong (record { board = c.in_ok-board.board }) c.in_ok-passes.passes.items c.in_ok-board.passes.items c.in_ok-passes.ensures.long c.in_ok-passes.ensures.same
+    all_belong (record { board = c.in_ok-board.board }) c.in_ok-passes.passes.items c.in_ok-board.passes.items c.in_ok-passes.ensures.long
+    c.in_ok-passes.ensures.same
     _ c.in_ok-board.ensures.bounds c.in_ok-board.ensures.belongs c.in_ok-board.ensures.idle c.in_ok-passes.ensures.next
 
 pub returns-clause-agents : goal.returns-clause-agents
 returns-clause-agents g c =
-    each_at (record { board = c.in_ok-board.board }) c.in_ok-passes.passes.items c.in_ok-board.passes.items c.in_ok-passes.ensures.long c.in_ok-passes.ensures.same
+    each_at (record { board = c.in_ok-board.board }) c.in_ok-passes.passes.items c.in_ok-board.passes.items c.in_ok-passes.ensures.long
+    c.in_ok-passes.ensures.same
     (λ i q. (shows q).agent ≡ i) c.in_ok-board.ensures.agents
 
 pub returns-clause-idle : goal.returns-clause-idle
 returns-clause-idle g c =
-    all_idle (record { board = c.in_ok-board.board }) c.in_ok-passes.passes.items c.in_ok-board.passes.items c.in_ok-passes.ensures.long c.in_ok-passes.ensures.same
+    all_idle (record { board = c.in_ok-board.board }) c.in_ok-passes.passes.items c.in_ok-board.passes.items c.in_ok-passes.ensures.long
+    c.in_ok-passes.ensures.same
     c.in_ok-board.ensures.idle
 
 pub returns-clause-seen : goal.returns-clause-seen
 returns-clause-seen g c =
-    opening_seen g.D.Discipline (record { board = c.in_ok-board.board }) c.in_ok-passes.passes.items c.in_ok-board.passes.items c.in_ok-passes.ensures.long c.in_ok-passes.ensures.same
+    opening_seen g.D.Discipline (record { board = c.in_ok-board.board }) c.in_ok-passes.passes.items c.in_ok-board.passes.items c.in_ok-passes.ensures.long
+    c.in_ok-passes.ensures.same
     c.args.shape.now c.args.seed c.in_ok-board.ensures.bounds c.requires.holds c.requires.seed c.in_ok-board.ensures.journal

@@ -1,6 +1,6 @@
-use Rattle.std.proofs.Common.{None, Some, ap, arith, refl, subst, sym, ◌∙◌, ◌≡◌}
+use Rattle.std.proofs.Common.{None, Some, ap, subst, sym, ◌∙◌, ◌≡◌}
 use Rattle.orc_core.specs.declared.ops.Op.TheVariants.{LinkLoad}
-use Rattle.orc_domain.specs.Rows.{row_link, word_at}
+use Rattle.orc_domain.specs.Rows.{word_at}
 use Rattle.orc_machine_board.specs.Kinds.{MayDo, wants}
 use Rattle.orc_machine_board.specs.Licences.{LookAllowed}
 use Rattle.orc_machine_board.specs.Rules.{heap_numbers}
@@ -23,7 +23,8 @@ link_load-found-requires-clause-allowed g c =
     let is = c.requires.pass in
     let s = stage g.D.Discipline k _ _ is.board.keeps in
     subst (λ w. MayDo (domain_bounds c.args.self.now) (shows c.args.p.now.pass) (LinkLoad w None)) (sym c.word_at.ensures)
-    (load_may (domain_bounds c.args.self.now) s.view.agent s.view.record_is (word_at c.args.place.now) s.number (ready_calm s.view.record_is is.ready) (place_may s c.args.place.now c.requires.place))
+    (load_may (domain_bounds c.args.self.now) s.view.agent s.view.record_is (word_at c.args.place.now) s.number (ready_calm s.view.record_is is.ready)
+    (place_may s c.args.place.now c.requires.place))
 
 pub link_load-found-requires-clause-wanted : goal.link_load-found-requires-clause-wanted
 link_load-found-requires-clause-wanted g c =
@@ -50,7 +51,8 @@ returns-clause-tested g c =
     let e = c.link_load-found.ensures in
     let s = stage g.D.Discipline k _ _ c.requires.pass.board.keeps in
     let t = stage g.D.Discipline k _ _ e.belongs.keeps in
-    let m = subst (λ (z : Word × RowLink). Makes (domain_bounds c.args.self.now) (wants (LinkLoad z.0 None) (Some z.1)) c.args.note s.view c.link_load-found.result t.view)
+    let m = subst (λ (z : Word × RowLink). Makes (domain_bounds c.args.self.now)
+    (wants (LinkLoad z.0 None) (Some z.1)) c.args.note s.view c.link_load-found.result t.view)
     (λ i. (c.word_at.ensures i, c.row_link-want.ensures i)) e.makes in
     tests s t c.args.place.now c.args.link.now c.args.note c.link_load-found.result m c.requires.place c.requires.link c.requires.pass.ready
     c.pack_link.result (c.pack_link.ensures.word ∙ ap link_word c.row_link-want.ensures)
@@ -70,7 +72,8 @@ returns-clause-pass g c =
     let is = c.requires.pass in
     let s = stage g.D.Discipline k _ _ is.board.keeps in
     let t = stage g.D.Discipline k _ _ e.belongs.keeps in
-    let m = subst (λ (z : Word × RowLink). Makes (domain_bounds c.args.self.now) (wants (LinkLoad z.0 None) (Some z.1)) c.args.note s.view c.link_load-found.result t.view)
+    let m = subst (λ (z : Word × RowLink). Makes (domain_bounds c.args.self.now)
+    (wants (LinkLoad z.0 None) (Some z.1)) c.args.note s.view c.link_load-found.result t.view)
     (λ i. (c.word_at.ensures i, c.row_link-want.ensures i)) e.makes in
     let next = tests_between s t c.args.place.now c.args.link.now c.args.note c.link_load-found.result m c.requires.place c.requires.link is.ready
     (record { ready = is.ready; untouched = is.untouched }) in

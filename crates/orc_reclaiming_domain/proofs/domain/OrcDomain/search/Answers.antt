@@ -1,4 +1,4 @@
-use Rattle.std.proofs.Common.{None, ap, arith, refl, subst, ◌∙◌, ◌%◌, ◌+◌, ◌<◌, ◌≡◌}
+use Rattle.std.proofs.Common.{ap, arith, refl, subst, ◌∙◌, ◌%◌, ◌+◌, ◌<◌, ◌≡◌}
 use Rattle.std.proofs.Math.Nat.{mod-lt}
 use Rattle.orc_machine_board.specs.Views.{shows}
 use Rattle.orc_reclaiming_domain.proofs.Rounds.{tries_all, tries_gets, tries_none, tries_one}
@@ -9,8 +9,12 @@ use Rattle.orc_words.specs.Bounds.{Bounds}
 use Rattle.orc_reclaiming_domain.proofs.domain.OrcDomain.search.Goals as goal
 
 pub loop-offset-init : goal.loop-offset-init
-loop-offset-init g c =
-    (c.requires.belongs, c.rows-rows.ensures ∙ ap (λ (b : Bounds). b.rows) c.shape.ensures, tries_none (domain_bounds c.args.self.now) c.args.begin c.rows-rows.result (shows c.args.p.now))
+loop-offset-init g c = (
+  c.requires.belongs,
+  c.rows-rows.ensures ∙ ap (λ (b : Bounds). b.rows) c.shape.ensures,
+  tries_none
+      (domain_bounds c.args.self.now) c.args.begin c.rows-rows.result (shows c.args.p.now),
+)
 
 pub returns-then-try_take-clause-found : goal.returns-then-try_take-clause-found
 returns-then-try_take-clause-found g c x e =

@@ -1,4 +1,4 @@
-use Rattle.std.proofs.Common.{arith, eqb-true, inl, inr, ◌+◌, ◌/◌, ◌≡◌, ◌≢◌, ◌≤◌, ◌%◌}
+use Rattle.std.proofs.Common.{arith, eqb-true, inl, inr, ◌/◌, ◌≤◌, ◌%◌}
 use Rattle.std.proofs.lemmas.Bool.{eq-eqb, eqb-false, ne_eqb}
 use Rattle.orc_reclaiming_domain.proofs.Stages.{stage}
 use Rattle.orc_reclaiming_domain.proofs.Trying.{count_fails, look_fails, take_fails, take_gets}
@@ -54,7 +54,8 @@ returns-clause-lost g c f =
     let free = ne_eqb (one.result % 2) 1 c.if-gate-eq1.false in
     let three = c.gate_take-taken in
     let w = stage d k _ _ three.ensures.belongs.keeps in
-    take_fails s t c.args.row one.result c.requires.row one.ensures.made u two.result free two.ensures.made w three.result three.ensures.made (eqb-false three.result 1 f)
+    take_fails s t c.args.row one.result c.requires.row one.ensures.made u two.result free two.ensures.made w three.result three.ensures.made
+    (eqb-false three.result 1 f)
 
 pub returns-clause-took : goal.returns-clause-took
 returns-clause-took g c f =
@@ -68,4 +69,5 @@ returns-clause-took g c f =
     let free = ne_eqb (one.result % 2) 1 c.if-gate-eq1.false in
     let three = c.gate_take-taken in
     let w = stage d k _ _ three.ensures.belongs.keeps in
-    take_gets s t c.args.row one.result c.requires.row one.ensures.made u two.result free two.ensures.made w three.result three.ensures.made (eqb-true three.result 1 f)
+    take_gets s t c.args.row one.result c.requires.row one.ensures.made u two.result free two.ensures.made w three.result three.ensures.made
+    (eqb-true three.result 1 f)

@@ -20,7 +20,8 @@ returns-clause-value g c =
     let e = c.read.ensures in
     let s = stage g.D.Discipline k _ _ c.requires.pass.board.keeps in
     let t = stage g.D.Discipline k _ _ e.belongs.keeps in
-    let m = subst (λ r. MakesPlain (domain_bounds c.args.self.now) (Read r c.args.which) (shows c.args.p.now.pass) c.read.result (shows c.read.new.p)) c.row.ensures e.made in
+    let m = subst (λ r. MakesPlain (domain_bounds c.args.self.now) (Read r c.args.which) (shows c.args.p.now.pass) c.read.result (shows c.read.new.p))
+    c.row.ensures e.made in
     reads_value s c.args.h.now c.requires.held c.args.which c.requires.which t c.read.result m
 
 pub returns-clause-nothing : goal.returns-clause-nothing
@@ -29,7 +30,8 @@ returns-clause-nothing g c =
     let e = c.read.ensures in
     let s = stage g.D.Discipline k _ _ c.requires.pass.board.keeps in
     let t = stage g.D.Discipline k _ _ e.belongs.keeps in
-    let m = subst (λ r. MakesPlain (domain_bounds c.args.self.now) (Read r c.args.which) (shows c.args.p.now.pass) c.read.result (shows c.read.new.p)) c.row.ensures e.made in
+    let m = subst (λ r. MakesPlain (domain_bounds c.args.self.now) (Read r c.args.which) (shows c.args.p.now.pass) c.read.result (shows c.read.new.p))
+    c.row.ensures e.made in
     read_only s c.args.h.now c.requires.held c.args.which c.requires.which t c.read.result m
 
 pub returns-clause-later : goal.returns-clause-later
@@ -47,6 +49,8 @@ returns-clause-pass g c =
     let is = c.requires.pass in
     let s = stage g.D.Discipline k _ _ is.board.keeps in
     let t = stage g.D.Discipline k _ _ e.belongs.keeps in
-    let m = subst (λ r. MakesPlain (domain_bounds c.args.self.now) (Read r c.args.which) (shows c.args.p.now.pass) c.read.result (shows c.read.new.p)) c.row.ensures e.made in
-    let next = read_between s c.args.h.now c.requires.held c.args.which c.requires.which t c.read.result m (record { ready = is.ready; untouched = is.untouched }) in
+    let m = subst (λ r. MakesPlain (domain_bounds c.args.self.now) (Read r c.args.which) (shows c.args.p.now.pass) c.read.result (shows c.read.new.p))
+    c.row.ensures e.made in
+    let next = read_between s c.args.h.now c.requires.held c.args.which c.requires.which t c.read.result m
+    (record { ready = is.ready; untouched = is.untouched }) in
     record { board = e.belongs; ready = next.ready; untouched = next.untouched; inside = is.inside }

@@ -1,6 +1,20 @@
+use Rattle.orc_machine_board.specs.Laws.Steps.{in_range}
+use Rattle.orc_machine_board.specs.Rules.{bounds_in}
 use Rattle.orc_reclaiming_domain.proofs.Held.{held_known}
+use Rattle.orc_reclaiming_domain.proofs.Opened.{all_below, opens_so}
 use Rattle.orc_reclaiming_domain.proofs.Stages.{stage}
 use Rattle.orc_reclaiming_domain.proofs.domain.OrcDomain.what_a_pass_shows.Goals as goal
+
+pub returns-clause-opens : goal.returns-clause-opens
+returns-clause-opens g c =
+    let k = c.args.self.now.board.words.shape in
+    let now = c.requires.pass.board.keeps.now in
+    opens_so (bounds_in k) k.seed c.args.p.now.pass.pass.seat.me.0.seen (in_range k.shape) now.lawful.0 now.opened
+
+pub returns-clause-agents_below : goal.returns-clause-agents_below
+returns-clause-agents_below g c =
+    let k = c.args.self.now.board.words.shape in
+    all_below (bounds_in k) c.args.p.now.pass.pass.seat.me.0.seen c.requires.pass.board.keeps.now.below
 
 pub returns-clause-agent : goal.returns-clause-agent
 returns-clause-agent g c = c.requires.pass.board.keeps.number

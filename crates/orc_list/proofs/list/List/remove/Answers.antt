@@ -1,0 +1,59 @@
+-- What the call did, and the settling after it.
+use Rattle.std.proofs.Common.{Bool, [], append-nil, refl, subst, sym, ℕ}
+use Rattle.orc_heap.proofs.Pieces.{goes_on}
+use Rattle.orc_heap.proofs.Steps.{alone_later}
+use Rattle.orc_history.specs.Parts.{IsAlone}
+use Rattle.orc_history.specs.declared.set.SetEntry.{SetEntry}
+use Rattle.orc_history.specs.declared.set.SetEntry.TheVariants.{Removed}
+use Rattle.orc_list.proofs.Causes.{did_enter, did_few, did_give, did_not_enter, did_nothing, if_err, own_call, part_alone, turns_used}
+use Rattle.orc_list.proofs.Settling.{idle_settled, off_settled, remove_did, remove_keeps}
+use Rattle.orc_heap.specs.Seats.{heap_of}
+use Rattle.orc_list.specs.Turns.{LeavesOff}
+use Rattle.orc_list.proofs.Marking.{worn_wider}
+use Rattle.orc_list.proofs.list.List.remove.Goals as goal
+
+pub returns : goal.returns
+returns g c =
+    let d = c.args.self.now.links in
+    let n = g.L.Links.numbers d in
+    let s = g.L.Links.seat d c.args.p.now in
+    let t = g.L.Links.seat d c.remove_turns-answer.new.p in
+    let u = g.L.Links.seat d c.settle.new.p in
+    let r = c.remove_turns-answer.result in
+    let turns = c.args.turns in
+    let done = c.remove_turns-answer.ensures in
+    let settle = c.settle.ensures in
+    let entry : Bool → SetEntry = λ answer. Removed s.agent c.args.key answer in
+    let did = remove_did s t u settle.nothing n c.args.key _ turns r done.removed in
+    let keeps = remove_keeps n c.args.key _ turns s t r done.removed c.requires.idle in
+    let j = g.L.Links.journal c.args.p.now in
+    let k = g.L.Links.journal c.remove_turns-answer.new.p in
+    let m = g.L.Links.journal c.settle.new.p in
+    let grows = goes_on j k m done.later settle.later in
+    let is_s = g.met.L.Links.seen_is d c.args.p.now c.requires.pass in
+    let is_u = g.met.L.Links.seen_is d c.settle.new.p settle.pass in
+    let all = g.met.L.Links.allowed d c.settle.new.p settle.pass in
+    let below = (g.met.L.Links.agents_below d c.settle.new.p settle.pass).1 in
+    let agents = g.L.Links.agents d in
+    let by = g.L.Links.agent_of in
+    let events = g.L.Links.events d in
+    let adds = g.met.L.Links.steps_add d in
+    record {
+      pass = settle.pass;
+      idle = idle_settled t u keeps.0 settle.nothing;
+      agent = did.made.puts.agent;
+      later = grows;
+      removed = did_enter n agents by events adds s u j m grows is_s is_u all below 0 turns entry r did;
+      none = did_not_enter n agents by events adds s u j m grows is_s is_u all below 0 turns entry r did;
+      no_turns = λ zero. (did.no_turns zero).0;
+      no_event = did_nothing 0 turns entry s u r did;
+      again = if_err r _ (turns_used n agents by events adds s u j m grows is_s is_u all below 0 turns entry r did);
+      gives = did_give 0 turns entry s u r did;
+      tries = did_few 0 turns entry s u r did;
+      off_the_chain = λ is alone none. subst (λ z. LeavesOff c.args.key z (heap_of n u)) (sym (own_call 0 turns entry s u r did))
+          (off_settled s t u settle.nothing n c.args.key _ turns r done.removed is
+          (λ w. none (worn_wider (g.L.Links.worn d) s.agent s.agent j j k m (λ why xs more from to h. g.met.L.Links.worn_stays d s.agent why xs more from
+          to h) refl ([], append-nil j) settle.later w))
+          (part_alone n agents by events adds s u j m grows is_s is_u all below did.own did.made.puts alone));
+      settled = λ alone. settle.settled (subst (λ (x : ℕ). IsAlone by x k m) (sym keeps.1) (alone_later by s.agent j k m done.later settle.later alone));
+    }

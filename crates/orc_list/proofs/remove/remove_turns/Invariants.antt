@@ -1,0 +1,11 @@
+use mathlib.Core.List.{IsPrefix}
+use Rattle.orc_list.specs.Turns.{Tires}
+use Rattle.orc_list.proofs.remove.remove_turns.Given as goal
+
+-- so many turns are over
+abbrev pub invariant-loop : goal.invariant-loop
+invariant-loop g l = record {
+  pass : g.L.Links.belongs l.links l.p;
+  later : IsPrefix (g.L.Links.journal l.initial.p) (g.L.Links.journal l.p);
+  tires : Tires l.counter (g.L.Links.seat l.links l.initial.p) (g.L.Links.seat l.links l.p);
+}

@@ -1,0 +1,2 @@
+-- Proofs of the laws that sets over chains owe to their traits.
+pub mod SetLaws

@@ -1,0 +1,140 @@
+-- What the turns of a call do. After Harris 2001.
+use Rattle.std.specs.List.{Contains}
+use Rattle.std.specs.Prelude.{Bool, List, MatchBool, None, Option, Some, [], false, length, true, ℕ, ◌*◌, ◌++◌, ◌+◌, ◌∷◌, ◌≡◌, ◌≤◌, ◌⊎◌}
+use Rattle.orc_heap.specs.Calls.{Misses, event_of}
+use Rattle.orc_heap.specs.Heap.{Heap, HeapNumbers, link_to}
+use Rattle.orc_heap.specs.Moves.{AllOwn, from_own, gives_in, moves_in}
+use Rattle.orc_heap.specs.OwnEvents.{Puts}
+use Rattle.orc_heap.specs.Seats.{Seat, heap_of}
+use Rattle.orc_heap.specs.Slots.{Hold, Slots, id_in}
+use Rattle.orc_heap.specs.declared.events.Act.TheVariants.{Move}
+use Rattle.orc_heap.specs.declared.events.Event.{Event}
+use Rattle.orc_heap.specs.declared.events.Link.{Link}
+use Rattle.orc_heap.specs.declared.events.Place.{Place}
+use Rattle.orc_heap.specs.declared.events.Place.TheVariants.{Next, Root}
+use Rattle.orc_history.specs.declared.set.SetEntry.{SetEntry}
+use Rattle.orc_history.specs.declared.set.SetEntry.TheVariants.{Added, Asked, Removed}
+use Rattle.orc_chain_rule.specs.declared.chain.ChainNote.{ChainNote}
+use Rattle.orc_chain_rule.specs.declared.chain.ChainNote.TheVariants.{Entry, Unlink}
+use Rattle.orc_chain_rule.specs.ChainDiscipline.{IsOnNoChain, entries_of, link_over}
+use Rattle.orc_list.specs.Searches.{AreLoads, CoversLooks, Sees, SeesRun}
+
+-- the left place, by what the pass holds
+abbrev pub place_at : Slots → ℕ → Option Hold → Place
+place_at slots root None = Root root
+place_at slots root (Some h) = Next (id_in slots h)
+
+-- the target, by what the pass holds
+abbrev pub target_at : Slots → Option Hold → Option ℕ
+target_at slots None = None
+target_at slots (Some h) = Some (id_in slots h)
+
+-- the first of the marked nodes, or else the right node
+abbrev pub first_or : Option Hold → Option Hold → Option Hold
+first_or None right = right
+first_or (Some h) right = Some h
+
+-- of the events there are at most so many in each turn: two for each node at whose link one of them looked, and four; and so many
+-- more in all
+abbrev pub AreFew : ℕ → ℕ → List (Event ChainNote) → Type 0
+AreFew turns more es = (ids : List ℕ) → CoversLooks ids es → length es ≤ turns * (2 * length ids + 4) + more
+
+-- what the pass did in so many turns: its own events enter these entries, give so many nodes, and are few
+pub record Made (given turns : ℕ) (s : Seat ChainNote) (own : List (Event ChainNote)) (entries : List SetEntry) (t : Seat ChainNote) : Type 0 where
+  pub puts : Puts s own t
+  pub entries_are : entries_of own ≡ entries
+  pub gives : gives_in own ≡ given
+  pub few : AreFew turns (3 * given) own
+
+-- so many turns that are over: the pass moved nothing, and as many Moves of others stand after its first event
+pub record AreOver (given turns : ℕ) (s : Seat ChainNote) (own : List (Event ChainNote)) (t : Seat ChainNote) : Type 0 where
+  pub made : Made given turns s own [] t
+  pub no_move : moves_in own ≡ 0
+  pub moved : turns ≤ moves_in (from_own s.agent made.puts.part)
+
+-- the same, by loads alone, and the pass holds what it held
+pub record Tires (turns : ℕ) (s t : Seat ChainNote) : Type 0 where
+  pub own : List (Event ChainNote)
+  pub over : AreOver 0 turns s own t
+  pub loads : AreLoads own
+  pub slots : t.slots ≡ s.slots
+  pub fresh : t.fresh ≡ s.fresh
+
+-- turns of which the last answered with this entry, and the pass holds what it held
+pub record Answers (turns : ℕ) (s : Seat ChainNote) (entry : SetEntry) (t : Seat ChainNote) : Type 0 where
+  pub own : List (Event ChainNote)
+  pub made : Made 0 turns s own (entry ∷ []) t
+  pub slots : t.slots ≡ s.slots
+  pub fresh : t.fresh ≡ s.fresh
+
+-- the entry was entered, or a link moved meanwhile
+abbrev pub Enters : SetEntry → Seat ChainNote → Bool → Seat ChainNote → Type 0
+Enters entry s true t = Answers 1 s entry t
+Enters entry s false t = Tires 1 s t
+
+-- an answer of this agent that the key is absent
+abbrev pub IsAbsence : ℕ → ℕ → SetEntry → Type 0
+IsAbsence agent key entry = (entry ≡ Removed agent key false) ⊎ (entry ≡ Asked agent key false)
+
+-- and one that it is present
+abbrev pub IsPresence : ℕ → ℕ → SetEntry → Type 0
+IsPresence agent key entry = (entry ≡ Added agent key false) ⊎ (entry ≡ Asked agent key true)
+
+-- a turn of a question
+abbrev pub AsksTurn : ℕ → Seat ChainNote → Option Bool → Seat ChainNote → Type 0
+AsksTurn key s None t = Tires 1 s t
+AsksTurn key s (Some answer) t = Answers 1 s (Asked s.agent key answer) t
+
+-- the node's link to this target was marked, and the key is taken out; or the link was another
+pub record Marks (key id : ℕ) (to : Option ℕ) (s : Seat ChainNote) (done : Bool) (t : Seat ChainNote) : Type 0 where
+  pub slots : t.slots ≡ s.slots
+  pub fresh : t.fresh ≡ s.fresh
+  pub puts : MatchBool done (Puts s (event_of s (Move (Next id) (link_over to) (record { to = to; mark = true }))
+      (Some (Entry (Removed s.agent key true))) ∷ []) t) (Misses (Next id) (link_over to) s t)
+
+-- the place was led past the run, or showed another link, or something was worn
+pub record TriesUnlink (place : Place) (first : ℕ) (to : Option ℕ) (IsWorn : Type 0) (s t : Seat ChainNote) : Type 0 where
+  pub slots : t.slots ≡ s.slots
+  pub fresh : t.fresh ≡ s.fresh
+  pub either : (Puts s (event_of s (Move place (link_to first) (link_over to))
+      (Some Unlink) ∷ []) t ⊎ Misses place (link_to first) s t) ⊎ (IsWorn × Puts s [] t)
+
+-- one of these events takes the key out at this node: it marks the node's link
+abbrev pub TakesKey : List (Event ChainNote) → ℕ → ℕ → Type 0
+TakesKey [] key id = ⊥
+TakesKey (e ∷ es) key id = ((from : Link) × (to : Link) × (e.act ≡ Move (Next id) from to) × (e.note ≡ Some (Entry (Removed e.agent key true)))) ⊎ TakesKey
+    es key id
+
+-- these events took the key out at a node, to which Looks among them found an unmarked link lead over a run of marked nodes; and
+-- neither the node nor one of the run is on a chain
+pub record LeavesOff (key : ℕ) (es : List (Event ChainNote)) (h : Heap) : Type 0 where
+  pub id : ℕ
+  pub takes : TakesKey es key id
+  pub place : Place
+  pub from : Link
+  pub plain : from.mark ≡ false
+  pub sees : Sees es place from
+  pub over : List ℕ
+  pub sees_run : SeesRun es from over (Some id)
+  pub off : (x : ℕ) → Contains (over ++ id ∷ []) x → IsOnNoChain h x
+
+-- the key was taken out; and if no other agent stepped, and nothing was worn, then its node and the run before it are off the chain
+pub record TakesOut (n : HeapNumbers) (key : ℕ) (IsWorn : Type 0) (turns : ℕ) (s t : Seat ChainNote) : Type 0 where
+  pub answers : Answers turns s (Removed s.agent key true) t
+  pub off : AllOwn s.agent (from_own s.agent answers.made.puts.part) → (IsWorn → ⊥) → LeavesOff key answers.own (heap_of n t)
+
+-- the same at the node that a search found, or its link was another
+abbrev pub RemovesNode : HeapNumbers → ℕ → Type 0 → Seat ChainNote → Bool → Seat ChainNote → Type 0
+RemovesNode n key IsWorn s false t = Tires 1 s t
+RemovesNode n key IsWorn s true t = TakesOut n key IsWorn 1 s t
+
+-- a turn of a remove
+abbrev pub RemovesTurn : HeapNumbers → ℕ → Type 0 → ℕ → Seat ChainNote → Option Bool → Seat ChainNote → Type 0
+RemovesTurn n key IsWorn turns s None t = Tires turns s t
+RemovesTurn n key IsWorn turns s (Some false) t = Answers turns s (Removed s.agent key false) t
+RemovesTurn n key IsWorn turns s (Some true) t = TakesOut n key IsWorn turns s t
+
+-- the pass holds what it held
+pub record HoldsWhatItHeld (s t : Seat ChainNote) : Type 0 where
+  pub slots : t.slots ≡ s.slots
+  pub fresh : t.fresh ≡ s.fresh
