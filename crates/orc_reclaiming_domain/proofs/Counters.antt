@@ -1,13 +1,11 @@
 -- A counter word that has changed was that of a row that was out.
-use Rattle.std.proofs.Common.{Bool, Option, Some, None, ap, arith, eqb-true, false, inl, inr, ne_eqb, refl, subst, sym, true, ℕ, ⊎_elim, ◌∙◌, ◌≡◌, ◌≢◌, ◌⊎◌}
-use Rattle.std.proofs.lemmas.Bool.{eq-eqb, false≢true}
-use Rattle.std.specs.Prelude.{cond, nat_lt, not, ◌%◌, ◌&&◌, ◌==◌, ◌||◌}
+use Rattle.std.proofs.Common.{Bool, Option, Some, None, ap, false, inl, inr, ne_eqb, refl, subst, sym, true, ℕ, ⊎_elim, ◌≡◌, ◌⊎◌}
+use Rattle.std.proofs.lemmas.Bool.{false≢true}
+use Rattle.std.specs.Prelude.{cond, nat_lt, not, ◌&&◌, ◌==◌, ◌||◌}
 use native.Mathlib.Decide.{ℕ_discrete}
 use mathlib.Core.Logic.{dite}
 use Rattle.orc_core.proofs.Within.{and_both}
-use Rattle.orc_core.specs.Actions.{action_of}
 use Rattle.orc_core.specs.RecordParts.{any_holds, doom_cut, holds, is_due, names, saw, scan_empty, scans, slot_of}
-use Rattle.orc_core.specs.declared.ops.CounterUse.{CounterUse}
 use Rattle.orc_core.specs.declared.ops.Op.{Op}
 use Rattle.orc_core.specs.declared.ops.Op.TheVariants.{Arm, Clear, CounterLoad, Dec, Enroll, Fill, Free, GateLook, GateTake, Hand, Inc, LinkCas, LinkLoad, LinkStore, Publish, Read, SetRetired, SlotLook, TakeIn, Unretire}
 use Rattle.orc_core.specs.declared.records.Agent.{Agent}
@@ -23,9 +21,8 @@ use Rattle.orc_sound.proofs.World.{World, same_word, step_world, write}
 use Rattle.orc_sound.specs.Doomed.{dooms}
 use Rattle.orc_sound.specs.Linked.{uses}
 use Rattle.orc_words.specs.Bounds.{Bounds}
-use Rattle.orc_words.specs.declared.packed.RowLink.{RowLink}
 use Rattle.orc_words.specs.declared.place.Word.{Word}
-use Rattle.orc_words.specs.declared.place.Word.TheVariants.{Counter, Enrolled, First, Gate, Handover, Next, Root, Second, Slot}
+use Rattle.orc_words.specs.declared.place.Word.TheVariants.{Counter, First, Gate, Next, Root, Second}
 
 -- the word of a row's counter stays, or the row is out
 abbrev pub CounterStep : (Word → ℕ) → (Word → ℕ) → ℕ → Type 0

@@ -1,6 +1,5 @@
 -- The counter word of a fresh row that nothing links: count 0, no retired bit, and its sequence stays.
-use Rattle.std.proofs.Common.{Bool, List, None, Option, Some, [], ap, append_assoc, append-nil, arith, eq-eqb, false, ne_eqb, refl, subst, sym, true, ℕ, ⊎_elim, ◌*◌, ◌++◌, ◌+◌, ◌<◌, ◌^◌, ◌∙◌, ◌≡◌, ◌≢◌, ◌∷◌}
-use Rattle.std.proofs.lemmas.Bool.{eqb-true, false≢true}
+use Rattle.std.proofs.Common.{Bool, List, None, Some, [], ap, append_assoc, append-nil, arith, false, refl, subst, sym, true, ℕ, ⊎_elim, ◌*◌, ◌++◌, ◌+◌, ◌<◌, ◌^◌, ◌∙◌, ◌≡◌, ◌≢◌, ◌∷◌}
 use Rattle.std.specs.Prelude.{◌/◌, ◌==◌, ◌||◌}
 use native.Mathlib.Decide.{ℕ_discrete}
 use mathlib.Core.Logic.{dite}
@@ -27,11 +26,11 @@ use Rattle.orc_reclaiming_domain.proofs.Protecting.{true_false}
 use Rattle.orc_shared_words.proofs.Runs.{by_other, by_own, cons_nil}
 use Rattle.orc_sound.proofs.AllFits.{AllFits, allowed_step, low_sequences, run_fits}
 use Rattle.orc_sound.proofs.Bridge.{world_step}
-use Rattle.orc_sound.proofs.Facts.{decs, incs, linked_in, out, to_row}
+use Rattle.orc_sound.proofs.Facts.{decs, incs, out, to_row}
 use Rattle.orc_sound.proofs.ForRuns.{run_full}
 use Rattle.orc_sound.proofs.Fresh.{not_one}
 use Rattle.orc_sound.proofs.Journals.{IsLawfulJournal-append, plain_lawful}
-use Rattle.orc_sound.proofs.Shown.{out_hidden, word_shown}
+use Rattle.orc_sound.proofs.Shown.{word_shown}
 use Rattle.orc_sound.proofs.Sums.{sum_zero}
 use Rattle.orc_sound.proofs.World.{World, step_world, world_of}
 use Rattle.orc_sound.specs.Journals.{IsLawfulJournal, plain}
@@ -125,7 +124,8 @@ module _ {N : Type 0} (b : Bounds) (a r : ℕ) (shape : IsShape b) (low : r < b.
       source in
       let before : z.memory (Counter r) ≡ word_in m (Counter r) = word_shown m (Counter r) (row_low j) in
       let after : (step_world z s.agent s.op).memory (Counter r) ≡ word_in (step m s.agent s.op) (Counter r) =
-      ap (λ (y : World). y.memory (Counter r)) (sym (world_step m s.agent s.op full.words full.agents can)) ∙ word_shown (step m s.agent s.op) (Counter r) (row_low j) in
+      ap (λ (y : World). y.memory (Counter r)) (sym (world_step m s.agent s.op full.words full.agents can))
+      ∙ word_shown (step m s.agent s.op) (Counter r) (row_low j) in
       ap (λ y. word_in y (Counter r)) (run_next b j s) ∙ (sym after ∙ (kept ∙ before))
 
   -- so do steps of others
@@ -154,7 +154,8 @@ module _ {N : Type 0} (b : Bounds) (a r : ℕ) (shape : IsShape b) (low : r < b.
       ap (λ op. (step_world z s.agent op).memory (Counter r)) is ∙ write_same z.memory (Counter r) (Counter r) in
       let before : z.memory (Counter r) ≡ word_in m (Counter r) = word_shown m (Counter r) (row_low j) in
       let after : (step_world z s.agent s.op).memory (Counter r) ≡ word_in (step m s.agent s.op) (Counter r) =
-      ap (λ (y : World). y.memory (Counter r)) (sym (world_step m s.agent s.op full.words full.agents can)) ∙ word_shown (step m s.agent s.op) (Counter r) (row_low j) in
+      ap (λ (y : World). y.memory (Counter r)) (sym (world_step m s.agent s.op full.words full.agents can))
+      ∙ word_shown (step m s.agent s.op) (Counter r) (row_low j) in
       ap (λ y. word_in y (Counter r)) (run_next b j s) ∙ (sym after ∙ (kept ∙ before))
 
   pub low_sequence : (j : List (Step N)) → IsLawfulJournal (new_machine b) j → sequence_of (word_in (run_of b j) (Counter r)) < 2 ^ 39 + 2 ^ 19

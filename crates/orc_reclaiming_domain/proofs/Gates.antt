@@ -1,5 +1,5 @@
 -- A row whose gate or counter has changed was out in between.
-use Rattle.std.proofs.Common.{Bool, List, [], ap, append_assoc, append-nil, arith, eq-eqb, inl, inr, refl, subst, sym, true, ℕ, ⊎_elim, ◌++◌, ◌+◌, ◌<◌, ◌∙◌, ◌≡◌, ◌∷◌, ◌⊎◌}
+use Rattle.std.proofs.Common.{List, [], ap, append_assoc, append-nil, arith, eq-eqb, inl, inr, refl, subst, sym, true, ℕ, ⊎_elim, ◌++◌, ◌<◌, ◌∙◌, ◌≡◌, ◌∷◌, ◌⊎◌}
 use Rattle.std.specs.Prelude.{◌%◌, ◌==◌}
 use Rattle.orc_core.specs.Counts.{is_out}
 use Rattle.orc_core.specs.Machine.{Machine, is_allowed, new_machine, step, word_in}

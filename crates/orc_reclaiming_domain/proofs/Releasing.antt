@@ -1,14 +1,12 @@
 -- A slot that is released.
-use Rattle.std.proofs.Common.{Bool, List, None, Option, Some, [], ap, arith, eq-eqb, false, length, refl, subst, suc, sym, true, zero, ℕ, ◌<◌, ◌∙◌, ◌≡◌, ◌≢◌, ◌∷◌}
+use Rattle.std.proofs.Common.{List, None, Option, Some, [], ap, arith, false, length, refl, suc, sym, zero, ℕ, ◌<◌, ◌∙◌, ◌≡◌, ◌≢◌, ◌∷◌}
 use Rattle.std.proofs.lemmas.Bool.{ne_eqb}
 use Rattle.std.specs.Option.{option_map}
-use Rattle.std.specs.Prelude.{slice_get, slice_index_or, slice_set, ◌==◌}
-use Rattle.orc_core.specs.RecordParts.{holds, holds_fresh, is_empty, is_published, slot_of}
-use Rattle.orc_core.specs.declared.ops.Op.TheVariants.{Clear, TakeIn}
+use Rattle.std.specs.Prelude.{slice_get, slice_index_or, slice_set}
+use Rattle.orc_core.specs.RecordParts.{holds_fresh, is_empty, is_published, slot_of}
+use Rattle.orc_core.specs.declared.ops.Op.TheVariants.{Clear}
 use Rattle.orc_core.specs.declared.records.SlotUse.{SlotUse}
-use Rattle.orc_core.specs.declared.records.SlotUse.TheVariants.{Empty, Held, Published}
-use Rattle.orc_heap.proofs.Pieces.{unless_other}
-use Rattle.orc_heap.specs.Calls.{Releases}
+use Rattle.orc_core.specs.declared.records.SlotUse.TheVariants.{Empty, Held}
 use Rattle.orc_heap.specs.Slots.{Hold, Holds, id_in}
 use Rattle.orc_heap.specs.declared.discipline.Discipline as discipline
 use Rattle.orc_machine_board.specs.Kinds.{MayDo}
@@ -22,7 +20,6 @@ use Rattle.orc_reclaiming_domain.proofs.Setting.{clear_may, set_length}
 use Rattle.orc_reclaiming_domain.proofs.Stages.{Between, Stage, seat}
 use Rattle.orc_reclaiming_domain.proofs.Untouched.{still_between}
 use Rattle.orc_reclaiming_domain.specs.Calls.{Unlocks}
-use Rattle.orc_reclaiming_domain.specs.OwnSteps.{LeavesNothing}
 use Rattle.orc_reclaiming_domain.specs.Seats.{IsReady}
 
 pub get_low : {A : Type 0} (xs : List A) (i : ℕ) (x : A) → slice_get xs i ≡ Some x → i < length xs

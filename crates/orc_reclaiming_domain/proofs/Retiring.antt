@@ -3,9 +3,9 @@ use Rattle.std.proofs.Common.{Bool, List, None, Option, Some, [], ap, append-nil
 use Rattle.std.proofs.lemmas.Bool.{lt-ltb}
 use Rattle.std.specs.List.{list_any}
 use Rattle.std.specs.Option.{option_map}
-use Rattle.std.specs.Prelude.{cond, if◌then◌else◌, map, slice_set, nat_lt, ◌&&◌, ◌==◌, ◌||◌}
+use Rattle.std.specs.Prelude.{cond, if◌then◌else◌, map, slice_set, ◌&&◌, ◌==◌}
 use Rattle.orc_core.specs.Actions.{clear_word}
-use Rattle.orc_core.specs.Machine.{new_machine, record_at, word_in}
+use Rattle.orc_core.specs.Machine.{record_at, word_in}
 use Rattle.orc_core.specs.RecordParts.{any_holds, is_due, names}
 use Rattle.orc_core.specs.declared.ops.CounterUse.TheVariants.{Check}
 use Rattle.orc_core.specs.declared.ops.Op.{Op}
@@ -45,13 +45,13 @@ use Rattle.orc_reclaiming_domain.specs.OwnSteps.{HasDone, LeavesNothing, TakesIn
 use Rattle.orc_reclaiming_domain.specs.Passes.{IsFreshUntouched}
 use Rattle.orc_reclaiming_domain.specs.Seats.{IsReady, seat_by, slot_by}
 use Rattle.orc_shared_words.proofs.Events.{others_add}
-use Rattle.orc_sound.specs.Journals.{IsLawfulJournal}
 use Rattle.orc_sound.specs.declared.steps.Step.{Step}
 use Rattle.orc_words.specs.Bounds.{Bounds}
 use Rattle.orc_words.specs.Packed.{sequence_of}
 use Rattle.orc_words.specs.declared.place.Word.TheVariants.{Counter}
 
-module _ {D N : Type 0} {d : discipline.Ghosts D N} {k : MachineShape N} (s : Stage d k) (between : Between s) (r : ℕ) (fresh : names s.view.record_is.fresh r ≡ true) where
+module _ {D N : Type 0} {d : discipline.Ghosts D N} {k : MachineShape N} (s : Stage d k) (between : Between s) (r : ℕ)
+    (fresh : names s.view.record_is.fresh r ≡ true) where
   abbrev b : Bounds
   b = bounds_in k
 
@@ -88,7 +88,8 @@ module _ {D N : Type 0} {d : discipline.Ghosts D N} {k : MachineShape N} (s : St
         (ap (project b) m1.journal ∙ (counted_obeys k).project_next j1 (step_of s.view.agent q None)) t.each) in
         let all2 = allowed-right (d.may n0) [] (project b s.view.journal) more.0 (subst (AllAllowed (d.may n0) []) more.2 all1) in
         let u0 = between.untouched id (ap (option_map (ids_of b s.view).node) (names-some s.view.record_is.fresh r fresh)) in
-        let u1 = untouched_more d k s.view.agent id (project b s.view.journal) more.0 s.kept all2 (ap (λ es. list_any (λ e. points_to e.act id) es) more.1) u0 in
+        let u1 = untouched_more d k s.view.agent id (project b s.view.journal) more.0 s.kept all2
+        (ap (λ es. list_any (λ e. points_to e.act id) es) more.1) u0 in
         subst (λ (z : ℕ). IsUntouched s.view.agent (run_heap n0 (project b j1)) z) (sym (before_keep q None s t n m1 r has))
         (subst (λ es. IsUntouched s.view.agent (run_heap n0 es) id) (sym more.2) u1)
 
@@ -166,7 +167,8 @@ module _ {D N : Type 0} {d : discipline.Ghosts D N} {k : MachineShape N} (s : St
             };
             sequence = sequence_of n;
             done = done_then s.view.agent s.view.journal t.view.journal u.view.journal (CounterLoad r Check ∷ []) (SetRetired r (sequence_of n) ∷ [])
-                (done_one q1 None s t n m1) (subst (λ a. HasDone a (SetRetired r (sequence_of n) ∷ []) t.view.journal u.view.journal) m1.agent (done_one q2 None t u o m2));
+                (done_one q1 None s t n m1)
+                (subst (λ a. HasDone a (SetRetired r (sequence_of n) ∷ []) t.view.journal u.view.journal) m1.agent (done_one q2 None t u o m2));
           }
 
 not_some : (id : ℕ) → (let o : Option ℕ = None in o) ≡ Some id → ⊥
@@ -195,7 +197,9 @@ module _ {D N : Type 0} {d : discipline.Ghosts D N} {k : MachineShape N} where
       let d0 = s.view.record_is in
       record {
         slots = re.slots;
-        fresh = none ∙ (sym (ap (λ (z : Bool). if z then None else Some (id_in (seat s).slots h)) (eq-eqb (id_in (seat s).slots h) (id_in (seat s).slots h) refl))
+        fresh = none
+            ∙ (sym (ap (λ (z : Bool). if z then None else Some (id_in (seat s).slots h))
+            (eq-eqb (id_in (seat s).slots h) (id_in (seat s).slots h) refl))
             ∙ sym (ap (λ o. unless_node o (Some (id_in (seat s).slots h))) was));
         linked = λ e. not_some (id_in (seat t).slots h) (sym none ∙ e);
         puts = re.puts;

@@ -1,5 +1,5 @@
 -- The fresh node of a pass stays untouched.
-use Rattle.std.proofs.Common.{List, Some, [], ap, false, subst, sym, ℕ, ◌++◌, ◌∙◌, ◌≡◌}
+use Rattle.std.proofs.Common.{List, [], ap, false, subst, sym, ℕ, ◌++◌, ◌∙◌, ◌≡◌}
 use Rattle.std.specs.List.{list_any}
 use Rattle.orc_heap.proofs.Fresh.{own_node_told}
 use Rattle.orc_heap.proofs.Stays.{allowed-right}
@@ -9,10 +9,9 @@ use Rattle.orc_heap.specs.OwnEvents.{Puts}
 use Rattle.orc_heap.specs.Seats.{IsUntouched}
 use Rattle.orc_heap.specs.declared.discipline.Discipline as discipline
 use Rattle.orc_heap.specs.declared.events.Event.{Event}
-use Rattle.orc_machine_board.specs.Rules.{bounds_in, heap_numbers}
+use Rattle.orc_machine_board.specs.Rules.{heap_numbers}
 use Rattle.orc_machine_board.specs.declared.machine.MachineShape.{MachineShape}
 use Rattle.orc_reclaiming_domain.proofs.Stages.{Between, Stage, seat}
-use Rattle.orc_reclaiming_domain.specs.Passes.{IsFreshUntouched}
 use Rattle.orc_reclaiming_domain.specs.Seats.{IsReady}
 
 module _ {D N : Type 0} (d : discipline.Ghosts D N) (k : MachineShape N) where

@@ -1,5 +1,5 @@
 -- What the parts of calls do to what a pass shows.
-use Rattle.std.specs.Prelude.{List, None, Option, [], slice_set, ℕ, ◌∷◌, ◌≡◌}
+use Rattle.std.specs.Prelude.{None, [], slice_set, ℕ, ◌∷◌, ◌≡◌}
 use Rattle.orc_core.specs.declared.ops.CounterUse.TheVariants.{Check}
 use Rattle.orc_core.specs.declared.ops.Op.TheVariants.{Clear, CounterLoad, SetRetired, TakeIn}
 use Rattle.orc_core.specs.declared.records.Agent.{Agent}

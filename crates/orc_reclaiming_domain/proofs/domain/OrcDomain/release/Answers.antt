@@ -18,7 +18,8 @@ unlock-requires-clause-calm g c =
     let start : Between s = record { ready = is.ready; untouched = is.untouched } in
     let t = stage g.D.Discipline k _ _ c.give_up.ensures.belongs.keeps in
     let gone = goes s t c.args.h start c.requires.held
-    (λ f. subst (λ r. Retires (domain_bounds c.args.self.now) r s.view t.view) c.row.ensures (c.give_up.ensures.retired (ap (names s.view.record_is.fresh) c.row.ensures ∙ f)))
+    (λ f. subst (λ r. Retires (domain_bounds c.args.self.now) r s.view t.view) c.row.ensures
+    (c.give_up.ensures.retired (ap (names s.view.record_is.fresh) c.row.ensures ∙ f)))
     (λ f. ap (λ p. shows p) (c.give_up.ensures.kept (ap (names s.view.record_is.fresh) c.row.ensures ∙ f))) in
     ready_calm t.view.record_is gone.between.ready
 
@@ -30,7 +31,8 @@ unlock-requires-clause-allowed g c =
     let start : Between s = record { ready = is.ready; untouched = is.untouched } in
     let t = stage g.D.Discipline k _ _ c.give_up.ensures.belongs.keeps in
     let gone = goes s t c.args.h start c.requires.held
-    (λ f. subst (λ r. Retires (domain_bounds c.args.self.now) r s.view t.view) c.row.ensures (c.give_up.ensures.retired (ap (names s.view.record_is.fresh) c.row.ensures ∙ f)))
+    (λ f. subst (λ r. Retires (domain_bounds c.args.self.now) r s.view t.view) c.row.ensures
+    (c.give_up.ensures.retired (ap (names s.view.record_is.fresh) c.row.ensures ∙ f)))
     (λ f. ap (λ p. shows p) (c.give_up.ensures.kept (ap (names s.view.record_is.fresh) c.row.ensures ∙ f))) in
     subst (λ slot. MayDo (domain_bounds c.args.self.now) t.view (Clear slot)) (sym c.slot.ensures) (clear_can s t c.args.h c.requires.held gone)
 
@@ -42,7 +44,8 @@ returns-clause-released g c =
     let start : Between s = record { ready = is.ready; untouched = is.untouched } in
     let t = stage g.D.Discipline k _ _ c.give_up.ensures.belongs.keeps in
     let gone = goes s t c.args.h start c.requires.held
-    (λ f. subst (λ r. Retires (domain_bounds c.args.self.now) r s.view t.view) c.row.ensures (c.give_up.ensures.retired (ap (names s.view.record_is.fresh) c.row.ensures ∙ f)))
+    (λ f. subst (λ r. Retires (domain_bounds c.args.self.now) r s.view t.view) c.row.ensures
+    (c.give_up.ensures.retired (ap (names s.view.record_is.fresh) c.row.ensures ∙ f)))
     (λ f. ap (λ p. shows p) (c.give_up.ensures.kept (ap (names s.view.record_is.fresh) c.row.ensures ∙ f))) in
     let u = stage g.D.Discipline k _ _ c.unlock.ensures.belongs.keeps in
     let un = subst (λ slot. Unlocks (domain_bounds c.args.self.now) slot t.view u.view) c.slot.ensures c.unlock.ensures.unlocks in
@@ -56,7 +59,8 @@ returns-clause-later g c =
     let start : Between s = record { ready = is.ready; untouched = is.untouched } in
     let t = stage g.D.Discipline k _ _ c.give_up.ensures.belongs.keeps in
     let gone = goes s t c.args.h start c.requires.held
-    (λ f. subst (λ r. Retires (domain_bounds c.args.self.now) r s.view t.view) c.row.ensures (c.give_up.ensures.retired (ap (names s.view.record_is.fresh) c.row.ensures ∙ f)))
+    (λ f. subst (λ r. Retires (domain_bounds c.args.self.now) r s.view t.view) c.row.ensures
+    (c.give_up.ensures.retired (ap (names s.view.record_is.fresh) c.row.ensures ∙ f)))
     (λ f. ap (λ p. shows p) (c.give_up.ensures.kept (ap (names s.view.record_is.fresh) c.row.ensures ∙ f))) in
     let u = stage g.D.Discipline k _ _ c.unlock.ensures.belongs.keeps in
     let un = subst (λ slot. Unlocks (domain_bounds c.args.self.now) slot t.view u.view) c.slot.ensures c.unlock.ensures.unlocks in
@@ -70,7 +74,8 @@ returns-clause-taken_in g c =
     let start : Between s = record { ready = is.ready; untouched = is.untouched } in
     let t = stage g.D.Discipline k _ _ c.give_up.ensures.belongs.keeps in
     let gone = goes s t c.args.h start c.requires.held
-    (λ f. subst (λ r. Retires (domain_bounds c.args.self.now) r s.view t.view) c.row.ensures (c.give_up.ensures.retired (ap (names s.view.record_is.fresh) c.row.ensures ∙ f)))
+    (λ f. subst (λ r. Retires (domain_bounds c.args.self.now) r s.view t.view) c.row.ensures
+    (c.give_up.ensures.retired (ap (names s.view.record_is.fresh) c.row.ensures ∙ f)))
     (λ f. ap (λ p. shows p) (c.give_up.ensures.kept (ap (names s.view.record_is.fresh) c.row.ensures ∙ f))) in
     let u = stage g.D.Discipline k _ _ c.unlock.ensures.belongs.keeps in
     let un = subst (λ slot. Unlocks (domain_bounds c.args.self.now) slot t.view u.view) c.slot.ensures c.unlock.ensures.unlocks in
@@ -84,7 +89,8 @@ returns-clause-pass g c =
     let start : Between s = record { ready = is.ready; untouched = is.untouched } in
     let t = stage g.D.Discipline k _ _ c.give_up.ensures.belongs.keeps in
     let gone = goes s t c.args.h start c.requires.held
-    (λ f. subst (λ r. Retires (domain_bounds c.args.self.now) r s.view t.view) c.row.ensures (c.give_up.ensures.retired (ap (names s.view.record_is.fresh) c.row.ensures ∙ f)))
+    (λ f. subst (λ r. Retires (domain_bounds c.args.self.now) r s.view t.view) c.row.ensures
+    (c.give_up.ensures.retired (ap (names s.view.record_is.fresh) c.row.ensures ∙ f)))
     (λ f. ap (λ p. shows p) (c.give_up.ensures.kept (ap (names s.view.record_is.fresh) c.row.ensures ∙ f))) in
     let u = stage g.D.Discipline k _ _ c.unlock.ensures.belongs.keeps in
     let un = subst (λ slot. Unlocks (domain_bounds c.args.self.now) slot t.view u.view) c.slot.ensures c.unlock.ensures.unlocks in
