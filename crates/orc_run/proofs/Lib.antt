@@ -1,1 +1,3 @@
-
+pub mod Drained
+pub mod Actual
+pub mod DeskPasses

@@ -1,6 +1,6 @@
 //! Desks from passes, and passes from desks.
 
-ghost use Rattle.std.specs.Prelude.{◌≡◌, ◌<◌, ◌≤◌, ℕ, [], All, IfOk, length, map, slice_index_or, vec_len, vec_capacity};
+ghost use Rattle.std.specs.Prelude.{◌≡◌, ◌+◌, ◌++◌, ◌<◌, ◌≤◌, ℕ, [], All, IfOk, length, map, slice_index_or, vec_len, vec_capacity};
 ghost use Rattle.orc_workers.specs.Desks.{AreFresh};
 
 use orc_board::Desk;
@@ -63,22 +63,29 @@ pub(crate) fn room_for_passes<A: Drop, B: Drop>(
     })
 }
 
-// Takes the passes from these desks, in order. It takes no memory.
+// Puts the passes of these desks behind those that are there, in order. It takes no memory.
 pub(crate) fn passes_apart<A: Drop, B: Drop>(
-    desks: Vec<Desk<A, B>>,
-    room: Passes<A, B>,
-) -> Passes<A, B>
-    requires none { (room.queue.items ≡ []) × (room.set.items ≡ []) }
-    requires room { (vec_len desks ≤ vec_capacity room.queue) × (vec_len desks ≤ vec_capacity room.set) }
-    ensures queue { result.queue.items ≡ map (λ desk. desk.queue) desks.items }
-    ensures set { result.set.items ≡ map (λ desk. desk.set) desks.items }
+    mut desks: Vec<Desk<A, B>>,
+    passes: &mut Passes<A, B>,
+)
+    requires queue_room { vec_len passes.old.queue + vec_len desks ≤ vec_capacity passes.old.queue }
+    requires set_room { vec_len passes.old.set + vec_len desks ≤ vec_capacity passes.old.set }
+    ensures queue { passes.new.queue.items ≡ passes.old.queue.items ++ map (λ desk. desk.queue) desks.items }
+    ensures set { passes.new.set.items ≡ passes.old.set.items ++ map (λ desk. desk.set) desks.items }
+    ensures queue_len { vec_len passes.new.queue ≡ vec_len passes.old.queue + vec_len desks }
+    ensures set_len { vec_len passes.new.set ≡ vec_len passes.old.set + vec_len desks }
+    ensures queue_capacity { vec_capacity passes.old.queue ≤ vec_capacity passes.new.queue }
+    ensures set_capacity { vec_capacity passes.old.set ≤ vec_capacity passes.new.set }
 {
-    let mut passes = room;
-    for desk in desks {
-        let Desk { queue, set } = desk;
-        let (Ok(()), Ok(())) = (passes.queue.push(queue), passes.set.push(set)) else {
-            unreachable!()
-        };
-    }
-    passes
+    let Some(desk) = desks.pop() else {
+        return;
+    };
+    passes_apart(desks, passes);
+    let Desk { queue, set } = desk;
+    let Ok(()) = passes.queue.push(queue) else {
+        unreachable!()
+    };
+    let Ok(()) = passes.set.push(set) else {
+        unreachable!()
+    };
 }

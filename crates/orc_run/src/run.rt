@@ -7,8 +7,8 @@ ghost use Rattle.orc_run.specs.Journals.{GivesEachRowOnce};
 ghost use Rattle.orc_run.specs.Runs.{HasQueueJournal, HasSetJournal, RepliesFollow};
 
 use crate::containers::{make_queue, make_set};
-use crate::desks::{Passes, fresh_desks, passes_apart, room_for_passes};
-use crate::ending::bring_to_rest;
+use crate::desks::{fresh_desks, room_for_passes};
+use crate::ending::{Ends, end_run};
 use orc_board::{Gate, Replies};
 use orc_chain_rule::Chain;
 use orc_domain::PlainRest;
@@ -54,18 +54,15 @@ pub fn run_lines<R: Threads + Wait + Sync, G: Gate + Sync>(
     let agents = 1 + posters + takers;
     let (queue, queue_passes) = make_queue(alloc, agents)?;
     let (set, set_passes) = make_set(alloc, agents)?;
-    let room = room_for_passes(alloc, agents as usize)?;
+    let passes = room_for_passes(alloc, agents as usize)?;
     let mut desks = fresh_desks(alloc, &queue, &set, queue_passes, set_passes)?;
     let replies = run_at_desks(
         rt, alloc, lines, posters, takers, &queue, &set, &mut desks, gate,
     )?;
-    let Passes {
-        queue: queue_passes,
-        set: set_passes,
-    } = passes_apart(desks, room);
+    let Ends { queue, set } = end_run(queue, set, desks, passes);
     Ok(Finished {
-        queue: bring_to_rest(queue.into_links(), queue_passes),
-        set: bring_to_rest(set.into_links(), set_passes),
+        queue,
+        set,
         replies,
     })
 }
