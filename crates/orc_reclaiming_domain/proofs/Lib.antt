@@ -1,5 +1,7 @@
 pub mod Adding
 pub mod Counters
+pub mod Counting
+pub mod Exchanging
 pub mod Filling
 pub mod FreshRows
 pub mod Gates
@@ -8,6 +10,7 @@ pub mod Held
 pub mod Lacking
 pub mod Lasting
 pub mod Learning
+pub mod Linking
 pub mod Loading
 pub mod Looking
 pub mod Making
@@ -25,3 +28,4 @@ pub mod Taking
 pub mod Testing
 pub mod Trying
 pub mod Untouched
+pub mod Wearing
