@@ -167,7 +167,7 @@ module _ {D N : Type 0} {d : discipline.Ghosts D N} {k : MachineShape N} (s : St
       λ i. ((agent i && on i) && first i) && ((row i && free i) && its i)
 
   -- one step leaves nothing, unless it clears a slot
-  leaves_one : (t : Stage d k) (op : Op) (n : ℕ) → Steps op s n t → TakesInCleared (op ∷ []) → LeavesNothing s.view.agent s.view.journal t.view.journal
+  pub leaves_one : (t : Stage d k) (op : Op) (n : ℕ) → Steps op s n t → TakesInCleared (op ∷ []) → LeavesNothing s.view.agent s.view.journal t.view.journal
   leaves_one t op n m in_order = record { ops = op ∷ []; done = done_one (asks op) None s t n m; taken_in = in_order }
 
   -- the bit of the due row was tried
@@ -297,10 +297,6 @@ module _ {D N : Type 0} {d : discipline.Ghosts D N} {k : MachineShape N} (s t : 
 -- a record without a pending decrement
 pub without_dec : (d e : Agent) → SameParts d e → SameParts (record d { dec = None }) (record e { dec = None })
 without_dec d e p = record { enrolled = p.enrolled; slots = p.slots; fresh = p.fresh; due = p.due; inc = p.inc; dec = refl; doom = p.doom }
-
-pub none_of : (o : Option ℕ) → ((r : ℕ) → o ≡ Some r → ⊥) → o ≡ None
-none_of None h = refl
-none_of (Some r) h = absurd (h r refl)
 
 pub without_inc : (d : Agent) → d.inc ≡ None → SameParts (record d { inc = None }) d
 without_inc d e = record { enrolled = refl; slots = refl; fresh = refl; due = refl; inc = e; dec = refl; doom = refl }

@@ -1,4 +1,5 @@
 pub mod Adding
+pub mod Aiming
 pub mod Counters
 pub mod Counting
 pub mod Exchanging
@@ -24,6 +25,7 @@ pub mod Searching
 pub mod Seats
 pub mod Setting
 pub mod Stages
+pub mod Swinging
 pub mod Taking
 pub mod Testing
 pub mod Trying

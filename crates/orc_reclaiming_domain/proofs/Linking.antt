@@ -10,9 +10,10 @@ use Rattle.orc_core.specs.RecordParts.{any_holds, doom_uncut, is_empty, names, s
 use Rattle.orc_core.specs.declared.ops.Op.TheVariants.{LinkCas, LinkStore}
 use Rattle.orc_domain.specs.Rows.{row_link, target_link, word_at}
 use Rattle.orc_heap.specs.Allowed.{AllowedLater, AllowedWhereFits}
-use Rattle.orc_heap.specs.Calls.{MayAim, MayMove}
+use Rattle.orc_heap.specs.Calls.{MayAim, MayMove, aim_of}
 use Rattle.orc_heap.specs.Heap.{Node}
 use Rattle.orc_heap.specs.Journals.{event_by}
+use Rattle.orc_heap.specs.OwnEvents.{Only}
 use Rattle.orc_heap.specs.Seats.{HoldsPlace, HoldsTarget, HoldsWant, IsNotFresh, link_in, place_in, target_in}
 use Rattle.orc_heap.specs.Slots.{Hold, Holds, id_in}
 use Rattle.orc_heap.specs.declared.discipline.Discipline as discipline
@@ -39,6 +40,7 @@ use Rattle.orc_reclaiming_domain.proofs.Protecting.{either_way, target_named, tr
 use Rattle.orc_reclaiming_domain.proofs.Seats.{before_keep, calm_forced, or_right, ready_calm, slot_holds}
 use Rattle.orc_reclaiming_domain.proofs.Stages.{Between, Stage, before_lawful, before_out, before_unmarked, seat}
 use Rattle.orc_reclaiming_domain.proofs.Untouched.{untouched_before}
+use Rattle.orc_reclaiming_domain.specs.Changes.{Stores}
 use Rattle.orc_reclaiming_domain.specs.Seats.{IsReady}
 use Rattle.orc_sound.specs.declared.steps.Step.{Step}
 use Rattle.orc_words.specs.Bounds.{Bounds}
@@ -140,6 +142,14 @@ module _ {D N : Type 0} {d : discipline.Ghosts D N} {k : MachineShape N} (s : St
       subst (λ (z : ℕ × Option ℕ). AllowedWhereFits (d.may (heap_numbers k)) (heap_numbers k) s.view.agent (seat s).seen
       (event_by s.view.agent (Aim z.0 z.1) None))
       (λ i. (id i, its i)) allowed
+
+  -- a store in the fresh row is the Aim that a caller asks for
+  pub aims : (h : Hold) (to : Option (Bor Hold)) → Holds (seat s).slots h → HoldsTarget (seat s) to → (u : Stage d k)
+      → Stores (bounds_in k) h.row (target_link to).to s.view u.view → Only (aim_of (seat s) h to ∷ []) (seat s) (seat u)
+  aims h to held target u stored =
+      let id = (hold_slot s h held).1 in
+      let its = target_id to target in
+      subst (λ (z : ℕ × Option ℕ). Only (event_by s.view.agent (Aim z.0 z.1) None ∷ []) (seat s) (seat u)) (λ i. (sym id i, sym its i)) stored
 
 -- the old target of a link that is changed isn't the fresh row: no link was made to that
 module _ {D N : Type 0} {d : discipline.Ghosts D N} {k : MachineShape N} (q : Request) (note : Option N) (s t : Stage d k) (n : ℕ)
