@@ -1,12 +1,9 @@
 -- What a change of a link leaves pending is counted, step by step.
-use Rattle.std.proofs.Common.{Bool, List, None, Option, Some, [], ap, arith, cond, eq-eqb, false, get_or-set_same, inl, inr, length, refl, subst, suc, sym, true, ℕ, ◌++◌, ◌+◌, ◌%◌, ◌<◌, ◌^◌, ◌∙◌, ◌≡◌, ◌∷◌, ◌⊎◌}
+use Rattle.std.proofs.Common.{Bool, List, None, Option, Some, [], ap, arith, cond, eq-eqb, false, get_or-set_same, inr, length, refl, subst, sym, true, ℕ, ◌++◌, ◌+◌, ◌<◌, ◌^◌, ◌∙◌, ◌≡◌, ◌∷◌}
 use Rattle.std.proofs.lemmas.Bool.{lt-ltb}
-use Rattle.std.specs.Option.{ForSome}
 use Rattle.std.specs.Prelude.{map, nat_lt, not, slice_get, slice_index_or, slice_set, ◌&&◌, ◌==◌, ◌||◌}
-use Rattle.orc_core.specs.Actions.{clear_word}
-use Rattle.orc_core.specs.After.{due_after}
 use Rattle.orc_core.specs.Allowed.{in_order, may}
-use Rattle.orc_core.specs.RecordParts.{holds, holds_fresh, is_clear, is_due, is_empty, names, saw, scan_empty, scans, slot_of}
+use Rattle.orc_core.specs.RecordParts.{holds, holds_fresh, is_due, is_empty, names, saw, scan_empty, scans, slot_of}
 use Rattle.orc_core.specs.declared.ops.Op.{Op}
 use Rattle.orc_core.specs.declared.ops.Op.TheVariants.{Arm, Clear, Dec, Inc, SetRetired, TakeIn}
 use Rattle.orc_core.specs.declared.records.Agent.{Agent}
@@ -25,15 +22,15 @@ use Rattle.orc_machine_board.specs.Rules.{bounds_in, run_of}
 use Rattle.orc_machine_board.specs.Views.{MachineView}
 use Rattle.orc_machine_board.specs.declared.machine.MachineShape.{MachineShape}
 use Rattle.orc_projection.specs.PresentIds.{PresentIds}
-use Rattle.orc_reclaiming_domain.proofs.Protecting.{same_self, same_then}
+use Rattle.orc_reclaiming_domain.proofs.Protecting.{same_then}
 use Rattle.orc_reclaiming_domain.proofs.Searching.{idle_none}
-use Rattle.orc_reclaiming_domain.proofs.Seats.{only, or_right, sets, step_events}
+use Rattle.orc_reclaiming_domain.proofs.Seats.{only, or_right, sets}
 use Rattle.orc_reclaiming_domain.proofs.Setting.{clear_may, set_same, set_twice}
 use Rattle.orc_reclaiming_domain.proofs.Stages.{Stage, Steps, done_none, done_one, done_then, seat}
 use Rattle.orc_machine_board.proofs.Licences.{has_either}
 use Rattle.orc_reclaiming_domain.specs.Calls.{SameParts, Unlocks}
-use Rattle.orc_reclaiming_domain.specs.Changes.{Becomes, IsCountable, MayTryDue}
-use Rattle.orc_reclaiming_domain.specs.OwnSteps.{BeginsWith, HasDone, LeavesNothing, TakesInCleared}
+use Rattle.orc_reclaiming_domain.specs.Changes.{Becomes, IsCountable}
+use Rattle.orc_reclaiming_domain.specs.OwnSteps.{BeginsWith, LeavesNothing, TakesInCleared}
 use Rattle.orc_reclaiming_domain.specs.Seats.{IsCalm, SetsSlot, seat_by, slot_by}
 use Rattle.orc_sound.proofs.ForRuns.{run_sound}
 use Rattle.orc_sound.proofs.Journals.{plain_lawful}
@@ -41,9 +38,6 @@ use Rattle.orc_sound.specs.Journals.{plain}
 use Rattle.orc_sound.specs.Linked.{changes}
 use Rattle.orc_sound.specs.declared.steps.Step.{Step}
 use Rattle.orc_words.specs.Bounds.{Bounds}
-use Rattle.orc_words.specs.Operations.{word_add}
-use Rattle.orc_words.specs.declared.packed.TheConstants.{DECREMENT, INCREMENT}
-use Rattle.orc_words.specs.Packed.{sequence_of}
 
 -- what was taken in stays so as more steps are made
 begins_more : (op : Op) (xs ys : List Op) → BeginsWith op xs → BeginsWith op (xs ++ ys)

@@ -1,5 +1,5 @@
 -- One change of a link, and what it leaves pending.
-use Rattle.std.proofs.Common.{Bool, List, None, Option, Some, [], ap, arith, cond, eq-eqb, eqb-true, false, inl, inr, refl, subst, sym, true, ℕ, ⊎_elim, ◌++◌, ◌+◌, ◌<◌, ◌∙◌, ◌≡◌, ◌≢◌, ◌∷◌, ◌⊎◌}
+use Rattle.std.proofs.Common.{Bool, List, None, Option, Some, [], ap, arith, cond, eq-eqb, eqb-true, false, refl, subst, sym, true, ℕ, ⊎_elim, ◌++◌, ◌+◌, ◌∙◌, ◌≡◌, ◌≢◌, ◌∷◌, ◌⊎◌}
 use Rattle.std.proofs.lemmas.Bool.{eqb-false, ne_eqb}
 use Rattle.std.specs.Option.{option_map}
 use Rattle.std.specs.Prelude.{if◌then◌else◌, length, map, not, ◌==◌, ◌&&◌, ◌||◌}
@@ -11,11 +11,10 @@ use Rattle.orc_core.specs.declared.records.Agent.{Agent}
 use Rattle.orc_domain.specs.Rows.{row_link, word_at}
 use Rattle.orc_heap.proofs.Calls.{Puts-trans}
 use Rattle.orc_heap.specs.Calls.{Swings, move_of, unless_node}
-use Rattle.orc_heap.specs.Journals.{FitsAfter, event_by, names_node, run_heap}
+use Rattle.orc_heap.specs.Journals.{FitsAfter, event_by, names_node}
 use Rattle.orc_heap.specs.OwnEvents.{Only, Puts}
-use Rattle.orc_heap.specs.Seats.{HoldsPlace, HoldsWant, IsNotFresh, IsUntouched, link_in, place_in}
+use Rattle.orc_heap.specs.Seats.{HoldsPlace, HoldsWant, IsNotFresh, link_in, place_in}
 use Rattle.orc_heap.specs.declared.discipline.Discipline as discipline
-use Rattle.orc_heap.specs.declared.events.Act.{Act}
 use Rattle.orc_heap.specs.declared.events.Act.TheVariants.{Miss, Move}
 use Rattle.orc_heap.specs.declared.events.Link.{Link}
 use Rattle.orc_heap.specs.declared.events.Place.{Place}

@@ -1,7 +1,6 @@
 -- A fresh row that is given up: its retired bit is set at the first try, since nobody else counts it.
 use Rattle.std.proofs.Common.{Bool, List, None, Option, Some, [], ap, append-nil, arith, eq-eqb, false, refl, subst, sym, true, ℕ, ◌++◌, ◌<◌, ◌^◌, ◌+◌, ◌∙◌, ◌≡◌, ◌≢◌, ◌∷◌}
 use Rattle.std.proofs.lemmas.Bool.{lt-ltb}
-use Rattle.std.specs.List.{list_any}
 use Rattle.std.specs.Option.{option_map}
 use Rattle.std.specs.Prelude.{cond, if◌then◌else◌, map, slice_set, ◌&&◌, ◌==◌}
 use Rattle.orc_core.specs.Actions.{clear_word}
@@ -13,31 +12,25 @@ use Rattle.orc_core.specs.declared.ops.Op.TheVariants.{Clear, CounterLoad, SetRe
 use Rattle.orc_core.specs.declared.records.Agent.{Agent}
 use Rattle.orc_heap.proofs.Calls.{Puts-trans}
 use Rattle.orc_heap.proofs.Pieces.{unless_other}
-use Rattle.orc_heap.proofs.Stays.{allowed-left, allowed-right}
-use Rattle.orc_heap.specs.Allowed.{AllAllowed}
 use Rattle.orc_heap.specs.Calls.{Releases, unless_node}
-use Rattle.orc_heap.specs.Journals.{points_to, run_heap}
 use Rattle.orc_heap.specs.OwnEvents.{Puts}
-use Rattle.orc_heap.specs.Seats.{IsUntouched}
 use Rattle.orc_heap.specs.Slots.{Hold, Holds, id_in}
 use Rattle.orc_heap.specs.declared.discipline.Discipline as discipline
 use Rattle.orc_history.specs.Journals.{own_of}
-use Rattle.orc_machine_board.proofs.Licences.{signed}
 use Rattle.orc_machine_board.specs.Holding.{HasRow}
 use Rattle.orc_machine_board.specs.Kinds.{MayDo, asks}
-use Rattle.orc_machine_board.specs.Laws.Steps.{counted_obeys, in_range}
+use Rattle.orc_machine_board.specs.Laws.Steps.{in_range}
 use Rattle.orc_machine_board.specs.Licences.{ids_of}
-use Rattle.orc_machine_board.specs.Rules.{bounds_in, counted_rules, heap_numbers, run_of, step_of}
+use Rattle.orc_machine_board.specs.Rules.{bounds_in, heap_numbers, run_of, step_of}
 use Rattle.orc_machine_board.specs.Views.{MachineView}
 use Rattle.orc_machine_board.specs.declared.machine.MachineShape.{MachineShape}
 use Rattle.orc_projection.proofs.Links.{names-some}
-use Rattle.orc_projection.specs.Projection.{present_ids, project}
 use Rattle.orc_reclaiming_domain.proofs.Filling.{fresh_row}
 use Rattle.orc_reclaiming_domain.proofs.FreshRows.{fresh_between, fresh_clear, load_keeps, low_sequence}
 use Rattle.orc_reclaiming_domain.proofs.Held.{has_low, hold_slot}
 use Rattle.orc_reclaiming_domain.proofs.Protecting.{still_ready, true_false}
 use Rattle.orc_reclaiming_domain.proofs.Releasing.{release_between, release_can}
-use Rattle.orc_reclaiming_domain.proofs.Seats.{before_keep, calm_forced, or_right, puts, ready_calm, slots_keep}
+use Rattle.orc_reclaiming_domain.proofs.Seats.{calm_forced, or_right, puts, ready_calm, slots_keep}
 use Rattle.orc_reclaiming_domain.proofs.Stages.{Between, Stage, Steps, before_lawful, before_out, before_record, before_unmarked, done_none, done_one, done_then, seat, whole_lawful}
 use Rattle.orc_reclaiming_domain.proofs.Untouched.{untouched_before}
 use Rattle.orc_reclaiming_domain.proofs.Wearing.{check_may}
@@ -45,7 +38,6 @@ use Rattle.orc_reclaiming_domain.specs.Calls.{Retires, SameParts, Unlocks}
 use Rattle.orc_reclaiming_domain.specs.OwnSteps.{HasDone, LeavesNothing, TakesInCleared}
 use Rattle.orc_reclaiming_domain.specs.Passes.{IsFreshUntouched}
 use Rattle.orc_reclaiming_domain.specs.Seats.{IsReady, seat_by, slot_by}
-use Rattle.orc_shared_words.proofs.Events.{others_add}
 use Rattle.orc_sound.specs.declared.steps.Step.{Step}
 use Rattle.orc_words.specs.Bounds.{Bounds}
 use Rattle.orc_words.specs.Packed.{sequence_of}

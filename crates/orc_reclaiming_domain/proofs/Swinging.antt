@@ -1,5 +1,5 @@
 -- A row's counter was read, and then a link is changed: what a caller names holds still, and what is told is told of the whole call.
-use Rattle.std.proofs.Common.{Bool, List, None, Option, Some, [], ap, append_assoc, false, refl, subst, sym, true, ℕ, ◌++◌, ◌∙◌, ◌≡◌, ◌≢◌, ◌∷◌}
+use Rattle.std.proofs.Common.{Bool, List, None, Option, Some, [], append_assoc, false, refl, subst, sym, true, ◌++◌, ◌∙◌, ◌≡◌, ◌∷◌}
 use Rattle.std.specs.Borrow.{Bor}
 use Rattle.std.specs.Prelude.{Err, IfErr, Ok, Result}
 use Rattle.orc_heap.proofs.Calls.{Puts-trans}
@@ -9,13 +9,12 @@ use Rattle.orc_heap.specs.Calls.{MayAim, MayMove, Swings, aim_of, event_of, move
 use Rattle.orc_heap.specs.Heap.{shown}
 use Rattle.orc_heap.specs.Journals.{FitsAfter, run_heap}
 use Rattle.orc_heap.specs.OwnEvents.{Only, Puts}
-use Rattle.orc_heap.specs.Seats.{HoldsFresh, HoldsPlace, HoldsTarget, HoldsWant, IsNotFresh, Seat, link_in, place_in}
-use Rattle.orc_heap.specs.Slots.{Hold, Holds, Slots}
+use Rattle.orc_heap.specs.Seats.{HoldsFresh, HoldsTarget, Seat, link_in, place_in}
+use Rattle.orc_heap.specs.Slots.{Hold}
 use Rattle.orc_heap.specs.declared.discipline.Discipline as discipline
 use Rattle.orc_heap.specs.declared.events.Act.TheVariants.{Miss}
 use Rattle.orc_heap.specs.declared.events.Event.{Event}
 use Rattle.orc_heap.specs.declared.holds.At.{At}
-use Rattle.orc_heap.specs.declared.holds.At.TheVariants.{Node as AtNode, Root as AtRoot}
 use Rattle.orc_heap.specs.declared.holds.Want.{Want}
 use Rattle.orc_machine_board.specs.Rules.{bounds_in, heap_numbers}
 use Rattle.orc_machine_board.specs.Views.{MachineView}
@@ -53,19 +52,6 @@ module _ {D N : Type 0} {d : discipline.Ghosts D N} {k : MachineShape N} (s t : 
     slots = sym idle.only.slots i;
     fresh = sym idle.only.fresh i;
   }
-
-  pub place_on : (roots : ℕ) (at : At) → HoldsPlace roots (seat s).slots at → HoldsPlace roots (seat t).slots at
-  place_on roots at h = subst (λ (z : Slots). HoldsPlace roots z at) (sym idle.only.slots) h
-
-  pub want_on : (w : Want) → HoldsWant (seat s).slots w → HoldsWant (seat t).slots w
-  want_on w h = subst (λ (z : Slots). HoldsWant z w) (sym idle.only.slots) h
-
-  pub other_on : (at : At) → IsNotFresh (seat s) at → IsNotFresh (seat t) at
-  other_on at h = subst (λ z. IsNotFresh z at) same_seat (same_other at h)
-    where
-      same_other : (at : At) → IsNotFresh (seat s) at → IsNotFresh (meanwhile (seat t).seen) at
-      same_other (AtRoot r) h = h
-      same_other (AtNode x) h = h
 
   pub fresh_on : (h : Hold) → HoldsFresh (seat s) h → HoldsFresh (seat t) h
   fresh_on h f = subst (λ z. HoldsFresh z h) same_seat (record { held = f.held; fresh = f.fresh })

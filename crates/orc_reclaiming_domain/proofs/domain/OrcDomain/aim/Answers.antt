@@ -1,21 +1,19 @@
-use Rattle.std.proofs.Common.{None, Option, Some, ap, false, refl, subst, sym, true, ℕ, ◌∙◌, ◌≡◌}
+use Rattle.std.proofs.Common.{Option, Some, ap, false, subst, sym, true, ℕ, ◌∙◌, ◌≡◌}
 use Rattle.std.specs.Borrow.{Bor}
 use Rattle.orc_core.specs.Allowed.{may_target}
 use Rattle.orc_core.specs.RecordParts.{names}
 use Rattle.orc_domain.specs.Rows.{target_link}
-use Rattle.orc_heap.specs.Calls.{RefusesAim}
 use Rattle.orc_heap.specs.Seats.{HoldsTarget}
 use Rattle.orc_heap.specs.Slots.{Hold}
 use Rattle.orc_machine_board.specs.Licences.{AimAllowed}
 use Rattle.orc_machine_board.specs.Rules.{heap_numbers}
-use Rattle.orc_machine_board.specs.Views.{shows}
 use Rattle.orc_reclaiming_domain.proofs.Filling.{fresh_row}
 use Rattle.orc_reclaiming_domain.proofs.Linking.{aim_allowed, aims, hold_target, not_fresh}
 use Rattle.orc_reclaiming_domain.proofs.Protecting.{still_ready}
 use Rattle.orc_reclaiming_domain.proofs.Stages.{seat, stage}
-use Rattle.orc_reclaiming_domain.proofs.Swinging.{aim_on, aims_both, fresh_on, if_err_map, leaves_both, read_untouched, target_on}
+use Rattle.orc_reclaiming_domain.proofs.Swinging.{aim_on, aims_both, fresh_on, leaves_both, read_untouched, target_on}
 use Rattle.orc_reclaiming_domain.specs.Changes.{Stores}
-use Rattle.orc_reclaiming_domain.specs.Passes.{domain_bounds, seat_of}
+use Rattle.orc_reclaiming_domain.specs.Passes.{domain_bounds}
 use Rattle.orc_reclaiming_domain.proofs.domain.OrcDomain.aim.Goals as goal
 
 -- without a target

@@ -1,4 +1,4 @@
-use Rattle.std.proofs.Common.{subst, sym, ◌≡◌, ◌≢◌}
+use Rattle.std.proofs.Common.{subst, sym}
 use Rattle.orc_core.specs.declared.ops.Op.TheVariants.{LinkCas}
 use Rattle.orc_machine_board.specs.Kinds.{MayDo, asks}
 use Rattle.orc_machine_board.specs.Licences.{MoveAllowed}

@@ -1,4 +1,4 @@
-use Rattle.std.proofs.Common.{Some, ap, eq-eqb, eqb, refl, subst, sym, ◌∙◌, ◌≡◌, ◌≢◌}
+use Rattle.std.proofs.Common.{Some, ap, eq-eqb, eqb, refl, subst, sym, ◌∙◌, ◌≢◌}
 use Rattle.std.proofs.lemmas.Bool.{false≢true}
 use Rattle.std.specs.Option.{option_eq}
 use Rattle.orc_domain.specs.Rows.{row_link}

@@ -1,7 +1,6 @@
 use Rattle.orc_reclaiming_domain.proofs.Protecting.{still_ready}
 use Rattle.orc_reclaiming_domain.proofs.Stages.{stage}
-use Rattle.orc_reclaiming_domain.proofs.Swinging.{leaves_both, move_on, other_on, place_on, read_untouched, swings_both, want_on}
-use Rattle.orc_reclaiming_domain.specs.Passes.{domain_bounds}
+use Rattle.orc_reclaiming_domain.proofs.Swinging.{leaves_both, move_on, read_untouched, swings_both}
 use Rattle.orc_reclaiming_domain.proofs.domain.OrcDomain.swing.Goals as goal
 
 pub returns-in_err-prepare-clause-pass : goal.returns-in_err-prepare-clause-pass
