@@ -1,5 +1,5 @@
 -- What a change of a link leaves pending is counted, step by step.
-use Rattle.std.proofs.Common.{Bool, List, None, Option, Some, [], ap, arith, cond, eq-eqb, false, get_or-set_same, inr, length, refl, subst, sym, true, ℕ, ◌++◌, ◌+◌, ◌<◌, ◌^◌, ◌∙◌, ◌≡◌, ◌∷◌}
+use Rattle.std.proofs.Common.{Bool, List, None, Option, Some, [], ap, arith, cond, eq-eqb, false, get_or-set_same, inr, length, refl, subst, sym, true, ℕ, ◌++◌, ◌<◌, ◌^◌, ◌∙◌, ◌≡◌, ◌∷◌}
 use Rattle.std.proofs.lemmas.Bool.{lt-ltb}
 use Rattle.std.specs.Prelude.{map, nat_lt, not, slice_get, slice_index_or, slice_set, ◌&&◌, ◌==◌, ◌||◌}
 use Rattle.orc_core.specs.Allowed.{in_order, may}
@@ -255,7 +255,8 @@ module _ {D N : Type 0} {d : discipline.Ghosts D N} {k : MachineShape N} (s t : 
       down_clear =
           let at : slot_of v.view.record_is 0 ≡ Held r = ap (λ (l : List SlotUse). slice_index_or l 0 Empty)
           (z.same.slots ∙ ap (λ (e : Agent). e.slots) m2.record_is) ∙ armed in
-          let other : holds_fresh v.view.record_is.fresh (Held r) ≡ false = held_other v.view.record_is.fresh r (ap (λ f. names f r) z.same.fresh ∙ not_fresh) in
+          let other : holds_fresh v.view.record_is.fresh (Held r) ≡ false = held_other v.view.record_is.fresh r
+          (ap (λ f. names f r) z.same.fresh ∙ not_fresh) in
           clear_may (bounds_in k) v.view.agent 0 v.view.record_is v.number (omega arith) down_calm (ap is_empty at)
           (ap (holds_fresh v.view.record_is.fresh) at ∙ other)
 
@@ -269,7 +270,8 @@ module _ {D N : Type 0} {d : discipline.Ghosts D N} {k : MachineShape N} (s t : 
           let to_u = subst (λ a. LeavesNothing a t.view.journal u.view.journal) m.agent (leaves_one t u (Dec r) o m2 tt) in
           let two = m2.agent ∙ m.agent in
           let to_v = subst (λ a. LeavesNothing a u.view.journal v.view.journal) two z.leaves in
-          let last : LeavesNothing v.view.agent v.view.journal w.view.journal = record { ops = Clear 0 ∷ TakeIn 0 ∷ []; done = un.done; taken_in = (refl, tt) } in
+          let last : LeavesNothing v.view.agent v.view.journal w.view.journal =
+          record { ops = Clear 0 ∷ TakeIn 0 ∷ []; done = un.done; taken_in = (refl, tt) } in
           let to_w = subst (λ a. LeavesNothing a v.view.journal w.view.journal) (z.only.puts.agent ∙ two) last in
           record {
             only = slot_again (seat s) (seat t) (seat v) (seat w) _ (empty_seat (ids_of b s.view) x.slots c.eight c.zero) in_slot

@@ -1,5 +1,5 @@
 -- One change of a link, and what it leaves pending.
-use Rattle.std.proofs.Common.{Bool, List, None, Option, Some, [], ap, arith, cond, eq-eqb, eqb-true, false, refl, subst, sym, true, ℕ, ⊎_elim, ◌++◌, ◌+◌, ◌∙◌, ◌≡◌, ◌≢◌, ◌∷◌, ◌⊎◌}
+use Rattle.std.proofs.Common.{Bool, List, None, Option, Some, [], ap, arith, cond, eq-eqb, eqb-true, false, refl, subst, sym, true, ℕ, ⊎_elim, ◌++◌, ◌∙◌, ◌≡◌, ◌≢◌, ◌∷◌}
 use Rattle.std.proofs.lemmas.Bool.{eqb-false, ne_eqb}
 use Rattle.std.specs.Option.{option_map}
 use Rattle.std.specs.Prelude.{if◌then◌else◌, length, map, not, ◌==◌, ◌&&◌, ◌||◌}
@@ -241,9 +241,11 @@ module _ {D N : Type 0} {d : discipline.Ghosts D N} {k : MachineShape N} (s t : 
     old_not_fresh : (r : ℕ) → f.to ≡ Some r → names s.view.record_is.fresh r ≡ false
     old_not_fresh r e =
         let e0 = s.view.record_is in
-        let target : (link_of g).to ≡ Some r = ap (λ (z : RowLink). z.to) (ap link_of (eqb-true g (link_word f) is_won) ∙ link_back f (want_low s from hf)) ∙ e in
+        let same : link_of g ≡ f = ap link_of (eqb-true g (link_word f) is_won) ∙ link_back f (want_low s from hf) in
+        let target : (link_of g).to ≡ Some r = ap (λ (z : RowLink). z.to) same ∙ e in
         old_other q note s t n m is w (λ y. any_holds e0.slots y && not (names e0.fresh y))
-        (λ y h. has_either (any_holds e0.slots y) (names e0.fresh y) (and_both (any_holds e0.slots y) (not (names e0.fresh y)) h).0) (cas_place s at there other) r target
+        (λ y h. has_either (any_holds e0.slots y) (names e0.fresh y) (and_both (any_holds e0.slots y) (not (names e0.fresh y)) h).0)
+        (cas_place s at there other) r target
 
     fresh_now : t.view.record_is.fresh ≡ fresh_left f.to l.to s.view.record_is.fresh
     fresh_now = ap (λ (e : Agent). e.fresh) m.record_is

@@ -1,6 +1,8 @@
 -- A row's counter was read, and then a link is changed: what a caller names holds still, and what is told is told of the whole call.
-use Rattle.std.proofs.Common.{Bool, List, None, Option, Some, [], append_assoc, false, refl, subst, sym, true, ◌++◌, ◌∙◌, ◌≡◌, ◌∷◌}
+use Rattle.std.proofs.Common.{Bool, List, None, Option, Some, [], ap, append_assoc, eq-eqb, eqb, false, refl, subst, sym, true, ℕ, ◌++◌, ◌∙◌, ◌≡◌, ◌≢◌, ◌∷◌}
+use Rattle.std.proofs.lemmas.Bool.{false≢true}
 use Rattle.std.specs.Borrow.{Bor}
+use Rattle.std.specs.Option.{option_eq}
 use Rattle.std.specs.Prelude.{Err, IfErr, Ok, Result}
 use Rattle.orc_heap.proofs.Calls.{Puts-trans}
 use Rattle.orc_heap.proofs.Stays.{allowed-join, allowed-right}
@@ -32,6 +34,9 @@ use Rattle.orc_words.specs.Bounds.{Bounds}
 
 pub checks_none : {N : Type 0} (b : Bounds) (s : MachineView N) → Checks b s s
 checks_none b s = record { idle = idle_none b s; leaves = leaves_none s.agent s.journal }
+
+pub not_equal : (o : Option ℕ) (r : ℕ) → false ≡ option_eq eqb o (Some r) → o ≢ Some r
+not_equal o r e same = false≢true (e ∙ (ap (λ u. option_eq eqb u (Some r)) same ∙ eq-eqb r r refl))
 
 pub if_err_map : {T E : Type 0} {P Q : E → Type 0} (r : Result T E) → ((e : E) → P e → Q e) → IfErr r P → IfErr r Q
 if_err_map (Ok x) f h = h

@@ -40,7 +40,8 @@ returns-then-moved-ne1-clause-untouched g c =
     s.view c.link_cas-moved.result t.view)
     (λ i. (c.word_at-word.ensures i, c.row_link-old.ensures i, c.row_link-new.ensures i)) e.makes in
     let is : Between s = record { ready = r.ready; untouched = r.untouched } in
-    missed_untouched s t c.args.place.now c.args.from.now c.args.to.now c.args.note c.link_cas-moved.result m is r.place r.linked r.links.0 r.links.1 c.if-moved-ne1.true
+    missed_untouched s t c.args.place.now c.args.from.now c.args.to.now c.args.note c.link_cas-moved.result m is r.place r.linked r.links.0 r.links.1
+    c.if-moved-ne1.true
 
 pub returns-then-moved-ne1-clause-swung : goal.returns-then-moved-ne1-clause-swung
 returns-then-moved-ne1-clause-swung g c =
@@ -53,7 +54,8 @@ returns-then-moved-ne1-clause-swung g c =
     s.view c.link_cas-moved.result t.view)
     (λ i. (c.word_at-word.ensures i, c.row_link-old.ensures i, c.row_link-new.ensures i)) e.makes in
     let is : Between s = record { ready = r.ready; untouched = r.untouched } in
-    misses s t c.args.place.now c.args.from.now c.args.to.now c.args.note c.link_cas-moved.result m is r.place r.linked r.links.0 r.links.1 c.if-moved-ne1.true
+    misses s t c.args.place.now c.args.from.now c.args.to.now c.args.note c.link_cas-moved.result m is r.place r.linked r.links.0 r.links.1
+    c.if-moved-ne1.true
 
 pub returns-then-moved-ne1-clause-leaves : goal.returns-then-moved-ne1-clause-leaves
 returns-then-moved-ne1-clause-leaves g c =
@@ -66,7 +68,8 @@ returns-then-moved-ne1-clause-leaves g c =
     s.view c.link_cas-moved.result t.view)
     (λ i. (c.word_at-word.ensures i, c.row_link-old.ensures i, c.row_link-new.ensures i)) e.makes in
     let is : Between s = record { ready = r.ready; untouched = r.untouched } in
-    missed_leaves s t c.args.place.now c.args.from.now c.args.to.now c.args.note c.link_cas-moved.result m is r.place r.linked r.links.0 r.links.1 c.if-moved-ne1.true
+    missed_leaves s t c.args.place.now c.args.from.now c.args.to.now c.args.note c.link_cas-moved.result m is r.place r.linked r.links.0 r.links.1
+    c.if-moved-ne1.true
 
 pub complete-requires-clause-countable : goal.complete-requires-clause-countable
 complete-requires-clause-countable g c =
@@ -79,7 +82,8 @@ complete-requires-clause-countable g c =
     s.view c.link_cas-moved.result t.view)
     (λ i. (c.word_at-word.ensures i, c.row_link-old.ensures i, c.row_link-new.ensures i)) e.makes in
     let is : Between s = record { ready = r.ready; untouched = r.untouched } in
-    countable s t c.args.place.now c.args.from.now c.args.to.now c.args.note c.link_cas-moved.result m is r.place r.linked r.links.0 r.links.1 c.if-moved-ne1.false
+    countable s t c.args.place.now c.args.from.now c.args.to.now c.args.note c.link_cas-moved.result m is r.place r.linked r.links.0 r.links.1
+    c.if-moved-ne1.false
 
 pub returns-clause-untouched : goal.returns-clause-untouched
 returns-clause-untouched g c =
