@@ -1,5 +1,6 @@
 pub mod Adding
 pub mod Aiming
+pub mod AnySwings
 pub mod Counters
 pub mod Counting
 pub mod Exchanging

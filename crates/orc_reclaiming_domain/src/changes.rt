@@ -31,7 +31,7 @@ impl<D: Discipline> OrcDomain<D> {
     ///
     /// # Errors
     ///
-    /// `Spent` where the target's row was read with a sequence at the limit for links, or above it.
+    /// `Spent` where the sequence of the target's row was read as the shape's limit + 64 or more.
     pub fn aim(
         &self,
         p: &mut OrcPass<D>,
@@ -64,8 +64,8 @@ impl<D: Discipline> OrcDomain<D> {
     ///
     /// # Errors
     ///
-    /// `Spent` where `to` has another target than `from`, and the row of that was read with a sequence at the limit for
-    /// links, or above it.
+    /// `Spent` where `to` has another target than `from`, and the sequence of its row was read as the shape's limit + 64
+    /// or more.
     pub fn swing(
         &self,
         p: &mut OrcPass<D>,
