@@ -68,23 +68,42 @@ value_read n t id value result below node r =
     let same : r.node ≡ stack_node t.agent value below = cc in
     r.is value (ap (λ x. x.first) same)
 
--- two looks, one from the other's node, and a value of each
-module _ {n : HeapNumbers} {root : Place} {s0 s1 s2 s3 s4 : Seat ℕ} {upper lower : Hold} (free : IsFree s0.slots 3) (free_lower : IsFree s1.slots 4)
-    (f1 : Finds n root 3 s0 upper s1) (f2 : Finds n (Next (id_in s1.slots upper)) 4 s1 lower s2) (v1 : StackStays n s2 s3) (v2 : StackStays n s2 s4)
-  where
-    pub pair_read : (a b first second : ℕ) (pair : HasPair n s0 a b) → LeadsTo n s0 root pair.upper_id
-        → ReadsValue (heap_of n s3) (id_in s2.slots upper) 0 first → ReadsValue (heap_of n s4) (id_in s3.slots lower) 0 second → first ≡ a × second ≡ b
-    pair_read a b first second pair leads r1 r2 =
-        let up = pair.upper_id in
-        let low = pair.lower_id in
-        let up_is : id_in s1.slots upper ≡ up = found_id free f1 ∙ f1.is up leads in
-        let at_up : HasNode n s1 up a (Some low) = f1.nodes up a (Some low) pair.upper_node in
-        let at_low : HasNode n s2 low b None = f2.nodes low b None (f1.nodes low b None pair.lower_node) in
-        let low_is : id_in s2.slots lower ≡ low =
-        found_id free_lower f2 ∙ f2.is low (a, subst (λ i. HasNode n s1 i a (Some low)) (sym up_is) at_up) in
-        let up_stays : id_in s2.slots upper ≡ up = found_other_id free_lower f2 upper (λ e. omega (arith, e, f1.slot_is)) ∙ up_is in
-        let low_stays : id_in s3.slots lower ≡ low = ap (λ z. id_in z lower) v1.slots ∙ low_is in (
-          value_read n s3 _ a first (Some low)
-              (subst (λ i. HasNode n s3 i a (Some low)) (sym up_stays) (v1.nodes up a (Some low) (f2.nodes up a (Some low) at_up))) r1,
-          value_read n s4 _ b second None (subst (λ i. HasNode n s4 i b None) (sym low_stays) (v2.nodes low b None at_low)) r2,
-        )
+-- two looks, the second one at the link of the node that the first one found
+pub record FindsTwo (n : HeapNumbers) (root : Place) (upper lower : Hold) (s0 s1 s2 : Seat ℕ) : Type 0 where
+  pub free : IsFree s0.slots 3
+  pub free_lower : IsFree s1.slots 4
+  pub one : Finds n root 3 s0 upper s1
+  pub two : Finds n (Next (id_in s1.slots upper)) 4 s1 lower s2
+
+pub two_found : {n : HeapNumbers} {root : Place} {upper lower : Hold} {s0 s1 s2 : Seat ℕ} → IsFree s0.slots 3 → IsFree s0.slots 4
+    → Finds n root 3 s0 upper s1 → Finds n (Next (id_in s1.slots upper)) 4 s1 lower s2 → FindsTwo n root upper lower s0 s1 s2
+two_found free free_other one two =
+    record { free = free; free_lower = found_free free one 4 (λ e. omega (arith, e)) free_other; one = one; two = two }
+
+module _ {n : HeapNumbers} {root : Place} {upper lower : Hold} {s0 s1 s2 : Seat ℕ} (f : FindsTwo n root upper lower s0 s1 s2) where
+  pub upper_holds : Holds s2.slots upper
+  upper_holds = found_other f.free_lower f.two upper (λ e. omega (arith, e, f.one.slot_is)) (found_holds f.free f.one)
+
+  -- the release of the lower node
+  pub lower_released : {s4 s5 : Seat ℕ} → s0.fresh ≡ None → StackStays n s2 s4 → AllAllowed (OwnRootsMay n) [] s5.seen → Releases s4 lower s5
+      → StackStays n s1 s5
+  lower_released fresh stays all w = found_released f.free_lower f.two all stays (f.one.fresh ∙ fresh) w
+
+  -- a value of each
+  pub pair_read : {s3 s4 : Seat ℕ} → StackStays n s2 s3 → StackStays n s2 s4 → (a b first second : ℕ) (pair : HasPair n s0 a b)
+      → LeadsTo n s0 root pair.upper_id → ReadsValue (heap_of n s3) (id_in s2.slots upper) 0 first
+      → ReadsValue (heap_of n s4) (id_in s3.slots lower) 0 second → first ≡ a × second ≡ b
+  pair_read {s3} {s4} v1 v2 a b first second pair leads r1 r2 =
+      let up = pair.upper_id in
+      let low = pair.lower_id in
+      let up_is : id_in s1.slots upper ≡ up = found_id f.free f.one ∙ f.one.is up leads in
+      let at_up : HasNode n s1 up a (Some low) = f.one.nodes up a (Some low) pair.upper_node in
+      let at_low : HasNode n s2 low b None = f.two.nodes low b None (f.one.nodes low b None pair.lower_node) in
+      let low_is : id_in s2.slots lower ≡ low =
+      found_id f.free_lower f.two ∙ f.two.is low (a, subst (λ i. HasNode n s1 i a (Some low)) (sym up_is) at_up) in
+      let up_stays : id_in s2.slots upper ≡ up = found_other_id f.free_lower f.two upper (λ e. omega (arith, e, f.one.slot_is)) ∙ up_is in
+      let low_stays : id_in s3.slots lower ≡ low = ap (λ z. id_in z lower) v1.slots ∙ low_is in (
+        value_read n s3 _ a first (Some low)
+            (subst (λ i. HasNode n s3 i a (Some low)) (sym up_stays) (v1.nodes up a (Some low) (f.two.nodes up a (Some low) at_up))) r1,
+        value_read n s4 _ b second None (subst (λ i. HasNode n s4 i b None) (sym low_stays) (v2.nodes low b None at_low)) r2,
+      )

@@ -7,12 +7,12 @@ use Rattle.orc_heap.specs.declared.events.Event.{Event}
 use mathlib.Core.List.{IsPrefix}
 use Rattle.orc_shared_words.specs.Lists.{Among}
 use Rattle.orc_shared_words.specs.declared.machine.Machine as machine
-use Rattle.orc_table.specs.Views.{PlainView}
+use Rattle.orc_table.specs.Views.{PlainView, shows}
 use Rattle.orc_table.specs.declared.machine.Plain.{Plain}
 use Rattle.orc_table.specs.declared.machine.PlainOp.{PlainOp}
 use Rattle.orc_table.specs.declared.machine.PlainStep.{PlainStep}
 use Rattle.orc_table.specs.declared.shape.PlainShape.{PlainShape}
-use Rattle.orc_domain.specs.Passes.{seat_of}
+use Rattle.orc_domain.specs.Passes.{IsPassOf, seat_of}
 use Rattle.orc_domain.specs.declared.domain.PlainDomain.{PlainDomain}
 use Rattle.orc_domain.specs.declared.domain.PlainRest.{PlainRest}
 
@@ -37,3 +37,11 @@ module _ {D N : Type 0} {d : discipline.Ghosts D N} {m : machine.Ghosts Plain N 
 
   abbrev pub rest_journal : PlainRest D N d m → List (Event N)
   rest_journal r = (seat_of r.domain r.pass).seen
+
+  -- the rows that its Gives gave, in their order
+  abbrev pub rest_rows : PlainRest D N d m → List ℕ
+  rest_rows r = (shows r.domain.board r.pass.pass).rows
+
+  -- the pass that is left is one of the domain's, so its board has shown this list
+  abbrev pub IsShown : PlainRest D N d m → Type 0
+  IsShown r = IsPassOf r.domain r.pass

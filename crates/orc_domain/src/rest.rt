@@ -7,7 +7,7 @@ ghost use Rattle.orc_table.specs.Views.{shows};
 ghost use Rattle.orc_domain.specs.Ends.{AreAll, FirstSawAll, first_seen};
 ghost use Rattle.orc_heap.specs.Moves.{gives_in};
 ghost use Rattle.orc_domain.specs.Passes.{IsPassOf, domain_bounds, seat_of};
-ghost use Rattle.orc_domain.specs.Rest.{CoversAll, TakesIn, rest_domain, rest_journal};
+ghost use Rattle.orc_domain.specs.Rest.{CoversAll, IsShown, TakesIn, rest_domain, rest_journal};
 
 use crate::domain::{PlainDomain, PlainPass, PlainRest};
 use orc_heap::Discipline;
@@ -42,6 +42,7 @@ impl<D: Discipline> PlainDomain<D> {
         requires all { AreAll self passes.items }
         requires own { FirstSawAll self passes.items }
         ensures domain { rest_domain result ≡ self }
+        ensures shown { IsShown result }
         ensures journal { rest_journal result ≡ first_seen self passes.items }
     {
         let mut others = passes;

@@ -22,14 +22,12 @@ pub struct OneList<L: Links<Rule = Chain>> {
 }
 
 impl<L: Links<Rule = Chain>> OneList<L> {
-    /// The set of a domain with one root.
-    pub fn new(links: L) -> OneList<L>
-        requires { (L.numbers links).roots ≡ 1 }
-        ensures { result.list.links ≡ links }
+    /// The set of the one list of a domain with one root.
+    pub fn new(list: List<L>) -> OneList<L>
+        requires { (L.numbers list.links).roots ≡ 1 }
+        ensures { result.list ≡ list }
     {
-        OneList {
-            list: List::new(links),
-        }
+        OneList { list }
     }
 
     /// The domain of links that the set stands on.

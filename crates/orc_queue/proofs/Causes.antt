@@ -171,7 +171,7 @@ module _ {S : Type 0} {n : HeapNumbers} {agents : ℕ} {agent_of : S → ℕ} {e
     take_err turns (Ok got) l = tt
     take_err turns (Err again) l = call_adds _ turns [] l.call
 
-    -- o.all turns were used
+    -- all turns were used
     pub turns_used : (given turns : ℕ) → Tires given turns s t → InPart agent_of s.agent j k (λ from to. UsesTurns agent_of events s.agent turns k from to)
     turns_used given turns l =
         let p = l.call.puts in

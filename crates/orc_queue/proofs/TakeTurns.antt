@@ -157,6 +157,7 @@ module _ (n : HeapNumbers) (s a b t : Seat FifoNote) (slot : ℕ) (head next : H
         let slots = found_released f.node (piece got l).slots released in
         behind_taken n (id_in s.slots head) f.node.id s a b t f.puts f.after.all released.puts slots fresh (still_fresh got l) job at (told got l)
 
+-- and after all that a turn does behind the head
 pub behind_kept : (n : HeapNumbers) (head : ℕ) (s t : Seat FifoNote) (turn : TakeTurn) → TakesBehind n head s turn t → TakenPiece s t
 behind_kept n head s t TakeOver l = record { own = l.piece.own; slots = l.piece.slots; fresh = l.fresh; puts = l.piece.puts }
 behind_kept n head s t (TakeDone job at) l = record { own = l.piece.own; slots = l.piece.slots; fresh = l.fresh; puts = l.piece.puts }

@@ -1,11 +1,10 @@
 -- The set with one word for each number: its words show its numbers, and what a call and a learning tell of its history.
-use Rattle.std.proofs.Common.{◌≡◌, ◌≢◌, ℕ, ◌<◌, List, [], ◌∷◌, ◌++◌, length, length-set, Bool, true, false, cond, not, ◌||◌, filter, ◌==◌, ◌⊎◌, inl, inr, Option, None, Some, slice_index, slice_set, get_or-set_same, get_or-set_other, refl, ap, sym, ◌∙◌, subst, append_assoc, append-nil, arith}
+use Rattle.std.proofs.Common.{◌≡◌, ◌≢◌, ℕ, ◌<◌, List, [], ◌∷◌, ◌++◌, length, length-set, Bool, true, false, cond, not, ◌||◌, filter, ◌==◌, ◌⊎◌, inl, inr, None, Some, slice_index, slice_set, get_or-set_same, get_or-set_other, refl, ap, sym, ◌∙◌, subst, append_assoc, append-nil, arith}
 use Rattle.std.proofs.lemmas.List.{get_or-replicate, length-replicate}
 use Rattle.std.proofs.lemmas.List.Elements.{filter-append}
 use Rattle.std.proofs.lemmas.List.Folds.{list_any-append}
 use Rattle.std.proofs.lemmas.Bool.Decides.{nat_tests}
 use Rattle.std.proofs.Math.ListN.{replicate}
-use Rattle.std.specs.List.{AllByRecursion, list_any}
 use mathlib.Core.List.{IsPrefix}
 use Rattle.orc_board.proofs.ListFacts.{eq-yes, eq-no, eq-true, eq-false, AllByRecursion-map, AllByRecursion-append}
 use Rattle.orc_history.specs.declared.set.SetEntry.{SetEntry}

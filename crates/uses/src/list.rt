@@ -8,7 +8,7 @@ use orc_domain::{PlainDomain, PlainPass};
 use orc_fault::NoMemory;
 use orc_heap::Seed;
 use orc_history::SharedSet;
-use orc_list::OneList;
+use orc_list::{List, OneList};
 use orc_words::Shape;
 use std::alloc::Global;
 
@@ -31,7 +31,7 @@ pub fn one_list_over(alloc: Global, shape: &Shape) -> Result<(DomainList, Vec<Li
     ensures passes { IfOk result (λ made. length made.1.items ≡ (bounds_of shape.now).agents) }
 {
     let (domain, passes) = PlainDomain::make(alloc, shape, Seed::Empty)?;
-    Ok((OneList::new(domain), passes))
+    Ok((OneList::new(List::new(domain)), passes))
 }
 
 /// The pass of the last agent that is left.

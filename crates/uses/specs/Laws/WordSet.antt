@@ -1,9 +1,9 @@
 -- What the machine's and the set's laws need: the words mirror the numbers, and the history is that of a set.
-use Rattle.std.proofs.Common.{◌≡◌, ◌≢◌, ℕ, ◌+◌, ◌<◌, List, [], ◌∷◌, ◌++◌, length, Bool, true, false, cond, not, filter, ◌==◌, ◌||◌, Option, slice_index, slice_set, refl, ap, sym, ◌∙◌, subst, append_assoc, append-nil, arith}
+use Rattle.std.proofs.Common.{◌≡◌, ℕ, ◌<◌, List, [], ◌∷◌, ◌++◌, Bool, slice_index, slice_set, refl, ap, sym, subst}
 use Rattle.std.specs.List.{AllByRecursion}
 use mathlib.Core.List.{IsPrefix}
 use Rattle.orc_history.specs.declared.set.SetEntry.{SetEntry}
-use Rattle.orc_history.specs.SetHistory.{IsLegalSetFrom, agent_of_set_entry, has, with_key, without_key}
+use Rattle.orc_history.specs.SetHistory.{IsLegalSetFrom, agent_of_set_entry, has}
 use Rattle.orc_shared_words.specs.Runs.{AgentsBelow, Obeys}
 use Rattle.orc_shared_words.specs.declared.journal.JournalStep.{JournalStep}
 use Rattle.uses.specs.declared.word_set.WordSetCall.{WordSetCall}

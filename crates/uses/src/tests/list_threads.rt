@@ -100,7 +100,7 @@ fn by_four<R: Threads + Sync>(
         &mut || -> u64
             requires a { IsPassOf list.now.list.links a.now × IsIdle (seat_of list.now.list.links a.now) }
             requires b { IsPassOf list.now.list.links b.now × IsIdle (seat_of list.now.list.links b.now) }
-            ensures a { IsPassOf list.now.list.links a.now × IsIdle (seat_of list.now.list.links a.now) }
+            ensures a { IsPassOf list.exit.now.list.links a.exit.now × IsIdle (seat_of list.exit.now.list.links a.exit.now) }
         { by_two(rt, list, a, b, 1) },
         &mut || -> u64
             requires c { IsPassOf list.now.list.links c.now × IsIdle (seat_of list.now.list.links c.now) }

@@ -4,7 +4,8 @@ use Rattle.std.specs.Prelude.{None, Some}
 use Rattle.orc_heap.proofs.ByAnswer.{Swings-fresh, Swings-missed, Swings-moved}
 use Rattle.orc_heap.specs.Seats.{target_in}
 use Rattle.orc_heap.specs.Slots.{id_in}
-use Rattle.links_example.proofs.Pushing.{Readied, given_ready, linked_ready, ready_after, ready_fresh, ready_holds, ready_pushed, ready_released, ready_same, ready_target}
+use Rattle.links_example.proofs.Pushing.{Readied, given_ready, linked_ready, ready_after, ready_fresh, ready_holds}
+use Rattle.links_example.proofs.Pushing.{ready_pushed, ready_released, ready_same, ready_target}
 use Rattle.links_example.proofs.Stays.{stack_stays}
 use Rattle.links_example.proofs.Swings.{move_allowed, no_miss}
 use Rattle.links_example.specs.Stacks.{plain_link}

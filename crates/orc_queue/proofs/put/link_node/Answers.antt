@@ -44,7 +44,7 @@ filled g c at_is =
       read = c.value-at.ensures.nothing;
       fill = c.fill.ensures.filled;
       at_is = at_is;
-      low = c.if-at-ge-POSITIONS.false;
+      low = omega (arith, c.if-at-ge-POSITIONS.false);
     }
 
 pub returns-then-at-ge-POSITIONS-clause-linked : goal.returns-then-at-ge-POSITIONS-clause-linked

@@ -1,0 +1,4 @@
+pub mod Drained
+pub mod Actual
+pub mod DeskPasses
+pub mod SameSizes

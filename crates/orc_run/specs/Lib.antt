@@ -1,0 +1,4 @@
+pub mod Domains
+pub mod Containers
+pub mod Journals
+pub mod Runs

@@ -1,0 +1,68 @@
+//! The whole run.
+
+ghost use Rattle.std.specs.Prelude.{◌≡◌, ◌+◌, ◌≤◌, IfOk};
+ghost use Rattle.orc_jobs.specs.GoodLines.{AreGood};
+ghost use Rattle.orc_run.specs.Domains.{agents_of};
+ghost use Rattle.orc_run.specs.Journals.{GivesEachRowOnce};
+ghost use Rattle.orc_run.specs.Runs.{HasQueueJournal, HasSetJournal, RepliesFollow};
+
+use crate::containers::{make_queue, make_set};
+use crate::desks::{fresh_desks, room_for_passes};
+use crate::ending::{Ends, end_run};
+use orc_board::{Gate, Replies};
+use orc_chain_rule::Chain;
+use orc_domain::PlainRest;
+use orc_fault::NoMemory;
+use orc_fifo_rule::Fifo;
+use orc_jobs::Lines;
+use orc_workers::run_at_desks;
+use std::alloc::Global;
+use std::sync::Wait;
+use std::thread::Threads;
+
+/// What a run leaves: the domain of the queue and that of the set at rest, each with the journal of all that happened
+/// on it, and the replies.
+#[derive(Drop)]
+pub struct Finished {
+    pub queue: PlainRest<Fifo>,
+    pub set: PlainRest<Chain>,
+    pub replies: Replies,
+}
+
+/// Works through these lines with 1 to 8 posters and 0 to 7 takers, each on a thread of its own where one can be started,
+/// over a queue and a set of 65,535 rows each. Then the caller takes what is left.
+///
+/// # Errors
+///
+/// `NoMemory` where memory is refused. All of it is taken before the first worker starts.
+pub fn run_lines<R: Threads + Wait + Sync, G: Gate + Sync>(
+    rt: &R,
+    alloc: Global,
+    lines: &Lines,
+    posters: u32,
+    takers: u32,
+    gate: &G,
+) -> Result<Finished, NoMemory>
+    requires good { AreGood lines.now }
+    requires posters { (1 ≤ posters) × (posters ≤ 8) }
+    requires takers { takers ≤ 7 }
+    ensures replies { IfOk result (λ f. RepliesFollow lines.now posters takers f) }
+    ensures queue_journal { IfOk result (λ f. HasQueueJournal (agents_of posters takers) f.queue) }
+    ensures set_journal { IfOk result (λ f. HasSetJournal (agents_of posters takers) f.set) }
+    ensures rows { IfOk result (λ f. GivesEachRowOnce f.queue × GivesEachRowOnce f.set) }
+{
+    let agents = 1 + posters + takers;
+    let (queue, queue_passes) = make_queue(alloc, agents)?;
+    let (set, set_passes) = make_set(alloc, agents)?;
+    let passes = room_for_passes(alloc, agents as usize)?;
+    let mut desks = fresh_desks(alloc, &queue, &set, queue_passes, set_passes)?;
+    let replies = run_at_desks(
+        rt, alloc, lines, posters, takers, &queue, &set, &mut desks, gate,
+    )?;
+    let Ends { queue, set } = end_run(queue, set, desks, passes);
+    Ok(Finished {
+        queue,
+        set,
+        replies,
+    })
+}
