@@ -1,5 +1,9 @@
 pub mod Adding
+pub mod Aiming
+pub mod AnySwings
 pub mod Counters
+pub mod Counting
+pub mod Exchanging
 pub mod Filling
 pub mod FreshRows
 pub mod Gates
@@ -8,6 +12,7 @@ pub mod Held
 pub mod Lacking
 pub mod Lasting
 pub mod Learning
+pub mod Linking
 pub mod Loading
 pub mod Looking
 pub mod Making
@@ -21,7 +26,9 @@ pub mod Searching
 pub mod Seats
 pub mod Setting
 pub mod Stages
+pub mod Swinging
 pub mod Taking
 pub mod Testing
 pub mod Trying
 pub mod Untouched
+pub mod Wearing

@@ -1,7 +1,6 @@
 -- A fresh row that is given up: its retired bit is set at the first try, since nobody else counts it.
 use Rattle.std.proofs.Common.{Bool, List, None, Option, Some, [], ap, append-nil, arith, eq-eqb, false, refl, subst, sym, true, ℕ, ◌++◌, ◌<◌, ◌^◌, ◌+◌, ◌∙◌, ◌≡◌, ◌≢◌, ◌∷◌}
 use Rattle.std.proofs.lemmas.Bool.{lt-ltb}
-use Rattle.std.specs.List.{list_any}
 use Rattle.std.specs.Option.{option_map}
 use Rattle.std.specs.Prelude.{cond, if◌then◌else◌, map, slice_set, ◌&&◌, ◌==◌}
 use Rattle.orc_core.specs.Actions.{clear_word}
@@ -13,38 +12,32 @@ use Rattle.orc_core.specs.declared.ops.Op.TheVariants.{Clear, CounterLoad, SetRe
 use Rattle.orc_core.specs.declared.records.Agent.{Agent}
 use Rattle.orc_heap.proofs.Calls.{Puts-trans}
 use Rattle.orc_heap.proofs.Pieces.{unless_other}
-use Rattle.orc_heap.proofs.Stays.{allowed-left, allowed-right}
-use Rattle.orc_heap.specs.Allowed.{AllAllowed}
 use Rattle.orc_heap.specs.Calls.{Releases, unless_node}
-use Rattle.orc_heap.specs.Journals.{points_to, run_heap}
 use Rattle.orc_heap.specs.OwnEvents.{Puts}
-use Rattle.orc_heap.specs.Seats.{IsUntouched}
 use Rattle.orc_heap.specs.Slots.{Hold, Holds, id_in}
 use Rattle.orc_heap.specs.declared.discipline.Discipline as discipline
 use Rattle.orc_history.specs.Journals.{own_of}
-use Rattle.orc_machine_board.proofs.Licences.{signed}
 use Rattle.orc_machine_board.specs.Holding.{HasRow}
 use Rattle.orc_machine_board.specs.Kinds.{MayDo, asks}
-use Rattle.orc_machine_board.specs.Laws.Steps.{counted_obeys, in_range}
+use Rattle.orc_machine_board.specs.Laws.Steps.{in_range}
 use Rattle.orc_machine_board.specs.Licences.{ids_of}
-use Rattle.orc_machine_board.specs.Rules.{bounds_in, counted_rules, heap_numbers, run_of, step_of}
+use Rattle.orc_machine_board.specs.Rules.{bounds_in, heap_numbers, run_of, step_of}
 use Rattle.orc_machine_board.specs.Views.{MachineView}
 use Rattle.orc_machine_board.specs.declared.machine.MachineShape.{MachineShape}
 use Rattle.orc_projection.proofs.Links.{names-some}
-use Rattle.orc_projection.specs.Projection.{present_ids, project}
 use Rattle.orc_reclaiming_domain.proofs.Filling.{fresh_row}
 use Rattle.orc_reclaiming_domain.proofs.FreshRows.{fresh_between, fresh_clear, load_keeps, low_sequence}
 use Rattle.orc_reclaiming_domain.proofs.Held.{has_low, hold_slot}
 use Rattle.orc_reclaiming_domain.proofs.Protecting.{still_ready, true_false}
 use Rattle.orc_reclaiming_domain.proofs.Releasing.{release_between, release_can}
-use Rattle.orc_reclaiming_domain.proofs.Seats.{before_keep, calm_forced, or_right, puts, ready_calm, slots_keep}
+use Rattle.orc_reclaiming_domain.proofs.Seats.{calm_forced, or_right, puts, ready_calm, slots_keep}
 use Rattle.orc_reclaiming_domain.proofs.Stages.{Between, Stage, Steps, before_lawful, before_out, before_record, before_unmarked, done_none, done_one, done_then, seat, whole_lawful}
-use Rattle.orc_reclaiming_domain.proofs.Untouched.{untouched_more}
+use Rattle.orc_reclaiming_domain.proofs.Untouched.{untouched_before}
+use Rattle.orc_reclaiming_domain.proofs.Wearing.{check_may}
 use Rattle.orc_reclaiming_domain.specs.Calls.{Retires, SameParts, Unlocks}
 use Rattle.orc_reclaiming_domain.specs.OwnSteps.{HasDone, LeavesNothing, TakesInCleared}
 use Rattle.orc_reclaiming_domain.specs.Passes.{IsFreshUntouched}
 use Rattle.orc_reclaiming_domain.specs.Seats.{IsReady, seat_by, slot_by}
-use Rattle.orc_shared_words.proofs.Events.{others_add}
 use Rattle.orc_sound.specs.declared.steps.Step.{Step}
 use Rattle.orc_words.specs.Bounds.{Bounds}
 use Rattle.orc_words.specs.Packed.{sequence_of}
@@ -62,12 +55,7 @@ module _ {D N : Type 0} {d : discipline.Ghosts D N} {k : MachineShape N} (s : St
   low = has_low s r has
 
   pub check_can : MayDo (bounds_in k) s.view (CounterLoad r Check)
-  check_can =
-      let agent = lt-ltb s.view.agent (bounds_in k).agents s.number in
-      let on = between.ready.enrolled in
-      let first = calm_forced s.view.record_is (CounterLoad r Check) (ready_calm s.view.record_is between.ready) in
-      let row = lt-ltb r (bounds_in k).rows low in
-      λ i. ((agent i && on i) && first i) && row i
+  check_can = check_may (bounds_in k) s.view.agent s.view.record_is r s.number (ready_calm s.view.record_is between.ready) low
 
   module _ (t : Stage d k) (n : ℕ) (m1 : Steps (CounterLoad r Check) s n t) where
     abbrev j1 : List (Step N)
@@ -76,30 +64,13 @@ module _ {D N : Type 0} {d : discipline.Ghosts D N} {k : MachineShape N} (s : St
     fresh1 : names (record_at (run_of (bounds_in k) j1) s.view.agent).fresh r ≡ true
     fresh1 = subst (λ (e : Agent). names e.fresh r ≡ true) (sym (before_record (asks (CounterLoad r Check)) None s t n m1)) fresh
 
-    -- the fresh node is untouched until the load
-    untouched1 : IsUntouched s.view.agent (run_heap (heap_numbers k) (project (bounds_in k) j1)) ((present_ids (bounds_in k) j1).node r)
-    untouched1 =
-        let b = bounds_in k in
-        let q = asks (CounterLoad r Check) in
-        let n0 = heap_numbers k in
-        let id : ℕ = (ids_of b s.view).node r in
-        let more = others_add counted_rules k (counted_obeys k) (signed b) s.view.agent s.view.journal m1.met m1.others in
-        let all1 : AllAllowed (d.may n0) [] (project b j1) = allowed-left (d.may n0) [] (project b j1) _ (subst (AllAllowed (d.may n0) [])
-        (ap (project b) m1.journal ∙ (counted_obeys k).project_next j1 (step_of s.view.agent q None)) t.each) in
-        let all2 = allowed-right (d.may n0) [] (project b s.view.journal) more.0 (subst (AllAllowed (d.may n0) []) more.2 all1) in
-        let u0 = between.untouched id (ap (option_map (ids_of b s.view).node) (names-some s.view.record_is.fresh r fresh)) in
-        let u1 = untouched_more d k s.view.agent id (project b s.view.journal) more.0 s.kept all2
-        (ap (λ es. list_any (λ e. points_to e.act id) es) more.1) u0 in
-        subst (λ (z : ℕ). IsUntouched s.view.agent (run_heap n0 (project b j1)) z) (sym (before_keep q None s t n m1 r has))
-        (subst (λ es. IsUntouched s.view.agent (run_heap n0 es) id) (sym more.2) u1)
-
     clear1 : n ≡ clear_word (sequence_of n)
     clear1 =
         let q = asks (CounterLoad r Check) in
         let mine = before_record q None s t n m1 in
         let word = fresh_clear (bounds_in k) s.view.agent r (in_range k.shape) low j1 (record { lawful = before_lawful q None s t n m1; fresh = fresh1 })
         (before_unmarked q None s t n m1) (ap (λ (e : Agent). e.inc) mine ∙ between.ready.inc) (ap (λ (e : Agent). e.dec) mine ∙ between.ready.dec)
-        (before_out q None s t n m1 r has) untouched1 in
+        (before_out q None s t n m1 r has) (untouched_before q None s t n m1 between r fresh) in
         subst (λ w. w ≡ clear_word (sequence_of w)) (sym m1.answer) word
 
     same1 : SameParts s.view.record_is t.view.record_is

@@ -86,7 +86,7 @@ pub ready_calm : (d : Agent) → IsReady d → IsCalm d
 ready_calm d h = record { enrolled = h.enrolled; due = h.due; inc = h.inc; dec = h.dec }
 
 module _ {N : Type 0} where
-  by-append : (a : ℕ) (es fs : List (Event N)) → events_by a es ≡ [] → events_by a (es ++ fs) ≡ events_by a fs
+  pub by-append : (a : ℕ) (es fs : List (Event N)) → events_by a es ≡ [] → events_by a (es ++ fs) ≡ events_by a fs
   by-append a es fs e = own_of-append (λ (z : Event N). z.agent) a es fs ∙ ap (λ l. l ++ events_by a fs) e
 
   own_events : (s : Step N) (o : Option Act) → events_by s.agent (events_of s o) ≡ events_of s o

@@ -1,5 +1,6 @@
 pub mod Calls
 pub mod Causes
+pub mod Changes
 pub mod OwnSteps
 pub mod Passes
 pub mod Searches

@@ -1,6 +1,8 @@
 //! A domain of links whose rows are reclaimed: each row is counted, retired, scanned for, freed and given again.
 #![tactic(auto)]
 
+mod changes;
+mod counts;
 mod domain;
 mod give;
 mod laws;

@@ -266,3 +266,11 @@ pub fn reuse_row_1(board: &Board, p: &mut Pass) -> bool
     let freed = free(board, p, 1);
     taken && retired && freed
 }
+
+// The counter word of a row.
+pub fn counter_of(board: &Board, p: &mut Pass, row: u32) -> Option<u64>
+    requires belongs { Belongs board.now p.old }
+    ensures belongs { Belongs board.now p.new }
+{
+    make_step(board, p, counter(row, CounterUse::Check))
+}

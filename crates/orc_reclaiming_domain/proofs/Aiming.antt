@@ -1,0 +1,127 @@
+-- The link of the fresh row is set, and what that leaves pending.
+use Rattle.std.proofs.Common.{Bool, List, None, Option, Some, [], ap, cond, false, refl, subst, sym, true, ℕ, ⊎_elim, ◌++◌, ◌∙◌, ◌≡◌, ◌∷◌}
+use Rattle.std.proofs.lemmas.Bool.{lt-ltb, ne_eqb}
+use Rattle.std.specs.Option.{option_map}
+use Rattle.std.specs.Prelude.{if◌then◌else◌, length, nat_lt, ◌/◌, ◌&&◌, ◌||◌}
+use Rattle.orc_core.proofs.Within.{and_both}
+use Rattle.orc_core.specs.Allowed.{may_place, may_target}
+use Rattle.orc_core.specs.Machine.{record_at, word_in}
+use Rattle.orc_core.specs.RecordParts.{any_holds, names, same_target, slot_of}
+use Rattle.orc_core.specs.declared.ops.Op.TheVariants.{LinkStore}
+use Rattle.orc_core.specs.declared.records.Agent.{Agent}
+use Rattle.orc_heap.proofs.Calls.{Only-trans}
+use Rattle.orc_heap.specs.Journals.{event_by, names_node}
+use Rattle.orc_heap.specs.OwnEvents.{Only}
+use Rattle.orc_heap.specs.declared.discipline.Discipline as discipline
+use Rattle.orc_heap.specs.declared.events.Act.TheVariants.{Aim}
+use Rattle.orc_machine_board.proofs.Licences.{has_either, same_target as same_node}
+use Rattle.orc_machine_board.specs.Holding.{HasRow, HasTarget}
+use Rattle.orc_machine_board.specs.Kinds.{asks}
+use Rattle.orc_machine_board.specs.Licences.{ids_of}
+use Rattle.orc_machine_board.specs.Rules.{bounds_in, heap_numbers, run_of, step_of, without_mark}
+use Rattle.orc_machine_board.specs.declared.machine.MachineShape.{MachineShape}
+use Rattle.orc_machine_board.specs.declared.machine.Request.{Request}
+use Rattle.orc_projection.proofs.Links.{names-some}
+use Rattle.orc_projection.specs.Projection.{events_of, present_ids}
+use Rattle.orc_reclaiming_domain.proofs.Counting.{leaves_one, leaves_then}
+use Rattle.orc_reclaiming_domain.proofs.Filling.{has_is_out}
+use Rattle.orc_reclaiming_domain.proofs.Held.{has_low, mirrors}
+use Rattle.orc_reclaiming_domain.proofs.Linking.{old_other}
+use Rattle.orc_reclaiming_domain.proofs.Protecting.{true_false}
+use Rattle.orc_reclaiming_domain.proofs.Seats.{before_keep, only, or_right, step_events}
+use Rattle.orc_reclaiming_domain.proofs.Stages.{Between, Stage, Steps, before_record, seat}
+use Rattle.orc_reclaiming_domain.proofs.Untouched.{still_untouched, untouched_at}
+use Rattle.orc_reclaiming_domain.specs.Changes.{Becomes, IsCountable, Stores}
+use Rattle.orc_reclaiming_domain.specs.OwnSteps.{LeavesNothing}
+use Rattle.orc_reclaiming_domain.specs.Passes.{IsFreshUntouched}
+use Rattle.orc_sound.specs.declared.steps.Step.{Step}
+use Rattle.orc_words.specs.Bounds.{Bounds}
+use Rattle.orc_words.specs.Packed.{named}
+use Rattle.orc_words.specs.declared.place.Word.TheVariants.{Next}
+
+-- a pending target is the new one, or the old one
+pending_is : (same : Bool) (o : Option ℕ) (r : ℕ) → cond same None o ≡ Some r → o ≡ Some r
+pending_is true o r e = cc
+pending_is false o r e = e
+
+module _ {D N : Type 0} {d : discipline.Ghosts D N} {k : MachineShape N} (s t : Stage d k) (r : ℕ) (to : Option ℕ) (n : ℕ)
+    (m : Steps (LinkStore r (without_mark to)) s n t) (is : Between s) (fresh : names s.view.record_is.fresh r ≡ true)
+    (target : may_target (bounds_in k) s.view.record_is to ≡ true)
+    (other : (x : ℕ) → to ≡ Some x → names s.view.record_is.fresh x ≡ false) where
+  abbrev b : Bounds
+  b = bounds_in k
+
+  abbrev q : Request
+  q = asks (LinkStore r (without_mark to))
+
+  abbrev j : List (Step N)
+  j = s.view.journal ++ m.met
+
+  abbrev g : ℕ
+  g = word_in (run_of (bounds_in k) (s.view.journal ++ m.met)) (Next r)
+
+  has_fresh : HasRow s.view.record_is r
+  has_fresh = or_right (any_holds s.view.record_is.slots r) (names s.view.record_is.fresh r) fresh
+
+  has_target : (o : Option ℕ) → may_target b s.view.record_is o ≡ true → HasTarget s.view.record_is o
+  has_target None h = tt
+  has_target (Some x) h = has_either (any_holds s.view.record_is.slots x) (names s.view.record_is.fresh x)
+      (and_both (nat_lt x b.rows) (any_holds s.view.record_is.slots x) h).1
+
+  event : step_events q None s t n m ≡ event_by s.view.agent (Aim ((ids_of b s.view).node r) (option_map (ids_of b s.view).node to)) None ∷ []
+  event =
+      let p = present_ids b j in
+      let mine : names (record_at (run_of b j) s.view.agent).fresh r ≡ true = ap (λ (e : Agent). names e.fresh r) (before_record q None s t n m) ∙ fresh in
+      let one = before_keep q None s t n m r has_fresh in
+      let two = same_node (ids_of b s.view) p s.view.record_is (before_keep q None s t n m) to (has_target to target) in
+      ap (λ (c : Bool). events_of (step_of s.view.agent q None) (if c then Some (Aim (p.node r) (option_map p.node to)) else None)) mine
+      ∙ (λ i. event_by s.view.agent (Aim (one i) (two i)) None ∷ [])
+
+  stored : Stores b r to s.view t.view
+  stored = subst (λ es. Only es (seat s) (seat t)) event
+      (only q None s t n m (ap (λ (e : Agent). e.slots) m.record_is) (ap (λ (e : Agent). e.fresh) m.record_is))
+
+  -- what is pending then isn't the fresh row: nothing was linked to that before
+  pub store_countable : IsCountable t.view.record_is
+  store_countable =
+      let e0 = s.view.record_is in
+      let same = same_target (named (g / 2)) to in
+      let inc : t.view.record_is.inc ≡ cond same None to = ap (λ (e : Agent). e.inc) m.record_is ∙ ap (λ o. cond same o to) is.ready.inc in
+      let dec : t.view.record_is.dec ≡ cond same None (named (g / 2)) = ap (λ (e : Agent). e.dec) m.record_is
+      ∙ ap (λ o. cond same o (named (g / 2))) is.ready.dec in
+      let place : may_place b (Next r) (λ x. names e0.fresh x) ≡ true = let low = lt-ltb r b.rows (has_low s r has_fresh) in λ i. low i && fresh i in
+      record {
+        enrolled = ap (λ (e : Agent). e.enrolled) m.record_is ∙ is.ready.enrolled;
+        eight = ap (λ (e : Agent). length e.slots) m.record_is ∙ is.ready.eight;
+        due = ap (λ (e : Agent). e.due) m.record_is ∙ is.ready.due;
+        zero = ap (λ (e : Agent). slot_of e 0) m.record_is ∙ is.ready.zero;
+        others = λ x h. ap (λ (e : Agent). names e.fresh x) m.record_is ∙ ⊎_elim (λ e. other x (pending_is same to x (sym inc ∙ e)))
+            (λ e. old_other q None s t n m is (Next r) (λ y. names e0.fresh y) (λ y f. or_right (any_holds e0.slots y) (names e0.fresh y) f) place x
+            (pending_is same (named (g / 2)) x (sym dec ∙ e))) h;
+      }
+
+  -- the target lies in another row, so that it is another node
+  no_self : (o : Option ℕ) → to ≡ o → (id : ℕ) → id ≡ (ids_of b s.view).node r → names_node (option_map (ids_of b s.view).node o) id ≡ false
+  no_self None e id same = refl
+  no_self (Some x) e id same = ne_eqb ((ids_of b s.view).node x) id (λ one.
+      let has : HasRow s.view.record_is x = subst (HasTarget s.view.record_is) e (has_target to target) in
+      let row : x ≡ r = (mirrors s).apart x r (has_is_out s x has) (has_is_out s r has_fresh) (one ∙ same) in
+      true_false (names s.view.record_is.fresh x) (subst (λ y. names s.view.record_is.fresh y ≡ true) (sym row) fresh) (other x e))
+
+  -- after it was counted
+  module _ (u : Stage d k) (z : Becomes (bounds_in k) (record t.view.record_is { inc = None; dec = None }) t.view u.view) where
+    pub stores : Stores (bounds_in k) r to s.view u.view
+    stores = Only-trans (seat s) (seat t) (seat u) _ [] stored z.only
+
+    pub stored_untouched : IsFreshUntouched (heap_numbers k) (seat u)
+    stored_untouched id e =
+        let p = ids_of b s.view in
+        let was : (seat s).fresh ≡ Some id = sym stored.fresh ∙ (sym z.only.fresh ∙ e) in
+        let its : Some (p.node r) ≡ Some id = sym (ap (option_map p.node) (names-some s.view.record_is.fresh r fresh)) ∙ was in
+        let same : id ≡ p.node r = cc in
+        still_untouched t u [] z.only.puts (λ y. refl) id
+        (untouched_at s t _ stored.puts id (ap (λ y. y || false) (no_self to refl id same)) (is.untouched id was))
+
+    pub stored_leaves : LeavesNothing s.view.agent s.view.journal u.view.journal
+    stored_leaves = leaves_then s.view.agent s.view.journal t.view.journal u.view.journal (leaves_one s t (LinkStore r (without_mark to)) n m tt)
+        (subst (λ a. LeavesNothing a t.view.journal u.view.journal) m.agent z.leaves)

@@ -1,0 +1,53 @@
+use Rattle.orc_reclaiming_domain.proofs.Aiming.{store_countable, stored_leaves, stored_untouched, stores}
+use Rattle.orc_reclaiming_domain.proofs.Linking.{store_can}
+use Rattle.orc_reclaiming_domain.proofs.Stages.{Between, stage}
+use Rattle.orc_reclaiming_domain.proofs.domain.OrcDomain.store.Goals as goal
+
+pub link_store-requires-clause-allowed : goal.link_store-requires-clause-allowed
+link_store-requires-clause-allowed g c =
+    let r = c.requires in
+    let s = stage g.D.Discipline c.args.self.now.board.words.shape _ _ r.belongs.keeps in
+    store_can s c.args.row c.args.to r.ready r.fresh r.target r.low
+
+pub complete-requires-clause-countable : goal.complete-requires-clause-countable
+complete-requires-clause-countable g c =
+    let k = c.args.self.now.board.words.shape in
+    let r = c.requires in
+    let e = c.link_store.ensures in
+    let s = stage g.D.Discipline k _ _ r.belongs.keeps in
+    let t = stage g.D.Discipline k _ _ e.belongs.keeps in
+    let is : Between s = record { ready = r.ready; untouched = r.untouched } in
+    store_countable s t c.args.row c.args.to c.link_store.result e.makes is r.fresh r.target r.other
+
+pub returns-clause-untouched : goal.returns-clause-untouched
+returns-clause-untouched g c =
+    let k = c.args.self.now.board.words.shape in
+    let r = c.requires in
+    let e = c.link_store.ensures in
+    let s = stage g.D.Discipline k _ _ r.belongs.keeps in
+    let t = stage g.D.Discipline k _ _ e.belongs.keeps in
+    let is : Between s = record { ready = r.ready; untouched = r.untouched } in
+    let u = stage g.D.Discipline k _ _ c.complete.ensures.belongs.keeps in
+    stored_untouched s t c.args.row c.args.to c.link_store.result e.makes is r.fresh r.target r.other u c.complete.ensures.becomes
+
+pub returns-clause-stores : goal.returns-clause-stores
+returns-clause-stores g c =
+    let k = c.args.self.now.board.words.shape in
+    let r = c.requires in
+    let e = c.link_store.ensures in
+    let s = stage g.D.Discipline k _ _ r.belongs.keeps in
+    let t = stage g.D.Discipline k _ _ e.belongs.keeps in
+    let is : Between s = record { ready = r.ready; untouched = r.untouched } in
+    let u = stage g.D.Discipline k _ _ c.complete.ensures.belongs.keeps in
+    stores s t c.args.row c.args.to c.link_store.result e.makes is r.fresh r.target r.other u c.complete.ensures.becomes
+
+pub returns-clause-leaves : goal.returns-clause-leaves
+returns-clause-leaves g c =
+    let k = c.args.self.now.board.words.shape in
+    let r = c.requires in
+    let e = c.link_store.ensures in
+    let s = stage g.D.Discipline k _ _ r.belongs.keeps in
+    let t = stage g.D.Discipline k _ _ e.belongs.keeps in
+    let is : Between s = record { ready = r.ready; untouched = r.untouched } in
+    let u = stage g.D.Discipline k _ _ c.complete.ensures.belongs.keeps in
+    stored_leaves s t c.args.row c.args.to c.link_store.result e.makes is r.fresh r.target r.other u c.complete.ensures.becomes
