@@ -32,12 +32,7 @@ impl<D: Discipline> OrcDomain<D> {
     /// # Errors
     ///
     /// `Spent` where the sequence of the target's row was read as the shape's limit + 64 or more.
-    pub fn aim(
-        &self,
-        p: &mut OrcPass<D>,
-        fresh: &Held,
-        to: Option<&Held>,
-    ) -> Result<(), Spent>
+    pub fn aim(&self, p: &mut OrcPass<D>, fresh: &Held, to: Option<&Held>) -> Result<(), Spent>
         requires pass { IsPassOf self.now p.old }
         requires fresh { HoldsFresh (seat_of self.now p.old) fresh.now }
         requires target { HoldsTarget (seat_of self.now p.old) to }

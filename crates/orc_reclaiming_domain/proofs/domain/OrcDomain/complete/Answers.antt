@@ -16,7 +16,7 @@ returns-in-Some-dec-clause-becomes g c =
     let first : Becomes b d s t = elim c.match-record.branch [
       | in-Some w ↦ subst (λ p. Becomes b d s (shows p)) (sym w.p-is) w.count_up.ensures.becomes
       | in_default w ↦ subst (λ p. Becomes b d s (shows p)) (sym w.p-is) (becomes_self b d s
-      (without_inc s.record_is (ap (λ (e : Agent). e.inc) (sym c.record.ensures) ∙ w.in_default.is)))
+          (without_inc s.record_is (ap (λ (e : Agent). e.inc) (sym c.record.ensures) ∙ w.in_default.is)))
     ] in
     becomes_then b d (record t.record_is { dec = None }) (record s.record_is { inc = None; dec = None }) s t (shows c.count_down.new.p) first
     c.count_down.ensures.becomes (without_dec d t.record_is first.same)
@@ -30,7 +30,7 @@ returns-in_default-dec-clause-becomes g c =
     let first : Becomes b d s t = elim c.match-record.branch [
       | in-Some w ↦ subst (λ p. Becomes b d s (shows p)) (sym w.p-is) w.count_up.ensures.becomes
       | in_default w ↦ subst (λ p. Becomes b d s (shows p)) (sym w.p-is) (becomes_self b d s
-      (without_inc s.record_is (ap (λ (e : Agent). e.inc) (sym c.record.ensures) ∙ w.in_default.is)))
+          (without_inc s.record_is (ap (λ (e : Agent). e.inc) (sym c.record.ensures) ∙ w.in_default.is)))
     ] in
     let none = ap (λ (e : Agent). e.dec) (sym c.record-2.ensures) ∙ c.in_default-dec.is in
     record { only = first.only; same = without_both s.record_is t.record_is first.same none; leaves = first.leaves }
