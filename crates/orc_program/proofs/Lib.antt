@@ -1,3 +1,2 @@
-pub mod PlainEnd
 pub mod Inputs
 pub mod Wrote

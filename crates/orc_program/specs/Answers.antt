@@ -5,15 +5,16 @@ use Rattle.orc_jobs.specs.JobGrammar.{Refuses}
 use Rattle.orc_jobs.specs.declared.cause.JobsFault.TheVariants as fault
 use Rattle.orc_program.specs.declared.answer.Answer.{Answer}
 use Rattle.orc_program.specs.declared.answer.Answer.TheVariants as answer
+use Rattle.orc_program.specs.declared.teams.Team.{Team}
 use Rattle.orc_program.specs.Ended.{HasReported}
 use Rattle.orc_program.specs.Refusals.{NamesRecord}
 
--- a report of a run of these bytes, or the refusal that they call for
-abbrev pub Answers : List ℕ → Answer → Type 0
-Answers bytes (answer.Report text finished) =
-    HasReported (Some bytes) (record { queue = Some finished.queue; set = Some finished.set; replies = Some finished.replies }) text
-Answers bytes (answer.Malformed text) = NamesRecord bytes (string_bytes text)
-Answers bytes answer.TooMany = Refuses bytes fault.TooMany
+-- a report of a run of these bytes by the team, or the refusal that they call for
+abbrev pub Answers : Team → List ℕ → Answer → Type 0
+Answers team bytes (answer.Report text finished) =
+    HasReported team (Some bytes) (record { queue = Some finished.queue; set = Some finished.set; replies = Some finished.replies }) text
+Answers team bytes (answer.Malformed text) = NamesRecord bytes (string_bytes text)
+Answers team bytes answer.TooMany = Refuses bytes fault.TooMany
 
 abbrev pub IsReport : Answer → Type 0
 IsReport (answer.Report text finished) = ⊤

@@ -7,11 +7,12 @@ ghost use Rattle.orc_jobs.specs.declared.line.Line.{Line};
 ghost use Rattle.orc_program.specs.Answers.{Answers, IsMalformed, IsReport, IsTooMany};
 ghost use Rattle.orc_program.specs.Refusals.{cause_word, malformed_line, input_limit};
 
-use crate::plain_run::{Finished, run_plain};
+use crate::teams::Team;
 use orc_board::Gate;
 use orc_fault::NoMemory;
 use orc_jobs::{Cause, JobsFault, Text, read_jobs};
 use orc_report::report_text;
+use orc_run::{Finished, run_lines};
 use std::alloc::Global;
 use std::sync::Wait;
 use std::thread::Threads;
@@ -28,11 +29,12 @@ pub enum Answer {
 pub(crate) fn answer_to<R: Threads + Wait + Sync, G: Gate + Sync>(
     rt: &R,
     alloc: Global,
+    team: Team,
     bytes: &[u8],
     gate: &G,
 ) -> Result<Answer, NoMemory>
     requires { length bytes.now ≤ input_limit }
-    ensures answers { IfOk result (Answers bytes.now) }
+    ensures answers { IfOk result (Answers team bytes.now) }
     ensures file { (lines : List Line) → IsFileOf lines bytes.now → IfOk result IsReport }
     ensures malformed { (place : ℕ) (why : Cause) → Refuses bytes.now (JobsFault.Malformed place why) → IfOk result (IsMalformed (malformed_line place why)) }
     ensures many { Refuses bytes.now JobsFault.TooMany → IfOk result IsTooMany }
@@ -46,7 +48,7 @@ pub(crate) fn answer_to<R: Threads + Wait + Sync, G: Gate + Sync>(
         Err(JobsFault::TooMany) => return Ok(Answer::TooMany),
         Err(JobsFault::NoMemory) => return Err(NoMemory),
     };
-    let finished = run_plain(rt, alloc, &lines, gate)?;
+    let finished = run_lines(rt, alloc, &lines, team.posters, team.takers, gate)?;
     let text = report_text(alloc, &lines, &finished.replies, None)?;
     Ok(Answer::Report { text, finished })
 }

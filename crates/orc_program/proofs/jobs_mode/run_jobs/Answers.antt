@@ -8,7 +8,7 @@ use Rattle.orc_program.proofs.jobs_mode.run_jobs.Goals as goal
 
 pub returns-in-Ok-Report-clause-cut_short : goal.returns-in-Ok-Report-clause-cut_short
 returns-in-Ok-Report-clause-cut_short g c five =
-    let kept : HasReported (Some c.args.bytes.now) c.keep.new.self c.bytes.result.now = search rules in
+    let kept : HasReported c.args.team (Some c.args.bytes.now) c.keep.new.self c.bytes.result.now = search rules in
     (c.bytes.result.now, inl kept, c.write_text.ensures.cut_short five)
 
 pub returns-in-Ok-Report-clause-malformed_comes : goal.returns-in-Ok-Report-clause-malformed_comes

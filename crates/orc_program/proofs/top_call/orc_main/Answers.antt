@@ -13,13 +13,13 @@ returns-in-None-clause-cut_short g c five =
     (words_refused, inr (c.in-None.ensures.none, c.requires, refl), c.refuse_words.ensures.cut_short five)
 
 pub returns-in-None-clause-malformed_comes : goal.returns-in-None-clause-malformed_comes
-returns-in-None-clause-malformed_comes g c bytes place why told asked few bad = absurd (c.in-None.ensures.none mode.Run asked)
+returns-in-None-clause-malformed_comes g c bytes place why told asked few bad = absurd (c.in-None.ensures.none (mode.Run asked.0) asked.1)
 
 pub returns-in-None-clause-refused_comes : goal.returns-in-None-clause-refused_comes
 returns-in-None-clause-refused_comes g c bytes why told asked few other bad = absurd (c.in-None.ensures.none mode.Replay asked)
 
 pub returns-in-None-clause-complete : goal.returns-in-None-clause-complete
-returns-in-None-clause-complete g c bytes lines told asked few file = absurd (c.in-None.ensures.none mode.Run asked)
+returns-in-None-clause-complete g c bytes lines told asked few file = absurd (c.in-None.ensures.none (mode.Run asked.0) asked.1)
 
 pub returns-in-None-clause-complete_replay : goal.returns-in-None-clause-complete_replay
 returns-in-None-clause-complete_replay g c bytes played told asked few is = absurd (c.in-None.ensures.none mode.Replay asked)
