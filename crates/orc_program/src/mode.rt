@@ -1,5 +1,5 @@
 //! What the words of the command line ask for.
-ghost use Rattle.std.specs.Prelude.{◌≡◌, ◌≢◌, ◌≤◌, IfNone, IfSome, List, ℕ};
+ghost use Rattle.std.specs.Prelude.{◌≡◌, ◌≢◌, ◌≤◌, IfNone, IfSome, List, false, true, ℕ};
 ghost use Rattle.std.specs.Fmt.{decimal};
 ghost use Rattle.orc_program.specs.Modes.{AreRefused, Asks, NamesTeam};
 ghost use Rattle.orc_program.specs.declared.mode.Mode.{Mode};
@@ -55,10 +55,19 @@ fn number_in(text: &[u8], low: u32, high: u32) -> Option<u32>
     ensures none { IfNone result ((number : ℕ) → low ≤ number → number ≤ high → text.now ≢ decimal number) }
 {
     let number = number_of(text)?;
-    if number < u64::from(low) || u64::from(high) < number {
-        return None;
+    if is_between(number, low, high) {
+        Some(number as u32)
+    } else {
+        None
     }
-    Some(number as u32)
+}
+
+// Whether the number lies in this range.
+fn is_between(number: u64, low: u32, high: u32) -> bool
+    ensures inside { result ≡ true → (low ≤ number) × (number ≤ high) }
+    ensures outside { result ≡ false → low ≤ number → number ≤ high → ⊥ }
+{
+    u64::from(low) <= number && number <= u64::from(high)
 }
 
 /// A law, with nothing to run: words ask for one mode at most.
