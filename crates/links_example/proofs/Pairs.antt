@@ -7,7 +7,7 @@ use Rattle.orc_heap.specs.Seats.{IsIdle, Seat}
 use Rattle.orc_heap.specs.Slots.{Hold, id_in}
 use Rattle.links_example.specs.Stacks.{HasNode, HasPair, Pushes}
 
-module _ (n : HeapNumbers) (lower : ℕ) (s : Seat ℕ) (one : Hold) (t : Seat ℕ) (idle : IsIdle s) (p : Pushes n None 1 lower s one t) where
+module _ {n : HeapNumbers} {lower : ℕ} {s : Seat ℕ} {one : Hold} {t : Seat ℕ} (idle : IsIdle s) (p : Pushes n None 1 lower s one t) where
   pub first_id : id_in t.slots one ≡ p.id
   first_id = id-there s.slots t.slots 1 p.id one (rw idle.slots refl) p.slot_is p.slots
 
@@ -15,8 +15,8 @@ module _ (n : HeapNumbers) (lower : ℕ) (s : Seat ℕ) (one : Hold) (t : Seat �
   pub first_node : HasNode n t (id_in t.slots one) lower None
   first_node = rw first_id p.node
 
-  pub pair : (upper : ℕ) (two : Hold) (u : Seat ℕ) → Pushes n (Some (id_in t.slots one)) 2 upper t two u → HasPair n u upper lower
-  pair upper two u q = record {
+  pub pair : {upper : ℕ} {two : Hold} {u : Seat ℕ} → Pushes n (Some (id_in t.slots one)) 2 upper t two u → HasPair n u upper lower
+  pair {upper} {two} {u} q = record {
     upper_id = q.id;
     lower_id = p.id;
     top = q.top;

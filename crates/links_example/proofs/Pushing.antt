@@ -48,7 +48,7 @@ given_ready n slot value s h t all g = record {
   nodes = nodes_stay n s t _ all g.puts;
 }
 
-module _ (n : HeapNumbers) (below : Option ℕ) (slot value : ℕ) (s : Seat ℕ) (h : Hold) (t : Seat ℕ) (free : IsFree s.slots slot)
+module _ {n : HeapNumbers} {below : Option ℕ} {slot value : ℕ} {s : Seat ℕ} {h : Hold} {t : Seat ℕ} (free : IsFree s.slots slot)
     (r : Readied n below slot value s h t) where
   pub ready_holds : Holds t.slots h
   ready_holds = holds-there s.slots t.slots slot r.id h free.empty r.slot_is r.slots
@@ -90,8 +90,8 @@ module _ (n : HeapNumbers) (below : Option ℕ) (slot value : ℕ) (s : Seat ℕ
   ready_same (Some k) held = ap Some (another k.now held.0)
 
   -- a call that only adds events which are no Moves leaves it so
-  pub ready_after : (u : Seat ℕ) → AllAllowed (OwnRootsMay n) [] u.seen → OwnRootsHolds n t.seen → Only [] t u → Readied n below slot value s h u
-  ready_after u all holds o = record {
+  pub ready_after : {u : Seat ℕ} → AllAllowed (OwnRootsMay n) [] u.seen → OwnRootsHolds n t.seen → Only [] t u → Readied n below slot value s h u
+  ready_after {u} all holds o = record {
     id = r.id;
     slot_is = r.slot_is;
     agent = o.puts.agent ∙ r.agent;
@@ -113,8 +113,8 @@ module _ (n : HeapNumbers) (below : Option ℕ) (slot value : ℕ) (s : Seat ℕ
           o.puts.own_is k.there)
 
   -- a release gives all back
-  pub ready_released : (u : Seat ℕ) → AllAllowed (OwnRootsMay n) [] u.seen → s.fresh ≡ None → Releases t h u → StackStays n s u
-  ready_released u all none w = record {
+  pub ready_released : {u : Seat ℕ} → AllAllowed (OwnRootsMay n) [] u.seen → s.fresh ≡ None → Releases t h u → StackStays n s u
+  ready_released {u} all none w = record {
     agent = w.puts.agent ∙ r.agent;
     slots = w.slots ∙ given-back s.slots t.slots slot r.id h free.empty r.slot_is r.slots;
     fresh = w.fresh
@@ -124,12 +124,12 @@ module _ (n : HeapNumbers) (below : Option ℕ) (slot value : ℕ) (s : Seat ℕ
   }
 
   -- and the Move puts it on top
-  pub ready_pushed : (u : Seat ℕ) (from : Link) (noted : Option ℕ) → AllAllowed (OwnRootsMay n) [] u.seen → OwnRootsHolds n t.seen → s.fresh ≡ None
-      → u.slots ≡ t.slots → u.fresh ≡ unless_node t.fresh (Some (id_in t.slots h))
-      → Puts t (event_of t (Move (Root t.agent) from (plain_link (Some (id_in t.slots h)))) noted ∷ []) u → Pushes n below slot value s h u
-  ready_pushed u from noted all holds none slots fresh p =
-      let q : Puts t (event_of t (Move (Root t.agent) from (plain_link (Some r.id))) noted ∷ []) u
-      = subst (λ i. Puts t (event_of t (Move (Root t.agent) from (plain_link (Some i))) noted ∷ []) u) ready_id p in
+  pub ready_pushed : (u : Seat ℕ) (root : ℕ) (from : Link) (noted : Option ℕ) → root ≡ t.agent → AllAllowed (OwnRootsMay n) [] u.seen
+      → OwnRootsHolds n t.seen → s.fresh ≡ None → u.slots ≡ t.slots → u.fresh ≡ unless_node t.fresh (Some (id_in t.slots h))
+      → Puts t (event_of t (Move (Root root) from (plain_link (Some (id_in t.slots h)))) noted ∷ []) u → Pushes n below slot value s h u
+  ready_pushed u root from noted own all holds none slots fresh p =
+      let q : Puts t (event_of t (Move (Root t.agent) from (plain_link (Some r.id))) noted ∷ []) u =
+      subst (λ (z : ℕ × ℕ). Puts t (event_of t (Move (Root z.0) from (plain_link (Some z.1))) noted ∷ []) u) (λ i. (own i, ready_id i)) p in
       let here : slice_get (heap_of n t).nodes r.id ≡ Some (unlinked_node t.agent value below) = rw r.agent r.node in
       record {
         id = r.id;
@@ -161,7 +161,7 @@ aimed_ready n slot value s h t u to free r all holds other o = record {
 }
   where
     same_id : id_in t.slots h ≡ r.id
-    same_id = ready_id n None slot value s h t free r
+    same_id = ready_id free r
 
     not_named : (to : Option ℕ) → (Some r.id ≢ to) → names_node to r.id ≡ false
     not_named None ne = refl
@@ -195,8 +195,8 @@ pub linked_ready : (n : HeapNumbers) (slot value : ℕ) (s : Seat ℕ) (h : Hold
     → Readied n (target_in s.slots top) slot value s h u
 linked_ready n slot value s h t u top free all_t all_u holds held node g o =
     let r = given_ready n slot value s h t all_t g in
-    let target = ready_target n None slot value s h t free r top held node in
-    subst (λ to. Readied n to slot value s h u) (ready_same n None slot value s h t free r top held)
+    let target = ready_target free r top held node in
+    subst (λ to. Readied n to slot value s h u) (ready_same free r top held)
     (aimed_ready n slot value s h t u (target_in t.slots top) free r all_u holds (other r.id r.fresh top target) o)
   where
     other : (id : ℕ) → t.fresh ≡ Some id → (top : Option (Bor Hold)) → HoldsTarget t top → t.fresh ≢ target_in t.slots top

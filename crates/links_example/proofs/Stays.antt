@@ -2,7 +2,7 @@
 use Rattle.std.proofs.Common.{Bool, List, [], ap, false, refl, sym, true, ℕ, ◌++◌, ◌∙◌, ◌≡◌}
 use Rattle.std.proofs.lemmas.Bool.{eqb-true}
 use Rattle.std.specs.List.{list_any, slice_get}
-use Rattle.std.specs.Prelude.{Option, Some, if◌then◌else◌, ◌==◌}
+use Rattle.std.specs.Prelude.{None, Option, Some, if◌then◌else◌, ◌==◌}
 use Rattle.orc_heap.proofs.Changes.{get-change_other}
 use Rattle.orc_heap.proofs.Fresh.{node-after, touched, unless}
 use Rattle.orc_heap.proofs.Moved.{target_roots}
@@ -98,6 +98,10 @@ pub nodes_stay : (n : HeapNumbers) (s t : Seat ℕ) (own : List (Event ℕ)) →
     → (id value : ℕ) (below : Option ℕ) → HasNode n s id value below → HasNode n t id value below
 nodes_stay n s t own all p id value below there =
     rw (p.is, p.agent) (node_later n s.agent id value below s.seen p.part (part_allowed (OwnRootsMay n) s t own p all) there)
+
+-- and so does an empty stack, over a release or a settling
+pub empty_stays : (n : HeapNumbers) (s t : Seat ℕ) → AllAllowed (OwnRootsMay n) [] t.seen → Puts s [] t → HasTop n s None → HasTop n t None
+empty_stays n s t all p top = top_stays n s t [] all p refl None top
 
 pub stack_stays : (n : HeapNumbers) (s t : Seat ℕ) (own : List (Event ℕ)) → AllAllowed (OwnRootsMay n) [] t.seen → Only own s t
     → list_any (λ e. is_move e.act) own ≡ false → StackStays n s t

@@ -1,9 +1,9 @@
 -- A discipline in the small: each agent has a root of its own, that of its number, which it alone changes.
-use Rattle.std.specs.Prelude.{List, Option, Some, [], false, ℕ, ◌++◌, ◌∷◌, ◌≡◌}
-use Rattle.orc_heap.specs.Heap.{Heap, HeapNumbers}
-use Rattle.orc_heap.specs.Journals.{FitsAfter, IsLawful, IsPlain, IsPlainAct, run_heap}
+use Rattle.std.specs.Prelude.{List, Option, Some, false, ℕ, ◌≡◌}
+use Rattle.orc_heap.specs.Heap.{HeapNumbers}
+use Rattle.orc_heap.specs.Journals.{FitsAfter, IsLawful}
 use Rattle.orc_heap.specs.declared.events.Act.{Act}
-use Rattle.orc_heap.specs.declared.events.Act.TheVariants.{Aim, Fill, Give, Look, Miss, Move}
+use Rattle.orc_heap.specs.declared.events.Act.TheVariants.{Move}
 use Rattle.orc_heap.specs.declared.events.Event.{Event}
 use Rattle.orc_heap.specs.declared.events.Place.TheVariants.{Next, Root}
 

@@ -15,6 +15,7 @@ use orc_history::{PlainQueue, PlainQueuePass, PlainSet, PlainSetPass, SharedQueu
 use orc_jobs::{Job, Line, Lines, Text, read_jobs};
 use std::alloc::Global;
 use std::cell::Cell;
+use std::sync::Wait;
 use std::test::Fail;
 
 // Both containers, and a desk of agent 1 over them.
@@ -154,6 +155,28 @@ fn stored_run_of_one_poster(rt: HostRuntime) -> Result<(), Fail> {
     Ok(())
 }
 
+// Posts or drops the line with this number as poster 1, if there is one, and answers what came of it.
+fn word_of_line<R: Wait, Q: SharedQueue, S: SharedSet>(
+    rt: &R,
+    queue: &Q,
+    set: &S,
+    desk: &mut Desk<Q::Pass, S::Pass>,
+    lines: &Lines,
+    index: u32,
+) -> Option<PostWord>
+    requires { IsDesk Q.SharedQueue S.SharedSet queue.now set.now 1 desk.old }
+    ensures { IsDesk Q.SharedQueue S.SharedSet queue.now set.now 1 desk.new }
+{
+    if index as usize >= lines.len() {
+        return None;
+    }
+    let line = lines.get(index as usize);
+    match line {
+        Line::Post { .. } => Some(post_line(rt, queue, set, desk, 1, index, line).what),
+        Line::Drop { .. } => Some(drop_line(rt, queue, set, desk, 1, index, line).what),
+    }
+}
+
 // The five records of the stored run, each by a call of its own.
 #[test]
 fn stored_run_by_single_calls(rt: HostRuntime) -> Result<(), Fail> {
@@ -164,24 +187,16 @@ fn stored_run_by_single_calls(rt: HostRuntime) -> Result<(), Fail> {
         set,
         mut desk,
     } = empty_board(alloc, 8, 8)?;
-    let words = [
-        PostWord::Posted(0),
-        PostWord::Posted(1),
-        PostWord::Dropped,
-        PostWord::Busy,
-        PostWord::Unknown,
-    ];
-    for (index, what) in (0..5u32).zip(words) {
-        if index as usize >= lines.len() {
-            panic!(rt; "a line is missing")
-        }
-        let line = lines.get(index as usize);
-        let reply = match line {
-            Line::Post { .. } => post_line(&rt, &queue, &set, &mut desk, 1, index, line),
-            Line::Drop { .. } => drop_line(&rt, &queue, &set, &mut desk, 1, index, line),
-        };
-        assert_eq!(rt; reply, PostReply { poster: 1, line: index, what });
-    }
+    let what = word_of_line(&rt, &queue, &set, &mut desk, &lines, 0);
+    assert_eq!(rt; what, Some(PostWord::Posted(0)));
+    let what = word_of_line(&rt, &queue, &set, &mut desk, &lines, 1);
+    assert_eq!(rt; what, Some(PostWord::Posted(1)));
+    let what = word_of_line(&rt, &queue, &set, &mut desk, &lines, 2);
+    assert_eq!(rt; what, Some(PostWord::Dropped));
+    let what = word_of_line(&rt, &queue, &set, &mut desk, &lines, 3);
+    assert_eq!(rt; what, Some(PostWord::Busy));
+    let what = word_of_line(&rt, &queue, &set, &mut desk, &lines, 4);
+    assert_eq!(rt; what, Some(PostWord::Unknown));
     let done = TakeReply {
         taker: 3,
         at: 0,
@@ -194,8 +209,14 @@ fn stored_run_by_single_calls(rt: HostRuntime) -> Result<(), Fail> {
         line: 1,
         what: TakeWord::Void,
     };
-    assert_eq!(rt; take_one(&rt, &queue, &set, &mut desk, 3, &lines), Some(done));
-    assert_eq!(rt; take_one(&rt, &queue, &set, &mut desk, 3, &lines), Some(void));
+    assert_eq!(rt;
+        take_one(&rt, &queue, &set, &mut desk, 3, &lines),
+        Some(done)
+    );
+    assert_eq!(rt;
+        take_one(&rt, &queue, &set, &mut desk, 3, &lines),
+        Some(void)
+    );
     assert_eq!(rt; take_one(&rt, &queue, &set, &mut desk, 3, &lines), None);
     Ok(())
 }

@@ -1,5 +1,5 @@
 -- A node for a key is linked where a search found that the key belongs.
-use Rattle.std.proofs.Common.{Bool, Err, List, None, Ok, Option, Result, Some, [], ap, append_assoc, arith, false, inl, inr, length, length-append, length-set, refl, subst, sym, true, zero, suc, ℕ, ◌*◌, ◌++◌, ◌+◌, ◌==◌, ◌∙◌, ◌∷◌, ◌≡◌, ◌≢◌, ◌≤◌, ◌⊎◌}
+use Rattle.std.proofs.Common.{Bool, Err, List, None, Ok, Option, Result, Some, [], ap, arith, false, inl, inr, length, length-append, length-set, refl, subst, sym, true, ℕ, ◌*◌, ◌++◌, ◌+◌, ◌==◌, ◌∙◌, ◌∷◌, ◌≡◌, ◌≢◌, ◌≤◌, ◌⊎◌}
 use Rattle.std.proofs.lemmas.Bool.{eqb-false, eqb-true}
 use Rattle.std.specs.List.{slice_get, slice_set}
 use Rattle.orc_fault.specs.declared.Spent.{Spent as SpentRow}
@@ -12,7 +12,7 @@ use Rattle.orc_heap.specs.Allowed.{AllAllowed}
 use Rattle.orc_heap.specs.Calls.{Gives, Misses, event_of}
 use Rattle.orc_heap.specs.Hands.{AreHeld, Hand, Hands, HoldsId, IsApart, IsApartOf, IsHeldApart, hand}
 use Rattle.orc_heap.specs.Heap.{HeapNumbers}
-use Rattle.orc_heap.specs.Moves.{from_own, gives_in, moves_in}
+use Rattle.orc_heap.specs.Moves.{gives_in, moves_in}
 use Rattle.orc_heap.specs.OwnEvents.{Only, Puts}
 use Rattle.orc_heap.specs.Seats.{Seat, heap_of}
 use Rattle.orc_heap.specs.Slots.{Hold, IsFree, SlotNode, Slots}
@@ -26,15 +26,15 @@ use Rattle.orc_chain_rule.proofs.Later.{holds_later, nothing_yet}
 use Rattle.orc_chain_rule.specs.ChainDiscipline.{ChainHolds, ChainMay, FollowsOn, IsAbove, IsRun, entries_of, link_over}
 use Rattle.orc_chain_rule.specs.Watches.{node_to_add}
 use Rattle.orc_chain_rule.specs.declared.chain.ChainNote.{ChainNote}
-use Rattle.orc_list.specs.Inserts.{AddEnds, AddOver, AddsAt, AddsNode, EndsWith, HasRoomFor, HoldsKey, InsertEnds, Inserts, InsertsOn, IsInFirst, IsToAdd, KeepsNode, LinkMissed, LinkRefused, LinksNode, LinksTo, SeesAbsent, count_of, slots_with}
-use Rattle.orc_list.specs.Searches.{AllGone, FindsAbsent, FindsMoved, HasRoom, HoldsIfAny, InHand, IsFew, LeadsOver, Quiet, left_place, node_of}
-use Rattle.orc_list.specs.Turns.{Answers, AreOver, Made, Tires, first_or, place_at, target_at}
+use Rattle.orc_list.specs.Inserts.{AddEnds, AddOver, AddsAt, AddsNode, HasRoomFor, InsertEnds, Inserts, InsertsOn, IsInFirst, IsToAdd, KeepsNode, LinkMissed, LinkRefused, LinksNode, LinksTo, SeesAbsent, count_of, slots_with}
+use Rattle.orc_list.specs.Searches.{AllGone, FindsAbsent, HasRoom, HoldsIfAny, InHand, IsFew, left_place, node_of}
+use Rattle.orc_list.specs.Turns.{Answers, Made, Tires, first_or, place_at, target_at}
 use Rattle.orc_list.specs.declared.insert.InsertTurn.{InsertTurn}
 use Rattle.orc_list.specs.declared.insert.InsertTurn.TheVariants.{Answered, NoNode, Over, Spent}
-use Rattle.orc_list.proofs.Answering.{from_is, head_of, place_of_hand, target_is, target_of_hand}
+use Rattle.orc_list.proofs.Answering.{from_is, place_of_hand, target_is, target_of_hand}
 use Rattle.orc_list.proofs.Held.{absent_hand, first_held, first_linked, in_hand_on, left_linked, right_linked, second_held, third_held, three_hands}
 use Rattle.orc_list.proofs.Linking.{holds_on, loads_leave}
-use Rattle.orc_list.proofs.Making.{made_after, made_on, missed, over_on}
+use Rattle.orc_list.proofs.Making.{made_on, missed, over_on}
 use Rattle.orc_list.proofs.Quiets.{above_puts, below_puts, entries_of-append, leads_puts, left_place_linked, shows_on}
 use Rattle.orc_list.proofs.Seen.{covers_left, few_more}
 
@@ -52,7 +52,8 @@ apart_held s t (y ∷ hs) slot x there held = (one y.hold held.0, apart_held s t
         cc
 
 -- what is in hand beside slots is so beside slots with one more node
-pub hands_rebase : (s t : Slots) (hs : List Hand) (slot : ℕ) (x : Option SlotNode) → Hands s t hs → IsApart slot hs → slice_get s slot ≡ Some None → Hands (slice_set s slot x) (slice_set t slot x) hs
+pub hands_rebase : (s t : Slots) (hs : List Hand) (slot : ℕ) (x : Option SlotNode) → Hands s t hs → IsApart slot hs → slice_get s slot ≡ Some None
+    → Hands (slice_set s slot x) (slice_set t slot x) hs
 hands_rebase s t hs slot x k apart free = record {
   same_length = length-set t slot x ∙ (k.same_length ∙ sym (length-set s slot x));
   others = λ i a. cases i a (i == slot) refl;
@@ -79,7 +80,8 @@ hands_rebase s t hs slot x k apart free = record {
         one (Some k) ne h = (get-set_other t slot k.slot x (λ e. ne (sym e)) ∙ h.0, get-set_other s slot k.slot x (λ e. ne (sym e)) ∙ h.1, h.2)
 
 -- what was made since a turn began, and more
-made_since : (given : ℕ) (s t u : Seat ChainNote) (own ys : List (Event ChainNote)) (es : List SetEntry) → Puts s own t → entries_of own ≡ [] → gives_in own ≡ given → IsFew (2 + 3 * given) own → Puts t ys u → entries_of ys ≡ es → gives_in ys ≡ 0 → length ys ≤ 2
+made_since : (given : ℕ) (s t u : Seat ChainNote) (own ys : List (Event ChainNote)) (es : List SetEntry) → Puts s own t → entries_of own ≡ []
+    → gives_in own ≡ given → IsFew (2 + 3 * given) own → Puts t ys u → entries_of ys ≡ es → gives_in ys ≡ 0 → length ys ≤ 2
     → Made given 1 s (own ++ ys) es u
 made_since given s t u own ys es p none gives few q entries no_give short = record {
   puts = Puts-trans s t u own ys p q;
@@ -89,7 +91,8 @@ made_since given s t u own ys es p none gives few q entries no_give short = reco
 }
 
 -- where a node is linked, by what the pass holds
-module _ (n : HeapNumbers) (root key : ℕ) (left first right : Option Hold) (node : Hold) (given : ℕ) (slots : Slots) (s t : Seat ChainNote) (a : AddsAt n root key left first right node given slots s t) where
+module _ (n : HeapNumbers) (root key : ℕ) (left first right : Option Hold) (node : Hold) (given : ℕ) (slots : Slots) (s t : Seat ChainNote)
+    (a : AddsAt n root key left first right node given slots s t) where
   abbrev y : Hand
   y = hand first a.first_id
 
@@ -97,9 +100,11 @@ module _ (n : HeapNumbers) (root key : ℕ) (left first right : Option Hold) (no
   z = hand right a.right_id
 
   pub adds_held : HoldsIfAny t.slots left × HoldsIfAny t.slots first × HoldsIfAny t.slots right
-  adds_held = (first_held slots t.slots left a.left_id (hand first a.first_id ∷ hand right a.right_id ∷ []) a.hands,
+  adds_held = (
+    first_held slots t.slots left a.left_id (hand first a.first_id ∷ hand right a.right_id ∷ []) a.hands,
     second_held slots t.slots (hand left a.left_id) first a.first_id (hand right a.right_id ∷ []) a.hands,
-    third_held slots t.slots (hand left a.left_id) (hand first a.first_id) right a.right_id [] a.hands)
+    third_held slots t.slots (hand left a.left_id) (hand first a.first_id) right a.right_id [] a.hands,
+  )
 
   pub adds_place : place_at t.slots root left ≡ left_place root left a.left_id
   adds_place = place_of_hand slots t.slots root left a.left_id (hand first a.first_id ∷ hand right a.right_id ∷ []) a.hands.held.0
@@ -115,9 +120,11 @@ module _ (n : HeapNumbers) (root key : ℕ) (left first right : Option Hold) (no
   adds_below = subst (λ (p : Place). FollowsOn n.roots (heap_of n t) p key) (sym adds_place) a.leads.below
 
   pub adds_run : (over : List ℕ) × IsRun (heap_of n t) (link_over (target_at t.slots (first_or first right))) over (target_at t.slots right)
-  adds_run =
-      (a.leads.over, subst (λ (o : Option ℕ). IsRun (heap_of n t) (link_over (target_at t.slots (first_or first right))) a.leads.over o) (sym adds_right)
-      (subst (λ (l : Link). IsRun (heap_of n t) l a.leads.over (node_of right a.right_id)) (sym adds_link) a.leads.run))
+  adds_run = (
+    a.leads.over,
+    subst (λ (o : Option ℕ). IsRun (heap_of n t) (link_over (target_at t.slots (first_or first right))) a.leads.over o) (sym adds_right)
+        (subst (λ (l : Link). IsRun (heap_of n t) l a.leads.over (node_of right a.right_id)) (sym adds_link) a.leads.run),
+  )
 
   pub adds_above : IsAbove (heap_of n t) (target_at t.slots right) key
   adds_above = subst (λ (o : Option ℕ). IsAbove (heap_of n t) o key) (sym adds_right) a.above
@@ -141,7 +148,8 @@ module _ (n : HeapNumbers) (root key : ℕ) (left first right : Option Hold) (no
       let entries : entries_of l.own ≡ Added s.agent key true ∷ [] = l.entries_are ∙ ap (λ (x : ℕ). Added x key true ∷ []) a.puts.agent in
       record {
         own = a.own ++ l.own;
-        made = made_on given 1 s u v (a.own ++ l.own) (Added s.agent key true ∷ []) (made_since given s t u a.own l.own (Added s.agent key true ∷ []) a.puts a.no_entries a.gives a.few l.puts entries l.no_give l.short) g.puts;
+        made = made_on given 1 s u v (a.own ++ l.own) (Added s.agent key true ∷ []) (made_since given s t u a.own l.own (Added s.agent key true ∷ [])
+            a.puts a.no_entries a.gives a.few l.puts entries l.no_give l.short) g.puts;
         slots_are = g.slots_are;
         fresh_is = g.fresh ∙ l.fresh;
       }
@@ -150,25 +158,32 @@ module _ (n : HeapNumbers) (root key : ℕ) (left first right : Option Hold) (no
   pub adds_refused : (u v : Seat ChainNote) → LinkRefused t u → AllGone slots u v → AddEnds given slots s [] (Some a.id) v
   adds_refused u v l g = record {
     own = a.own ++ l.own;
-    made = made_on given 1 s u v (a.own ++ l.own) [] (made_since given s t u a.own l.own [] a.puts a.no_entries a.gives a.few l.puts l.no_entries l.no_give (omega (arith, l.short))) g.puts;
+    made = made_on given 1 s u v (a.own ++ l.own) [] (made_since given s t u a.own l.own [] a.puts a.no_entries a.gives a.few l.puts l.no_entries l.no_give
+        (omega (arith, l.short))) g.puts;
     slots_are = g.slots_are;
     fresh_is = g.fresh ∙ (l.fresh ∙ a.holds.fresh);
   }
 
   -- the place showed another link
-  pub adds_missed : (u v : Seat ChainNote) → LinkMissed n key node a.id (place_at t.slots root left) (link_over (target_at t.slots (first_or first right))) t u → AllGone slots u v → ChainHolds n u.seen → AllAllowed (ChainMay n) [] u.seen → AllAllowed (ChainMay n) [] v.seen
+  pub adds_missed : (u v : Seat ChainNote)
+      → LinkMissed n key node a.id (place_at t.slots root left) (link_over (target_at t.slots (first_or first right))) t u → AllGone slots u v
+      → ChainHolds n u.seen → AllAllowed (ChainMay n) [] u.seen → AllAllowed (ChainMay n) [] v.seen
       → AddOver n key node a.id given slots s v
   adds_missed u v l g holds all_u all_v =
       let aim : Event ChainNote = event_of t (Aim a.id l.to) None in
       let place = left_place root left a.left_id in
       let from = a.leads.from in
-      let miss : Misses place from l.mid u = subst (λ (p : Place). Misses p from l.mid u) adds_place (subst (λ (x : Link). Misses (place_at t.slots root left) x l.mid u) adds_link l.misses) in
+      let miss : Misses place from l.mid u = subst (λ (p : Place). Misses p from l.mid u) adds_place
+      (subst (λ (x : Link). Misses (place_at t.slots root left) x l.mid u) adds_link l.misses) in
       let e : Event ChainNote = event_of l.mid (Miss place from miss.found) None in
       let ys : List (Event ChainNote) = aim ∷ e ∷ [] in
-      let all_mid : AllAllowed (ChainMay n) [] l.mid.seen = allowed-left (ChainMay n) [] l.mid.seen miss.puts.part (subst (λ es. AllAllowed (ChainMay n) [] es) miss.puts.is all_u) in
+      let all_mid : AllAllowed (ChainMay n) [] l.mid.seen = allowed-left (ChainMay n) [] l.mid.seen miss.puts.part
+      (subst (λ es. AllAllowed (ChainMay n) [] es) miss.puts.is all_u) in
       let p = Puts-trans s t l.mid a.own (aim ∷ []) a.puts l.aims in
-      let made = made_since given s t u a.own ys [] a.puts a.no_entries a.gives a.few (Puts-trans t l.mid u (aim ∷ []) (e ∷ []) l.aims miss.puts) refl refl (omega arith) in
-      let still = shows_on n t l.mid (aim ∷ []) l.aims all_mid s a.own (a.own ++ aim ∷ []) a.puts p place from a.some (left_place_linked n t place key a.leads.below) a.leads.still in
+      let made = made_since given s t u a.own ys [] a.puts a.no_entries a.gives a.few (Puts-trans t l.mid u (aim ∷ []) (e ∷ []) l.aims miss.puts) refl refl
+      (omega arith) in
+      let still = shows_on n t l.mid (aim ∷ []) l.aims all_mid s a.own (a.own ++ aim ∷ []) a.puts p place from a.some
+      (left_place_linked n t place key a.leads.below) a.leads.still in
       let moved = missed n s l.mid u (a.own ++ aim ∷ []) (a.own ++ ys) place from p (omega (arith, length-append a.own (aim ∷ []))) still
       (left_place_linked n l.mid place key (below_puts n t l.mid (aim ∷ []) l.aims all_mid place key a.leads.below)) miss all_u made.puts in
       let no_move : moves_in (a.own ++ ys) ≡ 0 = omega (arith, moves_in-append a.own ys, a.no_move) in
@@ -176,11 +191,13 @@ module _ (n : HeapNumbers) (root key : ℕ) (left first right : Option Hold) (no
         own = a.own ++ ys;
         over = over_on given 1 s u v (a.own ++ ys) (record { made = made; no_move = no_move; moved = moved }) g.puts;
         slots_are = g.slots_are;
-        holds = holds_on n key node a.id u v [] l.holds g.puts (loads_leave a.id [] tt) holds all_v (subst (λ (q : Slots). HoldsId q node a.id) (sym g.slots_are) a.kept) g.fresh;
+        holds = holds_on n key node a.id u v [] l.holds g.puts (loads_leave a.id [] tt) holds all_v
+            (subst (λ (q : Slots). HoldsId q node a.id) (sym g.slots_are) a.kept) g.fresh;
       }
 
   -- the nodes of the search are in hand on
-  pub links_hand : (u : Seat ChainNote) (link : Link) (place : Place) (result : Result Bool SpentRow) → LinksTo n key node a.id place link t result u → AllAllowed (ChainMay n) [] u.seen → InHand n slots left first right None u
+  pub links_hand : (u : Seat ChainNote) (link : Link) (place : Place) (result : Result Bool SpentRow) → LinksTo n key node a.id place link t result u
+      → AllAllowed (ChainMay n) [] u.seen → InHand n slots left first right None u
   links_hand u link place (Ok true) l all = in_hand_on n slots left first right None t u l.own l.puts all l.slots adds_hand
   links_hand u link place (Ok false) l all =
       in_hand_on n slots left first right None t u _ (Puts-trans t l.mid u _ _ l.aims l.misses.puts) all l.slots adds_hand
@@ -191,11 +208,13 @@ same_spent a b e = cc
 
 -- where the turn comes from: a node that was in hand, or a new one
 
-pub absent_adds : (n : HeapNumbers) (root key : ℕ) (left first right : Option Hold) (node : Hold) (slots : Slots) (s t : Seat ChainNote) → KeepsNode n key (Some node) slots s → FindsAbsent n root key left first right s t → ChainHolds n s.seen → AllAllowed (ChainMay n) [] t.seen
+pub absent_adds : (n : HeapNumbers) (root key : ℕ) (left first right : Option Hold) (node : Hold) (slots : Slots) (s t : Seat ChainNote)
+    → KeepsNode n key (Some node) slots s → FindsAbsent n root key left first right s t → ChainHolds n s.seen → AllAllowed (ChainMay n) [] t.seen
     → AddsAt n root key left first right node 0 s.slots s t
 absent_adds n root key left first right node slots s t k f holds all =
     let q = f.behind.quiet in
-    let apart = apart_held s.slots t.slots (hand left f.left_id ∷ hand first f.first_id ∷ hand right f.right_id ∷ []) node.slot _ k.to_add.held f.hands.held in
+    let apart = apart_held s.slots t.slots (hand left f.left_id ∷ hand first f.first_id ∷ hand right f.right_id ∷ []) node.slot _ k.to_add.held
+    f.hands.held in
     record {
       own = f.own;
       puts = q.puts;
@@ -212,30 +231,37 @@ absent_adds n root key left first right node slots s t k f holds all =
       above = f.above;
       id = k.id;
       kept = k.to_add.held;
-      holds = holds_on n key node k.id s t f.own k.to_add q.puts (loads_leave k.id f.own q.loads) holds all (f.hands.others node.slot apart ∙ k.to_add.held) q.fresh;
+      holds = holds_on n key node k.id s t f.own k.to_add q.puts (loads_leave k.id f.own q.loads) holds all
+          (f.hands.others node.slot apart ∙ k.to_add.held) q.fresh;
     }
 
-pub absent_id : (n : HeapNumbers) (root key : ℕ) (left first right : Option Hold) (node : Hold) (slots : Slots) (s t : Seat ChainNote) (k : KeepsNode n key (Some node) slots s) (f : FindsAbsent n root key left first right s t) (holds : ChainHolds n s.seen) (all : AllAllowed (ChainMay n) [] t.seen)
+pub absent_id : (n : HeapNumbers) (root key : ℕ) (left first right : Option Hold) (node : Hold) (slots : Slots) (s t : Seat ChainNote)
+    (k : KeepsNode n key (Some node) slots s) (f : FindsAbsent n root key left first right s t) (holds : ChainHolds n s.seen)
+    (all : AllAllowed (ChainMay n) [] t.seen)
     → (absent_adds n root key left first right node slots s t k f holds all).id ≡ k.id
 unfolding absent_adds
 absent_id n root key left first right node slots s t k f holds all = refl
 
-module _ (n : HeapNumbers) (root key : ℕ) (left first right : Option Hold) (s t u : Seat ChainNote) (f : FindsAbsent n root key left first right s t) (one : IsFree s.slots 1) where
+module _ (n : HeapNumbers) (root key : ℕ) (left first right : Option Hold) (s t u : Seat ChainNote) (f : FindsAbsent n root key left first right s t)
+    (one : IsFree s.slots 1) where
   pub give_free : IsFree t.slots 1
   give_free = free_in s.slots t.slots (hand left f.left_id ∷ hand first f.first_id ∷ hand right f.right_id ∷ []) 1 f.hands f.apart one
 
   abbrev base : ℕ → Hold → Slots
   base id node = slice_set s.slots 1 (Some (record { row = node.row; id = id }))
 
-  pub given_adds : (node : Hold) (g : Gives n 1 key 0 t node u) → AllAllowed (ChainMay n) [] u.seen → AddsAt n root key left first right node 1 (slice_set s.slots 1 (Some (record { row = node.row; id = g.id }))) s u
+  pub given_adds : (node : Hold) (g : Gives n 1 key 0 t node u) → AllAllowed (ChainMay n) [] u.seen
+      → AddsAt n root key left first right node 1 (slice_set s.slots 1 (Some (record { row = node.row; id = g.id }))) s u
   given_adds node g all =
       let q = f.behind.quiet in
       let hs : List Hand = hand left f.left_id ∷ hand first f.first_id ∷ hand right f.right_id ∷ [] in
       let x : Option SlotNode = Some (record { row = node.row; id = g.id }) in
       let ys : List (Event ChainNote) = event_of t Give None ∷ event_of t (Fill g.id 0 key) None ∷ event_of t (Fill g.id 1 0) None ∷ [] in
       let w = Puts-trans s t u f.own ys q.puts g.puts in
-      let kept : HoldsId (slice_set s.slots 1 x) node g.id = subst (λ (i : ℕ). slice_get (slice_set s.slots 1 x) i ≡ Some x) (sym g.slot_is) (get-set_same s.slots 1 None x one.empty) in
-      let held : HoldsId (slice_set t.slots 1 x) node g.id = subst (λ (i : ℕ). slice_get (slice_set t.slots 1 x) i ≡ Some x) (sym g.slot_is) (get-set_same t.slots 1 None x give_free.empty) in
+      let kept : HoldsId (slice_set s.slots 1 x) node g.id = subst (λ (i : ℕ). slice_get (slice_set s.slots 1 x) i ≡ Some x) (sym g.slot_is)
+      (get-set_same s.slots 1 None x one.empty) in
+      let held : HoldsId (slice_set t.slots 1 x) node g.id = subst (λ (i : ℕ). slice_get (slice_set t.slots 1 x) i ≡ Some x) (sym g.slot_is)
+      (get-set_same t.slots 1 None x give_free.empty) in
       record {
         own = f.own ++ ys;
         puts = w;
@@ -266,7 +292,8 @@ module _ (n : HeapNumbers) (root key : ℕ) (left first right : Option Hold) (s 
   given_id node g all = refl
 
   -- none could be had
-  pub lacks_node : (y : Seat ChainNote) → Only [] t u → AllGone s.slots u y → AllAllowed (ChainMay n) [] u.seen → AllAllowed (ChainMay n) [] y.seen → s.fresh ≡ None
+  pub lacks_node : (y : Seat ChainNote) → Only [] t u → AllGone s.slots u y → AllAllowed (ChainMay n) [] u.seen → AllAllowed (ChainMay n) [] y.seen
+      → s.fresh ≡ None
       → (own : List (Event ChainNote)) × InsertEnds 1 s.slots None None s own [] y × SeesAbsent n key own y
   lacks_node y only g all_u all_y fresh =
       let q = f.behind.quiet in
@@ -289,7 +316,8 @@ module _ (n : HeapNumbers) (root key : ℕ) (left first right : Option Hold) (s 
           over = l.over;
           to = node_of right f.right_id;
           sees_run = l.sees_run;
-          above = above_puts n u y [] g.puts all_y (node_of right f.right_id) key (above_puts n t u [] only.puts all_u (node_of right f.right_id) key f.above);
+          above = above_puts n u y [] g.puts all_y (node_of right f.right_id) key (above_puts n t u [] only.puts all_u (node_of right f.right_id) key
+              f.above);
         },
       )
 
@@ -298,7 +326,8 @@ module _ (n : HeapNumbers) (root key : ℕ) (left first right : Option Hold) (s 
 
 -- what the turn comes to
 
-pub adds_inserts : (n : HeapNumbers) (key : ℕ) (h : Hold) (id given : ℕ) (base slots : Slots) (had : Option Hold) (s u : Seat ChainNote) (turn : InsertTurn) → AddsNode n key h id given base s turn u → base ≡ slots_with slots (Some h) id → h.slot ≡ 1
+pub adds_inserts : (n : HeapNumbers) (key : ℕ) (h : Hold) (id given : ℕ) (base slots : Slots) (had : Option Hold) (s u : Seat ChainNote) (turn : InsertTurn)
+    → AddsNode n key h id given base s turn u → base ≡ slots_with slots (Some h) id → h.slot ≡ 1
     → count_of had + given ≡ 1 → Inserts n key 1 slots had s turn (Some h) u
 adds_inserts n key h id given base slots had s u Over a is first count = record {
   own = a.own;
@@ -309,15 +338,42 @@ adds_inserts n key h id given base slots had s u Over a is first count = record 
   keeps = record { id = id; slots_are = a.slots_are ∙ is; slot_is = first; to_add = a.holds };
 }
 adds_inserts n key h id given base slots had s u (Answered false) a is first count = absurd a
-adds_inserts n key h id given base slots had s u (Answered true) a is first count =
-    (a.own, record { given = given; made = a.made; count = count; ends = record { id = id; slots_are = a.slots_are ∙ is; slot_is = first; fresh = inl a.fresh_is } })
+adds_inserts n key h id given base slots had s u (Answered true) a is first count = (
+  a.own,
+  record {
+    given = given;
+    made = a.made;
+    count = count;
+    ends = record {
+      id = id;
+      slots_are = a.slots_are ∙ is;
+      slot_is = first;
+      fresh = inl
+          a.fresh_is;
+    };
+  },
+)
 adds_inserts n key h id given base slots had s u NoNode a is first count = absurd a
-adds_inserts n key h id given base slots had s u (Spent why) a is first count =
-    (a.own, record { given = given; made = a.made; count = count; ends = record { id = id; slots_are = a.slots_are ∙ is; slot_is = first; fresh = inr a.fresh_is } })
+adds_inserts n key h id given base slots had s u (Spent why) a is first count = (
+  a.own,
+  record {
+    given = given;
+    made = a.made;
+    count = count;
+    ends = record {
+      id = id;
+      slots_are = a.slots_are ∙ is;
+      slot_is = first;
+      fresh = inr
+          a.fresh_is;
+    };
+  },
+)
 
 -- a turn that made only loads keeps the node
 
-pub keeps_on : (n : HeapNumbers) (key : ℕ) (node : Option Hold) (slots : Slots) (s t : Seat ChainNote) → KeepsNode n key node slots s → (w : Tires 1 s t) → ChainHolds n s.seen → AllAllowed (ChainMay n) [] t.seen → InsertsOn n key 1 slots node node s t
+pub keeps_on : (n : HeapNumbers) (key : ℕ) (node : Option Hold) (slots : Slots) (s t : Seat ChainNote) → KeepsNode n key node slots s → (w : Tires 1 s t)
+    → ChainHolds n s.seen → AllAllowed (ChainMay n) [] t.seen → InsertsOn n key 1 slots node node s t
 keeps_on n key node slots s t k w holds all = record {
   own = w.own;
   given = 0;
@@ -329,19 +385,34 @@ keeps_on n key node slots s t k w holds all = record {
   where
     by : (o : Option Hold) → IsToAdd n key o k.id s → IsToAdd n key o k.id t
     by None fresh = w.fresh ∙ fresh
-    by (Some h) a = holds_on n key h k.id s t w.own a w.over.made.puts (loads_leave k.id w.own w.loads) holds all (subst (λ (z : Slots). HoldsId z h k.id) (sym w.slots) a.held) w.fresh
+    by (Some h) a = holds_on n key h k.id s t w.own a w.over.made.puts (loads_leave k.id w.own w.loads) holds all
+        (subst (λ (z : Slots). HoldsId z h k.id) (sym w.slots) a.held) w.fresh
 
 -- and so does one that answered
-pub keeps_answer : (n : HeapNumbers) (key : ℕ) (node : Option Hold) (slots : Slots) (entry : SetEntry) (s t : Seat ChainNote) → KeepsNode n key node slots s → Answers 1 s entry t → (own : List (Event ChainNote)) × InsertEnds 1 slots node node s own (entry ∷ []) t
-keeps_answer n key node slots entry s t k a =
-    (a.own, record { given = 0; made = a.made; count = omega arith; ends = record { id = k.id; slots_are = a.slots ∙ k.slots_are; slot_is = k.slot_is; fresh = by node k.to_add } })
+pub keeps_answer : (n : HeapNumbers) (key : ℕ) (node : Option Hold) (slots : Slots) (entry : SetEntry) (s t : Seat ChainNote) → KeepsNode n key node slots s
+    → Answers 1 s entry t → (own : List (Event ChainNote)) × InsertEnds 1 slots node node s own (entry ∷ []) t
+keeps_answer n key node slots entry s t k a = (
+  a.own,
+  record {
+    given = 0;
+    made = a.made;
+    count = omega arith;
+    ends = record {
+      id = k.id;
+      slots_are = a.slots ∙ k.slots_are;
+      slot_is = k.slot_is;
+      fresh = by node k.to_add;
+    };
+  },
+)
   where
     by : (o : Option Hold) → IsToAdd n key o k.id s → (t.fresh ≡ None) ⊎ (t.fresh ≡ node_of o k.id)
     by None fresh = inl (a.fresh ∙ fresh)
     by (Some h) kept = inr (a.fresh ∙ kept.fresh)
 
 -- a node that was linked had been given
-pub adds_given : (n : HeapNumbers) (key : ℕ) (h : Hold) (id given : ℕ) (slots : Slots) (s u : Seat ChainNote) (turn : InsertTurn) → AddsNode n key h id given slots s turn u → turn ≡ NoNode → ⊥
+pub adds_given : (n : HeapNumbers) (key : ℕ) (h : Hold) (id given : ℕ) (slots : Slots) (s u : Seat ChainNote) (turn : InsertTurn)
+    → AddsNode n key h id given slots s turn u → turn ≡ NoNode → ⊥
 adds_given n key h id given slots s u Over a is = cc
 adds_given n key h id given slots s u (Answered true) a is = cc
 adds_given n key h id given slots s u (Answered false) a is = a
@@ -349,15 +420,21 @@ adds_given n key h id given slots s u NoNode a is = a
 adds_given n key h id given slots s u (Spent why) a is = cc
 
 -- the discipline held when a call began
-pub seen_holds : (n : HeapNumbers) (s t : Seat ChainNote) (own : List (Event ChainNote)) → Puts s own t → AllAllowed (ChainMay n) [] t.seen → ChainHolds n s.seen
+pub seen_holds : (n : HeapNumbers) (s t : Seat ChainNote) (own : List (Event ChainNote)) → Puts s own t → AllAllowed (ChainMay n) [] t.seen
+    → ChainHolds n s.seen
 seen_holds n s t own p all =
     let whole : AllAllowed (ChainMay n) [] (s.seen ++ p.part) = subst (λ es. AllAllowed (ChainMay n) [] es) p.is all in
     holds_later n [] s.seen (nothing_yet n) (allowed-left (ChainMay n) [] s.seen p.part whole)
 
 -- slots 2 to 5 are free beside the node
-pub has_room : (n : HeapNumbers) (key : ℕ) (node : Option Hold) (slots : Slots) (s : Seat ChainNote) → HasRoomFor slots → KeepsNode n key node slots s → HasRoom s.slots
-has_room n key node slots s room k = record { two = free node k.slots_are k.slot_is 2 (λ e. omega (arith, e)) room.room.two; three = free node k.slots_are k.slot_is 3 (λ e. omega (arith, e)) room.room.three;
-    four = free node k.slots_are k.slot_is 4 (λ e. omega (arith, e)) room.room.four; five = free node k.slots_are k.slot_is 5 (λ e. omega (arith, e)) room.room.five }
+pub has_room : (n : HeapNumbers) (key : ℕ) (node : Option Hold) (slots : Slots) (s : Seat ChainNote) → HasRoomFor slots → KeepsNode n key node slots s
+    → HasRoom s.slots
+has_room n key node slots s room k = record {
+  two = free node k.slots_are k.slot_is 2 (λ e. omega (arith, e)) room.room.two;
+  three = free node k.slots_are k.slot_is 3 (λ e. omega (arith, e)) room.room.three;
+  four = free node k.slots_are k.slot_is 4 (λ e. omega (arith, e)) room.room.four;
+  five = free node k.slots_are k.slot_is 5 (λ e. omega (arith, e)) room.room.five;
+}
   where
     free : (o : Option Hold) → s.slots ≡ slots_with slots o k.id → IsInFirst o → (slot : ℕ) → slot ≢ 1 → IsFree slots slot → IsFree s.slots slot
     free None is first slot ne f = subst (λ (z : Slots). IsFree z slot) (sym is) f

@@ -1,15 +1,12 @@
 -- From what a call did to its clauses on journals.
-use Rattle.std.proofs.Common.{Bool, Err, List, Ok, Result, [], ap, append-nil, append_assoc, arith, drop, inr, length, refl, subst, sym, take, true, ℕ, ◌*◌, ◌++◌, ◌+◌, ◌<◌, ◌==◌, ◌∙◌, ◌∷◌, ◌≡◌, ◌≢◌, ◌≤◌, ◌⊎◌}
-use Rattle.std.proofs.lemmas.List.{length-append}
+use Rattle.std.proofs.Common.{Bool, Err, List, Ok, Result, [], ap, append-nil, append_assoc, arith, drop, inr, length, refl, subst, sym, take, true, ℕ, ◌*◌, ◌++◌, ◌<◌, ◌==◌, ◌∙◌, ◌∷◌, ◌≡◌, ◌≤◌, ◌⊎◌}
 use Rattle.std.proofs.lemmas.List.Elements.{filter-append}
 use Rattle.std.proofs.Math.Seq.{drop-append_seam, take-length}
 use Rattle.std.specs.List.{list_all, AllByRecursion}
 use Rattle.std.specs.Prelude.{IfErr, IfOk, IsErr}
 use mathlib.Core.List.{IsPrefix}
-use Rattle.orc_fault.specs.declared.Again.{Again as AgainFault}
-use Rattle.orc_fault.specs.declared.Spent.{Spent as SpentRow}
 use Rattle.orc_heap.proofs.Calls.{part_allowed}
-use Rattle.orc_heap.proofs.OwnEntries.{entries_added, own_of_events}
+use Rattle.orc_heap.proofs.OwnEntries.{entries_added}
 use Rattle.orc_heap.proofs.OwnParts.{from_own-others, moves_from_own, own_from, quiet_not_alone}
 use Rattle.orc_heap.proofs.Steps.{part_bounds, part_events}
 use Rattle.orc_heap.specs.Allowed.{AllAllowed, events_by}
@@ -18,17 +15,15 @@ use Rattle.orc_heap.specs.Moves.{AllOwn, from_own, gives_in, moves_in}
 use Rattle.orc_heap.specs.OwnEvents.{IsBelow, Puts}
 use Rattle.orc_heap.specs.Seats.{Seat}
 use Rattle.orc_heap.specs.declared.events.Event.{Event}
-use Rattle.orc_history.specs.Journals.{Adds, LearnsEntries, Within, own_of}
+use Rattle.orc_history.specs.Journals.{Adds}
 use Rattle.orc_history.specs.Parts.{InPart, IsAlone, part_begin}
 use Rattle.orc_history.specs.SetHistory.{agent_of_set_entry}
-use Rattle.orc_history.specs.declared.set.ListRefused.{ListRefused}
-use Rattle.orc_history.specs.declared.set.ListRefused.TheVariants.{Again, NoNode, Spent}
 use Rattle.orc_history.specs.declared.set.SetEntry.{SetEntry}
 use Rattle.orc_chain_rule.proofs.OwnEntries.{entries_own}
 use Rattle.orc_chain_rule.specs.ChainDiscipline.{ChainMay, entries_in, entries_of}
 use Rattle.orc_chain_rule.specs.declared.chain.ChainNote.{ChainNote}
-use Rattle.orc_list.specs.Causes.{Cause, UsesTurns, WithinPart, others_moves}
-use Rattle.orc_list.specs.Turns.{AreFew, Made}
+use Rattle.orc_list.specs.Causes.{UsesTurns}
+use Rattle.orc_list.specs.Turns.{AreFew}
 use Rattle.orc_list.proofs.Parts.{others_append, others_split}
 use Rattle.orc_list.proofs.Settling.{Did}
 
@@ -36,16 +31,19 @@ below_right : (agents : ℕ) (es fs : List (Event ChainNote)) → IsBelow agents
 below_right agents [] fs b = b
 below_right agents (e ∷ es) fs b = below_right agents es fs b.1
 
-of_crowd : (agent agents : ℕ) (es : List (Event ChainNote)) → IsBelow agents es → AllByRecursion (λ (e : Event ChainNote). (e.agent ≡ agent) ⊎ (e.agent < agents)) es
+of_crowd : (agent agents : ℕ) (es : List (Event ChainNote)) → IsBelow agents es
+    → AllByRecursion (λ (e : Event ChainNote). (e.agent ≡ agent) ⊎ (e.agent < agents)) es
 of_crowd agent agents [] b = tt
 of_crowd agent agents (e ∷ es) b = (inr b.0, of_crowd agent agents es b.1)
 
 -- the own events
-module _ {E IsAgain : Type 0} (most turns : ℕ) (entry : Bool → SetEntry) (s u : Seat ChainNote) (r : Result Bool E) (d : Did {E = E} IsAgain most turns entry s r u) where
+module _ {E IsAgain : Type 0} (most turns : ℕ) (entry : Bool → SetEntry) (s u : Seat ChainNote) (r : Result Bool E)
+    (d : Did {E = E} IsAgain most turns entry s r u) where
   own_events : events_by u.agent u.seen ≡ events_by s.agent s.seen ++ d.own
   own_events =
       let p = d.made.puts in
-      ap (λ (a : ℕ). events_by a u.seen) p.agent ∙ (ap (λ z. events_by s.agent z) p.is ∙ (filter-append (λ e. e.agent == s.agent) s.seen p.part ∙ ap (λ z. events_by s.agent s.seen ++ z) p.own_is))
+      ap (λ (a : ℕ). events_by a u.seen) p.agent ∙ (ap (λ z. events_by s.agent z) p.is ∙ (filter-append (λ e. e.agent == s.agent) s.seen p.part ∙ ap
+      (λ z. events_by s.agent s.seen ++ z) p.own_is))
 
   pub own_call : drop (length (events_by s.agent s.seen)) (events_by u.agent u.seen) ≡ d.own
   own_call = ap (λ z. drop (length (events_by s.agent s.seen)) z) own_events ∙ drop-append_seam (events_by s.agent s.seen) d.own
@@ -61,25 +59,31 @@ module _ {E IsAgain : Type 0} (most turns : ℕ) (entry : Bool → SetEntry) (s 
 
 -- over the journals of a domain
 module _ {S : Type 0} (n : HeapNumbers) (agents : ℕ) (agent_of : S → ℕ) (events : List S → List (Event ChainNote))
-    (adds : (j : List S) (x : S) → (es : List (Event ChainNote)) × (events (j ++ x ∷ []) ≡ events j ++ es) × (list_all (λ e. e.agent == agent_of x) es ≡ true))
-    (s u : Seat ChainNote) (j m : List S) (grows : IsPrefix j m) (is_s : s.seen ≡ events j) (is_u : u.seen ≡ events m) (all : AllAllowed (ChainMay n) [] u.seen) (below : IsBelow agents u.seen)
+    (adds : (j : List S) (x : S)
+    → (es : List (Event ChainNote)) × (events (j ++ x ∷ []) ≡ events j ++ es) × (list_all (λ e. e.agent == agent_of x) es ≡ true))
+    (s u : Seat ChainNote) (j m : List S) (grows : IsPrefix j m) (is_s : s.seen ≡ events j) (is_u : u.seen ≡ events m)
+    (all : AllAllowed (ChainMay n) [] u.seen) (below : IsBelow agents u.seen)
   where
     -- the entries
-    call_adds : (own : List (Event ChainNote)) (es : List SetEntry) (p : Puts s own u) → entries_of own ≡ es → Adds agent_of_set_entry (λ (a : ℕ). a < agents) s.agent (entries_of (events j)) es (entries_of (events m))
+    call_adds : (own : List (Event ChainNote)) (es : List SetEntry) (p : Puts s own u) → entries_of own ≡ es
+        → Adds agent_of_set_entry (λ (a : ℕ). a < agents) s.agent (entries_of (events j)) es (entries_of (events m))
     call_adds own es p entries_are =
         let others = of_crowd s.agent agents p.part (below_right agents s.seen p.part (subst (λ z. IsBelow agents z) p.is below)) in
-        let a = entries_added entries_in agent_of_set_entry (ChainMay n) (entries_own n) (λ (x : ℕ). x < agents) s.agent s.seen p.part (part_allowed (ChainMay n) s u own p all) others in
+        let a = entries_added entries_in agent_of_set_entry (ChainMay n) (entries_own n) (λ (x : ℕ). x < agents) s.agent s.seen p.part
+        (part_allowed (ChainMay n) s u own p all) others in
         let mine : entries_of (events_by s.agent p.part) ≡ es = ap entries_of p.own_is ∙ entries_are in
         subst (λ z. Adds agent_of_set_entry (λ (x : ℕ). x < agents) s.agent (entries_of (events j)) es (entries_of z)) (sym p.is ∙ is_u)
         (subst (λ z. Adds agent_of_set_entry (λ (x : ℕ). x < agents) s.agent (entries_of z) es (entries_of (s.seen ++ p.part))) is_s
         (subst (λ z. Adds agent_of_set_entry (λ (x : ℕ). x < agents) s.agent (entries_of s.seen) z (entries_of (s.seen ++ p.part))) mine a))
 
     module _ {E IsAgain : Type 0} (most turns : ℕ) (entry : Bool → SetEntry) where
-      pub did_enter : (r : Result Bool E) → Did {E = E} IsAgain most turns entry s r u → IfOk r (λ answer. Adds agent_of_set_entry (λ (a : ℕ). a < agents) s.agent (entries_of (events j)) (entry answer ∷ []) (entries_of (events m)))
+      pub did_enter : (r : Result Bool E) → Did {E = E} IsAgain most turns entry s r u
+          → IfOk r (λ answer. Adds agent_of_set_entry (λ (a : ℕ). a < agents) s.agent (entries_of (events j)) (entry answer ∷ []) (entries_of (events m)))
       did_enter (Ok answer) d = call_adds d.own (entry answer ∷ []) d.made.puts (d.made.entries_are ∙ d.entries_are)
       did_enter (Err e) d = tt
 
-      pub did_not_enter : (r : Result Bool E) → Did {E = E} IsAgain most turns entry s r u → IfErr r (λ e. Adds agent_of_set_entry (λ (a : ℕ). a < agents) s.agent (entries_of (events j)) [] (entries_of (events m)))
+      pub did_not_enter : (r : Result Bool E) → Did {E = E} IsAgain most turns entry s r u
+          → IfErr r (λ e. Adds agent_of_set_entry (λ (a : ℕ). a < agents) s.agent (entries_of (events j)) [] (entries_of (events m)))
       did_not_enter (Ok answer) d = tt
       did_not_enter (Err e) d = call_adds d.own [] d.made.puts (d.made.entries_are ∙ d.entries_are)
 
@@ -92,7 +96,8 @@ module _ {S : Type 0} (n : HeapNumbers) (agents : ℕ) (agent_of : S → ℕ) (e
         subst (λ z. AllOwn s.agent z) (sym same) (own_from s.agent e.part (e.alone alone))
 
     -- all turns were used
-    pub turns_used : {E IsAgain : Type 0} (most turns : ℕ) (entry : Bool → SetEntry) (r : Result Bool E) → Did {E = E} IsAgain most turns entry s r u → IsAgain
+    pub turns_used : {E IsAgain : Type 0} (most turns : ℕ) (entry : Bool → SetEntry) (r : Result Bool E) → Did {E = E} IsAgain most turns entry s r u
+        → IsAgain
         → InPart agent_of s.agent j m (λ from to. UsesTurns agent_of events s.agent turns m from to)
     turns_used most turns entry r d again =
         let p = d.made.puts in
@@ -100,9 +105,11 @@ module _ {S : Type 0} (n : HeapNumbers) (agents : ℕ) (agent_of : S → ℕ) (e
         let new : events m ≡ events j ++ p.part = sym is_u ∙ (p.is ∙ ap (λ z. z ++ p.part) is_s) in
         let e = part_events agent_of events adds s.agent j m p.part grows new in
         let bounds = part_bounds agent_of s.agent j m grows in
-        let whole : events (take (length m) m) ≡ (events j ++ e.gap) ++ e.part = ap events (take-length m) ∙ (new ∙ (ap (λ z. events j ++ z) e.is ∙ sym (append_assoc (events j) e.gap e.part))) in
+        let whole : events (take (length m) m) ≡ (events j ++ e.gap) ++ e.part = ap events (take-length m) ∙
+        (new ∙ (ap (λ z. events j ++ z) e.is ∙ sym (append_assoc (events j) e.gap e.part))) in
         let same : from_own s.agent p.part ≡ from_own s.agent e.part = ap (λ z. from_own s.agent z) e.is ∙ from_own-others s.agent e.gap e.part e.others in
-        let own : events_by s.agent e.part ≡ d.own = ap (λ z. z ++ events_by s.agent e.part) (sym e.others) ∙ (sym (filter-append (λ x. x.agent == s.agent) e.gap e.part) ∙ (ap (λ z. events_by s.agent z) (sym e.is) ∙ p.own_is)) in
+        let own : events_by s.agent e.part ≡ d.own = ap (λ z. z ++ events_by s.agent e.part) (sym e.others) ∙
+        (sym (filter-append (λ x. x.agent == s.agent) e.gap e.part) ∙ (ap (λ z. events_by s.agent z) (sym e.is) ∙ p.own_is)) in
         let quiet : moves_in (events_by s.agent e.part) ≡ 0 = ap (λ (z : List (Event ChainNote)). moves_in z) own ∙ none in
         let enough : turns ≤ moves_in e.part = omega (arith, moved, ap (λ (z : List (Event ChainNote)). moves_in z) same, moves_from_own s.agent e.part) in
         record {
@@ -110,7 +117,8 @@ module _ {S : Type 0} (n : HeapNumbers) (agents : ℕ) (agent_of : S → ℕ) (e
           in_journal = omega arith;
           moves = rw (e.begin_events, whole) (omega (arith, enough, quiet, others_split s.agent e.part, others_append s.agent (events j ++ e.gap) e.part));
           not_alone = λ some alone.
-              let single : IsAlone agent_of s.agent j m = subst (λ z. list_all (λ (x : S). agent_of x == s.agent) (drop (part_begin agent_of s.agent j m) z) ≡ true) (take-length m) alone in
+              let single : IsAlone agent_of s.agent j m = subst (λ z. list_all (λ (x : S). agent_of x == s.agent)
+              (drop (part_begin agent_of s.agent j m) z) ≡ true) (take-length m) alone in
               quiet_not_alone s.agent p.part d.own p.own_is none (omega (arith, some, moved)) (part_alone d.own p single);
         }
 

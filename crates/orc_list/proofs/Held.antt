@@ -1,19 +1,17 @@
 -- The nodes that a search has in hand, and that they are let go.
-use Rattle.std.proofs.Common.{Bool, List, None, Option, Some, [], ap, arith, false, inl, inr, refl, subst, suc, sym, true, zero, ℕ, ◌++◌, ◌+◌, ◌<◌, ◌∙◌, ◌∷◌, ◌≡◌, ◌≢◌, ◌≤◌}
-use Rattle.std.specs.List.{slice_get}
+use Rattle.std.proofs.Common.{List, None, Option, Some, [], ap, arith, subst, suc, sym, zero, ℕ, ◌<◌, ◌∙◌, ◌∷◌, ◌≡◌, ◌≢◌, ◌≤◌}
 use Rattle.orc_heap.proofs.Calls.{Puts-trans}
-use Rattle.orc_heap.proofs.Hands.{free_in, hand_held, hands_done, hands_drop, hands_none, hands_swap, hands_with_none, holds_of}
+use Rattle.orc_heap.proofs.Hands.{hand_held, hands_done, hands_drop, hands_none, hands_swap, hands_with_none, holds_of}
 use Rattle.orc_heap.proofs.Pieces.{linked_not_fresh, unless_other}
-use Rattle.orc_heap.specs.Allowed.{AllAllowed, HasLink, IsLinkedNode}
+use Rattle.orc_heap.specs.Allowed.{AllAllowed, IsLinkedNode}
 use Rattle.orc_heap.specs.Calls.{Releases, unless_node}
-use Rattle.orc_heap.specs.Hands.{Hand, Hands, HoldsId, IsApart, IsApartOf, IsHeldApart, hand}
-use Rattle.orc_heap.specs.Heap.{Heap, HeapNumbers}
+use Rattle.orc_heap.specs.Hands.{Hand, Hands, IsApart, IsApartOf, IsHeldApart, hand}
+use Rattle.orc_heap.specs.Heap.{HeapNumbers}
 use Rattle.orc_heap.specs.OwnEvents.{Puts}
 use Rattle.orc_heap.specs.Seats.{IsUntouched, Seat, heap_of}
-use Rattle.orc_heap.specs.Slots.{Hold, Holds, IsFree, Slots, id_in}
+use Rattle.orc_heap.specs.Slots.{Hold, IsFree, Slots}
 use Rattle.orc_heap.specs.declared.events.Event.{Event}
 use Rattle.orc_heap.specs.declared.events.Link.{Link}
-use Rattle.orc_heap.specs.declared.events.Place.TheVariants.{Next, Root}
 use Rattle.orc_heap.proofs.SingleActs.{linked_node}
 use Rattle.orc_chain_rule.specs.declared.chain.ChainNote.{ChainNote}
 use Rattle.orc_chain_rule.specs.ChainDiscipline.{ChainMay, FollowsOn, IsAbove, IsRun}
@@ -28,11 +26,13 @@ FreshIs n s = (i : ℕ) → s.fresh ≡ Some i → IsUntouched s.agent (heap_of 
 pub release_goes : (h : Hold) (s t : Seat ChainNote) → Releases s h t → LetsGo (Some h) s t
 release_goes h s t r = record { slots = r.slots; fresh = r.fresh; puts = r.puts }
 
-pub goes_hands : (s : Slots) (t u : Seat ChainNote) (node : Option Hold) (id : ℕ) (hs : List Hand) → LetsGo node t u → Hands s t.slots (hand node id ∷ hs) → Hands s u.slots hs
+pub goes_hands : (s : Slots) (t u : Seat ChainNote) (node : Option Hold) (id : ℕ) (hs : List Hand) → LetsGo node t u → Hands s t.slots (hand node id ∷ hs)
+    → Hands s u.slots hs
 goes_hands s t u None id hs g k = hands_none s u.slots hs id (subst (λ (z : Slots). Hands s z (hand None id ∷ hs)) (sym g.slots) k)
 goes_hands s t u (Some h) id hs g k = hands_drop s t.slots u.slots hs h id k g.slots
 
-pub goes_fresh : (n : HeapNumbers) (s : Slots) (t u : Seat ChainNote) (node : Option Hold) (id : ℕ) (hs : List Hand) → FreshIs n t → LetsGo node t u → Hands s t.slots (hand node id ∷ hs) → IsLinkedIfAny n t node id → u.fresh ≡ t.fresh
+pub goes_fresh : (n : HeapNumbers) (s : Slots) (t u : Seat ChainNote) (node : Option Hold) (id : ℕ) (hs : List Hand) → FreshIs n t → LetsGo node t u
+    → Hands s t.slots (hand node id ∷ hs) → IsLinkedIfAny n t node id → u.fresh ≡ t.fresh
 goes_fresh n s t u None id hs fresh g k l = g.fresh
 goes_fresh n s t u (Some h) id hs fresh g k l =
     let (held, is) = holds_of t.slots h id (hand_held s t.slots hs h id k) in
@@ -45,33 +45,40 @@ held_any before after (Some h) id hs k = (holds_of after h id k.0).0
 pub first_held : (before after : Slots) (o : Option Hold) (id : ℕ) (hs : List Hand) → Hands before after (hand o id ∷ hs) → HoldsIfAny after o
 first_held before after o id hs k = held_any before after o id hs k.held.0
 
-pub second_held : (before after : Slots) (x : Hand) (o : Option Hold) (id : ℕ) (hs : List Hand) → Hands before after (x ∷ hand o id ∷ hs) → HoldsIfAny after o
+pub second_held : (before after : Slots) (x : Hand) (o : Option Hold) (id : ℕ) (hs : List Hand) → Hands before after (x ∷ hand o id ∷ hs) → HoldsIfAny
+    after o
 second_held before after x o id hs k = held_any before after o id hs k.held.1.0
 
-pub third_held : (before after : Slots) (x y : Hand) (o : Option Hold) (id : ℕ) (hs : List Hand) → Hands before after (x ∷ y ∷ hand o id ∷ hs) → HoldsIfAny after o
+pub third_held : (before after : Slots) (x y : Hand) (o : Option Hold) (id : ℕ) (hs : List Hand) → Hands before after (x ∷ y ∷ hand o id ∷ hs)
+    → HoldsIfAny after o
 third_held before after x y o id hs k = held_any before after o id hs k.held.1.1.0
 
-pub fourth_held : (before after : Slots) (x y z : Hand) (o : Option Hold) (id : ℕ) (hs : List Hand) → Hands before after (x ∷ y ∷ z ∷ hand o id ∷ hs) → HoldsIfAny after o
+pub fourth_held : (before after : Slots) (x y z : Hand) (o : Option Hold) (id : ℕ) (hs : List Hand) → Hands before after (x ∷ y ∷ z ∷ hand o id ∷ hs)
+    → HoldsIfAny after o
 fourth_held before after x y z o id hs k = held_any before after o id hs k.held.1.1.1.0
 
 -- the nodes that a search names are once linked
 
-pub left_linked : (n : HeapNumbers) (t : Seat ChainNote) (root wanted : ℕ) (left : Option Hold) (id : ℕ) → FollowsOn n.roots (heap_of n t) (left_place root left id) wanted → IsLinkedIfAny n t left id
+pub left_linked : (n : HeapNumbers) (t : Seat ChainNote) (root wanted : ℕ) (left : Option Hold) (id : ℕ)
+    → FollowsOn n.roots (heap_of n t) (left_place root left id) wanted → IsLinkedIfAny n t left id
 left_linked n t root wanted None id f = tt
 left_linked n t root wanted (Some h) id (low, own, less, same) = key_linked (heap_of n t) id low own
 
-pub first_linked : (n : HeapNumbers) (t : Seat ChainNote) (first : Option Hold) (id : ℕ) (from : Link) (over : List ℕ) (to : Option ℕ) → BeginsRun first id over → IsRun (heap_of n t) from over to → IsLinkedIfAny n t first id
+pub first_linked : (n : HeapNumbers) (t : Seat ChainNote) (first : Option Hold) (id : ℕ) (from : Link) (over : List ℕ) (to : Option ℕ)
+    → BeginsRun first id over → IsRun (heap_of n t) from over to → IsLinkedIfAny n t first id
 first_linked n t None id from over to b run = tt
 first_linked n t (Some h) id from over to (others, is) run = in_run (subst (λ z. IsRun (heap_of n t) from z to) is run)
   where
     in_run : IsRun (heap_of n t) from (id ∷ others) to → IsLinkedNode (heap_of n t) id
     in_run (to_is, next, own, mark, rest) = linked_node (heap_of n t) id next own
 
-pub next_linked : (n : HeapNumbers) (t : Seat ChainNote) (next : Option Hold) (id next_id : ℕ) → NextFollows n id (node_of next next_id) t → IsLinkedIfAny n t next next_id
+pub next_linked : (n : HeapNumbers) (t : Seat ChainNote) (next : Option Hold) (id next_id : ℕ) → NextFollows n id (node_of next next_id) t
+    → IsLinkedIfAny n t next next_id
 next_linked n t None id next_id f = tt
 next_linked n t (Some h) id next_id (key, own, follows) = key_linked (heap_of n t) next_id key own
 
-pub right_linked : (n : HeapNumbers) (t : Seat ChainNote) (right : Option Hold) (id key : ℕ) → IsAbove (heap_of n t) (node_of right id) key → IsLinkedIfAny n t right id
+pub right_linked : (n : HeapNumbers) (t : Seat ChainNote) (right : Option Hold) (id key : ℕ) → IsAbove (heap_of n t) (node_of right id) key
+    → IsLinkedIfAny n t right id
 right_linked n t None id key a = tt
 right_linked n t (Some h) id key (high, own, less) = key_linked (heap_of n t) id high own
 
@@ -132,7 +139,8 @@ module _ (n : HeapNumbers) (root key : ℕ) (left first : Option Hold) (s t : Se
       }
 
 -- they stay in hand over events
-pub in_hand_on : (n : HeapNumbers) (slots : Slots) (left first at next : Option Hold) (t u : Seat ChainNote) (ys : List (Event ChainNote)) → Puts t ys u → AllAllowed (ChainMay n) [] u.seen → u.slots ≡ t.slots
+pub in_hand_on : (n : HeapNumbers) (slots : Slots) (left first at next : Option Hold) (t u : Seat ChainNote) (ys : List (Event ChainNote)) → Puts t ys u
+    → AllAllowed (ChainMay n) [] u.seen → u.slots ≡ t.slots
     → InHand n slots left first at next t → InHand n slots left first at next u
 in_hand_on n slots left first at next t u ys p all same h = record {
   left_id = h.left_id;
@@ -148,7 +156,8 @@ in_hand_on n slots left first at next t u ys p all same h = record {
 
 -- four nodes are let go
 
-module _ (n : HeapNumbers) (s : Slots) (t u v x y : Seat ChainNote) (a b c e : Option Hold) (w : InHand n s a b c e t) (ga : LetsGo a t u) (gb : LetsGo b u v) (gc : LetsGo c v x) (ge : LetsGo e x y) where
+module _ (n : HeapNumbers) (s : Slots) (t u v x y : Seat ChainNote) (a b c e : Option Hold) (w : InHand n s a b c e t) (ga : LetsGo a t u)
+    (gb : LetsGo b u v) (gc : LetsGo c v x) (ge : LetsGo e x y) where
   h2 : Hand
   h2 = hand b w.first_id
 
@@ -167,11 +176,13 @@ module _ (n : HeapNumbers) (s : Slots) (t u v x y : Seat ChainNote) (a b c e : O
   pub fourth_hands : Hands s x.slots (hand e w.next_id ∷ [])
   fourth_hands = goes_hands s v x c w.id (hand e w.next_id ∷ []) gc third_hands
 
-  pub four_go : FreshIs n t → FreshIs n u → FreshIs n v → FreshIs n x → AllAllowed (ChainMay n) [] u.seen → AllAllowed (ChainMay n) [] v.seen → AllAllowed (ChainMay n) [] x.seen → AllGone s t y
+  pub four_go : FreshIs n t → FreshIs n u → FreshIs n v → FreshIs n x → AllAllowed (ChainMay n) [] u.seen → AllAllowed (ChainMay n) [] v.seen
+      → AllAllowed (ChainMay n) [] x.seen → AllGone s t y
   four_go ft fu fv fx all_u all_v all_x =
       let lb = linked_on n t u [] ga.puts all_u b w.first_id w.first_linked in
       let lc = linked_on n u v [] gb.puts all_v c w.id (linked_on n t u [] ga.puts all_u c w.id w.linked) in
-      let le = linked_on n v x [] gc.puts all_x e w.next_id (linked_on n u v [] gb.puts all_v e w.next_id (linked_on n t u [] ga.puts all_u e w.next_id w.next_linked)) in
+      let le = linked_on n v x [] gc.puts all_x e w.next_id (linked_on n u v [] gb.puts all_v e w.next_id
+      (linked_on n t u [] ga.puts all_u e w.next_id w.next_linked)) in
       let same_u = goes_fresh n s t u a w.left_id (hand b w.first_id ∷ hand c w.id ∷ hand e w.next_id ∷ []) ft ga w.hands w.left_linked in
       let same_v = goes_fresh n s u v b w.first_id (hand c w.id ∷ hand e w.next_id ∷ []) fu gb second_hands lb in
       let same_x = goes_fresh n s v x c w.id (hand e w.next_id ∷ []) fv gc third_hands lc in

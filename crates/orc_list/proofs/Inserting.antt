@@ -1,5 +1,5 @@
 -- One turn of an insert after another, and its answer.
-use Rattle.std.proofs.Common.{Bool, Err, List, None, Ok, Option, Result, Some, [], ap, arith, false, inl, inr, refl, subst, sym, true, ℕ, ◌++◌, ◌+◌, ◌∙◌, ◌≡◌, ◌≢◌, ◌≤◌, ◌⊎◌, ◌∷◌}
+use Rattle.std.proofs.Common.{Bool, Err, List, None, Option, Result, Some, [], ap, arith, inl, inr, refl, subst, sym, ℕ, ◌++◌, ◌+◌, ◌∙◌, ◌≡◌, ◌≤◌, ◌⊎◌, ◌∷◌}
 use Rattle.std.specs.List.{slice_get, slice_set}
 use Rattle.orc_fault.specs.declared.Spent.{Spent as SpentRow}
 use Rattle.orc_heap.proofs.ByAnswer.{unless_fresh, unless_same}
@@ -9,9 +9,8 @@ use Rattle.orc_heap.specs.Allowed.{AllAllowed}
 use Rattle.orc_heap.specs.Calls.{unless_node}
 use Rattle.orc_heap.specs.Hands.{HoldsId}
 use Rattle.orc_heap.specs.Heap.{HeapNumbers}
-use Rattle.orc_heap.specs.OwnEvents.{Puts}
 use Rattle.orc_heap.specs.Seats.{IsIdle, Seat}
-use Rattle.orc_heap.specs.Slots.{Hold, IsFree, SlotNode, Slots, id_in}
+use Rattle.orc_heap.specs.Slots.{Hold, SlotNode, Slots}
 use Rattle.orc_heap.specs.declared.events.Event.{Event}
 use Rattle.orc_history.specs.declared.set.ListRefused.{ListRefused}
 use Rattle.orc_history.specs.declared.set.ListRefused.TheVariants.{Spent as RefusedSpent}
@@ -20,9 +19,8 @@ use Rattle.orc_history.specs.declared.set.SetEntry.TheVariants.{Added}
 use Rattle.orc_chain_rule.specs.ChainDiscipline.{ChainMay}
 use Rattle.orc_chain_rule.specs.declared.chain.ChainNote.{ChainNote}
 use Rattle.orc_list.specs.Answers.{InsertCall, InsertTires, InsertsTurns}
-use Rattle.orc_list.specs.Inserts.{EndsWith, HasRoomFor, InsertEnds, Inserts, InsertsOn, IsToAdd, KeepsNode, SeesAbsent, count_of, slots_with}
+use Rattle.orc_list.specs.Inserts.{EndsWith, HasRoomFor, InsertEnds, Inserts, InsertsOn, IsToAdd, KeepsNode, SeesAbsent, count_of}
 use Rattle.orc_list.specs.Searches.{HoldsIfAny, LetsGo, node_of}
-use Rattle.orc_list.specs.Turns.{AreOver, Made}
 use Rattle.orc_list.specs.declared.insert.InsertTurn.{InsertTurn}
 use Rattle.orc_list.specs.declared.insert.InsertTurn.TheVariants.{Answered, NoNode, Over, Spent}
 use Rattle.orc_list.proofs.Making.{made_most, made_next, made_on, over_next, over_none, over_on}
@@ -30,7 +28,15 @@ use Rattle.orc_list.proofs.Quiets.{above_puts, below_puts}
 use Rattle.orc_list.proofs.Seen.{sees_right, sees_run_right}
 
 pub inserts_none : (n : HeapNumbers) (key : ℕ) (s : Seat ChainNote) → s.fresh ≡ None → InsertsOn n key 0 s.slots None None s s
-inserts_none n key s fresh = record { own = []; given = 0; over = over_none s; fewer = omega arith; count = refl; keeps = record { id = 0; slots_are = refl; slot_is = tt; to_add = fresh } }
+inserts_none n key s fresh = record {
+  own = [];
+  given = 0;
+  over = over_none s;
+  fewer = omega arith;
+  count = refl;
+  keeps = record
+      { id = 0; slots_are = refl; slot_is = tt; to_add = fresh };
+}
 
 module _ (n : HeapNumbers) (key turns : ℕ) (had kept : Option Hold) (s t u : Seat ChainNote) (w : InsertsOn n key turns s.slots None had s t) where
   pub inserts_next : InsertsOn n key 1 s.slots had kept t u → InsertsOn n key (turns + 1) s.slots None kept s u
@@ -43,7 +49,8 @@ module _ (n : HeapNumbers) (key turns : ℕ) (had kept : Option Hold) (s t u : S
     keeps = f.keeps;
   }
 
-  ends_next : (most : ℕ) (own : List (Event ChainNote)) (es : List SetEntry) → InsertEnds 1 s.slots had kept t own es u → turns + 1 ≤ most → InsertEnds most s.slots None kept s (w.own ++ own) es u
+  ends_next : (most : ℕ) (own : List (Event ChainNote)) (es : List SetEntry) → InsertEnds 1 s.slots had kept t own es u → turns + 1 ≤ most
+      → InsertEnds most s.slots None kept s (w.own ++ own) es u
   ends_next most own es e low = record {
     given = w.given + e.given;
     made = made_most (w.given + e.given) (turns + 1) most s u (w.own ++ own) es (made_next w.given e.given turns s t u w.own own es w.over e.made) low;
@@ -64,10 +71,12 @@ module _ (n : HeapNumbers) (key turns : ℕ) (had kept : Option Hold) (s t u : S
     above = a.above;
   }
 
-  pub inserts_done : (most : ℕ) (turn : InsertTurn) → Inserts n key 1 s.slots had t turn kept u → (turn ≡ Over → ⊥) → turns + 1 ≤ most → InsertsTurns n key most s turn kept u
+  pub inserts_done : (most : ℕ) (turn : InsertTurn) → Inserts n key 1 s.slots had t turn kept u → (turn ≡ Over → ⊥) → turns + 1 ≤ most
+      → InsertsTurns n key most s turn kept u
   inserts_done most Over f other low = absurd (other refl)
   inserts_done most (Answered answer) (own, e) other low =
-      let first : InsertEnds 1 s.slots had kept t own (Added s.agent key answer ∷ []) u = subst (λ (x : ℕ). InsertEnds 1 s.slots had kept t own (Added x key answer ∷ []) u) w.over.made.puts.agent e in
+      let first : InsertEnds 1 s.slots had kept t own (Added s.agent key answer ∷ []) u = subst
+      (λ (x : ℕ). InsertEnds 1 s.slots had kept t own (Added x key answer ∷ []) u) w.over.made.puts.agent e in
       ((λ zero. omega (arith, zero, low)), (w.own ++ own, ends_next most own (Added s.agent key answer ∷ []) first low))
   inserts_done most NoNode (own, e, a) other low = ((λ zero. omega (arith, zero, low)), (w.own ++ own, ends_next most own [] e low, absent_next own a))
   inserts_done most (Spent why) (own, e) other low = ((λ zero. omega (arith, zero, low)), (w.own ++ own, ends_next most own [] e low))
@@ -81,13 +90,15 @@ keeps_ends n key node slots t k = record { id = k.id; slots_are = k.slots_are; s
     by None fresh = inl fresh
     by (Some h) a = inr a.fresh
 
-ends_of : (n : HeapNumbers) (key turns : ℕ) (kept : Option Hold) (s t : Seat ChainNote) (turn : InsertTurn) → InsertsTurns n key turns s turn kept t → EndsWith kept s.slots t
+ends_of : (n : HeapNumbers) (key turns : ℕ) (kept : Option Hold) (s t : Seat ChainNote) (turn : InsertTurn) → InsertsTurns n key turns s turn kept t
+    → EndsWith kept s.slots t
 ends_of n key turns kept s t Over f = keeps_ends n key kept s.slots t f.keeps
 ends_of n key turns kept s t (Answered answer) f = f.1.1.ends
 ends_of n key turns kept s t NoNode f = f.1.1.ends
 ends_of n key turns kept s t (Spent why) f = f.1.1.ends
 
-pub ends_held : (n : HeapNumbers) (key turns : ℕ) (kept : Option Hold) (s t : Seat ChainNote) (turn : InsertTurn) → InsertsTurns n key turns s turn kept t → HasRoomFor s.slots → HoldsIfAny t.slots kept
+pub ends_held : (n : HeapNumbers) (key turns : ℕ) (kept : Option Hold) (s t : Seat ChainNote) (turn : InsertTurn) → InsertsTurns n key turns s turn kept t
+    → HasRoomFor s.slots → HoldsIfAny t.slots kept
 ends_held n key turns kept s t turn f room = by kept (ends_of n key turns kept s t turn f)
   where
     by : (o : Option Hold) → EndsWith o s.slots t → HoldsIfAny t.slots o
@@ -95,7 +106,8 @@ ends_held n key turns kept s t turn f room = by kept (ends_of n key turns kept s
     by (Some h) e =
         let x : Option SlotNode = Some (record { row = h.row; id = e.id }) in
         let free : slice_get s.slots h.slot ≡ Some None = subst (λ (i : ℕ). slice_get s.slots i ≡ Some None) (sym e.slot_is) room.one.empty in
-        let held : HoldsId t.slots h e.id = subst (λ (z : Slots). slice_get z h.slot ≡ Some x) (sym e.slots_are) (get-set_same s.slots h.slot None x free) in
+        let held : HoldsId t.slots h e.id = subst (λ (z : Slots). slice_get z h.slot ≡ Some x) (sym e.slots_are) (get-set_same s.slots h.slot None x free)
+        in
         (holds_of t.slots h e.id held).0
 
 record Gone (s u : Seat ChainNote) : Type 0 where
@@ -125,12 +137,27 @@ module _ (n : HeapNumbers) (key turns : ℕ) (kept : Option Hold) (s t u : Seat 
   pub insert_tires : InsertsTurns n key turns s Over kept t → InsertTires turns s u
   insert_tires f =
       let gone = ends_go kept s t u (keeps_ends n key kept s.slots t f.keeps) room g in
-      record { own = f.own; given = f.given; at_most = few_given f.given kept f.count; fewer = f.fewer; over = over_on f.given turns s t u f.own f.over g.puts; slots = gone.slots; fresh = gone.fresh }
+      record {
+        own = f.own;
+        given = f.given;
+        at_most = few_given f.given kept f.count;
+        fewer = f.fewer;
+        over = over_on f.given turns s t u f.own f.over
+            g.puts;
+        slots = gone.slots;
+        fresh = gone.fresh;
+      }
 
   pub insert_call : (own : List (Event ChainNote)) (es : List SetEntry) → InsertEnds turns s.slots None kept s own es t → InsertCall turns s own es u
   insert_call own es e =
       let gone = ends_go kept s t u e.ends room g in
-      record { given = e.given; at_most = few_given e.given kept e.count; made = made_on e.given turns s t u own es e.made g.puts; slots = gone.slots; fresh = gone.fresh }
+      record {
+        given = e.given;
+        at_most = few_given e.given kept e.count;
+        made = made_on e.given turns s t u own es e.made g.puts;
+        slots = gone.slots;
+        fresh = gone.fresh;
+      }
 
   pub insert_absent : (own : List (Event ChainNote)) → AllAllowed (ChainMay n) [] u.seen → SeesAbsent n key own t → SeesAbsent n key own u
   insert_absent own all a = record {

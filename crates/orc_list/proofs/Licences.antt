@@ -1,5 +1,5 @@
 -- From the clauses of a call to what the trait of shared sets asks, and what two passes learn from each other.
-use Rattle.std.proofs.Common.{Bool, Err, List, Ok, Result, [], ap, arith, length, refl, sym, ℕ, ◌∙◌, ◌≡◌, ◌≢◌, ◌≤◌, ◌⊎◌}
+use Rattle.std.proofs.Common.{Bool, Err, List, Ok, Result, [], ap, arith, length, refl, sym, ℕ, ◌∙◌, ◌≡◌, ◌≢◌, ◌⊎◌}
 use Rattle.std.specs.Prelude.{IfErr}
 use mathlib.Core.List.{IsPrefix}
 use Rattle.orc_fault.specs.declared.Again.{Again as AgainFault}
@@ -21,19 +21,23 @@ use Rattle.orc_chain_rule.specs.declared.chain.ChainNote.{ChainNote}
 use Rattle.orc_list.specs.Causes.{Cause, UsesTurns, WithinPart}
 
 -- the licence of a refusal, from the clauses of a call
-module _ {S : Type 0} (agent_of : S → ℕ) (events : List S → List (Event ChainNote)) (agent turns : ℕ) (j m : List S) (grows : IsPrefix j m) (Lacks : ℕ → ℕ → Type 0) (Worn : SpentRow → ℕ → ℕ → Type 0) where
+module _ {S : Type 0} (agent_of : S → ℕ) (events : List S → List (Event ChainNote)) (agent turns : ℕ) (j m : List S) (grows : IsPrefix j m)
+    (Lacks : ℕ → ℕ → Type 0) (Worn : SpentRow → ℕ → ℕ → Type 0) where
   abbrev IsLicensed : ListRefused → Type 0
   IsLicensed why = Within (length j) (length m) (λ from to. Cause agent_of events (Lacks from to) (λ spent. Worn spent from to) agent turns why m from to)
 
   of_again : InPart agent_of agent j m (λ from to. UsesTurns agent_of events agent turns m from to) → IsLicensed Again
   of_again used = let bounds = part_bounds agent_of agent j m grows in (part_begin agent_of agent j m, length m, bounds.0, bounds.1, omega arith, used)
 
-  pub again_licence : (r : Result Bool AgainFault) → IfErr r (λ e. InPart agent_of agent j m (λ from to. UsesTurns agent_of events agent turns m from to)) → IfErr r (λ e. IsLicensed Again)
+  pub again_licence : (r : Result Bool AgainFault) → IfErr r (λ e. InPart agent_of agent j m (λ from to. UsesTurns agent_of events agent turns m from to))
+      → IfErr r (λ e. IsLicensed Again)
   again_licence (Ok answer) again = tt
   again_licence (Err e) again = of_again again
 
-  pub insert_licence : (r : Result Bool ListRefused) → (turns ≡ 0 → r ≡ Err Again) → (r ≡ Err Again → InPart agent_of agent j m (λ from to. UsesTurns agent_of events agent turns m from to))
-      → (r ≡ Err NoNode → WithinPart agent_of agent j m Lacks) → ((why : SpentRow) → r ≡ Err (Spent why) → WithinPart agent_of agent j m (Worn why)) → IfErr r (λ e. IsLicensed e)
+  pub insert_licence : (r : Result Bool ListRefused) → (turns ≡ 0 → r ≡ Err Again)
+      → (r ≡ Err Again → InPart agent_of agent j m (λ from to. UsesTurns agent_of events agent turns m from to))
+      → (r ≡ Err NoNode → WithinPart agent_of agent j m Lacks) → ((why : SpentRow) → r ≡ Err (Spent why) → WithinPart agent_of agent j m (Worn why))
+      → IfErr r (λ e. IsLicensed e)
   insert_licence (Ok answer) none again node spent = tt
   insert_licence (Err Again) none again node spent = of_again (again refl)
   insert_licence (Err NoNode) none again node spent =
@@ -46,8 +50,12 @@ module _ {S : Type 0} (agent_of : S → ℕ) (events : List S → List (Event Ch
       (from, to, omega (arith, low, (part_bounds agent_of agent j m grows).0), order, high, (some, fact))
 
 -- the entries of each of two agents in what both have seen
-pub learns : {S : Type 0} (n : HeapNumbers) (events : List S → List (Event ChainNote)) (agent1 agent2 : ℕ) (s1 s2 t1 : Seat ChainNote) (j1 j2 k1 k2 : List S) → k1 ≡ k2 → (IsPrefix j1 j2 × (k1 ≡ j2)) ⊎ (IsPrefix j2 j1 × (k1 ≡ j1))
-    → AllAllowed (ChainMay n) [] s1.seen → AllAllowed (ChainMay n) [] s2.seen → AllAllowed (ChainMay n) [] t1.seen → s1.seen ≡ events j1 → s2.seen ≡ events j2 → t1.seen ≡ events k1
+pub learns : {S : Type 0} (n : HeapNumbers) (events : List S → List (Event ChainNote)) (agent1 agent2 : ℕ) (s1 s2 t1 : Seat ChainNote)
+    (j1 j2 k1 k2 : List S)
+    → k1 ≡ k2 → (IsPrefix j1 j2 × (k1 ≡ j2)) ⊎ (IsPrefix j2 j1 × (k1 ≡ j1))
+    → AllAllowed (ChainMay n) [] s1.seen → AllAllowed (ChainMay n) [] s2.seen → AllAllowed (ChainMay n) [] t1.seen → s1.seen ≡ events j1 → s2.seen ≡ events
+    j2
+    → t1.seen ≡ events k1
     → events_by agent1 t1.seen ≡ events_by agent1 s1.seen → events_by agent2 t1.seen ≡ events_by agent2 s2.seen
     → LearnsEntries (λ j. entries_of (events j)) agent_of_set_entry agent1 agent2 j1 j2 k1 k2
 learns {S} n events agent1 agent2 s1 s2 t1 j1 j2 k1 k2 one longer all1 all2 all is1 is2 is own1 own2 = record {
@@ -57,8 +65,11 @@ learns {S} n events agent1 agent2 s1 s2 t1 j1 j2 k1 k2 one longer all1 all2 all 
   own2 = own agent2 s2 j2 all2 is2 own2;
 }
   where
-    own : (agent : ℕ) (s : Seat ChainNote) (j : List S) → AllAllowed (ChainMay n) [] s.seen → s.seen ≡ events j → events_by agent t1.seen ≡ events_by agent s.seen
+    own : (agent : ℕ) (s : Seat ChainNote) (j : List S) → AllAllowed (ChainMay n) [] s.seen → s.seen ≡ events j
+        → events_by agent t1.seen ≡ events_by agent s.seen
         → own_of agent_of_set_entry agent (entries_of (events k1)) ≡ own_of agent_of_set_entry agent (entries_of (events j))
     own agent s j all_s is_j same =
         ap (λ z. own_of agent_of_set_entry agent (entries_of z)) (sym is)
-        ∙ (own_of_events entries_in agent_of_set_entry (ChainMay n) (entries_own n) agent [] t1.seen all ∙ (ap entries_of same ∙ (sym (own_of_events entries_in agent_of_set_entry (ChainMay n) (entries_own n) agent [] s.seen all_s) ∙ ap (λ z. own_of agent_of_set_entry agent (entries_of z)) is_j)))
+        ∙ (own_of_events entries_in agent_of_set_entry (ChainMay n) (entries_own n) agent [] t1.seen all ∙
+        (ap entries_of same ∙ (sym (own_of_events entries_in agent_of_set_entry (ChainMay n) (entries_own n) agent [] s.seen all_s) ∙ ap
+        (λ z. own_of agent_of_set_entry agent (entries_of z)) is_j)))

@@ -1,9 +1,8 @@
 -- A fresh node is aimed, and linked.
-use Rattle.std.proofs.Common.{Bool, Err, List, None, Ok, Option, Result, Some, [], ap, arith, false, length, refl, subst, sym, true, ℕ, ◌++◌, ◌+◌, ◌∙◌, ◌∷◌, ◌≡◌, ◌≢◌, ◌≤◌}
+use Rattle.std.proofs.Common.{Bool, Err, List, None, Ok, Option, Result, Some, [], ap, arith, false, refl, subst, sym, true, ℕ, ◌∙◌, ◌∷◌, ◌≡◌, ◌≢◌}
 use Rattle.std.proofs.lemmas.Bool.{eq-eqb, ne_eqb}
 use Rattle.std.specs.List.{list_any, slice_get}
 use Rattle.std.specs.Prelude.{IfErr, IfOk, ◌||◌}
-use mathlib.Core.List.{IsPrefix}
 use Rattle.orc_fault.specs.declared.Spent.{Spent as SpentRow}
 use Rattle.orc_heap.proofs.ByAnswer.{Swings-fresh, Swings-missed, Swings-moved, unless_same}
 use Rattle.orc_heap.proofs.Calls.{Puts-trans}
@@ -14,7 +13,7 @@ use Rattle.orc_heap.specs.Allowed.{AllAllowed, AllowedLater}
 use Rattle.orc_heap.specs.Calls.{Misses, Swings, event_of, unless_node}
 use Rattle.orc_heap.specs.Hands.{HoldsId}
 use Rattle.orc_heap.specs.Heap.{HeapNumbers, Node, link_to}
-use Rattle.orc_heap.specs.Journals.{names_node, points_to, run_heap}
+use Rattle.orc_heap.specs.Journals.{names_node, points_to}
 use Rattle.orc_heap.specs.OwnEvents.{Only, Puts}
 use Rattle.orc_heap.specs.Seats.{Seat, heap_of, link_in, place_in}
 use Rattle.orc_heap.specs.Slots.{Hold, Slots, id_in}
@@ -25,7 +24,6 @@ use Rattle.orc_heap.specs.declared.events.Link.{Link}
 use Rattle.orc_heap.specs.declared.events.Place.{Place}
 use Rattle.orc_heap.specs.declared.holds.At.{At}
 use Rattle.orc_heap.specs.declared.holds.Want.{Want}
-use Rattle.orc_heap.specs.declared.holds.Want.TheVariants.{Node as WantNode}
 use Rattle.orc_history.specs.declared.set.SetEntry.TheVariants.{Added}
 use Rattle.orc_chain_rule.proofs.Coming.{added_allowed}
 use Rattle.orc_chain_rule.specs.ChainDiscipline.{ChainHolds, ChainMay, FollowsOn, IsAbove, IsRun}
@@ -34,12 +32,14 @@ use Rattle.orc_chain_rule.specs.Laws.Kinds.{key_linked}
 use Rattle.orc_chain_rule.specs.Watches.{node_to_add}
 use Rattle.orc_chain_rule.specs.declared.chain.ChainNote.{ChainNote}
 use Rattle.orc_chain_rule.specs.declared.chain.ChainNote.TheVariants.{Entry}
-use Rattle.orc_list.specs.Inserts.{HoldsKey, LinkMissed, LinkRefused, LinksNode, LinksTo}
+use Rattle.orc_list.specs.Inserts.{HoldsKey, LinkRefused, LinksTo}
 use Rattle.orc_list.specs.Searches.{AreLoads, IsLoad}
 use Rattle.orc_list.proofs.Held.{FreshIs}
 use Rattle.orc_list.proofs.Quiets.{above_puts, below_puts, run_puts}
 
-pub above_not_fresh : (n : HeapNumbers) (s : Seat ChainNote) (to : Option ℕ) (key : ℕ) → IsAbove (heap_of n s) to key → FreshIs n s → (id : ℕ) → to ≡ Some id → s.fresh ≢ Some id
+pub above_not_fresh : (n : HeapNumbers) (s : Seat ChainNote) (to : Option ℕ) (key : ℕ) → IsAbove (heap_of n s) to key → FreshIs n s → (id : ℕ) → to ≡ Some
+    id
+    → s.fresh ≢ Some id
 above_not_fresh n s None key a fresh id is = cc
 above_not_fresh n s (Some x) key (high, own, less) fresh id is =
     let same : x ≡ id = cc in
@@ -81,18 +81,27 @@ loads_leave id (e ∷ es) l =
     }
 
 -- the fresh node after own events, whatever others did meanwhile
-pub node_after : (n : HeapNumbers) (key : ℕ) (h : Hold) (id : ℕ) (s t : Seat ChainNote) (own : List (Event ChainNote)) → (k : HoldsKey n key h id s) → Puts s own t → ChainHolds n s.seen → AllAllowed (ChainMay n) [] t.seen
-    → list_any (λ (e : Event ChainNote). points_to e.act id) own ≡ false → slice_get (heap_of n t).nodes id ≡ Some (touched_by id own (node_to_add s.agent key k.second k.to))
+pub node_after : (n : HeapNumbers) (key : ℕ) (h : Hold) (id : ℕ) (s t : Seat ChainNote) (own : List (Event ChainNote)) → (k : HoldsKey n key h id s)
+    → Puts s own t → ChainHolds n s.seen → AllAllowed (ChainMay n) [] t.seen
+    → list_any (λ (e : Event ChainNote). points_to e.act id) own ≡ false
+    → slice_get (heap_of n t).nodes id ≡ Some (touched_by id own (node_to_add s.agent key k.second k.to))
 node_after n key h id s t own k p holds all away =
-    (own_node_puts n (ChainHolds n) (ChainMay n) (λ es e a m. chain_keeps n es e a m) (λ es e a m. chain_fits n es e a m) (λ es e a m. chain_moves_linked n es e a m)
-    s t own p holds all id (node_to_add s.agent key k.second k.to) (record { there = k.node; own = record { mine = refl; unnamed = refl; unlinked = refl } }) away).there
+    (own_node_puts n (ChainHolds n) (ChainMay n) (λ es e a m. chain_keeps n es e a m) (λ es e a m. chain_fits n es e a m)
+    (λ es e a m. chain_moves_linked n es e a m)
+    s t own p holds all id (node_to_add s.agent key k.second k.to) (record {
+      there = k.node;
+      own = record
+          { mine = refl; unnamed = refl; unlinked = refl };
+    }) away).there
 
 -- it is held on
-pub holds_on : (n : HeapNumbers) (key : ℕ) (h : Hold) (id : ℕ) (s t : Seat ChainNote) (own : List (Event ChainNote)) → HoldsKey n key h id s → Puts s own t → LeavesNode id own → ChainHolds n s.seen → AllAllowed (ChainMay n) [] t.seen
+pub holds_on : (n : HeapNumbers) (key : ℕ) (h : Hold) (id : ℕ) (s t : Seat ChainNote) (own : List (Event ChainNote)) → HoldsKey n key h id s → Puts s own t
+    → LeavesNode id own → ChainHolds n s.seen → AllAllowed (ChainMay n) [] t.seen
     → HoldsId t.slots h id → t.fresh ≡ s.fresh → HoldsKey n key h id t
 holds_on n key h id s t own k p leaves holds all held fresh =
     let there = node_after n key h id s t own k p holds all leaves.away in
-    let same : slice_get (heap_of n t).nodes id ≡ Some (node_to_add s.agent key k.second k.to) = there ∙ ap (λ (x : Node). Some x) (leaves.same (node_to_add s.agent key k.second k.to)) in
+    let same : slice_get (heap_of n t).nodes id ≡ Some (node_to_add s.agent key k.second k.to) = there ∙ ap (λ (x : Node). Some x)
+    (leaves.same (node_to_add s.agent key k.second k.to)) in
     record {
       held = held;
       fresh = fresh ∙ k.fresh;
@@ -102,21 +111,27 @@ holds_on n key h id s t own k p leaves holds all held fresh =
     }
 
 -- once it was aimed, and then only loads were made
-aimed : (n : HeapNumbers) (key : ℕ) (h : Hold) (id : ℕ) (to : Option ℕ) (rest : List (Event ChainNote)) (s t : Seat ChainNote) → (k : HoldsKey n key h id s) → Puts s (event_of s (Aim id to) None ∷ rest) t → AreLoads rest → ChainHolds n s.seen
+aimed : (n : HeapNumbers) (key : ℕ) (h : Hold) (id : ℕ) (to : Option ℕ) (rest : List (Event ChainNote)) (s t : Seat ChainNote) → (k : HoldsKey n key h id s)
+    → Puts s (event_of s (Aim id to) None ∷ rest) t → AreLoads rest → ChainHolds n s.seen
     → AllAllowed (ChainMay n) [] t.seen → to ≢ Some id → slice_get (heap_of n t).nodes id ≡ Some (node_to_add t.agent key k.second to)
 aimed n key h id to rest s t k p loads holds all apart =
     let e : Event ChainNote = event_of s (Aim id to) None in
     let x : Node = node_to_add s.agent key k.second k.to in
     let away : names_node to id ≡ false = not_named to id apart in
     let leaves = loads_leave id rest loads in
-    let far : list_any (λ (z : Event ChainNote). points_to z.act id) (e ∷ rest) ≡ false = ap (λ (b : Bool). b || list_any (λ (z : Event ChainNote). points_to z.act id) rest) away ∙ leaves.away in
+    let far : list_any (λ (z : Event ChainNote). points_to z.act id) (e ∷ rest) ≡ false = ap
+    (λ (b : Bool). b || list_any (λ (z : Event ChainNote). points_to z.act id) rest) away ∙ leaves.away in
     let there = node_after n key h id s t (e ∷ rest) k p holds all far in
     let first : touched (Aim id to) id x ≡ node_to_add s.agent key k.second to = rw (away, eq-eqb id id refl) refl in
-    let is : touched_by id (e ∷ rest) x ≡ node_to_add s.agent key k.second to = ap (λ (y : Node). touched_by id rest y) first ∙ leaves.same (node_to_add s.agent key k.second to) in
+    let is : touched_by id (e ∷ rest) x ≡ node_to_add s.agent key k.second to = ap (λ (y : Node). touched_by id rest y) first ∙ leaves.same
+    (node_to_add s.agent key k.second to) in
     subst (λ (a : ℕ). slice_get (heap_of n t).nodes id ≡ Some (node_to_add a key k.second to)) (sym p.agent) (there ∙ ap (λ (y : Node). Some y) is)
 
-pub link_allowed : (n : HeapNumbers) (key by : ℕ) (h : Hold) (id : ℕ) (to : Option ℕ) (s t : Seat ChainNote) (place at : Place) (from want : Link) (over : List ℕ) → HoldsKey n key h id s → (o : Only (event_of s (Aim id to) None ∷ []) s t)
-    → ChainHolds n s.seen → ChainHolds n t.seen → AllAllowed (ChainMay n) [] t.seen → to ≢ Some id → at ≡ place → want ≡ from → from.mark ≡ false → by ≡ t.agent
+pub link_allowed : (n : HeapNumbers) (key by : ℕ) (h : Hold) (id : ℕ) (to : Option ℕ) (s t : Seat ChainNote) (place at : Place) (from want : Link)
+    (over : List ℕ)
+    → HoldsKey n key h id s → (o : Only (event_of s (Aim id to) None ∷ []) s t)
+    → ChainHolds n s.seen → ChainHolds n t.seen → AllAllowed (ChainMay n) [] t.seen → to ≢ Some id → at ≡ place → want ≡ from → from.mark ≡ false
+    → by ≡ t.agent
     → FollowsOn n.roots (heap_of n s) place key → IsRun (heap_of n s) from over to → IsAbove (heap_of n s) to key
     → AllowedLater (ChainMay n) n t.agent t.seen at want (event_of t (Move at want (link_to (id_in t.slots h))) (Some (Entry (Added by key true))))
 link_allowed n key by h id to s t place at from want over k o holds_s holds_t all apart at_is want_is plain by_is below run above =
@@ -124,12 +139,17 @@ link_allowed n key by h id to s t place at from want over k o holds_s holds_t al
     let ys : List (Event ChainNote) = event_of s (Aim id to) None ∷ [] in
     let node = aimed n key h id to [] s t k p tt holds_s all apart in
     let id_is : id_in t.slots h ≡ id = ap (λ (z : Slots). id_in z h) o.slots ∙ (holds_of s.slots h id k.held).1 in
-    let there = added_allowed n t.agent place from over to key k.second id t.seen holds_t (below_puts n s t ys p all place key below) plain (run_puts n s t ys p all from over to run) (above_puts n s t ys p all to key above) node in
+    let there = added_allowed n t.agent place from over to key k.second id t.seen holds_t (below_puts n s t ys p all place key below) plain
+    (run_puts n s t ys p all from over to run) (above_puts n s t ys p all to key above) node in
     rw (at_is, want_is, by_is, id_is) there
 
-pub links_to : (n : HeapNumbers) (key by : ℕ) (h : Hold) (id : ℕ) (to : Option ℕ) (s t u : Seat ChainNote) (place : Place) (link : Link) (at : At) (from new : Want) (result : Result Bool SpentRow) → HoldsKey n key h id s → Only (event_of s (Aim id to) None ∷ []) s t
-    → by ≡ t.agent → place_in t.slots at ≡ place → link_in t.slots from ≡ link → link_in t.slots new ≡ link_to (id_in t.slots h) → ChainHolds n s.seen → AllAllowed (ChainMay n) [] u.seen → to ≢ Some id
-    → IfOk result (λ done. Swings at from new (Some (Entry (Added by key true))) t done u) → IfErr result (λ e. Only [] t u) → LinksTo n key h id place link s result u
+pub links_to : (n : HeapNumbers) (key by : ℕ) (h : Hold) (id : ℕ) (to : Option ℕ) (s t u : Seat ChainNote) (place : Place) (link : Link) (at : At)
+    (from new : Want) (result : Result Bool SpentRow)
+    → HoldsKey n key h id s → Only (event_of s (Aim id to) None ∷ []) s t
+    → by ≡ t.agent → place_in t.slots at ≡ place → link_in t.slots from ≡ link → link_in t.slots new ≡ link_to (id_in t.slots h) → ChainHolds n s.seen
+    → AllAllowed (ChainMay n) [] u.seen → to ≢ Some id
+    → IfOk result (λ done. Swings at from new (Some (Entry (Added by key true))) t done u) → IfErr result (λ e. Only [] t u)
+    → LinksTo n key h id place link s result u
 links_to n key by h id to s t u place link at from new (Err e) k o by_is at_is from_is new_is holds all apart w none = record {
   own = event_of s (Aim id to) None ∷ [];
   puts = Puts-trans s t u (event_of s (Aim id to) None ∷ []) [] o.puts none.puts;
@@ -141,7 +161,8 @@ links_to n key by h id to s t u place link at from new (Err e) k o by_is at_is f
 }
 links_to n key by h id to s t u place link at from new (Ok true) k o by_is at_is from_is new_is holds all apart w none =
     let id_is : id_in t.slots h ≡ id = ap (λ (z : Slots). id_in z h) o.slots ∙ (holds_of s.slots h id k.held).1 in
-    let fresh : u.fresh ≡ None = Swings-fresh w refl ∙ (ap (λ (l : Link). unless_node t.fresh l.to) new_is ∙ (ap (λ (i : ℕ). unless_node t.fresh (Some i)) id_is ∙ (ap (λ (f : Option ℕ). unless_node f (Some id)) (o.fresh ∙ k.fresh) ∙ unless_same id))) in
+    let fresh : u.fresh ≡ None = Swings-fresh w refl ∙ (ap (λ (l : Link). unless_node t.fresh l.to) new_is ∙
+    (ap (λ (i : ℕ). unless_node t.fresh (Some i)) id_is ∙ (ap (λ (f : Option ℕ). unless_node f (Some id)) (o.fresh ∙ k.fresh) ∙ unless_same id))) in
     record {
       own = _;
       puts = Puts-trans s t u _ _ o.puts (Swings-moved w refl);
@@ -152,7 +173,8 @@ links_to n key by h id to s t u place link at from new (Ok true) k o by_is at_is
       short = omega arith;
     }
 links_to n key by h id to s t u place link at from new (Ok false) k o by_is at_is from_is new_is holds all apart w none =
-    let miss : Misses place link t u = subst (λ (p : Place). Misses p link t u) at_is (subst (λ (l : Link). Misses (place_in t.slots at) l t u) from_is (Swings-missed w refl)) in
+    let miss : Misses place link t u = subst (λ (p : Place). Misses p link t u) at_is (subst (λ (l : Link). Misses (place_in t.slots at) l t u) from_is
+    (Swings-missed w refl)) in
     let e : Event ChainNote = event_of t (Miss place link miss.found) None in
     let p = Puts-trans s t u (event_of s (Aim id to) None ∷ []) (e ∷ []) o.puts miss.puts in
     let slots : u.slots ≡ s.slots = w.slots ∙ o.slots in

@@ -1,10 +1,10 @@
 -- What the pass did in a turn, one piece after another.
-use Rattle.std.proofs.Common.{Bool, List, None, Option, Some, [], ap, append-nil, arith, inl, inr, length, length-append, refl, subst, sym, ℕ, ◌*◌, ◌++◌, ◌+◌, ◌∙◌, ◌∷◌, ◌≡◌, ◌≤◌}
+use Rattle.std.proofs.Common.{List, None, [], append-nil, arith, inl, inr, length, length-append, refl, subst, sym, ℕ, ◌*◌, ◌++◌, ◌+◌, ◌∙◌, ◌∷◌, ◌≡◌, ◌≤◌}
 use Rattle.orc_heap.proofs.Calls.{Puts-trans}
 use Rattle.orc_heap.proofs.Moments.{miss_moved}
 use Rattle.orc_heap.proofs.Moved.{gives_in-append, moves_in-append}
 use Rattle.orc_heap.proofs.OwnParts.{from_own-begun, moves_from_own-append}
-use Rattle.orc_heap.proofs.Pieces.{new_is, own_moves_left, own_moves_right, puts_released}
+use Rattle.orc_heap.proofs.Pieces.{new_is, own_moves_left, puts_released}
 use Rattle.std.proofs.Math.Nat.{suc-mul}
 use Rattle.orc_heap.specs.Allowed.{AllAllowed}
 use Rattle.orc_heap.specs.Calls.{Misses, event_of}
@@ -25,7 +25,8 @@ use Rattle.orc_list.proofs.Quiets.{entries_of-append}
 use Rattle.orc_list.proofs.Seen.{covers_left, covers_right}
 
 -- what a search did, and more
-pub made_after : (given : ℕ) (s t u : Seat ChainNote) (own ys : List (Event ChainNote)) (es : List SetEntry) → Quiet s own t → IsFew 2 own → Puts t ys u → entries_of ys ≡ es → gives_in ys ≡ given → length ys ≤ 2 + 3 * given
+pub made_after : (given : ℕ) (s t u : Seat ChainNote) (own ys : List (Event ChainNote)) (es : List SetEntry) → Quiet s own t → IsFew 2 own → Puts t ys u
+    → entries_of ys ≡ es → gives_in ys ≡ given → length ys ≤ 2 + 3 * given
     → Made given 1 s (own ++ ys) es u
 made_after given s t u own ys es q few p entries gives short = record {
   puts = Puts-trans s t u own ys q.puts p;
@@ -34,10 +35,12 @@ made_after given s t u own ys es q few p entries gives short = record {
   few = λ ids c. omega (arith, few ids (covers_left ids own ys c), length-append own ys, short);
 }
 
-pub made_on : (given turns : ℕ) (s t u : Seat ChainNote) (own : List (Event ChainNote)) (es : List SetEntry) → Made given turns s own es t → Puts t [] u → Made given turns s own es u
+pub made_on : (given turns : ℕ) (s t u : Seat ChainNote) (own : List (Event ChainNote)) (es : List SetEntry) → Made given turns s own es t → Puts t [] u
+    → Made given turns s own es u
 made_on given turns s t u own es m p = record { puts = puts_released s t u own m.puts p; entries_are = m.entries_are; gives = m.gives; few = m.few }
 
-pub over_on : (given turns : ℕ) (s t u : Seat ChainNote) (own : List (Event ChainNote)) → AreOver given turns s own t → Puts t [] u → AreOver given turns s own u
+pub over_on : (given turns : ℕ) (s t u : Seat ChainNote) (own : List (Event ChainNote)) → AreOver given turns s own t → Puts t [] u
+    → AreOver given turns s own u
 over_on given turns s t u own o p =
     let m = made_on given turns s t u own [] o.made p in
     record { made = m; no_move = o.no_move; moved = omega (arith, o.moved, own_moves_left s t u own [] own o.made.puts p m.puts) }
@@ -57,7 +60,8 @@ found_over s t f = record {
 }
 
 -- a Miss of a link that the place had shown in this turn: a Move stands after an own event
-pub missed : (n : HeapNumbers) (s t u : Seat ChainNote) (own zs : List (Event ChainNote)) (place : Place) (link : Link) (p : Puts s own t) → 1 ≤ length own → ShowsOrMoved n place link s t p.part → IsLinkedPlace place (heap_of n t)
+pub missed : (n : HeapNumbers) (s t u : Seat ChainNote) (own zs : List (Event ChainNote)) (place : Place) (link : Link) (p : Puts s own t) → 1 ≤ length own
+    → ShowsOrMoved n place link s t p.part → IsLinkedPlace place (heap_of n t)
     → Misses place link t u → AllAllowed (ChainMay n) [] u.seen → (w : Puts s zs u) → 1 ≤ moves_in (from_own s.agent w.part)
 missed n s t u own zs place link p some still linked m all w = elim still [
   | inl shows ↦
@@ -70,7 +74,8 @@ missed n s t u own zs place link p some still linked m all w = elim still [
 
 -- one turn after another
 
-pub few_next : (turns more one two : ℕ) (es fs : List (Event ChainNote)) → AreFew turns one es → AreFew 1 two fs → one + two ≤ more → AreFew (turns + 1) more (es ++ fs)
+pub few_next : (turns more one two : ℕ) (es fs : List (Event ChainNote)) → AreFew turns one es → AreFew 1 two fs → one + two ≤ more
+    → AreFew (turns + 1) more (es ++ fs)
 few_next turns more one two es fs a b low = λ ids c.
     let x = 2 * length ids + 4 in
     let first : length es ≤ turns * x + one = a ids (covers_left ids es fs c) in
@@ -87,7 +92,8 @@ few_most turns most more es a low = λ ids c. omega (arith, a ids c, grows (2 * 
     grows : (y : ℕ) → turns * y ≤ most * y
     grows y = grind (arith)
 
-pub made_next : (one two turns : ℕ) (s t u : Seat ChainNote) (own ys : List (Event ChainNote)) (es : List SetEntry) → AreOver one turns s own t → Made two 1 t ys es u → Made (one + two) (turns + 1) s (own ++ ys) es u
+pub made_next : (one two turns : ℕ) (s t u : Seat ChainNote) (own ys : List (Event ChainNote)) (es : List SetEntry) → AreOver one turns s own t
+    → Made two 1 t ys es u → Made (one + two) (turns + 1) s (own ++ ys) es u
 made_next one two turns s t u own ys es o m = record {
   puts = Puts-trans s t u own ys o.made.puts m.puts;
   entries_are = entries_of-append own ys ∙ rw o.made.entries_are m.entries_are;
@@ -95,8 +101,16 @@ made_next one two turns s t u own ys es o m = record {
   few = few_next turns (3 * (one + two)) (3 * one) (3 * two) own ys o.made.few m.few (omega arith);
 }
 
-pub made_most : (given turns most : ℕ) (s t : Seat ChainNote) (own : List (Event ChainNote)) (es : List SetEntry) → Made given turns s own es t → turns ≤ most → Made given most s own es t
-made_most given turns most s t own es m low = record { puts = m.puts; entries_are = m.entries_are; gives = m.gives; few = few_most turns most (3 * given) own m.few low }
+pub made_most : (given turns most : ℕ) (s t : Seat ChainNote) (own : List (Event ChainNote)) (es : List SetEntry) → Made given turns s own es t → turns ≤
+    most
+    → Made given most s own es t
+made_most given turns most s t own es m low = record {
+  puts = m.puts;
+  entries_are = m.entries_are;
+  gives = m.gives;
+  few = few_most turns most (3 * given)
+      own m.few low;
+}
 
 pub over_none : (s : Seat ChainNote) → AreOver 0 0 s [] s
 over_none s = record {
@@ -110,7 +124,8 @@ over_none s = record {
   moved = omega arith;
 }
 
-pub over_next : (one two turns : ℕ) (s t u : Seat ChainNote) (own ys : List (Event ChainNote)) → AreOver one turns s own t → AreOver two 1 t ys u → AreOver (one + two) (turns + 1) s (own ++ ys) u
+pub over_next : (one two turns : ℕ) (s t u : Seat ChainNote) (own ys : List (Event ChainNote)) → AreOver one turns s own t → AreOver two 1 t ys u
+    → AreOver (one + two) (turns + 1) s (own ++ ys) u
 over_next one two turns s t u own ys o q =
     let m = made_next one two turns s t u own ys [] o q.made in
     record {
@@ -121,5 +136,12 @@ over_next one two turns s t u own ys o q =
   where
     moved : (w : Puts s (own ++ ys) u) → turns + 1 ≤ moves_in (from_own s.agent w.part)
     moved w =
-        let here : 1 ≤ moves_in (from_own s.agent q.made.puts.part) = subst (λ (a : ℕ). 1 ≤ moves_in (from_own a q.made.puts.part)) o.made.puts.agent q.moved in
-        rw (new_is s t u own ys (own ++ ys) o.made.puts q.made.puts w) (omega (arith, o.moved, here, moves_from_own-append s.agent o.made.puts.part q.made.puts.part))
+        let here : 1 ≤ moves_in (from_own s.agent q.made.puts.part) = subst (λ (a : ℕ). 1 ≤ moves_in (from_own a q.made.puts.part)) o.made.puts.agent
+        q.moved in
+        rw (new_is s t u own ys (own ++ ys) o.made.puts q.made.puts w) (omega (
+          arith,
+          o.moved,
+          here,
+          moves_from_own-append s.agent o.made.puts.part
+              q.made.puts.part,
+        ))

@@ -1,6 +1,6 @@
 -- A node is marked, and a place is led past a run of marked nodes.
 use Rattle.std.proofs.Common.{Bool, List, None, Ok, Err, Option, Result, Some, [], ap, false, inl, inr, refl, subst, sym, true, ℕ, ◌∙◌, ◌∷◌, ◌≡◌}
-use Rattle.std.specs.Prelude.{IfErr, IfOk, if◌then◌else◌}
+use Rattle.std.specs.Prelude.{IfErr, IfOk}
 use Rattle.orc_fault.specs.declared.Spent.{Spent}
 use Rattle.orc_heap.proofs.ByAnswer.{Swings-fresh, Swings-missed, Swings-moved, unless_none}
 use Rattle.orc_heap.proofs.Pieces.{linked_not_fresh, missed_fresh, unless_other}
@@ -33,28 +33,34 @@ use Rattle.orc_list.specs.Searches.{NextFollows}
 use Rattle.orc_list.specs.Turns.{Marks, TriesUnlink}
 use Rattle.orc_list.proofs.Held.{FreshIs}
 use mathlib.Core.List.{IsPrefix}
-use Rattle.std.proofs.Common.{append-nil, length, length-append, arith, ◌≤◌, ◌+◌, ◌++◌}
+use Rattle.std.proofs.Common.{append-nil, length, length-append, arith, ◌+◌, ◌++◌}
 
 -- a swing is refused only where it would change the target
-pub refused_apart : (slots : Slots) (from to : Want) (why : Spent) (seen : List (Event ChainNote)) → RefusesSwing slots from to why seen → (link_in slots from).to ≡ (link_in slots to).to → ⊥
+pub refused_apart : (slots : Slots) (from to : Want) (why : Spent) (seen : List (Event ChainNote)) → RefusesSwing slots from to why seen
+    → (link_in slots from).to ≡ (link_in slots to).to → ⊥
 refused_apart slots from (WantNull mark) why seen r same = r
 refused_apart slots from (WantNode h mark) why seen r same = r.0 same
 
-pub not_fresh_at : (n : HeapNumbers) (s : Seat ChainNote) (at : At) (place : Place) → place_in s.slots at ≡ place → IsLinkedPlace place (heap_of n s) → FreshIs n s → IsNotFresh s at
+pub not_fresh_at : (n : HeapNumbers) (s : Seat ChainNote) (at : At) (place : Place) → place_in s.slots at ≡ place → IsLinkedPlace place (heap_of n s)
+    → FreshIs n s → IsNotFresh s at
 not_fresh_at n s (AtRoot r) place is l fresh = tt
-not_fresh_at n s (AtNode h) place is l fresh = linked_not_fresh n s (id_in s.slots h.now) fresh (subst (λ (p : Place). IsLinkedPlace p (heap_of n s)) (sym is) l)
+not_fresh_at n s (AtNode h) place is l fresh = linked_not_fresh n s (id_in s.slots h.now) fresh
+    (subst (λ (p : Place). IsLinkedPlace p (heap_of n s)) (sym is) l)
 
 target_fresh : (n : HeapNumbers) (s : Seat ChainNote) (id : ℕ) (to : Option ℕ) → NextFollows n id to s → FreshIs n s → unless_node s.fresh to ≡ s.fresh
 target_fresh n s id None f fresh = unless_none s.fresh
 target_fresh n s id (Some x) (key, own, follows) fresh = unless_other s.fresh x (linked_not_fresh n s x fresh (key_linked (heap_of n s) x key own))
 
-pub mark_allowed : (n : HeapNumbers) (s : Seat ChainNote) (id key by : ℕ) (to : Option ℕ) (from marked : Link) → from ≡ link_over to → marked ≡ record { to = to; mark = true } → by ≡ s.agent → ChainHolds n s.seen → HasKey (heap_of n s) id key
+pub mark_allowed : (n : HeapNumbers) (s : Seat ChainNote) (id key by : ℕ) (to : Option ℕ) (from marked : Link) → from ≡ link_over to
+    → marked ≡ record { to = to; mark = true } → by ≡ s.agent → ChainHolds n s.seen → HasKey (heap_of n s) id key
     → AllowedLater (ChainMay n) n s.agent s.seen (Next id) from (event_of s (Move (Next id) from marked) (Some (Entry (Removed by key true))))
 mark_allowed n s id key by to from marked from_is marked_is by_is holds own =
     rw (from_is, marked_is, by_is) (removed_allowed n s.agent id key (link_over to) s.seen holds own refl)
 
-pub marks : (n : HeapNumbers) (s t : Seat ChainNote) (id key by : ℕ) (to : Option ℕ) (at : At) (from marked : Want) (done : Bool) → place_in s.slots at ≡ Next id → link_in s.slots from ≡ link_over to
-    → link_in s.slots marked ≡ record { to = to; mark = true } → by ≡ s.agent → NextFollows n id to s → FreshIs n s → Swings at from marked (Some (Entry (Removed by key true))) s done t → Marks key id to s done t
+pub marks : (n : HeapNumbers) (s t : Seat ChainNote) (id key by : ℕ) (to : Option ℕ) (at : At) (from marked : Want) (done : Bool)
+    → place_in s.slots at ≡ Next id → link_in s.slots from ≡ link_over to
+    → link_in s.slots marked ≡ record { to = to; mark = true } → by ≡ s.agent → NextFollows n id to s → FreshIs n s
+    → Swings at from marked (Some (Entry (Removed by key true))) s done t → Marks key id to s done t
 marks n s t id key by to at from marked done at_is from_is marked_is by_is follows fresh w = cases done refl
   where
     cases : (b : Bool) → done ≡ b → Marks key id to s b t
@@ -64,22 +70,30 @@ marks n s t id key by to at from marked done at_is from_is marked_is by_is follo
       puts = subst (λ (e : Event ChainNote). Puts s (e ∷ []) t) (event_is by_is) (Swings-moved w is);
     }
       where
-        event_is : by ≡ s.agent → move_of s at from marked (Some (Entry (Removed by key true))) ≡ event_of s (Move (Next id) (link_over to) (record { to = to; mark = true })) (Some (Entry (Removed s.agent key true)))
+        event_is : by ≡ s.agent
+            → move_of s at from marked (Some (Entry (Removed by key true))) ≡ event_of s (Move (Next id) (link_over to) (record { to = to; mark = true }))
+            (Some (Entry (Removed s.agent key true)))
         event_is e = rw (at_is, from_is, marked_is, e) refl
     cases false is = record {
       slots = w.slots;
       fresh = missed_fresh w is;
-      puts = subst (λ (p : Place). Misses p (link_over to) s t) at_is (subst (λ (l : Link). Misses (place_in s.slots at) l s t) from_is (Swings-missed w is));
+      puts = subst (λ (p : Place). Misses p (link_over to) s t) at_is (subst (λ (l : Link). Misses (place_in s.slots at) l s t) from_is
+          (Swings-missed w is));
     }
 
-pub try_allowed : (n : HeapNumbers) (s : Seat ChainNote) (place at : Place) (first : ℕ) (others : List ℕ) (to : Option ℕ) (past : Link) → at ≡ place → past ≡ link_over to → ChainHolds n s.seen → IsLinkedPlace place (heap_of n s)
+pub try_allowed : (n : HeapNumbers) (s : Seat ChainNote) (place at : Place) (first : ℕ) (others : List ℕ) (to : Option ℕ) (past : Link) → at ≡ place
+    → past ≡ link_over to → ChainHolds n s.seen → IsLinkedPlace place (heap_of n s)
     → IsRun (heap_of n s) (link_to first) (first ∷ others) to
     → AllowedLater (ChainMay n) n s.agent s.seen at (link_to first) (event_of s (Move at (link_to first) past) (Some Unlink))
-try_allowed n s place at first others to past at_is past_is holds l run = rw (at_is, past_is) (unlink_allowed n s.agent place (link_to first) first others to s.seen holds l refl run)
+try_allowed n s place at first others to past at_is past_is holds l run = rw (at_is, past_is)
+    (unlink_allowed n s.agent place (link_to first) first others to s.seen holds l refl run)
 
-pub tries : (n : HeapNumbers) (s t : Seat ChainNote) (place : Place) (id first : ℕ) (to : Option ℕ) (Worn : Type 0) (at : At) (from past : Want) (result : Result Bool Spent) → place_in s.slots at ≡ place → link_in s.slots from ≡ link_to first
+pub tries : (n : HeapNumbers) (s t : Seat ChainNote) (place : Place) (id first : ℕ) (to : Option ℕ) (Worn : Type 0) (at : At) (from past : Want)
+    (result : Result Bool Spent)
+    → place_in s.slots at ≡ place → link_in s.slots from ≡ link_to first
     → link_in s.slots past ≡ link_over to → NextFollows n id to s → FreshIs n s
-    → IfOk result (λ done. Swings at from past (Some Unlink) s done t) → IfErr result (λ e. Only [] s t) → IfErr result (λ e. Worn) → TriesUnlink place first to Worn s t
+    → IfOk result (λ done. Swings at from past (Some Unlink) s done t) → IfErr result (λ e. Only [] s t) → IfErr result (λ e. Worn)
+    → TriesUnlink place first to Worn s t
 tries n s t place id first to Worn at from past (Ok done) at_is from_is past_is follows fresh w none worn = cases done refl
   where
     cases : (b : Bool) → done ≡ b → TriesUnlink place first to Worn s t
@@ -94,23 +108,29 @@ tries n s t place id first to Worn at from past (Ok done) at_is from_is past_is 
     cases false is = record {
       slots = w.slots;
       fresh = missed_fresh w is;
-      either = inl (inr (subst (λ (p : Place). Misses p (link_to first) s t) at_is (subst (λ (l : Link). Misses (place_in s.slots at) l s t) from_is (Swings-missed w is))));
+      either = inl (inr (subst (λ (p : Place). Misses p (link_to first) s t) at_is (subst (λ (l : Link). Misses (place_in s.slots at) l s t) from_is
+          (Swings-missed w is))));
     }
-tries n s t place id first to Worn at from past (Err e) at_is from_is past_is follows fresh w none worn = record { slots = none.slots; fresh = none.fresh; either = inr (worn, none.puts) }
+tries n s t place id first to Worn at from past (Err e) at_is from_is past_is follows fresh w none worn = record
+    { slots = none.slots; fresh = none.fresh; either = inr (worn, none.puts) }
 
 -- a fact of a call's part is one of two places in what is new
-pub part_fact : {S : Type 0} (agent_of : S → ℕ) (agent : ℕ) (before after : List S) (Fact : ℕ → ℕ → Type 0) → IsPrefix before after → InPart agent_of agent before after Fact → Within (length before) (length after) Fact
+pub part_fact : {S : Type 0} (agent_of : S → ℕ) (agent : ℕ) (before after : List S) (Fact : ℕ → ℕ → Type 0) → IsPrefix before after
+    → InPart agent_of agent before after Fact → Within (length before) (length after) Fact
 part_fact agent_of agent before after Fact grows fact =
     let b = part_bounds agent_of agent before after grows in
     (part_begin agent_of agent before after, length after, b.0, b.1, omega arith, fact)
 
-pub worn_part : {S : Type 0} (agent_of : S → ℕ) (agent : ℕ) (before after : List S) (worn : Spent → List S → ℕ → ℕ → Type 0) → IsPrefix before after → (result : Result Bool Spent)
-    → IfErr result (λ e. InPart agent_of agent before after (worn e after)) → IfErr result (λ e. (why : Spent) × Within (length before) (length after) (worn why after))
+pub worn_part : {S : Type 0} (agent_of : S → ℕ) (agent : ℕ) (before after : List S) (worn : Spent → List S → ℕ → ℕ → Type 0) → IsPrefix before after
+    → (result : Result Bool Spent)
+    → IfErr result (λ e. InPart agent_of agent before after (worn e after))
+    → IfErr result (λ e. (why : Spent) × Within (length before) (length after) (worn why after))
 worn_part agent_of agent before after worn grows (Ok done) w = tt
 worn_part agent_of agent before after worn grows (Err e) w = (e, part_fact agent_of agent before after (worn e after) grows w)
 
 -- what was worn in a piece of a call was so in the whole
-pub worn_wider : {S : Type 0} (worn : ℕ → Spent → List S → ℕ → ℕ → Type 0) (a b : ℕ) (j k m o : List S) → ((why : Spent) (xs more : List S) (from to : ℕ) → worn a why xs from to → worn a why (xs ++ more) from to) → b ≡ a → IsPrefix j k → IsPrefix m o
+pub worn_wider : {S : Type 0} (worn : ℕ → Spent → List S → ℕ → ℕ → Type 0) (a b : ℕ) (j k m o : List S)
+    → ((why : Spent) (xs more : List S) (from to : ℕ) → worn a why xs from to → worn a why (xs ++ more) from to) → b ≡ a → IsPrefix j k → IsPrefix m o
     → ((why : Spent) × Within (length k) (length m) (worn b why m)) → (why : Spent) × Within (length j) (length o) (worn a why o)
 worn_wider {S} worn a b j k m o stays same (first, one) (more, two) (why, w) =
     let (from, to, low, order, high, fact) = w in
@@ -120,7 +140,8 @@ worn_wider {S} worn a b j k m o stays same (first, one) (more, two) (why, w) =
     let right : length m + length more ≡ length o = sym (length-append m more) ∙ ap (λ (z : List S). length z) two in
     (why, (from, to, omega (arith, low, left), order, omega (arith, high, right), there))
 
-pub tries_wider : (Worn More : Type 0) (place : Place) (first : ℕ) (to : Option ℕ) (s t : Seat ChainNote) → (Worn → More) → TriesUnlink place first to Worn s t → TriesUnlink place first to More s t
+pub tries_wider : (Worn More : Type 0) (place : Place) (first : ℕ) (to : Option ℕ) (s t : Seat ChainNote) → (Worn → More)
+    → TriesUnlink place first to Worn s t → TriesUnlink place first to More s t
 tries_wider Worn More place first to s t wider w = record {
   slots = w.slots;
   fresh = w.fresh;
@@ -128,7 +149,8 @@ tries_wider Worn More place first to s t wider w = record {
 }
 
 -- a fact of two places of a piece of a call is one of two places of the whole
-pub within_wider : {S : Type 0} (fact : List S → ℕ → ℕ → Type 0) (j k m o : List S) → ((xs more : List S) (from to : ℕ) → fact xs from to → fact (xs ++ more) from to) → IsPrefix j k → IsPrefix m o
+pub within_wider : {S : Type 0} (fact : List S → ℕ → ℕ → Type 0) (j k m o : List S)
+    → ((xs more : List S) (from to : ℕ) → fact xs from to → fact (xs ++ more) from to) → IsPrefix j k → IsPrefix m o
     → Within (length k) (length m) (fact m) → Within (length j) (length o) (fact o)
 within_wider {S} fact j k m o stays (first, one) (more, two) w =
     let (from, to, low, order, high, here) = w in
@@ -138,7 +160,8 @@ within_wider {S} fact j k m o stays (first, one) (more, two) w =
     (from, to, omega (arith, low, left), order, omega (arith, high, right), there)
 
 -- what was worn in the last piece of a call
-pub worn_since : {S : Type 0} (worn : ℕ → Spent → List S → ℕ → ℕ → Type 0) (agent_of : S → ℕ) (a b : ℕ) (j k m : List S) → ((why : Spent) (xs more : List S) (from to : ℕ) → worn a why xs from to → worn a why (xs ++ more) from to) → b ≡ a → IsPrefix j k → IsPrefix k m
+pub worn_since : {S : Type 0} (worn : ℕ → Spent → List S → ℕ → ℕ → Type 0) (agent_of : S → ℕ) (a b : ℕ) (j k m : List S)
+    → ((why : Spent) (xs more : List S) (from to : ℕ) → worn a why xs from to → worn a why (xs ++ more) from to) → b ≡ a → IsPrefix j k → IsPrefix k m
     → (result : Result Bool Spent) → IfErr result (λ e. InPart agent_of b k m (worn b e m)) → IfErr result (λ e. Within (length j) (length m) (worn a e m))
 worn_since worn agent_of a b j k m stays same one two (Ok done) w = tt
 worn_since {S} worn agent_of a b j k m stays same one two (Err e) w =

@@ -1,38 +1,44 @@
 -- The part of a journal that a call makes, as the journal goes on, and the Moves of other agents in it.
-use Rattle.std.proofs.Common.{Bool, List, [], ap, append_assoc, arith, cond, drop, false, length, refl, subst, suc, sym, true, ℕ, ◌++◌, ◌+◌, ◌<◌, ◌==◌, ◌∙◌, ◌∷◌, ◌≡◌, ◌≤◌}
+use Rattle.std.proofs.Common.{Bool, List, [], ap, append_assoc, arith, cond, drop, false, length, refl, subst, suc, sym, true, ℕ, ◌++◌, ◌+◌, ◌<◌, ◌==◌, ◌∙◌, ◌∷◌, ◌≡◌}
 use Rattle.std.proofs.lemmas.List.{length-append}
 use Rattle.std.proofs.Math.Seq.{drop-append_seam}
-use Rattle.std.specs.Prelude.{if◌then◌else◌}
 use mathlib.Core.List.{IsPrefix}
 use Rattle.orc_heap.specs.Allowed.{events_by}
 use Rattle.orc_heap.specs.Moves.{move_with, moves_in}
 use Rattle.orc_heap.specs.declared.events.Event.{Event}
-use Rattle.orc_history.specs.Journals.{Within}
 use Rattle.orc_history.specs.Parts.{first_step, part_begin}
 use Rattle.orc_list.specs.Causes.{WithinPart, others_moves}
 
 -- the agent's first step stays the first
-first_stays : {S : Type 0} (agent_of : S → ℕ) (agent place : ℕ) (ss more : List S) → first_step agent_of agent place ss < place + length ss → first_step agent_of agent place (ss ++ more) ≡ first_step agent_of agent place ss
+first_stays : {S : Type 0} (agent_of : S → ℕ) (agent place : ℕ) (ss more : List S) → first_step agent_of agent place ss < place + length ss
+    → first_step agent_of agent place (ss ++ more) ≡ first_step agent_of agent place ss
 first_stays agent_of agent place [] more low = absurd (omega (arith, low))
 first_stays {S} agent_of agent place (s ∷ ss) more low = cases (agent_of s == agent) low (λ h. first_stays agent_of agent (suc place) ss more h)
   where
     cases : (b : Bool) → cond b place (first_step agent_of agent (suc place) ss) < place + length (s ∷ ss)
-        → (first_step agent_of agent (suc place) ss < suc place + length ss → first_step agent_of agent (suc place) (ss ++ more) ≡ first_step agent_of agent (suc place) ss)
+        → (first_step agent_of agent (suc place) ss < suc place + length ss → first_step agent_of agent (suc place)
+        (ss ++ more) ≡ first_step agent_of agent (suc place) ss)
         → cond b place (first_step agent_of agent (suc place) (ss ++ more)) ≡ cond b place (first_step agent_of agent (suc place) ss)
     cases true h rest = refl
     cases false h rest = rest (omega (arith, h))
 
-begin_stays : {S : Type 0} (agent_of : S → ℕ) (agent : ℕ) (j k m : List S) → IsPrefix j k → IsPrefix k m → part_begin agent_of agent j k < length k → part_begin agent_of agent j m ≡ part_begin agent_of agent j k
+begin_stays : {S : Type 0} (agent_of : S → ℕ) (agent : ℕ) (j k m : List S) → IsPrefix j k → IsPrefix k m → part_begin agent_of agent j k < length k
+    → part_begin agent_of agent j m ≡ part_begin agent_of agent j k
 begin_stays {S} agent_of agent j k m (first, one) (more, two) low =
     let drop_k : drop (length j) k ≡ first = ap (λ (z : List S). drop (length j) z) (sym one) ∙ drop-append_seam j first in
-    let drop_m : drop (length j) m ≡ first ++ more = ap (λ (z : List S). drop (length j) z) (sym two ∙ (ap (λ (z : List S). z ++ more) (sym one) ∙ append_assoc j first more)) ∙ drop-append_seam j (first ++ more) in
+    let drop_m : drop (length j) m ≡ first ++ more = ap (λ (z : List S). drop (length j) z)
+    (sym two ∙ (ap (λ (z : List S). z ++ more) (sym one) ∙ append_assoc j first more)) ∙ drop-append_seam j (first ++ more) in
     let size : length k ≡ length j + length first = ap (λ (z : List S). length z) (sym one) ∙ length-append j first in
     let here : first_step agent_of agent (length j) first < length j + length first =
-    subst (λ (x : ℕ). first_step agent_of agent (length j) first < x) size (subst (λ (z : List S). first_step agent_of agent (length j) z < length k) drop_k low) in
-    ap (λ (z : List S). first_step agent_of agent (length j) z) drop_m ∙ (first_stays agent_of agent (length j) first more here ∙ ap (λ (z : List S). first_step agent_of agent (length j) z) (sym drop_k))
+    subst (λ (x : ℕ). first_step agent_of agent (length j) first < x) size (subst (λ (z : List S). first_step agent_of agent (length j) z < length k)
+    drop_k low) in
+    ap (λ (z : List S). first_step agent_of agent (length j) z) drop_m ∙ (first_stays agent_of agent (length j) first more here ∙ ap
+    (λ (z : List S). first_step agent_of agent (length j) z) (sym drop_k))
 
 -- a fact of a call's part stays one of the part that goes on
-pub within_later : {S : Type 0} (agent_of : S → ℕ) (agent : ℕ) (j k m : List S) (Fact Later : ℕ → ℕ → Type 0) → ((from to : ℕ) → Fact from to → Later from to) → IsPrefix j k → IsPrefix k m
+pub within_later : {S : Type 0} (agent_of : S → ℕ) (agent : ℕ) (j k m : List S) (Fact Later : ℕ → ℕ → Type 0) →
+    ((from to : ℕ) → Fact from to → Later from to)
+    → IsPrefix j k → IsPrefix k m
     → WithinPart agent_of agent j k Fact → WithinPart agent_of agent j m Later
 within_later {S} agent_of agent j k m Fact Later stays grows more w =
     let (from, to, low, order, high, fact) = w.within in
@@ -44,10 +50,12 @@ within_later {S} agent_of agent j k m Fact Later stays grows more w =
     }
 
 -- so does one that stays as the journal goes on
-pub within_goes_on : {S : Type 0} (agent_of : S → ℕ) (agent : ℕ) (Fact : List S → ℕ → ℕ → Type 0) → ((xs more : List S) (from to : ℕ) → Fact xs from to → Fact (xs ++ more) from to)
+pub within_goes_on : {S : Type 0} (agent_of : S → ℕ) (agent : ℕ) (Fact : List S → ℕ → ℕ → Type 0)
+    → ((xs more : List S) (from to : ℕ) → Fact xs from to → Fact (xs ++ more) from to)
     → (j k m : List S) → IsPrefix j k → IsPrefix k m → WithinPart agent_of agent j k (Fact k) → WithinPart agent_of agent j m (Fact m)
 within_goes_on {S} agent_of agent Fact stays j k m grows (more, is) w =
-    within_later agent_of agent j k m (Fact k) (Fact m) (λ from to fact. subst (λ (z : List S). Fact z from to) is (stays k more from to fact)) grows (more, is) w
+    within_later agent_of agent j k m (Fact k) (Fact m) (λ from to fact. subst (λ (z : List S). Fact z from to) is (stays k more from to fact)) grows
+    (more, is) w
 
 -- the Moves are those of other agents and those of the agent
 pub others_split : {N : Type 0} (agent : ℕ) (es : List (Event N)) → others_moves agent es + moves_in (events_by agent es) ≡ moves_in es

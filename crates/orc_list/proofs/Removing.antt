@@ -1,5 +1,5 @@
 -- A key is taken out at the node that a search found.
-use Rattle.std.proofs.Common.{Bool, List, None, Option, Some, [], ap, append_assoc, arith, false, inl, inr, refl, subst, sym, true, ℕ, ◌++◌, ◌<◌, ◌∙◌, ◌∷◌, ◌≡◌, ◌≢◌, ◌≤◌, length}
+use Rattle.std.proofs.Common.{Bool, List, None, Option, Some, [], ap, append_assoc, arith, false, inl, inr, refl, subst, sym, true, ℕ, ◌++◌, ◌∙◌, ◌∷◌, ◌≡◌, ◌≢◌, ◌≤◌, length}
 use Rattle.std.specs.List.{Contains}
 use Rattle.orc_heap.proofs.Calls.{Puts-stood, Puts-trans, part_allowed}
 use Rattle.orc_heap.proofs.Moved.{moves_in-append}
@@ -9,7 +9,7 @@ use Rattle.orc_heap.proofs.Runs.{run_heap-snoc}
 use Rattle.orc_heap.proofs.SingleActs.{has_link, some_same}
 use Rattle.orc_heap.specs.Acts.{Fits}
 use Rattle.orc_heap.specs.Allowed.{AllAllowed, HasLink, IsLinkedNode, events_by}
-use Rattle.orc_heap.specs.Calls.{Misses, event_of}
+use Rattle.orc_heap.specs.Calls.{event_of}
 use Rattle.orc_heap.specs.Hands.{Hand, hand}
 use Rattle.orc_heap.specs.Heap.{Heap, HeapNumbers, link_to, shown}
 use Rattle.orc_heap.specs.Journals.{run_heap}
@@ -21,7 +21,7 @@ use Rattle.orc_heap.specs.declared.events.Act.TheVariants.{Miss, Move}
 use Rattle.orc_heap.specs.declared.events.Event.{Event}
 use Rattle.orc_heap.specs.declared.events.Link.{Link}
 use Rattle.orc_heap.specs.declared.events.Place.{Place}
-use Rattle.orc_heap.specs.declared.events.Place.TheVariants.{Next, Root}
+use Rattle.orc_heap.specs.declared.events.Place.TheVariants.{Next}
 use Rattle.orc_history.specs.declared.set.SetEntry.TheVariants.{Removed}
 use Rattle.orc_chain_rule.proofs.Later.{linked_later, marked_later, run_later}
 use Rattle.orc_chain_rule.proofs.Leaving.{unlinked_off}
@@ -41,14 +41,17 @@ use Rattle.orc_list.proofs.Stepping.{run_snoc}
 
 -- a node whose link was marked has the marked link from then on
 
-marked_at : (n : HeapNumbers) (es : List (Event ChainNote)) (e : Event ChainNote) (id : ℕ) (from to : Link) → e.act ≡ Move (Next id) from to → ChainMay n es e → IsLinkedNode (run_heap n es) id → HasLink (run_heap n (es ++ e ∷ [])) id to
+marked_at : (n : HeapNumbers) (es : List (Event ChainNote)) (e : Event ChainNote) (id : ℕ) (from to : Link) → e.act ≡ Move (Next id) from to → ChainMay n
+    es e
+    → IsLinkedNode (run_heap n es) id → HasLink (run_heap n (es ++ e ∷ [])) id to
 marked_at n es e id from to act_is may l =
     let fits : Fits e.agent (Move (Next id) from to) (run_heap n es) = subst (λ a. Fits e.agent a (run_heap n es)) act_is may.fits in
     let m = move_moves e.agent (Next id) from to (run_heap n es) fits in
     let after : shown (run_heap n (es ++ e ∷ [])) (Next id) ≡ Some to = rw (run_heap-snoc n es e, act_is) m.moved in
     has_link (run_heap n (es ++ e ∷ [])) id to (linked_later n es (e ∷ []) id l (may, tt)) after
 
-pub marked_link : (n : HeapNumbers) (t u : Seat ChainNote) (id : ℕ) (from to : Link) (noted : Option ChainNote) → Puts t (event_of t (Move (Next id) from to) noted ∷ []) u → AllAllowed (ChainMay n) [] u.seen → IsLinkedNode (heap_of n t) id → to.mark ≡ true
+pub marked_link : (n : HeapNumbers) (t u : Seat ChainNote) (id : ℕ) (from to : Link) (noted : Option ChainNote)
+    → Puts t (event_of t (Move (Next id) from to) noted ∷ []) u → AllAllowed (ChainMay n) [] u.seen → IsLinkedNode (heap_of n t) id → to.mark ≡ true
     → HasLink (heap_of n u) id to
 marked_link n t u id from to noted p all l mark =
     let e : Event ChainNote = event_of t (Move (Next id) from to) noted in
@@ -72,35 +75,45 @@ head_is : (first : Option Hold) (first_id id : ℕ) → head_of first first_id (
 head_is None first_id id = refl
 head_is (Some h) first_id id = refl
 
-begins_with : (first : Option Hold) (first_id id : ℕ) (over : List ℕ) → BeginsRun first first_id over → (others : List ℕ) × (over ++ id ∷ [] ≡ run_head first first_id id ∷ others)
+begins_with : (first : Option Hold) (first_id id : ℕ) (over : List ℕ) → BeginsRun first first_id over
+    → (others : List ℕ) × (over ++ id ∷ [] ≡ run_head first first_id id ∷ others)
 begins_with None first_id id over is = ([], ap (λ z. z ++ id ∷ []) is)
 begins_with (Some h) first_id id over (others, is) = (others ++ id ∷ [], ap (λ z. z ++ id ∷ []) is)
 
 -- what is first in hand
-pub first_or_held : (slots : Slots) (first : Option Hold) (node : Hold) → HoldsIfAny slots first → HoldsIfAny slots (Some node) → HoldsIfAny slots (first_or first (Some node))
+pub first_or_held : (slots : Slots) (first : Option Hold) (node : Hold) → HoldsIfAny slots first → HoldsIfAny slots (Some node)
+    → HoldsIfAny slots (first_or first (Some node))
 first_or_held slots None node a b = b
 first_or_held slots (Some h) node a b = a
 
 -- where the pass was alone, its own events are all that is new
-pub alone_exact : (s t y : Seat ChainNote) (own ys : List (Event ChainNote)) (q : Puts s own t) (p : Puts t ys y) (w : Puts s (own ++ ys) y) → 1 ≤ length own → AllOwn s.agent (from_own s.agent w.part)
+pub alone_exact : (s t y : Seat ChainNote) (own ys : List (Event ChainNote)) (q : Puts s own t) (p : Puts t ys y) (w : Puts s (own ++ ys) y) → 1 ≤ length
+    own
+    → AllOwn s.agent (from_own s.agent w.part)
     → (AllOwn s.agent (from_own s.agent q.part)) × (p.part ≡ ys)
 alone_exact s t y own ys q p w some alone =
     let begun = from_own-begun s.agent q.part p.part (rw q.own_is some) in
-    let whole : AllOwn s.agent (from_own s.agent q.part ++ p.part) = subst (λ z. AllOwn s.agent z) (ap (λ z. from_own s.agent z) (new_is s t y own ys (own ++ ys) q p w) ∙ begun) alone in
-    let last : events_by s.agent p.part ≡ ys = subst (λ (a : ℕ). events_by a p.part ≡ ys) q.agent p.own_is in
-    (own_left s.agent (from_own s.agent q.part) p.part whole, sym (own_is_all s.agent p.part (own_right s.agent (from_own s.agent q.part) p.part whole)) ∙ last)
+    let whole : AllOwn s.agent (from_own s.agent q.part ++ p.part) = subst (λ z. AllOwn s.agent z)
+    (ap (λ z. from_own s.agent z) (new_is s t y own ys (own ++ ys) q p w) ∙ begun) alone in
+    let last : events_by s.agent p.part ≡ ys = subst (λ (a : ℕ). events_by a p.part ≡ ys) q.agent p.own_is in (
+      own_left s.agent (from_own s.agent q.part) p.part whole,
+      sym (own_is_all s.agent p.part (own_right s.agent (from_own s.agent q.part) p.part whole)) ∙
+          last,
+    )
 
 takes_right : (es fs : List (Event ChainNote)) (key id : ℕ) → TakesKey fs key id → TakesKey (es ++ fs) key id
 takes_right [] fs key id k = k
 takes_right (e ∷ es) fs key id k = inr (takes_right es fs key id k)
 
-left_apart : (n : HeapNumbers) (t : Seat ChainNote) (root key id : ℕ) (left : Option Hold) (left_id : ℕ) → FollowsOn n.roots (heap_of n t) (left_place root left left_id) key → HasKey (heap_of n t) id key → left_place root left left_id ≢ Next id
+left_apart : (n : HeapNumbers) (t : Seat ChainNote) (root key id : ℕ) (left : Option Hold) (left_id : ℕ)
+    → FollowsOn n.roots (heap_of n t) (left_place root left left_id) key → HasKey (heap_of n t) id key → left_place root left left_id ≢ Next id
 left_apart n t root key id None left_id f own = λ e. cc
 left_apart n t root key id (Some h) left_id (low, mine, less, same) own = λ e.
     let is : left_id ≡ id = cc in
     omega (arith, key_one (heap_of n t) id low key (subst (λ (z : ℕ). HasKey (heap_of n t) z low) is mine) own, less)
 
-module _ (n : HeapNumbers) (root key : ℕ) (left first : Option Hold) (node : Hold) (next : Option Hold) (s t : Seat ChainNote) (f : FindsPresent n root key left first node next s t) where
+module _ (n : HeapNumbers) (root key : ℕ) (left first : Option Hold) (node : Hold) (next : Option Hold) (s t : Seat ChainNote)
+    (f : FindsPresent n root key left first node next s t) where
   abbrev to : Option ℕ
   to = node_of next f.next_id
 
@@ -123,7 +136,8 @@ module _ (n : HeapNumbers) (root key : ℕ) (left first : Option Hold) (node : H
       record {
         others = others;
         over_is = is;
-        from_is = from_is n root key left first f.left_id f.first_id (Some f.id) s f.own t f.behind.quiet.puts.part l ∙ ap link_over (head_is first f.first_id f.id);
+        from_is = from_is n root key left first f.left_id f.first_id (Some f.id) s f.own t f.behind.quiet.puts.part l ∙ ap link_over
+            (head_is first f.first_id f.id);
       }
 
   -- once the node is marked, the run goes on past it
@@ -133,28 +147,39 @@ module _ (n : HeapNumbers) (root key : ℕ) (left first : Option Hold) (node : H
       let l = f.behind.leads in
       let own_link = marked_link n t u f.id (link_over to) marked _ m.puts all (key_linked (heap_of n t) f.id key f.is_of.has_key) refl in
       let run = run_snoc (heap_of n u) l.from l.over f.id marked (run_puts n t u _ m.puts all l.from l.over (Some f.id) l.run) own_link refl in
-      subst (λ (x : Link). IsRun (heap_of n u) x (head ∷ run_from.others) to) run_from.from_is (subst (λ z. IsRun (heap_of n u) l.from z to) run_from.over_is run)
+      subst (λ (x : Link). IsRun (heap_of n u) x (head ∷ run_from.others) to) run_from.from_is
+      (subst (λ z. IsRun (heap_of n u) l.from z to) run_from.over_is run)
 
   -- by what the pass holds
 
-  pub marks_at : (done : Bool) (u : Seat ChainNote) → Marks key (id_in t.slots node) (target_at t.slots next) t done u → Marks key f.id (node_of next f.next_id) t done u
+  pub marks_at : (done : Bool) (u : Seat ChainNote) → Marks key (id_in t.slots node) (target_at t.slots next) t done u
+      → Marks key f.id (node_of next f.next_id) t done u
   marks_at done u m =
       let r = reads_node n root key left first node next s t f in
-      subst (λ (i : ℕ). Marks key i (node_of next f.next_id) t done u) r.id_is (subst (λ (o : Option ℕ). Marks key (id_in t.slots node) o t done u) r.next_is m)
+      subst (λ (i : ℕ). Marks key i (node_of next f.next_id) t done u) r.id_is (subst (λ (o : Option ℕ). Marks key (id_in t.slots node) o t done u)
+      r.next_is m)
 
-  pub marked_hand : (done : Bool) (u : Seat ChainNote) → Marks key f.id (node_of next f.next_id) t done u → AllAllowed (ChainMay n) [] u.seen → InHand n s.slots left first (Some node) next u
+  pub marked_hand : (done : Bool) (u : Seat ChainNote) → Marks key f.id (node_of next f.next_id) t done u → AllAllowed (ChainMay n) [] u.seen
+      → InHand n s.slots left first (Some node) next u
   marked_hand true u m all = in_hand_on n s.slots left first (Some node) next t u _ m.puts all m.slots (present_hand n root key left first s t node next f)
-  marked_hand false u m all = in_hand_on n s.slots left first (Some node) next t u _ m.puts.puts all m.slots (present_hand n root key left first s t node next f)
+  marked_hand false u m all = in_hand_on n s.slots left first (Some node) next t u _ m.puts.puts all m.slots
+      (present_hand n root key left first s t node next f)
 
-  pub unlink_held : (u : Seat ChainNote) (h : Hold) → u.slots ≡ t.slots → Some h ≡ first_or first (Some node) → HoldsIfAny u.slots left × Holds u.slots h × HoldsIfAny u.slots next
+  pub unlink_held : (u : Seat ChainNote) (h : Hold) → u.slots ≡ t.slots → Some h ≡ first_or first (Some node)
+      → HoldsIfAny u.slots left × Holds u.slots h × HoldsIfAny u.slots next
   unlink_held u h same is =
       let r = reads_node n root key left first node next s t f in
       let x = hand left f.left_id in
       let y = hand first f.first_id in
       let ks : List Hand = hand (Some node) f.id ∷ hand next f.next_id ∷ [] in
       let one : HoldsIfAny t.slots first = second_held s.slots t.slots x first f.first_id ks f.hands in
-      let head_held : HoldsIfAny t.slots (Some h) = subst (λ (o : Option Hold). HoldsIfAny t.slots o) (sym is) (first_or_held t.slots first node one r.node_held) in
-      let all : HoldsIfAny t.slots left × Holds t.slots h × HoldsIfAny t.slots next = (first_held s.slots t.slots left f.left_id (y ∷ ks) f.hands, head_held, r.next_held) in
+      let head_held : HoldsIfAny t.slots (Some h) = subst (λ (o : Option Hold). HoldsIfAny t.slots o) (sym is)
+      (first_or_held t.slots first node one r.node_held) in
+      let all : HoldsIfAny t.slots left × Holds t.slots h × HoldsIfAny t.slots next = (
+        first_held s.slots t.slots left f.left_id (y ∷ ks) f.hands,
+        head_held,
+        r.next_held,
+      ) in
       subst (λ (z : Slots). HoldsIfAny z left × Holds z h × HoldsIfAny z next) (sym same) all
 
   record UnlinkAt (u : Seat ChainNote) (h : Hold) : Type 0 where
@@ -168,15 +193,18 @@ module _ (n : HeapNumbers) (root key : ℕ) (left first : Option Hold) (node : H
       let ks : List Hand = hand (Some node) f.id ∷ hand next f.next_id ∷ [] in
       let js : List Hand = hand next f.next_id ∷ [] in
       let target : target_at t.slots (Some h) ≡ head_of first f.first_id (Some f.id) =
-      ap (λ (o : Option Hold). target_at t.slots o) is ∙ target_is s.slots t.slots first (Some node) f.first_id f.id ks js f.hands.held.1.0 f.hands.held.1.1.0 in
+      ap (λ (o : Option Hold). target_at t.slots o) is ∙ target_is s.slots t.slots first (Some node) f.first_id f.id ks js f.hands.held.1.0
+      f.hands.held.1.1.0 in
       let at_t : id_in t.slots h ≡ run_head first f.first_id f.id = some_same (target ∙ head_is first f.first_id f.id) in
       record {
-        place_is = ap (λ (z : Slots). place_at z root left) same ∙ place_of_hand s.slots t.slots root left f.left_id (hand first f.first_id ∷ ks) f.hands.held.0;
+        place_is = ap (λ (z : Slots). place_at z root left) same ∙ place_of_hand s.slots t.slots root left f.left_id (hand first f.first_id ∷ ks)
+            f.hands.held.0;
         id_is = ap (λ (z : Slots). id_in z h) same ∙ at_t;
         to_is = ap (λ (z : Slots). target_at z next) same ∙ r.next_is;
       }
 
-  pub unlink_run_at : (u : Seat ChainNote) (h : Hold) → Marks key f.id (node_of next f.next_id) t true u → AllAllowed (ChainMay n) [] u.seen → Some h ≡ first_or first (Some node)
+  pub unlink_run_at : (u : Seat ChainNote) (h : Hold) → Marks key f.id (node_of next f.next_id) t true u → AllAllowed (ChainMay n) [] u.seen
+      → Some h ≡ first_or first (Some node)
       → (others : List ℕ) × IsRun (heap_of n u) (link_over (target_at u.slots (Some h))) (id_in u.slots h ∷ others) (target_at u.slots next)
   unlink_run_at u h m all is =
       let a = unlink_at u h m.slots is in
@@ -184,26 +212,31 @@ module _ (n : HeapNumbers) (root key : ℕ) (left first : Option Hold) (node : H
       let run = subst (λ (x : ℕ). IsRun (heap_of n u) (link_to x) (x ∷ others) to) (sym a.id_is) (run_marked u m all) in
       (others, subst (λ (o : Option ℕ). IsRun (heap_of n u) (link_to (id_in u.slots h)) (id_in u.slots h ∷ others) o) (sym a.to_is) run)
 
-  pub unlink_left : (u : Seat ChainNote) (h : Hold) → Marks key f.id (node_of next f.next_id) t true u → AllAllowed (ChainMay n) [] u.seen → Some h ≡ first_or first (Some node) → IsLinkedPlace (place_at u.slots root left) (heap_of n u)
+  pub unlink_left : (u : Seat ChainNote) (h : Hold) → Marks key f.id (node_of next f.next_id) t true u → AllAllowed (ChainMay n) [] u.seen
+      → Some h ≡ first_or first (Some node) → IsLinkedPlace (place_at u.slots root left) (heap_of n u)
   unlink_left u h m all is =
       let a = unlink_at u h m.slots is in
-      subst (λ (p : Place). IsLinkedPlace p (heap_of n u)) (sym a.place_is) (left_place_linked n u place key (below_puts n t u _ m.puts all place key f.behind.leads.below))
+      subst (λ (p : Place). IsLinkedPlace p (heap_of n u)) (sym a.place_is) (left_place_linked n u place key
+      (below_puts n t u _ m.puts all place key f.behind.leads.below))
 
-  pub unlink_follows : (u : Seat ChainNote) → Marks key f.id (node_of next f.next_id) t true u → AllAllowed (ChainMay n) [] u.seen → (id : ℕ) × NextFollows n id (target_at u.slots next) u
+  pub unlink_follows : (u : Seat ChainNote) → Marks key f.id (node_of next f.next_id) t true u → AllAllowed (ChainMay n) [] u.seen
+      → (id : ℕ) × NextFollows n id (target_at u.slots next) u
   unlink_follows u m all =
       let r = reads_node n root key left first node next s t f in
       let to_is : target_at u.slots next ≡ to = ap (λ (z : Slots). target_at z next) m.slots ∙ r.next_is in
       (f.id, subst (λ (o : Option ℕ). NextFollows n f.id o u) (sym to_is) (next_puts n t u _ m.puts all f.id to f.follows))
 
   pub tries_at : (u v : Seat ChainNote) (h : Hold) (Worn : Type 0) → u.slots ≡ t.slots → Some h ≡ first_or first (Some node)
-      → TriesUnlink (place_at u.slots root left) (id_in u.slots h) (target_at u.slots next) Worn u v → TriesUnlink (left_place root left f.left_id) (run_head first f.first_id f.id) (node_of next f.next_id) Worn u v
+      → TriesUnlink (place_at u.slots root left) (id_in u.slots h) (target_at u.slots next) Worn u v
+      → TriesUnlink (left_place root left f.left_id) (run_head first f.first_id f.id) (node_of next f.next_id) Worn u v
   tries_at u v h Worn same is tried =
       let a = unlink_at u h same is in
       let one = subst (λ (p : Place). TriesUnlink p (id_in u.slots h) (target_at u.slots next) Worn u v) a.place_is tried in
       let two = subst (λ (i : ℕ). TriesUnlink place i (target_at u.slots next) Worn u v) a.id_is one in
       subst (λ (o : Option ℕ). TriesUnlink place head o Worn u v) a.to_is two
 
-  pub tried_hand : (u v : Seat ChainNote) (at : Place) (id : ℕ) (past : Option ℕ) (Worn : Type 0) → TriesUnlink at id past Worn u v → AllAllowed (ChainMay n) [] v.seen → InHand n s.slots left first (Some node) next u → InHand n s.slots left first (Some node) next v
+  pub tried_hand : (u v : Seat ChainNote) (at : Place) (id : ℕ) (past : Option ℕ) (Worn : Type 0) → TriesUnlink at id past Worn u v
+      → AllAllowed (ChainMay n) [] v.seen → InHand n s.slots left first (Some node) next u → InHand n s.slots left first (Some node) next v
   tried_hand u v at id past Worn tried all h = elim tried.either [
     | inl swung ↦ elim swung [
       | inl p ↦ in_hand_on n s.slots left first (Some node) next u v _ p all tried.slots h
@@ -212,13 +245,15 @@ module _ (n : HeapNumbers) (root key : ℕ) (left first : Option Hold) (node : H
     | inr worn ↦ in_hand_on n s.slots left first (Some node) next u v [] worn.1 all tried.slots h
   ]
 
-  pub removes_missed : (u y : Seat ChainNote) → Marks key f.id (node_of next f.next_id) t false u → AllGone s.slots u y → AllAllowed (ChainMay n) [] u.seen → Tires 1 s y
+  pub removes_missed : (u y : Seat ChainNote) → Marks key f.id (node_of next f.next_id) t false u → AllGone s.slots u y → AllAllowed (ChainMay n) [] u.seen
+      → Tires 1 s y
   removes_missed u y m g all =
       let from : Link = link_over to in
       let q = f.behind.quiet in
       let made = made_after 0 s t u f.own _ [] q f.few m.puts.puts refl refl (omega arith) in
       let moved = missed n s t u f.own _ (Next f.id) from q.puts q.some f.still (key_linked (heap_of n t) f.id key f.is_of.has_key) m.puts all made.puts in
-      let still : moves_in (f.own ++ event_of t (Miss (Next f.id) from m.puts.found) None ∷ []) ≡ 0 = omega (arith, moves_in-append f.own (event_of t (Miss (Next f.id) from m.puts.found) None ∷ []), q.no_move) in
+      let still : moves_in (f.own ++ event_of t (Miss (Next f.id) from m.puts.found) None ∷ []) ≡ 0 = omega
+      (arith, moves_in-append f.own (event_of t (Miss (Next f.id) from m.puts.found) None ∷ []), q.no_move) in
       record {
         own = _;
         over = over_on 0 1 s u y _ (record { made = made; no_move = still; moved = moved }) g.puts;
@@ -228,14 +263,18 @@ module _ (n : HeapNumbers) (root key : ℕ) (left first : Option Hold) (node : H
       }
 
   abbrev mark : Event ChainNote
-  mark = event_of t (Move (Next f.id) (link_over (node_of next f.next_id)) (record { to = node_of next f.next_id; mark = true })) (Some (Entry (Removed t.agent key true)))
+  mark = event_of t (Move (Next f.id) (link_over (node_of next f.next_id)) (record { to = node_of next f.next_id; mark = true }))
+      (Some (Entry (Removed t.agent key true)))
 
   -- the turn's own events, from the mark on
-  took : (ys : List (Event ChainNote)) (v y : Seat ChainNote) → Puts t (mark ∷ ys) v → Puts v [] y → entries_of ys ≡ [] → gives_in ys ≡ 0 → length ys ≤ 1 → Made 0 1 s (f.own ++ mark ∷ ys) (Removed s.agent key true ∷ []) y
+  took : (ys : List (Event ChainNote)) (v y : Seat ChainNote) → Puts t (mark ∷ ys) v → Puts v [] y → entries_of ys ≡ [] → gives_in ys ≡ 0 → length ys ≤ 1
+      → Made 0 1 s (f.own ++ mark ∷ ys) (Removed s.agent key true ∷ []) y
   took ys v y p g none no_give short =
       let q = f.behind.quiet in
-      let entries : entries_of (mark ∷ ys) ≡ Removed s.agent key true ∷ [] = ap (λ (a : ℕ). Removed a key true ∷ entries_of ys) q.puts.agent ∙ ap (λ z. Removed s.agent key true ∷ z) none in
-      made_on 0 1 s v y (f.own ++ mark ∷ ys) (Removed s.agent key true ∷ []) (made_after 0 s t v f.own (mark ∷ ys) (Removed s.agent key true ∷ []) q f.few p entries (omega (arith, no_give)) (omega (arith, short))) g
+      let entries : entries_of (mark ∷ ys) ≡ Removed s.agent key true ∷ [] = ap (λ (a : ℕ). Removed a key true ∷ entries_of ys) q.puts.agent ∙ ap
+      (λ z. Removed s.agent key true ∷ z) none in
+      made_on 0 1 s v y (f.own ++ mark ∷ ys) (Removed s.agent key true ∷ []) (made_after 0 s t v f.own (mark ∷ ys) (Removed s.agent key true ∷ []) q f.few
+      p entries (omega (arith, no_give)) (omega (arith, short))) g
 
   -- where the pass was alone: what it saw, and that the place showed its link when the node was marked
   record Alone (ys : List (Event ChainNote)) (y : Seat ChainNote) : Type 0 where
@@ -243,12 +282,14 @@ module _ (n : HeapNumbers) (root key : ℕ) (left first : Option Hold) (node : H
     all : AllAllowed (ChainMay n) t.seen (mark ∷ ys)
     shows : shown (run_heap n (t.seen ++ mark ∷ [])) place ≡ Some f.behind.leads.from
 
-  alone_at : (ys : List (Event ChainNote)) (y : Seat ChainNote) → Puts t (mark ∷ ys) y → (w : Puts s (f.own ++ mark ∷ ys) y) → AllOwn s.agent (from_own s.agent w.part) → AllAllowed (ChainMay n) [] y.seen → Alone ys y
+  alone_at : (ys : List (Event ChainNote)) (y : Seat ChainNote) → Puts t (mark ∷ ys) y → (w : Puts s (f.own ++ mark ∷ ys) y)
+      → AllOwn s.agent (from_own s.agent w.part) → AllAllowed (ChainMay n) [] y.seen → Alone ys y
   alone_at ys y p w alone all_y =
       let q = f.behind.quiet in
       let l = f.behind.leads in
       let (first_alone, exact) = alone_exact s t y f.own (mark ∷ ys) q.puts p w q.some alone in
-      let all : AllAllowed (ChainMay n) t.seen (mark ∷ ys) = subst (λ z. AllAllowed (ChainMay n) t.seen z) exact (part_allowed (ChainMay n) t y (mark ∷ ys) p all_y) in
+      let all : AllAllowed (ChainMay n) t.seen (mark ∷ ys) = subst (λ z. AllAllowed (ChainMay n) t.seen z) exact
+      (part_allowed (ChainMay n) t y (mark ∷ ys) p all_y) in
       record {
         seen_is = p.is ∙ ap (λ z. t.seen ++ z) exact;
         all = all;
@@ -261,7 +302,8 @@ module _ (n : HeapNumbers) (root key : ℕ) (left first : Option Hold) (node : H
       }
 
   -- then the Unlink leaves the node and the run before it off the chain
-  off_chain : (agent : ℕ) (y : Seat ChainNote) (holds : ChainHolds n t.seen) → (a : Alone (record { agent = agent; act = Move place (link_to head) (link_over to); note = Some Unlink } ∷ []) y)
+  off_chain : (agent : ℕ) (y : Seat ChainNote) (holds : ChainHolds n t.seen)
+      → (a : Alone (record { agent = agent; act = Move place (link_to head) (link_over to); note = Some Unlink } ∷ []) y)
       → (x : ℕ) → Contains over x → IsOnNoChain (heap_of n y) x
   off_chain agent y holds a x among =
       let e : Event ChainNote = record { agent = agent; act = Move place (link_to head) (link_over to); note = Some Unlink } in
@@ -269,7 +311,8 @@ module _ (n : HeapNumbers) (root key : ℕ) (left first : Option Hold) (node : H
       let es : List (Event ChainNote) = t.seen ++ mark ∷ [] in
       let first = a.all.0 in
       let own_link = marked_at n t.seen mark f.id (link_over to) marked refl first (key_linked (heap_of n t) f.id key f.is_of.has_key) in
-      let run = run_snoc (run_heap n es) l.from l.over f.id marked (run_later n t.seen (mark ∷ []) l.from l.over (Some f.id) l.run (first, tt)) own_link refl in
+      let run = run_snoc (run_heap n es) l.from l.over f.id marked (run_later n t.seen (mark ∷ []) l.from l.over (Some f.id) l.run (first, tt)) own_link
+      refl in
       let run_head_is : IsRun (run_heap n es) (link_to head) over to = subst (λ (z : Link). IsRun (run_heap n es) z over to) run_from.from_is run in
       let off = unlinked_off n agent place (link_to head) over to x es (chain_keeps n t.seen mark holds first) a.all.1.0 run_head_is among in
       subst (λ z. IsOnNoChain (run_heap n z) x) (append_assoc t.seen (mark ∷ []) (e ∷ []) ∙ sym a.seen_is) off
@@ -289,7 +332,8 @@ module _ (n : HeapNumbers) (root key : ℕ) (left first : Option Hold) (node : H
         off = off;
       }
 
-  pub removes_done : (Worn : Type 0) (u v y : Seat ChainNote) → Marks key f.id (node_of next f.next_id) t true u → TriesUnlink (left_place root left f.left_id) (run_head first f.first_id f.id) (node_of next f.next_id) Worn u v → AllGone s.slots v y
+  pub removes_done : (Worn : Type 0) (u v y : Seat ChainNote) → Marks key f.id (node_of next f.next_id) t true u
+      → TriesUnlink (left_place root left f.left_id) (run_head first f.first_id f.id) (node_of next f.next_id) Worn u v → AllGone s.slots v y
       → ChainHolds n t.seen → AllAllowed (ChainMay n) [] y.seen → TakesOut n key Worn 1 s y
   removes_done Worn u v y m tries g holds all_y = elim tries.either [
     | inl swung ↦ elim swung [
@@ -299,7 +343,8 @@ module _ (n : HeapNumbers) (root key : ℕ) (left first : Option Hold) (node : H
           let made = took (e ∷ []) v y whole g.puts refl refl (omega arith) in
           record {
             answers = record { own = f.own ++ mark ∷ e ∷ []; made = made; slots = g.slots_are; fresh = fresh };
-            off = λ alone none. leaves (e ∷ []) (heap_of n y) (off_chain u.agent y holds (alone_at (e ∷ []) y (puts_released t v y (mark ∷ e ∷ []) whole g.puts) made.puts alone all_y));
+            off = λ alone none. leaves (e ∷ []) (heap_of n y) (off_chain u.agent y holds (alone_at (e ∷ []) y
+                (puts_released t v y (mark ∷ e ∷ []) whole g.puts) made.puts alone all_y));
           }
       | inr miss ↦
           let e : Event ChainNote = event_of u (Miss place (link_to head) miss.found) None in

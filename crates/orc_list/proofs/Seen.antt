@@ -1,5 +1,5 @@
 -- What Looks among events found, and how many nodes they visited.
-use Rattle.std.proofs.Common.{Bool, List, [], ap, arith, cond, false, filter, inl, inr, length, length-append, not, refl, subst, sym, true, ℕ, ◌*◌, ◌++◌, ◌+◌, ◌<◌, ◌==◌, ◌∙◌, ◌∷◌, ◌≡◌, ◌≢◌, ◌≤◌, ◌⊎◌, Option}
+use Rattle.std.proofs.Common.{Bool, List, [], arith, cond, false, filter, inl, inr, length, length-append, not, refl, subst, true, ℕ, ◌++◌, ◌+◌, ◌==◌, ◌∷◌, ◌≡◌, ◌≤◌, ◌⊎◌, Option}
 use Rattle.std.proofs.lemmas.Bool.{eq-eqb, eqb-true, or_cases, or_right}
 use Rattle.orc_heap.specs.Heap.{Heap, HeapNumbers}
 use Rattle.orc_heap.specs.Seats.{Seat, heap_of}
@@ -23,13 +23,29 @@ pub sees_right : (es fs : List (Event ChainNote)) (place : Place) (link : Link) 
 sees_right [] fs place link s = s
 sees_right (e ∷ es) fs place link s = inr (sees_right es fs place link s)
 
-pub sees_run_left : (es fs : List (Event ChainNote)) (link : Link) (over : List ℕ) (to : Option ℕ) → SeesRun es link over to → SeesRun (es ++ fs) link over to
+pub sees_run_left : (es fs : List (Event ChainNote)) (link : Link) (over : List ℕ) (to : Option ℕ) → SeesRun es link over to → SeesRun (es ++ fs) link over
+    to
 sees_run_left es fs link [] to r = r
-sees_run_left es fs link (id ∷ ids) to (is, next, seen, mark, rest) = (is, next, sees_left es fs (Next id) next seen, mark, sees_run_left es fs next ids to rest)
+sees_run_left es fs link (id ∷ ids) to (is, next, seen, mark, rest) = (
+  is,
+  next,
+  sees_left es fs (Next id) next seen,
+  mark,
+  sees_run_left es fs next ids to
+      rest,
+)
 
-pub sees_run_right : (es fs : List (Event ChainNote)) (link : Link) (over : List ℕ) (to : Option ℕ) → SeesRun fs link over to → SeesRun (es ++ fs) link over to
+pub sees_run_right : (es fs : List (Event ChainNote)) (link : Link) (over : List ℕ) (to : Option ℕ) → SeesRun fs link over to
+    → SeesRun (es ++ fs) link over to
 sees_run_right es fs link [] to r = r
-sees_run_right es fs link (id ∷ ids) to (is, next, seen, mark, rest) = (is, next, sees_right es fs (Next id) next seen, mark, sees_run_right es fs next ids to rest)
+sees_run_right es fs link (id ∷ ids) to (is, next, seen, mark, rest) = (
+  is,
+  next,
+  sees_right es fs (Next id) next seen,
+  mark,
+  sees_run_right es fs next ids
+      to rest,
+)
 
 pub all_seen_left : (es fs : List (Event ChainNote)) (ids : List ℕ) → AllSeen es ids → AllSeen (es ++ fs) ids
 all_seen_left es fs [] all = tt
@@ -52,7 +68,8 @@ at_most : (x : ℕ) (xs : List ℕ) → length (filter (λ y. not (y == x)) xs) 
 at_most x [] = omega arith
 at_most x (y ∷ xs) = step (y == x) (at_most x xs)
   where
-    step : (b : Bool) → length (filter (λ z. not (z == x)) xs) ≤ length xs → length (cond (not b) (y ∷ filter (λ z. not (z == x)) xs) (filter (λ z. not (z == x)) xs)) ≤ length (y ∷ xs)
+    step : (b : Bool) → length (filter (λ z. not (z == x)) xs) ≤ length xs
+        → length (cond (not b) (y ∷ filter (λ z. not (z == x)) xs) (filter (λ z. not (z == x)) xs)) ≤ length (y ∷ xs)
     step true k = omega (arith, k)
     step false k = omega (arith, k)
 
@@ -60,7 +77,8 @@ shorter : (x : ℕ) (xs : List ℕ) → has x xs ≡ true → length (filter (λ
 shorter x [] e = cc
 shorter x (y ∷ xs) e = step (y == x) (or_cases (y == x) (has x xs) e) (at_most x xs) (λ h. shorter x xs h)
   where
-    step : (b : Bool) → (b ≡ true) ⊎ (has x xs ≡ true) → length (filter (λ z. not (z == x)) xs) ≤ length xs → (has x xs ≡ true → length (filter (λ z. not (z == x)) xs) + 1 ≤ length xs)
+    step : (b : Bool) → (b ≡ true) ⊎ (has x xs ≡ true) → length (filter (λ z. not (z == x)) xs) ≤ length xs
+        → (has x xs ≡ true → length (filter (λ z. not (z == x)) xs) + 1 ≤ length xs)
         → length (cond (not b) (y ∷ filter (λ z. not (z == x)) xs) (filter (λ z. not (z == x)) xs)) + 1 ≤ length (y ∷ xs)
     step true either few less = omega (arith, few)
     step false (inl bad) few less = cc
@@ -83,7 +101,8 @@ fewer : (h : Heap) (bound : ℕ) (xs ids : List ℕ) → KeysFall h bound xs →
 fewer h bound [] ids fall all = omega arith
 fewer h bound (x ∷ xs) ids (key, own, less, rest) all =
     let here : has x ids ≡ true = all x (rw (eq-eqb x x refl) refl) in
-    let k = fewer h key xs (filter (λ y. not (y == x)) ids) rest (λ id among. has_kept x id ids (all id (in_rest id among)) (λ same. falls_apart h key xs x key rest own (omega arith) (subst (λ (z : ℕ). has z xs ≡ true) same among))) in
+    let k = fewer h key xs (filter (λ y. not (y == x)) ids) rest (λ id among. has_kept x id ids (all id (in_rest id among))
+    (λ same. falls_apart h key xs x key rest own (omega arith) (subst (λ (z : ℕ). has z xs ≡ true) same among))) in
     omega (arith, k, shorter x ids here)
   where
     in_rest : (id : ℕ) → has id xs ≡ true → has id (x ∷ xs) ≡ true
@@ -110,5 +129,6 @@ pub falls_weaker : (h : Heap) (low high : ℕ) (xs : List ℕ) → KeysFall h lo
 falls_weaker h low high [] fall up = tt
 falls_weaker h low high (x ∷ xs) (key, own, less, rest) up = (key, own, omega (arith, less, up), rest)
 
-pub visits_weaker : (n : HeapNumbers) (low high : ℕ) (own : List (Event ChainNote)) (t : Seat ChainNote) → Visits n low own t → low ≤ high → Visits n high own t
+pub visits_weaker : (n : HeapNumbers) (low high : ℕ) (own : List (Event ChainNote)) (t : Seat ChainNote) → Visits n low own t → low ≤ high
+    → Visits n high own t
 visits_weaker n low high own t v up = record { nodes = v.nodes; fall = falls_weaker (heap_of n t) low high v.nodes v.fall up; seen = v.seen; few = v.few }

@@ -45,12 +45,15 @@ root_tells n s t root link before rest holds p all =
           (key, subst (λ es. HasKey (run_heap n es) id key) is (key_later n (s.seen ++ m.before) (e ∷ m.later) id key own later), follows);
     }
 
-starts : (n : HeapNumbers) (root wanted : ℕ) (mark : Bool) (next : Option Hold) (next_id : ℕ) (s t : Seat ChainNote) (before : List (Event ChainNote)) → root ≡ wanted % n.roots
+starts : (n : HeapNumbers) (root wanted : ℕ) (mark : Bool) (next : Option Hold) (next_id : ℕ) (s t : Seat ChainNote) (before : List (Event ChainNote))
+    → root ≡ wanted % n.roots
     → Hands s.slots t.slots (hand next next_id ∷ hand None 0 ∷ hand None 0 ∷ []) → IsApartOf 1 next
     → Puts s (before ++ event_of s (Look (Root root) (record { to = node_of next next_id; mark = mark })) None ∷ []) t
     → AreLoads (before ++ event_of s (Look (Root root) (record { to = node_of next next_id; mark = mark })) None ∷ [])
-    → 1 ≤ length (before ++ event_of s (Look (Root root) (record { to = node_of next next_id; mark = mark })) None ∷ []) → length (before ++ event_of s (Look (Root root) (record { to = node_of next next_id; mark = mark })) None ∷ []) ≤ 2
-    → entries_of (before ++ event_of s (Look (Root root) (record { to = node_of next next_id; mark = mark })) None ∷ []) ≡ [] → gives_in (before ++ event_of s (Look (Root root) (record { to = node_of next next_id; mark = mark })) None ∷ []) ≡ 0
+    → 1 ≤ length (before ++ event_of s (Look (Root root) (record { to = node_of next next_id; mark = mark })) None ∷ [])
+    → length (before ++ event_of s (Look (Root root) (record { to = node_of next next_id; mark = mark })) None ∷ []) ≤ 2
+    → entries_of (before ++ event_of s (Look (Root root) (record { to = node_of next next_id; mark = mark })) None ∷ []) ≡ []
+    → gives_in (before ++ event_of s (Look (Root root) (record { to = node_of next next_id; mark = mark })) None ∷ []) ≡ 0
     → moves_in (before ++ event_of s (Look (Root root) (record { to = node_of next next_id; mark = mark })) None ∷ []) ≡ 0
     → t.fresh ≡ s.fresh → ChainHolds n s.seen → AllAllowed (ChainMay n) [] t.seen → Passed n root wanted 0 None None next s t
 starts n root wanted mark next next_id s t before root_is hands apart p loads some short no_entries no_give no_move fresh holds all =
@@ -82,7 +85,8 @@ starts n root wanted mark next next_id s t before root_is hands apart p loads so
       visits = record { nodes = []; fall = tt; seen = tt; few = omega (arith, short) };
     }
   where
-    by_next : (next : Option Hold) → ((id : ℕ) → node_of next next_id ≡ Some id → (key : ℕ) × HasKey (heap_of n t) id key × (key % n.roots ≡ root)) → NextIsOf n wanted 0 (node_of next next_id) t
+    by_next : (next : Option Hold) → ((id : ℕ) → node_of next next_id ≡ Some id → (key : ℕ) × HasKey (heap_of n t) id key × (key % n.roots ≡ root))
+        → NextIsOf n wanted 0 (node_of next next_id) t
     by_next None k = tt
     by_next (Some h) k =
         let (key, own, same) = k next_id refl in
@@ -100,12 +104,15 @@ start_looks n root wanted seen next s t root_is room looks holds all = by_next n
 
     by_next : (next : Option Hold) → Tells (Root root) 2 s (Stable seen next) t → Passed n root wanted 0 None None next s t
     by_next None (null, slots, puts) =
-        let hands = subst (λ (z : Slots). Hands s.slots z (hand None 0 ∷ hand None 0 ∷ hand None 0 ∷ [])) (sym slots) (hands_with_none s.slots s.slots (hand None 0 ∷ hand None 0 ∷ []) 0 none) in
+        let hands = subst (λ (z : Slots). Hands s.slots z (hand None 0 ∷ hand None 0 ∷ hand None 0 ∷ [])) (sym slots)
+        (hands_with_none s.slots s.slots (hand None 0 ∷ hand None 0 ∷ []) 0 none) in
         starts n root wanted seen.mark None 0 s t [] root_is hands tt puts (tt, tt) (omega arith) (omega arith) refl refl refl looks.fresh holds all
     by_next (Some h) (next_id, one, some, marked, null, at_slot, slots, puts) =
-        let hands = hands_take s.slots s.slots t.slots (hand None 0 ∷ hand None 0 ∷ []) h next_id none (tt, (tt, tt)) (subst (λ (i : ℕ). slice_get s.slots i ≡ Some None) (sym at_slot) room.two.empty)
+        let hands = hands_take s.slots s.slots t.slots (hand None 0 ∷ hand None 0 ∷ []) h next_id none (tt, (tt, tt))
+        (subst (λ (i : ℕ). slice_get s.slots i ≡ Some None) (sym at_slot) room.two.empty)
         (subst (λ (i : ℕ). t.slots ≡ slice_set s.slots i (Some (record { row = h.row; id = next_id }))) (sym at_slot) slots) in
-        starts n root wanted seen.mark (Some h) next_id s t (event_of s (Look (Root root) one) None ∷ []) root_is hands (λ e. omega (arith, e, at_slot)) puts (tt, (tt, tt)) (omega arith) (omega arith) refl refl refl looks.fresh holds all
+        starts n root wanted seen.mark (Some h) next_id s t (event_of s (Look (Root root) one) None ∷ []) root_is hands (λ e. omega (arith, e, at_slot))
+        puts (tt, (tt, tt)) (omega arith) (omega arith) refl refl refl looks.fresh holds all
 
 pub start_moved : (n : HeapNumbers) (root : ℕ) (s t : Seat ChainNote) → Looks (Root root) 2 s Moved t → AllAllowed (ChainMay n) [] t.seen → FindsMoved s t
 start_moved n root s t looks all =

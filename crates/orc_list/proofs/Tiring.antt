@@ -1,5 +1,5 @@
 -- One turn after another, for a call that keeps no node.
-use Rattle.std.proofs.Common.{Bool, List, None, Ok, Option, Result, Some, [], arith, false, inl, inr, refl, subst, sym, true, ℕ, ◌++◌, ◌+◌, ◌∙◌, ◌∷◌, ◌≡◌, ◌≢◌, ◌≤◌}
+use Rattle.std.proofs.Common.{Bool, List, None, Ok, Option, Some, [], arith, false, inr, refl, subst, true, ℕ, ◌++◌, ◌+◌, ◌∙◌, ◌∷◌, ◌≤◌}
 use Rattle.orc_heap.proofs.Pieces.{own_part_right}
 use Rattle.orc_heap.specs.Heap.{Heap, HeapNumbers}
 use Rattle.orc_heap.specs.Seats.{Seat, heap_of}
@@ -7,7 +7,7 @@ use Rattle.orc_history.specs.declared.set.SetEntry.{SetEntry}
 use Rattle.orc_history.specs.declared.set.SetEntry.TheVariants.{Asked, Removed}
 use Rattle.orc_chain_rule.specs.declared.chain.ChainNote.{ChainNote}
 use Rattle.orc_list.specs.Answers.{AsksTurns, RemovesTurns}
-use Rattle.orc_list.specs.Turns.{Answers, AsksTurn, LeavesOff, Made, RemovesTurn, TakesKey, TakesOut, Tires}
+use Rattle.orc_list.specs.Turns.{Answers, AsksTurn, LeavesOff, Made, RemovesTurn, TakesKey, Tires}
 use Rattle.orc_list.proofs.Making.{made_most, made_next, over_next, over_none}
 use Rattle.orc_list.proofs.Seen.{loads-append, sees_right, sees_run_right}
 use Rattle.orc_heap.specs.declared.events.Event.{Event}
@@ -16,9 +16,17 @@ pub tires_none : (s : Seat ChainNote) → Tires 0 s s
 tires_none s = record { own = []; over = over_none s; loads = tt; slots = refl; fresh = refl }
 
 pub tires_next : (turns : ℕ) (s t u : Seat ChainNote) → Tires turns s t → Tires 1 t u → Tires (turns + 1) s u
-tires_next turns s t u w f = record { own = w.own ++ f.own; over = over_next 0 0 turns s t u w.own f.own w.over f.over; loads = loads-append w.own f.own w.loads f.loads; slots = f.slots ∙ w.slots; fresh = f.fresh ∙ w.fresh }
+tires_next turns s t u w f = record {
+  own = w.own ++ f.own;
+  over = over_next 0 0 turns s t u w.own f.own w.over f.over;
+  loads = loads-append w.own f.own
+      w.loads f.loads;
+  slots = f.slots ∙ w.slots;
+  fresh = f.fresh ∙ w.fresh;
+}
 
-pub tires_answer : (turns most : ℕ) (s t u : Seat ChainNote) (entry : SetEntry) → Tires turns s t → Answers 1 t entry u → turns + 1 ≤ most → Answers most s entry u
+pub tires_answer : (turns most : ℕ) (s t u : Seat ChainNote) (entry : SetEntry) → Tires turns s t → Answers 1 t entry u → turns + 1 ≤ most
+    → Answers most s entry u
 tires_answer turns most s t u entry w a low = record {
   own = w.own ++ a.own;
   made = made_most 0 (turns + 1) most s u (w.own ++ a.own) (entry ∷ []) (made_next 0 0 turns s t u w.own a.own (entry ∷ []) w.over a.made) low;
@@ -26,13 +34,18 @@ tires_answer turns most s t u entry w a low = record {
   fresh = a.fresh ∙ w.fresh;
 }
 
-pub asks_answer : (key turns most : ℕ) (s t u : Seat ChainNote) (answer : Bool) → Tires turns s t → AsksTurn key t (Some answer) u → turns + 1 ≤ most → AsksTurns key most s (Ok answer) u
-asks_answer key turns most s t u answer w a low =
-    ((λ e. omega (arith, e, low)), tires_answer turns most s t u (Asked s.agent key answer) w (subst (λ (x : ℕ). Answers 1 t (Asked x key answer) u) w.over.made.puts.agent a) low)
+pub asks_answer : (key turns most : ℕ) (s t u : Seat ChainNote) (answer : Bool) → Tires turns s t → AsksTurn key t (Some answer) u → turns + 1 ≤ most
+    → AsksTurns key most s (Ok answer) u
+asks_answer key turns most s t u answer w a low = (
+  (λ e. omega (arith, e, low)),
+  tires_answer turns most s t u (Asked s.agent key answer) w
+      (subst (λ (x : ℕ). Answers 1 t (Asked x key answer) u) w.over.made.puts.agent a) low,
+)
 
 -- a turn of a remove, and what was worn in a longer stretch
 
-pub turn_wider : (n : HeapNumbers) (key turns : ℕ) (Worn More : Type 0) (s t : Seat ChainNote) (result : Option Bool) → (Worn → More) → RemovesTurn n key Worn turns s result t → RemovesTurn n key More turns s result t
+pub turn_wider : (n : HeapNumbers) (key turns : ℕ) (Worn More : Type 0) (s t : Seat ChainNote) (result : Option Bool) → (Worn → More)
+    → RemovesTurn n key Worn turns s result t → RemovesTurn n key More turns s result t
 turn_wider n key turns Worn More s t None wider r = r
 turn_wider n key turns Worn More s t (Some false) wider r = r
 turn_wider n key turns Worn More s t (Some true) wider r = record { answers = r.answers; off = λ alone none. r.off alone (λ w. none (wider w)) }
@@ -54,15 +67,21 @@ leaves_right key es fs h l = record {
   off = l.off;
 }
 
-pub removes_answer : (n : HeapNumbers) (key turns most : ℕ) (Worn More : Type 0) (s t u : Seat ChainNote) (answer : Bool) → (Worn → More) → Tires turns s t → RemovesTurn n key Worn 1 t (Some answer) u → turns + 1 ≤ most
+pub removes_answer : (n : HeapNumbers) (key turns most : ℕ) (Worn More : Type 0) (s t u : Seat ChainNote) (answer : Bool) → (Worn → More) → Tires turns s t
+    → RemovesTurn n key Worn 1 t (Some answer) u → turns + 1 ≤ most
     → RemovesTurns n key More most s (Ok answer) u
-removes_answer n key turns most Worn More s t u false wider w a low =
-    ((λ e. omega (arith, e, low)), tires_answer turns most s t u (Removed s.agent key false) w (subst (λ (x : ℕ). Answers 1 t (Removed x key false) u) w.over.made.puts.agent a) low)
+removes_answer n key turns most Worn More s t u false wider w a low = (
+  (λ e. omega (arith, e, low)),
+  tires_answer turns most s t u (Removed s.agent key false) w
+      (subst (λ (x : ℕ). Answers 1 t (Removed x key false) u) w.over.made.puts.agent a) low,
+)
 removes_answer n key turns most Worn More s t u true wider w a low =
     let own = w.own ++ a.answers.own in
     let agent = w.over.made.puts.agent in
-    let last : Made 0 1 t a.answers.own (Removed s.agent key true ∷ []) u = subst (λ (x : ℕ). Made 0 1 t a.answers.own (Removed x key true ∷ []) u) agent a.answers.made in
-    let made = made_most 0 (turns + 1) most s u own (Removed s.agent key true ∷ []) (made_next 0 0 turns s t u w.own a.answers.own (Removed s.agent key true ∷ []) w.over last) low in (
+    let last : Made 0 1 t a.answers.own (Removed s.agent key true ∷ []) u = subst (λ (x : ℕ). Made 0 1 t a.answers.own (Removed x key true ∷ []) u) agent
+    a.answers.made in
+    let made = made_most 0 (turns + 1) most s u own (Removed s.agent key true ∷ []) (made_next 0 0 turns s t u w.own a.answers.own
+    (Removed s.agent key true ∷ []) w.over last) low in (
       (λ e. omega (arith, e, low)),
       record {
         answers = record { own = own; made = made; slots = a.answers.slots ∙ w.slots; fresh = a.answers.fresh ∙ w.fresh };

@@ -1,6 +1,6 @@
 -- Why a call of the list is refused: facts of a journal and two places in it.
 use Rattle.std.specs.List.{list_all}
-use Rattle.std.specs.Prelude.{List, drop, if◌then◌else◌, length, take, true, zero, ℕ, [], ◌∷◌, ◌+◌, ◌<◌, ◌==◌, ◌≡◌, ◌≢◌, ◌≤◌}
+use Rattle.std.specs.Prelude.{List, drop, if◌then◌else◌, length, take, true, ℕ, [], ◌∷◌, ◌+◌, ◌<◌, ◌==◌, ◌≡◌, ◌≢◌, ◌≤◌}
 use Rattle.orc_fault.specs.declared.Spent.{Spent as SpentRow}
 use Rattle.orc_heap.specs.Moves.{move_with}
 use Rattle.orc_heap.specs.declared.events.Event.{Event}

@@ -83,7 +83,8 @@ pub record EndsWith (node : Option Hold) (slots : Slots) (t : Seat ChainNote) : 
   pub fresh : (t.fresh ≡ None) ⊎ (t.fresh ≡ node_of node id)
 
 -- the pass has a node for the key, and a search found where the key belongs: so far it made only loads, and what gives the node
-pub record AddsAt (n : HeapNumbers) (root key : ℕ) (left first right : Option Hold) (node : Hold) (given : ℕ) (slots : Slots) (s t : Seat ChainNote) : Type 0 where
+pub record AddsAt (n : HeapNumbers) (root key : ℕ) (left first right : Option Hold) (node : Hold) (given : ℕ) (slots : Slots) (s t : Seat ChainNote) : Type
+    0 where
   pub own : List (Event ChainNote)
   pub puts : Puts s own t
   pub some : 1 ≤ length own
@@ -146,7 +147,8 @@ pub record InsertsOn (n : HeapNumbers) (key turns : ℕ) (slots : Slots) (node k
   pub keeps : KeepsNode n key kept slots t
 
 -- turns of which the last entered these entries
-pub record InsertEnds (turns : ℕ) (slots : Slots) (node kept : Option Hold) (s : Seat ChainNote) (own : List (Event ChainNote)) (entries : List SetEntry) (t : Seat ChainNote) : Type 0 where
+pub record InsertEnds (turns : ℕ) (slots : Slots) (node kept : Option Hold) (s : Seat ChainNote) (own : List (Event ChainNote)) (entries : List SetEntry)
+    (t : Seat ChainNote) : Type 0 where
   pub given : ℕ
   pub made : Made given turns s own entries t
   pub count : count_of node + given ≡ count_of kept
@@ -155,7 +157,8 @@ pub record InsertEnds (turns : ℕ) (slots : Slots) (node kept : Option Hold) (s
 -- so many turns of an insert, by the answer of the last: with this node in hand before, and with the other one after them
 abbrev pub Inserts : HeapNumbers → ℕ → ℕ → Slots → Option Hold → Seat ChainNote → InsertTurn → Option Hold → Seat ChainNote → Type 0
 Inserts n key turns slots node s Over kept t = InsertsOn n key turns slots node kept s t
-Inserts n key turns slots node s (Answered answer) kept t = (own : List (Event ChainNote)) × InsertEnds turns slots node kept s own (Added s.agent key answer ∷ []) t
+Inserts n key turns slots node s (Answered answer) kept t = (own : List (Event ChainNote)) × InsertEnds turns slots node kept s own
+    (Added s.agent key answer ∷ []) t
 Inserts n key turns slots node s NoNode kept t = (own : List (Event ChainNote)) × InsertEnds turns slots node kept s own [] t × SeesAbsent n key own t
 Inserts n key turns slots node s (Spent why) kept t = (own : List (Event ChainNote)) × InsertEnds turns slots node kept s own [] t
 

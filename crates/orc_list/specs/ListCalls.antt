@@ -40,15 +40,18 @@ module _ {L D P S : Type 0} (members : LinksOf L D P S ChainNote) (links : L) wh
 
   -- all turns were used in the call's part of the journal: as many Moves of other agents stand there
   abbrev pub UsesAllTurns : ℕ → P → P → Type 0
-  UsesAllTurns turns old new = InCall members links old new (UsesTurns members.agent_of (members.events links) (agent members links old) turns (members.journal new))
+  UsesAllTurns turns old new = InCall members links old new (UsesTurns members.agent_of (members.events links) (agent members links old) turns
+      (members.journal new))
 
   -- no row could be given to the call's agent in the call's part of the journal
   abbrev pub LacksRow : P → P → Type 0
-  LacksRow old new = WithinPart members.agent_of (agent members links old) (members.journal old) (members.journal new) (members.lacking links (agent members links old) (members.journal new))
+  LacksRow old new = WithinPart members.agent_of (agent members links old) (members.journal old) (members.journal new)
+      (members.lacking links (agent members links old) (members.journal new))
 
   -- the call's agent read this row's sequence at its limit in the call's part of the journal
   abbrev pub FindsWorn : Spent → P → P → Type 0
-  FindsWorn why old new = WithinPart members.agent_of (agent members links old) (members.journal old) (members.journal new) (members.worn links (agent members links old) why (members.journal new))
+  FindsWorn why old new = WithinPart members.agent_of (agent members links old) (members.journal old) (members.journal new)
+      (members.worn links (agent members links old) why (members.journal new))
 
   -- it read no row's sequence at its limit
   abbrev pub FindsNoneWorn : P → P → Type 0

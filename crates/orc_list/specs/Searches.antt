@@ -95,7 +95,8 @@ node_of (Some h) id = Some id
 
 -- the left place showed an unmarked link in this search, and it lies below the key; from the link on a run of marked nodes leads
 -- to this target. Own Looks found so
-pub record LeadsOver (n : HeapNumbers) (root wanted : ℕ) (left first : Option Hold) (left_id first_id : ℕ) (to : Option ℕ) (s : Seat ChainNote) (own : List (Event ChainNote)) (t : Seat ChainNote) (part : List (Event ChainNote)) : Type 0 where
+pub record LeadsOver (n : HeapNumbers) (root wanted : ℕ) (left first : Option Hold) (left_id first_id : ℕ) (to : Option ℕ) (s : Seat ChainNote)
+    (own : List (Event ChainNote)) (t : Seat ChainNote) (part : List (Event ChainNote)) : Type 0 where
   pub from : Link
   pub plain : from.mark ≡ false
   pub below : FollowsOn n.roots (heap_of n t) (left_place root left left_id) wanted
@@ -107,7 +108,8 @@ pub record LeadsOver (n : HeapNumbers) (root wanted : ℕ) (left first : Option 
   pub sees_run : SeesRun own from over to
 
 -- a search has come so far: behind the left place, over a run of marked nodes, stands this target
-pub record Behind (n : HeapNumbers) (root wanted : ℕ) (left first : Option Hold) (left_id first_id : ℕ) (to : Option ℕ) (s : Seat ChainNote) (own : List (Event ChainNote)) (t : Seat ChainNote) : Type 0 where
+pub record Behind (n : HeapNumbers) (root wanted : ℕ) (left first : Option Hold) (left_id first_id : ℕ) (to : Option ℕ) (s : Seat ChainNote)
+    (own : List (Event ChainNote)) (t : Seat ChainNote) : Type 0 where
   pub quiet : Quiet s own t
   pub leads : LeadsOver n root wanted left first left_id first_id to s own t quiet.puts.part
 
@@ -134,7 +136,8 @@ NextFollows n id None t = Unit {0}
 NextFollows n id (Some next) t = (key : ℕ) × HasKey (heap_of n t) next key × FollowsOn n.roots (heap_of n t) (Next id) key
 
 -- the search looked at the link of a node: what it saw
-pub record Looking (n : HeapNumbers) (root wanted : ℕ) (left first : Option Hold) (left_id first_id id key : ℕ) (mark : Bool) (next : Option ℕ) (s : Seat ChainNote) (own : List (Event ChainNote)) (t : Seat ChainNote) : Type 0 where
+pub record Looking (n : HeapNumbers) (root wanted : ℕ) (left first : Option Hold) (left_id first_id id key : ℕ) (mark : Bool) (next : Option ℕ)
+    (s : Seat ChainNote) (own : List (Event ChainNote)) (t : Seat ChainNote) : Type 0 where
   pub behind : Behind n root wanted left first left_id first_id (Some id) s own t
   pub is_of : IsOf n wanted id key t
   pub still : ShowsOrMoved n (Next id) (record { to = next; mark = mark }) s t behind.quiet.puts.part
@@ -144,7 +147,8 @@ pub record Looking (n : HeapNumbers) (root wanted : ℕ) (left first : Option Ho
   pub visits : Visits n (key + 1) own t
 
 -- the same, with the next node in hand
-pub record LooksOn (n : HeapNumbers) (root wanted : ℕ) (left first : Option Hold) (at : Hold) (key : ℕ) (mark : Bool) (next : Option Hold) (s t : Seat ChainNote) : Type 0 where
+pub record LooksOn (n : HeapNumbers) (root wanted : ℕ) (left first : Option Hold) (at : Hold) (key : ℕ) (mark : Bool) (next : Option Hold)
+    (s t : Seat ChainNote) : Type 0 where
   pub own : List (Event ChainNote)
   pub left_id : ℕ
   pub first_id : ℕ
@@ -184,18 +188,19 @@ pub record FindsAbsent (n : HeapNumbers) (root wanted : ℕ) (left first right :
   pub few : IsFew 2 own
 
 -- this node has the key, and showed an unmarked link to the next one in this search
-pub record FindsPresent (n : HeapNumbers) (root wanted : ℕ) (left first : Option Hold) (node : Hold) (next : Option Hold) (s t : Seat ChainNote) : Type 0 where
-  pub own : List (Event ChainNote)
-  pub left_id : ℕ
-  pub first_id : ℕ
-  pub id : ℕ
-  pub next_id : ℕ
-  pub hands : Hands s.slots t.slots (hand left left_id ∷ hand first first_id ∷ hand (Some node) id ∷ hand next next_id ∷ [])
-  pub behind : Behind n root wanted left first left_id first_id (Some id) s own t
-  pub is_of : IsOf n wanted id wanted t
-  pub still : ShowsOrMoved n (Next id) (link_over (node_of next next_id)) s t behind.quiet.puts.part
-  pub follows : NextFollows n id (node_of next next_id) t
-  pub few : IsFew 2 own
+pub record FindsPresent (n : HeapNumbers) (root wanted : ℕ) (left first : Option Hold) (node : Hold) (next : Option Hold) (s t : Seat ChainNote) : Type 0
+  where
+    pub own : List (Event ChainNote)
+    pub left_id : ℕ
+    pub first_id : ℕ
+    pub id : ℕ
+    pub next_id : ℕ
+    pub hands : Hands s.slots t.slots (hand left left_id ∷ hand first first_id ∷ hand (Some node) id ∷ hand next next_id ∷ [])
+    pub behind : Behind n root wanted left first left_id first_id (Some id) s own t
+    pub is_of : IsOf n wanted id wanted t
+    pub still : ShowsOrMoved n (Next id) (link_over (node_of next next_id)) s t behind.quiet.puts.part
+    pub follows : NextFollows n id (node_of next next_id) t
+    pub few : IsFew 2 own
 
 -- a link moved meanwhile; the pass holds what it held
 pub record FindsMoved (s t : Seat ChainNote) : Type 0 where

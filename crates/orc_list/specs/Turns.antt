@@ -1,25 +1,22 @@
 -- What the turns of a call do. After Harris 2001.
-use Rattle.std.specs.Borrow.{Bor}
 use Rattle.std.specs.List.{Contains}
-use Rattle.std.specs.Prelude.{Bool, List, MatchBool, None, Option, Result, Ok, Err, Some, [], false, length, slice_get, slice_set, true, ℕ, ◌*◌, ◌++◌, ◌+◌, ◌∷◌, ◌≡◌, ◌≢◌, ◌≤◌, ◌⊎◌}
-use Rattle.orc_fault.specs.declared.Spent.{Spent}
+use Rattle.std.specs.Prelude.{Bool, List, MatchBool, None, Option, Some, [], false, length, true, ℕ, ◌*◌, ◌++◌, ◌+◌, ◌∷◌, ◌≡◌, ◌≤◌, ◌⊎◌}
 use Rattle.orc_heap.specs.Calls.{Misses, event_of}
 use Rattle.orc_heap.specs.Heap.{Heap, HeapNumbers, link_to}
 use Rattle.orc_heap.specs.Moves.{AllOwn, from_own, gives_in, moves_in}
 use Rattle.orc_heap.specs.OwnEvents.{Puts}
 use Rattle.orc_heap.specs.Seats.{Seat, heap_of}
-use Rattle.orc_heap.specs.Slots.{Hold, Holds, Slots, id_in}
-use Rattle.orc_heap.specs.declared.events.Act.TheVariants.{Aim, Move}
+use Rattle.orc_heap.specs.Slots.{Hold, Slots, id_in}
+use Rattle.orc_heap.specs.declared.events.Act.TheVariants.{Move}
 use Rattle.orc_heap.specs.declared.events.Event.{Event}
 use Rattle.orc_heap.specs.declared.events.Link.{Link}
 use Rattle.orc_heap.specs.declared.events.Place.{Place}
 use Rattle.orc_heap.specs.declared.events.Place.TheVariants.{Next, Root}
 use Rattle.orc_history.specs.declared.set.SetEntry.{SetEntry}
 use Rattle.orc_history.specs.declared.set.SetEntry.TheVariants.{Added, Asked, Removed}
-use Rattle.orc_chain_rule.specs.Watches.{node_to_add}
 use Rattle.orc_chain_rule.specs.declared.chain.ChainNote.{ChainNote}
 use Rattle.orc_chain_rule.specs.declared.chain.ChainNote.TheVariants.{Entry, Unlink}
-use Rattle.orc_chain_rule.specs.ChainDiscipline.{FollowsOn, IsAbove, IsOnNoChain, entries_of, link_over}
+use Rattle.orc_chain_rule.specs.ChainDiscipline.{IsOnNoChain, entries_of, link_over}
 use Rattle.orc_list.specs.Searches.{AreLoads, CoversLooks, Sees, SeesRun}
 
 -- the left place, by what the pass holds
@@ -92,18 +89,21 @@ AsksTurn key s (Some answer) t = Answers 1 s (Asked s.agent key answer) t
 pub record Marks (key id : ℕ) (to : Option ℕ) (s : Seat ChainNote) (done : Bool) (t : Seat ChainNote) : Type 0 where
   pub slots : t.slots ≡ s.slots
   pub fresh : t.fresh ≡ s.fresh
-  pub puts : MatchBool done (Puts s (event_of s (Move (Next id) (link_over to) (record { to = to; mark = true })) (Some (Entry (Removed s.agent key true))) ∷ []) t) (Misses (Next id) (link_over to) s t)
+  pub puts : MatchBool done (Puts s (event_of s (Move (Next id) (link_over to) (record { to = to; mark = true }))
+      (Some (Entry (Removed s.agent key true))) ∷ []) t) (Misses (Next id) (link_over to) s t)
 
 -- the place was led past the run, or showed another link, or something was worn
 pub record TriesUnlink (place : Place) (first : ℕ) (to : Option ℕ) (IsWorn : Type 0) (s t : Seat ChainNote) : Type 0 where
   pub slots : t.slots ≡ s.slots
   pub fresh : t.fresh ≡ s.fresh
-  pub either : (Puts s (event_of s (Move place (link_to first) (link_over to)) (Some Unlink) ∷ []) t ⊎ Misses place (link_to first) s t) ⊎ (IsWorn × Puts s [] t)
+  pub either : (Puts s (event_of s (Move place (link_to first) (link_over to))
+      (Some Unlink) ∷ []) t ⊎ Misses place (link_to first) s t) ⊎ (IsWorn × Puts s [] t)
 
 -- one of these events takes the key out at this node: it marks the node's link
 abbrev pub TakesKey : List (Event ChainNote) → ℕ → ℕ → Type 0
 TakesKey [] key id = ⊥
-TakesKey (e ∷ es) key id = ((from : Link) × (to : Link) × (e.act ≡ Move (Next id) from to) × (e.note ≡ Some (Entry (Removed e.agent key true)))) ⊎ TakesKey es key id
+TakesKey (e ∷ es) key id = ((from : Link) × (to : Link) × (e.act ≡ Move (Next id) from to) × (e.note ≡ Some (Entry (Removed e.agent key true)))) ⊎ TakesKey
+    es key id
 
 -- these events took the key out at a node, to which Looks among them found an unmarked link lead over a run of marked nodes; and
 -- neither the node nor one of the run is on a chain
@@ -133,3 +133,8 @@ abbrev pub RemovesTurn : HeapNumbers → ℕ → Type 0 → ℕ → Seat ChainNo
 RemovesTurn n key IsWorn turns s None t = Tires turns s t
 RemovesTurn n key IsWorn turns s (Some false) t = Answers turns s (Removed s.agent key false) t
 RemovesTurn n key IsWorn turns s (Some true) t = TakesOut n key IsWorn turns s t
+
+-- the pass holds what it held
+pub record HoldsWhatItHeld (s t : Seat ChainNote) : Type 0 where
+  pub slots : t.slots ≡ s.slots
+  pub fresh : t.fresh ≡ s.fresh

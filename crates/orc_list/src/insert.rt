@@ -39,7 +39,8 @@ pub enum InsertTurn {
 // The node, if there is one.
 fn node_in<'a>(node: &'a Option<Held>) -> Option<&'a Held>
     ensures target { (slots : Slots) → target_in slots result ≡ target_at slots node.now }
-    ensures held { (s : Seat ChainNote) → HoldsIfAny s.slots node.now → ((id : ℕ) → target_at s.slots node.now ≡ Some id → s.fresh ≢ Some id) → HoldsTarget s result }
+    ensures held { (s : Seat ChainNote) → HoldsIfAny s.slots node.now → ((id : ℕ) → target_at s.slots node.now ≡ Some id → s.fresh ≢ Some id)
+        → HoldsTarget s result }
 {
     match node {
         Some(node) => Some(node),
@@ -61,16 +62,21 @@ fn link_node<L: Links<Rule = Chain>>(
     requires pass { L.belongs links.now p.old }
     requires root { root < (L.numbers links.now).roots }
     requires node { (id : ℕ) × HoldsKey (L.numbers links.now) key node.now id (L.seat links.now p.old) }
-    requires held { HoldsIfAny (L.seat links.now p.old).slots left.now × HoldsIfAny (L.seat links.now p.old).slots first.now × HoldsIfAny (L.seat links.now p.old).slots right.now }
-    requires below { FollowsOn (L.numbers links.now).roots (heap_of (L.numbers links.now) (L.seat links.now p.old)) (place_at (L.seat links.now p.old).slots root left.now) key }
-    requires run { (over : List ℕ) × IsRun (heap_of (L.numbers links.now) (L.seat links.now p.old)) (link_over (target_at (L.seat links.now p.old).slots (first_or first.now right.now))) over (target_at (L.seat links.now p.old).slots right.now) }
+    requires held { HoldsIfAny (L.seat links.now p.old).slots left.now × HoldsIfAny (L.seat links.now p.old).slots first.now
+        × HoldsIfAny (L.seat links.now p.old).slots right.now }
+    requires below { FollowsOn (L.numbers links.now).roots (heap_of (L.numbers links.now) (L.seat links.now p.old)) (place_at
+        (L.seat links.now p.old).slots root left.now) key }
+    requires run { (over : List ℕ) × IsRun (heap_of (L.numbers links.now) (L.seat links.now p.old)) (link_over (target_at (L.seat links.now p.old).slots
+        (first_or first.now right.now))) over (target_at (L.seat links.now p.old).slots right.now) }
     requires above { IsAbove (heap_of (L.numbers links.now) (L.seat links.now p.old)) (target_at (L.seat links.now p.old).slots right.now) key }
     ensures pass { L.belongs links.now p.new }
     ensures later { IsPrefix (L.journal p.old) (L.journal p.new) }
     ensures linked { (id : ℕ) → HoldsKey (L.numbers links.now) key node.now id (L.seat links.now p.old)
-        → LinksTo (L.numbers links.now) key node.now id (place_at (L.seat links.now p.old).slots root left.now) (link_over (target_at (L.seat links.now p.old).slots (first_or first.now right.now)))
+        → LinksTo (L.numbers links.now) key node.now id (place_at (L.seat links.now p.old).slots root left.now) (link_over (target_at
+        (L.seat links.now p.old).slots (first_or first.now right.now)))
         (L.seat links.now p.old) result (L.seat links.now p.new) }
-    ensures worn { IfErr result (λ e. Within (length (L.journal p.old)) (length (L.journal p.new)) (L.worn links.now (L.seat links.now p.old).agent e (L.journal p.new))) }
+    ensures worn { IfErr result (λ e. Within (length (L.journal p.old)) (length (L.journal p.new)) (L.worn links.now (L.seat links.now p.old).agent e
+        (L.journal p.new))) }
 {
     links.aim(p, node, node_in(right))?;
     let agent = links.agent(p);
@@ -96,12 +102,15 @@ fn add_node<L: Links<Rule = Chain>>(
 ) -> InsertTurn
     requires pass { L.belongs links.now p.old }
     requires root { root < (L.numbers links.now).roots }
-    requires adds { (given : ℕ) × (slots : Slots) × (s : Seat ChainNote) × AddsAt (L.numbers links.now) root key spot.left spot.first spot.right node.now given slots s (L.seat links.now p.old) }
+    requires adds { (given : ℕ) × (slots : Slots) × (s : Seat ChainNote)
+        × AddsAt (L.numbers links.now) root key spot.left spot.first spot.right node.now given slots s (L.seat links.now p.old) }
     ensures pass { L.belongs links.now p.new }
     ensures later { IsPrefix (L.journal p.old) (L.journal p.new) }
-    ensures added { (given : ℕ) (slots : Slots) (s : Seat ChainNote) → (a : AddsAt (L.numbers links.now) root key spot.left spot.first spot.right node.now given slots s (L.seat links.now p.old))
+    ensures added { (given : ℕ) (slots : Slots) (s : Seat ChainNote)
+        → (a : AddsAt (L.numbers links.now) root key spot.left spot.first spot.right node.now given slots s (L.seat links.now p.old))
         → AddsNode (L.numbers links.now) key node.now a.id given slots s result (L.seat links.now p.new) }
-    ensures worn { (why : Spent) → result ≡ InsertTurn.Spent why → Within (length (L.journal p.old)) (length (L.journal p.new)) (L.worn links.now (L.seat links.now p.old).agent why (L.journal p.new)) }
+    ensures worn { (why : Spent) → result ≡ InsertTurn.Spent why → Within (length (L.journal p.old)) (length (L.journal p.new)) (L.worn links.now
+        (L.seat links.now p.old).agent why (L.journal p.new)) }
 {
     let Spot { left, first, right } = spot;
     let linked = link_node(links, p, root, key, &left, &first, &right, node);
@@ -124,14 +133,17 @@ fn add_at<L: Links<Rule = Chain>>(
 ) -> (InsertTurn, Option<Held>)
     requires pass { L.belongs links.now p.old }
     requires root { root < (L.numbers links.now).roots }
-    requires absent { (slots : Slots) × (s : Seat ChainNote) × HasRoomFor slots × KeepsNode (L.numbers links.now) key node slots s × FindsAbsent (L.numbers links.now) root key spot.left spot.first spot.right s (L.seat links.now p.old) }
+    requires absent { (slots : Slots) × (s : Seat ChainNote) × HasRoomFor slots × KeepsNode (L.numbers links.now) key node slots s
+        × FindsAbsent (L.numbers links.now) root key spot.left spot.first spot.right s (L.seat links.now p.old) }
     ensures pass { L.belongs links.now p.new }
     ensures later { IsPrefix (L.journal p.old) (L.journal p.new) }
     ensures added { (slots : Slots) (s : Seat ChainNote) → HasRoomFor slots → KeepsNode (L.numbers links.now) key node slots s
         → FindsAbsent (L.numbers links.now) root key spot.left spot.first spot.right s (L.seat links.now p.old)
         → Inserts (L.numbers links.now) key 1 slots node s result.0 result.1 (L.seat links.now p.new) }
-    ensures lacking { result.0 ≡ InsertTurn.NoNode → Within (length (L.journal p.old)) (length (L.journal p.new)) (L.lacking links.now (L.seat links.now p.old).agent (L.journal p.new)) }
-    ensures worn { (why : Spent) → result.0 ≡ InsertTurn.Spent why → Within (length (L.journal p.old)) (length (L.journal p.new)) (L.worn links.now (L.seat links.now p.old).agent why (L.journal p.new)) }
+    ensures lacking { result.0 ≡ InsertTurn.NoNode → Within (length (L.journal p.old)) (length (L.journal p.new)) (L.lacking links.now
+        (L.seat links.now p.old).agent (L.journal p.new)) }
+    ensures worn { (why : Spent) → result.0 ≡ InsertTurn.Spent why
+        → Within (length (L.journal p.old)) (length (L.journal p.new)) (L.worn links.now (L.seat links.now p.old).agent why (L.journal p.new)) }
 {
     if let Some(node) = node {
         let turn = add_node(links, p, root, key, spot, &node);
@@ -165,9 +177,11 @@ fn insert_turn<L: Links<Rule = Chain>>(
     ensures later { IsPrefix (L.journal p.old) (L.journal p.new) }
     ensures inserted { (slots : Slots) → HasRoomFor slots → KeepsNode (L.numbers links.now) key node slots (L.seat links.now p.old)
         → Inserts (L.numbers links.now) key 1 slots node (L.seat links.now p.old) result.0 result.1 (L.seat links.now p.new) }
-    ensures lacking { result.0 ≡ InsertTurn.NoNode → WithinPart L.agent_of (L.seat links.now p.old).agent (L.journal p.old) (L.journal p.new) (L.lacking links.now (L.seat links.now p.old).agent (L.journal p.new)) }
+    ensures lacking { result.0 ≡ InsertTurn.NoNode → WithinPart L.agent_of (L.seat links.now p.old).agent (L.journal p.old) (L.journal p.new)
+        (L.lacking links.now (L.seat links.now p.old).agent (L.journal p.new)) }
     ensures worn { (why : Spent) → result.0 ≡ InsertTurn.Spent why
-        → WithinPart L.agent_of (L.seat links.now p.old).agent (L.journal p.old) (L.journal p.new) (L.worn links.now (L.seat links.now p.old).agent why (L.journal p.new)) }
+        → WithinPart L.agent_of (L.seat links.now p.old).agent (L.journal p.old) (L.journal p.new) (L.worn links.now (L.seat links.now p.old).agent why
+        (L.journal p.new)) }
 {
     match search(links, p, root, key) {
         Searched::Over => (InsertTurn::Over, node),
@@ -205,9 +219,11 @@ fn insert_turns<L: Links<Rule = Chain>>(
     ensures pass { L.belongs links.now p.new }
     ensures later { IsPrefix (L.journal p.old) (L.journal p.new) }
     ensures inserted { InsertsTurns (L.numbers links.now) key turns (L.seat links.now p.old) result.0 result.1 (L.seat links.now p.new) }
-    ensures lacking { result.0 ≡ InsertTurn.NoNode → WithinPart L.agent_of (L.seat links.now p.old).agent (L.journal p.old) (L.journal p.new) (L.lacking links.now (L.seat links.now p.old).agent (L.journal p.new)) }
+    ensures lacking { result.0 ≡ InsertTurn.NoNode → WithinPart L.agent_of (L.seat links.now p.old).agent (L.journal p.old) (L.journal p.new)
+        (L.lacking links.now (L.seat links.now p.old).agent (L.journal p.new)) }
     ensures worn { (why : Spent) → result.0 ≡ InsertTurn.Spent why
-        → WithinPart L.agent_of (L.seat links.now p.old).agent (L.journal p.old) (L.journal p.new) (L.worn links.now (L.seat links.now p.old).agent why (L.journal p.new)) }
+        → WithinPart L.agent_of (L.seat links.now p.old).agent (L.journal p.old) (L.journal p.new) (L.worn links.now (L.seat links.now p.old).agent why
+        (L.journal p.new)) }
 {
     let mut node = None;
     for _ in 0..turns {
@@ -235,9 +251,11 @@ pub(crate) fn insert_key<L: Links<Rule = Chain>>(
     ensures pass { L.belongs links.now p.new }
     ensures later { IsPrefix (L.journal p.old) (L.journal p.new) }
     ensures inserted { InsertAnswers (L.numbers links.now) key turns (L.seat links.now p.old) result (L.seat links.now p.new) }
-    ensures lacking { result ≡ Err ListRefused.NoNode → WithinPart L.agent_of (L.seat links.now p.old).agent (L.journal p.old) (L.journal p.new) (L.lacking links.now (L.seat links.now p.old).agent (L.journal p.new)) }
+    ensures lacking { result ≡ Err ListRefused.NoNode → WithinPart L.agent_of (L.seat links.now p.old).agent (L.journal p.old) (L.journal p.new)
+        (L.lacking links.now (L.seat links.now p.old).agent (L.journal p.new)) }
     ensures worn { (why : Spent) → result ≡ Err (ListRefused.Spent why)
-        → WithinPart L.agent_of (L.seat links.now p.old).agent (L.journal p.old) (L.journal p.new) (L.worn links.now (L.seat links.now p.old).agent why (L.journal p.new)) }
+        → WithinPart L.agent_of (L.seat links.now p.old).agent (L.journal p.old) (L.journal p.new) (L.worn links.now (L.seat links.now p.old).agent why
+        (L.journal p.new)) }
 {
     let (turn, node) = insert_turns(links, p, root, key, turns);
     let_go(links, p, node);

@@ -10,7 +10,7 @@ ghost use Rattle.orc_list.specs.ListCalls.{Enters, EntersNone, FindsAbsent, Find
 
 use crate::answer::ask_turns;
 use crate::insert::insert_key;
-use crate::remove::remove_turns;
+use crate::remove::{remove_turns, stop_a_remove};
 use orc_chain_rule::Chain;
 use orc_fault::{Again, Spent};
 use orc_heap::Links;
@@ -96,13 +96,7 @@ impl<L: Links<Rule = Chain>> List<L> {
     /// # Errors
     ///
     /// `Again` if all tries were used up, each by a Move of another agent. With no turns it makes no event.
-    pub fn remove(
-        &self,
-        p: &mut L::Pass,
-        root: u32,
-        key: u64,
-        turns: u64,
-    ) -> Result<bool, Again>
+    pub fn remove(&self, p: &mut L::Pass, root: u32, key: u64, turns: u64) -> Result<bool, Again>
         requires pass { L.belongs self.now.links p.old }
         requires idle { IsIdle (L.seat self.now.links p.old) }
         requires root { IsRootOf L.Links self.now.links root key }
@@ -132,13 +126,7 @@ impl<L: Links<Rule = Chain>> List<L> {
     /// # Errors
     ///
     /// `Again` if all tries were used up, each by a Move of another agent. With no turns it makes no event.
-    pub fn contains(
-        &self,
-        p: &mut L::Pass,
-        root: u32,
-        key: u64,
-        turns: u64,
-    ) -> Result<bool, Again>
+    pub fn contains(&self, p: &mut L::Pass, root: u32, key: u64, turns: u64) -> Result<bool, Again>
         requires pass { L.belongs self.now.links p.old }
         requires idle { IsIdle (L.seat self.now.links p.old) }
         requires root { IsRootOf L.Links self.now.links root key }
@@ -158,5 +146,19 @@ impl<L: Links<Rule = Chain>> List<L> {
         let answer = ask_turns(&self.links, p, root, key, turns);
         self.links.settle(p);
         answer
+    }
+
+    /// Marks the node with the key in one try, and leaves it on its chain: the state in which a thread leaves the list that
+    /// is stopped in `remove` before its last step. For tests of what the others do then. Answers whether a node was marked:
+    /// none was where the key was absent, or a link moved meanwhile.
+    pub fn mark_and_stop(&self, p: &mut L::Pass, root: u32, key: u64) -> bool
+        requires pass { L.belongs self.now.links p.old }
+        requires idle { IsIdle (L.seat self.now.links p.old) }
+        requires root { IsRootOf L.Links self.now.links root key }
+        ensures pass { L.belongs self.now.links p.new }
+        ensures idle { IsIdle (L.seat self.now.links p.new) }
+        ensures later { IsPrefix (L.journal p.old) (L.journal p.new) }
+    {
+        stop_a_remove(&self.links, p, root, key)
     }
 }

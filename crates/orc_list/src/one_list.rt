@@ -1,6 +1,7 @@
 //! One list as a set that agents share.
 
 ghost use Rattle.std.specs.Prelude.{◌≡◌, ◌<◌, ◌↔◌, ℕ};
+ghost use mathlib.Core.List.{IsPrefix};
 ghost use Rattle.orc_heap.specs.Domains.{agent};
 ghost use Rattle.orc_history.specs.declared.set.ListRefused.{ListRefused};
 ghost use Rattle.orc_list.specs.SetMembers.{HasCause, IsUsable, set_history};
@@ -21,14 +22,12 @@ pub struct OneList<L: Links<Rule = Chain>> {
 }
 
 impl<L: Links<Rule = Chain>> OneList<L> {
-    /// The set of a domain with one root.
-    pub fn new(links: L) -> OneList<L>
-        requires { (L.numbers links).roots ≡ 1 }
-        ensures { result.list.links ≡ links }
+    /// The set of the one list of a domain with one root.
+    pub fn new(list: List<L>) -> OneList<L>
+        requires { (L.numbers list.links).roots ≡ 1 }
+        ensures { result.list ≡ list }
     {
-        OneList {
-            list: List::new(links),
-        }
+        OneList { list }
     }
 
     /// The domain of links that the set stands on.
@@ -44,6 +43,15 @@ impl<L: Links<Rule = Chain>> OneList<L> {
     {
         let OneList { list } = self;
         list.into_links()
+    }
+
+    /// Marks the node with the key in one try, and leaves it on the chain, as `List::mark_and_stop` does.
+    pub fn mark_and_stop(&self, p: &mut L::Pass, key: u64) -> bool
+        requires usable { IsUsable L.Links self.now.list.links p.old }
+        ensures usable { IsUsable L.Links self.now.list.links p.new }
+        ensures later { IsPrefix (L.journal p.old) (L.journal p.new) }
+    {
+        self.list.mark_and_stop(p, 0, key)
     }
 
     /// What the members of `SharedSet` and `LearnSet` mean here: the history is that of the domain's events; the domain's

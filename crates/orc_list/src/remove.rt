@@ -10,11 +10,11 @@ ghost use Rattle.orc_chain_rule.specs.declared.chain.ChainNote.{ChainNote};
 ghost use Rattle.orc_list.specs.Answers.{RemovesTurns};
 ghost use Rattle.orc_list.specs.Causes.{HasWorn};
 ghost use Rattle.orc_list.specs.Searches.{FindsPresent, HasRoom, HoldsIfAny, NextFollows};
-ghost use Rattle.orc_list.specs.Turns.{Marks, RemovesNode, RemovesTurn, TriesUnlink, place_at, target_at};
+ghost use Rattle.orc_list.specs.Turns.{HoldsWhatItHeld, Marks, RemovesNode, RemovesTurn, TriesUnlink, place_at, target_at};
 
 use crate::answer::enter_absent;
 use crate::search::{Searched, search};
-use crate::spot::{let_all_go, link_to, node_or, place_of};
+use crate::spot::{Spot, let_all_go, link_to, node_or, place_of};
 use orc_chain_rule::{Chain, ChainNote};
 use orc_fault::Again;
 use orc_heap::{At, Held, Links, Want};
@@ -32,10 +32,12 @@ fn mark_node<L: Links<Rule = Chain>>(
     requires node { Holds (L.seat links.now p.old).slots node.now }
     requires next { HoldsIfAny (L.seat links.now p.old).slots next.now }
     requires key { HasKey (heap_of (L.numbers links.now) (L.seat links.now p.old)) (id_in (L.seat links.now p.old).slots node.now) key }
-    requires follows { NextFollows (L.numbers links.now) (id_in (L.seat links.now p.old).slots node.now) (target_at (L.seat links.now p.old).slots next.now) (L.seat links.now p.old) }
+    requires follows { NextFollows (L.numbers links.now) (id_in (L.seat links.now p.old).slots node.now) (target_at
+        (L.seat links.now p.old).slots next.now) (L.seat links.now p.old) }
     ensures pass { L.belongs links.now p.new }
     ensures later { IsPrefix (L.journal p.old) (L.journal p.new) }
-    ensures marked { Marks key (id_in (L.seat links.now p.old).slots node.now) (target_at (L.seat links.now p.old).slots next.now) (L.seat links.now p.old) result (L.seat links.now p.new) }
+    ensures marked { Marks key (id_in (L.seat links.now p.old).slots node.now) (target_at (L.seat links.now p.old).slots next.now)
+        (L.seat links.now p.old) result (L.seat links.now p.new) }
 {
     let agent = links.agent(p);
     let yes = true;
@@ -63,14 +65,17 @@ fn unlink_run<L: Links<Rule = Chain>>(
 )
     requires pass { L.belongs links.now p.old }
     requires root { root < (L.numbers links.now).roots }
-    requires held { HoldsIfAny (L.seat links.now p.old).slots left.now × Holds (L.seat links.now p.old).slots first.now × HoldsIfAny (L.seat links.now p.old).slots next.now }
+    requires held { HoldsIfAny (L.seat links.now p.old).slots left.now × Holds (L.seat links.now p.old).slots first.now
+        × HoldsIfAny (L.seat links.now p.old).slots next.now }
     requires left { IsLinkedPlace (place_at (L.seat links.now p.old).slots root left.now) (heap_of (L.numbers links.now) (L.seat links.now p.old)) }
-    requires run { (others : List ℕ) × IsRun (heap_of (L.numbers links.now) (L.seat links.now p.old)) (link_over (target_at (L.seat links.now p.old).slots (Some first.now)))
+    requires run { (others : List ℕ) × IsRun (heap_of (L.numbers links.now) (L.seat links.now p.old)) (link_over (target_at (L.seat links.now p.old).slots
+        (Some first.now)))
         (id_in (L.seat links.now p.old).slots first.now ∷ others) (target_at (L.seat links.now p.old).slots next.now) }
     requires follows { (id : ℕ) × NextFollows (L.numbers links.now) id (target_at (L.seat links.now p.old).slots next.now) (L.seat links.now p.old) }
     ensures pass { L.belongs links.now p.new }
     ensures later { IsPrefix (L.journal p.old) (L.journal p.new) }
-    ensures tried { TriesUnlink (place_at (L.seat links.now p.old).slots root left.now) (id_in (L.seat links.now p.old).slots first.now) (target_at (L.seat links.now p.old).slots next.now)
+    ensures tried { TriesUnlink (place_at (L.seat links.now p.old).slots root left.now) (id_in (L.seat links.now p.old).slots first.now) (target_at
+        (L.seat links.now p.old).slots next.now)
         (HasWorn (L.worn links.now (L.seat links.now p.old).agent) (L.journal p.old) (L.journal p.new))
         (L.seat links.now p.old) (L.seat links.now p.new) }
 {
@@ -100,7 +105,8 @@ fn take_out<L: Links<Rule = Chain>>(
     ensures pass { L.belongs links.now p.new }
     ensures later { IsPrefix (L.journal p.old) (L.journal p.new) }
     ensures removed { (s : Seat ChainNote) → FindsPresent (L.numbers links.now) root key left first node next s (L.seat links.now p.old)
-        → RemovesNode (L.numbers links.now) key (HasWorn (L.worn links.now (L.seat links.now p.old).agent) (L.journal p.old) (L.journal p.new)) s result (L.seat links.now p.new) }
+        → RemovesNode (L.numbers links.now) key (HasWorn (L.worn links.now (L.seat links.now p.old).agent) (L.journal p.old) (L.journal p.new)) s result
+        (L.seat links.now p.new) }
 {
     if !mark_node(links, p, key, &node, &next) {
         let_all_go(links, p, left, first, Some(node), next);
@@ -123,7 +129,8 @@ fn remove_turn<L: Links<Rule = Chain>>(
     requires room { HasRoom (L.seat links.now p.old).slots }
     ensures pass { L.belongs links.now p.new }
     ensures later { IsPrefix (L.journal p.old) (L.journal p.new) }
-    ensures removed { RemovesTurn (L.numbers links.now) key (HasWorn (L.worn links.now (L.seat links.now p.old).agent) (L.journal p.old) (L.journal p.new)) 1
+    ensures removed { RemovesTurn (L.numbers links.now) key (HasWorn (L.worn links.now (L.seat links.now p.old).agent) (L.journal p.old)
+        (L.journal p.new)) 1
         (L.seat links.now p.old) result (L.seat links.now p.new) }
 {
     let agent = links.agent(p);
@@ -166,7 +173,8 @@ pub(crate) fn remove_turns<L: Links<Rule = Chain>>(
     requires room { HasRoom (L.seat links.now p.old).slots }
     ensures pass { L.belongs links.now p.new }
     ensures later { IsPrefix (L.journal p.old) (L.journal p.new) }
-    ensures removed { RemovesTurns (L.numbers links.now) key (HasWorn (L.worn links.now (L.seat links.now p.old).agent) (L.journal p.old) (L.journal p.new)) turns
+    ensures removed { RemovesTurns (L.numbers links.now) key (HasWorn (L.worn links.now (L.seat links.now p.old).agent) (L.journal p.old)
+        (L.journal p.new)) turns
         (L.seat links.now p.old) result (L.seat links.now p.new) }
 {
     for _ in 0..turns {
@@ -175,4 +183,57 @@ pub(crate) fn remove_turns<L: Links<Rule = Chain>>(
         }
     }
     Err(Again)
+}
+
+// Marks the node that a search found, and lets all nodes go.
+fn mark_and_go<L: Links<Rule = Chain>>(
+    links: &L,
+    p: &mut L::Pass,
+    root: u32,
+    key: u64,
+    left: Option<Held>,
+    first: Option<Held>,
+    node: Held,
+    next: Option<Held>,
+) -> bool
+    requires pass { L.belongs links.now p.old }
+    requires root { root < (L.numbers links.now).roots }
+    requires present { (s : Seat ChainNote) × FindsPresent (L.numbers links.now) root key left first node next s (L.seat links.now p.old) }
+    ensures pass { L.belongs links.now p.new }
+    ensures later { IsPrefix (L.journal p.old) (L.journal p.new) }
+    ensures held { (s : Seat ChainNote) → FindsPresent (L.numbers links.now) root key left first node next s (L.seat links.now p.old)
+        → HoldsWhatItHeld s (L.seat links.now p.new) }
+{
+    let marked = mark_node(links, p, key, &node, &next);
+    let_all_go(links, p, left, first, Some(node), next);
+    marked
+}
+
+// Marks the node with the key, in one turn, and stops before any place is led past it.
+pub(crate) fn stop_a_remove<L: Links<Rule = Chain>>(
+    links: &L,
+    p: &mut L::Pass,
+    root: u32,
+    key: u64,
+) -> bool
+    requires pass { L.belongs links.now p.old }
+    requires root { (root < (L.numbers links.now).roots) × (root ≡ key % (L.numbers links.now).roots) }
+    requires room { HasRoom (L.seat links.now p.old).slots }
+    ensures pass { L.belongs links.now p.new }
+    ensures later { IsPrefix (L.journal p.old) (L.journal p.new) }
+    ensures held { HoldsWhatItHeld (L.seat links.now p.old) (L.seat links.now p.new) }
+{
+    match search(links, p, root, key) {
+        Searched::Over => false,
+        Searched::Absent(Spot { left, first, right }) => {
+            let_all_go(links, p, left, first, right, None);
+            false
+        }
+        Searched::Present {
+            left,
+            first,
+            node,
+            next,
+        } => mark_and_go(links, p, root, key, left, first, node, next),
+    }
 }

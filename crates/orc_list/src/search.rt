@@ -85,10 +85,12 @@ fn step_past<L: Links<Rule = Chain>>(
     next: Option<Held>,
 ) -> Stepped
     requires pass { L.belongs links.now p.old }
-    requires looks { (s : Seat ChainNote) × LooksOn (L.numbers links.now) root wanted walk.left walk.first walk.at walk.key true next s (L.seat links.now p.old) }
+    requires looks { (s : Seat ChainNote) × LooksOn (L.numbers links.now) root wanted walk.left walk.first walk.at walk.key true next s
+        (L.seat links.now p.old) }
     ensures pass { L.belongs links.now p.new }
     ensures later { IsPrefix (L.journal p.old) (L.journal p.new) }
-    ensures stepped { (s : Seat ChainNote) → LooksOn (L.numbers links.now) root wanted walk.left walk.first walk.at walk.key true next s (L.seat links.now p.old)
+    ensures stepped { (s : Seat ChainNote) → LooksOn (L.numbers links.now) root wanted walk.left walk.first walk.at walk.key true next s
+        (L.seat links.now p.old)
         → StepsTo (L.numbers links.now) root wanted (walk.key + 1) s result (L.seat links.now p.new) }
 {
     let Walk {
@@ -111,11 +113,13 @@ fn step_behind<L: Links<Rule = Chain>>(
     next: Option<Held>,
 ) -> Stepped
     requires pass { L.belongs links.now p.old }
-    requires looks { (s : Seat ChainNote) × LooksOn (L.numbers links.now) root wanted walk.left walk.first walk.at walk.key false next s (L.seat links.now p.old) }
+    requires looks { (s : Seat ChainNote) × LooksOn (L.numbers links.now) root wanted walk.left walk.first walk.at walk.key false next s
+        (L.seat links.now p.old) }
     requires lower { walk.key < wanted }
     ensures pass { L.belongs links.now p.new }
     ensures later { IsPrefix (L.journal p.old) (L.journal p.new) }
-    ensures stepped { (s : Seat ChainNote) → LooksOn (L.numbers links.now) root wanted walk.left walk.first walk.at walk.key false next s (L.seat links.now p.old)
+    ensures stepped { (s : Seat ChainNote) → LooksOn (L.numbers links.now) root wanted walk.left walk.first walk.at walk.key false next s
+        (L.seat links.now p.old)
         → StepsTo (L.numbers links.now) root wanted (walk.key + 1) s result (L.seat links.now p.new) }
 {
     let Walk {
@@ -140,10 +144,12 @@ fn step_from<L: Links<Rule = Chain>>(
     next: Option<Held>,
 ) -> Stepped
     requires pass { L.belongs links.now p.old }
-    requires looks { (s : Seat ChainNote) × LooksOn (L.numbers links.now) root wanted walk.left walk.first walk.at walk.key mark next s (L.seat links.now p.old) }
+    requires looks { (s : Seat ChainNote) × LooksOn (L.numbers links.now) root wanted walk.left walk.first walk.at walk.key mark next s
+        (L.seat links.now p.old) }
     ensures pass { L.belongs links.now p.new }
     ensures later { IsPrefix (L.journal p.old) (L.journal p.new) }
-    ensures stepped { (s : Seat ChainNote) → LooksOn (L.numbers links.now) root wanted walk.left walk.first walk.at walk.key mark next s (L.seat links.now p.old)
+    ensures stepped { (s : Seat ChainNote) → LooksOn (L.numbers links.now) root wanted walk.left walk.first walk.at walk.key mark next s
+        (L.seat links.now p.old)
         → StepsTo (L.numbers links.now) root wanted (walk.key + 1) s result (L.seat links.now p.new) }
 {
     if mark {
@@ -201,10 +207,12 @@ fn step<L: Links<Rule = Chain>>(
     walk: Walk,
 ) -> Stepped
     requires pass { L.belongs links.now p.old }
-    requires walks { (s : Seat ChainNote) × HasRoom s.slots × Walks (L.numbers links.now) root wanted walk.left walk.first walk.at walk.key s (L.seat links.now p.old) }
+    requires walks { (s : Seat ChainNote) × HasRoom s.slots × Walks (L.numbers links.now) root wanted walk.left walk.first walk.at walk.key s
+        (L.seat links.now p.old) }
     ensures pass { L.belongs links.now p.new }
     ensures later { IsPrefix (L.journal p.old) (L.journal p.new) }
-    ensures stepped { (s : Seat ChainNote) → HasRoom s.slots → Walks (L.numbers links.now) root wanted walk.left walk.first walk.at walk.key s (L.seat links.now p.old)
+    ensures stepped { (s : Seat ChainNote) → HasRoom s.slots → Walks (L.numbers links.now) root wanted walk.left walk.first walk.at walk.key s
+        (L.seat links.now p.old)
         → StepsTo (L.numbers links.now) root wanted (walk.key + 1) s result (L.seat links.now p.new) }
 {
     let slot = spare_slot(slot_of(&walk.left), slot_of(&walk.first), walk.at.slot());

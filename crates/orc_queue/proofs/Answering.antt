@@ -83,8 +83,14 @@ given_held n job h s a free g =
     record { held = slot_holds s a 1 g.id h free i; fresh = g.fresh ∙ ap (λ (x : ℕ). Some x) (sym is); second = 0; node = rw (is, g.puts.agent) g.node }
 
 -- a put, from its Give to its release
-module _ (n : HeapNumbers) (job turns : ℕ) (h : Hold) (s a b t : Seat FifoNote) (idle : IsIdle s) (free : IsFree s.slots 1)
-    (g : Gives n 1 job 0 s h a) (some : turns ≢ 0) (w : Releases b h t) (node : HoldsNode n job h a) where
+module _ {n : HeapNumbers} {job : ℕ} (turns : ℕ) {h : Hold} {s a b t : Seat FifoNote} (idle : IsIdle s) (g : Gives n 1 job 0 s h a) (some : turns ≢ 0)
+    (w : Releases b h t) where
+  free : IsFree s.slots 1
+  free = idle_free s idle
+
+  node : HoldsNode n job h a
+  node = given_held n job h s a free g
+
   put_idle : b.slots ≡ a.slots → t.fresh ≡ None → IsIdle t
   put_idle same none = record { slots = slot_released s a 1 g.id h free (given_in n job h s a g) b t same w ∙ idle.slots; fresh = none }
 

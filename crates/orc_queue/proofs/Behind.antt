@@ -4,12 +4,12 @@ use Rattle.std.proofs.lemmas.Bool.{ne_eqb}
 use Rattle.orc_heap.proofs.OwnParts.{moves_from_own, moves_own}
 use Rattle.orc_heap.proofs.Calls.{Puts-trans, part_allowed}
 use Rattle.orc_heap.specs.Allowed.{AllAllowed, IsLinkedNode, HasLink}
-use Rattle.orc_heap.specs.Calls.{event_of}
+use Rattle.orc_heap.specs.Calls.{Releases, event_of}
 use Rattle.orc_heap.specs.Heap.{HeapNumbers, null, link_to}
 use Rattle.orc_heap.specs.Moves.{moves_in}
 use Rattle.orc_heap.specs.OwnEvents.{Puts}
 use Rattle.orc_heap.specs.Seats.{IsUntouched, Seat, heap_of}
-use Rattle.orc_heap.specs.Slots.{Hold, id_in}
+use Rattle.orc_heap.specs.Slots.{Hold, Holds, id_in}
 use Rattle.orc_heap.specs.declared.events.Act.TheVariants.{Look, Miss, Move}
 use Rattle.orc_heap.specs.declared.events.Event.{Event}
 use Rattle.orc_heap.specs.declared.events.Link.{Link}
@@ -24,8 +24,9 @@ use Rattle.orc_queue.specs.declared.put.PutTurn.{PutTurn}
 use Rattle.orc_queue.specs.declared.put.PutTurn.TheVariants.{Full, Over as PutOver, Put as PutDone}
 use Rattle.orc_queue.specs.Turns.{FindsFull, Helps, HoldsNode, LinksBehind, PutsBehind, SwingsLast, TurnMissed}
 use Rattle.orc_queue.proofs.Filled.{Known}
+use Rattle.orc_queue.proofs.Holding.{found_fresh, found_id, found_other_id, found_released}
 use Rattle.orc_queue.proofs.Joins.{full_join_left, join, room_join}
-use Rattle.orc_queue.proofs.Looking.{next_found}
+use Rattle.orc_queue.proofs.Looking.{HoldsNext, next_found}
 use Rattle.orc_queue.proofs.Pieces.{linked_puts, node_puts, position_puts}
 use Rattle.orc_queue.proofs.Room.{full_at, room_at}
 use Rattle.orc_heap.proofs.Pieces.{linked_not_fresh, moves_left, moves_right, one_part, puts_released}
@@ -168,6 +169,21 @@ module _ (n : HeapNumbers) (job tail next : ℕ) (h : Hold) (s a b t : Seat Fifo
             node = node_puts n s t _ w all job h node.second k node slots fresh refl refl;
           }
     ]
+
+-- by what the look of the link found
+pub behind_found : {n : HeapNumbers} {job : ℕ} {node : Hold} (tail : Hold) {next : Hold} {s a b t : Seat FifoNote} → HoldsNext n (id_in s.slots tail) 3 s next a
+    → AllAllowed (FifoMay n) [] b.seen → AllAllowed (FifoMay n) [] t.seen → WasNamed (heap_of n s) 1 (id_in s.slots tail) → HoldsNode n job node s
+    → Holds s.slots tail → a.fresh ≡ s.fresh → ((i : ℕ) → a.fresh ≡ Some i → IsUntouched a.agent (heap_of n a) i)
+    → ((i : ℕ) → b.fresh ≡ Some i → IsUntouched b.agent (heap_of n b) i) → Helps (id_in a.slots tail) (id_in a.slots next) a b → Releases b next t
+    → TurnMissed n job (id_in s.slots tail) node s t
+behind_found {n} {job} {node} tail {next} {s} {a} {b} {t} f all_b all_t named holds held fresh_a untouched_a untouched_b helped released =
+    let id = id_in s.slots tail in
+    let x = f.node.id in
+    let help = subst (λ (i : ℕ). Helps i x a b) (found_other_id f.node tail held)
+    (subst (λ (i : ℕ). Helps (id_in a.slots tail) i a b) (found_id f.node) helped) in
+    let fresh = found_fresh f.node helped.slots untouched_b (linked_helped n a b id x help all_b x f.node.linked) released in
+    behind_held n job id x node s a b t f.before f.after named holds f.puts f.link help released.puts (found_released f.node helped.slots released)
+    (fresh ∙ (helped.fresh ∙ fresh_a)) all_t (fresh_apart n job x node s a holds fresh_a untouched_a f.node.linked)
 
 -- the link moved between two looks
 pub behind_moved : (n : HeapNumbers) (job tail : ℕ) (h : Hold) (s t : Seat FifoNote) (one two : Link) → Known n s.seen → Known n t.seen

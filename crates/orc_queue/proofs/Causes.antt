@@ -27,6 +27,7 @@ use Rattle.orc_history.specs.declared.queue.QueueRefused.TheVariants.{Again, NoN
 use Rattle.orc_fault.specs.declared.Again.{Again as AgainFault}
 use Rattle.orc_fifo_rule.proofs.OwnEntries.{entries_own}
 use Rattle.orc_fifo_rule.specs.declared.fifo.FifoNote.{FifoNote}
+use Rattle.orc_heap.specs.declared.links.Links.{Ghosts as LinksOf}
 use Rattle.orc_fifo_rule.specs.QueueDiscipline.{FifoMay, entries_of, position_of, entries_in}
 use Rattle.orc_queue.specs.Answers.{CallFindsFull, IsCall, PutAnswers, TakeAnswers, Tires, gives_of}
 use Rattle.orc_queue.specs.Causes.{Cause, LacksPosition, UsesTurns}
@@ -121,23 +122,30 @@ take_no_turns turns s t r l none = (again r l, any_none s t (subst (λ (k : ℕ)
     again (Ok got) l = absurd (l.some_turn none)
     again (Err e) l = refl
 
--- over the journals of a domain
-module _ {S : Type 0} (n : HeapNumbers) (agents : ℕ) (agent_of : S → ℕ) (events : List S → List (Event FifoNote))
-    (adds : (j : List S) (x : S) → (es : List (Event FifoNote)) × (events (j ++ x ∷ []) ≡ events j ++ es) × (list_all (λ e. e.agent == agent_of x) es ≡ true))
-    (s t : Seat FifoNote) (j k : List S) (grows : IsPrefix j k) (is_s : s.seen ≡ events j) (is_t : t.seen ≡ events k)
-    (all : AllAllowed (FifoMay n) [] t.seen) (below : IsBelow agents t.seen)
+-- what a pass has seen before and after a call is in its domain's journal
+pub record CallSeen {S : Type 0} (n : HeapNumbers) (agents : ℕ) (agent_of : S → ℕ) (events : List S → List (Event FifoNote)) (s t : Seat FifoNote)
+    (j k : List S) : Type 0 where
+  pub adds : (j : List S) (x : S) → (es : List (Event FifoNote)) × (events (j ++ x ∷ []) ≡ events j ++ es) × (list_all (λ e. e.agent == agent_of x) es ≡ true)
+  pub grows : IsPrefix j k
+  pub is_s : s.seen ≡ events j
+  pub is_t : t.seen ≡ events k
+  pub all : AllAllowed (FifoMay n) [] t.seen
+  pub below : IsBelow agents t.seen
+
+module _ {S : Type 0} {n : HeapNumbers} {agents : ℕ} {agent_of : S → ℕ} {events : List S → List (Event FifoNote)} {s t : Seat FifoNote} {j k : List S}
+    (o : CallSeen n agents agent_of events s t j k)
   where
     -- the entries
     pub call_adds : (given turns : ℕ) (es : List QueueEntry) → IsCall given turns s es t
         → Adds agent_of_entry (λ (a : ℕ). a < agents) s.agent (entries_of (events j)) es (entries_of (events k))
     call_adds given turns es c =
         let p = c.puts in
-        let others = of_crowd s.agent agents p.part (below_right agents s.seen p.part (subst (λ z. IsBelow agents z) p.is below)) in
+        let others = of_crowd s.agent agents p.part (below_right agents s.seen p.part (subst (λ z. IsBelow agents z) p.is o.below)) in
         let a = entries_added entries_in agent_of_entry (FifoMay n) (entries_own n) (λ (x : ℕ). x < agents) s.agent s.seen p.part
-        (part_allowed (FifoMay n) s t c.own p all) others in
+        (part_allowed (FifoMay n) s t c.own p o.all) others in
         let own : entries_of (events_by s.agent p.part) ≡ es = ap entries_of p.own_is ∙ c.entries_are in
-        subst (λ z. Adds agent_of_entry (λ (x : ℕ). x < agents) s.agent (entries_of (events j)) es (entries_of z)) (sym p.is ∙ is_t)
-        (subst (λ z. Adds agent_of_entry (λ (x : ℕ). x < agents) s.agent (entries_of z) es (entries_of (s.seen ++ p.part))) is_s
+        subst (λ z. Adds agent_of_entry (λ (x : ℕ). x < agents) s.agent (entries_of (events j)) es (entries_of z)) (sym p.is ∙ o.is_t)
+        (subst (λ z. Adds agent_of_entry (λ (x : ℕ). x < agents) s.agent (entries_of z) es (entries_of (s.seen ++ p.part))) o.is_s
         (subst (λ z. Adds agent_of_entry (λ (x : ℕ). x < agents) s.agent (entries_of s.seen) z (entries_of (s.seen ++ p.part))) own a))
 
     pub put_ok : (job turns : ℕ) (r : Result ℕ QueueRefused) → PutAnswers n job turns s r t
@@ -167,9 +175,9 @@ module _ {S : Type 0} (n : HeapNumbers) (agents : ℕ) (agent_of : S → ℕ) (e
     pub turns_used : (given turns : ℕ) → Tires given turns s t → InPart agent_of s.agent j k (λ from to. UsesTurns agent_of events s.agent turns k from to)
     turns_used given turns l =
         let p = l.call.puts in
-        let new : events k ≡ events j ++ p.part = sym is_t ∙ (p.is ∙ ap (λ z. z ++ p.part) is_s) in
-        let e = part_events agent_of events adds s.agent j k p.part grows new in
-        let bounds = part_bounds agent_of s.agent j k grows in
+        let new : events k ≡ events j ++ p.part = sym o.is_t ∙ (p.is ∙ ap (λ z. z ++ p.part) o.is_s) in
+        let e = part_events agent_of events o.adds s.agent j k p.part o.grows new in
+        let bounds = part_bounds agent_of s.agent j k o.grows in
         let own : from_own s.agent p.part ≡ from_own s.agent e.part = ap (λ z. from_own s.agent z) e.is ∙ from_own-others s.agent e.gap e.part e.others in
         let moved : turns ≤ moves_in (from_own s.agent e.part) = subst (λ z. turns ≤ moves_in z) own l.moved in
         let whole : events (take (length k) k) ≡ (events j ++ e.gap) ++ e.part =
@@ -189,10 +197,10 @@ module _ {S : Type 0} (n : HeapNumbers) (agents : ℕ) (agent_of : S → ℕ) (e
         → IfOk r (λ at. IsAlone agent_of s.agent j k → TailIsLast (run_heap n t.seen))
     put_tail job turns (Ok at) known l = λ alone.
         let p = l.call.puts in
-        let new : events k ≡ events j ++ p.part = sym is_t ∙ (p.is ∙ ap (λ z. z ++ p.part) is_s) in
-        let e = part_events agent_of events adds s.agent j k p.part grows new in
+        let new : events k ≡ events j ++ p.part = sym o.is_t ∙ (p.is ∙ ap (λ z. z ++ p.part) o.is_s) in
+        let e = part_events agent_of events o.adds s.agent j k p.part o.grows new in
         let own : from_own s.agent p.part ≡ from_own s.agent e.part = ap (λ z. from_own s.agent z) e.is ∙ from_own-others s.agent e.gap e.part e.others in
-        alone_runs n TailIsLast s t l.call.own p known all (tail_settles n l.call.own l.helps)
+        alone_runs n TailIsLast s t l.call.own p known o.all (tail_settles n l.call.own l.helps)
         (subst (λ z. AllOwn s.agent z) (sym own) (own_from s.agent e.part (e.alone alone)))
     put_tail job turns (Err why) known l = tt
 
@@ -212,10 +220,10 @@ module _ {S : Type 0} (n : HeapNumbers) (agents : ℕ) (agent_of : S → ℕ) (e
     full_lacks : (turns : ℕ) (opening : List (Event FifoNote)) → HasDummy n opening → IsPrefix opening t.seen → Known n s.seen → turns ≢ 0 → CallFindsFull n s t
         → LacksPosition events (position_of (run_heap n opening) 0) turns k (length k)
     full_lacks turns opening made begins known some full =
-        let (more, is) = grows in
-        let (new, there) = events_grow agent_of events adds j more in
-        let seen : t.seen ≡ s.seen ++ new = is_t ∙ (ap events (sym is) ∙ (sym there ∙ ap (λ z. z ++ new) (sym is_s))) in
-        let allowed = allowed-right (FifoMay n) [] s.seen new (subst (λ z. AllAllowed (FifoMay n) [] z) seen all) in
+        let (more, is) = o.grows in
+        let (new, there) = events_grow agent_of events o.adds j more in
+        let seen : t.seen ≡ s.seen ++ new = o.is_t ∙ (ap events (sym is) ∙ (sym there ∙ ap (λ z. z ++ new) (sym o.is_s))) in
+        let allowed = allowed-right (FifoMay n) [] s.seen new (subst (λ z. AllAllowed (FifoMay n) [] z) seen o.all) in
         let found : FindsFull n s.agent s.seen new =
         subst (λ z. FindsFull n s.agent s.seen z) (ap (λ z. drop (length s.seen) z) seen ∙ drop-append_seam s.seen new) full in
         let high = subst (λ z. 2 ^ 62 ≤ position_of (run_heap n z) 0 + puts_in (entries_of z)) (sym seen)
@@ -223,7 +231,7 @@ module _ {S : Type 0} (n : HeapNumbers) (agents : ℕ) (agent_of : S → ℕ) (e
         record {
           some_turn = some;
           in_journal = omega arith;
-          full = rw (take-length k, sym is_t, sym (first_stays n opening t.seen made begins all)) high;
+          full = rw (take-length k, sym o.is_t, sym (first_stays n opening t.seen made begins o.all)) high;
         }
 
     -- the licence of a refusal, from the clauses of a put
@@ -236,7 +244,7 @@ module _ {S : Type 0} (n : HeapNumbers) (agents : ℕ) (agent_of : S → ℕ) (e
         (λ from to. Cause agent_of events (position_of (run_heap n opening) 0) (Lacks from to) s.agent turns e k from to))
     put_licence turns opening made begins known Lacks (Ok at) none again node full = tt
     put_licence turns opening made begins known Lacks (Err Again) none again node full =
-        let bounds = part_bounds agent_of s.agent j k grows in
+        let bounds = part_bounds agent_of s.agent j k o.grows in
         (part_begin agent_of s.agent j k, length k, bounds.0, bounds.1, omega arith, again refl)
     put_licence turns opening made begins known Lacks (Err NoNode) none again node full =
         let some : turns ≢ 0 = λ zero_turns. let bad : ◌≡◌ {A = Result ℕ QueueRefused} (Err NoNode) (Err Again) = none zero_turns in cc in
@@ -245,7 +253,7 @@ module _ {S : Type 0} (n : HeapNumbers) (agents : ℕ) (agent_of : S → ℕ) (e
         (from, to, a, b, c, (some, lacks))
     put_licence turns opening made begins known Lacks (Err Positions) none again node full =
         let some : turns ≢ 0 = λ zero_turns. let bad : ◌≡◌ {A = Result ℕ QueueRefused} (Err Positions) (Err Again) = none zero_turns in cc in
-        let bounds = part_bounds agent_of s.agent j k grows in
+        let bounds = part_bounds agent_of s.agent j k o.grows in
         (length j, length k, omega arith, omega (arith, bounds), omega arith, full_lacks turns opening made begins known some (full.0 refl))
 
     pub take_licence : (turns first : ℕ) (Lacks : ℕ → ℕ → Type 0) (r : Result (Option (ℕ × ℕ)) AgainFault)
@@ -253,8 +261,25 @@ module _ {S : Type 0} (n : HeapNumbers) (agents : ℕ) (agent_of : S → ℕ) (e
         → IfErr r (λ e. Within (length j) (length k) (λ from to. Cause agent_of events first (Lacks from to) s.agent turns Again k from to))
     take_licence turns first Lacks (Ok got) again = tt
     take_licence turns first Lacks (Err e) again =
-        let bounds = part_bounds agent_of s.agent j k grows in
+        let bounds = part_bounds agent_of s.agent j k o.grows in
         (part_begin agent_of s.agent j k, length k, bounds.0, bounds.1, omega arith, again)
+
+-- by the laws of the domain
+pub call_seen : {L D P S : Type 0} (m : LinksOf L D P S FifoNote) (links : L) (p q : P)
+    → ((p : P) → m.belongs links p → (m.seat links p).seen ≡ m.events links (m.journal p))
+    → ((p : P) → m.belongs links p → AllAllowed (FifoMay (m.numbers links)) [] (m.seat links p).seen) → IsBelow (m.agents links) (m.seat links q).seen
+    → ((j : List S) (x : S) → (es : List (Event FifoNote)) × (m.events links (j ++ x ∷ []) ≡ m.events links j ++ es)
+    × (list_all (λ e. e.agent == m.agent_of x) es ≡ true))
+    → m.belongs links p → m.belongs links q → IsPrefix (m.journal p) (m.journal q)
+    → CallSeen (m.numbers links) (m.agents links) m.agent_of (m.events links) (m.seat links p) (m.seat links q) (m.journal p) (m.journal q)
+call_seen m links p q seen_is allowed below adds before after grows = record {
+  adds = adds;
+  grows = grows;
+  is_s = seen_is p before;
+  is_t = seen_is q after;
+  all = allowed q after;
+  below = below;
+}
 
 -- a fact of the part of a call, as the pass had seen it at some time, stays one of the longer journal
 pub during : {S : Type 0} (agent_of : S → ℕ) (agent : ℕ) (Fact : List S → ℕ → ℕ → Type 0)

@@ -3,6 +3,7 @@ pub mod Answering
 pub mod Behind
 pub mod Causes
 pub mod Filled
+pub mod Holding
 pub mod Joins
 pub mod Linking
 pub mod Looking

@@ -52,23 +52,31 @@ put_links n s t id to noted p all l =
     subst (λ z. HasLink (run_heap n z) id (link_to to)) (sym (p.is ∙ seen_is m ∙ sym (append_assoc es (e ∷ []) m.later)))
     (link_later n (es ++ e ∷ []) m.later id to next m.last)
 
-module _ (n : HeapNumbers) (job at tail : ℕ) (h : Hold) (s a b : Seat FifoNote) (k : Known n s.seen) (node : HoldsNode n job h s)
-    (named : WasNamed (heap_of n s) 1 tail)
-    (read : Only [] s a) (fill : Only (event_of a (Fill (id_in a.slots h) 1 (at + 1)) None ∷ []) a b) (all_a : AllAllowed (FifoMay n) [] a.seen)
-    (all_b : AllAllowed (FifoMay n) [] b.seen)
+-- the position behind the tail was read, and put into the fresh node
+pub record FillsNode (n : HeapNumbers) (job at tail : ℕ) (h : Hold) (s a b : Seat FifoNote) : Type 0 where
+  pub before : Known n s.seen
+  pub after : Known n b.seen
+  pub node : HoldsNode n job h s
+  pub named : WasNamed (heap_of n s) 1 tail
+  pub read : Only [] s a
+  pub fill : Only (event_of a (Fill (id_in a.slots h) 1 (at + 1)) None ∷ []) a b
+  pub at_is : at ≡ position_of (heap_of n s) tail
+  pub low : at < 2 ^ 62
+
+module _ {n : HeapNumbers} {job at tail : ℕ} {h : Hold} {s a b : Seat FifoNote} (f : FillsNode n job at tail h s a b)
   where
     same_id : id_in a.slots h ≡ id_in s.slots h
-    same_id = ap (λ z. id_in z h) read.slots
+    same_id = ap (λ z. id_in z h) f.read.slots
 
     filled_is : (v : ℕ) (more : List (Event FifoNote)) → touched_by (id_in s.slots h) (event_of a (Fill (id_in a.slots h) 1 (at + 1)) None ∷ more)
         (given_node s.agent job v) ≡ touched_by (id_in s.slots h) more (given_node s.agent job (at + 1))
     filled_is v more = rw (same_id, eq-eqb (id_in s.slots h) (id_in s.slots h) refl) refl
 
     filled_puts : Puts s (event_of a (Fill (id_in a.slots h) 1 (at + 1)) None ∷ []) b
-    filled_puts = Puts-trans s a b [] _ read.puts fill.puts
+    filled_puts = Puts-trans s a b [] _ f.read.puts f.fill.puts
 
     filled_slots : b.slots ≡ s.slots
-    filled_slots = fill.slots ∙ read.slots
+    filled_slots = f.fill.slots ∙ f.read.slots
 
     pub tail_same : (th : Hold) → id_in b.slots th ≡ id_in s.slots th
     tail_same th = ap (λ z. id_in z th) filled_slots
@@ -77,44 +85,47 @@ module _ (n : HeapNumbers) (job at tail : ℕ) (h : Hold) (s a b : Seat FifoNote
     pub filled_node : slice_get (heap_of n b).nodes (id_in b.slots h) ≡ Some (node_to_put b.agent job at)
     filled_node =
         rw (ap (λ z. id_in z h) filled_slots, filled_puts.agent)
-        (node_touched n s b _ filled_puts all_b job h k node refl ∙ ap (λ (x : Node). Some x) (filled_is node.second []))
+        (node_touched n s b _ filled_puts f.after.all job h f.before f.node refl ∙ ap (λ (x : Node). Some x) (filled_is f.node.second []))
 
     pub filled_named : WasNamed (heap_of n b) 1 tail
-    filled_named = named_puts n s b _ filled_puts all_b 1 tail named
+    filled_named = named_puts n s b _ filled_puts f.after.all 1 tail f.named
 
     pub filled_linked : IsLinkedNode (heap_of n b) tail
     filled_linked = filled_named.linked
 
     pub filled_fresh : b.fresh ≡ Some (id_in b.slots h)
-    filled_fresh = fill.fresh ∙ (read.fresh ∙ (node.fresh ∙ ap (λ z. Some (id_in z h)) (sym filled_slots)))
+    filled_fresh = f.fill.fresh ∙ (f.read.fresh ∙ (f.node.fresh ∙ ap (λ z. Some (id_in z h)) (sym filled_slots)))
+
+    tail_low : position_of (heap_of n s) tail < 2 ^ 62
+    tail_low = omega (arith, f.at_is, f.low)
 
     -- the link was no more null
     pub link_missed : (t : Seat FifoNote) → AllAllowed (FifoMay n) [] t.seen → t.slots ≡ b.slots → t.fresh ≡ b.fresh → Misses (Next tail) null b t
-        → position_of (heap_of n s) tail < 2 ^ 62 → LinkMissed n job tail h s t
-    link_missed t all slots fresh miss low =
+        → LinkMissed n job tail h s t
+    link_missed t all slots fresh miss =
         let e : Event FifoNote = event_of a (Fill (id_in a.slots h) 1 (at + 1)) None in
-        let f : Event FifoNote = event_of b (Miss (Next tail) null miss.found) None in
-        let p : Puts s (e ∷ f ∷ []) t = Puts-trans s b t (e ∷ []) (f ∷ []) filled_puts miss.puts in
+        let m : Event FifoNote = event_of b (Miss (Next tail) null miss.found) None in
+        let p : Puts s (e ∷ m ∷ []) t = Puts-trans s b t (e ∷ []) (m ∷ []) filled_puts miss.puts in
         let same_slots = slots ∙ filled_slots in
-        let same_fresh = fresh ∙ (fill.fresh ∙ read.fresh) in
+        let same_fresh = fresh ∙ (f.fill.fresh ∙ f.read.fresh) in
         record {
           stops = record {
-            piece = record { own = e ∷ f ∷ []; slots = same_slots; puts = p; entries_are = refl; no_give = refl; few = omega arith };
+            piece = record { own = e ∷ m ∷ []; slots = same_slots; puts = p; entries_are = refl; no_give = refl; few = omega arith };
             fresh = same_fresh;
-            moved = miss_moved n (FifoMay n) (λ es x k. k.fits) s t (Next tail) null miss.found (e ∷ []) f [] p refl all named.linked miss.other;
+            moved = miss_moved n (FifoMay n) (λ es x k. k.fits) s t (Next tail) null miss.found (e ∷ []) m [] p refl all f.named.linked miss.other;
             own_moves = inl refl;
           };
-          room = room_unseen n s t (e ∷ f ∷ []) p refl;
-          low = low;
-          node = node_puts n s t (e ∷ f ∷ []) p all job h (at + 1) k node same_slots same_fresh refl (filled_is node.second (f ∷ []));
+          room = room_unseen n s t (e ∷ m ∷ []) p refl;
+          low = tail_low;
+          node = node_puts n s t (e ∷ m ∷ []) p all job h (at + 1) f.before f.node same_slots same_fresh refl (filled_is f.node.second (m ∷ []));
         }
 
     -- the node is linked
-    pub link_made : (t : Seat FifoNote) (agent : ℕ) → AllAllowed (FifoMay n) [] t.seen → agent ≡ s.agent → t.slots ≡ b.slots
+    pub link_made : (t : Seat FifoNote) (agent : ℕ) → AllAllowed (FifoMay n) [] t.seen → agent ≡ b.agent → t.slots ≡ b.slots
         → t.fresh ≡ unless_node b.fresh (Some (id_in b.slots h))
         → Puts b (event_of b (Move (Next tail) null (link_to (id_in b.slots h))) (Some (Entry (Put agent job at))) ∷ []) t
-        → position_of (heap_of n s) tail < 2 ^ 62 → at ≡ position_of (heap_of n s) tail → LinksJob n 2 KeepsTail job tail at h s t
-    link_made t agent all agent_is slots fresh put low at_is =
+        → LinksJob n 2 KeepsTail job tail at h s t
+    link_made t agent all agent_is slots fresh put =
         let e : Event FifoNote = event_of a (Fill (id_in a.slots h) 1 (at + 1)) None in
         let m : Event FifoNote = event_of b (Move (Next tail) null (link_to (id_in b.slots h))) (Some (Entry (Put agent job at))) in
         let p : Puts s (e ∷ m ∷ []) t = Puts-trans s b t (e ∷ []) (m ∷ []) filled_puts put in
@@ -124,28 +135,28 @@ module _ (n : HeapNumbers) (job at tail : ℕ) (h : Hold) (s a b : Seat FifoNote
               own = _;
               slots = slots ∙ filled_slots;
               puts = p;
-              entries_are = ap (λ (x : ℕ). Put x job at ∷ []) agent_is;
+              entries_are = ap (λ (x : ℕ). Put x job at ∷ []) (agent_is ∙ filled_puts.agent);
               no_give =
                   refl;
               few = omega arith;
             };
             helps = refl;
             fresh = fresh ∙ (ap (λ o. unless_node o (Some (id_in b.slots h))) filled_fresh ∙ unless_same (id_in b.slots h));
-            low = omega (arith, low, at_is);
+            low = f.low;
             room = room_unseen n s t _ p refl;
           };
-          low = low;
+          low = tail_low;
           link = subst (λ (i : ℕ). HasLink (heap_of n t) tail (link_to i)) (tail_same h) (put_links n b t tail (id_in b.slots h) _ put all filled_linked);
         }
 
     -- the Put may come
-    pub put_may : (th : Hold) (agent : ℕ) → tail ≡ id_in s.slots th → Known n b.seen → agent ≡ b.agent → at ≡ position_of (heap_of n s) tail → at < 2 ^ 62
+    pub put_may : (th : Hold) (agent : ℕ) → tail ≡ id_in s.slots th → agent ≡ b.agent
         → AllowedLater (FifoMay n) n b.agent b.seen (Next (id_in b.slots th)) null
         (event_of b (Move (Next (id_in b.slots th)) null (link_to (id_in b.slots h))) (Some (Entry (Put agent job at))))
-    put_may th agent tail_is kb agent_is at_is low =
+    put_may th agent tail_is agent_is =
         let same : tail ≡ id_in b.slots th = tail_is ∙ ap (λ z. id_in z th) (sym filled_slots) in
-        let position : position_of (heap_of n b) tail ≡ at = position_puts n s b _ filled_puts all_b tail named.linked ∙ sym at_is in
-        let may = put_allowed n b.agent tail (id_in b.slots h) job at b.seen kb.holds kb.dummy.begun filled_named position low filled_node in
+        let position : position_of (heap_of n b) tail ≡ at = position_puts n s b _ filled_puts f.after.all tail f.named.linked ∙ sym f.at_is in
+        let may = put_allowed n b.agent tail (id_in b.slots h) job at b.seen f.after.holds f.after.dummy.begun filled_named position f.low filled_node in
         subst (λ (i : ℕ). AllowedLater (FifoMay n) n b.agent b.seen (Next i) null
         (event_of b (Move (Next i) null (link_to (id_in b.slots h))) (Some (Entry (Put agent job at))))) same
         (subst (λ (x : ℕ). AllowedLater (FifoMay n) n b.agent b.seen (Next tail) null

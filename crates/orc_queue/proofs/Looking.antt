@@ -1,7 +1,7 @@
 -- What a look at a root, and one at the link of a once linked node, find.
-use Rattle.std.proofs.Common.{Bool, List, length, suc, zero, Option, Some, None, [], ap, arith, inl, inr, refl, subst, sym, ℕ, ◌++◌, ◌<◌, ◌∙◌, ◌∷◌, ◌≡◌, ◌⊎◌}
+use Rattle.std.proofs.Common.{Bool, List, length, Option, Some, None, [], ap, arith, inl, inr, refl, subst, sym, ℕ, ◌++◌, ◌<◌, ◌∙◌, ◌∷◌, ◌≡◌, ◌⊎◌}
 use Rattle.orc_heap.proofs.Moved.{target_roots}
-use Rattle.std.specs.List.{slice_get, slice_set}
+use Rattle.std.specs.List.{slice_set}
 use Rattle.std.specs.Prelude.{unwrap_or}
 use Rattle.std.proofs.lemmas.List.{length-replicate}
 use Rattle.orc_heap.proofs.ByAnswer.{LookedHeld, LookedNull}
@@ -9,12 +9,12 @@ use Rattle.orc_heap.proofs.Changes.{length-change, get_lt}
 use Rattle.orc_heap.specs.Allowed.{AllAllowed, IsLinkedNode, HasLink}
 use Rattle.orc_heap.specs.Calls.{ReadsValue, RefusesSwing, event_of}
 use Rattle.orc_heap.specs.Heap.{Heap, HeapNumbers, Node, new_heap, null, link_to}
-use Rattle.orc_heap.specs.Acts.{as_linked, as_named, change_target, heap_after}
+use Rattle.orc_heap.specs.Acts.{as_linked, as_named, heap_after}
 use Rattle.orc_heap.specs.Journals.{run_from, run_heap}
 use Rattle.orc_heap.specs.declared.events.Act.{Act}
 use Rattle.orc_heap.specs.OwnEvents.{Puts}
 use Rattle.orc_heap.specs.Seats.{Seat, heap_of}
-use Rattle.orc_heap.specs.Slots.{Hold, Slots, id_in}
+use Rattle.orc_heap.specs.Slots.{Hold, Holds, IsFree, Slots, id_in}
 use Rattle.orc_heap.specs.declared.events.Act.TheVariants.{Aim, Fill, Give, Look, Miss, Move}
 use Rattle.orc_heap.specs.declared.events.Event.{Event}
 use Rattle.orc_heap.specs.declared.events.Link.{Link}
@@ -30,11 +30,14 @@ use Rattle.orc_fifo_rule.specs.QueueDiscipline.{FifoMay, HasJob, position_of}
 use Rattle.orc_fifo_rule.specs.Watches.{WasNamed}
 use Rattle.orc_fifo_rule.specs.Laws.Events.{begun_more}
 use Rattle.orc_fifo_rule.specs.Laws.Nodes.{position_at}
+use Rattle.orc_fifo_rule.specs.Laws.Paths.{successor_linked}
+use Rattle.orc_queue.specs.Turns.{HoldsNode}
 use Rattle.orc_queue.proofs.Filled.{Known, some_value}
+use Rattle.orc_queue.proofs.Holding.{Found, found_id, found_other, found_other_id}
+use Rattle.orc_queue.proofs.Pieces.{named_puts, node_held}
 use Rattle.orc_heap.proofs.SingleActs.{has_link, some_same}
 use Rattle.orc_heap.proofs.Calls.{Puts-stood}
 use Rattle.orc_heap.proofs.Moments.{seen_is, since}
-use Rattle.orc_heap.proofs.Pieces.{InSlot}
 
 -- three links at most are made to a node, so no swing is refused
 pub never_spent : (n : HeapNumbers) (slots : Slots) (from to : Want) (why : Spent) (seen : List (Event FifoNote)) → AllAllowed (FifoMay n) [] seen
@@ -92,25 +95,42 @@ next_found n s t id link own rest k l p all =
 
 -- a node that a look of a root holds
 pub record HoldsRoot (n : HeapNumbers) (root slot : ℕ) (s : Seat FifoNote) (h : Hold) (t : Seat FifoNote) : Type 0 where
-  pub id : ℕ
-  pub in_slot : InSlot s slot id h t
-  pub named : WasNamed (heap_of n t) root id
+  pub before : Known n s.seen
+  pub after : Known n t.seen
+  pub node : Found n slot s h t
+  pub named : WasNamed (heap_of n t) root node.id
   pub one : Link
-  pub puts : Puts s (event_of s (Look (Root root) one) None ∷ event_of s (Look (Root root) (link_to id)) None ∷ []) t
+  pub puts : Puts s (event_of s (Look (Root root) one) None ∷ event_of s (Look (Root root) (link_to node.id)) None ∷ []) t
 
-pub root_held : (n : HeapNumbers) (s t : Seat FifoNote) (root slot : ℕ) (mark : Bool) (h : Hold) → root < 2 → Known n s.seen → AllAllowed (FifoMay n) [] t.seen
-    → LookedHeld (Root root) slot mark h s t → HoldsRoot n root slot s h t
-root_held n s t root slot mark h low k all l =
+pub root_held : (n : HeapNumbers) (s t : Seat FifoNote) (root slot : ℕ) (mark : Bool) (h : Hold) → root < 2 → IsFree s.slots slot → Known n s.seen
+    → Known n t.seen → LookedHeld (Root root) slot mark h s t → HoldsRoot n root slot s h t
+root_held n s t root slot mark h low free before after l =
     let link : Link = record { to = Some l.id; mark = mark } in
-    let f = root_found n s t root link (event_of s (Look (Root root) l.one) None ∷ []) [] low k l.puts all in
+    let f = root_found n s t root link (event_of s (Look (Root root) l.one) None ∷ []) [] low before l.puts after.all in
     let id_is : l.id ≡ f.id = some_same (ap (λ (x : Link). x.to) f.is) in
     record {
-      id = f.id;
-      in_slot = record { at = l.at; slots = subst (λ (i : ℕ). t.slots ≡ slice_set s.slots slot (Some (record { row = h.row; id = i }))) id_is l.slots };
+      before = before;
+      after = after;
+      node = record {
+        id = f.id;
+        free = free;
+        in_slot = record { at = l.at; slots = subst (λ (i : ℕ). t.slots ≡ slice_set s.slots slot (Some (record { row = h.row; id = i }))) id_is l.slots };
+        linked = f.named.linked;
+      };
       named = f.named;
       one = l.one;
       puts = subst (λ (x : Link). Puts s (event_of s (Look (Root root) l.one) None ∷ event_of s (Look (Root root) x) None ∷ []) t) f.is l.puts;
     }
+
+module _ {n : HeapNumbers} {root slot : ℕ} {s : Seat FifoNote} {h : Hold} {t : Seat FifoNote} (f : HoldsRoot n root slot s h t) where
+  pub root_named : WasNamed (heap_of n t) root (id_in t.slots h)
+  root_named = subst (λ (i : ℕ). WasNamed (heap_of n t) root i) (sym (found_id f.node)) f.named
+
+  -- the look leaves the fresh node
+  pub root_fresh : (job : ℕ) (node : Hold) → HoldsNode n job node s → t.fresh ≡ s.fresh → HoldsNode n job node t
+  root_fresh job node held fresh =
+      node_held n s t _ f.puts f.after.all job node held.second f.before held (found_other f.node node held.held) (found_other_id f.node node held.held) fresh
+      refl refl
 
 -- no look of a root finds null
 pub root_not_null : (n : HeapNumbers) (s t : Seat FifoNote) (root : ℕ) (mark : Bool) → root < 2 → Known n s.seen → AllAllowed (FifoMay n) [] t.seen
@@ -122,54 +142,82 @@ root_not_null n s t root mark low k all l =
 
 -- the successor that a look of a node's link holds
 pub record HoldsNext (n : HeapNumbers) (id slot : ℕ) (s : Seat FifoNote) (h : Hold) (t : Seat FifoNote) : Type 0 where
-  pub next : ℕ
-  pub in_slot : InSlot s slot next h t
-  pub link : HasLink (heap_of n t) id (link_to next)
-  pub puts : Puts s (event_of s (Look (Next id) (link_to next)) None ∷ event_of s (Look (Next id) (link_to next)) None ∷ []) t
+  pub before : Known n s.seen
+  pub after : Known n t.seen
+  pub node : Found n slot s h t
+  pub link : HasLink (heap_of n t) id (link_to node.id)
+  pub puts : Puts s (event_of s (Look (Next id) (link_to node.id)) None ∷ event_of s (Look (Next id) (link_to node.id)) None ∷ []) t
 
--- the link of the first look is that of the second, since it doesn't change any more
-next_both : (n : HeapNumbers) (s t : Seat FifoNote) (id slot : ℕ) (mark : Bool) (h : Hold) (l : LookedHeld (Next id) slot mark h s t)
-    → (next : ℕ) × (record { to = Some l.id; mark = mark } ≡ link_to next) × HasLink (heap_of n t) id (link_to next)
-    → (l.one ≡ null) ⊎ ((next : ℕ) × (l.one ≡ link_to next) × HasLink (heap_of n t) id (link_to next)) → HoldsNext n id slot s h t
-next_both n s t id slot mark h l some (inl none) = absurd (l.first (ap (λ (x : Link). x.to) none))
-next_both n s t id slot mark h l some (inr first) =
-    let (next, is, has) = some in
-    let (next1, is1, has1) = first in
-    let node_is : has1.node ≡ has.node = some_same (sym has1.there ∙ has.there) in
-    let same : link_to next1 ≡ link_to next = sym has1.link_is ∙ (ap (λ (x : Node). x.link) node_is ∙ has.link_is) in
-    let one_is : l.one ≡ link_to next = is1 ∙ same in
-    let id_is : l.id ≡ next = some_same (ap (λ (x : Link). x.to) is) in
+module _ (n : HeapNumbers) (s t : Seat FifoNote) (id slot : ℕ) (mark : Bool) (h : Hold) (free : IsFree s.slots slot) (before : Known n s.seen)
+    (after : Known n t.seen) (l : LookedHeld (Next id) slot mark h s t) where
+  -- the link of the first look is that of the second, since it doesn't change any more
+  next_both : (next : ℕ) × (record { to = Some l.id; mark = mark } ≡ link_to next) × HasLink (heap_of n t) id (link_to next)
+      → (l.one ≡ null) ⊎ ((next : ℕ) × (l.one ≡ link_to next) × HasLink (heap_of n t) id (link_to next)) → HoldsNext n id slot s h t
+  next_both some (inl none) = absurd (l.first (ap (λ (x : Link). x.to) none))
+  next_both some (inr first) =
+      let (next, is, has) = some in
+      let (next1, is1, has1) = first in
+      let node_is : has1.node ≡ has.node = some_same (sym has1.there ∙ has.there) in
+      let same : link_to next1 ≡ link_to next = sym has1.link_is ∙ (ap (λ (x : Node). x.link) node_is ∙ has.link_is) in
+      let one_is : l.one ≡ link_to next = is1 ∙ same in
+      let id_is : l.id ≡ next = some_same (ap (λ (x : Link). x.to) is) in
+      record {
+        before = before;
+        after = after;
+        node = record {
+          id = next;
+          free = free;
+          in_slot = record { at = l.at; slots = subst (λ (i : ℕ). t.slots ≡ slice_set s.slots slot (Some (record { row = h.row; id = i }))) id_is l.slots };
+          linked = successor_linked n t.seen id next after.holds has;
+        };
+        link = has;
+        puts = subst (λ (z : Link × Link). Puts s (event_of s (Look (Next id) z.0) None ∷ event_of s (Look (Next id) z.1) None ∷ []) t)
+            (λ i. (one_is i, is i)) l.puts;
+      }
+
+  pub next_held : IsLinkedNode (heap_of n s) id → HoldsNext n id slot s h t
+  next_held linked =
+      let link : Link = record { to = Some l.id; mark = mark } in
+      let f = next_found n s t id link (event_of s (Look (Next id) l.one) None ∷ []) [] before linked l.puts after.all in
+      let g = next_found n s t id l.one [] _ before linked l.puts after.all in
+      elim f.either [
+        | inl none ↦ let bad : Some l.id ≡ None = ap (λ (x : Link). x.to) none in absurd (cc)
+        | inr some ↦ next_both some g.either
+      ]
+
+-- the node whose link was looked at is still held, and the successor stands behind it
+pub next_link : (n : HeapNumbers) (s t : Seat FifoNote) (slot : ℕ) (k h : Hold) → Holds s.slots k → HoldsNext n (id_in s.slots k) slot s h t
+    → HasLink (heap_of n t) (id_in t.slots k) (link_to (id_in t.slots h))
+next_link n s t slot k h held f =
+    subst (λ (i : ℕ). HasLink (heap_of n t) i (link_to (id_in t.slots h))) (sym (found_other_id f.node k held))
+    (subst (λ (i : ℕ). HasLink (heap_of n t) (id_in s.slots k) (link_to i)) (sym (found_id f.node)) f.link)
+
+-- a look of a once linked node's link found null
+pub record FindsNull (n : HeapNumbers) (id : ℕ) (s t : Seat FifoNote) : Type 0 where
+  pub before : Known n s.seen
+  pub after : Known n t.seen
+  pub slots : t.slots ≡ s.slots
+  pub puts : Puts s (event_of s (Look (Next id) null) None ∷ []) t
+
+pub next_null : (n : HeapNumbers) (s t : Seat FifoNote) (id : ℕ) (mark : Bool) → Known n s.seen → Known n t.seen → IsLinkedNode (heap_of n s) id
+    → LookedNull (Next id) mark s t → FindsNull n id s t
+next_null n s t id mark before after linked l =
+    let link : Link = record { to = None; mark = mark } in
+    let f = next_found n s t id link [] [] before linked l.puts after.all in
     record {
-      next = next;
-      in_slot = record { at = l.at; slots = subst (λ (i : ℕ). t.slots ≡ slice_set s.slots slot (Some (record { row = h.row; id = i }))) id_is l.slots };
-      link = has;
-      puts = subst (λ (z : Link × Link). Puts s (event_of s (Look (Next id) z.0) None ∷ event_of s (Look (Next id) z.1) None ∷ []) t)
-          (λ i. (one_is i, is i)) l.puts;
+      before = before;
+      after = after;
+      slots = l.slots;
+      puts = elim f.either [
+        | inl none ↦ subst (λ (x : Link). Puts s (event_of s (Look (Next id) x) None ∷ []) t) none l.puts
+        | inr some ↦ let bad : None ≡ Some some.0 = ap (λ (x : Link). x.to) some.1 in absurd (cc)
+      ];
     }
 
-pub next_held : (n : HeapNumbers) (s t : Seat FifoNote) (id slot : ℕ) (mark : Bool) (h : Hold) → Known n s.seen → IsLinkedNode (heap_of n s) id
-    → AllAllowed (FifoMay n) [] t.seen
-    → LookedHeld (Next id) slot mark h s t → HoldsNext n id slot s h t
-next_held n s t id slot mark h k linked all l =
-    let link : Link = record { to = Some l.id; mark = mark } in
-    let f = next_found n s t id link (event_of s (Look (Next id) l.one) None ∷ []) [] k linked l.puts all in
-    let g = next_found n s t id l.one [] _ k linked l.puts all in
-    elim f.either [
-      | inl none ↦ let bad : Some l.id ≡ None = ap (λ (x : Link). x.to) none in absurd (cc)
-      | inr some ↦ next_both n s t id slot mark h l some g.either
-    ]
-
--- a look that found the end
-pub next_null : (n : HeapNumbers) (s t : Seat FifoNote) (id : ℕ) (mark : Bool) → Known n s.seen → IsLinkedNode (heap_of n s) id
-    → AllAllowed (FifoMay n) [] t.seen
-    → LookedNull (Next id) mark s t → Puts s (event_of s (Look (Next id) null) None ∷ []) t
-next_null n s t id mark k linked all l =
-    let link : Link = record { to = None; mark = mark } in
-    let f = next_found n s t id link [] [] k linked l.puts all in
-    elim f.either [
-      | inl none ↦ subst (λ (x : Link). Puts s (event_of s (Look (Next id) x) None ∷ []) t) none l.puts
-      | inr some ↦ let bad : None ≡ Some some.0 = ap (λ (x : Link). x.to) some.1 in absurd (cc)
-    ]
+-- the root that named the node has still named it
+pub null_named : (n : HeapNumbers) (s t : Seat FifoNote) (root : ℕ) (k : Hold) → FindsNull n (id_in s.slots k) s t
+    → WasNamed (heap_of n s) root (id_in s.slots k) → WasNamed (heap_of n t) root (id_in t.slots k)
+null_named n s t root k f named = subst (λ z. WasNamed (heap_of n t) root (id_in z k)) (sym f.slots) (named_puts n s t _ f.puts f.after.all root _ named)
 
 -- the second value of a once linked node is its position
 pub position_read : (n : HeapNumbers) (es : List (Event FifoNote)) (id value : ℕ) → Known n es → IsLinkedNode (run_heap n es) id

@@ -42,6 +42,11 @@ module _ (n : HeapNumbers) (s t : Seat FifoNote) (own : List (Event FifoNote)) (
   pub link_puts : (id next : ℕ) → HasLink (heap_of n s) id (link_to next) → HasLink (heap_of n t) id (link_to next)
   link_puts id next l = subst (λ es. HasLink (run_heap n es) id (link_to next)) (sym p.is) (link_later n s.seen p.part id next l new)
 
+  -- the same of two nodes that are held
+  pub held_link_puts : (h k : Hold) → t.slots ≡ s.slots → HasLink (heap_of n s) (id_in s.slots h) (link_to (id_in s.slots k))
+      → HasLink (heap_of n t) (id_in t.slots h) (link_to (id_in t.slots k))
+  held_link_puts h k slots l = subst (λ z. HasLink (heap_of n t) (id_in z h) (link_to (id_in z k))) (sym slots) (link_puts _ _ l)
+
   pub position_puts : (id : ℕ) → IsLinkedNode (heap_of n s) id → position_of (heap_of n t) id ≡ position_of (heap_of n s) id
   position_puts id l = ap (λ es. position_of (run_heap n es) id) p.is ∙ position_later n s.seen p.part id l new
 

@@ -5,12 +5,12 @@ use Rattle.orc_heap.proofs.OwnParts.{moves_from_own-append, own_from_left, own_f
 use Rattle.orc_heap.proofs.Runs.{run_from-append}
 use Rattle.orc_heap.proofs.Stays.{allowed-left, allowed-right}
 use Rattle.orc_heap.specs.Allowed.{AllAllowed}
-use Rattle.orc_heap.specs.Calls.{event_of}
+use Rattle.orc_heap.specs.Calls.{Releases, event_of}
 use Rattle.orc_heap.specs.Heap.{Heap, HeapNumbers, new_heap, null, shown, link_to}
 use Rattle.orc_heap.specs.Journals.{run_heap}
 use Rattle.orc_heap.specs.Moves.{AllOwn, from_own, moves_in}
 use Rattle.orc_heap.specs.OwnEvents.{Puts}
-use Rattle.orc_heap.specs.Seats.{Seat, heap_of}
+use Rattle.orc_heap.specs.Seats.{IsUntouched, Seat, heap_of}
 use Rattle.orc_heap.specs.Slots.{Hold, Holds, id_in}
 use Rattle.orc_heap.specs.declared.events.Act.TheVariants.{Look, Move}
 use Rattle.orc_heap.specs.declared.events.Event.{Event}
@@ -26,9 +26,12 @@ use Rattle.orc_queue.specs.declared.put.PutTurn.{PutTurn}
 use Rattle.orc_queue.specs.declared.put.PutTurn.TheVariants.{Full, Over as PutOver, Put as PutDone}
 use Rattle.orc_queue.specs.Turns.{AreOver, EndsHelping, FindsFull, HoldsNode, IsOver, Piece, PutMissed, PutTires, PutsBehind, PutsTurn, PutsTurns, TailIsLast}
 use Rattle.orc_queue.proofs.Alone.{over_helped, over_missed, over_quiet, swing_settles}
+use Rattle.orc_queue.proofs.Behind.{behind_piece}
 use Rattle.orc_queue.proofs.Filled.{Known}
+use Rattle.orc_queue.proofs.Holding.{found_fresh, found_id, found_other_id, found_released}
 use Rattle.orc_queue.proofs.Joins.{full_join_left, full_join_right, join, room_join}
-use Rattle.orc_queue.proofs.Pieces.{node_held, node_puts}
+use Rattle.orc_queue.proofs.Looking.{HoldsRoot}
+use Rattle.orc_queue.proofs.Pieces.{linked_puts, node_held, node_puts}
 use Rattle.orc_queue.proofs.Room.{room_unseen}
 use Rattle.orc_heap.proofs.OwnEntries.{noted-append}
 use Rattle.orc_heap.proofs.SingleActs.{link_same, null_to, some_same}
@@ -150,6 +153,20 @@ module _ (n : HeapNumbers) (one : Link) (job tail : ℕ) (h : Hold) (s a b t : S
           fresh = fresh_t ∙ (l.fresh ∙ fresh_a);
           full = full_join_right n s a t _ _ _ p q j.piece.puts (full_join_left n a b t _ _ _ q0.puts freed q l.full);
         }
+
+-- by what the look of the tail found
+pub turn_found : {n : HeapNumbers} (job : ℕ) (node : Hold) {tail : Hold} {s a b t : Seat FifoNote} → HoldsRoot n 1 2 s tail a → Known n b.seen
+    → AllAllowed (FifoMay n) [] t.seen → Holds s.slots node → a.fresh ≡ s.fresh
+    → ((i : ℕ) → b.fresh ≡ Some i → IsUntouched b.agent (heap_of n b) i) → Releases b tail t → (turn : PutTurn)
+    → PutsBehind n job (id_in a.slots tail) node a turn b → PutsTurn n job node s turn t
+turn_found {n} job node {tail} {s} {a} {b} {t} f kb all held fresh_a untouched released turn put =
+    let piece = behind_piece n job (id_in a.slots tail) node a b turn put in
+    let linked = linked_puts n a b piece.own piece.puts kb.all f.node.id f.node.linked in
+    let fresh = found_fresh f.node piece.slots untouched linked released in
+    let slots = found_released f.node piece.slots released in
+    let same = ap (λ z. id_in z node) slots ∙ sym (ap (λ z. id_in z node) piece.slots ∙ found_other_id f.node node held) in
+    turn_done n f.one job f.node.id node s a b t f.before kb f.after.all all f.puts released.puts slots fresh_a fresh
+    (subst (λ z. Holds z node) (sym slots) held) same turn (subst (λ (i : ℕ). PutsBehind n job i node a turn b) (found_id f.node) put)
 
 -- the tail moved between two looks
 pub turn_moved : (n : HeapNumbers) (job : ℕ) (h : Hold) (s t : Seat FifoNote) (one two : Link) → Known n s.seen → AllAllowed (FifoMay n) [] t.seen

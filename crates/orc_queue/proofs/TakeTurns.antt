@@ -5,12 +5,13 @@ use Rattle.orc_heap.proofs.OwnParts.{moves_from_own}
 use Rattle.orc_heap.proofs.Runs.{run_from-append}
 use Rattle.orc_heap.proofs.Stays.{allowed-left, allowed-right}
 use Rattle.orc_heap.specs.Allowed.{AllAllowed, IsLinkedNode}
-use Rattle.orc_heap.specs.Calls.{event_of}
+use Rattle.orc_heap.specs.Calls.{Releases, event_of}
 use Rattle.orc_heap.specs.Heap.{Heap, HeapNumbers, new_heap, null, shown, link_to}
 use Rattle.orc_heap.specs.Journals.{run_heap}
 use Rattle.orc_heap.specs.Moves.{moves_in}
 use Rattle.orc_heap.specs.OwnEvents.{Puts}
-use Rattle.orc_heap.specs.Seats.{Seat, heap_of}
+use Rattle.orc_heap.specs.Seats.{IsUntouched, Seat, heap_of}
+use Rattle.orc_heap.specs.Slots.{Hold, Holds, id_in}
 use Rattle.orc_heap.specs.declared.events.Act.TheVariants.{Look, Move}
 use Rattle.orc_heap.specs.declared.events.Event.{Event}
 use Rattle.orc_heap.specs.declared.events.Link.{Link}
@@ -26,7 +27,10 @@ use Rattle.orc_queue.specs.declared.take.TakeTurn.TheVariants.{Empty as TakeEmpt
 use Rattle.orc_queue.specs.Turns.{AreOver, HelpsHead, IsOver, Stops, TailIsPast, TakesBehind, TakesJob, TakesNext, TakesNone, TakesTurn, TakesTurns}
 use Rattle.orc_queue.proofs.Alone.{over_helped, over_missed, over_quiet, swing_past}
 use Rattle.orc_queue.proofs.Filled.{Known}
+use Rattle.orc_queue.proofs.Holding.{found_fresh, found_id, found_other_id, found_released}
 use Rattle.orc_queue.proofs.Joins.{join}
+use Rattle.orc_queue.proofs.Looking.{HoldsNext, HoldsRoot}
+use Rattle.orc_queue.proofs.Pieces.{linked_puts}
 use Rattle.orc_queue.proofs.Taking.{still_puts}
 use Rattle.orc_heap.proofs.OwnEntries.{noted-append}
 use Rattle.orc_heap.proofs.SingleActs.{link_same, some_same}
@@ -124,6 +128,36 @@ pub next_piece : (n : HeapNumbers) (head next : ℕ) (s t : Seat FifoNote) (got 
 next_piece n head next s t None l = record { own = l.piece.own; slots = l.piece.slots; fresh = l.fresh; puts = l.piece.puts }
 next_piece n head next s t (Some got) l = record { own = l.piece.own; slots = l.piece.slots; fresh = l.fresh; puts = l.piece.puts }
 
+-- the successor that the pass held is released
+module _ (n : HeapNumbers) (s a b t : Seat FifoNote) (slot : ℕ) (head next : Hold) (held : Holds s.slots head)
+    (f : HoldsNext n (id_in s.slots head) slot s next a) (fresh : a.fresh ≡ s.fresh) (all : AllAllowed (FifoMay n) [] b.seen)
+    (untouched : (i : ℕ) → b.fresh ≡ Some i → IsUntouched b.agent (heap_of n b) i) (released : Releases b next t)
+  where
+    told : (got : Option (ℕ × ℕ)) → TakesNext n (id_in a.slots head) (id_in a.slots next) a got b → TakesNext n (id_in s.slots head) f.node.id a got b
+    told got l = subst (λ (i : ℕ). TakesNext n i f.node.id a got b) (found_other_id f.node head held)
+        (subst (λ (i : ℕ). TakesNext n (id_in a.slots head) i a got b) (found_id f.node) l)
+
+    piece : (got : Option (ℕ × ℕ)) → TakesNext n (id_in a.slots head) (id_in a.slots next) a got b → TakenPiece a b
+    piece got l = next_piece n (id_in a.slots head) (id_in a.slots next) a b got l
+
+    still_fresh : (got : Option (ℕ × ℕ)) → TakesNext n (id_in a.slots head) (id_in a.slots next) a got b → t.fresh ≡ b.fresh
+    still_fresh got l =
+        let p = piece got l in
+        found_fresh f.node p.slots untouched (linked_puts n a b p.own p.puts all f.node.id f.node.linked) released
+
+    pub next_over : TakesNext n (id_in a.slots head) (id_in a.slots next) a None b → TakesBehind n (id_in s.slots head) s TakeOver t
+    next_over l =
+        let slots = found_released f.node (piece None l).slots released in
+        behind_over n (id_in s.slots head) f.node.id s a b t f.puts f.after.all released.puts slots fresh (still_fresh None l) (told None l)
+
+    pub next_taken : (job at : ℕ) → TakesNext n (id_in a.slots head) (id_in a.slots next) a (Some (job, at)) b
+        → TakesBehind n (id_in s.slots head) s (TakeDone job at) t
+    next_taken job at l =
+        let got = Some (job, at) in
+        let slots = found_released f.node (piece got l).slots released in
+        behind_taken n (id_in s.slots head) f.node.id s a b t f.puts f.after.all released.puts slots fresh (still_fresh got l) job at (told got l)
+
+-- and after all that a turn does behind the head
 pub behind_kept : (n : HeapNumbers) (head : ℕ) (s t : Seat FifoNote) (turn : TakeTurn) → TakesBehind n head s turn t → TakenPiece s t
 behind_kept n head s t TakeOver l = record { own = l.piece.own; slots = l.piece.slots; fresh = l.fresh; puts = l.piece.puts }
 behind_kept n head s t (TakeDone job at) l = record { own = l.piece.own; slots = l.piece.slots; fresh = l.fresh; puts = l.piece.puts }
@@ -214,6 +248,16 @@ module _ (n : HeapNumbers) (one : Link) (head : ℕ) (s a b t : Seat FifoNote) (
         let j = join 6 s a t _ q0.own (Empty s.agent ∷ []) p q slots (q0.entries_are ∙ ap (λ (x : ℕ). Empty x ∷ []) p.agent)
         (omega (arith, q0.no_give)) (omega (arith, q0.few)) in
         record { piece = j.piece; fresh = fresh_t ∙ (l.fresh ∙ fresh_a) }
+
+-- by what the look of the head found
+pub turn_found : {n : HeapNumbers} {head : Hold} {s a b t : Seat FifoNote} → HoldsRoot n 0 1 s head a → AllAllowed (FifoMay n) [] b.seen
+    → AllAllowed (FifoMay n) [] t.seen → a.fresh ≡ s.fresh → ((i : ℕ) → b.fresh ≡ Some i → IsUntouched b.agent (heap_of n b) i)
+    → Releases b head t → (turn : TakeTurn) → TakesBehind n (id_in a.slots head) a turn b → TakesTurn n s turn t
+turn_found {n} {head} {s} {a} {b} {t} f all_b all_t fresh_a untouched released turn took =
+    let piece = behind_kept n (id_in a.slots head) a b turn took in
+    let linked = linked_puts n a b piece.own piece.puts all_b f.node.id f.node.linked in
+    turn_taken n f.one f.node.id s a b t f.before f.after.all all_t f.puts released.puts (found_released f.node piece.slots released) fresh_a
+    (found_fresh f.node piece.slots untouched linked released) turn (subst (λ (i : ℕ). TakesBehind n i a turn b) (found_id f.node) took)
 
 -- the head moved between two looks
 pub turn_differs : (n : HeapNumbers) (s t : Seat FifoNote) (one two : Link) → AllAllowed (FifoMay n) [] t.seen → one ≢ two → t.slots ≡ s.slots

@@ -4,7 +4,7 @@ use Rattle.std.proofs.lemmas.List.{length-append}
 use Rattle.std.specs.Borrow.{Bor}
 use Rattle.orc_heap.proofs.Moved.{moves_in-append, shown_or_moved, gives_in-append}
 use Rattle.orc_heap.proofs.OwnParts.{moves_from_own, moves_own}
-use Rattle.orc_heap.proofs.Calls.{Puts-trans, Puts-stood, part_allowed}
+use Rattle.orc_heap.proofs.Calls.{Only-trans, Puts-trans, Puts-stood, part_allowed}
 use Rattle.orc_heap.specs.Allowed.{AllAllowed, AllowedLater, IsLinkedNode, HasLink}
 use Rattle.orc_heap.specs.Calls.{Misses, ReadsValue, Swings, Tests, event_of}
 use Rattle.orc_heap.specs.Heap.{HeapNumbers, Node, null, shown, link_to}
@@ -25,14 +25,16 @@ use Rattle.orc_history.specs.declared.queue.QueueEntry.TheVariants.{Empty, Took}
 use Rattle.orc_fifo_rule.proofs.Coming.{took_allowed}
 use Rattle.orc_fifo_rule.proofs.Later.{holds_later, job_later, named_later}
 use Rattle.orc_fifo_rule.proofs.Leaving.{is_left, left_later}
+use Rattle.orc_fifo_rule.proofs.Reading.{successor_job}
 use Rattle.orc_fifo_rule.specs.declared.fifo.FifoNote.{FifoNote}
 use Rattle.orc_fifo_rule.specs.declared.fifo.FifoNote.TheVariants.{Entry, Swing}
-use Rattle.orc_fifo_rule.specs.QueueDiscipline.{FifoMay, HasJob, entries_of, entries_in}
+use Rattle.orc_fifo_rule.specs.QueueDiscipline.{FifoMay, HasJob, entries_of, entries_in, position_of}
 use Rattle.orc_fifo_rule.specs.Watches.{IsLeft, WasNamed}
 use Rattle.orc_fifo_rule.specs.Laws.Events.{begun_more}
 use Rattle.orc_queue.specs.Turns.{FindsEnd, Helps, HelpsPast, Stops, TakesFrom, TakesJob, TakesNext}
 use Rattle.orc_queue.proofs.Filled.{Known}
 use Rattle.orc_queue.proofs.Joins.{join}
+use Rattle.orc_queue.proofs.Looking.{job_read}
 use Rattle.orc_queue.proofs.Pieces.{left_puts, link_puts}
 use Rattle.orc_heap.proofs.OwnEntries.{noted-append}
 use Rattle.orc_heap.proofs.SingleActs.{some_same}
@@ -67,8 +69,39 @@ pub job_puts : (n : HeapNumbers) (s t : Seat FifoNote) (own : List (Event FifoNo
 job_puts n s t own p all id job at j =
     subst (λ es. HasJob (run_heap n es) id job at) (sym p.is) (job_later n s.seen p.part id job at j (part_allowed (FifoMay n) s t own p all))
 
+-- what the reads of the successor's two values say
+pub record ReadsSuccessor (n : HeapNumbers) (head next read_job read_at : ℕ) (s b : Seat FifoNote) : Type 0 where
+  pub before : Known n s.seen
+  pub after : Known n b.seen
+  pub nothing : Only [] s b
+  pub job : ℕ
+  pub holds : HasJob (heap_of n b) next job (position_of (heap_of n s) head)
+  pub job_is : read_job ≡ job
+  pub at_is : read_at ≡ position_of (heap_of n s) head + 1
+
+pub successor_read : (n : HeapNumbers) (head : ℕ) (next : Hold) (read_job read_at : ℕ) (s a b : Seat FifoNote) → Known n s.seen → Known n b.seen
+    → AllAllowed (FifoMay n) [] a.seen → HasLink (heap_of n s) head (link_to (id_in s.slots next)) → Only [] s a → Only [] a b
+    → ReadsValue (heap_of n a) (id_in s.slots next) 0 read_job → ReadsValue (heap_of n b) (id_in a.slots next) 1 read_at
+    → ReadsSuccessor n head (id_in s.slots next) read_job read_at s b
+successor_read n head next read_job read_at s a b before after all link first second one two =
+    let id = id_in s.slots next in
+    let found = successor_job n s.seen head id before.holds link in
+    let at = position_of (heap_of n s) head in
+    let job_a = job_puts n s a [] first.puts all id found.0 at found.1 in
+    let job_b = job_puts n a b [] second.puts after.all id found.0 at job_a in
+    let same : id_in a.slots next ≡ id = ap (λ z. id_in z next) first.slots in
+    record {
+      before = before;
+      after = after;
+      nothing = Only-trans s a b [] [] first second;
+      job = found.0;
+      holds = job_b;
+      job_is = job_read n a.seen id found.0 at read_job job_a one;
+      at_is = second_read n b.seen id found.0 at read_at job_b (subst (λ (i : ℕ). ReadsValue (heap_of n b) i 1 read_at) same two);
+    }
+
 -- the swing of the head, after nothing of the pass's own
-pub head_swung : (n : HeapNumbers) (s b t : Seat FifoNote) (head next : Bor Hold) (agent job at : ℕ) (done : Bool) → agent ≡ s.agent → Only [] s b
+pub head_swung : (n : HeapNumbers) (s b t : Seat FifoNote) (head next : Bor Hold) (agent job at : ℕ) (done : Bool) → agent ≡ b.agent → Only [] s b
     → AllAllowed (FifoMay n) [] t.seen
     → Swings (AtRoot 0) (WantNode head false) (WantNode next false) (Some (Entry (Took agent job at))) b done t → done ≡ true
     → b.fresh ≢ Some (id_in b.slots next.now) → TakesJob 1 job at s t
@@ -79,7 +112,7 @@ head_swung n s b t head next agent job at true agent_is o all w is other =
         own = _;
         slots = w.slots ∙ o.slots;
         puts = p;
-        entries_are = ap (λ (x : ℕ). Took x job at ∷ []) agent_is;
+        entries_are = ap (λ (x : ℕ). Took x job at ∷ []) (agent_is ∙ o.puts.agent);
         no_give = refl;
         few =
             omega arith;
@@ -152,16 +185,18 @@ past_helped n head next place link s a b p all_a all_b slots fresh helped = elim
 ]
 
 -- the tail named another node: it has left the head
-pub past_left : (n : HeapNumbers) (head : ℕ) (s a : Seat FifoNote) → Known n s.seen → AllAllowed (FifoMay n) [] a.seen → WasNamed (heap_of n s) 0 head
-    → Misses (Root 1) (link_to head) s a → IsLeft (heap_of n a) head
-past_left n head s a k all named miss =
+pub past_left : (n : HeapNumbers) (h : Hold) (s a : Seat FifoNote) → Known n s.seen → AllAllowed (FifoMay n) [] a.seen → a.slots ≡ s.slots
+    → WasNamed (heap_of n s) 0 (id_in s.slots h) → Misses (Root 1) (link_to (id_in s.slots h)) s a → IsLeft (heap_of n a) (id_in a.slots h)
+past_left n h s a k all slots named miss =
+    let head = id_in s.slots h in
     let e : Event FifoNote = event_of s (Miss (Root 1) (link_to head) miss.found) None in
     let m = Puts-stood (FifoMay n) s a [] e [] miss.puts all in
     let es = s.seen ++ m.before in
     let holds = holds_later n s.seen m.before k.holds m.first in
     let begun = begun_more s.seen m.before k.dummy.begun in
     let left = is_left n es head holds begun (named_later n s.seen m.before 0 head named m.first) (λ x. miss.other (some_same (sym m.here.fits.0 ∙ x))) in
-    subst (λ z. IsLeft (run_heap n z) head) (sym (miss.puts.is ∙ seen_is m)) (left_later n es (e ∷ m.later) head holds begun left (since m))
+    subst (λ z. IsLeft (heap_of n a) (id_in z h)) (sym slots)
+    (subst (λ z. IsLeft (run_heap n z) head) (sym (miss.puts.is ∙ seen_is m)) (left_later n es (e ∷ m.later) head holds begun left (since m)))
 
 -- and then the job was taken, or not
 pub past_taken : (n : HeapNumbers) (head next : ℕ) (s a t : Seat FifoNote) (own : List (Event FifoNote)) (p : Puts s own a)
@@ -193,23 +228,25 @@ past_taken n head next s a t own p all slots fresh no_entry no_give no_move one 
     record { piece = j.piece; fresh = l.fresh ∙ fresh }
 
 -- the Took may come
-pub took_may : (n : HeapNumbers) (s b : Seat FifoNote) (head next : Hold) (job at agent read_job read_at : ℕ) → Only [] s b → Known n b.seen
-    → Known n s.seen → agent ≡ b.agent → read_job ≡ job → read_at ≡ at
+pub took_may : (n : HeapNumbers) (s b : Seat FifoNote) (head next : Hold) (agent read_job read_at value : ℕ)
+    → ReadsSuccessor n (id_in s.slots head) (id_in s.slots next) read_job value s b → read_at + 1 ≡ value → agent ≡ b.agent
     → IsLeft (heap_of n s) (id_in s.slots head) → HasLink (heap_of n s) (id_in s.slots head) (link_to (id_in s.slots next))
-    → HasJob (heap_of n b) (id_in s.slots next) job at
     → AllowedLater (FifoMay n) n b.agent b.seen (Root 0) (link_to (id_in b.slots head))
     (event_of b (Move (Root 0) (link_to (id_in b.slots head)) (link_to (id_in b.slots next))) (Some (Entry (Took agent read_job read_at))))
-took_may n s b head next job at agent read_job read_at o kb ks agent_is job_is at_is left link has =
+took_may n s b head next agent read_job read_at value r value_is agent_is left link =
+    let o = r.nothing in
     let h = id_in s.slots head in
     let x = id_in s.slots next in
-    let may = took_allowed n b.agent h x job at b.seen kb.holds kb.dummy.begun (left_puts n s b [] o.puts kb.all h ks left)
-    (link_puts n s b [] o.puts kb.all h x link) has in
+    let at = position_of (heap_of n s) h in
+    let at_is : read_at ≡ at = omega (arith, value_is, r.at_is) in
+    let may = took_allowed n b.agent h x r.job at b.seen r.after.holds r.after.dummy.begun
+    (left_puts n s b [] o.puts r.after.all h r.before left) (link_puts n s b [] o.puts r.after.all h x link) r.holds in
     let one = subst
     (λ (i : ℕ). AllowedLater (FifoMay n) n b.agent b.seen (Root 0) (link_to i)
-    (event_of b (Move (Root 0) (link_to i) (link_to x)) (Some (Entry (Took b.agent job at))))) (sym (ap (λ z. id_in z head) o.slots)) may in
+    (event_of b (Move (Root 0) (link_to i) (link_to x)) (Some (Entry (Took b.agent r.job at))))) (sym (ap (λ z. id_in z head) o.slots)) may in
     let two = subst
     (λ (i : ℕ). AllowedLater (FifoMay n) n b.agent b.seen (Root 0) (link_to (id_in b.slots head))
-    (event_of b (Move (Root 0) (link_to (id_in b.slots head)) (link_to i)) (Some (Entry (Took b.agent job at)))))
+    (event_of b (Move (Root 0) (link_to (id_in b.slots head)) (link_to i)) (Some (Entry (Took b.agent r.job at)))))
     (sym (ap (λ z. id_in z next) o.slots)) one in
     subst (λ (e : QueueEntry). AllowedLater (FifoMay n) n b.agent b.seen (Root 0) (link_to (id_in b.slots head))
-    (event_of b (Move (Root 0) (link_to (id_in b.slots head)) (link_to (id_in b.slots next))) (Some (Entry e)))) (rw (agent_is, job_is, at_is) refl) two
+    (event_of b (Move (Root 0) (link_to (id_in b.slots head)) (link_to (id_in b.slots next))) (Some (Entry e)))) (rw (agent_is, r.job_is, at_is) refl) two

@@ -1,5 +1,5 @@
 -- One more step adds events of its agent alone.
-use Rattle.std.proofs.Common.{List, None, Option, Some, [], ap, append-nil, refl, true, ℕ, ◌++◌, ◌∙◌, ◌≡◌, ◌∷◌}
+use Rattle.std.proofs.Common.{List, None, Option, Some, [], ap, append-nil, refl, true, ◌++◌, ◌∙◌, ◌≡◌, ◌∷◌}
 use Rattle.std.proofs.lemmas.Bool.{eq-eqb}
 use Rattle.std.specs.List.{list_all}
 use Rattle.std.specs.Prelude.{◌&&◌, ◌==◌}

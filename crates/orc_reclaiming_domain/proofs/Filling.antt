@@ -3,7 +3,6 @@ use Rattle.std.proofs.Common.{None, Option, Some, [], ap, eq-eqb, refl, subst, s
 use Rattle.std.specs.Option.{option_map}
 use Rattle.orc_core.specs.RecordParts.{any_holds, names}
 use Rattle.orc_core.specs.declared.ops.Op.TheVariants.{Fill as FillStep}
-use Rattle.orc_core.specs.declared.records.Agent.{Agent}
 use Rattle.orc_heap.specs.Calls.{fill_of}
 use Rattle.orc_heap.specs.Journals.{event_by}
 use Rattle.orc_heap.specs.OwnEvents.{Only}

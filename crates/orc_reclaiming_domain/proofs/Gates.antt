@@ -1,5 +1,5 @@
 -- A row whose gate or counter has changed was out in between.
-use Rattle.std.proofs.Common.{Bool, List, [], ap, append_assoc, append-nil, arith, eq-eqb, inl, inr, refl, subst, sym, true, ℕ, ⊎_elim, ◌++◌, ◌+◌, ◌<◌, ◌∙◌, ◌≡◌, ◌∷◌, ◌⊎◌}
+use Rattle.std.proofs.Common.{List, [], ap, append_assoc, append-nil, arith, eq-eqb, inl, inr, refl, subst, sym, true, ℕ, ⊎_elim, ◌++◌, ◌<◌, ◌∙◌, ◌≡◌, ◌∷◌, ◌⊎◌}
 use Rattle.std.specs.Prelude.{◌%◌, ◌==◌}
 use Rattle.orc_core.specs.Counts.{is_out}
 use Rattle.orc_core.specs.Machine.{Machine, is_allowed, new_machine, step, word_in}
@@ -96,7 +96,8 @@ module _ {N : Type 0} where
   -- over any lawful steps the word is the same at the end, or the row was out
   word_between : (w : Word) (b : Bounds) (r : ℕ) → ((j : List (Step N)) (s : Step N) → IsLawfulJournal (new_machine b) (j ++ s ∷ [])
       → WordStep w (run_of b j) (run_of b (j ++ s ∷ [])) r)
-      → (j more : List (Step N)) → IsLawfulJournal (new_machine b) (j ++ more) → (word_in (run_of b (j ++ more)) w ≡ word_in (run_of b j) w) ⊎ OutIn b j more r
+      → (j more : List (Step N)) → IsLawfulJournal (new_machine b) (j ++ more)
+      → (word_in (run_of b (j ++ more)) w ≡ word_in (run_of b j) w) ⊎ OutIn b j more r
   word_between w b r law j [] l = inl (ap (λ z. word_in (run_of b z) w) (append-nil j))
   word_between w b r law j (s ∷ ss) l =
       let again : j ++ s ∷ ss ≡ (j ++ s ∷ []) ++ ss = sym (append_assoc j (s ∷ []) ss) in

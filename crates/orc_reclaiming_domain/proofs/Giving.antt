@@ -1,13 +1,13 @@
 -- A row that was taken is filled and held.
-use Rattle.std.proofs.Common.{Bool, List, None, Option, Some, [], ap, arith, eq-eqb, false, length, refl, subst, sym, true, ℕ, ◌++◌, ◌<◌, ◌∙◌, ◌≡◌, ◌∷◌}
+use Rattle.std.proofs.Common.{Bool, List, None, Option, Some, [], ap, arith, eq-eqb, refl, subst, sym, true, ℕ, ◌++◌, ◌<◌, ◌∙◌, ◌≡◌, ◌∷◌}
 use Rattle.std.proofs.lemmas.Bool.{lt-ltb}
 use Rattle.std.specs.List.{list_any}
 use Rattle.std.specs.Option.{option_map}
-use Rattle.std.specs.Prelude.{cond, if◌then◌else◌, slice_get, slice_index_or, slice_set, ◌==◌, ◌&&◌, ◌||◌}
+use Rattle.std.specs.Prelude.{cond, if◌then◌else◌, slice_get, slice_index_or, slice_set, ◌&&◌}
 use mathlib.Core.List.{IsPrefix}
 use Rattle.orc_core.specs.Allowed.{may as may_make}
 use Rattle.orc_core.specs.Machine.{new_machine}
-use Rattle.orc_core.specs.RecordParts.{any_holds, is_published, names, slot_of}
+use Rattle.orc_core.specs.RecordParts.{any_holds, names, slot_of}
 use Rattle.orc_core.specs.declared.ops.Op.TheVariants.{Fill as FillStep, Publish}
 use Rattle.orc_core.specs.declared.records.Agent.{Agent}
 use Rattle.orc_core.specs.declared.records.SlotUse.{SlotUse}
@@ -37,7 +37,6 @@ use Rattle.orc_projection.specs.Projection.{present_ids}
 use Rattle.orc_reclaiming_domain.proofs.Protecting.{empty_slot, held_ready, publish_may, still_ready}
 use Rattle.orc_reclaiming_domain.proofs.Seats.{calm_forced, ids_keep, only, or_right, ready_calm, sets}
 use Rattle.orc_reclaiming_domain.proofs.Stages.{Between, Stage, Steps, done_later, done_one, seat}
-use Rattle.orc_reclaiming_domain.specs.Calls.{SameParts}
 use Rattle.orc_reclaiming_domain.specs.Searches.{Gets}
 use Rattle.orc_reclaiming_domain.specs.Seats.{IsCalm, IsReady, SetsSlot}
 use Rattle.orc_words.specs.Bounds.{Bounds}

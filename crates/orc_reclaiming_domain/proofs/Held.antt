@@ -1,8 +1,7 @@
 -- What a pass holds: its rows are out and known, and what a caller names by them.
-use Rattle.std.proofs.Common.{Bool, List, None, Option, Some, [], ap, arith, eq-eqb, length, refl, subst, suc, sym, true, zero, ℕ, ◌+◌, ◌<◌, ◌∙◌, ◌≡◌, ◌∷◌}
+use Rattle.std.proofs.Common.{List, Some, [], ap, arith, eq-eqb, refl, subst, suc, sym, true, zero, ℕ, ◌<◌, ◌∙◌, ◌≡◌, ◌∷◌}
 use Rattle.std.proofs.lemmas.Bool.{lt-ltb}
-use Rattle.std.specs.Option.{option_map}
-use Rattle.std.specs.Prelude.{map, nat_lt, slice_get, slice_index_or, ◌&&◌, ◌==◌, ◌||◌}
+use Rattle.std.specs.Prelude.{map, slice_get, slice_index_or, ◌&&◌, ◌||◌}
 use Rattle.orc_core.specs.Allowed.{may_place}
 use Rattle.orc_core.specs.RecordParts.{any_holds, holds, names, slot_of}
 use Rattle.orc_core.specs.declared.records.Agent.{Agent}
@@ -29,7 +28,7 @@ use Rattle.orc_machine_board.specs.declared.machine.MachineShape.{MachineShape}
 use Rattle.orc_projection.proofs.Mirrored.{projection_mirrors}
 use Rattle.orc_projection.specs.Mirror.{Mirrors}
 use Rattle.orc_projection.specs.PresentIds.{PresentIds, node_link, node_place}
-use Rattle.orc_projection.specs.Projection.{present_ids, project}
+use Rattle.orc_projection.specs.Projection.{project}
 use Rattle.orc_reclaiming_domain.proofs.Seats.{held_slot, slot_holds}
 use Rattle.orc_reclaiming_domain.proofs.Stages.{Stage, seat}
 use Rattle.orc_reclaiming_domain.specs.Seats.{IsReady, slot_by}

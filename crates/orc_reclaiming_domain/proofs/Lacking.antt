@@ -1,11 +1,10 @@
 -- Where no row could be given, each row was taken before, so as many nodes as there are rows had been given.
-use Rattle.std.proofs.Common.{List, None, Option, Some, [], ap, arith, length, refl, subst, suc, sym, take, true, zero, ℕ, ⊎_elim, ◌++◌, ◌+◌, ◌<◌, ◌∙◌, ◌≡◌, ◌∷◌, ◌≤◌, ◌⊎◌}
-use Rattle.std.specs.Prelude.{drop, slice_get, ◌/◌}
+use Rattle.std.proofs.Common.{List, Some, [], ap, arith, length, refl, subst, suc, sym, take, true, zero, ℕ, ⊎_elim, ◌++◌, ◌<◌, ◌∙◌, ◌≡◌, ◌∷◌, ◌≤◌}
+use Rattle.std.specs.Prelude.{slice_get}
 use Rattle.orc_core.specs.Counts.{is_out}
 use Rattle.orc_core.specs.Machine.{new_machine, word_in}
 use Rattle.orc_domain.proofs.Counting.{no_more, nodes_given}
 use Rattle.orc_heap.proofs.Changes.{get-grown}
-use Rattle.orc_heap.specs.Journals.{run_heap}
 use Rattle.orc_heap.specs.Moves.{gives_in}
 use Rattle.orc_machine_board.specs.Laws.Steps.{bounds_run}
 use Rattle.orc_machine_board.specs.Rules.{run_of}
@@ -15,18 +14,16 @@ use Rattle.orc_projection.specs.Mirror.{numbers_of}
 use Rattle.orc_projection.specs.Projection.{present_ids, project}
 use Rattle.orc_projection.specs.Taken.{rows_taken}
 use Rattle.orc_reclaiming_domain.proofs.Gates.{OutIn, counter_between, gate_between}
-use Rattle.orc_reclaiming_domain.specs.Causes.{IsLacking, IsOfDomain, IsTaken}
+use Rattle.orc_reclaiming_domain.specs.Causes.{IsLacking, IsTaken}
 use Rattle.orc_sound.proofs.Journals.{IsLawfulJournal-append}
 use Rattle.orc_sound.proofs.NewState.{counter_first, zero_first}
 use Rattle.orc_sound.proofs.Shown.{word_shown}
-use Rattle.orc_sound.proofs.World.{world_of}
 use Rattle.orc_sound.specs.Journals.{IsLawfulJournal}
 use Rattle.orc_sound.specs.declared.steps.Step.{Step}
 use Rattle.orc_table.proofs.Lists.{at_index, index_in, some_one}
 use Rattle.orc_table.specs.Machine.{index_of}
 use Rattle.orc_table.specs.Words.{IsOut}
 use Rattle.orc_words.specs.Bounds.{Bounds, IsShape}
-use Rattle.orc_words.specs.Packed.{sequence_of}
 use Rattle.orc_words.specs.declared.place.Word.TheVariants.{Counter, Gate}
 
 module _ {N : Type 0} where

@@ -1,6 +1,5 @@
 -- The causes of refusals stay so as the journal goes on.
-use Rattle.std.proofs.Common.{List, Some, [], ap, arith, length, length-append, subst, suc, sym, take, zero, ℕ, ◌++◌, ◌+◌, ◌<◌, ◌∙◌, ◌≡◌, ◌∷◌, ◌≤◌}
-use Rattle.std.specs.Prelude.{slice_get}
+use Rattle.std.proofs.Common.{List, ap, arith, length-append, subst, sym, ℕ, ◌++◌, ◌∙◌}
 use Rattle.orc_core.specs.Machine.{word_in}
 use Rattle.orc_fault.specs.declared.Spent.{Spent}
 use Rattle.orc_heap.proofs.Changes.{get-grown}

@@ -1,10 +1,10 @@
 -- A pass that learns: what it has seen is longer, with no step of its own that is new.
-use Rattle.std.proofs.Common.{Bool, List, None, Option, Some, [], ap, append-nil, arith, inl, inr, length, length-append, refl, subst, sym, zero, ⊎_elim, ℕ, ◌++◌, ◌+◌, ◌<◌, ◌∙◌, ◌≡◌, ◌∷◌}
+use Rattle.std.proofs.Common.{List, [], ap, append-nil, arith, inl, inr, length, length-append, refl, subst, sym, ⊎_elim, ℕ, ◌++◌, ◌∙◌, ◌≡◌, ◌∷◌}
 use mathlib.Core.List.{IsPrefix}
 use Rattle.orc_core.specs.RecordParts.{any_holds, names}
 use Rattle.orc_core.specs.declared.records.Agent.{Agent}
 use Rattle.orc_heap.specs.Allowed.{events_by}
-use Rattle.orc_heap.specs.Calls.{IsLonger, Learns}
+use Rattle.orc_heap.specs.Calls.{Learns}
 use Rattle.orc_heap.specs.OwnEvents.{Only}
 use Rattle.orc_heap.specs.declared.discipline.Discipline as discipline
 use Rattle.orc_heap.specs.declared.events.Event.{Event}

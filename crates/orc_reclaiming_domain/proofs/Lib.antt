@@ -1,6 +1,7 @@
 pub mod Adding
 pub mod Counters
 pub mod Filling
+pub mod FreshRows
 pub mod Gates
 pub mod Giving
 pub mod Held
@@ -14,6 +15,7 @@ pub mod Opened
 pub mod Protecting
 pub mod Reading
 pub mod Releasing
+pub mod Retiring
 pub mod Rounds
 pub mod Searching
 pub mod Seats

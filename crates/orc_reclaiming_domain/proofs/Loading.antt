@@ -14,7 +14,6 @@ use Rattle.orc_heap.specs.Journals.{event_by}
 use Rattle.orc_heap.specs.OwnEvents.{Only}
 use Rattle.orc_heap.specs.declared.discipline.Discipline as discipline
 use Rattle.orc_heap.specs.declared.events.Act.TheVariants.{Look}
-use Rattle.orc_heap.specs.declared.events.Event.{Event}
 use Rattle.orc_heap.specs.declared.events.Place.{Place}
 use Rattle.orc_machine_board.proofs.Licences.{load_has, same_place}
 use Rattle.orc_machine_board.specs.Kinds.{MayDo, asks, wants}

@@ -3,13 +3,10 @@ use Rattle.std.proofs.Common.{Bool, List, None, Option, Some, [], ap, append_ass
 use Rattle.std.specs.List.{list_any}
 use Rattle.std.specs.Option.{option_map}
 use Rattle.std.specs.Prelude.{cond, slice_get, slice_index_or, slice_set, ◌||◌}
-use mathlib.Core.List.{IsPrefix}
-use Rattle.orc_core.proofs.Within.{may_parts}
 use Rattle.orc_core.specs.After.{promoted}
 use Rattle.orc_core.specs.Allowed.{may_place}
-use Rattle.orc_core.specs.Machine.{new_machine, word_in, word_read}
+use Rattle.orc_core.specs.Machine.{new_machine, word_in}
 use Rattle.orc_core.specs.RecordParts.{any_holds, holds_fresh, is_empty, names, slot_of}
-use Rattle.orc_core.specs.declared.ops.Op.{Op}
 use Rattle.orc_core.specs.declared.ops.Op.TheVariants.{Clear, LinkLoad, Publish, TakeIn}
 use Rattle.orc_core.specs.declared.records.Agent.{Agent}
 use Rattle.orc_core.specs.declared.records.SlotUse.{SlotUse}
@@ -52,7 +49,7 @@ use Rattle.orc_reclaiming_domain.proofs.Stages.{Between, Stage, Steps, before_la
 use Rattle.orc_reclaiming_domain.proofs.Untouched.{still_between, untouched_more}
 use Rattle.orc_reclaiming_domain.specs.Calls.{SameParts, Unlocks}
 use Rattle.orc_reclaiming_domain.specs.OwnSteps.{HasDone, LeavesNothing}
-use Rattle.orc_reclaiming_domain.specs.Seats.{IsCalm, IsReady, SetsSlot, slot_by}
+use Rattle.orc_reclaiming_domain.specs.Seats.{IsCalm, SetsSlot, slot_by}
 use Rattle.orc_shared_words.proofs.Events.{others_add}
 use Rattle.orc_sound.specs.Journals.{IsLawfulJournal}
 use Rattle.orc_sound.specs.declared.steps.Step.{Step}

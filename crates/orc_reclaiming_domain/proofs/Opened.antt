@@ -1,17 +1,15 @@
 -- What a pass has seen begins with the opening, and each of it is of one of the agents.
-use Rattle.std.proofs.Common.{List, None, Option, Some, [], ap, refl, subst, sym, true, ℕ, ◌+◌, ◌++◌, ◌<◌, ◌∙◌, ◌≡◌, ◌∷◌, ◌≤◌}
+use Rattle.std.proofs.Common.{List, None, Option, Some, [], ap, subst, sym, true, ℕ, ◌+◌, ◌++◌, ◌<◌, ◌∙◌, ◌≡◌, ◌∷◌}
 use Rattle.std.proofs.lemmas.Bool.{ltb-true}
-use Rattle.std.specs.List.{AllByRecursion}
-use Rattle.std.specs.Prelude.{nat_lt, not, ◌&&◌}
+use Rattle.std.specs.Prelude.{nat_lt, ◌&&◌}
 use mathlib.Core.List.{IsPrefix}
 use Rattle.orc_core.proofs.Within.{and_both, may_parts}
-use Rattle.orc_core.specs.Allowed.{may_change, may_place, may_target}
+use Rattle.orc_core.specs.Allowed.{may_change, may_target}
 use Rattle.orc_core.specs.Machine.{Machine, is_allowed, new_machine, record_at, step, word_in, word_read}
-use Rattle.orc_core.specs.RecordParts.{any_holds, is_empty, names, slot_of}
+use Rattle.orc_core.specs.RecordParts.{is_empty, slot_of}
 use Rattle.orc_core.specs.declared.ops.Op.{Op}
 use Rattle.orc_core.specs.declared.ops.CounterUse.TheVariants.{Check}
 use Rattle.orc_core.specs.declared.ops.Op.TheVariants.{CounterLoad, Fill, GateLook, GateTake, Inc, LinkCas, Publish}
-use Rattle.orc_core.specs.declared.records.Agent.{Agent}
 use Rattle.orc_heap.specs.OwnEvents.{IsBelow}
 use Rattle.orc_heap.specs.Seeds.{HasRoots, opening_events}
 use Rattle.orc_heap.specs.declared.events.Act.{Act}

@@ -1,9 +1,7 @@
 -- What a look needs: a link's target is named, and a slot that was published may be read again and cleared.
-use Rattle.std.proofs.Common.{Bool, List, None, Option, Some, [], ap, append-nil, arith, eq-eqb, eqb-true, false, get_or-set_same, length, refl, subst, suc, sym, true, zero, ℕ, ◌++◌, ◌+◌, ◌<◌, ◌∙◌, ◌≡◌, ◌≤◌, ◌∷◌}
+use Rattle.std.proofs.Common.{Bool, List, None, Option, Some, [], ap, arith, eq-eqb, false, get_or-set_same, length, refl, subst, suc, sym, true, zero, ℕ, ◌+◌, ◌<◌, ◌∙◌, ◌≡◌, ◌≤◌, ◌∷◌}
 use Rattle.std.proofs.lemmas.Bool.{false≢true, lt-ltb, ltb-true}
-use Rattle.std.specs.List.{list_any}
-use Rattle.std.specs.Option.{option_map}
-use Rattle.std.specs.Prelude.{cond, map, nat_lt, slice_get, slice_index_or, slice_set, ◌*◌, ◌/◌, ◌==◌, ◌&&◌, ◌||◌}
+use Rattle.std.specs.Prelude.{cond, map, nat_lt, slice_get, slice_index_or, slice_set, ◌/◌, ◌==◌, ◌&&◌, ◌||◌}
 use Rattle.orc_core.proofs.Within.{and_both}
 use Rattle.orc_core.specs.After.{promoted}
 use Rattle.orc_core.specs.Allowed.{may, may_place}
@@ -21,7 +19,7 @@ use Rattle.orc_projection.proofs.Mirrored.{projection_mirrors}
 use Rattle.orc_projection.specs.Mirror.{IsNamed, numbers_of}
 use Rattle.orc_projection.specs.PresentIds.{PresentIds}
 use Rattle.orc_projection.specs.Projection.{StoresUnmarked, present_ids, project}
-use Rattle.orc_reclaiming_domain.proofs.Seats.{calm_forced, ready_calm}
+use Rattle.orc_reclaiming_domain.proofs.Seats.{calm_forced}
 use Rattle.orc_reclaiming_domain.proofs.Setting.{published_holds, set_length}
 use Rattle.orc_reclaiming_domain.specs.Calls.{SameParts}
 use Rattle.orc_reclaiming_domain.specs.Seats.{IsCalm, IsReady, slot_by}

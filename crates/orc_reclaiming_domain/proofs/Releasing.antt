@@ -1,14 +1,12 @@
 -- A slot that is released.
-use Rattle.std.proofs.Common.{Bool, List, None, Option, Some, [], ap, arith, eq-eqb, false, length, refl, subst, suc, sym, true, zero, ℕ, ◌<◌, ◌∙◌, ◌≡◌, ◌≢◌, ◌∷◌}
+use Rattle.std.proofs.Common.{List, None, Option, Some, [], ap, arith, false, length, refl, suc, sym, zero, ℕ, ◌<◌, ◌∙◌, ◌≡◌, ◌≢◌, ◌∷◌}
 use Rattle.std.proofs.lemmas.Bool.{ne_eqb}
 use Rattle.std.specs.Option.{option_map}
-use Rattle.std.specs.Prelude.{slice_get, slice_index_or, slice_set, ◌==◌}
-use Rattle.orc_core.specs.RecordParts.{holds, holds_fresh, is_empty, is_published, slot_of}
-use Rattle.orc_core.specs.declared.ops.Op.TheVariants.{Clear, TakeIn}
+use Rattle.std.specs.Prelude.{slice_get, slice_index_or, slice_set}
+use Rattle.orc_core.specs.RecordParts.{holds_fresh, is_empty, is_published, slot_of}
+use Rattle.orc_core.specs.declared.ops.Op.TheVariants.{Clear}
 use Rattle.orc_core.specs.declared.records.SlotUse.{SlotUse}
-use Rattle.orc_core.specs.declared.records.SlotUse.TheVariants.{Empty, Held, Published}
-use Rattle.orc_heap.proofs.Pieces.{unless_other}
-use Rattle.orc_heap.specs.Calls.{Releases}
+use Rattle.orc_core.specs.declared.records.SlotUse.TheVariants.{Empty, Held}
 use Rattle.orc_heap.specs.Slots.{Hold, Holds, id_in}
 use Rattle.orc_heap.specs.declared.discipline.Discipline as discipline
 use Rattle.orc_machine_board.specs.Kinds.{MayDo}
@@ -22,7 +20,6 @@ use Rattle.orc_reclaiming_domain.proofs.Setting.{clear_may, set_length}
 use Rattle.orc_reclaiming_domain.proofs.Stages.{Between, Stage, seat}
 use Rattle.orc_reclaiming_domain.proofs.Untouched.{still_between}
 use Rattle.orc_reclaiming_domain.specs.Calls.{Unlocks}
-use Rattle.orc_reclaiming_domain.specs.OwnSteps.{LeavesNothing}
 use Rattle.orc_reclaiming_domain.specs.Seats.{IsReady}
 
 pub get_low : {A : Type 0} (xs : List A) (i : ℕ) (x : A) → slice_get xs i ≡ Some x → i < length xs
@@ -65,13 +62,6 @@ module _ {D N : Type 0} {d : discipline.Ghosts D N} {k : MachineShape N} (s : St
       (ap (holds_fresh s.view.record_is.fresh) at ∙ other)
 
   module _ (t : Stage d k) (un : Unlocks (bounds_in k) h.slot s.view t.view) where
-    pub releases : Releases (seat s) h (seat t)
-    releases = record {
-      slots = un.sets.slots;
-      fresh = un.sets.fresh ∙ sym (unless_other (seat s).fresh (id_in (seat s).slots h) linked);
-      puts = un.sets.puts;
-    }
-
     ready : IsReady t.view.record_is
     ready =
         let r = between.ready in
@@ -89,6 +79,3 @@ module _ {D N : Type 0} {d : discipline.Ghosts D N} {k : MachineShape N} (s : St
 
     pub release_between : Between t
     release_between = still_between s t [] between un.sets.puts un.sets.fresh (λ id. refl) ready
-
-    pub release_leaves : LeavesNothing s.view.agent s.view.journal t.view.journal
-    release_leaves = record { ops = Clear h.slot ∷ TakeIn h.slot ∷ []; done = un.done; taken_in = (refl, tt) }

@@ -1,5 +1,5 @@
 -- All rows were tried, and none could be given.
-use Rattle.std.proofs.Common.{Bool, List, None, Option, Some, [], ap, append_assoc, append-nil, arith, length, length-append, refl, subst, suc, sym, take, true, zero, ℕ, ◌++◌, ◌+◌, ◌-◌, ◌%◌, ◌<◌, ◌∙◌, ◌≡◌, ◌≢◌, ◌∷◌, ◌≤◌}
+use Rattle.std.proofs.Common.{List, None, Some, [], ap, append_assoc, append-nil, arith, length, length-append, subst, suc, sym, take, zero, ℕ, ◌++◌, ◌+◌, ◌-◌, ◌%◌, ◌<◌, ◌∙◌, ◌≡◌, ◌∷◌, ◌≤◌}
 use Rattle.std.proofs.Math.Decide.{dec_lt}
 use Rattle.std.proofs.Math.Seq.{take-append_seam, take-length}
 use Rattle.std.proofs.Math.Nat.{add-mod_right, mod-eq_of_lt}
@@ -7,7 +7,7 @@ use Rattle.std.specs.Prelude.{slice_get}
 use native.Mathlib.Decide.{ℕ_discrete}
 use mathlib.Core.List.{IsPrefix}
 use mathlib.Core.Logic.{dite}
-use Rattle.orc_heap.proofs.Steps.{Cut, cut_at_part, part_bounds}
+use Rattle.orc_heap.proofs.Steps.{cut_at_part, part_bounds}
 use Rattle.orc_heap.specs.Allowed.{events_by}
 use Rattle.orc_heap.specs.Moves.{gives_in}
 use Rattle.orc_heap.proofs.Calls.{Puts-trans}
@@ -30,7 +30,7 @@ use Rattle.orc_reclaiming_domain.proofs.Searching.{found_grows, found_since, idl
 use Rattle.orc_reclaiming_domain.specs.Causes.{IsLacking, IsOfDomain}
 use Rattle.orc_machine_board.specs.Laws.Steps.{counted_obeys, in_range}
 use Rattle.orc_machine_board.specs.Rules.{bounds_in, counted_rules}
-use Rattle.orc_reclaiming_domain.specs.Searches.{Fails, Found, Gets, Idles, Tries}
+use Rattle.orc_reclaiming_domain.specs.Searches.{Fails, Found, Gets, Tries}
 use Rattle.orc_machine_board.specs.Views.{MachineView}
 use Rattle.orc_machine_board.specs.declared.machine.MachineShape.{MachineShape}
 use Rattle.orc_shared_words.proofs.Events.{others_add}

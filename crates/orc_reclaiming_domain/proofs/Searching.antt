@@ -1,35 +1,20 @@
 -- Rows that are tried.
-use Rattle.std.proofs.Common.{Bool, List, None, Option, Some, [], ap, append_assoc, append-nil, arith, eq-eqb, eqb-true, false, inl, inr, length, length-append, refl, subst, suc, sym, true, zero, ℕ, ⊎_elim, ◌++◌, ◌+◌, ◌<◌, ◌∙◌, ◌≡◌, ◌≢◌, ◌∷◌, ◌≤◌, ◌⊎◌, take}
+use Rattle.std.proofs.Common.{List, None, Some, [], ap, append_assoc, append-nil, arith, inl, inr, length, length-append, refl, subst, suc, sym, zero, ℕ, ⊎_elim, ◌++◌, ◌<◌, ◌∙◌, ◌≡◌, ◌∷◌, ◌≤◌, ◌⊎◌, take}
 use Rattle.std.proofs.Math.Seq.{take-append_seam}
-use Rattle.std.proofs.lemmas.Bool.{eqb-false, false≢true}
-use Rattle.std.specs.Prelude.{cond, slice_get, slice_index_or, ◌%◌, ◌*◌, ◌/◌, ◌==◌}
-use Rattle.orc_core.specs.Counts.{is_out}
-use Rattle.orc_core.specs.Machine.{Machine, new_machine, record_at, word_in, word_read}
-use Rattle.orc_core.specs.RecordParts.{is_published, number_of}
-use Rattle.orc_core.specs.declared.records.SlotUse.{SlotUse}
-use Rattle.orc_core.specs.declared.records.SlotUse.TheVariants.{Empty}
-use Rattle.orc_core.specs.declared.ops.CounterUse.TheVariants.{Check}
-use Rattle.orc_core.specs.declared.ops.Op.TheVariants.{CounterLoad, GateLook, GateTake}
-use Rattle.orc_core.specs.declared.records.Agent.{Agent}
-use Rattle.orc_core.specs.declared.records.Reading.{Reading}
+use Rattle.std.specs.Prelude.{slice_get}
+use Rattle.orc_core.specs.Machine.{new_machine, word_in}
 use Rattle.orc_heap.proofs.Changes.{get-grown}
 use Rattle.orc_heap.proofs.Calls.{Only-trans}
 use Rattle.orc_heap.specs.OwnEvents.{Only}
-use Rattle.orc_heap.specs.declared.events.Event.{Event}
-use Rattle.orc_projection.specs.Projection.{events_of, is_taken}
-use Rattle.orc_heap.specs.declared.events.Act.TheVariants.{Give}
-use Rattle.orc_heap.specs.declared.events.Act.{Act}
 use Rattle.orc_reclaiming_domain.proofs.Gates.{OutIn, gate_between}
 use Rattle.orc_reclaiming_domain.proofs.Protecting.{same_self, same_then}
 use Rattle.orc_reclaiming_domain.proofs.Seats.{only, step_events}
 use Rattle.orc_reclaiming_domain.proofs.Stages.{Stage, seat}
 use Rattle.orc_heap.specs.declared.discipline.Discipline as discipline
-use Rattle.orc_reclaiming_domain.specs.Causes.{IsSpentFree, IsTaken}
-use Rattle.orc_machine_board.specs.Kinds.{MakesPlain, asks}
-use Rattle.orc_machine_board.specs.Laws.Steps.{in_range}
-use Rattle.orc_machine_board.specs.Rules.{bounds_in, events_after, run_of, step_of}
+use Rattle.orc_reclaiming_domain.specs.Causes.{IsTaken}
+use Rattle.orc_machine_board.specs.Rules.{bounds_in, run_of, step_of}
 use Rattle.orc_reclaiming_domain.specs.Calls.{SameParts}
-use Rattle.orc_reclaiming_domain.specs.Searches.{Fails, Found, Idles}
+use Rattle.orc_reclaiming_domain.specs.Searches.{Found, Idles}
 use Rattle.orc_reclaiming_domain.specs.Seats.{seat_by}
 use Rattle.orc_machine_board.specs.Views.{Makes, MachineView}
 use Rattle.orc_machine_board.specs.declared.machine.Request.{Request}
@@ -37,8 +22,7 @@ use Rattle.orc_machine_board.specs.declared.machine.MachineShape.{MachineShape}
 use Rattle.orc_sound.specs.Journals.{IsLawfulJournal}
 use Rattle.orc_sound.specs.declared.steps.Step.{Step}
 use Rattle.orc_words.specs.Bounds.{Bounds, IsShape}
-use Rattle.orc_words.specs.Packed.{sequence_of}
-use Rattle.orc_words.specs.declared.place.Word.TheVariants.{Counter, Gate}
+use Rattle.orc_words.specs.declared.place.Word.TheVariants.{Gate}
 
 pub get_seam : {A : Type 0} (xs : List A) (x : A) (ys : List A) → slice_get (xs ++ x ∷ ys) (length xs) ≡ Some x
 get_seam [] x ys = refl

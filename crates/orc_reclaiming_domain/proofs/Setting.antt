@@ -1,5 +1,5 @@
 -- Slots that are cleared and set.
-use Rattle.std.proofs.Common.{List, None, Option, Some, [], ap, false, refl, subst, suc, sym, true, zero, ℕ, ◌++◌, ◌<◌, ◌∙◌, ◌≡◌, ◌∷◌}
+use Rattle.std.proofs.Common.{List, None, Some, [], ap, false, refl, subst, suc, sym, true, zero, ℕ, ◌<◌, ◌∙◌, ◌≡◌, ◌∷◌}
 use Rattle.std.proofs.lemmas.Bool.{lt-ltb}
 use Rattle.std.specs.Prelude.{length, nat_lt, not, slice_get, slice_index_or, slice_set, ◌&&◌, ◌||◌}
 use Rattle.orc_core.proofs.Within.{and_both, may_parts}
@@ -8,14 +8,14 @@ use Rattle.orc_core.specs.RecordParts.{any_holds, holds, holds_fresh, is_empty, 
 use Rattle.orc_core.specs.declared.ops.Op.TheVariants.{Clear, TakeIn}
 use Rattle.orc_core.specs.declared.records.Agent.{Agent}
 use Rattle.orc_core.specs.declared.records.SlotUse.{SlotUse}
-use Rattle.orc_core.specs.declared.records.SlotUse.TheVariants.{Empty, Held, Published}
+use Rattle.orc_core.specs.declared.records.SlotUse.TheVariants.{Empty, Published}
 use Rattle.orc_heap.specs.declared.discipline.Discipline as discipline
 use Rattle.orc_machine_board.specs.Kinds.{asks}
 use Rattle.orc_machine_board.specs.Rules.{bounds_in}
 use Rattle.orc_machine_board.specs.declared.machine.MachineShape.{MachineShape}
 use Rattle.orc_reclaiming_domain.proofs.Seats.{calm_forced, only, set_then, sets}
 use Rattle.orc_reclaiming_domain.proofs.Stages.{Stage, Steps, done_one, done_then, seat}
-use Rattle.orc_reclaiming_domain.specs.Calls.{SameParts, Unlocks}
+use Rattle.orc_reclaiming_domain.specs.Calls.{Unlocks}
 use Rattle.orc_reclaiming_domain.specs.OwnSteps.{HasDone}
 use Rattle.orc_reclaiming_domain.specs.Seats.{IsCalm}
 use Rattle.orc_words.specs.Bounds.{Bounds}

@@ -1,5 +1,5 @@
 -- Points of a call: what a pass shows there, what is true of it, and what one step does from one to the next.
-use Rattle.std.proofs.Common.{List, None, Option, [], ap, append_assoc, append-nil, eq-eqb, refl, subst, sym, ℕ, ◌++◌, ◌<◌, ◌∙◌, ◌≡◌, ◌∷◌}
+use Rattle.std.proofs.Common.{List, Option, [], ap, append_assoc, append-nil, refl, subst, sym, ℕ, ◌++◌, ◌<◌, ◌∙◌, ◌≡◌, ◌∷◌}
 use Rattle.std.specs.Prelude.{map}
 use mathlib.Core.List.{IsPrefix}
 use Rattle.orc_core.specs.Machine.{new_machine, record_at}
@@ -19,7 +19,7 @@ use Rattle.orc_machine_board.specs.declared.machine.MachineShape.{MachineShape}
 use Rattle.orc_machine_board.specs.declared.machine.Request.{Request}
 use Rattle.orc_projection.proofs.Mirrored.{StoresUnmarked-append}
 use Rattle.orc_projection.specs.Projection.{StoresUnmarked, project}
-use Rattle.orc_reclaiming_domain.specs.OwnSteps.{HasDone, ops_of}
+use Rattle.orc_reclaiming_domain.specs.OwnSteps.{HasDone}
 use Rattle.orc_reclaiming_domain.specs.Passes.{IsFreshUntouched}
 use Rattle.orc_reclaiming_domain.specs.Seats.{IsReady, seat_by}
 use Rattle.orc_shared_words.proofs.Runs.{by_own, own_of-append}
@@ -28,7 +28,6 @@ use Rattle.orc_sound.proofs.Journals.{IsLawfulJournal-append}
 use Rattle.orc_sound.specs.Journals.{IsLawfulJournal}
 use Rattle.orc_sound.specs.Linked.{IsOut}
 use Rattle.orc_sound.specs.declared.steps.Step.{Step}
-use Rattle.orc_words.specs.Bounds.{Bounds}
 
 module _ {D N : Type 0} where
   -- what a pass of a board shows at a point of a call, and what is true of it

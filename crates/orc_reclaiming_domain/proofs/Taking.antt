@@ -1,6 +1,6 @@
 -- A row that is taken is the pass's fresh row, and its node is new.
-use Rattle.std.proofs.Common.{Bool, List, None, Option, Some, [], ap, append-nil, arith, eq-eqb, false, length, refl, subst, suc, sym, true, zero, ℕ, ◌++◌, ◌<◌, ◌∙◌, ◌≡◌, ◌≤◌, ◌∷◌}
-use Rattle.std.specs.Prelude.{cond, if◌then◌else◌, slice_get, ◌==◌}
+use Rattle.std.proofs.Common.{Bool, List, None, Some, [], ap, arith, eq-eqb, false, length, refl, subst, sym, true, ℕ, ◌++◌, ◌∙◌, ◌≡◌, ◌≤◌, ◌∷◌}
+use Rattle.std.specs.Prelude.{cond, if◌then◌else◌, slice_get}
 use Rattle.orc_core.specs.Machine.{new_machine, record_at, word_read}
 use Rattle.orc_core.specs.declared.ops.Op.TheVariants.{GateTake}
 use Rattle.orc_core.specs.declared.records.Agent.{Agent}
@@ -11,7 +11,6 @@ use Rattle.orc_heap.specs.Journals.{event_by, run_heap}
 use Rattle.orc_heap.specs.OwnEvents.{Puts}
 use Rattle.orc_heap.specs.declared.discipline.Discipline as discipline
 use Rattle.orc_heap.specs.declared.events.Act.TheVariants.{Give}
-use Rattle.orc_heap.specs.declared.events.Event.{Event}
 use Rattle.orc_machine_board.proofs.Licences.{signed}
 use Rattle.orc_machine_board.specs.Kinds.{asks}
 use Rattle.orc_machine_board.specs.Laws.Steps.{counted_obeys, in_range}

@@ -1,20 +1,18 @@
 -- A load that tests a link.
-use Rattle.std.proofs.Common.{Bool, List, None, Option, Some, [], ap, append-nil, arith, false, refl, subst, sym, true, ℕ, ◌+◌, ◌++◌, ◌<◌, ◌∙◌, ◌≡◌, ◌≢◌, ◌≤◌, ◌∷◌}
+use Rattle.std.proofs.Common.{Bool, List, None, Option, Some, [], ap, arith, false, refl, subst, sym, true, ℕ, ◌++◌, ◌<◌, ◌∙◌, ◌≡◌, ◌∷◌}
 use Rattle.std.proofs.lemmas.Bool.{eqb-true}
-use Rattle.std.specs.Prelude.{MatchBool, if◌then◌else◌, ◌==◌}
-use Rattle.orc_core.specs.RecordParts.{any_holds}
+use Rattle.std.specs.Prelude.{if◌then◌else◌, ◌==◌}
 use Rattle.orc_core.specs.declared.ops.Op.TheVariants.{LinkLoad}
 use Rattle.orc_core.specs.declared.records.Agent.{Agent}
 use Rattle.orc_domain.specs.Rows.{row_link, word_at}
 use Rattle.orc_heap.specs.Allowed.{AllowedLater}
-use Rattle.orc_heap.specs.Calls.{Misses, Tests, look_of}
+use Rattle.orc_heap.specs.Calls.{Tests, look_of}
 use Rattle.orc_heap.specs.Journals.{FitsAfter, event_by}
 use Rattle.orc_heap.specs.OwnEvents.{Only, Puts}
 use Rattle.orc_heap.specs.Seats.{HoldsPlace, HoldsWant, link_in, place_in}
 use Rattle.orc_heap.specs.declared.discipline.Discipline as discipline
 use Rattle.orc_heap.specs.declared.events.Act.{Act}
 use Rattle.orc_heap.specs.declared.events.Act.TheVariants.{Look, Miss}
-use Rattle.orc_heap.specs.declared.events.Event.{Event}
 use Rattle.orc_heap.specs.declared.events.Link.{Link}
 use Rattle.orc_heap.specs.declared.events.Place.{Place}
 use Rattle.orc_heap.specs.declared.holds.At.{At}
@@ -31,20 +29,19 @@ use Rattle.orc_machine_board.specs.Views.{Makes}
 use Rattle.orc_machine_board.specs.declared.machine.MachineShape.{MachineShape}
 use Rattle.orc_machine_board.specs.declared.machine.Request.{Request}
 use Rattle.orc_projection.proofs.Links.{link_back}
-use Rattle.orc_projection.specs.PresentIds.{PresentIds, node_link, node_place}
+use Rattle.orc_projection.specs.PresentIds.{node_link}
 use Rattle.orc_projection.specs.Projection.{StoresUnmarked, events_of, load_act, present_ids, project}
 use Rattle.orc_reclaiming_domain.proofs.Held.{hold_has, hold_low, hold_slot, link_named, place_may, place_named}
 use Rattle.orc_reclaiming_domain.proofs.Loading.{load_events, load_may}
 use Rattle.orc_reclaiming_domain.proofs.Seats.{before_keep, only, ready_calm, slot_holds, step_events}
 use Rattle.orc_reclaiming_domain.proofs.Stages.{Between, Stage, its_step, seat, whole_lawful}
 use Rattle.orc_reclaiming_domain.proofs.Untouched.{still_between}
-use Rattle.orc_reclaiming_domain.specs.Seats.{IsReady, slot_by}
+use Rattle.orc_reclaiming_domain.specs.Seats.{IsReady}
 use Rattle.orc_shared_words.specs.Lists.{Each}
 use Rattle.orc_sound.specs.Journals.{IsHeldOrNull}
 use Rattle.orc_sound.specs.declared.steps.Step.{Step}
 use Rattle.orc_words.specs.Bounds.{Bounds}
 use Rattle.orc_words.specs.Packed.{link_of, link_word}
-use Rattle.orc_words.specs.declared.packed.RowLink.{RowLink}
 
 module _ {D N : Type 0} {d : discipline.Ghosts D N} {k : MachineShape N} (s : Stage d k) where
   -- a link that a caller names is null, or to a row that the agent holds

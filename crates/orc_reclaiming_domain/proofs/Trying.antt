@@ -1,10 +1,10 @@
 -- The three steps by which a row is tried.
-use Rattle.std.proofs.Common.{Bool, List, None, Option, Some, [], ap, append_assoc, append-nil, arith, eq-eqb, false, inl, inr, length, refl, subst, sym, true, ℕ, ⊎_elim, ◌++◌, ◌<◌, ◌∙◌, ◌≡◌, ◌≢◌, ◌∷◌, ◌≤◌, ◌⊎◌}
-use Rattle.std.proofs.lemmas.Bool.{eqb-false, false≢true}
+use Rattle.std.proofs.Common.{Bool, List, None, Some, [], ap, append_assoc, append-nil, arith, eq-eqb, false, inl, inr, length, refl, subst, sym, true, ℕ, ⊎_elim, ◌++◌, ◌<◌, ◌∙◌, ◌≡◌, ◌≢◌, ◌∷◌, ◌≤◌, ◌⊎◌}
+use Rattle.std.proofs.lemmas.Bool.{false≢true}
 use Rattle.std.specs.Prelude.{cond, if◌then◌else◌, map, slice_get, ◌%◌, ◌*◌, ◌/◌, ◌==◌}
 use Rattle.orc_core.specs.Counts.{is_out}
 use Rattle.orc_core.specs.Machine.{Machine, new_machine, word_in}
-use Rattle.orc_core.specs.RecordParts.{any_holds, names, number_of}
+use Rattle.orc_core.specs.RecordParts.{number_of}
 use Rattle.orc_core.specs.declared.ops.CounterUse.TheVariants.{Check}
 use Rattle.orc_core.specs.declared.ops.Op.TheVariants.{CounterLoad, GateLook, GateTake}
 use Rattle.orc_core.specs.declared.records.Agent.{Agent}
@@ -15,7 +15,6 @@ use Rattle.orc_heap.specs.Journals.{event_by, run_heap}
 use Rattle.orc_heap.specs.OwnEvents.{Puts}
 use Rattle.orc_heap.specs.declared.discipline.Discipline as discipline
 use Rattle.orc_heap.specs.declared.events.Act.TheVariants.{Give}
-use Rattle.orc_heap.specs.declared.events.Event.{Event}
 use Rattle.orc_machine_board.specs.Kinds.{asks}
 use Rattle.orc_machine_board.specs.Laws.Steps.{in_range}
 use Rattle.orc_machine_board.specs.Licences.{ids_of}
@@ -23,12 +22,12 @@ use Rattle.orc_machine_board.specs.Rules.{bounds_in, heap_numbers, run_of, step_
 use Rattle.orc_machine_board.specs.declared.machine.MachineShape.{MachineShape}
 use Rattle.orc_projection.specs.Projection.{events_of, is_taken}
 use Rattle.orc_reclaiming_domain.proofs.Searching.{found_at, found_now, found_or_same, idle_trans, idles}
-use Rattle.orc_reclaiming_domain.proofs.Seats.{ids_keep, slots_keep, step_events}
+use Rattle.orc_reclaiming_domain.proofs.Seats.{slots_keep, step_events}
 use Rattle.orc_reclaiming_domain.proofs.Stages.{Stage, Steps, before_lawful, before_record, seat}
 use Rattle.orc_reclaiming_domain.proofs.Taking.{Takes, takes}
 use Rattle.orc_reclaiming_domain.specs.Calls.{SameParts}
-use Rattle.orc_reclaiming_domain.specs.Causes.{IsSpentFree, IsTaken}
-use Rattle.orc_reclaiming_domain.specs.Searches.{Fails, Found, Gets, Idles}
+use Rattle.orc_reclaiming_domain.specs.Causes.{IsTaken}
+use Rattle.orc_reclaiming_domain.specs.Searches.{Fails, Gets, Idles}
 use Rattle.orc_reclaiming_domain.specs.Seats.{slot_by}
 use Rattle.orc_sound.specs.Journals.{IsLawfulJournal}
 use Rattle.orc_sound.specs.declared.steps.Step.{Step}

@@ -1,5 +1,5 @@
 -- The fresh node of a pass stays untouched.
-use Rattle.std.proofs.Common.{List, Some, [], ap, false, subst, sym, ℕ, ◌++◌, ◌∙◌, ◌≡◌}
+use Rattle.std.proofs.Common.{List, [], ap, false, subst, sym, ℕ, ◌++◌, ◌∙◌, ◌≡◌}
 use Rattle.std.specs.List.{list_any}
 use Rattle.orc_heap.proofs.Fresh.{own_node_told}
 use Rattle.orc_heap.proofs.Stays.{allowed-right}
@@ -9,10 +9,9 @@ use Rattle.orc_heap.specs.OwnEvents.{Puts}
 use Rattle.orc_heap.specs.Seats.{IsUntouched}
 use Rattle.orc_heap.specs.declared.discipline.Discipline as discipline
 use Rattle.orc_heap.specs.declared.events.Event.{Event}
-use Rattle.orc_machine_board.specs.Rules.{bounds_in, heap_numbers}
+use Rattle.orc_machine_board.specs.Rules.{heap_numbers}
 use Rattle.orc_machine_board.specs.declared.machine.MachineShape.{MachineShape}
 use Rattle.orc_reclaiming_domain.proofs.Stages.{Between, Stage, seat}
-use Rattle.orc_reclaiming_domain.specs.Passes.{IsFreshUntouched}
 use Rattle.orc_reclaiming_domain.specs.Seats.{IsReady}
 
 module _ {D N : Type 0} (d : discipline.Ghosts D N) (k : MachineShape N) where
@@ -29,7 +28,8 @@ module _ {D N : Type 0} (d : discipline.Ghosts D N) (k : MachineShape N) where
 module _ {D N : Type 0} {d : discipline.Ghosts D N} {k : MachineShape N} where
   -- over a part of a call
   pub still_untouched : (s t : Stage d k) (own : List (Event N)) → Puts (seat s) own (seat t) → ((id : ℕ) → list_any (λ e. points_to e.act id) own ≡ false)
-      → (id : ℕ) → IsUntouched s.view.agent (run_heap (heap_numbers k) (seat s).seen) id → IsUntouched t.view.agent (run_heap (heap_numbers k) (seat t).seen) id
+      → (id : ℕ) → IsUntouched s.view.agent (run_heap (heap_numbers k) (seat s).seen) id
+      → IsUntouched t.view.agent (run_heap (heap_numbers k) (seat t).seen) id
   still_untouched s t own p away id u =
       let allowed = allowed-right (d.may (heap_numbers k)) [] (seat s).seen p.part (subst (AllAllowed (d.may (heap_numbers k)) []) p.is t.each) in
       subst (λ (z : ℕ × List (Event N)). IsUntouched z.0 (run_heap (heap_numbers k) z.1) id) (λ i. (sym p.agent i, sym p.is i))

@@ -1,8 +1,10 @@
 -- What the parts of calls do to what a pass shows.
-use Rattle.std.specs.Prelude.{List, None, Option, [], slice_set, ℕ, ◌∷◌, ◌≡◌}
-use Rattle.orc_core.specs.declared.ops.Op.TheVariants.{Clear, TakeIn}
+use Rattle.std.specs.Prelude.{None, [], slice_set, ℕ, ◌∷◌, ◌≡◌}
+use Rattle.orc_core.specs.declared.ops.CounterUse.TheVariants.{Check}
+use Rattle.orc_core.specs.declared.ops.Op.TheVariants.{Clear, CounterLoad, SetRetired, TakeIn}
 use Rattle.orc_core.specs.declared.records.Agent.{Agent}
 use Rattle.orc_core.specs.declared.records.SlotUse.TheVariants.{Empty}
+use Rattle.orc_heap.specs.OwnEvents.{Puts}
 use Rattle.orc_machine_board.specs.Views.{MachineView}
 use Rattle.orc_reclaiming_domain.specs.OwnSteps.{HasDone}
 use Rattle.orc_reclaiming_domain.specs.Seats.{SetsSlot, seat_by}
@@ -24,3 +26,11 @@ module _ {N : Type 0} where
     pub sets : SetsSlot [] slot None (seat_by b s) (seat_by b t)
     pub same : SameParts (record s.record_is { slots = slice_set s.record_is.slots slot Empty }) t.record_is
     pub done : HasDone s.agent (Clear slot ∷ TakeIn slot ∷ []) s.journal t.journal
+
+  -- the fresh row was retired: it is fresh no more, and nothing else that the pass shows has changed but what was seen
+  pub record Retires (b : Bounds) (r : ℕ) (s t : MachineView N) : Type 0 where
+    pub slots : (seat_by b t).slots ≡ (seat_by b s).slots
+    pub puts : Puts (seat_by b s) [] (seat_by b t)
+    pub same : SameParts (record s.record_is { fresh = None }) t.record_is
+    pub sequence : ℕ
+    pub done : HasDone s.agent (CounterLoad r Check ∷ SetRetired r sequence ∷ []) s.journal t.journal

@@ -1,5 +1,5 @@
 -- A search for a row that may be given.
-use Rattle.std.specs.Prelude.{List, None, Option, Some, [], length, slice_get, take, ℕ, ◌%◌, ◌++◌, ◌∷◌, ◌+◌, ◌<◌, ◌≡◌, ◌≤◌}
+use Rattle.std.specs.Prelude.{List, None, Some, [], length, slice_get, take, ℕ, ◌%◌, ◌++◌, ◌∷◌, ◌+◌, ◌<◌, ◌≡◌, ◌≤◌}
 use Rattle.orc_heap.specs.Heap.{new_node}
 use Rattle.orc_heap.specs.Journals.{event_by, run_heap}
 use Rattle.orc_heap.specs.OwnEvents.{Only, Puts}

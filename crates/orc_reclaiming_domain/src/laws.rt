@@ -21,8 +21,9 @@ use crate::domain::{OrcDomain, OrcPass};
 use orc_heap::Discipline;
 
 impl<D: Discipline> OrcDomain<D> {
-    /// What a pass has seen begins with the opening, is of the domain's agents, and is allowed event by event, so that the discipline holds of it. What the pass holds is known
-    /// to its agent, and its fresh node was given to it, with no link to it made since.
+    /// What a pass has seen begins with the opening, is of the domain's agents, and is allowed event by event, so that
+    /// the discipline holds of it. What the pass holds is known to its agent, and its fresh node was given to it, with no
+    /// link to it made since.
     pub fn what_a_pass_shows(&self, p: &OrcPass<D>)
         requires pass { IsPassOf self.now p.now }
         ensures opens { IsPrefix (domain_opening self.now) (seat_of self.now p.now).seen }

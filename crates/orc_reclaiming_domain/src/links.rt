@@ -1,6 +1,6 @@
 //! The calls of links, over the board.
 
-ghost use Rattle.std.specs.Prelude.{◌≡◌, ◌≢◌, ◌<◌, ◌∷◌, [], Some};
+ghost use Rattle.std.specs.Prelude.{◌≡◌, ◌≢◌, ◌<◌, ◌∷◌, []};
 ghost use mathlib.Core.List.{IsPrefix};
 ghost use Rattle.orc_heap.specs.Calls.{Learns, Looks, MayLook, ReadsValue, Releases, Tests, fill_of};
 ghost use Rattle.orc_heap.specs.Journals.{run_heap};
@@ -103,16 +103,17 @@ impl<D: Discipline> OrcDomain<D> {
         self.board.fill(&mut p.pass, fresh.row(), which, value);
     }
 
-    /// Frees the slot of a node that isn't the fresh one, and takes in what was handed over beside it.
-    pub fn release_linked(&self, p: &mut OrcPass<D>, h: Held)
+    /// Frees the slot, and takes in what was handed over beside it. If it held the fresh node, which was never linked,
+    /// that is retired, and the pass has no fresh node any more.
+    pub fn release(&self, p: &mut OrcPass<D>, h: Held)
         requires pass { IsPassOf self.now p.old }
         requires held { Holds (seat_of self.now p.old).slots h }
-        requires linked { (seat_of self.now p.old).fresh ≢ Some (id_in (seat_of self.now p.old).slots h) }
         ensures pass { IsPassOf self.now p.new }
         ensures later { IsPrefix (journal_of p.old) (journal_of p.new) }
         ensures released { Releases (seat_of self.now p.old) h (seat_of self.now p.new) }
         ensures taken_in { LeavesNothing (seat_of self.now p.old).agent (journal_of p.old) (journal_of p.new) }
     {
+        self.give_up(&mut p.pass, h.row());
         self.unlock(&mut p.pass, h.slot());
         h.end();
     }

@@ -1,15 +1,17 @@
 //! The parts of which the calls are made.
 
-ghost use Rattle.std.specs.Prelude.{◌≡◌};
+ghost use Rattle.std.specs.Prelude.{◌≡◌, false, true};
+ghost use Rattle.orc_core.specs.RecordParts.{names};
 ghost use Rattle.orc_core.specs.declared.ops.Op.{Op};
 ghost use Rattle.orc_machine_board.specs.Kinds.{MakesPlain, MayDo};
 ghost use Rattle.orc_machine_board.specs.Views.{Belongs, shows};
 ghost use Rattle.orc_words.specs.Packed.{link_of, link_word};
-ghost use Rattle.orc_reclaiming_domain.specs.Calls.{Unlocks};
-ghost use Rattle.orc_reclaiming_domain.specs.Passes.{domain_bounds};
-ghost use Rattle.orc_reclaiming_domain.specs.Seats.{IsCalm};
+ghost use Rattle.orc_reclaiming_domain.specs.Calls.{Retires, Unlocks};
+ghost use Rattle.orc_reclaiming_domain.specs.Passes.{IsFreshUntouched, domain_bounds, domain_numbers};
+ghost use Rattle.orc_reclaiming_domain.specs.Seats.{IsCalm, IsReady, seat_by};
 
 use crate::domain::OrcDomain;
+use orc_core::{CounterUse, SEQUENCE};
 use orc_heap::Discipline;
 use orc_machine_board::MachineBoardPass;
 use orc_words::{RowLink, Word, read_link};
@@ -40,5 +42,21 @@ impl<D: Discipline> OrcDomain<D> {
     {
         self.board.clear(p, slot);
         self.board.take_in(p, slot);
+    }
+
+    // Retires the row, if it is the fresh one. Its bit is set at the first try, since nobody else counts it.
+    pub(crate) fn give_up(&self, p: &mut MachineBoardPass<D>, row: u32)
+        requires belongs { Belongs self.now.board p.old }
+        requires ready { IsReady (shows p.old).record_is }
+        requires untouched { IsFreshUntouched (domain_numbers self.now) (seat_by (domain_bounds self.now) (shows p.old)) }
+        ensures belongs { Belongs self.now.board p.new }
+        ensures retired { names (shows p.old).record_is.fresh row ≡ true → Retires (domain_bounds self.now) row (shows p.old) (shows p.new) }
+        ensures kept { names (shows p.old).record_is.fresh row ≡ false → p.new ≡ p.old }
+    {
+        if !p.record().is_fresh(row) {
+            return;
+        }
+        let counter = self.board.counter_load(p, row, CounterUse::Check);
+        self.board.set_retired(p, row, counter / SEQUENCE);
     }
 }

@@ -65,13 +65,14 @@ fn stepping(domain: &Domain, p: Pass) -> MachineBoardPass<AnyFit>
     pass
 }
 
-// Gives a node and fills it. Answers its second value, and whether root 0 was null meanwhile; none where no row
-// could be given.
-fn one_node(domain: &Domain, p: &mut Pass) -> Option<(u64, bool)>
+// Gives a node, fills it and releases it. Answers its second value, whether root 0 was null meanwhile, and how many rows
+// the pass has to see to after it; none where no row could be given.
+fn one_node(domain: &Domain, p: &mut Pass) -> Option<(u64, bool, u32)>
     requires pass { IsPassOf domain.now p.old }
     requires idle { IsIdle (seat_of domain.now p.old) }
     requires roots { 0 < (domain_numbers domain.now).roots }
     ensures pass { IsPassOf domain.now p.new }
+    ensures idle { IsIdle (seat_of domain.now p.new) }
 {
     let Ok(node) = domain.give(p, 1, 7, 8) else {
         return None;
@@ -79,8 +80,8 @@ fn one_node(domain: &Domain, p: &mut Pass) -> Option<(u64, bool)>
     domain.fill(p, &node, 1, 9);
     let null = domain.same(p, &At::Root(0), &Want::Null(false), None);
     let second = domain.value(p, &node, 1);
-    node.end();
-    Some((second, null))
+    domain.release(p, node);
+    Some((second, null, p.pass.backlog()))
 }
 
 // Holds what root 0 leads to, and answers its first value.
@@ -94,7 +95,7 @@ fn value_at_root(domain: &Domain, p: &mut Pass) -> Option<u64>
     match domain.look(p, &At::Root(0), 1) {
         Looked::Stable(_, Some(node)) => {
             let value = domain.value(p, &node, 0);
-            domain.release_linked(p, node);
+            domain.release(p, node);
             Some(value)
         }
         Looked::Stable(_, None) | Looked::Moved => None,
@@ -125,8 +126,8 @@ fn two_rows_are_given_and_a_third_isnt_there(rt: HostRuntime) -> Result<(), Fail
     ) else {
         panic!(rt; "three passes")
     };
-    assert_eq!(rt; one_node(&domain, &mut first), Some((9, true)));
-    assert_eq!(rt; one_node(&domain, &mut second), Some((9, true)));
+    assert_eq!(rt; one_node(&domain, &mut first), Some((9, true, 1)));
+    assert_eq!(rt; one_node(&domain, &mut second), Some((9, true, 1)));
     assert_eq!(rt; one_node(&domain, &mut third), None);
     assert!(rt; learn_both(&domain, &mut first, &mut third));
     Ok(())
@@ -156,7 +157,7 @@ fn held_meanwhile(
     let once = reuse_row_1(&domain.board, other);
     let twice = reuse_row_1(&domain.board, other);
     let after = domain.value(p, &node, 0);
-    domain.release_linked(p, node);
+    domain.release(p, node);
     Some((before, after, unlinked && once && twice, p.pass.backlog()))
 }
 

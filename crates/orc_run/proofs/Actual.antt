@@ -1,8 +1,7 @@
 -- What is known of the journal of a domain at rest.
-use Rattle.std.proofs.Common.{◌≡◌, ◌∙◌, sym, subst, List, []}
+use Rattle.std.proofs.Common.{◌≡◌, ◌∙◌, subst, List, []}
 use Rattle.orc_words.specs.Bounds.{Bounds}
 use Rattle.orc_heap.specs.Allowed.{AllAllowed}
-use Rattle.orc_heap.specs.Heap.{HeapNumbers}
 use Rattle.orc_heap.specs.Journals.{IsLawful}
 use Rattle.orc_heap.specs.OwnEvents.{IsBelow}
 use mathlib.Core.List.{IsPrefix}

@@ -1,7 +1,6 @@
 -- What a run leaves: one journal for each container, and replies that follow both.
 use Rattle.std.specs.Prelude.{ℕ, List, []}
 use Rattle.orc_heap.specs.declared.discipline.Discipline as discipline
-use Rattle.orc_heap.specs.declared.events.Event.{Event}
 use Rattle.orc_shared_words.specs.declared.machine.Machine as machine
 use Rattle.orc_table.specs.declared.machine.Plain.{Plain}
 use Rattle.orc_table.specs.declared.machine.PlainOp.{PlainOp}

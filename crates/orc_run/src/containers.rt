@@ -11,7 +11,7 @@ use orc_fault::NoMemory;
 use orc_fifo_rule::{Fifo, FifoNote};
 use orc_heap::Seed;
 use orc_history::{LearnQueue, LearnSet, SharedQueue, SharedSet};
-use orc_list::OneList;
+use orc_list::{List, OneList};
 use orc_queue::Queue;
 use orc_words::Shape;
 use std::alloc::Global;
@@ -80,5 +80,5 @@ pub(crate) fn make_set(alloc: Global, agents: u32) -> Result<(RunSet, Vec<SetPas
     ensures opening { IfOk result (λ made. domain_opening made.0.list.links ≡ []) }
 {
     let (domain, passes) = PlainDomain::make(alloc, &shape_of(1, agents), Seed::Empty)?;
-    Ok((OneList::new(domain), passes))
+    Ok((OneList::new(List::new(domain)), passes))
 }

@@ -64,10 +64,7 @@ pub(crate) fn room_for_passes<A: Drop, B: Drop>(
 }
 
 // Puts the passes of these desks behind those that are there, in order. It takes no memory.
-pub(crate) fn passes_apart<A: Drop, B: Drop>(
-    mut desks: Vec<Desk<A, B>>,
-    passes: &mut Passes<A, B>,
-)
+pub(crate) fn passes_apart<A: Drop, B: Drop>(mut desks: Vec<Desk<A, B>>, passes: &mut Passes<A, B>)
     requires queue_room { vec_len passes.old.queue + vec_len desks ≤ vec_capacity passes.old.queue }
     requires set_room { vec_len passes.old.set + vec_len desks ≤ vec_capacity passes.old.set }
     ensures queue { passes.new.queue.items ≡ passes.old.queue.items ++ map (λ desk. desk.queue) desks.items }

@@ -1,6 +1,6 @@
 //! The domains of a run are brought to rest.
 
-ghost use Rattle.std.specs.Prelude.{◌≡◌, ◌+◌, ◌≤◌, [], All, List, ℕ, length, vec_len, vec_capacity};
+ghost use Rattle.std.specs.Prelude.{◌≡◌, ◌≤◌, [], All, List, length, vec_capacity};
 ghost use Rattle.orc_heap.specs.declared.events.Event.{Event};
 ghost use Rattle.orc_domain.specs.Ends.{AllHear, AreAll, AreIdle, FirstSawAll, IsNoLonger};
 ghost use Rattle.orc_domain.specs.Passes.{domain_bounds, seat_of};

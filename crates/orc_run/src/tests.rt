@@ -10,7 +10,8 @@ use orc_jobs::{Lines, read_jobs};
 use std::alloc::Global;
 use std::test::Fail;
 
-const FIVE_LINES: &[u8] = b"post,7,bytes,hello\npost,9,sum,1 2 3\ndrop,9\npost,7,words,a b\ndrop,8\n";
+const FIVE_LINES: &[u8] =
+    b"post,7,bytes,hello\npost,9,sum,1 2 3\ndrop,9\npost,7,words,a b\ndrop,8\n";
 
 // The lines of a file of this text.
 fn lines_of(alloc: Global, text: &[u8]) -> Result<Lines, NoMemory>

@@ -34,17 +34,20 @@ block_of {X} key block keyed a (suc n) h =
       | inl low ↦
           let e : n ≡ a = omega (arith, low, h) in
           let all : filter (λ x. key x == n) (block n) ≡ block n = filter-all key n (block n) (keyed n) in
-          ap (λ z. z ++ filter (λ x. key x == a) (block n)) (none_above key block keyed a n low) ∙ subst (λ (b : ℕ). filter (λ x. key x == b) (block n) ≡ block b) e all
+          ap (λ z. z ++ filter (λ x. key x == a) (block n)) (none_above key block keyed a n low)
+          ∙ subst (λ (b : ℕ). filter (λ x. key x == b) (block n) ≡ block b) e all
       | inr less ↦
           let other : n ≢ a = λ e. omega (arith, less, e) in
-          ap (λ z. filter (λ x. key x == a) (blocks block n) ++ z) (other_block key a n (block n) other (keyed n)) ∙ (append-nil (filter (λ x. key x == a) (blocks block n)) ∙ block_of key block keyed a n less)
+          ap (λ z. filter (λ x. key x == a) (blocks block n) ++ z) (other_block key a n (block n) other (keyed n))
+          ∙ (append-nil (filter (λ x. key x == a) (blocks block n)) ∙ block_of key block keyed a n less)
     ])
 
 in_order : {X : Type 0} (key : X → ℕ) (block : ℕ → List X) → AreKeyed key block → (m n : ℕ) → m ≤ n → by_key key m (blocks block n) ≡ blocks block m
 in_order key block keyed zero n h = refl
 in_order key block keyed (suc m) n h =
     let low : m < n = omega (arith, h) in
-    ap (λ z. z ++ filter (λ x. key x == m) (blocks block n)) (in_order key block keyed m n (omega (arith, h))) ∙ ap (λ z. blocks block m ++ z) (block_of key block keyed m n low)
+    ap (λ z. z ++ filter (λ x. key x == m) (blocks block n)) (in_order key block keyed m n (omega (arith, h)))
+    ∙ ap (λ z. blocks block m ++ z) (block_of key block keyed m n low)
 
 -- and they stand in the order of their keys
 pub blocks_by_key : {X : Type 0} (key : X → ℕ) (block : ℕ → List X) → AreKeyed key block → (n : ℕ) → blocks block n ≡ by_key key n (blocks block n)
@@ -66,14 +69,17 @@ nth_of items [] i = []
 nth_of items (w ∷ ws) zero = items w
 nth_of items (w ∷ ws) (suc i) = nth_of items ws i
 
-pub blocks_cons : {X : Type 0} (xs : List X) (block next : ℕ → List X) → block 0 ≡ xs → ((i : ℕ) → block (suc i) ≡ next i) → (n : ℕ) → blocks block (suc n) ≡ xs ++ blocks next n
+pub blocks_cons : {X : Type 0} (xs : List X) (block next : ℕ → List X) → block 0 ≡ xs → ((i : ℕ) → block (suc i) ≡ next i) → (n : ℕ)
+    → blocks block (suc n) ≡ xs ++ blocks next n
 blocks_cons xs block next first rest zero = first ∙ sym (append-nil xs)
 blocks_cons xs block next first rest (suc n) =
-    ap (λ z. z ++ block (suc n)) (blocks_cons xs block next first rest n) ∙ (append_assoc xs (blocks next n) (block (suc n)) ∙ ap (λ z. xs ++ (blocks next n ++ z)) (rest n))
+    ap (λ z. z ++ block (suc n)) (blocks_cons xs block next first rest n)
+    ∙ (append_assoc xs (blocks next n) (block (suc n)) ∙ ap (λ z. xs ++ (blocks next n ++ z)) (rest n))
 
 pub all_blocks : {W X : Type 0} (items : W → List X) (ws : List W) → all_of items ws ≡ blocks (nth_of items ws) (length ws)
 all_blocks items [] = refl
-all_blocks items (w ∷ ws) = ap (λ z. items w ++ z) (all_blocks items ws) ∙ sym (blocks_cons (items w) (nth_of items (w ∷ ws)) (nth_of items ws) refl (λ i. refl) (length ws))
+all_blocks items (w ∷ ws) =
+    ap (λ z. items w ++ z) (all_blocks items ws) ∙ sym (blocks_cons (items w) (nth_of items (w ∷ ws)) (nth_of items ws) refl (λ i. refl) (length ws))
 
 pub all_of-snoc : {W X : Type 0} (items : W → List X) (ws : List W) (w : W) → all_of items (ws ++ w ∷ []) ≡ all_of items ws ++ items w
 all_of-snoc items [] w = append-nil (items w)

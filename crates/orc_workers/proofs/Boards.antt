@@ -30,9 +30,11 @@ use Rattle.orc_board.proofs.Orders.{posted_few}
 use Rattle.orc_board.proofs.Reported.{reportable_all, no_positions_all, permuted_all}
 
 -- what is true of each agent's own entries is true of all
-step_out : (P : QueueEntry → Type 0) (test : QueueEntry → Bool) (e : QueueEntry) (es : List QueueEntry) → AllByRecursion P (filter test (e ∷ es)) → AllByRecursion P (filter test es)
+step_out : (P : QueueEntry → Type 0) (test : QueueEntry → Bool) (e : QueueEntry) (es : List QueueEntry) → AllByRecursion P (filter test (e ∷ es))
+    → AllByRecursion P (filter test es)
 step_out P test e es h =
-    let cases : (b : Bool) → AllByRecursion P (cond b (e ∷ filter test es) (filter test es)) → AllByRecursion P (filter test es) = elim [ true ↦ λ x. x.1 | false ↦ λ x. x ] in
+    let cases : (b : Bool) → AllByRecursion P (cond b (e ∷ filter test es) (filter test es)) → AllByRecursion P (filter test es) =
+    elim [ true ↦ λ x. x.1 | false ↦ λ x. x ] in
     cases (test e) h
 
 by_agents : (P : QueueEntry → Type 0) → ((a : ℕ) → P (Empty a)) → (N : ℕ) (es : List QueueEntry) → AllByRecursion (λ e. agent_of_entry e ≤ N) es
@@ -46,30 +48,40 @@ by_agents P empties N (Took a job at ∷ es) below h =
     (here.0, by_agents P empties N es below.1 (λ b low. step_out P (is_own_move b) (Took a job at) es (h b low)))
 by_agents P empties N (Empty a ∷ es) below h = (empties a, by_agents P empties N es below.1 (λ b low. step_out P (is_own_move b) (Empty a) es (h b low)))
 
-resting_puts : {A B : Type 0} (q : View A QueueEntry QueueRefused) (s : View B SetEntry ListRefused) (lines : List Line) (taker agent : ℕ) (rs : List TakeReply) (j k : List A) (m n : List B)
+resting_puts : {A B : Type 0} (q : View A QueueEntry QueueRefused) (s : View B SetEntry ListRefused) (lines : List Line) (taker agent : ℕ)
+    (rs : List TakeReply) (j k : List A) (m n : List B)
     → (t : TakingRest q s lines taker agent rs j m k n) → AllByRecursion (PutFits lines) (queue_of_rows t.taking.rows ++ t.last.row.queue.own)
 resting_puts q s lines taker agent rs j k m n t =
-    let last : AllByRecursion (PutFits lines) t.last.row.queue.own = subst (λ (x : Row). AllByRecursion (PutFits lines) x.queue.own) (sym t.last.is.is) (skips_fit lines agent t.last.is.skipped t.last.is.skips) in
-    AllByRecursion-append (PutFits lines) (queue_of_rows t.taking.rows) t.last.row.queue.own (took_rows_fit lines taker agent rs t.taking.rows t.taking.table) last
+    let last : AllByRecursion (PutFits lines) t.last.row.queue.own =
+    subst (λ (x : Row). AllByRecursion (PutFits lines) x.queue.own) (sym t.last.is.is) (skips_fit lines agent t.last.is.skipped t.last.is.skips) in
+    AllByRecursion-append (PutFits lines) (queue_of_rows t.taking.rows) t.last.row.queue.own
+    (took_rows_fit lines taker agent rs t.taking.rows t.taking.table) last
 
 -- where only posted jobs were taken, none was passed over
-strict_taker : {A B : Type 0} (q : View A QueueEntry QueueRefused) (s : View B SetEntry ListRefused) (lines : List Line) (taker agent : ℕ) (rs : List TakeReply) (k : List A) (n : List B)
-    → q.history [] ≡ [] → AllByRecursion (TookFits lines) (q.history k) → TakingRest q s lines taker agent rs [] [] k n → Claiming q s lines taker agent rs [] [] k n
+strict_taker : {A B : Type 0} (q : View A QueueEntry QueueRefused) (s : View B SetEntry ListRefused) (lines : List Line) (taker agent : ℕ)
+    (rs : List TakeReply) (k : List A) (n : List B)
+    → q.history [] ≡ [] → AllByRecursion (TookFits lines) (q.history k) → TakingRest q s lines taker agent rs [] [] k n
+    → Claiming q s lines taker agent rs [] [] k n
 strict_taker q s lines taker agent rs k n none fits t =
     let all : AllByRecursion (TookFits lines) (queue_of_rows t.taking.rows ++ t.last.row.queue.own) =
-    subst (AllByRecursion (TookFits lines)) (own_whole q agent (queue_of_rows t.taking.rows ++ t.last.row.queue.own) k none (resting_stretch q s lines taker agent rs [] k [] n t)) (AllByRecursion-filter (TookFits lines) (is_own_move agent) (q.history k) fits) in
+    subst (AllByRecursion (TookFits lines))
+    (own_whole q agent (queue_of_rows t.taking.rows ++ t.last.row.queue.own) k none (resting_stretch q s lines taker agent rs [] k [] n t))
+    (AllByRecursion-filter (TookFits lines) (is_own_move agent) (q.history k) fits) in
     let skipped : t.last.is.skipped ≡ [] = no_skips lines agent t.last.is.skipped t.last.is.skips
-    (subst (λ (x : Row). AllByRecursion (TookFits lines) x.queue.own) t.last.is.is (AllByRecursion-right (TookFits lines) (queue_of_rows t.taking.rows) t.last.row.queue.own all)) in
+    (subst (λ (x : Row). AllByRecursion (TookFits lines) x.queue.own) t.last.is.is
+    (AllByRecursion-right (TookFits lines) (queue_of_rows t.taking.rows) t.last.row.queue.own all)) in
     let silent : t.last.row ≡ empty_row = t.last.is.is ∙ ap (λ (u : List QueueEntry). record { queue = just u; set = nothing }) skipped in
     record {
       rows = t.taking.rows;
-      table = strict_rows lines taker agent rs t.taking.rows t.taking.table (AllByRecursion-left (TookFits lines) (queue_of_rows t.taking.rows) t.last.row.queue.own all);
+      table = strict_rows lines taker agent rs t.taking.rows t.taking.table
+          (AllByRecursion-left (TookFits lines) (queue_of_rows t.taking.rows) t.last.row.queue.own all);
       works = Works-more q s agent t.taking.works (subst (λ (x : Row). Stands q s agent x t.queue t.set k n) silent t.last.stands);
     }
 
 -- what all workers have done, where the journals k and n are those of a pass that learned from all others; q and s are already
 -- beside all agents of the run
-pub record AllWork {A B : Type 0} (q : View A QueueEntry QueueRefused) (s : View B SetEntry ListRefused) (lines : List Line) (posters takers : ℕ) (posts : List PostReply) (takes : List TakeReply) (k : List A) (n : List B) : Type 0 where
+pub record AllWork {A B : Type 0} (q : View A QueueEntry QueueRefused) (s : View B SetEntry ListRefused) (lines : List Line) (posters takers : ℕ)
+    (posts : List PostReply) (takes : List TakeReply) (k : List A) (n : List B) : Type 0 where
   pub posting : (p : ℕ) → 1 ≤ p → p ≤ posters → Posting q s lines p (posts_of p posts) [] [] k n
   pub taking : (t : ℕ) → t ≤ takers → TakingRest q s lines t (taker_agent posters t) (takes_of t takes) [] [] k n
   pub order : AreInOrder lines posters takers posts takes
@@ -78,11 +90,14 @@ pub record AllWork {A B : Type 0} (q : View A QueueEntry QueueRefused) (s : View
   pub set_zero_last : ZeroLast agent_of_set_entry (s.history n)
   pub found_empty : (t : ℕ) → 1 ≤ t → t ≤ takers → length (takes_of t takes) < posts_in lines → LastIsEmpty (posters + t) (q.history k)
 
-fit_of : {A : Type 0} (q : View A QueueEntry QueueRefused) (lines : List Line) (agent : ℕ) (own : List QueueEntry) (k : List A) → q.history [] ≡ [] → Stretch of_queue q agent own [] k → AllByRecursion (PutFits lines) own → AllByRecursion (PutFits lines) (filter (is_own_move agent) (q.history k))
+fit_of : {A : Type 0} (q : View A QueueEntry QueueRefused) (lines : List Line) (agent : ℕ) (own : List QueueEntry) (k : List A) → q.history [] ≡ []
+    → Stretch of_queue q agent own [] k → AllByRecursion (PutFits lines) own → AllByRecursion (PutFits lines) (filter (is_own_move agent) (q.history k))
 fit_of q lines agent own k none t h = subst (AllByRecursion (PutFits lines)) (sym (own_whole q agent own k none t)) h
 
-own_puts_fit : {A B : Type 0} (q : View A QueueEntry QueueRefused) (s : View B SetEntry ListRefused) (lines : List Line) (posters takers : ℕ) (posts : List PostReply) (takes : List TakeReply) (k : List A) (n : List B)
-    → q.history [] ≡ [] → AllWork q s lines posters takers posts takes k n → (a : ℕ) → a ≤ posters + takers → AllByRecursion (PutFits lines) (filter (is_own_move a) (q.history k))
+own_puts_fit : {A B : Type 0} (q : View A QueueEntry QueueRefused) (s : View B SetEntry ListRefused) (lines : List Line) (posters takers : ℕ)
+    (posts : List PostReply) (takes : List TakeReply) (k : List A) (n : List B)
+    → q.history [] ≡ [] → AllWork q s lines posters takers posts takes k n → (a : ℕ) → a ≤ posters + takers
+    → AllByRecursion (PutFits lines) (filter (is_own_move a) (q.history k))
 own_puts_fit q s lines posters takers posts takes k n none w a low =
     let taker : (t : ℕ) → t ≤ takers → AllByRecursion (PutFits lines) (filter (is_own_move (taker_agent posters t)) (q.history k)) = λ t h.
     let all = w.taking t h in
@@ -94,13 +109,16 @@ own_puts_fit q s lines posters takers posts takes k n none w a low =
     worker_cases posters takers (λ x. AllByRecursion (PutFits lines) (filter (is_own_move x) (q.history k))) taker poster a low
 
 -- q and s are views of containers without the agents beside
-pub follows_board : {A B : Type 0} (q : View A QueueEntry QueueRefused) (s : View B SetEntry ListRefused) (lines : List Line) (posters takers : ℕ) (posts : List PostReply) (takes : List TakeReply) (k : List A) (n : List B)
+pub follows_board : {A B : Type 0} (q : View A QueueEntry QueueRefused) (s : View B SetEntry ListRefused) (lines : List Line) (posters takers : ℕ)
+    (posts : List PostReply) (takes : List TakeReply) (k : List A) (n : List B)
     → q.history [] ≡ [] → IsLegalQueue 0 (q.history k)
-    → AllWork (beside q (IsWorker posters takers)) (beside s (IsWorker posters takers)) lines posters takers posts takes k n → WorkersFollow q s lines posters takers posts takes k n
+    → AllWork (beside q (IsWorker posters takers)) (beside s (IsWorker posters takers)) lines posters takers posts takes k n
+    → WorkersFollow q s lines posters takers posts takes k n
 follows_board {A} {B} q s lines posters takers posts takes k n none legal w =
     let C : ℕ → Type 0 = IsWorker posters takers in
     let puts : AllByRecursion (PutFits lines) (q.history k) =
-    by_agents (PutFits lines) (λ a. tt) (posters + takers) (q.history k) w.agents (own_puts_fit (beside q C) (beside s C) lines posters takers posts takes k n none w) in
+    by_agents (PutFits lines) (λ a. tt) (posters + takers) (q.history k) w.agents
+    (own_puts_fit (beside q C) (beside s C) lines posters takers posts takes k n none w) in
     let fits : AllByRecursion (TookFits lines) (q.history k) = legal_tooks lines 0 [] (q.history k) legal tt puts in
     record {
       posting = w.posting;
@@ -116,7 +134,8 @@ no_waiting [] h = refl
 no_waiting (x ∷ xs) h = absurd (omega arith)
 
 -- the whole run, where the queue is known to be empty or as many takes came as there are lines
-pub ran_board : {A B : Type 0} (q : View A QueueEntry QueueRefused) (s : View B SetEntry ListRefused) (lines : List Line) (posters takers : ℕ) (posts : List PostReply) (takes : List TakeReply) (k : List A) (n : List B)
+pub ran_board : {A B : Type 0} (q : View A QueueEntry QueueRefused) (s : View B SetEntry ListRefused) (lines : List Line) (posters takers : ℕ)
+    (posts : List PostReply) (takes : List TakeReply) (k : List A) (n : List B)
     → 1 ≤ posters → q.history [] ≡ [] → ManyPuts q → length lines ≤ 65535
     → IsLegalQueue 0 (q.history k) → IsLegalSet (s.history n)
     → (waiting_after [] (q.history k) ≡ []) ⊎ (length lines ≤ length takes)

@@ -32,7 +32,8 @@ since {A} history grows j k (more, is) =
     record { part = part; is = sym part_is }
 
 -- an agent that has as many entries as before has none in what is new
-pub none_since : {E : Type 0} (by : E → ℕ) (a : ℕ) (before part after : List E) → after ≡ before ++ part → own_of by a after ≡ own_of by a before → own_of by a part ≡ []
+pub none_since : {E : Type 0} (by : E → ℕ) (a : ℕ) (before part after : List E) → after ≡ before ++ part → own_of by a after ≡ own_of by a before
+    → own_of by a part ≡ []
 none_since by a before part after is own =
     append_cancel_left (own_of by a before) (own_of by a part) []
     (sym (filter-append (λ e. by e == a) before part) ∙ (ap (own_of by a) (sym is) ∙ (own ∙ sym (append-nil (own_of by a before)))))
@@ -40,7 +41,8 @@ none_since by a before part after is own =
 learned_stretch : {A E W : Type 0} (kind : Kind E) (x : View A E W) (C : ℕ → Type 0) (agent : ℕ) (j k : List A)
     → ((es : List E) → own_of kind.agent_of agent es ≡ [] → filter (kind.is_own agent) es ≡ [])
     → Grows x.history → IsPrefix j k
-    → own_of kind.agent_of agent (x.history k) ≡ own_of kind.agent_of agent (x.history j) → AllByRecursion (λ e. C (kind.agent_of e)) (x.history k) → Stretch kind (beside x C) agent [] j k
+    → own_of kind.agent_of agent (x.history k) ≡ own_of kind.agent_of agent (x.history j) → AllByRecursion (λ e. C (kind.agent_of e)) (x.history k)
+    → Stretch kind (beside x C) agent [] j k
 learned_stretch kind x C agent j k quiet grows later own below =
     let s = since x.history grows j k later in
     record {
@@ -77,11 +79,13 @@ none_of {E} by a (e ∷ es) h =
 
 rest_of : {E : Type 0} (by : E → ℕ) (a : ℕ) (e : E) (es : List E) → own_of by a (e ∷ es) ≡ [] → own_of by a es ≡ []
 rest_of {E} by a e es h =
-    let cases : (b : Bool) → cond b (e ∷ own_of by a es) (own_of by a es) ≡ [] → own_of by a es ≡ [] = elim [ true ↦ λ k. (let n : ⊥ = cc in absurd n) | false ↦ λ k. k ] in
+    let cases : (b : Bool) → cond b (e ∷ own_of by a es) (own_of by a es) ≡ [] → own_of by a es ≡ [] =
+    elim [ true ↦ λ k. (let n : ⊥ = cc in absurd n) | false ↦ λ k. k ] in
     cases (by e == a) h
 
 -- a list of agents up to N without entries of 1 to N
-pub only_zero : {E : Type 0} (by : E → ℕ) (N : ℕ) (es : List E) → AllByRecursion (λ e. by e ≤ N) es → ((a : ℕ) → 1 ≤ a → a ≤ N → own_of by a es ≡ []) → AllByRecursion (λ e. by e ≡ 0) es
+pub only_zero : {E : Type 0} (by : E → ℕ) (N : ℕ) (es : List E) → AllByRecursion (λ e. by e ≤ N) es → ((a : ℕ) → 1 ≤ a → a ≤ N → own_of by a es ≡ [])
+    → AllByRecursion (λ e. by e ≡ 0) es
 only_zero by N [] below h = tt
 only_zero {E} by N (e ∷ es) below h = (
   (elim (zero_or (by e)) as (λ _. by e ≡ 0) [
@@ -99,11 +103,13 @@ zero_last by N before part after is none below others = record {
   back = part;
   is = is;
   others = none_of by 0 before none;
-  zeros = only_zero by N part (AllByRecursion-right (λ e. by e ≤ N) before part (subst (AllByRecursion (λ e. by e ≤ N)) is below)) (λ a g l. none_since by a before part after is (others a g l));
+  zeros = only_zero by N part (AllByRecursion-right (λ e. by e ≤ N) before part (subst (AllByRecursion (λ e. by e ≤ N)) is below))
+      (λ a g l. none_since by a before part after is (others a g l));
 }
 
 -- an agent's last Empty stays its last
-pub still_last : (agent : ℕ) (before part after : List QueueEntry) → LastIsEmpty agent before → after ≡ before ++ part → own_of agent_of_entry agent part ≡ [] → LastIsEmpty agent after
+pub still_last : (agent : ℕ) (before part after : List QueueEntry) → LastIsEmpty agent before → after ≡ before ++ part
+    → own_of agent_of_entry agent part ≡ [] → LastIsEmpty agent after
 still_last agent before part after e is none = record {
   front = e.front;
   back = e.back ++ part;
@@ -112,7 +118,8 @@ still_last agent before part after e is none = record {
 }
 
 -- what stands behind an entry of agent 0, where these stand last
-behind_zero : {E : Type 0} (by : E → ℕ) (e : E) (front back xs ys : List E) → front ++ e ∷ back ≡ xs ++ ys → by e ≡ 0 → AllByRecursion (λ x. by x ≢ 0) xs → AllByRecursion (λ x. by x ≡ 0) ys → AllByRecursion (λ x. by x ≡ 0) back
+behind_zero : {E : Type 0} (by : E → ℕ) (e : E) (front back xs ys : List E) → front ++ e ∷ back ≡ xs ++ ys → by e ≡ 0 → AllByRecursion (λ x. by x ≢ 0) xs
+    → AllByRecursion (λ x. by x ≡ 0) ys → AllByRecursion (λ x. by x ≡ 0) back
 behind_zero by e front back [] ys is zero_is others zeros =
     let all : AllByRecursion (λ x. by x ≡ 0) (front ++ e ∷ back) = subst (AllByRecursion (λ x. by x ≡ 0)) (sym is) zeros in
     (AllByRecursion-right (λ x. by x ≡ 0) front (e ∷ back) all).1
@@ -130,7 +137,8 @@ none_left by (e ∷ es) a b = absurd (b.0 a.0)
 -- the queue is empty where the last entry of taker 0 is an Empty
 pub zero_ended : (es : List QueueEntry) → IsLegalQueue 0 es → ZeroLast agent_of_entry es → LastIsEmpty 0 es → waiting_after [] es ≡ []
 zero_ended es legal last e =
-    let zeros : AllByRecursion (λ x. agent_of_entry x ≡ 0) e.back = behind_zero agent_of_entry (Empty 0) e.front e.back last.front last.back (sym e.is ∙ last.is) refl last.others last.zeros in
+    let zeros : AllByRecursion (λ x. agent_of_entry x ≡ 0) e.back =
+    behind_zero agent_of_entry (Empty 0) e.front e.back last.front last.back (sym e.is ∙ last.is) refl last.others last.zeros in
     let none : e.back ≡ [] = none_left agent_of_entry e.back zeros e.others in
     let is : es ≡ e.front ++ Empty 0 ∷ [] = e.is ∙ ap (λ u. e.front ++ Empty 0 ∷ u) none in
     rw is (empty_at 0 [] 0 e.front (subst (IsLegalFrom 0 []) is legal))

@@ -43,7 +43,8 @@ abbrev pub own_in : {A E : Type 0} → (List A → List E) → (E → ℕ) → �
 own_in history agent_of a j = own_of agent_of a (history j)
 
 -- one learns from one more, whose pass shows this agent
-pub Learned-at : {W A E : Type 0} (history : List A → List E) (agent_of : E → ℕ) (agent : W → ℕ) (journal : W → List A) (me a b : ℕ) (x y y2 z : List A) (w v : W) (ws vs all : List W)
+pub Learned-at : {W A E : Type 0} (history : List A → List E) (agent_of : E → ℕ) (agent : W → ℕ) (journal : W → List A) (me a b : ℕ) (x y y2 z : List A)
+    (w v : W) (ws vs all : List W)
     → all ≡ w ∷ ws
     → a ≡ me
     → b ≡ agent w
@@ -74,7 +75,13 @@ Learned-at {W} {A} {E} history agent_of agent journal me a b x y y2 z w v ws vs 
           let r = rest.again (subst (λ u. Pointwise (IsSeen agent journal own u) ws vs) (sym still) s.1) in (
             r.0 ∙ still,
             (
-              record { agent_is = known; begins = subst (λ u. IsPrefix (journal w) u) (sym (r.0 ∙ still)) s.0; is = same ∙ sym r.0; own_is = ap (λ u. own (agent w) u) r.0 ∙ kept },
+              record {
+                agent_is = known;
+                begins = subst (λ u. IsPrefix (journal w) u) (sym (r.0 ∙ still)) s.0;
+                is = same
+                    ∙ sym r.0;
+                own_is = ap (λ u. own (agent w) u) r.0 ∙ kept;
+              },
               r.1,
             ),
           );
@@ -88,7 +95,8 @@ pub Learned-twice : {W A E : Type 0} (agent : W → ℕ) (journal : W → List A
     → LearnedAll agent journal own me x z ws vs
 Learned-twice agent journal own me x y z ws us vs one two =
     let seen : Pointwise (IsSeen agent journal own y) us vs
-    = Pointwise-right (IsHeard agent journal own y) (IsHeard agent journal own z) (IsSeen agent journal own y) ws us vs (λ w u v h k. h.seen) one.each two.each in
+    = Pointwise-right (IsHeard agent journal own y) (IsHeard agent journal own z) (IsSeen agent journal own y) ws us vs
+    (λ w u v h k. h.seen) one.each two.each in
     let r = two.again seen in
     record {
       grows = prefix_trans x y z one.grows two.grows;

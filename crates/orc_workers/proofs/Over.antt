@@ -33,7 +33,8 @@ use Rattle.orc_workers.proofs.Blocks.{blocks, AreKeyed, block_of, blocks_by_key,
 use Rattle.orc_workers.proofs.Learned.{zero_ended}
 use Rattle.orc_workers.proofs.Boards.{AllWork, ran_board}
 
-takers_loose : (lines : List Line) (taker agent : ℕ) (rs : List TakeReply) (rows : List Row) → Pointwise (TakerRow lines taker agent) rs rows → AllByRecursion (λ (r : TakeReply). r.taker ≡ taker) rs
+takers_loose : (lines : List Line) (taker agent : ℕ) (rs : List TakeReply) (rows : List Row) → Pointwise (TakerRow lines taker agent) rs rows
+    → AllByRecursion (λ (r : TakeReply). r.taker ≡ taker) rs
 takers_loose lines taker agent [] rows z = tt
 takers_loose lines taker agent (r ∷ rs) [] z = absurd z
 takers_loose lines taker agent (r ∷ rs) (row ∷ rows) z = (z.0.taker_is, takers_loose lines taker agent rs rows z.1)
@@ -73,32 +74,38 @@ abbrev pub take_block : {P R : Type 0} → ℕ → List TakeReply → List (Work
 take_block posters own ws zero = own
 take_block posters own ws (suc t) = nth_of (λ w. w.takes.items) ws (posters + t)
 
-idle_desks : {Q S P R A B : Type 0} (q : QueueOf Q P A) (s : SetOf S R B) (queue : Q) (set : S) (lines : List Line) (k : List A) (n : List B) (a : ℕ) (ws : List (Worker P R))
+idle_desks : {Q S P R A B : Type 0} (q : QueueOf Q P A) (s : SetOf S R B) (queue : Q) (set : S) (lines : List Line) (k : List A) (n : List B) (a : ℕ)
+    (ws : List (Worker P R))
     → AreNumbered a ws → AllByRecursion (IsBack q s queue set lines k n) ws → AreIdle q s queue set a (map (λ (w : Worker P R). w.desk) ws)
 idle_desks q s queue set lines k n a [] num h = tt
-idle_desks q s queue set lines k n a (w ∷ ws) num h = (subst (λ (x : ℕ). IsDesk q s queue set x w.desk) num.0 h.0.is_desk, idle_desks q s queue set lines k n (suc a) ws num.1 h.1)
+idle_desks q s queue set lines k n a (w ∷ ws) num h =
+    (subst (λ (x : ℕ). IsDesk q s queue set x w.desk) num.0 h.0.is_desk, idle_desks q s queue set lines k n (suc a) ws num.1 h.1)
 
-seen_desks : {Q S P R A B : Type 0} (q : QueueOf Q P A) (s : SetOf S R B) (queue : Q) (set : S) (lines : List Line) (k : List A) (n : List B) (ws : List (Worker P R))
+seen_desks : {Q S P R A B : Type 0} (q : QueueOf Q P A) (s : SetOf S R B) (queue : Q) (set : S) (lines : List Line) (k : List A) (n : List B)
+    (ws : List (Worker P R))
     → AllByRecursion (IsBack q s queue set lines k n) ws → HaveSeen q s k n (map (λ (w : Worker P R). w.desk) ws)
 seen_desks q s queue set lines k n [] h = tt
 seen_desks q s queue set lines k n (w ∷ ws) h = ((h.0.queue_seen, h.0.set_seen), seen_desks q s queue set lines k n ws h.1)
 
 -- what all workers have done, put together
-module _ {P R A B : Type 0} (q : View A QueueEntry QueueRefused) (s : View B SetEntry ListRefused) (lines : List Line) (posters takers : ℕ) (k : List A) (n : List B) (own : List TakeReply) (ws : List (Worker P R))
+module _ {P R A B : Type 0} (q : View A QueueEntry QueueRefused) (s : View B SetEntry ListRefused) (lines : List Line) (posters takers : ℕ) (k : List A)
+    (n : List B) (own : List TakeReply) (ws : List (Worker P R))
     (num : AreNumbered 1 ws) (many : length ws ≡ posters + takers)
     (told : AllByRecursion (λ (w : Worker P R). IsTold q s lines posters k n w.agent w.posts.items w.takes.items) ws)
     (taking : TakingRest q s lines 0 0 own [] [] k n) where
   abbrev Told : Worker P R → Type 0
   Told w = IsTold q s lines posters k n w.agent w.posts.items w.takes.items
 
-  poster_at : (i : ℕ) → i < posters → (rs : List PostReply) → post_block ws (suc i) ≡ rs → Posting q s lines (suc i) rs [] [] k n × (map (λ (r : PostReply). r.line) rs ≡ own_records posters (suc i) (length lines))
+  poster_at : (i : ℕ) → i < posters → (rs : List PostReply) → post_block ws (suc i) ≡ rs
+      → Posting q s lines (suc i) rs [] [] k n × (map (λ (r : PostReply). r.line) rs ≡ own_records posters (suc i) (length lines))
   poster_at i low rs is =
       let w = find Told 1 i ws num told (omega (arith, low, many)) in
       let a : w.worker.agent ≡ suc i = w.agent_is ∙ omega arith in
       let d = w.holds.posted (omega (arith, a, low)) in
       let e : w.worker.posts.items ≡ rs = sym w.posts_are ∙ is in (
         subst (λ (x : ℕ). Posting q s lines x rs [] [] k n) a (subst (λ (x : List PostReply). Posting q s lines w.worker.agent x [] [] k n) e d.posting),
-        subst (λ (x : ℕ). map (λ (r : PostReply). r.line) rs ≡ own_records posters x (length lines)) a (subst (λ (x : List PostReply). map (λ (r : PostReply). r.line) x ≡ own_records posters w.worker.agent (length lines)) e d.in_file_order),
+        subst (λ (x : ℕ). map (λ (r : PostReply). r.line) rs ≡ own_records posters x (length lines)) a
+            (subst (λ (x : List PostReply). map (λ (r : PostReply). r.line) x ≡ own_records posters w.worker.agent (length lines)) e d.in_file_order),
       )
 
   no_posts_at : (i : ℕ) → posters ≤ i → post_block ws (suc i) ≡ []
@@ -140,49 +147,65 @@ module _ {P R A B : Type 0} (q : View A QueueEntry QueueRefused) (s : View B Set
   takes_keyed : AreKeyed (λ (r : TakeReply). r.taker) (take_block posters own ws)
   takes_keyed zero = takers_loose lines 0 0 own taking.taking.rows taking.taking.table
   takes_keyed (suc t) = elim (le-cases takers t) as (λ _. AllByRecursion (λ (r : TakeReply). r.taker ≡ suc t) (take_block posters own ws (suc t))) [
-    | inl high ↦ subst (AllByRecursion (λ (r : TakeReply). r.taker ≡ suc t)) (sym (nth_out (λ (w : Worker P R). w.takes.items) ws (posters + t) (omega (arith, many, high)))) tt
-    | inr low ↦ let p = taker_at t low (take_block posters own ws (suc t)) refl in takers_loose lines (suc t) (posters + suc t) _ p.0.taking.rows p.0.taking.table
+    | inl high ↦ subst (AllByRecursion (λ (r : TakeReply). r.taker ≡ suc t))
+        (sym (nth_out (λ (w : Worker P R). w.takes.items) ws (posters + t) (omega (arith, many, high)))) tt
+    | inr low ↦ let p = taker_at t low (take_block posters own ws (suc t)) refl in takers_loose lines (suc t)
+        (posters + suc t) _ p.0.taking.rows p.0.taking.table
   ]
 
   posts_blocks : all_of (λ (w : Worker P R). w.posts.items) ws ≡ blocks (post_block ws) (suc posters)
   posts_blocks =
       let N : ℕ = length ws in
-      let all : blocks (post_block ws) (suc N) ≡ blocks (nth_of (λ (w : Worker P R). w.posts.items) ws) N = blocks_cons [] (post_block ws) (nth_of (λ (w : Worker P R). w.posts.items) ws) refl (λ i. refl) N in
+      let all : blocks (post_block ws) (suc N) ≡ blocks (nth_of (λ (w : Worker P R). w.posts.items) ws) N =
+      blocks_cons [] (post_block ws) (nth_of (λ (w : Worker P R). w.posts.items) ws) refl (λ i. refl) N in
       let e : suc N ≡ suc posters + takers = omega (arith, many) in
-      let rest : blocks (λ i. post_block ws (suc posters + i)) takers ≡ [] = blocks_none (λ i. post_block ws (suc posters + i)) takers (λ i low. ap (post_block ws) (plus_suc posters i) ∙ no_posts_at (posters + i) (omega arith)) in
+      let rest : blocks (λ i. post_block ws (suc posters + i)) takers ≡ [] =
+      blocks_none (λ i. post_block ws (suc posters + i)) takers
+      (λ i low. ap (post_block ws) (plus_suc posters i) ∙ no_posts_at (posters + i) (omega arith)) in
       all_blocks (λ (w : Worker P R). w.posts.items) ws
-      ∙ (sym all ∙ (ap (blocks (post_block ws)) e ∙ (blocks_add (post_block ws) (suc posters) takers ∙ (ap (λ z. blocks (post_block ws) (suc posters) ++ z) rest ∙ append-nil (blocks (post_block ws) (suc posters))))))
+      ∙ (sym all ∙ (ap (blocks (post_block ws)) e
+      ∙ (blocks_add (post_block ws) (suc posters) takers
+      ∙ (ap (λ z. blocks (post_block ws) (suc posters) ++ z) rest ∙ append-nil (blocks (post_block ws) (suc posters))))))
 
   takes_blocks : own ++ all_of (λ (w : Worker P R). w.takes.items) ws ≡ blocks (take_block posters own ws) (suc takers)
   takes_blocks =
       let nth : ℕ → List TakeReply = nth_of (λ (w : Worker P R). w.takes.items) ws in
       let tail : all_of (λ (w : Worker P R). w.takes.items) ws ≡ blocks (λ i. nth (posters + i)) takers =
       all_blocks (λ (w : Worker P R). w.takes.items) ws
-      ∙ (ap (blocks nth) many ∙ (blocks_add nth posters takers ∙ ap (λ z. z ++ blocks (λ i. nth (posters + i)) takers) (blocks_none nth posters no_takes_at))) in
+      ∙ (ap (blocks nth) many
+      ∙ (blocks_add nth posters takers ∙ ap (λ z. z ++ blocks (λ i. nth (posters + i)) takers) (blocks_none nth posters no_takes_at))) in
       ap (λ z. own ++ z) tail ∙ sym (blocks_cons own (take_block posters own ws) (λ i. nth (posters + i)) refl (λ i. refl) takers)
 
   some_poster : (a : ℕ) → AllByRecursion (λ (r : PostReply). 1 ≤ r.poster) (post_block ws a)
   some_poster zero = tt
-  some_poster (suc i) = AllByRecursion-map (λ (r : PostReply). r.poster ≡ suc i) (λ (r : PostReply). 1 ≤ r.poster) (λ r e. omega (arith, e)) (post_block ws (suc i)) (posts_keyed (suc i))
+  some_poster (suc i) =
+      AllByRecursion-map (λ (r : PostReply). r.poster ≡ suc i) (λ (r : PostReply). 1 ≤ r.poster) (λ r e. omega (arith, e)) (post_block ws (suc i))
+      (posts_keyed (suc i))
 
-  posting_at : (p : ℕ) → 1 ≤ p → p ≤ posters → (posts : List PostReply) → ((i : ℕ) → i < posters → post_block ws (suc i) ≡ posts_of (suc i) posts) → Posting q s lines p (posts_of p posts) [] [] k n
+  posting_at : (p : ℕ) → 1 ≤ p → p ≤ posters → (posts : List PostReply) → ((i : ℕ) → i < posters → post_block ws (suc i) ≡ posts_of (suc i) posts)
+      → Posting q s lines p (posts_of p posts) [] [] k n
   posting_at zero low high posts f = absurd (omega (arith, low))
   posting_at (suc i) low high posts f = (poster_at i (omega (arith, high)) (posts_of (suc i) posts) (f i (omega (arith, high)))).0
 
-  order_at : (p : ℕ) → 1 ≤ p → p ≤ posters → (posts : List PostReply) → ((i : ℕ) → i < posters → post_block ws (suc i) ≡ posts_of (suc i) posts) → map (λ (r : PostReply). r.line) (posts_of p posts) ≡ own_records posters p (length lines)
+  order_at : (p : ℕ) → 1 ≤ p → p ≤ posters → (posts : List PostReply) → ((i : ℕ) → i < posters → post_block ws (suc i) ≡ posts_of (suc i) posts)
+      → map (λ (r : PostReply). r.line) (posts_of p posts) ≡ own_records posters p (length lines)
   order_at zero low high posts f = absurd (omega (arith, low))
   order_at (suc i) low high posts f = (poster_at i (omega (arith, high)) (posts_of (suc i) posts) (f i (omega (arith, high)))).1
 
-  taking_at : (t : ℕ) → t ≤ takers → (takes : List TakeReply) → ((i : ℕ) → i < suc takers → take_block posters own ws i ≡ takes_of i takes) → TakingRest q s lines t (taker_agent posters t) (takes_of t takes) [] [] k n
+  taking_at : (t : ℕ) → t ≤ takers → (takes : List TakeReply) → ((i : ℕ) → i < suc takers → take_block posters own ws i ≡ takes_of i takes)
+      → TakingRest q s lines t (taker_agent posters t) (takes_of t takes) [] [] k n
   taking_at zero high takes f = subst (λ (x : List TakeReply). TakingRest q s lines 0 0 x [] [] k n) (f 0 (omega arith)) taking
   taking_at (suc t) high takes f = (taker_at t (omega (arith, high)) (takes_of (suc t) takes) (f (suc t) (omega (arith, high)))).0
 
-  empty_at_taker : (t : ℕ) → 1 ≤ t → t ≤ takers → (takes : List TakeReply) → ((i : ℕ) → i < suc takers → take_block posters own ws i ≡ takes_of i takes) → length (takes_of t takes) < posts_in lines → LastIsEmpty (posters + t) (q.history k)
+  empty_at_taker : (t : ℕ) → 1 ≤ t → t ≤ takers → (takes : List TakeReply) → ((i : ℕ) → i < suc takers → take_block posters own ws i ≡ takes_of i takes)
+      → length (takes_of t takes) < posts_in lines → LastIsEmpty (posters + t) (q.history k)
   empty_at_taker zero low high takes f = absurd (omega (arith, low))
   empty_at_taker (suc t) low high takes f = (taker_at t (omega (arith, high)) (takes_of (suc t) takes) (f (suc t) (omega (arith, high)))).1
 
-  pub put_together : (posts : List PostReply) (takes : List TakeReply) → posts ≡ all_of (λ (w : Worker P R). w.posts.items) ws → takes ≡ own ++ all_of (λ (w : Worker P R). w.takes.items) ws
-      → AllByRecursion (λ e. agent_of_entry e ≤ posters + takers) (q.history k) → ZeroLast agent_of_entry (q.history k) → ZeroLast agent_of_set_entry (s.history n)
+  pub put_together : (posts : List PostReply) (takes : List TakeReply) → posts ≡ all_of (λ (w : Worker P R). w.posts.items) ws
+      → takes ≡ own ++ all_of (λ (w : Worker P R). w.takes.items) ws
+      → AllByRecursion (λ e. agent_of_entry e ≤ posters + takers) (q.history k) → ZeroLast agent_of_entry (q.history k)
+      → ZeroLast agent_of_set_entry (s.history n)
       → AllWork q s lines posters takers posts takes k n
   put_together posts takes posts_are takes_are agents zero_q zero_s =
       let pb : posts ≡ blocks (post_block ws) (suc posters) = posts_are ∙ posts_blocks in
@@ -195,10 +218,13 @@ module _ {P R A B : Type 0} (q : View A QueueEntry QueueRefused) (s : View B Set
         posting = λ p low high. posting_at p low high posts post_at;
         taking = λ t high. taking_at t high takes take_at;
         order = record {
-          by_poster = subst (λ (xs : List PostReply). xs ≡ by_key (λ (r : PostReply). r.poster) (suc posters) xs) (sym pb) (blocks_by_key (λ (r : PostReply). r.poster) (post_block ws) posts_keyed (suc posters));
-          none_of_zero = subst (AllByRecursion (λ (r : PostReply). 1 ≤ r.poster)) (sym pb) (every_block (λ (r : PostReply). 1 ≤ r.poster) (post_block ws) (suc posters) (λ a l. some_poster a));
+          by_poster = subst (λ (xs : List PostReply). xs ≡ by_key (λ (r : PostReply). r.poster) (suc posters) xs) (sym pb)
+              (blocks_by_key (λ (r : PostReply). r.poster) (post_block ws) posts_keyed (suc posters));
+          none_of_zero = subst (AllByRecursion (λ (r : PostReply). 1 ≤ r.poster)) (sym pb)
+              (every_block (λ (r : PostReply). 1 ≤ r.poster) (post_block ws) (suc posters) (λ a l. some_poster a));
           in_file_order = λ p low high. order_at p low high posts post_at;
-          by_taker = subst (λ (xs : List TakeReply). xs ≡ by_key (λ (r : TakeReply). r.taker) (suc takers) xs) (sym tb) (blocks_by_key (λ (r : TakeReply). r.taker) (take_block posters own ws) takes_keyed (suc takers));
+          by_taker = subst (λ (xs : List TakeReply). xs ≡ by_key (λ (r : TakeReply). r.taker) (suc takers) xs) (sym tb)
+              (blocks_by_key (λ (r : TakeReply). r.taker) (take_block posters own ws) takes_keyed (suc takers));
         };
         agents = agents;
         queue_zero_last = zero_q;
@@ -207,21 +233,27 @@ module _ {P R A B : Type 0} (q : View A QueueEntry QueueRefused) (s : View B Set
       }
 
 -- the whole
-pub over_of : {Q S P R A B : Type 0} (q : QueueOf Q P A) (s : SetOf S R B) (queue : Q) (set : S) (lines : List Line) (posters takers : ℕ) (desk : Desk P R) (own : List TakeReply) (ws : List (Worker P R)) (desks : List (Desk P R)) (posts : List PostReply) (takes : List TakeReply)
+pub over_of : {Q S P R A B : Type 0} (q : QueueOf Q P A) (s : SetOf S R B) (queue : Q) (set : S) (lines : List Line) (posters takers : ℕ) (desk : Desk P R)
+    (own : List TakeReply) (ws : List (Worker P R)) (desks : List (Desk P R)) (posts : List PostReply) (takes : List TakeReply)
     → 1 ≤ posters → length lines ≤ 65535 → q.first queue ≡ 0 → length ws ≡ posters + takers
     → AllCameBack q s queue set lines posters takers desk own ws
-    → desks ≡ (desk ∷ []) ++ map (λ (w : Worker P R). w.desk) ws → posts ≡ [] ++ all_of (λ (w : Worker P R). w.posts.items) ws → takes ≡ own ++ all_of (λ (w : Worker P R). w.takes.items) ws
+    → desks ≡ (desk ∷ []) ++ map (λ (w : Worker P R). w.desk) ws → posts ≡ [] ++ all_of (λ (w : Worker P R). w.posts.items) ws
+    → takes ≡ own ++ all_of (λ (w : Worker P R). w.takes.items) ws
     → IsOver q s queue set lines posters takers desks posts takes
 over_of {P = P} {R = R} {A = A} q s queue set lines posters takers desk own ws desks posts takes some short first many c desks_are posts_are takes_are =
     let C : ℕ → Type 0 = IsWorker posters takers in
     let k : List A = q.journal desk.queue in
     let n = s.journal desk.set in
     let agents : AllByRecursion (λ e. agent_of_entry e ≤ posters + takers) (q.history queue k) =
-    AllByRecursion-map (λ e. agent_of_entry e < suc (posters + takers)) (λ e. agent_of_entry e ≤ posters + takers) (λ e h. omega (arith, h)) (q.history queue k) c.known.queue_below in
-    let work = put_together (beside (queue_view q queue) C) (beside (set_view s set) C) lines posters takers k n own ws c.numbered many c.told c.taking posts takes posts_are takes_are agents c.queue_zero_last c.set_zero_last in
+    AllByRecursion-map (λ e. agent_of_entry e < suc (posters + takers)) (λ e. agent_of_entry e ≤ posters + takers) (λ e h. omega (arith, h))
+    (q.history queue k) c.known.queue_below in
+    let work = put_together (beside (queue_view q queue) C) (beside (set_view s set) C) lines posters takers k n own ws c.numbered many c.told c.taking posts
+    takes posts_are takes_are agents c.queue_zero_last c.set_zero_last in
     let legal : IsLegalQueue 0 (q.history queue k) = subst (λ (x : ℕ). IsLegalQueue x (q.history queue k)) first c.known.queue_legal in
-    let more : length takes ≡ length own + length (all_of (λ (w : Worker P R). w.takes.items) ws) = ap length takes_are ∙ length-append own (all_of (λ (w : Worker P R). w.takes.items) ws) in
-    let end : (waiting_after [] (q.history queue k) ≡ []) ⊎ (length lines ≤ length takes) = elim c.last as (λ _. (waiting_after [] (q.history queue k) ≡ []) ⊎ (length lines ≤ length takes)) [
+    let more : length takes ≡ length own + length (all_of (λ (w : Worker P R). w.takes.items) ws) =
+    ap length takes_are ∙ length-append own (all_of (λ (w : Worker P R). w.takes.items) ws) in
+    let end : (waiting_after [] (q.history queue k) ≡ []) ⊎ (length lines ≤ length takes) =
+    elim c.last as (λ _. (waiting_after [] (q.history queue k) ≡ []) ⊎ (length lines ≤ length takes)) [
       | inl e ↦ inl (zero_ended (q.history queue k) legal c.queue_zero_last e)
       | inr full ↦ inr (omega (arith, full, more))
     ] in
@@ -229,24 +261,29 @@ over_of {P = P} {R = R} {A = A} q s queue set lines posters takers desk own ws d
       idle = (c.caller, idle_desks q s queue set lines k n 1 ws c.numbered c.back);
       all = ap suc (length-map ws (λ (w : Worker P R). w.desk) ∙ many);
       seen = ((refl, refl), seen_desks q s queue set lines k n ws c.back);
-      ran = ran_board (queue_view q queue) (set_view s set) lines posters takers posts takes k n some c.none (λ agent seen from to h. let big = c.known.many_puts agent seen from to h in omega (arith, big, first)) short legal c.known.set_legal end work;
+      ran = ran_board (queue_view q queue) (set_view s set) lines posters takers posts takes k n some c.none
+          (λ agent seen from to h. let big = c.known.many_puts agent seen from to h in omega (arith, big, first)) short legal c.known.set_legal end work;
     } in
     subst (λ (ds : List (Desk P R)). IsOver q s queue set lines posters takers ds posts takes) (sym desks_are) is
 
 -- there are no more replies of either kind than lines
-pub few_replies : {Q S P R A B : Type 0} (q : QueueOf Q P A) (s : SetOf S R B) (queue : Q) (set : S) (lines : List Line) (posters takers : ℕ) (desk : Desk P R) (own : List TakeReply) (ws : List (Worker P R))
+pub few_replies : {Q S P R A B : Type 0} (q : QueueOf Q P A) (s : SetOf S R B) (queue : Q) (set : S) (lines : List Line) (posters takers : ℕ)
+    (desk : Desk P R) (own : List TakeReply) (ws : List (Worker P R))
     → 1 ≤ posters → length lines ≤ 65535 → q.first queue ≡ 0 → length ws ≡ posters + takers
     → AllCameBack q s queue set lines posters takers desk own ws
-    → (length (all_of (λ (w : Worker P R). w.posts.items) ws) ≤ length lines) × (length own + length (all_of (λ (w : Worker P R). w.takes.items) ws) ≤ length lines)
+    → (length (all_of (λ (w : Worker P R). w.posts.items) ws) ≤ length lines) × (length own + length
+    (all_of (λ (w : Worker P R). w.takes.items) ws) ≤ length lines)
 few_replies {P = P} {R = R} q s queue set lines posters takers desk own ws some short first many c =
     let posts : List PostReply = all_of (λ (w : Worker P R). w.posts.items) ws in
     let takes : List TakeReply = own ++ all_of (λ (w : Worker P R). w.takes.items) ws in
-    let over = over_of q s queue set lines posters takers desk own ws (desk ∷ map (λ (w : Worker P R). w.desk) ws) posts takes some short first many c refl refl refl in
+    let over = over_of q s queue set lines posters takers desk own ws (desk ∷ map (λ (w : Worker P R). w.desk) ws) posts takes some short first many c refl
+    refl refl in
     let order = over.ran.follows.workers.order in
     let line : PostReply → ℕ = λ r. r.line in
     let each : length (map line posts) ≡ length (range_with_len 0 (length lines)) =
     sym (length_permutation (map line posts) (range_with_len 0 (length lines)) (each_line lines posters takers posts takes some order)) in
-    let claims : length (map claim_of takes) ≡ length (posted_of posts) = length_permutation (posted_of posts) (map claim_of takes) over.ran.reportable.claims in
+    let claims : length (map claim_of takes) ≡ length (posted_of posts) =
+    length_permutation (posted_of posts) (map claim_of takes) over.ran.reportable.claims in
     let few : length (posted_of posts) ≤ length lines = posted_few lines posters takers posts takes some order in (
       omega (arith, length-map posts line, each, length-range_with_len 0 (length lines)),
       omega (arith, length-map takes claim_of, claims, few, length-append own (all_of (λ (w : Worker P R). w.takes.items) ws)),

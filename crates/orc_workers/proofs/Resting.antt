@@ -23,7 +23,8 @@ use Rattle.orc_board.proofs.Wholes.{queue_of_rows, Works-queue, Works-set}
 use Rattle.orc_board.proofs.Workers.{taking_none, taking_full, Pointwise-snoc}
 
 -- two rows without refusals, one after another
-pub Stands-both : {A B : Type 0} (q : View A QueueEntry QueueRefused) (s : View B SetEntry ListRefused) (agent : ℕ) (xs ys : List QueueEntry) (us vs : List SetEntry) (i j k : List A) (l m n : List B)
+pub Stands-both : {A B : Type 0} (q : View A QueueEntry QueueRefused) (s : View B SetEntry ListRefused) (agent : ℕ) (xs ys : List QueueEntry)
+    (us vs : List SetEntry) (i j k : List A) (l m n : List B)
     → Stands q s agent (record { queue = just xs; set = just us }) i l j m → Stands q s agent (record { queue = just ys; set = just vs }) j m k n
     → Stands q s agent (record { queue = just (xs ++ ys); set = just (us ++ vs) }) i l k n
 Stands-both q s agent xs ys us vs i j k l m n a b = record {
@@ -34,12 +35,14 @@ Stands-both q s agent xs ys us vs i j k l m n a b = record {
 abbrev pub skip_row : List QueueEntry → Row
 skip_row skipped = record { queue = just skipped; set = nothing }
 
-pub resting_none : {A B : Type 0} (q : View A QueueEntry QueueRefused) (s : View B SetEntry ListRefused) (lines : List Line) (taker agent : ℕ) (replies : List TakeReply) (j : List A) (m : List B)
+pub resting_none : {A B : Type 0} (q : View A QueueEntry QueueRefused) (s : View B SetEntry ListRefused) (lines : List Line) (taker agent : ℕ)
+    (replies : List TakeReply) (j : List A) (m : List B)
     → replies ≡ [] → TakingRest q s lines taker agent replies j m j m
 resting_none q s lines taker agent replies j m e = taking_full q s lines taker agent replies j j m m (taking_none q s lines taker agent replies j m e)
 
 -- a claim more; the jobs that were passed over since the last one stand before it
-pub resting_more : {A B : Type 0} (q : View A QueueEntry QueueRefused) (s : View B SetEntry ListRefused) (lines : List Line) (taker agent now : ℕ) (replies : List TakeReply) (r : TakeReply) (j k k2 : List A) (m n n2 : List B)
+pub resting_more : {A B : Type 0} (q : View A QueueEntry QueueRefused) (s : View B SetEntry ListRefused) (lines : List Line) (taker agent now : ℕ)
+    (replies : List TakeReply) (r : TakeReply) (j k k2 : List A) (m n n2 : List B)
     → TakingRest q s lines taker agent replies j m k n → now ≡ agent → r.taker ≡ taker
     → Replied q s (TakenRow lines now (Some r)) now k n k2 n2 → TakingRest q s lines taker agent (replies ++ r ∷ []) j m k2 n2
 resting_more q s lines taker agent now replies r j k k2 m n n2 p e same replied =
@@ -49,9 +52,11 @@ resting_more q s lines taker agent now replies r j k k2 m n n2 p e same replied 
     let gone : List SetEntry = Removed agent done.is.claim.id (answer_of r.what) ∷ [] in
     let row : Row = record { queue = just (before ++ own); set = just gone } in
     let one : Stands q s agent (skip_row before) p.queue p.set k n = subst (λ (x : Row). Stands q s agent x p.queue p.set k n) p.last.is.is p.last.stands in
-    let two : Stands q s agent (record { queue = just own; set = just gone }) k n k2 n2 = subst (λ (x : Row). Stands q s agent x k n k2 n2) done.is.claim.is done.stands in
+    let two : Stands q s agent (record { queue = just own; set = just gone }) k n k2 n2 =
+    subst (λ (x : Row). Stands q s agent x k n k2 n2) done.is.claim.is done.stands in
     let all : Stands q s agent row p.queue p.set k2 n2 = Stands-both q s agent before own [] gone p.queue k k2 p.set n n2 one two in
-    let joined : before ++ own ≡ (before ++ done.is.skipped) ++ Took agent r.line r.at ∷ [] = sym (append_assoc before done.is.skipped (Took agent r.line r.at ∷ [])) in
+    let joined : before ++ own ≡ (before ++ done.is.skipped) ++ Took agent r.line r.at ∷ [] =
+    sym (append_assoc before done.is.skipped (Took agent r.line r.at ∷ [])) in
     let table : TakeRow lines agent r.line r.at r.what row = record {
       skipped = before ++ done.is.skipped;
       skips = AllByRecursion-append (IsSkip lines agent) before done.is.skipped p.last.is.skips done.is.skips;
@@ -74,7 +79,8 @@ resting_more q s lines taker agent now replies r j k k2 m n n2 p e same replied 
     }
 
 -- an answer that found nothing
-pub resting_none_more : {A B : Type 0} (q : View A QueueEntry QueueRefused) (s : View B SetEntry ListRefused) (lines : List Line) (taker agent now : ℕ) (replies : List TakeReply) (j k k2 : List A) (m n n2 : List B)
+pub resting_none_more : {A B : Type 0} (q : View A QueueEntry QueueRefused) (s : View B SetEntry ListRefused) (lines : List Line) (taker agent now : ℕ)
+    (replies : List TakeReply) (j k k2 : List A) (m n n2 : List B)
     → TakingRest q s lines taker agent replies j m k n → now ≡ agent
     → Replied q s (TakenRow lines now None) now k n k2 n2 → TakingRest q s lines taker agent replies j m k2 n2
 resting_none_more q s lines taker agent now replies j k k2 m n n2 p e replied =
@@ -88,25 +94,34 @@ resting_none_more q s lines taker agent now replies j k k2 m n n2 p e replied =
       taking = p.taking;
       last = record {
         row = skip_row (before ++ done.is.skipped);
-        is = record { skipped = before ++ done.is.skipped; skips = AllByRecursion-append (IsSkip lines agent) before done.is.skipped p.last.is.skips done.is.skips; is = refl };
+        is = record {
+          skipped = before ++ done.is.skipped;
+          skips = AllByRecursion-append
+              (IsSkip lines agent) before done.is.skipped p.last.is.skips done.is.skips;
+          is = refl;
+        };
         stands = Stands-both q s agent before done.is.skipped [] [] p.queue k k2 p.set n n2 one two;
       };
     }
 
 -- all own entries of a taker
-pub resting_stretch : {A B : Type 0} (q : View A QueueEntry QueueRefused) (s : View B SetEntry ListRefused) (lines : List Line) (taker agent : ℕ) (replies : List TakeReply) (j k : List A) (m n : List B)
+pub resting_stretch : {A B : Type 0} (q : View A QueueEntry QueueRefused) (s : View B SetEntry ListRefused) (lines : List Line) (taker agent : ℕ)
+    (replies : List TakeReply) (j k : List A) (m n : List B)
     → (t : TakingRest q s lines taker agent replies j m k n) → Stretch of_queue q agent (queue_of_rows t.taking.rows ++ t.last.row.queue.own) j k
 resting_stretch q s lines taker agent replies j k m n t =
-    Stretch-trans of_queue q agent (queue_of_rows t.taking.rows) t.last.row.queue.own j t.queue k (Works-queue q s agent t.taking.works) t.last.stands.queue.stretch
+    Stretch-trans of_queue q agent (queue_of_rows t.taking.rows) t.last.row.queue.own j t.queue k
+    (Works-queue q s agent t.taking.works) t.last.stands.queue.stretch
 
-pub resting_last : {A B : Type 0} (q : View A QueueEntry QueueRefused) (s : View B SetEntry ListRefused) (lines : List Line) (taker agent now : ℕ) (replies : List TakeReply) (j k k2 : List A) (m n : List B)
+pub resting_last : {A B : Type 0} (q : View A QueueEntry QueueRefused) (s : View B SetEntry ListRefused) (lines : List Line) (taker agent now : ℕ)
+    (replies : List TakeReply) (j k k2 : List A) (m n : List B)
     → TakingRest q s lines taker agent replies j m k n → now ≡ agent → EndsWith q now (Empty now) k k2 → EndsWith q agent (Empty agent) j k2
 resting_last q s lines taker agent now replies j k k2 m n p e ends =
     ends_later q agent (Empty agent) (queue_of_rows p.taking.rows ++ p.last.row.queue.own) j k k2 (resting_stretch q s lines taker agent replies j k m n p)
     (subst (λ (x : ℕ). EndsWith q x (Empty x) k k2) e ends)
 
 -- what comes last stays last where nobody asks when it came
-pub ends_last : {A : Type 0} (q : View A QueueEntry QueueRefused) (agent : ℕ) (j k : List A) → EndsWith q agent (Empty agent) j k → LastIsEmpty agent (q.history k)
+pub ends_last : {A : Type 0} (q : View A QueueEntry QueueRefused) (agent : ℕ) (j k : List A) → EndsWith q agent (Empty agent) j k
+    → LastIsEmpty agent (q.history k)
 ends_last q agent j k e = record {
   front = q.history j ++ e.front;
   back = e.back;
@@ -115,7 +130,8 @@ ends_last q agent j k e = record {
 }
 
 -- what a taker did, where its agent is known by another name
-pub did_take : {A B : Type 0} (q : View A QueueEntry QueueRefused) (s : View B SetEntry ListRefused) (lines : List Line) (posters agent now : ℕ) (posts : List PostReply) (takes : List TakeReply) (j k : List A) (m n : List B)
+pub did_take : {A B : Type 0} (q : View A QueueEntry QueueRefused) (s : View B SetEntry ListRefused) (lines : List Line) (posters agent now : ℕ)
+    (posts : List PostReply) (takes : List TakeReply) (j k : List A) (m n : List B)
     → now ≡ agent → posts ≡ []
     → TakingRest q s lines (agent - posters) now takes j m k n → (length takes < posts_in lines → EndsWith q now (Empty now) j k)
     → DidTake q s lines posters agent posts takes j m k n
@@ -125,6 +141,7 @@ did_take q s lines posters agent now posts takes j k m n same none t ends = reco
   no_posts = none;
 }
 
-pub resting_set : {A B : Type 0} (q : View A QueueEntry QueueRefused) (s : View B SetEntry ListRefused) (lines : List Line) (taker agent : ℕ) (replies : List TakeReply) (j k : List A) (m n : List B)
+pub resting_set : {A B : Type 0} (q : View A QueueEntry QueueRefused) (s : View B SetEntry ListRefused) (lines : List Line) (taker agent : ℕ)
+    (replies : List TakeReply) (j k : List A) (m n : List B)
     → TakingRest q s lines taker agent replies j m k n → IsPrefix m n
 resting_set q s lines taker agent replies j k m n t = prefix_trans m t.set n (Works-set q s agent t.taking.works).later t.last.stands.set.stretch.later

@@ -15,7 +15,8 @@ Team-more R waiting before after x y t r = record {
 }
 
 -- what each of the first has becomes what each of the second has
-pub AllByRecursion-next : {X : Type 0} (P Q : X → Type 0) (R : X → X → Type 0) (xs ys : List X) → ((x y : X) → P x → R x y → Q y) → AllByRecursion P xs → Pointwise R xs ys → AllByRecursion Q ys
+pub AllByRecursion-next : {X : Type 0} (P Q : X → Type 0) (R : X → X → Type 0) (xs ys : List X) → ((x y : X) → P x → R x y → Q y) → AllByRecursion P xs
+    → Pointwise R xs ys → AllByRecursion Q ys
 AllByRecursion-next P Q R [] [] f p r = tt
 AllByRecursion-next P Q R [] (y ∷ ys) f p r = absurd r
 AllByRecursion-next P Q R (x ∷ xs) [] f p r = absurd r
@@ -33,7 +34,8 @@ Pointwise-map R S [] (y ∷ ys) f r = absurd r
 Pointwise-map R S (x ∷ xs) [] f r = absurd r
 Pointwise-map R S (x ∷ xs) (y ∷ ys) f r = (f x y r.0, Pointwise-map R S xs ys f r.1)
 
-pub Pointwise-right : {X : Type 0} (R S T : X → X → Type 0) (xs ys zs : List X) → ((x y z : X) → R x y → S y z → T y z) → Pointwise R xs ys → Pointwise S ys zs → Pointwise T ys zs
+pub Pointwise-right : {X : Type 0} (R S T : X → X → Type 0) (xs ys zs : List X) → ((x y z : X) → R x y → S y z → T y z) → Pointwise R xs ys
+    → Pointwise S ys zs → Pointwise T ys zs
 Pointwise-right R S T [] [] [] f r s = tt
 Pointwise-right R S T [] [] (z ∷ zs) f r s = absurd s
 Pointwise-right R S T [] (y ∷ ys) zs f r s = absurd r
@@ -41,7 +43,8 @@ Pointwise-right R S T (x ∷ xs) [] zs f r s = absurd r
 Pointwise-right R S T (x ∷ xs) (y ∷ ys) [] f r s = absurd s
 Pointwise-right R S T (x ∷ xs) (y ∷ ys) (z ∷ zs) f r s = (f x y z r.0 s.0, Pointwise-right R S T xs ys zs f r.1 s.1)
 
-pub Pointwise-through : {X : Type 0} (R S T : X → X → Type 0) (xs ys zs : List X) → ((x y z : X) → R x y → S y z → T x z) → Pointwise R xs ys → Pointwise S ys zs → Pointwise T xs zs
+pub Pointwise-through : {X : Type 0} (R S T : X → X → Type 0) (xs ys zs : List X) → ((x y z : X) → R x y → S y z → T x z) → Pointwise R xs ys
+    → Pointwise S ys zs → Pointwise T xs zs
 Pointwise-through R S T [] [] [] f r s = tt
 Pointwise-through R S T [] [] (z ∷ zs) f r s = absurd s
 Pointwise-through R S T [] (y ∷ ys) zs f r s = absurd r

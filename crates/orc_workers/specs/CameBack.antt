@@ -33,31 +33,38 @@ pub record IsNew {Q S P R A B : Type 0} (q : QueueOf Q P A) (s : SetOf S R B) (q
   pub set_new : s.history set (s.journal w.desk.set) ≡ []
 
 -- what a worker did, as these journals tell of it from their beginning
-pub record IsTold {A B : Type 0} (q : View A QueueEntry QueueRefused) (s : View B SetEntry ListRefused) (lines : List Line) (posters : ℕ) (k : List A) (n : List B) (agent : ℕ) (posts : List PostReply) (takes : List TakeReply) : Type 0 where
+pub record IsTold {A B : Type 0} (q : View A QueueEntry QueueRefused) (s : View B SetEntry ListRefused) (lines : List Line) (posters : ℕ) (k : List A)
+    (n : List B) (agent : ℕ) (posts : List PostReply) (takes : List TakeReply) : Type 0 where
   pub posted : agent ≤ posters → DidPost q s lines posters agent posts takes [] [] k n
   pub took : posters < agent → DidTake q s lines posters agent posts takes [] [] k n
 
 -- a worker at the end: an idle desk that has seen these journals
-pub record IsBack {Q S P R A B : Type 0} (q : QueueOf Q P A) (s : SetOf S R B) (queue : Q) (set : S) (lines : List Line) (k : List A) (n : List B) (w : Worker P R) : Type 0 where
+pub record IsBack {Q S P R A B : Type 0} (q : QueueOf Q P A) (s : SetOf S R B) (queue : Q) (set : S) (lines : List Line) (k : List A) (n : List B)
+    (w : Worker P R) : Type 0 where
   pub is_desk : IsDesk q s queue set w.agent w.desk
   pub queue_seen : q.journal w.desk.queue ≡ k
   pub set_seen : s.journal w.desk.set ≡ n
 
 -- what the caller and the workers have come to
-pub record AllCameBack {Q S P R A B : Type 0} (q : QueueOf Q P A) (s : SetOf S R B) (queue : Q) (set : S) (lines : List Line) (posters takers : ℕ) (desk : Desk P R) (takes : List TakeReply) (ws : List (Worker P R)) : Type 0 where
+pub record AllCameBack {Q S P R A B : Type 0} (q : QueueOf Q P A) (s : SetOf S R B) (queue : Q) (set : S) (lines : List Line) (posters takers : ℕ)
+    (desk : Desk P R) (takes : List TakeReply) (ws : List (Worker P R)) : Type 0 where
   pub caller : IsDesk q s queue set 0 desk
   pub known : IsKnown q s queue set (suc (posters + takers)) (suc (posters + takers)) desk
   pub none : q.history queue [] ≡ []
   pub numbered : AreNumbered 1 ws
   pub back : AllByRecursion (IsBack q s queue set lines (q.journal desk.queue) (s.journal desk.set)) ws
-  pub told : AllByRecursion (λ w. IsTold (beside (queue_view q queue) (IsWorker posters takers)) (beside (set_view s set) (IsWorker posters takers)) lines posters (q.journal desk.queue) (s.journal desk.set) w.agent w.posts.items w.takes.items) ws
-  pub taking : TakingRest (beside (queue_view q queue) (IsWorker posters takers)) (beside (set_view s set) (IsWorker posters takers)) lines 0 0 takes [] [] (q.journal desk.queue) (s.journal desk.set)
+  pub told : AllByRecursion
+      (λ w. IsTold (beside (queue_view q queue) (IsWorker posters takers)) (beside (set_view s set) (IsWorker posters takers)) lines posters
+      (q.journal desk.queue) (s.journal desk.set) w.agent w.posts.items w.takes.items) ws
+  pub taking : TakingRest (beside (queue_view q queue) (IsWorker posters takers)) (beside (set_view s set) (IsWorker posters takers)) lines 0 0 takes [] []
+      (q.journal desk.queue) (s.journal desk.set)
   pub queue_zero_last : ZeroLast agent_of_entry (q.history queue (q.journal desk.queue))
   pub set_zero_last : ZeroLast agent_of_set_entry (s.history set (s.journal desk.set))
   pub last : LastIsEmpty 0 (q.history queue (q.journal desk.queue)) ⊎ (length lines ≤ length takes)
 
 -- what a run leaves: idle desks in order, which have all seen the same journals, and replies that follow these
-pub record IsOver {Q S P R A B : Type 0} (q : QueueOf Q P A) (s : SetOf S R B) (queue : Q) (set : S) (lines : List Line) (posters takers : ℕ) (desks : List (Desk P R)) (posts : List PostReply) (takes : List TakeReply) : Type 0 where
+pub record IsOver {Q S P R A B : Type 0} (q : QueueOf Q P A) (s : SetOf S R B) (queue : Q) (set : S) (lines : List Line) (posters takers : ℕ)
+    (desks : List (Desk P R)) (posts : List PostReply) (takes : List TakeReply) : Type 0 where
   pub idle : AreIdle q s queue set 0 desks
   pub all : length desks ≡ suc (posters + takers)
   pub seen : HaveSeen q s (queue_seen q desks) (set_seen s desks) desks

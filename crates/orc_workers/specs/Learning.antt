@@ -25,7 +25,8 @@ pub record SameWorker {P R : Type 0} (w v : Worker P R) : Type 0 where
   pub takes_are : v.takes ≡ w.takes
 
 -- what the laws of the containers say, and say of the journals of an idle desk
-pub record IsKnown {Q S P R A B : Type 0} (q : QueueOf Q P A) (s : SetOf S R B) (queue : Q) (set : S) (queue_agents set_agents : ℕ) (desk : Desk P R) : Type 0 where
+pub record IsKnown {Q S P R A B : Type 0} (q : QueueOf Q P A) (s : SetOf S R B) (queue : Q) (set : S) (queue_agents set_agents : ℕ)
+    (desk : Desk P R) : Type 0 where
   pub queue_grows : (seen more : List A) → IsPrefix (q.history queue seen) (q.history queue (seen ++ more))
   pub set_grows : (seen more : List B) → IsPrefix (s.history set seen) (s.history set (seen ++ more))
   pub queue_crowd : (agent : ℕ) → q.crowd queue agent → agent < queue_agents
@@ -34,7 +35,8 @@ pub record IsKnown {Q S P R A B : Type 0} (q : QueueOf Q P A) (s : SetOf S R B) 
   pub set_below : AllByRecursion (λ e. agent_of_set_entry e < set_agents) (s.history set (s.journal desk.set))
   pub queue_legal : IsLegalQueue (q.first queue) (q.history queue (q.journal desk.queue))
   pub set_legal : IsLegalSet (s.history set (s.journal desk.set))
-  pub many_puts : (agent : ℕ) (seen : List A) (from to : ℕ) → q.licence queue agent 64 Positions seen from to → 2 ^ 62 ≤ q.first queue + puts_in (q.history queue seen)
+  pub many_puts : (agent : ℕ) (seen : List A) (from to : ℕ) → q.licence queue agent 64 Positions seen from to
+      → 2 ^ 62 ≤ q.first queue + puts_in (q.history queue seen)
 
 -- of passes W: its agent, and what it has seen; and the entries of an agent in a journal
 module _ {W A E : Type 0} (agent : W → ℕ) (journal : W → List A) (own : ℕ → List A → List E) where
@@ -79,7 +81,8 @@ module _ {Q S P R A B : Type 0} (q : QueueOf Q P A) (s : SetOf S R B) (queue : Q
       (s.journal old.set) (s.journal new.set) ws vs
 
   abbrev pub LearnsAllOfQueue : Type 0
-  LearnsAllOfQueue = LearnedAll (λ (w : Worker P R). w.agent) (λ (w : Worker P R). q.journal w.desk.queue) (λ a j. own_of agent_of_entry a (q.history queue j)) me
+  LearnsAllOfQueue = LearnedAll (λ (w : Worker P R). w.agent) (λ (w : Worker P R). q.journal w.desk.queue)
+      (λ a j. own_of agent_of_entry a (q.history queue j)) me
       (q.journal old.queue) (q.journal new.queue) ws vs
 
   abbrev pub LearnsAllOfSet : Type 0

@@ -23,7 +23,8 @@ pub record Team {X : Type 0} (R : X → X → Type 0) (waiting before after : Li
   pub each : Pointwise R waiting new
 
 -- a worker that may begin: no caller, at a desk of its own, with room for all that it may reply
-pub record IsReady {Q S P R A B : Type 0} (q : QueueOf Q P A) (s : SetOf S R B) (queue : Q) (set : S) (lines : List Line) (posters : ℕ) (w : Worker P R) : Type 0 where
+pub record IsReady {Q S P R A B : Type 0} (q : QueueOf Q P A) (s : SetOf S R B) (queue : Q) (set : S) (lines : List Line) (posters : ℕ)
+    (w : Worker P R) : Type 0 where
   pub good : AreGood lines
   pub no_caller : 1 ≤ w.agent
   pub desk : IsDesk q s queue set w.agent w.desk
@@ -33,23 +34,28 @@ pub record IsReady {Q S P R A B : Type 0} (q : QueueOf Q P A) (s : SetOf S R B) 
   pub take_room : posters < w.agent → posts_in lines ≤ w.takes.spare
 
 -- what a poster did between these journals
-pub record DidPost {A B : Type 0} (q : View A QueueEntry QueueRefused) (s : View B SetEntry ListRefused) (lines : List Line) (posters agent : ℕ) (posts : List PostReply) (takes : List TakeReply) (j : List A) (m : List B) (k : List A) (n : List B) : Type 0 where
+pub record DidPost {A B : Type 0} (q : View A QueueEntry QueueRefused) (s : View B SetEntry ListRefused) (lines : List Line) (posters agent : ℕ)
+    (posts : List PostReply) (takes : List TakeReply) (j : List A) (m : List B) (k : List A) (n : List B) : Type 0 where
   pub posting : Posting q s lines agent posts j m k n
   pub in_file_order : map (λ (r : PostReply). r.line) posts ≡ own_records posters agent (length lines)
   pub no_takes : takes ≡ []
 
 -- what a taker did between these journals
-pub record DidTake {A B : Type 0} (q : View A QueueEntry QueueRefused) (s : View B SetEntry ListRefused) (lines : List Line) (posters agent : ℕ) (posts : List PostReply) (takes : List TakeReply) (j : List A) (m : List B) (k : List A) (n : List B) : Type 0 where
+pub record DidTake {A B : Type 0} (q : View A QueueEntry QueueRefused) (s : View B SetEntry ListRefused) (lines : List Line) (posters agent : ℕ)
+    (posts : List PostReply) (takes : List TakeReply) (j : List A) (m : List B) (k : List A) (n : List B) : Type 0 where
   pub taking : TakingRest q s lines (agent - posters) agent takes j m k n
   pub found_empty : length takes < posts_in lines → LastIsEmpty agent (q.history k)
   pub no_posts : posts ≡ []
 
 -- what a worker has become by its work
-pub record DidWork {Q S P R A B : Type 0} (q : QueueOf Q P A) (s : SetOf S R B) (queue : Q) (set : S) (lines : List Line) (posters : ℕ) (w v : Worker P R) : Type 0 where
+pub record DidWork {Q S P R A B : Type 0} (q : QueueOf Q P A) (s : SetOf S R B) (queue : Q) (set : S) (lines : List Line) (posters : ℕ)
+    (w v : Worker P R) : Type 0 where
   pub agent_is : v.agent ≡ w.agent
   pub no_caller : 1 ≤ v.agent
   pub desk : IsDesk q s queue set v.agent v.desk
   pub posted : v.agent ≤ posters
-      → DidPost (queue_view q queue) (set_view s set) lines posters v.agent v.posts.items v.takes.items (q.journal w.desk.queue) (s.journal w.desk.set) (q.journal v.desk.queue) (s.journal v.desk.set)
+      → DidPost (queue_view q queue) (set_view s set) lines posters v.agent v.posts.items v.takes.items (q.journal w.desk.queue) (s.journal w.desk.set)
+      (q.journal v.desk.queue) (s.journal v.desk.set)
   pub took : posters < v.agent
-      → DidTake (queue_view q queue) (set_view s set) lines posters v.agent v.posts.items v.takes.items (q.journal w.desk.queue) (s.journal w.desk.set) (q.journal v.desk.queue) (s.journal v.desk.set)
+      → DidTake (queue_view q queue) (set_view s set) lines posters v.agent v.posts.items v.takes.items (q.journal w.desk.queue) (s.journal w.desk.set)
+      (q.journal v.desk.queue) (s.journal v.desk.set)

@@ -1,5 +1,5 @@
 -- The set with one word for each number: how its words and its history run.
-use Rattle.std.specs.Prelude.{◌≡◌, ℕ, ◌<◌, List, [], ◌∷◌, Bool, true, false, not, Option, slice_index, slice_set}
+use Rattle.std.specs.Prelude.{ℕ, ◌<◌, List, [], ◌∷◌, Bool, not, slice_index, slice_set}
 use Rattle.std.specs.List.{AllByRecursion}
 use Rattle.std.proofs.Math.ListN.{replicate}
 use Rattle.orc_history.specs.declared.set.SetEntry.{SetEntry}

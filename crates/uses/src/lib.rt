@@ -2,12 +2,14 @@
 #![tactic(auto)]
 
 mod board_run;
+mod list;
 mod one_thread;
 mod queue;
 mod two_threads;
 mod word_set;
 
 pub use board_run::{fresh_desks, run_over_words};
+pub use list::{DomainList, ListPass, next_list_pass, one_list_over};
 pub use one_thread::put_and_take;
 pub use queue::{DomainQueue, QueuePass, Unmade, next_pass, plain_queue, queue_over};
 pub use two_threads::put_beside_take;

@@ -56,7 +56,8 @@ pub fn queue_over(
     ensures agents { IfOk result (λ made. (i : ℕ) (p : _) → i < length made.1.items
         → ⟦<DomainQueue as SharedQueue>⟧.agent_of made.0 (slice_index_or made.1.items i p) ≡ i) }
     ensures passes { IfOk result (λ made. length made.1.items ≡ (bounds_of shape.now).agents) }
-    ensures fresh { IfOk result (λ made. All (λ p. ⟦<DomainQueue as SharedQueue>⟧.history made.0 (⟦<DomainQueue as SharedQueue>⟧.journal p) ≡ []) made.1.items) }
+    ensures fresh { IfOk result (λ made. All (λ p. ⟦<DomainQueue as SharedQueue>⟧.history made.0
+        (⟦<DomainQueue as SharedQueue>⟧.journal p) ≡ []) made.1.items) }
     ensures all { IfOk result (λ made. ⟦<DomainQueue as LearnQueue>⟧.agents made.0 ≡ (bounds_of shape.now).agents) }
     ensures first { IfOk result (λ made. ⟦<DomainQueue as SharedQueue>⟧.first made.0 ≡ first) }
 {
@@ -84,7 +85,8 @@ pub fn plain_queue(
     ensures agents { IfOk result (λ made. (i : ℕ) (p : _) → i < length made.1.items
         → ⟦<DomainQueue as SharedQueue>⟧.agent_of made.0 (slice_index_or made.1.items i p) ≡ i) }
     ensures passes { IfOk result (λ made. length made.1.items ≡ agents) }
-    ensures fresh { IfOk result (λ made. All (λ p. ⟦<DomainQueue as SharedQueue>⟧.history made.0 (⟦<DomainQueue as SharedQueue>⟧.journal p) ≡ []) made.1.items) }
+    ensures fresh { IfOk result (λ made. All (λ p. ⟦<DomainQueue as SharedQueue>⟧.history made.0
+        (⟦<DomainQueue as SharedQueue>⟧.journal p) ≡ []) made.1.items) }
     ensures all { IfOk result (λ made. ⟦<DomainQueue as LearnQueue>⟧.agents made.0 ≡ agents) }
     ensures first { IfOk result (λ made. ⟦<DomainQueue as SharedQueue>⟧.first made.0 ≡ 0) }
 {

@@ -8,6 +8,8 @@ use std::test::Fail;
 
 mod chains;
 mod domain_threads;
+mod list_calls;
+mod list_threads;
 mod meeting;
 mod queue_calls;
 mod queue_threads;

@@ -1,9 +1,9 @@
 -- What the discipline of own roots owes to the trait of disciplines.
-use Rattle.std.specs.Prelude.{List, Option, Some, [], false, ℕ, ◌++◌, ◌∷◌, ◌≡◌}
+use Rattle.std.specs.Prelude.{List, Option, [], ℕ, ◌++◌, ◌∷◌}
 use Rattle.orc_heap.proofs.Runs.{lawful-snoc}
 use Rattle.orc_heap.specs.Allowed.{MovesLinked}
 use Rattle.orc_heap.specs.Heap.{Heap, HeapNumbers}
-use Rattle.orc_heap.specs.Journals.{FitsAfter, IsLawful, IsPlain, IsPlainAct, run_heap}
+use Rattle.orc_heap.specs.Journals.{FitsAfter, IsPlain, IsPlainAct, run_heap}
 use Rattle.orc_heap.specs.declared.events.Act.{Act}
 use Rattle.orc_heap.specs.declared.events.Act.TheVariants.{Aim, Fill, Give, Look, Miss, Move}
 use Rattle.orc_heap.specs.declared.events.Event.{Event}

@@ -1,5 +1,5 @@
 -- Proofs of the laws that a set over chains owes to its traits.
-use Rattle.std.proofs.Common.{List, [], ap, arith, subst, sym, take, ℕ, ◌++◌, ◌<◌, ◌==◌, ◌∙◌, ◌∷◌, ◌≡◌, ◌≤◌}
+use Rattle.std.proofs.Common.{List, [], ap, arith, subst, sym, ℕ, ◌++◌, ◌<◌, ◌==◌, ◌∙◌, ◌∷◌, ◌≡◌}
 use Rattle.std.proofs.lemmas.List.{length-append, take-append-le}
 use Rattle.std.specs.List.{list_all, AllByRecursion}
 use Rattle.std.specs.Prelude.{true}
@@ -33,8 +33,10 @@ history_grows agent_of events adds seen more =
     (entries_of new, sym (noted-append entries_in (events seen) new) ∙ ap entries_of is)
 
 -- a cause stays one
-pub cause_stays : {S : Type 0} (agent_of : S → ℕ) (events : List S → List (Event ChainNote)) (Lacks Later : Type 0) (Worn LaterWorn : SpentRow → Type 0) (agent turns : ℕ) (why : ListRefused) (seen more : List S) (from to : ℕ)
-    → (Lacks → Later) → ((spent : SpentRow) → Worn spent → LaterWorn spent) → Cause agent_of events Lacks Worn agent turns why seen from to → Cause agent_of events Later LaterWorn agent turns why (seen ++ more) from to
+pub cause_stays : {S : Type 0} (agent_of : S → ℕ) (events : List S → List (Event ChainNote)) (Lacks Later : Type 0) (Worn LaterWorn : SpentRow → Type 0)
+    (agent turns : ℕ) (why : ListRefused) (seen more : List S) (from to : ℕ)
+    → (Lacks → Later) → ((spent : SpentRow) → Worn spent → LaterWorn spent) → Cause agent_of events Lacks Worn agent turns why seen from to
+    → Cause agent_of events Later LaterWorn agent turns why (seen ++ more) from to
 cause_stays agent_of events Lacks Later Worn LaterWorn agent turns Again seen more from to stays worn c =
     let take_from = take-append-le from seen more (omega (arith, c.in_order, c.in_journal)) in
     let take_to = take-append-le to seen more c.in_journal in
@@ -48,7 +50,9 @@ cause_stays agent_of events Lacks Later Worn LaterWorn agent turns NoNode seen m
 cause_stays agent_of events Lacks Later Worn LaterWorn agent turns (Spent spent) seen more from to stays worn c = (c.0, worn spent c.1)
 
 -- whose the entries are
-pub entries_below : (n : HeapNumbers) (agents : ℕ) (seen events : List (Event ChainNote)) → AllAllowed (ChainMay n) [] seen → IsBelow agents seen → seen ≡ events
+pub entries_below : (n : HeapNumbers) (agents : ℕ) (seen events : List (Event ChainNote)) → AllAllowed (ChainMay n) [] seen → IsBelow agents seen
+    → seen ≡ events
     → AllByRecursion (λ (e : SetEntry). agent_of_set_entry e < agents) (entries_of events)
 entries_below n agents seen events all below is =
-    subst (λ z. AllByRecursion (λ (e : SetEntry). agent_of_set_entry e < agents) (entries_of z)) is (entries_agents entries_in agent_of_set_entry (ChainMay n) (entries_own n) (λ (a : ℕ). a < agents) [] seen all below)
+    subst (λ z. AllByRecursion (λ (e : SetEntry). agent_of_set_entry e < agents) (entries_of z)) is
+    (entries_agents entries_in agent_of_set_entry (ChainMay n) (entries_own n) (λ (a : ℕ). a < agents) [] seen all below)

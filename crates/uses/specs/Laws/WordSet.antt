@@ -1,9 +1,9 @@
 -- What the machine's and the set's laws need: the words mirror the numbers, and the history is that of a set.
-use Rattle.std.proofs.Common.{◌≡◌, ◌≢◌, ℕ, ◌+◌, ◌<◌, List, [], ◌∷◌, ◌++◌, length, Bool, true, false, cond, not, filter, ◌==◌, ◌||◌, Option, slice_index, slice_set, refl, ap, sym, ◌∙◌, subst, append_assoc, append-nil, arith}
+use Rattle.std.proofs.Common.{◌≡◌, ℕ, ◌<◌, List, [], ◌∷◌, ◌++◌, Bool, slice_index, slice_set, refl, ap, sym, subst}
 use Rattle.std.specs.List.{AllByRecursion}
 use mathlib.Core.List.{IsPrefix}
 use Rattle.orc_history.specs.declared.set.SetEntry.{SetEntry}
-use Rattle.orc_history.specs.SetHistory.{IsLegalSetFrom, agent_of_set_entry, has, with_key, without_key}
+use Rattle.orc_history.specs.SetHistory.{IsLegalSetFrom, agent_of_set_entry, has}
 use Rattle.orc_shared_words.specs.Runs.{AgentsBelow, Obeys}
 use Rattle.orc_shared_words.specs.declared.journal.JournalStep.{JournalStep}
 use Rattle.uses.specs.declared.word_set.WordSetCall.{WordSetCall}
@@ -16,7 +16,8 @@ words_next : (words : List ℕ) (j : List (JournalStep WordSetCall ℕ)) (s : Jo
 words_next words [] s = refl
 words_next words (x ∷ xs) s = words_next (slice_set words (key_of x.op) (leaves x.op (slice_index words (key_of x.op)))) xs s
 
-inside_next : (keys : ℕ) (j : List (JournalStep WordSetCall ℕ)) (s : JournalStep WordSetCall ℕ) → AreInside keys j → key_of s.op < keys → AreInside keys (j ++ s ∷ [])
+inside_next : (keys : ℕ) (j : List (JournalStep WordSetCall ℕ)) (s : JournalStep WordSetCall ℕ) → AreInside keys j → key_of s.op < keys
+    → AreInside keys (j ++ s ∷ [])
 inside_next keys [] s l h = (h, tt)
 inside_next keys (x ∷ xs) s l h = (l.0, inside_next keys xs s l.1 h)
 
@@ -30,7 +31,8 @@ calls_obey k = record {
   project_next = λ j s. refl;
 }
 
-legal_one : (agent : ℕ) (op : WordSetCall) (keys : List ℕ) (es : List SetEntry) → IsLegalSetFrom (keys_next op keys) es → IsLegalSetFrom keys (said agent op (has (key_of op) keys) ∷ es)
+legal_one : (agent : ℕ) (op : WordSetCall) (keys : List ℕ) (es : List SetEntry) → IsLegalSetFrom (keys_next op keys) es
+    → IsLegalSetFrom keys (said agent op (has (key_of op) keys) ∷ es)
 legal_one agent (Insert key) keys es h = (refl, h)
 legal_one agent (Remove key) keys es h = (refl, h)
 legal_one agent (Ask key) keys es h = (refl, h)
@@ -39,7 +41,8 @@ pub entries_legal : (keys : List ℕ) (j : List (JournalStep WordSetCall ℕ)) �
 entries_legal keys [] = tt
 entries_legal keys (s ∷ ss) = legal_one s.agent s.op keys (entries_from (keys_next s.op keys) ss) (entries_legal (keys_next s.op keys) ss)
 
-pub entries_add : (keys : List ℕ) (xs ys : List (JournalStep WordSetCall ℕ)) → entries_from keys (xs ++ ys) ≡ entries_from keys xs ++ entries_from (keys_from keys xs) ys
+pub entries_add : (keys : List ℕ) (xs ys : List (JournalStep WordSetCall ℕ))
+    → entries_from keys (xs ++ ys) ≡ entries_from keys xs ++ entries_from (keys_from keys xs) ys
 entries_add keys [] ys = refl
 entries_add keys (x ∷ xs) ys = ap (λ (es : List SetEntry). said x.agent x.op (has (key_of x.op) keys) ∷ es) (entries_add (keys_next x.op keys) xs ys)
 
@@ -51,6 +54,8 @@ said_agent agent (Insert key) found = refl
 said_agent agent (Remove key) found = refl
 said_agent agent (Ask key) found = refl
 
-pub entries_below : (n : ℕ) (keys : List ℕ) (j : List (JournalStep WordSetCall ℕ)) → AgentsBelow agent_of_step n j → AllByRecursion (λ e. agent_of_set_entry e < n) (entries_from keys j)
+pub entries_below : (n : ℕ) (keys : List ℕ) (j : List (JournalStep WordSetCall ℕ)) → AgentsBelow agent_of_step n j
+    → AllByRecursion (λ e. agent_of_set_entry e < n) (entries_from keys j)
 entries_below n keys [] h = tt
-entries_below n keys (s ∷ ss) h = (subst (λ (a : ℕ). a < n) (sym (said_agent s.agent s.op (has (key_of s.op) keys))) h.0, entries_below n (keys_next s.op keys) ss h.1)
+entries_below n keys (s ∷ ss) h =
+    (subst (λ (a : ℕ). a < n) (sym (said_agent s.agent s.op (has (key_of s.op) keys))) h.0, entries_below n (keys_next s.op keys) ss h.1)

@@ -29,7 +29,8 @@ ask_turn-requires-clause-room g c = subst (λ (z : Slots). HasRoom z) (sym c.loo
 pub returns-in-Some-clause-asked : goal.returns-in-Some-clause-asked
 returns-in-Some-clause-asked g c =
     let d = c.args.links.now in
-    asks_answer c.args.key c.loop.counter c.args.turns (g.L.Links.seat d c.args.p.now) (g.L.Links.seat d c.loop.p) (g.L.Links.seat d c.ask_turn.new.p) c.in-Some.answer c.loop.invariant.tires c.in-Some.ensures.asked
+    asks_answer c.args.key c.loop.counter c.args.turns (g.L.Links.seat d c.args.p.now) (g.L.Links.seat d c.loop.p) (g.L.Links.seat d c.ask_turn.new.p)
+    c.in-Some.answer c.loop.invariant.tires c.in-Some.ensures.asked
     (omega (arith, c.loop-test.true))
 
 pub returns-clause-asked : goal.returns-clause-asked

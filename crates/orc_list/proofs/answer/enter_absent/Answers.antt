@@ -26,7 +26,8 @@ same-entered-requires-clause-allowed g c =
     let a = c.args in
     let (s, f) = c.requires.absent in
     let r = reads_left n a.root a.key a.spot.left a.spot.first a.spot.right s t f in
-    absent_allowed n a.root a.key a.spot.left a.spot.first a.spot.right a.entry s t f _ _ (c.place_of.ensures.place t.slots ∙ r.place_is) (c.link_of.ensures.link t.slots ∙ r.link_is)
+    absent_allowed n a.root a.key a.spot.left a.spot.first a.spot.right a.entry s t f _ _ (c.place_of.ensures.place t.slots ∙ r.place_is)
+    (c.link_of.ensures.link t.slots ∙ r.link_is)
     c.requires.entry (g.met.L.Links.obeys d a.p.now c.requires.pass)
 
 pub let_all_go-requires-clause-hands : goal.let_all_go-requires-clause-hands
@@ -37,8 +38,11 @@ let_all_go-requires-clause-hands g c =
     let u = g.L.Links.seat d c.same-entered.new.p in
     let a = c.args in
     let (s, f) = c.requires.absent in
-    let e = c.same-entered.ensures in
-    (s.slots, tested_hand n s.slots a.spot.left a.spot.first a.spot.right None _ _ _ _ t u e.tested (g.met.L.Links.allowed d c.same-entered.new.p e.pass) (absent_hand n a.root a.key a.spot.left a.spot.first s t a.spot.right f))
+    let e = c.same-entered.ensures in (
+      s.slots,
+      tested_hand n s.slots a.spot.left a.spot.first a.spot.right None _ _ _ _ t u e.tested (g.met.L.Links.allowed d c.same-entered.new.p e.pass)
+          (absent_hand n a.root a.key a.spot.left a.spot.first s t a.spot.right f),
+    )
 
 pub returns-clause-entered : goal.returns-clause-entered
 returns-clause-entered g c = λ s f.
@@ -51,5 +55,7 @@ returns-clause-entered g c = λ s f.
     let r = reads_left n a.root a.key a.spot.left a.spot.first a.spot.right s t f in
     let e = c.same-entered.ensures in
     let all = g.met.L.Links.allowed d c.same-entered.new.p e.pass in
-    absent_entered n a.root a.key a.spot.left a.spot.first a.spot.right a.entry _ _ c.same-entered.result s t u y f (c.place_of.ensures.place t.slots ∙ r.place_is) (c.link_of.ensures.link t.slots ∙ r.link_is)
-    e.tested (c.let_all_go.ensures.gone s.slots (tested_hand n s.slots a.spot.left a.spot.first a.spot.right None _ _ _ _ t u e.tested all (absent_hand n a.root a.key a.spot.left a.spot.first s t a.spot.right f))) all
+    absent_entered n a.root a.key a.spot.left a.spot.first a.spot.right a.entry _ _ c.same-entered.result s t u y f
+    (c.place_of.ensures.place t.slots ∙ r.place_is) (c.link_of.ensures.link t.slots ∙ r.link_is)
+    e.tested (c.let_all_go.ensures.gone s.slots (tested_hand n s.slots a.spot.left a.spot.first a.spot.right None _ _ _ _ t u e.tested all
+    (absent_hand n a.root a.key a.spot.left a.spot.first s t a.spot.right f))) all

@@ -32,7 +32,8 @@ same-entered-requires-clause-allowed g c =
     let a = c.args in
     let (s, f) = c.requires.present in
     let r = reads_node n a.root a.key a.left a.first a.node a.next s t f in
-    present_allowed n a.root a.key a.left a.first a.node a.next a.entry s t f _ _ (ap Next r.id_is) (c.link_to.ensures.link t.slots ∙ ap link_over r.next_is)
+    present_allowed n a.root a.key a.left a.first a.node a.next a.entry s t f _ _ (ap Next r.id_is)
+    (c.link_to.ensures.link t.slots ∙ ap link_over r.next_is)
     c.requires.entry (g.met.L.Links.obeys d a.p.now c.requires.pass)
 
 pub let_all_go-requires-clause-hands : goal.let_all_go-requires-clause-hands
@@ -43,8 +44,11 @@ let_all_go-requires-clause-hands g c =
     let u = g.L.Links.seat d c.same-entered.new.p in
     let a = c.args in
     let (s, f) = c.requires.present in
-    let e = c.same-entered.ensures in
-    (s.slots, tested_hand n s.slots a.left a.first (Some a.node) a.next _ _ _ _ t u e.tested (g.met.L.Links.allowed d c.same-entered.new.p e.pass) (present_hand n a.root a.key a.left a.first s t a.node a.next f))
+    let e = c.same-entered.ensures in (
+      s.slots,
+      tested_hand n s.slots a.left a.first (Some a.node) a.next _ _ _ _ t u e.tested (g.met.L.Links.allowed d c.same-entered.new.p e.pass)
+          (present_hand n a.root a.key a.left a.first s t a.node a.next f),
+    )
 
 pub returns-clause-entered : goal.returns-clause-entered
 returns-clause-entered g c = λ s f.
@@ -57,5 +61,7 @@ returns-clause-entered g c = λ s f.
     let r = reads_node n a.root a.key a.left a.first a.node a.next s t f in
     let e = c.same-entered.ensures in
     let all = g.met.L.Links.allowed d c.same-entered.new.p e.pass in
-    present_entered n a.root a.key a.left a.first a.node a.next a.entry _ _ c.same-entered.result s t u y f (ap Next r.id_is) (c.link_to.ensures.link t.slots ∙ ap link_over r.next_is)
-    e.tested (c.let_all_go.ensures.gone s.slots (tested_hand n s.slots a.left a.first (Some a.node) a.next _ _ _ _ t u e.tested all (present_hand n a.root a.key a.left a.first s t a.node a.next f))) all
+    present_entered n a.root a.key a.left a.first a.node a.next a.entry _ _ c.same-entered.result s t u y f (ap Next r.id_is)
+    (c.link_to.ensures.link t.slots ∙ ap link_over r.next_is)
+    e.tested (c.let_all_go.ensures.gone s.slots (tested_hand n s.slots a.left a.first (Some a.node) a.next _ _ _ _ t u e.tested all
+    (present_hand n a.root a.key a.left a.first s t a.node a.next f))) all

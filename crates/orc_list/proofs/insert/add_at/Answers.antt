@@ -36,8 +36,13 @@ add_node-turn-requires-clause-adds g c =
     let t = g.L.Links.seat d a.p.now in
     let (slots, s, room, k, f) = c.requires.absent in
     let all = g.met.L.Links.allowed d a.p.now c.requires.pass in
-    let some = subst (λ (o : Option Hold). KeepsNode n a.key o slots s) c.in-Some.is k in
-    (0, s.slots, s, absent_adds n a.root a.key a.spot.left a.spot.first a.spot.right c.in-Some.node slots s t some f (seen_holds n s t f.own f.behind.quiet.puts all) all)
+    let some = subst (λ (o : Option Hold). KeepsNode n a.key o slots s) c.in-Some.is k in (
+      0,
+      s.slots,
+      s,
+      absent_adds n a.root a.key a.spot.left a.spot.first a.spot.right c.in-Some.node slots s t some f
+          (seen_holds n s t f.own f.behind.quiet.puts all) all,
+    )
 
 pub returns-in-Some-clause-added : goal.returns-in-Some-clause-added
 returns-in-Some-clause-added g c = λ slots s room k f.
@@ -49,9 +54,12 @@ returns-in-Some-clause-added g c = λ slots s room k f.
     let all = g.met.L.Links.allowed d a.p.now c.requires.pass in
     let node = c.in-Some.node in
     let some = subst (λ (o : Option Hold). KeepsNode n a.key o slots s) c.in-Some.is k in
-    let adds = absent_adds n a.root a.key a.spot.left a.spot.first a.spot.right node slots s t some f (seen_holds n s t f.own f.behind.quiet.puts all) all in
+    let adds = absent_adds n a.root a.key a.spot.left a.spot.first a.spot.right node slots s t some f (seen_holds n s t f.own f.behind.quiet.puts all) all
+    in
     let done = c.add_node-turn.ensures.added 0 s.slots s adds in
-    let there = adds_inserts n a.key node adds.id 0 s.slots slots (Some node) s u c.add_node-turn.result done (some.slots_are ∙ ap (λ (i : ℕ). slots_with slots (Some node) i) (sym (absent_id n a.root a.key a.spot.left a.spot.first a.spot.right node slots s t some f (seen_holds n s t f.own f.behind.quiet.puts all) all))) some.slot_is refl in
+    let there = adds_inserts n a.key node adds.id 0 s.slots slots (Some node) s u c.add_node-turn.result done
+    (some.slots_are ∙ ap (λ (i : ℕ). slots_with slots (Some node) i) (sym (absent_id n a.root a.key a.spot.left a.spot.first a.spot.right node slots s
+    t some f (seen_holds n s t f.own f.behind.quiet.puts all) all))) some.slot_is refl in
     subst (λ (o : Option Hold). Inserts n a.key 1 slots o s c.add_node-turn.result (Some node) u) (sym c.in-Some.is) there
 
 pub returns-in-Some-clause-lacking : goal.returns-in-Some-clause-lacking
@@ -64,7 +72,8 @@ returns-in-Some-clause-lacking g c = λ is.
     let (slots, s, room, k, f) = c.requires.absent in
     let all = g.met.L.Links.allowed d a.p.now c.requires.pass in
     let some = subst (λ (o : Option Hold). KeepsNode n a.key o slots s) c.in-Some.is k in
-    let adds = absent_adds n a.root a.key a.spot.left a.spot.first a.spot.right c.in-Some.node slots s t some f (seen_holds n s t f.own f.behind.quiet.puts all) all in
+    let adds = absent_adds n a.root a.key a.spot.left a.spot.first a.spot.right c.in-Some.node slots s t some f
+    (seen_holds n s t f.own f.behind.quiet.puts all) all in
     absurd (adds_given n a.key c.in-Some.node adds.id 0 s.slots s u c.add_node-turn.result (c.add_node-turn.ensures.added 0 s.slots s adds) is)
 
 pub add_node-turn-requires-in-Ok-clause-adds : goal.add_node-turn-requires-in-Ok-clause-adds
@@ -78,8 +87,13 @@ add_node-turn-requires-in-Ok-clause-adds g c =
     let e = c.in-Ok.ensures in
     let none = subst (λ (o : Option Hold). KeepsNode n a.key o slots s) c.in_default.is k in
     let one = subst (λ (z : Slots). IsFree z 1) (sym none.slots_are) room.one in
-    let x : Option SlotNode = Some (record { row = c.in-Ok.node.row; id = e.given.id }) in
-    (1, slice_set s.slots 1 x, s, given_adds n a.root a.key a.spot.left a.spot.first a.spot.right s t u f one c.in-Ok.node e.given (g.met.L.Links.allowed d c.give.new.p e.pass))
+    let x : Option SlotNode = Some (record { row = c.in-Ok.node.row; id = e.given.id }) in (
+      1,
+      slice_set s.slots 1 x,
+      s,
+      given_adds n a.root a.key a.spot.left a.spot.first a.spot.right s t u f one c.in-Ok.node e.given
+          (g.met.L.Links.allowed d c.give.new.p e.pass),
+    )
 
 pub returns-in-Ok-clause-added : goal.returns-in-Ok-clause-added
 returns-in-Ok-clause-added g c = λ slots s room k f.
@@ -96,9 +110,11 @@ returns-in-Ok-clause-added g c = λ slots s room k f.
     let x : Option SlotNode = Some (record { row = node.row; id = e.given.id }) in
     let adds = given_adds n a.root a.key a.spot.left a.spot.first a.spot.right s t u f one node e.given (g.met.L.Links.allowed d c.give.new.p e.pass) in
     let done = c.add_node-turn-in-Ok.ensures.added 1 (slice_set s.slots 1 x) s adds in
-    let base : slice_set s.slots 1 x ≡ slots_with slots (Some node) e.given.id = ap (λ (z : Slots). slice_set z 1 x) none.slots_are ∙ ap (λ (i : ℕ). slice_set slots i x) (sym e.given.slot_is) in
+    let base : slice_set s.slots 1 x ≡ slots_with slots (Some node) e.given.id = ap (λ (z : Slots). slice_set z 1 x) none.slots_are ∙ ap
+    (λ (i : ℕ). slice_set slots i x) (sym e.given.slot_is) in
     let same = given_id n a.root a.key a.spot.left a.spot.first a.spot.right s t u f one node e.given (g.met.L.Links.allowed d c.give.new.p e.pass) in
-    let there = adds_inserts n a.key node adds.id 1 (slice_set s.slots 1 x) slots None s y c.add_node-turn-in-Ok.result done (base ∙ ap (λ (i : ℕ). slots_with slots (Some node) i) (sym same)) e.given.slot_is refl in
+    let there = adds_inserts n a.key node adds.id 1 (slice_set s.slots 1 x) slots None s y c.add_node-turn-in-Ok.result done
+    (base ∙ ap (λ (i : ℕ). slots_with slots (Some node) i) (sym same)) e.given.slot_is refl in
     subst (λ (o : Option Hold). Inserts n a.key 1 slots o s c.add_node-turn-in-Ok.result (Some node) y) (sym c.in_default.is) there
 
 pub returns-in-Ok-clause-lacking : goal.returns-in-Ok-clause-lacking
@@ -116,7 +132,8 @@ returns-in-Ok-clause-lacking g c = λ is.
     let one = subst (λ (z : Slots). IsFree z 1) (sym none.slots_are) room.one in
     let x : Option SlotNode = Some (record { row = node.row; id = e.given.id }) in
     let adds = given_adds n a.root a.key a.spot.left a.spot.first a.spot.right s t u f one node e.given (g.met.L.Links.allowed d c.give.new.p e.pass) in
-    absurd (adds_given n a.key node adds.id 1 (slice_set s.slots 1 x) s y c.add_node-turn-in-Ok.result (c.add_node-turn-in-Ok.ensures.added 1 (slice_set s.slots 1 x) s adds) is)
+    absurd (adds_given n a.key node adds.id 1 (slice_set s.slots 1 x) s y c.add_node-turn-in-Ok.result
+    (c.add_node-turn-in-Ok.ensures.added 1 (slice_set s.slots 1 x) s adds) is)
 
 pub let_all_go-requires-clause-hands : goal.let_all_go-requires-clause-hands
 let_all_go-requires-clause-hands g c =
@@ -145,9 +162,12 @@ returns-in-Err-clause-added g c = λ slots s room k f.
     let one = subst (λ (z : Slots). IsFree z 1) (sym none.slots_are) room.one in
     let all_u = g.met.L.Links.allowed d c.give.new.p e.pass in
     let gone = q.gone s.slots (absent_hand_on n a.root a.key a.spot.left a.spot.first a.spot.right s t u f one e.none all_u) in
-    let lacks = lacks_node n a.root a.key a.spot.left a.spot.first a.spot.right s t u f one y e.none gone all_u (g.met.L.Links.allowed d c.let_all_go.new.p q.pass) none.to_add in
-    let at_slots = subst (λ (z : Slots). (own : List (Event ChainNote)) × InsertEnds 1 z None None s own [] y × SeesAbsent n a.key own y) none.slots_are lacks in
-    subst (λ (o : Option Hold). (own : List (Event ChainNote)) × InsertEnds 1 slots o None s own [] y × SeesAbsent n a.key own y) (sym c.in_default.is) at_slots
+    let lacks = lacks_node n a.root a.key a.spot.left a.spot.first a.spot.right s t u f one y e.none gone all_u
+    (g.met.L.Links.allowed d c.let_all_go.new.p q.pass) none.to_add in
+    let at_slots = subst (λ (z : Slots). (own : List (Event ChainNote)) × InsertEnds 1 z None None s own [] y × SeesAbsent n a.key own y) none.slots_are
+    lacks in
+    subst (λ (o : Option Hold). (own : List (Event ChainNote)) × InsertEnds 1 slots o None s own [] y × SeesAbsent n a.key own y) (sym c.in_default.is)
+    at_slots
 
 pub returns-in-Err-clause-lacking : goal.returns-in-Err-clause-lacking
 returns-in-Err-clause-lacking g c = λ is.
@@ -157,5 +177,6 @@ returns-in-Err-clause-lacking g c = λ is.
     let k = g.L.Links.journal c.give.new.p in
     let o = g.L.Links.journal c.let_all_go.new.p in
     let e = c.in-Err.ensures in
-    within_wider (g.L.Links.lacking d t.agent) j j k o (λ xs more from to h. g.met.L.Links.lacking_stays d t.agent xs more from to h) ([], append-nil j) c.let_all_go.ensures.later
+    within_wider (g.L.Links.lacking d t.agent) j j k o (λ xs more from to h. g.met.L.Links.lacking_stays d t.agent xs more from to h) ([], append-nil j)
+    c.let_all_go.ensures.later
     (part_fact g.L.Links.agent_of t.agent j k (g.L.Links.lacking d t.agent k) e.later e.lacking)

@@ -16,7 +16,8 @@ let_go-requires-clause-held g c =
     let d = c.args.links.now in
     let s = g.L.Links.seat d c.args.p.now in
     let t = g.L.Links.seat d c.insert_turns-turn.new.p in
-    ends_held (g.L.Links.numbers d) c.args.key c.args.turns c.insert_turns-turn.result.1 s t c.insert_turns-turn.result.0 c.insert_turns-turn.ensures.inserted (idle_room s c.requires.idle)
+    ends_held (g.L.Links.numbers d) c.args.key c.args.turns c.insert_turns-turn.result.1 s t c.insert_turns-turn.result.0
+    c.insert_turns-turn.ensures.inserted (idle_room s c.requires.idle)
 
 pub returns-in-Over-clause-inserted : goal.returns-in-Over-clause-inserted
 returns-in-Over-clause-inserted g c =
@@ -50,8 +51,13 @@ returns-in-NoNode-clause-inserted g c =
     let kept = c.insert_turns-turn.result.1 in
     let room = idle_room s c.requires.idle in
     let e = c.let_go.ensures in
-    let f = subst (λ (turn : InsertTurn). InsertsTurns n c.args.key c.args.turns s turn kept t) c.in-NoNode.is c.insert_turns-turn.ensures.inserted in
-    (f.0, f.1.0, insert_call n c.args.key c.args.turns kept s t u room e.let_go f.1.0 _ f.1.1, insert_absent n c.args.key c.args.turns kept s t u room e.let_go f.1.0 (g.met.L.Links.allowed d c.let_go.new.p e.pass) f.1.2)
+    let f = subst (λ (turn : InsertTurn). InsertsTurns n c.args.key c.args.turns s turn kept t) c.in-NoNode.is c.insert_turns-turn.ensures.inserted in (
+      f.0,
+      f.1.0,
+      insert_call n c.args.key c.args.turns kept s t u room e.let_go f.1.0 _ f.1.1,
+      insert_absent n c.args.key c.args.turns kept s t u room
+          e.let_go f.1.0 (g.met.L.Links.allowed d c.let_go.new.p e.pass) f.1.2,
+    )
 
 pub returns-in-Spent-clause-inserted : goal.returns-in-Spent-clause-inserted
 returns-in-Spent-clause-inserted g c =
@@ -69,7 +75,8 @@ returns-in-NoNode-clause-lacking g c = λ is.
     let d = c.args.links.now in
     let s = g.L.Links.seat d c.args.p.now in
     let e = c.insert_turns-turn.ensures in
-    part_goes_on g.L.Links.agent_of s.agent (g.L.Links.lacking d s.agent) (g.L.Links.journal c.args.p.now) (g.L.Links.journal c.insert_turns-turn.new.p) (g.L.Links.journal c.let_go.new.p) (λ xs more from to h. g.met.L.Links.lacking_stays d s.agent xs more from to h)
+    part_goes_on g.L.Links.agent_of s.agent (g.L.Links.lacking d s.agent) (g.L.Links.journal c.args.p.now) (g.L.Links.journal c.insert_turns-turn.new.p)
+    (g.L.Links.journal c.let_go.new.p) (λ xs more from to h. g.met.L.Links.lacking_stays d s.agent xs more from to h)
     e.later c.let_go.ensures.later (e.lacking c.in-NoNode.is)
 
 pub returns-in-Spent-clause-worn : goal.returns-in-Spent-clause-worn
@@ -78,5 +85,6 @@ returns-in-Spent-clause-worn g c = λ why is.
     let s = g.L.Links.seat d c.args.p.now in
     let e = c.insert_turns-turn.ensures in
     let same : c.in-Spent.spent ≡ why = spent_same c.in-Spent.spent why is in
-    part_goes_on g.L.Links.agent_of s.agent (g.L.Links.worn d s.agent why) (g.L.Links.journal c.args.p.now) (g.L.Links.journal c.insert_turns-turn.new.p) (g.L.Links.journal c.let_go.new.p) (λ xs more from to h. g.met.L.Links.worn_stays d s.agent why xs more from to h)
+    part_goes_on g.L.Links.agent_of s.agent (g.L.Links.worn d s.agent why) (g.L.Links.journal c.args.p.now) (g.L.Links.journal c.insert_turns-turn.new.p)
+    (g.L.Links.journal c.let_go.new.p) (λ xs more from to h. g.met.L.Links.worn_stays d s.agent why xs more from to h)
     e.later c.let_go.ensures.later (e.worn why (c.in-Spent.is ∙ ap (λ (x : SpentRow). TurnSpent x) same))

@@ -22,7 +22,8 @@ returns-in-Over-clause-inserted g c = λ slots room k.
     let s = g.L.Links.seat d a.p.now in
     let t = g.L.Links.seat d c.search.new.p in
     let e = c.in-Over.ensures in
-    keeps_on n a.key a.node slots s t k (found_over s t e.found) (g.met.L.Links.obeys d a.p.now c.requires.pass) (g.met.L.Links.allowed d c.search.new.p e.pass)
+    keeps_on n a.key a.node slots s t k (found_over s t e.found) (g.met.L.Links.obeys d a.p.now c.requires.pass)
+    (g.met.L.Links.allowed d c.search.new.p e.pass)
 
 pub returns-in-Absent-clause-lacking : goal.returns-in-Absent-clause-lacking
 returns-in-Absent-clause-lacking g c = λ is.
@@ -66,7 +67,8 @@ returns-then-enter_present-clause-inserted g c = λ slots room k.
     let s = g.L.Links.seat d a.p.now in
     let u = g.L.Links.seat d c.enter_present.new.p in
     let agent = c.agent-agent.ensures ∙ c.in-Present.ensures.found.behind.quiet.puts.agent in
-    let done = subst (λ (b : Bool). Enters (Added c.agent-agent.result a.key false) s b u) c.if-enter_present.true (c.enter_present.ensures.entered s c.in-Present.ensures.found) in
+    let done = subst (λ (b : Bool). Enters (Added c.agent-agent.result a.key false) s b u) c.if-enter_present.true
+    (c.enter_present.ensures.entered s c.in-Present.ensures.found) in
     keeps_answer n a.key a.node slots (Added s.agent a.key false) s u k (subst (λ (x : ℕ). Enters (Added x a.key false) s true u) agent done)
 
 pub returns-else-enter_present-clause-inserted : goal.returns-else-enter_present-clause-inserted
@@ -77,5 +79,6 @@ returns-else-enter_present-clause-inserted g c = λ slots room k.
     let s = g.L.Links.seat d a.p.now in
     let u = g.L.Links.seat d c.enter_present.new.p in
     let e = c.enter_present.ensures in
-    let over = subst (λ (b : Bool). Enters (Added c.agent-agent.result a.key false) s b u) c.if-enter_present.false (e.entered s c.in-Present.ensures.found) in
+    let over = subst (λ (b : Bool). Enters (Added c.agent-agent.result a.key false) s b u) c.if-enter_present.false
+    (e.entered s c.in-Present.ensures.found) in
     keeps_on n a.key a.node slots s u k over (g.met.L.Links.obeys d a.p.now c.requires.pass) (g.met.L.Links.allowed d c.enter_present.new.p e.pass)

@@ -11,7 +11,12 @@ use Rattle.orc_list.proofs.insert.insert_turns.Goals as goal
 pub loop-init : goal.loop-init
 loop-init g c =
     let d = c.args.links.now in
-    record { pass = c.requires.pass; later = ([], append-nil _); on = inserts_none (g.L.Links.numbers d) c.args.key (g.L.Links.seat d c.args.p.now) c.requires.fresh }
+    record {
+      pass = c.requires.pass;
+      later = ([], append-nil _);
+      on = inserts_none (g.L.Links.numbers d) c.args.key (g.L.Links.seat d c.args.p.now)
+          c.requires.fresh;
+    }
 
 pub insert_turn-turn-requires-clause-keeps : goal.insert_turn-turn-requires-clause-keeps
 insert_turn-turn-requires-clause-keeps g c =
@@ -28,7 +33,8 @@ loop-preserved g c =
     let i = c.loop.invariant in
     let e = c.insert_turn-turn.ensures in
     let kept = c.insert_turn-turn.result.1 in
-    let over = subst (λ (turn : InsertTurn). Inserts n c.args.key 1 s.slots c.loop.node t turn kept u) c.in-Over.is (e.inserted s.slots c.requires.room i.on.keeps) in
+    let over = subst (λ (turn : InsertTurn). Inserts n c.args.key 1 s.slots c.loop.node t turn kept u) c.in-Over.is
+    (e.inserted s.slots c.requires.room i.on.keeps) in
     record { pass = e.pass; later = goes_on _ _ _ i.later e.later; on = inserts_next n c.args.key c.loop.counter c.loop.node kept s t u i.on over }
 
 pub returns-in_default-clause-inserted : goal.returns-in_default-clause-inserted
@@ -40,7 +46,8 @@ returns-in_default-clause-inserted g c =
     let u = g.L.Links.seat d c.insert_turn-turn.new.p in
     let i = c.loop.invariant in
     let e = c.insert_turn-turn.ensures in
-    inserts_done n c.args.key c.loop.counter c.loop.node c.insert_turn-turn.result.1 s t u i.on c.args.turns c.insert_turn-turn.result.0 (e.inserted s.slots c.requires.room i.on.keeps) c.in_default.not-Over (omega (arith, c.loop-test.true))
+    inserts_done n c.args.key c.loop.counter c.loop.node c.insert_turn-turn.result.1 s t u i.on c.args.turns c.insert_turn-turn.result.0
+    (e.inserted s.slots c.requires.room i.on.keeps) c.in_default.not-Over (omega (arith, c.loop-test.true))
 
 pub returns-in_default-clause-lacking : goal.returns-in_default-clause-lacking
 returns-in_default-clause-lacking g c = λ is.

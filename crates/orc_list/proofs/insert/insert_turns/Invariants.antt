@@ -8,5 +8,6 @@ abbrev pub invariant-loop : goal.invariant-loop
 invariant-loop g l = record {
   pass : g.L.Links.belongs l.links l.p;
   later : IsPrefix (g.L.Links.journal l.initial.p) (g.L.Links.journal l.p);
-  on : InsertsOn (g.L.Links.numbers l.links) l.key l.counter (g.L.Links.seat l.links l.initial.p).slots None l.node (g.L.Links.seat l.links l.initial.p) (g.L.Links.seat l.links l.p);
+  on : InsertsOn (g.L.Links.numbers l.links) l.key l.counter (g.L.Links.seat l.links l.initial.p).slots None l.node (g.L.Links.seat l.links l.initial.p)
+      (g.L.Links.seat l.links l.p);
 }

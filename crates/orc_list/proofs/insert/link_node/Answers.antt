@@ -9,7 +9,7 @@ use Rattle.orc_heap.specs.declared.events.Act.TheVariants.{Aim}
 use Rattle.orc_chain_rule.specs.ChainDiscipline.{link_over}
 use Rattle.orc_list.specs.Searches.{HoldsIfAny}
 use Rattle.orc_list.specs.Turns.{first_or, place_at, target_at}
-use Rattle.orc_list.proofs.Linking.{above_not_fresh, aim_refused, link_allowed, links_to}
+use Rattle.orc_list.proofs.Linking.{above_not_fresh, link_allowed, links_to}
 use Rattle.orc_list.proofs.Marking.{part_fact, worn_since}
 use Rattle.orc_list.proofs.insert.link_node.Goals as goal
 
@@ -25,7 +25,8 @@ aim-requires-clause-target g c =
     let d = c.args.links.now in
     let n = g.L.Links.numbers d in
     let s = g.L.Links.seat d c.args.p.now in
-    c.node_in.ensures.held s c.requires.held.2 (above_not_fresh n s (target_at s.slots c.args.right.now) c.args.key c.requires.above (λ i e. g.met.L.Links.fresh_is d c.args.p.now i c.requires.pass e))
+    c.node_in.ensures.held s c.requires.held.2 (above_not_fresh n s (target_at s.slots c.args.right.now) c.args.key c.requires.above
+    (λ i e. g.met.L.Links.fresh_is d c.args.p.now i c.requires.pass e))
 
 pub returns-in_err-aim-clause-worn : goal.returns-in_err-aim-clause-worn
 returns-in_err-aim-clause-worn g c =
@@ -41,7 +42,8 @@ pub swing-requires-clause-place : goal.swing-requires-clause-place
 swing-requires-clause-place g c =
     let d = c.args.links.now in
     let t = g.L.Links.seat d c.aim.new.p in
-    c.place_of.ensures.held _ t.slots c.requires.root (subst (λ (z : Slots). HoldsIfAny z c.args.left.now) (sym c.in_ok-aim.ensures.aimed.slots) c.requires.held.0)
+    c.place_of.ensures.held _ t.slots c.requires.root (subst (λ (z : Slots). HoldsIfAny z c.args.left.now) (sym c.in_ok-aim.ensures.aimed.slots)
+    c.requires.held.0)
 
 pub swing-requires-clause-links : goal.swing-requires-clause-links
 swing-requires-clause-links g c =
@@ -50,7 +52,8 @@ swing-requires-clause-links g c =
     let t = g.L.Links.seat d c.aim.new.p in
     let same = c.in_ok-aim.ensures.aimed.slots in
     let (id, k) = c.requires.node in (
-      c.link_of.ensures.held t.slots (subst (λ (z : Slots). HoldsIfAny z c.args.first.now) (sym same) c.requires.held.1) (subst (λ (z : Slots). HoldsIfAny z c.args.right.now) (sym same) c.requires.held.2),
+      c.link_of.ensures.held t.slots (subst (λ (z : Slots). HoldsIfAny z c.args.first.now) (sym same) c.requires.held.1)
+          (subst (λ (z : Slots). HoldsIfAny z c.args.right.now) (sym same) c.requires.held.2),
       subst (λ (z : Slots). Holds z c.args.node.now) (sym same) (holds_of s.slots c.args.node.now id k.held).0,
     )
 
@@ -69,9 +72,12 @@ swing-requires-clause-allowed g c =
     let only = subst (λ (i : ℕ). Only (event_of s (Aim i to) None ∷ []) s t) id_is aims in
     let place_is = c.place_of.ensures.place t.slots ∙ ap (λ (z : Slots). place_at z a.root a.left.now) only.slots in
     let from_is = c.link_of.ensures.link t.slots ∙ ap (λ (z : Slots). link_over (target_at z (first_or a.first.now a.right.now))) only.slots in
-    let apart : to ≢ Some id = λ is. above_not_fresh n s to a.key c.requires.above (λ i h. g.met.L.Links.fresh_is d a.p.now i c.requires.pass h) id is k.fresh in
-    link_allowed n a.key c.agent-agent.result a.node.now id to s t (place_at s.slots a.root a.left.now) _ (link_over (target_at s.slots (first_or a.first.now a.right.now))) _ c.requires.run.0 k only
-    (g.met.L.Links.obeys d a.p.now c.requires.pass) (g.met.L.Links.obeys d c.aim.new.p e.pass) (g.met.L.Links.allowed d c.aim.new.p e.pass) apart place_is from_is refl c.agent-agent.ensures c.requires.below c.requires.run.1 c.requires.above
+    let apart : to ≢ Some id = λ is. above_not_fresh n s to a.key c.requires.above (λ i h. g.met.L.Links.fresh_is d a.p.now i c.requires.pass h) id is
+    k.fresh in
+    link_allowed n a.key c.agent-agent.result a.node.now id to s t (place_at s.slots a.root a.left.now) _
+    (link_over (target_at s.slots (first_or a.first.now a.right.now))) _ c.requires.run.0 k only
+    (g.met.L.Links.obeys d a.p.now c.requires.pass) (g.met.L.Links.obeys d c.aim.new.p e.pass) (g.met.L.Links.allowed d c.aim.new.p e.pass) apart place_is
+    from_is refl c.agent-agent.ensures c.requires.below c.requires.run.1 c.requires.above
 
 pub returns-clause-linked : goal.returns-clause-linked
 returns-clause-linked g c = λ id k.
@@ -89,8 +95,10 @@ returns-clause-linked g c = λ id k.
     let only = subst (λ (i : ℕ). Only (event_of s (Aim i to) None ∷ []) s t) id_is aims in
     let place_is = c.place_of.ensures.place t.slots ∙ ap (λ (z : Slots). place_at z a.root a.left.now) only.slots in
     let from_is = c.link_of.ensures.link t.slots ∙ ap (λ (z : Slots). link_over (target_at z (first_or a.first.now a.right.now))) only.slots in
-    let apart : to ≢ Some id = λ is. above_not_fresh n s to a.key c.requires.above (λ i h. g.met.L.Links.fresh_is d a.p.now i c.requires.pass h) id is k.fresh in
-    links_to n a.key c.agent-agent.result a.node.now id to s t u (place_at s.slots a.root a.left.now) (link_over (target_at s.slots (first_or a.first.now a.right.now))) _ _ _ c.swing.result k only c.agent-agent.ensures place_is from_is refl
+    let apart : to ≢ Some id = λ is. above_not_fresh n s to a.key c.requires.above (λ i h. g.met.L.Links.fresh_is d a.p.now i c.requires.pass h) id is
+    k.fresh in
+    links_to n a.key c.agent-agent.result a.node.now id to s t u (place_at s.slots a.root a.left.now)
+    (link_over (target_at s.slots (first_or a.first.now a.right.now))) _ _ _ c.swing.result k only c.agent-agent.ensures place_is from_is refl
     (g.met.L.Links.obeys d a.p.now c.requires.pass) (g.met.L.Links.allowed d c.swing.new.p f.pass) apart f.swung f.none
 
 pub returns-clause-worn : goal.returns-clause-worn
@@ -99,5 +107,6 @@ returns-clause-worn g c =
     let s = g.L.Links.seat d c.args.p.now in
     let t = g.L.Links.seat d c.aim.new.p in
     let f = c.swing.ensures in
-    worn_since (g.L.Links.worn d) g.L.Links.agent_of s.agent t.agent (g.L.Links.journal c.args.p.now) (g.L.Links.journal c.aim.new.p) (g.L.Links.journal c.swing.new.p) (λ why xs more from to h. g.met.L.Links.worn_stays d s.agent why xs more from to h)
+    worn_since (g.L.Links.worn d) g.L.Links.agent_of s.agent t.agent (g.L.Links.journal c.args.p.now) (g.L.Links.journal c.aim.new.p)
+    (g.L.Links.journal c.swing.new.p) (λ why xs more from to h. g.met.L.Links.worn_stays d s.agent why xs more from to h)
     c.in_ok-aim.ensures.aimed.puts.agent c.in_ok-aim.ensures.later f.later c.swing.result f.worn

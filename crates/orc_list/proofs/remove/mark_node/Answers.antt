@@ -27,7 +27,8 @@ swing-requires-clause-allowed g c =
     let d = c.args.links.now in
     let n = g.L.Links.numbers d in
     let s = g.L.Links.seat d c.args.p.now in
-    mark_allowed n s (id_in s.slots c.args.node.now) c.args.key c.agent-agent.result (target_at s.slots c.args.next.now) _ _ (c.link_to.ensures.link s.slots) (c.link_to-2.ensures.link s.slots) c.agent-agent.ensures
+    mark_allowed n s (id_in s.slots c.args.node.now) c.args.key c.agent-agent.result (target_at s.slots c.args.next.now) _ _
+    (c.link_to.ensures.link s.slots) (c.link_to-2.ensures.link s.slots) c.agent-agent.ensures
     (g.met.L.Links.obeys d c.args.p.now c.requires.pass) c.requires.key
 
 pub unreachable-requires : goal.unreachable-requires
@@ -35,7 +36,8 @@ unreachable-requires g c =
     let d = c.args.links.now in
     let s = g.L.Links.seat d c.args.p.now in
     let e = c.in-Err.ensures in
-    refused_apart s.slots _ _ _ _ e.spent (ap (λ (l : Link). l.to) (c.link_to.ensures.link s.slots) ∙ sym (ap (λ (l : Link). l.to) (c.link_to-2.ensures.link s.slots)))
+    refused_apart s.slots _ _ _ _ e.spent (ap (λ (l : Link). l.to) (c.link_to.ensures.link s.slots) ∙ sym
+    (ap (λ (l : Link). l.to) (c.link_to-2.ensures.link s.slots)))
 
 pub returns-clause-marked : goal.returns-clause-marked
 returns-clause-marked g c =
@@ -43,5 +45,6 @@ returns-clause-marked g c =
     let n = g.L.Links.numbers d in
     let s = g.L.Links.seat d c.args.p.now in
     let t = g.L.Links.seat d c.swing.new.p in
-    marks n s t (id_in s.slots c.args.node.now) c.args.key c.agent-agent.result (target_at s.slots c.args.next.now) _ _ _ c.in-Ok.done refl (c.link_to.ensures.link s.slots) (c.link_to-2.ensures.link s.slots) c.agent-agent.ensures
+    marks n s t (id_in s.slots c.args.node.now) c.args.key c.agent-agent.result (target_at s.slots c.args.next.now) _ _ _ c.in-Ok.done refl
+    (c.link_to.ensures.link s.slots) (c.link_to-2.ensures.link s.slots) c.agent-agent.ensures
     c.requires.follows (λ i e. g.met.L.Links.fresh_is d c.args.p.now i c.requires.pass e) c.in-Ok.ensures.swung

@@ -1,10 +1,9 @@
 -- By what the search found.
-use Rattle.std.proofs.Common.{Bool, [], append-nil, false, subst, true}
+use Rattle.std.proofs.Common.{Bool, [], append-nil, subst}
 use Rattle.orc_list.specs.Causes.{HasWorn}
 use Rattle.orc_list.specs.Turns.{RemovesNode, TakesOut}
 use Rattle.orc_list.proofs.Making.{found_over}
 use Rattle.orc_list.proofs.Marking.{worn_wider}
-use Rattle.orc_list.proofs.Tiring.{turn_wider}
 use Rattle.orc_list.proofs.remove.remove_turn.Goals as goal
 
 pub returns-in-Over-clause-removed : goal.returns-in-Over-clause-removed
@@ -27,11 +26,13 @@ returns-then-take_out-clause-removed g c =
     let l = g.L.Links.journal c.take_out.new.p in
     let e = c.in-Present.ensures in
     let r = c.take_out.ensures.removed s e.found in
-    let done : TakesOut n c.args.key (HasWorn (g.L.Links.worn d t.agent) k l) 1 s u = subst (λ (b : Bool). RemovesNode n c.args.key (HasWorn (g.L.Links.worn d t.agent) k l) s b u) c.if-take_out.true r in
+    let done : TakesOut n c.args.key (HasWorn (g.L.Links.worn d t.agent) k l) 1 s u = subst
+    (λ (b : Bool). RemovesNode n c.args.key (HasWorn (g.L.Links.worn d t.agent) k l) s b u) c.if-take_out.true r in
     record {
       answers = done.answers;
       off = λ alone none. done.off alone
-          (λ w. none (worn_wider (g.L.Links.worn d) s.agent t.agent j k l l (λ why xs more from to h. g.met.L.Links.worn_stays d s.agent why xs more from to h) e.found.behind.quiet.puts.agent e.later ([], append-nil l) w));
+          (λ w. none (worn_wider (g.L.Links.worn d) s.agent t.agent j k l l (λ why xs more from to h. g.met.L.Links.worn_stays d s.agent why xs more from
+          to h) e.found.behind.quiet.puts.agent e.later ([], append-nil l) w));
     }
 
 pub returns-else-take_out-clause-removed : goal.returns-else-take_out-clause-removed
@@ -43,4 +44,5 @@ returns-else-take_out-clause-removed g c =
     let u = g.L.Links.seat d c.take_out.new.p in
     let k = g.L.Links.journal c.search.new.p in
     let l = g.L.Links.journal c.take_out.new.p in
-    subst (λ (b : Bool). RemovesNode n c.args.key (HasWorn (g.L.Links.worn d t.agent) k l) s b u) c.if-take_out.false (c.take_out.ensures.removed s c.in-Present.ensures.found)
+    subst (λ (b : Bool). RemovesNode n c.args.key (HasWorn (g.L.Links.worn d t.agent) k l) s b u) c.if-take_out.false
+    (c.take_out.ensures.removed s c.in-Present.ensures.found)

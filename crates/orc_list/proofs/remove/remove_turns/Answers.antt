@@ -21,7 +21,8 @@ loop-preserved g c =
     record {
       pass = e.pass;
       later = goes_on _ _ _ i.later e.later;
-      tires = tires_next c.loop.counter (g.L.Links.seat d c.args.p.now) (g.L.Links.seat d c.loop.p) (g.L.Links.seat d c.remove_turn.new.p) i.tires e.removed;
+      tires = tires_next c.loop.counter (g.L.Links.seat d c.args.p.now) (g.L.Links.seat d c.loop.p) (g.L.Links.seat d c.remove_turn.new.p) i.tires
+          e.removed;
     }
 
 pub remove_turn-requires-clause-room : goal.remove_turn-requires-clause-room
@@ -35,7 +36,8 @@ returns-in-Some-clause-removed g c =
     let i = c.loop.invariant in
     let l = g.L.Links.journal c.remove_turn.new.p in
     removes_answer (g.L.Links.numbers d) c.args.key c.loop.counter c.args.turns _ _ s t (g.L.Links.seat d c.remove_turn.new.p) c.in-Some.answer
-    (λ w. worn_wider (g.L.Links.worn d) s.agent t.agent (g.L.Links.journal c.args.p.now) (g.L.Links.journal c.loop.p) l l (λ why xs more from to h. g.met.L.Links.worn_stays d s.agent why xs more from to h)
+    (λ w. worn_wider (g.L.Links.worn d) s.agent t.agent (g.L.Links.journal c.args.p.now) (g.L.Links.journal c.loop.p) l l
+    (λ why xs more from to h. g.met.L.Links.worn_stays d s.agent why xs more from to h)
     i.tires.over.made.puts.agent i.later ([], append-nil l) w)
     i.tires c.in-Some.ensures.removed (omega (arith, c.loop-test.true))
 

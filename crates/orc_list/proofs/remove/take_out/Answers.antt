@@ -1,8 +1,7 @@
 -- The node is marked, the left place led past the run, and all nodes are let go.
 use Rattle.std.proofs.Common.{Bool, false, subst, true}
-use Rattle.orc_heap.proofs.Pieces.{goes_on}
 use Rattle.orc_list.specs.Causes.{HasWorn}
-use Rattle.orc_list.specs.Turns.{Marks, TriesUnlink, place_at, target_at}
+use Rattle.orc_list.specs.Turns.{Marks, target_at}
 use Rattle.orc_heap.specs.Slots.{id_in}
 use Rattle.orc_list.proofs.Answering.{reads_node}
 use Rattle.orc_list.proofs.Marking.{tries_wider, worn_wider}
@@ -28,7 +27,8 @@ returns-then-not-mark_node-clause-removed g c = λ s f.
     let all = g.met.L.Links.allowed d c.mark_node.new.p e.pass in
     let m = marks_at n a.root a.key a.left a.first a.node a.next s t f false u
     (subst (λ (b : Bool). Marks a.key (id_in t.slots a.node) (target_at t.slots a.next) t b u) c.if-not-mark_node.true e.marked) in
-    removes_missed n a.root a.key a.left a.first a.node a.next s t f u y m (c.let_all_go.ensures.gone s.slots (marked_hand n a.root a.key a.left a.first a.node a.next s t f false u m all)) all
+    removes_missed n a.root a.key a.left a.first a.node a.next s t f u y m (c.let_all_go.ensures.gone s.slots
+    (marked_hand n a.root a.key a.left a.first a.node a.next s t f false u m all)) all
 
 pub let_all_go-requires-clause-hands : goal.let_all_go-requires-clause-hands
 let_all_go-requires-clause-hands g c =
@@ -38,8 +38,11 @@ let_all_go-requires-clause-hands g c =
     let t = g.L.Links.seat d a.p.now in
     let u = g.L.Links.seat d c.mark_node.new.p in
     let (s, f) = c.requires.present in
-    let e = c.mark_node.ensures in
-    (s.slots, marked_hand n a.root a.key a.left a.first a.node a.next s t f _ u (marks_at n a.root a.key a.left a.first a.node a.next s t f _ u e.marked) (g.met.L.Links.allowed d c.mark_node.new.p e.pass))
+    let e = c.mark_node.ensures in (
+      s.slots,
+      marked_hand n a.root a.key a.left a.first a.node a.next s t f _ u (marks_at n a.root a.key a.left a.first a.node a.next s t f _ u e.marked)
+          (g.met.L.Links.allowed d c.mark_node.new.p e.pass),
+    )
 
 pub unlink_run-requires-clause-left : goal.unlink_run-requires-clause-left
 unlink_run-requires-clause-left g c =
@@ -50,8 +53,10 @@ unlink_run-requires-clause-left g c =
     let u = g.L.Links.seat d c.mark_node.new.p in
     let (s, f) = c.requires.present in
     let e = c.mark_node.ensures in
-    let m = marks_at n a.root a.key a.left a.first a.node a.next s t f true u (subst (λ (b : Bool). Marks a.key (id_in t.slots a.node) (target_at t.slots a.next) t b u) c.if-not-mark_node.false e.marked) in
-    unlink_left n a.root a.key a.left a.first a.node a.next s t f u c.node_or.result.now m (g.met.L.Links.allowed d c.mark_node.new.p e.pass) c.node_or.ensures
+    let m = marks_at n a.root a.key a.left a.first a.node a.next s t f true u (subst (λ (b : Bool). Marks a.key (id_in t.slots a.node)
+    (target_at t.slots a.next) t b u) c.if-not-mark_node.false e.marked) in
+    unlink_left n a.root a.key a.left a.first a.node a.next s t f u c.node_or.result.now m (g.met.L.Links.allowed d c.mark_node.new.p e.pass)
+    c.node_or.ensures
 
 pub unlink_run-requires-clause-held : goal.unlink_run-requires-clause-held
 unlink_run-requires-clause-held g c =
@@ -72,8 +77,10 @@ unlink_run-requires-clause-run g c =
     let u = g.L.Links.seat d c.mark_node.new.p in
     let (s, f) = c.requires.present in
     let e = c.mark_node.ensures in
-    let m = marks_at n a.root a.key a.left a.first a.node a.next s t f true u (subst (λ (b : Bool). Marks a.key (id_in t.slots a.node) (target_at t.slots a.next) t b u) c.if-not-mark_node.false e.marked) in
-    unlink_run_at n a.root a.key a.left a.first a.node a.next s t f u c.node_or.result.now m (g.met.L.Links.allowed d c.mark_node.new.p e.pass) c.node_or.ensures
+    let m = marks_at n a.root a.key a.left a.first a.node a.next s t f true u (subst (λ (b : Bool). Marks a.key (id_in t.slots a.node)
+    (target_at t.slots a.next) t b u) c.if-not-mark_node.false e.marked) in
+    unlink_run_at n a.root a.key a.left a.first a.node a.next s t f u c.node_or.result.now m (g.met.L.Links.allowed d c.mark_node.new.p e.pass)
+    c.node_or.ensures
 
 pub unlink_run-requires-clause-follows : goal.unlink_run-requires-clause-follows
 unlink_run-requires-clause-follows g c =
@@ -84,7 +91,8 @@ unlink_run-requires-clause-follows g c =
     let u = g.L.Links.seat d c.mark_node.new.p in
     let (s, f) = c.requires.present in
     let e = c.mark_node.ensures in
-    let m = marks_at n a.root a.key a.left a.first a.node a.next s t f true u (subst (λ (b : Bool). Marks a.key (id_in t.slots a.node) (target_at t.slots a.next) t b u) c.if-not-mark_node.false e.marked) in
+    let m = marks_at n a.root a.key a.left a.first a.node a.next s t f true u (subst (λ (b : Bool). Marks a.key (id_in t.slots a.node)
+    (target_at t.slots a.next) t b u) c.if-not-mark_node.false e.marked) in
     unlink_follows n a.root a.key a.left a.first a.node a.next s t f u m (g.met.L.Links.allowed d c.mark_node.new.p e.pass)
 
 pub let_all_go-requires-2-clause-hands : goal.let_all_go-requires-2-clause-hands
@@ -98,7 +106,8 @@ let_all_go-requires-2-clause-hands g c =
     let (s, f) = c.requires.present in
     let e = c.mark_node.ensures in
     let r = c.unlink_run.ensures in
-    let hands = marked_hand n a.root a.key a.left a.first a.node a.next s t f _ u (marks_at n a.root a.key a.left a.first a.node a.next s t f _ u e.marked) (g.met.L.Links.allowed d c.mark_node.new.p e.pass) in
+    let hands = marked_hand n a.root a.key a.left a.first a.node a.next s t f _ u (marks_at n a.root a.key a.left a.first a.node a.next s t f _ u e.marked)
+    (g.met.L.Links.allowed d c.mark_node.new.p e.pass) in
     (s.slots, tried_hand n a.root a.key a.left a.first a.node a.next s t f u v _ _ _ _ r.tried (g.met.L.Links.allowed d c.unlink_run.new.p r.pass) hands)
 
 pub returns-clause-removed : goal.returns-clause-removed
@@ -118,8 +127,12 @@ returns-clause-removed g c = λ s f.
     let r = c.unlink_run.ensures in
     let q = c.let_all_go-2.ensures in
     let all = g.met.L.Links.allowed d c.mark_node.new.p e.pass in
-    let m = marks_at n a.root a.key a.left a.first a.node a.next s t f true u (subst (λ (b : Bool). Marks a.key (id_in t.slots a.node) (target_at t.slots a.next) t b u) c.if-not-mark_node.false e.marked) in
+    let m = marks_at n a.root a.key a.left a.first a.node a.next s t f true u (subst (λ (b : Bool). Marks a.key (id_in t.slots a.node)
+    (target_at t.slots a.next) t b u) c.if-not-mark_node.false e.marked) in
     let tried = tries_at n a.root a.key a.left a.first a.node a.next s t f u v c.node_or.result.now _ m.slots c.node_or.ensures r.tried in
-    let hands = tried_hand n a.root a.key a.left a.first a.node a.next s t f u v _ _ _ _ r.tried (g.met.L.Links.allowed d c.unlink_run.new.p r.pass) (marked_hand n a.root a.key a.left a.first a.node a.next s t f true u m all) in
-    let wider = tries_wider _ (HasWorn (g.L.Links.worn d t.agent) j o) _ _ _ u v (λ w. worn_wider (g.L.Links.worn d) t.agent u.agent j k l o (λ why xs more from to h. g.met.L.Links.worn_stays d t.agent why xs more from to h) m.puts.agent e.later q.later w) tried in
-    removes_done n a.root a.key a.left a.first a.node a.next s t f (HasWorn (g.L.Links.worn d t.agent) j o) u v y m wider (q.gone s.slots hands) (g.met.L.Links.obeys d a.p.now c.requires.pass) (g.met.L.Links.allowed d c.let_all_go-2.new.p q.pass)
+    let hands = tried_hand n a.root a.key a.left a.first a.node a.next s t f u v _ _ _ _ r.tried (g.met.L.Links.allowed d c.unlink_run.new.p r.pass)
+    (marked_hand n a.root a.key a.left a.first a.node a.next s t f true u m all) in
+    let wider = tries_wider _ (HasWorn (g.L.Links.worn d t.agent) j o) _ _ _ u v (λ w. worn_wider (g.L.Links.worn d) t.agent u.agent j k l o
+    (λ why xs more from to h. g.met.L.Links.worn_stays d t.agent why xs more from to h) m.puts.agent e.later q.later w) tried in
+    removes_done n a.root a.key a.left a.first a.node a.next s t f (HasWorn (g.L.Links.worn d t.agent) j o) u v y m wider (q.gone s.slots hands)
+    (g.met.L.Links.obeys d a.p.now c.requires.pass) (g.met.L.Links.allowed d c.let_all_go-2.new.p q.pass)

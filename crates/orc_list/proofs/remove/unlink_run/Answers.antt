@@ -14,7 +14,8 @@ pub swing-tried-requires-clause-linked : goal.swing-tried-requires-clause-linked
 swing-tried-requires-clause-linked g c =
     let d = c.args.links.now in
     let s = g.L.Links.seat d c.args.p.now in
-    not_fresh_at (g.L.Links.numbers d) s c.place_of.result (place_at s.slots c.args.root c.args.left.now) (c.place_of.ensures.place s.slots) c.requires.left (λ i e. g.met.L.Links.fresh_is d c.args.p.now i c.requires.pass e)
+    not_fresh_at (g.L.Links.numbers d) s c.place_of.result (place_at s.slots c.args.root c.args.left.now) (c.place_of.ensures.place s.slots)
+    c.requires.left (λ i e. g.met.L.Links.fresh_is d c.args.p.now i c.requires.pass e)
 
 pub swing-tried-requires-clause-links : goal.swing-tried-requires-clause-links
 swing-tried-requires-clause-links g c =
@@ -25,7 +26,8 @@ pub swing-tried-requires-clause-allowed : goal.swing-tried-requires-clause-allow
 swing-tried-requires-clause-allowed g c =
     let d = c.args.links.now in
     let s = g.L.Links.seat d c.args.p.now in
-    try_allowed (g.L.Links.numbers d) s (place_at s.slots c.args.root c.args.left.now) _ (id_in s.slots c.args.first.now) c.requires.run.0 (target_at s.slots c.args.next.now) _ (c.place_of.ensures.place s.slots) (c.link_to.ensures.link s.slots)
+    try_allowed (g.L.Links.numbers d) s (place_at s.slots c.args.root c.args.left.now) _ (id_in s.slots c.args.first.now) c.requires.run.0
+    (target_at s.slots c.args.next.now) _ (c.place_of.ensures.place s.slots) (c.link_to.ensures.link s.slots)
     (g.met.L.Links.obeys d c.args.p.now c.requires.pass) c.requires.left c.requires.run.1
 
 pub returns-clause-tried : goal.returns-clause-tried
@@ -34,6 +36,9 @@ returns-clause-tried g c =
     let s = g.L.Links.seat d c.args.p.now in
     let t = g.L.Links.seat d c.swing-tried.new.p in
     let e = c.swing-tried.ensures in
-    tries (g.L.Links.numbers d) s t (place_at s.slots c.args.root c.args.left.now) c.requires.follows.0 (id_in s.slots c.args.first.now) (target_at s.slots c.args.next.now) _ _ _ _ c.swing-tried.result
-    (c.place_of.ensures.place s.slots) refl (c.link_to.ensures.link s.slots) c.requires.follows.1 (λ i h. g.met.L.Links.fresh_is d c.args.p.now i c.requires.pass h) e.swung e.none
-    (worn_part g.L.Links.agent_of s.agent (g.L.Links.journal c.args.p.now) (g.L.Links.journal c.swing-tried.new.p) (g.L.Links.worn d s.agent) e.later c.swing-tried.result e.worn)
+    tries (g.L.Links.numbers d) s t (place_at s.slots c.args.root c.args.left.now) c.requires.follows.0 (id_in s.slots c.args.first.now)
+    (target_at s.slots c.args.next.now) _ _ _ _ c.swing-tried.result
+    (c.place_of.ensures.place s.slots) refl (c.link_to.ensures.link s.slots) c.requires.follows.1
+    (λ i h. g.met.L.Links.fresh_is d c.args.p.now i c.requires.pass h) e.swung e.none
+    (worn_part g.L.Links.agent_of s.agent (g.L.Links.journal c.args.p.now) (g.L.Links.journal c.swing-tried.new.p) (g.L.Links.worn d s.agent) e.later
+    c.swing-tried.result e.worn)

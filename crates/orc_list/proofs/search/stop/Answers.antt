@@ -20,4 +20,5 @@ returns-clause-moved g c = λ s w.
     let u = g.L.Links.seat d c.let_all_go.new.p in
     let a = c.args in
     let e = c.let_all_go.ensures in
-    stops_moved n a.root a.wanted a.walk.left a.walk.first a.walk.at s t u w (e.gone s.slots (stop_hand n a.root a.wanted a.walk.left a.walk.first s t a.walk.at w)) (g.met.L.Links.allowed d c.let_all_go.new.p e.pass)
+    stops_moved n a.root a.wanted a.walk.left a.walk.first a.walk.at s t u w (e.gone s.slots
+    (stop_hand n a.root a.wanted a.walk.left a.walk.first s t a.walk.at w)) (g.met.L.Links.allowed d c.let_all_go.new.p e.pass)

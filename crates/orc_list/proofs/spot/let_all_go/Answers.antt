@@ -1,5 +1,4 @@
 -- One node after another is let go.
-use Rattle.std.proofs.Common.{[]}
 use Rattle.orc_list.proofs.Held.{first_held, four_go, goes_hands}
 use Rattle.orc_list.proofs.spot.let_all_go.Goals as goal
 
@@ -41,7 +40,8 @@ let_go-requires-4-clause-held g c =
     let x = g.L.Links.seat d c.let_go-3.new.p in
     let a = c.args in
     let (s, w) = c.requires.hands in
-    let hands = goes_hands s v x a.at w.id _ c.let_go-3.ensures.let_go (goes_hands s u v a.first w.first_id _ c.let_go-2.ensures.let_go (goes_hands s t u a.left w.left_id _ c.let_go.ensures.let_go w.hands)) in
+    let hands = goes_hands s v x a.at w.id _ c.let_go-3.ensures.let_go (goes_hands s u v a.first w.first_id _ c.let_go-2.ensures.let_go
+    (goes_hands s t u a.left w.left_id _ c.let_go.ensures.let_go w.hands)) in
     first_held s x.slots a.next w.next_id _ hands
 
 pub returns-clause-gone : goal.returns-clause-gone
@@ -58,5 +58,6 @@ returns-clause-gone g c = λ s w.
     let f = c.let_go-2.ensures in
     let h = c.let_go-3.ensures in
     four_go n s t u v x y a.left a.first a.at a.next w e.let_go f.let_go h.let_go c.let_go-4.ensures.let_go
-    (λ i k. g.met.L.Links.fresh_is d a.p.now i c.requires.pass k) (λ i k. g.met.L.Links.fresh_is d c.let_go.new.p i e.pass k) (λ i k. g.met.L.Links.fresh_is d c.let_go-2.new.p i f.pass k) (λ i k. g.met.L.Links.fresh_is d c.let_go-3.new.p i h.pass k)
+    (λ i k. g.met.L.Links.fresh_is d a.p.now i c.requires.pass k) (λ i k. g.met.L.Links.fresh_is d c.let_go.new.p i e.pass k)
+    (λ i k. g.met.L.Links.fresh_is d c.let_go-2.new.p i f.pass k) (λ i k. g.met.L.Links.fresh_is d c.let_go-3.new.p i h.pass k)
     (g.met.L.Links.allowed d c.let_go.new.p e.pass) (g.met.L.Links.allowed d c.let_go-2.new.p f.pass) (g.met.L.Links.allowed d c.let_go-3.new.p h.pass)

@@ -1,118 +1,89 @@
 -- The tail's second value is the position; the node has the values of the Put, and is linked or not.
-use Rattle.std.proofs.Common.{Some, [], arith, refl, subst, ℕ, ◌∙◌, ◌∷◌}
+use Rattle.std.proofs.Common.{Some, [], arith, refl, subst, ℕ, ◌∷◌, ◌≡◌}
 use Rattle.orc_heap.proofs.ByAnswer.{Swings-fresh, Swings-missed, Swings-moved}
+use Rattle.orc_heap.proofs.Pieces.{missed_fresh}
 use Rattle.orc_heap.specs.Calls.{Misses, event_of}
 use Rattle.orc_heap.specs.Heap.{null, link_to}
 use Rattle.orc_heap.specs.OwnEvents.{Puts}
+use Rattle.orc_heap.specs.Seats.{heap_of}
 use Rattle.orc_heap.specs.Slots.{id_in}
 use Rattle.orc_heap.specs.declared.events.Act.TheVariants.{Move}
 use Rattle.orc_heap.specs.declared.events.Place.TheVariants.{Next}
 use Rattle.orc_history.specs.declared.queue.QueueEntry.TheVariants.{Put}
+use Rattle.orc_fifo_rule.specs.QueueDiscipline.{position_of}
 use Rattle.orc_fifo_rule.specs.declared.fifo.FifoNote.TheVariants.{Entry}
-use Rattle.orc_queue.proofs.Filled.{known}
-use Rattle.orc_queue.proofs.Linking.{link_made, link_missed, put_may, read_position, tail_same}
+use Rattle.orc_queue.proofs.Holding.{pass_known}
+use Rattle.orc_queue.proofs.Linking.{FillsNode, link_made, link_missed, put_may, read_position, tail_same}
+use Rattle.orc_queue.proofs.put.link_node.Given.{Over}
+use Rattle.orc_queue.proofs.put.link_node.Goals.{After-fill, After-value-at}
 use Rattle.orc_queue.proofs.put.link_node.Goals as goal
-use Rattle.orc_heap.proofs.Pieces.{missed_fresh}
+
+-- the position behind the tail was read
+position : (g : Over) (c : After-value-at g) → let d = c.args.links.now in let s = g.L.Links.seat d c.args.p.now in
+    c.value-at.result ≡ position_of (heap_of (g.L.Links.numbers d) s) (id_in s.slots c.args.tail.now)
+position g c =
+    let d = c.args.links.now in
+    let e = c.value-at.ensures in
+    let known = pass_known g.L.Links g.met.L.Links.opens g.met.L.Links.allowed g.met.L.Links.obeys d in
+    read_position (g.L.Links.numbers d) (g.L.Links.seat d c.args.p.now) _ _ _ (known c.value-at.new.p c.requires.made e.pass) e.nothing
+    c.requires.named.linked e.value
+
+-- and put into the fresh node
+filled : (g : Over) (c : After-fill g) → let d = c.args.links.now in let s = g.L.Links.seat d c.args.p.now in
+    c.value-at.result ≡ position_of (heap_of (g.L.Links.numbers d) s) (id_in s.slots c.args.tail.now)
+    → FillsNode (g.L.Links.numbers d) c.args.job c.value-at.result (id_in s.slots c.args.tail.now) c.args.node.now s (g.L.Links.seat d c.value-at.new.p)
+    (g.L.Links.seat d c.fill.new.p)
+filled g c at_is =
+    let d = c.args.links.now in
+    let known = pass_known g.L.Links g.met.L.Links.opens g.met.L.Links.allowed g.met.L.Links.obeys d in
+    record {
+      before = known c.args.p.now c.requires.made c.requires.pass;
+      after = known c.fill.new.p c.requires.made c.fill.ensures.pass;
+      node = c.requires.node;
+      named = c.requires.named;
+      read = c.value-at.ensures.nothing;
+      fill = c.fill.ensures.filled;
+      at_is = at_is;
+      low = omega (arith, c.if-at-ge-POSITIONS.false);
+    }
 
 pub returns-then-at-ge-POSITIONS-clause-linked : goal.returns-then-at-ge-POSITIONS-clause-linked
 returns-then-at-ge-POSITIONS-clause-linked g c =
-    let d = c.args.links.now in
-    let n = g.L.Links.numbers d in
-    let s = g.L.Links.seat d c.args.p.now in
-    let tail = id_in s.slots c.args.tail.now in
-    let a = g.L.Links.seat d c.value-at.new.p in
-    let read = c.value-at.ensures in
-    let kp = c.requires.pass in
-    let ks = known n (g.L.Links.opening d) s.seen c.requires.made (g.met.L.Links.opens d c.args.p.now kp) (g.met.L.Links.allowed d c.args.p.now kp)
-    (g.met.L.Links.obeys d c.args.p.now kp) in
-    let ka = known n (g.L.Links.opening d) a.seen c.requires.made (g.met.L.Links.opens d c.value-at.new.p read.pass)
-    (g.met.L.Links.allowed d c.value-at.new.p read.pass) (g.met.L.Links.obeys d c.value-at.new.p read.pass) in
-    let is = read_position n s a tail c.value-at.result ka read.nothing c.requires.named.linked read.value in
+    let at_is = position g (goal.at.returns-then-at-ge-POSITIONS-clause-linked g c).After-value-at in
+    let read = c.value-at.ensures.nothing in
     record {
-      piece = record { own = []; slots = read.nothing.slots; puts = read.nothing.puts; entries_are = refl; no_give = refl; few = omega arith };
-      fresh = read.nothing.fresh;
-      none = omega (arith, is, c.if-at-ge-POSITIONS.true);
+      piece = record { own = []; slots = read.slots; puts = read.puts; entries_are = refl; no_give = refl; few = omega arith };
+      fresh = read.fresh;
+      none = omega (arith, at_is, c.if-at-ge-POSITIONS.true);
     }
 
 pub change-requires-clause-allowed : goal.change-requires-clause-allowed
 change-requires-clause-allowed g c =
-    let d = c.args.links.now in
-    let n = g.L.Links.numbers d in
-    let s = g.L.Links.seat d c.args.p.now in
-    let tail = id_in s.slots c.args.tail.now in
-    let a = g.L.Links.seat d c.value-at.new.p in
-    let read = c.value-at.ensures in
-    let kp = c.requires.pass in
-    let ks = known n (g.L.Links.opening d) s.seen c.requires.made (g.met.L.Links.opens d c.args.p.now kp) (g.met.L.Links.allowed d c.args.p.now kp)
-    (g.met.L.Links.obeys d c.args.p.now kp) in
-    let ka = known n (g.L.Links.opening d) a.seen c.requires.made (g.met.L.Links.opens d c.value-at.new.p read.pass)
-    (g.met.L.Links.allowed d c.value-at.new.p read.pass) (g.met.L.Links.obeys d c.value-at.new.p read.pass) in
-    let is = read_position n s a tail c.value-at.result ka read.nothing c.requires.named.linked read.value in
-    let b = g.L.Links.seat d c.fill.new.p in
-    let fill = c.fill.ensures in
-    let kb = known n (g.L.Links.opening d) b.seen c.requires.made (g.met.L.Links.opens d c.fill.new.p fill.pass)
-    (g.met.L.Links.allowed d c.fill.new.p fill.pass) (g.met.L.Links.obeys d c.fill.new.p fill.pass) in
-    let at = c.value-at.result in
-    let node = c.args.node.now in
-    put_may n c.args.job at tail node s a b ks c.requires.node c.requires.named read.nothing fill.filled ka.all kb.all c.args.tail.now
-    c.agent-agent.result refl kb c.agent-agent.ensures is c.if-at-ge-POSITIONS.false
+    let at = goal.at.change-requires-clause-allowed g c in
+    put_may (filled g at.After-fill (position g at.After-value-at)) c.args.tail.now c.agent-agent.result refl c.agent-agent.ensures
 
 pub returns-else-change-clause-linked : goal.returns-else-change-clause-linked
 returns-else-change-clause-linked g c =
+    let at = goal.at.returns-else-change-clause-linked g c in
+    let f = filled g at.After-fill (position g at.After-value-at) in
     let d = c.args.links.now in
-    let n = g.L.Links.numbers d in
-    let s = g.L.Links.seat d c.args.p.now in
-    let tail = id_in s.slots c.args.tail.now in
-    let a = g.L.Links.seat d c.value-at.new.p in
-    let read = c.value-at.ensures in
-    let kp = c.requires.pass in
-    let ks = known n (g.L.Links.opening d) s.seen c.requires.made (g.met.L.Links.opens d c.args.p.now kp) (g.met.L.Links.allowed d c.args.p.now kp)
-    (g.met.L.Links.obeys d c.args.p.now kp) in
-    let ka = known n (g.L.Links.opening d) a.seen c.requires.made (g.met.L.Links.opens d c.value-at.new.p read.pass)
-    (g.met.L.Links.allowed d c.value-at.new.p read.pass) (g.met.L.Links.obeys d c.value-at.new.p read.pass) in
-    let is = read_position n s a tail c.value-at.result ka read.nothing c.requires.named.linked read.value in
     let b = g.L.Links.seat d c.fill.new.p in
-    let fill = c.fill.ensures in
-    let kb = known n (g.L.Links.opening d) b.seen c.requires.made (g.met.L.Links.opens d c.fill.new.p fill.pass)
-    (g.met.L.Links.allowed d c.fill.new.p fill.pass) (g.met.L.Links.obeys d c.fill.new.p fill.pass) in
-    let at = c.value-at.result in
-    let node = c.args.node.now in
-    let args = tail_same n c.args.job at tail node s a b ks c.requires.node c.requires.named read.nothing fill.filled ka.all kb.all c.args.tail.now in
-    let u = g.L.Links.seat d c.change.new.p in
-    let w = c.change.ensures in
-    let all = g.met.L.Links.allowed d c.change.new.p w.pass in
-    let miss = subst (λ (i : ℕ). Misses (Next i) null b u) args (Swings-missed w.swung c.if-change.false) in
-    link_missed n c.args.job at tail node s a b ks c.requires.node c.requires.named read.nothing fill.filled ka.all kb.all u all w.swung.slots
-    (missed_fresh w.swung c.if-change.false) miss
-    (omega (arith, is, c.if-at-ge-POSITIONS.false))
+    let t = g.L.Links.seat d c.change.new.p in
+    let e = c.change.ensures in
+    let missed = Swings-missed e.swung c.if-change.false in
+    link_missed f t (g.met.L.Links.allowed d c.change.new.p e.pass) e.swung.slots (missed_fresh e.swung c.if-change.false)
+    (subst (λ (i : ℕ). Misses (Next i) null b t) (tail_same f c.args.tail.now) missed)
 
 pub returns-then-change-clause-linked : goal.returns-then-change-clause-linked
 returns-then-change-clause-linked g c =
+    let at = goal.at.returns-then-change-clause-linked g c in
+    let f = filled g at.After-fill (position g at.After-value-at) in
     let d = c.args.links.now in
-    let n = g.L.Links.numbers d in
-    let s = g.L.Links.seat d c.args.p.now in
-    let tail = id_in s.slots c.args.tail.now in
-    let a = g.L.Links.seat d c.value-at.new.p in
-    let read = c.value-at.ensures in
-    let kp = c.requires.pass in
-    let ks = known n (g.L.Links.opening d) s.seen c.requires.made (g.met.L.Links.opens d c.args.p.now kp) (g.met.L.Links.allowed d c.args.p.now kp)
-    (g.met.L.Links.obeys d c.args.p.now kp) in
-    let ka = known n (g.L.Links.opening d) a.seen c.requires.made (g.met.L.Links.opens d c.value-at.new.p read.pass)
-    (g.met.L.Links.allowed d c.value-at.new.p read.pass) (g.met.L.Links.obeys d c.value-at.new.p read.pass) in
-    let is = read_position n s a tail c.value-at.result ka read.nothing c.requires.named.linked read.value in
     let b = g.L.Links.seat d c.fill.new.p in
-    let fill = c.fill.ensures in
-    let kb = known n (g.L.Links.opening d) b.seen c.requires.made (g.met.L.Links.opens d c.fill.new.p fill.pass)
-    (g.met.L.Links.allowed d c.fill.new.p fill.pass) (g.met.L.Links.obeys d c.fill.new.p fill.pass) in
-    let at = c.value-at.result in
-    let node = c.args.node.now in
-    let args = tail_same n c.args.job at tail node s a b ks c.requires.node c.requires.named read.nothing fill.filled ka.all kb.all c.args.tail.now in
-    let u = g.L.Links.seat d c.change.new.p in
-    let w = c.change.ensures in
-    let all = g.met.L.Links.allowed d c.change.new.p w.pass in
-    let moved = subst
-    (λ (i : ℕ). Puts b (event_of b (Move (Next i) null (link_to (id_in b.slots node))) (Some (Entry (Put c.agent-agent.result c.args.job at)))
-    ∷ []) u) args (Swings-moved w.swung c.if-change.true) in
-    link_made n c.args.job at tail node s a b ks c.requires.node c.requires.named read.nothing fill.filled ka.all kb.all u c.agent-agent.result all
-    (c.agent-agent.ensures ∙ (fill.filled.puts.agent ∙ read.nothing.puts.agent)) w.swung.slots (Swings-fresh w.swung c.if-change.true) moved
-    (omega (arith, is, c.if-at-ge-POSITIONS.false)) is
+    let t = g.L.Links.seat d c.change.new.p in
+    let e = c.change.ensures in
+    let agent = c.agent-agent.result in
+    let to = link_to (id_in b.slots c.args.node.now) in
+    let moved = subst (λ (i : ℕ). Puts b (event_of b (Move (Next i) null to) (Some (Entry (Put agent c.args.job c.value-at.result))) ∷ []) t)
+    (tail_same f c.args.tail.now) (Swings-moved e.swung c.if-change.true) in
+    link_made f t agent (g.met.L.Links.allowed d c.change.new.p e.pass) c.agent-agent.ensures e.swung.slots (Swings-fresh e.swung c.if-change.true) moved

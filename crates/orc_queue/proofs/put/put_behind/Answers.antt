@@ -1,162 +1,99 @@
 -- By what the look of the tail's link found.
-use Rattle.std.proofs.Common.{rules, ap, subst, sym, ℕ, ◌∙◌}
+use Rattle.std.proofs.Common.{rules, subst}
 use Rattle.orc_heap.proofs.ByAnswer.{Looks-held, Looks-null}
-use Rattle.orc_heap.specs.Allowed.{IsLinkedNode, HasLink}
-use Rattle.orc_heap.specs.Slots.{Holds, Slots, id_in}
+use Rattle.orc_heap.specs.Slots.{Slots, id_in}
 use Rattle.orc_heap.specs.declared.events.Place.TheVariants.{Next}
-use Rattle.orc_fifo_rule.specs.Watches.{WasNamed}
-use Rattle.orc_fifo_rule.specs.Laws.Paths.{successor_linked}
-use Rattle.orc_queue.specs.Turns.{Helps, LinksBehind, SwingsLast}
-use Rattle.orc_queue.proofs.Behind.{behind_held, behind_moved, behind_null, fresh_apart, linked_helped, node_seen}
-use Rattle.orc_queue.proofs.Filled.{known}
-use Rattle.orc_queue.proofs.Looking.{next_held, next_null}
-use Rattle.orc_queue.proofs.Pieces.{named_puts}
+use Rattle.orc_queue.specs.Turns.{LinksBehind, SwingsLast}
+use Rattle.orc_queue.proofs.Behind.{behind_found, behind_moved, behind_null, node_seen}
+use Rattle.orc_queue.proofs.Holding.{found_holds, found_kept, found_other, pass_known}
+use Rattle.orc_queue.proofs.Looking.{FindsNull, HoldsNext, next_held, next_link, next_null, null_named}
+use Rattle.orc_queue.proofs.put.put_behind.Given.{Over}
+use Rattle.orc_queue.proofs.put.put_behind.Goals.{In-Stable-default-None, In-Stable-default-Some}
 use Rattle.orc_queue.proofs.put.put_behind.Goals as goal
-use Rattle.orc_heap.specs.Heap.{link_to}
-use Rattle.orc_heap.specs.Seats.{heap_of}
-use Rattle.orc_heap.proofs.Pieces.{release_fresh, slot_holds, slot_id, slot_other, slot_other_id, slot_released}
+
+-- the look found no link
+ended : (g : Over) (c : In-Stable-default-None g) → let d = c.args.links.now in let s = g.L.Links.seat d c.args.p.now in
+    FindsNull (g.L.Links.numbers d) (id_in s.slots c.args.tail.now) s (g.L.Links.seat d c.look.new.p)
+ended g c =
+    let d = c.args.links.now in
+    let e = c.in-Stable-default-None.ensures in
+    let known = pass_known g.L.Links g.met.L.Links.opens g.met.L.Links.allowed g.met.L.Links.obeys d in
+    next_null _ _ _ _ _ (known c.args.p.now c.requires.made c.requires.pass) (known c.look.new.p c.requires.made e.pass) c.requires.named.linked
+    (Looks-null {place = Next (id_in (g.L.Links.seat d c.args.p.now).slots c.args.tail.now)} e.looked c.in-Stable-default-None.field-1-is)
+
+-- it found a successor
+found : (g : Over) (c : In-Stable-default-Some g) → let d = c.args.links.now in let s = g.L.Links.seat d c.args.p.now in
+    HoldsNext (g.L.Links.numbers d) (id_in s.slots c.args.tail.now) 3 s c.in-Stable-default-Some.next (g.L.Links.seat d c.look.new.p)
+found g c =
+    let d = c.args.links.now in
+    let e = c.in-Stable-default-Some.ensures in
+    let known = pass_known g.L.Links g.met.L.Links.opens g.met.L.Links.allowed g.met.L.Links.obeys d in
+    next_held _ _ _ _ 3 _ _ c.requires.slot (known c.args.p.now c.requires.made c.requires.pass) (known c.look.new.p c.requires.made e.pass)
+    (Looks-held {place = Next (id_in (g.L.Links.seat d c.args.p.now).slots c.args.tail.now)} e.looked c.in-Stable-default-Some.field-1-is)
+    c.requires.named.linked
 
 pub link_behind-requires : goal.link_behind-requires
 link_behind-requires g c =
-    let d = c.args.links.now in
-    let n = g.L.Links.numbers d in
-    let s = g.L.Links.seat d c.args.p.now in
-    let tail = c.args.tail.now in
-    let id = id_in s.slots tail in
-    let node = c.args.node.now in
-    let job = c.args.job in
-    let kp = c.requires.pass in
-    let ks = known n (g.L.Links.opening d) s.seen c.requires.made (g.met.L.Links.opens d c.args.p.now kp) (g.met.L.Links.allowed d c.args.p.now kp)
-    (g.met.L.Links.obeys d c.args.p.now kp) in
-    let a = g.L.Links.seat d c.look.new.p in
+    let f = ended g (goal.at.link_behind-requires g c).In-Stable-default-None in
+    let a = g.L.Links.seat c.args.links.now c.look.new.p in
     let e = c.in-Stable-default-None.ensures in
-    let all = g.met.L.Links.allowed d c.look.new.p e.pass in
-    let l = Looks-null {place = Next id} e.looked c.in-Stable-default-None.field-1-is in
-    let p = next_null n s a id _ ks c.requires.named.linked all l in
     record {
       pass = e.pass;
       made = c.requires.made;
       tail = search rules;
-      node = node_seen n job id node s a a ks c.requires.named l.slots e.looked.fresh p all all c.requires.node;
-      named = subst (λ (z : Slots). WasNamed (heap_of n a) 1 (id_in z tail)) (sym l.slots) (named_puts n s a _ p all 1 id c.requires.named);
+      node = node_seen _ c.args.job _ c.args.node.now _ _ a f.before c.requires.named f.slots e.looked.fresh f.puts f.after.all f.after.all c.requires.node;
+      named = null_named _ _ _ 1 c.args.tail.now f c.requires.named;
     }
 
 pub returns-in-Stable-default-None-clause-put : goal.returns-in-Stable-default-None-clause-put
 returns-in-Stable-default-None-clause-put g c =
+    let f = ended g (goal.at.returns-in-Stable-default-None-clause-put g c).In-Stable-default-None in
     let d = c.args.links.now in
     let n = g.L.Links.numbers d in
     let s = g.L.Links.seat d c.args.p.now in
+    let a = g.L.Links.seat d c.look.new.p in
+    let t = g.L.Links.seat d c.link_behind.new.p in
     let tail = c.args.tail.now in
-    let id = id_in s.slots tail in
     let node = c.args.node.now in
     let job = c.args.job in
-    let kp = c.requires.pass in
-    let ks = known n (g.L.Links.opening d) s.seen c.requires.made (g.met.L.Links.opens d c.args.p.now kp) (g.met.L.Links.allowed d c.args.p.now kp)
-    (g.met.L.Links.obeys d c.args.p.now kp) in
-    let a = g.L.Links.seat d c.look.new.p in
-    let e = c.in-Stable-default-None.ensures in
-    let all = g.met.L.Links.allowed d c.look.new.p e.pass in
-    let l = Looks-null {place = Next id} e.looked c.in-Stable-default-None.field-1-is in
-    let p = next_null n s a id _ ks c.requires.named.linked all l in
-    let t = g.L.Links.seat d c.link_behind.new.p in
-    let all_t = g.met.L.Links.allowed d c.link_behind.new.p c.link_behind.ensures.pass in
-    let linked =
-    subst (λ (z : Slots). LinksBehind n 3 (SwingsLast (id_in z tail)) job (id_in z tail) node a c.link_behind.result t) l.slots
-    c.link_behind.ensures.linked in
-    behind_null n job id node s a t ks c.requires.named l.slots e.looked.fresh p all all_t c.link_behind.result linked
+    let turn = c.link_behind.result in
+    let e = c.link_behind.ensures in
+    let linked = subst (λ (z : Slots). LinksBehind n 3 (SwingsLast (id_in z tail)) job (id_in z tail) node a turn t) f.slots e.linked in
+    behind_null n job (id_in s.slots tail) node s a t f.before c.requires.named f.slots c.in-Stable-default-None.ensures.looked.fresh f.puts f.after.all
+    (g.met.L.Links.allowed d c.link_behind.new.p e.pass) turn linked
 
 pub help_tail-requires : goal.help_tail-requires
 help_tail-requires g c =
-    let d = c.args.links.now in
-    let n = g.L.Links.numbers d in
-    let s = g.L.Links.seat d c.args.p.now in
-    let tail = c.args.tail.now in
-    let id = id_in s.slots tail in
-    let kp = c.requires.pass in
-    let ks = known n (g.L.Links.opening d) s.seen c.requires.made (g.met.L.Links.opens d c.args.p.now kp) (g.met.L.Links.allowed d c.args.p.now kp)
-    (g.met.L.Links.obeys d c.args.p.now kp) in
-    let a = g.L.Links.seat d c.look.new.p in
-    let e = c.in-Stable-default-Some.ensures in
-    let all = g.met.L.Links.allowed d c.look.new.p e.pass in
-    let next = c.in-Stable-default-Some.next in
-    let x = next_held n s a id 3 _ next ks c.requires.named.linked all (Looks-held {place = Next id} e.looked c.in-Stable-default-Some.field-1-is) in
-    let tail_id = slot_other_id s a 3 x.next next c.requires.slot x.in_slot tail c.requires.tail in
-    let next_id = slot_id s a 3 x.next next c.requires.slot x.in_slot in
+    let f = found g (goal.at.help_tail-requires g c).In-Stable-default-Some in
     record {
-      pass = e.pass;
+      pass = c.in-Stable-default-Some.ensures.pass;
       made = c.requires.made;
-      held = (slot_other s a 3 x.next next c.requires.slot x.in_slot tail c.requires.tail, slot_holds s a 3 x.next next c.requires.slot x.in_slot);
-      successor = subst (λ (i : ℕ). HasLink (heap_of n a) i (link_to (id_in a.slots next))) (sym tail_id)
-          (subst (λ (i : ℕ). HasLink (heap_of n a) id (link_to i)) (sym next_id) x.link);
+      held = (found_other f.node c.args.tail.now c.requires.tail, found_holds f.node);
+      successor = next_link _ _ _ _ c.args.tail.now _ c.requires.tail f;
     }
 
 pub release-requires-clause-held : goal.release-requires-clause-held
 release-requires-clause-held g c =
-    let d = c.args.links.now in
-    let n = g.L.Links.numbers d in
-    let s = g.L.Links.seat d c.args.p.now in
-    let tail = c.args.tail.now in
-    let id = id_in s.slots tail in
-    let kp = c.requires.pass in
-    let ks = known n (g.L.Links.opening d) s.seen c.requires.made (g.met.L.Links.opens d c.args.p.now kp) (g.met.L.Links.allowed d c.args.p.now kp)
-    (g.met.L.Links.obeys d c.args.p.now kp) in
-    let a = g.L.Links.seat d c.look.new.p in
-    let e = c.in-Stable-default-Some.ensures in
-    let all = g.met.L.Links.allowed d c.look.new.p e.pass in
-    let next = c.in-Stable-default-Some.next in
-    let x = next_held n s a id 3 _ next ks c.requires.named.linked all (Looks-held {place = Next id} e.looked c.in-Stable-default-Some.field-1-is) in
-    subst (λ (z : Slots). Holds z next) (sym c.help_tail.ensures.helped.slots) (slot_holds s a 3 x.next next c.requires.slot x.in_slot)
+    found_kept (found g (goal.at.release-requires-clause-held g c).In-Stable-default-Some).node c.help_tail.ensures.helped.slots
 
 pub returns-in-Stable-default-Some-clause-put : goal.returns-in-Stable-default-Some-clause-put
 returns-in-Stable-default-Some-clause-put g c =
+    let f = found g (goal.at.returns-in-Stable-default-Some-clause-put g c).In-Stable-default-Some in
     let d = c.args.links.now in
-    let n = g.L.Links.numbers d in
-    let s = g.L.Links.seat d c.args.p.now in
-    let tail = c.args.tail.now in
-    let id = id_in s.slots tail in
-    let node = c.args.node.now in
-    let job = c.args.job in
-    let kp = c.requires.pass in
-    let ks = known n (g.L.Links.opening d) s.seen c.requires.made (g.met.L.Links.opens d c.args.p.now kp) (g.met.L.Links.allowed d c.args.p.now kp)
-    (g.met.L.Links.obeys d c.args.p.now kp) in
-    let a = g.L.Links.seat d c.look.new.p in
     let e = c.in-Stable-default-Some.ensures in
-    let all = g.met.L.Links.allowed d c.look.new.p e.pass in
-    let next = c.in-Stable-default-Some.next in
-    let ka = known n (g.L.Links.opening d) a.seen c.requires.made (g.met.L.Links.opens d c.look.new.p e.pass) all (g.met.L.Links.obeys d c.look.new.p e.pass) in
-    let x = next_held n s a id 3 _ next ks c.requires.named.linked all (Looks-held {place = Next id} e.looked c.in-Stable-default-Some.field-1-is) in
-    let tail_id = slot_other_id s a 3 x.next next c.requires.slot x.in_slot tail c.requires.tail in
-    let next_id = slot_id s a 3 x.next next c.requires.slot x.in_slot in
-    let b = g.L.Links.seat d c.help_tail.new.p in
-    let t = g.L.Links.seat d c.release.new.p in
-    let helped = subst (λ (i : ℕ). Helps i x.next a b) tail_id (subst (λ (i : ℕ). Helps (id_in a.slots tail) i a b) next_id c.help_tail.ensures.helped) in
-    let released = c.release.ensures.released in
-    let all_t = g.met.L.Links.allowed d c.release.new.p c.release.ensures.pass in
-    let linked = successor_linked n a.seen id x.next ka.holds x.link in
-    let same = ap (λ (z : Slots). id_in z next) c.help_tail.ensures.helped.slots ∙ next_id in
-    let linked_b = linked_helped n a b id x.next helped (g.met.L.Links.allowed d c.help_tail.new.p c.help_tail.ensures.pass) x.next linked in
-    let fresh = release_fresh n b t next (λ i is. g.met.L.Links.fresh_is d c.help_tail.new.p i c.help_tail.ensures.pass is)
-    (subst (λ (i : ℕ). IsLinkedNode (heap_of n b) i) (sym same) linked_b) released in
-    let slots = slot_released s a 3 x.next next c.requires.slot x.in_slot b t c.help_tail.ensures.helped.slots released in
-    let apart = fresh_apart n job x.next node s a c.requires.node e.looked.fresh (λ i is. g.met.L.Links.fresh_is d c.look.new.p i e.pass is) linked in
-    behind_held n job id x.next node s a b t ks ka c.requires.named c.requires.node x.puts x.link helped released.puts slots
-    (fresh ∙ (c.help_tail.ensures.helped.fresh ∙ e.looked.fresh)) all_t apart
+    let h = c.help_tail.ensures in
+    let untouched = g.met.L.Links.fresh_is d in
+    behind_found c.args.tail.now f (g.met.L.Links.allowed d c.help_tail.new.p h.pass) (g.met.L.Links.allowed d c.release.new.p c.release.ensures.pass)
+    c.requires.named c.requires.node c.requires.tail e.looked.fresh (λ i is. untouched c.look.new.p i e.pass is)
+    (λ i is. untouched c.help_tail.new.p i h.pass is) h.helped c.release.ensures.released
 
 pub returns-in-Moved-clause-put : goal.returns-in-Moved-clause-put
 returns-in-Moved-clause-put g c =
     let d = c.args.links.now in
-    let n = g.L.Links.numbers d in
     let s = g.L.Links.seat d c.args.p.now in
-    let tail = c.args.tail.now in
-    let id = id_in s.slots tail in
-    let node = c.args.node.now in
-    let job = c.args.job in
-    let kp = c.requires.pass in
-    let ks = known n (g.L.Links.opening d) s.seen c.requires.made (g.met.L.Links.opens d c.args.p.now kp) (g.met.L.Links.allowed d c.args.p.now kp)
-    (g.met.L.Links.obeys d c.args.p.now kp) in
-    let a = g.L.Links.seat d c.look.new.p in
     let e = c.in-Moved.ensures in
-    let ka = known n (g.L.Links.opening d) a.seen c.requires.made (g.met.L.Links.opens d c.look.new.p e.pass)
-    (g.met.L.Links.allowed d c.look.new.p e.pass) (g.met.L.Links.obeys d c.look.new.p e.pass) in
     let r = e.looked.tells in
-    behind_moved n job id node s a r.0 r.1 ks ka c.requires.named c.requires.node r.2 r.3 e.looked.fresh r.4
+    let known = pass_known g.L.Links g.met.L.Links.opens g.met.L.Links.allowed g.met.L.Links.obeys d in
+    behind_moved (g.L.Links.numbers d) c.args.job (id_in s.slots c.args.tail.now) c.args.node.now s (g.L.Links.seat d c.look.new.p) r.0 r.1
+    (known c.args.p.now c.requires.made c.requires.pass) (known c.look.new.p c.requires.made e.pass) c.requires.named c.requires.node r.2 r.3
+    e.looked.fresh r.4

@@ -3,7 +3,7 @@ use Rattle.std.proofs.Common.{rules, arith}
 use Rattle.orc_heap.specs.Slots.{id_in}
 use Rattle.orc_fifo_rule.proofs.Coming.{swing_allowed}
 use Rattle.orc_fifo_rule.specs.Laws.Paths.{successor_linked}
-use Rattle.orc_queue.proofs.Filled.{known}
+use Rattle.orc_queue.proofs.Holding.{pass_known}
 use Rattle.orc_queue.proofs.Looking.{roots_there}
 use Rattle.orc_queue.proofs.Pieces.{helps}
 use Rattle.orc_queue.proofs.swings.help_tail.Goals as goal
@@ -14,9 +14,7 @@ change-done-requires g c =
     let d = c.args.links.now in
     let n = g.L.Links.numbers d in
     let s = g.L.Links.seat d c.args.p.now in
-    let pass = c.requires.pass in
-    let k = known n (g.L.Links.opening d) s.seen c.requires.made (g.met.L.Links.opens d c.args.p.now pass) (g.met.L.Links.allowed d c.args.p.now pass)
-    (g.met.L.Links.obeys d c.args.p.now pass) in
+    let k = pass_known g.L.Links g.met.L.Links.opens g.met.L.Links.allowed g.met.L.Links.obeys d c.args.p.now c.requires.made c.requires.pass in
     record {
       pass = search rules;
       linked = search rules;
@@ -30,10 +28,8 @@ returns-clause-helped g c =
     let d = c.args.links.now in
     let n = g.L.Links.numbers d in
     let s = g.L.Links.seat d c.args.p.now in
-    let t = g.L.Links.seat d c.change-done.new.p in
     let pass = c.requires.pass in
-    let linked =
-    successor_linked n s.seen (id_in s.slots c.args.tail.now) (id_in s.slots c.args.next.now)
-    (g.met.L.Links.obeys d c.args.p.now pass) c.requires.successor in
-    helps n s t c.args.tail c.args.next c.change-done.result
-    (linked_not_fresh n s (id_in s.slots c.args.next.now) (λ i e. g.met.L.Links.fresh_is d c.args.p.now i pass e) linked) c.change-done.ensures.swung
+    let next = id_in s.slots c.args.next.now in
+    let linked = successor_linked n s.seen _ next (g.met.L.Links.obeys d c.args.p.now pass) c.requires.successor in
+    helps n s _ c.args.tail c.args.next c.change-done.result (linked_not_fresh n s next (λ i e. g.met.L.Links.fresh_is d c.args.p.now i pass e) linked)
+    c.change-done.ensures.swung

@@ -10,7 +10,7 @@ use Rattle.orc_history.specs.declared.queue.QueueEntry.TheVariants.{Empty}
 use Rattle.orc_fifo_rule.proofs.Coming.{empty_allowed}
 use Rattle.orc_fifo_rule.specs.declared.fifo.FifoNote.TheVariants.{Entry}
 use Rattle.orc_fifo_rule.specs.QueueDiscipline.{FifoMay}
-use Rattle.orc_queue.proofs.Filled.{known}
+use Rattle.orc_queue.proofs.Holding.{pass_known}
 use Rattle.orc_queue.proofs.Taking.{end_found}
 use Rattle.orc_queue.proofs.take.finds_end.Goals as goal
 
@@ -19,21 +19,15 @@ same-requires-clause-allowed g c =
     let d = c.args.links.now in
     let n = g.L.Links.numbers d in
     let s = g.L.Links.seat d c.args.p.now in
-    let head = c.args.head in
-    let id = id_in s.slots head.now in
-    let kp = c.requires.pass in
-    let ks = known n (g.L.Links.opening d) s.seen c.requires.made (g.met.L.Links.opens d c.args.p.now kp) (g.met.L.Links.allowed d c.args.p.now kp)
-    (g.met.L.Links.obeys d c.args.p.now kp) in
+    let id = id_in s.slots c.args.head.now in
+    let known = pass_known g.L.Links g.met.L.Links.opens g.met.L.Links.allowed g.met.L.Links.obeys d c.args.p.now c.requires.made c.requires.pass in
     subst (λ (x : ℕ). AllowedLater (FifoMay n) n s.agent s.seen (Next id) null (event_of s (Look (Next id) null) (Some (Entry (Empty x)))))
     (sym c.agent-agent.ensures)
-    (empty_allowed n s.agent id s.seen ks.holds ks.dummy.begun c.requires.named)
+    (empty_allowed n s.agent id s.seen known.holds known.dummy.begun c.requires.named)
 
 pub returns-clause-found : goal.returns-clause-found
 returns-clause-found g c =
     let d = c.args.links.now in
-    let n = g.L.Links.numbers d in
-    let s = g.L.Links.seat d c.args.p.now in
-    let head = c.args.head in
-    let t = g.L.Links.seat d c.same.new.p in
-    end_found n s t head c.agent-agent.result c.same.result c.agent-agent.ensures c.requires.named.linked
-    (g.met.L.Links.allowed d c.same.new.p c.same.ensures.pass) c.same.ensures.tested
+    let e = c.same.ensures in
+    end_found (g.L.Links.numbers d) _ _ c.args.head c.agent-agent.result c.same.result c.agent-agent.ensures c.requires.named.linked
+    (g.met.L.Links.allowed d c.same.new.p e.pass) e.tested

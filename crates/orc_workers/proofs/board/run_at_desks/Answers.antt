@@ -10,7 +10,8 @@ use Rattle.orc_workers.proofs.board.run_at_desks.Goals as goal
 
 pub seat-waiting-requires-clause-agents : goal.seat-waiting-requires-clause-agents
 seat-waiting-requires-clause-agents g c =
-    fresh_agents g.Q.SharedQueue g.S.SharedSet c.args.queue.now c.args.set.now 1 _ (fresh_rest g.Q.SharedQueue g.S.SharedSet c.args.queue.now c.args.set.now 0 _ _ c.remove-desk.ensures.items c.requires.desks)
+    fresh_agents g.Q.SharedQueue g.S.SharedSet c.args.queue.now c.args.set.now 1 _
+    (fresh_rest g.Q.SharedQueue g.S.SharedSet c.args.queue.now c.args.set.now 0 _ _ c.remove-desk.ensures.items c.requires.desks)
 
 pub run_seated-desk-requires-clause-room : goal.run_seated-desk-requires-clause-room
 run_seated-desk-requires-clause-room g c κs within =
@@ -28,20 +29,26 @@ run_seated-desk-requires-clause-count g c κs within =
 
 pub run_seated-desk-requires-clause-ready : goal.run_seated-desk-requires-clause-ready
 run_seated-desk-requires-clause-ready g c κs within =
-    let r = seats_ready g.Q.SharedQueue g.S.SharedSet c.args.queue.now c.args.set.now c.args.lines.now c.args.posters _ _ c.args.desks.now.items c.remove-desk.new.self.items _ _
-    c.requires.good c.len-2.ensures c.count_posts.ensures c.requires.desks c.remove-desk.ensures.items c.in_ok-rooms.ensures.rooms c.seat-waiting.ensures.seated in
+    let r = seats_ready g.Q.SharedQueue g.S.SharedSet c.args.queue.now c.args.set.now c.args.lines.now c.args.posters _ _ c.args.desks.now.items
+    c.remove-desk.new.self.items _ _
+    c.requires.good c.len-2.ensures c.count_posts.ensures c.requires.desks c.remove-desk.ensures.items c.in_ok-rooms.ensures.rooms
+    c.seat-waiting.ensures.seated in
     r.ready
 
 pub run_seated-desk-requires-clause-begin : goal.run_seated-desk-requires-clause-begin
 run_seated-desk-requires-clause-begin g c κs within =
-    let r = seats_ready g.Q.SharedQueue g.S.SharedSet c.args.queue.now c.args.set.now c.args.lines.now c.args.posters _ _ c.args.desks.now.items c.remove-desk.new.self.items _ _
-    c.requires.good c.len-2.ensures c.count_posts.ensures c.requires.desks c.remove-desk.ensures.items c.in_ok-rooms.ensures.rooms c.seat-waiting.ensures.seated in
+    let r = seats_ready g.Q.SharedQueue g.S.SharedSet c.args.queue.now c.args.set.now c.args.lines.now c.args.posters _ _ c.args.desks.now.items
+    c.remove-desk.new.self.items _ _
+    c.requires.good c.len-2.ensures c.count_posts.ensures c.requires.desks c.remove-desk.ensures.items c.in_ok-rooms.ensures.rooms
+    c.seat-waiting.ensures.seated in
     r.begin
 
 pub run_seated-desk-requires-clause-numbered : goal.run_seated-desk-requires-clause-numbered
 run_seated-desk-requires-clause-numbered g c κs within =
-    let r = seats_ready g.Q.SharedQueue g.S.SharedSet c.args.queue.now c.args.set.now c.args.lines.now c.args.posters _ _ c.args.desks.now.items c.remove-desk.new.self.items _ _
-    c.requires.good c.len-2.ensures c.count_posts.ensures c.requires.desks c.remove-desk.ensures.items c.in_ok-rooms.ensures.rooms c.seat-waiting.ensures.seated in
+    let r = seats_ready g.Q.SharedQueue g.S.SharedSet c.args.queue.now c.args.set.now c.args.lines.now c.args.posters _ _ c.args.desks.now.items
+    c.remove-desk.new.self.items _ _
+    c.requires.good c.len-2.ensures c.count_posts.ensures c.requires.desks c.remove-desk.ensures.items c.in_ok-rooms.ensures.rooms
+    c.seat-waiting.ensures.seated in
     r.numbered
 
 pub hand_back-requires-clause-desks : goal.hand_back-requires-clause-desks
@@ -57,7 +64,8 @@ append-requires g c =
     let rooms : length c.in_ok-rooms.field-0.rooms.items ≡ length c.remove-desk.new.self.items = search rules in
     let all : length c.seat-waiting.result.items ≡ length c.remove-desk.new.self.items = ap length c.seat-waiting.ensures.seated ∙ seated_length 1 _ _ rooms in
     let many : length c.run_seated-desk.result.workers.items ≡ c.args.posters + c.args.takers = search rules in
-    let few = few_replies g.Q.SharedQueue g.S.SharedSet c.args.queue.now c.args.set.now c.args.lines.now c.args.posters c.args.takers c.run_seated-desk.result.desk c.run_seated-desk.result.takes.items c.run_seated-desk.result.workers.items
+    let few = few_replies g.Q.SharedQueue g.S.SharedSet c.args.queue.now c.args.set.now c.args.lines.now c.args.posters c.args.takers
+    c.run_seated-desk.result.desk c.run_seated-desk.result.takes.items c.run_seated-desk.result.workers.items
     c.requires.posters c.requires.good.few c.requires.first many c.run_seated-desk.ensures.back in
     omega (arith, few.1, c.in_ok-rooms.ensures.take_room, c.len-2.ensures)
 
@@ -67,7 +75,8 @@ hand_back-requires-clause-posts g c =
     let rooms : length c.in_ok-rooms.field-0.rooms.items ≡ length c.remove-desk.new.self.items = search rules in
     let all : length c.seat-waiting.result.items ≡ length c.remove-desk.new.self.items = ap length c.seat-waiting.ensures.seated ∙ seated_length 1 _ _ rooms in
     let many : length c.run_seated-desk.result.workers.items ≡ c.args.posters + c.args.takers = search rules in
-    let few = few_replies g.Q.SharedQueue g.S.SharedSet c.args.queue.now c.args.set.now c.args.lines.now c.args.posters c.args.takers c.run_seated-desk.result.desk c.run_seated-desk.result.takes.items c.run_seated-desk.result.workers.items
+    let few = few_replies g.Q.SharedQueue g.S.SharedSet c.args.queue.now c.args.set.now c.args.lines.now c.args.posters c.args.takers
+    c.run_seated-desk.result.desk c.run_seated-desk.result.takes.items c.run_seated-desk.result.workers.items
     c.requires.posters c.requires.good.few c.requires.first many c.run_seated-desk.ensures.back in
     omega (arith, few.0, c.in_ok-rooms.ensures.post_room, c.len-2.ensures)
 
@@ -77,7 +86,8 @@ hand_back-requires-clause-takes g c =
     let rooms : length c.in_ok-rooms.field-0.rooms.items ≡ length c.remove-desk.new.self.items = search rules in
     let all : length c.seat-waiting.result.items ≡ length c.remove-desk.new.self.items = ap length c.seat-waiting.ensures.seated ∙ seated_length 1 _ _ rooms in
     let many : length c.run_seated-desk.result.workers.items ≡ c.args.posters + c.args.takers = search rules in
-    let few = few_replies g.Q.SharedQueue g.S.SharedSet c.args.queue.now c.args.set.now c.args.lines.now c.args.posters c.args.takers c.run_seated-desk.result.desk c.run_seated-desk.result.takes.items c.run_seated-desk.result.workers.items
+    let few = few_replies g.Q.SharedQueue g.S.SharedSet c.args.queue.now c.args.set.now c.args.lines.now c.args.posters c.args.takers
+    c.run_seated-desk.result.desk c.run_seated-desk.result.takes.items c.run_seated-desk.result.workers.items
     c.requires.posters c.requires.good.few c.requires.first many c.run_seated-desk.ensures.back in
     omega (arith, few.1, c.in_ok-rooms.ensures.take_room, c.len-2.ensures, c.append.ensures.spare)
 
@@ -87,13 +97,23 @@ returns g c =
     let rooms : length c.in_ok-rooms.field-0.rooms.items ≡ length c.remove-desk.new.self.items = search rules in
     let all : length c.seat-waiting.result.items ≡ length c.remove-desk.new.self.items = ap length c.seat-waiting.ensures.seated ∙ seated_length 1 _ _ rooms in
     let many : length c.run_seated-desk.result.workers.items ≡ c.args.posters + c.args.takers = search rules in
-    let first : c.push.new.self.items ≡ c.run_seated-desk.result.desk ∷ [] = c.in-Ok.ensures.items ∙ ap (λ (xs : List (Desk g.row.Q-Pass.Denot g.row.S-Pass.Denot)). xs ++ c.run_seated-desk.result.desk ∷ []) c.seat-waiting.ensures.none in
-    let desks : c.hand_back.new.desks.items ≡ (c.run_seated-desk.result.desk ∷ []) ++ map (λ (w : Worker g.row.Q-Pass.Denot g.row.S-Pass.Denot). w.desk) c.run_seated-desk.result.workers.items =
-    c.hand_back.ensures.desks ∙ ap (λ (xs : List (Desk g.row.Q-Pass.Denot g.row.S-Pass.Denot)). xs ++ map (λ (w : Worker g.row.Q-Pass.Denot g.row.S-Pass.Denot). w.desk) c.run_seated-desk.result.workers.items) first in
-    let posts = c.hand_back.ensures.posts ∙ ap (λ (xs : List PostReply). xs ++ all_of (λ (w : Worker g.row.Q-Pass.Denot g.row.S-Pass.Denot). w.posts.items) c.run_seated-desk.result.workers.items) c.in_ok-rooms.ensures.no_posts in
-    let takes = c.hand_back.ensures.takes ∙ ap (λ (xs : List TakeReply). xs ++ all_of (λ (w : Worker g.row.Q-Pass.Denot g.row.S-Pass.Denot). w.takes.items) c.run_seated-desk.result.workers.items)
+    let first : c.push.new.self.items ≡ c.run_seated-desk.result.desk ∷ [] =
+    c.in-Ok.ensures.items
+    ∙ ap (λ (xs : List (Desk g.row.Q-Pass.Denot g.row.S-Pass.Denot)). xs ++ c.run_seated-desk.result.desk ∷ []) c.seat-waiting.ensures.none in
+    let desks : c.hand_back.new.desks.items ≡ (c.run_seated-desk.result.desk ∷ []) ++ map (λ (w : Worker g.row.Q-Pass.Denot g.row.S-Pass.Denot). w.desk)
+    c.run_seated-desk.result.workers.items =
+    c.hand_back.ensures.desks
+    ∙ ap (λ (xs : List (Desk g.row.Q-Pass.Denot g.row.S-Pass.Denot)). xs ++ map (λ (w : Worker g.row.Q-Pass.Denot g.row.S-Pass.Denot). w.desk)
+    c.run_seated-desk.result.workers.items) first in
+    let posts = c.hand_back.ensures.posts
+    ∙ ap (λ (xs : List PostReply). xs ++ all_of (λ (w : Worker g.row.Q-Pass.Denot g.row.S-Pass.Denot). w.posts.items)
+    c.run_seated-desk.result.workers.items) c.in_ok-rooms.ensures.no_posts in
+    let takes = c.hand_back.ensures.takes
+    ∙ ap (λ (xs : List TakeReply). xs ++ all_of (λ (w : Worker g.row.Q-Pass.Denot g.row.S-Pass.Denot). w.takes.items)
+    c.run_seated-desk.result.workers.items)
     (c.append.ensures.items ∙ ap (λ (xs : List TakeReply). xs ++ c.run_seated-desk.result.takes.items) c.in_ok-rooms.ensures.no_takes) in
-    let over = over_of g.Q.SharedQueue g.S.SharedSet c.args.queue.now c.args.set.now c.args.lines.now c.args.posters c.args.takers c.run_seated-desk.result.desk c.run_seated-desk.result.takes.items c.run_seated-desk.result.workers.items _ _ _
+    let over = over_of g.Q.SharedQueue g.S.SharedSet c.args.queue.now c.args.set.now c.args.lines.now c.args.posters c.args.takers
+    c.run_seated-desk.result.desk c.run_seated-desk.result.takes.items c.run_seated-desk.result.workers.items _ _ _
     c.requires.posters c.requires.good.few c.requires.first many c.run_seated-desk.ensures.back desks posts takes in
     record {
       idle = over.idle;

@@ -40,9 +40,13 @@ returns-clause-back g c =
     } in
     let known : IsKnown g.Q.SharedQueue g.S.SharedSet queue set (suc (c.args.posters + c.args.takers)) (suc (c.args.posters + c.args.takers)) d3 =
     known_as g.Q.SharedQueue g.S.SharedSet queue set _ _ _ _ d3 (omega (arith, c.requires.agents.0)) (omega (arith, c.requires.agents.1)) e3.known in
-    let taking = subst (λ (a : ℕ). TakingRest qv sv c.args.lines.now 0 a c.take_rest.new.replies.items (g.Q.SharedQueue.journal d1.queue) (g.S.SharedSet.journal d1.set) (g.Q.SharedQueue.journal c.take_rest.new.desk.queue) (g.S.SharedSet.journal c.take_rest.new.desk.set)) e1.desk.queue_agent c.take_rest.ensures.taking in
-    let last = rest_last qv _ (length c.args.lines.now) (length c.take_rest.new.replies.items) c.take_rest.new.replies.spare c.args.takes.spare _ c.take_rest.result e1.desk.queue_agent c.take_rest.ensures.empty c.take_rest.ensures.full c.requires.enough c.take_rest.ensures.spare in
-    came_back g.Q.SharedQueue g.S.SharedSet queue set c.args.lines.now c.args.posters c.args.takers c.args.desk d1 c.take_rest.new.desk d3 c.take_rest.new.replies.items _ _ _ _
+    let taking = subst (λ (a : ℕ). TakingRest qv sv c.args.lines.now 0 a c.take_rest.new.replies.items (g.Q.SharedQueue.journal d1.queue)
+    (g.S.SharedSet.journal d1.set) (g.Q.SharedQueue.journal c.take_rest.new.desk.queue) (g.S.SharedSet.journal c.take_rest.new.desk.set))
+    e1.desk.queue_agent c.take_rest.ensures.taking in
+    let last = rest_last qv _ (length c.args.lines.now) (length c.take_rest.new.replies.items) c.take_rest.new.replies.spare c.args.takes.spare _
+    c.take_rest.result e1.desk.queue_agent c.take_rest.ensures.empty c.take_rest.ensures.full c.requires.enough c.take_rest.ensures.spare in
+    came_back g.Q.SharedQueue g.S.SharedSet queue set c.args.lines.now c.args.posters c.args.takers c.args.desk d1 c.take_rest.new.desk d3
+    c.take_rest.new.replies.items _ _ _ _
     laws below1 below3 c.requires.desk.queue_new c.requires.desk.set_new c.requires.numbered c.requires.count c.requires.begin
     (team_each _ _ _ _ c.requires.room.1 c.run_workers-workers.ensures.team)
     e1.queue e1.set e1.same taking last e3.queue e3.set e3.same e3.desk known e3.others

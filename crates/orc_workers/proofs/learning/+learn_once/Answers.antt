@@ -13,7 +13,8 @@ returns-clause-queue g t c =
     = IsOther g.Q.SharedQueue g.S.SharedSet c.args.queue.now c.args.set.now c.args.me in
     let others : AllByRecursion P (c.in-Some.first.now ∷ c.in-Some.rest.now)
     = subst (λ (xs : List (Worker g.row.Q-Pass.Denot g.row.S-Pass.Denot)). AllByRecursion P xs) c.in-Some.ensures.cases.0 c.requires.others in
-    Learned-at (g.Q.SharedQueue.history c.args.queue.now) agent_of_entry _ _ _ _ _ _ _ _ _ _ _ _ _ _ c.in-Some.ensures.cases.0 c.requires.desk.queue_agent others.0.desk.queue_agent c.learn.ensures.learned refl refl c.learn_once.ensures.queue
+    Learned-at (g.Q.SharedQueue.history c.args.queue.now) agent_of_entry _ _ _ _ _ _ _ _ _ _ _ _ _ _ c.in-Some.ensures.cases.0 c.requires.desk.queue_agent
+    others.0.desk.queue_agent c.learn.ensures.learned refl refl c.learn_once.ensures.queue
 
 pub returns-clause-set : goal.returns-clause-set
 returns-clause-set g t c =
@@ -21,4 +22,5 @@ returns-clause-set g t c =
     = IsOther g.Q.SharedQueue g.S.SharedSet c.args.queue.now c.args.set.now c.args.me in
     let others : AllByRecursion P (c.in-Some.first.now ∷ c.in-Some.rest.now)
     = subst (λ (xs : List (Worker g.row.Q-Pass.Denot g.row.S-Pass.Denot)). AllByRecursion P xs) c.in-Some.ensures.cases.0 c.requires.others in
-    Learned-at (g.S.SharedSet.history c.args.set.now) agent_of_set_entry _ _ _ _ _ _ _ _ _ _ _ _ _ _ c.in-Some.ensures.cases.0 c.requires.desk.set_agent others.0.desk.set_agent c.learn-2.ensures.learned refl refl c.learn_once.ensures.set
+    Learned-at (g.S.SharedSet.history c.args.set.now) agent_of_set_entry _ _ _ _ _ _ _ _ _ _ _ _ _ _ c.in-Some.ensures.cases.0 c.requires.desk.set_agent
+    others.0.desk.set_agent c.learn-2.ensures.learned refl refl c.learn_once.ensures.set

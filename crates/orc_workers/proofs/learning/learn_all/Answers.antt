@@ -7,7 +7,8 @@ use Rattle.orc_workers.proofs.learning.learn_all.Goals as goal
 pub returns-clause-same : goal.returns-clause-same
 returns-clause-same g c =
     Pointwise-through SameWorker SameWorker SameWorker _ _ _
-    (λ x y z r s. record { agent_is = s.agent_is ∙ r.agent_is; posts_are = s.posts_are ∙ r.posts_are; takes_are = s.takes_are ∙ r.takes_are }) c.learn_once.ensures.same c.learn_once-2.ensures.same
+    (λ x y z r s. record { agent_is = s.agent_is ∙ r.agent_is; posts_are = s.posts_are ∙ r.posts_are; takes_are = s.takes_are ∙ r.takes_are })
+    c.learn_once.ensures.same c.learn_once-2.ensures.same
 
 pub returns-clause-queue : goal.returns-clause-queue
 returns-clause-queue g c = Learned-twice _ _ _ _ _ _ _ _ _ _ c.learn_once.ensures.queue c.learn_once-2.ensures.queue

@@ -8,7 +8,8 @@ loop-index-preserved c =
     let at : c.loop-index.index + 1 ≡ 1 + length c.loop-index.rooms.items = omega (arith, c.loop-index.invariant.many) in
     let one : IsRoom c.args.posters c.args.lines c.args.posts (1 + length c.loop-index.rooms.items) c.in_ok-reserve_room.field-0
     = subst (λ n. IsRoom c.args.posters c.args.lines c.args.posts n c.in_ok-reserve_room.field-0) at c.in_ok-reserve_room.ensures in
-    let more = AreRooms-snoc c.args.posters c.args.lines c.args.posts 1 c.loop-index.rooms.items c.in_ok-reserve_room.field-0 c.loop-index.invariant.rooms one in
+    let more = AreRooms-snoc c.args.posters c.args.lines c.args.posts 1 c.loop-index.rooms.items c.in_ok-reserve_room.field-0 c.loop-index.invariant.rooms
+    one in
     let is : c.push.new.self.items ≡ c.loop-index.rooms.items ++ c.in_ok-reserve_room.field-0 ∷ [] = search rules in
     record {
       rooms = rw is more;

@@ -14,24 +14,33 @@ loop-init g c = record {
 
 pub loop-preserved-in-Some-take_one : goal.loop-preserved-in-Some-take_one
 loop-preserved-in-Some-take_one g c = record {
-  desk = subst (λ (a : ℕ). IsDesk g.Q.SharedQueue g.S.SharedSet c.args.queue.now c.args.set.now a c.take_one.new.desk) c.loop.invariant.desk.queue_agent c.take_one.ensures.desk;
-  spare = rw c.push.ensures.items (omega (arith, c.loop.invariant.spare, c.push.ensures.spare, length-append c.loop.replies.items (c.in-Some-take_one.reply ∷ [])));
-  few = rw c.push.ensures.items (omega (arith, c.if-len-posts.false, c.len.ensures, c.count_posts-posts.ensures, length-append c.loop.replies.items (c.in-Some-take_one.reply ∷ [])));
-  taking = rw c.push.ensures.items (resting_more (queue_view g.Q.SharedQueue c.args.queue.now) (set_view g.S.SharedSet c.args.set.now) _ _ _ _ _ _ _ _ _ _ _ _ c.loop.invariant.taking c.loop.invariant.desk.queue_agent c.in-Some-take_one.ensures.reply c.in-Some-take_one.ensures.row);
+  desk = subst (λ (a : ℕ). IsDesk g.Q.SharedQueue g.S.SharedSet c.args.queue.now c.args.set.now a c.take_one.new.desk) c.loop.invariant.desk.queue_agent
+      c.take_one.ensures.desk;
+  spare = rw c.push.ensures.items
+      (omega (arith, c.loop.invariant.spare, c.push.ensures.spare, length-append c.loop.replies.items (c.in-Some-take_one.reply ∷ [])));
+  few = rw c.push.ensures.items
+      (omega (arith, c.if-len-posts.false, c.len.ensures, c.count_posts-posts.ensures, length-append c.loop.replies.items (c.in-Some-take_one.reply ∷ [])));
+  taking = rw c.push.ensures.items
+      (resting_more (queue_view g.Q.SharedQueue c.args.queue.now) (set_view g.S.SharedSet c.args.set.now) _ _ _ _ _ _ _ _ _ _ _ _ c.loop.invariant.taking
+      c.loop.invariant.desk.queue_agent c.in-Some-take_one.ensures.reply c.in-Some-take_one.ensures.row);
 }
 
 pub loop-preserved : goal.loop-preserved
 loop-preserved g c = record {
-  desk = subst (λ (a : ℕ). IsDesk g.Q.SharedQueue g.S.SharedSet c.args.queue.now c.args.set.now a c.take_one.new.desk) c.loop.invariant.desk.queue_agent c.take_one.ensures.desk;
+  desk = subst (λ (a : ℕ). IsDesk g.Q.SharedQueue g.S.SharedSet c.args.queue.now c.args.set.now a c.take_one.new.desk) c.loop.invariant.desk.queue_agent
+      c.take_one.ensures.desk;
   spare = c.loop.invariant.spare;
   few = c.loop.invariant.few;
-  taking = resting_none_more (queue_view g.Q.SharedQueue c.args.queue.now) (set_view g.S.SharedSet c.args.set.now) _ _ _ _ _ _ _ _ _ _ _ c.loop.invariant.taking c.loop.invariant.desk.queue_agent c.in-None-take_one.ensures.row;
+  taking = resting_none_more (queue_view g.Q.SharedQueue c.args.queue.now) (set_view g.S.SharedSet c.args.set.now) _ _ _ _ _ _ _ _ _ _ _
+      c.loop.invariant.taking c.loop.invariant.desk.queue_agent c.in-None-take_one.ensures.row;
 }
 
 pub returns-then-none_left-clause-taking : goal.returns-then-none_left-clause-taking
 returns-then-none_left-clause-taking g c =
-    resting_none_more (queue_view g.Q.SharedQueue c.args.queue.now) (set_view g.S.SharedSet c.args.set.now) _ _ _ _ _ _ _ _ _ _ _ c.loop.invariant.taking c.loop.invariant.desk.queue_agent c.in-None-take_one.ensures.row
+    resting_none_more (queue_view g.Q.SharedQueue c.args.queue.now) (set_view g.S.SharedSet c.args.set.now) _ _ _ _ _ _ _ _ _ _ _ c.loop.invariant.taking
+    c.loop.invariant.desk.queue_agent c.in-None-take_one.ensures.row
 
 pub returns-then-none_left-clause-last : goal.returns-then-none_left-clause-last
 returns-then-none_left-clause-last g c = λ less.
-    resting_last (queue_view g.Q.SharedQueue c.args.queue.now) (set_view g.S.SharedSet c.args.set.now) _ _ _ _ _ _ _ _ _ _ c.loop.invariant.taking c.loop.invariant.desk.queue_agent c.in-None-take_one.ensures.last
+    resting_last (queue_view g.Q.SharedQueue c.args.queue.now) (set_view g.S.SharedSet c.args.set.now) _ _ _ _ _ _ _ _ _ _ c.loop.invariant.taking
+    c.loop.invariant.desk.queue_agent c.in-None-take_one.ensures.last

@@ -6,7 +6,8 @@ abbrev pub invariant-loop-queue_pass : goal.invariant-loop-queue_pass
 invariant-loop-queue_pass g l = record {
   queue_passes : All (λ p. g.Q.SharedQueue.usable l.queue p) l.queue_passes.items;
   queue_fresh : All (λ p. g.Q.SharedQueue.history l.queue (g.Q.SharedQueue.journal p) ≡ []) l.queue_passes.items;
-  queue_agents : (i : ℕ) (p : g.row.Q-Pass.Denot) → i < length l.queue_passes.items → g.Q.SharedQueue.agent_of l.queue (slice_index_or l.queue_passes.items i p) ≡ i;
+  queue_agents : (i : ℕ) (p : g.row.Q-Pass.Denot) → i < length l.queue_passes.items
+      → g.Q.SharedQueue.agent_of l.queue (slice_index_or l.queue_passes.items i p) ≡ i;
   set_passes : All (λ p. g.S.SharedSet.usable l.set p) l.set_passes.items;
   set_fresh : All (λ p. g.S.SharedSet.history l.set (g.S.SharedSet.journal p) ≡ []) l.set_passes.items;
   set_agents : (i : ℕ) (p : g.row.S-Pass.Denot) → i < length l.set_passes.items → g.S.SharedSet.agent_of l.set (slice_index_or l.set_passes.items i p) ≡ i;

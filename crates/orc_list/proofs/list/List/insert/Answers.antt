@@ -49,8 +49,11 @@ returns g c =
       again = turns_used n agents by events adds s u j m grows is_s is_u all below 1 turns entry r did;
       gives = did_give 1 turns entry s u r did;
       tries = did_few 1 turns entry s u r did;
-      no_node = λ is. within_goes_on by s.agent (g.L.Links.lacking d s.agent) (g.met.L.Links.lacking_stays d s.agent) j k m done.later settle.later (done.lacking is);
-      absent = λ is. subst (λ z. SeesAbsent n c.args.key z u) (sym (own_call 1 turns entry s u r did)) (absent_did s t u settle.nothing n c.args.key turns r done.inserted is all);
-      spent = λ why is. within_goes_on by s.agent (g.L.Links.worn d s.agent why) (g.met.L.Links.worn_stays d s.agent why) j k m done.later settle.later (done.worn why is);
+      no_node = λ is. within_goes_on by s.agent (g.L.Links.lacking d s.agent) (g.met.L.Links.lacking_stays d s.agent) j k m done.later settle.later
+          (done.lacking is);
+      absent = λ is. subst (λ z. SeesAbsent n c.args.key z u) (sym (own_call 1 turns entry s u r did))
+          (absent_did s t u settle.nothing n c.args.key turns r done.inserted is all);
+      spent = λ why is. within_goes_on by s.agent (g.L.Links.worn d s.agent why) (g.met.L.Links.worn_stays d s.agent why) j k m done.later settle.later
+          (done.worn why is);
       settled = λ alone. settle.settled (subst (λ (x : ℕ). IsAlone by x k m) (sym keeps.1) (alone_later by s.agent j k m done.later settle.later alone));
     }

@@ -52,7 +52,8 @@ returns g c =
       tries = did_few 0 turns entry s u r did;
       off_the_chain = λ is alone none. subst (λ z. LeavesOff c.args.key z (heap_of n u)) (sym (own_call 0 turns entry s u r did))
           (off_settled s t u settle.nothing n c.args.key _ turns r done.removed is
-          (λ w. none (worn_wider (g.L.Links.worn d) s.agent s.agent j j k m (λ why xs more from to h. g.met.L.Links.worn_stays d s.agent why xs more from to h) refl ([], append-nil j) settle.later w))
+          (λ w. none (worn_wider (g.L.Links.worn d) s.agent s.agent j j k m (λ why xs more from to h. g.met.L.Links.worn_stays d s.agent why xs more from
+          to h) refl ([], append-nil j) settle.later w))
           (part_alone n agents by events adds s u j m grows is_s is_u all below did.own did.made.puts alone));
       settled = λ alone. settle.settled (subst (λ (x : ℕ). IsAlone by x k m) (sym keeps.1) (alone_later by s.agent j k m done.later settle.later alone));
     }

@@ -4,8 +4,8 @@ use Rattle.orc_heap.proofs.Pieces.{goes_on}
 use Rattle.orc_heap.proofs.Steps.{alone_later}
 use Rattle.orc_history.specs.Parts.{IsAlone}
 use Rattle.orc_queue.proofs.Answering.{put_settled}
-use Rattle.orc_queue.proofs.Causes.{any_gives, any_tries, during, put_again, put_any, put_err, put_no_turns, put_ok, put_positions, put_tail}
-use Rattle.orc_queue.proofs.Filled.{known}
+use Rattle.orc_queue.proofs.Causes.{any_gives, any_tries, call_seen, during, put_again, put_any, put_err, put_no_turns, put_ok, put_positions, put_tail}
+use Rattle.orc_queue.proofs.Holding.{pass_known}
 use Rattle.orc_queue.proofs.queue.Queue.put.Goals as goal
 
 pub returns : goal.returns
@@ -26,31 +26,25 @@ returns g c =
     let m = g.L.Links.journal c.settle.new.p in
     let grows = goes_on j k m done.later settle.later in
     let pass = c.requires.pass in
-    let is_s = g.met.L.Links.seen_is d c.args.p.now pass in
-    let is_u = g.met.L.Links.seen_is d c.settle.new.p settle.pass in
-    let all = g.met.L.Links.allowed d c.settle.new.p settle.pass in
-    let below = (g.met.L.Links.agents_below d c.settle.new.p settle.pass).1 in
-    let ks = known n (g.L.Links.opening d) s.seen c.args.self.now.made (g.met.L.Links.opens d c.args.p.now pass)
-    (g.met.L.Links.allowed d c.args.p.now pass) (g.met.L.Links.obeys d c.args.p.now pass) in
-    let agents = g.L.Links.agents d in
+    let seen = call_seen g.L.Links d c.args.p.now c.settle.new.p (g.met.L.Links.seen_is d) (g.met.L.Links.allowed d)
+    (g.met.L.Links.agents_below d c.settle.new.p settle.pass).1 (g.met.L.Links.steps_add d) pass settle.pass grows in
+    let known = pass_known g.L.Links g.met.L.Links.opens g.met.L.Links.allowed g.met.L.Links.obeys d c.args.p.now c.args.self.now.made pass in
     let by = g.L.Links.agent_of in
-    let events = g.L.Links.events d in
-    let adds = g.met.L.Links.steps_add d in
     record {
       pass = settle.pass;
       idle = any.call.idle;
       agent = any.call.puts.agent;
       later = grows;
-      put = put_ok n agents by events adds s u j m grows is_s is_u all below c.args.job c.args.turns r l;
-      none = put_err n agents by events adds s u j m grows is_s is_u all below c.args.job c.args.turns r l;
+      put = put_ok seen c.args.job c.args.turns r l;
+      none = put_err seen c.args.job c.args.turns r l;
       no_turns = λ zero. (put_no_turns n c.args.job c.args.turns s u r l zero).0;
       no_event = λ zero. (put_no_turns n c.args.job c.args.turns s u r l zero).1;
-      again = put_again n agents by events adds s u j m grows is_s is_u all below c.args.job c.args.turns r l;
+      again = put_again seen c.args.job c.args.turns r l;
       no_node = λ is. during by s.agent (g.L.Links.lacking d s.agent) (g.met.L.Links.lacking_stays d s.agent) j k m done.later settle.later (done.lacking is);
       positions = put_positions n c.args.job c.args.turns s u r l;
       gives = any_gives _ c.args.turns s u any;
       tries = omega (arith, any_tries _ c.args.turns s u any);
-      tail = put_tail n agents by events adds s u j m grows is_s is_u all below c.args.job c.args.turns r ks l;
+      tail = put_tail seen c.args.job c.args.turns r known l;
       settled = λ alone. settle.settled
           (subst (λ (x : ℕ). IsAlone by x k m) (sym before.call.puts.agent) (alone_later by s.agent j k m done.later settle.later alone));
     }

@@ -4,7 +4,7 @@ use Rattle.orc_heap.proofs.Pieces.{goes_on}
 use Rattle.orc_heap.proofs.Steps.{alone_later}
 use Rattle.orc_history.specs.Parts.{IsAlone}
 use Rattle.orc_queue.proofs.Answering.{take_settled}
-use Rattle.orc_queue.proofs.Causes.{any_gives, any_tries, take_again, take_any, take_err, take_no_turns, take_ok}
+use Rattle.orc_queue.proofs.Causes.{any_gives, any_tries, call_seen, take_again, take_any, take_err, take_no_turns, take_ok}
 use Rattle.orc_queue.proofs.queue.Queue.take.Goals as goal
 
 pub returns : goal.returns
@@ -24,24 +24,19 @@ returns g c =
     let k = g.L.Links.journal c.take_job-answer.new.p in
     let m = g.L.Links.journal c.settle.new.p in
     let grows = goes_on j k m done.later settle.later in
-    let is_s = g.met.L.Links.seen_is d c.args.p.now c.requires.pass in
-    let is_u = g.met.L.Links.seen_is d c.settle.new.p settle.pass in
-    let all = g.met.L.Links.allowed d c.settle.new.p settle.pass in
-    let below = (g.met.L.Links.agents_below d c.settle.new.p settle.pass).1 in
-    let agents = g.L.Links.agents d in
+    let seen = call_seen g.L.Links d c.args.p.now c.settle.new.p (g.met.L.Links.seen_is d) (g.met.L.Links.allowed d)
+    (g.met.L.Links.agents_below d c.settle.new.p settle.pass).1 (g.met.L.Links.steps_add d) c.requires.pass settle.pass grows in
     let by = g.L.Links.agent_of in
-    let events = g.L.Links.events d in
-    let adds = g.met.L.Links.steps_add d in
     record {
       pass = settle.pass;
       idle = any.call.idle;
       agent = any.call.puts.agent;
       later = grows;
-      took = take_ok n agents by events adds s u j m grows is_s is_u all below c.args.turns r l;
-      none = take_err n agents by events adds s u j m grows is_s is_u all below c.args.turns r l;
+      took = take_ok seen c.args.turns r l;
+      none = take_err seen c.args.turns r l;
       no_turns = λ zero. (take_no_turns c.args.turns s u r l zero).0;
       no_event = λ zero. (take_no_turns c.args.turns s u r l zero).1;
-      again = take_again n agents by events adds s u j m grows is_s is_u all below c.args.turns r l;
+      again = take_again seen c.args.turns r l;
       gives = any_gives 0 c.args.turns s u any;
       tries = omega (arith, any_tries 0 c.args.turns s u any);
       settled = λ alone. settle.settled

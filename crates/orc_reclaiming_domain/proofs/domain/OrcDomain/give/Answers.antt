@@ -1,4 +1,4 @@
-use Rattle.std.proofs.Common.{None, Some, ap, arith, refl, subst, ◌∙◌, ◌%◌, ◌+◌, ◌<◌, ◌≡◌}
+use Rattle.std.proofs.Common.{ap, arith, refl, subst, ◌∙◌, ◌%◌, ◌+◌, ◌<◌, ◌≡◌}
 use Rattle.std.proofs.Math.Nat.{mod-lt}
 use Rattle.orc_reclaiming_domain.proofs.Giving.{first_can, gives, gives_between, gives_later, publish_can, second_can}
 use Rattle.orc_reclaiming_domain.proofs.Stages.{Between, stage}

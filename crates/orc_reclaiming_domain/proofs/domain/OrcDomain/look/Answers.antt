@@ -1,4 +1,4 @@
-use Rattle.std.proofs.Common.{None, Some, ◌≡◌, ◌≢◌}
+use Rattle.std.proofs.Common.{◌≡◌, ◌≢◌}
 use Rattle.orc_domain.proofs.Equal.{links_agree, links_differ}
 use Rattle.orc_reclaiming_domain.proofs.Looking.{Begun, clear_can, calm3, held_between, held_leaves, load_can, look_held, look_moved, look_null, moved_between, moved_leaves, null_between, null_leaves, publish_can, reload_can}
 use Rattle.orc_reclaiming_domain.proofs.Stages.{stage}

@@ -1,9 +1,6 @@
-use Rattle.std.proofs.Common.{ap, sym, ◌∙◌, ◌≡◌}
-use Rattle.orc_heap.specs.Seeds.{opening_events}
+use Rattle.std.proofs.Common.{◌≡◌}
 use Rattle.orc_machine_board.specs.Views.{shows}
-use Rattle.orc_projection.specs.Projection.{project}
-use Rattle.orc_reclaiming_domain.proofs.Making.{all_belong, all_idle, each_at, each_pass, opening_seen}
-use Rattle.orc_reclaiming_domain.specs.Passes.{domain_bounds}
+use Rattle.orc_reclaiming_domain.proofs.Making.{all_belong, all_idle, each_at, opening_seen}
 use Rattle.orc_reclaiming_domain.proofs.domain.OrcDomain.make.Goals as goal
 
 pub returns-clause-belongs : goal.returns-clause-belongs

@@ -1,4 +1,4 @@
-use Rattle.std.proofs.Common.{None, ap, arith, refl, subst, ◌∙◌, ◌%◌, ◌+◌, ◌<◌, ◌≡◌}
+use Rattle.std.proofs.Common.{ap, arith, refl, subst, ◌∙◌, ◌%◌, ◌+◌, ◌<◌, ◌≡◌}
 use Rattle.std.proofs.Math.Nat.{mod-lt}
 use Rattle.orc_machine_board.specs.Views.{shows}
 use Rattle.orc_reclaiming_domain.proofs.Rounds.{tries_all, tries_gets, tries_none, tries_one}

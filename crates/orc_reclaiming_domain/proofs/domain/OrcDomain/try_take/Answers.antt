@@ -1,4 +1,4 @@
-use Rattle.std.proofs.Common.{arith, eqb-true, inl, inr, ◌+◌, ◌/◌, ◌≡◌, ◌≢◌, ◌≤◌, ◌%◌}
+use Rattle.std.proofs.Common.{arith, eqb-true, inl, inr, ◌/◌, ◌≤◌, ◌%◌}
 use Rattle.std.proofs.lemmas.Bool.{eq-eqb, eqb-false, ne_eqb}
 use Rattle.orc_reclaiming_domain.proofs.Stages.{stage}
 use Rattle.orc_reclaiming_domain.proofs.Trying.{count_fails, look_fails, take_fails, take_gets}

@@ -1,0 +1,38 @@
+-- The node is marked, and all nodes are let go.
+use Rattle.std.proofs.Common.{◌∙◌}
+use Rattle.orc_list.proofs.Answering.{reads_node}
+use Rattle.orc_list.proofs.Removing.{marked_hand, marks_at}
+use Rattle.orc_list.proofs.remove.mark_and_go.Goals as goal
+
+pub mark_node-marked-requires-clause-node : goal.mark_node-marked-requires-clause-node
+mark_node-marked-requires-clause-node g c =
+    let d = c.args.links.now in
+    let a = c.args in
+    let (s, f) = c.requires.present in
+    (reads_node (g.L.Links.numbers d) a.root a.key a.left a.first a.node a.next s (g.L.Links.seat d a.p.now) f).node_held
+
+pub let_all_go-requires-clause-hands : goal.let_all_go-requires-clause-hands
+let_all_go-requires-clause-hands g c =
+    let d = c.args.links.now in
+    let n = g.L.Links.numbers d in
+    let a = c.args in
+    let t = g.L.Links.seat d a.p.now in
+    let u = g.L.Links.seat d c.mark_node-marked.new.p in
+    let (s, f) = c.requires.present in
+    let e = c.mark_node-marked.ensures in (
+      s.slots,
+      marked_hand n a.root a.key a.left a.first a.node a.next s t f _ u (marks_at n a.root a.key a.left a.first a.node a.next s t f _ u e.marked)
+          (g.met.L.Links.allowed d c.mark_node-marked.new.p e.pass),
+    )
+
+pub returns-clause-held : goal.returns-clause-held
+returns-clause-held g c = λ s f.
+    let d = c.args.links.now in
+    let n = g.L.Links.numbers d in
+    let a = c.args in
+    let t = g.L.Links.seat d a.p.now in
+    let u = g.L.Links.seat d c.mark_node-marked.new.p in
+    let e = c.mark_node-marked.ensures in
+    let gone = c.let_all_go.ensures.gone s.slots (marked_hand n a.root a.key a.left a.first a.node a.next s t f _ u
+    (marks_at n a.root a.key a.left a.first a.node a.next s t f _ u e.marked) (g.met.L.Links.allowed d c.mark_node-marked.new.p e.pass)) in
+    record { slots = gone.slots_are; fresh = gone.fresh ∙ (e.marked.fresh ∙ f.behind.quiet.fresh) }
