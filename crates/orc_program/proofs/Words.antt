@@ -10,7 +10,7 @@ use Rattle.std.specs.Prelude.{IfNone}
 use Rattle.orc_program.specs.declared.mode.Mode.{Mode}
 use Rattle.orc_program.specs.declared.mode.Mode.TheVariants as mode
 use Rattle.orc_program.specs.declared.teams.Team.{Team}
-use Rattle.orc_program.specs.Modes.{AreRefused, Asks, NamesTeam, replay_words, team_words}
+use Rattle.orc_program.specs.Modes.{AreRefused, AskToRun, Asks, IsRun, NamesTeam, replay_words, team_words}
 
 -- teams with the same numbers are one
 team_same : (a b : Team) → a.posters ≡ b.posters → a.takers ≡ b.takers → a ≡ b
@@ -59,6 +59,11 @@ one_mode words (mode.Run s) mode.Replay (inr x) y = absurd (not_one words _ _ y 
 one_mode words mode.Replay (mode.Run t) x (inl y) = absurd (none_or_one words y.0 x)
 one_mode words mode.Replay (mode.Run t) x (inr y) = absurd (not_one words _ _ x y)
 one_mode words mode.Replay mode.Replay x y = refl
+
+-- words that ask for a mode that is a run
+pub asks_to_run : (words : List (List ℕ)) (m : Mode) → Asks words m → IsRun m → AskToRun words
+asks_to_run words (mode.Run team) asks run = (team, asks)
+asks_to_run words mode.Replay asks run = absurd run
 
 -- words that name the options, but no team's numbers
 pub refused_team : (words : List (List ℕ)) (posters takers : List ℕ) → words ≡ four posters takers

@@ -1,11 +1,12 @@
 -- What a mode was to write, as what the program was to write.
-use Rattle.std.proofs.Common.{◌≡◌, ◌<◌, ◌⊎◌, List, ℕ, Option, Some, refl, sym, subst, inl, inr, IfSome, length}
+use Rattle.std.proofs.Common.{◌≡◌, ◌∙◌, ◌<◌, ◌⊎◌, List, ℕ, Option, Some, refl, sym, subst, inl, inr, IfSome, length}
 use Rattle.orc_jobs.specs.JobGrammar.{IsFileOf}
 use Rattle.orc_program.specs.declared.ended.Ended.{Ended}
 use Rattle.orc_program.specs.declared.mode.Mode.{Mode}
 use Rattle.orc_program.specs.declared.mode.Mode.TheVariants as mode
 use Rattle.orc_program.specs.declared.teams.Team.{Team}
-use Rattle.orc_program.specs.Ended.{HasReported, IsNew}
+use Rattle.orc_run.specs.declared.run.Finished.{Finished}
+use Rattle.orc_program.specs.Ended.{HasReported, IsNew, Keeps}
 use Rattle.orc_program.specs.Refusals.{IsRefusal, NamesFault, input_limit, input_too_large}
 use Rattle.orc_program.specs.Outcomes.{ModeWrites, TellsReplay}
 use Rattle.orc_program.proofs.Inputs.{where-told}
@@ -25,6 +26,18 @@ HasReported-told team left bytes ended text told h = record {
   file = of-told left bytes (IsFileOf h.lines) told h.file;
   finished = h.finished;
   kept = h.kept;
+  headline = h.headline;
+}
+
+-- a report of what a run has left, once that is kept
+pub kept_report : (team : Team) (left : Option (List ℕ)) (finished : Finished) (ended : Ended) (text : List ℕ)
+    → HasReported team left (record { queue = Some finished.queue; set = Some finished.set; replies = Some finished.replies }) text
+    → Keeps finished ended → HasReported team left ended text
+kept_report team left finished ended text h k = record {
+  lines = h.lines;
+  file = h.file;
+  finished = h.finished;
+  kept = record { queue = k.queue ∙ h.kept.queue; set = k.set ∙ h.kept.set; replies = k.replies ∙ h.kept.replies };
   headline = h.headline;
 }
 

@@ -30,8 +30,7 @@ pub(crate) fn mode_of(words: &CommandWords) -> Option<Mode>
         })),
         [word] if word.as_str() == "replay" => Some(Mode::Replay),
         [first, posters, second, takers]
-            if first.as_str() == "--posters" && second.as_str() == "--takers" =>
-        {
+            if first.as_str() == "--posters" && second.as_str() == "--takers" => {
             let team = team_of(posters.as_bytes(), takers.as_bytes())?;
             Some(Mode::Run(team))
         }

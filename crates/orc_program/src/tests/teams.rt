@@ -38,15 +38,7 @@ pub(super) fn report_of<R: Threads + Wait + Sync + Abort, G: Gate + Sync>(
     let mut source = MemorySource::new(alloc, input, 4096, &[])?;
     let mut sink = MemorySink::new(alloc, 1_000_000, 4096, &[])?;
     let mut ended = Ended::new();
-    let status = orc_main(
-        rt,
-        alloc,
-        words,
-        &mut source,
-        &mut sink,
-        gate,
-        &mut ended,
-    );
+    let status = orc_main(rt, alloc, words, &mut source, &mut sink, gate, &mut ended);
     assert_eq!(rt; status, 0);
     let mut report = Vec::new(alloc);
     report.extend_from_slice(sink.bytes())?;
@@ -120,8 +112,7 @@ impl Counts {
             }
             ["poster", poster, "line", line, what @ ..] => {
                 let here = (number(poster), number(line));
-                self.in_file_order =
-                    self.in_file_order && (self.replies == 0 || self.last < here);
+                self.in_file_order = self.in_file_order && (self.replies == 0 || self.last < here);
                 self.last = here;
                 self.replies = self.replies.wrapping_add(1);
                 if let ["posted", at] = what {

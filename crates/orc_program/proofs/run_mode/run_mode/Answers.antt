@@ -50,3 +50,13 @@ returns-clause-cut_short g c five =
     λ bytes e. sym ((c.in-Ok.ensures.whole bytes e).all short).0 ∙ sym c.as_slice-in-Replay.ensures.value in
     let (text, writes, written) = c.play_trace.ensures.cut_short five in
     (text, rw c.in-Replay.is (ModeWrites-told mode.Replay _ _ _ text told (replay_writes _ _ text c.requires writes)), written)
+
+pub returns-clause-refused_comes : goal.returns-clause-refused_comes
+returns-clause-refused_comes g c bytes why told replay few other bad =
+    let short : length c.in-Ok.bytes.items ≤ 16777216 = search rules in
+    let read : bytes ≡ c.as_slice-in-Replay.result.now = sym ((c.in-Ok.ensures.whole bytes told).all short).0 ∙ sym c.as_slice-in-Replay.ensures.value in
+    elim (c.play_trace.ensures.refused_comes why other (rw read at bad)) [
+      | inl said ↦ inl said
+      | inr (inl cut) ↦ inr (inr (inl cut))
+      | inr (inr none) ↦ inr (inr (inr none))
+    ]

@@ -1,7 +1,13 @@
 use Rattle.std.proofs.Common.{inl, inr, refl}
 use Rattle.orc_program.specs.declared.mode.Mode.TheVariants as mode
 use Rattle.orc_program.specs.Refusals.{words_refused}
+use Rattle.orc_program.proofs.Words.{asks_to_run}
 use Rattle.orc_program.proofs.top_call.orc_main.Goals as goal
+
+pub returns-in-Some-clause-malformed : goal.returns-in-Some-clause-malformed
+returns-in-Some-clause-malformed g c three =
+    let (run, told) = c.run_mode.ensures.malformed three in
+    (asks_to_run c.args.words.now c.in-Some.mode c.in-Some.ensures.some run, told)
 
 pub returns-in-Some-clause-cut_short : goal.returns-in-Some-clause-cut_short
 returns-in-Some-clause-cut_short g c five =
