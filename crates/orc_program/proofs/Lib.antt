@@ -1,3 +1,4 @@
-pub mod PlainEnd
+pub mod Answering
 pub mod Inputs
+pub mod Words
 pub mod Wrote

@@ -1,19 +1,35 @@
 -- What is answered to the bytes of an input.
-use Rattle.std.specs.Prelude.{◌≡◌, List, ℕ, Some, ⊤}
+use Rattle.std.specs.Prelude.{◌≡◌, List, ℕ, None, Some, ⊤}
 use Rattle.std.specs.String.{string_bytes}
 use Rattle.orc_jobs.specs.JobGrammar.{Refuses}
+use Rattle.orc_jobs.specs.declared.cause.JobsFault.{JobsFault}
 use Rattle.orc_jobs.specs.declared.cause.JobsFault.TheVariants as fault
+use Rattle.orc_jobs.specs.declared.line.Line.{Line}
 use Rattle.orc_program.specs.declared.answer.Answer.{Answer}
 use Rattle.orc_program.specs.declared.answer.Answer.TheVariants as answer
+use Rattle.orc_program.specs.declared.teams.Team.{Team}
 use Rattle.orc_program.specs.Ended.{HasReported}
-use Rattle.orc_program.specs.Refusals.{NamesRecord}
+use Rattle.orc_program.specs.Headline.{Headline}
+use Rattle.orc_program.specs.Refusals.{NamesRecord, malformed_line}
 
--- a report of a run of these bytes, or the refusal that they call for
-abbrev pub Answers : List ℕ → Answer → Type 0
-Answers bytes (answer.Report text finished) =
-    HasReported (Some bytes) (record { queue = Some finished.queue; set = Some finished.set; replies = Some finished.replies }) text
-Answers bytes (answer.Malformed text) = NamesRecord bytes (string_bytes text)
-Answers bytes answer.TooMany = Refuses bytes fault.TooMany
+-- a report of a run of these bytes by the team, or the refusal that they call for
+abbrev pub Answers : Team → List ℕ → Answer → Type 0
+Answers team bytes (answer.Report text finished) =
+    HasReported team (Some bytes) (record { queue = Some finished.queue; set = Some finished.set; replies = Some finished.replies }) text
+Answers team bytes (answer.Malformed text) = NamesRecord bytes (string_bytes text)
+Answers team bytes answer.TooMany = Refuses bytes fault.TooMany
+
+-- the report of a run of these lines by the team
+abbrev pub Reports : Team → List Line → Answer → Type 0
+Reports team lines (answer.Report text finished) = Headline lines team finished None text
+Reports team lines (answer.Malformed text) = ⊥
+Reports team lines answer.TooMany = ⊥
+
+-- the refusal that this fault calls for
+abbrev pub IsRefusalFor : JobsFault → Answer → Type 0
+IsRefusalFor (fault.Malformed place why) (answer.Malformed text) = string_bytes text ≡ malformed_line place why
+IsRefusalFor fault.TooMany answer.TooMany = ⊤
+IsRefusalFor f a = ⊥
 
 abbrev pub IsReport : Answer → Type 0
 IsReport (answer.Report text finished) = ⊤

@@ -1,4 +1,3 @@
-pub mod PlainRun
 pub mod Headline
 pub mod Ended
 pub mod Modes

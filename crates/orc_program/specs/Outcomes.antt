@@ -18,7 +18,7 @@ pub record TellsReplay (bytes text : List ℕ) : Type 0 where
 
 -- the mode's whole text of the bytes that were left: the report of what has ended, or what a replay tells
 abbrev pub Tells : Mode → Option (List ℕ) → Ended → List ℕ → Type 0
-Tells mode.Run left ended text = HasReported left ended text
+Tells (mode.Run team) left ended text = HasReported team left ended text
 Tells mode.Replay left ended text = IsNew ended × IfSome left (λ bytes. TellsReplay bytes text)
 
 -- the text was to be written in this mode: its whole text, or the line of a refusal, and then nothing has ended

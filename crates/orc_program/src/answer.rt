@@ -4,14 +4,16 @@ ghost use Rattle.std.specs.String.{string_bytes};
 ghost use Rattle.orc_jobs.specs.JobGrammar.{IsFileOf, Refuses};
 ghost use Rattle.orc_jobs.specs.declared.cause.Cause.{Cause};
 ghost use Rattle.orc_jobs.specs.declared.line.Line.{Line};
-ghost use Rattle.orc_program.specs.Answers.{Answers, IsMalformed, IsReport, IsTooMany};
+ghost use Rattle.orc_jobs.specs.GoodLines.{AreGood};
+ghost use Rattle.orc_program.specs.Answers.{Answers, IsMalformed, IsRefusalFor, IsReport, IsTooMany, Reports};
 ghost use Rattle.orc_program.specs.Refusals.{cause_word, malformed_line, input_limit};
 
-use crate::plain_run::{Finished, run_plain};
+use crate::teams::Team;
 use orc_board::Gate;
 use orc_fault::NoMemory;
-use orc_jobs::{Cause, JobsFault, Text, read_jobs};
+use orc_jobs::{Cause, JobsFault, Lines, Text, read_jobs};
 use orc_report::report_text;
+use orc_run::{Finished, run_lines};
 use std::alloc::Global;
 use std::sync::Wait;
 use std::thread::Threads;
@@ -28,27 +30,50 @@ pub enum Answer {
 pub(crate) fn answer_to<R: Threads + Wait + Sync, G: Gate + Sync>(
     rt: &R,
     alloc: Global,
+    team: Team,
     bytes: &[u8],
     gate: &G,
 ) -> Result<Answer, NoMemory>
     requires { length bytes.now ≤ input_limit }
-    ensures answers { IfOk result (Answers bytes.now) }
+    ensures answers { IfOk result (Answers team bytes.now) }
     ensures file { (lines : List Line) → IsFileOf lines bytes.now → IfOk result IsReport }
     ensures malformed { (place : ℕ) (why : Cause) → Refuses bytes.now (JobsFault.Malformed place why) → IfOk result (IsMalformed (malformed_line place why)) }
     ensures many { Refuses bytes.now JobsFault.TooMany → IfOk result IsTooMany }
 {
-    let lines = match read_jobs(alloc, bytes) {
-        Ok(lines) => lines,
-        Err(JobsFault::Malformed { line, cause }) => {
-            let text = malformed(alloc, line, cause)?;
-            return Ok(Answer::Malformed { text });
-        }
-        Err(JobsFault::TooMany) => return Ok(Answer::TooMany),
-        Err(JobsFault::NoMemory) => return Err(NoMemory),
-    };
-    let finished = run_plain(rt, alloc, &lines, gate)?;
-    let text = report_text(alloc, &lines, &finished.replies, None)?;
+    match read_jobs(alloc, bytes) {
+        Ok(lines) => report(rt, alloc, team, &lines, gate),
+        Err(fault) => refusal(alloc, fault),
+    }
+}
+
+// Works through these lines, and reports.
+fn report<R: Threads + Wait + Sync, G: Gate + Sync>(
+    rt: &R,
+    alloc: Global,
+    team: Team,
+    lines: &Lines,
+    gate: &G,
+) -> Result<Answer, NoMemory>
+    requires { AreGood lines.now }
+    ensures { IfOk result (Reports team lines.now) }
+{
+    let finished = run_lines(rt, alloc, lines, team.posters, team.takers, gate)?;
+    let text = report_text(alloc, lines, &finished.replies, None)?;
     Ok(Answer::Report { text, finished })
+}
+
+// The refusal of a job file with this fault.
+fn refusal(alloc: Global, fault: JobsFault) -> Result<Answer, NoMemory>
+    ensures { IfOk result (IsRefusalFor fault) }
+{
+    match fault {
+        JobsFault::Malformed { line, cause } => {
+            let text = malformed(alloc, line, cause)?;
+            Ok(Answer::Malformed { text })
+        }
+        JobsFault::TooMany => Ok(Answer::TooMany),
+        JobsFault::NoMemory => Err(NoMemory),
+    }
 }
 
 // The line that names a record and its cause.

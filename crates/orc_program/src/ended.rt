@@ -1,17 +1,18 @@
 //! What a run leaves for its caller.
-ghost use Rattle.std.specs.Prelude.{◌≡◌, Some};
-ghost use Rattle.orc_program.specs.Ended.{IsNew};
+ghost use Rattle.orc_program.specs.Ended.{IsNew, Keeps};
 
-use crate::plain_run::Finished;
 use orc_board::Replies;
-use orc_history::{PlainQueuePass, PlainSetPass};
+use orc_chain_rule::Chain;
+use orc_domain::PlainRest;
+use orc_fifo_rule::Fifo;
+use orc_run::Finished;
 
-/// The two containers as a run has left them, with their histories, and its replies. All three are
-/// there after a run, and none of them otherwise.
+/// The domains of queue and set at rest, each with the journal of all that happened on it, and the replies of a run. All three
+/// are there after a run, and none of them otherwise.
 #[derive(Drop)]
 pub struct Ended {
-    pub queue: Option<PlainQueuePass>,
-    pub set: Option<PlainSetPass>,
+    pub queue: Option<PlainRest<Fifo>>,
+    pub set: Option<PlainRest<Chain>>,
     pub replies: Option<Replies>,
 }
 
@@ -29,9 +30,7 @@ impl Ended {
 
     // Keeps what a run has left.
     pub(crate) fn keep(&mut self, finished: Finished)
-        ensures queue { self.new.queue ≡ Some finished.queue }
-        ensures set { self.new.set ≡ Some finished.set }
-        ensures replies { self.new.replies ≡ Some finished.replies }
+        ensures { Keeps finished self.new }
     {
         let Finished {
             queue,

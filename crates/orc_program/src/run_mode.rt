@@ -14,6 +14,7 @@ ghost use Rattle.orc_program.specs.declared.mode.Mode.{Mode};
 ghost use Rattle.orc_program.specs.Ended.{IsNew};
 ghost use Rattle.orc_program.specs.Refusals.{IsTooLarge, NamesFault, NamesRecord, input_limit, input_too_large, malformed_line};
 ghost use Rattle.orc_program.specs.Outcomes.{ModeWrites, Tells};
+ghost use Rattle.orc_program.specs.Modes.{IsRun};
 
 use crate::Ended;
 use crate::jobs_mode::run_jobs;
@@ -48,7 +49,7 @@ pub(crate) fn run_mode<R: Threads + Wait + Sync, S: Source, K: Sink, G: Gate + S
     ensures most_read { TakesAtMost (input_limit + 1) (S.left source.old) (S.left source.new) }
     ensures all_read { (result ≡ 0) ⊎ (result ≡ 3) ⊎ (result ≡ 8) → IsAtEnd (S.left source.new) }
     ensures many_read { result ≡ 6 → IfSome (S.left source.old) (λ bytes. length bytes ≤ input_limit → IsAtEnd (S.left source.new)) }
-    ensures malformed { result ≡ 3 → (mode ≡ Mode.Run) × ((text : List ℕ) × IfSome (S.left source.old) (λ bytes. NamesRecord bytes text)
+    ensures malformed { result ≡ 3 → IsRun mode × ((text : List ℕ) × IfSome (S.left source.old) (λ bytes. NamesRecord bytes text)
         × Appends (K.written sink.old) (K.written sink.new) text) }
     ensures read_fault { result ≡ 4 → Rose (S.faults source.old) (S.faults source.new) × Keeps (K.written sink.old) (K.written sink.new) }
     ensures no_read_fault { result ≢ 4 → S.faults source.new ≡ S.faults source.old }
@@ -62,7 +63,7 @@ pub(crate) fn run_mode<R: Threads + Wait + Sync, S: Source, K: Sink, G: Gate + S
     ensures refused { result ≡ 8 → (mode ≡ Mode.Replay) × ((text : List ℕ) × IfSome (S.left source.old) (λ bytes. NamesFault bytes text)
         × Appends (K.written sink.old) (K.written sink.new) text) }
     ensures nothing_ended { result ≢ 0 → result ≢ 5 → IsNew ended.new }
-    ensures malformed_comes { (bytes : List ℕ) (place : ℕ) (why : Cause) → S.left source.old ≡ Some bytes → mode ≡ Mode.Run
+    ensures malformed_comes { (bytes : List ℕ) (place : ℕ) (why : Cause) → S.left source.old ≡ Some bytes → IsRun mode
         → length bytes ≤ input_limit → Refuses bytes (JobsFault.Malformed place why)
         → ((result ≡ 3) × Appends (K.written sink.old) (K.written sink.new) (malformed_line place why)) ⊎ (result ≡ 4) ⊎ (result ≡ 5) ⊎ (result ≡ 7) }
     ensures large_comes { (bytes : List ℕ) → S.left source.old ≡ Some bytes → IsTooLarge mode bytes
@@ -70,7 +71,7 @@ pub(crate) fn run_mode<R: Threads + Wait + Sync, S: Source, K: Sink, G: Gate + S
     ensures refused_comes { (bytes : List ℕ) (why : TraceFault) → S.left source.old ≡ Some bytes → mode ≡ Mode.Replay
         → length bytes ≤ input_limit → why ≢ TraceFault.NoMemory → RefusesTrace bytes why
         → ((result ≡ 8) × Appends (K.written sink.old) (K.written sink.new) (fault_line why)) ⊎ (result ≡ 4) ⊎ (result ≡ 5) ⊎ (result ≡ 7) }
-    ensures complete { (bytes : List ℕ) (lines : List Line) → S.left source.old ≡ Some bytes → mode ≡ Mode.Run
+    ensures complete { (bytes : List ℕ) (lines : List Line) → S.left source.old ≡ Some bytes → IsRun mode
         → length bytes ≤ input_limit → IsFileOf lines bytes
         → ¬ Rose (S.faults source.old) (S.faults source.new) → ¬ Rose (K.faults sink.old) (K.faults sink.new)
         → (result ≡ 0) ⊎ (result ≡ 7) }
@@ -88,7 +89,7 @@ pub(crate) fn run_mode<R: Threads + Wait + Sync, S: Source, K: Sink, G: Gate + S
         return refuse_size(sink);
     }
     match mode {
-        Mode::Run => run_jobs(rt, alloc, bytes.as_slice(), sink, gate, ended),
+        Mode::Run(team) => run_jobs(rt, alloc, team, bytes.as_slice(), sink, gate, ended),
         Mode::Replay => play_trace(alloc, bytes.as_slice(), sink),
     }
 }

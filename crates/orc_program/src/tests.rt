@@ -1,17 +1,20 @@
 ghost use Rattle.std.specs.Prelude.{◌≤◌};
 
-use crate::{CommandWords, Ended, orc_main, run_plain};
+use crate::{CommandWords, Ended, orc_main};
 use orc_board::OpenGate;
 use orc_feed::{MemorySink, MemorySource};
 use orc_jobs::read_jobs;
 use orc_report::{RestNumbers, report_text};
+use orc_run::run_lines;
 use std::alloc::Global;
 use std::process::Abort;
 use std::sync::Wait;
 use std::test::Fail;
 use std::thread::Threads;
 
+mod meeting;
 mod streams;
+mod teams;
 
 const FIVE_LINES: &[u8] =
     b"post,7,bytes,hello\npost,9,sum,1 2 3\ndrop,9\npost,7,words,a b\ndrop,8\n";
@@ -310,7 +313,7 @@ fn report_with_what_is_at_rest(rt: HostRuntime) -> Result<(), Fail> {
     let Ok(lines) = read_jobs(rt.alloc(), FIVE_LINES) else {
         panic!(&rt; "the five lines are a job file");
     };
-    let finished = run_plain(&rt, rt.alloc(), &lines, &OpenGate)?;
+    let finished = run_lines(&rt, rt.alloc(), &lines, 1, 0, &OpenGate)?;
     let rest = RestNumbers {
         queue_given: 3,
         queue_reused: 2,

@@ -12,7 +12,7 @@ ghost use Rattle.orc_trace.specs.Replay.{IsReplay, Refuses as RefusesTrace};
 ghost use Rattle.orc_trace.specs.Answers.{fault_line, replay_line};
 ghost use Rattle.orc_program.specs.declared.mode.Mode.{Mode};
 ghost use Rattle.orc_program.specs.Ended.{IsNew};
-ghost use Rattle.orc_program.specs.Modes.{AreRefused, Asks};
+ghost use Rattle.orc_program.specs.Modes.{AreRefused, AskToRun, Asks};
 ghost use Rattle.orc_program.specs.Refusals.{IsTooLarge, NamesFault, NamesRecord, input_limit, input_too_large, malformed_line, words_refused};
 ghost use Rattle.orc_program.specs.Outcomes.{Tells, WasToWrite};
 
@@ -28,13 +28,16 @@ use std::alloc::Global;
 use std::sync::Wait;
 use std::thread::Threads;
 
-/// Reads a job file, works through it and writes the report; or, with the one word `replay`, reads a
-/// trace, plays it and writes what it leaves; or writes why not.
+/// Reads a job file, works through it with posters and takers on threads and writes the report; or, with the one word
+/// `replay`, reads a trace, plays it and writes what it leaves; or writes why not.
+///
+/// No words ask for one poster and no taker; `--posters P --takers T`, in this order, for 1 to 8 posters and at most 7
+/// takers.
 ///
 /// | Status | Comes | Written |
 /// |---|---|---|
 /// | 0 | done | the report, or the line of the census |
-/// | 2 | the words ask for neither | `words refused` |
+/// | 2 | the words ask for none of these | `words refused` |
 /// | 3 | a record is outside the grammar | `line N: CAUSE` |
 /// | 4 | a read failed | nothing |
 /// | 5 | a write failed | a prefix of what was to be written |
@@ -67,7 +70,7 @@ pub fn orc_main<R: Threads + Wait + Sync, S: Source, K: Sink, G: Gate + Sync>(
 
     // Each refusal: why it came, and what was written.
     ensures words { result ≡ 2 → AreRefused words.now × Appends (K.written sink.old) (K.written sink.new) words_refused }
-    ensures malformed { result ≡ 3 → Asks words.now Mode.Run × ((text : List ℕ) × IfSome (S.left source.old) (λ bytes. NamesRecord bytes text)
+    ensures malformed { result ≡ 3 → AskToRun words.now × ((text : List ℕ) × IfSome (S.left source.old) (λ bytes. NamesRecord bytes text)
         × Appends (K.written sink.old) (K.written sink.new) text) }
     ensures read_fault { result ≡ 4 → Rose (S.faults source.old) (S.faults source.new) × Keeps (K.written sink.old) (K.written sink.new) }
     ensures no_read_fault { result ≢ 4 → S.faults source.new ≡ S.faults source.old }
@@ -84,7 +87,7 @@ pub fn orc_main<R: Threads + Wait + Sync, S: Source, K: Sink, G: Gate + Sync>(
 
     // When each comes, unless a read or a write failed or memory was refused.
     ensures words_come { AreRefused words.now → (result ≡ 2) ⊎ (result ≡ 5) ⊎ (result ≡ 7) }
-    ensures malformed_comes { (bytes : List ℕ) (place : ℕ) (why : Cause) → S.left source.old ≡ Some bytes → Asks words.now Mode.Run
+    ensures malformed_comes { (bytes : List ℕ) (place : ℕ) (why : Cause) → S.left source.old ≡ Some bytes → AskToRun words.now
         → length bytes ≤ input_limit → Refuses bytes (JobsFault.Malformed place why)
         → ((result ≡ 3) × Appends (K.written sink.old) (K.written sink.new) (malformed_line place why)) ⊎ (result ≡ 4) ⊎ (result ≡ 5) ⊎ (result ≡ 7) }
     ensures large_comes { (mode : Mode) (bytes : List ℕ) → S.left source.old ≡ Some bytes → Asks words.now mode → IsTooLarge mode bytes
@@ -92,7 +95,7 @@ pub fn orc_main<R: Threads + Wait + Sync, S: Source, K: Sink, G: Gate + Sync>(
     ensures refused_comes { (bytes : List ℕ) (why : TraceFault) → S.left source.old ≡ Some bytes → Asks words.now Mode.Replay
         → length bytes ≤ input_limit → why ≢ TraceFault.NoMemory → RefusesTrace bytes why
         → ((result ≡ 8) × Appends (K.written sink.old) (K.written sink.new) (fault_line why)) ⊎ (result ≡ 4) ⊎ (result ≡ 5) ⊎ (result ≡ 7) }
-    ensures complete { (bytes : List ℕ) (lines : List Line) → S.left source.old ≡ Some bytes → Asks words.now Mode.Run
+    ensures complete { (bytes : List ℕ) (lines : List Line) → S.left source.old ≡ Some bytes → AskToRun words.now
         → length bytes ≤ input_limit → IsFileOf lines bytes
         → ¬ Rose (S.faults source.old) (S.faults source.new) → ¬ Rose (K.faults sink.old) (K.faults sink.new)
         → (result ≡ 0) ⊎ (result ≡ 7) }

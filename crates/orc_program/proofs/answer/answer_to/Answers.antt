@@ -1,13 +1,17 @@
-use Rattle.std.proofs.Common.{◌∙◌}
-use Rattle.orc_program.proofs.Inputs.{same-line, many-is-none}
+-- By the lines that were read, or by the fault for which they were refused.
+use Rattle.orc_program.proofs.Answering.{is_answer, is_malformed, is_refusal}
 use Rattle.orc_program.proofs.answer.answer_to.Goals as goal
 
-pub returns-in-Err-Malformed-clause-malformed : goal.returns-in-Err-Malformed-clause-malformed
-returns-in-Err-Malformed-clause-malformed g c place why refused =
-    c.in_ok-text-in-Err-Malformed.ensures
-    ∙ same-line c.in-Err-Malformed.field-0 c.in-Err-Malformed.line place c.in-Err-Malformed.cause why c.in-Err-Malformed.field-0-is
-    (c.in-Err-Malformed.ensures.bad place why refused)
+pub returns-in-Ok-clause-answers : goal.returns-in-Ok-clause-answers
+returns-in-Ok-clause-answers g c = is_answer c.args.team c.args.bytes.now _ c.report.result c.report.ensures c.in-Ok.ensures.ok
 
-pub returns-in-Err-TooMany-clause-malformed : goal.returns-in-Err-TooMany-clause-malformed
-returns-in-Err-TooMany-clause-malformed g c place why refused =
-    many-is-none c.in-Err-TooMany.field-0 place why c.in-Err-TooMany.field-0-is (c.in-Err-TooMany.ensures.bad place why refused)
+pub returns-in-Ok-clause-malformed : goal.returns-in-Ok-clause-malformed
+returns-in-Ok-clause-malformed g c place why bad = absurd (c.in-Ok.ensures.bad place why bad)
+
+pub returns-in-Err-clause-answers : goal.returns-in-Err-clause-answers
+returns-in-Err-clause-answers g c =
+    is_refusal c.in-Err.fault c.refusal.result c.refusal.ensures c.args.team c.args.bytes.now c.requires c.in-Err.ensures.err
+
+pub returns-in-Err-clause-malformed : goal.returns-in-Err-clause-malformed
+returns-in-Err-clause-malformed g c place why bad =
+    is_malformed c.in-Err.fault c.refusal.result c.refusal.ensures place why (c.in-Err.ensures.bad place why bad)

@@ -1,14 +1,25 @@
 use Rattle.std.proofs.Common.{rules, ◌≡◌, inl, inr, refl, Some}
 use Rattle.std.specs.String.{string_bytes}
+use Rattle.orc_program.proofs.Wrote.{kept_report}
 use Rattle.orc_program.specs.Ended.{HasReported}
 use Rattle.orc_program.specs.Refusals.{input_too_large, malformed_line}
 use Rattle.orc_jobs.specs.JobGrammar.{Refuses}
 use Rattle.orc_jobs.specs.declared.cause.JobsFault.TheVariants.{TooMany}
 use Rattle.orc_program.proofs.jobs_mode.run_jobs.Goals as goal
 
+pub returns-in-Ok-Report-clause-done : goal.returns-in-Ok-Report-clause-done
+returns-in-Ok-Report-clause-done g c zero =
+    let reported : HasReported c.args.team (Some c.args.bytes.now)
+    (record { queue = Some c.in-Ok-Report.finished.queue; set = Some c.in-Ok-Report.finished.set; replies = Some c.in-Ok-Report.finished.replies })
+    c.bytes.result.now = search rules in
+    (c.bytes.result.now, kept_report _ _ c.in-Ok-Report.finished _ _ reported c.keep.ensures, c.write_text.ensures.written zero)
+
 pub returns-in-Ok-Report-clause-cut_short : goal.returns-in-Ok-Report-clause-cut_short
 returns-in-Ok-Report-clause-cut_short g c five =
-    let kept : HasReported (Some c.args.bytes.now) c.keep.new.self c.bytes.result.now = search rules in
+    let reported : HasReported c.args.team (Some c.args.bytes.now)
+    (record { queue = Some c.in-Ok-Report.finished.queue; set = Some c.in-Ok-Report.finished.set; replies = Some c.in-Ok-Report.finished.replies })
+    c.bytes.result.now = search rules in
+    let kept = kept_report _ _ c.in-Ok-Report.finished c.keep.new.self _ reported c.keep.ensures in
     (c.bytes.result.now, inl kept, c.write_text.ensures.cut_short five)
 
 pub returns-in-Ok-Report-clause-malformed_comes : goal.returns-in-Ok-Report-clause-malformed_comes

@@ -23,7 +23,7 @@ returns-in-Run-clause-done g c zero =
     let told : Told (g.S.Source.left c.args.source.now) c.as_slice.result.now =
     λ bytes e. sym ((c.in-Ok.ensures.whole bytes e).all short).0 ∙ sym c.as_slice.ensures.value in
     let (text, reports, written) = c.run_jobs.ensures.done zero in
-    (text, rw c.in-Run.is (HasReported-told _ _ _ text told reports), written)
+    (text, rw c.in-Run.is (HasReported-told _ _ _ _ text told reports), written)
 
 pub returns-in-Run-clause-cut_short : goal.returns-in-Run-clause-cut_short
 returns-in-Run-clause-cut_short g c five =
@@ -31,7 +31,7 @@ returns-in-Run-clause-cut_short g c five =
     let told : Told (g.S.Source.left c.args.source.now) c.as_slice.result.now =
     λ bytes e. sym ((c.in-Ok.ensures.whole bytes e).all short).0 ∙ sym c.as_slice.ensures.value in
     let (text, writes, written) = c.run_jobs.ensures.cut_short five in
-    (text, rw c.in-Run.is (ModeWrites-told mode.Run _ _ _ text told writes), written)
+    (text, rw c.in-Run.is (ModeWrites-told (mode.Run c.in-Run.team) _ _ _ text told writes), written)
 
 pub returns-in-Run-clause-malformed_comes : goal.returns-in-Run-clause-malformed_comes
 returns-in-Run-clause-malformed_comes g c bytes place why told run few bad =
@@ -50,3 +50,13 @@ returns-clause-cut_short g c five =
     λ bytes e. sym ((c.in-Ok.ensures.whole bytes e).all short).0 ∙ sym c.as_slice-in-Replay.ensures.value in
     let (text, writes, written) = c.play_trace.ensures.cut_short five in
     (text, rw c.in-Replay.is (ModeWrites-told mode.Replay _ _ _ text told (replay_writes _ _ text c.requires writes)), written)
+
+pub returns-clause-refused_comes : goal.returns-clause-refused_comes
+returns-clause-refused_comes g c bytes why told replay few other bad =
+    let short : length c.in-Ok.bytes.items ≤ 16777216 = search rules in
+    let read : bytes ≡ c.as_slice-in-Replay.result.now = sym ((c.in-Ok.ensures.whole bytes told).all short).0 ∙ sym c.as_slice-in-Replay.ensures.value in
+    elim (c.play_trace.ensures.refused_comes why other (rw read at bad)) [
+      | inl said ↦ inl said
+      | inr (inl cut) ↦ inr (inr (inl cut))
+      | inr (inr none) ↦ inr (inr (inr none))
+    ]
