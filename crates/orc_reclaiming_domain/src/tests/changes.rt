@@ -133,7 +133,7 @@ fn wear_out(domain: &Domain, p: &mut Pass) -> Option<(bool, Option<(u32, u64)>, 
 
 #[test]
 fn a_worn_row_is_refused_and_its_link_is_marked_still(rt: HostRuntime) -> Result<(), Fail> {
-    let shape = Shape::new(1, 2, 1, 3)?;
+    let shape = Shape::new(2, 2, 1, 3)?;
     let Ok((domain, mut passes)) = new_domain(rt.alloc(), &shape) else {
         panic!(rt; "memory")
     };
