@@ -1,5 +1,5 @@
 //! Times posts made by workers of the board, each on a thread, and the takes that follow, against the same calls of the
-//! containers made bare on as many threads. How many jobs came back goes to standard output, the times to standard error.
+//! containers made bare on as many threads. How many jobs came back to the takers goes to standard output, the times to standard error.
 #![tactic(auto)]
 
 mod bare;
@@ -25,6 +25,7 @@ fn main(rt: HostRuntime) -> io::Result<()> {
         let mut by_workers: u128 = 0;
         let mut by_calls: u128 = 0;
         let mut jobs: u64 = 0;
+        let mut bare: u64 = 0;
         for _round in 0..ROUNDS {
             let Ok((queue, set, queue_passes, set_passes)) = new_containers(alloc, 1 + threads)
             else {
@@ -46,11 +47,11 @@ fn main(rt: HostRuntime) -> io::Result<()> {
                 return println!(rt; "no memory");
             };
             let start = Instant::now(&rt)?;
-            jobs = jobs.wrapping_add(run_bare(&rt, threads, made));
+            bare = bare.wrapping_add(run_bare(&rt, threads, made));
             by_calls = by_calls.wrapping_add(start.elapsed(&rt)?.as_micros());
         }
         eprintln!(rt;
-            "{threads} threads: workers {by_workers} microseconds, bare calls {by_calls}"
+            "{threads} threads: workers {by_workers} microseconds, bare calls {by_calls}, of which {bare} jobs came back"
         )?;
         println!(rt; "{jobs}")?;
     }
