@@ -1,0 +1,10 @@
+pub mod Calls
+pub mod Falling
+pub mod ForRuns
+pub mod Handovers
+pub mod Opening
+pub mod Parts
+pub mod Rounds
+pub mod Stages
+pub mod Steps
+pub mod Turns

@@ -1,0 +1,4 @@
+pub mod Work
+pub mod Turns
+pub mod Records
+pub mod Rounds
