@@ -5,3 +5,4 @@ pub mod Reading
 pub mod OwnEntries
 pub mod Stretches
 pub mod Counting
+pub mod MoveKinds

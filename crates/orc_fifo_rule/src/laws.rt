@@ -1,6 +1,6 @@
 //! Laws of the queue discipline.
 
-ghost use Rattle.std.specs.Prelude.{◌≡◌, ◌≢◌, ℕ, ◌+◌, ◌<◌, ◌≤◌, ◌^◌, List, [], ◌∷◌, ◌++◌, Some, true, false, slice_get};
+ghost use Rattle.std.specs.Prelude.{◌≡◌, ◌≢◌, ℕ, ◌+◌, ◌-◌, ◌/◌, ◌<◌, ◌≤◌, ◌^◌, List, [], ◌∷◌, ◌++◌, Some, true, false, slice_get};
 ghost use Rattle.orc_heap.specs.Allowed.{AllAllowed, AllowedLater, Later, IsLinkedNode, events_by, HasLink};
 ghost use Rattle.orc_heap.specs.Heap.{HeapNumbers, Node, null, shown, link_to};
 ghost use Rattle.orc_heap.specs.Journals.{run_heap, event_by};
@@ -12,7 +12,8 @@ ghost use Rattle.orc_history.specs.QueueHistory.{IsLegalQueue, agent_of_entry, p
 ghost use Rattle.orc_history.specs.declared.queue.QueueEntry.{QueueEntry};
 ghost use Rattle.orc_fifo_rule.specs.declared.fifo.FifoNote.{FifoNote};
 ghost use Rattle.orc_heap.specs.Calls.{links_made};
-ghost use Rattle.orc_fifo_rule.specs.Counts.{swings_in};
+ghost use Rattle.orc_heap.specs.Moves.{moves_in};
+ghost use Rattle.orc_fifo_rule.specs.Counts.{off_the_head, swings_in, tooks_in};
 ghost use Rattle.orc_fifo_rule.specs.QueueDiscipline.{FifoHolds, FifoMay, HasJob, entries_of, has_begun, position_of};
 ghost use Rattle.orc_fifo_rule.specs.Watches.{IsLeft, WasNamed, node_to_put};
 
@@ -57,6 +58,18 @@ pub fn a_node_is_linked_at_most_three_times()
 pub fn swings_cost_puts()
     ensures { (n : HeapNumbers) (seen more : List (Event FifoNote)) → FifoHolds n seen → has_begun seen ≡ true
         → AllAllowed (FifoMay n) seen more → swings_in more ≤ puts_in (entries_of more) + 1 }
+{}
+
+/// In any stretch after both roots have begun, each Move is a Put, a Took or a Swing, and a Took alone moves root 0. So
+/// where so many turns each have a Move in the stretch, at least half of all but the first cost a Put or a Took.
+pub fn moves_cost_entries()
+    ensures kinds { (n : HeapNumbers) (seen more : List (Event FifoNote)) → FifoHolds n seen → has_begun seen ≡ true
+        → AllAllowed (FifoMay n) seen more → moves_in more ≡ puts_in (entries_of more) + tooks_in (entries_of more) + swings_in more }
+    ensures off_the_head { (n : HeapNumbers) (seen more : List (Event FifoNote)) → FifoHolds n seen → has_begun seen ≡ true
+        → AllAllowed (FifoMay n) seen more → moves_in (off_the_head more) ≡ puts_in (entries_of more) + swings_in more }
+    ensures half { (n : HeapNumbers) (seen more : List (Event FifoNote)) (turns : ℕ) → FifoHolds n seen → has_begun seen ≡ true
+        → AllAllowed (FifoMay n) seen more → turns ≤ moves_in more
+        → (turns - 1) / 2 ≤ puts_in (entries_of more) + tooks_in (entries_of more) }
 {}
 
 /// What stays true of a node whatever is allowed: that a root named it, that root 1 has left it, where its link

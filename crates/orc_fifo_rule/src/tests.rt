@@ -27,6 +27,7 @@ fn notes_are_compared_with_their_entries(rt: HostRuntime) -> Result<(), Fail> {
     the_last_node_says_the_next_position();
     a_node_is_linked_at_most_three_times();
     swings_cost_puts();
+    moves_cost_entries();
     facts_of_nodes_stay();
     an_empty_may_come();
     a_swing_may_come();

@@ -21,6 +21,7 @@ use Rattle.orc_fifo_rule.specs.declared.fifo.FifoNote.{FifoNote}
 use Rattle.orc_fifo_rule.specs.QueueDiscipline.{entries_of}
 use Rattle.orc_queue.specs.Answers.{IsCall, PutAnswers, PutFull, PutLacking, PutMade, PutTired, TakeAnswers, TakeMade, Tires, gives_of}
 use Rattle.orc_queue.specs.Turns.{AreOver, EndsHelping, FindsFull, HoldsNode, IsFull, Piece, PutTires, PutsJob, TailIsPast}
+use Rattle.orc_queue.proofs.Backs.{backs_since_both}
 use Rattle.orc_queue.proofs.Joins.{full_join_left, full_join_right, room_join}
 use Rattle.orc_queue.proofs.PutTurns.{ends_helping}
 use Rattle.orc_queue.proofs.Room.{room_unseen}
@@ -135,6 +136,7 @@ module _ {n : HeapNumbers} {job : ℕ} (turns : ℕ) {h : Hold} {s a b t : Seat 
           busy = λ two alone. l.over.busy two (own_part_left a b t _ _ _ p.puts w.puts q (own_part_right s a t _ _ _ g.puts q c.puts alone));
         };
         room = room_all p.own p.puts p.no_give p.few c l.room;
+        back = omega (arith, l.back, backs_since_both a b t _ _ _ p.puts w.puts q, backs_since_both s a t _ _ _ g.puts q c.puts);
       }
 
   pub put_full : IsFull n (6 * turns) a b → PutFull n turns s t
@@ -170,6 +172,7 @@ put_none n s idle =
         busy = λ two alone. omega (arith, two);
       };
       room = λ f. f;
+      back = omega arith;
     }
 
 -- no node
@@ -219,7 +222,11 @@ module _ (n : HeapNumbers) (s t u : Seat FifoNote) (o : Only [] t u) where
       record { call = c; some_turn = l.some_turn; low = l.low; room = room_settled l.call c l.room; helps = l.helps }
   put_settled job turns (Err Again) l =
       let k = tires_settled _ turns s t u l.tires o in
-      record { tires = k; room = room_settled l.tires.call k.call l.room }
+      record {
+        tires = k;
+        room = room_settled l.tires.call k.call l.room;
+        back = omega (arith, l.back, backs_since_both s t u _ _ _ l.tires.call.puts o.puts k.call.puts);
+      }
   put_settled job turns (Err NoNode) l =
       let c = call_settled _ turns s t u _ l.call o in
       record { call = c; some_turn = l.some_turn; room = room_settled l.call c l.room }

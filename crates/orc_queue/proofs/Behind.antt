@@ -7,6 +7,7 @@ use Rattle.orc_heap.specs.Allowed.{AllAllowed, IsLinkedNode, HasLink}
 use Rattle.orc_heap.specs.Calls.{Releases, event_of}
 use Rattle.orc_heap.specs.Heap.{HeapNumbers, null, link_to}
 use Rattle.orc_heap.specs.Moves.{moves_in}
+use Rattle.orc_fifo_rule.specs.Counts.{off_the_head}
 use Rattle.orc_heap.specs.OwnEvents.{Puts}
 use Rattle.orc_heap.specs.Seats.{IsUntouched, Seat, heap_of}
 use Rattle.orc_heap.specs.Slots.{Hold, Holds, id_in}
@@ -23,6 +24,7 @@ use Rattle.orc_fifo_rule.specs.Watches.{WasNamed}
 use Rattle.orc_queue.specs.declared.put.PutTurn.{PutTurn}
 use Rattle.orc_queue.specs.declared.put.PutTurn.TheVariants.{Full, Over as PutOver, Put as PutDone}
 use Rattle.orc_queue.specs.Turns.{FindsFull, Helps, HoldsNode, LinksBehind, PutsBehind, SwingsLast, TurnMissed}
+use Rattle.orc_queue.proofs.Backs.{backs_left, backs_right, backs_since, look_or_back, looks_back, miss_back, own_back}
 use Rattle.orc_queue.proofs.Filled.{Known}
 use Rattle.orc_queue.proofs.Holding.{found_fresh, found_id, found_other_id, found_released}
 use Rattle.orc_queue.proofs.Joins.{full_join_left, join, room_join}
@@ -80,6 +82,10 @@ module _ (n : HeapNumbers) (job tail : ℕ) (h : Hold) (s a t : Seat FifoNote) (
           };
           room = room_join n s a t _ _ _ p q.puts j.piece.puts (room_first l.low) l.room;
           node = l.node;
+          back = λ at. elim (look_or_back n (Next tail) refl s a k all_a named.linked null None [] [] p) [
+            | inl still ↦ omega (arith, l.back still, backs_right s a t _ _ _ p q.puts j.piece.puts)
+            | inr some ↦ omega (arith, some, backs_since s.agent p.part, backs_left s a t _ _ _ p q.puts j.piece.puts)
+          ];
         }
     behind_null (PutDone at) l =
         let q = l.puts.piece in
@@ -148,6 +154,7 @@ module _ (n : HeapNumbers) (job tail next : ℕ) (h : Hold) (s a b t : Seat Fifo
                 (room_at n s t _ tail w k (part_allowed (FifoMay n) s t _ w all) named ((λ e. not_end e), ((λ e. not_end e), ((λ e. not_end e), tt))) low);
             node = node_puts n s t _ w all job h node.second k node slots fresh (rw (ne_eqb next (id_in s.slots h) other) refl)
                 (rw (ne_eqb next (id_in s.slots h) other) refl);
+            back = λ at. subst (λ z. 1 ≤ moves_in (off_the_head z)) (one_part s t _ _ w j.piece.puts) (own_back s t (first ∷ first ∷ []) move [] w);
           }
       | inr missed ↦
           let miss : Event FifoNote = event_of a (Miss (Root 1) (link_to tail) missed.found) None in
@@ -167,6 +174,8 @@ module _ (n : HeapNumbers) (job tail next : ℕ) (h : Hold) (s a b t : Seat Fifo
             room = subst (λ z. FindsFull n s.agent s.seen z → ⊥) (one_part s t _ _ w j.piece.puts)
                 (room_at n s t _ tail w k (part_allowed (FifoMay n) s t _ w all) named ((λ e. not_end e), ((λ e. not_end e), ((λ e. not_end e), tt))) low);
             node = node_puts n s t _ w all job h node.second k node slots fresh refl refl;
+            back = λ at. subst (λ z. 1 ≤ moves_in (off_the_head z)) (one_part s t _ _ w j.piece.puts)
+                (miss_back n (Root 1) refl s t k all tt (link_to tail) missed.found (first ∷ first ∷ []) miss [] w refl missed.other at);
           }
     ]
 
@@ -200,6 +209,7 @@ behind_moved n job tail h s t one two k kt named node other slots fresh p = reco
   };
   room = room_at n s t _ tail p k (part_allowed (FifoMay n) s t _ p kt.all) named ((λ e. (one, refl)), ((λ e. (two, refl)), tt)) low;
   node = node_puts n s t _ p kt.all job h node.second k node slots fresh refl refl;
+  back = λ at. omega (arith, backs_since s.agent p.part, looks_back n (Next tail) refl s t k kt.all named.linked one two p other);
 }
   where
     has_next : (next : ℕ) × HasLink (heap_of n t) tail (link_to next)

@@ -1,19 +1,19 @@
 -- From what a call did to its clauses on journals.
-use Rattle.std.proofs.Common.{List, Ok, Err, Option, Result, [], ap, append-nil, append_assoc, arith, drop, inr, length, refl, subst, sym, take, true, ℕ, ◌*◌, ◌++◌, ◌+◌, ◌<◌, ◌==◌, ◌^◌, ◌∙◌, ◌∷◌, ◌≡◌, ◌≢◌, ◌≤◌, ◌⊎◌}
+use Rattle.std.proofs.Common.{List, Ok, Err, Option, Result, [], ap, append-nil, arith, drop, inr, length, refl, subst, sym, true, ℕ, ◌*◌, ◌++◌, ◌+◌, ◌<◌, ◌==◌, ◌^◌, ◌∙◌, ◌∷◌, ◌≡◌, ◌≢◌, ◌≤◌, ◌⊎◌}
 use Rattle.std.proofs.lemmas.List.{length-append}
 use Rattle.std.proofs.lemmas.List.Elements.{filter-append}
 use Rattle.std.proofs.Math.Seq.{drop-append_seam, take-length}
 use Rattle.std.specs.List.{list_all, AllByRecursion}
 use Rattle.std.specs.Prelude.{IfErr, IfOk, IsErr, ◌↔◌}
 use mathlib.Core.List.{IsPrefix}
-use Rattle.orc_heap.proofs.Moved.{moves_in-append, gives_in-append}
-use Rattle.orc_heap.proofs.OwnParts.{from_own-others, moves_from_own, own_from}
+use Rattle.orc_heap.proofs.Moved.{gives_in-append}
+use Rattle.orc_heap.proofs.OwnParts.{from_own-others, own_from}
 use Rattle.orc_heap.proofs.Steps.{events_grow, part_bounds, part_within, part_events}
 use Rattle.orc_heap.proofs.Stays.{allowed-right}
 use Rattle.orc_heap.specs.Allowed.{AllAllowed, events_by}
 use Rattle.orc_heap.specs.Heap.{HeapNumbers}
 use Rattle.orc_heap.specs.Journals.{run_heap}
-use Rattle.orc_heap.specs.Moves.{AllOwn, from_own, gives_in, moves_in}
+use Rattle.orc_heap.specs.Moves.{AllOwn, from_own, gives_in}
 use Rattle.orc_heap.specs.OwnEvents.{IsBelow}
 use Rattle.orc_history.specs.Parts.{InPart, IsAlone, part_begin}
 use Rattle.orc_heap.specs.Seats.{Seat}
@@ -29,7 +29,7 @@ use Rattle.orc_fifo_rule.proofs.OwnEntries.{entries_own}
 use Rattle.orc_fifo_rule.specs.declared.fifo.FifoNote.{FifoNote}
 use Rattle.orc_heap.specs.declared.links.Links.{Ghosts as LinksOf}
 use Rattle.orc_fifo_rule.specs.QueueDiscipline.{FifoMay, entries_of, position_of, entries_in}
-use Rattle.orc_queue.specs.Answers.{CallFindsFull, IsCall, PutAnswers, TakeAnswers, Tires, gives_of}
+use Rattle.orc_queue.specs.Answers.{CallFindsFull, IsCall, PutAnswers, TakeAnswers, gives_of}
 use Rattle.orc_queue.specs.Causes.{Cause, LacksPosition, UsesTurns}
 use Rattle.orc_queue.specs.Turns.{FindsFull, HasDummy, TailIsLast}
 use Rattle.orc_queue.specs.Laws.Histories.{first_stays}
@@ -171,27 +171,6 @@ module _ {S : Type 0} {n : HeapNumbers} {agents : ℕ} {agent_of : S → ℕ} {e
     take_err turns (Ok got) l = tt
     take_err turns (Err again) l = call_adds _ turns [] l.call
 
-    -- all turns were used
-    pub turns_used : (given turns : ℕ) → Tires given turns s t → InPart agent_of s.agent j k (λ from to. UsesTurns agent_of events s.agent turns k from to)
-    turns_used given turns l =
-        let p = l.call.puts in
-        let new : events k ≡ events j ++ p.part = sym o.is_t ∙ (p.is ∙ ap (λ z. z ++ p.part) o.is_s) in
-        let e = part_events agent_of events o.adds s.agent j k p.part o.grows new in
-        let bounds = part_bounds agent_of s.agent j k o.grows in
-        let own : from_own s.agent p.part ≡ from_own s.agent e.part = ap (λ z. from_own s.agent z) e.is ∙ from_own-others s.agent e.gap e.part e.others in
-        let moved : turns ≤ moves_in (from_own s.agent e.part) = subst (λ z. turns ≤ moves_in z) own l.moved in
-        let whole : events (take (length k) k) ≡ (events j ++ e.gap) ++ e.part =
-        ap events (take-length k) ∙ (new ∙ (ap (λ z. events j ++ z) e.is ∙ sym (append_assoc (events j) e.gap e.part))) in
-        record {
-          in_order = bounds.1;
-          in_journal = omega arith;
-          moves = rw (e.begin_events, whole) (omega (arith, moved, moves_from_own s.agent e.part, moves_in-append (events j ++ e.gap) e.part));
-          not_alone = λ two alone.
-              let part = e.alone
-              (subst (λ z. list_all (λ (x : S). agent_of x == s.agent) (drop (part_begin agent_of s.agent j k) z) ≡ true) (take-length k) alone) in
-              l.busy two (subst (λ z. AllOwn s.agent z) (sym own) (own_from s.agent e.part part));
-        }
-
     -- a put that was alone leaves the tail at the last node
     pub put_tail : (job turns : ℕ) (r : Result ℕ QueueRefused) → Known n s.seen → PutAnswers n job turns s r t
         → IfOk r (λ at. IsAlone agent_of s.agent j k → TailIsLast (run_heap n t.seen))
@@ -203,18 +182,6 @@ module _ {S : Type 0} {n : HeapNumbers} {agents : ℕ} {agent_of : S → ℕ} {e
         alone_runs n TailIsLast s t l.call.own p known o.all (tail_settles n l.call.own l.helps)
         (subst (λ z. AllOwn s.agent z) (sym own) (own_from s.agent e.part (e.alone alone)))
     put_tail job turns (Err why) known l = tt
-
-    pub put_again : (job turns : ℕ) (r : Result ℕ QueueRefused) → PutAnswers n job turns s r t → r ≡ Err Again
-        → InPart agent_of s.agent j k (λ from to. UsesTurns agent_of events s.agent turns k from to)
-    put_again job turns (Ok at) l is = cc
-    put_again job turns (Err Again) l is = turns_used _ turns l.tires
-    put_again job turns (Err NoNode) l is = cc
-    put_again job turns (Err Positions) l is = cc
-
-    pub take_again : (turns : ℕ) (r : Result (Option (ℕ × ℕ)) AgainFault) → TakeAnswers turns s r t
-        → IfErr r (λ e. InPart agent_of s.agent j k (λ from to. UsesTurns agent_of events s.agent turns k from to))
-    take_again turns (Ok got) l = tt
-    take_again turns (Err again) l = turns_used _ turns l
 
     -- the end of the queue was found where no position was left
     full_lacks : (turns : ℕ) (opening : List (Event FifoNote)) → HasDummy n opening → IsPrefix opening t.seen → Known n s.seen → turns ≢ 0 → CallFindsFull n s t

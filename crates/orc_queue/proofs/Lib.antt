@@ -13,3 +13,5 @@ pub mod PutTurns
 pub mod Room
 pub mod TakeTurns
 pub mod Taking
+mod Backs
+mod Costs

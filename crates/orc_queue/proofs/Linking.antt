@@ -28,6 +28,7 @@ use Rattle.orc_fifo_rule.specs.Laws.Nodes.{link_next}
 use Rattle.orc_queue.specs.declared.put.PutTurn.{PutTurn}
 use Rattle.orc_queue.specs.declared.put.PutTurn.TheVariants.{Full, Over as PutOver, Put as PutDone}
 use Rattle.orc_queue.specs.Turns.{Helps, HoldsNode, KeepsTail, LinkMissed, LinksBehind, LinksJob, SwingsLast, SwingsTail}
+use Rattle.orc_queue.proofs.Backs.{miss_back}
 use Rattle.orc_queue.proofs.Filled.{Known}
 use Rattle.orc_queue.proofs.Joins.{join, room_join}
 use Rattle.orc_queue.proofs.Looking.{position_read}
@@ -118,6 +119,7 @@ module _ {n : HeapNumbers} {job at tail : ℕ} {h : Hold} {s a b : Seat FifoNote
           room = room_unseen n s t (e ∷ m ∷ []) p refl;
           low = tail_low;
           node = node_puts n s t (e ∷ m ∷ []) p all job h (at + 1) f.before f.node same_slots same_fresh refl (filled_is f.node.second (m ∷ []));
+          back = miss_back n (Next tail) refl s t f.before all f.named.linked null miss.found (e ∷ []) m [] p refl miss.other;
         }
 
     -- the node is linked

@@ -24,8 +24,9 @@ use Rattle.orc_fifo_rule.specs.QueueDiscipline.{FifoHolds, FifoMay, entries_of, 
 use Rattle.orc_fifo_rule.specs.Laws.Events.{begun_more}
 use Rattle.orc_queue.specs.declared.put.PutTurn.{PutTurn}
 use Rattle.orc_queue.specs.declared.put.PutTurn.TheVariants.{Full, Over as PutOver, Put as PutDone}
-use Rattle.orc_queue.specs.Turns.{AreOver, EndsHelping, FindsFull, HoldsNode, IsOver, Piece, PutMissed, PutTires, PutsBehind, PutsTurn, PutsTurns, TailIsLast}
+use Rattle.orc_queue.specs.Turns.{AreOver, EndsHelping, FindsFull, HoldsNode, IsOver, Piece, PutMissed, PutTires, PutsBehind, PutsTurn, PutsTurns, TailIsLast, back_moves_in}
 use Rattle.orc_queue.proofs.Alone.{over_helped, over_missed, over_quiet, swing_settles}
+use Rattle.orc_queue.proofs.Backs.{backs_left, backs_since_both, backs_then, look_or_back, looks_back}
 use Rattle.orc_queue.proofs.Behind.{behind_piece}
 use Rattle.orc_queue.proofs.Filled.{Known}
 use Rattle.orc_queue.proofs.Holding.{found_fresh, found_id, found_other_id, found_released}
@@ -120,6 +121,11 @@ module _ (n : HeapNumbers) (one : Link) (job tail : ℕ) (h : Hold) (s a b t : S
           room = room_join n s a t _ _ over.piece.own p q over.piece.puts first_room
               (room_join n a b t _ _ _ q0.puts freed q l.room (room_unseen n b t [] freed refl));
           node = node_held n b t [] freed all_t job h l.node.second kb l.node held same_id fresh_t refl refl;
+          back = elim (look_or_back n (Root 1) refl s a k all_a tt (link_to tail) None (at_first n s one tail 0 ∷ []) [] p) [
+            | inl at ↦
+                omega (arith, l.back at, backs_left a b t q0.own [] q0.own q0.puts freed q, backs_then s a t _ _ _ _ p q over.piece.puts refl refl)
+            | inr some ↦ omega (arith, some, backs_since_both s a t _ _ _ p q over.piece.puts)
+          ];
         }
     turn_done (PutDone at) l =
         let q0 = l.piece in
@@ -179,6 +185,8 @@ turn_moved n job h s t one two k all node other slots fresh p =
       over = over;
       room = λ f. room_unseen n s t _ p refl (subst (λ z. FindsFull n s.agent s.seen z) (one_part s t _ _ over.piece.puts p) f);
       node = node_puts n s t _ p all job h node.second k node slots fresh refl refl;
+      back = subst (λ z. 1 ≤ back_moves_in s.agent z) (one_part s t _ _ p over.piece.puts)
+          (looks_back n (Root 1) refl s t k all tt one two p other);
     }
 
 -- one turn more
@@ -232,13 +240,19 @@ tires_none n job h s node =
           (subst (λ z. FindsFull n s.agent s.seen z)
           (one_part s s _ [] over.piece.puts (record { part = []; is = sym (append-nil s.seen); agent = refl; own_is = refl })) f);
       node = node;
+      back = omega arith;
     }
 
 pub tires_next : (n : HeapNumbers) (job turns : ℕ) (h : Hold) (s t u : Seat FifoNote) → PutTires n job turns h s t → PutMissed n job h t u
     → PutTires n job (turns + 1) h s u
 tires_next n job turns h s t u all one =
     let over = over_next n TailIsLast turns s t u all.over one.over in
-    record { over = over; room = room_join n s t u _ _ _ all.over.piece.puts one.over.piece.puts over.piece.puts all.room one.room; node = one.node }
+    record {
+      over = over;
+      room = room_join n s t u _ _ _ all.over.piece.puts one.over.piece.puts over.piece.puts all.room one.room;
+      node = one.node;
+      back = omega (arith, all.back, one.back, backs_since_both s t u _ _ _ all.over.piece.puts one.over.piece.puts over.piece.puts);
+    }
 
 -- the help of the tail after other events
 pub ends_helping : (es fs : List (Event FifoNote)) → EndsHelping fs → EndsHelping (es ++ fs)

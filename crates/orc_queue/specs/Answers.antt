@@ -13,7 +13,7 @@ use Rattle.orc_history.specs.declared.queue.QueueRefused.{QueueRefused}
 use Rattle.orc_history.specs.declared.queue.QueueRefused.TheVariants.{Again, NoNode, Positions}
 use Rattle.orc_fifo_rule.specs.declared.fifo.FifoNote.{FifoNote}
 use Rattle.orc_fifo_rule.specs.QueueDiscipline.{entries_of}
-use Rattle.orc_queue.specs.Turns.{EndsHelping, FindsFull}
+use Rattle.orc_queue.specs.Turns.{EndsHelping, FindsFull, back_moves_in}
 
 -- a call of so many turns that leaves the pass idle: its own events enter these entries and give so many nodes; at most 6 of
 -- them are of each turn, and 3 of each node that is given
@@ -46,10 +46,11 @@ gives_of zero result = 0
 gives_of (suc turns) (Err NoNode) = 0
 gives_of (suc turns) result = 1
 
--- a put that used all its turns, and found room
+-- a put that used all its turns, each by a Move that isn't one of root 0, and found room
 pub record PutTired (n : HeapNumbers) (turns : ℕ) (s t : Seat FifoNote) : Type 0 where
   pub tires : Tires (gives_of turns (Err Again)) turns s t
   pub room : HasRoom n tires.call
+  pub back : turns ≤ back_moves_in s.agent tires.call.puts.part
 
 -- a put for which no node could be had
 pub record PutLacking (n : HeapNumbers) (turns : ℕ) (s t : Seat FifoNote) : Type 0 where

@@ -1,13 +1,15 @@
 -- What the contracts of the queue's calls say of a pass before a call, `old`, and after it, `new`.
-use Rattle.std.specs.Prelude.{List, [], ℕ}
+use Rattle.std.specs.Prelude.{List, [], length, ℕ}
 use Rattle.orc_heap.specs.Domains.{DuringCall, Enters as EntersHistory, InCall, agent, heap}
 use Rattle.orc_heap.specs.declared.links.Links.{Ghosts as LinksOf}
-use Rattle.orc_history.specs.QueueHistory.{agent_of_entry}
+use Rattle.orc_history.specs.Parts.{part_begin}
+use Rattle.orc_history.specs.QueueHistory.{agent_of_entry, puts_in}
 use Rattle.orc_history.specs.declared.queue.QueueEntry.{QueueEntry}
 use Rattle.orc_fifo_rule.specs.declared.fifo.FifoNote.{FifoNote}
+use Rattle.orc_fifo_rule.specs.Counts.{tooks_in}
 use Rattle.orc_fifo_rule.specs.QueueDiscipline.{entries_in}
 use Rattle.orc_queue.specs.Answers.{CallFindsFull}
-use Rattle.orc_queue.specs.Causes.{UsesTurns}
+use Rattle.orc_queue.specs.Causes.{UsesTurns, entered_by_others}
 use Rattle.orc_queue.specs.Turns.{TailIsLast}
 
 module _ {L D P S : Type 0} (members : LinksOf L D P S FifoNote) (links : L) where
@@ -23,6 +25,19 @@ module _ {L D P S : Type 0} (members : LinksOf L D P S FifoNote) (links : L) whe
   abbrev pub UsesAllTurns : ℕ → P → P → Type 0
   UsesAllTurns turns old new =
       InCall members links old new (UsesTurns members.agent_of (members.events links) (agent members links old) turns (members.journal new))
+
+  -- what other agents entered in the history in the call's part of the journal
+  abbrev pub others_entries : P → P → List QueueEntry
+  others_entries old new = entered_by_others (members.events links) (agent members links old) (members.journal new)
+      (part_begin members.agent_of (agent members links old) (members.journal old) (members.journal new)) (length (members.journal new))
+
+  -- how many Puts of other agents stand in that part
+  abbrev pub others_puts : P → P → ℕ
+  others_puts old new = puts_in (others_entries old new)
+
+  -- how many Tooks of other agents stand there
+  abbrev pub others_tooks : P → P → ℕ
+  others_tooks old new = tooks_in (others_entries old new)
 
   -- no row could be given to the call's agent in the part that the call had made by some time
   abbrev pub LacksRow : P → P → Type 0

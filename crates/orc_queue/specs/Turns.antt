@@ -19,6 +19,7 @@ use Rattle.orc_history.specs.declared.queue.QueueEntry.{QueueEntry}
 use Rattle.orc_history.specs.declared.queue.QueueEntry.TheVariants.{Empty, Put, Took}
 use Rattle.orc_fifo_rule.specs.declared.fifo.FifoNote.{FifoNote}
 use Rattle.orc_fifo_rule.specs.declared.fifo.FifoNote.TheVariants.{Swing}
+use Rattle.orc_fifo_rule.specs.Counts.{off_the_head}
 use Rattle.orc_fifo_rule.specs.QueueDiscipline.{entries_of, has_begun, position_of}
 use Rattle.orc_queue.specs.declared.put.PutTurn.{PutTurn}
 use Rattle.orc_queue.specs.declared.put.PutTurn.TheVariants.{Full, Over as PutOver, Put as PutDone}
@@ -149,12 +150,18 @@ pub record IsFull (n : HeapNumbers) (most : ℕ) (s t : Seat FifoNote) : Type 0 
   pub fresh : t.fresh ≡ s.fresh
   pub full : FindsFull n s.agent s.seen piece.puts.part
 
--- behind a node with a null link, the new node was not linked: if the link was null before, then a Move stands in what is new
+-- how many Moves of other places than root 0 stand in the events, from the agent's first one on
+abbrev pub back_moves_in : ℕ → List (Event FifoNote) → ℕ
+back_moves_in agent es = moves_in (from_own agent (off_the_head es))
+
+-- behind a node with a null link, the new node was not linked: if the link was null before, then a Move stands in what is new,
+-- and not of root 0
 pub record LinkMissed (n : HeapNumbers) (job tail : ℕ) (h : Hold) (s t : Seat FifoNote) : Type 0 where
   pub stops : Stops n 2 (Next tail) null (λ own. ⊥) s t
   pub room : FindsFull n s.agent s.seen stops.piece.puts.part → ⊥
   pub low : position_of (heap_of n s) tail < 2 ^ 62
   pub node : HoldsNode n job h t
+  pub back : shown (heap_of n s) (Next tail) ≡ Some null → 1 ≤ moves_in (off_the_head stops.piece.puts.part)
 
 -- nor was it linked where no position is left behind the node
 pub record NoPosition (n : HeapNumbers) (tail : ℕ) (s t : Seat FifoNote) : Type 0 where
@@ -179,11 +186,13 @@ abbrev pub HelpsBehind : Seat FifoNote → ℕ → List (Event FifoNote) → Typ
 HelpsBehind s tail own = (next : ℕ) × (own ≡ event_of s (Look (Next tail) (link_to next)) None ∷ event_of s (Look (Next tail) (link_to next)) None
     ∷ event_of s (Move (Root 1) (link_to tail) (link_to next)) (Some Swing) ∷ [])
 
--- behind the node that root 1 named, the new node was not linked: if root 1 named the node before, then a Move stands in what is new
+-- behind the node that root 1 named, the new node was not linked: if root 1 named the node before, then a Move stands in what is new,
+-- and not of root 0
 pub record TurnMissed (n : HeapNumbers) (job tail : ℕ) (h : Hold) (s t : Seat FifoNote) : Type 0 where
   pub stops : Stops n 4 (Root 1) (link_to tail) (HelpsBehind s tail) s t
   pub room : FindsFull n s.agent s.seen stops.piece.puts.part → ⊥
   pub node : HoldsNode n job h t
+  pub back : shown (heap_of n s) (Root 1) ≡ Some (link_to tail) → 1 ≤ moves_in (off_the_head stops.piece.puts.part)
 
 -- a turn of a put from that node on, by its answer
 abbrev pub PutsBehind : HeapNumbers → ℕ → ℕ → Hold → Seat FifoNote → PutTurn → Seat FifoNote → Type 0
@@ -191,11 +200,12 @@ PutsBehind n job tail h s PutOver t = TurnMissed n job tail h s t
 PutsBehind n job tail h s (PutDone at) t = PutsJob n 4 (SwingsLast tail) job at s t
 PutsBehind n job tail h s Full t = IsFull n 4 s t
 
--- a turn of a put that is over
+-- a turn of a put that is over: a Move stands in it that isn't one of root 0
 pub record PutMissed (n : HeapNumbers) (job : ℕ) (h : Hold) (s t : Seat FifoNote) : Type 0 where
   pub over : IsOver n TailIsLast s t
   pub room : FindsFull n s.agent s.seen over.piece.puts.part → ⊥
   pub node : HoldsNode n job h t
+  pub back : 1 ≤ back_moves_in s.agent over.piece.puts.part
 
 -- a turn of a put, by its answer
 abbrev pub PutsTurn : HeapNumbers → ℕ → Hold → Seat FifoNote → PutTurn → Seat FifoNote → Type 0
@@ -203,11 +213,12 @@ PutsTurn n job h s PutOver t = PutMissed n job h s t
 PutsTurn n job h s (PutDone at) t = PutsJob n 6 EndsHelping job at s t
 PutsTurn n job h s Full t = IsFull n 6 s t
 
--- so many turns of a put that are over
+-- so many turns of a put that are over: as many such Moves stand in them
 pub record PutTires (n : HeapNumbers) (job turns : ℕ) (h : Hold) (s t : Seat FifoNote) : Type 0 where
   pub over : AreOver n TailIsLast turns s t
   pub room : FindsFull n s.agent s.seen over.piece.puts.part → ⊥
   pub node : HoldsNode n job h t
+  pub back : turns ≤ back_moves_in s.agent over.piece.puts.part
 
 -- at most so many turns of a put, by the answer of the last
 abbrev pub PutsTurns : HeapNumbers → ℕ → ℕ → Hold → Seat FifoNote → PutTurn → Seat FifoNote → Type 0

@@ -1,6 +1,6 @@
 //! The queue, and its calls.
 
-ghost use Rattle.std.specs.Prelude.{◌≡◌, ℕ, ◌*◌, ◌+◌, ◌<◌, ◌↔◌, List, [], ◌∷◌, Err, IfOk, IfErr, IsErr};
+ghost use Rattle.std.specs.Prelude.{◌≡◌, ℕ, ◌*◌, ◌+◌, ◌<◌, ◌≤◌, ◌↔◌, List, [], ◌∷◌, Err, IfOk, IfErr, IsErr};
 ghost use mathlib.Core.List.{IsPrefix};
 ghost use Rattle.orc_heap.specs.Domains.{GivesNodes, IsCallAlone, MakesAtMost, MakesNoEvent, agent};
 ghost use Rattle.orc_heap.specs.Journals.{run_heap};
@@ -13,6 +13,7 @@ ghost use Rattle.orc_queue.specs.Answers.{gives_of};
 ghost use Rattle.orc_queue.specs.Causes.{Cause};
 ghost use Rattle.orc_queue.specs.Laws.Histories.{cause_puts, cause_stays, entries_below, history_grows, seen_legal};
 ghost use Rattle.orc_queue.specs.QueueCalls.{Enters, EntersNone, FindsNoPosition, LacksRow, LeavesTailLast, UsesAllTurns};
+ghost use Rattle.orc_queue.specs.QueueCalls.{others_puts, others_tooks};
 ghost use Rattle.orc_queue.specs.Turns.{HasDummy};
 
 use crate::put::put_job;
@@ -64,7 +65,8 @@ impl<L: Links<Rule = Fifo>> Queue<L> {
     ///
     /// # Errors
     ///
-    /// * `Again` if all tries were used up. With no turns it gives no node and makes no event.
+    /// * `Again` if all tries were used up. With no turns it gives no node and makes no event. Each Put of another agent in
+    ///   the call's part uses up at most two tries, and one try more may be used up by a swing of the tail.
     /// * `NoNode` if the domain had no node to give.
     /// * `Positions` if it came to the last node and no position is left behind that.
     pub fn put(&self, p: &mut L::Pass, job: u64, turns: u64) -> Result<u64, QueueRefused>
@@ -79,6 +81,7 @@ impl<L: Links<Rule = Fifo>> Queue<L> {
         ensures no_turns { turns ≡ 0 → result ≡ Err QueueRefused.Again }
         ensures no_event { turns ≡ 0 → MakesNoEvent L.Links self.now.links p.old p.new }
         ensures again { result ≡ Err QueueRefused.Again → UsesAllTurns L.Links self.now.links turns p.old p.new }
+        ensures cost { result ≡ Err QueueRefused.Again → turns ≤ 2 * others_puts L.Links self.now.links p.old p.new + 1 }
         ensures no_node { result ≡ Err QueueRefused.NoNode → LacksRow L.Links self.now.links p.old p.new }
         ensures positions { (result ≡ Err QueueRefused.Positions) ↔ FindsNoPosition L.Links self.now.links p.old p.new }
         ensures gives { GivesNodes L.Links self.now.links (gives_of turns result) p.old p.new }
@@ -97,7 +100,8 @@ impl<L: Links<Rule = Fifo>> Queue<L> {
     ///
     /// # Errors
     ///
-    /// `Again` if all tries were used up. With no turns it makes no event.
+    /// `Again` if all tries were used up. With no turns it makes no event. Each Put of another agent in the call's part uses
+    /// up at most two tries and each Took of another agent one, and one try more may be used up by a swing of the tail.
     pub fn take(&self, p: &mut L::Pass, turns: u64) -> Result<Option<(u64, u64)>, Again>
         requires pass { L.belongs self.now.links p.old }
         requires idle { IsIdle (L.seat self.now.links p.old) }
@@ -110,6 +114,8 @@ impl<L: Links<Rule = Fifo>> Queue<L> {
         ensures no_turns { turns ≡ 0 → IsErr result }
         ensures no_event { turns ≡ 0 → MakesNoEvent L.Links self.now.links p.old p.new }
         ensures again { IfErr result (λ e. UsesAllTurns L.Links self.now.links turns p.old p.new) }
+        ensures cost { IfErr result (λ e. turns ≤ 2 * others_puts L.Links self.now.links p.old p.new
+            + others_tooks L.Links self.now.links p.old p.new + 1) }
         ensures gives { GivesNodes L.Links self.now.links 0 p.old p.new }
         ensures tries { MakesAtMost L.Links self.now.links (6 * turns) p.old p.new }
         ensures settled { IsCallAlone L.Links self.now.links p.old p.new → L.backlog p.new ≡ 0 }

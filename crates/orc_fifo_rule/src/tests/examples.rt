@@ -11,7 +11,8 @@ ghost use Rattle.orc_history.specs.QueueHistory.{IsLegalQueue};
 ghost use Rattle.orc_history.specs.declared.queue.QueueEntry.{QueueEntry};
 ghost use Rattle.orc_fifo_rule.specs.declared.fifo.FifoNote.{FifoNote};
 ghost use Rattle.orc_heap.specs.Calls.{links_made};
-ghost use Rattle.orc_fifo_rule.specs.Counts.{swings_in};
+ghost use Rattle.orc_fifo_rule.specs.Counts.{entries_of_others, off_the_head, swings_in, tooks_in};
+ghost use Rattle.orc_heap.specs.Moves.{moves_in};
 ghost use Rattle.orc_fifo_rule.specs.QueueDiscipline.{FifoMay, IsInTime, IsPath, LeadsOn, MayAct, MayEnter, entries_of, has_begun, position_of};
 ghost use Rattle.orc_fifo_rule.specs.Watches.{IsLeft, WasNamed, node_to_put};
 
@@ -43,6 +44,8 @@ fn a_job_goes_through_the_queue()
         AllAllowed (FifoMay (record { roots = 2 })) [] es
         × (entries_of es ≡ QueueEntry.Put 1 7 5 ∷ QueueEntry.Took 2 7 5 ∷ QueueEntry.Empty 2 ∷ [])
         × (links_made es 0 ≡ 2) × (links_made es 1 ≡ 3) × (links_made es 2 ≡ 0) × (swings_in es ≡ 1)
+        × (tooks_in (entries_of es) ≡ 1) × (entries_of_others 2 (entries_of es) ≡ QueueEntry.Put 1 7 5 ∷ [])
+        × (moves_in es ≡ 5) × (moves_in (off_the_head es) ≡ 3)
         × (position_of (run_heap (record { roots = 2 }) es) 1 ≡ 6) }
 {}
 

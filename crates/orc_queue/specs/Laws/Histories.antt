@@ -62,6 +62,7 @@ cause_stays agent_of events first Lacks Later agent turns Again seen more from t
       in_journal = omega (arith, c.in_journal, length-append seen more);
       moves = rw (take_from, take_to) c.moves;
       not_alone = λ two. rw take_to (c.not_alone two);
+      cost = rw (take_from, take_to) c.cost;
     }
 cause_stays agent_of events first Lacks Later agent turns NoNode seen more from to stays c = (c.0, stays c.1)
 cause_stays agent_of events first Lacks Later agent turns Positions seen more from to stays c = record {

@@ -9,7 +9,7 @@ ghost use Rattle.orc_history.specs.declared.queue.QueueEntry.{QueueEntry};
 ghost use Rattle.orc_history.specs.declared.queue.QueueRefused.{QueueRefused};
 ghost use Rattle.orc_fifo_rule.specs.declared.fifo.FifoNote.{FifoNote};
 ghost use Rattle.orc_queue.specs.Answers.{gives_of};
-ghost use Rattle.orc_queue.specs.Causes.{Cause, LacksPosition, UsesTurns};
+ghost use Rattle.orc_queue.specs.Causes.{Cause, LacksPosition, UsesTurns, entered_by_others};
 ghost use Rattle.orc_queue.specs.Turns.{IsFullLook, KeepsTail, SwingsTail, TailIsLast, TailIsPast, next_position};
 ghost use Rattle.orc_heap.specs.Journals.{event_by};
 
@@ -35,6 +35,28 @@ fn one_turn_is_used()
     ensures before { ¬ UsesTurns {S = Event FifoNote} (λ e. e.agent) (λ j. j) 1 1
         (event_by 2 (Act.Move (Place.Root 1) (link_to 0) (link_to 1)) (Some FifoNote.Swing)
         ∷ event_by 1 (Act.Look (Place.Root 1) (link_to 1)) None ∷ []) 1 2 }
+{}
+
+// While agent 1 looked, agent 2 took a job, and agent 3 put one and swung the tail: these use up three turns of agent 1, and
+// not five. What stood in the history before doesn't count.
+fn others_use_up_turns()
+    ensures three { let es : List (Event FifoNote) =
+        event_by 2 (Act.Move (Place.Next 0) null (link_to 1)) (Some (FifoNote.Entry (QueueEntry.Put 2 7 5)))
+        ∷ event_by 1 (Act.Look (Place.Root 1) (link_to 1)) None
+        ∷ event_by 2 (Act.Move (Place.Root 0) (link_to 0) (link_to 1)) (Some (FifoNote.Entry (QueueEntry.Took 2 7 5)))
+        ∷ event_by 3 (Act.Move (Place.Next 1) null (link_to 2)) (Some (FifoNote.Entry (QueueEntry.Put 3 8 6)))
+        ∷ event_by 3 (Act.Move (Place.Root 1) (link_to 1) (link_to 2)) (Some FifoNote.Swing) ∷ [] in
+        (entered_by_others {S = Event FifoNote} (λ j. j) 1 es 1 5 ≡ QueueEntry.Took 2 7 5 ∷ QueueEntry.Put 3 8 6 ∷ [])
+        × (entered_by_others {S = Event FifoNote} (λ j. j) 2 es 1 5 ≡ QueueEntry.Put 3 8 6 ∷ [])
+        × UsesTurns {S = Event FifoNote} (λ e. e.agent) (λ j. j) 1 3 es 1 5
+        × (¬ UsesTurns {S = Event FifoNote} (λ e. e.agent) (λ j. j) 1 5 es 1 5) }
+{}
+
+// Two Swings and no Put between them, which no queue makes, are no excuse for two turns: others' work is missing.
+fn swings_alone_are_no_excuse()
+    ensures { ¬ UsesTurns {S = Event FifoNote} (λ e. e.agent) (λ j. j) 1 2
+        (event_by 2 (Act.Move (Place.Root 1) (link_to 0) (link_to 1)) (Some FifoNote.Swing)
+        ∷ event_by 2 (Act.Move (Place.Root 1) (link_to 1) (link_to 2)) (Some FifoNote.Swing) ∷ []) 0 2 }
 {}
 
 // Two Moves of its own use up two turns of no agent.

@@ -94,4 +94,8 @@ returns c = (
   refl,
   refl,
   refl,
+  refl,
+  refl,
+  refl,
+  refl,
 )

@@ -4,7 +4,8 @@ use Rattle.orc_heap.proofs.Pieces.{goes_on}
 use Rattle.orc_heap.proofs.Steps.{alone_later}
 use Rattle.orc_history.specs.Parts.{IsAlone}
 use Rattle.orc_queue.proofs.Answering.{put_settled}
-use Rattle.orc_queue.proofs.Causes.{any_gives, any_tries, call_seen, during, put_again, put_any, put_err, put_no_turns, put_ok, put_positions, put_tail}
+use Rattle.orc_queue.proofs.Causes.{any_gives, any_tries, call_seen, during, put_any, put_err, put_no_turns, put_ok, put_positions, put_tail}
+use Rattle.orc_queue.proofs.Costs.{put_again, put_cost}
 use Rattle.orc_queue.proofs.Holding.{pass_known}
 use Rattle.orc_queue.proofs.queue.Queue.put.Goals as goal
 
@@ -39,7 +40,8 @@ returns g c =
       none = put_err seen c.args.job c.args.turns r l;
       no_turns = λ zero. (put_no_turns n c.args.job c.args.turns s u r l zero).0;
       no_event = λ zero. (put_no_turns n c.args.job c.args.turns s u r l zero).1;
-      again = put_again seen c.args.job c.args.turns r l;
+      again = put_again seen known c.args.job c.args.turns r l;
+      cost = put_cost seen known c.args.job c.args.turns r l;
       no_node = λ is. during by s.agent (g.L.Links.lacking d s.agent) (g.met.L.Links.lacking_stays d s.agent) j k m done.later settle.later (done.lacking is);
       positions = put_positions n c.args.job c.args.turns s u r l;
       gives = any_gives _ c.args.turns s u any;

@@ -4,7 +4,9 @@ use Rattle.orc_heap.proofs.Pieces.{goes_on}
 use Rattle.orc_heap.proofs.Steps.{alone_later}
 use Rattle.orc_history.specs.Parts.{IsAlone}
 use Rattle.orc_queue.proofs.Answering.{take_settled}
-use Rattle.orc_queue.proofs.Causes.{any_gives, any_tries, call_seen, take_again, take_any, take_err, take_no_turns, take_ok}
+use Rattle.orc_queue.proofs.Causes.{any_gives, any_tries, call_seen, take_any, take_err, take_no_turns, take_ok}
+use Rattle.orc_queue.proofs.Costs.{take_again, take_cost}
+use Rattle.orc_queue.proofs.Holding.{pass_known}
 use Rattle.orc_queue.proofs.queue.Queue.take.Goals as goal
 
 pub returns : goal.returns
@@ -26,6 +28,7 @@ returns g c =
     let grows = goes_on j k m done.later settle.later in
     let seen = call_seen g.L.Links d c.args.p.now c.settle.new.p (g.met.L.Links.seen_is d) (g.met.L.Links.allowed d)
     (g.met.L.Links.agents_below d c.settle.new.p settle.pass).1 (g.met.L.Links.steps_add d) c.requires.pass settle.pass grows in
+    let known = pass_known g.L.Links g.met.L.Links.opens g.met.L.Links.allowed g.met.L.Links.obeys d c.args.p.now c.args.self.now.made c.requires.pass in
     let by = g.L.Links.agent_of in
     record {
       pass = settle.pass;
@@ -36,7 +39,8 @@ returns g c =
       none = take_err seen c.args.turns r l;
       no_turns = λ zero. (take_no_turns c.args.turns s u r l zero).0;
       no_event = λ zero. (take_no_turns c.args.turns s u r l zero).1;
-      again = take_again seen c.args.turns r l;
+      again = take_again seen known c.args.turns r l;
+      cost = take_cost seen known c.args.turns r l;
       gives = any_gives 0 c.args.turns s u any;
       tries = omega (arith, any_tries 0 c.args.turns s u any);
       settled = λ alone. settle.settled
