@@ -34,9 +34,10 @@ impl<D: Discipline> MachineBoard<D> {
         action.operation.answer(n)
     }
 
-    // Makes a step that changes no link, without a note.
+    /// Makes a step that changes no link, without a note, and answers what `apply` does. The calls that are named for the kinds
+    /// of step make it so.
     #[inline(always)]
-    pub(crate) fn plain_step(
+    pub fn plain_step(
         &self,
         p: &mut MachineBoardPass<D>,
         op: Op,

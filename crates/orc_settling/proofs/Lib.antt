@@ -4,6 +4,7 @@ pub mod ForRuns
 pub mod Handovers
 pub mod Opening
 pub mod Parts
+pub mod Places
 pub mod Rounds
 pub mod Stages
 pub mod Steps

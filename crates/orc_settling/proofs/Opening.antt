@@ -1,34 +1,70 @@
 -- A call whose part begins with its own first step: what others did before counts for nothing.
 use Rattle.std.proofs.Common.{List, [], ap, arith, inl, inr, refl, subst, sym, true, ℕ, ◌*◌, ◌++◌, ◌+◌, ◌-◌, ◌<◌, ◌∙◌, ◌∷◌, ◌≡◌, ◌≤◌}
-use Rattle.std.specs.Prelude.{is_some}
 use Rattle.orc_core.proofs.Steps.{run-append}
 use Rattle.orc_core.specs.Machine.{Machine, is_allowed, record_at, step, word_in}
-use Rattle.orc_core.specs.RecordParts.{scans}
 use Rattle.orc_core.specs.Runs.{IsLawful, run}
 use Rattle.orc_core.specs.declared.ops.Op.{Op}
-use Rattle.orc_core.specs.declared.ops.Op.TheVariants.{Arm}
 use Rattle.orc_core.specs.declared.records.Agent.{Agent}
-use Rattle.orc_settling.proofs.Calls.{scan_some}
+use Rattle.orc_settling.proofs.Calls.{went_less}
 use Rattle.orc_settling.proofs.Parts.{HasOwn, settles_at, split_first, split_last}
 use Rattle.orc_settling.proofs.Rounds.{reached_work}
-use Rattle.orc_settling.proofs.Stages.{allowed_last, others_keep, went_join}
+use Rattle.orc_settling.proofs.Stages.{allowed_last, made_went, others_keep, went_join, went_none}
 use Rattle.orc_settling.proofs.Turns.{all_left, all_right, lawful_join, lawful_left, reached_falls, reached_hands, reached_on, reached_others, still_no_slots}
 use Rattle.orc_settling.specs.Records.{IsBetweenRounds, IsDone}
-use Rattle.orc_settling.specs.Rounds.{AfterStep, IsNoHand, Opened, Rounds, Settled, Went}
+use Rattle.orc_settling.specs.Rounds.{IsNoHand, Opened, Rounds, Settled, Went}
 use Rattle.orc_settling.specs.Turns.{AllOf, IsReachedState, Made, NoSlotsBut, NoneHanded, NoneOf, StaysZero}
 use Rattle.orc_settling.specs.Work.{IsSettlingStep, drop_of, work_left}
 use Rattle.orc_sound.proofs.AllFits.{run_bounds}
 use Rattle.orc_words.specs.Bounds.{Bounds}
-use Rattle.orc_words.specs.Packed.{bit}
 use Rattle.orc_words.specs.declared.place.Word.TheVariants.{Handover}
 
-pub opened_by : (a : ℕ) (op : Op) (rest drop : ℕ) (m f n : Machine) → IsNoHand op → IsSettlingStep (word_in m) op (record_at m a) → Made a op m f → Went a rest f n → drop ≤ drop_of op (record_at m a) + rest → Opened a drop m n
-opened_by a op rest drop m f n k s w g e = record { op = op; rest = rest; first = f; kind = k; settles = s; made = w; went = g; enough = e }
+-- one step opens a turn
+pub opened_step : (a : ℕ) (op : Op) (m n : Machine) → IsNoHand op → is_allowed m a op ≡ true → IsSettlingStep (word_in m) op (record_at m a) → Made a op m n
+    → IsReachedState n → Opened a (drop_of op (record_at m a)) m n
+opened_step a op m n k h s w r = record {
+  op = op;
+  rest = 0;
+  first = n;
+  kind = k;
+  allowed = h;
+  settles = s;
+  made = w;
+  went = went_none a n r;
+  enough = omega arith;
+}
 
-pub unretired_opened : (m n o p q : Machine) (a r : ℕ) → scans (record_at m a).scan r ≡ true → AfterStep a (Arm r) m n → Made a (Arm r) m n → Went a (bit (is_some (record_at n a).scan)) n o → Went a 0 o p → Went a 0 p q → Opened a 1 m q
-unretired_opened m n o p q a r e w t u v x =
-    let one : bit (is_some (record_at n a).scan) ≡ 1 = scan_some (record_at n a).scan r (ap (λ (d : Agent). scans d.scan r) w.is ∙ e) in
-    opened_by a (Arm r) (bit (is_some (record_at n a).scan) + 0 + 0) 1 m n q tt tt t (went_join a _ 0 n p q (went_join a _ 0 n o p u v) x) (omega arith)
+-- and more follow
+pub opened_more : (a x y : ℕ) (m n o : Machine) → Opened a x m n → Went a y n o → Opened a (x + y) m o
+opened_more a x y m n o p w = record {
+  op = p.op;
+  rest = p.rest + y;
+  first = p.first;
+  kind = p.kind;
+  allowed = p.allowed;
+  settles = p.settles;
+  made = p.made;
+  went = went_join a p.rest y p.first n o p.went w;
+  enough = let e = p.enough in omega arith;
+}
+
+pub opened_less : (a x y : ℕ) (m n : Machine) → y ≤ x → Opened a x m n → Opened a y m n
+opened_less a x y m n h p = record {
+  op = p.op;
+  rest = p.rest;
+  first = p.first;
+  kind = p.kind;
+  allowed = p.allowed;
+  settles = p.settles;
+  made = p.made;
+  went = p.went;
+  enough = let e = p.enough in omega arith;
+}
+
+-- it is a turn as a whole
+pub opened_went : (a x : ℕ) (m n : Machine) → IsReachedState m → Opened a x m n → Went a x m n
+opened_went a x m n r p =
+    went_less a (drop_of p.op (record_at m a) + p.rest) x m n p.enough
+    (went_join a (drop_of p.op (record_at m a)) p.rest m p.first n (made_went m p.first a p.op r p.allowed p.settles p.made) p.went)
 
 -- the state in which the agent's own first step is made, and what holds there
 record Begun (a : ℕ) (op : Op) (m f : Machine) (o : List (ℕ × Op)) : Type 0 where
@@ -65,7 +101,7 @@ falls_apart m f a op us o p r nh s k e none all =
     let same = split_last a k.others o q.0 (a, op) refl q.1 k.apart none (all_left a q.0 us mine) in
     record { begun = subst (Begun a op m f) (sym same) (begun m f a op r nh s k); mine = all_right a q.0 us mine }
 
-pub settled_first : (m n o : Machine) (a left : ℕ) → IsReachedState m → a < m.bounds.agents → IsBetweenRounds m.bounds (record_at m a) → left ≡ 4 * (m.bounds.rows + 8 * m.bounds.agents) - 1 → 1 ≤ 4 * (m.bounds.rows + 8 * m.bounds.agents) → Opened a 1 m n → Rounds a left n o → Settled a m o
+pub settled_first : (m n o : Machine) (a left : ℕ) → IsReachedState m → a < m.bounds.agents → IsBetweenRounds (record_at m a) → left ≡ 4 * (m.bounds.rows + 8 * m.bounds.agents) - 1 → 1 ≤ 4 * (m.bounds.rows + 8 * m.bounds.agents) → Opened a 1 m n → Rounds a left n o → Settled a m o
 settled_first m n o a left r h d e big w g =
     let us = w.went.turn.steps ++ g.steps in
     let ts = w.made.others ++ (a, w.op) ∷ [] in record {

@@ -37,7 +37,7 @@ first_listed [] r h = absurd (false≢true h)
 first_listed (x ∷ xs) r h = let e = listings_cons x xs r in let f = ap bit h in omega arith
 
 -- a scan may begin
-pub start_allowed : (m : Machine) (a r : ℕ) → IsReachedState m → a < m.bounds.agents → IsBetweenRounds m.bounds (record_at m a) → IsNext r (record_at m a) → (record_at m a).scan ≡ None → is_allowed m a (CounterLoad r Start) ≡ true
+pub start_allowed : (m : Machine) (a r : ℕ) → IsReachedState m → a < m.bounds.agents → IsBetweenRounds (record_at m a) → IsNext r (record_at m a) → (record_at m a).scan ≡ None → is_allowed m a (CounterLoad r Start) ≡ true
 start_allowed m a r k h d n e =
     let w = ⊎_elim (λ s. absurd (no_scan (record_at m a).scan s e)) (λ w. w.1) n in
     allowed m a (CounterLoad r Start) h d.still.calm.enrolled (rw (d.still.due, d.still.calm.inc, d.still.dec) refl)

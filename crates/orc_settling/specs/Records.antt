@@ -43,10 +43,9 @@ PlaceFits b None = Unit {0}
 PlaceFits b (Some s) = s.place ≤ 8 * b.agents
 
 -- nothing is under way but a hand, or a scan that isn't found
-pub record IsBetweenRounds (b : Bounds) (d : Agent) : Type 0 where
+pub record IsBetweenRounds (d : Agent) : Type 0 where
   pub still : IsStill d
   pub found : scan_found d.scan ≡ false
-  pub place : PlaceFits b d.scan
   pub doom : d.doom ≡ None
 
 -- a due row is one of the table's, with a sequence of 40 bits

@@ -1,7 +1,7 @@
 -- What the parts of a settling do, round by round.
-use Rattle.std.specs.Prelude.{List, ◌%◌, ◌++◌, ◌+◌, ◌/◌, ◌≡◌, ◌≤◌, ℕ}
+use Rattle.std.specs.Prelude.{List, true, ◌%◌, ◌++◌, ◌+◌, ◌/◌, ◌≡◌, ◌≤◌, ℕ}
 use Rattle.orc_core.specs.After.{after}
-use Rattle.orc_core.specs.Machine.{Machine, record_at, word_in}
+use Rattle.orc_core.specs.Machine.{Machine, is_allowed, record_at, word_in}
 use Rattle.orc_core.specs.Runs.{IsLawful, run}
 use Rattle.orc_core.specs.declared.ops.Op.{Op}
 use Rattle.orc_core.specs.declared.ops.Op.TheVariants.{Hand, SlotLook}
@@ -38,6 +38,7 @@ pub record Opened (a drop : ℕ) (m n : Machine) : Type 0 where
   pub rest : ℕ
   pub first : Machine
   pub kind : IsNoHand op
+  pub allowed : is_allowed m a op ≡ true
   pub settles : IsSettlingStep (word_in m) op (record_at m a)
   pub made : Made a op m first
   pub went : Went a rest first n
