@@ -39,7 +39,7 @@ use Rattle.orc_words.specs.declared.packed.RowLink.{RowLink}
 use Rattle.orc_words.specs.declared.place.Word.TheVariants.{Gate, Root}
 
 -- what a step that read v does to the heap
-abbrev Keeps : (b : Bounds) (y : World) (p : PresentIds) (h : Heap) (a : ℕ) (op : Op) (want : Option RowLink) (d : Agent) (v : ℕ) → Type 0
+abbrev pub Keeps : (b : Bounds) (y : World) (p : PresentIds) (h : Heap) (a : ℕ) (op : Op) (want : Option RowLink) (d : Agent) (v : ℕ) → Type 0
 Keeps b y p h a op want d v = Fitting a (act_of p d v op want) h × Shows b y (ids_after p d v op) (heap_then a (act_of p d v op want) h)
 
 step_shows : (b : Bounds) (z : World) (p : PresentIds) (h : Heap) (a : ℕ) (op : Op) (want : Option RowLink) → LawfulStep b z a op
@@ -57,12 +57,12 @@ events_lawful : {N : Type 0} (s : Step N) (o : Option Act) (h : Heap) (rest : Li
 events_lawful s None h rest f l = l
 events_lawful s (Some act) h rest f l = (f, l)
 
-events_run : {N : Type 0} (s : Step N) (o : Option Act) (h : Heap) (rest : List (Event N))
+pub events_run : {N : Type 0} (s : Step N) (o : Option Act) (h : Heap) (rest : List (Event N))
     → run_from h (events_of s o ++ rest) ≡ run_from (heap_then s.agent o h) rest
 events_run s None h rest = refl
 events_run s (Some act) h rest = refl
 
-machine_step : (m : Machine) (p : PresentIds) (h : Heap) (a : ℕ) (op : Op) (want : Option RowLink) → Full m → AllFits m.bounds (world_of m)
+pub machine_step : (m : Machine) (p : PresentIds) (h : Heap) (a : ℕ) (op : Op) (want : Option RowLink) → Full m → AllFits m.bounds (world_of m)
     → is_allowed m a op ≡ true → IsWanted (record_at m a) op want → IsPlainOp op → Shows m.bounds (world_of m) p h
     → Keeps m.bounds (world_of (step m a op)) p h a op want (record_at m a) (word_read m a op)
 machine_step m p h a op want w s l u n k =

@@ -1,0 +1,6 @@
+pub mod RowRank
+pub mod RowRankRuns
+pub mod Reached
+pub mod Resting
+pub mod ValuesBelow
+pub mod Given
