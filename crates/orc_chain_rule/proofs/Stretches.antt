@@ -1,5 +1,5 @@
 -- Unlinks number at most the marked nodes that were still on a chain, and the keys that were taken out since.
-use Rattle.std.proofs.Common.{Contains, List, Option, Some, [], ap, arith, false, filter, inl, inr, length, not, refl, subst, suc, sym, true, zero, ℕ, ◌%◌, ◌++◌, ◌+◌, ◌==◌, ◌∙◌, ◌∷◌, ◌≡◌, ◌≤◌}
+use Rattle.std.proofs.Common.{Contains, List, Option, Some, [], ap, arith, false, filter, inl, inr, length, not, refl, subst, suc, sym, true, zero, ℕ, ◌%◌, ◌++◌, ◌*◌, ◌+◌, ◌==◌, ◌∙◌, ◌∷◌, ◌≡◌, ◌≤◌}
 use Rattle.std.proofs.lemmas.Bool.{eq-eqb, eqb-true, or_cases, or_left, or_right}
 use Rattle.orc_heap.proofs.Runs.{run_heap-snoc}
 use Rattle.orc_heap.specs.Acts.{Fits, heap_after}
@@ -239,3 +239,10 @@ moves_counted n seen (e ∷ more) all =
           (entries_of more),
       removes_in-append (entries_in e.note) (entries_of more),
     )
+
+-- Moves cost keys that went in and out, and marked nodes that were left over
+pub turns_bounded : (n : HeapNumbers) (seen more : List (Event ChainNote)) (ids : List ℕ) (turns : ℕ) → ChainHolds n seen
+    → AllAllowed (ChainMay n) seen more → AreLeftOver (run_heap n seen) ids → turns ≤ moves_in more
+    → turns ≤ adds_in (entries_of more) + 2 * removes_in (entries_of more) + length ids
+turns_bounded n seen more ids turns holds all left some =
+    omega (arith, some, moves_counted n seen more all, unlinks_bounded n seen more ids holds all left)

@@ -1,9 +1,11 @@
--- How many Unlinks and Removed true stand in a list of events, and the marked nodes that are still on a chain.
-use Rattle.std.specs.Prelude.{Contains, List, Option, Some, None, [], if◌then◌else◌, true, ℕ, ◌+◌, ◌∷◌, ◌≡◌}
+-- How many Unlinks, Added true and Removed true stand in a list of events and its history, the entries of other agents, and the
+-- marked nodes that are still on a chain.
+use Rattle.std.specs.Prelude.{Contains, List, Option, Some, None, [], filter, if◌then◌else◌, not, true, ℕ, ◌+◌, ◌==◌, ◌∷◌, ◌≡◌}
 use Rattle.orc_heap.specs.Allowed.{HasLink}
 use Rattle.orc_heap.specs.Heap.{Heap}
 use Rattle.orc_heap.specs.declared.events.Event.{Event}
 use Rattle.orc_heap.specs.declared.events.Link.{Link}
+use Rattle.orc_history.specs.SetHistory.{agent_of_set_entry}
 use Rattle.orc_history.specs.declared.set.SetEntry.{SetEntry}
 use Rattle.orc_history.specs.declared.set.SetEntry.TheVariants.{Added, Asked, Removed}
 use Rattle.orc_chain_rule.specs.declared.chain.ChainNote.{ChainNote}
@@ -42,6 +44,10 @@ adds_with (Asked by key answer) = 0
 abbrev pub adds_in : List SetEntry → ℕ
 adds_in [] = 0
 adds_in (e ∷ es) = adds_with e + adds_in es
+
+-- the entries of agents other than this one
+abbrev pub entries_of_others : ℕ → List SetEntry → List SetEntry
+entries_of_others agent es = filter (λ e. not (agent_of_set_entry e == agent)) es
 
 -- the node is on a chain, and its link is marked
 pub record IsLeftOver (h : Heap) (id : ℕ) : Type 0 where

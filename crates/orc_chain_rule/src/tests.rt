@@ -43,5 +43,6 @@ fn notes_are_compared_with_their_entries(rt: HostRuntime) -> Result<(), Fail> {
     nodes_of_a_run_leave_the_chain();
     unlinks_cost_removes();
     moves_are_of_three_kinds();
+    moves_cost_entries();
     Ok(())
 }

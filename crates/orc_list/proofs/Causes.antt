@@ -1,28 +1,33 @@
 -- From what a call did to its clauses on journals.
-use Rattle.std.proofs.Common.{Bool, Err, List, Ok, Result, [], ap, append-nil, append_assoc, arith, drop, inr, length, refl, subst, sym, take, true, ℕ, ◌*◌, ◌++◌, ◌<◌, ◌==◌, ◌∙◌, ◌∷◌, ◌≡◌, ◌≤◌, ◌⊎◌}
+use Rattle.std.proofs.Common.{Bool, Err, List, Ok, Result, [], ap, append-nil, append_assoc, arith, cond, drop, false, inr, length, refl, subst, sym, take, true, ℕ, ◌*◌, ◌++◌, ◌+◌, ◌<◌, ◌==◌, ◌∙◌, ◌∷◌, ◌≡◌, ◌≤◌, ◌⊎◌}
 use Rattle.std.proofs.lemmas.List.Elements.{filter-append}
 use Rattle.std.proofs.Math.Seq.{drop-append_seam, take-length}
 use Rattle.std.specs.List.{list_all, AllByRecursion}
 use Rattle.std.specs.Prelude.{IfErr, IfOk, IsErr}
 use mathlib.Core.List.{IsPrefix}
 use Rattle.orc_heap.proofs.Calls.{part_allowed}
-use Rattle.orc_heap.proofs.OwnEntries.{entries_added}
+use Rattle.orc_heap.proofs.OwnEntries.{entries_added, noted-append, own_of_events}
 use Rattle.orc_heap.proofs.OwnParts.{from_own-others, moves_from_own, own_from, quiet_not_alone}
-use Rattle.orc_heap.proofs.Steps.{part_bounds, part_events}
+use Rattle.orc_heap.proofs.Stays.{allowed-left, allowed-right}
+use Rattle.orc_heap.proofs.Steps.{PartEvents, part_bounds, part_events}
 use Rattle.orc_heap.specs.Allowed.{AllAllowed, events_by}
 use Rattle.orc_heap.specs.Heap.{HeapNumbers}
+use Rattle.orc_heap.specs.Journals.{run_heap}
 use Rattle.orc_heap.specs.Moves.{AllOwn, from_own, gives_in, moves_in}
 use Rattle.orc_heap.specs.OwnEvents.{IsBelow, Puts}
 use Rattle.orc_heap.specs.Seats.{Seat}
 use Rattle.orc_heap.specs.declared.events.Event.{Event}
-use Rattle.orc_history.specs.Journals.{Adds}
+use Rattle.orc_history.specs.Journals.{Adds, own_of}
 use Rattle.orc_history.specs.Parts.{InPart, IsAlone, part_begin}
 use Rattle.orc_history.specs.SetHistory.{agent_of_set_entry}
 use Rattle.orc_history.specs.declared.set.SetEntry.{SetEntry}
+use Rattle.orc_chain_rule.proofs.Later.{holds_later, nothing_yet}
 use Rattle.orc_chain_rule.proofs.OwnEntries.{entries_own}
+use Rattle.orc_chain_rule.proofs.Stretches.{turns_bounded}
 use Rattle.orc_chain_rule.specs.ChainDiscipline.{ChainMay, entries_in, entries_of}
+use Rattle.orc_chain_rule.specs.Counts.{AreLeftOver, adds_in, entries_of_others, removes_in}
 use Rattle.orc_chain_rule.specs.declared.chain.ChainNote.{ChainNote}
-use Rattle.orc_list.specs.Causes.{UsesTurns}
+use Rattle.orc_list.specs.Causes.{CostTurns, UsesTurns}
 use Rattle.orc_list.specs.Turns.{AreFew}
 use Rattle.orc_list.proofs.Parts.{others_append, others_split}
 use Rattle.orc_list.proofs.Settling.{Did}
@@ -56,6 +61,16 @@ module _ {E IsAgain : Type 0} (most turns : ℕ) (entry : Bool → SetEntry) (s 
 
   pub did_nothing : turns ≡ 0 → events_by u.agent u.seen ≡ events_by s.agent s.seen
   did_nothing zero = own_events ∙ (ap (λ z. events_by s.agent s.seen ++ z) (d.no_turns zero).1 ∙ append-nil (events_by s.agent s.seen))
+
+-- where none is the agent's own, all are others'
+all_others : (agent : ℕ) (es : List SetEntry) → own_of agent_of_set_entry agent es ≡ [] → entries_of_others agent es ≡ es
+all_others agent [] none = refl
+all_others agent (e ∷ es) none = cases (agent_of_set_entry e == agent) refl none (λ h. all_others agent es h)
+  where
+    cases : (b : Bool) → (agent_of_set_entry e == agent) ≡ b → cond b (e ∷ own_of agent_of_set_entry agent es) (own_of agent_of_set_entry agent es) ≡ []
+        → (own_of agent_of_set_entry agent es ≡ [] → entries_of_others agent es ≡ es) → entries_of_others agent (e ∷ es) ≡ e ∷ es
+    cases true is h rest = cc
+    cases false is h rest = rw is (ap (λ z. e ∷ z) (rest h))
 
 -- over the journals of a domain
 module _ {S : Type 0} (n : HeapNumbers) (agents : ℕ) (agent_of : S → ℕ) (events : List S → List (Event ChainNote))
@@ -95,13 +110,37 @@ module _ {S : Type 0} (n : HeapNumbers) (agents : ℕ) (agent_of : S → ℕ) (e
         let same : from_own s.agent p.part ≡ from_own s.agent e.part = ap (λ z. from_own s.agent z) e.is ∙ from_own-others s.agent e.gap e.part e.others in
         subst (λ z. AllOwn s.agent z) (sym same) (own_from s.agent e.part (e.alone alone))
 
+    -- what others entered in its part, and what was left over when that began, cost the turns of a call that entered nothing
+    part_cost : (turns : ℕ) (own : List (Event ChainNote)) (p : Puts s own u) → entries_of own ≡ [] → (e : PartEvents agent_of events adds s.agent j m p.part)
+        → turns ≤ moves_in e.part → CostTurns n events s.agent turns m (part_begin agent_of s.agent j m) (length m)
+    part_cost turns own p no_entry e enough = λ ids left.
+        let begin = part_begin agent_of s.agent j m in
+        let seen = s.seen ++ e.gap in
+        let before : events j ++ e.gap ≡ seen = ap (λ z. z ++ e.gap) (sym is_s) in
+        let split : u.seen ≡ seen ++ e.part = p.is ∙ (ap (λ z. s.seen ++ z) e.is ∙ sym (append_assoc s.seen e.gap e.part)) in
+        let whole : events (take (length m) m) ≡ seen ++ e.part = ap events (take-length m) ∙ (sym is_u ∙ split) in
+        let may : AllAllowed (ChainMay n) [] (seen ++ e.part) = subst (λ z. AllAllowed (ChainMay n) [] z) split all in
+        let part_may = allowed-right (ChainMay n) [] seen e.part may in
+        let mine : events_by s.agent e.part ≡ own = ap (λ z. z ++ events_by s.agent e.part) (sym e.others) ∙
+        (sym (filter-append (λ x. x.agent == s.agent) e.gap e.part) ∙ (ap (λ z. events_by s.agent z) (sym e.is) ∙ p.own_is)) in
+        let none : own_of agent_of_set_entry s.agent (entries_of e.part) ≡ [] =
+        own_of_events entries_in agent_of_set_entry (ChainMay n) (entries_own n) s.agent seen e.part part_may ∙ (ap entries_of mine ∙ no_entry) in
+        let rest : drop (length (entries_of (events (take begin m)))) (entries_of (events (take (length m) m))) ≡ entries_of e.part =
+        ap (λ z. drop (length (entries_of z)) (entries_of (events (take (length m) m)))) (e.begin_events ∙ before)
+        ∙ (ap (λ z. drop (length (entries_of seen)) (entries_of z)) whole
+        ∙ (ap (λ z. drop (length (entries_of seen)) z) (noted-append entries_in seen e.part) ∙ drop-append_seam (entries_of seen) (entries_of e.part))) in
+        let entered = ap (λ z. entries_of_others s.agent z) rest ∙ all_others s.agent (entries_of e.part) none in
+        let left_over = subst (λ z. AreLeftOver (run_heap n z) ids) (e.begin_events ∙ before) left in
+        let holds = holds_later n [] seen (nothing_yet n) (allowed-left (ChainMay n) [] seen e.part may) in
+        subst (λ z. turns ≤ adds_in z + 2 * removes_in z + length ids) (sym entered) (turns_bounded n seen e.part ids turns holds part_may left_over enough)
+
     -- all turns were used
     pub turns_used : {E IsAgain : Type 0} (most turns : ℕ) (entry : Bool → SetEntry) (r : Result Bool E) → Did {E = E} IsAgain most turns entry s r u
         → IsAgain
-        → InPart agent_of s.agent j m (λ from to. UsesTurns agent_of events s.agent turns m from to)
+        → InPart agent_of s.agent j m (λ from to. UsesTurns n agent_of events s.agent turns m from to)
     turns_used most turns entry r d again =
         let p = d.made.puts in
-        let (none, moved) = d.over again in
+        let (no_entry, none, moved) = d.over again in
         let new : events m ≡ events j ++ p.part = sym is_u ∙ (p.is ∙ ap (λ z. z ++ p.part) is_s) in
         let e = part_events agent_of events adds s.agent j m p.part grows new in
         let bounds = part_bounds agent_of s.agent j m grows in
@@ -120,6 +159,7 @@ module _ {S : Type 0} (n : HeapNumbers) (agents : ℕ) (agent_of : S → ℕ) (e
               let single : IsAlone agent_of s.agent j m = subst (λ z. list_all (λ (x : S). agent_of x == s.agent)
               (drop (part_begin agent_of s.agent j m) z) ≡ true) (take-length m) alone in
               quiet_not_alone s.agent p.part d.own p.own_is none (omega (arith, some, moved)) (part_alone d.own p single);
+          cost = part_cost turns d.own p (d.made.entries_are ∙ no_entry) e enough;
         }
 
 -- the same of an answer that is no refusal

@@ -21,21 +21,21 @@ use Rattle.orc_chain_rule.specs.declared.chain.ChainNote.{ChainNote}
 use Rattle.orc_list.specs.Causes.{Cause, UsesTurns, WithinPart}
 
 -- the licence of a refusal, from the clauses of a call
-module _ {S : Type 0} (agent_of : S → ℕ) (events : List S → List (Event ChainNote)) (agent turns : ℕ) (j m : List S) (grows : IsPrefix j m)
-    (Lacks : ℕ → ℕ → Type 0) (Worn : SpentRow → ℕ → ℕ → Type 0) where
+module _ {S : Type 0} (n : HeapNumbers) (agent_of : S → ℕ) (events : List S → List (Event ChainNote)) (agent turns : ℕ) (j m : List S)
+    (grows : IsPrefix j m) (Lacks : ℕ → ℕ → Type 0) (Worn : SpentRow → ℕ → ℕ → Type 0) where
   abbrev IsLicensed : ListRefused → Type 0
-  IsLicensed why = Within (length j) (length m) (λ from to. Cause agent_of events (Lacks from to) (λ spent. Worn spent from to) agent turns why m from to)
+  IsLicensed why = Within (length j) (length m) (λ from to. Cause n agent_of events (Lacks from to) (λ spent. Worn spent from to) agent turns why m from to)
 
-  of_again : InPart agent_of agent j m (λ from to. UsesTurns agent_of events agent turns m from to) → IsLicensed Again
+  of_again : InPart agent_of agent j m (λ from to. UsesTurns n agent_of events agent turns m from to) → IsLicensed Again
   of_again used = let bounds = part_bounds agent_of agent j m grows in (part_begin agent_of agent j m, length m, bounds.0, bounds.1, omega arith, used)
 
-  pub again_licence : (r : Result Bool AgainFault) → IfErr r (λ e. InPart agent_of agent j m (λ from to. UsesTurns agent_of events agent turns m from to))
+  pub again_licence : (r : Result Bool AgainFault) → IfErr r (λ e. InPart agent_of agent j m (λ from to. UsesTurns n agent_of events agent turns m from to))
       → IfErr r (λ e. IsLicensed Again)
   again_licence (Ok answer) again = tt
   again_licence (Err e) again = of_again again
 
   pub insert_licence : (r : Result Bool ListRefused) → (turns ≡ 0 → r ≡ Err Again)
-      → (r ≡ Err Again → InPart agent_of agent j m (λ from to. UsesTurns agent_of events agent turns m from to))
+      → (r ≡ Err Again → InPart agent_of agent j m (λ from to. UsesTurns n agent_of events agent turns m from to))
       → (r ≡ Err NoNode → WithinPart agent_of agent j m Lacks) → ((why : SpentRow) → r ≡ Err (Spent why) → WithinPart agent_of agent j m (Worn why))
       → IfErr r (λ e. IsLicensed e)
   insert_licence (Ok answer) none again node spent = tt

@@ -34,7 +34,7 @@ abbrev pub entries_by : {E : Type 0} → (Bool → SetEntry) → Result Bool E �
 entries_by entry (Ok answer) = entry answer ∷ []
 entries_by entry (Err e) = []
 
--- what a call did: at most so many nodes were given, and if all turns were used, then by Moves of other agents
+-- what a call did: at most so many nodes were given, and if all turns were used, then by Moves of other agents, and it entered nothing
 pub record Did {E : Type 0} (IsAgain : Type 0) (most turns : ℕ) (entry : Bool → SetEntry) (s : Seat ChainNote) (r : Result Bool E) (u : Seat ChainNote) :
     Type 0 where
   pub own : List (Event ChainNote)
@@ -43,7 +43,7 @@ pub record Did {E : Type 0} (IsAgain : Type 0) (most turns : ℕ) (entry : Bool 
   pub entries : List SetEntry
   pub entries_are : entries ≡ entries_by entry r
   pub made : Made given turns s own entries u
-  pub over : IsAgain → (moves_in own ≡ 0) × (turns ≤ moves_in (from_own s.agent made.puts.part))
+  pub over : IsAgain → (entries ≡ []) × (moves_in own ≡ 0) × (turns ≤ moves_in (from_own s.agent made.puts.part))
   pub no_turns : turns ≡ 0 → IsAgain × (own ≡ [])
 
 abbrev ok_of : Bool → Result Bool AgainFault
@@ -113,7 +113,7 @@ module _ (s t u : Seat ChainNote) (o : Only [] t u) where
     entries = [];
     entries_are = refl;
     made = made_settled 0 turns w.own [] w.over.made;
-    over = λ e. (w.over.no_move, over_moved 0 turns w.own w.over);
+    over = λ e. (refl, w.over.no_move, over_moved 0 turns w.own w.over);
     no_turns = λ zero. (refl, none_made 0 turns w.own w.over.made.few zero refl);
   }
 
@@ -153,7 +153,7 @@ module _ (s t u : Seat ChainNote) (o : Only [] t u) where
     entries = [];
     entries_are = refl;
     made = made_settled l.given turns l.own [] l.over.made;
-    over = λ e. (l.over.no_move, over_moved l.given turns l.own l.over);
+    over = λ e. (refl, l.over.no_move, over_moved l.given turns l.own l.over);
     no_turns = λ zero. (refl, none_made l.given turns l.own l.over.made.few zero (omega (arith, zero, l.fewer)));
   }
   insert_did n key turns (Err NoNode) l = ended turns [] (Err NoNode) (λ x. Added s.agent key x) refl l.0 (λ e. cc) l.1 l.2

@@ -9,7 +9,7 @@ use Rattle.orc_history.specs.SetHistory.{agent_of_set_entry}
 use Rattle.orc_history.specs.declared.set.SetEntry.{SetEntry}
 use Rattle.orc_chain_rule.specs.ChainDiscipline.{entries_in}
 use Rattle.orc_chain_rule.specs.declared.chain.ChainNote.{ChainNote}
-use Rattle.orc_list.specs.Causes.{HasWorn, UsesTurns, WithinPart}
+use Rattle.orc_list.specs.Causes.{CostTurns, HasWorn, UsesTurns, WithinPart}
 use Rattle.orc_list.specs.Inserts.{SeesAbsent}
 use Rattle.orc_list.specs.Turns.{AreFew, LeavesOff}
 
@@ -40,7 +40,13 @@ module _ {L D P S : Type 0} (members : LinksOf L D P S ChainNote) (links : L) wh
 
   -- all turns were used in the call's part of the journal: as many Moves of other agents stand there
   abbrev pub UsesAllTurns : ℕ → P → P → Type 0
-  UsesAllTurns turns old new = InCall members links old new (UsesTurns members.agent_of (members.events links) (agent members links old) turns
+  UsesAllTurns turns old new = InCall members links old new
+      (UsesTurns (members.numbers links) members.agent_of (members.events links) (agent members links old) turns
+      (members.journal new))
+
+  -- so many turns cost what other agents entered in the call's part of the journal, and what was left over when it began
+  abbrev pub CostsOthers : ℕ → P → P → Type 0
+  CostsOthers turns old new = InCall members links old new (CostTurns (members.numbers links) (members.events links) (agent members links old) turns
       (members.journal new))
 
   -- no row could be given to the call's agent in the call's part of the journal

@@ -20,5 +20,5 @@ module _ {L D P S : Type 0} (members : LinksOf L D P S ChainNote) (links : L) wh
   -- a refusal has its cause between two places of the journal
   abbrev pub HasCause : ℕ → ℕ → ListRefused → List S → ℕ → ℕ → Type 0
   HasCause agent turns why journal from to =
-      Cause members.agent_of (members.events links) (members.lacking links agent journal from to) (λ spent. members.worn links agent spent journal from to)
-      agent turns why journal from to
+      Cause (members.numbers links) members.agent_of (members.events links) (members.lacking links agent journal from to)
+      (λ spent. members.worn links agent spent journal from to) agent turns why journal from to

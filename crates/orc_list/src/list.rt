@@ -6,7 +6,7 @@ ghost use Rattle.orc_heap.specs.Domains.{IsCallAlone, MakesNoEvent, agent};
 ghost use Rattle.orc_heap.specs.Seats.{IsIdle};
 ghost use Rattle.orc_history.specs.declared.set.ListRefused.{ListRefused};
 ghost use Rattle.orc_history.specs.declared.set.SetEntry.{SetEntry};
-ghost use Rattle.orc_list.specs.ListCalls.{Enters, EntersNone, FindsAbsent, FindsNoneWorn, FindsWorn, GivesAtMost, IsRootOf, LacksRow, LeavesOffChain, MakesFew, UsesAllTurns};
+ghost use Rattle.orc_list.specs.ListCalls.{CostsOthers, Enters, EntersNone, FindsAbsent, FindsNoneWorn, FindsWorn, GivesAtMost, IsRootOf, LacksRow, LeavesOffChain, MakesFew, UsesAllTurns};
 
 use crate::answer::ask_turns;
 use crate::insert::insert_key;
@@ -53,7 +53,8 @@ impl<L: Links<Rule = Chain>> List<L> {
     ///
     /// # Errors
     ///
-    /// * `Again` if all tries were used up, each by a Move of another agent. With no turns it makes no event.
+    /// * `Again` if all tries were used up, each by a Move of another agent: one try for each key that was added meanwhile, two
+    ///   for each that was taken out, and one for each marked node that was left, at most. With no turns it makes no event.
     /// * `NoNode` if the key was found absent, and the domain had no node to give.
     /// * `Spent` if a row that was to be linked is used up.
     pub fn insert(
@@ -75,6 +76,7 @@ impl<L: Links<Rule = Chain>> List<L> {
         ensures no_turns { turns ≡ 0 → result ≡ Err ListRefused.Again }
         ensures no_event { turns ≡ 0 → MakesNoEvent L.Links self.now.links p.old p.new }
         ensures again { result ≡ Err ListRefused.Again → UsesAllTurns L.Links self.now.links turns p.old p.new }
+        ensures cost { result ≡ Err ListRefused.Again → CostsOthers L.Links self.now.links turns p.old p.new }
         ensures no_node { result ≡ Err ListRefused.NoNode → LacksRow L.Links self.now.links p.old p.new }
         ensures absent { result ≡ Err ListRefused.NoNode → FindsAbsent L.Links self.now.links key p.old p.new }
         ensures spent { (why : Spent) → result ≡ Err (ListRefused.Spent why) → FindsWorn L.Links self.now.links why p.old p.new }
@@ -95,7 +97,8 @@ impl<L: Links<Rule = Chain>> List<L> {
     ///
     /// # Errors
     ///
-    /// `Again` if all tries were used up, each by a Move of another agent. With no turns it makes no event.
+    /// `Again` if all tries were used up, each by a Move of another agent: one try for each key that was added meanwhile, two
+    /// for each that was taken out, and one for each marked node that was left, at most. With no turns it makes no event.
     pub fn remove(&self, p: &mut L::Pass, root: u32, key: u64, turns: u64) -> Result<bool, Again>
         requires pass { L.belongs self.now.links p.old }
         requires idle { IsIdle (L.seat self.now.links p.old) }
@@ -109,6 +112,7 @@ impl<L: Links<Rule = Chain>> List<L> {
         ensures no_turns { turns ≡ 0 → IsErr result }
         ensures no_event { turns ≡ 0 → MakesNoEvent L.Links self.now.links p.old p.new }
         ensures again { IfErr result (λ e. UsesAllTurns L.Links self.now.links turns p.old p.new) }
+        ensures cost { IfErr result (λ e. CostsOthers L.Links self.now.links turns p.old p.new) }
         ensures gives { GivesAtMost L.Links self.now.links 0 p.old p.new }
         ensures tries { MakesFew L.Links self.now.links turns 0 p.old p.new }
         ensures off_the_chain { result ≡ Ok true → IsCallAlone L.Links self.now.links p.old p.new
@@ -125,7 +129,8 @@ impl<L: Links<Rule = Chain>> List<L> {
     ///
     /// # Errors
     ///
-    /// `Again` if all tries were used up, each by a Move of another agent. With no turns it makes no event.
+    /// `Again` if all tries were used up, each by a Move of another agent: one try for each key that was added meanwhile, two
+    /// for each that was taken out, and one for each marked node that was left, at most. With no turns it makes no event.
     pub fn contains(&self, p: &mut L::Pass, root: u32, key: u64, turns: u64) -> Result<bool, Again>
         requires pass { L.belongs self.now.links p.old }
         requires idle { IsIdle (L.seat self.now.links p.old) }
@@ -139,6 +144,7 @@ impl<L: Links<Rule = Chain>> List<L> {
         ensures no_turns { turns ≡ 0 → IsErr result }
         ensures no_event { turns ≡ 0 → MakesNoEvent L.Links self.now.links p.old p.new }
         ensures again { IfErr result (λ e. UsesAllTurns L.Links self.now.links turns p.old p.new) }
+        ensures cost { IfErr result (λ e. CostsOthers L.Links self.now.links turns p.old p.new) }
         ensures gives { GivesAtMost L.Links self.now.links 0 p.old p.new }
         ensures tries { MakesFew L.Links self.now.links turns 0 p.old p.new }
         ensures settled { IsCallAlone L.Links self.now.links p.old p.new → L.backlog p.new ≡ 0 }

@@ -24,10 +24,11 @@ queue_over first rows agents = record {
   crowd = λ agent. agent < agents;
 }
 
--- the same of a set; none of its rows is ever used up
-abbrev pub set_over : ℕ → ℕ → View (Event ChainNote) SetEntry ListRefused
-set_over rows agents = record {
+-- the same of a set with so many roots; none of its rows is ever used up
+abbrev pub set_over : ℕ → ℕ → ℕ → View (Event ChainNote) SetEntry ListRefused
+set_over roots rows agents = record {
   history = λ journal. set_entries_of journal;
-  licence = λ agent why journal from to. SetCause (λ e. e.agent) (λ j. j) (IsLacking rows journal to) (λ row. ⊥) agent TURNS why journal from to;
+  licence = λ agent why journal from to. SetCause (record { roots = roots }) (λ e. e.agent) (λ j. j) (IsLacking rows journal to) (λ row. ⊥) agent TURNS why
+      journal from to;
   crowd = λ agent. agent < agents;
 }

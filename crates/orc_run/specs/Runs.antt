@@ -34,5 +34,5 @@ module _ {D : Type 0} {d : discipline.Ghosts D ChainNote}
 -- the replies of so many posters and takers follow the two journals, whose histories are legal and leave the queue empty
 abbrev pub RepliesFollow : List Line → ℕ → ℕ → Finished → Type 0
 RepliesFollow lines posters takers f =
-    Ran (queue_over 0 most_rows (agents_of posters takers)) (set_over most_rows (agents_of posters takers)) lines posters takers
+    Ran (queue_over 0 most_rows (agents_of posters takers)) (set_over 1 most_rows (agents_of posters takers)) lines posters takers
     f.replies.posts.items f.replies.takes.items (rest_journal f.queue) (rest_journal f.set)

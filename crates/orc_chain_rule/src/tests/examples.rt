@@ -13,7 +13,7 @@ ghost use Rattle.orc_heap.specs.declared.events.Place.{Place};
 ghost use Rattle.orc_history.specs.declared.set.SetEntry.{SetEntry};
 ghost use Rattle.orc_chain_rule.specs.declared.chain.ChainNote.{ChainNote};
 ghost use Rattle.orc_chain_rule.specs.ChainDiscipline.{ChainMay, FollowsOn, IsAbove, IsOnNoChain, IsPath, IsPresent, IsRun, MayAct, entries_of, key_of, set_after};
-ghost use Rattle.orc_chain_rule.specs.Counts.{AreLeftOver, IsLeftOver, adds_in, removes_in, unlinks_in};
+ghost use Rattle.orc_chain_rule.specs.Counts.{AreLeftOver, IsLeftOver, adds_in, entries_of_others, removes_in, unlinks_in};
 ghost use Rattle.orc_chain_rule.specs.Watches.{LeavesOut, node_to_add};
 
 // Agents 0 and 1 make a chain of three: 5, then 3 before it, then 9 behind them. Node 1 has the key 3, node 0 the key
@@ -105,5 +105,6 @@ fn moves_are_counted()
         ∷ event_by 1 (Act.Look (Place.Root 0) (link_to 1)) (Some (ChainNote.Entry (SetEntry.Removed 1 5 false)))
         ∷ event_by 1 (Act.Move (Place.Next 1) null (record { to = None; mark = true })) (Some (ChainNote.Entry (SetEntry.Removed 1 7 true)))
         ∷ event_by 0 (Act.Move (Place.Root 0) (link_to 1) null) (Some ChainNote.Unlink) ∷ [] in
-        (adds_in (entries_of es) ≡ 2) × (removes_in (entries_of es) ≡ 2) × (unlinks_in es ≡ 1) × (moves_in es ≡ 5) × (set_after es ≡ []) }
+        (adds_in (entries_of es) ≡ 2) × (removes_in (entries_of es) ≡ 2) × (unlinks_in es ≡ 1) × (moves_in es ≡ 5) × (set_after es ≡ [])
+        × (entries_of_others 1 (entries_of es) ≡ SetEntry.Added 0 5 true ∷ SetEntry.Added 0 7 true ∷ []) }
 {}

@@ -9,6 +9,7 @@ use Rattle.orc_heap.proofs.OwnEntries.{entries_agents, noted-append}
 use Rattle.orc_heap.proofs.Steps.{events_grow}
 use Rattle.orc_heap.specs.Allowed.{AllAllowed}
 use Rattle.orc_heap.specs.Heap.{HeapNumbers}
+use Rattle.orc_heap.specs.Journals.{run_heap}
 use Rattle.orc_heap.specs.OwnEvents.{IsBelow}
 use Rattle.orc_heap.specs.declared.events.Event.{Event}
 use Rattle.orc_history.specs.SetHistory.{IsLegalSet, agent_of_set_entry}
@@ -16,6 +17,7 @@ use Rattle.orc_history.specs.declared.set.ListRefused.{ListRefused}
 use Rattle.orc_history.specs.declared.set.ListRefused.TheVariants.{Again, NoNode, Spent}
 use Rattle.orc_history.specs.declared.set.SetEntry.{SetEntry}
 use Rattle.orc_chain_rule.proofs.OwnEntries.{entries_own}
+use Rattle.orc_chain_rule.specs.Counts.{AreLeftOver}
 use Rattle.orc_chain_rule.specs.ChainDiscipline.{ChainHolds, ChainMay, entries_in, entries_of}
 use Rattle.orc_chain_rule.specs.declared.chain.ChainNote.{ChainNote}
 use Rattle.orc_list.specs.Causes.{Cause}
@@ -33,11 +35,12 @@ history_grows agent_of events adds seen more =
     (entries_of new, sym (noted-append entries_in (events seen) new) ∙ ap entries_of is)
 
 -- a cause stays one
-pub cause_stays : {S : Type 0} (agent_of : S → ℕ) (events : List S → List (Event ChainNote)) (Lacks Later : Type 0) (Worn LaterWorn : SpentRow → Type 0)
+pub cause_stays : {S : Type 0} (n : HeapNumbers) (agent_of : S → ℕ) (events : List S → List (Event ChainNote))
+    (Lacks Later : Type 0) (Worn LaterWorn : SpentRow → Type 0)
     (agent turns : ℕ) (why : ListRefused) (seen more : List S) (from to : ℕ)
-    → (Lacks → Later) → ((spent : SpentRow) → Worn spent → LaterWorn spent) → Cause agent_of events Lacks Worn agent turns why seen from to
-    → Cause agent_of events Later LaterWorn agent turns why (seen ++ more) from to
-cause_stays agent_of events Lacks Later Worn LaterWorn agent turns Again seen more from to stays worn c =
+    → (Lacks → Later) → ((spent : SpentRow) → Worn spent → LaterWorn spent) → Cause n agent_of events Lacks Worn agent turns why seen from to
+    → Cause n agent_of events Later LaterWorn agent turns why (seen ++ more) from to
+cause_stays n agent_of events Lacks Later Worn LaterWorn agent turns Again seen more from to stays worn c =
     let take_from = take-append-le from seen more (omega (arith, c.in_order, c.in_journal)) in
     let take_to = take-append-le to seen more c.in_journal in
     record {
@@ -45,9 +48,10 @@ cause_stays agent_of events Lacks Later Worn LaterWorn agent turns Again seen mo
       in_journal = omega (arith, c.in_journal, length-append seen more);
       moves = rw (take_from, take_to) c.moves;
       not_alone = λ some. rw take_to (c.not_alone some);
+      cost = λ ids left. rw (take_from, take_to) (c.cost ids (subst (λ z. AreLeftOver (run_heap n (events z)) ids) take_from left));
     }
-cause_stays agent_of events Lacks Later Worn LaterWorn agent turns NoNode seen more from to stays worn c = (c.0, stays c.1)
-cause_stays agent_of events Lacks Later Worn LaterWorn agent turns (Spent spent) seen more from to stays worn c = (c.0, worn spent c.1)
+cause_stays n agent_of events Lacks Later Worn LaterWorn agent turns NoNode seen more from to stays worn c = (c.0, stays c.1)
+cause_stays n agent_of events Lacks Later Worn LaterWorn agent turns (Spent spent) seen more from to stays worn c = (c.0, worn spent c.1)
 
 -- whose the entries are
 pub entries_below : (n : HeapNumbers) (agents : ℕ) (seen events : List (Event ChainNote)) → AllAllowed (ChainMay n) [] seen → IsBelow agents seen

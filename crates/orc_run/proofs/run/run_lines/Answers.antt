@@ -10,9 +10,10 @@ pub returns-clause-replies : goal.returns-clause-replies
 returns-clause-replies g c =
     let count : 1 + c.args.posters + c.args.takers ≡ agents_of c.args.posters c.args.takers = omega arith in
     ran c.args.lines.now c.args.posters c.args.takers c.in_ok-replies.replies.posts.items c.in_ok-replies.replies.takes.items _ _ _ _
-    c.end_run-queue.ensures.queue_journal c.end_run-queue.ensures.set_journal _ _ _ _ _ _ _ _ _ _
+    c.end_run-queue.ensures.queue_journal c.end_run-queue.ensures.set_journal _ _ _ _ _ _ _ _ _ _ _ _
     c.in_ok-queue.ensures.first (ap (λ (b : Bounds). b.rows) c.in_ok-queue.ensures.bounds) (ap (λ (b : Bounds). b.agents) c.in_ok-queue.ensures.bounds ∙ count)
-    (ap (λ (b : Bounds). b.rows) c.in_ok-set.ensures.bounds) (ap (λ (b : Bounds). b.agents) c.in_ok-set.ensures.bounds ∙ count)
+    (ap (λ (b : Bounds). b.roots) c.in_ok-set.ensures.bounds) (ap (λ (b : Bounds). b.rows) c.in_ok-set.ensures.bounds)
+    (ap (λ (b : Bounds). b.agents) c.in_ok-set.ensures.bounds ∙ count)
     c.in_ok-replies.ensures.follows c.in_ok-replies.ensures.queue_legal c.in_ok-replies.ensures.set_legal c.in_ok-replies.ensures.empty
     c.in_ok-replies.ensures.reportable
 

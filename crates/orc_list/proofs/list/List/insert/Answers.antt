@@ -37,6 +37,7 @@ returns g c =
     let by = g.L.Links.agent_of in
     let events = g.L.Links.events d in
     let adds = g.met.L.Links.steps_add d in
+    let used = turns_used n agents by events adds s u j m grows is_s is_u all below 1 turns entry r did in
     record {
       pass = settle.pass;
       idle = idle_settled t u keeps.0 settle.nothing;
@@ -46,7 +47,8 @@ returns g c =
       none = did_not_enter n agents by events adds s u j m grows is_s is_u all below 1 turns entry r did;
       no_turns = λ zero. (did.no_turns zero).0;
       no_event = did_nothing 1 turns entry s u r did;
-      again = turns_used n agents by events adds s u j m grows is_s is_u all below 1 turns entry r did;
+      again = used;
+      cost = λ is. (used is).cost;
       gives = did_give 1 turns entry s u r did;
       tries = did_few 1 turns entry s u r did;
       no_node = λ is. within_goes_on by s.agent (g.L.Links.lacking d s.agent) (g.met.L.Links.lacking_stays d s.agent) j k m done.later settle.later

@@ -38,6 +38,7 @@ returns g c =
     let by = g.L.Links.agent_of in
     let events = g.L.Links.events d in
     let adds = g.met.L.Links.steps_add d in
+    let used = turns_used n agents by events adds s u j m grows is_s is_u all below 0 turns entry r did in
     record {
       pass = settle.pass;
       idle = idle_settled t u keeps.0 settle.nothing;
@@ -47,7 +48,8 @@ returns g c =
       none = did_not_enter n agents by events adds s u j m grows is_s is_u all below 0 turns entry r did;
       no_turns = λ zero. (did.no_turns zero).0;
       no_event = did_nothing 0 turns entry s u r did;
-      again = if_err r _ (turns_used n agents by events adds s u j m grows is_s is_u all below 0 turns entry r did);
+      again = if_err r _ used;
+      cost = if_err r _ (λ is. (used is).cost);
       gives = did_give 0 turns entry s u r did;
       tries = did_few 0 turns entry s u r did;
       off_the_chain = λ is alone none. subst (λ z. LeavesOff c.args.key z (heap_of n u)) (sym (own_call 0 turns entry s u r did))
