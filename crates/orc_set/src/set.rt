@@ -92,7 +92,7 @@ impl<L: Links<Rule = Chain>> SharedSet for Set<L> {
         (L.obeys s.list.links p h.0) (L.seen_is s.list.links p h.0) };
 
     ghost licence_stays = { λ s agent turns why seen more from to h.
-        cause_stays L.agent_of (L.events s.list.links) (L.lacking s.list.links agent seen from to) _
+        cause_stays (L.numbers s.list.links) L.agent_of (L.events s.list.links) (L.lacking s.list.links agent seen from to) _
         (λ spent. L.worn s.list.links agent spent seen from to) _ agent turns why seen more from to
         (L.lacking_stays s.list.links agent seen more from to)
         (λ spent. L.worn_stays s.list.links agent spent seen more from to) h };

@@ -9,5 +9,5 @@ returns-clause-licence g c =
     let j = g.L.Links.journal c.args.p.now in
     let m = g.L.Links.journal c.remove.new.p in
     let e = c.remove.ensures in
-    again_licence g.L.Links.agent_of (g.L.Links.events d) agent c.args.turns j m e.later (g.L.Links.lacking d agent m)
+    again_licence (g.L.Links.numbers d) g.L.Links.agent_of (g.L.Links.events d) agent c.args.turns j m e.later (g.L.Links.lacking d agent m)
     (λ spent. g.L.Links.worn d agent spent m) c.remove.result e.again
