@@ -67,12 +67,12 @@ opened_went a x m n r p =
     (went_join a (drop_of p.op (record_at m a)) p.rest m p.first n (made_went m p.first a p.op r p.allowed p.settles p.made) p.went)
 
 -- the state in which the agent's own first step is made, and what holds there
-record Begun (a : ℕ) (op : Op) (m f : Machine) (o : List (ℕ × Op)) : Type 0 where
-  reached : IsReachedState (run m o)
-  allowed : is_allowed (run m o) a op ≡ true
-  settles : IsSettlingStep (word_in (run m o)) op (record_at (run m o) a)
-  record_is : record_at (run m o) a ≡ record_at m a
-  is : f ≡ step (run m o) a op
+pub record Begun (a : ℕ) (op : Op) (m f : Machine) (o : List (ℕ × Op)) : Type 0 where
+  pub reached : IsReachedState (run m o)
+  pub allowed : is_allowed (run m o) a op ≡ true
+  pub settles : IsSettlingStep (word_in (run m o)) op (record_at (run m o) a)
+  pub record_is : record_at (run m o) a ≡ record_at m a
+  pub is : f ≡ step (run m o) a op
 
 begun : (m f : Machine) (a : ℕ) (op : Op) → IsReachedState m → IsNoHand op → IsSettlingStep (word_in m) op (record_at m a) → (k : Made a op m f) → Begun a op m f k.others
 begun m f a op r nh s k =
@@ -90,11 +90,11 @@ own_last a [] s h = inl h
 own_last a (x ∷ xs) s h = inr (own_last a xs s h)
 
 -- how the steps fall into what others did before, and the rest
-record Falls (a : ℕ) (op : Op) (m f : Machine) (us o : List (ℕ × Op)) : Type 0 where
-  begun : Begun a op m f o
-  mine : AllOf a us
+pub record Falls (a : ℕ) (op : Op) (m f : Machine) (us o : List (ℕ × Op)) : Type 0 where
+  pub begun : Begun a op m f o
+  pub mine : AllOf a us
 
-falls_apart : (m f : Machine) (a : ℕ) (op : Op) (us o p : List (ℕ × Op)) → IsReachedState m → IsNoHand op → IsSettlingStep (word_in m) op (record_at m a) → (k : Made a op m f) → (k.others ++ (a, op) ∷ []) ++ us ≡ o ++ p → NoneOf a o → AllOf a p → Falls a op m f us o
+pub falls_apart : (m f : Machine) (a : ℕ) (op : Op) (us o p : List (ℕ × Op)) → IsReachedState m → IsNoHand op → IsSettlingStep (word_in m) op (record_at m a) → (k : Made a op m f) → (k.others ++ (a, op) ∷ []) ++ us ≡ o ++ p → NoneOf a o → AllOf a p → Falls a op m f us o
 falls_apart m f a op us o p r nh s k e none all =
     let q = split_first a (k.others ++ (a, op) ∷ []) us o p e none (own_last a k.others (a, op) refl) in
     let mine : AllOf a (q.0 ++ us) = subst (AllOf a) q.2 all in

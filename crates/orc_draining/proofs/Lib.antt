@@ -1,0 +1,4 @@
+pub mod TakingIn
+pub mod Draining
+pub mod DrainAll
+pub mod Counting
