@@ -4,6 +4,8 @@ use super::*;
 use orc_chain_rule::Chain;
 use orc_heap::Links;
 
+mod examples;
+
 fn is_shared<T: Sync>() {}
 
 fn is_sent<T: Send>() {}
