@@ -139,7 +139,7 @@ freed_went m n o p q a r w t s x y u v =
     went_is a (0 + 0 + bit (is_some (record_at o a).scan) + 2) 2 m q (omega arith) (went_join a _ 2 m p q (went_join a _ _ m o p (went_join a 0 0 m n o x y) u) v)
 
 -- a turn that lowers the work by more lowers it by less
-pub went_less : (a x y : ℕ) (m n : Machine) → y ≤ x → Went a x m n → Went a y m n
+abbrev pub went_less : (a x y : ℕ) (m n : Machine) → y ≤ x → Went a x m n → Went a y m n
 went_less a x y m n h w = record { turn = record { steps = w.turn.steps; lawful = w.turn.lawful; is = w.turn.is; falls = λ all. let f = w.turn.falls all in omega arith; hands = w.turn.hands; others = w.turn.others }; reached = w.reached; bounds = w.bounds }
 
 pub end_allowed : (m : Machine) (a r k : ℕ) → IsReachedState m → a < m.bounds.agents → IsStill (record_at m a) → IsScanOf r k (record_at m a).scan → k ≡ 8 * m.bounds.agents → is_allowed m a (CounterLoad r End) ≡ true

@@ -3,6 +3,7 @@ pub mod Falling
 pub mod ForRuns
 pub mod Handovers
 pub mod Opening
+pub mod Looks
 pub mod Parts
 pub mod Places
 pub mod Rounds

@@ -19,7 +19,7 @@ use Rattle.orc_words.specs.Bounds.{Bounds}
 use Rattle.orc_words.specs.declared.place.Word.TheVariants.{Handover}
 
 -- one step opens a turn
-pub opened_step : (a : ℕ) (op : Op) (m n : Machine) → IsNoHand op → is_allowed m a op ≡ true → IsSettlingStep (word_in m) op (record_at m a) → Made a op m n
+abbrev pub opened_step : (a : ℕ) (op : Op) (m n : Machine) → IsNoHand op → is_allowed m a op ≡ true → IsSettlingStep (word_in m) op (record_at m a) → Made a op m n
     → IsReachedState n → Opened a (drop_of op (record_at m a)) m n
 opened_step a op m n k h s w r = record {
   op = op;
@@ -34,7 +34,7 @@ opened_step a op m n k h s w r = record {
 }
 
 -- and more follow
-pub opened_more : (a x y : ℕ) (m n o : Machine) → Opened a x m n → Went a y n o → Opened a (x + y) m o
+abbrev pub opened_more : (a x y : ℕ) (m n o : Machine) → Opened a x m n → Went a y n o → Opened a (x + y) m o
 opened_more a x y m n o p w = record {
   op = p.op;
   rest = p.rest + y;
@@ -47,7 +47,7 @@ opened_more a x y m n o p w = record {
   enough = let e = p.enough in omega arith;
 }
 
-pub opened_less : (a x y : ℕ) (m n : Machine) → y ≤ x → Opened a x m n → Opened a y m n
+abbrev pub opened_less : (a x y : ℕ) (m n : Machine) → y ≤ x → Opened a x m n → Opened a y m n
 opened_less a x y m n h p = record {
   op = p.op;
   rest = p.rest;
@@ -61,7 +61,7 @@ opened_less a x y m n h p = record {
 }
 
 -- it is a turn as a whole
-pub opened_went : (a x : ℕ) (m n : Machine) → IsReachedState m → Opened a x m n → Went a x m n
+abbrev pub opened_went : (a x : ℕ) (m n : Machine) → IsReachedState m → Opened a x m n → Went a x m n
 opened_went a x m n r p =
     went_less a (drop_of p.op (record_at m a) + p.rest) x m n p.enough
     (went_join a (drop_of p.op (record_at m a)) p.rest m p.first n (made_went m p.first a p.op r p.allowed p.settles p.made) p.went)
@@ -74,7 +74,7 @@ pub record Begun (a : ℕ) (op : Op) (m f : Machine) (o : List (ℕ × Op)) : Ty
   pub record_is : record_at (run m o) a ≡ record_at m a
   pub is : f ≡ step (run m o) a op
 
-begun : (m f : Machine) (a : ℕ) (op : Op) → IsReachedState m → IsNoHand op → IsSettlingStep (word_in m) op (record_at m a) → (k : Made a op m f) → Begun a op m f k.others
+pub begun : (m f : Machine) (a : ℕ) (op : Op) → IsReachedState m → IsNoHand op → IsSettlingStep (word_in m) op (record_at m a) → (k : Made a op m f) → Begun a op m f k.others
 begun m f a op r nh s k =
     let kept = others_keep m a k.others k.apart in
     record {
@@ -85,7 +85,7 @@ begun m f a op r nh s k =
       is = k.is ∙ run-append m k.others ((a, op) ∷ []);
     }
 
-own_last : (a : ℕ) (xs : List (ℕ × Op)) (s : ℕ × Op) → s.0 ≡ a → HasOwn a (xs ++ s ∷ [])
+pub own_last : (a : ℕ) (xs : List (ℕ × Op)) (s : ℕ × Op) → s.0 ≡ a → HasOwn a (xs ++ s ∷ [])
 own_last a [] s h = inl h
 own_last a (x ∷ xs) s h = inr (own_last a xs s h)
 
@@ -101,7 +101,7 @@ falls_apart m f a op us o p r nh s k e none all =
     let same = split_last a k.others o q.0 (a, op) refl q.1 k.apart none (all_left a q.0 us mine) in
     record { begun = subst (Begun a op m f) (sym same) (begun m f a op r nh s k); mine = all_right a q.0 us mine }
 
-pub settled_first : (m n o : Machine) (a left : ℕ) → IsReachedState m → a < m.bounds.agents → IsBetweenRounds (record_at m a) → left ≡ 4 * (m.bounds.rows + 8 * m.bounds.agents) - 1 → 1 ≤ 4 * (m.bounds.rows + 8 * m.bounds.agents) → Opened a 1 m n → Rounds a left n o → Settled a m o
+abbrev pub settled_first : (m n o : Machine) (a left : ℕ) → IsReachedState m → a < m.bounds.agents → IsBetweenRounds (record_at m a) → left ≡ 4 * (m.bounds.rows + 8 * m.bounds.agents) - 1 → 1 ≤ 4 * (m.bounds.rows + 8 * m.bounds.agents) → Opened a 1 m n → Rounds a left n o → Settled a m o
 settled_first m n o a left r h d e big w g =
     let us = w.went.turn.steps ++ g.steps in
     let ts = w.made.others ++ (a, w.op) ∷ [] in record {
@@ -136,7 +136,7 @@ settled_first m n o a left r h d e big w g =
           g.others (all_right a w.went.turn.steps g.steps k.mine) more y i (subst (λ (b : Bounds). y < b.agents) (sym w.went.bounds) lf) li ne second;
     }
 
-pub settled_none : (a : ℕ) (m : Machine) → IsDone (record_at m a) → Settled a m m
+abbrev pub settled_none : (a : ℕ) (m : Machine) → IsDone (record_at m a) → Settled a m m
 settled_none a m d = record {
   steps = [];
   lawful = tt;

@@ -69,7 +69,7 @@ pub done_here : (m : Machine) (a : ℕ) → IsReachedState m → ((r : ℕ) → 
 done_here m a k h s d = record { list = list_empty m a k h; hand = d; scan = s }
 
 -- a round, and then as many as are left
-pub rounds_join : (a left : ℕ) (m n o : Machine) → (left ≡ 0 → ⊥) → Went a 1 m n → Rounds a (left - 1) n o → Rounds a left m o
+abbrev pub rounds_join : (a left : ℕ) (m n o : Machine) → (left ≡ 0 → ⊥) → Went a 1 m n → Rounds a (left - 1) n o → Rounds a left m o
 rounds_join a left m n o ne w r = record {
   steps = w.turn.steps ++ r.steps;
   lawful = lawful_join m w.turn.steps r.steps w.turn.lawful (subst (λ x. IsLawful x r.steps) w.turn.is r.lawful);
@@ -79,7 +79,7 @@ rounds_join a left m n o ne w r = record {
   others = zero_join m n o a w.turn.steps r.steps w.turn.is w.turn.others r.others;
 }
 
-positive : (o : Option Doom) → 1 ≤ uncut o
+pub positive : (o : Option Doom) → 1 ≤ uncut o
 positive None = omega arith
 positive (Some d) = cases d.cut
   where
@@ -87,10 +87,10 @@ positive (Some d) = cases d.cut
     cases true = omega arith
     cases false = omega arith
 
-pub no_rounds : (a : ℕ) (m : Machine) → Rounds a 0 m m
+abbrev pub no_rounds : (a : ℕ) (m : Machine) → Rounds a 0 m m
 no_rounds a m = record { steps = []; lawful = tt; is = refl; done = λ all less. let p = positive (record_at m a).doom in absurd (omega arith); hands = λ all z. z; others = λ all s x k lx lk ne z. z }
 
-pub rounds_done : (a left : ℕ) (m : Machine) → IsDone (record_at m a) → Rounds a left m m
+abbrev pub rounds_done : (a left : ℕ) (m : Machine) → IsDone (record_at m a) → Rounds a left m m
 rounds_done a left m d = record { steps = []; lawful = tt; is = refl; done = λ all less. d; hands = λ all z. z; others = λ all s x k lx lk ne z. z }
 
 pub reached_work : (m : Machine) (a : ℕ) → IsReachedState m → a < m.bounds.agents → (record_at m a).dec ≡ None → (record_at m a).due ≡ None → work_left m a ≤ 4 * (m.bounds.rows + 8 * m.bounds.agents)

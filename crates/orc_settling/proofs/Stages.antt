@@ -52,14 +52,14 @@ made_record m n a op r h k =
       is = ap (λ x. record_at x a) (k.is ∙ run-append m k.others ((a, op) ∷ [])) ∙ (get_or-set_same mid.agents a (after op (record_at mid a) (word_read mid a op)) (nobody mid.bounds.rows) l ∙ ap (λ d. after op d (word_read mid a op)) kept);
     }
 
-pub made_went : (m n : Machine) (a : ℕ) (op : Op) → IsReachedState m → is_allowed m a op ≡ true → IsSettlingStep (word_in m) op (record_at m a) → Made a op m n → Went a (drop_of op (record_at m a)) m n
+abbrev pub made_went : (m n : Machine) (a : ℕ) (op : Op) → IsReachedState m → is_allowed m a op ≡ true → IsSettlingStep (word_in m) op (record_at m a) → Made a op m n → Went a (drop_of op (record_at m a)) m n
 made_went m n a op r h s k = record {
   turn = made_turn m n a op r h s k;
   reached = reached_on m n (k.others ++ (a, op) ∷ []) r k.lawful k.is;
   bounds = ap (λ (x : Machine). x.bounds) k.is ∙ run_bounds m (k.others ++ (a, op) ∷ []);
 }
 
-pub went_join : (a x y : ℕ) (m n k : Machine) → Went a x m n → Went a y n k → Went a (x + y) m k
+abbrev pub went_join : (a x y : ℕ) (m n k : Machine) → Went a x m n → Went a y n k → Went a (x + y) m k
 went_join a x y m n k t u = record { turn = turn_join a x y m n k t.turn u.turn; reached = u.reached; bounds = u.bounds ∙ t.bounds }
 
 pub allowed : (m : Machine) (a : ℕ) (op : Op) → a < m.bounds.agents → stands op (record_at m a) ≡ true → forced (record_at m a) op ≡ true → fits m.bounds (word_in m Enrolled) a op (record_at m a) ≡ true → is_allowed m a op ≡ true
@@ -131,7 +131,7 @@ left_join a x y m n k P t u = record { went = went_join a x y m n k t u.went; so
 pub first_cleared : (m : Machine) (a : ℕ) → a < m.bounds.agents → IsSettling (record_at m a) → is_empty (slot_of (record_at m a) 0) ≡ false → (record_at m a).dec ≡ None → (record_at m a).due ≡ None → Steps a 0 (Clear 0) m (StillKept (record_at m a))
 first_cleared m a h c u d e = (clear_allowed m a h c u d e, λ n r k. clear_made m n a r h c u d e k)
 
-kept_join : (d e f : Agent) → SameTasks d e → StillKept e f → StillKept d f
+pub kept_join : (d e f : Agent) → SameTasks d e → StillKept e f → StillKept d f
 kept_join d e f k s = record { still = s.still; kept = record { hand = s.kept.hand ∙ k.hand; scan = s.kept.scan ∙ k.scan; doom = s.kept.doom ∙ k.doom } }
 
 pub then_taken : (m : Machine) (a : ℕ) → a < m.bounds.agents → IsSettling (record_at m a) → is_empty (slot_of (record_at m a) 0) ≡ false → (record_at m a).dec ≡ None → (record_at m a).due ≡ None → (n : Machine) → IsReachedState m → Made a (Clear 0) m n
@@ -164,7 +164,7 @@ no_fresh o q t e = rw e (nothing t)
 pub tried_calm : (d : Agent) (q n w : ℕ) → IsSettling d → IsSettling (after (SetRetired q n) d w)
 tried_calm d q n w c = record { enrolled = c.enrolled; slots = c.slots; eight = c.eight; fresh = no_fresh d.fresh q (w == clear_word n) c.fresh; inc = c.inc }
 
-pub went_none : (a : ℕ) (m : Machine) → IsReachedState m → Went a 0 m m
+abbrev pub went_none : (a : ℕ) (m : Machine) → IsReachedState m → Went a 0 m m
 went_none a m r = record { turn = no_turn a m; reached = r; bounds = refl }
 
 -- what is read of a slot is what it shows

@@ -45,7 +45,7 @@ zero_join m n o a xs ys e f g h s x k lx lk ne z =
     let b : n.bounds ≡ m.bounds = ap (λ (w : Machine). w.bounds) e ∙ run_bounds m xs in
     g (all_right a xs ys h) (still_no_slots m n a xs (all_left a xs ys h) e s) x k (subst (λ (c : Bounds). x < c.agents) (sym b) lx) lk ne (f (all_left a xs ys h) s x k lx lk ne z)
 
-pub turn_join : (a x y : ℕ) (m n k : Machine) → Turn a x m n → Turn a y n k → Turn a (x + y) m k
+abbrev pub turn_join : (a x y : ℕ) (m n k : Machine) → Turn a x m n → Turn a y n k → Turn a (x + y) m k
 turn_join a x y m n k t u = record {
   steps = t.steps ++ u.steps;
   lawful = lawful_join m t.steps u.steps t.lawful (subst (λ w. IsLawful w u.steps) t.is u.lawful);
@@ -55,7 +55,7 @@ turn_join a x y m n k t u = record {
   others = zero_join m n k a t.steps u.steps t.is t.others u.others;
 }
 
-pub no_turn : (a : ℕ) (m : Machine) → Turn a 0 m m
+abbrev pub no_turn : (a : ℕ) (m : Machine) → Turn a 0 m m
 no_turn a m = record { steps = []; lawful = tt; is = refl; falls = λ h. omega arith; hands = λ h z. z; others = λ h s x k lx lk ne z. z }
 
 pub reached_on : (m n : Machine) (steps : List (ℕ × Op)) → IsReachedState m → IsLawful m steps → n ≡ run m steps → IsReachedState n
@@ -88,7 +88,7 @@ pub reached_others : (m : Machine) (a : ℕ) (op : Op) (x k : ℕ) → x < m.bou
 reached_others m a op x k lx lk ne r = subst (λ w. x < w.bounds.agents → is_allowed w a op ≡ true → IsSettlingStep (word_in w) op (record_at w a) → NoSlotsBut a w → word_in w (Handover x k) ≡ 0 → word_in (step w a op) (Handover x k) ≡ 0) (sym r.is) (other_handovers r.bounds r.steps a op x k r.shape r.lawful lk ne) lx
 
 -- a step that settles is a turn: alone, it was made right at the state before
-pub made_turn : (m n : Machine) (a : ℕ) (op : Op) → IsReachedState m → is_allowed m a op ≡ true → IsSettlingStep (word_in m) op (record_at m a) → Made a op m n → Turn a (drop_of op (record_at m a)) m n
+abbrev pub made_turn : (m n : Machine) (a : ℕ) (op : Op) → IsReachedState m → is_allowed m a op ≡ true → IsSettlingStep (word_in m) op (record_at m a) → Made a op m n → Turn a (drop_of op (record_at m a)) m n
 made_turn m n a op r h s k = record {
   steps = k.others ++ (a, op) ∷ [];
   lawful = k.lawful;

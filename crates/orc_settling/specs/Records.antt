@@ -63,6 +63,11 @@ pub record IsScanOf (r k : ℕ) (o : Option Scan) : Type 0 where
   pub is : o ≡ Some (record { row = r; word = word; place = k; found = false })
   pub empty : count_bits word ≡ 4194304
 
+-- the scan is of this row, which the slot at this place names
+pub record IsFoundScan (r k : ℕ) (o : Option Scan) : Type 0 where
+  pub word : ℕ
+  pub is : o ≡ Some (record { row = r; word = word; place = k; found = true })
+
 -- the row is scanned, or a scan of it may begin
 abbrev pub IsNext : ℕ → Agent → Type 0
 IsNext r d = (scans d.scan r ≡ true) ⊎ ((d.scan ≡ None) × ((names d.hand r || (is_none d.hand && first_is d.list.items r)) ≡ true))

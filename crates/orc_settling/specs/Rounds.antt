@@ -1,11 +1,12 @@
 -- What the parts of a settling do, round by round.
-use Rattle.std.specs.Prelude.{List, true, ◌%◌, ◌++◌, ◌+◌, ◌/◌, ◌≡◌, ◌≤◌, ℕ}
+use Rattle.std.specs.Prelude.{List, false, true, ◌%◌, ◌++◌, ◌+◌, ◌/◌, ◌≡◌, ◌≤◌, ℕ}
 use Rattle.orc_core.specs.After.{after}
 use Rattle.orc_core.specs.Machine.{Machine, is_allowed, record_at, word_in}
+use Rattle.orc_core.specs.RecordParts.{scan_found}
 use Rattle.orc_core.specs.Runs.{IsLawful, run}
 use Rattle.orc_core.specs.declared.ops.Op.{Op}
 use Rattle.orc_core.specs.declared.ops.Op.TheVariants.{Hand, SlotLook}
-use Rattle.orc_settling.specs.Records.{IsDone}
+use Rattle.orc_settling.specs.Records.{IsDone, IsFoundScan, IsScanOf, IsStill}
 use Rattle.orc_settling.specs.Turns.{AllOf, IsReachedState, Made, NoSlotsBut, NoneHanded, NoneOf, StaysZero, Turn}
 use Rattle.orc_settling.specs.Work.{IsSettlingStep, drop_of, work_left}
 use Rattle.orc_words.specs.declared.place.Word.TheVariants.{Slot}
@@ -26,6 +27,14 @@ pub record LookedAt (a k : ℕ) (m n : Machine) : Type 0 where
   pub word : ℕ
   pub is : record_at n a ≡ after (SlotLook k) (record_at m a) word
   pub shows : word_in n (Slot (k / 8) (k % 8)) ≡ word
+
+-- a slot was looked at for the scanned row: it names the row and the scan is found, or the scan goes on at the next place
+pub record Looks (a r k : ℕ) (m n : Machine) : Type 0 where
+  pub still : IsStill (record_at n a)
+  pub doom : (record_at n a).doom ≡ (record_at m a).doom
+  pub found : scan_found (record_at n a).scan ≡ true → IsFoundScan r k (record_at n a).scan
+  pub shows : scan_found (record_at n a).scan ≡ true → word_in n (Slot (k / 8) (k % 8)) ≡ r + 1
+  pub on : scan_found (record_at n a).scan ≡ false → IsScanOf r (k + 1) (record_at n a).scan
 
 -- a kind whose condition speaks of the record alone: all that settle but Hand
 abbrev pub IsNoHand : Op → Type 0

@@ -1,0 +1,6 @@
+pub mod Alone
+pub mod Cuts
+pub mod Joins
+pub mod Leaving
+pub mod Makes
+pub mod Passes

@@ -1,0 +1,28 @@
+use Rattle.std.proofs.Common.{ap, arith, subst, sym, ◌∙◌}
+use Rattle.orc_board_settling.proofs.Passes.{bounds_are}
+use Rattle.orc_board_settling.specs.Passes.{state_of}
+use Rattle.orc_core.specs.declared.records.Agent.{Agent}
+use Rattle.orc_settling.proofs.Places.{place_fits}
+use Rattle.orc_settling.specs.Records.{PlaceFits}
+use Rattle.orc_words.specs.Bounds.{Bounds}
+use Rattle.orc_board_settling.proofs.rounds.scan_round.Goals as goal
+
+pub overflow_sub-end : goal.overflow_sub-end
+overflow_sub-end g c =
+    let m = state_of c.args.board.now c.args.p.now in
+    let same = ap (λ (d : Agent). d.scan) (sym c.own_record.ensures) ∙ c.in-Some.is in
+    let low = subst (PlaceFits m.bounds) same (place_fits m c.args.agent c.requires.pass.reached) in
+    let agents = ap (λ (b : Bounds). b.agents) (bounds_are c.args.board.now c.args.p.now) in
+    let shape = ap (λ (b : Bounds). b.agents) c.shape.ensures in
+    let end = c.agents-end.ensures in
+    omega arith
+
+pub look_over-requires-clause-left : goal.look_over-requires-clause-left
+look_over-requires-clause-left g c =
+    let m = state_of c.args.board.now c.args.p.now in
+    let same = ap (λ (d : Agent). d.scan) (sym c.own_record.ensures) ∙ c.in-Some.is in
+    let low = subst (PlaceFits m.bounds) same (place_fits m c.args.agent c.requires.pass.reached) in
+    let agents = ap (λ (b : Bounds). b.agents) (bounds_are c.args.board.now c.args.p.now) in
+    let shape = ap (λ (b : Bounds). b.agents) c.shape.ensures in
+    let end = c.agents-end.ensures in
+    omega arith

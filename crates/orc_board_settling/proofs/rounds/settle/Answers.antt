@@ -1,0 +1,22 @@
+use Rattle.std.proofs.Common.{subst, sym}
+use Rattle.orc_board_settling.proofs.Alone.{alone_done}
+use Rattle.orc_board_settling.proofs.Passes.{mine, pass_of}
+use Rattle.orc_board_settling.specs.Parts.{Settles}
+use Rattle.orc_board_settling.specs.Passes.{record_of}
+use Rattle.orc_machine_board.specs.Views.{board_bounds, shows}
+use Rattle.orc_settling.specs.Records.{IsDone}
+use Rattle.orc_board_settling.proofs.rounds.settle.Goals as goal
+
+pub settle_all-requires-clause-pass : goal.settle_all-requires-clause-pass
+settle_all-requires-clause-pass g c = pass_of c.args.board.now c.agent-agent.result c.args.p.now c.requires.belongs (sym c.agent-agent.ensures)
+
+pub returns-clause-done : goal.returns-clause-done
+returns-clause-done g c = λ alone.
+    let board = c.args.board.now in
+    let b = board_bounds board in
+    let s = shows c.args.p.now in
+    let t = shows c.settle_all.new.p in
+    let its = c.agent-agent.ensures in
+    let settles = subst (λ a. Settles b a s t) its c.settle_all.ensures.settles in
+    subst IsDone (mine board c.agent-agent.result c.settle_all.new.p c.settle_all.ensures.pass)
+    (subst (λ a. IsDone (record_of board a c.settle_all.new.p)) (sym its) (alone_done b s.agent s t settles alone))

@@ -1,0 +1,25 @@
+use Rattle.orc_board_settling.proofs.Makes.{silent}
+use Rattle.orc_board_settling.proofs.Passes.{goes, may_do, next_pass, opens}
+use Rattle.orc_board_settling.specs.Passes.{record_of, state_of}
+use Rattle.orc_core.specs.Machine.{word_in}
+use Rattle.orc_board_settling.proofs.steps.settle_step.Goals as goal
+
+pub plain_step-requires-clause-allowed : goal.plain_step-requires-clause-allowed
+plain_step-requires-clause-allowed g c = may_do c.args.board.now c.args.agent c.args.p.now c.requires.pass c.args.op c.requires.settles c.requires.allowed
+
+pub returns-clause-goes : goal.returns-clause-goes
+returns-clause-goes g c =
+    goes c.args.board.now c.args.agent c.args.op c.args.p.now c.plain_step.new.p c.plain_step.result c.requires.pass c.plain_step.ensures.belongs c.plain_step.ensures.makes
+    (λ i w. silent i (record_of c.args.board.now c.args.agent c.args.p.now) (record_of c.args.board.now c.args.agent c.args.p.now) w
+    (word_in (state_of c.args.board.now c.args.p.now)) c.args.op c.requires.plain c.requires.settles)
+    c.requires.clears_none c.requires.allowed c.requires.settles
+
+pub returns-clause-opens : goal.returns-clause-opens
+returns-clause-opens g c =
+    opens c.args.board.now c.args.agent c.args.op c.args.p.now c.plain_step.new.p c.plain_step.result c.requires.pass c.plain_step.ensures.belongs c.plain_step.ensures.makes
+    (λ i w. silent i (record_of c.args.board.now c.args.agent c.args.p.now) (record_of c.args.board.now c.args.agent c.args.p.now) w
+    (word_in (state_of c.args.board.now c.args.p.now)) c.args.op c.requires.plain c.requires.settles)
+    c.requires.clears_none c.requires.allowed c.requires.settles
+
+pub returns-clause-pass : goal.returns-clause-pass
+returns-clause-pass g c = next_pass c.args.board.now c.args.agent c.args.op c.args.p.now c.plain_step.new.p c.plain_step.result c.requires.pass c.plain_step.ensures.belongs c.plain_step.ensures.makes

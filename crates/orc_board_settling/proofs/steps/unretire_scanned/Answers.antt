@@ -1,0 +1,41 @@
+use Rattle.std.proofs.Common.{ap, ◌∙◌, ◌≡◌}
+use Rattle.std.specs.Prelude.{is_some}
+use Rattle.orc_board_settling.proofs.Joins.{goes_is, goes_then, opens_then}
+use Rattle.orc_board_settling.specs.Passes.{record_of, state_of}
+use Rattle.orc_core.specs.RecordParts.{scans}
+use Rattle.orc_core.specs.declared.records.Agent.{Agent}
+use Rattle.orc_machine_board.specs.Views.{board_bounds, shows}
+use Rattle.orc_settling.proofs.Calls.{arm_scanned, due_unretired, scan_some, unretire_armed}
+use Rattle.orc_words.specs.Packed.{bit}
+use Rattle.orc_board_settling.proofs.steps.unretire_scanned.Goals as goal
+
+pub settle_step-requires-clause-allowed : goal.settle_step-requires-clause-allowed
+settle_step-requires-clause-allowed g c =
+    arm_scanned (state_of c.args.board.now c.args.p.now) c.args.agent c.args.row c.requires.pass.reached
+    c.requires.pass.low c.requires.still c.requires.scans c.requires.linked
+
+pub settle_step-requires-2-clause-allowed : goal.settle_step-requires-2-clause-allowed
+settle_step-requires-2-clause-allowed g c =
+    unretire_armed (state_of c.args.board.now c.args.p.now) (state_of c.args.board.now c.settle_step.new.p) c.args.agent c.args.row
+    c.requires.pass.reached c.requires.pass.low c.requires.still c.requires.scans
+    c.requires.linked c.settle_step.ensures.goes.went.bounds c.settle_step.ensures.record
+
+pub try_due-requires-clause-due : goal.try_due-requires-clause-due
+try_due-requires-clause-due g c =
+    due_unretired (state_of c.args.board.now c.args.p.now) (state_of c.args.board.now c.settle_step.new.p) (state_of c.args.board.now c.settle_step-2.new.p) c.args.agent
+    c.args.row c.requires.pass.reached c.requires.still c.requires.scans c.settle_step.ensures.goes.went.bounds
+    c.settle_step-2.ensures.goes.went.bounds c.settle_step.ensures.record c.settle_step-2.ensures.record
+
+pub returns-clause-opens : goal.returns-clause-opens
+returns-clause-opens g c =
+    let b = board_bounds c.args.board.now in
+    let a = c.args.agent in
+    let s = shows c.args.p.now in
+    let t = shows c.settle_step.new.p in
+    let u = shows c.settle_step-2.new.p in
+    let v = shows c.try_due.new.p in
+    let w = shows c.leave_slot_zero.new.p in
+    let d = record_of c.args.board.now a c.settle_step.new.p in
+    let one : bit (is_some d.scan) ≡ 1 = scan_some d.scan c.args.row (ap (λ (e : Agent). scans e.scan c.args.row) c.settle_step.ensures.record.is ∙ c.requires.scans) in
+    opens_then b a 0 1 s t w (c.settle_step.ensures.opens tt)
+    (goes_then b a 1 0 t u w (goes_is b a (bit (is_some d.scan)) 1 t u one c.settle_step-2.ensures.goes) (goes_then b a 0 0 u v w c.try_due.ensures.goes c.leave_slot_zero.ensures.goes))

@@ -1,0 +1,3 @@
+pub mod OwnSteps
+pub mod Parts
+pub mod Passes

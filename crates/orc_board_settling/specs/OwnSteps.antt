@@ -1,0 +1,34 @@
+-- The steps that a call's agent makes; and that what was handed over beside a slot is taken in once the slot is clear.
+use Rattle.std.specs.Prelude.{List, [], map, ℕ, ◌++◌, ◌∷◌, ◌≡◌}
+use Rattle.orc_core.specs.declared.ops.Op.{Op}
+use Rattle.orc_core.specs.declared.ops.Op.TheVariants.{Clear, TakeIn}
+use Rattle.orc_machine_board.specs.Passes.{steps_of}
+use Rattle.orc_sound.specs.declared.steps.Step.{Step}
+
+-- the first of these is this op
+abbrev pub BeginsWith : Op → List Op → Type 0
+BeginsWith op [] = ⊥
+BeginsWith op (first ∷ rest) = first ≡ op
+
+-- right after each Clear of a slot comes the TakeIn of that slot
+abbrev pub TakesInCleared : List Op → Type 0
+TakesInCleared [] = Unit {0}
+TakesInCleared (Clear slot ∷ ops) = BeginsWith (TakeIn slot) ops × TakesInCleared ops
+TakesInCleared (op ∷ ops) = TakesInCleared ops
+
+module _ {N : Type 0} where
+  -- the ops of an agent's steps, in order
+  abbrev pub ops_of : ℕ → List (Step N) → List Op
+  ops_of agent j = map (λ (s : Step N). s.op) (steps_of agent j)
+
+  -- the journal has gone on, and the agent's own ops in what is new are these
+  pub record HasDone (agent : ℕ) (ops : List Op) (before after : List (Step N)) : Type 0 where
+    pub part : List (Step N)
+    pub is : after ≡ before ++ part
+    pub own : ops_of agent part ≡ ops
+
+  -- of each slot that the agent cleared in what is new, it took in next what was handed over beside it
+  pub record LeavesNothing (agent : ℕ) (before after : List (Step N)) : Type 0 where
+    pub ops : List Op
+    pub done : HasDone agent ops before after
+    pub taken_in : TakesInCleared ops

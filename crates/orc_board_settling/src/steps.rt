@@ -1,0 +1,224 @@
+//! The parts of a round: steps, and what follows one another without a choice.
+
+ghost use Rattle.std.specs.Prelude.{◌≡◌, ◌<◌, ◌*◌, None, Some, [], ◌∷◌, false, true};
+ghost use Rattle.orc_board_settling.specs.OwnSteps.{TakesInCleared};
+ghost use Rattle.orc_board_settling.specs.Parts.{Goes, Opens};
+ghost use Rattle.orc_board_settling.specs.Passes.{IsPassOf, record_of, state_of};
+ghost use Rattle.orc_core.specs.Machine.{is_allowed, word_in};
+ghost use Rattle.orc_core.specs.RecordParts.{is_empty, scan_empty, scan_found, scans, slot_of};
+ghost use Rattle.orc_core.specs.declared.ops.Op.{Op};
+ghost use Rattle.orc_core.specs.declared.records.SlotUse.TheVariants.{Empty};
+ghost use Rattle.orc_machine_board.specs.Kinds.{is_plain_kind};
+ghost use Rattle.orc_machine_board.specs.Views.{board_bounds, shows};
+ghost use Rattle.orc_settling.specs.Records.{DueFits, IsBetweenRounds, IsDoomOf, IsScanOf, IsSettling, IsStill, SameTasks};
+ghost use Rattle.orc_settling.specs.Rounds.{AfterStep, IsNoHand, Looks};
+ghost use Rattle.orc_settling.specs.Work.{IsSettlingStep, drop_of};
+
+use orc_core::{Agent, Op};
+use orc_heap::Discipline;
+use orc_machine_board::{MachineBoard, MachineBoardPass};
+use orc_words::RowLink;
+
+// The record of the agent.
+pub(crate) fn own_record<'a, D: Discipline>(
+    board: &MachineBoard<D>,
+    p: &'a MachineBoardPass<D>,
+    agent: u32,
+) -> &'a Agent
+    requires pass { IsPassOf board.now agent p.now }
+    ensures { result.now ≡ record_of board.now agent p.now }
+{
+    p.record()
+}
+
+// Makes a step that settles, of a kind that changes no link and clears no slot.
+pub(crate) fn settle_step<D: Discipline>(
+    board: &MachineBoard<D>,
+    p: &mut MachineBoardPass<D>,
+    agent: u32,
+    op: Op,
+)
+    requires pass { IsPassOf board.now agent p.old }
+    requires plain { is_plain_kind op ≡ true }
+    requires clears_none { TakesInCleared (op ∷ []) }
+    requires allowed { is_allowed (state_of board.now p.old) agent op ≡ true }
+    requires settles { IsSettlingStep (word_in (state_of board.now p.old)) op (record_of board.now agent p.old) }
+    ensures pass { IsPassOf board.now agent p.new }
+    ensures goes { Goes (board_bounds board.now) agent (drop_of op (record_of board.now agent p.old)) (shows p.old) (shows p.new) }
+    ensures opens { IsNoHand op → Opens (board_bounds board.now) agent (drop_of op (record_of board.now agent p.old)) (shows p.old) (shows p.new) }
+    ensures record { AfterStep agent op (state_of board.now p.old) (state_of board.now p.new) }
+{
+    let _ = board.plain_step(p, op, None);
+}
+
+// Looks at a slot for the scanned row, and answers whether it names the row.
+pub(crate) fn look_step<D: Discipline>(
+    board: &MachineBoard<D>,
+    p: &mut MachineBoardPass<D>,
+    agent: u32,
+    row: u32,
+    k: u32,
+) -> bool
+    requires pass { IsPassOf board.now agent p.old }
+    requires still { IsStill (record_of board.now agent p.old) }
+    requires scan { IsScanOf row k (record_of board.now agent p.old).scan }
+    requires place { k < 8 * (state_of board.now p.old).bounds.agents }
+    ensures pass { IsPassOf board.now agent p.new }
+    ensures opens { Opens (board_bounds board.now) agent 0 (shows p.old) (shows p.new) }
+    ensures looks { Looks agent row k (state_of board.now p.old) (state_of board.now p.new) }
+    ensures found { result ≡ scan_found (record_of board.now agent p.new).scan }
+{
+    let _ = board.slot_look(p, k);
+    is_found(p.record())
+}
+
+// Whether the agent's scan is found.
+fn is_found(record: &Agent) -> bool
+    ensures { result ≡ scan_found record.now.scan }
+{
+    match record.scan {
+        Some(scan) => scan.found,
+        None => false,
+    }
+}
+
+// Takes the link out of a doomed row.
+pub(crate) fn take_link_out<D: Discipline>(
+    board: &MachineBoard<D>,
+    p: &mut MachineBoardPass<D>,
+    agent: u32,
+    row: u32,
+)
+    requires pass { IsPassOf board.now agent p.old }
+    requires still { IsStill (record_of board.now agent p.old) }
+    requires doom { IsDoomOf row (record_of board.now agent p.old).doom }
+    ensures pass { IsPassOf board.now agent p.new }
+    ensures goes { Goes (board_bounds board.now) agent 0 (shows p.old) (shows p.new) }
+    ensures record { AfterStep agent (Op.LinkStore row (record { to = None; mark = false })) (state_of board.now p.old) (state_of board.now p.new) }
+{
+    let null = RowLink {
+        to: None,
+        mark: false,
+    };
+    let _ = board.link_store(p, row, null);
+}
+
+// Empties slot 0, and takes in what was handed over beside it meanwhile.
+pub(crate) fn leave_slot_zero<D: Discipline>(
+    board: &MachineBoard<D>,
+    p: &mut MachineBoardPass<D>,
+    agent: u32,
+)
+    requires pass { IsPassOf board.now agent p.old }
+    requires calm { IsSettling (record_of board.now agent p.old) }
+    requires used { is_empty (slot_of (record_of board.now agent p.old) 0) ≡ false }
+    requires dec { (record_of board.now agent p.old).dec ≡ None }
+    requires due { (record_of board.now agent p.old).due ≡ None }
+    ensures pass { IsPassOf board.now agent p.new }
+    ensures goes { Goes (board_bounds board.now) agent 0 (shows p.old) (shows p.new) }
+    ensures still { IsStill (record_of board.now agent p.new) }
+    ensures kept { SameTasks (record_of board.now agent p.old) (record_of board.now agent p.new) }
+{
+    let _ = board.clear(p, 0);
+    let _ = board.take_in(p, 0);
+}
+
+// Tries the bit of a row that is due.
+pub(crate) fn try_due<D: Discipline>(
+    board: &MachineBoard<D>,
+    p: &mut MachineBoardPass<D>,
+    agent: u32,
+)
+    requires pass { IsPassOf board.now agent p.old }
+    requires calm { IsSettling (record_of board.now agent p.old) }
+    requires dec { (record_of board.now agent p.old).dec ≡ None }
+    requires scan { (record_of board.now agent p.old).scan ≡ None }
+    requires due { DueFits (state_of board.now p.old).bounds (record_of board.now agent p.old).due }
+    ensures pass { IsPassOf board.now agent p.new }
+    ensures goes { Goes (board_bounds board.now) agent 0 (shows p.old) (shows p.new) }
+    ensures calm { IsSettling (record_of board.now agent p.new) }
+    ensures dec { (record_of board.now agent p.new).dec ≡ None }
+    ensures due { (record_of board.now agent p.new).due ≡ None }
+    ensures slots { (record_of board.now agent p.new).slots ≡ (record_of board.now agent p.old).slots }
+    ensures kept { SameTasks (record_of board.now agent p.old) (record_of board.now agent p.new) }
+{
+    if let Some(due) = own_record(board, p, agent).due {
+        let sequence = due.number;
+        settle_step(
+            board,
+            p,
+            agent,
+            Op::SetRetired {
+                row: due.row,
+                sequence,
+            },
+        );
+    }
+}
+
+// Clears the bit of a scanned row that is linked again.
+pub(crate) fn unretire_scanned<D: Discipline>(
+    board: &MachineBoard<D>,
+    p: &mut MachineBoardPass<D>,
+    agent: u32,
+    row: u32,
+)
+    requires pass { IsPassOf board.now agent p.old }
+    requires still { IsStill (record_of board.now agent p.old) }
+    requires scans { scans (record_of board.now agent p.old).scan row ≡ true }
+    requires linked { scan_empty (record_of board.now agent p.old).scan ≡ false }
+    requires doom { (record_of board.now agent p.old).doom ≡ None }
+    ensures pass { IsPassOf board.now agent p.new }
+    ensures opens { Opens (board_bounds board.now) agent 1 (shows p.old) (shows p.new) }
+    ensures between { IsBetweenRounds (record_of board.now agent p.new) }
+{
+    settle_step(board, p, agent, Op::Arm { row });
+    settle_step(board, p, agent, Op::Unretire { row });
+    try_due(board, p, agent);
+    leave_slot_zero(board, p, agent);
+}
+
+// Takes the link that was taken out from its target's count.
+pub(crate) fn finish_decrement<D: Discipline>(
+    board: &MachineBoard<D>,
+    p: &mut MachineBoardPass<D>,
+    agent: u32,
+)
+    requires pass { IsPassOf board.now agent p.old }
+    requires calm { IsSettling (record_of board.now agent p.old) }
+    requires zero { slot_of (record_of board.now agent p.old) 0 ≡ Empty }
+    requires due { (record_of board.now agent p.old).due ≡ None }
+    requires scan { (record_of board.now agent p.old).scan ≡ None }
+    ensures pass { IsPassOf board.now agent p.new }
+    ensures goes { Goes (board_bounds board.now) agent 0 (shows p.old) (shows p.new) }
+    ensures still { IsStill (record_of board.now agent p.new) }
+    ensures kept { SameTasks (record_of board.now agent p.old) (record_of board.now agent p.new) }
+{
+    if let Some(row) = own_record(board, p, agent).dec {
+        settle_step(board, p, agent, Op::Arm { row });
+        settle_step(board, p, agent, Op::Dec { row });
+        try_due(board, p, agent);
+        leave_slot_zero(board, p, agent);
+    }
+}
+
+// Frees a doomed row.
+pub(crate) fn free_doomed<D: Discipline>(
+    board: &MachineBoard<D>,
+    p: &mut MachineBoardPass<D>,
+    agent: u32,
+    row: u32,
+)
+    requires pass { IsPassOf board.now agent p.old }
+    requires still { IsStill (record_of board.now agent p.old) }
+    requires scan { (record_of board.now agent p.old).scan ≡ None }
+    requires doom { IsDoomOf row (record_of board.now agent p.old).doom }
+    ensures pass { IsPassOf board.now agent p.new }
+    ensures goes { Goes (board_bounds board.now) agent 2 (shows p.old) (shows p.new) }
+    ensures between { IsBetweenRounds (record_of board.now agent p.new) }
+{
+    take_link_out(board, p, agent, row);
+    finish_decrement(board, p, agent);
+    settle_step(board, p, agent, Op::Unretire { row });
+    settle_step(board, p, agent, Op::Free { row });
+}
