@@ -1,14 +1,18 @@
 //! The set, and its calls.
 
-ghost use Rattle.std.specs.Prelude.{◌≡◌, ◌<◌, ◌%◌, ◌↔◌, ℕ};
+ghost use Rattle.std.specs.Prelude.{◌≡◌, ◌<◌, ◌%◌, ◌↔◌, ◌∷◌, [], ℕ, Err, IfErr, IfOk, IsErr, Ok, length, true};
 ghost use mathlib.Core.List.{IsPrefix};
-ghost use Rattle.orc_heap.specs.Domains.{agent};
+ghost use Rattle.orc_heap.specs.Domains.{IsCallAlone, MakesNoEvent, agent};
+ghost use Rattle.orc_history.specs.Journals.{Within};
 ghost use Rattle.orc_history.specs.declared.set.ListRefused.{ListRefused};
+ghost use Rattle.orc_history.specs.declared.set.SetEntry.{SetEntry};
+ghost use Rattle.orc_list.specs.ListCalls.{CostsOthers, Enters, EntersNone, FindsAbsent, FindsNoneWorn, FindsWorn, GivesAtMost, LacksRow};
+ghost use Rattle.orc_list.specs.ListCalls.{LeavesOffChain, MakesFew, UsesAllTurns};
 ghost use Rattle.orc_list.specs.SetMembers.{HasCause, IsUsable, set_history};
 ghost use Rattle.orc_list.specs.Laws.SetLaws.{cause_stays, entries_below, history_grows, seen_legal};
 
 use orc_chain_rule::Chain;
-use orc_fault::Again;
+use orc_fault::{Again, Spent};
 use orc_heap::Links;
 use orc_history::{LearnSet, ListRefused, SharedSet};
 use orc_list::List;
@@ -103,15 +107,68 @@ impl<L: Links<Rule = Chain>> SharedSet for Set<L> {
         self.list.links().agent(p)
     }
 
-    fn insert(&self, p: &mut L::Pass, key: u64, turns: u64) -> Result<bool, ListRefused> {
+    fn insert(&self, p: &mut L::Pass, key: u64, turns: u64) -> Result<bool, ListRefused>
+        requires usable { IsUsable L.Links self.now.list.links p.old }
+        ensures usable { IsUsable L.Links self.now.list.links p.new }
+        ensures agent { agent L.Links self.now.list.links p.new ≡ agent L.Links self.now.list.links p.old }
+        ensures later { IsPrefix (L.journal p.old) (L.journal p.new) }
+        ensures added { IfOk result (λ yes. Enters L.Links self.now.list.links p.old p.new (λ agent. SetEntry.Added agent key yes ∷ [])) }
+        ensures none { IfErr result (λ e. EntersNone L.Links self.now.list.links p.old p.new) }
+        ensures licence { IfErr result (λ e. Within (length (L.journal p.old)) (length (L.journal p.new))
+            (HasCause L.Links self.now.list.links (agent L.Links self.now.list.links p.old) turns e (L.journal p.new))) }
+        ensures no_turns { turns ≡ 0 → result ≡ Err ListRefused.Again }
+        ensures no_event { turns ≡ 0 → MakesNoEvent L.Links self.now.list.links p.old p.new }
+        ensures again { result ≡ Err ListRefused.Again → UsesAllTurns L.Links self.now.list.links turns p.old p.new }
+        ensures cost { result ≡ Err ListRefused.Again → CostsOthers L.Links self.now.list.links turns p.old p.new }
+        ensures no_node { result ≡ Err ListRefused.NoNode → LacksRow L.Links self.now.list.links p.old p.new }
+        ensures absent { result ≡ Err ListRefused.NoNode → FindsAbsent L.Links self.now.list.links key p.old p.new }
+        ensures spent { (why : Spent) → result ≡ Err (ListRefused.Spent why) → FindsWorn L.Links self.now.list.links why p.old p.new }
+        ensures gives { GivesAtMost L.Links self.now.list.links 1 p.old p.new }
+        ensures tries { MakesFew L.Links self.now.list.links turns 3 p.old p.new }
+        ensures settled { IsCallAlone L.Links self.now.list.links p.old p.new → L.backlog p.new ≡ 0 }
+    {
         self.list.insert(p, root_of(key, self.roots), key, turns)
     }
 
-    fn remove(&self, p: &mut L::Pass, key: u64, turns: u64) -> Result<bool, Again> {
+    fn remove(&self, p: &mut L::Pass, key: u64, turns: u64) -> Result<bool, Again>
+        requires usable { IsUsable L.Links self.now.list.links p.old }
+        ensures usable { IsUsable L.Links self.now.list.links p.new }
+        ensures agent { agent L.Links self.now.list.links p.new ≡ agent L.Links self.now.list.links p.old }
+        ensures later { IsPrefix (L.journal p.old) (L.journal p.new) }
+        ensures removed { IfOk result (λ yes. Enters L.Links self.now.list.links p.old p.new (λ agent. SetEntry.Removed agent key yes ∷ [])) }
+        ensures none { IfErr result (λ e. EntersNone L.Links self.now.list.links p.old p.new) }
+        ensures licence { IfErr result (λ e. Within (length (L.journal p.old)) (length (L.journal p.new))
+            (HasCause L.Links self.now.list.links (agent L.Links self.now.list.links p.old) turns ListRefused.Again (L.journal p.new))) }
+        ensures no_turns { turns ≡ 0 → IsErr result }
+        ensures no_event { turns ≡ 0 → MakesNoEvent L.Links self.now.list.links p.old p.new }
+        ensures again { IfErr result (λ e. UsesAllTurns L.Links self.now.list.links turns p.old p.new) }
+        ensures cost { IfErr result (λ e. CostsOthers L.Links self.now.list.links turns p.old p.new) }
+        ensures gives { GivesAtMost L.Links self.now.list.links 0 p.old p.new }
+        ensures tries { MakesFew L.Links self.now.list.links turns 0 p.old p.new }
+        ensures off_the_chain { result ≡ Ok true → IsCallAlone L.Links self.now.list.links p.old p.new → FindsNoneWorn L.Links self.now.list.links p.old p.new
+            → LeavesOffChain L.Links self.now.list.links key p.old p.new }
+        ensures settled { IsCallAlone L.Links self.now.list.links p.old p.new → L.backlog p.new ≡ 0 }
+    {
         self.list.remove(p, root_of(key, self.roots), key, turns)
     }
 
-    fn contains(&self, p: &mut L::Pass, key: u64, turns: u64) -> Result<bool, Again> {
+    fn contains(&self, p: &mut L::Pass, key: u64, turns: u64) -> Result<bool, Again>
+        requires usable { IsUsable L.Links self.now.list.links p.old }
+        ensures usable { IsUsable L.Links self.now.list.links p.new }
+        ensures agent { agent L.Links self.now.list.links p.new ≡ agent L.Links self.now.list.links p.old }
+        ensures later { IsPrefix (L.journal p.old) (L.journal p.new) }
+        ensures asked { IfOk result (λ yes. Enters L.Links self.now.list.links p.old p.new (λ agent. SetEntry.Asked agent key yes ∷ [])) }
+        ensures none { IfErr result (λ e. EntersNone L.Links self.now.list.links p.old p.new) }
+        ensures licence { IfErr result (λ e. Within (length (L.journal p.old)) (length (L.journal p.new))
+            (HasCause L.Links self.now.list.links (agent L.Links self.now.list.links p.old) turns ListRefused.Again (L.journal p.new))) }
+        ensures no_turns { turns ≡ 0 → IsErr result }
+        ensures no_event { turns ≡ 0 → MakesNoEvent L.Links self.now.list.links p.old p.new }
+        ensures again { IfErr result (λ e. UsesAllTurns L.Links self.now.list.links turns p.old p.new) }
+        ensures cost { IfErr result (λ e. CostsOthers L.Links self.now.list.links turns p.old p.new) }
+        ensures gives { GivesAtMost L.Links self.now.list.links 0 p.old p.new }
+        ensures tries { MakesFew L.Links self.now.list.links turns 0 p.old p.new }
+        ensures settled { IsCallAlone L.Links self.now.list.links p.old p.new → L.backlog p.new ≡ 0 }
+    {
         self.list.contains(p, root_of(key, self.roots), key, turns)
     }
 }
