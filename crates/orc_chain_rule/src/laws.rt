@@ -1,6 +1,6 @@
 //! Laws of the chain discipline.
 
-ghost use Rattle.std.specs.Prelude.{Contains, ◌≡◌, ℕ, ◌%◌, List, [], ◌∷◌, ◌++◌, ◌+◌, ◌-◌, ◌*◌, ◌/◌, ◌≤◌, Option, Some, length, true, false, slice_get};
+ghost use Rattle.std.specs.Prelude.{Contains, ◌≡◌, ℕ, ◌%◌, List, [], ◌∷◌, ◌++◌, ◌+◌, ◌-◌, ◌*◌, ◌≤◌, Option, Some, length, true, false, slice_get};
 ghost use Rattle.orc_heap.specs.Allowed.{AllAllowed, AllowedLater, HasLink, IsLinkedNode, Later, events_by};
 ghost use Rattle.orc_heap.specs.Heap.{HeapNumbers, Node, link_to, shown};
 ghost use Rattle.orc_heap.specs.Journals.{event_by, run_heap};
@@ -161,12 +161,12 @@ pub fn moves_are_of_three_kinds()
 
 /// Where so many turns each have a Move in a stretch, each key that was added there cost at most one of them, and each that
 /// was taken out at most two; and so did each marked node that was still on a chain at its start at most one, whatever list
-/// these are covered by. So at least half of all turns but those cost a key that went in or out.
+/// these are covered by. So keys that went in or out number at least half of all turns but those.
 pub fn moves_cost_entries()
     ensures turns { (n : HeapNumbers) (seen more : List (Event ChainNote)) (ids : List ℕ) (turns : ℕ) → ChainHolds n seen
         → AllAllowed (ChainMay n) seen more → AreLeftOver (run_heap n seen) ids → turns ≤ moves_in more
         → turns ≤ adds_in (entries_of more) + 2 * removes_in (entries_of more) + length ids }
     ensures half { (n : HeapNumbers) (seen more : List (Event ChainNote)) (ids : List ℕ) (turns : ℕ) → ChainHolds n seen
         → AllAllowed (ChainMay n) seen more → AreLeftOver (run_heap n seen) ids → turns ≤ moves_in more
-        → (turns - length ids) / 2 ≤ adds_in (entries_of more) + removes_in (entries_of more) }
+        → turns - length ids ≤ 2 * (adds_in (entries_of more) + removes_in (entries_of more)) }
 {}

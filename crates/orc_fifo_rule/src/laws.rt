@@ -1,6 +1,6 @@
 //! Laws of the queue discipline.
 
-ghost use Rattle.std.specs.Prelude.{◌≡◌, ◌≢◌, ℕ, ◌+◌, ◌-◌, ◌/◌, ◌<◌, ◌≤◌, ◌^◌, List, [], ◌∷◌, ◌++◌, Some, true, false, slice_get};
+ghost use Rattle.std.specs.Prelude.{◌≡◌, ◌≢◌, ℕ, ◌+◌, ◌/◌, ◌<◌, ◌≤◌, ◌^◌, List, [], ◌∷◌, ◌++◌, Some, true, false, slice_get};
 ghost use Rattle.orc_heap.specs.Allowed.{AllAllowed, AllowedLater, Later, IsLinkedNode, events_by, HasLink};
 ghost use Rattle.orc_heap.specs.Heap.{HeapNumbers, Node, null, shown, link_to};
 ghost use Rattle.orc_heap.specs.Journals.{run_heap, event_by};
@@ -61,7 +61,7 @@ pub fn swings_cost_puts()
 {}
 
 /// In any stretch after both roots have begun, each Move is a Put, a Took or a Swing, and a Took alone moves root 0. So
-/// where so many turns each have a Move in the stretch, at least half of all but the first cost a Put or a Took.
+/// where so many turns each have a Move in the stretch, Puts and Tooks number at least half of them, rounded down.
 pub fn moves_cost_entries()
     ensures kinds { (n : HeapNumbers) (seen more : List (Event FifoNote)) → FifoHolds n seen → has_begun seen ≡ true
         → AllAllowed (FifoMay n) seen more → moves_in more ≡ puts_in (entries_of more) + tooks_in (entries_of more) + swings_in more }
@@ -69,7 +69,7 @@ pub fn moves_cost_entries()
         → AllAllowed (FifoMay n) seen more → moves_in (off_the_head more) ≡ puts_in (entries_of more) + swings_in more }
     ensures half { (n : HeapNumbers) (seen more : List (Event FifoNote)) (turns : ℕ) → FifoHolds n seen → has_begun seen ≡ true
         → AllAllowed (FifoMay n) seen more → turns ≤ moves_in more
-        → (turns - 1) / 2 ≤ puts_in (entries_of more) + tooks_in (entries_of more) }
+        → turns / 2 ≤ puts_in (entries_of more) + tooks_in (entries_of more) }
 {}
 
 /// What stays true of a node whatever is allowed: that a root named it, that root 1 has left it, where its link
