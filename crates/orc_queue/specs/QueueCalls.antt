@@ -1,15 +1,17 @@
 -- What the contracts of the queue's calls say of a pass before a call, `old`, and after it, `new`.
 use Rattle.std.specs.Prelude.{List, [], length, ℕ}
 use Rattle.orc_heap.specs.Domains.{DuringCall, Enters as EntersHistory, InCall, agent, heap}
+use Rattle.orc_heap.specs.Journals.{run_heap}
 use Rattle.orc_heap.specs.declared.links.Links.{Ghosts as LinksOf}
 use Rattle.orc_history.specs.Parts.{part_begin}
 use Rattle.orc_history.specs.QueueHistory.{agent_of_entry, puts_in}
 use Rattle.orc_history.specs.declared.queue.QueueEntry.{QueueEntry}
+use Rattle.orc_history.specs.declared.queue.QueueRefused.{QueueRefused}
 use Rattle.orc_fifo_rule.specs.declared.fifo.FifoNote.{FifoNote}
 use Rattle.orc_fifo_rule.specs.Counts.{tooks_in}
-use Rattle.orc_fifo_rule.specs.QueueDiscipline.{entries_in}
+use Rattle.orc_fifo_rule.specs.QueueDiscipline.{entries_in, position_of}
 use Rattle.orc_queue.specs.Answers.{CallFindsFull}
-use Rattle.orc_queue.specs.Causes.{UsesTurns, entered_by_others}
+use Rattle.orc_queue.specs.Causes.{Cause, UsesTurns, entered_by_others}
 use Rattle.orc_queue.specs.Turns.{TailIsLast}
 
 module _ {L D P S : Type 0} (members : LinksOf L D P S FifoNote) (links : L) where
@@ -50,3 +52,9 @@ module _ {L D P S : Type 0} (members : LinksOf L D P S FifoNote) (links : L) whe
   -- the tail is at the last node, as far as the pass has seen
   abbrev pub LeavesTailLast : P → Type 0
   LeavesTailLast new = TailIsLast (heap members links new)
+
+  -- a refusal has its cause between two places of the journal
+  abbrev pub HasCause : ℕ → ℕ → QueueRefused → List S → ℕ → ℕ → Type 0
+  HasCause agent turns why journal from to =
+      Cause members.agent_of (members.events links) (position_of (run_heap (members.numbers links) (members.opening links)) 0)
+      (members.lacking links agent journal from to) agent turns why journal from to

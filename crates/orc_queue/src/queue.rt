@@ -1,10 +1,11 @@
 //! The queue, and its calls.
 
-ghost use Rattle.std.specs.Prelude.{◌≡◌, ℕ, ◌*◌, ◌+◌, ◌<◌, ◌≤◌, ◌↔◌, List, [], ◌∷◌, Err, IfOk, IfErr, IsErr};
+ghost use Rattle.std.specs.Prelude.{◌≡◌, ℕ, ◌*◌, ◌+◌, ◌<◌, ◌≤◌, ◌↔◌, List, [], ◌∷◌, Err, IfOk, IfErr, IsErr, length};
 ghost use mathlib.Core.List.{IsPrefix};
 ghost use Rattle.orc_heap.specs.Domains.{GivesNodes, IsCallAlone, MakesAtMost, MakesNoEvent, agent};
 ghost use Rattle.orc_heap.specs.Journals.{run_heap};
 ghost use Rattle.orc_heap.specs.Seats.{IsIdle};
+ghost use Rattle.orc_history.specs.Journals.{Within};
 ghost use Rattle.orc_history.specs.QueueHistory.{entry_of_dequeue};
 ghost use Rattle.orc_history.specs.declared.queue.QueueEntry.{QueueEntry};
 ghost use Rattle.orc_history.specs.declared.queue.QueueRefused.{QueueRefused};
@@ -13,7 +14,7 @@ ghost use Rattle.orc_queue.specs.Answers.{gives_of};
 ghost use Rattle.orc_queue.specs.Causes.{Cause};
 ghost use Rattle.orc_queue.specs.Laws.Histories.{cause_puts, cause_stays, entries_below, history_grows, seen_legal};
 ghost use Rattle.orc_queue.specs.QueueCalls.{Enters, EntersNone, FindsNoPosition, LacksRow, LeavesTailLast, UsesAllTurns};
-ghost use Rattle.orc_queue.specs.QueueCalls.{others_puts, others_tooks};
+ghost use Rattle.orc_queue.specs.QueueCalls.{HasCause, others_puts, others_tooks};
 ghost use Rattle.orc_queue.specs.Turns.{HasDummy};
 
 use crate::put::put_job;
@@ -201,11 +202,46 @@ impl<L: Links<Rule = Fifo>> SharedQueue for Queue<L> {
         self.links.agent(p)
     }
 
-    fn enqueue(&self, p: &mut L::Pass, job: u64, turns: u64) -> Result<u64, QueueRefused> {
+    fn enqueue(&self, p: &mut L::Pass, job: u64, turns: u64) -> Result<u64, QueueRefused>
+        requires { L.belongs self.now.links p.old × IsIdle (L.seat self.now.links p.old) }
+        ensures usable { L.belongs self.now.links p.new × IsIdle (L.seat self.now.links p.new) }
+        ensures agent { agent L.Links self.now.links p.new ≡ agent L.Links self.now.links p.old }
+        ensures later { IsPrefix (L.journal p.old) (L.journal p.new) }
+        ensures put { IfOk result (λ at. Enters L.Links self.now.links p.old p.new (λ agent. QueueEntry.Put agent job at ∷ [])) }
+        ensures none { IfErr result (λ e. EntersNone L.Links self.now.links p.old p.new) }
+        ensures licence { IfErr result (λ e. Within (length (L.journal p.old)) (length (L.journal p.new))
+            (HasCause L.Links self.now.links (agent L.Links self.now.links p.old) turns e (L.journal p.new))) }
+        ensures no_turns { turns ≡ 0 → result ≡ Err QueueRefused.Again }
+        ensures no_event { turns ≡ 0 → MakesNoEvent L.Links self.now.links p.old p.new }
+        ensures again { result ≡ Err QueueRefused.Again → UsesAllTurns L.Links self.now.links turns p.old p.new }
+        ensures cost { result ≡ Err QueueRefused.Again → turns ≤ 2 * others_puts L.Links self.now.links p.old p.new + 1 }
+        ensures no_node { result ≡ Err QueueRefused.NoNode → LacksRow L.Links self.now.links p.old p.new }
+        ensures positions { (result ≡ Err QueueRefused.Positions) ↔ FindsNoPosition L.Links self.now.links p.old p.new }
+        ensures gives { GivesNodes L.Links self.now.links (gives_of turns result) p.old p.new }
+        ensures tries { MakesAtMost L.Links self.now.links (6 * turns + 3 * gives_of turns result) p.old p.new }
+        ensures tail { IfOk result (λ at. IsCallAlone L.Links self.now.links p.old p.new → LeavesTailLast L.Links self.now.links p.new) }
+        ensures settled { IsCallAlone L.Links self.now.links p.old p.new → L.backlog p.new ≡ 0 }
+    {
         self.put(p, job, turns)
     }
 
-    fn dequeue(&self, p: &mut L::Pass, turns: u64) -> Result<Option<(u64, u64)>, Again> {
+    fn dequeue(&self, p: &mut L::Pass, turns: u64) -> Result<Option<(u64, u64)>, Again>
+        requires { L.belongs self.now.links p.old × IsIdle (L.seat self.now.links p.old) }
+        ensures usable { L.belongs self.now.links p.new × IsIdle (L.seat self.now.links p.new) }
+        ensures agent { agent L.Links self.now.links p.new ≡ agent L.Links self.now.links p.old }
+        ensures later { IsPrefix (L.journal p.old) (L.journal p.new) }
+        ensures took { IfOk result (λ got. Enters L.Links self.now.links p.old p.new (λ agent. entry_of_dequeue agent got ∷ [])) }
+        ensures none { IfErr result (λ e. EntersNone L.Links self.now.links p.old p.new) }
+        ensures licence { IfErr result (λ e. Within (length (L.journal p.old)) (length (L.journal p.new))
+            (HasCause L.Links self.now.links (agent L.Links self.now.links p.old) turns QueueRefused.Again (L.journal p.new))) }
+        ensures no_turns { turns ≡ 0 → IsErr result }
+        ensures no_event { turns ≡ 0 → MakesNoEvent L.Links self.now.links p.old p.new }
+        ensures again { IfErr result (λ e. UsesAllTurns L.Links self.now.links turns p.old p.new) }
+        ensures cost { IfErr result (λ e. turns ≤ 2 * others_puts L.Links self.now.links p.old p.new + others_tooks L.Links self.now.links p.old p.new + 1) }
+        ensures gives { GivesNodes L.Links self.now.links 0 p.old p.new }
+        ensures tries { MakesAtMost L.Links self.now.links (6 * turns) p.old p.new }
+        ensures settled { IsCallAlone L.Links self.now.links p.old p.new → L.backlog p.new ≡ 0 }
+    {
         self.take(p, turns)
     }
 }

@@ -1,6 +1,6 @@
-//! Worked examples of the definitions, computed by hand and proved.
+//! Worked examples of the definitions, computed by hand and proved, and what a caller of the queue sees.
 
-ghost use Rattle.std.specs.Prelude.{◌≡◌, ℕ, ◌-◌, ◌^◌, List, ◌∷◌, [], Some, None, Ok, Err, true};
+ghost use Rattle.std.specs.Prelude.{◌≡◌, ◌≤◌, ℕ, ◌-◌, ◌^◌, List, ◌∷◌, [], Some, None, Ok, Err, true};
 ghost use Rattle.orc_heap.specs.Heap.{null, link_to};
 ghost use Rattle.orc_heap.specs.declared.events.Act.{Act};
 ghost use Rattle.orc_heap.specs.declared.events.Event.{Event};
@@ -10,12 +10,15 @@ ghost use Rattle.orc_history.specs.declared.queue.QueueRefused.{QueueRefused};
 ghost use Rattle.orc_fifo_rule.specs.declared.fifo.FifoNote.{FifoNote};
 ghost use Rattle.orc_queue.specs.Answers.{gives_of};
 ghost use Rattle.orc_queue.specs.Causes.{Cause, LacksPosition, UsesTurns, entered_by_others};
+ghost use Rattle.orc_heap.specs.Seats.{IsIdle};
+ghost use Rattle.orc_queue.specs.QueueCalls.{others_puts};
 ghost use Rattle.orc_queue.specs.Turns.{IsFullLook, KeepsTail, SwingsTail, TailIsLast, TailIsPast, next_position};
 ghost use Rattle.orc_heap.specs.Journals.{event_by};
 
-use orc_fifo_rule::FifoNote;
-use orc_heap::{Act, Place};
-use orc_history::{QueueEntry, QueueRefused};
+use crate::queue::Queue;
+use orc_fifo_rule::{Fifo, FifoNote};
+use orc_heap::{Act, Links, Place};
+use orc_history::{QueueEntry, QueueRefused, SharedQueue};
 
 // A put that has turns gives one node, unless it could have none.
 fn nodes_of_a_put()
@@ -115,3 +118,14 @@ fn no_position_is_left()
         ∷ event_by 0 (Act.Fill 0 1 (2 ^ 62)) None ∷ [] in
         ¬ IsFullLook (record { roots = 2 }) 1 es (event_by 1 (Act.Look (Place.Next 0) null) None) }
 {}
+
+// A caller that names the queue's type sees what the queue promises, and not the trait's clauses alone.
+fn enqueue_in_three_turns<L: Links<Rule = Fifo>>(
+    queue: &Queue<L>,
+    p: &mut L::Pass,
+) -> Result<u64, QueueRefused>
+    requires { L.belongs queue.now.links p.old × IsIdle (L.seat queue.now.links p.old) }
+    ensures { result ≡ Err QueueRefused.Again → 1 ≤ others_puts L.Links queue.now.links p.old p.new }
+{
+    queue.enqueue(p, 7, 3)
+}
