@@ -1,5 +1,5 @@
 -- What the words of a command line say.
-use Rattle.std.specs.Prelude.{◌≡◌, ◌≢◌, List, [], ℕ, Option, Some, None, codes, if◌then◌else◌}
+use Rattle.std.specs.Prelude.{◌≡◌, ◌≢◌, ◌≤◌, List, [], ℕ, Option, Some, None, codes, if◌then◌else◌}
 use Rattle.std.specs.Str.{bytes_eq}
 use Rattle.std.specs.Str.Parse.{digits_value, without_leading_plus}
 use Rattle.clap.specs.ValueTests.{is_unsigned_in}
@@ -30,6 +30,14 @@ settings_in rows = record {
   rows = number_in 8 65535 65535 (one_of (codes "rows") rows);
 }
 
+-- each number lies in the range of its option
+pub record AreInRange (s : Settings) : Type 0 where
+  pub some_posters : 1 ≤ s.posters
+  pub few_posters : s.posters ≤ 8
+  pub few_takers : s.takers ≤ 7
+  pub some_rows : 8 ≤ s.rows
+  pub few_rows : s.rows ≤ 65535
+
 -- `clap` takes the words, and its matches give these settings
 pub record Gives (words : List Text) (s : Settings) : Type 0 where
   pub app : App
@@ -42,3 +50,7 @@ pub record Refuses (words : List Text) : Type 0 where
   pub app : App
   pub is_command : IsCommand app
   pub refused : fault_of app words ≢ []
+
+-- the words ask for this mode
+abbrev pub AskFor : List Text → Mode → Type 0
+AskFor words m = (s : Settings) × Gives words s × (s.mode ≡ m)

@@ -5,7 +5,7 @@ mod command;
 mod settings;
 mod words;
 
-pub use settings::{Mode, Refused, Settings, settings_of};
+pub use settings::{Mode, Refused, Settings, settings_of, words_have_one_answer};
 pub use words::CommandWords;
 
 #[cfg(test)]

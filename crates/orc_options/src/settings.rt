@@ -1,8 +1,9 @@
 //! What the words say.
 
-ghost use Rattle.std.specs.Prelude.{◌≡◌, ◌≢◌, IfErr, IfOk, option_map};
+ghost use Rattle.std.specs.Prelude.{◌≡◌, ◌≢◌, ◌≤◌, IfErr, IfOk, List, ℕ, option_map};
 ghost use Rattle.clap.specs.Words.{found_of, one_text, rows_of};
-ghost use Rattle.orc_options.specs.Settings.{Gives, Refuses, mode_in, number_in, settings_in as read_settings};
+ghost use Rattle.orc_options.specs.declared.settings.Settings.{Settings};
+ghost use Rattle.orc_options.specs.Settings.{AreInRange, Gives, Refuses, mode_in, number_in, settings_in as read_settings};
 
 use crate::CommandWords;
 use crate::command::command;
@@ -43,7 +44,8 @@ pub enum Refused {
 
 // The number of an option.
 fn number_of(matches: &ArgMatches<'_>, id: &str, low: u32, high: u32, default: u32) -> u32
-    ensures { result ≡ number_in low high default (one_text (found_of matches.now) id.now) }
+    ensures says { result ≡ number_in low high default (one_text (found_of matches.now) id.now) }
+    ensures in_range { low ≤ default → default ≤ high → (low ≤ result) × (result ≤ high) }
 {
     match matches.get_one::<u32>(id) {
         Some(number) => {
@@ -86,6 +88,7 @@ fn refused_by(kind: ErrorKind) -> Refused
 /// * `NoMemory` where memory is refused.
 pub fn settings_of(alloc: Global, words: &CommandWords) -> Result<Settings, Refused>
     ensures gives { IfOk result (Gives words.now) }
+    ensures ranges { IfOk result AreInRange }
     ensures refuses { IfErr result (λ why. why ≡ Refused.Words → Refuses words.now) }
 {
     let Ok(command) = command(alloc) else {
@@ -99,7 +102,8 @@ pub fn settings_of(alloc: Global, words: &CommandWords) -> Result<Settings, Refu
 
 // The settings of these matches.
 fn settings_in(matches: &ArgMatches<'_>) -> Settings
-    ensures { result ≡ read_settings (rows_of (found_of matches.now)) }
+    ensures says { result ≡ read_settings (rows_of (found_of matches.now)) }
+    ensures ranges { AreInRange result }
 {
     Settings {
         mode: mode_of(matches.get_str("mode")),
@@ -108,3 +112,10 @@ fn settings_in(matches: &ArgMatches<'_>) -> Settings
         rows: number_of(matches, "rows", 8, 65535, 65535),
     }
 }
+
+/// A law, with nothing to run: words give one answer. They don't both give settings and have them refused, and give the same
+/// settings each time.
+pub fn words_have_one_answer()
+    ensures never_both { (words : List (List ℕ)) (s : Settings) → Gives words s → Refuses words → ⊥ }
+    ensures same { (words : List (List ℕ)) (s t : Settings) → Gives words s → Gives words t → s ≡ t }
+{}

@@ -1,5 +1,5 @@
 -- What is known of an input whose bytes are told, and of its refusal.
-use Rattle.std.proofs.Common.{◌≡◌, ◌∙◌, ◌⊎◌, ◌≤◌, ◌<◌, List, [], ◌∷◌, ℕ, refl, ap, sym, inl, inr, IfSome, length, map, get_or, arith}
+use Rattle.std.proofs.Common.{◌≡◌, ◌∙◌, ◌⊎◌, List, [], ℕ, refl, ap, sym, inl, inr, IfSome}
 use Rattle.std.specs.declared.option.Option.{Option}
 use Rattle.std.specs.declared.option.Option.TheVariants.{None, Some}
 use Rattle.orc_jobs.specs.declared.cause.Cause.{Cause}
@@ -27,10 +27,3 @@ same-line f line place cause why is (inr e) = let n : ⊥ = cc (is, e) in absurd
 pub many-is-none : (f : JobsFault) (place : ℕ) (why : Cause) → f ≡ fault.TooMany → (f ≡ fault.Malformed place why) ⊎ (f ≡ fault.NoMemory) → ⊥
 many-is-none f place why is (inl e) = cc (is, e)
 many-is-none f place why is (inr e) = cc (is, e)
-
--- one word, whose text is this
-pub one-word : {X : Type 0} (f : X → List ℕ) (xs : List X) (x : X) (word : List ℕ) → 1 ≤ length xs → length xs < 2 → x ≡ get_or xs 0 x → f x ≡ word
-    → map f xs ≡ word ∷ []
-one-word f [] x word some few is same = absurd (omega (arith, some))
-one-word f (y ∷ []) x word some few is same = ap (λ z. z ∷ []) (ap f (sym is) ∙ same)
-one-word f (y ∷ z ∷ ys) x word some few is same = absurd (omega (arith, few))

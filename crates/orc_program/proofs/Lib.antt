@@ -1,4 +1,3 @@
 pub mod Answering
 pub mod Inputs
-pub mod Words
 pub mod Wrote

@@ -2,9 +2,9 @@
 use Rattle.std.proofs.Common.{◌≡◌, ◌∙◌, ◌<◌, ◌⊎◌, List, ℕ, Option, Some, refl, sym, subst, inl, inr, IfSome, length}
 use Rattle.orc_jobs.specs.JobGrammar.{IsFileOf}
 use Rattle.orc_program.specs.declared.ended.Ended.{Ended}
-use Rattle.orc_program.specs.declared.mode.Mode.{Mode}
-use Rattle.orc_program.specs.declared.mode.Mode.TheVariants as mode
-use Rattle.orc_program.specs.declared.teams.Team.{Team}
+use Rattle.orc_options.specs.declared.settings.Mode.{Mode}
+use Rattle.orc_options.specs.declared.settings.Mode.TheVariants as mode
+use Rattle.orc_options.specs.declared.settings.Settings.{Settings}
 use Rattle.orc_run.specs.declared.run.Finished.{Finished}
 use Rattle.orc_program.specs.Ended.{HasReported, IsNew, Keeps}
 use Rattle.orc_program.specs.Refusals.{IsRefusal, NamesFault, input_limit, input_too_large}
@@ -19,9 +19,9 @@ Told left bytes = (b : List ℕ) → left ≡ Some b → b ≡ bytes
 pub of-told : (left : Option (List ℕ)) (bytes : List ℕ) (P : List ℕ → Type 0) → Told left bytes → P bytes → IfSome left P
 of-told left bytes P told h = where-told left P (λ b e. subst P (sym (told b e)) h)
 
-pub HasReported-told : (team : Team) (left : Option (List ℕ)) (bytes : List ℕ) (ended : Ended) (text : List ℕ) → Told left bytes
-    → HasReported team (Some bytes) ended text → HasReported team left ended text
-HasReported-told team left bytes ended text told h = record {
+pub HasReported-told : (settings : Settings) (left : Option (List ℕ)) (bytes : List ℕ) (ended : Ended) (text : List ℕ) → Told left bytes
+    → HasReported settings (Some bytes) ended text → HasReported settings left ended text
+HasReported-told settings left bytes ended text told h = record {
   lines = h.lines;
   file = of-told left bytes (IsFileOf h.lines) told h.file;
   finished = h.finished;
@@ -30,10 +30,10 @@ HasReported-told team left bytes ended text told h = record {
 }
 
 -- a report of what a run has left, once that is kept
-pub kept_report : (team : Team) (left : Option (List ℕ)) (finished : Finished) (ended : Ended) (text : List ℕ)
-    → HasReported team left (record { queue = Some finished.queue; set = Some finished.set; replies = Some finished.replies }) text
-    → Keeps finished ended → HasReported team left ended text
-kept_report team left finished ended text h k = record {
+pub kept_report : (settings : Settings) (left : Option (List ℕ)) (finished : Finished) (ended : Ended) (text : List ℕ)
+    → HasReported settings left (record { queue = Some finished.queue; set = Some finished.set; replies = Some finished.replies }) text
+    → Keeps finished ended → HasReported settings left ended text
+kept_report settings left finished ended text h k = record {
   lines = h.lines;
   file = h.file;
   finished = h.finished;
@@ -42,19 +42,19 @@ kept_report team left finished ended text h k = record {
 }
 
 -- what a mode was to write of these bytes it was to write of those that are told
-pub ModeWrites-told : (m : Mode) (left : Option (List ℕ)) (bytes : List ℕ) (ended : Ended) (text : List ℕ) → Told left bytes
-    → ModeWrites m (Some bytes) ended text → ModeWrites m left ended text
-ModeWrites-told (mode.Run team) left bytes ended text told (inl h) = inl (HasReported-told team left bytes ended text told h)
-ModeWrites-told mode.Replay left bytes ended text told (inl (new, tells)) = inl (new, of-told left bytes (λ b. TellsReplay b text) told tells)
-ModeWrites-told m left bytes ended text told (inr (new, refuses)) = inr (new, of-told left bytes (λ b. IsRefusal m b text) told refuses)
+pub ModeWrites-told : (m : Mode) (settings : Settings) (left : Option (List ℕ)) (bytes : List ℕ) (ended : Ended) (text : List ℕ) → Told left bytes
+    → ModeWrites m settings (Some bytes) ended text → ModeWrites m settings left ended text
+ModeWrites-told mode.Run settings left bytes ended text told (inl h) = inl (HasReported-told settings left bytes ended text told h)
+ModeWrites-told mode.Replay settings left bytes ended text told (inl (new, tells)) = inl (new, of-told left bytes (λ b. TellsReplay b text) told tells)
+ModeWrites-told m settings left bytes ended text told (inr (new, refuses)) = inr (new, of-told left bytes (λ b. IsRefusal m b text) told refuses)
 
 -- what a replay was to write of these bytes
-pub replay_writes : (bytes : List ℕ) (ended : Ended) (text : List ℕ) → IsNew ended → TellsReplay bytes text ⊎ NamesFault bytes text
-    → ModeWrites mode.Replay (Some bytes) ended text
-replay_writes bytes ended text new (inl tells) = inl (new, tells)
-replay_writes bytes ended text new (inr names) = inr (new, inr names)
+pub replay_writes : (settings : Settings) (bytes : List ℕ) (ended : Ended) (text : List ℕ) → IsNew ended → TellsReplay bytes text ⊎ NamesFault bytes text
+    → ModeWrites mode.Replay settings (Some bytes) ended text
+replay_writes settings bytes ended text new (inl tells) = inl (new, tells)
+replay_writes settings bytes ended text new (inr names) = inr (new, inr names)
 
 -- bytes past the limit are refused in each mode
 pub refuses_size : (m : Mode) (bytes : List ℕ) → input_limit < length bytes → IsRefusal m bytes input_too_large
-refuses_size (mode.Run team) bytes h = inl (inl h, refl)
+refuses_size mode.Run bytes h = inl (inl h, refl)
 refuses_size mode.Replay bytes h = inl (h, refl)

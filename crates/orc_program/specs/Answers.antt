@@ -7,23 +7,23 @@ use Rattle.orc_jobs.specs.declared.cause.JobsFault.TheVariants as fault
 use Rattle.orc_jobs.specs.declared.line.Line.{Line}
 use Rattle.orc_program.specs.declared.answer.Answer.{Answer}
 use Rattle.orc_program.specs.declared.answer.Answer.TheVariants as answer
-use Rattle.orc_program.specs.declared.teams.Team.{Team}
+use Rattle.orc_options.specs.declared.settings.Settings.{Settings}
 use Rattle.orc_program.specs.Ended.{HasReported}
 use Rattle.orc_program.specs.Headline.{Headline}
 use Rattle.orc_program.specs.Refusals.{NamesRecord, malformed_line}
 
--- a report of a run of these bytes by the team, or the refusal that they call for
-abbrev pub Answers : Team → List ℕ → Answer → Type 0
-Answers team bytes (answer.Report text finished) =
-    HasReported team (Some bytes) (record { queue = Some finished.queue; set = Some finished.set; replies = Some finished.replies }) text
-Answers team bytes (answer.Malformed text) = NamesRecord bytes (string_bytes text)
-Answers team bytes answer.TooMany = Refuses bytes fault.TooMany
+-- a report of a run of these bytes by the settings, or the refusal that they call for
+abbrev pub Answers : Settings → List ℕ → Answer → Type 0
+Answers settings bytes (answer.Report text finished) =
+    HasReported settings (Some bytes) (record { queue = Some finished.queue; set = Some finished.set; replies = Some finished.replies }) text
+Answers settings bytes (answer.Malformed text) = NamesRecord bytes (string_bytes text)
+Answers settings bytes answer.TooMany = Refuses bytes fault.TooMany
 
--- the report of a run of these lines by the team
-abbrev pub Reports : Team → List Line → Answer → Type 0
-Reports team lines (answer.Report text finished) = Headline lines team finished None text
-Reports team lines (answer.Malformed text) = ⊥
-Reports team lines answer.TooMany = ⊥
+-- the report of a run of these lines by the settings
+abbrev pub Reports : Settings → List Line → Answer → Type 0
+Reports settings lines (answer.Report text finished) = Headline lines settings finished None text
+Reports settings lines (answer.Malformed text) = ⊥
+Reports settings lines answer.TooMany = ⊥
 
 -- the refusal that this fault calls for
 abbrev pub IsRefusalFor : JobsFault → Answer → Type 0

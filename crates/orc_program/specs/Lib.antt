@@ -1,6 +1,5 @@
 pub mod Headline
 pub mod Ended
-pub mod Modes
 pub mod Refusals
 pub mod Outcomes
 pub mod Answers

@@ -4,10 +4,11 @@ use Rattle.orc_trace.specs.declared.answers.Replayed.{Replayed}
 use Rattle.orc_trace.specs.Replay.{IsReplay}
 use Rattle.orc_trace.specs.Answers.{replay_line}
 use Rattle.orc_program.specs.declared.ended.Ended.{Ended}
-use Rattle.orc_program.specs.declared.mode.Mode.{Mode}
-use Rattle.orc_program.specs.declared.mode.Mode.TheVariants as mode
+use Rattle.orc_options.specs.declared.settings.Mode.{Mode}
+use Rattle.orc_options.specs.declared.settings.Mode.TheVariants as mode
+use Rattle.orc_options.specs.declared.settings.Settings.{Settings}
+use Rattle.orc_options.specs.Settings.{Gives, Refuses}
 use Rattle.orc_program.specs.Ended.{HasReported, IsNew}
-use Rattle.orc_program.specs.Modes.{AreRefused, Asks}
 use Rattle.orc_program.specs.Refusals.{IsRefusal, words_refused}
 
 -- the bytes are a trace, and the text tells what its run leaves
@@ -17,16 +18,17 @@ pub record TellsReplay (bytes text : List ℕ) : Type 0 where
   pub says : text ≡ replay_line played
 
 -- the mode's whole text of the bytes that were left: the report of what has ended, or what a replay tells
-abbrev pub Tells : Mode → Option (List ℕ) → Ended → List ℕ → Type 0
-Tells (mode.Run team) left ended text = HasReported team left ended text
-Tells mode.Replay left ended text = IsNew ended × IfSome left (λ bytes. TellsReplay bytes text)
+abbrev pub Tells : Mode → Settings → Option (List ℕ) → Ended → List ℕ → Type 0
+Tells mode.Run settings left ended text = HasReported settings left ended text
+Tells mode.Replay settings left ended text = IsNew ended × IfSome left (λ bytes. TellsReplay bytes text)
 
 -- the text was to be written in this mode: its whole text, or the line of a refusal, and then nothing has ended
-abbrev pub ModeWrites : Mode → Option (List ℕ) → Ended → List ℕ → Type 0
-ModeWrites m left ended text = Tells m left ended text ⊎ (IsNew ended × IfSome left (λ bytes. IsRefusal m bytes text))
+abbrev pub ModeWrites : Mode → Settings → Option (List ℕ) → Ended → List ℕ → Type 0
+ModeWrites m settings left ended text =
+    Tells m settings left ended text ⊎ (IsNew ended × IfSome left (λ bytes. IsRefusal m bytes text))
 
--- the text was to be written: that of the mode that the words ask for, or that they are refused
+-- the text was to be written: that of the mode of the settings that the words give, or that they are refused
 abbrev pub WasToWrite : List (List ℕ) → Option (List ℕ) → Ended → List ℕ → Type 0
 WasToWrite words left ended text =
-    ((m : Mode) × Asks words m × ModeWrites m left ended text)
-    ⊎ (AreRefused words × IsNew ended × (text ≡ words_refused))
+    ((s : Settings) × Gives words s × ModeWrites s.mode s left ended text)
+    ⊎ (Refuses words × IsNew ended × (text ≡ words_refused))

@@ -5,13 +5,14 @@ ghost use Rattle.orc_jobs.specs.JobGrammar.{IsFileOf, Refuses};
 ghost use Rattle.orc_jobs.specs.declared.cause.Cause.{Cause};
 ghost use Rattle.orc_jobs.specs.declared.line.Line.{Line};
 ghost use Rattle.orc_jobs.specs.GoodLines.{AreGood};
+ghost use Rattle.orc_options.specs.Settings.{AreInRange};
 ghost use Rattle.orc_program.specs.Answers.{Answers, IsMalformed, IsRefusalFor, IsReport, IsTooMany, Reports};
 ghost use Rattle.orc_program.specs.Refusals.{cause_word, malformed_line, input_limit};
 
-use crate::teams::Team;
 use orc_board::Gate;
 use orc_fault::NoMemory;
 use orc_jobs::{Cause, JobsFault, Lines, Text, read_jobs};
+use orc_options::Settings;
 use orc_report::report_text;
 use orc_run::{Finished, run_lines};
 use std::alloc::Global;
@@ -30,18 +31,19 @@ pub enum Answer {
 pub(crate) fn answer_to<R: Threads + Wait + Sync, G: Gate + Sync>(
     rt: &R,
     alloc: Global,
-    team: Team,
+    settings: Settings,
     bytes: &[u8],
     gate: &G,
 ) -> Result<Answer, NoMemory>
-    requires { length bytes.now ≤ input_limit }
-    ensures answers { IfOk result (Answers team bytes.now) }
+    requires ranges { AreInRange settings }
+    requires few { length bytes.now ≤ input_limit }
+    ensures answers { IfOk result (Answers settings bytes.now) }
     ensures file { (lines : List Line) → IsFileOf lines bytes.now → IfOk result IsReport }
     ensures malformed { (place : ℕ) (why : Cause) → Refuses bytes.now (JobsFault.Malformed place why) → IfOk result (IsMalformed (malformed_line place why)) }
     ensures many { Refuses bytes.now JobsFault.TooMany → IfOk result IsTooMany }
 {
     match read_jobs(alloc, bytes) {
-        Ok(lines) => report(rt, alloc, team, &lines, gate),
+        Ok(lines) => report(rt, alloc, settings, &lines, gate),
         Err(fault) => refusal(alloc, fault),
     }
 }
@@ -50,14 +52,21 @@ pub(crate) fn answer_to<R: Threads + Wait + Sync, G: Gate + Sync>(
 fn report<R: Threads + Wait + Sync, G: Gate + Sync>(
     rt: &R,
     alloc: Global,
-    team: Team,
+    settings: Settings,
     lines: &Lines,
     gate: &G,
 ) -> Result<Answer, NoMemory>
-    requires { AreGood lines.now }
-    ensures { IfOk result (Reports team lines.now) }
+    requires ranges { AreInRange settings }
+    requires good { AreGood lines.now }
+    ensures { IfOk result (Reports settings lines.now) }
 {
-    let finished = run_lines(rt, alloc, lines, team.posters, team.takers, gate)?;
+    let Settings {
+        posters,
+        takers,
+        rows,
+        ..
+    } = settings;
+    let finished = run_lines(rt, alloc, lines, posters, takers, rows, gate)?;
     let text = report_text(alloc, lines, &finished.replies, None)?;
     Ok(Answer::Report { text, finished })
 }

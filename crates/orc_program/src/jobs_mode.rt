@@ -7,19 +7,19 @@ ghost use Rattle.orc_jobs.specs.JobGrammar.{IsFileOf, Refuses};
 ghost use Rattle.orc_jobs.specs.declared.cause.Cause.{Cause};
 ghost use Rattle.orc_jobs.specs.declared.line.Line.{Line};
 ghost use Rattle.orc_program.specs.Ended.{HasReported, IsNew};
-ghost use Rattle.orc_program.specs.declared.mode.Mode.{Mode};
+ghost use Rattle.orc_options.specs.Settings.{AreInRange};
+ghost use Rattle.orc_options.specs.declared.settings.Mode.{Mode};
 ghost use Rattle.orc_program.specs.Refusals.{NamesRecord, input_limit, input_too_large, malformed_line};
 ghost use Rattle.orc_program.specs.Outcomes.{ModeWrites};
 
 use crate::Ended;
 use crate::answer::{Answer, answer_to};
-use crate::mode::Mode;
-use crate::teams::Team;
 use crate::writing::{refuse_size, write_text};
 use orc_board::Gate;
 use orc_fault::NoMemory;
 use orc_feed::Sink;
 use orc_jobs::JobsFault;
+use orc_options::{Mode, Settings};
 use std::alloc::Global;
 use std::sync::Wait;
 use std::thread::Threads;
@@ -28,22 +28,23 @@ use std::thread::Threads;
 pub(crate) fn run_jobs<R: Threads + Wait + Sync, K: Sink, G: Gate + Sync>(
     rt: &R,
     alloc: Global,
-    team: Team,
+    settings: Settings,
     bytes: &[u8],
     sink: &mut K,
     gate: &G,
     ended: &mut Ended,
 ) -> u8
+    requires ranges { AreInRange settings }
     requires new { IsNew ended.old }
     requires few { length bytes.now ≤ input_limit }
     ensures statuses { (result ≡ 0) ⊎ (result ≡ 3) ⊎ (result ≡ 5) ⊎ (result ≡ 6) ⊎ (result ≡ 7) }
-    ensures done { result ≡ 0 → (text : List ℕ) × HasReported team (Some bytes.now) ended.new text
+    ensures done { result ≡ 0 → (text : List ℕ) × HasReported settings (Some bytes.now) ended.new text
         × Appends (K.written sink.old) (K.written sink.new) text }
     ensures malformed { result ≡ 3 → (text : List ℕ) × NamesRecord bytes.now text
         × Appends (K.written sink.old) (K.written sink.new) text }
     ensures write_fault { result ≡ 5 → Rose (K.faults sink.old) (K.faults sink.new) }
     ensures no_fault { result ≢ 5 → K.faults sink.new ≡ K.faults sink.old }
-    ensures cut_short { result ≡ 5 → (text : List ℕ) × ModeWrites (Mode.Run team) (Some bytes.now) ended.new text
+    ensures cut_short { result ≡ 5 → (text : List ℕ) × ModeWrites Mode.Run settings (Some bytes.now) ended.new text
         × AppendsPrefix (K.written sink.old) (K.written sink.new) text }
     ensures large { result ≡ 6 → Refuses bytes.now JobsFault.TooMany
         × Appends (K.written sink.old) (K.written sink.new) input_too_large }
@@ -54,7 +55,7 @@ pub(crate) fn run_jobs<R: Threads + Wait + Sync, K: Sink, G: Gate + Sync>(
     ensures large_comes { Refuses bytes.now JobsFault.TooMany → (result ≡ 6) ⊎ (result ≡ 5) ⊎ (result ≡ 7) }
     ensures complete { (lines : List Line) → IsFileOf lines bytes.now → (result ≡ 0) ⊎ (result ≡ 5) ⊎ (result ≡ 7) }
 {
-    match answer_to(rt, alloc, team, bytes, gate) {
+    match answer_to(rt, alloc, settings, bytes, gate) {
         Ok(Answer::Report { text, finished }) => {
             ended.keep(finished);
             write_text(sink, text.bytes(), 0)

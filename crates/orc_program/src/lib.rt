@@ -4,19 +4,15 @@
 mod answer;
 mod ended;
 mod jobs_mode;
-mod mode;
 mod run_mode;
 mod streams;
-mod teams;
 mod top_call;
 mod trace_mode;
 mod writing;
 
 pub use ended::Ended;
-pub use mode::{Mode, words_ask_for_one_mode};
-pub use orc_options::CommandWords;
+pub use orc_options::{CommandWords, Mode, Settings};
 pub use streams::{StdSink, StdSource};
-pub use teams::Team;
 pub use top_call::orc_main;
 pub use writing::refuse_words;
 

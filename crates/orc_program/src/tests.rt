@@ -2,6 +2,7 @@ ghost use Rattle.std.specs.Prelude.{◌≤◌};
 
 use crate::{CommandWords, Ended, orc_main};
 use orc_board::OpenGate;
+use orc_fault::NoMemory;
 use orc_feed::{MemorySink, MemorySource};
 use orc_jobs::read_jobs;
 use orc_report::{RestNumbers, report_text};
@@ -21,6 +22,9 @@ const FIVE_LINES: &[u8] =
 
 const FIVE_LINES_REPORT: &[u8] =
     b"board\n0 line 0 id 7 done 5\n1 line 1 id 9 void\nreplies\nposter 1 line 0 posted 0\nposter 1 line 1 posted 1\nposter 1 line 2 dropped\nposter 1 line 3 busy\nposter 1 line 4 unknown\ntaker 0 at 0 done 5\ntaker 0 at 1 void\n";
+
+const EIGHT_ROWS_REPORT: &[u8] =
+    b"board\n0 line 0 id 0 done 1\n1 line 1 id 1 done 1\n2 line 2 id 2 done 1\n3 line 3 id 3 done 1\n4 line 4 id 4 done 1\n5 line 5 id 5 done 1\n6 line 6 id 6 done 1\nreplies\nposter 1 line 0 posted 0\nposter 1 line 1 posted 1\nposter 1 line 2 posted 2\nposter 1 line 3 posted 3\nposter 1 line 4 posted 4\nposter 1 line 5 posted 5\nposter 1 line 6 posted 6\nposter 1 line 7 nonode\nposter 1 line 8 nonode\ntaker 0 at 0 done 1\ntaker 0 at 1 done 1\ntaker 0 at 2 done 1\ntaker 0 at 3 done 1\ntaker 0 at 4 done 1\ntaker 0 at 5 done 1\ntaker 0 at 6 done 1\n";
 
 const FIVE_LINES_REST: &[u8] =
     b"rest\nqueue given 3 reused 2 linked 1\nset given 2 reused 2 linked 0\n";
@@ -137,43 +141,74 @@ fn names_the_first_refused_record(rt: HostRuntime) -> Result<(), Fail> {
     Ok(())
 }
 
+// The words of a command line.
+fn words_of(alloc: Global, words: &[&str]) -> Result<CommandWords, NoMemory> {
+    let mut all = CommandWords::new(alloc);
+    for word in words {
+        all.push(word)?;
+    }
+    Ok(all)
+}
+
 #[test]
 fn words_are_refused(rt: HostRuntime) -> Result<(), Fail> {
-    let mut words = CommandWords::new(rt.alloc());
-    words.push("run")?;
+    let refused: [&[&str]; 12] = [
+        &["run"],
+        &["replay"],
+        &["--help"],
+        &["-h"],
+        &["--mode", "Replay"],
+        &["--mod", "run"],
+        &["--posters", "0"],
+        &["--posters=9"],
+        &["--takers", "8"],
+        &["--rows", "7"],
+        &["--rows", "65536"],
+        &["--rows", "8", "--rows", "8"],
+    ];
+    for words in refused {
+        let words = words_of(rt.alloc(), words)?;
+        for (room, written, status) in [(1000, "words refused\n", 2), (5, "words", 5)] {
+            let ran = run_with(
+                &rt,
+                rt.alloc(),
+                &words,
+                FIVE_LINES,
+                5,
+                &[],
+                room,
+                &[],
+                status,
+                written.as_bytes(),
+            )?;
+            assert!(&rt; !ran);
+        }
+    }
+    Ok(())
+}
+
+#[test]
+fn a_board_of_eight_rows(rt: HostRuntime) -> Result<(), Fail> {
+    let words = words_of(rt.alloc(), &["--rows", "8"])?;
     let ran = run_with(
         &rt,
         rt.alloc(),
         &words,
-        FIVE_LINES,
-        16,
+        b"post,0,bytes,x\npost,1,bytes,x\npost,2,bytes,x\npost,3,bytes,x\npost,4,bytes,x\npost,5,bytes,x\npost,6,bytes,x\npost,7,bytes,x\npost,8,bytes,x\n",
+        64,
         &[],
         1000,
         &[],
-        2,
-        b"words refused\n",
+        0,
+        EIGHT_ROWS_REPORT,
     )?;
-    assert!(&rt; !ran);
-    let ran = run_with(
-        &rt,
-        rt.alloc(),
-        &words,
-        FIVE_LINES,
-        5,
-        &[],
-        1000,
-        &[1],
-        5,
-        b"words",
-    )?;
-    assert!(&rt; !ran);
+    assert!(&rt; ran);
     Ok(())
 }
 
 #[test]
 fn replays(rt: HostRuntime) -> Result<(), Fail> {
-    let mut words = CommandWords::new(rt.alloc());
-    words.push("replay")?;
+    let words = words_of(rt.alloc(), &["--mode", "replay"])?;
     let cases: [(&[u8], u8, &[u8]); 6] = [
         (
             b"shape 2 1 2 8\n0 enroll\n1 enroll\n0 look 0\n0 count 0\n0 take 0\n0 publish 1 0\n0 count 0\n0 cas r0 - 0\n0 inc 0\n",
@@ -313,7 +348,7 @@ fn report_with_what_is_at_rest(rt: HostRuntime) -> Result<(), Fail> {
     let Ok(lines) = read_jobs(rt.alloc(), FIVE_LINES) else {
         panic!(&rt; "the five lines are a job file");
     };
-    let finished = run_lines(&rt, rt.alloc(), &lines, 1, 0, &OpenGate)?;
+    let finished = run_lines(&rt, rt.alloc(), &lines, 1, 0, 8, &OpenGate)?;
     let rest = RestNumbers {
         queue_given: 3,
         queue_reused: 2,

@@ -10,34 +10,32 @@ ghost use Rattle.orc_trace.specs.declared.answers.Replayed.{Replayed};
 ghost use Rattle.orc_trace.specs.declared.answers.TraceFault.{TraceFault};
 ghost use Rattle.orc_trace.specs.Replay.{IsReplay, Refuses as RefusesTrace};
 ghost use Rattle.orc_trace.specs.Answers.{fault_line, replay_line};
-ghost use Rattle.orc_program.specs.declared.mode.Mode.{Mode};
+ghost use Rattle.orc_options.specs.Settings.{AskFor, Gives, Refuses as RefusesWords};
+ghost use Rattle.orc_options.specs.declared.settings.Mode.{Mode};
+ghost use Rattle.orc_options.specs.declared.settings.Settings.{Settings};
 ghost use Rattle.orc_program.specs.Ended.{IsNew};
-ghost use Rattle.orc_program.specs.Modes.{AreRefused, AskToRun, Asks};
 ghost use Rattle.orc_program.specs.Refusals.{IsTooLarge, NamesFault, NamesRecord, input_limit, input_too_large, malformed_line, words_refused};
 ghost use Rattle.orc_program.specs.Outcomes.{Tells, WasToWrite};
 
-use crate::mode::mode_of;
 use crate::run_mode::run_mode;
 use crate::writing::refuse_words;
 use crate::{CommandWords, Ended};
 use orc_board::Gate;
 use orc_feed::{Sink, Source};
 use orc_jobs::JobsFault;
+use orc_options::{Mode, Refused, settings_of};
 use orc_trace::TraceFault;
 use std::alloc::Global;
 use std::sync::Wait;
 use std::thread::Threads;
 
-/// Reads a job file, works through it with posters and takers on threads and writes the report; or, with the one word
-/// `replay`, reads a trace, plays it and writes what it leaves; or writes why not.
-///
-/// No words ask for one poster and no taker; `--posters P --takers T`, in this order, for 1 to 8 posters and at most 7
-/// takers.
+/// In mode run, reads a job file, works through it with posters and takers on threads and writes the report; in mode replay,
+/// reads a trace, plays it and writes what it leaves; or writes why not. The words are read by `clap`, as `settings_of` says.
 ///
 /// | Status | Comes | Written |
 /// |---|---|---|
 /// | 0 | done | the report, or the line of the census |
-/// | 2 | the words ask for none of these | `words refused` |
+/// | 2 | `clap` refuses the words for another cause than want of memory; help and a version count as refused | `words refused` |
 /// | 3 | a record is outside the grammar | `line N: CAUSE` |
 /// | 4 | a read failed | nothing |
 /// | 5 | a write failed | a prefix of what was to be written |
@@ -59,18 +57,18 @@ pub fn orc_main<R: Threads + Wait + Sync, S: Source, K: Sink, G: Gate + Sync>(
     ensures statuses { (result ≡ 0) ⊎ (result ≡ 2) ⊎ (result ≡ 3) ⊎ (result ≡ 4) ⊎ (result ≡ 5) ⊎ (result ≡ 6) ⊎ (result ≡ 7) ⊎ (result ≡ 8) }
 
     // Status 0: the whole text of the mode, which of mode run is the headline's report.
-    ensures done { result ≡ 0 → (mode : Mode) × (text : List ℕ) × Asks words.now mode × Tells mode (S.left source.old) ended.new text
+    ensures done { result ≡ 0 → (s : Settings) × (text : List ℕ) × Gives words.now s × Tells s.mode s (S.left source.old) ended.new text
         × Appends (K.written sink.old) (K.written sink.new) text }
 
     // What is read: nothing at refused words, no more than one byte past the limit, and all that there is where the bytes are judged.
-    ensures words_first { AreRefused words.now → (S.left source.new ≡ S.left source.old) × (S.faults source.new ≡ S.faults source.old) }
+    ensures words_first { RefusesWords words.now → (S.left source.new ≡ S.left source.old) × (S.faults source.new ≡ S.faults source.old) }
     ensures most_read { TakesAtMost (input_limit + 1) (S.left source.old) (S.left source.new) }
     ensures all_read { (result ≡ 0) ⊎ (result ≡ 3) ⊎ (result ≡ 8) → IsAtEnd (S.left source.new) }
     ensures many_read { result ≡ 6 → IfSome (S.left source.old) (λ bytes. length bytes ≤ input_limit → IsAtEnd (S.left source.new)) }
 
     // Each refusal: why it came, and what was written.
-    ensures words { result ≡ 2 → AreRefused words.now × Appends (K.written sink.old) (K.written sink.new) words_refused }
-    ensures malformed { result ≡ 3 → AskToRun words.now × ((text : List ℕ) × IfSome (S.left source.old) (λ bytes. NamesRecord bytes text)
+    ensures words { result ≡ 2 → RefusesWords words.now × Appends (K.written sink.old) (K.written sink.new) words_refused }
+    ensures malformed { result ≡ 3 → AskFor words.now Mode.Run × ((text : List ℕ) × IfSome (S.left source.old) (λ bytes. NamesRecord bytes text)
         × Appends (K.written sink.old) (K.written sink.new) text) }
     ensures read_fault { result ≡ 4 → Rose (S.faults source.old) (S.faults source.new) × Keeps (K.written sink.old) (K.written sink.new) }
     ensures no_read_fault { result ≢ 4 → S.faults source.new ≡ S.faults source.old }
@@ -78,34 +76,35 @@ pub fn orc_main<R: Threads + Wait + Sync, S: Source, K: Sink, G: Gate + Sync>(
     ensures no_write_fault { result ≢ 5 → K.faults sink.new ≡ K.faults sink.old }
     ensures cut_short { result ≡ 5 → (text : List ℕ) × WasToWrite words.now (S.left source.old) ended.new text
         × AppendsPrefix (K.written sink.old) (K.written sink.new) text }
-    ensures large { result ≡ 6 → (mode : Mode) × Asks words.now mode × IfSome (S.left source.old) (IsTooLarge mode)
+    ensures large { result ≡ 6 → (mode : Mode) × AskFor words.now mode × IfSome (S.left source.old) (IsTooLarge mode)
         × Appends (K.written sink.old) (K.written sink.new) input_too_large }
     ensures memory { result ≡ 7 → Keeps (K.written sink.old) (K.written sink.new) }
-    ensures refused { result ≡ 8 → Asks words.now Mode.Replay × ((text : List ℕ) × IfSome (S.left source.old) (λ bytes. NamesFault bytes text)
+    ensures refused { result ≡ 8 → AskFor words.now Mode.Replay × ((text : List ℕ) × IfSome (S.left source.old) (λ bytes. NamesFault bytes text)
         × Appends (K.written sink.old) (K.written sink.new) text) }
     ensures nothing_ended { result ≢ 0 → result ≢ 5 → IsNew ended.new }
 
     // When each comes, unless a read or a write failed or memory was refused.
-    ensures words_come { AreRefused words.now → (result ≡ 2) ⊎ (result ≡ 5) ⊎ (result ≡ 7) }
-    ensures malformed_comes { (bytes : List ℕ) (place : ℕ) (why : Cause) → S.left source.old ≡ Some bytes → AskToRun words.now
+    ensures words_come { RefusesWords words.now → (result ≡ 2) ⊎ (result ≡ 5) ⊎ (result ≡ 7) }
+    ensures malformed_comes { (bytes : List ℕ) (place : ℕ) (why : Cause) → S.left source.old ≡ Some bytes → AskFor words.now Mode.Run
         → length bytes ≤ input_limit → Refuses bytes (JobsFault.Malformed place why)
         → ((result ≡ 3) × Appends (K.written sink.old) (K.written sink.new) (malformed_line place why)) ⊎ (result ≡ 4) ⊎ (result ≡ 5) ⊎ (result ≡ 7) }
-    ensures large_comes { (mode : Mode) (bytes : List ℕ) → S.left source.old ≡ Some bytes → Asks words.now mode → IsTooLarge mode bytes
+    ensures large_comes { (mode : Mode) (bytes : List ℕ) → S.left source.old ≡ Some bytes → AskFor words.now mode → IsTooLarge mode bytes
         → (result ≡ 6) ⊎ (result ≡ 4) ⊎ (result ≡ 5) ⊎ (result ≡ 7) }
-    ensures refused_comes { (bytes : List ℕ) (why : TraceFault) → S.left source.old ≡ Some bytes → Asks words.now Mode.Replay
+    ensures refused_comes { (bytes : List ℕ) (why : TraceFault) → S.left source.old ≡ Some bytes → AskFor words.now Mode.Replay
         → length bytes ≤ input_limit → why ≢ TraceFault.NoMemory → RefusesTrace bytes why
         → ((result ≡ 8) × Appends (K.written sink.old) (K.written sink.new) (fault_line why)) ⊎ (result ≡ 4) ⊎ (result ≡ 5) ⊎ (result ≡ 7) }
-    ensures complete { (bytes : List ℕ) (lines : List Line) → S.left source.old ≡ Some bytes → AskToRun words.now
+    ensures complete { (bytes : List ℕ) (lines : List Line) → S.left source.old ≡ Some bytes → AskFor words.now Mode.Run
         → length bytes ≤ input_limit → IsFileOf lines bytes
         → ¬ Rose (S.faults source.old) (S.faults source.new) → ¬ Rose (K.faults sink.old) (K.faults sink.new)
         → (result ≡ 0) ⊎ (result ≡ 7) }
-    ensures complete_replay { (bytes : List ℕ) (played : Replayed) → S.left source.old ≡ Some bytes → Asks words.now Mode.Replay
+    ensures complete_replay { (bytes : List ℕ) (played : Replayed) → S.left source.old ≡ Some bytes → AskFor words.now Mode.Replay
         → length bytes ≤ input_limit → IsReplay bytes played
         → ¬ Rose (S.faults source.old) (S.faults source.new) → ¬ Rose (K.faults sink.old) (K.faults sink.new)
         → ((result ≡ 0) × Appends (K.written sink.old) (K.written sink.new) (replay_line played)) ⊎ (result ≡ 7) }
 {
-    match mode_of(words) {
-        Some(mode) => run_mode(rt, alloc, mode, source, sink, gate, ended),
-        None => refuse_words(sink),
+    match settings_of(alloc, words) {
+        Ok(settings) => run_mode(rt, alloc, settings, source, sink, gate, ended),
+        Err(Refused::Words) => refuse_words(sink),
+        Err(Refused::NoMemory) => 7,
     }
 }

@@ -7,13 +7,9 @@ use Rattle.orc_heap.specs.declared.seed.Seed.TheVariants.{Dummy}
 use Rattle.orc_fifo_rule.specs.declared.fifo.FifoNote.{FifoNote}
 use Rattle.orc_fifo_rule.specs.declared.fifo.FifoNote.TheVariants.{Begin}
 
--- how many rows a domain has
-abbrev pub most_rows : ℕ
-most_rows = 65535
-
--- the sizes of a domain with so many roots and agents
-abbrev pub run_bounds : ℕ → ℕ → Bounds
-run_bounds roots agents = record { rows = most_rows; roots = roots; agents = agents; limit = 2 ^ 39 }
+-- the sizes of a domain with so many rows, roots and agents
+abbrev pub run_bounds : ℕ → ℕ → ℕ → Bounds
+run_bounds rows roots agents = record { rows = rows; roots = roots; agents = agents; limit = 2 ^ 39 }
 
 -- a dummy, whose successor gets position 0
 abbrev pub queue_opening : List (Event FifoNote)

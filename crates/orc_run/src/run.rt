@@ -30,7 +30,7 @@ pub struct Finished {
 }
 
 /// Works through these lines with 1 to 8 posters and 0 to 7 takers, each on a thread of its own where one can be started,
-/// over a queue and a set of 65,535 rows each. Then the caller takes what is left.
+/// over a queue and a set of 2 to 65,535 rows each. Then the caller takes what is left.
 ///
 /// # Errors
 ///
@@ -41,19 +41,21 @@ pub fn run_lines<R: Threads + Wait + Sync, G: Gate + Sync>(
     lines: &Lines,
     posters: u32,
     takers: u32,
+    rows: u32,
     gate: &G,
 ) -> Result<Finished, NoMemory>
     requires good { AreGood lines.now }
     requires posters { (1 ≤ posters) × (posters ≤ 8) }
     requires takers { takers ≤ 7 }
-    ensures replies { IfOk result (λ f. RepliesFollow lines.now posters takers f) }
-    ensures queue_journal { IfOk result (λ f. HasQueueJournal (agents_of posters takers) f.queue) }
-    ensures set_journal { IfOk result (λ f. HasSetJournal (agents_of posters takers) f.set) }
-    ensures rows { IfOk result (λ f. GivesEachRowOnce f.queue × GivesEachRowOnce f.set) }
+    requires rows { (2 ≤ rows) × (rows ≤ 65535) }
+    ensures replies { IfOk result (λ f. RepliesFollow lines.now posters takers rows f) }
+    ensures queue_journal { IfOk result (λ f. HasQueueJournal rows (agents_of posters takers) f.queue) }
+    ensures set_journal { IfOk result (λ f. HasSetJournal rows (agents_of posters takers) f.set) }
+    ensures once { IfOk result (λ f. GivesEachRowOnce f.queue × GivesEachRowOnce f.set) }
 {
     let agents = 1 + posters + takers;
-    let (queue, queue_passes) = make_queue(alloc, agents)?;
-    let (set, set_passes) = make_set(alloc, agents)?;
+    let (queue, queue_passes) = make_queue(alloc, rows, agents)?;
+    let (set, set_passes) = make_set(alloc, rows, agents)?;
     let passes = room_for_passes(alloc, agents as usize)?;
     let mut desks = fresh_desks(alloc, &queue, &set, queue_passes, set_passes)?;
     let replies = run_at_desks(

@@ -27,7 +27,7 @@ fn lines_of(alloc: Global, text: &[u8]) -> Result<Lines, NoMemory>
 #[test]
 fn a_drop_closes_an_open_id(rt: HostRuntime) -> Result<(), Fail> {
     let lines = lines_of(rt.alloc(), FIVE_LINES)?;
-    let finished = run_lines(&rt, rt.alloc(), &lines, 1, 0, &OpenGate)?;
+    let finished = run_lines(&rt, rt.alloc(), &lines, 1, 0, 8, &OpenGate)?;
     let words = [
         PostWord::Posted(0),
         PostWord::Posted(1),

@@ -5,11 +5,11 @@ use Rattle.clap.proofs.WalkLemmas.{first_value-rows, one_text-rows}
 use Rattle.orc_options.specs.Settings.{mode_in, number_in}
 use Rattle.orc_options.proofs.settings.settings_in.Goals as goal
 
-pub returns : goal.returns
-returns c =
+pub returns-clause-says : goal.returns-clause-says
+returns-clause-says c =
     let f = found_of c.args.matches.now in
     let mode = c.mode_of.ensures ∙ ap mode_in (c.get_str.ensures ∙ first_value-rows f (codes "mode")) in
-    let posters = c.number_of.ensures ∙ ap (number_in 1 8 1) (one_text-rows f (codes "posters")) in
-    let takers = c.number_of-2.ensures ∙ ap (number_in 0 7 0) (one_text-rows f (codes "takers")) in
-    let rows = c.number_of-3.ensures ∙ ap (number_in 8 65535 65535) (one_text-rows f (codes "rows")) in
+    let posters = c.number_of.ensures.says ∙ ap (number_in 1 8 1) (one_text-rows f (codes "posters")) in
+    let takers = c.number_of-2.ensures.says ∙ ap (number_in 0 7 0) (one_text-rows f (codes "takers")) in
+    let rows = c.number_of-3.ensures.says ∙ ap (number_in 8 65535 65535) (one_text-rows f (codes "rows")) in
     λ i. record { mode = mode i; posters = posters i; takers = takers i; rows = rows i }

@@ -14,7 +14,7 @@ returns-in-Ok-try_get_matches_from-clause-gives c =
       app = app;
       is_command = is;
       taken = rw words at (c.in-Ok-try_get_matches_from.ensures.kinds (command_free app is));
-      settings = c.settings_in.ensures ∙ ap read_settings ((c.in-Ok-try_get_matches_from.ensures.matches (command_simple app is)).0 ∙ ap (matches_of app) words);
+      settings = c.settings_in.ensures.says ∙ ap read_settings ((c.in-Ok-try_get_matches_from.ensures.matches (command_simple app is)).0 ∙ ap (matches_of app) words);
     }
 
 pub returns-in-Err-clause-refuses : goal.returns-in-Err-clause-refuses

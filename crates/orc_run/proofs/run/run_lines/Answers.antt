@@ -20,16 +20,16 @@ returns-clause-replies g c =
 pub returns-clause-queue_journal : goal.returns-clause-queue_journal
 returns-clause-queue_journal g c =
     let count : 1 + c.args.posters + c.args.takers ≡ agents_of c.args.posters c.args.takers = omega arith in
-    has_journal c.end_run-queue.result.queue c.end_run-queue.ensures.shown.0 (run_bounds 2 (agents_of c.args.posters c.args.takers)) queue_opening
-    (ap (λ d. domain_bounds d) c.end_run-queue.ensures.domains.0 ∙ (c.in_ok-queue.ensures.bounds ∙ ap (run_bounds 2) count))
+    has_journal c.end_run-queue.result.queue c.end_run-queue.ensures.shown.0 (run_bounds c.args.rows 2 (agents_of c.args.posters c.args.takers)) queue_opening
+    (ap (λ d. domain_bounds d) c.end_run-queue.ensures.domains.0 ∙ (c.in_ok-queue.ensures.bounds ∙ ap (run_bounds c.args.rows 2) count))
     (ap (λ d. domain_opening d) c.end_run-queue.ensures.domains.0 ∙ c.in_ok-queue.ensures.opening) (λ h. h.lawful)
 
 pub returns-clause-set_journal : goal.returns-clause-set_journal
 returns-clause-set_journal g c =
     let count : 1 + c.args.posters + c.args.takers ≡ agents_of c.args.posters c.args.takers = omega arith in
-    has_journal c.end_run-queue.result.set c.end_run-queue.ensures.shown.1 (run_bounds 1 (agents_of c.args.posters c.args.takers)) _
-    (ap (λ d. domain_bounds d) c.end_run-queue.ensures.domains.1 ∙ (c.in_ok-set.ensures.bounds ∙ ap (run_bounds 1) count))
+    has_journal c.end_run-queue.result.set c.end_run-queue.ensures.shown.1 (run_bounds c.args.rows 1 (agents_of c.args.posters c.args.takers)) _
+    (ap (λ d. domain_bounds d) c.end_run-queue.ensures.domains.1 ∙ (c.in_ok-set.ensures.bounds ∙ ap (run_bounds c.args.rows 1) count))
     (ap (λ d. domain_opening d) c.end_run-queue.ensures.domains.1 ∙ c.in_ok-set.ensures.opening) (λ h. h.lawful)
 
-pub returns-clause-rows : goal.returns-clause-rows
-returns-clause-rows g c = (each_row_once c.end_run-queue.result.queue c.end_run-queue.ensures.shown.0, each_row_once c.end_run-queue.result.set c.end_run-queue.ensures.shown.1)
+pub returns-clause-once : goal.returns-clause-once
+returns-clause-once g c = (each_row_once c.end_run-queue.result.queue c.end_run-queue.ensures.shown.0, each_row_once c.end_run-queue.result.set c.end_run-queue.ensures.shown.1)
