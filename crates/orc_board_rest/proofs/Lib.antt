@@ -1,0 +1,4 @@
+pub mod GateWords
+pub mod Counted
+pub mod TakingIn
+pub mod Resting
