@@ -21,7 +21,7 @@ take_slot m a k h r l =
     allowed m a (TakeIn k) h r.still.calm.enrolled (rw (r.still.due, r.still.calm.inc, r.still.dec) refl)
     (rw (lt-ltb k 8 l, all_empty (record_at m a) r.still k) refl)
 
-made_bounds : (m n : Machine) (a : ℕ) (op : Op) → Made a op m n → n.bounds ≡ m.bounds
+pub made_bounds : (m n : Machine) (a : ℕ) (op : Op) → Made a op m n → n.bounds ≡ m.bounds
 made_bounds m n a op k = ap (λ (x : Machine). x.bounds) k.is ∙ run_bounds m (k.others ++ (a, op) ∷ [])
 
 pub made_reached : (m n : Machine) (a : ℕ) (op : Op) → IsReachedState m → Made a op m n → IsReachedState n
@@ -57,10 +57,10 @@ took_word m a k j r h l i z = cases (j == k) refl
         let n : j ≡ k → ⊥ = λ x. false≢true (sym e ∙ eq-eqb j k x) in
         other_words m a (TakeIn k) (Handover a j) (whole m r) l (h, i) (λ x. n (cc)) ∙ z n
 
-pub took_none : (m : Machine) (a : ℕ) → IsReachedState m → TookIn a 8 m m
+abbrev pub took_none : (m : Machine) (a : ℕ) → IsReachedState m → TookIn a 8 m m
 took_none m a r = record { steps = []; lawful = tt; is = refl; reached = r; bounds = refl; hands = λ all z. z; others = λ all s x k lx lk ne z. z }
 
-pub took_more : (m n o : Machine) (a k : ℕ) → IsReachedState m → a < m.bounds.agents → IsBetweenRounds (record_at m a) → k < 8 → Made a (TakeIn k) m n
+abbrev pub took_more : (m n o : Machine) (a k : ℕ) → IsReachedState m → a < m.bounds.agents → IsBetweenRounds (record_at m a) → k < 8 → Made a (TakeIn k) m n
     → TookIn a (k + 1) n o → TookIn a k m o
 took_more m n o a k r h d l w t = record {
   steps = (w.others ++ (a, TakeIn k) ∷ []) ++ t.steps;
