@@ -123,8 +123,19 @@ module _ (n : HeapNumbers) (one : Link) (job tail : ℕ) (h : Hold) (s a b t : S
           node = node_held n b t [] freed all_t job h l.node.second kb l.node held same_id fresh_t refl refl;
           back = elim (look_or_back n (Root 1) refl s a k all_a tt (link_to tail) None (at_first n s one tail 0 ∷ []) [] p) [
             | inl at ↦
-                omega (arith, l.back at, backs_left a b t q0.own [] q0.own q0.puts freed q, backs_then s a t _ _ _ _ p q over.piece.puts refl refl)
-            | inr some ↦ omega (arith, some, backs_since_both s a t _ _ _ p q over.piece.puts)
+                omega (
+                  arith,
+                  l.back at,
+                  backs_left a b t q0.own [] q0.own q0.puts freed q,
+                  backs_then s a t (at_first n s one tail 0)
+                      (at_tail n s one tail 0 ∷ []) q0.own over.piece.own p q over.piece.puts refl refl,
+                )
+            | inr some ↦ omega (
+              arith,
+              some,
+              backs_since_both s a t (at_first n s one tail 0 ∷ at_tail n s one tail 0 ∷ []) q0.own
+                  over.piece.own p q over.piece.puts,
+            )
           ];
         }
     turn_done (PutDone at) l =
