@@ -1,6 +1,6 @@
 -- The link of the fresh row is set, and what that leaves pending.
 use Rattle.std.proofs.Common.{Bool, List, None, Option, Some, [], ap, cond, false, refl, subst, sym, true, ℕ, ⊎_elim, ◌++◌, ◌∙◌, ◌≡◌, ◌∷◌}
-use Rattle.std.proofs.lemmas.Bool.{lt-ltb, ne_eqb}
+use Rattle.std.proofs.lemmas.Bool.{lt-ltb, ne_eqb, or_right}
 use Rattle.std.specs.Option.{option_map}
 use Rattle.std.specs.Prelude.{if◌then◌else◌, length, nat_lt, ◌/◌, ◌&&◌, ◌||◌}
 use Rattle.orc_core.proofs.Within.{and_both}
@@ -28,11 +28,11 @@ use Rattle.orc_reclaiming_domain.proofs.Filling.{has_is_out}
 use Rattle.orc_reclaiming_domain.proofs.Held.{has_low, mirrors}
 use Rattle.orc_reclaiming_domain.proofs.Linking.{old_other}
 use Rattle.orc_reclaiming_domain.proofs.Protecting.{true_false}
-use Rattle.orc_reclaiming_domain.proofs.Seats.{before_keep, only, or_right, step_events}
+use Rattle.orc_reclaiming_domain.proofs.Seats.{before_keep, only, step_events}
 use Rattle.orc_reclaiming_domain.proofs.Stages.{Between, Stage, Steps, before_record, seat}
 use Rattle.orc_reclaiming_domain.proofs.Untouched.{still_untouched, untouched_at}
 use Rattle.orc_reclaiming_domain.specs.Changes.{Becomes, IsCountable, Stores}
-use Rattle.orc_reclaiming_domain.specs.OwnSteps.{LeavesNothing}
+use Rattle.orc_board_settling.specs.OwnSteps.{LeavesNothing}
 use Rattle.orc_reclaiming_domain.specs.Passes.{IsFreshUntouched}
 use Rattle.orc_sound.specs.declared.steps.Step.{Step}
 use Rattle.orc_words.specs.Bounds.{Bounds}

@@ -1,5 +1,6 @@
 -- Where whatever fits is allowed, a root may be swung, and a new node isn't one that is held.
 use Rattle.std.proofs.Common.{Some, ap, arith, sym, ℕ, ◌∙◌, ◌≡◌, ◌≢◌}
+use Rattle.orc_heap.proofs.Changes.{get_lt}
 use Rattle.orc_heap.proofs.Known.{known-later}
 use Rattle.orc_heap.proofs.Slots.{held_apart, id-other}
 use Rattle.orc_heap.specs.Acts.{IsKnown, IsTarget}
@@ -14,7 +15,6 @@ use Rattle.orc_heap.specs.declared.events.Event.{Event}
 use Rattle.orc_heap.specs.declared.holds.At.TheVariants.{Root as AtRoot}
 use Rattle.orc_heap.specs.declared.holds.Want.TheVariants.{Node as WantNode, Null as WantNull}
 use Rattle.orc_heap.specs.declared.holds.Want.{Want}
-use Rattle.orc_reclaiming_domain.proofs.Releasing.{get_low}
 use Rattle.std.specs.Prelude.{List, Option, ◌++◌}
 
 module _ {N : Type 0} (n : HeapNumbers) (s : Seat N) (known : (h : Hold) → Holds s.slots h → IsKnown s.agent (run_heap n s.seen) (id_in s.slots h)) where
@@ -30,7 +30,7 @@ module _ {N : Type 0} (n : HeapNumbers) (s : Seat N) (known : (h : Hold) → Hol
       → t.fresh ≢ Some (id_in t.slots h)
   new_other slot first second h two t g held free e =
       let k = known h held in
-      let low = get_low (run_heap n s.seen).nodes (id_in s.slots h) k.node k.there in
+      let low = get_lt (run_heap n s.seen).nodes (id_in s.slots h) k.node k.there in
       let new = g.new in
       let same : Some g.id ≡ Some (id_in s.slots h) = sym g.fresh ∙ (e ∙ ap Some (ap (λ l. id_in l h) g.slots
       ∙ id-other s.slots slot _ h (held_apart s.slots h slot held free))) in

@@ -1,6 +1,6 @@
 -- What a change of a link leaves pending is counted, step by step.
 use Rattle.std.proofs.Common.{Bool, List, None, Option, Some, [], ap, arith, cond, eq-eqb, false, get_or-set_same, inr, length, refl, subst, sym, true, ℕ, ◌++◌, ◌<◌, ◌^◌, ◌∙◌, ◌≡◌, ◌∷◌}
-use Rattle.std.proofs.lemmas.Bool.{lt-ltb}
+use Rattle.std.proofs.lemmas.Bool.{lt-ltb, or_right}
 use Rattle.std.specs.Prelude.{map, nat_lt, not, slice_get, slice_index_or, slice_set, ◌&&◌, ◌==◌, ◌||◌}
 use Rattle.orc_core.specs.Allowed.{in_order, may}
 use Rattle.orc_core.specs.RecordParts.{holds, holds_fresh, is_due, is_empty, names, saw, scan_empty, scans, slot_of}
@@ -24,13 +24,14 @@ use Rattle.orc_machine_board.specs.declared.machine.MachineShape.{MachineShape}
 use Rattle.orc_projection.specs.PresentIds.{PresentIds}
 use Rattle.orc_reclaiming_domain.proofs.Protecting.{same_then}
 use Rattle.orc_reclaiming_domain.proofs.Searching.{idle_none}
-use Rattle.orc_reclaiming_domain.proofs.Seats.{only, or_right, sets}
+use Rattle.orc_reclaiming_domain.proofs.Seats.{only, sets}
 use Rattle.orc_reclaiming_domain.proofs.Setting.{clear_may, set_same, set_twice}
 use Rattle.orc_reclaiming_domain.proofs.Stages.{Stage, Steps, done_none, done_one, done_then, seat}
 use Rattle.orc_machine_board.proofs.Licences.{has_either}
 use Rattle.orc_reclaiming_domain.specs.Calls.{SameParts, Unlocks}
 use Rattle.orc_reclaiming_domain.specs.Changes.{Becomes, IsCountable}
-use Rattle.orc_reclaiming_domain.specs.OwnSteps.{BeginsWith, LeavesNothing, TakesInCleared}
+use Rattle.orc_board_settling.proofs.Joins.{takes_in_both}
+use Rattle.orc_board_settling.specs.OwnSteps.{LeavesNothing, TakesInCleared}
 use Rattle.orc_reclaiming_domain.specs.Seats.{IsCalm, SetsSlot, seat_by, slot_by}
 use Rattle.orc_sound.proofs.ForRuns.{run_sound}
 use Rattle.orc_sound.proofs.Journals.{plain_lawful}
@@ -38,16 +39,6 @@ use Rattle.orc_sound.specs.Journals.{plain}
 use Rattle.orc_sound.specs.Linked.{changes}
 use Rattle.orc_sound.specs.declared.steps.Step.{Step}
 use Rattle.orc_words.specs.Bounds.{Bounds}
-
--- what was taken in stays so as more steps are made
-begins_more : (op : Op) (xs ys : List Op) → BeginsWith op xs → BeginsWith op (xs ++ ys)
-begins_more op [] ys h = absurd h
-begins_more op (x ∷ xs) ys h = h
-
-pub takes_in_both : (xs ys : List Op) → TakesInCleared xs → TakesInCleared ys → TakesInCleared (xs ++ ys)
-takes_in_both [] ys h g = g
-takes_in_both (Clear slot ∷ xs) ys h g = (begins_more (TakeIn slot) xs ys h.0, takes_in_both xs ys h.1 g)
-takes_in_both (x ∷ xs) ys h g = takes_in_both xs ys h g
 
 module _ {N : Type 0} where
   pub leaves_none : (a : ℕ) (j : List (Step N)) → LeavesNothing a j j
@@ -180,6 +171,7 @@ module _ {D N : Type 0} {d : discipline.Ghosts D N} {k : MachineShape N} (s : St
           inc = ap (λ (e : Agent). e.inc) m.record_is;
           dec = ap (λ (e : Agent). e.dec) m.record_is;
           doom = ap (λ (e : Agent). e.doom) m.record_is;
+          scan = ap (λ (e : Agent). e.scan) m.record_is;
         };
         leaves = leaves_one t (SetRetired r.row r.number) n m tt;
       }
@@ -201,6 +193,7 @@ module _ {D N : Type 0} {d : discipline.Ghosts D N} {k : MachineShape N} (s t : 
           inc = z.same.inc ∙ ap (λ (e : Agent). e.inc) m.record_is;
           dec = z.same.dec ∙ ap (λ (e : Agent). e.dec) m.record_is;
           doom = z.same.doom ∙ ap (λ (e : Agent). e.doom) m.record_is;
+          scan = z.same.scan ∙ ap (λ (e : Agent). e.scan) m.record_is;
         };
         leaves = leaves_then s.view.agent s.view.journal t.view.journal u.view.journal (leaves_one s t (Inc r) n m tt)
             (subst (λ a. LeavesNothing a t.view.journal u.view.journal) m.agent z.leaves);
@@ -284,6 +277,7 @@ module _ {D N : Type 0} {d : discipline.Ghosts D N} {k : MachineShape N} (s t : 
               inc = un.same.inc ∙ (z.same.inc ∙ (ap (λ (e : Agent). e.inc) m2.record_is ∙ ap (λ (e : Agent). e.inc) m.record_is));
               dec = un.same.dec ∙ (z.same.dec ∙ ap (λ (e : Agent). e.dec) m2.record_is);
               doom = un.same.doom ∙ (z.same.doom ∙ (ap (λ (e : Agent). e.doom) m2.record_is ∙ ap (λ (e : Agent). e.doom) m.record_is));
+              scan = un.same.scan ∙ (z.same.scan ∙ (ap (λ (e : Agent). e.scan) m2.record_is ∙ ap (λ (e : Agent). e.scan) m.record_is));
             };
             leaves = leaves_then s.view.agent s.view.journal t.view.journal w.view.journal to_t
                 (leaves_then s.view.agent t.view.journal u.view.journal w.view.journal to_u
@@ -292,11 +286,11 @@ module _ {D N : Type 0} {d : discipline.Ghosts D N} {k : MachineShape N} (s t : 
 
 -- a record without a pending decrement
 pub without_dec : (d e : Agent) → SameParts d e → SameParts (record d { dec = None }) (record e { dec = None })
-without_dec d e p = record { enrolled = p.enrolled; slots = p.slots; fresh = p.fresh; due = p.due; inc = p.inc; dec = refl; doom = p.doom }
+without_dec d e p = record { enrolled = p.enrolled; slots = p.slots; fresh = p.fresh; due = p.due; inc = p.inc; dec = refl; doom = p.doom; scan = p.scan }
 
 pub without_inc : (d : Agent) → d.inc ≡ None → SameParts (record d { inc = None }) d
-without_inc d e = record { enrolled = refl; slots = refl; fresh = refl; due = refl; inc = e; dec = refl; doom = refl }
+without_inc d e = record { enrolled = refl; slots = refl; fresh = refl; due = refl; inc = e; dec = refl; doom = refl; scan = refl }
 
 -- with neither pending
 pub without_both : (d e : Agent) → SameParts (record d { inc = None }) e → e.dec ≡ None → SameParts (record d { inc = None; dec = None }) e
-without_both d e p none = record { enrolled = p.enrolled; slots = p.slots; fresh = p.fresh; due = p.due; inc = p.inc; dec = none; doom = p.doom }
+without_both d e p none = record { enrolled = p.enrolled; slots = p.slots; fresh = p.fresh; due = p.due; inc = p.inc; dec = none; doom = p.doom; scan = p.scan }

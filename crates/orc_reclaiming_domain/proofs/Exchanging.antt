@@ -1,6 +1,6 @@
 -- One change of a link, and what it leaves pending.
 use Rattle.std.proofs.Common.{Bool, List, None, Option, Some, [], ap, arith, cond, eq-eqb, eqb-true, false, refl, subst, sym, true, ℕ, ⊎_elim, ◌++◌, ◌∙◌, ◌≡◌, ◌≢◌, ◌∷◌}
-use Rattle.std.proofs.lemmas.Bool.{eqb-false, ne_eqb}
+use Rattle.std.proofs.lemmas.Bool.{eqb-false, ne_eqb, or_right}
 use Rattle.std.specs.Option.{option_map}
 use Rattle.std.specs.Prelude.{if◌then◌else◌, length, map, not, ◌==◌, ◌&&◌, ◌||◌}
 use Rattle.orc_core.proofs.Within.{and_both}
@@ -39,12 +39,12 @@ use Rattle.orc_reclaiming_domain.proofs.Counting.{leaves_then}
 use Rattle.orc_reclaiming_domain.proofs.Filling.{has_is_out}
 use Rattle.orc_reclaiming_domain.proofs.Held.{hold_has, link_named, mirrors, place_named}
 use Rattle.orc_reclaiming_domain.proofs.Linking.{cas_place, old_other}
-use Rattle.orc_reclaiming_domain.proofs.Seats.{before_keep, ids_keep, only, or_right, puts, same_fresh, slots_keep, step_events}
+use Rattle.orc_reclaiming_domain.proofs.Seats.{before_keep, ids_keep, only, puts, same_fresh, slots_keep, step_events}
 use Rattle.orc_reclaiming_domain.proofs.Stages.{Between, Stage, done_one, its_step, seat, whole_lawful}
 use Rattle.orc_reclaiming_domain.proofs.Testing.{want_has, want_low}
 use Rattle.orc_reclaiming_domain.proofs.Untouched.{still_untouched, untouched_at}
 use Rattle.orc_reclaiming_domain.specs.Changes.{Becomes, IsCountable}
-use Rattle.orc_reclaiming_domain.specs.OwnSteps.{LeavesNothing}
+use Rattle.orc_board_settling.specs.OwnSteps.{LeavesNothing}
 use Rattle.orc_reclaiming_domain.specs.Passes.{IsFreshUntouched}
 use Rattle.orc_reclaiming_domain.specs.Seats.{slot_by}
 use Rattle.orc_shared_words.specs.Lists.{Each}

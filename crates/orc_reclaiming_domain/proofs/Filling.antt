@@ -1,6 +1,7 @@
 -- A fill of the fresh node.
 use Rattle.std.proofs.Common.{None, Option, Some, [], ap, eq-eqb, refl, subst, sym, true, ℕ, ◌<◌, ◌∙◌, ◌≡◌, ◌∷◌}
 use Rattle.std.specs.Option.{option_map}
+use Rattle.std.proofs.lemmas.Bool.{or_right}
 use Rattle.orc_core.specs.RecordParts.{any_holds, names}
 use Rattle.orc_core.specs.declared.ops.Op.TheVariants.{Fill as FillStep}
 use Rattle.orc_heap.specs.Calls.{fill_of}
@@ -19,7 +20,7 @@ use Rattle.orc_machine_board.specs.Rules.{bounds_in, run_of}
 use Rattle.orc_machine_board.specs.declared.machine.MachineShape.{MachineShape}
 use Rattle.orc_reclaiming_domain.proofs.Giving.{fill_may, fill_only}
 use Rattle.orc_reclaiming_domain.proofs.Held.{hold_has, hold_low, hold_slot, mirrors}
-use Rattle.orc_reclaiming_domain.proofs.Seats.{or_right, ready_calm}
+use Rattle.orc_reclaiming_domain.proofs.Seats.{ready_calm}
 use Rattle.orc_reclaiming_domain.proofs.Stages.{Between, Stage, Steps, seat}
 use Rattle.orc_reclaiming_domain.proofs.Untouched.{still_between}
 use Rattle.orc_reclaiming_domain.specs.Seats.{IsReady}

@@ -20,8 +20,8 @@ use Rattle.orc_machine_board.specs.Rules.{run_of}
 use Rattle.orc_projection.proofs.Mirrored.{projection_mirrors}
 use Rattle.orc_projection.specs.Mirror.{numbers_of}
 use Rattle.orc_projection.specs.Projection.{StoresUnmarked, present_ids, project}
-use Rattle.orc_reclaiming_domain.proofs.Counters.{CounterSource, counter_source, uses_fresh, write_same}
-use Rattle.orc_reclaiming_domain.proofs.Gates.{lawful_last}
+use Rattle.orc_reclaiming_domain.specs.Laws.Counters.{CounterSource, counter_source, uses_fresh, write_same}
+use Rattle.orc_reclaiming_domain.specs.Laws.Gates.{lawful_last}
 use Rattle.orc_reclaiming_domain.proofs.Protecting.{true_false}
 use Rattle.orc_shared_words.proofs.Runs.{by_other, by_own, cons_nil}
 use Rattle.orc_sound.proofs.AllFits.{AllFits, allowed_step, low_sequences, run_fits}

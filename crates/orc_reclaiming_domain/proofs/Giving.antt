@@ -1,6 +1,6 @@
 -- A row that was taken is filled and held.
 use Rattle.std.proofs.Common.{Bool, List, None, Option, Some, [], ap, arith, eq-eqb, refl, subst, sym, true, ℕ, ◌++◌, ◌<◌, ◌∙◌, ◌≡◌, ◌∷◌}
-use Rattle.std.proofs.lemmas.Bool.{lt-ltb}
+use Rattle.std.proofs.lemmas.Bool.{lt-ltb, or_right}
 use Rattle.std.specs.List.{list_any}
 use Rattle.std.specs.Option.{option_map}
 use Rattle.std.specs.Prelude.{cond, if◌then◌else◌, slice_get, slice_index_or, slice_set, ◌&&◌}
@@ -35,7 +35,7 @@ use Rattle.orc_projection.proofs.Mirrored.{ids-append}
 use Rattle.orc_projection.specs.PresentIds.{PresentIds, no_ids}
 use Rattle.orc_projection.specs.Projection.{present_ids}
 use Rattle.orc_reclaiming_domain.proofs.Protecting.{empty_slot, held_ready, publish_may, still_ready}
-use Rattle.orc_reclaiming_domain.proofs.Seats.{calm_forced, ids_keep, only, or_right, ready_calm, sets}
+use Rattle.orc_reclaiming_domain.proofs.Seats.{calm_forced, ids_keep, only, ready_calm, sets}
 use Rattle.orc_reclaiming_domain.proofs.Stages.{Between, Stage, Steps, done_later, done_one, seat}
 use Rattle.orc_reclaiming_domain.specs.Searches.{Gets}
 use Rattle.orc_reclaiming_domain.specs.Seats.{IsCalm, IsReady, SetsSlot}
@@ -76,8 +76,13 @@ module _ {D N : Type 0} {d : discipline.Ghosts D N} {k : MachineShape N} where
         kept,
       )
 
-  -- a row that was got
-  module _ (s t : Stage d k) (r : ℕ) (got : Gets (bounds_in k) r s.view t.view) (low : r < (bounds_in k).rows) (between : Between s) where
+  -- a row that was got at the beginning of a call
+  pub record Took (s t : Stage d k) (r : ℕ) : Type 0 where
+    pub low : r < (bounds_in k).rows
+    pub got : Gets (bounds_in k) r s.view t.view
+    pub between : Between s
+
+  module _ (s t : Stage d k) (r : ℕ) (took : Took s t r) where
     abbrev b : Bounds
     b = bounds_in k
 
@@ -85,25 +90,26 @@ module _ {D N : Type 0} {d : discipline.Ghosts D N} {k : MachineShape N} where
     id = (ids_of (bounds_in k) t.view).node r
 
     agent : t.view.agent ≡ s.view.agent
-    agent = got.puts.agent
+    agent = took.got.puts.agent
 
     ready1 : IsReady t.view.record_is
-    ready1 = still_ready (record s.view.record_is { fresh = Some r }) t.view.record_is got.same record {
-      enrolled = between.ready.enrolled;
-      eight = between.ready.eight;
-      due = between.ready.due;
-      inc = between.ready.inc;
-      dec = between.ready.dec;
-      zero = between.ready.zero;
-      published = between.ready.published;
-      doom = between.ready.doom;
+    ready1 = still_ready (record s.view.record_is { fresh = Some r }) t.view.record_is took.got.same record {
+      enrolled = took.between.ready.enrolled;
+      eight = took.between.ready.eight;
+      due = took.between.ready.due;
+      inc = took.between.ready.inc;
+      dec = took.between.ready.dec;
+      zero = took.between.ready.zero;
+      published = took.between.ready.published;
+      doom = took.between.ready.doom;
+      found = took.between.ready.found;
     }
 
     fresh1 : names t.view.record_is.fresh r ≡ true
-    fresh1 = ap (λ o. names o r) got.same.fresh ∙ eq-eqb r r refl
+    fresh1 = ap (λ o. names o r) took.got.same.fresh ∙ eq-eqb r r refl
 
     pub first_can : (first : ℕ) → MayDo (bounds_in k) t.view (FillStep r 0 first)
-    first_can first = fill_may (bounds_in k) t.view.agent t.view.record_is r 0 first t.number (ready_calm t.view.record_is ready1) fresh1 low (omega arith)
+    first_can first = fill_may (bounds_in k) t.view.agent t.view.record_is r 0 first t.number (ready_calm t.view.record_is ready1) fresh1 took.low (omega arith)
 
     module _ (u : Stage d k) (first n1 : ℕ) (m1 : Steps (FillStep r 0 first) t n1 u) where
       ready2 : IsReady u.view.record_is
@@ -113,7 +119,7 @@ module _ {D N : Type 0} {d : discipline.Ghosts D N} {k : MachineShape N} where
       fresh2 = ap (λ (e : Agent). names e.fresh r) m1.record_is ∙ fresh1
 
       pub second_can : (second : ℕ) → MayDo (bounds_in k) u.view (FillStep r 1 second)
-      second_can second = fill_may (bounds_in k) u.view.agent u.view.record_is r 1 second u.number (ready_calm u.view.record_is ready2) fresh2 low (omega arith)
+      second_can second = fill_may (bounds_in k) u.view.agent u.view.record_is r 1 second u.number (ready_calm u.view.record_is ready2) fresh2 took.low (omega arith)
 
       one : Only (event_by t.view.agent (Fill id 0 first) None ∷ []) (seat t) (seat u) × ((ids_of (bounds_in k) u.view).node r ≡ id)
       one = fill_only t u r 0 first n1 m1 fresh1
@@ -127,12 +133,12 @@ module _ {D N : Type 0} {d : discipline.Ghosts D N} {k : MachineShape N} where
 
         empty : slot_of v.view.record_is slot ≡ Empty
         empty = ap (λ (e : Agent). slot_of e slot) (m2.record_is ∙ m1.record_is)
-            ∙ (ap (λ (z : List SlotUse). slice_index_or z slot Empty) got.same.slots
-            ∙ empty_slot (ids_of (bounds_in k) s.view) s.view.record_is.slots slot (between.ready.published slot) free.empty)
+            ∙ (ap (λ (z : List SlotUse). slice_index_or z slot Empty) took.got.same.slots
+            ∙ empty_slot (ids_of (bounds_in k) s.view) s.view.record_is.slots slot (took.between.ready.published slot) free.empty)
 
         pub publish_can : MayDo (bounds_in k) v.view (Publish slot r)
         publish_can = publish_may (bounds_in k) v.view.agent v.view.record_is slot r v.number
-            (ready_calm v.view.record_is ready3) low free.above free.below empty
+            (ready_calm v.view.record_is ready3) took.low free.above free.below empty
 
         two : Only (event_by u.view.agent (Fill ((ids_of (bounds_in k) u.view).node r) 1 second) None ∷ []) (seat u) (seat v)
             × ((ids_of (bounds_in k) v.view).node r ≡ (ids_of (bounds_in k) u.view).node r)
@@ -177,7 +183,7 @@ module _ {D N : Type 0} {d : discipline.Ghosts D N} {k : MachineShape N} where
               let allowed : AllAllowed (d.may n) (seat t).seen both.part = allowed-right (d.may n) [] (seat t).seen both.part
               (subst (AllAllowed (d.may n) []) both.is w.each) in
               let at : IsOwnNode n s.view.agent id (seat t).seen
-              (new_node s.view.agent) = record { there = got.node; own = record { mine = refl; unnamed = refl; unlinked = refl } } in
+              (new_node s.view.agent) = record { there = took.got.node; own = record { mine = refl; unnamed = refl; unlinked = refl } } in
               let told = own_node_told n (d.holds n) (d.may n) (d.keeps n) (d.fits n) (d.moves_linked n) s.view.agent id (seat t).seen both.part
               (new_node s.view.agent) t.kept allowed at
               (ap (λ es. list_any (λ e. points_to e.act id) es) own) in
@@ -193,11 +199,11 @@ module _ {D N : Type 0} {d : discipline.Ghosts D N} {k : MachineShape N} where
           pub gives : (h : Hold) → h ≡ record { row = r; slot = slot } → Gives (heap_numbers k) slot first second (seat s) h (seat w)
           gives h e = subst (λ (z : Hold). Gives (heap_numbers k) slot first second (seat s) z (seat w)) (sym e) record {
             id = id;
-            new = got.new;
+            new = took.got.new;
             slot_is = refl;
-            slots = three.slots ∙ (λ i. slice_set ((two.0.slots ∙ (one.0.slots ∙ got.slots)) i) slot (Some (record { row = r; id = kept3 i })));
-            fresh = three.fresh ∙ (two.0.fresh ∙ (one.0.fresh ∙ ap (option_map (ids_of (bounds_in k) t.view).node) got.same.fresh));
-            puts = Puts-trans (seat s) (seat t) (seat w) (event_by s.view.agent Give None ∷ []) fills got.puts both;
+            slots = three.slots ∙ (λ i. slice_set ((two.0.slots ∙ (one.0.slots ∙ took.got.slots)) i) slot (Some (record { row = r; id = kept3 i })));
+            fresh = three.fresh ∙ (two.0.fresh ∙ (one.0.fresh ∙ ap (option_map (ids_of (bounds_in k) t.view).node) took.got.same.fresh));
+            puts = Puts-trans (seat s) (seat t) (seat w) (event_by s.view.agent Give None ∷ []) fills took.got.puts both;
             node = node;
           }
 
@@ -210,6 +216,7 @@ module _ {D N : Type 0} {d : discipline.Ghosts D N} {k : MachineShape N} where
             inc = ap (λ (e : Agent). e.inc) m3.record_is;
             dec = ap (λ (e : Agent). e.dec) m3.record_is;
             doom = ap (λ (e : Agent). e.doom) m3.record_is;
+            scan = ap (λ (e : Agent). e.scan) m3.record_is;
           }
 
           -- no link was made to the node
@@ -226,7 +233,7 @@ module _ {D N : Type 0} {d : discipline.Ghosts D N} {k : MachineShape N} where
               }
 
           pub gives_later : IsPrefix s.view.journal w.view.journal
-          gives_later = goes_on s.view.journal t.view.journal w.view.journal (got.more, sym got.journal)
+          gives_later = goes_on s.view.journal t.view.journal w.view.journal (took.got.more, sym took.got.journal)
               (goes_on t.view.journal u.view.journal w.view.journal (done_later _ _ _ _ (done_one (asks (FillStep r 0 first)) None t u n1 m1))
               (goes_on u.view.journal v.view.journal w.view.journal (done_later _ _ _ _ (done_one (asks (FillStep r 1 second)) None u v n2 m2))
               (done_later _ _ _ _ (done_one (asks (Publish slot r)) None v w n3 m3))))

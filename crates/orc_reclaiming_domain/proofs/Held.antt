@@ -29,15 +29,11 @@ use Rattle.orc_projection.proofs.Mirrored.{projection_mirrors}
 use Rattle.orc_projection.specs.Mirror.{Mirrors}
 use Rattle.orc_projection.specs.PresentIds.{PresentIds, node_link, node_place}
 use Rattle.orc_projection.specs.Projection.{project}
-use Rattle.orc_reclaiming_domain.proofs.Seats.{held_slot, slot_holds}
+use Rattle.orc_reclaiming_domain.proofs.Seats.{slot_holds}
 use Rattle.orc_reclaiming_domain.proofs.Stages.{Stage, seat}
-use Rattle.orc_reclaiming_domain.specs.Seats.{IsReady, slot_by}
+use Rattle.orc_reclaiming_domain.specs.Laws.Holding.{held_slot}
+use Rattle.orc_reclaiming_domain.specs.Seats.{slot_by}
 use Rattle.orc_words.specs.Bounds.{Bounds}
-
-pub slot_at : (slots : List SlotUse) (k r : ℕ) → slice_get slots k ≡ Some (Held r) → slice_index_or slots k Empty ≡ Held r
-slot_at [] k r e = cc
-slot_at (s ∷ ss) zero r e = cc
-slot_at (s ∷ ss) (suc k) r e = slot_at ss k r e
 
 -- a place that a caller names is that of its word
 pub place_named : (p : PresentIds) (roots : ℕ) (slots : List SlotUse) (at : At) → HoldsPlace roots (map (slot_by p) slots) at
@@ -85,20 +81,3 @@ module _ {D N : Type 0} {d : discipline.Ghosts D N} {k : MachineShape N} (s : St
       let low = lt-ltb h.now.row (bounds_in k).rows (hold_low h.now e) in
       let has = hold_has h.now e in
       λ i. low i && has i
-
-  above_zero : IsReady s.view.record_is → (slot r : ℕ) → slot_of s.view.record_is slot ≡ Held r → 0 < slot
-  above_zero ready zero r e = absurd (empty_held (sym ready.zero ∙ e))
-    where
-      empty_held : {x : ℕ} → (let y : SlotUse = Empty in y) ≡ Held x → ⊥
-      empty_held e = cc
-  above_zero ready (suc slot) r e = omega arith
-
-  -- what is held between calls is known to the agent
-  pub held_known : IsReady s.view.record_is → (h : Hold) → Holds (seat s).slots h
-      → IsKnown s.view.agent (run_heap (heap_numbers k) (seat s).seen) (id_in (seat s).slots h)
-  held_known ready h e =
-      let slot = hold_slot h e in
-      let at = slot_at s.view.record_is.slots h.slot h.row slot.0 in
-      let there = subst (λ (d : Agent). holds (slot_of d h.slot) h.row ≡ true) (sym s.mine) (ap (λ z. holds z h.row) at ∙ eq-eqb h.row h.row refl) in
-      subst (IsKnown s.view.agent (run_heap (heap_numbers k) (project (bounds_in k) s.view.journal))) (sym slot.1)
-      (mirrors.held s.view.agent h.slot h.row (above_zero ready h.slot h.row at) there)

@@ -1,6 +1,7 @@
 -- A pass that learns: what it has seen is longer, with no step of its own that is new.
 use Rattle.std.proofs.Common.{List, [], ap, append-nil, arith, inl, inr, length, length-append, refl, subst, sym, ⊎_elim, ℕ, ◌++◌, ◌∙◌, ◌≡◌, ◌∷◌}
 use mathlib.Core.List.{IsPrefix}
+use Rattle.std.proofs.lemmas.Bool.{or_right}
 use Rattle.orc_core.specs.RecordParts.{any_holds, names}
 use Rattle.orc_core.specs.declared.records.Agent.{Agent}
 use Rattle.orc_heap.specs.Allowed.{events_by}
@@ -20,7 +21,7 @@ use Rattle.orc_machine_board.specs.declared.machine.MachineShape.{MachineShape}
 use Rattle.orc_core.specs.Machine.{new_machine}
 use Rattle.orc_projection.specs.Projection.{present_ids, project}
 use Rattle.orc_sound.specs.Journals.{IsLawfulJournal}
-use Rattle.orc_reclaiming_domain.proofs.Seats.{or_right, same_fresh, same_slots}
+use Rattle.orc_reclaiming_domain.proofs.Seats.{same_fresh, same_slots}
 use Rattle.orc_reclaiming_domain.proofs.Stages.{Between, Stage, seat}
 use Rattle.orc_reclaiming_domain.proofs.Untouched.{still_between}
 use Rattle.orc_reclaiming_domain.specs.Seats.{IsReady, slot_by}

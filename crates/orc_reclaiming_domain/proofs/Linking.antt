@@ -1,6 +1,6 @@
 -- What a caller names for a change of a link, as the machine and the board ask for it.
 use Rattle.std.proofs.Common.{Bool, List, None, Option, Some, [], ap, false, refl, subst, sym, true, ℕ, ◌++◌, ◌+◌, ◌∙◌, ◌≡◌, ◌≢◌, ◌∷◌}
-use Rattle.std.proofs.lemmas.Bool.{lt-ltb}
+use Rattle.std.proofs.lemmas.Bool.{lt-ltb, or_right}
 use Rattle.std.specs.Borrow.{Bor}
 use Rattle.std.specs.Option.{option_map}
 use Rattle.std.specs.Prelude.{not, ◌&&◌}
@@ -37,7 +37,7 @@ use Rattle.orc_projection.proofs.Links.{names-some}
 use Rattle.orc_reclaiming_domain.proofs.Filling.{has_is_out}
 use Rattle.orc_reclaiming_domain.proofs.Held.{has_low, hold_has, hold_low, hold_slot, link_named, mirrors, place_named}
 use Rattle.orc_reclaiming_domain.proofs.Protecting.{either_way, target_named, true_false}
-use Rattle.orc_reclaiming_domain.proofs.Seats.{calm_forced, or_right, ready_calm, slot_holds}
+use Rattle.orc_reclaiming_domain.proofs.Seats.{calm_forced, ready_calm, slot_holds}
 use Rattle.orc_reclaiming_domain.proofs.Stages.{Between, Stage, before_lawful, before_out, before_unmarked, seat}
 use Rattle.orc_reclaiming_domain.proofs.Untouched.{untouched_before}
 use Rattle.orc_reclaiming_domain.specs.Changes.{Stores}

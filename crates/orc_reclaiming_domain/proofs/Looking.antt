@@ -3,6 +3,7 @@ use Rattle.std.proofs.Common.{Bool, List, None, Option, Some, [], ap, append_ass
 use Rattle.std.specs.List.{list_any}
 use Rattle.std.specs.Option.{option_map}
 use Rattle.std.specs.Prelude.{cond, slice_get, slice_index_or, slice_set, ◌||◌}
+use Rattle.std.proofs.lemmas.Bool.{or_right}
 use Rattle.orc_core.specs.After.{promoted}
 use Rattle.orc_core.specs.Allowed.{may_place}
 use Rattle.orc_core.specs.Machine.{new_machine, word_in}
@@ -43,12 +44,12 @@ use Rattle.orc_projection.specs.Taken.{LinksOut}
 use Rattle.orc_reclaiming_domain.proofs.Held.{place_may, place_named}
 use Rattle.orc_reclaiming_domain.proofs.Loading.{found_out, ids_same, load_may, look_event, looks_at}
 use Rattle.orc_reclaiming_domain.proofs.Protecting.{either_way, empty_slot, held_ready, promoted_fresh, promoted_full, publish_may, reload_may, still_ready, target_named, true_false, word_row}
-use Rattle.orc_reclaiming_domain.proofs.Seats.{before_keep, ids_keep, or_right, ready_calm, sets}
+use Rattle.orc_reclaiming_domain.proofs.Seats.{before_keep, ids_keep, ready_calm, sets}
 use Rattle.orc_reclaiming_domain.proofs.Setting.{clear_may, set_back, set_same, set_twice}
 use Rattle.orc_reclaiming_domain.proofs.Stages.{Between, Stage, Steps, before_lawful, before_out, before_unmarked, done_one, done_then, seat}
 use Rattle.orc_reclaiming_domain.proofs.Untouched.{still_between, untouched_more}
 use Rattle.orc_reclaiming_domain.specs.Calls.{SameParts, Unlocks}
-use Rattle.orc_reclaiming_domain.specs.OwnSteps.{HasDone, LeavesNothing}
+use Rattle.orc_board_settling.specs.OwnSteps.{HasDone, LeavesNothing}
 use Rattle.orc_reclaiming_domain.specs.Seats.{IsCalm, SetsSlot, slot_by}
 use Rattle.orc_shared_words.proofs.Events.{others_add}
 use Rattle.orc_sound.specs.Journals.{IsLawfulJournal}
@@ -102,6 +103,7 @@ module _ {D N : Type 0} {d : discipline.Ghosts D N} {k : MachineShape N} {s : St
       inc = ap (λ (e : Agent). e.inc) m1.record_is;
       dec = ap (λ (e : Agent). e.dec) m1.record_is;
       doom = ap (λ (e : Agent). e.doom) m1.record_is;
+      scan = ap (λ (e : Agent). e.scan) m1.record_is;
     }
 
     done1 : HasDone s.view.agent (LinkLoad w None ∷ []) s.view.journal t.view.journal
@@ -179,6 +181,7 @@ module _ {D N : Type 0} {d : discipline.Ghosts D N} {k : MachineShape N} {s : St
           inc = ap (λ (e : Agent). e.inc) m2.record_is ∙ loaded_same.inc;
           dec = ap (λ (e : Agent). e.dec) m2.record_is ∙ loaded_same.dec;
           doom = ap (λ (e : Agent). e.doom) m2.record_is ∙ loaded_same.doom;
+          scan = ap (λ (e : Agent). e.scan) m2.record_is ∙ loaded_same.scan;
         }
 
         second : Only [] (seat t) (seat u)
@@ -225,6 +228,7 @@ module _ {D N : Type 0} {d : discipline.Ghosts D N} {k : MachineShape N} {s : St
             inc = ap (λ (e : Agent). e.inc) m3.record_is ∙ published_same.inc;
             dec = ap (λ (e : Agent). e.dec) m3.record_is ∙ published_same.dec;
             doom = ap (λ (e : Agent). e.doom) m3.record_is ∙ published_same.doom;
+            scan = ap (λ (e : Agent). e.scan) m3.record_is ∙ published_same.scan;
           }
 
           there2 : node_place (ids_of b u.view) w ≡ Some x
@@ -371,6 +375,7 @@ module _ {D N : Type 0} {d : discipline.Ghosts D N} {k : MachineShape N} {s : St
               inc = f.inc ∙ g.inc;
               dec = f.dec ∙ g.dec;
               doom = f.doom ∙ g.doom;
+              scan = f.scan ∙ g.scan;
             }
 
             pub moved_between : Between z

@@ -2,7 +2,7 @@
 use Rattle.std.proofs.Common.{All, List, None, Option, Some, [], ap, false, length, refl, subst, suc, sym, zero, ℕ, ◌<◌, ◌∙◌, ◌≡◌}
 use Rattle.std.specs.Option.{option_map}
 use Rattle.std.specs.Prelude.{map, replicate, slice_index_or}
-use Rattle.orc_core.specs.RecordParts.{is_published}
+use Rattle.orc_core.specs.RecordParts.{is_published, scan_found}
 use Rattle.orc_core.specs.declared.records.Agent.{Agent}
 use Rattle.orc_core.specs.declared.records.SlotUse.{SlotUse}
 use Rattle.orc_core.specs.declared.records.SlotUse.TheVariants.{Empty}
@@ -42,6 +42,7 @@ nothing_ready d h = record {
   zero = ap (λ (l : List SlotUse). slice_index_or l 0 Empty) h.slots;
   published = λ k. ap (λ (l : List SlotUse). is_published (slice_index_or l k Empty)) h.slots ∙ none k 8;
   doom = h.doom;
+  found = ap scan_found h.scan;
 }
   where
     none : (k n : ℕ) → is_published (slice_index_or (replicate n Empty) k Empty) ≡ false

@@ -7,7 +7,7 @@ use Rattle.orc_core.specs.After.{promoted}
 use Rattle.orc_core.specs.Allowed.{may, may_place}
 use Rattle.orc_core.specs.Counts.{links_to}
 use Rattle.orc_core.specs.Machine.{new_machine, word_in}
-use Rattle.orc_core.specs.RecordParts.{any_holds, holds, holds_fresh, is_empty, is_published, names, slot_of}
+use Rattle.orc_core.specs.RecordParts.{any_holds, holds, holds_fresh, is_empty, is_published, names, scan_found, slot_of}
 use Rattle.orc_core.specs.declared.ops.Op.TheVariants.{LinkLoad, Publish}
 use Rattle.orc_core.specs.declared.records.Agent.{Agent}
 use Rattle.orc_core.specs.declared.records.SlotUse.{SlotUse}
@@ -33,7 +33,7 @@ use Rattle.orc_words.specs.declared.place.Word.{Word}
 use Rattle.orc_words.specs.declared.place.Word.TheVariants.{Next, Root}
 
 pub same_self : (d : Agent) → SameParts d d
-same_self d = record { enrolled = refl; slots = refl; fresh = refl; due = refl; inc = refl; dec = refl; doom = refl }
+same_self d = record { enrolled = refl; slots = refl; fresh = refl; due = refl; inc = refl; dec = refl; doom = refl; scan = refl }
 
 pub same_then : (d e f : Agent) → SameParts d e → SameParts e f → SameParts d f
 same_then d e f p q = record {
@@ -44,6 +44,7 @@ same_then d e f p q = record {
   inc = q.inc ∙ p.inc;
   dec = q.dec ∙ p.dec;
   doom = q.doom ∙ p.doom;
+  scan = q.scan ∙ p.scan;
 }
 
 pub still_ready : (d e : Agent) → SameParts d e → IsReady d → IsReady e
@@ -56,6 +57,7 @@ still_ready d e p r = record {
   zero = ap (λ (z : List SlotUse). slice_index_or z 0 Empty) p.slots ∙ r.zero;
   published = λ k. ap (λ (z : List SlotUse). is_published (slice_index_or z k Empty)) p.slots ∙ r.published k;
   doom = p.doom ∙ r.doom;
+  found = ap scan_found p.scan ∙ r.found;
 }
 
 -- a slot in which the pass shows nothing is empty, where none is only published
@@ -93,6 +95,7 @@ held_ready d e slot r above h s = still_ready (record d { slots = slice_set d.sl
   zero = set_first d.slots slot r above ∙ h.zero;
   published = λ j. set_published d.slots slot j r (h.published j);
   doom = h.doom;
+  found = h.found;
 }
 
 pub publish_may : (b : Bounds) (a : ℕ) (d : Agent) (k r : ℕ) → a < b.agents → IsCalm d → r < b.rows → 0 < k → k < 8 → slot_of d k ≡ Empty

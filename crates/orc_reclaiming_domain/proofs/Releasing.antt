@@ -7,25 +7,22 @@ use Rattle.orc_core.specs.RecordParts.{holds_fresh, is_empty, is_published, slot
 use Rattle.orc_core.specs.declared.ops.Op.TheVariants.{Clear}
 use Rattle.orc_core.specs.declared.records.SlotUse.{SlotUse}
 use Rattle.orc_core.specs.declared.records.SlotUse.TheVariants.{Empty, Held}
+use Rattle.orc_heap.proofs.Changes.{get_lt}
 use Rattle.orc_heap.specs.Slots.{Hold, Holds, id_in}
 use Rattle.orc_heap.specs.declared.discipline.Discipline as discipline
 use Rattle.orc_machine_board.specs.Kinds.{MayDo}
 use Rattle.orc_machine_board.specs.Licences.{ids_of}
 use Rattle.orc_machine_board.specs.Rules.{bounds_in}
 use Rattle.orc_machine_board.specs.declared.machine.MachineShape.{MachineShape}
-use Rattle.orc_reclaiming_domain.proofs.Held.{hold_slot, slot_at}
+use Rattle.orc_reclaiming_domain.proofs.Held.{hold_slot}
 use Rattle.orc_reclaiming_domain.proofs.Protecting.{still_ready}
 use Rattle.orc_reclaiming_domain.proofs.Seats.{ready_calm}
 use Rattle.orc_reclaiming_domain.proofs.Setting.{clear_may, set_length}
 use Rattle.orc_reclaiming_domain.proofs.Stages.{Between, Stage, seat}
 use Rattle.orc_reclaiming_domain.proofs.Untouched.{still_between}
 use Rattle.orc_reclaiming_domain.specs.Calls.{Unlocks}
+use Rattle.orc_reclaiming_domain.specs.Laws.Holding.{slot_at}
 use Rattle.orc_reclaiming_domain.specs.Seats.{IsReady}
-
-pub get_low : {A : Type 0} (xs : List A) (i : ℕ) (x : A) → slice_get xs i ≡ Some x → i < length xs
-get_low [] i x e = cc
-get_low (y ∷ ys) zero x e = omega arith
-get_low (y ∷ ys) (suc i) x e = let h = get_low ys i x e in omega arith
 
 set_zero : (slots : List SlotUse) (k : ℕ) → slice_index_or slots 0 Empty ≡ Empty → slice_index_or (slice_set slots k Empty) 0 Empty ≡ Empty
 set_zero [] k e = refl
@@ -46,7 +43,7 @@ module _ {D N : Type 0} {d : discipline.Ghosts D N} {k : MachineShape N} (s : St
   at = slot_at s.view.record_is.slots h.slot h.row (hold_slot s h held).0
 
   low : h.slot < 8
-  low = let e = between.ready.eight in let l = get_low s.view.record_is.slots h.slot (Held h.row) (hold_slot s h held).0 in omega (arith, e, l)
+  low = let e = between.ready.eight in let l = get_lt s.view.record_is.slots h.slot (Held h.row) (hold_slot s h held).0 in omega (arith, e, l)
 
   -- the slot doesn't hold the fresh row
   other : holds_fresh s.view.record_is.fresh (Held h.row) ≡ false
@@ -75,6 +72,7 @@ module _ {D N : Type 0} {d : discipline.Ghosts D N} {k : MachineShape N} (s : St
           zero = set_zero d0.slots h.slot r.zero;
           published = λ j. set_bare d0.slots h.slot j (r.published j);
           doom = r.doom;
+          found = r.found;
         }
 
     pub release_between : Between t

@@ -1,6 +1,6 @@
 -- A fresh row that is given up: its retired bit is set at the first try, since nobody else counts it.
 use Rattle.std.proofs.Common.{Bool, List, None, Option, Some, [], ap, append-nil, arith, eq-eqb, false, refl, subst, sym, true, ℕ, ◌++◌, ◌<◌, ◌^◌, ◌+◌, ◌∙◌, ◌≡◌, ◌≢◌, ◌∷◌}
-use Rattle.std.proofs.lemmas.Bool.{lt-ltb}
+use Rattle.std.proofs.lemmas.Bool.{lt-ltb, or_right}
 use Rattle.std.specs.Option.{option_map}
 use Rattle.std.specs.Prelude.{cond, if◌then◌else◌, map, slice_set, ◌&&◌, ◌==◌}
 use Rattle.orc_core.specs.Actions.{clear_word}
@@ -30,12 +30,12 @@ use Rattle.orc_reclaiming_domain.proofs.FreshRows.{fresh_between, fresh_clear, l
 use Rattle.orc_reclaiming_domain.proofs.Held.{has_low, hold_slot}
 use Rattle.orc_reclaiming_domain.proofs.Protecting.{still_ready, true_false}
 use Rattle.orc_reclaiming_domain.proofs.Releasing.{release_between, release_can}
-use Rattle.orc_reclaiming_domain.proofs.Seats.{calm_forced, or_right, puts, ready_calm, slots_keep}
+use Rattle.orc_reclaiming_domain.proofs.Seats.{calm_forced, puts, ready_calm, slots_keep}
 use Rattle.orc_reclaiming_domain.proofs.Stages.{Between, Stage, Steps, before_lawful, before_out, before_record, before_unmarked, done_none, done_one, done_then, seat, whole_lawful}
 use Rattle.orc_reclaiming_domain.proofs.Untouched.{untouched_before}
 use Rattle.orc_reclaiming_domain.proofs.Wearing.{check_may}
 use Rattle.orc_reclaiming_domain.specs.Calls.{Retires, SameParts, Unlocks}
-use Rattle.orc_reclaiming_domain.specs.OwnSteps.{HasDone, LeavesNothing, TakesInCleared}
+use Rattle.orc_board_settling.specs.OwnSteps.{HasDone, LeavesNothing, TakesInCleared}
 use Rattle.orc_reclaiming_domain.specs.Passes.{IsFreshUntouched}
 use Rattle.orc_reclaiming_domain.specs.Seats.{IsReady, seat_by, slot_by}
 use Rattle.orc_sound.specs.declared.steps.Step.{Step}
@@ -75,7 +75,7 @@ module _ {D N : Type 0} {d : discipline.Ghosts D N} {k : MachineShape N} (s : St
 
     same1 : SameParts s.view.record_is t.view.record_is
     same1 = subst (SameParts s.view.record_is) (sym m1.record_is)
-        (record { enrolled = refl; slots = refl; fresh = refl; due = refl; inc = refl; dec = refl; doom = refl })
+        (record { enrolled = refl; slots = refl; fresh = refl; due = refl; inc = refl; dec = refl; doom = refl; scan = refl })
 
     fresh_t : names t.view.record_is.fresh r ≡ true
     fresh_t = ap (λ o. names o r) same1.fresh ∙ fresh
@@ -135,6 +135,7 @@ module _ {D N : Type 0} {d : discipline.Ghosts D N} {k : MachineShape N} (s : St
               inc = ap (λ (e : Agent). e.inc) m2.record_is ∙ same1.inc;
               dec = ap (λ (e : Agent). e.dec) m2.record_is ∙ same1.dec;
               doom = ap (λ (e : Agent). e.doom) m2.record_is ∙ same1.doom;
+              scan = ap (λ (e : Agent). e.scan) m2.record_is ∙ same1.scan;
             };
             sequence = sequence_of n;
             done = done_then s.view.agent s.view.journal t.view.journal u.view.journal (CounterLoad r Check ∷ []) (SetRetired r (sequence_of n) ∷ [])
@@ -142,7 +143,7 @@ module _ {D N : Type 0} {d : discipline.Ghosts D N} {k : MachineShape N} (s : St
                 (subst (λ a. HasDone a (SetRetired r (sequence_of n) ∷ []) t.view.journal u.view.journal) m1.agent (done_one q2 None t u o m2));
           }
 
-not_some : (id : ℕ) → (let o : Option ℕ = None in o) ≡ Some id → ⊥
+pub not_some : (id : ℕ) → (let o : Option ℕ = None in o) ≡ Some id → ⊥
 not_some id e = cc
 
 module _ {D N : Type 0} {d : discipline.Ghosts D N} {k : MachineShape N} where
@@ -184,6 +185,7 @@ module _ {D N : Type 0} {d : discipline.Ghosts D N} {k : MachineShape N} where
             zero = between.ready.zero;
             published = between.ready.published;
             doom = between.ready.doom;
+            found = between.ready.found;
           };
           untouched = λ id e. absurd (not_some id (sym none ∙ e));
         };

@@ -30,7 +30,7 @@ use Rattle.orc_reclaiming_domain.proofs.Searching.{found_grows, found_since, idl
 use Rattle.orc_reclaiming_domain.specs.Causes.{IsLacking, IsOfDomain}
 use Rattle.orc_machine_board.specs.Laws.Steps.{counted_obeys, in_range}
 use Rattle.orc_machine_board.specs.Rules.{bounds_in, counted_rules}
-use Rattle.orc_reclaiming_domain.specs.Searches.{Fails, Found, Gets, Tries}
+use Rattle.orc_reclaiming_domain.specs.Searches.{Fails, Found, Gets, Idles, Tries}
 use Rattle.orc_machine_board.specs.Views.{MachineView}
 use Rattle.orc_machine_board.specs.declared.machine.MachineShape.{MachineShape}
 use Rattle.orc_shared_words.proofs.Events.{others_add}
@@ -88,13 +88,20 @@ module _ {N : Type 0} where
   pub tries_none : (b : Bounds) (begin rows : ℕ) (s : MachineView N) → Tries b begin rows 0 s s
   tries_none b begin rows s = record { idle = idle_none b s; found = λ k h. absurd (omega arith) }
 
+  -- nothing came after the tries but what the pass doesn't show
+  pub tries_then : (b : Bounds) (begin rows offset : ℕ) (s t u : MachineView N) → Tries b begin rows offset s t → Idles b t u → Tries b begin rows offset s u
+  tries_then b begin rows offset s t u p q = record {
+    idle = idle_trans b s t u p.idle q;
+    found = λ k h. subst (λ z. Found b s.agent s.journal z ((begin + k) % rows)) (sym q.journal)
+        (found_grows b s.agent s.journal t.journal q.more ((begin + k) % rows) (p.found k h));
+  }
+
   pub tries_one : (b : Bounds) (begin rows offset : ℕ) (s t u : MachineView N) → Tries b begin rows offset s t → Fails b ((begin + offset) % rows) t u
       → Tries b begin rows (offset + 1) s u
   tries_one b begin rows offset s t u p f = record {
     idle = idle_trans b s t u p.idle f.idle;
     found = λ k h. dite (dec_lt k offset)
-        (λ lt. subst (λ z. Found b s.agent s.journal z ((begin + k) % rows)) (sym f.idle.journal)
-        (found_grows b s.agent s.journal t.journal f.idle.more ((begin + k) % rows) (p.found k lt)))
+        (λ lt. (tries_then b begin rows offset s t u p f.idle).found k lt)
         (λ ge.
         let e : k ≡ offset = omega (arith, h, ge) in
         let longer = ap length p.idle.journal in
@@ -117,6 +124,7 @@ module _ {N : Type 0} where
       inc = q.same.inc ∙ p.idle.same.inc;
       dec = q.same.dec ∙ p.idle.same.dec;
       doom = q.same.doom ∙ p.idle.same.doom;
+      scan = q.same.scan ∙ p.idle.same.scan;
     };
     slots = q.slots ∙ p.idle.only.slots;
     puts = Puts-trans (seat_by b s) (seat_by b t) (seat_by b u) [] (event_by s.agent Give None ∷ []) p.idle.only.puts
@@ -131,10 +139,9 @@ module _ {N : Type 0} where
 
 module _ {D N : Type 0} {d : discipline.Ghosts D N} {k : MachineShape N} where
   -- where all rows were tried, none could be given
-  pub tries_all : (begin rows offset : ℕ) (s t : Stage d k) → rows ≡ (bounds_in k).rows → begin < rows → offset ≡ rows
-      → Tries (bounds_in k) begin rows offset s.view t.view
+  pub tries_all : (begin : ℕ) (s t : Stage d k) → begin < (bounds_in k).rows → Tries (bounds_in k) begin (bounds_in k).rows (bounds_in k).rows s.view t.view
       → InPart (λ (x : Step N). x.agent) s.view.agent s.view.journal t.view.journal (IsLacking (bounds_in k) s.view.agent t.view.journal)
-  tries_all begin rows offset s t same inside end p =
+  tries_all begin s t inside p =
       let b = bounds_in k in
       let a = s.view.agent in
       let x = s.view.journal in
@@ -142,8 +149,7 @@ module _ {D N : Type 0} {d : discipline.Ghosts D N} {k : MachineShape N} where
       let grows : IsPrefix x y = (p.idle.more, sym p.idle.journal) in
       let c = cut_at_part (λ (z : Step N). z.agent) a x y grows in
       let bounds = part_bounds (λ (z : Step N). z.agent) a x y grows in
-      let all : (r : ℕ) → r < rows → Found b a x y r = once_round (Found b a x y) begin rows inside (λ j h. p.found j (omega (arith, h, end))) in
-      let found : (r : ℕ) → r < b.rows → Found b a x y r = λ r h. all r (subst (λ z. r < z) (sym same) h) in
+      let found : (r : ℕ) → r < b.rows → Found b a x y r = once_round (Found b a x y) begin b.rows inside p.found in
       let front : take (part_begin (λ (z : Step N). z.agent) a x y) y ≡ x ++ c.gap = ap (λ n. take n y) c.begin_is
       ∙ (ap (take (length (x ++ c.gap))) c.is ∙ take-append_seam (x ++ c.gap) c.part) in
       let met = others_add counted_rules k (counted_obeys k) (signed b) a x c.gap c.others in

@@ -1,12 +1,13 @@
 -- Rows that are tried.
 use Rattle.std.proofs.Common.{List, None, Some, [], ap, append_assoc, append-nil, arith, inl, inr, length, length-append, refl, subst, suc, sym, zero, ℕ, ⊎_elim, ◌++◌, ◌<◌, ◌∙◌, ◌≡◌, ◌∷◌, ◌≤◌, ◌⊎◌, take}
 use Rattle.std.proofs.Math.Seq.{take-append_seam}
+use Rattle.std.proofs.lemmas.List.{take-append-le}
 use Rattle.std.specs.Prelude.{slice_get}
 use Rattle.orc_core.specs.Machine.{new_machine, word_in}
 use Rattle.orc_heap.proofs.Changes.{get-grown}
 use Rattle.orc_heap.proofs.Calls.{Only-trans}
 use Rattle.orc_heap.specs.OwnEvents.{Only}
-use Rattle.orc_reclaiming_domain.proofs.Gates.{OutIn, gate_between}
+use Rattle.orc_reclaiming_domain.specs.Laws.Gates.{OutIn, gate_between}
 use Rattle.orc_reclaiming_domain.proofs.Protecting.{same_self, same_then}
 use Rattle.orc_reclaiming_domain.proofs.Seats.{only, step_events}
 use Rattle.orc_reclaiming_domain.proofs.Stages.{Stage, seat}
@@ -27,11 +28,6 @@ use Rattle.orc_words.specs.declared.place.Word.TheVariants.{Gate}
 pub get_seam : {A : Type 0} (xs : List A) (x : A) (ys : List A) → slice_get (xs ++ x ∷ ys) (length xs) ≡ Some x
 get_seam [] x ys = refl
 get_seam (y ∷ xs) x ys = get_seam xs x ys
-
-pub take_front : {A : Type 0} (n : ℕ) (xs ys : List A) → n ≤ length xs → take n (xs ++ ys) ≡ take n xs
-take_front zero xs ys h = refl
-take_front (suc n) [] ys h = absurd (omega arith)
-take_front (suc n) (x ∷ xs) ys h = ap (λ z. x ∷ z) (take_front n xs ys (omega arith))
 
 module _ {N : Type 0} where
   pub idle_trans : (b : Bounds) (s t u : MachineView N) → Idles b s t → Idles b t u → Idles b s u
@@ -60,7 +56,7 @@ module _ {N : Type 0} where
     place = f.place;
     later = f.later;
     within = let w = f.within in omega (arith, length-append after more);
-    taken = subst (λ z. IsTaken b (run_of b z) r) (sym (take_front f.place after more f.within)) f.taken;
+    taken = subst (λ z. IsTaken b (run_of b z) r) (sym (take-append-le f.place after more f.within)) f.taken;
   }
 
   pub found_since : (b : Bounds) (a : ℕ) (first before after : List (Step N)) (r : ℕ) → length first ≤ length before → Found b a before after r

@@ -1,5 +1,6 @@
 -- What a step does to what a pass shows.
 use Rattle.std.proofs.Common.{Bool, List, None, Option, Some, [], ap, append_assoc, eq-eqb, false, refl, subst, suc, sym, true, zero, ℕ, ◌++◌, ◌∙◌, ◌≡◌, ◌∷◌}
+use Rattle.std.proofs.lemmas.Bool.{or_right}
 use Rattle.std.specs.Option.{option_map}
 use Rattle.std.specs.Prelude.{if◌then◌else◌, map, slice_get, slice_set, ◌||◌}
 use Rattle.orc_core.specs.Allowed.{forced, in_order}
@@ -35,21 +36,6 @@ use Rattle.orc_reclaiming_domain.specs.Seats.{IsCalm, IsReady, SetsSlot, slot_by
 use Rattle.orc_shared_words.proofs.Events.{others_add}
 use Rattle.orc_shared_words.proofs.Runs.{own_of-append}
 use Rattle.orc_sound.specs.declared.steps.Step.{Step}
-
--- the row in a slot, and its node
-pub held_slot : (p : PresentIds) (slots : List SlotUse) (k : ℕ) (x : SlotNode) → slice_get (map (slot_by p) slots) k ≡ Some (Some x)
-    → (slice_get slots k ≡ Some (Held x.row)) × (x.id ≡ p.node x.row)
-held_slot p [] k x e = cc
-held_slot p (Empty ∷ ss) zero x e = cc
-held_slot p (Published r ∷ ss) zero x e = cc
-held_slot p (Held r ∷ ss) zero x e =
-    let same : record { row = r; id = p.node r } ≡ x = cc in
-    (ap (λ (y : SlotNode). Some (Held y.row)) same, sym (ap (λ (y : SlotNode). y.id) same) ∙ ap (λ (y : SlotNode). p.node y.row) same)
-held_slot p (s ∷ ss) (suc k) x e = held_slot p ss k x e
-
-pub or_right : (x y : Bool) → y ≡ true → (x || y) ≡ true
-or_right true y e = refl
-or_right false y e = e
 
 pub slot_holds : (slots : List SlotUse) (k r : ℕ) → slice_get slots k ≡ Some (Held r) → any_holds slots r ≡ true
 slot_holds [] k r e = cc

@@ -1,9 +1,9 @@
 -- Slots that are cleared and set.
 use Rattle.std.proofs.Common.{List, None, Some, [], ap, false, refl, subst, suc, sym, true, zero, ℕ, ◌<◌, ◌∙◌, ◌≡◌, ◌∷◌}
-use Rattle.std.proofs.lemmas.Bool.{lt-ltb}
+use Rattle.std.proofs.lemmas.Bool.{lt-ltb, ltb-true}
 use Rattle.std.specs.Prelude.{length, nat_lt, not, slice_get, slice_index_or, slice_set, ◌&&◌, ◌||◌}
 use Rattle.orc_core.proofs.Within.{and_both, may_parts}
-use Rattle.orc_core.specs.Allowed.{forced, may}
+use Rattle.orc_core.specs.Allowed.{may}
 use Rattle.orc_core.specs.RecordParts.{any_holds, holds, holds_fresh, is_empty, slot_of}
 use Rattle.orc_core.specs.declared.ops.Op.TheVariants.{Clear, TakeIn}
 use Rattle.orc_core.specs.declared.records.Agent.{Agent}
@@ -16,7 +16,7 @@ use Rattle.orc_machine_board.specs.declared.machine.MachineShape.{MachineShape}
 use Rattle.orc_reclaiming_domain.proofs.Seats.{calm_forced, only, set_then, sets}
 use Rattle.orc_reclaiming_domain.proofs.Stages.{Stage, Steps, done_one, done_then, seat}
 use Rattle.orc_reclaiming_domain.specs.Calls.{Unlocks}
-use Rattle.orc_reclaiming_domain.specs.OwnSteps.{HasDone}
+use Rattle.orc_board_settling.specs.OwnSteps.{HasDone}
 use Rattle.orc_reclaiming_domain.specs.Seats.{IsCalm}
 use Rattle.orc_words.specs.Bounds.{Bounds}
 
@@ -66,21 +66,26 @@ clear_may b a k e h eight calm full free =
     let two : not (holds_fresh e.fresh (slot_of e k)) ≡ true = ap not free in
     λ i. ((agent i && on i) && first i) && ((low i && one i) && two i)
 
--- after a slot was cleared, the handover beside it may be taken in
+-- a calm agent may take in what was handed over beside an empty slot
+pub take_in_may : (b : Bounds) (a k : ℕ) (e : Agent) → a < b.agents → IsCalm e → k < 8 → is_empty (slot_of e k) ≡ true → may b 0 a (TakeIn k) e ≡ true
+take_in_may b a k e h calm eight free =
+    let agent = lt-ltb a b.agents h in
+    let on = calm.enrolled in
+    let first = calm_forced e (TakeIn k) calm in
+    let low = lt-ltb k 8 eight in
+    λ i. ((agent i && on i) && first i) && (low i && free i)
+
+-- so it may after it cleared the slot
 pub may_take_in : (b : Bounds) (a k : ℕ) (d e : Agent) → IsCalm d → may b 0 a (Clear k) d ≡ true → e ≡ record d { slots = slice_set d.slots k Empty }
     → may b 0 a (TakeIn k) e ≡ true
 may_take_in b a k d e calm can is =
     let parts = may_parts b 0 a (Clear k) d can in
     let eight = (and_both (nat_lt k 8) (not (is_empty (slot_of d k)))
     (and_both (nat_lt k 8 && not (is_empty (slot_of d k))) (not (holds_fresh d.fresh (slot_of d k))) parts.fits).0).0 in
-    let agent = lt-ltb a b.agents parts.agent in
-    let empty = set_empty d.slots k in
-    let on = calm.enrolled in
     let next : Agent = record d { slots = slice_set d.slots k Empty } in
-    let first : forced next (TakeIn k) ≡ true = calm_forced next (TakeIn k)
-    (record { enrolled = calm.enrolled; due = calm.due; inc = calm.inc; dec = calm.dec }) in
-    let free : is_empty (slot_of next k) ≡ true = ap is_empty empty in
-    subst (λ (z : Agent). may b 0 a (TakeIn k) z ≡ true) (sym is) (λ i. ((agent i && on i) && first i) && (eight i && free i))
+    subst (λ (z : Agent). may b 0 a (TakeIn k) z ≡ true) (sym is)
+    (take_in_may b a k next parts.agent (record { enrolled = calm.enrolled; due = calm.due; inc = calm.inc; dec = calm.dec })
+    (ltb-true k 8 eight) (ap is_empty (set_empty d.slots k)))
 
 module _ {D N : Type 0} {d : discipline.Ghosts D N} {k : MachineShape N} (s t u : Stage d k) (slot n o : ℕ) (one : Steps (Clear slot) s n t)
     (two : Steps (TakeIn slot) t o u) where
@@ -98,6 +103,7 @@ module _ {D N : Type 0} {d : discipline.Ghosts D N} {k : MachineShape N} (s t u 
           inc = ap (λ (e : Agent). e.inc) two.record_is ∙ ap (λ (e : Agent). e.inc) one.record_is;
           dec = ap (λ (e : Agent). e.dec) two.record_is ∙ ap (λ (e : Agent). e.dec) one.record_is;
           doom = ap (λ (e : Agent). e.doom) two.record_is ∙ ap (λ (e : Agent). e.doom) one.record_is;
+          scan = ap (λ (e : Agent). e.scan) two.record_is ∙ ap (λ (e : Agent). e.scan) one.record_is;
         };
         done = done_then s.view.agent s.view.journal t.view.journal u.view.journal (Clear slot ∷ []) (TakeIn slot ∷ [])
             (done_one (asks (Clear slot)) None s t n one)

@@ -2,6 +2,8 @@
 use Rattle.std.proofs.Common.{List, Option, [], ap, append_assoc, append-nil, refl, subst, sym, ℕ, ◌++◌, ◌<◌, ◌∙◌, ◌≡◌, ◌∷◌}
 use Rattle.std.specs.Prelude.{map}
 use mathlib.Core.List.{IsPrefix}
+use Rattle.orc_board_settling.proofs.Joins.{ops-append}
+use Rattle.orc_board_settling.specs.OwnSteps.{HasDone}
 use Rattle.orc_core.specs.Machine.{new_machine, record_at}
 use Rattle.orc_core.specs.declared.ops.Op.{Op}
 use Rattle.orc_core.specs.declared.records.Agent.{Agent}
@@ -19,7 +21,6 @@ use Rattle.orc_machine_board.specs.declared.machine.MachineShape.{MachineShape}
 use Rattle.orc_machine_board.specs.declared.machine.Request.{Request}
 use Rattle.orc_projection.proofs.Mirrored.{StoresUnmarked-append}
 use Rattle.orc_projection.specs.Projection.{StoresUnmarked, project}
-use Rattle.orc_reclaiming_domain.specs.OwnSteps.{HasDone}
 use Rattle.orc_reclaiming_domain.specs.Passes.{IsFreshUntouched}
 use Rattle.orc_reclaiming_domain.specs.Seats.{IsReady, seat_by}
 use Rattle.orc_shared_words.proofs.Runs.{by_own, own_of-append}
@@ -100,10 +101,6 @@ module _ {D N : Type 0} where
             ∙ by_own (λ (x : Step N). x.agent) s.view.agent its_step [] refl));
       }
 
-map-append : {A B : Type 0} (f : A → B) (xs ys : List A) → map f (xs ++ ys) ≡ map f xs ++ map f ys
-map-append f [] ys = refl
-map-append f (x ∷ xs) ys = ap (λ l. f x ∷ l) (map-append f xs ys)
-
 module _ {N : Type 0} where
   pub done_none : (a : ℕ) (j : List (Step N)) → HasDone a [] j j
   done_none a j = record { part = []; is = sym (append-nil j); own = refl }
@@ -112,9 +109,7 @@ module _ {N : Type 0} where
   done_then a x y z ops more p q = record {
     part = p.part ++ q.part;
     is = q.is ∙ (ap (λ l. l ++ q.part) p.is ∙ append_assoc x p.part q.part);
-    own = ap (map (λ (s : Step N). s.op)) (own_of-append (λ (s : Step N). s.agent) a p.part q.part)
-        ∙ (map-append (λ (s : Step N). s.op) (own_of (λ (s : Step N). s.agent) a p.part) (own_of (λ (s : Step N). s.agent) a q.part)
-        ∙ (λ i. p.own i ++ q.own i));
+    own = ops-append a p.part q.part ∙ (λ i. p.own i ++ q.own i);
   }
 
   pub done_later : (a : ℕ) (x y : List (Step N)) (ops : List Op) → HasDone a ops x y → IsPrefix x y

@@ -27,7 +27,7 @@ use Rattle.orc_reclaiming_domain.proofs.Seats.{by-append}
 use Rattle.orc_reclaiming_domain.proofs.Stages.{Stage, seat}
 use Rattle.orc_reclaiming_domain.proofs.Untouched.{still_untouched}
 use Rattle.orc_reclaiming_domain.specs.Changes.{Checks}
-use Rattle.orc_reclaiming_domain.specs.OwnSteps.{LeavesNothing}
+use Rattle.orc_board_settling.specs.OwnSteps.{LeavesNothing}
 use Rattle.orc_reclaiming_domain.specs.Passes.{IsFreshUntouched}
 use Rattle.orc_reclaiming_domain.specs.Searches.{Idles}
 use Rattle.orc_words.specs.Bounds.{Bounds}

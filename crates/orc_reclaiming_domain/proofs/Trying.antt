@@ -75,7 +75,7 @@ module _ {D N : Type 0} {d : discipline.Ghosts D N} {k : MachineShape N} (s t : 
 
   look_idle : Idles b s.view t.view
   look_idle = idles (asks (GateLook r)) s t n m1 refl (parts s.view.record_is _ t.view.record_is m1.record_is
-      (record { enrolled = refl; slots = refl; fresh = refl; due = refl; inc = refl; dec = refl; doom = refl }))
+      (record { enrolled = refl; slots = refl; fresh = refl; due = refl; inc = refl; dec = refl; doom = refl; scan = refl }))
 
   -- the gate was seen out, or at the limit
   pub look_fails : ((n % 2 == 1) ≡ true) ⊎ (b.limit ≤ n / 2) → Fails b r s.view t.view
@@ -92,7 +92,7 @@ module _ {D N : Type 0} {d : discipline.Ghosts D N} {k : MachineShape N} (s t : 
     count_idle : Idles b s.view u.view
     count_idle = idle_trans b s.view t.view u.view look_idle (idles (asks (CounterLoad r Check)) t u c m2 refl
         (parts t.view.record_is _ u.view.record_is m2.record_is
-        (record { enrolled = refl; slots = refl; fresh = refl; due = refl; inc = refl; dec = refl; doom = refl })))
+        (record { enrolled = refl; slots = refl; fresh = refl; due = refl; inc = refl; dec = refl; doom = refl; scan = refl })))
 
     -- where the counter is read
     before2 : t.view.journal ++ m2.met ≡ j1 ++ x1 ∷ m2.met
@@ -141,6 +141,7 @@ module _ {D N : Type 0} {d : discipline.Ghosts D N} {k : MachineShape N} (s t : 
           inc = ap (λ (e : Agent). e.inc) m3.record_is;
           dec = ap (λ (e : Agent). e.dec) m3.record_is;
           doom = ap (λ (e : Agent). e.doom) m3.record_is;
+          scan = ap (λ (e : Agent). e.scan) m3.record_is;
         }))
 
         -- where the gate is tried
@@ -195,6 +196,7 @@ module _ {D N : Type 0} {d : discipline.Ghosts D N} {k : MachineShape N} (s t : 
               inc = ap (λ (e : Agent). e.inc) m3.record_is ∙ old.inc;
               dec = ap (λ (e : Agent). e.dec) m3.record_is ∙ old.dec;
               doom = ap (λ (e : Agent). e.doom) m3.record_is ∙ old.doom;
+              scan = ap (λ (e : Agent). e.scan) m3.record_is ∙ old.scan;
             };
             slots = ap (map (slot_by (ids_of b w.view))) slots3 ∙ (slots_keep q None u w o m3 ∙ count_idle.only.slots);
             puts = Puts-trans (seat s) (seat u) (seat w) [] (event_by s.view.agent Give None ∷ []) count_idle.only.puts

@@ -2,6 +2,7 @@
 use Rattle.std.proofs.Common.{List, Option, [], ap, false, subst, sym, true, ℕ, ◌++◌, ◌∙◌, ◌≡◌}
 use Rattle.std.specs.List.{list_any}
 use Rattle.std.specs.Option.{option_map}
+use Rattle.std.proofs.lemmas.Bool.{or_right}
 use Rattle.orc_core.specs.RecordParts.{any_holds, names}
 use Rattle.orc_heap.proofs.Fresh.{own_node_told}
 use Rattle.orc_heap.proofs.Stays.{allowed-left, allowed-right}
@@ -20,7 +21,7 @@ use Rattle.orc_machine_board.specs.declared.machine.MachineShape.{MachineShape}
 use Rattle.orc_machine_board.specs.declared.machine.Request.{Request}
 use Rattle.orc_projection.proofs.Links.{names-some}
 use Rattle.orc_projection.specs.Projection.{present_ids, project}
-use Rattle.orc_reclaiming_domain.proofs.Seats.{before_keep, or_right}
+use Rattle.orc_reclaiming_domain.proofs.Seats.{before_keep}
 use Rattle.orc_reclaiming_domain.proofs.Stages.{Between, Stage, seat}
 use Rattle.orc_reclaiming_domain.specs.Seats.{IsReady}
 use Rattle.orc_shared_words.proofs.Events.{others_add}

@@ -66,6 +66,7 @@ module _ {D N : Type 0} {d : discipline.Ghosts D N} {k : MachineShape N} (s : St
         inc = ap (λ (e : Agent). e.inc) m.record_is;
         dec = ap (λ (e : Agent). e.dec) m.record_is;
         doom = ap (λ (e : Agent). e.doom) m.record_is;
+        scan = ap (λ (e : Agent). e.scan) m.record_is;
       });
       leaves = record { ops = CounterLoad h.row Check ∷ []; done = done_one (asks (CounterLoad h.row Check)) None s t n m; taken_in = tt };
     }

@@ -6,7 +6,7 @@ use Rattle.orc_core.specs.declared.records.Agent.{Agent}
 use Rattle.orc_core.specs.declared.records.SlotUse.TheVariants.{Empty}
 use Rattle.orc_heap.specs.OwnEvents.{Puts}
 use Rattle.orc_machine_board.specs.Views.{MachineView}
-use Rattle.orc_reclaiming_domain.specs.OwnSteps.{HasDone}
+use Rattle.orc_board_settling.specs.OwnSteps.{HasDone}
 use Rattle.orc_reclaiming_domain.specs.Seats.{SetsSlot, seat_by}
 use Rattle.orc_words.specs.Bounds.{Bounds}
 
@@ -19,6 +19,7 @@ pub record SameParts (d e : Agent) : Type 0 where
   pub inc : e.inc ≡ d.inc
   pub dec : e.dec ≡ d.dec
   pub doom : e.doom ≡ d.doom
+  pub scan : e.scan ≡ d.scan
 
 module _ {N : Type 0} where
   -- the slot was cleared, and what was handed over beside it was taken in

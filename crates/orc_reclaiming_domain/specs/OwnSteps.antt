@@ -1,34 +1,18 @@
--- The steps that a call's agent makes; and that what was handed over beside a slot is taken in once the slot is clear.
-use Rattle.std.specs.Prelude.{List, [], map, ℕ, ◌++◌, ◌∷◌, ◌≡◌}
+-- What the agent of a call takes in.
+use Rattle.std.specs.Prelude.{List, None, Some, slice_get, ℕ, ◌++◌, ◌∷◌, ◌≡◌}
+use Rattle.orc_board_settling.specs.OwnSteps.{HasDone}
 use Rattle.orc_core.specs.declared.ops.Op.{Op}
-use Rattle.orc_core.specs.declared.ops.Op.TheVariants.{Clear, TakeIn}
-use Rattle.orc_machine_board.specs.Passes.{steps_of}
+use Rattle.orc_core.specs.declared.ops.Op.TheVariants.{TakeIn}
+use Rattle.orc_heap.specs.Seats.{Seat}
 use Rattle.orc_sound.specs.declared.steps.Step.{Step}
 
--- the first of these is this op
-abbrev pub BeginsWith : Op → List Op → Type 0
-BeginsWith op [] = ⊥
-BeginsWith op (first ∷ rest) = first ≡ op
-
--- right after each Clear of a slot comes the TakeIn of that slot
-abbrev pub TakesInCleared : List Op → Type 0
-TakesInCleared [] = Unit {0}
-TakesInCleared (Clear slot ∷ ops) = BeginsWith (TakeIn slot) ops × TakesInCleared ops
-TakesInCleared (op ∷ ops) = TakesInCleared ops
-
 module _ {N : Type 0} where
-  -- the ops of an agent's steps, in order
-  abbrev pub ops_of : ℕ → List (Step N) → List Op
-  ops_of agent j = map (λ (s : Step N). s.op) (steps_of agent j)
+  -- in what is new, the agent took in what was handed over beside this slot
+  pub record HasTakenIn (agent slot : ℕ) (before after : List (Step N)) : Type 0 where
+    pub earlier : List Op
+    pub later : List Op
+    pub done : HasDone agent (earlier ++ TakeIn slot ∷ later) before after
 
-  -- the journal has gone on, and the agent's own ops in what is new are these
-  pub record HasDone (agent : ℕ) (ops : List Op) (before after : List (Step N)) : Type 0 where
-    pub part : List (Step N)
-    pub is : after ≡ before ++ part
-    pub own : ops_of agent part ≡ ops
-
-  -- of each slot that the agent cleared in what is new, it took in next what was handed over beside it
-  pub record LeavesNothing (agent : ℕ) (before after : List (Step N)) : Type 0 where
-    pub ops : List Op
-    pub done : HasDone agent ops before after
-    pub taken_in : TakesInCleared ops
+  -- in what is new, the pass took in what was handed over beside each slot in which it holds nothing
+  abbrev pub TakesInFree : Seat N → List (Step N) → List (Step N) → Type 0
+  TakesInFree s before after = (slot : ℕ) → slice_get s.slots slot ≡ Some None → HasTakenIn s.agent slot before after

@@ -53,3 +53,7 @@ module _ {N : Type 0} where
   pub record Tries (b : Bounds) (begin rows offset : ℕ) (s t : MachineView N) : Type 0 where
     pub idle : Idles b s t
     pub found : (k : ℕ) → k < offset → Found b s.agent s.journal t.journal ((begin + k) % rows)
+
+  -- all rows were tried, once round from `begin` on, and none could be given
+  abbrev pub TriesAll : Bounds → ℕ → MachineView N → MachineView N → Type 0
+  TriesAll b begin s t = Tries b begin b.rows b.rows s t

@@ -1,7 +1,7 @@
 -- What a pass shows to the callers of a domain, by its agent's record and the present nodes of the rows in it.
 use Rattle.std.specs.Option.{option_map}
 use Rattle.std.specs.Prelude.{List, None, Option, Some, false, length, map, slice_set, true, ℕ, ◌≡◌}
-use Rattle.orc_core.specs.RecordParts.{is_published, slot_of}
+use Rattle.orc_core.specs.RecordParts.{is_published, scan_found, slot_of}
 use Rattle.orc_core.specs.declared.records.Agent.{Agent}
 use Rattle.orc_core.specs.declared.records.SlotUse.{SlotUse}
 use Rattle.orc_core.specs.declared.records.SlotUse.TheVariants.{Empty, Held, Published}
@@ -33,7 +33,8 @@ seat_by b s = record {
   fresh = option_map (ids_of b s).node s.record_is.fresh;
 }
 
--- the record of a pass between calls: no change is pending, no slot only names its row, slot 0 is empty, and no row is to be freed
+-- the record of a pass between calls: no change is pending, no slot only names its row, slot 0 is empty, no row is to be freed,
+-- and no scan has found its row
 pub record IsReady (d : Agent) : Type 0 where
   pub enrolled : d.enrolled ≡ true
   pub eight : length d.slots ≡ 8
@@ -43,6 +44,7 @@ pub record IsReady (d : Agent) : Type 0 where
   pub zero : slot_of d 0 ≡ Empty
   pub published : (k : ℕ) → is_published (slot_of d k) ≡ false
   pub doom : d.doom ≡ None
+  pub found : scan_found d.scan ≡ false
 
 -- no change is pending, so that a step of any kind may come next
 pub record IsCalm (d : Agent) : Type 0 where

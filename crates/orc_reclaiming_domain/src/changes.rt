@@ -1,24 +1,22 @@
-//! Calls that change links, and the parts of which they are made.
+//! The parts of which the calls that change links are made.
 
-ghost use Rattle.std.specs.Prelude.{◌≡◌, ◌+◌, ◌∷◌, [], IfErr, IfOk, None, Some, false, true, ℕ};
-ghost use mathlib.Core.List.{IsPrefix};
+ghost use Rattle.std.specs.Prelude.{◌≡◌, ◌+◌, IfErr, IfOk, None, Some, false, true, ℕ};
 ghost use Rattle.orc_core.specs.Allowed.{may_change, may_target};
 ghost use Rattle.orc_core.specs.RecordParts.{checked_below, names};
 ghost use Rattle.orc_domain.specs.Rows.{row_link};
-ghost use Rattle.orc_heap.specs.Calls.{IsWorn, MayAim, MayMove, RefusesAim, RefusesSwing, Swings, aim_of};
-ghost use Rattle.orc_heap.specs.OwnEvents.{Only};
-ghost use Rattle.orc_heap.specs.Seats.{HoldsFresh, HoldsPlace, HoldsTarget, HoldsWant, IsNotFresh};
+ghost use Rattle.orc_heap.specs.Calls.{IsWorn, MayMove, RefusesSwing, Swings};
+ghost use Rattle.orc_heap.specs.Seats.{HoldsPlace, HoldsWant, IsNotFresh};
 ghost use Rattle.orc_heap.specs.Slots.{Holds};
 ghost use Rattle.orc_history.specs.Parts.{InPart};
 ghost use Rattle.orc_machine_board.specs.Licences.{AimAllowed};
 ghost use Rattle.orc_machine_board.specs.Views.{Belongs, shows};
 ghost use Rattle.orc_reclaiming_domain.specs.Causes.{IsWornIn};
 ghost use Rattle.orc_reclaiming_domain.specs.Changes.{Checks, Stores};
-ghost use Rattle.orc_reclaiming_domain.specs.OwnSteps.{LeavesNothing};
-ghost use Rattle.orc_reclaiming_domain.specs.Passes.{IsFreshUntouched, IsPassOf, domain_bounds, domain_numbers, journal_of, seat_of};
+ghost use Rattle.orc_board_settling.specs.OwnSteps.{LeavesNothing};
+ghost use Rattle.orc_reclaiming_domain.specs.Passes.{IsFreshUntouched, domain_bounds, domain_numbers};
 ghost use Rattle.orc_reclaiming_domain.specs.Seats.{IsReady, seat_by};
 
-use crate::domain::{OrcDomain, OrcPass};
+use crate::domain::OrcDomain;
 use orc_core::{CounterUse, SEQUENCE};
 use orc_domain::{row_link, word_at};
 use orc_fault::Spent;
@@ -27,67 +25,6 @@ use orc_machine_board::MachineBoardPass;
 use orc_words::RowLink;
 
 impl<D: Discipline> OrcDomain<D> {
-    /// Sets the link of the fresh node. Spent leaves it as it was.
-    ///
-    /// # Errors
-    ///
-    /// `Spent` where the sequence of the target's row was read as the shape's limit + 64 or more.
-    pub fn aim(&self, p: &mut OrcPass<D>, fresh: &Held, to: Option<&Held>) -> Result<(), Spent>
-        requires pass { IsPassOf self.now p.old }
-        requires fresh { HoldsFresh (seat_of self.now p.old) fresh.now }
-        requires target { HoldsTarget (seat_of self.now p.old) to }
-        requires allowed { MayAim (D.may (domain_numbers self.now)) (domain_numbers self.now) (seat_of self.now p.old) fresh.now to }
-        ensures pass { IsPassOf self.now p.new }
-        ensures later { IsPrefix (journal_of p.old) (journal_of p.new) }
-        ensures aimed { IfOk result (λ _. Only (aim_of (seat_of self.now p.old) fresh.now to.entry ∷ []) (seat_of self.now p.old) (seat_of self.now p.new)) }
-        ensures none { IfErr result (λ e. Only [] (seat_of self.now p.old) (seat_of self.now p.new)) }
-        ensures spent { IfErr result (λ e. RefusesAim (seat_of self.now p.old).slots to.entry e (seat_of self.now p.new).seen) }
-        ensures worn { IfErr result (λ e. InPart (λ s. s.agent) (seat_of self.now p.old).agent (journal_of p.old) (journal_of p.new)
-            (IsWornIn (domain_bounds self.now) (seat_of self.now p.old).agent e (journal_of p.new))) }
-        ensures taken_in { LeavesNothing (seat_of self.now p.old).agent (journal_of p.old) (journal_of p.new) }
-    {
-        let Some(h) = to else {
-            self.store(&mut p.pass, fresh.row(), None);
-            return Ok(());
-        };
-        self.check(&mut p.pass, h)?;
-        self.store(&mut p.pass, fresh.row(), Some(h.row()));
-        Ok(())
-    }
-
-    /// One compare-and-swap of a link: true where it was `from`, and then it is `to`. Spent leaves it as it was.
-    ///
-    /// # Errors
-    ///
-    /// `Spent` where `to` has another target than `from`, and the sequence of its row was read as the shape's limit + 64
-    /// or more.
-    pub fn swing(
-        &self,
-        p: &mut OrcPass<D>,
-        place: &At,
-        from: &Want,
-        to: &Want,
-        note: Option<D::Note>,
-    ) -> Result<bool, Spent>
-        requires pass { IsPassOf self.now p.old }
-        requires place { HoldsPlace (domain_numbers self.now).roots (seat_of self.now p.old).slots place.now }
-        requires linked { IsNotFresh (seat_of self.now p.old) place.now }
-        requires links { HoldsWant (seat_of self.now p.old).slots from.now × HoldsWant (seat_of self.now p.old).slots to.now }
-        requires allowed { MayMove (D.may (domain_numbers self.now)) (domain_numbers self.now) (seat_of self.now p.old) place.now from.now to.now note }
-        ensures pass { IsPassOf self.now p.new }
-        ensures later { IsPrefix (journal_of p.old) (journal_of p.new) }
-        ensures swung { IfOk result (λ done. Swings place.now from.now to.now note (seat_of self.now p.old) done (seat_of self.now p.new)) }
-        ensures none { IfErr result (λ e. Only [] (seat_of self.now p.old) (seat_of self.now p.new)) }
-        ensures spent { IfErr result (λ e. RefusesSwing (seat_of self.now p.old).slots from.now to.now e (seat_of self.now p.new).seen) }
-        ensures worn { IfErr result (λ e. InPart (λ s. s.agent) (seat_of self.now p.old).agent (journal_of p.old) (journal_of p.new)
-            (IsWornIn (domain_bounds self.now) (seat_of self.now p.old).agent e (journal_of p.new))) }
-        ensures taken_in { LeavesNothing (seat_of self.now p.old).agent (journal_of p.old) (journal_of p.new) }
-    {
-        self.prepare(&mut p.pass, from, to)?;
-        let done = self.exchange(&mut p.pass, place, from, to, note);
-        Ok(done)
-    }
-
     // Reads the sequence of a row that is to be linked.
     pub(crate) fn check(&self, p: &mut MachineBoardPass<D>, h: &Held) -> Result<(), Spent>
         requires belongs { Belongs self.now.board p.old }

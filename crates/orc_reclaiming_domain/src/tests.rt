@@ -7,7 +7,7 @@ ghost use Rattle.orc_reclaiming_domain.specs.Passes.{IsPassOf, domain_numbers, s
 
 use super::*;
 use orc_fault::NoMemory;
-use orc_heap::{AnyFit, At, Discipline, Looked, Seed, Want};
+use orc_heap::{AnyFit, At, Discipline, Links, Looked, Seed, Want};
 use orc_machine_board::MachineBoardPass;
 use orc_words::Shape;
 use std::alloc::Global;

@@ -9,7 +9,7 @@ ghost use Rattle.orc_reclaiming_domain.specs.Passes.{IsPassOf, domain_numbers, s
 use super::other::counter_of;
 use super::{Domain, Pass, new_domain, next_pass, stepping};
 use orc_fault::Spent;
-use orc_heap::{At, Held, Want};
+use orc_heap::{At, Held, Links, Want};
 use orc_words::Shape;
 use std::test::Fail;
 use std::thread::{Threads, join_mut};
@@ -31,7 +31,6 @@ fn swing_root(
     ensures fresh { IfOk result (λ done. (seat_of domain.now p.new).fresh ≡ (if done
         then unless_node (seat_of domain.now p.old).fresh (link_in (seat_of domain.now p.old).slots to.now).to else (seat_of domain.now p.old).fresh)) }
 {
-    domain.what_a_pass_shows(p);
     domain.swing(p, &At::Root(root), from, to, None)
 }
 
@@ -50,7 +49,6 @@ fn link_two(domain: &Domain, p: &mut Pass) -> bool
         domain.release(p, one);
         return false;
     };
-    domain.what_a_pass_shows(p);
     let Ok(two) = domain.give(p, 2, 9, 10) else {
         domain.release(p, one);
         return false;

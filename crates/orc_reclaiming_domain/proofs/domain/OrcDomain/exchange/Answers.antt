@@ -1,16 +1,27 @@
 use Rattle.std.proofs.Common.{subst, sym}
 use Rattle.orc_core.specs.declared.ops.Op.TheVariants.{LinkCas}
+use Rattle.orc_domain.specs.Rows.{row_link, word_at}
 use Rattle.orc_machine_board.specs.Kinds.{MayDo, asks}
 use Rattle.orc_machine_board.specs.Licences.{MoveAllowed}
 use Rattle.orc_machine_board.specs.Rules.{heap_numbers}
-use Rattle.orc_machine_board.specs.Views.{Makes}
+use Rattle.orc_machine_board.specs.Views.{Makes, shows}
 use Rattle.orc_reclaiming_domain.proofs.Exchanging.{countable, missed_leaves, missed_untouched, misses, swung, swung_leaves, swung_untouched}
 use Rattle.orc_reclaiming_domain.proofs.Linking.{cas_can, move_allowed}
 use Rattle.orc_reclaiming_domain.proofs.Stages.{Between, stage}
 use Rattle.orc_reclaiming_domain.specs.Passes.{domain_bounds}
 use Rattle.orc_words.specs.declared.packed.RowLink.{RowLink}
 use Rattle.orc_words.specs.declared.place.Word.{Word}
+use Rattle.orc_reclaiming_domain.proofs.domain.OrcDomain.exchange.Given.{Over}
+use Rattle.orc_reclaiming_domain.proofs.domain.OrcDomain.exchange.Goals.{After-link_cas-moved}
 use Rattle.orc_reclaiming_domain.proofs.domain.OrcDomain.exchange.Goals as goal
+
+-- the exchange, in the words that the caller names
+made : (g : Over) (c : After-link_cas-moved g) → Makes (domain_bounds c.args.self.now)
+    (asks (LinkCas (word_at c.args.place.now) (row_link c.args.from.now) (row_link c.args.to.now))) c.args.note (shows c.args.p.now)
+    c.link_cas-moved.result (shows c.link_cas-moved.new.p)
+made g c = subst (λ (z : Word × RowLink × RowLink). Makes (domain_bounds c.args.self.now) (asks (LinkCas z.0 z.1 z.2)) c.args.note (shows c.args.p.now)
+    c.link_cas-moved.result (shows c.link_cas-moved.new.p))
+    (λ i. (c.word_at-word.ensures i, c.row_link-old.ensures i, c.row_link-new.ensures i)) c.link_cas-moved.ensures.makes
 
 pub link_cas-moved-requires-clause-allowed : goal.link_cas-moved-requires-clause-allowed
 link_cas-moved-requires-clause-allowed g c =
@@ -36,9 +47,7 @@ returns-then-moved-ne1-clause-untouched g c =
     let e = c.link_cas-moved.ensures in
     let s = stage g.D.Discipline k _ _ r.belongs.keeps in
     let t = stage g.D.Discipline k _ _ e.belongs.keeps in
-    let m = subst (λ (z : Word × RowLink × RowLink). Makes (domain_bounds c.args.self.now) (asks (LinkCas z.0 z.1 z.2)) c.args.note
-    s.view c.link_cas-moved.result t.view)
-    (λ i. (c.word_at-word.ensures i, c.row_link-old.ensures i, c.row_link-new.ensures i)) e.makes in
+    let m = made g (goal.at.returns-then-moved-ne1-clause-untouched g c).After-link_cas-moved in
     let is : Between s = record { ready = r.ready; untouched = r.untouched } in
     missed_untouched s t c.args.place.now c.args.from.now c.args.to.now c.args.note c.link_cas-moved.result m is r.place r.linked r.links.0 r.links.1
     c.if-moved-ne1.true
@@ -50,9 +59,7 @@ returns-then-moved-ne1-clause-swung g c =
     let e = c.link_cas-moved.ensures in
     let s = stage g.D.Discipline k _ _ r.belongs.keeps in
     let t = stage g.D.Discipline k _ _ e.belongs.keeps in
-    let m = subst (λ (z : Word × RowLink × RowLink). Makes (domain_bounds c.args.self.now) (asks (LinkCas z.0 z.1 z.2)) c.args.note
-    s.view c.link_cas-moved.result t.view)
-    (λ i. (c.word_at-word.ensures i, c.row_link-old.ensures i, c.row_link-new.ensures i)) e.makes in
+    let m = made g (goal.at.returns-then-moved-ne1-clause-swung g c).After-link_cas-moved in
     let is : Between s = record { ready = r.ready; untouched = r.untouched } in
     misses s t c.args.place.now c.args.from.now c.args.to.now c.args.note c.link_cas-moved.result m is r.place r.linked r.links.0 r.links.1
     c.if-moved-ne1.true
@@ -64,9 +71,7 @@ returns-then-moved-ne1-clause-leaves g c =
     let e = c.link_cas-moved.ensures in
     let s = stage g.D.Discipline k _ _ r.belongs.keeps in
     let t = stage g.D.Discipline k _ _ e.belongs.keeps in
-    let m = subst (λ (z : Word × RowLink × RowLink). Makes (domain_bounds c.args.self.now) (asks (LinkCas z.0 z.1 z.2)) c.args.note
-    s.view c.link_cas-moved.result t.view)
-    (λ i. (c.word_at-word.ensures i, c.row_link-old.ensures i, c.row_link-new.ensures i)) e.makes in
+    let m = made g (goal.at.returns-then-moved-ne1-clause-leaves g c).After-link_cas-moved in
     let is : Between s = record { ready = r.ready; untouched = r.untouched } in
     missed_leaves s t c.args.place.now c.args.from.now c.args.to.now c.args.note c.link_cas-moved.result m is r.place r.linked r.links.0 r.links.1
     c.if-moved-ne1.true
@@ -78,9 +83,7 @@ complete-requires-clause-countable g c =
     let e = c.link_cas-moved.ensures in
     let s = stage g.D.Discipline k _ _ r.belongs.keeps in
     let t = stage g.D.Discipline k _ _ e.belongs.keeps in
-    let m = subst (λ (z : Word × RowLink × RowLink). Makes (domain_bounds c.args.self.now) (asks (LinkCas z.0 z.1 z.2)) c.args.note
-    s.view c.link_cas-moved.result t.view)
-    (λ i. (c.word_at-word.ensures i, c.row_link-old.ensures i, c.row_link-new.ensures i)) e.makes in
+    let m = made g (goal.at.complete-requires-clause-countable g c).After-link_cas-moved in
     let is : Between s = record { ready = r.ready; untouched = r.untouched } in
     countable s t c.args.place.now c.args.from.now c.args.to.now c.args.note c.link_cas-moved.result m is r.place r.linked r.links.0 r.links.1
     c.if-moved-ne1.false
@@ -92,9 +95,7 @@ returns-clause-untouched g c =
     let e = c.link_cas-moved.ensures in
     let s = stage g.D.Discipline k _ _ r.belongs.keeps in
     let t = stage g.D.Discipline k _ _ e.belongs.keeps in
-    let m = subst (λ (z : Word × RowLink × RowLink). Makes (domain_bounds c.args.self.now) (asks (LinkCas z.0 z.1 z.2)) c.args.note
-    s.view c.link_cas-moved.result t.view)
-    (λ i. (c.word_at-word.ensures i, c.row_link-old.ensures i, c.row_link-new.ensures i)) e.makes in
+    let m = made g (goal.at.returns-clause-untouched g c).After-link_cas-moved in
     let is : Between s = record { ready = r.ready; untouched = r.untouched } in
     let u = stage g.D.Discipline k _ _ c.complete.ensures.belongs.keeps in
     swung_untouched s t c.args.place.now c.args.from.now c.args.to.now c.args.note c.link_cas-moved.result m is r.place r.linked r.links.0 r.links.1
@@ -107,9 +108,7 @@ returns-clause-swung g c =
     let e = c.link_cas-moved.ensures in
     let s = stage g.D.Discipline k _ _ r.belongs.keeps in
     let t = stage g.D.Discipline k _ _ e.belongs.keeps in
-    let m = subst (λ (z : Word × RowLink × RowLink). Makes (domain_bounds c.args.self.now) (asks (LinkCas z.0 z.1 z.2)) c.args.note
-    s.view c.link_cas-moved.result t.view)
-    (λ i. (c.word_at-word.ensures i, c.row_link-old.ensures i, c.row_link-new.ensures i)) e.makes in
+    let m = made g (goal.at.returns-clause-swung g c).After-link_cas-moved in
     let is : Between s = record { ready = r.ready; untouched = r.untouched } in
     let u = stage g.D.Discipline k _ _ c.complete.ensures.belongs.keeps in
     swung s t c.args.place.now c.args.from.now c.args.to.now c.args.note c.link_cas-moved.result m is r.place r.linked r.links.0 r.links.1
@@ -122,9 +121,7 @@ returns-clause-leaves g c =
     let e = c.link_cas-moved.ensures in
     let s = stage g.D.Discipline k _ _ r.belongs.keeps in
     let t = stage g.D.Discipline k _ _ e.belongs.keeps in
-    let m = subst (λ (z : Word × RowLink × RowLink). Makes (domain_bounds c.args.self.now) (asks (LinkCas z.0 z.1 z.2)) c.args.note
-    s.view c.link_cas-moved.result t.view)
-    (λ i. (c.word_at-word.ensures i, c.row_link-old.ensures i, c.row_link-new.ensures i)) e.makes in
+    let m = made g (goal.at.returns-clause-leaves g c).After-link_cas-moved in
     let is : Between s = record { ready = r.ready; untouched = r.untouched } in
     let u = stage g.D.Discipline k _ _ c.complete.ensures.belongs.keeps in
     swung_leaves s t c.args.place.now c.args.from.now c.args.to.now c.args.note c.link_cas-moved.result m is r.place r.linked r.links.0 r.links.1

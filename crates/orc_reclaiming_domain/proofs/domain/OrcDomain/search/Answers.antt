@@ -1,10 +1,9 @@
 use Rattle.std.proofs.Common.{ap, arith, refl, subst, ◌∙◌, ◌%◌, ◌+◌, ◌<◌, ◌≡◌}
 use Rattle.std.proofs.Math.Nat.{mod-lt}
 use Rattle.orc_machine_board.specs.Views.{shows}
-use Rattle.orc_reclaiming_domain.proofs.Rounds.{tries_all, tries_gets, tries_none, tries_one}
-use Rattle.orc_reclaiming_domain.proofs.Stages.{stage}
+use Rattle.orc_reclaiming_domain.proofs.Rounds.{tries_gets, tries_none, tries_one}
 use Rattle.orc_reclaiming_domain.specs.Passes.{domain_bounds}
-use Rattle.orc_reclaiming_domain.specs.Searches.{Gets}
+use Rattle.orc_reclaiming_domain.specs.Searches.{Gets, Tries}
 use Rattle.orc_words.specs.Bounds.{Bounds}
 use Rattle.orc_reclaiming_domain.proofs.domain.OrcDomain.search.Goals as goal
 
@@ -39,14 +38,12 @@ loop-offset-preserved g c =
           (shows c.args.p.now) (shows c.loop-offset.p) (shows c.try_take.new.p) i.2 (c.if-try_take.ensures.lost refl),
     )
 
-pub returns-clause-lacking : goal.returns-clause-lacking
-returns-clause-lacking g c e =
+pub returns-clause-tried : goal.returns-clause-tried
+returns-clause-tried g c e =
     let i = c.loop-offset.invariant in
-    let k = c.args.self.now.board.words.shape in
-    let s = stage g.D.Discipline k _ _ c.requires.belongs.keeps in
-    let t = stage g.D.Discipline k _ _ i.0.keeps in
+    let b = domain_bounds c.args.self.now in
     let low = c.loop-offset-test.false in
     let high = c.loop-offset.auto.offset-end in
-    let inside : c.args.begin < c.rows-rows.result = let h = c.requires.begin in let r = i.1 in omega (arith, h, r) in
     let end : c.loop-offset.offset ≡ c.rows-rows.result = omega (arith, low, high) in
-    tries_all c.args.begin c.rows-rows.result c.loop-offset.offset s t i.1 inside end i.2
+    subst (λ z. Tries b c.args.begin z z (shows c.args.p.now) (shows c.loop-offset.p)) i.1
+    (subst (λ z. Tries b c.args.begin c.rows-rows.result z (shows c.args.p.now) (shows c.loop-offset.p)) end i.2)
