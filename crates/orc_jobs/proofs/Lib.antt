@@ -7,3 +7,5 @@ pub mod GrammarLaws
 pub mod GoodLinesLemmas
 pub mod JobValues
 pub mod CauseOrLine
+pub mod GeneratedLines
+pub mod GeneratedText

@@ -3,4 +3,5 @@ pub mod Numbers
 pub mod JobGrammar
 pub mod JobValue
 pub mod GoodLines
+pub mod Generated
 pub mod OneRecord

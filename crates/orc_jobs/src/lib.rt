@@ -2,6 +2,8 @@
 #![tactic(auto)]
 
 mod cause;
+mod generated;
+mod generated_text;
 mod laws;
 mod line;
 mod lines;
@@ -14,6 +16,8 @@ mod text;
 mod value;
 
 pub use cause::{Cause, JobsFault};
+pub use generated::make_lines;
+pub use generated_text::{generated_lines_are_read, lines_text};
 pub use laws::{records_are_determined, values_are_determined};
 pub use line::{Job, Line};
 pub use lines::Lines;

@@ -5,7 +5,10 @@ ghost use Rattle.orc_jobs.specs.JobValue.{IsJobValue, word_count};
 ghost use Rattle.orc_jobs.specs.Line.{IsDrop, IsPost, id_of, posts_in, text_size};
 ghost use Rattle.orc_jobs.specs.Numbers.{IsNumber, SpellsNumbers};
 
-use crate::{Cause, Job, JobsFault, Line, Lines, Text, job_value, read_jobs};
+use crate::generated::drawn;
+use crate::{
+    Cause, Job, JobsFault, Line, Lines, Text, job_value, lines_text, make_lines, read_jobs,
+};
 use std::alloc::Global;
 use std::process::Abort;
 use std::test::Fail;
@@ -237,6 +240,34 @@ fn keeps_lists(rt: HostRuntime) -> Result<(), Fail> {
             assert_eq!(rt; text.bytes(), b"hi".as_slice());
         }
         Line::Drop { .. } => assert!(rt; false, "a post was kept"),
+    }
+    Ok(())
+}
+
+#[test]
+fn draws_from_one(rt: HostRuntime) {
+    assert_eq!(rt; drawn(1), 1_082_269_761);
+    assert_eq!(rt; drawn(1_082_269_761), 1_152_992_998_833_853_505);
+}
+
+#[test]
+fn generates_two_lines(rt: HostRuntime) -> Result<(), Fail> {
+    let lines = make_lines(rt.alloc(), 1, 2)?;
+    let text = lines_text(rt.alloc(), &lines)?;
+    let wanted = b"post,0,bytes,x\npost,1,bytes,xxxxx\n";
+    assert_eq!(rt; text.bytes(), wanted.as_slice());
+    Ok(())
+}
+
+#[test]
+fn the_most_generated_lines_are_read(rt: HostRuntime) -> Result<(), Fail> {
+    let lines = make_lines(rt.alloc(), u32::MAX, 60_000)?;
+    let text = lines_text(rt.alloc(), &lines)?;
+    let bytes = text.bytes();
+    assert!(rt; bytes.len() <= MOST_BYTES);
+    match read_jobs(rt.alloc(), bytes) {
+        Ok(read) => assert_eq!(rt; read.len(), 60_000),
+        Err(fault) => assert!(rt; false, "{fault:?}"),
     }
     Ok(())
 }

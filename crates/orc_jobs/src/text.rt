@@ -37,6 +37,13 @@ impl Text {
         Ok(Text { items })
     }
 
+    // These bytes; it takes no memory.
+    pub(crate) fn from_vec(items: Vec<u8>) -> Text
+        ensures { result ≡ items.items }
+    {
+        Text { items }
+    }
+
     /// The bytes of a string; it takes no memory.
     pub fn from_string(string: String) -> Text
         ensures { result ≡ string_bytes string }

@@ -19,7 +19,8 @@ number_in low high default (Some text) =
 -- the mode that the option's word names
 abbrev pub mode_in : Option Text → Mode
 mode_in None = mode.Run
-mode_in (Some text) = if bytes_eq text (codes "replay") then mode.Replay else mode.Run
+mode_in (Some text) =
+    if bytes_eq text (codes "make") then mode.Make else (if bytes_eq text (codes "replay") then mode.Replay else mode.Run)
 
 -- the settings that the matches give
 abbrev pub settings_in : List Row → Settings
@@ -28,6 +29,8 @@ settings_in rows = record {
   posters = number_in 1 8 1 (one_of (codes "posters") rows);
   takers = number_in 0 7 0 (one_of (codes "takers") rows);
   rows = number_in 8 65535 65535 (one_of (codes "rows") rows);
+  seed = number_in 1 4294967295 1 (one_of (codes "seed") rows);
+  lines = number_in 1 60000 20000 (one_of (codes "lines") rows);
 }
 
 -- each number lies in the range of its option
@@ -37,6 +40,9 @@ pub record AreInRange (s : Settings) : Type 0 where
   pub few_takers : s.takers ≤ 7
   pub some_rows : 8 ≤ s.rows
   pub few_rows : s.rows ≤ 65535
+  pub some_seed : 1 ≤ s.seed
+  pub some_lines : 1 ≤ s.lines
+  pub few_lines : s.lines ≤ 60000
 
 -- `clap` takes the words, and its matches give these settings
 pub record Gives (words : List Text) (s : Settings) : Type 0 where

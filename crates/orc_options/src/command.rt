@@ -8,11 +8,11 @@ use clap::builder::ValueParser;
 use clap::{Arg, Command};
 use std::alloc::{AllocError, Global};
 
-static MODES: [&str; 2] = ["run", "replay"];
+static MODES: [&str; 3] = ["run", "make", "replay"];
 
 // The words of the modes.
 fn mode_words<'a>() -> &'a [&'a str]
-    ensures { map (λ n. n.now) result.now ≡ codes "run" ∷ codes "replay" ∷ [] }
+    ensures { map (λ n. n.now) result.now ≡ codes "run" ∷ codes "make" ∷ codes "replay" ∷ [] }
 {
     MODES.as_slice()
 }
@@ -47,5 +47,7 @@ pub(crate) fn command<'a>(alloc: Global) -> Result<Command<'a>, AllocError>
     let command = command.arg(choice_option(alloc, "mode", "run", mode_words()))?;
     let command = command.arg(number_option(alloc, "posters", "1", 1, 8))?;
     let command = command.arg(number_option(alloc, "takers", "0", 0, 7))?;
-    command.arg(number_option(alloc, "rows", "65535", 8, 65535))
+    let command = command.arg(number_option(alloc, "rows", "65535", 8, 65535))?;
+    let command = command.arg(number_option(alloc, "seed", "1", 1, 4294967295))?;
+    command.arg(number_option(alloc, "lines", "20000", 1, 60000))
 }

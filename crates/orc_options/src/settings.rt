@@ -16,6 +16,8 @@ use std::alloc::Global;
 pub enum Mode {
     /// Run a job file, and write the report.
     Run,
+    /// Write a job file that is generated.
+    Make,
     /// Play a trace of the machine, and write what it leaves.
     Replay,
 }
@@ -31,6 +33,10 @@ pub struct Settings {
     pub takers: u32,
     /// `--rows`, 8 to 65,535: how many rows each container has; 65,535, where it isn't given.
     pub rows: u32,
+    /// `--seed`, 1 to 4,294,967,295: what the lines are generated from; 1, where it isn't given.
+    pub seed: u32,
+    /// `--lines`, 1 to 60,000: how many lines are generated; 20,000, where it isn't given.
+    pub lines: u32,
 }
 
 /// Why words give no settings.
@@ -64,6 +70,7 @@ fn mode_of(word: Option<&str>) -> Mode
     ensures { result ≡ mode_in (option_map (λ s. s.now) word.entry) }
 {
     match word {
+        Some("make") => Mode::Make,
         Some("replay") => Mode::Replay,
         _ => Mode::Run,
     }
@@ -110,6 +117,8 @@ fn settings_in(matches: &ArgMatches<'_>) -> Settings
         posters: number_of(matches, "posters", 1, 8, 1),
         takers: number_of(matches, "takers", 0, 7, 0),
         rows: number_of(matches, "rows", 8, 65535, 65535),
+        seed: number_of(matches, "seed", 1, 4294967295, 1),
+        lines: number_of(matches, "lines", 1, 60000, 20000),
     }
 }
 

@@ -20,11 +20,29 @@ const DEFAULTS: Settings = Settings {
     posters: 1,
     takers: 0,
     rows: 65535,
+    seed: 1,
+    lines: 20000,
 };
 
 #[test]
 fn words_give_settings(rt: HostRuntime) -> Result<(), Fail> {
-    let given: [(&[&str], Settings); 7] = [
+    let given: [(&[&str], Settings); 9] = [
+        (
+            &["--mode=make", "--seed=4294967295", "--lines", "60000"],
+            Settings {
+                mode: Mode::Make,
+                seed: 4294967295,
+                lines: 60000,
+                ..DEFAULTS
+            },
+        ),
+        (
+            &["--lines=1", "--seed", "1"],
+            Settings {
+                lines: 1,
+                ..DEFAULTS
+            },
+        ),
         (&[], DEFAULTS),
         (
             &["--mode", "replay"],
@@ -85,10 +103,15 @@ fn words_are_refused(rt: HostRuntime) -> Result<(), Fail> {
         "--rows=4294967304",
         "--rows= 8",
         "--mode=Run",
-        "--mode=make",
+        "--mode=trial",
+        "--mode=mak",
         "--mode",
         "--row=8",
-        "--seed=1",
+        "--seed=0",
+        "--seed=4294967296",
+        "--lines=0",
+        "--lines=60001",
+        "--line=1",
         "x",
     ] {
         let got = settings_of(rt.alloc(), &words_of(rt.alloc(), &[word])?);

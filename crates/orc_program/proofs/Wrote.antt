@@ -1,5 +1,5 @@
 -- What a mode was to write, as what the program was to write.
-use Rattle.std.proofs.Common.{◌≡◌, ◌∙◌, ◌<◌, ◌⊎◌, List, ℕ, Option, Some, refl, sym, subst, inl, inr, IfSome, length}
+use Rattle.std.proofs.Common.{◌≡◌, ◌≢◌, ◌∙◌, ◌<◌, ◌⊎◌, List, ℕ, Option, Some, refl, sym, subst, inl, inr, IfSome, length}
 use Rattle.orc_jobs.specs.JobGrammar.{IsFileOf}
 use Rattle.orc_program.specs.declared.ended.Ended.{Ended}
 use Rattle.orc_options.specs.declared.settings.Mode.{Mode}
@@ -45,6 +45,7 @@ kept_report settings left finished ended text h k = record {
 pub ModeWrites-told : (m : Mode) (settings : Settings) (left : Option (List ℕ)) (bytes : List ℕ) (ended : Ended) (text : List ℕ) → Told left bytes
     → ModeWrites m settings (Some bytes) ended text → ModeWrites m settings left ended text
 ModeWrites-told mode.Run settings left bytes ended text told (inl h) = inl (HasReported-told settings left bytes ended text told h)
+ModeWrites-told mode.Make settings left bytes ended text told (inl h) = inl h
 ModeWrites-told mode.Replay settings left bytes ended text told (inl (new, tells)) = inl (new, of-told left bytes (λ b. TellsReplay b text) told tells)
 ModeWrites-told m settings left bytes ended text told (inr (new, refuses)) = inr (new, of-told left bytes (λ b. IsRefusal m b text) told refuses)
 
@@ -54,7 +55,8 @@ pub replay_writes : (settings : Settings) (bytes : List ℕ) (ended : Ended) (te
 replay_writes settings bytes ended text new (inl tells) = inl (new, tells)
 replay_writes settings bytes ended text new (inr names) = inr (new, inr names)
 
--- bytes past the limit are refused in each mode
-pub refuses_size : (m : Mode) (bytes : List ℕ) → input_limit < length bytes → IsRefusal m bytes input_too_large
-refuses_size mode.Run bytes h = inl (inl h, refl)
-refuses_size mode.Replay bytes h = inl (h, refl)
+-- bytes past the limit are refused in each mode that reads
+pub refuses_size : (m : Mode) (bytes : List ℕ) → m ≢ mode.Make → input_limit < length bytes → IsRefusal m bytes input_too_large
+refuses_size mode.Run bytes reads h = inl (inl h, refl)
+refuses_size mode.Make bytes reads h = absurd (reads refl)
+refuses_size mode.Replay bytes reads h = inl (h, refl)

@@ -1,5 +1,6 @@
 -- What the program was to write.
 use Rattle.std.specs.Prelude.{◌≡◌, ◌⊎◌, List, ℕ, Option, IfSome}
+use Rattle.orc_jobs.specs.Generated.{generated, text_of_lines}
 use Rattle.orc_trace.specs.declared.answers.Replayed.{Replayed}
 use Rattle.orc_trace.specs.Replay.{IsReplay}
 use Rattle.orc_trace.specs.Answers.{replay_line}
@@ -17,9 +18,14 @@ pub record TellsReplay (bytes text : List ℕ) : Type 0 where
   pub is : IsReplay bytes played
   pub says : text ≡ replay_line played
 
--- the mode's whole text of the bytes that were left: the report of what has ended, or what a replay tells
+-- the text of the lines that are generated from the settings' seed, as many as they say
+abbrev pub made_text : Settings → List ℕ
+made_text settings = text_of_lines (generated settings.seed settings.lines)
+
+-- the mode's whole text of the bytes that were left: the report of what has ended, the generated job file, or what a replay tells
 abbrev pub Tells : Mode → Settings → Option (List ℕ) → Ended → List ℕ → Type 0
 Tells mode.Run settings left ended text = HasReported settings left ended text
+Tells mode.Make settings left ended text = IsNew ended × (text ≡ made_text settings)
 Tells mode.Replay settings left ended text = IsNew ended × IfSome left (λ bytes. TellsReplay bytes text)
 
 -- the text was to be written in this mode: its whole text, or the line of a refusal, and then nothing has ended

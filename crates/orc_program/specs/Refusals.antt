@@ -37,6 +37,7 @@ malformed_line place why = codes "line " ++ decimal place ++ codes ": " ++ cause
 -- more bytes than an input may have, or, in mode run, more records than a job file may have
 abbrev pub IsTooLarge : Mode → List ℕ → Type 0
 IsTooLarge mode.Run bytes = (input_limit < length bytes) ⊎ Refuses bytes fault.TooMany
+IsTooLarge mode.Make bytes = ⊥
 IsTooLarge mode.Replay bytes = input_limit < length bytes
 
 -- the text names the first record of the bytes that is outside the grammar, and its cause
@@ -58,4 +59,5 @@ pub record NamesFault (bytes text : List ℕ) : Type 0 where
 -- the text is the line by which this mode refuses the bytes: for their size, for a record, or as a trace
 abbrev pub IsRefusal : Mode → List ℕ → List ℕ → Type 0
 IsRefusal mode.Run bytes text = (IsTooLarge mode.Run bytes × (text ≡ input_too_large)) ⊎ NamesRecord bytes text
+IsRefusal mode.Make bytes text = ⊥
 IsRefusal mode.Replay bytes text = (IsTooLarge mode.Replay bytes × (text ≡ input_too_large)) ⊎ NamesFault bytes text

@@ -1,9 +1,10 @@
-//! The program as one call: a job file is read, worked through and reported, or a trace is played.
+//! The program as one call: a job file is read, worked through and reported, or generated, or a trace is played.
 #![tactic(auto)]
 
 mod answer;
 mod ended;
 mod jobs_mode;
+mod make_mode;
 mod run_mode;
 mod streams;
 mod top_call;

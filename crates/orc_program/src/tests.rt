@@ -207,6 +207,31 @@ fn a_board_of_eight_rows(rt: HostRuntime) -> Result<(), Fail> {
 }
 
 #[test]
+fn makes_job_files(rt: HostRuntime) -> Result<(), Fail> {
+    let words = words_of(rt.alloc(), &["--mode", "make", "--seed=1", "--lines", "2"])?;
+    for (room, written, status) in [
+        (1000, "post,0,bytes,x\npost,1,bytes,xxxxx\n", 0),
+        (5, "post,", 5),
+    ] {
+        // A first read would fail.
+        let ran = run_with(
+            &rt,
+            rt.alloc(),
+            &words,
+            FIVE_LINES,
+            5,
+            &[0],
+            room,
+            &[],
+            status,
+            written.as_bytes(),
+        )?;
+        assert!(&rt; !ran);
+    }
+    Ok(())
+}
+
+#[test]
 fn replays(rt: HostRuntime) -> Result<(), Fail> {
     let words = words_of(rt.alloc(), &["--mode", "replay"])?;
     let cases: [(&[u8], u8, &[u8]); 6] = [

@@ -15,7 +15,7 @@ ghost use Rattle.orc_options.specs.declared.settings.Mode.{Mode};
 ghost use Rattle.orc_options.specs.declared.settings.Settings.{Settings};
 ghost use Rattle.orc_program.specs.Ended.{IsNew};
 ghost use Rattle.orc_program.specs.Refusals.{IsTooLarge, NamesFault, NamesRecord, input_limit, input_too_large, malformed_line, words_refused};
-ghost use Rattle.orc_program.specs.Outcomes.{Tells, WasToWrite};
+ghost use Rattle.orc_program.specs.Outcomes.{Tells, WasToWrite, made_text};
 
 use crate::run_mode::run_mode;
 use crate::writing::refuse_words;
@@ -30,11 +30,12 @@ use std::sync::Wait;
 use std::thread::Threads;
 
 /// In mode run, reads a job file, works through it with posters and takers on threads and writes the report; in mode replay,
-/// reads a trace, plays it and writes what it leaves; or writes why not. The words are read by `clap`, as `settings_of` says.
+/// reads a trace, plays it and writes what it leaves; in mode make, reads nothing and writes a generated job file; or writes
+/// why not. The words are read by `clap`, as `settings_of` says.
 ///
 /// | Status | Comes | Written |
 /// |---|---|---|
-/// | 0 | done | the report, or the line of the census |
+/// | 0 | done | the report, the job file, or the line of the census |
 /// | 2 | `clap` refuses the words for another cause than want of memory; help and a version count as refused | `words refused` |
 /// | 3 | a record is outside the grammar | `line N: CAUSE` |
 /// | 4 | a read failed | nothing |
@@ -60,10 +61,11 @@ pub fn orc_main<R: Threads + Wait + Sync, S: Source, K: Sink, G: Gate + Sync>(
     ensures done { result ≡ 0 → (s : Settings) × (text : List ℕ) × Gives words.now s × Tells s.mode s (S.left source.old) ended.new text
         × Appends (K.written sink.old) (K.written sink.new) text }
 
-    // What is read: nothing at refused words, no more than one byte past the limit, and all that there is where the bytes are judged.
+    // What is read: nothing at refused words and in mode make, no more than one byte past the limit, and all that there is where the bytes are judged.
     ensures words_first { RefusesWords words.now → (S.left source.new ≡ S.left source.old) × (S.faults source.new ≡ S.faults source.old) }
     ensures most_read { TakesAtMost (input_limit + 1) (S.left source.old) (S.left source.new) }
-    ensures all_read { (result ≡ 0) ⊎ (result ≡ 3) ⊎ (result ≡ 8) → IsAtEnd (S.left source.new) }
+    ensures nothing_read { AskFor words.now Mode.Make → (S.left source.new ≡ S.left source.old) × (S.faults source.new ≡ S.faults source.old) }
+    ensures all_read { ¬ AskFor words.now Mode.Make → (result ≡ 0) ⊎ (result ≡ 3) ⊎ (result ≡ 8) → IsAtEnd (S.left source.new) }
     ensures many_read { result ≡ 6 → IfSome (S.left source.old) (λ bytes. length bytes ≤ input_limit → IsAtEnd (S.left source.new)) }
 
     // Each refusal: why it came, and what was written.
@@ -97,6 +99,9 @@ pub fn orc_main<R: Threads + Wait + Sync, S: Source, K: Sink, G: Gate + Sync>(
         → length bytes ≤ input_limit → IsFileOf lines bytes
         → ¬ Rose (S.faults source.old) (S.faults source.new) → ¬ Rose (K.faults sink.old) (K.faults sink.new)
         → (result ≡ 0) ⊎ (result ≡ 7) }
+    ensures made { AskFor words.now Mode.Make → (result ≡ 0) ⊎ (result ≡ 5) ⊎ (result ≡ 7) }
+    ensures complete_make { (s : Settings) → Gives words.now s → s.mode ≡ Mode.Make → ¬ Rose (K.faults sink.old) (K.faults sink.new)
+        → ((result ≡ 0) × Appends (K.written sink.old) (K.written sink.new) (made_text s)) ⊎ (result ≡ 7) }
     ensures complete_replay { (bytes : List ℕ) (played : Replayed) → S.left source.old ≡ Some bytes → AskFor words.now Mode.Replay
         → length bytes ≤ input_limit → IsReplay bytes played
         → ¬ Rose (S.faults source.old) (S.faults source.new) → ¬ Rose (K.faults sink.old) (K.faults sink.new)

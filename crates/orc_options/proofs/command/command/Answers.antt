@@ -14,8 +14,10 @@ returns c =
     let a1 = c.in_ok-command.ensures.shape c.choice_option.ensures.local ∙ ap₂ with_rule a0 c.choice_option.ensures.rule in
     let a2 = c.in_ok-command-2.ensures.shape c.number_option.ensures.local ∙ ap₂ with_rule a1 c.number_option.ensures.rule in
     let a3 = c.in_ok-command-3.ensures.shape c.number_option-2.ensures.local ∙ ap₂ with_rule a2 c.number_option-2.ensures.rule in
-    IfOk-weaker c.arg-4.result _ _ (λ d h. record {
+    let a4 = c.in_ok-command-4.ensures.shape c.number_option-3.ensures.local ∙ ap₂ with_rule a3 c.number_option-3.ensures.rule in
+    let a5 = c.in_ok-command-5.ensures.shape c.number_option-4.ensures.local ∙ ap₂ with_rule a4 c.number_option-4.ensures.rule in
+    IfOk-weaker c.arg-6.result _ _ (λ d h. record {
       modes = modes;
       mode_words = c.mode_words.ensures;
-      app = h.shape c.number_option-3.ensures.local ∙ ap₂ with_rule a3 c.number_option-3.ensures.rule;
-    }) c.arg-4.ensures
+      app = h.shape c.number_option-5.ensures.local ∙ ap₂ with_rule a5 c.number_option-5.ensures.rule;
+    }) c.arg-6.ensures

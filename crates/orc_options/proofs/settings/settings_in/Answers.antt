@@ -12,4 +12,6 @@ returns-clause-says c =
     let posters = c.number_of.ensures.says ∙ ap (number_in 1 8 1) (one_text-rows f (codes "posters")) in
     let takers = c.number_of-2.ensures.says ∙ ap (number_in 0 7 0) (one_text-rows f (codes "takers")) in
     let rows = c.number_of-3.ensures.says ∙ ap (number_in 8 65535 65535) (one_text-rows f (codes "rows")) in
-    λ i. record { mode = mode i; posters = posters i; takers = takers i; rows = rows i }
+    let seed = c.number_of-4.ensures.says ∙ ap (number_in 1 4294967295 1) (one_text-rows f (codes "seed")) in
+    let lines = c.number_of-5.ensures.says ∙ ap (number_in 1 60000 20000) (one_text-rows f (codes "lines")) in
+    λ i. record { mode = mode i; posters = posters i; takers = takers i; rows = rows i; seed = seed i; lines = lines i }

@@ -116,3 +116,38 @@ pub returns-in-Err-Words-clause-complete_replay : goal.returns-in-Err-Words-clau
 returns-in-Err-Words-clause-complete_replay g c bytes played told asks few is =
     let refuses : Refuses c.args.words.now = search rules in
     λ no_read no_write. absurd (never_both _ asks.0 asks.1 refuses)
+
+pub returns-in-Ok-clause-nothing_read : goal.returns-in-Ok-clause-nothing_read
+returns-in-Ok-clause-nothing_read g c asks = c.run_mode.ensures.nothing_read (asked _ c.in-Ok.settings _ c.in-Ok.ensures.gives asks)
+
+pub returns-in-Ok-clause-all_read : goal.returns-in-Ok-clause-all_read
+returns-in-Ok-clause-all_read g c other = c.run_mode.ensures.all_read (λ make. other (c.in-Ok.settings, c.in-Ok.ensures.gives, make))
+
+pub returns-in-Ok-clause-made : goal.returns-in-Ok-clause-made
+returns-in-Ok-clause-made g c asks = c.run_mode.ensures.made (asked _ c.in-Ok.settings _ c.in-Ok.ensures.gives asks)
+
+pub returns-in-Ok-clause-complete_make : goal.returns-in-Ok-clause-complete_make
+returns-in-Ok-clause-complete_make g c s gives make none =
+    let same = one_settings _ c.in-Ok.settings s c.in-Ok.ensures.gives gives in
+    rw (← same) (c.run_mode.ensures.complete_make (rw same make) none)
+
+pub returns-in-Err-Words-clause-nothing_read : goal.returns-in-Err-Words-clause-nothing_read
+returns-in-Err-Words-clause-nothing_read g c asks = (refl, refl)
+
+pub returns-in-Err-Words-clause-all_read : goal.returns-in-Err-Words-clause-all_read
+returns-in-Err-Words-clause-all_read g c other (inl zero) =
+    absurd (only_words _ 0 c.refuse_words.ensures.statuses zero (λ e. omega (arith, e)) (λ e. omega (arith, e)))
+returns-in-Err-Words-clause-all_read g c other (inr (inl three)) =
+    absurd (only_words _ 3 c.refuse_words.ensures.statuses three (λ e. omega (arith, e)) (λ e. omega (arith, e)))
+returns-in-Err-Words-clause-all_read g c other (inr (inr eight)) =
+    absurd (only_words _ 8 c.refuse_words.ensures.statuses eight (λ e. omega (arith, e)) (λ e. omega (arith, e)))
+
+pub returns-in-Err-Words-clause-made : goal.returns-in-Err-Words-clause-made
+returns-in-Err-Words-clause-made g c asks =
+    let refuses : Refuses c.args.words.now = search rules in
+    absurd (never_both _ asks.0 asks.1 refuses)
+
+pub returns-in-Err-Words-clause-complete_make : goal.returns-in-Err-Words-clause-complete_make
+returns-in-Err-Words-clause-complete_make g c s gives make none =
+    let refuses : Refuses c.args.words.now = search rules in
+    absurd (never_both _ s gives refuses)
