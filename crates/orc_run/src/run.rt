@@ -7,7 +7,7 @@ ghost use Rattle.orc_run.specs.Journals.{GivesEachRowOnce};
 ghost use Rattle.orc_run.specs.Runs.{HasQueueJournal, HasSetJournal, RepliesFollow};
 
 use crate::containers::{make_queue, make_set};
-use crate::desks::{fresh_desks, room_for_passes};
+use crate::desks::room_for_passes;
 use crate::ending::{Ends, end_run};
 use orc_board::{Gate, Replies};
 use orc_chain_rule::Chain;
@@ -15,7 +15,7 @@ use orc_domain::PlainRest;
 use orc_fault::NoMemory;
 use orc_fifo_rule::Fifo;
 use orc_jobs::Lines;
-use orc_workers::run_at_desks;
+use orc_workers::{fresh_desks, run_at_desks};
 use std::alloc::Global;
 use std::sync::Wait;
 use std::thread::Threads;

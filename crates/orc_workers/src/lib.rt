@@ -2,6 +2,7 @@
 #![tactic(auto)]
 
 mod board;
+mod desks;
 mod learning;
 mod reserve;
 mod seating;
@@ -9,4 +10,5 @@ mod team;
 mod work;
 
 pub use board::{Finished, run_at_desks, run_board};
+pub use desks::fresh_desks;
 pub use work::{run_poster, run_taker};

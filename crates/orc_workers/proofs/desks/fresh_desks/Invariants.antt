@@ -1,6 +1,6 @@
 use Rattle.std.proofs.Common.{◌≡◌, ◌+◌, ◌<◌, ℕ, [], All, length, slice_index_or}
 use Rattle.orc_workers.specs.Desks.{AreFresh}
-use Rattle.orc_run.proofs.desks.fresh_desks.Given as goal
+use Rattle.orc_workers.proofs.desks.fresh_desks.Given as goal
 
 abbrev pub invariant-loop-queue_pass : goal.invariant-loop-queue_pass
 invariant-loop-queue_pass g l = record {
