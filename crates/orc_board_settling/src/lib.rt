@@ -5,3 +5,6 @@ mod rounds;
 mod steps;
 
 pub use rounds::settle;
+
+#[cfg(test)]
+mod tests;

@@ -73,7 +73,7 @@ pub(crate) fn look_step<D: Discipline>(
 }
 
 // Whether the agent's scan is found.
-fn is_found(record: &Agent) -> bool
+pub(crate) fn is_found(record: &Agent) -> bool
     ensures { result ≡ scan_found record.now.scan }
 {
     match record.scan {
