@@ -1,14 +1,12 @@
 -- What a pass holds: its rows are out and known, and what a caller names by them.
-use Rattle.std.proofs.Common.{List, Some, [], ap, arith, eq-eqb, refl, subst, suc, sym, true, zero, ℕ, ◌<◌, ◌∙◌, ◌≡◌, ◌∷◌}
+use Rattle.std.proofs.Common.{List, Some, ap, refl, subst, sym, true, ℕ, ◌<◌, ◌≡◌}
 use Rattle.std.proofs.lemmas.Bool.{lt-ltb}
-use Rattle.std.specs.Prelude.{map, slice_get, slice_index_or, ◌&&◌, ◌||◌}
+use Rattle.std.specs.Prelude.{map, slice_get, ◌&&◌, ◌||◌}
 use Rattle.orc_core.specs.Allowed.{may_place}
-use Rattle.orc_core.specs.RecordParts.{any_holds, holds, names, slot_of}
-use Rattle.orc_core.specs.declared.records.Agent.{Agent}
+use Rattle.orc_core.specs.RecordParts.{any_holds, names}
 use Rattle.orc_core.specs.declared.records.SlotUse.{SlotUse}
-use Rattle.orc_core.specs.declared.records.SlotUse.TheVariants.{Empty, Held}
+use Rattle.orc_core.specs.declared.records.SlotUse.TheVariants.{Held}
 use Rattle.orc_domain.specs.Rows.{row_link, word_at}
-use Rattle.orc_heap.specs.Acts.{IsKnown}
 use Rattle.orc_heap.specs.Journals.{run_heap}
 use Rattle.orc_heap.specs.Seats.{HoldsPlace, HoldsWant, link_in, place_in}
 use Rattle.orc_heap.specs.Slots.{Hold, Holds, id_in}

@@ -1,8 +1,8 @@
 -- A slot that is released.
-use Rattle.std.proofs.Common.{List, None, Option, Some, [], ap, arith, false, length, refl, suc, sym, zero, ℕ, ◌<◌, ◌∙◌, ◌≡◌, ◌≢◌, ◌∷◌}
+use Rattle.std.proofs.Common.{List, None, Option, Some, [], ap, arith, false, refl, suc, sym, zero, ℕ, ◌<◌, ◌∙◌, ◌≡◌, ◌≢◌, ◌∷◌}
 use Rattle.std.proofs.lemmas.Bool.{ne_eqb}
 use Rattle.std.specs.Option.{option_map}
-use Rattle.std.specs.Prelude.{slice_get, slice_index_or, slice_set}
+use Rattle.std.specs.Prelude.{slice_index_or, slice_set}
 use Rattle.orc_core.specs.RecordParts.{holds_fresh, is_empty, is_published, slot_of}
 use Rattle.orc_core.specs.declared.ops.Op.TheVariants.{Clear}
 use Rattle.orc_core.specs.declared.records.SlotUse.{SlotUse}

@@ -1,5 +1,5 @@
 -- Rows that are tried.
-use Rattle.std.proofs.Common.{List, None, Some, [], ap, append_assoc, append-nil, arith, inl, inr, length, length-append, refl, subst, suc, sym, zero, ℕ, ⊎_elim, ◌++◌, ◌<◌, ◌∙◌, ◌≡◌, ◌∷◌, ◌≤◌, ◌⊎◌, take}
+use Rattle.std.proofs.Common.{List, None, Some, [], ap, append_assoc, append-nil, arith, inl, inr, length, length-append, refl, subst, sym, ℕ, ⊎_elim, ◌++◌, ◌<◌, ◌∙◌, ◌≡◌, ◌∷◌, ◌≤◌, ◌⊎◌, take}
 use Rattle.std.proofs.Math.Seq.{take-append_seam}
 use Rattle.std.proofs.lemmas.List.{take-append-le}
 use Rattle.std.specs.Prelude.{slice_get}

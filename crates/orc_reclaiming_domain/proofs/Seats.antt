@@ -1,8 +1,8 @@
 -- What a step does to what a pass shows.
-use Rattle.std.proofs.Common.{Bool, List, None, Option, Some, [], ap, append_assoc, eq-eqb, false, refl, subst, suc, sym, true, zero, ℕ, ◌++◌, ◌∙◌, ◌≡◌, ◌∷◌}
+use Rattle.std.proofs.Common.{Bool, List, None, Option, Some, [], ap, append_assoc, eq-eqb, refl, subst, suc, sym, true, zero, ℕ, ◌++◌, ◌∙◌, ◌≡◌, ◌∷◌}
 use Rattle.std.proofs.lemmas.Bool.{or_right}
 use Rattle.std.specs.Option.{option_map}
-use Rattle.std.specs.Prelude.{if◌then◌else◌, map, slice_get, slice_set, ◌||◌}
+use Rattle.std.specs.Prelude.{if◌then◌else◌, map, slice_get, slice_set}
 use Rattle.orc_core.specs.Allowed.{forced, in_order}
 use Rattle.orc_core.specs.Machine.{new_machine, record_at, word_read}
 use Rattle.orc_core.specs.RecordParts.{any_holds, holds, names}

@@ -1,5 +1,5 @@
 -- A pass settles where it holds nothing, and holds nothing after it.
-use Rattle.std.proofs.Common.{List, None, Option, Some, [], ap, arith, false, length, refl, suc, sym, zero, ℕ, ◌+◌, ◌<◌, ◌∙◌, ◌≡◌, ◌∷◌}
+use Rattle.std.proofs.Common.{List, None, [], ap, arith, false, length, refl, suc, sym, zero, ℕ, ◌+◌, ◌∙◌, ◌≡◌, ◌∷◌}
 use Rattle.std.proofs.lemmas.Bool.{false≢true}
 use Rattle.std.specs.Option.{option_map}
 use Rattle.std.specs.Prelude.{cond, is_some, map, replicate, slice_index_or, ◌||◌}
@@ -10,7 +10,6 @@ use Rattle.orc_core.specs.declared.records.SlotUse.{SlotUse}
 use Rattle.orc_core.specs.declared.records.SlotUse.TheVariants.{Empty, Held, Published}
 use Rattle.orc_heap.specs.OwnEvents.{Only}
 use Rattle.orc_heap.specs.Seats.{IsIdle}
-use Rattle.orc_heap.specs.Slots.{SlotNode}
 use Rattle.orc_heap.specs.declared.discipline.Discipline as discipline
 use Rattle.orc_machine_board.specs.Licences.{ids_of}
 use Rattle.orc_machine_board.specs.Passes.{backlog_in}
