@@ -64,8 +64,10 @@ module _ {D N : Type 0} {d : discipline.Ghosts D N} {m : machine.Ghosts Reclaimi
             went = went_join a 0 0 (state_of board p) (state_of board q) (state_of board r)
                 (made_went (state_of board p) (state_of board q) a (Clear 0) h.reached clear.0 tt one)
                 (made_went (state_of board q) (state_of board r) a (TakeIn 0) i.reached take refl two);
-            adds = added_adds (board_bounds board) a ((one.others ++ (a, Clear 0) ∷ []) ++ (two.others ++ (a, TakeIn 0) ∷ [])) (Clear 0 ∷ TakeIn 0 ∷ []) (shows p) (shows r) (refl, tt)
-                (added_then (board_bounds board) a (one.others ++ (a, Clear 0) ∷ []) (two.others ++ (a, TakeIn 0) ∷ []) (Clear 0 ∷ []) (TakeIn 0 ∷ []) (shows p) (shows q) (shows r)
+            adds = added_adds (board_bounds board) a ((one.others ++ (a, Clear 0) ∷ []) ++ (two.others ++ (a, TakeIn 0) ∷ [])) (Clear 0 ∷ TakeIn 0 ∷ [])
+                (shows p) (shows r) (refl, tt)
+                (added_then (board_bounds board) a (one.others ++ (a, Clear 0) ∷ []) (two.others ++ (a, TakeIn 0) ∷ []) (Clear 0 ∷ []) (TakeIn 0 ∷ [])
+                (shows p) (shows q) (shows r)
                 (added board a (Clear 0) p q x h g mk (λ i w. refl)) (added board a (TakeIn 0) q r y i f nk (λ i w. refl)));
           };
           so = kept_join (record_of board a p) (record_of board a q) (record_of board a r) left.so.kept taken.so;

@@ -55,7 +55,8 @@ silent p d x w m (LinkCas at f t) k h = absurd h
 silent p d x w m (LinkStore q l) k h = absurd (false≢true k)
 silent p d x w m op k h = refl
 
-pub may_here : (b : Bounds) (s : ℕ) (d : Agent) (m : Machine) (a : ℕ) (op : Op) → m.bounds ≡ b → s ≡ a → record_at m a ≡ d → IsSettlingStep (word_in m) op (record_at m a)
+pub may_here : (b : Bounds) (s : ℕ) (d : Agent) (m : Machine) (a : ℕ) (op : Op) → m.bounds ≡ b → s ≡ a → record_at m a ≡ d
+    → IsSettlingStep (word_in m) op (record_at m a)
     → is_allowed m a op ≡ true → may b 0 s op d ≡ true
 may_here b s d m a op eb es ed h allowed =
     (λ i. may (sym eb i) 0 (es i) op (sym ed i)) ∙ (free_of m.bounds 0 _ a op (record_at m a) (record_at m a) (word_in m) h ∙ allowed)
@@ -98,7 +99,8 @@ module _ {N : Type 0} where
   }
 
   -- one step of a pass of a board of this shape
-  module _ (k : MachineShape N) (a : ℕ) (op : Op) (s t : MachineView N) (n : ℕ) (its : s.agent ≡ a) (lawful : IsLawfulJournal (new_machine (bounds_in k)) t.journal)
+  module _ (k : MachineShape N) (a : ℕ) (op : Op) (s t : MachineView N) (n : ℕ) (its : s.agent ≡ a)
+      (lawful : IsLawfulJournal (new_machine (bounds_in k)) t.journal)
       (mk : Makes (bounds_in k) (asks op) None s n t) where
     abbrev pub b : Bounds
     b = bounds_in k

@@ -29,7 +29,8 @@ lower x y e = omega arith
 lower_le : (x y : ℕ) → x ≤ y → x + 0 ≤ y
 lower_le x y e = omega arith
 
-unretire_work : (b : Bounds) (z : World) (a q : ℕ) → LawfulStep b z a (Unretire q) → work_after b z a (Unretire q) + bit (is_some (z.seats a).scan) ≤ work_in b z a
+unretire_work : (b : Bounds) (z : World) (a q : ℕ) → LawfulStep b z a (Unretire q)
+    → work_after b z a (Unretire q) + bit (is_some (z.seats a).scan) ≤ work_in b z a
 unretire_work b z a q p = cases (doom_cut (z.seats a).doom q) refl
   where
     scan_is : (o : Option Scan) → scans o q ≡ true → bit (is_some o) ≡ 1
@@ -57,7 +58,8 @@ unretire_work b z a q p = cases (doom_cut (z.seats a).doom q) refl
         let o = scan_is (z.seats a).scan s.0 in
         omega arith
 
-pub settling_work : (b : Bounds) (z : World) (a : ℕ) (op : Op) → LawfulStep b z a op → ((r : ℕ) → scans (z.seats a).scan r ≡ true → r < b.rows) → IsSettlingStep z.memory op (z.seats a) → work_after b z a op + drop_of op (z.seats a) ≤ work_in b z a
+pub settling_work : (b : Bounds) (z : World) (a : ℕ) (op : Op) → LawfulStep b z a op → ((r : ℕ) → scans (z.seats a).scan r ≡ true → r < b.rows)
+    → IsSettlingStep z.memory op (z.seats a) → work_after b z a op + drop_of op (z.seats a) ≤ work_in b z a
 settling_work b z a (CounterLoad q Start) p r h = lower _ _ (start_work b z a q p)
 settling_work b z a (CounterLoad q End) p r h = end_work b z a q p
 settling_work b z a (SlotLook k) p r h = lower _ _ (look_work b z a k p)
@@ -75,7 +77,8 @@ settling_work b z a op p r h = absurd h
 -- at most one for each slot
 opens_le : (b : Bounds) (m : Word → ℕ) (a : ℕ) → slots_open b m a ≤ 8 * b.agents
 opens_le b m a =
-    let e = sum_mono b.agents (λ x. sum_below 8 (open_at m a x)) (λ x. 8) (λ x h. sum_le 8 (open_at m a x) (λ j. open_one ((x == a) && (j == 0)) (m (Slot x j)) (m (Handover x j)))) in
+    let e = sum_mono b.agents (λ x. sum_below 8 (open_at m a x)) (λ x. 8)
+    (λ x h. sum_le 8 (open_at m a x) (λ j. open_one ((x == a) && (j == 0)) (m (Slot x j)) (m (Handover x j)))) in
     let t = sum_times b.agents 8 in
     omega arith
   where
@@ -111,7 +114,8 @@ uncut_le (Some d) = cases d.cut
     cases false = omega arith
 
 -- with nothing pending, the work is within the bound on rounds
-pub work_bound : (b : Bounds) (z : World) (a : ℕ) → AllFits b z → a < b.agents → (z.seats a).dec ≡ None → (z.seats a).due ≡ None → work_in b z a ≤ 4 * (b.rows + 8 * b.agents)
+pub work_bound : (b : Bounds) (z : World) (a : ℕ) → AllFits b z → a < b.agents → (z.seats a).dec ≡ None → (z.seats a).due ≡ None
+    → work_in b z a ≤ 4 * (b.rows + 8 * b.agents)
 work_bound b z a s h d u =
     let l = list_length b z a s.counted s.rows h in
     let p = s.counted.one_part a in

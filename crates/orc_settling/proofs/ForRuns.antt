@@ -27,11 +27,14 @@ use Rattle.orc_words.specs.Bounds.{Bounds, IsShape}
 use Rattle.orc_words.specs.declared.place.Word.TheVariants.{Counter, Gate, Handover, Slot}
 
 -- the work is the same in both views of a state
-work_shown : (m : Machine) (a : ℕ) → a < m.bounds.agents → ((r : ℕ) → scans (record_at m a).scan r ≡ true → r < m.bounds.rows) → work_in m.bounds (world_of m) a ≡ work_left m a
+work_shown : (m : Machine) (a : ℕ) → a < m.bounds.agents → ((r : ℕ) → scans (record_at m a).scan r ≡ true → r < m.bounds.rows)
+    → work_in m.bounds (world_of m) a ≡ work_left m a
 work_shown m a ha hs =
     let o = sum_same m.bounds.rows (λ r. (world_of m).memory (Gate r) % 2) (λ r. word_in m (Gate r) % 2) (λ r h. ap (λ w. w % 2) (word_shown m (Gate r) h)) in
     let f = word_shown m (Handover a 0) (ha, omega arith) in
-    let p = sum_same m.bounds.agents (λ x. sum_below 8 (open_at (world_of m).memory a x)) (λ x. sum_below 8 (open_at (word_in m) a x)) (λ x h. sum_same 8 (open_at (world_of m).memory a x) (open_at (word_in m) a x) (λ j k. rw (word_shown m (Slot x j) (h, k), word_shown m (Handover x j) (h, k)) refl)) in
+    let p = sum_same m.bounds.agents (λ x. sum_below 8 (open_at (world_of m).memory a x)) (λ x. sum_below 8 (open_at (word_in m) a x))
+    (λ x h. sum_same 8 (open_at (world_of m).memory a x) (open_at (word_in m) a x)
+    (λ j k. rw (word_shown m (Slot x j) (h, k), word_shown m (Handover x j) (h, k)) refl)) in
     let s = stale_shown (record_at m a).scan hs in
     rw f (omega arith)
   where
@@ -39,7 +42,8 @@ work_shown m a ha hs =
     stale_shown None h = refl
     stale_shown (Some s) h = ap (λ w. cond (w == s.word) 0 2) (word_shown m (Counter s.row) (h s.row (eq-eqb s.row s.row refl)))
 
-settles_shown : (m : Machine) (a : ℕ) (op : Op) → is_allowed m a op ≡ true → LawfulStep m.bounds (world_of m) a op → IsSettlingStep (word_in m) op (record_at m a) → IsSettlingStep (world_of m).memory op (record_at m a)
+settles_shown : (m : Machine) (a : ℕ) (op : Op) → is_allowed m a op ≡ true → LawfulStep m.bounds (world_of m) a op
+    → IsSettlingStep (word_in m) op (record_at m a) → IsSettlingStep (world_of m).memory op (record_at m a)
 settles_shown m a (Hand k) h p s =
     let f = and_both _ _ (and_both _ _ p.fits).0 in
     let l = ltb-true k (8 * m.bounds.agents) f.0 in
@@ -49,7 +53,8 @@ settles_shown m a (CounterLoad q End) h p s = s
 settles_shown m a (CounterLoad q Check) h p s = s
 settles_shown m a op h p s = s
 
-pub work_falls : (b : Bounds) (steps : List (ℕ × Op)) (a : ℕ) (op : Op) → IsShape b → IsLawful (new_machine b) steps → is_allowed (run (new_machine b) steps) a op ≡ true
+pub work_falls : (b : Bounds) (steps : List (ℕ × Op)) (a : ℕ) (op : Op) → IsShape b → IsLawful (new_machine b) steps
+    → is_allowed (run (new_machine b) steps) a op ≡ true
     → IsSettlingStep (word_in (run (new_machine b) steps)) op (record_at (run (new_machine b) steps) a)
     → work_left (step (run (new_machine b) steps) a op) a + drop_of op (record_at (run (new_machine b) steps) a) ≤ work_left (run (new_machine b) steps) a
 work_falls b steps a op shape l h s =
@@ -61,9 +66,12 @@ work_falls b steps a op shape l h s =
     let e = world_step m a op w.words w.agents h in
     let k = settling_work m.bounds (world_of m) a op p (f.scans a).row (settles_shown m a op h p s) in
     let i = work_shown m a p.agent (f.scans a).row in
-    let after_scan : (r : ℕ) → scans (record_at (step m a op) a).scan r ≡ true → r < m.bounds.rows = subst (λ z. (r : ℕ) → scans (z.seats a).scan r ≡ true → r < m.bounds.rows) (sym e) (g.scans a).row in
+    let after_scan : (r : ℕ) → scans (record_at (step m a op) a).scan r ≡ true
+    → r < m.bounds.rows = subst (λ z. (r : ℕ) → scans (z.seats a).scan r ≡ true → r < m.bounds.rows) (sym e) (g.scans a).row in
     let j = work_shown (step m a op) a p.agent after_scan in
-    let u : work_in m.bounds (world_of (step m a op)) a ≡ work_after m.bounds (world_of m) a op = ap (λ z. work_in m.bounds z a) e ∙ ap (λ d. work_of m.bounds (step_world (world_of m) a op).memory a d) (seat_same (world_of m).seats a (record_by (world_of m) a op)) in
+    let u : work_in m.bounds (world_of (step m a op)) a ≡ work_after m.bounds (world_of m) a op =
+    ap (λ z. work_in m.bounds z a) e ∙ ap (λ d. work_of m.bounds (step_world (world_of m) a op).memory a d)
+    (seat_same (world_of m).seats a (record_by (world_of m) a op)) in
     omega arith
 
 pub work_within : (b : Bounds) (steps : List (ℕ × Op)) (a : ℕ) → IsShape b → IsLawful (new_machine b) steps → a < b.agents
@@ -78,7 +86,8 @@ work_within b steps a shape l h d u =
     let i = work_shown m a ha (f.scans a).row in
     subst (λ (c : Bounds). work_left m a ≤ 4 * (c.rows + 8 * c.agents)) e (omega arith)
 
-pub own_words : (b : Bounds) (steps : List (ℕ × Op)) (a : ℕ) (op : Op) (k : ℕ) → IsShape b → IsLawful (new_machine b) steps → k < 8 → is_allowed (run (new_machine b) steps) a op ≡ true
+pub own_words : (b : Bounds) (steps : List (ℕ × Op)) (a : ℕ) (op : Op) (k : ℕ) → IsShape b → IsLawful (new_machine b) steps → k < 8
+    → is_allowed (run (new_machine b) steps) a op ≡ true
     → IsSettlingStep (word_in (run (new_machine b) steps)) op (record_at (run (new_machine b) steps) a)
     → word_in (run (new_machine b) steps) (Handover a k) ≡ 0 → word_in (step (run (new_machine b) steps) a op) (Handover a k) ≡ 0
 own_words b steps a op k shape l i h s z =
@@ -89,7 +98,8 @@ own_words b steps a op k shape l i h s z =
     let o = own_handover m.bounds (world_of m) a op k p (settles_shown m a op h p s) (word_shown m (Handover a k) (p.agent, i) ∙ z) in
     sym (word_shown (step m a op) (Handover a k) (p.agent, i)) ∙ (ap (λ (x : World). x.memory (Handover a k)) e ∙ o)
 
-pub other_handovers : (b : Bounds) (steps : List (ℕ × Op)) (a : ℕ) (op : Op) (x k : ℕ) → IsShape b → IsLawful (new_machine b) steps → k < 8 → x ≢ a → x < (run (new_machine b) steps).bounds.agents → is_allowed (run (new_machine b) steps) a op ≡ true
+pub other_handovers : (b : Bounds) (steps : List (ℕ × Op)) (a : ℕ) (op : Op) (x k : ℕ) → IsShape b → IsLawful (new_machine b) steps → k < 8 → x ≢ a
+    → x < (run (new_machine b) steps).bounds.agents → is_allowed (run (new_machine b) steps) a op ≡ true
     → IsSettlingStep (word_in (run (new_machine b) steps)) op (record_at (run (new_machine b) steps) a)
     → ((y j : ℕ) → y ≢ a → is_empty (slot_of (record_at (run (new_machine b) steps) y) j) ≡ true)
     → word_in (run (new_machine b) steps) (Handover x k) ≡ 0 → word_in (step (run (new_machine b) steps) a op) (Handover x k) ≡ 0

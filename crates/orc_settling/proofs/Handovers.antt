@@ -25,7 +25,8 @@ named_slot : (n r : ℕ) → n ≡ 0 → n ≡ r + 1 → ⊥
 named_slot n r e f = omega arith
 
 -- the handover word beside an empty slot of the agent that settles, if it is 0, stays 0
-pub own_handover : (b : Bounds) (z : World) (a : ℕ) (op : Op) (k : ℕ) → LawfulStep b z a op → IsSettlingStep z.memory op (z.seats a) → z.memory (Handover a k) ≡ 0 → (step_world z a op).memory (Handover a k) ≡ 0
+pub own_handover : (b : Bounds) (z : World) (a : ℕ) (op : Op) (k : ℕ) → LawfulStep b z a op → IsSettlingStep z.memory op (z.seats a)
+    → z.memory (Handover a k) ≡ 0 → (step_world z a op).memory (Handover a k) ≡ 0
 own_handover b z a (Hand i) k p s o = cases ((a == i / 8) && (k == i % 8)) refl
   where
     found : (a ≡ i / 8) → (k ≡ i % 8) → ⊥
@@ -49,11 +50,14 @@ own_handover b z a (Read r w) k p s o = absurd s
 own_handover b z a op k p s o = o
 
 -- where no slot names a row, nothing is handed over
-pub no_hand : (b : Bounds) (z : World) (a k : ℕ) → LawfulStep b z a (Hand k) → IsSettlingStep z.memory (Hand k) (z.seats a) → ((x j : ℕ) → is_empty (slot_of (z.seats x) j) ≡ true) → ⊥
-no_hand b z a k p s e = named_slot (z.memory (Slot (k / 8) (k % 8))) (scanned (z.seats a).scan) ((p.counted.slots (k / 8)).words (k % 8) ∙ empty_word (slot_of (z.seats (k / 8)) (k % 8)) (e (k / 8) (k % 8))) s.1
+pub no_hand : (b : Bounds) (z : World) (a k : ℕ) → LawfulStep b z a (Hand k) → IsSettlingStep z.memory (Hand k) (z.seats a)
+    → ((x j : ℕ) → is_empty (slot_of (z.seats x) j) ≡ true) → ⊥
+no_hand b z a k p s e = named_slot (z.memory (Slot (k / 8) (k % 8))) (scanned (z.seats a).scan)
+    ((p.counted.slots (k / 8)).words (k % 8) ∙ empty_word (slot_of (z.seats (k / 8)) (k % 8)) (e (k / 8) (k % 8))) s.1
 
 -- where no slot of another agent names a row, the handover words of others that are 0 stay so
-pub other_handover : (b : Bounds) (z : World) (a : ℕ) (op : Op) (x k : ℕ) → LawfulStep b z a op → x ≢ a → IsSettlingStep z.memory op (z.seats a) → ((y j : ℕ) → y ≢ a → is_empty (slot_of (z.seats y) j) ≡ true) → z.memory (Handover x k) ≡ 0 → (step_world z a op).memory (Handover x k) ≡ 0
+pub other_handover : (b : Bounds) (z : World) (a : ℕ) (op : Op) (x k : ℕ) → LawfulStep b z a op → x ≢ a → IsSettlingStep z.memory op (z.seats a)
+    → ((y j : ℕ) → y ≢ a → is_empty (slot_of (z.seats y) j) ≡ true) → z.memory (Handover x k) ≡ 0 → (step_world z a op).memory (Handover x k) ≡ 0
 other_handover b z a (Hand i) x k p ne s q o = absurd (no_hand b z a i p s all_empty)
   where
     all_empty : (y j : ℕ) → is_empty (slot_of (z.seats y) j) ≡ true

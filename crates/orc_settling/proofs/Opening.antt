@@ -19,7 +19,8 @@ use Rattle.orc_words.specs.Bounds.{Bounds}
 use Rattle.orc_words.specs.declared.place.Word.TheVariants.{Handover}
 
 -- one step opens a turn
-abbrev pub opened_step : (a : ℕ) (op : Op) (m n : Machine) → IsNoHand op → is_allowed m a op ≡ true → IsSettlingStep (word_in m) op (record_at m a) → Made a op m n
+abbrev pub opened_step : (a : ℕ) (op : Op) (m n : Machine) → IsNoHand op → is_allowed m a op ≡ true → IsSettlingStep (word_in m) op (record_at m a)
+    → Made a op m n
     → IsReachedState n → Opened a (drop_of op (record_at m a)) m n
 opened_step a op m n k h s w r = record {
   op = op;
@@ -74,13 +75,15 @@ pub record Begun (a : ℕ) (op : Op) (m f : Machine) (o : List (ℕ × Op)) : Ty
   pub record_is : record_at (run m o) a ≡ record_at m a
   pub is : f ≡ step (run m o) a op
 
-pub begun : (m f : Machine) (a : ℕ) (op : Op) → IsReachedState m → IsNoHand op → IsSettlingStep (word_in m) op (record_at m a) → (k : Made a op m f) → Begun a op m f k.others
+pub begun : (m f : Machine) (a : ℕ) (op : Op) → IsReachedState m → IsNoHand op → IsSettlingStep (word_in m) op (record_at m a) → (k : Made a op m f)
+    → Begun a op m f k.others
 begun m f a op r nh s k =
     let kept = others_keep m a k.others k.apart in
     record {
       reached = reached_on m (run m k.others) k.others r (lawful_left m k.others ((a, op) ∷ []) k.lawful) refl;
       allowed = allowed_last m k.others a op k.lawful;
-      settles = settles_at (word_in m) (word_in (run m k.others)) op (record_at (run m k.others) a) nh (subst (λ d. IsSettlingStep (word_in m) op d) (sym kept) s);
+      settles = settles_at (word_in m) (word_in (run m k.others)) op (record_at (run m k.others) a) nh
+          (subst (λ d. IsSettlingStep (word_in m) op d) (sym kept) s);
       record_is = kept;
       is = k.is ∙ run-append m k.others ((a, op) ∷ []);
     }
@@ -94,25 +97,31 @@ pub record Falls (a : ℕ) (op : Op) (m f : Machine) (us o : List (ℕ × Op)) :
   pub begun : Begun a op m f o
   pub mine : AllOf a us
 
-pub falls_apart : (m f : Machine) (a : ℕ) (op : Op) (us o p : List (ℕ × Op)) → IsReachedState m → IsNoHand op → IsSettlingStep (word_in m) op (record_at m a) → (k : Made a op m f) → (k.others ++ (a, op) ∷ []) ++ us ≡ o ++ p → NoneOf a o → AllOf a p → Falls a op m f us o
+pub falls_apart : (m f : Machine) (a : ℕ) (op : Op) (us o p : List (ℕ × Op)) → IsReachedState m → IsNoHand op
+    → IsSettlingStep (word_in m) op (record_at m a) → (k : Made a op m f) → (k.others ++ (a, op) ∷ []) ++ us ≡ o ++ p → NoneOf a o → AllOf a p
+    → Falls a op m f us o
 falls_apart m f a op us o p r nh s k e none all =
     let q = split_first a (k.others ++ (a, op) ∷ []) us o p e none (own_last a k.others (a, op) refl) in
     let mine : AllOf a (q.0 ++ us) = subst (AllOf a) q.2 all in
     let same = split_last a k.others o q.0 (a, op) refl q.1 k.apart none (all_left a q.0 us mine) in
     record { begun = subst (Begun a op m f) (sym same) (begun m f a op r nh s k); mine = all_right a q.0 us mine }
 
-abbrev pub settled_first : (m n o : Machine) (a left : ℕ) → IsReachedState m → a < m.bounds.agents → IsBetweenRounds (record_at m a) → left ≡ 4 * (m.bounds.rows + 8 * m.bounds.agents) - 1 → 1 ≤ 4 * (m.bounds.rows + 8 * m.bounds.agents) → Opened a 1 m n → Rounds a left n o → Settled a m o
+abbrev pub settled_first : (m n o : Machine) (a left : ℕ) → IsReachedState m → a < m.bounds.agents → IsBetweenRounds (record_at m a)
+    → left ≡ 4 * (m.bounds.rows + 8 * m.bounds.agents) - 1 → 1 ≤ 4 * (m.bounds.rows + 8 * m.bounds.agents) → Opened a 1 m n → Rounds a left n o → Settled a m o
 settled_first m n o a left r h d e big w g =
     let us = w.went.turn.steps ++ g.steps in
     let ts = w.made.others ++ (a, w.op) ∷ [] in record {
       steps = ts ++ us;
-      lawful = lawful_join m ts us w.made.lawful (subst (λ x. IsLawful x us) w.made.is (lawful_join w.first w.went.turn.steps g.steps w.went.turn.lawful (subst (λ x. IsLawful x g.steps) w.went.turn.is g.lawful)));
-      is = g.is ∙ (ap (λ x. run x g.steps) w.went.turn.is ∙ (sym (run-append w.first w.went.turn.steps g.steps) ∙ (ap (λ x. run x us) w.made.is ∙ sym (run-append m ts us))));
+      lawful = lawful_join m ts us w.made.lawful (subst (λ x. IsLawful x us) w.made.is
+          (lawful_join w.first w.went.turn.steps g.steps w.went.turn.lawful (subst (λ x. IsLawful x g.steps) w.went.turn.is g.lawful)));
+      is = g.is ∙ (ap (λ x. run x g.steps) w.went.turn.is ∙ (sym (run-append w.first w.went.turn.steps g.steps)
+          ∙ (ap (λ x. run x us) w.made.is ∙ sym (run-append m ts us))));
       done = λ x p is none all.
           let k = falls_apart m w.first a w.op us x p r w.kind w.settles w.made is none all in
           let b = run_bounds m x in
           let record_is = k.begun.record_is in
-          let bound = reached_work (run m x) a k.begun.reached (subst (λ (c : Bounds). a < c.agents) (sym b) h) (ap (λ (y : Agent). y.dec) record_is ∙ d.still.dec) (ap (λ (y : Agent). y.due) record_is ∙ d.still.due) in
+          let bound = reached_work (run m x) a k.begun.reached (subst (λ (c : Bounds). a < c.agents) (sym b) h)
+          (ap (λ (y : Agent). y.dec) record_is ∙ d.still.dec) (ap (λ (y : Agent). y.due) record_is ∙ d.still.due) in
           let first = reached_falls (run m x) a w.op k.begun.reached k.begun.allowed k.begun.settles in
           let same_drop = ap (λ (y : Agent). drop_of w.op y) record_is in
           let work = ap (λ y. work_left y a) k.begun.is in
@@ -123,11 +132,13 @@ settled_first m n o a left r h d e big w g =
           g.done (all_right a w.went.turn.steps g.steps k.mine) (omega arith);
       hands = λ x p is none all z.
           let k = falls_apart m w.first a w.op us x p r w.kind w.settles w.made is none all in
-          let first : NoneHanded a w.first = subst (NoneHanded a) (sym k.begun.is) (λ i l. reached_hands (run m x) a w.op i l k.begun.reached k.begun.allowed k.begun.settles (z i l)) in
+          let first : NoneHanded a w.first = subst (NoneHanded a) (sym k.begun.is)
+          (λ i l. reached_hands (run m x) a w.op i l k.begun.reached k.begun.allowed k.begun.settles (z i l)) in
           g.hands (all_right a w.went.turn.steps g.steps k.mine) (w.went.turn.hands (all_left a w.went.turn.steps g.steps k.mine) first);
       others = λ x p is none all z y i ly li ne zero.
           let k = falls_apart m w.first a w.op us x p r w.kind w.settles w.made is none all in
-          let first : word_in w.first (Handover y i) ≡ 0 = subst (λ v. word_in v (Handover y i) ≡ 0) (sym k.begun.is) (reached_others (run m x) a w.op y i ly li ne k.begun.reached k.begun.allowed k.begun.settles z zero) in
+          let first : word_in w.first (Handover y i) ≡ 0 = subst (λ v. word_in v (Handover y i) ≡ 0) (sym k.begun.is)
+          (reached_others (run m x) a w.op y i ly li ne k.begun.reached k.begun.allowed k.begun.settles z zero) in
           let slots = still_no_slots (run m x) w.first a ((a, w.op) ∷ []) (refl, tt) k.begun.is z in
           let c : w.first.bounds ≡ (run m x).bounds = ap (λ (v : Machine). v.bounds) k.begun.is in
           let lf = subst (λ (b : Bounds). y < b.agents) (sym c) ly in

@@ -30,14 +30,16 @@ hand_row m a r k = subst (λ x. names (record_at x a).hand r ≡ true → r < x.
     (λ h. subst (λ (c : Bounds). r < c.rows) (sym (run_bounds (new_machine k.bounds) k.steps)) (hand_within k.bounds k.steps a r k.shape k.lawful h))
 
 listed_row : (m : Machine) (a r : ℕ) → IsReachedState m → 0 < listings (record_at m a).list.items r → r < m.bounds.rows
-listed_row m a r k = subst (λ x. 0 < listings (record_at x a).list.items r → r < x.bounds.rows) (sym k.is) ((run_fits k.bounds k.steps k.shape k.lawful).rows.listed a r)
+listed_row m a r k = subst (λ x. 0 < listings (record_at x a).list.items r → r < x.bounds.rows) (sym k.is)
+    ((run_fits k.bounds k.steps k.shape k.lawful).rows.listed a r)
 
 first_listed : (xs : List ℕ) (r : ℕ) → first_is xs r ≡ true → 0 < listings xs r
 first_listed [] r h = absurd (false≢true h)
 first_listed (x ∷ xs) r h = let e = listings_cons x xs r in let f = ap bit h in omega arith
 
 -- a scan may begin
-pub start_allowed : (m : Machine) (a r : ℕ) → IsReachedState m → a < m.bounds.agents → IsBetweenRounds (record_at m a) → IsNext r (record_at m a) → (record_at m a).scan ≡ None → is_allowed m a (CounterLoad r Start) ≡ true
+pub start_allowed : (m : Machine) (a r : ℕ) → IsReachedState m → a < m.bounds.agents → IsBetweenRounds (record_at m a) → IsNext r (record_at m a)
+    → (record_at m a).scan ≡ None → is_allowed m a (CounterLoad r Start) ≡ true
 start_allowed m a r k h d n e =
     let w = ⊎_elim (λ s. absurd (no_scan (record_at m a).scan s e)) (λ w. w.1) n in
     allowed m a (CounterLoad r Start) h d.still.calm.enrolled (rw (d.still.due, d.still.calm.inc, d.still.dec) refl)
@@ -56,7 +58,8 @@ start_allowed m a r k h d n e =
         left false h = h
 
 -- where no row of the table is the first entry, none is
-pub list_empty : (m : Machine) (a : ℕ) → IsReachedState m → ((r : ℕ) → r < m.bounds.rows → first_is (record_at m a).list.items r ≡ false) → (record_at m a).list.items ≡ []
+pub list_empty : (m : Machine) (a : ℕ) → IsReachedState m → ((r : ℕ) → r < m.bounds.rows → first_is (record_at m a).list.items r ≡ false)
+    → (record_at m a).list.items ≡ []
 list_empty m a k h = cases (record_at m a).list.items refl
   where
     cases : (xs : List ℕ) → (record_at m a).list.items ≡ xs → xs ≡ []
@@ -65,7 +68,8 @@ list_empty m a k h = cases (record_at m a).list.items refl
         let first : first_is (record_at m a).list.items x ≡ true = subst (λ ys. first_is ys x ≡ true) (sym e) (eq-eqb x x refl) in
         absurd (false≢true (sym (h x (listed_row m a x k (first_listed (record_at m a).list.items x first))) ∙ first))
 
-pub done_here : (m : Machine) (a : ℕ) → IsReachedState m → ((r : ℕ) → r < m.bounds.rows → first_is (record_at m a).list.items r ≡ false) → (record_at m a).scan ≡ None → (record_at m a).hand ≡ None → IsDone (record_at m a)
+pub done_here : (m : Machine) (a : ℕ) → IsReachedState m → ((r : ℕ) → r < m.bounds.rows → first_is (record_at m a).list.items r ≡ false)
+    → (record_at m a).scan ≡ None → (record_at m a).hand ≡ None → IsDone (record_at m a)
 done_here m a k h s d = record { list = list_empty m a k h; hand = d; scan = s }
 
 -- a round, and then as many as are left
@@ -88,14 +92,26 @@ positive (Some d) = cases d.cut
     cases false = omega arith
 
 abbrev pub no_rounds : (a : ℕ) (m : Machine) → Rounds a 0 m m
-no_rounds a m = record { steps = []; lawful = tt; is = refl; done = λ all less. let p = positive (record_at m a).doom in absurd (omega arith); hands = λ all z. z; others = λ all s x k lx lk ne z. z }
+no_rounds a m = record {
+  steps = [];
+  lawful = tt;
+  is = refl;
+  done = λ all less. let p = positive (record_at m a).doom in absurd
+      (omega arith);
+  hands = λ all z. z;
+  others = λ all s x k lx lk ne z. z;
+}
 
 abbrev pub rounds_done : (a left : ℕ) (m : Machine) → IsDone (record_at m a) → Rounds a left m m
 rounds_done a left m d = record { steps = []; lawful = tt; is = refl; done = λ all less. d; hands = λ all z. z; others = λ all s x k lx lk ne z. z }
 
-pub reached_work : (m : Machine) (a : ℕ) → IsReachedState m → a < m.bounds.agents → (record_at m a).dec ≡ None → (record_at m a).due ≡ None → work_left m a ≤ 4 * (m.bounds.rows + 8 * m.bounds.agents)
-reached_work m a k = subst (λ x. a < x.bounds.agents → (record_at x a).dec ≡ None → (record_at x a).due ≡ None → work_left x a ≤ 4 * (x.bounds.rows + 8 * x.bounds.agents)) (sym k.is)
-    (λ h d u. let e = run_bounds (new_machine k.bounds) k.steps in subst (λ (c : Bounds). work_left (run (new_machine k.bounds) k.steps) a ≤ 4 * (c.rows + 8 * c.agents)) (sym e) (work_within k.bounds k.steps a k.shape k.lawful (subst (λ (c : Bounds). a < c.agents) e h) d u))
+pub reached_work : (m : Machine) (a : ℕ) → IsReachedState m → a < m.bounds.agents → (record_at m a).dec ≡ None → (record_at m a).due ≡ None
+    → work_left m a ≤ 4 * (m.bounds.rows + 8 * m.bounds.agents)
+reached_work m a k = subst (λ x. a < x.bounds.agents → (record_at x a).dec ≡ None → (record_at x a).due ≡ None
+    → work_left x a ≤ 4 * (x.bounds.rows + 8 * x.bounds.agents)) (sym k.is)
+    (λ h d u. let e = run_bounds (new_machine k.bounds) k.steps in subst
+    (λ (c : Bounds). work_left (run (new_machine k.bounds) k.steps) a ≤ 4 * (c.rows + 8 * c.agents)) (sym e)
+    (work_within k.bounds k.steps a k.shape k.lawful (subst (λ (c : Bounds). a < c.agents) e h) d u))
 
 pub no_some : {A : Type 0} (o : Option A) → is_some o ≡ false → o ≡ None
 no_some None h = refl

@@ -36,7 +36,8 @@ pub others_keep : (m : Machine) (a : ℕ) (xs : List (ℕ × Op)) → NoneOf a x
 others_keep m a [] n = refl
 others_keep m a (x ∷ xs) n = others_keep (step m x.0 x.1) a xs n.1 ∙ kept
   where
-    kept : slice_index_or (slice_set m.agents x.0 (after x.1 (record_at m x.0) (word_read m x.0 x.1))) a (nobody m.bounds.rows) ≡ slice_index_or m.agents a (nobody m.bounds.rows)
+    kept : slice_index_or (slice_set m.agents x.0 (after x.1 (record_at m x.0) (word_read m x.0 x.1))) a (nobody m.bounds.rows) ≡ slice_index_or m.agents a
+        (nobody m.bounds.rows)
     kept = get_or-set_other m.agents x.0 a (after x.1 (record_at m x.0) (word_read m x.0 x.1)) (nobody m.bounds.rows) (λ e. n.0 (sym e))
 
 pub made_record : (m n : Machine) (a : ℕ) (op : Op) → IsReachedState m → a < m.bounds.agents → Made a op m n → AfterStep a op m n
@@ -49,10 +50,13 @@ made_record m n a op r h k =
     let kept = others_keep m a k.others k.apart in
     record {
       word = word_read mid a op;
-      is = ap (λ x. record_at x a) (k.is ∙ run-append m k.others ((a, op) ∷ [])) ∙ (get_or-set_same mid.agents a (after op (record_at mid a) (word_read mid a op)) (nobody mid.bounds.rows) l ∙ ap (λ d. after op d (word_read mid a op)) kept);
+      is = ap (λ x. record_at x a) (k.is ∙ run-append m k.others ((a, op) ∷ []))
+          ∙ (get_or-set_same mid.agents a (after op (record_at mid a) (word_read mid a op)) (nobody mid.bounds.rows) l
+          ∙ ap (λ d. after op d (word_read mid a op)) kept);
     }
 
-abbrev pub made_went : (m n : Machine) (a : ℕ) (op : Op) → IsReachedState m → is_allowed m a op ≡ true → IsSettlingStep (word_in m) op (record_at m a) → Made a op m n → Went a (drop_of op (record_at m a)) m n
+abbrev pub made_went : (m n : Machine) (a : ℕ) (op : Op) → IsReachedState m → is_allowed m a op ≡ true → IsSettlingStep (word_in m) op (record_at m a)
+    → Made a op m n → Went a (drop_of op (record_at m a)) m n
 made_went m n a op r h s k = record {
   turn = made_turn m n a op r h s k;
   reached = reached_on m n (k.others ++ (a, op) ∷ []) r k.lawful k.is;
@@ -62,15 +66,18 @@ made_went m n a op r h s k = record {
 abbrev pub went_join : (a x y : ℕ) (m n k : Machine) → Went a x m n → Went a y n k → Went a (x + y) m k
 went_join a x y m n k t u = record { turn = turn_join a x y m n k t.turn u.turn; reached = u.reached; bounds = u.bounds ∙ t.bounds }
 
-pub allowed : (m : Machine) (a : ℕ) (op : Op) → a < m.bounds.agents → stands op (record_at m a) ≡ true → forced (record_at m a) op ≡ true → fits m.bounds (word_in m Enrolled) a op (record_at m a) ≡ true → is_allowed m a op ≡ true
+pub allowed : (m : Machine) (a : ℕ) (op : Op) → a < m.bounds.agents → stands op (record_at m a) ≡ true → forced (record_at m a) op ≡ true
+    → fits m.bounds (word_in m Enrolled) a op (record_at m a) ≡ true → is_allowed m a op ≡ true
 allowed m a op h s f t = rw (lt-ltb a m.bounds.agents h, s, f, t) refl
 
 -- slot 0 is cleared
 not_held_fresh : (d : Agent) (s : SlotUse) → d.fresh ≡ None → holds_fresh d.fresh s ≡ false
 not_held_fresh d s e = rw e refl
 
-pub clear_allowed : (m : Machine) (a : ℕ) → a < m.bounds.agents → IsSettling (record_at m a) → is_empty (slot_of (record_at m a) 0) ≡ false → (record_at m a).dec ≡ None → (record_at m a).due ≡ None → is_allowed m a (Clear 0) ≡ true
-clear_allowed m a h c u d e = allowed m a (Clear 0) h c.enrolled (rw (e, c.inc, d) refl) (rw (u, not_held_fresh (record_at m a) (slot_of (record_at m a) 0) c.fresh) refl)
+pub clear_allowed : (m : Machine) (a : ℕ) → a < m.bounds.agents → IsSettling (record_at m a) → is_empty (slot_of (record_at m a) 0) ≡ false
+    → (record_at m a).dec ≡ None → (record_at m a).due ≡ None → is_allowed m a (Clear 0) ≡ true
+clear_allowed m a h c u d e = allowed m a (Clear 0) h c.enrolled (rw (e, c.inc, d) refl)
+    (rw (u, not_held_fresh (record_at m a) (slot_of (record_at m a) 0) c.fresh) refl)
 
 calm_set : (d : Agent) (s : SlotUse) → IsSettling d → IsSettling (record d { slots = slice_set d.slots 0 s })
 calm_set d s c = record {
@@ -86,14 +93,17 @@ pub record Left (a drop : ℕ) (m n : Machine) (P : Agent → Type 0) : Type 0 w
   pub went : Went a drop m n
   pub so : P (record_at n a)
 
-pub left_by : (a drop : ℕ) (m n : Machine) (P : Agent → Type 0) → Went a drop m n → (op : Op) → (k : AfterStep a op m n) → P (after op (record_at m a) k.word) → Left a drop m n P
+pub left_by : (a drop : ℕ) (m n : Machine) (P : Agent → Type 0) → Went a drop m n → (op : Op) → (k : AfterStep a op m n)
+    → P (after op (record_at m a) k.word) → Left a drop m n P
 left_by a drop m n P w op k p = record { went = w; so = subst P (sym k.is) p }
 
 pub record StillKept (d e : Agent) : Type 0 where
   pub still : IsStill e
   pub kept : SameTasks d e
 
-pub clear_made : (m n : Machine) (a : ℕ) → IsReachedState m → a < m.bounds.agents → IsSettling (record_at m a) → is_empty (slot_of (record_at m a) 0) ≡ false → (record_at m a).dec ≡ None → (record_at m a).due ≡ None → Made a (Clear 0) m n → Left a 0 m n (StillKept (record_at m a))
+pub clear_made : (m n : Machine) (a : ℕ) → IsReachedState m → a < m.bounds.agents → IsSettling (record_at m a)
+    → is_empty (slot_of (record_at m a) 0) ≡ false → (record_at m a).dec ≡ None → (record_at m a).due ≡ None → Made a (Clear 0) m n
+    → Left a 0 m n (StillKept (record_at m a))
 clear_made m n a r h c u d e k =
     let go = clear_allowed m a h c u d e in
     let l : 0 < length (record_at m a).slots = rw c.eight (omega arith) in
@@ -106,11 +116,17 @@ clear_made m n a r h c u d e k =
 pub take_allowed : (m : Machine) (a : ℕ) → a < m.bounds.agents → IsStill (record_at m a) → is_allowed m a (TakeIn 0) ≡ true
 take_allowed m a h s = allowed m a (TakeIn 0) h s.calm.enrolled (rw (s.due, s.calm.inc, s.dec) refl) (rw s.zero refl)
 
-pub take_made : (m n : Machine) (a : ℕ) → IsReachedState m → a < m.bounds.agents → IsStill (record_at m a) → Made a (TakeIn 0) m n → Left a 0 m n (StillKept (record_at m a))
+pub take_made : (m n : Machine) (a : ℕ) → IsReachedState m → a < m.bounds.agents → IsStill (record_at m a) → Made a (TakeIn 0) m n
+    → Left a 0 m n (StillKept (record_at m a))
 take_made m n a r h s k =
     left_by a 0 m n (StillKept (record_at m a)) (made_went m n a (TakeIn 0) r (take_allowed m a h s) refl k) (TakeIn 0) (made_record m n a (TakeIn 0) r h k)
     (record {
-      still = record { calm = record { enrolled = s.calm.enrolled; slots = s.calm.slots; eight = s.calm.eight; fresh = s.calm.fresh; inc = s.calm.inc }; zero = s.zero; dec = s.dec; due = s.due };
+      still = record {
+        calm = record { enrolled = s.calm.enrolled; slots = s.calm.slots; eight = s.calm.eight; fresh = s.calm.fresh; inc = s.calm.inc };
+        zero = s.zero;
+        dec = s.dec;
+        due = s.due;
+      };
       kept = record { hand = refl; scan = refl; doom = refl };
     })
 
@@ -118,7 +134,8 @@ take_made m n a r h s k =
 abbrev pub Steps : ℕ → ℕ → Op → Machine → (Agent → Type 0) → Type 0
 Steps a drop op m P = (is_allowed m a op ≡ true) × ((n : Machine) → IsReachedState m → Made a op m n → Left a drop m n P)
 
-steps : (a : ℕ) (op : Op) (m : Machine) (P : Agent → Type 0) → a < m.bounds.agents → stands op (record_at m a) ≡ true → forced (record_at m a) op ≡ true → fits m.bounds (word_in m Enrolled) a op (record_at m a) ≡ true → IsSettlingStep (word_in m) op (record_at m a)
+steps : (a : ℕ) (op : Op) (m : Machine) (P : Agent → Type 0) → a < m.bounds.agents → stands op (record_at m a) ≡ true → forced (record_at m a) op ≡ true
+    → fits m.bounds (word_in m Enrolled) a op (record_at m a) ≡ true → IsSettlingStep (word_in m) op (record_at m a)
     → ((w : ℕ) → P (after op (record_at m a) w)) → Steps a (drop_of op (record_at m a)) op m P
 steps a op m P h s f t g p =
     let go = allowed m a op h s f t in
@@ -128,30 +145,38 @@ steps a op m P h s f t g p =
 pub left_join : (a x y : ℕ) (m n k : Machine) (P : Agent → Type 0) → Went a x m n → Left a y n k P → Left a (x + y) m k P
 left_join a x y m n k P t u = record { went = went_join a x y m n k t u.went; so = u.so }
 
-pub first_cleared : (m : Machine) (a : ℕ) → a < m.bounds.agents → IsSettling (record_at m a) → is_empty (slot_of (record_at m a) 0) ≡ false → (record_at m a).dec ≡ None → (record_at m a).due ≡ None → Steps a 0 (Clear 0) m (StillKept (record_at m a))
+pub first_cleared : (m : Machine) (a : ℕ) → a < m.bounds.agents → IsSettling (record_at m a) → is_empty (slot_of (record_at m a) 0) ≡ false
+    → (record_at m a).dec ≡ None → (record_at m a).due ≡ None → Steps a 0 (Clear 0) m (StillKept (record_at m a))
 first_cleared m a h c u d e = (clear_allowed m a h c u d e, λ n r k. clear_made m n a r h c u d e k)
 
 pub kept_join : (d e f : Agent) → SameTasks d e → StillKept e f → StillKept d f
 kept_join d e f k s = record { still = s.still; kept = record { hand = s.kept.hand ∙ k.hand; scan = s.kept.scan ∙ k.scan; doom = s.kept.doom ∙ k.doom } }
 
-pub then_taken : (m : Machine) (a : ℕ) → a < m.bounds.agents → IsSettling (record_at m a) → is_empty (slot_of (record_at m a) 0) ≡ false → (record_at m a).dec ≡ None → (record_at m a).due ≡ None → (n : Machine) → IsReachedState m → Made a (Clear 0) m n
+pub then_taken : (m : Machine) (a : ℕ) → a < m.bounds.agents → IsSettling (record_at m a) → is_empty (slot_of (record_at m a) 0) ≡ false
+    → (record_at m a).dec ≡ None → (record_at m a).due ≡ None → (n : Machine) → IsReachedState m → Made a (Clear 0) m n
     → (is_allowed n a (TakeIn 0) ≡ true) × ((k : Machine) → Made a (TakeIn 0) n k → Left a 0 m k (StillKept (record_at m a)))
 then_taken m a h c u d e n r k =
     let l = clear_made m n a r h c u d e k in
-    let i : a < n.bounds.agents = subst (λ (b : Bounds). a < b.agents) (sym l.went.bounds) h in
-    (take_allowed n a i l.so.still, λ o j. let t = take_made n o a l.went.reached i l.so.still j in record { went = went_join a 0 0 m n o l.went t.went; so = kept_join (record_at m a) (record_at n a) (record_at o a) l.so.kept t.so })
+    let i : a < n.bounds.agents = subst (λ (b : Bounds). a < b.agents) (sym l.went.bounds) h in (
+      take_allowed n a i l.so.still,
+      λ o j. let t = take_made n o a l.went.reached i l.so.still j in record
+          { went = went_join a 0 0 m n o l.went t.went; so = kept_join (record_at m a) (record_at n a) (record_at o a) l.so.kept t.so },
+    )
 
 -- the bit of a due row
-due_fits : (m : Machine) (a : ℕ) → a < m.bounds.agents → IsSettling (record_at m a) → (record_at m a).dec ≡ None → (s : Reading) → (record_at m a).due ≡ Some s → DueFits m.bounds (record_at m a).due → is_allowed m a (SetRetired s.row s.number) ≡ true
+due_fits : (m : Machine) (a : ℕ) → a < m.bounds.agents → IsSettling (record_at m a) → (record_at m a).dec ≡ None → (s : Reading)
+    → (record_at m a).due ≡ Some s → DueFits m.bounds (record_at m a).due → is_allowed m a (SetRetired s.row s.number) ≡ true
 due_fits m a h c d s e f =
     let g : DueFits m.bounds (Some s) = subst (DueFits m.bounds) e f in
     allowed m a (SetRetired s.row s.number) h c.enrolled (rw (e, eq-eqb s.row s.row refl, eq-eqb s.number s.number refl) refl)
     (rw (lt-ltb s.row m.bounds.rows g.0, lt-ltb s.number 1099511627776 g.1, e, eq-eqb s.row s.row refl, eq-eqb s.number s.number refl) refl)
 
-pub due_allowed : (m : Machine) (a : ℕ) → a < m.bounds.agents → IsSettling (record_at m a) → (record_at m a).dec ≡ None → (s : Reading) → (record_at m a).due ≡ Some s → DueFits m.bounds (record_at m a).due → is_allowed m a (SetRetired s.row s.number) ≡ true
+pub due_allowed : (m : Machine) (a : ℕ) → a < m.bounds.agents → IsSettling (record_at m a) → (record_at m a).dec ≡ None → (s : Reading)
+    → (record_at m a).due ≡ Some s → DueFits m.bounds (record_at m a).due → is_allowed m a (SetRetired s.row s.number) ≡ true
 due_allowed m a h c d s e f = due_fits m a h c d s e f
 
-pub due_settles : (m : Machine) (a : ℕ) (s : Reading) → (record_at m a).scan ≡ None → (record_at m a).due ≡ Some s → IsSettlingStep (word_in m) (SetRetired s.row s.number) (record_at m a)
+pub due_settles : (m : Machine) (a : ℕ) (s : Reading) → (record_at m a).scan ≡ None → (record_at m a).due ≡ Some s
+    → IsSettlingStep (word_in m) (SetRetired s.row s.number) (record_at m a)
 due_settles m a s n e = (n, rw (e, eq-eqb s.row s.row refl, eq-eqb s.number s.number refl) refl)
 
 no_fresh : (o : Option ℕ) (q : ℕ) (t : Bool) → o ≡ None → cond t (cond (names o q) None o) o ≡ None
@@ -183,13 +208,15 @@ made_look m n a k r h d =
     let at : n ≡ step mid a (SlotLook k) = d.is ∙ run-append m d.others ((a, SlotLook k) ∷ []) in
     record {
       word = word_read mid a (SlotLook k);
-      is = ap (λ x. record_at x a) at ∙ (get_or-set_same mid.agents a (after (SlotLook k) (record_at mid a) (word_read mid a (SlotLook k))) (nobody mid.bounds.rows) l ∙ ap (λ d. after (SlotLook k) d (word_read mid a (SlotLook k))) kept);
+      is = ap (λ x. record_at x a) at ∙ (get_or-set_same mid.agents a (after (SlotLook k) (record_at mid a) (word_read mid a (SlotLook k)))
+          (nobody mid.bounds.rows) l ∙ ap (λ d. after (SlotLook k) d (word_read mid a (SlotLook k))) kept);
       shows = ap (λ x. word_in x (Slot (k / 8) (k % 8))) at ∙ its_word mid a (SlotLook k) w (allowed_last m d.others a (SlotLook k) d.lawful);
     }
 
 -- rows that are scanned, and rows with a decrement pending, are the table's
 pub scanned_row : (m : Machine) (a r : ℕ) → IsReachedState m → scans (record_at m a).scan r ≡ true → r < m.bounds.rows
-scanned_row m a r k = subst (λ x. scans (record_at x a).scan r ≡ true → r < x.bounds.rows) (sym k.is) (((run_fits k.bounds k.steps k.shape k.lawful).scans a).row r)
+scanned_row m a r k = subst (λ x. scans (record_at x a).scan r ≡ true → r < x.bounds.rows) (sym k.is)
+    (((run_fits k.bounds k.steps k.shape k.lawful).scans a).row r)
 
 pub dec_row : (m : Machine) (a r : ℕ) → IsReachedState m → (record_at m a).dec ≡ Some r → r < m.bounds.rows
 dec_row m a r k e = subst (λ x. names (record_at x a).dec r ≡ true → r < x.bounds.rows) (sym k.is) below (named (record_at m a).dec e)
@@ -199,4 +226,5 @@ dec_row m a r k e = subst (λ x. names (record_at x a).dec r ≡ true → r < x.
     named (Some q) h = eq-eqb q r (cc)
 
     below : names (record_at (run (new_machine k.bounds) k.steps) a).dec r ≡ true → r < (run (new_machine k.bounds) k.steps).bounds.rows
-    below h = let f = (run_fits k.bounds k.steps k.shape k.lawful).counted in out_below (run (new_machine k.bounds) k.steps).bounds (world_of (run (new_machine k.bounds) k.steps)) r f (f.used_out a r (dec_uses (record_at (run (new_machine k.bounds) k.steps) a) r h))
+    below h = let f = (run_fits k.bounds k.steps k.shape k.lawful).counted in out_below (run (new_machine k.bounds) k.steps).bounds
+        (world_of (run (new_machine k.bounds) k.steps)) r f (f.used_out a r (dec_uses (record_at (run (new_machine k.bounds) k.steps) a) r h))

@@ -59,10 +59,12 @@ no_scan : (o : Option Scan) → is_none o ≡ true → o ≡ None
 no_scan None h = refl
 no_scan (Some x) h = absurd (false≢true h)
 
-begun_stale : (m : Word → ℕ) (q : ℕ) → staleness (write m (Counter q) (m (Counter q))) (Some (record { row = q; word = m (Counter q); place = 0; found = false })) ≡ 0
+begun_stale : (m : Word → ℕ) (q : ℕ) → staleness (write m (Counter q) (m (Counter q)))
+    (Some (record { row = q; word = m (Counter q); place = 0; found = false })) ≡ 0
 begun_stale m q = rw (write_same m (Counter q) (Counter q), eq-eqb (m (Counter q)) (m (Counter q)) refl)
 
-begun_entries : (o : Option ℕ) (l : Listed) (q : ℕ) → (names o q || (is_none o && first_is l.items q)) ≡ true → length (cond (names o q) l (listed_rest l)).items + 1 ≡ length l.items + bit (is_some o)
+begun_entries : (o : Option ℕ) (l : Listed) (q : ℕ) → (names o q || (is_none o && first_is l.items q)) ≡ true
+    → length (cond (names o q) l (listed_rest l)).items + 1 ≡ length l.items + bit (is_some o)
 begun_entries None l q h = first l.items h
   where
     first : (xs : List ℕ) → first_is xs q ≡ true → length (drop 1 xs) + 1 ≡ length xs + 0
@@ -81,10 +83,12 @@ start_work b z a q p =
     rw (n, begun_stale z.memory q) (omega arith)
 
 -- slots and handover words that stay
-slots_same : (b : Bounds) (m n : Word → ℕ) (a : ℕ) → ((x j : ℕ) → n (Slot x j) ≡ m (Slot x j)) → ((x j : ℕ) → n (Handover x j) ≡ m (Handover x j)) → slots_open b n a ≡ slots_open b m a
+slots_same : (b : Bounds) (m n : Word → ℕ) (a : ℕ) → ((x j : ℕ) → n (Slot x j) ≡ m (Slot x j)) → ((x j : ℕ) → n (Handover x j) ≡ m (Handover x j))
+    → slots_open b n a ≡ slots_open b m a
 slots_same b m n a s h = sum_same b.agents _ _ (λ x l. sum_same 8 (open_at n a x) (open_at m a x) (λ j k. rw (s x j, h x j) refl))
 
-open_other : (m n : Word → ℕ) (a x : ℕ) → ((j : ℕ) → n (Slot x j) ≡ m (Slot x j)) → ((j : ℕ) → n (Handover x j) ≡ m (Handover x j)) → sum_below 8 (open_at m a x) ≡ sum_below 8 (open_at n a x)
+open_other : (m n : Word → ℕ) (a x : ℕ) → ((j : ℕ) → n (Slot x j) ≡ m (Slot x j)) → ((j : ℕ) → n (Handover x j) ≡ m (Handover x j))
+    → sum_below 8 (open_at m a x) ≡ sum_below 8 (open_at n a x)
 open_other m n a x s h = sum_same 8 (open_at m a x) (open_at n a x) (λ j k. rw (s j, h j) refl)
 
 -- one slot, with its handover word, that changes
@@ -93,16 +97,21 @@ slots_put : (b : Bounds) (m n : Word → ℕ) (a x j : ℕ) → x < b.agents →
     → ((i : ℕ) → i ≢ j → n (Slot x i) ≡ m (Slot x i)) → ((i : ℕ) → i ≢ j → n (Handover x i) ≡ m (Handover x i))
     → slots_open b n a + open_at m a x j ≡ slots_open b m a + open_at n a x j
 slots_put b m n a x j hx hj sy hy si hi =
-    let e = sum_change b.agents x (λ y. sum_below 8 (open_at m a y)) (λ y. sum_below 8 (open_at n a y)) hx (λ y ne. open_other m n a y (λ i. sy y i ne) (λ i. hy y i ne)) in
+    let e = sum_change b.agents x (λ y. sum_below 8 (open_at m a y)) (λ y. sum_below 8 (open_at n a y)) hx
+    (λ y ne. open_other m n a y (λ i. sy y i ne) (λ i. hy y i ne)) in
     let f = sum_change 8 j (open_at m a x) (open_at n a x) hj (λ i ne. rw (si i ne, hi i ne) refl) in
     omega arith
 
 -- a slot word that is written
-slot_put : (b : Bounds) (m : Word → ℕ) (a x j v : ℕ) → x < b.agents → j < 8 → slots_open b (write m (Slot x j) v) a + open_at m a x j ≡ slots_open b m a + open_at (write m (Slot x j) v) a x j
-slot_put b m a x j v hx hj = slots_put b m (write m (Slot x j) v) a x j hx hj (λ y i ne. rw (ne_eqb y x ne)) (λ y i ne. refl) (λ i ne. rw (eq-eqb x x refl, ne_eqb i j ne)) (λ i ne. refl)
+slot_put : (b : Bounds) (m : Word → ℕ) (a x j v : ℕ) → x < b.agents → j < 8
+    → slots_open b (write m (Slot x j) v) a + open_at m a x j ≡ slots_open b m a + open_at (write m (Slot x j) v) a x j
+slot_put b m a x j v hx hj = slots_put b m (write m (Slot x j) v) a x j hx hj (λ y i ne. rw (ne_eqb y x ne)) (λ y i ne. refl)
+    (λ i ne. rw (eq-eqb x x refl, ne_eqb i j ne)) (λ i ne. refl)
 
-handover_put : (b : Bounds) (m : Word → ℕ) (a x j v : ℕ) → x < b.agents → j < 8 → slots_open b (write m (Handover x j) v) a + open_at m a x j ≡ slots_open b m a + open_at (write m (Handover x j) v) a x j
-handover_put b m a x j v hx hj = slots_put b m (write m (Handover x j) v) a x j hx hj (λ y i ne. refl) (λ y i ne. rw (ne_eqb y x ne)) (λ i ne. refl) (λ i ne. rw (eq-eqb x x refl, ne_eqb i j ne))
+handover_put : (b : Bounds) (m : Word → ℕ) (a x j v : ℕ) → x < b.agents → j < 8
+    → slots_open b (write m (Handover x j) v) a + open_at m a x j ≡ slots_open b m a + open_at (write m (Handover x j) v) a x j
+handover_put b m a x j v hx hj = slots_put b m (write m (Handover x j) v) a x j hx hj (λ y i ne. refl) (λ y i ne. rw (ne_eqb y x ne)) (λ i ne. refl)
+    (λ i ne. rw (eq-eqb x x refl, ne_eqb i j ne))
 
 open_zero : (m : Word → ℕ) (a : ℕ) → open_at m a a 0 ≡ 0
 open_zero m a = rw (eq-eqb a a refl)
@@ -124,7 +133,8 @@ look_work b z a k p =
     let t : staleness m (scan_on (z.seats a).scan v) ≡ staleness z.memory (z.seats a).scan = stale_slot (z.seats a).scan v in
     omega arith
   where
-    stale_slot : (o : Option Scan) (v : ℕ) → staleness (write z.memory (Slot (k / 8) (k % 8)) (z.memory (Slot (k / 8) (k % 8)))) (scan_on o v) ≡ staleness z.memory o
+    stale_slot : (o : Option Scan) (v : ℕ) → staleness (write z.memory (Slot (k / 8) (k % 8)) (z.memory (Slot (k / 8) (k % 8))))
+        (scan_on o v) ≡ staleness z.memory o
     stale_slot None v = refl
     stale_slot (Some s) v = refl
 
@@ -190,7 +200,8 @@ free_work b z a q p =
     cut_doom None h = absurd (false≢true h)
     cut_doom (Some d) h = let c : d.cut ≡ true = (and_both _ _ h).1 in rw c refl
 
-    stale_free : (o : Option Scan) → staleness (write z.memory (Gate q) ((z.memory (Gate q) + 18446744073709551615) % 18446744073709551616)) o ≡ staleness z.memory o
+    stale_free : (o : Option Scan) → staleness (write z.memory (Gate q) ((z.memory (Gate q) + 18446744073709551615) % 18446744073709551616)) o ≡ staleness
+        z.memory o
     stale_free None = refl
     stale_free (Some s) = refl
 
@@ -239,7 +250,8 @@ one_of None = omega arith
 one_of (Some x) = omega arith
 
 -- a doomed row's link is taken out
-pub cut_work : (b : Bounds) (z : World) (a q : ℕ) (l : RowLink) → LawfulStep b z a (LinkStore q l) → doom_uncut (z.seats a).doom q ≡ true → l.to ≡ None → work_after b z a (LinkStore q l) ≤ work_in b z a
+pub cut_work : (b : Bounds) (z : World) (a q : ℕ) (l : RowLink) → LawfulStep b z a (LinkStore q l) → doom_uncut (z.seats a).doom q ≡ true → l.to ≡ None
+    → work_after b z a (LinkStore q l) ≤ work_in b z a
 cut_work b z a q l p c t =
     let n = nothing_pending (z.seats a).due (z.seats a).inc (z.seats a).dec (LinkStore q l) refl p.forced in
     let o = one_of (cond (same_target (named (z.memory (Next q) / 2)) None) (z.seats a).dec (named (z.memory (Next q) / 2))) in
@@ -280,7 +292,8 @@ due_some None q n h = absurd (false≢true h)
 due_some (Some x) q n h = refl
 
 -- the bit of a due row is tried
-pub try_work : (b : Bounds) (z : World) (a q n : ℕ) → LawfulStep b z a (SetRetired q n) → (z.seats a).scan ≡ None → is_due (z.seats a).due q n ≡ true → work_after b z a (SetRetired q n) ≤ work_in b z a
+pub try_work : (b : Bounds) (z : World) (a q n : ℕ) → LawfulStep b z a (SetRetired q n) → (z.seats a).scan ≡ None → is_due (z.seats a).due q n ≡ true
+    → work_after b z a (SetRetired q n) ≤ work_in b z a
 try_work b z a q n p e h =
     let d = due_some (z.seats a).due q n h in
     let l = more (z.memory (Counter q) == clear_word n) in
@@ -291,7 +304,8 @@ try_work b z a q n p e h =
     more false = omega arith
 
 -- a bit is cleared
-pub unretire_scan_work : (b : Bounds) (z : World) (a q : ℕ) → LawfulStep b z a (Unretire q) → scans (z.seats a).scan q ≡ true → scan_empty (z.seats a).scan ≡ false → work_after b z a (Unretire q) + 1 ≤ work_in b z a
+pub unretire_scan_work : (b : Bounds) (z : World) (a q : ℕ) → LawfulStep b z a (Unretire q) → scans (z.seats a).scan q ≡ true
+    → scan_empty (z.seats a).scan ≡ false → work_after b z a (Unretire q) + 1 ≤ work_in b z a
 unretire_scan_work b z a q p h e =
     let n = nothing_pending (z.seats a).due (z.seats a).inc (z.seats a).dec (Unretire q) refl p.forced in
     let d = scan_no_doom (z.seats a) q (p.counted.one_part a) h in
@@ -308,17 +322,20 @@ unretire_scan_work b z a q p h e =
     scan_is None h = absurd (false≢true h)
     scan_is (Some s) h = refl
 
-    due_stale : (o : Option Scan) → scans o q ≡ true → scan_empty o ≡ false → count_bits ((z.memory (Counter q) + 18446744073701163008) % 18446744073709551616) ≡ count_bits (z.memory (Counter q))
+    due_stale : (o : Option Scan) → scans o q ≡ true → scan_empty o ≡ false
+        → count_bits ((z.memory (Counter q) + 18446744073701163008) % 18446744073709551616) ≡ count_bits (z.memory (Counter q))
         → bit (is_some (due_after q (word_sub (z.memory (Counter q)) 8388608) None)) ≤ staleness z.memory o
     due_stale None h e c = absurd (false≢true h)
     due_stale (Some s) h e c = rw (eqb-true s.row q h) (same (z.memory (Counter q)) s.word (z.memory (Counter q) == s.word) refl e c)
       where
-        same : (v w : ℕ) (t : Bool) → (v == w) ≡ t → (count_bits w == 4194304) ≡ false → count_bits ((v + 18446744073701163008) % 18446744073709551616) ≡ count_bits v
+        same : (v w : ℕ) (t : Bool) → (v == w) ≡ t → (count_bits w == 4194304) ≡ false
+            → count_bits ((v + 18446744073701163008) % 18446744073709551616) ≡ count_bits v
             → bit (is_some (due_after q (word_sub v 8388608) None)) ≤ cond t 0 2
         same v w false t e c = let k = one_of (due_after q (word_sub v 8388608) None) in omega arith
         same v w true t e c = let k = eqb-true v w t in grind arith
 
-pub unretire_doom_work : (b : Bounds) (z : World) (a q : ℕ) → LawfulStep b z a (Unretire q) → doom_cut (z.seats a).doom q ≡ true → work_after b z a (Unretire q) ≤ work_in b z a
+pub unretire_doom_work : (b : Bounds) (z : World) (a q : ℕ) → LawfulStep b z a (Unretire q) → doom_cut (z.seats a).doom q ≡ true
+    → work_after b z a (Unretire q) ≤ work_in b z a
 unretire_doom_work b z a q p h =
     let e = doom_no_scan (z.seats a) q (p.counted.one_part a) h in
     let u = bared_uncut (z.seats a).doom in
@@ -329,7 +346,8 @@ unretire_doom_work b z a q p h =
     bared_uncut (Some d) = refl
 
 -- the row that was found is handed over
-pub hand_work : (b : Bounds) (z : World) (a k : ℕ) → LawfulStep b z a (Hand k) → ((r : ℕ) → scans (z.seats a).scan r ≡ true → r < b.rows) → is_empty (slot_of (z.seats a) 0) ≡ true → z.memory (Slot (k / 8) (k % 8)) ≡ scanned (z.seats a).scan + 1 → work_after b z a (Hand k) + 1 ≤ work_in b z a
+pub hand_work : (b : Bounds) (z : World) (a k : ℕ) → LawfulStep b z a (Hand k) → ((r : ℕ) → scans (z.seats a).scan r ≡ true → r < b.rows)
+    → is_empty (slot_of (z.seats a) 0) ≡ true → z.memory (Slot (k / 8) (k % 8)) ≡ scanned (z.seats a).scan + 1 → work_after b z a (Hand k) + 1 ≤ work_in b z a
 hand_work b z a k p rows e w =
     let x = k / 8 in
     let j = k % 8 in
@@ -364,7 +382,8 @@ hand_work b z a k p rows e w =
     empty_word (Published q) h = absurd (false≢true h)
     empty_word (Held q) h = absurd (false≢true h)
 
-    other_place : is_empty (slot_of (z.seats a) 0) ≡ true → SlotsFit z.memory (z.seats a) a → z.memory (Slot (k / 8) (k % 8)) ≡ scanned (z.seats a).scan + 1 → ((k / 8 == a) && (k % 8 == 0)) ≡ false
+    other_place : is_empty (slot_of (z.seats a) 0) ≡ true → SlotsFit z.memory (z.seats a) a → z.memory (Slot (k / 8) (k % 8)) ≡ scanned (z.seats a).scan + 1
+        → ((k / 8 == a) && (k % 8 == 0)) ≡ false
     other_place e s w = cases ((k / 8 == a) && (k % 8 == 0)) refl
       where
         cases : (t : Bool) → ((k / 8 == a) && (k % 8 == 0)) ≡ t → t ≡ false
@@ -375,19 +394,29 @@ hand_work b z a k p rows e w =
             let at : z.memory (Slot a 0) ≡ scanned (z.seats a).scan + 1 = rw (eqb-true (k / 8) a y.0, eqb-true (k % 8) 0 y.1) at w in
             absurd (omega arith)
 
-    before : ((k / 8 == a) && (k % 8 == 0)) ≡ false → z.memory (Slot (k / 8) (k % 8)) ≡ scanned (z.seats a).scan + 1 → (z.memory (Handover (k / 8) (k % 8)) == scanned (z.seats a).scan + 1) ≡ false → open_at z.memory a (k / 8) (k % 8) ≡ 1
+    before : ((k / 8 == a) && (k % 8 == 0)) ≡ false → z.memory (Slot (k / 8) (k % 8)) ≡ scanned (z.seats a).scan + 1
+        → (z.memory (Handover (k / 8) (k % 8)) == scanned (z.seats a).scan + 1) ≡ false → open_at z.memory a (k / 8) (k % 8) ≡ 1
     before o w h = rw (o, w, h) (open_one (scanned (z.seats a).scan))
       where
         open_one : (n : ℕ) → bit (not (n + 1 == 0) && not false) ≡ 1
         open_one n = grind arith
 
-    after_open : ((k / 8 == a) && (k % 8 == 0)) ≡ false → z.memory (Slot (k / 8) (k % 8)) ≡ scanned (z.seats a).scan + 1 → open_at (write z.memory (Handover (k / 8) (k % 8)) (scanned (z.seats a).scan + 1)) a (k / 8) (k % 8) ≡ 0
-    after_open o w = rw (o, w, eq-eqb (k / 8) (k / 8) refl, eq-eqb (k % 8) (k % 8) refl, eq-eqb (scanned (z.seats a).scan + 1) (scanned (z.seats a).scan + 1) refl) (open_none (scanned (z.seats a).scan))
+    after_open : ((k / 8 == a) && (k % 8 == 0)) ≡ false → z.memory (Slot (k / 8) (k % 8)) ≡ scanned (z.seats a).scan + 1
+        → open_at (write z.memory (Handover (k / 8) (k % 8)) (scanned (z.seats a).scan + 1)) a (k / 8) (k % 8) ≡ 0
+    after_open o w = rw (
+      o,
+      w,
+      eq-eqb (k / 8) (k / 8) refl,
+      eq-eqb (k % 8) (k % 8) refl,
+      eq-eqb (scanned (z.seats a).scan + 1)
+          (scanned (z.seats a).scan + 1) refl,
+    ) (open_none (scanned (z.seats a).scan))
       where
         open_none : (n : ℕ) → bit (not (n + 1 == 0) && not true) ≡ 0
         open_none n = grind arith
 
-    other_full : ((k / 8 == a) && (k % 8 == 0)) ≡ false → write z.memory (Handover (k / 8) (k % 8)) (scanned (z.seats a).scan + 1) (Handover a 0) ≡ z.memory (Handover a 0)
+    other_full : ((k / 8 == a) && (k % 8 == 0)) ≡ false → write z.memory (Handover (k / 8) (k % 8)) (scanned (z.seats a).scan + 1) (Handover a 0) ≡ z.memory
+        (Handover a 0)
     other_full o = cases ((a == k / 8) && (0 == k % 8)) refl
       where
         cases : (t : Bool) → ((a == k / 8) && (0 == k % 8)) ≡ t → cond t (scanned (z.seats a).scan + 1) (z.memory (Handover a 0)) ≡ z.memory (Handover a 0)
@@ -398,7 +427,8 @@ hand_work b z a k p rows e w =
             let j = eqb-true 0 (k % 8) y.1 in
             absurd (false≢true (sym o ∙ rw (eq-eqb (k / 8) a (sym i), eq-eqb (k % 8) 0 (sym j)) refl))
 
-    token_other : (b : Bounds) (z : World) (a x j r : ℕ) → HasToken b z r → a < b.agents → x < b.agents → j < 8 → scans (z.seats a).scan r ≡ true → (z.memory (Handover x j) == r + 1) ≡ false
+    token_other : (b : Bounds) (z : World) (a x j r : ℕ) → HasToken b z r → a < b.agents → x < b.agents → j < 8 → scans (z.seats a).scan r ≡ true
+        → (z.memory (Handover x j) == r + 1) ≡ false
     token_other b z a x j r t ha hx hj s = cases (z.memory (Handover x j) == r + 1) refl
       where
         cases : (u : Bool) → (z.memory (Handover x j) == r + 1) ≡ u → u ≡ false

@@ -34,16 +34,19 @@ pub own_keep : (m : Machine) (a x : ℕ) (xs : List (ℕ × Op)) → AllOf a xs 
 own_keep m a x [] h n = refl
 own_keep m a x (y ∷ ys) h n = own_keep (step m y.0 y.1) a x ys h.1 n ∙ kept
   where
-    kept : slice_index_or (slice_set m.agents y.0 (after y.1 (record_at m y.0) (word_read m y.0 y.1))) x (nobody m.bounds.rows) ≡ slice_index_or m.agents x (nobody m.bounds.rows)
+    kept : slice_index_or (slice_set m.agents y.0 (after y.1 (record_at m y.0) (word_read m y.0 y.1))) x (nobody m.bounds.rows) ≡ slice_index_or m.agents x
+        (nobody m.bounds.rows)
     kept = get_or-set_other m.agents y.0 x (after y.1 (record_at m y.0) (word_read m y.0 y.1)) (nobody m.bounds.rows) (λ e. n (e ∙ h.0))
 
 pub still_no_slots : (m n : Machine) (a : ℕ) (xs : List (ℕ × Op)) → AllOf a xs → n ≡ run m xs → NoSlotsBut a m → NoSlotsBut a n
 still_no_slots m n a xs h e s x j ne = subst (λ d. is_empty (slot_of d j) ≡ true) (sym (ap (λ w. record_at w x) e ∙ own_keep m a x xs h ne)) (s x j ne)
 
-pub zero_join : (m n o : Machine) (a : ℕ) (xs ys : List (ℕ × Op)) → n ≡ run m xs → (AllOf a xs → NoSlotsBut a m → StaysZero a m n) → (AllOf a ys → NoSlotsBut a n → StaysZero a n o) → AllOf a (xs ++ ys) → NoSlotsBut a m → StaysZero a m o
+pub zero_join : (m n o : Machine) (a : ℕ) (xs ys : List (ℕ × Op)) → n ≡ run m xs → (AllOf a xs → NoSlotsBut a m → StaysZero a m n)
+    → (AllOf a ys → NoSlotsBut a n → StaysZero a n o) → AllOf a (xs ++ ys) → NoSlotsBut a m → StaysZero a m o
 zero_join m n o a xs ys e f g h s x k lx lk ne z =
     let b : n.bounds ≡ m.bounds = ap (λ (w : Machine). w.bounds) e ∙ run_bounds m xs in
-    g (all_right a xs ys h) (still_no_slots m n a xs (all_left a xs ys h) e s) x k (subst (λ (c : Bounds). x < c.agents) (sym b) lx) lk ne (f (all_left a xs ys h) s x k lx lk ne z)
+    g (all_right a xs ys h) (still_no_slots m n a xs (all_left a xs ys h) e s) x k (subst (λ (c : Bounds). x < c.agents) (sym b) lx) lk ne
+    (f (all_left a xs ys h) s x k lx lk ne z)
 
 abbrev pub turn_join : (a x y : ℕ) (m n k : Machine) → Turn a x m n → Turn a y n k → Turn a (x + y) m k
 turn_join a x y m n k t u = record {
@@ -78,17 +81,25 @@ pub none_all : (a : ℕ) (xs : List (ℕ × Op)) → NoneOf a xs → AllOf a xs 
 none_all a [] n h = refl
 none_all a (x ∷ xs) n h = absurd (n.0 h.0)
 
-pub reached_falls : (m : Machine) (a : ℕ) (op : Op) → IsReachedState m → is_allowed m a op ≡ true → IsSettlingStep (word_in m) op (record_at m a) → work_left (step m a op) a + drop_of op (record_at m a) ≤ work_left m a
-reached_falls m a op r = subst (λ w. is_allowed w a op ≡ true → IsSettlingStep (word_in w) op (record_at w a) → work_left (step w a op) a + drop_of op (record_at w a) ≤ work_left w a) (sym r.is) (work_falls r.bounds r.steps a op r.shape r.lawful)
+pub reached_falls : (m : Machine) (a : ℕ) (op : Op) → IsReachedState m → is_allowed m a op ≡ true → IsSettlingStep (word_in m) op (record_at m a)
+    → work_left (step m a op) a + drop_of op (record_at m a) ≤ work_left m a
+reached_falls m a op r = subst (λ w. is_allowed w a op ≡ true → IsSettlingStep (word_in w) op (record_at w a)
+    → work_left (step w a op) a + drop_of op (record_at w a) ≤ work_left w a) (sym r.is) (work_falls r.bounds r.steps a op r.shape r.lawful)
 
-pub reached_hands : (m : Machine) (a : ℕ) (op : Op) (k : ℕ) → k < 8 → IsReachedState m → is_allowed m a op ≡ true → IsSettlingStep (word_in m) op (record_at m a) → word_in m (Handover a k) ≡ 0 → word_in (step m a op) (Handover a k) ≡ 0
-reached_hands m a op k i r = subst (λ w. is_allowed w a op ≡ true → IsSettlingStep (word_in w) op (record_at w a) → word_in w (Handover a k) ≡ 0 → word_in (step w a op) (Handover a k) ≡ 0) (sym r.is) (own_words r.bounds r.steps a op k r.shape r.lawful i)
+pub reached_hands : (m : Machine) (a : ℕ) (op : Op) (k : ℕ) → k < 8 → IsReachedState m → is_allowed m a op ≡ true
+    → IsSettlingStep (word_in m) op (record_at m a) → word_in m (Handover a k) ≡ 0 → word_in (step m a op) (Handover a k) ≡ 0
+reached_hands m a op k i r = subst (λ w. is_allowed w a op ≡ true → IsSettlingStep (word_in w) op (record_at w a) → word_in w (Handover a k) ≡ 0
+    → word_in (step w a op) (Handover a k) ≡ 0) (sym r.is) (own_words r.bounds r.steps a op k r.shape r.lawful i)
 
-pub reached_others : (m : Machine) (a : ℕ) (op : Op) (x k : ℕ) → x < m.bounds.agents → k < 8 → x ≢ a → IsReachedState m → is_allowed m a op ≡ true → IsSettlingStep (word_in m) op (record_at m a) → NoSlotsBut a m → word_in m (Handover x k) ≡ 0 → word_in (step m a op) (Handover x k) ≡ 0
-reached_others m a op x k lx lk ne r = subst (λ w. x < w.bounds.agents → is_allowed w a op ≡ true → IsSettlingStep (word_in w) op (record_at w a) → NoSlotsBut a w → word_in w (Handover x k) ≡ 0 → word_in (step w a op) (Handover x k) ≡ 0) (sym r.is) (other_handovers r.bounds r.steps a op x k r.shape r.lawful lk ne) lx
+pub reached_others : (m : Machine) (a : ℕ) (op : Op) (x k : ℕ) → x < m.bounds.agents → k < 8 → x ≢ a → IsReachedState m → is_allowed m a op ≡ true
+    → IsSettlingStep (word_in m) op (record_at m a) → NoSlotsBut a m → word_in m (Handover x k) ≡ 0 → word_in (step m a op) (Handover x k) ≡ 0
+reached_others m a op x k lx lk ne r = subst (λ w. x < w.bounds.agents → is_allowed w a op ≡ true → IsSettlingStep (word_in w) op (record_at w a)
+    → NoSlotsBut a w → word_in w (Handover x k) ≡ 0 → word_in (step w a op) (Handover x k) ≡ 0) (sym r.is)
+    (other_handovers r.bounds r.steps a op x k r.shape r.lawful lk ne) lx
 
 -- a step that settles is a turn: alone, it was made right at the state before
-abbrev pub made_turn : (m n : Machine) (a : ℕ) (op : Op) → IsReachedState m → is_allowed m a op ≡ true → IsSettlingStep (word_in m) op (record_at m a) → Made a op m n → Turn a (drop_of op (record_at m a)) m n
+abbrev pub made_turn : (m n : Machine) (a : ℕ) (op : Op) → IsReachedState m → is_allowed m a op ≡ true → IsSettlingStep (word_in m) op (record_at m a)
+    → Made a op m n → Turn a (drop_of op (record_at m a)) m n
 made_turn m n a op r h s k = record {
   steps = k.others ++ (a, op) ∷ [];
   lawful = k.lawful;

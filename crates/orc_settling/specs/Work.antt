@@ -48,7 +48,9 @@ uncut None = 2
 uncut (Some d) = cond d.cut 1 2
 
 abbrev pub work_of : Bounds → (Word → ℕ) → ℕ → Agent → ℕ
-work_of b m a d = 3 * rows_out b m + entries d + is_full (m (Handover a 0)) + slots_open b m a + staleness m d.scan + bit (is_some d.dec) + bit (is_some d.due) + uncut d.doom
+work_of b m a d =
+    3 * rows_out b m + entries d + is_full (m (Handover a 0)) + slots_open b m a
+    + staleness m d.scan + bit (is_some d.dec) + bit (is_some d.due) + uncut d.doom
 
 abbrev pub work_left : Machine → ℕ → ℕ
 work_left m a = work_of m.bounds (word_in m) a (record_at m a)

@@ -10,7 +10,8 @@ use Rattle.orc_board_settling.proofs.rounds.+look_over.Goals as goal
 
 pub settle_step-requires-clause-allowed : goal.settle_step-requires-clause-allowed
 settle_step-requires-clause-allowed g t c =
-    end_allowed (state_of c.args.board.now c.args.p.now) c.args.agent c.args.row c.args.k c.requires.pass.reached c.requires.pass.low c.requires.still c.requires.scan
+    end_allowed (state_of c.args.board.now c.args.p.now) c.args.agent c.args.row c.args.k c.requires.pass.reached c.requires.pass.low c.requires.still
+    c.requires.scan
     (let e = c.requires.left in let z = c.if-left-eq0.true in omega arith)
 
 pub overflow_add-k : goal.overflow_add-k
@@ -24,7 +25,8 @@ returns-then-is_some-clause-opens g t c =
     let b = board_bounds c.args.board.now in
     let a = c.args.agent in
     opens_less b a 3 1 (shows c.args.p.now) (shows c.free_doomed.new.p) (omega arith)
-    (opens_then b a 1 2 (shows c.args.p.now) (shows c.settle_step.new.p) (shows c.free_doomed.new.p) (c.settle_step.ensures.opens tt) c.free_doomed.ensures.goes)
+    (opens_then b a 1 2 (shows c.args.p.now) (shows c.settle_step.new.p) (shows c.free_doomed.new.p)
+    (c.settle_step.ensures.opens tt) c.free_doomed.ensures.goes)
 
 pub returns-else-is_some-clause-opens : goal.returns-else-is_some-clause-opens
 returns-else-is_some-clause-opens g t c = c.settle_step.ensures.opens tt
@@ -37,7 +39,8 @@ settle_step-requires-then-look_step-clause-allowed g t c =
     let e = c.requires.left in
     let ne = c.if-left-eq0.false in
     let agents = ap (λ (b : Bounds). b.agents) (bounds_are board c.look_step.new.p ∙ sym (bounds_are board c.args.p.now)) in
-    hand_allowed n c.args.agent c.args.row c.args.k c.look_step.ensures.pass.low looks.still (looks.found (sym c.look_step.ensures.found ∙ c.if-look_step.true)) (omega arith)
+    hand_allowed n c.args.agent c.args.row c.args.k c.look_step.ensures.pass.low looks.still
+    (looks.found (sym c.look_step.ensures.found ∙ c.if-look_step.true)) (omega arith)
 
 pub returns-then-look_step-clause-opens : goal.returns-then-look_step-clause-opens
 returns-then-look_step-clause-opens g t c =

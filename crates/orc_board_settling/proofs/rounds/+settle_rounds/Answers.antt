@@ -14,4 +14,5 @@ pub returns-then-left-eq0-clause-rounds : goal.returns-then-left-eq0-clause-roun
 returns-then-left-eq0-clause-rounds g t c = rounds_zero (board_bounds c.args.board.now) c.args.agent c.args.left (shows c.args.p.now) c.if-left-eq0.true
 
 pub returns-in_default-clause-rounds : goal.returns-in_default-clause-rounds
-returns-in_default-clause-rounds g t c = rounds_over (board_bounds c.args.board.now) c.args.agent c.args.left (shows c.args.p.now) (c.in_default.ensures.none refl)
+returns-in_default-clause-rounds g t c = rounds_over (board_bounds c.args.board.now) c.args.agent c.args.left (shows c.args.p.now)
+    (c.in_default.ensures.none refl)

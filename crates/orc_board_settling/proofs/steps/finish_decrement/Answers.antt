@@ -21,7 +21,8 @@ settle_step-requires-in-Some-clause-allowed g c =
 
 pub try_due-requires-clause-due : goal.try_due-requires-clause-due
 try_due-requires-clause-due g c =
-    due_decremented (state_of c.args.board.now c.args.p.now) (state_of c.args.board.now c.settle_step.new.p) (state_of c.args.board.now c.settle_step-in-Some.new.p)
+    due_decremented (state_of c.args.board.now c.args.p.now) (state_of c.args.board.now c.settle_step.new.p)
+    (state_of c.args.board.now c.settle_step-in-Some.new.p)
     c.args.agent c.in-Some.row c.requires.pass.reached c.requires.due
     (ap (λ (d : Agent). d.dec) (sym c.own_record.ensures) ∙ c.in-Some.is)
     c.settle_step.ensures.goes.went.bounds c.settle_step-in-Some.ensures.goes.went.bounds c.settle_step.ensures.record c.settle_step-in-Some.ensures.record

@@ -10,7 +10,8 @@ use Rattle.orc_board_settling.proofs.steps.free_doomed.Goals as goal
 
 pub settle_step-requires-clause-allowed : goal.settle_step-requires-clause-allowed
 settle_step-requires-clause-allowed g c =
-    unretire_cut (state_of c.args.board.now c.args.p.now) (state_of c.args.board.now c.take_link_out.new.p) (state_of c.args.board.now c.finish_decrement.new.p) c.args.agent
+    unretire_cut (state_of c.args.board.now c.args.p.now) (state_of c.args.board.now c.take_link_out.new.p)
+    (state_of c.args.board.now c.finish_decrement.new.p) c.args.agent
     c.args.row c.requires.pass.reached c.requires.pass.low c.requires.doom
     c.take_link_out.ensures.record c.finish_decrement.ensures.kept c.finish_decrement.ensures.still c.take_link_out.ensures.goes.went.bounds
     c.finish_decrement.ensures.goes.went.bounds c.requires.scan
@@ -36,4 +37,5 @@ returns-clause-goes g c =
     let scan : d.scan ≡ None = c.finish_decrement.ensures.kept.scan ∙ (ap (λ (e : Agent). e.scan) c.take_link_out.ensures.record.is ∙ c.requires.scan) in
     let zero : bit (is_some d.scan) ≡ 0 = ap (λ o. bit (is_some o)) scan in
     goes_then b a 0 2 s t w c.take_link_out.ensures.goes
-    (goes_then b a 0 2 t u w c.finish_decrement.ensures.goes (goes_then b a 0 2 u v w (goes_is b a (bit (is_some d.scan)) 0 u v zero c.settle_step.ensures.goes) c.settle_step-2.ensures.goes))
+    (goes_then b a 0 2 t u w c.finish_decrement.ensures.goes (goes_then b a 0 2 u v w
+    (goes_is b a (bit (is_some d.scan)) 0 u v zero c.settle_step.ensures.goes) c.settle_step-2.ensures.goes))

@@ -11,7 +11,8 @@ use Rattle.orc_board_settling.proofs.steps.look_step.Goals as goal
 pub slot_look-requires-clause-allowed : goal.slot_look-requires-clause-allowed
 slot_look-requires-clause-allowed g c =
     may_do c.args.board.now c.args.agent c.args.p.now c.requires.pass (SlotLook c.args.k) tt
-    (look_allowed (state_of c.args.board.now c.args.p.now) c.args.agent c.args.row c.args.k c.requires.pass.low c.requires.still c.requires.scan c.requires.place)
+    (look_allowed (state_of c.args.board.now c.args.p.now) c.args.agent c.args.row c.args.k c.requires.pass.low c.requires.still c.requires.scan
+    c.requires.place)
 
 pub returns-clause-pass : goal.returns-clause-pass
 returns-clause-pass g c =
@@ -22,7 +23,8 @@ pub returns-clause-opens : goal.returns-clause-opens
 returns-clause-opens g c =
     opens c.args.board.now c.args.agent (SlotLook c.args.k) c.args.p.now c.slot_look.new.p c.slot_look.result c.requires.pass c.slot_look.ensures.belongs
     c.slot_look.ensures.made (λ i w. refl) tt
-    (look_allowed (state_of c.args.board.now c.args.p.now) c.args.agent c.args.row c.args.k c.requires.pass.low c.requires.still c.requires.scan c.requires.place) tt tt
+    (look_allowed (state_of c.args.board.now c.args.p.now) c.args.agent c.args.row c.args.k c.requires.pass.low c.requires.still c.requires.scan
+    c.requires.place) tt tt
 
 pub returns-clause-looks : goal.returns-clause-looks
 returns-clause-looks g c =
@@ -35,6 +37,7 @@ returns-clause-looks g c =
 
 pub returns-clause-found : goal.returns-clause-found
 returns-clause-found g c =
-    let pass = next_pass c.args.board.now c.args.agent (SlotLook c.args.k) c.args.p.now c.slot_look.new.p c.slot_look.result c.requires.pass c.slot_look.ensures.belongs
+    let pass = next_pass c.args.board.now c.args.agent (SlotLook c.args.k) c.args.p.now c.slot_look.new.p c.slot_look.result c.requires.pass
+    c.slot_look.ensures.belongs
     c.slot_look.ensures.made in
     c.is_found.ensures ∙ ap (λ (d : Agent). scan_found d.scan) (c.record.ensures ∙ sym (mine c.args.board.now c.args.agent c.slot_look.new.p pass))

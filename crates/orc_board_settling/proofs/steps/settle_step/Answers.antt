@@ -9,17 +9,20 @@ plain_step-requires-clause-allowed g c = may_do c.args.board.now c.args.agent c.
 
 pub returns-clause-goes : goal.returns-clause-goes
 returns-clause-goes g c =
-    goes c.args.board.now c.args.agent c.args.op c.args.p.now c.plain_step.new.p c.plain_step.result c.requires.pass c.plain_step.ensures.belongs c.plain_step.ensures.makes
+    goes c.args.board.now c.args.agent c.args.op c.args.p.now c.plain_step.new.p c.plain_step.result c.requires.pass c.plain_step.ensures.belongs
+    c.plain_step.ensures.makes
     (λ i w. silent i (record_of c.args.board.now c.args.agent c.args.p.now) (record_of c.args.board.now c.args.agent c.args.p.now) w
     (word_in (state_of c.args.board.now c.args.p.now)) c.args.op c.requires.plain c.requires.settles)
     c.requires.clears_none c.requires.allowed c.requires.settles
 
 pub returns-clause-opens : goal.returns-clause-opens
 returns-clause-opens g c =
-    opens c.args.board.now c.args.agent c.args.op c.args.p.now c.plain_step.new.p c.plain_step.result c.requires.pass c.plain_step.ensures.belongs c.plain_step.ensures.makes
+    opens c.args.board.now c.args.agent c.args.op c.args.p.now c.plain_step.new.p c.plain_step.result c.requires.pass c.plain_step.ensures.belongs
+    c.plain_step.ensures.makes
     (λ i w. silent i (record_of c.args.board.now c.args.agent c.args.p.now) (record_of c.args.board.now c.args.agent c.args.p.now) w
     (word_in (state_of c.args.board.now c.args.p.now)) c.args.op c.requires.plain c.requires.settles)
     c.requires.clears_none c.requires.allowed c.requires.settles
 
 pub returns-clause-pass : goal.returns-clause-pass
-returns-clause-pass g c = next_pass c.args.board.now c.args.agent c.args.op c.args.p.now c.plain_step.new.p c.plain_step.result c.requires.pass c.plain_step.ensures.belongs c.plain_step.ensures.makes
+returns-clause-pass g c = next_pass c.args.board.now c.args.agent c.args.op c.args.p.now c.plain_step.new.p c.plain_step.result c.requires.pass
+    c.plain_step.ensures.belongs c.plain_step.ensures.makes

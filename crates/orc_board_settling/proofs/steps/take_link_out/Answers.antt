@@ -17,11 +17,13 @@ link_store-requires-clause-allowed g c =
 
 pub returns-clause-goes : goal.returns-clause-goes
 returns-clause-goes g c =
-    goes c.args.board.now c.args.agent (LinkStore c.args.row (record { to = None; mark = false })) c.args.p.now c.link_store.new.p c.link_store.result c.requires.pass c.link_store.ensures.belongs c.link_store.ensures.makes
+    goes c.args.board.now c.args.agent (LinkStore c.args.row (record { to = None; mark = false })) c.args.p.now c.link_store.new.p c.link_store.result
+    c.requires.pass c.link_store.ensures.belongs c.link_store.ensures.makes
     (λ i w. no_fresh_act i (record_of c.args.board.now c.args.agent c.args.p.now) w c.args.row c.requires.still) tt
     (cut_allowed (state_of c.args.board.now c.args.p.now) c.args.agent c.args.row c.requires.pass.reached
     c.requires.pass.low c.requires.still c.requires.doom)
     (cut_settles c.args.row (record_of c.args.board.now c.args.agent c.args.p.now) (word_in (state_of c.args.board.now c.args.p.now)) c.requires.doom)
 
 pub returns-clause-pass : goal.returns-clause-pass
-returns-clause-pass g c = next_pass c.args.board.now c.args.agent (LinkStore c.args.row (record { to = None; mark = false })) c.args.p.now c.link_store.new.p c.link_store.result c.requires.pass c.link_store.ensures.belongs c.link_store.ensures.makes
+returns-clause-pass g c = next_pass c.args.board.now c.args.agent (LinkStore c.args.row (record { to = None; mark = false })) c.args.p.now
+    c.link_store.new.p c.link_store.result c.requires.pass c.link_store.ensures.belongs c.link_store.ensures.makes
