@@ -13,6 +13,7 @@ mod list_threads;
 mod meeting;
 mod queue_calls;
 mod queue_threads;
+mod refusals;
 mod workers;
 
 #[test]
