@@ -28,3 +28,4 @@ pub mod Testing
 pub mod Trying
 pub mod Untouched
 pub mod Wearing
+pub mod Resting

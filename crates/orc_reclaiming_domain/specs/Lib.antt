@@ -6,3 +6,5 @@ pub mod OwnSteps
 pub mod Passes
 pub mod Searches
 pub mod Seats
+pub mod Ends
+pub mod Rest

@@ -1,15 +1,19 @@
 //! A domain of links whose rows are reclaimed: each row is counted, retired, scanned for, freed and given again.
 #![tactic(auto)]
 
+mod at_rest;
 mod changes;
 mod counts;
 mod domain;
+mod ends;
 mod laws;
 mod links;
 mod make;
+mod rest;
 mod search;
 mod steps;
 
+pub use at_rest::OrcRest;
 pub use domain::{OrcDomain, OrcPass};
 
 #[cfg(test)]

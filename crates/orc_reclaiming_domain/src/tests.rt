@@ -15,6 +15,7 @@ use std::test::Fail;
 use std::thread::{Threads, join_mut};
 
 mod changes;
+mod ends;
 mod other;
 
 use other::{reuse_row_0, reuse_row_1, start_row_0, unlink_row_0};

@@ -1,0 +1,84 @@
+//! How a domain comes to be one at rest, and what that tells.
+
+ghost use Rattle.std.specs.Prelude.{◌≡◌, ◌+◌, ◌++◌};
+ghost use Rattle.std.specs.List.{AllByRecursion};
+ghost use Rattle.orc_board_rest.specs.Ends.{TakesIn};
+ghost use Rattle.orc_board_rest.specs.Looks.{gate_looks};
+ghost use Rattle.orc_core.specs.Machine.{new_machine};
+ghost use Rattle.orc_machine_board.specs.Rules.{run_of};
+ghost use Rattle.orc_machine_board.specs.Views.{Belongs, shows};
+ghost use Rattle.orc_reclaiming_domain.specs.Ends.{AreAll, SawAll, whole_journal};
+ghost use Rattle.orc_reclaiming_domain.specs.Passes.{IsPassOf, domain_bounds};
+ghost use Rattle.orc_reclaiming_domain.specs.Rest.{IsShown, rest_domain, rest_journal};
+ghost use Rattle.orc_rest.specs.Rest.{IsAtRest};
+ghost use Rattle.orc_rest.specs.Reuse.{given, reused, rows_out};
+ghost use Rattle.orc_sound.specs.Journals.{plain};
+
+use crate::at_rest::OrcRest;
+use crate::domain::{OrcDomain, OrcPass};
+use orc_board_rest::count_rows;
+use orc_heap::Discipline;
+use orc_machine_board::MachineBoardPass;
+
+impl<D: Discipline> OrcRest<D> {
+    /// How many rows were given, each as often as it was.
+    pub fn given(&self) -> u64
+        ensures { result ≡ given (new_machine (domain_bounds (rest_domain self.now))) (plain (rest_journal self.now)) }
+    {
+        self.counts.given
+    }
+
+    /// How many rows were freed, to be given again, each as often as it was.
+    pub fn reused(&self) -> u64
+        ensures { result ≡ reused (plain (rest_journal self.now)) }
+    {
+        self.counts.reused
+    }
+
+    /// How many rows are out.
+    pub fn linked(&self) -> u32
+        ensures { result ≡ rows_out (run_of (domain_bounds (rest_domain self.now)) (rest_journal self.now)) }
+    {
+        self.counts.linked
+    }
+}
+
+impl<D: Discipline> OrcDomain<D> {
+    /// Ends the sharing: the first pass takes in all others, and looks at each gate. It has to have seen all that they did, and
+    /// the table has to be at rest.
+    pub fn rest(self, passes: Vec<OrcPass<D>>) -> OrcRest<D>
+        requires all { AreAll self passes.items }
+        requires own { SawAll passes.items }
+        requires rest { IsAtRest (run_of (domain_bounds self) (whole_journal passes.items)) }
+        ensures domain { rest_domain result ≡ self }
+        ensures shown { IsShown result }
+        ensures journal { rest_journal result ≡ whole_journal passes.items ++ gate_looks 0 (domain_bounds self).rows }
+        ensures rest { IsAtRest (run_of (domain_bounds self) (rest_journal result)) }
+    {
+        let mut others = passes;
+        let first = others.remove(0);
+        let OrcPass { mut pass, next: _ } = first;
+        self.take_in_all(&mut pass, others);
+        let counts = count_rows(&self.board, &mut pass);
+        OrcRest {
+            domain: self,
+            pass,
+            counts,
+        }
+    }
+
+    // Takes in the passes, one after another.
+    fn take_in_all(&self, into: &mut MachineBoardPass<D>, others: Vec<OrcPass<D>>)
+        requires into { Belongs self.now.board into.old }
+        requires others { AllByRecursion (λ p. IsPassOf self.now p) others.items }
+        ensures into { Belongs self.now.board into.new }
+        ensures taken { TakesIn (λ p. shows p.pass) (shows into.old) (shows into.new) others.items }
+    {
+        let mut rest = others;
+        while !rest.is_empty() {
+            let next = rest.remove(0);
+            let OrcPass { pass, next: _ } = next;
+            self.board.absorb(into, pass);
+        }
+    }
+}
