@@ -9,12 +9,14 @@ mod ends;
 mod laws;
 mod links;
 mod make;
+mod reached;
 mod rest;
 mod search;
 mod steps;
 
 pub use at_rest::OrcRest;
 pub use domain::{OrcDomain, OrcPass};
+pub use reached::what_is_left_is_reached;
 
 #[cfg(test)]
 mod tests;
