@@ -1,10 +1,11 @@
-//! The containers in their smallest uses, over the plain domain: each public call once, as a program makes it.
+//! The containers in their smallest uses, over both domains: each public call once, as a program makes it.
 #![tactic(auto)]
 
 mod board_run;
 mod list;
 mod one_thread;
 mod queue;
+mod reclaiming;
 mod two_threads;
 mod word_set;
 
@@ -12,6 +13,10 @@ pub use board_run::{fresh_desks, run_over_words};
 pub use list::{DomainList, ListPass, next_list_pass, one_list_over};
 pub use one_thread::put_and_take;
 pub use queue::{DomainQueue, QueuePass, Unmade, next_pass, plain_queue, queue_over};
+pub use reclaiming::{
+    ReclaimingList, ReclaimingListPass, ReclaimingQueue, ReclaimingQueuePass, reclaiming_list_over,
+    reclaiming_queue_over,
+};
 pub use two_threads::put_beside_take;
 pub use word_set::{PresenceWords, WordSet, WordSetCall, WordSetPass, WordSetShape};
 
