@@ -5,6 +5,7 @@ ghost use mathlib.Core.List.{IsPrefix};
 ghost use Rattle.orc_heap.specs.OwnEvents.{Only};
 ghost use Rattle.orc_heap.specs.Seats.{IsIdle};
 ghost use Rattle.orc_history.specs.Parts.{IsAlone};
+ghost use Rattle.orc_board_draining.specs.Drains.{Drains};
 ghost use Rattle.orc_board_settling.specs.OwnSteps.{LeavesNothing};
 ghost use Rattle.orc_machine_board.specs.Passes.{backlog_in};
 ghost use Rattle.orc_machine_board.specs.Rules.{run_of};
@@ -31,6 +32,7 @@ impl<D: Discipline> OrcDomain<D> {
         ensures handovers { IsAlone (λ s. s.agent) (seat_of self.now p.old).agent (journal_of p.old) (journal_of p.new)
             → NoneHanded (seat_of self.now p.old).agent (run_of (domain_bounds self.now) (journal_of p.new)) }
         ensures taken_in { LeavesNothing (seat_of self.now p.old).agent (journal_of p.old) (journal_of p.new) }
+        ensures drains { Drains (domain_bounds self.now) (seat_of self.now p.old).agent (shows p.old.pass) (shows p.new.pass) }
     {
         drain(&self.board, &mut p.pass);
     }
