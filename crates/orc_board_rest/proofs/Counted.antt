@@ -83,7 +83,8 @@ module _ {D N : Type 0} {d : discipline.Ghosts D N} {m : machine.Ghosts Reclaimi
             subst (λ n. n ≤ 2 ^ 39 * row) (sym c.given_is)
             (lives_low (board_bounds board) (shows p).journal row (shape board) h.keeps.now.lawful.0 (omega arith))
 
-        module _ (all : TookInAll (board_bounds board) (shows p)) (r : MachineBoardPass D N (MachineShape N) Request (Step N) Agent Agent d m) (x : Belongs board r)
+        module _ (all : TookInAll (board_bounds board) (shows p)) (r : MachineBoardPass D N (MachineShape N) Request (Step N) Agent Agent d m)
+            (x : Belongs board r)
             (n : ℕ) (made : MakesPlain (board_bounds board) (GateLook row) (shows q) n (shows r))
           where
             abbrev b : Bounds
@@ -120,7 +121,8 @@ module _ {D N : Type 0} {d : discipline.Ghosts D N} {m : machine.Ghosts Reclaimi
               looks = subst MayLookAtGates (sym made.record_is)
                   (record { enrolled = c.looks.enrolled; due = c.looks.due; inc = c.looks.inc; dec = c.looks.dec });
               words = ap (λ j. (run_of b j).words) next ∙ (looked_words b (shows q).journal (shows q).agent row ∙ c.words);
-              journal = next ∙ subst (λ k. ((shows q).journal ++ does (shows q).agent (GateLook row) None ∷ []) ≡ ((shows p).journal ++ gate_looks (shows p).agent k))
+              journal =
+                  next ∙ subst (λ k. ((shows q).journal ++ does (shows q).agent (GateLook row) None ∷ []) ≡ ((shows p).journal ++ gate_looks (shows p).agent k))
                   (one_more row) joined;
               inside = c.inside;
               given_is = subst (λ k. given + n / 2 ≡ sum_below k (life_at b (shows p).journal)) (one_more row) (λ i. c.given_is i + gate i / 2);

@@ -1,5 +1,6 @@
 -- Looks at gates leave a table at rest.
-use Rattle.std.proofs.Common.{Bool, List, None, [], ap, append-nil, append_assoc, false, get_or-set_other, get_or-set_same, length, refl, subst, suc, sym, true, zero, ℕ, ◌++◌, ◌<◌, ◌∙◌, ◌∷◌, ◌≡◌}
+use Rattle.std.proofs.Common.{Bool, List, None, [], ap, append-nil, append_assoc, false, get_or-set_other, get_or-set_same, length}
+use Rattle.std.proofs.Common.{refl, subst, suc, sym, true, zero, ℕ, ◌++◌, ◌<◌, ◌∙◌, ◌∷◌, ◌≡◌}
 use Rattle.std.proofs.lemmas.Bool.{eq-eqb, eqb-true, false≢true}
 use Rattle.std.specs.Prelude.{slice_index, ◌==◌}
 use Rattle.orc_board_rest.proofs.GateWords.{look_keeps}
@@ -27,12 +28,14 @@ look_rests m a r long q = record {
 }
   where
     by_agent : (x : ℕ) → x < m.bounds.agents → (t : Bool) → (x == a) ≡ t → IsResting (record_at (step m a (GateLook r)) x)
-    by_agent x h false e = subst IsResting (sym (get_or-set_other m.agents a x _ (nobody m.bounds.rows) (λ p. false≢true (sym e ∙ eq-eqb x a p)))) (q.agents x h)
+    by_agent x h false e =
+        subst IsResting (sym (get_or-set_other m.agents a x _ (nobody m.bounds.rows) (λ p. false≢true (sym e ∙ eq-eqb x a p)))) (q.agents x h)
     by_agent x h true e =
         let same : x ≡ a = eqb-true x a e in
         let there : a < length m.agents = rw (long, ← same) h in
         subst (λ y. IsResting (record_at (step m a (GateLook r)) y)) (sym same)
-        (subst IsResting (sym (get_or-set_same m.agents a _ (nobody m.bounds.rows) there)) (looked_rests r (word_read m a (GateLook r)) (record_at m a) (q.agents a (rw (← same) h))))
+        (subst IsResting (sym (get_or-set_same m.agents a _ (nobody m.bounds.rows) there))
+        (looked_rests r (word_read m a (GateLook r)) (record_at m a) (q.agents a (rw (← same) h))))
 
 pub still_at_rest : {N : Type 0} (b : Bounds) (j : List (Step N)) (a n : ℕ) → IsShape b → IsAtRest (run_of b j) → IsAtRest (run_of b (j ++ gate_looks a n))
 still_at_rest b j a zero shape q = subst (λ k. IsAtRest (run_of b k)) (sym (append-nil j)) q

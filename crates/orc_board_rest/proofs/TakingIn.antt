@@ -51,41 +51,41 @@ module _ {N W : Type 0} (view : W → MachineView N) where
   module _ (b : Bounds) (ps : List W) (w : W) (ws : List W) (is : ps ≡ w ∷ ws) (many : length ps ≡ b.agents) (order : EachAt (λ i p. (view p).agent ≡ i) ps)
       (t : MachineView N) (k : TakesIn view (view w) t ws)
     where
-    long : length ws + 1 ≡ b.agents
-    long = let e = ap (λ (xs : List W). length xs) is in omega arith
+      long : length ws + 1 ≡ b.agents
+      long = let e = ap (λ (xs : List W). length xs) is in omega arith
 
-    in_order : EachAt (λ i p. (view p).agent ≡ i) (w ∷ ws)
-    in_order = subst (EachAt (λ i p. (view p).agent ≡ i)) is order
+      in_order : EachAt (λ i p. (view p).agent ≡ i) (w ∷ ws)
+      in_order = subst (EachAt (λ i p. (view p).agent ≡ i)) is order
 
-    pub first_number : (view w).agent ≡ 0
-    first_number = in_order 0 w (omega arith)
+      pub first_number : (view w).agent ≡ 0
+      first_number = in_order 0 w (omega arith)
 
-    -- what the last pass has of each agent
-    taken_at : (i : ℕ) → i < length ws → Among (suc i) t.absorbed × (steps_of (suc i) t.journal ≡ steps_of (suc i) (view (slice_index_or ws i w)).journal)
-    taken_at i l =
-        let a = All-from_recursion (λ p. Among (view p).agent t.absorbed × HasOwnSteps t.journal (view p)) ws k.taken i w l in
-        subst (λ z. Among z t.absorbed × (steps_of z t.journal ≡ steps_of z (view (slice_index_or ws i w)).journal))
-        (in_order (suc i) w (omega (arith, l))) a
+      -- what the last pass has of each agent
+      taken_at : (i : ℕ) → i < length ws → Among (suc i) t.absorbed × (steps_of (suc i) t.journal ≡ steps_of (suc i) (view (slice_index_or ws i w)).journal)
+      taken_at i l =
+          let a = All-from_recursion (λ p. Among (view p).agent t.absorbed × HasOwnSteps t.journal (view p)) ws k.taken i w l in
+          subst (λ z. Among z t.absorbed × (steps_of z t.journal ≡ steps_of z (view (slice_index_or ws i w)).journal))
+          (in_order (suc i) w (omega (arith, l))) a
 
-    pub covers : TookInAll b t
-    covers zero l = inl (sym (k.agent ∙ first_number))
-    covers (suc i) l = let e = long in inr (taken_at i (omega (arith, l, e))).0
+      pub covers : TookInAll b t
+      covers zero l = inl (sym (k.agent ∙ first_number))
+      covers (suc i) l = let e = long in inr (taken_at i (omega (arith, l, e))).0
 
-    module _ (own : FirstSawAll view ps) (low : AgentsBelow (λ (s : Step N). s.agent) b.agents t.journal) where
-      own_at : (i : ℕ) → i < length ws → steps_of (suc i) (view w).journal ≡ steps_of (suc i) (view (slice_index_or ws i w)).journal
-      own_at i l = subst (λ z. steps_of z (view w).journal ≡ steps_of z (view (slice_index_or ws i w)).journal) (in_order (suc i) w (omega (arith, l)))
-          (subst (FirstSawAll view) is own (suc i) w (omega (arith, l)))
+      module _ (own : FirstSawAll view ps) (low : AgentsBelow (λ (s : Step N). s.agent) b.agents t.journal) where
+        own_at : (i : ℕ) → i < length ws → steps_of (suc i) (view w).journal ≡ steps_of (suc i) (view (slice_index_or ws i w)).journal
+        own_at i l = subst (λ z. steps_of z (view w).journal ≡ steps_of z (view (slice_index_or ws i w)).journal) (in_order (suc i) w (omega (arith, l)))
+            (subst (FirstSawAll view) is own (suc i) w (omega (arith, l)))
 
-      none_new : (a : ℕ) → a < b.agents → steps_of a t.journal ≡ steps_of a (view w).journal
-      none_new zero l = subst (λ z. steps_of z t.journal ≡ steps_of z (view w).journal) first_number k.own
-      none_new (suc i) l = let e = long in let h : i < length ws = omega (arith, l, e) in (taken_at i h).1 ∙ sym (own_at i h)
+        none_new : (a : ℕ) → a < b.agents → steps_of a t.journal ≡ steps_of a (view w).journal
+        none_new zero l = subst (λ z. steps_of z t.journal ≡ steps_of z (view w).journal) first_number k.own
+        none_new (suc i) l = let e = long in let h : i < length ws = omega (arith, l, e) in (taken_at i h).1 ∙ sym (own_at i h)
 
-      -- the first had seen all
-      pub nothing_new : t.journal ≡ first_journal view ps
-      nothing_new =
-          let by : Step N → ℕ = λ s. s.agent in
-          let j = (view w).journal in
-          let none : k.more.0 ≡ [] = none_left by b.agents k.more.0 (below-tail by b.agents j k.more.0 (subst (AgentsBelow by b.agents) (sym k.more.1) low))
-          (λ a l. append_cancel_left (steps_of a j) (steps_of a k.more.0) []
-          (sym (own_of-append by a j k.more.0) ∙ (ap (steps_of a) k.more.1 ∙ (none_new a l ∙ sym (append-nil (steps_of a j)))))) in
-          sym k.more.1 ∙ (ap (λ z. j ++ z) none ∙ (append-nil j ∙ ap (first_journal view) (sym is)))
+        -- the first had seen all
+        pub nothing_new : t.journal ≡ first_journal view ps
+        nothing_new =
+            let by : Step N → ℕ = λ s. s.agent in
+            let j = (view w).journal in
+            let none : k.more.0 ≡ [] = none_left by b.agents k.more.0 (below-tail by b.agents j k.more.0 (subst (AgentsBelow by b.agents) (sym k.more.1) low))
+            (λ a l. append_cancel_left (steps_of a j) (steps_of a k.more.0) []
+            (sym (own_of-append by a j k.more.0) ∙ (ap (steps_of a) k.more.1 ∙ (none_new a l ∙ sym (append-nil (steps_of a j)))))) in
+            sym k.more.1 ∙ (ap (λ z. j ++ z) none ∙ (append-nil j ∙ ap (first_journal view) (sym is)))

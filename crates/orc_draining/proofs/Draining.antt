@@ -15,7 +15,8 @@ use Rattle.orc_words.specs.Bounds.{Bounds}
 use Rattle.orc_words.specs.declared.place.Word.TheVariants.{Handover}
 
 -- the first word is taken in, then the others, and then the agent settles
-abbrev pub drained : (m f n o : Machine) (a : ℕ) → IsReachedState m → a < m.bounds.agents → Made a (TakeIn 0) m f → TookIn a 1 f n → Settled a n o → Drained a m o
+abbrev pub drained : (m f n o : Machine) (a : ℕ) → IsReachedState m → a < m.bounds.agents → Made a (TakeIn 0) m f → TookIn a 1 f n → Settled a n o
+    → Drained a m o
 drained m f n o a r h k t g =
     let us = t.steps ++ g.steps in
     let ts = k.others ++ (a, TakeIn 0) ∷ [] in record {
