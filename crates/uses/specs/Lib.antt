@@ -1,3 +1,1 @@
 pub mod Ready
-pub mod WordSet
-pub mod Laws

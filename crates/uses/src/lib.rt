@@ -6,10 +6,10 @@ mod list;
 mod one_thread;
 mod queue;
 mod reclaiming;
+mod set;
 mod two_threads;
-mod word_set;
 
-pub use board_run::{fresh_desks, run_over_words};
+pub use board_run::run_over_plain_domains;
 pub use list::{DomainList, ListPass, next_list_pass, one_list_over};
 pub use one_thread::put_and_take;
 pub use queue::{DomainQueue, QueuePass, Unmade, next_pass, plain_queue, queue_over};
@@ -17,8 +17,8 @@ pub use reclaiming::{
     ReclaimingList, ReclaimingListPass, ReclaimingQueue, ReclaimingQueuePass, reclaiming_list_over,
     reclaiming_queue_over,
 };
+pub use set::{DomainSet, set_over};
 pub use two_threads::put_beside_take;
-pub use word_set::{PresenceWords, WordSet, WordSetCall, WordSetPass, WordSetShape};
 
 #[cfg(test)]
 mod tests;

@@ -1,13 +1,13 @@
-//! The list over a plain domain, on four threads.
+//! The list and the bucketed set, each over a plain domain, on four threads.
 
-ghost use Rattle.orc_heap.specs.Seats.{IsIdle};
-ghost use Rattle.orc_domain.specs.Passes.{IsPassOf, seat_of};
+ghost use Rattle.std.specs.Prelude.{◌<◌, ◌≡◌, ℕ, All, length, slice_index_or};
+ghost use Rattle.std.specs.Thread.{IsSync};
 
-use crate::{DomainList, ListPass, next_list_pass, one_list_over};
+use crate::{next_list_pass, one_list_over, set_over};
 use orc_history::SharedSet;
 use orc_words::Shape;
 use std::test::Fail;
-use std::thread::{Threads, join_mut};
+use std::thread::{Threads, join};
 
 // How many calls each agent makes, of which a third are inserts.
 const CALLS: u64 = 20_000;
@@ -59,72 +59,120 @@ fn present<S: SharedSet>(set: &S, p: &mut S::Pass) -> u64
     bits
 }
 
-// Two agents, each in a thread of its own. Answers the sum.
-fn by_two<R: Threads + Sync>(
-    rt: &R,
-    list: &DomainList,
-    a: &mut ListPass,
-    b: &mut ListPass,
-    stride: u64,
-) -> u64
-    requires a { ⟦<DomainList as SharedSet>⟧.usable list.now a.old }
-    requires b { ⟦<DomainList as SharedSet>⟧.usable list.now b.old }
-    ensures a { ⟦<DomainList as SharedSet>⟧.usable list.now a.new }
-    ensures b { ⟦<DomainList as SharedSet>⟧.usable list.now b.new }
-{
-    let (first, second) = join_mut(
-        rt,
-        &mut || call_in_turn(list, a, stride),
-        &mut || call_in_turn(list, b, stride.wrapping_add(2)),
-    );
-    first.wrapping_add(second)
+// The sum of an agent, and its pass.
+#[derive(Drop)]
+struct Called<P> {
+    balance: u64,
+    pass: P,
 }
 
-// All four at once.
-fn by_four<R: Threads + Sync>(
-    rt: &R,
-    list: &DomainList,
-    a: &mut ListPass,
-    b: &mut ListPass,
-    c: &mut ListPass,
-    d: &mut ListPass,
-) -> u64
-    requires a { ⟦<DomainList as SharedSet>⟧.usable list.now a.old }
-    requires b { ⟦<DomainList as SharedSet>⟧.usable list.now b.old }
-    requires c { ⟦<DomainList as SharedSet>⟧.usable list.now c.old }
-    requires d { ⟦<DomainList as SharedSet>⟧.usable list.now d.old }
-    ensures a { ⟦<DomainList as SharedSet>⟧.usable list.now a.new }
+// One agent's calls.
+fn by_one<S: SharedSet>(set: &S, mut pass: S::Pass, stride: u64) -> Called<S::Pass>
+    requires { S.usable set.now pass }
+    ensures { S.usable set.now result.pass }
 {
-    let (first, second) = join_mut(
+    let balance = call_in_turn(set, &mut pass, stride);
+    Called { balance, pass }
+}
+
+// Two agents, each in a thread of its own. Answers the sum, and the first pass.
+fn by_two<R: Threads + Sync, S: SharedSet + Sync>(
+    rt: &R,
+    set: &S,
+    a: S::Pass,
+    b: S::Pass,
+    stride: u64,
+) -> Called<S::Pass>
+where
+    S::Pass: Send,
+    requires a { S.usable set.now a }
+    requires b { S.usable set.now b }
+    ensures { S.usable set.now result.pass }
+{
+    let (first, second) = join(
         rt,
-        &mut || -> u64
-            requires a { IsPassOf list.now.list.links a.now × IsIdle (seat_of list.now.list.links a.now) }
-            requires b { IsPassOf list.now.list.links b.now × IsIdle (seat_of list.now.list.links b.now) }
-            ensures a { IsPassOf list.exit.now.list.links a.exit.now × IsIdle (seat_of list.exit.now.list.links a.exit.now) }
-        { by_two(rt, list, a, b, 1) },
-        &mut || -> u64
-            requires c { IsPassOf list.now.list.links c.now × IsIdle (seat_of list.now.list.links c.now) }
-            requires d { IsPassOf list.now.list.links d.now × IsIdle (seat_of list.now.list.links d.now) }
-        { by_two(rt, list, c, d, 5) },
+        move || -> Called<S::Pass>
+            requires { S.usable set.now a }
+            ensures { S.usable set.entry.now result.pass }
+        { by_one(set, a, stride) },
+        move || -> Called<S::Pass>
+            requires { S.usable set.now b }
+        { by_one(set, b, stride.wrapping_add(2)) },
     );
-    first.wrapping_add(second)
+    Called {
+        balance: first.balance.wrapping_add(second.balance),
+        pass: first.pass,
+    }
+}
+
+// All four at once. Answers the sum, and the first pass.
+fn by_four<R: Threads + Sync, S: SharedSet + Sync>(
+    rt: &R,
+    set: &S,
+    a: S::Pass,
+    b: S::Pass,
+    c: S::Pass,
+    d: S::Pass,
+) -> Called<S::Pass>
+where
+    S::Pass: Send,
+    requires a { S.usable set.now a }
+    requires b { S.usable set.now b }
+    requires c { S.usable set.now c }
+    requires d { S.usable set.now d }
+    ensures { S.usable set.now result.pass }
+{
+    let (first, second) = join(
+        rt,
+        move || -> Called<S::Pass>
+            requires { IsSync R.row × S.usable set.now a × S.usable set.now b }
+            ensures { S.usable set.entry.now result.pass }
+        { by_two(rt, set, a, b, 1) },
+        move || -> Called<S::Pass>
+            requires { IsSync R.row × S.usable set.now c × S.usable set.now d }
+        { by_two(rt, set, c, d, 5) },
+    );
+    Called {
+        balance: first.balance.wrapping_add(second.balance),
+        pass: first.pass,
+    }
+}
+
+// Whether the keys that were added and not taken out are those that are present, where four agents call at once.
+fn is_balanced<R: Threads + Sync, S: SharedSet + Sync>(
+    rt: &R,
+    set: &S,
+    mut passes: Vec<S::Pass>,
+) -> Option<bool>
+where
+    S::Pass: Send,
+    requires usable { All (λ p. S.usable set.now p) passes.items }
+    requires agents { (i : ℕ) (p : S.Pass) → i < length passes.items → S.agent_of set.now (slice_index_or passes.items i p) ≡ i }
+{
+    let d = next_list_pass(set, &mut passes)?;
+    let c = next_list_pass(set, &mut passes)?;
+    let b = next_list_pass(set, &mut passes)?;
+    let a = next_list_pass(set, &mut passes)?;
+    let Called { balance, mut pass } = by_four(rt, set, a, b, c, d);
+    Some(present(set, &mut pass) == balance)
 }
 
 #[test]
 fn what_was_added_and_not_taken_out_is_present(rt: HostRuntime) -> Result<(), Fail> {
     let shape = Shape::new(65_535, 1, 4, 1 << 39)?;
-    let Ok((list, mut passes)) = one_list_over(rt.alloc(), &shape) else {
+    let Ok((list, passes)) = one_list_over(rt.alloc(), &shape) else {
         panic!(rt; "memory")
     };
-    let (Some(mut d), Some(mut c), Some(mut b), Some(mut a)) = (
-        next_list_pass(&list, &mut passes),
-        next_list_pass(&list, &mut passes),
-        next_list_pass(&list, &mut passes),
-        next_list_pass(&list, &mut passes),
-    ) else {
-        panic!(rt; "four passes")
+    assert_eq!(rt; is_balanced(&rt, &list, passes), Some(true));
+    Ok(())
+}
+
+#[test]
+fn the_same_over_sixteen_buckets(rt: HostRuntime) -> Result<(), Fail> {
+    let shape = Shape::new(65_535, 16, 4, 1 << 39)?;
+    let Ok((set, passes)) = set_over(rt.alloc(), &shape) else {
+        panic!(rt; "memory")
     };
-    let balance = by_four(&rt, &list, &mut a, &mut b, &mut c, &mut d);
-    assert_eq!(rt; present(&list, &mut a), balance);
+    assert_eq!(rt; is_balanced(&rt, &set, passes), Some(true));
     Ok(())
 }

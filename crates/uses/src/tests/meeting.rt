@@ -3,11 +3,12 @@
 ghost use Rattle.std.specs.Prelude.{◌≡◌};
 
 use super::workers::{came, is_each_taken_once, posts};
-use crate::{WordSet, fresh_desks, plain_queue};
+use crate::{plain_queue, set_over};
 use orc_board::OpenGate;
 use orc_fault::Again;
 use orc_history::{LearnQueue, QueueRefused, SharedQueue};
-use orc_workers::run_board;
+use orc_words::Shape;
+use orc_workers::{fresh_desks, run_board};
 use std::sync::atomic::{AtomicU64, Ordering};
 use std::test::Fail;
 
@@ -108,7 +109,10 @@ fn the_calls_of_three_agents_are_made_at_once(rt: HostRuntime) -> Result<(), Fai
         third: AtomicU64::new(0),
         met: AtomicU64::new(0),
     };
-    let (set, set_passes) = WordSet::make(alloc, 16, 4)?;
+    let shape = Shape::new(16, 16, 4, 1)?;
+    let Ok((set, set_passes)) = set_over(alloc, &shape) else {
+        panic!(rt; "memory")
+    };
     let desks = fresh_desks(alloc, &queue, &set, queue_passes, set_passes)?;
     let finished = run_board(&rt, alloc, &lines, 2, 1, &queue, &set, desks, &OpenGate)?;
     assert_eq!(rt; queue.met.load(Ordering::SeqCst), 3);

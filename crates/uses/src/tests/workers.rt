@@ -3,7 +3,7 @@
 ghost use Rattle.std.specs.Prelude.{◌≡◌, ◌≤◌, IfOk};
 ghost use Rattle.orc_jobs.specs.GoodLines.{AreGood};
 
-use crate::run_over_words;
+use crate::run_over_plain_domains;
 use orc_board::{Gate, OpenGate, PostReply, PostWord, Replies, TakeReply, TakeWord};
 use orc_fault::NoMemory;
 use orc_jobs::{Line, Lines, read_jobs};
@@ -167,7 +167,7 @@ fn is_each_done(takes: &[TakeReply]) -> bool {
 fn a_thousand_posts_by_two_posters_and_three_takers(rt: HostRuntime) -> Result<(), Fail> {
     let alloc = rt.alloc();
     let lines = posts(alloc, 1000)?;
-    let Ok(replies) = run_over_words(&rt, alloc, &lines, 2, 3, 1024, 1024, &OpenGate) else {
+    let Ok(replies) = run_over_plain_domains(&rt, alloc, &lines, 2, 3, 1024, &OpenGate) else {
         panic!(rt; "memory")
     };
     assert_eq!(rt; replies.posts.len(), 1000);
@@ -183,7 +183,7 @@ fn two_hundred_runs_with_drops(rt: HostRuntime) -> Result<(), Fail> {
     let alloc = rt.alloc();
     let lines = mixed(alloc, 200)?;
     for _ in 0..200 {
-        let Ok(replies) = run_over_words(&rt, alloc, &lines, 4, 4, 512, 64, &OpenGate) else {
+        let Ok(replies) = run_over_plain_domains(&rt, alloc, &lines, 4, 4, 512, &OpenGate) else {
             panic!(rt; "memory")
         };
         assert_eq!(rt; replies.posts.len(), 200);
@@ -225,7 +225,7 @@ fn two_posters_each_see_the_other_come(rt: HostRuntime) -> Result<(), Fail> {
         second: AtomicU64::new(0),
         met: AtomicU64::new(0),
     };
-    let Ok(replies) = run_over_words(&rt, alloc, &lines, 2, 0, 16, 16, &gate) else {
+    let Ok(replies) = run_over_plain_domains(&rt, alloc, &lines, 2, 0, 16, &gate) else {
         panic!(rt; "memory")
     };
     assert_eq!(rt; gate.met.load(Ordering::SeqCst), 2);
@@ -259,7 +259,7 @@ fn a_taker_goes_on_while_a_poster_is_left(rt: HostRuntime) -> Result<(), Fail> {
         again: AtomicU64::new(0),
         seen: AtomicU64::new(0),
     };
-    let Ok(replies) = run_over_words(&rt, alloc, &lines, 1, 1, 16, 16, &gate) else {
+    let Ok(replies) = run_over_plain_domains(&rt, alloc, &lines, 1, 1, 16, &gate) else {
         panic!(rt; "memory")
     };
     assert_eq!(rt; gate.seen.load(Ordering::SeqCst), 1);
