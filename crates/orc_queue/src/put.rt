@@ -17,7 +17,7 @@ use orc_heap::{At, Held, Links, Looked, Want};
 use orc_history::{QueueEntry, QueueRefused};
 
 // Every position is below this.
-const POSITIONS: u64 = 1 << 62;
+pub(crate) const POSITIONS: u64 = 1 << 62;
 
 /// How a turn of a put ended.
 #[derive(Clone, Copy, Debug, PartialEq, Eq)]

@@ -63,7 +63,10 @@ fn write_report(
 }
 
 // The take replies, that of position 0 first.
-fn in_position_order(alloc: Global, takes: &[TakeReply]) -> Result<Vec<TakeReply>, AllocError>
+pub(crate) fn in_position_order(
+    alloc: Global,
+    takes: &[TakeReply],
+) -> Result<Vec<TakeReply>, AllocError>
     requires { AllByRecursion (λ r. r.at < length takes.now) takes.now }
     ensures { IfOk result (λ v. v.items ≡ by_position takes.now) }
 {
