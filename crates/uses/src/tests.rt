@@ -14,6 +14,7 @@ mod meeting;
 mod queue_calls;
 mod queue_threads;
 mod refusals;
+mod reuse;
 mod set_calls;
 mod workers;
 
