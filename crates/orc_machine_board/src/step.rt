@@ -37,12 +37,7 @@ impl<D: Discipline> MachineBoard<D> {
     /// Makes a step that changes no link, without a note, and answers what `apply` does. The calls that are named for the kinds
     /// of step make it so.
     #[inline(always)]
-    pub fn plain_step(
-        &self,
-        p: &mut MachineBoardPass<D>,
-        op: Op,
-        want: Option<RowLink>,
-    ) -> u64
+    pub fn plain_step(&self, p: &mut MachineBoardPass<D>, op: Op, want: Option<RowLink>) -> u64
         requires belongs { Belongs self.now p.old }
         requires plain { is_plain_kind op ≡ true }
         requires allowed { MayDo (board_bounds self.now) (shows p.old) op }

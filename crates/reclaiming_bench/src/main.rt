@@ -75,7 +75,10 @@ fn main(rt: HostRuntime) -> io::Result<()> {
         let start = Instant::now(&rt)?;
         let sum = put_and_take(&queue, &mut pass);
         let micros = start.elapsed(&rt)?.as_micros();
-        eprintln!(rt; "{} calls of a queue of {agents} agents: {micros} microseconds", 2 * JOBS)?;
+        eprintln!(rt;
+            "{} calls of a queue of {agents} agents: {micros} microseconds",
+            2 * JOBS
+        )?;
         println!(rt; "queue of {agents} agents: {sum} in all")?;
         let Ok((list, mut passes)) = reclaiming_list_over(rt.alloc(), &one_root) else {
             return println!(rt; "no memory");
@@ -87,7 +90,10 @@ fn main(rt: HostRuntime) -> io::Result<()> {
         let start = Instant::now(&rt)?;
         let yes = rounds(&list, &mut pass);
         let micros = start.elapsed(&rt)?.as_micros();
-        eprintln!(rt; "{} calls of a list of {agents} agents: {micros} microseconds", 3 * ROUNDS)?;
+        eprintln!(rt;
+            "{} calls of a list of {agents} agents: {micros} microseconds",
+            3 * ROUNDS
+        )?;
         println!(rt; "list of {agents} agents: {yes} answers true")?;
     }
     Ok(())

@@ -26,6 +26,7 @@ const LOW: Part = Part {
     keys: 1_000,
     seed: 1,
 };
+
 const HIGH: Part = Part {
     first: 1_000,
     keys: 1_000,

@@ -52,7 +52,9 @@ fn main(rt: HostRuntime) -> io::Result<()> {
                 call_beside(&rt, &set, &mut first, &mut second, CALLS / 2)
             };
             let micros = start.elapsed(&rt)?.as_micros();
-            eprintln!(rt; "{CALLS} calls over {buckets} buckets on {threads} threads: {micros} microseconds")?;
+            eprintln!(rt;
+                "{CALLS} calls over {buckets} buckets on {threads} threads: {micros} microseconds"
+            )?;
             println!(rt; "{buckets} buckets, {threads} threads: {yes} answers true")?;
         }
     }

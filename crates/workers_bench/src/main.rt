@@ -49,7 +49,9 @@ fn main(rt: HostRuntime) -> io::Result<()> {
             bare = bare.wrapping_add(run_bare(&rt, threads, made));
             by_calls = by_calls.wrapping_add(start.elapsed(&rt)?.as_micros());
         }
-        eprintln!(rt; "{threads} threads: workers {by_workers} microseconds, bare calls {by_calls}")?;
+        eprintln!(rt;
+            "{threads} threads: workers {by_workers} microseconds, bare calls {by_calls}"
+        )?;
         println!(rt; "{threads} threads: {jobs} jobs by workers, {bare} by bare calls")?;
     }
     Ok(())
