@@ -29,3 +29,7 @@ pub mod Trying
 pub mod Untouched
 pub mod Wearing
 pub mod Resting
+pub mod Hearing
+pub mod InTurn
+pub mod NextDrain
+pub mod DrainingAll

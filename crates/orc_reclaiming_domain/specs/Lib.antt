@@ -8,3 +8,4 @@ pub mod Searches
 pub mod Seats
 pub mod Ends
 pub mod Rest
+pub mod Drains

@@ -75,6 +75,7 @@ fn one_node(domain: &Domain, p: &mut Pass) -> Option<(u64, bool, u32)>
     requires roots { 0 < (domain_numbers domain.now).roots }
     ensures pass { IsPassOf domain.now p.new }
     ensures idle { IsIdle (seat_of domain.now p.new) }
+    ensures agent { (seat_of domain.now p.new).agent ≡ (seat_of domain.now p.old).agent }
 {
     let Ok(node) = domain.give(p, 1, 7, 8) else {
         return None;
