@@ -1,5 +1,5 @@
 -- All passes of a domain learn, drain one after another, and learn again.
-use Rattle.std.proofs.Common.{All, List, [], ap, arith, length, refl, subst, suc, sym, ℕ, ◌++◌, ◌+◌, ◌<◌, ◌≤◌, ◌∙◌, ◌∷◌, ◌≡◌, ◌≢◌}
+use Rattle.std.proofs.Common.{All, List, [], ap, arith, length, refl, subst, suc, sym, ◌++◌, ◌+◌, ◌<◌, ◌≤◌, ◌∙◌, ◌∷◌, ◌≡◌, ◌≢◌}
 use Rattle.std.proofs.lemmas.List.Elements.{All-from_recursion, recursion_from_All}
 use Rattle.std.specs.List.{AllByRecursion}
 use Rattle.std.specs.Prelude.{cond, is_some, map, slice_index_or, ◌||◌}
@@ -7,7 +7,7 @@ use mathlib.Core.List.{IsPrefix}
 use Rattle.orc_board_draining.specs.Drains.{Drains}
 use Rattle.orc_core.specs.Machine.{record_at}
 use Rattle.orc_core.specs.declared.records.Agent.{Agent}
-use Rattle.orc_domain.proofs.Rounds.{pairwise_all, pairwise_at, pairwise_join, pairwise_long, pairwise_map}
+use Rattle.orc_domain.proofs.Rounds.{pairwise_all, pairwise_join, pairwise_long, pairwise_map}
 use Rattle.orc_domain.specs.Ends.{Pairwise}
 use Rattle.orc_heap.proofs.Pieces.{goes_on}
 use Rattle.orc_heap.specs.OwnEvents.{Only}
@@ -15,23 +15,22 @@ use Rattle.orc_heap.specs.Seats.{IsIdle, Seat}
 use Rattle.orc_heap.specs.declared.discipline.Discipline as discipline
 use Rattle.orc_heap.specs.declared.events.Event.{Event}
 use Rattle.orc_machine_board.specs.Laws.Steps.{bounds_run, in_range}
-use Rattle.orc_machine_board.specs.Passes.{backlog_in, steps_of}
+use Rattle.orc_machine_board.specs.Passes.{steps_of}
 use Rattle.orc_machine_board.specs.Rules.{run_of}
 use Rattle.orc_machine_board.specs.Views.{shows}
 use Rattle.orc_machine_board.specs.declared.machine.MachineShape.{MachineShape}
 use Rattle.orc_machine_board.specs.declared.machine.Reclaiming.{Reclaiming}
 use Rattle.orc_machine_board.specs.declared.machine.Request.{Request}
 use Rattle.orc_projection.specs.Projection.{project}
-use Rattle.orc_reclaiming_domain.proofs.Hearing.{agents_differ, all_hear, all_map, all_within, among_all, hears_trans, idle_all, idle_same, no_more, numbered_all, round_within, same_trans}
+use Rattle.orc_reclaiming_domain.proofs.Hearing.{agents_differ, all_hear, all_map, among_all, idle_all, no_more, numbered_all, round_within, same_trans}
 use Rattle.orc_reclaiming_domain.proofs.InTurn.{goes_further, nothing_more, number_at, numbered_by, rests, turns_same}
 use Rattle.orc_reclaiming_domain.proofs.NextDrain.{drains_next}
-use Rattle.orc_reclaiming_domain.specs.Drains.{AreNumbered, DrainInTurn, DrainsNext, DrainsPart, HearsSteps, HearsWithin, HoldsSame, StepsRound}
+use Rattle.orc_reclaiming_domain.specs.Drains.{AreNumbered, DrainInTurn, HearsSteps, HearsWithin, HoldsSame, StepsRound}
 use Rattle.orc_reclaiming_domain.specs.Ends.{AddsNoEvents, AreAll, AreIdle, HaveNoBacklog, IsNoLonger, SawAll, SawOneList, whole_journal}
 use Rattle.orc_reclaiming_domain.specs.Passes.{IsPassOf, domain_bounds, journal_of, seat_of}
 use Rattle.orc_reclaiming_domain.specs.declared.domain.OrcDomain.{OrcDomain}
 use Rattle.orc_reclaiming_domain.specs.declared.domain.OrcPass.{OrcPass}
 use Rattle.orc_rest.specs.Rest.{IsAtRest, IsResting}
-use Rattle.orc_settling.specs.Records.{IsBetweenRounds}
 use Rattle.orc_settling.specs.Turns.{IsReachedState}
 use Rattle.orc_shared_words.specs.declared.machine.Machine as machine
 use Rattle.orc_sound.proofs.Journals.{plain_lawful}
@@ -209,8 +208,8 @@ module _ {D N : Type 0} {d : discipline.Ghosts D N} {m : machine.Ghosts Reclaimi
                           some = let e = long2 in omega (arith, e)
 
                           pub rest_after : IsAtRest (run_of (domain_bounds domain) f)
-                          rest_after = rests seat journal domain.board.words.shape (journal w2) (w2 ∷ ys) (w4 ∷ zs) all_turns numbered2 one_list (domain_bounds domain).agents
-                              long2 w2 (w6 ∷ ts) f hear within some is6.board.keeps.now.below reached
+                          rest_after = rests seat journal domain.board.words.shape (journal w2) (w2 ∷ ys) (w4 ∷ zs) all_turns numbered2 one_list
+                              (domain_bounds domain).agents long2 w2 (w6 ∷ ts) f hear within some is6.board.keeps.now.below reached
                               (ap (λ (x : Bounds). x.agents) (bounds_run (domain_bounds domain) (journal w2)))
 
                           nothing_after : project (domain_bounds domain) f ≡ project (domain_bounds domain) (journal w2)
@@ -247,4 +246,5 @@ module _ {D N : Type 0} {d : discipline.Ghosts D N} {m : machine.Ghosts Reclaimi
                               (one_of (λ z. length (project (domain_bounds domain) z) ≤ most) (subst (λ z. All (λ p. length (seat p).seen ≤ most) z) is h))
 
                           pub quiet_after : AddsNoEvents domain ps (w6 ∷ ts)
-                          quiet_after j h = nothing_after ∙ ap (project (domain_bounds domain)) (one_of (λ z. z ≡ j) (subst (λ z. All (λ p. journal p ≡ j) z) is h))
+                          quiet_after j h = nothing_after ∙ ap (project (domain_bounds domain))
+                              (one_of (λ z. z ≡ j) (subst (λ z. All (λ p. journal p ≡ j) z) is h))

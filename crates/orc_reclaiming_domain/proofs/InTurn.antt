@@ -13,7 +13,7 @@ use Rattle.orc_core.specs.Machine.{record_at}
 use Rattle.orc_domain.proofs.Rounds.{pairwise_at, pairwise_long}
 use Rattle.orc_domain.specs.Ends.{Pairwise}
 use Rattle.orc_draining.proofs.DrainAll.{rest_after_drains}
-use Rattle.orc_draining.specs.Drains.{Drained, DrainedAlone}
+use Rattle.orc_draining.specs.Drains.{DrainedAlone}
 use Rattle.orc_heap.proofs.Pieces.{goes_on}
 use Rattle.orc_heap.specs.Allowed.{events_by}
 use Rattle.orc_heap.specs.Seats.{Seat}

@@ -1,44 +1,33 @@
 -- A pass learns from the one before it, and drains.
-use Rattle.std.proofs.Common.{All, List, [], ap, arith, length, refl, subst, suc, sym, ℕ, ◌++◌, ◌+◌, ◌<◌, ◌≤◌, ◌∙◌, ◌∷◌, ◌≡◌, ◌≢◌}
+use Rattle.std.proofs.Common.{List, [], arith, subst, suc, sym, ◌∙◌, ◌∷◌, ◌≡◌, ◌≢◌}
 use Rattle.std.proofs.lemmas.List.Elements.{All-from_recursion, recursion_from_All}
 use Rattle.std.specs.List.{AllByRecursion}
-use Rattle.std.specs.Prelude.{cond, is_some, map, slice_index_or, ◌||◌}
+use Rattle.std.specs.Prelude.{slice_index_or}
 use mathlib.Core.List.{IsPrefix}
 use Rattle.orc_board_draining.specs.Drains.{Drains}
 use Rattle.orc_core.specs.Machine.{record_at}
 use Rattle.orc_core.specs.declared.records.Agent.{Agent}
-use Rattle.orc_domain.proofs.Rounds.{pairwise_all, pairwise_at, pairwise_join, pairwise_long, pairwise_map}
-use Rattle.orc_domain.specs.Ends.{Pairwise}
 use Rattle.orc_heap.proofs.Pieces.{goes_on}
 use Rattle.orc_heap.specs.Calls.{Learns}
 use Rattle.orc_heap.specs.OwnEvents.{Only}
 use Rattle.orc_heap.specs.Seats.{IsIdle, Seat}
 use Rattle.orc_heap.specs.declared.discipline.Discipline as discipline
-use Rattle.orc_heap.specs.declared.events.Event.{Event}
-use Rattle.orc_machine_board.specs.Laws.Steps.{bounds_run, in_range}
-use Rattle.orc_machine_board.specs.Passes.{backlog_in, steps_of}
+use Rattle.orc_machine_board.specs.Passes.{steps_of}
 use Rattle.orc_machine_board.specs.Rules.{run_of}
 use Rattle.orc_machine_board.specs.Views.{shows}
 use Rattle.orc_machine_board.specs.declared.machine.MachineShape.{MachineShape}
 use Rattle.orc_machine_board.specs.declared.machine.Reclaiming.{Reclaiming}
 use Rattle.orc_machine_board.specs.declared.machine.Request.{Request}
-use Rattle.orc_projection.specs.Projection.{project}
 use Rattle.orc_reclaiming_domain.proofs.Hearing.{first_hears, idle_same, learns_all, same_trans, second_hears}
-use Rattle.orc_reclaiming_domain.proofs.Settling.{backlog_none, settle_can}
+use Rattle.orc_reclaiming_domain.proofs.Settling.{settle_can}
 use Rattle.orc_reclaiming_domain.proofs.Stages.{stage}
-use Rattle.orc_reclaiming_domain.specs.Drains.{AreNumbered, DrainInTurn, DrainsNext, DrainsPart, HearsSteps, HearsWithin, HoldsSame, StepsRound}
-use Rattle.orc_reclaiming_domain.specs.Ends.{AddsNoEvents, AreAll, AreIdle, HaveNoBacklog, IsNoLonger, SawAll, SawOneList, whole_journal}
+use Rattle.orc_reclaiming_domain.specs.Drains.{AreNumbered, DrainInTurn, DrainsNext, DrainsPart, HearsSteps}
 use Rattle.orc_reclaiming_domain.specs.Passes.{IsPassOf, domain_bounds, journal_of, seat_of}
 use Rattle.orc_reclaiming_domain.specs.declared.domain.OrcDomain.{OrcDomain}
 use Rattle.orc_reclaiming_domain.specs.declared.domain.OrcPass.{OrcPass}
-use Rattle.orc_rest.specs.Rest.{IsAtRest, IsResting}
 use Rattle.orc_settling.specs.Records.{IsBetweenRounds}
-use Rattle.orc_settling.specs.Turns.{IsReachedState}
 use Rattle.orc_shared_words.specs.declared.machine.Machine as machine
-use Rattle.orc_sound.proofs.Journals.{plain_lawful}
-use Rattle.orc_sound.specs.Journals.{plain}
 use Rattle.orc_sound.specs.declared.steps.Step.{Step}
-use Rattle.orc_words.specs.Bounds.{Bounds}
 
 module _ {D N : Type 0} where
   abbrev Pass : (d : discipline.Ghosts D N) → machine.Ghosts Reclaiming N (MachineShape N) Request (Step N) Agent Agent → Type 0
@@ -57,13 +46,15 @@ module _ {D N : Type 0} {d : discipline.Ghosts D N} {m : machine.Ghosts Reclaimi
     mine p h = h.board.keeps.now.mine
 
     -- a pass that is idle is between rounds
-    pub between_rounds : (p : Pass d m) → IsPassOf domain p → IsIdle (seat p) → IsBetweenRounds (record_at (run_of (domain_bounds domain) (journal p)) (seat p).agent)
+    pub between_rounds : (p : Pass d m) → IsPassOf domain p → IsIdle (seat p)
+        → IsBetweenRounds (record_at (run_of (domain_bounds domain) (journal p)) (seat p).agent)
     between_rounds p h idle = subst IsBetweenRounds (sym (mine p h))
         (settle_can (stage d domain.board.words.shape _ _ h.board.keeps) (record { ready = h.ready; untouched = h.untouched }) idle)
 
     -- a pass that was v, then learned, drained, and learned once more
     module _ (j : List (Step N)) (v p q w : Pass d m) (is_v : IsPassOf domain v) (idle_v : IsIdle (seat v)) (is_q : IsPassOf domain q)
-        (idle_q : IsIdle (seat q)) (hears : HearsSteps seat journal v p) (at : journal p ≡ j) (drains : Drains (domain_bounds domain) (seat p).agent (shows p.pass) (shows q.pass))
+        (idle_q : IsIdle (seat q)) (hears : HearsSteps seat journal v p) (at : journal p ≡ j)
+        (drains : Drains (domain_bounds domain) (seat p).agent (shows p.pass) (shows q.pass))
         (only : Only [] (seat p) (seat q)) (later : HearsSteps seat journal q w) (same : journal w ≡ journal q)
       where
         part : DrainsPart (domain_bounds domain) (seat p).agent (journal p) (journal q)
@@ -123,7 +114,8 @@ module _ {D N : Type 0} {d : discipline.Ghosts D N} {m : machine.Ghosts Reclaimi
             pub before_hears : HearsSteps seat journal u y
             before_hears = second_hears seat journal v u x y l
 
-            module _ (q : Pass d m) (drains : Drains (domain_bounds domain) (seat x).agent (shows x.pass) (shows q.pass)) (only : Only [] (seat x) (seat q)) where
+            module _ (q : Pass d m) (drains : Drains (domain_bounds domain) (seat x).agent (shows x.pass) (shows q.pass))
+                (only : Only [] (seat x) (seat q)) where
               pub next_numbered : AreNumbered seat journal (suc (seat q).agent) vs
               next_numbered = subst (λ n. AreNumbered seat journal (suc n) vs) (sym (only.puts.agent ∙ (hears.same.agent ∙ numbers.0))) numbers.1
 
@@ -134,7 +126,8 @@ module _ {D N : Type 0} {d : discipline.Ghosts D N} {m : machine.Ghosts Reclaimi
                   (subst (λ z. IsPrefix z (journal q)) at (drains.adds.part, sym drains.adds.journal)))
 
               pub turns_next : IsPassOf domain v → IsPassOf domain q → IsIdle (seat q) → (w : Pass d m) (ws : List (Pass d m)) → HearsSteps seat journal q w
-                  → journal w ≡ journal q → DrainInTurn seat journal (domain_bounds domain) (journal q) vs ws → DrainInTurn seat journal (domain_bounds domain) (journal u) all (w ∷ ws)
+                  → journal w ≡ journal q → DrainInTurn seat journal (domain_bounds domain) (journal q) vs ws
+                  → DrainInTurn seat journal (domain_bounds domain) (journal u) all (w ∷ ws)
               turns_next is_v is_q idle_q w ws later same turns = subst (λ z. DrainInTurn seat journal (domain_bounds domain) (journal u) z (w ∷ ws)) (sym is) (
                 drains_next (journal u) v x q w is_v idle_all.0 is_q idle_q hears at drains only later same,
                 subst (λ z. DrainInTurn seat journal (domain_bounds domain) z vs ws) (sym same) turns,

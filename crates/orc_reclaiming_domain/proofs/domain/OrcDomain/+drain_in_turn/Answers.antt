@@ -13,7 +13,8 @@ drain_in_turn-requires g t c κs within =
     let v = c.in-Some.next.now in
     let vs = c.in-Some.rest.now in
     let others = all_behind (λ p. IsPassOf domain p) c.args.others.now v vs is r.others in
-    let idle = others_idle domain c.args.before.now v vs c.args.others.now is r.numbered r.idle r.seen c.learn.new.into c.learn.new.from c.learn.ensures.learned in
+    let idle = others_idle domain c.args.before.now v vs c.args.others.now is r.numbered r.idle r.seen c.learn.new.into c.learn.new.from
+    c.learn.ensures.learned in
     let numbered = next_numbered domain c.args.before.now v vs c.args.others.now is r.numbered r.idle r.seen c.learn.new.into c.learn.new.from
     c.learn.ensures.learned c.drain.new.p c.drain.ensures.drains c.drain.ensures.nothing in
     let seen = next_seen domain c.args.before.now v vs c.args.others.now is r.numbered r.idle r.seen c.learn.new.into c.learn.new.from

@@ -1,6 +1,7 @@
 use Rattle.orc_reclaiming_domain.proofs.Resting.{first_of, others_of}
 use Rattle.orc_reclaiming_domain.proofs.DrainingAll.{first_differs, idle2, last_differs, numbered_others, second_differs, seen_others, third_differs}
-use Rattle.orc_reclaiming_domain.proofs.DrainingAll.{all_after, idle_after, later_after, longest_after, one_after, own_after, quiet_after, rest_after, settled_after}
+use Rattle.orc_reclaiming_domain.proofs.DrainingAll.{all_after, idle_after, later_after, longest_after, one_after}
+use Rattle.orc_reclaiming_domain.proofs.DrainingAll.{own_after, quiet_after, rest_after, settled_after}
 use Rattle.orc_reclaiming_domain.proofs.domain.OrcDomain.drain_all.Goals as goal
 
 pub learn_round-requires-clause-first : goal.learn_round-requires-clause-first

@@ -2,6 +2,7 @@ use Rattle.std.proofs.Common.{◌≡◌, ◌<◌, ℕ, zero, suc, List, [], ◌�
 use Rattle.orc_heap.specs.Seats.{IsIdle}
 use Rattle.orc_reclaiming_domain.specs.Passes.{IsPassOf, seat_of}
 use Rattle.orc_reclaiming_domain.proofs.tests.ends.first_gives.Goals as goal
+
 -- one item is set
 at_set : {A : Type 0} (P : ℕ → A → Type 0) (xs : List A) (y d : A) (i : ℕ) → P 0 y → (i < length xs → P i (slice_index_or xs i d))
     → i < length (slice_set xs 0 y) → P i (slice_index_or (slice_set xs 0 y) i d)
