@@ -1,2 +1,3 @@
 pub mod PositionOrder
 pub mod ReportedReplies
+pub mod Summaries

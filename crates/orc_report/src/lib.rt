@@ -2,7 +2,9 @@
 #![tactic(auto)]
 
 mod report;
+mod summary;
 #[cfg(test)]
 mod tests;
 
 pub use report::{RestNumbers, report_text};
+pub use summary::summary_text;

@@ -1,0 +1,26 @@
+-- The totals of operations, as a summary keeps them.
+use Rattle.std.specs.Prelude.{◌++◌, List, ℕ, codes, length, map, sum}
+use Rattle.std.specs.Fmt.{decimal}
+use Rattle.orc_jobs.specs.JobGrammar.{word_of}
+use Rattle.orc_jobs.specs.declared.line.Job.{Job}
+use Rattle.orc_jobs.specs.declared.line.Job.TheVariants as job
+use Rattle.orc_report.specs.Summary.{values_of}
+use Rattle.orc_report.specs.declared.summary.Total.{Total}
+
+-- the key of an operation
+abbrev pub key_of : Job → ℕ
+key_of job.Bytes = 0
+key_of job.Words = 1
+key_of job.Sum = 2
+
+-- how many of these jobs have this operation, and the sum of their values
+abbrev pub total_of : List (Job × ℕ) → Job → Total
+total_of jobs op = record { op = op; jobs = length (values_of op jobs); sum = sum (values_of op jobs) }
+
+-- the totals of these operations, by their keys
+abbrev pub entries_of : List (Job × ℕ) → List Job → List (ℕ × Total)
+entries_of jobs ops = map (λ op. (key_of op, total_of jobs op)) ops
+
+-- the line of a total
+abbrev pub line_of : Total → List ℕ
+line_of t = word_of t.op ++ codes " jobs " ++ decimal t.jobs ++ codes " total " ++ decimal t.sum ++ codes "\n"
