@@ -1,16 +1,19 @@
 //! A queue whose first calls by agents 1, 2 and 3 wait for each other.
 
-ghost use Rattle.std.specs.Prelude.{◌≡◌};
+ghost use Rattle.std.specs.Prelude.{◌≡◌, ◌<◌, ℕ, [], All, length, slice_index_or};
 
 use super::workers::{came, is_each_taken_once, posts};
 use crate::{plain_queue, set_over};
 use orc_board::OpenGate;
-use orc_fault::Again;
-use orc_history::{LearnQueue, QueueRefused, SharedQueue};
+use orc_fault::{Again, NoMemory};
+use orc_history::{LearnQueue, LearnSet, QueueRefused, SharedQueue};
 use orc_words::Shape;
 use orc_workers::{fresh_desks, run_board};
+use std::alloc::Global;
+use std::sync::Wait;
 use std::sync::atomic::{AtomicU64, Ordering};
 use std::test::Fail;
+use std::thread::Threads;
 
 // Passes each call on, and holds the first one of each of three agents until all three have come.
 #[derive(Drop)]
@@ -95,13 +98,37 @@ impl<Q: LearnQueue> LearnQueue for Meeting<Q> {
     ghost crowd_below = { λ m agent h. Q.crowd_below m.inner agent h };
 }
 
-#[test]
-fn the_calls_of_three_agents_are_made_at_once(rt: HostRuntime) -> Result<(), Fail> {
-    let alloc = rt.alloc();
+// What came of a run: how many agents met, how many desks came back, and whether each job was taken once.
+#[derive(Clone, Copy, Debug, PartialEq, Eq, Drop)]
+struct Met {
+    agents: u64,
+    desks: usize,
+    taken_once: bool,
+}
+
+// Two posters and a taker work through two posts over a queue in which their first calls meet.
+fn meet_over<R: Threads + Wait + Sync, Q: LearnQueue + Sync + Drop, S: LearnSet + Sync>(
+    rt: &R,
+    alloc: Global,
+    inner: Q,
+    set: &S,
+    queue_passes: Vec<Q::Pass>,
+    set_passes: Vec<S::Pass>,
+) -> Result<Met, NoMemory>
+where
+    Q::Pass: Send,
+    S::Pass: Send,
+    requires queue_passes { All (λ p. Q.usable inner p) queue_passes.items }
+    requires queue_fresh { All (λ p. Q.history inner (Q.journal p) ≡ []) queue_passes.items }
+    requires queue_agents { (i : ℕ) (p : Q.Pass) → i < length queue_passes.items → Q.agent_of inner (slice_index_or queue_passes.items i p) ≡ i }
+    requires set_passes { All (λ p. S.usable set.now p) set_passes.items }
+    requires set_fresh { All (λ p. S.history set.now (S.journal p) ≡ []) set_passes.items }
+    requires set_agents { (i : ℕ) (p : S.Pass) → i < length set_passes.items → S.agent_of set.now (slice_index_or set_passes.items i p) ≡ i }
+    requires four { (length queue_passes.items ≡ 4) × (length set_passes.items ≡ 4) }
+    requires agents { (Q.agents inner ≡ 4) × (S.agents set.now ≡ 4) }
+    requires first { Q.first inner ≡ 0 }
+{
     let lines = posts(alloc, 2)?;
-    let Ok((inner, queue_passes)) = plain_queue(alloc, 16, 4) else {
-        panic!(rt; "memory")
-    };
     let queue = Meeting {
         inner,
         first: AtomicU64::new(0),
@@ -109,14 +136,28 @@ fn the_calls_of_three_agents_are_made_at_once(rt: HostRuntime) -> Result<(), Fai
         third: AtomicU64::new(0),
         met: AtomicU64::new(0),
     };
+    let desks = fresh_desks(alloc, &queue, set, queue_passes, set_passes)?;
+    let finished = run_board(rt, alloc, &lines, 2, 1, &queue, set, desks, &OpenGate)?;
+    Ok(Met {
+        agents: queue.met.load(Ordering::SeqCst),
+        desks: finished.desks.len(),
+        taken_once: is_each_taken_once(alloc, &finished.replies)?,
+    })
+}
+
+#[test]
+fn the_calls_of_three_agents_are_made_at_once(rt: HostRuntime) -> Result<(), Fail> {
+    let alloc = rt.alloc();
+    let Ok((queue, queue_passes)) = plain_queue(alloc, 16, 4) else {
+        panic!(rt; "memory")
+    };
     let shape = Shape::new(16, 16, 4, 1)?;
     let Ok((set, set_passes)) = set_over(alloc, &shape) else {
         panic!(rt; "memory")
     };
-    let desks = fresh_desks(alloc, &queue, &set, queue_passes, set_passes)?;
-    let finished = run_board(&rt, alloc, &lines, 2, 1, &queue, &set, desks, &OpenGate)?;
-    assert_eq!(rt; queue.met.load(Ordering::SeqCst), 3);
-    assert_eq!(rt; finished.desks.len(), 4);
-    assert!(rt; is_each_taken_once(alloc, &finished.replies)?);
+    let met = meet_over(&rt, alloc, queue, &set, queue_passes, set_passes)?;
+    assert_eq!(rt; met.agents, 3);
+    assert_eq!(rt; met.desks, 4);
+    assert!(rt; met.taken_once);
     Ok(())
 }
