@@ -40,5 +40,5 @@ command_app modes =
 -- the one simple command, with its options
 pub record IsCommand (a : App) : Type 0 where
   pub modes : Bor (List (Bor Text))
-  pub mode_words : map (λ n. n.now) modes.now ≡ codes "run" ∷ codes "make" ∷ codes "replay" ∷ []
+  pub mode_words : map (λ n. n.now) modes.now ≡ codes "run" ∷ codes "make" ∷ codes "trial" ∷ codes "replay" ∷ []
   pub app : a ≡ command_app modes

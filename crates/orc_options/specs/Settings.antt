@@ -20,7 +20,8 @@ number_in low high default (Some text) =
 abbrev pub mode_in : Option Text → Mode
 mode_in None = mode.Run
 mode_in (Some text) =
-    if bytes_eq text (codes "make") then mode.Make else (if bytes_eq text (codes "replay") then mode.Replay else mode.Run)
+    if bytes_eq text (codes "make") then mode.Make
+    else (if bytes_eq text (codes "trial") then mode.Trial else (if bytes_eq text (codes "replay") then mode.Replay else mode.Run))
 
 -- the settings that the matches give
 abbrev pub settings_in : List Row → Settings

@@ -8,11 +8,11 @@ use clap::builder::ValueParser;
 use clap::{Arg, Command};
 use std::alloc::{AllocError, Global};
 
-static MODES: [&str; 3] = ["run", "make", "replay"];
+static MODES: [&str; 4] = ["run", "make", "trial", "replay"];
 
 // The words of the modes.
 fn mode_words<'a>() -> &'a [&'a str]
-    ensures { map (λ n. n.now) result.now ≡ codes "run" ∷ codes "make" ∷ codes "replay" ∷ [] }
+    ensures { map (λ n. n.now) result.now ≡ codes "run" ∷ codes "make" ∷ codes "trial" ∷ codes "replay" ∷ [] }
 {
     MODES.as_slice()
 }

@@ -18,6 +18,8 @@ pub enum Mode {
     Run,
     /// Write a job file that is generated.
     Make,
+    /// Run generated lines, and write the summary.
+    Trial,
     /// Play a trace of the machine, and write what it leaves.
     Replay,
 }
@@ -71,6 +73,7 @@ fn mode_of(word: Option<&str>) -> Mode
 {
     match word {
         Some("make") => Mode::Make,
+        Some("trial") => Mode::Trial,
         Some("replay") => Mode::Replay,
         _ => Mode::Run,
     }

@@ -51,6 +51,13 @@ fn words_give_settings(rt: HostRuntime) -> Result<(), Fail> {
                 ..DEFAULTS
             },
         ),
+        (
+            &["--mode=trial"],
+            Settings {
+                mode: Mode::Trial,
+                ..DEFAULTS
+            },
+        ),
         (&["--mode=run"], DEFAULTS),
         (
             &["--posters=8", "--takers", "7", "--rows=8"],
@@ -103,7 +110,7 @@ fn words_are_refused(rt: HostRuntime) -> Result<(), Fail> {
         "--rows=4294967304",
         "--rows= 8",
         "--mode=Run",
-        "--mode=trial",
+        "--mode=Trial",
         "--mode=mak",
         "--mode",
         "--row=8",

@@ -1,3 +1,4 @@
 pub mod Answering
 pub mod Inputs
 pub mod Wrote
+pub mod Sums

@@ -1,11 +1,15 @@
 -- What a run leaves.
 use Rattle.std.specs.Prelude.{◌≡◌, ℕ, List, Option, Some, None, IfSome}
+use Rattle.orc_jobs.specs.declared.line.Job.{Job}
 use Rattle.orc_jobs.specs.declared.line.Line.{Line}
+use Rattle.orc_jobs.specs.Generated.{generated}
 use Rattle.orc_jobs.specs.JobGrammar.{IsFileOf}
+use Rattle.orc_report.specs.AllDone.{AreJobsOf, NoneRefused, NoneVoid}
+use Rattle.orc_report.specs.Summary.{done_jobs, summary_of}
 use Rattle.orc_run.specs.declared.run.Finished.{Finished}
 use Rattle.orc_program.specs.declared.ended.Ended.{Ended}
 use Rattle.orc_options.specs.declared.settings.Settings.{Settings}
-use Rattle.orc_program.specs.Headline.{Headline}
+use Rattle.orc_program.specs.Headline.{Headline, WorkedThrough}
 
 -- nothing is there yet
 pub record IsNew (ended : Ended) : Type 0 where
@@ -26,3 +30,21 @@ pub record HasReported (settings : Settings) (left : Option (List ℕ)) (ended :
   pub finished : Finished
   pub kept : Keeps finished ended
   pub headline : Headline lines settings finished None text
+
+-- the lines that are generated from the settings' seed
+abbrev pub generated_lines : Settings → List Line
+generated_lines settings = generated settings.seed settings.lines
+
+-- the generated lines were worked through as the settings say, and the text is the summary of the replies that have ended
+pub record HasSummed (settings : Settings) (ended : Ended) (text : List ℕ) : Type 0 where
+  pub finished : Finished
+  pub kept : Keeps finished ended
+  pub run : WorkedThrough (generated_lines settings) settings finished
+  pub summary : text ≡ summary_of (done_jobs (generated_lines settings) finished.replies.takes.items)
+  -- where no reply is NoNode, Spent or Void, every job is done, and the text is a function of the lines alone
+  pub all_done : NoneRefused finished.replies.posts.items → NoneVoid finished.replies.takes.items
+      → AreJobsOf (generated_lines settings) (done_jobs (generated_lines settings) finished.replies.takes.items)
+  pub of_lines : NoneRefused finished.replies.posts.items → NoneVoid finished.replies.takes.items
+      → (jobs : List (Job × ℕ)) → AreJobsOf (generated_lines settings) jobs → text ≡ summary_of jobs
+  -- and without takers no reply is Void
+  pub none_void : settings.takers ≡ 0 → NoneVoid finished.replies.takes.items

@@ -38,6 +38,7 @@ malformed_line place why = codes "line " ++ decimal place ++ codes ": " ++ cause
 abbrev pub IsTooLarge : Mode → List ℕ → Type 0
 IsTooLarge mode.Run bytes = (input_limit < length bytes) ⊎ Refuses bytes fault.TooMany
 IsTooLarge mode.Make bytes = ⊥
+IsTooLarge mode.Trial bytes = ⊥
 IsTooLarge mode.Replay bytes = input_limit < length bytes
 
 -- the text names the first record of the bytes that is outside the grammar, and its cause
@@ -60,4 +61,5 @@ pub record NamesFault (bytes text : List ℕ) : Type 0 where
 abbrev pub IsRefusal : Mode → List ℕ → List ℕ → Type 0
 IsRefusal mode.Run bytes text = (IsTooLarge mode.Run bytes × (text ≡ input_too_large)) ⊎ NamesRecord bytes text
 IsRefusal mode.Make bytes text = ⊥
+IsRefusal mode.Trial bytes text = ⊥
 IsRefusal mode.Replay bytes text = (IsTooLarge mode.Replay bytes × (text ≡ input_too_large)) ⊎ NamesFault bytes text

@@ -1,4 +1,5 @@
-//! The program as one call: a job file is read, worked through and reported, or generated, or a trace is played.
+//! The program as one call: a job file is read, worked through and reported, or generated, or generated work is summed up, or a
+//! trace is played.
 #![tactic(auto)]
 
 mod answer;
@@ -9,6 +10,7 @@ mod run_mode;
 mod streams;
 mod top_call;
 mod trace_mode;
+mod trial_mode;
 mod writing;
 
 pub use ended::Ended;

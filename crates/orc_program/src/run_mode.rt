@@ -20,6 +20,7 @@ use crate::Ended;
 use crate::jobs_mode::run_jobs;
 use crate::make_mode::write_generated;
 use crate::trace_mode::play_trace;
+use crate::trial_mode::run_generated;
 use crate::writing::refuse_size;
 use orc_board::Gate;
 use orc_feed::{ReadAll, Sink, Source, read_all};
@@ -33,7 +34,7 @@ use std::thread::Threads;
 /// The most bytes that an input may have.
 const INPUT_LIMIT: u64 = 16777216;
 
-// Writes generated work, or reads the input.
+// Writes generated work, or works through it, or reads the input.
 pub(crate) fn run_mode<R: Threads + Wait + Sync, S: Source, K: Sink, G: Gate + Sync>(
     rt: &R,
     alloc: Global,
@@ -49,8 +50,9 @@ pub(crate) fn run_mode<R: Threads + Wait + Sync, S: Source, K: Sink, G: Gate + S
     ensures done { result ≡ 0 → (text : List ℕ) × Tells settings.mode settings (S.left source.old) ended.new text
         × Appends (K.written sink.old) (K.written sink.new) text }
     ensures most_read { TakesAtMost (input_limit + 1) (S.left source.old) (S.left source.new) }
-    ensures nothing_read { settings.mode ≡ Mode.Make → (S.left source.new ≡ S.left source.old) × (S.faults source.new ≡ S.faults source.old) }
-    ensures all_read { settings.mode ≢ Mode.Make → (result ≡ 0) ⊎ (result ≡ 3) ⊎ (result ≡ 8) → IsAtEnd (S.left source.new) }
+    ensures nothing_read { (settings.mode ≡ Mode.Make) ⊎ (settings.mode ≡ Mode.Trial)
+        → (S.left source.new ≡ S.left source.old) × (S.faults source.new ≡ S.faults source.old) }
+    ensures all_read { settings.mode ≢ Mode.Make → settings.mode ≢ Mode.Trial → (result ≡ 0) ⊎ (result ≡ 3) ⊎ (result ≡ 8) → IsAtEnd (S.left source.new) }
     ensures many_read { result ≡ 6 → IfSome (S.left source.old) (λ bytes. length bytes ≤ input_limit → IsAtEnd (S.left source.new)) }
     ensures malformed { result ≡ 3 → (settings.mode ≡ Mode.Run) × ((text : List ℕ) × IfSome (S.left source.old) (λ bytes. NamesRecord bytes text)
         × Appends (K.written sink.old) (K.written sink.new) text) }
@@ -82,12 +84,14 @@ pub(crate) fn run_mode<R: Threads + Wait + Sync, S: Source, K: Sink, G: Gate + S
         → length bytes ≤ input_limit → IsReplay bytes played
         → ¬ Rose (S.faults source.old) (S.faults source.new) → ¬ Rose (K.faults sink.old) (K.faults sink.new)
         → ((result ≡ 0) × Appends (K.written sink.old) (K.written sink.new) (replay_line played)) ⊎ (result ≡ 7) }
-    ensures made { settings.mode ≡ Mode.Make → (result ≡ 0) ⊎ (result ≡ 5) ⊎ (result ≡ 7) }
+    ensures made { (settings.mode ≡ Mode.Make) ⊎ (settings.mode ≡ Mode.Trial) → (result ≡ 0) ⊎ (result ≡ 5) ⊎ (result ≡ 7) }
     ensures complete_make { settings.mode ≡ Mode.Make → ¬ Rose (K.faults sink.old) (K.faults sink.new)
         → ((result ≡ 0) × Appends (K.written sink.old) (K.written sink.new) (made_text settings)) ⊎ (result ≡ 7) }
+    ensures complete_trial { settings.mode ≡ Mode.Trial → ¬ Rose (K.faults sink.old) (K.faults sink.new) → (result ≡ 0) ⊎ (result ≡ 7) }
 {
     match settings.mode {
         Mode::Make => write_generated(alloc, settings, sink),
+        Mode::Trial => run_generated(rt, alloc, settings, sink, gate, ended),
         _ => read_mode(rt, alloc, settings, source, sink, gate, ended),
     }
 }
@@ -103,7 +107,7 @@ fn read_mode<R: Threads + Wait + Sync, S: Source, K: Sink, G: Gate + Sync>(
     ended: &mut Ended,
 ) -> u8
     requires ranges { AreInRange settings }
-    requires reads { settings.mode ≢ Mode.Make }
+    requires reads { (settings.mode ≢ Mode.Make) × (settings.mode ≢ Mode.Trial) }
     requires new { IsNew ended.old }
     ensures statuses { (result ≡ 0) ⊎ (result ≡ 3) ⊎ (result ≡ 4) ⊎ (result ≡ 5) ⊎ (result ≡ 6) ⊎ (result ≡ 7) ⊎ (result ≡ 8) }
     ensures done { result ≡ 0 → (text : List ℕ) × Tells settings.mode settings (S.left source.old) ended.new text
@@ -153,6 +157,6 @@ fn read_mode<R: Threads + Wait + Sync, S: Source, K: Sink, G: Gate + Sync>(
     match settings.mode {
         Mode::Run => run_jobs(rt, alloc, settings, bytes.as_slice(), sink, gate, ended),
         Mode::Replay => play_trace(alloc, bytes.as_slice(), sink),
-        Mode::Make => unreachable!(),
+        Mode::Make | Mode::Trial => unreachable!(),
     }
 }

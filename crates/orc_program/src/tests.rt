@@ -232,6 +232,33 @@ fn makes_job_files(rt: HostRuntime) -> Result<(), Fail> {
 }
 
 #[test]
+fn sums_up_trials(rt: HostRuntime) -> Result<(), Fail> {
+    let words = words_of(rt.alloc(), &["--mode", "trial", "--seed=1", "--lines", "2"])?;
+    let summary = "done 2\nbytes jobs 2 total 6\n";
+    for (room, write_fails, written, status) in [
+        (1000, &[] as &[u64], summary, 0),
+        (7, &[], "done 2\n", 5),
+        (1000, &[1], "done ", 5),
+    ] {
+        // A first read would fail.
+        let ran = run_with(
+            &rt,
+            rt.alloc(),
+            &words,
+            FIVE_LINES,
+            5,
+            &[0],
+            room,
+            write_fails,
+            status,
+            written.as_bytes(),
+        )?;
+        assert!(&rt; ran);
+    }
+    Ok(())
+}
+
+#[test]
 fn replays(rt: HostRuntime) -> Result<(), Fail> {
     let words = words_of(rt.alloc(), &["--mode", "replay"])?;
     let cases: [(&[u8], u8, &[u8]); 6] = [

@@ -29,13 +29,14 @@ use std::alloc::Global;
 use std::sync::Wait;
 use std::thread::Threads;
 
-/// In mode run, reads a job file, works through it with posters and takers on threads and writes the report; in mode replay,
-/// reads a trace, plays it and writes what it leaves; in mode make, reads nothing and writes a generated job file; or writes
-/// why not. The words are read by `clap`, as `settings_of` says.
+/// In mode run, reads a job file, works through it with posters and takers on threads and writes the report; in mode trial, reads
+/// nothing, works through generated lines in the same way and writes the summary; in mode make, reads nothing and writes the
+/// generated lines as a job file; in mode replay, reads a trace, plays it and writes what it leaves; or writes why not. The words
+/// are read by `clap`, as `settings_of` says.
 ///
 /// | Status | Comes | Written |
 /// |---|---|---|
-/// | 0 | done | the report, the job file, or the line of the census |
+/// | 0 | done | the report, the summary, the job file, or the line of the census |
 /// | 2 | `clap` refuses the words for another cause than want of memory; help and a version count as refused | `words refused` |
 /// | 3 | a record is outside the grammar | `line N: CAUSE` |
 /// | 4 | a read failed | nothing |
@@ -57,15 +58,17 @@ pub fn orc_main<R: Threads + Wait + Sync, S: Source, K: Sink, G: Gate + Sync>(
     requires { IsNew ended.old }
     ensures statuses { (result ≡ 0) ⊎ (result ≡ 2) ⊎ (result ≡ 3) ⊎ (result ≡ 4) ⊎ (result ≡ 5) ⊎ (result ≡ 6) ⊎ (result ≡ 7) ⊎ (result ≡ 8) }
 
-    // Status 0: the whole text of the mode, which of mode run is the headline's report.
+    // Status 0: the whole text of the mode: of mode run the headline's report, and of mode trial the summary of a run of which the
+    // headline holds.
     ensures done { result ≡ 0 → (s : Settings) × (text : List ℕ) × Gives words.now s × Tells s.mode s (S.left source.old) ended.new text
         × Appends (K.written sink.old) (K.written sink.new) text }
 
-    // What is read: nothing at refused words and in mode make, no more than one byte past the limit, and all that there is where the bytes are judged.
+    // What is read: nothing at refused words and in modes make and trial, no more than one byte past the limit, and all that there is where the bytes are judged.
     ensures words_first { RefusesWords words.now → (S.left source.new ≡ S.left source.old) × (S.faults source.new ≡ S.faults source.old) }
     ensures most_read { TakesAtMost (input_limit + 1) (S.left source.old) (S.left source.new) }
-    ensures nothing_read { AskFor words.now Mode.Make → (S.left source.new ≡ S.left source.old) × (S.faults source.new ≡ S.faults source.old) }
-    ensures all_read { ¬ AskFor words.now Mode.Make → (result ≡ 0) ⊎ (result ≡ 3) ⊎ (result ≡ 8) → IsAtEnd (S.left source.new) }
+    ensures nothing_read { AskFor words.now Mode.Make ⊎ AskFor words.now Mode.Trial
+        → (S.left source.new ≡ S.left source.old) × (S.faults source.new ≡ S.faults source.old) }
+    ensures all_read { ¬ AskFor words.now Mode.Make → ¬ AskFor words.now Mode.Trial → (result ≡ 0) ⊎ (result ≡ 3) ⊎ (result ≡ 8) → IsAtEnd (S.left source.new) }
     ensures many_read { result ≡ 6 → IfSome (S.left source.old) (λ bytes. length bytes ≤ input_limit → IsAtEnd (S.left source.new)) }
 
     // Each refusal: why it came, and what was written.
@@ -99,9 +102,10 @@ pub fn orc_main<R: Threads + Wait + Sync, S: Source, K: Sink, G: Gate + Sync>(
         → length bytes ≤ input_limit → IsFileOf lines bytes
         → ¬ Rose (S.faults source.old) (S.faults source.new) → ¬ Rose (K.faults sink.old) (K.faults sink.new)
         → (result ≡ 0) ⊎ (result ≡ 7) }
-    ensures made { AskFor words.now Mode.Make → (result ≡ 0) ⊎ (result ≡ 5) ⊎ (result ≡ 7) }
+    ensures made { AskFor words.now Mode.Make ⊎ AskFor words.now Mode.Trial → (result ≡ 0) ⊎ (result ≡ 5) ⊎ (result ≡ 7) }
     ensures complete_make { (s : Settings) → Gives words.now s → s.mode ≡ Mode.Make → ¬ Rose (K.faults sink.old) (K.faults sink.new)
         → ((result ≡ 0) × Appends (K.written sink.old) (K.written sink.new) (made_text s)) ⊎ (result ≡ 7) }
+    ensures complete_trial { AskFor words.now Mode.Trial → ¬ Rose (K.faults sink.old) (K.faults sink.new) → (result ≡ 0) ⊎ (result ≡ 7) }
     ensures complete_replay { (bytes : List ℕ) (played : Replayed) → S.left source.old ≡ Some bytes → AskFor words.now Mode.Replay
         → length bytes ≤ input_limit → IsReplay bytes played
         → ¬ Rose (S.faults source.old) (S.faults source.new) → ¬ Rose (K.faults sink.old) (K.faults sink.new)

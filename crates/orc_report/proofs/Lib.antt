@@ -1,3 +1,7 @@
 pub mod PositionOrder
 pub mod ReportedReplies
 pub mod Summaries
+pub mod KeptKeys
+pub mod RunEntries
+pub mod AllDone
+pub mod NumberedLines

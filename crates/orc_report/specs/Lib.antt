@@ -1,3 +1,4 @@
 pub mod Report
 pub mod Summary
 pub mod Totals
+pub mod AllDone

@@ -206,3 +206,16 @@ fn the_largest_team(rt: HostRuntime) -> Result<(), Fail> {
     )?;
     Ok(())
 }
+
+#[test]
+fn trials_by_many_have_one_summary(rt: HostRuntime) -> Result<(), Fail> {
+    let words = words_of(
+        rt.alloc(),
+        &["--mode=trial", "--lines=2000", "--posters=4", "--takers=4"],
+    )?;
+    let first = report_of(&rt, rt.alloc(), &words, b"", &OpenGate)?;
+    let second = report_of(&rt, rt.alloc(), &words, b"", &OpenGate)?;
+    assert!(&rt; first.as_slice().starts_with(b"done 2000\n"));
+    assert_eq!(&rt; first.as_slice(), second.as_slice());
+    Ok(())
+}

@@ -38,7 +38,7 @@ returns-in-Ok-Malformed-clause-malformed_comes g c place why bad =
 pub returns-in-Ok-TooMany-clause-cut_short : goal.returns-in-Ok-TooMany-clause-cut_short
 returns-in-Ok-TooMany-clause-cut_short g c five =
     let many : Refuses c.args.bytes.now TooMany = search rules in
-    (input_too_large, inr (c.requires.new, inl (inr many, refl)), c.refuse_size.ensures.cut_short five)
+    (input_too_large, inr (tt, c.requires.new, inl (inr many, refl)), c.refuse_size.ensures.cut_short five)
 
 pub returns-in-Ok-TooMany-clause-malformed_comes : goal.returns-in-Ok-TooMany-clause-malformed_comes
 returns-in-Ok-TooMany-clause-malformed_comes g c place why bad =

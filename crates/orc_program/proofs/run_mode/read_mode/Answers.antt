@@ -3,14 +3,15 @@ use Rattle.orc_options.specs.declared.settings.Mode.TheVariants as mode
 use Rattle.orc_program.specs.Outcomes.{ModeWrites, Tells}
 use Rattle.orc_program.specs.Refusals.{input_too_large}
 use Rattle.orc_program.proofs.Inputs.{where-told}
-use Rattle.orc_program.proofs.Wrote.{HasReported-told, ModeWrites-told, Told, refuses_size, replay_writes}
+use Rattle.orc_program.proofs.Wrote.{HasReported-told, ModeWrites-told, Told, reads, refuses_size, replay_writes}
 use Rattle.orc_program.proofs.run_mode.read_mode.Goals as goal
 
 pub returns-then-len-gt-INPUT_LIMIT-clause-cut_short : goal.returns-then-len-gt-INPUT_LIMIT-clause-cut_short
 returns-then-len-gt-INPUT_LIMIT-clause-cut_short g c five =
     let long : 16777216 < length c.in-Ok.bytes.items = search rules in
-    let refuses = where-told _ _ (λ bytes told. refuses_size c.args.settings.mode bytes c.requires.reads ((c.in-Ok.ensures.whole bytes told).more long)) in
-    (input_too_large, inr (c.requires.new, refuses), c.refuse_size.ensures.cut_short five)
+    let reading = reads c.args.settings.mode c.requires.reads in
+    let refuses = where-told _ _ (λ bytes told. refuses_size c.args.settings.mode bytes reading ((c.in-Ok.ensures.whole bytes told).more long)) in
+    (input_too_large, inr (reading, c.requires.new, refuses), c.refuse_size.ensures.cut_short five)
 
 pub returns-then-len-gt-INPUT_LIMIT-clause-complete_replay : goal.returns-then-len-gt-INPUT_LIMIT-clause-complete_replay
 returns-then-len-gt-INPUT_LIMIT-clause-complete_replay g c bytes played told replay few is =

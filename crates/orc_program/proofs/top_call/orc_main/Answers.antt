@@ -1,6 +1,7 @@
 use Rattle.std.proofs.Common.{rules, ◌≡◌, ◌∙◌, ◌⊎◌, ℕ, ap, arith, inl, inr, refl}
 use Rattle.orc_options.proofs.NamesAnywhere.{never_both, one_settings}
 use Rattle.orc_options.specs.declared.settings.Mode.{Mode}
+use Rattle.orc_options.specs.declared.settings.Mode.TheVariants as mode
 use Rattle.orc_options.specs.Settings.{AskFor, Gives, Refuses}
 use Rattle.orc_options.specs.declared.settings.Settings.{Settings}
 use Rattle.orc_program.specs.Refusals.{words_refused}
@@ -9,6 +10,10 @@ use Rattle.orc_program.proofs.top_call.orc_main.Goals as goal
 -- the mode that the words ask for is that of the settings that they give
 asked : (words : _) (s : Settings) (m : Mode) → Gives words s → AskFor words m → s.mode ≡ m
 asked words s m gives asks = ap (λ (t : Settings). t.mode) (one_settings words s asks.0 gives asks.1) ∙ asks.2
+
+generates : (words : _) (s : Settings) → Gives words s → AskFor words mode.Make ⊎ AskFor words mode.Trial → (s.mode ≡ mode.Make) ⊎ (s.mode ≡ mode.Trial)
+generates words s gives (inl make) = inl (asked words s mode.Make gives make)
+generates words s gives (inr trial) = inr (asked words s mode.Trial gives trial)
 
 -- these statuses aren't that of refused words
 not_words : (n : ℕ) → (n ≡ 0) ⊎ (n ≡ 3) ⊎ (n ≡ 4) ⊎ (n ≡ 5) ⊎ (n ≡ 6) ⊎ (n ≡ 7) ⊎ (n ≡ 8) → n ≡ 2 → ⊥
@@ -118,13 +123,14 @@ returns-in-Err-Words-clause-complete_replay g c bytes played told asks few is =
     λ no_read no_write. absurd (never_both _ asks.0 asks.1 refuses)
 
 pub returns-in-Ok-clause-nothing_read : goal.returns-in-Ok-clause-nothing_read
-returns-in-Ok-clause-nothing_read g c asks = c.run_mode.ensures.nothing_read (asked _ c.in-Ok.settings _ c.in-Ok.ensures.gives asks)
+returns-in-Ok-clause-nothing_read g c asks = c.run_mode.ensures.nothing_read (generates _ c.in-Ok.settings c.in-Ok.ensures.gives asks)
 
 pub returns-in-Ok-clause-all_read : goal.returns-in-Ok-clause-all_read
-returns-in-Ok-clause-all_read g c other = c.run_mode.ensures.all_read (λ make. other (c.in-Ok.settings, c.in-Ok.ensures.gives, make))
+returns-in-Ok-clause-all_read g c other another =
+    c.run_mode.ensures.all_read (λ make. other (c.in-Ok.settings, c.in-Ok.ensures.gives, make)) (λ trial. another (c.in-Ok.settings, c.in-Ok.ensures.gives, trial))
 
 pub returns-in-Ok-clause-made : goal.returns-in-Ok-clause-made
-returns-in-Ok-clause-made g c asks = c.run_mode.ensures.made (asked _ c.in-Ok.settings _ c.in-Ok.ensures.gives asks)
+returns-in-Ok-clause-made g c asks = c.run_mode.ensures.made (generates _ c.in-Ok.settings c.in-Ok.ensures.gives asks)
 
 pub returns-in-Ok-clause-complete_make : goal.returns-in-Ok-clause-complete_make
 returns-in-Ok-clause-complete_make g c s gives make none =
@@ -135,17 +141,28 @@ pub returns-in-Err-Words-clause-nothing_read : goal.returns-in-Err-Words-clause-
 returns-in-Err-Words-clause-nothing_read g c asks = (refl, refl)
 
 pub returns-in-Err-Words-clause-all_read : goal.returns-in-Err-Words-clause-all_read
-returns-in-Err-Words-clause-all_read g c other (inl zero) =
+returns-in-Err-Words-clause-all_read g c other another (inl zero) =
     absurd (only_words _ 0 c.refuse_words.ensures.statuses zero (λ e. omega (arith, e)) (λ e. omega (arith, e)))
-returns-in-Err-Words-clause-all_read g c other (inr (inl three)) =
+returns-in-Err-Words-clause-all_read g c other another (inr (inl three)) =
     absurd (only_words _ 3 c.refuse_words.ensures.statuses three (λ e. omega (arith, e)) (λ e. omega (arith, e)))
-returns-in-Err-Words-clause-all_read g c other (inr (inr eight)) =
+returns-in-Err-Words-clause-all_read g c other another (inr (inr eight)) =
     absurd (only_words _ 8 c.refuse_words.ensures.statuses eight (λ e. omega (arith, e)) (λ e. omega (arith, e)))
 
+pub returns-in-Ok-clause-complete_trial : goal.returns-in-Ok-clause-complete_trial
+returns-in-Ok-clause-complete_trial g c asks = c.run_mode.ensures.complete_trial (asked _ c.in-Ok.settings _ c.in-Ok.ensures.gives asks)
+
 pub returns-in-Err-Words-clause-made : goal.returns-in-Err-Words-clause-made
-returns-in-Err-Words-clause-made g c asks =
+returns-in-Err-Words-clause-made g c (inl asks) =
     let refuses : Refuses c.args.words.now = search rules in
     absurd (never_both _ asks.0 asks.1 refuses)
+returns-in-Err-Words-clause-made g c (inr asks) =
+    let refuses : Refuses c.args.words.now = search rules in
+    absurd (never_both _ asks.0 asks.1 refuses)
+
+pub returns-in-Err-Words-clause-complete_trial : goal.returns-in-Err-Words-clause-complete_trial
+returns-in-Err-Words-clause-complete_trial g c asks =
+    let refuses : Refuses c.args.words.now = search rules in
+    λ none. absurd (never_both _ asks.0 asks.1 refuses)
 
 pub returns-in-Err-Words-clause-complete_make : goal.returns-in-Err-Words-clause-complete_make
 returns-in-Err-Words-clause-complete_make g c s gives make none =

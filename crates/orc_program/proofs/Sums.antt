@@ -1,0 +1,37 @@
+-- What a run of generated lines has left, with its summary.
+use Rattle.std.proofs.Common.{◌≡◌, ◌≤◌, ◌∙◌, List, ℕ, ap, refl}
+use Rattle.orc_jobs.specs.Generated.{generated}
+use Rattle.orc_options.specs.declared.settings.Settings.{Settings}
+use Rattle.orc_report.proofs.AllDone.{all_done, none_void}
+use Rattle.orc_report.proofs.NumberedLines.{generated-numbered, one-list}
+use Rattle.orc_report.specs.AllDone.{AreNumbered}
+use Rattle.orc_report.specs.Summary.{done_jobs, summary_of}
+use Rattle.orc_run.specs.Containers.{queue_over, set_over}
+use Rattle.orc_run.specs.Domains.{agents_of}
+use Rattle.orc_run.specs.declared.run.Finished.{Finished}
+use Rattle.orc_domain.specs.Rest.{rest_journal}
+use Rattle.orc_program.specs.declared.ended.Ended.{Ended}
+use Rattle.orc_program.specs.Ended.{HasSummed, Keeps, generated_lines}
+use Rattle.orc_program.specs.Headline.{WorkedThrough}
+
+-- a run of generated lines that is kept, with the summary of its replies
+pub has-summed : (settings : Settings) (f : Finished) (ended : Ended) (text : List ℕ) → 1 ≤ settings.posters → Keeps f ended
+    → WorkedThrough (generated_lines settings) settings f
+    → text ≡ summary_of (done_jobs (generated_lines settings) f.replies.takes.items) → HasSummed settings ended text
+has-summed settings f ended text some kept run is =
+    let lines = generated_lines settings in
+    let num : AreNumbered lines = generated-numbered settings.seed settings.lines in
+    let agents : ℕ = agents_of settings.posters settings.takers in
+    let done = all_done (queue_over 0 settings.rows agents) (set_over 1 settings.rows agents) lines settings.posters settings.takers
+    f.replies.posts.items f.replies.takes.items (rest_journal f.queue) (rest_journal f.set) refl some num run.replies in
+    record {
+      finished = f;
+      kept = kept;
+      run = run;
+      summary = is;
+      all_done = done;
+      of_lines = λ not_refused not_void jobs are.
+          is ∙ ap summary_of (one-list lines (done_jobs lines f.replies.takes.items) jobs (done not_refused not_void) are);
+      none_void = none_void (queue_over 0 settings.rows agents) (set_over 1 settings.rows agents) lines settings.posters settings.takers
+          f.replies.posts.items f.replies.takes.items (rest_journal f.queue) (rest_journal f.set) refl some num run.replies;
+    }
