@@ -63,7 +63,8 @@ pub fn orc_main<R: Threads + Wait + Sync, S: Source, K: Sink, G: Gate + Sync>(
     ensures done { result ≡ 0 → (s : Settings) × (text : List ℕ) × Gives words.now s × Tells s.mode s (S.left source.old) ended.new text
         × Appends (K.written sink.old) (K.written sink.new) text }
 
-    // What is read: nothing at refused words and in modes make and trial, no more than one byte past the limit, and all that there is where the bytes are judged.
+    // What is read: nothing at refused words and in modes make and trial, no more than one byte past the limit, and all that there is
+    // where the bytes are judged.
     ensures words_first { RefusesWords words.now → (S.left source.new ≡ S.left source.old) × (S.faults source.new ≡ S.faults source.old) }
     ensures most_read { TakesAtMost (input_limit + 1) (S.left source.old) (S.left source.new) }
     ensures nothing_read { AskFor words.now Mode.Make ⊎ AskFor words.now Mode.Trial

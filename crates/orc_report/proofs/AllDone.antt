@@ -1,5 +1,6 @@
 -- Runs of lines that post numbered jobs: no reply is Busy; without takers none is Void; and where none is refused, every job is done.
-use Rattle.std.proofs.Common.{◌≡◌, ◌≢◌, ◌∙◌, ◌+◌, ◌≤◌, ◌<◌, ◌++◌, ◌∷◌, ◌==◌, ◌⊎◌, List, [], ℕ, zero, suc, Bool, true, false, cond, filter, length, map, ap, arith, inl, inr, refl, subst, sym, take, slice_get, Some, None, flat_map, get_or, append-nil}
+use Rattle.std.proofs.Common.{◌≡◌, ◌≢◌, ◌∙◌, ◌≤◌, ◌<◌, ◌++◌, ◌∷◌, ◌==◌, ◌⊎◌, List, [], ℕ, zero, suc, true, false, filter, length, map, ap}
+use Rattle.std.proofs.Common.{arith, inl, inr, refl, subst, sym, take, slice_get, Some, flat_map, get_or, append-nil}
 use Rattle.std.specs.List.{AllByRecursion, IsDistinct, list_any, range_with_len}
 use Rattle.std.specs.List.Sorted.{IsPermutation}
 use Rattle.std.proofs.Math.Seq.{take-length, take-suc}
@@ -8,7 +9,7 @@ use Rattle.std.proofs.lemmas.Grind.{flat_map-append}
 use Rattle.std.proofs.lemmas.List.FromFn.{get_or-range_with_len, length-range_with_len}
 use Rattle.std.proofs.lemmas.List.Sorted.{All-permutation, IsPermutation-map, IsPermutation-sym, IsPermutation-trans, list_any-IsPermutation}
 use Rattle.std.proofs.lemmas.Map.Keys.{IsDistinct-IsPermutation, IsDistinct-from_apart}
-use Rattle.std.proofs.lemmas.Option.{get_or_from_slice_get, slice_get_within}
+use Rattle.std.proofs.lemmas.Option.{get_or_from_slice_get}
 use Rattle.orc_history.proofs.SortedLists.{has-present}
 use Rattle.orc_history.specs.declared.queue.QueueEntry.{QueueEntry}
 use Rattle.orc_history.specs.declared.queue.QueueRefused.{QueueRefused}
@@ -28,10 +29,11 @@ use Rattle.orc_board.specs.declared.replies.TakeWord.{TakeWord}
 use Rattle.orc_board.specs.declared.replies.TakeWord.TheVariants as took
 use Rattle.orc_board.specs.Stretches.{Row, View}
 use Rattle.orc_board.specs.Table.{HasValue, JobRow, answer_of}
-use Rattle.orc_board.specs.Follows.{Follows, Pointwise, PosterRow, TookRow, by_key, taker_agent}
-use Rattle.orc_board.specs.Reportable.{AreReportable, IsClaim, claim_of, posted_by, posted_of}
+use Rattle.orc_board.specs.Follows.{Pointwise, TookRow, by_key, taker_agent}
+use Rattle.orc_board.specs.Reportable.{IsClaim, claim_of, posted_by, posted_of}
 use Rattle.orc_board.specs.Runs.{Ran}
-use Rattle.orc_board.proofs.ListFacts.{AllByRecursion-append, AllByRecursion-filter, AllByRecursion-left, AllByRecursion-map, AllByRecursion-right, eq-false, eq-no, eq-true, filter-none}
+use Rattle.orc_board.proofs.ListFacts.{AllByRecursion-append, AllByRecursion-filter, AllByRecursion-left, AllByRecursion-map, AllByRecursion-right, eq-false}
+use Rattle.orc_board.proofs.ListFacts.{eq-no, eq-true, filter-none}
 use Rattle.orc_board.proofs.Orders.{each_line, same}
 use Rattle.orc_report.specs.AllDone.{AreJobsOf, AreNumbered, IsJobOf, NoneRefused, NoneVoid}
 use Rattle.orc_report.specs.Summary.{done_as, done_in, done_jobs}
@@ -106,7 +108,8 @@ numbers_differ n = IsDistinct-from_apart same (range_with_len 0 n)
     eq-no (get_or (range_with_len 0 n) i d) (get_or (range_with_len 0 n) j d)
     (λ e. omega (arith, e, ij, get_or-range_with_len 0 n i d (omega (arith, ij, short)), get_or-range_with_len 0 n j d short)))
 
-pointwise_append : {X Y : Type 0} (R : X → Y → Type 0) (xs us : List X) (ys vs : List Y) → Pointwise R xs ys → Pointwise R us vs → Pointwise R (xs ++ us) (ys ++ vs)
+pointwise_append : {X Y : Type 0} (R : X → Y → Type 0) (xs us : List X) (ys vs : List Y) → Pointwise R xs ys → Pointwise R us vs
+    → Pointwise R (xs ++ us) (ys ++ vs)
 pointwise_append R [] us [] vs a b = b
 pointwise_append R [] us (y ∷ ys) vs a b = absurd a
 pointwise_append R (x ∷ xs) us [] vs a b = absurd a
@@ -366,7 +369,8 @@ module _ {A B : Type 0} (q : View A QueueEntry QueueRefused) (s : View B SetEntr
         sym (list_any-IsPermutation (λ k. k == m) range (map take_line takes) all_taken) ∙ present in
         let (r, alone, line_is) = only_one take_line m takes takes_differ taken in
         let claim : IsClaim lines r =
-        (subst (AllByRecursion (IsClaim lines)) alone (AllByRecursion-filter (IsClaim lines) (λ (x : TakeReply). x.line == m) takes ran.reportable.claimed)).0 in
+        (subst (AllByRecursion (IsClaim lines)) alone
+        (AllByRecursion-filter (IsClaim lines) (λ (x : TakeReply). x.line == m) takes ran.reportable.claimed)).0 in
         let done : r.what ≢ took.Void =
         (subst (AllByRecursion (λ (x : TakeReply). x.what ≢ took.Void)) alone
         (AllByRecursion-filter (λ (x : TakeReply). x.what ≢ took.Void) (λ (x : TakeReply). x.line == m) takes not_void)).0 in

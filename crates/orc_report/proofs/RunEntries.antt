@@ -1,5 +1,6 @@
 -- The entries of a set's history that the replies of a run stand for.
-use Rattle.std.proofs.Common.{◌≡◌, ◌≢◌, ◌∙◌, ◌+◌, ◌≤◌, ◌<◌, ◌++◌, ◌∷◌, ◌==◌, List, [], ℕ, suc, Bool, true, false, cond, filter, ap, arith, inl, inr, refl, subst, sym}
+use Rattle.std.proofs.Common.{◌≡◌, ◌≢◌, ◌∙◌, ◌+◌, ◌≤◌, ◌<◌, ◌++◌, ◌∷◌, ◌==◌, List, [], ℕ, suc, Bool, true, false, cond, filter, ap, arith, inl, inr, refl}
+use Rattle.std.proofs.Common.{subst, sym}
 use Rattle.std.specs.List.{AllByRecursion}
 use Rattle.orc_history.specs.declared.queue.QueueEntry.{QueueEntry}
 use Rattle.orc_history.specs.declared.queue.QueueRefused.{QueueRefused}
@@ -18,7 +19,8 @@ use Rattle.orc_board.specs.Stretches.{MayStand, Row, Stretch, View, beside, is_o
 use Rattle.orc_board.specs.Table.{JobRow, PostRow, answer_of}
 use Rattle.orc_board.specs.Follows.{IsWorker, Pointwise, PosterRow, TookRow, WorkersFollow, posts_of, taker_agent, takes_of}
 use Rattle.orc_board.proofs.Keyed.{by_key_below}
-use Rattle.orc_board.proofs.ListFacts.{AllByRecursion-append, AllByRecursion-filter, AllByRecursion-left, AllByRecursion-map, AllByRecursion-right, eq-yes, zero_or}
+use Rattle.orc_board.proofs.ListFacts.{AllByRecursion-append, AllByRecursion-filter, AllByRecursion-left, AllByRecursion-map, AllByRecursion-right, eq-yes}
+use Rattle.orc_board.proofs.ListFacts.{zero_or}
 use Rattle.orc_board.proofs.Orders.{above_zero, no_posts, posters_in_range}
 use Rattle.orc_board.proofs.Wholes.{Works-set, set_of_rows}
 use Rattle.orc_board.proofs.WorkerCases.{worker_cases}
@@ -36,6 +38,7 @@ by_keys {X} key P n (x ∷ xs) low h = (head, by_keys key P n xs low.1 (λ a l. 
         subst (λ (b : Bool). AllByRecursion P (cond b (x ∷ filter (λ y. key y == key x) xs) (filter (λ y. key y == key x) xs))) (eq-yes (key x) (key x) refl)
         (h (key x) low.0) in
         all.0
+
     tail : (a : ℕ) (b : Bool) → AllByRecursion P (cond b (x ∷ filter (λ y. key y == a) xs) (filter (λ y. key y == a) xs))
         → AllByRecursion P (filter (λ y. key y == a) xs)
     tail a true k = k.1

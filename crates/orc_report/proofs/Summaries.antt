@@ -1,5 +1,6 @@
 -- Summaries: one more operation, and its total.
-use Rattle.std.proofs.Common.{◌≡◌, ◌∙◌, ◌++◌, ◌||◌, Bool, true, false, cond, not, nat_eq, List, [], ◌∷◌, ℕ, Some, None, inl, inr, refl, sym, ap, filter, is_some, append-nil, Option, Bor, option_copied, ◌+◌, zero, suc, add-one, slice_get, take, flat_map}
+use Rattle.std.proofs.Common.{◌≡◌, ◌∙◌, ◌++◌, ◌||◌, Bool, true, false, cond, not, nat_eq, List, [], ◌∷◌, ℕ, Some, None, inl, inr, refl, sym, ap, filter}
+use Rattle.std.proofs.Common.{is_some, append-nil, Option, Bor, option_copied, ◌+◌, zero, suc, add-one, slice_get, take, flat_map}
 use Rattle.std.specs.List.{list_any}
 use Rattle.std.specs.Map.{lookup}
 use Rattle.std.proofs.lemmas.Bool.{cases_Bool}
@@ -124,5 +125,7 @@ pub lines-more : (jobs : List (Job × ℕ)) (ops : List Job) (place : ℕ) (op :
     → flat_map (total_line jobs) (take (place + 1) ops) ≡ flat_map (total_line jobs) (take place ops) ++ total_line jobs op
 lines-more jobs ops place op e =
     ap (λ k. flat_map (total_line jobs) (take k ops)) (add-one place)
-    ∙ (ap (flat_map (total_line jobs)) (take-suc ops place op (slice_get_within ops place op e) ∙ ap (λ z. take place ops ++ z ∷ []) (get_or_from_slice_get ops place op op e))
-    ∙ (flat_map-append (total_line jobs) (take place ops) (op ∷ []) ∙ ap (λ z. flat_map (total_line jobs) (take place ops) ++ z) (append-nil (total_line jobs op))))
+    ∙ (ap (flat_map (total_line jobs))
+    (take-suc ops place op (slice_get_within ops place op e) ∙ ap (λ z. take place ops ++ z ∷ []) (get_or_from_slice_get ops place op op e))
+    ∙ (flat_map-append (total_line jobs) (take place ops) (op ∷ [])
+    ∙ ap (λ z. flat_map (total_line jobs) (take place ops) ++ z) (append-nil (total_line jobs op))))

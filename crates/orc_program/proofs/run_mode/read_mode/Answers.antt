@@ -59,7 +59,8 @@ returns-in-Replay-clause-cut_short g c five =
     let told : Told (g.S.Source.left c.args.source.now) c.as_slice-in-Replay.result.now =
     λ bytes e. sym ((c.in-Ok.ensures.whole bytes e).all short).0 ∙ sym c.as_slice-in-Replay.ensures.value in
     let (text, writes, written) = c.play_trace.ensures.cut_short five in
-    (text, rw c.in-Replay.is (ModeWrites-told mode.Replay c.args.settings _ _ _ text told (replay_writes c.args.settings _ _ text c.requires.new writes)), written)
+    let tells = ModeWrites-told mode.Replay c.args.settings _ _ _ text told (replay_writes c.args.settings _ _ text c.requires.new writes) in
+    (text, rw c.in-Replay.is tells, written)
 
 pub returns-in-Replay-clause-refused_comes : goal.returns-in-Replay-clause-refused_comes
 returns-in-Replay-clause-refused_comes g c bytes why told replay few other bad =

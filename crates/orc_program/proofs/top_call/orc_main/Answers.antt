@@ -127,7 +127,8 @@ returns-in-Ok-clause-nothing_read g c asks = c.run_mode.ensures.nothing_read (ge
 
 pub returns-in-Ok-clause-all_read : goal.returns-in-Ok-clause-all_read
 returns-in-Ok-clause-all_read g c other another =
-    c.run_mode.ensures.all_read (λ make. other (c.in-Ok.settings, c.in-Ok.ensures.gives, make)) (λ trial. another (c.in-Ok.settings, c.in-Ok.ensures.gives, trial))
+    c.run_mode.ensures.all_read (λ make. other (c.in-Ok.settings, c.in-Ok.ensures.gives, make))
+    (λ trial. another (c.in-Ok.settings, c.in-Ok.ensures.gives, trial))
 
 pub returns-in-Ok-clause-made : goal.returns-in-Ok-clause-made
 returns-in-Ok-clause-made g c asks = c.run_mode.ensures.made (generates _ c.in-Ok.settings c.in-Ok.ensures.gives asks)

@@ -5,4 +5,5 @@ use Rattle.orc_report.proofs.summary.done_jobs.Goals as goal
 
 pub jobs_of-requires : goal.jobs_of-requires
 jobs_of-requires c = rw (c.as_slice.ensures.value, c.in_ok-ordered.ensures)
-    (AllByRecursion-by_key (λ (r : TakeReply). r.line < length c.args.lines.now) (λ (r : TakeReply). r.line) (length c.args.lines.now) c.args.takes.now c.requires)
+    (AllByRecursion-by_key (λ (r : TakeReply). r.line < length c.args.lines.now) (λ (r : TakeReply). r.line) (length c.args.lines.now)
+    c.args.takes.now c.requires)

@@ -24,5 +24,7 @@ returns c ops is =
     ∙ (ap (λ es. is_some (lookup (nat_eq (key_of c.args.op)) es)) is ∙ lookup-known c.args.jobs.now c.args.op (firsts ops))) in
     let none = none-there _ (sym (there c.get.result _ value) ∙ missed) in
     let added = c.in_ok-insert.ensures.entries
-    ∙ insert_entry-absent nat_eq c.key_of-key.result _ c.args.totals.now.entries (absent_from_lookup (nat_eq c.key_of-key.result) c.args.totals.now.entries none) in
-    rw (added, is, c.key_of-key.ensures, c.total_of.ensures, firsts-new ops c.args.op (sym looked ∙ missed)) (sym (entries-more c.args.jobs.now (firsts ops) c.args.op))
+    ∙ insert_entry-absent nat_eq c.key_of-key.result _ c.args.totals.now.entries
+    (absent_from_lookup (nat_eq c.key_of-key.result) c.args.totals.now.entries none) in
+    rw (added, is, c.key_of-key.ensures, c.total_of.ensures, firsts-new ops c.args.op (sym looked ∙ missed))
+    (sym (entries-more c.args.jobs.now (firsts ops) c.args.op))

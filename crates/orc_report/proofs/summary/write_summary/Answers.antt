@@ -9,7 +9,8 @@ pub loop-place-preserved : goal.loop-place-preserved
 loop-place-preserved c =
     let jobs = c.args.jobs.now in
     let ops = firsts (ops_of jobs) in
-    let at : slice_get (entries_of jobs ops) c.loop-place.place ≡ Some (c.total_at.ensures.0, c.total_at.result) = rw c.in_ok-totals.ensures at c.total_at.ensures.1 in
+    let at : slice_get (entries_of jobs ops) c.loop-place.place ≡ Some (c.total_at.ensures.0, c.total_at.result) =
+    rw c.in_ok-totals.ensures at c.total_at.ensures.1 in
     let (op, found, is) = total-at jobs ops c.loop-place.place c.total_at.ensures.0 c.total_at.result at in
     let front = codes "done " ++ decimal (length jobs) ++ codes "\n" in
     c.in_ok-push_total.ensures
