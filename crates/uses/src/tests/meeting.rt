@@ -3,7 +3,7 @@
 ghost use Rattle.std.specs.Prelude.{◌≡◌, ◌<◌, ℕ, [], All, length, slice_index_or};
 
 use super::workers::{came, is_each_taken_once, posts};
-use crate::{plain_queue, set_over};
+use crate::{Unmade, plain_queue, set_over};
 use orc_board::OpenGate;
 use orc_fault::{Again, NoMemory};
 use orc_history::{LearnQueue, LearnSet, QueueRefused, SharedQueue};
@@ -145,17 +145,20 @@ where
     })
 }
 
+// They do over plain domains.
+fn meet<R: Threads + Wait + Sync>(rt: &R, alloc: Global) -> Result<Met, Unmade> {
+    let (queue, queue_passes) = plain_queue(alloc, 16, 4)?;
+    let shape = Shape::new(16, 16, 4, 1)?;
+    let (set, set_passes) = set_over(alloc, &shape)?;
+    let met = meet_over(rt, alloc, queue, &set, queue_passes, set_passes)?;
+    Ok(met)
+}
+
 #[test]
 fn the_calls_of_three_agents_are_made_at_once(rt: HostRuntime) -> Result<(), Fail> {
-    let alloc = rt.alloc();
-    let Ok((queue, queue_passes)) = plain_queue(alloc, 16, 4) else {
+    let Ok(met) = meet(&rt, rt.alloc()) else {
         panic!(rt; "memory")
     };
-    let shape = Shape::new(16, 16, 4, 1)?;
-    let Ok((set, set_passes)) = set_over(alloc, &shape) else {
-        panic!(rt; "memory")
-    };
-    let met = meet_over(&rt, alloc, queue, &set, queue_passes, set_passes)?;
     assert_eq!(rt; met.agents, 3);
     assert_eq!(rt; met.desks, 4);
     assert!(rt; met.taken_once);
