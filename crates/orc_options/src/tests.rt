@@ -26,7 +26,7 @@ const DEFAULTS: Settings = Settings {
 
 #[test]
 fn words_give_settings(rt: HostRuntime) -> Result<(), Fail> {
-    let given: [(&[&str], Settings); 9] = [
+    let given: [(&[&str], Settings); 10] = [
         (
             &["--mode=make", "--seed=4294967295", "--lines", "60000"],
             Settings {
