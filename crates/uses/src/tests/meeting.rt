@@ -106,29 +106,22 @@ struct Met {
     taken_once: bool,
 }
 
-// Two posters and a taker work through two posts over a queue in which their first calls meet.
-fn meet_over<R: Threads + Wait + Sync, Q: LearnQueue + Sync + Drop, S: LearnSet + Sync>(
+// Two posters and a taker work through two posts over a queue in which their first calls meet, and this set.
+fn meet_over<R: Threads + Wait + Sync, S: LearnSet + Sync>(
     rt: &R,
     alloc: Global,
-    inner: Q,
     set: &S,
-    queue_passes: Vec<Q::Pass>,
     set_passes: Vec<S::Pass>,
-) -> Result<Met, NoMemory>
+) -> Result<Met, Unmade>
 where
-    Q::Pass: Send,
     S::Pass: Send,
-    requires queue_passes { All (λ p. Q.usable inner p) queue_passes.items }
-    requires queue_fresh { All (λ p. Q.history inner (Q.journal p) ≡ []) queue_passes.items }
-    requires queue_agents { (i : ℕ) (p : Q.Pass) → i < length queue_passes.items → Q.agent_of inner (slice_index_or queue_passes.items i p) ≡ i }
-    requires set_passes { All (λ p. S.usable set.now p) set_passes.items }
-    requires set_fresh { All (λ p. S.history set.now (S.journal p) ≡ []) set_passes.items }
-    requires set_agents { (i : ℕ) (p : S.Pass) → i < length set_passes.items → S.agent_of set.now (slice_index_or set_passes.items i p) ≡ i }
-    requires four { (length queue_passes.items ≡ 4) × (length set_passes.items ≡ 4) }
-    requires agents { (Q.agents inner ≡ 4) × (S.agents set.now ≡ 4) }
-    requires first { Q.first inner ≡ 0 }
+    requires usable { All (λ p. S.usable set.now p) set_passes.items }
+    requires fresh { All (λ p. S.history set.now (S.journal p) ≡ []) set_passes.items }
+    requires numbered { (i : ℕ) (p : S.Pass) → i < length set_passes.items → S.agent_of set.now (slice_index_or set_passes.items i p) ≡ i }
+    requires four { (length set_passes.items ≡ 4) × (S.agents set.now ≡ 4) }
 {
     let lines = posts(alloc, 2)?;
+    let (inner, queue_passes) = plain_queue(alloc, 16, 4)?;
     let queue = Meeting {
         inner,
         first: AtomicU64::new(0),
@@ -145,18 +138,13 @@ where
     })
 }
 
-// They do over plain domains.
-fn meet<R: Threads + Wait + Sync>(rt: &R, alloc: Global) -> Result<Met, Unmade> {
-    let (queue, queue_passes) = plain_queue(alloc, 16, 4)?;
-    let shape = Shape::new(16, 16, 4, 1)?;
-    let (set, set_passes) = set_over(alloc, &shape)?;
-    let met = meet_over(rt, alloc, queue, &set, queue_passes, set_passes)?;
-    Ok(met)
-}
-
 #[test]
 fn the_calls_of_three_agents_are_made_at_once(rt: HostRuntime) -> Result<(), Fail> {
-    let Ok(met) = meet(&rt, rt.alloc()) else {
+    let shape = Shape::new(16, 16, 4, 1)?;
+    let Ok((set, set_passes)) = set_over(rt.alloc(), &shape) else {
+        panic!(rt; "memory")
+    };
+    let Ok(met) = meet_over(&rt, rt.alloc(), &set, set_passes) else {
         panic!(rt; "memory")
     };
     assert_eq!(rt; met.agents, 3);
