@@ -8,6 +8,7 @@ use orc_fault::Again;
 use orc_heap::Links;
 use orc_history::{LearnSet, ListRefused, SharedSet};
 use orc_words::Shape;
+use std::process::Abort;
 use std::test::Fail;
 
 // An insert without turns, which the set's own clause answers.
@@ -17,6 +18,38 @@ fn insert_without_turns(set: &DomainSet, p: &mut ListPass, key: u64) -> Result<b
     ensures again { result ≡ Err ListRefused.Again }
 {
     set.insert(p, key, 0)
+}
+
+// The key is absent, goes in, and doesn't go in again.
+fn add_once<R: Abort, S: SharedSet>(rt: &R, set: &S, p: &mut S::Pass, key: u64)
+    requires usable { S.usable set.now p.old }
+    ensures usable { S.usable set.now p.new }
+{
+    assert_eq!(rt; set.contains(p, key, 1), Ok(false));
+    assert_eq!(rt; set.insert(p, key, 1), Ok(true));
+    assert_eq!(rt; set.insert(p, key, 1), Ok(false));
+}
+
+// 5, 262 and 519 are 5 by 257, 6 is 6, and the greatest number is 0.
+fn in_many_buckets<R: Abort, S: SharedSet>(rt: &R, set: &S, p: &mut S::Pass)
+    requires usable { S.usable set.now p.old }
+    ensures usable { S.usable set.now p.new }
+{
+    add_once(rt, set, p, 519);
+    add_once(rt, set, p, 5);
+    add_once(rt, set, p, 262);
+    add_once(rt, set, p, 6);
+    add_once(rt, set, p, u64::MAX);
+    assert_eq!(rt; set.contains(p, 0, 1), Ok(false));
+    assert_eq!(rt; set.remove(p, 262, 1), Ok(true));
+    assert_eq!(rt; set.remove(p, 262, 1), Ok(false));
+    assert_eq!(rt; set.contains(p, 5, 1), Ok(true));
+    assert_eq!(rt; set.contains(p, 519, 1), Ok(true));
+    assert_eq!(rt; set.contains(p, 6, 1), Ok(true));
+    assert_eq!(rt; set.contains(p, u64::MAX, 1), Ok(true));
+    assert_eq!(rt; set.contains(p, 262, 1), Ok(false));
+    assert_eq!(rt; set.remove(p, 5, 0), Err(Again));
+    assert_eq!(rt; set.contains(p, 5, 0), Err(Again));
 }
 
 #[test]
@@ -30,28 +63,86 @@ fn keys_that_share_a_bucket_and_keys_that_do_not(rt: HostRuntime) -> Result<(), 
     };
     set.members();
     assert_eq!(rt; set.links().agent(&p), 0);
-    // 5, 262 and 519 are 5 by 257, 6 is 6, and the greatest number is 0.
-    for key in [519, 5, 262, 6, u64::MAX] {
-        assert_eq!(rt; set.contains(&mut p, key, 1), Ok(false));
-        assert_eq!(rt; set.insert(&mut p, key, 1), Ok(true));
-        assert_eq!(rt; set.insert(&mut p, key, 1), Ok(false));
-    }
-    assert_eq!(rt; set.contains(&mut p, 0, 1), Ok(false));
-    assert_eq!(rt; set.remove(&mut p, 262, 1), Ok(true));
-    assert_eq!(rt; set.remove(&mut p, 262, 1), Ok(false));
-    for key in [5, 519, 6, u64::MAX] {
-        assert_eq!(rt; set.contains(&mut p, key, 1), Ok(true));
-    }
-    assert_eq!(rt; set.contains(&mut p, 262, 1), Ok(false));
+    in_many_buckets(&rt, &set, &mut p);
     assert_eq!(rt;
         insert_without_turns(&set, &mut p, 7),
         Err(ListRefused::Again)
     );
-    assert_eq!(rt; set.remove(&mut p, 5, 0), Err(Again));
-    assert_eq!(rt; set.contains(&mut p, 5, 0), Err(Again));
     let domain = set.into_links();
     assert_eq!(rt; domain.agent(&p), 0);
     Ok(())
+}
+
+// Both sets answer alike where the key is asked for and added.
+fn add_alike<R: Abort, S: SharedSet, T: SharedSet>(
+    rt: &R,
+    one: &S,
+    p: &mut S::Pass,
+    other: &T,
+    q: &mut T::Pass,
+    key: u64,
+)
+    requires one { S.usable one.now p.old }
+    requires other { T.usable other.now q.old }
+    ensures one { S.usable one.now p.new }
+    ensures other { T.usable other.now q.new }
+{
+    let asked = one.contains(p, key, 1);
+    assert_eq!(rt; asked, other.contains(q, key, 1));
+    let added = one.insert(p, key, 1);
+    assert_eq!(rt; added, other.insert(q, key, 1));
+}
+
+// Both sets answer alike where the key is taken out and asked for.
+fn take_out_alike<R: Abort, S: SharedSet, T: SharedSet>(
+    rt: &R,
+    one: &S,
+    p: &mut S::Pass,
+    other: &T,
+    q: &mut T::Pass,
+    key: u64,
+)
+    requires one { S.usable one.now p.old }
+    requires other { T.usable other.now q.old }
+    ensures one { S.usable one.now p.new }
+    ensures other { T.usable other.now q.new }
+{
+    let removed = one.remove(p, key, 1);
+    assert_eq!(rt; removed, other.remove(q, key, 1));
+    let asked = one.contains(p, key, 1);
+    assert_eq!(rt; asked, other.contains(q, key, 1));
+}
+
+// Over eight rows: of these nine distinct keys the last finds no row.
+fn answer_alike<R: Abort, S: SharedSet, T: SharedSet>(
+    rt: &R,
+    one: &S,
+    p: &mut S::Pass,
+    other: &T,
+    q: &mut T::Pass,
+)
+    requires one { S.usable one.now p.old }
+    requires other { T.usable other.now q.old }
+    ensures one { S.usable one.now p.new }
+    ensures other { T.usable other.now q.new }
+{
+    add_alike(rt, one, p, other, q, 5);
+    add_alike(rt, one, p, other, q, 3);
+    add_alike(rt, one, p, other, q, 9);
+    add_alike(rt, one, p, other, q, 5);
+    add_alike(rt, one, p, other, q, u64::MAX);
+    add_alike(rt, one, p, other, q, 0);
+    add_alike(rt, one, p, other, q, 3);
+    add_alike(rt, one, p, other, q, 8);
+    add_alike(rt, one, p, other, q, 7);
+    add_alike(rt, one, p, other, q, 2);
+    add_alike(rt, one, p, other, q, 1);
+    assert_eq!(rt; one.insert(p, 1, 1), Err(ListRefused::NoNode));
+    take_out_alike(rt, one, p, other, q, 9);
+    take_out_alike(rt, one, p, other, q, 9);
+    take_out_alike(rt, one, p, other, q, 0);
+    take_out_alike(rt, one, p, other, q, 4);
+    take_out_alike(rt, one, p, other, q, u64::MAX);
 }
 
 #[test]
@@ -69,20 +160,7 @@ fn one_bucket_is_one_list(rt: HostRuntime) -> Result<(), Fail> {
     ) else {
         panic!(rt; "two passes")
     };
-    // The nine distinct keys are one more than there are rows.
-    for key in [5, 3, 9, 5, u64::MAX, 0, 3, 8, 7, 2, 1] {
-        let asked = set.contains(&mut p, key, 1);
-        assert_eq!(rt; asked, list.contains(&mut q, key, 1));
-        let added = set.insert(&mut p, key, 1);
-        assert_eq!(rt; added, list.insert(&mut q, key, 1));
-    }
-    assert_eq!(rt; set.insert(&mut p, 1, 1), Err(ListRefused::NoNode));
-    for key in [9, 9, 0, 4, u64::MAX] {
-        let removed = set.remove(&mut p, key, 1);
-        assert_eq!(rt; removed, list.remove(&mut q, key, 1));
-        let asked = set.contains(&mut p, key, 1);
-        assert_eq!(rt; asked, list.contains(&mut q, key, 1));
-    }
+    answer_alike(&rt, &set, &mut p, &list, &mut q);
     Ok(())
 }
 
