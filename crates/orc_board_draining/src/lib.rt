@@ -4,3 +4,6 @@
 mod handovers;
 
 pub use handovers::drain;
+
+#[cfg(test)]
+mod tests;

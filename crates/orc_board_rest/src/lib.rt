@@ -4,3 +4,6 @@
 mod count;
 
 pub use count::{RowCounts, count_rows};
+
+#[cfg(test)]
+mod tests;

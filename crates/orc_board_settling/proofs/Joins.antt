@@ -1,5 +1,6 @@
 -- The parts of a settling follow one another.
-use Rattle.std.proofs.Common.{List, [], ap, append-nil, append_assoc, refl, subst, sym, ℕ, ◌*◌, ◌++◌, ◌+◌, ◌-◌, ◌<◌, ◌∙◌, ◌∷◌, ◌≡◌, ◌≤◌}
+use Rattle.std.proofs.Common.{List, [], ap, append-nil, append_assoc, arith, refl, suc, subst, sym, zero, ℕ, ◌*◌, ◌++◌, ◌+◌, ◌-◌, ◌<◌, ◌∙◌, ◌∷◌, ◌≡◌, ◌≢◌, ◌≤◌}
+use Rattle.std.proofs.Math.Nat.{suc-mul}
 use Rattle.std.specs.Prelude.{map}
 use Rattle.orc_board_settling.specs.OwnSteps.{BeginsWith, LeavesNothing, TakesInCleared, ops_of}
 use Rattle.orc_board_settling.specs.Parts.{Adds, Goes, MakesRounds, NoEvents, Opens, Settles}
@@ -30,6 +31,15 @@ pub takes_in_both : (xs ys : List Op) → TakesInCleared xs → TakesInCleared y
 takes_in_both [] ys h g = g
 takes_in_both (Clear slot ∷ xs) ys h g = (begins_more (TakeIn slot) xs ys h.0, takes_in_both xs ys h.1 g)
 takes_in_both (x ∷ xs) ys h g = takes_in_both xs ys h g
+
+-- one round of k more, and then the others
+pub rounds_add : (left n k x y z : ℕ) → n ≢ 0 → left ≡ n - 1 → y ≤ x + k → z ≤ y + left * k → z ≤ x + n * k
+rounds_add left zero k x y z ne e p q = absurd (ne refl)
+rounds_add left (suc n) k x y z ne e p q =
+    let m = suc-mul n k in
+    let less : left ≡ n = omega (arith, e) in
+    let same : left * k ≡ n * k = ap (λ i. i * k) less in
+    omega (arith, m, same, p, q)
 
 map-append : {A B : Type 0} (f : A → B) (xs ys : List A) → map f (xs ++ ys) ≡ map f xs ++ map f ys
 map-append f [] ys = refl

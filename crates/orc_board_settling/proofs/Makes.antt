@@ -1,9 +1,10 @@
 -- A step of the board is a step of the machine, after steps of others.
-use Rattle.std.proofs.Common.{List, [], ap, append-nil, append_assoc, refl, subst, sym, true, ℕ, ◌++◌, ◌∙◌, ◌∷◌, ◌≡◌, ◌≢◌}
+use Rattle.std.proofs.Common.{List, [], ap, append-nil, append_assoc, arith, length, refl, subst, sym, true, ℕ, ◌++◌, ◌∙◌, ◌∷◌, ◌≡◌, ◌≢◌}
+use Rattle.std.proofs.lemmas.List.{length-append, length-map}
 use Rattle.std.proofs.lemmas.Bool.{false≢true}
 use Rattle.std.specs.Prelude.{None, map}
 use Rattle.orc_board_settling.proofs.Joins.{ops-append, quiet_then}
-use Rattle.orc_board_settling.specs.OwnSteps.{TakesInCleared, ops_of}
+use Rattle.orc_board_settling.specs.OwnSteps.{AtMostMore, TakesInCleared, ops_of}
 use Rattle.orc_board_settling.specs.Parts.{Adds, NoEvents}
 use Rattle.orc_core.specs.Allowed.{may}
 use Rattle.orc_core.specs.Machine.{Machine, is_allowed, new_machine, record_at, word_in, word_read}
@@ -17,6 +18,7 @@ use Rattle.orc_history.specs.Journals.{own_of}
 use Rattle.orc_machine_board.proofs.Licences.{signed}
 use Rattle.orc_machine_board.specs.Kinds.{asks, is_plain_kind}
 use Rattle.orc_machine_board.specs.Laws.Steps.{counted_obeys}
+use Rattle.orc_machine_board.specs.Passes.{steps_of}
 use Rattle.orc_machine_board.specs.Rules.{bounds_in, counted_rules, events_after, run_of, step_of}
 use Rattle.orc_machine_board.specs.Views.{MachineView, Makes}
 use Rattle.orc_machine_board.specs.declared.machine.MachineShape.{MachineShape}
@@ -25,7 +27,7 @@ use Rattle.orc_projection.specs.Projection.{act_of, events_of, present_ids, proj
 use Rattle.orc_settling.specs.Turns.{Made, NoneOf}
 use Rattle.orc_settling.specs.Work.{IsSettlingStep}
 use Rattle.orc_shared_words.proofs.Events.{others_add}
-use Rattle.orc_shared_words.proofs.Runs.{by_other, by_own, cons_nil}
+use Rattle.orc_shared_words.proofs.Runs.{by_other, by_own, cons_nil, own_of-append}
 use Rattle.orc_sound.proofs.Journals.{IsLawfulJournal-append, plain-append, plain_lawful, run_plain-append}
 use Rattle.orc_sound.specs.Journals.{IsLawfulJournal, IsWanted, plain}
 use Rattle.orc_sound.specs.declared.steps.Step.{Step}
@@ -129,6 +131,14 @@ module _ {N : Type 0} where
         let last : own_of by a (step_of s.agent (asks op) None ∷ []) ≡ step_of s.agent (asks op) None ∷ [] =
         by_own by a (step_of s.agent (asks op) None) [] its in
         ops-append a mk.met (step_of s.agent (asks op) None ∷ []) ∙ (λ i. map (λ (x : Step N). x.op) (none i) ++ map (λ (x : Step N). x.op) (last i))
+
+    -- and one step of the agent's own
+    pub one_more : AtMostMore a 1 s.journal t.journal
+    one_more =
+        let both = ap (λ j. length (steps_of a j)) more
+        ∙ (ap length (own_of-append by a s.journal new) ∙ length-append (steps_of a s.journal) (steps_of a new)) in
+        let one = sym (length-map (steps_of a new) (λ (x : Step N). x.op)) ∙ ap length ops_here in
+        omega (arith, both, one)
 
     module _ (no_act : (p : PresentIds) (w : ℕ) → act_of p (record_at (run_of b (s.journal ++ mk.met)) s.agent) w op None ≡ None) where
       quiet_here : NoEvents b a s.journal t.journal

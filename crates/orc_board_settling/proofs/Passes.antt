@@ -2,8 +2,8 @@
 use Rattle.std.proofs.Common.{[], ap, append-nil, refl, subst, sym, true, ℕ, ◌++◌, ◌<◌, ◌∙◌, ◌∷◌, ◌≡◌}
 use Rattle.std.specs.Prelude.{None}
 use Rattle.orc_board_settling.proofs.Joins.{adds_as}
-use Rattle.orc_board_settling.proofs.Makes.{Added, added_adds, added_here, made_by, may_here}
-use Rattle.orc_board_settling.specs.OwnSteps.{TakesInCleared}
+use Rattle.orc_board_settling.proofs.Makes.{Added, added_adds, added_here, made_by, may_here, one_more}
+use Rattle.orc_board_settling.specs.OwnSteps.{AtMostMore, TakesInCleared}
 use Rattle.orc_board_settling.specs.Parts.{Adds, Goes, Opens}
 use Rattle.orc_board_settling.specs.Passes.{IsPassOf, record_of, state_of}
 use Rattle.orc_core.specs.Machine.{is_allowed, record_at, word_in}
@@ -71,6 +71,9 @@ module _ {D N : Type 0} {d : discipline.Ghosts D N} {m : machine.Ghosts Reclaimi
 
     abbrev pub made : Made a op (state_of board p) (state_of board q)
     made = made_by board.words.shape a op (shows p) (shows q) n h.agent g.keeps.now.lawful.0 mk
+
+    pub one_step : AtMostMore a 1 (shows p).journal (shows q).journal
+    one_step = one_more board.words.shape a op (shows p) (shows q) n h.agent g.keeps.now.lawful.0 mk
 
     pub after_step : AfterStep a op (state_of board p) (state_of board q)
     after_step = made_record (state_of board p) (state_of board q) a op h.reached h.low made

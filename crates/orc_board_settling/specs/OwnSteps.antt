@@ -1,9 +1,10 @@
--- The steps that a call's agent makes; and that what was handed over beside a slot is taken in once the slot is clear.
-use Rattle.std.specs.Prelude.{List, [], map, ℕ, ◌++◌, ◌∷◌, ◌≡◌}
+-- The steps that a call's agent makes: at most how many, and that what was handed over beside a slot is taken in once the slot is clear.
+use Rattle.std.specs.Prelude.{List, [], length, map, ℕ, ◌*◌, ◌++◌, ◌+◌, ◌∷◌, ◌≡◌, ◌≤◌}
 use Rattle.orc_core.specs.declared.ops.Op.{Op}
 use Rattle.orc_core.specs.declared.ops.Op.TheVariants.{Clear, TakeIn}
 use Rattle.orc_machine_board.specs.Passes.{steps_of}
 use Rattle.orc_sound.specs.declared.steps.Step.{Step}
+use Rattle.orc_words.specs.Bounds.{Bounds}
 
 -- the first of these is this op
 abbrev pub BeginsWith : Op → List Op → Type 0
@@ -16,7 +17,19 @@ TakesInCleared [] = Unit {0}
 TakesInCleared (Clear slot ∷ ops) = BeginsWith (TakeIn slot) ops × TakesInCleared ops
 TakesInCleared (op ∷ ops) = TakesInCleared ops
 
+-- the most rounds of one settling
+abbrev pub most_rounds : Bounds → ℕ
+most_rounds b = 4 * (b.rows + 8 * b.agents)
+
+-- the most steps of one round: a Start, a look at each slot, an End, and eight that free the row
+abbrev pub steps_a_round : Bounds → ℕ
+steps_a_round b = 8 * b.agents + 10
+
 module _ {N : Type 0} where
+  -- the agent has at most n steps more
+  abbrev pub AtMostMore : ℕ → ℕ → (before after : List (Step N)) → Type 0
+  AtMostMore agent n before after = length (steps_of agent after) ≤ length (steps_of agent before) + n
+
   -- the ops of an agent's steps, in order
   abbrev pub ops_of : ℕ → List (Step N) → List Op
   ops_of agent j = map (λ (s : Step N). s.op) (steps_of agent j)

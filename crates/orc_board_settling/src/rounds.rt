@@ -1,7 +1,7 @@
 //! Rounds, and settling by as many of them as it takes.
 
 ghost use Rattle.std.specs.Prelude.{◌≡◌, ◌+◌, ◌*◌, IfSome, None, true};
-ghost use Rattle.orc_board_settling.specs.OwnSteps.{LeavesNothing};
+ghost use Rattle.orc_board_settling.specs.OwnSteps.{AtMostMore, LeavesNothing, most_rounds, steps_a_round};
 ghost use Rattle.orc_board_settling.specs.Parts.{MakesRounds, NoEvents, Opens, Settles};
 ghost use Rattle.orc_board_settling.specs.Passes.{IsPassOf, record_of, state_of};
 ghost use Rattle.orc_core.specs.RecordParts.{scans};
@@ -13,6 +13,13 @@ use crate::steps::{free_doomed, look_step, own_record, settle_step, unretire_sca
 use orc_core::{CounterUse, Op};
 use orc_heap::Discipline;
 use orc_machine_board::{MachineBoard, MachineBoardPass};
+use orc_words::{NEW_COUNTER, RETIRED};
+
+// The part of a counter word that holds its count lies below the retired bit.
+const COUNT_RANGE: u64 = RETIRED;
+
+// What that part is where the count is 0.
+const NO_LINKS: u64 = NEW_COUNTER;
 
 // Looks at the slots from this one on, and hands the scanned row over where one names it. If none does, ends the scan, and
 // frees the row if it is doomed.
@@ -32,6 +39,7 @@ fn look_over<D: Discipline>(
     ensures pass { IsPassOf board.now agent p.new }
     ensures opens { Opens (board_bounds board.now) agent 1 (shows p.old) (shows p.new) }
     ensures between { IsBetweenRounds (record_of board.now agent p.new) }
+    ensures few { AtMostMore agent (left + 9) (shows p.old).journal (shows p.new).journal }
 {
     if left == 0 {
         let how = CounterUse::End;
@@ -79,12 +87,13 @@ fn scan_round<D: Discipline>(
     ensures pass { IsPassOf board.now agent p.new }
     ensures opens { Opens (board_bounds board.now) agent 1 (shows p.old) (shows p.new) }
     ensures between { IsBetweenRounds (record_of board.now agent p.new) }
+    ensures few { AtMostMore agent (8 * (board_bounds board.now).agents + 9) (shows p.old).journal (shows p.new).journal }
 {
     let end = 8 * board.shape().agents();
     let Some(scan) = own_record(board, p, agent).scan else {
         return;
     };
-    if scan.word % 8_388_608 == 4_194_304 {
+    if scan.word % COUNT_RANGE == NO_LINKS {
         look_over(board, p, agent, row, scan.place, end - scan.place);
     } else {
         unretire_scanned(board, p, agent, row);
@@ -99,6 +108,7 @@ fn round<D: Discipline>(board: &MachineBoard<D>, p: &mut MachineBoardPass<D>, ag
     ensures pass { IsPassOf board.now agent p.new }
     ensures opens { Opens (board_bounds board.now) agent 1 (shows p.old) (shows p.new) }
     ensures between { IsBetweenRounds (record_of board.now agent p.new) }
+    ensures few { AtMostMore agent (steps_a_round (board_bounds board.now)) (shows p.old).journal (shows p.new).journal }
 {
     if own_record(board, p, agent).scan.is_some() {
         scan_round(board, p, agent, row);
@@ -121,6 +131,7 @@ fn settle_rounds<D: Discipline>(
     ensures pass { IsPassOf board.now agent p.new }
     ensures rounds { MakesRounds (board_bounds board.now) agent left (shows p.old) (shows p.new) }
     ensures between { IsBetweenRounds (record_of board.now agent p.new) }
+    ensures few { AtMostMore agent (left * steps_a_round (board_bounds board.now)) (shows p.old).journal (shows p.new).journal }
 {
     if left == 0 {
         return;
@@ -138,6 +149,8 @@ fn settle_all<D: Discipline>(board: &MachineBoard<D>, p: &mut MachineBoardPass<D
     ensures pass { IsPassOf board.now agent p.new }
     ensures settles { Settles (board_bounds board.now) agent (shows p.old) (shows p.new) }
     ensures between { IsBetweenRounds (record_of board.now agent p.new) }
+    ensures few { AtMostMore agent (most_rounds (board_bounds board.now) * steps_a_round (board_bounds board.now))
+        (shows p.old).journal (shows p.new).journal }
 {
     let shape = board.shape();
     let bound = 4 * (shape.rows() + 8 * shape.agents());
@@ -148,7 +161,7 @@ fn settle_all<D: Discipline>(board: &MachineBoard<D>, p: &mut MachineBoardPass<D
 }
 
 /// Works through the retired rows that the pass has in its work list, in hand or scanned, in at most
-/// `4 * (rows + 8 * agents)` rounds. Some remain only where another agent steps meanwhile.
+/// `4 * (rows + 8 * agents)` rounds, of `8 * agents + 10` steps at most. Some remain only where another agent steps meanwhile.
 pub fn settle<D: Discipline>(board: &MachineBoard<D>, p: &mut MachineBoardPass<D>)
     requires belongs { Belongs board.now p.old }
     requires between { IsBetweenRounds (shows p.old).record_is }
@@ -159,6 +172,8 @@ pub fn settle<D: Discipline>(board: &MachineBoard<D>, p: &mut MachineBoardPass<D
     ensures taken_in { LeavesNothing (shows p.old).agent (shows p.old).journal (shows p.new).journal }
     ensures done { IsAlone (λ s. s.agent) (shows p.old).agent (shows p.old).journal (shows p.new).journal → IsDone (shows p.new).record_is }
     ensures settles { Settles (board_bounds board.now) (shows p.old).agent (shows p.old) (shows p.new) }
+    ensures few { AtMostMore (shows p.old).agent (most_rounds (board_bounds board.now) * steps_a_round (board_bounds board.now))
+        (shows p.old).journal (shows p.new).journal }
 {
     let agent = p.agent();
     settle_all(board, p, agent);

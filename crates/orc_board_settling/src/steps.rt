@@ -1,7 +1,7 @@
 //! The parts of a round: steps, and what follows one another without a choice.
 
 ghost use Rattle.std.specs.Prelude.{◌≡◌, ◌<◌, ◌*◌, None, Some, [], ◌∷◌, false, true};
-ghost use Rattle.orc_board_settling.specs.OwnSteps.{TakesInCleared};
+ghost use Rattle.orc_board_settling.specs.OwnSteps.{AtMostMore, TakesInCleared};
 ghost use Rattle.orc_board_settling.specs.Parts.{Goes, Opens};
 ghost use Rattle.orc_board_settling.specs.Passes.{IsPassOf, record_of, state_of};
 ghost use Rattle.orc_core.specs.Machine.{is_allowed, word_in};
@@ -46,7 +46,8 @@ pub(crate) fn settle_step<D: Discipline>(
     ensures pass { IsPassOf board.now agent p.new }
     ensures goes { Goes (board_bounds board.now) agent (drop_of op (record_of board.now agent p.old)) (shows p.old) (shows p.new) }
     ensures opens { IsNoHand op → Opens (board_bounds board.now) agent (drop_of op (record_of board.now agent p.old)) (shows p.old) (shows p.new) }
-    ensures record { AfterStep agent op (state_of board.now p.old) (state_of board.now p.new) }
+    ensures after { AfterStep agent op (state_of board.now p.old) (state_of board.now p.new) }
+    ensures few { AtMostMore agent 1 (shows p.old).journal (shows p.new).journal }
 {
     let _ = board.plain_step(p, op, None);
 }
@@ -67,16 +68,17 @@ pub(crate) fn look_step<D: Discipline>(
     ensures opens { Opens (board_bounds board.now) agent 0 (shows p.old) (shows p.new) }
     ensures looks { Looks agent row k (state_of board.now p.old) (state_of board.now p.new) }
     ensures found { result ≡ scan_found (record_of board.now agent p.new).scan }
+    ensures few { AtMostMore agent 1 (shows p.old).journal (shows p.new).journal }
 {
     let _ = board.slot_look(p, k);
     is_found(p.record())
 }
 
 // Whether the agent's scan is found.
-pub(crate) fn is_found(record: &Agent) -> bool
-    ensures { result ≡ scan_found record.now.scan }
+pub(crate) fn is_found(agent: &Agent) -> bool
+    ensures { result ≡ scan_found agent.now.scan }
 {
-    match record.scan {
+    match agent.scan {
         Some(scan) => scan.found,
         None => false,
     }
@@ -94,7 +96,8 @@ pub(crate) fn take_link_out<D: Discipline>(
     requires doom { IsDoomOf row (record_of board.now agent p.old).doom }
     ensures pass { IsPassOf board.now agent p.new }
     ensures goes { Goes (board_bounds board.now) agent 0 (shows p.old) (shows p.new) }
-    ensures record { AfterStep agent (Op.LinkStore row (record { to = None; mark = false })) (state_of board.now p.old) (state_of board.now p.new) }
+    ensures after { AfterStep agent (Op.LinkStore row (record { to = None; mark = false })) (state_of board.now p.old) (state_of board.now p.new) }
+    ensures few { AtMostMore agent 1 (shows p.old).journal (shows p.new).journal }
 {
     let null = RowLink {
         to: None,
@@ -118,6 +121,7 @@ pub(crate) fn leave_slot_zero<D: Discipline>(
     ensures goes { Goes (board_bounds board.now) agent 0 (shows p.old) (shows p.new) }
     ensures still { IsStill (record_of board.now agent p.new) }
     ensures kept { SameTasks (record_of board.now agent p.old) (record_of board.now agent p.new) }
+    ensures few { AtMostMore agent 2 (shows p.old).journal (shows p.new).journal }
 {
     let _ = board.clear(p, 0);
     let _ = board.take_in(p, 0);
@@ -141,6 +145,7 @@ pub(crate) fn try_due<D: Discipline>(
     ensures due { (record_of board.now agent p.new).due ≡ None }
     ensures slots { (record_of board.now agent p.new).slots ≡ (record_of board.now agent p.old).slots }
     ensures kept { SameTasks (record_of board.now agent p.old) (record_of board.now agent p.new) }
+    ensures few { AtMostMore agent 1 (shows p.old).journal (shows p.new).journal }
 {
     if let Some(due) = own_record(board, p, agent).due {
         let sequence = due.number;
@@ -171,6 +176,7 @@ pub(crate) fn unretire_scanned<D: Discipline>(
     ensures pass { IsPassOf board.now agent p.new }
     ensures opens { Opens (board_bounds board.now) agent 1 (shows p.old) (shows p.new) }
     ensures between { IsBetweenRounds (record_of board.now agent p.new) }
+    ensures few { AtMostMore agent 5 (shows p.old).journal (shows p.new).journal }
 {
     settle_step(board, p, agent, Op::Arm { row });
     settle_step(board, p, agent, Op::Unretire { row });
@@ -193,6 +199,7 @@ pub(crate) fn finish_decrement<D: Discipline>(
     ensures goes { Goes (board_bounds board.now) agent 0 (shows p.old) (shows p.new) }
     ensures still { IsStill (record_of board.now agent p.new) }
     ensures kept { SameTasks (record_of board.now agent p.old) (record_of board.now agent p.new) }
+    ensures few { AtMostMore agent 5 (shows p.old).journal (shows p.new).journal }
 {
     if let Some(row) = own_record(board, p, agent).dec {
         settle_step(board, p, agent, Op::Arm { row });
@@ -216,6 +223,7 @@ pub(crate) fn free_doomed<D: Discipline>(
     ensures pass { IsPassOf board.now agent p.new }
     ensures goes { Goes (board_bounds board.now) agent 2 (shows p.old) (shows p.new) }
     ensures between { IsBetweenRounds (record_of board.now agent p.new) }
+    ensures few { AtMostMore agent 8 (shows p.old).journal (shows p.new).journal }
 {
     take_link_out(board, p, agent, row);
     finish_decrement(board, p, agent);

@@ -92,42 +92,42 @@ fn make_steps(board: &Board, p: &mut Pass, ops: &[Op]) -> bool
 }
 
 // Each record has eight slots.
-fn has_eight_slots(record: &Agent)
-    ensures { length record.now.slots ≡ 8 }
+fn has_eight_slots(agent: &Agent)
+    ensures { length agent.now.slots ≡ 8 }
 {
-    let slots: &[SlotUse] = &record.slots;
+    let slots: &[SlotUse] = &agent.slots;
     prove!(slots.len() == 8);
 }
 
 // Whether nothing is under way but a hand, or a scan that isn't found.
-fn is_between_rounds(record: &Agent) -> bool
-    ensures { result ≡ true → IsBetweenRounds record.now }
+fn is_between_rounds(agent: &Agent) -> bool
+    ensures { result ≡ true → IsBetweenRounds agent.now }
 {
-    has_eight_slots(record);
+    has_eight_slots(agent);
     for slot in 0..8 {
-        if !record.slot(slot).is_empty() {
+        if !agent.slot(slot).is_empty() {
             return false;
         }
     }
-    if !record.enrolled {
+    if !agent.enrolled {
         return false;
     }
-    if is_found(record) {
+    if is_found(agent) {
         return false;
     }
-    if record.fresh.is_some() {
+    if agent.fresh.is_some() {
         return false;
     }
-    if record.inc.is_some() {
+    if agent.inc.is_some() {
         return false;
     }
-    if record.dec.is_some() {
+    if agent.dec.is_some() {
         return false;
     }
-    if record.due.is_some() {
+    if agent.due.is_some() {
         return false;
     }
-    if record.doom.is_some() {
+    if agent.doom.is_some() {
         return false;
     }
     true

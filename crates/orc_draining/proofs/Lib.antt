@@ -1,4 +1,3 @@
 pub mod TakingIn
 pub mod Draining
 pub mod DrainAll
-pub mod Counting

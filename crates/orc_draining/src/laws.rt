@@ -1,14 +1,13 @@
 //! Laws of draining.
 
-ghost use Rattle.std.specs.Prelude.{◌≡◌, ◌++◌, ◌+◌, ◌<◌, List, true, ℕ};
+ghost use Rattle.std.specs.Prelude.{◌≡◌, ◌+◌, ◌<◌, true, ℕ};
 ghost use Rattle.orc_core.specs.Machine.{Machine, is_allowed, record_at};
 ghost use Rattle.orc_core.specs.declared.ops.Op.{Op};
 ghost use Rattle.orc_draining.specs.Drains.{Drained, DrainedInOrder, TookIn};
-ghost use Rattle.orc_draining.specs.Parts.{AllBelow, count_of, joined};
 ghost use Rattle.orc_rest.specs.Rest.{IsAtRest};
 ghost use Rattle.orc_settling.specs.Records.{IsBetweenRounds};
 ghost use Rattle.orc_settling.specs.Rounds.{Settled};
-ghost use Rattle.orc_settling.specs.Turns.{AllOf, IsReachedState, Made};
+ghost use Rattle.orc_settling.specs.Turns.{IsReachedState, Made};
 
 /// An agent that is idle may take in each of its handover words. Once it took in all eight, one after another, and settled, it has
 /// drained.
@@ -28,12 +27,4 @@ pub fn a_drain_takes_in_and_settles()
 pub fn drains_lead_to_rest()
     ensures { (agents : ℕ) (ms : ℕ → Machine) → IsReachedState (ms 0) → (ms 0).bounds.agents ≡ agents
         → ((a : ℕ) → a < agents → IsBetweenRounds (record_at (ms 0) a)) → DrainedInOrder agents ms → IsAtRest (ms agents) }
-{}
-
-/// Where a list goes on by one part for each agent, and each agent has no more steps in all than it had before, and in its own
-/// part, no other agent steps in a part.
-pub fn parts_are_told_by_counts()
-    ensures { (agents i : ℕ) (before : List (ℕ × Op)) (parts : ℕ → List (ℕ × Op)) → i < agents → AllBelow agents (parts i)
-        → ((a : ℕ) → a < agents → count_of a (before ++ joined agents parts) ≡ count_of a before + count_of a (parts a))
-        → AllOf i (parts i) }
 {}

@@ -3,7 +3,7 @@
 
 mod laws;
 
-pub use laws::{a_drain_takes_in_and_settles, drains_lead_to_rest, parts_are_told_by_counts};
+pub use laws::{a_drain_takes_in_and_settles, drains_lead_to_rest};
 
 #[cfg(test)]
 mod tests;

@@ -8,5 +8,4 @@ mod examples;
 fn the_laws_are_called(_rt: HostRuntime) {
     a_drain_takes_in_and_settles();
     drains_lead_to_rest();
-    parts_are_told_by_counts();
 }

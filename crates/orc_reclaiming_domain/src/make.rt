@@ -4,6 +4,7 @@ ghost use Rattle.std.specs.Prelude.{◌≡◌, ◌<◌, [], All, IfOk, length};
 ghost use Rattle.orc_words.specs.Bounds.{bounds_of};
 ghost use Rattle.orc_heap.specs.Seats.{IsIdle};
 ghost use Rattle.orc_heap.specs.Seeds.{SeedAllowed, opening_events};
+ghost use Rattle.orc_machine_board.specs.Views.{board_seed};
 ghost use Rattle.orc_projection.specs.Mirror.{numbers_of};
 ghost use Rattle.orc_shared_words.specs.Lists.{EachAt, EachFrom};
 ghost use Rattle.orc_reclaiming_domain.specs.Passes.{IsPassOf, domain_bounds, domain_opening, seat_of};
@@ -29,6 +30,7 @@ impl<D: Discipline> OrcDomain<D> {
         requires holds { D.holds (numbers_of (bounds_of shape.now)) [] }
         requires seed { SeedAllowed D.may (numbers_of (bounds_of shape.now)) seed }
         ensures bounds { IfOk result (λ made. domain_bounds made.0 ≡ bounds_of shape.now) }
+        ensures seed { IfOk result (λ made. board_seed made.0.board ≡ seed) }
         ensures opening { IfOk result (λ made. domain_opening made.0 ≡ opening_events seed) }
         ensures passes { IfOk result (λ made. length made.1.items ≡ (bounds_of shape.now).agents) }
         ensures belongs { IfOk result (λ made. All (λ p. IsPassOf made.0 p) made.1.items) }

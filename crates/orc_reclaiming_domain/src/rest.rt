@@ -45,7 +45,7 @@ impl<D: Discipline> OrcRest<D> {
 
 impl<D: Discipline> OrcDomain<D> {
     /// Ends the sharing: the first pass takes in all others, and looks at each gate. It has to have seen all that they did, and
-    /// the table has to be at rest.
+    /// the table has to be at rest. What was given is then what was freed and what is out.
     pub fn rest(self, passes: Vec<OrcPass<D>>) -> OrcRest<D>
         requires all { AreAll self passes.items }
         requires own { SawAll passes.items }
@@ -54,6 +54,8 @@ impl<D: Discipline> OrcDomain<D> {
         ensures shown { IsShown result }
         ensures journal { rest_journal result ≡ whole_journal passes.items ++ gate_looks 0 (domain_bounds self).rows }
         ensures rest { IsAtRest (run_of (domain_bounds self) (rest_journal result)) }
+        ensures balance { given (new_machine (domain_bounds self)) (plain (rest_journal result))
+            ≡ reused (plain (rest_journal result)) + rows_out (run_of (domain_bounds self) (rest_journal result)) }
     {
         let mut others = passes;
         let first = others.remove(0);

@@ -68,3 +68,25 @@ look_over-requires g t c κs within =
     let left : c.args.k + 1 + (c.args.left - 1) ≡ 8 * (state_of board c.look_step.new.p).bounds.agents = omega arith in
     let less : c.args.left - 1 < c.args.left = omega arith in
     search rules
+
+pub returns-then-is_some-clause-few : goal.returns-then-is_some-clause-few
+returns-then-is_some-clause-few g t c =
+    let one = c.settle_step.ensures.few in
+    let two = c.free_doomed.ensures.few in
+    omega (arith, one, two)
+
+pub returns-else-is_some-clause-few : goal.returns-else-is_some-clause-few
+returns-else-is_some-clause-few g t c = let one = c.settle_step.ensures.few in omega (arith, one)
+
+pub returns-then-look_step-clause-few : goal.returns-then-look_step-clause-few
+returns-then-look_step-clause-few g t c =
+    let one = c.look_step.ensures.few in
+    let two = c.settle_step-then-look_step.ensures.few in
+    omega (arith, one, two)
+
+pub returns-else-look_step-clause-few : goal.returns-else-look_step-clause-few
+returns-else-look_step-clause-few g t c =
+    let one = c.look_step.ensures.few in
+    let two = c.look_over.ensures.few in
+    let some = c.if-left-eq0.false in
+    omega (arith, one, two, some)

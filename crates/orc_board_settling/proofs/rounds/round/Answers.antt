@@ -1,4 +1,4 @@
-use Rattle.std.proofs.Common.{ap, sym, ◌∙◌}
+use Rattle.std.proofs.Common.{ap, arith, sym, ◌∙◌}
 use Rattle.std.specs.Prelude.{is_some}
 use Rattle.orc_board_settling.proofs.Joins.{opens_goes, opens_then}
 use Rattle.orc_board_settling.specs.Passes.{record_of, state_of}
@@ -22,3 +22,9 @@ returns-clause-opens g c =
     let a = c.args.agent in
     opens_then b a 0 1 (shows c.args.p.now) (shows c.settle_step.new.p) (shows c.scan_round-2.new.p) (c.settle_step.ensures.opens tt)
     (opens_goes b a 1 (shows c.settle_step.new.p) (shows c.scan_round-2.new.p) c.settle_step.ensures.pass.reached c.scan_round-2.ensures.opens)
+
+pub returns-clause-few : goal.returns-clause-few
+returns-clause-few g c =
+    let one = c.settle_step.ensures.few in
+    let two = c.scan_round-2.ensures.few in
+    omega (arith, one, two)

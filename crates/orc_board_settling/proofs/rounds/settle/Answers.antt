@@ -1,6 +1,7 @@
-use Rattle.std.proofs.Common.{subst, sym}
+use Rattle.std.proofs.Common.{subst, sym, ◌*◌}
 use Rattle.orc_board_settling.proofs.Alone.{alone_done}
 use Rattle.orc_board_settling.proofs.Passes.{mine, pass_of}
+use Rattle.orc_board_settling.specs.OwnSteps.{AtMostMore, most_rounds, steps_a_round}
 use Rattle.orc_board_settling.specs.Parts.{Settles}
 use Rattle.orc_board_settling.specs.Passes.{record_of}
 use Rattle.orc_machine_board.specs.Views.{board_bounds, shows}
@@ -20,3 +21,9 @@ returns-clause-done g c = λ alone.
     let settles = subst (λ a. Settles b a s t) its c.settle_all.ensures.settles in
     subst IsDone (mine board c.agent-agent.result c.settle_all.new.p c.settle_all.ensures.pass)
     (subst (λ a. IsDone (record_of board a c.settle_all.new.p)) (sym its) (alone_done b s.agent s t settles alone))
+
+pub returns-clause-few : goal.returns-clause-few
+returns-clause-few g c =
+    let b = board_bounds c.args.board.now in
+    subst (λ a. AtMostMore a (most_rounds b * steps_a_round b) (shows c.args.p.now).journal (shows c.settle_all.new.p).journal)
+    c.agent-agent.ensures c.settle_all.ensures.few

@@ -1,6 +1,7 @@
-use Rattle.std.proofs.Common.{ap, arith, refl}
-use Rattle.orc_board_settling.proofs.Joins.{settles_first, settles_none}
+use Rattle.std.proofs.Common.{ap, arith, refl, ◌∙◌}
+use Rattle.orc_board_settling.proofs.Joins.{rounds_add, settles_first, settles_none}
 use Rattle.orc_board_settling.proofs.Passes.{bounds_are}
+use Rattle.orc_board_settling.specs.OwnSteps.{most_rounds, steps_a_round}
 use Rattle.orc_machine_board.specs.Views.{board_bounds, shows}
 use Rattle.orc_words.specs.Bounds.{Bounds}
 use Rattle.orc_board_settling.proofs.rounds.settle_all.Goals as goal
@@ -22,3 +23,15 @@ returns-in-Some-clause-settles g c =
 
 pub returns-in_default-clause-settles : goal.returns-in_default-clause-settles
 returns-in_default-clause-settles g c = settles_none (board_bounds c.args.board.now) c.args.agent (shows c.args.p.now) (c.in_default.ensures.none refl)
+
+pub returns-in-Some-clause-few : goal.returns-in-Some-clause-few
+returns-in-Some-clause-few g c =
+    let b = board_bounds c.args.board.now in
+    let rows = c.rows.ensures ∙ ap (λ (b : Bounds). b.rows) c.shape-shape.ensures in
+    let agents = c.agents.ensures ∙ ap (λ (b : Bounds). b.agents) c.shape-shape.ensures in
+    let many = c.args.board.now.words.shape.shape.some_rows in
+    rounds_add _ (most_rounds b) (steps_a_round b) _ _ _ (omega (arith, many)) (omega (arith, rows, agents)) c.round.ensures.few
+    c.settle_rounds.ensures.few
+
+pub returns-in_default-clause-few : goal.returns-in_default-clause-few
+returns-in_default-clause-few g c = omega arith

@@ -1,4 +1,4 @@
-use Rattle.std.proofs.Common.{ap, sym, ◌∙◌}
+use Rattle.std.proofs.Common.{ap, arith, sym, ◌∙◌}
 use Rattle.orc_board_settling.proofs.Joins.{goes_none, goes_then}
 use Rattle.orc_board_settling.specs.Passes.{state_of}
 use Rattle.orc_core.specs.declared.records.Agent.{Agent}
@@ -17,7 +17,7 @@ settle_step-requires-in-Some-clause-allowed g c =
     dec_armed (state_of c.args.board.now c.args.p.now) (state_of c.args.board.now c.settle_step.new.p) c.args.agent c.in-Some.row
     c.requires.pass.reached c.requires.pass.low c.requires.calm c.requires.due
     (ap (λ (d : Agent). d.dec) (sym c.own_record.ensures) ∙ c.in-Some.is)
-    c.settle_step.ensures.goes.went.bounds c.settle_step.ensures.record
+    c.settle_step.ensures.goes.went.bounds c.settle_step.ensures.after
 
 pub try_due-requires-clause-due : goal.try_due-requires-clause-due
 try_due-requires-clause-due g c =
@@ -25,7 +25,7 @@ try_due-requires-clause-due g c =
     (state_of c.args.board.now c.settle_step-in-Some.new.p)
     c.args.agent c.in-Some.row c.requires.pass.reached c.requires.due
     (ap (λ (d : Agent). d.dec) (sym c.own_record.ensures) ∙ c.in-Some.is)
-    c.settle_step.ensures.goes.went.bounds c.settle_step-in-Some.ensures.goes.went.bounds c.settle_step.ensures.record c.settle_step-in-Some.ensures.record
+    c.settle_step.ensures.goes.went.bounds c.settle_step-in-Some.ensures.goes.went.bounds c.settle_step.ensures.after c.settle_step-in-Some.ensures.after
 
 pub returns-in-Some-clause-goes : goal.returns-in-Some-clause-goes
 returns-in-Some-clause-goes g c =
@@ -42,3 +42,14 @@ returns-in-Some-clause-goes g c =
 pub returns-in_default-clause-goes : goal.returns-in_default-clause-goes
 returns-in_default-clause-goes g c =
     goes_none (board_bounds c.args.board.now) c.args.agent (shows c.args.p.now) c.requires.pass.reached
+
+pub returns-in-Some-clause-few : goal.returns-in-Some-clause-few
+returns-in-Some-clause-few g c =
+    let one = c.settle_step.ensures.few in
+    let two = c.settle_step-in-Some.ensures.few in
+    let three = c.try_due.ensures.few in
+    let four = c.leave_slot_zero.ensures.few in
+    omega (arith, one, two, three, four)
+
+pub returns-in_default-clause-few : goal.returns-in_default-clause-few
+returns-in_default-clause-few g c = omega arith

@@ -1,5 +1,5 @@
 use Rattle.std.proofs.Common.{ap, refl, sym, ◌∙◌}
-use Rattle.orc_board_settling.proofs.Passes.{made, may_do, mine, next_pass, opens}
+use Rattle.orc_board_settling.proofs.Passes.{made, may_do, mine, next_pass, one_step, opens}
 use Rattle.orc_board_settling.specs.Passes.{state_of}
 use Rattle.orc_core.specs.RecordParts.{scan_found}
 use Rattle.orc_core.specs.declared.ops.Op.TheVariants.{SlotLook}
@@ -41,3 +41,7 @@ returns-clause-found g c =
     c.slot_look.ensures.belongs
     c.slot_look.ensures.made in
     c.is_found.ensures ∙ ap (λ (d : Agent). scan_found d.scan) (c.record.ensures ∙ sym (mine c.args.board.now c.args.agent c.slot_look.new.p pass))
+
+pub returns-clause-few : goal.returns-clause-few
+returns-clause-few g c = one_step c.args.board.now c.args.agent (SlotLook c.args.k) c.args.p.now c.slot_look.new.p c.slot_look.result c.requires.pass
+    c.slot_look.ensures.belongs c.slot_look.ensures.made

@@ -1,5 +1,5 @@
 use Rattle.orc_board_settling.proofs.Makes.{silent}
-use Rattle.orc_board_settling.proofs.Passes.{goes, may_do, next_pass, opens}
+use Rattle.orc_board_settling.proofs.Passes.{goes, may_do, next_pass, one_step, opens}
 use Rattle.orc_board_settling.specs.Passes.{record_of, state_of}
 use Rattle.orc_core.specs.Machine.{word_in}
 use Rattle.orc_board_settling.proofs.steps.settle_step.Goals as goal
@@ -25,4 +25,8 @@ returns-clause-opens g c =
 
 pub returns-clause-pass : goal.returns-clause-pass
 returns-clause-pass g c = next_pass c.args.board.now c.args.agent c.args.op c.args.p.now c.plain_step.new.p c.plain_step.result c.requires.pass
+    c.plain_step.ensures.belongs c.plain_step.ensures.makes
+
+pub returns-clause-few : goal.returns-clause-few
+returns-clause-few g c = one_step c.args.board.now c.args.agent c.args.op c.args.p.now c.plain_step.new.p c.plain_step.result c.requires.pass
     c.plain_step.ensures.belongs c.plain_step.ensures.makes

@@ -1,7 +1,7 @@
 use Rattle.std.proofs.Common.{false}
 use Rattle.std.specs.Prelude.{None}
 use Rattle.orc_board_settling.proofs.Cuts.{cut_settles, no_fresh_act}
-use Rattle.orc_board_settling.proofs.Passes.{goes, may_do, next_pass}
+use Rattle.orc_board_settling.proofs.Passes.{goes, may_do, next_pass, one_step}
 use Rattle.orc_board_settling.specs.Passes.{record_of, state_of}
 use Rattle.orc_core.specs.Machine.{word_in}
 use Rattle.orc_core.specs.declared.ops.Op.TheVariants.{LinkStore}
@@ -26,4 +26,8 @@ returns-clause-goes g c =
 
 pub returns-clause-pass : goal.returns-clause-pass
 returns-clause-pass g c = next_pass c.args.board.now c.args.agent (LinkStore c.args.row (record { to = None; mark = false })) c.args.p.now
+    c.link_store.new.p c.link_store.result c.requires.pass c.link_store.ensures.belongs c.link_store.ensures.makes
+
+pub returns-clause-few : goal.returns-clause-few
+returns-clause-few g c = one_step c.args.board.now c.args.agent (LinkStore c.args.row (record { to = None; mark = false })) c.args.p.now
     c.link_store.new.p c.link_store.result c.requires.pass c.link_store.ensures.belongs c.link_store.ensures.makes

@@ -1,4 +1,4 @@
-use Rattle.std.proofs.Common.{ap, sym, ◌∙◌}
+use Rattle.std.proofs.Common.{ap, arith, sym, ◌∙◌}
 use Rattle.orc_board_settling.proofs.Joins.{goes_none}
 use Rattle.orc_board_settling.specs.Passes.{state_of}
 use Rattle.orc_core.specs.declared.records.Agent.{Agent}
@@ -14,3 +14,6 @@ settle_step-requires-clause-allowed g c =
 pub returns-in_default-clause-goes : goal.returns-in_default-clause-goes
 returns-in_default-clause-goes g c =
     goes_none (board_bounds c.args.board.now) c.args.agent (shows c.args.p.now) c.requires.pass.reached
+
+pub returns-in_default-clause-few : goal.returns-in_default-clause-few
+returns-in_default-clause-few g c = omega arith

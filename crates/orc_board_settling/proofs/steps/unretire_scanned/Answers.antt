@@ -1,4 +1,4 @@
-use Rattle.std.proofs.Common.{ap, ◌∙◌, ◌≡◌}
+use Rattle.std.proofs.Common.{ap, arith, ◌∙◌, ◌≡◌}
 use Rattle.std.specs.Prelude.{is_some}
 use Rattle.orc_board_settling.proofs.Joins.{goes_is, goes_then, opens_then}
 use Rattle.orc_board_settling.specs.Passes.{record_of, state_of}
@@ -18,14 +18,14 @@ pub settle_step-requires-2-clause-allowed : goal.settle_step-requires-2-clause-a
 settle_step-requires-2-clause-allowed g c =
     unretire_armed (state_of c.args.board.now c.args.p.now) (state_of c.args.board.now c.settle_step.new.p) c.args.agent c.args.row
     c.requires.pass.reached c.requires.pass.low c.requires.still c.requires.scans
-    c.requires.linked c.settle_step.ensures.goes.went.bounds c.settle_step.ensures.record
+    c.requires.linked c.settle_step.ensures.goes.went.bounds c.settle_step.ensures.after
 
 pub try_due-requires-clause-due : goal.try_due-requires-clause-due
 try_due-requires-clause-due g c =
     due_unretired (state_of c.args.board.now c.args.p.now) (state_of c.args.board.now c.settle_step.new.p)
     (state_of c.args.board.now c.settle_step-2.new.p) c.args.agent
     c.args.row c.requires.pass.reached c.requires.still c.requires.scans c.settle_step.ensures.goes.went.bounds
-    c.settle_step-2.ensures.goes.went.bounds c.settle_step.ensures.record c.settle_step-2.ensures.record
+    c.settle_step-2.ensures.goes.went.bounds c.settle_step.ensures.after c.settle_step-2.ensures.after
 
 pub returns-clause-opens : goal.returns-clause-opens
 returns-clause-opens g c =
@@ -37,8 +37,16 @@ returns-clause-opens g c =
     let v = shows c.try_due.new.p in
     let w = shows c.leave_slot_zero.new.p in
     let d = record_of c.args.board.now a c.settle_step.new.p in
-    let one : bit (is_some d.scan) ≡ 1 = scan_some d.scan c.args.row (ap (λ (e : Agent). scans e.scan c.args.row) c.settle_step.ensures.record.is
+    let one : bit (is_some d.scan) ≡ 1 = scan_some d.scan c.args.row (ap (λ (e : Agent). scans e.scan c.args.row) c.settle_step.ensures.after.is
     ∙ c.requires.scans) in
     opens_then b a 0 1 s t w (c.settle_step.ensures.opens tt)
     (goes_then b a 1 0 t u w (goes_is b a (bit (is_some d.scan)) 1 t u one c.settle_step-2.ensures.goes)
     (goes_then b a 0 0 u v w c.try_due.ensures.goes c.leave_slot_zero.ensures.goes))
+
+pub returns-clause-few : goal.returns-clause-few
+returns-clause-few g c =
+    let one = c.settle_step.ensures.few in
+    let two = c.settle_step-2.ensures.few in
+    let three = c.try_due.ensures.few in
+    let four = c.leave_slot_zero.ensures.few in
+    omega (arith, one, two, three, four)

@@ -27,7 +27,7 @@ all_empty d eight h k = cases (nat_lt k 8) refl
 
 pub returns : goal.returns
 returns c = λ h.
-    let d = c.args.record.now in
+    let d = c.args.agent.now in
     let eight = c.has_eight_slots.ensures in
     let below : (k : ℕ) → k < 8 → is_empty (slot_of d k) ≡ true = λ k l. c.loop-slot.invariant k
     (let e = c.loop-slot.auto.slot-end in let n = c.loop-slot-test.false in omega arith) in

@@ -1,4 +1,4 @@
-use Rattle.std.proofs.Common.{subst, sym}
+use Rattle.std.proofs.Common.{subst, sym, ◌∙◌, ◌+◌}
 use Rattle.std.specs.List.{AllByRecursion}
 use Rattle.orc_domain.proofs.Resting.{first_removed}
 use Rattle.orc_reclaiming_domain.proofs.Resting.{covered, looked, others_of, some_passes, still_rests}
@@ -32,3 +32,8 @@ returns-clause-rest g c =
     (first_removed c.args.passes.items c.remove-first.result c.remove-first.ensures.value
     (some_passes c.args.self c.args.passes.items c.requires.all)) c.requires.all c.take_in_all.new.into c.take_in_all.ensures.into
     _ c.remove-first.ensures.items c.take_in_all.ensures.taken c.requires.own c.requires.rest _ (domain_bounds c.args.self).rows c.count_rows-counts.ensures.journal
+
+pub returns-clause-balance : goal.returns-clause-balance
+returns-clause-balance g c =
+    let counts = c.count_rows-counts.ensures in
+    sym counts.given ∙ (counts.balance ∙ (λ i. counts.reused i + counts.linked i))
