@@ -35,6 +35,12 @@ pub first_alike : (test : Bool) (a b : Rule) (o : Option Rule) → Alike a b →
 first_alike true a b o h = h
 first_alike false a b o h = alike_if_some o
 
+-- and in place of the first two
+pub first_two_alike : (one two : Bool) (a b c e : Rule) (o : Option Rule) → Alike a b → Alike c e
+    → AlikeIfSome (cond one (Some a) (cond two (Some c) o)) (cond one (Some b) (cond two (Some e) o))
+first_two_alike true two a b c e o h k = h
+first_two_alike false two a b c e o h k = first_alike two c e o k
+
 module _ (s : Shape) (d : List Rule)
     (by_id : (id : Text) → AlikeIfSome (walks.arg_by_id s.rules id) (walks.arg_by_id d id))
     (by_long : (name : Text) → AlikeIfSome (walks.arg_by_long s.rules name) (walks.arg_by_long d name))

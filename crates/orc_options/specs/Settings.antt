@@ -1,5 +1,5 @@
 -- What the words of a command line say.
-use Rattle.std.specs.Prelude.{◌≡◌, ◌≢◌, ◌≤◌, List, [], ℕ, Option, Some, None, codes, if◌then◌else◌}
+use Rattle.std.specs.Prelude.{◌≡◌, ◌≢◌, ◌≤◌, Bool, false, List, [], ℕ, Option, Some, None, codes, if◌then◌else◌}
 use Rattle.std.specs.Str.{bytes_eq}
 use Rattle.std.specs.Str.Parse.{digits_value, without_leading_plus}
 use Rattle.clap.specs.ValueTests.{is_unsigned_in}
@@ -23,6 +23,11 @@ mode_in (Some text) =
     if bytes_eq text (codes "make") then mode.Make
     else (if bytes_eq text (codes "trial") then mode.Trial else (if bytes_eq text (codes "replay") then mode.Replay else mode.Run))
 
+-- whether the option's word is yes
+abbrev pub yes_in : Option Text → Bool
+yes_in None = false
+yes_in (Some text) = bytes_eq text (codes "yes")
+
 -- the settings that the matches give
 abbrev pub settings_in : List Row → Settings
 settings_in rows = record {
@@ -30,6 +35,8 @@ settings_in rows = record {
   posters = number_in 1 8 1 (one_of (codes "posters") rows);
   takers = number_in 0 7 0 (one_of (codes "takers") rows);
   rows = number_in 8 65535 65535 (one_of (codes "rows") rows);
+  buckets = number_in 1 256 16 (one_of (codes "buckets") rows);
+  rest = yes_in (first_of (codes "rest") rows);
   seed = number_in 1 4294967295 1 (one_of (codes "seed") rows);
   lines = number_in 1 60000 20000 (one_of (codes "lines") rows);
 }
@@ -41,6 +48,8 @@ pub record AreInRange (s : Settings) : Type 0 where
   pub few_takers : s.takers ≤ 7
   pub some_rows : 8 ≤ s.rows
   pub few_rows : s.rows ≤ 65535
+  pub some_buckets : 1 ≤ s.buckets
+  pub few_buckets : s.buckets ≤ 256
   pub some_seed : 1 ≤ s.seed
   pub some_lines : 1 ≤ s.lines
   pub few_lines : s.lines ≤ 60000

@@ -17,6 +17,15 @@ fn mode_words<'a>() -> &'a [&'a str]
     MODES.as_slice()
 }
 
+static ANSWERS: [&str; 2] = ["yes", "no"];
+
+// The words for yes and no.
+fn answer_words<'a>() -> &'a [&'a str]
+    ensures { map (λ n. n.now) result.now ≡ codes "yes" ∷ codes "no" ∷ [] }
+{
+    ANSWERS.as_slice()
+}
+
 // An option with a number in a range.
 fn number_option<'a>(alloc: Global, id: &'a str, default: &'a str, low: u32, high: u32) -> Arg<'a>
     ensures rule { rule_of result ≡ number_rule id.entry.now default.entry.now low high }
@@ -45,9 +54,11 @@ pub(crate) fn command<'a>(alloc: Global) -> Result<Command<'a>, AllocError>
 {
     let command = Command::new(alloc, "mooringakee").no_binary_name(true);
     let command = command.arg(choice_option(alloc, "mode", "run", mode_words()))?;
+    let command = command.arg(choice_option(alloc, "rest", "no", answer_words()))?;
     let command = command.arg(number_option(alloc, "posters", "1", 1, 8))?;
     let command = command.arg(number_option(alloc, "takers", "0", 0, 7))?;
     let command = command.arg(number_option(alloc, "rows", "65535", 8, 65535))?;
+    let command = command.arg(number_option(alloc, "buckets", "16", 1, 256))?;
     let command = command.arg(number_option(alloc, "seed", "1", 1, 4294967295))?;
     command.arg(number_option(alloc, "lines", "20000", 1, 60000))
 }

@@ -3,7 +3,7 @@
 ghost use Rattle.std.specs.Prelude.{◌≡◌, ◌≢◌, ◌≤◌, IfErr, IfOk, List, ℕ, option_map};
 ghost use Rattle.clap.specs.Words.{found_of, one_text, rows_of};
 ghost use Rattle.orc_options.specs.declared.settings.Settings.{Settings};
-ghost use Rattle.orc_options.specs.Settings.{AreInRange, Gives, Refuses, mode_in, number_in, settings_in as read_settings};
+ghost use Rattle.orc_options.specs.Settings.{AreInRange, Gives, Refuses, mode_in, yes_in, number_in, settings_in as read_settings};
 
 use crate::CommandWords;
 use crate::command::command;
@@ -35,6 +35,10 @@ pub struct Settings {
     pub takers: u32,
     /// `--rows`, 8 to 65,535: how many rows each container has; 65,535, where it isn't given.
     pub rows: u32,
+    /// `--buckets`, 1 to 256: how many buckets the set has; 16, where it isn't given.
+    pub buckets: u32,
+    /// `--rest`: whether the report ends with what is at rest; no, where it isn't given.
+    pub rest: bool,
     /// `--seed`, 1 to 4,294,967,295: what the lines are generated from; 1, where it isn't given.
     pub seed: u32,
     /// `--lines`, 1 to 60,000: how many lines are generated; 20,000, where it isn't given.
@@ -79,6 +83,16 @@ fn mode_of(word: Option<&str>) -> Mode
     }
 }
 
+// Whether the word is yes.
+fn says_yes(word: Option<&str>) -> bool
+    ensures { result ≡ yes_in (option_map (λ s. s.now) word.entry) }
+{
+    match word {
+        Some("yes") => true,
+        _ => false,
+    }
+}
+
 // What an error of clap means here.
 fn refused_by(kind: ErrorKind) -> Refused
     ensures { result ≡ Refused.Words → kind ≢ ErrorKind.OutOfMemory }
@@ -120,6 +134,8 @@ fn settings_in(matches: &ArgMatches<'_>) -> Settings
         posters: number_of(matches, "posters", 1, 8, 1),
         takers: number_of(matches, "takers", 0, 7, 0),
         rows: number_of(matches, "rows", 8, 65535, 65535),
+        buckets: number_of(matches, "buckets", 1, 256, 16),
+        rest: says_yes(matches.get_str("rest")),
         seed: number_of(matches, "seed", 1, 4294967295, 1),
         lines: number_of(matches, "lines", 1, 60000, 20000),
     }

@@ -20,13 +20,15 @@ const DEFAULTS: Settings = Settings {
     posters: 1,
     takers: 0,
     rows: 65535,
+    buckets: 16,
+    rest: false,
     seed: 1,
     lines: 20000,
 };
 
 #[test]
 fn words_give_settings(rt: HostRuntime) -> Result<(), Fail> {
-    let given: [(&[&str], Settings); 10] = [
+    let given: [(&[&str], Settings); 13] = [
         (
             &["--mode=make", "--seed=4294967295", "--lines", "60000"],
             Settings {
@@ -70,6 +72,22 @@ fn words_give_settings(rt: HostRuntime) -> Result<(), Fail> {
         ),
         (&["--posters", "1", "--takers=0", "--rows=65535"], DEFAULTS),
         (
+            &["--buckets=1", "--rest", "yes"],
+            Settings {
+                buckets: 1,
+                rest: true,
+                ..DEFAULTS
+            },
+        ),
+        (
+            &["--rest=no", "--buckets", "256"],
+            Settings {
+                buckets: 256,
+                ..DEFAULTS
+            },
+        ),
+        (&["--buckets=16", "--rest=no"], DEFAULTS),
+        (
             &["--takers", "+7"],
             Settings {
                 takers: 7,
@@ -109,6 +127,11 @@ fn words_are_refused(rt: HostRuntime) -> Result<(), Fail> {
         "--rows=65536",
         "--rows=4294967304",
         "--rows= 8",
+        "--buckets=0",
+        "--buckets=257",
+        "--rest=maybe",
+        "--rest=Yes",
+        "--rest",
         "--mode=Run",
         "--mode=Trial",
         "--mode=mak",

@@ -7,9 +7,9 @@ use Rattle.orc_report.proofs.NumberedLines.{generated-numbered, one-list}
 use Rattle.orc_report.specs.AllDone.{AreNumbered}
 use Rattle.orc_report.specs.Summary.{done_jobs, summary_of}
 use Rattle.orc_run.specs.Containers.{queue_over, set_over}
-use Rattle.orc_run.specs.Domains.{agents_of}
+use Rattle.orc_run.specs.Runs.{queue_bounds, set_bounds}
 use Rattle.orc_run.specs.declared.run.Finished.{Finished}
-use Rattle.orc_domain.specs.Rest.{rest_journal}
+use Rattle.orc_reclaiming_domain.specs.Rest.{rest_journal}
 use Rattle.orc_program.specs.declared.ended.Ended.{Ended}
 use Rattle.orc_program.specs.Ended.{HasSummed, Keeps, generated_lines}
 use Rattle.orc_program.specs.Headline.{WorkedThrough}
@@ -21,8 +21,9 @@ pub has-summed : (settings : Settings) (f : Finished) (ended : Ended) (text : Li
 has-summed settings f ended text some kept run is =
     let lines = generated_lines settings in
     let num : AreNumbered lines = generated-numbered settings.seed settings.lines in
-    let agents : ℕ = agents_of settings.posters settings.takers in
-    let done = all_done (queue_over 0 settings.rows agents) (set_over 1 settings.rows agents) lines settings.posters settings.takers
+    let queue = queue_over 0 (queue_bounds settings.posters settings.takers settings.rows) in
+    let set = set_over (set_bounds settings.posters settings.takers settings.rows settings.buckets) in
+    let done = all_done queue set lines settings.posters settings.takers
     f.replies.posts.items f.replies.takes.items (rest_journal f.queue) (rest_journal f.set) refl some num run.replies in
     record {
       finished = f;
@@ -32,6 +33,6 @@ has-summed settings f ended text some kept run is =
       all_done = done;
       of_lines = λ not_refused not_void jobs are.
           is ∙ ap summary_of (one-list lines (done_jobs lines f.replies.takes.items) jobs (done not_refused not_void) are);
-      none_void = none_void (queue_over 0 settings.rows agents) (set_over 1 settings.rows agents) lines settings.posters settings.takers
+      none_void = none_void queue set lines settings.posters settings.takers
           f.replies.posts.items f.replies.takes.items (rest_journal f.queue) (rest_journal f.set) refl some num run.replies;
     }

@@ -1,5 +1,5 @@
 -- What is answered to the bytes of an input.
-use Rattle.std.specs.Prelude.{◌≡◌, List, ℕ, None, Some, ⊤}
+use Rattle.std.specs.Prelude.{◌≡◌, List, ℕ, Some, ⊤}
 use Rattle.std.specs.String.{string_bytes}
 use Rattle.orc_jobs.specs.JobGrammar.{Refuses}
 use Rattle.orc_jobs.specs.declared.cause.JobsFault.{JobsFault}
@@ -21,7 +21,7 @@ Answers settings bytes answer.TooMany = Refuses bytes fault.TooMany
 
 -- the report of a run of these lines by the settings
 abbrev pub Reports : Settings → List Line → Answer → Type 0
-Reports settings lines (answer.Report text finished) = Headline lines settings finished None text
+Reports settings lines (answer.Report text finished) = Headline lines settings finished text
 Reports settings lines (answer.Malformed text) = ⊥
 Reports settings lines answer.TooMany = ⊥
 

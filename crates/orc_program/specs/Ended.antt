@@ -29,7 +29,7 @@ pub record HasReported (settings : Settings) (left : Option (List ℕ)) (ended :
   pub file : IfSome left (IsFileOf lines)
   pub finished : Finished
   pub kept : Keeps finished ended
-  pub headline : Headline lines settings finished None text
+  pub headline : Headline lines settings finished text
 
 -- the lines that are generated from the settings' seed
 abbrev pub generated_lines : Settings → List Line

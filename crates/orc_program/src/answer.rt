@@ -1,5 +1,5 @@
 //! What is answered to the bytes of an input.
-ghost use Rattle.std.specs.Prelude.{◌≡◌, ◌≤◌, IfOk, List, ℕ, length};
+ghost use Rattle.std.specs.Prelude.{◌≡◌, ◌≤◌, if◌then◌else◌, IfOk, List, None, Some, ℕ, length};
 ghost use Rattle.std.specs.String.{string_bytes};
 ghost use Rattle.orc_jobs.specs.JobGrammar.{IsFileOf, Refuses};
 ghost use Rattle.orc_jobs.specs.declared.cause.Cause.{Cause};
@@ -7,13 +7,14 @@ ghost use Rattle.orc_jobs.specs.declared.line.Line.{Line};
 ghost use Rattle.orc_jobs.specs.GoodLines.{AreGood};
 ghost use Rattle.orc_options.specs.Settings.{AreInRange};
 ghost use Rattle.orc_program.specs.Answers.{Answers, IsMalformed, IsRefusalFor, IsReport, IsTooMany, Reports};
+ghost use Rattle.orc_program.specs.Headline.{numbers_of_rest};
 ghost use Rattle.orc_program.specs.Refusals.{cause_word, malformed_line, input_limit};
 
 use orc_board::Gate;
 use orc_fault::NoMemory;
 use orc_jobs::{Cause, JobsFault, Lines, Text, read_jobs};
 use orc_options::Settings;
-use orc_report::report_text;
+use orc_report::{RestNumbers, report_text};
 use orc_run::{Finished, run_lines};
 use std::alloc::Global;
 use std::sync::Wait;
@@ -64,11 +65,31 @@ fn report<R: Threads + Wait + Sync, G: Gate + Sync>(
         posters,
         takers,
         rows,
+        buckets,
+        rest,
         ..
     } = settings;
-    let finished = run_lines(rt, alloc, lines, posters, takers, rows, gate)?;
-    let text = report_text(alloc, lines, &finished.replies, None)?;
+    let finished = run_lines(rt, alloc, lines, posters, takers, rows, buckets, gate)?;
+    let numbers = numbers_at_rest(rest, &finished);
+    let text = report_text(alloc, lines, &finished.replies, numbers.as_ref())?;
     Ok(Answer::Report { text, finished })
+}
+
+// What is at rest after a run, where it is asked for.
+fn numbers_at_rest(asked: bool, finished: &Finished) -> Option<RestNumbers>
+    ensures { result ≡ (if asked then Some (numbers_of_rest finished.now) else None) }
+{
+    if !asked {
+        return None;
+    }
+    Some(RestNumbers {
+        queue_given: finished.queue.given(),
+        queue_reused: finished.queue.reused(),
+        queue_linked: finished.queue.linked(),
+        set_given: finished.set.given(),
+        set_reused: finished.set.reused(),
+        set_linked: finished.set.linked(),
+    })
 }
 
 // The refusal of a job file with this fault.

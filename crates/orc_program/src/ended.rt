@@ -3,16 +3,16 @@ ghost use Rattle.orc_program.specs.Ended.{IsNew, Keeps};
 
 use orc_board::Replies;
 use orc_chain_rule::Chain;
-use orc_domain::PlainRest;
 use orc_fifo_rule::Fifo;
+use orc_reclaiming_domain::OrcRest;
 use orc_run::Finished;
 
 /// The domains of queue and set at rest, each with the journal of all that happened on it, and the replies of a run. All three
 /// are there after a run, and none of them otherwise.
 #[derive(Drop)]
 pub struct Ended {
-    pub queue: Option<PlainRest<Fifo>>,
-    pub set: Option<PlainRest<Chain>>,
+    pub queue: Option<OrcRest<Fifo>>,
+    pub set: Option<OrcRest<Chain>>,
     pub replies: Option<Replies>,
 }
 

@@ -4,9 +4,6 @@ use crate::{CommandWords, Ended, orc_main};
 use orc_board::OpenGate;
 use orc_fault::NoMemory;
 use orc_feed::{MemorySink, MemorySource};
-use orc_jobs::read_jobs;
-use orc_report::{RestNumbers, report_text};
-use orc_run::run_lines;
 use std::alloc::Global;
 use std::process::Abort;
 use std::sync::Wait;
@@ -16,6 +13,9 @@ use std::thread::Threads;
 mod meeting;
 mod streams;
 mod teams;
+mod trials;
+
+use teams::report_of;
 
 const FIVE_LINES: &[u8] =
     b"post,7,bytes,hello\npost,9,sum,1 2 3\ndrop,9\npost,7,words,a b\ndrop,8\n";
@@ -25,6 +25,12 @@ const FIVE_LINES_REPORT: &[u8] =
 
 const EIGHT_ROWS_REPORT: &[u8] =
     b"board\n0 line 0 id 0 done 1\n1 line 1 id 1 done 1\n2 line 2 id 2 done 1\n3 line 3 id 3 done 1\n4 line 4 id 4 done 1\n5 line 5 id 5 done 1\n6 line 6 id 6 done 1\nreplies\nposter 1 line 0 posted 0\nposter 1 line 1 posted 1\nposter 1 line 2 posted 2\nposter 1 line 3 posted 3\nposter 1 line 4 posted 4\nposter 1 line 5 posted 5\nposter 1 line 6 posted 6\nposter 1 line 7 nonode\nposter 1 line 8 nonode\ntaker 0 at 0 done 1\ntaker 0 at 1 done 1\ntaker 0 at 2 done 1\ntaker 0 at 3 done 1\ntaker 0 at 4 done 1\ntaker 0 at 5 done 1\ntaker 0 at 6 done 1\n";
+
+const NINE_POSTS: &[u8] =
+    b"post,0,bytes,x\npost,1,bytes,x\npost,2,bytes,x\npost,3,bytes,x\npost,4,bytes,x\npost,5,bytes,x\npost,6,bytes,x\npost,7,bytes,x\npost,8,bytes,x\n";
+
+const EIGHT_ROWS_REST: &[u8] =
+    b"rest\nqueue given 8 reused 7 linked 1\nset given 9 reused 9 linked 0\n";
 
 const FIVE_LINES_REST: &[u8] =
     b"rest\nqueue given 3 reused 2 linked 1\nset given 2 reused 2 linked 0\n";
@@ -152,7 +158,7 @@ fn words_of(alloc: Global, words: &[&str]) -> Result<CommandWords, NoMemory> {
 
 #[test]
 fn words_are_refused(rt: HostRuntime) -> Result<(), Fail> {
-    let refused: [&[&str]; 12] = [
+    let refused: [&[&str]; 15] = [
         &["run"],
         &["replay"],
         &["--help"],
@@ -165,6 +171,9 @@ fn words_are_refused(rt: HostRuntime) -> Result<(), Fail> {
         &["--rows", "7"],
         &["--rows", "65536"],
         &["--rows", "8", "--rows", "8"],
+        &["--buckets", "0"],
+        &["--buckets=257"],
+        &["--rest", "maybe"],
     ];
     for words in refused {
         let words = words_of(rt.alloc(), words)?;
@@ -194,7 +203,7 @@ fn a_board_of_eight_rows(rt: HostRuntime) -> Result<(), Fail> {
         &rt,
         rt.alloc(),
         &words,
-        b"post,0,bytes,x\npost,1,bytes,x\npost,2,bytes,x\npost,3,bytes,x\npost,4,bytes,x\npost,5,bytes,x\npost,6,bytes,x\npost,7,bytes,x\npost,8,bytes,x\n",
+        NINE_POSTS,
         64,
         &[],
         1000,
@@ -392,26 +401,50 @@ fn largest_inputs(rt: HostRuntime) -> Result<(), Fail> {
         6,
         b"input too large\n",
     )?;
+    let mut late = Vec::new(rt.alloc());
+    late.extend_from_slice(b"drop,1\ndrop,1\ndrop,1\ndrop,01\n")?;
+    for _ in 4..65536 {
+        late.extend_from_slice(b"drop,1\n")?;
+    }
+    run(
+        &rt,
+        rt.alloc(),
+        late.as_slice(),
+        4096,
+        &[],
+        1000,
+        &[],
+        3,
+        b"line 3: id\n",
+    )?;
     Ok(())
 }
 
 #[test]
-fn report_with_what_is_at_rest(rt: HostRuntime) -> Result<(), Fail> {
-    let Ok(lines) = read_jobs(rt.alloc(), FIVE_LINES) else {
-        panic!(&rt; "the five lines are a job file");
-    };
-    let finished = run_lines(&rt, rt.alloc(), &lines, 1, 0, 8, &OpenGate)?;
-    let rest = RestNumbers {
-        queue_given: 3,
-        queue_reused: 2,
-        queue_linked: 1,
-        set_given: 2,
-        set_reused: 2,
-        set_linked: 0,
-    };
-    let text = report_text(rt.alloc(), &lines, &finished.replies, Some(&rest))?;
-    assert!(&rt; text.bytes().starts_with(FIVE_LINES_REPORT));
-    assert!(&rt; text.bytes().ends_with(FIVE_LINES_REST));
-    assert_eq!(&rt; text.len(), FIVE_LINES_REPORT.len() + FIVE_LINES_REST.len());
+fn reports_what_is_at_rest(rt: HostRuntime) -> Result<(), Fail> {
+    let alloc = rt.alloc();
+    let mut report = Vec::new(alloc);
+    report.extend_from_slice(FIVE_LINES_REPORT)?;
+    report.extend_from_slice(FIVE_LINES_REST)?;
+    for buckets in ["1", "16", "256"] {
+        let words = words_of(alloc, &["--rest", "yes", "--buckets", buckets])?;
+        let text = report_of(&rt, alloc, &words, FIVE_LINES, &OpenGate)?;
+        assert_eq!(&rt; text.as_slice(), report.as_slice());
+    }
+    let words = words_of(alloc, &["--rest=no"])?;
+    let text = report_of(&rt, alloc, &words, FIVE_LINES, &OpenGate)?;
+    assert_eq!(&rt; text.as_slice(), FIVE_LINES_REPORT);
+    Ok(())
+}
+
+#[test]
+fn what_is_at_rest_of_eight_rows(rt: HostRuntime) -> Result<(), Fail> {
+    let alloc = rt.alloc();
+    let words = words_of(alloc, &["--rows=8", "--rest=yes"])?;
+    let mut report = Vec::new(alloc);
+    report.extend_from_slice(EIGHT_ROWS_REPORT)?;
+    report.extend_from_slice(EIGHT_ROWS_REST)?;
+    let text = report_of(&rt, alloc, &words, NINE_POSTS, &OpenGate)?;
+    assert_eq!(&rt; text.as_slice(), report.as_slice());
     Ok(())
 }

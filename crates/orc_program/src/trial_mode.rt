@@ -66,12 +66,13 @@ fn summed_run<R: Threads + Wait + Sync, G: Gate + Sync>(
         posters,
         takers,
         rows,
+        buckets,
         seed,
         lines,
         ..
     } = settings;
     let made = make_lines(alloc, seed, lines)?;
-    let finished = run_lines(rt, alloc, &made, posters, takers, rows, gate)?;
+    let finished = run_lines(rt, alloc, &made, posters, takers, rows, buckets, gate)?;
     let text = summary_text(alloc, &made, &finished.replies)?;
     Ok((text, finished))
 }

@@ -5,20 +5,20 @@ use Rattle.std.specs.List.{AllByRecursion}
 use Rattle.orc_history.specs.declared.queue.SharedQueue.{Ghosts as QueueOf}
 use Rattle.orc_history.specs.declared.set.SharedSet.{Ghosts as SetOf}
 use Rattle.orc_board.specs.declared.desk.Desk.{Desk}
+use Rattle.orc_run.specs.Journals.{GoesOnQuietly}
 use Rattle.orc_workers.specs.Desks.{AreIdle}
 use Rattle.orc_heap.specs.Seats.{IsIdle}
 use Rattle.orc_heap.specs.declared.discipline.Discipline as discipline
-use Rattle.orc_heap.specs.declared.events.Event.{Event}
+use Rattle.orc_core.specs.declared.records.Agent.{Agent}
+use Rattle.orc_sound.specs.declared.steps.Step.{Step}
 use Rattle.orc_shared_words.specs.declared.machine.Machine as machine
-use Rattle.orc_table.specs.declared.machine.Plain.{Plain}
-use Rattle.orc_table.specs.declared.machine.PlainOp.{PlainOp}
-use Rattle.orc_table.specs.declared.machine.PlainStep.{PlainStep}
-use Rattle.orc_table.specs.declared.shape.PlainShape.{PlainShape}
-use Rattle.orc_domain.specs.Ends.{AreAll, AreIdle as AreIdlePasses}
-use Rattle.orc_domain.specs.Laws.Passes.{seen_by}
-use Rattle.orc_domain.specs.Passes.{IsPassOf, domain_bounds, journal_of, seat_of}
-use Rattle.orc_domain.specs.declared.domain.PlainDomain.{PlainDomain}
-use Rattle.orc_domain.specs.declared.domain.PlainPass.{PlainPass}
+use Rattle.orc_machine_board.specs.declared.machine.MachineShape.{MachineShape}
+use Rattle.orc_machine_board.specs.declared.machine.Reclaiming.{Reclaiming}
+use Rattle.orc_machine_board.specs.declared.machine.Request.{Request}
+use Rattle.orc_reclaiming_domain.specs.Ends.{AreAll, AreIdle as AreIdlePasses}
+use Rattle.orc_reclaiming_domain.specs.Passes.{IsPassOf, domain_bounds, journal_of, seat_of}
+use Rattle.orc_reclaiming_domain.specs.declared.domain.OrcDomain.{OrcDomain}
+use Rattle.orc_reclaiming_domain.specs.declared.domain.OrcPass.{OrcPass}
 
 module _ {Q S P R A B : Type 0} (q : QueueOf Q P A) (s : SetOf S R B) (queue : Q) (set : S) where
   -- the passes of the queue are idle passes of it, in order of agent
@@ -28,7 +28,8 @@ module _ {Q S P R A B : Type 0} (q : QueueOf Q P A) (s : SetOf S R B) (queue : Q
   queue_usable agent (desk ∷ desks) h = (h.0.queue_pass, queue_usable (suc agent) desks h.1)
 
   pub queue_numbered : (agent : ℕ) (desks : List (Desk P R)) → AreIdle q s queue set agent desks → (i : ℕ) (p : P)
-      → i < length (map (λ (desk : Desk P R). desk.queue) desks) → q.agent_of queue (slice_index_or (map (λ (desk : Desk P R). desk.queue) desks) i p) ≡ agent + i
+      → i < length (map (λ (desk : Desk P R). desk.queue) desks)
+      → q.agent_of queue (slice_index_or (map (λ (desk : Desk P R). desk.queue) desks) i p) ≡ agent + i
   queue_numbered agent [] h i p low = absurd (omega (arith, low))
   queue_numbered agent (desk ∷ desks) h zero p low = let is = h.0.queue_agent in omega (arith, is)
   queue_numbered agent (desk ∷ desks) h (suc i) p low = let is = queue_numbered (suc agent) desks h.1 i p (omega (arith, low)) in omega (arith, is)
@@ -58,13 +59,13 @@ module _ {P R A B : Type 0} (queue_journal : P → List A) (set_journal : R → 
   set_seen_by (desk ∷ desks) h = (h.0.1, set_seen_by desks h.1)
 
 -- the passes ps of all desks, which were put behind none and are qs now, are all passes of a domain
-module _ {D N : Type 0} {d : discipline.Ghosts D N} {m : machine.Ghosts Plain N (PlainShape N) PlainOp (PlainStep N) (Unit {0}) (Unit {0})}
-    (domain e : PlainDomain D N) (none ps qs : List (PlainPass D N (PlainShape N) PlainOp (PlainStep N) (Unit {0}) (Unit {0}) d m))
+module _ {D N : Type 0} {d : discipline.Ghosts D N} {m : machine.Ghosts Reclaiming N (MachineShape N) Request (Step N) Agent Agent}
+    (domain e : OrcDomain D N) (none ps qs : List (OrcPass D N (MachineShape N) Request (Step N) Agent Agent d m))
     (same : e ≡ domain) (nobody : none ≡ []) (is : qs ≡ none ++ ps)
     (usable : AllByRecursion (λ p. IsPassOf domain p × IsIdle (seat_of domain p)) ps)
   where
     abbrev Pass : Type 0
-    Pass = PlainPass D N (PlainShape N) PlainOp (PlainStep N) (Unit {0}) (Unit {0}) d m
+    Pass = OrcPass D N (MachineShape N) Request (Step N) Agent Agent d m
 
     alone : qs ≡ ps
     alone = is ∙ ap (λ xs. xs ++ ps) nobody
@@ -80,16 +81,18 @@ module _ {D N : Type 0} {d : discipline.Ghosts D N} {m : machine.Ghosts Plain N 
           belong = λ i p low. (each_usable i p low).0;
           order = λ i p low. let n = numbered i p low in omega (arith, n);
         } in
-        subst (λ (x : PlainDomain D N). AreAll x qs) (sym same) (subst (λ (xs : List Pass). AreAll domain xs) (sym alone) all)
+        subst (λ (x : OrcDomain D N). AreAll x qs) (sym same) (subst (λ (xs : List Pass). AreAll domain xs) (sym alone) all)
 
     pub are_idle : AreIdlePasses e qs
     are_idle =
         let all : AreIdlePasses domain ps = λ i p low. (each_usable i p low).1 in
-        subst (λ (x : PlainDomain D N). AreIdlePasses x qs) (sym same) (subst (λ (xs : List Pass). AreIdlePasses domain xs) (sym alone) all)
+        subst (λ (x : OrcDomain D N). AreIdlePasses x qs) (sym same) (subst (λ (xs : List Pass). AreIdlePasses domain xs) (sym alone) all)
 
-    pub have_seen : (seen : List (Event N)) → AllByRecursion (λ p. journal_of p ≡ seen) ps → All (λ p. (seat_of e p).seen ≡ seen) qs
+    pub have_seen : (seen : List (Step N)) → AllByRecursion (λ p. journal_of p ≡ seen) ps → All (λ p. journal_of p ≡ seen) qs
     have_seen seen journals =
-        let each = All-from_recursion (λ p. journal_of p ≡ seen) ps journals in
-        let all : All (λ p. (seat_of domain p).seen ≡ seen) ps = λ i p low. seen_by domain (slice_index_or ps i p) (each_usable i p low).0 ∙ each i p low in
-        subst (λ (x : PlainDomain D N). All (λ p. (seat_of x p).seen ≡ seen) qs) (sym same)
-        (subst (λ (xs : List Pass). All (λ p. (seat_of domain p).seen ≡ seen) xs) (sym alone) all)
+        subst (λ (xs : List Pass). All (λ p. journal_of p ≡ seen) xs) (sym alone) (All-from_recursion (λ p. journal_of p ≡ seen) ps journals)
+
+-- what is said of the sizes of one domain is said of those of the same
+pub on_same : {D N : Type 0} (e domain : OrcDomain D N) → e ≡ domain → (before after : List (Step N)) → GoesOnQuietly (domain_bounds e) before after
+    → GoesOnQuietly (domain_bounds domain) before after
+on_same e domain same before after h = subst (λ (x : OrcDomain _ _). GoesOnQuietly (domain_bounds x) before after) same h

@@ -1,4 +1,6 @@
-pub mod Drained
-pub mod Actual
-pub mod DeskPasses
-pub mod SameSizes
+mod Actual
+mod DeskPasses
+mod Growing
+mod Quiet
+mod Reusing
+mod SameSizes

@@ -1,6 +1,8 @@
--- What was proved of containers with these numbers, said of the numbers of a run.
-use Rattle.std.proofs.Common.{◌≡◌, ℕ, List, [], sym, subst}
-use Rattle.orc_heap.specs.declared.events.Event.{Event}
+-- What was proved of containers over two domains, said of their sizes, and of the journals at rest.
+use Rattle.std.proofs.Common.{List, [], ap, subst, ℕ, ◌≡◌}
+use Rattle.orc_words.specs.Bounds.{Bounds}
+use Rattle.orc_sound.specs.declared.steps.Step.{Step}
+use Rattle.orc_projection.specs.Projection.{project}
 use Rattle.orc_history.specs.QueueHistory.{IsLegalQueue, waiting_after}
 use Rattle.orc_history.specs.SetHistory.{IsLegalSet}
 use Rattle.orc_fifo_rule.specs.QueueDiscipline.{entries_of}
@@ -14,25 +16,22 @@ use Rattle.orc_board.specs.Follows.{Follows}
 use Rattle.orc_board.specs.Reportable.{AreReportable}
 use Rattle.orc_board.specs.Runs.{Ran}
 use Rattle.orc_run.specs.Containers.{queue_over, set_over}
+use Rattle.orc_run.specs.Journals.{GoesOnQuietly}
+use Rattle.orc_run.proofs.Growing.{Silent, ran_more}
 
--- where the journals at rest are those that all passes had seen
-module _ (lines : List Line) (posters takers : ℕ) (posts : List PostReply) (takes : List TakeReply)
-    (k : List (Event FifoNote)) (n : List (Event ChainNote)) (j : List (Event FifoNote)) (m : List (Event ChainNote)) (same : j ≡ k) (same_set : m ≡ n)
+module _ (lines : List Line) (posters takers : ℕ) (posts : List PostReply) (takes : List TakeReply) (k : List (Step FifoNote)) (n : List (Step ChainNote))
+    (j : List (Step FifoNote)) (m : List (Step ChainNote))
   where
-    pub ran : (first f rows r agents a roots q set_rows s set_agents b : ℕ) → first ≡ f → rows ≡ r → agents ≡ a → roots ≡ q → set_rows ≡ s
-        → set_agents ≡ b
-        → Follows (queue_over first rows agents) (set_over roots set_rows set_agents) lines posters takers posts takes k n
-        → IsLegalQueue 0 (entries_of k) → IsLegalSet (set_entries_of n) → waiting_after [] (entries_of k) ≡ [] → AreReportable lines posts takes
-        → Ran (queue_over f r a) (set_over q s b) lines posters takers posts takes j m
-    ran first f rows r agents a roots q set_rows s set_agents b first_is rows_are agents_are roots_are set_rows_are set_agents_are follows legal
-        set_legal empty reportable =
-        let one = subst (λ x. Follows (queue_over x rows agents) (set_over roots set_rows set_agents) lines posters takers posts takes k n) first_is follows in
-        let two = subst (λ x. Follows (queue_over f x agents) (set_over roots set_rows set_agents) lines posters takers posts takes k n) rows_are one in
-        let three = subst (λ x. Follows (queue_over f r x) (set_over roots set_rows set_agents) lines posters takers posts takes k n) agents_are two in
-        let four = subst (λ x. Follows (queue_over f r a) (set_over x set_rows set_agents) lines posters takers posts takes k n) roots_are three in
-        let five = subst (λ x. Follows (queue_over f r a) (set_over q x set_agents) lines posters takers posts takes k n) set_rows_are four in
-        let six = subst (λ x. Follows (queue_over f r a) (set_over q s x) lines posters takers posts takes k n) set_agents_are five in
-        let all : Ran (queue_over f r a) (set_over q s b) lines posters takers posts takes k n =
-        record { follows = six; queue_legal = legal; set_legal = set_legal; empty = empty; reportable = reportable } in
-        subst (λ (x : List (Event FifoNote)). Ran (queue_over f r a) (set_over q s b) lines posters takers posts takes x m) (sym same)
-        (subst (λ (x : List (Event ChainNote)). Ran (queue_over f r a) (set_over q s b) lines posters takers posts takes k x) (sym same_set) all)
+    pub ran : (first f : ℕ) (b c e g : Bounds) → first ≡ f → b ≡ c → e ≡ g → GoesOnQuietly b k j → GoesOnQuietly e n m
+        → Follows (queue_over first b) (set_over e) lines posters takers posts takes k n
+        → IsLegalQueue 0 (entries_of (project b k)) → IsLegalSet (set_entries_of (project e n)) → waiting_after [] (entries_of (project b k)) ≡ []
+        → AreReportable lines posts takes → Ran (queue_over f c) (set_over g) lines posters takers posts takes j m
+    ran first f b c e g first_is sizes set_sizes quiet set_quiet follows legal set_legal empty reportable =
+        let all : Ran (queue_over first b) (set_over e) lines posters takers posts takes k n =
+        record { follows = follows; queue_legal = legal; set_legal = set_legal; empty = empty; reportable = reportable } in
+        let a : Silent (queue_over first b).history k j = record { later = quiet.later; same = ap entries_of quiet.quiet } in
+        let h : Silent (set_over e).history n m = record { later = set_quiet.later; same = ap set_entries_of set_quiet.quiet } in
+        subst (λ x. Ran (queue_over x c) (set_over g) lines posters takers posts takes j m) first_is
+        (subst (λ (x : Bounds). Ran (queue_over first x) (set_over g) lines posters takers posts takes j m) sizes
+        (subst (λ (x : Bounds). Ran (queue_over first b) (set_over x) lines posters takers posts takes j m) set_sizes
+        (ran_more (queue_over first b) (set_over e) lines posters takers posts takes k n j m all a h)))

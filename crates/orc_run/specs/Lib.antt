@@ -1,4 +1,5 @@
 pub mod Domains
 pub mod Containers
 pub mod Journals
+pub mod Reuse
 pub mod Runs

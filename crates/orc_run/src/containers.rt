@@ -2,31 +2,22 @@
 
 ghost use Rattle.std.specs.Prelude.{◌≡◌, ◌<◌, ◌≤◌, ℕ, [], All, IfOk, length, slice_index_or};
 ghost use Rattle.orc_words.specs.Bounds.{bounds_of};
-ghost use Rattle.orc_domain.specs.Passes.{domain_bounds, domain_opening};
-ghost use Rattle.orc_run.specs.Domains.{queue_opening, run_bounds};
+ghost use Rattle.orc_machine_board.specs.Views.{board_seed};
+ghost use Rattle.orc_reclaiming_domain.specs.Passes.{domain_bounds};
+ghost use Rattle.orc_run.specs.Domains.{queue_seed, run_bounds, set_seed};
 
-use orc_chain_rule::Chain;
-use orc_domain::{PlainDomain, PlainPass};
+use crate::queue::{QueuePass, RunQueue};
+use crate::set::{RunSet, SetPass};
 use orc_fault::NoMemory;
-use orc_fifo_rule::{Fifo, FifoNote};
+use orc_fifo_rule::FifoNote;
 use orc_heap::Seed;
 use orc_history::{LearnQueue, LearnSet, SharedQueue, SharedSet};
-use orc_list::{List, OneList};
+use orc_list::List;
 use orc_queue::Queue;
+use orc_reclaiming_domain::OrcDomain;
+use orc_set::Set;
 use orc_words::Shape;
 use std::alloc::Global;
-
-/// Michael and Scott's queue over a plain domain.
-pub type RunQueue = Queue<PlainDomain<Fifo>>;
-
-/// An agent's pass to it.
-pub type QueuePass = PlainPass<Fifo>;
-
-/// Harris's list over a plain domain with one root.
-pub type RunSet = OneList<PlainDomain<Chain>>;
-
-/// An agent's pass to it.
-pub type SetPass = PlainPass<Chain>;
 
 /// From which life or sequence on a row is taken no more.
 const LIMIT: u64 = 549_755_813_888;
@@ -34,7 +25,7 @@ const LIMIT: u64 = 549_755_813_888;
 // The shape of a domain with so many rows, roots and agents.
 fn shape_of(rows: u32, roots: u32, agents: u32) -> Shape
     requires rows { (2 ≤ rows) × (rows ≤ 65535) }
-    requires roots { (1 ≤ roots) × (roots ≤ 2) }
+    requires roots { (1 ≤ roots) × (roots ≤ 256) }
     requires agents { (1 ≤ agents) × (agents ≤ 16) }
     ensures { bounds_of result ≡ run_bounds rows roots agents }
 {
@@ -56,37 +47,43 @@ pub(crate) fn make_queue(
     ensures numbered { IfOk result (λ made. (i : ℕ) (p : _) → i < length made.1.items
         → ⟦<RunQueue as SharedQueue>⟧.agent_of made.0 (slice_index_or made.1.items i p) ≡ i) }
     ensures passes { IfOk result (λ made. length made.1.items ≡ agents) }
-    ensures fresh { IfOk result (λ made. All (λ p. ⟦<RunQueue as SharedQueue>⟧.history made.0 (⟦<RunQueue as SharedQueue>⟧.journal p) ≡ []) made.1.items) }
+    ensures fresh { IfOk result (λ made. All (λ p. ⟦<RunQueue as SharedQueue>⟧.history made.0
+        (⟦<RunQueue as SharedQueue>⟧.journal p) ≡ []) made.1.items) }
     ensures agents { IfOk result (λ made. ⟦<RunQueue as LearnQueue>⟧.agents made.0 ≡ agents) }
     ensures first { IfOk result (λ made. ⟦<RunQueue as SharedQueue>⟧.first made.0 ≡ 0) }
-    ensures bounds { IfOk result (λ made. domain_bounds made.0.links ≡ run_bounds rows 2 agents) }
-    ensures opening { IfOk result (λ made. domain_opening made.0.links ≡ queue_opening) }
+    ensures bounds { IfOk result (λ made. domain_bounds made.0.queue.links ≡ run_bounds rows 2 agents) }
+    ensures seed { IfOk result (λ made. board_seed made.0.queue.links.board ≡ queue_seed) }
 {
     let seed = Seed::Dummy {
         first: 0,
         begin: FifoNote::Begin,
     };
-    let (domain, passes) = PlainDomain::make(alloc, &shape_of(rows, 2, agents), seed)?;
-    Ok((Queue::new(domain), passes))
+    let (domain, passes) = OrcDomain::make(alloc, &shape_of(rows, 2, agents), seed)?;
+    let queue = Queue::new(domain);
+    Ok((RunQueue { queue }, passes))
 }
 
-// Makes an empty set of so many rows, and a pass for each agent, in order.
+// Makes an empty set of so many rows and buckets, and a pass for each agent, in order.
 pub(crate) fn make_set(
     alloc: Global,
     rows: u32,
+    buckets: u32,
     agents: u32,
 ) -> Result<(RunSet, Vec<SetPass>), NoMemory>
     requires rows { (2 ≤ rows) × (rows ≤ 65535) }
+    requires buckets { (1 ≤ buckets) × (buckets ≤ 256) }
     requires agents { (1 ≤ agents) × (agents ≤ 16) }
     ensures usable { IfOk result (λ made. All (λ p. ⟦<RunSet as SharedSet>⟧.usable made.0 p) made.1.items) }
     ensures numbered { IfOk result (λ made. (i : ℕ) (p : _) → i < length made.1.items
         → ⟦<RunSet as SharedSet>⟧.agent_of made.0 (slice_index_or made.1.items i p) ≡ i) }
     ensures passes { IfOk result (λ made. length made.1.items ≡ agents) }
-    ensures fresh { IfOk result (λ made. All (λ p. ⟦<RunSet as SharedSet>⟧.history made.0 (⟦<RunSet as SharedSet>⟧.journal p) ≡ []) made.1.items) }
+    ensures fresh { IfOk result (λ made. All (λ p. ⟦<RunSet as SharedSet>⟧.history made.0
+        (⟦<RunSet as SharedSet>⟧.journal p) ≡ []) made.1.items) }
     ensures agents { IfOk result (λ made. ⟦<RunSet as LearnSet>⟧.agents made.0 ≡ agents) }
-    ensures bounds { IfOk result (λ made. domain_bounds made.0.list.links ≡ run_bounds rows 1 agents) }
-    ensures opening { IfOk result (λ made. domain_opening made.0.list.links ≡ []) }
+    ensures bounds { IfOk result (λ made. domain_bounds made.0.set.list.links ≡ run_bounds rows buckets agents) }
+    ensures seed { IfOk result (λ made. board_seed made.0.set.list.links.board ≡ set_seed) }
 {
-    let (domain, passes) = PlainDomain::make(alloc, &shape_of(rows, 1, agents), Seed::Empty)?;
-    Ok((OneList::new(List::new(domain)), passes))
+    let (domain, passes) = OrcDomain::make(alloc, &shape_of(rows, buckets, agents), Seed::Empty)?;
+    let set = Set::new(List::new(domain), buckets);
+    Ok((RunSet { set }, passes))
 }

@@ -1,51 +1,61 @@
 //! The domains of a run are brought to rest.
 
 ghost use Rattle.std.specs.Prelude.{◌≡◌, ◌≤◌, [], All, List, length, vec_capacity};
-ghost use Rattle.orc_heap.specs.declared.events.Event.{Event};
-ghost use Rattle.orc_domain.specs.Ends.{AllHear, AreAll, AreIdle, FirstSawAll, IsNoLonger};
-ghost use Rattle.orc_domain.specs.Passes.{domain_bounds, seat_of};
-ghost use Rattle.orc_domain.specs.Rest.{IsShown, rest_domain, rest_journal};
+ghost use mathlib.Core.List.{IsPrefix};
+ghost use Rattle.orc_machine_board.specs.Rules.{run_of};
+ghost use Rattle.orc_projection.specs.Projection.{project};
+ghost use Rattle.orc_reclaiming_domain.specs.Ends.{AreAll, AreIdle, SawAll, whole_journal};
+ghost use Rattle.orc_reclaiming_domain.specs.Passes.{domain_bounds, journal_of};
+ghost use Rattle.orc_reclaiming_domain.specs.Rest.{IsShown, rest_domain, rest_journal};
+ghost use Rattle.orc_rest.specs.Rest.{IsAtRest};
+ghost use Rattle.orc_run.specs.Journals.{GoesOnQuietly};
+ghost use Rattle.orc_sound.specs.declared.steps.Step.{Step};
 ghost use Rattle.orc_workers.specs.Desks.{AreIdle as AreIdleDesks, HaveSeenTheSame, queue_seen, set_seen};
 
-use crate::containers::{QueuePass, RunQueue, RunSet, SetPass};
 use crate::desks::{Passes, passes_apart};
+use crate::queue::{QueuePass, RunQueue};
+use crate::set::{RunSet, SetPass};
 use orc_board::Desk;
 use orc_chain_rule::Chain;
-use orc_domain::{PlainDomain, PlainPass, PlainRest};
 use orc_fifo_rule::Fifo;
 use orc_heap::Discipline;
 use orc_history::{SharedQueue, SharedSet};
+use orc_reclaiming_domain::{OrcDomain, OrcPass, OrcRest};
 
 /// The domains of both containers at rest.
 #[derive(Drop)]
 pub(crate) struct Ends {
-    pub(crate) queue: PlainRest<Fifo>,
-    pub(crate) set: PlainRest<Chain>,
+    pub(crate) queue: OrcRest<Fifo>,
+    pub(crate) set: OrcRest<Chain>,
 }
 
-// Lets all passes of a domain, which have seen the same events, drain, and ends the sharing.
+// Lets all passes of a domain drain, and ends the sharing. What was seen goes on without an event.
 pub(crate) fn bring_to_rest<D: Discipline>(
-    domain: PlainDomain<D>,
-    mut passes: Vec<PlainPass<D>>,
-) -> PlainRest<D>
+    domain: OrcDomain<D>,
+    mut passes: Vec<OrcPass<D>>,
+) -> OrcRest<D>
     requires all { AreAll domain passes.items }
     requires idle { AreIdle domain passes.items }
     ensures domain { rest_domain result ≡ domain }
     ensures shown { IsShown result }
-    ensures journal { (seen : List (Event D.Note)) → All (λ p. (seat_of domain p).seen ≡ seen) passes.items → rest_journal result ≡ seen }
+    ensures rest { IsAtRest (run_of (domain_bounds domain) (rest_journal result)) }
+    ensures journal { (seen : List (Step D.Note)) → All (λ p. journal_of p ≡ seen) passes.items
+        → GoesOnQuietly (domain_bounds domain) seen (rest_journal result) }
 {
     drain_passes(&domain, &mut passes);
     domain.rest(passes)
 }
 
 // Lets all passes of a domain drain.
-fn drain_passes<D: Discipline>(domain: &PlainDomain<D>, passes: &mut Vec<PlainPass<D>>)
+fn drain_passes<D: Discipline>(domain: &OrcDomain<D>, passes: &mut Vec<OrcPass<D>>)
     requires all { AreAll domain.now passes.old.items }
     requires idle { AreIdle domain.now passes.old.items }
     ensures all { AreAll domain.now passes.new.items }
-    ensures own { FirstSawAll domain.now passes.new.items }
-    ensures learned { AllHear domain.now passes.old.items passes.new.items }
-    ensures longest { IsNoLonger domain.now passes.old.items passes.new.items }
+    ensures own { SawAll passes.new.items }
+    ensures rest { IsAtRest (run_of (domain_bounds domain.now) (whole_journal passes.new.items)) }
+    ensures later { IsPrefix (whole_journal passes.old.items) (whole_journal passes.new.items) }
+    ensures quiet { (seen : List (Step D.Note)) → All (λ p. journal_of p ≡ seen) passes.old.items
+        → project (domain_bounds domain.now) (whole_journal passes.new.items) ≡ project (domain_bounds domain.now) seen }
 {
     domain.drain_all(passes.as_mut_slice());
 }
@@ -60,13 +70,18 @@ pub(crate) fn end_run(
 ) -> Ends
     requires idle { AreIdleDesks ⟦<RunQueue as SharedQueue>⟧ ⟦<RunSet as SharedSet>⟧ queue set 0 desks.items }
     requires seen { HaveSeenTheSame ⟦<RunQueue as SharedQueue>⟧ ⟦<RunSet as SharedSet>⟧ desks.items }
-    requires all { (length desks.items ≡ (domain_bounds queue.links).agents) × (length desks.items ≡ (domain_bounds set.list.links).agents) }
+    requires all { (length desks.items ≡ (domain_bounds queue.queue.links).agents)
+        × (length desks.items ≡ (domain_bounds set.set.list.links).agents) }
     requires none { (passes.queue.items ≡ []) × (passes.set.items ≡ []) }
     requires room { (length desks.items ≤ vec_capacity passes.queue) × (length desks.items ≤ vec_capacity passes.set) }
-    ensures domains { (rest_domain result.queue ≡ queue.links) × (rest_domain result.set ≡ set.list.links) }
+    ensures domains { (rest_domain result.queue ≡ queue.queue.links) × (rest_domain result.set ≡ set.set.list.links) }
     ensures shown { IsShown result.queue × IsShown result.set }
-    ensures queue_journal { rest_journal result.queue ≡ queue_seen ⟦<RunQueue as SharedQueue>⟧ desks.items }
-    ensures set_journal { rest_journal result.set ≡ set_seen ⟦<RunSet as SharedSet>⟧ desks.items }
+    ensures queue_rest { IsAtRest (run_of (domain_bounds queue.queue.links) (rest_journal result.queue)) }
+    ensures set_rest { IsAtRest (run_of (domain_bounds set.set.list.links) (rest_journal result.set)) }
+    ensures queue_journal { GoesOnQuietly (domain_bounds queue.queue.links)
+        (queue_seen ⟦<RunQueue as SharedQueue>⟧ desks.items) (rest_journal result.queue) }
+    ensures set_journal { GoesOnQuietly (domain_bounds set.set.list.links)
+        (set_seen ⟦<RunSet as SharedSet>⟧ desks.items) (rest_journal result.set) }
 {
     passes_apart(desks, &mut passes);
     let Passes {

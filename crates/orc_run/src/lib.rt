@@ -1,10 +1,13 @@
-//! A run of the job board on threads: Michael and Scott's queue and Harris's list, each over a plain domain of its own.
+//! A run of the job board on threads: Michael and Scott's queue and a set of Harris's lists, each over a reclaiming domain of its
+//! own.
 #![tactic(auto)]
 
 mod containers;
 mod desks;
 mod ending;
+mod queue;
 mod run;
+mod set;
 
 pub use run::{Finished, run_lines};
 

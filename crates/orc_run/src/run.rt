@@ -2,19 +2,18 @@
 
 ghost use Rattle.std.specs.Prelude.{◌≤◌, IfOk};
 ghost use Rattle.orc_jobs.specs.GoodLines.{AreGood};
-ghost use Rattle.orc_run.specs.Domains.{agents_of};
-ghost use Rattle.orc_run.specs.Journals.{GivesEachRowOnce};
-ghost use Rattle.orc_run.specs.Runs.{HasQueueJournal, HasSetJournal, RepliesFollow};
+ghost use Rattle.orc_run.specs.Runs.{EndsWithoutLeak, HasQueueJournal, HasSetJournal, RepliesFollow, ReusesRowsSafely};
+ghost use Rattle.orc_run.specs.Runs.{queue_bounds, set_bounds};
 
 use crate::containers::{make_queue, make_set};
 use crate::desks::room_for_passes;
 use crate::ending::{Ends, end_run};
 use orc_board::{Gate, Replies};
 use orc_chain_rule::Chain;
-use orc_domain::PlainRest;
 use orc_fault::NoMemory;
 use orc_fifo_rule::Fifo;
 use orc_jobs::Lines;
+use orc_reclaiming_domain::OrcRest;
 use orc_workers::{fresh_desks, run_at_desks};
 use std::alloc::Global;
 use std::sync::Wait;
@@ -24,13 +23,14 @@ use std::thread::Threads;
 /// on it, and the replies.
 #[derive(Drop)]
 pub struct Finished {
-    pub queue: PlainRest<Fifo>,
-    pub set: PlainRest<Chain>,
+    pub queue: OrcRest<Fifo>,
+    pub set: OrcRest<Chain>,
     pub replies: Replies,
 }
 
 /// Works through these lines with 1 to 8 posters and 0 to 7 takers, each on a thread of its own where one can be started,
-/// over a queue and a set of 2 to 65,535 rows each. Then the caller takes what is left.
+/// over a queue and a set of 2 to 65,535 rows each, the set in 1 to 256 buckets. Then the caller takes what is left, and both
+/// domains are brought to rest.
 ///
 /// # Errors
 ///
@@ -42,20 +42,25 @@ pub fn run_lines<R: Threads + Wait + Sync, G: Gate + Sync>(
     posters: u32,
     takers: u32,
     rows: u32,
+    buckets: u32,
     gate: &G,
 ) -> Result<Finished, NoMemory>
     requires good { AreGood lines.now }
     requires posters { (1 ≤ posters) × (posters ≤ 8) }
     requires takers { takers ≤ 7 }
     requires rows { (2 ≤ rows) × (rows ≤ 65535) }
-    ensures replies { IfOk result (λ f. RepliesFollow lines.now posters takers rows f) }
-    ensures queue_journal { IfOk result (λ f. HasQueueJournal rows (agents_of posters takers) f.queue) }
-    ensures set_journal { IfOk result (λ f. HasSetJournal rows (agents_of posters takers) f.set) }
-    ensures once { IfOk result (λ f. GivesEachRowOnce f.queue × GivesEachRowOnce f.set) }
+    requires buckets { (1 ≤ buckets) × (buckets ≤ 256) }
+    ensures replies { IfOk result (λ f. RepliesFollow lines.now posters takers rows buckets f) }
+    ensures queue_journal { IfOk result (λ f. HasQueueJournal (queue_bounds posters takers rows) f.queue) }
+    ensures set_journal { IfOk result (λ f. HasSetJournal (set_bounds posters takers rows buckets) f.set) }
+    ensures queue_reuse { IfOk result (λ f. ReusesRowsSafely (queue_bounds posters takers rows) f.queue) }
+    ensures set_reuse { IfOk result (λ f. ReusesRowsSafely (set_bounds posters takers rows buckets) f.set) }
+    ensures queue_rest { IfOk result (λ f. EndsWithoutLeak (queue_bounds posters takers rows) f.queue) }
+    ensures set_rest { IfOk result (λ f. EndsWithoutLeak (set_bounds posters takers rows buckets) f.set) }
 {
     let agents = 1 + posters + takers;
     let (queue, queue_passes) = make_queue(alloc, rows, agents)?;
-    let (set, set_passes) = make_set(alloc, rows, agents)?;
+    let (set, set_passes) = make_set(alloc, rows, buckets, agents)?;
     let passes = room_for_passes(alloc, agents as usize)?;
     let mut desks = fresh_desks(alloc, &queue, &set, queue_passes, set_passes)?;
     let replies = run_at_desks(

@@ -66,7 +66,7 @@ fn mixed(alloc: Global, count: u32) -> Result<String, NoMemory> {
 }
 
 // What is counted in a report: how often each position stands in the board, in a reply to a post and in a reply to a take, with
-// the sum of its lines; and how many lines are done, and how many posters' replies there are.
+// the sum of its lines; how many lines are done, and how many posters' replies there are; and how often rows were freed.
 #[derive(Drop)]
 struct Counts {
     board: Vec<u64>,
@@ -76,6 +76,8 @@ struct Counts {
     posted_line: Vec<u64>,
     done: u64,
     replies: u64,
+    reused: u64,
+    none_leaked: bool,
     in_file_order: bool,
     last: (u64, u64),
 }
@@ -90,6 +92,8 @@ impl Counts {
             posted_line: vec![in alloc; 0; lines]?,
             done: 0,
             replies: 0,
+            reused: 0,
+            none_leaked: true,
             in_file_order: true,
             last: (0, 0),
         })
@@ -116,6 +120,11 @@ impl Counts {
                 }
             }
             ["taker", _, "at", at, ..] => add(&mut self.taken, number(at), 1),
+            [_, "given", given, "reused", reused, "linked", linked] => {
+                let there = number(reused).wrapping_add(number(linked));
+                self.none_leaked = self.none_leaked && number(given) == there;
+                self.reused = self.reused.wrapping_add(number(reused));
+            }
             _ => {}
         }
     }
@@ -208,14 +217,27 @@ fn the_largest_team(rt: HostRuntime) -> Result<(), Fail> {
 }
 
 #[test]
-fn trials_by_many_have_one_summary(rt: HostRuntime) -> Result<(), Fail> {
-    let words = words_of(
-        rt.alloc(),
-        &["--mode=trial", "--lines=2000", "--posters=4", "--takers=4"],
-    )?;
-    let first = report_of(&rt, rt.alloc(), &words, b"", &OpenGate)?;
-    let second = report_of(&rt, rt.alloc(), &words, b"", &OpenGate)?;
-    assert!(&rt; first.as_slice().starts_with(b"done 2000\n"));
-    assert_eq!(&rt; first.as_slice(), second.as_slice());
+fn eight_rows_serve_ten_thousand_lines(rt: HostRuntime) -> Result<(), Fail> {
+    let alloc = rt.alloc();
+    let input = mixed(alloc, 10_000)?;
+    for buckets in ["1", "256"] {
+        let words = words_of(
+            alloc,
+            &[
+                "--posters=4",
+                "--takers=3",
+                "--rows=8",
+                "--rest=yes",
+                "--buckets",
+                buckets,
+            ],
+        )?;
+        let report = report_of(&rt, alloc, &words, input.as_bytes(), &OpenGate)?;
+        let counts = counts_of(alloc, report.as_slice(), 10_000)?;
+        assert!(rt; counts.agree());
+        assert_eq!(rt; counts.replies, 10_000);
+        assert!(rt; counts.none_leaked);
+        assert!(rt; counts.reused >= 1000);
+    }
     Ok(())
 }

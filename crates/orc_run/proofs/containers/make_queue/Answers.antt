@@ -1,15 +1,15 @@
 -- The domain begins with a dummy.
 use Rattle.std.proofs.Common.{◌≡◌, ap, arith}
 use Rattle.orc_words.specs.Bounds.{Bounds, bounds_of}
-use Rattle.orc_table.specs.Machine.{numbers}
+use Rattle.orc_projection.specs.Mirror.{numbers_of}
 use Rattle.orc_fifo_rule.proofs.Later.{nothing_yet}
 use Rattle.orc_queue.proofs.Openings.{dummy_allowed}
 use Rattle.orc_run.proofs.containers.make_queue.Goals as goal
 
 pub make-requires-clause-holds : goal.make-requires-clause-holds
-make-requires-clause-holds c = nothing_yet (numbers (bounds_of c.shape_of.result))
+make-requires-clause-holds c = nothing_yet (numbers_of (bounds_of c.shape_of.result))
 
 pub make-requires-clause-seed : goal.make-requires-clause-seed
 make-requires-clause-seed c =
     let two : (bounds_of c.shape_of.result).roots ≡ 2 = ap (λ (b : Bounds). b.roots) c.shape_of.ensures in
-    dummy_allowed (numbers (bounds_of c.shape_of.result)) 0 (omega (arith, two)) (omega arith)
+    dummy_allowed (numbers_of (bounds_of c.shape_of.result)) 0 (omega (arith, two)) (omega arith)
