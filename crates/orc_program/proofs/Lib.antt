@@ -1,4 +1,5 @@
 pub mod Answering
 pub mod Inputs
+pub mod Rows
 pub mod Wrote
 pub mod Sums

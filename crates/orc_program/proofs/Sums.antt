@@ -1,6 +1,5 @@
 -- What a run of generated lines has left, with its summary.
 use Rattle.std.proofs.Common.{◌≡◌, ◌≤◌, ◌∙◌, List, ℕ, ap, refl}
-use Rattle.orc_jobs.specs.Generated.{generated}
 use Rattle.orc_options.specs.declared.settings.Settings.{Settings}
 use Rattle.orc_report.proofs.AllDone.{all_done, none_void}
 use Rattle.orc_report.proofs.NumberedLines.{generated-numbered, one-list}

@@ -6,6 +6,9 @@ use Rattle.orc_jobs.specs.Generated.{generated}
 use Rattle.orc_jobs.specs.JobGrammar.{IsFileOf}
 use Rattle.orc_report.specs.AllDone.{AreJobsOf, NoneRefused, NoneVoid}
 use Rattle.orc_report.specs.Summary.{done_jobs, summary_of}
+use Rattle.orc_reclaiming_domain.specs.Passes.{domain_bounds}
+use Rattle.orc_reclaiming_domain.specs.Rest.{rest_domain}
+use Rattle.orc_run.specs.Runs.{EndsWithoutLeak, ReusesRowsSafely}
 use Rattle.orc_run.specs.declared.run.Finished.{Finished}
 use Rattle.orc_program.specs.declared.ended.Ended.{Ended}
 use Rattle.orc_options.specs.declared.settings.Settings.{Settings}
@@ -22,6 +25,20 @@ pub record Keeps (finished : Finished) (ended : Ended) : Type 0 where
   pub queue : ended.queue ≡ Some finished.queue
   pub set : ended.set ≡ Some finished.set
   pub replies : ended.replies ≡ Some finished.replies
+
+-- where a domain has ended, no row of its journal was used again while it was linked or held, nor twice
+abbrev pub QueueReuses : Ended → Type 0
+QueueReuses ended = IfSome ended.queue (λ r. ReusesRowsSafely (domain_bounds (rest_domain r)) r)
+
+abbrev pub SetReuses : Ended → Type 0
+SetReuses ended = IfSome ended.set (λ r. ReusesRowsSafely (domain_bounds (rest_domain r)) r)
+
+-- where a domain has ended, its journal is at rest, and what was given was freed or is linked
+abbrev pub QueueRests : Ended → Type 0
+QueueRests ended = IfSome ended.queue (λ r. EndsWithoutLeak (domain_bounds (rest_domain r)) r)
+
+abbrev pub SetRests : Ended → Type 0
+SetRests ended = IfSome ended.set (λ r. EndsWithoutLeak (domain_bounds (rest_domain r)) r)
 
 -- the bytes that were left are a file of these lines, which were worked through as the settings say, and the headline holds of what has ended
 pub record HasReported (settings : Settings) (left : Option (List ℕ)) (ended : Ended) (text : List ℕ) : Type 0 where

@@ -1,5 +1,5 @@
 -- The headline: the text is the report of one actual journal per container.
-use Rattle.std.specs.Prelude.{◌≡◌, if◌then◌else◌, ℕ, List, None, Option, Some}
+use Rattle.std.specs.Prelude.{◌≡◌, if◌then◌else◌, ℕ, List, None, Some}
 use Rattle.orc_core.specs.Machine.{new_machine}
 use Rattle.orc_sound.specs.Journals.{plain}
 use Rattle.orc_rest.specs.Reuse.{given, reused, rows_out}

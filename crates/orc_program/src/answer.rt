@@ -40,7 +40,8 @@ pub(crate) fn answer_to<R: Threads + Wait + Sync, G: Gate + Sync>(
     requires few { length bytes.now ≤ input_limit }
     ensures answers { IfOk result (Answers settings bytes.now) }
     ensures file { (lines : List Line) → IsFileOf lines bytes.now → IfOk result IsReport }
-    ensures malformed { (place : ℕ) (why : Cause) → Refuses bytes.now (JobsFault.Malformed place why) → IfOk result (IsMalformed (malformed_line place why)) }
+    ensures malformed { (place : ℕ) (why : Cause) → Refuses bytes.now (JobsFault.Malformed place why)
+        → IfOk result (IsMalformed (malformed_line place why)) }
     ensures many { Refuses bytes.now JobsFault.TooMany → IfOk result IsTooMany }
 {
     match read_jobs(alloc, bytes) {

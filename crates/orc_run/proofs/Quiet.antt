@@ -1,19 +1,17 @@
 -- Looks at gates are no events, so that a journal goes on without one while its domain comes to rest.
-use Rattle.std.proofs.Common.{All, List, None, [], ap, append-nil, append_assoc, arith, length, refl, subst, suc, sym, zero, ℕ, ◌++◌, ◌<◌, ◌∙◌, ◌∷◌, ◌≡◌}
+use Rattle.std.proofs.Common.{All, List, None, [], ap, append-nil, append_assoc, arith, length, subst, suc, sym, zero, ℕ, ◌++◌, ◌<◌, ◌∙◌, ◌∷◌, ◌≡◌}
 use mathlib.Core.List.{IsPrefix}
 use Rattle.orc_words.specs.Bounds.{Bounds}
 use Rattle.orc_core.specs.Machine.{new_machine}
-use Rattle.orc_core.specs.Runs.{run}
 use Rattle.orc_core.specs.declared.ops.Op.TheVariants.{GateLook}
 use Rattle.orc_core.specs.declared.records.Agent.{Agent}
-use Rattle.orc_sound.specs.Journals.{plain}
 use Rattle.orc_sound.specs.declared.steps.Step.{Step}
 use Rattle.orc_heap.specs.declared.discipline.Discipline as discipline
 use Rattle.orc_projection.proofs.Mirrored.{project-append}
 use Rattle.orc_projection.specs.PresentIds.{no_ids}
-use Rattle.orc_projection.specs.Projection.{ids_from, project, project_from}
+use Rattle.orc_projection.specs.Projection.{project}
 use Rattle.orc_shared_words.specs.declared.machine.Machine as machine
-use Rattle.orc_machine_board.specs.Rules.{does, run_of}
+use Rattle.orc_machine_board.specs.Rules.{does}
 use Rattle.orc_machine_board.specs.declared.machine.MachineShape.{MachineShape}
 use Rattle.orc_machine_board.specs.declared.machine.Reclaiming.{Reclaiming}
 use Rattle.orc_machine_board.specs.declared.machine.Request.{Request}

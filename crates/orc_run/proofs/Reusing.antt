@@ -1,5 +1,5 @@
 -- A lawful journal uses its rows again safely, and leaks none at rest.
-use Rattle.std.proofs.Common.{List, [], refl, subst, sym, true, ℕ, ◌++◌, ◌+◌, ◌∙◌, ◌∷◌, ◌≡◌}
+use Rattle.std.proofs.Common.{List, subst, sym, true, ℕ, ◌++◌, ◌+◌, ◌∷◌, ◌≡◌}
 use Rattle.orc_words.specs.Bounds.{Bounds, IsShape}
 use Rattle.orc_core.specs.Machine.{Machine, answer, is_allowed, new_machine, step}
 use Rattle.orc_core.specs.Runs.{IsLawful, run}

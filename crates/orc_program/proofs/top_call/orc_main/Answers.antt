@@ -5,6 +5,7 @@ use Rattle.orc_options.specs.declared.settings.Mode.TheVariants as mode
 use Rattle.orc_options.specs.Settings.{AskFor, Gives, Refuses}
 use Rattle.orc_options.specs.declared.settings.Settings.{Settings}
 use Rattle.orc_program.specs.Refusals.{words_refused}
+use Rattle.orc_program.proofs.Rows.{of_none, of_status}
 use Rattle.orc_program.proofs.top_call.orc_main.Goals as goal
 
 -- the mode that the words ask for is that of the settings that they give
@@ -169,3 +170,47 @@ pub returns-in-Err-Words-clause-complete_make : goal.returns-in-Err-Words-clause
 returns-in-Err-Words-clause-complete_make g c s gives make none =
     let refuses : Refuses c.args.words.now = search rules in
     absurd (never_both _ s gives refuses)
+
+pub returns-in-Ok-clause-queue_reuse : goal.returns-in-Ok-clause-queue_reuse
+returns-in-Ok-clause-queue_reuse g c =
+    let e = c.run_mode.ensures in
+    (of_status c.in-Ok.settings.mode c.in-Ok.settings _ _ _ _ _ e.statuses e.done e.cut_short e.nothing_ended).queue_reuse
+
+pub returns-in-Err-Words-clause-queue_reuse : goal.returns-in-Err-Words-clause-queue_reuse
+returns-in-Err-Words-clause-queue_reuse g c = (of_none _ c.requires).queue_reuse
+
+pub returns-in-Err-NoMemory-clause-queue_reuse : goal.returns-in-Err-NoMemory-clause-queue_reuse
+returns-in-Err-NoMemory-clause-queue_reuse g c = (of_none _ c.requires).queue_reuse
+
+pub returns-in-Ok-clause-set_reuse : goal.returns-in-Ok-clause-set_reuse
+returns-in-Ok-clause-set_reuse g c =
+    let e = c.run_mode.ensures in
+    (of_status c.in-Ok.settings.mode c.in-Ok.settings _ _ _ _ _ e.statuses e.done e.cut_short e.nothing_ended).set_reuse
+
+pub returns-in-Err-Words-clause-set_reuse : goal.returns-in-Err-Words-clause-set_reuse
+returns-in-Err-Words-clause-set_reuse g c = (of_none _ c.requires).set_reuse
+
+pub returns-in-Err-NoMemory-clause-set_reuse : goal.returns-in-Err-NoMemory-clause-set_reuse
+returns-in-Err-NoMemory-clause-set_reuse g c = (of_none _ c.requires).set_reuse
+
+pub returns-in-Ok-clause-queue_rest : goal.returns-in-Ok-clause-queue_rest
+returns-in-Ok-clause-queue_rest g c =
+    let e = c.run_mode.ensures in
+    (of_status c.in-Ok.settings.mode c.in-Ok.settings _ _ _ _ _ e.statuses e.done e.cut_short e.nothing_ended).queue_rest
+
+pub returns-in-Err-Words-clause-queue_rest : goal.returns-in-Err-Words-clause-queue_rest
+returns-in-Err-Words-clause-queue_rest g c = (of_none _ c.requires).queue_rest
+
+pub returns-in-Err-NoMemory-clause-queue_rest : goal.returns-in-Err-NoMemory-clause-queue_rest
+returns-in-Err-NoMemory-clause-queue_rest g c = (of_none _ c.requires).queue_rest
+
+pub returns-in-Ok-clause-set_rest : goal.returns-in-Ok-clause-set_rest
+returns-in-Ok-clause-set_rest g c =
+    let e = c.run_mode.ensures in
+    (of_status c.in-Ok.settings.mode c.in-Ok.settings _ _ _ _ _ e.statuses e.done e.cut_short e.nothing_ended).set_rest
+
+pub returns-in-Err-Words-clause-set_rest : goal.returns-in-Err-Words-clause-set_rest
+returns-in-Err-Words-clause-set_rest g c = (of_none _ c.requires).set_rest
+
+pub returns-in-Err-NoMemory-clause-set_rest : goal.returns-in-Err-NoMemory-clause-set_rest
+returns-in-Err-NoMemory-clause-set_rest g c = (of_none _ c.requires).set_rest
