@@ -10,6 +10,7 @@ use std::sync::Wait;
 use std::test::Fail;
 use std::thread::Threads;
 
+mod faults;
 mod meeting;
 mod streams;
 mod teams;
