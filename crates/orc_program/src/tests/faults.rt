@@ -160,15 +160,11 @@ fn each_write_of_a_team_fails_in_turn(rt: HostRuntime) -> Result<(), Fail> {
     };
     for call in 0..64 {
         let got = call_with(&rt, alloc, &words, input.as_bytes(), &[], &[call])?;
-        let Ended {
-            queue: Some(_),
-            set: Some(_),
-            replies: Some(replies),
-        } = got.ended
-        else {
+        assert!(&rt; is_whole(&got.ended));
+        let Some(replies) = &got.ended.replies else {
             panic!(&rt; "a run has ended")
         };
-        let text = report_text(alloc, &lines, &replies, None)?;
+        let text = report_text(alloc, &lines, replies, None)?;
         if got.status == 0 {
             assert_eq!(&rt; got.written.as_slice(), text.bytes());
             assert!(&rt; call > 16);
