@@ -1,10 +1,9 @@
-pub mod Words
-pub mod Visible
-pub mod Arguments
-pub mod VisibleWords
-pub mod KindWords
-pub mod Spelled
-pub mod Lines
 pub mod Plays
 pub mod Unique
 pub mod Verdicts
+pub mod Resting
+pub mod Marks
+pub mod Backlogs
+pub mod Watching
+pub mod OneAudit
+pub mod LifeLines

@@ -7,8 +7,9 @@ use Rattle.orc_core.specs.declared.ops.Op.{Op}
 use Rattle.orc_core.specs.Machine.{LeavesRoom, Machine, is_allowed, new_machine, step}
 use Rattle.orc_core.specs.Runs.{run}
 use Rattle.orc_sound.proofs.ForRuns.{room_left}
-use Rattle.orc_trace.specs.Replay.{Begins, HasStepLine}
-use Rattle.orc_trace.specs.TraceText.{IsReadable, line_text, steps_text}
+use Rattle.orc_trace.specs.Replay.{Begins}
+use Rattle.orc_trace_text.specs.FirstLines.{HasStepLine}
+use Rattle.orc_trace_text.specs.TraceText.{IsReadable, line_text, steps_text}
 
 pub Begins-nil : (b : Bounds) (m : Machine) (bytes : List ℕ) → Begins b m [] bytes bytes
 Begins-nil b m bytes = record { text = refl; readable = All-nil (IsReadable b); lawful = tt }

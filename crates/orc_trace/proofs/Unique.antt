@@ -6,13 +6,14 @@ use Rattle.orc_core.specs.Counts.{census_of}
 use Rattle.orc_core.specs.Machine.{Machine, is_allowed, new_machine, step}
 use Rattle.orc_core.specs.Runs.{run}
 use Rattle.orc_trace.specs.declared.answers.Replayed.{Replayed}
-use Rattle.orc_trace.specs.declared.answers.ShapeWord.{ShapeWord}
-use Rattle.orc_trace.specs.declared.answers.ShapeWord.TheVariants as word
+use Rattle.orc_trace_text.specs.declared.shape_line.ShapeWord.{ShapeWord}
+use Rattle.orc_trace_text.specs.declared.shape_line.ShapeWord.TheVariants as word
 use Rattle.orc_trace.specs.declared.answers.TraceFault.{TraceFault}
 use Rattle.orc_trace.specs.declared.answers.TraceFault.TheVariants as fault
-use Rattle.orc_trace.specs.Replay.{Begins, HasShapeLine, HasStepLine, HasTable, IsFirstOut, IsRefused, IsReplay, IsShapeFault, IsUnreadable, Refuses}
-use Rattle.orc_trace.specs.TraceText.{line_text, steps_text}
-use Rattle.orc_trace.proofs.Lines.{shape-unique, step-unique, wide-shape}
+use Rattle.orc_trace.specs.Replay.{Begins, IsRefused, IsReplay, IsUnreadable, Refuses}
+use Rattle.orc_trace_text.specs.FirstLines.{HasShapeLine, HasStepLine, HasTable, IsFirstOut, IsShapeFault}
+use Rattle.orc_trace_text.specs.TraceText.{line_text, steps_text}
+use Rattle.orc_trace_text.proofs.Lines.{shape-unique, step-unique, wide-shape}
 use Rattle.orc_trace.proofs.Plays.{Begins-first}
 
 -- ---- how the steps end
@@ -177,9 +178,15 @@ in_range bytes b front e w h k = elim (shape_fault bytes w k) [
 
 -- ---- one answer
 
+-- the shape and the steps that a trace plays
+pub steps-unique : (bytes : List ℕ) (r q : Replayed) → (h : IsReplay bytes r) → (k : IsReplay bytes q) → (h.0 ≡ k.0) × (h.2 ≡ k.2)
+steps-unique bytes r q h k =
+    let same = one_reached bytes h.0 k.0 h.2 k.2 whole whole (whole_trace bytes r h) (whole_trace bytes q k) in
+    (same.0, same.1)
+
 pub replay-unique : (bytes : List ℕ) (r q : Replayed) → IsReplay bytes r → IsReplay bytes q → r ≡ q
 replay-unique bytes r q h k =
-    let same = one_reached bytes h.0 k.0 h.2 k.2 whole whole (whole_trace bytes r h) (whole_trace bytes q k) in
+    let same = steps-unique bytes r q h k in
     let answer : Bounds → List (ℕ × Op) → Replayed = λ b steps. record { steps = length steps; census = census_of (run (new_machine b) steps) } in
     h.5 ∙ ap₂ answer same.0 same.1 ∙ sym k.5
 

@@ -8,7 +8,7 @@ use Rattle.orc_trace.specs.Replay.{IsReplay, Refuses}
 use Rattle.orc_trace.proofs.Unique.{refusal-unique, replay-not_refused, replay-unique}
 
 -- no memory, or another fault
-memory-or : (f : TraceFault) → (f ≡ fault.NoMemory) ⊎ (f ≢ fault.NoMemory)
+pub memory-or : (f : TraceFault) → (f ≡ fault.NoMemory) ⊎ (f ≢ fault.NoMemory)
 memory-or fault.NoMemory = inl refl
 memory-or (fault.Shape w) = inr (λ e. cc e)
 memory-or (fault.Unreadable n) = inr (λ e. cc e)

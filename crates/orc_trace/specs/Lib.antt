@@ -1,5 +1,5 @@
-pub mod TraceText
-pub mod Reading
-pub mod Asked
 pub mod Replay
 pub mod Answers
+pub mod Rest
+pub mod Audit
+pub mod Watched

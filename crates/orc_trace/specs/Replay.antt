@@ -1,18 +1,16 @@
 -- What the replay of a trace answers: the census of its run, or its first fault. The first line is judged first,
 -- and then each step in order: whether it can be read, and then whether it is allowed where it stands.
-use Rattle.std.specs.Prelude.{◌≡◌, ◌≢◌, ℕ, ◌++◌, List, [], ◌∷◌, All, length, false, ⊤}
-use Rattle.orc_words.specs.declared.shape.ShapeFault.TheVariants as shape
-use Rattle.orc_words.specs.Bounds.{Bounds, IsShape, IsFirstFault}
+use Rattle.std.specs.Prelude.{◌≡◌, ◌≢◌, ℕ, ◌++◌, List, [], All, length, false, ⊤}
+use Rattle.orc_words.specs.Bounds.{Bounds}
 use Rattle.orc_core.specs.declared.ops.Op.{Op}
 use Rattle.orc_core.specs.Counts.{census_of}
 use Rattle.orc_core.specs.Machine.{Machine, is_allowed, new_machine}
 use Rattle.orc_core.specs.Runs.{IsLawful, run}
 use Rattle.orc_trace.specs.declared.answers.Replayed.{Replayed}
-use Rattle.orc_trace.specs.declared.answers.ShapeWord.{ShapeWord}
-use Rattle.orc_trace.specs.declared.answers.ShapeWord.TheVariants as word
 use Rattle.orc_trace.specs.declared.answers.TraceFault.{TraceFault}
 use Rattle.orc_trace.specs.declared.answers.TraceFault.TheVariants as fault
-use Rattle.orc_trace.specs.TraceText.{AreWide, IsReadable, line_text, shape_text, steps_text}
+use Rattle.orc_trace_text.specs.FirstLines.{HasStepLine, HasTable, IsShapeFault}
+use Rattle.orc_trace_text.specs.TraceText.{IsReadable, steps_text}
 
 -- the bytes are the lines of these steps, each readable and allowed where it stands, and then the rest
 pub record Begins (b : Bounds) (m : Machine) (front : List (ℕ × Op)) (rest bytes : List ℕ) : Type 0 where
@@ -20,38 +18,10 @@ pub record Begins (b : Bounds) (m : Machine) (front : List (ℕ × Op)) (rest by
   pub readable : All (IsReadable b) front
   pub lawful : IsLawful m front
 
--- the bytes begin with the line of a shape, its numbers in range or not
-pub record HasShapeLine (b : Bounds) (rest bytes : List ℕ) : Type 0 where
-  pub text : bytes ≡ shape_text b ++ 10 ∷ rest
-  pub wide : AreWide b
-
--- the bytes begin with the line of a step that can be read
-pub record HasStepLine (b : Bounds) (s : ℕ × Op) (rest bytes : List ℕ) : Type 0 where
-  pub text : bytes ≡ line_text s.0 s.1 ++ 10 ∷ rest
-  pub readable : IsReadable b s
-
--- the bytes are the line of a shape in range, and then these lines
-pub record HasTable (b : Bounds) (lines bytes : List ℕ) : Type 0 where
-  pub text : bytes ≡ shape_text b ++ 10 ∷ lines
-  pub shape : IsShape b
-
 -- the bytes are a trace: the number of its steps, and the census of their run
 abbrev pub IsReplay : List ℕ → Replayed → Type 0
 IsReplay bytes r = (b : Bounds) × (lines : List ℕ) × (steps : List (ℕ × Op)) × HasTable b lines bytes × Begins b (new_machine b) steps [] lines
     × (r ≡ record { steps = length steps; census = census_of (run (new_machine b) steps) })
-
--- the first number of a shape that is out of range
-abbrev pub IsFirstOut : Bounds → ShapeWord → Type 0
-IsFirstOut b word.Unreadable = ⊥
-IsFirstOut b word.Rows = IsFirstFault b (shape.Rows b.rows)
-IsFirstOut b word.Roots = IsFirstFault b (shape.Roots b.roots)
-IsFirstOut b word.Agents = IsFirstFault b (shape.Agents b.agents)
-IsFirstOut b word.Limit = IsFirstFault b (shape.Limit b.limit)
-
--- what is amiss with the first line
-abbrev pub IsShapeFault : List ℕ → ShapeWord → Type 0
-IsShapeFault bytes word.Unreadable = (b : Bounds) (rest : List ℕ) → ¬ HasShapeLine b rest bytes
-IsShapeFault bytes w = (b : Bounds) × (rest : List ℕ) × HasShapeLine b rest bytes × IsFirstOut b w
 
 -- what is amiss with the line of a step, on the machine as the steps before it have left it
 abbrev pub IsUnreadable : Bounds → List ℕ → Type 0

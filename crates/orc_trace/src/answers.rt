@@ -5,6 +5,8 @@ ghost use Rattle.orc_trace.specs.declared.answers.TraceFault.TheVariants.{NoMemo
 
 use orc_core::Census;
 use orc_fault::NoMemory;
+use orc_trace_text::ShapeWord;
+use orc_words::Words;
 
 /// A trace that was played to its end.
 #[derive(Clone, Copy, Debug, PartialEq, Eq)]
@@ -14,14 +16,27 @@ pub struct Replayed {
     pub census: Census,
 }
 
-/// What is amiss with the first line: its form, or the first number that is out of range.
+/// What the audit of a trace tells of its run.
+#[derive(Drop)]
+pub struct Audit {
+    pub steps: u64,
+    /// The greatest backlog after any number of steps: the retired rows that are in no work list.
+    pub most: u32,
+    /// The least number of steps after which the backlog was that.
+    pub after: u64,
+    /// The life of each row after the last step, in order of row.
+    pub lives: Words,
+    /// The first leak, if there is one.
+    pub leak: Option<Leak>,
+}
+
+/// A row that is out at rest, and to which no links lead from the roots.
 #[derive(Clone, Copy, Debug, PartialEq, Eq)]
-pub enum ShapeWord {
-    Unreadable,
-    Rows,
-    Roots,
-    Agents,
-    Limit,
+pub struct Leak {
+    /// After how many steps.
+    pub after: u64,
+    /// The least row that leaks then.
+    pub row: u32,
 }
 
 /// The first fault of a trace. Steps are numbered from 0, on the line after the first.

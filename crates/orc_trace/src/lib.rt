@@ -1,18 +1,18 @@
-//! Traces: steps of the machine written down as text, read and played.
+//! Traces: steps of the machine written down as text, played, and audited.
 #![tactic(auto)]
 
 mod answers;
-mod argument;
-mod cut;
-mod kind;
-mod line;
+mod auditing;
+mod leaks;
 mod playing;
-mod shape_line;
 mod text;
+mod waiting;
 
-pub use answers::{Replayed, ShapeWord, TraceFault};
+pub use answers::{Audit, Leak, Replayed, TraceFault};
+pub use auditing::audit;
+pub use orc_trace_text::ShapeWord;
 pub use playing::replay;
-pub use text::{fault_text, replay_text};
+pub use text::{audit_text, fault_text, replay_text};
 
 #[cfg(test)]
 mod tests;

@@ -10,9 +10,8 @@ ghost use Rattle.orc_trace.specs.declared.answers.TraceFault.{TraceFault};
 ghost use Rattle.orc_trace.specs.Replay.{Begins, IsReplay, IsStepFault, Refuses};
 
 use crate::answers::{Replayed, TraceFault};
-use crate::line::first_step;
-use crate::shape_line::read_shape;
 use orc_core::{State, apply, census};
+use orc_trace_text::{first_step, read_shape};
 use orc_words::Shape;
 use std::alloc::Global;
 

@@ -6,6 +6,7 @@ use std::alloc::{AllocError, Global};
 use std::process::Abort;
 use std::test::Fail;
 
+mod audits;
 mod examples;
 
 // Row 0 is linked from root 0 by agent 0: 9 steps.

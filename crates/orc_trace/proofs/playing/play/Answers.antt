@@ -2,7 +2,7 @@ use Rattle.std.proofs.Common.{rules, true, false, ◌≡◌, ◌∙◌, ◌+◌,
 use Rattle.orc_words.specs.Bounds.{bounds_of}
 use Rattle.orc_core.specs.Machine.{Machine, is_allowed, step}
 use Rattle.orc_trace.specs.Replay.{Begins}
-use Rattle.orc_trace.proofs.Lines.{shape-in_range}
+use Rattle.orc_trace_text.proofs.Lines.{shape-in_range}
 use Rattle.orc_trace.proofs.Plays.{Continues, Continues-here, Continues-start, Continues-step, none-left, room-here, some-left, step-shorter}
 use Rattle.orc_trace.proofs.playing.play.Goals as goal
 

@@ -1,0 +1,180 @@
+//! Traces audited: their worst backlog, the lives of their rows, and their first leak.
+
+ghost use Rattle.std.specs.Prelude.{◌≡◌, ◌≢◌, ◌⊎◌, ◌+◌, ◌<◌, ◌^◌, List, None, ℕ, [], IfErr, IfOk, MatchResult, length};
+ghost use Rattle.orc_words.specs.Bounds.{bounds_of};
+ghost use Rattle.orc_core.specs.declared.ops.Op.{Op};
+ghost use Rattle.orc_core.specs.Machine.{new_machine};
+ghost use Rattle.orc_core.specs.Runs.{run};
+ghost use Rattle.orc_trace.specs.declared.answers.Audit.{Audit};
+ghost use Rattle.orc_trace.specs.declared.answers.TraceFault.{TraceFault};
+ghost use Rattle.orc_trace.specs.Audit.{IsAudit, lives_of};
+ghost use Rattle.orc_trace.specs.Replay.{Begins, IsStepFault, Refuses};
+ghost use Rattle.orc_trace.specs.Watched.{LeakOn, Sees, WorseOf, waiting};
+
+use crate::answers::{Audit, Leak, TraceFault};
+use crate::leaks::leak_in;
+use crate::waiting::waiting_of;
+use orc_core::{State, apply};
+use orc_fault::NoMemory;
+use orc_trace_text::{first_step, read_shape};
+use orc_words::{Shape, Word, Words, read_gate};
+use std::alloc::Global;
+
+/// Plays a trace as `replay` does, and tells the worst backlog of its run, the life of each row, and the first row that leaks.
+///
+/// # Errors
+///
+/// The first fault of the trace, as `replay` tells it, or want of memory.
+pub fn audit(alloc: Global, bytes: &[u8]) -> Result<Audit, TraceFault>
+    ensures ok { IfOk result (IsAudit bytes.now) }
+    ensures err { IfErr result (Refuses bytes.now) }
+
+    // A trace is audited, and other bytes are refused for their first fault, unless memory runs out.
+    ensures only { (audit : Audit) → IsAudit bytes.now audit
+        → MatchResult result (λ r. r ≡ audit) (λ e. e ≡ TraceFault.NoMemory) }
+    ensures bad { (why : TraceFault) → why ≢ TraceFault.NoMemory → Refuses bytes.now why
+        → MatchResult result (λ _. ⊥) (λ e. (e ≡ why) ⊎ (e ≡ TraceFault.NoMemory)) }
+{
+    audit_trace(alloc, bytes)
+}
+
+// The same, without that each other answer is wrong.
+fn audit_trace(alloc: Global, bytes: &[u8]) -> Result<Audit, TraceFault>
+    ensures ok { IfOk result (IsAudit bytes.now) }
+    ensures err { IfErr result (Refuses bytes.now) }
+{
+    let (shape, lines) = match read_shape(bytes) {
+        Ok(found) => found,
+        Err(word) => return Err(TraceFault::Shape(word)),
+    };
+    let mut state = State::new(alloc, &shape)?;
+    let mut marks = new_marks(alloc, &shape)?;
+    let seen = watch(&shape, &mut state, lines, &mut marks)?;
+    let lives = lives_of(alloc, &state)?;
+    Ok(Audit {
+        steps: seen.steps,
+        most: seen.most,
+        after: seen.after,
+        lives,
+        leak: seen.leak,
+    })
+}
+
+// A mark for each row.
+fn new_marks(alloc: Global, shape: &Shape) -> Result<Vec<bool>, NoMemory>
+    ensures { IfOk result (λ marks. length marks.items ≡ (bounds_of shape.now).rows) }
+{
+    Ok(vec![in alloc; false; shape.rows() as usize]?)
+}
+
+// What was seen of the steps so far.
+#[derive(Clone, Copy)]
+struct Seen {
+    steps: u64,
+    most: u32,
+    after: u64,
+    leak: Option<Leak>,
+}
+
+// Makes the steps of these lines on a new table, and looks at each state from the first on.
+fn watch(
+    shape: &Shape,
+    state: &mut State,
+    lines: &[u8],
+    marks: &mut [bool],
+) -> Result<Seen, TraceFault>
+    requires new { state.old ≡ new_machine (bounds_of shape.now) }
+    requires marks { length marks.old ≡ (bounds_of shape.now).rows }
+    ensures ok { IfOk result (λ seen. (steps : List (ℕ × Op)) × Begins (bounds_of shape.now) state.old steps [] lines.now
+        × Sees (bounds_of shape.now) steps seen × (state.new ≡ run state.old steps)) }
+    ensures err { IfErr result (IsStepFault (bounds_of shape.now) state.old lines.now) }
+{
+    let mut rest = lines;
+    let mut seen = first_look(state, marks);
+    while !rest.is_empty() {
+        let Some((agent, op, more)) = first_step(shape, rest) else {
+            return Err(TraceFault::Unreadable(seen.steps));
+        };
+        if apply(state, agent, &op).is_err() {
+            return Err(TraceFault::NotAllowed(seen.steps));
+        }
+        rest = more;
+        seen = look(state, marks, seen);
+    }
+    Ok(seen)
+}
+
+// What is seen of the first state.
+fn first_look(state: &State, marks: &mut [bool]) -> Seen
+    requires { length marks.old ≡ state.now.bounds.rows }
+    ensures length { length marks.new ≡ length marks.old }
+    ensures steps { result.steps ≡ 0 }
+    ensures most { result.most ≡ waiting state.now }
+    ensures after { result.after ≡ 0 }
+    ensures leak { LeakOn state.now 0 None result.leak }
+{
+    Seen {
+        steps: 0,
+        most: waiting_of(state),
+        after: 0,
+        leak: first_leak(state, marks, None, 0),
+    }
+}
+
+// What has been seen with this state, which one more step left.
+fn look(state: &State, marks: &mut [bool], seen: Seen) -> Seen
+    requires marks { length marks.old ≡ state.now.bounds.rows }
+    requires few { seen.steps + 1 < 2 ^ 64 }
+    ensures length { length marks.new ≡ length marks.old }
+    ensures steps { result.steps ≡ seen.steps + 1 }
+    ensures worst { WorseOf (waiting state.now) (seen.steps + 1) seen.most seen.after result.most result.after }
+    ensures leak { LeakOn state.now (seen.steps + 1) seen.leak result.leak }
+{
+    let steps = seen.steps + 1;
+    let (most, after) = worse_of(waiting_of(state), steps, seen.most, seen.after);
+    let leak = first_leak(state, marks, seen.leak, steps);
+    Seen {
+        steps,
+        most,
+        after,
+        leak,
+    }
+}
+
+// The worse of a backlog after so many steps and the worst before; the worst before where they are equal.
+fn worse_of(backlog: u32, steps: u64, most: u32, after: u64) -> (u32, u64)
+    ensures { WorseOf backlog steps most after result.0 result.1 }
+{
+    if backlog > most {
+        (backlog, steps)
+    } else {
+        (most, after)
+    }
+}
+
+// The first leak before; where there was none, that of this state, after so many steps.
+fn first_leak(state: &State, marks: &mut [bool], before: Option<Leak>, steps: u64) -> Option<Leak>
+    requires { length marks.old ≡ state.now.bounds.rows }
+    ensures length { length marks.new ≡ length marks.old }
+    ensures leak { LeakOn state.now steps before result }
+{
+    if before.is_some() {
+        return before;
+    }
+    match leak_in(state, marks) {
+        None => None,
+        Some(row) => Some(Leak { after: steps, row }),
+    }
+}
+
+// The life of each row, in order.
+fn lives_of(alloc: Global, state: &State) -> Result<Words, NoMemory>
+    ensures { IfOk result (λ lives. lives ≡ lives_of state.now) }
+{
+    let mut lives = Words::new(alloc);
+    for row in 0..state.shape().rows() {
+        let gate = read_gate(state.word(Word::Gate(row)));
+        lives.push(gate.life)?;
+    }
+    Ok(lives)
+}

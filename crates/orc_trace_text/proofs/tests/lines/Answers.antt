@@ -1,0 +1,35 @@
+use Rattle.std.proofs.Common.{ap, arith, length, refl}
+use Rattle.std.specs.Fmt.{digits}
+use Rattle.orc_trace_text.proofs.tests.lines.Goals as goal
+
+pub returns-clause-root : goal.returns-clause-root
+unfolding digits
+returns-clause-root c = refl
+
+pub returns-clause-row : goal.returns-clause-row
+unfolding digits
+returns-clause-row c = refl
+
+pub returns-clause-marked : goal.returns-clause-marked
+unfolding digits
+returns-clause-marked c = refl
+
+pub returns-clause-publish : goal.returns-clause-publish
+unfolding digits
+returns-clause-publish c = refl
+
+pub returns-clause-cas : goal.returns-clause-cas
+unfolding digits
+returns-clause-cas c = refl
+
+pub returns-clause-shape : goal.returns-clause-shape
+unfolding digits
+returns-clause-shape c = refl
+
+pub returns-clause-trace : goal.returns-clause-trace
+unfolding digits
+returns-clause-trace c = refl
+
+pub returns-clause-not_marked : goal.returns-clause-not_marked
+unfolding digits
+returns-clause-not_marked c e = let size = ap length e in omega (arith, size)

@@ -1,0 +1,4 @@
+pub mod TraceText
+pub mod Reading
+pub mod Asked
+pub mod FirstLines

@@ -1,0 +1,184 @@
+//! The line of a step.
+
+ghost use Rattle.std.specs.Prelude.{◌≡◌, ◌≢◌, ℕ, List, IfNone, IfSome};
+ghost use Rattle.std.specs.Option.{option_copied};
+ghost use Rattle.orc_words.specs.Bounds.{bounds_of};
+ghost use Rattle.orc_core.specs.declared.ops.Op.{Op};
+ghost use Rattle.orc_trace_text.specs.Reading.{Spells, words_left};
+ghost use Rattle.orc_trace_text.specs.FirstLines.{HasStepLine};
+ghost use Rattle.orc_trace_text.specs.TraceText.{IsReadable, line_text};
+
+use crate::argument::{number_below, one_number, read_link, read_place, two_numbers};
+use crate::cut::{cut, first_word, three_words, two_words};
+use crate::kind::{Kind, kind_of};
+use orc_core::{CounterUse, Op};
+use orc_decimal::number_of;
+use orc_words::Shape;
+
+// A row, 0 or 1, and a value.
+fn read_fill(shape: &Shape, left: Option<&[u8]>) -> Option<Op>
+    ensures some { IfSome result (Spells (bounds_of shape.now) Kind.Fill (words_left (option_copied left.entry))) }
+    ensures none { IfNone result ((op : Op) → ¬ Spells (bounds_of shape.now) Kind.Fill (words_left (option_copied left.entry)) op) }
+{
+    let (row, which, value) = three_words(left)?;
+    let row = number_below(row, shape.rows())?;
+    let which = number_below(which, 2)?;
+    let value = number_of(value)?;
+    Some(Op::Fill { row, which, value })
+}
+
+// A place, and a slot or none.
+fn read_load(shape: &Shape, left: Option<&[u8]>) -> Option<Op>
+    ensures some { IfSome result (Spells (bounds_of shape.now) Kind.Load (words_left (option_copied left.entry))) }
+    ensures none { IfNone result ((op : Op) → ¬ Spells (bounds_of shape.now) Kind.Load (words_left (option_copied left.entry)) op) }
+{
+    let (place, left) = first_word(left)?;
+    let place = read_place(shape, place)?;
+    if left.is_none() {
+        return Some(Op::LinkLoad { place, slot: None });
+    }
+    let slot = one_number(left, 8)?;
+    Some(Op::LinkLoad {
+        place,
+        slot: Some(slot),
+    })
+}
+
+// A place and two links.
+fn read_cas(shape: &Shape, left: Option<&[u8]>) -> Option<Op>
+    ensures some { IfSome result (Spells (bounds_of shape.now) Kind.Cas (words_left (option_copied left.entry))) }
+    ensures none { IfNone result ((op : Op) → ¬ Spells (bounds_of shape.now) Kind.Cas (words_left (option_copied left.entry)) op) }
+{
+    let (place, from, to) = three_words(left)?;
+    let place = read_place(shape, place)?;
+    let from = read_link(shape, from)?;
+    let to = read_link(shape, to)?;
+    Some(Op::LinkCas { place, from, to })
+}
+
+// A row and a link.
+fn read_store(shape: &Shape, left: Option<&[u8]>) -> Option<Op>
+    ensures some { IfSome result (Spells (bounds_of shape.now) Kind.Store (words_left (option_copied left.entry))) }
+    ensures none { IfNone result ((op : Op) → ¬ Spells (bounds_of shape.now) Kind.Store (words_left (option_copied left.entry)) op) }
+{
+    let (row, link) = two_words(left)?;
+    let row = number_below(row, shape.rows())?;
+    let link = read_link(shape, link)?;
+    Some(Op::LinkStore { row, link })
+}
+
+// A row and a sequence.
+fn read_set(shape: &Shape, left: Option<&[u8]>) -> Option<Op>
+    ensures some { IfSome result (Spells (bounds_of shape.now) Kind.Set (words_left (option_copied left.entry))) }
+    ensures none { IfNone result ((op : Op) → ¬ Spells (bounds_of shape.now) Kind.Set (words_left (option_copied left.entry)) op) }
+{
+    let (row, sequence) = two_words(left)?;
+    let row = number_below(row, shape.rows())?;
+    let sequence = number_of(sequence)?;
+    Some(Op::SetRetired { row, sequence })
+}
+
+// A row, and 0 or 1.
+fn read_value(shape: &Shape, left: Option<&[u8]>) -> Option<Op>
+    ensures some { IfSome result (Spells (bounds_of shape.now) Kind.Read (words_left (option_copied left.entry))) }
+    ensures none { IfNone result ((op : Op) → ¬ Spells (bounds_of shape.now) Kind.Read (words_left (option_copied left.entry)) op) }
+{
+    let (row, which) = two_numbers(left, shape.rows(), 2)?;
+    Some(Op::Read { row, which })
+}
+
+// A slot and a row.
+fn read_publish(shape: &Shape, left: Option<&[u8]>) -> Option<Op>
+    ensures some { IfSome result (Spells (bounds_of shape.now) Kind.Publish (words_left (option_copied left.entry))) }
+    ensures none { IfNone result ((op : Op) → ¬ Spells (bounds_of shape.now) Kind.Publish (words_left (option_copied left.entry)) op) }
+{
+    let (slot, row) = two_numbers(left, 8, shape.rows())?;
+    Some(Op::Publish { slot, row })
+}
+
+// The op of a kind, by the words that are left behind its own.
+fn op_of(shape: &Shape, kind: Kind, left: Option<&[u8]>) -> Option<Op>
+    ensures some { IfSome result (Spells (bounds_of shape.now) kind (words_left (option_copied left.entry))) }
+    ensures none { IfNone result ((op : Op) → ¬ Spells (bounds_of shape.now) kind (words_left (option_copied left.entry)) op) }
+{
+    match kind {
+        Kind::Enroll if left.is_none() => Some(Op::Enroll),
+        Kind::Enroll => None,
+        Kind::Look => Some(Op::GateLook {
+            row: one_number(left, shape.rows())?,
+        }),
+        Kind::Take => Some(Op::GateTake {
+            row: one_number(left, shape.rows())?,
+        }),
+        Kind::Fill => read_fill(shape, left),
+        Kind::Read => read_value(shape, left),
+        Kind::Load => read_load(shape, left),
+        Kind::Publish => read_publish(shape, left),
+        Kind::Clear => Some(Op::Clear {
+            slot: one_number(left, 8)?,
+        }),
+        Kind::Arm => Some(Op::Arm {
+            row: one_number(left, shape.rows())?,
+        }),
+        Kind::Cas => read_cas(shape, left),
+        Kind::Store => read_store(shape, left),
+        Kind::Inc => Some(Op::Inc {
+            row: one_number(left, shape.rows())?,
+        }),
+        Kind::Dec => Some(Op::Dec {
+            row: one_number(left, shape.rows())?,
+        }),
+        Kind::Set => read_set(shape, left),
+        Kind::Count => Some(Op::CounterLoad {
+            row: one_number(left, shape.rows())?,
+            how: CounterUse::Check,
+        }),
+        Kind::Start => Some(Op::CounterLoad {
+            row: one_number(left, shape.rows())?,
+            how: CounterUse::Start,
+        }),
+        Kind::End => Some(Op::CounterLoad {
+            row: one_number(left, shape.rows())?,
+            how: CounterUse::End,
+        }),
+        Kind::Unretire => Some(Op::Unretire {
+            row: one_number(left, shape.rows())?,
+        }),
+        Kind::Slot => Some(Op::SlotLook {
+            k: one_number(left, 8 * shape.agents())?,
+        }),
+        Kind::Hand => Some(Op::Hand {
+            k: one_number(left, 8 * shape.agents())?,
+        }),
+        Kind::TakeIn => Some(Op::TakeIn {
+            slot: one_number(left, 8)?,
+        }),
+        Kind::Free => Some(Op::Free {
+            row: one_number(left, shape.rows())?,
+        }),
+    }
+}
+
+// The agent and the op that a line spells.
+fn step_of(shape: &Shape, line: &[u8]) -> Option<(u32, Op)>
+    ensures some { IfSome result (λ step. IsReadable (bounds_of shape.now) step × (line.now ≡ line_text step.0 step.1)) }
+    ensures none { IfNone result ((step : ℕ × Op) → IsReadable (bounds_of shape.now) step → line.now ≢ line_text step.0 step.1) }
+{
+    let (agent, left) = cut(line, b' ');
+    let agent = number_below(agent, shape.agents())?;
+    let (word, left) = first_word(left)?;
+    let kind = kind_of(word)?;
+    let op = op_of(shape, kind, left)?;
+    Some((agent, op))
+}
+
+/// The agent and the op of the first of these lines, and the lines behind it.
+pub fn first_step<'a>(shape: &Shape, lines: &'a [u8]) -> Option<(u32, Op, &'a [u8])>
+    ensures some { IfSome result (λ found. HasStepLine (bounds_of shape.now) (found.0, found.1) found.2.now lines.now) }
+    ensures none { IfNone result ((step : ℕ × Op) (rest : List ℕ) → ¬ HasStepLine (bounds_of shape.now) step rest lines.now) }
+{
+    let (line, rest) = cut(lines, b'\n');
+    let rest = rest?;
+    let (agent, op) = step_of(shape, line)?;
+    Some((agent, op, rest))
+}

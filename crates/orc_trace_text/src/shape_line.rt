@@ -1,0 +1,98 @@
+//! The first line of a trace.
+
+ghost use Rattle.std.specs.Prelude.{◌≡◌, ◌≢◌, IfNone, IfSome, IfOk, IfErr, min};
+ghost use Rattle.orc_words.specs.Bounds.{Bounds, IsShape, bounds_of};
+ghost use Rattle.orc_trace_text.specs.Asked.{bounds_asked};
+ghost use Rattle.orc_trace_text.specs.FirstLines.{HasTable, IsFirstOut, IsShapeFault};
+ghost use Rattle.orc_trace_text.specs.TraceText.{AreWide, shape_text};
+
+use crate::cut::{cut, first_word, two_words};
+use crate::kind::is_word;
+use orc_decimal::number_of;
+use orc_words::{Shape, ShapeFault};
+
+/// What is amiss with the first line: its form, or the first number that is out of range.
+#[derive(Clone, Copy, Debug, PartialEq, Eq)]
+pub enum ShapeWord {
+    Unreadable,
+    Rows,
+    Roots,
+    Agents,
+    Limit,
+}
+
+// The numbers of a first line, in range or not.
+#[derive(Clone, Copy)]
+struct Asked {
+    rows: u64,
+    roots: u64,
+    agents: u64,
+    limit: u64,
+}
+
+// The numbers that a first line spells.
+fn numbers_of(line: &[u8]) -> Option<Asked>
+    ensures some { IfSome result (λ asked. AreWide (bounds_asked asked) × (line.now ≡ shape_text (bounds_asked asked))) }
+    ensures none { IfNone result ((b : Bounds) → AreWide b → line.now ≢ shape_text b) }
+{
+    let (word, left) = cut(line, b' ');
+    if !is_word(word, b"shape") {
+        return None;
+    }
+    let (rows, left) = first_word(left)?;
+    let (roots, left) = first_word(left)?;
+    let (agents, limit) = two_words(left)?;
+    let rows = number_of(rows)?;
+    let roots = number_of(roots)?;
+    let agents = number_of(agents)?;
+    let limit = number_of(limit)?;
+    Some(Asked {
+        rows,
+        roots,
+        agents,
+        limit,
+    })
+}
+
+// The number, or the greatest of 32 bits, which is out of every range too.
+fn narrow(number: u64) -> u32
+    ensures { result ≡ min number u32.MAX }
+{
+    match u32::try_from(number) {
+        Ok(number) => number,
+        Err(_) => u32::MAX,
+    }
+}
+
+// The shape of these numbers, or the first that is out of range.
+fn shape_of(asked: &Asked) -> Result<Shape, ShapeWord>
+    ensures ok { IfOk result (λ shape. (bounds_of shape ≡ bounds_asked asked.now) × IsShape (bounds_asked asked.now)) }
+    ensures err { IfErr result (IsFirstOut (bounds_asked asked.now)) }
+{
+    let rows = narrow(asked.rows);
+    let roots = narrow(asked.roots);
+    let agents = narrow(asked.agents);
+    match Shape::new(rows, roots, agents, asked.limit) {
+        Ok(shape) => Ok(shape),
+        Err(ShapeFault::Rows(_)) => Err(ShapeWord::Rows),
+        Err(ShapeFault::Roots(_)) => Err(ShapeWord::Roots),
+        Err(ShapeFault::Agents(_)) => Err(ShapeWord::Agents),
+        Err(ShapeFault::Limit(_)) => Err(ShapeWord::Limit),
+    }
+}
+
+/// The shape of the first line, and the lines behind it; or what is amiss with the first line.
+pub fn read_shape(bytes: &[u8]) -> Result<(Shape, &[u8]), ShapeWord>
+    ensures ok { IfOk result (λ found. HasTable (bounds_of found.0) found.1.now bytes.now) }
+    ensures err { IfErr result (IsShapeFault bytes.now) }
+{
+    let (line, rest) = cut(bytes, b'\n');
+    let Some(lines) = rest else {
+        return Err(ShapeWord::Unreadable);
+    };
+    let Some(asked) = numbers_of(line) else {
+        return Err(ShapeWord::Unreadable);
+    };
+    let shape = shape_of(&asked)?;
+    Ok((shape, lines))
+}

@@ -1,0 +1,100 @@
+//! Worked examples of the definitions, computed by hand and proved, and a trace that is read line by line.
+
+ghost use Rattle.std.specs.Prelude.{◌≡◌, ◌≢◌, ◌∷◌, [], Some, None, true, false, codes};
+ghost use Rattle.orc_core.specs.declared.ops.Op.{Op};
+ghost use Rattle.orc_core.specs.declared.ops.CounterUse.{CounterUse};
+ghost use Rattle.orc_words.specs.declared.place.Word.{Word};
+ghost use Rattle.orc_trace_text.specs.FirstLines.{IsFirstOut};
+ghost use Rattle.orc_trace_text.specs.Reading.{Cuts, words_in, words_left};
+ghost use Rattle.orc_trace_text.specs.TraceText.{IsReadable, line_text, place_text, link_text, shape_text, trace_text};
+
+use super::*;
+use orc_core::{CounterUse, Op};
+use orc_words::{RowLink, Word};
+use std::process::Abort;
+use std::test::Fail;
+
+// Agent 1 publishes row 0 in its slot 2; agent 0 links row 1, marked, from row 0.
+fn lines()
+    ensures root { place_text (Word.Root 3) ≡ codes "r3" }
+    ensures row { place_text (Word.Next 3) ≡ codes "n3" }
+    ensures no_place { place_text (Word.Gate 3) ≡ [] }
+    ensures marked { link_text (record { to = Some 2; mark = true }) ≡ codes "2m" }
+    ensures null { link_text (record { to = None; mark = false }) ≡ codes "-" }
+    ensures not_marked { link_text (record { to = Some 2; mark = false }) ≢ codes "2m" }
+    ensures publish { line_text 1 (Op.Publish 2 0) ≡ codes "1 publish 2 0" }
+    ensures cas { line_text 0 (Op.LinkCas (Word.Next 0) (record { to = None; mark = false }) (record { to = Some 1; mark = true })) ≡ codes "0 cas n0 - 1m" }
+    ensures shape { shape_text (record { rows = 2; roots = 1; agents = 3; limit = 8 }) ≡ codes "shape 2 1 3 8" }
+    ensures trace { trace_text (record { rows = 2; roots = 1; agents = 1; limit = 8 }) ((0, Op.Enroll) ∷ (0, Op.CounterLoad 0 CounterUse.Start) ∷ []) ≡ codes "shape 2 1 1 8\n0 enroll\n0 start 0\n" }
+{}
+
+// Two agents have sixteen scan places and eight slots each.
+fn ranges()
+    ensures last_slot { IsReadable (record { rows = 2; roots = 1; agents = 2; limit = 8 }) (1, Op.Clear 7) }
+    ensures ninth_slot { ¬ IsReadable (record { rows = 2; roots = 1; agents = 2; limit = 8 }) (1, Op.Clear 8) }
+    ensures third_agent { ¬ IsReadable (record { rows = 2; roots = 1; agents = 2; limit = 8 }) (2, Op.Clear 7) }
+    ensures last_scan_place { IsReadable (record { rows = 2; roots = 1; agents = 2; limit = 8 }) (0, Op.Hand 15) }
+    ensures past_the_end { ¬ IsReadable (record { rows = 2; roots = 1; agents = 2; limit = 8 }) (0, Op.Hand 16) }
+    ensures no_link { ¬ IsReadable (record { rows = 2; roots = 1; agents = 2; limit = 8 }) (0, Op.LinkLoad (Word.Gate 0) None) }
+    ensures first_out { IsFirstOut (record { rows = 2; roots = 0; agents = 17; limit = 8 }) ShapeWord.Roots }
+    ensures not_first { ¬ IsFirstOut (record { rows = 2; roots = 0; agents = 17; limit = 8 }) ShapeWord.Agents }
+{}
+
+// What a reader sees of a line.
+fn words()
+    ensures cut { Cuts 32 (codes "0 look 1") (codes "0") (Some (codes "look 1")) }
+    ensures not_cut_later { ¬ Cuts 32 (codes "0 look 1") (codes "0 look") (Some (codes "1")) }
+    ensures two { words_in (codes "look 1") ≡ codes "look" ∷ codes "1" ∷ [] }
+    ensures empty { words_in (codes "look ") ≡ codes "look" ∷ [] ∷ [] }
+    ensures none { words_left None ≡ [] }
+{}
+
+#[test]
+fn a_trace_is_read_line_by_line(rt: HostRuntime) -> Result<(), Fail> {
+    let text = "shape 2 1 3 8\n0 enroll\n2 load n1 7\n1 cas r0 - 1m\n1 end 0\n";
+    let Ok((shape, lines)) = read_shape(text.as_bytes()) else {
+        return Err(Fail);
+    };
+    assert_eq!(rt; shape.agents(), 3);
+    let mut rest = lines;
+    for (agent, want) in [
+        (0, Op::Enroll),
+        (
+            2,
+            Op::LinkLoad {
+                place: Word::Next(1),
+                slot: Some(7),
+            },
+        ),
+        (
+            1,
+            Op::LinkCas {
+                place: Word::Root(0),
+                from: RowLink {
+                    to: None,
+                    mark: false,
+                },
+                to: RowLink {
+                    to: Some(1),
+                    mark: true,
+                },
+            },
+        ),
+        (
+            1,
+            Op::CounterLoad {
+                row: 0,
+                how: CounterUse::End,
+            },
+        ),
+    ] {
+        let Some((by, op, more)) = first_step(&shape, rest) else {
+            return Err(Fail);
+        };
+        assert_eq!(rt; by, agent);
+        assert_eq!(rt; op, want);
+        rest = more;
+    }
+    assert_eq!(rt; rest.len(), 0);
+    Ok(())
+}
