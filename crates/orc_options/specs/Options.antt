@@ -43,6 +43,6 @@ command_app modes answers =
 pub record IsCommand (a : App) : Type 0 where
   pub modes : Bor (List (Bor Text))
   pub answers : Bor (List (Bor Text))
-  pub mode_words : map (λ n. n.now) modes.now ≡ codes "run" ∷ codes "make" ∷ codes "trial" ∷ codes "replay" ∷ []
+  pub mode_words : map (λ n. n.now) modes.now ≡ codes "run" ∷ codes "make" ∷ codes "trial" ∷ codes "replay" ∷ codes "audit" ∷ []
   pub answer_words : map (λ n. n.now) answers.now ≡ codes "yes" ∷ codes "no" ∷ []
   pub app : a ≡ command_app modes answers

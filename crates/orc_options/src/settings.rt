@@ -23,6 +23,8 @@ pub enum Mode {
     Trial,
     /// Play a trace of the machine, and write what it leaves.
     Replay,
+    /// Play a trace of the machine, and write the worst backlog, the lives of its rows and the first leak.
+    Audit,
 }
 
 /// What the options say.
@@ -80,6 +82,7 @@ fn mode_of(word: Option<&str>) -> Mode
         Some("make") => Mode::Make,
         Some("trial") => Mode::Trial,
         Some("replay") => Mode::Replay,
+        Some("audit") => Mode::Audit,
         _ => Mode::Run,
     }
 }

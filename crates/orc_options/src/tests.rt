@@ -28,7 +28,7 @@ const DEFAULTS: Settings = Settings {
 
 #[test]
 fn words_give_settings(rt: HostRuntime) -> Result<(), Fail> {
-    let given: [(&[&str], Settings); 13] = [
+    let given: [(&[&str], Settings); 14] = [
         (
             &["--mode=make", "--seed=4294967295", "--lines", "60000"],
             Settings {
@@ -50,6 +50,13 @@ fn words_give_settings(rt: HostRuntime) -> Result<(), Fail> {
             &["--mode", "replay"],
             Settings {
                 mode: Mode::Replay,
+                ..DEFAULTS
+            },
+        ),
+        (
+            &["--mode=audit"],
+            Settings {
+                mode: Mode::Audit,
                 ..DEFAULTS
             },
         ),

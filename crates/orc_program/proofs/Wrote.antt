@@ -8,7 +8,7 @@ use Rattle.orc_options.specs.declared.settings.Settings.{Settings}
 use Rattle.orc_run.specs.declared.run.Finished.{Finished}
 use Rattle.orc_program.specs.Ended.{HasReported, IsNew, Keeps}
 use Rattle.orc_program.specs.Refusals.{IsRefusal, NamesFault, input_limit, input_too_large}
-use Rattle.orc_program.specs.Outcomes.{ModeWrites, Reads, TellsReplay}
+use Rattle.orc_program.specs.Outcomes.{ModeWrites, Reads, TellsAudit, TellsReplay}
 use Rattle.orc_program.proofs.Inputs.{where-told}
 
 -- where the bytes are told, they are these
@@ -48,6 +48,7 @@ ModeWrites-told mode.Run settings left bytes ended text told (inl h) = inl (HasR
 ModeWrites-told mode.Make settings left bytes ended text told (inl h) = inl h
 ModeWrites-told mode.Trial settings left bytes ended text told (inl h) = inl h
 ModeWrites-told mode.Replay settings left bytes ended text told (inl (new, tells)) = inl (new, of-told left bytes (λ b. TellsReplay b text) told tells)
+ModeWrites-told mode.Audit settings left bytes ended text told (inl (new, tells)) = inl (new, of-told left bytes (λ b. TellsAudit b text) told tells)
 ModeWrites-told m settings left bytes ended text told (inr (reads, new, refuses)) =
     inr (reads, new, of-told left bytes (λ b. IsRefusal m b text) told refuses)
 
@@ -57,11 +58,18 @@ pub replay_writes : (settings : Settings) (bytes : List ℕ) (ended : Ended) (te
 replay_writes settings bytes ended text new (inl tells) = inl (new, tells)
 replay_writes settings bytes ended text new (inr names) = inr (tt, new, inr names)
 
+-- what an audit was to write of these bytes
+pub audit_writes : (settings : Settings) (bytes : List ℕ) (ended : Ended) (text : List ℕ) → IsNew ended → TellsAudit bytes text ⊎ NamesFault bytes text
+    → ModeWrites mode.Audit settings (Some bytes) ended text
+audit_writes settings bytes ended text new (inl tells) = inl (new, tells)
+audit_writes settings bytes ended text new (inr names) = inr (tt, new, inr names)
+
 pub reads : (m : Mode) → (m ≢ mode.Make) × (m ≢ mode.Trial) → Reads m
 reads mode.Run other = tt
 reads mode.Make other = absurd (other.0 refl)
 reads mode.Trial other = absurd (other.1 refl)
 reads mode.Replay other = tt
+reads mode.Audit other = tt
 
 -- bytes past the limit are refused in each mode that reads
 pub refuses_size : (m : Mode) (bytes : List ℕ) → Reads m → input_limit < length bytes → IsRefusal m bytes input_too_large
@@ -69,3 +77,4 @@ refuses_size mode.Run bytes reads h = inl (inl h, refl)
 refuses_size mode.Make bytes reads h = absurd reads
 refuses_size mode.Trial bytes reads h = absurd reads
 refuses_size mode.Replay bytes reads h = inl (h, refl)
+refuses_size mode.Audit bytes reads h = inl (h, refl)

@@ -40,6 +40,7 @@ IsTooLarge mode.Run bytes = (input_limit < length bytes) ⊎ Refuses bytes fault
 IsTooLarge mode.Make bytes = ⊥
 IsTooLarge mode.Trial bytes = ⊥
 IsTooLarge mode.Replay bytes = input_limit < length bytes
+IsTooLarge mode.Audit bytes = input_limit < length bytes
 
 -- the text names the first record of the bytes that is outside the grammar, and its cause
 pub record NamesRecord (bytes text : List ℕ) : Type 0 where
@@ -63,3 +64,4 @@ IsRefusal mode.Run bytes text = (IsTooLarge mode.Run bytes × (text ≡ input_to
 IsRefusal mode.Make bytes text = ⊥
 IsRefusal mode.Trial bytes text = ⊥
 IsRefusal mode.Replay bytes text = (IsTooLarge mode.Replay bytes × (text ≡ input_too_large)) ⊎ NamesFault bytes text
+IsRefusal mode.Audit bytes text = (IsTooLarge mode.Audit bytes × (text ≡ input_too_large)) ⊎ NamesFault bytes text

@@ -3,6 +3,7 @@
 #![tactic(auto)]
 
 mod answer;
+mod audit_mode;
 mod ended;
 mod jobs_mode;
 mod make_mode;

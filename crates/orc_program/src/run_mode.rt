@@ -6,10 +6,12 @@ ghost use Rattle.orc_feed.specs.Whole.{AppendsPrefix, TakesAtMost};
 ghost use Rattle.orc_jobs.specs.JobGrammar.{IsFileOf, Refuses};
 ghost use Rattle.orc_jobs.specs.declared.cause.Cause.{Cause};
 ghost use Rattle.orc_jobs.specs.declared.line.Line.{Line};
+ghost use Rattle.orc_trace.specs.declared.answers.Audit.{Audit};
 ghost use Rattle.orc_trace.specs.declared.answers.Replayed.{Replayed};
 ghost use Rattle.orc_trace.specs.declared.answers.TraceFault.{TraceFault};
+ghost use Rattle.orc_trace.specs.Audit.{IsAudit};
 ghost use Rattle.orc_trace.specs.Replay.{IsReplay, Refuses as RefusesTrace};
-ghost use Rattle.orc_trace.specs.Answers.{fault_line, replay_line};
+ghost use Rattle.orc_trace.specs.Answers.{audit_lines, fault_line, replay_line};
 ghost use Rattle.orc_options.specs.Settings.{AreInRange};
 ghost use Rattle.orc_options.specs.declared.settings.Mode.{Mode};
 ghost use Rattle.orc_program.specs.Ended.{IsNew};
@@ -17,6 +19,7 @@ ghost use Rattle.orc_program.specs.Refusals.{IsTooLarge, NamesFault, NamesRecord
 ghost use Rattle.orc_program.specs.Outcomes.{ModeWrites, Tells, made_text};
 
 use crate::Ended;
+use crate::audit_mode::tell_audit;
 use crate::jobs_mode::run_jobs;
 use crate::make_mode::write_generated;
 use crate::trace_mode::play_trace;
@@ -65,7 +68,7 @@ pub(crate) fn run_mode<R: Threads + Wait + Sync, S: Source, K: Sink, G: Gate + S
     ensures large { result ≡ 6 → IfSome (S.left source.old) (IsTooLarge settings.mode)
         × Appends (K.written sink.old) (K.written sink.new) input_too_large }
     ensures memory { result ≡ 7 → Keeps (K.written sink.old) (K.written sink.new) }
-    ensures refused { result ≡ 8 → (settings.mode ≡ Mode.Replay) × ((text : List ℕ) × IfSome (S.left source.old) (λ bytes. NamesFault bytes text)
+    ensures refused { result ≡ 8 → ((settings.mode ≡ Mode.Replay) ⊎ (settings.mode ≡ Mode.Audit)) × ((text : List ℕ) × IfSome (S.left source.old) (λ bytes. NamesFault bytes text)
         × Appends (K.written sink.old) (K.written sink.new) text) }
     ensures nothing_ended { result ≢ 0 → result ≢ 5 → IsNew ended.new }
     ensures malformed_comes { (bytes : List ℕ) (place : ℕ) (why : Cause) → S.left source.old ≡ Some bytes → settings.mode ≡ Mode.Run
@@ -73,7 +76,8 @@ pub(crate) fn run_mode<R: Threads + Wait + Sync, S: Source, K: Sink, G: Gate + S
         → ((result ≡ 3) × Appends (K.written sink.old) (K.written sink.new) (malformed_line place why)) ⊎ (result ≡ 4) ⊎ (result ≡ 5) ⊎ (result ≡ 7) }
     ensures large_comes { (bytes : List ℕ) → S.left source.old ≡ Some bytes → IsTooLarge settings.mode bytes
         → (result ≡ 6) ⊎ (result ≡ 4) ⊎ (result ≡ 5) ⊎ (result ≡ 7) }
-    ensures refused_comes { (bytes : List ℕ) (why : TraceFault) → S.left source.old ≡ Some bytes → settings.mode ≡ Mode.Replay
+    ensures refused_comes { (bytes : List ℕ) (why : TraceFault) → S.left source.old ≡ Some bytes
+        → (settings.mode ≡ Mode.Replay) ⊎ (settings.mode ≡ Mode.Audit)
         → length bytes ≤ input_limit → why ≢ TraceFault.NoMemory → RefusesTrace bytes why
         → ((result ≡ 8) × Appends (K.written sink.old) (K.written sink.new) (fault_line why)) ⊎ (result ≡ 4) ⊎ (result ≡ 5) ⊎ (result ≡ 7) }
     ensures complete { (bytes : List ℕ) (lines : List Line) → S.left source.old ≡ Some bytes → settings.mode ≡ Mode.Run
@@ -84,6 +88,10 @@ pub(crate) fn run_mode<R: Threads + Wait + Sync, S: Source, K: Sink, G: Gate + S
         → length bytes ≤ input_limit → IsReplay bytes played
         → ¬ Rose (S.faults source.old) (S.faults source.new) → ¬ Rose (K.faults sink.old) (K.faults sink.new)
         → ((result ≡ 0) × Appends (K.written sink.old) (K.written sink.new) (replay_line played)) ⊎ (result ≡ 7) }
+    ensures complete_audit { (bytes : List ℕ) (audit : Audit) → S.left source.old ≡ Some bytes → settings.mode ≡ Mode.Audit
+        → length bytes ≤ input_limit → IsAudit bytes audit
+        → ¬ Rose (S.faults source.old) (S.faults source.new) → ¬ Rose (K.faults sink.old) (K.faults sink.new)
+        → ((result ≡ 0) × Appends (K.written sink.old) (K.written sink.new) (audit_lines audit)) ⊎ (result ≡ 7) }
     ensures made { (settings.mode ≡ Mode.Make) ⊎ (settings.mode ≡ Mode.Trial) → (result ≡ 0) ⊎ (result ≡ 5) ⊎ (result ≡ 7) }
     ensures complete_make { settings.mode ≡ Mode.Make → ¬ Rose (K.faults sink.old) (K.faults sink.new)
         → ((result ≡ 0) × Appends (K.written sink.old) (K.written sink.new) (made_text settings)) ⊎ (result ≡ 7) }
@@ -96,7 +104,7 @@ pub(crate) fn run_mode<R: Threads + Wait + Sync, S: Source, K: Sink, G: Gate + S
     }
 }
 
-// Reads the input, and runs its jobs or plays its trace. The order is: reading, size, grammar, the run, writing.
+// Reads the input, and runs its jobs, or plays or audits its trace. The order is: reading, size, grammar, the run, writing.
 fn read_mode<R: Threads + Wait + Sync, S: Source, K: Sink, G: Gate + Sync>(
     rt: &R,
     alloc: Global,
@@ -126,7 +134,7 @@ fn read_mode<R: Threads + Wait + Sync, S: Source, K: Sink, G: Gate + Sync>(
     ensures large { result ≡ 6 → IfSome (S.left source.old) (IsTooLarge settings.mode)
         × Appends (K.written sink.old) (K.written sink.new) input_too_large }
     ensures memory { result ≡ 7 → Keeps (K.written sink.old) (K.written sink.new) }
-    ensures refused { result ≡ 8 → (settings.mode ≡ Mode.Replay) × ((text : List ℕ) × IfSome (S.left source.old) (λ bytes. NamesFault bytes text)
+    ensures refused { result ≡ 8 → ((settings.mode ≡ Mode.Replay) ⊎ (settings.mode ≡ Mode.Audit)) × ((text : List ℕ) × IfSome (S.left source.old) (λ bytes. NamesFault bytes text)
         × Appends (K.written sink.old) (K.written sink.new) text) }
     ensures nothing_ended { result ≢ 0 → result ≢ 5 → IsNew ended.new }
     ensures malformed_comes { (bytes : List ℕ) (place : ℕ) (why : Cause) → S.left source.old ≡ Some bytes → settings.mode ≡ Mode.Run
@@ -134,7 +142,8 @@ fn read_mode<R: Threads + Wait + Sync, S: Source, K: Sink, G: Gate + Sync>(
         → ((result ≡ 3) × Appends (K.written sink.old) (K.written sink.new) (malformed_line place why)) ⊎ (result ≡ 4) ⊎ (result ≡ 5) ⊎ (result ≡ 7) }
     ensures large_comes { (bytes : List ℕ) → S.left source.old ≡ Some bytes → IsTooLarge settings.mode bytes
         → (result ≡ 6) ⊎ (result ≡ 4) ⊎ (result ≡ 5) ⊎ (result ≡ 7) }
-    ensures refused_comes { (bytes : List ℕ) (why : TraceFault) → S.left source.old ≡ Some bytes → settings.mode ≡ Mode.Replay
+    ensures refused_comes { (bytes : List ℕ) (why : TraceFault) → S.left source.old ≡ Some bytes
+        → (settings.mode ≡ Mode.Replay) ⊎ (settings.mode ≡ Mode.Audit)
         → length bytes ≤ input_limit → why ≢ TraceFault.NoMemory → RefusesTrace bytes why
         → ((result ≡ 8) × Appends (K.written sink.old) (K.written sink.new) (fault_line why)) ⊎ (result ≡ 4) ⊎ (result ≡ 5) ⊎ (result ≡ 7) }
     ensures complete { (bytes : List ℕ) (lines : List Line) → S.left source.old ≡ Some bytes → settings.mode ≡ Mode.Run
@@ -145,6 +154,10 @@ fn read_mode<R: Threads + Wait + Sync, S: Source, K: Sink, G: Gate + Sync>(
         → length bytes ≤ input_limit → IsReplay bytes played
         → ¬ Rose (S.faults source.old) (S.faults source.new) → ¬ Rose (K.faults sink.old) (K.faults sink.new)
         → ((result ≡ 0) × Appends (K.written sink.old) (K.written sink.new) (replay_line played)) ⊎ (result ≡ 7) }
+    ensures complete_audit { (bytes : List ℕ) (audit : Audit) → S.left source.old ≡ Some bytes → settings.mode ≡ Mode.Audit
+        → length bytes ≤ input_limit → IsAudit bytes audit
+        → ¬ Rose (S.faults source.old) (S.faults source.new) → ¬ Rose (K.faults sink.old) (K.faults sink.new)
+        → ((result ≡ 0) × Appends (K.written sink.old) (K.written sink.new) (audit_lines audit)) ⊎ (result ≡ 7) }
 {
     let bytes = match read_all(alloc, source, INPUT_LIMIT) {
         Ok(bytes) => bytes,
@@ -157,6 +170,7 @@ fn read_mode<R: Threads + Wait + Sync, S: Source, K: Sink, G: Gate + Sync>(
     match settings.mode {
         Mode::Run => run_jobs(rt, alloc, settings, bytes.as_slice(), sink, gate, ended),
         Mode::Replay => play_trace(alloc, bytes.as_slice(), sink),
+        Mode::Audit => tell_audit(alloc, bytes.as_slice(), sink),
         Mode::Make | Mode::Trial => unreachable!(),
     }
 }

@@ -6,10 +6,12 @@ ghost use Rattle.orc_feed.specs.Whole.{AppendsPrefix, TakesAtMost};
 ghost use Rattle.orc_jobs.specs.JobGrammar.{IsFileOf, Refuses};
 ghost use Rattle.orc_jobs.specs.declared.cause.Cause.{Cause};
 ghost use Rattle.orc_jobs.specs.declared.line.Line.{Line};
+ghost use Rattle.orc_trace.specs.declared.answers.Audit.{Audit};
 ghost use Rattle.orc_trace.specs.declared.answers.Replayed.{Replayed};
 ghost use Rattle.orc_trace.specs.declared.answers.TraceFault.{TraceFault};
+ghost use Rattle.orc_trace.specs.Audit.{IsAudit};
 ghost use Rattle.orc_trace.specs.Replay.{IsReplay, Refuses as RefusesTrace};
-ghost use Rattle.orc_trace.specs.Answers.{fault_line, replay_line};
+ghost use Rattle.orc_trace.specs.Answers.{audit_lines, fault_line, replay_line};
 ghost use Rattle.orc_options.specs.Settings.{AskFor, Gives, Refuses as RefusesWords};
 ghost use Rattle.orc_options.specs.declared.settings.Mode.{Mode};
 ghost use Rattle.orc_options.specs.declared.settings.Settings.{Settings};
@@ -31,12 +33,13 @@ use std::thread::Threads;
 
 /// In mode run, reads a job file, works through it with posters and takers on threads and writes the report; in mode trial, reads
 /// nothing, works through generated lines in the same way and writes the summary; in mode make, reads nothing and writes the
-/// generated lines as a job file; in mode replay, reads a trace, plays it and writes what it leaves; or writes why not. The words
-/// are read by `clap`, as `settings_of` says.
+/// generated lines as a job file; in mode replay, reads a trace, plays it and writes what it leaves; in mode audit, reads a
+/// trace and writes its worst backlog, the lives of its rows and its first leak; or writes why not. The words are read by `clap`, as
+/// `settings_of` says.
 ///
 /// | Status | Comes | Written |
 /// |---|---|---|
-/// | 0 | done | the report, the summary, the job file, or the line of the census |
+/// | 0 | done | the report, the summary, the job file, the line of the census, or the lines of the audit |
 /// | 2 | `clap` refuses the words for another cause than want of memory; help and a version count as refused | `words refused` |
 /// | 3 | a record is outside the grammar | `line N: CAUSE` |
 /// | 4 | a read failed | nothing |
@@ -92,7 +95,7 @@ pub fn orc_main<R: Threads + Wait + Sync, S: Source, K: Sink, G: Gate + Sync>(
     ensures large { result ≡ 6 → (mode : Mode) × AskFor words.now mode × IfSome (S.left source.old) (IsTooLarge mode)
         × Appends (K.written sink.old) (K.written sink.new) input_too_large }
     ensures memory { result ≡ 7 → Keeps (K.written sink.old) (K.written sink.new) }
-    ensures refused { result ≡ 8 → AskFor words.now Mode.Replay × ((text : List ℕ) × IfSome (S.left source.old) (λ bytes. NamesFault bytes text)
+    ensures refused { result ≡ 8 → (AskFor words.now Mode.Replay ⊎ AskFor words.now Mode.Audit) × ((text : List ℕ) × IfSome (S.left source.old) (λ bytes. NamesFault bytes text)
         × Appends (K.written sink.old) (K.written sink.new) text) }
     ensures nothing_ended { result ≢ 0 → result ≢ 5 → IsNew ended.new }
 
@@ -103,7 +106,7 @@ pub fn orc_main<R: Threads + Wait + Sync, S: Source, K: Sink, G: Gate + Sync>(
         → ((result ≡ 3) × Appends (K.written sink.old) (K.written sink.new) (malformed_line place why)) ⊎ (result ≡ 4) ⊎ (result ≡ 5) ⊎ (result ≡ 7) }
     ensures large_comes { (mode : Mode) (bytes : List ℕ) → S.left source.old ≡ Some bytes → AskFor words.now mode → IsTooLarge mode bytes
         → (result ≡ 6) ⊎ (result ≡ 4) ⊎ (result ≡ 5) ⊎ (result ≡ 7) }
-    ensures refused_comes { (bytes : List ℕ) (why : TraceFault) → S.left source.old ≡ Some bytes → AskFor words.now Mode.Replay
+    ensures refused_comes { (bytes : List ℕ) (why : TraceFault) → S.left source.old ≡ Some bytes → AskFor words.now Mode.Replay ⊎ AskFor words.now Mode.Audit
         → length bytes ≤ input_limit → why ≢ TraceFault.NoMemory → RefusesTrace bytes why
         → ((result ≡ 8) × Appends (K.written sink.old) (K.written sink.new) (fault_line why)) ⊎ (result ≡ 4) ⊎ (result ≡ 5) ⊎ (result ≡ 7) }
     ensures complete { (bytes : List ℕ) (lines : List Line) → S.left source.old ≡ Some bytes → AskFor words.now Mode.Run
@@ -118,6 +121,10 @@ pub fn orc_main<R: Threads + Wait + Sync, S: Source, K: Sink, G: Gate + Sync>(
         → length bytes ≤ input_limit → IsReplay bytes played
         → ¬ Rose (S.faults source.old) (S.faults source.new) → ¬ Rose (K.faults sink.old) (K.faults sink.new)
         → ((result ≡ 0) × Appends (K.written sink.old) (K.written sink.new) (replay_line played)) ⊎ (result ≡ 7) }
+    ensures complete_audit { (bytes : List ℕ) (audit : Audit) → S.left source.old ≡ Some bytes → AskFor words.now Mode.Audit
+        → length bytes ≤ input_limit → IsAudit bytes audit
+        → ¬ Rose (S.faults source.old) (S.faults source.new) → ¬ Rose (K.faults sink.old) (K.faults sink.new)
+        → ((result ≡ 0) × Appends (K.written sink.old) (K.written sink.new) (audit_lines audit)) ⊎ (result ≡ 7) }
 {
     match settings_of(alloc, words) {
         Ok(settings) => run_mode(rt, alloc, settings, source, sink, gate, ended),

@@ -3,7 +3,7 @@ use Rattle.orc_options.specs.declared.settings.Mode.TheVariants as mode
 use Rattle.orc_program.specs.Outcomes.{ModeWrites, Tells}
 use Rattle.orc_program.specs.Refusals.{input_too_large}
 use Rattle.orc_program.proofs.Inputs.{where-told}
-use Rattle.orc_program.proofs.Wrote.{HasReported-told, ModeWrites-told, Told, reads, refuses_size, replay_writes}
+use Rattle.orc_program.proofs.Wrote.{HasReported-told, ModeWrites-told, Told, audit_writes, reads, refuses_size, replay_writes}
 use Rattle.orc_program.proofs.run_mode.read_mode.Goals as goal
 
 pub returns-then-len-gt-INPUT_LIMIT-clause-cut_short : goal.returns-then-len-gt-INPUT_LIMIT-clause-cut_short
@@ -67,6 +67,31 @@ returns-in-Replay-clause-refused_comes g c bytes why told replay few other bad =
     let short : length c.in-Ok.bytes.items ≤ 16777216 = search rules in
     let read : bytes ≡ c.as_slice-in-Replay.result.now = sym ((c.in-Ok.ensures.whole bytes told).all short).0 ∙ sym c.as_slice-in-Replay.ensures.value in
     elim (c.play_trace.ensures.refused_comes why other (rw read at bad)) [
+      | inl said ↦ inl said
+      | inr (inl cut) ↦ inr (inr (inl cut))
+      | inr (inr none) ↦ inr (inr (inr none))
+    ]
+
+pub returns-then-len-gt-INPUT_LIMIT-clause-complete_audit : goal.returns-then-len-gt-INPUT_LIMIT-clause-complete_audit
+returns-then-len-gt-INPUT_LIMIT-clause-complete_audit g c bytes audit told asks few is =
+    let long : 16777216 < length c.in-Ok.bytes.items = search rules in
+    let more = (c.in-Ok.ensures.whole bytes told).more long in
+    absurd (omega (arith, more, few))
+
+pub returns-in-Audit-clause-cut_short : goal.returns-in-Audit-clause-cut_short
+returns-in-Audit-clause-cut_short g c five =
+    let short : length c.in-Ok.bytes.items ≤ 16777216 = search rules in
+    let told : Told (g.S.Source.left c.args.source.now) c.as_slice-in-Audit.result.now =
+    λ bytes e. sym ((c.in-Ok.ensures.whole bytes e).all short).0 ∙ sym c.as_slice-in-Audit.ensures.value in
+    let (text, writes, written) = c.tell_audit.ensures.cut_short five in
+    let tells = ModeWrites-told mode.Audit c.args.settings _ _ _ text told (audit_writes c.args.settings _ _ text c.requires.new writes) in
+    (text, rw c.in-Audit.is tells, written)
+
+pub returns-in-Audit-clause-refused_comes : goal.returns-in-Audit-clause-refused_comes
+returns-in-Audit-clause-refused_comes g c bytes why told replay few other bad =
+    let short : length c.in-Ok.bytes.items ≤ 16777216 = search rules in
+    let read : bytes ≡ c.as_slice-in-Audit.result.now = sym ((c.in-Ok.ensures.whole bytes told).all short).0 ∙ sym c.as_slice-in-Audit.ensures.value in
+    elim (c.tell_audit.ensures.refused_comes why other (rw read at bad)) [
       | inl said ↦ inl said
       | inr (inl cut) ↦ inr (inr (inl cut))
       | inr (inr none) ↦ inr (inr (inr none))

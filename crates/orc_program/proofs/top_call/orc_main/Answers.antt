@@ -16,6 +16,10 @@ generates : (words : _) (s : Settings) → Gives words s → AskFor words mode.M
 generates words s gives (inl make) = inl (asked words s mode.Make gives make)
 generates words s gives (inr trial) = inr (asked words s mode.Trial gives trial)
 
+plays : (words : _) (s : Settings) → Gives words s → AskFor words mode.Replay ⊎ AskFor words mode.Audit → (s.mode ≡ mode.Replay) ⊎ (s.mode ≡ mode.Audit)
+plays words s gives (inl replay) = inl (asked words s mode.Replay gives replay)
+plays words s gives (inr audit) = inr (asked words s mode.Audit gives audit)
+
 -- these statuses aren't that of refused words
 not_words : (n : ℕ) → (n ≡ 0) ⊎ (n ≡ 3) ⊎ (n ≡ 4) ⊎ (n ≡ 5) ⊎ (n ≡ 6) ⊎ (n ≡ 7) ⊎ (n ≡ 8) → n ≡ 2 → ⊥
 not_words n (inl is) two = omega (arith, is, two)
@@ -62,8 +66,11 @@ returns-in-Ok-clause-large g c six =
 
 pub returns-in-Ok-clause-refused : goal.returns-in-Ok-clause-refused
 returns-in-Ok-clause-refused g c eight =
-    let (replay, told) = c.run_mode.ensures.refused eight in
-    ((c.in-Ok.settings, c.in-Ok.ensures.gives, replay), told)
+    let (plays, told) = c.run_mode.ensures.refused eight in
+    (elim plays [
+      | inl replay ↦ inl (c.in-Ok.settings, c.in-Ok.ensures.gives, replay)
+      | inr audit ↦ inr (c.in-Ok.settings, c.in-Ok.ensures.gives, audit)
+    ], told)
 
 pub returns-in-Ok-clause-malformed_comes : goal.returns-in-Ok-clause-malformed_comes
 returns-in-Ok-clause-malformed_comes g c bytes place why told asks few bad =
@@ -75,7 +82,7 @@ returns-in-Ok-clause-large_comes g c mode bytes told asks large =
 
 pub returns-in-Ok-clause-refused_comes : goal.returns-in-Ok-clause-refused_comes
 returns-in-Ok-clause-refused_comes g c bytes why told asks few other bad =
-    c.run_mode.ensures.refused_comes bytes why told (asked _ c.in-Ok.settings _ c.in-Ok.ensures.gives asks) few other bad
+    c.run_mode.ensures.refused_comes bytes why told (plays _ c.in-Ok.settings c.in-Ok.ensures.gives asks) few other bad
 
 pub returns-in-Ok-clause-complete : goal.returns-in-Ok-clause-complete
 returns-in-Ok-clause-complete g c bytes lines told asks few file =
@@ -84,6 +91,10 @@ returns-in-Ok-clause-complete g c bytes lines told asks few file =
 pub returns-in-Ok-clause-complete_replay : goal.returns-in-Ok-clause-complete_replay
 returns-in-Ok-clause-complete_replay g c bytes played told asks few is =
     c.run_mode.ensures.complete_replay bytes played told (asked _ c.in-Ok.settings _ c.in-Ok.ensures.gives asks) few is
+
+pub returns-in-Ok-clause-complete_audit : goal.returns-in-Ok-clause-complete_audit
+returns-in-Ok-clause-complete_audit g c bytes audit told asks few is =
+    c.run_mode.ensures.complete_audit bytes audit told (asked _ c.in-Ok.settings _ c.in-Ok.ensures.gives asks) few is
 
 pub returns-in-Err-Words-clause-malformed : goal.returns-in-Err-Words-clause-malformed
 returns-in-Err-Words-clause-malformed g c three =
@@ -109,7 +120,10 @@ returns-in-Err-Words-clause-large_comes g c mode bytes told asks large =
     absurd (never_both _ asks.0 asks.1 refuses)
 
 pub returns-in-Err-Words-clause-refused_comes : goal.returns-in-Err-Words-clause-refused_comes
-returns-in-Err-Words-clause-refused_comes g c bytes why told asks few other bad =
+returns-in-Err-Words-clause-refused_comes g c bytes why told (inl asks) few other bad =
+    let refuses : Refuses c.args.words.now = search rules in
+    absurd (never_both _ asks.0 asks.1 refuses)
+returns-in-Err-Words-clause-refused_comes g c bytes why told (inr asks) few other bad =
     let refuses : Refuses c.args.words.now = search rules in
     absurd (never_both _ asks.0 asks.1 refuses)
 
@@ -120,6 +134,11 @@ returns-in-Err-Words-clause-complete g c bytes lines told asks few file =
 
 pub returns-in-Err-Words-clause-complete_replay : goal.returns-in-Err-Words-clause-complete_replay
 returns-in-Err-Words-clause-complete_replay g c bytes played told asks few is =
+    let refuses : Refuses c.args.words.now = search rules in
+    λ no_read no_write. absurd (never_both _ asks.0 asks.1 refuses)
+
+pub returns-in-Err-Words-clause-complete_audit : goal.returns-in-Err-Words-clause-complete_audit
+returns-in-Err-Words-clause-complete_audit g c bytes audit told asks few is =
     let refuses : Refuses c.args.words.now = search rules in
     λ no_read no_write. absurd (never_both _ asks.0 asks.1 refuses)
 
