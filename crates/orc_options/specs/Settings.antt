@@ -22,8 +22,8 @@ mode_in None = mode.Run
 mode_in (Some text) =
     if bytes_eq text (codes "make") then mode.Make
     else
-      (if bytes_eq text (codes "trial") then mode.Trial
-      else (if bytes_eq text (codes "replay") then mode.Replay else (if bytes_eq text (codes "audit") then mode.Audit else mode.Run)))
+    (if bytes_eq text (codes "trial") then mode.Trial
+    else (if bytes_eq text (codes "replay") then mode.Replay else (if bytes_eq text (codes "audit") then mode.Audit else mode.Run)))
 
 -- whether the option's word is yes
 abbrev pub yes_in : Option Text → Bool

@@ -317,7 +317,8 @@ fn replays(rt: HostRuntime) -> Result<(), Fail> {
 fn audits(rt: HostRuntime) -> Result<(), Fail> {
     let words = words_of(rt.alloc(), &["--mode", "audit"])?;
     let leaks = "steps 18\nretired most 0 after 0\nrow 0 lives 1\nleak after 17 row 0\n";
-    let cycle = "shape 2 1 1 8\n0 enroll\n0 look 0\n0 count 0\n0 take 0\n0 publish 1 0\n0 count 0\n0 cas r0 - 0\n0 inc 0\n0 count 0\n0 cas n0 - 0\n0 inc 0\n0 cas r0 0 -\n0 arm 0\n0 dec 0\n0 clear 0\n0 takein 0\n0 clear 1\n0 takein 1\n";
+    let cycle =
+        "shape 2 1 1 8\n0 enroll\n0 look 0\n0 count 0\n0 take 0\n0 publish 1 0\n0 count 0\n0 cas r0 - 0\n0 inc 0\n0 count 0\n0 cas n0 - 0\n0 inc 0\n0 cas r0 0 -\n0 arm 0\n0 dec 0\n0 clear 0\n0 takein 0\n0 clear 1\n0 takein 1\n";
     let cases: [(&[u8], u8, &[u8]); 4] = [
         (cycle.as_bytes(), 0, leaks.as_bytes()),
         (

@@ -66,11 +66,13 @@ returns-in-Ok-clause-large g c six =
 
 pub returns-in-Ok-clause-refused : goal.returns-in-Ok-clause-refused
 returns-in-Ok-clause-refused g c eight =
-    let (plays, told) = c.run_mode.ensures.refused eight in
-    (elim plays [
-      | inl replay ↦ inl (c.in-Ok.settings, c.in-Ok.ensures.gives, replay)
-      | inr audit ↦ inr (c.in-Ok.settings, c.in-Ok.ensures.gives, audit)
-    ], told)
+    let (plays, told) = c.run_mode.ensures.refused eight in (
+      elim plays [
+        | inl replay ↦ inl (c.in-Ok.settings, c.in-Ok.ensures.gives, replay)
+        | inr audit ↦ inr (c.in-Ok.settings, c.in-Ok.ensures.gives, audit)
+      ],
+      told,
+    )
 
 pub returns-in-Ok-clause-malformed_comes : goal.returns-in-Ok-clause-malformed_comes
 returns-in-Ok-clause-malformed_comes g c bytes place why told asks few bad =
