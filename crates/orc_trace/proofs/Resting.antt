@@ -13,7 +13,7 @@ use Rattle.orc_core.specs.RecordParts.{any_holds}
 use Rattle.orc_core.specs.declared.records.Agent.{Agent}
 use Rattle.orc_core.specs.declared.records.SlotUse.{SlotUse}
 use Rattle.orc_core.specs.declared.records.SlotUse.TheVariants.{Empty, Held, Published}
-use Rattle.orc_trace.specs.Rest.{IsAtRest, IsResting}
+use Rattle.orc_rest.specs.Rest.{IsAtRest, IsResting}
 use Rattle.orc_sound.proofs.Decided.{all_hold, all_there, is_not, not_is}
 use Rattle.orc_sound.proofs.Sums.{sum_member, sum_same, sum_zero}
 use Rattle.orc_trace.specs.Watched.{at_rest, is_held, rests, rests_at}

@@ -8,7 +8,7 @@ use Rattle.orc_core.specs.Counts.{is_root_target, links_to}
 use Rattle.orc_core.specs.Machine.{Machine, new_machine, word_in}
 use Rattle.orc_core.specs.Runs.{run}
 use Rattle.orc_core.specs.declared.ops.Op.{Op}
-use Rattle.orc_trace.specs.Rest.{IsAtRest}
+use Rattle.orc_rest.specs.Rest.{IsAtRest}
 use Rattle.orc_sound.specs.Backlog.{backlog}
 use Rattle.orc_sound.specs.Linked.{IsOut}
 use Rattle.orc_trace.specs.Replay.{Begins}

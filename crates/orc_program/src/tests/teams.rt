@@ -186,7 +186,7 @@ fn a_thousand_posts_are_done_once_each(rt: HostRuntime) -> Result<(), Fail> {
 #[test]
 fn a_thousand_runs_with_drops(rt: HostRuntime) -> Result<(), Fail> {
     let alloc = rt.alloc();
-    let words = team_words(alloc, "4", "3")?;
+    let words = words_of(alloc, &["--posters=4", "--takers=3", "--rows=256"])?;
     let input = mixed(alloc, 50)?;
     for _ in 0..1000 {
         let report = report_of(&rt, alloc, &words, input.as_bytes(), &OpenGate)?;
