@@ -1,6 +1,5 @@
 //! Reads and writes that fail in turn, and input that is cut off.
 
-use super::teams::posts;
 use super::{FIVE_LINES, FIVE_LINES_REPORT, run, words_of};
 use crate::{CommandWords, Ended, orc_main};
 use orc_board::OpenGate;
@@ -13,6 +12,9 @@ use std::process::Abort;
 use std::sync::Wait;
 use std::test::Fail;
 use std::thread::Threads;
+
+const EIGHT_POSTS: &[u8] =
+    b"post,0,bytes,x\npost,1,bytes,x\npost,2,bytes,x\npost,3,bytes,x\npost,4,bytes,x\npost,5,bytes,x\npost,6,bytes,x\npost,7,bytes,x\n";
 
 // A row is handed over, taken in and freed, in 56 steps.
 const HANDED_OVER: [&str; 8] = [
@@ -154,12 +156,11 @@ fn each_write_fails_in_turn(rt: HostRuntime) -> Result<(), Fail> {
 fn each_write_of_a_team_fails_in_turn(rt: HostRuntime) -> Result<(), Fail> {
     let alloc = rt.alloc();
     let words = words_of(alloc, &["--posters=4", "--takers=4", "--rows=64"])?;
-    let input = posts(alloc, 8)?;
-    let Ok(lines) = read_jobs(alloc, input.as_bytes()) else {
+    let Ok(lines) = read_jobs(alloc, EIGHT_POSTS) else {
         panic!(&rt; "a job file")
     };
     for call in 0..64 {
-        let got = call_with(&rt, alloc, &words, input.as_bytes(), &[], &[call])?;
+        let got = call_with(&rt, alloc, &words, EIGHT_POSTS, &[], &[call])?;
         assert!(&rt; is_whole(&got.ended));
         let Some(replies) = &got.ended.replies else {
             panic!(&rt; "a run has ended")
