@@ -49,6 +49,7 @@ of_told mode.Run s left ended text h = of_run h.lines s h.finished ended h.headl
 of_told mode.Make s left ended text h = of_none ended h.0
 of_told mode.Trial s left ended text h = of_run (generated_lines s) s h.finished ended h.run h.kept
 of_told mode.Replay s left ended text h = of_none ended h.0
+of_told mode.Audit s left ended text h = of_none ended h.0
 
 of_written : (m : Mode) (s : Settings) (left : Option (List ℕ)) (ended : Ended) (text : List ℕ) → ModeWrites m s left ended text → RowsAreSafe ended
 of_written m s left ended text (inl h) = of_told m s left ended text h
