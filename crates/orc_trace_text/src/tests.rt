@@ -11,7 +11,6 @@ ghost use Rattle.orc_trace_text.specs.TraceText.{IsReadable, line_text, place_te
 use super::*;
 use orc_core::{CounterUse, Op};
 use orc_words::{RowLink, Word};
-use std::process::Abort;
 use std::test::Fail;
 
 // Agent 1 publishes row 0 in its slot 2; agent 0 links row 1, marked, from row 0.
@@ -53,7 +52,7 @@ fn words()
 fn a_trace_is_read_line_by_line(rt: HostRuntime) -> Result<(), Fail> {
     let text = "shape 2 1 3 8\n0 enroll\n2 load n1 7\n1 cas r0 - 1m\n1 end 0\n";
     let Ok((shape, lines)) = read_shape(text.as_bytes()) else {
-        return Err(Fail);
+        panic!(rt; "a shape line")
     };
     assert_eq!(rt; shape.agents(), 3);
     let mut rest = lines;
@@ -89,7 +88,7 @@ fn a_trace_is_read_line_by_line(rt: HostRuntime) -> Result<(), Fail> {
         ),
     ] {
         let Some((by, op, more)) = first_step(&shape, rest) else {
-            return Err(Fail);
+            panic!(rt; "a step line")
         };
         assert_eq!(rt; by, agent);
         assert_eq!(rt; op, want);
