@@ -11,6 +11,7 @@ use Rattle.orc_core.specs.declared.ops.Op.TheVariants.{Clear, CounterLoad, Enrol
 use Rattle.orc_core.specs.declared.records.Agent.{Agent}
 use Rattle.orc_heap.specs.Heap.{HeapNumbers}
 use Rattle.orc_heap.specs.declared.events.Event.{Event}
+use Rattle.orc_layout.specs.Layout.{index}
 use Rattle.orc_projection.specs.Mirror.{numbers_of}
 use Rattle.orc_projection.specs.Projection.{StoresUnmarked, IsPlainOp, act_of, events_of, present_ids, project}
 use Rattle.orc_machine_board.specs.declared.machine.Request.{Request}
@@ -112,6 +113,7 @@ module _ {N : Type 0} where
     blank = nobody 0;
     born = λ k. newcomer (bounds_in k).rows;
     place = λ k a q d. place (bounds_in k) (action_of a q.op d).word;
+    index = λ k. index (bounds_in k);
     written = λ k a q d. word_after (action_of a q.op d).operation;
     answer = λ k a q d. returned_by (action_of a q.op d).operation;
     after = λ k a q d n. after q.op d n;

@@ -4,9 +4,10 @@ ghost use Rattle.std.specs.Prelude.{◌≡◌};
 
 use orc_core::{Agent, Op, action_of, advance};
 use orc_heap::Seed;
+use orc_layout::index_of;
 use orc_shared_words::{Machine, PlacedOperation};
 use orc_sound::Step;
-use orc_words::{RowLink, Shape, place_of};
+use orc_words::{RowLink, Shape};
 
 /// The sizes of a board, and what it begins with.
 #[derive(Clone, Copy)]
@@ -59,7 +60,7 @@ impl<N: Copy> Machine<N> for Reclaiming {
     ) -> PlacedOperation {
         let action = action_of(agent, &op.op, own);
         PlacedOperation {
-            place: place_of(&shape.shape, action.word),
+            index: index_of(&shape.shape, action.word),
             operation: action.operation,
         }
     }

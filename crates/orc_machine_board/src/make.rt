@@ -5,6 +5,7 @@ ghost use Rattle.orc_core.specs.Runs.{run};
 ghost use Rattle.orc_core.specs.Machine.{new_machine};
 ghost use Rattle.orc_words.specs.Bounds.{Bounds, bounds_of};
 ghost use Rattle.orc_heap.specs.Seeds.{HasRoots, SeedAllowed};
+ghost use Rattle.orc_layout.specs.Layout.{index, lay, room};
 ghost use Rattle.orc_machine_board.specs.Passes.{HasNothing};
 ghost use Rattle.orc_machine_board.specs.Rules.{enrolments, machine_opening, run_of, seeding};
 ghost use Rattle.orc_machine_board.specs.Views.{Belongs, board_bounds, board_seed, shows};
@@ -19,6 +20,7 @@ use crate::machine::{MachineShape, Reclaiming};
 use orc_core::{Agent, CounterUse, Op, State, apply};
 use orc_fault::NoMemory;
 use orc_heap::{Discipline, Seed};
+use orc_layout::laid_words;
 use orc_shared_words::{SharedPass, SharedWords};
 use orc_words::{RowLink, Shape, Word};
 use std::alloc::Global;
@@ -163,18 +165,20 @@ fn plant<N>(state: &mut State, seed: &Seed<N>)
     }
 }
 
-// Runs the opening on the pure machine, and answers the words and the records that it leaves.
+// Runs the opening on the pure machine, and answers the words that it leaves, each at its index, and the records.
 fn opened<N>(
     alloc: Global,
     shape: &Shape,
     seed: &Seed<N>,
 ) -> Result<(Vec<u64>, Vec<Agent>), NoMemory>
     requires { HasRoots (numbers_of (bounds_of shape.now)) seed.now }
-    ensures words { let b = bounds_of shape.now in IfOk result (λ made. made.0.items ≡ (run_of b (machine_opening b.agents seed.now)).words) }
+    ensures words { let b = bounds_of shape.now in IfOk result (λ made. made.0.items ≡ lay (index b) (run_of b (machine_opening b.agents seed.now)).words) }
+    ensures long { IfOk result (λ made. length made.0.items ≡ room (bounds_of shape.now)) }
     ensures agents { let b = bounds_of shape.now in IfOk result (λ made. made.1.items ≡ (run_of b (machine_opening b.agents seed.now)).agents) }
 {
     let mut state = State::new(alloc, shape)?;
     enroll_all(&mut state, shape);
     plant(&mut state, seed);
-    Ok(state.into_parts())
+    let (words, agents) = state.into_parts();
+    Ok((laid_words(alloc, shape, words.as_slice())?, agents))
 }

@@ -8,6 +8,7 @@ ghost use Rattle.orc_machine_board.specs.Rules.{machine_opening, run_of};
 ghost use Rattle.orc_machine_board.specs.Views.{Belongs, board_bounds, board_numbers, board_seed, shows};
 ghost use Rattle.orc_projection.specs.Projection.{StoresUnmarked, project};
 ghost use mathlib.Core.List.{IsPrefix};
+ghost use Rattle.orc_layout.specs.Layout.{index, lay};
 ghost use Rattle.orc_shared_words.specs.Runs.{AgentsBelow};
 ghost use Rattle.orc_sound.specs.Journals.{IsLawfulJournal};
 ghost use Rattle.orc_words.specs.Bounds.{bounds_of};
@@ -93,11 +94,12 @@ impl<D: Discipline> MachineBoard<D> {
         self.words.absorb(&mut into.pass, pass);
     }
 
-    /// Ends the sharing. A pass that took in all others has seen the whole journal: the words are those that it leaves.
+    /// Ends the sharing. A pass that took in all others has seen the whole journal: the words are those that it leaves,
+    /// each at its index.
     pub fn close(self, p: MachineBoardPass<D>) -> LastWords
         requires belongs { Belongs self p }
         requires all { TookInAll (board_bounds self) (shows p) }
-        ensures words { result ≡ (run_of (board_bounds self) (shows p).journal).words }
+        ensures words { result ≡ lay (index (board_bounds self)) (run_of (board_bounds self) (shows p).journal).words }
     {
         let MachineBoard { words } = self;
         let MachineBoardPass { pass } = p;

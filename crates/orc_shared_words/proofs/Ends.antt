@@ -3,6 +3,7 @@ use Rattle.std.proofs.Common.{List, Some, [], append-nil, arith, ap, refl, subst
 use Rattle.atomic_table.specs.Table.{Final, Seen, opening}
 use Rattle.orc_heap.specs.Allowed.{AllAllowed}
 use Rattle.orc_heap.specs.declared.events.Event.{Event}
+use Rattle.orc_layout.specs.Layout.{lay}
 use Rattle.orc_shared_words.specs.declared.journal.View.{View}
 use Rattle.orc_shared_words.specs.Ends.{Opens, OwnsAll, Whole}
 use mathlib.Core.List.{IsPrefix}
@@ -18,7 +19,7 @@ use Rattle.orc_shared_words.proofs.Seats.{at_one, one_number}
 
 module _ {K S Op Rec N : Type 0} (r : Rules K S Op Rec N) (k : K) (holds : List (Event N) → Type 0) (may : List (Event N) → Event N → Type 0) where
   -- the table of new shared words keeps the rule
-  pub opens : (words : List ℕ) → words ≡ r.words k (r.opening k) → Opens r k holds may → Shows r k holds may (opening words [] (first_view r k))
+  pub opens : (words : List ℕ) → words ≡ lay (r.index k) (r.words k (r.opening k)) → Opens r k holds may → Shows r k holds may (opening words [] (first_view r k))
   opens words same o =
       let v : View S Rec = first_view r k in
       let j : List S = r.opening k in
@@ -70,7 +71,7 @@ module _ {K S Op Rec N : Type 0} (r : Rules K S Op Rec N) (k : K) (holds : List 
       (below-tail r.by (r.agents k) v.seen f.seen.0 (subst (AgentsBelow r.by (r.agents k)) (sym f.seen.1) h.below)) quiet in
       let whole : h.journal ≡ v.seen = sym f.seen.1 ∙ (ap (λ l. v.seen ++ l) none ∙ append-nil v.seen) in
       record {
-        words_are = sym fin.2 ∙ (h.words ∙ ap (λ l. r.words k l) whole);
+        words_are = sym fin.2 ∙ (h.words ∙ ap (λ l. lay (r.index k) (r.words k l)) whole);
         lawful = subst (r.lawful k) whole h.lawful;
         opened = subst (IsPrefix (r.opening k)) whole h.opened;
         below = subst (AgentsBelow r.by (r.agents k)) whole h.below;

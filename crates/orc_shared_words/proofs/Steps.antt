@@ -6,6 +6,8 @@ use lib.ListN.{get_elem?}
 use Rattle.atomic_table.specs.Table.{Allows, Me, keeps}
 use Rattle.orc_heap.specs.Allowed.{AllAllowed}
 use Rattle.orc_heap.specs.declared.events.Event.{Event}
+use Rattle.orc_layout.proofs.Laying.{laid_read, laid_write}
+use Rattle.orc_layout.specs.Layout.{lay}
 use Rattle.orc_shared_words.specs.declared.journal.View.{View}
 use Rattle.orc_shared_words.specs.Lists.{Each}
 use Rattle.orc_shared_words.specs.Operations.{returned_by}
@@ -76,7 +78,7 @@ module _ {K S Op Rec N : Type 0} (r : Rules K S Op Rec N) (laws : (k : K) → Ob
   -- the one law of all operations
   does : (slots id : ℕ) (me : Me (Unit {0}) (View S Rec)) (a : ℕ) (op : Op) (said : Option N) → me.0.agent ≡ Some a → r.allowed k a op me.0.own
       → Licensed r k (H k) (Y k) me.0 a op said
-      → Allows (Shows r k (H k) (Y k)) slots id me (r.place k a op me.0.own) (r.written k a op me.0.own)
+      → Allows (Shows r k (H k) (Y k)) slots id me (r.index k (r.place k a op me.0.own)) (r.written k a op me.0.own)
       (λ n. Did r H Y (Some (k, op, said)) me (r.answer k a op me.0.own n))
   does slots id me a op said is can may_be s h _ at fits64 =
       let v : View S Rec = me.0 in
@@ -87,8 +89,9 @@ module _ {K S Op Rec N : Type 0} (r : Rules K S Op Rec N) (laws : (k : K) → Ob
       let e : j ≡ v.seen ++ f.seen.0 = sym f.seen.1 in
       let none : own_of r.by a f.seen.0 ≡ [] = none_behind r.by a j v.seen f.seen o.steps in
       let at_place : ℕ = r.place k a op v.own in
-      let n : ℕ = get_or s.words at_place 0 in
-      let found : n ≡ found_by r k j a op = λ i. get_or (h.words i) (r.place k a op (sym o.mine i)) 0 in
+      let n : ℕ = get_or s.words (r.index k at_place) 0 in
+      let found : n ≡ found_by r k j a op = (λ i. get_or (h.words i) (r.index k (r.place k a op (sym o.mine i))) 0)
+      ∙ laid_read (r.index k) (laws k).layout (r.words k j) (r.place k a op (r.own k j a)) in
       let w : View S Rec = stepped_view j v a op said n in
       let own : r.own k (j ++ t ∷ []) a ≡ r.after k a op v.own n = (laws k).own_next j a op said o.below ∙ λ i. r.after k a op (o.mine i) (sym found i) in
       let met : LaterJournal r k (H k) (Y k) j v a =
@@ -132,7 +135,9 @@ module _ {K S Op Rec N : Type 0} (r : Rules K S Op Rec N) (laws : (k : K) → Ob
               (λ i u ne ei. other_fits r laws k j a op said u (λ b q x. ne (h.apart a i u ei (q ∙ ap Some x) id v at is)) (h.fits i u ei));
           lawful = lawful;
           opened = opened;
-          words = (λ i. set (h.words i) (r.place k a op (sym o.mine i)) (r.written k a op (sym o.mine i) (found i))) ∙ sym ((laws k).words_next j a op said);
+          words = (λ i. set (h.words i) (r.index k (r.place k a op (sym o.mine i))) (r.written k a op (sym o.mine i) (found i)))
+              ∙ laid_write (r.index k) (laws k).layout (r.words k j) (r.place k a op (r.own k j a)) (r.written k a op (r.own k j a) (found_by r k j a op))
+              ∙ ap (lay (r.index k)) (sym ((laws k).words_next j a op said));
           apart = λ c. still_one (λ u. u.agent ≡ Some c) s.views id v w at (λ q. q) (h.apart c);
           each = each;
           kept = kept;
@@ -165,25 +170,25 @@ module _ {K S Op Rec N : Type 0} (r : Rules K S Op Rec N) (laws : (k : K) → Ob
         ),
       )
 
--- the same, where the call picks the step, its place and operation are known, and the table writes what the operation does
+-- the same, where the call picks the step, its index and operation are known, and the table writes what the operation does
 pub makes : {K S Op Rec N : Type 0} (r : Rules K S Op Rec N) (laws : (k : K) → Obeys r k) (k : K) (H : K → List (Event N) → Type 0)
     (Y : K → List (Event N) → Event N → Type 0)
     (law : (past : List (Event N)) (e : Event N) → H k past → Y k past e → H k (past ++ e ∷ [])) (key : K) (slots id : ℕ)
     (me : Me (Unit {0}) (View S Rec)) (a : ℕ) (own : Rec) (op : Op) (said : Option N)
-    (pick : Option (K × Op × Option N)) (place : ℕ) (o known : Operation) (writes : ℕ → ℕ) → word_after known ≡ writes → key ≡ k → pick ≡ Some (k, op, said)
-    → place ≡ r.place k a op own → word_after o ≡ r.written k a op own → returned_by o ≡ r.answer k a op own → o ≡ known
+    (pick : Option (K × Op × Option N)) (index : ℕ) (o known : Operation) (writes : ℕ → ℕ) → word_after known ≡ writes → key ≡ k → pick ≡ Some (k, op, said)
+    → index ≡ r.index k (r.place k a op own) → word_after o ≡ r.written k a op own → returned_by o ≡ r.answer k a op own → o ≡ known
     → (me.0.agent ≡ Some a) × (me.0.own ≡ own) → r.allowed k a op own → Licensed r k (H k) (Y k) me.0 a op said
-    → Allows (Shows r key (H key) (Y key)) slots id me place writes (λ n. Did r H Y pick me (returned_by known n))
-makes {K} {S} {Op} {Rec} {N} r laws k H Y law key slots id me a own op said pick place o known writes after_is same picked place_is written answer is
+    → Allows (Shows r key (H key) (Y key)) slots id me index writes (λ n. Did r H Y pick me (returned_by known n))
+makes {K} {S} {Op} {Rec} {N} r laws k H Y law key slots id me a own op said pick index o known writes after_is same picked index_is written answer is
     named can may_be =
-    let at_own : (place ≡ r.place k a op me.0.own) × (word_after o ≡ r.written k a op me.0.own) × (returned_by o ≡ r.answer k a op me.0.own) =
-    subst (λ z. (place ≡ r.place k a op z) × (word_after o ≡ r.written k a op z) × (returned_by o ≡ r.answer k a op z)) (sym named.1)
-    (place_is, written, answer) in
+    let at_own : (index ≡ r.index k (r.place k a op me.0.own)) × (word_after o ≡ r.written k a op me.0.own) × (returned_by o ≡ r.answer k a op me.0.own) =
+    subst (λ z. (index ≡ r.index k (r.place k a op z)) × (word_after o ≡ r.written k a op z) × (returned_by o ≡ r.answer k a op z)) (sym named.1)
+    (index_is, written, answer) in
     let first = does r laws k H Y law slots id me a op said named.0 (subst (λ z. r.allowed k a op z) (sym named.1) can) may_be in
-    let second : Allows (Shows r k (H k) (Y k)) slots id me place (word_after o) (λ n. Did r H Y (Some (k, op, said)) me (returned_by o n)) =
+    let second : Allows (Shows r k (H k) (Y k)) slots id me index (word_after o) (λ n. Did r H Y (Some (k, op, said)) me (returned_by o n)) =
     subst (λ (z : ℕ × (ℕ → ℕ) × (ℕ → ℕ)). Allows (Shows r k (H k) (Y k)) slots id me z.0 z.1 (λ n. Did r H Y (Some (k, op, said)) me (z.2 n)))
     (λ i. (sym at_own.0 i, sym at_own.1 i, sym at_own.2 i)) first in
-    subst (λ (z : K × Operation × (ℕ → ℕ) × Option (K × Op × Option N)). Allows (Shows r z.0 (H z.0) (Y z.0)) slots id me place z.2
+    subst (λ (z : K × Operation × (ℕ → ℕ) × Option (K × Op × Option N)). Allows (Shows r z.0 (H z.0) (Y z.0)) slots id me index z.2
     (λ n. Did r H Y z.3 me (returned_by z.1 n)))
     (λ i. (sym same i, is i, (ap word_after is ∙ after_is) i, sym picked i)) second
 

@@ -1,6 +1,7 @@
 -- How a journal begins, and which pass has seen all of it.
 use Rattle.orc_heap.specs.Allowed.{AllAllowed}
 use Rattle.orc_heap.specs.declared.events.Event.{Event}
+use Rattle.orc_layout.specs.Layout.{lay}
 use mathlib.Core.List.{IsPrefix}
 use Rattle.orc_shared_words.specs.Runs.{AgentsBelow, Rules}
 use Rattle.orc_shared_words.specs.Views.{Covers}
@@ -24,9 +25,9 @@ module _ {K S Op Rec N : Type 0} (r : Rules K S Op Rec N) (k : K) where
   abbrev pub OwnsAll : View S Rec → Type 0
   OwnsAll v = (b : ℕ) → b < r.agents k → Covers v b
 
-  -- a journal that is the whole one, and the words that it leaves
+  -- a journal that is the whole one, and the words that it leaves, each at the index of its place
   pub record Whole (holds : List (Event N) → Type 0) (may : List (Event N) → Event N → Type 0) (j : List S) (words : List ℕ) : Type 0 where
-    pub words_are : words ≡ r.words k j
+    pub words_are : words ≡ lay (r.index k) (r.words k j)
     pub lawful : r.lawful k j
     pub opened : IsPrefix (r.opening k) j
     pub below : AgentsBelow r.by (r.agents k) j

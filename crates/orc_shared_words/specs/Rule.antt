@@ -2,6 +2,7 @@
 use Rattle.atomic_table.specs.Table.{State}
 use Rattle.orc_heap.specs.Allowed.{AllAllowed}
 use Rattle.orc_heap.specs.declared.events.Event.{Event}
+use Rattle.orc_layout.specs.Layout.{lay}
 use mathlib.Core.List.{IsPrefix}
 use Rattle.orc_shared_words.specs.Lists.{Among}
 use Rattle.orc_shared_words.specs.Runs.{AgentsBelow, Rules}
@@ -73,8 +74,8 @@ module _ {K S Op Rec N : Type 0} (r : Rules K S Op Rec N) (k : K) where
     pub lawful : r.lawful k journal
     -- it begins with the opening
     pub opened : IsPrefix (r.opening k) journal
-    -- the words are those of its run
-    pub words : s.words ≡ r.words k journal
+    -- the words are those of its run, each at the index of its place
+    pub words : s.words ≡ lay (r.index k) (r.words k journal)
     -- no two passes are of one agent
     pub apart : (a : ℕ) → AtMostOne s.views (λ v. v.agent ≡ Some a)
     -- the discipline allows each of its events where it stands

@@ -1,5 +1,6 @@
 -- How a journal runs, as far as shared words need it.
 use Rattle.orc_heap.specs.declared.events.Event.{Event}
+use Rattle.orc_layout.specs.Layout.{IsLayout}
 use Rattle.std.specs.Prelude.{List, Option, [], slice_index, slice_set, ℕ, ◌++◌, ◌<◌, ◌∷◌, ◌≡◌, ◌≢◌}
 
 -- K is the shape, S a step of a journal, Op an operation, Rec an agent's record, N a note
@@ -11,6 +12,8 @@ pub record Rules (K S Op Rec N : Type 0) : Type 1 where
   pub born : K → Rec
   -- of an agent with this record, the place of the operation's word
   pub place : K → ℕ → Op → Rec → ℕ
+  -- the index of a place in the table
+  pub index : K → ℕ → ℕ
   -- of the number found there: the number written, the answer, and the record afterwards
   pub written : K → ℕ → Op → Rec → ℕ → ℕ
   pub answer : K → ℕ → Op → Rec → ℕ → ℕ
@@ -43,6 +46,8 @@ module _ {K S Op Rec N : Type 0} (r : Rules K S Op Rec N) (k : K) where
 
   -- what one more step does
   pub record Obeys : Type 0 where
+    -- the words of the table stand in the order of their places
+    pub layout : IsLayout (r.index k)
     pub by_step : (a : ℕ) (op : Op) (said : Option N) → r.by (r.step a op said) ≡ a
     -- it writes its word
     pub words_next : (j : List S) (a : ℕ) (op : Op) (said : Option N)

@@ -3,7 +3,7 @@ use Rattle.orc_heap.specs.declared.events.Act.TheVariants.{Give}
 use Rattle.orc_heap.specs.declared.events.Event.{Event}
 use Rattle.orc_shared_words.specs.Runs.{Obeys, Rules}
 use Rattle.orc_shared_words.specs.declared.journal.JournalStep.{JournalStep}
-use Rattle.std.proofs.Common.{append-nil, append_assoc, ap, eq-eqb, ne_eqb, refl, sym, ◌∙◌}
+use Rattle.std.proofs.Common.{append-nil, append_assoc, ap, arith, eq-eqb, ne_eqb, refl, sym, ◌∙◌}
 use Rattle.std.specs.Prelude.{Bool, List, None, Option, [], false, if◌then◌else◌, true, ℕ, ◌%◌, ◌++◌, ◌+◌, ◌==◌, ◌^◌, ◌∷◌, ◌≡◌, ◌≢◌}
 
 -- the word after the operation
@@ -45,6 +45,7 @@ module _ {N : Type 0} where
     blank = 0;
     born = λ k. 0;
     place = λ k a op last. 0;
+    index = λ k p. p;
     written = λ k a op last n. ticked op n;
     answer = λ k a op last n. n;
     after = λ k a op last n. n;
@@ -77,6 +78,7 @@ module _ {N : Type 0} where
 
   pub ticks_obey : (k : ℕ) → Obeys tick_rules k
   ticks_obey k = record {
+    layout = record { first = refl; rising = λ p. omega arith };
     by_step = λ a op said. refl;
     words_next = λ j a op said. ap (λ n. n ∷ []) (word_next 0 j record { agent = a; op = op; note = said });
     own_next = λ j a op said lt. last_next a 0 0 j record { agent = a; op = op; note = said } refl;

@@ -29,12 +29,12 @@ impl LastWords {
         LastWords { closed }
     }
 
-    /// The word at a place.
-    pub fn word(&self, place: usize) -> u64
-        requires { place < length self.now }
-        ensures { result ≡ slice_index self.now place }
+    /// The word at an index of the table.
+    pub fn word(&self, index: usize) -> u64
+        requires { index < length self.now }
+        ensures { result ≡ slice_index self.now index }
     {
-        self.closed.word(place)
+        self.closed.word(index)
     }
 }
 

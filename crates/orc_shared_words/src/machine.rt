@@ -48,7 +48,7 @@ pub trait Machine<N> {
     /// The step's operation on the words.
     fn operation(shape: &Self::Shape, agent: u32, op: &Self::Op, own: &Self::Own) -> PlacedOperation
         requires allowed { rules.allowed shape.now agent op.now (shows own.now) }
-        ensures place { result.place ≡ rules.place shape.now agent op.now (shows own.now) }
+        ensures index { result.index ≡ rules.index shape.now (rules.place shape.now agent op.now (shows own.now)) }
         ensures written { word_after result.operation ≡ rules.written shape.now agent op.now (shows own.now) }
         ensures answer { returned_by result.operation ≡ rules.answer shape.now agent op.now (shows own.now) };
 

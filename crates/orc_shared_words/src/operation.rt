@@ -2,9 +2,9 @@
 
 use orc_words::Operation;
 
-/// An atomic operation, and the place of the word on which it works.
+/// An atomic operation, and the index in the table of the word on which it works.
 #[derive(Clone, Copy, Debug, PartialEq, Eq)]
 pub struct PlacedOperation {
-    pub place: usize,
+    pub index: usize,
     pub operation: Operation,
 }

@@ -1,6 +1,7 @@
 //! Shared words, and the passes with which agents step on them.
 
 ghost use Rattle.std.specs.Prelude.{◌≡◌, ◌<◌, ℕ, Some, [], All, IfOk, length};
+ghost use Rattle.orc_layout.specs.Layout.{lay};
 ghost use Rattle.orc_shared_words.specs.Ends.{Opens, OwnsAll, Whole};
 ghost use Rattle.orc_shared_words.specs.Learning.{Confirmed, Learned};
 ghost use Rattle.orc_shared_words.specs.Lists.{EachAt};
@@ -52,7 +53,8 @@ impl<M: Machine<D::Note>, D: Discipline> SharedPass<M, D> {
 }
 
 impl<M: Machine<D::Note>, D: Discipline> SharedWords<M, D> {
-    /// The words after the opening, and one pass for each agent, in order. `owns` are the records of the agents.
+    /// The words after the opening, each at the index of its place, and one pass for each agent, in order. `owns` are the records of
+    /// the agents.
     ///
     /// # Errors
     ///
@@ -63,7 +65,7 @@ impl<M: Machine<D::Note>, D: Discipline> SharedWords<M, D> {
         words: &[u64],
         owns: Vec<M::Own>,
     ) -> Result<(SharedWords<M, D>, Vec<SharedPass<M, D>>), NoMemory>
-        requires words { words.now ≡ M.rules.words shape (M.rules.opening shape) }
+        requires words { words.now ≡ lay (M.rules.index shape) (M.rules.words shape (M.rules.opening shape)) }
         requires some { 0 < length words.now }
         requires agents { (length owns.items ≡ M.rules.agents shape) × (length owns.items < 4294967296) }
         requires owns { EachAt (λ i own. M.shows own ≡ M.rules.own shape (M.rules.opening shape) i) owns.items }
@@ -98,7 +100,7 @@ impl<M: Machine<D::Note>, D: Discipline> SharedWords<M, D> {
         words: &[u64],
         own: M::Own,
     ) -> Result<(SharedWords<M, D>, SharedPass<M, D>), NoMemory>
-        requires words { words.now ≡ M.rules.words shape (M.rules.opening shape) }
+        requires words { words.now ≡ lay (M.rules.index shape) (M.rules.words shape (M.rules.opening shape)) }
         requires some { 0 < length words.now }
         requires own { M.shows own ≡ M.rules.own shape (M.rules.opening shape) 0 }
         requires opening { Opens M.rules shape (D.holds (M.numbers shape)) (D.may (M.numbers shape)) }
@@ -138,7 +140,8 @@ impl<M: Machine<D::Note>, D: Discipline> SharedWords<M, D> {
     #[inline(always)]
     pub fn step(&self, p: &mut SharedPass<M, D>, op: &M::Op, note: &Option<D::Note>) -> u64
         requires table { p.old.seat.table_id ≡ self.now.table.shared.table_id }
-        requires inside { M.rules.place self.now.shape p.old.agent op.now (M.shows p.old.own) < self.now.table.shared.table_id.words }
+        requires inside { M.rules.index self.now.shape (M.rules.place self.now.shape p.old.agent op.now (M.shows p.old.own))
+            < self.now.table.shared.table_id.words }
         requires allowed { M.rules.allowed self.now.shape p.old.agent op.now (M.shows p.old.own) }
         requires licensed { Licensed M.rules self.now.shape (D.holds (M.numbers self.now.shape)) (D.may (M.numbers self.now.shape))
             p.old.seat.me.0 p.old.agent op.now note.now }
@@ -165,7 +168,8 @@ impl<M: Machine<D::Note>, D: Discipline> SharedWords<M, D> {
         requires picked { J.step ≡ Some (self.now.shape, op.now, note.now) }
         requires table { seat.old.table_id ≡ self.now.table.shared.table_id }
         requires agent { (seat.old.me.0.agent ≡ Some agent) × (seat.old.me.0.own ≡ M.shows own.now) }
-        requires inside { M.rules.place self.now.shape agent op.now (M.shows own.now) < self.now.table.shared.table_id.words }
+        requires inside { M.rules.index self.now.shape (M.rules.place self.now.shape agent op.now (M.shows own.now))
+            < self.now.table.shared.table_id.words }
         requires allowed { M.rules.allowed self.now.shape agent op.now (M.shows own.now) }
         requires licensed { Licensed M.rules self.now.shape (D.holds (M.numbers self.now.shape)) (D.may (M.numbers self.now.shape))
             seat.old.me.0 agent op.now note.now }
@@ -175,18 +179,18 @@ impl<M: Machine<D::Note>, D: Discipline> SharedWords<M, D> {
         ensures slots { seat.new.me.1 ≡ seat.old.me.1 }
     {
         let shared = &self.table.shared;
-        let PlacedOperation { place, operation } = M::operation(&self.shape, agent, op, own);
+        let PlacedOperation { index, operation } = M::operation(&self.shape, agent, op, own);
         match operation {
-            Operation::Load => shared.load::<Does<M, D, J>>(seat, place),
+            Operation::Load => shared.load::<Does<M, D, J>>(seat, index),
             Operation::Store(value) => {
-                shared.store::<Does<M, D, J>>(seat, place, value);
+                shared.store::<Does<M, D, J>>(seat, index, value);
                 value
             }
-            Operation::Swap(value) => shared.swap::<Does<M, D, J>>(seat, place, value),
-            Operation::Add(value) => shared.fetch_add::<Does<M, D, J>>(seat, place, value),
-            Operation::Sub(value) => shared.fetch_sub::<Does<M, D, J>>(seat, place, value),
+            Operation::Swap(value) => shared.swap::<Does<M, D, J>>(seat, index, value),
+            Operation::Add(value) => shared.fetch_add::<Does<M, D, J>>(seat, index, value),
+            Operation::Sub(value) => shared.fetch_sub::<Does<M, D, J>>(seat, index, value),
             Operation::CompareExchange(wanted, value) => {
-                shared.compare_exchange::<Does<M, D, J>>(seat, place, wanted, value)
+                shared.compare_exchange::<Does<M, D, J>>(seat, index, wanted, value)
             }
         }
     }

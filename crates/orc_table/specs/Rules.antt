@@ -5,6 +5,8 @@ use Rattle.orc_words.specs.Bounds.{Bounds, bounds_of}
 use Rattle.orc_words.specs.Places.{place}
 use Rattle.orc_words.specs.declared.place.Word.TheVariants as word
 use Rattle.orc_heap.specs.Heap.{HeapNumbers}
+use Rattle.orc_layout.proofs.Indices.{index_is_layout}
+use Rattle.orc_layout.specs.Layout.{index}
 use Rattle.orc_shared_words.specs.Runs.{Obeys, Rules}
 use Rattle.orc_table.specs.Machine.{State, Allowed, AllowedFrom, answer, events_at, next, numbers, project, project_from, run, run_from, start, unmarked, word_of, written}
 use Rattle.orc_table.specs.declared.machine.PlainOp.{PlainOp}
@@ -39,6 +41,7 @@ module _ {N : Type 0} where
     blank = tt;
     born = λ k. tt;
     place = λ k a op o. place (bounds_of k.shape) (word_of op);
+    index = λ k. index (bounds_of k.shape);
     written = λ k a op o n. written op n;
     answer = λ k a op o n. answer op n;
     after = λ k a op o n. o;
@@ -71,6 +74,7 @@ module _ {N : Type 0} where
   -- one more step does what the machine's tables say
   pub plain_obeys : (k : PlainShape N) → Obeys plain_rules k
   plain_obeys k = record {
+    layout = index_is_layout (bounds_of k.shape);
     by_step = λ a op said. refl;
     words_next = λ j a op said. ap (λ x. x.words) (steps-append (bounds_of k.shape) (start (bounds_of k.shape)) j (step_of a op said ∷ []));
     own_next = λ j a op said l. refl;

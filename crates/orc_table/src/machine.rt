@@ -4,8 +4,9 @@ ghost use Rattle.std.specs.Prelude.{◌≡◌};
 ghost use Rattle.orc_table.specs.Machine.{value_word, word_of};
 
 use crate::shape::PlainShape;
+use orc_layout::index_of;
 use orc_shared_words::{Machine, PlacedOperation};
-use orc_words::{Operation, RowLink, Word, pack_link, place_of};
+use orc_words::{Operation, RowLink, Word, pack_link};
 
 /// An operation of one agent on one word.
 #[derive(Clone, Copy, Debug, PartialEq, Eq)]
@@ -119,7 +120,7 @@ impl<N: Copy> Machine<N> for Plain {
     ghost obeys = { plain_obeys };
 
     fn operation(shape: &PlainShape<N>, agent: u32, op: &PlainOp, own: &()) -> PlacedOperation {
-        let place = place_of(&shape.shape, word_of(op));
+        let index = index_of(&shape.shape, word_of(op));
         let operation = match *op {
             PlainOp::GateLook { row: _ } => Operation::Load,
             PlainOp::GateTake { row: _ } => Operation::CompareExchange(0, OUT),
@@ -137,7 +138,7 @@ impl<N: Copy> Machine<N> for Plain {
                 Operation::Swap(pack_link(RowLink { to, mark: false }))
             }
         };
-        PlacedOperation { place, operation }
+        PlacedOperation { index, operation }
     }
 
     fn keep(shape: &PlainShape<N>, agent: u32, op: &PlainOp, own: &mut (), n: u64) {}

@@ -2,6 +2,7 @@
 
 ghost use Rattle.std.specs.Prelude.{◌≡◌, ◌<◌, [], All, IfOk, None, length};
 ghost use Rattle.orc_words.specs.Bounds.{bounds_of};
+ghost use Rattle.orc_layout.specs.Layout.{index, lay, room};
 ghost use Rattle.orc_words.specs.Places.{places};
 ghost use Rattle.orc_shared_words.specs.Lists.{EachAt, EachFrom};
 ghost use Rattle.orc_table.specs.Machine.{numbers, run};
@@ -14,6 +15,7 @@ use crate::pass::{PlainBoard, PlainBoardPass};
 use crate::shape::PlainShape;
 use orc_fault::NoMemory;
 use orc_heap::{Discipline, Seed};
+use orc_layout::laid_words;
 use orc_shared_words::{SharedPass, SharedWords};
 use orc_words::{RowLink, Shape, Word, new_words, pack_link, place_of};
 use std::alloc::Global;
@@ -72,8 +74,18 @@ fn plain_passes<D: Discipline>(
     Ok(made)
 }
 
-// Makes the words that the seed's steps leave.
+// Makes the words that the seed's steps leave, each at its index.
 fn opening_words<N>(alloc: Global, shape: &Shape, seed: &Seed<N>) -> Result<Vec<u64>, NoMemory>
+    requires roots { HasRoots (numbers (bounds_of shape.now)) seed.now }
+    ensures words { IfOk result (λ words. words.items ≡ lay (index (bounds_of shape.now)) (run (bounds_of shape.now) (opening_steps seed.now)).words) }
+    ensures long { IfOk result (λ words. length words.items ≡ room (bounds_of shape.now)) }
+{
+    let words = words_by_place(alloc, shape, seed)?;
+    laid_words(alloc, shape, words.as_slice())
+}
+
+// Makes the words that the seed's steps leave, in the order of their places.
+fn words_by_place<N>(alloc: Global, shape: &Shape, seed: &Seed<N>) -> Result<Vec<u64>, NoMemory>
     requires roots { HasRoots (numbers (bounds_of shape.now)) seed.now }
     ensures words { IfOk result (λ words. words.items ≡ (run (bounds_of shape.now) (opening_steps seed.now)).words) }
     ensures long { IfOk result (λ words. length words.items ≡ places (bounds_of shape.now)) }

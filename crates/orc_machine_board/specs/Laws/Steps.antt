@@ -14,6 +14,7 @@ use Rattle.orc_core.specs.declared.ops.CounterUse.TheVariants.{Check, End, Start
 use Rattle.orc_core.specs.declared.ops.Op.{Op}
 use Rattle.orc_core.specs.declared.ops.Op.TheVariants.{Arm, Clear, CounterLoad, Dec, Enroll, Fill, Free, GateLook, GateTake, Hand, Inc, LinkCas, LinkLoad, LinkStore, Publish, Read, SetRetired, SlotLook, TakeIn, Unretire}
 use Rattle.orc_core.specs.declared.records.Agent.{Agent}
+use Rattle.orc_layout.proofs.Indices.{index_is_layout}
 use Rattle.orc_projection.proofs.Mirrored.{StoresUnmarked-append, project-append}
 use Rattle.orc_projection.specs.PresentIds.{no_ids}
 use Rattle.orc_projection.specs.Projection.{project}
@@ -109,6 +110,7 @@ module _ {N : Type 0} where
   counted_obeys k =
       let b = bounds_in k in
       record {
+        layout = index_is_layout b;
         by_step = λ a q said. refl;
         words_next = λ j a q said. ap (λ m. m.words) (run_next b j (step_of a q said)) ∙ words_of_step b (run_of b j) a q.op (bounds_run b j);
         own_next = λ j a q said lt. ap (λ m. record_at m a) (run_next b j (step_of a q said))

@@ -8,6 +8,7 @@ ghost use Rattle.orc_words.specs.Bounds.{bounds_of};
 use super::*;
 use orc_core::{Census, State, apply, census};
 use orc_fault::NoMemory;
+use orc_layout::laid_words;
 use std::alloc::Global;
 
 const NONE_OUT: Census = Census {
@@ -69,19 +70,22 @@ fn play_looks(board: &Board, p: &mut Pass, state: &mut State, from: u32, end: u3
 }
 
 // Tells whether the board's words, once no agent shares them, are those of the state.
-fn words_agree(board: Board, whole: Pass, state: State) -> bool
+fn words_agree(alloc: Global, board: Board, whole: Pass, state: State) -> Option<bool>
     requires belongs { Belongs board whole }
     requires all { TookInAll (board_bounds board) (shows whole) }
     requires bounds { state.bounds ≡ board_bounds board }
 {
-    let _shape = state.shape();
+    let shape = state.shape();
     let last = board.close(whole);
     let (words, _agents) = state.into_parts();
+    let Ok(laid) = laid_words(alloc, &shape, words.as_slice()) else {
+        return None;
+    };
     let mut alike = true;
-    for place in 0..words.len() {
-        alike &= last.word(place) == words[place];
+    for index in 0..laid.len() {
+        alike &= last.word(index) == laid[index];
     }
-    alike
+    Some(alike)
 }
 
 // Makes a new state in which all agents have enrolled.
@@ -276,7 +280,7 @@ fn two_agents(alloc: Global, late: bool) -> Option<(bool, Census)> {
     let freed = free(&board, &mut two, &mut state);
     board.absorb(&mut one, two);
     let counts = census(&state);
-    let words = words_agree(board, one, state);
+    let words = words_agree(alloc, board, one, state)?;
     Some((found && handed && freed && words, counts))
 }
 
@@ -353,7 +357,7 @@ fn three_agents(alloc: Global) -> Option<(bool, Census)> {
     board.absorb(&mut zero, one);
     board.absorb(&mut zero, two);
     let counts = census(&state);
-    let words = words_agree(board, zero, state);
+    let words = words_agree(alloc, board, zero, state)?;
     Some((linked && kept && words, counts))
 }
 

@@ -42,7 +42,7 @@ impl<N> Machine<N> for Ticks {
             Operation::Load
         };
         PlacedOperation {
-            place: 0,
+            index: 0,
             operation,
         }
     }

@@ -2,6 +2,8 @@ use Rattle.std.proofs.Common.{ap, subst, sym, ℕ, ◌<◌, ◌∙◌, ◌≡◌
 use Rattle.orc_core.proofs.Within.{may_below, may_packable}
 use Rattle.orc_core.specs.Actions.{IsPackable, action_of}
 use Rattle.orc_core.specs.declared.actions.Action.{Action}
+use Rattle.orc_layout.proofs.Indices.{rises}
+use Rattle.orc_layout.specs.Layout.{index}
 use Rattle.orc_machine_board.specs.Rules.{heap_numbers}
 use Rattle.orc_machine_board.specs.Views.{Makes, view_of}
 use Rattle.orc_words.specs.Bounds.{bounds_of}
@@ -22,8 +24,9 @@ step-n-requires-clause-inside g c =
     let b = bounds_of c.args.self.now.words.shape.shape in
     let p = c.args.p.now.pass in
     let op = c.args.request.op in
-    subst (λ n. place b (action_of p.agent op p.own).word < n) (sym c.args.self.now.sized)
-    (subst (λ d. place b (action_of p.agent op d).word < places b) p.mine (may_below b 0 p.agent op p.seat.me.0.own c.requires.allowed.may))
+    subst (λ n. index b (place b (action_of p.agent op p.own).word) < n) (sym c.args.self.now.sized)
+    (rises b (place b (action_of p.agent op p.own).word) (places b)
+    (subst (λ d. place b (action_of p.agent op d).word < places b) p.mine (may_below b 0 p.agent op p.seat.me.0.own c.requires.allowed.may)))
 
 pub returns-clause-makes : goal.returns-clause-makes
 returns-clause-makes g c =

@@ -3,4 +3,4 @@ use Rattle.orc_shared_words.proofs.Seats.{index_there}
 use Rattle.orc_shared_words.proofs.last_words.LastWords.word.Goals as goal
 
 pub returns : goal.returns
-returns c = sym (index_there _ c.args.place _ c.word.ensures) ∙ ap (λ l. slice_index l c.args.place) c.self.view_is
+returns c = sym (index_there _ c.args.index _ c.word.ensures) ∙ ap (λ l. slice_index l c.args.index) c.self.view_is

@@ -4,8 +4,8 @@ use Rattle.orc_heap.specs.Seeds.{HasRoots}
 use Rattle.orc_table.specs.Machine.{numbers, run}
 use Rattle.orc_table.specs.Rules.{opening_steps}
 use Rattle.orc_table.proofs.Opening.{written_words}
-use Rattle.orc_table.proofs.make.opening_words.Goals.{in-Dummy, in_default}
-use Rattle.orc_table.proofs.make.opening_words.Goals as goal
+use Rattle.orc_table.proofs.make.words_by_place.Goals.{in-Dummy, in_default}
+use Rattle.orc_table.proofs.make.words_by_place.Goals as goal
 
 pub returns-clause-words : goal.returns-clause-words
 returns-clause-words g c = elim c.match-seed.branch [

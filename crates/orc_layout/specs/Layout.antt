@@ -1,0 +1,37 @@
+-- Where the words of a table lie, so that words on which agents work apart lie on cache lines of their own, of eight words each.
+use Rattle.std.specs.Prelude.{List, [], cond, nat_lt, replicate, ℕ, ◌*◌, ◌++◌, ◌+◌, ◌-◌, ◌/◌, ◌<◌, ◌∷◌, ◌≡◌}
+use Rattle.orc_words.specs.Bounds.{Bounds}
+use Rattle.orc_words.specs.Places.{places}
+
+-- the first index of a row: the word of enrolments and each root have a line of their own
+abbrev pub rows_at : Bounds → ℕ
+rows_at b = 8 * (1 + b.roots)
+
+-- the first index of an agent: the next line behind the rows
+abbrev pub agents_at : Bounds → ℕ
+agents_at b = 8 * ((rows_at b + 5 * b.rows + 7) / 8)
+
+-- the index of a place: eight words each up to the last root, then the rows without gaps, and then the agents without gaps
+abbrev pub index : Bounds → ℕ → ℕ
+index b p =
+    cond (nat_lt p (1 + b.roots)) (8 * p)
+    (cond (nat_lt p (1 + b.roots + 5 * b.rows)) (rows_at b + (p - (1 + b.roots)))
+    (agents_at b + (p - (1 + b.roots + 5 * b.rows))))
+
+-- how many words lie in a table
+abbrev pub room : Bounds → ℕ
+room b = index b (places b)
+
+-- the first place stands at 0, and each other one behind that before it
+pub record IsLayout (index : ℕ → ℕ) : Type 0 where
+  pub first : index 0 ≡ 0
+  pub rising : (p : ℕ) → index p < index (p + 1)
+
+-- words from a place on, each followed by as many zeros as there are to the index of the next place
+abbrev pub lay_from : (ℕ → ℕ) → ℕ → List ℕ → List ℕ
+lay_from index p [] = []
+lay_from index p (w ∷ ws) = (w ∷ replicate (index (p + 1) - (index p + 1)) 0) ++ lay_from index (p + 1) ws
+
+-- the words of all places, each at its index
+abbrev pub lay : (ℕ → ℕ) → List ℕ → List ℕ
+lay index words = lay_from index 0 words

@@ -1,0 +1,71 @@
+//! The index of each word of a table.
+
+ghost use Rattle.std.specs.Prelude.{◌≡◌, ◌<◌, ◌≤◌, ◌*◌, ◌+◌, ◌%◌, ℕ};
+ghost use Rattle.orc_words.specs.Bounds.{Bounds, bounds_of};
+ghost use Rattle.orc_words.specs.Places.{IsWithin, place, places};
+ghost use Rattle.orc_words.specs.declared.place.Word.TheVariants.{Enrolled, Root, Slot};
+ghost use Rattle.orc_layout.specs.Layout.{agents_at, index, room, rows_at};
+
+use orc_words::{Shape, Word};
+
+// How many words a cache line has.
+const LINE: usize = 8;
+
+// The first index of a row.
+fn rows_at(shape: &Shape) -> usize
+    ensures { result ≡ rows_at (bounds_of shape.now) }
+{
+    LINE * (1 + shape.roots() as usize)
+}
+
+// The first index of an agent.
+fn agents_at(shape: &Shape) -> usize
+    ensures { result ≡ agents_at (bounds_of shape.now) }
+{
+    LINE * ((rows_at(shape) + 5 * shape.rows() as usize + 7) / LINE)
+}
+
+/// The index of a word in the table, from 0.
+pub fn index_of(shape: &Shape, word: Word) -> usize
+    requires { IsWithin (bounds_of shape.now) word }
+    ensures index { result ≡ index (bounds_of shape.now) (place (bounds_of shape.now) word) }
+    ensures inside { result < room (bounds_of shape.now) }
+{
+    match word {
+        Word::Enrolled => 0,
+        Word::Root(root) => LINE * (1 + root as usize),
+        Word::Gate(row) => rows_at(shape) + 5 * row as usize,
+        Word::Counter(row) => rows_at(shape) + 5 * row as usize + 1,
+        Word::First(row) => rows_at(shape) + 5 * row as usize + 2,
+        Word::Second(row) => rows_at(shape) + 5 * row as usize + 3,
+        Word::Next(row) => rows_at(shape) + 5 * row as usize + 4,
+        Word::Slot(agent, slot) => agents_at(shape) + 16 * agent as usize + slot as usize,
+        Word::Handover(agent, slot) => agents_at(shape) + 16 * agent as usize + 8 + slot as usize,
+    }
+}
+
+// The index of a place of the table.
+pub(crate) fn index_at(shape: &Shape, place: usize) -> usize
+    requires { place ≤ places (bounds_of shape.now) }
+    ensures { result ≡ index (bounds_of shape.now) place }
+{
+    let first_row = 1 + shape.roots() as usize;
+    let first_agent = first_row + 5 * shape.rows() as usize;
+    if place < first_row {
+        LINE * place
+    } else if place < first_agent {
+        rows_at(shape) + (place - first_row)
+    } else {
+        agents_at(shape) + (place - first_agent)
+    }
+}
+
+/// In a table of any size, different places have different indices, and each is one of the table's. The word of enrolments,
+/// each root and the first slot of each agent begin a line.
+pub fn different_places_have_different_indices()
+    ensures apart { (b : Bounds) (p q : ℕ) → index b p ≡ index b q → p ≡ q }
+    ensures inside { (b : Bounds) (p : ℕ) → p < places b → index b p < room b }
+    ensures enrolled { (b : Bounds) → index b (place b Enrolled) % 8 ≡ 0 }
+    ensures roots { (b : Bounds) (i : ℕ) → i < b.roots → index b (place b (Root i)) % 8 ≡ 0 }
+    ensures agents { (b : Bounds) (a : ℕ) → a < b.agents → index b (place b (Slot a 0)) % 8 ≡ 0 }
+{}
