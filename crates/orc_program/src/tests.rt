@@ -347,54 +347,6 @@ fn audits(rt: HostRuntime) -> Result<(), Fail> {
     Ok(())
 }
 
-// In pieces of at most 16 bytes a run of the five lines reads 6 times and writes 14 times.
-#[test]
-fn fails_at_each_call(rt: HostRuntime) -> Result<(), Fail> {
-    for call in 0..6 {
-        run(&rt, rt.alloc(), FIVE_LINES, 16, &[call], 1000, &[], 4, b"")?;
-    }
-    for call in 0..14 {
-        let written = call as usize * 16;
-        if written < FIVE_LINES_REPORT.len() {
-            let front = &FIVE_LINES_REPORT[..written];
-            run(
-                &rt,
-                rt.alloc(),
-                FIVE_LINES,
-                16,
-                &[],
-                1000,
-                &[call],
-                5,
-                front,
-            )?;
-            run(
-                &rt,
-                rt.alloc(),
-                FIVE_LINES,
-                16,
-                &[],
-                written as u64,
-                &[],
-                5,
-                front,
-            )?;
-        }
-    }
-    run(
-        &rt,
-        rt.alloc(),
-        b"post,7,bytes,hello\n",
-        4,
-        &[1],
-        1000,
-        &[],
-        4,
-        b"",
-    )?;
-    run(&rt, rt.alloc(), b"", 5, &[], 64, &[1], 5, b"board")
-}
-
 #[test]
 fn largest_inputs(rt: HostRuntime) -> Result<(), Fail> {
     let mut input = vec![in rt.alloc(); b'x'; 16777216]?;
