@@ -288,6 +288,9 @@ module _ {D N : Type 0} {d : discipline.Ghosts D N} {k : MachineShape N} (s t : 
 pub without_dec : (d e : Agent) → SameParts d e → SameParts (record d { dec = None }) (record e { dec = None })
 without_dec d e p = record { enrolled = p.enrolled; slots = p.slots; fresh = p.fresh; due = p.due; inc = p.inc; dec = refl; doom = p.doom; scan = p.scan }
 
+pub without_due : (d : Agent) → d.due ≡ None → SameParts (record d { due = None }) d
+without_due d e = record { enrolled = refl; slots = refl; fresh = refl; due = e; inc = refl; dec = refl; doom = refl; scan = refl }
+
 pub without_inc : (d : Agent) → d.inc ≡ None → SameParts (record d { inc = None }) d
 without_inc d e = record { enrolled = refl; slots = refl; fresh = refl; due = refl; inc = e; dec = refl; doom = refl; scan = refl }
 

@@ -1,7 +1,9 @@
-use Rattle.std.proofs.Common.{Some, ap, sym, ◌∙◌, ◌≡◌}
+use Rattle.std.proofs.Common.{None, Some, ap, sym, ◌∙◌, ◌≡◌}
 use Rattle.orc_core.specs.declared.records.Agent.{Agent}
-use Rattle.orc_reclaiming_domain.proofs.Counting.{try_can, tries}
+use Rattle.orc_machine_board.specs.Views.{shows}
+use Rattle.orc_reclaiming_domain.proofs.Counting.{becomes_self, try_can, tries, without_due}
 use Rattle.orc_reclaiming_domain.proofs.Stages.{stage}
+use Rattle.orc_reclaiming_domain.specs.Passes.{domain_bounds}
 use Rattle.orc_reclaiming_domain.proofs.domain.OrcDomain.try_due.Goals as goal
 
 pub set_retired-requires-clause-allowed : goal.set_retired-requires-clause-allowed
@@ -19,3 +21,9 @@ returns-in-Some-clause-becomes g c =
     let seen = c.in-Some.seen in
     let due : s.view.record_is.due ≡ Some seen = ap (λ (e : Agent). e.due) (sym c.record.ensures) ∙ c.in-Some.is in
     tries s t seen c.set_retired.result c.set_retired.ensures.made (c.requires.due seen due).1
+
+pub returns-in_default-clause-becomes : goal.returns-in_default-clause-becomes
+returns-in_default-clause-becomes g c =
+    let s = shows c.args.p.now in
+    becomes_self (domain_bounds c.args.self.now) (record s.record_is { due = None }) s
+    (without_due s.record_is (ap (λ (e : Agent). e.due) (sym c.record.ensures) ∙ c.in_default.is))
