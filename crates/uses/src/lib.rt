@@ -1,23 +1,26 @@
-//! The containers in their smallest uses, over both domains: each public call once, as a program makes it.
+//! The containers in their smallest uses, over a plain domain: each public call once, as a program makes it.
 #![tactic(auto)]
 
+mod asking;
 mod board_run;
+mod learning;
 mod list;
+mod many_threads;
 mod one_thread;
 mod queue;
-mod reclaiming;
 mod set;
+mod stopping;
 mod two_threads;
 
+pub use asking::{SetAnswer, set_answers};
 pub use board_run::run_over_plain_domains;
-pub use list::{DomainList, ListPass, next_list_pass, one_list_over};
+pub use learning::{each_sees_the_others, each_takes_the_others};
+pub use list::{DomainList, ListPass, next_list_pass, one_list_over, two_list_passes};
+pub use many_threads::{QueueSums, SetSums, add_and_take_out_by_all, present, put_and_take_by_all};
 pub use one_thread::put_and_take;
-pub use queue::{DomainQueue, QueuePass, Unmade, next_pass, plain_queue, queue_over};
-pub use reclaiming::{
-    ReclaimingList, ReclaimingListPass, ReclaimingQueue, ReclaimingQueuePass, reclaiming_list_over,
-    reclaiming_queue_over,
-};
+pub use queue::{DomainQueue, QueuePass, Unmade, next_pass, plain_queue, queue_over, two_passes};
 pub use set::{DomainSet, set_over};
+pub use stopping::{goes_past_marked_nodes, helps_a_lagging_tail_on};
 pub use two_threads::put_beside_take;
 
 #[cfg(test)]

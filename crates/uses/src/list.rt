@@ -1,6 +1,6 @@
 //! A list in one call, and its passes.
 
-ghost use Rattle.std.specs.Prelude.{◌≡◌, ◌+◌, ◌<◌, ℕ, All, IfOk, IfSome, length, slice_index_or};
+ghost use Rattle.std.specs.Prelude.{◌≡◌, ◌≢◌, ◌+◌, ◌<◌, ℕ, All, IfOk, IfSome, length, slice_index_or};
 ghost use Rattle.orc_words.specs.Bounds.{bounds_of};
 
 use orc_chain_rule::Chain;
@@ -45,4 +45,20 @@ pub fn next_list_pass<S: SharedSet>(set: &S, passes: &mut Vec<S::Pass>) -> Optio
     ensures fewer { IfSome result (λ p. length passes.old.items ≡ length passes.new.items + 1) }
 {
     passes.pop()
+}
+
+/// The passes of the last two agents that are left, the one of the lower agent first.
+pub fn two_list_passes<S: SharedSet>(
+    set: &S,
+    mut passes: Vec<S::Pass>,
+) -> Option<(S::Pass, S::Pass)>
+    requires usable { All (λ p. S.usable set.now p) passes.items }
+    requires agents { (i : ℕ) (p : S.Pass) → i < length passes.items → S.agent_of set.now (slice_index_or passes.items i p) ≡ i }
+    ensures first { IfSome result (λ both. S.usable set.now both.0) }
+    ensures second { IfSome result (λ both. S.usable set.now both.1) }
+    ensures agents { IfSome result (λ both. S.agent_of set.now both.0 ≢ S.agent_of set.now both.1) }
+{
+    let second = next_list_pass(set, &mut passes)?;
+    let first = next_list_pass(set, &mut passes)?;
+    Some((first, second))
 }

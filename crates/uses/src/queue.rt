@@ -1,6 +1,6 @@
 //! A queue in one call, and its passes.
 
-ghost use Rattle.std.specs.Prelude.{◌≡◌, ◌+◌, ◌<◌, ◌≤◌, ◌^◌, ℕ, [], All, IfOk, IfSome, length, slice_index_or};
+ghost use Rattle.std.specs.Prelude.{◌≡◌, ◌≢◌, ◌+◌, ◌<◌, ◌≤◌, ◌^◌, ℕ, [], All, IfOk, IfSome, length, slice_index_or};
 ghost use Rattle.orc_words.specs.Bounds.{bounds_of};
 
 use orc_domain::{PlainDomain, PlainPass};
@@ -106,4 +106,17 @@ pub fn next_pass<Q: SharedQueue>(queue: &Q, passes: &mut Vec<Q::Pass>) -> Option
     ensures fewer { IfSome result (λ p. length passes.old.items ≡ length passes.new.items + 1) }
 {
     passes.pop()
+}
+
+/// The passes of the last two agents that are left, the one of the lower agent first.
+pub fn two_passes<Q: SharedQueue>(queue: &Q, mut passes: Vec<Q::Pass>) -> Option<(Q::Pass, Q::Pass)>
+    requires usable { All (λ p. Q.usable queue.now p) passes.items }
+    requires agents { (i : ℕ) (p : Q.Pass) → i < length passes.items → Q.agent_of queue.now (slice_index_or passes.items i p) ≡ i }
+    ensures first { IfSome result (λ both. Q.usable queue.now both.0) }
+    ensures second { IfSome result (λ both. Q.usable queue.now both.1) }
+    ensures agents { IfSome result (λ both. Q.agent_of queue.now both.0 ≢ Q.agent_of queue.now both.1) }
+{
+    let second = next_pass(queue, &mut passes)?;
+    let first = next_pass(queue, &mut passes)?;
+    Some((first, second))
 }

@@ -1,20 +1,16 @@
 //! Each use, run.
 
 use super::*;
-use orc_fault::Again;
-use orc_history::{QueueRefused, SharedQueue};
 use orc_words::ShapeFault;
 use std::test::Fail;
 
 mod chains;
 mod domain_threads;
 mod list_calls;
-mod list_threads;
+mod many_threads;
 mod meeting;
 mod queue_calls;
 mod queue_threads;
-mod refusals;
-mod reuse;
 mod set_calls;
 mod workers;
 
@@ -25,23 +21,6 @@ fn a_job_goes_through_a_queue(rt: HostRuntime) -> Result<(), Fail> {
         panic!(rt; "one row is too few")
     };
     assert_eq!(rt; why, Unmade::Shape(ShapeFault::Rows(1)));
-    Ok(())
-}
-
-#[test]
-fn a_full_domain_and_a_refused_turn(rt: HostRuntime) -> Result<(), Fail> {
-    let Ok((queue, mut passes)) = plain_queue(rt.alloc(), 2, 1) else {
-        panic!(rt; "memory")
-    };
-    let Some(mut p) = next_pass(&queue, &mut passes) else {
-        panic!(rt; "a pass")
-    };
-    assert_eq!(rt; queue.enqueue(&mut p, 5, 0), Err(QueueRefused::Again));
-    assert_eq!(rt; queue.enqueue(&mut p, 5, 2), Ok(0));
-    assert_eq!(rt; queue.enqueue(&mut p, 6, 2), Err(QueueRefused::NoNode));
-    assert_eq!(rt; queue.dequeue(&mut p, 0), Err(Again));
-    assert_eq!(rt; queue.dequeue(&mut p, 2), Ok(Some((5, 0))));
-    assert_eq!(rt; queue.dequeue(&mut p, 2), Ok(None));
     Ok(())
 }
 

@@ -1,16 +1,15 @@
 //! The queue over a plain domain, on four threads.
 
-ghost use Rattle.std.specs.Prelude.{◌≡◌};
-ghost use Rattle.orc_heap.specs.Seats.{IsIdle};
-ghost use Rattle.orc_domain.specs.Passes.{IsPassOf, seat_of};
+ghost use Rattle.std.specs.Prelude.{◌≡◌, ◌<◌, ℕ, All, length, slice_index_or};
+ghost use Rattle.std.specs.Thread.{IsSync};
 
-use crate::{DomainQueue, QueuePass, next_pass, queue_over};
+use crate::{next_pass, queue_over};
 use orc_history::{QueueRefused, SharedQueue};
 use orc_words::Shape;
 use std::alloc::{AllocError, Global};
 use std::sync::Wait;
 use std::test::Fail;
-use std::thread::{Threads, join_mut};
+use std::thread::{Threads, join};
 
 // How many jobs each producer puts, and each consumer takes.
 const JOBS: u64 = 10_000;
@@ -77,67 +76,79 @@ fn take_all<R: Wait, Q: SharedQueue>(
 }
 
 // Two agents put the jobs below these numbers, each in a thread of its own.
-fn put_by_two<R: Threads + Wait + Sync>(
+fn put_by_two<R: Threads + Wait + Sync, Q: SharedQueue + Sync>(
     rt: &R,
-    queue: &DomainQueue,
-    a: &mut QueuePass,
-    b: &mut QueuePass,
+    queue: &Q,
+    mut a: Q::Pass,
+    mut b: Q::Pass,
 ) -> bool
-    requires a { ⟦<DomainQueue as SharedQueue>⟧.usable queue.now a.old }
-    requires b { ⟦<DomainQueue as SharedQueue>⟧.usable queue.now b.old }
+where
+    Q::Pass: Send,
+    requires a { Q.usable queue.now a }
+    requires b { Q.usable queue.now b }
 {
-    let (first, second) = join_mut(
+    let (first, second) = join(
         rt,
-        &mut || put_all(rt, queue, a, 0, JOBS),
-        &mut || put_all(rt, queue, b, JOBS, 2 * JOBS),
+        move || -> bool
+            requires { Q.usable queue.now a }
+        { put_all(rt, queue, &mut a, 0, JOBS) },
+        move || -> bool
+            requires { Q.usable queue.now b }
+        { put_all(rt, queue, &mut b, JOBS, 2 * JOBS) },
     );
     first && second
 }
 
 // Two agents take them, each in a thread of its own.
-fn take_by_two<R: Threads + Wait + Sync>(
+fn take_by_two<R: Threads + Wait + Sync, Q: SharedQueue + Sync>(
     rt: &R,
     alloc: Global,
-    queue: &DomainQueue,
-    c: &mut QueuePass,
-    d: &mut QueuePass,
+    queue: &Q,
+    mut c: Q::Pass,
+    mut d: Q::Pass,
 ) -> (Option<Vec<u64>>, Option<Vec<u64>>)
-    requires c { ⟦<DomainQueue as SharedQueue>⟧.usable queue.now c.old }
-    requires d { ⟦<DomainQueue as SharedQueue>⟧.usable queue.now d.old }
+where
+    Q::Pass: Send,
+    requires c { Q.usable queue.now c }
+    requires d { Q.usable queue.now d }
 {
-    join_mut(
+    join(
         rt,
-        &mut || take_all(rt, alloc, queue, c),
-        &mut || take_all(rt, alloc, queue, d),
+        move || -> Option<Vec<u64>>
+            requires { Q.usable queue.now c }
+        { take_all(rt, alloc, queue, &mut c) },
+        move || -> Option<Vec<u64>>
+            requires { Q.usable queue.now d }
+        { take_all(rt, alloc, queue, &mut d) },
     )
 }
 
-// All four at once.
-fn on_four_threads<R: Threads + Wait + Sync>(
+// All four at once. None where there are fewer passes, or a put was refused.
+fn on_four_threads<R: Threads + Wait + Sync, Q: SharedQueue + Sync>(
     rt: &R,
     alloc: Global,
-    queue: &DomainQueue,
-    a: &mut QueuePass,
-    b: &mut QueuePass,
-    c: &mut QueuePass,
-    d: &mut QueuePass,
-) -> (bool, (Option<Vec<u64>>, Option<Vec<u64>>))
-    requires a { ⟦<DomainQueue as SharedQueue>⟧.usable queue.now a.old }
-    requires b { ⟦<DomainQueue as SharedQueue>⟧.usable queue.now b.old }
-    requires c { ⟦<DomainQueue as SharedQueue>⟧.usable queue.now c.old }
-    requires d { ⟦<DomainQueue as SharedQueue>⟧.usable queue.now d.old }
+    queue: &Q,
+    mut passes: Vec<Q::Pass>,
+) -> Option<(Vec<u64>, Vec<u64>)>
+where
+    Q::Pass: Send,
+    requires usable { All (λ p. Q.usable queue.now p) passes.items }
+    requires agents { (i : ℕ) (p : Q.Pass) → i < length passes.items → Q.agent_of queue.now (slice_index_or passes.items i p) ≡ i }
 {
-    join_mut(
+    let d = next_pass(queue, &mut passes)?;
+    let c = next_pass(queue, &mut passes)?;
+    let b = next_pass(queue, &mut passes)?;
+    let a = next_pass(queue, &mut passes)?;
+    let (all_put, (one, two)) = join(
         rt,
-        &mut || -> bool
-            requires a { IsPassOf queue.now.links a.now × IsIdle (seat_of queue.now.links a.now) }
-            requires b { IsPassOf queue.now.links b.now × IsIdle (seat_of queue.now.links b.now) }
+        move || -> bool
+            requires { IsSync R.row × Q.usable queue.now a × Q.usable queue.now b }
         { put_by_two(rt, queue, a, b) },
-        &mut || -> (Option<Vec<u64>>, Option<Vec<u64>>)
-            requires c { IsPassOf queue.now.links c.now × IsIdle (seat_of queue.now.links c.now) }
-            requires d { IsPassOf queue.now.links d.now × IsIdle (seat_of queue.now.links d.now) }
+        move || -> (Option<Vec<u64>>, Option<Vec<u64>>)
+            requires { IsSync R.row × Q.usable queue.now c × Q.usable queue.now d }
         { take_by_two(rt, alloc, queue, c, d) },
-    )
+    );
+    if all_put { Some((one?, two?)) } else { None }
 }
 
 // The jobs below `end` and from `begin` on rise.
@@ -174,26 +185,12 @@ fn sorted(one: Vec<u64>, two: &[u64]) -> Result<Vec<u64>, AllocError> {
 #[test]
 fn each_job_is_taken_once_and_in_order(rt: HostRuntime) -> Result<(), Fail> {
     let shape = Shape::new(65_535, 2, 4, 1 << 39)?;
-    let Ok((queue, mut passes)) = queue_over(rt.alloc(), &shape, 0) else {
+    let Ok((queue, passes)) = queue_over(rt.alloc(), &shape, 0) else {
         panic!(rt; "memory")
     };
-    let Some(mut d) = next_pass(&queue, &mut passes) else {
-        panic!(rt; "four passes")
+    let Some((one, two)) = on_four_threads(&rt, rt.alloc(), &queue, passes) else {
+        panic!(rt; "memory, or a refused put")
     };
-    let Some(mut c) = next_pass(&queue, &mut passes) else {
-        panic!(rt; "four passes")
-    };
-    let Some(mut b) = next_pass(&queue, &mut passes) else {
-        panic!(rt; "four passes")
-    };
-    let Some(mut a) = next_pass(&queue, &mut passes) else {
-        panic!(rt; "four passes")
-    };
-    let (all_put, taken) = on_four_threads(&rt, rt.alloc(), &queue, &mut a, &mut b, &mut c, &mut d);
-    assert!(rt; all_put);
-    let (one, two) = taken;
-    let Some(one) = one else { panic!(rt; "memory") };
-    let Some(two) = two else { panic!(rt; "memory") };
     for jobs in [&one, &two] {
         assert!(rt; rises(jobs, 0, JOBS));
         assert!(rt; rises(jobs, JOBS, 2 * JOBS));

@@ -1,0 +1,104 @@
+//! All passes of a domain, and containers that are brought to rest with them.
+
+ghost use Rattle.std.specs.Prelude.{◌≡◌, ◌<◌, ℕ, All, length, slice_index_or, true};
+ghost use Rattle.orc_heap.specs.Seats.{IsIdle};
+ghost use Rattle.orc_reclaiming_domain.specs.Passes.{IsPassOf, domain_bounds, seat_of};
+
+use crate::{
+    ReclaimingList, ReclaimingListPass, ReclaimingQueue, ReclaimingQueuePass, ReclaimingSet,
+    list_at_rest, queue_at_rest, set_at_rest,
+};
+use orc_heap::{Discipline, Links};
+use orc_history::{SharedQueue, SharedSet};
+use orc_reclaiming_domain::{OrcDomain, OrcPass, OrcRest};
+
+// What a domain at rest tells: how often rows were given and freed, and how many are linked.
+#[derive(Clone, Copy, Debug, PartialEq, Eq, Drop)]
+pub(super) struct Numbers {
+    pub(super) given: u64,
+    pub(super) reused: u64,
+    pub(super) linked: u32,
+}
+
+// The numbers of a domain at rest.
+fn numbers_of<D: Discipline>(rest: &OrcRest<D>) -> Numbers {
+    Numbers {
+        given: rest.given(),
+        reused: rest.reused(),
+        linked: rest.linked(),
+    }
+}
+
+// Whether the passes are in order of agent.
+pub(super) fn are_in_order<D: Discipline>(domain: &OrcDomain<D>, passes: &[OrcPass<D>]) -> bool
+    ensures { result ≡ true → (i : ℕ) (p : _) → i < length passes.now → (seat_of domain.now (slice_index_or passes.now i p)).agent ≡ i }
+{
+    for place in 0..passes.len() {
+        if domain.agent(&passes[place]) as usize != place {
+            return false;
+        }
+    }
+    true
+}
+
+// How many rows all passes together have still to work through.
+pub(super) fn backlog_of_all<D: Discipline>(domain: &OrcDomain<D>, passes: &[OrcPass<D>]) -> u32
+    requires { All (λ p. IsPassOf domain.now p × IsIdle (seat_of domain.now p)) passes.now }
+{
+    let mut rows: u32 = 0;
+    for place in 0..passes.len() {
+        rows = rows.wrapping_add(domain.backlog(&passes[place]));
+    }
+    rows
+}
+
+// Lets each of the passes settle, while no other steps. Answers how many rows they then have still to work through.
+pub(super) fn backlog_when_alone<D: Discipline>(
+    domain: &OrcDomain<D>,
+    passes: &mut [OrcPass<D>],
+) -> u32
+    requires usable { All (λ p. IsPassOf domain.now p × IsIdle (seat_of domain.now p)) passes.old }
+    ensures usable { All (λ p. IsPassOf domain.now p × IsIdle (seat_of domain.now p)) passes.new }
+    ensures many { length passes.new ≡ length passes.old }
+{
+    for place in 0..passes.len() {
+        domain.settle(&mut passes[place]);
+    }
+    backlog_of_all(domain, passes)
+}
+
+// Brings the queue to rest, and answers its numbers; none where the passes aren't in order of agent.
+pub(super) fn at_rest_queue(
+    queue: ReclaimingQueue,
+    passes: Vec<ReclaimingQueuePass>,
+) -> Option<Numbers>
+    requires usable { All (λ p. ⟦<ReclaimingQueue as SharedQueue>⟧.usable queue p) passes.items }
+    requires many { length passes.items ≡ (domain_bounds queue.links).agents }
+{
+    if !are_in_order(queue.links(), passes.as_slice()) {
+        return None;
+    }
+    Some(numbers_of(&queue_at_rest(queue, passes)))
+}
+
+// Brings the list to rest, and answers its numbers; none where the passes aren't in order of agent.
+pub(super) fn at_rest_list(list: ReclaimingList, passes: Vec<ReclaimingListPass>) -> Option<Numbers>
+    requires usable { All (λ p. ⟦<ReclaimingList as SharedSet>⟧.usable list p) passes.items }
+    requires many { length passes.items ≡ (domain_bounds list.list.links).agents }
+{
+    if !are_in_order(list.links(), passes.as_slice()) {
+        return None;
+    }
+    Some(numbers_of(&list_at_rest(list, passes)))
+}
+
+// Brings the set to rest, and answers its numbers; none where the passes aren't in order of agent.
+pub(super) fn at_rest_set(set: ReclaimingSet, passes: Vec<ReclaimingListPass>) -> Option<Numbers>
+    requires usable { All (λ p. ⟦<ReclaimingSet as SharedSet>⟧.usable set p) passes.items }
+    requires many { length passes.items ≡ (domain_bounds set.list.links).agents }
+{
+    if !are_in_order(set.links(), passes.as_slice()) {
+        return None;
+    }
+    Some(numbers_of(&set_at_rest(set, passes)))
+}
