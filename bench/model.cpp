@@ -1,0 +1,228 @@
+// The atomic steps of calls over the reclaiming domain, made by one thread with nothing around them: no records of agents, no
+// choices, no answers. The words lie as in the domain's table, and each call makes the loads and the locked steps that the
+// domain makes where nobody disturbs it:
+//
+//   an enqueue                     8 loads, 18 locked steps
+//   a dequeue                      10 + 8 x agents loads, 20 locked steps: it frees the dummy, and scans all slots for it
+//   a search that visits n nodes   2 + 3 n loads, 3 + 3 n locked steps
+//
+// model queue AGENTS CALLS: enqueues and dequeues in turn. model list KEYS CALLS: searches of a list of so many keys, each second
+// number up to twice as many. Prints calls a second.
+#include <atomic>
+#include <chrono>
+#include <cstdint>
+#include <cstdio>
+#include <cstdlib>
+#include <cstring>
+#include <vector>
+
+using Number = std::uint64_t;
+
+constexpr Number ROWS = 65535;
+constexpr Number NEW_COUNTER = 1 << 22;
+constexpr Number RETIRED = 1 << 23;
+constexpr Number ONE_MORE = 16777217;
+constexpr Number ONE_LESS = 16777215;
+
+struct Table {
+  Number roots;
+  Number agents;
+  std::vector<std::atomic<Number>> words;
+
+  // the word of enrolments and each root have eight words each, and agents begin at the next multiple of eight behind the rows
+  Table(Number roots, Number agents) : roots(roots), agents(agents), words(agents_at(roots) + 16 * agents) {
+    for (Number row = 0; row < ROWS; row++) counter(row) = NEW_COUNTER;
+  }
+
+  static Number rows_at(Number roots) { return 8 * (1 + roots); }
+  static Number agents_at(Number roots) { return (rows_at(roots) + 5 * ROWS + 7) / 8 * 8; }
+
+  std::atomic<Number> &root(Number root) { return words[8 * (1 + root)]; }
+  std::atomic<Number> &gate(Number row) { return words[rows_at(roots) + 5 * row]; }
+  std::atomic<Number> &counter(Number row) { return words[rows_at(roots) + 5 * row + 1]; }
+  std::atomic<Number> &first(Number row) { return words[rows_at(roots) + 5 * row + 2]; }
+  std::atomic<Number> &second(Number row) { return words[rows_at(roots) + 5 * row + 3]; }
+  std::atomic<Number> &next(Number row) { return words[rows_at(roots) + 5 * row + 4]; }
+  std::atomic<Number> &slot(Number agent, Number slot) { return words[agents_at(roots) + 16 * agent + slot]; }
+  std::atomic<Number> &handover(Number slot) { return words[agents_at(roots) + 8 + slot]; }
+
+  // what agent 0 does with its slots
+  void publish(Number at, Number row) { slot(0, at).store(row + 1); }
+
+  Number unlock(Number at) {
+    slot(0, at).store(0);
+    return handover(at).exchange(0);
+  }
+};
+
+Number link_to(Number row) { return 2 * (row + 1); }
+
+Number row_of(Number link) { return link / 2 - 1; }
+
+// One compare_exchange, which succeeds here.
+void change(std::atomic<Number> &word, Number from, Number to) {
+  if (!word.compare_exchange_strong(from, to)) std::abort();
+}
+
+struct Queue {
+  Table table;
+  Number free_row = 1;
+
+  explicit Queue(Number agents) : table(2, agents) {
+    table.gate(0) = 3;
+    table.counter(0) = NEW_COUNTER + 2 * ONE_MORE;
+    table.root(0) = link_to(0);
+    table.root(1) = link_to(0);
+  }
+
+  void enqueue(Number job) {
+    Number row = free_row;
+    free_row = (row + 1) % ROWS;
+    Number gate = table.gate(row).load();
+    if (table.counter(row).load() >> 63) std::abort();
+    change(table.gate(row), gate, gate + 3);
+    table.first(row).store(job);
+    table.second(row).store(0);
+    table.publish(1, row);
+
+    Number tail = table.root(1).load();
+    Number last = row_of(tail);
+    table.publish(2, last);
+    if (table.root(1).load() != tail || table.next(last).load() != 0) std::abort();
+    table.second(row).store(table.second(last).load() + 1);
+
+    if (table.counter(row).load() >> 63) std::abort();
+    change(table.next(last), 0, link_to(row));
+    table.counter(row).fetch_add(ONE_MORE);
+
+    if (table.counter(row).load() >> 63) std::abort();
+    table.publish(0, last);
+    change(table.root(1), tail, link_to(row));
+    table.counter(row).fetch_add(ONE_MORE);
+    table.counter(last).fetch_add(ONE_LESS);
+    Number handed = table.unlock(0);
+    handed |= table.unlock(1);
+    handed |= table.unlock(2);
+    if (handed) std::abort();
+  }
+
+  Number dequeue() {
+    Number head = table.root(0).load();
+    Number dummy = row_of(head);
+    table.publish(1, dummy);
+    if (table.root(0).load() != head) std::abort();
+    Number link = table.next(dummy).load();
+    Number row = row_of(link);
+    table.publish(2, row);
+    if (table.next(dummy).load() != link || table.root(1).load() == head) std::abort();
+    Number job = table.first(row).load();
+    if (table.second(row).load() == 0) std::abort();
+
+    if (table.counter(row).load() >> 63) std::abort();
+    table.publish(0, dummy);
+    change(table.root(0), head, link);
+    table.counter(row).fetch_add(ONE_MORE);
+    Number count = table.counter(dummy).fetch_add(ONE_LESS) + ONE_LESS;
+    change(table.counter(dummy), count, count + RETIRED);
+    Number handed = table.unlock(0);
+    handed |= table.unlock(2);
+    handed |= table.unlock(1);
+
+    Number start = table.counter(dummy).load();
+    for (Number agent = 0; agent < table.agents; agent++)
+      for (Number slot = 0; slot < 8; slot++) handed |= table.slot(agent, slot).load();
+    if (handed || table.counter(dummy).load() != start) std::abort();
+    table.next(dummy).exchange(0);
+    table.publish(0, row);
+    table.counter(row).fetch_add(ONE_LESS);
+    if (table.unlock(0)) std::abort();
+    Number retired = start;
+    change(table.counter(dummy), retired, retired - RETIRED);
+    table.gate(dummy).store(2);
+    return job;
+  }
+};
+
+struct List {
+  Table table;
+
+  // The greatest key lies in the first row.
+  explicit List(Number keys) : table(1, 1) {
+    for (Number row = 0; row < keys; row++) {
+      table.first(row) = 2 * (keys - 1 - row);
+      table.next(row) = row ? link_to(row - 1) : 0;
+    }
+    table.root(0) = link_to(keys - 1);
+  }
+
+  // Holds the target of a link, if it has one.
+  Number look(std::atomic<Number> &word, Number slot) {
+    Number link = word.load();
+    if (link == 0) return 0;
+    table.publish(slot, row_of(link));
+    if (word.load() != link) std::abort();
+    return link;
+  }
+
+  bool contains(Number wanted) {
+    Number left = 3, at = 1, behind = 2;
+    bool has_left = false, found = false;
+    Number link = look(table.root(0), at);
+    Number handed = 0;
+    while (link) {
+      Number row = row_of(link);
+      Number key = table.first(row).load();
+      Number next = look(table.next(row), behind);
+      if (key >= wanted) {
+        found = key == wanted;
+        if (next) handed |= table.unlock(behind);
+        handed |= table.unlock(at);
+        break;
+      }
+      if (has_left) handed |= table.unlock(left);
+      Number spare = left;
+      left = at;
+      at = behind;
+      behind = spare;
+      has_left = true;
+      link = next;
+    }
+    if (has_left) handed |= table.unlock(left);
+    if (handed) std::abort();
+    return found;
+  }
+};
+
+// Numbers that look drawn, as the program's.
+struct Draws {
+  Number state = 1;
+
+  Number below(Number many) {
+    state = state * 6364136223846793005u + 1442695040888963407u;
+    return (state >> 33) * many >> 31;
+  }
+};
+
+int main(int count, char **words) {
+  if (count != 4) return 2;
+  Number size = std::strtoull(words[2], nullptr, 10);
+  Number calls = std::strtoull(words[3], nullptr, 10);
+  Number sum = 0;
+  auto begun = std::chrono::steady_clock::now();
+  if (!std::strcmp(words[1], "queue")) {
+    Queue queue(size);
+    begun = std::chrono::steady_clock::now();
+    for (Number call = 0; call < calls; call += 2) {
+      queue.enqueue(call);
+      sum += queue.dequeue();
+    }
+  } else {
+    List list(size);
+    Draws draws;
+    begun = std::chrono::steady_clock::now();
+    for (Number call = 0; call < calls; call++) sum += list.contains(draws.below(2 * size));
+  }
+  std::chrono::duration<double> time = std::chrono::steady_clock::now() - begun;
+  std::fprintf(stderr, "sum %llu\n", static_cast<unsigned long long>(sum));
+  std::printf("%.0f\n", static_cast<double>(calls) / time.count());
+}

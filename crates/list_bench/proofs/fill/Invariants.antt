@@ -1,5 +1,0 @@
-use Rattle.list_bench.proofs.fill.Given as goal
-
--- the pass may be used
-abbrev pub invariant-loop-place : goal.invariant-loop-place
-invariant-loop-place g l = g.S.SharedSet.usable l.set l.p

@@ -1,0 +1,76 @@
+//! What a container offers to be driven.
+
+ghost use Rattle.std.specs.Prelude.{◌≡◌, ℕ};
+ghost use Rattle.orc_stress.specs.Passes.{Stays};
+
+use crate::load::Ask;
+use crate::tally::Answer;
+
+/// What a call did.
+#[derive(Clone, Copy, Debug, PartialEq, Eq, Drop)]
+pub enum Outcome {
+    /// An item went in: a job with its position, or a key and 0.
+    Put(u64, u64),
+    /// A job came out, with its position.
+    Taken(u64, u64),
+    /// A key came out.
+    Removed(u64),
+    /// The key is there.
+    Found,
+    /// Nothing went in or came out.
+    Nothing,
+    /// The call was refused.
+    Refused(Answer),
+}
+
+impl Outcome {
+    // How the call ended.
+    pub(crate) fn answer(&self) -> Answer {
+        match self {
+            Outcome::Refused(answer) => *answer,
+            _ => Answer::Ok,
+        }
+    }
+}
+
+/// A container that agents share, each with a pass of its own.
+pub trait Container {
+    /// An agent's pass.
+    type Pass: Drop;
+
+    /// What a stopped agent holds.
+    type Hold;
+
+    // a call may be made with the pass
+    ghost ready: { Self → Self.Pass → Type 0 };
+
+    // the number of the pass's agent
+    ghost agent_of: { Self → Self.Pass → ℕ };
+
+    // the agent is stopped, and holds this
+    ghost stopped: { Self → Self.Hold → Self.Pass → Type 0 };
+
+    /// The number of the pass's agent.
+    fn agent(&self, p: &Self::Pass) -> u32
+        ensures { result ≡ agent_of self.now p.now };
+
+    /// Makes one call.
+    fn call(&self, p: &mut Self::Pass, ask: &Ask) -> Outcome
+        requires { ready self.now p.old }
+        ensures { Stays (ready self.now) (agent_of self.now) p.old p.new };
+
+    /// How many retired rows the pass has to work through.
+    fn backlog(&self, p: &Self::Pass) -> u32
+        requires { ready self.now p.now };
+
+    /// Begins a call, and stops once the agent holds the first node, where there is one.
+    fn stop(&self, p: &mut Self::Pass) -> Self::Hold
+        requires { ready self.now p.old }
+        ensures stopped { stopped self.now result p.new }
+        ensures agent { agent_of self.now p.new ≡ agent_of self.now p.old };
+
+    /// Lets go of what the stopped agent holds.
+    fn go_on(&self, p: &mut Self::Pass, hold: Self::Hold)
+        requires { stopped self.now hold p.old }
+        ensures { Stays (ready self.now) (agent_of self.now) p.old p.new };
+}

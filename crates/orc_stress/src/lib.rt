@@ -1,0 +1,20 @@
+//! Drives a container by threads, and judges what came of it.
+#![tactic(auto)]
+
+mod agents;
+mod container;
+mod load;
+mod results;
+mod runs;
+mod settings;
+mod tally;
+
+pub use container::{Container, Outcome};
+pub use load::{Ask, Load, Mix, Plan};
+pub use results::{Counts, judge, print_figures};
+pub use runs::{Driven, Rest, drive};
+pub use settings::{Domain, Kind, Refused, Settings, settings_of};
+pub use tally::{Answer, Answers, Items, Tally};
+
+#[cfg(test)]
+mod tests;

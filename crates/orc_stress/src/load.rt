@@ -1,0 +1,122 @@
+//! What agents are to do.
+
+ghost use Rattle.std.specs.Prelude.{◌≤◌, ◌<◌, ◌^◌};
+
+// Which calls agents make: of a queue puts and takes, in turn or by agents apart; of a set so many of a hundred that ask, insert
+// and remove.
+#[derive(Clone, Copy, Debug, PartialEq, Eq, Drop)]
+pub enum Mix {
+    Pairs,
+    Apart,
+    Reads,
+    Writes,
+}
+
+impl Mix {
+    // Its word on the command line.
+    pub(crate) fn word(self) -> &'static str {
+        match self {
+            Mix::Pairs => "pairs",
+            Mix::Apart => "apart",
+            Mix::Reads => "90/5/5",
+            Mix::Writes => "34/33/33",
+        }
+    }
+
+    // Whether its calls are those of a set.
+    pub(crate) fn has_keys(self) -> bool {
+        match self {
+            Mix::Pairs | Mix::Apart => false,
+            Mix::Reads | Mix::Writes => true,
+        }
+    }
+}
+
+// The calls of one agent.
+#[derive(Clone, Copy, Debug, PartialEq, Eq, Drop)]
+pub struct Load {
+    pub(crate) mix: Mix,
+    pub(crate) calls: u32,
+    // how many keys there are, from 0 on
+    pub(crate) keys: u32,
+    pub(crate) seed: u32,
+    pub ghost some_keys: { 1 ≤ keys },
+    pub ghost few_calls: { calls < 2 ^ 32 },
+}
+
+/// How a container is driven.
+#[derive(Clone, Copy, Debug, PartialEq, Eq, Drop)]
+pub struct Plan {
+    /// How many agents make calls, each in a thread of its own.
+    pub threads: u32,
+    /// Whether one more agent is stopped in the middle of a call meanwhile.
+    pub stalls: bool,
+    /// The calls of each.
+    pub load: Load,
+}
+
+// One call: what is put or inserted, a key that is taken out (of a queue whatever is at the front), or a key that is asked for.
+#[derive(Clone, Copy, Debug, PartialEq, Eq)]
+pub enum Ask {
+    Give(u64),
+    Take(u64),
+    Read(u64),
+}
+
+impl Load {
+    // This call of an agent.
+    pub(crate) fn ask(&self, agent: u32, number: u32, draws: &mut Draws) -> Ask {
+        match self.mix {
+            Mix::Pairs => put_or_take(number % 2 == 0, agent, number),
+            Mix::Apart => put_or_take(agent % 2 == 0, agent, number),
+            Mix::Reads => self.ask_by_key(90, 95, draws),
+            Mix::Writes => self.ask_by_key(34, 67, draws),
+        }
+    }
+
+    // One of a hundred calls, of which so many ask for a key, and those up to the second number insert one.
+    fn ask_by_key(&self, asks: u64, inserts: u64, draws: &mut Draws) -> Ask {
+        let kind = draws.draw() % 100;
+        let key = draws.draw().wrapping_mul(u64::from(self.keys)) >> 31;
+        if kind < asks {
+            Ask::Read(key)
+        } else if kind < inserts {
+            Ask::Give(key)
+        } else {
+            Ask::Take(key)
+        }
+    }
+}
+
+// A job that tells its producer and its number, or a take.
+fn put_or_take(put: bool, agent: u32, number: u32) -> Ask {
+    if put {
+        Ask::Give((u64::from(agent) << 32) | u64::from(number))
+    } else {
+        Ask::Take(0)
+    }
+}
+
+// Numbers that look drawn, the same in each run: the linear congruential generator of Knuth's MMIX.
+#[derive(Clone, Copy, Debug, PartialEq, Eq)]
+pub(crate) struct Draws {
+    state: u64,
+}
+
+impl Draws {
+    // The draws of an agent.
+    pub(crate) fn new(seed: u32, agent: u32) -> Draws {
+        Draws {
+            state: (u64::from(seed) << 32) | u64::from(agent),
+        }
+    }
+
+    // The next number, below 2^31.
+    pub(crate) fn draw(&mut self) -> u64 {
+        self.state = self
+            .state
+            .wrapping_mul(6_364_136_223_846_793_005)
+            .wrapping_add(1_442_695_040_888_963_407);
+        self.state >> 33
+    }
+}

@@ -1,0 +1,167 @@
+//! A whole run: keys are put in, all agents do their parts, and what is left is looked at.
+
+ghost use Rattle.std.specs.Prelude.{◌≡◌, ◌≤◌, IfOk, vec_len};
+ghost use Rattle.std.specs.List.{AllByRecursion};
+ghost use Rattle.orc_stress.specs.Answers.{calls_of};
+ghost use Rattle.orc_stress.specs.Parts.{parts_of};
+ghost use Rattle.orc_stress.specs.Passes.{Stay, Stays};
+
+use crate::agents::{Ran, Start, run_all};
+use crate::container::{Container, Outcome};
+use crate::load::{Ask, Plan};
+use crate::tally::{Items, Order, Tally};
+use std::alloc::{AllocError, Global};
+use std::thread::Threads;
+use std::time::{Clock, Instant};
+
+/// What a run came to.
+#[derive(Clone, Copy, Debug, PartialEq, Eq, Drop)]
+pub struct Driven {
+    /// What the agents' calls came to, and what was put in before them.
+    pub tally: Tally,
+    /// What came out, or was there, after them.
+    pub rest: Rest,
+}
+
+/// What one agent found once all others had made their calls.
+#[derive(Clone, Copy, Debug, PartialEq, Eq, Drop)]
+pub struct Rest {
+    /// The jobs that it took, or the keys that it found.
+    pub items: Items,
+    /// Whether the jobs came in order, and nothing after them.
+    pub in_order: bool,
+}
+
+// Inserts every second key, the greatest first.
+fn fill<C: Container>(container: &C, p: &mut C::Pass, keys: u32) -> Items
+    requires ready { C.ready container.now p.old }
+    ensures ready { Stays (C.ready container.now) (C.agent_of container.now) p.old p.new }
+{
+    let mut put = Items::new();
+    for place in 0..keys {
+        let key = u64::from(keys - 1 - place);
+        if key % 2 == 0 {
+            if let Outcome::Put(item, at) = container.call(p, &Ask::Give(key)) {
+                put.add(item, at);
+            }
+        }
+    }
+    put
+}
+
+// Asks for each key.
+fn find_keys<C: Container>(container: &C, p: &mut C::Pass, keys: u32) -> Rest
+    requires ready { C.ready container.now p.old }
+    ensures ready { Stays (C.ready container.now) (C.agent_of container.now) p.old p.new }
+{
+    let mut items = Items::new();
+    for key in 0..u64::from(keys) {
+        if container.call(p, &Ask::Read(key)) == Outcome::Found {
+            items.add(key, 0);
+        }
+    }
+    Rest {
+        items,
+        in_order: true,
+    }
+}
+
+// Takes so many jobs, and looks whether there is one more.
+fn take_jobs<C: Container>(container: &C, p: &mut C::Pass, waiting: u64) -> Rest
+    requires ready { C.ready container.now p.old }
+    ensures ready { Stays (C.ready container.now) (C.agent_of container.now) p.old p.new }
+{
+    let mut items = Items::new();
+    let mut order = Order::new();
+    let mut in_order = true;
+    for _job in 0..waiting {
+        if let Outcome::Taken(job, at) = container.call(p, &Ask::Take(0)) {
+            items.add(job, at);
+            let follows = order.follows(job, at);
+            in_order = in_order && follows;
+        }
+    }
+    let last = container.call(p, &Ask::Take(0));
+    Rest {
+        items,
+        in_order: in_order && last == Outcome::Nothing,
+    }
+}
+
+// Puts in what is there at the beginning, with the last pass.
+#[tactic(auto, using(crate::proofs::Staying::last_stays, crate::proofs::Staying::each_stays))]
+fn begin<C: Container>(container: &C, passes: &mut Vec<C::Pass>, plan: &Plan) -> Items
+    requires ready { AllByRecursion (C.ready container.now) passes.old.items }
+    ensures stay { Stay (C.ready container.now) (C.agent_of container.now) passes.old.items passes.new.items }
+    ensures len { vec_len passes.new ≡ vec_len passes.old }
+{
+    if !plan.load.mix.has_keys() {
+        return Items::new();
+    }
+    let Some(mut p) = passes.pop() else {
+        return Items::new();
+    };
+    let put = fill(container, &mut p, plan.load.keys);
+    let Ok(()) = passes.push(p) else {
+        unreachable!()
+    };
+    put
+}
+
+// Looks at what is left, with the last pass.
+#[tactic(auto, using(crate::proofs::Staying::last_stays, crate::proofs::Staying::each_stays))]
+fn finish<C: Container>(container: &C, passes: &mut Vec<C::Pass>, plan: &Plan, waiting: u64) -> Rest
+    requires ready { AllByRecursion (C.ready container.now) passes.old.items }
+    ensures stay { Stay (C.ready container.now) (C.agent_of container.now) passes.old.items passes.new.items }
+{
+    let Some(mut p) = passes.pop() else {
+        return Rest {
+            items: Items::new(),
+            in_order: true,
+        };
+    };
+    let rest = if plan.load.mix.has_keys() {
+        find_keys(container, &mut p, plan.load.keys)
+    } else {
+        take_jobs(container, &mut p, waiting)
+    };
+    let Ok(()) = passes.push(p) else {
+        unreachable!()
+    };
+    rest
+}
+
+/// Drives a container: puts in every second key where the calls are those of a set, lets all agents do their parts, each in a
+/// thread of its own where one can be made, and then takes all jobs that wait or asks for each key.
+///
+/// # Errors
+///
+/// Where memory is refused, before the first call.
+#[tactic(auto, using(crate::proofs::Staying::stay_ready, crate::proofs::Staying::stay_twice, crate::proofs::Staying::stay_parts))]
+pub fn drive<R: Threads + Clock + Sync, C: Container + Sync>(
+    rt: &R,
+    alloc: Global,
+    container: &C,
+    mut passes: Vec<C::Pass>,
+    plan: &Plan,
+    instant: Instant,
+) -> Result<(Vec<C::Pass>, Driven), AllocError>
+where
+    C::Pass: Send,
+    requires ready { AllByRecursion (C.ready container.now) passes.items }
+    requires few { vec_len passes ≤ 16 }
+    ensures stay { IfOk result (λ r. Stay (C.ready container.now) (C.agent_of container.now) passes.items r.0.items) }
+    ensures calls { IfOk result (λ r. calls_of r.1.tally.answers ≡ parts_of plan.now (C.agent_of container.now) passes.items) }
+{
+    let room = Vec::with_capacity(alloc, passes.len())?;
+    let put = begin(container, &mut passes, plan);
+    let start = Start::new(plan, instant);
+    let Ran {
+        mut passes,
+        mut tally,
+    } = run_all(rt, container, passes, plan, &start, room);
+    tally.put.join(&put);
+    let waiting = tally.put.count.saturating_sub(tally.taken.count);
+    let rest = finish(container, &mut passes, plan, waiting);
+    Ok((passes, Driven { tally, rest }))
+}

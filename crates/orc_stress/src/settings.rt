@@ -1,0 +1,202 @@
+//! What the words of the command line ask for.
+
+ghost use Rattle.std.specs.Prelude.{◌≡◌, ◌≤◌};
+ghost use Rattle.orc_stress.specs.declared.settings.Kind.TheVariants.{Sorted};
+
+use crate::load::{Load, Mix, Plan};
+use clap::builder::ValueParser;
+use clap::error::ErrorKind;
+use clap::{Arg, ArgAction, ArgMatches, Command};
+use std::alloc::{AllocError, Global};
+
+/// What is driven.
+#[derive(Clone, Copy, Debug, PartialEq, Eq, Drop)]
+pub enum Kind {
+    Queue,
+    List,
+    Set,
+    /// Keys in order in one piece, without a lock, on one thread.
+    Sorted,
+}
+
+impl Kind {
+    // Its word on the command line.
+    pub(crate) fn word(self) -> &'static str {
+        match self {
+            Kind::Queue => "queue",
+            Kind::List => "list",
+            Kind::Set => "set",
+            Kind::Sorted => "sorted",
+        }
+    }
+}
+
+/// What it stands on.
+#[derive(Clone, Copy, Debug, PartialEq, Eq, Drop)]
+pub enum Domain {
+    Plain,
+    Reclaiming,
+}
+
+/// What the words ask for.
+#[derive(Clone, Copy, Debug, PartialEq, Eq, Drop)]
+pub struct Settings {
+    /// `--container`.
+    pub container: Kind,
+    /// `--domain`.
+    pub domain: Domain,
+    /// `--rows`, 2 to 65,535.
+    pub rows: u32,
+    /// `--roots`, 1 to 257: the buckets of a set.
+    pub roots: u32,
+    /// `--agents`, or as many as there are threads and stopped agents, if those are more.
+    pub agents: u32,
+    /// Whether the speed is printed: not under `--untimed`.
+    pub times: bool,
+    /// The other options.
+    pub plan: Plan,
+    pub ghost enough: { plan.threads ≤ agents },
+    pub ghost alone: { container ≡ Sorted → plan.threads ≤ 1 },
+}
+
+impl Settings {
+    // What the container stands on, in a word.
+    pub(crate) fn memory(&self) -> &'static str {
+        match (self.container, self.domain) {
+            (Kind::Sorted, _) => "VecDeque",
+            (_, Domain::Plain) => "plain",
+            (_, Domain::Reclaiming) => "reclaiming",
+        }
+    }
+}
+
+/// Why words give no settings.
+#[derive(Clone, Copy, Debug, PartialEq, Eq, Drop)]
+pub enum Refused {
+    /// `clap` refuses the words, or a container hasn't such calls or isn't for several threads.
+    Words,
+    /// Memory was refused.
+    NoMemory,
+}
+
+static KINDS: [&str; 4] = ["queue", "list", "set", "sorted"];
+
+static DOMAINS: [&str; 2] = ["plain", "reclaiming"];
+
+static MIXES: [&str; 4] = ["pairs", "apart", "90/5/5", "34/33/33"];
+
+// An option with a number in a range.
+fn number_option<'a>(alloc: Global, id: &'a str, default: &'a str, low: u32, high: u32) -> Arg<'a> {
+    Arg::new(alloc, id)
+        .long(id)
+        .value_parser(ValueParser::Signed(low as i64, high as i64))
+        .default_value(default)
+}
+
+// An option with one of several words.
+fn choice_option<'a>(alloc: Global, id: &'a str, names: &'a [&'a str]) -> Arg<'a> {
+    Arg::new(alloc, id)
+        .long(id)
+        .value_parser(ValueParser::Names(names))
+}
+
+// An option without a value.
+fn flag<'a>(alloc: Global, id: &'a str) -> Arg<'a> {
+    Arg::new(alloc, id).long(id).action(ArgAction::SetTrue)
+}
+
+// The command with its options.
+fn command<'a>(alloc: Global) -> Result<Command<'a>, AllocError> {
+    let command = Command::new(alloc, "stress").no_binary_name(true);
+    let command = command.arg(choice_option(alloc, "container", KINDS.as_slice()))?;
+    let command = command.arg(choice_option(alloc, "domain", DOMAINS.as_slice()))?;
+    let command = command.arg(choice_option(alloc, "mix", MIXES.as_slice()))?;
+    let command = command.arg(number_option(alloc, "threads", "1", 1, 16))?;
+    let command = command.arg(number_option(alloc, "agents", "1", 1, 16))?;
+    let command = command.arg(number_option(alloc, "calls", "60000", 0, 4294967295))?;
+    let command = command.arg(number_option(alloc, "rows", "65535", 2, 65535))?;
+    let command = command.arg(number_option(alloc, "roots", "16", 1, 257))?;
+    let command = command.arg(number_option(alloc, "keys", "1000", 1, 1000000))?;
+    let command = command.arg(number_option(alloc, "seed", "1", 1, 4294967295))?;
+    let command = command.arg(flag(alloc, "stall"))?;
+    command.arg(flag(alloc, "untimed"))
+}
+
+// The number of an option.
+fn number_of(matches: &ArgMatches<'_>, id: &str, low: u32, high: u32) -> u32
+    requires { low ≤ high }
+    ensures { (low ≤ result) × (result ≤ high) }
+{
+    match matches.get_one::<u32>(id) {
+        Some(number) => number.max(low).min(high),
+        None => low,
+    }
+}
+
+// The calls that a word names, where the container has such; without a word those that the container mostly gets.
+fn mix_of(word: Option<&str>, container: Kind) -> Option<Mix> {
+    match (word, container) {
+        (None | Some("pairs"), Kind::Queue) => Some(Mix::Pairs),
+        (Some("apart"), Kind::Queue) => Some(Mix::Apart),
+        (_, Kind::Queue) => None,
+        (None | Some("90/5/5"), _) => Some(Mix::Reads),
+        (Some("34/33/33"), _) => Some(Mix::Writes),
+        (Some(_), _) => None,
+    }
+}
+
+// The settings of these matches.
+fn settings_in(matches: &ArgMatches<'_>) -> Option<Settings> {
+    let container = match matches.get_str("container") {
+        Some("list") => Kind::List,
+        Some("set") => Kind::Set,
+        Some("sorted") => Kind::Sorted,
+        _ => Kind::Queue,
+    };
+    let domain = match matches.get_str("domain") {
+        Some("reclaiming") => Domain::Reclaiming,
+        _ => Domain::Plain,
+    };
+    let mix = mix_of(matches.get_str("mix"), container)?;
+    let threads = number_of(matches, "threads", 1, 16);
+    let stalls = matches.get_flag("stall");
+    if container == Kind::Sorted && (threads > 1 || stalls) {
+        return None;
+    }
+    let load = Load {
+        mix,
+        calls: number_of(matches, "calls", 0, 4294967295),
+        keys: number_of(matches, "keys", 1, 1000000),
+        seed: number_of(matches, "seed", 1, 4294967295),
+    };
+    Some(Settings {
+        container,
+        domain,
+        rows: number_of(matches, "rows", 2, 65535),
+        roots: number_of(matches, "roots", 1, 257),
+        agents: number_of(matches, "agents", 1, 16).max(threads + u32::from(stalls)),
+        times: !matches.get_flag("untimed"),
+        plan: Plan {
+            threads,
+            stalls,
+            load,
+        },
+    })
+}
+
+/// The settings that the words give.
+///
+/// # Errors
+///
+/// * `Words` where `clap` refuses the words, or the container hasn't such calls or isn't for several threads.
+/// * `NoMemory` where memory is refused.
+pub fn settings_of(alloc: Global, words: &[String]) -> Result<Settings, Refused> {
+    let Ok(command) = command(alloc) else {
+        return Err(Refused::NoMemory);
+    };
+    match command.try_get_matches_from(words) {
+        Ok(matches) => settings_in(&matches).ok_or(Refused::Words),
+        Err(error) if error.kind() == ErrorKind::OutOfMemory => Err(Refused::NoMemory),
+        Err(_) => Err(Refused::Words),
+    }
+}

@@ -1,0 +1,270 @@
+//! Words that give settings, and containers of one agent that do right and wrong.
+
+ghost use Rattle.std.specs.Prelude.{◌≡◌};
+ghost use Rattle.orc_stress.specs.Passes.{Stays};
+
+use crate::container::{Container, Outcome};
+use crate::load::{Ask, Load, Mix, Plan};
+use crate::results::{Counts, judge};
+use crate::runs::{Driven, drive};
+use crate::settings::{Domain, Kind, Refused, Settings, settings_of};
+use crate::tally::Answer;
+use std::alloc::{AllocError, Global};
+use std::collections::VecDeque;
+use std::test::Fail;
+use std::thread::Threads;
+use std::time::{Clock, Instant};
+
+// The words of a command line.
+fn words_of(alloc: Global, words: &[&str]) -> Result<Vec<String>, AllocError> {
+    let mut all = Vec::new(alloc);
+    for word in words {
+        all.push(String::from_str(alloc, word)?)?;
+    }
+    Ok(all)
+}
+
+// What no words ask for.
+const DEFAULTS: Settings = Settings {
+    container: Kind::Queue,
+    domain: Domain::Plain,
+    rows: 65535,
+    roots: 16,
+    agents: 1,
+    times: true,
+    plan: Plan {
+        threads: 1,
+        stalls: false,
+        load: Load {
+            mix: Mix::Pairs,
+            calls: 60000,
+            keys: 1000,
+            seed: 1,
+        },
+    },
+};
+
+#[test]
+fn words_give_settings(rt: HostRuntime) -> Result<(), Fail> {
+    let none = words_of(rt.alloc(), &[])?;
+    assert_eq!(rt; settings_of(rt.alloc(), none.as_slice()), Ok(DEFAULTS));
+    let some = words_of(
+        rt.alloc(),
+        &[
+            "--container=set",
+            "--domain",
+            "reclaiming",
+            "--mix=34/33/33",
+            "--threads",
+            "4",
+            "--stall",
+            "--untimed",
+            "--calls=7",
+            "--rows=65",
+            "--roots=257",
+            "--keys=9",
+            "--seed=3",
+        ],
+    )?;
+    let settings = Settings {
+        container: Kind::Set,
+        domain: Domain::Reclaiming,
+        rows: 65,
+        roots: 257,
+        agents: 5,
+        times: false,
+        plan: Plan {
+            threads: 4,
+            stalls: true,
+            load: Load {
+                mix: Mix::Writes,
+                calls: 7,
+                keys: 9,
+                seed: 3,
+            },
+        },
+    };
+    assert_eq!(rt; settings_of(rt.alloc(), some.as_slice()), Ok(settings));
+    Ok(())
+}
+
+#[test]
+fn words_are_refused(rt: HostRuntime) -> Result<(), Fail> {
+    let refused: [&[&str]; 6] = [
+        &["--threads=17"],
+        &["--rows", "1"],
+        &["--container", "stack"],
+        &["--container=queue", "--mix=90/5/5"],
+        &["--container=set", "--mix=pairs"],
+        &["--container=sorted", "--threads=2"],
+    ];
+    for words in refused {
+        let words = words_of(rt.alloc(), words)?;
+        assert_eq!(rt;
+            settings_of(rt.alloc(), words.as_slice()),
+            Err(Refused::Words),
+            "{words:?}"
+        );
+    }
+    Ok(())
+}
+
+// What a shelf does wrong.
+#[derive(Clone, Copy, Debug, PartialEq, Eq, Drop)]
+enum Fault {
+    None,
+    // the second job is lost
+    Loses,
+    // the first job is taken twice
+    Repeats,
+    // the last job is taken first
+    TurnsRound,
+}
+
+// A queue for one agent, whose jobs lie in its pass.
+#[derive(Drop)]
+struct Shelf {
+    fault: Fault,
+}
+
+// The jobs that lie on a shelf, and how many were put there and taken.
+#[derive(Drop)]
+struct Jobs {
+    jobs: VecDeque<(u64, u64)>,
+    put: u64,
+    taken: u64,
+}
+
+impl Shelf {
+    // Puts a job on the shelf.
+    fn put(&self, p: &mut Jobs, job: u64) -> Outcome {
+        let at = p.put;
+        p.put = at.wrapping_add(1);
+        if self.fault == Fault::Loses && at == 1 {
+            return Outcome::Put(job, at);
+        }
+        match p.jobs.push_back((job, at)) {
+            Ok(()) => Outcome::Put(job, at),
+            Err(_) => Outcome::Refused(Answer::NoNode),
+        }
+    }
+
+    // Takes a job from the shelf.
+    fn take(&self, p: &mut Jobs) -> Outcome {
+        let next = if self.fault == Fault::TurnsRound {
+            p.jobs.pop_back()
+        } else {
+            p.jobs.pop_front()
+        };
+        let Some((job, at)) = next else {
+            return Outcome::Nothing;
+        };
+        if self.fault == Fault::Repeats && p.taken == 0 && p.jobs.push_front((job, at)).is_err() {
+            return Outcome::Refused(Answer::NoNode);
+        }
+        p.taken = p.taken.wrapping_add(1);
+        Outcome::Taken(job, at)
+    }
+}
+
+impl Container for Shelf {
+    type Pass = Jobs;
+
+    type Hold = ();
+
+    ghost ready = { λ c p. Unit {0} };
+
+    ghost agent_of = { λ c p. 0 };
+
+    ghost stopped = { λ c hold p. Unit {0} };
+
+    fn agent(&self, _p: &Jobs) -> u32 {
+        0
+    }
+
+    fn call(&self, p: &mut Jobs, ask: &Ask) -> Outcome {
+        match ask {
+            Ask::Give(job) => self.put(p, *job),
+            Ask::Take(_) | Ask::Read(_) => self.take(p),
+        }
+    }
+
+    fn backlog(&self, _p: &Jobs) -> u32 {
+        0
+    }
+
+    fn stop(&self, _p: &mut Jobs) -> () {}
+
+    fn go_on(&self, _p: &mut Jobs, _hold: ()) {}
+}
+
+// Drives such a shelf with four calls of one agent.
+fn drive_shelf<R: Threads + Clock + Sync>(
+    rt: &R,
+    alloc: Global,
+    fault: Fault,
+    mix: Mix,
+) -> Result<Driven, Fail> {
+    let jobs = Jobs {
+        jobs: VecDeque::new(alloc),
+        put: 0,
+        taken: 0,
+    };
+    let passes = vec![in alloc; jobs]?;
+    let load = Load {
+        mix,
+        calls: 4,
+        keys: 1,
+        seed: 1,
+    };
+    let plan = Plan {
+        threads: 1,
+        stalls: false,
+        load,
+    };
+    let instant = Instant::now(rt)?;
+    let (_passes, driven) = drive(rt, alloc, &Shelf { fault }, passes, &plan, instant)?;
+    Ok(driven)
+}
+
+// Of a mix: the jobs that are put by four calls, those that these take, and those that are left.
+#[test]
+fn a_shelf_is_judged(rt: HostRuntime) -> Result<(), Fail> {
+    let rest = Counts {
+        given: 3,
+        reused: 2,
+        linked: 1,
+    };
+    let cases = [
+        (Fault::None, Mix::Pairs, (2, 2, 0), true),
+        (Fault::None, Mix::Apart, (4, 0, 4), true),
+        (Fault::Loses, Mix::Pairs, (2, 1, 0), false),
+        (Fault::Loses, Mix::Apart, (4, 0, 3), false),
+        (Fault::Repeats, Mix::Pairs, (2, 2, 0), false),
+        (Fault::TurnsRound, Mix::Apart, (4, 0, 4), false),
+    ];
+    for (fault, mix, counts, right) in cases {
+        let driven = drive_shelf(&rt, rt.alloc(), fault, mix)?;
+        let items = (
+            driven.tally.put.count,
+            driven.tally.taken.count,
+            driven.rest.items.count,
+        );
+        assert_eq!(rt; items, counts, "{fault:?} {mix:?}");
+        assert_eq!(rt; driven.tally.answers.ok, 4, "{fault:?} {mix:?}");
+        assert_eq!(rt; judge(&rt, &driven, &rest)?, right, "{fault:?} {mix:?}");
+    }
+    Ok(())
+}
+
+#[test]
+fn rows_that_leak_are_wrong(rt: HostRuntime) -> Result<(), Fail> {
+    let driven = drive_shelf(&rt, rt.alloc(), Fault::None, Mix::Pairs)?;
+    let leaks = Counts {
+        given: 3,
+        reused: 1,
+        linked: 1,
+    };
+    assert_eq!(rt; judge(&rt, &driven, &leaks)?, false);
+    Ok(())
+}

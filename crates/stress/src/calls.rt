@@ -1,0 +1,103 @@
+//! The calls of a queue and of a set, as a container is driven.
+
+ghost use Rattle.std.specs.Prelude.{◌≡◌};
+
+use orc_fault::Again;
+use orc_history::{ListRefused, QueueRefused, SharedQueue, SharedSet};
+use orc_stress::{Answer, Ask, Outcome};
+
+// In how many tries a call is made.
+const TURNS: u64 = 64;
+
+// Puts a job at the back, or takes the one at the front.
+pub(crate) fn call_queue<Q: SharedQueue>(queue: &Q, p: &mut Q::Pass, ask: &Ask) -> Outcome
+    requires { Q.usable queue.now p.old }
+    ensures usable { Q.usable queue.now p.new }
+    ensures agent { Q.agent_of queue.now p.new ≡ Q.agent_of queue.now p.old }
+{
+    match ask {
+        Ask::Give(job) => put_job(queue, p, *job),
+        Ask::Take(_) | Ask::Read(_) => take_job(queue, p),
+    }
+}
+
+// Puts a job at the back.
+fn put_job<Q: SharedQueue>(queue: &Q, p: &mut Q::Pass, job: u64) -> Outcome
+    requires { Q.usable queue.now p.old }
+    ensures usable { Q.usable queue.now p.new }
+    ensures agent { Q.agent_of queue.now p.new ≡ Q.agent_of queue.now p.old }
+{
+    match queue.enqueue(p, job, TURNS) {
+        Ok(at) => Outcome::Put(job, at),
+        Err(QueueRefused::Again) => Outcome::Refused(Answer::Again),
+        Err(QueueRefused::NoNode) => Outcome::Refused(Answer::NoNode),
+        Err(QueueRefused::Positions) => Outcome::Refused(Answer::Spent),
+    }
+}
+
+// Takes the job at the front.
+fn take_job<Q: SharedQueue>(queue: &Q, p: &mut Q::Pass) -> Outcome
+    requires { Q.usable queue.now p.old }
+    ensures usable { Q.usable queue.now p.new }
+    ensures agent { Q.agent_of queue.now p.new ≡ Q.agent_of queue.now p.old }
+{
+    match queue.dequeue(p, TURNS) {
+        Ok(Some((job, at))) => Outcome::Taken(job, at),
+        Ok(None) => Outcome::Nothing,
+        Err(Again) => Outcome::Refused(Answer::Again),
+    }
+}
+
+// Inserts a key, removes one, or asks for one.
+pub(crate) fn call_set<S: SharedSet>(set: &S, p: &mut S::Pass, ask: &Ask) -> Outcome
+    requires { S.usable set.now p.old }
+    ensures usable { S.usable set.now p.new }
+    ensures agent { S.agent_of set.now p.new ≡ S.agent_of set.now p.old }
+{
+    match ask {
+        Ask::Give(key) => insert_key(set, p, *key),
+        Ask::Take(key) => remove_key(set, p, *key),
+        Ask::Read(key) => find_key(set, p, *key),
+    }
+}
+
+// Inserts a key.
+fn insert_key<S: SharedSet>(set: &S, p: &mut S::Pass, key: u64) -> Outcome
+    requires { S.usable set.now p.old }
+    ensures usable { S.usable set.now p.new }
+    ensures agent { S.agent_of set.now p.new ≡ S.agent_of set.now p.old }
+{
+    match set.insert(p, key, TURNS) {
+        Ok(true) => Outcome::Put(key, 0),
+        Ok(false) => Outcome::Nothing,
+        Err(ListRefused::Again) => Outcome::Refused(Answer::Again),
+        Err(ListRefused::NoNode) => Outcome::Refused(Answer::NoNode),
+        Err(ListRefused::Spent(_)) => Outcome::Refused(Answer::Spent),
+    }
+}
+
+// Removes a key.
+fn remove_key<S: SharedSet>(set: &S, p: &mut S::Pass, key: u64) -> Outcome
+    requires { S.usable set.now p.old }
+    ensures usable { S.usable set.now p.new }
+    ensures agent { S.agent_of set.now p.new ≡ S.agent_of set.now p.old }
+{
+    match set.remove(p, key, TURNS) {
+        Ok(true) => Outcome::Removed(key),
+        Ok(false) => Outcome::Nothing,
+        Err(Again) => Outcome::Refused(Answer::Again),
+    }
+}
+
+// Asks for a key.
+fn find_key<S: SharedSet>(set: &S, p: &mut S::Pass, key: u64) -> Outcome
+    requires { S.usable set.now p.old }
+    ensures usable { S.usable set.now p.new }
+    ensures agent { S.agent_of set.now p.new ≡ S.agent_of set.now p.old }
+{
+    match set.contains(p, key, TURNS) {
+        Ok(true) => Outcome::Found,
+        Ok(false) => Outcome::Nothing,
+        Err(Again) => Outcome::Refused(Answer::Again),
+    }
+}
