@@ -1,0 +1,136 @@
+//! Laps: so many posts on threads, and then the takes of all jobs.
+
+ghost use Rattle.std.specs.Prelude.{◌≡◌, ◌+◌, ◌<◌, ◌≤◌, ℕ, [], All, length, slice_index_or};
+ghost use Rattle.orc_jobs.specs.GoodLines.{AreGood};
+
+use crate::bare::{next_desk, post_on_threads, take_bare};
+use orc_board::Gate;
+use orc_history::{LearnQueue, LearnSet, SharedQueue, SharedSet};
+use orc_jobs::Lines;
+use orc_workers::{fresh_desks, run_at_desks};
+use std::alloc::Global;
+use std::io;
+use std::sync::Wait;
+use std::sync::atomic::{AtomicU64, Ordering};
+use std::thread::Threads;
+use std::time::{Clock, Instant};
+
+// Microseconds until the caller begins to take, microseconds of the whole lap, and how many jobs were taken.
+#[derive(Clone, Copy, Drop)]
+pub(crate) struct Lap {
+    pub(crate) posting: u64,
+    pub(crate) all: u64,
+    pub(crate) jobs: u64,
+}
+
+// A gate that notes when the caller, who is agent 0, begins to take.
+#[derive(Drop)]
+struct Stopwatch<'a, R> {
+    clock: &'a R,
+    start: Instant,
+    posting: AtomicU64,
+}
+
+impl<R: Clock> Gate for Stopwatch<'_, R> {
+    fn before(&self, worker: u32, call: u64) {
+        if worker == 0 && call == 0 {
+            self.posting
+                .store(micros_since(self.clock, self.start), Ordering::SeqCst);
+        }
+    }
+}
+
+// The microseconds since then, or 0 where the clock can't be read.
+fn micros_since(clock: &impl Clock, start: Instant) -> u64 {
+    match start.elapsed(clock) {
+        Ok(time) => u64::try_from(time.as_micros()).unwrap_or(u64::MAX),
+        Err(_) => 0,
+    }
+}
+
+// A lap by workers of the board, or none where memory is refused.
+pub(crate) fn lap_of_workers<
+    R: Threads + Wait + Clock + Sync,
+    Q: LearnQueue + Sync,
+    S: LearnSet + Sync,
+>(
+    rt: &R,
+    alloc: Global,
+    lines: &Lines,
+    posters: u32,
+    takers: u32,
+    queue: &Q,
+    set: &S,
+    queue_passes: Vec<Q::Pass>,
+    set_passes: Vec<S::Pass>,
+) -> io::Result<Option<Lap>>
+where
+    Q::Pass: Send,
+    S::Pass: Send,
+    requires good { AreGood lines.now }
+    requires posters { (1 ≤ posters) × (posters ≤ 8) × (takers ≤ 7) }
+    requires queue_usable { All (λ p. Q.usable queue.now p) queue_passes.items }
+    requires queue_fresh { All (λ p. Q.history queue.now (Q.journal p) ≡ []) queue_passes.items }
+    requires queue_numbered { (i : ℕ) (p : Q.Pass) → i < length queue_passes.items
+        → Q.agent_of queue.now (slice_index_or queue_passes.items i p) ≡ i }
+    requires queue_all { (length queue_passes.items ≡ 1 + (posters + takers)) × (Q.agents queue.now ≡ 1 + (posters + takers)) }
+    requires first { Q.first queue.now ≡ 0 }
+    requires set_usable { All (λ p. S.usable set.now p) set_passes.items }
+    requires set_fresh { All (λ p. S.history set.now (S.journal p) ≡ []) set_passes.items }
+    requires set_numbered { (i : ℕ) (p : S.Pass) → i < length set_passes.items
+        → S.agent_of set.now (slice_index_or set_passes.items i p) ≡ i }
+    requires set_all { (length set_passes.items ≡ 1 + (posters + takers)) × (S.agents set.now ≡ 1 + (posters + takers)) }
+{
+    let Ok(mut desks) = fresh_desks(alloc, queue, set, queue_passes, set_passes) else {
+        return Ok(None);
+    };
+    let start = Instant::now(rt)?;
+    let watch = Stopwatch {
+        clock: rt,
+        start,
+        posting: AtomicU64::new(0),
+    };
+    let run = run_at_desks(
+        rt, alloc, lines, posters, takers, queue, set, &mut desks, &watch,
+    );
+    let all = micros_since(rt, start);
+    let posting = watch.posting.load(Ordering::SeqCst);
+    match run {
+        Ok(replies) => Ok(Some(Lap {
+            posting,
+            all,
+            jobs: replies.takes.len() as u64,
+        })),
+        Err(_) => Ok(None),
+    }
+}
+
+// A lap by bare calls on so many threads, or none where there is no pass.
+pub(crate) fn lap_of_calls<
+    R: Threads + Clock + Sync,
+    Q: SharedQueue + Drop + Sync,
+    S: SharedSet + Drop + Sync,
+>(
+    rt: &R,
+    posts: u32,
+    threads: u32,
+    made: (Q, S, Vec<Q::Pass>, Vec<S::Pass>),
+) -> io::Result<Option<Lap>>
+where
+    Q::Pass: Send,
+    S::Pass: Send,
+    requires threads { 1 ≤ threads }
+    requires queue { All (λ p. Q.usable made.0 p) made.2.items }
+    requires set { All (λ p. S.usable made.1 p) made.3.items }
+{
+    let (queue, set, mut queue_passes, mut set_passes) = made;
+    let Some(desk) = next_desk(&queue, &set, &mut queue_passes, &mut set_passes) else {
+        return Ok(None);
+    };
+    let start = Instant::now(rt)?;
+    post_on_threads(rt, &queue, &set, posts, threads, queue_passes, set_passes);
+    let posting = micros_since(rt, start);
+    let jobs = take_bare(&queue, &set, desk, posts);
+    let all = micros_since(rt, start);
+    Ok(Some(Lap { posting, all, jobs }))
+}

@@ -1,0 +1,30 @@
+//! The lines of a race.
+
+ghost use Rattle.std.specs.Prelude.{IfOk};
+ghost use Rattle.orc_jobs.specs.GoodLines.{AreGood};
+
+use orc_fault::NoMemory;
+use orc_jobs::{Lines, read_jobs};
+use std::alloc::Global;
+
+// The longest job file that is read, in bytes.
+const LONGEST: usize = 16_777_216;
+
+// So many posts, whose ids fall to 0.
+pub(crate) fn falling(alloc: Global, posts: u32) -> Result<Lines, NoMemory>
+    ensures { IfOk result AreGood }
+{
+    let mut text = String::new(alloc);
+    for index in 0..posts {
+        let id = posts - 1 - index;
+        let line = format!(in alloc; "post,{id},bytes,x\n")?;
+        text.push_str(line.as_str())?;
+    }
+    if text.len() > LONGEST {
+        return Err(NoMemory);
+    }
+    match read_jobs(alloc, text.as_bytes()) {
+        Ok(lines) => Ok(lines),
+        Err(_) => Err(NoMemory),
+    }
+}
