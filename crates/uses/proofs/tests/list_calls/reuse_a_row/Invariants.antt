@@ -1,4 +1,0 @@
-use Rattle.uses.proofs.tests.list_calls.reuse_a_row.Given as goal
-
-abbrev pub invariant-loop-key : goal.invariant-loop-key
-invariant-loop-key g l = g.S.SharedSet.usable l.set l.p
