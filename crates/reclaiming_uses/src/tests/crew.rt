@@ -42,7 +42,7 @@ pub(super) fn are_in_order<D: Discipline>(domain: &OrcDomain<D>, passes: &[OrcPa
 }
 
 // How many rows all passes together have still to work through.
-pub(super) fn backlog_of_all<D: Discipline>(domain: &OrcDomain<D>, passes: &[OrcPass<D>]) -> u32
+fn backlog_of_all<D: Discipline>(domain: &OrcDomain<D>, passes: &[OrcPass<D>]) -> u32
     requires { All (λ p. IsPassOf domain.now p × IsIdle (seat_of domain.now p)) passes.now }
 {
     let mut rows: u32 = 0;
@@ -52,19 +52,65 @@ pub(super) fn backlog_of_all<D: Discipline>(domain: &OrcDomain<D>, passes: &[Orc
     rows
 }
 
-// Lets each of the passes settle, while no other steps. Answers how many rows they then have still to work through.
-pub(super) fn backlog_when_alone<D: Discipline>(
-    domain: &OrcDomain<D>,
-    passes: &mut [OrcPass<D>],
-) -> u32
+// Lets the pass drain.
+fn drain_one<D: Discipline>(domain: &OrcDomain<D>, p: &mut OrcPass<D>)
+    requires { IsPassOf domain.now p.old × IsIdle (seat_of domain.now p.old) }
+    ensures { IsPassOf domain.now p.new × IsIdle (seat_of domain.now p.new) }
+{
+    domain.drain(p);
+}
+
+// Lets each of the passes drain, while no other steps. Answers how many rows they then have still to work through.
+fn backlog_when_alone<D: Discipline>(domain: &OrcDomain<D>, passes: &mut [OrcPass<D>]) -> u32
     requires usable { All (λ p. IsPassOf domain.now p × IsIdle (seat_of domain.now p)) passes.old }
     ensures usable { All (λ p. IsPassOf domain.now p × IsIdle (seat_of domain.now p)) passes.new }
     ensures many { length passes.new ≡ length passes.old }
 {
     for place in 0..passes.len() {
-        domain.settle(&mut passes[place]);
+        drain_one(domain, &mut passes[place]);
     }
     backlog_of_all(domain, passes)
+}
+
+// How many rows the passes of the queue have still to work through.
+pub(super) fn backlog_of_queue(queue: &ReclaimingQueue, passes: &[ReclaimingQueuePass]) -> u32
+    requires { All (λ p. ⟦<ReclaimingQueue as SharedQueue>⟧.usable queue.now p) passes.now }
+{
+    backlog_of_all(queue.links(), passes)
+}
+
+// How many rows the passes of the list have still to work through.
+pub(super) fn backlog_of_list(list: &ReclaimingList, passes: &[ReclaimingListPass]) -> u32
+    requires { All (λ p. ⟦<ReclaimingList as SharedSet>⟧.usable list.now p) passes.now }
+{
+    backlog_of_all(list.links(), passes)
+}
+
+// The same, once each pass of the queue has drained alone.
+pub(super) fn drained_queue(queue: &ReclaimingQueue, passes: &mut Vec<ReclaimingQueuePass>) -> u32
+    requires usable { All (λ p. ⟦<ReclaimingQueue as SharedQueue>⟧.usable queue.now p) passes.old.items }
+    ensures usable { All (λ p. ⟦<ReclaimingQueue as SharedQueue>⟧.usable queue.now p) passes.new.items }
+    ensures many { length passes.new.items ≡ length passes.old.items }
+{
+    backlog_when_alone(queue.links(), passes.as_mut_slice())
+}
+
+// The same of a list.
+pub(super) fn drained_list(list: &ReclaimingList, passes: &mut Vec<ReclaimingListPass>) -> u32
+    requires usable { All (λ p. ⟦<ReclaimingList as SharedSet>⟧.usable list.now p) passes.old.items }
+    ensures usable { All (λ p. ⟦<ReclaimingList as SharedSet>⟧.usable list.now p) passes.new.items }
+    ensures many { length passes.new.items ≡ length passes.old.items }
+{
+    backlog_when_alone(list.links(), passes.as_mut_slice())
+}
+
+// The same of a set.
+pub(super) fn drained_set(set: &ReclaimingSet, passes: &mut Vec<ReclaimingListPass>) -> u32
+    requires usable { All (λ p. ⟦<ReclaimingSet as SharedSet>⟧.usable set.now p) passes.old.items }
+    ensures usable { All (λ p. ⟦<ReclaimingSet as SharedSet>⟧.usable set.now p) passes.new.items }
+    ensures many { length passes.new.items ≡ length passes.old.items }
+{
+    backlog_when_alone(set.links(), passes.as_mut_slice())
 }
 
 // Brings the queue to rest, and answers its numbers; none where the passes aren't in order of agent.

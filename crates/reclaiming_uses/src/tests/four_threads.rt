@@ -1,13 +1,72 @@
 //! Queue, list and set on four threads, over domains with few rows, and at rest afterwards.
 
-use super::crew::{at_rest_list, at_rest_queue, at_rest_set, backlog_when_alone};
+ghost use Rattle.std.specs.Prelude.{◌≡◌, ◌<◌, All, length};
+
+use super::crew::{
+    at_rest_list, at_rest_queue, at_rest_set, drained_list, drained_queue, drained_set,
+};
 use crate::{reclaiming_list_over, reclaiming_queue_over, reclaiming_set_over};
+use orc_history::{SharedQueue, SharedSet};
 use orc_words::Shape;
 use std::test::Fail;
+use std::thread::Threads;
 use uses::{QueueSums, SetSums, add_and_take_out_by_all, present, put_and_take_by_all};
 
 // How many calls each agent makes.
 const CALLS: u64 = 100_000;
+
+// Each agent puts and takes in turn, in a thread of its own.
+fn put_and_take<R: Threads + Sync, Q: SharedQueue + Sync>(
+    rt: &R,
+    queue: &Q,
+    passes: &mut Vec<Q::Pass>,
+    sums: &QueueSums,
+)
+where
+    Q::Pass: Send,
+    requires usable { All (λ p. Q.usable queue.now p) passes.old.items }
+    ensures usable { All (λ p. Q.usable queue.now p) passes.new.items }
+    ensures many { length passes.new.items ≡ length passes.old.items }
+{
+    put_and_take_by_all(rt, queue, passes.as_mut_slice(), CALLS / 2, sums);
+}
+
+// Each agent inserts, removes and asks in turn, in a thread of its own. Answers the bits of the keys that are then present.
+fn call_and_ask<R: Threads + Sync, S: SharedSet + Sync>(
+    rt: &R,
+    set: &S,
+    passes: &mut [S::Pass],
+    keys: u64,
+    sums: &SetSums,
+) -> Option<u64>
+where
+    S::Pass: Send,
+    requires keys { 0 < keys }
+    requires usable { All (λ p. S.usable set.now p) passes.old }
+    ensures usable { All (λ p. S.usable set.now p) passes.new }
+    ensures many { length passes.new ≡ length passes.old }
+{
+    add_and_take_out_by_all(rt, set, passes, keys, CALLS, sums);
+    present(set, passes)
+}
+
+// All agents do so.
+fn add_and_take_out<R: Threads + Sync, S: SharedSet + Sync>(
+    rt: &R,
+    set: &S,
+    passes: &mut Vec<S::Pass>,
+    keys: u64,
+    sums: &SetSums,
+) -> Option<u64>
+where
+    S::Pass: Send,
+    requires keys { 0 < keys }
+    requires usable { All (λ p. S.usable set.now p) passes.old.items }
+    ensures usable { All (λ p. S.usable set.now p) passes.new.items }
+    ensures many { length passes.new.items ≡ length passes.old.items }
+{
+    call_and_ask(rt, set, passes.as_mut_slice(), keys, sums)
+}
 
 // Each put that was answered took a row, of which there are 64: so the rows were reused. A put that finds no row counts as a
 // call without an answer, and isn't wrong: others may have retired rows that they have still to free. At rest the dummy is
@@ -19,8 +78,8 @@ fn a_queue_reuses_its_rows(rt: HostRuntime) -> Result<(), Fail> {
         panic!(rt; "memory")
     };
     let sums = QueueSums::new();
-    put_and_take_by_all(&rt, &queue, passes.as_mut_slice(), CALLS / 2, &sums);
-    assert_eq!(rt; backlog_when_alone(queue.links(), passes.as_mut_slice()), 0);
+    put_and_take(&rt, &queue, &mut passes, &sums);
+    assert_eq!(rt; drained_queue(&queue, &mut passes), 0);
     let Some(rest) = at_rest_queue(queue, passes) else {
         panic!(rt; "passes in order")
     };
@@ -41,9 +100,8 @@ fn a_list_reuses_its_rows(rt: HostRuntime) -> Result<(), Fail> {
         panic!(rt; "memory")
     };
     let sums = SetSums::new();
-    add_and_take_out_by_all(&rt, &list, passes.as_mut_slice(), 16, CALLS, &sums);
-    assert_eq!(rt; backlog_when_alone(list.links(), passes.as_mut_slice()), 0);
-    let left = present(&list, passes.as_mut_slice());
+    let left = add_and_take_out(&rt, &list, &mut passes, 16, &sums);
+    assert_eq!(rt; drained_list(&list, &mut passes), 0);
     let Some(rest) = at_rest_list(list, passes) else {
         panic!(rt; "passes in order")
     };
@@ -63,9 +121,8 @@ fn a_set_of_sixteen_buckets_reuses_its_rows(rt: HostRuntime) -> Result<(), Fail>
         panic!(rt; "memory")
     };
     let sums = SetSums::new();
-    add_and_take_out_by_all(&rt, &set, passes.as_mut_slice(), 64, CALLS, &sums);
-    assert_eq!(rt; backlog_when_alone(set.links(), passes.as_mut_slice()), 0);
-    let left = present(&set, passes.as_mut_slice());
+    let left = add_and_take_out(&rt, &set, &mut passes, 64, &sums);
+    assert_eq!(rt; drained_set(&set, &mut passes), 0);
     let Some(rest) = at_rest_set(set, passes) else {
         panic!(rt; "passes in order")
     };

@@ -3,7 +3,7 @@
 ghost use Rattle.std.specs.Prelude.{◌≡◌, ◌<◌, All, length};
 ghost use Rattle.std.specs.List.{AllByRecursion};
 
-use super::crew::{at_rest_list, backlog_of_all};
+use super::crew::{at_rest_list, backlog_of_list};
 use crate::reclaiming_list_over;
 use orc_chain_rule::Chain;
 use orc_heap::{At, Links, Looked};
@@ -151,7 +151,7 @@ fn a_held_node_keeps_few_rows(rt: HostRuntime) -> Result<(), Fail> {
         panic!(rt; "a node to hold")
     };
     assert!(rt; rows < ROWS && rows >= ROWS - 3 * 9, "{rows} rows");
-    assert_eq!(rt; backlog_of_all(list.links(), passes.as_slice()), 1);
+    assert_eq!(rt; backlog_of_list(&list, passes.as_slice()), 1);
     let Some(rest) = at_rest_list(list, passes) else {
         panic!(rt; "passes in order")
     };

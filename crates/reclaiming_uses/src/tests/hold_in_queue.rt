@@ -3,7 +3,7 @@
 ghost use Rattle.std.specs.Prelude.{◌≡◌, ◌<◌, All, length};
 ghost use Rattle.std.specs.List.{AllByRecursion};
 
-use super::crew::{at_rest_queue, backlog_of_all};
+use super::crew::{at_rest_queue, backlog_of_queue};
 use crate::reclaiming_queue_over;
 use orc_fifo_rule::Fifo;
 use orc_heap::{At, Links, Looked};
@@ -96,7 +96,7 @@ fn a_hold_that_is_let_go_late(rt: HostRuntime) -> Result<(), Fail> {
         panic!(rt; "memory")
     };
     assert_eq!(rt; by_three(&queue, &mut passes), Some((601, 400)));
-    assert_eq!(rt; backlog_of_all(queue.links(), passes.as_slice()), 1);
+    assert_eq!(rt; backlog_of_queue(&queue, passes.as_slice()), 1);
     let Some(rest) = at_rest_queue(queue, passes) else {
         panic!(rt; "passes in order")
     };
