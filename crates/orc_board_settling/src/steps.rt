@@ -32,6 +32,7 @@ pub(crate) fn own_record<'a, D: Discipline>(
 }
 
 // Makes a step that settles, of a kind that changes no link and clears no slot.
+#[inline(always)]
 pub(crate) fn settle_step<D: Discipline>(
     board: &MachineBoard<D>,
     p: &mut MachineBoardPass<D>,

@@ -24,6 +24,7 @@ impl Action {
 }
 
 // The counter word with count 0, no retired bit and this sequence.
+#[inline(always)]
 pub(crate) fn clear_word(sequence: u64) -> u64
     requires { sequence < 2 ^ 40 }
     ensures { result ≡ clear_word sequence }
@@ -32,6 +33,7 @@ pub(crate) fn clear_word(sequence: u64) -> u64
 }
 
 // The first or the second value of a row.
+#[inline(always)]
 fn value_word(row: u32, which: u32) -> Word
     ensures { result ≡ cond (which == 0) (Word.First row) (Word.Second row) }
 {

@@ -12,6 +12,7 @@ use orc_words::{Shape, Word};
 const LINE: usize = 8;
 
 // The first index of a row.
+#[inline(always)]
 fn rows_at(shape: &Shape) -> usize
     ensures { result ≡ rows_at (bounds_of shape.now) }
 {
@@ -19,6 +20,7 @@ fn rows_at(shape: &Shape) -> usize
 }
 
 // The first index of an agent.
+#[inline(always)]
 fn agents_at(shape: &Shape) -> usize
     ensures { result ≡ agents_at (bounds_of shape.now) }
 {
@@ -26,6 +28,7 @@ fn agents_at(shape: &Shape) -> usize
 }
 
 /// The index of a word in the table, from 0.
+#[inline(always)]
 pub fn index_of(shape: &Shape, word: Word) -> usize
     requires { IsWithin (bounds_of shape.now) word }
     ensures index { result ≡ index (bounds_of shape.now) (place (bounds_of shape.now) word) }

@@ -52,6 +52,7 @@ impl<N: Copy> Machine<N> for Reclaiming {
 
     ghost leaves_room = { counted_leaves_room };
 
+    #[inline(always)]
     fn operation(
         shape: &MachineShape<N>,
         agent: u32,
@@ -65,6 +66,7 @@ impl<N: Copy> Machine<N> for Reclaiming {
         }
     }
 
+    #[inline(always)]
     fn keep(shape: &MachineShape<N>, agent: u32, op: &Request, own: &mut Agent, n: u64) {
         advance(own, &op.op, n);
     }

@@ -59,6 +59,7 @@ pub struct PlainStep<N> {
 pub(crate) const OUT: u64 = 3;
 
 // Names the word of a row's first (0) or second (1) value.
+#[inline(always)]
 fn value_word(row: u32, which: u32) -> Word
     ensures { result ≡ value_word row which }
 {
@@ -70,6 +71,7 @@ fn value_word(row: u32, which: u32) -> Word
 }
 
 // Names the word that the operation reads or writes.
+#[inline(always)]
 fn word_of(op: &PlainOp) -> Word
     ensures { result ≡ word_of op.now }
 {
@@ -119,6 +121,7 @@ impl<N: Copy> Machine<N> for Plain {
 
     ghost obeys = { plain_obeys };
 
+    #[inline(always)]
     fn operation(shape: &PlainShape<N>, agent: u32, op: &PlainOp, own: &()) -> PlacedOperation {
         let index = index_of(&shape.shape, word_of(op));
         let operation = match *op {
@@ -141,5 +144,6 @@ impl<N: Copy> Machine<N> for Plain {
         PlacedOperation { index, operation }
     }
 
+    #[inline(always)]
     fn keep(shape: &PlainShape<N>, agent: u32, op: &PlainOp, own: &mut (), n: u64) {}
 }

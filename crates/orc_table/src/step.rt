@@ -12,6 +12,7 @@ use orc_heap::Discipline;
 
 impl<D: Discipline> PlainBoard<D> {
     // Makes one step, which leaves the pass's own notes of its rows as they are.
+    #[inline(always)]
     pub(crate) fn step(&self, p: &mut PlainBoardPass<D>, op: PlainOp, note: &Option<D::Note>) -> u64
         requires table { p.old.pass.seat.table_id ≡ self.now.words.table.shared.table_id }
         requires allowed { Allowed (board_bounds self.now) op }

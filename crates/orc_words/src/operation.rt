@@ -35,6 +35,7 @@ impl Operation {
 
     /// What the operation answers that found this word: the word, or what a store wrote, or 1 or 0 as a
     /// compare-and-exchange succeeded or not.
+    #[inline(always)]
     pub fn answer(&self, word: u64) -> u64
         ensures { result ≡ answer_of self.now word }
     {
