@@ -2,7 +2,6 @@
 #![tactic(auto)]
 
 mod asking;
-mod board_run;
 mod learning;
 mod list;
 mod many_threads;
@@ -13,7 +12,6 @@ mod stopping;
 mod two_threads;
 
 pub use asking::{SetAnswer, set_answers};
-pub use board_run::run_over_plain_domains;
 pub use learning::{each_sees_the_others, each_takes_the_others};
 pub use list::{DomainList, ListPass, next_list_pass, one_list_over, two_list_passes};
 pub use many_threads::{QueueSums, SetSums, add_and_take_out_by_all, present, put_and_take_by_all};

@@ -12,7 +12,6 @@ mod meeting;
 mod queue_calls;
 mod queue_threads;
 mod set_calls;
-mod workers;
 
 #[test]
 fn a_job_goes_through_a_queue(rt: HostRuntime) -> Result<(), Fail> {

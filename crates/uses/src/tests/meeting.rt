@@ -1,12 +1,13 @@
 //! A queue whose first calls by agents 1, 2 and 3 wait for each other.
 
-ghost use Rattle.std.specs.Prelude.{◌≡◌, ◌<◌, ℕ, [], All, length, slice_index_or};
+ghost use Rattle.std.specs.Prelude.{◌≡◌, ◌<◌, ℕ, [], All, IfOk, length, slice_index_or};
+ghost use Rattle.orc_jobs.specs.GoodLines.{AreGood};
 
-use super::workers::{came, is_each_taken_once, posts};
 use crate::{Unmade, plain_queue, set_over};
-use orc_board::OpenGate;
+use orc_board::{OpenGate, PostWord, Replies};
 use orc_fault::{Again, NoMemory};
 use orc_history::{LearnQueue, LearnSet, QueueRefused, SharedQueue};
+use orc_jobs::{Lines, read_jobs};
 use orc_words::Shape;
 use orc_workers::{fresh_desks, run_board};
 use std::alloc::Global;
@@ -14,6 +15,19 @@ use std::sync::Wait;
 use std::sync::atomic::{AtomicU64, Ordering};
 use std::test::Fail;
 use std::thread::Threads;
+
+// For how many looks an agent is held at most.
+const LOOKS: u64 = 1 << 30;
+
+// Waits until the flag is up, and answers whether it came up in time.
+fn came(flag: &AtomicU64) -> bool {
+    for _ in 0..LOOKS {
+        if flag.load(Ordering::SeqCst) == 1 {
+            return true;
+        }
+    }
+    false
+}
 
 // Passes each call on, and holds the first one of each of three agents until all three have come.
 #[derive(Drop)]
@@ -98,6 +112,27 @@ impl<Q: LearnQueue> LearnQueue for Meeting<Q> {
     ghost crowd_below = { λ m agent h. Q.crowd_below m.inner agent h };
 }
 
+// The lines of a file of two posts.
+fn two_posts(alloc: Global) -> Result<Lines, NoMemory>
+    ensures { IfOk result AreGood }
+{
+    match read_jobs(alloc, b"post,0,bytes,x\npost,1,bytes,x\n") {
+        Ok(lines) => Ok(lines),
+        Err(_) => Err(NoMemory),
+    }
+}
+
+// Whether both were posted, and each was taken once.
+fn are_both_taken_once(replies: &Replies) -> bool {
+    let posts = replies.posts.items();
+    let takes = replies.takes.items();
+    posts
+        .iter()
+        .all(|reply| matches!(reply.what, PostWord::Posted(_)))
+        && takes.len() == 2
+        && takes[0].at != takes[1].at
+}
+
 // What came of a run: how many agents met, how many desks came back, and whether each job was taken once.
 #[derive(Clone, Copy, Debug, PartialEq, Eq, Drop)]
 struct Met {
@@ -120,7 +155,7 @@ where
     requires numbered { (i : ℕ) (p : S.Pass) → i < length set_passes.items → S.agent_of set.now (slice_index_or set_passes.items i p) ≡ i }
     requires four { (length set_passes.items ≡ 4) × (S.agents set.now ≡ 4) }
 {
-    let lines = posts(alloc, 2)?;
+    let lines = two_posts(alloc)?;
     let (inner, queue_passes) = plain_queue(alloc, 16, 4)?;
     let queue = Meeting {
         inner,
@@ -134,7 +169,7 @@ where
     Ok(Met {
         agents: queue.met.load(Ordering::SeqCst),
         desks: finished.desks.len(),
-        taken_once: is_each_taken_once(alloc, &finished.replies)?,
+        taken_once: are_both_taken_once(&finished.replies),
     })
 }
 
