@@ -1,8 +1,5 @@
 //! Words that give settings, and containers of one agent that do right and wrong.
 
-ghost use Rattle.std.specs.Prelude.{◌≡◌};
-ghost use Rattle.orc_stress.specs.Passes.{Stays};
-
 use crate::container::{Container, Outcome};
 use crate::load::{Ask, Load, Mix, Plan};
 use crate::results::{Counts, judge};

@@ -56,7 +56,7 @@ fn run<R: Threads + Sync>(rt: &R, alloc: Global) -> Option<u64> {
         return None;
     };
     let (mut one, mut other) = two_passes(&queue, passes)?;
-    Some(share(rt, &queue, &mut one, &mut other)) // on two threads
+    Some(share(rt, &queue, &mut one, &mut other))
 }
 
 fn main(rt: HostRuntime) -> ExitCode {

@@ -1,6 +1,6 @@
-use Rattle.std.proofs.Common.{List, [], ap, ap₂, append_assoc, arith, length, subst, sym, ◌+◌, ◌++◌, ◌∙◌, ◌∷◌, ◌≡◌}
+use Rattle.std.proofs.Common.{List, [], ap, ap₂, append_assoc, arith, subst, sym, ◌+◌, ◌++◌, ◌∙◌, ◌∷◌, ◌≡◌}
 use Rattle.orc_stress.specs.Answers.{calls_of}
-use Rattle.orc_stress.specs.Parts.{part_of, parts_of}
+use Rattle.orc_stress.specs.Parts.{parts_of}
 use Rattle.orc_stress.specs.Passes.{AllStay}
 use Rattle.orc_stress.proofs.Staying.{calls_summed, one_more, parts_few, parts_more}
 use Rattle.orc_stress.proofs.agents.+agents.Goals as goal

@@ -1,6 +1,5 @@
 use Rattle.std.proofs.Common.{◌≡◌}
 use Rattle.orc_stress.specs.Answers.{calls_of}
-use Rattle.orc_stress.specs.Passes.{Stays}
 use Rattle.orc_stress.proofs.agents.make_calls.Given as goal
 
 -- the pass is ready, and so many calls are counted
