@@ -1,5 +1,5 @@
 -- An agent that is stopped, and holds one node or none.
-use Rattle.std.specs.Prelude.{None, Option, Some, replicate, slice_set, ℕ, ◌≡◌}
+use Rattle.std.specs.Prelude.{None, Option, Some, replicate, slice_set, ◌≡◌}
 use Rattle.orc_heap.specs.Slots.{Hold, Holds, Slots}
 use Rattle.orc_heap.specs.declared.links.Links.{Ghosts as LinksOf}
 

@@ -1,11 +1,13 @@
-//! The containers as they are driven.
+//! Containers over domains, as they are driven.
 
 ghost use Rattle.std.specs.Prelude.{◌≡◌, ◌<◌};
-ghost use Rattle.orc_heap.specs.Seats.{IsIdle};
+ghost use Rattle.orc_heap.specs.Domains.{agent};
+ghost use Rattle.stress.specs.Passes.{AreAllIdle, IsIdlePass};
 ghost use Rattle.stress.specs.Stops.{IsStopped};
 
 use crate::calls::{call_queue, call_set};
 use crate::domains::Ending;
+use crate::runs::Resting;
 use crate::stops::{hold_first, let_go};
 use orc_chain_rule::Chain;
 use orc_fifo_rule::Fifo;
@@ -13,169 +15,136 @@ use orc_heap::Held;
 use orc_list::OneList;
 use orc_queue::Queue;
 use orc_set::Set;
-use orc_stress::{Ask, Container, Outcome};
+use orc_stress::{Ask, Container, Counts, Outcome};
+use std::marker::PhantomData;
 
-// A queue, over a domain that has a root.
+// A container over a domain, which agents call with passes of that.
+pub(crate) trait Over<L: Ending> {
+    // the domain that it stands on
+    ghost domain_of: { Self → L };
+
+    // The domain that it stands on.
+    fn domain(&self) -> &L
+        ensures { result.now ≡ domain_of self.now };
+
+    // Gives it up for its domain.
+    fn into_domain(self) -> L
+        ensures { result ≡ domain_of self };
+
+    // Makes one call.
+    fn call(&self, p: &mut L::Pass, ask: &Ask) -> Outcome
+        requires { IsIdlePass L.Links (domain_of self.now) p.old }
+        ensures idle { IsIdlePass L.Links (domain_of self.now) p.new }
+        ensures agent { agent L.Links (domain_of self.now) p.new ≡ agent L.Links (domain_of self.now) p.old };
+}
+
+impl<L: Ending<Rule = Fifo>> Over<L> for Queue<L> {
+    ghost domain_of = { λ c. c.links };
+
+    fn domain(&self) -> &L {
+        self.links()
+    }
+
+    fn into_domain(self) -> L {
+        self.into_links()
+    }
+
+    fn call(&self, p: &mut L::Pass, ask: &Ask) -> Outcome {
+        call_queue(self, p, ask)
+    }
+}
+
+impl<L: Ending<Rule = Chain>> Over<L> for OneList<L> {
+    ghost domain_of = { λ c. c.list.links };
+
+    fn domain(&self) -> &L {
+        self.links()
+    }
+
+    fn into_domain(self) -> L {
+        self.into_links()
+    }
+
+    fn call(&self, p: &mut L::Pass, ask: &Ask) -> Outcome {
+        call_set(self, p, ask)
+    }
+}
+
+impl<L: Ending<Rule = Chain>> Over<L> for Set<L> {
+    ghost domain_of = { λ c. c.list.links };
+
+    fn domain(&self) -> &L {
+        self.links()
+    }
+
+    fn into_domain(self) -> L {
+        self.into_links()
+    }
+
+    fn call(&self, p: &mut L::Pass, ask: &Ask) -> Outcome {
+        call_set(self, p, ask)
+    }
+}
+
+// A container as it is driven, over a domain that has a root.
 #[derive(Drop)]
-pub(crate) struct DrivenQueue<L: Ending<Rule = Fifo>> {
-    queue: Queue<L>,
-    ghost root: { 0 < (L.numbers queue.links).roots },
+pub(crate) struct Rooted<L: Ending, C: Over<L>> {
+    container: C,
+    of: PhantomData<L>,
+    ghost root: { 0 < (L.numbers (C.domain_of container)).roots },
 }
 
-impl<L: Ending<Rule = Fifo>> DrivenQueue<L> {
-    pub(crate) fn new(queue: Queue<L>) -> DrivenQueue<L>
-        requires { 0 < (L.numbers queue.links).roots }
-        ensures { result.queue ≡ queue }
+impl<L: Ending, C: Over<L>> Rooted<L, C> {
+    // Takes a container over a domain that has a root.
+    pub(crate) fn new(container: C) -> Rooted<L, C>
+        requires { 0 < (L.numbers (C.domain_of container)).roots }
+        ensures { result.container ≡ container }
     {
-        DrivenQueue { queue }
-    }
-
-    pub(crate) fn into_links(self) -> L
-        ensures { result ≡ self.queue.links }
-    {
-        let DrivenQueue { queue } = self;
-        queue.into_links()
+        Rooted {
+            container,
+            of: PhantomData,
+        }
     }
 }
 
-impl<L: Ending<Rule = Fifo>> Container for DrivenQueue<L> {
+impl<L: Ending, C: Over<L>> Container for Rooted<L, C> {
     type Pass = L::Pass;
 
     type Hold = Option<Held>;
 
-    ghost ready = { λ c p. L.belongs c.queue.links p × IsIdle (L.seat c.queue.links p) };
+    ghost ready = { λ c p. IsIdlePass L.Links (C.domain_of c.container) p };
 
-    ghost agent_of = { λ c p. (L.seat c.queue.links p).agent };
+    ghost agent_of = { λ c p. agent L.Links (C.domain_of c.container) p };
 
-    ghost stopped = { λ c hold p. IsStopped L.Links c.queue.links hold p };
+    ghost stopped = { λ c hold p. IsStopped L.Links (C.domain_of c.container) hold p };
 
     fn agent(&self, p: &L::Pass) -> u32 {
-        self.queue.links().agent(p)
+        self.container.domain().agent(p)
     }
 
     fn call(&self, p: &mut L::Pass, ask: &Ask) -> Outcome {
-        call_queue(&self.queue, p, ask)
+        self.container.call(p, ask)
     }
 
     fn backlog(&self, p: &L::Pass) -> u32 {
-        self.queue.links().backlog(p)
+        self.container.domain().backlog(p)
     }
 
     fn stop(&self, p: &mut L::Pass) -> Option<Held> {
-        hold_first(self.queue.links(), p)
+        hold_first(self.container.domain(), p)
     }
 
     fn go_on(&self, p: &mut L::Pass, hold: Option<Held>) {
-        let_go(self.queue.links(), p, hold);
+        let_go(self.container.domain(), p, hold);
     }
 }
 
-// A sorted list, over a domain that has a root.
-#[derive(Drop)]
-pub(crate) struct DrivenList<L: Ending<Rule = Chain>> {
-    set: OneList<L>,
-    ghost root: { 0 < (L.numbers set.list.links).roots },
-}
+impl<L: Ending, C: Over<L>> Resting for Rooted<L, C> {
+    ghost agents = { λ c. L.agents (C.domain_of c.container) };
 
-impl<L: Ending<Rule = Chain>> DrivenList<L> {
-    pub(crate) fn new(set: OneList<L>) -> DrivenList<L>
-        requires { 0 < (L.numbers set.list.links).roots }
-        ensures { result.set ≡ set }
+    fn rest(self, passes: Vec<L::Pass>) -> Counts
+        requires { AreAllIdle L.Links (C.domain_of self.container) passes.items }
     {
-        DrivenList { set }
-    }
-
-    pub(crate) fn into_links(self) -> L
-        ensures { result ≡ self.set.list.links }
-    {
-        let DrivenList { set } = self;
-        set.into_links()
-    }
-}
-
-impl<L: Ending<Rule = Chain>> Container for DrivenList<L> {
-    type Pass = L::Pass;
-
-    type Hold = Option<Held>;
-
-    ghost ready = { λ c p. L.belongs c.set.list.links p × IsIdle (L.seat c.set.list.links p) };
-
-    ghost agent_of = { λ c p. (L.seat c.set.list.links p).agent };
-
-    ghost stopped = { λ c hold p. IsStopped L.Links c.set.list.links hold p };
-
-    fn agent(&self, p: &L::Pass) -> u32 {
-        self.set.links().agent(p)
-    }
-
-    fn call(&self, p: &mut L::Pass, ask: &Ask) -> Outcome {
-        call_set(&self.set, p, ask)
-    }
-
-    fn backlog(&self, p: &L::Pass) -> u32 {
-        self.set.links().backlog(p)
-    }
-
-    fn stop(&self, p: &mut L::Pass) -> Option<Held> {
-        hold_first(self.set.links(), p)
-    }
-
-    fn go_on(&self, p: &mut L::Pass, hold: Option<Held>) {
-        let_go(self.set.links(), p, hold);
-    }
-}
-
-// A bucketed set, over a domain that has a root.
-#[derive(Drop)]
-pub(crate) struct DrivenSet<L: Ending<Rule = Chain>> {
-    set: Set<L>,
-    ghost root: { 0 < (L.numbers set.list.links).roots },
-}
-
-impl<L: Ending<Rule = Chain>> DrivenSet<L> {
-    pub(crate) fn new(set: Set<L>) -> DrivenSet<L>
-        requires { 0 < (L.numbers set.list.links).roots }
-        ensures { result.set ≡ set }
-    {
-        DrivenSet { set }
-    }
-
-    pub(crate) fn into_links(self) -> L
-        ensures { result ≡ self.set.list.links }
-    {
-        let DrivenSet { set } = self;
-        set.into_links()
-    }
-}
-
-impl<L: Ending<Rule = Chain>> Container for DrivenSet<L> {
-    type Pass = L::Pass;
-
-    type Hold = Option<Held>;
-
-    ghost ready = { λ c p. L.belongs c.set.list.links p × IsIdle (L.seat c.set.list.links p) };
-
-    ghost agent_of = { λ c p. (L.seat c.set.list.links p).agent };
-
-    ghost stopped = { λ c hold p. IsStopped L.Links c.set.list.links hold p };
-
-    fn agent(&self, p: &L::Pass) -> u32 {
-        self.set.links().agent(p)
-    }
-
-    fn call(&self, p: &mut L::Pass, ask: &Ask) -> Outcome {
-        call_set(&self.set, p, ask)
-    }
-
-    fn backlog(&self, p: &L::Pass) -> u32 {
-        self.set.links().backlog(p)
-    }
-
-    fn stop(&self, p: &mut L::Pass) -> Option<Held> {
-        hold_first(self.set.links(), p)
-    }
-
-    fn go_on(&self, p: &mut L::Pass, hold: Option<Held>) {
-        let_go(self.set.links(), p, hold);
+        self.container.into_domain().end(passes)
     }
 }

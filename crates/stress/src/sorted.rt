@@ -1,9 +1,10 @@
 //! Keys in order in one piece, without a lock, on one thread: what a list and a set are measured against.
 
-ghost use Rattle.std.specs.Prelude.{◌≡◌, ◌*◌, ◌≤◌, IfOk};
+ghost use Rattle.std.specs.Prelude.{◌≡◌, ◌*◌, ◌≤◌, IfOk, length};
 ghost use Rattle.orc_stress.specs.Answers.{calls_of};
 
-use orc_stress::{Answer, Ask, Container, Counts, Driven, Outcome, Plan, drive};
+use crate::runs::{Resting, drive_to_rest};
+use orc_stress::{Answer, Ask, Container, Counts, Driven, Outcome, Plan};
 use std::alloc::{AllocError, Global};
 use std::collections::VecDeque;
 use std::thread::Threads;
@@ -98,6 +99,19 @@ impl Container for Sorted {
     fn go_on(&self, _p: &mut Keys, _hold: ()) {}
 }
 
+impl Resting for Sorted {
+    ghost agents = { λ c. 1 };
+
+    fn rest(self, passes: Vec<Keys>) -> Counts
+        requires { length passes.items ≡ 1 }
+    {
+        let Some(keys) = passes.first() else {
+            unreachable!()
+        };
+        keys.counts()
+    }
+}
+
 // Drives such a set.
 pub(crate) fn run_sorted<R: Threads + Clock + Sync>(
     rt: &R,
@@ -114,14 +128,5 @@ pub(crate) fn run_sorted<R: Threads + Clock + Sync>(
         removed: 0,
     };
     let passes = vec![in alloc; keys]?;
-    let (passes, driven) = drive(rt, alloc, &Sorted {}, passes, plan, instant)?;
-    let counts = match passes.first() {
-        Some(keys) => keys.counts(),
-        None => Counts {
-            given: 0,
-            reused: 0,
-            linked: 0,
-        },
-    };
-    Ok((driven, counts))
+    drive_to_rest(rt, alloc, plan, instant, Sorted {}, passes)
 }

@@ -1,7 +1,7 @@
 -- The agents that work are the first ones.
 use Rattle.std.proofs.Common.{◌∙◌}
 use Rattle.orc_stress.proofs.Staying.{parts_all}
-use Rattle.stress.proofs.runs.drive_queue.Goals as goal
+use Rattle.stress.proofs.runs.drive_to_rest.Goals as goal
 
 pub returns : goal.returns
 returns g c = record {
