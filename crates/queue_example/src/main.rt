@@ -12,14 +12,38 @@ use uses::two_passes;
 // How often a row may be given.
 const LIMIT: u64 = 1 << 39;
 
-// Puts a thousand jobs, from this one on, and takes one after each. Answers the sum of those that it took.
-fn put_and_take<Q: SharedQueue>(queue: &Q, pass: &mut Q::Pass, first: u64) -> u64
+// The sum of the jobs that were put, and of those that were taken.
+#[derive(Clone, Copy, Drop)]
+struct Sums {
+    put: u64,
+    taken: u64,
+}
+
+// Tries to put a thousand jobs, from this one on, and to take one after each. A put is refused where no row is free.
+fn put_and_take<Q: SharedQueue>(queue: &Q, pass: &mut Q::Pass, first: u64) -> Sums
+    requires { Q.usable queue.now pass.old }
+    ensures { Q.usable queue.now pass.new }
+{
+    let mut sums = Sums { put: 0, taken: 0 };
+    for number in 0..1000 {
+        let job = first.wrapping_add(number);
+        if queue.enqueue(pass, job, 64).is_ok() {
+            sums.put = sums.put.wrapping_add(job);
+        }
+        if let Ok(Some((taken, _))) = queue.dequeue(pass, 64) {
+            sums.taken = sums.taken.wrapping_add(taken);
+        }
+    }
+    sums
+}
+
+// Takes what is left. Answers the sum of these jobs.
+fn take_rest<Q: SharedQueue>(queue: &Q, pass: &mut Q::Pass) -> u64
     requires { Q.usable queue.now pass.old }
     ensures { Q.usable queue.now pass.new }
 {
     let mut sum: u64 = 0;
-    for job in 0..1000 {
-        let _put = queue.enqueue(pass, first.wrapping_add(job), 64); // at most 64 tries
+    for _call in 0..2000 {
         if let Ok(Some((taken, _))) = queue.dequeue(pass, 64) {
             sum = sum.wrapping_add(taken);
         }
@@ -27,13 +51,13 @@ fn put_and_take<Q: SharedQueue>(queue: &Q, pass: &mut Q::Pass, first: u64) -> u6
     sum
 }
 
-// Does so on two threads. Answers the sum of all jobs that were taken.
-fn share<R: Threads + Sync, Q: SharedQueue + Sync>(
+// Lets two threads put and take at once. Answers whether what was taken in the end is what was put.
+fn is_all_taken<R: Threads + Sync, Q: SharedQueue + Sync>(
     rt: &R,
     queue: &Q,
     one: &mut Q::Pass,
     other: &mut Q::Pass,
-) -> u64
+) -> bool
 where
     Q::Pass: Send,
     requires one { Q.usable queue.now one.old }
@@ -41,29 +65,30 @@ where
     ensures one { Q.usable queue.now one.new }
     ensures other { Q.usable queue.now other.new }
 {
-    let (some, rest) = join_mut(
+    let (some, more) = join_mut(
         rt,
         &mut || put_and_take(queue, one, 0),
         &mut || put_and_take(queue, other, 1000),
     );
-    some.wrapping_add(rest)
+    let taken = some.taken.wrapping_add(more.taken);
+    some.put.wrapping_add(more.put) == taken.wrapping_add(take_rest(queue, one))
 }
 
-// Makes a queue over 64 rows, with a pass for each of two agents, and shares it.
-fn run<R: Threads + Sync>(rt: &R, alloc: Global) -> Option<u64> {
+// Makes a queue over 64 rows, with a pass for each of two agents, and lets them work.
+fn run<R: Threads + Sync>(rt: &R, alloc: Global) -> Option<bool> {
     let shape = Shape::new(64, 2, 2, LIMIT).ok()?; // 64 rows, front and back, two agents
     let Ok((queue, passes)) = reclaiming_queue_over(alloc, &shape, 0) else {
         return None;
     };
     let (mut one, mut other) = two_passes(&queue, passes)?;
-    Some(share(rt, &queue, &mut one, &mut other))
+    Some(is_all_taken(rt, &queue, &mut one, &mut other))
 }
 
 fn main(rt: HostRuntime) -> ExitCode {
-    let Some(sum) = run(&rt, rt.alloc()) else {
+    let Some(all) = run(&rt, rt.alloc()) else {
         return ExitCode::FAILURE;
     };
-    match println!(rt; "sum of the jobs: {sum}") {
+    match println!(rt; "each job that was put was taken: {all}") {
         Ok(()) => ExitCode::SUCCESS,
         Err(_) => ExitCode::FAILURE,
     }
