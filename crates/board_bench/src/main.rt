@@ -16,6 +16,7 @@ use std::time::Instant;
 const LOADS: u32 = 50_000_000;
 
 // Sums what so many loads of root 0 find.
+#[inline(never)]
 fn load_links(board: &PlainBoard<AnyFit>, p: &mut PlainBoardPass<AnyFit>) -> u64
     requires belongs { Belongs board.now p.old }
     requires roots { 0 < (board_bounds board.now).roots }
@@ -30,6 +31,7 @@ fn load_links(board: &PlainBoard<AnyFit>, p: &mut PlainBoardPass<AnyFit>) -> u64
 }
 
 // Sums what as many loads of a bare word find.
+#[inline(never)]
 fn load_word(word: &AtomicU64) -> u64 {
     let mut sum: u64 = 0;
     for _load in 0..LOADS {

@@ -39,6 +39,7 @@ fn load_link(board: &Board, p: &mut Pass, shape: &Shape) -> u64
 }
 
 // The sum of what so many loads of root 0 find.
+#[inline(never)]
 fn load_links(board: &Board, p: &mut Pass, shape: &Shape) -> u64
     requires belongs { Belongs board.now p.old }
     requires shape { bounds_of shape.now ≡ board_bounds board.now }
@@ -52,6 +53,7 @@ fn load_links(board: &Board, p: &mut Pass, shape: &Shape) -> u64
 }
 
 // How often the record allows the load of root 0.
+#[inline(never)]
 fn test_record(p: &Pass, shape: &Shape) -> u64 {
     let mut sum: u64 = 0;
     for _load in 0..LOADS {
@@ -63,6 +65,7 @@ fn test_record(p: &Pass, shape: &Shape) -> u64 {
 }
 
 // The sum of what as many loads of a bare word find.
+#[inline(never)]
 fn load_word(word: &AtomicU64) -> u64 {
     let mut sum: u64 = 0;
     for _load in 0..LOADS {
