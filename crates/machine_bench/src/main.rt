@@ -86,7 +86,11 @@ impl Bench {
             self.step(Op::SlotLook { k })?;
         }
         self.count(row, CounterUse::End)?;
-        self.step(Op::LinkStore { row, link: NULL })?;
+        self.step(Op::LinkStore {
+            row,
+            number: 0,
+            link: NULL,
+        })?;
         self.step(Op::Unretire { row })?;
         self.step(Op::Free { row })
     }

@@ -1,5 +1,5 @@
 -- What is allowed is within the shape.
-use Rattle.std.proofs.Common.{◌≡◌, ℕ, ◌+◌, ◌^◌, ◌<◌, ◌≤◌, Bool, true, false, [], ◌∷◌, length, length-append, cond, ltb, arith, refl}
+use Rattle.std.proofs.Common.{◌≡◌, ℕ, ◌+◌, ◌^◌, ◌<◌, ◌≤◌, Bool, true, false, suc, zero, [], ◌∷◌, length, length-append, cond, ltb, arith, refl}
 use Rattle.std.proofs.lemmas.List.{get_or_past, get_or-replicate}
 use Rattle.std.proofs.Math.ListN.{length-replicate}
 use Rattle.orc_core.specs.Machine.{EachWithRoom, LeavesRoom, Machine, has_room, nobody, record_at, word_read}
@@ -11,13 +11,13 @@ use Rattle.std.proofs.lemmas.Bool.{ltb-true, lt-ltb, false≢true}
 use Rattle.orc_words.specs.Bounds.{Bounds}
 use Rattle.orc_words.specs.Places.{IsWithin, place, places}
 use Rattle.orc_words.proofs.Positions.{place_below}
-use Rattle.orc_words.specs.declared.place.Word.TheVariants.{Root, Next}
+use Rattle.orc_words.specs.declared.place.Word.TheVariants.{Root, Next, Side}
 use Rattle.orc_core.specs.declared.records.Agent.{Agent}
 use Rattle.orc_core.specs.declared.ops.CounterUse.TheVariants.{Check, Start, End}
 use Rattle.orc_core.specs.declared.ops.Op.{Op}
 use Rattle.orc_core.specs.declared.ops.Op.TheVariants.{Enroll, GateLook, GateTake, Fill, Read, LinkLoad, Publish, Clear, Arm, LinkCas, LinkStore, Inc, Dec, SetRetired, CounterLoad, Unretire, SlotLook, Hand, TakeIn, Free}
 use Rattle.orc_core.specs.Actions.{action_of, clear_word, IsPackable}
-use Rattle.orc_core.specs.After.{after}
+use Rattle.orc_core.specs.After.{IsRecordable, after}
 use Rattle.orc_core.specs.Allowed.{may, fits, stands, forced}
 
 pub and_both : (a b : Bool) → (a && b) ≡ true → (a ≡ true) × (b ≡ true)
@@ -47,17 +47,24 @@ fits_within b e a (Fill r which v) d n h = grind arith
 fits_within b e a (Read r which) d n h = grind arith
 fits_within b e a (LinkLoad (Root i) None) d n h = grind arith
 fits_within b e a (LinkLoad (Next i) None) d n h = grind arith
+fits_within b e a (LinkLoad (Side i) None) d n h = grind arith
 fits_within b e a (LinkLoad w None) d n h = grind arith
 fits_within b e a (LinkLoad (Root i) (Some k)) d n h = grind arith
 fits_within b e a (LinkLoad (Next i) (Some k)) d n h = grind arith
+fits_within b e a (LinkLoad (Side i) (Some k)) d n h = grind arith
 fits_within b e a (LinkLoad w (Some k)) d n h = grind arith
 fits_within b e a (Publish k r) d n h = grind arith
 fits_within b e a (Clear k) d n h = grind arith
 fits_within b e a (Arm r) d n h = grind arith
 fits_within b e a (LinkCas (Root i) f t) d n h = grind arith
 fits_within b e a (LinkCas (Next i) f t) d n h = grind arith
+fits_within b e a (LinkCas (Side i) f t) d n h = grind arith
 fits_within b e a (LinkCas w f t) d n h = grind arith
-fits_within b e a (LinkStore r l) d n h = grind arith
+fits_within b e a (LinkStore r zero l) d n h = grind arith
+fits_within b e a (LinkStore r (suc k) l) d n h =
+    let p : (ltb r b.rows ≡ true) × (ltb (suc k) b.links ≡ true) = and_both _ _ (and_both _ _ (and_both _ _ h).0).0 in
+    let i = ltb-true (suc k) b.links p.1 in
+    (ltb-true r b.rows p.0, omega arith)
 fits_within b e a (Inc r) d n h = grind arith
 fits_within b e a (Dec r) d n h = grind arith
 fits_within b e a (SetRetired r q) d n h = grind arith
@@ -74,12 +81,22 @@ pub fits_packable : (b : Bounds) (e a : ℕ) (op : Op) (d : Agent) → fits b e 
 fits_packable b e a Enroll d h s l = tt
 fits_packable b e a (GateTake r) d h s l = grind arith
 fits_packable b e a (LinkCas p f t) d h s l = grind arith
-fits_packable b e a (LinkStore r k) d h s l = grind arith
+fits_packable b e a (LinkStore r n k) d h s l = grind arith
 fits_packable b e a (SetRetired r q) d h s l = grind arith
 fits_packable b e a op d h s l = grind arith
 
 pub may_packable : (b : Bounds) (e a : ℕ) (op : Op) (d : Agent) → may b e a op d ≡ true → b.rows ≤ 65535 → b.limit ≤ 2 ^ 39 → IsPackable op d
 may_packable b e a op d h s l = fits_packable b e a op d (may_parts b e a op d h).fits s l
+
+pub fits_recordable : (b : Bounds) (e a : ℕ) (op : Op) (d : Agent) → fits b e a op d ≡ true → b.agents ≤ 16 → b.links ≤ 2 → IsRecordable op d
+fits_recordable b e a (LinkLoad p None) d h s l = grind arith
+fits_recordable b e a (LinkLoad p (Some k)) d h s l = grind arith
+fits_recordable b e a (LinkStore r n k) d h s l = grind arith
+fits_recordable b e a (SlotLook k) d h s l = grind arith
+fits_recordable b e a op d h s l = grind arith
+
+pub may_recordable : (b : Bounds) (e a : ℕ) (op : Op) (d : Agent) → may b e a op d ≡ true → b.agents ≤ 16 → b.links ≤ 2 → IsRecordable op d
+may_recordable b e a op d h s l = fits_recordable b e a op d (may_parts b e a op d h).fits s l
 
 pub may_within : (b : Bounds) (e a : ℕ) (op : Op) (d : Agent) → may b e a op d ≡ true → IsWithin b (action_of a op d).word
 may_within b e a op d h = let p = may_parts b e a op d h in fits_within b e a op d p.agent p.fits

@@ -1,6 +1,6 @@
 -- The second part of a step: the agent's new record. It is a function of the op, the old record and the word
 -- that the operation read. After OrcGC (Correia, Ramalhete and Felber 2021), in this project's own order.
-use Rattle.std.specs.Prelude.{ℕ, ◌+◌, ◌*◌, ◌/◌, ◌%◌, ◌^◌, ◌<◌, true, false, cond, ◌||◌, ◌==◌, Option, Some, None, List, slice_set, slice_index_or, is_some}
+use Rattle.std.specs.Prelude.{ℕ, ◌+◌, ◌*◌, ◌/◌, ◌%◌, ◌^◌, ◌<◌, true, false, cond, ◌&&◌, ◌==◌, Option, Some, None, List, slice_set, slice_index_or, is_some}
 use Rattle.std.specs.Option.{ForSome}
 use Rattle.orc_words.specs.declared.packed.TheConstants.{INCREMENT, DECREMENT, RETIRED}
 use Rattle.orc_words.specs.Packed.{link_word, named, sequence_of}
@@ -34,15 +34,15 @@ abbrev pub promoted_at : Option ℕ → List SlotUse → ℕ → List SlotUse
 promoted_at None slots w = slots
 promoted_at (Some k) slots w = slice_set slots k (promoted (slice_index_or slots k Empty) w)
 
--- the row's doom is cut
-abbrev pub cut_of : Option Doom → ℕ → Option Doom
-cut_of None r = None
-cut_of (Some d) r = Some (record { row = d.row; cut = d.cut || (d.row == r); bare = d.bare })
+-- the row's doom has the link of this number out too, where it is the next one
+abbrev pub cut_of : Option Doom → ℕ → ℕ → Option Doom
+cut_of None r n = None
+cut_of (Some d) r n = Some (record { row = d.row; cuts = cond ((d.row == r) && (d.cuts == n)) (n + 1) d.cuts; bare = d.bare })
 
 -- the bit of the doomed row is clear
 abbrev pub bared : Option Doom → Option Doom
 bared None = None
-bared (Some d) = Some (record { row = d.row; cut = d.cut; bare = true })
+bared (Some d) = Some (record { row = d.row; cuts = d.cuts; bare = true })
 
 -- the scan after a look at a slot with word w
 abbrev pub scan_on : Option Scan → ℕ → Option Scan
@@ -77,7 +77,7 @@ scan_by End r w s = cond (w == kept s) None (Some (record { row = r; word = w; p
 abbrev pub doom_by : CounterUse → ℕ → ℕ → Option Scan → Option Doom → Option Doom
 doom_by Check r w s d = d
 doom_by Start r w s d = d
-doom_by End r w s d = cond (w == kept s) (Some (record { row = r; cut = false; bare = false })) d
+doom_by End r w s d = cond (w == kept s) (Some (record { row = r; cuts = 0; bare = false })) d
 
 -- d: the old record, w: the word that was read. Each choice stands inside its part, so that the parts that a
 -- kind leaves are seen to stay
@@ -97,11 +97,11 @@ after (LinkCas p f t) d w = record d {
   fresh = cond (w == link_word f) (cond (same_target f.to t.to) d.fresh (cond (same_target d.fresh t.to) None d.fresh)) d.fresh;
   checked = None;
 }
-after (LinkStore r l) d w = record d {
+after (LinkStore r n l) d w = record d {
   inc = cond (same_target (named (w / 2)) l.to) d.inc l.to;
   dec = cond (same_target (named (w / 2)) l.to) d.dec (named (w / 2));
   checked = None;
-  doom = cut_of d.doom r;
+  doom = cut_of d.doom r n;
 }
 after (Inc r) d w = record d { inc = None; due = due_after r (word_add w INCREMENT) d.due }
 after (Dec r) d w = record d { dec = None; due = due_after r (word_add w DECREMENT) d.due }
@@ -127,10 +127,11 @@ after (Hand k) d w = record d { scan = None; hand = named w }
 after (TakeIn k) d w = record d { list = listed_name d.list (named w) }
 after (Free r) d w = record d { doom = None }
 
--- a slot that is changed is one of the eight, and a scan that goes on has a small place
+-- a slot that is changed is one of the eight, a link's number is below two, and a scan that goes on has a small place
 abbrev pub IsRecordable : Op → Agent → Type 0
 IsRecordable (LinkLoad p slot) d = ForSome slot (λ k. k < 8)
 IsRecordable (Publish k r) d = k < 8
 IsRecordable (Clear k) d = k < 8
+IsRecordable (LinkStore r n l) d = n < 2
 IsRecordable (SlotLook k) d = ForSome d.scan (λ s. s.place < 2 ^ 31)
 IsRecordable _ d = Unit {0}

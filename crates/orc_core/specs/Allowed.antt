@@ -2,7 +2,7 @@
 -- After OrcGC (Correia, Ramalhete and Felber 2021); the conditions are this project's own.
 use Rattle.std.specs.Prelude.{ℕ, ◌+◌, ◌*◌, Bool, true, false, not, ◌&&◌, ◌||◌, ◌==◌, nat_lt, Option, Some, None, is_none}
 use Rattle.orc_words.specs.declared.place.Word.{Word}
-use Rattle.orc_words.specs.declared.place.Word.TheVariants.{Root, Next}
+use Rattle.orc_words.specs.declared.place.Word.TheVariants.{Root, Next, Side}
 use Rattle.orc_words.specs.Bounds.{Bounds}
 use Rattle.orc_core.specs.declared.records.Agent.{Agent}
 use Rattle.orc_core.specs.declared.records.Reading.{Reading}
@@ -10,7 +10,7 @@ use Rattle.orc_core.specs.declared.ops.CounterUse.TheVariants.{Check, Start, End
 use Rattle.orc_core.specs.declared.ops.Op.{Op}
 use Rattle.orc_core.specs.declared.ops.Op.TheVariants.{Enroll, GateLook, GateTake, Fill, Read, LinkLoad, Publish, Clear, Arm, LinkCas, LinkStore, Inc, Dec, SetRetired, CounterLoad, Unretire, SlotLook, Hand, TakeIn, Free}
 use Rattle.orc_core.specs.Listed.{first_is}
-use Rattle.orc_core.specs.RecordParts.{names, number_of, saw, checked_below, is_due, holds, is_empty, is_published, any_holds, holds_fresh, slot_of, scans, scan_empty, scan_found, scan_at, doom_uncut, doom_cut, doom_bare}
+use Rattle.orc_core.specs.RecordParts.{names, number_of, saw, checked_below, is_due, holds, is_empty, is_published, any_holds, holds_fresh, slot_of, scans, scan_empty, scan_found, scan_at, doom_at, doom_cut, doom_bare}
 
 -- the step tries the bit of this row, at this sequence
 abbrev pub tries_bit : Op → ℕ → ℕ → Bool
@@ -58,10 +58,11 @@ abbrev pub may_change : Agent → ℕ → Option ℕ → Option ℕ → Bool
 may_change d n from None = true
 may_change d n from (Some r) = names from r || checked_below d.checked r n
 
--- a root, or the next word of a row that passes
+-- a root, or a link word of a row that passes
 abbrev pub may_place : Bounds → Word → (ℕ → Bool) → Bool
 may_place b (Root i) p = nat_lt i b.roots
 may_place b (Next r) p = nat_lt r b.rows && p r
+may_place b (Side r) p = nat_lt r b.rows && nat_lt 1 b.links && p r
 may_place b _ p = false
 
 -- each kind's own condition. b: the bounds, e: the word of enrolments, a: the agent's number, d: its record
@@ -79,16 +80,16 @@ fits b e a (Arm r) d = nat_lt r b.rows && is_empty (slot_of d 0) && (names d.dec
 fits b e a (LinkCas p f t) d =
     may_place b p (λ r. any_holds d.slots r && not (names d.fresh r)) && is_empty (slot_of d 0) && may_target b d f.to && may_target b d t.to &&
     may_change d (b.limit + 64) f.to t.to
-fits b e a (LinkStore r l) d =
-    nat_lt r b.rows && is_empty (slot_of d 0) &&
-    ((names d.fresh r && may_target b d l.to && may_change d (b.limit + 64) None l.to) || (doom_uncut d.doom r && is_none l.to && not l.mark))
+fits b e a (LinkStore r n l) d =
+    nat_lt r b.rows && nat_lt n b.links && is_empty (slot_of d 0) &&
+    ((names d.fresh r && may_target b d l.to && may_change d (b.limit + 64) None l.to) || (doom_at d.doom r n && is_none l.to && not l.mark))
 fits b e a (Inc r) d = nat_lt r b.rows && names d.inc r
 fits b e a (Dec r) d = nat_lt r b.rows && names d.dec r && holds (slot_of d 0) r
 fits b e a (SetRetired r q) d = nat_lt r b.rows && nat_lt q 1099511627776 && (is_due d.due r q || names d.fresh r)
 fits b e a (CounterLoad r Check) d = nat_lt r b.rows
 fits b e a (CounterLoad r Start) d = nat_lt r b.rows && is_none d.scan && is_none d.doom && (names d.hand r || (is_none d.hand && first_is d.list.items r))
 fits b e a (CounterLoad r End) d = nat_lt r b.rows && scans d.scan r && scan_empty d.scan && scan_at d.scan (8 * b.agents)
-fits b e a (Unretire r) d = nat_lt r b.rows && ((scans d.scan r && not (scan_empty d.scan) && holds (slot_of d 0) r) || doom_cut d.doom r)
+fits b e a (Unretire r) d = nat_lt r b.rows && ((scans d.scan r && not (scan_empty d.scan) && holds (slot_of d 0) r) || doom_cut b.links d.doom r)
 fits b e a (SlotLook k) d = nat_lt k (8 * b.agents) && scan_empty d.scan && not (scan_found d.scan) && scan_at d.scan k
 fits b e a (Hand k) d = nat_lt k (8 * b.agents) && scan_found d.scan && scan_at d.scan k
 fits b e a (TakeIn k) d = nat_lt k 8 && is_empty (slot_of d k)

@@ -1,7 +1,8 @@
 -- The five counts of a state.
 use Rattle.std.specs.Prelude.{ℕ, ◌+◌, ◌/◌, ◌%◌, Bool, not, ◌&&◌, ◌||◌, ◌==◌, length}
-use Rattle.orc_words.specs.declared.place.Word.TheVariants.{Root, Gate, Counter, Next, Handover}
+use Rattle.orc_words.specs.declared.place.Word.TheVariants.{Root, Gate, Counter, Handover}
 use Rattle.orc_words.specs.Packed.{retired_bit}
+use Rattle.orc_words.specs.Places.{link_at}
 use Rattle.orc_core.specs.declared.counts.Census.{Census}
 use Rattle.orc_core.specs.Machine.{Machine, word_in, record_at}
 use Rattle.orc_core.specs.Sums.{sum_below, count_below, some_below}
@@ -22,13 +23,17 @@ links_to w r = w / 2 == r + 1
 abbrev pub is_root_target : Machine → ℕ → Bool
 is_root_target m r = some_below m.bounds.roots (λ i. links_to (word_in m (Root i)) r)
 
--- the row is the target of the link of a row that is out
-abbrev pub is_next_target : Machine → ℕ → Bool
-is_next_target m r = some_below m.bounds.rows (λ j. is_out m j && links_to (word_in m (Next j)) r)
+-- one of row j's links of a number below n is to the row
+abbrev pub some_links_to : Machine → ℕ → ℕ → ℕ → Bool
+some_links_to m j r n = some_below n (λ k. links_to (word_in m (link_at k j)) r)
+
+-- the row is the target of a link of a row that is out
+abbrev pub is_row_target : Machine → ℕ → Bool
+is_row_target m r = some_below m.bounds.rows (λ j. is_out m j && some_links_to m j r m.bounds.links)
 
 -- the row is the target of a link in use
 abbrev pub is_target : Machine → ℕ → Bool
-is_target m r = is_root_target m r || is_next_target m r
+is_target m r = is_root_target m r || is_row_target m r
 
 -- how many handover words of an agent aren't 0
 abbrev pub handovers : Machine → ℕ → ℕ

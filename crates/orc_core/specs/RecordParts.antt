@@ -106,15 +106,15 @@ abbrev pub scan_at : Option Scan → ℕ → Bool
 scan_at None k = false
 scan_at (Some s) k = s.place == k
 
--- the doom is the row, with its link still in
-abbrev pub doom_uncut : Option Doom → ℕ → Bool
-doom_uncut None r = false
-doom_uncut (Some d) r = (d.row == r) && not d.cut
+-- the doom is the row, and the link of this number is the next one to be taken out
+abbrev pub doom_at : Option Doom → ℕ → ℕ → Bool
+doom_at None r n = false
+doom_at (Some d) r n = (d.row == r) && (d.cuts == n)
 
--- the doom is the row, with its link out and its bit still set
-abbrev pub doom_cut : Option Doom → ℕ → Bool
-doom_cut None r = false
-doom_cut (Some d) r = (d.row == r) && d.cut && not d.bare
+-- the doom is the row, with all its links out and its bit still set
+abbrev pub doom_cut : ℕ → Option Doom → ℕ → Bool
+doom_cut links None r = false
+doom_cut links (Some d) r = (d.row == r) && (d.cuts == links) && not d.bare
 
 -- the doom is the row, with its bit clear
 abbrev pub doom_bare : Option Doom → ℕ → Bool

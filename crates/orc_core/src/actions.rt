@@ -6,7 +6,9 @@ ghost use Rattle.orc_core.specs.Actions.{IsPackable, action_of, clear_word};
 use crate::ops::Op;
 use crate::parts::{SEQUENCE, scanned};
 use crate::records::Agent;
-use orc_words::{DECREMENT, INCREMENT, NEW_COUNTER, Operation, RETIRED, Word, pack_link};
+use orc_words::{
+    DECREMENT, INCREMENT, NEW_COUNTER, Operation, RETIRED, Word, link_of_row, pack_link,
+};
 
 /// A word, and what is done to it.
 #[derive(Clone, Copy, Debug, PartialEq, Eq)]
@@ -72,7 +74,9 @@ pub fn action_of(number: u32, op: &Op, agent: &Agent) -> Action
         Op::LinkCas { place, from, to } => {
             Action::new(*place, CompareExchange(pack_link(*from), pack_link(*to)))
         }
-        Op::LinkStore { row, link } => Action::new(Word::Next(*row), Swap(pack_link(*link))),
+        Op::LinkStore { row, number, link } => {
+            Action::new(link_of_row(*number, *row), Swap(pack_link(*link)))
+        }
         Op::Inc { row } => Action::new(Word::Counter(*row), Add(INCREMENT)),
         Op::Dec { row } => Action::new(Word::Counter(*row), Add(DECREMENT)),
         Op::SetRetired { row, sequence } => {

@@ -3,11 +3,11 @@
 ghost use Rattle.std.specs.Prelude.{◌≡◌, ℕ, ◌<◌, ◌&&◌, ◌||◌, ◌≤◌, length, slice_index_or, false};
 ghost use Rattle.orc_core.specs.Sums.{count_below, sum_below};
 ghost use Rattle.orc_core.specs.Machine.{record_at};
-ghost use Rattle.orc_core.specs.Counts.{census_of, handovers, is_out, is_next_target, is_retired, is_root_target, is_target, links_to};
+ghost use Rattle.orc_core.specs.Counts.{census_of, handovers, is_out, is_row_target, is_retired, is_root_target, is_target, links_to, some_links_to};
 
 use crate::counts::Census;
 use crate::state::State;
-use orc_words::{Word, named};
+use orc_words::{Word, link_of_row, named};
 
 // The greatest number of rows.
 const MOST_ROWS: usize = 65_535;
@@ -113,14 +113,25 @@ fn mark_roots(state: &State, marked: &mut [bool; MOST_ROWS])
     }
 }
 
+// Marks the targets of a row's links.
+fn mark_row(state: &State, row: u32, marked: &mut [bool; MOST_ROWS])
+    requires { row < state.now.bounds.rows }
+    ensures { (r : ℕ) → r < 65535 → slice_index_or marked.new r false
+        ≡ (slice_index_or marked.old r false || some_links_to state.now row r state.now.bounds.links) }
+{
+    for number in 0..state.shape().links() {
+        mark_target(marked, state.word(link_of_row(number, row)));
+    }
+}
+
 // Marks the targets of the rows that are out.
 fn mark_rows(state: &State, marked: &mut [bool; MOST_ROWS])
     ensures { (r : ℕ) → r < 65535 → slice_index_or marked.new r false
-        ≡ (slice_index_or marked.old r false || is_next_target state.now r) }
+        ≡ (slice_index_or marked.old r false || is_row_target state.now r) }
 {
     for row in 0..state.shape().rows() {
         if state.is_out(row) {
-            mark_target(marked, state.word(Word::Next(row)));
+            mark_row(state, row, marked);
         }
     }
 }

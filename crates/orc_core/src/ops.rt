@@ -13,7 +13,7 @@ pub enum CounterUse {
     End,
 }
 
-/// A kind of step and its arguments. A place is a root or the next word of a row.
+/// A kind of step and its arguments. A place is a root or a link word of a row.
 #[derive(Clone, Copy, Debug, PartialEq, Eq)]
 pub enum Op {
     /// The agent takes its place in the run.
@@ -61,9 +61,10 @@ pub enum Op {
         from: RowLink,
         to: RowLink,
     },
-    /// Swaps the fresh row's link, or takes out the link of a row to be freed.
+    /// Swaps the first (0) or second (1) link of the fresh row, or takes out the next link of a row to be freed.
     LinkStore {
         row: u32,
+        number: u32,
         link: RowLink,
     },
     /// Counts a link that was made.

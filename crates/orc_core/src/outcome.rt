@@ -34,14 +34,19 @@ fn due_after(row: u32, word: u64, due: Option<Reading>) -> Option<Reading>
     }
 }
 
-fn cut_of(doom: Option<Doom>, row: u32) -> Option<Doom>
-    ensures { result ≡ cut_of doom row }
+fn cut_of(doom: Option<Doom>, row: u32, number: u32) -> Option<Doom>
+    requires { number < 2 }
+    ensures { result ≡ cut_of doom row number }
 {
     match doom {
         None => None,
         Some(doom) => Some(Doom {
             row: doom.row,
-            cut: doom.cut || doom.row == row,
+            cuts: if doom.row == row && doom.cuts == number {
+                number + 1
+            } else {
+                doom.cuts
+            },
             bare: doom.bare,
         }),
     }
@@ -54,7 +59,7 @@ fn bared(doom: Option<Doom>) -> Option<Doom>
         None => None,
         Some(doom) => Some(Doom {
             row: doom.row,
-            cut: doom.cut,
+            cuts: doom.cuts,
             bare: true,
         }),
     }
@@ -107,7 +112,7 @@ pub fn advance(agent: &mut Agent, op: &Op, read: u64)
         Op::Clear { slot } => agent.slots[*slot as usize] = SlotUse::Empty,
         Op::Arm { row } => agent.slots[0] = SlotUse::Held(*row),
         Op::LinkCas { from, to, .. } => link_swung(agent, *from, *to, read),
-        Op::LinkStore { row, link } => link_stored(agent, *row, *link, read),
+        Op::LinkStore { row, number, link } => link_stored(agent, *row, *number, *link, read),
         Op::Inc { row } => {
             agent.inc = None;
             agent.due = due_after(*row, read.wrapping_add(INCREMENT), agent.due);
@@ -176,8 +181,9 @@ fn link_swung(agent: &mut Agent, from: RowLink, to: RowLink, read: u64)
 }
 
 // A link was stored. Where the targets differ, their counts have to follow.
-fn link_stored(agent: &mut Agent, row: u32, link: RowLink, read: u64)
-    ensures { agent.new ≡ after (Op.LinkStore row link) agent.old read }
+fn link_stored(agent: &mut Agent, row: u32, number: u32, link: RowLink, read: u64)
+    requires { number < 2 }
+    ensures { agent.new ≡ after (Op.LinkStore row number link) agent.old read }
 {
     let old = named(read / 2);
     if !same_target(old, link.to) {
@@ -185,7 +191,7 @@ fn link_stored(agent: &mut Agent, row: u32, link: RowLink, read: u64)
         agent.dec = old;
     }
     agent.checked = None;
-    agent.doom = cut_of(agent.doom, row);
+    agent.doom = cut_of(agent.doom, row, number);
 }
 
 // The retired bit was tried. Who sets it puts the row at the end of its list.
@@ -241,7 +247,7 @@ fn counter_read(agent: &mut Agent, row: u32, how: CounterUse, read: u64)
                 agent.scan = None;
                 agent.doom = Some(Doom {
                     row,
-                    cut: false,
+                    cuts: 0,
                     bare: false,
                 });
             } else {

@@ -1,7 +1,7 @@
 //! What one part of a record says.
 
 ghost use Rattle.std.specs.Prelude.{◌≡◌, length};
-ghost use Rattle.orc_core.specs.RecordParts.{any_holds, checked_below, doom_bare, doom_cut, doom_uncut, holds, holds_fresh, is_clear, is_due, is_empty, is_published, kept, names, number_of, same_target, saw, scan_at, scan_empty, scan_found, scanned, scans, slot_of};
+ghost use Rattle.orc_core.specs.RecordParts.{any_holds, checked_below, doom_bare, doom_cut, doom_at, holds, holds_fresh, is_clear, is_due, is_empty, is_published, kept, names, number_of, same_target, saw, scan_at, scan_empty, scan_found, scanned, scans, slot_of};
 
 use crate::records::{Agent, Doom, Reading, Scan, SlotUse};
 use orc_words::{NEW_COUNTER, RETIRED};
@@ -275,22 +275,22 @@ pub(crate) fn scan_at(scan: Option<Scan>, place: u32) -> bool
     }
 }
 
-// Whether the row is to be freed, with its link still in.
-pub(crate) fn doom_uncut(doom: Option<Doom>, row: u32) -> bool
-    ensures { result ≡ doom_uncut doom row }
+// Whether the row is to be freed, and the link of this number is the next one to be taken out.
+pub(crate) fn doom_at(doom: Option<Doom>, row: u32, number: u32) -> bool
+    ensures { result ≡ doom_at doom row number }
 {
     match doom {
         None => false,
-        Some(doom) => doom.row == row && !doom.cut,
+        Some(doom) => doom.row == row && doom.cuts == number,
     }
 }
 
-// Whether the row is to be freed, with its link out and its bit still set.
-pub(crate) fn doom_cut(doom: Option<Doom>, row: u32) -> bool
-    ensures { result ≡ doom_cut doom row }
+// Whether the row is to be freed, with all its links out and its bit still set.
+pub(crate) fn doom_cut(links: u32, doom: Option<Doom>, row: u32) -> bool
+    ensures { result ≡ doom_cut links doom row }
 {
     match doom {
         None => false,
-        Some(doom) => doom.row == row && doom.cut && !doom.bare,
+        Some(doom) => doom.row == row && doom.cuts == links && !doom.bare,
     }
 }

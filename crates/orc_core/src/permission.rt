@@ -6,7 +6,7 @@ ghost use Rattle.orc_core.specs.RecordParts.{any_holds, names};
 ghost use Rattle.orc_core.specs.Allowed.{arms_or_decrements, fits, forced, increments, may, may_change, may_place, may_target, stands, tries_bit};
 
 use crate::ops::{CounterUse, Op};
-use crate::parts::{doom_cut, doom_uncut, names, scan_at, scan_empty, scan_found};
+use crate::parts::{doom_at, doom_cut, names, scan_at, scan_empty, scan_found};
 use crate::records::Agent;
 use orc_words::{RowLink, Shape, Word};
 
@@ -70,7 +70,7 @@ fn may_change(agent: &Agent, limit: u64, from: Option<u32>, to: Option<u32>) -> 
     }
 }
 
-// A root, or the next word of a row that the agent holds or has fresh.
+// A root, or a link word of a row that the agent holds or has fresh.
 fn may_read(shape: &Shape, agent: &Agent, place: Word) -> bool
     ensures { result ≡ may_place (bounds_of shape.now) place
         (λ r. any_holds agent.now.slots r || names agent.now.fresh r) }
@@ -78,11 +78,14 @@ fn may_read(shape: &Shape, agent: &Agent, place: Word) -> bool
     match place {
         Word::Root(root) => root < shape.roots(),
         Word::Next(row) => { row < shape.rows() && (agent.holds(row) || agent.is_fresh(row)) }
+        Word::Side(row) => {
+            row < shape.rows() && shape.links() > 1 && (agent.holds(row) || agent.is_fresh(row))
+        }
         _ => false,
     }
 }
 
-// A root, or the next word of a row that the agent holds and that is not its fresh one.
+// A root, or a link word of a row that the agent holds and that is not its fresh one.
 fn may_write(shape: &Shape, agent: &Agent, place: Word) -> bool
     ensures { result ≡ may_place (bounds_of shape.now) place
         (λ r. any_holds agent.now.slots r && not (names agent.now.fresh r)) }
@@ -90,6 +93,9 @@ fn may_write(shape: &Shape, agent: &Agent, place: Word) -> bool
     match place {
         Word::Root(root) => root < shape.roots(),
         Word::Next(row) => { row < shape.rows() && (agent.holds(row) && !agent.is_fresh(row)) }
+        Word::Side(row) => {
+            row < shape.rows() && shape.links() > 1 && (agent.holds(row) && !agent.is_fresh(row))
+        }
         _ => false,
     }
 }
@@ -114,15 +120,16 @@ fn may_swing(shape: &Shape, agent: &Agent, place: Word, from: RowLink, to: RowLi
         && may_change(agent, shape.limit() + 64, from.to, to.to)
 }
 
-fn may_store(shape: &Shape, agent: &Agent, row: u32, link: RowLink) -> bool
-    ensures { result ≡ fits (bounds_of shape.now) 0 0 (Op.LinkStore row link) agent.now }
+fn may_store(shape: &Shape, agent: &Agent, row: u32, number: u32, link: RowLink) -> bool
+    ensures { result ≡ fits (bounds_of shape.now) 0 0 (Op.LinkStore row number link) agent.now }
 {
     row < shape.rows()
+        && number < shape.links()
         && agent.slot(0).is_empty()
         && ((agent.is_fresh(row)
             && may_target(shape, agent, link.to)
             && may_change(agent, shape.limit() + 64, None, link.to))
-            || (doom_uncut(agent.doom, row) && link.to.is_none() && !link.mark))
+            || (doom_at(agent.doom, row, number) && link.to.is_none() && !link.mark))
 }
 
 fn may_count(shape: &Shape, agent: &Agent, row: u32, how: CounterUse) -> bool
@@ -176,7 +183,7 @@ fn fits(shape: &Shape, enrolled: u64, number: u32, op: &Op, agent: &Agent) -> bo
                 && (agent.has_decrement(*row) || (agent.scans(*row) && !scan_empty(agent.scan)))
         }
         Op::LinkCas { place, from, to } => may_swing(shape, agent, *place, *from, *to),
-        Op::LinkStore { row, link } => may_store(shape, agent, *row, *link),
+        Op::LinkStore { row, number, link } => may_store(shape, agent, *row, *number, *link),
         Op::Inc { row } => *row < shape.rows() && agent.has_increment(*row),
         Op::Dec { row } => {
             *row < shape.rows() && agent.has_decrement(*row) && agent.slot(0).holds(*row)
@@ -190,7 +197,7 @@ fn fits(shape: &Shape, enrolled: u64, number: u32, op: &Op, agent: &Agent) -> bo
         Op::Unretire { row } => {
             *row < shape.rows()
                 && ((agent.scans(*row) && !scan_empty(agent.scan) && agent.slot(0).holds(*row))
-                    || doom_cut(agent.doom, *row))
+                    || doom_cut(shape.links(), agent.doom, *row))
         }
         Op::SlotLook { k } => {
             *k < 8 * shape.agents()

@@ -38,8 +38,8 @@ pub struct Scan {
 #[derive(Clone, Copy, Debug, PartialEq, Eq)]
 pub struct Doom {
     pub row: u32,
-    /// Its link is out.
-    pub cut: bool,
+    /// How many of its links are out.
+    pub cuts: u32,
     /// Its retired bit is clear.
     pub bare: bool,
 }

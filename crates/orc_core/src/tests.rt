@@ -1,13 +1,14 @@
 //! Runs of the machine with words and records computed by hand, and a refused step of each kind.
 
 use super::*;
-use orc_words::{Counter, RowLink, Shape, Word, pack_counter};
+use orc_words::{RowLink, Shape, Word};
 use std::alloc::Global;
 use std::process::Abort;
 use std::test::Fail;
 
 mod examples;
 mod permissions;
+mod two_links;
 
 const NULL: RowLink = RowLink {
     to: None,
@@ -142,7 +143,11 @@ fn scan_and_free(state: &mut State) -> Result<(), NotAllowed> {
                 row: 0,
                 how: CounterUse::End,
             },
-            Op::LinkStore { row: 0, link: NULL },
+            Op::LinkStore {
+                row: 0,
+                number: 0,
+                link: NULL,
+            },
             Op::Unretire { row: 0 },
             Op::Free { row: 0 },
         ],
@@ -238,122 +243,21 @@ fn handed_over_taken_in_and_freed(rt: HostRuntime) -> Result<(), Fail> {
     );
     assert_eq!(rt; step(&mut state, 1, Op::Clear { slot: 2 })?, 0);
     assert_eq!(rt; step(&mut state, 1, Op::TakeIn { slot: 2 })?, 1);
-    scan_and_free(&mut state)?;
-    assert_eq!(rt; words_of_row_0(&state), (2, 37_748_736, 0));
-    assert_eq!(rt; census(&state), NONE_OUT);
-    Ok(())
-}
-
-#[test]
-fn handed_over_after_the_clear(rt: HostRuntime) -> Result<(), Fail> {
-    let mut state = found_held(&rt, rt.alloc())?;
-    steps(
-        &mut state,
-        1,
-        &[Op::Clear { slot: 2 }, Op::TakeIn { slot: 2 }],
-    )?;
-    steps(&mut state, 0, &[Op::Hand { k: 10 }])?;
-    let handed = Census {
+    let retired = Census {
         out: 1,
         retired: 1,
-        handed: 1,
+        listed: 1,
         ..NONE_OUT
     };
-    assert_eq!(rt; census(&state), handed);
-    steps(&mut state, 1, &[Op::TakeIn { slot: 2 }])?;
-    let listed = Census {
-        handed: 0,
-        listed: 1,
-        ..handed
-    };
-    assert_eq!(rt; census(&state), listed);
+    assert_eq!(rt; census(&state), retired);
     assert_eq!(rt;
         (entries_of(&state, 1, 0), entries_of(&state, 1, 1)),
         (1, 0)
     );
     assert_eq!(rt; (first_of(&state, 0), first_of(&state, 1)), (None, Some(0)));
     scan_and_free(&mut state)?;
+    assert_eq!(rt; words_of_row_0(&state), (2, 37_748_736, 0));
     assert_eq!(rt; census(&state), NONE_OUT);
-    Ok(())
-}
-
-// Agent 1 retires row 0 and scans; agent 2, which held it, links it again behind the scan: 55 steps.
-fn linked_again_behind_the_scan(rt: &impl Abort, alloc: Global) -> Result<State, Fail> {
-    let shape = Shape::new(2, 1, 3, 8)?;
-    let mut state = State::new(alloc, &shape)?;
-    for agent in 0..3 {
-        assert_eq!(rt; step(&mut state, agent, Op::Enroll)?, u64::from(agent));
-    }
-    link_row_0(&mut state, 1)?;
-    hold_row_0(&mut state, 2, 1)?;
-    unlink_row_0(&mut state, 1)?;
-    start(&mut state, 1)?;
-    look_at_slots(&mut state, 1, 0, 8)?;
-    let check = Op::CounterLoad {
-        row: 0,
-        how: CounterUse::Check,
-    };
-    let link = Op::LinkCas {
-        place: ROOT_0,
-        from: NULL,
-        to: ROW_0,
-    };
-    steps(&mut state, 2, &[check, link])?;
-    hold_row_0(&mut state, 0, 1)?;
-    let let_go = [
-        Op::Inc { row: 0 },
-        Op::Clear { slot: 1 },
-        Op::TakeIn { slot: 1 },
-    ];
-    steps(&mut state, 2, &let_go)?;
-    look_at_slots(&mut state, 1, 8, 24)?;
-    let end = Op::CounterLoad {
-        row: 0,
-        how: CounterUse::End,
-    };
-    let counter = Counter {
-        count: 1,
-        retired: true,
-        sequence: 3,
-    };
-    let word = pack_counter(counter);
-    assert_eq!(rt; step(&mut state, 1, end)?, word);
-    let anew = Scan {
-        row: 0,
-        word,
-        place: 0,
-        found: false,
-    };
-    assert_eq!(rt; scan_of(&state, 1), Some(anew));
-    Ok(state)
-}
-
-#[test]
-fn a_row_linked_behind_the_scan_is_not_freed(rt: HostRuntime) -> Result<(), Fail> {
-    let mut state = linked_again_behind_the_scan(&rt, rt.alloc())?;
-    assert!(rt; !allowed(&state, 1, &Op::Free { row: 0 }));
-    assert_eq!(rt; step(&mut state, 1, Op::Free { row: 0 }), Err(NotAllowed));
-    assert_eq!(rt; words_of_row_0(&state), (3, 62_914_561, 2));
-    Ok(())
-}
-
-#[test]
-fn the_bit_is_cleared_in_its_place(rt: HostRuntime) -> Result<(), Fail> {
-    let mut state = linked_again_behind_the_scan(&rt, rt.alloc())?;
-    let clear = [
-        Op::Arm { row: 0 },
-        Op::Unretire { row: 0 },
-        Op::Clear { slot: 0 },
-        Op::TakeIn { slot: 0 },
-    ];
-    steps(&mut state, 1, &clear)?;
-    assert_eq!(rt; words_of_row_0(&state), (3, 54_525_953, 2));
-    let linked = Census {
-        out: 1,
-        linked: 1,
-        ..NONE_OUT
-    };
-    assert_eq!(rt; census(&state), linked);
     Ok(())
 }
 
@@ -393,7 +297,11 @@ fn a_refused_step_of_each_kind(rt: HostRuntime) -> Result<(), Fail> {
             from: NULL,
             to: NULL,
         },
-        Op::LinkStore { row: 0, link: NULL },
+        Op::LinkStore {
+            row: 0,
+            number: 0,
+            link: NULL,
+        },
         Op::Inc { row: 0 },
         Op::Dec { row: 0 },
         Op::SetRetired {

@@ -1,7 +1,8 @@
--- Where the words of a table lie, so that words on which agents work apart lie on cache lines of their own, of eight words each.
+-- Where the words of a table that threads share lie: the word of enrolments, each root and each agent's words on cache lines of
+-- their own, of eight words each, and the rows without gaps, so that two of them may share a line.
 use Rattle.std.specs.Prelude.{List, [], cond, nat_lt, replicate, ℕ, ◌*◌, ◌++◌, ◌+◌, ◌-◌, ◌/◌, ◌<◌, ◌∷◌, ◌≡◌}
 use Rattle.orc_words.specs.Bounds.{Bounds}
-use Rattle.orc_words.specs.Places.{places}
+use Rattle.orc_words.specs.Places.{places, words_of_rows}
 
 -- the first index of a row: the word of enrolments and each root have a line of their own
 abbrev pub rows_at : Bounds → ℕ
@@ -9,16 +10,16 @@ rows_at b = 8 * (1 + b.roots)
 
 -- the first index of an agent: the next line behind the rows
 abbrev pub agents_at : Bounds → ℕ
-agents_at b = 8 * ((rows_at b + 5 * b.rows + 7) / 8)
+agents_at b = 8 * ((rows_at b + words_of_rows b b.rows + 7) / 8)
 
 -- the index of a place: eight words each up to the last root, then the rows without gaps, and then the agents without gaps
 abbrev pub index : Bounds → ℕ → ℕ
 index b p =
     cond (nat_lt p (1 + b.roots)) (8 * p)
-    (cond (nat_lt p (1 + b.roots + 5 * b.rows)) (rows_at b + (p - (1 + b.roots)))
-    (agents_at b + (p - (1 + b.roots + 5 * b.rows))))
+    (cond (nat_lt p (1 + b.roots + words_of_rows b b.rows)) (rows_at b + (p - (1 + b.roots)))
+    (agents_at b + (p - (1 + b.roots + words_of_rows b b.rows))))
 
--- how many words lie in a table
+-- how many words the table has, with its gaps
 abbrev pub room : Bounds → ℕ
 room b = index b (places b)
 

@@ -24,7 +24,7 @@ fn rows_at(shape: &Shape) -> usize
 fn agents_at(shape: &Shape) -> usize
     ensures { result ≡ agents_at (bounds_of shape.now) }
 {
-    LINE * ((rows_at(shape) + 5 * shape.rows() as usize + 7) / LINE)
+    LINE * ((rows_at(shape) + shape.words_of_rows(shape.rows()) as usize + 7) / LINE)
 }
 
 /// The index of a word in the table, from 0.
@@ -37,11 +37,12 @@ pub fn index_of(shape: &Shape, word: Word) -> usize
     match word {
         Word::Enrolled => 0,
         Word::Root(root) => LINE * (1 + root as usize),
-        Word::Gate(row) => rows_at(shape) + 5 * row as usize,
-        Word::Counter(row) => rows_at(shape) + 5 * row as usize + 1,
-        Word::First(row) => rows_at(shape) + 5 * row as usize + 2,
-        Word::Second(row) => rows_at(shape) + 5 * row as usize + 3,
-        Word::Next(row) => rows_at(shape) + 5 * row as usize + 4,
+        Word::Gate(row) => rows_at(shape) + shape.words_of_rows(row) as usize,
+        Word::Counter(row) => rows_at(shape) + shape.words_of_rows(row) as usize + 1,
+        Word::First(row) => rows_at(shape) + shape.words_of_rows(row) as usize + 2,
+        Word::Second(row) => rows_at(shape) + shape.words_of_rows(row) as usize + 3,
+        Word::Next(row) => rows_at(shape) + shape.words_of_rows(row) as usize + 4,
+        Word::Side(row) => rows_at(shape) + shape.words_of_rows(row) as usize + 5,
         Word::Slot(agent, slot) => agents_at(shape) + 16 * agent as usize + slot as usize,
         Word::Handover(agent, slot) => agents_at(shape) + 16 * agent as usize + 8 + slot as usize,
     }
@@ -53,7 +54,7 @@ pub(crate) fn index_at(shape: &Shape, place: usize) -> usize
     ensures { result ≡ index (bounds_of shape.now) place }
 {
     let first_row = 1 + shape.roots() as usize;
-    let first_agent = first_row + 5 * shape.rows() as usize;
+    let first_agent = first_row + shape.words_of_rows(shape.rows()) as usize;
     if place < first_row {
         LINE * place
     } else if place < first_agent {

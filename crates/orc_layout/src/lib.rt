@@ -1,4 +1,5 @@
-//! Where the words of a table lie: those on which agents work apart on cache lines of their own, of eight words each.
+//! Where the words of a table that threads share lie: the word of enrolments, each root and each agent's words on cache lines of
+//! their own, of eight words each, and the rows without gaps.
 #![tactic(auto)]
 
 mod laid;

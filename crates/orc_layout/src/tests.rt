@@ -4,7 +4,8 @@ use super::*;
 use orc_words::{Shape, Word};
 use std::test::Fail;
 
-// Three words alone, each with seven zeros behind it; ten words of rows, with six behind them; and two blocks of sixteen.
+// Three words alone, each with seven zeros behind it; ten words of rows, with six behind them, or twelve with four where rows
+// have two links; and two blocks of sixteen.
 #[test]
 fn a_small_table_by_hand(rt: HostRuntime) -> Result<(), Fail> {
     let shape = Shape::new(2, 2, 2, 9)?;
@@ -19,6 +20,10 @@ fn a_small_table_by_hand(rt: HostRuntime) -> Result<(), Fail> {
     assert_eq!(rt; index_of(&shape, Word::Slot(0, 0)), 40);
     assert_eq!(rt; index_of(&shape, Word::Handover(0, 7)), 55);
     assert_eq!(rt; index_of(&shape, Word::Slot(1, 1)), 57);
+    let two = Shape::with_links(2, 2, 2, 9, 2)?;
+    assert_eq!(rt; index_of(&two, Word::Next(1)), 34);
+    assert_eq!(rt; index_of(&two, Word::Side(1)), 35);
+    assert_eq!(rt; index_of(&two, Word::Slot(0, 0)), 40);
     Ok(())
 }
 

@@ -31,13 +31,13 @@ lower_le x y e = omega arith
 
 unretire_work : (b : Bounds) (z : World) (a q : ℕ) → LawfulStep b z a (Unretire q)
     → work_after b z a (Unretire q) + bit (is_some (z.seats a).scan) ≤ work_in b z a
-unretire_work b z a q p = cases (doom_cut (z.seats a).doom q) refl
+unretire_work b z a q p = cases (doom_cut b.links (z.seats a).doom q) refl
   where
     scan_is : (o : Option Scan) → scans o q ≡ true → bit (is_some o) ≡ 1
     scan_is None h = absurd (false≢true h)
     scan_is (Some s) h = refl
 
-    cut_is : (o : Option Doom) → doom_cut o q ≡ true → bit (is_some o) ≡ 1
+    cut_is : (o : Option Doom) → doom_cut b.links o q ≡ true → bit (is_some o) ≡ 1
     cut_is None h = absurd (false≢true h)
     cut_is (Some s) h = refl
 
@@ -46,7 +46,7 @@ unretire_work b z a q p = cases (doom_cut (z.seats a).doom q) refl
     scan_parts true true w x h e = absurd (false≢true (sym e ∙ h))
     scan_parts false v w x h e = absurd (false≢true (sym e ∙ h))
 
-    cases : (t : Bool) → doom_cut (z.seats a).doom q ≡ t → work_after b z a (Unretire q) + bit (is_some (z.seats a).scan) ≤ work_in b z a
+    cases : (t : Bool) → doom_cut b.links (z.seats a).doom q ≡ t → work_after b z a (Unretire q) + bit (is_some (z.seats a).scan) ≤ work_in b z a
     cases true h =
         let w = unretire_doom_work b z a q p h in
         let o = p.counted.one_part a in
@@ -64,7 +64,7 @@ settling_work b z a (CounterLoad q Start) p r h = lower _ _ (start_work b z a q 
 settling_work b z a (CounterLoad q End) p r h = end_work b z a q p
 settling_work b z a (SlotLook k) p r h = lower _ _ (look_work b z a k p)
 settling_work b z a (Hand k) p r h = hand_work b z a k p r (h.0 0) h.1
-settling_work b z a (LinkStore q l) p r h = lower_le _ _ (cut_work b z a q l p h.0 h.1)
+settling_work b z a (LinkStore q nr l) p r h = lower_le _ _ (cut_work b z a q nr l p h.0 h.1)
 settling_work b z a (Arm q) p r h = lower _ _ (arm_work b z a q p)
 settling_work b z a (Dec q) p r h = lower_le _ _ (dec_work b z a q p h)
 settling_work b z a (SetRetired q n) p r h = lower_le _ _ (try_work b z a q n p h.0 h.1)
@@ -105,13 +105,9 @@ full_le w = cases (w == 0)
     cases true = omega arith
     cases false = omega arith
 
-uncut_le : (o : Option Doom) → uncut o ≤ 2
+uncut_le : (o : Option Doom) → uncut o ≤ 3
 uncut_le None = omega arith
-uncut_le (Some d) = cases d.cut
-  where
-    cases : (t : Bool) → cond t 1 2 ≤ 2
-    cases true = omega arith
-    cases false = omega arith
+uncut_le (Some d) = omega arith
 
 -- with nothing pending, the work is within the bound on rounds
 pub work_bound : (b : Bounds) (z : World) (a : ℕ) → AllFits b z → a < b.agents → (z.seats a).dec ≡ None → (z.seats a).due ≡ None

@@ -1,12 +1,12 @@
 -- What settling does to handover words, and what a fresh row's counter word is.
-use Rattle.std.proofs.Common.{Bool, arith, cond, false, refl, sym, true, zero, ℕ, ◌%◌, ◌+◌, ◌/◌, ◌∙◌, ◌≡◌, ◌≢◌}
+use Rattle.std.proofs.Common.{Bool, arith, cond, false, refl, sym, true, zero, ℕ, ◌%◌, ◌+◌, ◌/◌, ◌∙◌, ◌≡◌, ◌≢◌, suc}
 use Rattle.std.proofs.lemmas.Bool.{eq-eqb, eqb-true, false≢true}
 use Rattle.std.specs.Prelude.{◌&&◌, ◌==◌}
 use Rattle.orc_core.proofs.Within.{and_both}
 use Rattle.orc_core.specs.RecordParts.{is_empty, scanned, slot_of}
 use Rattle.orc_core.specs.declared.ops.CounterUse.TheVariants.{Check}
 use Rattle.orc_core.specs.declared.ops.Op.{Op}
-use Rattle.orc_core.specs.declared.ops.Op.TheVariants.{CounterLoad, Fill as FillStep, Hand, LinkCas, LinkLoad, Read, TakeIn}
+use Rattle.orc_core.specs.declared.ops.Op.TheVariants.{CounterLoad, Fill as FillStep, Hand, LinkCas, LinkLoad, Read, TakeIn, LinkStore}
 use Rattle.orc_core.specs.declared.records.SlotUse.{SlotUse}
 use Rattle.orc_core.specs.declared.records.SlotUse.TheVariants.{Empty, Held, Published}
 use Rattle.orc_settling.specs.Work.{IsSettlingStep}
@@ -47,6 +47,8 @@ own_handover b z a (LinkCas w x t) k p s o = absurd s
 own_handover b z a (LinkLoad w j) k p s o = absurd s
 own_handover b z a (FillStep r w v) k p s o = absurd s
 own_handover b z a (Read r w) k p s o = absurd s
+own_handover b z a (LinkStore q zero l) k p s o = o
+own_handover b z a (LinkStore q (suc n) l) k p s o = o
 own_handover b z a op k p s o = o
 
 -- where no slot names a row, nothing is handed over
@@ -76,4 +78,6 @@ other_handover b z a (LinkCas w y t) x k p ne s q o = absurd s
 other_handover b z a (LinkLoad w j) x k p ne s q o = absurd s
 other_handover b z a (FillStep r w v) x k p ne s q o = absurd s
 other_handover b z a (Read r w) x k p ne s q o = absurd s
+other_handover b z a (LinkStore r zero l) x k p ne s q o = o
+other_handover b z a (LinkStore r (suc n) l) x k p ne s q o = o
 other_handover b z a op x k p ne s q o = o

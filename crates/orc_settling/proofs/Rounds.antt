@@ -1,5 +1,5 @@
 -- Rounds of settling.
-use Rattle.std.proofs.Common.{Bool, List, [], ap, arith, cond, false, refl, subst, sym, true, ℕ, ⊎_elim, ◌*◌, ◌++◌, ◌+◌, ◌-◌, ◌<◌, ◌∙◌, ◌∷◌, ◌≡◌, ◌≤◌}
+use Rattle.std.proofs.Common.{Bool, List, [], ap, arith, false, refl, subst, sym, true, ℕ, ⊎_elim, ◌*◌, ◌++◌, ◌+◌, ◌-◌, ◌<◌, ◌∙◌, ◌∷◌, ◌≡◌, ◌≤◌}
 use Rattle.std.proofs.lemmas.Bool.{eq-eqb, false≢true, lt-ltb}
 use Rattle.std.specs.Prelude.{None, Option, Some, is_none, is_some, ◌&&◌, ◌==◌, ◌||◌}
 use Rattle.orc_core.proofs.Steps.{run-append}
@@ -85,11 +85,7 @@ rounds_join a left m n o ne w r = record {
 
 pub positive : (o : Option Doom) → 1 ≤ uncut o
 positive None = omega arith
-positive (Some d) = cases d.cut
-  where
-    cases : (t : Bool) → 1 ≤ cond t 1 2
-    cases true = omega arith
-    cases false = omega arith
+positive (Some d) = omega arith
 
 abbrev pub no_rounds : (a : ℕ) (m : Machine) → Rounds a 0 m m
 no_rounds a m = record {

@@ -1,5 +1,5 @@
 -- What each kind of step that settles does to the work that is left.
-use Rattle.std.proofs.Common.{Bool, List, [], ap, arith, cond, drop, false, length, refl, sym, true, zero, ℕ, ◌%◌, ◌*◌, ◌+◌, ◌/◌, ◌<◌, ◌∙◌, ◌∷◌, ◌≡◌, ◌≢◌, ◌≤◌}
+use Rattle.std.proofs.Common.{Bool, List, [], ap, arith, cond, drop, false, length, refl, sym, true, zero, ℕ, ◌%◌, ◌*◌, ◌+◌, ◌/◌, ◌<◌, ◌∙◌, ◌∷◌, ◌≡◌, ◌≢◌, ◌≤◌, suc, ◌-◌}
 use Rattle.std.proofs.lemmas.Bool.{eq-eqb, eqb-true, false≢true, ltb-true, ne_eqb}
 use Rattle.std.proofs.lemmas.List.{length_push}
 use Rattle.std.specs.Prelude.{None, Option, Some, is_none, is_some, not, ◌&&◌, ◌==◌, ◌||◌}
@@ -9,7 +9,7 @@ use Rattle.orc_core.specs.Actions.{clear_word}
 use Rattle.orc_core.specs.After.{bared, cut_of, due_after, scan_on}
 use Rattle.orc_core.specs.Allowed.{completes, forced}
 use Rattle.orc_core.specs.Listed.{Listed, first_is, listed_more, listed_name, listed_rest}
-use Rattle.orc_core.specs.RecordParts.{doom_cut, doom_uncut, is_due, is_empty, kept, names, same_target, scan_empty, scan_found, scanned, scans, slot_of}
+use Rattle.orc_core.specs.RecordParts.{doom_cut, doom_at, is_due, is_empty, kept, names, same_target, scan_empty, scan_found, scanned, scans, slot_of}
 use Rattle.orc_core.specs.Sums.{sum_below}
 use Rattle.orc_core.specs.declared.ops.CounterUse.TheVariants.{End, Start}
 use Rattle.orc_core.specs.declared.ops.Op.{Op}
@@ -38,7 +38,9 @@ use Rattle.orc_words.specs.Operations.{word_add, word_sub}
 use Rattle.orc_words.specs.Packed.{bit, count_bits, link_word, named, retired_bit}
 use Rattle.orc_words.specs.declared.packed.RowLink.{RowLink}
 use Rattle.orc_words.specs.declared.place.Word.{Word}
-use Rattle.orc_words.specs.declared.place.Word.TheVariants.{Counter, Gate, Handover, Next, Slot}
+use Rattle.orc_words.specs.declared.place.Word.TheVariants.{Counter, Gate, Handover, Next, Slot, Side}
+use Rattle.orc_words.specs.Places.{link_at}
+use Rattle.orc_sound.proofs.DoomedStep.{number_below}
 
 -- the work that is left in the state as functions
 abbrev pub work_in : Bounds → World → ℕ → ℕ
@@ -186,7 +188,7 @@ clear_work b z a k p =
     stale_clear None = refl
     stale_clear (Some s) = refl
 
-pub free_work : (b : Bounds) (z : World) (a q : ℕ) → LawfulStep b z a (Free q) → work_after b z a (Free q) + 2 ≤ work_in b z a
+pub free_work : (b : Bounds) (z : World) (a q : ℕ) → LawfulStep b z a (Free q) → work_after b z a (Free q) + 1 ≤ work_in b z a
 free_work b z a q p =
     let f = and_both _ _ p.fits in
     let h = ltb-true q b.rows f.0 in
@@ -194,11 +196,12 @@ free_work b z a q p =
     let c = cut_doom (z.seats a).doom (p.doomed.cut a q f.1) in
     let e = sum_put b.rows q (λ r x. x % 2) (λ r. z.memory (Gate r)) ((z.memory (Gate q) + 18446744073709551615) % 18446744073709551616) h in
     let s = stale_free (z.seats a).scan in
+    let l = p.shape.links.1 in
     omega arith
   where
-    cut_doom : (o : Option Doom) → dooms_cut o q ≡ true → uncut o ≡ 1
+    cut_doom : (o : Option Doom) → dooms_cut b.links o q ≡ true → uncut o ≡ 1 + (2 - b.links)
     cut_doom None h = absurd (false≢true h)
-    cut_doom (Some d) h = let c : d.cut ≡ true = (and_both _ _ h).1 in rw c refl
+    cut_doom (Some d) h = let c : d.cuts ≡ b.links = eqb-true d.cuts b.links (and_both _ _ h).1 in rw c refl
 
     stale_free : (o : Option Scan) → staleness (write z.memory (Gate q) ((z.memory (Gate q) + 18446744073709551615) % 18446744073709551616)) o ≡ staleness
         z.memory o
@@ -231,10 +234,10 @@ empty_part : {A : Type 0} (o : Option A) → bit (is_some o) ≡ 0 → o ≡ Non
 empty_part None h = refl
 empty_part (Some x) h = absurd (omega arith)
 
-doom_no_scan : (d : Agent) (q : ℕ) → HasOnePart d → doom_cut d.doom q ≡ true → d.scan ≡ None
-doom_no_scan d q o h = let k = cut_one d.doom h in empty_part d.scan (omega arith)
+doom_no_scan : (links : ℕ) (d : Agent) (q : ℕ) → HasOnePart d → doom_cut links d.doom q ≡ true → d.scan ≡ None
+doom_no_scan links d q o h = let k = cut_one d.doom h in empty_part d.scan (omega arith)
   where
-    cut_one : (o : Option Doom) → doom_cut o q ≡ true → bit (is_some o) ≡ 1
+    cut_one : (o : Option Doom) → doom_cut links o q ≡ true → bit (is_some o) ≡ 1
     cut_one None h = absurd (false≢true h)
     cut_one (Some x) h = refl
 
@@ -249,29 +252,32 @@ one_of : {A : Type 0} (o : Option A) → bit (is_some o) ≤ 1
 one_of None = omega arith
 one_of (Some x) = omega arith
 
--- a doomed row's link is taken out
-pub cut_work : (b : Bounds) (z : World) (a q : ℕ) (l : RowLink) → LawfulStep b z a (LinkStore q l) → doom_uncut (z.seats a).doom q ≡ true → l.to ≡ None
-    → work_after b z a (LinkStore q l) ≤ work_in b z a
-cut_work b z a q l p c t =
-    let n = nothing_pending (z.seats a).due (z.seats a).inc (z.seats a).dec (LinkStore q l) refl p.forced in
-    let o = one_of (cond (same_target (named (z.memory (Next q) / 2)) None) (z.seats a).dec (named (z.memory (Next q) / 2))) in
-    let e = cut_more (z.seats a).doom c in
-    let k : bit (is_some (z.seats a).dec) ≡ 0 = rw n.2 refl in
-    let s = stale_cut (z.seats a).scan in
-    rw t (omega arith)
-  where
-    cut_more : (o : Option Doom) → doom_uncut o q ≡ true → uncut (cut_of o q) + 1 ≡ uncut o
-    cut_more None h = absurd (false≢true h)
-    cut_more (Some d) h = parts d.cut (d.row == q) h
-      where
-        parts : (t u : Bool) → (u && not t) ≡ true → cond (t || u) 1 2 + 1 ≡ cond t 1 2
-        parts true u h = grind arith
-        parts false true h = refl
-        parts false false h = absurd (false≢true h)
+-- a doomed row's next link is taken out
+cut_more : (o : Option Doom) (q n : ℕ) → n < 2 → doom_at o q n ≡ true → uncut (cut_of o q n) + 1 ≡ uncut o
+cut_more None q n l h = absurd (false≢true h)
+cut_more (Some d) q n l h = let e : d.cuts ≡ n = eqb-true d.cuts n (and_both _ _ h).1 in rw (h, e) (omega arith)
 
-    stale_cut : (o : Option Scan) → staleness (write z.memory (Next q) (link_word l)) o ≡ staleness z.memory o
-    stale_cut None = refl
-    stale_cut (Some s) = refl
+stale_cut : (m : Word → ℕ) (q n v : ℕ) (o : Option Scan) → staleness (write m (link_at n q) v) o ≡ staleness m o
+stale_cut m q n v None = refl
+stale_cut m q zero v (Some s) = refl
+stale_cut m q (suc n) v (Some s) = refl
+
+pub cut_work : (b : Bounds) (z : World) (a q nr : ℕ) (l : RowLink) → LawfulStep b z a (LinkStore q nr l) → doom_at (z.seats a).doom q nr ≡ true → l.to ≡ None
+    → work_after b z a (LinkStore q nr l) ≤ work_in b z a
+cut_work b z a q zero l p c t =
+    let n = nothing_pending (z.seats a).due (z.seats a).inc (z.seats a).dec (LinkStore q 0 l) refl p.forced in
+    let o = one_of (cond (same_target (named (z.memory (Next q) / 2)) None) (z.seats a).dec (named (z.memory (Next q) / 2))) in
+    let e = cut_more (z.seats a).doom q 0 (number_below b z a q 0 l p) c in
+    let d : bit (is_some (z.seats a).dec) ≡ 0 = rw n.2 refl in
+    let s = stale_cut z.memory q 0 (link_word l) (z.seats a).scan in
+    rw t (omega arith)
+cut_work b z a q (suc k) l p c t =
+    let n = nothing_pending (z.seats a).due (z.seats a).inc (z.seats a).dec (LinkStore q (suc k) l) refl p.forced in
+    let o = one_of (cond (same_target (named (z.memory (Side q) / 2)) None) (z.seats a).dec (named (z.memory (Side q) / 2))) in
+    let e = cut_more (z.seats a).doom q (suc k) (number_below b z a q (suc k) l p) c in
+    let d : bit (is_some (z.seats a).dec) ≡ 0 = rw n.2 refl in
+    let s = stale_cut z.memory q (suc k) (link_word l) (z.seats a).scan in
+    rw t (omega arith)
 
 due_one : (r w : ℕ) (o : Option Reading) → o ≡ None → bit (is_some (due_after r w o)) ≤ 1
 due_one r w o e = one_of (due_after r w o)
@@ -334,10 +340,10 @@ unretire_scan_work b z a q p h e =
         same v w false t e c = let k = one_of (due_after q (word_sub v 8388608) None) in omega arith
         same v w true t e c = let k = eqb-true v w t in grind arith
 
-pub unretire_doom_work : (b : Bounds) (z : World) (a q : ℕ) → LawfulStep b z a (Unretire q) → doom_cut (z.seats a).doom q ≡ true
+pub unretire_doom_work : (b : Bounds) (z : World) (a q : ℕ) → LawfulStep b z a (Unretire q) → doom_cut b.links (z.seats a).doom q ≡ true
     → work_after b z a (Unretire q) ≤ work_in b z a
 unretire_doom_work b z a q p h =
-    let e = doom_no_scan (z.seats a) q (p.counted.one_part a) h in
+    let e = doom_no_scan b.links (z.seats a) q (p.counted.one_part a) h in
     let u = bared_uncut (z.seats a).doom in
     rw e (omega arith)
   where

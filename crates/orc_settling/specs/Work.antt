@@ -1,11 +1,11 @@
 -- The work that is left to an agent that settles while no other agent steps.
-use Rattle.std.specs.Prelude.{None, Option, Some, cond, is_some, length, not, true, ℕ, ◌%◌, ◌&&◌, ◌*◌, ◌+◌, ◌/◌, ◌==◌, ◌≡◌}
+use Rattle.std.specs.Prelude.{None, Option, Some, cond, is_some, length, not, true, ℕ, ◌%◌, ◌&&◌, ◌*◌, ◌+◌, ◌-◌, ◌/◌, ◌==◌, ◌≡◌}
 use Rattle.orc_words.specs.Bounds.{Bounds}
 use Rattle.orc_words.specs.Packed.{bit}
 use Rattle.orc_words.specs.declared.place.Word.{Word}
 use Rattle.orc_words.specs.declared.place.Word.TheVariants.{Counter, Gate, Handover, Slot}
 use Rattle.orc_core.specs.Machine.{Machine, record_at, word_in}
-use Rattle.orc_core.specs.RecordParts.{doom_uncut, is_due, is_empty, scanned, slot_of}
+use Rattle.orc_core.specs.RecordParts.{doom_at, is_due, is_empty, scanned, slot_of}
 use Rattle.orc_core.specs.Sums.{sum_below}
 use Rattle.orc_core.specs.declared.ops.CounterUse.TheVariants.{Check, End, Start}
 use Rattle.orc_core.specs.declared.ops.Op.{Op}
@@ -42,10 +42,10 @@ abbrev pub staleness : (Word → ℕ) → Option Scan → ℕ
 staleness m None = 0
 staleness m (Some s) = cond (m (Counter s.row) == s.word) 0 2
 
--- a doom whose link is out is worth one less
+-- a doom is worth one less for each link that is out
 abbrev pub uncut : Option Doom → ℕ
-uncut None = 2
-uncut (Some d) = cond d.cut 1 2
+uncut None = 3
+uncut (Some d) = 1 + (2 - d.cuts)
 
 abbrev pub work_of : Bounds → (Word → ℕ) → ℕ → Agent → ℕ
 work_of b m a d =
@@ -62,7 +62,7 @@ IsSettlingStep m (CounterLoad q End) d = Unit {0}
 IsSettlingStep m (CounterLoad q Check) d = ⊥
 IsSettlingStep m (SlotLook k) d = Unit {0}
 IsSettlingStep m (Hand k) d = ((j : ℕ) → is_empty (slot_of d j) ≡ true) × (m (Slot (k / 8) (k % 8)) ≡ scanned d.scan + 1)
-IsSettlingStep m (LinkStore r l) d = (doom_uncut d.doom r ≡ true) × (l.to ≡ None)
+IsSettlingStep m (LinkStore r n l) d = (doom_at d.doom r n ≡ true) × (l.to ≡ None)
 IsSettlingStep m (Arm r) d = Unit {0}
 IsSettlingStep m (Dec r) d = d.scan ≡ None
 IsSettlingStep m (SetRetired r q) d = (d.scan ≡ None) × (is_due d.due r q ≡ true)
@@ -78,6 +78,6 @@ drop_of (CounterLoad q Start) d = 0
 drop_of (CounterLoad q End) d = 1
 drop_of (CounterLoad q Check) d = 0
 drop_of (Hand k) d = 1
-drop_of (Free r) d = 2
+drop_of (Free r) d = 1
 drop_of (Unretire r) d = bit (is_some d.scan)
 drop_of op d = 0

@@ -7,6 +7,3 @@ pub use laws::{
     a_settling_step_is_a_turn, settling_hands_nothing_over, settling_uses_up_the_work,
     turns_follow_one_another,
 };
-
-#[cfg(test)]
-mod tests;

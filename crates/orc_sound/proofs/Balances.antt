@@ -1,11 +1,11 @@
 -- Each kind keeps the balance, by its word and its record alone.
-use Rattle.std.proofs.Common.{Bool, ap, arith, cond, false, refl, true, ℕ, ◌%◌, ◌+◌, ◌/◌, ◌<◌, ◌≡◌}
+use Rattle.std.proofs.Common.{Bool, ap, arith, cond, false, refl, true, ℕ, ◌%◌, ◌+◌, ◌/◌, ◌<◌, ◌≡◌, zero, suc}
 use Rattle.std.proofs.lemmas.Bool.{eqb-true}
 use Rattle.std.specs.Prelude.{None, Option, Some, ◌==◌}
 use Rattle.orc_words.specs.Packed.{bit, count_bits, link_word, named}
 use Rattle.orc_words.specs.declared.packed.RowLink.{RowLink}
 use Rattle.orc_words.specs.declared.place.Word.{Word}
-use Rattle.orc_words.specs.declared.place.Word.TheVariants.{Counter, Gate, Next, Root}
+use Rattle.orc_words.specs.declared.place.Word.TheVariants.{Counter, Gate, Next, Root, Side}
 use Rattle.orc_words.specs.Operations.{word_after}
 use Rattle.orc_core.specs.Actions.{action_of}
 use Rattle.orc_core.specs.After.{after}
@@ -32,12 +32,13 @@ pub dec_kept : (m : Word → ℕ) (a q : ℕ) (d : Agent) (r : ℕ) → names d.
     + 1 ≡ count_bits (m (Counter q)) → Kept m a (Dec q) d r
 dec_kept m a q d r mine less = grind arith
 
--- a free row's link is null
-pub gate_take_kept : (m : Word → ℕ) (a q : ℕ) (d : Agent) (r : ℕ) → (out (m (Gate q)) ≡ 0 → m (Next q) / 2 ≡ 0) → Kept m a (GateTake q) d r
-gate_take_kept m a q d r null = grind arith
+-- a free row's links are null
+pub gate_take_kept : (m : Word → ℕ) (a q : ℕ) (d : Agent) (r : ℕ) → (out (m (Gate q)) ≡ 0 → m (Next q) / 2 ≡ 0) → (out (m (Gate q)) ≡ 0 → m (Side q) / 2 ≡ 0)
+    → Kept m a (GateTake q) d r
+gate_take_kept m a q d r null side = grind arith
 
-pub free_kept : (m : Word → ℕ) (a q : ℕ) (d : Agent) (r : ℕ) → m (Next q) / 2 ≡ 0 → Kept m a (Free q) d r
-free_kept m a q d r null = grind arith
+pub free_kept : (m : Word → ℕ) (a q : ℕ) (d : Agent) (r : ℕ) → m (Next q) / 2 ≡ 0 → m (Side q) / 2 ≡ 0 → Kept m a (Free q) d r
+free_kept m a q d r null side = grind arith
 
 -- a bit that is set or cleared leaves the count
 pub set_retired_kept : (m : Word → ℕ) (a q n : ℕ) (d : Agent) (r : ℕ) → Kept m a (SetRetired q n) d r
@@ -47,10 +48,11 @@ pub unretire_kept : (m : Word → ℕ) (a q : ℕ) (d : Agent) (r : ℕ)
     → count_bits ((m (Counter q) + 18446744073701163008) % 18446744073709551616) ≡ count_bits (m (Counter q)) → Kept m a (Unretire q) d r
 unretire_kept m a q d r same = grind arith
 
--- the place is a root, or the next word of a row that is out
+-- the place is a root, or a link word of a row that is out
 abbrev pub OutPlace : (Word → ℕ) → Word → Type 0
 OutPlace m (Root i) = Unit {0}
 OutPlace m (Next q) = out (m (Gate q)) ≡ 1
+OutPlace m (Side q) = out (m (Gate q)) ≡ 1
 OutPlace m _ = ⊥
 
 pub to_row-link : (l : RowLink) (r : ℕ) → to_row (link_word l) r ≡ bit (names l.to r)
@@ -81,9 +83,10 @@ store_core : (v : ℕ) (l : RowLink) (i j : Option ℕ) (r : ℕ) → r < 65535 
     + bit (names (cond (same_target (named (v / 2)) l.to) j (named (v / 2))) r)
 store_core v l i j r h ni nj = rw (ni, nj) (store_cases v l r (same_target (named (v / 2)) l.to) h (same_names (named (v / 2)) l.to r))
 
-pub store_kept : (m : Word → ℕ) (a q : ℕ) (l : RowLink) (d : Agent) (r : ℕ) → r < 65535 → out (m (Gate q)) ≡ 1 → d.inc ≡ None → d.dec ≡ None
-    → Kept m a (LinkStore q l) d r
-store_kept m a q l d r b h ni nd = rw h (omega (arith, store_core (m (Next q)) l d.inc d.dec r b ni nd))
+pub store_kept : (m : Word → ℕ) (a q nr : ℕ) (l : RowLink) (d : Agent) (r : ℕ) → r < 65535 → out (m (Gate q)) ≡ 1 → d.inc ≡ None → d.dec ≡ None
+    → Kept m a (LinkStore q nr l) d r
+store_kept m a q zero l d r b h ni nd = rw h (omega (arith, store_core (m (Next q)) l d.inc d.dec r b ni nd))
+store_kept m a q (suc k) l d r b h ni nd = rw h (omega (arith, store_core (m (Side q)) l d.inc d.dec r b ni nd))
 
 -- a link word that was from and is to
 cas_core : (v : ℕ) (f t : RowLink) (i j : Option ℕ) (r : ℕ) → i ≡ None → j ≡ None
@@ -94,4 +97,5 @@ cas_core v f t i j r ni nj = rw (ni, nj) (cas_cases v f t r (v == link_word f) (
 pub cas_kept : (m : Word → ℕ) (a : ℕ) (p : Word) (f t : RowLink) (d : Agent) (r : ℕ) → OutPlace m p → d.inc ≡ None → d.dec ≡ None → Kept m a (LinkCas p f t) d r
 cas_kept m a (Root i) f t d r h ni nd = omega (arith, cas_core (m (Root i)) f t d.inc d.dec r ni nd)
 cas_kept m a (Next q) f t d r h ni nd = rw h (omega (arith, cas_core (m (Next q)) f t d.inc d.dec r ni nd))
+cas_kept m a (Side q) f t d r h ni nd = rw h (omega (arith, cas_core (m (Side q)) f t d.inc d.dec r ni nd))
 cas_kept m a p f t d r h ni nd = absurd h

@@ -1,17 +1,17 @@
 -- The counts of a counter word are far inside its bits, and what the retired bit comes from.
-use Rattle.std.proofs.Common.{Bool, arith, cond, false, inl, inr, refl, sym, true, ℕ, ⊎_elim, ◌*◌, ◌+◌, ◌<◌, ◌∙◌, ◌≡◌, ◌≤◌, ◌⊎◌}
+use Rattle.std.proofs.Common.{Bool, arith, cond, false, inl, inr, refl, sym, true, ℕ, ⊎_elim, ◌*◌, ◌+◌, ◌<◌, ◌∙◌, ◌≡◌, ◌≤◌, ◌⊎◌, zero, suc}
 use Rattle.std.proofs.lemmas.Bool.{eq-eqb, eqb-true, false≢true, ltb-true}
 use Rattle.std.specs.Prelude.{None, Option, Some, ◌&&◌, ◌==◌, ◌||◌}
 use Rattle.orc_words.specs.Bounds.{Bounds, IsShape}
 use Rattle.orc_words.specs.Packed.{bit, count_bits, retired_bit}
 use Rattle.orc_words.specs.declared.place.Word.{Word}
-use Rattle.orc_words.specs.declared.place.Word.TheVariants.{Counter, Enrolled, First, Gate, Next, Root, Second}
+use Rattle.orc_words.specs.declared.place.Word.TheVariants.{Counter, Enrolled, First, Gate, Next, Root, Second, Side}
 use Rattle.orc_core.proofs.Within.{and_both}
 use Rattle.orc_core.specs.Actions.{clear_word}
 use Rattle.orc_core.specs.Allowed.{fits}
 use Rattle.orc_core.specs.RecordParts.{doom_cut, names, scans}
 use Rattle.orc_core.specs.declared.ops.Op.{Op}
-use Rattle.orc_core.specs.declared.ops.Op.TheVariants.{CounterLoad, Dec, Fill, Inc, LinkCas, LinkLoad, Read, SetRetired, Unretire}
+use Rattle.orc_core.specs.declared.ops.Op.TheVariants.{CounterLoad, Dec, Fill, Inc, LinkCas, LinkLoad, Read, SetRetired, Unretire, LinkStore}
 use Rattle.orc_core.specs.declared.records.Agent.{Agent}
 use Rattle.orc_core.specs.declared.records.Doom.{Doom}
 use Rattle.orc_sound.proofs.CounterWords.{dec_bit, inc_bit}
@@ -35,6 +35,7 @@ count_bounds b z r shape s h =
     let d = sum_le b.agents (λ a. bit (names (z.seats a).dec r)) (λ a. bit_le _) in
     let l = sum_le b.roots (λ j. to_row (z.memory (Root j)) r) (λ j. bit_le _) in
     let n = sum_le b.rows (λ j. out (z.memory (Gate j)) * to_row (z.memory (Next j)) r) (λ j. link_le _ _ r) in
+    let o = sum_le b.rows (λ j. out (z.memory (Gate j)) * to_row (z.memory (Side j)) r) (λ j. link_le _ _ r) in
     let e = s.balance r h in
     let f = shape.rows.1 in let g = shape.roots.1 in let k = shape.agents.1 in
     (omega arith, omega arith)
@@ -50,25 +51,25 @@ retired_one b z a r s ha hr h =
 pub scan_places : (d : Agent) (r : ℕ) → scans d.scan r ≡ true → 0 < places_of d r
 scan_places d r h = grind arith
 
-cut_dooms : (o : Option Doom) (r : ℕ) → doom_cut o r ≡ true → dooming o r ≡ true
-cut_dooms None r h = absurd (false≢true h)
-cut_dooms (Some x) r h = grind arith
+cut_dooms : (links : ℕ) (o : Option Doom) (r : ℕ) → doom_cut links o r ≡ true → dooming o r ≡ true
+cut_dooms links None r h = absurd (false≢true h)
+cut_dooms links (Some x) r h = grind arith
 
-doom_places : (d : Agent) (r : ℕ) → doom_cut d.doom r ≡ true → 0 < places_of d r
-doom_places d r h = let k = cut_dooms d.doom r h in grind arith
+doom_places : (links : ℕ) (d : Agent) (r : ℕ) → doom_cut links d.doom r ≡ true → 0 < places_of d r
+doom_places links d r h = let k = cut_dooms links d.doom r h in grind arith
 
 scan_or_cut : (u w x y : Bool) → ((u && w && x) || y) ≡ true → (u ≡ true) ⊎ (y ≡ true)
 scan_or_cut true w x y h = inl refl
 scan_or_cut false w x y h = inr h
 
 -- a bit that is cleared is that of the scan, or of the doom that is cut
-pub unretire_cases : (b : Bounds) (e a q : ℕ) (d : Agent) → fits b e a (Unretire q) d ≡ true → (scans d.scan q ≡ true) ⊎ (doom_cut d.doom q ≡ true)
+pub unretire_cases : (b : Bounds) (e a q : ℕ) (d : Agent) → fits b e a (Unretire q) d ≡ true → (scans d.scan q ≡ true) ⊎ (doom_cut b.links d.doom q ≡ true)
 unretire_cases b e a q d f = scan_or_cut _ _ _ _ (and_both _ _ f).1
 
 pub unretire_one : (b : Bounds) (z : World) (a q : ℕ) → LawfulStep b z a (Unretire q) → retired_bit (z.memory (Counter q)) ≡ 1
 unretire_one b z a q p =
     retired_one b z a q p.counted p.agent (ltb-true _ _ (and_both _ _ p.fits).0)
-    (⊎_elim (λ s. scan_places (z.seats a) q s) (λ c. doom_places (z.seats a) q c) (unretire_cases b (z.memory Enrolled) a q (z.seats a) p.fits))
+    (⊎_elim (λ s. scan_places (z.seats a) q s) (λ c. doom_places b.links (z.seats a) q c) (unretire_cases b (z.memory Enrolled) a q (z.seats a) p.fits))
 
 pub inc_bounds : (b : Bounds) (z : World) (a q : ℕ) → LawfulStep b z a (Inc q) → count_bits (z.memory (Counter q)) + 1 < 8388608
 inc_bounds b z a q p = (count_bounds b z q p.shape p.counted (ltb-true _ _ (and_both _ _ p.fits).0)).1
@@ -111,7 +112,10 @@ bit_before b z a (CounterLoad q how) r p h = inl (rw (write_same z.memory (Count
 bit_before b z a (LinkLoad w k) r p h = inl (rw (write_same z.memory w (Counter r)) at h)
 bit_before b z a (LinkCas (Root i) x t) r p h = inl h
 bit_before b z a (LinkCas (Next i) x t) r p h = inl h
+bit_before b z a (LinkCas (Side i) x t) r p h = inl h
 bit_before b z a (LinkCas w x t) r p h = let f = p.fits in grind arith
 bit_before b z a (Fill q w v) r p h = inl (fill_bit z.memory q w v r h)
 bit_before b z a (Read q w) r p h = inl (rw (write_same z.memory (cond (w == 0) (First q) (Second q)) (Counter r)) at h)
+bit_before b z a (LinkStore lq zero ll) r p h = inl h
+bit_before b z a (LinkStore lq (suc ln) ll) r p h = inl h
 bit_before b z a op r p h = inl h

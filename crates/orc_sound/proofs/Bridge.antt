@@ -7,7 +7,7 @@ use Rattle.orc_words.proofs.Positions.{place_below, same_place}
 use Rattle.orc_words.specs.Bounds.{Bounds}
 use Rattle.orc_words.specs.Places.{IsWithin, place, places}
 use Rattle.orc_words.specs.declared.place.Word.{Word}
-use Rattle.orc_words.specs.declared.place.Word.TheVariants.{Counter, Enrolled, First, Gate, Handover, Next, Root, Second, Slot}
+use Rattle.orc_words.specs.declared.place.Word.TheVariants.{Counter, Enrolled, First, Gate, Handover, Next, Root, Second, Slot, Side}
 use Rattle.orc_core.proofs.Within.{and_both, may_parts, may_within}
 use Rattle.orc_core.specs.Actions.{action_of}
 use Rattle.orc_core.specs.Machine.{Machine, is_allowed, nobody, record_at, step}
@@ -23,6 +23,7 @@ same_word-true (Counter i) (Counter j) h = ap Counter (eqb-true i j h)
 same_word-true (First i) (First j) h = ap First (eqb-true i j h)
 same_word-true (Second i) (Second j) h = ap Second (eqb-true i j h)
 same_word-true (Next i) (Next j) h = ap Next (eqb-true i j h)
+same_word-true (Side i) (Side j) h = ap Side (eqb-true i j h)
 same_word-true (Slot a i) (Slot b j) h = let p = and_both (a == b) (i == j) h in let e = eqb-true a b p.0 in let f = eqb-true i j p.1 in cc
 same_word-true (Handover a i) (Handover b j) h = let p = and_both (a == b) (i == j) h in let e = eqb-true a b p.0 in let f = eqb-true i j p.1 in cc
 same_word-true x w h = absurd (false≢true h)
@@ -35,6 +36,7 @@ same_word-self (Counter i) = eq-eqb i i refl
 same_word-self (First i) = eq-eqb i i refl
 same_word-self (Second i) = eq-eqb i i refl
 same_word-self (Next i) = eq-eqb i i refl
+same_word-self (Side i) = eq-eqb i i refl
 same_word-self (Slot a i) = rw (eq-eqb a a refl, eq-eqb i i refl)
 same_word-self (Handover a i) = rw (eq-eqb a a refl, eq-eqb i i refl)
 
@@ -46,6 +48,7 @@ is_within-true s (Counter i) h = grind arith
 is_within-true s (First i) h = grind arith
 is_within-true s (Second i) h = grind arith
 is_within-true s (Next i) h = grind arith
+is_within-true s (Side i) h = grind arith
 is_within-true s (Slot a k) h = grind arith
 is_within-true s (Handover a k) h = grind arith
 
@@ -57,6 +60,7 @@ IsWithin-is_within s (Counter i) h = grind arith
 IsWithin-is_within s (First i) h = grind arith
 IsWithin-is_within s (Second i) h = grind arith
 IsWithin-is_within s (Next i) h = grind arith
+IsWithin-is_within s (Side i) h = grind arith
 IsWithin-is_within s (Slot a k) h = grind arith
 IsWithin-is_within s (Handover a k) h = grind arith
 

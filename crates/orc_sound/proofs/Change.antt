@@ -5,7 +5,7 @@ use Rattle.orc_words.specs.Bounds.{Bounds}
 use Rattle.orc_words.specs.Packed.{bit, count_bits}
 use Rattle.orc_words.specs.Places.{IsWithin}
 use Rattle.orc_words.specs.declared.place.Word.{Word}
-use Rattle.orc_words.specs.declared.place.Word.TheVariants.{Counter, Enrolled, First, Gate, Handover, Next, Root, Second, Slot}
+use Rattle.orc_words.specs.declared.place.Word.TheVariants.{Counter, Enrolled, First, Gate, Handover, Next, Root, Second, Slot, Side}
 use Rattle.orc_core.specs.RecordParts.{names}
 use Rattle.orc_core.specs.declared.records.Agent.{Agent}
 use Rattle.orc_sound.proofs.Facts.{Balanced, decs, incs, linked_in, out, to_row}
@@ -16,7 +16,8 @@ use Rattle.orc_sound.proofs.World.{World, seat, write}
 abbrev pub link_part : (Word → ℕ) → Word → ℕ → ℕ → ℕ
 link_part m (Root i) v r = to_row v r
 link_part m (Next j) v r = out (m (Gate j)) * to_row v r
-link_part m (Gate j) v r = out v * to_row (m (Next j)) r
+link_part m (Side j) v r = out (m (Gate j)) * to_row v r
+link_part m (Gate j) v r = out v * to_row (m (Next j)) r + out v * to_row (m (Side j)) r
 link_part m _ v r = 0
 
 -- what it adds to the count bits of r
@@ -28,12 +29,18 @@ root_part : (s : Bounds) (m : Word → ℕ) (i v r : ℕ) → i < s.roots → li
 root_part s m i v r h = let e = sum_put s.roots i (λ j x. to_row x r) (λ j. m (Root j)) v h in omega arith
 
 gate_part : (s : Bounds) (m : Word → ℕ) (i v r : ℕ) → i < s.rows → linked_in s (write m (Gate i) v) r
-    + out (m (Gate i)) * to_row (m (Next i)) r ≡ linked_in s m r + out v * to_row (m (Next i)) r
-gate_part s m i v r h = let e = sum_put s.rows i (λ j x. out x * to_row (m (Next j)) r) (λ j. m (Gate j)) v h in omega arith
+    + (out (m (Gate i)) * to_row (m (Next i)) r + out (m (Gate i)) * to_row (m (Side i)) r) ≡ linked_in s m r
+    + (out v * to_row (m (Next i)) r + out v * to_row (m (Side i)) r)
+gate_part s m i v r h = let e = sum_put s.rows i (λ j x. out x * to_row (m (Next j)) r) (λ j. m (Gate j)) v h in
+    let f = sum_put s.rows i (λ j x. out x * to_row (m (Side j)) r) (λ j. m (Gate j)) v h in omega arith
 
 next_part : (s : Bounds) (m : Word → ℕ) (i v r : ℕ) → i < s.rows → linked_in s (write m (Next i) v) r
     + out (m (Gate i)) * to_row (m (Next i)) r ≡ linked_in s m r + out (m (Gate i)) * to_row v r
 next_part s m i v r h = let e = sum_put s.rows i (λ j x. out (m (Gate j)) * to_row x r) (λ j. m (Next j)) v h in omega arith
+
+side_part : (s : Bounds) (m : Word → ℕ) (i v r : ℕ) → i < s.rows → linked_in s (write m (Side i) v) r
+    + out (m (Gate i)) * to_row (m (Side i)) r ≡ linked_in s m r + out (m (Gate i)) * to_row v r
+side_part s m i v r h = let e = sum_put s.rows i (λ j x. out (m (Gate j)) * to_row x r) (λ j. m (Side j)) v h in omega arith
 
 pub linked_write : (s : Bounds) (m : Word → ℕ) (w : Word) (v r : ℕ) → IsWithin s w
     → linked_in s (write m w v) r + link_part m w (m w) r ≡ linked_in s m r + link_part m w v r
@@ -46,6 +53,7 @@ linked_write s m (Handover a k) v r h = refl
 linked_write s m (Root i) v r h = root_part s m i v r h
 linked_write s m (Gate j) v r h = gate_part s m j v r h
 linked_write s m (Next j) v r h = next_part s m j v r h
+linked_write s m (Side j) v r h = side_part s m j v r h.0
 
 pub count_write : (m : Word → ℕ) (w : Word) (v r : ℕ) → count_bits (write m w v (Counter r)) + count_part w (m w) r ≡ count_bits (m (Counter r))
     + count_part w v r
@@ -56,6 +64,7 @@ count_write m (Counter q) v r = grind arith
 count_write m (First q) v r = refl
 count_write m (Second q) v r = refl
 count_write m (Next q) v r = refl
+count_write m (Side q) v r = refl
 count_write m (Slot a k) v r = refl
 count_write m (Handover a k) v r = refl
 

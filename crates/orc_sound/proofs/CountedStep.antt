@@ -6,7 +6,7 @@ use Rattle.orc_words.specs.Bounds.{Bounds}
 use Rattle.orc_words.specs.Packed.{bit}
 use Rattle.orc_words.specs.Places.{IsWithin}
 use Rattle.orc_words.specs.declared.place.Word.{Word}
-use Rattle.orc_words.specs.declared.place.Word.TheVariants.{Counter, Enrolled, Next, Root, Slot}
+use Rattle.orc_words.specs.declared.place.Word.TheVariants.{Counter, Enrolled, Next, Root, Slot, Side}
 use Rattle.orc_core.proofs.Order.{nothing_pending}
 use Rattle.orc_core.proofs.Within.{and_both, fits_within}
 use Rattle.orc_core.specs.Actions.{action_of}
@@ -24,9 +24,9 @@ use Rattle.orc_sound.proofs.Change.{balance_step}
 use Rattle.orc_sound.proofs.CounterWords.{clear_bit, clear_count, dec_bit, dec_count, inc_bit, inc_count}
 use Rattle.orc_sound.proofs.Enrolment.{enrolment_step}
 use Rattle.orc_sound.proofs.Facts.{Counted, LawfulStep}
-use Rattle.orc_sound.proofs.Fresh.{fresh_alone_step, fresh_bit_step, fresh_next_step, fresh_root_step}
+use Rattle.orc_sound.proofs.Fresh.{fresh_alone_step, fresh_bit_step, fresh_links_step, fresh_root_step}
 use Rattle.orc_sound.proofs.OnePart.{parts_kept, scans_some}
-use Rattle.orc_sound.proofs.Outs.{bit_out_step, cas_place_out, free_null_step, freed, nexts_out_step, roots_out_step, store_row_out, used_out_step}
+use Rattle.orc_sound.proofs.Outs.{bit_out_step, cas_place_out, free_null_step, freed, links_out_step, roots_out_step, store_row_out, used_out_step}
 use Rattle.orc_sound.proofs.Pending.{due_ends, inc_slots}
 use Rattle.orc_sound.proofs.Seats.{both_ways, seat_join}
 use Rattle.orc_sound.proofs.SlotWords.{slots_step}
@@ -37,13 +37,14 @@ use Rattle.orc_sound.proofs.World.{World, is_within, read_by, record_by, same_wo
 use Rattle.orc_sound.specs.RetirementToken.{HasOnePart}
 
 pub balance_kept : (b : Bounds) (z : World) (a : ℕ) (op : Op) (r : ℕ) → LawfulStep b z a op → r < b.rows → Kept z.memory a op (z.seats a) r
-balance_kept b z a (GateTake q) r p h = gate_take_kept z.memory a q (z.seats a) r (λ o. let n = p.counted.free_null q o in omega arith)
+balance_kept b z a (GateTake q) r p h = gate_take_kept z.memory a q (z.seats a) r (λ o. let n = p.counted.free_null 0 q o in omega arith)
+    (λ o. let n = p.counted.free_null 1 q o in omega arith)
 balance_kept b z a (Fill q w v) r p h = fill_kept z.memory a q w v (z.seats a) r
 balance_kept b z a (Read q w) r p h = grind arith
 balance_kept b z a (LinkCas w x t) r p h = let n = nothing_pending (z.seats a).due (z.seats a).inc (z.seats a).dec (LinkCas w x t) refl p.forced in
     cas_kept z.memory a w x t (z.seats a) r (cas_place_out b z a w x t p) n.1 n.2
-balance_kept b z a (LinkStore q l) r p h = let n = nothing_pending (z.seats a).due (z.seats a).inc (z.seats a).dec (LinkStore q l) refl p.forced in
-    let k = p.shape.rows.1 in store_kept z.memory a q l (z.seats a) r (omega arith) (store_row_out b z a q l p) n.1 n.2
+balance_kept b z a (LinkStore q nr l) r p h = let n = nothing_pending (z.seats a).due (z.seats a).inc (z.seats a).dec (LinkStore q nr l) refl p.forced in
+    let k = p.shape.rows.1 in store_kept z.memory a q nr l (z.seats a) r (omega arith) (store_row_out b z a q nr l p) n.1 n.2
 balance_kept b z a (Inc q) r p h = inc_kept z.memory a q (z.seats a) r (and_both _ _ p.fits).1 (inc_count _ (inc_bounds b z a q p))
 balance_kept b z a (Dec q) r p h = dec_kept z.memory a q (z.seats a) r (and_both _ _ (and_both _ _ p.fits).0).1 (dec_count _ (dec_bounds b z a q p))
 balance_kept b z a (SetRetired q n) r p h = set_retired_kept z.memory a q n (z.seats a) r
@@ -51,7 +52,8 @@ balance_kept b z a (Unretire q) r p h = unretire_kept z.memory a q (z.seats a) r
 balance_kept b z a (CounterLoad q Check) r p h = refl
 balance_kept b z a (CounterLoad q Start) r p h = refl
 balance_kept b z a (CounterLoad q End) r p h = refl
-balance_kept b z a (Free q) r p h = free_kept z.memory a q (z.seats a) r (let n = (freed b z a (Free q) q p (eq-eqb q q refl)).null in omega arith)
+balance_kept b z a (Free q) r p h = free_kept z.memory a q (z.seats a) r (let n = (freed b z a (Free q) q p (eq-eqb q q refl)).null 0 in omega arith)
+    (let n = (freed b z a (Free q) q p (eq-eqb q q refl)).null 1 in omega arith)
 balance_kept b z a op r p h = refl
 
 pub no_part : {A : Type 0} (o : Option A) → is_none o ≡ true → o ≡ None
@@ -73,8 +75,8 @@ scan_no_doom d q o h = let k = scans_some d.scan q h in empty_part d.doom (omega
 scan_no_hand : (d : Agent) → HasOnePart d → is_some d.scan ≡ true → d.hand ≡ None
 scan_no_hand d o h = let k = ap bit h in empty_part d.hand (omega arith)
 
-doom_no_scan : (d : Agent) (q : ℕ) → HasOnePart d → doom_cut d.doom q ≡ true → d.scan ≡ None
-doom_no_scan d q o h = let k = cut_some d.doom q h in empty_part d.scan (omega arith)
+doom_no_scan : (links : ℕ) (d : Agent) (q : ℕ) → HasOnePart d → doom_cut links d.doom q ≡ true → d.scan ≡ None
+doom_no_scan links d q o h = let k = cut_some links d.doom q h in empty_part d.scan (omega arith)
 
 from_hand_or_list : (o : Option ℕ) (q : ℕ) (t : Bool) → (names o q || (is_none o && t)) ≡ true → (names o q ≡ true) ⊎ ((o ≡ None) × (t ≡ true))
 from_hand_or_list None q t h = inr (refl, h)
@@ -85,7 +87,7 @@ unretire_token b z a q r p =
     let less = clear_bit (z.memory (Counter q)) (unretire_one b z a q p) in
     ⊎_elim
     (λ s. unretire_scan_token z.memory a q (z.seats a) r (scan_no_doom (z.seats a) q (p.counted.one_part a) s) s less)
-    (λ c. unretire_doom_token z.memory a q (z.seats a) r (doom_no_scan (z.seats a) q (p.counted.one_part a) c) c less)
+    (λ c. unretire_doom_token z.memory b.links a q (z.seats a) r (doom_no_scan b.links (z.seats a) q (p.counted.one_part a) c) c less)
     (unretire_cases b (z.memory Enrolled) a q (z.seats a) p.fits)
 
 scans_on : (o : Option Scan) (w r : ℕ) → scans (scan_on o w) r ≡ scans o r
@@ -97,8 +99,9 @@ token_kept b z a (Fill q w v) r p h = grind arith
 token_kept b z a (Read q w) r p h = grind arith
 token_kept b z a (LinkCas (Root i) x t) r p h = refl
 token_kept b z a (LinkCas (Next i) x t) r p h = refl
+token_kept b z a (LinkCas (Side i) x t) r p h = refl
 token_kept b z a (LinkCas w x t) r p h = absurd (cas_place_out b z a w x t p)
-token_kept b z a (LinkStore q l) r p h = store_token z.memory a q l (z.seats a) r
+token_kept b z a (LinkStore q nr l) r p h = store_token z.memory a q nr l (z.seats a) r
 token_kept b z a (Inc q) r p h = inc_token z.memory a q (z.seats a) r (inc_bit _ (inc_bounds b z a q p))
 token_kept b z a (Dec q) r p h = rw (dec_bit _ (dec_bounds b z a q p))
 token_kept b z a (SetRetired q n) r p h = set_token z.memory a q n (z.seats a) r (ltb-true _ _ (and_both _ _ (and_both _ _ p.fits).0).1)
@@ -173,9 +176,9 @@ counted_step b z a op p = record {
   bit_out = bit_out_step b z a op p;
   free_null = free_null_step b z a op p;
   roots_out = roots_out_step b z a op p;
-  nexts_out = nexts_out_step b z a op p;
+  links_out = links_out_step b z a op p;
   fresh_bit = fresh_bit_step b z a op p;
   fresh_alone = fresh_alone_step b z a op p;
   fresh_root = fresh_root_step b z a op p;
-  fresh_next = fresh_next_step b z a op p;
+  fresh_links = fresh_links_step b z a op p;
 }

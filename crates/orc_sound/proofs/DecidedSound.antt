@@ -4,7 +4,7 @@ use Rattle.std.proofs.lemmas.Bool.{eq-eqb, eqb-true, false≢true, lt-ltb, ltb-t
 use Rattle.std.proofs.lemmas.List.{get_or_past}
 use Rattle.std.specs.Prelude.{None, Option, Some, is_none, is_some, nat_le, nat_lt, not, replicate, slice_index_or, ◌&&◌, ◌==◌, ◌||◌}
 use Rattle.orc_words.specs.Packed.{bit, count_bits, retired_bit, sequence_of}
-use Rattle.orc_words.specs.declared.place.Word.TheVariants.{Counter, Enrolled, Gate, Next, Root, Slot}
+use Rattle.orc_words.specs.declared.place.Word.TheVariants.{Counter, Enrolled, Gate, Root, Slot}
 use Rattle.orc_core.proofs.Within.{and_both}
 use Rattle.orc_core.specs.Counts.{is_out, is_retired, links_to}
 use Rattle.orc_core.specs.Machine.{IsWhole, Machine, nobody, record_at, word_in}
@@ -22,14 +22,15 @@ use Rattle.orc_sound.proofs.Scans.{slot_within}
 use Rattle.orc_sound.proofs.Seats.{both_ways, either}
 use Rattle.orc_sound.proofs.Shown.{below_none, count_is, low_count}
 use Rattle.orc_sound.specs.Balance.{Balance, decrements, increments}
-use Rattle.orc_sound.specs.Decisions.{agent_fits, all_below, all_fit, count_fits, doom_fits, enrolment_fits, free_fits, fresh_fits, is_nobody, left_in, looks_fit, named_passes, one_part_in, out_in, pending_fits, range_fits, row_fits, row_held, row_seen, same_fits, scan_fits, slot_fits, slots_fit, target_fits, token_fits, unreachable_in}
-use Rattle.orc_sound.specs.Doomed.{DoomedRows, FreeRows, dooms, dooms_cut}
+use Rattle.orc_sound.specs.Decisions.{agent_fits, all_below, all_fit, count_fits, doom_fits, enrolment_fits, free_fits, fresh_fits, is_nobody, left_in, looks_fit, named_passes, one_part_in, out_in, pending_fits, range_fits, row_fits, row_held, row_seen, same_fits, scan_fits, slot_fits, slots_fit, target_fits, token_fits, unreachable_in, cuts_fit, links_fit, names_none, null_links}
+use Rattle.orc_sound.specs.Doomed.{DoomedRows, FreeRows, cuts_past, dooms, dooms_cut}
 use Rattle.orc_sound.specs.Linked.{IsOut, IsUnreachable, changes, holds_row, linked, uses}
 use Rattle.orc_sound.specs.NoLeak.{has_reason}
 use Rattle.orc_sound.specs.SoundParts.{Enrolment, FreshRows, Looks, Ranges, Scans, Slots, slot_word}
 use Rattle.orc_sound.specs.QuietScan.{IsLeft, is_linked_anew}
 use Rattle.orc_sound.specs.RetirementToken.{RetirementToken, tokens}
 use Rattle.orc_sound.specs.Sound.{IsSound}
+use Rattle.orc_words.specs.Places.{link_at}
 
 -- each record has eight slots
 abbrev pub HasEightSlots : Machine → Type 0
@@ -61,12 +62,12 @@ record RowPasses (m : Machine) (r : ℕ) : Type 0 where
   count : count_fits m r ≡ true
   token : token_fits m r ≡ true
   range : range_fits m r ≡ true
-  rest : cond (is_out m r) (target_fits m (word_in m (Next r)) && has_reason m r) (free_fits m r) ≡ true
+  rest : cond (is_out m r) (links_fit m r && has_reason m r) (free_fits m r) ≡ true
 
 row_passes : (m : Machine) (r : ℕ) → row_fits m r ≡ true → RowPasses m r
 row_passes m r h = let p =
     four_true (count_fits m r) (token_fits m r) (range_fits m r)
-    (cond (is_out m r) (target_fits m (word_in m (Next r)) && has_reason m r) (free_fits m r)) h in record { count = p.0; token = p.1; range = p.2; rest = p.3 }
+    (cond (is_out m r) (links_fit m r && has_reason m r) (free_fits m r)) h in record { count = p.0; token = p.1; range = p.2; rest = p.3 }
 
 -- the tests of one agent
 record AgentPasses (m : Machine) (a : ℕ) : Type 0 where
@@ -245,8 +246,8 @@ record DoomPasses (m : Machine) (a : ℕ) (d : Doom) : Type 0 where
   out : IsOut m d.row
   unreachable : IsUnreachable m d.row
   alone : (x : ℕ) → x < m.bounds.agents → dooms (record_at m x).doom d.row ≡ true → x ≡ a
-  null : d.cut ≡ true → word_in m (Next d.row) ≡ 0
-  bare : d.bare ≡ true → (d.cut ≡ true) × (is_retired m d.row ≡ false)
+  null : (n : ℕ) → n < m.bounds.links → nat_lt n d.cuts ≡ true → word_in m (link_at n d.row) ≡ 0
+  bare : d.bare ≡ true → ((d.cuts == m.bounds.links) ≡ true) × (is_retired m d.row ≡ false)
 
 only : (a b : Bool) → (not a || b) ≡ true → a ≡ true → b ≡ true
 only true b h k = h
@@ -260,7 +261,7 @@ either_not false false h k = absurd (false≢true k)
 doom_passes : (m : Machine) (a : ℕ) (d : Doom) → doom_fits m a (Some d) ≡ true → DoomPasses m a d
 doom_passes m a d h =
     let p = four_true (out_in m d.row && unreachable_in m d.row) (all_below m.bounds.agents (λ x. (x == a) || not (dooms (record_at m x).doom d.row)))
-    (not d.cut || (word_in m (Next d.row) == 0)) (not d.bare || (d.cut && not (is_retired m d.row))) h in
+    (cuts_fit m d) (not d.bare || ((d.cuts == m.bounds.links) && not (is_retired m d.row))) h in
     let q = and_both (out_in m d.row) (unreachable_in m d.row) p.0 in
     record {
       out = out_is m d.row q.0;
@@ -268,8 +269,11 @@ doom_passes m a d h =
       alone = λ x l e. eqb-true x a
           (either_not (x == a) (dooms (record_at m x).doom d.row)
           (all_there m.bounds.agents x (λ y. (y == a) || not (dooms (record_at m y).doom d.row)) p.1 l) e);
-      null = λ c. eqb-true (word_in m (Next d.row)) 0 (only d.cut (word_in m (Next d.row) == 0) p.2 c);
-      bare = λ c. let g = and_both d.cut (not (is_retired m d.row)) (only d.bare (d.cut && not (is_retired m d.row)) p.3 c) in
+      null = λ n l c. eqb-true (word_in m (link_at n d.row)) 0
+          (only (nat_lt n d.cuts) (word_in m (link_at n d.row) == 0)
+          (all_there m.bounds.links n (λ k. not (nat_lt k d.cuts) || (word_in m (link_at k d.row) == 0)) p.2 l) c);
+      bare = λ c. let g = and_both (d.cuts == m.bounds.links) (not (is_retired m d.row))
+          (only d.bare ((d.cuts == m.bounds.links) && not (is_retired m d.row)) p.3 c) in
           (g.0, not_is (is_retired m d.row) g.1);
     }
 
@@ -278,22 +282,22 @@ pub record DoomShows (m : Machine) (a : ℕ) (o : Option Doom) : Type 0 where
   pub out : (r : ℕ) → dooms o r ≡ true → IsOut m r
   pub unreachable : (r : ℕ) → dooms o r ≡ true → IsUnreachable m r
   pub alone : (x r : ℕ) → x < m.bounds.agents → dooms o r ≡ true → dooms (record_at m x).doom r ≡ true → x ≡ a
-  pub null : (r : ℕ) → dooms_cut o r ≡ true → word_in m (Next r) ≡ 0
-  pub bare : (r : ℕ) → doom_bare o r ≡ true → (dooms_cut o r ≡ true) × (is_retired m r ≡ false)
+  pub null : (r n : ℕ) → n < m.bounds.links → cuts_past o r n ≡ true → word_in m (link_at n r) ≡ 0
+  pub bare : (r : ℕ) → doom_bare o r ≡ true → (dooms_cut m.bounds.links o r ≡ true) × (is_retired m r ≡ false)
 
 doom_shows : (m : Machine) (a : ℕ) (o : Option Doom) → doom_fits m a o ≡ true → DoomShows m a o
 doom_shows m a None f = record {
   out = λ r h. absurd (false≢true h);
   unreachable = λ r h. absurd (false≢true h);
   alone = λ x r l h. absurd (false≢true h);
-  null = λ r h. absurd (false≢true h);
+  null = λ r n l h. absurd (false≢true h);
   bare = λ r h. absurd (false≢true h);
 }
 doom_shows m a (Some d) f = record {
   out = λ r h. rw (← eqb-true d.row r h) p.out;
   unreachable = λ r h. subst (IsUnreachable m) (eqb-true d.row r h) p.unreachable;
   alone = λ x r l h e. p.alone x l (rw (eqb-true d.row r h) e);
-  null = λ r h. let k = and_both (d.row == r) d.cut h in rw (← eqb-true d.row r k.0) (p.null k.1);
+  null = λ r n l h. let k = and_both (d.row == r) (nat_lt n d.cuts) h in rw (← eqb-true d.row r k.0) (p.null n l k.1);
   bare = λ r h. let k = and_both (d.row == r) d.bare h in let g = p.bare k.1 in (rw (k.0, g.0), rw (← eqb-true d.row r k.0) g.1);
 }
   where
@@ -301,22 +305,22 @@ doom_shows m a (Some d) f = record {
     p = doom_passes m a d f
 
 free_part : (m : Machine) (r : ℕ) → TestsPass m → r < m.bounds.rows → is_out m r ≡ false → (unreachable_in m r ≡ true) × (not (is_retired m r) ≡ true)
-    × ((word_in m (Next r) == 0) ≡ true) × (not (some_below m.bounds.agents (λ a. dooms (record_at m a).doom r)) ≡ true)
+    × (null_links m r ≡ true) × (not (some_below m.bounds.agents (λ a. dooms (record_at m a).doom r)) ≡ true)
 free_part m r t h k =
-    four_true (unreachable_in m r) (not (is_retired m r)) (word_in m (Next r) == 0)
+    four_true (unreachable_in m r) (not (is_retired m r)) (null_links m r)
     (not (some_below m.bounds.agents (λ a. dooms (record_at m a).doom r))) (rw k at (row_passes m r (t.rows r h)).rest)
 
 free_is : (m : Machine) → TestsPass m → FreeRows m
 free_is m t = record {
   unreachable = λ r h k. unreachable_is m r (free_part m r t h k).0;
   clear = λ r h k. not_is (is_retired m r) (free_part m r t h k).1;
-  null = λ r h k. eqb-true (word_in m (Next r)) 0 (free_part m r t h k).2;
+  null = λ r n h l k. eqb-true (word_in m (link_at n r)) 0 (all_there m.bounds.links n (λ i. word_in m (link_at i r) == 0) (free_part m r t h k).2 l);
   undoomed = λ a r l h k. below_none m.bounds.agents a (λ x. dooms (record_at m x).doom r)
       (not_is (some_below m.bounds.agents (λ x. dooms (record_at m x).doom r)) (free_part m r t h k).3) l;
 }
 
-out_part : (m : Machine) (r : ℕ) → TestsPass m → IsOut m r → (target_fits m (word_in m (Next r)) ≡ true) × (has_reason m r ≡ true)
-out_part m r t h = and_both (target_fits m (word_in m (Next r))) (has_reason m r) (rw h.1 at (row_passes m r (t.rows r h.0)).rest)
+out_part : (m : Machine) (r : ℕ) → TestsPass m → IsOut m r → (links_fit m r ≡ true) × (has_reason m r ≡ true)
+out_part m r t h = and_both (links_fit m r) (has_reason m r) (rw h.1 at (row_passes m r (t.rows r h.0)).rest)
 
 empties : (n : ℕ) (ss : List SlotUse) → length ss ≡ n → ((k : ℕ) → k < n → is_empty (slice_index_or ss k Empty) ≡ true) → ss ≡ replicate n Empty
 empties zero [] e h = refl
@@ -411,7 +415,11 @@ record FreshPasses (m : Machine) (a r : ℕ) : Type 0 where
   clear : is_retired m r ≡ false
   alone : (x : ℕ) → x < m.bounds.agents → x ≢ a → uses (record_at m x) r ≡ false
   roots : (i : ℕ) → i < m.bounds.roots → links_to (word_in m (Root i)) r ≡ false
-  nexts : (j : ℕ) → j < m.bounds.rows → j ≢ r → links_to (word_in m (Next j)) r ≡ false
+  links : (n j : ℕ) → n < m.bounds.links → j < m.bounds.rows → j ≢ r → links_to (word_in m (link_at n j)) r ≡ false
+
+else_is : (a b : Bool) → (a || b) ≡ true → a ≡ false → b ≡ true
+else_is true b h k = absurd (false≢true (sym k))
+else_is false b h k = h
 
 unless : (a b : Bool) → (a || not b) ≡ true → a ≡ false → b ≡ false
 unless true b h k = absurd (false≢true (sym k))
@@ -422,7 +430,7 @@ fresh_passes : (m : Machine) (a r : ℕ) → fresh_fits m a r ≡ true → Fresh
 fresh_passes m a r h =
     let p = four_true (out_in m r && not (is_retired m r)) (all_below m.bounds.agents (λ x. (x == a) || not (uses (record_at m x) r)))
     (all_below m.bounds.roots (λ i. not (links_to (word_in m (Root i)) r)))
-    (all_below m.bounds.rows (λ j. (j == r) || not (links_to (word_in m (Next j)) r))) h in
+    (all_below m.bounds.rows (λ j. (j == r) || names_none m r j)) h in
     let q = and_both (out_in m r) (not (is_retired m r)) p.0 in
     record {
       out = out_is m r q.0;
@@ -430,8 +438,9 @@ fresh_passes m a r h =
       alone = λ x l n. unless (x == a) (uses (record_at m x) r) (all_there m.bounds.agents x (λ y. (y == a) || not (uses (record_at m y) r)) p.1 l)
           (ne_eqb x a n);
       roots = λ i l. not_is (links_to (word_in m (Root i)) r) (all_there m.bounds.roots i (λ y. not (links_to (word_in m (Root y)) r)) p.2 l);
-      nexts = λ j l n. unless (j == r) (links_to (word_in m (Next j)) r)
-          (all_there m.bounds.rows j (λ y. (y == r) || not (links_to (word_in m (Next y)) r)) p.3 l) (ne_eqb j r n);
+      links = λ i j k l n. not_is (links_to (word_in m (link_at i j)) r)
+          (all_there m.bounds.links i (λ y. not (links_to (word_in m (link_at y j)) r))
+          (else_is (j == r) (names_none m r j) (all_there m.bounds.rows j (λ y. (y == r) || names_none m r y) p.3 l) (ne_eqb j r n)) k);
     }
 
 fresh_is : (m : Machine) → TestsPass m → FreshRows m
@@ -440,7 +449,7 @@ fresh_is m t = record {
   clear = λ a r l h. (part a r l h).clear;
   alone = λ a x r l g n h. (part a r l h).alone x g n;
   roots = λ a i r l g h. (part a r l h).roots i g;
-  nexts = λ a j r l g n h. (part a r l h).nexts j g n;
+  links = λ a i j r l k g n h. (part a r l h).links i j k g n;
 }
   where
     part : (a r : ℕ) → a < m.bounds.agents → names (record_at m a).fresh r ≡ true → FreshPasses m a r
@@ -488,8 +497,8 @@ sound_is m w e f =
       slots = slots_is m e t;
       targets = record {
         roots = λ i r l h. target_is m (word_in m (Root i)) r (t.roots i l) h;
-        nexts =
-            λ j r o h. target_is m (word_in m (Next j)) r (out_part m j t o).0 h;
+        links = λ n j r l o h. target_is m (word_in m (link_at n j)) r
+            (all_there m.bounds.links n (λ k. target_fits m (word_in m (link_at k j))) (out_part m j t o).0 l) h;
       };
       fresh = fresh_is m t;
       scans = scans_is m t;
@@ -502,7 +511,7 @@ sound_is m w e f =
       out = λ a r l h. (doom_shows m a (record_at m a).doom (agent_passes m a (t.agents a l)).doom).out r h;
       unreachable = λ a r l h. (doom_shows m a (record_at m a).doom (agent_passes m a (t.agents a l)).doom).unreachable r h;
       alone = λ a x r l g h k. (doom_shows m a (record_at m a).doom (agent_passes m a (t.agents a l)).doom).alone x r g h k;
-      null = λ a r l h. (doom_shows m a (record_at m a).doom (agent_passes m a (t.agents a l)).doom).null r h;
+      null = λ a r n l k h. (doom_shows m a (record_at m a).doom (agent_passes m a (t.agents a l)).doom).null r n k h;
       bare = λ a r l h. (doom_shows m a (record_at m a).doom (agent_passes m a (t.agents a l)).doom).bare r h;
     }
 

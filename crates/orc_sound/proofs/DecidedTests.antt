@@ -3,7 +3,7 @@ use Rattle.std.proofs.Common.{Bool, arith, cond, false, refl, sym, true, ℕ, �
 use Rattle.std.proofs.lemmas.Bool.{eq-eqb, eqb-false, eqb-true, lt-ltb, ltb-true}
 use Rattle.std.specs.Prelude.{None, Option, Some, is_some, nat_le, nat_lt, not, ◌&&◌, ◌==◌, ◌||◌}
 use Rattle.orc_words.specs.Packed.{bit, count_bits, retired_bit, sequence_of}
-use Rattle.orc_words.specs.declared.place.Word.TheVariants.{Counter, Enrolled, Gate, Next, Root, Slot}
+use Rattle.orc_words.specs.declared.place.Word.TheVariants.{Counter, Enrolled, Gate, Root, Slot}
 use Rattle.orc_core.proofs.Within.{and_both}
 use Rattle.orc_core.specs.Counts.{is_out, is_retired, links_to}
 use Rattle.orc_core.specs.Machine.{Machine, nobody, record_at, word_in}
@@ -18,7 +18,7 @@ use Rattle.orc_sound.proofs.Seats.{not_true}
 use Rattle.orc_sound.proofs.Shown.{none_below}
 use Rattle.orc_sound.proofs.Sources.{any_holds_at}
 use Rattle.orc_sound.specs.Balance.{Balance, decrements, increments}
-use Rattle.orc_sound.specs.Decisions.{agent_fits, all_below, all_fit, count_fits, doom_fits, enrolment_fits, free_fits, fresh_fits, is_nobody, left_in, looks_fit, named_passes, one_part_in, out_in, pending_fits, range_fits, row_fits, row_held, row_seen, same_fits, scan_fits, slot_fits, slots_fit, target_fits, token_fits, unreachable_in}
+use Rattle.orc_sound.specs.Decisions.{agent_fits, all_below, all_fit, count_fits, doom_fits, enrolment_fits, free_fits, fresh_fits, is_nobody, left_in, looks_fit, named_passes, one_part_in, out_in, pending_fits, range_fits, row_fits, row_held, row_seen, same_fits, scan_fits, slot_fits, slots_fit, target_fits, token_fits, unreachable_in, cuts_fit, links_fit, names_none, null_links}
 use Rattle.orc_sound.specs.Doomed.{FreeRows, dooms}
 use Rattle.orc_sound.specs.Linked.{changes, linked, uses}
 use Rattle.orc_sound.specs.NoLeak.{has_reason}
@@ -26,6 +26,7 @@ use Rattle.orc_sound.specs.SoundParts.{Enrolment, FreshRows, Looks, Slots, slot_
 use Rattle.orc_sound.specs.QuietScan.{IsLeft, is_linked_anew}
 use Rattle.orc_sound.specs.RetirementToken.{tokens}
 use Rattle.orc_sound.specs.Sound.{IsSound}
+use Rattle.orc_words.specs.Places.{link_at}
 
 le_in : (x y : ℕ) → x ≤ y → nat_le x y ≡ true
 le_in x y h = grind arith
@@ -46,16 +47,20 @@ unless_in : (a b : Bool) → (a ≡ false → b ≡ false) → (a || not b) ≡ 
 unless_in true b h = refl
 unless_in false b h = is_not b (h refl)
 
+else_in : (a b : Bool) → (a ≡ false → b ≡ true) → (a || b) ≡ true
+else_in true b h = refl
+else_in false b h = h refl
+
 unreachable_free : (m : Machine) (r : ℕ) → FreeRows m → r < m.bounds.rows → is_out m r ≡ false → free_fits m r ≡ true
 unreachable_free m r f h k =
-    four_in (unreachable_in m r) (not (is_retired m r)) (word_in m (Next r) == 0) (not (some_below m.bounds.agents (λ a. dooms (record_at m a).doom r)))
-    (is_unreachable m r (f.unreachable r h k)) (is_not (is_retired m r) (f.clear r h k)) (eq-eqb (word_in m (Next r)) 0 (f.null r h k))
+    four_in (unreachable_in m r) (not (is_retired m r)) (null_links m r) (not (some_below m.bounds.agents (λ a. dooms (record_at m a).doom r)))
+    (is_unreachable m r (f.unreachable r h k)) (is_not (is_retired m r) (f.clear r h k)) (all_hold m.bounds.links (λ n. word_in m (link_at n r) == 0) (λ n l. eq-eqb (word_in m (link_at n r)) 0 (f.null r n h l k)))
     (is_not (some_below m.bounds.agents (λ a. dooms (record_at m a).doom r))
     (none_below m.bounds.agents (λ a. dooms (record_at m a).doom r) (λ a l. f.undoomed a r l h k)))
 
 row_in : (m : Machine) (r : ℕ) → IsSound m → r < m.bounds.rows → row_fits m r ≡ true
 row_in m r s h =
-    four_in (count_fits m r) (token_fits m r) (range_fits m r) (cond (is_out m r) (target_fits m (word_in m (Next r)) && has_reason m r) (free_fits m r))
+    four_in (count_fits m r) (token_fits m r) (range_fits m r) (cond (is_out m r) (links_fit m r && has_reason m r) (free_fits m r))
     (eq-eqb (count_bits (word_in m (Counter r)) + increments m r) (4194304 + linked m r + decrements m r)
     (count_back (count_bits (word_in m (Counter r))) (increments m r) (linked m r) (decrements m r) (s.balance.count r h)))
     (eq-eqb (tokens m r) (bit (is_retired m r)) (s.token.one r h))
@@ -63,9 +68,11 @@ row_in m r s h =
     (lt-ltb (sequence_of (word_in m (Counter r))) 549756338176 (s.ranges.sequence r h)) (le_in (word_in m (Gate r) / 2) 549755813888 (s.ranges.life r h)))
     (rest (is_out m r) refl)
   where
-    rest : (t : Bool) → is_out m r ≡ t → cond t (target_fits m (word_in m (Next r)) && has_reason m r) (free_fits m r) ≡ true
+    rest : (t : Bool) → is_out m r ≡ t → cond t (links_fit m r && has_reason m r) (free_fits m r) ≡ true
     rest true e =
-        and_in (target_fits m (word_in m (Next r))) (has_reason m r) (is_target_in m (word_in m (Next r)) (λ q k. s.targets.nexts r q (h, e) k))
+        and_in (links_fit m r) (has_reason m r)
+        (all_hold m.bounds.links (λ n. target_fits m (word_in m (link_at n r)))
+        (λ n l. is_target_in m (word_in m (link_at n r)) (λ q k. s.targets.links n r q l (h, e) k)))
         (s.no_leak r (h, e))
     rest false e = unreachable_free m r s.free h e
 
@@ -144,14 +151,15 @@ doom_in : (m : Machine) (a : ℕ) (o : Option Doom) → DoomShows m a o → doom
 doom_in m a None s = refl
 doom_in m a (Some d) s =
     four_in (out_in m d.row && unreachable_in m d.row) (all_below m.bounds.agents (λ x. (x == a) || not (dooms (record_at m x).doom d.row)))
-    (not d.cut || (word_in m (Next d.row) == 0)) (not d.bare || (d.cut && not (is_retired m d.row)))
+    (cuts_fit m d) (not d.bare || ((d.cuts == m.bounds.links) && not (is_retired m d.row)))
     (and_in (out_in m d.row) (unreachable_in m d.row) (is_out_in m d.row (s.out d.row mine)) (is_unreachable m d.row (s.unreachable d.row mine)))
     (all_hold m.bounds.agents (λ x. (x == a) || not (dooms (record_at m x).doom d.row))
     (λ x l. unless_in (x == a) (dooms (record_at m x).doom d.row)
     (λ e. not_true (dooms (record_at m x).doom d.row) (λ k. eqb-false x a e (s.alone x d.row l mine k)))))
-    (given d.cut (word_in m (Next d.row) == 0) (λ c. eq-eqb (word_in m (Next d.row)) 0 (s.null d.row (rw (mine, c)))))
-    (given d.bare (d.cut && not (is_retired m d.row)) (λ c. let g = s.bare d.row (rw (mine, c)) in
-    and_in d.cut (not (is_retired m d.row)) (and_both (d.row == d.row) d.cut g.0).1 (is_not (is_retired m d.row) g.1)))
+    (all_hold m.bounds.links (λ n. not (nat_lt n d.cuts) || (word_in m (link_at n d.row) == 0))
+    (λ n l. given (nat_lt n d.cuts) (word_in m (link_at n d.row) == 0) (λ c. eq-eqb (word_in m (link_at n d.row)) 0 (s.null d.row n l (rw (mine, c))))))
+    (given d.bare ((d.cuts == m.bounds.links) && not (is_retired m d.row)) (λ c. let g = s.bare d.row (rw (mine, c)) in
+    and_in (d.cuts == m.bounds.links) (not (is_retired m d.row)) (and_both (d.row == d.row) (d.cuts == m.bounds.links) g.0).1 (is_not (is_retired m d.row) g.1)))
   where
     mine : (d.row == d.row) ≡ true
     mine = eq-eqb d.row d.row refl
@@ -160,13 +168,15 @@ fresh_in : (m : Machine) (a r : ℕ) → FreshRows m → a < m.bounds.agents →
 fresh_in m a r s l h =
     four_in (out_in m r && not (is_retired m r)) (all_below m.bounds.agents (λ x. (x == a) || not (uses (record_at m x) r)))
     (all_below m.bounds.roots (λ i. not (links_to (word_in m (Root i)) r)))
-    (all_below m.bounds.rows (λ j. (j == r) || not (links_to (word_in m (Next j)) r)))
+    (all_below m.bounds.rows (λ j. (j == r) || names_none m r j))
     (and_in (out_in m r) (not (is_retired m r)) (is_out_in m r (s.out a r l h)) (is_not (is_retired m r) (s.clear a r l h)))
     (all_hold m.bounds.agents (λ x. (x == a) || not (uses (record_at m x) r))
     (λ x g. unless_in (x == a) (uses (record_at m x) r) (λ e. s.alone a x r l g (eqb-false x a e) h)))
     (all_hold m.bounds.roots (λ i. not (links_to (word_in m (Root i)) r)) (λ i g. is_not (links_to (word_in m (Root i)) r) (s.roots a i r l g h)))
-    (all_hold m.bounds.rows (λ j. (j == r) || not (links_to (word_in m (Next j)) r))
-    (λ j g. unless_in (j == r) (links_to (word_in m (Next j)) r) (λ e. s.nexts a j r l g (eqb-false j r e) h)))
+    (all_hold m.bounds.rows (λ j. (j == r) || names_none m r j)
+    (λ j g. else_in (j == r) (names_none m r j)
+    (λ e. all_hold m.bounds.links (λ n. not (links_to (word_in m (link_at n j)) r))
+    (λ n k. is_not (links_to (word_in m (link_at n j)) r) (s.links a n j r l k g (eqb-false j r e) h)))))
 
 slots_in : (m : Machine) (a : ℕ) → Slots m → a < m.bounds.agents → slots_fit m a ≡ true
 slots_in m a s l =
@@ -232,7 +242,7 @@ agent_in m a s l =
       unreachable = λ r h. s.doomed.unreachable a r l h;
       alone =
           λ x r g h k. s.doomed.alone a x r l g h k;
-      null = λ r h. s.doomed.null a r l h;
+      null = λ r n k h. s.doomed.null a r n l k h;
       bare = λ r h. s.doomed.bare a r l h;
     }))
     (passes_all (record_at m a).fresh (fresh_fits m a) (λ r h. fresh_in m a r s.fresh l h))

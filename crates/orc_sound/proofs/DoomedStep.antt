@@ -1,17 +1,17 @@
 -- What is known of the rows of dooms is kept by each step.
-use Rattle.std.proofs.Common.{Bool, ap, arith, cond, false, inl, inr, refl, sym, true, ℕ, ⊎_elim, ◌%◌, ◌+◌, ◌<◌, ◌^◌, ◌∙◌, ◌≡◌, ◌≢◌, ◌≤◌, ◌⊎◌}
+use Rattle.std.proofs.Common.{Bool, ap, arith, cond, false, inl, inr, refl, sym, true, ℕ, ⊎_elim, ◌%◌, ◌+◌, ◌<◌, ◌^◌, ◌∙◌, ◌≡◌, ◌≢◌, ◌≤◌, ◌⊎◌, zero, suc}
 use Rattle.std.proofs.lemmas.Bool.{eq-eqb, eqb-false, eqb-true, false≢true, ltb-true, ne_eqb}
 use Rattle.std.specs.Prelude.{None, Option, Some, is_none, is_some, nat_lt, not, ◌&&◌, ◌==◌, ◌||◌}
 use Rattle.orc_words.specs.Bounds.{Bounds}
 use Rattle.orc_words.specs.Packed.{bit, count_bits, link_word, retired_bit, sequence_of}
 use Rattle.orc_words.specs.declared.packed.RowLink.{RowLink}
 use Rattle.orc_words.specs.declared.place.Word.{Word}
-use Rattle.orc_words.specs.declared.place.Word.TheVariants.{Counter, Enrolled, First, Gate, Next, Root, Second}
+use Rattle.orc_words.specs.declared.place.Word.TheVariants.{Counter, Enrolled, First, Gate, Next, Root, Second, Side}
 use Rattle.orc_core.proofs.Within.{and_both}
 use Rattle.orc_core.specs.After.{after, bared, cut_of}
-use Rattle.orc_core.specs.Allowed.{fits, may_change, may_target}
+use Rattle.orc_core.specs.Allowed.{fits, may_change, may_place, may_target}
 use Rattle.orc_core.specs.Machine.{nobody}
-use Rattle.orc_core.specs.RecordParts.{doom_bare, doom_cut, doom_uncut, is_empty, kept, names, scans, slot_of}
+use Rattle.orc_core.specs.RecordParts.{any_holds, doom_bare, doom_cut, doom_at, is_empty, kept, names, scans, slot_of}
 use Rattle.orc_core.specs.declared.ops.CounterUse.TheVariants.{Check, End, Start}
 use Rattle.orc_core.specs.declared.ops.Op.{Op}
 use Rattle.orc_core.specs.declared.ops.Op.TheVariants.{Arm, CounterLoad, Dec, Fill, Free, GateTake, Inc, LinkCas, LinkLoad, LinkStore, Read, SetRetired, Unretire}
@@ -24,16 +24,18 @@ use Rattle.orc_sound.proofs.CounterWords.{clear_bit, clear_count, clear_sequence
 use Rattle.orc_sound.proofs.Facts.{Counted, Doomed, EnrolmentFits, Gone, LawfulStep, decs, incs, linked_in, out, to_row}
 use Rattle.orc_sound.proofs.Fresh.{small_bit}
 use Rattle.orc_sound.proofs.OnePart.{scans_some}
-use Rattle.orc_sound.proofs.Outs.{bare_dooms, cas_place, cas_place_out, linked_next, linked_root, load_place, none_linked, raiser_uses, read_out, store_cases, store_row_out, takes_free, uncut_dooms, uses_before, zero_one}
+use Rattle.orc_sound.proofs.Outs.{bare_dooms, cas_place, cas_place_out, linked_link, linked_root, load_place, none_linked, raiser_uses, read_out, store_cases, store_row_out, takes_free, uncut_dooms, uses_before, zero_one}
 use Rattle.orc_sound.proofs.Quiet.{counts_row}
 use Rattle.orc_sound.proofs.Seats.{both_ways, not_true, seat_split}
-use Rattle.orc_sound.proofs.Sources.{changes_next, frees, next_stays, out_stays, write_same}
+use Rattle.orc_sound.proofs.Sources.{changes_link, frees, links_stay, out_stays, same_link, same_number, write_same}
 use Rattle.orc_sound.proofs.Sums.{sum_two, sum_zero}
 use Rattle.orc_sound.proofs.Uses.{NewUse, dec_uses, fresh_uses, held_uses, inc_uses}
 use Rattle.orc_sound.proofs.World.{World, read_by, record_by, step_world, write}
-use Rattle.orc_sound.specs.Doomed.{dooms, dooms_cut}
+use Rattle.orc_sound.specs.Doomed.{cuts_past, dooms, dooms_cut}
 use Rattle.orc_sound.specs.Linked.{uses}
 use Rattle.orc_sound.specs.RetirementToken.{HasOnePart, dooming, places_of}
+use Rattle.orc_words.specs.Places.{link_at}
+use Rattle.orc_sound.proofs.Bridge.{same_word-self, same_word-true}
 
 -- whose record isn't empty is an agent of the table
 pub agent_below : (b : Bounds) (z : World) (a : ℕ) → EnrolmentFits b z → (z.seats a ≡ nobody b.rows → ⊥) → a < b.agents
@@ -99,21 +101,21 @@ abbrev pub ends : Op → Agent → ℕ → ℕ → Bool
 ends (CounterLoad q End) d v r = (q == r) && (v == kept d.scan)
 ends _ d v r = false
 
-cut_row : (o : Option Doom) (q r : ℕ) → dooms (cut_of o q) r ≡ dooms o r
-cut_row None q r = refl
-cut_row (Some d) q r = refl
+cut_row : (o : Option Doom) (q k r : ℕ) → dooms (cut_of o q k) r ≡ dooms o r
+cut_row None q k r = refl
+cut_row (Some d) q k r = refl
 
 bared_row : (o : Option Doom) (r : ℕ) → dooms (bared o) r ≡ dooms o r
 bared_row None r = refl
 bared_row (Some d) r = refl
 
-end_doom : (o : Option Doom) (q r : ℕ) (t : Bool) → dooms (cond t (Some (record { row = q; cut = false; bare = false })) o) r ≡ true
+end_doom : (o : Option Doom) (q r : ℕ) (t : Bool) → dooms (cond t (Some (record { row = q; cuts = 0; bare = false })) o) r ≡ true
     → (dooms o r ≡ true) ⊎ (((q == r) && t) ≡ true)
 end_doom o q r true h = inr (grind arith)
 end_doom o q r false h = inl h
 
 pub doom_source : (op : Op) (d : Agent) (v r : ℕ) → dooms (after op d v).doom r ≡ true → (dooms d.doom r ≡ true) ⊎ (ends op d v r ≡ true)
-doom_source (LinkStore q l) d v r h = inl (sym (cut_row d.doom q r) ∙ h)
+doom_source (LinkStore q nr l) d v r h = inl (sym (cut_row d.doom q nr r) ∙ h)
 doom_source (CounterLoad q Check) d v r h = inl h
 doom_source (CounterLoad q Start) d v r h = inl h
 doom_source (CounterLoad q End) d v r h = end_doom d.doom q r (v == kept d.scan) h
@@ -151,7 +153,8 @@ not_freed b z a op x r p h f = false≢true f
 
 unlinked_place : (b : Bounds) (z : World) (w : Word) (r : ℕ) → Counted b z → Gone b z r → OutPlace z.memory w → to_row (z.memory w) r ≡ 1 → ⊥
 unlinked_place b z (Root i) r s g o h = none_linked g.unlinked (linked_root b z i r s h)
-unlinked_place b z (Next j) r s g o h = none_linked g.unlinked (linked_next b z j r s o h)
+unlinked_place b z (Next j) r s g o h = none_linked g.unlinked (linked_link b z 0 j r s o h)
+unlinked_place b z (Side j) r s g o h = none_linked g.unlinked (linked_link b z 1 j r s o h)
 unlinked_place b z w r s g o h = o
 
 -- nobody comes to use a row that nothing links, uses or scans
@@ -159,7 +162,7 @@ new_use_gone : (b : Bounds) (z : World) (a : ℕ) (op : Op) (r : ℕ) → Lawful
     → ((q : ℕ) → op ≡ Arm q → scans (z.seats a).scan r ≡ true → ⊥) → NewUse op (z.seats a) (read_by z a op) r → ⊥
 new_use_gone b z a (LinkLoad w k) r p g n h =
     unlinked_place b z w r p.counted g (read_out b z a w p.counted (load_place b (z.memory Enrolled) a w k (z.seats a) p.fits)) h
-new_use_gone b z a (LinkStore q l) r p g n h = none_linked g.unlinked (linked_next b z q r p.counted (store_row_out b z a q l p) h)
+new_use_gone b z a (LinkStore q nr l) r p g n h = none_linked g.unlinked (linked_link b z nr q r p.counted (store_row_out b z a q nr l p) h)
 new_use_gone b z a (Arm q) r p g n h = n q refl (rw h.0 h.1)
 new_use_gone b z a (GateTake q) r p g n h = zero_one (takes_free (GateTake q) (z.seats a) z.memory a r h) g.is_out
 new_use_gone b z a op r p g n h = h
@@ -209,9 +212,12 @@ count_stays b z a (CounterLoad q how) r p n = ap count_bits (write_same z.memory
 count_stays b z a (LinkLoad w k) r p n = ap count_bits (write_same z.memory w (Counter r))
 count_stays b z a (LinkCas (Root i) x t) r p n = refl
 count_stays b z a (LinkCas (Next i) x t) r p n = refl
+count_stays b z a (LinkCas (Side i) x t) r p n = refl
 count_stays b z a (LinkCas w x t) r p n = absurd (cas_place_out b z a w x t p)
 count_stays b z a (Fill q w v) r p n = ap count_bits (fill_counter z.memory q w v r)
 count_stays b z a (Read q w) r p n = ap count_bits (write_same z.memory (cond (w == 0) (First q) (Second q)) (Counter r))
+count_stays b z a (LinkStore lq zero ll) r p n = refl
+count_stays b z a (LinkStore lq (suc ln) ll) r p n = refl
 count_stays b z a op r p n = refl
 
 -- a step that doesn't count the row leaves its sequence
@@ -226,9 +232,12 @@ sequence_stays b z a (CounterLoad q how) r p l n = ap sequence_of (write_same z.
 sequence_stays b z a (LinkLoad w k) r p l n = ap sequence_of (write_same z.memory w (Counter r))
 sequence_stays b z a (LinkCas (Root i) x t) r p l n = refl
 sequence_stays b z a (LinkCas (Next i) x t) r p l n = refl
+sequence_stays b z a (LinkCas (Side i) x t) r p l n = refl
 sequence_stays b z a (LinkCas w x t) r p l n = absurd (cas_place_out b z a w x t p)
 sequence_stays b z a (Fill q w v) r p l n = ap sequence_of (fill_counter z.memory q w v r)
 sequence_stays b z a (Read q w) r p l n = ap sequence_of (write_same z.memory (cond (w == 0) (First q) (Second q)) (Counter r))
+sequence_stays b z a (LinkStore lq zero ll) r p l n = refl
+sequence_stays b z a (LinkStore lq (suc ln) ll) r p l n = refl
 sequence_stays b z a op r p l n = refl
 
 pub counts_uses : (b : Bounds) (e a : ℕ) (op : Op) (d : Agent) (r : ℕ) → fits b e a op d ≡ true → counts_row op r ≡ true → uses d r ≡ true
@@ -295,113 +304,134 @@ alone_step b z a op p x y r h k =
     (seat_split (λ d. dooms d.doom r ≡ true) z.seats a y (record_by z a op) k))
     (seat_split (λ d. dooms d.doom r ≡ true) z.seats a x (record_by z a op) h)
 
--- a doom is cut anew where its row's link was stored
-abbrev pub cuts : Op → ℕ → Bool
-cuts (LinkStore q l) r = q == r
-cuts _ r = false
+-- a doom has one more link out where that link of its row was stored
+abbrev pub cuts : Op → ℕ → ℕ → Bool
+cuts (LinkStore q k l) r n = (q == r) && (k == n)
+cuts _ r n = false
 
-cut_new : (o : Option Doom) (q r : ℕ) → dooms_cut (cut_of o q) r ≡ true → (dooms_cut o r ≡ true) ⊎ ((q == r) ≡ true)
-cut_new None q r h = inl h
-cut_new (Some d) q r h = grind arith
+cut_new : (o : Option Doom) (q k r n : ℕ) → cuts_past (cut_of o q k) r n ≡ true → (cuts_past o r n ≡ true) ⊎ (((q == r) && (k == n)) ≡ true)
+cut_new None q k r n h = inl h
+cut_new (Some d) q k r n h = grind arith
 
-bared_cut : (o : Option Doom) (r : ℕ) → dooms_cut (bared o) r ≡ dooms_cut o r
-bared_cut None r = refl
-bared_cut (Some d) r = refl
+bared_past : (o : Option Doom) (r n : ℕ) → cuts_past (bared o) r n ≡ cuts_past o r n
+bared_past None r n = refl
+bared_past (Some d) r n = refl
 
-end_cut : (o : Option Doom) (q r : ℕ) (t : Bool) → dooms_cut (cond t (Some (record { row = q; cut = false; bare = false })) o) r ≡ true → dooms_cut o r ≡ true
-end_cut o q r true h = grind arith
-end_cut o q r false h = h
+end_past : (o : Option Doom) (q r n : ℕ) (t : Bool) → cuts_past (cond t (Some (record { row = q; cuts = 0; bare = false })) o) r n ≡ true → cuts_past o r n ≡ true
+end_past o q r n true h = grind arith
+end_past o q r n false h = h
 
-cut_source : (op : Op) (d : Agent) (v r : ℕ) → dooms_cut (after op d v).doom r ≡ true → (dooms_cut d.doom r ≡ true) ⊎ (cuts op r ≡ true)
-cut_source (LinkStore q l) d v r h = cut_new d.doom q r h
-cut_source (CounterLoad q Check) d v r h = inl h
-cut_source (CounterLoad q Start) d v r h = inl h
-cut_source (CounterLoad q End) d v r h = inl (end_cut d.doom q r (v == kept d.scan) h)
-cut_source (Unretire q) d v r h = inl (sym (bared_cut d.doom r) ∙ h)
-cut_source (Free q) d v r h = absurd (false≢true h)
-cut_source op d v r h = inl h
+past_source : (op : Op) (d : Agent) (v r n : ℕ) → cuts_past (after op d v).doom r n ≡ true → (cuts_past d.doom r n ≡ true) ⊎ (cuts op r n ≡ true)
+past_source (LinkStore q nr l) d v r n h = cut_new d.doom q nr r n h
+past_source (CounterLoad q Check) d v r n h = inl h
+past_source (CounterLoad q Start) d v r n h = inl h
+past_source (CounterLoad q End) d v r n h = inl (end_past d.doom q r n (v == kept d.scan) h)
+past_source (Unretire q) d v r n h = inl (sym (bared_past d.doom r n) ∙ h)
+past_source (Free q) d v r n h = absurd (false≢true h)
+past_source op d v r n h = inl h
 
-pub cut_dooms_row : (o : Option Doom) (r : ℕ) → dooms_cut o r ≡ true → dooms o r ≡ true
-cut_dooms_row None r h = h
-cut_dooms_row (Some d) r h = (and_both _ _ h).0
+pub past_dooms : (o : Option Doom) (r n : ℕ) → cuts_past o r n ≡ true → dooms o r ≡ true
+past_dooms None r n h = h
+past_dooms (Some d) r n h = (and_both _ _ h).0
 
-uncut_not_cut : (o : Option Doom) (r : ℕ) → doom_uncut o r ≡ true → dooms_cut o r ≡ true → ⊥
-uncut_not_cut None r h k = false≢true h
-uncut_not_cut (Some d) r h k = grind arith
+pub cut_dooms_row : (links : ℕ) (o : Option Doom) (r : ℕ) → dooms_cut links o r ≡ true → dooms o r ≡ true
+cut_dooms_row links None r h = h
+cut_dooms_row links (Some d) r h = (and_both _ _ h).0
+
+-- the links below the next one are out
+past_below : (o : Option Doom) (r n k : ℕ) → doom_at o r k ≡ true → cuts_past o r n ≡ true → n < k
+past_below None r n k h g = absurd (false≢true h)
+past_below (Some d) r n k h g = let e = eqb-true d.cuts k (and_both _ _ h).1 in let l = ltb-true n d.cuts (and_both _ _ g).1 in omega arith
 
 null_link : (l : RowLink) → is_none l.to ≡ true → not l.mark ≡ true → link_word l ≡ 0
 null_link l h k = grind arith
 
 -- the link that is stored at a row which isn't fresh is null
-store_null : (n e f t c u s k : Bool) → (n && e && ((f && t && c) || (u && s && k))) ≡ true → f ≡ false → (u ≡ true) × (s ≡ true) × (k ≡ true)
-store_null n e true t c u s k h g = absurd (false≢true (sym g))
-store_null n e false t c u s k h g = let a = and_both (u && s) k (and_both (n && e) (u && s && k) h).1 in let c = and_both u s a.0 in (c.0, c.1, a.1)
+store_null : (n y e f t c u s k : Bool) → (n && y && e && ((f && t && c) || (u && s && k))) ≡ true → f ≡ false → (u ≡ true) × (s ≡ true) × (k ≡ true)
+store_null n y e true t c u s k h g = absurd (false≢true (sym g))
+store_null n y e false t c u s k h g = let a = and_both (u && s) k (and_both (n && y && e) (u && s && k) h).1 in let c = and_both u s a.0 in (c.0, c.1, a.1)
 
-store_parts : (b : Bounds) (e a q : ℕ) (l : RowLink) (d : Agent) → fits b e a (LinkStore q l) d ≡ true → names d.fresh q ≡ false
-    → (doom_uncut d.doom q ≡ true) × (is_none l.to ≡ true) × (not l.mark ≡ true)
-store_parts b e a q l d f g = store_null (nat_lt q b.rows) (is_empty (slot_of d 0)) (names d.fresh q) (may_target b d l.to)
-    (may_change d (b.limit + 64) None l.to) (doom_uncut d.doom q) (is_none l.to) (not l.mark) f g
+store_parts : (b : Bounds) (e a q nr : ℕ) (l : RowLink) (d : Agent) → fits b e a (LinkStore q nr l) d ≡ true → names d.fresh q ≡ false
+    → (doom_at d.doom q nr ≡ true) × (is_none l.to ≡ true) × (not l.mark ≡ true)
+store_parts b e a q nr l d f g = store_null (nat_lt q b.rows) (nat_lt nr b.links) (is_empty (slot_of d 0)) (names d.fresh q) (may_target b d l.to)
+    (may_change d (b.limit + 64) None l.to) (doom_at d.doom q nr) (is_none l.to) (not l.mark) f g
 
--- a step that cuts a row stores 0 in its link word
-cut_null : (b : Bounds) (z : World) (a : ℕ) (op : Op) (r : ℕ) → LawfulStep b z a op → uses (z.seats a) r ≡ false → cuts op r ≡ true
-    → (step_world z a op).memory (Next r) ≡ 0
-cut_null b z a (LinkStore q l) r p u h =
-    rw (eq-eqb r q (sym (eqb-true q r h)))
-    (stored (store_parts b (z.memory Enrolled) a q l (z.seats a) p.fits
-    (not_true (names (z.seats a).fresh q) (λ k. both_ways (uses (z.seats a) r) (fresh_uses (z.seats a) r (rw (eqb-true q r h) at k)) u))))
+-- the number of a link that is stored is below two
+pub number_below : (b : Bounds) (z : World) (a q nr : ℕ) (l : RowLink) → LawfulStep b z a (LinkStore q nr l) → nr < 2
+number_below b z a q nr l p = let k = ltb-true nr b.links (and_both _ _ (and_both _ _ (and_both _ _ p.fits).0).0).1 in let m = p.shape.links.1 in omega arith
+
+-- a step that cuts a link stores 0 in it
+cut_null : (b : Bounds) (z : World) (a : ℕ) (op : Op) (r n : ℕ) → LawfulStep b z a op → uses (z.seats a) r ≡ false → cuts op r n ≡ true
+    → (step_world z a op).memory (link_at n r) ≡ 0
+cut_null b z a (LinkStore q nr l) r n p u h =
+    let e : q ≡ r = eqb-true q r (and_both _ _ h).0 in
+    let k : nr ≡ n = eqb-true nr n (and_both _ _ h).1 in
+    rw (← e, ← k, same_word-self (link_at nr q))
+    (stored (store_parts b (z.memory Enrolled) a q nr l (z.seats a) p.fits
+    (not_true (names (z.seats a).fresh q) (λ k. both_ways (uses (z.seats a) r) (fresh_uses (z.seats a) r (rw e at k)) u))))
   where
-    stored : (doom_uncut (z.seats a).doom q ≡ true) × (is_none l.to ≡ true) × (not l.mark ≡ true) → link_word l ≡ 0
+    stored : (doom_at (z.seats a).doom q nr ≡ true) × (is_none l.to ≡ true) × (not l.mark ≡ true) → link_word l ≡ 0
     stored k = null_link l k.1 k.2
-cut_null b z a op r p u h = absurd (false≢true h)
+cut_null b z a op r n p u h = absurd (false≢true h)
 
--- nobody else changes the link of a row that is cut
-cut_unchanged : (b : Bounds) (z : World) (a : ℕ) (op : Op) (x r : ℕ) → LawfulStep b z a op → Gone b z r → dooms_cut (z.seats x).doom r ≡ true
-    → changes_next op r ≡ true → ⊥
-cut_unchanged b z a (LinkCas (Next q) f t) x r p g c h =
+-- nobody else changes a link that is cut
+cut_unchanged : (b : Bounds) (z : World) (a : ℕ) (op : Op) (x r n : ℕ) → LawfulStep b z a op → Gone b z r → cuts_past (z.seats x).doom r n ≡ true
+    → changes_link op (link_at n r) ≡ true → ⊥
+cut_unchanged b z a (LinkCas w f t) x r n p g c h =
     both_ways (uses (z.seats a) r)
-    (rw (eqb-true r q h)
-    (held_uses (z.seats a) q (and_both _ _ (and_both _ _ (cas_place b (z.memory Enrolled) a (Next q) f t (z.seats a) p.fits)).1).0)) (g.unused a)
-cut_unchanged b z a (LinkStore q l) x r p g c h =
-    let e = eqb-true r q h in
+    (cas_row_used b a n r f t (z.seats a)
+    (rw (same_word-true (link_at n r) w h) (cas_place b (z.memory Enrolled) a w f t (z.seats a) p.fits))) (g.unused a)
+  where
+    cas_row_used : (b : Bounds) (a n r : ℕ) (f t : RowLink) (d : Agent) → may_place b (link_at n r) (λ j. any_holds d.slots j && not (names d.fresh j)) ≡ true
+        → uses d r ≡ true
+    cas_row_used b a zero r f t d h = held_uses d r (and_both _ _ (and_both _ _ h).1).0
+    cas_row_used b a (suc k) r f t d h = held_uses d r (and_both _ _ (and_both _ _ h).1).0
+cut_unchanged b z a (LinkStore q nr l) x r n p g c h =
+    let e = same_link n r nr q h in
     ⊎_elim
     (λ k. both_ways (uses (z.seats a) r) (rw e (fresh_uses (z.seats a) q k)) (g.unused a))
-    (λ k. uncut_not_cut (z.seats a).doom r (rw e k)
-    (rw (p.doomed.alone x a r (cut_dooms_row (z.seats x).doom r c) (rw e (uncut_dooms (z.seats a).doom q k))) c))
-    (store_cases b (z.memory Enrolled) a q l (z.seats a) p.fits)
-cut_unchanged b z a op x r p g c h = false≢true h
+    (λ k. same_number n r nr q h
+    (past_below (z.seats a).doom r n nr (rw e k)
+    (rw (p.doomed.alone x a r (past_dooms (z.seats x).doom r n c) (rw e (uncut_dooms (z.seats a).doom q nr k))) c))
+    (number_below b z a q nr l p))
+    (store_cases b (z.memory Enrolled) a q nr l (z.seats a) p.fits)
+cut_unchanged b z a op x r n p g c h = false≢true h
 
-old_null : (b : Bounds) (z : World) (a : ℕ) (op : Op) (x r : ℕ) → LawfulStep b z a op → dooms_cut (z.seats x).doom r ≡ true
-    → (step_world z a op).memory (Next r) ≡ 0
-old_null b z a op x r p c =
-    next_stays b (z.memory Enrolled) a op (z.seats a) z.memory r p.fits
-    (not_true (changes_next op r) (cut_unchanged b z a op x r p (p.doomed.gone x r (cut_dooms_row (z.seats x).doom r c)) c)) ∙ p.doomed.null x r c
+old_null : (b : Bounds) (z : World) (a : ℕ) (op : Op) (x r n : ℕ) → LawfulStep b z a op → cuts_past (z.seats x).doom r n ≡ true
+    → (step_world z a op).memory (link_at n r) ≡ 0
+old_null b z a op x r n p c =
+    links_stay b (z.memory Enrolled) a op (z.seats a) z.memory n r p.fits
+    (not_true (changes_link op (link_at n r)) (cut_unchanged b z a op x r n p (p.doomed.gone x r (past_dooms (z.seats x).doom r n c)) c))
+    ∙ p.doomed.null x r n c
 
-null_step : (b : Bounds) (z : World) (a : ℕ) (op : Op) → EndingStep b z a op → (x r : ℕ) → dooms_cut ((step_world z a op).seats x).doom r ≡ true
-    → (step_world z a op).memory (Next r) ≡ 0
-null_step b z a op p x r h =
-    let g = gone_before b z a op x r p (cut_dooms_row ((step_world z a op).seats x).doom r h) in
+null_step : (b : Bounds) (z : World) (a : ℕ) (op : Op) → EndingStep b z a op → (x r n : ℕ) → cuts_past ((step_world z a op).seats x).doom r n ≡ true
+    → (step_world z a op).memory (link_at n r) ≡ 0
+null_step b z a op p x r n h =
+    let g = gone_before b z a op x r p (past_dooms ((step_world z a op).seats x).doom r n h) in
     ⊎_elim
-    (λ s. ⊎_elim (λ old. old_null b z a op a r p.lawful old) (λ new. cut_null b z a op r p.lawful (g.unused a) new)
-    (cut_source op (z.seats a) (read_by z a op) r s.1))
-    (λ s. old_null b z a op x r p.lawful s.1)
-    (seat_split (λ d. dooms_cut d.doom r ≡ true) z.seats a x (record_by z a op) h)
+    (λ s. ⊎_elim (λ old. old_null b z a op a r n p.lawful old) (λ new. cut_null b z a op r n p.lawful (g.unused a) new)
+    (past_source op (z.seats a) (read_by z a op) r n s.1))
+    (λ s. old_null b z a op x r n p.lawful s.1)
+    (seat_split (λ d. cuts_past d.doom r n ≡ true) z.seats a x (record_by z a op) h)
 
-pub cut_bare : (o : Option Doom) (q r : ℕ) → doom_bare (cut_of o q) r ≡ doom_bare o r
-cut_bare None q r = refl
-cut_bare (Some d) q r = refl
+pub cut_bare : (o : Option Doom) (q k r : ℕ) → doom_bare (cut_of o q k) r ≡ doom_bare o r
+cut_bare None q k r = refl
+cut_bare (Some d) q k r = refl
 
-pub cut_more : (o : Option Doom) (q r : ℕ) → dooms_cut o r ≡ true → dooms_cut (cut_of o q) r ≡ true
-cut_more None q r h = h
-cut_more (Some d) q r h = grind arith
+-- a doom that is cut isn't cut further
+cut_more : (links : ℕ) (o : Option Doom) (q k r : ℕ) → k < links → dooms_cut links o r ≡ true → dooms_cut links (cut_of o q k) r ≡ true
+cut_more links None q k r l h = h
+cut_more links (Some d) q k r l h = grind arith
 
-end_bare : (o : Option Doom) (q r : ℕ) (t : Bool) → doom_bare (cond t (Some (record { row = q; cut = false; bare = false })) o) r ≡ true
+end_bare : (o : Option Doom) (q r : ℕ) (t : Bool) → doom_bare (cond t (Some (record { row = q; cuts = 0; bare = false })) o) r ≡ true
     → (t ≡ false) × (doom_bare o r ≡ true)
 end_bare o q r true h = grind arith
 end_bare o q r false h = (refl, h)
 
-bared_some : (o : Option Doom) (q r : ℕ) → doom_cut o q ≡ true → doom_bare (bared o) r ≡ true → (q ≡ r) × (dooms_cut (bared o) r ≡ true)
-bared_some None q r h k = absurd (false≢true h)
-bared_some (Some d) q r h k = grind arith
+bared_some : (links : ℕ) (o : Option Doom) (q r : ℕ) → doom_cut links o q ≡ true → doom_bare (bared o) r ≡ true
+    → (q ≡ r) × (dooms_cut links (bared o) r ≡ true)
+bared_some links None q r h k = absurd (false≢true h)
+bared_some links (Some d) q r h k = grind arith
 
 no_bare : (o : Option Doom) (r : ℕ) → o ≡ None → doom_bare (bared o) r ≡ true → ⊥
 no_bare None r e h = false≢true h
@@ -413,25 +443,25 @@ bares (Unretire q) r = q == r
 bares _ r = false
 
 bare_source : (b : Bounds) (e a : ℕ) (op : Op) (d : Agent) (v r : ℕ) → fits b e a op d ≡ true → HasOnePart d → doom_bare (after op d v).doom r ≡ true
-    → (((doom_bare d.doom r ≡ true) × (dooms_cut d.doom r ≡ true → dooms_cut (after op d v).doom r ≡ true)))
-    ⊎ ((bares op r ≡ true) × (dooms_cut (after op d v).doom r ≡ true))
-bare_source b e a (LinkStore q l) d v r f o h = inl (sym (cut_bare d.doom q r) ∙ h, cut_more d.doom q r)
+    → (((doom_bare d.doom r ≡ true) × (dooms_cut b.links d.doom r ≡ true → dooms_cut b.links (after op d v).doom r ≡ true)))
+    ⊎ ((bares op r ≡ true) × (dooms_cut b.links (after op d v).doom r ≡ true))
+bare_source b e a (LinkStore q nr l) d v r f o h = inl (sym (cut_bare d.doom q nr r) ∙ h, cut_more b.links d.doom q nr r (ltb-true nr b.links (and_both _ _ (and_both _ _ (and_both _ _ f).0).0).1))
 bare_source b e a (CounterLoad q Check) d v r f o h = inl (h, λ k. k)
 bare_source b e a (CounterLoad q Start) d v r f o h = inl (h, λ k. k)
 bare_source b e a (CounterLoad q End) d v r f o h = let k = end_bare d.doom q r (v == kept d.scan) h in inl (k.1, λ g. rw k.0 g)
 bare_source b e a (Unretire q) d v r f o h =
     ⊎_elim
     (λ s. absurd (no_bare d.doom r (scan_no_doom d q o s) h))
-    (λ c. let k = bared_some d.doom q r c h in inr (eq-eqb q r k.0, k.1))
+    (λ c. let k = bared_some b.links d.doom q r c h in inr (eq-eqb q r k.0, k.1))
     (unretire_cases b e a q d f)
 bare_source b e a (Free q) d v r f o h = absurd (false≢true h)
 bare_source b e a op d v r f o h = inl (h, λ k. k)
 
 cut_step : (b : Bounds) (z : World) (a : ℕ) (op : Op) → LawfulStep b z a op → (x r : ℕ) → doom_bare ((step_world z a op).seats x).doom r ≡ true
-    → dooms_cut ((step_world z a op).seats x).doom r ≡ true
+    → dooms_cut b.links ((step_world z a op).seats x).doom r ≡ true
 cut_step b z a op p x r h = cases (x == a) h
   where
-    cases : (t : Bool) → doom_bare (cond t (record_by z a op) (z.seats x)).doom r ≡ true → dooms_cut (cond t (record_by z a op) (z.seats x)).doom r ≡ true
+    cases : (t : Bool) → doom_bare (cond t (record_by z a op) (z.seats x)).doom r ≡ true → dooms_cut b.links (cond t (record_by z a op) (z.seats x)).doom r ≡ true
     cases true k =
         ⊎_elim (λ s. s.1 (p.doomed.cut a r s.0)) (λ s. s.1)
         (bare_source b (z.memory Enrolled) a op (z.seats a) (read_by z a op) r p.fits (p.counted.one_part a) k)

@@ -1,17 +1,17 @@
 -- The agents enroll in the order of their numbers, and only enrolled agents step.
-use Rattle.std.proofs.Common.{Bool, ap, arith, cond, false, refl, sym, true, ℕ, ◌%◌, ◌+◌, ◌<◌, ◌∙◌, ◌≡◌, ◌≢◌, ◌≤◌}
+use Rattle.std.proofs.Common.{Bool, ap, arith, cond, false, refl, sym, true, ℕ, ◌%◌, ◌+◌, ◌<◌, ◌∙◌, ◌≡◌, ◌≢◌, ◌≤◌, zero, suc}
 use Rattle.std.proofs.lemmas.Bool.{eqb-false, eqb-true, false≢true, ltb-true}
 use Rattle.std.specs.Prelude.{nat_lt, ◌==◌}
 use Rattle.orc_words.specs.Bounds.{Bounds}
 use Rattle.orc_words.specs.declared.place.Word.{Word}
-use Rattle.orc_words.specs.declared.place.Word.TheVariants.{Enrolled, First, Next, Root, Second}
+use Rattle.orc_words.specs.declared.place.Word.TheVariants.{Enrolled, First, Next, Root, Second, Side}
 use Rattle.orc_core.proofs.Within.{and_both}
 use Rattle.orc_words.specs.Operations.{word_after}
 use Rattle.orc_core.specs.Actions.{action_of}
 use Rattle.orc_core.specs.After.{after}
 use Rattle.orc_core.specs.Allowed.{fits, stands}
 use Rattle.orc_core.specs.declared.ops.Op.{Op}
-use Rattle.orc_core.specs.declared.ops.Op.TheVariants.{Enroll, Fill, LinkCas, LinkLoad, Read}
+use Rattle.orc_core.specs.declared.ops.Op.TheVariants.{Enroll, Fill, LinkCas, LinkLoad, Read, LinkStore}
 use Rattle.orc_core.specs.declared.records.Agent.{Agent}
 use Rattle.orc_sound.proofs.Facts.{EnrolmentFits, LawfulStep}
 use Rattle.orc_sound.proofs.Seats.{seat_join, seat_other}
@@ -25,9 +25,12 @@ enrolled_word b e a Enroll d m f n = absurd (n refl)
 enrolled_word b e a (LinkLoad p k) d m f n = write_same m p Enrolled
 enrolled_word b e a (LinkCas (Root i) x t) d m f n = refl
 enrolled_word b e a (LinkCas (Next i) x t) d m f n = refl
+enrolled_word b e a (LinkCas (Side i) x t) d m f n = refl
 enrolled_word b e a (LinkCas p x t) d m f n = grind arith
 enrolled_word b e a (Fill q w v) d m f n = grind arith
 enrolled_word b e a (Read q w) d m f n = write_same m (cond (w == 0) (First q) (Second q)) Enrolled
+enrolled_word b e a (LinkStore lq zero ll) d m f n = refl
+enrolled_word b e a (LinkStore lq (suc ln) ll) d m f n = refl
 enrolled_word b e a op d m f n = refl
 
 stays_enrolled : (op : Op) (d : Agent) (v : ℕ) → d.enrolled ≡ true → (after op d v).enrolled ≡ true

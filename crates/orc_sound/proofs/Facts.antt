@@ -4,7 +4,7 @@ use Rattle.std.specs.Prelude.{◌==◌}
 use Rattle.orc_words.specs.Bounds.{Bounds, IsShape}
 use Rattle.orc_words.specs.Packed.{bit, count_bits, retired_bit}
 use Rattle.orc_words.specs.declared.place.Word.{Word}
-use Rattle.orc_words.specs.declared.place.Word.TheVariants.{Counter, Enrolled, Gate, Handover, Next, Root, Slot}
+use Rattle.orc_words.specs.declared.place.Word.TheVariants.{Counter, Enrolled, Gate, Handover, Next, Root, Slot, Side}
 use Rattle.orc_core.specs.Allowed.{fits, forced, stands}
 use Rattle.orc_core.specs.Machine.{nobody}
 use Rattle.orc_core.specs.RecordParts.{any_holds, doom_bare, is_published, names, saw, slot_of}
@@ -12,10 +12,11 @@ use Rattle.orc_core.specs.Sums.{sum_below}
 use Rattle.orc_core.specs.declared.ops.Op.{Op}
 use Rattle.orc_core.specs.declared.records.Agent.{Agent}
 use Rattle.orc_sound.proofs.World.{World, is_within}
-use Rattle.orc_sound.specs.Doomed.{dooms, dooms_cut}
+use Rattle.orc_sound.specs.Doomed.{cuts_past, dooms, dooms_cut}
 use Rattle.orc_sound.specs.Linked.{uses}
 use Rattle.orc_sound.specs.SoundParts.{slot_word}
 use Rattle.orc_sound.specs.RetirementToken.{HasOnePart, places_of}
+use Rattle.orc_words.specs.Places.{link_at}
 
 -- 1 where the link word names the row
 abbrev pub to_row : ℕ → ℕ → ℕ
@@ -25,9 +26,10 @@ to_row w r = bit (w / 2 == r + 1)
 abbrev pub out : ℕ → ℕ
 out w = w % 2
 
--- the links that name the row
+-- the links that name the row. A second link that the shape doesn't have is the word 0, and names none
 abbrev pub linked_in : Bounds → (Word → ℕ) → ℕ → ℕ
 linked_in s m r = sum_below s.roots (λ i. to_row (m (Root i)) r) + sum_below s.rows (λ j. out (m (Gate j)) * to_row (m (Next j)) r)
+    + sum_below s.rows (λ j. out (m (Gate j)) * to_row (m (Side j)) r)
 
 abbrev pub incs : Bounds → (ℕ → Agent) → ℕ → ℕ
 incs s d r = sum_below s.agents (λ a. bit (names (d a).inc r))
@@ -81,13 +83,13 @@ pub record Counted (b : Bounds) (z : World) : Type 0 where
   pub one_part : (a : ℕ) → HasOnePart (z.seats a)
   pub used_out : (a r : ℕ) → uses (z.seats a) r ≡ true → out (z.memory (Gate r)) ≡ 1
   pub bit_out : (r : ℕ) → retired_bit (z.memory (Counter r)) ≡ 1 → out (z.memory (Gate r)) ≡ 1
-  pub free_null : (j : ℕ) → out (z.memory (Gate j)) ≡ 0 → z.memory (Next j) ≡ 0
+  pub free_null : (n j : ℕ) → out (z.memory (Gate j)) ≡ 0 → z.memory (link_at n j) ≡ 0
   pub roots_out : (i r : ℕ) → to_row (z.memory (Root i)) r ≡ 1 → out (z.memory (Gate r)) ≡ 1
-  pub nexts_out : (j r : ℕ) → out (z.memory (Gate j)) ≡ 1 → to_row (z.memory (Next j)) r ≡ 1 → out (z.memory (Gate r)) ≡ 1
+  pub links_out : (n j r : ℕ) → out (z.memory (Gate j)) ≡ 1 → to_row (z.memory (link_at n j)) r ≡ 1 → out (z.memory (Gate r)) ≡ 1
   pub fresh_bit : (a r : ℕ) → names (z.seats a).fresh r ≡ true → retired_bit (z.memory (Counter r)) ≡ 0
   pub fresh_alone : (a x r : ℕ) → names (z.seats a).fresh r ≡ true → x ≢ a → uses (z.seats x) r ≡ false
   pub fresh_root : (a i r : ℕ) → names (z.seats a).fresh r ≡ true → to_row (z.memory (Root i)) r ≡ 0
-  pub fresh_next : (a j r : ℕ) → names (z.seats a).fresh r ≡ true → j ≢ r → to_row (z.memory (Next j)) r ≡ 0
+  pub fresh_links : (a n j r : ℕ) → names (z.seats a).fresh r ≡ true → j ≢ r → to_row (z.memory (link_at n j)) r ≡ 0
 
 -- the row is out, and nothing links or uses it
 pub record Gone (b : Bounds) (z : World) (r : ℕ) : Type 0 where
@@ -99,8 +101,8 @@ pub record Gone (b : Bounds) (z : World) (r : ℕ) : Type 0 where
 pub record Doomed (b : Bounds) (z : World) : Type 0 where
   pub gone : (a r : ℕ) → dooms (z.seats a).doom r ≡ true → Gone b z r
   pub alone : (a x r : ℕ) → dooms (z.seats a).doom r ≡ true → dooms (z.seats x).doom r ≡ true → x ≡ a
-  pub null : (a r : ℕ) → dooms_cut (z.seats a).doom r ≡ true → z.memory (Next r) ≡ 0
-  pub cut : (a r : ℕ) → doom_bare (z.seats a).doom r ≡ true → dooms_cut (z.seats a).doom r ≡ true
+  pub null : (a r n : ℕ) → cuts_past (z.seats a).doom r n ≡ true → z.memory (link_at n r) ≡ 0
+  pub cut : (a r : ℕ) → doom_bare (z.seats a).doom r ≡ true → dooms_cut b.links (z.seats a).doom r ≡ true
   pub clear : (a r : ℕ) → doom_bare (z.seats a).doom r ≡ true → retired_bit (z.memory (Counter r)) ≡ 0
 
 -- a step that is allowed, at a state with these facts

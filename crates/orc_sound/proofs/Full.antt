@@ -15,7 +15,7 @@ pub none_doomed : (b : Bounds) (z : World) → ((a : ℕ) → (z.seats a).doom �
 none_doomed b z h = record {
   gone = λ a r k. absurd (false≢true (rw (h a) at k));
   alone = λ a x r k l. absurd (false≢true (rw (h a) at k));
-  null = λ a r k. absurd (false≢true (rw (h a) at k));
+  null = λ a r n k. absurd (false≢true (rw (h a) at k));
   cut = λ a r k. absurd (false≢true (rw (h a) at k));
   clear = λ a r k. absurd (false≢true (rw (h a) at k));
 }

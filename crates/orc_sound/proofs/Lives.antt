@@ -1,11 +1,11 @@
 -- The lives of rows, and what an agent that looked at a free row and checked it knows.
-use Rattle.std.proofs.Common.{Bool, ap, arith, cond, false, inl, inr, refl, sym, true, ℕ, ⊎_elim, ◌%◌, ◌*◌, ◌+◌, ◌/◌, ◌<◌, ◌^◌, ◌∙◌, ◌≡◌, ◌≤◌, ◌⊎◌}
+use Rattle.std.proofs.Common.{Bool, ap, arith, cond, false, inl, inr, refl, sym, true, ℕ, ⊎_elim, ◌%◌, ◌*◌, ◌+◌, ◌/◌, ◌<◌, ◌^◌, ◌∙◌, ◌≡◌, ◌≤◌, ◌⊎◌, zero, suc}
 use Rattle.std.proofs.lemmas.Bool.{eq-eqb, eqb-true, false≢true, ltb-true}
 use Rattle.std.specs.Prelude.{None, Some, ◌&&◌, ◌==◌}
 use Rattle.orc_words.specs.Bounds.{Bounds}
 use Rattle.orc_words.specs.Packed.{sequence_of}
 use Rattle.orc_words.specs.declared.place.Word.{Word}
-use Rattle.orc_words.specs.declared.place.Word.TheVariants.{Counter, Enrolled, First, Gate, Next, Root, Second}
+use Rattle.orc_words.specs.declared.place.Word.TheVariants.{Counter, Enrolled, First, Gate, Next, Root, Second, Side}
 use Rattle.orc_core.proofs.Within.{and_both}
 use Rattle.orc_words.specs.Operations.{word_after}
 use Rattle.orc_core.specs.Actions.{action_of}
@@ -61,6 +61,7 @@ gate_change b z a (GateTake q) r p s =
 gate_change b z a (LinkLoad w k) r p s = inl (write_same z.memory w (Gate r))
 gate_change b z a (LinkCas (Root i) x t) r p s = inl refl
 gate_change b z a (LinkCas (Next i) x t) r p s = inl refl
+gate_change b z a (LinkCas (Side i) x t) r p s = inl refl
 gate_change b z a (LinkCas w x t) r p s = absurd (cas_place_out b z a w x t p)
 gate_change b z a (Fill q w v) r p s = inl (fill_same z.memory q w v r)
   where
@@ -68,6 +69,8 @@ gate_change b z a (Fill q w v) r p s = inl (fill_same z.memory q w v r)
     fill_same m q w v r = grind arith
 gate_change b z a (Read q w) r p s = inl (write_same z.memory (cond (w == 0) (First q) (Second q)) (Gate r))
 gate_change b z a (Free q) r p s = free_gate b z.memory q r p.shape.limit.1 (s.within q) (freed_row b z a q p).gone.is_out
+gate_change b z a (LinkStore lq zero ll) r p s = inl refl
+gate_change b z a (LinkStore lq (suc ln) ll) r p s = inl refl
 gate_change b z a op r p s = inl refl
 
 within_step : (b : Bounds) (v w : ℕ) → GateChange b v w → v / 2 ≤ b.limit → w / 2 ≤ b.limit
@@ -146,7 +149,7 @@ check_source : (op : Op) (d : Agent) (v r : ℕ) → saw (after op d v).checked 
 check_source (GateLook q) d v r h = absurd (false≢true h)
 check_source (GateTake q) d v r h = absurd (false≢true h)
 check_source (LinkCas p x t) d v r h = absurd (false≢true h)
-check_source (LinkStore q l) d v r h = absurd (false≢true h)
+check_source (LinkStore q nr l) d v r h = absurd (false≢true h)
 check_source (CounterLoad q Check) d v r h = inr (h, refl)
 check_source (CounterLoad q Start) d v r h = inl (h, refl)
 check_source (CounterLoad q End) d v r h = inl (h, refl)

@@ -7,7 +7,7 @@ use Rattle.orc_words.specs.Bounds.{Bounds}
 use Rattle.orc_words.specs.NewWords.{new_word}
 use Rattle.orc_words.specs.Packed.{bit}
 use Rattle.orc_words.specs.declared.place.Word.{Word}
-use Rattle.orc_words.specs.declared.place.Word.TheVariants.{Counter, Enrolled, Gate, Handover, Next, Root, Slot}
+use Rattle.orc_words.specs.declared.place.Word.TheVariants.{Counter, Enrolled, Gate, Handover, Next, Root, Slot, Side}
 use Rattle.orc_core.specs.Machine.{new_machine, nobody}
 use Rattle.orc_core.specs.RecordParts.{names}
 use Rattle.orc_core.specs.declared.records.SlotUse.TheVariants.{Empty}
@@ -19,6 +19,7 @@ use Rattle.orc_sound.proofs.World.{World, is_within, world_of}
 use Rattle.orc_sound.specs.Linked.{uses}
 use Rattle.orc_sound.specs.SoundParts.{slot_word}
 use Rattle.orc_sound.specs.RetirementToken.{places_of}
+use Rattle.orc_words.specs.Places.{link_at}
 
 memory_first : (b : Bounds) (w : Word) (t : Bool) → is_within b w ≡ t → (world_of (new_machine b)).memory w ≡ cond t (new_word w) 0
 memory_first b w true e = rw e (new_words_each b w (is_within-true b w e))
@@ -50,10 +51,15 @@ pub record Blank (b : Bounds) (z : World) : Type 0 where
   no_bit : (r : ℕ) → z.memory (Counter r) / 8388608 ≡ 0
   empty : (a : ℕ) → z.seats a ≡ nobody b.rows
 
+blank_links : (b : Bounds) (z : World) (n j : ℕ) → Blank b z → z.memory (link_at n j) ≡ 0
+blank_links b z zero j k = k.zero_word (Next j) refl
+blank_links b z (suc n) j k = k.zero_word (Side j) refl
+
 pub blank_linked : (b : Bounds) (z : World) (r : ℕ) → Blank b z → linked_in b z.memory r ≡ 0
 blank_linked b z r k =
     let e = sum_zero b.roots (λ i. to_row (z.memory (Root i)) r) (λ i. null_row _ r (k.zero_word (Root i) refl)) in
     let f = sum_zero b.rows (λ j. out (z.memory (Gate j)) * to_row (z.memory (Next j)) r) (λ j. rw (k.zero_word (Gate j) refl) (omega arith)) in
+    let g = sum_zero b.rows (λ j. out (z.memory (Gate j)) * to_row (z.memory (Side j)) r) (λ j. rw (k.zero_word (Gate j) refl) (omega arith)) in
     omega arith
 
 blank_handed : (b : Bounds) (z : World) (r : ℕ) → Blank b z → handed_in b z.memory r ≡ 0
@@ -90,13 +96,13 @@ counted_blank b z k out = record {
   one_part = λ a. rw (k.empty a) (omega arith);
   used_out = λ a r h. absurd (nobody_uses b.rows r (rw (k.empty a) at h));
   bit_out = λ r h. absurd (zero_one (bit_of _ (k.no_bit r)) h);
-  free_null = λ j h. k.zero_word (Next j) refl;
+  free_null = λ n j h. blank_links b z n j k;
   roots_out = λ i r h. absurd (zero_one (null_row _ r (k.zero_word (Root i) refl)) h);
-  nexts_out = λ j r o h. absurd (zero_one (null_row _ r (k.zero_word (Next j) refl)) h);
+  links_out = λ n j r o h. absurd (zero_one (null_row _ r (blank_links b z n j k)) h);
   fresh_bit = λ a r h. bit_of _ (k.no_bit r);
   fresh_alone = λ a x r h n. absurd (false≢true (rw (k.empty a) at h));
   fresh_root = λ a i r h. null_row _ r (k.zero_word (Root i) refl);
-  fresh_next = λ a j r h n. null_row _ r (k.zero_word (Next j) refl);
+  fresh_links = λ a i j r h n. null_row _ r (blank_links b z i j k);
 }
   where
     none_less : (a : ℕ) → a < 0 → ⊥

@@ -1,50 +1,69 @@
--- What is used, retired or linked_in is out, and a free row's link word is 0.
-use Rattle.std.proofs.Common.{Bool, arith, false, inl, refl, subst, true, ℕ, ⊎_elim, ◌*◌, ◌<◌, ◌≡◌, ◌⊎◌}
+-- What is used, retired or linked_in is out, and a free row's link words are 0.
+use Rattle.std.proofs.Common.{Bool, arith, false, inl, refl, subst, true, ℕ, ⊎_elim, ◌*◌, ◌<◌, ◌≡◌, ◌⊎◌, zero, suc, sym}
 use Rattle.std.proofs.lemmas.Bool.{eqb-true, false≢true, ltb-true}
 use Rattle.std.specs.Prelude.{None, Option, Some, nat_lt, not, ◌&&◌, ◌||◌}
-use Rattle.orc_words.specs.Bounds.{Bounds}
+use Rattle.orc_words.specs.Bounds.{Bounds, IsShape}
 use Rattle.orc_words.specs.Packed.{retired_bit}
 use Rattle.orc_words.specs.declared.packed.RowLink.{RowLink}
 use Rattle.orc_words.specs.declared.place.Word.{Word}
-use Rattle.orc_words.specs.declared.place.Word.TheVariants.{Counter, Enrolled, Gate, Next, Root}
+use Rattle.orc_words.specs.declared.place.Word.TheVariants.{Counter, Enrolled, Gate, Next, Root, Side}
 use Rattle.orc_core.proofs.Within.{and_both}
 use Rattle.orc_words.specs.Operations.{word_after}
 use Rattle.orc_core.specs.Actions.{action_of}
 use Rattle.orc_core.specs.Allowed.{fits, may_place}
-use Rattle.orc_core.specs.RecordParts.{any_holds, doom_bare, doom_uncut, names, scans}
+use Rattle.orc_core.specs.RecordParts.{any_holds, doom_bare, doom_at, names, scans}
 use Rattle.orc_core.specs.declared.ops.Op.{Op}
 use Rattle.orc_core.specs.declared.ops.Op.TheVariants.{Arm, Free, GateTake, LinkCas, LinkLoad, LinkStore, SetRetired}
 use Rattle.orc_core.specs.declared.records.Agent.{Agent}
 use Rattle.orc_core.specs.declared.records.Doom.{Doom}
 use Rattle.orc_sound.proofs.Balances.{OutPlace}
 use Rattle.orc_sound.proofs.Bits.{bit_before, raises, retired_one, scan_places}
-use Rattle.orc_sound.proofs.Facts.{Counted, Gone, LawfulStep, linked_in, out, to_row}
+use Rattle.orc_sound.proofs.Facts.{Counted, Doomed, Gone, LawfulStep, linked_in, out, to_row}
 use Rattle.orc_sound.proofs.Seats.{both_ways, not_true, seat_split}
-use Rattle.orc_sound.proofs.Sources.{changes_next, frees, gate_source, links, next_source, next_stays, out_stays, puts, root_source, takes}
+use Rattle.orc_sound.proofs.Sources.{changes_link, frees, gate_source, links, links_source, links_stay, out_stays, puts, root_source, takes, same_link}
 use Rattle.orc_sound.proofs.Sums.{sum_member}
 use Rattle.orc_sound.proofs.Uses.{NewUse, due_uses, fresh_uses, held_uses, links_held, use_source}
 use Rattle.orc_sound.proofs.World.{World, read_by, record_by, step_world, write}
-use Rattle.orc_sound.specs.Doomed.{dooms}
+use Rattle.orc_sound.specs.Doomed.{cuts_past, dooms, dooms_cut}
 use Rattle.orc_sound.specs.Linked.{uses}
+use Rattle.orc_words.specs.Places.{link_at}
+use Rattle.orc_sound.proofs.Bridge.{same_word-true}
 
 -- what is known of a row that a step frees
 pub record Freed (b : Bounds) (z : World) (r : ℕ) : Type 0 where
   pub gone : Gone b z r
   pub clear : retired_bit (z.memory (Counter r)) ≡ 0
-  pub null : z.memory (Next r) ≡ 0
+  pub null : (n : ℕ) → z.memory (link_at n r) ≡ 0
 
 pub bare_dooms : (o : Option Doom) (r : ℕ) → doom_bare o r ≡ true → dooms o r ≡ true
 bare_dooms None r h = h
 bare_dooms (Some d) r h = (and_both _ _ h).0
 
-pub uncut_dooms : (o : Option Doom) (r : ℕ) → doom_uncut o r ≡ true → dooms o r ≡ true
-uncut_dooms None r h = h
-uncut_dooms (Some d) r h = (and_both _ _ h).0
+pub uncut_dooms : (o : Option Doom) (r n : ℕ) → doom_at o r n ≡ true → dooms o r ≡ true
+uncut_dooms None r n h = h
+uncut_dooms (Some d) r n h = (and_both _ _ h).0
+
+cut_past : (links : ℕ) (o : Option Doom) (r n : ℕ) → dooms_cut links o r ≡ true → n < links → cuts_past o r n ≡ true
+cut_past links None r n h l = h
+cut_past links (Some d) r n h l = grind arith
+
+-- a row of which all links were cut has none
+all_null : (b : Bounds) (z : World) (a q : ℕ) → IsShape b → Counted b z → Doomed b z → dooms_cut b.links (z.seats a).doom q ≡ true → (n : ℕ) → z.memory (link_at n q) ≡ 0
+all_null b z a q shape s d h zero = d.null a q 0 (cut_past b.links (z.seats a).doom q 0 h (let l = shape.links.0 in omega arith))
+all_null b z a q shape s d h (suc k) = cases (nat_lt 1 b.links) refl
+  where
+    cases : (t : Bool) → nat_lt 1 b.links ≡ t → z.memory (Side q) ≡ 0
+    cases true e = d.null a q 1 (cut_past b.links (z.seats a).doom q 1 h (ltb-true 1 b.links e))
+    cases false e = s.outside (Side q) (no_side (nat_lt q b.rows) e)
+      where
+        no_side : (u : Bool) → nat_lt 1 b.links ≡ false → (u && nat_lt 1 b.links) ≡ false
+        no_side true e = e
+        no_side false e = refl
 
 pub freed_row : (b : Bounds) (z : World) (a q : ℕ) → LawfulStep b z a (Free q) → Freed b z q
 freed_row b z a q p =
     let k = (and_both _ _ p.fits).1 in
-    record { gone = p.doomed.gone a q (bare_dooms _ q k); clear = p.doomed.clear a q k; null = p.doomed.null a q (p.doomed.cut a q k) }
+    record { gone = p.doomed.gone a q (bare_dooms _ q k); clear = p.doomed.clear a q k; null = all_null b z a q p.shape p.counted p.doomed (p.doomed.cut a q k) }
 
 pub freed : (b : Bounds) (z : World) (a : ℕ) (op : Op) (r : ℕ) → LawfulStep b z a op → frees op r ≡ true → Freed b z r
 freed b z a (Free q) r p h = subst (λ x. Freed b z x) (eqb-true q r h) (freed_row b z a q p)
@@ -63,15 +82,15 @@ used_stays b z a op x r p h = stays_out b z a op r p (λ f. both_ways _ h (f.gon
 pub held_or_fresh : (d : Agent) (j : ℕ) → (any_holds d.slots j || names d.fresh j) ≡ true → uses d j ≡ true
 held_or_fresh d j h = grind arith
 
--- the place that may be read is a root, or the next word of a row that the agent uses
-pub place_used : (b : Bounds) (p : Word) (d : Agent) → may_place b p (λ r. any_holds d.slots r || names d.fresh r) ≡ true → (j : ℕ) → p ≡ Next j
-    → uses d j ≡ true
-place_used b (Next i) d h j e = let k : i ≡ j = cc in rw (← k) (held_or_fresh d i (and_both _ _ h).1)
-place_used b p d h j e = cc
+-- the place that may be read is a root, or a link word of a row that the agent uses
+pub place_used : (b : Bounds) (n j : ℕ) (d : Agent) → may_place b (link_at n j) (λ r. any_holds d.slots r || names d.fresh r) ≡ true → uses d j ≡ true
+place_used b zero j d h = held_or_fresh d j (and_both _ _ h).1
+place_used b (suc k) j d h = held_or_fresh d j (and_both _ _ h).1
 
 pub place_out : (b : Bounds) (p : Word) (t : ℕ → Bool) (m : Word → ℕ) → may_place b p t ≡ true → ((j : ℕ) → t j ≡ true → out (m (Gate j)) ≡ 1) → OutPlace m p
 place_out b (Root i) t m h g = tt
 place_out b (Next j) t m h g = g j (and_both _ _ h).1
+place_out b (Side j) t m h g = g j (and_both _ _ h).1
 place_out b p t m h g = absurd (false≢true h)
 
 pub read_out : (b : Bounds) (z : World) (a : ℕ) (p : Word) → Counted b z
@@ -80,7 +99,8 @@ read_out b z a p s h = place_out b p _ z.memory h (λ j k. s.used_out a j (held_
 
 pub target_out : (b : Bounds) (z : World) (p : Word) (r : ℕ) → Counted b z → OutPlace z.memory p → to_row (z.memory p) r ≡ 1 → out (z.memory (Gate r)) ≡ 1
 target_out b z (Root i) r s o h = s.roots_out i r h
-target_out b z (Next j) r s o h = s.nexts_out j r o h
+target_out b z (Next j) r s o h = s.links_out 0 j r o h
+target_out b z (Side j) r s o h = s.links_out 1 j r o h
 target_out b z p r s o h = absurd o
 
 pub load_place : (b : Bounds) (e a : ℕ) (p : Word) (k : Option ℕ) (d : Agent) → fits b e a (LinkLoad p k) d ≡ true
@@ -89,16 +109,16 @@ load_place b e a p None d h = h
 load_place b e a p (Some k) d h = (and_both _ _ (and_both _ _ h).0).0
 
 -- the row whose link is stored is fresh, or doomed with its link in
-pub store_cases : (b : Bounds) (e a q : ℕ) (l : RowLink) (d : Agent) → fits b e a (LinkStore q l) d ≡ true → (names d.fresh q ≡ true)
-    ⊎ (doom_uncut d.doom q ≡ true)
-store_cases b e a q l d f = grind arith
+pub store_cases : (b : Bounds) (e a q nr : ℕ) (l : RowLink) (d : Agent) → fits b e a (LinkStore q nr l) d ≡ true → (names d.fresh q ≡ true)
+    ⊎ (doom_at d.doom q nr ≡ true)
+store_cases b e a q nr l d f = grind arith
 
-pub store_row_out : (b : Bounds) (z : World) (a q : ℕ) (l : RowLink) → LawfulStep b z a (LinkStore q l) → out (z.memory (Gate q)) ≡ 1
-store_row_out b z a q l p =
+pub store_row_out : (b : Bounds) (z : World) (a q nr : ℕ) (l : RowLink) → LawfulStep b z a (LinkStore q nr l) → out (z.memory (Gate q)) ≡ 1
+store_row_out b z a q nr l p =
     ⊎_elim
     (λ f. p.counted.used_out a q (fresh_uses (z.seats a) q f))
-    (λ c. (p.doomed.gone a q (uncut_dooms _ q c)).is_out)
-    (store_cases b (z.memory Enrolled) a q l (z.seats a) p.fits)
+    (λ c. (p.doomed.gone a q (uncut_dooms _ q nr c)).is_out)
+    (store_cases b (z.memory Enrolled) a q nr l (z.seats a) p.fits)
 
 pub takes_free : (op : Op) (d : Agent) (m : Word → ℕ) (a r : ℕ) → takes op d (m (action_of a op d).word) r ≡ true → out (m (Gate r)) ≡ 0
 takes_free (GateTake q) d m a r h = grind arith
@@ -117,7 +137,8 @@ new_use_out : (b : Bounds) (z : World) (a : ℕ) (op : Op) (r : ℕ) → LawfulS
 new_use_out b z a (LinkLoad w k) r p h =
     out_stays z.memory b (z.memory Enrolled) a (LinkLoad w k) (z.seats a) r p.fits refl
     (target_out b z w r p.counted (read_out b z a w p.counted (load_place b (z.memory Enrolled) a w k (z.seats a) p.fits)) h)
-new_use_out b z a (LinkStore q l) r p h = p.counted.nexts_out q r (store_row_out b z a q l p) h
+new_use_out b z a (LinkStore q zero l) r p h = p.counted.links_out 0 q r (store_row_out b z a q 0 l p) h
+new_use_out b z a (LinkStore q (suc k) l) r p h = p.counted.links_out (suc k) q r (store_row_out b z a q (suc k) l p) h
 new_use_out b z a (Arm q) r p h = rw h.0 (p.counted.bit_out q (arm_retired b z a q p h.1))
 new_use_out b z a (GateTake q) r p h = taken_out (GateTake q) (z.seats a) z.memory a r h
 new_use_out b z a op r p h = absurd h
@@ -153,7 +174,7 @@ bit_out_step b z a op p r h =
 
 pub puts_links : (op : Op) (w : Word) (r : ℕ) → puts op w r ≡ true → links op r ≡ true
 puts_links (LinkCas p x t) w r h = (and_both _ _ h).1
-puts_links (LinkStore q l) w r h = (and_both _ _ h).1
+puts_links (LinkStore q nr l) w r h = (and_both _ _ h).1
 puts_links op w r h = absurd (false≢true h)
 
 -- who makes a link to a row uses it
@@ -171,13 +192,19 @@ linked_root b z i r s h = cases (nat_lt i b.roots) refl
     cases true e = let m = sum_member b.roots i (λ j. to_row (z.memory (Root j)) r) (ltb-true i b.roots e) in omega arith
     cases false e = absurd (zero_one (null_row _ r (s.outside (Root i) e)) h)
 
-pub linked_next : (b : Bounds) (z : World) (j r : ℕ) → Counted b z → out (z.memory (Gate j)) ≡ 1 → to_row (z.memory (Next j)) r ≡ 1 → 0 < linked_in b z.memory r
-linked_next b z j r s o h = cases (nat_lt j b.rows) refl
+pub linked_link : (b : Bounds) (z : World) (n j r : ℕ) → Counted b z → out (z.memory (Gate j)) ≡ 1 → to_row (z.memory (link_at n j)) r ≡ 1 → 0 < linked_in b z.memory r
+linked_link b z zero j r s o h = cases (nat_lt j b.rows) refl
   where
     cases : (t : Bool) → nat_lt j b.rows ≡ t → 0 < linked_in b z.memory r
     cases true e = let m = sum_member b.rows j (λ i. out (z.memory (Gate i)) * to_row (z.memory (Next i)) r) (ltb-true j b.rows e) in
         let f : out (z.memory (Gate j)) * to_row (z.memory (Next j)) r ≡ 1 = rw (o, h) in omega arith
     cases false e = absurd (zero_one (null_row _ r (s.outside (Next j) e)) h)
+linked_link b z (suc k) j r s o h = cases (nat_lt j b.rows) refl
+  where
+    cases : (t : Bool) → nat_lt j b.rows ≡ t → 0 < linked_in b z.memory r
+    cases true e = let m = sum_member b.rows j (λ i. out (z.memory (Gate i)) * to_row (z.memory (Side i)) r) (ltb-true j b.rows e) in
+        let f : out (z.memory (Gate j)) * to_row (z.memory (Side j)) r ≡ 1 = rw (o, h) in omega arith
+    cases false e = absurd (zero_one (null_row _ r (s.outside (Side j) (rw e))) h)
 
 pub none_linked : {n : ℕ} → n ≡ 0 → 0 < n → ⊥
 none_linked h k = omega arith
@@ -190,8 +217,8 @@ roots_out_step b z a op p i r h =
     (λ new. used_stays b z a op a r p (putter_uses b z a op (Root i) r p new))
     (root_source b (z.memory Enrolled) a op (z.seats a) z.memory i r p.fits h)
 
-taken_null : (b : Bounds) (z : World) (a : ℕ) (op : Op) (j : ℕ) → Counted b z → takes op (z.seats a) (read_by z a op) j ≡ true → z.memory (Next j) ≡ 0
-taken_null b z a op j s h = s.free_null j (takes_free op (z.seats a) z.memory a j h)
+taken_null : (b : Bounds) (z : World) (a : ℕ) (op : Op) (n j : ℕ) → Counted b z → takes op (z.seats a) (read_by z a op) j ≡ true → z.memory (link_at n j) ≡ 0
+taken_null b z a op n j s h = s.free_null n j (takes_free op (z.seats a) z.memory a j h)
 
 -- a gate that is out was out, or was taken
 gate_before : (b : Bounds) (z : World) (a : ℕ) (op : Op) (j : ℕ) → LawfulStep b z a op → out ((step_world z a op).memory (Gate j)) ≡ 1
@@ -202,16 +229,16 @@ gate_before b z a op j p h = cases (frees op j) refl
     cases true e = inl (freed b z a op j p e).gone.is_out
     cases false e = gate_source b (z.memory Enrolled) a op (z.seats a) z.memory j p.fits e h
 
-pub nexts_out_step : (b : Bounds) (z : World) (a : ℕ) (op : Op) → LawfulStep b z a op → (j r : ℕ) → out ((step_world z a op).memory (Gate j)) ≡ 1
-    → to_row ((step_world z a op).memory (Next j)) r ≡ 1 → out ((step_world z a op).memory (Gate r)) ≡ 1
-nexts_out_step b z a op p j r o h =
+pub links_out_step : (b : Bounds) (z : World) (a : ℕ) (op : Op) → LawfulStep b z a op → (n j r : ℕ) → out ((step_world z a op).memory (Gate j)) ≡ 1
+    → to_row ((step_world z a op).memory (link_at n j)) r ≡ 1 → out ((step_world z a op).memory (Gate r)) ≡ 1
+links_out_step b z a op p n j r o h =
     ⊎_elim
     (λ old. ⊎_elim
-    (λ was. stays_out b z a op r p (λ f. none_linked f.gone.unlinked (linked_next b z j r p.counted was old)) (p.counted.nexts_out j r was old))
-    (λ got. absurd (zero_one (null_row _ r (taken_null b z a op j p.counted got)) old))
+    (λ was. stays_out b z a op r p (λ f. none_linked f.gone.unlinked (linked_link b z n j r p.counted was old)) (p.counted.links_out n j r was old))
+    (λ got. absurd (zero_one (null_row _ r (taken_null b z a op n j p.counted got)) old))
     (gate_before b z a op j p o))
-    (λ new. used_stays b z a op a r p (putter_uses b z a op (Next j) r p new))
-    (next_source b (z.memory Enrolled) a op (z.seats a) z.memory j r p.fits h)
+    (λ new. used_stays b z a op a r p (putter_uses b z a op (link_at n j) r p new))
+    (links_source b (z.memory Enrolled) a op (z.seats a) z.memory n j r p.fits h)
 
 pub cas_place : (b : Bounds) (e a : ℕ) (p : Word) (x t : RowLink) (d : Agent) → fits b e a (LinkCas p x t) d ≡ true
     → may_place b p (λ r. any_holds d.slots r && not (names d.fresh r)) ≡ true
@@ -222,24 +249,28 @@ cas_place_out b z a p x t s =
     place_out b p _ z.memory (cas_place b (z.memory Enrolled) a p x t (z.seats a) s.fits)
     (λ j h. s.counted.used_out a j (held_uses (z.seats a) j (and_both _ _ h).0))
 
-changed_out : (b : Bounds) (z : World) (a : ℕ) (op : Op) (j : ℕ) → LawfulStep b z a op → changes_next op j ≡ true
+link_row_out : (m : Word → ℕ) (n j : ℕ) → OutPlace m (link_at n j) → out (m (Gate j)) ≡ 1
+link_row_out m zero j h = h
+link_row_out m (suc k) j h = h
+
+changed_out : (b : Bounds) (z : World) (a : ℕ) (op : Op) (n j : ℕ) → LawfulStep b z a op → changes_link op (link_at n j) ≡ true
     → (frees op j ≡ false) × (out (z.memory (Gate j)) ≡ 1)
-changed_out b z a (LinkCas (Next q) x t) j p h = (refl, rw (eqb-true j q h) (cas_place_out b z a (Next q) x t p))
-changed_out b z a (LinkStore q l) j p h = (refl, rw (eqb-true j q h) (store_row_out b z a q l p))
-changed_out b z a (LinkCas w x t) j p h = absurd (false≢true h)
-changed_out b z a op j p h = absurd (false≢true h)
+changed_out b z a (LinkCas w x t) n j p h =
+    (refl, link_row_out z.memory n j (subst (OutPlace z.memory) (sym (same_word-true (link_at n j) w h)) (cas_place_out b z a w x t p)))
+changed_out b z a (LinkStore q nr l) n j p h = (refl, rw (same_link n j nr q h) (store_row_out b z a q nr l p))
+changed_out b z a op n j p h = absurd (false≢true h)
 
 bit_zero : (w x : ℕ) → (out w ≡ 1 → out x ≡ 1) → out x ≡ 0 → out w ≡ 0
 bit_zero w x g h = grind arith
 
-pub free_null_step : (b : Bounds) (z : World) (a : ℕ) (op : Op) → LawfulStep b z a op → (j : ℕ) → out ((step_world z a op).memory (Gate j)) ≡ 0
-    → (step_world z a op).memory (Next j) ≡ 0
-free_null_step b z a op p j h = cases (changes_next op j) (frees op j) refl refl
+pub free_null_step : (b : Bounds) (z : World) (a : ℕ) (op : Op) → LawfulStep b z a op → (n j : ℕ) → out ((step_world z a op).memory (Gate j)) ≡ 0
+    → (step_world z a op).memory (link_at n j) ≡ 0
+free_null_step b z a op p n j h = cases (changes_link op (link_at n j)) (frees op j) refl refl
   where
-    cases : (t u : Bool) → changes_next op j ≡ t → frees op j ≡ u → (step_world z a op).memory (Next j) ≡ 0
-    cases true u t e = let c = changed_out b z a op j p t in absurd (zero_one h (out_stays z.memory b (z.memory Enrolled) a op (z.seats a) j p.fits c.0 c.1))
-    cases false true t e = rw (next_stays b (z.memory Enrolled) a op (z.seats a) z.memory j p.fits t) (freed b z a op j p e).null
+    cases : (t u : Bool) → changes_link op (link_at n j) ≡ t → frees op j ≡ u → (step_world z a op).memory (link_at n j) ≡ 0
+    cases true u t e = let c = changed_out b z a op n j p t in absurd (zero_one h (out_stays z.memory b (z.memory Enrolled) a op (z.seats a) j p.fits c.0 c.1))
+    cases false true t e = rw (links_stay b (z.memory Enrolled) a op (z.seats a) z.memory n j p.fits t) ((freed b z a op j p e).null n)
     cases false false t e =
-        rw (next_stays b (z.memory Enrolled) a op (z.seats a) z.memory j p.fits t)
-        (p.counted.free_null j
+        rw (links_stay b (z.memory Enrolled) a op (z.seats a) z.memory n j p.fits t)
+        (p.counted.free_null n j
         (bit_zero (z.memory (Gate j)) ((step_world z a op).memory (Gate j)) (out_stays z.memory b (z.memory Enrolled) a op (z.seats a) j p.fits e) h))

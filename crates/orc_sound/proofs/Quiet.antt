@@ -5,7 +5,7 @@ use Rattle.std.specs.Prelude.{None, Some, not, slice_index_or, slice_set, ◌&&�
 use Rattle.orc_words.specs.Bounds.{Bounds}
 use Rattle.orc_words.specs.Packed.{bit, count_bits}
 use Rattle.orc_words.specs.declared.place.Word.{Word}
-use Rattle.orc_words.specs.declared.place.Word.TheVariants.{Counter, Enrolled, Gate, Next, Root, Slot}
+use Rattle.orc_words.specs.declared.place.Word.TheVariants.{Counter, Enrolled, Gate, Next, Root, Slot, Side}
 use Rattle.orc_core.proofs.Order.{nothing_pending}
 use Rattle.orc_core.proofs.Within.{and_both}
 use Rattle.orc_core.specs.Actions.{action_of}
@@ -97,6 +97,8 @@ linked_some : (b : Bounds) (m : Word → ℕ) (p : Word) (t : ℕ → Bool) (r :
 linked_some b m (Root i) t r w o h = let e = sum_member b.roots i (λ j. to_row (m (Root j)) r) (ltb-true _ _ w) in omega arith
 linked_some b m (Next i) t r w o h = let e = sum_member b.rows i (λ j. out (m (Gate j)) * to_row (m (Next j)) r) (ltb-true _ _ (and_both _ _ w).0) in
     let f = next_one (out (m (Gate i))) (to_row (m (Next i)) r) o h in omega arith
+linked_some b m (Side i) t r w o h = let e = sum_member b.rows i (λ j. out (m (Gate j)) * to_row (m (Side j)) r) (ltb-true _ _ (and_both _ _ (and_both _ _ w).0).0) in
+    let f = next_one (out (m (Gate i))) (to_row (m (Side i)) r) o h in omega arith
 linked_some b m p t r w o h = absurd o
 
 arm_cases : (u w x : Bool) → (u || (w && not x)) ≡ true → (u ≡ true) ⊎ ((w ≡ true) × (x ≡ false))

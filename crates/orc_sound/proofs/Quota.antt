@@ -1,5 +1,5 @@
 -- A row's sequence stays below a bound: what may still be counted on it falls as it rises.
-use Rattle.std.proofs.Common.{Bool, ap, arith, cond, false, inl, inr, refl, true, ℕ, ⊎_elim, ◌%◌, ◌*◌, ◌+◌, ◌/◌, ◌<◌, ◌^◌, ◌≡◌, ◌≤◌, ◌⊎◌}
+use Rattle.std.proofs.Common.{Bool, ap, arith, cond, false, inl, inr, refl, true, ℕ, ⊎_elim, ◌%◌, ◌*◌, ◌+◌, ◌/◌, ◌<◌, ◌^◌, ◌≡◌, ◌≤◌, ◌⊎◌, zero, suc}
 use Rattle.std.proofs.lemmas.Bool.{eqb-true, false≢true, ltb-true}
 use Rattle.std.specs.Prelude.{None, Option, Some, is_none, nat_lt, not, ◌&&◌, ◌==◌, ◌||◌}
 use Rattle.orc_words.specs.Bounds.{Bounds, IsShape}
@@ -7,13 +7,13 @@ use Rattle.orc_words.specs.Packed.{bit, link_word, named, sequence_of}
 use Rattle.orc_words.specs.Places.{IsWithin}
 use Rattle.orc_words.specs.declared.packed.RowLink.{RowLink}
 use Rattle.orc_words.specs.declared.place.Word.{Word}
-use Rattle.orc_words.specs.declared.place.Word.TheVariants.{Counter, Enrolled, First, Gate, Handover, Next, Root, Second, Slot}
+use Rattle.orc_words.specs.declared.place.Word.TheVariants.{Counter, Enrolled, First, Gate, Handover, Next, Root, Second, Slot, Side}
 use Rattle.orc_core.proofs.Within.{and_both}
 use Rattle.orc_words.specs.Operations.{word_after}
 use Rattle.orc_core.specs.Actions.{action_of, clear_word}
 use Rattle.orc_core.specs.After.{after}
 use Rattle.orc_core.specs.Allowed.{fits, may_change, may_target}
-use Rattle.orc_core.specs.RecordParts.{checked_below, doom_uncut, is_empty, names, same_target, slot_of}
+use Rattle.orc_core.specs.RecordParts.{checked_below, doom_at, is_empty, names, same_target, slot_of}
 use Rattle.orc_core.specs.Sums.{sum_below}
 use Rattle.orc_core.specs.declared.ops.CounterUse.TheVariants.{Check, End, Start}
 use Rattle.orc_core.specs.declared.ops.Op.{Op}
@@ -50,6 +50,7 @@ sequence_write m (Counter q) v r = grind arith
 sequence_write m (First q) v r = refl
 sequence_write m (Second q) v r = refl
 sequence_write m (Next q) v r = refl
+sequence_write m (Side q) v r = refl
 sequence_write m (Slot a k) v r = refl
 sequence_write m (Handover a k) v r = refl
 
@@ -79,23 +80,23 @@ none_may : (d : Agent) (n : ℕ) (o : Option ℕ) → is_none o ≡ true → may
 none_may d n None h = refl
 none_may d n (Some x) h = absurd (false≢true h)
 
-change_or_null : (n e f t c u s k : Bool) → (n && e && ((f && t && c) || (u && s && k))) ≡ true → (c ≡ true) ⊎ (s ≡ true)
-change_or_null n e true t c u s k h = ⊎_elim (λ g. inl (and_both t c g).1) (λ g. inr (and_both u s (and_both (u && s) k g).0).1)
-    (either (t && c) (u && s && k) (and_both (n && e) ((t && c) || (u && s && k)) h).1)
-change_or_null n e false t c u s k h = inr (and_both u s (and_both (u && s) k (and_both (n && e) (u && s && k) h).1).0).1
+change_or_null : (n y e f t c u s k : Bool) → (n && y && e && ((f && t && c) || (u && s && k))) ≡ true → (c ≡ true) ⊎ (s ≡ true)
+change_or_null n y e true t c u s k h = ⊎_elim (λ g. inl (and_both t c g).1) (λ g. inr (and_both u s (and_both (u && s) k g).0).1)
+    (either (t && c) (u && s && k) (and_both (n && y && e) ((t && c) || (u && s && k)) h).1)
+change_or_null n y e false t c u s k h = inr (and_both u s (and_both (u && s) k (and_both (n && y && e) (u && s && k) h).1).0).1
 
-store_may : (b : Bounds) (e a q : ℕ) (l : RowLink) (d : Agent) → fits b e a (LinkStore q l) d ≡ true → may_change d (b.limit + 64) None l.to ≡ true
-store_may b e a q l d f =
+store_may : (b : Bounds) (e a q nr : ℕ) (l : RowLink) (d : Agent) → fits b e a (LinkStore q nr l) d ≡ true → may_change d (b.limit + 64) None l.to ≡ true
+store_may b e a q nr l d f =
     ⊎_elim (λ c. c) (λ s. none_may d (b.limit + 64) l.to s)
-    (change_or_null (nat_lt q b.rows) (is_empty (slot_of d 0)) (names d.fresh q) (may_target b d l.to) (may_change d (b.limit + 64) None l.to)
-    (doom_uncut d.doom q) (is_none l.to) (not l.mark) f)
+    (change_or_null (nat_lt q b.rows) (nat_lt nr b.links) (is_empty (slot_of d 0)) (names d.fresh q) (may_target b d l.to) (may_change d (b.limit + 64) None l.to)
+    (doom_at d.doom q nr) (is_none l.to) (not l.mark) f)
 
 pub pays : (b : Bounds) (e a : ℕ) (op : Op) (d : Agent) (v r : ℕ) → fits b e a op d ≡ true → ((q : ℕ) → op ≡ CounterLoad q Check → ⊥)
     → Pays d (after op d v) r (b.limit + 64)
 pays b e a (GateLook q) d v r f n = omega arith
 pays b e a (GateTake q) d v r f n = omega arith
 pays b e a (LinkCas p x t) d v r f n = cas_pays b d x.to t.to r (b.limit + 64) (v == link_word x) (and_both _ _ f).1
-pays b e a (LinkStore q l) d v r f n = store_pays b d l.to r (b.limit + 64) (same_target (named (v / 2)) l.to) (store_may b e a q l d f)
+pays b e a (LinkStore q nr l) d v r f n = store_pays b d l.to r (b.limit + 64) (same_target (named (v / 2)) l.to) (store_may b e a q nr l d f)
 pays b e a (Inc q) d v r f n = omega arith
 pays b e a (CounterLoad q Check) d v r f n = absurd (n q refl)
 pays b e a (CounterLoad q Start) d v r f n = omega arith
@@ -158,9 +159,14 @@ quota_local b z a (LinkCas (Root i) x t) r p lo h n = let k = balance_kept b z a
 quota_local b z a (LinkCas (Next i) x t) r p lo h n = let k = balance_kept b z a (LinkCas (Next i) x t) r p h in
     let y = pays b (z.memory Enrolled) a (LinkCas (Next i) x t) (z.seats a) (z.memory (action_of a (LinkCas (Next i) x t) (z.seats a)).word) r p.fits
     n in omega arith
+quota_local b z a (LinkCas (Side i) x t) r p lo h n = let k = balance_kept b z a (LinkCas (Side i) x t) r p h in
+    let y = pays b (z.memory Enrolled) a (LinkCas (Side i) x t) (z.seats a) (z.memory (action_of a (LinkCas (Side i) x t) (z.seats a)).word) r p.fits
+    n in omega arith
 quota_local b z a (LinkCas w x t) r p lo h n = absurd (cas_place_out b z a w x t p)
-quota_local b z a (LinkStore q l) r p lo h n = let k = balance_kept b z a (LinkStore q l) r p h in
-    let y = pays b (z.memory Enrolled) a (LinkStore q l) (z.seats a) (z.memory (action_of a (LinkStore q l) (z.seats a)).word) r p.fits n in omega arith
+quota_local b z a (LinkStore q zero l) r p lo h n = let k = balance_kept b z a (LinkStore q zero l) r p h in
+    let y = pays b (z.memory Enrolled) a (LinkStore q zero l) (z.seats a) (z.memory (action_of a (LinkStore q zero l) (z.seats a)).word) r p.fits n in omega arith
+quota_local b z a (LinkStore q (suc ln) l) r p lo h n = let k = balance_kept b z a (LinkStore q (suc ln) l) r p h in
+    let y = pays b (z.memory Enrolled) a (LinkStore q (suc ln) l) (z.seats a) (z.memory (action_of a (LinkStore q (suc ln) l) (z.seats a)).word) r p.fits n in omega arith
 quota_local b z a (Fill q w v) r p lo h n = grind arith
 quota_local b z a (Read q w) r p lo h n = grind arith
 quota_local b z a (GateTake q) r p lo h n = let k = balance_kept b z a (GateTake q) r p h in
@@ -172,12 +178,13 @@ quota_local b z a op r p lo h n = let y = pays b (z.memory Enrolled) a op (z.sea
 -- how far a row's quota may go: the last sequence at which a link may be made, each link word once, and the
 -- changes and checks of all agents
 abbrev pub sequence_room : Bounds → ℕ
-sequence_room b = b.limit + 63 + b.roots + b.rows + 4 * b.agents
+sequence_room b = b.limit + 63 + b.roots + 2 * b.rows + 4 * b.agents
 
-linked_le : (b : Bounds) (m : Word → ℕ) (r : ℕ) → linked_in b m r ≤ b.roots + b.rows
+linked_le : (b : Bounds) (m : Word → ℕ) (r : ℕ) → linked_in b m r ≤ b.roots + 2 * b.rows
 linked_le b m r =
     let l = sum_le b.roots (λ j. to_row (m (Root j)) r) (λ j. bit_le _) in
     let n = sum_le b.rows (λ j. out (m (Gate j)) * to_row (m (Next j)) r) (λ j. link_le _ _ r) in
+    let o = sum_le b.rows (λ j. out (m (Gate j)) * to_row (m (Side j)) r) (λ j. link_le _ _ r) in
     omega arith
 
 -- a check below the limit finds a small sequence, and one above it counts for nothing

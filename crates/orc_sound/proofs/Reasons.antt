@@ -1,11 +1,11 @@
 -- A row that is out has a reason to be out.
-use Rattle.std.proofs.Common.{Bool, ap, arith, cond, false, inl, inr, refl, sym, true, ℕ, ⊎_elim, ◌%◌, ◌*◌, ◌+◌, ◌/◌, ◌<◌, ◌∙◌, ◌≡◌, ◌≢◌, ◌≤◌, ◌⊎◌}
+use Rattle.std.proofs.Common.{Bool, ap, arith, cond, false, inl, inr, refl, sym, true, ℕ, ⊎_elim, ◌%◌, ◌*◌, ◌+◌, ◌/◌, ◌<◌, ◌∙◌, ◌≡◌, ◌≢◌, ◌≤◌, ◌⊎◌, zero, suc}
 use Rattle.std.proofs.lemmas.Bool.{eq-eqb, eqb-false, eqb-true, false≢true, ne_eqb}
 use Rattle.std.specs.Prelude.{None, Option, Some, is_none, is_some, not, ◌&&◌, ◌==◌, ◌||◌}
 use Rattle.orc_words.specs.Bounds.{Bounds}
 use Rattle.orc_words.specs.Packed.{bit, count_bits, link_word, named, retired_bit, sequence_of}
 use Rattle.orc_words.specs.declared.place.Word.{Word}
-use Rattle.orc_words.specs.declared.place.Word.TheVariants.{Counter, First, Gate, Next, Root, Second}
+use Rattle.orc_words.specs.declared.place.Word.TheVariants.{Counter, First, Gate, Next, Root, Second, Side}
 use Rattle.orc_core.proofs.Order.{nothing_pending}
 use Rattle.orc_core.proofs.Within.{and_both}
 use Rattle.orc_words.specs.Operations.{word_after}
@@ -130,10 +130,10 @@ cas_reason d f t r w true false false h i = let k = none_names d.inc r i in omeg
 cas_reason d f t r w true true n h i = omega arith
 cas_reason d f t r w false s n h i = omega arith
 
-store_reason : (d : Agent) (q : ℕ) (t : Option ℕ) (r w : ℕ) (s : Bool) → is_none d.inc ≡ true → reasons d w r ≤ bit (names d.fresh r)
-    + bit (names (cond s d.inc t) r) + bit (is_due d.due r (sequence_of w)) + bit (doom_bare (cut_of d.doom q) r)
-store_reason d q t r w true i = let c = ap bit (cut_bare d.doom q r) in omega arith
-store_reason d q t r w false i = let c = ap bit (cut_bare d.doom q r) in let k = none_names d.inc r i in omega arith
+store_reason : (d : Agent) (q nr : ℕ) (t : Option ℕ) (r w : ℕ) (s : Bool) → is_none d.inc ≡ true → reasons d w r ≤ bit (names d.fresh r)
+    + bit (names (cond s d.inc t) r) + bit (is_due d.due r (sequence_of w)) + bit (doom_bare (cut_of d.doom q nr) r)
+store_reason d q nr t r w true i = let c = ap bit (cut_bare d.doom q nr r) in omega arith
+store_reason d q nr t r w false i = let c = ap bit (cut_bare d.doom q nr r) in let k = none_names d.inc r i in omega arith
 
 bare_others : (o : Option Doom) (q r : ℕ) → doom_bare o q ≡ true → (q == r) ≡ false → bit (doom_bare o r) ≡ 0
 bare_others None q r h n = refl
@@ -152,16 +152,16 @@ free_reason m d q r false e h o l = let n : (q == r) ≡ false = ne_eqb q r (λ 
     inl (refl, omega arith, omega arith)
 
 end_reason : (d : Agent) (q r w : ℕ) (t : Bool) → d.doom ≡ None → reasons d w r ≤ bit (names d.fresh r) + bit (names d.inc r)
-    + bit (is_due d.due r (sequence_of w)) + bit (doom_bare (cond t (Some (record { row = q; cut = false; bare = false })) d.doom) r)
+    + bit (is_due d.due r (sequence_of w)) + bit (doom_bare (cond t (Some (record { row = q; cuts = 0; bare = false })) d.doom) r)
 end_reason d q r w t h = rw h (omega arith)
 
 bare_more : (o : Option Doom) (r : ℕ) → bit (doom_bare o r) ≤ bit (doom_bare (bared o) r)
 bare_more None r = omega arith
 bare_more (Some x) r = grind arith
 
-cut_bared : (o : Option Doom) (q : ℕ) → doom_cut o q ≡ true → doom_bare (bared o) q ≡ true
-cut_bared None q h = h
-cut_bared (Some x) q h = grind arith
+cut_bared : (links : ℕ) (o : Option Doom) (q : ℕ) → doom_cut links o q ≡ true → doom_bare (bared o) q ≡ true
+cut_bared links None q h = h
+cut_bared links (Some x) q h = grind arith
 
 due_if : (t : Bool) (q r x s : ℕ) (o : Option Reading) → is_none o ≡ true → (q == r) ≡ false
     → bit (is_due o r s) ≤ bit (is_due (cond t (due_after q x o) o) r s)
@@ -218,20 +218,20 @@ set_reason m d q n r a false w e u =
     cases false h k = let g = ap bit h in omega arith
 
 no_scan_cut : (b : Bounds) (d : Agent) (q : ℕ) → is_some d.scan ≡ false
-    → ((scans d.scan q && not (scan_empty d.scan) && holds (slot_of d 0) q) || doom_cut d.doom q) ≡ true → doom_cut d.doom q ≡ true
+    → ((scans d.scan q && not (scan_empty d.scan) && holds (slot_of d 0) q) || doom_cut b.links d.doom q) ≡ true → doom_cut b.links d.doom q ≡ true
 no_scan_cut b d q n h = grind arith
 
-unretire_reason : (m : Word → ℕ) (d : Agent) (q r x : ℕ) (t s : Bool) → (r == q) ≡ t → (s ≡ false → doom_cut d.doom q ≡ true) → is_none d.due ≡ true
+unretire_reason : (m : Word → ℕ) (links : ℕ) (d : Agent) (q r x : ℕ) (t s : Bool) → (r == q) ≡ t → (s ≡ false → doom_cut links d.doom q ≡ true) → is_none d.due ≡ true
     → (0 < shows (cond t x (m (Counter r)))
     + (bit (names d.fresh r) + bit (names d.inc r) + bit (is_due (cond s (due_after q x d.due) d.due) r (sequence_of (cond t x (m (Counter r)))))
     + bit (doom_bare (bared d.doom) r)))
     ⊎ ((cond t x (m (Counter r)) ≡ m (Counter r))
     × (reasons d (m (Counter r)) r ≤ bit (names d.fresh r) + bit (names d.inc r)
     + bit (is_due (cond s (due_after q x d.due) d.due) r (sequence_of (m (Counter r)))) + bit (doom_bare (bared d.doom) r)))
-unretire_reason m d q r x true true e c u = let k = counted x r d.due in inl (rw (← eqb-true r q e) (omega arith))
-unretire_reason m d q r x true false e c u = let k : doom_bare (bared d.doom) r ≡ true = rw (eqb-true r q e) (cut_bared d.doom q (c refl)) in
+unretire_reason m links d q r x true true e c u = let k = counted x r d.due in inl (rw (← eqb-true r q e) (omega arith))
+unretire_reason m links d q r x true false e c u = let k : doom_bare (bared d.doom) r ≡ true = rw (eqb-true r q e) (cut_bared links d.doom q (c refl)) in
     let g = ap bit k in inl (omega arith)
-unretire_reason m d q r x false s e c u = let n : (q == r) ≡ false = ne_eqb q r (λ p. eqb-false r q e (sym p)) in
+unretire_reason m links d q r x false s e c u = let n : (q == r) ≡ false = ne_eqb q r (λ p. eqb-false r q e (sym p)) in
     let k = due_if s q r x (sequence_of (m (Counter r))) d.due u n in let g = bare_more d.doom r in inr (refl, omega arith)
 
 pub reason : (b : Bounds) (e a : ℕ) (op : Op) (d : Agent) (m : Word → ℕ) (r : ℕ) → fits b e a op d ≡ true → forced d op ≡ true
@@ -255,13 +255,27 @@ reason b e a (LinkCas (Next i) x t) d m r f u z g =
       cas_reason d x.to t.to r (m (Counter r)) (m (Next i) == link_word x) (same_target x.to t.to)
           (same_target d.fresh t.to) (same_names d.fresh t.to r) (is_none_of d.inc (nothing_pending d.due d.inc d.dec (LinkCas (Next i) x t) refl u).1),
     ))
-reason b e a (LinkCas p x t) d m r f u z g = grind arith
-reason b e a (LinkStore q l) d m r f u z g =
+reason b e a (LinkCas (Side i) x t) d m r f u z g =
     inr (inl (
       refl,
       omega arith,
-      store_reason d q l.to r (m (Counter r)) (same_target (named (m (Next q) / 2)) l.to)
-          (is_none_of d.inc (nothing_pending d.due d.inc d.dec (LinkStore q l) refl u).1),
+      cas_reason d x.to t.to r (m (Counter r)) (m (Side i) == link_word x) (same_target x.to t.to)
+          (same_target d.fresh t.to) (same_names d.fresh t.to r) (is_none_of d.inc (nothing_pending d.due d.inc d.dec (LinkCas (Side i) x t) refl u).1),
+    ))
+reason b e a (LinkCas p x t) d m r f u z g = grind arith
+reason b e a (LinkStore q zero l) d m r f u z g =
+    inr (inl (
+      refl,
+      omega arith,
+      store_reason d q zero l.to r (m (Counter r)) (same_target (named (m (Next q) / 2)) l.to)
+          (is_none_of d.inc (nothing_pending d.due d.inc d.dec (LinkStore q zero l) refl u).1),
+    ))
+reason b e a (LinkStore q (suc ln) l) d m r f u z g =
+    inr (inl (
+      refl,
+      omega arith,
+      store_reason d q (suc ln) l.to r (m (Counter r)) (same_target (named (m (Side q) / 2)) l.to)
+          (is_none_of d.inc (nothing_pending d.due d.inc d.dec (LinkStore q (suc ln) l) refl u).1),
     ))
 reason b e a (Inc q) d m r f u z g =
     ⊎_elim (λ k. inl k) (λ k. inr (inl (k.0, omega arith, k.1)))
@@ -280,7 +294,7 @@ reason b e a (CounterLoad q End) d m r f u z g =
     inr (inl (write_same m (Counter q) (Counter r), omega arith, end_reason d q r (m (Counter r)) (m (Counter q) == kept d.scan) (z q refl)))
 reason b e a (Unretire q) d m r f u z g =
     ⊎_elim (λ k. inl k) (λ k. inr (inl (k.0, omega arith, k.1)))
-    (unretire_reason m d q r ((m (Counter q) + 18446744073701163008) % 18446744073709551616) (r == q) (is_some d.scan) refl
+    (unretire_reason m b.links d q r ((m (Counter q) + 18446744073701163008) % 18446744073709551616) (r == q) (is_some d.scan) refl
     (λ n. no_scan_cut b d q n (and_both _ _ f).1) (is_none_of d.due (nothing_pending d.due d.inc d.dec (Unretire q) refl u).0))
 reason b e a (Fill q w v) d m r f u z g = inr (inl (fill_counter m q w v r, fill_gate m q w v r, omega arith))
 reason b e a (Read q w) d m r f u z g =

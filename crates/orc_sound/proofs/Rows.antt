@@ -1,11 +1,11 @@
 -- Handover words, hands and work lists name rows of the table.
-use Rattle.std.proofs.Common.{Bool, List, [], ap, arith, cond, drop, false, inl, inr, length, refl, subst, sym, true, ℕ, ⊎_elim, ◌%◌, ◌++◌, ◌+◌, ◌/◌, ◌<◌, ◌∙◌, ◌∷◌, ◌≡◌, ◌≤◌, ◌⊎◌}
+use Rattle.std.proofs.Common.{Bool, List, [], ap, arith, cond, drop, false, inl, inr, length, refl, subst, sym, true, ℕ, ⊎_elim, ◌%◌, ◌++◌, ◌+◌, ◌/◌, ◌<◌, ◌∙◌, ◌∷◌, ◌≡◌, ◌≤◌, ◌⊎◌, zero, suc}
 use Rattle.std.proofs.lemmas.Bool.{eq-eqb, eqb-true, false≢true, ltb-true}
 use Rattle.std.specs.Prelude.{None, Option, Some, nat_lt, ◌==◌}
 use Rattle.orc_words.specs.Bounds.{Bounds}
 use Rattle.orc_words.specs.Packed.{bit, named}
 use Rattle.orc_words.specs.declared.place.Word.{Word}
-use Rattle.orc_words.specs.declared.place.Word.TheVariants.{Enrolled, First, Handover, Next, Root, Second}
+use Rattle.orc_words.specs.declared.place.Word.TheVariants.{Enrolled, First, Handover, Next, Root, Second, Side}
 use Rattle.orc_core.proofs.Within.{and_both}
 use Rattle.orc_words.specs.Operations.{word_after}
 use Rattle.orc_core.specs.Actions.{action_of, clear_word}
@@ -16,7 +16,7 @@ use Rattle.orc_core.specs.RecordParts.{names, scan_found, scanned, scans}
 use Rattle.orc_core.specs.Sums.{sum_below}
 use Rattle.orc_core.specs.declared.ops.CounterUse.TheVariants.{Check, End, Start}
 use Rattle.orc_core.specs.declared.ops.Op.{Op}
-use Rattle.orc_core.specs.declared.ops.Op.TheVariants.{CounterLoad, Fill, Hand, LinkCas, LinkLoad, Read, SetRetired, TakeIn}
+use Rattle.orc_core.specs.declared.ops.Op.TheVariants.{CounterLoad, Fill, Hand, LinkCas, LinkLoad, Read, SetRetired, TakeIn, LinkStore}
 use Rattle.orc_core.specs.declared.records.Agent.{Agent}
 use Rattle.orc_core.specs.declared.records.Scan.{Scan}
 use Rattle.orc_sound.proofs.Facts.{Counted, LawfulStep}
@@ -44,11 +44,14 @@ handover_stays : (b : Bounds) (e a : ℕ) (op : Op) (d : Agent) (m : Word → �
 handover_stays b e a (LinkLoad p j) d m x k f n = write_same m p (Handover x k)
 handover_stays b e a (LinkCas (Root i) y t) d m x k f n = refl
 handover_stays b e a (LinkCas (Next i) y t) d m x k f n = refl
+handover_stays b e a (LinkCas (Side i) y t) d m x k f n = refl
 handover_stays b e a (LinkCas p y t) d m x k f n = grind arith
 handover_stays b e a (Fill q w v) d m x k f n = grind arith
 handover_stays b e a (Read q w) d m x k f n = write_same m (cond (w == 0) (First q) (Second q)) (Handover x k)
 handover_stays b e a (Hand j) d m x k f n = absurd (false≢true (sym n))
 handover_stays b e a (TakeIn j) d m x k f n = absurd (false≢true (sym n))
+handover_stays b e a (LinkStore lq zero ll) d m x k f n = refl
+handover_stays b e a (LinkStore lq (suc ln) ll) d m x k f n = refl
 handover_stays b e a op d m x k f n = refl
 
 found_scans : (o : Option Scan) → scan_found o ≡ true → scans o (scanned o) ≡ true

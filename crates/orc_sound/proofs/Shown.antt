@@ -5,9 +5,9 @@ use Rattle.std.proofs.lemmas.Int.{ints}
 use Rattle.std.specs.Prelude.{nat_le, nat_lt, negsuc, not, pos, ◌&&◌, ◌+ℤ◌, ◌-ℤ◌, ◌==◌, ◌||◌, ◌≤ℤ◌}
 use Rattle.orc_words.specs.Bounds.{IsShape}
 use Rattle.orc_words.specs.Packed.{bit, count_bits, counter_of, retired_bit, sequence_of}
-use Rattle.orc_words.specs.Places.{IsWithin}
+use Rattle.orc_words.specs.Places.{IsWithin, link_at}
 use Rattle.orc_words.specs.declared.place.Word.{Word}
-use Rattle.orc_words.specs.declared.place.Word.TheVariants.{Counter, Gate, Handover, Next, Root, Slot}
+use Rattle.orc_words.specs.declared.place.Word.TheVariants.{Counter, Gate, Handover, Next, Root, Slot, Side}
 use Rattle.orc_core.specs.Counts.{is_out, is_retired, links_to}
 use Rattle.orc_core.specs.Machine.{Machine, record_at, word_in}
 use Rattle.orc_core.specs.RecordParts.{doom_bare, holds, is_due, names, slot_of}
@@ -15,21 +15,21 @@ use Rattle.orc_core.specs.Sums.{count_below, some_below, sum_below}
 use Rattle.orc_core.specs.declared.records.Agent.{Agent}
 use Rattle.orc_sound.proofs.AllFits.{AllFits, low_sequences}
 use Rattle.orc_sound.proofs.Bridge.{IsWithin-is_within}
-use Rattle.orc_sound.proofs.DoomedStep.{cut_dooms_row, gone_count, no_decs, no_incs, out_below}
+use Rattle.orc_sound.proofs.DoomedStep.{gone_count, no_decs, no_incs, out_below, past_dooms}
 use Rattle.orc_sound.proofs.Facts.{Balanced, Counted, Doomed, handed_in, hands_row, linked_in, out, to_row}
 use Rattle.orc_sound.proofs.Fresh.{free_unnamed, not_one}
 use Rattle.orc_sound.proofs.Lives.{LivesFit}
-use Rattle.orc_sound.proofs.Outs.{bare_dooms, zero_one}
+use Rattle.orc_sound.proofs.Outs.{bare_dooms, null_row, zero_one}
 use Rattle.orc_sound.proofs.Quiet.{Loose, Pinned}
 use Rattle.orc_sound.proofs.Reasons.{HasReason, reasons}
 use Rattle.orc_sound.proofs.Scans.{ScanFits, empty_kept, hold_word}
 use Rattle.orc_sound.proofs.Seats.{both_ways, either, not_true}
-use Rattle.orc_sound.proofs.Sums.{sum_same, sum_zero}
+use Rattle.orc_sound.proofs.Sums.{sum_add, sum_same, sum_zero}
 use Rattle.orc_sound.proofs.Uses.{dec_uses, due_uses, fresh_uses, held_uses, inc_uses}
 use Rattle.orc_sound.proofs.World.{world_of}
 use Rattle.orc_sound.specs.Balance.{Balance, decrements, increments}
 use Rattle.orc_sound.specs.Doomed.{DoomedRows, FreeRows, dooms}
-use Rattle.orc_sound.specs.Linked.{IsOut, IsUnreachable, changes, holds_row, linked, uses}
+use Rattle.orc_sound.specs.Linked.{IsOut, IsUnreachable, changes, holds_row, linked, uses, linked_from}
 use Rattle.orc_sound.specs.NoLeak.{NoLeak, keeps_out}
 use Rattle.orc_sound.specs.SoundParts.{Enrolment, FreshRows, Looks, Ranges, Scans, Slots, Targets}
 use Rattle.orc_sound.specs.QuietScan.{IsLeft, QuietScans, holds_from, is_linked_anew}
@@ -39,6 +39,11 @@ use Rattle.orc_sound.specs.Sound.{IsSound}
 -- a word within the shape is shown as it is
 pub word_shown : (m : Machine) (w : Word) → IsWithin m.bounds w → (world_of m).memory w ≡ word_in m w
 word_shown m w h = rw (IsWithin-is_within m.bounds w h)
+
+-- a row's link word is shown as it is
+pub link_shown : (m : Machine) (n j : ℕ) → n < m.bounds.links → j < m.bounds.rows → (world_of m).memory (link_at n j) ≡ word_in m (link_at n j)
+link_shown m zero j l h = word_shown m (Next j) h
+link_shown m (suc k) j l h = word_shown m (Side j) (h, (let i : 1 < m.bounds.links = omega arith in i))
 
 pub out_shown : (m : Machine) (r : ℕ) → out ((world_of m).memory (Gate r)) ≡ 1 → IsOut m r
 out_shown m r h = cases (nat_lt r m.bounds.rows) refl h
@@ -59,27 +64,67 @@ both_bits g l = cases (g % 2 == 1) l refl
     cases false true e = let n : g % 2 ≢ 1 = eqb-false (g % 2) 1 e in omega arith
     cases false false e = omega arith
 
-pub linked_shown : (m : Machine) (r : ℕ) → linked_in m.bounds (world_of m).memory r ≡ linked m r
-linked_shown m r =
+next_shown : (m : Machine) (r j : ℕ) → j < m.bounds.rows → out ((world_of m).memory (Gate j)) * to_row ((world_of m).memory (Next j)) r ≡ bit
+    (is_out m j && links_to (word_in m (Next j)) r)
+next_shown m r j h = rw (word_shown m (Gate j) h, word_shown m (Next j) h) (both_bits (word_in m (Gate j)) (links_to (word_in m (Next j)) r))
+
+side_shown : (m : Machine) (r j : ℕ) → j < m.bounds.rows → 1 < m.bounds.links
+    → out ((world_of m).memory (Gate j)) * to_row ((world_of m).memory (Side j)) r ≡ bit (is_out m j && links_to (word_in m (Side j)) r)
+side_shown m r j h l = rw (word_shown m (Gate j) h, word_shown m (Side j) (h, l)) (both_bits (word_in m (Gate j)) (links_to (word_in m (Side j)) r))
+
+-- a second link that the shape doesn't have is the word 0
+side_none : (m : Machine) (r j : ℕ) → nat_lt 1 m.bounds.links ≡ false → out ((world_of m).memory (Gate j)) * to_row ((world_of m).memory (Side j)) r ≡ 0
+side_none m r j e = rw (hidden (nat_lt j m.bounds.rows), null_row 0 r refl) (omega arith)
+  where
+    hidden : (t : Bool) → cond (t && nat_lt 1 m.bounds.links) (word_in m (Side j)) 0 ≡ 0
+    hidden true = rw e
+    hidden false = refl
+
+-- the first two numbers
+two_terms : (n : ℕ) (f : ℕ → ℕ) → 1 ≤ n → n ≤ 2 → (t : Bool) → nat_lt 1 n ≡ t → sum_below n f ≡ f 0 + cond t (f 1) 0
+two_terms zero f h k t e = absurd (omega arith)
+two_terms (suc zero) f h k true e = absurd (omega (arith, ltb-true 1 1 e))
+two_terms (suc zero) f h k false e = omega arith
+two_terms (suc (suc zero)) f h k true e = omega arith
+two_terms (suc (suc zero)) f h k false e = absurd (false≢true (sym e))
+two_terms (suc (suc (suc n))) f h k t e = absurd (omega arith)
+
+row_shown : (m : Machine) (r j : ℕ) → IsShape m.bounds → j < m.bounds.rows → out ((world_of m).memory (Gate j)) * to_row ((world_of m).memory (Next j)) r
+    + out ((world_of m).memory (Gate j)) * to_row ((world_of m).memory (Side j)) r ≡ linked_from m r j
+row_shown m r j shape h = cases (nat_lt 1 m.bounds.links) refl
+  where
+    cases : (t : Bool) → nat_lt 1 m.bounds.links ≡ t → out ((world_of m).memory (Gate j)) * to_row ((world_of m).memory (Next j)) r
+        + out ((world_of m).memory (Gate j)) * to_row ((world_of m).memory (Side j)) r ≡ linked_from m r j
+    cases true e =
+        let a = next_shown m r j h in let b = side_shown m r j h (ltb-true 1 m.bounds.links e) in
+        let c = two_terms m.bounds.links (λ n. bit (is_out m j && links_to (word_in m (link_at n j)) r)) shape.links.0 shape.links.1 true e in omega arith
+    cases false e =
+        let a = next_shown m r j h in let b = side_none m r j e in
+        let c = two_terms m.bounds.links (λ n. bit (is_out m j && links_to (word_in m (link_at n j)) r)) shape.links.0 shape.links.1 false e in omega arith
+
+pub linked_shown : (m : Machine) (r : ℕ) → IsShape m.bounds → linked_in m.bounds (world_of m).memory r ≡ linked m r
+linked_shown m r shape =
     let i = sum_same m.bounds.roots (λ j. to_row ((world_of m).memory (Root j)) r) (λ j. bit (links_to (word_in m (Root j)) r))
     (λ j h. rw (word_shown m (Root j) h)) in
-    let n = sum_same m.bounds.rows (λ j. out ((world_of m).memory (Gate j)) * to_row ((world_of m).memory (Next j)) r)
-    (λ j. bit (is_out m j && links_to (word_in m (Next j)) r))
-    (λ j h. rw (word_shown m (Gate j) h, word_shown m (Next j) h) (both_bits (word_in m (Gate j)) (links_to (word_in m (Next j)) r))) in
+    let n = sum_add m.bounds.rows (λ j. out ((world_of m).memory (Gate j)) * to_row ((world_of m).memory (Next j)) r)
+    (λ j. out ((world_of m).memory (Gate j)) * to_row ((world_of m).memory (Side j)) r) in
+    let e = sum_same m.bounds.rows (λ j. out ((world_of m).memory (Gate j)) * to_row ((world_of m).memory (Next j)) r
+    + out ((world_of m).memory (Gate j)) * to_row ((world_of m).memory (Side j)) r) (linked_from m r)
+    (λ j h. row_shown m r j shape h) in
     omega arith
 
 -- a counter in balance, as an integer
 pub count_is : (c i l d : ℕ) → c + i ≡ 4194304 + l + d → pos c -ℤ pos 4194304 ≡ (pos l -ℤ pos i) +ℤ pos d
 count_is c i l d e = omega (arith, ints)
 
-count_shown : (m : Machine) (r : ℕ) → r < m.bounds.rows → Balanced m.bounds (world_of m) r
+count_shown : (m : Machine) (r : ℕ) → IsShape m.bounds → r < m.bounds.rows → Balanced m.bounds (world_of m) r
     → (counter_of (word_in m (Counter r))).count ≡ (pos (linked m r) -ℤ pos (increments m r)) +ℤ pos (decrements m r)
-count_shown m r h e =
-    count_is (count_bits (word_in m (Counter r))) (increments m r) (linked m r) (decrements m r) (rw (word_shown m (Counter r) h, linked_shown m r) at e)
+count_shown m r shape h e =
+    count_is (count_bits (word_in m (Counter r))) (increments m r) (linked m r) (decrements m r) (rw (word_shown m (Counter r) h, linked_shown m r shape) at e)
 
-pub balance_shown : (m : Machine) → Counted m.bounds (world_of m) → Balance m
-balance_shown m s = record {
-  count = λ r h. count_shown m r h (s.balance r h);
+pub balance_shown : (m : Machine) → IsShape m.bounds → Counted m.bounds (world_of m) → Balance m
+balance_shown m shape s = record {
+  count = λ r h. count_shown m r shape h (s.balance r h);
   held = λ a r l h. ⊎_elim (λ i. s.inc_held a r i) (λ d. s.due_held a r d) (either _ _ h);
   out = λ a r l h. out_shown m r
       (s.used_out a r
@@ -123,7 +168,7 @@ unnamed_link w r h = not_true (links_to w r) (λ k. zero_one h (ap bit k))
 pub targets_shown : (m : Machine) → Counted m.bounds (world_of m) → Targets m
 targets_shown m s = record {
   roots = λ i r h k. out_shown m r (s.roots_out i r (rw (word_shown m (Root i) h) (named_link _ r k)));
-  nexts = λ j r h k. out_shown m r (s.nexts_out j r (out_hidden m j h) (rw (word_shown m (Next j) h.0) (named_link _ r k)));
+  links = λ n j r l h k. out_shown m r (s.links_out n j r (out_hidden m j h) (rw (link_shown m n j l h.0) (named_link _ r k)));
 }
 
 bit_clear : (w : ℕ) → w % 2 ≡ 0 → (w % 2 == 1) ≡ false
@@ -135,7 +180,7 @@ fresh_shown m s = record {
   clear = λ a r h k. bit_clear _ (rw (word_shown m (Counter r) (is_out_row a r k).0) at (s.fresh_bit a r k));
   alone = λ a x r h g n k. s.fresh_alone a x r k n;
   roots = λ a i r h g k. unnamed_link _ r (rw (word_shown m (Root i) g) at (s.fresh_root a i r k));
-  nexts = λ a j r h g n k. unnamed_link _ r (rw (word_shown m (Next j) g) at (s.fresh_next a j r k n));
+  links = λ a i j r h l g n k. unnamed_link _ r (rw (link_shown m i j l g) at (s.fresh_links a i j r k n));
 }
   where
     is_out_row : (a r : ℕ) → names (record_at m a).fresh r ≡ true → IsOut m r
@@ -170,10 +215,10 @@ pub count_zero : (w : ℕ) → count_bits w ≡ 4194304 → pos (count_bits w) -
 count_zero w h = rw h refl
 
 -- a row that nothing links or uses, whose count is 0, can't be reached
-unreachable : (m : Machine) (r : ℕ) → r < m.bounds.rows → linked_in m.bounds (world_of m).memory r ≡ 0
+unreachable : (m : Machine) (r : ℕ) → IsShape m.bounds → r < m.bounds.rows → linked_in m.bounds (world_of m).memory r ≡ 0
     → count_bits ((world_of m).memory (Counter r)) ≡ 4194304 → ((a : ℕ) → uses (record_at m a) r ≡ false) → IsUnreachable m r
-unreachable m r l n c u = record {
-  linked = sym (linked_shown m r) ∙ n;
+unreachable m r shape l n c u = record {
+  linked = sym (linked_shown m r shape) ∙ n;
   held = none_below m.bounds.agents (λ a. holds_row m a r)
       (λ a h. not_true (holds_row m a r) (λ k. both_ways (uses (record_at m a) r) (held_uses (record_at m a) r k) (u a)));
   changes = none_below m.bounds.agents (λ a. changes (record_at m a) r)
@@ -184,14 +229,14 @@ unreachable m r l n c u = record {
     changes_use : (d : Agent) (r : ℕ) → changes d r ≡ true → uses d r ≡ true
     changes_use d r h = grind arith
 
-pub doomed_shown : (m : Machine) → Counted m.bounds (world_of m) → Doomed m.bounds (world_of m) → DoomedRows m
-doomed_shown m s d = record {
+pub doomed_shown : (m : Machine) → IsShape m.bounds → Counted m.bounds (world_of m) → Doomed m.bounds (world_of m) → DoomedRows m
+doomed_shown m shape s d = record {
   out = λ a r h k. out_shown m r (d.gone a r k).is_out;
   unreachable = λ a r h k. let g = d.gone a r k in
-      unreachable m r (out_below m.bounds (world_of m) r s g.is_out) g.unlinked (gone_count m.bounds (world_of m) r s g) g.unused;
+      unreachable m r shape (out_below m.bounds (world_of m) r s g.is_out) g.unlinked (gone_count m.bounds (world_of m) r s g) g.unused;
   alone = λ a x r h g k l. d.alone a x r k l;
-  null = λ a r h k. let g = d.gone a r (cut_dooms_row (record_at m a).doom r k) in
-      rw (word_shown m (Next r) (out_below m.bounds (world_of m) r s g.is_out)) at (d.null a r k);
+  null = λ a r n h l k. let g = d.gone a r (past_dooms (record_at m a).doom r n k) in
+      rw (link_shown m n r l (out_below m.bounds (world_of m) r s g.is_out)) at (d.null a r n k);
   bare = λ a r h k. let g = d.gone a r (bare_dooms (record_at m a).doom r k) in
       (d.cut a r k, bit_clear _ (rw (word_shown m (Counter r) (out_below m.bounds (world_of m) r s g.is_out)) at (d.clear a r k)));
 }
@@ -201,8 +246,8 @@ unset : (w : ℕ) → (w % 2 == 1) ≡ false → w % 2 ≡ 0
 unset w h = let n : w % 2 ≢ 1 = eqb-false (w % 2) 1 h in omega arith
 
 -- a free row isn't linked or used
-pub free_gone : (m : Machine) (r : ℕ) → Counted m.bounds (world_of m) → r < m.bounds.rows → out ((world_of m).memory (Gate r)) ≡ 0 → IsUnreachable m r
-free_gone m r s l f = unreachable m r l unlinked (count_zero_of unlinked) unused
+pub free_gone : (m : Machine) (r : ℕ) → IsShape m.bounds → Counted m.bounds (world_of m) → r < m.bounds.rows → out ((world_of m).memory (Gate r)) ≡ 0 → IsUnreachable m r
+free_gone m r shape s l f = unreachable m r shape l unlinked (count_zero_of unlinked) unused
   where
     unused : (a : ℕ) → uses (record_at m a) r ≡ false
     unused a = not_true (uses (record_at m a) r) (λ u. zero_one f (s.used_out a r u))
@@ -210,22 +255,23 @@ free_gone m r s l f = unreachable m r l unlinked (count_zero_of unlinked) unused
     root_none : (i : ℕ) → to_row ((world_of m).memory (Root i)) r ≡ 0
     root_none i = not_one _ (λ k. zero_one f (s.roots_out i r k))
 
-    next_none : (j : ℕ) → out ((world_of m).memory (Gate j)) * to_row ((world_of m).memory (Next j)) r ≡ 0
-    next_none j = rw (not_one _ (λ k. free_unnamed m.bounds (world_of m) j r s f k)) (omega arith)
+    link_none : (n j : ℕ) → out ((world_of m).memory (Gate j)) * to_row ((world_of m).memory (link_at n j)) r ≡ 0
+    link_none n j = rw (not_one _ (λ k. free_unnamed m.bounds (world_of m) n j r s f k)) (omega arith)
 
     unlinked : linked_in m.bounds (world_of m).memory r ≡ 0
     unlinked = let i = sum_zero m.bounds.roots (λ i. to_row ((world_of m).memory (Root i)) r) root_none in
-        let j = sum_zero m.bounds.rows (λ j. out ((world_of m).memory (Gate j)) * to_row ((world_of m).memory (Next j)) r) next_none in omega arith
+        let j = sum_zero m.bounds.rows (λ j. out ((world_of m).memory (Gate j)) * to_row ((world_of m).memory (Next j)) r) (link_none 0) in
+        let k = sum_zero m.bounds.rows (λ j. out ((world_of m).memory (Gate j)) * to_row ((world_of m).memory (Side j)) r) (link_none 1) in omega arith
 
     count_zero_of : linked_in m.bounds (world_of m).memory r ≡ 0 → count_bits ((world_of m).memory (Counter r)) ≡ 4194304
     count_zero_of n = let e = s.balance r l in let i = no_incs m.bounds (world_of m) r unused in let d = no_decs m.bounds (world_of m) r unused in omega arith
 
-pub free_shown : (m : Machine) → Counted m.bounds (world_of m) → Doomed m.bounds (world_of m) → FreeRows m
-free_shown m s d = record {
-  unreachable = λ r h k. free_gone m r s h (hidden r h k);
+pub free_shown : (m : Machine) → IsShape m.bounds → Counted m.bounds (world_of m) → Doomed m.bounds (world_of m) → FreeRows m
+free_shown m shape s d = record {
+  unreachable = λ r h k. free_gone m r shape s h (hidden r h k);
   clear = λ r h k. not_true (is_retired m r)
       (λ t. both_ways (is_out m r) (out_shown m r (s.bit_out r (rw (word_shown m (Counter r) h) (eqb-true (retired_bit (word_in m (Counter r))) 1 t)))).1 k);
-  null = λ r h k. rw (word_shown m (Next r) h) at (s.free_null r (hidden r h k));
+  null = λ r n h l k. rw (link_shown m n r l h) at (s.free_null n r (hidden r h k));
   undoomed = λ a r h l k. not_true (dooms (record_at m a).doom r) (λ t. zero_one (hidden r l k) (d.gone a r t).is_out);
 }
   where
@@ -263,8 +309,8 @@ leak_shown m h r o =
         let n = rw (word_shown m (Counter r) o.0) at (h r o.0) in
         absurd (omega arith)
 
-pub quiet_shown : (m : Machine) → Counted m.bounds (world_of m) → ((a : ℕ) → ScanFits m.bounds (world_of m) (record_at m a).scan) → QuietScans m
-quiet_shown m s f a r k h i j o e =
+pub quiet_shown : (m : Machine) → IsShape m.bounds → Counted m.bounds (world_of m) → ((a : ℕ) → ScanFits m.bounds (world_of m) (record_at m a).scan) → QuietScans m
+quiet_shown m shape s f a r k h i j o e =
     let l = (f a).row r i in
     let q = rw (← word_shown m (Counter r) l) at e in
     ⊎_elim
@@ -286,7 +332,7 @@ quiet_shown m s f a r k h i j o e =
 
     left : Loose m.bounds (world_of m) r k → r < m.bounds.rows → count_bits ((world_of m).memory (Counter r)) ≡ 4194304 → IsLeft m r k
     left n l c = record {
-      linked = let b = s.balance r l in let i = n.no_inc in let e = linked_shown m r in omega arith;
+      linked = let b = s.balance r l in let i = n.no_inc in let e = linked_shown m r shape in omega arith;
       increments = n.no_inc;
       decrements = let b = s.balance r l in let i = n.no_inc in omega arith;
       holds = λ x y g w t. n.late x y g t;
@@ -318,11 +364,11 @@ ranges_shown m shape lo s = record {
 
 pub sound_shown : (m : Machine) → IsShape m.bounds → AllFits m.bounds (world_of m) → IsSound m
 sound_shown m shape s = record {
-  balance = balance_shown m s.counted;
+  balance = balance_shown m shape s.counted;
   token = token_shown m s.counted;
-  quiet = quiet_shown m s.counted s.scans;
-  doomed = doomed_shown m s.counted s.doomed;
-  free = free_shown m s.counted s.doomed;
+  quiet = quiet_shown m shape s.counted s.scans;
+  doomed = doomed_shown m shape s.counted s.doomed;
+  free = free_shown m shape s.counted s.doomed;
   no_leak = leak_shown m s.reason;
   enrolment = enrolment_shown m s.counted;
   slots = slots_shown m s.counted;

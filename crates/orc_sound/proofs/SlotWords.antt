@@ -5,7 +5,7 @@ use Rattle.std.proofs.lemmas.Bool.{eq-eqb, eqb-false, eqb-true, false≢true, lt
 use Rattle.std.specs.Prelude.{None, Some, slice_index_or, slice_set, ◌==◌}
 use Rattle.orc_words.specs.Bounds.{Bounds}
 use Rattle.orc_words.specs.declared.place.Word.{Word}
-use Rattle.orc_words.specs.declared.place.Word.TheVariants.{Enrolled, First, Next, Root, Second, Slot}
+use Rattle.orc_words.specs.declared.place.Word.TheVariants.{Enrolled, First, Next, Root, Second, Slot, Side}
 use Rattle.orc_core.proofs.Within.{and_both}
 use Rattle.orc_words.specs.Operations.{word_after}
 use Rattle.orc_core.specs.Actions.{action_of}
@@ -13,7 +13,7 @@ use Rattle.orc_core.specs.After.{after, promoted}
 use Rattle.orc_core.specs.Allowed.{fits}
 use Rattle.orc_core.specs.RecordParts.{is_published, names, slot_of}
 use Rattle.orc_core.specs.declared.ops.Op.{Op}
-use Rattle.orc_core.specs.declared.ops.Op.TheVariants.{Arm, Clear, Fill, LinkCas, LinkLoad, Publish, Read, SlotLook}
+use Rattle.orc_core.specs.declared.ops.Op.TheVariants.{Arm, Clear, Fill, LinkCas, LinkLoad, Publish, Read, SlotLook, LinkStore}
 use Rattle.orc_core.specs.declared.records.Agent.{Agent}
 use Rattle.orc_core.specs.declared.records.SlotUse.{SlotUse}
 use Rattle.orc_core.specs.declared.records.SlotUse.TheVariants.{Empty, Held, Published}
@@ -61,10 +61,13 @@ own_fits b e a (Clear j) d m k f l h = set_fits m d a j k 0 Empty (rw l (ltb-tru
 own_fits b e a (Arm q) d m k f l h = set_fits m d a 0 k (q + 1) (Held q) (rw l (omega arith)) refl h
 own_fits b e a (LinkCas (Root i) x t) d m k f l h = h
 own_fits b e a (LinkCas (Next i) x t) d m k f l h = h
+own_fits b e a (LinkCas (Side i) x t) d m k f l h = h
 own_fits b e a (LinkCas p x t) d m k f l h = grind arith
 own_fits b e a (SlotLook j) d m k f l h = rw (write_same m (Slot (j / 8) (j % 8)) (Slot a k)) h
 own_fits b e a (Fill q w v) d m k f l h = grind arith
 own_fits b e a (Read q w) d m k f l h = rw (write_same m (cond (w == 0) (First q) (Second q)) (Slot a k)) h
+own_fits b e a (LinkStore lq zero ll) d m k f l h = h
+own_fits b e a (LinkStore lq (suc ln) ll) d m k f l h = h
 own_fits b e a op d m k f l h = h
 
 pub other_slot : (b : Bounds) (e a : ℕ) (op : Op) (d : Agent) (m : Word → ℕ) (x k : ℕ) → fits b e a op d ≡ true → (x == a) ≡ false
@@ -75,10 +78,13 @@ other_slot b e a (Clear j) d m x k f n = rw n
 other_slot b e a (Arm q) d m x k f n = rw n
 other_slot b e a (LinkCas (Root i) y t) d m x k f n = refl
 other_slot b e a (LinkCas (Next i) y t) d m x k f n = refl
+other_slot b e a (LinkCas (Side i) y t) d m x k f n = refl
 other_slot b e a (LinkCas p y t) d m x k f n = grind arith
 other_slot b e a (SlotLook j) d m x k f n = write_same m (Slot (j / 8) (j % 8)) (Slot x k)
 other_slot b e a (Fill q w v) d m x k f n = grind arith
 other_slot b e a (Read q w) d m x k f n = write_same m (cond (w == 0) (First q) (Second q)) (Slot x k)
+other_slot b e a (LinkStore lq zero ll) d m x k f n = refl
+other_slot b e a (LinkStore lq (suc ln) ll) d m x k f n = refl
 other_slot b e a op d m x k f n = refl
 
 -- a step keeps the number of slots, and that slot 0 is never Published

@@ -1,12 +1,12 @@
 -- Where what a record newly has comes from, field by field.
-use Rattle.std.proofs.Common.{Bool, List, [], ap, arith, cond, false, inl, inr, refl, suc, sym, true, zero, ℕ, ◌*◌, ◌/◌, ◌∷◌, ◌≡◌, ◌⊎◌}
-use Rattle.std.proofs.lemmas.Bool.{eqb-true}
+use Rattle.std.proofs.Common.{Bool, List, [], ap, arith, cond, false, inl, inr, refl, suc, sym, true, zero, ℕ, ◌*◌, ◌/◌, ◌∷◌, ◌≡◌, ◌⊎◌, ◌<◌}
+use Rattle.std.proofs.lemmas.Bool.{eqb-true, false≢true}
 use Rattle.std.specs.Prelude.{None, Option, Some, is_some, slice_index_or, slice_set, ◌&&◌, ◌==◌}
 use Rattle.orc_words.specs.Bounds.{Bounds}
 use Rattle.orc_words.specs.Packed.{bit, link_word, named}
 use Rattle.orc_words.specs.declared.packed.RowLink.{RowLink}
 use Rattle.orc_words.specs.declared.place.Word.{Word}
-use Rattle.orc_words.specs.declared.place.Word.TheVariants.{Gate, Next, Root}
+use Rattle.orc_words.specs.declared.place.Word.TheVariants.{Gate, Next, Root, Side}
 use Rattle.orc_words.specs.Operations.{word_after}
 use Rattle.orc_core.specs.Actions.{action_of}
 use Rattle.orc_core.specs.After.{after, promoted}
@@ -22,6 +22,7 @@ use Rattle.orc_sound.proofs.Balances.{to_row-link}
 use Rattle.orc_sound.proofs.Bridge.{same_word-true}
 use Rattle.orc_sound.proofs.Facts.{out, to_row}
 use Rattle.orc_sound.proofs.World.{same_word, write}
+use Rattle.orc_words.specs.Places.{link_at}
 
 pub any_holds_set : (ss : List SlotUse) (k : ℕ) (x : SlotUse) (r : ℕ) → any_holds (slice_set ss k x) r ≡ true → (any_holds ss r ≡ true) ⊎ (holds x r ≡ true)
 any_holds_set [] k x r h = inl h
@@ -69,24 +70,24 @@ fresh_source op d v r h = inl h
 -- a pending increment is new where a link was made to the row
 abbrev pub links : Op → ℕ → Bool
 links (LinkCas p f t) r = names t.to r
-links (LinkStore q l) r = names l.to r
+links (LinkStore q nr l) r = names l.to r
 links _ r = false
 
 pub inc_source : (op : Op) (d : Agent) (v r : ℕ) → names (after op d v).inc r ≡ true → (names d.inc r ≡ true) ⊎ (links op r ≡ true)
 inc_source (LinkCas p f t) d v r h = grind arith
-inc_source (LinkStore q l) d v r h = grind arith
+inc_source (LinkStore q nr l) d v r h = grind arith
 inc_source (Inc q) d v r h = grind arith
 inc_source op d v r h = inl h
 
 -- a pending decrement is new where a link to the row was replaced
 abbrev pub unlinks : Op → ℕ → ℕ → Bool
 unlinks (LinkCas p f t) v r = names f.to r
-unlinks (LinkStore q l) v r = names (named (v / 2)) r
+unlinks (LinkStore q nr l) v r = names (named (v / 2)) r
 unlinks _ v r = false
 
 pub dec_source : (op : Op) (d : Agent) (v r : ℕ) → names (after op d v).dec r ≡ true → (names d.dec r ≡ true) ⊎ (unlinks op v r ≡ true)
 dec_source (LinkCas p f t) d v r h = grind arith
-dec_source (LinkStore q l) d v r h = grind arith
+dec_source (LinkStore q nr l) d v r h = grind arith
 dec_source (Dec q) d v r h = grind arith
 dec_source op d v r h = inl h
 
@@ -110,10 +111,13 @@ out_stays m b e a (GateTake q) d r f n h = grind arith
 out_stays m b e a (LinkLoad p k) d r f n h = rw (write_same m p (Gate r)) h
 out_stays m b e a (LinkCas (Root i) x t) d r f n h = h
 out_stays m b e a (LinkCas (Next i) x t) d r f n h = h
+out_stays m b e a (LinkCas (Side i) x t) d r f n h = h
 out_stays m b e a (LinkCas p x t) d r f n h = grind arith
 out_stays m b e a (Free q) d r f n h = grind arith
 out_stays m b e a (Fill q w v) d r f n h = grind arith
 out_stays m b e a (Read q w) d r f n h = grind arith
+out_stays m b e a (LinkStore lq zero ll) d r f n h = h
+out_stays m b e a (LinkStore lq (suc ln) ll) d r f n h = h
 out_stays m b e a op d r f n h = h
 
 -- a row is due anew where a counter came to count 0 with no bit
@@ -133,7 +137,7 @@ due_source op d v r h = inl h
 -- a root's link is new where a LinkCas put its target there
 abbrev pub puts : Op → Word → ℕ → Bool
 puts (LinkCas p f t) w r = same_word w p && names t.to r
-puts (LinkStore q l) w r = same_word w (Next q) && names l.to r
+puts (LinkStore q nr l) w r = same_word w (link_at nr q) && names l.to r
 puts _ w r = false
 
 pub one-true : (b : Bool) → bit b ≡ 1 → b ≡ true
@@ -153,23 +157,44 @@ root_source b e a (LinkLoad p k) d m i r f h = inl (rw (write_same m p (Root i))
 root_source b e a (LinkCas (Root j) x t) d m i r f h =
     link_source (m (Root j)) (m (Root i)) t r (i == j) (m (Root j) == link_word x) (λ p. ap (λ n. m (Root n)) (eqb-true i j p)) h
 root_source b e a (LinkCas (Next j) x t) d m i r f h = inl h
+root_source b e a (LinkCas (Side j) x t) d m i r f h = inl h
 root_source b e a (LinkCas p x t) d m i r f h = grind arith
 root_source b e a (Fill q w v) d m i r f h = grind arith
 root_source b e a (Read q w) d m i r f h = grind arith
+root_source b e a (LinkStore lq zero ll) d m i r f h = inl h
+root_source b e a (LinkStore lq (suc ln) ll) d m i r f h = inl h
 root_source b e a op d m i r f h = inl h
 
-pub next_source : (b : Bounds) (e a : ℕ) (op : Op) (d : Agent) (m : Word → ℕ) (i r : ℕ) → fits b e a op d ≡ true
+next_source : (b : Bounds) (e a : ℕ) (op : Op) (d : Agent) (m : Word → ℕ) (i r : ℕ) → fits b e a op d ≡ true
     → to_row (write m (action_of a op d).word (word_after (action_of a op d).operation (m (action_of a op d).word)) (Next i)) r ≡ 1
     → (to_row (m (Next i)) r ≡ 1) ⊎ (puts op (Next i) r ≡ true)
 next_source b e a (LinkLoad p k) d m i r f h = inl (rw (write_same m p (Next i)) at h)
-next_source b e a (LinkCas (Next j) x t) d m i r f h =
-    link_source (m (Next j)) (m (Next i)) t r (i == j) (m (Next j) == link_word x) (λ p. ap (λ n. m (Next n)) (eqb-true i j p)) h
-next_source b e a (LinkStore j l) d m i r f h = link_source (m (Next j)) (m (Next i)) l r (i == j) true (λ p. ap (λ n. m (Next n)) (eqb-true i j p)) h
-next_source b e a (LinkCas (Root j) x t) d m i r f h = inl h
-next_source b e a (LinkCas p x t) d m i r f h = grind arith
+next_source b e a (LinkCas p x t) d m i r f h =
+    link_source (m p) (m (Next i)) t r (same_word (Next i) p) (m p == link_word x) (λ e. ap m (same_word-true (Next i) p e)) h
+next_source b e a (LinkStore j k l) d m i r f h =
+    link_source (m (link_at k j)) (m (Next i)) l r (same_word (Next i) (link_at k j)) true (λ e. ap m (same_word-true (Next i) (link_at k j) e)) h
 next_source b e a (Fill q w v) d m i r f h = grind arith
 next_source b e a (Read q w) d m i r f h = grind arith
 next_source b e a op d m i r f h = inl h
+
+side_source : (b : Bounds) (e a : ℕ) (op : Op) (d : Agent) (m : Word → ℕ) (i r : ℕ) → fits b e a op d ≡ true
+    → to_row (write m (action_of a op d).word (word_after (action_of a op d).operation (m (action_of a op d).word)) (Side i)) r ≡ 1
+    → (to_row (m (Side i)) r ≡ 1) ⊎ (puts op (Side i) r ≡ true)
+side_source b e a (LinkLoad p k) d m i r f h = inl (rw (write_same m p (Side i)) at h)
+side_source b e a (LinkCas p x t) d m i r f h =
+    link_source (m p) (m (Side i)) t r (same_word (Side i) p) (m p == link_word x) (λ e. ap m (same_word-true (Side i) p e)) h
+side_source b e a (LinkStore j k l) d m i r f h =
+    link_source (m (link_at k j)) (m (Side i)) l r (same_word (Side i) (link_at k j)) true (λ e. ap m (same_word-true (Side i) (link_at k j) e)) h
+side_source b e a (Fill q w v) d m i r f h = grind arith
+side_source b e a (Read q w) d m i r f h = grind arith
+side_source b e a op d m i r f h = inl h
+
+-- a row's link is new where a LinkCas or a LinkStore put its target there
+pub links_source : (b : Bounds) (e a : ℕ) (op : Op) (d : Agent) (m : Word → ℕ) (n i r : ℕ) → fits b e a op d ≡ true
+    → to_row (write m (action_of a op d).word (word_after (action_of a op d).operation (m (action_of a op d).word)) (link_at n i)) r ≡ 1
+    → (to_row (m (link_at n i)) r ≡ 1) ⊎ (puts op (link_at n i) r ≡ true)
+links_source b e a op d m zero i r f h = next_source b e a op d m i r f h
+links_source b e a op d m (suc k) i r f h = side_source b e a op d m i r f h
 
 -- a gate is out anew where a GateTake won it
 pub gate_source : (b : Bounds) (e a : ℕ) (op : Op) (d : Agent) (m : Word → ℕ) (r : ℕ) → fits b e a op d ≡ true → frees op r ≡ false
@@ -180,23 +205,52 @@ gate_source b e a (GateTake q) d m r f n h = grind arith
 gate_source b e a (LinkLoad p k) d m r f n h = inl (rw (write_same m p (Gate r)) at h)
 gate_source b e a (LinkCas (Root i) x t) d m r f n h = inl h
 gate_source b e a (LinkCas (Next i) x t) d m r f n h = inl h
+gate_source b e a (LinkCas (Side i) x t) d m r f n h = inl h
 gate_source b e a (LinkCas p x t) d m r f n h = grind arith
 gate_source b e a (Free q) d m r f n h = grind arith
 gate_source b e a (Fill q w v) d m r f n h = grind arith
 gate_source b e a (Read q w) d m r f n h = grind arith
+gate_source b e a (LinkStore lq zero ll) d m r f n h = inl h
+gate_source b e a (LinkStore lq (suc ln) ll) d m r f n h = inl h
 gate_source b e a op d m r f n h = inl h
 
--- the word of a kind that changes a next word
-abbrev pub changes_next : Op → ℕ → Bool
-changes_next (LinkCas p f t) r = same_word (Next r) p
-changes_next (LinkStore q l) r = r == q
-changes_next _ r = false
+-- the kind changes this link word
+abbrev pub changes_link : Op → Word → Bool
+changes_link (LinkCas p f t) w = same_word w p
+changes_link (LinkStore q k l) w = same_word w (link_at k q)
+changes_link _ w = false
 
-pub next_stays : (b : Bounds) (e a : ℕ) (op : Op) (d : Agent) (m : Word → ℕ) (i : ℕ) → fits b e a op d ≡ true → changes_next op i ≡ false
+next_stays : (b : Bounds) (e a : ℕ) (op : Op) (d : Agent) (m : Word → ℕ) (i : ℕ) → fits b e a op d ≡ true → changes_link op (Next i) ≡ false
     → write m (action_of a op d).word (word_after (action_of a op d).operation (m (action_of a op d).word)) (Next i) ≡ m (Next i)
 next_stays b e a (LinkLoad p k) d m i f n = write_same m p (Next i)
 next_stays b e a (LinkCas p x t) d m i f n = rw n
-next_stays b e a (LinkStore j l) d m i f n = rw n
+next_stays b e a (LinkStore j k l) d m i f n = rw n
 next_stays b e a (Fill q w v) d m i f n = grind arith
 next_stays b e a (Read q w) d m i f n = grind arith
 next_stays b e a op d m i f n = refl
+
+side_stays : (b : Bounds) (e a : ℕ) (op : Op) (d : Agent) (m : Word → ℕ) (i : ℕ) → fits b e a op d ≡ true → changes_link op (Side i) ≡ false
+    → write m (action_of a op d).word (word_after (action_of a op d).operation (m (action_of a op d).word)) (Side i) ≡ m (Side i)
+side_stays b e a (LinkLoad p k) d m i f n = write_same m p (Side i)
+side_stays b e a (LinkCas p x t) d m i f n = rw n
+side_stays b e a (LinkStore j k l) d m i f n = rw n
+side_stays b e a (Fill q w v) d m i f n = grind arith
+side_stays b e a (Read q w) d m i f n = grind arith
+side_stays b e a op d m i f n = refl
+
+pub links_stay : (b : Bounds) (e a : ℕ) (op : Op) (d : Agent) (m : Word → ℕ) (n i : ℕ) → fits b e a op d ≡ true → changes_link op (link_at n i) ≡ false
+    → write m (action_of a op d).word (word_after (action_of a op d).operation (m (action_of a op d).word)) (link_at n i) ≡ m (link_at n i)
+links_stay b e a op d m zero i f n = next_stays b e a op d m i f n
+links_stay b e a op d m (suc k) i f n = side_stays b e a op d m i f n
+
+-- equal link words are of one row, and of one number below two
+pub same_link : (n i k j : ℕ) → same_word (link_at n i) (link_at k j) ≡ true → i ≡ j
+same_link zero i zero j h = eqb-true i j h
+same_link zero i (suc k) j h = absurd (false≢true h)
+same_link (suc n) i zero j h = absurd (false≢true h)
+same_link (suc n) i (suc k) j h = eqb-true i j h
+
+pub same_number : (n i k j : ℕ) → same_word (link_at n i) (link_at k j) ≡ true → n < k → k < 2 → ⊥
+same_number zero i zero j h l s = omega arith
+same_number zero i (suc k) j h l s = false≢true h
+same_number (suc n) i k j h l s = omega arith

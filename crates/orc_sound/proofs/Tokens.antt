@@ -1,5 +1,5 @@
 -- What one written word and one new record change in the places that have a row, and that each kind keeps the token.
-use Rattle.std.proofs.Common.{Bool, List, [], ap, arith, cond, drop, false, inl, inr, refl, true, ℕ, ◌%◌, ◌++◌, ◌+◌, ◌<◌, ◌∙◌, ◌∷◌, ◌≡◌, ◌≢◌, ◌⊎◌}
+use Rattle.std.proofs.Common.{Bool, List, [], ap, arith, cond, drop, false, inl, inr, refl, true, ℕ, ◌%◌, ◌++◌, ◌+◌, ◌<◌, ◌∙◌, ◌∷◌, ◌≡◌, ◌≢◌, ◌⊎◌, zero, suc}
 use Rattle.std.proofs.lemmas.Bool.{eq-eqb, eqb-true, ne_eqb}
 use Rattle.std.proofs.lemmas.List.Sums.{sum_by-cons, sum_by_push}
 use Rattle.std.specs.Prelude.{None, Option, Some, is_some, ◌==◌}
@@ -8,7 +8,7 @@ use Rattle.orc_words.specs.Packed.{bit, named, retired_bit}
 use Rattle.orc_words.specs.Places.{IsWithin}
 use Rattle.orc_words.specs.declared.packed.RowLink.{RowLink}
 use Rattle.orc_words.specs.declared.place.Word.{Word}
-use Rattle.orc_words.specs.declared.place.Word.TheVariants.{Counter, Enrolled, First, Gate, Handover, Next, Root, Second, Slot}
+use Rattle.orc_words.specs.declared.place.Word.TheVariants.{Counter, Enrolled, First, Gate, Handover, Next, Root, Second, Slot, Side}
 use Rattle.orc_words.specs.Operations.{word_after}
 use Rattle.orc_core.specs.Actions.{action_of, clear_word}
 use Rattle.orc_core.specs.After.{after}
@@ -40,6 +40,7 @@ bit_write m (Gate q) v r = refl
 bit_write m (First q) v r = refl
 bit_write m (Second q) v r = refl
 bit_write m (Next q) v r = refl
+bit_write m (Side q) v r = refl
 bit_write m (Slot a k) v r = refl
 bit_write m (Handover a k) v r = refl
 
@@ -68,6 +69,7 @@ handed_write s m (Gate q) v r h = refl
 handed_write s m (First q) v r h = refl
 handed_write s m (Second q) v r h = refl
 handed_write s m (Next q) v r h = refl
+handed_write s m (Side q) v r h = refl
 handed_write s m (Slot a k) v r h = refl
 handed_write s m (Handover a k) v r h = handed_at s m a k v r h.0 h.1
 
@@ -145,8 +147,9 @@ pub inc_token : (m : Word → ℕ) (a q : ℕ) (d : Agent) (r : ℕ)
     → retired_bit ((m (Counter q) + 16777217) % 18446744073709551616) ≡ retired_bit (m (Counter q)) → KeptToken m a (Inc q) d r
 inc_token m a q d r same = rw same
 
-pub store_token : (m : Word → ℕ) (a q : ℕ) (l : RowLink) (d : Agent) (r : ℕ) → KeptToken m a (LinkStore q l) d r
-store_token m a q l d r = grind arith
+pub store_token : (m : Word → ℕ) (a q nr : ℕ) (l : RowLink) (d : Agent) (r : ℕ) → KeptToken m a (LinkStore q nr l) d r
+store_token m a q zero l d r = grind arith
+store_token m a q (suc k) l d r = grind arith
 
 pub free_token : (m : Word → ℕ) (a q : ℕ) (d : Agent) (r : ℕ) → doom_bare d.doom q ≡ true → KeptToken m a (Free q) d r
 free_token m a q d r h = grind arith
@@ -156,6 +159,6 @@ pub unretire_scan_token : (m : Word → ℕ) (a q : ℕ) (d : Agent) (r : ℕ) �
     → retired_bit ((m (Counter q) + 18446744073701163008) % 18446744073709551616) + 1 ≡ retired_bit (m (Counter q)) → KeptToken m a (Unretire q) d r
 unretire_scan_token m a q d r nd h less = grind arith
 
-pub unretire_doom_token : (m : Word → ℕ) (a q : ℕ) (d : Agent) (r : ℕ) → d.scan ≡ None → doom_cut d.doom q ≡ true
+pub unretire_doom_token : (m : Word → ℕ) (links a q : ℕ) (d : Agent) (r : ℕ) → d.scan ≡ None → doom_cut links d.doom q ≡ true
     → retired_bit ((m (Counter q) + 18446744073701163008) % 18446744073709551616) + 1 ≡ retired_bit (m (Counter q)) → KeptToken m a (Unretire q) d r
-unretire_doom_token m a q d r ns h less = grind arith
+unretire_doom_token m links a q d r ns h less = grind arith

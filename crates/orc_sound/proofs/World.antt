@@ -3,7 +3,7 @@ use Rattle.std.proofs.Common.{Bool, cond, false, true, ℕ}
 use Rattle.std.specs.Prelude.{nat_lt, ◌&&◌, ◌==◌}
 use Rattle.orc_words.specs.Bounds.{Bounds}
 use Rattle.orc_words.specs.declared.place.Word.{Word}
-use Rattle.orc_words.specs.declared.place.Word.TheVariants.{Counter, Enrolled, First, Gate, Handover, Next, Root, Second, Slot}
+use Rattle.orc_words.specs.declared.place.Word.TheVariants.{Counter, Enrolled, First, Gate, Handover, Next, Root, Second, Slot, Side}
 use Rattle.orc_words.specs.Operations.{word_after}
 use Rattle.orc_core.specs.Actions.{action_of}
 use Rattle.orc_core.specs.After.{after}
@@ -24,6 +24,7 @@ same_word (Counter i) (Counter j) = i == j
 same_word (First i) (First j) = i == j
 same_word (Second i) (Second j) = i == j
 same_word (Next i) (Next j) = i == j
+same_word (Side i) (Side j) = i == j
 same_word (Slot a i) (Slot b j) = (a == b) && (i == j)
 same_word (Handover a i) (Handover b j) = (a == b) && (i == j)
 same_word _ _ = false
@@ -53,6 +54,7 @@ is_within s (Counter r) = nat_lt r s.rows
 is_within s (First r) = nat_lt r s.rows
 is_within s (Second r) = nat_lt r s.rows
 is_within s (Next r) = nat_lt r s.rows
+is_within s (Side r) = nat_lt r s.rows && nat_lt 1 s.links
 is_within s (Slot a k) = nat_lt a s.agents && nat_lt k 8
 is_within s (Handover a k) = nat_lt a s.agents && nat_lt k 8
 

@@ -1,7 +1,7 @@
 -- The tests by which one state is seen to be sound. Each is shown to be its part of a sound state.
 use Rattle.std.specs.Prelude.{Bool, None, Option, Some, cond, is_none, is_some, length, nat_le, nat_lt, not, suc, true, zero, ℕ, ◌&&◌, ◌*◌, ◌+◌, ◌-◌, ◌/◌, ◌==◌, ◌||◌}
 use Rattle.orc_words.specs.Packed.{bit, count_bits, retired_bit, sequence_of}
-use Rattle.orc_words.specs.declared.place.Word.TheVariants.{Counter, Enrolled, Gate, Next, Root, Slot}
+use Rattle.orc_words.specs.declared.place.Word.TheVariants.{Counter, Enrolled, Gate, Root, Slot}
 use Rattle.orc_core.specs.Counts.{is_out, is_retired, links_to}
 use Rattle.orc_core.specs.Machine.{Machine, record_at, word_in}
 use Rattle.orc_core.specs.RecordParts.{any_holds, holds, is_empty, is_published, number_of, saw, slot_of}
@@ -19,6 +19,7 @@ use Rattle.orc_sound.specs.NoLeak.{has_reason}
 use Rattle.orc_sound.specs.SoundParts.{slot_word}
 use Rattle.orc_sound.specs.QuietScan.{is_linked_anew}
 use Rattle.orc_sound.specs.RetirementToken.{tokens}
+use Rattle.orc_words.specs.Places.{link_at}
 
 -- each number below n passes
 abbrev pub all_below : ℕ → (ℕ → Bool) → Bool
@@ -66,13 +67,29 @@ abbrev pub unreachable_in : Machine → ℕ → Bool
 unreachable_in m r = (linked m r == 0) && not (held m r) && not (some_below m.bounds.agents (λ a. changes (record_at m a) r)) &&
     (count_bits (word_in m (Counter r)) == 4194304)
 
+-- all link words of the row are 0
+abbrev pub null_links : Machine → ℕ → Bool
+null_links m r = all_below m.bounds.links (λ n. word_in m (link_at n r) == 0)
+
+-- each link word of the row names none, or a row that is out
+abbrev pub links_fit : Machine → ℕ → Bool
+links_fit m r = all_below m.bounds.links (λ n. target_fits m (word_in m (link_at n r)))
+
+-- no link word of row j names row r
+abbrev pub names_none : Machine → ℕ → ℕ → Bool
+names_none m r j = all_below m.bounds.links (λ n. not (links_to (word_in m (link_at n j)) r))
+
+-- the link words that a doom has cut are 0
+abbrev pub cuts_fit : Machine → Doom → Bool
+cuts_fit m d = all_below m.bounds.links (λ n. not (nat_lt n d.cuts) || (word_in m (link_at n d.row) == 0))
+
 -- a free row is unreachable, has no bit and no link, and is in no doom
 abbrev pub free_fits : Machine → ℕ → Bool
-free_fits m r = unreachable_in m r && not (is_retired m r) && (word_in m (Next r) == 0) && not (some_below m.bounds.agents (λ a. dooms (record_at m a).doom r))
+free_fits m r = unreachable_in m r && not (is_retired m r) && null_links m r && not (some_below m.bounds.agents (λ a. dooms (record_at m a).doom r))
 
 -- a row's own conditions, as it is out or free
 abbrev pub row_fits : Machine → ℕ → Bool
-row_fits m r = count_fits m r && token_fits m r && range_fits m r && cond (is_out m r) (target_fits m (word_in m (Next r)) && has_reason m r) (free_fits m r)
+row_fits m r = count_fits m r && token_fits m r && range_fits m r && cond (is_out m r) (links_fit m r && has_reason m r) (free_fits m r)
 
 -- rows that are pending or due are out, and held where they are to be
 abbrev pub pending_fits : Machine → Agent → Bool
@@ -107,13 +124,13 @@ abbrev pub doom_fits : Machine → ℕ → Option Doom → Bool
 doom_fits m a None = true
 doom_fits m a (Some d) =
     out_in m d.row && unreachable_in m d.row && all_below m.bounds.agents (λ x. (x == a) || not (dooms (record_at m x).doom d.row)) &&
-    (not d.cut || (word_in m (Next d.row) == 0)) && (not d.bare || (d.cut && not (is_retired m d.row)))
+    cuts_fit m d && (not d.bare || ((d.cuts == m.bounds.links) && not (is_retired m d.row)))
 
 -- the fresh row is out, has no bit, and is the agent's alone
 abbrev pub fresh_fits : Machine → ℕ → ℕ → Bool
 fresh_fits m a r =
     out_in m r && not (is_retired m r) && all_below m.bounds.agents (λ x. (x == a) || not (uses (record_at m x) r)) && all_below m.bounds.roots
-    (λ i. not (links_to (word_in m (Root i)) r)) && all_below m.bounds.rows (λ j. (j == r) || not (links_to (word_in m (Next j)) r))
+    (λ i. not (links_to (word_in m (Root i)) r)) && all_below m.bounds.rows (λ j. (j == r) || names_none m r j)
 
 -- a slot's word is that of the record, and what it holds is out
 abbrev pub slot_fits : Machine → ℕ → ℕ → Bool

@@ -1,13 +1,14 @@
 -- The parts of a sound state on enrolment, slots, link targets, fresh rows, scans, looks and ranges.
 use Rattle.std.specs.Prelude.{false, negsuc, pos, true, ℕ, ◌*◌, ◌+◌, ◌/◌, ◌<◌, ◌^◌, ◌≡◌, ◌≢◌, ◌≤ℤ◌, ◌≤◌}
 use Rattle.orc_words.specs.Packed.{count_bits, counter_of, retired_bit, sequence_of}
-use Rattle.orc_words.specs.declared.place.Word.TheVariants.{Counter, Enrolled, Gate, Next, Root, Slot}
+use Rattle.orc_words.specs.declared.place.Word.TheVariants.{Counter, Enrolled, Gate, Root, Slot}
 use Rattle.orc_core.specs.Counts.{is_retired, links_to}
 use Rattle.orc_core.specs.Machine.{Machine, nobody, record_at, word_in}
 use Rattle.orc_core.specs.RecordParts.{is_published, kept, names, number_of, saw, scan_at, scan_empty, scan_found, scans, slot_of}
 use Rattle.orc_core.specs.declared.records.SlotUse.{SlotUse}
 use Rattle.orc_core.specs.declared.records.SlotUse.TheVariants.{Empty, Held, Published}
 use Rattle.orc_sound.specs.Linked.{IsOut, holds_row, uses}
+use Rattle.orc_words.specs.Places.{link_at}
 
 -- the agents below the word of enrolments are enrolled, and the other records are empty
 pub record Enrolment (m : Machine) : Type 0 where
@@ -27,10 +28,10 @@ pub record Slots (m : Machine) : Type 0 where
   pub first : (a : ℕ) → a < m.bounds.agents → is_published (slot_of (record_at m a) 0) ≡ false
   pub held : (a r : ℕ) → a < m.bounds.agents → holds_row m a r ≡ true → IsOut m r
 
--- the target of a root, and of the next word of a row that is out, is out
+-- the target of a root, and of a link word of a row that is out, is out
 pub record Targets (m : Machine) : Type 0 where
   pub roots : (i r : ℕ) → i < m.bounds.roots → links_to (word_in m (Root i)) r ≡ true → IsOut m r
-  pub nexts : (j r : ℕ) → IsOut m j → links_to (word_in m (Next j)) r ≡ true → IsOut m r
+  pub links : (n j r : ℕ) → n < m.bounds.links → IsOut m j → links_to (word_in m (link_at n j)) r ≡ true → IsOut m r
 
 -- a fresh row is out and has no bit, no other agent uses it, and no link word but its own names it
 pub record FreshRows (m : Machine) : Type 0 where
@@ -38,7 +39,8 @@ pub record FreshRows (m : Machine) : Type 0 where
   pub clear : (a r : ℕ) → a < m.bounds.agents → names (record_at m a).fresh r ≡ true → is_retired m r ≡ false
   pub alone : (a x r : ℕ) → a < m.bounds.agents → x < m.bounds.agents → x ≢ a → names (record_at m a).fresh r ≡ true → uses (record_at m x) r ≡ false
   pub roots : (a i r : ℕ) → a < m.bounds.agents → i < m.bounds.roots → names (record_at m a).fresh r ≡ true → links_to (word_in m (Root i)) r ≡ false
-  pub nexts : (a j r : ℕ) → a < m.bounds.agents → j < m.bounds.rows → j ≢ r → names (record_at m a).fresh r ≡ true → links_to (word_in m (Next j)) r ≡ false
+  pub links : (a n j r : ℕ) → a < m.bounds.agents → n < m.bounds.links → j < m.bounds.rows → j ≢ r → names (record_at m a).fresh r ≡ true
+      → links_to (word_in m (link_at n j)) r ≡ false
 
 -- a scanned row is one of the table's. The scan's kept word has the bit and isn't ahead of the row's word; with equal sequences their counts are equal. A scan
 -- that found its row keeps count 0, and its place is before the end

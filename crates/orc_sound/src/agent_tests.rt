@@ -6,7 +6,7 @@ ghost use Rattle.orc_words.specs.declared.place.Word.{Word};
 ghost use Rattle.orc_core.specs.Counts.{links_to};
 ghost use Rattle.orc_core.specs.Machine.{record_at, word_in};
 ghost use Rattle.orc_core.specs.RecordParts.{any_holds, holds, is_empty, names, number_of, saw, slot_of};
-ghost use Rattle.orc_sound.specs.Decisions.{agent_fits, all_below, doom_fits, enrolment_fits, fresh_fits, is_nobody, left_in, looks_fit, named_passes, one_part_in, out_in, pending_fits, row_held, row_seen, same_fits, scan_fits, slot_fits, slots_fit};
+ghost use Rattle.orc_sound.specs.Decisions.{agent_fits, all_below, cuts_fit, doom_fits, enrolment_fits, fresh_fits, is_nobody, left_in, looks_fit, named_passes, names_none, one_part_in, out_in, pending_fits, row_held, row_seen, same_fits, scan_fits, slot_fits, slots_fit};
 ghost use Rattle.orc_sound.specs.Doomed.{dooms};
 ghost use Rattle.orc_sound.specs.Linked.{uses};
 ghost use Rattle.orc_sound.specs.QuietScan.{holds_from, is_linked_anew};
@@ -15,7 +15,7 @@ use crate::counting::linked_of;
 use crate::parts::{dooms, links_to, slot_word, uses};
 use crate::row_tests::{decrements_of, increments_of, out_in, unreachable_in};
 use orc_core::{Agent, Doom, Reading, SEQUENCE, Scan, SlotUse, State};
-use orc_words::{NEW_COUNTER, RETIRED, Word};
+use orc_words::{NEW_COUNTER, RETIRED, Word, link_of_row};
 
 // Whether each slot of the agent that holds the row has scan place `k` or a later one.
 #[tactic(auto, using(crate::proofs::Passed::passed_none, crate::proofs::Passed::passed_more, crate::proofs::Passed::passed_all))]
@@ -133,6 +133,19 @@ fn is_alone_doomed(state: &State, agent: u32, row: u32) -> bool
     alone
 }
 
+// Whether the doomed row's links that were cut are null.
+#[tactic(auto, using(crate::proofs::Passed::passed_none, crate::proofs::Passed::passed_more, crate::proofs::Passed::passed_all))]
+fn cuts_fit(state: &State, doom: &Doom) -> bool
+    requires { doom.now.row < state.now.bounds.rows }
+    ensures { result ≡ cuts_fit state.now doom.now }
+{
+    let mut null = true;
+    for number in 0..state.shape().links() {
+        null &= number >= doom.cuts || state.word(link_of_row(number, doom.row)) == 0;
+    }
+    null
+}
+
 fn doom_fits(state: &State, agent: u32, doom: Option<Doom>) -> bool
     ensures { result ≡ doom_fits state.now agent doom }
 {
@@ -142,10 +155,11 @@ fn doom_fits(state: &State, agent: u32, doom: Option<Doom>) -> bool
     if !out_in(state, doom.row) {
         return false;
     }
+    let shape = state.shape();
     unreachable_in(state, doom.row)
         && is_alone_doomed(state, agent, doom.row)
-        && (!doom.cut || state.word(Word::Next(doom.row)) == 0)
-        && (!doom.bare || (doom.cut && !state.is_retired(doom.row)))
+        && cuts_fit(state, &doom)
+        && (!doom.bare || (doom.cuts == shape.links() && !state.is_retired(doom.row)))
 }
 
 #[tactic(auto, using(crate::proofs::Passed::passed_none, crate::proofs::Passed::passed_more, crate::proofs::Passed::passed_all))]
@@ -171,12 +185,24 @@ fn no_root_links(state: &State, row: u32) -> bool
 }
 
 #[tactic(auto, using(crate::proofs::Passed::passed_none, crate::proofs::Passed::passed_more, crate::proofs::Passed::passed_all))]
+fn names_none(state: &State, row: u32, from: u32) -> bool
+    requires { from < state.now.bounds.rows }
+    ensures { result ≡ names_none state.now row from }
+{
+    let mut none = true;
+    for number in 0..state.shape().links() {
+        none &= !links_to(state.word(link_of_row(number, from)), row);
+    }
+    none
+}
+
+#[tactic(auto, using(crate::proofs::Passed::passed_none, crate::proofs::Passed::passed_more, crate::proofs::Passed::passed_all))]
 fn no_other_row_links(state: &State, row: u32) -> bool
-    ensures { result ≡ all_below state.now.bounds.rows (λ j. (j == row) || not (links_to (word_in state.now (Word.Next j)) row)) }
+    ensures { result ≡ all_below state.now.bounds.rows (λ j. (j == row) || names_none state.now row j) }
 {
     let mut none = true;
     for from in 0..state.shape().rows() {
-        none &= from == row || !links_to(state.word(Word::Next(from)), row);
+        none &= from == row || names_none(state, row, from);
     }
     none
 }

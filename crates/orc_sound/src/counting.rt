@@ -2,17 +2,18 @@
 
 ghost use Rattle.std.specs.Prelude.{◌≡◌, ℕ, ◌+◌, ◌*◌, ◌<◌, ◌≤◌, ◌&&◌, ◌==◌, not};
 ghost use Rattle.std.specs.List.{list_any};
+ghost use Rattle.orc_words.specs.Places.{link_at};
 ghost use Rattle.orc_words.specs.declared.place.Word.{Word};
 ghost use Rattle.orc_core.specs.Counts.{is_out, is_retired, links_to};
 ghost use Rattle.orc_core.specs.Machine.{record_at, word_in};
 ghost use Rattle.orc_core.specs.Sums.{count_below, sum_below};
 ghost use Rattle.orc_sound.specs.Backlog.{backlog, is_listed};
-ghost use Rattle.orc_sound.specs.Linked.{held, holds_row, linked};
+ghost use Rattle.orc_sound.specs.Linked.{held, holds_row, linked, linked_from};
 ghost use Rattle.orc_sound.specs.RetirementToken.{listings, places_of, tokens};
 
 use crate::parts::{dooming, links_to};
 use orc_core::State;
-use orc_words::Word;
+use orc_words::{Word, link_of_row};
 
 #[tactic(auto, using(orc_core::proofs::Counted::count_none, orc_core::proofs::Counted::count_more, orc_core::proofs::Counted::count_all))]
 fn linked_from_roots(state: &State, row: u32) -> u32
@@ -26,22 +27,38 @@ fn linked_from_roots(state: &State, row: u32) -> u32
     count
 }
 
-// Whether the row `from` is out and its link's target is the row.
-fn is_linked_from(state: &State, from: u32, row: u32) -> bool
-    requires { from < state.now.bounds.rows }
-    ensures { result ≡ (is_out state.now from && links_to (word_in state.now (Word.Next from)) row) }
+// Whether the row `from` is out and the target of its link of this number is the row.
+fn is_linked_by(state: &State, from: u32, number: u32, row: u32) -> bool
+    requires row { from < state.now.bounds.rows }
+    requires number { number < state.now.bounds.links }
+    ensures { result ≡ (is_out state.now from && links_to (word_in state.now (link_at number from)) row) }
 {
-    state.is_out(from) && links_to(state.word(Word::Next(from)), row)
+    state.is_out(from) && links_to(state.word(link_of_row(number, from)), row)
 }
 
 #[tactic(auto, using(orc_core::proofs::Counted::count_none, orc_core::proofs::Counted::count_more, orc_core::proofs::Counted::count_all))]
+fn linked_from(state: &State, row: u32, from: u32) -> u32
+    requires { from < state.now.bounds.rows }
+    ensures count { result ≡ linked_from state.now row from }
+    ensures few { result ≤ 2 }
+{
+    let mut count = 0;
+    let shape = state.shape();
+    prove!(shape.links() <= 2);
+    for number in 0..shape.links() {
+        count += u32::from(is_linked_by(state, from, number, row));
+    }
+    count
+}
+
+#[tactic(auto, using(orc_core::proofs::Counted::sum_none, orc_core::proofs::Counted::sum_more, orc_core::proofs::Counted::sum_all))]
 fn linked_from_rows(state: &State, row: u32) -> u32
-    ensures count { result ≡ count_below state.now.bounds.rows (λ j. is_out state.now j && links_to (word_in state.now (Word.Next j)) row) }
-    ensures few { result ≤ state.now.bounds.rows }
+    ensures count { result ≡ sum_below state.now.bounds.rows (linked_from state.now row) }
+    ensures few { result ≤ 2 * state.now.bounds.rows }
 {
     let mut count = 0;
     for from in 0..state.shape().rows() {
-        count += u32::from(is_linked_from(state, from, row));
+        count += linked_from(state, row, from);
     }
     count
 }

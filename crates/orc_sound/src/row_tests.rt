@@ -6,7 +6,7 @@ ghost use Rattle.orc_words.specs.Packed.{sequence_of};
 ghost use Rattle.orc_core.specs.Machine.{record_at, word_in};
 ghost use Rattle.orc_core.specs.Sums.{some_below};
 ghost use Rattle.orc_sound.specs.Balance.{decrements, increments};
-ghost use Rattle.orc_sound.specs.Decisions.{count_fits, free_fits, out_in, range_fits, row_fits, target_fits, token_fits, unreachable_in};
+ghost use Rattle.orc_sound.specs.Decisions.{count_fits, free_fits, links_fit, null_links, out_in, range_fits, row_fits, target_fits, token_fits, unreachable_in};
 ghost use Rattle.orc_sound.specs.Doomed.{dooms};
 ghost use Rattle.orc_sound.specs.Linked.{changes};
 ghost use Rattle.orc_sound.specs.NoLeak.{has_reason, keeps_out};
@@ -14,7 +14,7 @@ ghost use Rattle.orc_sound.specs.NoLeak.{has_reason, keeps_out};
 use crate::counting::{is_held, linked_of, tokens_of};
 use crate::parts::{changes, dooms, keeps_out};
 use orc_core::{SEQUENCE, State};
-use orc_words::{NEW_COUNTER, RETIRED, Word};
+use orc_words::{NEW_COUNTER, RETIRED, Word, link_of_row};
 
 // The greatest life, and what a sequence may exceed it by.
 const MOST_LIVES: u64 = 549_755_813_888;
@@ -135,13 +135,37 @@ pub(crate) fn unreachable_in(state: &State, row: u32) -> bool
         && state.word(Word::Counter(row)) % RETIRED == NEW_COUNTER
 }
 
+#[tactic(auto, using(crate::proofs::Passed::passed_none, crate::proofs::Passed::passed_more, crate::proofs::Passed::passed_all))]
+fn null_links(state: &State, row: u32) -> bool
+    requires { row < state.now.bounds.rows }
+    ensures { result ≡ null_links state.now row }
+{
+    let mut null = true;
+    for number in 0..state.shape().links() {
+        null &= state.word(link_of_row(number, row)) == 0;
+    }
+    null
+}
+
+#[tactic(auto, using(crate::proofs::Passed::passed_none, crate::proofs::Passed::passed_more, crate::proofs::Passed::passed_all))]
+fn links_fit(state: &State, row: u32) -> bool
+    requires { row < state.now.bounds.rows }
+    ensures { result ≡ links_fit state.now row }
+{
+    let mut fit = true;
+    for number in 0..state.shape().links() {
+        fit &= target_fits(state, state.word(link_of_row(number, row)));
+    }
+    fit
+}
+
 fn free_fits(state: &State, row: u32) -> bool
     requires { row < state.now.bounds.rows }
     ensures { result ≡ free_fits state.now row }
 {
     unreachable_in(state, row)
         && !state.is_retired(row)
-        && state.word(Word::Next(row)) == 0
+        && null_links(state, row)
         && !is_doomed(state, row)
 }
 
@@ -163,7 +187,7 @@ pub(crate) fn row_fits(state: &State, row: u32) -> bool
         return false;
     }
     if state.is_out(row) {
-        target_fits(state, state.word(Word::Next(row))) && has_reason(state, row)
+        links_fit(state, row) && has_reason(state, row)
     } else {
         free_fits(state, row)
     }

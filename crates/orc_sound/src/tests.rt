@@ -134,7 +134,11 @@ fn scan_and_free(state: &mut State) -> Result<(), NotAllowed> {
         1,
         &[
             Op::CounterLoad { row, how: end },
-            Op::LinkStore { row, link: NULL },
+            Op::LinkStore {
+                row,
+                number: 0,
+                link: NULL,
+            },
             Op::Unretire { row },
             Op::Free { row },
         ],

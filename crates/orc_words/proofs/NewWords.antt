@@ -7,7 +7,7 @@ use Rattle.orc_words.specs.Bounds.{Bounds}
 use Rattle.orc_words.specs.NewWords.{first_word, new_word, new_words}
 use Rattle.orc_words.specs.Places.{IsWithin, place, places}
 use Rattle.orc_words.specs.declared.place.Word.{Word}
-use Rattle.orc_words.specs.declared.place.Word.TheVariants.{Counter, Enrolled, First, Gate, Handover, Next, Root, Second, Slot}
+use Rattle.orc_words.specs.declared.place.Word.TheVariants.{Counter, Enrolled, First, Gate, Handover, Next, Root, Second, Side, Slot}
 
 first_is : (b : Bounds) (w : Word) → IsWithin b w → first_word b (place b w) ≡ new_word w
 first_is b Enrolled h = grind arith
@@ -17,6 +17,7 @@ first_is b (Counter r) h = grind arith
 first_is b (First r) h = grind arith
 first_is b (Second r) h = grind arith
 first_is b (Next r) h = grind arith
+first_is b (Side r) h = grind arith
 first_is b (Slot a k) h = grind arith
 first_is b (Handover a k) h = grind arith
 

@@ -15,7 +15,7 @@ pub use packed::{
     Counter, DECREMENT, INCREMENT, NEW_COUNTER, RETIRED, RowGate, RowLink, named, pack_counter,
     pack_gate, pack_link, read_counter, read_gate, read_link,
 };
-pub use place::{Word, different_words_have_different_places, place_of};
+pub use place::{Word, different_words_have_different_places, link_of_row, place_of};
 pub use shape::{Shape, ShapeFault};
 
 #[cfg(test)]

@@ -3,7 +3,7 @@
 ghost use Rattle.std.specs.Prelude.{◌≡◌, IfOk, length, slice_index};
 ghost use Rattle.orc_words.specs.declared.place.Word.{Word};
 ghost use Rattle.orc_words.specs.Bounds.{Bounds, bounds_of};
-ghost use Rattle.orc_words.specs.NewWords.{first_word, new_word, new_words};
+ghost use Rattle.orc_words.specs.NewWords.{first_word, is_counter_place, new_word, new_words};
 ghost use Rattle.orc_words.specs.Places.{IsWithin, place, places};
 
 use crate::packed::NEW_COUNTER;
@@ -26,13 +26,24 @@ pub fn new_words(alloc: Global, shape: &Shape) -> Result<Vec<u64>, NoMemory>
     Ok(words)
 }
 
+// Whether the place, counted from the first row's first word, is a counter's.
+fn is_counter_place(shape: &Shape, place: u32) -> bool
+    ensures { result ≡ is_counter_place (bounds_of shape.now) place }
+{
+    if shape.links() > 1 {
+        place % 6 == 1
+    } else {
+        place % 5 == 1
+    }
+}
+
 // What the word at a place holds at first.
 fn first_word(shape: &Shape, place: u32) -> u64
     ensures { result ≡ first_word (bounds_of shape.now) place }
 {
     let first_row = 1 + shape.roots();
-    let first_agent = first_row + 5 * shape.rows();
-    if first_row <= place && place < first_agent && (place - first_row) % 5 == 1 {
+    let first_agent = first_row + shape.words_of_rows(shape.rows());
+    if first_row <= place && place < first_agent && is_counter_place(shape, place - first_row) {
         NEW_COUNTER
     } else {
         0

@@ -3,7 +3,7 @@
 ghost use Rattle.std.specs.Prelude.{◌≡◌, ◌<◌};
 ghost use Rattle.orc_words.specs.declared.place.Word.{Word};
 ghost use Rattle.orc_words.specs.Bounds.{Bounds, bounds_of};
-ghost use Rattle.orc_words.specs.Places.{IsWithin, place, places};
+ghost use Rattle.orc_words.specs.Places.{IsWithin, link_at, place, places};
 
 use crate::Shape;
 
@@ -22,12 +22,26 @@ pub enum Word {
     First(u32),
     /// A row's second value.
     Second(u32),
-    /// A row's link.
+    /// A row's first link.
     Next(u32),
+    /// A row's second link, which it has in a shape with two.
+    Side(u32),
     /// The row that an agent's slot, from 0 to 7, names.
     Slot(u32, u32),
     /// The row that was handed over beside such a slot.
     Handover(u32, u32),
+}
+
+/// A row's link word by its number: 0 is its first link, and 1 its second.
+#[inline(always)]
+pub fn link_of_row(number: u32, row: u32) -> Word
+    ensures { result ≡ link_at number row }
+{
+    if number == 0 {
+        Word::Next(row)
+    } else {
+        Word::Side(row)
+    }
 }
 
 /// The place of a word in the table, from 0.
@@ -39,15 +53,16 @@ pub fn place_of(shape: &Shape, word: Word) -> usize
         → place (bounds_of shape.now) other ≡ result → other ≡ word }
 {
     let first_row = 1 + shape.roots() as usize;
-    let first_agent = first_row + 5 * shape.rows() as usize;
+    let first_agent = first_row + shape.words_of_rows(shape.rows()) as usize;
     match word {
         Word::Enrolled => 0,
         Word::Root(root) => 1 + root as usize,
-        Word::Gate(row) => first_row + 5 * row as usize,
-        Word::Counter(row) => first_row + 5 * row as usize + 1,
-        Word::First(row) => first_row + 5 * row as usize + 2,
-        Word::Second(row) => first_row + 5 * row as usize + 3,
-        Word::Next(row) => first_row + 5 * row as usize + 4,
+        Word::Gate(row) => first_row + shape.words_of_rows(row) as usize,
+        Word::Counter(row) => first_row + shape.words_of_rows(row) as usize + 1,
+        Word::First(row) => first_row + shape.words_of_rows(row) as usize + 2,
+        Word::Second(row) => first_row + shape.words_of_rows(row) as usize + 3,
+        Word::Next(row) => first_row + shape.words_of_rows(row) as usize + 4,
+        Word::Side(row) => first_row + shape.words_of_rows(row) as usize + 5,
         Word::Slot(agent, slot) => first_agent + 16 * agent as usize + slot as usize,
         Word::Handover(agent, slot) => first_agent + 16 * agent as usize + 8 + slot as usize,
     }

@@ -2,13 +2,14 @@
 
 ghost use Rattle.std.specs.Prelude.{◌≡◌, ◌≤◌, ◌^◌};
 
-/// The sizes of a table, and the limit of its lives and sequences.
+/// The sizes of a table, the limit of its lives and sequences, and the number of links of a row.
 #[derive(Clone, Copy, Debug, PartialEq, Eq)]
 pub struct Shape {
     rows: u32,
     roots: u32,
     agents: u32,
     limit: u64,
+    links: u32,
     pub ghost some_rows: { 2 ≤ rows },
     pub ghost few_rows: { rows ≤ 65535 },
     pub ghost some_roots: { 1 ≤ roots },
@@ -17,6 +18,8 @@ pub struct Shape {
     pub ghost few_agents: { agents ≤ 16 },
     pub ghost some_limit: { 1 ≤ limit },
     pub ghost low_limit: { limit ≤ 2 ^ 39 },
+    pub ghost some_links: { 1 ≤ links },
+    pub ghost few_links: { links ≤ 2 },
 }
 
 /// The first number of a shape that is out of range.
@@ -26,19 +29,20 @@ pub enum ShapeFault {
     Roots(u32),
     Agents(u32),
     Limit(u64),
+    Links(u32),
 }
 
 impl Shape {
     ghost use Rattle.std.specs.Prelude.{IfOk, IfErr};
     ghost use Rattle.orc_words.specs.Bounds.{Bounds, bounds_of, IsShape, IsFirstFault};
-    ghost use Rattle.orc_words.specs.Places.{places};
+    ghost use Rattle.orc_words.specs.Places.{places, words_of_rows};
 
-    /// A shape of 2 to 65,535 rows, 1 to 257 roots and 1 to 16 agents, with a limit of 1 to 2^39.
+    /// A shape of 2 to 65,535 rows, 1 to 257 roots and 1 to 16 agents, with a limit of 1 to 2^39. Its rows have one link.
     pub fn new(rows: u32, roots: u32, agents: u32, limit: u64) -> Result<Shape, ShapeFault>
         ensures in_range { IfOk result (λ shape. IsShape (bounds_of shape)) }
-        ensures asked { let asked : Bounds = record { rows = rows; roots = roots; agents = agents; limit = limit } in
+        ensures asked { let asked : Bounds = record { rows = rows; roots = roots; agents = agents; limit = limit; links = 1 } in
             IfOk result (λ shape. bounds_of shape ≡ asked) }
-        ensures fault { let asked : Bounds = record { rows = rows; roots = roots; agents = agents; limit = limit } in
+        ensures fault { let asked : Bounds = record { rows = rows; roots = roots; agents = agents; limit = limit; links = 1 } in
             IfErr result (IsFirstFault asked) }
     {
         if !(2..=65_535).contains(&rows) {
@@ -58,6 +62,34 @@ impl Shape {
             roots,
             agents,
             limit,
+            links: 1,
+        })
+    }
+
+    /// A shape as `new` makes it, but with 1 or 2 links for each row.
+    pub fn with_links(
+        rows: u32,
+        roots: u32,
+        agents: u32,
+        limit: u64,
+        links: u32,
+    ) -> Result<Shape, ShapeFault>
+        ensures in_range { IfOk result (λ shape. IsShape (bounds_of shape)) }
+        ensures asked { let asked : Bounds = record { rows = rows; roots = roots; agents = agents; limit = limit; links = links } in
+            IfOk result (λ shape. bounds_of shape ≡ asked) }
+        ensures fault { let asked : Bounds = record { rows = rows; roots = roots; agents = agents; limit = limit; links = links } in
+            IfErr result (IsFirstFault asked) }
+    {
+        let shape = Shape::new(rows, roots, agents, limit)?;
+        if !(1..=2).contains(&links) {
+            return Err(ShapeFault::Links(links));
+        }
+        Ok(Shape {
+            rows: shape.rows,
+            roots: shape.roots,
+            agents: shape.agents,
+            limit: shape.limit,
+            links,
         })
     }
 
@@ -88,10 +120,28 @@ impl Shape {
     {
         self.limit
     }
-    /// The number of words of a table.
+
+    /// The number of links of a row, 1 or 2.
+    pub fn links(&self) -> u32
+        ensures { result ≡ (bounds_of self.now).links }
+    {
+        self.links
+    }
+
+    /// How many words so many rows have: five each, or six where a row has two links.
+    #[inline(always)]
+    pub fn words_of_rows(&self, rows: u32) -> u32
+        requires { rows ≤ 65535 }
+        ensures { result ≡ words_of_rows (bounds_of self.now) rows }
+    {
+        if self.links > 1 { 6 * rows } else { 5 * rows }
+    }
+
+    /// The number of words of the machine, one at each place. A table that threads share is longer, for it has gaps
+    /// between them.
     pub fn words(&self) -> u32
         ensures { result ≡ places (bounds_of self.now) }
     {
-        1 + self.roots + 5 * self.rows + 16 * self.agents
+        1 + self.roots + self.words_of_rows(self.rows) + 16 * self.agents
     }
 }

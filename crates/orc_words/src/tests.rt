@@ -44,21 +44,22 @@ fn gate_words()
     ensures not_out { gate_of 4 ≢ record { life = 2; out = true } }
 {}
 
-// Two rows, one root and two agents: 1 + 1 + 5 × 2 + 16 × 2 words.
+// Two rows, one root and two agents: 1 + 1 + 5 × 2 + 16 × 2 words with one link, and 1 + 1 + 6 × 2 + 16 × 2 with two.
 fn word_places()
-    ensures all { places (record { rows = 2; roots = 1; agents = 2; limit = 8 }) ≡ 44 }
-    ensures second_gate { place (record { rows = 2; roots = 1; agents = 2; limit = 8 }) (Word.Gate 1) ≡ 7 }
-    ensures first_slot { place (record { rows = 2; roots = 1; agents = 2; limit = 8 }) (Word.Slot 0 0) ≡ 12 }
-    ensures last { place (record { rows = 2; roots = 1; agents = 2; limit = 8 }) (Word.Handover 1 7) ≡ 43 }
-    ensures no_third_row { ¬ IsWithin (record { rows = 2; roots = 1; agents = 2; limit = 8 }) (Word.Next 2) }
-    ensures no_ninth_slot { ¬ IsWithin (record { rows = 2; roots = 1; agents = 2; limit = 8 }) (Word.Slot 0 8) }
+    ensures one_link { let b : Bounds = record { rows = 2; roots = 1; agents = 2; limit = 8; links = 1 } in
+        (places b ≡ 44) × (place b (Word.Gate 1) ≡ 7) × (place b (Word.Slot 0 0) ≡ 12) × (place b (Word.Handover 1 7) ≡ 43)
+        × (¬ IsWithin b (Word.Next 2)) × (¬ IsWithin b (Word.Side 0)) × (¬ IsWithin b (Word.Slot 0 8)) }
+    ensures two_links { let b : Bounds = record { rows = 2; roots = 1; agents = 2; limit = 8; links = 2 } in
+        (places b ≡ 46) × (place b (Word.Side 0) ≡ 7) × (place b (Word.Gate 1) ≡ 8) × (place b (Word.Slot 0 0) ≡ 14)
+        × IsWithin b (Word.Side 1) × (¬ IsWithin b (Word.Side 2)) }
 {}
 
-// In that table place 3 is the counter of row 0, and place 2 its gate.
+// In those tables place 3 is the counter of row 0, and place 2 its gate; the counter of row 1 is at 8, or at 9 with two links.
 fn words_of_a_new_table()
-    ensures counter { first_word (record { rows = 2; roots = 1; agents = 2; limit = 8 }) 3 ≡ 4194304 }
-    ensures gate { first_word (record { rows = 2; roots = 1; agents = 2; limit = 8 }) 2 ≡ 0 }
-    ensures second_counter { slice_index (new_words (record { rows = 2; roots = 1; agents = 2; limit = 8 })) 8 ≡ new_word (Word.Counter 1) }
+    ensures one_link { let b : Bounds = record { rows = 2; roots = 1; agents = 2; limit = 8; links = 1 } in
+        (first_word b 3 ≡ 4194304) × (first_word b 2 ≡ 0) × (slice_index (new_words b) 8 ≡ new_word (Word.Counter 1)) }
+    ensures two_links { let b : Bounds = record { rows = 2; roots = 1; agents = 2; limit = 8; links = 2 } in
+        (first_word b 8 ≡ 0) × (first_word b 9 ≡ 4194304) }
     ensures slot { new_word (Word.Slot 1 2) ≡ 0 }
 {}
 
@@ -76,34 +77,37 @@ fn operations()
 
 // One row is too few, and 17 agents are named only where rows and roots are in range.
 fn shape_ranges()
-    ensures fits { IsShape (record { rows = 65535; roots = 257; agents = 16; limit = 549755813888 }) }
-    ensures few_rows { IsFirstFault (record { rows = 1; roots = 1; agents = 17; limit = 1 }) (ShapeFault.Rows 1) }
-    ensures not_agents { ¬ IsFirstFault (record { rows = 1; roots = 1; agents = 17; limit = 1 }) (ShapeFault.Agents 17) }
-    ensures no_limit { ¬ IsShape (record { rows = 2; roots = 1; agents = 1; limit = 0 }) }
+    ensures fits { IsShape (record { rows = 65535; roots = 257; agents = 16; limit = 549755813888; links = 2 }) }
+    ensures few_rows { IsFirstFault (record { rows = 1; roots = 1; agents = 17; limit = 1; links = 1 }) (ShapeFault.Rows 1) }
+    ensures not_agents { ¬ IsFirstFault (record { rows = 1; roots = 1; agents = 17; limit = 1; links = 1 }) (ShapeFault.Agents 17) }
+    ensures no_limit { ¬ IsShape (record { rows = 2; roots = 1; agents = 1; limit = 0; links = 1 }) }
+    ensures three_links { IsFirstFault (record { rows = 2; roots = 1; agents = 1; limit = 8; links = 3 }) (ShapeFault.Links 3) }
 {}
 
-fn fault_of(rows: u32, roots: u32, agents: u32, limit: u64) -> Option<ShapeFault> {
-    Shape::new(rows, roots, agents, limit).err()
+fn fault_of(rows: u32, roots: u32, agents: u32, limit: u64, links: u32) -> Option<ShapeFault> {
+    Shape::with_links(rows, roots, agents, limit, links).err()
 }
 
 #[test]
 fn bounds_of_a_shape(rt: HostRuntime) {
     let top = 549_755_813_888;
-    for (rows, roots, agents, limit, want) in [
-        (2, 1, 1, 1, None),
-        (65_535, 257, 16, top, None),
-        (1, 1, 1, 1, Some(ShapeFault::Rows(1))),
-        (65_536, 1, 1, 1, Some(ShapeFault::Rows(65_536))),
-        (2, 0, 1, 1, Some(ShapeFault::Roots(0))),
-        (2, 258, 1, 1, Some(ShapeFault::Roots(258))),
-        (2, 1, 0, 1, Some(ShapeFault::Agents(0))),
-        (2, 1, 17, 1, Some(ShapeFault::Agents(17))),
-        (2, 1, 1, 0, Some(ShapeFault::Limit(0))),
-        (2, 1, 1, top + 1, Some(ShapeFault::Limit(top + 1))),
-        (1, 1, 17, 1, Some(ShapeFault::Rows(1))),
+    for (rows, roots, agents, limit, links, want) in [
+        (2, 1, 1, 1, 1, None),
+        (65_535, 257, 16, top, 2, None),
+        (1, 1, 17, 1, 3, Some(ShapeFault::Rows(1))),
+        (65_536, 1, 1, 1, 1, Some(ShapeFault::Rows(65_536))),
+        (2, 0, 1, 1, 1, Some(ShapeFault::Roots(0))),
+        (2, 258, 1, 1, 2, Some(ShapeFault::Roots(258))),
+        (2, 1, 0, 1, 1, Some(ShapeFault::Agents(0))),
+        (2, 1, 17, 1, 2, Some(ShapeFault::Agents(17))),
+        (2, 1, 1, 0, 3, Some(ShapeFault::Limit(0))),
+        (2, 1, 1, top + 1, 1, Some(ShapeFault::Limit(top + 1))),
+        (2, 1, 1, 8, 0, Some(ShapeFault::Links(0))),
+        (2, 1, 1, 8, 3, Some(ShapeFault::Links(3))),
     ] {
-        assert_eq!(rt; fault_of(rows, roots, agents, limit), want);
+        assert_eq!(rt; fault_of(rows, roots, agents, limit, links), want);
     }
+    assert_eq!(rt; Shape::new(2, 0, 1, 1).err(), Some(ShapeFault::Roots(0)));
 }
 
 #[test]
@@ -132,12 +136,13 @@ fn packed_words_are_read_back(rt: HostRuntime) {
 fn places_of_a_small_table(rt: HostRuntime) -> Result<(), Fail> {
     let shape = Shape::new(2, 1, 2, 8)?;
     assert_eq!(rt; (shape.rows(), shape.roots()), (2, 1));
-    assert_eq!(rt; (shape.agents(), shape.limit()), (2, 8));
+    assert_eq!(rt; (shape.agents(), shape.limit(), shape.links()), (2, 8, 1));
     for (word, want) in [
         (Word::Enrolled, 0),
         (Word::Root(0), 1),
         (Word::Gate(0), 2),
         (Word::Next(1), 11),
+        (Word::Side(1), NO_PLACE),
         (Word::Slot(1, 2), 30),
         (Word::Handover(1, 2), 38),
     ] {
@@ -152,6 +157,24 @@ fn places_of_a_small_table(rt: HostRuntime) -> Result<(), Fail> {
         (0, NEW_COUNTER, NEW_COUNTER)
     );
     a_new_table_has_each_word();
+    Ok(())
+}
+
+#[test]
+fn places_where_rows_have_two_links(rt: HostRuntime) -> Result<(), Fail> {
+    let shape = Shape::with_links(2, 1, 2, 8, 2)?;
+    assert_eq!(rt; (shape.links(), shape.words()), (2, 46));
+    for (word, want) in [
+        (Word::Next(1), 12),
+        (Word::Side(1), 13),
+        (Word::Slot(0, 0), 14),
+    ] {
+        assert_eq!(rt; place_in_small(&shape, word), want);
+    }
+    assert_eq!(rt;
+        (link_of_row(0, 1), link_of_row(1, 1)),
+        (Word::Next(1), Word::Side(1))
+    );
     Ok(())
 }
 
@@ -173,7 +196,10 @@ fn what_operations_leave_and_answer(rt: HostRuntime) {
     }
 }
 
-// The place of a word that the small table has; the end of the table for another.
+// No place of the small tables.
+const NO_PLACE: usize = 46;
+
+// The place of a word that the small table has; no place for another.
 fn place_in_small(shape: &Shape, word: Word) -> usize {
     let within = match word {
         Word::Enrolled => true,
@@ -183,11 +209,16 @@ fn place_in_small(shape: &Shape, word: Word) -> usize {
         | Word::First(row)
         | Word::Second(row)
         | Word::Next(row) => row < shape.rows(),
+        Word::Side(row) => row < shape.rows() && shape.links() > 1,
         Word::Slot(agent, slot) | Word::Handover(agent, slot) => {
             agent < shape.agents() && slot < 8
         }
     };
-    if within { place_of(shape, word) } else { 44 }
+    if within {
+        place_of(shape, word)
+    } else {
+        NO_PLACE
+    }
 }
 
 #[test]

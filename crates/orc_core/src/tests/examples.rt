@@ -79,24 +79,24 @@ fn order()
 
 // An agent that isn't enrolled may only enroll, and a look is for every row of the table.
 fn permissions()
-    ensures enroll { may (record { rows = 2; roots = 1; agents = 2; limit = 8 }) 1 1 Op.Enroll (nobody 2) ≡ true }
-    ensures too_early { may (record { rows = 2; roots = 1; agents = 2; limit = 8 }) 0 1 Op.Enroll (nobody 2) ≡ false }
-    ensures not_enrolled { may (record { rows = 2; roots = 1; agents = 2; limit = 8 }) 0 0 (Op.GateLook 0) (nobody 2) ≡ false }
-    ensures look { may (record { rows = 2; roots = 1; agents = 2; limit = 8 }) 1 0 (Op.GateLook 1) (record (nobody 2) { enrolled = true }) ≡ true }
-    ensures no_row { may (record { rows = 2; roots = 1; agents = 2; limit = 8 }) 1 0 (Op.GateLook 2) (record (nobody 2) { enrolled = true }) ≡ false }
+    ensures enroll { may (record { rows = 2; roots = 1; agents = 2; limit = 8; links = 1 }) 1 1 Op.Enroll (nobody 2) ≡ true }
+    ensures too_early { may (record { rows = 2; roots = 1; agents = 2; limit = 8; links = 1 }) 0 1 Op.Enroll (nobody 2) ≡ false }
+    ensures not_enrolled { may (record { rows = 2; roots = 1; agents = 2; limit = 8; links = 1 }) 0 0 (Op.GateLook 0) (nobody 2) ≡ false }
+    ensures look { may (record { rows = 2; roots = 1; agents = 2; limit = 8; links = 1 }) 1 0 (Op.GateLook 1) (record (nobody 2) { enrolled = true }) ≡ true }
+    ensures no_row { may (record { rows = 2; roots = 1; agents = 2; limit = 8; links = 1 }) 1 0 (Op.GateLook 2) (record (nobody 2) { enrolled = true }) ≡ false }
     ensures same_row { may_change (nobody 2) 72 (Some 1) (Some 1) ≡ true }
     ensures unchecked { may_change (nobody 2) 72 None (Some 1) ≡ false }
-    ensures root { may_place (record { rows = 2; roots = 1; agents = 2; limit = 8 }) (Word.Root 0) (λ r. false) ≡ true }
-    ensures gate { may_place (record { rows = 2; roots = 1; agents = 2; limit = 8 }) (Word.Gate 0) (λ r. true) ≡ false }
+    ensures root { may_place (record { rows = 2; roots = 1; agents = 2; limit = 8; links = 1 }) (Word.Root 0) (λ r. false) ≡ true }
+    ensures gate { may_place (record { rows = 2; roots = 1; agents = 2; limit = 8; links = 1 }) (Word.Gate 0) (λ r. true) ≡ false }
 {}
 
 // The first agent enrolls first.
 fn states()
-    ensures enrolled { word_in (step (new_machine (record { rows = 2; roots = 1; agents = 2; limit = 8 })) 0 Op.Enroll) Word.Enrolled ≡ 1 }
-    ensures answered { answer (new_machine (record { rows = 2; roots = 1; agents = 2; limit = 8 })) 0 Op.Enroll ≡ 0 }
-    ensures room { has_room (new_machine (record { rows = 2; roots = 1; agents = 2; limit = 8 })) 0 ≡ true }
-    ensures lawful { IsLawful (new_machine (record { rows = 2; roots = 1; agents = 2; limit = 8 })) ((0, Op.Enroll) ∷ (1, Op.Enroll) ∷ []) }
-    ensures not_lawful { ¬ IsLawful (new_machine (record { rows = 2; roots = 1; agents = 2; limit = 8 })) ((1, Op.Enroll) ∷ []) }
+    ensures enrolled { word_in (step (new_machine (record { rows = 2; roots = 1; agents = 2; limit = 8; links = 1 })) 0 Op.Enroll) Word.Enrolled ≡ 1 }
+    ensures answered { answer (new_machine (record { rows = 2; roots = 1; agents = 2; limit = 8; links = 1 })) 0 Op.Enroll ≡ 0 }
+    ensures room { has_room (new_machine (record { rows = 2; roots = 1; agents = 2; limit = 8; links = 1 })) 0 ≡ true }
+    ensures lawful { IsLawful (new_machine (record { rows = 2; roots = 1; agents = 2; limit = 8; links = 1 })) ((0, Op.Enroll) ∷ (1, Op.Enroll) ∷ []) }
+    ensures not_lawful { ¬ IsLawful (new_machine (record { rows = 2; roots = 1; agents = 2; limit = 8; links = 1 })) ((1, Op.Enroll) ∷ []) }
 {}
 
 // 0 + 1 + 2 + 3, and which of these are below 2.
@@ -107,6 +107,6 @@ fn sums()
     ensures none { some_below 3 (λ i. i == 3) ≡ false }
     ensures link { links_to 11 4 ≡ true }
     ensures null { links_to 1 0 ≡ false }
-    ensures listed { (census_of (new_machine (record { rows = 2; roots = 1; agents = 2; limit = 8 }))).listed ≡ 0 }
-    ensures no_target { is_target (new_machine (record { rows = 2; roots = 1; agents = 2; limit = 8 })) 0 ≡ false }
+    ensures listed { (census_of (new_machine (record { rows = 2; roots = 1; agents = 2; limit = 8; links = 1 }))).listed ≡ 0 }
+    ensures no_target { is_target (new_machine (record { rows = 2; roots = 1; agents = 2; limit = 8; links = 1 })) 0 ≡ false }
 {}

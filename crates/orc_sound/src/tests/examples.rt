@@ -16,7 +16,7 @@ ghost use Rattle.orc_core.specs.Runs.{run};
 ghost use Rattle.orc_sound.specs.Backlog.{backlog, is_listed};
 ghost use Rattle.orc_sound.specs.Balance.{decrements, increments};
 ghost use Rattle.orc_sound.specs.Decisions.{agent_fits, all_below, all_fit, count_fits, doom_fits, enrolment_fits, free_fits, fresh_fits, looks_fit, named_passes, out_in, range_fits, row_fits, row_held, scan_fits, slot_fits, target_fits, token_fits};
-ghost use Rattle.orc_sound.specs.Doomed.{dooms, dooms_cut};
+ghost use Rattle.orc_sound.specs.Doomed.{cuts_past, dooms, dooms_cut};
 ghost use Rattle.orc_sound.specs.Journals.{plain};
 ghost use Rattle.orc_sound.specs.Lifetimes.{NoWrap, times_freed, times_taken};
 ghost use Rattle.orc_sound.specs.Linked.{changes, held, linked};
@@ -28,13 +28,13 @@ ghost use Rattle.orc_sound.specs.RetirementToken.{dooming, tokens};
 // Row 0 is taken, held in slot 1 and linked from root 0, and that link isn't counted yet.
 fn a_link_that_is_not_counted_yet()
     ensures linked { let m =
-        run (new_machine (record { rows = 2; roots = 1; agents = 1; limit = 8 }))
+        run (new_machine (record { rows = 2; roots = 1; agents = 1; limit = 8; links = 1 }))
         ((0, Op.Enroll) ∷ (0, Op.GateLook 0) ∷ (0, Op.CounterLoad 0 CounterUse.Check) ∷ (0, Op.GateTake 0) ∷ (0, Op.Publish 1 0)
         ∷ (0, Op.CounterLoad 0 CounterUse.Check)
         ∷ (0, Op.LinkCas (Word.Root 0) (record { to = None; mark = false }) (record { to = Some 0; mark = false })) ∷ []) in
         (linked m 0 ≡ 1) × (increments m 0 ≡ 1) × (decrements m 0 ≡ 0) × ((counter_of (word_in m (Word.Counter 0))).count ≡ pos 0) }
     ensures held { let m =
-        run (new_machine (record { rows = 2; roots = 1; agents = 1; limit = 8 }))
+        run (new_machine (record { rows = 2; roots = 1; agents = 1; limit = 8; links = 1 }))
         ((0, Op.Enroll) ∷ (0, Op.GateLook 0) ∷ (0, Op.CounterLoad 0 CounterUse.Check) ∷ (0, Op.GateTake 0) ∷ (0, Op.Publish 1 0)
         ∷ (0, Op.CounterLoad 0 CounterUse.Check)
         ∷ (0, Op.LinkCas (Word.Root 0) (record { to = None; mark = false }) (record { to = Some 0; mark = false })) ∷ []) in
@@ -42,29 +42,47 @@ fn a_link_that_is_not_counted_yet()
         × (has_reason m 1 ≡ false) }
 {}
 
+// Root 0 and both links of row 1 name row 0.
+fn links_of_both_numbers()
+    ensures linked { let m =
+        run (new_machine (record { rows = 2; roots = 1; agents = 1; limit = 8; links = 2 }))
+        ((0, Op.Enroll) ∷ (0, Op.GateLook 0) ∷ (0, Op.CounterLoad 0 CounterUse.Check) ∷ (0, Op.GateTake 0) ∷ (0, Op.Publish 1 0)
+        ∷ (0, Op.CounterLoad 0 CounterUse.Check)
+        ∷ (0, Op.LinkCas (Word.Root 0) (record { to = None; mark = false }) (record { to = Some 0; mark = false })) ∷ (0, Op.Inc 0)
+        ∷ (0, Op.GateLook 1) ∷ (0, Op.CounterLoad 1 CounterUse.Check) ∷ (0, Op.GateTake 1) ∷ (0, Op.Publish 2 1)
+        ∷ (0, Op.CounterLoad 0 CounterUse.Check) ∷ (0, Op.LinkStore 1 0 (record { to = Some 0; mark = false })) ∷ (0, Op.Inc 0)
+        ∷ (0, Op.CounterLoad 0 CounterUse.Check) ∷ (0, Op.LinkStore 1 1 (record { to = Some 0; mark = false })) ∷ (0, Op.Inc 0) ∷ []) in
+        (linked m 0 ≡ 3) × (linked m 1 ≡ 0) × ((counter_of (word_in m (Word.Counter 0))).count ≡ pos 3) }
+{}
+
 // Row 0 is taken and retired: first it waits in the work list, then it is scanned.
 fn a_retired_row()
     ensures listed { let m =
-        run (new_machine (record { rows = 2; roots = 1; agents = 1; limit = 8 }))
+        run (new_machine (record { rows = 2; roots = 1; agents = 1; limit = 8; links = 1 }))
         ((0, Op.Enroll) ∷ (0, Op.GateLook 0) ∷ (0, Op.CounterLoad 0 CounterUse.Check) ∷ (0, Op.GateTake 0) ∷ (0, Op.SetRetired 0 0) ∷ []) in
         (tokens m 0 ≡ 1) × (is_listed m 0 ≡ true) × (backlog m ≡ 0) × (tokens m 1 ≡ 0) }
     ensures scanned { let m =
-        run (new_machine (record { rows = 2; roots = 1; agents = 1; limit = 8 }))
+        run (new_machine (record { rows = 2; roots = 1; agents = 1; limit = 8; links = 1 }))
         ((0, Op.Enroll) ∷ (0, Op.GateLook 0) ∷ (0, Op.CounterLoad 0 CounterUse.Check) ∷ (0, Op.GateTake 0) ∷ (0, Op.SetRetired 0 0)
         ∷ (0, Op.CounterLoad 0 CounterUse.Start) ∷ []) in
         (tokens m 0 ≡ 1) × (is_listed m 0 ≡ false) × (backlog m ≡ 1) }
-    ensures taken { times_taken (new_machine (record { rows = 2; roots = 1; agents = 1; limit = 8 }))
+    ensures taken { times_taken (new_machine (record { rows = 2; roots = 1; agents = 1; limit = 8; links = 1 }))
         ((0, Op.Enroll) ∷ (0, Op.GateLook 0) ∷ (0, Op.CounterLoad 0 CounterUse.Check) ∷ (0, Op.GateTake 0) ∷ []) 0 ≡ 1 }
     ensures freed { times_freed ((0, Op.Free 0) ∷ (1, Op.Free 1) ∷ (0, Op.Free 0) ∷ []) 0 ≡ 2 }
 {}
 
 // Parts of a record, and slot words.
 fn parts_of_a_record()
-    ensures doom { (dooms (Some (record { row = 3; cut = false; bare = false })) 3 ≡ true)
-        × (dooms (Some (record { row = 3; cut = false; bare = false })) 4 ≡ false)
-        × (dooms_cut (Some (record { row = 3; cut = false; bare = false })) 3 ≡ false) }
-    ensures bare { (dooming (Some (record { row = 3; cut = true; bare = false })) 3 ≡ true)
-        × (dooming (Some (record { row = 3; cut = true; bare = true })) 3 ≡ false) }
+    ensures doom { (dooms (Some (record { row = 3; cuts = 0; bare = false })) 3 ≡ true)
+        × (dooms (Some (record { row = 3; cuts = 0; bare = false })) 4 ≡ false)
+        × (dooms_cut 1 (Some (record { row = 3; cuts = 0; bare = false })) 3 ≡ false)
+        × (dooms_cut 1 (Some (record { row = 3; cuts = 1; bare = false })) 3 ≡ true)
+        × (dooms_cut 2 (Some (record { row = 3; cuts = 1; bare = false })) 3 ≡ false) }
+    ensures cut { (cuts_past (Some (record { row = 3; cuts = 1; bare = false })) 3 0 ≡ true)
+        × (cuts_past (Some (record { row = 3; cuts = 1; bare = false })) 3 1 ≡ false)
+        × (cuts_past (Some (record { row = 3; cuts = 1; bare = false })) 4 0 ≡ false) }
+    ensures bare { (dooming (Some (record { row = 3; cuts = 1; bare = false })) 3 ≡ true)
+        × (dooming (Some (record { row = 3; cuts = 1; bare = true })) 3 ≡ false) }
     ensures nothing { (changes (nobody 2) 0 ≡ false) × (keeps_out (nobody 2) 0 0 ≡ false) }
     ensures slots { (slot_word SlotUse.Empty ≡ 0) × (slot_word (SlotUse.Published 4) ≡ 5) × (slot_word (SlotUse.Held 4) ≡ 5) }
     ensures sums { (NoWrap (Operation.Sub 1) 1) × ¬ (NoWrap (Operation.Sub 1) 0) }
@@ -75,7 +93,7 @@ fn tests_and_journals()
     ensures numbers { (all_below 3 (λ n. nat_lt n 3) ≡ true) × (all_below 4 (λ n. nat_lt n 3) ≡ false) }
     ensures names { (named_passes None (λ n. false) ≡ true) × (named_passes (Some 2) (λ n. n == 3) ≡ false) × (row_held (SlotUse.Published 4) ≡ None)
         × (row_held (SlotUse.Held 4) ≡ Some 4) }
-    ensures new { let m = new_machine (record { rows = 2; roots = 1; agents = 1; limit = 8 }) in
+    ensures new { let m = new_machine (record { rows = 2; roots = 1; agents = 1; limit = 8; links = 1 }) in
         (target_fits m 0 ≡ true) × (target_fits m 2 ≡ false) × (out_in m 0 ≡ false) × (row_fits m 1 ≡ true) × (agent_fits m 0 ≡ true) × (all_fit m ≡ true) }
     ensures journal { plain {N = ℕ} (record { agent = 1; op = Op.Free 3; want = None; note = Some 7 } ∷ []) ≡ (1, Op.Free 3) ∷ [] }
 {}
@@ -84,7 +102,7 @@ fn tests_and_journals()
 // 0, and of row 0 its gate, counter and link, then the word of slot 1, and the record of the one agent.
 fn states_with_one_part_broken()
     ensures one_by_one { let state : ℕ → ℕ → ℕ → ℕ → ℕ → Agent → Machine = λ root gate counter next slot d. record {
-      bounds = record { rows = 2; roots = 1; agents = 1; limit = 8 };
+      bounds = record { rows = 2; roots = 1; agents = 1; limit = 8; links = 1 };
       words = 1 ∷ root ∷ gate ∷ counter ∷ 0 ∷ 0 ∷ next ∷ 0 ∷ 4194304 ∷ 0 ∷ 0 ∷ 0 ∷ 0 ∷ slot ∷ replicate 14 0;
       agents = d ∷ [];
     } in
@@ -116,7 +134,7 @@ fn states_with_one_part_broken()
         × (breaks (λ m. token_fits m 0) (state 2 1 29360129 0 0 idle) ≡ true)
         × (breaks (λ m. scan_fits m (record_at m 0).scan) (state 0 1 29360128 0 1 (scanning holding 29360128 2)) ≡ true)
         × (breaks (λ m. doom_fits m 0 (record_at m 0).doom)
-        (state 2 1 29360129 0 0 (agent true empty None None None None (Some (record { row = 0; cut = false; bare = false })))) ≡ true)
+        (state 2 1 29360129 0 0 (agent true empty None None None None (Some (record { row = 0; cuts = 0; bare = false })))) ≡ true)
         × (breaks (λ m. free_fits m 0) (state 0 0 4194304 1 0 idle) ≡ true)
         × (breaks (λ m. has_reason m 0) (state 0 1 4194304 0 0 idle) ≡ true)
         × (breaks (λ m. enrolment_fits m 0) (state 2 1 20971521 0 0 (agent false empty None None None None None)) ≡ true)

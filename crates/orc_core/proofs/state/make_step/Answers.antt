@@ -2,7 +2,7 @@
 use Rattle.std.proofs.Common.{arith}
 use Rattle.std.specs.Prelude.{slice_index}
 use Rattle.orc_words.specs.Bounds.{bounds_of}
-use Rattle.orc_core.proofs.Within.{may_packable, may_within, may_below}
+use Rattle.orc_core.proofs.Within.{may_packable, may_recordable, may_within, may_below}
 use Rattle.orc_core.proofs.state.make_step.Goals as goal
 
 pub action_of-action-requires : goal.action_of-action-requires
@@ -28,4 +28,9 @@ bounds-words-place-2 c =
 pub advance-requires-clause-packable : goal.advance-requires-clause-packable
 advance-requires-clause-packable c =
     may_packable (bounds_of c.args.shape.now) (slice_index c.args.words.now 0) c.args.number c.args.op.now c.args.agent.now c.requires.allowed
+    (omega arith) (omega arith)
+
+pub advance-requires-clause-recordable : goal.advance-requires-clause-recordable
+advance-requires-clause-recordable c =
+    may_recordable (bounds_of c.args.shape.now) (slice_index c.args.words.now 0) c.args.number c.args.op.now c.args.agent.now c.requires.allowed
     (omega arith) (omega arith)

@@ -1,0 +1,110 @@
+//! A run in which a row has two links, with words and counts computed by hand.
+
+use super::*;
+
+// Both links of row 1 are to row 0, which root 0 links too. When row 1 is to be freed its links are taken out one after the
+// other, and its bit isn't cleared after the first.
+#[test]
+fn a_row_with_two_links(rt: HostRuntime) -> Result<(), Fail> {
+    let shape = Shape::with_links(2, 1, 1, 8, 2)?;
+    let mut state = State::new(rt.alloc(), &shape)?;
+    let _ = step(&mut state, 0, Op::Enroll)?;
+    link_row_0(&mut state, 0)?;
+    let check = |row| Op::CounterLoad {
+        row,
+        how: CounterUse::Check,
+    };
+    steps(
+        &mut state,
+        0,
+        &[
+            Op::GateLook { row: 1 },
+            check(1),
+            Op::GateTake { row: 1 },
+            Op::Publish { slot: 2, row: 1 },
+            check(0),
+            Op::LinkStore {
+                row: 1,
+                number: 0,
+                link: ROW_0,
+            },
+            Op::Inc { row: 0 },
+            check(0),
+            Op::LinkStore {
+                row: 1,
+                number: 1,
+                link: ROW_0,
+            },
+            Op::Inc { row: 0 },
+        ],
+    )?;
+    let two_out = Census {
+        out: 2,
+        linked: 1,
+        ..NONE_OUT
+    };
+    assert_eq!(rt; census(&state), two_out);
+    assert_eq!(rt; words_of_row_0(&state), (3, 54_525_955, 2));
+    steps(
+        &mut state,
+        0,
+        &[
+            Op::SetRetired {
+                row: 1,
+                sequence: 0,
+            },
+            Op::Clear { slot: 2 },
+            Op::TakeIn { slot: 2 },
+            Op::CounterLoad {
+                row: 1,
+                how: CounterUse::Start,
+            },
+        ],
+    )?;
+    look_at_slots(&mut state, 0, 0, 8)?;
+    steps(
+        &mut state,
+        0,
+        &[
+            Op::CounterLoad {
+                row: 1,
+                how: CounterUse::End,
+            },
+            Op::LinkStore {
+                row: 1,
+                number: 0,
+                link: NULL,
+            },
+            Op::Arm { row: 0 },
+            Op::Dec { row: 0 },
+            Op::Clear { slot: 0 },
+        ],
+    )?;
+    assert_eq!(rt;
+        step(&mut state, 0, Op::Unretire { row: 1 }).err(),
+        Some(NotAllowed)
+    );
+    steps(
+        &mut state,
+        0,
+        &[
+            Op::LinkStore {
+                row: 1,
+                number: 1,
+                link: NULL,
+            },
+            Op::Arm { row: 0 },
+            Op::Dec { row: 0 },
+            Op::Clear { slot: 0 },
+            Op::Unretire { row: 1 },
+            Op::Free { row: 1 },
+        ],
+    )?;
+    let one_out = Census {
+        out: 1,
+        linked: 1,
+        ..NONE_OUT
+    };
+    assert_eq!(rt; census(&state), one_out);
+    Ok(())
+}
