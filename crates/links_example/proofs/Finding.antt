@@ -16,7 +16,7 @@ use Rattle.orc_heap.specs.declared.events.Act.TheVariants.{Look}
 use Rattle.orc_heap.specs.declared.events.Event.{Event}
 use Rattle.orc_heap.specs.declared.events.Link.{Link}
 use Rattle.orc_heap.specs.declared.events.Place.{Place}
-use Rattle.orc_heap.specs.declared.events.Place.TheVariants.{Next, Root}
+use Rattle.orc_heap.specs.declared.events.Place.TheVariants.{Next, Root, Side}
 use Rattle.orc_heap.specs.declared.holds.Looked.TheVariants.{Moved}
 use Rattle.links_example.specs.OwnRoots.{OwnRootsMay}
 use Rattle.links_example.specs.Stacks.{Finds, LeadsTo, plain_link}
@@ -27,6 +27,7 @@ leads_later : (n : HeapNumbers) (s : Seat ℕ) (place : Place) (to : ℕ) (more 
     → list_any (λ e. is_move e.act) (events_by s.agent more) ≡ false → shown (run_heap n (s.seen ++ more)) place ≡ Some (plain_link (Some to))
 leads_later n s (Root r) to more l all none = rw l.0 (top_later n s.agent _ s.seen more all none l.1)
 leads_later n s (Next id) to more l all none = ap (option_map (λ (x : Node). x.link)) (node_later n s.agent id l.0 (Some to) s.seen more all l.1)
+leads_later n s (Side id) to more l all none = absurd l
 
 -- so each Look of a call finds it
 pub look_finds : (n : HeapNumbers) (s t : Seat ℕ) (place : Place) (to : ℕ) (own : List (Event ℕ)) (found : Link) (rest : List (Event ℕ))

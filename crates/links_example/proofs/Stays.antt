@@ -16,10 +16,10 @@ use Rattle.orc_heap.specs.Journals.{names_node, run_heap}
 use Rattle.orc_heap.specs.OwnEvents.{Only, Puts}
 use Rattle.orc_heap.specs.Seats.{Seat}
 use Rattle.orc_heap.specs.declared.events.Act.{Act}
-use Rattle.orc_heap.specs.declared.events.Act.TheVariants.{Aim, Fill, Give, Look, Miss, Move}
+use Rattle.orc_heap.specs.declared.events.Act.TheVariants.{Aim, AimSide, Fill, Give, Look, Miss, Move}
 use Rattle.orc_heap.specs.declared.events.Event.{Event}
 use Rattle.orc_heap.specs.declared.events.Link.{Link}
-use Rattle.orc_heap.specs.declared.events.Place.TheVariants.{Next, Root}
+use Rattle.orc_heap.specs.declared.events.Place.TheVariants.{Next, Root, Side}
 use Rattle.links_example.specs.OwnRoots.{IsOwnMove, OwnRootsMay}
 use Rattle.links_example.specs.Stacks.{HasNode, HasTop, StackStays, stack_node}
 
@@ -43,9 +43,14 @@ node_untouched by agent id value below (Aim i to) noted h fits m there =
     let same = unless (i == id) (record (stack_node agent value below) { link = record { to = to; mark = false } }) (stack_node agent value below)
     (not_fresh by agent i id value below h there fits.0) in
     either_same (names_node to id) _ _ _ (ap as_named same) same
+node_untouched by agent id value below (AimSide i to) noted h fits m there =
+    let same = unless (i == id) (record (stack_node agent value below) { side = record { to = to; mark = false } }) (stack_node agent value below)
+    (not_fresh by agent i id value below h there fits.0) in
+    either_same (names_node to id) _ _ _ (ap as_named same) same
 node_untouched by agent id value below (Look place link) noted h fits m there = refl
 node_untouched by agent id value below (Move (Root r) from to) noted h fits m there = either_same (names_node to.to id) _ _ _ refl refl
 node_untouched by agent id value below (Move (Next i) from to) noted h fits m there = absurd m
+node_untouched by agent id value below (Move (Side i) from to) noted h fits m there = absurd m
 node_untouched by agent id value below (Miss place wanted found) noted h fits m there = refl
 
 -- a node of a stack stays, whatever happens
@@ -69,11 +74,13 @@ root_kept : (by agent : ℕ) (act : Act) (noted : Option ℕ) (h : Heap) → IsO
 root_kept by agent Give noted h m k = refl
 root_kept by agent (Fill i which v) noted h m k = refl
 root_kept by agent (Aim i to) noted h m k = ap (λ rs. slice_get rs agent) (target_roots as_named to _)
+root_kept by agent (AimSide i to) noted h m k = ap (λ rs. slice_get rs agent) (target_roots as_named to _)
 root_kept by agent (Look place link) noted h m k = refl
 root_kept by agent (Move (Root r) from to) noted h m k =
     ap (λ rs. slice_get rs agent) (target_roots as_linked to.to _)
     ∙ get-change_other (λ (l : Link). to) r agent h.roots (λ e. let t : true ≡ false = k (sym m.0 ∙ sym e) in cc)
 root_kept by agent (Move (Next i) from to) noted h m k = absurd m
+root_kept by agent (Move (Side i) from to) noted h m k = absurd m
 root_kept by agent (Miss place wanted found) noted h m k = refl
 
 -- the agent's root stays, but for Moves of its own

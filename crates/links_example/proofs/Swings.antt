@@ -12,7 +12,7 @@ use Rattle.orc_heap.proofs.Runs.{run_from-append, run_heap-snoc}
 use Rattle.orc_heap.specs.Acts.{IsTarget, as_linked}
 use Rattle.orc_heap.specs.Allowed.{AllAllowed, AllowedLater, Later}
 use Rattle.orc_heap.specs.Calls.{Misses, event_of, unless_node}
-use Rattle.orc_heap.specs.Heap.{HeapNumbers, Node, new_heap, shown}
+use Rattle.orc_heap.specs.Heap.{HeapNumbers, Node, null, new_heap, shown}
 use Rattle.orc_heap.specs.Journals.{run_heap}
 use Rattle.orc_heap.specs.OwnEvents.{Puts}
 use Rattle.orc_heap.specs.Seats.{Seat, heap_of}
@@ -67,7 +67,7 @@ clears n s t root from noted own all slots fresh p = record {
 }
 
 abbrev pub unlinked_node : ℕ → ℕ → Option ℕ → Node
-unlinked_node agent value below = record { giver = agent; first = Some value; second = Some 0; link = plain_link below; named = false; linked = false }
+unlinked_node agent value below = record { giver = agent; first = Some value; second = Some 0; link = plain_link below; side = null; named = false; linked = false }
 
 linked_now : (n : HeapNumbers) (agent id value : ℕ) (below : Option ℕ) (from : Link) (es : List (Event ℕ)) (e : Event ℕ)
     → e.act ≡ Move (Root agent) from (plain_link (Some id))

@@ -1,12 +1,12 @@
 -- A stack at an agent's own root.
 use Rattle.std.specs.Borrow.{Bor}
 use Rattle.std.specs.Prelude.{None, Option, Some, false, slice_get, slice_set, true, ℕ, ◌≡◌}
-use Rattle.orc_heap.specs.Heap.{HeapNumbers, Node, shown}
+use Rattle.orc_heap.specs.Heap.{HeapNumbers, Node, null, shown}
 use Rattle.orc_heap.specs.Seats.{Seat, heap_of}
 use Rattle.orc_heap.specs.Slots.{Hold, id_in}
 use Rattle.orc_heap.specs.declared.events.Link.{Link}
 use Rattle.orc_heap.specs.declared.events.Place.{Place}
-use Rattle.orc_heap.specs.declared.events.Place.TheVariants.{Next, Root}
+use Rattle.orc_heap.specs.declared.events.Place.TheVariants.{Next, Root, Side}
 
 -- an unmarked link
 abbrev pub plain_link : Option ℕ → Link
@@ -16,9 +16,9 @@ plain_link to = record { to = to; mark = false }
 abbrev pub HasTop : HeapNumbers → Seat ℕ → Option ℕ → Type 0
 HasTop n s to = shown (heap_of n s) (Root s.agent) ≡ Some (plain_link to)
 
--- a once linked node of this agent, with this value and this node below it
+-- a once linked node of this agent, with this value and this node below it, and no second link
 abbrev pub stack_node : ℕ → ℕ → Option ℕ → Node
-stack_node agent value below = record { giver = agent; first = Some value; second = Some 0; link = plain_link below; named = true; linked = true }
+stack_node agent value below = record { giver = agent; first = Some value; second = Some 0; link = plain_link below; side = null; named = true; linked = true }
 
 -- the node of this id is such a node
 abbrev pub HasNode : HeapNumbers → Seat ℕ → ℕ → ℕ → Option ℕ → Type 0
@@ -72,6 +72,7 @@ pub record HasPair (n : HeapNumbers) (s : Seat ℕ) (upper lower : ℕ) : Type 0
 abbrev pub LeadsTo : HeapNumbers → Seat ℕ → Place → ℕ → Type 0
 LeadsTo n s (Root r) to = (r ≡ s.agent) × HasTop n s (Some to)
 LeadsTo n s (Next id) to = (value : ℕ) × HasNode n s id value (Some to)
+LeadsTo n s (Side id) to = ⊥
 
 -- the node to which the place leads was found, and is held in this slot; the stack stays
 pub record Finds (n : HeapNumbers) (place : Place) (slot : ℕ) (s : Seat ℕ) (h : Hold) (t : Seat ℕ) : Type 0 where

@@ -7,17 +7,16 @@ use Rattle.orc_heap.specs.Acts.{IsTarget}
 use Rattle.orc_heap.specs.Allowed.{AllowedLater}
 use Rattle.orc_heap.specs.Heap.{Heap, HeapNumbers, shown, link_to}
 use Rattle.orc_heap.specs.Journals.{event_by, run_heap}
-use Rattle.orc_heap.specs.Moves.{IsLinkedPlace}
 use Rattle.orc_heap.specs.declared.events.Act.TheVariants.{Look, Move}
 use Rattle.orc_heap.specs.declared.events.Event.{Event}
 use Rattle.orc_heap.specs.declared.events.Link.{Link}
 use Rattle.orc_heap.specs.declared.events.Place.{Place}
-use Rattle.orc_heap.specs.declared.events.Place.TheVariants.{Next, Root}
+use Rattle.orc_heap.specs.declared.events.Place.TheVariants.{Next, Root, Side}
 use Rattle.orc_history.specs.SetHistory.{has}
 use Rattle.orc_history.specs.declared.set.SetEntry.TheVariants.{Added, Asked, Removed}
 use Rattle.orc_chain_rule.specs.declared.chain.ChainNote.{ChainNote}
 use Rattle.orc_chain_rule.specs.declared.chain.ChainNote.TheVariants.{Entry, Unlink}
-use Rattle.orc_chain_rule.specs.ChainDiscipline.{AreChains, ChainHolds, ChainMay, FollowsOn, HasKey, IsAbove, IsBelow, IsOnChain, IsPlaceOnChain, IsRun, link_over, set_after}
+use Rattle.orc_chain_rule.specs.ChainDiscipline.{AreChains, ChainHolds, ChainMay, FollowsOn, HasKey, IsAbove, IsBelow, IsOnChain, IsPlaceOnChain, IsRun, link_over, set_after, IsChainPlace}
 use Rattle.orc_chain_rule.specs.Watches.{node_to_add}
 use Rattle.orc_chain_rule.specs.Laws.Kinds.{key_linked}
 use Rattle.orc_chain_rule.specs.Laws.Kept.{chain_fits, chain_keeps, chain_moves_linked}
@@ -29,16 +28,18 @@ pub place_on_chain : (roots : ℕ) (h : Heap) (keys : List ℕ) → AreChains ro
     → shown h place ≡ Some from → from.mark ≡ false
     → IsPlaceOnChain h (key % roots) place × IsBelow h place key
 place_on_chain roots h keys c (Root r) from key f at plain = (sym f, tt)
+place_on_chain roots h keys c (Side id) from key f at plain = absurd f
 place_on_chain roots h keys c (Next id) from key (low, own, less, same) at plain =
     (subst (λ (z : ℕ). IsOnChain h z id) (sym same) (c.kept id low from own at plain), (low, own, less))
 
-follows_linked : (roots : ℕ) (h : Heap) (place : Place) (key : ℕ) → FollowsOn roots h place key → IsLinkedPlace place h
+follows_linked : (roots : ℕ) (h : Heap) (place : Place) (key : ℕ) → FollowsOn roots h place key → IsChainPlace place h
 follows_linked roots h (Root r) key f = tt
+follows_linked roots h (Side id) key f = absurd f
 follows_linked roots h (Next id) key (low, own, less, same) = key_linked h id low own
 
 -- what a linked place leads to, over a run, is known to every agent
 run_target : (n : HeapNumbers) (es : List (Event ChainNote)) (agent : ℕ) (place : Place) (from : Link) (over : List ℕ) (to : Option ℕ) → ChainHolds n es
-    → IsLinkedPlace place (run_heap n es)
+    → IsChainPlace place (run_heap n es)
     → shown (run_heap n es) place ≡ Some from → IsRun (run_heap n es) from over to → IsTarget agent (run_heap n es) to
 run_target n es agent place from over None holds l at run = tt
 run_target n es agent place from over (Some id) holds l at run =
@@ -120,7 +121,7 @@ removed_allowed n agent id key from seen holds own plain = λ more later at.
 -- an Unlink of a run
 pub unlink_allowed : (n : HeapNumbers) (agent : ℕ) (place : Place) (from : Link) (first : ℕ) (others : List ℕ) (to : Option ℕ) (seen : List (Event ChainNote))
     → ChainHolds n seen
-    → IsLinkedPlace place (run_heap n seen) → from.mark ≡ false → IsRun (run_heap n seen) from (first ∷ others) to
+    → IsChainPlace place (run_heap n seen) → from.mark ≡ false → IsRun (run_heap n seen) from (first ∷ others) to
     → AllowedLater (ChainMay n) n agent seen place from (event_by agent (Move place from (link_over to)) (Some Unlink))
 unlink_allowed n agent place from first others to seen holds l plain run = λ more later at.
     let es : List (Event ChainNote) = seen ++ more in

@@ -5,13 +5,12 @@ use Rattle.orc_heap.proofs.Stays.{stays}
 use Rattle.orc_heap.specs.Allowed.{AllAllowed, IsLinkedNode, HasLink}
 use Rattle.orc_heap.specs.Heap.{HeapNumbers, Node, new_heap, null}
 use Rattle.orc_heap.specs.Journals.{run_heap}
-use Rattle.orc_heap.specs.Moves.{IsLinkedPlace}
 use Rattle.orc_heap.specs.declared.events.Event.{Event}
 use Rattle.orc_heap.specs.declared.events.Link.{Link}
 use Rattle.orc_heap.specs.declared.events.Place.{Place}
-use Rattle.orc_heap.specs.declared.events.Place.TheVariants.{Next, Root}
+use Rattle.orc_heap.specs.declared.events.Place.TheVariants.{Next, Root, Side}
 use Rattle.orc_chain_rule.specs.declared.chain.ChainNote.{ChainNote}
-use Rattle.orc_chain_rule.specs.ChainDiscipline.{ChainHolds, ChainMay, FollowsOn, HasKey, IsAbove, IsRun, LeadsTo}
+use Rattle.orc_chain_rule.specs.ChainDiscipline.{ChainHolds, ChainMay, FollowsOn, HasKey, IsAbove, IsRun, LeadsTo, IsChainPlace}
 use Rattle.orc_chain_rule.specs.Watches.{LeavesOut}
 use Rattle.orc_chain_rule.specs.Laws.Kinds.{key_after}
 use Rattle.orc_chain_rule.specs.Laws.Kept.{chain_keeps, marked_next}
@@ -25,11 +24,12 @@ null_root zero r link e = cc
 null_root (suc roots) zero link e = cc
 null_root (suc roots) (suc r) link e = null_root roots r link e
 
-leads_nowhere : (n : HeapNumbers) (place : Place) (id : ℕ) → IsLinkedPlace place (new_heap n) → LeadsTo (new_heap n) place (Some id) → ⊥
+leads_nowhere : (n : HeapNumbers) (place : Place) (id : ℕ) → IsChainPlace place (new_heap n) → LeadsTo (new_heap n) place (Some id) → ⊥
 leads_nowhere n (Root r) id l to =
     let none : None ≡ Some id = ap (λ (x : Link). x.to) (sym (null_root n.roots r to.link to.at)) ∙ to.to_is in
     cc
 leads_nowhere n (Next d) id l to = no_node d l.node l.there
+leads_nowhere n (Side d) id l to = l
 
 no_frozen : (n : HeapNumbers) (before after : List (Event ChainNote)) (id : ℕ) (link : Link) → [] ≡ before ++ after → HasLink (run_heap n before) id link
     → HasLink (run_heap {N = ChainNote} n []) id link
@@ -62,9 +62,10 @@ linked_later n seen more id l all =
     (record { node = s.node; there = s.there; linked = s.linked }))
     seen more l all
 
-pub place_later : (n : HeapNumbers) (seen more : List (Event ChainNote)) (place : Place) → IsLinkedPlace place (run_heap n seen)
-    → AllAllowed (ChainMay n) seen more → IsLinkedPlace place (run_heap n (seen ++ more))
+pub place_later : (n : HeapNumbers) (seen more : List (Event ChainNote)) (place : Place) → IsChainPlace place (run_heap n seen)
+    → AllAllowed (ChainMay n) seen more → IsChainPlace place (run_heap n (seen ++ more))
 place_later n seen more (Root r) l all = tt
+place_later n seen more (Side id) l all = absurd l
 place_later n seen more (Next id) l all = linked_later n seen more id l all
 
 -- a once linked node keeps its key, and a marked link
@@ -92,6 +93,7 @@ pub follows_later : (n : HeapNumbers) (seen more : List (Event ChainNote)) (root
     → AllAllowed (ChainMay n) seen more
     → FollowsOn roots (run_heap n (seen ++ more)) place key
 follows_later n seen more roots (Root r) key f all = f
+follows_later n seen more roots (Side id) key f all = f
 follows_later n seen more roots (Next id) key (low, own, less, same) all = (low, key_later n seen more id low own all, less, same)
 
 pub above_later : (n : HeapNumbers) (seen more : List (Event ChainNote)) (to : Option ℕ) (key : ℕ) → IsAbove (run_heap n seen) to key

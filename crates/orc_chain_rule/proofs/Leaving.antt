@@ -8,17 +8,16 @@ use Rattle.orc_heap.specs.Heap.{Heap, HeapNumbers, Node, link_to, shown}
 use Rattle.std.specs.List.{slice_get}
 use Rattle.orc_chain_rule.proofs.Later.{linked_later}
 use Rattle.orc_heap.specs.Journals.{event_by, run_heap}
-use Rattle.orc_heap.specs.Moves.{IsLinkedPlace}
 use Rattle.orc_heap.specs.declared.events.Act.TheVariants.{Move}
 use Rattle.orc_heap.specs.declared.events.Event.{Event}
 use Rattle.orc_heap.specs.declared.events.Link.{Link}
 use Rattle.orc_heap.specs.declared.events.Place.{Place}
-use Rattle.orc_heap.specs.declared.events.Place.TheVariants.{Next, Root}
+use Rattle.orc_heap.specs.declared.events.Place.TheVariants.{Next, Root, Side}
 use Rattle.orc_history.specs.SetHistory.{has}
 use Rattle.orc_history.specs.declared.set.SetEntry.TheVariants.{Added}
 use Rattle.orc_chain_rule.specs.declared.chain.ChainNote.{ChainNote}
 use Rattle.orc_chain_rule.specs.declared.chain.ChainNote.TheVariants.{Entry, Unlink}
-use Rattle.orc_chain_rule.specs.ChainDiscipline.{IsOnNoChain, link_over, AreChains, ChainHolds, ChainMay, FollowsOn, HasKey, IsOnChain, IsPath, IsPlaceOnChain, IsRun, set_after}
+use Rattle.orc_chain_rule.specs.ChainDiscipline.{IsOnNoChain, link_over, AreChains, ChainHolds, ChainMay, FollowsOn, HasKey, IsOnChain, IsPath, IsPlaceOnChain, IsRun, set_after, IsChainPlace}
 use Rattle.orc_chain_rule.specs.Laws.Adding.{added_linked}
 use Rattle.orc_heap.proofs.SingleActs.{link_shown, linked_node, shown_link, some_same}
 use Rattle.orc_chain_rule.specs.Laws.Kinds.{IsMoved, IsStill, act_still, each_kind, key_linked, key_one, move_moves, place_either}
@@ -30,6 +29,7 @@ use Rattle.orc_chain_rule.specs.Laws.Removing.{chain_before}
 
 pub chain_step : (h : Heap) (root : ℕ) (q : Place) (ids : List ℕ) (y : ℕ) → IsPlaceOnChain h root q → IsPath h q ids (Some y) → IsOnChain h root y
 chain_step h root (Root r) ids y on path = record { over = ids; path = subst (λ (z : ℕ). IsPath h (Root z) ids (Some y)) on path }
+chain_step h root (Side d) ids y on path = absurd on
 chain_step h root (Next d) ids y on path = record { over = on.over ++ d ∷ ids; path = path_join h (Root root) on.over d ids (Some y) on.path path }
 
 past_path : (k : Heap) (p : Place) (new : List ℕ) (to : Option ℕ) (ids : List ℕ) (y : ℕ) → IsPath k p new to → IsPath k p ids (Some y)
@@ -90,7 +90,7 @@ module _ (h k : Heap) (root : ℕ) (p : Place) (from : Link) (run new : List ℕ
     chain_back on = back_of (length on.over) (Root root) on.over (omega arith) refl on.path
 
 pub path_still_back : (roots : ℕ) (h k : Heap) (keys : List ℕ) → AreChains roots h keys → IsStill h k → (p : Place) (ids : List ℕ) (to : Option ℕ)
-    → IsLinkedPlace p h → IsPath k p ids to → IsPath h p ids to
+    → IsChainPlace p h → IsPath k p ids to → IsPath h p ids to
 path_still_back roots h k keys c s p [] to l path = leads_same k h p to (sym (s.shows p l)) path
 path_still_back roots h k keys c s p (x ∷ xs) to l path =
     let first = leads_same k h p (Some x) (sym (s.shows p l)) path.0 in
@@ -120,11 +120,12 @@ run_above roots h keys c x key next others z own l run =
 
 module _ (roots : ℕ) (h k : Heap) (keys more : List ℕ) (p : Place) (from to : Link) (over new : List ℕ) (target : Option ℕ) (c : AreChains roots h keys)
     (d : AreChains roots k more)
-    (m : IsMoved h k p from to) (linked : IsLinkedPlace p h) (plain : to.mark ≡ false) (run : IsRun h from over target) (way : IsPath k p new target)
+    (m : IsMoved h k p from to) (linked : IsChainPlace p h) (plain : to.mark ≡ false) (run : IsRun h from over target) (way : IsPath k p new target)
   where
     from_place : (root z key : ℕ) (q : Place) → shown k q ≡ Some to → HasKey k z key → key % roots ≡ root → FollowsOn roots h q key → IsOnChain k root z
         → (ids : List ℕ) × IsPath k q ids (Some z)
     from_place root z key (Root r) at own same f on = (on.over, subst (λ (x : ℕ). IsPath k (Root x) on.over (Some z)) (sym same ∙ f) on.path)
+    from_place root z key (Side e) at own same f on = absurd f
     from_place root z key (Next e) at own same (low, mine, less, one) on =
         let mine_k = m.stays e low mine in
         let here : IsOnChain k root e = subst (λ (x : ℕ). IsOnChain k x e) (sym one ∙ same) (d.kept e low to mine_k at plain) in

@@ -6,17 +6,17 @@ use Rattle.orc_heap.specs.Acts.{Fits, heap_after}
 use Rattle.orc_heap.specs.Allowed.{AllAllowed, HasLink}
 use Rattle.orc_heap.specs.Heap.{Heap, HeapNumbers, shown}
 use Rattle.orc_heap.specs.Journals.{run_heap}
-use Rattle.orc_heap.specs.Moves.{IsLinkedPlace, move_with, moves_in}
+use Rattle.orc_heap.specs.Moves.{move_with, moves_in}
 use Rattle.orc_heap.specs.declared.events.Act.TheVariants.{Move}
 use Rattle.orc_heap.specs.declared.events.Event.{Event}
 use Rattle.orc_heap.specs.declared.events.Link.{Link}
 use Rattle.orc_heap.specs.declared.events.Place.{Place}
-use Rattle.orc_heap.specs.declared.events.Place.TheVariants.{Next, Root}
+use Rattle.orc_heap.specs.declared.events.Place.TheVariants.{Next, Root, Side}
 use Rattle.orc_history.specs.SetHistory.{has}
 use Rattle.orc_history.specs.declared.set.SetEntry.{SetEntry}
 use Rattle.orc_history.specs.declared.set.SetEntry.TheVariants.{Added, Asked, Removed}
 use Rattle.orc_chain_rule.specs.declared.chain.ChainNote.{ChainNote}
-use Rattle.orc_chain_rule.specs.ChainDiscipline.{AreChains, ChainHolds, ChainMay, FollowsOn, HasKey, IsOnChain, IsPath, LeadsTo, MayUnlink, entries_in, entries_of, set_after, MayAnswer}
+use Rattle.orc_chain_rule.specs.ChainDiscipline.{AreChains, ChainHolds, ChainMay, FollowsOn, HasKey, IsOnChain, IsPath, LeadsTo, MayUnlink, entries_in, entries_of, set_after, MayAnswer, IsChainPlace}
 use Rattle.orc_chain_rule.specs.Counts.{AreLeftOver, IsLeftOver, adds_in, removes_in, unlinks_in, unlinks_with}
 use Rattle.orc_chain_rule.specs.Laws.Adding.{added_linked}
 use Rattle.orc_heap.proofs.SingleActs.{has_link, shown_link, some_same}
@@ -164,15 +164,16 @@ left_next n es e ids holds may left =
     (λ p link entry t more d fits. record { now = ids; all = λ id w. left id w; count = omega arith })
     e.act e.note may.may_act (set_after (es ++ e ∷ [])) after may.fits
   where
-    first_was : (p : Place) (keys : List ℕ) → AreChains n.roots (run_heap n es) keys → IsLinkedPlace p (run_heap n es) → {from to : Link}
+    first_was : (p : Place) (keys : List ℕ) → AreChains n.roots (run_heap n es) keys → IsChainPlace p (run_heap n es) → {from to : Link}
         → shown (run_heap n es) p ≡ Some from → (u : MayUnlink (run_heap n es) p from to)
         → from.to ≡ Some u.first → (next : Link) → HasLink (run_heap n es) u.first next → next.mark ≡ true → has u.first ids ≡ true
     first_was p keys c l {from} {to} at u is next own mark =
         left u.first (was p l u.plain at (record { link = from; at = at; to_is = is }) (c.leads p u.first l (record { link = from; at = at; to_is = is })))
       where
-        was : (q : Place) → IsLinkedPlace q (run_heap n es) → from.mark ≡ false → shown (run_heap n es) q ≡ Some from → LeadsTo (run_heap n es) q (Some u.first)
+        was : (q : Place) → IsChainPlace q (run_heap n es) → from.mark ≡ false → shown (run_heap n es) q ≡ Some from → LeadsTo (run_heap n es) q (Some u.first)
             → (key : ℕ) × HasKey (run_heap n es) u.first key × FollowsOn n.roots (run_heap n es) q key → IsLeftOver (run_heap n es) u.first
         was (Root r) l plain at to_first f = record { root = r; on_chain = record { over = []; path = to_first }; link = next; has_link = own; marked = mark }
+        was (Side e) l plain at to_first f = absurd l
         was (Next e) l plain at to_first (key, mine, follows) =
             let (low, low_key, less, same) = follows in
             let on = c.kept e low from low_key at plain in

@@ -3,13 +3,13 @@ use Rattle.std.specs.Prelude.{List, None, Option, Some, [], false, slice_get, tr
 use Rattle.orc_heap.specs.Heap.{Heap, HeapNumbers, Node, link_to, shown}
 use Rattle.orc_heap.specs.Allowed.{HasLink, IsLinkedNode}
 use Rattle.orc_heap.specs.Journals.{FitsAfter, IsLawful, noted_entries, run_heap}
-use Rattle.orc_heap.specs.Moves.{IsLinkedPlace, move_with}
+use Rattle.orc_heap.specs.Moves.{move_with}
 use Rattle.orc_heap.specs.declared.events.Act.{Act}
 use Rattle.orc_heap.specs.declared.events.Act.TheVariants.{Look, Move}
 use Rattle.orc_heap.specs.declared.events.Event.{Event}
 use Rattle.orc_heap.specs.declared.events.Link.{Link}
 use Rattle.orc_heap.specs.declared.events.Place.{Place}
-use Rattle.orc_heap.specs.declared.events.Place.TheVariants.{Next, Root}
+use Rattle.orc_heap.specs.declared.events.Place.TheVariants.{Next, Root, Side}
 use Rattle.orc_history.specs.SetHistory.{IsLegalSet, agent_of_set_entry, has, keys_after}
 use Rattle.orc_history.specs.declared.set.SetEntry.{SetEntry}
 use Rattle.orc_history.specs.declared.set.SetEntry.TheVariants.{Added, Asked, Removed}
@@ -61,6 +61,7 @@ pub record IsOnChain (h : Heap) (root id : ℕ) : Type 0 where
 abbrev pub IsPlaceOnChain : Heap → ℕ → Place → Type 0
 IsPlaceOnChain h root (Root r) = r ≡ root
 IsPlaceOnChain h root (Next id) = IsOnChain h root id
+IsPlaceOnChain h root (Side id) = ⊥
 
 -- no root's links lead to the node
 abbrev pub IsOnNoChain : Heap → ℕ → Type 0
@@ -72,10 +73,17 @@ IsRun h link [] to = link.to ≡ to
 IsRun h link (id ∷ ids) to =
     (link.to ≡ Some id) × (next : Link) × HasLink h id next × (next.mark ≡ true) × IsRun h next ids to
 
+-- a root, or the first link of a once linked node: a chain has no second links
+abbrev pub IsChainPlace : Place → Heap → Type 0
+IsChainPlace (Root r) h = Unit {0}
+IsChainPlace (Next id) h = IsLinkedNode h id
+IsChainPlace (Side id) h = ⊥
+
 -- the place is a root, or the link of a node with a lower key
 abbrev pub IsBelow : Heap → Place → ℕ → Type 0
 IsBelow h (Root r) key = Unit {0}
 IsBelow h (Next id) key = (low : ℕ) × HasKey h id low × (low < key)
+IsBelow h (Side id) key = ⊥
 
 -- the target is null, or a node with a greater key
 abbrev pub IsAbove : Heap → Option ℕ → ℕ → Type 0
@@ -86,6 +94,7 @@ IsAbove h (Some id) key = (high : ℕ) × HasKey h id high × (key < high)
 abbrev pub FollowsOn : ℕ → Heap → Place → ℕ → Type 0
 FollowsOn roots h (Root r) key = key % roots ≡ r
 FollowsOn roots h (Next id) key = (low : ℕ) × HasKey h id low × (low < key) × (key % roots ≡ low % roots)
+FollowsOn roots h (Side id) key = ⊥
 
 -- a node on the chain of the key's root has the key, and its own link is unmarked
 pub record IsPresent (roots : ℕ) (h : Heap) (key : ℕ) : Type 0 where
@@ -102,7 +111,7 @@ pub record AreChains (roots : ℕ) (h : Heap) (keys : List ℕ) : Type 0 where
   pub keyed : (id : ℕ) → IsLinkedNode h id → (key : ℕ) × HasKey h id key
   -- the link of a root or of a once linked node, marked or not, is null or names a once linked node whose key may follow: so keys
   -- rise along the links, and a node is reached only from the root of its key
-  pub leads : (place : Place) (id : ℕ) → IsLinkedPlace place h → LeadsTo h place (Some id) → (key : ℕ) × HasKey h id key × FollowsOn roots h place key
+  pub leads : (place : Place) (id : ℕ) → IsChainPlace place h → LeadsTo h place (Some id) → (key : ℕ) × HasKey h id key × FollowsOn roots h place key
   -- no root's link is marked
   pub plain_roots : (root : ℕ) (link : Link) → shown h (Root root) ≡ Some link → link.mark ≡ false
   -- a once linked node whose own link is unmarked is on its root's chain
@@ -144,7 +153,7 @@ pub record MayRemove (h : Heap) (id : ℕ) (from to : Link) (key : ℕ) : Type 0
 
 -- an Unlink: a root, or the link of a once linked node, goes to what a run of at least one marked node from its target on leads to
 pub record MayUnlink (h : Heap) (place : Place) (from to : Link) : Type 0 where
-  pub linked : IsLinkedPlace place h
+  pub linked : IsChainPlace place h
   pub plain : from.mark ≡ false
   pub plain_after : to.mark ≡ false
   pub first : ℕ

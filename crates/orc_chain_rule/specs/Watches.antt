@@ -1,6 +1,6 @@
 -- What an agent may rely on between its own events, whatever the others do meanwhile.
 use Rattle.std.specs.Prelude.{List, Option, Some, false, ℕ, ◌≡◌}
-use Rattle.orc_heap.specs.Heap.{Heap, Node}
+use Rattle.orc_heap.specs.Heap.{Heap, Node, null}
 use Rattle.orc_heap.specs.declared.events.Link.{Link}
 use Rattle.orc_heap.specs.declared.events.Place.{Place}
 use Rattle.orc_chain_rule.specs.ChainDiscipline.{FollowsOn, IsAbove, IsRun, link_over}
@@ -15,4 +15,5 @@ pub record LeavesOut (roots : ℕ) (h : Heap) (place : Place) (from : Link) (ove
 
 -- a node that was given to the agent, to which nothing links, with this key, aimed at this target
 abbrev pub node_to_add : ℕ → ℕ → ℕ → Option ℕ → Node
-node_to_add agent key second to = record { giver = agent; first = Some key; second = Some second; link = link_over to; named = false; linked = false }
+node_to_add agent key second to =
+    record { giver = agent; first = Some key; second = Some second; link = link_over to; side = null; named = false; linked = false }

@@ -4,7 +4,7 @@ ghost use Rattle.std.specs.Prelude.{Contains, ◌≡◌, ℕ, ◌%◌, List, [],
 ghost use Rattle.orc_heap.specs.Allowed.{AllAllowed, AllowedLater, HasLink, IsLinkedNode, Later, events_by};
 ghost use Rattle.orc_heap.specs.Heap.{HeapNumbers, Node, link_to, shown};
 ghost use Rattle.orc_heap.specs.Journals.{event_by, run_heap};
-ghost use Rattle.orc_heap.specs.Moves.{IsLinkedPlace, moves_in};
+ghost use Rattle.orc_heap.specs.Moves.{moves_in};
 ghost use Rattle.orc_heap.specs.declared.events.Act.{Act};
 ghost use Rattle.orc_heap.specs.declared.events.Event.{Event};
 ghost use Rattle.orc_heap.specs.declared.events.Link.{Link};
@@ -13,7 +13,7 @@ ghost use Rattle.orc_history.specs.Journals.{own_of};
 ghost use Rattle.orc_history.specs.SetHistory.{IsLegalSet, agent_of_set_entry, has};
 ghost use Rattle.orc_history.specs.declared.set.SetEntry.{SetEntry};
 ghost use Rattle.orc_chain_rule.specs.declared.chain.ChainNote.{ChainNote};
-ghost use Rattle.orc_chain_rule.specs.ChainDiscipline.{ChainHolds, ChainMay, FollowsOn, HasKey, IsAbove, IsOnChain, IsOnNoChain, IsRun, entries_of, link_over, set_after};
+ghost use Rattle.orc_chain_rule.specs.ChainDiscipline.{ChainHolds, ChainMay, FollowsOn, HasKey, IsAbove, IsChainPlace, IsOnChain, IsOnNoChain, IsRun, entries_of, link_over, set_after};
 ghost use Rattle.orc_chain_rule.specs.Counts.{AreLeftOver, adds_in, removes_in, unlinks_in};
 ghost use Rattle.orc_chain_rule.specs.Watches.{LeavesOut, node_to_add};
 
@@ -98,7 +98,7 @@ pub fn a_removed_may_come()
 /// linked node shows it.
 pub fn an_unlink_may_come()
     ensures { (n : HeapNumbers) (agent : ℕ) (place : Place) (from : Link) (first : ℕ) (others : List ℕ) (to : Option ℕ)
-        (seen : List (Event ChainNote)) → ChainHolds n seen → IsLinkedPlace place (run_heap n seen) → from.mark ≡ false
+        (seen : List (Event ChainNote)) → ChainHolds n seen → IsChainPlace place (run_heap n seen) → from.mark ≡ false
         → IsRun (run_heap n seen) from (first ∷ others) to
         → AllowedLater (ChainMay n) n agent seen place from
         (event_by agent (Act.Move place from (link_over to)) (Some ChainNote.Unlink)) }

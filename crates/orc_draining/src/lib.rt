@@ -4,6 +4,3 @@
 mod laws;
 
 pub use laws::{a_drain_takes_in_and_settles, drains_lead_to_rest};
-
-#[cfg(test)]
-mod tests;

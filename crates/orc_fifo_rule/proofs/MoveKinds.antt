@@ -8,7 +8,7 @@ use Rattle.orc_heap.specs.Heap.{HeapNumbers}
 use Rattle.orc_heap.specs.Journals.{IsPlainAct, event_by, run_heap}
 use Rattle.orc_heap.specs.Moves.{move_with, moves_in, moves_place}
 use Rattle.orc_heap.specs.declared.events.Act.{Act}
-use Rattle.orc_heap.specs.declared.events.Act.TheVariants.{Aim, Fill, Give, Look, Miss, Move}
+use Rattle.orc_heap.specs.declared.events.Act.TheVariants.{Aim, Fill, Give, Look, Miss, Move, AimSide}
 use Rattle.orc_heap.specs.declared.events.Event.{Event}
 use Rattle.orc_heap.specs.declared.events.Link.{Link}
 use Rattle.orc_heap.specs.declared.events.Place.TheVariants.{Root}
@@ -42,7 +42,9 @@ plain_counted : (act : Act) → IsPlainAct act → Counted act None
 plain_counted Give plain = record { all = refl; off = λ agent. refl }
 plain_counted (Fill id which value) plain = record { all = refl; off = λ agent. refl }
 plain_counted (Aim id None) plain = record { all = refl; off = λ agent. refl }
+plain_counted (AimSide id None) plain = record { all = refl; off = λ agent. refl }
 plain_counted (Aim id (Some to)) plain = absurd plain
+plain_counted (AimSide id (Some to)) plain = absurd plain
 plain_counted (Look place link) plain = record { all = refl; off = λ agent. refl }
 plain_counted (Move place from to) plain = absurd plain
 plain_counted (Miss place wanted found) plain = record { all = refl; off = λ agent. refl }

@@ -9,7 +9,7 @@ use Rattle.orc_heap.specs.declared.events.Act.TheVariants.{Look, Move}
 use Rattle.orc_heap.specs.declared.events.Event.{Event}
 use Rattle.orc_heap.specs.declared.events.Link.{Link}
 use Rattle.orc_heap.specs.declared.events.Place.{Place}
-use Rattle.orc_heap.specs.declared.events.Place.TheVariants.{Next, Root}
+use Rattle.orc_heap.specs.declared.events.Place.TheVariants.{Next, Root, Side}
 use Rattle.orc_history.specs.QueueHistory.{IsLegalQueue, agent_of_entry, puts_in, waiting_after}
 use Rattle.orc_history.specs.declared.queue.QueueEntry.{QueueEntry}
 use Rattle.orc_history.specs.declared.queue.QueueEntry.TheVariants.{Empty, Put, Took}
@@ -89,6 +89,7 @@ pub record IsRunning (h : Heap) (es : List (Event FifoNote)) : Type 0 where
 abbrev pub BeginsIfMoves : Act → Option FifoNote → Type 0
 BeginsIfMoves (Move (Root r) from to) noted = (r < 2) × (from ≡ null) × (to ≡ link_to 0) × (noted ≡ Some Begin)
 BeginsIfMoves (Move (Next id) from to) noted = ⊥
+BeginsIfMoves (Move (Side id) from to) noted = ⊥
 BeginsIfMoves act noted = Unit {0}
 
 -- there is no entry yet, each Move is a Begin, and the link of node 0 is null once it is linked

@@ -17,4 +17,4 @@ pub record IsLeft (h : Heap) (id : ℕ) : Type 0 where
 
 -- a node that was given to the agent, to which nothing links, with a null link and the values of a Put
 abbrev pub node_to_put : ℕ → ℕ → ℕ → Node
-node_to_put agent job at = record { giver = agent; first = Some job; second = Some (at + 1); link = null; named = false; linked = false }
+node_to_put agent job at = record { giver = agent; first = Some job; second = Some (at + 1); link = null; side = null; named = false; linked = false }

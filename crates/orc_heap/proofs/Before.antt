@@ -2,13 +2,13 @@
 use Rattle.std.proofs.Common.{List, Option, Some, None, [], false, inl, inr, refl, suc, sym, true, zero, Bool, ℕ, ◌++◌, ◌∙◌, ◌∷◌, ◌≡◌, ◌≢◌, ◌⊎◌, ap}
 use Rattle.std.proofs.lemmas.Bool.{eq-eqb, ne_eqb}
 use Rattle.std.specs.List.{slice_get}
-use Rattle.orc_heap.specs.Acts.{as_linked, as_named, change_node, change_target, heap_after, moved_link, set_link, with_link, with_value}
+use Rattle.orc_heap.specs.Acts.{as_linked, as_named, change_node, change_target, heap_after, moved_link, set_link, with_link, with_value, with_side}
 use Rattle.orc_heap.specs.Allowed.{IsLinkedNode}
 use Rattle.orc_heap.specs.Heap.{Heap, Node, change, new_node}
 use Rattle.orc_heap.specs.Journals.{moves_to, names_node}
 use Rattle.orc_heap.specs.declared.events.Act.{Act}
-use Rattle.orc_heap.specs.declared.events.Act.TheVariants.{Aim, Fill, Give, Look, Miss, Move}
-use Rattle.orc_heap.specs.declared.events.Place.TheVariants.{Next, Root}
+use Rattle.orc_heap.specs.declared.events.Act.TheVariants.{Aim, Fill, Give, Look, Miss, Move, AimSide}
+use Rattle.orc_heap.specs.declared.events.Place.TheVariants.{Next, Root, Side}
 
 -- an item of a changed list was there before, and was changed or is as it was
 pub get-changed : {A : Type 0} (f : A → A) (i j : ℕ) (xs : List A) (y : A) → slice_get (change f i xs) j ≡ Some y
@@ -89,11 +89,28 @@ linked_before agent (Aim i to) h id node there linked =
     let l = with_link (record { to = to; mark = false }) in
     let (x, at, was) = unlinked_target as_named (λ n. refl) to id (change_node l i h) node there linked in
     inl (was_linked h id (unlinked_change l (λ n. refl) i id h.nodes x at was))
+linked_before agent (AimSide i to) h id node there linked =
+    let l = with_side (record { to = to; mark = false }) in
+    let (x, at, was) = unlinked_target as_named (λ n. refl) to id (change_node l i h) node there linked in
+    inl (was_linked h id (unlinked_change l (λ n. refl) i id h.nodes x at was))
 linked_before agent (Look place link) h id node there linked = inl (record { node = node; there = there; linked = linked })
 linked_before agent (Miss place wanted found) h id node there linked = inl (record { node = node; there = there; linked = linked })
 linked_before agent (Move (Root r) from to) h id node there linked =
     let (x, at, link_is, either) = linked_target to.to id (set_link (Root r) to h) node there in
     by_flag (Move (Root r) from to) h id x node at linked link_is either
+linked_before agent (Move (Side t) from to) h id node there linked =
+    let (x, at, link_is, either) = linked_target to.to id (set_link (Side t) to h) node there in
+    let (y, was, moved) = get-changed (with_side to) t id h.nodes x at in
+    by_flag (Move (Side t) from to) h id y node was linked (link_is ∙ link_of y x moved)
+    (elim either [ inl same ↦ inl (same ∙ flag_of y x moved) | inr named ↦ inr named ])
+  where
+    flag_of : (y x : Node) → ((t ≡ id) × (with_side to y ≡ x)) ⊎ ((t ≢ id) × (y ≡ x)) → x.linked ≡ y.linked
+    flag_of y x (inl c) = sym (ap (λ (n : Node). n.linked) c.1)
+    flag_of y x (inr c) = sym (ap (λ (n : Node). n.linked) c.1)
+
+    link_of : (y x : Node) → ((t ≡ id) × (with_side to y ≡ x)) ⊎ ((t ≢ id) × (y ≡ x)) → x.link ≡ y.link
+    link_of y x (inl c) = sym (ap (λ (n : Node). n.link) c.1)
+    link_of y x (inr c) = sym (ap (λ (n : Node). n.link) c.1)
 linked_before agent (Move (Next t) from to) h id node there linked =
     let (x, at, link_is, either) = linked_target to.to id (set_link (Next t) to h) node there in
     let (y, was, moved) = get-changed (with_link to) t id h.nodes x at in

@@ -6,21 +6,22 @@ use Rattle.std.specs.List.{list_any, slice_get}
 use Rattle.std.specs.Prelude.{None, Option, Some, if◌then◌else◌, ◌==◌, ◌||◌}
 use Rattle.orc_heap.proofs.Changes.{get-change, get-grown}
 use Rattle.orc_heap.proofs.Runs.{run_heap-snoc}
-use Rattle.orc_heap.specs.Acts.{Fits, IsFresh, IsTarget, as_linked, as_named, change_node, change_target, heap_after, set_link, with_link, with_value}
+use Rattle.orc_heap.specs.Acts.{Fits, IsFresh, IsTarget, as_linked, as_named, change_node, change_target, heap_after, set_link, with_link, with_value, with_side}
 use Rattle.orc_heap.specs.Allowed.{AllAllowed, IsLinkedNode, Later, MovesLinked, events_by}
 use Rattle.orc_heap.specs.Heap.{Heap, HeapNumbers, Node, change}
 use Rattle.orc_heap.specs.Journals.{FitsAfter, names_node, points_to, run_heap}
 use Rattle.orc_heap.specs.declared.events.Act.{Act}
-use Rattle.orc_heap.specs.declared.events.Act.TheVariants.{Aim, Fill, Give, Look, Miss, Move}
+use Rattle.orc_heap.specs.declared.events.Act.TheVariants.{Aim, Fill, Give, Look, Miss, Move, AimSide}
 use Rattle.orc_heap.specs.declared.events.Event.{Event}
 use Rattle.orc_heap.specs.declared.events.Link.{Link}
 use Rattle.orc_heap.specs.declared.events.Place.{Place}
-use Rattle.orc_heap.specs.declared.events.Place.TheVariants.{Next, Root}
+use Rattle.orc_heap.specs.declared.events.Place.TheVariants.{Next, Root, Side}
 
--- the node of this id with its link changed, if the place is its link
+-- the node of this id with a link changed, if the place is that link of it
 abbrev pub link_touched : Place → Link → ℕ → Node → Node
 link_touched (Root r) to id x = x
 link_touched (Next i) to id x = if i == id then with_link to x else x
+link_touched (Side i) to id x = if i == id then with_side to x else x
 
 -- what an act does to the node of this id
 abbrev pub touched : Act → ℕ → Node → Node
@@ -28,6 +29,8 @@ touched Give id x = x
 touched (Fill i which value) id x = if i == id then with_value which value x else x
 touched (Aim i to) id x = if names_node to id then as_named (if i == id then with_link (record { to = to; mark = false }) x else x) else
     (if i == id then with_link (record { to = to; mark = false }) x else x)
+touched (AimSide i to) id x = if names_node to id then as_named (if i == id then with_side (record { to = to; mark = false }) x else x) else
+    (if i == id then with_side (record { to = to; mark = false }) x else x)
 touched (Look place link) id x = x
 touched (Move place from to) id x = if names_node to.to id then as_linked (link_touched place to id x) else link_touched place to id x
 touched (Miss place wanted found) id x = x
@@ -54,9 +57,13 @@ node-after agent (Fill i which value) h id x e = get-change_if (with_value which
 node-after agent (Aim i to) h id x e =
     let l : Node → Node = with_link (record { to = to; mark = false }) in
     get-target as_named to (change_node l i h) id _ (get-change_if l i id h.nodes x e)
+node-after agent (AimSide i to) h id x e =
+    let l : Node → Node = with_side (record { to = to; mark = false }) in
+    get-target as_named to (change_node l i h) id _ (get-change_if l i id h.nodes x e)
 node-after agent (Look place link) h id x e = e
 node-after agent (Move (Root r) from to) h id x e = get-target as_linked to.to (set_link (Root r) to h) id x e
 node-after agent (Move (Next i) from to) h id x e = get-target as_linked to.to (set_link (Next i) to h) id _ (get-change_if (with_link to) i id h.nodes x e)
+node-after agent (Move (Side i) from to) h id x e = get-target as_linked to.to (set_link (Side i) to h) id _ (get-change_if (with_side to) i id h.nodes x e)
 node-after agent (Miss place wanted found) h id x e = e
 
 -- a node of this agent, to which no Aim and no Move made a link
@@ -105,10 +112,16 @@ others_leave agent by (Fill i which value) h id x other fits moves there own = u
 others_leave agent by (Aim i to) h id x other fits moves there own =
     unless (names_node to id) _ _ (not_reached agent by h to id x other there own fits.1)
     ∙ unless (i == id) _ x (not_theirs agent by h i id x other there own fits.0)
+others_leave agent by (AimSide i to) h id x other fits moves there own =
+    unless (names_node to id) _ _ (not_reached agent by h to id x other there own fits.1)
+    ∙ unless (i == id) _ x (not_theirs agent by h i id x other there own fits.0)
 others_leave agent by (Look place link) h id x other fits moves there own = refl
 others_leave agent by (Move (Root r) from to) h id x other fits moves there own =
     unless (names_node to.to id) _ x (not_reached agent by h to.to id x other there own fits.1)
 others_leave agent by (Move (Next i) from to) h id x other fits moves there own =
+    unless (names_node to.to id) _ _ (not_reached agent by h to.to id x other there own fits.1)
+    ∙ unless (i == id) _ x (not_linked agent h i id x there own moves)
+others_leave agent by (Move (Side i) from to) h id x other fits moves there own =
     unless (names_node to.to id) _ _ (not_reached agent by h to.to id x other there own fits.1)
     ∙ unless (i == id) _ x (not_linked agent h i id x there own moves)
 others_leave agent by (Miss place wanted found) h id x other fits moves there own = refl
@@ -120,6 +133,9 @@ own_value agent (suc which) value x own = record { mine = own.mine; unnamed = ow
 own_link : (agent : ℕ) (to : Link) (x : Node) → IsOwn agent x → IsOwn agent (with_link to x)
 own_link agent to x own = record { mine = own.mine; unnamed = own.unnamed; unlinked = own.unlinked }
 
+own_side : (agent : ℕ) (to : Link) (x : Node) → IsOwn agent x → IsOwn agent (with_side to x)
+own_side agent to x own = record { mine = own.mine; unnamed = own.unnamed; unlinked = own.unlinked }
+
 either_own : (agent : ℕ) (b : Bool) (x y : Node) → IsOwn agent x → IsOwn agent y → IsOwn agent (if b then x else y)
 either_own agent true x y p q = p
 either_own agent false x y p q = q
@@ -127,12 +143,14 @@ either_own agent false x y p q = q
 link_own : (agent : ℕ) (place : Place) (to : Link) (id : ℕ) (x : Node) → IsOwn agent x → IsOwn agent (link_touched place to id x)
 link_own agent (Root r) to id x own = own
 link_own agent (Next i) to id x own = either_own agent (i == id) _ _ (own_link agent to x own) own
+link_own agent (Side i) to id x own = either_own agent (i == id) _ _ (own_side agent to x own) own
 
 -- an act that makes no link to it leaves it the agent's own
 pub stays_own : (agent : ℕ) (act : Act) (id : ℕ) (x : Node) → points_to act id ≡ false → IsOwn agent x → IsOwn agent (touched act id x)
 stays_own agent Give id x away own = own
 stays_own agent (Fill i which value) id x away own = either_own agent (i == id) _ _ (own_value agent which value x own) own
 stays_own agent (Aim i to) id x away own = rw away (either_own agent (i == id) _ _ (own_link agent (record { to = to; mark = false }) x own) own)
+stays_own agent (AimSide i to) id x away own = rw away (either_own agent (i == id) _ _ (own_side agent (record { to = to; mark = false }) x own) own)
 stays_own agent (Look place link) id x away own = own
 stays_own agent (Move place from to) id x away own = rw away (link_own agent place to id x own)
 stays_own agent (Miss place wanted found) id x away own = own

@@ -5,16 +5,16 @@ use Rattle.orc_heap.proofs.Fresh.{link_touched, node-after, touched}
 use Rattle.orc_heap.proofs.Runs.{run_heap-snoc}
 use Rattle.orc_heap.proofs.Stays.{stays}
 use Rattle.orc_heap.proofs.Told.{linked_told, named_told}
-use Rattle.orc_heap.specs.Acts.{IsKnown, heap_after, with_link, with_value}
+use Rattle.orc_heap.specs.Acts.{IsKnown, heap_after, with_link, with_value, with_side}
 use Rattle.orc_heap.specs.Allowed.{AllAllowed, IsLinkedNode}
 use Rattle.orc_heap.specs.Heap.{Heap, HeapNumbers, Node}
 use Rattle.orc_heap.specs.Journals.{IsLawful, is_once_linked, is_once_named, moves_to, names_node, points_to, run_heap}
 use Rattle.orc_heap.specs.declared.events.Act.{Act}
-use Rattle.orc_heap.specs.declared.events.Act.TheVariants.{Aim, Fill, Give, Look, Miss, Move}
+use Rattle.orc_heap.specs.declared.events.Act.TheVariants.{Aim, Fill, Give, Look, Miss, Move, AimSide}
 use Rattle.orc_heap.specs.declared.events.Event.{Event}
 use Rattle.orc_heap.specs.declared.events.Link.{Link}
 use Rattle.orc_heap.specs.declared.events.Place.{Place}
-use Rattle.orc_heap.specs.declared.events.Place.TheVariants.{Next, Root}
+use Rattle.orc_heap.specs.declared.events.Place.TheVariants.{Next, Root, Side}
 
 either : {A : Type 0} (P : A → Type 0) (b : Bool) (x y : A) → P x → P y → P (if b then x else y)
 either P true x y p q = p
@@ -35,12 +35,17 @@ keeps_value (suc which) value x = record { giver = refl; named = λ e. e }
 keeps_link : (place : Place) (to : Link) (id : ℕ) (x : Node) → Keeps x (link_touched place to id x)
 keeps_link (Root r) to id x = same x
 keeps_link (Next i) to id x = either (Keeps x) (i == id) _ _ (record { giver = refl; named = λ e. e }) (same x)
+keeps_link (Side i) to id x = either (Keeps x) (i == id) _ _ (record { giver = refl; named = λ e. e }) (same x)
 
 keeps-touched : (act : Act) (id : ℕ) (x : Node) → Keeps x (touched act id x)
 keeps-touched Give id x = same x
 keeps-touched (Fill i which value) id x = either (Keeps x) (i == id) _ _ (keeps_value which value x) (same x)
 keeps-touched (Aim i to) id x =
     let k : Keeps x (if i == id then with_link (record { to = to; mark = false }) x else x) =
+    either (Keeps x) (i == id) _ _ (record { giver = refl; named = λ e. e }) (same x) in
+    either (Keeps x) (names_node to id) _ _ (record { giver = k.giver; named = λ e. refl }) k
+keeps-touched (AimSide i to) id x =
+    let k : Keeps x (if i == id then with_side (record { to = to; mark = false }) x else x) =
     either (Keeps x) (i == id) _ _ (record { giver = refl; named = λ e. e }) (same x) in
     either (Keeps x) (names_node to id) _ _ (record { giver = k.giver; named = λ e. refl }) k
 keeps-touched (Look place link) id x = same x
@@ -71,6 +76,7 @@ points_where_moves : (act : Act) (id : ℕ) → moves_to act id ≡ true → poi
 points_where_moves Give id m = m
 points_where_moves (Fill i which value) id m = m
 points_where_moves (Aim i to) id m = cc
+points_where_moves (AimSide i to) id m = cc
 points_where_moves (Look place link) id m = m
 points_where_moves (Move place from to) id m = m
 points_where_moves (Miss place wanted found) id m = m

@@ -1,15 +1,17 @@
 -- A node to which a Move made a link stays such a node.
-use Rattle.std.proofs.Common.{false, inl, inr, refl, subst, sym, true, ℕ, ◌∙◌, ◌≡◌}
-use Rattle.std.proofs.lemmas.Bool.{eq-eqb, ne_eqb}
+use Rattle.std.proofs.Common.{false, inl, inr, refl, subst, sym, true, ℕ, ◌∙◌, ◌≡◌, Bool, zero, suc}
+use Rattle.std.proofs.lemmas.Bool.{eq-eqb, ne_eqb, eqb-true}
 use Rattle.std.specs.List.{slice_get}
 use Rattle.std.specs.Prelude.{None, Option, Some, if◌then◌else◌, ◌==◌}
 use Rattle.orc_heap.proofs.Changes.{get-change, get-grown}
-use Rattle.orc_heap.specs.Acts.{Fits, IsFresh, StaysLinked, as_linked, as_named, change_node, change_target, heap_after, moved_link, with_link, with_value}
+use Rattle.orc_heap.specs.Acts.{Fits, IsFresh, StaysLinked, as_linked, as_named, change_node, change_target, heap_after, moved_link, with_link, with_value, with_side, moved_side}
 use Rattle.orc_heap.specs.Heap.{Heap, Node}
 use Rattle.orc_heap.specs.declared.events.Act.{Act}
-use Rattle.orc_heap.specs.declared.events.Act.TheVariants.{Aim, Fill, Give, Look, Miss, Move}
+use Rattle.orc_heap.specs.declared.events.Act.TheVariants.{Aim, Fill, Give, Look, Miss, Move, AimSide}
 use Rattle.orc_heap.specs.declared.events.Link.{Link}
-use Rattle.orc_heap.specs.declared.events.Place.TheVariants.{Next, Root}
+use Rattle.orc_heap.specs.declared.events.Place.TheVariants.{Next, Root, Side}
+use Rattle.orc_heap.proofs.Fresh.{touched}
+use Rattle.orc_heap.specs.Journals.{names_node}
 
 fresh_unlinked : (agent : ℕ) (h : Heap) (id : ℕ) (node : Node) → IsFresh agent h id → slice_get h.nodes id ≡ Some node → node.linked ≡ true → ⊥
 fresh_unlinked agent h id node fresh there linked =
@@ -69,6 +71,14 @@ moved t d to h old there linked =
       | inr r ↦ rw (ne_eqb t d r.0) (record { node = old; there = r.1; linked = linked; giver = refl; first = refl; second = refl; link_is = refl })
     ]
 
+side_moved : (t d : ℕ) (to : Link) (h : Heap) (old : Node) → slice_get h.nodes d ≡ Some old → old.linked ≡ true
+    → StaysLinked (change_node (with_side to) t h) d old old.link
+side_moved t d to h old there linked =
+    elim (get-change (with_side to) t d h.nodes old there) [
+      | inl r ↦ record { node = with_side to old; there = r.1; linked = linked; giver = refl; first = refl; second = refl; link_is = refl }
+      | inr r ↦ record { node = old; there = r.1; linked = linked; giver = refl; first = refl; second = refl; link_is = refl }
+    ]
+
 pub linked_after : (agent : ℕ) (act : Act) (h : Heap) (d : ℕ) (old : Node) → Fits agent act h → slice_get h.nodes d ≡ Some old → old.linked ≡ true
     → StaysLinked (heap_after agent act h) d old (moved_link act d old.link)
 linked_after agent Give h d old fits there linked =
@@ -77,10 +87,53 @@ linked_after agent (Fill id which value) h d old fits there linked = other_keeps
 linked_after agent (Aim id to) h d old fits there linked =
     target_keeps as_named named_keeps (λ n. refl) to (change_node (with_link (record { to = to; mark = false })) id h) d old old.link
     (other_keeps _ agent h id d old fits.0 there linked)
+linked_after agent (AimSide id to) h d old fits there linked =
+    target_keeps as_named named_keeps (λ n. refl) to (change_node (with_side (record { to = to; mark = false })) id h) d old old.link
+    (other_keeps _ agent h id d old fits.0 there linked)
 linked_after agent (Look place link) h d old fits there linked = unchanged h d old there linked
 linked_after agent (Move (Root r) from to) h d old fits there linked =
     target_keeps as_linked linked_keeps (λ n. refl) to.to _ d old old.link
     (record { node = old; there = there; linked = linked; giver = refl; first = refl; second = refl; link_is = refl })
 linked_after agent (Move (Next t) from to) h d old fits there linked =
     target_keeps as_linked linked_keeps (λ n. refl) to.to (change_node (with_link to) t h) d old _ (moved t d to h old there linked)
+linked_after agent (Move (Side t) from to) h d old fits there linked =
+    target_keeps as_linked linked_keeps (λ n. refl) to.to (change_node (with_side to) t h) d old _ (side_moved t d to h old there linked)
 linked_after agent (Miss place wanted found) h d old fits there linked = unchanged h d old there linked
+
+either_side : (b : Bool) (x y : Node) (link : Link) → x.side ≡ link → y.side ≡ link → (if b then x else y).side ≡ link
+either_side true x y link e f = e
+either_side false x y link e f = f
+
+-- what an act does to the second link of a once linked node
+pub side_after : (agent : ℕ) (act : Act) (h : Heap) (d : ℕ) (old : Node) → Fits agent act h → slice_get h.nodes d ≡ Some old → old.linked ≡ true
+    → (touched act d old).side ≡ moved_side act d old.side
+side_after agent Give h d old fits there linked = refl
+side_after agent (Fill id which value) h d old fits there linked = either_side (id == d) (with_value which value old) old old.side (value_side which) refl
+  where
+    value_side : (k : ℕ) → (with_value k value old).side ≡ old.side
+    value_side zero = refl
+    value_side (suc k) = refl
+side_after agent (Aim id to) h d old fits there linked =
+    let l : Node → Node = with_link (record { to = to; mark = false }) in
+    let k = either_side (id == d) (l old) old old.side refl refl in
+    either_side (names_node to d) (as_named (if id == d then l old else old)) (if id == d then l old else old) old.side k k
+side_after agent (AimSide id to) h d old fits there linked =
+    let l : Node → Node = with_side (record { to = to; mark = false }) in
+    let k = not_mine (id == d) refl in
+    either_side (names_node to d) (as_named (if id == d then l old else old)) (if id == d then l old else old) old.side k k
+  where
+    not_mine : (b : Bool) → (id == d) ≡ b → (if b then with_side (record { to = to; mark = false }) old else old).side ≡ old.side
+    not_mine true e = absurd (fresh_unlinked agent h d old (subst (λ i. IsFresh agent h i) (eqb-true id d e) fits.0) there linked)
+    not_mine false e = refl
+side_after agent (Look place link) h d old fits there linked = refl
+side_after agent (Move (Root r) from to) h d old fits there linked = either_side (names_node to.to d) (as_linked old) old old.side refl refl
+side_after agent (Move (Next t) from to) h d old fits there linked =
+    let k = either_side (t == d) (with_link to old) old old.side refl refl in
+    either_side (names_node to.to d) (as_linked (if t == d then with_link to old else old)) (if t == d then with_link to old else old) old.side k k
+side_after agent (Move (Side t) from to) h d old fits there linked = by_place (t == d)
+  where
+    by_place : (b : Bool) → (if names_node to.to d then as_linked (if b then with_side to old else old) else (if b then with_side to old else old)).side ≡
+        (if b then to else old.side)
+    by_place true = either_side (names_node to.to d) (as_linked (with_side to old)) (with_side to old) to refl refl
+    by_place false = either_side (names_node to.to d) (as_linked old) old old.side refl refl
+side_after agent (Miss place wanted found) h d old fits there linked = refl

@@ -2,22 +2,23 @@
 use Rattle.std.proofs.Common.{length, Bool, List, Option, false, None, Some, [], append-nil, append_assoc, ap, arith, inl, inr, refl, subst, suc, sym, true, zero, ℕ, ◌++◌, ◌+◌, ◌∙◌, ◌∷◌, ◌≡◌, ◌≢◌, ◌≤◌, ◌⊎◌}
 use Rattle.std.proofs.lemmas.Bool.{eq-eqb}
 use Rattle.std.specs.List.{list_any, slice_get}
-use Rattle.std.specs.Prelude.{if◌then◌else◌, ◌||◌}
+use Rattle.std.specs.Prelude.{cond, if◌then◌else◌, nat_lt, ◌||◌}
 use Rattle.std.specs.Option.{option_map}
 use Rattle.orc_heap.proofs.Changes.{get-change_other, length-change}
-use Rattle.orc_heap.proofs.Linked.{linked_after}
+use Rattle.orc_heap.proofs.Linked.{linked_after, side_after}
+use Rattle.orc_heap.proofs.Fresh.{node-after, touched}
 use Rattle.orc_heap.proofs.Runs.{run_heap-snoc}
-use Rattle.orc_heap.specs.Acts.{Fits, as_linked, as_named, change_target, heap_after, moved_link}
+use Rattle.orc_heap.specs.Acts.{Fits, as_linked, as_named, change_target, heap_after, moved_link, moved_side}
 use Rattle.orc_heap.specs.Allowed.{AllAllowed}
 use Rattle.orc_heap.specs.Heap.{Heap, HeapNumbers, Node, shown}
 use Rattle.orc_heap.specs.Journals.{FitsAfter, IsLawfulFrom, run_from, run_heap}
 use Rattle.orc_heap.specs.Moves.{IsLinkedPlace, gives_in, move_with, moves_in, moves_place}
 use Rattle.orc_heap.specs.declared.events.Act.{Act}
-use Rattle.orc_heap.specs.declared.events.Act.TheVariants.{Aim, Fill, Give, Look, Miss, Move}
+use Rattle.orc_heap.specs.declared.events.Act.TheVariants.{Aim, Fill, Give, Look, Miss, Move, AimSide}
 use Rattle.orc_heap.specs.declared.events.Event.{Event}
 use Rattle.orc_heap.specs.declared.events.Link.{Link}
 use Rattle.orc_heap.specs.declared.events.Place.{Place}
-use Rattle.orc_heap.specs.declared.events.Place.TheVariants.{Next, Root}
+use Rattle.orc_heap.specs.declared.events.Place.TheVariants.{Next, Root, Side}
 
 pub moves_in-append : {N : Type 0} (es fs : List (Event N)) → moves_in (es ++ fs) ≡ moves_in es + moves_in fs
 moves_in-append [] fs = omega arith
@@ -40,6 +41,7 @@ roots_stay : (agent : ℕ) (act : Act) (h : Heap) → move_with act ≡ 0 → (h
 roots_stay agent Give h none = refl
 roots_stay agent (Fill id which value) h none = refl
 roots_stay agent (Aim id to) h none = target_roots as_named to _
+roots_stay agent (AimSide id to) h none = target_roots as_named to _
 roots_stay agent (Look place link) h none = refl
 roots_stay agent (Move place from to) h none = cc
 roots_stay agent (Miss place wanted found) h none = refl
@@ -48,9 +50,47 @@ links_stay : (act : Act) (id : ℕ) (link : Link) → move_with act ≡ 0 → mo
 links_stay Give id link none = refl
 links_stay (Fill i which value) id link none = refl
 links_stay (Aim i to) id link none = refl
+links_stay (AimSide i to) id link none = refl
 links_stay (Look place seen) id link none = refl
 links_stay (Move place from to) id link none = cc
 links_stay (Miss place wanted found) id link none = refl
+
+sides_stay : (act : Act) (id : ℕ) (link : Link) → move_with act ≡ 0 → moved_side act id link ≡ link
+sides_stay Give id link none = refl
+sides_stay (Fill i which value) id link none = refl
+sides_stay (Aim i to) id link none = refl
+sides_stay (AimSide i to) id link none = refl
+sides_stay (Look place seen) id link none = refl
+sides_stay (Move place from to) id link none = cc
+sides_stay (Miss place wanted found) id link none = refl
+
+pub target_links : (f : Node → Node) (to : Option ℕ) (h : Heap) → (change_target f to h).links ≡ h.links
+target_links f None h = refl
+target_links f (Some id) h = refl
+
+-- an act leaves the number of links
+pub same_links : (agent : ℕ) (act : Act) (h : Heap) → (heap_after agent act h).links ≡ h.links
+same_links agent Give h = refl
+same_links agent (Fill id which value) h = refl
+same_links agent (Aim id to) h = target_links as_named to _
+same_links agent (AimSide id to) h = target_links as_named to _
+same_links agent (Look place link) h = refl
+same_links agent (Move (Root r) from to) h = target_links as_linked to.to _
+same_links agent (Move (Next i) from to) h = target_links as_linked to.to _
+same_links agent (Move (Side i) from to) h = target_links as_linked to.to _
+same_links agent (Miss place wanted found) h = refl
+
+-- the second link of a node that is there
+pub shown_side : (h : Heap) (id : ℕ) (node : Node) → slice_get h.nodes id ≡ Some node → shown h (Side id) ≡ cond (nat_lt 1 h.links) (Some node.side) None
+shown_side h id node there = ap (λ o. cond (nat_lt 1 h.links) (option_map (λ (x : Node). x.side) o) None) there
+
+-- a once linked node's second link after an act
+side_shown : (agent : ℕ) (act : Act) (h : Heap) (id : ℕ) (old : Node) (link : Link) → Fits agent act h → slice_get h.nodes id ≡ Some old → old.linked ≡ true
+    → moved_side act id old.side ≡ link → shown (heap_after agent act h) (Side id) ≡ cond (nat_lt 1 h.links) (Some link) None
+side_shown agent act h id old link fits there linked same =
+    shown_side (heap_after agent act h) id (touched act id old) (node-after agent act h id old there)
+    ∙ (ap (λ k. cond (nat_lt 1 k) (Some (touched act id old).side) None) (same_links agent act h)
+    ∙ ap (λ l. cond (nat_lt 1 h.links) (Some l) None) (side_after agent act h id old fits there linked ∙ same))
 
 -- the link of a node that is there
 pub shown_node : (h : Heap) (id : ℕ) (node : Node) → slice_get h.nodes id ≡ Some node → shown h (Next id) ≡ Some node.link
@@ -63,6 +103,9 @@ linked_place_after agent act h (Root r) fits l = tt
 linked_place_after agent act h (Next id) fits l =
     let s = linked_after agent act h id l.node fits l.there l.linked in
     record { node = s.node; there = s.there; linked = s.linked }
+linked_place_after agent act h (Side id) fits l =
+    let s = linked_after agent act h id l.node fits l.there l.linked in
+    record { node = s.node; there = s.there; linked = s.linked }
 
 -- an act that is no Move leaves what such a place shows
 pub shown_after : (agent : ℕ) (act : Act) (h : Heap) (place : Place) → Fits agent act h → IsLinkedPlace place h → move_with act ≡ 0
@@ -72,6 +115,8 @@ shown_after agent act h (Next id) fits l none =
     let s = linked_after agent act h id l.node fits l.there l.linked in
     shown_node (heap_after agent act h) id s.node s.there
     ∙ (ap (λ (x : Link). Some x) (s.link_is ∙ links_stay act id l.node.link none) ∙ sym (shown_node h id l.node l.there))
+shown_after agent act h (Side id) fits l none =
+    side_shown agent act h id l.node l.node.side fits l.there l.linked (sides_stay act id l.node.side none) ∙ sym (shown_side h id l.node l.there)
 
 none_or_some : (k : ℕ) → (k ≡ 0) ⊎ (1 ≤ k)
 none_or_some zero = inl refl
@@ -123,12 +168,24 @@ shown_elsewhere : (agent : ℕ) (act : Act) (h : Heap) (place : Place) → Fits 
 shown_elsewhere agent Give h place fits l away = shown_after agent Give h place fits l refl
 shown_elsewhere agent (Fill i which value) h place fits l away = shown_after agent (Fill i which value) h place fits l refl
 shown_elsewhere agent (Aim i to) h place fits l away = shown_after agent (Aim i to) h place fits l refl
+shown_elsewhere agent (AimSide i to) h place fits l away = shown_after agent (AimSide i to) h place fits l refl
 shown_elsewhere agent (Look at link) h place fits l away = refl
 shown_elsewhere agent (Miss at wanted found) h place fits l away = refl
 shown_elsewhere agent (Move (Root r) from to) h (Root q) fits l away =
     ap (λ (ls : List Link). slice_get ls q) (target_roots as_linked to.to _)
     ∙ get-change_other (λ (x : Link). to) r q h.roots (λ e. let t : true ≡ false = sym (eq-eqb r q (sym e)) ∙ away in cc)
 shown_elsewhere agent (Move (Next i) from to) h (Root q) fits l away = ap (λ (ls : List Link). slice_get ls q) (target_roots as_linked to.to _)
+shown_elsewhere agent (Move (Side i) from to) h (Root q) fits l away = ap (λ (ls : List Link). slice_get ls q) (target_roots as_linked to.to _)
+shown_elsewhere agent (Move (Side i) from to) h (Next id) fits l away =
+    let s = linked_after agent (Move (Side i) from to) h id l.node fits l.there l.linked in
+    shown_node (heap_after agent (Move (Side i) from to) h) id s.node s.there ∙ (ap (λ (x : Link). Some x) s.link_is ∙ sym (shown_node h id l.node l.there))
+shown_elsewhere agent (Move (Root r) from to) h (Side id) fits l away =
+    side_shown agent (Move (Root r) from to) h id l.node l.node.side fits l.there l.linked refl ∙ sym (shown_side h id l.node l.there)
+shown_elsewhere agent (Move (Next i) from to) h (Side id) fits l away =
+    side_shown agent (Move (Next i) from to) h id l.node l.node.side fits l.there l.linked refl ∙ sym (shown_side h id l.node l.there)
+shown_elsewhere agent (Move (Side i) from to) h (Side id) fits l away =
+    side_shown agent (Move (Side i) from to) h id l.node l.node.side fits l.there l.linked (ap (λ b. if b then to else l.node.side) away)
+    ∙ sym (shown_side h id l.node l.there)
 shown_elsewhere agent (Move (Root r) from to) h (Next id) fits l away =
     let s = linked_after agent (Move (Root r) from to) h id l.node fits l.there l.linked in
     shown_node (heap_after agent (Move (Root r) from to) h) id s.node s.there ∙ (ap (λ (x : Link). Some x) s.link_is ∙ sym (shown_node h id l.node l.there))

@@ -9,10 +9,10 @@ use Rattle.orc_heap.specs.Acts.{as_linked, as_named, heap_after, set_link}
 use Rattle.orc_heap.specs.Heap.{Heap, HeapNumbers, change, new_heap, null, shown}
 use Rattle.orc_heap.specs.Journals.{is_once_linked, moves_to, names_node, run_from, run_heap}
 use Rattle.orc_heap.specs.declared.events.Act.{Act}
-use Rattle.orc_heap.specs.declared.events.Act.TheVariants.{Aim, Fill, Give, Look, Miss, Move}
+use Rattle.orc_heap.specs.declared.events.Act.TheVariants.{Aim, Fill, Give, Look, Miss, Move, AimSide}
 use Rattle.orc_heap.specs.declared.events.Event.{Event}
 use Rattle.orc_heap.specs.declared.events.Link.{Link}
-use Rattle.orc_heap.specs.declared.events.Place.TheVariants.{Next, Root}
+use Rattle.orc_heap.specs.declared.events.Place.TheVariants.{Next, Root, Side}
 
 changed : (to link : Link) (root r : ℕ) (links : List Link) → slice_get (change (λ (l : Link). to) r links) root ≡ Some link
     → (slice_get links root ≡ Some link) ⊎ (link ≡ to)
@@ -28,9 +28,12 @@ root_after : (agent : ℕ) (act : Act) (h : Heap) (root id : ℕ) (link : Link) 
 root_after agent Give h root id link to at = inl at
 root_after agent (Fill i which value) h root id link to at = inl at
 root_after agent (Aim i target) h root id link to at = inl (ap (λ (ls : List Link). slice_get ls root) (sym (target_roots as_named target _)) ∙ at)
+root_after agent (AimSide i target) h root id link to at = inl (ap (λ (ls : List Link). slice_get ls root) (sym (target_roots as_named target _)) ∙ at)
 root_after agent (Look place seen) h root id link to at = inl at
 root_after agent (Miss place wanted found) h root id link to at = inl at
 root_after agent (Move (Next i) from target) h root id link to at =
+    inl (ap (λ (ls : List Link). slice_get ls root) (sym (target_roots as_linked target.to _)) ∙ at)
+root_after agent (Move (Side i) from target) h root id link to at =
     inl (ap (λ (ls : List Link). slice_get ls root) (sym (target_roots as_linked target.to _)) ∙ at)
 root_after agent (Move (Root r) from target) h root id link to at =
     elim (changed target link root r h.roots

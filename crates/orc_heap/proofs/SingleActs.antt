@@ -10,7 +10,7 @@ use Rattle.orc_heap.specs.Allowed.{HasLink, IsLinkedNode}
 use Rattle.orc_heap.specs.Heap.{Heap, Node, link_to, null, shown}
 use Rattle.orc_heap.specs.Journals.{IsPlainAct, moves_to, points_to}
 use Rattle.orc_heap.specs.declared.events.Act.{Act}
-use Rattle.orc_heap.specs.declared.events.Act.TheVariants.{Aim, Fill, Give, Look, Miss, Move}
+use Rattle.orc_heap.specs.declared.events.Act.TheVariants.{Aim, Fill, Give, Look, Miss, Move, AimSide}
 use Rattle.orc_heap.specs.declared.events.Link.{Link}
 use Rattle.orc_heap.specs.declared.events.Place.TheVariants.{Next, Root}
 
@@ -50,6 +50,8 @@ plain_roots agent Give h p = refl
 plain_roots agent (Fill id which value) h p = refl
 plain_roots agent (Aim id None) h p = refl
 plain_roots agent (Aim id (Some to)) h p = absurd p
+plain_roots agent (AimSide id None) h p = refl
+plain_roots agent (AimSide id (Some to)) h p = absurd p
 plain_roots agent (Look place link) h p = refl
 plain_roots agent (Move place from to) h p = absurd p
 plain_roots agent (Miss place wanted found) h p = refl
@@ -58,6 +60,7 @@ pub plain_link : (act : Act) (d : ℕ) (link : Link) → IsPlainAct act → move
 plain_link Give d link p = refl
 plain_link (Fill id which value) d link p = refl
 plain_link (Aim id to) d link p = refl
+plain_link (AimSide id to) d link p = refl
 plain_link (Look place l) d link p = refl
 plain_link (Move place from to) d link p = absurd p
 plain_link (Miss place wanted found) d link p = refl
@@ -67,6 +70,8 @@ plain_points Give d p = refl
 plain_points (Fill id which value) d p = refl
 plain_points (Aim id None) d p = refl
 plain_points (Aim id (Some to)) d p = absurd p
+plain_points (AimSide id None) d p = refl
+plain_points (AimSide id (Some to)) d p = absurd p
 plain_points (Look place l) d p = refl
 plain_points (Move place from to) d p = absurd p
 plain_points (Miss place wanted found) d p = refl
@@ -75,6 +80,7 @@ pub plain_moves : (act : Act) (d : ℕ) → IsPlainAct act → moves_to act d �
 plain_moves Give d p = refl
 plain_moves (Fill id which value) d p = refl
 plain_moves (Aim id to) d p = refl
+plain_moves (AimSide id to) d p = refl
 plain_moves (Look place l) d p = refl
 plain_moves (Move place from to) d p = absurd p
 plain_moves (Miss place wanted found) d p = refl

@@ -4,13 +4,13 @@ use Rattle.std.proofs.lemmas.Bool.{eq-eqb, eqb-false, eqb-true, ne_eqb}
 use Rattle.std.specs.List.{slice_get}
 use Rattle.std.specs.Prelude.{None, Option, Some, ◌==◌, ◌||◌}
 use Rattle.orc_heap.proofs.Changes.{get-change}
-use Rattle.orc_heap.specs.Acts.{Fits, IsTarget, as_linked, as_named, change_node, change_target, heap_after, with_link, with_value}
+use Rattle.orc_heap.specs.Acts.{Fits, IsTarget, as_linked, as_named, change_node, change_target, heap_after, with_link, with_value, with_side}
 use Rattle.orc_heap.specs.Heap.{Heap, HeapNumbers, Node, change, new_heap, new_node}
 use Rattle.orc_heap.specs.Journals.{IsLawful, IsLawfulFrom, is_once_linked, is_once_named, moves_to, names_node, points_to, run_from, run_heap}
 use Rattle.orc_heap.specs.declared.events.Act.{Act}
-use Rattle.orc_heap.specs.declared.events.Act.TheVariants.{Aim, Fill, Give, Look, Miss, Move}
+use Rattle.orc_heap.specs.declared.events.Act.TheVariants.{Aim, Fill, Give, Look, Miss, Move, AimSide}
 use Rattle.orc_heap.specs.declared.events.Event.{Event}
-use Rattle.orc_heap.specs.declared.events.Place.TheVariants.{Next, Root}
+use Rattle.orc_heap.specs.declared.events.Place.TheVariants.{Next, Root, Side}
 
 -- the node's part, or false where there is no node
 part_of : (Node → Bool) → Option Node → Bool
@@ -102,12 +102,18 @@ linked-act agent (Fill i zero value) h id f = flag-kept _ (with_value zero value
 linked-act agent (Fill i (suc which) value) h id f = flag-kept _ (with_value (suc which) value) (λ n. refl) i id h.nodes ∙ sym (or-false _)
 linked-act agent (Aim i to) h id f = target-kept _ as_named (λ n. refl) to id _ ∙ flag-kept _ (with_link (record { to = to; mark = false }))
     (λ n. refl) i id h.nodes ∙ sym (or-false _)
+linked-act agent (AimSide i to) h id f = target-kept _ as_named (λ n. refl) to id _ ∙ flag-kept _ (with_side (record { to = to; mark = false }))
+    (λ n. refl) i id h.nodes ∙ sym (or-false _)
 linked-act agent (Look place link) h id f = sym (or-false _)
 linked-act agent (Move (Root r) from to) h id f = target-set _ as_linked (λ n. refl) to.to id _ (target_there agent h to.to f.1)
 linked-act agent (Move (Next i) from to) h id f =
     target-set _ as_linked (λ n. refl) to.to id (change_node (with_link to) i h)
     (there_to-change (with_link to) i h.nodes to.to (target_there agent h to.to f.1))
     ∙ ap (λ b. b || names_node to.to id) (flag-kept _ (with_link to) (λ n. refl) i id h.nodes)
+linked-act agent (Move (Side i) from to) h id f =
+    target-set _ as_linked (λ n. refl) to.to id (change_node (with_side to) i h)
+    (there_to-change (with_side to) i h.nodes to.to (target_there agent h to.to f.1))
+    ∙ ap (λ b. b || names_node to.to id) (flag-kept _ (with_side to) (λ n. refl) i id h.nodes)
 linked-act agent (Miss place wanted found) h id f = sym (or-false _)
 
 named-act : (agent : ℕ) (act : Act) (h : Heap) (id : ℕ) → Fits agent act h
@@ -119,12 +125,20 @@ named-act agent (Aim i to) h id f =
     let l = with_link (record { to = to; mark = false }) in
     target-set _ as_named (λ n. refl) to id (change_node l i h) (there_to-change l i h.nodes to (target_there agent h to f.1))
     ∙ ap (λ b. b || names_node to id) (flag-kept _ l (λ n. refl) i id h.nodes)
+named-act agent (AimSide i to) h id f =
+    let l = with_side (record { to = to; mark = false }) in
+    target-set _ as_named (λ n. refl) to id (change_node l i h) (there_to-change l i h.nodes to (target_there agent h to f.1))
+    ∙ ap (λ b. b || names_node to id) (flag-kept _ l (λ n. refl) i id h.nodes)
 named-act agent (Look place link) h id f = sym (or-false _)
 named-act agent (Move (Root r) from to) h id f = target-set _ as_linked (λ n. refl) to.to id _ (target_there agent h to.to f.1)
 named-act agent (Move (Next i) from to) h id f =
     target-set _ as_linked (λ n. refl) to.to id (change_node (with_link to) i h)
     (there_to-change (with_link to) i h.nodes to.to (target_there agent h to.to f.1))
     ∙ ap (λ b. b || names_node to.to id) (flag-kept _ (with_link to) (λ n. refl) i id h.nodes)
+named-act agent (Move (Side i) from to) h id f =
+    target-set _ as_linked (λ n. refl) to.to id (change_node (with_side to) i h)
+    (there_to-change (with_side to) i h.nodes to.to (target_there agent h to.to f.1))
+    ∙ ap (λ b. b || names_node to.to id) (flag-kept _ (with_side to) (λ n. refl) i id h.nodes)
 named-act agent (Miss place wanted found) h id f = sym (or-false _)
 
 linked-run : {N : Type 0} (h : Heap) (es : List (Event N)) (id : ℕ) → IsLawfulFrom h es

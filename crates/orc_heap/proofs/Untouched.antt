@@ -11,7 +11,7 @@ use Rattle.orc_heap.specs.Heap.{Heap}
 use Rattle.orc_heap.specs.Journals.{IsLawfulFrom, names_node, points_to, run_from}
 use Rattle.orc_heap.specs.Seats.{IsUntouched}
 use Rattle.orc_heap.specs.declared.events.Act.{Act}
-use Rattle.orc_heap.specs.declared.events.Act.TheVariants.{Aim, Fill, Give, Look, Miss, Move}
+use Rattle.orc_heap.specs.declared.events.Act.TheVariants.{Aim, Fill, Give, Look, Miss, Move, AimSide}
 use Rattle.orc_heap.specs.declared.events.Event.{Event}
 
 -- what an agent may name it may name later
@@ -48,6 +48,7 @@ others_away agent by h act id other fits u = away act fits
     away Give fits = refl
     away (Fill i which value) fits = refl
     away (Aim i to) fits = none_names to fits.1
+    away (AimSide i to) fits = none_names to fits.1
     away (Look place link) fits = refl
     away (Move place from to) fits = none_names to.to fits.1
     away (Miss place wanted found) fits = refl

@@ -7,7 +7,7 @@ use Rattle.orc_heap.specs.declared.events.Act.TheVariants.{Move}
 use Rattle.orc_heap.specs.declared.events.Event.{Event}
 use Rattle.orc_heap.specs.declared.events.Link.{Link}
 use Rattle.orc_heap.specs.declared.events.Place.{Place}
-use Rattle.orc_heap.specs.declared.events.Place.TheVariants.{Next}
+use Rattle.orc_heap.specs.declared.events.Place.TheVariants.{Next, Side}
 
 -- each of these events is allowed where it stands, after what was seen
 abbrev pub AllAllowed : {N : Type 0} → (List (Event N) → Event N → Type 0) → List (Event N) → List (Event N) → Type 0
@@ -39,19 +39,20 @@ pub record IsLinkedNode (h : Heap) (id : ℕ) : Type 0 where
   pub there : slice_get h.nodes id ≡ Some node
   pub linked : node.linked ≡ true
 
--- a once linked node with this link
+-- a once linked node with this first link
 pub record HasLink (h : Heap) (id : ℕ) (link : Link) : Type 0 where
   pub node : Node
   pub there : slice_get h.nodes id ≡ Some node
   pub linked : node.linked ≡ true
   pub link_is : node.link ≡ link
 
--- if the act is a Move, its place is a root or the link of a once linked node
+-- if the act is a Move, its place is a root or a link of a once linked node
 abbrev pub MovesLinked : Act → Heap → Type 0
 MovesLinked (Move (Next id) from to) h = IsLinkedNode h id
+MovesLinked (Move (Side id) from to) h = IsLinkedNode h id
 MovesLinked act h = Unit {0}
 
--- each link of a once linked node is null or names a once linked node of a greater rank
+-- the first link of each once linked node is null or names a once linked node of a greater rank
 abbrev pub Rises : (ℕ → ℕ) → Heap → Type 0
 Rises rank h = (id : ℕ) (n : Node) → slice_get h.nodes id ≡ Some n → n.linked ≡ true
     → (n.link.to ≡ None) ⊎ ((next : ℕ) × (n.link.to ≡ Some next) × IsLinkedNode h next × (rank id < rank next))

@@ -1,10 +1,8 @@
 -- The discipline that asks for no more than that events fit.
-use Rattle.std.specs.Prelude.{List, ℕ}
+use Rattle.std.specs.Prelude.{List}
 use Rattle.orc_heap.specs.Allowed.{MovesLinked}
-use Rattle.orc_heap.specs.Heap.{Heap, HeapNumbers}
-use Rattle.orc_heap.specs.Journals.{FitsAfter, IsPlain, IsPlainAct, run_heap}
-use Rattle.orc_heap.specs.declared.events.Act.{Act}
-use Rattle.orc_heap.specs.declared.events.Act.TheVariants.{Aim, Fill, Give, Look, Miss, Move}
+use Rattle.orc_heap.specs.Heap.{HeapNumbers}
+use Rattle.orc_heap.specs.Journals.{FitsAfter, run_heap}
 use Rattle.orc_heap.specs.declared.events.Event.{Event}
 
 -- whatever fits may follow, but for a Move of a link that no Move made

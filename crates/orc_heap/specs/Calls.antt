@@ -56,9 +56,9 @@ module _ {N : Type 0} (may : List (Event N) → Event N → Type 0) (n : HeapNum
   abbrev pub MayAim : Seat N → Hold → Option (Bor Hold) → Type 0
   MayAim s fresh to = AllowedWhereFits may n s.agent s.seen (aim_of s fresh to)
 
--- a node that was given to this agent and has these values, a null link, and no link to it
+-- a node that was given to this agent and has these values, null links, and no link to it
 abbrev pub given_node : ℕ → ℕ → ℕ → Node
-given_node agent first second = record { giver = agent; first = Some first; second = Some second; link = null; named = false; linked = false }
+given_node agent first second = record { giver = agent; first = Some first; second = Some second; link = null; side = null; named = false; linked = false }
 
 -- a new node was given, after all that the pass had seen: the pass holds it in this slot, it is its fresh node, and it has these
 -- values
@@ -131,7 +131,7 @@ pub record ReadsValue (h : Heap) (id which value : ℕ) : Type 0 where
   pub there : slice_get h.nodes id ≡ Some node
   pub is : (filled : ℕ) → value_of which node ≡ Some filled → value ≡ filled
 
--- how many Aims and Moves made a link to the node
+-- how many Aims, of either link, and Moves made a link to the node
 abbrev pub links_made : {N : Type 0} → List (Event N) → ℕ → ℕ
 links_made es id = length (filter (λ e. points_to e.act id) es)
 

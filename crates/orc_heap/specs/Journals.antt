@@ -4,7 +4,7 @@ use Rattle.std.specs.List.{list_any}
 use Rattle.orc_heap.specs.Acts.{Fits, heap_after}
 use Rattle.orc_heap.specs.Heap.{Heap, HeapNumbers, new_heap}
 use Rattle.orc_heap.specs.declared.events.Act.{Act}
-use Rattle.orc_heap.specs.declared.events.Act.TheVariants.{Aim, Move}
+use Rattle.orc_heap.specs.declared.events.Act.TheVariants.{Aim, AimSide, Move}
 use Rattle.orc_heap.specs.declared.events.Event.{Event}
 
 -- an act of this agent with this note
@@ -48,22 +48,24 @@ abbrev pub moves_to : Act → ℕ → Bool
 moves_to (Move place from to) id = names_node to.to id
 moves_to act id = false
 
--- the act is an Aim or a Move that makes a link to the node
+-- the act is an Aim, an AimSide or a Move that makes a link to the node
 abbrev pub points_to : Act → ℕ → Bool
 points_to (Aim i to) id = names_node to id
+points_to (AimSide i to) id = names_node to id
 points_to act id = moves_to act id
 
 -- some Move made a link to the node
 abbrev pub is_once_linked : {N : Type 0} → List (Event N) → ℕ → Bool
 is_once_linked es id = list_any (λ e. moves_to e.act id) es
 
--- some Aim or Move made a link to the node
+-- some Aim, AimSide or Move made a link to the node
 abbrev pub is_once_named : {N : Type 0} → List (Event N) → ℕ → Bool
 is_once_named es id = list_any (λ e. points_to e.act id) es
 
--- neither a Move nor an Aim with a target
+-- neither a Move, nor an Aim or AimSide with a target
 abbrev pub IsPlainAct : Act → Type 0
 IsPlainAct (Aim id (Some to)) = ⊥
+IsPlainAct (AimSide id (Some to)) = ⊥
 IsPlainAct (Move place from to) = ⊥
 IsPlainAct act = Unit {0}
 

@@ -9,7 +9,7 @@ use Rattle.orc_heap.specs.declared.events.Act.TheVariants.{Give, Move}
 use Rattle.orc_heap.specs.declared.events.Event.{Event}
 use Rattle.orc_heap.specs.declared.events.Link.{Link}
 use Rattle.orc_heap.specs.declared.events.Place.{Place}
-use Rattle.orc_heap.specs.declared.events.Place.TheVariants.{Next, Root}
+use Rattle.orc_heap.specs.declared.events.Place.TheVariants.{Next, Root, Side}
 
 -- 1 for a Move, and 0 for any other act
 abbrev pub move_with : Act → ℕ
@@ -40,15 +40,17 @@ from_own agent (e ∷ es) = if e.agent == agent then e ∷ es else from_own agen
 abbrev pub AllOwn : {N : Type 0} → ℕ → List (Event N) → Type 0
 AllOwn agent es = list_all (λ e. e.agent == agent) es ≡ true
 
--- a root, or the link of a once linked node
+-- a root, or a link of a once linked node
 abbrev pub IsLinkedPlace : Place → Heap → Type 0
 IsLinkedPlace (Root r) h = Unit {0}
 IsLinkedPlace (Next id) h = IsLinkedNode h id
+IsLinkedPlace (Side id) h = IsLinkedNode h id
 
 -- the two places are the same
 abbrev pub is_at : Place → Place → Bool
 is_at (Root r) (Root q) = r == q
 is_at (Next i) (Next j) = i == j
+is_at (Side i) (Side j) = i == j
 is_at one two = false
 
 -- the act is a Move of this place

@@ -25,21 +25,21 @@ pub trait Discipline {
     ghost fits: { (n : HeapNumbers) (seen : List (Event Self.Note)) (e : Event Self.Note)
         → holds n seen → may n seen e → FitsAfter n seen e };
 
-    // an event that fits, has no note, and is neither a Move nor an Aim with a target is allowed
+    // an event that fits, has no note, and is neither a Move nor an Aim or AimSide with a target is allowed
     ghost allows_plain: { (n : HeapNumbers) (seen : List (Event Self.Note)) (e : Event Self.Note)
         → holds n seen → FitsAfter n seen e → IsPlain e → may n seen e };
 
-    // an allowed Move changes a root or the link of a once linked node
+    // an allowed Move changes a root or a link of a once linked node
     ghost moves_linked: { (n : HeapNumbers) (seen : List (Event Self.Note)) (e : Event Self.Note)
         → holds n seen → may n seen e → MovesLinked e.act (run_heap n seen) };
 }
 
-/// A discipline whose links rise, so that they lead in no circle.
+/// A discipline whose first links rise, so that they lead in no circle.
 pub trait Ranked: Discipline {
     // after these events, the rank of the node of this id
     ghost rank: { HeapNumbers → List (Event Self.Note) → ℕ → ℕ };
 
-    // each link of a once linked node is null or names a once linked node of a greater rank
+    // the first link of each once linked node is null or names a once linked node of a greater rank
     ghost rises: { (n : HeapNumbers) (seen : List (Event Self.Note))
         → Self.holds n seen → Rises (rank n seen) (run_heap n seen) };
 }

@@ -7,17 +7,21 @@ pub struct Link {
     pub mark: bool,
 }
 
-/// Where a link stands: at a root, or in a node.
+/// Where a link stands: at a root, or in a node, which has one link or two.
 #[derive(Clone, Copy, Debug, PartialEq, Eq)]
 pub enum Place {
+    /// The link of a root.
     Root(u32),
+    /// The first link of a node.
     Next(u64),
+    /// The second link of a node, where nodes have two.
+    Side(u64),
 }
 
 /// What an agent does with the heap.
 #[derive(Clone, Copy, Debug, PartialEq, Eq)]
 pub enum Act {
-    /// A new node with no values and a null link is given to the agent.
+    /// A new node with no values and null links is given to the agent.
     Give,
     /// Sets the first (0) or second (1) value of a node that was given to the agent and to which no Move made a link.
     Fill {
@@ -25,8 +29,13 @@ pub enum Act {
         which: u32,
         value: u64,
     },
-    /// Sets the link of a node that was given to the agent and to which no Move made a link.
+    /// Sets the first link of a node that was given to the agent and to which no Move made a link.
     Aim {
+        id: u64,
+        to: Option<u64>,
+    },
+    /// The same for the second link, where nodes have two.
+    AimSide {
         id: u64,
         to: Option<u64>,
     },

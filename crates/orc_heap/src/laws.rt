@@ -3,7 +3,7 @@
 ghost use Rattle.std.specs.List.{list_any};
 ghost use Rattle.std.specs.Prelude.{◌≡◌, ◌≢◌, ℕ, ◌↔◌, ◌++◌, List, Some, true, slice_get};
 ghost use Rattle.orc_heap.specs.Heap.{Heap, HeapNumbers, Node, shown};
-ghost use Rattle.orc_heap.specs.Acts.{Fits, StaysLinked, heap_after, moved_link};
+ghost use Rattle.orc_heap.specs.Acts.{Fits, StaysLinked, heap_after, moved_link, moved_side};
 ghost use Rattle.orc_heap.specs.Journals.{IsLawful, IsLawfulFrom, is_once_linked, is_once_named, run_from, run_heap};
 ghost use Rattle.orc_heap.specs.Moves.{IsLinkedPlace, moves_place};
 ghost use Rattle.orc_heap.specs.declared.events.Act.{Act};
@@ -11,15 +11,18 @@ ghost use Rattle.orc_heap.specs.declared.events.Event.{Event};
 ghost use Rattle.orc_heap.specs.declared.events.Link.{Link};
 ghost use Rattle.orc_heap.specs.declared.events.Place.{Place};
 
-/// A node to which a Move made a link stays such a node, keeps both values, and keeps its link but for a
+/// A node to which a Move made a link stays such a node, keeps both values, and keeps each of its links but for a
 /// Move of it.
 pub fn once_linked_nodes_stay()
-    ensures { (agent : ℕ) (act : Act) (h : Heap) (id : ℕ) (old : Node) → Fits agent act h
+    ensures first { (agent : ℕ) (act : Act) (h : Heap) (id : ℕ) (old : Node) → Fits agent act h
         → slice_get h.nodes id ≡ Some old → old.linked ≡ true
         → StaysLinked (heap_after agent act h) id old (moved_link act id old.link) }
+    ensures second { (agent : ℕ) (act : Act) (h : Heap) (id : ℕ) (old node : Node) → Fits agent act h
+        → slice_get h.nodes id ≡ Some old → old.linked ≡ true → slice_get (heap_after agent act h).nodes id ≡ Some node
+        → node.side ≡ moved_side act id old.side }
 {}
 
-/// After a lawful list of events a node's record says whether some Move, and whether some Aim or Move, of the
+/// After a lawful list of events a node's record says whether some Move, and whether some Aim, AimSide or Move, of the
 /// list made a link to it.
 pub fn a_node_tells_its_journal<N>()
     ensures linked { (n : HeapNumbers) (es : List (Event N)) (id : ℕ) (node : Node) → IsLawful n es
@@ -35,7 +38,7 @@ pub fn journals_go_on<N>()
         → IsLawfulFrom h (first ++ second) ↔ (IsLawfulFrom h first × IsLawfulFrom (run_from h first) second) }
 {}
 
-/// Where a root, or the link of a once linked node, shows one link and later another, a Move of it stands in between.
+/// Where a root, or a link of a once linked node, shows one link and later another, a Move of it stands in between.
 pub fn a_changed_link_was_moved<N>()
     ensures { (h : Heap) (place : Place) (one two : Link) (es : List (Event N)) → IsLawfulFrom h es → IsLinkedPlace place h
         → shown h place ≡ Some one → shown (run_from h es) place ≡ Some two → one ≢ two

@@ -20,7 +20,7 @@ use Rattle.orc_sound.proofs.Uses.{fresh_uses}
 use Rattle.orc_sound.proofs.World.{World, record_by, step_world, write}
 use Rattle.orc_words.specs.Bounds.{Bounds}
 use Rattle.orc_words.specs.declared.place.Word.{Word}
-use Rattle.orc_words.specs.declared.place.Word.TheVariants.{First, Gate, Next, Root, Second}
+use Rattle.orc_words.specs.declared.place.Word.TheVariants.{First, Gate, Next, Root, Second, Side}
 
 -- a value word that is written leaves the links
 root_same : (m : Word → ℕ) (q v i : ℕ) (t : Bool) → write m (cond t (First q) (Second q)) v (Root i) ≡ m (Root i)
@@ -30,6 +30,10 @@ root_same m q v i false = refl
 next_same : (m : Word → ℕ) (q v i : ℕ) (t : Bool) → write m (cond t (First q) (Second q)) v (Next i) ≡ m (Next i)
 next_same m q v i true = refl
 next_same m q v i false = refl
+
+side_same : (m : Word → ℕ) (q v i : ℕ) (t : Bool) → write m (cond t (First q) (Second q)) v (Side i) ≡ m (Side i)
+side_same m q v i true = refl
+side_same m q v i false = refl
 
 -- what a filled node keeps
 known_filled : (x which v : ℕ) (n : Node) → Known x n → Known x (with_value which v n)
@@ -55,12 +59,14 @@ own_row : (b : Bounds) (z : World) (p : PresentIds) (a q which v : ℕ) → Lawf
     → out ((step_world z a (FillStep q which v)).memory (Gate q)) ≡ 1 → (n : Node) → RowShows b z p q n
     → RowShows b (step_world z a (FillStep q which v)) p q (with_value which v n)
 own_row b z p a q zero v l o n r = record {
-  link = ⊎_elim (λ c. inl (cut_stays b z a (FillStep q 0 v) q l o c)) (λ e. inr e) r.link;
+  link = ⊎_elim (λ c. inl (cut_stays b z a (FillStep q 0 v) q 0 l o c)) (λ e. inr e) r.link;
+  side = ⊎_elim (λ c. inl (cut_stays b z a (FillStep q 0 v) q 1 l o c)) (λ e. inr e) r.side;
   first = λ u e. rw (eq-eqb q q refl) (cc);
   second = r.second;
 }
 own_row b z p a q (suc zero) v l o n r = record {
-  link = ⊎_elim (λ c. inl (cut_stays b z a (FillStep q 1 v) q l o c)) (λ e. inr e) r.link;
+  link = ⊎_elim (λ c. inl (cut_stays b z a (FillStep q 1 v) q 0 l o c)) (λ e. inr e) r.link;
+  side = ⊎_elim (λ c. inl (cut_stays b z a (FillStep q 1 v) q 1 l o c)) (λ e. inr e) r.side;
   first = r.first;
   second = λ u e. rw (eq-eqb q q refl) (cc);
 }
@@ -71,7 +77,8 @@ own_row b z p a q (suc (suc which)) v l o n r = let k : suc (suc which) < 2 =
 other_row : (b : Bounds) (z : World) (p : PresentIds) (a q which v j : ℕ) → LawfulStep b z a (FillStep q which v) → j ≢ q
     → out ((step_world z a (FillStep q which v)).memory (Gate j)) ≡ 1 → (n : Node) → RowShows b z p j n → RowShows b (step_world z a (FillStep q which v)) p j n
 other_row b z p a q which v j l ne o n r = record {
-  link = ⊎_elim (λ c. inl (cut_stays b z a (FillStep q which v) j l o c)) (λ e. inr (rw (next_same z.memory q v j (which == 0)) e)) r.link;
+  link = ⊎_elim (λ c. inl (cut_stays b z a (FillStep q which v) j 0 l o c)) (λ e. inr (rw (next_same z.memory q v j (which == 0)) e)) r.link;
+  side = ⊎_elim (λ c. inl (cut_stays b z a (FillStep q which v) j 1 l o c)) (λ e. inr (rw (side_same z.memory q v j (which == 0)) e)) r.side;
   first = λ u e. rw (first_same (which == 0)) (r.first u e);
   second = λ u e. rw (second_same (which == 0)) (r.second u e);
 }
@@ -87,6 +94,7 @@ other_row b z p a q which v j l ne o n r = record {
 pub fill_shows : (b : Bounds) (z : World) (p : PresentIds) (h : Heap) (a q which v : ℕ) → LawfulStep b z a (FillStep q which v) → Shows b z p h
     → Shows b (step_world z a (FillStep q which v)) p (heap_after a (Fill (p.node q) which v) h)
 fill_shows b z p h a q which v l s = record {
+  links = s.links;
   given = length-change (with_value which v) (p.node q) h.nodes ∙ s.given;
   there = λ j o. s.there j (was_out j o);
   apart = λ i j o u e. s.apart i j (was_out i o) (was_out j u) e;
@@ -97,6 +105,7 @@ fill_shows b z p h a q which v l s = record {
   held = λ x k j g e. lift (known_filled x which v) (s.held x k j g (was_held x k j e));
   root_named = λ i j k. lift (named_filled which v) (s.root_named i j (rw (root_same z.memory q v i (which == 0)) at k));
   next_named = λ i j o k. lift (named_filled which v) (s.next_named i j (was_out i o) (rw (next_same z.memory q v i (which == 0)) at k));
+  side_named = λ i j o k. lift (named_filled which v) (s.side_named i j (was_out i o) (rw (side_same z.memory q v i (which == 0)) at k));
 }
   where
     was_out : (j : ℕ) → out ((step_world z a (FillStep q which v)).memory (Gate j)) ≡ 1 → out (z.memory (Gate j)) ≡ 1

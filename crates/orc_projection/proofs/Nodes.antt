@@ -1,8 +1,8 @@
 -- What is true of a node as others are changed or given.
-use Rattle.std.proofs.Common.{List, ap, inl, inr, length, refl, true, ℕ, ◌++◌, ◌≡◌, ◌≢◌, ◌⊎◌, false}
+use Rattle.std.proofs.Common.{List, ap, inl, inr, true, ℕ, ◌++◌, ◌≡◌, ◌≢◌, ◌⊎◌, false}
 use Rattle.std.specs.List.{slice_get}
 use Rattle.std.specs.Prelude.{None, Option, Some}
-use Rattle.orc_heap.proofs.Changes.{get-change, get-change_same, get-grown, length-change}
+use Rattle.orc_heap.proofs.Changes.{get-change, get-change_same, get-grown}
 use Rattle.orc_heap.specs.Acts.{IsFresh, IsKnown, change_target}
 use Rattle.orc_heap.specs.Heap.{Heap, Node, change}
 use Rattle.orc_projection.specs.Mirror.{IsNamed}

@@ -31,7 +31,8 @@ use Rattle.orc_sound.specs.declared.steps.Step.{Step}
 use Rattle.orc_words.specs.Bounds.{Bounds, IsShape}
 use Rattle.orc_words.specs.Packed.{link_of}
 use Rattle.orc_words.specs.declared.packed.RowLink.{RowLink}
-use Rattle.orc_words.specs.declared.place.Word.TheVariants.{Gate, Next, Root}
+use Rattle.orc_words.specs.declared.place.Word.TheVariants.{Gate, Root}
+use Rattle.orc_words.specs.Places.{link_at}
 
 -- the rows that were taken, counted, and each row that is out at the place of its node
 pub record Lies (z : World) (p : PresentIds) (rows : List ℕ) : Type 0 where
@@ -156,8 +157,10 @@ root_links_out b j i shape l h r e =
     (run_sound b (plain j) shape (plain_lawful (new_machine b) j l)).targets.roots i r
     (subst (λ (c : Bounds). i < c.roots) (sym (run_bounds (new_machine b) (plain j))) h) (one-true _ (named_row (word_in m (Root i)) r e))
 
-pub next_links_out : {N : Type 0} (b : Bounds) (j : List (Step N)) (q : ℕ) → IsShape b → IsLawfulJournal (new_machine b) j
-    → IsOut (run (new_machine b) (plain j)) q → LinksOut (run (new_machine b) (plain j)) (link_of (word_in (run (new_machine b) (plain j)) (Next q)))
-next_links_out b j q shape l o r e =
+pub row_links_out : {N : Type 0} (b : Bounds) (j : List (Step N)) (q n : ℕ) → IsShape b → IsLawfulJournal (new_machine b) j
+    → n < b.links → IsOut (run (new_machine b) (plain j)) q
+    → LinksOut (run (new_machine b) (plain j)) (link_of (word_in (run (new_machine b) (plain j)) (link_at n q)))
+row_links_out b j q n shape l h o r e =
     let m = run (new_machine b) (plain j) in
-    (run_sound b (plain j) shape (plain_lawful (new_machine b) j l)).targets.nexts q r o (one-true _ (named_row (word_in m (Next q)) r e))
+    (run_sound b (plain j) shape (plain_lawful (new_machine b) j l)).targets.links n q r
+    (subst (λ (c : Bounds). n < c.links) (sym (run_bounds (new_machine b) (plain j))) h) o (one-true _ (named_row (word_in m (link_at n q)) r e))

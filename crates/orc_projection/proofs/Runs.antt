@@ -49,7 +49,7 @@ step_shows b z p h a (GateTake q) want l c u n s = take_step b z p h a q l s (is
 step_shows b z p h a (FillStep q which v) want l c u n s = (fill_fits b z p h a q which v l s, fill_shows b z p h a q which v l s)
 step_shows b z p h a (LinkLoad w slot) want l c u n s = load_step b z p h a w slot want l u s
 step_shows b z p h a (LinkCas w x t) want l c u n s = exchange_step b z p h a w x t want l c s
-step_shows b z p h a (LinkStore q k) want l c u n s = store_step b z p h a q k l n s (names (z.seats a).fresh q) refl
+step_shows b z p h a (LinkStore q nr k) want l c u n s = store_step b z p h a q nr k l n s (names (z.seats a).fresh q) refl
 step_shows b z p h a op want l c u n s = (tt, still_shows b z p h a op l refl s)
 
 events_lawful : {N : Type 0} (s : Step N) (o : Option Act) (h : Heap) (rest : List (Event N)) → Fitting s.agent o h
@@ -99,6 +99,7 @@ get-replicate (suc n) (suc i) x h = get-replicate n i x (omega arith)
 
 pub first_shows : (b : Bounds) → Shows b (world_of (new_machine b)) no_ids (new_heap (numbers_of b))
 first_shows b = record {
+  links = refl;
   given = refl;
   there = λ j o. absurd (no_row j o);
   apart = λ i j o u e. absurd (no_row i o);
@@ -108,6 +109,7 @@ first_shows b = record {
   held = λ a k j g h. absurd (false≢true (rw (seats_first b a) at (any_holds_at ((world_of (new_machine b)).seats a).slots k j h)));
   root_named = λ i j h. absurd (zero_one (null_row _ j (zero_first b (Root i) refl)) h);
   next_named = λ i j o h. absurd (no_row i o);
+  side_named = λ i j o h. absurd (no_row i o);
 }
   where
     no_row : (j : ℕ) → out ((world_of (new_machine b)).memory (Gate j)) ≡ 1 → ⊥

@@ -2,19 +2,19 @@
 use Rattle.std.proofs.Common.{Bool, arith, false, length, refl, true, ℕ, ⊎_elim, ◌+◌, ◌-◌, ◌/◌, ◌<◌, ◌≡◌, ◌≢◌, ◌≤◌, ◌⊎◌}
 use Rattle.std.proofs.lemmas.Bool.{eqb-true, eqb-false, false≢true}
 use Rattle.std.specs.Option.{option_map}
-use Rattle.std.specs.Prelude.{None, Option, Some, slice_get, ◌==◌}
+use Rattle.std.specs.Prelude.{None, Option, Some, nat_lt, slice_get, ◌==◌}
 use Rattle.orc_core.specs.RecordParts.{any_holds, holds, is_empty, names, slot_of}
 use Rattle.orc_core.specs.declared.records.SlotUse.{SlotUse}
 use Rattle.orc_core.specs.declared.records.SlotUse.TheVariants.{Empty, Held, Published}
 use Rattle.orc_heap.specs.Acts.{Fits, IsTarget, heap_after}
 use Rattle.orc_heap.specs.Heap.{Heap, Node, shown}
 use Rattle.orc_heap.specs.declared.events.Act.{Act}
-use Rattle.orc_heap.specs.declared.events.Place.TheVariants.{Next as NodePlace}
+use Rattle.orc_heap.specs.declared.events.Place.TheVariants.{Next as NodePlace, Side as SidePlace}
 use Rattle.orc_projection.proofs.Nodes.{HasNode, Known, Named, Owned, is_known}
 use Rattle.orc_projection.proofs.Still.{IsCut}
 use Rattle.orc_projection.specs.PresentIds.{PresentIds, node_link}
 use Rattle.orc_sound.proofs.Balances.{OutPlace}
-use Rattle.orc_sound.proofs.DoomedStep.{cut_dooms_row, out_below}
+use Rattle.orc_sound.proofs.DoomedStep.{out_below, past_dooms}
 use Rattle.orc_sound.proofs.Facts.{Counted, Doomed, out, to_row}
 use Rattle.orc_sound.proofs.Outs.{target_out}
 use Rattle.orc_sound.proofs.Quiet.{held_at}
@@ -24,15 +24,17 @@ use Rattle.orc_sound.specs.Linked.{uses}
 use Rattle.orc_words.specs.Bounds.{Bounds, IsShape}
 use Rattle.orc_words.specs.Packed.{link_of}
 use Rattle.orc_words.specs.declared.place.Word.{Word}
-use Rattle.orc_words.specs.declared.place.Word.TheVariants.{First, Gate, Next, Root, Second}
+use Rattle.orc_words.specs.declared.place.Word.TheVariants.{First, Gate, Next, Root, Second, Side}
 
 -- the words of a row that is out show this node
 pub record RowShows (b : Bounds) (z : World) (p : PresentIds) (j : ℕ) (n : Node) : Type 0 where
-  pub link : IsCut b z j ⊎ (n.link ≡ node_link p (link_of (z.memory (Next j))))
+  pub link : IsCut b z j 0 ⊎ (n.link ≡ node_link p (link_of (z.memory (Next j))))
+  pub side : IsCut b z j 1 ⊎ (n.side ≡ node_link p (link_of (z.memory (Side j))))
   pub first : (v : ℕ) → n.first ≡ Some v → z.memory (First j) ≡ v
   pub second : (v : ℕ) → n.second ≡ Some v → z.memory (Second j) ≡ v
 
 pub record Shows (b : Bounds) (z : World) (p : PresentIds) (h : Heap) : Type 0 where
+  pub links : h.links ≡ b.links
   pub given : length h.nodes ≡ p.given
   pub there : (j : ℕ) → out (z.memory (Gate j)) ≡ 1 → p.node j < p.given
   pub apart : (i j : ℕ) → out (z.memory (Gate i)) ≡ 1 → out (z.memory (Gate j)) ≡ 1 → p.node i ≡ p.node j → i ≡ j
@@ -42,9 +44,10 @@ pub record Shows (b : Bounds) (z : World) (p : PresentIds) (h : Heap) : Type 0 w
   pub fresh : (a j : ℕ) → names (z.seats a).fresh j ≡ true → HasNode h.nodes (p.node j) (Owned a)
   -- what an agent holds in a slot from 1 on is known to it
   pub held : (a k j : ℕ) → 0 < k → holds (slot_of (z.seats a) k) j ≡ true → HasNode h.nodes (p.node j) (Known a)
-  -- an Aim or a Move made a link to each target
+  -- an Aim, an AimSide or a Move made a link to each target
   pub root_named : (i j : ℕ) → to_row (z.memory (Root i)) j ≡ 1 → HasNode h.nodes (p.node j) Named
   pub next_named : (i j : ℕ) → out (z.memory (Gate i)) ≡ 1 → to_row (z.memory (Next i)) j ≡ 1 → HasNode h.nodes (p.node j) Named
+  pub side_named : (i j : ℕ) → out (z.memory (Gate i)) ≡ 1 → to_row (z.memory (Side i)) j ≡ 1 → HasNode h.nodes (p.node j) Named
 
 -- the act, if there is one, fits the heap; and the heap after it
 abbrev pub Fitting : ℕ → Option Act → Heap → Type 0
@@ -74,16 +77,23 @@ pub small_word : (b : Bounds) (z : World) (w : Word) → IsShape b → Counted b
 small_word b z w shape s o = small_target b z w (z.memory w / 2) shape s o refl
 
 -- a row that is used isn't cut
-pub uncut : (b : Bounds) (z : World) (a j : ℕ) → Doomed b z → uses (z.seats a) j ≡ true → IsCut b z j → ⊥
-uncut b z a j d u c = both_ways (uses (z.seats a) j) u ((d.gone c.agent j (cut_dooms_row (z.seats c.agent).doom j c.cut)).unused a)
+pub uncut : (b : Bounds) (z : World) (a j n : ℕ) → Doomed b z → uses (z.seats a) j ≡ true → IsCut b z j n → ⊥
+uncut b z a j n d u c = both_ways (uses (z.seats a) j) u ((d.gone c.agent j (past_dooms (z.seats c.agent).doom j n c.cut)).unused a)
 
 -- the heap shows the link at a place in use
 pub next_shown : (b : Bounds) (z : World) (p : PresentIds) (h : Heap) (a j : ℕ) → Counted b z → Doomed b z → Shows b z p h → uses (z.seats a) j ≡ true
     → shown h (NodePlace (p.node j)) ≡ Some (node_link p (link_of (z.memory (Next j))))
 next_shown b z p h a j s d k u =
     let n = k.rows j (s.used_out a j u) in
-    let e : n.node.link ≡ node_link p (link_of (z.memory (Next j))) = ⊎_elim (λ c. absurd (uncut b z a j d u c)) (λ e. e) n.so.link in
+    let e : n.node.link ≡ node_link p (link_of (z.memory (Next j))) = ⊎_elim (λ c. absurd (uncut b z a j 0 d u c)) (λ e. e) n.so.link in
     rw (n.there, e)
+
+pub side_shown : (b : Bounds) (z : World) (p : PresentIds) (h : Heap) (a j : ℕ) → Counted b z → Doomed b z → Shows b z p h → uses (z.seats a) j ≡ true
+    → nat_lt 1 b.links ≡ true → shown h (SidePlace (p.node j)) ≡ Some (node_link p (link_of (z.memory (Side j))))
+side_shown b z p h a j s d k u two =
+    let n = k.rows j (s.used_out a j u) in
+    let e : n.node.side ≡ node_link p (link_of (z.memory (Side j))) = ⊎_elim (λ c. absurd (uncut b z a j 1 d u c)) (λ e. e) n.so.side in
+    rw (n.there, e, k.links, two) refl
 
 pub empty_holds : (s : SlotUse) (r : ℕ) → is_empty s ≡ true → holds s r ≡ true → ⊥
 empty_holds Empty r h k = false≢true k

@@ -13,10 +13,10 @@ use Rattle.orc_heap.specs.Heap.{Heap, shown}
 use Rattle.orc_heap.specs.declared.events.Act.{Act}
 use Rattle.orc_heap.specs.declared.events.Act.TheVariants.{Give, Look, Miss, Move}
 use Rattle.orc_heap.specs.declared.events.Place.{Place}
-use Rattle.orc_heap.specs.declared.events.Place.TheVariants.{Next as NodePlace, Root as RootPlace}
-use Rattle.orc_projection.proofs.LinkStep.{Marks, Relinks, next_shows, root_shows}
+use Rattle.orc_heap.specs.declared.events.Place.TheVariants.{Next as NodePlace, Root as RootPlace, Side as SidePlace}
+use Rattle.orc_projection.proofs.LinkStep.{Marks, Relinks, next_shows, root_shows, side_shows}
 use Rattle.orc_projection.proofs.Links.{link_back, named_row, node_link-same, some-names, word_back}
-use Rattle.orc_projection.proofs.Shows.{Fitting, Shows, heap_then, holder_knows, is_target, next_shown, small_word}
+use Rattle.orc_projection.proofs.Shows.{Fitting, Shows, heap_then, holder_knows, is_target, next_shown, side_shown, small_word}
 use Rattle.orc_projection.proofs.Still.{fresh_before, not-false}
 use Rattle.orc_projection.proofs.StillStep.{still_shows}
 use Rattle.orc_projection.proofs.TakeStep.{take_shows}
@@ -35,7 +35,7 @@ use Rattle.orc_words.specs.Bounds.{Bounds, IsShape}
 use Rattle.orc_words.specs.Packed.{bit, link_of, link_word}
 use Rattle.orc_words.specs.declared.packed.RowLink.{RowLink}
 use Rattle.orc_words.specs.declared.place.Word.{Word}
-use Rattle.orc_words.specs.declared.place.Word.TheVariants.{Enrolled, First, Gate, Next, Root, Second}
+use Rattle.orc_words.specs.declared.place.Word.TheVariants.{Enrolled, First, Gate, Next, Root, Second, Side}
 
 -- another word than that of a link is another link of nodes
 differs : (b : Bounds) (z : World) (p : PresentIds) (h : Heap) (w : Word) (k : RowLink) → IsShape b → Counted b z → OutPlace z.memory w → Shows b z p h
@@ -98,6 +98,11 @@ load_step b z p h a (Next q) slot want l u s =
     let k = (and_both (nat_lt q b.rows) (any_holds (z.seats a).slots q || names (z.seats a).fresh q)
     (load_place b (z.memory Enrolled) a (Next q) slot (z.seats a) l.fits)).1 in
     load_at b z p h a (Next q) slot want (NodePlace (p.node q)) l u s (next_shown b z p h a q l.counted l.doomed s (held_or_fresh (z.seats a) q k))
+load_step b z p h a (Side q) slot want l u s =
+    let f = load_place b (z.memory Enrolled) a (Side q) slot (z.seats a) l.fits in
+    let k = and_both (nat_lt q b.rows && nat_lt 1 b.links) (any_holds (z.seats a).slots q || names (z.seats a).fresh q) f in
+    load_at b z p h a (Side q) slot want (SidePlace (p.node q)) l u s
+    (side_shown b z p h a q l.counted l.doomed s (held_or_fresh (z.seats a) q k.1) (and_both (nat_lt q b.rows) (nat_lt 1 b.links) k.0).1)
 load_step b z p h a w slot want l u s = absurd (false≢true (load_place b (z.memory Enrolled) a w slot (z.seats a) l.fits))
 
 -- what a compare_exchange of a link asks
@@ -123,11 +128,13 @@ exchange b z a w x t l =
 first_same : (m : Word → ℕ) (w : Word) (v j : ℕ) → OutPlace m w → write m w v (First j) ≡ m (First j)
 first_same m (Root i) v j o = refl
 first_same m (Next i) v j o = refl
+first_same m (Side i) v j o = refl
 first_same m w v j o = absurd o
 
 second_same : (m : Word → ℕ) (w : Word) (v j : ℕ) → OutPlace m w → write m w v (Second j) ≡ m (Second j)
 second_same m (Root i) v j o = refl
 second_same m (Next i) v j o = refl
+second_same m (Side i) v j o = refl
 second_same m w v j o = absurd o
 
 aimed_row : (f : ℕ → ℕ) (o : Option ℕ) (i : ℕ) → option_map f o ≡ Some i → (r : ℕ) × (o ≡ Some r) × (f r ≡ i)
@@ -141,6 +148,12 @@ place_unfresh b z a q x t l =
     (cas_place b (z.memory Enrolled) a (Next q) x t (z.seats a) l.fits) in
     not-false (names (z.seats a).fresh q) (and_both (any_holds (z.seats a).slots q) (not (names (z.seats a).fresh q)) k.1).1
 
+side_unfresh : (b : Bounds) (z : World) (a q : ℕ) (x t : RowLink) → LawfulStep b z a (LinkCas (Side q) x t) → names (z.seats a).fresh q ≡ false
+side_unfresh b z a q x t l =
+    let k = and_both (nat_lt q b.rows && nat_lt 1 b.links) (any_holds (z.seats a).slots q && not (names (z.seats a).fresh q))
+    (cas_place b (z.memory Enrolled) a (Side q) x t (z.seats a) l.fits) in
+    not-false (names (z.seats a).fresh q) (and_both (any_holds (z.seats a).slots q) (not (names (z.seats a).fresh q)) k.1).1
+
 -- the place of a link that was made names its target
 exchanged : (b : Bounds) (z : World) (a : ℕ) (w : Word) (x t : RowLink) (j : ℕ) → LawfulStep b z a (LinkCas w x t)
     → Counted b (step_world z a (LinkCas w x t)) → (z.memory w == link_word x) ≡ true
@@ -148,7 +161,10 @@ exchanged : (b : Bounds) (z : World) (a : ℕ) (w : Word) (x t : RowLink) (j : �
 exchanged b z a (Root i) x t j l c won e k old =
     zero_one (c.fresh_root a i j k) (rw (eq-eqb i i refl, won) (to_row-link t j ∙ ap bit e))
 exchanged b z a (Next i) x t j l c won e k old =
-    zero_one (c.fresh_next a i j k (λ g. both_ways (names (z.seats a).fresh i) (rw g old) (place_unfresh b z a i x t l)))
+    zero_one (c.fresh_links a 0 i j k (λ g. both_ways (names (z.seats a).fresh i) (rw g old) (place_unfresh b z a i x t l)))
+    (rw (eq-eqb i i refl, won) (to_row-link t j ∙ ap bit e))
+exchanged b z a (Side i) x t j l c won e k old =
+    zero_one (c.fresh_links a 1 i j k (λ g. both_ways (names (z.seats a).fresh i) (rw g old) (side_unfresh b z a i x t l)))
     (rw (eq-eqb i i refl, won) (to_row-link t j ∙ ap bit e))
 exchanged b z a w x t j l c won e k old = cas_place_out b z a w x t l
 
@@ -171,10 +187,10 @@ exchange_unfresh b z p h a w x t y j l c s won k e =
         both_ways (uses (z.seats a) j) (held_uses (z.seats a) j held) (l.counted.fresh_alone y a j old (λ f. eqb-false y a g (sym f)))
 
 linked_marks : Marks as_linked
-linked_marks = record { named = λ n. refl; link = λ n. refl; first = λ n. refl; second = λ n. refl }
+linked_marks = record { named = λ n. refl; link = λ n. refl; side = λ n. refl; first = λ n. refl; second = λ n. refl }
 
 pub named_marks : Marks as_named
-named_marks = record { named = λ n. refl; link = λ n. refl; first = λ n. refl; second = λ n. refl }
+named_marks = record { named = λ n. refl; link = λ n. refl; side = λ n. refl; first = λ n. refl; second = λ n. refl }
 
 exchange_relinks : (b : Bounds) (z : World) (p : PresentIds) (h : Heap) (a : ℕ) (w : Word) (x t : RowLink) → LawfulStep b z a (LinkCas w x t)
     → Counted b (step_world z a (LinkCas w x t)) → Shows b z p h → (z.memory w == link_word x) ≡ true
@@ -237,14 +253,23 @@ pub exchange_step : (b : Bounds) (z : World) (p : PresentIds) (h : Heap) (a : �
 exchange_step b z p h a (Root i) x t want l c s =
     let below = ltb-true i b.roots (cas_place b (z.memory Enrolled) a (Root i) x t (z.seats a) l.fits) in
     exchange_at b z p h a (Root i) x t (RootPlace i) l s (s.roots i below)
-    (λ won. root_shows b z p h a (LinkCas (Root i) x t) t as_linked i (exchange_relinks b z p h a (Root i) x t l c s won) below (λ j. rw won refl) (λ j. refl))
+    (λ won. root_shows b z p h a (LinkCas (Root i) x t) t as_linked i (exchange_relinks b z p h a (Root i) x t l c s won) below (λ j. rw won refl) (λ j. refl) (λ j. refl))
 exchange_step b z p h a (Next q) x t want l c s =
     let k = (and_both (nat_lt q b.rows) (any_holds (z.seats a).slots q && not (names (z.seats a).fresh q))
     (cas_place b (z.memory Enrolled) a (Next q) x t (z.seats a) l.fits)).1 in
     let u = held_uses (z.seats a) q (and_both (any_holds (z.seats a).slots q) (not (names (z.seats a).fresh q)) k).0 in
     exchange_at b z p h a (Next q) x t (NodePlace (p.node q)) l s (next_shown b z p h a q l.counted l.doomed s u)
     (λ won. next_shows b z p h a (LinkCas (Next q) x t) t as_linked q (exchange_relinks b z p h a (Next q) x t l c s won) (l.counted.used_out a q u)
-    (λ j. rw won refl) (λ j. refl))
+    (λ j. rw won refl) (λ j. refl) (λ j. refl))
+exchange_step b z p h a (Side q) x t want l c s =
+    let f = cas_place b (z.memory Enrolled) a (Side q) x t (z.seats a) l.fits in
+    let g = and_both (nat_lt q b.rows && nat_lt 1 b.links) (any_holds (z.seats a).slots q && not (names (z.seats a).fresh q)) f in
+    let k = g.1 in
+    let two = (and_both (nat_lt q b.rows) (nat_lt 1 b.links) g.0).1 in
+    let u = held_uses (z.seats a) q (and_both (any_holds (z.seats a).slots q) (not (names (z.seats a).fresh q)) k).0 in
+    exchange_at b z p h a (Side q) x t (SidePlace (p.node q)) l s (side_shown b z p h a q l.counted l.doomed s u two)
+    (λ won. side_shows b z p h a (LinkCas (Side q) x t) t as_linked q (exchange_relinks b z p h a (Side q) x t l c s won) (l.counted.used_out a q u)
+    (λ j. rw won refl) (λ j. refl) (λ j. refl))
 exchange_step b z p h a w x t want l c s = absurd (cas_place_out b z a w x t l)
 
 pub take_step : (b : Bounds) (z : World) (p : PresentIds) (h : Heap) (a q : ℕ) → LawfulStep b z a (GateTake q) → Shows b z p h → (t : Bool)

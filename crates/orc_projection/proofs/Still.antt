@@ -5,7 +5,7 @@ use Rattle.std.specs.Prelude.{None, Option, Some, not, ◌==◌}
 use Rattle.orc_core.proofs.Within.{and_both}
 use Rattle.orc_words.specs.Operations.{word_after}
 use Rattle.orc_core.specs.Actions.{action_of}
-use Rattle.orc_core.specs.After.{after, bared}
+use Rattle.orc_core.specs.After.{after, bared, cut_of}
 use Rattle.orc_core.specs.Allowed.{fits}
 use Rattle.orc_core.specs.RecordParts.{doom_bare, holds, names, slot_of}
 use Rattle.orc_core.specs.declared.ops.CounterUse.TheVariants.{Check, End, Start}
@@ -15,7 +15,6 @@ use Rattle.orc_core.specs.declared.records.Agent.{Agent}
 use Rattle.orc_core.specs.declared.records.Doom.{Doom}
 use Rattle.orc_core.specs.declared.records.SlotUse.TheVariants.{Empty, Held}
 use Rattle.orc_projection.specs.Projection.{is_taken}
-use Rattle.orc_sound.proofs.DoomedStep.{cut_more}
 use Rattle.orc_sound.proofs.CountedStep.{scan_no_doom}
 use Rattle.orc_sound.proofs.Facts.{LawfulStep, out}
 use Rattle.orc_sound.proofs.Outs.{bare_dooms, freed, zero_one}
@@ -24,18 +23,18 @@ use Rattle.orc_sound.proofs.Scans.{end_parts}
 use Rattle.orc_sound.proofs.Seats.{seat_split}
 use Rattle.orc_sound.proofs.Sources.{NewHold, frees, fresh_source, gate_source, takes, write_same}
 use Rattle.orc_sound.proofs.World.{World, read_by, record_by, seat, step_world, write}
-use Rattle.orc_sound.specs.Doomed.{dooms_cut}
+use Rattle.orc_sound.specs.Doomed.{cuts_past}
 use Rattle.orc_words.specs.Bounds.{Bounds}
 use Rattle.orc_words.specs.Packed.{link_word}
 use Rattle.orc_words.specs.declared.place.Word.{Word}
-use Rattle.orc_words.specs.declared.place.Word.TheVariants.{Enrolled, First, Gate, Next, Root, Second}
+use Rattle.orc_words.specs.declared.place.Word.TheVariants.{Enrolled, First, Gate, Next, Root, Second, Side}
 
 -- the step takes no row, fills no value and changes no link
 abbrev pub is_still : Op → Agent → ℕ → Bool
 is_still (GateTake q) d v = not (is_taken d v)
 is_still (Fill q which x) d v = false
 is_still (LinkCas w f t) d v = not (v == link_word f)
-is_still (LinkStore q l) d v = false
+is_still (LinkStore q nr l) d v = false
 is_still op d v = true
 
 -- a link or a value
@@ -44,6 +43,7 @@ is_data (Root i) = true
 is_data (First r) = true
 is_data (Second r) = true
 is_data (Next r) = true
+is_data (Side r) = true
 is_data w = false
 
 pub not-false : (b : Bool) → not b ≡ true → b ≡ false
@@ -61,11 +61,12 @@ still_words a (LinkLoad w k) d m x s t = write_same m w x
 still_words a (Read q w) d m x s t = write_same m (cond (w == 0) (First q) (Second q)) x
 still_words a (LinkCas w f l) d m x s t = lost_same m w x (link_word l) (m w == link_word f) (not-false _ s)
 still_words a (Fill q w v) d m x s t = absurd (false≢true s)
-still_words a (LinkStore q l) d m x s t = absurd (false≢true s)
+still_words a (LinkStore q nr l) d m x s t = absurd (false≢true s)
 still_words a op d m (Root i) s t = refl
 still_words a op d m (First i) s t = refl
 still_words a op d m (Second i) s t = refl
 still_words a op d m (Next i) s t = refl
+still_words a op d m (Side i) s t = refl
 still_words a op d m x s t = absurd (false≢true t)
 
 pub still_takes : (op : Op) (d : Agent) (v r : ℕ) → is_still op d v ≡ true → takes op d v r ≡ true → ⊥
@@ -111,43 +112,47 @@ seat_put P seats a x d h k = cases (x == a) refl
     cases true e = h (eqb-true x a e)
     cases false e = k (eqb-false x a e)
 
-bared_cut : (o : Option Doom) (r : ℕ) → dooms_cut o r ≡ true → dooms_cut (bared o) r ≡ true
-bared_cut None r h = h
-bared_cut (Some d) r h = h
+bared_past : (o : Option Doom) (r n : ℕ) → cuts_past o r n ≡ true → cuts_past (bared o) r n ≡ true
+bared_past None r n h = h
+bared_past (Some d) r n h = h
 
-bare_row : (o : Option Doom) (q r : ℕ) → doom_bare o q ≡ true → dooms_cut o r ≡ true → r ≡ q
-bare_row None q r h k = absurd (false≢true h)
-bare_row (Some d) q r h k = let x = eqb-true d.row q (and_both _ _ h).0 in let y = eqb-true d.row r (and_both _ _ k).0 in sym y ∙ x
+past_more : (o : Option Doom) (q k r n : ℕ) → cuts_past o r n ≡ true → cuts_past (cut_of o q k) r n ≡ true
+past_more None q k r n h = h
+past_more (Some d) q k r n h = grind arith
+
+bare_row : (o : Option Doom) (q r n : ℕ) → doom_bare o q ≡ true → cuts_past o r n ≡ true → r ≡ q
+bare_row None q r n h k = absurd (false≢true h)
+bare_row (Some d) q r n h k = let x = eqb-true d.row q (and_both _ _ h).0 in let y = eqb-true d.row r (and_both _ _ k).0 in sym y ∙ x
 
 freed_even : (w : ℕ) → out w ≡ 1 → out ((w + 18446744073709551615) % 18446744073709551616) ≡ 0
 freed_even w h = omega arith
 
-own_cut : (b : Bounds) (z : World) (a : ℕ) (op : Op) (j : ℕ) → LawfulStep b z a op → out ((step_world z a op).memory (Gate j)) ≡ 1
-    → dooms_cut (z.seats a).doom j ≡ true → dooms_cut (record_by z a op).doom j ≡ true
-own_cut b z a (LinkStore q l) j p o h = cut_more (z.seats a).doom q j h
-own_cut b z a (CounterLoad q Check) j p o h = h
-own_cut b z a (CounterLoad q Start) j p o h = h
-own_cut b z a (CounterLoad q End) j p o h =
+own_cut : (b : Bounds) (z : World) (a : ℕ) (op : Op) (j n : ℕ) → LawfulStep b z a op → out ((step_world z a op).memory (Gate j)) ≡ 1
+    → cuts_past (z.seats a).doom j n ≡ true → cuts_past (record_by z a op).doom j n ≡ true
+own_cut b z a (LinkStore q nr l) j n p o h = past_more (z.seats a).doom q nr j n h
+own_cut b z a (CounterLoad q Check) j n p o h = h
+own_cut b z a (CounterLoad q Start) j n p o h = h
+own_cut b z a (CounterLoad q End) j n p o h =
     let e = scan_no_doom (z.seats a) q (p.counted.one_part a) (end_parts b (z.memory Enrolled) a q (z.seats a) p.fits).1 in
     absurd (false≢true (rw e at h))
-own_cut b z a (Unretire q) j p o h = bared_cut (z.seats a).doom j h
-own_cut b z a (Free q) j p o h =
+own_cut b z a (Unretire q) j n p o h = bared_past (z.seats a).doom j n h
+own_cut b z a (Free q) j n p o h =
     let k = (and_both _ _ p.fits).1 in
-    let e = bare_row (z.seats a).doom q j k h in
+    let e = bare_row (z.seats a).doom q j n k h in
     let g = (p.doomed.gone a q (bare_dooms (z.seats a).doom q k)).is_out in
     absurd (zero_one (freed_even (z.memory (Gate q)) g) (rw (eq-eqb j q e) at o))
-own_cut b z a op j p o h = h
+own_cut b z a op j n p o h = h
 
--- some agent took the row's link out
-pub record IsCut (b : Bounds) (z : World) (j : ℕ) : Type 0 where
+-- some agent took the row's link of this number out
+pub record IsCut (b : Bounds) (z : World) (j n : ℕ) : Type 0 where
   pub agent : ℕ
   pub below : agent < b.agents
-  pub cut : dooms_cut (z.seats agent).doom j ≡ true
+  pub cut : cuts_past (z.seats agent).doom j n ≡ true
 
-pub cut_stays : (b : Bounds) (z : World) (a : ℕ) (op : Op) (j : ℕ) → LawfulStep b z a op → out ((step_world z a op).memory (Gate j)) ≡ 1 → IsCut b z j
-    → IsCut b (step_world z a op) j
-cut_stays b z a op j p o c = record {
+pub cut_stays : (b : Bounds) (z : World) (a : ℕ) (op : Op) (j n : ℕ) → LawfulStep b z a op → out ((step_world z a op).memory (Gate j)) ≡ 1 → IsCut b z j n
+    → IsCut b (step_world z a op) j n
+cut_stays b z a op j n p o c = record {
   agent = c.agent;
   below = c.below;
-  cut = seat_put (λ d. dooms_cut d.doom j ≡ true) z.seats a c.agent (record_by z a op) (λ e. own_cut b z a op j p o (rw e at c.cut)) (λ n. c.cut);
+  cut = seat_put (λ d. cuts_past d.doom j n ≡ true) z.seats a c.agent (record_by z a op) (λ e. own_cut b z a op j n p o (rw e at c.cut)) (λ ne. c.cut);
 }

@@ -15,12 +15,13 @@ use Rattle.orc_sound.proofs.Seats.{seat_split}
 use Rattle.orc_sound.proofs.World.{World, read_by, record_by, step_world}
 use Rattle.orc_words.specs.Bounds.{Bounds}
 use Rattle.orc_words.specs.declared.place.Word.{Word}
-use Rattle.orc_words.specs.declared.place.Word.TheVariants.{Enrolled, First, Gate, Next, Root, Second}
+use Rattle.orc_words.specs.declared.place.Word.TheVariants.{Enrolled, First, Gate, Next, Root, Second, Side}
 
 place_named : (b : Bounds) (z : World) (p : PresentIds) (h : Heap) (w : Word) (j : ℕ) → Shows b z p h → OutPlace z.memory w
     → to_row (z.memory w) j ≡ 1 → HasNode h.nodes (p.node j) Named
 place_named b z p h (Root i) j s o t = s.root_named i j t
 place_named b z p h (Next i) j s o t = s.next_named i j o t
+place_named b z p h (Side i) j s o t = s.side_named i j o t
 place_named b z p h w j s o t = absurd o
 
 newly_known : (b : Bounds) (z : World) (p : PresentIds) (h : Heap) (a : ℕ) (op : Op) (j : ℕ) → LawfulStep b z a op → Shows b z p h
@@ -35,7 +36,8 @@ still_row : (b : Bounds) (z : World) (p : PresentIds) (a : ℕ) (op : Op) (j : �
     → is_still op (z.seats a) (read_by z a op) ≡ true → out ((step_world z a op).memory (Gate j)) ≡ 1 → (n : Node) → RowShows b z p j n
     → RowShows b (step_world z a op) p j n
 still_row b z p a op j l q o n r = record {
-  link = ⊎_elim (λ c. inl (cut_stays b z a op j l o c)) (λ e. inr (rw (still_words a op (z.seats a) z.memory (Next j) q refl) e)) r.link;
+  link = ⊎_elim (λ c. inl (cut_stays b z a op j 0 l o c)) (λ e. inr (rw (still_words a op (z.seats a) z.memory (Next j) q refl) e)) r.link;
+  side = ⊎_elim (λ c. inl (cut_stays b z a op j 1 l o c)) (λ e. inr (rw (still_words a op (z.seats a) z.memory (Side j) q refl) e)) r.side;
   first = λ v e. rw (still_words a op (z.seats a) z.memory (First j) q refl) (r.first v e);
   second = λ v e. rw (still_words a op (z.seats a) z.memory (Second j) q refl) (r.second v e);
 }
@@ -43,6 +45,7 @@ still_row b z p a op j l q o n r = record {
 pub still_shows : (b : Bounds) (z : World) (p : PresentIds) (h : Heap) (a : ℕ) (op : Op) → LawfulStep b z a op
     → is_still op (z.seats a) (read_by z a op) ≡ true → Shows b z p h → Shows b (step_world z a op) p h
 still_shows b z p h a op l q s = record {
+  links = s.links;
   given = s.given;
   there = λ j o. s.there j (was_out j o);
   apart = λ i j o u e. s.apart i j (was_out i o) (was_out j u) e;
@@ -56,6 +59,7 @@ still_shows b z p h a op l q s = record {
       (seat_split (λ d. holds (slot_of d k) j ≡ true) z.seats a x (record_by z a op) e);
   root_named = λ i j k. s.root_named i j (rw (still_words a op (z.seats a) z.memory (Root i) q refl) at k);
   next_named = λ i j o k. s.next_named i j (was_out i o) (rw (still_words a op (z.seats a) z.memory (Next i) q refl) at k);
+  side_named = λ i j o k. s.side_named i j (was_out i o) (rw (still_words a op (z.seats a) z.memory (Side i) q refl) at k);
 }
   where
     was_out : (j : ℕ) → out ((step_world z a op).memory (Gate j)) ≡ 1 → out (z.memory (Gate j)) ≡ 1

@@ -23,12 +23,13 @@ use Rattle.orc_sound.proofs.Uses.{fresh_uses, held_uses}
 use Rattle.orc_sound.proofs.World.{World, record_by, step_world}
 use Rattle.orc_words.specs.Bounds.{Bounds}
 use Rattle.orc_words.specs.Packed.{link_of}
-use Rattle.orc_words.specs.declared.place.Word.TheVariants.{Gate, Next, Root}
+use Rattle.orc_words.specs.declared.place.Word.TheVariants.{Gate, Next, Root, Side}
 
 pub take_shows : (b : Bounds) (z : World) (p : PresentIds) (h : Heap) (a q : ℕ) → LawfulStep b z a (GateTake q)
     → is_taken (z.seats a) (z.memory (Gate q)) ≡ true → Shows b z p h
     → Shows b (step_world z a (GateTake q)) (with_taken q p) (heap_after a Give h)
 take_shows b z p h a q l won s = record {
+  links = s.links;
   given = length-append h.nodes (new_node a ∷ []) ∙ ap (λ n. n + 1) s.given;
   there = λ j o. at_there j (j == q) refl o;
   apart = λ i j o u e. at_apart i j (i == q) (j == q) refl refl o u e;
@@ -44,6 +45,7 @@ take_shows b z p h a q l won s = record {
       old_node j (l.counted.used_out x j (held_uses (z.seats x) j (any_holds_at (z.seats x).slots k j t))) (s.held x k j g t);
   root_named = λ i j k. old_node j (l.counted.roots_out i j k) (s.root_named i j k);
   next_named = λ i j o k. at_next i j (i == q) refl o k;
+  side_named = λ i j o k. at_side i j (i == q) refl o k;
 }
   where
     free : out (z.memory (Gate q)) ≡ 0
@@ -90,22 +92,32 @@ take_shows b z p h a q l won s = record {
     at_row : (j : ℕ) (t : Bool) → (j == q) ≡ t → out ((step_world z a (GateTake q)).memory (Gate j)) ≡ 1
         → HasNode (h.nodes ++ new_node a ∷ []) (if t then p.given else p.node j) (RowShows b (step_world z a (GateTake q)) (with_taken q p) j)
     at_row j true e o =
-        let zero : z.memory (Next j) ≡ 0 = rw (eqb-true j q e) (l.counted.free_null q free) in
-        new_there (record { link = inr (rw zero refl); first = λ v k. cc; second = λ v k. cc })
+        let zero : z.memory (Next j) ≡ 0 = rw (eqb-true j q e) (l.counted.free_null 0 q free) in
+        let none : z.memory (Side j) ≡ 0 = rw (eqb-true j q e) (l.counted.free_null 1 q free) in
+        new_there (record { link = inr (rw zero refl); side = inr (rw none refl); first = λ v k. cc; second = λ v k. cc })
     at_row j false e o = node-grown h.nodes (new_node a ∷ []) (p.node j) (node-map h.nodes (p.node j) (old_row j o (was_out j e o)) (s.rows j (was_out j e o)))
       where
         old_row : (j : ℕ) → out ((step_world z a (GateTake q)).memory (Gate j)) ≡ 1 → out (z.memory (Gate j)) ≡ 1 → (n : Node) → RowShows b z p j n
             → RowShows b (step_world z a (GateTake q)) (with_taken q p) j n
         old_row j o u n r = record {
           link = ⊎_elim
-              (λ c. inl (cut_stays b z a (GateTake q) j l o c))
-              (λ e. inr (e ∙ sym (node_link-taken p q (link_of (z.memory (Next j))) (λ r e. other_row r (l.counted.nexts_out j r u (named_row _ r e))))))
+              (λ c. inl (cut_stays b z a (GateTake q) j 0 l o c))
+              (λ e. inr (e ∙ sym (node_link-taken p q (link_of (z.memory (Next j))) (λ r e. other_row r (l.counted.links_out 0 j r u (named_row _ r e))))))
               r.link;
+          side = ⊎_elim
+              (λ c. inl (cut_stays b z a (GateTake q) j 1 l o c))
+              (λ e. inr (e ∙ sym (node_link-taken p q (link_of (z.memory (Side j))) (λ r e. other_row r (l.counted.links_out 1 j r u (named_row _ r e))))))
+              r.side;
           first = r.first;
           second = r.second;
         }
 
     at_next : (i j : ℕ) (t : Bool) → (i == q) ≡ t → out ((step_world z a (GateTake q)).memory (Gate i)) ≡ 1 → to_row (z.memory (Next i)) j ≡ 1
         → HasNode (h.nodes ++ new_node a ∷ []) ((with_taken q p).node j) Named
-    at_next i j true e o k = absurd (zero_one (null_row (z.memory (Next i)) j (rw (eqb-true i q e) (l.counted.free_null q free))) k)
-    at_next i j false e o k = let u = was_out i e o in old_node j (l.counted.nexts_out i j u k) (s.next_named i j u k)
+    at_next i j true e o k = absurd (zero_one (null_row (z.memory (Next i)) j (rw (eqb-true i q e) (l.counted.free_null 0 q free))) k)
+    at_next i j false e o k = let u = was_out i e o in old_node j (l.counted.links_out 0 i j u k) (s.next_named i j u k)
+
+    at_side : (i j : ℕ) (t : Bool) → (i == q) ≡ t → out ((step_world z a (GateTake q)).memory (Gate i)) ≡ 1 → to_row (z.memory (Side i)) j ≡ 1
+        → HasNode (h.nodes ++ new_node a ∷ []) ((with_taken q p).node j) Named
+    at_side i j true e o k = absurd (zero_one (null_row (z.memory (Side i)) j (rw (eqb-true i q e) (l.counted.free_null 1 q free))) k)
+    at_side i j false e o k = let u = was_out i e o in old_node j (l.counted.links_out 1 i j u k) (s.side_named i j u k)

@@ -1,6 +1,6 @@
 -- A row's sequence rises by two for each link that is made to its present node, and by no more. What is still to be counted
 -- of a link (the increment, and later the decrement) is counted in advance.
-use Rattle.std.proofs.Common.{Bool, List, [], ap, arith, cond, false, refl, subst, sym, true, ℕ, ◌%◌, ◌*◌, ◌++◌, ◌+◌, ◌/◌, ◌<◌, ◌^◌, ◌∙◌, ◌∷◌, ◌≡◌, ◌≤◌}
+use Rattle.std.proofs.Common.{Bool, List, [], ap, arith, cond, false, refl, subst, sym, true, ℕ, ◌%◌, ◌*◌, ◌++◌, ◌+◌, ◌/◌, ◌<◌, ◌^◌, ◌∙◌, ◌∷◌, ◌≡◌, ◌≤◌, zero, suc}
 use Rattle.orc_sound.proofs.Reasons.{none_names}
 use Rattle.std.proofs.lemmas.Bool.{eq-eqb, eqb-true, false≢true, ltb-true}
 use Rattle.std.specs.Option.{option_map}
@@ -8,7 +8,7 @@ use Rattle.std.specs.Prelude.{None, Option, Some, if◌then◌else◌, is_none, 
 use Rattle.orc_core.proofs.Order.{nothing_pending}
 use Rattle.orc_core.proofs.Within.{and_both, may_within}
 use Rattle.orc_words.specs.Operations.{word_after}
-use Rattle.orc_core.specs.Actions.{action_of, clear_word}
+use Rattle.orc_core.specs.Actions.{action_of}
 use Rattle.orc_core.specs.After.{after}
 use Rattle.orc_core.specs.Machine.{Machine, is_allowed, new_machine, record_at, step, word_in, word_read}
 use Rattle.orc_core.specs.RecordParts.{checked_below, names, number_of, same_target, saw}
@@ -21,15 +21,15 @@ use Rattle.orc_core.specs.declared.records.Reading.{Reading}
 use Rattle.orc_heap.specs.Calls.{links_made}
 use Rattle.orc_heap.specs.Journals.{names_node, points_to}
 use Rattle.orc_heap.specs.declared.events.Act.{Act}
-use Rattle.orc_heap.specs.declared.events.Act.TheVariants.{Aim, Give, Miss, Move}
+use Rattle.orc_heap.specs.declared.events.Act.TheVariants.{Give, Miss, Move}
 use Rattle.orc_heap.specs.declared.events.Event.{Event}
 use Rattle.orc_heap.specs.declared.events.Link.{Link}
 use Rattle.orc_heap.specs.declared.events.Place.{Place}
-use Rattle.orc_heap.specs.declared.events.Place.TheVariants.{Next as NodePlace, Root as RootPlace}
+use Rattle.orc_heap.specs.declared.events.Place.TheVariants.{Next as NodePlace, Root as RootPlace, Side as SidePlace}
 use Rattle.orc_projection.proofs.Still.{out_before}
 use Rattle.orc_projection.proofs.StoreStep.{store_doomed}
 use Rattle.orc_projection.specs.PresentIds.{PresentIds, no_ids, node_link}
-use Rattle.orc_projection.specs.Projection.{act_of, events_of, exchange_act, ids_after, ids_from, is_taken, present_ids, project, project_from}
+use Rattle.orc_projection.specs.Projection.{act_of, aim_act, events_of, exchange_act, ids_after, ids_from, is_taken, present_ids, project, project_from}
 use Rattle.orc_sound.proofs.AllFits.{AllFits, all_first, all_step, allowed_step, low_sequences, run_bounds}
 use Rattle.orc_sound.proofs.NewState.{zero_first}
 use Rattle.orc_sound.proofs.Bits.{dec_bounds, inc_bounds, unretire_one}
@@ -58,7 +58,7 @@ use Rattle.orc_words.specs.Packed.{bit, link_of, link_word, named, sequence_of}
 use Rattle.orc_words.specs.Places.{IsWithin}
 use Rattle.orc_words.specs.declared.packed.RowLink.{RowLink}
 use Rattle.orc_words.specs.declared.place.Word.{Word}
-use Rattle.orc_words.specs.declared.place.Word.TheVariants.{Counter, Enrolled, Gate, Next, Root}
+use Rattle.orc_words.specs.declared.place.Word.TheVariants.{Counter, Enrolled, Gate, Next, Root, Side}
 
 -- what was counted on the row, and what its links and pending changes will still count
 abbrev pub spending : Bounds → World → ℕ → ℕ
@@ -100,21 +100,22 @@ cas_made p place f t found r false s = omega arith
 cas_made p place f t found r true true = omega arith
 cas_made p place f t found r true false = named_node p.node t.to r
 
-store_made : (p : PresentIds) (q : ℕ) (o : Option ℕ) (r : ℕ) (s fresh : Bool) → (fresh ≡ false → is_none o ≡ true)
-    → bit (names (cond s None o) r) ≤ made_by (if fresh then Some (Aim (p.node q) (option_map p.node o)) else None) (p.node r)
-store_made p q o r true fresh h = omega arith
-store_made p q o r false true h = named_node p.node o r
-store_made p q o r false false h = let e = none_names o r (h refl) in omega arith
+store_made : (p : PresentIds) (q nr : ℕ) (o : Option ℕ) (r : ℕ) (s fresh : Bool) → (fresh ≡ false → is_none o ≡ true)
+    → bit (names (cond s None o) r) ≤ made_by (if fresh then Some (aim_act nr (p.node q) (option_map p.node o)) else None) (p.node r)
+store_made p q nr o r true fresh h = omega arith
+store_made p q zero o r false true h = named_node p.node o r
+store_made p q (suc k) o r false true h = named_node p.node o r
+store_made p q nr o r false false h = let e = none_names o r (h refl) in omega arith
 
 -- what a change of a link puts on its new target, where nothing was pending
 cas_new : (p : PresentIds) (place : Place) (f t : RowLink) (v : ℕ) (i : Option ℕ) (r : ℕ) → i ≡ None
     → bit (names (cond (v == link_word f) (cond (same_target f.to t.to) i t.to) i) r) ≤ made_by (Some (exchange_act p v f t place)) (p.node r)
 cas_new p place f t v i r n = rw n (cas_made p place f t (node_link p (link_of v)) r (v == link_word f) (same_target f.to t.to))
 
-store_new : (p : PresentIds) (q : ℕ) (l : RowLink) (v : ℕ) (i : Option ℕ) (r : ℕ) (fresh : Bool) → i ≡ None → (fresh ≡ false → is_none l.to ≡ true)
+store_new : (p : PresentIds) (q nr : ℕ) (l : RowLink) (v : ℕ) (i : Option ℕ) (r : ℕ) (fresh : Bool) → i ≡ None → (fresh ≡ false → is_none l.to ≡ true)
     → bit (names (cond (same_target (named (v / 2)) l.to) i l.to) r) ≤ made_by
-    (if fresh then Some (Aim (p.node q) (option_map p.node l.to)) else None) (p.node r)
-store_new p q l v i r fresh n h = rw n (store_made p q l.to r (same_target (named (v / 2)) l.to) fresh h)
+    (if fresh then Some (aim_act nr (p.node q) (option_map p.node l.to)) else None) (p.node r)
+store_new p q nr l v i r fresh n h = rw n (store_made p q nr l.to r (same_target (named (v / 2)) l.to) fresh h)
 
 dec_spending : (q r s x k j : ℕ) (i : Option ℕ) → x ≡ s + 1 → names i q ≡ true → cond (q == r) x 0 + j + 0 + 0 ≤ cond (q == r) s 0 + j + 0 + bit (names i r) + k
 dec_spending q r s x k j None e h = absurd (false≢true h)
@@ -152,12 +153,23 @@ spending_local b z p a (LinkCas (Next i) f t) want r l lo h =
     let n = nothing_pending (z.seats a).due (z.seats a).inc (z.seats a).dec (LinkCas (Next i) f t) refl l.forced in
     let y = cas_new p (NodePlace (p.node i)) f t (z.memory (Next i)) (z.seats a).inc r n.1 in
     omega arith
+spending_local b z p a (LinkCas (Side i) f t) want r l lo h =
+    let k = balance_kept b z a (LinkCas (Side i) f t) r l h in
+    let n = nothing_pending (z.seats a).due (z.seats a).inc (z.seats a).dec (LinkCas (Side i) f t) refl l.forced in
+    let y = cas_new p (SidePlace (p.node i)) f t (z.memory (Side i)) (z.seats a).inc r n.1 in
+    omega arith
 spending_local b z p a (LinkCas w f t) want r l lo h = absurd (cas_place_out b z a w f t l)
-spending_local b z p a (LinkStore q k) want r l lo h =
-    let c = balance_kept b z a (LinkStore q k) r l h in
-    let n = nothing_pending (z.seats a).due (z.seats a).inc (z.seats a).dec (LinkStore q k) refl l.forced in
-    let y = store_new p q k (z.memory (Next q)) (z.seats a).inc r (names (z.seats a).fresh q) n.1
-    (λ e. (store_doomed b (z.memory Enrolled) a q k (z.seats a) l.fits e).1) in
+spending_local b z p a (LinkStore q zero k) want r l lo h =
+    let c = balance_kept b z a (LinkStore q zero k) r l h in
+    let n = nothing_pending (z.seats a).due (z.seats a).inc (z.seats a).dec (LinkStore q zero k) refl l.forced in
+    let y = store_new p q zero k (z.memory (Next q)) (z.seats a).inc r (names (z.seats a).fresh q) n.1
+    (λ e. (store_doomed b (z.memory Enrolled) a q zero k (z.seats a) l.fits e).1) in
+    omega arith
+spending_local b z p a (LinkStore q (suc ln) k) want r l lo h =
+    let c = balance_kept b z a (LinkStore q (suc ln) k) r l h in
+    let n = nothing_pending (z.seats a).due (z.seats a).inc (z.seats a).dec (LinkStore q (suc ln) k) refl l.forced in
+    let y = store_new p q (suc ln) k (z.memory (Side q)) (z.seats a).inc r (names (z.seats a).fresh q) n.1
+    (λ e. (store_doomed b (z.memory Enrolled) a q (suc ln) k (z.seats a) l.fits e).1) in
     omega arith
 spending_local b z p a (Fill q w v) want r l lo h = grind arith
 spending_local b z p a (Read q w) want r l lo h = grind arith
@@ -176,7 +188,9 @@ free_spending b z r s f =
     let d = no_decs b z r u in
     let o = sum_zero b.roots (λ i. to_row (z.memory (Root i)) r) (λ i. not_one _ (λ k. zero_one f (s.roots_out i r k))) in
     let n = sum_zero b.rows (λ j. out (z.memory (Gate j)) * to_row (z.memory (Next j)) r)
-    (λ j. rw (not_one _ (λ k. free_unnamed b z j r s f k)) (omega arith)) in
+    (λ j. rw (not_one _ (λ k. free_unnamed b z 0 j r s f k)) (omega arith)) in
+    let t = sum_zero b.rows (λ j. out (z.memory (Gate j)) * to_row (z.memory (Side j)) r)
+    (λ j. rw (not_one _ (λ k. free_unnamed b z 1 j r s f k)) (omega arith)) in
     omega arith
 
 checked_saw : (c : Option Reading) (r n : ℕ) → checked_below c r n ≡ true → (saw c r ≡ true) × (number_of c < n)
@@ -294,7 +308,7 @@ row_spends b steps r shape l o =
     let k = subst (λ c. Spends c (world_of m) (present_ids b steps) (λ id. 0 + links_made (project b steps) id))
     (sym (run_bounds (new_machine b) (plain steps))) s r (out_hidden m r o) in
     let e = word_shown m (Counter r) o.0 in
-    let n = linked_shown m r in
+    let n = linked_shown m r (subst IsShape (sym (run_bounds (new_machine b) (plain steps))) shape) in
     let c = ap (λ (x : Bounds). x.limit) (run_bounds (new_machine b) (plain steps)) in
     omega arith
 

@@ -3,10 +3,10 @@ use Rattle.std.specs.Option.{option_map}
 use Rattle.std.specs.Prelude.{None, Option, Some, if◌then◌else◌, ℕ, ◌+◌, ◌==◌}
 use Rattle.orc_heap.specs.declared.events.Link.{Link}
 use Rattle.orc_heap.specs.declared.events.Place.{Place}
-use Rattle.orc_heap.specs.declared.events.Place.TheVariants.{Next as NodePlace, Root as RootPlace}
+use Rattle.orc_heap.specs.declared.events.Place.TheVariants.{Next as NodePlace, Root as RootPlace, Side as SidePlace}
 use Rattle.orc_words.specs.declared.packed.RowLink.{RowLink}
 use Rattle.orc_words.specs.declared.place.Word.{Word}
-use Rattle.orc_words.specs.declared.place.Word.TheVariants.{Next, Root}
+use Rattle.orc_words.specs.declared.place.Word.TheVariants.{Next, Root, Side}
 
 -- how many nodes were given, and the present node of each row: the id of the row's last taking, counted in order
 pub record PresentIds : Type 0 where
@@ -29,4 +29,5 @@ node_link p l = record { to = option_map p.node l.to; mark = l.mark }
 abbrev pub node_place : PresentIds → Word → Option Place
 node_place p (Root i) = Some (RootPlace i)
 node_place p (Next r) = Some (NodePlace (p.node r))
+node_place p (Side r) = Some (SidePlace (p.node r))
 node_place p word = None

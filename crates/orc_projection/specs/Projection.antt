@@ -1,14 +1,14 @@
 -- The heap events that the steps of a journal stand for. The heap is that of Michael and Scott 1996 and Harris 2001, with
 -- new memory for every node.
 use Rattle.std.specs.Option.{option_map}
-use Rattle.std.specs.Prelude.{Bool, List, None, Option, Some, [], false, if◌then◌else◌, ℕ, ◌*◌, ◌++◌, ◌==◌, ◌∷◌, ◌≡◌}
+use Rattle.std.specs.Prelude.{Bool, List, None, Option, Some, [], false, if◌then◌else◌, suc, zero, ℕ, ◌*◌, ◌++◌, ◌==◌, ◌∷◌, ◌≡◌}
 use Rattle.orc_core.specs.Machine.{Machine, new_machine, record_at, step, word_read}
 use Rattle.orc_core.specs.RecordParts.{names, number_of}
 use Rattle.orc_core.specs.declared.ops.Op.{Op}
 use Rattle.orc_core.specs.declared.ops.Op.TheVariants.{Fill as FillStep, GateTake, LinkCas, LinkLoad, LinkStore}
 use Rattle.orc_core.specs.declared.records.Agent.{Agent}
 use Rattle.orc_heap.specs.declared.events.Act.{Act}
-use Rattle.orc_heap.specs.declared.events.Act.TheVariants.{Aim, Fill, Give, Look, Miss, Move}
+use Rattle.orc_heap.specs.declared.events.Act.TheVariants.{Aim, AimSide, Fill, Give, Look, Miss, Move}
 use Rattle.orc_heap.specs.declared.events.Event.{Event}
 use Rattle.orc_heap.specs.declared.events.Place.{Place}
 use Rattle.orc_projection.specs.PresentIds.{PresentIds, no_ids, node_link, node_place, with_taken}
@@ -32,6 +32,11 @@ exchange_act p w from to place =
 abbrev pub is_taken : Agent → ℕ → Bool
 is_taken d w = w == 2 * number_of d.looked
 
+-- a store of the fresh row's link of this number, 0 or 1, aims that link of its node
+abbrev pub aim_act : ℕ → ℕ → Option ℕ → Act
+aim_act zero id to = Aim id to
+aim_act (suc n) id to = AimSide id to
+
 -- the act of a step by an agent with record d that read the word w, and wanted that link. A link that is stored in a row that
 -- isn't fresh is taken out of a doomed row, which nobody can reach
 abbrev pub act_of : PresentIds → Agent → ℕ → Op → Option RowLink → Option Act
@@ -39,7 +44,7 @@ act_of p d w (GateTake r) want = if is_taken d w then Some Give else None
 act_of p d w (FillStep r which value) want = Some (Fill (p.node r) which value)
 act_of p d w (LinkLoad place slot) want = option_map (load_act p w want) (node_place p place)
 act_of p d w (LinkCas place from to) want = option_map (exchange_act p w from to) (node_place p place)
-act_of p d w (LinkStore r link) want = if names d.fresh r then Some (Aim (p.node r) (option_map p.node link.to)) else None
+act_of p d w (LinkStore r n link) want = if names d.fresh r then Some (aim_act n (p.node r) (option_map p.node link.to)) else None
 act_of p d w op want = None
 
 -- the present ids after the step
@@ -80,7 +85,7 @@ present_ids b steps = ids_from (new_machine b) no_ids steps
 
 -- the step stores no mark
 abbrev pub IsPlainOp : Op → Type 0
-IsPlainOp (LinkStore r link) = link.mark ≡ false
+IsPlainOp (LinkStore r n link) = link.mark ≡ false
 IsPlainOp op = Unit {0}
 
 -- no step stores a marked link

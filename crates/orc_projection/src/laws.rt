@@ -4,7 +4,8 @@ ghost use Rattle.std.specs.Prelude.{◌≡◌, ◌↔◌, ◌++◌, ◌+◌, ◌
 ghost use Rattle.std.specs.Option.{option_map};
 ghost use Rattle.orc_words.specs.Bounds.{Bounds, IsShape};
 ghost use Rattle.orc_words.specs.Packed.{link_of, sequence_of};
-ghost use Rattle.orc_words.specs.declared.place.Word.TheVariants.{Counter, Next, Root};
+ghost use Rattle.orc_words.specs.Places.{link_at};
+ghost use Rattle.orc_words.specs.declared.place.Word.TheVariants.{Counter, Root};
 ghost use Rattle.orc_words.specs.declared.packed.RowLink.{RowLink};
 ghost use Rattle.orc_core.specs.Machine.{Machine, new_machine, word_in};
 ghost use Rattle.orc_core.specs.Runs.{run};
@@ -73,9 +74,9 @@ pub fn links_of_two_rows_are_links_of_two_nodes<N>()
     ensures root { (b : Bounds) (steps : List (Step N)) (i : ℕ) → IsShape b → IsLawfulJournal (new_machine b) steps
         → let m = run (new_machine b) (plain steps) in
         i < b.roots → LinksOut m (link_of (word_in m (Root i))) }
-    ensures next { (b : Bounds) (steps : List (Step N)) (r : ℕ) → IsShape b → IsLawfulJournal (new_machine b) steps
+    ensures row { (b : Bounds) (steps : List (Step N)) (r n : ℕ) → IsShape b → IsLawfulJournal (new_machine b) steps
         → let m = run (new_machine b) (plain steps) in
-        IsOut m r → LinksOut m (link_of (word_in m (Next r))) }
+        n < b.links → IsOut m r → LinksOut m (link_of (word_in m (link_at n r))) }
     ensures two { (b : Bounds) (first second : List (Step N)) (k l : RowLink) → IsShape b → IsLawfulJournal (new_machine b) (first ++ second)
         → LinksOut (run (new_machine b) (plain first)) k → LinksOut (run (new_machine b) (plain (first ++ second))) l
         → option_map (present_ids b first).node k.to ≡ option_map (present_ids b (first ++ second)).node l.to → k.to ≡ l.to }

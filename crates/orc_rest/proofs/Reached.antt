@@ -1,9 +1,9 @@
 -- At rest, a row is out exactly where the roots lead to its present node.
 use Rattle.std.proofs.Common.{Bool, List, [], ap, arith, false, inl, inr, refl, subst, suc, sym}
 use Rattle.std.proofs.Common.{true, zero, ℕ, ⊎_elim, ◌*◌, ◌+◌, ◌/◌, ◌<◌, ◌∙◌, ◌∷◌, ◌≡◌, ◌≤◌, ◌⊎◌}
-use Rattle.std.proofs.lemmas.Bool.{eq-eqb, false≢true, ltb-true}
+use Rattle.std.proofs.lemmas.Bool.{eq-eqb, false≢true, lt-ltb, ltb-true}
 use Rattle.std.specs.Option.{option_map}
-use Rattle.std.specs.Prelude.{None, Option, Some, nat_lt, not, slice_get, ◌==◌}
+use Rattle.std.specs.Prelude.{None, Option, Some, nat_lt, not, slice_get, ◌&&◌, ◌==◌}
 use Rattle.orc_core.specs.RecordParts.{names}
 use Rattle.orc_core.specs.Sums.{sum_below}
 use Rattle.orc_core.specs.declared.records.Doom.{Doom}
@@ -19,16 +19,19 @@ use Rattle.orc_projection.specs.PresentIds.{PresentIds, node_link}
 use Rattle.orc_sound.proofs.AllFits.{AllFits}
 use Rattle.orc_sound.proofs.Balances.{to_row-named}
 use Rattle.orc_sound.proofs.DoomedStep.{out_below}
-use Rattle.orc_sound.proofs.Facts.{decs, incs, linked_in, out, to_row}
+use Rattle.orc_sound.proofs.Facts.{Counted, decs, incs, linked_in, out, to_row}
+use Rattle.orc_sound.proofs.Outs.{null_row, zero_one}
 use Rattle.orc_sound.proofs.Reasons.{reasons}
 use Rattle.orc_sound.proofs.Sums.{sum_member, sum_zero}
 use Rattle.orc_sound.proofs.World.{World}
-use Rattle.orc_sound.specs.Doomed.{dooms_cut}
+use Rattle.orc_sound.specs.Doomed.{cuts_past}
 use Rattle.orc_words.specs.Bounds.{Bounds, IsShape}
 use Rattle.orc_words.specs.Packed.{bit, count_bits, link_of, named, retired_bit}
-use Rattle.orc_words.specs.declared.place.Word.TheVariants.{Counter, Gate, Next, Root}
+use Rattle.orc_words.specs.Places.{link_at}
+use Rattle.orc_words.specs.declared.place.Word.TheVariants.{Counter, Gate, Next, Root, Side}
 use Rattle.orc_rest.proofs.RowRank.{RanksRows, IsUnlinked}
 use Rattle.orc_rest.specs.Reached.{IsPath, IsReached, IsRootTarget}
+use Rattle.orc_rest.specs.Rest.{SidesRise}
 
 -- no agent has a fresh row, a change pending or a doom, and no row has its bit
 pub record Resting (b : Bounds) (z : World) : Type 0 where
@@ -46,6 +49,7 @@ pub record AtRest (b : Bounds) (z : World) (p : PresentIds) (h : Heap) (rank : �
   pub shows : Shows b z p h
   pub ranked : RanksRows z p h
   pub rises : Rises rank h
+  pub sides : SidesRise b.links rank h
   pub roots : (i r : ℕ) → i < b.roots → to_row (z.memory (Root i)) r ≡ 1 → IsLinkedNode h (p.node r)
   pub resting : Resting b z
 
@@ -115,25 +119,39 @@ record FromRoot (b : Bounds) (z : World) (r : ℕ) : Type 0 where
   link : to_row (z.memory (Root root)) r ≡ 1
 
 record FromRow (b : Bounds) (z : World) (r : ℕ) : Type 0 where
+  number : ℕ
+  low : number < 2
   row : ℕ
   is_out : out (z.memory (Gate row)) ≡ 1
-  link : to_row (z.memory (Next row)) r ≡ 1
+  link : to_row (z.memory (link_at number row)) r ≡ 1
 
 link_of_row : (b : Bounds) (z : World) (r : ℕ) → 0 < linked_in b z.memory r → FromRoot b z r ⊎ FromRow b z r
-link_of_row b z r h = cases (nat_lt 0 (sum_below b.roots (λ i. to_row (z.memory (Root i)) r))) refl
+link_of_row b z r h = at_roots (nat_lt 0 (sum_below b.roots (λ i. to_row (z.memory (Root i)) r))) refl
   where
     small : (w : ℕ) → out w ≤ 1
     small w = omega arith
 
-    cases : (t : Bool) → nat_lt 0 (sum_below b.roots (λ i. to_row (z.memory (Root i)) r)) ≡ t → FromRoot b z r ⊎ FromRow b z r
-    cases true e =
+    -- a row that is out has such a link with this number
+    some_row : (n : ℕ) → n < 2 → 0 < sum_below b.rows (λ j. out (z.memory (Gate j)) * to_row (z.memory (link_at n j)) r) → FromRoot b z r ⊎ FromRow b z r
+    some_row n low k =
+        let w = positive_below b.rows (λ j. out (z.memory (Gate j)) * to_row (z.memory (link_at n j)) r) k in
+        let one = both_one (out (z.memory (Gate w.0))) (to_row (z.memory (link_at n w.0)) r) (small (z.memory (Gate w.0))) w.2 in
+        inr (record { number = n; low = low; row = w.0; is_out = one.0; link = one_of (z.memory (link_at n w.0)) r one.1 })
+
+    at_rows : (t : Bool) → nat_lt 0 (sum_below b.rows (λ j. out (z.memory (Gate j)) * to_row (z.memory (Next j)) r)) ≡ t
+        → sum_below b.roots (λ i. to_row (z.memory (Root i)) r) ≤ 0 → FromRoot b z r ⊎ FromRow b z r
+    at_rows true e none = some_row 0 (omega arith) (ltb-true 0 _ e)
+    at_rows false e none =
+        let y : sum_below b.rows (λ j. out (z.memory (Gate j)) * to_row (z.memory (Next j)) r) ≤ 0 = grind arith in
+        some_row 1 (omega arith) (omega arith)
+
+    at_roots : (t : Bool) → nat_lt 0 (sum_below b.roots (λ i. to_row (z.memory (Root i)) r)) ≡ t → FromRoot b z r ⊎ FromRow b z r
+    at_roots true e =
         let w = positive_below b.roots (λ i. to_row (z.memory (Root i)) r) (ltb-true 0 _ e) in
         inl (record { root = w.0; below = w.1; link = one_of (z.memory (Root w.0)) r w.2 })
-    cases false e =
+    at_roots false e =
         let y : sum_below b.roots (λ i. to_row (z.memory (Root i)) r) ≤ 0 = grind arith in
-        let w = positive_below b.rows (λ j. out (z.memory (Gate j)) * to_row (z.memory (Next j)) r) (omega arith) in
-        let k = both_one (out (z.memory (Gate w.0))) (to_row (z.memory (Next w.0)) r) (small (z.memory (Gate w.0))) w.2 in
-        inr (record { row = w.0; is_out = k.0; link = one_of (z.memory (Next w.0)) r k.1 })
+        at_rows (nat_lt 0 (sum_below b.rows (λ j. out (z.memory (Gate j)) * to_row (z.memory (Next j)) r))) refl y
 
 -- the node to which a link word leads
 pub target_node : (p : PresentIds) (w r : ℕ) → r < 65535 → to_row w r ≡ 1 → (node_link p (link_of w)).to ≡ Some (p.node r)
@@ -143,14 +161,20 @@ target_node p w r l e = ap (option_map p.node) (names-some (named (w / 2)) r (bi
     bit_true true y = refl
     bit_true false y = absurd (omega arith)
 
+no_doom : (d : Option Doom) (j i : ℕ) → d ≡ None → cuts_past d j i ≡ true → ⊥
+no_doom None j i e k = false≢true k
+no_doom (Some x) j i e k = cc
+
+-- a node's link by its number
+abbrev node_at : ℕ → Node → Link
+node_at zero n = n.link
+node_at (suc i) n = n.side
+
 -- at rest no row's link is taken out
-row_link : (b : Bounds) (z : World) (p : PresentIds) (h : Heap) (rank : ℕ → ℕ) (j : ℕ) → AtRest b z p h rank → (o : out (z.memory (Gate j)) ≡ 1)
-    → (q : HasNode h.nodes (p.node j) (RowShows b z p j)) → q.node.link ≡ node_link p (link_of (z.memory (Next j)))
-row_link b z p h rank j q o n = ⊎_elim (λ c. absurd (no_doom (z.seats c.agent).doom (q.resting.doom c.agent) c.cut)) (λ e. e) n.so.link
-  where
-    no_doom : (d : Option Doom) → d ≡ None → dooms_cut d j ≡ true → ⊥
-    no_doom None e k = false≢true k
-    no_doom (Some x) e k = cc
+row_link : (b : Bounds) (z : World) (p : PresentIds) (h : Heap) (rank : ℕ → ℕ) (i j : ℕ) → AtRest b z p h rank → (o : out (z.memory (Gate j)) ≡ 1)
+    → (q : HasNode h.nodes (p.node j) (RowShows b z p j)) → node_at i q.node ≡ node_link p (link_of (z.memory (link_at i j)))
+row_link b z p h rank zero j q o n = ⊎_elim (λ c. absurd (no_doom (z.seats c.agent).doom j 0 (q.resting.doom c.agent) c.cut)) (λ e. e) n.so.link
+row_link b z p h rank (suc i) j q o n = ⊎_elim (λ c. absurd (no_doom (z.seats c.agent).doom j 1 (q.resting.doom c.agent) c.cut)) (λ e. e) n.so.side
 
 pub small_row : (b : Bounds) (z : World) (r : ℕ) → IsShape b → AllFits b z → out (z.memory (Gate r)) ≡ 1 → r < 65535
 small_row b z r shape s o = let l = out_below b z r s.counted o in let k = shape.rows.1 in omega arith
@@ -158,20 +182,41 @@ small_row b z r shape s o = let l = out_below b z r s.counted o in let k = shape
 one_value : {A : Type 0} {x y : A} (o : Option A) → o ≡ Some x → o ≡ Some y → x ≡ y
 one_value o e f = cc
 
--- a once linked node's link leads to a once linked node of greater rank
-next_linked : (b : Bounds) (z : World) (p : PresentIds) (h : Heap) (rank : ℕ → ℕ) (j r : ℕ) → AtRest b z p h rank → out (z.memory (Gate j)) ≡ 1
-    → out (z.memory (Gate r)) ≡ 1 → to_row (z.memory (Next j)) r ≡ 1 → IsLinkedNode h (p.node j)
-    → IsLinkedNode h (p.node r) × (rank (p.node j) < rank (p.node r))
-next_linked b z p h rank j r q oj or e k =
-    let n = q.shows.rows j oj in
-    let to = ap (λ (l : Link). l.to) (row_link b z p h rank j q oj n) ∙ target_node p (z.memory (Next j)) r (small_row b z r q.shape q.all or) e in
-    let same : k.node ≡ n.node = one_value _ k.there n.there in
-    rises_to (q.rises (p.node j) k.node k.there k.linked) (ap (λ (x : Node). x.link.to) same ∙ to)
+-- a second link that the shape doesn't have is null
+no_side : (b : Bounds) (z : World) (j r : ℕ) → Counted b z → (1 < b.links → ⊥) → to_row (z.memory (Side j)) r ≡ 1 → ⊥
+no_side b z j r s few e = zero_one (null_row (z.memory (Side j)) r (s.outside (Side j) (hidden (nat_lt j b.rows) (nat_lt 1 b.links) refl))) e
   where
-    rises_to : {o : Option ℕ} → (o ≡ None) ⊎ ((next : ℕ) × (o ≡ Some next) × IsLinkedNode h next × (rank (p.node j) < rank next)) → o ≡ Some (p.node r)
+    hidden : (t u : Bool) → nat_lt 1 b.links ≡ u → (t && u) ≡ false
+    hidden true true k = absurd (few (ltb-true 1 b.links k))
+    hidden true false k = refl
+    hidden false u k = refl
+
+-- where a link leads to a node
+abbrev LeadsOn : (ℕ → ℕ) → Heap → ℕ → Option ℕ → Type 0
+LeadsOn rank h id o = (o ≡ None) ⊎ ((next : ℕ) × (o ≡ Some next) × IsLinkedNode h next × (rank id < rank next))
+
+-- each link of a once linked node leads to a once linked node of greater rank
+next_linked : (b : Bounds) (z : World) (p : PresentIds) (h : Heap) (rank : ℕ → ℕ) (i j r : ℕ) → AtRest b z p h rank → out (z.memory (Gate j)) ≡ 1
+    → out (z.memory (Gate r)) ≡ 1 → to_row (z.memory (link_at i j)) r ≡ 1 → IsLinkedNode h (p.node j)
+    → IsLinkedNode h (p.node r) × (rank (p.node j) < rank (p.node r))
+next_linked b z p h rank i j r q oj or e k =
+    let n = q.shows.rows j oj in
+    let to = ap (λ (l : Link). l.to) (row_link b z p h rank i j q oj n) ∙ target_node p (z.memory (link_at i j)) r (small_row b z r q.shape q.all or) e in
+    let same : k.node ≡ n.node = one_value _ k.there n.there in
+    rises_to (leads_on i e) (ap (λ (x : Node). (node_at i x).to) same ∙ to)
+  where
+    rises_to : {o : Option ℕ} → LeadsOn rank h (p.node j) o → o ≡ Some (p.node r)
         → IsLinkedNode h (p.node r) × (rank (p.node j) < rank (p.node r))
     rises_to (inl n) t = cc
     rises_to (inr w) t = let same : w.0 ≡ p.node r = cc in subst (λ id. IsLinkedNode h id × (rank (p.node j) < rank id)) same (w.2, w.3)
+
+    leads_on : (i : ℕ) → to_row (z.memory (link_at i j)) r ≡ 1 → LeadsOn rank h (p.node j) (node_at i k.node).to
+    leads_on zero f = q.rises (p.node j) k.node k.there k.linked
+    leads_on (suc c) f = with_sides (nat_lt 1 b.links) refl
+      where
+        with_sides : (t : Bool) → nat_lt 1 b.links ≡ t → LeadsOn rank h (p.node j) k.node.side.to
+        with_sides true g = q.sides (ltb-true 1 b.links g) (p.node j) k.node k.there k.linked
+        with_sides false g = absurd (no_side b z j r q.all.counted (λ more. false≢true (sym g ∙ lt-ltb 1 b.links more)) f)
 
 -- whether a Move linked the row's node
 linked_or_not : (b : Bounds) (z : World) (p : PresentIds) (h : Heap) (r : ℕ) → Shows b z p h → out (z.memory (Gate r)) ≡ 1
@@ -193,8 +238,8 @@ no_unlinked b z p h rank q (suc k) r o u e =
     ⊎_elim
     (λ (f : FromRoot b z r). u (q.roots f.root r f.below f.link))
     (λ (f : FromRow b z r). ⊎_elim
-    (λ l. u (next_linked b z p h rank f.row r q f.is_out o f.link l).0)
-    (λ n. let m = q.ranked.falls f.row r f.is_out (λ x. rw (q.resting.fresh x) refl) n f.link u in no_unlinked b z p h rank q k f.row f.is_out n (omega arith))
+    (λ l. u (next_linked b z p h rank f.number f.row r q f.is_out o f.link l).0)
+    (λ n. let m = q.ranked.falls f.number f.row r f.is_out (λ x. rw (q.resting.fresh x) refl) n f.link u in no_unlinked b z p h rank q k f.row f.is_out n (omega arith))
     (linked_or_not b z p h f.row q.shows f.is_out))
     (link_of_row b z r (linked_at_rest b z p h rank r q o))
 
@@ -208,7 +253,7 @@ reach_below : (b : Bounds) (z : World) (p : PresentIds) (h : Heap) (rank : ℕ �
 reach_below b z p h rank q zero r o e = absurd (omega arith)
 reach_below b z p h rank q (suc n) r o e =
     ⊎_elim (λ f. record { path = []; leads = from_root f })
-    (λ f. let m = next_linked b z p h rank f.row r q f.is_out o f.link (all_linked b z p h rank f.row q f.is_out) in
+    (λ f. let m = next_linked b z p h rank f.number f.row r q f.is_out o f.link (all_linked b z p h rank f.row q f.is_out) in
     let less = m.1 in
     from_row f (reach_below b z p h rank q n f.row f.is_out (omega arith)))
     (link_of_row b z r (linked_at_rest b z p h rank r q o))
@@ -225,11 +270,21 @@ reach_below b z p h rank q (suc n) r o e =
       to = target (z.memory (Root f.root)) f.link;
     }
 
+    -- by its first link, or by its second where it has one
+    either : (i j : ℕ) → to_row (z.memory (link_at i j)) r ≡ 1 → (n : Node) → (node_at i n).to ≡ Some (p.node r)
+        → (n.link.to ≡ Some (p.node r)) ⊎ ((1 < h.links) × (n.side.to ≡ Some (p.node r)))
+    either zero j f n e = inl e
+    either (suc c) j f n e = with_sides (nat_lt 1 b.links) refl
+      where
+        with_sides : (t : Bool) → nat_lt 1 b.links ≡ t → (n.link.to ≡ Some (p.node r)) ⊎ ((1 < h.links) × (n.side.to ≡ Some (p.node r)))
+        with_sides true g = inr (rw q.shows.links (ltb-true 1 b.links g), e)
+        with_sides false g = absurd (no_side b z j r q.all.counted (λ more. false≢true (sym g ∙ lt-ltb 1 b.links more)) f)
+
     from_row : (f : FromRow b z r) → IsReached (numbers_of b) h (p.node f.row) → IsReached (numbers_of b) h (p.node r)
     from_row f w =
         let k = q.shows.rows f.row f.is_out in
-        let to = ap (λ (l : Link). l.to) (row_link b z p h rank f.row q f.is_out k) ∙ target (z.memory (Next f.row)) f.link in
-        record { path = p.node f.row ∷ w.path; leads = (w.leads, record { node = k.node; there = k.there; to = to }) }
+        let to = ap (λ (l : Link). l.to) (row_link b z p h rank f.number f.row q f.is_out k) ∙ target (z.memory (link_at f.number f.row)) f.link in
+        record { path = p.node f.row ∷ w.path; leads = (w.leads, record { node = k.node; there = k.there; to = either f.number f.row f.link k.node to }) }
 
 pub out_reached : (b : Bounds) (z : World) (p : PresentIds) (h : Heap) (rank : ℕ → ℕ) (r : ℕ) → AtRest b z p h rank → out (z.memory (Gate r)) ≡ 1
     → IsReached (numbers_of b) h (p.node r)
@@ -254,13 +309,17 @@ path_out b z p h rank q [] id w =
     record { row = t.0; is_out = q.all.counted.roots_out w.root t.0 (named_row word t.0 t.1); is = t.2 }
 path_out b z p h rank q (j ∷ js) id w =
     let from = path_out b z p h rank q js j w.0 in
-    let k = q.shows.rows from.row from.is_out in
-    let word = z.memory (Next from.row) in
     let there : slice_get h.nodes (p.node from.row) ≡ Some w.1.node = rw from.is w.1.there in
-    let same : w.1.node ≡ k.node = one_value _ there k.there in
-    let link = ap (λ (l : Link). l.to) (sym (row_link b z p h rank from.row q from.is_out k)) ∙ (ap (λ (x : Node). x.link.to) (sym same) ∙ w.1.to) in
-    let t = mapped p.node (named (word / 2)) id link in
-    record { row = t.0; is_out = q.all.counted.nexts_out from.row t.0 from.is_out (named_row word t.0 t.1); is = t.2 }
+    ⊎_elim (λ e. led from 0 w.1.node there e) (λ e. led from 1 w.1.node there e.1) w.1.to
+  where
+    led : (from : OutAs z p j) (i : ℕ) (n : Node) → slice_get h.nodes (p.node from.row) ≡ Some n → (node_at i n).to ≡ Some id → OutAs z p id
+    led from i n there to =
+        let k = q.shows.rows from.row from.is_out in
+        let word = z.memory (link_at i from.row) in
+        let same : n ≡ k.node = one_value _ there k.there in
+        let link = ap (λ (l : Link). l.to) (sym (row_link b z p h rank i from.row q from.is_out k)) ∙ (ap (λ (x : Node). (node_at i x).to) (sym same) ∙ to) in
+        let t = mapped p.node (named (word / 2)) id link in
+        record { row = t.0; is_out = q.all.counted.links_out i from.row t.0 from.is_out (named_row word t.0 t.1); is = t.2 }
 
 pub reached_out : (b : Bounds) (z : World) (p : PresentIds) (h : Heap) (rank : ℕ → ℕ) (id : ℕ) → AtRest b z p h rank → IsReached (numbers_of b) h id
     → OutAs z p id

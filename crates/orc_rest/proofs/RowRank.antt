@@ -1,5 +1,5 @@
 -- A rank of rows: a row that is no longer fresh, and to whose node no Move made a link, links such rows of lower rank alone.
-use Rattle.std.proofs.Common.{Bool, ap, arith, cond, false, inl, inr, refl, subst, sym, true, ℕ, ⊎_elim, ◌*◌, ◌+◌, ◌-◌, ◌/◌, ◌<◌, ◌∙◌, ◌≡◌, ◌⊎◌}
+use Rattle.std.proofs.Common.{Bool, ap, arith, cond, false, inl, inr, refl, subst, sym, true, ℕ, ⊎_elim, ◌*◌, ◌+◌, ◌-◌, ◌/◌, ◌<◌, ◌∙◌, ◌≡◌, ◌≤◌, ◌⊎◌, zero, suc}
 use Rattle.std.proofs.lemmas.Bool.{eq-eqb, eqb-true, false≢true, ltb-true}
 use Rattle.std.specs.Option.{option_map}
 use Rattle.std.specs.Prelude.{None, Option, Some, if◌then◌else◌, is_none, slice_get, ◌&&◌, ◌==◌}
@@ -13,34 +13,35 @@ use Rattle.orc_core.specs.declared.records.Agent.{Agent}
 use Rattle.orc_core.specs.declared.records.Reading.{Reading}
 use Rattle.orc_heap.proofs.Changes.{get-change, get-change_same}
 use Rattle.orc_heap.proofs.Linked.{linked_after}
-use Rattle.orc_heap.specs.Acts.{as_linked, change_target, heap_after, set_link, with_link}
+use Rattle.orc_heap.specs.Acts.{as_linked, change_target, heap_after, set_link, with_link, with_side}
 use Rattle.orc_heap.specs.Allowed.{IsLinkedNode, MovesLinked}
 use Rattle.orc_heap.specs.Heap.{Heap, Node}
 use Rattle.orc_heap.specs.declared.events.Act.{Act}
 use Rattle.orc_heap.specs.declared.events.Act.TheVariants.{Move}
 use Rattle.orc_heap.specs.declared.events.Link.{Link}
 use Rattle.orc_heap.specs.declared.events.Place.{Place}
-use Rattle.orc_heap.specs.declared.events.Place.TheVariants.{Next as NodePlace, Root as RootPlace}
+use Rattle.orc_heap.specs.declared.events.Place.TheVariants.{Next as NodePlace, Root as RootPlace, Side as SidePlace}
 use Rattle.orc_projection.proofs.Shows.{Fitting, Shows, heap_then}
-use Rattle.orc_projection.proofs.Still.{out_before, still_words}
+use Rattle.orc_projection.proofs.Still.{out_before}
 use Rattle.orc_projection.proofs.StoreStep.{store_doomed}
 use Rattle.orc_projection.specs.PresentIds.{PresentIds, node_link, node_place, with_taken}
 use Rattle.orc_projection.specs.Projection.{act_of, ids_after, is_taken}
 use Rattle.orc_sound.proofs.Balances.{to_row-link}
 use Rattle.orc_sound.proofs.Facts.{LawfulStep, incs, linked_in, out, to_row}
-use Rattle.orc_sound.proofs.Outs.{cas_place_out, linked_next, none_linked, store_cases, takes_free, zero_one}
+use Rattle.orc_sound.proofs.Outs.{cas_place_out, linked_link, none_linked, store_cases, takes_free, zero_one}
 use Rattle.orc_sound.proofs.Pending.{OneChange, try_waits}
 use Rattle.orc_sound.proofs.Seats.{both_ways, not_true, seat_other, seat_same}
-use Rattle.orc_sound.proofs.Sources.{next_source, takes}
+use Rattle.orc_sound.proofs.Sources.{links_source, takes}
 use Rattle.orc_sound.proofs.Sums.{sum_zero}
 use Rattle.orc_sound.proofs.Uses.{fresh_uses, inc_uses}
 use Rattle.orc_sound.proofs.World.{World, read_by, record_by, step_world}
 use Rattle.orc_sound.specs.Linked.{uses}
 use Rattle.orc_words.specs.Bounds.{Bounds}
 use Rattle.orc_words.specs.Packed.{bit, count_bits, link_word}
+use Rattle.orc_words.specs.Places.{link_at}
 use Rattle.orc_words.specs.declared.packed.RowLink.{RowLink}
 use Rattle.orc_words.specs.declared.place.Word.{Word}
-use Rattle.orc_words.specs.declared.place.Word.TheVariants.{Counter, Enrolled, Gate, Next, Root}
+use Rattle.orc_words.specs.declared.place.Word.TheVariants.{Counter, Enrolled, Gate, Next, Root, Side}
 
 -- no Move made a link to the row's node
 abbrev pub IsUnlinked : PresentIds → Heap → ℕ → Type 0
@@ -50,11 +51,11 @@ IsUnlinked p h j = IsLinkedNode h (p.node j) → ⊥
 abbrev pub IsFreshNowhere : World → ℕ → Type 0
 IsFreshNowhere z j = (x : ℕ) → names (z.seats x).fresh j ≡ false
 
--- such a rank: among nodes to which no Move made a link, the rank falls along the link of a row that is fresh nowhere
+-- such a rank: among nodes to which no Move made a link, the rank falls along each link i of a row j that is fresh nowhere
 pub record RanksRows (z : World) (p : PresentIds) (h : Heap) : Type 0 where
   pub rank : ℕ → ℕ
-  pub falls : (j q : ℕ) → out (z.memory (Gate j)) ≡ 1 → IsFreshNowhere z j → IsUnlinked p h j → to_row (z.memory (Next j)) q ≡ 1 → IsUnlinked p h q
-      → rank q < rank j
+  pub falls : (i j q : ℕ) → out (z.memory (Gate j)) ≡ 1 → IsFreshNowhere z j → IsUnlinked p h j → to_row (z.memory (link_at i j)) q ≡ 1
+      → IsUnlinked p h q → rank q < rank j
 
 linked_stays : (a : ℕ) (o : Option Act) (h : Heap) (id : ℕ) → Fitting a o h → IsLinkedNode h id → IsLinkedNode (heap_then a o h) id
 linked_stays a None h id f k = k
@@ -71,6 +72,11 @@ moved_linked a (NodePlace i) from to h id n e k =
     elim (get-change (with_link to) i id h.nodes n k) [
       | inl r ↦ target_linked to.to (set_link (NodePlace i) to h) id (with_link to n) e r.1
       | inr r ↦ target_linked to.to (set_link (NodePlace i) to h) id n e r.1
+    ]
+moved_linked a (SidePlace i) from to h id n e k =
+    elim (get-change (with_side to) i id h.nodes n k) [
+      | inl r ↦ target_linked to.to (set_link (SidePlace i) to h) id (with_side to n) e r.1
+      | inr r ↦ target_linked to.to (set_link (SidePlace i) to h) id n e r.1
     ]
 
 node_same : (p : PresentIds) (d : Agent) (v : ℕ) (op : Op) (j : ℕ) → (takes op d v j ≡ true → ⊥) → (ids_after p d v op).node j ≡ p.node j
@@ -94,13 +100,6 @@ not_taken : (z : World) (a : ℕ) (op : Op) (j : ℕ) → IsFreshNowhere (step_w
 not_taken z a op j n t =
     both_ways (names (record_by z a op).fresh j) (taken_fresh op (z.seats a) (read_by z a op) j t) (rw (seat_same z.seats a (record_by z a op)) at (n a))
 
--- the step ends no row's being fresh without a Move to it
-record Before (b : Bounds) (z : World) (p : PresentIds) (h : Heap) (a : ℕ) (op : Op) (j q : ℕ) : Type 0 where
-  pub is_out : out (z.memory (Gate j)) ≡ 1
-  pub unlinked : IsUnlinked p h j
-  pub link : to_row (z.memory (Next j)) q ≡ 1
-  pub target : IsUnlinked p h q
-
 abbrev After : (z : World) (p : PresentIds) (h : Heap) (a : ℕ) (op : Op) (o : Option Act) → ℕ → Type 0
 After z p h a op o j = IsLinkedNode (heap_then a o h) ((ids_after p (z.seats a) (read_by z a op) op).node j) → ⊥
 
@@ -108,59 +107,68 @@ unlinked_before : (z : World) (p : PresentIds) (h : Heap) (a : ℕ) (op : Op) (o
     → (takes op (z.seats a) (read_by z a op) j ≡ true → ⊥) → After z p h a op o j → IsUnlinked p h j
 unlinked_before z p h a op o j f n u k = u (rw (node_same p (z.seats a) (read_by z a op) op j n) (linked_stays a o h (p.node j) f k))
 
+-- a word that was written or not, where no write to it leads to the row
+put_link : (y : Bool) (new mine q : ℕ) → (y ≡ true → to_row new q ≡ 1 → to_row mine q ≡ 1) → to_row (cond y new mine) q ≡ 1 → to_row mine q ≡ 1
+put_link true new mine q f e = f refl e
+put_link false new mine q f e = e
+
+-- an exchange of a link word leaves what it was, if it isn't won
+exchanged : (won : Bool) (new old mine q : ℕ) → (won ≡ true → ⊥) → old ≡ mine → to_row (cond won new old) q ≡ 1 → to_row mine q ≡ 1
+exchanged true new old mine q n same e = absurd (n refl)
+exchanged false new old mine q n same e = rw same at e
+
 -- a link that stays, or is moved at a once linked node
-cas_link : (b : Bounds) (z : World) (p : PresentIds) (h : Heap) (a : ℕ) (w : Word) (x t : RowLink) (want : Option RowLink) (j q : ℕ)
+cas_link : (b : Bounds) (z : World) (p : PresentIds) (h : Heap) (a : ℕ) (w : Word) (x t : RowLink) (want : Option RowLink) (i j q : ℕ)
     → LawfulStep b z a (LinkCas w x t)
     → ((act : Act) → act_of p (z.seats a) (read_by z a (LinkCas w x t)) (LinkCas w x t) want ≡ Some act → MovesLinked act h) → IsUnlinked p h j
-    → to_row ((step_world z a (LinkCas w x t)).memory (Next j)) q ≡ 1 → to_row (z.memory (Next j)) q ≡ 1
-cas_link b z p h a (Root i) x t want j q l m u e = e
-cas_link b z p h a (Next i) x t want j q l m u e = cases (z.memory (Next i) == link_word x) refl
-  where
-    moved : (z.memory (Next i) == link_word x) ≡ true → j ≡ i → ⊥
-    moved won same =
-        let made = m (Move (NodePlace (p.node i)) (node_link p x) (node_link p t)) (rw won refl) in
-        u (rw same made)
+    → to_row ((step_world z a (LinkCas w x t)).memory (link_at i j)) q ≡ 1 → to_row (z.memory (link_at i j)) q ≡ 1
+cas_link b z p h a (Root k) x t want zero j q l m u e = e
+cas_link b z p h a (Root k) x t want (suc n) j q l m u e = e
+cas_link b z p h a (Side k) x t want zero j q l m u e = e
+cas_link b z p h a (Next k) x t want (suc n) j q l m u e = e
+cas_link b z p h a (Next k) x t want zero j q l m u e =
+    put_link (j == k) (cond (z.memory (Next k) == link_word x) (link_word t) (z.memory (Next k))) (z.memory (Next j)) q
+    (λ s. exchanged (z.memory (Next k) == link_word x) (link_word t) (z.memory (Next k)) (z.memory (Next j)) q
+    (λ won. u (rw (eqb-true j k s) (m (Move (NodePlace (p.node k)) (node_link p x) (node_link p t)) (rw won refl))))
+    (ap (λ y. z.memory (Next y)) (sym (eqb-true j k s)))) e
+cas_link b z p h a (Side k) x t want (suc n) j q l m u e =
+    put_link (j == k) (cond (z.memory (Side k) == link_word x) (link_word t) (z.memory (Side k))) (z.memory (Side j)) q
+    (λ s. exchanged (z.memory (Side k) == link_word x) (link_word t) (z.memory (Side k)) (z.memory (Side j)) q
+    (λ won. u (rw (eqb-true j k s) (m (Move (SidePlace (p.node k)) (node_link p x) (node_link p t)) (rw won refl))))
+    (ap (λ y. z.memory (Side y)) (sym (eqb-true j k s)))) e
+cas_link b z p h a w x t want i j q l m u e = absurd (cas_place_out b z a w x t l)
 
-    cases : (v : Bool) → (z.memory (Next i) == link_word x) ≡ v → to_row (z.memory (Next j)) q ≡ 1
-    cases false lost = rw (still_words a (LinkCas (Next i) x t) (z.seats a) z.memory (Next j) (rw lost refl) refl) at e
-    cases true won = other (j == i) refl e
-      where
-        other : (y : Bool) → (j == i) ≡ y
-            → to_row (cond y (cond (z.memory (Next i) == link_word x) (link_word t) (z.memory (Next i))) (z.memory (Next j))) q ≡ 1 → to_row
-            (z.memory (Next j)) q ≡ 1
-        other false g k = k
-        other true g k = absurd (moved won (eqb-true j i g))
-cas_link b z p h a w x t want j q l m u e = absurd (cas_place_out b z a w x t l)
-
-store_link : (b : Bounds) (z : World) (a r : ℕ) (k : RowLink) (j q : ℕ) → LawfulStep b z a (LinkStore r k) → IsFreshNowhere (step_world z a (LinkStore r k)) j
-    → to_row ((step_world z a (LinkStore r k)).memory (Next j)) q ≡ 1 → to_row (z.memory (Next j)) q ≡ 1
-store_link b z a r k j q l n e = cases (j == r) refl e
+-- a link that is stored in a row which is fresh nowhere afterwards has no target
+store_link : (b : Bounds) (z : World) (a r n : ℕ) (k : RowLink) (j q : ℕ) → LawfulStep b z a (LinkStore r n k)
+    → IsFreshNowhere (step_world z a (LinkStore r n k)) j → (j == r) ≡ true → to_row (link_word k) q ≡ 1 → ⊥
+store_link b z a r n k j q l f g y =
+    ⊎_elim
+    (λ x. both_ways (names (z.seats a).fresh j) (rw (eqb-true j r g) x) (rw (seat_same z.seats a (record_by z a (LinkStore r n k))) at (f a)))
+    (λ d. no_target k.to (store_doomed b (z.memory Enrolled) a r n k (z.seats a) l.fits unfresh).1 y)
+    (store_cases b (z.memory Enrolled) a r n k (z.seats a) l.fits)
   where
     no_target : (o : Option ℕ) → is_none o ≡ true → to_row (link_word (record { to = o; mark = k.mark })) q ≡ 1 → ⊥
     no_target None g y = zero_one (to_row-link (record { to = None; mark = k.mark }) q) y
     no_target (Some c) g y = false≢true g
 
-    cases : (y : Bool) → (j == r) ≡ y → to_row (cond y (link_word k) (z.memory (Next j))) q ≡ 1 → to_row (z.memory (Next j)) q ≡ 1
-    cases false g y = y
-    cases true g y =
-        ⊎_elim
-        (λ f. absurd (both_ways (names (z.seats a).fresh j) (rw (eqb-true j r g) f) (rw (seat_same z.seats a (record_by z a (LinkStore r k))) at (n a))))
-        (λ d. absurd (no_target k.to (store_doomed b (z.memory Enrolled) a r k (z.seats a) l.fits unfresh).1 y))
-        (store_cases b (z.memory Enrolled) a r k (z.seats a) l.fits)
-      where
-        unfresh : names (z.seats a).fresh r ≡ false
-        unfresh = rw (← eqb-true j r g) (rw (seat_same z.seats a (record_by z a (LinkStore r k))) at (n a))
+    unfresh : names (z.seats a).fresh r ≡ false
+    unfresh = rw (← eqb-true j r g) (rw (seat_same z.seats a (record_by z a (LinkStore r n k))) at (f a))
 
 -- the link words of rows that are out and not fresh are the same before, but for Moves at once linked nodes
-link_before : (b : Bounds) (z : World) (p : PresentIds) (h : Heap) (a : ℕ) (op : Op) (want : Option RowLink) (j q : ℕ) → LawfulStep b z a op
+link_before : (b : Bounds) (z : World) (p : PresentIds) (h : Heap) (a : ℕ) (op : Op) (want : Option RowLink) (i j q : ℕ) → LawfulStep b z a op
     → ((act : Act) → act_of p (z.seats a) (read_by z a op) op want ≡ Some act → MovesLinked act h) → IsUnlinked p h j → IsFreshNowhere (step_world z a op) j
-    → to_row ((step_world z a op).memory (Next j)) q ≡ 1 → to_row (z.memory (Next j)) q ≡ 1
-link_before b z p h a (LinkCas w x t) want j q l m u n e = cas_link b z p h a w x t want j q l m u e
-link_before b z p h a (LinkStore r k) want j q l m u n e = store_link b z a r k j q l n e
-link_before b z p h a (FillStep r which v) want j q l m u n e =
-    ⊎_elim (λ o. o) (λ x. absurd (false≢true x)) (next_source b (z.memory Enrolled) a (FillStep r which v) (z.seats a) z.memory j q l.fits e)
-link_before b z p h a op want j q l m u n e =
-    ⊎_elim (λ o. o) (λ x. absurd (false≢true x)) (next_source b (z.memory Enrolled) a op (z.seats a) z.memory j q l.fits e)
+    → to_row ((step_world z a op).memory (link_at i j)) q ≡ 1 → to_row (z.memory (link_at i j)) q ≡ 1
+link_before b z p h a (LinkCas w x t) want i j q l m u n e = cas_link b z p h a w x t want i j q l m u e
+link_before b z p h a (LinkStore r zero k) want zero j q l m u n e =
+    put_link (j == r) (link_word k) (z.memory (Next j)) q (λ s y. absurd (store_link b z a r 0 k j q l n s y)) e
+link_before b z p h a (LinkStore r zero k) want (suc i) j q l m u n e = e
+link_before b z p h a (LinkStore r (suc c) k) want zero j q l m u n e = e
+link_before b z p h a (LinkStore r (suc c) k) want (suc i) j q l m u n e =
+    put_link (j == r) (link_word k) (z.memory (Side j)) q (λ s y. absurd (store_link b z a r (suc c) k j q l n s y)) e
+link_before b z p h a (FillStep r which v) want i j q l m u n e =
+    ⊎_elim (λ o. o) (λ x. absurd (false≢true x)) (links_source b (z.memory Enrolled) a (FillStep r which v) (z.seats a) z.memory i j q l.fits e)
+link_before b z p h a op want i j q l m u n e =
+    ⊎_elim (λ o. o) (λ x. absurd (false≢true x)) (links_source b (z.memory Enrolled) a op (z.seats a) z.memory i j q l.fits e)
 
 -- the step ends no freshness but by a Move to the row, or by a SetRetired
 abbrev pub ends_fresh : Op → Agent → ℕ → ℕ → Bool
@@ -216,6 +224,7 @@ fresh_stays b z p h a (LinkCas w x t) want o j l s e g f = cases (z.memory w == 
         by_word : (y : Word) → w ≡ y → IsLinkedNode (heap_then a o h) (p.node j)
         by_word (Root i) k = linked won to (RootPlace i) (ap (node_place p) k)
         by_word (Next i) k = linked won to (NodePlace (p.node i)) (ap (node_place p) k)
+        by_word (Side i) k = linked won to (SidePlace (p.node i)) (ap (node_place p) k)
         by_word y k = absurd (rw k at (cas_place_out b z a w x t l))
 
     cases : (u : Bool) → (z.memory w == link_word x) ≡ u
@@ -252,18 +261,18 @@ no_fresh_before b z p h a op want o j l s e g k u n x = not_true (names (z.seats
 -- where no row's freshness ends by a SetRetired, the same rank serves
 same_falls : (b : Bounds) (z : World) (p : PresentIds) (h : Heap) (a : ℕ) (op : Op) (want : Option RowLink) (o : Option Act) (k : RanksRows z p h)
     → LawfulStep b z a op → Shows b z p h
-    → act_of p (z.seats a) (read_by z a op) op want ≡ o → Fitting a o h → ((act : Act) → o ≡ Some act → MovesLinked act h) → (j q : ℕ) → ends_fresh op
+    → act_of p (z.seats a) (read_by z a op) op want ≡ o → Fitting a o h → ((act : Act) → o ≡ Some act → MovesLinked act h) → (i j q : ℕ) → ends_fresh op
     (z.seats a) (read_by z a op) j ≡ false
     → out ((step_world z a op).memory (Gate j)) ≡ 1 → IsFreshNowhere (step_world z a op) j → After z p h a op o j
-    → to_row ((step_world z a op).memory (Next j)) q ≡ 1 → After z p h a op o q → k.rank q < k.rank j
-same_falls b z p h a op want o k l s e f m j q g out_j n u t v =
+    → to_row ((step_world z a op).memory (link_at i j)) q ≡ 1 → After z p h a op o q → k.rank q < k.rank j
+same_falls b z p h a op want o k l s e f m i j q g out_j n u t v =
     let nt = not_taken z a op j n in
     let was = out_before b z a op j l nt out_j in
     let unlinked = unlinked_before z p h a op o j f nt u in
-    let link = link_before b z p h a op want j q l (λ act at. m act (sym e ∙ at)) unlinked n t in
-    let q_out = l.counted.nexts_out j q was link in
+    let link = link_before b z p h a op want i j q l (λ act at. m act (sym e ∙ at)) unlinked n t in
+    let q_out = l.counted.links_out i j q was link in
     let qt : takes op (z.seats a) (read_by z a op) q ≡ true → ⊥ = λ y. zero_one (takes_free op (z.seats a) z.memory a q y) q_out in
-    k.falls j q was (no_fresh_before b z p h a op want o j l s e g nt u n) unlinked link (unlinked_before z p h a op o q f qt v)
+    k.falls i j q was (no_fresh_before b z p h a op want o j l s e g nt u n) unlinked link (unlinked_before z p h a op o q f qt v)
 
 -- a fresh row whose bit is set has no link at all
 retired_unlinked : (b : Bounds) (z : World) (a r n : ℕ) → LawfulStep b z a (SetRetired r n) → OneChange (z.seats a) → names (z.seats a).fresh r ≡ true
@@ -300,26 +309,38 @@ retired_unlinked b z a r n l o f v =
             own (inr y) = y.1
             own (inl y) = ⊎_elim (λ d. absurd (due_is (z.seats a).due y d)) (λ i. i) o
 
--- the rank of a row whose bit is set while it is fresh is raised above that of its link's target
+-- the ranks of the targets of a row's links, together
+targets : World → ℕ → (ℕ → ℕ) → ℕ
+targets z r rank = rank (z.memory (Next r) / 2 - 1) + rank (z.memory (Side r) / 2 - 1)
+
+target_within : (z : World) (r : ℕ) (rank : ℕ → ℕ) (i : ℕ) → rank (z.memory (link_at i r) / 2 - 1) ≤ targets z r rank
+unfolding targets
+target_within z r rank zero = omega arith
+target_within z r rank (suc i) = omega arith
+
+-- the rank of a row whose bit is set while it is fresh is raised above those of its links' targets
 raised : World → ℕ → (ℕ → ℕ) → ℕ → ℕ
-raised z r rank x = cond (x == r) (rank (z.memory (Next r) / 2 - 1) + 1) (rank x)
+raised z r rank x = cond (x == r) (targets z r rank + 1) (rank x)
 
 retired_falls : (b : Bounds) (z : World) (p : PresentIds) (h : Heap) (a r n : ℕ) (want : Option RowLink) (k : RanksRows z p h)
     → LawfulStep b z a (SetRetired r n) → Shows b z p h → OneChange (z.seats a)
-    → (z.memory (Counter r) == clear_word n) ≡ true → names (z.seats a).fresh r ≡ true → (j q : ℕ)
+    → (z.memory (Counter r) == clear_word n) ≡ true → names (z.seats a).fresh r ≡ true → (i j q : ℕ)
     → out ((step_world z a (SetRetired r n)).memory (Gate j)) ≡ 1 → IsFreshNowhere (step_world z a (SetRetired r n)) j → IsUnlinked p h j
-    → to_row (z.memory (Next j)) q ≡ 1 → IsUnlinked p h q → raised z r k.rank q < raised z r k.rank j
+    → to_row ((step_world z a (SetRetired r n)).memory (link_at i j)) q ≡ 1 → IsUnlinked p h q → raised z r k.rank q < raised z r k.rank j
 unfolding raised
-retired_falls b z p h a r n want k l s o won f j q out_j nf u t v = cases (q == r) refl (j == r) refl
+retired_falls b z p h a r n want k l s o won f i j q out_j nf u after v = cases (q == r) refl (j == r) refl
   where
     was : out (z.memory (Gate j)) ≡ 1
     was = out_j
+
+    t : to_row (z.memory (link_at i j)) q ≡ 1
+    t = link_before b z p h a (SetRetired r n) want i j q l (λ act at. cc) u nf after
 
     unlinked : linked_in b z.memory r ≡ 0
     unlinked = retired_unlinked b z a r n l o f won
 
     not_target : q ≡ r → ⊥
-    not_target e = none_linked unlinked (linked_next b z j r l.counted was (rw e at t))
+    not_target e = none_linked unlinked (linked_link b z i j r l.counted was (rw e at t))
 
     target_is : (w : ℕ) → to_row w q ≡ 1 → w / 2 - 1 ≡ q
     target_is w e = let y = eqb-true (w / 2) (q + 1) (bit_true (w / 2 == q + 1) e) in omega arith
@@ -328,17 +349,18 @@ retired_falls b z p h a r n want k l s o won f j q out_j nf u t v = cases (q == 
         bit_true true y = refl
         bit_true false y = absurd (omega arith)
 
-    more : (x y : ℕ) → x ≡ y → x < y + 1
-    more x y e = omega arith
+    more : (x y z : ℕ) → x ≡ y → y ≤ z → x < z + 1
+    more x y z e le = omega arith
 
     cases : (c : Bool) → (q == r) ≡ c → (d : Bool) → (j == r) ≡ d
-        → cond c (k.rank (z.memory (Next r) / 2 - 1) + 1) (k.rank q) < cond d (k.rank (z.memory (Next r) / 2 - 1) + 1) (k.rank j)
+        → cond c (targets z r k.rank + 1) (k.rank q) < cond d (targets z r k.rank + 1) (k.rank j)
     cases true e d g = absurd (not_target (eqb-true q r e))
     cases false e true g =
-        more (k.rank q) (k.rank (z.memory (Next r) / 2 - 1))
-        (ap k.rank (sym (subst (λ y. z.memory (Next y) / 2 - 1 ≡ q) (eqb-true j r g) (target_is (z.memory (Next j)) t))))
+        more (k.rank q) (k.rank (z.memory (link_at i r) / 2 - 1)) (targets z r k.rank)
+        (ap k.rank (sym (subst (λ y. z.memory (link_at i y) / 2 - 1 ≡ q) (eqb-true j r g) (target_is (z.memory (link_at i j)) t))))
+        (target_within z r k.rank i)
     cases false e false g =
-        same_falls b z p h a (SetRetired r n) want None k l s refl tt (λ act at. cc) j q (other (r == j) refl) out_j nf u t v
+        same_falls b z p h a (SetRetired r n) want None k l s refl tt (λ act at. cc) i j q (other (r == j) refl) out_j nf u after v
       where
         other : (y : Bool) → (r == j) ≡ y → ((z.memory (Counter r) == clear_word n) && names (z.seats a).fresh r && y) ≡ false
         other false w = rw (won, f) refl
@@ -354,12 +376,12 @@ rank_step b z p h a (SetRetired r n) want l s o f m k = cases ((z.memory (Counte
     cases : (t : Bool) → ((z.memory (Counter r) == clear_word n) && names (z.seats a).fresh r) ≡ t → RanksRows (step_world z a (SetRetired r n)) p h
     cases true e =
         let y = and_both (z.memory (Counter r) == clear_word n) (names (z.seats a).fresh r) e in
-        record { rank = raised z r k.rank; falls = λ j q g n u t v. retired_falls b z p h a r _ want k l s o y.0 y.1 j q g n u t v }
+        record { rank = raised z r k.rank; falls = λ i j q g n u t v. retired_falls b z p h a r _ want k l s o y.0 y.1 i j q g n u t v }
     cases false e =
         record {
           rank = k.rank;
-          falls = λ j q g i u t v. same_falls b z p h a (SetRetired r n) want None k l s refl tt (λ act at. cc) j q
-              (none (r == j)) g i u t v;
+          falls = λ i j q g n u t v. same_falls b z p h a (SetRetired r _) want None k l s refl tt (λ act at. cc) i j q
+              (none (r == j)) g n u t v;
         }
       where
         both_false : (c d y : Bool) → (c && d) ≡ false → (c && d && y) ≡ false
@@ -372,6 +394,6 @@ rank_step b z p h a (SetRetired r n) want l s o f m k = cases ((z.memory (Counte
 rank_step b z p h a op want l s o f m k =
     record {
       rank = k.rank;
-      falls = λ j q g n u t v. same_falls b z p h a op want
-          (act_of p (z.seats a) (read_by z a op) op want) k l s refl f m j q refl g n u t v;
+      falls = λ i j q g n u t v. same_falls b z p h a op want
+          (act_of p (z.seats a) (read_by z a op) op want) k l s refl f m i j q refl g n u t v;
     }

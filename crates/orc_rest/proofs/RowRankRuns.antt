@@ -75,7 +75,7 @@ rank_run m p h (x ∷ xs) w s l n k c g =
     (rank_run (step m x.agent x.op) (ids_after p d v x.op) (heap_then x.agent act h) xs (full_step m x.agent x.op w) fitting l.2 n.1 made.1 moves.1 ground)
 
 pub first_rank : (b : Bounds) → RanksRows (world_of (new_machine b)) no_ids (new_heap (numbers_of b))
-first_rank b = record { rank = λ r. 0; falls = λ j q o n u t v. absurd (never (zero_first b (Gate j) refl) o) }
+first_rank b = record { rank = λ r. 0; falls = λ i j q o n u t v. absurd (never (zero_first b (Gate j) refl) o) }
   where
     never : {w : ℕ} → w ≡ 0 → out w ≡ 1 → ⊥
     never e o = omega arith

@@ -1,6 +1,6 @@
 -- The nodes to which the roots of a heap lead.
 use Rattle.std.specs.List.{IsDistinct}
-use Rattle.std.specs.Prelude.{Contains, List, Some, [], slice_get, ◌<◌, ◌==◌, ◌∷◌, ◌≡◌, ◌↔◌, ℕ}
+use Rattle.std.specs.Prelude.{Contains, List, Some, [], slice_get, ◌<◌, ◌==◌, ◌∷◌, ◌≡◌, ◌↔◌, ◌⊎◌, ℕ}
 use Rattle.orc_heap.specs.Heap.{Heap, HeapNumbers, Node, shown}
 use Rattle.orc_heap.specs.declared.events.Link.{Link}
 use Rattle.orc_heap.specs.declared.events.Place.TheVariants.{Root}
@@ -16,11 +16,11 @@ pub record IsRootTarget (n : HeapNumbers) (h : Heap) (id : ℕ) : Type 0 where
   pub shown : shown h (Root root) ≡ Some link
   pub to : link.to ≡ Some id
 
--- the link of node j names the node
+-- a link of node j names the node
 pub record Leads (h : Heap) (j id : ℕ) : Type 0 where
   pub node : Node
   pub there : slice_get h.nodes j ≡ Some node
-  pub to : node.link.to ≡ Some id
+  pub to : (node.link.to ≡ Some id) ⊎ ((1 < h.links) × (node.side.to ≡ Some id))
 
 -- links lead from a root over these nodes, the last of them first, to the node
 abbrev pub IsPath : HeapNumbers → Heap → List ℕ → ℕ → Type 0

@@ -4,6 +4,3 @@
 mod laws;
 
 pub use laws::{each_life_is_a_taking, nothing_leaks_at_rest};
-
-#[cfg(test)]
-mod tests;

@@ -5,9 +5,9 @@ use Rattle.orc_heap.specs.Allowed.{MovesLinked}
 use Rattle.orc_heap.specs.Heap.{Heap, HeapNumbers}
 use Rattle.orc_heap.specs.Journals.{FitsAfter, IsPlain, IsPlainAct, run_heap}
 use Rattle.orc_heap.specs.declared.events.Act.{Act}
-use Rattle.orc_heap.specs.declared.events.Act.TheVariants.{Aim, Fill, Give, Look, Miss, Move}
+use Rattle.orc_heap.specs.declared.events.Act.TheVariants.{Aim, AimSide, Fill, Give, Look, Miss, Move}
 use Rattle.orc_heap.specs.declared.events.Event.{Event}
-use Rattle.orc_heap.specs.declared.events.Place.TheVariants.{Next, Root}
+use Rattle.orc_heap.specs.declared.events.Place.TheVariants.{Next, Root, Side}
 use Rattle.links_example.specs.OwnRoots.{IsOwnMove, OwnRootsHolds, OwnRootsMay}
 
 pub own_roots_keeps : (n : HeapNumbers) (seen : List (Event ℕ)) (e : Event ℕ) → OwnRootsHolds n seen → OwnRootsMay n seen e → OwnRootsHolds n (seen ++ e ∷ [])
@@ -17,6 +17,7 @@ plain_own : (agent : ℕ) (act : Act) (noted : Option ℕ) → IsPlainAct act �
 plain_own agent Give noted p = tt
 plain_own agent (Fill id which value) noted p = tt
 plain_own agent (Aim id to) noted p = tt
+plain_own agent (AimSide id to) noted p = tt
 plain_own agent (Look place link) noted p = tt
 plain_own agent (Move place from to) noted p = absurd p
 plain_own agent (Miss place wanted found) noted p = tt
@@ -29,9 +30,11 @@ own_linked : (agent : ℕ) (act : Act) (noted : Option ℕ) (h : Heap) → IsOwn
 own_linked agent Give noted h m = tt
 own_linked agent (Fill id which value) noted h m = tt
 own_linked agent (Aim id to) noted h m = tt
+own_linked agent (AimSide id to) noted h m = tt
 own_linked agent (Look place link) noted h m = tt
 own_linked agent (Move (Root r) from to) noted h m = tt
 own_linked agent (Move (Next id) from to) noted h m = absurd m
+own_linked agent (Move (Side id) from to) noted h m = absurd m
 own_linked agent (Miss place wanted found) noted h m = tt
 
 pub own_roots_moves_linked : (n : HeapNumbers) (seen : List (Event ℕ)) (e : Event ℕ) → OwnRootsHolds n seen → OwnRootsMay n seen e

@@ -5,13 +5,12 @@ use Rattle.orc_heap.proofs.Changes.{get-change_other, get-change_same}
 use Rattle.orc_heap.specs.Acts.{as_linked, change_target, heap_after, set_link, with_link}
 use Rattle.orc_heap.specs.Allowed.{IsLinkedNode}
 use Rattle.orc_heap.specs.Heap.{Heap, Node, shown}
-use Rattle.orc_heap.specs.Moves.{IsLinkedPlace}
 use Rattle.orc_heap.specs.declared.events.Act.TheVariants.{Move}
 use Rattle.orc_heap.specs.declared.events.Link.{Link}
 use Rattle.orc_heap.specs.declared.events.Place.{Place}
-use Rattle.orc_heap.specs.declared.events.Place.TheVariants.{Next, Root}
+use Rattle.orc_heap.specs.declared.events.Place.TheVariants.{Next, Root, Side}
 use Rattle.orc_history.specs.SetHistory.{has}
-use Rattle.orc_chain_rule.specs.ChainDiscipline.{AreChains, FollowsOn, HasKey, IsAbove, IsBelow, IsOnChain, IsPath, IsPlaceOnChain, IsPresent, IsRun, LeadsTo, MayAdd}
+use Rattle.orc_chain_rule.specs.ChainDiscipline.{AreChains, FollowsOn, HasKey, IsAbove, IsBelow, IsOnChain, IsPath, IsPlaceOnChain, IsPresent, IsRun, LeadsTo, MayAdd, IsChainPlace}
 use Rattle.orc_heap.proofs.Moved.{shown_node}
 use Rattle.orc_heap.proofs.SingleActs.{some_same}
 use Rattle.orc_chain_rule.specs.Laws.Kinds.{IsMoved, key_linked, key_one, place_either}
@@ -24,8 +23,9 @@ pub record IsLinkedIn (k : Heap) (id key : ℕ) (own : Link) : Type 0 where
   pub has_key : HasKey k id key
   pub shows : shown k (Next id) ≡ Some own
 
-unlinked_place : (h : Heap) (p : Place) (id : ℕ) (node : Node) → IsLinkedPlace p h → slice_get h.nodes id ≡ Some node → node.linked ≡ false → Next id ≢ p
+unlinked_place : (h : Heap) (p : Place) (id : ℕ) (node : Node) → IsChainPlace p h → slice_get h.nodes id ≡ Some node → node.linked ≡ false → Next id ≢ p
 unlinked_place h (Root r) id node l there unlinked same = cc
+unlinked_place h (Side d) id node l there unlinked same = absurd l
 unlinked_place h (Next d) id node l there unlinked same =
     let is : d ≡ id = next_same d id (sym same) in
     let one : l.node ≡ node = some_same (sym l.there ∙ (ap (λ (x : ℕ). slice_get h.nodes x) is ∙ there)) in
@@ -34,7 +34,7 @@ unlinked_place h (Next d) id node l there unlinked same =
 
 pub added_linked : (roots : ℕ) (h : Heap) (keys : List ℕ) (agent : ℕ) (p : Place) (from to : Link) (key : ℕ) → AreChains roots h keys
     → (m : IsMoved h (heap_after agent (Move p from to) h) p from to)
-    → (a : MayAdd roots h p from to key) → IsLinkedPlace p h → IsLinkedIn (heap_after agent (Move p from to) h) a.id key a.node.link
+    → (a : MayAdd roots h p from to key) → IsChainPlace p h → IsLinkedIn (heap_after agent (Move p from to) h) a.id key a.node.link
 added_linked roots h keys agent p from to key c m a l = record {
   has_key = record { node = as_linked a.node; there = there p l; linked = refl; key_is = a.key_is };
   shows = m.others (Next a.id) (unlinked_place h p a.id a.node l a.there a.unlinked) ∙ shown_node h a.id a.node a.there;
@@ -45,8 +45,9 @@ added_linked roots h keys agent p from to key c m a l = record {
         subst (λ (t : Link). slice_get (change_target as_linked t.to g).nodes a.id ≡ Some (as_linked a.node)) (sym a.to_is)
         (get-change_same as_linked a.id g.nodes a.node at)
 
-    there : (p : Place) → IsLinkedPlace p h → slice_get (change_target as_linked to.to (set_link p to h)).nodes a.id ≡ Some (as_linked a.node)
+    there : (p : Place) → IsChainPlace p h → slice_get (change_target as_linked to.to (set_link p to h)).nodes a.id ≡ Some (as_linked a.node)
     there (Root r) l = target (set_link (Root r) to h) a.there
+    there (Side d) l = absurd l
     there (Next d) l =
         target (set_link (Next d) to h)
         (get-change_other (with_link to) d a.id h.nodes (λ same. unlinked_place h (Next d) a.id a.node l a.there a.unlinked (ap (λ (x : ℕ). Next x) same))
@@ -54,7 +55,7 @@ added_linked roots h keys agent p from to key c m a l = record {
 
 module _ (roots : ℕ) (h k : Heap) (keys : List ℕ) (p : Place) (from to : Link) (key : ℕ) (c : AreChains roots h keys) (m : IsMoved h k p from to)
     (a : MayAdd roots h p from to key)
-    (p_linked : IsLinkedPlace p h) (new : IsLinkedIn k a.id key a.node.link)
+    (p_linked : IsChainPlace p h) (new : IsLinkedIn k a.id key a.node.link)
   where
     unlinked : IsLinkedNode h a.id → ⊥
     unlinked l =
@@ -74,6 +75,7 @@ module _ (roots : ℕ) (h k : Heap) (keys : List ℕ) (p : Place) (from to : Lin
       where
         cases : (q : Place) → IsPlaceOnChain h (key % roots) q → IsBelow h q key → FollowsOn roots h q key
         cases (Root r) on under = sym on
+        cases (Side d) on under = absurd on
         cases (Next d) on (low, own_key, less) = (low, own_key, less, sym (chain_root roots h keys c (key % roots) d low on own_key))
 
     -- and what the new node leads to may follow the key
@@ -85,9 +87,10 @@ module _ (roots : ℕ) (h k : Heap) (keys : List ℕ) (p : Place) (from to : Lin
       where
         same : (q : Place) → FollowsOn roots h q key → (high : ℕ) → FollowsOn roots h q high → high % roots ≡ key % roots
         same (Root r) f high g = g ∙ sym f
+        same (Side d) f high g = absurd f
         same (Next d) (low, own_key, less, one) high (low2, has2, less2, two) = two ∙ (ap (λ (x : ℕ). x % roots) (key_one h d low2 low has2 own_key) ∙ sym one)
 
-    leads : (q : Place) (id : ℕ) → IsLinkedPlace q k → LeadsTo k q (Some id) → (b : ℕ) × HasKey k id b × FollowsOn roots k q b
+    leads : (q : Place) (id : ℕ) → IsChainPlace q k → LeadsTo k q (Some id) → (b : ℕ) × HasKey k id b × FollowsOn roots k q b
     leads q id l to_node = elim (place_either q p) [
       | inl same ↦
           let here : LeadsTo k p (Some id) = subst (λ (z : Place). LeadsTo k z (Some id)) same to_node in
@@ -100,13 +103,14 @@ module _ (roots : ℕ) (h k : Heap) (keys : List ℕ) (p : Place) (from to : Lin
       | inr ne ↦ other q l to_node ne
     ]
       where
-        from_old : (q : Place) → IsLinkedPlace q h → LeadsTo k q (Some id) → q ≢ p → (b : ℕ) × HasKey k id b × FollowsOn roots k q b
+        from_old : (q : Place) → IsChainPlace q h → LeadsTo k q (Some id) → q ≢ p → (b : ℕ) × HasKey k id b × FollowsOn roots k q b
         from_old q l to_node ne =
             let (b, own_key, f) = c.leads q id l (leads_same k h q (Some id) (sym (m.others q ne)) to_node) in
             (b, m.stays id b own_key, follows_stays roots h k q b m.stays f)
 
-        other : (q : Place) → IsLinkedPlace q k → LeadsTo k q (Some id) → q ≢ p → (b : ℕ) × HasKey k id b × FollowsOn roots k q b
+        other : (q : Place) → IsChainPlace q k → LeadsTo k q (Some id) → q ≢ p → (b : ℕ) × HasKey k id b × FollowsOn roots k q b
         other (Root r) l to_node ne = from_old (Root r) tt to_node ne
+        other (Side d) l to_node ne = absurd l
         other (Next d) l to_node ne = elim (old d l) [
           | inl before ↦ from_old (Next d) before to_node ne
           | inr same ↦
@@ -130,6 +134,7 @@ module _ (roots : ℕ) (h k : Heap) (keys : List ℕ) (p : Place) (from to : Lin
 
         cases : (q : Place) → IsMoved h k q from to → IsPlaceOnChain h (key % roots) q → IsOnChain k (key % roots) a.id
         cases (Root r) n on = record { over = []; path = subst (λ (z : ℕ). LeadsTo k (Root z) (Some a.id)) on (step (Root r) n) }
+        cases (Side d) n on = absurd on
         cases (Next d) n on =
             let there = on_chain (key % roots) d from n.at a.plain on in
             record { over = there.over ++ d ∷ []; path = path_join k (Root (key % roots)) there.over d [] (Some a.id) there.path (step (Next d) n) }

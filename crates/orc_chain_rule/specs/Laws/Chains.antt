@@ -2,10 +2,9 @@
 use Rattle.std.proofs.Common.{List, Option, Some, [], subst, sym, ℕ, ◌%◌, ◌∙◌, ◌∷◌, ◌≡◌}
 use Rattle.orc_heap.specs.Allowed.{IsLinkedNode}
 use Rattle.orc_heap.specs.Heap.{Heap}
-use Rattle.orc_heap.specs.Moves.{IsLinkedPlace}
 use Rattle.orc_heap.specs.declared.events.Place.{Place}
-use Rattle.orc_heap.specs.declared.events.Place.TheVariants.{Next, Root}
-use Rattle.orc_chain_rule.specs.ChainDiscipline.{AreChains, FollowsOn, HasKey, IsOnChain, IsPath}
+use Rattle.orc_heap.specs.declared.events.Place.TheVariants.{Next, Root, Side}
+use Rattle.orc_chain_rule.specs.ChainDiscipline.{AreChains, FollowsOn, HasKey, IsOnChain, IsPath, IsChainPlace}
 use Rattle.orc_chain_rule.specs.Laws.Kinds.{IsStill, key_linked, key_one}
 use Rattle.orc_chain_rule.specs.Laws.Paths.{leads_same}
 
@@ -16,10 +15,12 @@ next_same i j e = cc
 pub follows_stays : (roots : ℕ) (h k : Heap) (p : Place) (key : ℕ) → ((id key : ℕ) → HasKey h id key → HasKey k id key) → FollowsOn roots h p key
     → FollowsOn roots k p key
 follows_stays roots h k (Root r) key stays f = f
+follows_stays roots h k (Side d) key stays f = f
 follows_stays roots h k (Next id) key stays (low, own_key, less, same) = (low, stays id low own_key, less, same)
 
-pub linked_place_before : (h k : Heap) (p : Place) → ((id : ℕ) → IsLinkedNode k id → IsLinkedNode h id) → IsLinkedPlace p k → IsLinkedPlace p h
+pub linked_place_before : (h k : Heap) (p : Place) → ((id : ℕ) → IsLinkedNode k id → IsLinkedNode h id) → IsChainPlace p k → IsChainPlace p h
 linked_place_before h k (Root r) old l = tt
+linked_place_before h k (Side d) old l = l
 linked_place_before h k (Next id) old l = old id l
 
 -- the key of a node that was linked before
@@ -29,7 +30,7 @@ key_before roots h k keys c stays id key l own_key =
     let (a, own) = c.keyed id l in
     subst (λ (x : ℕ). HasKey h id x) (key_one k id a key (stays id a own) own_key) own
 
-path_still : (roots : ℕ) (h k : Heap) (keys : List ℕ) → AreChains roots h keys → IsStill h k → (p : Place) (ids : List ℕ) (to : Option ℕ) → IsLinkedPlace p h
+path_still : (roots : ℕ) (h k : Heap) (keys : List ℕ) → AreChains roots h keys → IsStill h k → (p : Place) (ids : List ℕ) (to : Option ℕ) → IsChainPlace p h
     → IsPath h p ids to → IsPath k p ids to
 path_still roots h k keys c s p [] to l path = leads_same h k p to (s.shows p l) path
 path_still roots h k keys c s p (x ∷ xs) to l path =

@@ -9,20 +9,20 @@ use Rattle.orc_heap.specs.Acts.{Fits, heap_after}
 use Rattle.orc_heap.specs.Allowed.{IsLinkedNode, MovesLinked, Rises, HasLink}
 use Rattle.orc_heap.specs.Heap.{Heap, HeapNumbers, Node, shown}
 use Rattle.orc_heap.specs.Journals.{FitsAfter, IsPlain, IsPlainAct, event_by, run_heap}
-use Rattle.orc_heap.specs.Moves.{IsLinkedPlace, move_with}
+use Rattle.orc_heap.specs.Moves.{move_with}
 use Rattle.orc_heap.specs.declared.events.Act.{Act}
-use Rattle.orc_heap.specs.declared.events.Act.TheVariants.{Aim, Fill, Give, Look, Miss, Move}
+use Rattle.orc_heap.specs.declared.events.Act.TheVariants.{Aim, Fill, Give, Look, Miss, Move, AimSide}
 use Rattle.orc_heap.specs.declared.events.Event.{Event}
 use Rattle.orc_heap.specs.declared.events.Link.{Link}
 use Rattle.orc_heap.specs.declared.events.Place.{Place}
-use Rattle.orc_heap.specs.declared.events.Place.TheVariants.{Next, Root}
+use Rattle.orc_heap.specs.declared.events.Place.TheVariants.{Next, Root, Side}
 use Rattle.orc_history.specs.SetHistory.{IsLegalSet, IsLegalSetFrom, has, keys_after}
 use Rattle.orc_history.specs.declared.set.SetEntry.{SetEntry}
 use Rattle.orc_history.specs.declared.set.SetEntry.TheVariants.{Added, Asked, Removed}
 use Rattle.orc_history.proofs.SetHistories.{IsLegalSetFrom-snoc}
 use Rattle.orc_chain_rule.specs.declared.chain.ChainNote.{ChainNote}
 use Rattle.orc_chain_rule.specs.declared.chain.ChainNote.TheVariants.{Entry, Unlink}
-use Rattle.orc_chain_rule.specs.ChainDiscipline.{AreChains, ChainHolds, ChainMay, HasKey, IsPlaceOnChain, MayAct, MayAnswer, chain_rank, entries_of, key_of, set_after, IsOwnEntry}
+use Rattle.orc_chain_rule.specs.ChainDiscipline.{AreChains, ChainHolds, ChainMay, HasKey, IsPlaceOnChain, MayAct, MayAnswer, chain_rank, entries_of, key_of, set_after, IsOwnEntry, IsChainPlace}
 use Rattle.orc_chain_rule.specs.Laws.Adding.{added_linked, chains_add, was_absent}
 use Rattle.orc_chain_rule.specs.Laws.Chains.{chains_still}
 use Rattle.orc_heap.proofs.Moved.{shown_node}
@@ -40,6 +40,7 @@ no_move_plain : (act : Act) → IsPlainAct act → move_with act ≡ 0
 no_move_plain Give p = refl
 no_move_plain (Fill id which value) p = refl
 no_move_plain (Aim id to) p = refl
+no_move_plain (AimSide id to) p = refl
 no_move_plain (Look place link) p = refl
 no_move_plain (Move place from to) p = absurd p
 no_move_plain (Miss place wanted found) p = refl
@@ -53,12 +54,14 @@ chain_allows_plain n seen e holds fits plain = record {
 }
 
 -- a place on a chain is a root or the link of a once linked node
-pub place_linked : (roots : ℕ) (h : Heap) (keys : List ℕ) → AreChains roots h keys → (root : ℕ) (p : Place) → IsPlaceOnChain h root p → IsLinkedPlace p h
+pub place_linked : (roots : ℕ) (h : Heap) (keys : List ℕ) → AreChains roots h keys → (root : ℕ) (p : Place) → IsPlaceOnChain h root p → IsChainPlace p h
 place_linked roots h keys c root (Root r) on = tt
+place_linked roots h keys c root (Side d) on = absurd on
 place_linked roots h keys c root (Next d) on = chain_linked roots h keys c root d on
 
-moves_linked : (p : Place) (from to : Link) (h : Heap) → IsLinkedPlace p h → MovesLinked (Move p from to) h
+moves_linked : (p : Place) (from to : Link) (h : Heap) → IsChainPlace p h → MovesLinked (Move p from to) h
 moves_linked (Root r) from to h l = tt
+moves_linked (Side d) from to h l = absurd l
 moves_linked (Next d) from to h l = l
 
 pub chain_moves_linked : (n : HeapNumbers) (seen : List (Event ChainNote)) (e : Event ChainNote) → ChainHolds n seen → ChainMay n seen e

@@ -2,11 +2,10 @@
 use Rattle.std.proofs.Common.{List, Option, Some, [], ap, arith, false, inl, inr, length, subst, suc, sym, true, zero, ℕ, ◌%◌, ◌++◌, ◌<◌, ◌∙◌, ◌∷◌, ◌≡◌, ◌≢◌, ◌≤◌, ◌⊎◌}
 use Rattle.orc_heap.specs.Allowed.{IsLinkedNode}
 use Rattle.orc_heap.specs.Heap.{Heap, shown}
-use Rattle.orc_heap.specs.Moves.{IsLinkedPlace}
 use Rattle.orc_heap.specs.declared.events.Link.{Link}
 use Rattle.orc_heap.specs.declared.events.Place.{Place}
-use Rattle.orc_heap.specs.declared.events.Place.TheVariants.{Next, Root}
-use Rattle.orc_chain_rule.specs.ChainDiscipline.{AreChains, FollowsOn, HasKey, IsAbove, IsBelow, IsOnChain, IsPath, IsPlaceOnChain, IsPresent, IsRun, LeadsTo}
+use Rattle.orc_heap.specs.declared.events.Place.TheVariants.{Next, Root, Side}
+use Rattle.orc_chain_rule.specs.ChainDiscipline.{AreChains, FollowsOn, HasKey, IsAbove, IsBelow, IsOnChain, IsPath, IsPlaceOnChain, IsPresent, IsRun, LeadsTo, IsChainPlace}
 use Rattle.orc_heap.proofs.SingleActs.{shown_link, some_same}
 use Rattle.orc_chain_rule.specs.Laws.Kinds.{key_linked, key_one, place_either}
 
@@ -22,12 +21,13 @@ pub follows_trans : (roots : ℕ) (h : Heap) (p : Place) (x a b : ℕ) → Follo
 follows_trans roots h (Root r) x a b f k (low, has, less, same) =
     let is : low ≡ a = key_one h x low a has k in
     same ∙ (ap (λ (z : ℕ). z % roots) is ∙ f)
+follows_trans roots h (Side id) x a b f k g = absurd f
 follows_trans roots h (Next id) x a b (first, own, under, one) k (low, has, less, same) =
     let is : low ≡ a = key_one h x low a has k in
     (first, own, omega (arith, is, under, less), same ∙ (ap (λ (z : ℕ). z % roots) is ∙ one))
 
 -- a path leads to keys that may follow
-pub path_follows : (roots : ℕ) (h : Heap) (keys : List ℕ) → AreChains roots h keys → (p : Place) (ids : List ℕ) (id : ℕ) → IsLinkedPlace p h
+pub path_follows : (roots : ℕ) (h : Heap) (keys : List ℕ) → AreChains roots h keys → (p : Place) (ids : List ℕ) (id : ℕ) → IsChainPlace p h
     → IsPath h p ids (Some id)
     → (key : ℕ) × HasKey h id key × FollowsOn roots h p key
 path_follows roots h keys c p [] id l path = c.leads p id l path
@@ -54,7 +54,7 @@ run_path h p from [] to at run = record { link = from; at = at; to_is = run }
 run_path h p from (x ∷ xs) to at (is, next, own, mark, run) =
     (record { link = from; at = at; to_is = is }, run_path h (Next x) next xs to (shown_link h x next own) run)
 
-pub run_follows : (roots : ℕ) (h : Heap) (keys : List ℕ) → AreChains roots h keys → (p : Place) (from : Link) (ids : List ℕ) (id : ℕ) → IsLinkedPlace p h
+pub run_follows : (roots : ℕ) (h : Heap) (keys : List ℕ) → AreChains roots h keys → (p : Place) (from : Link) (ids : List ℕ) (id : ℕ) → IsChainPlace p h
     → shown h p ≡ Some from → IsRun h from ids (Some id)
     → (key : ℕ) × HasKey h id key × FollowsOn roots h p key
 run_follows roots h keys c p from ids id l at run = path_follows roots h keys c p ids id l (run_path h p from ids (Some id) at run)
@@ -144,6 +144,7 @@ absent roots h keys c p from run to key on under at r above y =
   where
     reach : (p : Place) → IsPlaceOnChain h (key % roots) p → IsBelow h p key → (ids : List ℕ) × IsPath h p ids (Some y.id)
     reach (Root r) on under = (y.on_chain.over, subst (λ (z : ℕ). IsPath h (Root z) y.on_chain.over (Some y.id)) (sym on) y.on_chain.path)
+    reach (Side d) on under = absurd on
     reach (Next d) on (low, own, less) =
         from_low roots h keys c (Root (key % roots)) on.over y.on_chain.over d y.id low key own y.has_key less on.path y.on_chain.path
 

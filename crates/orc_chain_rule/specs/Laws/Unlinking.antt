@@ -2,11 +2,10 @@
 use Rattle.std.proofs.Common.{List, Option, Some, [], ap, false, inl, inr, refl, subst, sym, ℕ, ◌%◌, ◌∙◌, ◌∷◌, ◌≡◌}
 use Rattle.orc_heap.specs.Allowed.{IsLinkedNode}
 use Rattle.orc_heap.specs.Heap.{Heap, shown}
-use Rattle.orc_heap.specs.Moves.{IsLinkedPlace}
 use Rattle.orc_heap.specs.declared.events.Link.{Link}
 use Rattle.orc_heap.specs.declared.events.Place.{Place}
 use Rattle.orc_heap.specs.declared.events.Place.TheVariants.{Next, Root}
-use Rattle.orc_chain_rule.specs.ChainDiscipline.{AreChains, FollowsOn, HasKey, IsOnChain, IsPresent, IsRun, LeadsTo, MayUnlink}
+use Rattle.orc_chain_rule.specs.ChainDiscipline.{AreChains, FollowsOn, HasKey, IsOnChain, IsPresent, IsRun, LeadsTo, MayUnlink, IsChainPlace}
 use Rattle.orc_heap.proofs.SingleActs.{some_same}
 use Rattle.orc_chain_rule.specs.Laws.Kinds.{IsMoved, key_linked, place_either}
 use Rattle.orc_chain_rule.specs.Laws.Paths.{detour, leads_same, run_follows}
@@ -38,7 +37,7 @@ module _ (roots : ℕ) (h k : Heap) (keys : List ℕ) (p : Place) (from to : Lin
   on_chain root y link at plain on =
       detour h k p from (u.first ∷ u.others) to.to [] m.at u.run (record { link = to; at = m.moved; to_is = refl }) m.others y link at plain root on
 
-  leads : (q : Place) (id : ℕ) → IsLinkedPlace q k → LeadsTo k q (Some id) → (key : ℕ) × HasKey k id key × FollowsOn roots k q key
+  leads : (q : Place) (id : ℕ) → IsChainPlace q k → LeadsTo k q (Some id) → (key : ℕ) × HasKey k id key × FollowsOn roots k q key
   leads q id l to_node = elim (place_either q p) [
     | inl same ↦
         let here : LeadsTo k p (Some id) = subst (λ (z : Place). LeadsTo k z (Some id)) same to_node in

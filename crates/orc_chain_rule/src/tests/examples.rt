@@ -31,10 +31,10 @@ fn a_chain_of_three()
         ∷ event_by 0 (Act.Fill 2 0 9) None
         ∷ event_by 0 (Act.Move (Place.Next 0) null (link_to 2)) (Some (ChainNote.Entry (SetEntry.Added 0 9 true)))
         ∷ event_by 2 (Act.Look (Place.Next 0) (link_to 2)) (Some (ChainNote.Entry (SetEntry.Added 2 5 false))) ∷ [] in
-        AllAllowed (ChainMay (record { roots = 1 })) [] es
+        AllAllowed (ChainMay (record { roots = 1; links = 1 })) [] es
         × (entries_of es ≡ SetEntry.Added 0 5 true ∷ SetEntry.Added 1 3 true ∷ SetEntry.Added 0 9 true ∷ SetEntry.Added 2 5 false ∷ [])
         × (set_after es ≡ 5 ∷ 3 ∷ 9 ∷ [])
-        × IsPath (run_heap (record { roots = 1 }) es) (Place.Root 0) (1 ∷ 0 ∷ []) (Some 2) }
+        × IsPath (run_heap (record { roots = 1; links = 1 }) es) (Place.Root 0) (1 ∷ 0 ∷ []) (Some 2) }
 {}
 
 // From a root that names the node of 3, marked, and behind it that of 5, marked, and that of 9: agent 1's node with
@@ -45,6 +45,7 @@ fn a_run_of_two_marked_nodes()
           ∷ with_link (record { to = Some 2; mark = true }) (as_linked (node_to_add 0 5 0 None))
           ∷ as_linked (node_to_add 0 9 0 None) ∷ node_to_add 1 4 0 (Some 2) ∷ [];
       roots = link_to 0 ∷ [];
+      links = 1;
     } in
         IsRun h (link_to 0) (0 ∷ 1 ∷ []) (Some 2) × IsPath h (Place.Root 0) (0 ∷ 1 ∷ []) (Some 2) × IsLeftOver h 1
         × LeavesOut 1 h (Place.Root 0) (link_to 0) (0 ∷ 1 ∷ []) (Some 2) 5
@@ -55,6 +56,7 @@ fn a_run_of_two_marked_nodes()
           ∷ with_link (record { to = Some 2; mark = true }) (as_linked (node_to_add 0 5 0 None))
           ∷ as_linked (node_to_add 0 9 0 None) ∷ node_to_add 1 4 0 (Some 2) ∷ [];
       roots = link_to 0 ∷ [];
+      links = 1;
     } in
         AreLeftOver h (0 ∷ 1 ∷ []) × (¬ AreLeftOver h (0 ∷ [])) }
     ensures inserted_over { let h : Heap = record {
@@ -62,6 +64,7 @@ fn a_run_of_two_marked_nodes()
           ∷ with_link (record { to = Some 2; mark = true }) (as_linked (node_to_add 0 5 0 None))
           ∷ as_linked (node_to_add 0 9 0 None) ∷ node_to_add 1 4 0 (Some 2) ∷ [];
       roots = link_to 0 ∷ [];
+      links = 1;
     } in
         MayAct 1 h (9 ∷ []) (Act.Move (Place.Root 0) (link_to 0) (link_to 3)) (Some (ChainNote.Entry (SetEntry.Added 1 4 true))) }
     ensures left_out { let h : Heap = record {
@@ -69,6 +72,7 @@ fn a_run_of_two_marked_nodes()
           ∷ with_link (record { to = Some 2; mark = true }) (as_linked (node_to_add 0 5 0 None))
           ∷ as_linked (node_to_add 0 9 0 None) ∷ node_to_add 1 4 0 (Some 2) ∷ [];
       roots = link_to 0 ∷ [];
+      links = 1;
     } in
         MayAct 1 h (9 ∷ []) (Act.Move (Place.Root 0) (link_to 0) (link_to 2)) (Some ChainNote.Unlink) }
 {}
@@ -79,17 +83,20 @@ fn keys_and_roots()
     ensures follows { let h : Heap = record {
       nodes = as_linked (node_to_add 0 3 0 None) ∷ node_to_add 1 5 0 None ∷ [];
       roots = null ∷ link_to 0 ∷ [];
+      links = 1;
     } in
         FollowsOn 2 h (Place.Root 1) 5 × FollowsOn 2 h (Place.Next 0) 5 × (¬ FollowsOn 2 h (Place.Root 0) 5) × (¬ FollowsOn 2 h (Place.Next 0) 4)
         × (¬ FollowsOn 2 h (Place.Next 0) 3) × (¬ FollowsOn 2 h (Place.Next 1) 7) }
     ensures above { let h : Heap = record {
       nodes = as_linked (node_to_add 0 3 0 None) ∷ node_to_add 1 5 0 None ∷ [];
       roots = null ∷ link_to 0 ∷ [];
+      links = 1;
     } in
         IsAbove h None 5 × IsAbove h (Some 0) 2 × (¬ IsAbove h (Some 0) 3) × (key_of h 0 ≡ 3) × (key_of h 2 ≡ 0) }
     ensures present { let h : Heap = record {
       nodes = as_linked (node_to_add 0 3 0 None) ∷ node_to_add 1 5 0 None ∷ [];
       roots = null ∷ link_to 0 ∷ [];
+      links = 1;
     } in
         IsPresent 2 h 3 × IsOnNoChain h 1 }
 {}

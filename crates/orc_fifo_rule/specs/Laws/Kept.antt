@@ -7,10 +7,10 @@ use Rattle.orc_heap.specs.Allowed.{IsLinkedNode, MovesLinked, Rises}
 use Rattle.orc_heap.specs.Heap.{Heap, HeapNumbers, null}
 use Rattle.orc_heap.specs.Journals.{FitsAfter, IsPlain, IsPlainAct, run_heap, event_by}
 use Rattle.orc_heap.specs.declared.events.Act.{Act}
-use Rattle.orc_heap.specs.declared.events.Act.TheVariants.{Aim, Fill, Give, Look, Miss, Move}
+use Rattle.orc_heap.specs.declared.events.Act.TheVariants.{Aim, Fill, Give, Look, Miss, Move, AimSide}
 use Rattle.orc_heap.specs.declared.events.Event.{Event}
 use Rattle.orc_heap.specs.declared.events.Link.{Link}
-use Rattle.orc_heap.specs.declared.events.Place.TheVariants.{Next, Root}
+use Rattle.orc_heap.specs.declared.events.Place.TheVariants.{Next, Root, Side}
 use Rattle.orc_history.specs.QueueHistory.{IsLegalQueue, waiting_after}
 use Rattle.orc_fifo_rule.specs.declared.fifo.FifoNote.{FifoNote}
 use Rattle.orc_fifo_rule.specs.declared.fifo.FifoNote.TheVariants.{Begin}
@@ -41,6 +41,7 @@ plain_moves_linked : (act : Act) (h : Heap) → IsPlainAct act → MovesLinked a
 plain_moves_linked Give h p = tt
 plain_moves_linked (Fill id which value) h p = tt
 plain_moves_linked (Aim id to) h p = tt
+plain_moves_linked (AimSide id to) h p = tt
 plain_moves_linked (Look place link) h p = tt
 plain_moves_linked (Move place from to) h p = absurd p
 plain_moves_linked (Miss place wanted found) h p = tt
@@ -66,6 +67,7 @@ plain_begins : (act : Act) → IsPlainAct act → BeginsIfMoves act None
 plain_begins Give p = tt
 plain_begins (Fill id which value) p = tt
 plain_begins (Aim id to) p = tt
+plain_begins (AimSide id to) p = tt
 plain_begins (Look place link) p = tt
 plain_begins (Move place from to) p = absurd p
 plain_begins (Miss place wanted found) p = tt
@@ -74,6 +76,8 @@ plain_is_no_begin : (r : ℕ) (act : Act) → is_begin_of r act None ≡ true �
 plain_is_no_begin r Give e = cc
 plain_is_no_begin r (Fill id which value) e = cc
 plain_is_no_begin r (Aim id to) e = cc
+plain_is_no_begin r (AimSide id to) e = cc
+plain_is_no_begin r (Move (Side t) from to) e = cc
 plain_is_no_begin r (Look place link) e = cc
 plain_is_no_begin r (Move (Root q) from to) e = cc
 plain_is_no_begin r (Move (Next t) from to) e = cc

@@ -6,10 +6,10 @@ use Rattle.orc_heap.specs.Acts.{Fits, heap_after}
 use Rattle.orc_heap.specs.Heap.{Heap, HeapNumbers, new_heap, shown, link_to}
 use Rattle.orc_heap.specs.Journals.{IsLawful, IsLawfulFrom, run_from, run_heap}
 use Rattle.orc_heap.specs.declared.events.Act.{Act}
-use Rattle.orc_heap.specs.declared.events.Act.TheVariants.{Aim, Fill, Give, Look, Miss, Move}
+use Rattle.orc_heap.specs.declared.events.Act.TheVariants.{Aim, Fill, Give, Look, Miss, Move, AimSide}
 use Rattle.orc_heap.specs.declared.events.Event.{Event}
 use Rattle.orc_heap.specs.declared.events.Link.{Link}
-use Rattle.orc_heap.specs.declared.events.Place.TheVariants.{Next, Root}
+use Rattle.orc_heap.specs.declared.events.Place.TheVariants.{Next, Root, Side}
 use Rattle.orc_history.specs.declared.queue.QueueEntry.TheVariants.{Put}
 use Rattle.orc_fifo_rule.specs.declared.fifo.FifoNote.{FifoNote}
 use Rattle.orc_fifo_rule.specs.declared.fifo.FifoNote.TheVariants.{Begin, Entry, Swing}
@@ -24,17 +24,23 @@ aim_roots : (agent id : ℕ) (to : Option ℕ) (h : Heap) → (heap_after agent 
 aim_roots agent id None h = refl
 aim_roots agent id (Some i) h = refl
 
+side_roots : (agent id : ℕ) (to : Option ℕ) (h : Heap) → (heap_after agent (AimSide id to) h).roots ≡ h.roots
+side_roots agent id None h = refl
+side_roots agent id (Some i) h = refl
+
 -- a root that names node 0 still does after a Begin
 still_zero : (agent : ℕ) (act : Act) (noted : Option FifoNote) (h : Heap) (r : ℕ) → BeginsIfMoves act noted → shown h (Root r) ≡ Some (link_to 0)
     → shown (heap_after agent act h) (Root r) ≡ Some (link_to 0)
 still_zero agent Give noted h r b at = at
 still_zero agent (Fill id which value) noted h r b at = at
 still_zero agent (Aim id to) noted h r b at = ap (λ (l : List Link). slice_get l r) (aim_roots agent id to h) ∙ at
+still_zero agent (AimSide id to) noted h r b at = ap (λ (l : List Link). slice_get l r) (side_roots agent id to h) ∙ at
 still_zero agent (Look place link) noted h r b at = at
 still_zero agent (Miss place wanted found) noted h r b at = at
 still_zero agent (Move (Root q) from to) noted h r b at =
     elim (root_either agent q r from to h (link_to 0) at) [ inl c ↦ c.1 ∙ ap (λ (l : Link). Some l) b.2 | inr c ↦ c.1 ]
 still_zero agent (Move (Next t) from to) noted h r b at = absurd b
+still_zero agent (Move (Side t) from to) noted h r b at = absurd b
 
 -- after its Begin a root names node 0
 begin_zero : (agent : ℕ) (act : Act) (noted : Option FifoNote) (h : Heap) (r : ℕ) → BeginsIfMoves act noted → Fits agent act h
@@ -47,6 +53,8 @@ begin_zero agent (Move (Root q) from to) (Some Swing) h r b fits is = cc
 begin_zero agent (Move (Root q) from to) (Some (Entry entry)) h r b fits is = cc
 begin_zero agent (Move (Root q) from to) None h r b fits is = cc
 begin_zero agent (Move (Next t) from to) noted h r b fits is = absurd b
+begin_zero agent (Move (Side t) from to) noted h r b fits is = absurd b
+begin_zero agent (AimSide id to) noted h r b fits is = cc
 begin_zero agent Give noted h r b fits is = cc
 begin_zero agent (Fill id which value) noted h r b fits is = cc
 begin_zero agent (Aim id to) noted h r b fits is = cc

@@ -23,8 +23,8 @@ fn the_opening()
         ∷ event_by 0 (Act.Fill 0 1 5) None
         ∷ event_by 0 (Act.Move (Place.Root 0) null (link_to 0)) (Some FifoNote.Begin)
         ∷ event_by 0 (Act.Move (Place.Root 1) null (link_to 0)) (Some FifoNote.Begin) ∷ [] in
-        AllAllowed (FifoMay (record { roots = 2 })) [] es × (has_begun es ≡ true) × (entries_of es ≡ [])
-        × (position_of (run_heap (record { roots = 2 }) es) 0 ≡ 5) }
+        AllAllowed (FifoMay (record { roots = 2; links = 1 })) [] es × (has_begun es ≡ true) × (entries_of es ≡ [])
+        × (position_of (run_heap (record { roots = 2; links = 1 }) es) 0 ≡ 5) }
 {}
 
 // Then agent 1 puts job 7 with its node 1 and swings the tail, and agent 2 takes the job and finds nothing more.
@@ -41,27 +41,29 @@ fn a_job_goes_through_the_queue()
         ∷ event_by 1 (Act.Move (Place.Root 1) (link_to 0) (link_to 1)) (Some FifoNote.Swing)
         ∷ event_by 2 (Act.Move (Place.Root 0) (link_to 0) (link_to 1)) (Some (FifoNote.Entry (QueueEntry.Took 2 7 5)))
         ∷ event_by 2 (Act.Look (Place.Next 1) null) (Some (FifoNote.Entry (QueueEntry.Empty 2))) ∷ [] in
-        AllAllowed (FifoMay (record { roots = 2 })) [] es
+        AllAllowed (FifoMay (record { roots = 2; links = 1 })) [] es
         × (entries_of es ≡ QueueEntry.Put 1 7 5 ∷ QueueEntry.Took 2 7 5 ∷ QueueEntry.Empty 2 ∷ [])
         × (links_made es 0 ≡ 2) × (links_made es 1 ≡ 3) × (links_made es 2 ≡ 0) × (swings_in es ≡ 1)
         × (tooks_in (entries_of es) ≡ 1) × (entries_of_others 2 (entries_of es) ≡ QueueEntry.Put 1 7 5 ∷ [])
         × (moves_in es ≡ 5) × (moves_in (off_the_head es) ≡ 3)
-        × (position_of (run_heap (record { roots = 2 }) es) 1 ≡ 6) }
+        × (position_of (run_heap (record { roots = 2; links = 1 }) es) 1 ≡ 6) }
 {}
 
 // Head and tail name the dummy, node 0, and node 1 of job 7 at position 5 is linked behind it: the tail lags. Root
 // 1 may swing to node 1 alone, no job may be taken yet, and nobody may say that the queue is empty.
 fn while_the_tail_lags()
     ensures allowed { let h : Heap = record {
-      nodes = record { giver = 0; first = None; second = Some 5; link = link_to 1; named = true; linked = true }
-          ∷ record { giver = 1; first = Some 7; second = Some 6; link = null; named = true; linked = true } ∷ [];
+      nodes = record { giver = 0; first = None; second = Some 5; link = link_to 1; side = null; named = true; linked = true }
+          ∷ record { giver = 1; first = Some 7; second = Some 6; link = null; side = null; named = true; linked = true } ∷ [];
       roots = link_to 0 ∷ link_to 0 ∷ [];
+      links = 1;
     } in
         MayAct h (Act.Move (Place.Root 1) (link_to 0) (link_to 1)) (Some FifoNote.Swing) × WasNamed h 1 0 }
     ensures refused { let h : Heap = record {
-      nodes = record { giver = 0; first = None; second = Some 5; link = link_to 1; named = true; linked = true }
-          ∷ record { giver = 1; first = Some 7; second = Some 6; link = null; named = true; linked = true } ∷ [];
+      nodes = record { giver = 0; first = None; second = Some 5; link = link_to 1; side = null; named = true; linked = true }
+          ∷ record { giver = 1; first = Some 7; second = Some 6; link = null; side = null; named = true; linked = true } ∷ [];
       roots = link_to 0 ∷ link_to 0 ∷ [];
+      links = 1;
     } in
         (¬ MayAct h (Act.Move (Place.Root 1) (link_to 0) (link_to 2)) (Some FifoNote.Swing))
         × (¬ MayAct h (Act.Move (Place.Root 0) (link_to 0) (link_to 1)) (Some FifoNote.Swing))
@@ -74,18 +76,22 @@ fn while_the_tail_lags()
 // Node 1 holds job 7 with the last second value that a Put may give, and with the first that it may not.
 fn positions_end()
     ensures last { let h : Heap = record {
-      nodes = record { giver = 0; first = None; second = Some (2 ^ 62 - 1); link = null; named = true; linked = true } ∷ node_to_put 1 7 (2 ^ 62 - 1) ∷ [];
+      nodes = record { giver = 0; first = None; second = Some (2 ^ 62 - 1); link = null; side = null; named = true; linked = true }
+          ∷ node_to_put 1 7 (2 ^ 62 - 1) ∷ [];
       roots = link_to 0 ∷ link_to 0 ∷ [];
+      links = 1;
     } in
         MayAct h (Act.Move (Place.Next 0) null (link_to 1)) (Some (FifoNote.Entry (QueueEntry.Put 1 7 (2 ^ 62 - 1)))) }
     ensures beyond { let h : Heap = record {
-      nodes = record { giver = 0; first = None; second = Some (2 ^ 62); link = null; named = true; linked = true } ∷ node_to_put 1 7 (2 ^ 62) ∷ [];
+      nodes = record { giver = 0; first = None; second = Some (2 ^ 62); link = null; side = null; named = true; linked = true } ∷ node_to_put 1 7 (2 ^ 62) ∷ [];
       roots = link_to 0 ∷ link_to 0 ∷ [];
+      links = 1;
     } in
         ¬ MayAct h (Act.Move (Place.Next 0) null (link_to 1)) (Some (FifoNote.Entry (QueueEntry.Put 1 7 (2 ^ 62)))) }
     ensures another { let h : Heap = record {
-      nodes = record { giver = 0; first = None; second = Some 5; link = null; named = true; linked = true } ∷ node_to_put 1 7 6 ∷ [];
+      nodes = record { giver = 0; first = None; second = Some 5; link = null; side = null; named = true; linked = true } ∷ node_to_put 1 7 6 ∷ [];
       roots = link_to 0 ∷ link_to 0 ∷ [];
+      links = 1;
     } in
         ¬ MayAct h (Act.Move (Place.Next 0) null (link_to 1)) (Some (FifoNote.Entry (QueueEntry.Put 1 7 5))) }
 {}
@@ -93,10 +99,16 @@ fn positions_end()
 // A Move needs a note, an Aim a null target; a note needs its kind of event, the two Begins before it, and an entry
 // of the event's agent with which the history stays legal.
 fn refusals()
-    ensures without_a_note { ¬ MayAct (record { nodes = []; roots = null ∷ null ∷ [] }) (Act.Move (Place.Root 0) null (link_to 0)) None }
-    ensures aimed { ¬ MayAct (record { nodes = []; roots = null ∷ null ∷ [] }) (Act.Aim 1 (Some 0)) None }
-    ensures aimed_at_none { MayAct (record { nodes = []; roots = null ∷ null ∷ [] }) (Act.Aim 1 None) None }
-    ensures note_on_a_give { ¬ MayAct (record { nodes = []; roots = null ∷ null ∷ [] }) Act.Give (Some FifoNote.Begin) }
+    ensures without_a_note { ¬ MayAct (record { nodes = []; roots = null ∷ null ∷ []; links = 1 }) (Act.Move (Place.Root 0) null (link_to 0)) None }
+    ensures aimed { ¬ MayAct (record { nodes = []; roots = null ∷ null ∷ []; links = 1 }) (Act.Aim 1 (Some 0)) None }
+    ensures aimed_at_none { MayAct (record { nodes = []; roots = null ∷ null ∷ []; links = 1 }) (Act.Aim 1 None) None }
+    ensures note_on_a_give { ¬ MayAct (record { nodes = []; roots = null ∷ null ∷ []; links = 1 }) Act.Give (Some FifoNote.Begin) }
+    ensures put_at_a_second_link { let h : Heap = record {
+      nodes = record { giver = 0; first = None; second = Some 5; link = null; side = null; named = true; linked = true } ∷ node_to_put 1 7 5 ∷ [];
+      roots = link_to 0 ∷ link_to 0 ∷ [];
+      links = 2;
+    } in
+        ¬ MayAct h (Act.Move (Place.Side 0) null (link_to 1)) (Some (FifoNote.Entry (QueueEntry.Put 1 7 5))) }
     ensures too_early { ¬ IsInTime false (Some FifoNote.Swing) }
     ensures of_another_agent { ¬ MayEnter 5 [] 1 (Some (FifoNote.Entry (QueueEntry.Empty 2))) }
     ensures not_legal { ¬ MayEnter 5 [] 1 (Some (FifoNote.Entry (QueueEntry.Put 1 7 6))) }
@@ -107,5 +119,10 @@ fn links()
     ensures leads { let es : List (Event FifoNote) =
         event_by 1 (Act.Move (Place.Next 0) null (link_to 1)) (Some (FifoNote.Entry (QueueEntry.Put 1 7 5))) ∷ [] in
         LeadsOn es 5 (link_to 1) × LeadsOn es 5 null × (¬ LeadsOn es 6 (link_to 1)) × (¬ LeadsOn es 5 (record { to = Some 1; mark = true })) }
-    ensures position { position_of (record { nodes = record { giver = 0; first = None; second = None; link = null; named = true; linked = true } ∷ []; roots = [] }) 0 ≡ 0 }
+    ensures position { let h : Heap = record {
+      nodes = record { giver = 0; first = None; second = None; link = null; side = null; named = true; linked = true } ∷ [];
+      roots = [];
+      links = 1;
+    } in
+        position_of h 0 ≡ 0 }
 {}

@@ -31,8 +31,8 @@ fn later_events()
     ensures of_others { Later (λ (seen : List (Event ℕ)) e. e.agent ≡ 2) 1 [] (record { agent = 2; act = Act.Give; note = None } ∷ []) }
     ensures of_its_own { ¬ Later (λ (seen : List (Event ℕ)) e. e.agent ≡ 2) 2 [] (record { agent = 2; act = Act.Give; note = None } ∷ []) }
     ensures not_allowed { ¬ AllAllowed (λ (seen : List (Event ℕ)) e. e.agent ≡ 2) [] (record { agent = 1; act = Act.Give; note = None } ∷ []) }
-    ensures at_a_root { MovesLinked (Act.Move (Place.Root 0) null null) (record { nodes = []; roots = null ∷ [] }) }
-    ensures at_no_node { ¬ MovesLinked (Act.Move (Place.Next 0) null null) (record { nodes = []; roots = null ∷ [] }) }
+    ensures at_a_root { MovesLinked (Act.Move (Place.Root 0) null null) (record { nodes = []; roots = null ∷ []; links = 1 }) }
+    ensures at_no_node { ¬ MovesLinked (Act.Move (Place.Next 0) null null) (record { nodes = []; roots = null ∷ []; links = 1 }) }
 {}
 
 // Steps are numbers, each the number of its agent. A call of agent 1 saw the steps 2 1 2 1 beyond the first two.
@@ -97,5 +97,5 @@ fn moves_of_places()
         (record { agent = 1; act = Act.Give; note = None } ∷ record { agent = 1; act = Act.Move (Place.Root 1) null null; note = None } ∷ []) ≡ 1 }
     ensures own { from_own {N = ℕ} 2 (record { agent = 1; act = Act.Give; note = None } ∷ record { agent = 2; act = Act.Give; note = None } ∷ [])
         ≡ record { agent = 2; act = Act.Give; note = None } ∷ [] }
-    ensures unlinked { ¬ IsLinkedPlace (Place.Next 0) (record { nodes = new_node 3 ∷ []; roots = [] }) }
+    ensures unlinked { ¬ IsLinkedPlace (Place.Next 0) (record { nodes = new_node 3 ∷ []; roots = []; links = 1 }) }
 {}

@@ -15,5 +15,5 @@ fn openings()
         ∷ opening_event (Act.Move (Place.Root 1) (record { to = None; mark = false }) (record { to = Some 0; mark = false })) (Some 4)
         ∷ [] }
     ensures by_agent_0 { opening_event {N = ℕ} Act.Give None ≡ record { agent = 0; act = Act.Give; note = None } }
-    ensures one_root { ¬ HasRoots {N = ℕ} (record { roots = 1 }) (Seed.Dummy 5 4) }
+    ensures one_root { ¬ HasRoots {N = ℕ} (record { roots = 1; links = 1 }) (Seed.Dummy 5 4) }
 {}

@@ -4,7 +4,7 @@ use Rattle.orc_heap.specs.Acts.{as_linked}
 use Rattle.orc_heap.specs.Heap.{Heap, link_to, null, shown}
 use Rattle.orc_heap.specs.declared.events.Link.{Link}
 use Rattle.orc_heap.specs.declared.events.Place.{Place}
-use Rattle.orc_heap.specs.declared.events.Place.TheVariants.{Next, Root}
+use Rattle.orc_heap.specs.declared.events.Place.TheVariants.{Next, Root, Side}
 use Rattle.orc_chain_rule.specs.ChainDiscipline.{IsPath}
 use Rattle.orc_chain_rule.specs.Watches.{node_to_add}
 use Rattle.orc_chain_rule.specs.Laws.Kinds.{key_one}
@@ -30,7 +30,7 @@ returns-clause-above c = (
 )
 
 abbrev two : Heap
-two = record { nodes = as_linked (node_to_add 0 3 0 None) ∷ node_to_add 1 5 0 None ∷ []; roots = null ∷ link_to 0 ∷ [] }
+two = record { nodes = as_linked (node_to_add 0 3 0 None) ∷ node_to_add 1 5 0 None ∷ []; roots = null ∷ link_to 0 ∷ []; links = 1 }
 
 -- no place has a link to node 1
 apart : (p : Place) (link : Link) → shown two p ≡ Some link → link.to ≡ Some 1 → ⊥
@@ -41,6 +41,7 @@ apart (Root (suc (suc r))) link at to = let bad : ◌≡◌ {A = Option Link} No
 apart (Next zero) link at to = let bad : ◌≡◌ {A = Option ℕ} None (Some 1) = ap (λ (l : Link). l.to) (some_same at) ∙ to in cc
 apart (Next (suc zero)) link at to = let bad : ◌≡◌ {A = Option ℕ} None (Some 1) = ap (λ (l : Link). l.to) (some_same at) ∙ to in cc
 apart (Next (suc (suc id))) link at to = let bad : ◌≡◌ {A = Option Link} None (Some link) = at in cc
+apart (Side id) link at to = let bad : ◌≡◌ {A = Option Link} None (Some link) = at in cc
 
 no_path : (p : Place) (ids : List ℕ) → IsPath two p ids (Some 1) → ⊥
 no_path p [] path = apart p path.link path.at path.to_is

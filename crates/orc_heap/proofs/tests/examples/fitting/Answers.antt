@@ -7,3 +7,6 @@ returns-clause-its_own c = (record { node = new_node 3; there = refl; mine = ref
 
 pub returns-clause-reaches : goal.returns-clause-reaches
 returns-clause-reaches c = (refl, record { node = new_node 3; there = refl; known = inl refl })
+
+pub returns-clause-second_link : goal.returns-clause-second_link
+returns-clause-second_link c = (record { node = new_node 3; there = refl; mine = refl; unlinked = refl }, tt, omega arith)
