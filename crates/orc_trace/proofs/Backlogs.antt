@@ -1,5 +1,5 @@
 -- The backlog is what waits with the agents: each retired row in no work list is in one handover word, hand, scan or doom, and what is there is retired.
-use Rattle.std.proofs.Common.{Bool, List, [], ap, arith, false, inl, inr, refl, subst, sym, true, ℕ, suc, zero, ◌+◌, ◌-◌, ◌<◌, ◌∙◌, ◌∷◌, ◌≡◌, ◌≢◌, ◌≤◌}
+use Rattle.std.proofs.Common.{Bool, List, ap, arith, false, refl, sym, true, ℕ, suc, zero, ◌+◌, ◌-◌, ◌<◌, ◌∙◌, ◌≡◌, ◌≢◌, ◌≤◌}
 use Rattle.std.proofs.lemmas.Bool.{eq-eqb, eqb-false, eqb-true, false≢true}
 use Rattle.std.specs.List.{list_any}
 use Rattle.std.specs.Prelude.{None, Option, Some, is_some, not, ◌&&◌, ◌==◌, ◌||◌}
@@ -18,7 +18,6 @@ use Rattle.orc_core.specs.declared.records.Scan.{Scan}
 use Rattle.orc_sound.proofs.AllFits.{AllFits, run_fits}
 use Rattle.orc_sound.proofs.ForRuns.{run_sound}
 use Rattle.orc_sound.proofs.Found.{some_listed}
-use Rattle.orc_sound.proofs.Rows.{RowsFit}
 use Rattle.orc_sound.proofs.Shown.{below_none, word_shown}
 use Rattle.orc_sound.proofs.Sums.{sum_add, sum_point, sum_same, sum_swap, sum_zero}
 use Rattle.orc_sound.proofs.World.{world_of}
@@ -26,7 +25,7 @@ use Rattle.orc_sound.specs.Backlog.{backlog, is_listed}
 use Rattle.orc_sound.specs.Doomed.{dooms}
 use Rattle.orc_sound.specs.RetirementToken.{dooming, listings, places_of, tokens}
 use Rattle.orc_sound.specs.Sound.{IsSound}
-use Rattle.orc_trace.specs.Watched.{has_bit, waiting, waiting_at}
+use Rattle.orc_trace.specs.Watched.{has_bit, waiting}
 
 -- the parts of a record, but for its work list, that have the row
 abbrev parts : Agent → ℕ → ℕ

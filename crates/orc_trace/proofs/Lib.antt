@@ -2,7 +2,8 @@ pub mod Plays
 pub mod Unique
 pub mod Verdicts
 pub mod Resting
-pub mod Marks
+pub mod Reached
+pub mod LeastLeak
 pub mod Backlogs
 pub mod Watching
 pub mod OneAudit

@@ -1,13 +1,12 @@
 -- A trace has one audit, and bytes with an audit are refused for nothing.
-use Rattle.std.proofs.Common.{Bool, List, [], ap₂, arith, false, inl, inr, length, refl, subst, sym, true, ℕ, Result, Ok, Err, ◌<◌, ◌∙◌, ◌≡◌, ◌≢◌, ◌≤◌, ◌⊎◌}
+use Rattle.std.proofs.Common.{Bool, List, ap₂, arith, false, inl, inr, length, refl, subst, sym, true, ℕ, Result, Ok, Err, ◌<◌, ◌∙◌, ◌≡◌, ◌≢◌, ◌≤◌, ◌⊎◌}
 use Rattle.std.proofs.lemmas.Bool.{ltb-true}
 use Rattle.std.specs.Prelude.{IfErr, IfOk, MatchResult, None, Option, Some, nat_lt}
 use Rattle.orc_words.specs.Bounds.{Bounds}
 use Rattle.orc_core.specs.Counts.{census_of}
-use Rattle.orc_core.specs.Machine.{Machine, new_machine}
+use Rattle.orc_core.specs.Machine.{new_machine}
 use Rattle.orc_core.specs.Runs.{run}
 use Rattle.orc_core.specs.declared.ops.Op.{Op}
-use Rattle.orc_sound.specs.Backlog.{backlog}
 use Rattle.orc_trace.proofs.Unique.{refusal-unique, replay-not_refused, steps-unique}
 use Rattle.orc_trace.proofs.Verdicts.{memory-or}
 use Rattle.orc_trace.specs.Audit.{Audits, IsAudit, IsFirstLeak, IsWorst, Leaks, after_steps}

@@ -1,5 +1,5 @@
 -- The tests by which a state is seen to be at rest.
-use Rattle.std.proofs.Common.{Bool, List, [], ap, arith, false, length, refl, sym, true, ℕ, ◌+◌, ◌<◌, ◌∙◌, ◌∷◌, ◌≡◌, ◌≤◌}
+use Rattle.std.proofs.Common.{Bool, List, [], ap, arith, false, refl, sym, true, ℕ, ◌<◌, ◌∙◌, ◌∷◌, ◌≡◌, ◌≤◌}
 use Rattle.std.proofs.lemmas.Bool.{eq-eqb, eqb-true, false≢true}
 use Rattle.std.proofs.lemmas.List.{nil_from_length}
 use Rattle.std.specs.List.{list_any}
@@ -14,7 +14,7 @@ use Rattle.orc_core.specs.declared.records.Agent.{Agent}
 use Rattle.orc_core.specs.declared.records.SlotUse.{SlotUse}
 use Rattle.orc_core.specs.declared.records.SlotUse.TheVariants.{Empty, Held, Published}
 use Rattle.orc_rest.specs.Rest.{IsAtRest, IsResting}
-use Rattle.orc_sound.proofs.Decided.{all_hold, all_there, is_not, not_is}
+use Rattle.orc_sound.proofs.Decided.{all_hold, all_there, not_is}
 use Rattle.orc_sound.proofs.Sums.{sum_member, sum_same, sum_zero}
 use Rattle.orc_trace.specs.Watched.{at_rest, is_held, rests, rests_at}
 

@@ -91,7 +91,7 @@ record Reached (bytes : List ℕ) (b : Bounds) (front : List (ℕ × Op)) (e : E
   end : Ends b (run (new_machine b) front) rest e
 
 shape_line : (b : Bounds) (lines bytes : List ℕ) → HasTable b lines bytes → HasShapeLine b lines bytes
-shape_line b lines bytes h = record { text = h.text; wide = wide-shape b h.shape }
+shape_line b lines bytes h = record { line = h.line; spells = h.spells; text = h.text; wide = wide-shape b h.shape }
 
 one_reached : (bytes : List ℕ) (b c : Bounds) (front back : List (ℕ × Op)) (e f : End) → Reached bytes b front e → Reached bytes c back f
     → (b ≡ c) × (front ≡ back) × (e ≡ f)
@@ -125,6 +125,7 @@ shape_fault bytes word.Rows h = inr h
 shape_fault bytes word.Roots h = inr h
 shape_fault bytes word.Agents h = inr h
 shape_fault bytes word.Limit h = inr h
+shape_fault bytes word.Links h = inr h
 
 not_out : (b : Bounds) (w : ShapeWord) → IsShape b → IsFirstOut b w → ⊥
 not_out b word.Unreadable s h = h
@@ -132,6 +133,7 @@ not_out b word.Rows s h = h.1 s.rows
 not_out b word.Roots s h = h.2 s.roots
 not_out b word.Agents s h = h.3 s.agents
 not_out b word.Limit s h = h.4 s.limit
+not_out b word.Links s h = h.5 s.links
 
 one_out : (b : Bounds) (w v : ShapeWord) → IsFirstOut b w → IsFirstOut b v → w ≡ v
 one_out b word.Unreadable v h k = absurd h
@@ -140,18 +142,27 @@ one_out b word.Rows word.Rows h k = refl
 one_out b word.Rows word.Roots h k = absurd (h.1 k.1)
 one_out b word.Rows word.Agents h k = absurd (h.1 k.1)
 one_out b word.Rows word.Limit h k = absurd (h.1 k.1)
+one_out b word.Rows word.Links h k = absurd (h.1 k.1)
 one_out b word.Roots word.Rows h k = absurd (k.1 h.1)
 one_out b word.Roots word.Roots h k = refl
 one_out b word.Roots word.Agents h k = absurd (h.2 k.2)
 one_out b word.Roots word.Limit h k = absurd (h.2 k.2)
+one_out b word.Roots word.Links h k = absurd (h.2 k.2)
 one_out b word.Agents word.Rows h k = absurd (k.1 h.1)
 one_out b word.Agents word.Roots h k = absurd (k.2 h.2)
 one_out b word.Agents word.Agents h k = refl
 one_out b word.Agents word.Limit h k = absurd (h.3 k.3)
+one_out b word.Agents word.Links h k = absurd (h.3 k.3)
 one_out b word.Limit word.Rows h k = absurd (k.1 h.1)
 one_out b word.Limit word.Roots h k = absurd (k.2 h.2)
 one_out b word.Limit word.Agents h k = absurd (k.3 h.3)
 one_out b word.Limit word.Limit h k = refl
+one_out b word.Limit word.Links h k = absurd (h.4 k.4)
+one_out b word.Links word.Rows h k = absurd (k.1 h.1)
+one_out b word.Links word.Roots h k = absurd (k.2 h.2)
+one_out b word.Links word.Agents h k = absurd (k.3 h.3)
+one_out b word.Links word.Limit h k = absurd (k.4 h.4)
+one_out b word.Links word.Links h k = refl
 
 one_shape_fault : (bytes : List ℕ) (w v : ShapeWord) → IsShapeFault bytes w → IsShapeFault bytes v → w ≡ v
 one_shape_fault bytes w v h k = elim (shape_fault bytes w h) [

@@ -20,6 +20,7 @@ shape_word word.Rows = codes "rows"
 shape_word word.Roots = codes "roots"
 shape_word word.Agents = codes "agents"
 shape_word word.Limit = codes "limit"
+shape_word word.Links = codes "links"
 
 -- the line of a fault; want of memory writes nothing
 abbrev pub fault_line : TraceFault → List ℕ

@@ -3,8 +3,8 @@ use Rattle.std.specs.List.{range_with_len}
 use Rattle.std.specs.Prelude.{List, None, Option, Some, [], length, map, take, true, ℕ, ◌<◌, ◌∷◌, ◌≡◌, ◌≤◌}
 use Rattle.orc_words.specs.Bounds.{Bounds}
 use Rattle.orc_words.specs.Packed.{gate_of}
-use Rattle.orc_words.specs.declared.place.Word.TheVariants.{Gate, Next}
-use Rattle.orc_core.specs.Counts.{is_root_target, links_to}
+use Rattle.orc_words.specs.declared.place.Word.TheVariants.{Gate}
+use Rattle.orc_core.specs.Counts.{is_root_target, some_links_to}
 use Rattle.orc_core.specs.Machine.{Machine, new_machine, word_in}
 use Rattle.orc_core.specs.Runs.{run}
 use Rattle.orc_core.specs.declared.ops.Op.{Op}
@@ -16,10 +16,10 @@ use Rattle.orc_trace.specs.declared.answers.Audit.{Audit}
 use Rattle.orc_trace.specs.declared.answers.Leak.{Leak}
 use Rattle.orc_trace_text.specs.FirstLines.{HasTable}
 
--- link words lead from a root over these rows, the last of them first, to the row
+-- link words lead from a root over these rows, the last of them first, to the row; from each by any of its links
 abbrev pub IsWay : Machine → List ℕ → ℕ → Type 0
 IsWay m [] r = is_root_target m r ≡ true
-IsWay m (j ∷ js) r = IsWay m js j × (j < m.bounds.rows) × (links_to (word_in m (Next j)) r ≡ true)
+IsWay m (j ∷ js) r = IsWay m js j × (j < m.bounds.rows) × (some_links_to m j r m.bounds.links ≡ true)
 
 -- link words lead from some root to the row
 pub record IsLinkedToARoot (m : Machine) (r : ℕ) : Type 0 where

@@ -1,11 +1,10 @@
 -- What is seen of a state while a trace is audited, and what is seen of the steps so far.
 use Rattle.std.specs.List.{list_any}
-use Rattle.std.specs.Prelude.{Bool, List, None, Option, Some, false, is_none, is_some, length, not, true, ℕ, ◌&&◌, ◌+◌, ◌<◌, ◌==◌, ◌≡◌, ◌≤◌, slice_index_or}
+use Rattle.std.specs.Prelude.{Bool, List, None, Option, Some, false, is_none, is_some, length, not, true, ℕ, ◌&&◌, ◌+◌, ◌<◌, ◌==◌, ◌≡◌, ◌≤◌}
 use Rattle.orc_words.specs.Bounds.{Bounds}
 use Rattle.orc_words.specs.Packed.{bit}
-use Rattle.orc_words.specs.declared.place.Word.TheVariants.{Next}
-use Rattle.orc_core.specs.Counts.{handovers, is_out, links_to}
-use Rattle.orc_core.specs.Machine.{Machine, record_at, word_in}
+use Rattle.orc_core.specs.Counts.{handovers, is_out}
+use Rattle.orc_core.specs.Machine.{Machine, record_at}
 use Rattle.orc_core.specs.Sums.{sum_below}
 use Rattle.orc_core.specs.declared.ops.Op.{Op}
 use Rattle.orc_core.specs.declared.records.Agent.{Agent}
@@ -13,7 +12,8 @@ use Rattle.orc_core.specs.declared.records.Doom.{Doom}
 use Rattle.orc_core.specs.declared.records.SlotUse.{SlotUse}
 use Rattle.orc_core.specs.declared.records.SlotUse.TheVariants.{Empty, Held, Published}
 use Rattle.orc_sound.specs.Decisions.{all_below}
-use Rattle.orc_trace.specs.Audit.{IsFirstLeak, IsLinkedToARoot, IsWorst, Leaks}
+use Rattle.orc_trace.specs.Audit.{IsFirstLeak, IsWorst, Leaks}
+use Rattle.orc_trace.specs.Reaching.{is_marked}
 use Rattle.orc_trace.specs.declared.answers.Leak.{Leak}
 use Rattle.orc_trace.specs.declared.auditing.Seen.{Seen}
 
@@ -49,22 +49,6 @@ rests_at m a = rests (record_at m a) && (handovers m a == 0)
 -- the same of all agents
 abbrev pub at_rest : Machine → Bool
 at_rest m = all_below m.bounds.agents (rests_at m)
-
--- the row is marked
-abbrev pub is_marked : List Bool → ℕ → Bool
-is_marked marks r = slice_index_or marks r false
-
--- a mark for each row, of rows to which link words lead from the roots; and what a marked row links is marked
-pub record AreMarks (m : Machine) (marks : List Bool) : Type 0 where
-  pub long : length marks ≡ m.bounds.rows
-  pub reached : (r : ℕ) → is_marked marks r ≡ true → IsLinkedToARoot m r
-  pub closed : (j r : ℕ) → j < m.bounds.rows → r < m.bounds.rows → is_marked marks j ≡ true → links_to (word_in m (Next j)) r ≡ true → is_marked marks r ≡ true
-
--- the rows to which link words lead from the roots are marked, and no other
-pub record MarksReached (m : Machine) (marks : List Bool) : Type 0 where
-  pub long : length marks ≡ m.bounds.rows
-  pub only : (r : ℕ) → is_marked marks r ≡ true → IsLinkedToARoot m r
-  pub all : (r : ℕ) → r < m.bounds.rows → IsLinkedToARoot m r → is_marked marks r ≡ true
 
 -- the row is out and has no mark
 abbrev pub is_lost : Machine → List Bool → ℕ → Bool

@@ -9,10 +9,12 @@ ghost use Rattle.orc_trace.specs.declared.answers.Audit.{Audit};
 ghost use Rattle.orc_trace.specs.declared.answers.TraceFault.{TraceFault};
 ghost use Rattle.orc_trace.specs.Audit.{IsAudit, lives_of};
 ghost use Rattle.orc_trace.specs.Replay.{Begins, IsStepFault, Refuses};
+ghost use Rattle.orc_trace.specs.Reaching.{HasRoom};
 ghost use Rattle.orc_trace.specs.Watched.{LeakOn, Sees, WorseOf, waiting};
 
 use crate::answers::{Audit, Leak, TraceFault};
 use crate::leaks::leak_in;
+use crate::reaching::Reach;
 use crate::waiting::waiting_of;
 use orc_core::{State, apply};
 use orc_fault::NoMemory;
@@ -48,8 +50,8 @@ fn audit_trace(alloc: Global, bytes: &[u8]) -> Result<Audit, TraceFault>
         Err(word) => return Err(TraceFault::Shape(word)),
     };
     let mut state = State::new(alloc, &shape)?;
-    let mut marks = new_marks(alloc, &shape)?;
-    let seen = watch(&shape, &mut state, lines, &mut marks)?;
+    let mut reach = Reach::new(alloc, &shape)?;
+    let seen = watch(&shape, &mut state, lines, &mut reach)?;
     let lives = lives_of(alloc, &state)?;
     Ok(Audit {
         steps: seen.steps,
@@ -58,13 +60,6 @@ fn audit_trace(alloc: Global, bytes: &[u8]) -> Result<Audit, TraceFault>
         lives,
         leak: seen.leak,
     })
-}
-
-// A mark for each row.
-fn new_marks(alloc: Global, shape: &Shape) -> Result<Vec<bool>, NoMemory>
-    ensures { IfOk result (λ marks. length marks.items ≡ (bounds_of shape.now).rows) }
-{
-    Ok(vec![in alloc; false; shape.rows() as usize]?)
 }
 
 // What was seen of the steps so far.
@@ -81,16 +76,16 @@ fn watch(
     shape: &Shape,
     state: &mut State,
     lines: &[u8],
-    marks: &mut [bool],
+    reach: &mut Reach,
 ) -> Result<Seen, TraceFault>
     requires new { state.old ≡ new_machine (bounds_of shape.now) }
-    requires marks { length marks.old ≡ (bounds_of shape.now).rows }
+    requires room { HasRoom reach.old (bounds_of shape.now).rows }
     ensures ok { IfOk result (λ seen. (steps : List (ℕ × Op)) × Begins (bounds_of shape.now) state.old steps [] lines.now
         × Sees (bounds_of shape.now) steps seen × (state.new ≡ run state.old steps)) }
     ensures err { IfErr result (IsStepFault (bounds_of shape.now) state.old lines.now) }
 {
     let mut rest = lines;
-    let mut seen = first_look(state, marks);
+    let mut seen = first_look(state, reach);
     while !rest.is_empty() {
         let Some((agent, op, more)) = first_step(shape, rest) else {
             return Err(TraceFault::Unreadable(seen.steps));
@@ -99,15 +94,15 @@ fn watch(
             return Err(TraceFault::NotAllowed(seen.steps));
         }
         rest = more;
-        seen = look(state, marks, seen);
+        seen = look(state, reach, seen);
     }
     Ok(seen)
 }
 
 // What is seen of the first state.
-fn first_look(state: &State, marks: &mut [bool]) -> Seen
-    requires { length marks.old ≡ state.now.bounds.rows }
-    ensures length { length marks.new ≡ length marks.old }
+fn first_look(state: &State, reach: &mut Reach) -> Seen
+    requires { HasRoom reach.old state.now.bounds.rows }
+    ensures room { HasRoom reach.new state.now.bounds.rows }
     ensures steps { result.steps ≡ 0 }
     ensures most { result.most ≡ waiting state.now }
     ensures after { result.after ≡ 0 }
@@ -117,22 +112,22 @@ fn first_look(state: &State, marks: &mut [bool]) -> Seen
         steps: 0,
         most: waiting_of(state),
         after: 0,
-        leak: first_leak(state, marks, None, 0),
+        leak: first_leak(state, reach, None, 0),
     }
 }
 
 // What has been seen with this state, which one more step left.
-fn look(state: &State, marks: &mut [bool], seen: Seen) -> Seen
-    requires marks { length marks.old ≡ state.now.bounds.rows }
+fn look(state: &State, reach: &mut Reach, seen: Seen) -> Seen
+    requires room { HasRoom reach.old state.now.bounds.rows }
     requires few { seen.steps + 1 < 2 ^ 64 }
-    ensures length { length marks.new ≡ length marks.old }
+    ensures room { HasRoom reach.new state.now.bounds.rows }
     ensures steps { result.steps ≡ seen.steps + 1 }
     ensures worst { WorseOf (waiting state.now) (seen.steps + 1) seen.most seen.after result.most result.after }
     ensures leak { LeakOn state.now (seen.steps + 1) seen.leak result.leak }
 {
     let steps = seen.steps + 1;
     let (most, after) = worse_of(waiting_of(state), steps, seen.most, seen.after);
-    let leak = first_leak(state, marks, seen.leak, steps);
+    let leak = first_leak(state, reach, seen.leak, steps);
     Seen {
         steps,
         most,
@@ -153,15 +148,15 @@ fn worse_of(backlog: u32, steps: u64, most: u32, after: u64) -> (u32, u64)
 }
 
 // The first leak before; where there was none, that of this state, after so many steps.
-fn first_leak(state: &State, marks: &mut [bool], before: Option<Leak>, steps: u64) -> Option<Leak>
-    requires { length marks.old ≡ state.now.bounds.rows }
-    ensures length { length marks.new ≡ length marks.old }
+fn first_leak(state: &State, reach: &mut Reach, before: Option<Leak>, steps: u64) -> Option<Leak>
+    requires { HasRoom reach.old state.now.bounds.rows }
+    ensures room { HasRoom reach.new state.now.bounds.rows }
     ensures leak { LeakOn state.now steps before result }
 {
     if before.is_some() {
         return before;
     }
-    match leak_in(state, marks) {
+    match leak_in(state, reach) {
         None => None,
         Some(row) => Some(Leak { after: steps, row }),
     }

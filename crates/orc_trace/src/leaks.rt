@@ -1,14 +1,13 @@
 //! Rows that leak: out while all is at rest, with no links that lead to them from the roots.
 
-ghost use Rattle.std.specs.Prelude.{◌≡◌, ◌<◌, ℕ, IfNone, IfSome, true, false, length};
+ghost use Rattle.std.specs.Prelude.{◌≡◌, ◌<◌, ℕ, IfNone, IfSome, true, false};
 ghost use Rattle.std.specs.List.{list_any};
-ghost use Rattle.orc_core.specs.Counts.{links_to};
-ghost use Rattle.orc_trace.specs.Audit.{IsLinkedToARoot, Leaks};
-ghost use Rattle.orc_trace.specs.Watched.{AreMarks, IsLeastLeak, MarksReached, at_rest, is_held, is_lost, is_marked, rests, rests_at};
+ghost use Rattle.orc_trace.specs.Reaching.{HasRoom};
+ghost use Rattle.orc_trace.specs.Watched.{IsLeastLeak, at_rest, is_held, is_lost, rests, rests_at};
 
+use crate::reaching::Reach;
 use crate::waiting::handovers_of;
 use orc_core::{Agent, SlotUse, State};
-use orc_words::{Word, named};
 
 // Whether the slot protects a row.
 fn is_held(slot: SlotUse) -> bool
@@ -62,70 +61,30 @@ fn is_at_rest(state: &State) -> bool
     rest
 }
 
-// Marks the row that a link word names, and those to which links lead from there, up to one that is marked already.
-fn mark_from(state: &State, marks: &mut [bool], word: u64)
-    requires marks { AreMarks state.now marks.old }
-    requires reached { (r : ℕ) → links_to word r ≡ true → IsLinkedToARoot state.now r }
-    ensures marks { AreMarks state.now marks.new }
-    ensures kept { (r : ℕ) → is_marked marks.old r ≡ true → is_marked marks.new r ≡ true }
-    ensures target { (r : ℕ) → r < state.now.bounds.rows → links_to word r ≡ true → is_marked marks.new r ≡ true }
-{
-    let shape = state.shape();
-    let mut next = named(word / 2);
-    while let Some(row) = next {
-        if row >= shape.rows() || marks[row as usize] {
-            return;
-        }
-        marks[row as usize] = true;
-        next = named(state.word(Word::Next(row)) / 2);
-    }
-}
-
-// Takes all marks away.
-fn clear(marks: &mut [bool])
-    ensures length { length marks.new ≡ length marks.old }
-    ensures clear { (r : ℕ) → is_marked marks.new r ≡ false }
-{
-    for row in 0..marks.len() {
-        marks[row] = false;
-    }
-}
-
-// Marks the rows to which links lead from the roots.
-fn mark_reached(state: &State, marks: &mut [bool])
-    requires { length marks.old ≡ state.now.bounds.rows }
-    ensures { MarksReached state.now marks.new }
-{
-    clear(marks);
-    for root in 0..state.shape().roots() {
-        mark_from(state, marks, state.word(Word::Root(root)));
-    }
-}
-
 // The least row that is out and has no mark.
-fn first_lost(state: &State, marks: &[bool]) -> Option<u32>
-    requires { length marks.now ≡ state.now.bounds.rows }
-    ensures some { IfSome result (λ row. (row < state.now.bounds.rows) × (is_lost state.now marks.now row ≡ true)
-        × ((r : ℕ) → r < row → is_lost state.now marks.now r ≡ false)) }
-    ensures none { IfNone result ((r : ℕ) → r < state.now.bounds.rows → is_lost state.now marks.now r ≡ false) }
+fn first_lost(state: &State, reach: &Reach) -> Option<u32>
+    requires { HasRoom reach.now state.now.bounds.rows }
+    ensures some { IfSome result (λ row. (row < state.now.bounds.rows) × (is_lost state.now reach.now.marks.items row ≡ true)
+        × ((r : ℕ) → r < row → is_lost state.now reach.now.marks.items r ≡ false)) }
+    ensures none { IfNone result ((r : ℕ) → r < state.now.bounds.rows → is_lost state.now reach.now.marks.items r ≡ false) }
 {
     for row in 0..state.shape().rows() {
-        if state.is_out(row) && !marks[row as usize] {
+        if state.is_out(row) && !reach.is_marked(row) {
             return Some(row);
         }
     }
     None
 }
 
-/// The least row that leaks. Unless the state is at rest, no row is looked at. The marks, one for each row, are written over.
-pub fn leak_in(state: &State, marks: &mut [bool]) -> Option<u32>
-    requires { length marks.old ≡ state.now.bounds.rows }
+/// The least row that leaks. Unless the state is at rest, no row is looked at. The marks are written over.
+pub fn leak_in(state: &State, reach: &mut Reach) -> Option<u32>
+    requires { HasRoom reach.old state.now.bounds.rows }
     ensures leak { IsLeastLeak state.now result }
-    ensures length { length marks.new ≡ length marks.old }
+    ensures room { HasRoom reach.new state.now.bounds.rows }
 {
     if !is_at_rest(state) {
         return None;
     }
-    mark_reached(state, marks);
-    first_lost(state, marks)
+    reach.mark_reached(state);
+    first_lost(state, reach)
 }

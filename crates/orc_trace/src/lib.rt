@@ -5,6 +5,7 @@ mod answers;
 mod auditing;
 mod leaks;
 mod playing;
+mod reaching;
 mod text;
 mod waiting;
 

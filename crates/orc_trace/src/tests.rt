@@ -1,4 +1,4 @@
-//! Traces with answers computed by hand, and a line of each form that can't be read.
+//! Traces with answers computed by hand.
 
 use super::*;
 use orc_fault::NoMemory;
@@ -6,7 +6,6 @@ use std::alloc::{AllocError, Global};
 use std::process::Abort;
 use std::test::Fail;
 
-mod audits;
 mod examples;
 
 // Row 0 is linked from root 0 by agent 0: 9 steps.
@@ -31,6 +30,22 @@ const THREE_AGENTS: &str =
 const LINKED_AGAIN: &str =
     "2 count 0\n2 cas r0 - 0\n0 load r0\n0 publish 1 0\n0 load r0 1\n2 inc 0\n2 clear 1\n2 takein 1\n";
 
+// Agent 0 links row 0 from root 0, and both links of its fresh row 1 to row 0: 18 steps.
+const TWO_LINKS: &str =
+    "0 enroll\n0 look 0\n0 count 0\n0 take 0\n0 publish 1 0\n0 count 0\n0 cas r0 - 0\n0 inc 0\n0 look 1\n0 count 1\n0 take 1\n0 publish 2 1\n0 count 0\n0 store 1 0\n0 inc 0\n0 count 0\n0 side 1 0\n0 inc 0\n";
+
+// Agent 0 links row 0 from root 0, and from its own next word: 11 steps.
+const CYCLE: &str =
+    "shape 2 1 1 8\n0 enroll\n0 look 0\n0 count 0\n0 take 0\n0 publish 1 0\n0 count 0\n0 cas r0 - 0\n0 inc 0\n0 count 0\n0 cas n0 - 0\n0 inc 0\n";
+
+// It takes the root's link out, and lets the row go: 7 steps.
+const CUT_OFF: &str =
+    "0 cas r0 0 -\n0 arm 0\n0 dec 0\n0 clear 0\n0 takein 0\n0 clear 1\n0 takein 1\n";
+
+// Agent 0 links row 0 from root 0, and row 1 from the second link of row 0, and lets both go: 18 steps.
+const SECOND_LINK: &str =
+    "shape 2 1 1 8 2\n0 enroll\n0 look 0\n0 count 0\n0 take 0\n0 publish 1 0\n0 count 0\n0 cas r0 - 0\n0 inc 0\n0 look 1\n0 count 1\n0 take 1\n0 publish 2 1\n0 count 1\n0 cas s0 - 1\n0 inc 1\n0 clear 1\n0 clear 2\n0 takein 1\n";
+
 // The line that a replay of these bytes writes.
 fn line_of(alloc: Global, bytes: &[u8]) -> Result<String, NoMemory> {
     match replay(alloc, bytes) {
@@ -42,6 +57,20 @@ fn line_of(alloc: Global, bytes: &[u8]) -> Result<String, NoMemory> {
 fn check(rt: &impl Abort, alloc: Global, text: &str, want: &str) -> Result<(), Fail> {
     let line = line_of(alloc, text.as_bytes())?;
     assert_eq!(rt; line.as_str(), want);
+    Ok(())
+}
+
+// The lines that an audit of these bytes writes.
+fn audit_of(alloc: Global, bytes: &[u8]) -> Result<String, NoMemory> {
+    match audit(alloc, bytes) {
+        Ok(audit) => audit_text(alloc, &audit),
+        Err(fault) => fault_text(alloc, fault),
+    }
+}
+
+fn check_audit(rt: &impl Abort, alloc: Global, text: &str, want: &str) -> Result<(), Fail> {
+    let lines = audit_of(alloc, text.as_bytes())?;
+    assert_eq!(rt; lines.as_str(), want);
     Ok(())
 }
 
@@ -57,19 +86,7 @@ fn push_slots(text: &mut String, agent: u32, from: u32, end: u32) -> Result<(), 
 fn a_row_is_handed_over_taken_in_and_freed(rt: HostRuntime) -> Result<(), Fail> {
     let alloc = rt.alloc();
     let mut text = String::from_str(alloc, LINKED)?;
-    check(
-        &rt,
-        alloc,
-        text.as_str(),
-        "steps 9 out 1 retired 0 handed 0 listed 0 linked 1\n",
-    )?;
     text.push_str(RETIRED)?;
-    check(
-        &rt,
-        alloc,
-        text.as_str(),
-        "steps 16 out 1 retired 1 handed 0 listed 1 linked 0\n",
-    )?;
     text.push_str(SCANNED)?;
     push_slots(&mut text, 0, 0, 11)?;
     text.push_str("0 hand 10\n1 clear 2\n1 takein 2\n1 start 0\n")?;
@@ -80,6 +97,12 @@ fn a_row_is_handed_over_taken_in_and_freed(rt: HostRuntime) -> Result<(), Fail> 
         alloc,
         text.as_str(),
         "steps 56 out 0 retired 0 handed 0 listed 0 linked 0\n",
+    )?;
+    check_audit(
+        &rt,
+        alloc,
+        text.as_str(),
+        "steps 56\nretired most 1 after 21\nrow 0 lives 1\nleak none\n",
     )
 }
 
@@ -178,132 +201,65 @@ fn a_stopped_agent_keeps_seven_rows(rt: HostRuntime) -> Result<(), Fail> {
 }
 
 #[test]
-fn a_work_list_of_all_rows_goes_on(rt: HostRuntime) -> Result<(), Fail> {
+fn links_of_two_numbers_are_stored(rt: HostRuntime) -> Result<(), Fail> {
     let alloc = rt.alloc();
-    let mut text = String::from_str(alloc, "shape 2 1 1 8\n0 enroll\n")?;
-    for row in 0..2 {
-        writeln!(
-            text,
-            "0 look {row}\n0 count {row}\n0 take {row}\n0 set {row} 0"
-        )?;
-    }
-    check(
-        &rt,
-        alloc,
-        text.as_str(),
-        "steps 9 out 2 retired 2 handed 0 listed 2 linked 0\n",
-    )?;
-    text.push_str("0 takein 1\n0 start 0\n")?;
-    check(
-        &rt,
-        alloc,
-        text.as_str(),
-        "steps 11 out 2 retired 2 handed 0 listed 1 linked 0\n",
-    )
-}
-
-#[test]
-fn first_lines_are_judged_first(rt: HostRuntime) -> Result<(), Fail> {
-    let alloc = rt.alloc();
-    for (text, want) in [
-        ("", "shape: unreadable\n"),
-        ("shape 2 1 2 8", "shape: unreadable\n"),
-        ("\n", "shape: unreadable\n"),
-        ("shape 2 1 2\n", "shape: unreadable\n"),
-        ("shape 2 1 2 8 \n", "shape: unreadable\n"),
-        ("shape  2 1 2 8\n", "shape: unreadable\n"),
-        ("shapes 2 1 2 8\n", "shape: unreadable\n"),
-        ("shape 02 1 2 8\n", "shape: unreadable\n"),
-        ("shape 2 1 2 8\r\n", "shape: unreadable\n"),
-        ("shape 2 1 2 18446744073709551616\n", "shape: unreadable\n"),
-        ("shape 1 1 1 1\n", "shape: rows\n"),
-        ("shape 4294967298 0 0 0\n", "shape: rows\n"),
-        ("shape 2 4294967297 1 1\n", "shape: roots\n"),
-        ("shape 2 1 18446744073709551615 0\n", "shape: agents\n"),
-        ("shape 2 1 1 549755813889\n", "shape: limit\n"),
-        ("shape 2 1 1 0\n0 nothing", "shape: limit\n"),
+    for (first, want) in [
         (
-            "shape 2 1 1 8\n",
-            "steps 0 out 0 retired 0 handed 0 listed 0 linked 0\n",
+            "shape 2 1 1 8 2\n",
+            "steps 18 out 2 retired 0 handed 0 listed 0 linked 1\n",
         ),
+        ("shape 2 1 1 8\n", "step 16: unreadable\n"),
+        ("shape 2 1 1 8 1\n", "step 16: unreadable\n"),
+        ("shape 2 1 1 8 3\n", "shape: links\n"),
     ] {
-        check(&rt, alloc, text, want)?;
-    }
-    Ok(())
-}
-
-#[test]
-fn a_step_is_read_before_it_is_allowed(rt: HostRuntime) -> Result<(), Fail> {
-    let alloc = rt.alloc();
-    let readable = "step 1: not allowed\n";
-    let unreadable = "step 1: unreadable\n";
-    for (line, want) in [
-        ("1 publish 0 1", readable),
-        ("0 publish 0 0", readable),
-        ("0 load r0 0", readable),
-        ("0 set 0 1099511627776", readable),
-        ("0 fill 0 1 18446744073709551615", readable),
-        ("0 cas n1 0m -m", readable),
-        ("0 hand 15", readable),
-        ("", unreadable),
-        ("0", unreadable),
-        ("0 ", unreadable),
-        ("2 enroll", unreadable),
-        ("00 look 0", unreadable),
-        ("0 look", unreadable),
-        ("0 look 2", unreadable),
-        ("0 look 00", unreadable),
-        ("0 look +0", unreadable),
-        ("0 look 0 ", unreadable),
-        ("0  look 0", unreadable),
-        ("0 Look 0", unreadable),
-        ("0 look 0 0", unreadable),
-        ("0 enroll 0", unreadable),
-        ("0 clear 8", unreadable),
-        ("0 publish 8 0", unreadable),
-        ("0 load r0 8", unreadable),
-        ("0 load r1", unreadable),
-        ("0 load n2", unreadable),
-        ("0 load 0", unreadable),
-        ("0 slot 16", unreadable),
-        ("0 fill 0 2 0", unreadable),
-        ("0 fill 0 0 18446744073709551616", unreadable),
-        ("0 set 0 18446744073709551616", unreadable),
-        ("0 store 0 m", unreadable),
-        ("0 store 0 0mm", unreadable),
-        ("0 store 0 2", unreadable),
-        ("0 cas r0 -", unreadable),
-        ("0 stop 0", unreadable),
-    ] {
-        let text = format!(in alloc; "shape 2 1 2 8\n0 enroll\n{line}\n0 nothing")?;
+        let text = format!(in alloc; "{first}{TWO_LINKS}")?;
         check(&rt, alloc, text.as_str(), want)?;
     }
     Ok(())
 }
 
 #[test]
-fn a_cut_line_and_a_pending_bit(rt: HostRuntime) -> Result<(), Fail> {
+fn a_row_that_links_itself_leaks(rt: HostRuntime) -> Result<(), Fail> {
     let alloc = rt.alloc();
-    let cut = "shape 2 1 2 8\n0 enroll\n1 enroll\n0 look 0\n0 count 0\n0 tak";
-    check(&rt, alloc, cut, "step 4: unreadable\n")?;
-    let mut text = String::from_str(alloc, LINKED)?;
-    text.push_str(
-        "1 load r0\n1 publish 2 0\n1 load r0 2\n0 cas r0 0 -\n0 arm 0\n0 dec 0\n0 clear 1\n",
-    )?;
-    check(&rt, alloc, text.as_str(), "step 15: not allowed\n")
-}
-
-#[test]
-fn two_hundred_thousand_steps(rt: HostRuntime) -> Result<(), Fail> {
-    let alloc = rt.alloc();
-    let mut text = String::from_str(alloc, "shape 65535 257 16 8\n0 enroll\n")?;
-    for _ in 0..100_000 {
-        text.push_str("0 look 65534\n0 count 65534\n")?;
-    }
-    check(
+    let text = format!(in alloc; "{CYCLE}{CUT_OFF}")?;
+    check_audit(
         &rt,
         alloc,
         text.as_str(),
-        "steps 200001 out 0 retired 0 handed 0 listed 0 linked 0\n",
+        "steps 18\nretired most 0 after 0\nrow 0 lives 1\nleak after 17 row 0\n",
     )
+}
+
+#[test]
+fn a_row_reached_by_a_second_link_alone_does_not_leak(rt: HostRuntime) -> Result<(), Fail> {
+    let alloc = rt.alloc();
+    check_audit(
+        &rt,
+        alloc,
+        SECOND_LINK,
+        "steps 18\nretired most 0 after 0\nrow 0 lives 1\nrow 1 lives 1\nleak none\n",
+    )
+}
+
+#[test]
+fn a_trace_is_refused_for_its_first_fault(rt: HostRuntime) -> Result<(), Fail> {
+    let alloc = rt.alloc();
+    for (text, want) in [
+        ("", "shape: unreadable\n"),
+        ("shape 1 1 1 1\n", "shape: rows\n"),
+        ("shape 2 1 1 0 3\n0 nothing", "shape: limit\n"),
+        (
+            "shape 2 1 2 8\n0 enroll\n1 enroll\n0 look 0\n0 count 0\n0 tak",
+            "step 4: unreadable\n",
+        ),
+        (
+            "shape 2 1 1 8\n0 enroll\n0 load s0\n",
+            "step 1: unreadable\n",
+        ),
+        ("shape 2 1 1 8\n0 look 0\n0 look", "step 0: not allowed\n"),
+    ] {
+        check(&rt, alloc, text, want)?;
+        check_audit(&rt, alloc, text, want)?;
+    }
+    Ok(())
 }

@@ -112,5 +112,6 @@ fn name_of(word: ShapeWord) -> &'static str
         ShapeWord::Roots => "roots",
         ShapeWord::Agents => "agents",
         ShapeWord::Limit => "limit",
+        ShapeWord::Links => "links",
     }
 }

@@ -7,11 +7,11 @@ use Rattle.std.proofs.lemmas.List.Elements.{All-cons, All-nil}
 use Rattle.orc_decimal.proofs.Numerals.{decimal_no_byte}
 use Rattle.orc_words.specs.declared.packed.RowLink.{RowLink}
 use Rattle.orc_words.specs.declared.place.Word.{Word}
-use Rattle.orc_words.specs.declared.place.Word.TheVariants.{Root, Next}
+use Rattle.orc_words.specs.declared.place.Word.TheVariants.{Root, Next, Side}
 use Rattle.orc_words.specs.Bounds.{Bounds, IsShape}
 use Rattle.orc_trace_text.specs.TraceText.{IsLink, IsPlace, link_text, marked, place_text, target_text}
 use Rattle.orc_trace_text.proofs.Visible.{IsVisible, visible-append, visible-decimal}
-use Rattle.orc_trace_text.proofs.Words.{Lacks, cut-none, cut-unique}
+use Rattle.orc_trace_text.proofs.Words.{Lacks, cut-none, cut-unique, differs}
 use Rattle.orc_trace_text.specs.Reading.{Cuts}
 
 pub number-same : (end m n : ℕ) → end ≤ 2 ^ 64 → m < end → n < end → decimal m ≡ decimal n → m ≡ n
@@ -22,18 +22,30 @@ number-same end m n wide h k e = decimal_injective m n (omega arith) (omega arit
 pub visible-place : (b : Bounds) (p : Word) → IsShape b → IsPlace b p → IsVisible (place_text p)
 visible-place b (Root i) s h = let few = s.roots in visible-append (codes "r") (decimal i) refl (visible-decimal i (omega arith))
 visible-place b (Next r) s h = let few = s.rows in visible-append (codes "n") (decimal r) refl (visible-decimal r (omega arith))
+visible-place b (Side r) s h = let few = s.rows in let below = h.0 in visible-append (codes "s") (decimal r) refl (visible-decimal r (omega arith))
 visible-place b p s h = absurd h
 
-letters : (x y : List ℕ) → 114 ∷ x ≡ 110 ∷ y → ⊥
-letters x y e = let first : ◌≡◌ {A = ℕ} 114 110 = cc e in omega (arith, first)
+-- texts that begin with different letters
+letters : (c d : ℕ) (x y : List ℕ) → (c == d) ≡ false → c ∷ x ≡ d ∷ y → ⊥
+letters c d x y other e = differs c d other (cc e)
 
 pub place-same : (b : Bounds) (p q : Word) → IsShape b → IsPlace b p → IsPlace b q → place_text p ≡ place_text q → p ≡ q
 place-same b (Root i) (Root j) s h k e = let few = s.roots in ap Root (decimal_injective i j (omega arith) (omega arith) (cc e))
-place-same b (Root i) (Next r) s h k e = absurd (letters (decimal i) (decimal r) e)
-place-same b (Next r) (Root i) s h k e = absurd (letters (decimal i) (decimal r) (sym e))
+place-same b (Root i) (Next r) s h k e = absurd (letters 114 110 (decimal i) (decimal r) refl e)
+place-same b (Root i) (Side r) s h k e = absurd (letters 114 115 (decimal i) (decimal r) refl e)
+place-same b (Next r) (Root i) s h k e = absurd (letters 110 114 (decimal r) (decimal i) refl e)
 place-same b (Next r) (Next q) s h k e = let few = s.rows in ap Next (decimal_injective r q (omega arith) (omega arith) (cc e))
+place-same b (Next r) (Side q) s h k e = absurd (letters 110 115 (decimal r) (decimal q) refl e)
+place-same b (Side r) (Root i) s h k e = absurd (letters 115 114 (decimal r) (decimal i) refl e)
+place-same b (Side r) (Next q) s h k e = absurd (letters 115 110 (decimal r) (decimal q) refl e)
+place-same b (Side r) (Side q) s h k e =
+    let few = s.rows in
+    let low = h.0 in
+    let also = k.0 in
+    ap Side (decimal_injective r q (omega arith) (omega arith) (cc e))
 place-same b (Root i) q s h k e = absurd k
 place-same b (Next r) q s h k e = absurd k
+place-same b (Side r) q s h k e = absurd k
 place-same b p q s h k e = absurd h
 
 -- ---- links

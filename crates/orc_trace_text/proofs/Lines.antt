@@ -1,13 +1,14 @@
 -- A line spells one step at most, and a first line one shape.
-use Rattle.std.proofs.Common.{◌≡◌, ◌∙◌, ℕ, List, [], ◌∷◌, Option, refl, sym, ap, ap₂, arith, codes}
+use Rattle.std.proofs.Common.{◌≡◌, ◌∙◌, ℕ, inl, inr, List, [], ◌∷◌, Option, refl, sym, ap, ap₂, subst, arith, codes}
 use Rattle.std.specs.Fmt.{decimal}
+use Rattle.std.specs.List.{join_with_byte}
 use Rattle.std.proofs.lemmas.Fmt.{decimal_injective}
 use Rattle.orc_words.specs.declared.shape.Shape.{Shape}
 use Rattle.orc_words.specs.Bounds.{Bounds, IsShape, bounds_of}
 use Rattle.orc_core.specs.declared.ops.Op.{Op}
-use Rattle.orc_trace_text.specs.Reading.{Cuts, words_in, words_left}
+use Rattle.orc_trace_text.specs.Reading.{Cuts, EndsInLinks, words_in, words_left}
 use Rattle.orc_trace_text.specs.FirstLines.{HasShapeLine, HasStepLine}
-use Rattle.orc_trace_text.specs.TraceText.{AreWide, IsReadable, line_text, shape_text, words_of}
+use Rattle.orc_trace_text.specs.TraceText.{AreWide, IsReadable, IsShapeText, IsWide, line_text, words_of}
 use Rattle.orc_trace_text.proofs.Spelled.{words_of-injective}
 use Rattle.orc_trace_text.proofs.Visible.{AreVisible, AreWords-visible, Lacks-joined, visible-decimal}
 use Rattle.orc_trace_text.proofs.VisibleWords.{visible-words}
@@ -52,43 +53,92 @@ line-parts b s line front rest shape h e cut =
 
 -- ---- shapes
 
-abbrev pub shape_words : Bounds → List (List ℕ)
-shape_words b = codes "shape" ∷ decimal b.rows ∷ decimal b.roots ∷ decimal b.agents ∷ decimal b.limit ∷ []
+-- the words of a first line, with these behind the limit
+abbrev pub shape_words : Bounds → List (List ℕ) → List (List ℕ)
+shape_words b last = codes "shape" ∷ decimal b.rows ∷ decimal b.roots ∷ decimal b.agents ∷ decimal b.limit ∷ last
 
-visible-shape : (b : Bounds) → AreWide b → AreVisible (shape_words b)
-visible-shape b w =
-    (refl, (visible-decimal b.rows w.rows, (visible-decimal b.roots w.roots, (visible-decimal b.agents w.agents, (visible-decimal b.limit w.limit, tt)))))
+-- a first line is its words, joined
+record Joined (b : Bounds) (line : List ℕ) : Type 0 where
+  last : List (List ℕ)
+  ends : EndsInLinks b.links last
+  text : line ≡ join_with_byte 32 (shape_words b last)
 
-pub shape-words : (b : Bounds) → AreWide b → words_in (shape_text b) ≡ codes "shape" ∷ decimal b.rows ∷ decimal b.roots ∷ decimal b.agents
-    ∷ decimal b.limit ∷ []
-shape-words b w = words-joined (codes "shape") (decimal b.rows ∷ decimal b.roots ∷ decimal b.agents ∷ decimal b.limit ∷ [])
-    (AreWords-visible (shape_words b) (visible-shape b w))
+joined : (b : Bounds) (line : List ℕ) → IsShapeText b line → Joined b line
+joined b line (inl text) = record { last = decimal b.links ∷ []; ends = inl refl; text = text }
+joined b line (inr (one, text)) = record { last = []; ends = inr (one, refl); text = text }
+
+pub shape-spelled : (b : Bounds) (line : List ℕ) (last : List (List ℕ)) → EndsInLinks b.links last → line ≡ join_with_byte 32 (shape_words b last)
+    → IsShapeText b line
+shape-spelled b line last (inl e) text = inl (rw e at text)
+shape-spelled b line last (inr (one, e)) text = inr (one, rw e at text)
+
+visible-last : (links : ℕ) (last : List (List ℕ)) → IsWide links → EndsInLinks links last → AreVisible last
+visible-last links last wide (inl e) = rw e (visible-decimal links wide, tt)
+visible-last links last wide (inr (one, e)) = rw e tt
+
+visible-shape : (b : Bounds) (last : List (List ℕ)) → AreWide b → EndsInLinks b.links last → AreVisible (shape_words b last)
+visible-shape b last w ends = (
+  refl,
+  (
+    visible-decimal b.rows w.rows,
+    (
+      visible-decimal b.roots w.roots,
+      (
+        visible-decimal b.agents w.agents,
+        (
+          visible-decimal b.limit w.limit,
+          visible-last b.links last w.links ends,
+        ),
+      ),
+    ),
+  ),
+)
+
+shape-words : (b : Bounds) (line : List ℕ) → AreWide b → (h : Joined b line) → words_in line ≡ shape_words b h.last
+shape-words b line w h =
+    ap words_in h.text
+    ∙ words-joined (codes "shape") (decimal b.rows ∷ decimal b.roots ∷ decimal b.agents ∷ decimal b.limit ∷ h.last)
+    (AreWords-visible (shape_words b h.last) (visible-shape b h.last w h.ends))
 
 -- a first line, cut at its first space
-pub shape-parts : (b : Bounds) (line front : List ℕ) (rest : Option (List ℕ)) → AreWide b → line ≡ shape_text b → Cuts 32 line front rest
-    → (front ≡ codes "shape") × (words_left rest ≡ decimal b.rows ∷ decimal b.roots ∷ decimal b.agents ∷ decimal b.limit ∷ [])
-shape-parts b line front rest wide e cut =
-    let words : front ∷ words_left rest ≡ shape_words b = sym (words-cut line front rest cut) ∙ ap words_in e ∙ shape-words b wide in
-    (cc words, cc words)
+pub shape-parts : (b : Bounds) (line front : List ℕ) (rest : Option (List ℕ)) → AreWide b → IsShapeText b line → Cuts 32 line front rest
+    → (last : List (List ℕ)) × EndsInLinks b.links last × (front ≡ codes "shape")
+    × (words_left rest ≡ decimal b.rows ∷ decimal b.roots ∷ decimal b.agents ∷ decimal b.limit ∷ last)
+shape-parts b line front rest wide h cut =
+    let j = joined b line h in
+    let words : front ∷ words_left rest ≡ shape_words b j.last = sym (words-cut line front rest cut) ∙ shape-words b line wide j in
+    (j.last, j.ends, cc words, cc words)
 
-pub Lacks-shape : (b : Bounds) → AreWide b → Lacks 10 (shape_text b)
-Lacks-shape b w = Lacks-joined (shape_words b) (visible-shape b w)
+pub Lacks-shape : (b : Bounds) (line : List ℕ) → AreWide b → IsShapeText b line → Lacks 10 line
+Lacks-shape b line w h =
+    let j = joined b line h in
+    subst (Lacks 10) (sym j.text) (Lacks-joined (shape_words b j.last) (visible-shape b j.last w j.ends))
 
-shape-same : (b c : Bounds) → AreWide b → AreWide c → shape_text b ≡ shape_text c → b ≡ c
-shape-same b c h k e =
-    let words : shape_words b ≡ shape_words c = sym (shape-words b h) ∙ ap words_in e ∙ shape-words c k in
+links-same : (m n : ℕ) (last : List (List ℕ)) → IsWide m → IsWide n → EndsInLinks m last → EndsInLinks n last → m ≡ n
+links-same m n last h k (inl e) (inl f) = let both = sym e ∙ f in decimal_injective m n h k (cc both)
+links-same m n last h k (inl e) (inr (one, f)) = let bad = sym e ∙ f in cc bad
+links-same m n last h k (inr (one, e)) (inl f) = let bad = sym e ∙ f in cc bad
+links-same m n last h k (inr (one, e)) (inr (also, f)) = one ∙ sym also
+
+shape-same : (b c : Bounds) (line : List ℕ) → AreWide b → AreWide c → IsShapeText b line → IsShapeText c line → b ≡ c
+shape-same b c line h k i j =
+    let one = joined b line i in
+    let other = joined c line j in
+    let words : shape_words b one.last ≡ shape_words c other.last = sym (shape-words b line h one) ∙ shape-words c line k other in
+    let last : other.last ≡ one.last = cc words in
     let rows : b.rows ≡ c.rows = decimal_injective b.rows c.rows h.rows k.rows (cc words) in
     let roots : b.roots ≡ c.roots = decimal_injective b.roots c.roots h.roots k.roots (cc words) in
     let agents : b.agents ≡ c.agents = decimal_injective b.agents c.agents h.agents k.agents (cc words) in
     let limit : b.limit ≡ c.limit = decimal_injective b.limit c.limit h.limit k.limit (cc words) in
-    let make : ℕ → ℕ → ℕ → ℕ → Bounds = λ w x y z. record { rows = w; roots = x; agents = y; limit = z } in
-    let same : make b.rows b.roots b.agents b.limit ≡ make c.rows c.roots c.agents c.limit = cc (rows, roots, agents, limit) in
+    let links : b.links ≡ c.links = links-same b.links c.links one.last h.links k.links one.ends (subst (EndsInLinks c.links) last other.ends) in
+    let make : ℕ → ℕ → ℕ → ℕ → ℕ → Bounds = λ v w x y z. record { rows = v; roots = w; agents = x; limit = y; links = z } in
+    let same : make b.rows b.roots b.agents b.limit b.links ≡ make c.rows c.roots c.agents c.limit c.links = cc (rows, roots, agents, limit, links) in
     same
 
 pub shape-unique : (b c : Bounds) (more other bytes : List ℕ) → HasShapeLine b more bytes → HasShapeLine c other bytes → (b ≡ c) × (more ≡ other)
 shape-unique b c more other bytes h k =
-    let cut = cut-unique 10 (shape_text b) (shape_text c) more other (Lacks-shape b h.wide) (Lacks-shape c k.wide) (sym h.text ∙ k.text) in
-    (shape-same b c h.wide k.wide cut.0, cut.1)
+    let cut = cut-unique 10 h.line k.line more other (Lacks-shape b h.line h.wide h.spells) (Lacks-shape c k.line k.wide k.spells) (sym h.text ∙ k.text) in
+    (shape-same b c h.line h.wide k.wide h.spells (subst (IsShapeText c) (sym cut.0) k.spells), cut.1)
 
 -- the numbers of a shape have 64 bits
 pub wide-shape : (b : Bounds) → IsShape b → AreWide b
@@ -97,7 +147,8 @@ wide-shape b s =
     let roots = s.roots in
     let agents = s.agents in
     let limit = s.limit in
-    record { rows = omega arith; roots = omega arith; agents = omega arith; limit = omega arith }
+    let links = s.links in
+    record { rows = omega arith; roots = omega arith; agents = omega arith; limit = omega arith; links = omega arith }
 
 pub shape-in_range : (s : Shape) → IsShape (bounds_of s)
 shape-in_range s = record {
@@ -105,4 +156,5 @@ shape-in_range s = record {
   roots = (s.some_roots, s.few_roots);
   agents = (s.some_agents, s.few_agents);
   limit = (s.some_limit, s.low_limit);
+  links = (s.some_links, s.few_links);
 }

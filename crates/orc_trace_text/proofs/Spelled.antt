@@ -1,5 +1,5 @@
 -- What the word of a kind and the words behind it spell.
-use Rattle.std.proofs.Common.{◌≡◌, ◌∙◌, ℕ, ◌*◌, ◌^◌, ◌<◌, ◌≤◌, ◌⊎◌, inl, inr, List, [], ◌∷◌, Some, None, refl, sym, ap, ap₂, subst, arith}
+use Rattle.std.proofs.Common.{◌≡◌, ◌∙◌, ℕ, zero, suc, ◌*◌, ◌^◌, ◌<◌, ◌≤◌, ◌⊎◌, inl, inr, List, [], ◌∷◌, Some, None, refl, sym, ap, ap₂, subst, arith}
 use Rattle.std.specs.Fmt.{decimal}
 use Rattle.orc_words.specs.declared.packed.RowLink.{RowLink}
 use Rattle.orc_words.specs.declared.place.Word.{Word}
@@ -26,7 +26,8 @@ kind_for (op.Publish k r) = kind.Publish
 kind_for (op.Clear k) = kind.Clear
 kind_for (op.Arm r) = kind.Arm
 kind_for (op.LinkCas p f t) = kind.Cas
-kind_for (op.LinkStore r l) = kind.Store
+kind_for (op.LinkStore r zero l) = kind.Store
+kind_for (op.LinkStore r (suc n) l) = kind.Side
 kind_for (op.Inc r) = kind.Inc
 kind_for (op.Dec r) = kind.Dec
 kind_for (op.SetRetired r q) = kind.Set
@@ -60,8 +61,9 @@ abbrev pub OfCas : Bounds → List (List ℕ) → Op → Type 0
 OfCas b ws o = (p : Word) × (f : RowLink) × (t : RowLink) × IsPlace b p × IsLink b f × IsLink b t
     × (ws ≡ place_text p ∷ link_text f ∷ link_text t ∷ []) × (o ≡ op.LinkCas p f t)
 
-abbrev pub OfStore : Bounds → List (List ℕ) → Op → Type 0
-OfStore b ws o = (r : ℕ) × (l : RowLink) × (r < b.rows) × IsLink b l × (ws ≡ decimal r ∷ link_text l ∷ []) × (o ≡ op.LinkStore r l)
+-- a store of the link of this number
+abbrev pub OfStore : Bounds → ℕ → List (List ℕ) → Op → Type 0
+OfStore b n ws o = (r : ℕ) × (l : RowLink) × (r < b.rows) × (n < b.links) × IsLink b l × (ws ≡ decimal r ∷ link_text l ∷ []) × (o ≡ op.LinkStore r n l)
 
 abbrev pub Spelled : Bounds → Kind → List (List ℕ) → Op → Type 0
 Spelled b kind.Enroll ws o = (ws ≡ []) × (o ≡ op.Enroll)
@@ -74,7 +76,8 @@ Spelled b kind.Publish ws o = OfNumbers 8 b.rows (λ k r. op.Publish k r) ws o
 Spelled b kind.Clear ws o = OfNumber 8 (λ k. op.Clear k) ws o
 Spelled b kind.Arm ws o = OfNumber b.rows (λ r. op.Arm r) ws o
 Spelled b kind.Cas ws o = OfCas b ws o
-Spelled b kind.Store ws o = OfStore b ws o
+Spelled b kind.Store ws o = OfStore b 0 ws o
+Spelled b kind.Side ws o = (n : ℕ) × OfStore b (suc n) ws o
 Spelled b kind.Inc ws o = OfNumber b.rows (λ r. op.Inc r) ws o
 Spelled b kind.Dec ws o = OfNumber b.rows (λ r. op.Dec r) ws o
 Spelled b kind.Set ws o = OfNumbers b.rows (2 ^ 64) (λ r q. op.SetRetired r q) ws o
@@ -100,7 +103,8 @@ own b (op.Publish k r) h = (_, refl, (k, r, h.0, h.1, refl, refl))
 own b (op.Clear k) h = (_, refl, (k, h, refl, refl))
 own b (op.Arm r) h = (_, refl, (r, h, refl, refl))
 own b (op.LinkCas p f t) h = (_, refl, (p, f, t, h.0, h.1, h.2, refl, refl))
-own b (op.LinkStore r l) h = (_, refl, (r, l, h.0, h.1, refl, refl))
+own b (op.LinkStore r zero l) h = (_, refl, (r, l, h.0, h.1, h.2, refl, refl))
+own b (op.LinkStore r (suc n) l) h = (_, refl, (n, (r, l, h.0, h.1, h.2, refl, refl)))
 own b (op.Inc r) h = (_, refl, (r, h, refl, refl))
 own b (op.Dec r) h = (_, refl, (r, h, refl, refl))
 own b (op.SetRetired r q) h = (_, refl, (r, q, h.0, h.1, refl, refl))
@@ -163,11 +167,13 @@ one-cas b ws o p s h k =
     let new : h.2 ≡ k.2 = link-same b h.2 k.2 s h.5 k.5 (cc same) in
     h.7 ∙ (cc (place, old, new)) ∙ sym k.7
 
-one-store : (b : Bounds) (ws : List (List ℕ)) (o p : Op) → IsShape b → OfStore b ws o → OfStore b ws p → o ≡ p
-one-store b ws o p s h k =
+one-store : (b : Bounds) (m n : ℕ) (ws : List (List ℕ)) (o p : Op) → IsShape b → m ≡ n → OfStore b m ws o → OfStore b n ws p → o ≡ p
+one-store b m n ws o p s number h k =
     let few = s.rows in
-    let same : decimal h.0 ∷ link_text h.1 ∷ [] ≡ decimal k.0 ∷ link_text k.1 ∷ [] = sym h.4 ∙ k.4 in
-    h.5 ∙ ap₂ op.LinkStore (number-same b.rows h.0 k.0 (omega arith) h.2 k.2 (cc same)) (link-same b h.1 k.1 s h.3 k.3 (cc same)) ∙ sym k.5
+    let same : decimal h.0 ∷ link_text h.1 ∷ [] ≡ decimal k.0 ∷ link_text k.1 ∷ [] = sym h.5 ∙ k.5 in
+    let row : h.0 ≡ k.0 = number-same b.rows h.0 k.0 (omega arith) h.2 k.2 (cc same) in
+    let link : h.1 ≡ k.1 = link-same b h.1 k.1 s h.4 k.4 (cc same) in
+    h.6 ∙ (cc (row, number, link)) ∙ sym k.6
 
 one-op : (b : Bounds) (k : Kind) (ws : List (List ℕ)) (o p : Op) → IsShape b → Spelled b k ws o → Spelled b k ws p → o ≡ p
 one-op b kind.Enroll ws o p s h i = h.1 ∙ sym i.1
@@ -180,7 +186,12 @@ one-op b kind.Publish ws o p s h i = let few = s.rows in two-numbers 8 b.rows (�
 one-op b kind.Clear ws o p s h i = one-number 8 (λ k. op.Clear k) ws o p (omega arith) h i
 one-op b kind.Arm ws o p s h i = let few = s.rows in one-number b.rows (λ r. op.Arm r) ws o p (omega arith) h i
 one-op b kind.Cas ws o p s h i = one-cas b ws o p s h i
-one-op b kind.Store ws o p s h i = one-store b ws o p s h i
+one-op b kind.Store ws o p s h i = one-store b 0 0 ws o p s refl h i
+one-op b kind.Side ws o p s h i =
+    let two = s.links in
+    let first = h.1.3 in
+    let other = i.1.3 in
+    one-store b (suc h.0) (suc i.0) ws o p s (omega arith) h.1 i.1
 one-op b kind.Inc ws o p s h i = let few = s.rows in one-number b.rows (λ r. op.Inc r) ws o p (omega arith) h i
 one-op b kind.Dec ws o p s h i = let few = s.rows in one-number b.rows (λ r. op.Dec r) ws o p (omega arith) h i
 one-op b kind.Set ws o p s h i = let few = s.rows in two-numbers b.rows (2 ^ 64) (λ r q. op.SetRetired r q) ws o p (omega arith) (omega arith) h i

@@ -1,5 +1,5 @@
 -- The words of a step and of a shape are visible.
-use Rattle.std.proofs.Common.{ℕ, ◌*◌, ◌^◌, ◌<◌, ◌≤◌, Some, None, refl, arith}
+use Rattle.std.proofs.Common.{ℕ, zero, suc, ◌*◌, ◌^◌, ◌<◌, ◌≤◌, Some, None, refl, arith}
 use Rattle.std.specs.Fmt.{decimal}
 use Rattle.orc_words.specs.Bounds.{Bounds, IsShape}
 use Rattle.orc_core.specs.declared.ops.CounterUse.TheVariants as how
@@ -33,7 +33,8 @@ visible-words b (op.Publish k r) s h = (refl, (slot k h.0, (row b r s h.1, tt)))
 visible-words b (op.Clear k) s h = (refl, (slot k h, tt))
 visible-words b (op.Arm r) s h = (refl, (row b r s h, tt))
 visible-words b (op.LinkCas p f t) s h = (refl, (visible-place b p s h.0, (visible-link b f s h.1, (visible-link b t s h.2, tt))))
-visible-words b (op.LinkStore r l) s h = (refl, (row b r s h.0, (visible-link b l s h.1, tt)))
+visible-words b (op.LinkStore r zero l) s h = (refl, (row b r s h.0, (visible-link b l s h.2, tt)))
+visible-words b (op.LinkStore r (suc n) l) s h = (refl, (row b r s h.0, (visible-link b l s h.2, tt)))
 visible-words b (op.Inc r) s h = (refl, (row b r s h, tt))
 visible-words b (op.Dec r) s h = (refl, (row b r s h, tt))
 visible-words b (op.SetRetired r q) s h = (refl, (row b r s h.0, (visible-decimal q h.1, tt)))

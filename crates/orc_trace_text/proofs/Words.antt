@@ -42,7 +42,7 @@ words-joined w (v ∷ vs) h =
 
 -- ---- lines
 
-differs : (c byte : ℕ) → (c == byte) ≡ false → c ≡ byte → ⊥
+pub differs : (c byte : ℕ) → (c == byte) ≡ false → c ≡ byte → ⊥
 differs c byte h e = grind (arith, nat_tests)
 
 -- what stands before the first such byte, and what stands behind it, are determined

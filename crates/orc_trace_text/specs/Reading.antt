@@ -1,5 +1,6 @@
 -- How a line is read: by the words between its spaces.
-use Rattle.std.specs.Prelude.{◌≡◌, ◌==◌, ℕ, ◌++◌, false, List, [], ◌∷◌, Option, Some, None, All, codes}
+use Rattle.std.specs.Prelude.{◌≡◌, ◌⊎◌, ◌==◌, ℕ, ◌++◌, false, List, [], ◌∷◌, Option, Some, None, All, codes}
+use Rattle.std.specs.Fmt.{decimal}
 use Rattle.std.specs.List.{slice_split}
 use Rattle.orc_words.specs.Bounds.{Bounds}
 use Rattle.orc_core.specs.declared.ops.Op.{Op}
@@ -20,6 +21,10 @@ abbrev pub words_left : Option (List ℕ) → List (List ℕ)
 words_left None = []
 words_left (Some text) = words_in text
 
+-- the words behind the limit: the number of links, or none where it is 1
+abbrev pub EndsInLinks : ℕ → List (List ℕ) → Type 0
+EndsInLinks links words = (words ≡ decimal links ∷ []) ⊎ ((links ≡ 1) × (words ≡ []))
+
 -- the word behind the agent's number
 abbrev pub kind_word : Kind → List ℕ
 kind_word kind.Enroll = codes "enroll"
@@ -33,6 +38,7 @@ kind_word kind.Clear = codes "clear"
 kind_word kind.Arm = codes "arm"
 kind_word kind.Cas = codes "cas"
 kind_word kind.Store = codes "store"
+kind_word kind.Side = codes "side"
 kind_word kind.Inc = codes "inc"
 kind_word kind.Dec = codes "dec"
 kind_word kind.Set = codes "set"

@@ -1,21 +1,22 @@
 -- The text of a trace: a line for the shape of a table, and a line for each step of the machine on it.
 -- The words and their order are this project's own.
-use Rattle.std.specs.Prelude.{ℕ, ◌*◌, ◌^◌, ◌<◌, ◌++◌, List, [], ◌∷◌, Option, Some, None, Bool, true, false, codes}
+use Rattle.std.specs.Prelude.{ℕ, zero, suc, ◌≡◌, ◌⊎◌, ◌*◌, ◌^◌, ◌<◌, ◌++◌, List, [], ◌∷◌, Option, Some, None, Bool, true, false, codes, map}
 use Rattle.std.specs.Fmt.{decimal}
 use Rattle.std.specs.List.{join_with_byte}
 use Rattle.std.specs.Option.{ForSome}
 use Rattle.orc_words.specs.declared.packed.RowLink.{RowLink}
 use Rattle.orc_words.specs.declared.place.Word.{Word}
-use Rattle.orc_words.specs.declared.place.Word.TheVariants.{Root, Next}
+use Rattle.orc_words.specs.declared.place.Word.TheVariants.{Root, Next, Side}
 use Rattle.orc_words.specs.Bounds.{Bounds}
 use Rattle.orc_core.specs.declared.ops.CounterUse.TheVariants.{Check, Start, End}
 use Rattle.orc_core.specs.declared.ops.Op.{Op}
 use Rattle.orc_core.specs.declared.ops.Op.TheVariants.{Enroll, GateLook, GateTake, Fill, Read, LinkLoad, Publish, Clear, Arm, LinkCas, LinkStore, Inc, Dec, SetRetired, CounterLoad, Unretire, SlotLook, Hand, TakeIn, Free}
 
--- a place: `r` and a root, or `n` and the row whose next word it is; other words have no text
+-- a place: `r` and a root, or `n` or `s` and the row whose first or second link it is; other words have no text
 abbrev pub place_text : Word → List ℕ
 place_text (Root i) = codes "r" ++ decimal i
 place_text (Next r) = codes "n" ++ decimal r
+place_text (Side r) = codes "s" ++ decimal r
 place_text w = []
 
 abbrev pub target_text : Option ℕ → List ℕ
@@ -44,7 +45,8 @@ words_of (Publish k r) = codes "publish" ∷ decimal k ∷ decimal r ∷ []
 words_of (Clear k) = codes "clear" ∷ decimal k ∷ []
 words_of (Arm r) = codes "arm" ∷ decimal r ∷ []
 words_of (LinkCas p f t) = codes "cas" ∷ place_text p ∷ link_text f ∷ link_text t ∷ []
-words_of (LinkStore r l) = codes "store" ∷ decimal r ∷ link_text l ∷ []
+words_of (LinkStore r zero l) = codes "store" ∷ decimal r ∷ link_text l ∷ []
+words_of (LinkStore r (suc n) l) = codes "side" ∷ decimal r ∷ link_text l ∷ []
 words_of (Inc r) = codes "inc" ∷ decimal r ∷ []
 words_of (Dec r) = codes "dec" ∷ decimal r ∷ []
 words_of (SetRetired r q) = codes "set" ∷ decimal r ∷ decimal q ∷ []
@@ -61,17 +63,20 @@ words_of (Free r) = codes "free" ∷ decimal r ∷ []
 abbrev pub line_text : ℕ → Op → List ℕ
 line_text a op = join_with_byte 32 (decimal a ∷ words_of op)
 
--- the first line
-abbrev pub shape_text : Bounds → List ℕ
-shape_text b = join_with_byte 32 (codes "shape" ∷ decimal b.rows ∷ decimal b.roots ∷ decimal b.agents ∷ decimal b.limit ∷ [])
+-- a first line with these numbers
+abbrev pub shape_line : List ℕ → List ℕ
+shape_line numbers = join_with_byte 32 (codes "shape" ∷ map decimal numbers)
+
+-- the first line of a shape: its five numbers, or but four of them where a row has one link
+abbrev pub IsShapeText : Bounds → List ℕ → Type 0
+IsShapeText b text =
+    (text ≡ shape_line (b.rows ∷ b.roots ∷ b.agents ∷ b.limit ∷ b.links ∷ []))
+    ⊎ ((b.links ≡ 1) × (text ≡ shape_line (b.rows ∷ b.roots ∷ b.agents ∷ b.limit ∷ [])))
 
 -- steps, each line of them ended by a line feed
 abbrev pub steps_text : List (ℕ × Op) → List ℕ
 steps_text [] = []
 steps_text (s ∷ ss) = line_text s.0 s.1 ++ 10 ∷ steps_text ss
-
-abbrev pub trace_text : Bounds → List (ℕ × Op) → List ℕ
-trace_text b ss = shape_text b ++ 10 ∷ steps_text ss
 
 -- ---- which numbers can be read
 
@@ -85,18 +90,20 @@ pub record AreWide (b : Bounds) : Type 0 where
   pub roots : IsWide b.roots
   pub agents : IsWide b.agents
   pub limit : IsWide b.limit
+  pub links : IsWide b.links
 
--- a root of the table, or the next word of one of its rows
+-- a root of the table, or a link of one of its rows
 abbrev pub IsPlace : Bounds → Word → Type 0
 IsPlace b (Root i) = i < b.roots
 IsPlace b (Next r) = r < b.rows
+IsPlace b (Side r) = (r < b.rows) × (1 < b.links)
 IsPlace b w = ⊥
 
 -- to none, or to a row of the table
 abbrev pub IsLink : Bounds → RowLink → Type 0
 IsLink b l = ForSome l.to (λ r. r < b.rows)
 
--- the rows, roots, slots, scan places and choices of a value are within the shape, and other numbers have 64 bits
+-- the rows, links, roots, slots, scan places and choices of a value are within the shape, and other numbers have 64 bits
 abbrev pub IsReadableOp : Bounds → Op → Type 0
 IsReadableOp b Enroll = Unit {0}
 IsReadableOp b (GateLook r) = r < b.rows
@@ -109,7 +116,7 @@ IsReadableOp b (Publish k r) = (k < 8) × (r < b.rows)
 IsReadableOp b (Clear k) = k < 8
 IsReadableOp b (Arm r) = r < b.rows
 IsReadableOp b (LinkCas p f t) = IsPlace b p × IsLink b f × IsLink b t
-IsReadableOp b (LinkStore r l) = (r < b.rows) × IsLink b l
+IsReadableOp b (LinkStore r n l) = (r < b.rows) × (n < b.links) × IsLink b l
 IsReadableOp b (Inc r) = r < b.rows
 IsReadableOp b (Dec r) = r < b.rows
 IsReadableOp b (SetRetired r q) = (r < b.rows) × IsWide q

@@ -48,7 +48,7 @@ pub fn two_numbers(left: Option<&[u8]>, end: u32, last: u32) -> Option<(u32, u32
     Some((first, second))
 }
 
-/// The place that a word spells: `r` and a root, or `n` and a row.
+/// The place that a word spells: `r` and a root, or `n` or, where a row has two links, `s` and a row.
 pub fn read_place(shape: &Shape, text: &[u8]) -> Option<Word>
     ensures some { IfSome result (λ place. IsPlace (bounds_of shape.now) place × (text.now ≡ place_text place)) }
     ensures none { IfNone result ((place : Word) → IsPlace (bounds_of shape.now) place → text.now ≢ place_text place) }
@@ -61,6 +61,10 @@ pub fn read_place(shape: &Shape, text: &[u8]) -> Option<Word>
         [b'n', digits @ ..] => {
             let row = number_below(digits, shape.rows())?;
             Some(Word::Next(row))
+        }
+        [b's', digits @ ..] if shape.links() > 1 => {
+            let row = number_below(digits, shape.rows())?;
+            Some(Word::Side(row))
         }
         _ => None,
     }
@@ -90,4 +94,17 @@ pub fn read_link(shape: &Shape, text: &[u8]) -> Option<RowLink>
         Some(rest) if rest.is_empty() => Some(RowLink { to, mark: true }),
         Some(_) => None,
     }
+}
+
+/// The row and the link that the two words left spell.
+pub fn row_and_link(shape: &Shape, left: Option<&[u8]>) -> Option<(u32, RowLink)>
+    ensures some { IfSome result (λ found. (found.0 < (bounds_of shape.now).rows) × IsLink (bounds_of shape.now) found.1
+        × (words_left (option_copied left.entry) ≡ decimal found.0 ∷ link_text found.1 ∷ [])) }
+    ensures none { IfNone result ((row : ℕ) (link : RowLink) → row < (bounds_of shape.now).rows → IsLink (bounds_of shape.now) link
+        → words_left (option_copied left.entry) ≢ decimal row ∷ link_text link ∷ []) }
+{
+    let (row, link) = two_words(left)?;
+    let row = number_below(row, shape.rows())?;
+    let link = read_link(shape, link)?;
+    Some((row, link))
 }

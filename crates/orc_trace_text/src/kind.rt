@@ -18,6 +18,7 @@ pub enum Kind {
     Arm,
     Cas,
     Store,
+    Side,
     Inc,
     Dec,
     Set,
@@ -32,7 +33,7 @@ pub enum Kind {
 }
 
 // All of them.
-const KINDS: [Kind; 22] = [
+const KINDS: [Kind; 23] = [
     Kind::Enroll,
     Kind::Look,
     Kind::Take,
@@ -44,6 +45,7 @@ const KINDS: [Kind; 22] = [
     Kind::Arm,
     Kind::Cas,
     Kind::Store,
+    Kind::Side,
     Kind::Inc,
     Kind::Dec,
     Kind::Set,
@@ -74,6 +76,7 @@ impl Kind {
             Kind::Arm => b"arm",
             Kind::Cas => b"cas",
             Kind::Store => b"store",
+            Kind::Side => b"side",
             Kind::Inc => b"inc",
             Kind::Dec => b"dec",
             Kind::Set => b"set",

@@ -8,7 +8,7 @@ ghost use Rattle.orc_trace_text.specs.Reading.{Spells, words_left};
 ghost use Rattle.orc_trace_text.specs.FirstLines.{HasStepLine};
 ghost use Rattle.orc_trace_text.specs.TraceText.{IsReadable, line_text};
 
-use crate::argument::{number_below, one_number, read_link, read_place, two_numbers};
+use crate::argument::{number_below, one_number, read_link, read_place, row_and_link, two_numbers};
 use crate::cut::{cut, first_word, three_words, two_words};
 use crate::kind::{Kind, kind_of};
 use orc_core::{CounterUse, Op};
@@ -56,15 +56,33 @@ fn read_cas(shape: &Shape, left: Option<&[u8]>) -> Option<Op>
     Some(Op::LinkCas { place, from, to })
 }
 
-// A row and a link.
+// A row and its first link.
 fn read_store(shape: &Shape, left: Option<&[u8]>) -> Option<Op>
     ensures some { IfSome result (Spells (bounds_of shape.now) Kind.Store (words_left (option_copied left.entry))) }
     ensures none { IfNone result ((op : Op) → ¬ Spells (bounds_of shape.now) Kind.Store (words_left (option_copied left.entry)) op) }
 {
-    let (row, link) = two_words(left)?;
-    let row = number_below(row, shape.rows())?;
-    let link = read_link(shape, link)?;
-    Some(Op::LinkStore { row, link })
+    let (row, link) = row_and_link(shape, left)?;
+    Some(Op::LinkStore {
+        row,
+        number: 0,
+        link,
+    })
+}
+
+// A row and its second link, where it has one.
+fn read_side(shape: &Shape, left: Option<&[u8]>) -> Option<Op>
+    ensures some { IfSome result (Spells (bounds_of shape.now) Kind.Side (words_left (option_copied left.entry))) }
+    ensures none { IfNone result ((op : Op) → ¬ Spells (bounds_of shape.now) Kind.Side (words_left (option_copied left.entry)) op) }
+{
+    if shape.links() < 2 {
+        return None;
+    }
+    let (row, link) = row_and_link(shape, left)?;
+    Some(Op::LinkStore {
+        row,
+        number: 1,
+        link,
+    })
 }
 
 // A row and a sequence.
@@ -122,6 +140,7 @@ fn op_of(shape: &Shape, kind: Kind, left: Option<&[u8]>) -> Option<Op>
         }),
         Kind::Cas => read_cas(shape, left),
         Kind::Store => read_store(shape, left),
+        Kind::Side => read_side(shape, left),
         Kind::Inc => Some(Op::Inc {
             row: one_number(left, shape.rows())?,
         }),

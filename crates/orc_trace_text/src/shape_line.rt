@@ -1,12 +1,15 @@
 //! The first line of a trace.
 
-ghost use Rattle.std.specs.Prelude.{◌≡◌, ◌≢◌, IfNone, IfSome, IfOk, IfErr, min};
+ghost use Rattle.std.specs.Prelude.{◌≡◌, ◌∷◌, ◌≢◌, List, ℕ, IfNone, IfSome, IfOk, IfErr, min};
+ghost use Rattle.std.specs.Fmt.{decimal};
+ghost use Rattle.std.specs.Option.{option_copied};
 ghost use Rattle.orc_words.specs.Bounds.{Bounds, IsShape, bounds_of};
 ghost use Rattle.orc_trace_text.specs.Asked.{bounds_asked};
 ghost use Rattle.orc_trace_text.specs.FirstLines.{HasTable, IsFirstOut, IsShapeFault};
-ghost use Rattle.orc_trace_text.specs.TraceText.{AreWide, shape_text};
+ghost use Rattle.orc_trace_text.specs.Reading.{EndsInLinks, words_left};
+ghost use Rattle.orc_trace_text.specs.TraceText.{AreWide, IsShapeText, IsWide};
 
-use crate::cut::{cut, first_word, two_words};
+use crate::cut::{cut, first_word, one_word};
 use crate::kind::is_word;
 use orc_decimal::number_of;
 use orc_words::{Shape, ShapeFault};
@@ -19,6 +22,7 @@ pub enum ShapeWord {
     Roots,
     Agents,
     Limit,
+    Links,
 }
 
 // The numbers of a first line, in range or not.
@@ -28,29 +32,53 @@ struct Asked {
     roots: u64,
     agents: u64,
     limit: u64,
+    links: u64,
+}
+
+// The number that the first of the words left spells, and what is left behind it.
+fn first_number(left: Option<&[u8]>) -> Option<(u64, Option<&[u8]>)>
+    ensures some { IfSome result (λ found. IsWide found.0
+        × (words_left (option_copied left.entry) ≡ decimal found.0 ∷ words_left (option_copied found.1))) }
+    ensures none { IfNone result ((number : ℕ) (words : List (List ℕ)) → IsWide number
+        → words_left (option_copied left.entry) ≢ decimal number ∷ words) }
+{
+    let (word, left) = first_word(left)?;
+    let number = number_of(word)?;
+    Some((number, left))
+}
+
+// The number of links that the words behind the limit spell, in range or not: 1 where there are none.
+fn links_of(left: Option<&[u8]>) -> Option<u64>
+    ensures some { IfSome result (λ links. IsWide links × EndsInLinks links (words_left (option_copied left.entry))) }
+    ensures none { IfNone result ((links : ℕ) → IsWide links → ¬ EndsInLinks links (words_left (option_copied left.entry))) }
+{
+    if left.is_none() {
+        return Some(1);
+    }
+    let word = one_word(left)?;
+    number_of(word)
 }
 
 // The numbers that a first line spells.
 fn numbers_of(line: &[u8]) -> Option<Asked>
-    ensures some { IfSome result (λ asked. AreWide (bounds_asked asked) × (line.now ≡ shape_text (bounds_asked asked))) }
-    ensures none { IfNone result ((b : Bounds) → AreWide b → line.now ≢ shape_text b) }
+    ensures some { IfSome result (λ asked. AreWide (bounds_asked asked) × IsShapeText (bounds_asked asked) line.now) }
+    ensures none { IfNone result ((b : Bounds) → AreWide b → ¬ IsShapeText b line.now) }
 {
     let (word, left) = cut(line, b' ');
     if !is_word(word, b"shape") {
         return None;
     }
-    let (rows, left) = first_word(left)?;
-    let (roots, left) = first_word(left)?;
-    let (agents, limit) = two_words(left)?;
-    let rows = number_of(rows)?;
-    let roots = number_of(roots)?;
-    let agents = number_of(agents)?;
-    let limit = number_of(limit)?;
+    let (rows, left) = first_number(left)?;
+    let (roots, left) = first_number(left)?;
+    let (agents, left) = first_number(left)?;
+    let (limit, left) = first_number(left)?;
+    let links = links_of(left)?;
     Some(Asked {
         rows,
         roots,
         agents,
         limit,
+        links,
     })
 }
 
@@ -72,12 +100,14 @@ fn shape_of(asked: &Asked) -> Result<Shape, ShapeWord>
     let rows = narrow(asked.rows);
     let roots = narrow(asked.roots);
     let agents = narrow(asked.agents);
-    match Shape::new(rows, roots, agents, asked.limit) {
+    let links = narrow(asked.links);
+    match Shape::with_links(rows, roots, agents, asked.limit, links) {
         Ok(shape) => Ok(shape),
         Err(ShapeFault::Rows(_)) => Err(ShapeWord::Rows),
         Err(ShapeFault::Roots(_)) => Err(ShapeWord::Roots),
         Err(ShapeFault::Agents(_)) => Err(ShapeWord::Agents),
         Err(ShapeFault::Limit(_)) => Err(ShapeWord::Limit),
+        Err(ShapeFault::Links(_)) => Err(ShapeWord::Links),
     }
 }
 

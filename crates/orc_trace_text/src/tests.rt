@@ -6,37 +6,50 @@ ghost use Rattle.orc_core.specs.declared.ops.CounterUse.{CounterUse};
 ghost use Rattle.orc_words.specs.declared.place.Word.{Word};
 ghost use Rattle.orc_trace_text.specs.FirstLines.{IsFirstOut};
 ghost use Rattle.orc_trace_text.specs.Reading.{Cuts, words_in, words_left};
-ghost use Rattle.orc_trace_text.specs.TraceText.{IsReadable, line_text, place_text, link_text, shape_text, trace_text};
+ghost use Rattle.orc_trace_text.specs.TraceText.{IsReadable, IsShapeText, line_text, place_text, link_text, steps_text};
 
 use super::*;
 use orc_core::{CounterUse, Op};
 use orc_words::{RowLink, Word};
 use std::test::Fail;
 
-// Agent 1 publishes row 0 in its slot 2; agent 0 links row 1, marked, from row 0.
+// Places, links and steps.
 fn lines()
     ensures root { place_text (Word.Root 3) ≡ codes "r3" }
     ensures row { place_text (Word.Next 3) ≡ codes "n3" }
+    ensures side { place_text (Word.Side 3) ≡ codes "s3" }
     ensures no_place { place_text (Word.Gate 3) ≡ [] }
     ensures marked { link_text (record { to = Some 2; mark = true }) ≡ codes "2m" }
     ensures null { link_text (record { to = None; mark = false }) ≡ codes "-" }
     ensures not_marked { link_text (record { to = Some 2; mark = false }) ≢ codes "2m" }
     ensures publish { line_text 1 (Op.Publish 2 0) ≡ codes "1 publish 2 0" }
     ensures cas { line_text 0 (Op.LinkCas (Word.Next 0) (record { to = None; mark = false }) (record { to = Some 1; mark = true })) ≡ codes "0 cas n0 - 1m" }
-    ensures shape { shape_text (record { rows = 2; roots = 1; agents = 3; limit = 8 }) ≡ codes "shape 2 1 3 8" }
-    ensures trace { trace_text (record { rows = 2; roots = 1; agents = 1; limit = 8 }) ((0, Op.Enroll) ∷ (0, Op.CounterLoad 0 CounterUse.Start) ∷ []) ≡ codes "shape 2 1 1 8\n0 enroll\n0 start 0\n" }
+    ensures store { line_text 0 (Op.LinkStore 1 0 (record { to = None; mark = false })) ≡ codes "0 store 1 -" }
+    ensures side_store { line_text 0 (Op.LinkStore 1 1 (record { to = Some 0; mark = false })) ≡ codes "0 side 1 0" }
+    ensures steps { steps_text ((0, Op.Enroll) ∷ (0, Op.CounterLoad 0 CounterUse.Start) ∷ []) ≡ codes "0 enroll\n0 start 0\n" }
+{}
+
+// With one link there are two spellings.
+fn first_lines()
+    ensures two_links { IsShapeText (record { rows = 2; roots = 1; agents = 3; limit = 8; links = 2 }) (codes "shape 2 1 3 8 2") }
+    ensures one_link { IsShapeText (record { rows = 2; roots = 1; agents = 3; limit = 8; links = 1 }) (codes "shape 2 1 3 8 1") }
+    ensures unsaid { IsShapeText (record { rows = 2; roots = 1; agents = 3; limit = 8; links = 1 }) (codes "shape 2 1 3 8") }
+    ensures not_unsaid { ¬ IsShapeText (record { rows = 2; roots = 1; agents = 3; limit = 8; links = 2 }) (codes "shape 2 1 3 8") }
 {}
 
 // Two agents have sixteen scan places and eight slots each.
 fn ranges()
-    ensures last_slot { IsReadable (record { rows = 2; roots = 1; agents = 2; limit = 8 }) (1, Op.Clear 7) }
-    ensures ninth_slot { ¬ IsReadable (record { rows = 2; roots = 1; agents = 2; limit = 8 }) (1, Op.Clear 8) }
-    ensures third_agent { ¬ IsReadable (record { rows = 2; roots = 1; agents = 2; limit = 8 }) (2, Op.Clear 7) }
-    ensures last_scan_place { IsReadable (record { rows = 2; roots = 1; agents = 2; limit = 8 }) (0, Op.Hand 15) }
-    ensures past_the_end { ¬ IsReadable (record { rows = 2; roots = 1; agents = 2; limit = 8 }) (0, Op.Hand 16) }
-    ensures no_link { ¬ IsReadable (record { rows = 2; roots = 1; agents = 2; limit = 8 }) (0, Op.LinkLoad (Word.Gate 0) None) }
-    ensures first_out { IsFirstOut (record { rows = 2; roots = 0; agents = 17; limit = 8 }) ShapeWord.Roots }
-    ensures not_first { ¬ IsFirstOut (record { rows = 2; roots = 0; agents = 17; limit = 8 }) ShapeWord.Agents }
+    ensures last_slot { IsReadable (record { rows = 2; roots = 1; agents = 2; limit = 8; links = 1 }) (1, Op.Clear 7) }
+    ensures ninth_slot { ¬ IsReadable (record { rows = 2; roots = 1; agents = 2; limit = 8; links = 1 }) (1, Op.Clear 8) }
+    ensures third_agent { ¬ IsReadable (record { rows = 2; roots = 1; agents = 2; limit = 8; links = 1 }) (2, Op.Clear 7) }
+    ensures last_scan_place { IsReadable (record { rows = 2; roots = 1; agents = 2; limit = 8; links = 1 }) (0, Op.Hand 15) }
+    ensures past_the_end { ¬ IsReadable (record { rows = 2; roots = 1; agents = 2; limit = 8; links = 1 }) (0, Op.Hand 16) }
+    ensures no_link { ¬ IsReadable (record { rows = 2; roots = 1; agents = 2; limit = 8; links = 1 }) (0, Op.LinkLoad (Word.Gate 0) None) }
+    ensures side { IsReadable (record { rows = 2; roots = 1; agents = 2; limit = 8; links = 2 }) (0, Op.LinkLoad (Word.Side 1) None) }
+    ensures no_side { ¬ IsReadable (record { rows = 2; roots = 1; agents = 2; limit = 8; links = 1 }) (0, Op.LinkLoad (Word.Side 1) None) }
+    ensures no_side_store { ¬ IsReadable (record { rows = 2; roots = 1; agents = 2; limit = 8; links = 1 }) (0, Op.LinkStore 0 1 (record { to = None; mark = false })) }
+    ensures first_out { IsFirstOut (record { rows = 2; roots = 0; agents = 17; limit = 8; links = 1 }) ShapeWord.Roots }
+    ensures not_first { ¬ IsFirstOut (record { rows = 2; roots = 0; agents = 17; limit = 8; links = 1 }) ShapeWord.Agents }
 {}
 
 // What a reader sees of a line.
@@ -50,7 +63,7 @@ fn words()
 
 #[test]
 fn a_trace_is_read_line_by_line(rt: HostRuntime) -> Result<(), Fail> {
-    let text = "shape 2 1 3 8\n0 enroll\n2 load n1 7\n1 cas r0 - 1m\n1 end 0\n";
+    let text = "shape 2 1 3 8 2\n0 enroll\n2 load s1 7\n1 cas r0 - 1m\n1 end 0\n0 side 0 1\n";
     let Ok((shape, lines)) = read_shape(text.as_bytes()) else {
         panic!(rt; "a shape line")
     };
@@ -61,7 +74,7 @@ fn a_trace_is_read_line_by_line(rt: HostRuntime) -> Result<(), Fail> {
         (
             2,
             Op::LinkLoad {
-                place: Word::Next(1),
+                place: Word::Side(1),
                 slot: Some(7),
             },
         ),
@@ -84,6 +97,17 @@ fn a_trace_is_read_line_by_line(rt: HostRuntime) -> Result<(), Fail> {
             Op::CounterLoad {
                 row: 0,
                 how: CounterUse::End,
+            },
+        ),
+        (
+            0,
+            Op::LinkStore {
+                row: 0,
+                number: 1,
+                link: RowLink {
+                    to: Some(1),
+                    mark: false,
+                },
             },
         ),
     ] {

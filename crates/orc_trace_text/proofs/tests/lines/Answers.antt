@@ -22,13 +22,21 @@ pub returns-clause-cas : goal.returns-clause-cas
 unfolding digits
 returns-clause-cas c = refl
 
-pub returns-clause-shape : goal.returns-clause-shape
+pub returns-clause-side : goal.returns-clause-side
 unfolding digits
-returns-clause-shape c = refl
+returns-clause-side c = refl
 
-pub returns-clause-trace : goal.returns-clause-trace
+pub returns-clause-store : goal.returns-clause-store
 unfolding digits
-returns-clause-trace c = refl
+returns-clause-store c = refl
+
+pub returns-clause-side_store : goal.returns-clause-side_store
+unfolding digits
+returns-clause-side_store c = refl
+
+pub returns-clause-steps : goal.returns-clause-steps
+unfolding digits
+returns-clause-steps c = refl
 
 pub returns-clause-not_marked : goal.returns-clause-not_marked
 unfolding digits
