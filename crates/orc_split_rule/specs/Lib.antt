@@ -1,0 +1,4 @@
+pub mod SplitOrder
+pub mod SplitDiscipline
+pub mod Watches
+pub mod Laws
