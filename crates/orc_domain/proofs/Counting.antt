@@ -9,15 +9,15 @@ use mathlib.Core.Logic.{dite}
 use native.Mathlib.Decide.{ℕ_discrete}
 use Rattle.orc_heap.proofs.Changes.{length-change}
 use Rattle.orc_heap.proofs.Runs.{run_from-append}
-use Rattle.orc_heap.specs.Acts.{as_linked, as_named, change_target, heap_after, set_link, with_link, with_value}
+use Rattle.orc_heap.specs.Acts.{as_linked, as_named, change_node, change_target, heap_after, set_link, with_link, with_side, with_value}
 use Rattle.orc_heap.specs.Heap.{Heap, HeapNumbers, Node, change, new_heap, new_node}
 use Rattle.orc_heap.specs.Journals.{run_from, run_heap}
 use Rattle.orc_heap.specs.declared.events.Act.{Act}
-use Rattle.orc_heap.specs.declared.events.Act.TheVariants.{Aim, Fill, Give, Look, Miss, Move}
+use Rattle.orc_heap.specs.declared.events.Act.TheVariants.{Aim, AimSide, Fill, Give, Look, Miss, Move}
 use Rattle.orc_heap.specs.declared.events.Event.{Event}
 use Rattle.orc_heap.specs.declared.events.Link.{Link}
 use Rattle.orc_heap.specs.declared.events.Place.{Place}
-use Rattle.orc_heap.specs.declared.events.Place.TheVariants.{Next, Root}
+use Rattle.orc_heap.specs.declared.events.Place.TheVariants.{Next, Root, Side}
 use Rattle.orc_table.proofs.Lists.{at_index, index_in, some_one}
 use Rattle.orc_table.specs.Machine.{index_of}
 use Rattle.orc_table.specs.Words.{IsOut, Once}
@@ -174,15 +174,20 @@ outs_low rows (suc n) = let a = outs_low rows n in let b = bit_low n rows in ome
 nodes_link : (place : Place) (link : Link) (h : Heap) → length (set_link place link h).nodes ≡ length h.nodes
 nodes_link (Root r) link h = refl
 nodes_link (Next i) link h = length-change (with_link link) i h.nodes
+nodes_link (Side i) link h = length-change (with_side link) i h.nodes
+
+nodes_aimed : (f : Node → Node) (id : ℕ) (to : Option ℕ) (h : Heap)
+    → length (change_target as_named to (change_node f id h)).nodes ≡ length h.nodes + 0
+nodes_aimed f id to h =
+    let e = target_length as_named to (change_node f id h) in
+    let l = length-change f id h.nodes in
+    omega (arith, e, l)
 
 nodes_after : (agent : ℕ) (act : Act) (h : Heap) → length (heap_after agent act h).nodes ≡ length h.nodes + give_with act
 nodes_after agent Give h = length-append h.nodes (new_node agent ∷ [])
 nodes_after agent (Fill id which value) h = let e = length-change (with_value which value) id h.nodes in omega (arith, e)
-nodes_after agent (Aim id to) h =
-    let l : Node → Node = with_link (record { to = to; mark = false }) in
-    let e = target_length as_named to (record { nodes = change l id h.nodes; roots = h.roots }) in
-    let f = length-change l id h.nodes in
-    omega (arith, e, f)
+nodes_after agent (Aim id to) h = nodes_aimed (with_link (record { to = to; mark = false })) id to h
+nodes_after agent (AimSide id to) h = nodes_aimed (with_side (record { to = to; mark = false })) id to h
 nodes_after agent (Look place link) h = omega arith
 nodes_after agent (Move place from to) h = let e = target_length as_linked to.to (set_link place to h) in let f = nodes_link place to h in omega (arith, e, f)
 nodes_after agent (Miss place wanted found) h = omega arith

@@ -82,7 +82,7 @@ module _ {D N : Type 0} {d : discipline.Ghosts D N} {m : machine.Ghosts Plain N 
       abbrev past : List (Event N)
       past = t.events ++ g.adds.met
 
-      heap_is : heap_of b u ≡ record { nodes = (run_heap (numbers b) past).nodes ++ new_node t.agent ∷ []; roots = (run_heap (numbers b) past).roots }
+      heap_is : heap_of b u ≡ (let h : Heap = run_heap (numbers b) past in record h { nodes = h.nodes ++ new_node t.agent ∷ [] })
       heap_is = ap (run_heap (numbers b)) g.adds.events ∙ run_heap-snoc (numbers b) past (event_by t.agent Give None)
 
       past_long : length (run_heap (numbers b) past).nodes ≡ length g.before

@@ -17,7 +17,7 @@ use orc_words::Shape;
 use std::alloc::Global;
 
 impl<D: Discipline> PlainDomain<D> {
-    /// A domain, and one pass an agent, in order. Its journal begins with the seed's events, of agent 0.
+    /// A domain whose nodes have one link, and one pass an agent, in order. Its journal begins with the seed's events, of agent 0.
     ///
     /// # Errors
     ///
@@ -27,6 +27,7 @@ impl<D: Discipline> PlainDomain<D> {
         shape: &Shape,
         seed: Seed<D::Note>,
     ) -> Result<(PlainDomain<D>, Vec<PlainPass<D>>), NoMemory>
+        requires links { (bounds_of shape.now).links ≡ 1 }
         requires holds { D.holds (numbers (bounds_of shape.now)) [] }
         requires seed { SeedAllowed D.may (numbers (bounds_of shape.now)) seed }
         ensures bounds { IfOk result (λ made. domain_bounds made.0 ≡ bounds_of shape.now) }

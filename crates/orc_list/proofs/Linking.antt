@@ -18,7 +18,7 @@ use Rattle.orc_heap.specs.OwnEvents.{Only, Puts}
 use Rattle.orc_heap.specs.Seats.{Seat, heap_of, link_in, place_in}
 use Rattle.orc_heap.specs.Slots.{Hold, Slots, id_in}
 use Rattle.orc_heap.specs.declared.events.Act.{Act}
-use Rattle.orc_heap.specs.declared.events.Act.TheVariants.{Aim, Fill, Give, Look, Miss, Move}
+use Rattle.orc_heap.specs.declared.events.Act.TheVariants.{Aim, Fill, Give, Look, Miss, Move, AimSide}
 use Rattle.orc_heap.specs.declared.events.Event.{Event}
 use Rattle.orc_heap.specs.declared.events.Link.{Link}
 use Rattle.orc_heap.specs.declared.events.Place.{Place}
@@ -59,6 +59,7 @@ load_away : (act : Act) (id : ℕ) → IsLoad act → points_to act id ≡ false
 load_away Give id l = refl
 load_away (Fill i which value) id l = refl
 load_away (Aim i to) id l = absurd l
+load_away (AimSide i to) id l = absurd l
 load_away (Look place link) id l = refl
 load_away (Move place from to) id l = absurd l
 load_away (Miss place wanted found) id l = refl
@@ -67,6 +68,7 @@ load_same : (act : Act) (id : ℕ) (x : Node) → IsLoad act → touched act id 
 load_same Give id x l = refl
 load_same (Fill i which value) id x l = absurd l
 load_same (Aim i to) id x l = absurd l
+load_same (AimSide i to) id x l = absurd l
 load_same (Look place link) id x l = refl
 load_same (Move place from to) id x l = absurd l
 load_same (Miss place wanted found) id x l = refl

@@ -8,7 +8,6 @@ use Rattle.orc_heap.proofs.Steps.{part_bounds}
 use Rattle.orc_heap.specs.Allowed.{AllowedLater}
 use Rattle.orc_heap.specs.Calls.{Misses, RefusesSwing, Swings, event_of, move_of, unless_node}
 use Rattle.orc_heap.specs.Heap.{HeapNumbers, link_to}
-use Rattle.orc_heap.specs.Moves.{IsLinkedPlace}
 use Rattle.orc_heap.specs.OwnEvents.{Only, Puts}
 use Rattle.orc_heap.specs.Seats.{IsNotFresh, Seat, heap_of, link_in, place_in}
 use Rattle.orc_heap.specs.Slots.{Slots, id_in}
@@ -27,7 +26,7 @@ use Rattle.orc_history.specs.declared.set.SetEntry.TheVariants.{Removed}
 use Rattle.orc_chain_rule.proofs.Coming.{removed_allowed, unlink_allowed}
 use Rattle.orc_chain_rule.specs.declared.chain.ChainNote.{ChainNote}
 use Rattle.orc_chain_rule.specs.declared.chain.ChainNote.TheVariants.{Entry, Unlink}
-use Rattle.orc_chain_rule.specs.ChainDiscipline.{ChainHolds, ChainMay, HasKey, IsRun, link_over}
+use Rattle.orc_chain_rule.specs.ChainDiscipline.{ChainHolds, ChainMay, HasKey, IsRun, link_over, IsChainPlace}
 use Rattle.orc_chain_rule.specs.Laws.Kinds.{key_linked}
 use Rattle.orc_list.specs.Searches.{NextFollows}
 use Rattle.orc_list.specs.Turns.{Marks, TriesUnlink}
@@ -41,11 +40,11 @@ pub refused_apart : (slots : Slots) (from to : Want) (why : Spent) (seen : List 
 refused_apart slots from (WantNull mark) why seen r same = r
 refused_apart slots from (WantNode h mark) why seen r same = r.0 same
 
-pub not_fresh_at : (n : HeapNumbers) (s : Seat ChainNote) (at : At) (place : Place) → place_in s.slots at ≡ place → IsLinkedPlace place (heap_of n s)
+pub not_fresh_at : (n : HeapNumbers) (s : Seat ChainNote) (at : At) (place : Place) → place_in s.slots at ≡ place → IsChainPlace place (heap_of n s)
     → FreshIs n s → IsNotFresh s at
 not_fresh_at n s (AtRoot r) place is l fresh = tt
 not_fresh_at n s (AtNode h) place is l fresh = linked_not_fresh n s (id_in s.slots h.now) fresh
-    (subst (λ (p : Place). IsLinkedPlace p (heap_of n s)) (sym is) l)
+    (subst (λ (p : Place). IsChainPlace p (heap_of n s)) (sym is) l)
 
 target_fresh : (n : HeapNumbers) (s : Seat ChainNote) (id : ℕ) (to : Option ℕ) → NextFollows n id to s → FreshIs n s → unless_node s.fresh to ≡ s.fresh
 target_fresh n s id None f fresh = unless_none s.fresh
@@ -82,7 +81,7 @@ marks n s t id key by to at from marked done at_is from_is marked_is by_is follo
     }
 
 pub try_allowed : (n : HeapNumbers) (s : Seat ChainNote) (place at : Place) (first : ℕ) (others : List ℕ) (to : Option ℕ) (past : Link) → at ≡ place
-    → past ≡ link_over to → ChainHolds n s.seen → IsLinkedPlace place (heap_of n s)
+    → past ≡ link_over to → ChainHolds n s.seen → IsChainPlace place (heap_of n s)
     → IsRun (heap_of n s) (link_to first) (first ∷ others) to
     → AllowedLater (ChainMay n) n s.agent s.seen at (link_to first) (event_of s (Move at (link_to first) past) (Some Unlink))
 try_allowed n s place at first others to past at_is past_is holds l run = rw (at_is, past_is)

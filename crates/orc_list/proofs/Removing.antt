@@ -13,7 +13,7 @@ use Rattle.orc_heap.specs.Calls.{event_of}
 use Rattle.orc_heap.specs.Hands.{Hand, hand}
 use Rattle.orc_heap.specs.Heap.{Heap, HeapNumbers, link_to, shown}
 use Rattle.orc_heap.specs.Journals.{run_heap}
-use Rattle.orc_heap.specs.Moves.{AllOwn, IsLinkedPlace, from_own, gives_in, moves_in}
+use Rattle.orc_heap.specs.Moves.{AllOwn, from_own, gives_in, moves_in}
 use Rattle.orc_heap.specs.OwnEvents.{Puts}
 use Rattle.orc_heap.specs.Seats.{Seat, heap_of}
 use Rattle.orc_heap.specs.Slots.{Hold, Holds, Slots, id_in}
@@ -27,7 +27,7 @@ use Rattle.orc_chain_rule.proofs.Later.{linked_later, marked_later, run_later}
 use Rattle.orc_chain_rule.proofs.Leaving.{unlinked_off}
 use Rattle.orc_chain_rule.specs.declared.chain.ChainNote.{ChainNote}
 use Rattle.orc_chain_rule.specs.declared.chain.ChainNote.TheVariants.{Entry, Unlink}
-use Rattle.orc_chain_rule.specs.ChainDiscipline.{ChainHolds, ChainMay, FollowsOn, HasKey, IsOnNoChain, IsRun, entries_of, link_over}
+use Rattle.orc_chain_rule.specs.ChainDiscipline.{ChainHolds, ChainMay, FollowsOn, HasKey, IsOnNoChain, IsRun, entries_of, link_over, IsChainPlace}
 use Rattle.orc_chain_rule.specs.Laws.Kept.{chain_keeps}
 use Rattle.orc_chain_rule.specs.Laws.Kinds.{key_linked, key_one, move_moves}
 use Rattle.orc_list.specs.Searches.{AllGone, BeginsRun, FindsPresent, HoldsIfAny, InHand, NextFollows, left_place, node_of}
@@ -35,7 +35,7 @@ use Rattle.orc_list.specs.Turns.{LeavesOff, Made, Marks, TakesKey, TakesOut, Tir
 use Rattle.orc_list.proofs.Answering.{from_is, head_of, place_of_hand, reads_node, target_is}
 use Rattle.orc_list.proofs.Held.{first_held, in_hand_on, present_hand, second_held}
 use Rattle.orc_list.proofs.Making.{made_after, made_on, missed, over_on}
-use Rattle.orc_list.proofs.Quiets.{below_puts, left_place_linked, next_puts, run_puts}
+use Rattle.orc_list.proofs.Quiets.{below_puts, left_place_on, next_puts, run_puts}
 use Rattle.orc_list.proofs.Seen.{loads-append, sees_left, sees_run_left}
 use Rattle.orc_list.proofs.Stepping.{run_snoc}
 
@@ -213,10 +213,10 @@ module _ (n : HeapNumbers) (root key : ℕ) (left first : Option Hold) (node : H
       (others, subst (λ (o : Option ℕ). IsRun (heap_of n u) (link_to (id_in u.slots h)) (id_in u.slots h ∷ others) o) (sym a.to_is) run)
 
   pub unlink_left : (u : Seat ChainNote) (h : Hold) → Marks key f.id (node_of next f.next_id) t true u → AllAllowed (ChainMay n) [] u.seen
-      → Some h ≡ first_or first (Some node) → IsLinkedPlace (place_at u.slots root left) (heap_of n u)
+      → Some h ≡ first_or first (Some node) → IsChainPlace (place_at u.slots root left) (heap_of n u)
   unlink_left u h m all is =
       let a = unlink_at u h m.slots is in
-      subst (λ (p : Place). IsLinkedPlace p (heap_of n u)) (sym a.place_is) (left_place_linked n u place key
+      subst (λ (p : Place). IsChainPlace p (heap_of n u)) (sym a.place_is) (left_place_on n u place key
       (below_puts n t u _ m.puts all place key f.behind.leads.below))
 
   pub unlink_follows : (u : Seat ChainNote) → Marks key f.id (node_of next f.next_id) t true u → AllAllowed (ChainMay n) [] u.seen

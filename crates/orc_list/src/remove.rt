@@ -2,10 +2,9 @@
 
 ghost use Rattle.std.specs.Prelude.{◌≡◌, ◌<◌, ◌%◌, ℕ, List, ◌∷◌, Some};
 ghost use mathlib.Core.List.{IsPrefix};
-ghost use Rattle.orc_heap.specs.Moves.{IsLinkedPlace};
 ghost use Rattle.orc_heap.specs.Seats.{Seat, heap_of};
 ghost use Rattle.orc_heap.specs.Slots.{Holds, id_in};
-ghost use Rattle.orc_chain_rule.specs.ChainDiscipline.{HasKey, IsRun, link_over};
+ghost use Rattle.orc_chain_rule.specs.ChainDiscipline.{HasKey, IsChainPlace, IsRun, link_over};
 ghost use Rattle.orc_chain_rule.specs.declared.chain.ChainNote.{ChainNote};
 ghost use Rattle.orc_list.specs.Answers.{RemovesTurns};
 ghost use Rattle.orc_list.specs.Causes.{HasWorn};
@@ -67,7 +66,7 @@ fn unlink_run<L: Links<Rule = Chain>>(
     requires root { root < (L.numbers links.now).roots }
     requires held { HoldsIfAny (L.seat links.now p.old).slots left.now × Holds (L.seat links.now p.old).slots first.now
         × HoldsIfAny (L.seat links.now p.old).slots next.now }
-    requires left { IsLinkedPlace (place_at (L.seat links.now p.old).slots root left.now) (heap_of (L.numbers links.now) (L.seat links.now p.old)) }
+    requires left { IsChainPlace (place_at (L.seat links.now p.old).slots root left.now) (heap_of (L.numbers links.now) (L.seat links.now p.old)) }
     requires run { (others : List ℕ) × IsRun (heap_of (L.numbers links.now) (L.seat links.now p.old)) (link_over (target_at (L.seat links.now p.old).slots
         (Some first.now)))
         (id_in (L.seat links.now p.old).slots first.now ∷ others) (target_at (L.seat links.now p.old).slots next.now) }

@@ -11,7 +11,7 @@ use Rattle.orc_heap.proofs.Runs.{lawful-right}
 use Rattle.orc_heap.specs.Heap.{HeapNumbers, new_heap}
 use Rattle.orc_heap.specs.Journals.{FitsAfter, IsLawful, IsLawfulFrom, IsPlain as IsPlainEvent, run_heap}
 use Rattle.orc_heap.specs.declared.events.Act.{Act}
-use Rattle.orc_heap.specs.declared.events.Act.TheVariants.{Aim, Fill, Give, Look, Miss, Move}
+use Rattle.orc_heap.specs.declared.events.Act.TheVariants.{Aim, AimSide, Fill, Give, Look, Miss, Move}
 use Rattle.orc_heap.specs.declared.events.Event.{Event}
 use Rattle.orc_heap.specs.declared.events.Place.{Place}
 use Rattle.orc_projection.proofs.Mirrored.{project-append, projection_lawful}
@@ -59,6 +59,7 @@ module _ {N : Type 0} where
 abbrev PlainAct : Option Act → Type 0
 PlainAct None = Unit {0}
 PlainAct (Some (Aim id to)) = ⊥
+PlainAct (Some (AimSide id to)) = ⊥
 PlainAct (Some (Move place from to)) = ⊥
 PlainAct (Some act) = Unit {0}
 
@@ -82,7 +83,7 @@ plain_act p d w (GateTake r) want e = plain_if (is_taken d w) (Some Give) None t
 plain_act p d w (FillStep r which v) want e = tt
 plain_act p d w (LinkLoad place slot) want e = plain_load p w want (node_place p place)
 plain_act p d w (LinkCas place from to) want e = absurd (false≢true e)
-plain_act p d w (LinkStore r k) want e = absurd (false≢true e)
+plain_act p d w (LinkStore r number k) want e = absurd (false≢true e)
 plain_act p d w op want e = tt
 
 module _ {N : Type 0} where
@@ -91,6 +92,7 @@ module _ {N : Type 0} where
   plain_event s (Some Give) e p = (refl, tt)
   plain_event s (Some (Fill id which v)) e p = (refl, tt)
   plain_event s (Some (Aim id to)) e p = absurd p
+  plain_event s (Some (AimSide id to)) e p = absurd p
   plain_event s (Some (Look place link)) e p = (e, tt)
   plain_event s (Some (Move place from to)) e p = absurd p
   plain_event s (Some (Miss place wanted found)) e p = (refl, tt)
@@ -129,7 +131,7 @@ plain_allowed b a (Publish x r) want d e w = (tt, refl)
 plain_allowed b a (Clear x) want d e w = (tt, refl)
 plain_allowed b a (Arm r) want d e w = (tt, refl)
 plain_allowed b a (LinkCas p f t) want d e w = absurd (false≢true e)
-plain_allowed b a (LinkStore r l) want d e w = absurd (false≢true e)
+plain_allowed b a (LinkStore r number l) want d e w = absurd (false≢true e)
 plain_allowed b a (Inc r) want d e w = (tt, refl)
 plain_allowed b a (Dec r) want d e w = (tt, refl)
 plain_allowed b a (SetRetired r q) want d e w = (tt, refl)

@@ -58,13 +58,13 @@ at_word n seen o one from to note is can p e = subst (λ q. AllowedLater (FifoMa
 
 -- the dummy with this link, and the node of the job
 abbrev dummy : Link → Node
-dummy link = record { giver = 0; first = Some 0; second = Some 0; link = link; named = true; linked = true }
+dummy link = record { giver = 0; first = Some 0; second = Some 0; link = link; side = null; named = true; linked = true }
 
 abbrev new_dummy : Node
-new_dummy = record { giver = 0; first = Some 0; second = Some 0; link = null; named = false; linked = false }
+new_dummy = record { giver = 0; first = Some 0; second = Some 0; link = null; side = null; named = false; linked = false }
 
 abbrev job : Node
-job = record { giver = 0; first = Some 6; second = Some 1; link = null; named = true; linked = true }
+job = record { giver = 0; first = Some 6; second = Some 1; link = null; side = null; named = true; linked = true }
 
 -- the id that a link names, and 0 where it names none
 abbrev id_of : Option ℕ → ℕ

@@ -5,7 +5,7 @@ use Rattle.std.specs.Prelude.{if◌then◌else◌, is_none, nat_lt, not, ◌&&�
 use Rattle.orc_core.proofs.Within.{and_both, may_parts}
 use Rattle.orc_core.specs.Allowed.{fits, may as may_make, may_change, may_place, may_target}
 use Rattle.orc_core.specs.Machine.{record_at, word_read}
-use Rattle.orc_core.specs.RecordParts.{any_holds, doom_uncut, is_empty, is_published, names, slot_of}
+use Rattle.orc_core.specs.RecordParts.{any_holds, doom_at, is_empty, is_published, names, slot_of}
 use Rattle.orc_core.specs.declared.ops.Op.TheVariants.{LinkCas, LinkLoad, LinkStore}
 use Rattle.orc_core.specs.declared.records.Agent.{Agent}
 use Rattle.orc_heap.proofs.Stays.{allowed-right}
@@ -42,7 +42,7 @@ use Rattle.orc_words.specs.Bounds.{Bounds}
 use Rattle.orc_words.specs.Packed.{link_of, link_word}
 use Rattle.orc_words.specs.declared.packed.RowLink.{RowLink}
 use Rattle.orc_words.specs.declared.place.Word.{Word}
-use Rattle.orc_words.specs.declared.place.Word.TheVariants.{Enrolled, Root, Gate, Counter, First, Second, Next, Slot, Handover}
+use Rattle.orc_words.specs.declared.place.Word.TheVariants.{Enrolled, Root, Gate, Counter, First, Second, Next, Side, Slot, Handover}
 
 -- rows that keep their nodes: links and places that name them are the same
 module _ (p q : PresentIds) (d : Agent) (stays : (r : ℕ) → HasRow d r → q.node r ≡ p.node r) where
@@ -56,6 +56,7 @@ module _ (p q : PresentIds) (d : Agent) (stays : (r : ℕ) → HasRow d r → q.
   pub same_place : (w : Word) → HasPlace d w → node_place q w ≡ node_place p w
   same_place (Root i) h = refl
   same_place (Next r) h = ap (λ id. node_place (record { given = 0; node = λ x. id }) (Next r)) (stays r h)
+  same_place (Side r) h = ap (λ id. node_place (record { given = 0; node = λ x. id }) (Side r)) (stays r h)
   same_place Enrolled h = refl
   same_place (Gate r) h = refl
   same_place (Counter r) h = refl
@@ -76,6 +77,10 @@ has_target b d (Some r) h = let held = and_both (nat_lt r b.rows) (any_holds d.s
 has_place : (b : Bounds) (d : Agent) (w : Word) → may_place b w (λ r. any_holds d.slots r && not (names d.fresh r)) ≡ true → HasPlace d w
 has_place b d (Next r) h =
     let there = and_both (nat_lt r b.rows) (any_holds d.slots r && not (names d.fresh r)) h in
+    let held = and_both (any_holds d.slots r) (not (names d.fresh r)) there.1 in
+    has_either (any_holds d.slots r) (names d.fresh r) held.0
+has_place b d (Side r) h =
+    let there = and_both (nat_lt r b.rows && nat_lt 1 b.links) (any_holds d.slots r && not (names d.fresh r)) h in
     let held = and_both (any_holds d.slots r) (not (names d.fresh r)) there.1 in
     has_either (any_holds d.slots r) (names d.fresh r) held.0
 has_place b d (Root i) h = tt
@@ -186,6 +191,7 @@ module _ {N : Type 0} where
 
 load_place : (b : Bounds) (d : Agent) (w : Word) → may_place b w (λ r. any_holds d.slots r || names d.fresh r) ≡ true → HasPlace d w
 load_place b d (Next r) h = (and_both (nat_lt r b.rows) (any_holds d.slots r || names d.fresh r) h).1
+load_place b d (Side r) h = (and_both (nat_lt r b.rows && nat_lt 1 b.links) (any_holds d.slots r || names d.fresh r) h).1
 load_place b d (Root i) h = tt
 load_place b d w h = tt
 
@@ -199,16 +205,16 @@ wanted_has : (d : Agent) (to : Option ℕ) → IsHeldOrNull d to → HasTarget d
 wanted_has d None h = tt
 wanted_has d (Some r) h = has_either (any_holds d.slots r) (names d.fresh r) h
 
-store_has : (b : Bounds) (a : ℕ) (d : Agent) (row : ℕ) (link : RowLink) → fits b 0 a (LinkStore row link) d ≡ true → HasTarget d link.to
+store_has : (b : Bounds) (a : ℕ) (d : Agent) (row : ℕ) (link : RowLink) → fits b 0 a (LinkStore row 0 link) d ≡ true → HasTarget d link.to
 store_has b a d row link h =
     let fresh = names d.fresh row && may_target b d link.to && may_change d (b.limit + 64) None link.to in
-    let doomed = doom_uncut d.doom row && is_none link.to && not link.mark in
-    let one = and_both (nat_lt row b.rows && is_empty (slot_of d 0)) (fresh || doomed) h in
+    let doomed = doom_at d.doom row 0 && is_none link.to && not link.mark in
+    let one = and_both (nat_lt row b.rows && nat_lt 0 b.links && is_empty (slot_of d 0)) (fresh || doomed) h in
     one_of fresh doomed (HasTarget d link.to) one.1
     (λ e. has_target b d link.to
     (and_both (names d.fresh row) (may_target b d link.to)
     (and_both (names d.fresh row && may_target b d link.to) (may_change d (b.limit + 64) None link.to) e).0).1)
-    (λ e. none_has link.to (and_both (doom_uncut d.doom row) (is_none link.to) (and_both (doom_uncut d.doom row && is_none link.to) (not link.mark) e).0).1)
+    (λ e. none_has link.to (and_both (doom_at d.doom row 0) (is_none link.to) (and_both (doom_at d.doom row 0 && is_none link.to) (not link.mark) e).0).1)
   where
     none_has : (to : Option ℕ) → is_none to ≡ true → HasTarget d to
     none_has None e = tt
@@ -291,13 +297,13 @@ module _ {N : Type 0} where
         none_some e = cc
     load_licensed place slot (Some link) (Some said) can bare allowed = noted_licensed place slot link (Some said) can (allowed link said refl refl)
 
-    pub store_licensed : (row : ℕ) (link : RowLink) → RequestAllowed (bounds_in k) a (asks (LinkStore row link)) v.own
+    pub store_licensed : (row : ℕ) (link : RowLink) → RequestAllowed (bounds_in k) a (asks (LinkStore row 0 link)) v.own
         → (names v.own.fresh row ≡ true → AimAllowed may (bounds_in k) (view_of a v) row link.to)
-        → Licensed counted_rules k holds may v a (asks (LinkStore row link)) None
+        → Licensed counted_rules k holds may v a (asks (LinkStore row 0 link)) None
     store_licensed row link can allowed between none later =
         let b = bounds_in k in
         let j = v.seen ++ between in
-        let ask : Request = asks (LinkStore row link) in
+        let ask : Request = asks (LinkStore row 0 link) in
         let s : Step N = step_of a ask None in
         let l = (counted_obeys k).lawful_next j a ask None later.lawful (subst (RequestAllowed b a ask) (sym later.mine) can) in
         let p : PresentIds = present_ids b v.seen in
@@ -305,9 +311,9 @@ module _ {N : Type 0} where
         let d : Agent = record_at (run_of b j) a in
         let stays = stays_for k holds may v a number now between none later in
         let st : option_map q.node link.to ≡ option_map p.node link.to = same_target p q v.own stays link.to
-        (store_has b a v.own row link (may_parts b 0 a (LinkStore row link) v.own can.may).fits) in
+        (store_has b a v.own row link (may_parts b 0 a (LinkStore row 0 link) v.own can.may).fits) in
         let met = meets k holds may v a between none later in
-        aim_may (heap_numbers k) may (project b j) (λ e. law (project b j) e later.kept) s q (word_read (run_of b j) a (LinkStore row link))
+        aim_may (heap_numbers k) may (project b j) (λ e. law (project b j) e later.kept) s q (word_read (run_of b j) a (LinkStore row 0 link))
         (names d.fresh row) (q.node row) (option_map q.node link.to)
         (λ e fits.
         let fresh : names v.own.fresh row ≡ true = subst (λ (z : Agent). names z.fresh row ≡ true) later.mine e in

@@ -27,7 +27,7 @@ use Rattle.orc_words.specs.declared.place.Word.TheVariants.{Next, Root}
 
 -- the sizes of the board
 abbrev pub small : Bounds
-small = record { rows = 2; roots = 2; agents = 1; limit = 8 }
+small = record { rows = 2; roots = 2; agents = 1; limit = 8; links = 1 }
 
 -- these ops of agent 0
 abbrev pub own_steps : List Op → List (Step FifoNote)

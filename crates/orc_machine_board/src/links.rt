@@ -57,17 +57,21 @@ impl<D: Discipline> MachineBoard<D> {
         self.step(p, Request { op, want: None }, &note)
     }
 
-    /// Swaps the fresh row's link, or takes the link out of a doomed row. Answers the word that was there.
+    /// Swaps the fresh row's first link, or takes that out of a doomed row. Answers the word that was there.
     pub fn link_store(&self, p: &mut MachineBoardPass<D>, row: u32, link: RowLink) -> u64
         requires belongs { Belongs self.now p.old }
-        requires allowed { MayDo (board_bounds self.now) (shows p.old) (Op.LinkStore row link) }
+        requires allowed { MayDo (board_bounds self.now) (shows p.old) (Op.LinkStore row 0 link) }
         requires without_mark { link.mark ≡ false }
         requires licensed { names (shows p.old).record_is.fresh row ≡ true
             → AimAllowed (D.may (board_numbers self.now)) (board_bounds self.now) (shows p.old) row link.to }
         ensures belongs { Belongs self.now p.new }
-        ensures makes { Makes (board_bounds self.now) (asks (Op.LinkStore row link)) None (shows p.old) result (shows p.new) }
+        ensures makes { Makes (board_bounds self.now) (asks (Op.LinkStore row 0 link)) None (shows p.old) result (shows p.new) }
     {
-        let op = Op::LinkStore { row, link };
+        let op = Op::LinkStore {
+            row,
+            number: 0,
+            link,
+        };
         self.step(p, Request { op, want: None }, &None)
     }
 }

@@ -115,7 +115,12 @@ fn make_one<D: Discipline>(
     ensures agent { (shows p.new).agent ≡ (shows p.old).agent }
     ensures absorbed { (shows p.new).absorbed ≡ (shows p.old).absorbed }
 {
-    if let Op::LinkStore { row, link } = op {
+    if let Op::LinkStore {
+        row,
+        number: 0,
+        link,
+    } = op
+    {
         if link.mark || p.record().is_fresh(row) || !may_make(board, p, &op) {
             return None;
         }
@@ -241,7 +246,11 @@ fn reuse_row_0(board: &Board, p: &mut Pass) -> bool
         p,
         &[
             END,
-            Op::LinkStore { row: 0, link },
+            Op::LinkStore {
+                row: 0,
+                number: 0,
+                link,
+            },
             Op::Unretire { row: 0 },
             Op::Free { row: 0 },
         ],

@@ -19,11 +19,11 @@ use Rattle.orc_heap.specs.Moves.{IsLinkedPlace, is_at, move_with, moves_in, move
 use Rattle.orc_heap.specs.OwnEvents.{Puts}
 use Rattle.orc_heap.specs.Seats.{Seat, heap_of}
 use Rattle.orc_heap.specs.declared.events.Act.{Act}
-use Rattle.orc_heap.specs.declared.events.Act.TheVariants.{Aim, Fill, Give, Look, Miss, Move}
+use Rattle.orc_heap.specs.declared.events.Act.TheVariants.{Aim, Fill, Give, Look, Miss, Move, AimSide}
 use Rattle.orc_heap.specs.declared.events.Event.{Event}
 use Rattle.orc_heap.specs.declared.events.Link.{Link}
 use Rattle.orc_heap.specs.declared.events.Place.{Place}
-use Rattle.orc_heap.specs.declared.events.Place.TheVariants.{Next, Root}
+use Rattle.orc_heap.specs.declared.events.Place.TheVariants.{Next, Root, Side}
 use Rattle.orc_fifo_rule.proofs.Later.{holds_later}
 use Rattle.orc_fifo_rule.proofs.MoveKinds.{off_the_head-append}
 use Rattle.orc_fifo_rule.specs.Counts.{off_the_head}
@@ -54,6 +54,11 @@ same_place : (one two : Place) → is_at one two ≡ true → one ≡ two
 same_place (Root r) (Root q) is = ap (λ (x : ℕ). Root x) (eqb-true r q is)
 same_place (Root r) (Next j) is = cc
 same_place (Next i) (Root q) is = cc
+same_place (Root r) (Side j) is = cc
+same_place (Next i) (Side j) is = cc
+same_place (Side i) (Root q) is = cc
+same_place (Side i) (Next j) is = cc
+same_place (Side i) (Side j) is = ap (λ (x : ℕ). Side x) (eqb-true i j is)
 same_place (Next i) (Next j) is = ap (λ (x : ℕ). Next x) (eqb-true i j is)
 
 -- a Move of another place than root 0
@@ -62,6 +67,7 @@ moves_off : (place : Place) (act : Act) → is_at place (Root 0) ≡ false → m
 moves_off place Give off is = cc
 moves_off place (Fill id which value) off is = cc
 moves_off place (Aim id to) off is = cc
+moves_off place (AimSide id to) off is = cc
 moves_off place (Look at link) off is = cc
 moves_off place (Miss at wanted found) off is = cc
 moves_off place (Move at from to) off is = (refl, ap (λ (x : Place). is_at x (Root 0)) (same_place at place is) ∙ off)

@@ -10,15 +10,15 @@ use Rattle.orc_heap.proofs.Linked.{linked_after}
 use Rattle.orc_heap.proofs.SingleActs.{plain_moves}
 use Rattle.orc_heap.proofs.Runs.{run_heap-snoc}
 use Rattle.orc_heap.proofs.Stays.{allowed-left, allowed-right}
-use Rattle.orc_heap.specs.Acts.{as_linked, heap_after, with_link}
+use Rattle.orc_heap.specs.Acts.{as_linked, heap_after, with_link, with_side}
 use Rattle.orc_heap.specs.Allowed.{AllAllowed, IsLinkedNode}
 use Rattle.orc_heap.specs.Heap.{Heap, HeapNumbers, Node, link_to}
 use Rattle.orc_heap.specs.Journals.{IsPlainAct, moves_to, names_node, run_heap, event_by}
 use Rattle.orc_heap.specs.declared.events.Act.{Act}
-use Rattle.orc_heap.specs.declared.events.Act.TheVariants.{Aim, Fill, Give, Look, Miss, Move}
+use Rattle.orc_heap.specs.declared.events.Act.TheVariants.{Aim, Fill, Give, Look, Miss, Move, AimSide}
 use Rattle.orc_heap.specs.declared.events.Event.{Event}
 use Rattle.orc_heap.specs.declared.events.Link.{Link}
-use Rattle.orc_heap.specs.declared.events.Place.TheVariants.{Next, Root}
+use Rattle.orc_heap.specs.declared.events.Place.TheVariants.{Next, Root, Side}
 use Rattle.orc_fifo_rule.proofs.Later.{holds_later, nothing_yet}
 use Rattle.orc_fifo_rule.specs.declared.fifo.FifoNote.{FifoNote}
 use Rattle.orc_fifo_rule.specs.QueueDiscipline.{FifoHolds, FifoMay, has_begun}
@@ -76,9 +76,13 @@ second_kept : (act : Act) (id : ℕ) (x : Node) → moves_to act id ≡ true →
 second_kept Give id x m = cc
 second_kept (Fill i which value) id x m = cc
 second_kept (Aim i to) id x m = cc
+second_kept (AimSide i to) id x m = cc
 second_kept (Look place link) id x m = cc
 second_kept (Miss place wanted found) id x m = cc
 second_kept (Move (Root r) from to) id x m = either (λ y. y.second ≡ x.second) (names_node to.to id) _ _ refl refl
+second_kept (Move (Side i) from to) id x m =
+    let k : (link_touched (Side i) to id x).second ≡ x.second = either (λ y. y.second ≡ x.second) (i == id) (with_side to x) x refl refl in
+    either (λ y. y.second ≡ x.second) (names_node to.to id) (as_linked (link_touched (Side i) to id x)) (link_touched (Side i) to id x) k k
 second_kept (Move (Next i) from to) id x m =
     let k : (link_touched (Next i) to id x).second ≡ x.second = either (λ y. y.second ≡ x.second) (i == id) (with_link to x) x refl refl in
     either (λ y. y.second ≡ x.second) (names_node to.to id) (as_linked (link_touched (Next i) to id x)) (link_touched (Next i) to id x) k k

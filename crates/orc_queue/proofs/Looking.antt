@@ -15,10 +15,10 @@ use Rattle.orc_heap.specs.declared.events.Act.{Act}
 use Rattle.orc_heap.specs.OwnEvents.{Puts}
 use Rattle.orc_heap.specs.Seats.{Seat, heap_of}
 use Rattle.orc_heap.specs.Slots.{Hold, Holds, IsFree, Slots, id_in}
-use Rattle.orc_heap.specs.declared.events.Act.TheVariants.{Aim, Fill, Give, Look, Miss, Move}
+use Rattle.orc_heap.specs.declared.events.Act.TheVariants.{Aim, Fill, Give, Look, Miss, Move, AimSide}
 use Rattle.orc_heap.specs.declared.events.Event.{Event}
 use Rattle.orc_heap.specs.declared.events.Link.{Link}
-use Rattle.orc_heap.specs.declared.events.Place.TheVariants.{Next, Root}
+use Rattle.orc_heap.specs.declared.events.Place.TheVariants.{Next, Root, Side}
 use Rattle.orc_heap.specs.declared.holds.Want.{Want}
 use Rattle.orc_heap.specs.declared.holds.Want.TheVariants.{Node as WantNode, Null as WantNull}
 use Rattle.orc_fault.specs.declared.Spent.{Spent}
@@ -240,10 +240,12 @@ roots_after : (agent : ℕ) (act : Act) (h : Heap) → length (heap_after agent 
 roots_after agent Give h = refl
 roots_after agent (Fill id which value) h = refl
 roots_after agent (Aim id to) h = ap (λ (xs : List Link). length xs) (target_roots as_named to _)
+roots_after agent (AimSide id to) h = ap (λ (xs : List Link). length xs) (target_roots as_named to _)
 roots_after agent (Look place link) h = refl
 roots_after agent (Miss place wanted found) h = refl
 roots_after agent (Move (Root r) from to) h = ap (λ (xs : List Link). length xs) (target_roots as_linked to.to _)
     ∙ length-change (λ (l : Link). to) r h.roots
+roots_after agent (Move (Side id) from to) h = ap (λ (xs : List Link). length xs) (target_roots as_linked to.to _)
 roots_after agent (Move (Next id) from to) h = ap (λ (xs : List Link). length xs) (target_roots as_linked to.to _)
 
 roots_from : (h : Heap) (es : List (Event FifoNote)) → length (run_from h es).roots ≡ length h.roots

@@ -1,6 +1,7 @@
 -- The counter word of a fresh row that nothing links: count 0, no retired bit, and its sequence stays.
 use Rattle.std.proofs.Common.{Bool, List, None, Some, [], ap, append_assoc, append-nil, arith, false, refl, subst, sym, true, ℕ, ⊎_elim, ◌*◌, ◌++◌, ◌+◌, ◌<◌, ◌^◌, ◌∙◌, ◌≡◌, ◌≢◌, ◌∷◌}
-use Rattle.std.specs.Prelude.{◌/◌, ◌==◌, ◌||◌}
+use Rattle.std.proofs.lemmas.Bool.{ltb-true}
+use Rattle.std.specs.Prelude.{nat_lt, ◌&&◌, ◌/◌, ◌==◌, ◌||◌}
 use native.Mathlib.Decide.{ℕ_discrete}
 use mathlib.Core.Logic.{dite}
 use Rattle.orc_core.specs.Actions.{clear_word}
@@ -18,7 +19,7 @@ use Rattle.orc_machine_board.proofs.Holds.{record_stays}
 use Rattle.orc_machine_board.specs.Laws.Steps.{bounds_run, run_next}
 use Rattle.orc_machine_board.specs.Rules.{run_of}
 use Rattle.orc_projection.proofs.Mirrored.{projection_mirrors}
-use Rattle.orc_projection.specs.Mirror.{numbers_of}
+use Rattle.orc_projection.specs.Mirror.{IsNamed, numbers_of}
 use Rattle.orc_projection.specs.Projection.{StoresUnmarked, present_ids, project}
 use Rattle.orc_reclaiming_domain.specs.Laws.Counters.{CounterSource, counter_source, uses_fresh, write_same}
 use Rattle.orc_reclaiming_domain.specs.Laws.Gates.{lawful_last}
@@ -26,10 +27,11 @@ use Rattle.orc_reclaiming_domain.proofs.Protecting.{true_false}
 use Rattle.orc_shared_words.proofs.Runs.{by_other, by_own, cons_nil}
 use Rattle.orc_sound.proofs.AllFits.{AllFits, allowed_step, low_sequences, run_fits}
 use Rattle.orc_sound.proofs.Bridge.{world_step}
-use Rattle.orc_sound.proofs.Facts.{decs, incs, out, to_row}
+use Rattle.orc_sound.proofs.Facts.{Counted, decs, incs, out, to_row}
 use Rattle.orc_sound.proofs.ForRuns.{run_full}
 use Rattle.orc_sound.proofs.Fresh.{not_one}
 use Rattle.orc_sound.proofs.Journals.{IsLawfulJournal-append, plain_lawful}
+use Rattle.orc_sound.proofs.Outs.{null_row}
 use Rattle.orc_sound.proofs.Shown.{word_shown}
 use Rattle.orc_sound.proofs.Sums.{sum_zero}
 use Rattle.orc_sound.proofs.World.{World, step_world, world_of}
@@ -38,7 +40,8 @@ use Rattle.orc_sound.specs.Linked.{IsOut, uses}
 use Rattle.orc_sound.specs.declared.steps.Step.{Step}
 use Rattle.orc_words.specs.Bounds.{Bounds, IsShape}
 use Rattle.orc_words.specs.Packed.{bit, count_bits, retired_bit, sequence_of}
-use Rattle.orc_words.specs.declared.place.Word.TheVariants.{Counter, Gate, Next, Root}
+use Rattle.orc_words.specs.declared.place.Word.{Word}
+use Rattle.orc_words.specs.declared.place.Word.TheVariants.{Counter, Gate, Next, Root, Side}
 
 is_clear_word : (w : ℕ) → count_bits w ≡ 4194304 → retired_bit w ≡ 0 → w ≡ clear_word (sequence_of w)
 is_clear_word w c r = omega (arith, c, r)
@@ -64,6 +67,42 @@ module _ {N : Type 0} (b : Bounds) (a r : ℕ) (shape : IsShape b) (low : r < b.
   row_low : (j : List (Step N)) → r < (run_of b j).bounds.rows
   row_low j = subst (λ (c : Bounds). r < c.rows) (sym (bounds_run b j)) low
 
+  -- a link was made to each row that is a target, and none to its node, so it isn't the target of this word
+  names_other : (j : List (Step N)) (w : Word) → IsUntouched a (run_heap (numbers_of b) (project b j)) ((present_ids b j).node r)
+      → (world_of (run_of b j)).memory w ≡ word_in (run_of b j) w
+      → (links_to (word_in (run_of b j) w) r ≡ true → IsNamed (run_heap (numbers_of b) (project b j)) ((present_ids b j).node r))
+      → to_row ((world_of (run_of b j)).memory w) r ≡ 0
+  names_other j w u word named =
+      not_one ((world_of (run_of b j)).memory w / 2 == r + 1) (λ one.
+      let n = named (bit_true (links_to (word_in (run_of b j) w) r) (subst (λ x. bit (x / 2 == r + 1) ≡ 1) word one)) in
+      let node : Some n.node ≡ Some u.node = sym n.there ∙ u.there in
+      let one_node : n.node ≡ u.node = cc in
+      true_false n.node.named n.named (ap (λ (y : Node). y.named) one_node ∙ u.unnamed))
+    where
+      bit_true : (t : Bool) → bit t ≡ 1 → t ≡ true
+      bit_true true e = refl
+      bit_true false e = absurd (omega (arith, e))
+
+  -- so is its own second link, which is null where the shape has none
+  side_names_other : (j : List (Step N)) → Counted (run_of b j).bounds (world_of (run_of b j))
+      → IsUntouched a (run_heap (numbers_of b) (project b j)) ((present_ids b j).node r)
+      → (1 < (run_of b j).bounds.links → links_to (word_in (run_of b j) (Side r)) r ≡ true
+      → IsNamed (run_heap (numbers_of b) (project b j)) ((present_ids b j).node r))
+      → to_row ((world_of (run_of b j)).memory (Side r)) r ≡ 0
+  side_names_other j counted u named = cases (nat_lt 1 (run_of b j).bounds.links) refl
+    where
+      hidden : (t : Bool) → (t && false) ≡ false
+      hidden true = refl
+      hidden false = refl
+
+      cases : (t : Bool) → nat_lt 1 (run_of b j).bounds.links ≡ t → to_row ((world_of (run_of b j)).memory (Side r)) r ≡ 0
+      cases true e =
+          let two = ltb-true 1 (run_of b j).bounds.links e in
+          names_other j (Side r) u (word_shown (run_of b j) (Side r) (row_low j, two)) (named two)
+      cases false e =
+          null_row ((world_of (run_of b j)).memory (Side r)) r
+          (counted.outside (Side r) (ap (λ t. nat_lt r (run_of b j).bounds.rows && t) e ∙ hidden (nat_lt r (run_of b j).bounds.rows)))
+
   -- where nothing links it, and its agent has no change pending, its word is clear
   pub fresh_clear : (j : List (Step N)) → FreshAt j → StoresUnmarked j → (record_at (run_of b j) a).inc ≡ None → (record_at (run_of b j) a).dec ≡ None
       → IsOut (run_of b j) r → IsUntouched a (run_heap (numbers_of b) (project b j)) ((present_ids b j).node r)
@@ -81,26 +120,22 @@ module _ {N : Type 0} (b : Bounds) (a r : ℕ) (shape : IsShape b) (low : r < b.
       (λ same. ap bit (ap (λ y. names (record_at m y).dec r) same ∙ ap (λ o. names o r) dec))
       (λ ne. ap bit (unused (z.seats x) r (others x ne)).1)) in
       let mirror = projection_mirrors b j shape f.lawful unmarked in
-      let self : to_row (z.memory (Next r)) r ≡ 0 = not_one (z.memory (Next r) / 2 == r + 1) (λ one.
-      let word : z.memory (Next r) ≡ word_in m (Next r) = word_shown m (Next r) (row_low j) in
-      let named = mirror.next_named r r o (bit_true (links_to (word_in m (Next r)) r) (subst (λ w. bit (w / 2 == r + 1) ≡ 1) word one)) in
-      let node : Some named.node ≡ Some u.node = sym named.there ∙ u.there in
-      let one_node : named.node ≡ u.node = cc in
-      true_false named.node.named named.named (ap (λ (y : Node). y.named) one_node ∙ u.unnamed)) in
+      let self = names_other j (Next r) u (word_shown m (Next r) (row_low j)) (mirror.next_named r r o) in
+      let side = side_names_other j counted u (λ two. mirror.side_named r r two o) in
       let roots = sum_zero m.bounds.roots (λ i. to_row (z.memory (Root i)) r) (λ i. counted.fresh_root a i r f.fresh) in
       let nexts = sum_zero m.bounds.rows (λ i. out (z.memory (Gate i)) * to_row (z.memory (Next i)) r) (λ i.
       let none : to_row (z.memory (Next i)) r ≡ 0 = dite (ℕ_discrete i r) (λ same. subst (λ y. to_row (z.memory (Next y)) r ≡ 0) (sym same) self)
-      (λ ne. counted.fresh_next a i r f.fresh ne) in
+      (λ ne. counted.fresh_links a 0 i r f.fresh ne) in
+      times_zero (out (z.memory (Gate i))) _ none) in
+      let sides = sum_zero m.bounds.rows (λ i. out (z.memory (Gate i)) * to_row (z.memory (Side i)) r) (λ i.
+      let none : to_row (z.memory (Side i)) r ≡ 0 = dite (ℕ_discrete i r) (λ same. subst (λ y. to_row (z.memory (Side y)) r ≡ 0) (sym same) side)
+      (λ ne. counted.fresh_links a 1 i r f.fresh ne) in
       times_zero (out (z.memory (Gate i))) _ none) in
       let balance = counted.balance r (row_low j) in
-      let count : count_bits (z.memory (Counter r)) ≡ 4194304 = omega (arith, balance, no_inc, no_dec, roots, nexts) in
+      let count : count_bits (z.memory (Counter r)) ≡ 4194304 = omega (arith, balance, no_inc, no_dec, roots, nexts, sides) in
       let word : z.memory (Counter r) ≡ word_in m (Counter r) = word_shown m (Counter r) (row_low j) in
       subst (λ w. w ≡ clear_word (sequence_of w)) word (is_clear_word (z.memory (Counter r)) count (counted.fresh_bit a r f.fresh))
     where
-      bit_true : (t : Bool) → bit t ≡ 1 → t ≡ true
-      bit_true true e = refl
-      bit_true false e = absurd (omega (arith, e))
-
       times_zero : (x y : ℕ) → y ≡ 0 → x * y ≡ 0
       times_zero x y e = ap (λ z. x * z) e ∙ omega arith
 

@@ -24,7 +24,7 @@ use Rattle.orc_machine_board.specs.Views.{Makes}
 use Rattle.orc_machine_board.specs.declared.machine.MachineShape.{MachineShape}
 use Rattle.orc_machine_board.specs.declared.machine.Request.{Request}
 use Rattle.orc_projection.proofs.Mirrored.{ids-append}
-use Rattle.orc_projection.proofs.OneRow.{next_links_out, root_links_out}
+use Rattle.orc_projection.proofs.OneRow.{root_links_out, row_links_out}
 use Rattle.orc_projection.proofs.Shows.{small_word}
 use Rattle.orc_projection.specs.PresentIds.{PresentIds, no_ids, node_link, node_place}
 use Rattle.orc_projection.specs.Projection.{events_of, load_act, present_ids}
@@ -44,7 +44,7 @@ use Rattle.orc_words.specs.Bounds.{Bounds, IsShape}
 use Rattle.orc_words.specs.Packed.{link_of}
 use Rattle.orc_words.specs.declared.packed.RowLink.{RowLink}
 use Rattle.orc_words.specs.declared.place.Word.{Word}
-use Rattle.orc_words.specs.declared.place.Word.TheVariants.{Enrolled, Next, Root}
+use Rattle.orc_words.specs.declared.place.Word.TheVariants.{Enrolled, Next, Root, Side}
 
 -- a calm agent may read a link at a root, or in a row that it has
 pub load_may : (b : Bounds) (a : ℕ) (d : Agent) (w : Word) → a < b.agents → IsCalm d → may_place b w (λ r. any_holds d.slots r || names d.fresh r) ≡ true
@@ -72,7 +72,10 @@ module _ {N : Type 0} where
   links_out_at : (b : Bounds) (j : List (Step N)) → IsShape b → IsLawfulJournal (new_machine b) j → (p : ℕ → Bool)
       → ((q : ℕ) → p q ≡ true → IsOut (run_of b j) q) → (w : Word) → may_place b w p ≡ true → LinksOut (run_of b j) (link_of (word_in (run_of b j) w))
   links_out_at b j shape l p h (Root i) e = root_links_out b j i shape l (ltb-true i b.roots e)
-  links_out_at b j shape l p h (Next q) e = next_links_out b j q shape l (h q (and_both (nat_lt q b.rows) (p q) e).1)
+  links_out_at b j shape l p h (Next q) e = row_links_out b j q 0 shape l shape.links.0 (h q (and_both (nat_lt q b.rows) (p q) e).1)
+  links_out_at b j shape l p h (Side q) e =
+      let both = and_both (nat_lt q b.rows && nat_lt 1 b.links) (p q) e in
+      row_links_out b j q 1 shape l (ltb-true 1 b.links (and_both (nat_lt q b.rows) (nat_lt 1 b.links) both.0).1) (h q both.1)
   links_out_at b j shape l p h w e = absurd (false≢true e)
 
 module _ {D N : Type 0} {d : discipline.Ghosts D N} {k : MachineShape N} (s t : Stage d k) (w : Word) (slot : Option ℕ) (want : Option RowLink)

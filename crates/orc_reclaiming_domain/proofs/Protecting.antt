@@ -30,7 +30,7 @@ use Rattle.orc_words.specs.Bounds.{Bounds, IsShape}
 use Rattle.orc_words.specs.Packed.{bit, link_of, link_word, name_word, named}
 use Rattle.orc_words.specs.declared.packed.RowLink.{RowLink}
 use Rattle.orc_words.specs.declared.place.Word.{Word}
-use Rattle.orc_words.specs.declared.place.Word.TheVariants.{Next, Root}
+use Rattle.orc_words.specs.declared.place.Word.TheVariants.{Next, Root, Side}
 
 pub same_self : (d : Agent) → SameParts d d
 same_self d = record { enrolled = refl; slots = refl; fresh = refl; due = refl; inc = refl; dec = refl; doom = refl; scan = refl }
@@ -113,6 +113,7 @@ publish_may b a d k r h calm low above below empty =
 same_place_ok : (b : Bounds) (w : Word) (p q : ℕ → Bool) → ((r : ℕ) → q r ≡ p r) → may_place b w p ≡ true → may_place b w q ≡ true
 same_place_ok b (Root i) p q same h = h
 same_place_ok b (Next j) p q same h = ap (λ z. nat_lt j b.rows && z) (same j) ∙ h
+same_place_ok b (Side j) p q same h = ap (λ z. (nat_lt j b.rows && nat_lt 1 b.links) && z) (same j) ∙ h
 same_place_ok b w p q same h = absurd (false≢true h)
 
 -- a link that was read may be read again, with a slot in which its target was published
@@ -184,4 +185,10 @@ target_named b j shape l plain p h (Root i) e r to =
 target_named b j shape l plain p h (Next q) e r to =
     let mirror = projection_mirrors b j shape l plain in
     mirror.next_named q r (h q (and_both (nat_lt q b.rows) (p q) e).1) (named_to (word_in (run_of b j) (Next q)) r to)
+target_named b j shape l plain p h (Side q) e r to =
+    let mirror = projection_mirrors b j shape l plain in
+    let both = and_both (nat_lt q b.rows && nat_lt 1 b.links) (p q) e in
+    let two : 1 < (run_of b j).bounds.links =
+    subst (λ (c : Bounds). 1 < c.links) (sym (bounds_run b j)) (ltb-true 1 b.links (and_both (nat_lt q b.rows) (nat_lt 1 b.links) both.0).1) in
+    mirror.side_named q r two (h q both.1) (named_to (word_in (run_of b j) (Side q)) r to)
 target_named b j shape l plain p h w e r to = absurd (false≢true e)

@@ -1,14 +1,15 @@
 //! The calls of links, over the board.
 
-ghost use Rattle.std.specs.Prelude.{◌≡◌, ◌∷◌, [], IfErr, IfOk, None, refl};
+ghost use Rattle.std.specs.Prelude.{◌≡◌, ◌<◌, ◌*◌, ◌∷◌, [], IfErr, IfOk, None, refl};
 ghost use mathlib.Core.List.{IsPrefix};
-ghost use Rattle.orc_heap.specs.Calls.{Gives, Looks, MayAim, MayLook, MayMove, RefusesAim, RefusesSwing, Releases, Swings, Tests, aim_of};
+ghost use Rattle.orc_heap.specs.Calls.{Gives, Looks, MayAim, MayLook, MayMove, ReadsValue, RefusesAim, RefusesSwing, Releases, Swings, Tests, aim_of, fill_of};
+ghost use Rattle.orc_heap.specs.Journals.{run_heap};
 ghost use Rattle.orc_heap.specs.OwnEvents.{Only};
 ghost use Rattle.orc_heap.specs.Seats.{HoldsFresh, HoldsPlace, HoldsTarget, HoldsWant, IsIdle, IsNotFresh, place_in};
-ghost use Rattle.orc_heap.specs.Slots.{Holds, IsFree};
+ghost use Rattle.orc_heap.specs.Slots.{Holds, IsFree, id_in};
 ghost use Rattle.orc_history.specs.Parts.{InPart, IsAlone};
 ghost use Rattle.orc_reclaiming_domain.specs.Causes.{IsLacking, IsWornIn};
-ghost use Rattle.orc_board_settling.specs.OwnSteps.{LeavesNothing};
+ghost use Rattle.orc_board_settling.specs.OwnSteps.{AtMostMore, LeavesNothing, most_rounds, steps_a_round};
 ghost use Rattle.orc_reclaiming_domain.specs.OwnSteps.{TakesInFree};
 ghost use Rattle.orc_reclaiming_domain.specs.Passes.{IsPassOf, domain_bounds, domain_numbers, journal_of, seat_of};
 
@@ -95,7 +96,15 @@ impl<D: Discipline> Links for OrcDomain<D> {
         Ok(Held::new(row, slot))
     }
 
-    fn fill(&self, p: &mut OrcPass<D>, fresh: &Held, which: u32, value: u64) {
+    fn fill(&self, p: &mut OrcPass<D>, fresh: &Held, which: u32, value: u64)
+        requires pass { IsPassOf self.now p.old }
+        requires fresh { HoldsFresh (seat_of self.now p.old) fresh.now }
+        requires which { which < 2 }
+        ensures pass { IsPassOf self.now p.new }
+        ensures later { IsPrefix (journal_of p.old) (journal_of p.new) }
+        ensures filled { Only (fill_of (seat_of self.now p.old) fresh.now which value ∷ []) (seat_of self.now p.old) (seat_of self.now p.new) }
+        ensures taken_in { LeavesNothing (seat_of self.now p.old).agent (journal_of p.old) (journal_of p.new) }
+    {
         self.board.fill(&mut p.pass, fresh.row(), which, value);
     }
 
@@ -150,6 +159,7 @@ impl<D: Discipline> Links for OrcDomain<D> {
         ensures pass { IsPassOf self.now p.new }
         ensures later { IsPrefix (journal_of p.old) (journal_of p.new) }
         ensures tested { Tests place.now link.now note (seat_of self.now p.old) result (seat_of self.now p.new) }
+        ensures taken_in { LeavesNothing (seat_of self.now p.old).agent (journal_of p.old) (journal_of p.new) }
     {
         let want = row_link(link);
         let found = self
@@ -158,7 +168,16 @@ impl<D: Discipline> Links for OrcDomain<D> {
         found == pack_link(want)
     }
 
-    fn value(&self, p: &mut OrcPass<D>, h: &Held, which: u32) -> u64 {
+    fn value(&self, p: &mut OrcPass<D>, h: &Held, which: u32) -> u64
+        requires pass { IsPassOf self.now p.old }
+        requires held { Holds (seat_of self.now p.old).slots h.now }
+        requires which { which < 2 }
+        ensures pass { IsPassOf self.now p.new }
+        ensures later { IsPrefix (journal_of p.old) (journal_of p.new) }
+        ensures value { ReadsValue (run_heap (domain_numbers self.now) (seat_of self.now p.new).seen) (id_in (seat_of self.now p.old).slots h.now) which result }
+        ensures nothing { Only [] (seat_of self.now p.old) (seat_of self.now p.new) }
+        ensures taken_in { LeavesNothing (seat_of self.now p.old).agent (journal_of p.old) (journal_of p.new) }
+    {
         self.board.read(&mut p.pass, h.row(), which)
     }
 
@@ -250,6 +269,8 @@ impl<D: Discipline> Links for OrcDomain<D> {
         ensures nothing { Only [] (seat_of self.now p.old) (seat_of self.now p.new) }
         ensures settled { IsAlone (λ s. s.agent) (seat_of self.now p.old).agent (journal_of p.old) (journal_of p.new)
             → backlog_in (shows p.new.pass).record_is ≡ 0 }
+        ensures few { AtMostMore (seat_of self.now p.old).agent (most_rounds (domain_bounds self.now) * steps_a_round (domain_bounds self.now))
+            (journal_of p.old) (journal_of p.new) }
         ensures taken_in { LeavesNothing (seat_of self.now p.old).agent (journal_of p.old) (journal_of p.new) }
     {
         settle(&self.board, &mut p.pass);

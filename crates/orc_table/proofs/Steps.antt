@@ -41,7 +41,7 @@ tie_words : (k : Bounds) (w v g r : List ℕ) (h i : Heap) → v ≡ w → r ≡
 tie_words k w v g r h i e q p x = subst (λ z. Tie k z r i) (sym e) (subst (λ z. Tie k w z i) (sym q) (subst (λ z. Tie k w g z) (sym p) x))
 
 -- a heap whose target is changed
-pub target_heap : (f : Node → Node) (to : Option ℕ) (h : Heap) → change_target f to h ≡ record { nodes = target_nodes f to h.nodes; roots = h.roots }
+pub target_heap : (f : Node → Node) (to : Option ℕ) (h : Heap) → change_target f to h ≡ record { nodes = target_nodes f to h.nodes; roots = h.roots; links = h.links }
 target_heap f None h = refl
 target_heap f (Some i) h = refl
 
@@ -115,6 +115,7 @@ module _ {N : Type 0} (k : Bounds) (x : State) (tie : Tied k x) where
       (subst (λ p. Tie k (slice_set x.words p value) x.given record {
         nodes = change (with_value which value) (index_of row x.given) x.heap.nodes;
         roots = x.heap.roots;
+        links = x.heap.links;
       }) (sym (value_place k row which can.1))
       (tie_fill k x.words x.given x.heap row which value tie can.0 (fresh_given k x tie a row fits.0.0) fits.0.1))
   one a (Read row which) said can fits = same k x tie (place k (value_word row which))

@@ -165,7 +165,7 @@ module _ {D N : Type 0} (d : discipline.Ghosts D N) (q : PlainShape N) (v w : Vi
       let rows : g ≡ y.given ++ row ∷ [] = rows_taken row n zero_gate x in
       let last : slice_get g (length y.given) ≡ Some row = subst (λ z. slice_get z (length y.given) ≡ Some row) (sym rows) (get_last y.given row) in
       let at : index_of row g ≡ length y.given = index_at row g (length y.given) wk.tie.once last in
-      let heap : (run k w.seen).heap ≡ record { nodes = y.heap.nodes ++ new_node a ∷ []; roots = y.heap.roots } =
+      let heap : (run k w.seen).heap ≡ record { nodes = y.heap.nodes ++ new_node a ∷ []; roots = y.heap.roots; links = y.heap.links } =
       heap_later k may v w a (GateTake row) None n wk ∙ ap (λ (b : Bool). heap_from y.heap (if b then event_by {N = N} a act.Give None ∷ [] else []))
       (taken_is row n zero_gate x) in
       let there : slice_get (run k w.seen).heap.nodes (index_of row g) ≡ Some (new_node a) =

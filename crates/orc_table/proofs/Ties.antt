@@ -1,18 +1,18 @@
 -- The words show the heap, with rows read as ids.
-use Rattle.std.proofs.Common.{◌≡◌, ◌≢◌, ℕ, zero, suc, ◌+◌, ◌*◌, ◌<◌, List, [], ◌∷◌, ◌++◌, length, replicate, Bool, true, false, Option, Some, None, slice_get, slice_index, slice_set, length-set, length-append, refl, sym, ap, ◌∙◌, subst, ◌⊎◌, inl, inr, arith}
+use Rattle.std.proofs.Common.{◌≡◌, ◌≢◌, ℕ, zero, suc, ◌+◌, ◌*◌, ◌<◌, ◌≤◌, List, [], ◌∷◌, ◌++◌, length, replicate, Bool, true, false, cond, nat_lt, Option, Some, None, slice_get, slice_index, slice_set, length-set, length-append, refl, sym, ap, ◌∙◌, subst, ◌⊎◌, inl, inr, arith}
 use Rattle.std.proofs.lemmas.List.{length-replicate}
 use Rattle.std.specs.Option.{option_map}
 use Rattle.orc_words.specs.Bounds.{Bounds}
 use Rattle.orc_words.specs.Packed.{bit, name_word}
 use Rattle.orc_words.specs.NewWords.{new_words}
-use Rattle.orc_words.specs.Places.{places}
+use Rattle.orc_words.specs.Places.{places, words_of_rows}
 use Rattle.orc_words.specs.declared.place.Word.TheVariants as word
 use Rattle.orc_words.proofs.NewWords.{new_words_each, new_words_long}
 use Rattle.orc_heap.specs.Acts.{IsTarget, with_value}
 use Rattle.orc_heap.specs.Heap.{Heap, Node, change, new_heap, new_node, null, shown}
 use Rattle.orc_heap.specs.declared.events.Link.{Link}
 use Rattle.orc_heap.specs.declared.events.Place.{Place}
-use Rattle.orc_heap.specs.declared.events.Place.TheVariants.{Root as AtRoot, Next}
+use Rattle.orc_heap.specs.declared.events.Place.TheVariants.{Root as AtRoot, Next, Side}
 use Rattle.orc_heap.proofs.Changes.{get-change, get-grown, get_lt, length-change}
 use Rattle.orc_table.specs.Machine.{index_of, id_by, numbers}
 use Rattle.orc_table.specs.Words.{Block, IsFreeRow, IsWord, Named, Once, Tie}
@@ -20,7 +20,23 @@ use Rattle.orc_table.proofs.Lists.{some_one, lt_get, get_end, get_last, change_b
 
 -- the place of a row's gate; its values stand two and three after it, its link four
 abbrev pub row_place : Bounds → ℕ → ℕ
-row_place k row = 1 + k.roots + 5 * row
+row_place k row = 1 + k.roots + words_of_rows k row
+
+words_apart : (two : Bool) (r s i j : ℕ) → i < 5 → j < 5 → cond two (6 * r) (5 * r) + i ≡ cond two (6 * s) (5 * s) + j → r ≡ s
+words_apart true r s i j low less e = omega (arith, low, less, e)
+words_apart false r s i j low less e = omega (arith, low, less, e)
+
+-- two words of rows that stand at one place are of one row
+rows_apart : (k : Bounds) (r s i j : ℕ) → i < 5 → j < 5 → row_place k r + i ≡ row_place k s + j → r ≡ s
+rows_apart k r s i j low less e = words_apart (nat_lt 1 k.links) r s i j low less (omega (arith, e))
+
+words_below : (two : Bool) (r n : ℕ) → r < n → cond two (6 * r) (5 * r) + 5 ≤ cond two (6 * n) (5 * n)
+words_below true r n lt = omega (arith, lt)
+words_below false r n lt = omega (arith, lt)
+
+-- the words of a row of the table are in it
+row_below : (k : Bounds) (r : ℕ) → r < k.rows → row_place k r + 5 ≤ places k
+row_below k r lt = let below = words_below (nat_lt 1 k.links) r k.rows lt in omega (arith, below)
 
 abbrev pub link_in : Option Node → Option Link
 link_in o = option_map (λ n. n.link) o
@@ -82,6 +98,13 @@ now_named f sets None nodes there = tt
 now_named f sets (Some i) nodes there = let t = there i refl in
     elim (get-change f i i nodes t.0 t.1) [ inl r ↦ (f t.0, r.1, sets t.0) | inr r ↦ absurd (r.0 refl) ]
 
+-- where nodes have one link, no second link shows
+no_side : (links : ℕ) (l : Link) (side : Option Link) → links ≡ 1 → cond (nat_lt 1 links) side None ≢ Some l
+no_side links l side single e = let none : cond (nat_lt 1 links) side None ≡ None = ap (λ n. cond (nat_lt 1 n) side None) single in cc
+
+abbrev side_in : List Node → ℕ → Option Link
+side_in nodes id = option_map (λ n. n.side) (slice_get nodes id)
+
 -- a node shows the same words as the other
 pub record Alike (n m : Node) : Type 0 where
   pub link : n.link ≡ m.link
@@ -125,19 +148,35 @@ block_else k w g row n p v a b c d x = record {
   second = λ u e. same_word w p v (row_place k row + 3) c ∙ x.second u e;
 }
 
+-- a word of another row
+block_other : (k : Bounds) (w g : List ℕ) (r row i p v : ℕ) (n : Node) → i < 5 → p ≡ row_place k row + i → r ≢ row
+    → Block k w g r n → Block k (slice_set w p v) g r n
+block_other k w g r row i p v n low at ne x =
+    block_else k w g r n p v (λ z. ne (rows_apart k r row 0 i (omega arith) low (omega (arith, z, at))))
+    (λ z. ne (rows_apart k r row 2 i (omega arith) low (omega (arith, z, at))))
+    (λ z. ne (rows_apart k r row 3 i (omega arith) low (omega (arith, z, at))))
+    (λ z. ne (rows_apart k r row 4 i (omega arith) low (omega (arith, z, at)))) x
+
+free_other : (k : Bounds) (w : List ℕ) (r row i p v : ℕ) → i < 5 → p ≡ row_place k row + i → r ≢ row → IsFreeRow k w r → IsFreeRow k (slice_set w p v) r
+free_other k w r row i p v low at ne x = record {
+  gate = same_word w p v (row_place k r) (λ z. ne (rows_apart k r row 0 i (omega arith) low (omega (arith, z, at)))) ∙ x.gate;
+  link = same_word w p v (row_place k r + 4) (λ z. ne (rows_apart k r row 4 i (omega arith) low (omega (arith, z, at)))) ∙ x.link;
+}
+
 -- nodes that were changed where no word shows
 tie_target : (k : Bounds) (w g : List ℕ) (h : Heap) (f : Node → Node) → ((n : Node) → Alike (f n) n) → ((n : Node) → (f n).named ≡ true) → (to : Option ℕ)
     → ((at : Place) (l : Link) → shown h at ≡ Some l → Named h.nodes l.to ⊎ (l.to ≡ to))
     → ((id : ℕ) → to ≡ Some id → (n : Node) × (slice_get h.nodes id ≡ Some n))
-    → (long : length w ≡ places k) (rooted : length h.roots ≡ k.roots) (even : length g ≡ length h.nodes) (once : Once g)
+    → (long : length w ≡ places k) (rooted : length h.roots ≡ k.roots) (single : h.links ≡ 1) (even : length g ≡ length h.nodes) (once : Once g)
     (inside : (i row : ℕ) → slice_get g i ≡ Some row → row < k.rows)
     → ((r : ℕ) (l : Link) → slice_get h.roots r ≡ Some l → IsWord g l.to l.mark (slice_index w (1 + r)))
     → ((id row : ℕ) (n : Node) → slice_get g id ≡ Some row → slice_get h.nodes id ≡ Some n → Block k w g row n)
     → ((row : ℕ) → row < k.rows → ((id : ℕ) → slice_get g id ≢ Some row) → IsFreeRow k w row)
-    → Tie k w g record { nodes = target_nodes f to h.nodes; roots = h.roots }
-tie_target k w g h f same sets to named there long rooted even once inside root node free = record {
+    → Tie k w g record { nodes = target_nodes f to h.nodes; roots = h.roots; links = h.links }
+tie_target k w g h f same sets to named there long rooted single even once inside root node free = record {
   long = long;
   rooted = rooted;
+  single = single;
   even = even ∙ sym (length_target f to h.nodes);
   once = once;
   inside = inside;
@@ -150,13 +189,14 @@ tie_target k w g h f same sets to named there long rooted even once inside root 
   ];
 }
   where
-    before : (at : Place) (l : Link) → shown record { nodes = target_nodes f to h.nodes; roots = h.roots } at ≡ Some l → shown h at ≡ Some l
+    before : (at : Place) (l : Link) → shown record { nodes = target_nodes f to h.nodes; roots = h.roots; links = h.links } at ≡ Some l → shown h at ≡ Some l
     before (AtRoot r) l e = e
     before (Next id) l e = went (slice_get (target_nodes f to h.nodes) id) refl e
       where
         went : (o : Option Node) → slice_get (target_nodes f to h.nodes) id ≡ o → link_in o ≡ Some l → shown h (Next id) ≡ Some l
         went None q x = cc
         went (Some n) q x = let b = target_back f same to h.nodes id n q in ap link_in b.1 ∙ (ap Some (sym b.2.link) ∙ x)
+    before (Side id) l e = absurd (no_side h.links l (side_in (target_nodes f to h.nodes) id) single e)
 
 -- a target that was given is there
 there_by : (k : Bounds) (w g : List ℕ) (h : Heap) → Tie k w g h → (t : Option ℕ) → Given g t → (id : ℕ) → id_by g t ≡ Some id
@@ -176,9 +216,10 @@ apart_rows k g once id row other e l ne q = ne (index_at row g id once (e ∙ ap
 
 -- a row's gate is taken, and its node is new
 pub tie_take : (k : Bounds) (w g : List ℕ) (h : Heap) (a row : ℕ) → Tie k w g h → row < k.rows → slice_index w (row_place k row) ≡ 0
-    → Tie k (slice_set w (row_place k row) 3) (g ++ row ∷ []) record { nodes = h.nodes ++ new_node a ∷ []; roots = h.roots }
+    → Tie k (slice_set w (row_place k row) 3) (g ++ row ∷ []) record { nodes = h.nodes ++ new_node a ∷ []; roots = h.roots; links = h.links }
 tie_take k w g h a row x lt zero_gate =
     let long = x.long in
+    let below = row_below k row lt in
     let new : (id : ℕ) → slice_get g id ≢ Some row = λ id e.
     let n = lt_get h.nodes id (let l = get_lt g id row e in let v = x.even in omega (arith, l, v)) in
     let b = (x.node id row n.0 e n.1).gate in omega (arith, b, zero_gate) in
@@ -187,6 +228,7 @@ tie_take k w g h a row x lt zero_gate =
     record {
       long = set_length ∙ long;
       rooted = x.rooted;
+      single = x.single;
       even = length-append g (row ∷ []) ∙ (ap (λ n. n + 1) x.even ∙ sym (length-append h.nodes (new_node a ∷ [])));
       once = λ i j r e q. elim (get_end g row i r e) [
         | inl s ↦ elim (get_end g row j r q) [ inl t ↦ x.once i j r s t | inr t ↦ absurd (new i (s ∙ ap Some t.1)) ]
@@ -206,8 +248,7 @@ tie_take k w g h a row x lt zero_gate =
               | inl t ↦
                   let b = x.node id r n s t in
                   let ne : r ≢ row = λ z. new id (s ∙ ap Some z) in
-                  let old = block_else k w g r n (row_place k row) 3 (λ z. ne (omega (arith, z))) (λ z. absurd (omega (arith, z)))
-                  (λ z. absurd (omega (arith, z))) (λ z. absurd (omega (arith, z))) b in
+                  let old = block_other k w g r row 0 (row_place k row) 3 n (omega arith) (omega arith) ne b in
                   record { gate = old.gate; link = word_grown g more n.link.to n.link.mark _ old.link; first = old.first; second = old.second }
               | inr t ↦ let z = t.0 in absurd (omega (arith, z, in_old, even))
             ]
@@ -218,18 +259,16 @@ tie_take k w g h a row x lt zero_gate =
               | inl t ↦ let l = get_lt h.nodes id n t in absurd (omega (arith, z, l, even))
               | inr t ↦ subst (λ (m : Node). Block k (slice_set w (row_place k row) 3) (g ++ more) r m) (sym t.1)
                   (subst (λ (i : ℕ). Block k (slice_set w (row_place k row) 3) (g ++ more) i (new_node a)) (sym s.1) record {
-                    gate = new_word w (row_place k row) 3 (omega (arith, long, lt));
+                    gate = new_word w (row_place k row) 3 (omega (arith, long, below));
                     link = same_word w (row_place k row) 3 (row_place k row + 4) (λ z. omega (arith, z)) ∙ (x.free row lt new).link;
                     first = λ v e. cc;
                     second = λ v e. cc;
                   })
             ]
       ];
-      free = λ r l none. let f = x.free r l (λ id e. none id (get-grown id g more r e)) in record {
-        gate = same_word w (row_place k row) 3 (row_place k r) (λ z. let q : r ≡ row = omega (arith, z) in
-            none (length g) (subst (λ s. slice_get (g ++ row ∷ []) (length g) ≡ Some s) (sym q) (get_last g row))) ∙ f.gate;
-        link = same_word w (row_place k row) 3 (row_place k r + 4) (λ z. absurd (omega (arith, z))) ∙ f.link;
-      };
+      free = λ r l none. free_other k w r row 0 (row_place k row) 3 (omega arith) (omega arith)
+          (λ q. none (length g) (subst (λ s. slice_get (g ++ row ∷ []) (length g) ≡ Some s) (sym q) (get_last g row)))
+          (x.free r l (λ id e. none id (get-grown id g more r e)));
       targets = λ at l e. targets at l e;
     }
   where
@@ -240,7 +279,7 @@ tie_take k w g h a row x lt zero_gate =
     null_named : (l : Link) → l ≡ null → Named (h.nodes ++ new_node a ∷ []) l.to
     null_named l e = subst (λ (z : Link). Named (h.nodes ++ new_node a ∷ []) z.to) (sym e) tt
 
-    targets : (at : Place) (l : Link) → shown record { nodes = h.nodes ++ new_node a ∷ []; roots = h.roots } at ≡ Some l
+    targets : (at : Place) (l : Link) → shown record { nodes = h.nodes ++ new_node a ∷ []; roots = h.roots; links = h.links } at ≡ Some l
         → Named (h.nodes ++ new_node a ∷ []) l.to
     targets (AtRoot r) l e = old_named l.to (x.targets (AtRoot r) l e)
     targets (Next id) l e = went (slice_get (h.nodes ++ new_node a ∷ []) id) refl e
@@ -251,15 +290,17 @@ tie_take k w g h a row x lt zero_gate =
           | inl t ↦ old_named l.to (x.targets (Next id) l (ap link_in t ∙ e))
           | inr t ↦ null_named l (sym (some_one n.link l e) ∙ ap (λ (m : Node). m.link) t.1)
         ]
+    targets (Side id) l e = absurd (no_side h.links l (side_in (h.nodes ++ new_node a ∷ []) id) x.single e)
 
 -- a value is filled
 pub tie_fill : (k : Bounds) (w g : List ℕ) (h : Heap) (row which value : ℕ) → Tie k w g h → row < k.rows → index_of row g < length g → which < 2
-    → Tie k (slice_set w (row_place k row + 2 + which) value) g record { nodes = change (with_value which value) (index_of row g) h.nodes; roots = h.roots }
+    → Tie k (slice_set w (row_place k row + 2 + which) value) g record { nodes = change (with_value which value) (index_of row g) h.nodes; roots = h.roots; links = h.links }
 tie_fill k w g h row which value x lt given low =
     let long = x.long in
     record {
       long = length-set w (row_place k row + 2 + which) value ∙ long;
       rooted = x.rooted;
+      single = x.single;
       even = x.even ∙ sym (length-change (with_value which value) (index_of row g) h.nodes);
       once = x.once;
       inside = x.inside;
@@ -275,23 +316,23 @@ tie_fill k w g h row which value x lt given low =
             (filled_block which low t.1 long (x.node id row t.1 (e ∙ ap Some same) t.2)))
         | inr t ↦
             let ne = apart_rows k g x.once id row r e given t.0 in
-            block_else k w g r n (row_place k row + 2 + which) value (λ z. ne (omega (arith, z, low))) (λ z. ne (omega (arith, z, low)))
-            (λ z. ne (omega (arith, z, low))) (λ z. ne (omega (arith, z, low))) (x.node id r n e t.1)
+            block_other k w g r row (2 + which) (row_place k row + 2 + which) value n (omega (arith, low)) (omega arith) ne (x.node id r n e t.1)
       ];
-      free = λ r l none. record {
-        gate = same_word w (row_place k row + 2 + which) value (row_place k r) (λ z. absurd (omega (arith, z, low))) ∙ (x.free r l none).gate;
-        link = same_word w (row_place k row + 2 + which) value (row_place k r + 4) (λ z. absurd (omega (arith, z, low))) ∙ (x.free r l none).link;
-      };
+      free = λ r l none. free_other k w r row (2 + which) (row_place k row + 2 + which) value (omega (arith, low)) (omega arith)
+          (λ q. none (index_of row g) (at_index row g given ∙ ap Some (sym q))) (x.free r l none);
       targets = targets;
     }
   where
+    below : row_place k row + 5 ≤ places k
+    below = row_below k row lt
+
     filled_block : (i : ℕ) → i < 2 → (m : Node) → length w ≡ places k → Block k w g row m
         → Block k (slice_set w (row_place k row + 2 + i) value) g row (with_value i value m)
     filled_block zero low m long b = record {
       gate = same_word w (row_place k row + 2 + 0) value (row_place k row) (λ z. omega (arith, z)) ∙ b.gate;
       link = subst (IsWord g m.link.to m.link.mark) (sym (same_word w (row_place k row + 2 + 0) value (row_place k row + 4) (λ z. omega (arith, z)))) b.link;
       first = λ v e. subst (λ z. slice_index (slice_set w z value) (row_place k row + 2) ≡ v) (let p : row_place k row + 2 ≡ row_place k row + 2 + 0 =
-          omega arith in p) (new_word w (row_place k row + 2) value (omega (arith, long, lt)) ∙ some_one value v e);
+          omega arith in p) (new_word w (row_place k row + 2) value (omega (arith, long, below)) ∙ some_one value v e);
       second = λ v e. same_word w (row_place k row + 2 + 0) value (row_place k row + 3) (λ z. omega (arith, z)) ∙ b.second v e;
     }
     filled_block (suc i) low m long b = let none : i ≡ 0 = omega (arith, low) in record {
@@ -301,10 +342,10 @@ tie_fill k w g h row which value x lt given low =
       first = λ v e. same_word w (row_place k row + 2 + suc i) value (row_place k row + 2) (λ z. omega (arith, z)) ∙ b.first v e;
       second = λ v e. subst (λ z. slice_index (slice_set w z value) (row_place k row + 3) ≡ v)
           (let p : row_place k row + 3 ≡ row_place k row + 2 + suc i = omega (arith, none) in p)
-          (new_word w (row_place k row + 3) value (omega (arith, long, lt)) ∙ some_one value v e);
+          (new_word w (row_place k row + 3) value (omega (arith, long, below)) ∙ some_one value v e);
     }
 
-    targets : (at : Place) (l : Link) → shown record { nodes = change (with_value which value) (index_of row g) h.nodes; roots = h.roots } at ≡ Some l
+    targets : (at : Place) (l : Link) → shown record { nodes = change (with_value which value) (index_of row g) h.nodes; roots = h.roots; links = h.links } at ≡ Some l
         → Named (change (with_value which value) (index_of row g) h.nodes) l.to
     targets at l e = named_change (with_value which value) (keeps_named which) (index_of row g) h.nodes l.to (x.targets at l (before at e))
       where
@@ -316,7 +357,7 @@ tie_fill k w g h row which value x lt given low =
         keeps_link zero n = refl
         keeps_link (suc i) n = refl
 
-        before : (at : Place) → shown record { nodes = change (with_value which value) (index_of row g) h.nodes; roots = h.roots } at ≡ Some l
+        before : (at : Place) → shown record { nodes = change (with_value which value) (index_of row g) h.nodes; roots = h.roots; links = h.links } at ≡ Some l
             → shown h at ≡ Some l
         before (AtRoot r) e = e
         before (Next id) e = went (slice_get (change (with_value which value) (index_of row g) h.nodes) id) refl e
@@ -328,6 +369,7 @@ tie_fill k w g h row which value x lt given low =
               | inl t ↦ ap link_in t.2 ∙ (ap Some (sym (keeps_link which t.1) ∙ ap (λ (m : Node). m.link) (sym t.3)) ∙ e)
               | inr t ↦ ap link_in t.1 ∙ e
             ]
+        before (Side id) e = absurd (no_side h.links l (side_in (change (with_value which value) (index_of row g) h.nodes) id) x.single e)
 
 -- a node's link is set, and its target is noted
 pub tie_link : (k : Bounds) (w g : List ℕ) (h : Heap) (f : Node → Node) → ((n : Node) → Alike (f n) n) → ((n : Node) → (f n).named ≡ true)
@@ -337,12 +379,14 @@ pub tie_link : (k : Bounds) (w g : List ℕ) (h : Heap) (f : Node → Node) → 
     record {
       nodes = target_nodes f (id_by g to) (change (λ n. record n { link = record { to = id_by g to; mark = mark } }) (index_of row g) h.nodes);
       roots = h.roots;
+      links = h.links;
     }
 tie_link k w g h f same sets row to mark x lt given target =
     let long = x.long in
     tie_target k (slice_set w (row_place k row + 4) v) g h1 f same sets (id_by g to) named there
     (length-set w (row_place k row + 4) v ∙ long)
     x.rooted
+    x.single
     (x.even ∙ sym (length-change linked_to (index_of row g) h.nodes))
     x.once
     x.inside
@@ -358,14 +402,10 @@ tie_link k w g h f same sets row to mark x lt given target =
           (own t.1 long (x.node id row t.1 (e ∙ ap Some same) t.2)))
       | inr t ↦
           let ne = apart_rows k g x.once id row r e given t.0 in
-          block_else k w g r n (row_place k row + 4) v (λ z. ne (omega (arith, z))) (λ z. ne (omega (arith, z))) (λ z. ne (omega (arith, z)))
-          (λ z. ne (omega (arith, z))) (x.node id r n e t.1)
+          block_other k w g r row 4 (row_place k row + 4) v n (omega arith) refl ne (x.node id r n e t.1)
     ])
-    (λ r l none. record {
-      gate = same_word w (row_place k row + 4) v (row_place k r) (λ z. absurd (omega (arith, z))) ∙ (x.free r l none).gate;
-      link = same_word w (row_place k row + 4) v (row_place k r + 4) (λ z. let q : r ≡ row = omega (arith, z) in
-          none (index_of row g) (at_index row g given ∙ ap Some (sym q))) ∙ (x.free r l none).link;
-    })
+    (λ r l none. free_other k w r row 4 (row_place k row + 4) v (omega arith) refl
+    (λ q. none (index_of row g) (at_index row g given ∙ ap Some (sym q))) (x.free r l none))
   where
     v : ℕ
     v = 2 * name_word to + bit mark
@@ -374,16 +414,16 @@ tie_link k w g h f same sets row to mark x lt given target =
     linked_to n = record n { link = record { to = id_by g to; mark = mark } }
 
     h1 : Heap
-    h1 = record { nodes = change linked_to (index_of row g) h.nodes; roots = h.roots }
+    h1 = record { nodes = change linked_to (index_of row g) h.nodes; roots = h.roots; links = h.links }
 
     there : (id : ℕ) → id_by g to ≡ Some id → (n : Node) × (slice_get (change linked_to (index_of row g) h.nodes) id ≡ Some n)
     there id e = let t = there_by k w g h x to target id e in
         elim (get-change linked_to (index_of row g) id h.nodes t.0 t.1) [ inl r ↦ (linked_to t.0, r.1) | inr r ↦ (t.0, r.1) ]
 
     own : (m : Node) → length w ≡ places k → Block k w g row m → Block k (slice_set w (row_place k row + 4) v) g row (linked_to m)
-    own m long b = record {
+    own m long b = let below = row_below k row lt in record {
       gate = same_word w (row_place k row + 4) v (row_place k row) (λ z. omega (arith, z)) ∙ b.gate;
-      link = subst (IsWord g (id_by g to) mark) (sym (new_word w (row_place k row + 4) v (omega (arith, long, lt)))) (word_by g to mark target);
+      link = subst (IsWord g (id_by g to) mark) (sym (new_word w (row_place k row + 4) v (omega (arith, long, below)))) (word_by g to mark target);
       first = λ u e. same_word w (row_place k row + 4) v (row_place k row + 2) (λ z. omega (arith, z)) ∙ b.first u e;
       second = λ u e. same_word w (row_place k row + 4) v (row_place k row + 3) (λ z. omega (arith, z)) ∙ b.second u e;
     }
@@ -398,18 +438,20 @@ tie_link k w g h f same sets row to mark x lt given target =
           | inl t ↦ inr (ap (λ (z : Link). z.to) (sym (some_one n.link l e)) ∙ ap (λ (m : Node). m.link.to) t.3)
           | inr t ↦ inl (named_change linked_to (λ n q. q) (index_of row g) h.nodes l.to (x.targets (Next id) l (ap link_in t.1 ∙ e)))
         ]
+    named (Side id) l e = absurd (no_side h.links l (side_in h1.nodes id) x.single e)
 
 -- a root is set, and its target is noted
 pub tie_root : (k : Bounds) (w g : List ℕ) (h : Heap) (f : Node → Node) → ((n : Node) → Alike (f n) n) → ((n : Node) → (f n).named ≡ true)
     → (r : ℕ) (to : Option ℕ) (mark : Bool)
     → Tie k w g h → r < k.roots → Given g to
     → Tie k (slice_set w (1 + r) (2 * name_word to + bit mark)) g
-    record { nodes = target_nodes f (id_by g to) h.nodes; roots = change (λ l. record { to = id_by g to; mark = mark }) r h.roots }
+    record { nodes = target_nodes f (id_by g to) h.nodes; roots = change (λ l. record { to = id_by g to; mark = mark }) r h.roots; links = h.links }
 tie_root k w g h f same sets r to mark x lt target =
     let long = x.long in
     tie_target k (slice_set w (1 + r) v) g h1 f same sets (id_by g to) named (λ id e. there_by k w g h x to target id e)
     (length-set w (1 + r) v ∙ long)
     (length-change (λ l. new) r h.roots ∙ x.rooted)
+    x.single
     x.even
     x.once
     x.inside
@@ -433,7 +475,7 @@ tie_root k w g h f same sets r to mark x lt target =
     new = record { to = id_by g to; mark = mark }
 
     h1 : Heap
-    h1 = record { nodes = h.nodes; roots = change (λ l. new) r h.roots }
+    h1 = record { nodes = h.nodes; roots = change (λ l. new) r h.roots; links = h.links }
 
     named : (at : Place) (l : Link) → shown h1 at ≡ Some l → Named h1.nodes l.to ⊎ (l.to ≡ id_by g to)
     named (AtRoot i) l e = elim (change_back (λ l. new) r i h.roots l e) [
@@ -441,12 +483,14 @@ tie_root k w g h f same sets r to mark x lt target =
       | inr t ↦ inl (x.targets (AtRoot i) l t.1)
     ]
     named (Next id) l e = inl (x.targets (Next id) l e)
+    named (Side id) l e = absurd (no_side h.links l (side_in h1.nodes id) x.single e)
 
 -- a new table's words show the new heap
 pub tie_start : (k : Bounds) → Tie k (new_words k) [] (new_heap (numbers k))
 tie_start k = record {
   long = new_words_long k;
   rooted = length-replicate k.roots null;
+  single = refl;
   even = refl;
   once = λ i j r e q. cc;
   inside = λ i r e. cc;
@@ -466,3 +510,4 @@ tie_start k = record {
     targets : (at : Place) (l : Link) → shown (new_heap (numbers k)) at ≡ Some l → Named [] l.to
     targets (AtRoot r) l e = subst (λ (z : Link). Named [] z.to) (sym (all_null k.roots r l e)) tt
     targets (Next id) l e = cc
+    targets (Side id) l e = cc

@@ -20,9 +20,9 @@ use Rattle.orc_table.specs.declared.machine.PlainOp.{PlainOp}
 use Rattle.orc_table.specs.declared.machine.PlainOp.TheVariants.{GateLook, GateTake, Fill, Read, LinkLoad, LinkCas, LinkStore}
 use Rattle.orc_table.specs.declared.machine.PlainStep.{PlainStep}
 
--- the heap of a table has its roots
+-- the heap of a table has its roots, and nodes of one link
 abbrev pub numbers : Bounds → HeapNumbers
-numbers b = record { roots = b.roots }
+numbers b = record { roots = b.roots; links = 1 }
 
 -- the word of a row's first (0) or second (1) value
 abbrev pub value_word : ℕ → ℕ → Word

@@ -38,10 +38,11 @@ abbrev pub Named : List Node → Option ℕ → Type 0
 Named nodes None = Unit {0}
 Named nodes (Some id) = (n : Node) × (slice_get nodes id ≡ Some n) × (n.named ≡ true)
 
--- the words show the heap, where row i of the list is node i, and no other row is out
+-- the words show the heap of nodes of one link, where row i of the list is node i, and no other row is out
 pub record Tie (b : Bounds) (w g : List ℕ) (h : Heap) : Type 0 where
   pub long : length w ≡ places b
   pub rooted : length h.roots ≡ b.roots
+  pub single : h.links ≡ 1
   pub even : length g ≡ length h.nodes
   pub once : Once g
   pub inside : (i row : ℕ) → slice_get g i ≡ Some row → row < b.rows

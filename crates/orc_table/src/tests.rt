@@ -112,6 +112,7 @@ fn look_at_root(board: &Board, p: &mut Pass) -> (u64, u64)
 
 // Makes a board with one node, to which roots 0 and 1 link.
 fn with_dummy(alloc: Global, shape: &Shape) -> Result<(Board, Vec<Pass>), NoMemory>
+    requires links { (bounds_of shape.now).links ≡ 1 }
     requires roots { 2 ≤ (bounds_of shape.now).roots }
     ensures bounds { IfOk result (λ made. board_bounds made.0 ≡ bounds_of shape.now) }
     ensures belongs { IfOk result (λ made. All (λ p. Belongs made.0 p) made.1.items) }

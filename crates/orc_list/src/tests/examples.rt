@@ -27,14 +27,14 @@ fn others_use_up_turns()
         ∷ event_by 3 (Act.Look (Place.Next 0) null) (Some (ChainNote.Entry (SetEntry.Asked 3 5 true)))
         ∷ event_by 2 (Act.Move (Place.Next 0) null (record { to = None; mark = true })) (Some (ChainNote.Entry (SetEntry.Removed 2 5 true)))
         ∷ event_by 3 (Act.Move (Place.Root 0) (link_to 0) null) (Some ChainNote.Unlink) ∷ [] in
-        UsesTurns {S = Event ChainNote} (record { roots = 1 }) (λ e. e.agent) (λ j. j) 1 3 es 0 5 }
+        UsesTurns {S = Event ChainNote} (record { roots = 1; links = 1 }) (λ e. e.agent) (λ j. j) 1 3 es 0 5 }
     ensures not_four { let es : List (Event ChainNote) =
         event_by 1 (Act.Look (Place.Root 0) null) None
         ∷ event_by 2 (Act.Move (Place.Root 0) null (link_to 0)) (Some (ChainNote.Entry (SetEntry.Added 2 5 true)))
         ∷ event_by 3 (Act.Look (Place.Next 0) null) (Some (ChainNote.Entry (SetEntry.Asked 3 5 true)))
         ∷ event_by 2 (Act.Move (Place.Next 0) null (record { to = None; mark = true })) (Some (ChainNote.Entry (SetEntry.Removed 2 5 true)))
         ∷ event_by 3 (Act.Move (Place.Root 0) (link_to 0) null) (Some ChainNote.Unlink) ∷ [] in
-        ¬ CostTurns {S = Event ChainNote} (record { roots = 1 }) (λ j. j) 1 4 es 0 5 }
+        ¬ CostTurns {S = Event ChainNote} (record { roots = 1; links = 1 }) (λ j. j) 1 4 es 0 5 }
     ensures entered { let es : List (Event ChainNote) =
         event_by 1 (Act.Look (Place.Root 0) null) (Some (ChainNote.Entry (SetEntry.Asked 1 5 false)))
         ∷ event_by 2 (Act.Move (Place.Root 0) null (link_to 0)) (Some (ChainNote.Entry (SetEntry.Added 2 5 true)))

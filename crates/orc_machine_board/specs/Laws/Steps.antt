@@ -39,6 +39,7 @@ in_range s = record {
   roots = (s.some_roots, s.few_roots);
   agents = (s.some_agents, s.few_agents);
   limit = (s.some_limit, s.low_limit);
+  links = (s.some_links, s.few_links);
 }
 
 -- but for Enroll, the word of enrolments doesn't matter
@@ -54,7 +55,7 @@ permission b e f a (Publish k r) d h = refl
 permission b e f a (Clear k) d h = refl
 permission b e f a (Arm r) d h = refl
 permission b e f a (LinkCas p x y) d h = refl
-permission b e f a (LinkStore r l) d h = refl
+permission b e f a (LinkStore r number l) d h = refl
 permission b e f a (Inc r) d h = refl
 permission b e f a (Dec r) d h = refl
 permission b e f a (SetRetired r q) d h = refl

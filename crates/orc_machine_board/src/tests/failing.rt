@@ -19,7 +19,11 @@ fn aim(board: &Board, p: &mut Pass, row: u32, link: RowLink) -> Option<u64>
     requires belongs { Belongs board.now p.old }
     ensures belongs { Belongs board.now p.new }
 {
-    let op = Op::LinkStore { row, link };
+    let op = Op::LinkStore {
+        row,
+        number: 0,
+        link,
+    };
     if link.mark || !may_make(board, p, &op) {
         return None;
     }

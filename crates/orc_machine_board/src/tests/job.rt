@@ -264,7 +264,11 @@ fn free(board: &Queue, p: &mut QueuePass) -> bool
         p,
         &[
             END,
-            Op::LinkStore { row: 0, link },
+            Op::LinkStore {
+                row: 0,
+                number: 0,
+                link,
+            },
             Op::Arm { row: 1 },
             Op::Dec { row: 1 },
             Op::Clear { slot: 0 },

@@ -195,7 +195,11 @@ fn free(board: &Board, p: &mut Pass, state: &mut State) -> bool
         state,
         &[
             END,
-            Op::LinkStore { row: 0, link },
+            Op::LinkStore {
+                row: 0,
+                number: 0,
+                link,
+            },
             Op::Unretire { row: 0 },
             Op::Free { row: 0 },
         ],

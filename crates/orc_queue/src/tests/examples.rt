@@ -82,17 +82,19 @@ fn other_causes()
 // Node 0 is the dummy and leads to node 1, the last. A tail at node 0 lags; one at node 1 doesn't, and is past the head.
 fn where_the_tail_is()
     ensures lags { ¬ TailIsLast (record {
-      nodes = record { giver = 0; first = None; second = Some 5; link = link_to 1; named = true; linked = true }
-          ∷ record { giver = 1; first = Some 7; second = Some 6; link = null; named = true; linked = true } ∷ [];
+      links = 1;
+      nodes = record { giver = 0; first = None; second = Some 5; link = link_to 1; side = null; named = true; linked = true }
+          ∷ record { giver = 1; first = Some 7; second = Some 6; link = null; side = null; named = true; linked = true } ∷ [];
       roots = link_to 0 ∷ link_to 0 ∷ [];
     }) }
     ensures last { TailIsLast (record {
-      nodes = record { giver = 0; first = None; second = Some 5; link = link_to 1; named = true; linked = true }
-          ∷ record { giver = 1; first = Some 7; second = Some 6; link = null; named = true; linked = true } ∷ [];
+      links = 1;
+      nodes = record { giver = 0; first = None; second = Some 5; link = link_to 1; side = null; named = true; linked = true }
+          ∷ record { giver = 1; first = Some 7; second = Some 6; link = null; side = null; named = true; linked = true } ∷ [];
       roots = link_to 0 ∷ link_to 1 ∷ [];
     }) }
-    ensures past { TailIsPast (record { nodes = []; roots = link_to 0 ∷ link_to 1 ∷ [] }) }
-    ensures at_the_head { ¬ TailIsPast (record { nodes = []; roots = link_to 0 ∷ link_to 0 ∷ [] }) }
+    ensures past { TailIsPast (record { links = 1; nodes = []; roots = link_to 0 ∷ link_to 1 ∷ [] }) }
+    ensures at_the_head { ¬ TailIsPast (record { links = 1; nodes = []; roots = link_to 0 ∷ link_to 0 ∷ [] }) }
 {}
 
 // A swing of root 1, and a miss of it, help the tail on; a move of root 0 leaves it.
@@ -112,11 +114,11 @@ fn no_position_is_left()
         ∷ event_by 0 (Act.Fill 0 1 (2 ^ 62)) None
         ∷ event_by 0 (Act.Move (Place.Root 0) null (link_to 0)) (Some FifoNote.Begin)
         ∷ event_by 0 (Act.Move (Place.Root 1) null (link_to 0)) (Some FifoNote.Begin) ∷ [] in
-        (next_position (record { roots = 2 }) es ≡ 2 ^ 62) × IsFullLook (record { roots = 2 }) 1 es (event_by 1 (Act.Look (Place.Next 0) null) None) }
+        (next_position (record { roots = 2; links = 1 }) es ≡ 2 ^ 62) × IsFullLook (record { roots = 2; links = 1 }) 1 es (event_by 1 (Act.Look (Place.Next 0) null) None) }
     ensures unlinked { let es : List (Event FifoNote) =
         event_by 0 Act.Give None
         ∷ event_by 0 (Act.Fill 0 1 (2 ^ 62)) None ∷ [] in
-        ¬ IsFullLook (record { roots = 2 }) 1 es (event_by 1 (Act.Look (Place.Next 0) null) None) }
+        ¬ IsFullLook (record { roots = 2; links = 1 }) 1 es (event_by 1 (Act.Look (Place.Next 0) null) None) }
 {}
 
 // A caller that names the queue's type sees what the queue promises, and not the trait's clauses alone.

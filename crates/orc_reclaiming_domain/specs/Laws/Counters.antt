@@ -1,5 +1,5 @@
 -- A counter word that has changed was that of a row that was out.
-use Rattle.std.proofs.Common.{Bool, Option, Some, None, ap, false, inl, inr, ne_eqb, refl, subst, sym, true, ℕ, ⊎_elim, ◌≡◌, ◌⊎◌}
+use Rattle.std.proofs.Common.{Bool, Option, Some, None, ap, false, inl, inr, ne_eqb, refl, subst, suc, sym, true, zero, ℕ, ⊎_elim, ◌≡◌, ◌⊎◌}
 use Rattle.std.proofs.lemmas.Bool.{false≢true, or_right}
 use Rattle.std.specs.Prelude.{cond, nat_lt, not, ◌&&◌, ◌==◌, ◌||◌}
 use native.Mathlib.Decide.{ℕ_discrete}
@@ -21,7 +21,7 @@ use Rattle.orc_sound.specs.Doomed.{dooms}
 use Rattle.orc_sound.specs.Linked.{uses}
 use Rattle.orc_words.specs.Bounds.{Bounds}
 use Rattle.orc_words.specs.declared.place.Word.{Word}
-use Rattle.orc_words.specs.declared.place.Word.TheVariants.{Counter, First, Gate, Next, Root, Second}
+use Rattle.orc_words.specs.declared.place.Word.TheVariants.{Counter, First, Gate, Next, Root, Second, Side}
 
 -- the word of a row's counter stays, or the row is out
 abbrev pub CounterStep : (Word → ℕ) → (Word → ℕ) → ℕ → Type 0
@@ -50,9 +50,9 @@ due_saw : (o : Option Reading) (r q : ℕ) → is_due o r q ≡ true → saw o r
 due_saw None r q h = absurd (false≢true h)
 due_saw (Some s) r q h = (and_both (s.row == r) (s.number == q) h).0
 
-cut_dooms : (o : Option Doom) (r : ℕ) → doom_cut o r ≡ true → dooms o r ≡ true
-cut_dooms None r h = absurd (false≢true h)
-cut_dooms (Some x) r h = (and_both (x.row == r) x.cut (and_both ((x.row == r) && x.cut) (not x.bare) h).0).0
+cut_dooms : (links : ℕ) (o : Option Doom) (r : ℕ) → doom_cut links o r ≡ true → dooms o r ≡ true
+cut_dooms links None r h = absurd (false≢true h)
+cut_dooms links (Some x) r h = (and_both (x.row == r) (x.cuts == links) (and_both ((x.row == r) && (x.cuts == links)) (not x.bare) h).0).0
 
 -- what a record has pending, due, fresh or held it uses
 module _ (d : Agent) (r : ℕ) where
@@ -87,8 +87,10 @@ counter_source b z a (Clear j) r l = inl refl
 counter_source b z a (Arm q) r l = inl refl
 counter_source b z a (LinkCas (Root i) f t) r l = inl refl
 counter_source b z a (LinkCas (Next q) f t) r l = inl refl
+counter_source b z a (LinkCas (Side q) f t) r l = inl refl
 counter_source b z a (LinkCas p f t) r l = absurd (false≢true l.fits)
-counter_source b z a (LinkStore q k) r l = inl refl
+counter_source b z a (LinkStore q zero k) r l = inl refl
+counter_source b z a (LinkStore q (suc n) k) r l = inl refl
 counter_source b z a (Inc q) r l =
     let d = z.seats a in
     write_counter z.memory q _ r (λ y. (uses d y ≡ true) ⊎ (dooms d.doom y ≡ true)) (inl (uses_inc d q (and_both (nat_lt q b.rows) (names d.inc q) l.fits).1))
@@ -105,11 +107,11 @@ counter_source b z a (CounterLoad q how) r l = inl (write_same z.memory (Counter
 counter_source b z a (Unretire q) r l =
     let d = z.seats a in
     let scanned = scans d.scan q && not (scan_empty d.scan) in
-    let h = (and_both (nat_lt q b.rows) ((scanned && holds (slot_of d 0) q) || doom_cut d.doom q) l.fits).1 in
+    let h = (and_both (nat_lt q b.rows) ((scanned && holds (slot_of d 0) q) || doom_cut b.links d.doom q) l.fits).1 in
     write_counter z.memory q _ r (λ y. (uses d y ≡ true) ⊎ (dooms d.doom y ≡ true))
-    (one_of (scanned && holds (slot_of d 0) q) (doom_cut d.doom q) ((uses d q ≡ true) ⊎ (dooms d.doom q ≡ true)) h
+    (one_of (scanned && holds (slot_of d 0) q) (doom_cut b.links d.doom q) ((uses d q ≡ true) ⊎ (dooms d.doom q ≡ true)) h
     (λ e. inl (uses_held d q (any_holds_at d.slots 0 q (and_both scanned (holds (slot_of d 0) q) e).1)))
-    (λ e. inr (cut_dooms d.doom q e)))
+    (λ e. inr (cut_dooms b.links d.doom q e)))
 counter_source b z a (SlotLook j) r l = inl refl
 counter_source b z a (Hand j) r l = inl refl
 counter_source b z a (TakeIn j) r l = inl refl

@@ -64,7 +64,11 @@ fn cut(board: &Board, p: &mut Pass, row: u32, link: RowLink) -> Option<u64>
     requires belongs { Belongs board.now p.old }
     ensures belongs { Belongs board.now p.new }
 {
-    let op = Op::LinkStore { row, link };
+    let op = Op::LinkStore {
+        row,
+        number: 0,
+        link,
+    };
     if link.mark || p.record().is_fresh(row) || !may_make(board, p, &op) {
         return None;
     }
@@ -76,7 +80,12 @@ fn make_step(board: &Board, p: &mut Pass, op: Op) -> Option<u64>
     requires belongs { Belongs board.now p.old }
     ensures belongs { Belongs board.now p.new }
 {
-    if let Op::LinkStore { row, link } = op {
+    if let Op::LinkStore {
+        row,
+        number: 0,
+        link,
+    } = op
+    {
         return cut(board, p, row, link);
     }
     if !may_make(board, p, &op) {
@@ -168,7 +177,11 @@ fn free(board: &Board, p: &mut Pass, row: u32) -> bool
         p,
         &[
             counter(row, CounterUse::End),
-            Op::LinkStore { row, link },
+            Op::LinkStore {
+                row,
+                number: 0,
+                link,
+            },
             Op::Unretire { row },
             Op::Free { row },
         ],

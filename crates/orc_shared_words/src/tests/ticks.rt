@@ -29,7 +29,7 @@ impl<N> Machine<N> for Ticks {
 
     ghost leaves_room = { λ _ _ _ _ _ _. tt };
 
-    ghost numbers = { λ _. record { roots = 0 } };
+    ghost numbers = { λ _. record { roots = 0; links = 1 } };
 
     ghost rules = { tick_rules };
 

@@ -53,7 +53,7 @@ fn fresh_rows()
 
 // Two agents take row 1: the first gets it, and the other's step is no event. Then a load finds null.
 fn events_of_steps()
-    ensures { let b : Bounds = record { rows = 2; roots = 1; agents = 2; limit = 8 } in
+    ensures { let b : Bounds = record { rows = 2; roots = 1; agents = 2; limit = 8; links = 1 } in
         project b (step_of {N = Unit {0}} 0 (PlainOp.GateTake 1) None ∷ step_of 1 (PlainOp.GateTake 1) None
         ∷ step_of 1 (PlainOp.LinkLoad (Word.Root 0) None) None ∷ [])
         ≡ event_by 0 act.Give None ∷ event_by 1 (act.Look (at.Root 0) (record { to = None; mark = false })) None ∷ [] }

@@ -24,8 +24,8 @@ pub returns-then-is_some-clause-opens : goal.returns-then-is_some-clause-opens
 returns-then-is_some-clause-opens g t c =
     let b = board_bounds c.args.board.now in
     let a = c.args.agent in
-    opens_less b a 3 1 (shows c.args.p.now) (shows c.free_doomed.new.p) (omega arith)
-    (opens_then b a 1 2 (shows c.args.p.now) (shows c.settle_step.new.p) (shows c.free_doomed.new.p)
+    opens_less b a 2 1 (shows c.args.p.now) (shows c.free_doomed.new.p) (omega arith)
+    (opens_then b a 1 1 (shows c.args.p.now) (shows c.settle_step.new.p) (shows c.free_doomed.new.p)
     (c.settle_step.ensures.opens tt) c.free_doomed.ensures.goes)
 
 pub returns-else-is_some-clause-opens : goal.returns-else-is_some-clause-opens

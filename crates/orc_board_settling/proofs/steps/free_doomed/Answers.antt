@@ -1,6 +1,7 @@
 use Rattle.std.proofs.Common.{ap, arith, ◌∙◌, ◌≡◌}
 use Rattle.std.specs.Prelude.{None, is_some}
 use Rattle.orc_board_settling.proofs.Joins.{goes_is, goes_then}
+use Rattle.orc_board_settling.proofs.Passes.{one_link}
 use Rattle.orc_board_settling.specs.Passes.{record_of, state_of}
 use Rattle.orc_core.specs.declared.records.Agent.{Agent}
 use Rattle.orc_machine_board.specs.Views.{board_bounds, shows}
@@ -12,7 +13,7 @@ pub settle_step-requires-clause-allowed : goal.settle_step-requires-clause-allow
 settle_step-requires-clause-allowed g c =
     unretire_cut (state_of c.args.board.now c.args.p.now) (state_of c.args.board.now c.take_link_out.new.p)
     (state_of c.args.board.now c.finish_decrement.new.p) c.args.agent
-    c.args.row c.requires.pass.reached c.requires.pass.low c.requires.doom
+    c.args.row (one_link c.args.board.now c.finish_decrement.new.p) c.requires.pass.reached c.requires.pass.low c.requires.doom
     c.take_link_out.ensures.after c.finish_decrement.ensures.kept c.finish_decrement.ensures.still c.take_link_out.ensures.goes.went.bounds
     c.finish_decrement.ensures.goes.went.bounds c.requires.scan
 
@@ -36,8 +37,8 @@ returns-clause-goes g c =
     let d = record_of c.args.board.now a c.finish_decrement.new.p in
     let scan : d.scan ≡ None = c.finish_decrement.ensures.kept.scan ∙ (ap (λ (e : Agent). e.scan) c.take_link_out.ensures.after.is ∙ c.requires.scan) in
     let zero : bit (is_some d.scan) ≡ 0 = ap (λ o. bit (is_some o)) scan in
-    goes_then b a 0 2 s t w c.take_link_out.ensures.goes
-    (goes_then b a 0 2 t u w c.finish_decrement.ensures.goes (goes_then b a 0 2 u v w
+    goes_then b a 0 1 s t w c.take_link_out.ensures.goes
+    (goes_then b a 0 1 t u w c.finish_decrement.ensures.goes (goes_then b a 0 1 u v w
     (goes_is b a (bit (is_some d.scan)) 0 u v zero c.settle_step.ensures.goes) c.settle_step-2.ensures.goes))
 
 pub returns-clause-few : goal.returns-clause-few

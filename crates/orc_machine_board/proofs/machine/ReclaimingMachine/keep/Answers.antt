@@ -9,4 +9,4 @@ advance-requires-clause-packable g c = let s = c.args.shape.now.shape in may_pac
 
 pub advance-requires-clause-recordable : goal.advance-requires-clause-recordable
 advance-requires-clause-recordable g c = let s = c.args.shape.now.shape in may_recordable
-    (bounds_of s) 0 c.args.agent c.args.op.now.op c.args.own.now c.requires.allowed.may s.few_agents
+    (bounds_of s) 0 c.args.agent c.args.op.now.op c.args.own.now c.requires.allowed.may s.few_agents s.few_links

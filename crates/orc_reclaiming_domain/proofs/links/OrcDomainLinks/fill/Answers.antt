@@ -1,4 +1,4 @@
-use Rattle.std.proofs.Common.{subst, sym}
+use Rattle.std.proofs.Common.{[], subst, sym, ◌∷◌}
 use Rattle.orc_core.specs.declared.ops.Op.TheVariants.{Fill}
 use Rattle.orc_machine_board.specs.Kinds.{MakesPlain, MayDo}
 use Rattle.orc_reclaiming_domain.proofs.Filling.{fill_can, fills, fills_between}
@@ -39,3 +39,11 @@ returns-clause-pass g c =
     let next = fills_between s c.args.fresh.now c.requires.fresh c.args.which c.requires.which c.args.value t c.fill.result m
     (record { ready = is.ready; untouched = is.untouched }) in
     record { board = c.fill.ensures.belongs; ready = next.ready; untouched = next.untouched; inside = is.inside }
+
+pub returns-clause-taken_in : goal.returns-clause-taken_in
+returns-clause-taken_in g c =
+    let k = c.args.self.now.board.words.shape in
+    let e = c.fill.ensures in
+    let s = stage g.D.Discipline k _ _ c.requires.pass.board.keeps in
+    let t = stage g.D.Discipline k _ _ e.belongs.keeps in
+    record { ops = Fill c.row.result c.args.which c.args.value ∷ []; done = done_one _ _ s t c.fill.result e.made; taken_in = tt }

@@ -1,4 +1,4 @@
-use Rattle.std.proofs.Common.{None, Some, ap, subst, sym, ◌∙◌, ◌≡◌}
+use Rattle.std.proofs.Common.{None, Some, [], ap, subst, sym, ◌∙◌, ◌≡◌, ◌∷◌}
 use Rattle.orc_core.specs.declared.ops.Op.TheVariants.{LinkLoad}
 use Rattle.orc_domain.specs.Rows.{word_at}
 use Rattle.orc_machine_board.specs.Kinds.{MayDo, wants}
@@ -78,3 +78,11 @@ returns-clause-pass g c =
     let next = tests_between s t c.args.place.now c.args.link.now c.args.note c.link_load-found.result m c.requires.place c.requires.link is.ready
     (record { ready = is.ready; untouched = is.untouched }) in
     record { board = e.belongs; ready = next.ready; untouched = next.untouched; inside = is.inside }
+
+pub returns-clause-taken_in : goal.returns-clause-taken_in
+returns-clause-taken_in g c =
+    let k = c.args.self.now.board.words.shape in
+    let e = c.link_load-found.ensures in
+    let s = stage g.D.Discipline k _ _ c.requires.pass.board.keeps in
+    let t = stage g.D.Discipline k _ _ e.belongs.keeps in
+    record { ops = LinkLoad c.word_at.result None ∷ []; done = done_one _ _ s t c.link_load-found.result e.makes; taken_in = tt }

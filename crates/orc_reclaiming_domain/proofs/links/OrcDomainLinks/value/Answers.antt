@@ -1,4 +1,4 @@
-use Rattle.std.proofs.Common.{subst, sym}
+use Rattle.std.proofs.Common.{[], subst, sym, ◌∷◌}
 use Rattle.orc_core.specs.declared.ops.Op.TheVariants.{Read}
 use Rattle.orc_machine_board.specs.Kinds.{MakesPlain, MayDo}
 use Rattle.orc_machine_board.specs.Views.{shows}
@@ -54,3 +54,11 @@ returns-clause-pass g c =
     let next = read_between s c.args.h.now c.requires.held c.args.which c.requires.which t c.read.result m
     (record { ready = is.ready; untouched = is.untouched }) in
     record { board = e.belongs; ready = next.ready; untouched = next.untouched; inside = is.inside }
+
+pub returns-clause-taken_in : goal.returns-clause-taken_in
+returns-clause-taken_in g c =
+    let k = c.args.self.now.board.words.shape in
+    let e = c.read.ensures in
+    let s = stage g.D.Discipline k _ _ c.requires.pass.board.keeps in
+    let t = stage g.D.Discipline k _ _ e.belongs.keeps in
+    record { ops = Read c.row.result c.args.which ∷ []; done = done_one _ _ s t c.read.result e.made; taken_in = tt }
