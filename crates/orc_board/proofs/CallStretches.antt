@@ -11,7 +11,7 @@ use Rattle.orc_history.specs.declared.set.ListRefused.{ListRefused}
 use Rattle.orc_history.specs.QueueHistory.{agent_of_entry, entry_of_dequeue}
 use Rattle.orc_history.specs.SetHistory.{agent_of_set_entry}
 use Rattle.orc_board.specs.Stretches.{View, Kind, Stretch, Did, Licensed, of_queue, of_set, refusal, is_own_move}
-use Rattle.orc_board.specs.Table.{EndsEmpty, EndsWith, took_of}
+use Rattle.orc_board.specs.Table.{EndsWith, took_of}
 use Rattle.orc_board.proofs.Chains.{Stretch-trans, licensed_from}
 use Rattle.orc_board.proofs.ListFacts.{eq-false}
 
@@ -127,16 +127,6 @@ ends_later q agent entry own i j k t e = record {
   is = e.is
       ∙ (ap (λ z. z ++ (e.front ++ entry ∷ e.back)) t.is
       ∙ (append_assoc (q.history i) t.part (e.front ++ entry ∷ e.back) ∙ ap (λ z. q.history i ++ z) (sym (append_assoc t.part e.front (entry ∷ e.back)))));
-  others = e.others;
-}
-
--- a history whose last entry of the agent is an Empty
-pub ends_empty : {A : Type 0} (q : View A QueueEntry QueueRefused) (agent : ℕ) (j k : List A) → EndsWith q agent (Empty agent) j k → EndsEmpty q agent k
-ends_empty q agent j k e = record {
-  front = q.history j ++ e.front;
-  back = e.back;
-  is = e.is
-      ∙ sym (append_assoc (q.history j) e.front (Empty agent ∷ e.back));
   others = e.others;
 }
 

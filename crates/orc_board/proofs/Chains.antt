@@ -1,5 +1,5 @@
 -- How stretches, rows and chains of rows grow.
-use Rattle.std.proofs.Common.{ℕ, ◌≤◌, List, [], ◌∷◌, ◌++◌, length, Option, Some, None, refl, ap, sym, ◌∙◌, arith, length-append, append_assoc, append-nil, filter}
+use Rattle.std.proofs.Common.{ℕ, ◌≤◌, Bool, List, [], ◌∷◌, ◌++◌, length, Option, Some, None, refl, ap, sym, ◌∙◌, arith, length-append, append_assoc, append-nil, filter}
 use mathlib.Core.List.{IsPrefix}
 use Rattle.std.proofs.lemmas.List.Elements.{filter-append}
 use Rattle.orc_history.specs.declared.queue.QueueEntry.{QueueEntry}
@@ -50,48 +50,66 @@ Did-just kind x agent own j k h = record { stretch = h; licence = tt }
 pub Did-nothing : {A E W : Type 0} (kind : Kind E) (x : View A E W) (agent : ℕ) (j : List A) → Did kind x agent nothing j j
 Did-nothing kind x agent j = Did-just kind x agent [] j j (Stretch-refl kind x agent j)
 
-pub Stands-after : {A B : Type 0} (q : View A QueueEntry QueueRefused) (s : View B SetEntry ListRefused) (agent : ℕ) (row : Row) (i j k : List A)
-    (l m n : List B)
-    → Stands q s agent empty_row i l j m → Stands q s agent row j m k n → Stands q s agent row i l k n
-Stands-after q s agent row i j k l m n a b = record {
-  queue = Did-after of_queue q agent row.queue i j k a.queue.stretch b.queue;
+-- the last stretch grows
+pub chain_more : {A E W X : Type 0} (kind : Kind E) (x : View A E W) (agent : ℕ) (share : X → Share E W) (rows : List X) (j k k2 : List A)
+    → Chain kind x agent share rows j k → Did kind x agent nothing k k2 → Chain kind x agent share rows j k2
+chain_more kind x agent share [] j k k2 c h = Did-after kind x agent nothing j k k2 c.stretch h
+chain_more kind x agent share (row ∷ rows) j k k2 (i, one, c) h = (i, one, chain_more kind x agent share rows i k k2 c h)
+
+-- one row more
+pub chain_snoc : {A E W X : Type 0} (kind : Kind E) (x : View A E W) (agent : ℕ) (share : X → Share E W) (rows : List X) (row : X) (j k k2 : List A)
+    → Chain kind x agent share rows j k → Did kind x agent (share row) k k2 → Chain kind x agent share (rows ++ row ∷ []) j k2
+chain_snoc kind x agent share [] row j k k2 c h = (k2, Did-after kind x agent (share row) j k k2 c.stretch h, Did-nothing kind x agent k2)
+chain_snoc kind x agent share (r ∷ rows) row j k k2 (i, one, c) h = (i, one, chain_snoc kind x agent share rows row i k k2 c h)
+
+-- a stretch of nothing ahead
+pub chain_before : {A E W X : Type 0} (kind : Kind E) (x : View A E W) (agent : ℕ) (share : X → Share E W) (rows : List X) (i j k : List A)
+    → Stretch kind x agent [] i j → Chain kind x agent share rows j k → Chain kind x agent share rows i k
+chain_before kind x agent share [] i j k h c = Did-after kind x agent nothing i j k h c
+chain_before kind x agent share (row ∷ rows) i j k h (a, one, c) = (a, Did-after kind x agent (share row) i j a h one, c)
+
+-- the own entries of rows, one after another
+abbrev pub own_of_rows : {E W X : Type 0} → (X → Share E W) → List X → List E
+own_of_rows share [] = []
+own_of_rows share (row ∷ rows) = (share row).own ++ own_of_rows share rows
+
+-- all own entries in a chain are those of its rows, in order
+pub chain_stretch : {A E W X : Type 0} (kind : Kind E) (x : View A E W) (agent : ℕ) (share : X → Share E W) (rows : List X) (j k : List A)
+    → Chain kind x agent share rows j k → Stretch kind x agent (own_of_rows share rows) j k
+chain_stretch kind x agent share [] j k c = c.stretch
+chain_stretch kind x agent share (row ∷ rows) j k (i, one, c) =
+    Stretch-trans kind x agent (share row).own (own_of_rows share rows) j i k one.stretch (chain_stretch kind x agent share rows i k c)
+
+pub Stands-after : {A B : Type 0} (qs : Bool → View A QueueEntry QueueRefused) (s : View B SetEntry ListRefused) (agent : ℕ) (row : Row)
+    (i j k : Bool → List A) (l m n : List B)
+    → Stands qs s agent empty_row i l j m → Stands qs s agent row j m k n → Stands qs s agent row i l k n
+Stands-after qs s agent row i j k l m n a b = record {
+  queues = λ x. Did-after of_queue (qs x) agent (row.queues x) (i x) (j x) (k x) (a.queues x).stretch (b.queues x);
   set = Did-after of_set s agent row.set l m n a.set.stretch b.set;
 }
 
-pub Stands-empty : {A B : Type 0} (q : View A QueueEntry QueueRefused) (s : View B SetEntry ListRefused) (agent : ℕ) (j : List A) (m : List B)
-    → Stands q s agent empty_row j m j m
-Stands-empty q s agent j m = record { queue = Did-nothing of_queue q agent j; set = Did-nothing of_set s agent m }
-
-chain_more : {A B : Type 0} (q : View A QueueEntry QueueRefused) (s : View B SetEntry ListRefused) (agent : ℕ) (rows : List Row) (j k k2 : List A)
-    (m n n2 : List B)
-    → Chain q s agent rows j m k n → Stands q s agent empty_row k n k2 n2 → Chain q s agent rows j m k2 n2
-chain_more q s agent [] j k k2 m n n2 c h = Stands-after q s agent empty_row j k k2 m n n2 c h
-chain_more q s agent (row ∷ rows) j k k2 m n n2 (i, l, one, c) h = (i, l, one, chain_more q s agent rows i k k2 l n n2 c h)
-
-chain_snoc : {A B : Type 0} (q : View A QueueEntry QueueRefused) (s : View B SetEntry ListRefused) (agent : ℕ) (rows : List Row) (row : Row) (j k k2 : List A)
-    (m n n2 : List B)
-    → Chain q s agent rows j m k n → Stands q s agent row k n k2 n2 → Chain q s agent (rows ++ row ∷ []) j m k2 n2
-chain_snoc q s agent [] row j k k2 m n n2 c h = (k2, n2, Stands-after q s agent row j k k2 m n n2 c h, Stands-empty q s agent k2 n2)
-chain_snoc q s agent (r ∷ rows) row j k k2 m n n2 (i, l, one, c) h = (i, l, one, chain_snoc q s agent rows row i k k2 l n n2 c h)
+pub Stands-empty : {A B : Type 0} (qs : Bool → View A QueueEntry QueueRefused) (s : View B SetEntry ListRefused) (agent : ℕ) (j : Bool → List A) (m : List B)
+    → Stands qs s agent empty_row j m j m
+Stands-empty qs s agent j m = record { queues = λ x. Did-nothing of_queue (qs x) agent (j x); set = Did-nothing of_set s agent m }
 
 -- one reply more
-pub Works-row : {A B : Type 0} (q : View A QueueEntry QueueRefused) (s : View B SetEntry ListRefused)
-    (agent : ℕ) {rows : List Row} {row : Row} {j k k2 : List A} {m n n2 : List B}
-    → Works q s agent rows j m k n → Stands q s agent row k n k2 n2 → Works q s agent (rows ++ row ∷ []) j m k2 n2
-Works-row q s agent {rows = rows} {row = row} {j = j} {k = k} {k2 = k2} {m = m} {n = n} {n2 = n2} w h = record {
-  chain = chain_snoc q s agent rows row j k k2
-      m n n2 w.chain h;
+pub Works-row : {A B : Type 0} (qs : Bool → View A QueueEntry QueueRefused) (s : View B SetEntry ListRefused)
+    (agent : ℕ) {rows : List Row} {row : Row} {j k k2 : Bool → List A} {m n n2 : List B}
+    → Works qs s agent rows j m k n → Stands qs s agent row k n k2 n2 → Works qs s agent (rows ++ row ∷ []) j m k2 n2
+Works-row qs s agent {rows = rows} {row = row} {j = j} {k = k} {k2 = k2} {m = m} {n = n} {n2 = n2} w h = record {
+  queues = λ x. chain_snoc of_queue (qs x) agent (λ (r : Row). r.queues x) rows row (j x) (k x) (k2 x) (w.queues x) (h.queues x);
+  set = chain_snoc of_set s agent (λ (r : Row). r.set) rows row m n n2 w.set h.set;
 }
 
 -- what others add later, and the agent's own Empties
-pub Works-more : {A B : Type 0} (q : View A QueueEntry QueueRefused) (s : View B SetEntry ListRefused)
-    (agent : ℕ) {rows : List Row} {j k k2 : List A} {m n n2 : List B}
-    → Works q s agent rows j m k n → Stands q s agent empty_row k n k2 n2 → Works q s agent rows j m k2 n2
-Works-more q s agent {rows = rows} {j = j} {k = k} {k2 = k2} {m = m} {n = n} {n2 = n2} w h = record {
-  chain = chain_more q s agent rows j k k2 m n n2 w.chain
-      h;
+pub Works-more : {A B : Type 0} (qs : Bool → View A QueueEntry QueueRefused) (s : View B SetEntry ListRefused)
+    (agent : ℕ) {rows : List Row} {j k k2 : Bool → List A} {m n n2 : List B}
+    → Works qs s agent rows j m k n → Stands qs s agent empty_row k n k2 n2 → Works qs s agent rows j m k2 n2
+Works-more qs s agent {rows = rows} {j = j} {k = k} {k2 = k2} {m = m} {n = n} {n2 = n2} w h = record {
+  queues = λ x. chain_more of_queue (qs x) agent (λ (r : Row). r.queues x) rows (j x) (k x) (k2 x) (w.queues x) (h.queues x);
+  set = chain_more of_set s agent (λ (r : Row). r.set) rows m n n2 w.set h.set;
 }
 
-pub Works-none : {A B : Type 0} (q : View A QueueEntry QueueRefused) (s : View B SetEntry ListRefused) (agent : ℕ) (j : List A) (m : List B)
-    → Works q s agent [] j m j m
-Works-none q s agent j m = record { chain = Stands-empty q s agent j m }
+pub Works-none : {A B : Type 0} (qs : Bool → View A QueueEntry QueueRefused) (s : View B SetEntry ListRefused) (agent : ℕ) (j : Bool → List A) (m : List B)
+    → Works qs s agent [] j m j m
+Works-none qs s agent j m = record { queues = λ x. Did-nothing of_queue (qs x) agent (j x); set = Did-nothing of_set s agent m }

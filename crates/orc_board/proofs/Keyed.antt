@@ -5,7 +5,7 @@ use Rattle.std.specs.List.Sorted.{IsPermutation}
 use Rattle.std.proofs.lemmas.List.Sorted.{IsPermutation-refl, IsPermutation-sym, IsPermutation-trans, IsPermutation-cons, IsPermutation-middle, IsPermutation-append}
 use Rattle.std.specs.List.{AllByRecursion}
 use Rattle.orc_board.specs.Follows.{by_key}
-use Rattle.orc_board.proofs.ListFacts.{AllByRecursion-append, AllByRecursion-map, eq-true, filter-none, filter-all}
+use Rattle.orc_board.proofs.ListFacts.{AllByRecursion-append, AllByRecursion-map, eq-true, filter-none}
 
 no_way : {Z : Type 0} → true ≡ false → Z
 no_way e = let n : ⊥ = cc in absurd n
@@ -97,9 +97,3 @@ no_lower key zero n xs l h = refl
 no_lower {X} key (suc m) n xs l h =
     ap (λ z. z ++ filter (λ x. key x == m) xs) (no_lower key m n xs (omega arith) h)
     ∙ filter-none key m xs (AllByRecursion-map (λ x. key x ≡ n) (λ x. key x ≢ m) (λ x e. omega arith) xs h)
-
-pub one_key : {X : Type 0} (key : X → ℕ) (n : ℕ) (xs : List X) → AllByRecursion (λ x. key x ≡ n) xs → xs ≡ by_key key (suc n) xs
-one_key key n xs h =
-    let none : by_key key n xs ≡ [] = no_lower key n n xs (omega arith) h in
-    let all : filter (λ x. key x == n) xs ≡ xs = filter-all key n xs h in
-    sym (ap (λ z. z ++ filter (λ x. key x == n) xs) none ∙ all)

@@ -111,7 +111,7 @@ each_line lines posters takers posts takes some o =
 -- no more lines were posted than there are
 pub posted_few : (lines : List Line) (posters takers : ℕ) (posts : List PostReply) (takes : List TakeReply) → 1 ≤ posters
     → AreInOrder lines posters takers posts takes
-    → length (posted_of posts) ≤ length lines
+    → length (posted_of false posts) + length (posted_of true posts) ≤ length lines
 posted_few lines posters takers posts takes some o =
     let line : PostReply → ℕ = λ r. r.line in
     let each : length (map line posts) ≡ length (range_with_len 0 (length lines)) =
@@ -155,45 +155,63 @@ unfolding IsDistinct
 range_distinct a zero = tt
 range_distinct a (suc n) = (later a (a + 1) n (omega arith), range_distinct (a + 1) n)
 
-posted_all : (P : ℕ → Type 0) (i : ℕ) (w : PostWord) (xs : List (ℕ × ℕ)) → P i → AllByRecursion P (map (λ (x : ℕ × ℕ). x.0) xs)
-    → AllByRecursion P (map (λ (x : ℕ × ℕ). x.0) (posted_by i w ++ xs))
-posted_all P i (word.Posted at) xs h a = (h, a)
-posted_all P i word.Busy xs h a = a
-posted_all P i word.NoNode xs h a = a
-posted_all P i word.Positions xs h a = a
-posted_all P i word.Spent xs h a = a
-posted_all P i word.Dropped xs h a = a
-posted_all P i word.Unknown xs h a = a
+posted_all : (rush : Bool) (P : ℕ → Type 0) (i : ℕ) (w : PostWord) (xs : List (ℕ × ℕ)) → P i → AllByRecursion P (map (λ (x : ℕ × ℕ). x.0) xs)
+    → AllByRecursion P (map (λ (x : ℕ × ℕ). x.0) (posted_by rush i w ++ xs))
+posted_all false P i (word.Posted at) xs h a = (h, a)
+posted_all true P i (word.Posted at) xs h a = a
+posted_all false P i (word.Rushed at) xs h a = a
+posted_all true P i (word.Rushed at) xs h a = (h, a)
+posted_all false P i word.Busy xs h a = a
+posted_all true P i word.Busy xs h a = a
+posted_all false P i word.NoNode xs h a = a
+posted_all true P i word.NoNode xs h a = a
+posted_all false P i word.Positions xs h a = a
+posted_all true P i word.Positions xs h a = a
+posted_all false P i word.Spent xs h a = a
+posted_all true P i word.Spent xs h a = a
+posted_all false P i word.Dropped xs h a = a
+posted_all true P i word.Dropped xs h a = a
+posted_all false P i word.Unknown xs h a = a
+posted_all true P i word.Unknown xs h a = a
 
-all_posted : (P : ℕ → Type 0) (rs : List PostReply) → AllByRecursion P (map (λ (r : PostReply). r.line) rs)
-    → AllByRecursion P (map (λ (x : ℕ × ℕ). x.0) (posted_of rs))
-all_posted P [] a = tt
-all_posted P (r ∷ rs) a = posted_all P r.line r.what (posted_of rs) a.0 (all_posted P rs a.1)
+all_posted : (rush : Bool) (P : ℕ → Type 0) (rs : List PostReply) → AllByRecursion P (map (λ (r : PostReply). r.line) rs)
+    → AllByRecursion P (map (λ (x : ℕ × ℕ). x.0) (posted_of rush rs))
+all_posted rush P [] a = tt
+all_posted rush P (r ∷ rs) a = posted_all rush P r.line r.what (posted_of rush rs) a.0 (all_posted rush P rs a.1)
 
-posted_cons : (i : ℕ) (w : PostWord) (xs : List (ℕ × ℕ)) → AllByRecursion (λ y. same i y ≡ false) (map (λ (x : ℕ × ℕ). x.0) xs)
+posted_cons : (rush : Bool) (i : ℕ) (w : PostWord) (xs : List (ℕ × ℕ)) → AllByRecursion (λ y. same i y ≡ false) (map (λ (x : ℕ × ℕ). x.0) xs)
     → IsDistinct same (map (λ (x : ℕ × ℕ). x.0) xs)
-    → IsDistinct same (map (λ (x : ℕ × ℕ). x.0) (posted_by i w ++ xs))
+    → IsDistinct same (map (λ (x : ℕ × ℕ). x.0) (posted_by rush i w ++ xs))
 unfolding IsDistinct
-posted_cons i (word.Posted at) xs h d = (h, d)
-posted_cons i word.Busy xs h d = d
-posted_cons i word.NoNode xs h d = d
-posted_cons i word.Positions xs h d = d
-posted_cons i word.Spent xs h d = d
-posted_cons i word.Dropped xs h d = d
-posted_cons i word.Unknown xs h d = d
+posted_cons false i (word.Posted at) xs h d = (h, d)
+posted_cons true i (word.Posted at) xs h d = d
+posted_cons false i (word.Rushed at) xs h d = d
+posted_cons true i (word.Rushed at) xs h d = (h, d)
+posted_cons false i word.Busy xs h d = d
+posted_cons true i word.Busy xs h d = d
+posted_cons false i word.NoNode xs h d = d
+posted_cons true i word.NoNode xs h d = d
+posted_cons false i word.Positions xs h d = d
+posted_cons true i word.Positions xs h d = d
+posted_cons false i word.Spent xs h d = d
+posted_cons true i word.Spent xs h d = d
+posted_cons false i word.Dropped xs h d = d
+posted_cons true i word.Dropped xs h d = d
+posted_cons false i word.Unknown xs h d = d
+posted_cons true i word.Unknown xs h d = d
 
-posted_distinct : (rs : List PostReply) → IsDistinct same (map (λ (r : PostReply). r.line) rs) → IsDistinct same (map (λ (x : ℕ × ℕ). x.0) (posted_of rs))
+posted_distinct : (rush : Bool) (rs : List PostReply) → IsDistinct same (map (λ (r : PostReply). r.line) rs) → IsDistinct same (map (λ (x : ℕ × ℕ). x.0) (posted_of rush rs))
 unfolding IsDistinct
-posted_distinct [] d = tt
-posted_distinct (r ∷ rs) d = posted_cons r.line r.what (posted_of rs) (all_posted (λ y. same r.line y ≡ false) rs d.0) (posted_distinct rs d.1)
+posted_distinct rush [] d = tt
+posted_distinct rush (r ∷ rs) d = posted_cons rush r.line r.what (posted_of rush rs) (all_posted rush (λ y. same r.line y ≡ false) rs d.0) (posted_distinct rush rs d.1)
 
 -- no line was posted twice
-pub posted_once : (lines : List Line) (posters takers : ℕ) (posts : List PostReply) (takes : List TakeReply) → 1 ≤ posters
+pub posted_once : (rush : Bool) (lines : List Line) (posters takers : ℕ) (posts : List PostReply) (takes : List TakeReply) → 1 ≤ posters
     → AreInOrder lines posters takers posts takes
-    → IsDistinct same (map (λ (x : ℕ × ℕ). x.0) (posted_of posts))
-posted_once lines posters takers posts takes some o =
+    → IsDistinct same (map (λ (x : ℕ × ℕ). x.0) (posted_of rush posts))
+posted_once rush lines posters takers posts takes some o =
     let lines_of : List ℕ = map (λ (r : PostReply). r.line) posts in
     let all : List ℕ = range_with_len 0 (length lines) in
-    posted_distinct posts
+    posted_distinct rush posts
     (IsDistinct-IsPermutation same flips all lines_of (IsPermutation-sym lines_of all (each_line lines posters takers posts takes some o))
     (range_distinct 0 (length lines)))

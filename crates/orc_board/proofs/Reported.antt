@@ -16,10 +16,10 @@ use Rattle.orc_jobs.specs.declared.line.Line.{Line}
 use Rattle.orc_board.specs.declared.replies.PostReply.{PostReply}
 use Rattle.orc_board.specs.declared.replies.PostWord.TheVariants as word
 use Rattle.orc_board.specs.declared.replies.TakeReply.{TakeReply}
-use Rattle.orc_board.specs.Stretches.{View, of_queue, MayStand, is_own_move, beside}
+use Rattle.orc_board.specs.Stretches.{View, of_queue, MayStand, is_own_move, beside, all_beside}
 use Rattle.orc_board.specs.Follows.{WorkersFollow, IsWorker, by_key, taker_agent, posts_of, takes_of}
-use Rattle.orc_board.specs.Reportable.{posted_by, posted_of, claim_of, AreReportable, IsClaim}
-use Rattle.orc_board.proofs.ListFacts.{AllByRecursion-append, AllByRecursion-map, eq-true, eq-yes, zero_or}
+use Rattle.orc_board.specs.Reportable.{posted_by, posted_of, claim_of, takes_with, is_side, AreReportable, AreReportableOf, IsClaim}
+use Rattle.orc_board.proofs.ListFacts.{AllByRecursion-append, AllByRecursion-map, AllByRecursion-filter, eq-true, eq-yes, zero_or}
 use Rattle.orc_board.proofs.Wholes.{queue_of_rows, Works-queue}
 use Rattle.orc_board.proofs.PairLists.{puts_of, tooks_of, legal_lists, legal_positions, rows_pairs, took_pairs, claims_of, lines_exist}
 use Rattle.orc_board.proofs.WorkerCases.{own_whole, worker_cases}
@@ -45,9 +45,9 @@ keyed_tooks (Put by job at ∷ es) = keyed_tooks es
 keyed_tooks (Took by job at ∷ es) = (by, (job, at)) ∷ keyed_tooks es
 keyed_tooks (Empty by ∷ es) = keyed_tooks es
 
-abbrev pub keyed_posted : List PostReply → Keyed
-keyed_posted [] = []
-keyed_posted (r ∷ rs) = tag r.poster (posted_by r.line r.what) ++ keyed_posted rs
+abbrev pub keyed_posted : Bool → List PostReply → Keyed
+keyed_posted rush [] = []
+keyed_posted rush (r ∷ rs) = tag r.poster (posted_by rush r.line r.what) ++ keyed_posted rush rs
 
 abbrev pub keyed_takes : ℕ → List TakeReply → Keyed
 keyed_takes posters [] = []
@@ -72,11 +72,11 @@ untag_tag : (a : ℕ) (xs : List (ℕ × ℕ)) → untag (tag a xs) ≡ xs
 untag_tag a [] = refl
 untag_tag a (x ∷ xs) = ap (λ z. x ∷ z) (untag_tag a xs)
 
-untag_posted : (rs : List PostReply) → untag (keyed_posted rs) ≡ posted_of rs
-untag_posted [] = refl
-untag_posted (r ∷ rs) =
-    map-append (λ (x : ℕ × (ℕ × ℕ)). x.1) (tag r.poster (posted_by r.line r.what)) (keyed_posted rs)
-    ∙ (ap (λ z. z ++ untag (keyed_posted rs)) (untag_tag r.poster (posted_by r.line r.what)) ∙ ap (λ z. posted_by r.line r.what ++ z) (untag_posted rs))
+untag_posted : (rush : Bool) (rs : List PostReply) → untag (keyed_posted rush rs) ≡ posted_of rush rs
+untag_posted rush [] = refl
+untag_posted rush (r ∷ rs) =
+    map-append (λ (x : ℕ × (ℕ × ℕ)). x.1) (tag r.poster (posted_by rush r.line r.what)) (keyed_posted rush rs)
+    ∙ (ap (λ z. z ++ untag (keyed_posted rush rs)) (untag_tag r.poster (posted_by rush r.line r.what)) ∙ ap (λ z. posted_by rush r.line r.what ++ z) (untag_posted rush rs))
 
 untag_takes : (posters : ℕ) (rs : List TakeReply) → untag (keyed_takes posters rs) ≡ map claim_of rs
 untag_takes posters [] = refl
@@ -125,19 +125,19 @@ key_tag a p false e [] = refl
 key_tag a p true e (x ∷ xs) = rw e (ap (λ (z : ℕ). (z, x) ∷ at_key a (tag p xs)) (eq-true p a e) ∙ ap (λ (z : Keyed). (a, x) ∷ z) (key_tag a p true e xs))
 key_tag a p false e (x ∷ xs) = rw e (key_tag a p false e xs)
 
-key_posted : (a : ℕ) (rs : List PostReply) → at_key a (keyed_posted rs) ≡ tag a (posted_of (filter (λ (r : PostReply). r.poster == a) rs))
-key_posted a [] = refl
-key_posted a (r ∷ rs) =
+key_posted : (rush : Bool) (a : ℕ) (rs : List PostReply) → at_key a (keyed_posted rush rs) ≡ tag a (posted_of rush (filter (λ (r : PostReply). r.poster == a) rs))
+key_posted rush a [] = refl
+key_posted rush a (r ∷ rs) =
     let F : List PostReply = filter (λ (x : PostReply). x.poster == a) rs in
     let cases : (b : Bool) → (r.poster == a) ≡ b
-    → at_key a (tag r.poster (posted_by r.line r.what)) ++ at_key a (keyed_posted rs) ≡ tag a (posted_of (cond b (r ∷ F) F)) =
+    → at_key a (tag r.poster (posted_by rush r.line r.what)) ++ at_key a (keyed_posted rush rs) ≡ tag a (posted_of rush (cond b (r ∷ F) F)) =
     elim [
-      | true ↦ λ e. ap (λ z. z ++ at_key a (keyed_posted rs)) (key_tag a r.poster true e (posted_by r.line r.what))
-          ∙ (ap (λ z. tag a (posted_by r.line r.what) ++ z) (key_posted a rs)
-          ∙ sym (map-append (λ (x : ℕ × ℕ). (a, x)) (posted_by r.line r.what) (posted_of F)))
-      | false ↦ λ e. ap (λ z. z ++ at_key a (keyed_posted rs)) (key_tag a r.poster false e (posted_by r.line r.what)) ∙ key_posted a rs
+      | true ↦ λ e. ap (λ z. z ++ at_key a (keyed_posted rush rs)) (key_tag a r.poster true e (posted_by rush r.line r.what))
+          ∙ (ap (λ z. tag a (posted_by rush r.line r.what) ++ z) (key_posted rush a rs)
+          ∙ sym (map-append (λ (x : ℕ × ℕ). (a, x)) (posted_by rush r.line r.what) (posted_of rush F)))
+      | false ↦ λ e. ap (λ z. z ++ at_key a (keyed_posted rush rs)) (key_tag a r.poster false e (posted_by rush r.line r.what)) ∙ key_posted rush a rs
     ] in
-    filter-append (λ (x : ℕ × (ℕ × ℕ)). x.0 == a) (tag r.poster (posted_by r.line r.what)) (keyed_posted rs) ∙ cases (r.poster == a) refl
+    filter-append (λ (x : ℕ × (ℕ × ℕ)). x.0 == a) (tag r.poster (posted_by rush r.line r.what)) (keyed_posted rush rs) ∙ cases (r.poster == a) refl
 
 -- takers' agents differ where the takers do
 same_agent : (posters t u : ℕ) → (taker_agent posters t == taker_agent posters u) ≡ (t == u)
@@ -191,12 +191,12 @@ tag_below : (n a : ℕ) (xs : List (ℕ × ℕ)) → a < n → AllByRecursion (�
 tag_below n a [] h = tt
 tag_below n a (x ∷ xs) h = (h, tag_below n a xs h)
 
-posted_below : (n : ℕ) (rs : List PostReply) → AllByRecursion (λ (r : PostReply). r.poster < n) rs
-    → AllByRecursion (λ (x : ℕ × (ℕ × ℕ)). x.0 < n) (keyed_posted rs)
-posted_below n [] h = tt
-posted_below n (r ∷ rs) h =
-    AllByRecursion-append (λ (x : ℕ × (ℕ × ℕ)). x.0 < n) (tag r.poster (posted_by r.line r.what)) (keyed_posted rs)
-    (tag_below n r.poster (posted_by r.line r.what) h.0) (posted_below n rs h.1)
+posted_below : (rush : Bool) (n : ℕ) (rs : List PostReply) → AllByRecursion (λ (r : PostReply). r.poster < n) rs
+    → AllByRecursion (λ (x : ℕ × (ℕ × ℕ)). x.0 < n) (keyed_posted rush rs)
+posted_below rush n [] h = tt
+posted_below rush n (r ∷ rs) h =
+    AllByRecursion-append (λ (x : ℕ × (ℕ × ℕ)). x.0 < n) (tag r.poster (posted_by rush r.line r.what)) (keyed_posted rush rs)
+    (tag_below n r.poster (posted_by rush r.line r.what) h.0) (posted_below rush n rs h.1)
 
 agent_below : (posters takers t : ℕ) → t < suc takers → taker_agent posters t < suc (posters + takers)
 agent_below posters takers zero h = omega arith
@@ -216,20 +216,39 @@ every_key P key (suc n) xs h =
 worker_agent : (n : ℕ) (a b : ℕ) → a ≡ b → b ≤ n → a < suc n
 worker_agent n a b e h = omega arith
 
+-- two filters in either order
+filters_swap : {X : Type 0} (f g : X → Bool) (xs : List X) → filter f (filter g xs) ≡ filter g (filter f xs)
+filters_swap f g [] = refl
+filters_swap {X} f g (x ∷ xs) =
+    let cases : (a b : Bool) → f x ≡ a → g x ≡ b
+    → filter f (cond b (x ∷ filter g xs) (filter g xs)) ≡ filter g (cond a (x ∷ filter f xs) (filter f xs)) =
+    elim [
+      | true ↦ elim [
+        | true ↦ λ p q. rw (p, q) (ap (λ z. x ∷ z) (filters_swap f g xs))
+        | false ↦ λ p q. rw q (filters_swap f g xs)
+      ]
+      | false ↦ elim [
+        | true ↦ λ p q. rw p (filters_swap f g xs)
+        | false ↦ λ p q. filters_swap f g xs
+      ]
+    ] in
+    cases (f x) (g x) refl refl
+
 -- the Puts of the history are the posted lines, and its Tooks those of the take replies, in some order
-pub permuted_all : {A B : Type 0} (q : View A QueueEntry QueueRefused) (s : View B SetEntry ListRefused) (lines : List Line) (posters takers : ℕ)
-    (posts : List PostReply) (takes : List TakeReply) (k : List A) (n : List B)
-    → 1 ≤ posters → q.history [] ≡ [] → WorkersFollow q s lines posters takers posts takes k n
-    → IsPermutation (puts_of (q.history k)) (posted_of posts) × IsPermutation (tooks_of (q.history k)) (map claim_of takes)
-permuted_all {A} {B} q s lines posters takers posts takes k n some none f =
+pub permuted_all : {A B : Type 0} (qs : Bool → View A QueueEntry QueueRefused) (rush : Bool) (s : View B SetEntry ListRefused) (lines : List Line) (posters takers : ℕ)
+    (posts : List PostReply) (takes : List TakeReply) (k : Bool → List A) (n : List B)
+    → 1 ≤ posters → (qs rush).history [] ≡ [] → WorkersFollow qs s lines posters takers posts takes k n
+    → IsPermutation (puts_of ((qs rush).history (k rush))) (posted_of rush posts) × IsPermutation (tooks_of ((qs rush).history (k rush))) (map claim_of (takes_with rush takes))
+permuted_all {A} {B} qs rush s lines posters takers posts takes k n some none f =
     let C : ℕ → Type 0 = IsWorker posters takers in
-    let es : List QueueEntry = q.history k in
+    let mine : List TakeReply = takes_with rush takes in
+    let es : List QueueEntry = (qs rush).history (k rush) in
     let N : ℕ = suc (posters + takers) in
-    let main = Works-queue (beside q C) (beside s C) 0 (f.claiming 0 (omega arith)).works in
+    let main = Works-queue (all_beside qs C) (beside s C) rush 0 (f.claiming 0 (omega arith)).works in
     let is : es ≡ main.part = main.is ∙ ap (λ z. z ++ main.part) none in
     let agents : AllByRecursion (λ e. agent_of_entry e < N) es =
     subst (AllByRecursion (λ e. agent_of_entry e < N)) (sym is)
-    (AllByRecursion-map (MayStand of_queue (beside q C) 0) (λ e. agent_of_entry e < N)
+    (AllByRecursion-map (MayStand of_queue (beside (qs rush) C) 0) (λ e. agent_of_entry e < N)
     (λ e h. elim h as (λ _. agent_of_entry e < N) [
       | inl z ↦ worker_agent (posters + takers) (agent_of_entry e) 0 z (omega arith)
       | inr w ↦ worker_agent
@@ -242,75 +261,86 @@ permuted_all {A} {B} q s lines posters takers posts takes k n some none f =
     subst (AllByRecursion (λ (r : TakeReply). r.taker < suc takers)) (sym f.order.by_taker) (by_key_below (λ (r : TakeReply). r.taker) (suc takers) takes) in
     let in_range : AllByRecursion (λ (r : PostReply). (1 ≤ r.poster) × (r.poster < suc posters)) posts =
     posters_in_range lines posters takers posts takes f.order in
-    let put_taker : (t : ℕ) → t ≤ takers → at_key (taker_agent posters t) (keyed_puts es) ≡ at_key (taker_agent posters t) (keyed_posted posts) = λ t h.
+    let put_taker : (t : ℕ) → t ≤ takers → at_key (taker_agent posters t) (keyed_puts es) ≡ at_key (taker_agent posters t) (keyed_posted rush posts) = λ t h.
     let a : ℕ = taker_agent posters t in
     let w = f.claiming t h in
-    let own : filter (is_own_move a) es ≡ queue_of_rows w.rows =
-    own_whole (beside q C) a (queue_of_rows w.rows) k none (Works-queue (beside q C) (beside s C) a w.works) in
-    let left : puts_of (filter (is_own_move a) es) ≡ [] = ap puts_of own ∙ (took_pairs lines t a _ w.rows w.table).1 in
+    let own : filter (is_own_move a) es ≡ queue_of_rows rush w.rows =
+    own_whole (beside (qs rush) C) a (queue_of_rows rush w.rows) (k rush) none (Works-queue (all_beside qs C) (beside s C) rush a w.works) in
+    let left : puts_of (filter (is_own_move a) es) ≡ [] = ap puts_of own ∙ (took_pairs lines rush t a _ w.rows w.table).1 in
     let right : posts_of a posts ≡ [] = no_posts posters a posts in_range (λ p h. apart posters t p h) in
-    key_puts a es ∙ (ap (tag a) (left ∙ sym (ap posted_of right)) ∙ sym (key_posted a posts)) in
-    let put_poster : (p : ℕ) → 1 ≤ p → p ≤ posters → at_key p (keyed_puts es) ≡ at_key p (keyed_posted posts) = λ p g h.
+    key_puts a es ∙ (ap (tag a) (left ∙ sym (ap (posted_of rush) right)) ∙ sym (key_posted rush a posts)) in
+    let put_poster : (p : ℕ) → 1 ≤ p → p ≤ posters → at_key p (keyed_puts es) ≡ at_key p (keyed_posted rush posts) = λ p g h.
     let w = f.posting p g h in
-    let own : filter (is_own_move p) es ≡ queue_of_rows w.rows =
-    own_whole (beside q C) p (queue_of_rows w.rows) k none (Works-queue (beside q C) (beside s C) p w.works) in
-    let left : puts_of (filter (is_own_move p) es) ≡ posted_of (posts_of p posts) = ap puts_of own ∙ (rows_pairs lines p _ w.rows w.table).puts in
-    key_puts p es ∙ (ap (tag p) left ∙ sym (key_posted p posts)) in
-    let took_taker : (t : ℕ) → t ≤ takers → at_key (taker_agent posters t) (keyed_tooks es) ≡ at_key (taker_agent posters t) (keyed_takes posters takes) =
+    let own : filter (is_own_move p) es ≡ queue_of_rows rush w.rows =
+    own_whole (beside (qs rush) C) p (queue_of_rows rush w.rows) (k rush) none (Works-queue (all_beside qs C) (beside s C) rush p w.works) in
+    let left : puts_of (filter (is_own_move p) es) ≡ posted_of rush (posts_of p posts) = ap puts_of own ∙ (rows_pairs lines rush p _ w.rows w.table).puts in
+    key_puts p es ∙ (ap (tag p) left ∙ sym (key_posted rush p posts)) in
+    let took_taker : (t : ℕ) → t ≤ takers → at_key (taker_agent posters t) (keyed_tooks es) ≡ at_key (taker_agent posters t) (keyed_takes posters mine) =
     λ t h.
     let a : ℕ = taker_agent posters t in
     let w = f.claiming t h in
-    let own : filter (is_own_move a) es ≡ queue_of_rows w.rows =
-    own_whole (beside q C) a (queue_of_rows w.rows) k none (Works-queue (beside q C) (beside s C) a w.works) in
-    let left : tooks_of (filter (is_own_move a) es) ≡ map claim_of (takes_of t takes) = ap tooks_of own ∙ (took_pairs lines t a _ w.rows w.table).0 in
-    key_tooks a es ∙ (ap (tag a) left ∙ sym (key_takes posters t takes)) in
-    let took_poster : (p : ℕ) → 1 ≤ p → p ≤ posters → at_key p (keyed_tooks es) ≡ at_key p (keyed_takes posters takes) = λ p g h.
+    let own : filter (is_own_move a) es ≡ queue_of_rows rush w.rows =
+    own_whole (beside (qs rush) C) a (queue_of_rows rush w.rows) (k rush) none (Works-queue (all_beside qs C) (beside s C) rush a w.works) in
+    let left : tooks_of (filter (is_own_move a) es) ≡ map claim_of (takes_with rush (takes_of t takes)) = ap tooks_of own ∙ (took_pairs lines rush t a _ w.rows w.table).0 in
+    key_tooks a es ∙ (ap (tag a) (left ∙ ap (map claim_of) (sym (filters_swap (λ (r : TakeReply). r.taker == t) (λ (r : TakeReply). is_side rush r.rush) takes))) ∙ sym (key_takes posters t mine)) in
+    let took_poster : (p : ℕ) → 1 ≤ p → p ≤ posters → at_key p (keyed_tooks es) ≡ at_key p (keyed_takes posters mine) = λ p g h.
     let w = f.posting p g h in
-    let own : filter (is_own_move p) es ≡ queue_of_rows w.rows =
-    own_whole (beside q C) p (queue_of_rows w.rows) k none (Works-queue (beside q C) (beside s C) p w.works) in
-    let left : tooks_of (filter (is_own_move p) es) ≡ [] = ap tooks_of own ∙ (rows_pairs lines p _ w.rows w.table).tooks in
-    key_tooks p es ∙ (ap (tag p) left ∙ sym (key_none posters p takes g h)) in
+    let own : filter (is_own_move p) es ≡ queue_of_rows rush w.rows =
+    own_whole (beside (qs rush) C) p (queue_of_rows rush w.rows) (k rush) none (Works-queue (all_beside qs C) (beside s C) rush p w.works) in
+    let left : tooks_of (filter (is_own_move p) es) ≡ [] = ap tooks_of own ∙ (rows_pairs lines rush p _ w.rows w.table).tooks in
+    key_tooks p es ∙ (ap (tag p) left ∙ sym (key_none posters p mine g h)) in
     let key : ℕ × (ℕ × ℕ) → ℕ = λ x. x.0 in
-    let puts : IsPermutation (keyed_puts es) (keyed_posted posts) =
-    same_by_keys key N (keyed_puts es) (keyed_posted posts) (puts_below N es agents)
-    (posted_below N posts
+    let puts : IsPermutation (keyed_puts es) (keyed_posted rush posts) =
+    same_by_keys key N (keyed_puts es) (keyed_posted rush posts) (puts_below N es agents)
+    (posted_below rush N posts
     (AllByRecursion-map (λ (r : PostReply). r.poster < suc posters) (λ (r : PostReply). r.poster < N) (λ r h. omega arith) posts by_poster))
-    (λ a l. worker_cases posters takers (λ a. at_key a (keyed_puts es) ≡ at_key a (keyed_posted posts)) put_taker put_poster a (omega arith)) in
-    let tooks : IsPermutation (keyed_tooks es) (keyed_takes posters takes) =
-    same_by_keys key N (keyed_tooks es) (keyed_takes posters takes) (tooks_below N es agents) (takes_below posters takers takes by_taker)
-    (λ a l. worker_cases posters takers (λ a. at_key a (keyed_tooks es) ≡ at_key a (keyed_takes posters takes)) took_taker took_poster a (omega arith)) in
+    (λ a l. worker_cases posters takers (λ a. at_key a (keyed_puts es) ≡ at_key a (keyed_posted rush posts)) put_taker put_poster a (omega arith)) in
+    let tooks : IsPermutation (keyed_tooks es) (keyed_takes posters mine) =
+    same_by_keys key N (keyed_tooks es) (keyed_takes posters mine) (tooks_below N es agents) (takes_below posters takers mine (AllByRecursion-filter (λ (r : TakeReply). r.taker < suc takers) (λ (r : TakeReply). is_side rush r.rush) takes by_taker))
+    (λ a l. worker_cases posters takers (λ a. at_key a (keyed_tooks es) ≡ at_key a (keyed_takes posters mine)) took_taker took_poster a (omega arith)) in
     let snd : ℕ × (ℕ × ℕ) → ℕ × ℕ = λ x. x.1 in
-    let posted : IsPermutation (puts_of es) (posted_of posts) =
-    subst (λ (z : List (ℕ × ℕ)). IsPermutation z (posted_of posts)) (untag_puts es)
-    (subst (λ (z : List (ℕ × ℕ)). IsPermutation (untag (keyed_puts es)) z) (untag_posted posts)
-    (IsPermutation-map snd (keyed_puts es) (keyed_posted posts) puts)) in
-    let taken : IsPermutation (tooks_of es) (map claim_of takes) =
-    subst (λ (z : List (ℕ × ℕ)). IsPermutation z (map claim_of takes)) (untag_tooks es)
-    (subst (λ (z : List (ℕ × ℕ)). IsPermutation (untag (keyed_tooks es)) z) (untag_takes posters takes)
-    (IsPermutation-map snd (keyed_tooks es) (keyed_takes posters takes) tooks)) in
+    let posted : IsPermutation (puts_of es) (posted_of rush posts) =
+    subst (λ (z : List (ℕ × ℕ)). IsPermutation z (posted_of rush posts)) (untag_puts es)
+    (subst (λ (z : List (ℕ × ℕ)). IsPermutation (untag (keyed_puts es)) z) (untag_posted rush posts)
+    (IsPermutation-map snd (keyed_puts es) (keyed_posted rush posts) puts)) in
+    let taken : IsPermutation (tooks_of es) (map claim_of (takes_with rush takes)) =
+    subst (λ (z : List (ℕ × ℕ)). IsPermutation z (map claim_of (takes_with rush takes))) (untag_tooks es)
+    (subst (λ (z : List (ℕ × ℕ)). IsPermutation (untag (keyed_tooks es)) z) (untag_takes posters mine)
+    (IsPermutation-map snd (keyed_tooks es) (keyed_takes posters mine) tooks)) in
     (posted, taken)
 
--- replies that follow a legal queue's journal, which leaves it empty, can be reported
-pub reportable_all : {A B : Type 0} (q : View A QueueEntry QueueRefused) (s : View B SetEntry ListRefused) (lines : List Line) (posters takers : ℕ)
-    (posts : List PostReply) (takes : List TakeReply) (k : List A) (n : List B)
-    → 1 ≤ posters → q.history [] ≡ [] → IsLegalQueue 0 (q.history k) → waiting_after [] (q.history k) ≡ []
-    → WorkersFollow q s lines posters takers posts takes k n → AreReportable lines posts takes
-reportable_all {A} {B} q s lines posters takers posts takes k n some none legal empty f =
-    let es : List QueueEntry = q.history k in
-    let in_range : AllByRecursion (λ (r : PostReply). (1 ≤ r.poster) × (r.poster < suc posters)) posts =
-    posters_in_range lines posters takers posts takes f.order in
-    let both = permuted_all q s lines posters takers posts takes k n some none f in
-    let posted : IsPermutation (puts_of es) (posted_of posts) = both.0 in
-    let taken : IsPermutation (tooks_of es) (map claim_of takes) = both.1 in
+-- replies that follow legal queues' journals, which leave them empty, can be reported
+reportable_one : {A B : Type 0} (qs : Bool → View A QueueEntry QueueRefused) (rush : Bool) (s : View B SetEntry ListRefused) (lines : List Line)
+    (posters takers : ℕ) (posts : List PostReply) (takes : List TakeReply) (k : Bool → List A) (n : List B)
+    → 1 ≤ posters → (qs rush).history [] ≡ [] → IsLegalQueue 0 ((qs rush).history (k rush)) → waiting_after [] ((qs rush).history (k rush)) ≡ []
+    → WorkersFollow qs s lines posters takers posts takes k n → AreReportableOf rush posts takes
+reportable_one {A} {B} qs rush s lines posters takers posts takes k n some none legal empty f =
+    let es : List QueueEntry = (qs rush).history (k rush) in
+    let both = permuted_all qs rush s lines posters takers posts takes k n some none f in
+    let posted : IsPermutation (puts_of es) (posted_of rush posts) = both.0 in
+    let taken : IsPermutation (tooks_of es) (map claim_of (takes_with rush takes)) = both.1 in
     let same : puts_of es ≡ tooks_of es = legal_lists 0 [] es legal ∙ (ap (λ z. tooks_of es ++ z) empty ∙ append-nil (tooks_of es)) in
     let at : ℕ × ℕ → ℕ = λ x. x.1 in
-    let long : length (puts_of es) ≡ length (posted_of posts) = sym (length_permutation (puts_of es) (posted_of posts) posted) in
-    let positions : IsPermutation (map at (puts_of es)) (map at (posted_of posts)) = IsPermutation-map at (puts_of es) (posted_of posts) posted in
-    let numbered : map at (puts_of es) ≡ range_with_len 0 (length (posted_of posts)) = legal_positions 0 [] es legal ∙ ap (range_with_len 0) long in
+    let long : length (puts_of es) ≡ length (posted_of rush posts) = sym (length_permutation (puts_of es) (posted_of rush posts) posted) in
+    let positions : IsPermutation (map at (puts_of es)) (map at (posted_of rush posts)) = IsPermutation-map at (puts_of es) (posted_of rush posts) posted in
+    let numbered : map at (puts_of es) ≡ range_with_len 0 (length (posted_of rush posts)) = legal_positions 0 [] es legal ∙ ap (range_with_len 0) long in
     record {
-      positions = subst (λ (z : List ℕ). IsPermutation z (map at (posted_of posts))) numbered positions;
-      claims = IsPermutation-trans (posted_of posts) (tooks_of es) (map claim_of takes)
-          (subst (λ (z : List (ℕ × ℕ)). IsPermutation (posted_of posts) z) same (IsPermutation-sym (puts_of es) (posted_of posts) posted)) taken;
+      positions = subst (λ (z : List ℕ). IsPermutation z (map at (posted_of rush posts))) numbered positions;
+      claims = IsPermutation-trans (posted_of rush posts) (tooks_of es) (map claim_of (takes_with rush takes))
+          (subst (λ (z : List (ℕ × ℕ)). IsPermutation (posted_of rush posts) z) same (IsPermutation-sym (puts_of es) (posted_of rush posts) posted)) taken;
+      different = posted_once rush lines posters takers posts takes some f.order;
+    }
+
+pub reportable_all : {A B : Type 0} (qs : Bool → View A QueueEntry QueueRefused) (s : View B SetEntry ListRefused) (lines : List Line)
+    (posters takers : ℕ) (posts : List PostReply) (takes : List TakeReply) (k : Bool → List A) (n : List B)
+    → 1 ≤ posters → ((rush : Bool) → (qs rush).history [] ≡ []) → ((rush : Bool) → IsLegalQueue 0 ((qs rush).history (k rush)))
+    → ((rush : Bool) → waiting_after [] ((qs rush).history (k rush)) ≡ [])
+    → WorkersFollow qs s lines posters takers posts takes k n → AreReportable lines posts takes
+reportable_all {A} {B} qs s lines posters takers posts takes k n some none legal empty f =
+    let in_range : AllByRecursion (λ (r : PostReply). (1 ≤ r.poster) × (r.poster < suc posters)) posts =
+    posters_in_range lines posters takers posts takes f.order in
+    record {
+      queues = λ rush. reportable_one qs rush s lines posters takers posts takes k n some (none rush) (legal rush) (empty rush) f;
       claimed = subst (AllByRecursion (IsClaim lines)) (sym f.order.by_taker)
           (every_key (IsClaim lines) (λ (r : TakeReply). r.taker) (suc takers) takes
           (λ t l. let low : t ≤ takers = omega arith in let w = f.claiming t low in claims_of lines t (taker_agent posters t) _ w.rows w.table));
@@ -321,20 +351,20 @@ reportable_all {A} {B} q s lines posters takers posts takes k n some none legal 
                 (sym (no_posts posters p posts in_range (λ x h. above_zero p x posters z h))) tt
             | inr g ↦ let high : p ≤ posters = omega arith in let w = f.posting p g high in lines_exist lines p _ w.rows w.table
           ]));
-      different = posted_once lines posters takers posts takes some f.order;
       by_poster = (suc posters, f.order.by_poster);
       in_file_order = lines_rise lines posters takers posts takes f.order;
       by_taker = (suc takers, f.order.by_taker);
     }
 
 -- where lines are few, no position runs out
-pub no_positions_all : {A B : Type 0} (q : View A QueueEntry QueueRefused) (s : View B SetEntry ListRefused) (lines : List Line) (posters takers : ℕ)
-    (posts : List PostReply) (takes : List TakeReply) (k : List A) (n : List B)
-    → ManyPuts q → length lines ≤ 65535 → IsLegalQueue 0 (q.history k) → waiting_after [] (q.history k) ≡ [] → length (puts_of (q.history k)) ≤ length lines
-    → WorkersFollow q s lines posters takers posts takes k n → AllByRecursion (λ (r : PostReply). r.what ≢ word.Positions) posts
-no_positions_all q s lines posters takers posts takes k n many short legal empty few f =
+pub no_positions_all : {A B : Type 0} (qs : Bool → View A QueueEntry QueueRefused) (s : View B SetEntry ListRefused) (lines : List Line) (posters takers : ℕ)
+    (posts : List PostReply) (takes : List TakeReply) (k : Bool → List A) (n : List B)
+    → ((rush : Bool) → ManyPuts (qs rush)) → length lines ≤ 65535 → ((rush : Bool) → length (puts_of ((qs rush).history (k rush))) ≤ length lines)
+    → WorkersFollow qs s lines posters takers posts takes k n → AllByRecursion (λ (r : PostReply). r.what ≢ word.Positions) posts
+no_positions_all qs s lines posters takers posts takes k n many short few f =
     let C : ℕ → Type 0 = IsWorker posters takers in
-    let low : puts_in (q.history k) < 2 ^ 62 = omega (arith, puts_counted (q.history k), few, short) in
+    let puts : Bool → ℕ = λ rush. puts_in ((qs rush).history (k rush)) in
+    let low : (rush : Bool) → puts rush < 2 ^ 62 = λ rush. omega (arith, puts_counted ((qs rush).history (k rush)), few rush, short) in
     let in_range : AllByRecursion (λ (r : PostReply). (1 ≤ r.poster) × (r.poster < suc posters)) posts =
     posters_in_range lines posters takers posts takes f.order in
     let P : PostReply → Type 0 = λ r. r.what ≢ word.Positions in
@@ -345,6 +375,6 @@ no_positions_all q s lines posters takers posts takes k n many short legal empty
       | inr g ↦
           let high : p ≤ posters = omega arith in
           let w = f.posting p g high in
-          no_positions lines p (puts_in (q.history k)) low (posts_of p posts) w.rows w.table
-          (chain_places (beside q C) (beside s C) many p w.rows [] k [] n w.works.chain)
+          no_positions lines p puts low (posts_of p posts) w.rows w.table
+          (λ rush. chain_places (beside (qs rush) C) rush (many rush) p w.rows [] (k rush) (w.works.queues rush))
     ]))

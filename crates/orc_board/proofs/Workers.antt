@@ -11,12 +11,11 @@ use Rattle.orc_history.specs.declared.set.ListRefused.{ListRefused}
 use Rattle.orc_jobs.specs.declared.line.Line.{Line}
 use Rattle.orc_board.specs.declared.replies.PostReply.{PostReply}
 use Rattle.orc_board.specs.declared.replies.TakeReply.{TakeReply}
-use Rattle.orc_board.specs.Stretches.{View, Replied, empty_row}
-use Rattle.orc_board.specs.Table.{PostRow, TakenRow, EndsWith}
+use Rattle.orc_board.specs.Stretches.{View, Row, Replied, empty_row, of_queue}
+use Rattle.orc_board.specs.Table.{PostRow, TakenRow, EndsWith, TakeEnds}
 use Rattle.orc_board.specs.Follows.{Pointwise, Posting, Taking, TakingRest, PosterRow, TakerRow, own_records}
-use Rattle.orc_board.proofs.Chains.{Works-none, Works-row, Stands-empty}
+use Rattle.orc_board.proofs.Chains.{Works-none, Works-row, Stands-empty, chain_stretch, own_of_rows}
 use Rattle.orc_board.proofs.CallStretches.{ends_later}
-use Rattle.orc_board.proofs.Wholes.{queue_of_rows, Works-queue}
 use Rattle.orc_board.proofs.ListFacts.{eq-yes, eq-no}
 
 pub Pointwise-snoc : {X Y : Type 0} (R : X → Y → Type 0) (xs : List X) (ys : List Y) (x : X) (y : Y) → Pointwise R xs ys → R x y
@@ -26,16 +25,16 @@ Pointwise-snoc R [] (b ∷ ys) x y z h = absurd z
 Pointwise-snoc R (a ∷ xs) [] x y z h = absurd z
 Pointwise-snoc R (a ∷ xs) (b ∷ ys) x y z h = (z.0, Pointwise-snoc R xs ys x y z.1 h)
 
-pub posting_none : {A B : Type 0} (q : View A QueueEntry QueueRefused) (s : View B SetEntry ListRefused) (lines : List Line) (poster : ℕ)
-    (replies : List PostReply) (j : List A) (m : List B)
-    → replies ≡ [] → Posting q s lines poster replies j m j m
-posting_none q s lines poster replies j m e = record { rows = []; table = rw e tt; works = Works-none q s poster j m }
+pub posting_none : {A B : Type 0} (qs : Bool → View A QueueEntry QueueRefused) (s : View B SetEntry ListRefused) (lines : List Line) (poster : ℕ)
+    (replies : List PostReply) (j : Bool → List A) (m : List B)
+    → replies ≡ [] → Posting qs s lines poster replies j m j m
+posting_none qs s lines poster replies j m e = record { rows = []; table = rw e tt; works = Works-none qs s poster j m }
 
-pub posting_more : {A B : Type 0} (q : View A QueueEntry QueueRefused) (s : View B SetEntry ListRefused) (lines : List Line) (poster index : ℕ) (line : Line)
-    (replies : List PostReply) (r : PostReply) (j k k2 : List A) (m n n2 : List B)
-    → Posting q s lines poster replies j m k n → (r.poster ≡ poster) × (r.line ≡ index) → slice_get lines index ≡ Some line
-    → Replied q s (PostRow poster index line r.what) poster k n k2 n2 → Posting q s lines poster (replies ++ r ∷ []) j m k2 n2
-posting_more q s lines poster index line replies r j k k2 m n n2 p same at done = record {
+pub posting_more : {A B : Type 0} (qs : Bool → View A QueueEntry QueueRefused) (s : View B SetEntry ListRefused) (lines : List Line) (poster index : ℕ) (line : Line)
+    (replies : List PostReply) (r : PostReply) (j k k2 : Bool → List A) (m n n2 : List B)
+    → Posting qs s lines poster replies j m k n → (r.poster ≡ poster) × (r.line ≡ index) → slice_get lines index ≡ Some line
+    → Replied qs s (PostRow poster index line r.what) poster k n k2 n2 → Posting qs s lines poster (replies ++ r ∷ []) j m k2 n2
+posting_more qs s lines poster index line replies r j k k2 m n n2 p same at done = record {
   rows = p.rows ++ done.row ∷ [];
   table = Pointwise-snoc (PosterRow lines poster) replies p.rows r done.row p.table (record {
     poster_is = same.0;
@@ -43,7 +42,7 @@ posting_more q s lines poster index line replies r j k k2 m n n2 p same at done 
     is = ap (slice_get lines) same.1 ∙ at;
     table = subst (λ (i : ℕ). PostRow poster i line r.what done.row) (sym same.1) done.is;
   });
-  works = Works-row q s poster p.works done.stands;
+  works = Works-row qs s poster p.works done.stands;
 }
 
 -- the records below n + 1 are those below n, and n where it is the poster's
@@ -91,47 +90,53 @@ own-room posters poster i n some low e =
     subst (λ (x : ℕ). length (own_records posters poster (i + 1)) ≤ length (own_records posters poster x)) is (own-grow posters poster (i + 1) (n - (i + 1))) in
     omega (arith, grown, ap length (own-yes posters poster i some e), length-append (own_records posters poster i) (i ∷ []))
 
-pub taking_none : {A B : Type 0} (q : View A QueueEntry QueueRefused) (s : View B SetEntry ListRefused) (lines : List Line) (taker agent : ℕ)
-    (replies : List TakeReply) (j : List A) (m : List B)
-    → replies ≡ [] → Taking q s lines taker agent replies j m j m
-taking_none q s lines taker agent replies j m e = record { rows = []; table = rw e tt; works = Works-none q s agent j m }
+pub taking_none : {A B : Type 0} (qs : Bool → View A QueueEntry QueueRefused) (s : View B SetEntry ListRefused) (lines : List Line) (taker agent : ℕ)
+    (replies : List TakeReply) (j : Bool → List A) (m : List B)
+    → replies ≡ [] → Taking qs s lines taker agent replies j m j m
+taking_none qs s lines taker agent replies j m e = record { rows = []; table = rw e tt; works = Works-none qs s agent j m }
 
-pub taking_more : {A B : Type 0} (q : View A QueueEntry QueueRefused) (s : View B SetEntry ListRefused) (lines : List Line) (taker agent now : ℕ)
-    (replies : List TakeReply) (r : TakeReply) (j k k2 : List A) (m n n2 : List B)
-    → Taking q s lines taker agent replies j m k n → now ≡ agent → r.taker ≡ taker
-    → Replied q s (TakenRow lines now (Some r)) now k n k2 n2 → Taking q s lines taker agent (replies ++ r ∷ []) j m k2 n2
-taking_more q s lines taker agent now replies r j k k2 m n n2 p e same replied =
-    let done : Replied q s (TakenRow lines agent (Some r)) agent k n k2 n2 = subst (λ (x : ℕ). Replied q s (TakenRow lines x (Some r)) x k n k2 n2) e replied in
+pub taking_more : {A B : Type 0} (qs : Bool → View A QueueEntry QueueRefused) (s : View B SetEntry ListRefused) (lines : List Line) (taker agent now : ℕ)
+    (replies : List TakeReply) (r : TakeReply) (j k k2 : Bool → List A) (m n n2 : List B)
+    → Taking qs s lines taker agent replies j m k n → now ≡ agent → r.taker ≡ taker
+    → Replied qs s (TakenRow lines now (Some r)) now k n k2 n2 → Taking qs s lines taker agent (replies ++ r ∷ []) j m k2 n2
+taking_more qs s lines taker agent now replies r j k k2 m n n2 p e same replied =
+    let done : Replied qs s (TakenRow lines agent (Some r)) agent k n k2 n2 = subst (λ (x : ℕ). Replied qs s (TakenRow lines x (Some r)) x k n k2 n2) e replied in
     record {
       rows = p.rows ++ done.row ∷ [];
       table = Pointwise-snoc (TakerRow lines taker agent) replies p.rows r done.row p.table (record { taker_is = same; table = done.is });
-      works = Works-row q s agent p.works done.stands;
+      works = Works-row qs s agent p.works done.stands;
     }
 
-pub taking_end : {A B : Type 0} (q : View A QueueEntry QueueRefused) (s : View B SetEntry ListRefused) (lines : List Line) (taker agent now : ℕ)
-    (replies : List TakeReply) (j k k2 : List A) (m n n2 : List B)
-    → Taking q s lines taker agent replies j m k n → now ≡ agent → Replied q s (TakenRow lines now None) now k n k2 n2
-    → TakingRest q s lines taker agent replies j m k2 n2
-taking_end {A = A} {B = B} q s lines taker agent now replies j k k2 m n n2 p e last = record {
-  queue = k;
+pub taking_end : {A B : Type 0} (qs : Bool → View A QueueEntry QueueRefused) (s : View B SetEntry ListRefused) (lines : List Line) (taker agent now : ℕ)
+    (replies : List TakeReply) (j k k2 : Bool → List A) (m n n2 : List B)
+    → Taking qs s lines taker agent replies j m k n → now ≡ agent → Replied qs s (TakenRow lines now None) now k n k2 n2
+    → TakingRest qs s lines taker agent replies j m k2 n2
+taking_end qs s lines taker agent now replies j k k2 m n n2 p e last = record {
+  queues = k;
   set = n;
   taking = p;
-  last = subst (λ (x : ℕ). Replied q s (TakenRow lines x None) x k n k2 n2) e last;
+  last = subst (λ (x : ℕ). Replied qs s (TakenRow lines x None) x k n k2 n2) e last;
 }
 
-pub taking_full : {A B : Type 0} (q : View A QueueEntry QueueRefused) (s : View B SetEntry ListRefused) (lines : List Line) (taker agent : ℕ)
-    (replies : List TakeReply) (j k : List A) (m n : List B)
-    → Taking q s lines taker agent replies j m k n → TakingRest q s lines taker agent replies j m k n
-taking_full q s lines taker agent replies j k m n p = record {
-  queue = k;
+pub taking_full : {A B : Type 0} (qs : Bool → View A QueueEntry QueueRefused) (s : View B SetEntry ListRefused) (lines : List Line) (taker agent : ℕ)
+    (replies : List TakeReply) (j k : Bool → List A) (m n : List B)
+    → Taking qs s lines taker agent replies j m k n → TakingRest qs s lines taker agent replies j m k n
+taking_full qs s lines taker agent replies j k m n p = record {
+  queues = k;
   set = n;
   taking = p;
-  last = record { row = empty_row; is = record { skipped = []; skips = tt; is = refl }; stands = Stands-empty q s agent k n };
+  last = record {
+    row = empty_row;
+    is = record { skipped = λ x. []; skips = λ x. tt; queues = λ x. refl; set = refl };
+    stands = Stands-empty qs s agent k n;
+  };
 }
 
 -- a take that found nothing, after others
-pub taking_last : {A B : Type 0} (q : View A QueueEntry QueueRefused) (s : View B SetEntry ListRefused) (lines : List Line) (taker agent now : ℕ)
-    (replies : List TakeReply) (j k k2 : List A) (m n : List B)
-    → Taking q s lines taker agent replies j m k n → now ≡ agent → EndsWith q now (Empty now) k k2 → EndsWith q agent (Empty agent) j k2
-taking_last q s lines taker agent now replies j k k2 m n p e ends =
-    ends_later q agent (Empty agent) (queue_of_rows p.rows) j k k2 (Works-queue q s agent p.works) (subst (λ (x : ℕ). EndsWith q x (Empty x) k k2) e ends)
+pub taking_last : {A B : Type 0} (qs : Bool → View A QueueEntry QueueRefused) (s : View B SetEntry ListRefused) (lines : List Line) (taker agent now : ℕ)
+    (replies : List TakeReply) (j k k2 : Bool → List A) (m n : List B)
+    → Taking qs s lines taker agent replies j m k n → now ≡ agent → TakeEnds qs now None k k2 → TakeEnds qs agent None j k2
+taking_last qs s lines taker agent now replies j k k2 m n p e ends = λ x.
+    ends_later (qs x) agent (Empty agent) (own_of_rows (λ (row : Row). row.queues x) p.rows) (j x) (k x) (k2 x)
+    (chain_stretch of_queue (qs x) agent (λ (row : Row). row.queues x) p.rows (j x) (k x) (p.works.queues x))
+    (subst (λ (a : ℕ). EndsWith (qs x) a (Empty a) (k x) (k2 x)) e (ends x))

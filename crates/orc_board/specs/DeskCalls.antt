@@ -1,8 +1,9 @@
 -- What the contracts of a desk's calls say of a desk, or of one of its passes, before a call, `old`, and after it, `new`.
-use Rattle.std.specs.Prelude.{List, ℕ, ◌≡◌}
+use Rattle.std.specs.Prelude.{List, ℕ, ◌≡◌, Bool, Option, None}
+use Rattle.orc_board.specs.Desk.{seen_in, both_seen}
 use Rattle.orc_board.specs.Follows.{Posting, TakingRest}
-use Rattle.orc_board.specs.Stretches.{Did, Replied, Row, Stretch, of_queue, of_set, queue_view, refusal, set_view}
-use Rattle.orc_board.specs.Table.{Closes as ClosesIn, EndsEmpty, EndsWith}
+use Rattle.orc_board.specs.Stretches.{Did, Replied, Row, Share, Stretch, of_queue, of_set, queue_view, queue_views, refusal, set_view}
+use Rattle.orc_board.specs.Table.{Closes as ClosesIn, EndsWith, TakeEnds, taken_of, Opened, Dropped, Next}
 use Rattle.orc_board.specs.declared.desk.Desk.{Desk}
 use Rattle.orc_board.specs.declared.replies.PostReply.{PostReply}
 use Rattle.orc_board.specs.declared.replies.TakeReply.{TakeReply}
@@ -53,23 +54,42 @@ module _ {S R B : Type 0} (members : SetOf S R B) (set : S) where
   abbrev pub Closes : List Line → R → R → ℕ → ℕ → TakeWord → Type 0
   Closes lines old new id job what = ClosesIn (set_view members set) lines (members.agent_of set old) id job what (members.journal old) (members.journal new)
 
-module _ {Q S P R A B : Type 0} (q : QueueOf Q P A) (s : SetOf S R B) (queue : Q) (set : S) where
+-- one of these parts is what the call did in one queue and in the set
+abbrev pub Opens : {Q S P R A B : Type 0} → QueueOf Q P A → SetOf S R B → Q → S → P → P → R → R → ℕ
+    → (Share QueueEntry QueueRefused → Share SetEntry ListRefused → Type 0) → Type 0
+Opens q s queue set p p2 ids ids2 worker parts =
+    Opened (queue_view q queue) (set_view s set) parts worker (q.journal p) (s.journal ids) (q.journal p2) (s.journal ids2)
+
+-- one of these parts is what the call did in the set
+abbrev pub Drops : {S R B : Type 0} → SetOf S R B → S → R → R → ℕ → (Share SetEntry ListRefused → Type 0) → Type 0
+Drops s set ids ids2 worker parts = Dropped (set_view s set) parts worker (s.journal ids) (s.journal ids2)
+
+-- the call took from the rush queue, or else from the queue, or found both empty
+abbrev pub TakesNext : {Q P A : Type 0} → QueueOf Q P A → Q → Q → P → P → P → P → Option (Bool × ℕ × ℕ) → Type 0
+TakesNext q queue rush p hurried p2 hurried2 answer =
+    Next (queue_views q queue rush) (q.agent_of queue p) answer (both_seen q p hurried) (both_seen q p2 hurried2)
+
+module _ {Q S P R A B : Type 0} (q : QueueOf Q P A) (s : SetOf S R B) (queue rush : Q) (set : S) where
   -- one of these rows is what the worker did between the two
   abbrev pub Replies : Desk P R → Desk P R → ℕ → (Row → Type 0) → Type 0
   Replies old new worker rows =
-      Replied (queue_view q queue) (set_view s set) rows worker (q.journal old.queue) (s.journal old.set) (q.journal new.queue) (s.journal new.set)
+      Replied (queue_views q queue rush) (set_view s set) rows worker (seen_in q old) (s.journal old.set) (seen_in q new) (s.journal new.set)
 
   -- these replies are all that the poster did
   abbrev pub Posts : Desk P R → Desk P R → List Line → ℕ → List PostReply → Type 0
   Posts old new lines poster replies =
-      Posting (queue_view q queue) (set_view s set) lines poster replies (q.journal old.queue) (s.journal old.set) (q.journal new.queue) (s.journal new.set)
+      Posting (queue_views q queue rush) (set_view s set) lines poster replies (seen_in q old) (s.journal old.set) (seen_in q new) (s.journal new.set)
 
   -- these replies are all that the desk's agent did as this taker, and after the last of them it took no more
   abbrev pub TakesRest : Desk P R → Desk P R → List Line → ℕ → List TakeReply → Type 0
   TakesRest old new lines taker replies =
-      TakingRest (queue_view q queue) (set_view s set) lines taker (q.agent_of queue old.queue) replies
-      (q.journal old.queue) (s.journal old.set) (q.journal new.queue) (s.journal new.set)
+      TakingRest (queue_views q queue rush) (set_view s set) lines taker (q.agent_of queue old.queue) replies
+      (seen_in q old) (s.journal old.set) (seen_in q new) (s.journal new.set)
 
-  -- the agent found the queue empty, and made no entry after that
-  abbrev pub LeavesEmpty : Desk P R → Desk P R → Type 0
-  LeavesEmpty old new = EndsEmpty (queue_view q queue) (q.agent_of queue old.queue) (q.journal new.queue)
+  -- what a take with this answer leaves as the agent's last entries
+  abbrev pub LeavesLast : Desk P R → Desk P R → Option TakeReply → Type 0
+  LeavesLast old new answer = TakeEnds (queue_views q queue rush) (q.agent_of queue old.queue) (taken_of answer) (seen_in q old) (seen_in q new)
+
+  -- the agent found both queues empty, and made no entry after that
+  abbrev pub FindsBothEmpty : Desk P R → Desk P R → Type 0
+  FindsBothEmpty old new = TakeEnds (queue_views q queue rush) (q.agent_of queue old.queue) None (seen_in q old) (seen_in q new)

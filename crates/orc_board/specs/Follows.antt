@@ -1,5 +1,5 @@
--- Replies follow two journals: the workers' own entries are those that their replies stand for, and there are no others.
-use Rattle.std.specs.Prelude.{◌≡◌, ◌≢◌, ℕ, suc, ◌+◌, ◌%◌, ◌<◌, ◌≤◌, List, [], ◌∷◌, ◌++◌, length, map, filter, ◌==◌, Some, None, slice_get}
+-- Replies follow three journals: the workers' own entries are those that their replies stand for, and there are no others.
+use Rattle.std.specs.Prelude.{◌≡◌, ◌≢◌, ℕ, suc, ◌+◌, ◌%◌, ◌<◌, ◌≤◌, List, [], ◌∷◌, ◌++◌, length, map, filter, ◌==◌, Bool, Some, None, slice_get}
 use Rattle.std.specs.List.{range_with_len, AllByRecursion}
 use Rattle.std.proofs.Common.{zero}
 use Rattle.orc_history.specs.declared.queue.QueueEntry.{QueueEntry}
@@ -10,11 +10,11 @@ use Rattle.orc_history.specs.declared.set.ListRefused.{ListRefused}
 use Rattle.orc_history.specs.QueueHistory.{agent_of_entry}
 use Rattle.orc_history.specs.SetHistory.{agent_of_set_entry}
 use Rattle.orc_jobs.specs.declared.line.Line.{Line}
-use Rattle.orc_jobs.specs.Line.{posts_in}
+use Rattle.orc_jobs.specs.Line.{jobs_in}
 use Rattle.orc_board.specs.declared.replies.PostReply.{PostReply}
 use Rattle.orc_board.specs.declared.replies.PostWord.TheVariants as word
 use Rattle.orc_board.specs.declared.replies.TakeReply.{TakeReply}
-use Rattle.orc_board.specs.Stretches.{View, Row, Works, Replied, beside}
+use Rattle.orc_board.specs.Stretches.{View, Row, Works, Replied, beside, all_beside}
 use Rattle.orc_board.specs.Table.{PostRow, TakeRow, ClaimRow, TakenRow}
 
 -- the lists are equally long, and the relation holds of the items at each place
@@ -23,6 +23,10 @@ Pointwise R [] [] = Unit {0}
 Pointwise R [] (y ∷ ys) = ⊥
 Pointwise R (x ∷ xs) [] = ⊥
 Pointwise R (x ∷ xs) (y ∷ ys) = R x y × Pointwise R xs ys
+
+-- journals of the queues in which nothing was done
+abbrev pub none : {A : Type 0} → Bool → List A
+none rush = []
 
 -- the row is one of this poster's reply to its line
 pub record PosterRow (lines : List Line) (poster : ℕ) (r : PostReply) (row : Row) : Type 0 where
@@ -34,41 +38,41 @@ pub record PosterRow (lines : List Line) (poster : ℕ) (r : PostReply) (row : R
 -- the row is one of this taker's reply, after the jobs that were passed over for it
 pub record TakerRow (lines : List Line) (taker agent : ℕ) (r : TakeReply) (row : Row) : Type 0 where
   pub taker_is : r.taker ≡ taker
-  pub table : TakeRow lines agent r.line r.at r.what row
+  pub table : TakeRow lines agent r.rush r.line r.at r.what row
 
 -- the same where no job was passed over
 pub record TookRow (lines : List Line) (taker agent : ℕ) (r : TakeReply) (row : Row) : Type 0 where
   pub taker_is : r.taker ≡ taker
-  pub table : ClaimRow lines agent [] r.line r.at r.what row
+  pub table : ClaimRow lines agent (λ rush. []) r.rush r.line r.at r.what row
 
 -- what a poster did between these journals is what these replies stand for, in their order
-pub record Posting {A B : Type 0} (q : View A QueueEntry QueueRefused) (s : View B SetEntry ListRefused) (lines : List Line) (poster : ℕ)
-    (replies : List PostReply) (j : List A) (m : List B) (k : List A) (n : List B) : Type 0 where
+pub record Posting {A B : Type 0} (qs : Bool → View A QueueEntry QueueRefused) (s : View B SetEntry ListRefused) (lines : List Line) (poster : ℕ)
+    (replies : List PostReply) (j : Bool → List A) (m : List B) (k : Bool → List A) (n : List B) : Type 0 where
   pub rows : List Row
   pub table : Pointwise (PosterRow lines poster) replies rows
-  pub works : Works q s poster rows j m k n
+  pub works : Works qs s poster rows j m k n
 
 -- what a taker did between these journals is what these replies stand for, with jobs that it passed over
-pub record Taking {A B : Type 0} (q : View A QueueEntry QueueRefused) (s : View B SetEntry ListRefused) (lines : List Line) (taker agent : ℕ)
-    (replies : List TakeReply) (j : List A) (m : List B) (k : List A) (n : List B) : Type 0 where
+pub record Taking {A B : Type 0} (qs : Bool → View A QueueEntry QueueRefused) (s : View B SetEntry ListRefused) (lines : List Line) (taker agent : ℕ)
+    (replies : List TakeReply) (j : Bool → List A) (m : List B) (k : Bool → List A) (n : List B) : Type 0 where
   pub rows : List Row
   pub table : Pointwise (TakerRow lines taker agent) replies rows
-  pub works : Works q s agent rows j m k n
+  pub works : Works qs s agent rows j m k n
 
 -- the same, and at last the jobs that it passed over before it found nothing
-pub record TakingRest {A B : Type 0} (q : View A QueueEntry QueueRefused) (s : View B SetEntry ListRefused) (lines : List Line) (taker agent : ℕ)
-    (replies : List TakeReply) (j : List A) (m : List B) (k : List A) (n : List B) : Type 0 where
-  pub queue : List A
+pub record TakingRest {A B : Type 0} (qs : Bool → View A QueueEntry QueueRefused) (s : View B SetEntry ListRefused) (lines : List Line) (taker agent : ℕ)
+    (replies : List TakeReply) (j : Bool → List A) (m : List B) (k : Bool → List A) (n : List B) : Type 0 where
+  pub queues : Bool → List A
   pub set : List B
-  pub taking : Taking q s lines taker agent replies j m queue set
-  pub last : Replied q s (TakenRow lines agent None) agent queue set k n
+  pub taking : Taking qs s lines taker agent replies j m queues set
+  pub last : Replied qs s (TakenRow lines agent None) agent queues set k n
 
 -- what a taker did between these journals is what these replies stand for, in their order, and it passed over no job
-pub record Claiming {A B : Type 0} (q : View A QueueEntry QueueRefused) (s : View B SetEntry ListRefused) (lines : List Line) (taker agent : ℕ)
-    (replies : List TakeReply) (j : List A) (m : List B) (k : List A) (n : List B) : Type 0 where
+pub record Claiming {A B : Type 0} (qs : Bool → View A QueueEntry QueueRefused) (s : View B SetEntry ListRefused) (lines : List Line) (taker agent : ℕ)
+    (replies : List TakeReply) (j : Bool → List A) (m : List B) (k : Bool → List A) (n : List B) : Type 0 where
   pub rows : List Row
   pub table : Pointwise (TookRow lines taker agent) replies rows
-  pub works : Works q s agent rows j m k n
+  pub works : Works qs s agent rows j m k n
 
 -- the records below n that belong to this poster, in file order: record i belongs to poster 1 + (i mod P)
 abbrev pub own_records : ℕ → ℕ → ℕ → List ℕ
@@ -118,20 +122,21 @@ pub record LastIsEmpty (agent : ℕ) (history : List QueueEntry) : Type 0 where
   pub others : AllByRecursion (λ e. agent_of_entry e ≢ agent) back
 
 -- each worker did what its replies stand for, beside no agent but the workers; agent 0 comes last; and a taker from 1 on that has
--- fewer replies than there are Posts found the queue empty after its last Took
-pub record WorkersFollow {A B : Type 0} (q : View A QueueEntry QueueRefused) (s : View B SetEntry ListRefused) (lines : List Line) (posters takers : ℕ)
-    (posts : List PostReply) (takes : List TakeReply) (k : List A) (n : List B) : Type 0 where
+-- fewer replies than there are Posts and Rushes found each queue empty after its last Took there
+pub record WorkersFollow {A B : Type 0} (qs : Bool → View A QueueEntry QueueRefused) (s : View B SetEntry ListRefused) (lines : List Line) (posters takers : ℕ)
+    (posts : List PostReply) (takes : List TakeReply) (k : Bool → List A) (n : List B) : Type 0 where
   pub posting : (p : ℕ) → 1 ≤ p → p ≤ posters
-      → Posting (beside q (IsWorker posters takers)) (beside s (IsWorker posters takers)) lines p (posts_of p posts) [] [] k n
+      → Posting (all_beside qs (IsWorker posters takers)) (beside s (IsWorker posters takers)) lines p (posts_of p posts) none [] k n
   pub claiming : (t : ℕ) → t ≤ takers
-      → Claiming (beside q (IsWorker posters takers)) (beside s (IsWorker posters takers)) lines t (taker_agent posters t) (takes_of t takes) [] [] k n
+      → Claiming (all_beside qs (IsWorker posters takers)) (beside s (IsWorker posters takers)) lines t (taker_agent posters t) (takes_of t takes) none [] k n
   pub order : AreInOrder lines posters takers posts takes
-  pub queue_zero_last : ZeroLast agent_of_entry (q.history k)
+  pub queues_zero_last : (rush : Bool) → ZeroLast agent_of_entry ((qs rush).history (k rush))
   pub set_zero_last : ZeroLast agent_of_set_entry (s.history n)
-  pub found_empty : (t : ℕ) → 1 ≤ t → t ≤ takers → length (takes_of t takes) < posts_in lines → LastIsEmpty (posters + t) (q.history k)
+  pub found_empty : (t : ℕ) → 1 ≤ t → t ≤ takers → length (takes_of t takes) < jobs_in lines
+      → (rush : Bool) → LastIsEmpty (posters + t) ((qs rush).history (k rush))
 
--- the replies follow the two journals, and no position ran out
-pub record Follows {A B : Type 0} (q : View A QueueEntry QueueRefused) (s : View B SetEntry ListRefused) (lines : List Line) (posters takers : ℕ)
-    (posts : List PostReply) (takes : List TakeReply) (k : List A) (n : List B) : Type 0 where
-  pub workers : WorkersFollow q s lines posters takers posts takes k n
+-- the replies follow the three journals, and no position ran out
+pub record Follows {A B : Type 0} (qs : Bool → View A QueueEntry QueueRefused) (s : View B SetEntry ListRefused) (lines : List Line) (posters takers : ℕ)
+    (posts : List PostReply) (takes : List TakeReply) (k : Bool → List A) (n : List B) : Type 0 where
+  pub workers : WorkersFollow qs s lines posters takers posts takes k n
   pub no_positions : AllByRecursion (λ (r : PostReply). r.what ≢ word.Positions) posts

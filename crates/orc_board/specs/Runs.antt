@@ -1,5 +1,5 @@
 -- What a run leaves.
-use Rattle.std.specs.Prelude.{◌≡◌, ℕ, List, []}
+use Rattle.std.specs.Prelude.{◌≡◌, ℕ, List, [], Bool}
 use Rattle.orc_history.specs.declared.queue.QueueEntry.{QueueEntry}
 use Rattle.orc_history.specs.declared.queue.QueueRefused.{QueueRefused}
 use Rattle.orc_history.specs.declared.set.SetEntry.{SetEntry}
@@ -13,11 +13,11 @@ use Rattle.orc_board.specs.Stretches.{View}
 use Rattle.orc_board.specs.Follows.{Follows}
 use Rattle.orc_board.specs.Reportable.{AreReportable}
 
--- the replies follow the two journals, whose histories are legal, the queue's leaves the empty list, and the replies can be reported
-pub record Ran {A B : Type 0} (q : View A QueueEntry QueueRefused) (s : View B SetEntry ListRefused) (lines : List Line) (posters takers : ℕ)
-    (posts : List PostReply) (takes : List TakeReply) (k : List A) (n : List B) : Type 0 where
-  pub follows : Follows q s lines posters takers posts takes k n
-  pub queue_legal : IsLegalQueue 0 (q.history k)
+-- the replies follow the three journals, whose histories are legal, the queues' leave the empty list, and the replies can be reported
+pub record Ran {A B : Type 0} (qs : Bool → View A QueueEntry QueueRefused) (s : View B SetEntry ListRefused) (lines : List Line) (posters takers : ℕ)
+    (posts : List PostReply) (takes : List TakeReply) (k : Bool → List A) (n : List B) : Type 0 where
+  pub follows : Follows qs s lines posters takers posts takes k n
+  pub queues_legal : (rush : Bool) → IsLegalQueue 0 ((qs rush).history (k rush))
   pub set_legal : IsLegalSet (s.history n)
-  pub empty : waiting_after [] (q.history k) ≡ []
+  pub empty : (rush : Bool) → waiting_after [] ((qs rush).history (k rush)) ≡ []
   pub reportable : AreReportable lines posts takes

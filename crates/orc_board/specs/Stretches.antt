@@ -1,5 +1,5 @@
 -- Stretches of a container's journal, and what a worker adds in them.
-use Rattle.std.specs.Prelude.{◌≡◌, ℕ, List, [], ◌∷◌, ◌++◌, length, Bool, false, filter, ◌==◌, ◌⊎◌, Option, Some, None}
+use Rattle.std.specs.Prelude.{◌≡◌, ℕ, List, [], ◌∷◌, ◌++◌, length, Bool, true, false, filter, ◌==◌, ◌⊎◌, Option, Some, None}
 use mathlib.Core.List.{IsPrefix}
 use Rattle.orc_history.specs.Journals.{Within}
 use Rattle.std.specs.List.{AllByRecursion}
@@ -12,7 +12,6 @@ use Rattle.orc_history.specs.declared.set.ListRefused.{ListRefused}
 use Rattle.orc_history.specs.declared.set.SharedSet.{Ghosts as SetOf}
 use Rattle.orc_history.specs.QueueHistory.{agent_of_entry}
 use Rattle.orc_history.specs.SetHistory.{agent_of_set_entry}
-use Rattle.orc_board.specs.declared.again.TheConstants.{TURNS}
 
 -- what the definitions see of a container with these steps, entries and refusals: the history of a journal, what licenses a
 -- refusal of an agent at two places of a journal, and the agents whose entries may stand between those of another
@@ -21,14 +20,18 @@ pub record View (A E W : Type 0) : Type 1 where
   pub licence : ℕ → W → List A → ℕ → ℕ → Type 0
   pub crowd : ℕ → Type 0
 
+-- how many turns a worker gives each call of a container
+abbrev pub turns : ℕ
+turns = 64
+
 -- the view of this queue, and of this set, whose calls have so many turns
 abbrev pub queue_view : {Q P A : Type 0} → QueueOf Q P A → Q → View A QueueEntry QueueRefused
 queue_view members queue =
-    record { history = members.history queue; licence = λ agent why. members.licence queue agent TURNS why; crowd = members.crowd queue }
+    record { history = members.history queue; licence = λ agent why. members.licence queue agent turns why; crowd = members.crowd queue }
 
 abbrev pub set_view : {S P A : Type 0} → SetOf S P A → S → View A SetEntry ListRefused
 set_view members set =
-    record { history = members.history set; licence = λ agent why. members.licence set agent TURNS why; crowd = members.crowd set }
+    record { history = members.history set; licence = λ agent why. members.licence set agent turns why; crowd = members.crowd set }
 
 -- the same container, with these agents beside the worker
 abbrev pub beside : {A E W : Type 0} → View A E W → (ℕ → Type 0) → View A E W
@@ -94,34 +97,48 @@ pub record Did {A E W : Type 0} (kind : Kind E) (x : View A E W) (worker : ℕ) 
   pub stretch : Stretch kind x worker share.own j k
   pub licence : Licensed x worker share.refused j k
 
--- what one reply says of the queue and of the set
+-- of these rows the shares of one container stand one after another in its journal, and then the worker does nothing there
+abbrev pub Chain : {A E W X : Type 0} → Kind E → View A E W → ℕ → (X → Share E W) → List X → List A → List A → Type 0
+Chain kind x worker share [] j k = Did kind x worker nothing j k
+Chain {A} kind x worker share (row ∷ rows) j k = (i : List A) × Did kind x worker (share row) j i × Chain kind x worker share rows i k
+
+-- what one reply says of the queue, at false, of the rush queue, at true, and of the set
 pub record Row : Type 0 where
-  pub queue : Share QueueEntry QueueRefused
+  pub queues : Bool → Share QueueEntry QueueRefused
   pub set : Share SetEntry ListRefused
 
 -- a row of a worker that did nothing
 abbrev pub empty_row : Row
-empty_row = record { queue = nothing; set = nothing }
+empty_row = record { queues = λ rush. nothing; set = nothing }
 
--- the row is what the worker did, from the journals j and m to k and n
-pub record Stands {A B : Type 0} (q : View A QueueEntry QueueRefused) (s : View B SetEntry ListRefused) (worker : ℕ) (row : Row) (j : List A) (m : List B)
-    (k : List A) (n : List B) : Type 0 where
-  pub queue : Did of_queue q worker row.queue j k
+-- of two things the first at false, and the second at true
+abbrev pub pick : {X : Type 0} → X → X → Bool → X
+pick x y false = x
+pick x y true = y
+
+-- the views of the queue, at false, and of the rush queue, at true
+abbrev pub queue_views : {Q P A : Type 0} → QueueOf Q P A → Q → Q → Bool → View A QueueEntry QueueRefused
+queue_views members queue rush b = queue_view members (pick queue rush b)
+
+-- the same containers, with these agents beside the worker
+abbrev pub all_beside : {A : Type 0} → (Bool → View A QueueEntry QueueRefused) → (ℕ → Type 0) → Bool → View A QueueEntry QueueRefused
+all_beside qs crowd rush = beside (qs rush) crowd
+
+-- the row is what the worker did, from the journals j of the queues and m of the set to k and n
+pub record Stands {A B : Type 0} (qs : Bool → View A QueueEntry QueueRefused) (s : View B SetEntry ListRefused) (worker : ℕ) (row : Row)
+    (j : Bool → List A) (m : List B) (k : Bool → List A) (n : List B) : Type 0 where
+  pub queues : (rush : Bool) → Did of_queue (qs rush) worker (row.queues rush) (j rush) (k rush)
   pub set : Did of_set s worker row.set m n
 
 -- one of these rows is what the worker did
-pub record Replied {A B : Type 0} (q : View A QueueEntry QueueRefused) (s : View B SetEntry ListRefused) (rows : Row → Type 0) (worker : ℕ) (j : List A)
-    (m : List B) (k : List A) (n : List B) : Type 0 where
+pub record Replied {A B : Type 0} (qs : Bool → View A QueueEntry QueueRefused) (s : View B SetEntry ListRefused) (rows : Row → Type 0) (worker : ℕ)
+    (j : Bool → List A) (m : List B) (k : Bool → List A) (n : List B) : Type 0 where
   pub row : Row
   pub is : rows row
-  pub stands : Stands q s worker row j m k n
-
--- the rows stand one after another, and then the worker does nothing
-abbrev pub Chain : {A B : Type 0} → View A QueueEntry QueueRefused → View B SetEntry ListRefused → ℕ → List Row → List A → List B → List A → List B → Type 0
-Chain q s worker [] j m k n = Stands q s worker empty_row j m k n
-Chain {A} {B} q s worker (row ∷ rows) j m k n = (i : List A) × (l : List B) × Stands q s worker row j m i l × Chain q s worker rows i l k n
+  pub stands : Stands qs s worker row j m k n
 
 -- these rows are all that the worker did
-pub record Works {A B : Type 0} (q : View A QueueEntry QueueRefused) (s : View B SetEntry ListRefused) (worker : ℕ) (rows : List Row) (j : List A)
-    (m : List B) (k : List A) (n : List B) : Type 0 where
-  pub chain : Chain q s worker rows j m k n
+pub record Works {A B : Type 0} (qs : Bool → View A QueueEntry QueueRefused) (s : View B SetEntry ListRefused) (worker : ℕ) (rows : List Row)
+    (j : Bool → List A) (m : List B) (k : Bool → List A) (n : List B) : Type 0 where
+  pub queues : (rush : Bool) → Chain of_queue (qs rush) worker (λ (row : Row). row.queues rush) rows (j rush) (k rush)
+  pub set : Chain of_set s worker (λ (row : Row). row.set) rows m n

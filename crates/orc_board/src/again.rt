@@ -1,5 +1,5 @@
 //! Calls that are made again until they are answered.
-ghost use Rattle.std.specs.Prelude.{◌≡◌, ◌≢◌, ℕ, [], ◌∷◌, IfOk, IfErr, Ok, Err, true, false};
+ghost use Rattle.std.specs.Prelude.{◌≢◌, [], ◌∷◌, IfOk, IfErr, Ok, Err};
 ghost use Rattle.orc_history.specs.declared.queue.QueueEntry.{QueueEntry};
 ghost use Rattle.orc_history.specs.declared.queue.QueueRefused.{QueueRefused};
 ghost use Rattle.orc_history.specs.declared.set.SetEntry.{SetEntry};
@@ -11,8 +11,8 @@ ghost use Rattle.orc_board.specs.Table.{took_of};
 use orc_history::{ListRefused, QueueRefused, SharedQueue, SharedSet};
 use std::sync::Wait;
 
-/// How many turns each call of a container has.
-pub const TURNS: u64 = 64;
+// How many turns each call of a container has.
+const TURNS: u64 = 64;
 
 // Inserts the key.
 pub(crate) fn insert_key<R: Wait, S: SharedSet>(

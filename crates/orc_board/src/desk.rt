@@ -1,10 +1,10 @@
 //! One line posted or dropped, and one job taken.
-ghost use Rattle.std.specs.Prelude.{◌≡◌, Some, None, IfSome, IfNone};
-ghost use Rattle.orc_jobs.specs.Line.{IsPost, IsDrop};
+ghost use Rattle.std.specs.Prelude.{◌≡◌, IfSome, IfNone};
+ghost use Rattle.orc_jobs.specs.Line.{PostsJob, IsDrop};
 ghost use Rattle.orc_jobs.specs.GoodLines.{AreGood};
 ghost use Rattle.orc_board.specs.Desk.{IsDesk};
-ghost use Rattle.orc_board.specs.DeskCalls.{Closes, KeepsSetAgent, QueueEndsWith, Replies};
-ghost use Rattle.orc_board.specs.Table.{PostRow, JobRow, DropRow, TakenRow, IsJob, IsNoJob, last_of};
+ghost use Rattle.orc_board.specs.DeskCalls.{Closes, KeepsSetAgent, KeepsQueueAgent, LeavesLast, Replies, TakesNext, Opens, Drops};
+ghost use Rattle.orc_board.specs.Table.{PostRow, JobPart, IsWordOf, IsPlacedAt, DropPart, TakenRow, PostsWithId, PostsNone, IsJob, IsNoJob};
 
 use crate::again::{insert_key, put_job, remove_key, take_job};
 use crate::{PostReply, PostWord, TakeReply, TakeWord};
@@ -12,76 +12,92 @@ use orc_history::{ListRefused, QueueRefused, SharedQueue, SharedSet};
 use orc_jobs::{Line, Lines, job_value};
 use std::sync::Wait;
 
-/// A worker's two passes.
+/// A worker's three passes.
 #[derive(Drop)]
 pub struct Desk<A, B> {
     pub queue: A,
+    pub rush: A,
     pub set: B,
 }
 
-/// Opens the id of a line that is a Post, and then puts its number. Where the number can't be put, the id is closed again.
+/// Opens the id of a line that is a Post or a Rush, and then puts its number, on the queue or on the rush queue. Where the number
+/// can't be put, the id is closed again.
 pub fn post_line<R: Wait, Q: SharedQueue, S: SharedSet>(
     rt: &R,
     queue: &Q,
+    rush: &Q,
     set: &S,
     desk: &mut Desk<Q::Pass, S::Pass>,
     poster: u32,
     index: u32,
     line: &Line,
 ) -> PostReply
-    requires desk { IsDesk Q.SharedQueue S.SharedSet queue.now set.now poster desk.old }
-    requires line { IsPost line.now }
-    ensures desk { IsDesk Q.SharedQueue S.SharedSet queue.now set.now poster desk.new }
+    requires desk { IsDesk Q.SharedQueue S.SharedSet queue.now rush.now set.now poster desk.old }
+    requires line { PostsJob line.now }
+    ensures desk { IsDesk Q.SharedQueue S.SharedSet queue.now rush.now set.now poster desk.new }
     ensures reply { (result.poster ≡ poster) × (result.line ≡ index) }
-    ensures row { Replies Q.SharedQueue S.SharedSet queue.now set.now desk.old desk.new poster
+    ensures row { Replies Q.SharedQueue S.SharedSet queue.now rush.now set.now desk.old desk.new poster
         (PostRow poster index line.now result.what) }
 {
-    reply_to(rt, queue, set, desk, poster, index, line)
+    reply_to(rt, queue, rush, set, desk, poster, index, line)
 }
 
 /// Closes the id of a line that is a Drop.
 pub fn drop_line<R: Wait, Q: SharedQueue, S: SharedSet>(
     rt: &R,
     queue: &Q,
+    rush: &Q,
     set: &S,
     desk: &mut Desk<Q::Pass, S::Pass>,
     poster: u32,
     index: u32,
     line: &Line,
 ) -> PostReply
-    requires desk { IsDesk Q.SharedQueue S.SharedSet queue.now set.now poster desk.old }
+    requires desk { IsDesk Q.SharedQueue S.SharedSet queue.now rush.now set.now poster desk.old }
     requires line { IsDrop line.now }
-    ensures desk { IsDesk Q.SharedQueue S.SharedSet queue.now set.now poster desk.new }
+    ensures desk { IsDesk Q.SharedQueue S.SharedSet queue.now rush.now set.now poster desk.new }
     ensures reply { (result.poster ≡ poster) × (result.line ≡ index) }
-    ensures row { Replies Q.SharedQueue S.SharedSet queue.now set.now desk.old desk.new poster
+    ensures row { Replies Q.SharedQueue S.SharedSet queue.now rush.now set.now desk.old desk.new poster
         (PostRow poster index line.now result.what) }
 {
-    reply_to(rt, queue, set, desk, poster, index, line)
+    reply_to(rt, queue, rush, set, desk, poster, index, line)
 }
 
-/// Takes jobs until one is the number of a Post, and closes that line's id; or finds the queue empty. Other jobs are passed over.
+/// Takes jobs, from the rush queue first, until one is the number of a line that posts it there, and closes that line's id; or finds
+/// both queues empty, the rush queue first. Other jobs are passed over.
 pub fn take_one<R: Wait, Q: SharedQueue, S: SharedSet>(
     rt: &R,
     queue: &Q,
+    rush: &Q,
     set: &S,
     desk: &mut Desk<Q::Pass, S::Pass>,
     taker: u32,
     lines: &Lines,
 ) -> Option<TakeReply>
-    requires desk { IsDesk Q.SharedQueue S.SharedSet queue.now set.now (Q.agent_of queue.now desk.old.queue) desk.old }
+    requires desk { IsDesk Q.SharedQueue S.SharedSet queue.now rush.now set.now (Q.agent_of queue.now desk.old.queue) desk.old }
     requires good { AreGood lines.now }
-    ensures desk { IsDesk Q.SharedQueue S.SharedSet queue.now set.now (Q.agent_of queue.now desk.old.queue) desk.new }
+    ensures desk { IsDesk Q.SharedQueue S.SharedSet queue.now rush.now set.now (Q.agent_of queue.now desk.old.queue) desk.new }
     ensures reply { IfSome result (λ r. r.taker ≡ taker) }
-    ensures last { QueueEndsWith Q.SharedQueue queue.now desk.old.queue desk.new.queue (λ agent. last_of agent result) }
-    ensures row { Replies Q.SharedQueue S.SharedSet queue.now set.now desk.old desk.new (Q.agent_of queue.now desk.old.queue)
+    ensures last { LeavesLast Q.SharedQueue S.SharedSet queue.now rush.now set.now desk.old desk.new result }
+    ensures row { Replies Q.SharedQueue S.SharedSet queue.now rush.now set.now desk.old desk.new (Q.agent_of queue.now desk.old.queue)
         (TakenRow lines.now (Q.agent_of queue.now desk.old.queue) result) }
 {
     for _ in rt.forever() {
-        match take_job(rt, queue, &mut desk.queue) {
+        match take_next(rt, queue, rush, &mut desk.queue, &mut desk.rush) {
             None => return None,
-            Some((job, at)) => match posted_id(lines, job) {
+            Some((is_rush, job, at)) => match posted_id(lines, is_rush, job) {
                 Some(id) => {
-                    return Some(close_job(rt, set, &mut desk.set, taker, lines, job, at, id));
+                    return Some(close_job(
+                        rt,
+                        set,
+                        &mut desk.set,
+                        taker,
+                        lines,
+                        is_rush,
+                        job,
+                        at,
+                        id,
+                    ));
                 }
                 None => {}
             },
@@ -94,21 +110,43 @@ pub fn take_one<R: Wait, Q: SharedQueue, S: SharedSet>(
 pub(crate) fn reply_to<R: Wait, Q: SharedQueue, S: SharedSet>(
     rt: &R,
     queue: &Q,
+    rush: &Q,
     set: &S,
     desk: &mut Desk<Q::Pass, S::Pass>,
     poster: u32,
     index: u32,
     line: &Line,
 ) -> PostReply
-    requires { IsDesk Q.SharedQueue S.SharedSet queue.now set.now poster desk.old }
-    ensures desk { IsDesk Q.SharedQueue S.SharedSet queue.now set.now poster desk.new }
+    requires { IsDesk Q.SharedQueue S.SharedSet queue.now rush.now set.now poster desk.old }
+    ensures desk { IsDesk Q.SharedQueue S.SharedSet queue.now rush.now set.now poster desk.new }
     ensures reply { (result.poster ≡ poster) × (result.line ≡ index) }
-    ensures row { Replies Q.SharedQueue S.SharedSet queue.now set.now desk.old desk.new poster
+    ensures row { Replies Q.SharedQueue S.SharedSet queue.now rush.now set.now desk.old desk.new poster
         (PostRow poster index line.now result.what) }
 {
     let what = match line {
-        Line::Post { id, .. } => post_job(rt, queue, set, desk, poster, index, *id),
-        Line::Drop { id } => drop_id(rt, queue, set, desk, poster, *id),
+        Line::Post { id, .. } => post_job(
+            rt,
+            queue,
+            set,
+            &mut desk.queue,
+            &mut desk.set,
+            poster,
+            index,
+            *id,
+            false,
+        ),
+        Line::Rush { id, .. } => post_job(
+            rt,
+            rush,
+            set,
+            &mut desk.rush,
+            &mut desk.set,
+            poster,
+            index,
+            *id,
+            true,
+        ),
+        Line::Drop { id } => drop_id(rt, set, &mut desk.set, poster, *id),
     };
     PostReply {
         poster,
@@ -117,30 +155,39 @@ pub(crate) fn reply_to<R: Wait, Q: SharedQueue, S: SharedSet>(
     }
 }
 
-// Opens the id and puts the job.
+// Opens the id and puts the job on this queue, which is the rush queue or isn't.
 fn post_job<R: Wait, Q: SharedQueue, S: SharedSet>(
     rt: &R,
     queue: &Q,
     set: &S,
-    desk: &mut Desk<Q::Pass, S::Pass>,
+    p: &mut Q::Pass,
+    ids: &mut S::Pass,
     poster: u32,
     index: u32,
     id: u32,
+    is_rush: bool,
 ) -> PostWord
-    requires { IsDesk Q.SharedQueue S.SharedSet queue.now set.now poster desk.old }
-    ensures desk { IsDesk Q.SharedQueue S.SharedSet queue.now set.now poster desk.new }
-    ensures row { Replies Q.SharedQueue S.SharedSet queue.now set.now desk.old desk.new poster
-        (JobRow poster index id result) }
+    requires queue { Q.usable queue.now p.old }
+    requires queue_agent { Q.agent_of queue.now p.old ≡ poster }
+    requires set { S.usable set.now ids.old }
+    requires set_agent { S.agent_of set.now ids.old ≡ poster }
+    ensures queue { Q.usable queue.now p.new }
+    ensures queue_agent { Q.agent_of queue.now p.new ≡ poster }
+    ensures set { S.usable set.now ids.new }
+    ensures set_agent { S.agent_of set.now ids.new ≡ poster }
+    ensures word { IsWordOf is_rush result }
+    ensures part { Opens Q.SharedQueue S.SharedSet queue.now set.now p.old p.new ids.old ids.new poster
+        (JobPart poster index id result) }
 {
-    match insert_key(rt, set, &mut desk.set, id as u64) {
-        Ok(true) => match put_job(rt, queue, &mut desk.queue, index as u64) {
-            Ok(at) => PostWord::Posted(at),
+    match insert_key(rt, set, ids, id as u64) {
+        Ok(true) => match put_job(rt, queue, p, index as u64) {
+            Ok(at) => word_at(is_rush, at),
             Err(QueueRefused::Positions) => {
-                remove_key(rt, set, &mut desk.set, id as u64);
+                remove_key(rt, set, ids, id as u64);
                 PostWord::Positions
             }
             Err(QueueRefused::NoNode) => {
-                remove_key(rt, set, &mut desk.set, id as u64);
+                remove_key(rt, set, ids, id as u64);
                 PostWord::NoNode
             }
             Err(QueueRefused::Again) => unreachable!(),
@@ -152,40 +199,85 @@ fn post_job<R: Wait, Q: SharedQueue, S: SharedSet>(
     }
 }
 
+// The word for a job that was put at this position.
+fn word_at(is_rush: bool, at: u64) -> PostWord
+    ensures { IsPlacedAt is_rush at result }
+{
+    if is_rush {
+        PostWord::Rushed(at)
+    } else {
+        PostWord::Posted(at)
+    }
+}
+
 // Closes the id.
-fn drop_id<R: Wait, Q: SharedQueue, S: SharedSet>(
+fn drop_id<R: Wait, S: SharedSet>(
     rt: &R,
-    queue: &Q,
     set: &S,
-    desk: &mut Desk<Q::Pass, S::Pass>,
+    ids: &mut S::Pass,
     poster: u32,
     id: u32,
 ) -> PostWord
-    requires { IsDesk Q.SharedQueue S.SharedSet queue.now set.now poster desk.old }
-    ensures desk { IsDesk Q.SharedQueue S.SharedSet queue.now set.now poster desk.new }
-    ensures row { Replies Q.SharedQueue S.SharedSet queue.now set.now desk.old desk.new poster
-        (DropRow poster id result) }
+    requires set { S.usable set.now ids.old }
+    requires set_agent { S.agent_of set.now ids.old ≡ poster }
+    ensures set { S.usable set.now ids.new }
+    ensures set_agent { S.agent_of set.now ids.new ≡ poster }
+    ensures part { Drops S.SharedSet set.now ids.old ids.new poster (DropPart poster id result) }
 {
-    let _ = queue;
-    if remove_key(rt, set, &mut desk.set, id as u64) {
+    if remove_key(rt, set, ids, id as u64) {
         PostWord::Dropped
     } else {
         PostWord::Unknown
     }
 }
 
-// The id of the job with this number, if the line with this number posts one.
-fn posted_id(lines: &Lines, job: u64) -> Option<u32>
+// Takes a job from the rush queue, or else from the queue, and tells which; or finds both empty.
+fn take_next<R: Wait, Q: SharedQueue>(
+    rt: &R,
+    queue: &Q,
+    rush: &Q,
+    p: &mut Q::Pass,
+    hurried: &mut Q::Pass,
+) -> Option<(bool, u64, u64)>
+    requires queue { Q.usable queue.now p.old }
+    requires rush { Q.usable rush.now hurried.old }
+    requires agent { Q.agent_of rush.now hurried.old ≡ Q.agent_of queue.now p.old }
+    ensures queue { Q.usable queue.now p.new }
+    ensures rush { Q.usable rush.now hurried.new }
+    ensures queue_agent { KeepsQueueAgent Q.SharedQueue queue.now p.old p.new }
+    ensures rush_agent { KeepsQueueAgent Q.SharedQueue rush.now hurried.old hurried.new }
+    ensures took { TakesNext Q.SharedQueue queue.now rush.now p.old hurried.old p.new hurried.new result }
+{
+    match take_job(rt, rush, hurried) {
+        Some((job, at)) => Some((true, job, at)),
+        None => match take_job(rt, queue, p) {
+            Some((job, at)) => Some((false, job, at)),
+            None => None,
+        },
+    }
+}
+
+// The id of the job with this number, if the line with this number posts one on the rush queue, or on the queue.
+fn posted_id(lines: &Lines, is_rush: bool, job: u64) -> Option<u32>
     requires { AreGood lines.now }
-    ensures yes { IfSome result (IsJob lines.now job) }
-    ensures no { IfNone result (IsNoJob lines.now job) }
+    ensures yes { IfSome result (IsJob lines.now is_rush job) }
+    ensures no { IfNone result (IsNoJob lines.now is_rush job) }
 {
     if job >= lines.len() as u64 {
         return None;
     }
-    match lines.get(job as usize) {
-        Line::Post { id, .. } => Some(*id),
-        Line::Drop { .. } => None,
+    id_if(lines.get(job as usize), is_rush)
+}
+
+// The id of a line that posts a job on the rush queue, or on the queue.
+fn id_if(line: &Line, is_rush: bool) -> Option<u32>
+    ensures yes { IfSome result (λ id. PostsWithId line.now is_rush id) }
+    ensures no { IfNone result (PostsNone line.now is_rush) }
+{
+    match line {
+        Line::Post { id, .. } if !is_rush => Some(*id),
+        Line::Rush { id, .. } if is_rush => Some(*id),
+        Line::Post { .. } | Line::Rush { .. } | Line::Drop { .. } => None,
     }
 }
 
@@ -196,16 +288,17 @@ fn close_job<R: Wait, S: SharedSet>(
     p: &mut S::Pass,
     taker: u32,
     lines: &Lines,
+    is_rush: bool,
     job: u64,
     at: u64,
     id: u32,
 ) -> TakeReply
     requires set { S.usable set.now p.old }
     requires good { AreGood lines.now }
-    requires job { IsJob lines.now job id }
+    requires job { IsJob lines.now is_rush job id }
     ensures set { S.usable set.now p.new }
     ensures agent { KeepsSetAgent S.SharedSet set.now p.old p.new }
-    ensures reply { (result.taker ≡ taker) × (result.at ≡ at) × (result.line ≡ job) }
+    ensures reply { (result.taker ≡ taker) × (result.at ≡ at) × (result.line ≡ job) × (result.rush ≡ is_rush) }
     ensures closed { Closes S.SharedSet set.now lines.now p.old p.new id result.line result.what }
 {
     let what = if remove_key(rt, set, p, id as u64) {
@@ -217,6 +310,7 @@ fn close_job<R: Wait, S: SharedSet>(
         taker,
         at,
         line: job as u32,
+        rush: is_rush,
         what,
     }
 }

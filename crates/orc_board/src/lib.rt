@@ -1,4 +1,4 @@
-//! The board: posters and takers of jobs over a shared queue and a shared set.
+//! The board: posters and takers of jobs over a shared queue, a shared rush queue and a shared set.
 #![tactic(auto)]
 
 mod again;
@@ -10,7 +10,6 @@ mod replies;
 #[cfg(test)]
 mod tests;
 
-pub use again::TURNS;
 pub use desk::{Desk, drop_line, post_line, take_one};
 pub use gate::{Gate, OpenGate};
 pub use lists::{PostList, ReplyList, TakeList};

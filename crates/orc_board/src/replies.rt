@@ -6,13 +6,15 @@ use crate::{PostList, TakeList};
 pub enum PostWord {
     /// A post: the id was opened, and the record was queued at this position.
     Posted(u64),
-    /// A post: the id was open already.
+    /// A rush: the id was opened, and the record was queued at this position of the rush queue.
+    Rushed(u64),
+    /// A post or a rush: the id was open already.
     Busy,
-    /// A post: a container had no room.
+    /// A post or a rush: a container had no room.
     NoNode,
-    /// A post: no position was left.
+    /// A post or a rush: no position was left.
     Positions,
-    /// A post: a row could take no further link.
+    /// A post or a rush: a row could take no further link.
     Spent,
     /// A drop: the id was open, and is closed.
     Dropped,
@@ -46,6 +48,8 @@ pub struct TakeReply {
     pub at: u64,
     /// The number of its record.
     pub line: u32,
+    /// Whether the rush queue gave it.
+    pub rush: bool,
     pub what: TakeWord,
 }
 

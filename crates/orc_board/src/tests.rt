@@ -1,7 +1,7 @@
 //! Runs over the plain containers, with the replies that the rules of the board give by hand.
-ghost use Rattle.std.specs.Prelude.{IfOk};
+ghost use Rattle.std.specs.Prelude.{◌≤◌, IfOk, length};
 ghost use Rattle.orc_jobs.specs.GoodLines.{AreGood};
-ghost use Rattle.orc_jobs.specs.Line.{IsPost};
+ghost use Rattle.orc_jobs.specs.Line.{PostsJob};
 ghost use Rattle.orc_board.specs.Desk.{IsDesk};
 
 mod examples;
@@ -18,30 +18,39 @@ use std::cell::Cell;
 use std::sync::Wait;
 use std::test::Fail;
 
-// Both containers, and a desk of agent 1 over them.
+// All three containers, and a desk of agent 1 over them.
 #[derive(Drop)]
 struct Board {
     queue: PlainQueue,
+    rush: PlainQueue,
     set: PlainSet,
     desk: Desk<PlainQueuePass, PlainSetPass>,
 }
 
 fn empty_board(alloc: Global, queue_room: u32, set_room: u32) -> Result<Board, NoMemory>
-    ensures { IfOk result (λ b. IsDesk ⟦<PlainQueue as SharedQueue>⟧ ⟦<PlainSet as SharedSet>⟧ b.queue b.set 1 b.desk) }
+    ensures { IfOk result (λ b. IsDesk ⟦<PlainQueue as SharedQueue>⟧ ⟦<PlainSet as SharedSet>⟧ b.queue b.rush b.set 1 b.desk) }
 {
     let (queue, mut queue_pass) = PlainQueue::new(alloc, queue_room, 0)?.pass();
+    let (rush, mut rush_pass) = PlainQueue::new(alloc, queue_room, 0)?.pass();
     let (set, mut set_pass) = PlainSet::new(alloc, set_room)?.pass();
     queue_pass.act_as(1);
+    rush_pass.act_as(1);
     set_pass.act_as(1);
     let desk = Desk {
         queue: queue_pass,
+        rush: rush_pass,
         set: set_pass,
     };
-    Ok(Board { queue, set, desk })
+    Ok(Board {
+        queue,
+        rush,
+        set,
+        desk,
+    })
 }
 
 fn post(alloc: Global, id: u32, text: &[u8]) -> Result<Line, NoMemory>
-    ensures { IfOk result IsPost }
+    ensures { IfOk result PostsJob }
 {
     Ok(Line::Post {
         id,
@@ -50,16 +59,24 @@ fn post(alloc: Global, id: u32, text: &[u8]) -> Result<Line, NoMemory>
     })
 }
 
-fn stored_run(alloc: Global) -> Result<Lines, NoMemory>
+// The lines of a job file.
+fn lines_of(alloc: Global, bytes: &[u8]) -> Result<Lines, NoMemory>
+    requires { length bytes.now ≤ 16777216 }
     ensures { IfOk result AreGood }
 {
-    match read_jobs(
-        alloc,
-        b"post,7,bytes,hello\npost,9,bytes,abc\ndrop,9\npost,7,bytes,ab\ndrop,8\n",
-    ) {
+    match read_jobs(alloc, bytes) {
         Ok(lines) => Ok(lines),
         Err(_) => Err(NoMemory),
     }
+}
+
+fn stored_run(alloc: Global) -> Result<Lines, NoMemory>
+    ensures { IfOk result AreGood }
+{
+    lines_of(
+        alloc,
+        b"post,7,bytes,hello\npost,9,bytes,abc\ndrop,9\npost,7,bytes,ab\ndrop,8\n",
+    )
 }
 
 // A gate that notes each call by two digits, the worker's and the call's.
@@ -76,45 +93,54 @@ impl Gate for NotingGate {
     }
 }
 
+// What one poster and then taker 0 do with these lines.
+fn work_through<R: Wait, G: Gate>(
+    rt: &R,
+    alloc: Global,
+    lines: &Lines,
+    gate: &G,
+) -> Result<Replies, NoMemory>
+    requires { AreGood lines.now }
+{
+    let Board {
+        queue,
+        rush,
+        set,
+        mut desk,
+    } = empty_board(alloc, 8, 8)?;
+    let mut posts = PostList::new(alloc, lines.len())?;
+    post_records(
+        rt, &queue, &rush, &set, &mut desk, 1, 1, lines, gate, &mut posts,
+    );
+    desk.queue.act_as(0);
+    desk.rush.act_as(0);
+    desk.set.act_as(0);
+    let mut takes = TakeList::new(alloc, 5)?;
+    take_rest(
+        rt, &queue, &rush, &set, &mut desk, 0, lines, gate, &mut takes,
+    );
+    Ok(Replies { posts, takes })
+}
+
+// A claim from the queue, or from the rush queue.
+fn claim(taker: u32, rush: bool, at: u64, line: u32, what: TakeWord) -> TakeReply {
+    TakeReply {
+        taker,
+        at,
+        line,
+        rush,
+        what,
+    }
+}
+
 #[test]
 fn stored_run_of_one_poster(rt: HostRuntime) -> Result<(), Fail> {
     let alloc = rt.alloc();
     let lines = stored_run(alloc)?;
-    let Board {
-        queue,
-        set,
-        mut desk,
-    } = empty_board(alloc, 8, 8)?;
     let gate = NotingGate {
         calls: Cell::new(0),
     };
-    let mut replies = Replies {
-        posts: PostList::new(alloc, lines.len())?,
-        takes: TakeList::new(alloc, 5)?,
-    };
-    post_records(
-        &rt,
-        &queue,
-        &set,
-        &mut desk,
-        1,
-        1,
-        &lines,
-        &gate,
-        &mut replies.posts,
-    );
-    desk.queue.act_as(0);
-    desk.set.act_as(0);
-    let was_empty = take_rest(
-        &rt,
-        &queue,
-        &set,
-        &mut desk,
-        0,
-        &lines,
-        &gate,
-        &mut replies.takes,
-    );
+    let replies = work_through(&rt, alloc, &lines, &gate)?;
     let words = [
         PostWord::Posted(0),
         PostWord::Posted(1),
@@ -122,6 +148,7 @@ fn stored_run_of_one_poster(rt: HostRuntime) -> Result<(), Fail> {
         PostWord::Busy,
         PostWord::Unknown,
     ];
+    assert_eq!(rt; replies.posts.len(), 5);
     for (line, (reply, what)) in (0..).zip(replies.posts.items().iter().zip(words)) {
         assert_eq!(rt;
             *reply,
@@ -132,26 +159,30 @@ fn stored_run_of_one_poster(rt: HostRuntime) -> Result<(), Fail> {
             }
         );
     }
-    assert_eq!(rt; replies.posts.len(), 5);
     let claims = [
-        TakeReply {
-            taker: 0,
-            at: 0,
-            line: 0,
-            what: TakeWord::Done(5),
-        },
-        TakeReply {
-            taker: 0,
-            at: 1,
-            line: 1,
-            what: TakeWord::Void,
-        },
+        claim(0, false, 0, 0, TakeWord::Done(5)),
+        claim(0, false, 1, 1, TakeWord::Void),
     ];
-    assert_eq!(rt; replies.takes.len(), 2);
-    assert_eq!(rt; [*replies.takes.get(0), *replies.takes.get(1)], claims);
+    assert_eq!(rt; replies.takes.items(), claims.as_slice());
     assert_eq!(rt; replies.takes.spare(), 3);
-    assert!(rt; was_empty);
     assert_eq!(rt; gate.calls.get(), 1011121314_000102);
+    Ok(())
+}
+
+// The rush job's own opening was dropped, and its claim closes that of the post with the same id.
+#[test]
+fn the_claim_that_closes_the_opening_is_done(rt: HostRuntime) -> Result<(), Fail> {
+    let alloc = rt.alloc();
+    let lines = lines_of(alloc, b"rush,1,bytes,bb\ndrop,1\npost,1,bytes,a\n")?;
+    let replies = work_through(&rt, alloc, &lines, &OpenGate)?;
+    assert_eq!(rt; replies.posts.len(), 3);
+    assert_eq!(rt; replies.posts.items()[0].what, PostWord::Rushed(0));
+    assert_eq!(rt; replies.posts.items()[2].what, PostWord::Posted(0));
+    let claims = [
+        claim(0, true, 0, 0, TakeWord::Done(2)),
+        claim(0, false, 0, 2, TakeWord::Void),
+    ];
+    assert_eq!(rt; replies.takes.items(), claims.as_slice());
     Ok(())
 }
 
@@ -159,66 +190,25 @@ fn stored_run_of_one_poster(rt: HostRuntime) -> Result<(), Fail> {
 fn word_of_line<R: Wait, Q: SharedQueue, S: SharedSet>(
     rt: &R,
     queue: &Q,
+    rush: &Q,
     set: &S,
     desk: &mut Desk<Q::Pass, S::Pass>,
     lines: &Lines,
     index: u32,
 ) -> Option<PostWord>
-    requires { IsDesk Q.SharedQueue S.SharedSet queue.now set.now 1 desk.old }
-    ensures { IsDesk Q.SharedQueue S.SharedSet queue.now set.now 1 desk.new }
+    requires { IsDesk Q.SharedQueue S.SharedSet queue.now rush.now set.now 1 desk.old }
+    ensures { IsDesk Q.SharedQueue S.SharedSet queue.now rush.now set.now 1 desk.new }
 {
     if index as usize >= lines.len() {
         return None;
     }
     let line = lines.get(index as usize);
     match line {
-        Line::Post { .. } => Some(post_line(rt, queue, set, desk, 1, index, line).what),
-        Line::Drop { .. } => Some(drop_line(rt, queue, set, desk, 1, index, line).what),
+        Line::Post { .. } | Line::Rush { .. } => Some(
+            post_line(rt, queue, rush, set, desk, 1, index, line).what,
+        ),
+        Line::Drop { .. } => Some(drop_line(rt, queue, rush, set, desk, 1, index, line).what),
     }
-}
-
-// The five records of the stored run, each by a call of its own.
-#[test]
-fn stored_run_by_single_calls(rt: HostRuntime) -> Result<(), Fail> {
-    let alloc = rt.alloc();
-    let lines = stored_run(alloc)?;
-    let Board {
-        queue,
-        set,
-        mut desk,
-    } = empty_board(alloc, 8, 8)?;
-    let what = word_of_line(&rt, &queue, &set, &mut desk, &lines, 0);
-    assert_eq!(rt; what, Some(PostWord::Posted(0)));
-    let what = word_of_line(&rt, &queue, &set, &mut desk, &lines, 1);
-    assert_eq!(rt; what, Some(PostWord::Posted(1)));
-    let what = word_of_line(&rt, &queue, &set, &mut desk, &lines, 2);
-    assert_eq!(rt; what, Some(PostWord::Dropped));
-    let what = word_of_line(&rt, &queue, &set, &mut desk, &lines, 3);
-    assert_eq!(rt; what, Some(PostWord::Busy));
-    let what = word_of_line(&rt, &queue, &set, &mut desk, &lines, 4);
-    assert_eq!(rt; what, Some(PostWord::Unknown));
-    let done = TakeReply {
-        taker: 3,
-        at: 0,
-        line: 0,
-        what: TakeWord::Done(5),
-    };
-    let void = TakeReply {
-        taker: 3,
-        at: 1,
-        line: 1,
-        what: TakeWord::Void,
-    };
-    assert_eq!(rt;
-        take_one(&rt, &queue, &set, &mut desk, 3, &lines),
-        Some(done)
-    );
-    assert_eq!(rt;
-        take_one(&rt, &queue, &set, &mut desk, 3, &lines),
-        Some(void)
-    );
-    assert_eq!(rt; take_one(&rt, &queue, &set, &mut desk, 3, &lines), None);
-    Ok(())
 }
 
 // The queue has room for one job, and the set for two ids.
@@ -227,33 +217,75 @@ fn second_post_finds_no_place(rt: HostRuntime) -> Result<(), Fail> {
     let alloc = rt.alloc();
     let Board {
         queue,
+        rush,
         set,
         mut desk,
     } = empty_board(alloc, 1, 2)?;
     let (first, second) = (post(alloc, 7, b"hello")?, post(alloc, 9, b"abc")?);
-    let reply = post_line(&rt, &queue, &set, &mut desk, 1, 0, &first);
+    let reply = post_line(&rt, &queue, &rush, &set, &mut desk, 1, 0, &first);
     assert_eq!(rt; reply.what, PostWord::Posted(0));
-    let reply = post_line(&rt, &queue, &set, &mut desk, 1, 1, &second);
+    let reply = post_line(&rt, &queue, &rush, &set, &mut desk, 1, 1, &second);
     assert_eq!(rt; reply.what, PostWord::NoNode);
     // The id of the second was closed again.
-    let reply = drop_line(&rt, &queue, &set, &mut desk, 1, 2, &Line::Drop { id: 9 });
+    let reply = drop_line(
+        &rt,
+        &queue,
+        &rush,
+        &set,
+        &mut desk,
+        1,
+        2,
+        &Line::Drop { id: 9 },
+    );
     assert_eq!(rt; reply.what, PostWord::Unknown);
     let lines = stored_run(alloc)?;
     let mut none = TakeList::new(alloc, 0)?;
-    assert!(rt;
-        !take_rest(
-            &rt, &queue, &set, &mut desk, 0, &lines, &OpenGate, &mut none
-        )
+    take_rest(
+        &rt, &queue, &rush, &set, &mut desk, 0, &lines, &OpenGate, &mut none,
     );
     assert!(rt; none.is_empty());
-    let claim = take_one(&rt, &queue, &set, &mut desk, 3, &lines);
-    let done = TakeReply {
-        taker: 3,
-        at: 0,
-        line: 0,
-        what: TakeWord::Done(5),
-    };
-    assert_eq!(rt; claim, Some(done));
-    assert_eq!(rt; take_one(&rt, &queue, &set, &mut desk, 3, &lines), None);
+    let done = claim(3, false, 0, 0, TakeWord::Done(5));
+    assert_eq!(rt;
+        take_one(&rt, &queue, &rush, &set, &mut desk, 3, &lines),
+        Some(done)
+    );
+    assert_eq!(rt;
+        take_one(&rt, &queue, &rush, &set, &mut desk, 3, &lines),
+        None
+    );
+    Ok(())
+}
+
+// A rush job is taken first, and an id that was dropped makes its claim void.
+#[test]
+fn rush_job_is_taken_first(rt: HostRuntime) -> Result<(), Fail> {
+    let alloc = rt.alloc();
+    let lines = lines_of(alloc, b"post,1,bytes,a\nrush,2,bytes,bb\ndrop,1\n")?;
+    let Board {
+        queue,
+        rush,
+        set,
+        mut desk,
+    } = empty_board(alloc, 8, 8)?;
+    let what = word_of_line(&rt, &queue, &rush, &set, &mut desk, &lines, 0);
+    assert_eq!(rt; what, Some(PostWord::Posted(0)));
+    let what = word_of_line(&rt, &queue, &rush, &set, &mut desk, &lines, 1);
+    assert_eq!(rt; what, Some(PostWord::Rushed(0)));
+    let what = word_of_line(&rt, &queue, &rush, &set, &mut desk, &lines, 2);
+    assert_eq!(rt; what, Some(PostWord::Dropped));
+    let first = claim(0, true, 0, 1, TakeWord::Done(2));
+    let second = claim(0, false, 0, 0, TakeWord::Void);
+    assert_eq!(rt;
+        take_one(&rt, &queue, &rush, &set, &mut desk, 0, &lines),
+        Some(first)
+    );
+    assert_eq!(rt;
+        take_one(&rt, &queue, &rush, &set, &mut desk, 0, &lines),
+        Some(second)
+    );
+    assert_eq!(rt;
+        take_one(&rt, &queue, &rush, &set, &mut desk, 0, &lines),
+        None
+    );
     Ok(())
 }

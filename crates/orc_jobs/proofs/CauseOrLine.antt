@@ -1,7 +1,8 @@
 -- No record has neither a cause nor a line.
-use Rattle.std.proofs.Common.{◌≡◌, ◌≢◌, ◌<◌, ◌⊎◌, All, IsUtf8, List, [], ◌∷◌, ℕ, zero, suc, arith, codes, inl, inr, length, refl}
+use Rattle.std.proofs.Common.{◌≡◌, ◌≢◌, ◌<◌, ◌^◌, ◌∙◌, sym, Bool, true, false, ◌⊎◌, All, IsUtf8, List, [], ◌∷◌, ℕ, zero, suc, arith, codes, inl, inr, length, refl}
 use Rattle.std.specs.Fmt.{decimal}
 use Rattle.orc_jobs.specs.JobGrammar.{Applies, HasCause, IsLine, Takes, field, rank_of, record_of, word_of}
+use Rattle.orc_jobs.specs.Line.{job_line}
 use Rattle.orc_jobs.specs.declared.cause.Cause.{Cause}
 use Rattle.orc_jobs.specs.declared.cause.Cause.TheVariants as cause
 use Rattle.orc_jobs.specs.declared.line.Job.{Job}
@@ -46,20 +47,24 @@ no-drop fields none drop = whether (length fields ≡ 2) (λ o. elim o [
   | inr other ↦ none.causes cause.Fields (inl (drop, other))
 ])
 
--- the text of a post fits its operation
-takes : (fields : List (List ℕ)) (op : Job) → Neither fields → field fields 0 ≡ codes "post" → field fields 2 ≡ word_of op → ¬ ¬ Takes op (field fields 3)
-takes fields job.Bytes none post word k = k tt
-takes fields job.Words none post word k = k tt
-takes fields job.Sum none post word k = none.causes cause.Sum (post, word, k)
+-- the text of a job fits its operation
+takes : (fields : List (List ℕ)) (op : Job) → Neither fields → field fields 0 ≢ codes "drop" → field fields 2 ≡ word_of op → ¬ ¬ Takes op (field fields 3)
+takes fields job.Bytes none job word k = k tt
+takes fields job.Words none job word k = k tt
+takes fields job.Sum none job word k = none.causes cause.Sum (job, word, k)
 
-no-post : (fields : List (List ℕ)) → Neither fields → All IsUtf8 fields → field fields 0 ≢ codes "drop" → field fields 0 ≢ codes "post"
-no-post fields none text no_drop post = whether (length fields ≡ 4) (λ o. elim o [
+-- no line that posts a job has this first field
+no-job : (fields : List (List ℕ)) (verb : List ℕ) (rush : Bool) → Neither fields → All IsUtf8 fields → field fields 0 ≢ codes "drop"
+    → ((id : ℕ) (op : Job) (text : List ℕ) → record_of (job_line rush id op text) ≡ verb ∷ decimal id ∷ word_of op ∷ text ∷ [])
+    → ((id : ℕ) (op : Job) (text : List ℕ) → (id < 2 ^ 32) × IsUtf8 text × Takes op text → IsLine (job_line rush id op text))
+    → field fields 0 ≢ verb
+no-job fields verb rush none text no_drop spelled is_line is = whether (length fields ≡ 4) (λ o. elim o [
   | inl four ↦
       none.causes cause.Id (λ id. none.causes cause.Op (
-        post,
-        λ op. takes fields op.0 none post op.1 (λ fits.
-            none.lines (line.Post id.0 op.0 (field fields 3)) (id.1, text 3 [] (omega (arith, four)), fits)
-            (four-fields fields (codes "post") (decimal id.0) (word_of op.0) (field fields 3) four post id.2 op.1 refl)),
+        no_drop,
+        λ op. takes fields op.0 none no_drop op.1 (λ fits.
+            none.lines (job_line rush id.0 op.0 (field fields 3)) (is_line id.0 op.0 (field fields 3) (id.1, text 3 [] (omega (arith, four)), fits))
+            (four-fields fields verb (decimal id.0) (word_of op.0) (field fields 3) four is id.2 op.1 refl ∙ sym (spelled id.0 op.0 (field fields 3)))),
       ))
   | inr other ↦ none.causes cause.Fields (inr (no_drop, other))
 ])
@@ -67,7 +72,11 @@ no-post fields none text no_drop post = whether (length fields ≡ 4) (λ o. eli
 not-neither : (fields : List (List ℕ)) → ¬ Neither fields
 not-neither fields none = none.causes cause.Utf8 (λ text.
     let no_drop = no-drop fields none in
-    none.causes cause.Verb (no-post fields none text no_drop, no_drop))
+    none.causes cause.Verb (
+      no-job fields (codes "post") false none text no_drop (λ id op t. refl) (λ id op t h. h),
+      no-job fields (codes "rush") true none text no_drop (λ id op t. refl) (λ id op t h. h),
+      no_drop,
+    ))
 
 pub cause-or-line : (fields : List (List ℕ)) → ((why : Cause) → ¬ HasCause fields why) → ¬ ((l : Line) → IsLine l → fields ≢ record_of l)
 cause-or-line fields none lines = not-neither fields (record { causes = λ why. none-applies fields none (suc (rank_of why)) why (omega arith); lines = lines })

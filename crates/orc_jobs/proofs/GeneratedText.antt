@@ -1,5 +1,5 @@
 -- The text of generated lines is a job file of them: no byte of it calls for quotes.
-use Rattle.std.proofs.Common.{◌≡◌, ◌∙◌, ◌+◌, ◌<◌, ◌≤◌, ◌%◌, ◌^◌, ◌++◌, ◌==◌, ◌||◌, All, false, true, List, [], ◌∷◌, ℕ, zero, suc, inl, inr, refl, sym, ap, arith, map, replicate, decimal, codes, rules, append_assoc, append-nil, add-one, length, take, slice_get, Some, flat_map}
+use Rattle.std.proofs.Common.{◌≡◌, ◌∙◌, ◌+◌, ◌<◌, ◌≤◌, ◌%◌, ◌^◌, ◌++◌, ◌==◌, All, false, List, [], ◌∷◌, ℕ, zero, suc, inl, inr, refl, sym, ap, arith, map, replicate, decimal, codes, append_assoc, append-nil, add-one, take, slice_get, Some}
 use Rattle.std.specs.Char.{digit_value}
 use Rattle.std.specs.List.{join_with_byte, list_any}
 use Rattle.std.specs.Str.Parse.{AllDigits}

@@ -35,6 +35,7 @@ good_one lines i l good e =
 
 text-in-record : (l : Line) → text_size l ≤ size_of (record_of l)
 text-in-record (line.Post id op text) = omega arith
+text-in-record (line.Rush id op text) = omega arith
 text-in-record (line.Drop id) = omega arith
 
 texts-in-records : (lines : List Line) → sum_by text_size lines ≤ sizes_of (map record_of lines)

@@ -1,11 +1,12 @@
 -- A file has one reading: a line has no cause, a record one cause and one line, and the first record with a cause one place.
-use Rattle.std.proofs.Common.{◌≡◌, ◌∙◌, ◌<◌, ◌^◌, ◌++◌, ◌⊎◌, All, List, [], ◌∷◌, ℕ, zero, suc, codes, map, refl, arith, ap, ap₂, sym, length, get_or, inl, inr, length-append, IsUtf8, rules, ◌==◌, if◌then◌else◌}
+use Rattle.std.proofs.Common.{◌≡◌, ◌≢◌, ◌∙◌, ◌<◌, ◌^◌, ◌++◌, ◌⊎◌, All, List, [], ◌∷◌, ℕ, zero, suc, codes, map, refl, arith, ap, ap₂, sym, length, get_or, inl, inr, length-append, Bool, true, false, IsUtf8, rules, ◌==◌, if◌then◌else◌}
 use Rattle.std.proofs.lemmas.List.{length-map}
 use Rattle.std.proofs.lemmas.List.Elements.{All-cons, All-head, All-nil, All-tail}
 use Rattle.std.specs.Fmt.{decimal}
 use Rattle.std.proofs.lemmas.Fmt.{IsAscii-decimal, decimal_injective}
-use Rattle.orc_jobs.specs.JobGrammar.{Applies, HasCause, IsFileOf, IsLine, Refuses, rank_of, record_of, word_of}
+use Rattle.orc_jobs.specs.JobGrammar.{Applies, HasCause, IsFileOf, IsLine, Refuses, Takes, rank_of, record_of, word_of}
 use Rattle.std.proofs.lemmas.Str.{IsUtf8-from_ascii}
+use Rattle.orc_jobs.specs.Line.{job_line}
 use Rattle.orc_jobs.specs.Numbers.{IsNumberList}
 use Rattle.orc_jobs.specs.declared.cause.Cause.{Cause}
 use Rattle.orc_jobs.specs.declared.cause.Cause.TheVariants as cause
@@ -29,18 +30,41 @@ IsUtf8-word_of job.Bytes = search rules
 IsUtf8-word_of job.Words = search rules
 IsUtf8-word_of job.Sum = search rules
 
+rush-not-drop : codes "rush" ≡ codes "drop" → ⊥
+rush-not-drop e = let first : 114 ≡ 100 = ap (λ t. get_or t 0 0) e in omega (arith, first)
+
+post-not-rush : codes "post" ≡ codes "rush" → ⊥
+post-not-rush e = let first : 112 ≡ 114 = ap (λ t. get_or t 0 0) e in omega (arith, first)
+
+IsUtf8-rush : IsUtf8 (codes "rush")
+IsUtf8-rush = search rules
+
 IsUtf8-post : IsUtf8 (codes "post")
 IsUtf8-post = search rules
 
 IsUtf8-drop : IsUtf8 (codes "drop")
 IsUtf8-drop = search rules
 
-IsUtf8-record_of : (l : Line) → IsLine l → All IsUtf8 (record_of l)
-IsUtf8-record_of (line.Post id op text) h =
+-- the record of a job, with this verb
+job_record : List ℕ → ℕ → Job → List ℕ → List (List ℕ)
+job_record verb id op text = verb ∷ decimal id ∷ word_of op ∷ text ∷ []
+
+-- the id, operation and text that a record of a job may have
+abbrev IsJob : ℕ → Job → List ℕ → Type 0
+IsJob id op text = (id < 2 ^ 32) × IsUtf8 text × Takes op text
+
+IsUtf8-job : (verb : List ℕ) (id : ℕ) (op : Job) (text : List ℕ) → IsUtf8 verb → IsJob id op text → All IsUtf8 (job_record verb id op text)
+unfolding job_record
+IsUtf8-job verb id op text v h =
     let four = All-cons IsUtf8 text [] h.1 (All-nil IsUtf8) in
     let three = All-cons IsUtf8 (word_of op) (text ∷ []) (IsUtf8-word_of op) four in
     let two = All-cons IsUtf8 (decimal id) (word_of op ∷ text ∷ []) (IsUtf8-decimal id h.0) three in
-    All-cons IsUtf8 (codes "post") (decimal id ∷ word_of op ∷ text ∷ []) IsUtf8-post two
+    All-cons IsUtf8 verb (decimal id ∷ word_of op ∷ text ∷ []) v two
+
+IsUtf8-record_of : (l : Line) → IsLine l → All IsUtf8 (record_of l)
+unfolding job_record
+IsUtf8-record_of (line.Post id op text) h = IsUtf8-job (codes "post") id op text IsUtf8-post h
+IsUtf8-record_of (line.Rush id op text) h = IsUtf8-job (codes "rush") id op text IsUtf8-rush h
 IsUtf8-record_of (line.Drop id) h =
     let two = All-cons IsUtf8 (decimal id) [] (IsUtf8-decimal id h) (All-nil IsUtf8) in
     All-cons IsUtf8 (codes "drop") (decimal id ∷ []) IsUtf8-drop two
@@ -49,27 +73,35 @@ first-byte : {a b : List ℕ} → a ≡ b → get_or a 0 0 ≡ get_or b 0 0
 first-byte e = ap (λ t. get_or t 0 0) e
 
 -- a line that sums has a text of numbers
-sums-numbers : (id : ℕ) (op : Job) (text : List ℕ) → IsLine (line.Post id op text) → word_of op ≡ codes "sum" → IsNumberList text
+sums-numbers : (id : ℕ) (op : Job) (text : List ℕ) → IsJob id op text → word_of op ≡ codes "sum" → IsNumberList text
 sums-numbers id job.Bytes text h e = let bad : 98 ≡ 115 = first-byte e in absurd (omega (arith, bad))
 sums-numbers id job.Words text h e = let bad : 119 ≡ 115 = first-byte e in absurd (omega (arith, bad))
 sums-numbers id job.Sum text h e = h.2
 
+-- no cause applies to the record of a job whose verb is one
+job-not-applies : (verb : List ℕ) (id : ℕ) (op : Job) (text : List ℕ) → IsUtf8 verb → verb ≢ codes "drop" → ¬ ((verb ≢ codes "post") × (verb ≢ codes "rush"))
+    → IsJob id op text → (why : Cause) → ¬ Applies why (job_record verb id op text)
+unfolding job_record
+job-not-applies verb id op text v no_drop known h cause.Fields (inl bad) = no_drop bad.0
+job-not-applies verb id op text v no_drop known h cause.Fields (inr bad) = bad.1 refl
+job-not-applies verb id op text v no_drop known h cause.Utf8 bad = bad (IsUtf8-job verb id op text v h)
+job-not-applies verb id op text v no_drop known h cause.Verb bad = known (bad.0, bad.1)
+job-not-applies verb id op text v no_drop known h cause.Id bad = bad (id, h.0, refl)
+job-not-applies verb id op text v no_drop known h cause.Op bad = bad.1 (op, refl)
+job-not-applies verb id op text v no_drop known h cause.Sum bad = bad.2 (sums-numbers id op text h bad.1)
+
 -- no cause applies to the record of a line
 not-applies : (l : Line) → IsLine l → (why : Cause) → ¬ Applies why (record_of l)
-not-applies (line.Post id op text) h cause.Fields (inl bad) = post-not-drop bad.0
-not-applies (line.Post id op text) h cause.Fields (inr bad) = bad.1 refl
-not-applies (line.Post id op text) h cause.Utf8 bad = bad (IsUtf8-record_of (line.Post id op text) h)
-not-applies (line.Post id op text) h cause.Verb bad = bad.0 refl
-not-applies (line.Post id op text) h cause.Id bad = bad (id, h.0, refl)
-not-applies (line.Post id op text) h cause.Op bad = bad.1 (op, refl)
-not-applies (line.Post id op text) h cause.Sum bad = bad.2 (sums-numbers id op text h bad.1)
+unfolding job_record
+not-applies (line.Post id op text) h why bad = job-not-applies (codes "post") id op text IsUtf8-post post-not-drop (λ no. no.0 refl) h why bad
+not-applies (line.Rush id op text) h why bad = job-not-applies (codes "rush") id op text IsUtf8-rush rush-not-drop (λ no. no.1 refl) h why bad
 not-applies (line.Drop id) h cause.Fields (inl bad) = bad.1 refl
 not-applies (line.Drop id) h cause.Fields (inr bad) = bad.0 refl
 not-applies (line.Drop id) h cause.Utf8 bad = bad (IsUtf8-record_of (line.Drop id) h)
-not-applies (line.Drop id) h cause.Verb bad = bad.1 refl
+not-applies (line.Drop id) h cause.Verb bad = bad.2 refl
 not-applies (line.Drop id) h cause.Id bad = bad (id, h, refl)
-not-applies (line.Drop id) h cause.Op bad = post-not-drop (sym bad.0)
-not-applies (line.Drop id) h cause.Sum bad = post-not-drop (sym bad.0)
+not-applies (line.Drop id) h cause.Op bad = bad.0 refl
+not-applies (line.Drop id) h cause.Sum bad = bad.0 refl
 
 pub no-cause : (l : Line) (why : Cause) → IsLine l → ¬ HasCause (record_of l) why
 no-cause l why h bad = not-applies l h why bad.applies
@@ -122,9 +154,11 @@ same-op job.Sum job.Sum e = refl
 first-field : {a b : List (List ℕ)} → a ≡ b → get_or a 0 [] ≡ get_or b 0 []
 first-field e = ap (λ r. get_or r 0 []) e
 
--- a line is known by its record
-pub same-line : (a b : Line) → IsLine a → IsLine b → record_of a ≡ record_of b → a ≡ b
-same-line (line.Post i o s) (line.Post j p t) h k e =
+-- a job is known by its record
+same-job : (verb : List ℕ) (rush : Bool) (i : ℕ) (o : Job) (s : List ℕ) (j : ℕ) (p : Job) (t : List ℕ) → IsJob i o s → IsJob j p t
+    → job_record verb i o s ≡ job_record verb j p t → job_line rush i o s ≡ job_line rush j p t
+unfolding job_record
+same-job verb rush i o s j p t h k e =
     let ids : decimal i ≡ decimal j = ap (λ r. get_or r 1 []) e in
     let ops : word_of o ≡ word_of p = ap (λ r. get_or r 2 []) e in
     let texts : s ≡ t = ap (λ r. get_or r 3 []) e in
@@ -133,6 +167,16 @@ same-line (line.Post i o s) (line.Post j p t) h k e =
     let id = decimal_injective i j (omega (arith, small)) (omega (arith, small2)) ids in
     let op = same-op o p ops in
     cc (id, op, texts)
+
+-- a line is known by its record
+pub same-line : (a b : Line) → IsLine a → IsLine b → record_of a ≡ record_of b → a ≡ b
+unfolding job_record
+same-line (line.Post i o s) (line.Post j p t) h k e = same-job (codes "post") false i o s j p t h k e
+same-line (line.Rush i o s) (line.Rush j p t) h k e = same-job (codes "rush") true i o s j p t h k e
+same-line (line.Post i o s) (line.Rush j p t) h k e = absurd (post-not-rush (first-field e))
+same-line (line.Rush i o s) (line.Post j p t) h k e = absurd (post-not-rush (sym (first-field e)))
+same-line (line.Rush i o s) (line.Drop j) h k e = absurd (rush-not-drop (first-field e))
+same-line (line.Drop i) (line.Rush j p t) h k e = absurd (rush-not-drop (sym (first-field e)))
 same-line (line.Post i o s) (line.Drop j) h k e = absurd (post-not-drop (first-field e))
 same-line (line.Drop i) (line.Post j p t) h k e = absurd (post-not-drop (sym (first-field e)))
 same-line (line.Drop i) (line.Drop j) h k e =

@@ -57,9 +57,10 @@ lines_from (suc n) id x = line_from id x ∷ lines_from n (id + 1) (behind_line 
 abbrev pub generated : ℕ → ℕ → List Line
 generated seed lines = lines_from lines 0 seed
 
--- the line of a post: its four fields, joined by commas; nothing for a drop
+-- the line of a post: its four fields, joined by commas; nothing for a rush or a drop
 abbrev pub line_text : Line → List ℕ
 line_text (line.Post id op text) = codes "post," ++ decimal id ++ codes "," ++ word_of op ++ codes "," ++ text ++ codes "\n"
+line_text (line.Rush id op text) = []
 line_text (line.Drop id) = []
 
 -- the text of lines

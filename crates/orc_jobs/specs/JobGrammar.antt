@@ -26,6 +26,7 @@ word_of job.Sum = codes "sum"
 -- the record that a line is spelled as
 abbrev pub record_of : Line → List (List ℕ)
 record_of (line.Post id op text) = codes "post" ∷ decimal id ∷ word_of op ∷ text ∷ []
+record_of (line.Rush id op text) = codes "rush" ∷ decimal id ∷ word_of op ∷ text ∷ []
 record_of (line.Drop id) = codes "drop" ∷ decimal id ∷ []
 
 -- an operation takes this text: `sum` takes spelled numbers, and the others any text
@@ -37,6 +38,7 @@ Takes job.Sum text = IsNumberList text
 -- a line that a record with nothing amiss can stand for
 abbrev pub IsLine : Line → Type 0
 IsLine (line.Post id op text) = (id < 2 ^ 32) × IsUtf8 text × Takes op text
+IsLine (line.Rush id op text) = (id < 2 ^ 32) × IsUtf8 text × Takes op text
 IsLine (line.Drop id) = id < 2 ^ 32
 
 -- the bytes are the file of these lines
@@ -57,10 +59,10 @@ IsOpWord text = (op : Job) × (text ≡ word_of op)
 abbrev pub Applies : Cause → List (List ℕ) → Type 0
 Applies cause.Fields fields = ((field fields 0 ≡ codes "drop") × (length fields ≢ 2)) ⊎ ((field fields 0 ≢ codes "drop") × (length fields ≢ 4))
 Applies cause.Utf8 fields = ¬ All IsUtf8 fields
-Applies cause.Verb fields = (field fields 0 ≢ codes "post") × (field fields 0 ≢ codes "drop")
+Applies cause.Verb fields = (field fields 0 ≢ codes "post") × (field fields 0 ≢ codes "rush") × (field fields 0 ≢ codes "drop")
 Applies cause.Id fields = ¬ IsNumber (field fields 1)
-Applies cause.Op fields = (field fields 0 ≡ codes "post") × ¬ IsOpWord (field fields 2)
-Applies cause.Sum fields = (field fields 0 ≡ codes "post") × (field fields 2 ≡ codes "sum") × ¬ IsNumberList (field fields 3)
+Applies cause.Op fields = (field fields 0 ≢ codes "drop") × ¬ IsOpWord (field fields 2)
+Applies cause.Sum fields = (field fields 0 ≢ codes "drop") × (field fields 2 ≡ codes "sum") × ¬ IsNumberList (field fields 3)
 
 -- the order of the causes
 abbrev pub rank_of : Cause → ℕ

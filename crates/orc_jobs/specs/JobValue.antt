@@ -24,4 +24,5 @@ Gives job.Sum text value = (numbers : List ℕ) × SpellsNumbers numbers text ×
 -- the value of a line: what its operation makes of its text, and nothing for a drop
 abbrev pub IsJobValue : Line → ℕ → Type 0
 IsJobValue (line.Post id op text) value = Gives op text value
+IsJobValue (line.Rush id op text) value = Gives op text value
 IsJobValue (line.Drop id) value = value ≡ 0

@@ -1,30 +1,41 @@
--- The lines of a job file: posts of a job, and drops of an id.
-use Rattle.std.specs.Prelude.{ℕ, ◌+◌, List, [], ◌∷◌, length}
+-- The lines of a job file: posts of a job on one of two queues, and drops of an id.
+use Rattle.std.specs.Prelude.{ℕ, ◌+◌, List, [], ◌∷◌, length, Bool, true, false}
+use Rattle.orc_jobs.specs.declared.line.Job.{Job}
 use Rattle.orc_jobs.specs.declared.line.Line.{Line}
-use Rattle.orc_jobs.specs.declared.line.Line.TheVariants.{Post, Drop}
+use Rattle.orc_jobs.specs.declared.line.Line.TheVariants.{Post, Rush, Drop}
+
+-- the line that posts this job, on the rush queue or on the queue
+abbrev pub job_line : Bool → ℕ → Job → List ℕ → Line
+job_line false id op text = Post id op text
+job_line true id op text = Rush id op text
 
 -- the line posts a job
-abbrev pub IsPost : Line → Type 0
-IsPost (Post id op text) = Unit {0}
-IsPost (Drop id) = ⊥
+abbrev pub PostsJob : Line → Type 0
+PostsJob (Post id op text) = Unit {0}
+PostsJob (Rush id op text) = Unit {0}
+PostsJob (Drop id) = ⊥
 
 -- the line drops an id
 abbrev pub IsDrop : Line → Type 0
 IsDrop (Post id op text) = ⊥
+IsDrop (Rush id op text) = ⊥
 IsDrop (Drop id) = Unit {0}
 
 -- the id that a line posts or drops
 abbrev pub id_of : Line → ℕ
 id_of (Post id op text) = id
+id_of (Rush id op text) = id
 id_of (Drop id) = id
 
 -- how many bytes of text a line carries
 abbrev pub text_size : Line → ℕ
 text_size (Post id op text) = length text
+text_size (Rush id op text) = length text
 text_size (Drop id) = 0
 
--- how many of the lines are posts
-abbrev pub posts_in : List Line → ℕ
-posts_in [] = 0
-posts_in (Post id op text ∷ lines) = posts_in lines + 1
-posts_in (Drop id ∷ lines) = posts_in lines
+-- how many of the lines post a job, on either queue
+abbrev pub jobs_in : List Line → ℕ
+jobs_in [] = 0
+jobs_in (Post id op text ∷ lines) = jobs_in lines + 1
+jobs_in (Rush id op text ∷ lines) = jobs_in lines + 1
+jobs_in (Drop id ∷ lines) = jobs_in lines

@@ -10,7 +10,7 @@ pub enum Cause {
     Fields,
     /// Some field isn't UTF-8.
     Utf8,
-    /// The first field is neither `post` nor `drop`.
+    /// The first field is none of `post`, `rush` and `drop`.
     Verb,
     /// The second field isn't a canonical decimal below 2^32.
     Id,

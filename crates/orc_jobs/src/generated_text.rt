@@ -39,7 +39,7 @@ fn push_line(alloc: Global, text: &mut Vec<u8>, line: &Line) -> Result<(), Alloc
             text.push(b'\n')?;
             Ok(())
         }
-        Line::Drop { .. } => Ok(()),
+        Line::Rush { .. } | Line::Drop { .. } => Ok(()),
     }
 }
 

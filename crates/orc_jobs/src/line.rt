@@ -8,9 +8,10 @@ pub enum Job {
     Sum,
 }
 
-/// A line of a job file: it opens an id and posts a job with it, or closes an id.
+/// A line of a job file: it opens an id and posts a job with it, on the queue or on the rush queue, or closes an id.
 #[derive(Drop, Debug)]
 pub enum Line {
     Post { id: u32, op: Job, text: Text },
+    Rush { id: u32, op: Job, text: Text },
     Drop { id: u32 },
 }

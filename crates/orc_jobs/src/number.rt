@@ -38,7 +38,8 @@ pub fn is_number_list(text: &[u8]) -> bool
 /// The sum of the numbers that a text spells.
 pub fn sum_of(text: &[u8]) -> u64
     requires { length text.now ≤ 16777216 }
-    ensures { (numbers : List ℕ) → SpellsNumbers numbers text.now → result ≡ sum numbers }
+    ensures sum { (numbers : List ℕ) → SpellsNumbers numbers text.now → result ≡ sum numbers }
+    ensures small { result < 2 ^ 60 }
 {
     let mut total = 0;
     for piece in text.split(is_space) {

@@ -40,7 +40,8 @@ pub fn line_of(alloc: Global, row: &ByteRecord) -> Result<Line, RecordRefused>
     if !is_text(row) {
         return Err(RecordRefused::Cause(Cause::Utf8));
     }
-    if !is_drop && !is_word(verb, b"post") {
+    let is_rush = is_word(verb, b"rush");
+    if !is_drop && !is_rush && !is_word(verb, b"post") {
         return Err(RecordRefused::Cause(Cause::Verb));
     }
     let Some(id) = number_of(field_of(row, 1)) else {
@@ -57,7 +58,11 @@ pub fn line_of(alloc: Global, row: &ByteRecord) -> Result<Line, RecordRefused>
         return Err(RecordRefused::Cause(Cause::Sum));
     }
     let text = Text::from_slice(alloc, text)?;
-    Ok(Line::Post { id, op, text })
+    if is_rush {
+        Ok(Line::Rush { id, op, text })
+    } else {
+        Ok(Line::Post { id, op, text })
+    }
 }
 
 // The operation of a word.

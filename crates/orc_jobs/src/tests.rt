@@ -1,8 +1,8 @@
-ghost use Rattle.std.specs.Prelude.{◌≡◌, ◌++◌, ◌^◌, ◌∷◌, [], IfOk, codes, length};
+ghost use Rattle.std.specs.Prelude.{◌≡◌, ◌^◌, ◌∷◌, [], codes};
 ghost use Rattle.orc_jobs.specs.GoodLines.{AreGood};
 ghost use Rattle.orc_jobs.specs.JobGrammar.{HasCause, IsFileOf, IsLine, Refuses, record_of, records_of};
 ghost use Rattle.orc_jobs.specs.JobValue.{IsJobValue, word_count};
-ghost use Rattle.orc_jobs.specs.Line.{IsDrop, IsPost, id_of, posts_in, text_size};
+ghost use Rattle.orc_jobs.specs.Line.{IsDrop, PostsJob, id_of, jobs_in, text_size};
 ghost use Rattle.orc_jobs.specs.Numbers.{IsNumber, SpellsNumbers};
 
 use crate::generated::drawn;
@@ -13,16 +13,17 @@ use std::alloc::Global;
 use std::process::Abort;
 use std::test::Fail;
 
-// A post, a drop, and the two of them.
+// A post, a rush, a drop, and lists of them.
 fn lines_by_hand()
-    ensures post { IsPost (Line.Post 7 Job.Bytes (codes "hello")) }
-    ensures not_post { ¬ IsPost (Line.Drop 7) }
+    ensures post { PostsJob (Line.Post 7 Job.Bytes (codes "hello")) }
+    ensures rush { PostsJob (Line.Rush 7 Job.Bytes (codes "hello")) }
+    ensures not_post { ¬ PostsJob (Line.Drop 7) }
     ensures drop { IsDrop (Line.Drop 7) }
-    ensures not_drop { ¬ IsDrop (Line.Post 7 Job.Bytes (codes "hello")) }
+    ensures not_drop { ¬ IsDrop (Line.Rush 7 Job.Bytes (codes "hello")) }
     ensures id { id_of (Line.Drop 7) ≡ 7 }
     ensures size { text_size (Line.Post 7 Job.Bytes (codes "hello")) ≡ 5 }
     ensures none { text_size (Line.Drop 7) ≡ 0 }
-    ensures posts { posts_in (Line.Drop 7 ∷ Line.Post 7 Job.Sum (codes "1") ∷ Line.Drop 7 ∷ []) ≡ 1 }
+    ensures jobs { jobs_in (Line.Drop 7 ∷ Line.Post 7 Job.Sum (codes "1") ∷ Line.Rush 8 Job.Sum (codes "2") ∷ []) ≡ 2 }
 {}
 
 fn numbers_by_hand()
@@ -38,6 +39,7 @@ fn numbers_by_hand()
 fn records_by_hand()
     ensures records { records_of (codes "post,7,sum,1 2\n\ndrop,7") ≡ (codes "post" ∷ codes "7" ∷ codes "sum" ∷ codes "1 2" ∷ []) ∷ (codes "drop" ∷ codes "7" ∷ []) ∷ [] }
     ensures post { record_of (Line.Post 7 Job.Words (codes "a")) ≡ codes "post" ∷ codes "7" ∷ codes "words" ∷ codes "a" ∷ [] }
+    ensures rush { record_of (Line.Rush 7 Job.Bytes (codes "bb")) ≡ codes "rush" ∷ codes "7" ∷ codes "bytes" ∷ codes "bb" ∷ [] }
     ensures drop { record_of (Line.Drop 7) ≡ codes "drop" ∷ codes "7" ∷ [] }
     ensures file { IsFileOf (Line.Drop 7 ∷ []) (codes "drop,7\n") }
     ensures other { ¬ IsFileOf (Line.Drop 8 ∷ []) (codes "drop,7\n") }
@@ -57,6 +59,7 @@ fn values_by_hand()
     ensures words { word_count (codes "  a bc ") ≡ 2 }
     ensures none { word_count (codes "  ") ≡ 0 }
     ensures bytes { IsJobValue (Line.Post 7 Job.Bytes (codes "hello")) 5 }
+    ensures rush { IsJobValue (Line.Rush 2 Job.Bytes (codes "bb")) 2 }
     ensures other { ¬ IsJobValue (Line.Post 7 Job.Bytes (codes "hello")) 4 }
     ensures drop { IsJobValue (Line.Drop 7) 0 }
     ensures empty { AreGood [] }
@@ -102,11 +105,15 @@ fn is_refused<R: Abort>(rt: &R, alloc: Global, record: &[u8], why: Cause) -> Res
 
 #[test]
 fn reads_lines(rt: HostRuntime) -> Result<(), Fail> {
-    let files: [(&[u8], &[u64]); 14] = [
+    let files: [(&[u8], &[u64]); 15] = [
         (b"", &[]),
         (
             b"post,7,bytes,hello\npost,9,sum,1 2 3\ndrop,9\npost,7,words,a b\ndrop,8\n",
             &[5, 6, 0, 2, 0],
+        ),
+        (
+            b"post,1,bytes,a\nrush,2,bytes,bb\ndrop,1\nrush,1,sum,3 4\n",
+            &[1, 2, 0, 7],
         ),
         (b"post,4294967295,bytes,x", &[1]),
         (b"post,1,bytes,\npost,1,words,\npost,1,sum,", &[0, 0, 0]),
@@ -136,7 +143,7 @@ fn reads_lines(rt: HostRuntime) -> Result<(), Fail> {
 
 #[test]
 fn tells_the_first_cause(rt: HostRuntime) -> Result<(), Fail> {
-    let records: [(&[u8], Cause); 30] = [
+    let records: [(&[u8], Cause); 38] = [
         (b"drop", Cause::Fields),
         (b"drop,1,2", Cause::Fields),
         (b"post,1,bytes", Cause::Fields),
@@ -167,6 +174,14 @@ fn tells_the_first_cause(rt: HostRuntime) -> Result<(), Fail> {
         (b"post,1,sum,1,2", Cause::Fields),
         (b"post,1,sum,4294967296", Cause::Sum),
         (b"post,1,sum,1\t2", Cause::Sum),
+        (b"rush,2", Cause::Fields),
+        (b"rush,1,bytes,x,y", Cause::Fields),
+        (b"rush,1,bytes,\xff", Cause::Utf8),
+        (b"Rush,1,bytes,x", Cause::Verb),
+        (b"rush,01,bytes,x", Cause::Id),
+        (b"rush,1,count,x", Cause::Op),
+        (b"rush,1,sum,1  2", Cause::Sum),
+        (b"rush,1,drop,", Cause::Op),
     ];
     for (record, why) in records {
         is_refused(&rt, rt.alloc(), record, why)?;
@@ -239,7 +254,7 @@ fn keeps_lists(rt: HostRuntime) -> Result<(), Fail> {
             assert_eq!(rt; *op, Job::Words);
             assert_eq!(rt; text.bytes(), b"hi".as_slice());
         }
-        Line::Drop { .. } => assert!(rt; false, "a post was kept"),
+        Line::Rush { .. } | Line::Drop { .. } => assert!(rt; false, "a post was kept"),
     }
     Ok(())
 }

@@ -1,4 +1,4 @@
-ghost use Rattle.std.specs.Prelude.{◌≡◌, ◌==◌, ◌&&◌, ◌∷◌, [], ℕ, not};
+ghost use Rattle.std.specs.Prelude.{◌≡◌, ◌==◌, ◌&&◌, ◌∷◌, ◌^◌, ◌<◌, ◌≤◌, [], ℕ, length, not};
 ghost use Rattle.orc_jobs.specs.GoodLines.{AreGood};
 ghost use Rattle.orc_jobs.specs.JobValue.{IsJobValue, word_count};
 
@@ -10,10 +10,11 @@ use crate::{Job, Line};
 pub fn job_value(line: &Line) -> u64
     requires { AreGood (line.now ∷ []) }
     ensures value { IsJobValue line.now result }
+    ensures small { result < 2 ^ 60 }
     ensures only { (value : ℕ) → IsJobValue line.now value → value ≡ result }
 {
     match line {
-        Line::Post { op, text, .. } => match op {
+        Line::Post { op, text, .. } | Line::Rush { op, text, .. } => match op {
             Job::Bytes => text.len() as u64,
             Job::Words => words_in(text.bytes()),
             Job::Sum => sum_of(text.bytes()),
@@ -24,7 +25,8 @@ pub fn job_value(line: &Line) -> u64
 
 // How many words a text has, which spaces part.
 fn words_in(text: &[u8]) -> u64
-    ensures { result ≡ word_count text.now }
+    ensures count { result ≡ word_count text.now }
+    ensures few { result ≤ length text.now }
 {
     let mut words = 0;
     let mut before = b' ';

@@ -1,5 +1,5 @@
 -- Runs of lines that post numbered jobs: no reply is Busy; without takers none is Void; and where none is refused, every job is done.
-use Rattle.std.proofs.Common.{◌≡◌, ◌≢◌, ◌∙◌, ◌≤◌, ◌<◌, ◌++◌, ◌∷◌, ◌==◌, ◌⊎◌, List, [], ℕ, zero, suc, true, false, filter, length, map, ap}
+use Rattle.std.proofs.Common.{◌≡◌, ◌≢◌, ◌∙◌, ◌≤◌, ◌<◌, ◌++◌, ◌∷◌, ◌==◌, ◌⊎◌, Bool, List, [], ℕ, zero, suc, true, false, cond, filter, length, map, ap}
 use Rattle.std.proofs.Common.{arith, inl, inr, refl, subst, sym, take, slice_get, Some, flat_map, get_or, append-nil}
 use Rattle.std.specs.List.{AllByRecursion, IsDistinct, list_any, range_with_len}
 use Rattle.std.specs.List.Sorted.{IsPermutation}
@@ -21,16 +21,17 @@ use Rattle.orc_jobs.specs.declared.line.Job.{Job}
 use Rattle.orc_jobs.specs.declared.line.Line.{Line}
 use Rattle.orc_jobs.specs.declared.line.Line.TheVariants as line
 use Rattle.orc_jobs.specs.JobValue.{IsJobValue}
+use Rattle.orc_jobs.specs.Line.{job_line}
 use Rattle.orc_board.specs.declared.replies.PostReply.{PostReply}
 use Rattle.orc_board.specs.declared.replies.PostWord.{PostWord}
 use Rattle.orc_board.specs.declared.replies.PostWord.TheVariants as word
 use Rattle.orc_board.specs.declared.replies.TakeReply.{TakeReply}
 use Rattle.orc_board.specs.declared.replies.TakeWord.{TakeWord}
 use Rattle.orc_board.specs.declared.replies.TakeWord.TheVariants as took
-use Rattle.orc_board.specs.Stretches.{Row, View}
-use Rattle.orc_board.specs.Table.{HasValue, JobRow, answer_of}
+use Rattle.orc_board.specs.Stretches.{Row, Share, View}
+use Rattle.orc_board.specs.Table.{HasValue, IsWordOf, JobPart, JobRow, answer_of}
 use Rattle.orc_board.specs.Follows.{Pointwise, TookRow, by_key, taker_agent}
-use Rattle.orc_board.specs.Reportable.{IsClaim, claim_of, posted_by, posted_of}
+use Rattle.orc_board.specs.Reportable.{IsClaim, claim_of, is_side, posted_by, posted_of, takes_with}
 use Rattle.orc_board.specs.Runs.{Ran}
 use Rattle.orc_board.proofs.ListFacts.{AllByRecursion-append, AllByRecursion-filter, AllByRecursion-left, AllByRecursion-map, AllByRecursion-right, eq-false}
 use Rattle.orc_board.proofs.ListFacts.{eq-no, eq-true, filter-none}
@@ -39,7 +40,7 @@ use Rattle.orc_report.specs.AllDone.{AreJobsOf, AreNumbered, IsJobOf, NoneRefuse
 use Rattle.orc_report.specs.Summary.{done_as, done_in, done_jobs}
 use Rattle.orc_report.proofs.KeptKeys.{NotAdded, NotBusy, NotMissed, NotRemoved, legal-behind, never-added, never-busy, never-missed}
 use Rattle.orc_report.proofs.PositionOrder.{all_of, every_at}
-use Rattle.orc_report.proofs.RunEntries.{PostSays, TakeSays, entries_of, numbered_row, post_says, posts_back, take_says, takes_back}
+use Rattle.orc_report.proofs.RunEntries.{PostSays, TakeSays, entries_of, numbered_job, numbered_row, post_says, posts_back, take_says, takes_back}
 
 abbrev In : {X : Type 0} → X → List X → Type 0
 In x [] = ⊥
@@ -139,33 +140,36 @@ take_not_removed i j w (Removed a id true) void h = λ is. let no : ⊥ = cc (h.
 take_not_removed i j w (Removed a id false) void h = tt
 take_not_removed i j w (Asked a id answer) void h = tt
 
--- what a row says back
-busy_row : (i p line id : ℕ) (w : PostWord) (row : Row) → id ≡ line → JobRow p line id w row → AllByRecursion (NotBusy i) row.set.own → w ≡ word.Busy → line ≢ i
+-- what the row of a job of the queue says back
+busy_row : (i p line id : ℕ) (w : PostWord) (row : Row) → id ≡ line → JobRow false p line id w row → AllByRecursion (NotBusy i) row.set.own → w ≡ word.Busy
+    → line ≢ i
 busy_row i p line id w row e h a is at =
-    let b : JobRow p line id word.Busy row = subst (λ (x : PostWord). JobRow p line id x row) is h in
-    let c = subst (λ (x : Row). AllByRecursion (NotBusy i) x.set.own) b a in
+    let b : JobPart p line id word.Busy (row.queues false) row.set = subst (λ (x : PostWord). JobPart p line id x (row.queues false) row.set) is h.part in
+    let c = subst (λ (x : Share SetEntry ListRefused). AllByRecursion (NotBusy i) x.own) b.1 a in
     c.0 (e ∙ at)
 
-posted_row : (i p line id : ℕ) (w : PostWord) (row : Row) → 1 ≤ p → id ≡ line → JobRow p line id w row
+posted_row : (i p line id : ℕ) (w : PostWord) (row : Row) → 1 ≤ p → id ≡ line → JobRow false p line id w row
     → AllByRecursion (λ e. agent_of_set_entry e ≢ 0 → NotAdded i e) row.set.own → (at : ℕ) → w ≡ word.Posted at → line ≢ i
 posted_row i p line id w row low e h a at is same_line =
-    let b : JobRow p line id (word.Posted at) row = subst (λ (x : PostWord). JobRow p line id x row) is h in
-    let c = subst (λ (x : Row). AllByRecursion (λ e. agent_of_set_entry e ≢ 0 → NotAdded i e) x.set.own) b a in
+    let b : JobPart p line id (word.Posted at) (row.queues false) row.set =
+    subst (λ (x : PostWord). JobPart p line id x (row.queues false) row.set) is h.part in
+    let c = subst (λ (x : Share SetEntry ListRefused). AllByRecursion (λ e. agent_of_set_entry e ≢ 0 → NotAdded i e) x.own) b.1 a in
     c.0 (λ z. omega (arith, low, z)) (e ∙ same_line)
 
 void_row : (lines : List Line) → AreNumbered lines → (i t : ℕ) (r : TakeReply) (row : Row) → TookRow lines t 0 r row
     → AllByRecursion (λ e. agent_of_set_entry e ≡ 0 → NotMissed i e) row.set.own → r.what ≡ took.Void → r.line ≢ i
 void_row lines num i t r row z a void same_line =
-    let id_is : z.table.id ≡ r.line = num r.line (line.Post z.table.id z.table.job.op z.table.job.text) z.table.job.is in
+    let id_is : z.table.id ≡ r.line = (numbered_job lines num r.rush r.line z.table.id z.table.job).1 in
     let c : AllByRecursion (λ e. agent_of_set_entry e ≡ 0 → NotMissed i e) (Removed 0 z.table.id (answer_of r.what) ∷ []) =
-    subst (λ (x : Row). AllByRecursion (λ e. agent_of_set_entry e ≡ 0 → NotMissed i e) x.set.own) z.table.is a in
+    subst (λ (x : Share SetEntry ListRefused). AllByRecursion (λ e. agent_of_set_entry e ≡ 0 → NotMissed i e) x.own) z.table.set a in
     let d : NotMissed i (Removed 0 z.table.id false) = subst (λ (w : TakeWord). NotMissed i (Removed 0 z.table.id (answer_of w))) void (c.0 refl) in
     d (id_is ∙ same_line)
 
 -- a pair of line and position among those that were posted
-in_posted_by : (l : ℕ) (w : PostWord) (x : ℕ × ℕ) (xs : List (ℕ × ℕ)) → In x (posted_by l w ++ xs) → ((l ≡ x.0) × (w ≡ word.Posted x.1)) ⊎ In x xs
+in_posted_by : (l : ℕ) (w : PostWord) (x : ℕ × ℕ) (xs : List (ℕ × ℕ)) → In x (posted_by false l w ++ xs) → ((l ≡ x.0) × (w ≡ word.Posted x.1)) ⊎ In x xs
 in_posted_by l (word.Posted at) x xs (inl e) = inl (ap (λ (z : ℕ × ℕ). z.0) e, ap (λ (z : ℕ × ℕ). word.Posted z.1) e)
 in_posted_by l (word.Posted at) x xs (inr i) = inr i
+in_posted_by l (word.Rushed at) x xs i = inr i
 in_posted_by l word.Busy x xs i = inr i
 in_posted_by l word.NoNode x xs i = inr i
 in_posted_by l word.Positions x xs i = inr i
@@ -173,9 +177,9 @@ in_posted_by l word.Spent x xs i = inr i
 in_posted_by l word.Dropped x xs i = inr i
 in_posted_by l word.Unknown x xs i = inr i
 
-in_posted : (x : ℕ × ℕ) (rs : List PostReply) → In x (posted_of rs) → (r : PostReply) × In r rs × (r.line ≡ x.0) × (r.what ≡ word.Posted x.1)
+in_posted : (x : ℕ × ℕ) (rs : List PostReply) → In x (posted_of false rs) → (r : PostReply) × In r rs × (r.line ≡ x.0) × (r.what ≡ word.Posted x.1)
 in_posted x [] i = absurd i
-in_posted x (r ∷ rs) i = elim (in_posted_by r.line r.what x (posted_of rs) i) [
+in_posted x (r ∷ rs) i = elim (in_posted_by r.line r.what x (posted_of false rs) i) [
   | inl h ↦ (r, inl refl, h.0, h.1)
   | inr j ↦ let (y, there, l, w) = in_posted x rs j in (y, inr there, l, w)
 ]
@@ -185,13 +189,14 @@ claim_lines [] = refl
 claim_lines (r ∷ rs) = ap (λ z. r.line ∷ z) (claim_lines rs)
 
 posted_lines : (rs : List PostReply) → AllByRecursion (λ (r : PostReply). (at : ℕ) × (r.what ≡ word.Posted at)) rs
-    → map (λ (x : ℕ × ℕ). x.0) (posted_of rs) ≡ map (λ (r : PostReply). r.line) rs
+    → map (λ (x : ℕ × ℕ). x.0) (posted_of false rs) ≡ map (λ (r : PostReply). r.line) rs
 posted_lines [] h = refl
 posted_lines (r ∷ rs) h = rw h.0.1 (ap (λ z. r.line ∷ z) (posted_lines rs h.1))
 
 -- the words of a reply to a post
 abbrev IsJobWord : PostWord → Type 0
 IsJobWord (word.Posted at) = Unit {0}
+IsJobWord (word.Rushed at) = ⊥
 IsJobWord word.Busy = Unit {0}
 IsJobWord word.NoNode = Unit {0}
 IsJobWord word.Positions = Unit {0}
@@ -199,17 +204,20 @@ IsJobWord word.Spent = Unit {0}
 IsJobWord word.Dropped = ⊥
 IsJobWord word.Unknown = ⊥
 
-job_word : (p i id : ℕ) (w : PostWord) (row : Row) → JobRow p i id w row → IsJobWord w
-job_word p i id (word.Posted at) row h = tt
-job_word p i id word.Busy row h = tt
-job_word p i id word.NoNode row h = tt
-job_word p i id word.Positions row h = tt
-job_word p i id word.Spent row h = tt
-job_word p i id word.Dropped row h = h
-job_word p i id word.Unknown row h = h
+job_word : (p i id : ℕ) (w : PostWord) (queue : Share QueueEntry QueueRefused) (set : Share SetEntry ListRefused) → IsWordOf false w
+    → JobPart p i id w queue set → IsJobWord w
+job_word p i id (word.Posted at) queue set of h = tt
+job_word p i id (word.Rushed at) queue set of h = of
+job_word p i id word.Busy queue set of h = tt
+job_word p i id word.NoNode queue set of h = tt
+job_word p i id word.Positions queue set of h = tt
+job_word p i id word.Spent queue set of h = tt
+job_word p i id word.Dropped queue set of h = h
+job_word p i id word.Unknown queue set of h = h
 
 only_posted : (w : PostWord) → IsJobWord w → w ≢ word.Busy → w ≢ word.NoNode → w ≢ word.Positions → w ≢ word.Spent → (at : ℕ) × (w ≡ word.Posted at)
 only_posted (word.Posted at) j a b c d = (at, refl)
+only_posted (word.Rushed at) j a b c d = absurd j
 only_posted word.Busy j a b c d = absurd (a refl)
 only_posted word.NoNode j a b c d = absurd (b refl)
 only_posted word.Positions j a b c d = absurd (c refl)
@@ -226,15 +234,24 @@ done_word lines i l (took.Done value) id op text post is not_void h =
     let same_line : h.0 ≡ line.Post id op text = cc (there, post) in
     rw (is, post) ((refl, subst (λ (x : Line). IsJobValue x value) same_line h.2), tt)
 
-done_one : (lines : List Line) (r : TakeReply) → IsClaim lines r → r.what ≢ took.Void
+done_one : (lines : List Line) → AreNumbered lines → (r : TakeReply) → IsClaim lines r → r.what ≢ took.Void
     → (l : Line) × (slice_get lines r.line ≡ Some l) × Pointwise IsJobOf (l ∷ []) (done_in lines r)
-done_one lines r claim not_void =
+done_one lines num r claim not_void =
     let l : Line = line.Post claim.id claim.job.op claim.job.text in
-    (l, claim.job.is, done_word lines r.line l r.what claim.id claim.job.op claim.job.text refl claim.job.is not_void claim.value)
+    let on_queue : r.rush ≡ false = (numbered_job lines num r.rush r.line claim.id claim.job).0 in
+    let is : slice_get lines r.line ≡ Some l =
+    claim.job.is ∙ ap (λ (b : Bool). Some (job_line b claim.id claim.job.op claim.job.text)) on_queue in
+    (l, is, done_word lines r.line l r.what claim.id claim.job.op claim.job.text refl is not_void claim.value)
 
-module _ {A B : Type 0} (q : View A QueueEntry QueueRefused) (s : View B SetEntry ListRefused) (lines : List Line) (posters takers : ℕ)
-    (posts : List PostReply) (takes : List TakeReply) (k : List A) (n : List B)
-    (none : s.history [] ≡ []) (some : 1 ≤ posters) (num : AreNumbered lines) (ran : Ran q s lines posters takers posts takes k n) where
+-- takes that are all without rush
+all_without : (takes : List TakeReply) → AllByRecursion (λ (r : TakeReply). r.rush ≡ false) takes → takes_with false takes ≡ takes
+all_without [] h = refl
+all_without (r ∷ rs) h =
+    ap (λ (b : Bool). cond (is_side false b) (r ∷ takes_with false rs) (takes_with false rs)) h.0 ∙ ap (λ (z : List TakeReply). r ∷ z) (all_without rs h.1)
+
+module _ {A B : Type 0} (qs : Bool → View A QueueEntry QueueRefused) (s : View B SetEntry ListRefused) (lines : List Line) (posters takers : ℕ)
+    (posts : List PostReply) (takes : List TakeReply) (k : Bool → List A) (n : List B)
+    (none : s.history [] ≡ []) (some : 1 ≤ posters) (num : AreNumbered lines) (ran : Ran qs s lines posters takers posts takes k n) where
   abbrev post_line : PostReply → ℕ
   post_line r = r.line
 
@@ -253,14 +270,24 @@ module _ {A B : Type 0} (q : View A QueueEntry QueueRefused) (s : View B SetEntr
       IsDistinct-IsPermutation same flips (range_with_len 0 (length lines)) (map post_line posts)
       (IsPermutation-sym (map post_line posts) (range_with_len 0 (length lines)) one_reply) (numbers_differ (length lines))
 
+  -- no job is one of the rush queue
+  without_rush : takes_with false takes ≡ takes
+  without_rush =
+      all_without takes
+      (AllByRecursion-map (IsClaim lines) (λ (r : TakeReply). r.rush ≡ false) (λ r c. (numbered_job lines num r.rush r.line c.id c.job).0) takes
+      ran.reportable.claimed)
+
+  claims : IsPermutation (posted_of false posts) (map claim_of takes)
+  claims = subst (λ (z : List TakeReply). IsPermutation (posted_of false posts) (map claim_of z)) without_rush (ran.reportable.queues false).claims
+
   -- and each that was posted one of a taker
-  same_lines : IsPermutation (map first (posted_of posts)) (map take_line takes)
+  same_lines : IsPermutation (map first (posted_of false posts)) (map take_line takes)
   same_lines =
-      subst (λ (z : List ℕ). IsPermutation (map first (posted_of posts)) z) (claim_lines takes)
-      (IsPermutation-map first (posted_of posts) (map claim_of takes) ran.reportable.claims)
+      subst (λ (z : List ℕ). IsPermutation (map first (posted_of false posts)) z) (claim_lines takes)
+      (IsPermutation-map first (posted_of false posts) (map claim_of takes) claims)
 
   takes_differ : IsDistinct same (map take_line takes)
-  takes_differ = IsDistinct-IsPermutation same flips (map first (posted_of posts)) (map take_line takes) same_lines ran.reportable.different
+  takes_differ = IsDistinct-IsPermutation same flips (map first (posted_of false posts)) (map take_line takes) same_lines (ran.reportable.queues false).different
 
   -- no reply is Busy, for each id is posted once
   pub no_busy : (x : PostReply) → In x posts → x.what ≢ word.Busy
@@ -268,7 +295,7 @@ module _ {A B : Type 0} (q : View A QueueEntry QueueRefused) (s : View B SetEntr
       let P : PostReply → Type 0 = λ r. r.line ≡ x.line → r.what ≡ word.Busy in
       let Back : PostReply → Type 0 = λ r. r.what ≡ word.Busy → r.line ≢ x.line in
       let not_added : AllByRecursion (NotAdded x.line) (s.history n) =
-      entries_of q s lines posters takers posts takes k n none ran.follows.workers P (λ r. Unit {0}) (NotAdded x.line)
+      entries_of qs s lines posters takers posts takes k n none ran.follows.workers P (λ r. Unit {0}) (NotAdded x.line)
       (λ p r row z h. AllByRecursion-map (PostSays r.line r.what) (NotAdded x.line) (λ e says. post_not_added x.line r.line r.what e h says) row.set.own
       (post_says lines num p r row z))
       (λ t a r row z h. AllByRecursion-map (TakeSays r.line r.what) (NotAdded x.line) (λ e says. take_not_added x.line r.line r.what e says) row.set.own
@@ -276,7 +303,7 @@ module _ {A B : Type 0} (q : View A QueueEntry QueueRefused) (s : View B SetEntr
       (for_all P posts (λ y j e. ap (λ (r : PostReply). r.what) (one_with_key post_line posts posts_differ x y i j e) ∙ busy))
       (for_all (λ r. Unit {0}) takes (λ y j. tt)) in
       let back : AllByRecursion Back posts =
-      posts_back q s lines posters takers posts takes k n none ran.follows.workers Back (NotBusy x.line)
+      posts_back qs s lines posters takers posts takes k n none ran.follows.workers Back (NotBusy x.line)
       (λ p low r row z a. let (id, e, h) = numbered_row lines num p r row z in busy_row x.line p r.line id r.what row e h a)
       (never-busy x.line [] (s.history n) ran.set_legal refl not_added) in
       of_all Back x posts back i busy refl
@@ -284,13 +311,13 @@ module _ {A B : Type 0} (q : View A QueueEntry QueueRefused) (s : View B SetEntr
   -- without takers no reply is Void
   pub no_void : takers ≡ 0 → (x : TakeReply) → In x takes → x.what ≢ took.Void
   no_void zero_takers x i void =
-      let here : In (claim_of x) (posted_of posts) =
-      in_shuffled (claim_of x) (posted_of posts) (map claim_of takes) ran.reportable.claims (in_map claim_of x takes i) in
+      let here : In (claim_of x) (posted_of false posts) =
+      in_shuffled (claim_of x) (posted_of false posts) (map claim_of takes) claims (in_map claim_of x takes i) in
       let (y, j, line_is, posted) = in_posted (claim_of x) posts here in
       let P : PostReply → Type 0 = λ r. r.line ≡ x.line → (at : ℕ) × (r.what ≡ word.Posted at) in
       let T : TakeReply → Type 0 = λ r. r.line ≡ x.line → r.what ≡ took.Void in
       let not_removed : AllByRecursion (NotRemoved x.line) (s.history n) =
-      entries_of q s lines posters takers posts takes k n none ran.follows.workers P T (NotRemoved x.line)
+      entries_of qs s lines posters takers posts takes k n none ran.follows.workers P T (NotRemoved x.line)
       (λ p r row z h. AllByRecursion-map (PostSays r.line r.what) (NotRemoved x.line) (λ e says. post_not_removed x.line r.line r.what e h says) row.set.own
       (post_says lines num p r row z))
       (λ t a r row z h. AllByRecursion-map (TakeSays r.line r.what) (NotRemoved x.line) (λ e says. take_not_removed x.line r.line r.what e h says) row.set.own
@@ -312,7 +339,7 @@ module _ {A B : Type 0} (q : View A QueueEntry QueueRefused) (s : View B SetEntr
             (AllByRecursion-map (λ e. agent_of_set_entry e ≢ 0) G (λ e ne is. absurd (ne is)) z.front z.others)
             (AllByRecursion-map (NotMissed x.line) G (λ e h is. h) z.back later)) in
             let back : AllByRecursion Back takes =
-            takes_back q s lines posters takers posts takes k n none ran.follows.workers Back G
+            takes_back qs s lines posters takers posts takes k n none ran.follows.workers Back G
             (λ t high r row w a.
             let t_is : t ≡ 0 = omega (arith, zero_takers, high) in
             void_row lines num x.line 0 r row (subst (λ (u : ℕ). TookRow lines u (taker_agent posters u) r row) t_is w) a)
@@ -329,7 +356,7 @@ module _ {A B : Type 0} (q : View A QueueEntry QueueRefused) (s : View B SetEntr
             (AllByRecursion-map (NotAdded x.line) G (λ e h ne. h) z.front earlier)
             (AllByRecursion-map (λ e. agent_of_set_entry e ≡ 0) G (λ e is ne. absurd (ne is)) z.back z.zeros)) in
             let back : AllByRecursion Back posts =
-            posts_back q s lines posters takers posts takes k n none ran.follows.workers Back G
+            posts_back qs s lines posters takers posts takes k n none ran.follows.workers Back G
             (λ p low r row w a. let (id, e, h) = numbered_row lines num p r row w in posted_row x.line p r.line id r.what row low e h a)
             all in
             of_all Back y posts back j x.at posted line_is
@@ -342,8 +369,8 @@ module _ {A B : Type 0} (q : View A QueueEntry QueueRefused) (s : View B SetEntr
     all_posted : AllByRecursion (λ (r : PostReply). (at : ℕ) × (r.what ≡ word.Posted at)) posts
     all_posted =
         let words : AllByRecursion (λ (r : PostReply). IsJobWord r.what) posts =
-        posts_back q s lines posters takers posts takes k n none ran.follows.workers (λ r. IsJobWord r.what) (λ e. Unit {0})
-        (λ p low r row z a. let (id, e, h) = numbered_row lines num p r row z in job_word p r.line id r.what row h)
+        posts_back qs s lines posters takers posts takes k n none ran.follows.workers (λ r. IsJobWord r.what) (λ e. Unit {0})
+        (λ p low r row z a. let (id, e, h) = numbered_row lines num p r row z in job_word p r.line id r.what (row.queues false) row.set h.word h.part)
         (for_all (λ e. Unit {0}) (s.history n) (λ e j. tt)) in
         for_all (λ (r : PostReply). (at : ℕ) × (r.what ≡ word.Posted at)) posts
         (λ r i.
@@ -374,7 +401,7 @@ module _ {A B : Type 0} (q : View A QueueEntry QueueRefused) (s : View B SetEntr
         let done : r.what ≢ took.Void =
         (subst (AllByRecursion (λ (x : TakeReply). x.what ≢ took.Void)) alone
         (AllByRecursion-filter (λ (x : TakeReply). x.what ≢ took.Void) (λ (x : TakeReply). x.line == m) takes not_void)).0 in
-        let (l, found, job) = done_one lines r claim done in
+        let (l, found, job) = done_one lines num r claim done in
         let line_there : slice_get lines m ≡ Some l = subst (λ (i : ℕ). slice_get lines i ≡ Some l) line_is found in
         let longer : take (suc m) lines ≡ take m lines ++ l ∷ [] =
         take-suc lines m l low ∙ ap (λ (z : Line). take m lines ++ z ∷ []) (get_or_from_slice_get lines m l l line_there) in

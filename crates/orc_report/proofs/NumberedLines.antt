@@ -22,6 +22,10 @@ one_job (line.Post id op text) x y h k =
     let ops : x.0 ≡ y.0 = h.0 ∙ sym k.0 in
     let values : x.1 ≡ y.1 = IsJobValue-unique (line.Post id op text) x.1 y.1 h.1 k.1 in
     λ i. (ops i, values i)
+one_job (line.Rush id op text) x y h k =
+    let ops : x.0 ≡ y.0 = h.0 ∙ sym k.0 in
+    let values : x.1 ≡ y.1 = IsJobValue-unique (line.Rush id op text) x.1 y.1 h.1 k.1 in
+    λ i. (ops i, values i)
 one_job (line.Drop id) x y h k = absurd h
 
 -- the jobs of lines are one list

@@ -1,5 +1,5 @@
 -- Replies that can be reported have lines, and positions below their number.
-use Rattle.std.proofs.Common.{◌≡◌, ℕ, zero, suc, ◌+◌, ◌≤◌, ◌<◌, List, [], ◌∷◌, length, map, refl, ap, sym, ◌∙◌, subst, arith}
+use Rattle.std.proofs.Common.{◌≡◌, Bool, ℕ, zero, suc, ◌+◌, ◌≤◌, ◌<◌, List, [], ◌∷◌, length, map, refl, ap, sym, ◌∙◌, subst, arith}
 use Rattle.std.specs.List.{range_with_len, AllByRecursion}
 use Rattle.std.specs.List.Sorted.{IsPermutation}
 use Rattle.std.proofs.lemmas.List.{length-map}
@@ -8,8 +8,8 @@ use Rattle.std.proofs.lemmas.Option.{slice_get_within}
 use Rattle.orc_jobs.specs.declared.line.Line.{Line}
 use Rattle.orc_board.specs.declared.replies.PostReply.{PostReply}
 use Rattle.orc_board.specs.declared.replies.TakeReply.{TakeReply}
-use Rattle.orc_board.specs.Reportable.{AreReportable, IsClaim, claim_of, posted_of}
-use Rattle.orc_board.proofs.ListFacts.{AllByRecursion-map}
+use Rattle.orc_board.specs.Reportable.{AreReportableOf, IsClaim, claim_of, is_side, posted_of, takes_with}
+use Rattle.orc_board.proofs.ListFacts.{AllByRecursion-filter, AllByRecursion-map}
 use Rattle.orc_report.proofs.PositionOrder.{every_at, all_of, AllByRecursion-by_key}
 use Rattle.orc_report.specs.Report.{by_position}
 
@@ -25,23 +25,32 @@ map-claims : (takes : List TakeReply) → map (λ (x : ℕ × ℕ). x.1) (map cl
 map-claims [] = refl
 map-claims (r ∷ rs) = ap (λ z. r.at ∷ z) (map-claims rs)
 
-pub positions_below : (lines : List Line) (posts : List PostReply) (takes : List TakeReply) → AreReportable lines posts takes
-    → AllByRecursion (λ (r : TakeReply). r.at < length takes) takes
-positions_below lines posts takes h =
-    let n : ℕ = length (posted_of posts) in
-    let moved : IsPermutation (range_with_len 0 n) (map (λ (r : TakeReply). r.at) takes) =
-    subst (IsPermutation (range_with_len 0 n)) (map-claims takes)
-    (IsPermutation-trans (range_with_len 0 n) (map (λ (x : ℕ × ℕ). x.1) (posted_of posts)) (map (λ (x : ℕ × ℕ). x.1) (map claim_of takes)) h.positions
-    (IsPermutation-map (λ (x : ℕ × ℕ). x.1) (posted_of posts) (map claim_of takes) h.claims)) in
-    let long : length takes ≡ n = sym (length-map takes claim_of) ∙ length_permutation (posted_of posts) (map claim_of takes) h.claims in
-    let below : AllByRecursion (λ x. x < n) (map (λ (r : TakeReply). r.at) takes) =
-    every_at (λ x. x < n) (map (λ (r : TakeReply). r.at) takes)
-    (All-permutation (λ x. x < n) (range_with_len 0 n) (map (λ (r : TakeReply). r.at) takes) moved
+-- of each queue
+pub positions_below : (rush : Bool) (posts : List PostReply) (takes : List TakeReply) → AreReportableOf rush posts takes
+    → AllByRecursion (λ (r : TakeReply). r.at < length (takes_with rush takes)) (takes_with rush takes)
+positions_below rush posts takes h =
+    let posted : List (ℕ × ℕ) = posted_of rush posts in
+    let taken : List TakeReply = takes_with rush takes in
+    let n : ℕ = length posted in
+    let moved : IsPermutation (range_with_len 0 n) (map (λ (r : TakeReply). r.at) taken) =
+    subst (IsPermutation (range_with_len 0 n)) (map-claims taken)
+    (IsPermutation-trans (range_with_len 0 n) (map (λ (x : ℕ × ℕ). x.1) posted) (map (λ (x : ℕ × ℕ). x.1) (map claim_of taken)) h.positions
+    (IsPermutation-map (λ (x : ℕ × ℕ). x.1) posted (map claim_of taken) h.claims)) in
+    let long : length taken ≡ n = sym (length-map taken claim_of) ∙ length_permutation posted (map claim_of taken) h.claims in
+    let below : AllByRecursion (λ x. x < n) (map (λ (r : TakeReply). r.at) taken) =
+    every_at (λ x. x < n) (map (λ (r : TakeReply). r.at) taken)
+    (All-permutation (λ x. x < n) (range_with_len 0 n) (map (λ (r : TakeReply). r.at) taken) moved
     (all_of (λ x. x < n) (range_with_len 0 n) (numbers_below 0 n n (omega arith)))) in
-    subst (λ m. AllByRecursion (λ (r : TakeReply). r.at < m) takes) (sym long) (AllByRecursion-from_map (λ x. x < n) (λ (r : TakeReply). r.at) takes below)
+    subst (λ m. AllByRecursion (λ (r : TakeReply). r.at < m) taken) (sym long) (AllByRecursion-from_map (λ x. x < n) (λ (r : TakeReply). r.at) taken below)
 
-pub board_lines : (lines : List Line) (posts : List PostReply) (takes : List TakeReply) → AreReportable lines posts takes
-    → AllByRecursion (λ (r : TakeReply). r.line < length lines) (by_position takes)
-board_lines lines posts takes h =
-    AllByRecursion-by_key (λ (r : TakeReply). r.line < length lines) (λ (r : TakeReply). r.at) (length takes) takes
-    (AllByRecursion-map (IsClaim lines) (λ (r : TakeReply). r.line < length lines) (λ r c. slice_get_within lines r.line _ c.job.is) takes h.claimed)
+-- each take reply has a line
+pub lines_below : (lines : List Line) (takes : List TakeReply) → AllByRecursion (IsClaim lines) takes
+    → AllByRecursion (λ (r : TakeReply). r.line < length lines) takes
+lines_below lines takes claimed =
+    AllByRecursion-map (IsClaim lines) (λ (r : TakeReply). r.line < length lines) (λ r c. slice_get_within lines r.line _ c.job.is) takes claimed
+
+pub board_lines : (rush : Bool) (lines : List Line) (takes : List TakeReply) → AllByRecursion (λ (r : TakeReply). r.line < length lines) takes
+    → AllByRecursion (λ (r : TakeReply). r.line < length lines) (by_position (takes_with rush takes))
+board_lines rush lines takes all =
+    AllByRecursion-by_key (λ (r : TakeReply). r.line < length lines) (λ (r : TakeReply). r.at) (length (takes_with rush takes)) (takes_with rush takes)
+    (AllByRecursion-filter (λ (r : TakeReply). r.line < length lines) (λ (r : TakeReply). is_side rush r.rush) takes all)

@@ -15,8 +15,8 @@ use Rattle.orc_board.specs.declared.replies.PostWord.{PostWord}
 use Rattle.orc_board.specs.declared.replies.PostWord.TheVariants as word
 use Rattle.orc_board.specs.declared.replies.TakeReply.{TakeReply}
 use Rattle.orc_board.specs.declared.replies.TakeWord.{TakeWord}
-use Rattle.orc_board.specs.Stretches.{MayStand, Row, Stretch, View, beside, is_own_answer, of_set}
-use Rattle.orc_board.specs.Table.{JobRow, PostRow, answer_of}
+use Rattle.orc_board.specs.Stretches.{MayStand, Row, Share, Stretch, View, all_beside, beside, is_own_answer, of_set}
+use Rattle.orc_board.specs.Table.{IsJob, IsWordOf, JobPart, JobRow, PostRow, answer_of}
 use Rattle.orc_board.specs.Follows.{IsWorker, Pointwise, PosterRow, TookRow, WorkersFollow, posts_of, taker_agent, takes_of}
 use Rattle.orc_board.proofs.Keyed.{by_key_below}
 use Rattle.orc_board.proofs.ListFacts.{AllByRecursion-append, AllByRecursion-filter, AllByRecursion-left, AllByRecursion-map, AllByRecursion-right, eq-yes}
@@ -72,15 +72,15 @@ own_set s agent own n none t = ap (filter (is_own_answer agent)) (t.is ∙ ap (�
 at_most : (n a b : ℕ) → a ≡ b → b ≤ n → a < suc n
 at_most n a b e h = omega (arith, e, h)
 
-module _ {A B : Type 0} (q : View A QueueEntry QueueRefused) (s : View B SetEntry ListRefused) (lines : List Line) (posters takers : ℕ)
-    (posts : List PostReply) (takes : List TakeReply) (k : List A) (n : List B)
-    (none : s.history [] ≡ []) (f : WorkersFollow q s lines posters takers posts takes k n) where
+module _ {A B : Type 0} (qs : Bool → View A QueueEntry QueueRefused) (s : View B SetEntry ListRefused) (lines : List Line) (posters takers : ℕ)
+    (posts : List PostReply) (takes : List TakeReply) (k : Bool → List A) (n : List B)
+    (none : s.history [] ≡ []) (f : WorkersFollow qs s lines posters takers posts takes k n) where
   abbrev crowd : ℕ → Type 0
   crowd = IsWorker posters takers
 
   agents : AllByRecursion (λ e. agent_of_set_entry e < suc (posters + takers)) (s.history n)
   agents =
-      let main = Works-set (beside q crowd) (beside s crowd) 0 (f.claiming 0 (omega arith)).works in
+      let main = Works-set (all_beside qs crowd) (beside s crowd) 0 (f.claiming 0 (omega arith)).works in
       let is : s.history n ≡ main.part = main.is ∙ ap (λ z. z ++ main.part) none in
       subst (AllByRecursion (λ e. agent_of_set_entry e < suc (posters + takers))) (sym is)
       (AllByRecursion-map (MayStand of_set (beside s crowd) 0) (λ e. agent_of_set_entry e < suc (posters + takers))
@@ -92,13 +92,13 @@ module _ {A B : Type 0} (q : View A QueueEntry QueueRefused) (s : View B SetEntr
   own_posts : (p : ℕ) (low : 1 ≤ p) (high : p ≤ posters) → filter (is_own_answer p) (s.history n) ≡ set_of_rows (f.posting p low high).rows
   own_posts p low high =
       let w = f.posting p low high in
-      own_set (beside s crowd) p (set_of_rows w.rows) n none (Works-set (beside q crowd) (beside s crowd) p w.works)
+      own_set (beside s crowd) p (set_of_rows w.rows) n none (Works-set (all_beside qs crowd) (beside s crowd) p w.works)
 
   own_takes : (t : ℕ) (high : t ≤ takers) → filter (is_own_answer (taker_agent posters t)) (s.history n) ≡ set_of_rows (f.claiming t high).rows
   own_takes t high =
       let w = f.claiming t high in
       own_set (beside s crowd) (taker_agent posters t) (set_of_rows w.rows) n none
-      (Works-set (beside q crowd) (beside s crowd) (taker_agent posters t) w.works)
+      (Works-set (all_beside qs crowd) (beside s crowd) (taker_agent posters t) w.works)
 
   -- what follows for the rows of all replies holds of all entries
   pub entries_of : (P : PostReply → Type 0) (T : TakeReply → Type 0) (G : SetEntry → Type 0)
@@ -174,33 +174,41 @@ not_posted at e = cc e
 not_put : (at : ℕ) → word.Positions ≢ word.Posted at
 not_put at e = cc e
 
-job_says : (agent i id : ℕ) (w : PostWord) (row : Row) → id ≡ i → JobRow agent i id w row → AllByRecursion (PostSays i w) row.set.own
-job_says agent i id (word.Posted at) row e h = rw h ((e, not_busy at), tt)
-job_says agent i id word.Busy row e h = rw h (tt, tt)
-job_says agent i id word.NoNode row e h = elim h as (λ _. AllByRecursion (PostSays i word.NoNode) row.set.own) [
-  | inl g ↦ rw g tt
-  | inr g ↦ rw g.1 ((e, no_node), ((e, not_posted), tt))
+job_says : (agent i id : ℕ) (w : PostWord) (queue : Share QueueEntry QueueRefused) (set : Share SetEntry ListRefused) → id ≡ i → IsWordOf false w
+    → JobPart agent i id w queue set → AllByRecursion (PostSays i w) set.own
+job_says agent i id (word.Posted at) queue set e of h = rw h.1 ((e, not_busy at), tt)
+job_says agent i id (word.Rushed at) queue set e of h = absurd of
+job_says agent i id word.Busy queue set e of h = rw h.1 (tt, tt)
+job_says agent i id word.NoNode queue set e of h = elim h as (λ _. AllByRecursion (PostSays i word.NoNode) set.own) [
+  | inl g ↦ rw g.1 tt
+  | inr g ↦ rw g.1.1 ((e, no_node), ((e, not_posted), tt))
 ]
-job_says agent i id word.Positions row e h = rw h.1 ((e, no_position), ((e, not_put), tt))
-job_says agent i id word.Spent row e h = rw h.1 tt
-job_says agent i id word.Dropped row e h = absurd h
-job_says agent i id word.Unknown row e h = absurd h
+job_says agent i id word.Positions queue set e of h = rw h.1.1 ((e, no_position), ((e, not_put), tt))
+job_says agent i id word.Spent queue set e of h = rw h.1.1 tt
+job_says agent i id word.Dropped queue set e of h = absurd h
+job_says agent i id word.Unknown queue set e of h = absurd h
 
--- a numbered line's row is that of a job whose id is the line's number
+-- a numbered line's row is that of a job of the queue whose id is the line's number
 pub numbered_row : (lines : List Line) → AreNumbered lines → (p : ℕ) (r : PostReply) (row : Row) → PosterRow lines p r row
-    → (id : ℕ) × (id ≡ r.line) × JobRow p r.line id r.what row
+    → (id : ℕ) × (id ≡ r.line) × JobRow false p r.line id r.what row
 numbered_row lines num p r row z = went z.line (num r.line z.line z.is) z.table
   where
-    went : (l : Line) → PostsId r.line l → PostRow p r.line l r.what row → (id : ℕ) × (id ≡ r.line) × JobRow p r.line id r.what row
+    went : (l : Line) → PostsId r.line l → PostRow p r.line l r.what row → (id : ℕ) × (id ≡ r.line) × JobRow false p r.line id r.what row
     went (line.Post id op text) e h = (id, e, h)
+    went (line.Rush id op text) e h = absurd e
     went (line.Drop id) e h = absurd e
 
 pub post_says : (lines : List Line) → AreNumbered lines → (p : ℕ) (r : PostReply) (row : Row) → PosterRow lines p r row
     → AllByRecursion (PostSays r.line r.what) row.set.own
-post_says lines num p r row z = let (id, e, h) = numbered_row lines num p r row z in job_says p r.line id r.what row e h
+post_says lines num p r row z = let (id, e, h) = numbered_row lines num p r row z in job_says p r.line id r.what (row.queues false) row.set e h.word h.part
+
+-- the job of a claim is one of the queue, and has its number for id
+pub numbered_job : (lines : List Line) → AreNumbered lines → (rush : Bool) (i id : ℕ) → IsJob lines rush i id → (rush ≡ false) × (id ≡ i)
+numbered_job lines num false i id job = (refl, num i (line.Post id job.op job.text) job.is)
+numbered_job lines num true i id job = absurd (num i (line.Rush id job.op job.text) job.is)
 
 pub take_says : (lines : List Line) → AreNumbered lines → (t a : ℕ) (r : TakeReply) (row : Row) → TookRow lines t a r row
     → AllByRecursion (TakeSays r.line r.what) row.set.own
 take_says lines num t a r row z =
-    let id_is : z.table.id ≡ r.line = num r.line (line.Post z.table.id z.table.job.op z.table.job.text) z.table.job.is in
-    subst (λ (x : Row). AllByRecursion (TakeSays r.line r.what) x.set.own) (sym z.table.is) ((id_is, refl), tt)
+    subst (λ (x : Share SetEntry ListRefused). AllByRecursion (TakeSays r.line r.what) x.own) (sym z.table.set)
+    (((numbered_job lines num r.rush r.line z.table.id z.table.job).1, refl), tt)

@@ -11,18 +11,20 @@ use Rattle.orc_board.specs.declared.replies.PostWord.TheVariants as post
 use Rattle.orc_board.specs.declared.replies.TakeReply.{TakeReply}
 use Rattle.orc_board.specs.declared.replies.TakeWord.TheVariants as take
 
--- the line posts a job with this id
+-- the line posts a job with this id on the queue
 abbrev pub PostsId : ℕ → Line → Type 0
 PostsId i (line.Post id op text) = id ≡ i
+PostsId i (line.Rush id op text) = ⊥
 PostsId i (line.Drop id) = ⊥
 
--- each line posts a job, whose id is the line's number
+-- each line posts a job on the queue, whose id is the line's number
 abbrev pub AreNumbered : List Line → Type 0
 AreNumbered lines = (i : ℕ) (l : Line) → slice_get lines i ≡ Some l → PostsId i l
 
 -- the operation of the line's job, and its value
 abbrev pub IsJobOf : Line → Job × ℕ → Type 0
 IsJobOf (line.Post id op text) j = (j.0 ≡ op) × IsJobValue (line.Post id op text) j.1
+IsJobOf (line.Rush id op text) j = (j.0 ≡ op) × IsJobValue (line.Rush id op text) j.1
 IsJobOf (line.Drop id) j = ⊥
 
 -- these are the jobs of all lines, in order, each with its value

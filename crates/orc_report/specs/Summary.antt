@@ -16,6 +16,8 @@ use Rattle.orc_board.specs.declared.replies.TakeWord.TheVariants as take
 abbrev pub done_as : Option Line → TakeWord → List (Job × ℕ)
 done_as (Some (line.Post id op text)) (take.Done value) = (op, value) ∷ []
 done_as (Some (line.Post id op text)) take.Void = []
+done_as (Some (line.Rush id op text)) (take.Done value) = (op, value) ∷ []
+done_as (Some (line.Rush id op text)) take.Void = []
 done_as (Some (line.Drop id)) what = []
 done_as None what = []
 

@@ -88,6 +88,7 @@ fn done_job(line: &Line, what: TakeWord) -> Option<(Job, u64)>
 {
     match (line, what) {
         (Line::Post { op, .. }, TakeWord::Done(value)) => Some((*op, value)),
+        (Line::Rush { op, .. }, TakeWord::Done(value)) => Some((*op, value)),
         _ => None,
     }
 }

@@ -12,7 +12,7 @@ use Rattle.orc_history.specs.declared.set.SetEntry.{SetEntry}
 use Rattle.orc_history.specs.declared.set.ListRefused.{ListRefused}
 use Rattle.orc_history.specs.QueueHistory.{agent_of_entry, IsLegalFrom, IsLegalQueue, waiting_after}
 use Rattle.orc_history.specs.SetHistory.{agent_of_set_entry}
-use Rattle.orc_board.specs.Stretches.{View, Kind, of_queue, of_set, Stretch, MayStand, Stands, empty_row, beside, is_own_move}
+use Rattle.orc_board.specs.Stretches.{View, Kind, of_queue, of_set, Stretch, MayStand, Stands, empty_row, beside, all_beside, is_own_move}
 use Rattle.orc_board.specs.Follows.{ZeroLast, LastIsEmpty}
 use Rattle.orc_board.proofs.ListFacts.{AllByRecursion-append, AllByRecursion-map, AllByRecursion-right, eq-false, zero_or}
 use Rattle.orc_board.proofs.CallStretches.{own_moves, is_move}
@@ -58,14 +58,15 @@ quiet_moves : (agent : ℕ) (es : List QueueEntry) → own_of agent_of_entry age
 quiet_moves agent es none = own_moves agent es ∙ ap (filter is_move) none
 
 -- nothing happened but what others did
-pub quiet : {A B : Type 0} (q : View A QueueEntry QueueRefused) (s : View B SetEntry ListRefused) (C : ℕ → Type 0) (agent : ℕ) (j k : List A) (m n : List B)
-    → Grows q.history → Grows s.history → IsPrefix j k → IsPrefix m n
-    → own_of agent_of_entry agent (q.history k) ≡ own_of agent_of_entry agent (q.history j)
+pub quiet : {A B : Type 0} (qs : Bool → View A QueueEntry QueueRefused) (s : View B SetEntry ListRefused) (C : ℕ → Type 0) (agent : ℕ)
+    (j k : Bool → List A) (m n : List B)
+    → ((b : Bool) → Grows (qs b).history) → Grows s.history → ((b : Bool) → IsPrefix (j b) (k b)) → IsPrefix m n
+    → ((b : Bool) → own_of agent_of_entry agent ((qs b).history (k b)) ≡ own_of agent_of_entry agent ((qs b).history (j b)))
     → own_of agent_of_set_entry agent (s.history n) ≡ own_of agent_of_set_entry agent (s.history m)
-    → AllByRecursion (λ e. C (agent_of_entry e)) (q.history k) → AllByRecursion (λ e. C (agent_of_set_entry e)) (s.history n)
-    → Stands (beside q C) (beside s C) agent empty_row j m k n
-quiet q s C agent j k m n gq gs pq ps oq os bq bs = record {
-  queue = record { stretch = learned_stretch of_queue q C agent j k (quiet_moves agent) gq pq oq bq; licence = tt };
+    → ((b : Bool) → AllByRecursion (λ e. C (agent_of_entry e)) ((qs b).history (k b))) → AllByRecursion (λ e. C (agent_of_set_entry e)) (s.history n)
+    → Stands (all_beside qs C) (beside s C) agent empty_row j m k n
+quiet qs s C agent j k m n gq gs pq ps oq os bq bs = record {
+  queues = λ b. record { stretch = learned_stretch of_queue (qs b) C agent (j b) (k b) (quiet_moves agent) (gq b) (pq b) (oq b) (bq b); licence = tt };
   set = record { stretch = learned_stretch of_set s C agent m n (λ es none. none) gs ps os bs; licence = tt };
 }
 

@@ -1,10 +1,10 @@
 -- The end of a run: desks and replies of all workers in order.
-use Rattle.std.proofs.Common.{◌≡◌, ℕ, zero, suc, ◌+◌, ◌-◌, ◌≤◌, ◌<◌, List, [], ◌∷◌, ◌++◌, length, map, ◌⊎◌, inl, inr, refl, ap, sym, ◌∙◌, subst, arith, append-nil, length-append}
+use Rattle.std.proofs.Common.{◌≡◌, ℕ, Bool, true, false, zero, suc, ◌+◌, ◌-◌, ◌≤◌, ◌<◌, List, [], ◌∷◌, ◌++◌, length, map, ◌⊎◌, inl, inr, refl, ap, sym, ◌∙◌, subst, arith, append-nil, length-append}
 use Rattle.std.proofs.lemmas.List.{length-map}
 use Rattle.std.proofs.lemmas.List.Sorted.{length_permutation}
 use Rattle.std.proofs.lemmas.List.FromFn.{length-range_with_len}
 use Rattle.std.specs.List.{range_with_len}
-use Rattle.orc_board.specs.Reportable.{claim_of, posted_of}
+use Rattle.orc_board.specs.Reportable.{claim_of, posted_of, takes_with}
 use Rattle.orc_board.proofs.Orders.{each_line, posted_few}
 use Rattle.std.specs.List.{AllByRecursion}
 use Rattle.orc_history.specs.declared.queue.QueueEntry.{QueueEntry}
@@ -15,15 +15,15 @@ use Rattle.orc_history.specs.declared.set.ListRefused.{ListRefused}
 use Rattle.orc_history.specs.declared.set.SharedSet.{Ghosts as SetOf}
 use Rattle.orc_history.specs.QueueHistory.{agent_of_entry, IsLegalQueue, waiting_after}
 use Rattle.orc_history.specs.SetHistory.{agent_of_set_entry}
-use Rattle.orc_board.specs.Desk.{IsDesk}
+use Rattle.orc_board.specs.Desk.{IsDesk, seen_in}
 use Rattle.orc_jobs.specs.declared.line.Line.{Line}
-use Rattle.orc_jobs.specs.Line.{posts_in}
+use Rattle.orc_jobs.specs.Line.{jobs_in}
 use Rattle.orc_board.specs.declared.replies.PostReply.{PostReply}
 use Rattle.orc_board.specs.declared.replies.TakeReply.{TakeReply}
 use Rattle.orc_board.specs.declared.desk.Desk.{Desk}
 use Rattle.orc_workers.specs.declared.team.Worker.{Worker}
-use Rattle.orc_board.specs.Stretches.{View, queue_view, set_view, beside, Row}
-use Rattle.orc_board.specs.Follows.{Pointwise, TakerRow, Posting, TakingRest, ZeroLast, LastIsEmpty, IsWorker, own_records, by_key, taker_agent, posts_of, takes_of}
+use Rattle.orc_board.specs.Stretches.{View, queue_views, set_view, beside, all_beside, pick, Row}
+use Rattle.orc_board.specs.Follows.{Pointwise, TakerRow, Posting, TakingRest, ZeroLast, LastIsEmpty, IsWorker, own_records, by_key, taker_agent, posts_of, takes_of, none}
 use Rattle.orc_workers.specs.Desks.{AreIdle, HaveSeen}
 use Rattle.orc_workers.specs.CameBack.{IsTold, IsBack, AreNumbered, AllCameBack, IsOver}
 use Rattle.orc_workers.specs.Seats.{all_of}
@@ -31,7 +31,7 @@ use Rattle.orc_board.proofs.ListFacts.{AllByRecursion-append, AllByRecursion-map
 use Rattle.orc_board.proofs.Ends.{posters_of}
 use Rattle.orc_workers.proofs.Blocks.{blocks, AreKeyed, block_of, blocks_by_key, blocks_add, blocks_none, blocks_cons, nth_of, all_blocks}
 use Rattle.orc_workers.proofs.Learned.{zero_ended}
-use Rattle.orc_workers.proofs.Boards.{AllWork, ran_board}
+use Rattle.orc_workers.proofs.Boards.{AllWork, ran_board, sides}
 
 takers_loose : (lines : List Line) (taker agent : ℕ) (rs : List TakeReply) (rows : List Row) → Pointwise (TakerRow lines taker agent) rs rows
     → AllByRecursion (λ (r : TakeReply). r.taker ≡ taker) rs
@@ -74,36 +74,36 @@ abbrev pub take_block : {P R : Type 0} → ℕ → List TakeReply → List (Work
 take_block posters own ws zero = own
 take_block posters own ws (suc t) = nth_of (λ w. w.takes.items) ws (posters + t)
 
-idle_desks : {Q S P R A B : Type 0} (q : QueueOf Q P A) (s : SetOf S R B) (queue : Q) (set : S) (lines : List Line) (k : List A) (n : List B) (a : ℕ)
+idle_desks : {Q S P R A B : Type 0} (q : QueueOf Q P A) (s : SetOf S R B) (queue rush : Q) (set : S) (lines : List Line) (k : Bool → List A) (n : List B) (a : ℕ)
     (ws : List (Worker P R))
-    → AreNumbered a ws → AllByRecursion (IsBack q s queue set lines k n) ws → AreIdle q s queue set a (map (λ (w : Worker P R). w.desk) ws)
-idle_desks q s queue set lines k n a [] num h = tt
-idle_desks q s queue set lines k n a (w ∷ ws) num h =
-    (subst (λ (x : ℕ). IsDesk q s queue set x w.desk) num.0 h.0.is_desk, idle_desks q s queue set lines k n (suc a) ws num.1 h.1)
+    → AreNumbered a ws → AllByRecursion (IsBack q s queue rush set lines k n) ws → AreIdle q s queue rush set a (map (λ (w : Worker P R). w.desk) ws)
+idle_desks q s queue rush set lines k n a [] num h = tt
+idle_desks q s queue rush set lines k n a (w ∷ ws) num h =
+    (subst (λ (x : ℕ). IsDesk q s queue rush set x w.desk) num.0 h.0.is_desk, idle_desks q s queue rush set lines k n (suc a) ws num.1 h.1)
 
-seen_desks : {Q S P R A B : Type 0} (q : QueueOf Q P A) (s : SetOf S R B) (queue : Q) (set : S) (lines : List Line) (k : List A) (n : List B)
+seen_desks : {Q S P R A B : Type 0} (q : QueueOf Q P A) (s : SetOf S R B) (queue rush : Q) (set : S) (lines : List Line) (k : Bool → List A) (n : List B)
     (ws : List (Worker P R))
-    → AllByRecursion (IsBack q s queue set lines k n) ws → HaveSeen q s k n (map (λ (w : Worker P R). w.desk) ws)
-seen_desks q s queue set lines k n [] h = tt
-seen_desks q s queue set lines k n (w ∷ ws) h = ((h.0.queue_seen, h.0.set_seen), seen_desks q s queue set lines k n ws h.1)
+    → AllByRecursion (IsBack q s queue rush set lines k n) ws → HaveSeen q s k n (map (λ (w : Worker P R). w.desk) ws)
+seen_desks q s queue rush set lines k n [] h = tt
+seen_desks q s queue rush set lines k n (w ∷ ws) h = ((h.0.queues_seen, h.0.set_seen), seen_desks q s queue rush set lines k n ws h.1)
 
 -- what all workers have done, put together
-module _ {P R A B : Type 0} (q : View A QueueEntry QueueRefused) (s : View B SetEntry ListRefused) (lines : List Line) (posters takers : ℕ) (k : List A)
+module _ {P R A B : Type 0} (qs : Bool → View A QueueEntry QueueRefused) (s : View B SetEntry ListRefused) (lines : List Line) (posters takers : ℕ) (k : Bool → List A)
     (n : List B) (own : List TakeReply) (ws : List (Worker P R))
     (num : AreNumbered 1 ws) (many : length ws ≡ posters + takers)
-    (told : AllByRecursion (λ (w : Worker P R). IsTold q s lines posters k n w.agent w.posts.items w.takes.items) ws)
-    (taking : TakingRest q s lines 0 0 own [] [] k n) where
+    (told : AllByRecursion (λ (w : Worker P R). IsTold qs s lines posters k n w.agent w.posts.items w.takes.items) ws)
+    (taking : TakingRest qs s lines 0 0 own none [] k n) where
   abbrev Told : Worker P R → Type 0
-  Told w = IsTold q s lines posters k n w.agent w.posts.items w.takes.items
+  Told w = IsTold qs s lines posters k n w.agent w.posts.items w.takes.items
 
   poster_at : (i : ℕ) → i < posters → (rs : List PostReply) → post_block ws (suc i) ≡ rs
-      → Posting q s lines (suc i) rs [] [] k n × (map (λ (r : PostReply). r.line) rs ≡ own_records posters (suc i) (length lines))
+      → Posting qs s lines (suc i) rs none [] k n × (map (λ (r : PostReply). r.line) rs ≡ own_records posters (suc i) (length lines))
   poster_at i low rs is =
       let w = find Told 1 i ws num told (omega (arith, low, many)) in
       let a : w.worker.agent ≡ suc i = w.agent_is ∙ omega arith in
       let d = w.holds.posted (omega (arith, a, low)) in
       let e : w.worker.posts.items ≡ rs = sym w.posts_are ∙ is in (
-        subst (λ (x : ℕ). Posting q s lines x rs [] [] k n) a (subst (λ (x : List PostReply). Posting q s lines w.worker.agent x [] [] k n) e d.posting),
+        subst (λ (x : ℕ). Posting qs s lines x rs none [] k n) a (subst (λ (x : List PostReply). Posting qs s lines w.worker.agent x none [] k n) e d.posting),
         subst (λ (x : ℕ). map (λ (r : PostReply). r.line) rs ≡ own_records posters x (length lines)) a
             (subst (λ (x : List PostReply). map (λ (r : PostReply). r.line) x ≡ own_records posters w.worker.agent (length lines)) e d.in_file_order),
       )
@@ -124,17 +124,17 @@ module _ {P R A B : Type 0} (q : View A QueueEntry QueueRefused) (s : View B Set
       w.takes_are ∙ d.no_takes
 
   taker_at : (t : ℕ) → t < takers → (rs : List TakeReply) → take_block posters own ws (suc t) ≡ rs
-      → TakingRest q s lines (suc t) (posters + suc t) rs [] [] k n × (length rs < posts_in lines → LastIsEmpty (posters + suc t) (q.history k))
+      → TakingRest qs s lines (suc t) (posters + suc t) rs none [] k n × (length rs < jobs_in lines → (b : Bool) → LastIsEmpty (posters + suc t) ((qs b).history (k b)))
   taker_at t low rs is =
       let w = find Told 1 (posters + t) ws num told (omega (arith, low, many)) in
       let a : w.worker.agent ≡ posters + suc t = w.agent_is ∙ omega arith in
       let b : w.worker.agent - posters ≡ suc t = omega (arith, a) in
       let d = w.holds.took (omega (arith, a)) in
       let e : w.worker.takes.items ≡ rs = sym w.takes_are ∙ is in (
-        subst (λ (x : ℕ). TakingRest q s lines (suc t) x rs [] [] k n) a
-            (subst (λ (x : ℕ). TakingRest q s lines x w.worker.agent rs [] [] k n) b
-            (subst (λ (x : List TakeReply). TakingRest q s lines (w.worker.agent - posters) w.worker.agent x [] [] k n) e d.taking)),
-        (λ less. subst (λ (x : ℕ). LastIsEmpty x (q.history k)) a (d.found_empty (omega (arith, less, ap length e)))),
+        subst (λ (x : ℕ). TakingRest qs s lines (suc t) x rs none [] k n) a
+            (subst (λ (x : ℕ). TakingRest qs s lines x w.worker.agent rs none [] k n) b
+            (subst (λ (x : List TakeReply). TakingRest qs s lines (w.worker.agent - posters) w.worker.agent x none [] k n) e d.taking)),
+        (λ less b. subst (λ (x : ℕ). LastIsEmpty x ((qs b).history (k b))) a (d.found_empty (omega (arith, less, ap length e)) b)),
       )
 
   posts_keyed : AreKeyed (λ (r : PostReply). r.poster) (post_block ws)
@@ -183,7 +183,7 @@ module _ {P R A B : Type 0} (q : View A QueueEntry QueueRefused) (s : View B Set
       (posts_keyed (suc i))
 
   posting_at : (p : ℕ) → 1 ≤ p → p ≤ posters → (posts : List PostReply) → ((i : ℕ) → i < posters → post_block ws (suc i) ≡ posts_of (suc i) posts)
-      → Posting q s lines p (posts_of p posts) [] [] k n
+      → Posting qs s lines p (posts_of p posts) none [] k n
   posting_at zero low high posts f = absurd (omega (arith, low))
   posting_at (suc i) low high posts f = (poster_at i (omega (arith, high)) (posts_of (suc i) posts) (f i (omega (arith, high)))).0
 
@@ -193,20 +193,21 @@ module _ {P R A B : Type 0} (q : View A QueueEntry QueueRefused) (s : View B Set
   order_at (suc i) low high posts f = (poster_at i (omega (arith, high)) (posts_of (suc i) posts) (f i (omega (arith, high)))).1
 
   taking_at : (t : ℕ) → t ≤ takers → (takes : List TakeReply) → ((i : ℕ) → i < suc takers → take_block posters own ws i ≡ takes_of i takes)
-      → TakingRest q s lines t (taker_agent posters t) (takes_of t takes) [] [] k n
-  taking_at zero high takes f = subst (λ (x : List TakeReply). TakingRest q s lines 0 0 x [] [] k n) (f 0 (omega arith)) taking
+      → TakingRest qs s lines t (taker_agent posters t) (takes_of t takes) none [] k n
+  taking_at zero high takes f = subst (λ (x : List TakeReply). TakingRest qs s lines 0 0 x none [] k n) (f 0 (omega arith)) taking
   taking_at (suc t) high takes f = (taker_at t (omega (arith, high)) (takes_of (suc t) takes) (f (suc t) (omega (arith, high)))).0
 
   empty_at_taker : (t : ℕ) → 1 ≤ t → t ≤ takers → (takes : List TakeReply) → ((i : ℕ) → i < suc takers → take_block posters own ws i ≡ takes_of i takes)
-      → length (takes_of t takes) < posts_in lines → LastIsEmpty (posters + t) (q.history k)
+      → length (takes_of t takes) < jobs_in lines → (b : Bool) → LastIsEmpty (posters + t) ((qs b).history (k b))
   empty_at_taker zero low high takes f = absurd (omega (arith, low))
   empty_at_taker (suc t) low high takes f = (taker_at t (omega (arith, high)) (takes_of (suc t) takes) (f (suc t) (omega (arith, high)))).1
 
   pub put_together : (posts : List PostReply) (takes : List TakeReply) → posts ≡ all_of (λ (w : Worker P R). w.posts.items) ws
       → takes ≡ own ++ all_of (λ (w : Worker P R). w.takes.items) ws
-      → AllByRecursion (λ e. agent_of_entry e ≤ posters + takers) (q.history k) → ZeroLast agent_of_entry (q.history k)
+      → ((b : Bool) → AllByRecursion (λ e. agent_of_entry e ≤ posters + takers) ((qs b).history (k b)))
+      → ((b : Bool) → ZeroLast agent_of_entry ((qs b).history (k b)))
       → ZeroLast agent_of_set_entry (s.history n)
-      → AllWork q s lines posters takers posts takes k n
+      → AllWork qs s lines posters takers posts takes k n
   put_together posts takes posts_are takes_are agents zero_q zero_s =
       let pb : posts ≡ blocks (post_block ws) (suc posters) = posts_are ∙ posts_blocks in
       let tb : takes ≡ blocks (take_block posters own ws) (suc takers) = takes_are ∙ takes_blocks in
@@ -227,64 +228,66 @@ module _ {P R A B : Type 0} (q : View A QueueEntry QueueRefused) (s : View B Set
               (blocks_by_key (λ (r : TakeReply). r.taker) (take_block posters own ws) takes_keyed (suc takers));
         };
         agents = agents;
-        queue_zero_last = zero_q;
+        queues_zero_last = zero_q;
         set_zero_last = zero_s;
         found_empty = λ t low high. empty_at_taker t low high takes take_at;
       }
 
 -- the whole
-pub over_of : {Q S P R A B : Type 0} (q : QueueOf Q P A) (s : SetOf S R B) (queue : Q) (set : S) (lines : List Line) (posters takers : ℕ) (desk : Desk P R)
+pub over_of : {Q S P R A B : Type 0} (q : QueueOf Q P A) (s : SetOf S R B) (queue rush : Q) (set : S) (lines : List Line) (posters takers : ℕ) (desk : Desk P R)
     (own : List TakeReply) (ws : List (Worker P R)) (desks : List (Desk P R)) (posts : List PostReply) (takes : List TakeReply)
-    → 1 ≤ posters → length lines ≤ 65535 → q.first queue ≡ 0 → length ws ≡ posters + takers
-    → AllCameBack q s queue set lines posters takers desk own ws
+    → 1 ≤ posters → length lines ≤ 65535 → ((b : Bool) → q.first (pick queue rush b) ≡ 0) → length ws ≡ posters + takers
+    → AllCameBack q s queue rush set lines posters takers desk own ws
     → desks ≡ (desk ∷ []) ++ map (λ (w : Worker P R). w.desk) ws → posts ≡ [] ++ all_of (λ (w : Worker P R). w.posts.items) ws
     → takes ≡ own ++ all_of (λ (w : Worker P R). w.takes.items) ws
-    → IsOver q s queue set lines posters takers desks posts takes
-over_of {P = P} {R = R} {A = A} q s queue set lines posters takers desk own ws desks posts takes some short first many c desks_are posts_are takes_are =
+    → IsOver q s queue rush set lines posters takers desks posts takes
+over_of {P = P} {R = R} {A = A} q s queue rush set lines posters takers desk own ws desks posts takes some short first many c desks_are posts_are takes_are =
     let C : ℕ → Type 0 = IsWorker posters takers in
-    let k : List A = q.journal desk.queue in
+    let k : Bool → List A = seen_in q desk in
     let n = s.journal desk.set in
-    let agents : AllByRecursion (λ e. agent_of_entry e ≤ posters + takers) (q.history queue k) =
-    AllByRecursion-map (λ e. agent_of_entry e < suc (posters + takers)) (λ e. agent_of_entry e ≤ posters + takers) (λ e h. omega (arith, h))
-    (q.history queue k) c.known.queue_below in
-    let work = put_together (beside (queue_view q queue) C) (beside (set_view s set) C) lines posters takers k n own ws c.numbered many c.told c.taking posts
-    takes posts_are takes_are agents c.queue_zero_last c.set_zero_last in
-    let legal : IsLegalQueue 0 (q.history queue k) = subst (λ (x : ℕ). IsLegalQueue x (q.history queue k)) first c.known.queue_legal in
+    let es : Bool → List QueueEntry = λ b. q.history (pick queue rush b) (k b) in
+    let two : (b : Bool) → pick (suc (posters + takers)) (suc (posters + takers)) b ≡ suc (posters + takers) = elim [ false ↦ refl | true ↦ refl ] in
+    let agents : (b : Bool) → AllByRecursion (λ e. agent_of_entry e ≤ posters + takers) (es b) = λ b.
+    AllByRecursion-map (λ e. agent_of_entry e < pick (suc (posters + takers)) (suc (posters + takers)) b) (λ e. agent_of_entry e ≤ posters + takers)
+    (λ e h. omega (arith, h, two b)) (es b) (c.known.queues_below b) in
+    let work = put_together (all_beside (queue_views q queue rush) C) (beside (set_view s set) C) lines posters takers k n own ws c.numbered many c.told c.taking posts
+    takes posts_are takes_are agents c.queues_zero_last c.set_zero_last in
+    let legal : (b : Bool) → IsLegalQueue 0 (es b) = λ b. subst (λ (x : ℕ). IsLegalQueue x (es b)) (first b) (c.known.queues_legal b) in
     let more : length takes ≡ length own + length (all_of (λ (w : Worker P R). w.takes.items) ws) =
     ap length takes_are ∙ length-append own (all_of (λ (w : Worker P R). w.takes.items) ws) in
-    let end : (waiting_after [] (q.history queue k) ≡ []) ⊎ (length lines ≤ length takes) =
-    elim c.last as (λ _. (waiting_after [] (q.history queue k) ≡ []) ⊎ (length lines ≤ length takes)) [
-      | inl e ↦ inl (zero_ended (q.history queue k) legal c.queue_zero_last e)
+    let end : ((b : Bool) → waiting_after [] (es b) ≡ []) ⊎ (length lines ≤ length takes) =
+    elim c.last as (λ _. ((b : Bool) → waiting_after [] (es b) ≡ []) ⊎ (length lines ≤ length takes)) [
+      | inl e ↦ inl (λ b. zero_ended (es b) (legal b) (c.queues_zero_last b) (e b))
       | inr full ↦ inr (omega (arith, full, more))
     ] in
-    let is : IsOver q s queue set lines posters takers (desk ∷ map (λ (w : Worker P R). w.desk) ws) posts takes = record {
-      idle = (c.caller, idle_desks q s queue set lines k n 1 ws c.numbered c.back);
+    let is : IsOver q s queue rush set lines posters takers (desk ∷ map (λ (w : Worker P R). w.desk) ws) posts takes = record {
+      idle = (c.caller, idle_desks q s queue rush set lines k n 1 ws c.numbered c.back);
       all = ap suc (length-map ws (λ (w : Worker P R). w.desk) ∙ many);
-      seen = ((refl, refl), seen_desks q s queue set lines k n ws c.back);
-      ran = ran_board (queue_view q queue) (set_view s set) lines posters takers posts takes k n some c.none
-          (λ agent seen from to h. let big = c.known.many_puts agent seen from to h in omega (arith, big, first)) short legal c.known.set_legal end work;
+      seen = (((λ b. refl), refl), seen_desks q s queue rush set lines k n ws c.back);
+      ran = ran_board (queue_views q queue rush) (set_view s set) lines posters takers posts takes k n some c.none_first
+          (λ b agent seen from to h. let big = c.known.many_puts b agent seen from to h in omega (arith, big, first b)) short legal c.known.set_legal end work;
     } in
-    subst (λ (ds : List (Desk P R)). IsOver q s queue set lines posters takers ds posts takes) (sym desks_are) is
+    subst (λ (ds : List (Desk P R)). IsOver q s queue rush set lines posters takers ds posts takes) (sym desks_are) is
 
 -- there are no more replies of either kind than lines
-pub few_replies : {Q S P R A B : Type 0} (q : QueueOf Q P A) (s : SetOf S R B) (queue : Q) (set : S) (lines : List Line) (posters takers : ℕ)
+pub few_replies : {Q S P R A B : Type 0} (q : QueueOf Q P A) (s : SetOf S R B) (queue rush : Q) (set : S) (lines : List Line) (posters takers : ℕ)
     (desk : Desk P R) (own : List TakeReply) (ws : List (Worker P R))
-    → 1 ≤ posters → length lines ≤ 65535 → q.first queue ≡ 0 → length ws ≡ posters + takers
-    → AllCameBack q s queue set lines posters takers desk own ws
+    → 1 ≤ posters → length lines ≤ 65535 → ((b : Bool) → q.first (pick queue rush b) ≡ 0) → length ws ≡ posters + takers
+    → AllCameBack q s queue rush set lines posters takers desk own ws
     → (length (all_of (λ (w : Worker P R). w.posts.items) ws) ≤ length lines) × (length own + length
     (all_of (λ (w : Worker P R). w.takes.items) ws) ≤ length lines)
-few_replies {P = P} {R = R} q s queue set lines posters takers desk own ws some short first many c =
+few_replies {P = P} {R = R} q s queue rush set lines posters takers desk own ws some short first many c =
     let posts : List PostReply = all_of (λ (w : Worker P R). w.posts.items) ws in
     let takes : List TakeReply = own ++ all_of (λ (w : Worker P R). w.takes.items) ws in
-    let over = over_of q s queue set lines posters takers desk own ws (desk ∷ map (λ (w : Worker P R). w.desk) ws) posts takes some short first many c refl
+    let over = over_of q s queue rush set lines posters takers desk own ws (desk ∷ map (λ (w : Worker P R). w.desk) ws) posts takes some short first many c refl
     refl refl in
     let order = over.ran.follows.workers.order in
     let line : PostReply → ℕ = λ r. r.line in
     let each : length (map line posts) ≡ length (range_with_len 0 (length lines)) =
     sym (length_permutation (map line posts) (range_with_len 0 (length lines)) (each_line lines posters takers posts takes some order)) in
-    let claims : length (map claim_of takes) ≡ length (posted_of posts) =
-    length_permutation (posted_of posts) (map claim_of takes) over.ran.reportable.claims in
-    let few : length (posted_of posts) ≤ length lines = posted_few lines posters takers posts takes some order in (
+    let claims : (b : Bool) → length (takes_with b takes) ≡ length (posted_of b posts) = λ b.
+    sym (length-map (takes_with b takes) claim_of) ∙ length_permutation (posted_of b posts) (map claim_of (takes_with b takes)) (over.ran.reportable.queues b).claims in
+    let few : length (posted_of false posts) + length (posted_of true posts) ≤ length lines = posted_few lines posters takers posts takes some order in (
       omega (arith, length-map posts line, each, length-range_with_len 0 (length lines)),
-      omega (arith, length-map takes claim_of, claims, few, length-append own (all_of (λ (w : Worker P R). w.takes.items) ws)),
+      omega (arith, sides takes, claims false, claims true, few, length-append own (all_of (λ (w : Worker P R). w.takes.items) ws)),
     )

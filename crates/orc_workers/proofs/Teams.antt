@@ -22,18 +22,6 @@ AllByRecursion-next P Q R [] (y ∷ ys) f p r = absurd r
 AllByRecursion-next P Q R (x ∷ xs) [] f p r = absurd r
 AllByRecursion-next P Q R (x ∷ xs) (y ∷ ys) f p r = (f x y p.0 r.0, AllByRecursion-next P Q R xs ys f p.1 r.1)
 
-pub Pointwise-both : {X : Type 0} (R S : X → X → Type 0) (xs ys : List X) → Pointwise R xs ys → Pointwise S xs ys → Pointwise (λ x y. R x y × S x y) xs ys
-Pointwise-both R S [] [] r s = tt
-Pointwise-both R S [] (y ∷ ys) r s = absurd r
-Pointwise-both R S (x ∷ xs) [] r s = absurd r
-Pointwise-both R S (x ∷ xs) (y ∷ ys) r s = ((r.0, s.0), Pointwise-both R S xs ys r.1 s.1)
-
-pub Pointwise-map : {X : Type 0} (R S : X → X → Type 0) (xs ys : List X) → ((x y : X) → R x y → S x y) → Pointwise R xs ys → Pointwise S xs ys
-Pointwise-map R S [] [] f r = tt
-Pointwise-map R S [] (y ∷ ys) f r = absurd r
-Pointwise-map R S (x ∷ xs) [] f r = absurd r
-Pointwise-map R S (x ∷ xs) (y ∷ ys) f r = (f x y r.0, Pointwise-map R S xs ys f r.1)
-
 pub Pointwise-right : {X : Type 0} (R S T : X → X → Type 0) (xs ys zs : List X) → ((x y z : X) → R x y → S y z → T y z) → Pointwise R xs ys
     → Pointwise S ys zs → Pointwise T ys zs
 Pointwise-right R S T [] [] [] f r s = tt

@@ -1,5 +1,5 @@
 -- What the caller and its workers have come to at the end of a run.
-use Rattle.std.specs.Prelude.{◌≡◌, ℕ, suc, ◌+◌, ◌<◌, ◌≤◌, List, [], ◌∷◌, length, ◌⊎◌}
+use Rattle.std.specs.Prelude.{◌≡◌, ℕ, suc, Bool, ◌+◌, ◌<◌, ◌≤◌, List, [], ◌∷◌, length, ◌⊎◌}
 use Rattle.std.specs.List.{AllByRecursion}
 use Rattle.orc_history.specs.declared.queue.QueueEntry.{QueueEntry}
 use Rattle.orc_history.specs.declared.queue.QueueRefused.{QueueRefused}
@@ -14,10 +14,10 @@ use Rattle.orc_board.specs.declared.replies.PostReply.{PostReply}
 use Rattle.orc_board.specs.declared.replies.TakeReply.{TakeReply}
 use Rattle.orc_board.specs.declared.desk.Desk.{Desk}
 use Rattle.orc_workers.specs.declared.team.Worker.{Worker}
-use Rattle.orc_board.specs.Desk.{IsDesk}
+use Rattle.orc_board.specs.Desk.{IsDesk, seen_in}
 use Rattle.orc_workers.specs.Desks.{AreIdle, HaveSeen, queue_seen, set_seen}
-use Rattle.orc_board.specs.Stretches.{View, queue_view, set_view, beside}
-use Rattle.orc_board.specs.Follows.{TakingRest, ZeroLast, LastIsEmpty, IsWorker}
+use Rattle.orc_board.specs.Stretches.{View, queue_views, set_view, beside, all_beside, pick}
+use Rattle.orc_board.specs.Follows.{TakingRest, ZeroLast, LastIsEmpty, IsWorker, none}
 use Rattle.orc_workers.specs.Learning.{IsKnown}
 use Rattle.orc_workers.specs.Team.{DidPost, DidTake}
 use Rattle.orc_board.specs.Runs.{Ran}
@@ -28,44 +28,44 @@ AreNumbered agent [] = Unit {0}
 AreNumbered agent (w ∷ ws) = (w.agent ≡ agent) × AreNumbered (suc agent) ws
 
 -- a worker's passes have seen no entry
-pub record IsNew {Q S P R A B : Type 0} (q : QueueOf Q P A) (s : SetOf S R B) (queue : Q) (set : S) (w : Worker P R) : Type 0 where
-  pub queue_new : q.history queue (q.journal w.desk.queue) ≡ []
+pub record IsNew {Q S P R A B : Type 0} (q : QueueOf Q P A) (s : SetOf S R B) (queue rush : Q) (set : S) (w : Worker P R) : Type 0 where
+  pub queues_new : (b : Bool) → q.history (pick queue rush b) (seen_in q w.desk b) ≡ []
   pub set_new : s.history set (s.journal w.desk.set) ≡ []
 
 -- what a worker did, as these journals tell of it from their beginning
-pub record IsTold {A B : Type 0} (q : View A QueueEntry QueueRefused) (s : View B SetEntry ListRefused) (lines : List Line) (posters : ℕ) (k : List A)
-    (n : List B) (agent : ℕ) (posts : List PostReply) (takes : List TakeReply) : Type 0 where
-  pub posted : agent ≤ posters → DidPost q s lines posters agent posts takes [] [] k n
-  pub took : posters < agent → DidTake q s lines posters agent posts takes [] [] k n
+pub record IsTold {A B : Type 0} (qs : Bool → View A QueueEntry QueueRefused) (s : View B SetEntry ListRefused) (lines : List Line) (posters : ℕ)
+    (k : Bool → List A) (n : List B) (agent : ℕ) (posts : List PostReply) (takes : List TakeReply) : Type 0 where
+  pub posted : agent ≤ posters → DidPost qs s lines posters agent posts takes none [] k n
+  pub took : posters < agent → DidTake qs s lines posters agent posts takes none [] k n
 
 -- a worker at the end: an idle desk that has seen these journals
-pub record IsBack {Q S P R A B : Type 0} (q : QueueOf Q P A) (s : SetOf S R B) (queue : Q) (set : S) (lines : List Line) (k : List A) (n : List B)
+pub record IsBack {Q S P R A B : Type 0} (q : QueueOf Q P A) (s : SetOf S R B) (queue rush : Q) (set : S) (lines : List Line) (k : Bool → List A) (n : List B)
     (w : Worker P R) : Type 0 where
-  pub is_desk : IsDesk q s queue set w.agent w.desk
-  pub queue_seen : q.journal w.desk.queue ≡ k
+  pub is_desk : IsDesk q s queue rush set w.agent w.desk
+  pub queues_seen : (b : Bool) → seen_in q w.desk b ≡ k b
   pub set_seen : s.journal w.desk.set ≡ n
 
 -- what the caller and the workers have come to
-pub record AllCameBack {Q S P R A B : Type 0} (q : QueueOf Q P A) (s : SetOf S R B) (queue : Q) (set : S) (lines : List Line) (posters takers : ℕ)
+pub record AllCameBack {Q S P R A B : Type 0} (q : QueueOf Q P A) (s : SetOf S R B) (queue rush : Q) (set : S) (lines : List Line) (posters takers : ℕ)
     (desk : Desk P R) (takes : List TakeReply) (ws : List (Worker P R)) : Type 0 where
-  pub caller : IsDesk q s queue set 0 desk
-  pub known : IsKnown q s queue set (suc (posters + takers)) (suc (posters + takers)) desk
-  pub none : q.history queue [] ≡ []
+  pub caller : IsDesk q s queue rush set 0 desk
+  pub known : IsKnown q s queue rush set (suc (posters + takers)) (suc (posters + takers)) (suc (posters + takers)) desk
+  pub none_first : (b : Bool) → q.history (pick queue rush b) [] ≡ []
   pub numbered : AreNumbered 1 ws
-  pub back : AllByRecursion (IsBack q s queue set lines (q.journal desk.queue) (s.journal desk.set)) ws
+  pub back : AllByRecursion (IsBack q s queue rush set lines (seen_in q desk) (s.journal desk.set)) ws
   pub told : AllByRecursion
-      (λ w. IsTold (beside (queue_view q queue) (IsWorker posters takers)) (beside (set_view s set) (IsWorker posters takers)) lines posters
-      (q.journal desk.queue) (s.journal desk.set) w.agent w.posts.items w.takes.items) ws
-  pub taking : TakingRest (beside (queue_view q queue) (IsWorker posters takers)) (beside (set_view s set) (IsWorker posters takers)) lines 0 0 takes [] []
-      (q.journal desk.queue) (s.journal desk.set)
-  pub queue_zero_last : ZeroLast agent_of_entry (q.history queue (q.journal desk.queue))
+      (λ w. IsTold (all_beside (queue_views q queue rush) (IsWorker posters takers)) (beside (set_view s set) (IsWorker posters takers)) lines posters
+      (seen_in q desk) (s.journal desk.set) w.agent w.posts.items w.takes.items) ws
+  pub taking : TakingRest (all_beside (queue_views q queue rush) (IsWorker posters takers)) (beside (set_view s set) (IsWorker posters takers)) lines 0 0 takes
+      none [] (seen_in q desk) (s.journal desk.set)
+  pub queues_zero_last : (b : Bool) → ZeroLast agent_of_entry (q.history (pick queue rush b) (seen_in q desk b))
   pub set_zero_last : ZeroLast agent_of_set_entry (s.history set (s.journal desk.set))
-  pub last : LastIsEmpty 0 (q.history queue (q.journal desk.queue)) ⊎ (length lines ≤ length takes)
+  pub last : ((b : Bool) → LastIsEmpty 0 (q.history (pick queue rush b) (seen_in q desk b))) ⊎ (length lines ≤ length takes)
 
 -- what a run leaves: idle desks in order, which have all seen the same journals, and replies that follow these
-pub record IsOver {Q S P R A B : Type 0} (q : QueueOf Q P A) (s : SetOf S R B) (queue : Q) (set : S) (lines : List Line) (posters takers : ℕ)
+pub record IsOver {Q S P R A B : Type 0} (q : QueueOf Q P A) (s : SetOf S R B) (queue rush : Q) (set : S) (lines : List Line) (posters takers : ℕ)
     (desks : List (Desk P R)) (posts : List PostReply) (takes : List TakeReply) : Type 0 where
-  pub idle : AreIdle q s queue set 0 desks
+  pub idle : AreIdle q s queue rush set 0 desks
   pub all : length desks ≡ suc (posters + takers)
   pub seen : HaveSeen q s (queue_seen q desks) (set_seen s desks) desks
-  pub ran : Ran (queue_view q queue) (set_view s set) lines posters takers posts takes (queue_seen q desks) (set_seen s desks)
+  pub ran : Ran (queue_views q queue rush) (set_view s set) lines posters takers posts takes (queue_seen q desks) (set_seen s desks)

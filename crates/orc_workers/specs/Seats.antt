@@ -7,7 +7,7 @@ use Rattle.orc_workers.specs.declared.reserve.Room.{Room}
 use Rattle.orc_workers.specs.declared.reserve.Reserved.{Reserved}
 use Rattle.orc_workers.specs.declared.team.Worker.{Worker}
 
--- room for a poster's replies to so many lines, or for a taker's to so many Posts
+-- room for a poster's replies to so many lines, or for a taker's to so many that post a job
 pub record IsRoom (posters lines posts agent : ℕ) (room : Room) : Type 0 where
   pub no_posts : room.posts.items ≡ []
   pub no_takes : room.takes.items ≡ []

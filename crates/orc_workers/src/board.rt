@@ -1,10 +1,9 @@
 //! A whole run.
-ghost use Rattle.std.specs.Prelude.{◌≡◌, ◌+◌, ◌≤◌, [], length, IfOk, OnOk, OnErr, vec_len, vec_capacity};
+ghost use Rattle.std.specs.Prelude.{◌≡◌, ◌+◌, ◌≤◌, Bool, [], length, IfOk, OnErr, vec_len, vec_capacity};
 ghost use Rattle.std.specs.List.{AllByRecursion};
 ghost use Rattle.orc_history.specs.QueueHistory.{IsLegalQueue, waiting_after};
 ghost use Rattle.orc_history.specs.SetHistory.{IsLegalSet};
 ghost use Rattle.orc_jobs.specs.GoodLines.{AreGood};
-ghost use Rattle.orc_jobs.specs.Line.{posts_in};
 ghost use Rattle.orc_board.specs.Reportable.{AreReportable};
 ghost use Rattle.orc_workers.specs.Desks.{IsFreshDesk, AreFresh, AreIdle, HaveSeenTheSame, RepliesFollow, queue_history, set_history};
 ghost use Rattle.orc_workers.specs.Team.{IsReady};
@@ -14,7 +13,7 @@ use crate::learning::learn_from_team;
 use crate::reserve::{Reserved, reserve};
 use crate::seating::{hand_back, seat};
 use crate::team::{Worker, run_workers};
-use crate::work::count_posts;
+use crate::work::count_jobs;
 use orc_board::{Desk, Gate, Replies, TakeList, take_rest};
 use orc_fault::NoMemory;
 use orc_history::{LearnQueue, LearnSet};
@@ -23,13 +22,6 @@ use std::alloc::Global;
 use std::sync::Wait;
 use std::sync::atomic::AtomicU64;
 use std::thread::Threads;
-
-/// What a run gives back: one idle desk per agent in order, and all replies.
-#[derive(Drop)]
-pub struct Finished<A, B> {
-    pub desks: Vec<Desk<A, B>>,
-    pub replies: Replies,
-}
 
 // The caller's desk and replies, and the workers in order.
 #[derive(Drop)]
@@ -46,8 +38,8 @@ pub(crate) struct Seated<A, B> {
 ///
 /// # Errors
 ///
-/// `NoMemory` where memory is refused. All of it is taken before the first worker starts: the desks stay as they were, and both
-/// histories are empty.
+/// `NoMemory` where memory is refused. All of it is taken before the first worker starts: the desks stay as they were, and all
+/// three histories are empty.
 pub fn run_at_desks<
     R: Threads + Wait + Sync,
     Q: LearnQueue + Sync,
@@ -60,6 +52,7 @@ pub fn run_at_desks<
     posters: u32,
     takers: u32,
     queue: &Q,
+    rush: &Q,
     set: &S,
     desks: &mut Vec<Desk<Q::Pass, S::Pass>>,
     gate: &G,
@@ -69,17 +62,18 @@ where
     S::Pass: Send,
     requires posters { 1 ≤ posters }
     requires good { AreGood lines.now }
-    requires desks { AreFresh Q.SharedQueue S.SharedSet queue.now set.now 0 desks.old.items }
+    requires desks { AreFresh Q.SharedQueue S.SharedSet queue.now rush.now set.now 0 desks.old.items }
     requires count { vec_len desks.old ≡ 1 + (posters + takers) }
-    requires agents { (Q.agents queue.now ≡ 1 + (posters + takers)) × (S.agents set.now ≡ 1 + (posters + takers)) }
-    requires first { Q.first queue.now ≡ 0 }
-    ensures idle { IfOk result (λ r. AreIdle Q.SharedQueue S.SharedSet queue.now set.now 0 desks.new.items) }
+    requires agents { (Q.agents queue.now ≡ 1 + (posters + takers)) × (Q.agents rush.now ≡ 1 + (posters + takers))
+        × (S.agents set.now ≡ 1 + (posters + takers)) }
+    requires first { (Q.first queue.now ≡ 0) × (Q.first rush.now ≡ 0) }
+    ensures idle { IfOk result (λ r. AreIdle Q.SharedQueue S.SharedSet queue.now rush.now set.now 0 desks.new.items) }
     ensures all { IfOk result (λ r. length desks.new.items ≡ 1 + (posters + takers)) }
     ensures seen { IfOk result (λ r. HaveSeenTheSame Q.SharedQueue S.SharedSet desks.new.items) }
-    ensures follows { IfOk result (λ r. RepliesFollow Q.SharedQueue S.SharedSet queue.now set.now lines.now posters takers desks.new.items r) }
-    ensures queue_legal { IfOk result (λ r. IsLegalQueue 0 (queue_history Q.SharedQueue queue.now desks.new.items)) }
+    ensures follows { IfOk result (λ r. RepliesFollow Q.SharedQueue S.SharedSet queue.now rush.now set.now lines.now posters takers desks.new.items r) }
+    ensures queues_legal { IfOk result (λ r. (b : Bool) → IsLegalQueue 0 (queue_history Q.SharedQueue queue.now rush.now desks.new.items b)) }
     ensures set_legal { IfOk result (λ r. IsLegalSet (set_history S.SharedSet set.now desks.new.items)) }
-    ensures empty { IfOk result (λ r. waiting_after [] (queue_history Q.SharedQueue queue.now desks.new.items) ≡ []) }
+    ensures empty { IfOk result (λ r. (b : Bool) → waiting_after [] (queue_history Q.SharedQueue queue.now rush.now desks.new.items b) ≡ []) }
     ensures reportable { IfOk result (λ r. AreReportable lines.now r.posts.items r.takes.items) }
     ensures kept { OnErr result (desks.new ≡ desks.old) }
 {
@@ -95,7 +89,7 @@ where
         posters,
         desks.len() - 1,
         lines.len(),
-        count_posts(lines),
+        count_jobs(lines),
     )?;
     let desk = desks.remove(0);
     let waiting = seat(queue, desks, rooms, waiting);
@@ -104,7 +98,7 @@ where
         takes: own,
         workers,
     } = run_seated(
-        rt, queue, set, posters, takers, lines, gate, desk, own, waiting, done,
+        rt, queue, rush, set, posters, takers, lines, gate, desk, own, waiting, done,
     );
     takes.append(own);
     let Ok(()) = desks.push(desk) else {
@@ -112,51 +106,6 @@ where
     };
     hand_back(workers, desks, &mut posts, &mut takes);
     Ok(Replies { posts, takes })
-}
-
-/// The same, where the desks are handed in and handed back by value.
-///
-/// # Errors
-///
-/// `NoMemory` where memory is refused, before the first worker starts: both histories are empty. The desks are let go.
-pub fn run_board<
-    R: Threads + Wait + Sync,
-    Q: LearnQueue + Sync,
-    S: LearnSet + Sync,
-    G: Gate + Sync,
->(
-    rt: &R,
-    alloc: Global,
-    lines: &Lines,
-    posters: u32,
-    takers: u32,
-    queue: &Q,
-    set: &S,
-    mut desks: Vec<Desk<Q::Pass, S::Pass>>,
-    gate: &G,
-) -> Result<Finished<Q::Pass, S::Pass>, NoMemory>
-where
-    Q::Pass: Send,
-    S::Pass: Send,
-    requires posters { 1 ≤ posters }
-    requires good { AreGood lines.now }
-    requires desks { AreFresh Q.SharedQueue S.SharedSet queue.now set.now 0 desks.items }
-    requires count { vec_len desks ≡ 1 + (posters + takers) }
-    requires agents { (Q.agents queue.now ≡ 1 + (posters + takers)) × (S.agents set.now ≡ 1 + (posters + takers)) }
-    requires first { Q.first queue.now ≡ 0 }
-    ensures idle { IfOk result (λ f. AreIdle Q.SharedQueue S.SharedSet queue.now set.now 0 f.desks.items) }
-    ensures all { IfOk result (λ f. length f.desks.items ≡ 1 + (posters + takers)) }
-    ensures seen { IfOk result (λ f. HaveSeenTheSame Q.SharedQueue S.SharedSet f.desks.items) }
-    ensures follows { IfOk result (λ f. RepliesFollow Q.SharedQueue S.SharedSet queue.now set.now lines.now posters takers f.desks.items f.replies) }
-    ensures queue_legal { IfOk result (λ f. IsLegalQueue 0 (queue_history Q.SharedQueue queue.now f.desks.items)) }
-    ensures set_legal { IfOk result (λ f. IsLegalSet (set_history S.SharedSet set.now f.desks.items)) }
-    ensures empty { IfOk result (λ f. waiting_after [] (queue_history Q.SharedQueue queue.now f.desks.items) ≡ []) }
-    ensures reportable { IfOk result (λ f. AreReportable lines.now f.replies.posts.items f.replies.takes.items) }
-{
-    let replies = run_at_desks(
-        rt, alloc, lines, posters, takers, queue, set, &mut desks, gate,
-    )?;
-    Ok(Finished { desks, replies })
 }
 
 // Runs the workers, and then takes what they left. All memory has been taken before.
@@ -168,6 +117,7 @@ pub(crate) fn run_seated<
 >(
     rt: &R,
     queue: &Q,
+    rush: &Q,
     set: &S,
     posters: u32,
     takers: u32,
@@ -183,23 +133,27 @@ where
     S::Pass: Send,
     requires good { AreGood lines.now }
     requires room { (vec_len done ≡ 0) × (done.items ≡ []) × (vec_len waiting ≤ vec_capacity done) }
-    requires desk { IsFreshDesk Q.SharedQueue S.SharedSet queue.now set.now 0 desk }
+    requires desk { IsFreshDesk Q.SharedQueue S.SharedSet queue.now rush.now set.now 0 desk }
     requires none { takes.items ≡ [] }
     requires enough { length lines.now ≤ takes.spare }
-    requires ready { AllByRecursion (IsReady Q.SharedQueue S.SharedSet queue.now set.now lines.now posters) waiting.items }
-    requires begin { AllByRecursion (IsNew Q.SharedQueue S.SharedSet queue.now set.now) waiting.items }
+    requires ready { AllByRecursion (IsReady Q.SharedQueue S.SharedSet queue.now rush.now set.now lines.now posters) waiting.items }
+    requires begin { AllByRecursion (IsNew Q.SharedQueue S.SharedSet queue.now rush.now set.now) waiting.items }
     requires numbered { AreNumbered 1 waiting.items }
     requires count { length waiting.items ≡ posters + takers }
-    requires agents { (Q.agents queue.now ≡ 1 + (posters + takers)) × (S.agents set.now ≡ 1 + (posters + takers)) }
-    ensures back { AllCameBack Q.SharedQueue S.SharedSet queue.now set.now lines.now posters takers result.desk result.takes.items result.workers.items }
+    requires agents { (Q.agents queue.now ≡ 1 + (posters + takers)) × (Q.agents rush.now ≡ 1 + (posters + takers))
+        × (S.agents set.now ≡ 1 + (posters + takers)) }
+    ensures back { AllCameBack Q.SharedQueue S.SharedSet queue.now rush.now set.now lines.now posters takers
+        result.desk result.takes.items result.workers.items }
     ensures len { vec_len result.workers ≡ vec_len waiting }
 {
     let _ = takers;
     let left = AtomicU64::new(u64::from(posters));
-    let mut workers = run_workers(rt, queue, set, posters, lines, gate, &left, waiting, done);
-    learn_from_team(queue, set, 0, &mut desk, &mut workers);
-    take_rest(rt, queue, set, &mut desk, 0, lines, gate, &mut takes);
-    learn_from_team(queue, set, 0, &mut desk, &mut workers);
+    let mut workers = run_workers(
+        rt, queue, rush, set, posters, lines, gate, &left, waiting, done,
+    );
+    learn_from_team(queue, rush, set, 0, &mut desk, &mut workers);
+    take_rest(rt, queue, rush, set, &mut desk, 0, lines, gate, &mut takes);
+    learn_from_team(queue, rush, set, 0, &mut desk, &mut workers);
     Seated {
         desk,
         takes,

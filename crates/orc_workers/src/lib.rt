@@ -1,4 +1,4 @@
-//! Posters and takers on threads, over one queue and one set.
+//! Posters and takers on threads, over a queue, a rush queue and a set.
 #![tactic(auto)]
 
 mod board;
@@ -9,6 +9,6 @@ mod seating;
 mod team;
 mod work;
 
-pub use board::{Finished, run_at_desks, run_board};
+pub use board::run_at_desks;
 pub use desks::fresh_desks;
 pub use work::{run_poster, run_taker};

@@ -26,7 +26,7 @@ pub(crate) struct Reserved<A, B> {
     pub(crate) takes: TakeList,
 }
 
-// Takes the memory of a run with so many workers, lines and Posts.
+// Takes the memory of a run with so many workers, lines, and lines that post a job.
 pub(crate) fn reserve<A: Drop, B: Drop>(
     alloc: Global,
     posters: u32,

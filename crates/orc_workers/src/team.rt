@@ -26,6 +26,7 @@ pub(crate) struct Worker<A, B> {
 pub(crate) fn run_worker<R: Wait, Q: SharedQueue, S: SharedSet, G: Gate>(
     rt: &R,
     queue: &Q,
+    rush: &Q,
     set: &S,
     posters: u32,
     lines: &Lines,
@@ -33,8 +34,8 @@ pub(crate) fn run_worker<R: Wait, Q: SharedQueue, S: SharedSet, G: Gate>(
     left: &AtomicU64,
     worker: Worker<Q::Pass, S::Pass>,
 ) -> Worker<Q::Pass, S::Pass>
-    requires ready { IsReady Q.SharedQueue S.SharedSet queue.now set.now lines.now posters worker }
-    ensures { DidWork Q.SharedQueue S.SharedSet queue.now set.now lines.now posters worker result }
+    requires ready { IsReady Q.SharedQueue S.SharedSet queue.now rush.now set.now lines.now posters worker }
+    ensures { DidWork Q.SharedQueue S.SharedSet queue.now rush.now set.now lines.now posters worker result }
 {
     let Worker {
         agent,
@@ -44,7 +45,7 @@ pub(crate) fn run_worker<R: Wait, Q: SharedQueue, S: SharedSet, G: Gate>(
     } = worker;
     if agent <= posters {
         let (desk, posts) = run_poster(
-            rt, queue, set, desk, agent, posters, lines, gate, left, posts,
+            rt, queue, rush, set, desk, agent, posters, lines, gate, left, posts,
         );
         Worker {
             agent,
@@ -56,6 +57,7 @@ pub(crate) fn run_worker<R: Wait, Q: SharedQueue, S: SharedSet, G: Gate>(
         let (desk, takes) = run_taker(
             rt,
             queue,
+            rush,
             set,
             desk,
             agent - posters,
@@ -84,6 +86,7 @@ pub(crate) fn run_workers<
 >(
     rt: &R,
     queue: &Q,
+    rush: &Q,
     set: &S,
     posters: u32,
     lines: &Lines,
@@ -96,8 +99,8 @@ where
     Q::Pass: Send,
     S::Pass: Send,
     requires room { vec_len done + vec_len waiting ≤ vec_capacity done }
-    requires ready { AllByRecursion (IsReady Q.SharedQueue S.SharedSet queue.now set.now lines.now posters) waiting.items }
-    ensures team { Team (DidWork Q.SharedQueue S.SharedSet queue.now set.now lines.now posters) waiting.items done.items result.items }
+    requires ready { AllByRecursion (IsReady Q.SharedQueue S.SharedSet queue.now rush.now set.now lines.now posters) waiting.items }
+    ensures team { Team (DidWork Q.SharedQueue S.SharedSet queue.now rush.now set.now lines.now posters) waiting.items done.items result.items }
     ensures room { vec_capacity done ≤ vec_capacity result }
     ensures len { vec_len result ≡ vec_len done + vec_len waiting }
 {
@@ -105,16 +108,20 @@ where
         return done;
     };
     let one = move || -> Worker<Q::Pass, S::Pass>
-        requires { IsReady Q.SharedQueue S.SharedSet queue.now set.now lines.now posters worker }
-        ensures { DidWork Q.SharedQueue S.SharedSet queue.entry.now set.entry.now lines.entry.now posters worker result }
-    { run_worker(rt, queue, set, posters, lines, gate, left, worker) };
+        requires { IsReady Q.SharedQueue S.SharedSet queue.now rush.now set.now lines.now posters worker }
+        ensures { DidWork Q.SharedQueue S.SharedSet queue.entry.now rush.entry.now set.entry.now lines.entry.now posters worker result }
+    { run_worker(rt, queue, rush, set, posters, lines, gate, left, worker) };
     let others = move || -> Vec<Worker<Q::Pass, S::Pass>>
         requires { IsSync R.row × (vec_len done + vec_len waiting ≤ vec_capacity done)
-            × AllByRecursion (IsReady Q.SharedQueue S.SharedSet queue.now set.now lines.now posters) waiting.items }
-        ensures team { Team (DidWork Q.SharedQueue S.SharedSet queue.entry.now set.entry.now lines.entry.now posters) waiting.items done.items result.items }
+            × AllByRecursion (IsReady Q.SharedQueue S.SharedSet queue.now rush.now set.now lines.now posters) waiting.items }
+        ensures team { Team (DidWork Q.SharedQueue S.SharedSet queue.entry.now rush.entry.now set.entry.now lines.entry.now posters) waiting.items done.items result.items }
         ensures room { vec_capacity done ≤ vec_capacity result }
         ensures len { vec_len result ≡ vec_len done + vec_len waiting }
-    { run_workers(rt, queue, set, posters, lines, gate, left, waiting, done) };
+    {
+        run_workers(
+            rt, queue, rush, set, posters, lines, gate, left, waiting, done,
+        )
+    };
     let (worker, mut done) = thread::join(rt, one, others);
     let Ok(()) = done.push(worker) else {
         unreachable!()

@@ -1,10 +1,9 @@
 //! The work of a poster and of a taker, each at a desk of its own.
 ghost use Rattle.std.specs.Prelude.{◌≡◌, ◌≤◌, ◌<◌, ◌+◌, [], ◌∷◌, length, map};
-ghost use Rattle.orc_history.specs.declared.queue.QueueEntry.{QueueEntry};
 ghost use Rattle.orc_jobs.specs.GoodLines.{AreGood};
-ghost use Rattle.orc_jobs.specs.Line.{posts_in};
+ghost use Rattle.orc_jobs.specs.Line.{jobs_in};
 ghost use Rattle.orc_board.specs.Desk.{IsDesk};
-ghost use Rattle.orc_board.specs.DeskCalls.{Posts, QueueEndsWith, TakesRest};
+ghost use Rattle.orc_board.specs.DeskCalls.{FindsBothEmpty, Posts, TakesRest};
 ghost use Rattle.orc_board.specs.Follows.{own_records};
 
 use orc_board::{Desk, Gate, PostList, TakeList, post_records, take_one};
@@ -19,6 +18,7 @@ use std::thread;
 pub fn run_poster<R: Wait, Q: SharedQueue, S: SharedSet, G: Gate>(
     rt: &R,
     queue: &Q,
+    rush: &Q,
     set: &S,
     mut desk: Desk<Q::Pass, S::Pass>,
     poster: u32,
@@ -28,19 +28,20 @@ pub fn run_poster<R: Wait, Q: SharedQueue, S: SharedSet, G: Gate>(
     left: &AtomicU64,
     mut replies: PostList,
 ) -> (Desk<Q::Pass, S::Pass>, PostList)
-    requires desk { IsDesk Q.SharedQueue S.SharedSet queue.now set.now poster desk }
+    requires desk { IsDesk Q.SharedQueue S.SharedSet queue.now rush.now set.now poster desk }
     requires good { AreGood lines.now }
     requires poster { (1 ≤ poster) × (poster ≤ posters) }
     requires none { replies.items ≡ [] }
     requires room { length (own_records posters poster (length lines.now)) ≤ replies.spare }
-    ensures desk { IsDesk Q.SharedQueue S.SharedSet queue.now set.now poster result.0 }
-    ensures posting { Posts Q.SharedQueue S.SharedSet queue.now set.now desk result.0 lines.now poster result.1.items }
+    ensures desk { IsDesk Q.SharedQueue S.SharedSet queue.now rush.now set.now poster result.0 }
+    ensures posting { Posts Q.SharedQueue S.SharedSet queue.now rush.now set.now desk result.0 lines.now poster result.1.items }
     ensures in_file_order { map (λ r. r.line) result.1.items ≡ own_records posters poster (length lines.now) }
     ensures spare { length result.1.items + result.1.spare ≡ replies.spare }
 {
     post_records(
         rt,
         queue,
+        rush,
         set,
         &mut desk,
         poster,
@@ -53,11 +54,12 @@ pub fn run_poster<R: Wait, Q: SharedQueue, S: SharedSet, G: Gate>(
     (desk, replies)
 }
 
-/// Takes jobs until its replies are as many as the Posts of the file, or until it finds the queue empty after it had read that no
-/// poster is left.
+/// Takes jobs until its replies are as many as the Posts and Rushes of the file, or until it finds both queues empty, the rush
+/// queue first, after it had read that no poster is left.
 pub fn run_taker<R: Wait, Q: SharedQueue, S: SharedSet, G: Gate>(
     rt: &R,
     queue: &Q,
+    rush: &Q,
     set: &S,
     mut desk: Desk<Q::Pass, S::Pass>,
     taker: u32,
@@ -66,27 +68,27 @@ pub fn run_taker<R: Wait, Q: SharedQueue, S: SharedSet, G: Gate>(
     left: &AtomicU64,
     mut replies: TakeList,
 ) -> (Desk<Q::Pass, S::Pass>, TakeList)
-    requires desk { IsDesk Q.SharedQueue S.SharedSet queue.now set.now (Q.agent_of queue.now desk.queue) desk }
+    requires desk { IsDesk Q.SharedQueue S.SharedSet queue.now rush.now set.now (Q.agent_of queue.now desk.queue) desk }
     requires good { AreGood lines.now }
     requires none { replies.items ≡ [] }
-    requires room { posts_in lines.now ≤ replies.spare }
-    ensures desk { IsDesk Q.SharedQueue S.SharedSet queue.now set.now (Q.agent_of queue.now desk.queue) result.0 }
-    ensures taking { TakesRest Q.SharedQueue S.SharedSet queue.now set.now desk result.0 lines.now taker result.1.items }
-    ensures few { length result.1.items ≤ posts_in lines.now }
-    ensures last { length result.1.items < posts_in lines.now
-        → QueueEndsWith Q.SharedQueue queue.now desk.queue result.0.queue (λ agent. QueueEntry.Empty agent) }
+    requires room { jobs_in lines.now ≤ replies.spare }
+    ensures desk { IsDesk Q.SharedQueue S.SharedSet queue.now rush.now set.now (Q.agent_of queue.now desk.queue) result.0 }
+    ensures taking { TakesRest Q.SharedQueue S.SharedSet queue.now rush.now set.now desk result.0 lines.now taker result.1.items }
+    ensures few { length result.1.items ≤ jobs_in lines.now }
+    ensures last { length result.1.items < jobs_in lines.now
+        → FindsBothEmpty Q.SharedQueue S.SharedSet queue.now rush.now set.now desk result.0 }
     ensures spare { length result.1.items + result.1.spare ≡ replies.spare }
 {
-    let posts = count_posts(lines);
+    let jobs = count_jobs(lines);
     let mut call: u64 = 0;
     for _ in rt.forever() {
-        if replies.len() >= posts {
+        if replies.len() >= jobs {
             return (desk, replies);
         }
         let none_left = left.load(Ordering::SeqCst) == 0;
         gate.before(queue.agent(&desk.queue), call);
         call = call.wrapping_add(1);
-        match take_one(rt, queue, set, &mut desk, taker, lines) {
+        match take_one(rt, queue, rush, set, &mut desk, taker, lines) {
             Some(reply) => replies.push(reply),
             None => {
                 if none_left {
@@ -99,24 +101,24 @@ pub fn run_taker<R: Wait, Q: SharedQueue, S: SharedSet, G: Gate>(
     unreachable!()
 }
 
-// One for a Post.
-fn count_post(line: &Line) -> usize
-    ensures is { result ≡ posts_in (line.now ∷ []) }
+// One for a Post or a Rush.
+fn count_job(line: &Line) -> usize
+    ensures is { result ≡ jobs_in (line.now ∷ []) }
     ensures few { result ≤ 1 }
 {
     match line {
-        Line::Post { .. } => 1,
+        Line::Post { .. } | Line::Rush { .. } => 1,
         Line::Drop { .. } => 0,
     }
 }
 
-// How many of the lines are Posts.
-pub(crate) fn count_posts(lines: &Lines) -> usize
-    ensures { result ≡ posts_in lines.now }
+// How many of the lines are Posts or Rushes.
+pub(crate) fn count_jobs(lines: &Lines) -> usize
+    ensures { result ≡ jobs_in lines.now }
 {
-    let mut posts = 0;
+    let mut jobs = 0;
     for index in 0..lines.len() {
-        posts += count_post(lines.get(index));
+        jobs += count_job(lines.get(index));
     }
-    posts
+    jobs
 }

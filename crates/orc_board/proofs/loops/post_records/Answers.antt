@@ -1,7 +1,7 @@
 use Rattle.std.proofs.Common.{◌≡◌, ◌<◌, ℕ, length, ap, ◌∙◌, arith, map, [], ◌∷◌, ◌++◌, List, length-append}
 use Rattle.std.proofs.lemmas.List.{map-append}
 use Rattle.orc_board.specs.declared.replies.PostReply.{PostReply}
-use Rattle.orc_board.specs.Stretches.{queue_view, set_view}
+use Rattle.orc_board.specs.Stretches.{queue_views, set_view}
 use Rattle.orc_board.specs.Follows.{own_records}
 use Rattle.orc_board.proofs.Workers.{posting_none, posting_more, own-yes, own-no, own-room, own-length}
 use Rattle.orc_board.proofs.loops.post_records.Goals as goal
@@ -11,7 +11,7 @@ pub loop-index-init : goal.loop-index-init
 loop-index-init g c = record {
   desk = c.requires.desk;
   spare = let none : length c.args.replies.now.items ≡ 0 = ap length c.requires.none in omega (arith, none);
-  posting = posting_none (queue_view g.Q.SharedQueue c.args.queue.now) (set_view g.S.SharedSet c.args.set.now) _ _ _ _ _ c.requires.none;
+  posting = posting_none (queue_views g.Q.SharedQueue c.args.queue.now c.args.rush.now) (set_view g.S.SharedSet c.args.set.now) _ _ _ _ _ c.requires.none;
   in_file_order = ap (map (λ (r : PostReply). r.line)) c.requires.none;
 }
 
@@ -24,7 +24,7 @@ loop-index-preserved g c = elim c.if-index-posters.branch [
         (omega (arith, c.loop-index.invariant.spare, w.push.ensures.spare, length-append c.loop-index.replies.items (w.reply_to.result ∷ [])));
     posting =
         rw w.push.ensures.items
-        (posting_more (queue_view g.Q.SharedQueue c.args.queue.now)
+        (posting_more (queue_views g.Q.SharedQueue c.args.queue.now c.args.rush.now)
         (set_view g.S.SharedSet c.args.set.now) _ _ _ _ _ _ _ _ _ _ _ _ c.loop-index.invariant.posting w.reply_to.ensures.reply w.get.ensures
         w.reply_to.ensures.row);
     in_file_order = rw w.push.ensures.items

@@ -1,4 +1,4 @@
-use Rattle.std.proofs.Common.{◌≡◌, ◌∙◌, ◌-◌, ◌+◌, arith}
+use Rattle.std.proofs.Common.{◌≡◌, ◌-◌, ◌+◌, arith}
 use Rattle.orc_jobs.proofs.GeneratedLines.{all-made, generated-good, lines-one_more}
 use Rattle.orc_jobs.proofs.generated.make_lines.Goals as goal
 

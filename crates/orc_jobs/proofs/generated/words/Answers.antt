@@ -1,4 +1,4 @@
-use Rattle.std.proofs.Common.{◌≡◌, ◌∙◌, ap, codes, replicate, sym}
+use Rattle.std.proofs.Common.{◌∙◌, ap, codes, replicate, sym}
 use Rattle.std.specs.List.{join_with_byte}
 use Rattle.std.proofs.lemmas.List.{length-replicate}
 use Rattle.orc_jobs.proofs.GeneratedLines.{replicate-one_more}

@@ -37,8 +37,8 @@ loop-piece-preserved c =
       room = omega (arith, longer, room);
     }
 
-pub returns : goal.returns
-returns c numbers spells =
+pub returns-clause-sum : goal.returns-clause-sum
+returns-clause-sum c numbers spells =
     let gives = YieldsList-at c.into_iter-piece-iterator.ensures.into_iter_gives
     (YieldsList-from_slice_split _ (λ b. b == 32) c.args.text.now c.split-piece-items.ensures.rest c.split-piece-items.ensures.done
     c.split-piece-items.ensures.closure (λ x b q k. (refl, rw k.shows at k.called.met))) in

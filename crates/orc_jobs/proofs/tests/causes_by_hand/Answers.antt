@@ -26,13 +26,13 @@ put-no_verb : Applies cause.Verb put
 unfolding put
 put-no_verb = (
   λ e. let second : 117 ≡ 111 = ap (λ t. get_or t 1 0) e in omega (arith, second),
-  λ e. let first : 112 ≡ 100 = ap (λ t. get_or t 0 0) e in
-      omega (arith, first),
+  λ e. let first : 112 ≡ 114 = ap (λ t. get_or t 0 0) e in omega (arith, first),
+  λ e. let first : 112 ≡ 100 = ap (λ t. get_or t 0 0) e in omega (arith, first),
 )
 
 put-before : (earlier : Cause) → rank_of earlier < 2 → ¬ Applies earlier put
 unfolding put
-put-before cause.Fields lt (inl bad) = put-no_verb.1 bad.0
+put-before cause.Fields lt (inl bad) = put-no_verb.2 bad.0
 put-before cause.Fields lt (inr bad) = bad.1 refl
 put-before cause.Utf8 lt bad = bad put-text
 put-before cause.Verb lt bad = omega (arith, lt)

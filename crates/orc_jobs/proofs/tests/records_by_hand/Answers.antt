@@ -29,6 +29,9 @@ returns-clause-records c = refl
 pub returns-clause-post : goal.returns-clause-post
 returns-clause-post c = rw seven refl
 
+pub returns-clause-rush : goal.returns-clause-rush
+returns-clause-rush c = rw seven refl
+
 pub returns-clause-drop : goal.returns-clause-drop
 returns-clause-drop c = rw seven refl
 

@@ -1,8 +1,15 @@
-use Rattle.orc_report.proofs.ReportedReplies.{positions_below, board_lines}
+use Rattle.std.proofs.Common.{false, true}
+use Rattle.orc_report.proofs.ReportedReplies.{lines_below, positions_below}
 use Rattle.orc_report.proofs.report.write_report.Goals as goal
 
-pub in_position_order-requires : goal.in_position_order-requires
-in_position_order-requires c = rw c.items.ensures (positions_below _ _ _ c.requires.reportable)
+pub push_queue-requires-clause-positions : goal.push_queue-requires-clause-positions
+push_queue-requires-clause-positions c = rw c.items-takes.ensures (positions_below false _ _ (c.requires.reportable.queues false))
 
-pub push_board-requires : goal.push_board-requires
-push_board-requires c = rw (c.as_slice.ensures.value, c.in_ok-board.ensures, c.items.ensures) (board_lines _ _ _ c.requires.reportable)
+pub push_queue-requires-clause-lines : goal.push_queue-requires-clause-lines
+push_queue-requires-clause-lines c = rw c.items-takes.ensures (lines_below _ _ c.requires.reportable.claimed)
+
+pub push_rush_queue-requires-clause-positions : goal.push_rush_queue-requires-clause-positions
+push_rush_queue-requires-clause-positions c = rw c.items-takes.ensures (positions_below true _ _ (c.requires.reportable.queues true))
+
+pub push_rush_queue-requires-clause-lines : goal.push_rush_queue-requires-clause-lines
+push_rush_queue-requires-clause-lines c = rw c.items-takes.ensures (lines_below _ _ c.requires.reportable.claimed)

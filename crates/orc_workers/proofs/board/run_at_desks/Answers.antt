@@ -4,14 +4,15 @@ use Rattle.orc_board.specs.declared.replies.PostReply.{PostReply}
 use Rattle.orc_board.specs.declared.replies.TakeReply.{TakeReply}
 use Rattle.orc_workers.specs.declared.team.Worker.{Worker}
 use Rattle.orc_workers.specs.Seats.{all_of}
+use Rattle.orc_workers.proofs.CameBack.{for_both}
 use Rattle.orc_workers.proofs.Over.{over_of, few_replies}
 use Rattle.orc_workers.proofs.Rooms.{fresh_rest, fresh_agents, seats_ready, seated_length}
 use Rattle.orc_workers.proofs.board.run_at_desks.Goals as goal
 
 pub seat-waiting-requires-clause-agents : goal.seat-waiting-requires-clause-agents
 seat-waiting-requires-clause-agents g c =
-    fresh_agents g.Q.SharedQueue g.S.SharedSet c.args.queue.now c.args.set.now 1 _
-    (fresh_rest g.Q.SharedQueue g.S.SharedSet c.args.queue.now c.args.set.now 0 _ _ c.remove-desk.ensures.items c.requires.desks)
+    fresh_agents g.Q.SharedQueue g.S.SharedSet c.args.queue.now c.args.rush.now c.args.set.now 1 _
+    (fresh_rest g.Q.SharedQueue g.S.SharedSet c.args.queue.now c.args.rush.now c.args.set.now 0 _ _ c.remove-desk.ensures.items c.requires.desks)
 
 pub run_seated-desk-requires-clause-room : goal.run_seated-desk-requires-clause-room
 run_seated-desk-requires-clause-room g c κs within =
@@ -29,25 +30,25 @@ run_seated-desk-requires-clause-count g c κs within =
 
 pub run_seated-desk-requires-clause-ready : goal.run_seated-desk-requires-clause-ready
 run_seated-desk-requires-clause-ready g c κs within =
-    let r = seats_ready g.Q.SharedQueue g.S.SharedSet c.args.queue.now c.args.set.now c.args.lines.now c.args.posters _ _ c.args.desks.now.items
+    let r = seats_ready g.Q.SharedQueue g.S.SharedSet c.args.queue.now c.args.rush.now c.args.set.now c.args.lines.now c.args.posters _ _ c.args.desks.now.items
     c.remove-desk.new.self.items _ _
-    c.requires.good c.len-2.ensures c.count_posts.ensures c.requires.desks c.remove-desk.ensures.items c.in_ok-rooms.ensures.rooms
+    c.requires.good c.len-2.ensures c.count_jobs.ensures c.requires.desks c.remove-desk.ensures.items c.in_ok-rooms.ensures.rooms
     c.seat-waiting.ensures.seated in
     r.ready
 
 pub run_seated-desk-requires-clause-begin : goal.run_seated-desk-requires-clause-begin
 run_seated-desk-requires-clause-begin g c κs within =
-    let r = seats_ready g.Q.SharedQueue g.S.SharedSet c.args.queue.now c.args.set.now c.args.lines.now c.args.posters _ _ c.args.desks.now.items
+    let r = seats_ready g.Q.SharedQueue g.S.SharedSet c.args.queue.now c.args.rush.now c.args.set.now c.args.lines.now c.args.posters _ _ c.args.desks.now.items
     c.remove-desk.new.self.items _ _
-    c.requires.good c.len-2.ensures c.count_posts.ensures c.requires.desks c.remove-desk.ensures.items c.in_ok-rooms.ensures.rooms
+    c.requires.good c.len-2.ensures c.count_jobs.ensures c.requires.desks c.remove-desk.ensures.items c.in_ok-rooms.ensures.rooms
     c.seat-waiting.ensures.seated in
     r.begin
 
 pub run_seated-desk-requires-clause-numbered : goal.run_seated-desk-requires-clause-numbered
 run_seated-desk-requires-clause-numbered g c κs within =
-    let r = seats_ready g.Q.SharedQueue g.S.SharedSet c.args.queue.now c.args.set.now c.args.lines.now c.args.posters _ _ c.args.desks.now.items
+    let r = seats_ready g.Q.SharedQueue g.S.SharedSet c.args.queue.now c.args.rush.now c.args.set.now c.args.lines.now c.args.posters _ _ c.args.desks.now.items
     c.remove-desk.new.self.items _ _
-    c.requires.good c.len-2.ensures c.count_posts.ensures c.requires.desks c.remove-desk.ensures.items c.in_ok-rooms.ensures.rooms
+    c.requires.good c.len-2.ensures c.count_jobs.ensures c.requires.desks c.remove-desk.ensures.items c.in_ok-rooms.ensures.rooms
     c.seat-waiting.ensures.seated in
     r.numbered
 
@@ -64,9 +65,9 @@ append-requires g c =
     let rooms : length c.in_ok-rooms.field-0.rooms.items ≡ length c.remove-desk.new.self.items = search rules in
     let all : length c.seat-waiting.result.items ≡ length c.remove-desk.new.self.items = ap length c.seat-waiting.ensures.seated ∙ seated_length 1 _ _ rooms in
     let many : length c.run_seated-desk.result.workers.items ≡ c.args.posters + c.args.takers = search rules in
-    let few = few_replies g.Q.SharedQueue g.S.SharedSet c.args.queue.now c.args.set.now c.args.lines.now c.args.posters c.args.takers
+    let few = few_replies g.Q.SharedQueue g.S.SharedSet c.args.queue.now c.args.rush.now c.args.set.now c.args.lines.now c.args.posters c.args.takers
     c.run_seated-desk.result.desk c.run_seated-desk.result.takes.items c.run_seated-desk.result.workers.items
-    c.requires.posters c.requires.good.few c.requires.first many c.run_seated-desk.ensures.back in
+    c.requires.posters c.requires.good.few (for_both _ c.requires.first.0 c.requires.first.1) many c.run_seated-desk.ensures.back in
     omega (arith, few.1, c.in_ok-rooms.ensures.take_room, c.len-2.ensures)
 
 pub hand_back-requires-clause-posts : goal.hand_back-requires-clause-posts
@@ -75,9 +76,9 @@ hand_back-requires-clause-posts g c =
     let rooms : length c.in_ok-rooms.field-0.rooms.items ≡ length c.remove-desk.new.self.items = search rules in
     let all : length c.seat-waiting.result.items ≡ length c.remove-desk.new.self.items = ap length c.seat-waiting.ensures.seated ∙ seated_length 1 _ _ rooms in
     let many : length c.run_seated-desk.result.workers.items ≡ c.args.posters + c.args.takers = search rules in
-    let few = few_replies g.Q.SharedQueue g.S.SharedSet c.args.queue.now c.args.set.now c.args.lines.now c.args.posters c.args.takers
+    let few = few_replies g.Q.SharedQueue g.S.SharedSet c.args.queue.now c.args.rush.now c.args.set.now c.args.lines.now c.args.posters c.args.takers
     c.run_seated-desk.result.desk c.run_seated-desk.result.takes.items c.run_seated-desk.result.workers.items
-    c.requires.posters c.requires.good.few c.requires.first many c.run_seated-desk.ensures.back in
+    c.requires.posters c.requires.good.few (for_both _ c.requires.first.0 c.requires.first.1) many c.run_seated-desk.ensures.back in
     omega (arith, few.0, c.in_ok-rooms.ensures.post_room, c.len-2.ensures)
 
 pub hand_back-requires-clause-takes : goal.hand_back-requires-clause-takes
@@ -86,9 +87,9 @@ hand_back-requires-clause-takes g c =
     let rooms : length c.in_ok-rooms.field-0.rooms.items ≡ length c.remove-desk.new.self.items = search rules in
     let all : length c.seat-waiting.result.items ≡ length c.remove-desk.new.self.items = ap length c.seat-waiting.ensures.seated ∙ seated_length 1 _ _ rooms in
     let many : length c.run_seated-desk.result.workers.items ≡ c.args.posters + c.args.takers = search rules in
-    let few = few_replies g.Q.SharedQueue g.S.SharedSet c.args.queue.now c.args.set.now c.args.lines.now c.args.posters c.args.takers
+    let few = few_replies g.Q.SharedQueue g.S.SharedSet c.args.queue.now c.args.rush.now c.args.set.now c.args.lines.now c.args.posters c.args.takers
     c.run_seated-desk.result.desk c.run_seated-desk.result.takes.items c.run_seated-desk.result.workers.items
-    c.requires.posters c.requires.good.few c.requires.first many c.run_seated-desk.ensures.back in
+    c.requires.posters c.requires.good.few (for_both _ c.requires.first.0 c.requires.first.1) many c.run_seated-desk.ensures.back in
     omega (arith, few.1, c.in_ok-rooms.ensures.take_room, c.len-2.ensures, c.append.ensures.spare)
 
 pub returns : goal.returns
@@ -112,15 +113,15 @@ returns g c =
     ∙ ap (λ (xs : List TakeReply). xs ++ all_of (λ (w : Worker g.row.Q-Pass.Denot g.row.S-Pass.Denot). w.takes.items)
     c.run_seated-desk.result.workers.items)
     (c.append.ensures.items ∙ ap (λ (xs : List TakeReply). xs ++ c.run_seated-desk.result.takes.items) c.in_ok-rooms.ensures.no_takes) in
-    let over = over_of g.Q.SharedQueue g.S.SharedSet c.args.queue.now c.args.set.now c.args.lines.now c.args.posters c.args.takers
+    let over = over_of g.Q.SharedQueue g.S.SharedSet c.args.queue.now c.args.rush.now c.args.set.now c.args.lines.now c.args.posters c.args.takers
     c.run_seated-desk.result.desk c.run_seated-desk.result.takes.items c.run_seated-desk.result.workers.items _ _ _
-    c.requires.posters c.requires.good.few c.requires.first many c.run_seated-desk.ensures.back desks posts takes in
+    c.requires.posters c.requires.good.few (for_both _ c.requires.first.0 c.requires.first.1) many c.run_seated-desk.ensures.back desks posts takes in
     record {
       idle = over.idle;
       all = over.all ∙ omega arith;
       seen = over.seen;
       follows = over.ran.follows;
-      queue_legal = over.ran.queue_legal;
+      queues_legal = over.ran.queues_legal;
       set_legal = over.ran.set_legal;
       empty = over.ran.empty;
       reportable = over.ran.reportable;

@@ -1,52 +1,66 @@
-use Rattle.std.proofs.Common.{◌+◌, ℕ, subst, arith, length, suc}
+use Rattle.std.proofs.Common.{◌+◌, ℕ, true, false, subst, arith, length, suc}
 use Rattle.orc_history.specs.QueueHistory.{agent_of_entry}
 use Rattle.orc_history.specs.SetHistory.{agent_of_set_entry}
-use Rattle.orc_board.specs.Stretches.{queue_view, set_view}
+use Rattle.orc_board.specs.Desk.{seen_in}
+use Rattle.orc_board.specs.Stretches.{queue_views, set_view}
 use Rattle.orc_board.specs.Follows.{TakingRest, IsWorker}
 use Rattle.orc_workers.specs.Learning.{IsKnown}
+use Rattle.std.specs.List.{AllByRecursion}
+use Rattle.orc_board.proofs.Wholes.{Below}
 use Rattle.orc_workers.proofs.Teams.{team_each}
-use Rattle.orc_workers.proofs.CameBack.{Laws, AllBelow, others_after, came_back, none_at_start, rest_last, all_below, crowd_in_run, known_as}
+use Rattle.orc_workers.proofs.CameBack.{for_both, Laws, AllBelow, others_after, came_back, none_at_start, rest_last, all_below, crowd_in_run, known_as}
 use Rattle.orc_workers.proofs.board.run_seated.Goals as goal
 
 pub learn_from_team-requires-clause-others : goal.learn_from_team-requires-clause-others
 learn_from_team-requires-clause-others g c =
-    others_after g.Q.SharedQueue g.S.SharedSet c.args.queue.now c.args.set.now _ _ _ _ (team_each _ _ _ _ c.requires.room.1 c.run_workers-workers.ensures.team)
+    others_after g.Q.SharedQueue g.S.SharedSet c.args.queue.now c.args.rush.now c.args.set.now _ _ _ _ (team_each _ _ _ _ c.requires.room.1 c.run_workers-workers.ensures.team)
 
 pub returns-clause-back : goal.returns-clause-back
 returns-clause-back g c =
     let queue = c.args.queue.now in
+    let rush = c.args.rush.now in
     let set = c.args.set.now in
-    let qv = queue_view g.Q.SharedQueue queue in
+    let qv = queue_views g.Q.SharedQueue queue rush in
     let sv = set_view g.S.SharedSet set in
     let d1 = c.learn_from_team.new.desk in
     let d3 = c.learn_from_team-2.new.desk in
     let e1 = c.learn_from_team.ensures in
     let e3 = c.learn_from_team-2.ensures in
-    let laws : Laws qv sv (IsWorker c.args.posters c.args.takers) = record {
-      queue_grows = e1.known.queue_grows;
+    let N = c.args.posters + c.args.takers in
+    let C = IsWorker c.args.posters c.args.takers in
+    let laws : Laws qv sv C = record {
+      queues_grow = e1.known.queues_grow;
       set_grows = e1.known.set_grows;
-      queue_few = crowd_in_run (g.Q.SharedQueue.crowd queue) _ _ _ c.requires.agents.0 e1.known.queue_crowd;
-      set_few = crowd_in_run (g.S.SharedSet.crowd set) _ _ _ c.requires.agents.1 e1.known.set_crowd;
-      queue_none = none_at_start qv.history e1.known.queue_grows _ c.requires.desk.queue_new;
+      queues_few = for_both (λ b. Below (qv b).crowd C)
+          (crowd_in_run (g.Q.SharedQueue.crowd queue) _ _ _ c.requires.agents.0 (e1.known.queues_crowd false))
+          (crowd_in_run (g.Q.SharedQueue.crowd rush) _ _ _ c.requires.agents.1 (e1.known.queues_crowd true));
+      set_few = crowd_in_run (g.S.SharedSet.crowd set) _ _ _ c.requires.agents.2 e1.known.set_crowd;
+      queues_none = λ b. none_at_start (qv b).history (e1.known.queues_grow b) _ (c.requires.desk.queues_new b);
       set_none = none_at_start sv.history e1.known.set_grows _ c.requires.desk.set_new;
     } in
-    let below1 : AllBelow qv sv (IsWorker c.args.posters c.args.takers) (g.Q.SharedQueue.journal d1.queue) (g.S.SharedSet.journal d1.set) = record {
-      queue_below = all_below agent_of_entry _ _ _ _ c.requires.agents.0 e1.known.queue_below;
-      set_below = all_below agent_of_set_entry _ _ _ _ c.requires.agents.1 e1.known.set_below;
+    let below1 : AllBelow qv sv C (seen_in g.Q.SharedQueue d1) (g.S.SharedSet.journal d1.set) = record {
+      queues_below = for_both (λ b. AllByRecursion (λ e. C (agent_of_entry e)) ((qv b).history (seen_in g.Q.SharedQueue d1 b)))
+          (all_below agent_of_entry _ _ _ _ c.requires.agents.0 (e1.known.queues_below false))
+          (all_below agent_of_entry _ _ _ _ c.requires.agents.1 (e1.known.queues_below true));
+      set_below = all_below agent_of_set_entry _ _ _ _ c.requires.agents.2 e1.known.set_below;
     } in
-    let below3 : AllBelow qv sv (IsWorker c.args.posters c.args.takers) (g.Q.SharedQueue.journal d3.queue) (g.S.SharedSet.journal d3.set) = record {
-      queue_below = all_below agent_of_entry _ _ _ _ c.requires.agents.0 e3.known.queue_below;
-      set_below = all_below agent_of_set_entry _ _ _ _ c.requires.agents.1 e3.known.set_below;
+    let below3 : AllBelow qv sv C (seen_in g.Q.SharedQueue d3) (g.S.SharedSet.journal d3.set) = record {
+      queues_below = for_both (λ b. AllByRecursion (λ e. C (agent_of_entry e)) ((qv b).history (seen_in g.Q.SharedQueue d3 b)))
+          (all_below agent_of_entry _ _ _ _ c.requires.agents.0 (e3.known.queues_below false))
+          (all_below agent_of_entry _ _ _ _ c.requires.agents.1 (e3.known.queues_below true));
+      set_below = all_below agent_of_set_entry _ _ _ _ c.requires.agents.2 e3.known.set_below;
     } in
-    let known : IsKnown g.Q.SharedQueue g.S.SharedSet queue set (suc (c.args.posters + c.args.takers)) (suc (c.args.posters + c.args.takers)) d3 =
-    known_as g.Q.SharedQueue g.S.SharedSet queue set _ _ _ _ d3 (omega (arith, c.requires.agents.0)) (omega (arith, c.requires.agents.1)) e3.known in
-    let taking = subst (λ (a : ℕ). TakingRest qv sv c.args.lines.now 0 a c.take_rest.new.replies.items (g.Q.SharedQueue.journal d1.queue)
-    (g.S.SharedSet.journal d1.set) (g.Q.SharedQueue.journal c.take_rest.new.desk.queue) (g.S.SharedSet.journal c.take_rest.new.desk.set))
+    let known : IsKnown g.Q.SharedQueue g.S.SharedSet queue rush set (suc N) (suc N) (suc N) d3 =
+    known_as g.Q.SharedQueue g.S.SharedSet queue rush set _ _ _ _ d3 (omega (arith, c.requires.agents.0)) (omega (arith, c.requires.agents.1))
+    (omega (arith, c.requires.agents.2)) e3.known in
+    let taking = subst (λ (a : ℕ). TakingRest qv sv c.args.lines.now 0 a c.take_rest.new.replies.items (seen_in g.Q.SharedQueue d1)
+    (g.S.SharedSet.journal d1.set) (seen_in g.Q.SharedQueue c.take_rest.new.desk) (g.S.SharedSet.journal c.take_rest.new.desk.set))
     e1.desk.queue_agent c.take_rest.ensures.taking in
-    let last = rest_last qv _ (length c.args.lines.now) (length c.take_rest.new.replies.items) c.take_rest.new.replies.spare c.args.takes.spare _
-    c.take_rest.result e1.desk.queue_agent c.take_rest.ensures.empty c.take_rest.ensures.full c.requires.enough c.take_rest.ensures.spare in
-    came_back g.Q.SharedQueue g.S.SharedSet queue set c.args.lines.now c.args.posters c.args.takers c.args.desk d1 c.take_rest.new.desk d3
+    let last = rest_last qv _ (length c.args.lines.now) (length c.take_rest.new.replies.items) c.take_rest.new.replies.spare c.args.takes.spare
+    (seen_in g.Q.SharedQueue d1) (seen_in g.Q.SharedQueue c.take_rest.new.desk) e1.desk.queue_agent c.take_rest.ensures.last c.requires.enough
+    c.take_rest.ensures.spare in
+    came_back g.Q.SharedQueue g.S.SharedSet queue rush set c.args.lines.now c.args.posters c.args.takers c.args.desk d1 c.take_rest.new.desk d3
     c.take_rest.new.replies.items _ _ _ _
-    laws below1 below3 c.requires.desk.queue_new c.requires.desk.set_new c.requires.numbered c.requires.count c.requires.begin
+    laws below1 below3 c.requires.desk.queues_new c.requires.desk.set_new c.requires.numbered c.requires.count c.requires.begin
     (team_each _ _ _ _ c.requires.room.1 c.run_workers-workers.ensures.team)
-    e1.queue e1.set e1.same taking last e3.queue e3.set e3.same e3.desk known e3.others
+    e1.queues e1.set e1.same taking last e3.queues e3.set e3.same e3.desk known e3.others

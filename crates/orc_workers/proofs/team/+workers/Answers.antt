@@ -9,7 +9,7 @@ use Rattle.orc_workers.proofs.team.+workers.Goals as goal
 pub join-worker-requires-after_bounds : goal.join-worker-requires-after_bounds
 join-worker-requires-after_bounds g t c κs within =
     let P : Worker g.row.Q-Pass.Denot g.row.S-Pass.Denot → Type 0
-    = IsReady g.Q.SharedQueue g.S.SharedSet c.args.queue.now c.args.set.now c.args.lines.now c.args.posters in
+    = IsReady g.Q.SharedQueue g.S.SharedSet c.args.queue.now c.args.rush.now c.args.set.now c.args.lines.now c.args.posters in
     let all : AllByRecursion P (c.pop.new.self.items ++ c.in-Some.worker ∷ []) =
     subst (λ (xs : List (Worker g.row.Q-Pass.Denot g.row.S-Pass.Denot)). AllByRecursion P xs) c.in-Some.ensures.items c.requires.ready in
     let before : AllByRecursion P c.pop.new.self.items = AllByRecursion-left P _ _ all in

@@ -1,6 +1,6 @@
 use Rattle.std.proofs.Common.{◌≡◌, ℕ, length, ap, arith, [], ◌∷◌, subst, length-append}
 use Rattle.orc_board.specs.Desk.{IsDesk}
-use Rattle.orc_board.specs.Stretches.{queue_view, set_view}
+use Rattle.orc_board.specs.Stretches.{queue_views, set_view}
 use Rattle.orc_workers.proofs.Resting.{resting_none, resting_more, resting_none_more, resting_last}
 use Rattle.orc_workers.proofs.work.run_taker.Goals as goal
 
@@ -9,38 +9,38 @@ loop-init g c = record {
   desk = c.requires.desk;
   spare = let none : length c.args.replies.items ≡ 0 = ap length c.requires.none in omega (arith, none);
   few = let none : length c.args.replies.items ≡ 0 = ap length c.requires.none in omega (arith, none);
-  taking = resting_none (queue_view g.Q.SharedQueue c.args.queue.now) (set_view g.S.SharedSet c.args.set.now) _ _ _ _ _ _ c.requires.none;
+  taking = resting_none (queue_views g.Q.SharedQueue c.args.queue.now c.args.rush.now) (set_view g.S.SharedSet c.args.set.now) _ _ _ _ _ _ c.requires.none;
 }
 
 pub loop-preserved-in-Some-take_one : goal.loop-preserved-in-Some-take_one
 loop-preserved-in-Some-take_one g c = record {
-  desk = subst (λ (a : ℕ). IsDesk g.Q.SharedQueue g.S.SharedSet c.args.queue.now c.args.set.now a c.take_one.new.desk) c.loop.invariant.desk.queue_agent
+  desk = subst (λ (a : ℕ). IsDesk g.Q.SharedQueue g.S.SharedSet c.args.queue.now c.args.rush.now c.args.set.now a c.take_one.new.desk) c.loop.invariant.desk.queue_agent
       c.take_one.ensures.desk;
   spare = rw c.push.ensures.items
       (omega (arith, c.loop.invariant.spare, c.push.ensures.spare, length-append c.loop.replies.items (c.in-Some-take_one.reply ∷ [])));
   few = rw c.push.ensures.items
-      (omega (arith, c.if-len-posts.false, c.len.ensures, c.count_posts-posts.ensures, length-append c.loop.replies.items (c.in-Some-take_one.reply ∷ [])));
+      (omega (arith, c.if-len-jobs.false, c.len.ensures, c.count_jobs-jobs.ensures, length-append c.loop.replies.items (c.in-Some-take_one.reply ∷ [])));
   taking = rw c.push.ensures.items
-      (resting_more (queue_view g.Q.SharedQueue c.args.queue.now) (set_view g.S.SharedSet c.args.set.now) _ _ _ _ _ _ _ _ _ _ _ _ c.loop.invariant.taking
+      (resting_more (queue_views g.Q.SharedQueue c.args.queue.now c.args.rush.now) (set_view g.S.SharedSet c.args.set.now) _ _ _ _ _ _ _ _ _ _ _ _ c.loop.invariant.taking
       c.loop.invariant.desk.queue_agent c.in-Some-take_one.ensures.reply c.in-Some-take_one.ensures.row);
 }
 
 pub loop-preserved : goal.loop-preserved
 loop-preserved g c = record {
-  desk = subst (λ (a : ℕ). IsDesk g.Q.SharedQueue g.S.SharedSet c.args.queue.now c.args.set.now a c.take_one.new.desk) c.loop.invariant.desk.queue_agent
+  desk = subst (λ (a : ℕ). IsDesk g.Q.SharedQueue g.S.SharedSet c.args.queue.now c.args.rush.now c.args.set.now a c.take_one.new.desk) c.loop.invariant.desk.queue_agent
       c.take_one.ensures.desk;
   spare = c.loop.invariant.spare;
   few = c.loop.invariant.few;
-  taking = resting_none_more (queue_view g.Q.SharedQueue c.args.queue.now) (set_view g.S.SharedSet c.args.set.now) _ _ _ _ _ _ _ _ _ _ _
+  taking = resting_none_more (queue_views g.Q.SharedQueue c.args.queue.now c.args.rush.now) (set_view g.S.SharedSet c.args.set.now) _ _ _ _ _ _ _ _ _ _ _
       c.loop.invariant.taking c.loop.invariant.desk.queue_agent c.in-None-take_one.ensures.row;
 }
 
 pub returns-then-none_left-clause-taking : goal.returns-then-none_left-clause-taking
 returns-then-none_left-clause-taking g c =
-    resting_none_more (queue_view g.Q.SharedQueue c.args.queue.now) (set_view g.S.SharedSet c.args.set.now) _ _ _ _ _ _ _ _ _ _ _ c.loop.invariant.taking
+    resting_none_more (queue_views g.Q.SharedQueue c.args.queue.now c.args.rush.now) (set_view g.S.SharedSet c.args.set.now) _ _ _ _ _ _ _ _ _ _ _ c.loop.invariant.taking
     c.loop.invariant.desk.queue_agent c.in-None-take_one.ensures.row
 
 pub returns-then-none_left-clause-last : goal.returns-then-none_left-clause-last
 returns-then-none_left-clause-last g c = λ less.
-    resting_last (queue_view g.Q.SharedQueue c.args.queue.now) (set_view g.S.SharedSet c.args.set.now) _ _ _ _ _ _ _ _ _ _ c.loop.invariant.taking
+    resting_last (queue_views g.Q.SharedQueue c.args.queue.now c.args.rush.now) (set_view g.S.SharedSet c.args.set.now) _ _ _ _ _ _ _ _ _ _ c.loop.invariant.taking
     c.loop.invariant.desk.queue_agent c.in-None-take_one.ensures.last
