@@ -19,7 +19,7 @@ reports settings bytes lines file (answer.Report text finished) h = record {
   lines = lines;
   file = file;
   finished = finished;
-  kept = record { queue = refl; set = refl; replies = refl };
+  kept = record { queue = refl; rush = refl; set = refl; replies = refl };
   headline = h;
 }
 reports settings bytes lines file (answer.Malformed text) h = absurd h

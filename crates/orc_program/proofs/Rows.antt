@@ -1,6 +1,7 @@
 -- What has ended was left by a run, so its rows were reused safely, and none leaked.
-use Rattle.std.proofs.Common.{◌≡◌, ◌≢◌, ◌⊎◌, List, ℕ, None, Option, Some, IfSome, arith, inl, inr, subst, sym}
+use Rattle.std.proofs.Common.{◌≡◌, ◌≢◌, ◌⊎◌, Bool, true, false, List, ℕ, None, Option, Some, IfSome, arith, inl, inr, subst, sym}
 use Rattle.orc_words.specs.Bounds.{Bounds}
+use Rattle.orc_board.specs.Stretches.{pick}
 use Rattle.orc_jobs.specs.declared.line.Line.{Line}
 use Rattle.orc_options.specs.declared.settings.Mode.{Mode}
 use Rattle.orc_options.specs.declared.settings.Mode.TheVariants as mode
@@ -8,7 +9,7 @@ use Rattle.orc_options.specs.declared.settings.Settings.{Settings}
 use Rattle.orc_run.specs.Runs.{EndsWithoutLeak, ReusesRowsSafely}
 use Rattle.orc_run.specs.declared.run.Finished.{Finished}
 use Rattle.orc_program.specs.declared.ended.Ended.{Ended}
-use Rattle.orc_program.specs.Ended.{IsNew, Keeps, QueueRests, QueueReuses, SetRests, SetReuses, generated_lines}
+use Rattle.orc_program.specs.Ended.{IsNew, Keeps, QueuesRest, QueuesReuse, SetRests, SetReuses, generated_lines}
 use Rattle.orc_program.specs.Headline.{WorkedThrough}
 use Rattle.orc_program.specs.Outcomes.{ModeWrites, Tells}
 
@@ -21,26 +22,35 @@ module _ {A : Type 0} (P : A → Type 0) where
 
 -- all that is said of the rows of what has ended
 pub record RowsAreSafe (ended : Ended) : Type 0 where
-  pub queue_reuse : QueueReuses ended
+  pub queues_reuse : QueuesReuse ended
   pub set_reuse : SetReuses ended
-  pub queue_rest : QueueRests ended
+  pub queues_rest : QueuesRest ended
   pub set_rest : SetRests ended
+
+-- of each queue
+none_left : (ended : Ended) → IsNew ended → (rush : Bool) → pick ended.queue ended.rush rush ≡ None
+none_left ended new false = new.queue
+none_left ended new true = new.rush
+
+kept_left : (f : Finished) (ended : Ended) → Keeps f ended → (rush : Bool) → pick ended.queue ended.rush rush ≡ Some (pick f.queue f.rush rush)
+kept_left f ended kept false = kept.queue
+kept_left f ended kept true = kept.rush
 
 pub of_none : (ended : Ended) → IsNew ended → RowsAreSafe ended
 of_none ended new = record {
-  queue_reuse = where-none _ ended.queue new.queue;
+  queues_reuse = λ rush. where-none _ (pick ended.queue ended.rush rush) (none_left ended new rush);
   set_reuse = where-none _ ended.set new.set;
-  queue_rest = where-none _ ended.queue new.queue;
+  queues_rest = λ rush. where-none _ (pick ended.queue ended.rush rush) (none_left ended new rush);
   set_rest = where-none _ ended.set new.set;
 }
 
 of_run : (lines : List Line) (s : Settings) (f : Finished) (ended : Ended) → WorkedThrough lines s f → Keeps f ended → RowsAreSafe ended
 of_run lines s f ended run kept = record {
-  queue_reuse = where-some _ ended.queue f.queue kept.queue
-      (subst (λ (b : Bounds). ReusesRowsSafely b f.queue) (sym run.queue_journal.sizes) run.queue_reuse);
+  queues_reuse = λ rush. where-some _ (pick ended.queue ended.rush rush) (pick f.queue f.rush rush) (kept_left f ended kept rush)
+      (subst (λ (b : Bounds). ReusesRowsSafely b (pick f.queue f.rush rush)) (sym (run.queue_journals rush).sizes) (run.queues_reuse rush));
   set_reuse = where-some _ ended.set f.set kept.set (subst (λ (b : Bounds). ReusesRowsSafely b f.set) (sym run.set_journal.sizes) run.set_reuse);
-  queue_rest = where-some _ ended.queue f.queue kept.queue
-      (subst (λ (b : Bounds). EndsWithoutLeak b f.queue) (sym run.queue_journal.sizes) run.queue_rest);
+  queues_rest = λ rush. where-some _ (pick ended.queue ended.rush rush) (pick f.queue f.rush rush) (kept_left f ended kept rush)
+      (subst (λ (b : Bounds). EndsWithoutLeak b (pick f.queue f.rush rush)) (sym (run.queue_journals rush).sizes) (run.queues_rest rush));
   set_rest = where-some _ ended.set f.set kept.set (subst (λ (b : Bounds). EndsWithoutLeak b f.set) (sym run.set_journal.sizes) run.set_rest);
 }
 

@@ -1,5 +1,6 @@
 -- What a run of generated lines has left, with its summary.
-use Rattle.std.proofs.Common.{◌≡◌, ◌≤◌, ◌∙◌, List, ℕ, ap, refl}
+use Rattle.std.proofs.Common.{◌≡◌, ◌≤◌, ◌∙◌, Bool, List, ℕ, ap, refl}
+use Rattle.orc_board.specs.Stretches.{pick}
 use Rattle.orc_options.specs.declared.settings.Settings.{Settings}
 use Rattle.orc_report.proofs.AllDone.{all_done, none_void}
 use Rattle.orc_report.proofs.NumberedLines.{generated-numbered, one-list}
@@ -20,10 +21,10 @@ pub has-summed : (settings : Settings) (f : Finished) (ended : Ended) (text : Li
 has-summed settings f ended text some kept run is =
     let lines = generated_lines settings in
     let num : AreNumbered lines = generated-numbered settings.seed settings.lines in
-    let queue = queue_over 0 (queue_bounds settings.posters settings.takers settings.rows) in
+    let queues = λ (rush : Bool). queue_over 0 (queue_bounds settings.posters settings.takers settings.rows) in
     let set = set_over (set_bounds settings.posters settings.takers settings.rows settings.buckets) in
-    let done = all_done queue set lines settings.posters settings.takers
-    f.replies.posts.items f.replies.takes.items (rest_journal f.queue) (rest_journal f.set) refl some num run.replies in
+    let done = all_done queues set lines settings.posters settings.takers
+    f.replies.posts.items f.replies.takes.items (λ rush. rest_journal (pick f.queue f.rush rush)) (rest_journal f.set) refl some num run.replies in
     record {
       finished = f;
       kept = kept;
@@ -32,6 +33,6 @@ has-summed settings f ended text some kept run is =
       all_done = done;
       of_lines = λ not_refused not_void jobs are.
           is ∙ ap summary_of (one-list lines (done_jobs lines f.replies.takes.items) jobs (done not_refused not_void) are);
-      none_void = none_void queue set lines settings.posters settings.takers
-          f.replies.posts.items f.replies.takes.items (rest_journal f.queue) (rest_journal f.set) refl some num run.replies;
+      none_void = none_void queues set lines settings.posters settings.takers
+          f.replies.posts.items f.replies.takes.items (λ rush. rest_journal (pick f.queue f.rush rush)) (rest_journal f.set) refl some num run.replies;
     }

@@ -31,13 +31,13 @@ HasReported-told settings left bytes ended text told h = record {
 
 -- a report of what a run has left, once that is kept
 pub kept_report : (settings : Settings) (left : Option (List ℕ)) (finished : Finished) (ended : Ended) (text : List ℕ)
-    → HasReported settings left (record { queue = Some finished.queue; set = Some finished.set; replies = Some finished.replies }) text
+    → HasReported settings left (record { queue = Some finished.queue; rush = Some finished.rush; set = Some finished.set; replies = Some finished.replies }) text
     → Keeps finished ended → HasReported settings left ended text
 kept_report settings left finished ended text h k = record {
   lines = h.lines;
   file = h.file;
   finished = h.finished;
-  kept = record { queue = k.queue ∙ h.kept.queue; set = k.set ∙ h.kept.set; replies = k.replies ∙ h.kept.replies };
+  kept = record { queue = k.queue ∙ h.kept.queue; rush = k.rush ∙ h.kept.rush; set = k.set ∙ h.kept.set; replies = k.replies ∙ h.kept.replies };
   headline = h.headline;
 }
 

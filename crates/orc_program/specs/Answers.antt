@@ -15,7 +15,7 @@ use Rattle.orc_program.specs.Refusals.{NamesRecord, malformed_line}
 -- a report of a run of these bytes by the settings, or the refusal that they call for
 abbrev pub Answers : Settings → List ℕ → Answer → Type 0
 Answers settings bytes (answer.Report text finished) =
-    HasReported settings (Some bytes) (record { queue = Some finished.queue; set = Some finished.set; replies = Some finished.replies }) text
+    HasReported settings (Some bytes) (record { queue = Some finished.queue; rush = Some finished.rush; set = Some finished.set; replies = Some finished.replies }) text
 Answers settings bytes (answer.Malformed text) = NamesRecord bytes (string_bytes text)
 Answers settings bytes answer.TooMany = Refuses bytes fault.TooMany
 

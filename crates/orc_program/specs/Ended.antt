@@ -1,11 +1,12 @@
 -- What a run leaves.
-use Rattle.std.specs.Prelude.{◌≡◌, ℕ, List, Option, Some, None, IfSome}
+use Rattle.std.specs.Prelude.{◌≡◌, Bool, ℕ, List, Option, Some, None, IfSome}
 use Rattle.orc_jobs.specs.declared.line.Job.{Job}
 use Rattle.orc_jobs.specs.declared.line.Line.{Line}
 use Rattle.orc_jobs.specs.Generated.{generated}
 use Rattle.orc_jobs.specs.JobGrammar.{IsFileOf}
 use Rattle.orc_report.specs.AllDone.{AreJobsOf, NoneRefused, NoneVoid}
 use Rattle.orc_report.specs.Summary.{done_jobs, summary_of}
+use Rattle.orc_board.specs.Stretches.{pick}
 use Rattle.orc_reclaiming_domain.specs.Passes.{domain_bounds}
 use Rattle.orc_reclaiming_domain.specs.Rest.{rest_domain}
 use Rattle.orc_run.specs.Runs.{EndsWithoutLeak, ReusesRowsSafely}
@@ -17,25 +18,28 @@ use Rattle.orc_program.specs.Headline.{Headline, WorkedThrough}
 -- nothing is there yet
 pub record IsNew (ended : Ended) : Type 0 where
   pub queue : ended.queue ≡ None
+  pub rush : ended.rush ≡ None
   pub set : ended.set ≡ None
   pub replies : ended.replies ≡ None
 
 -- what a run has left is there
 pub record Keeps (finished : Finished) (ended : Ended) : Type 0 where
   pub queue : ended.queue ≡ Some finished.queue
+  pub rush : ended.rush ≡ Some finished.rush
   pub set : ended.set ≡ Some finished.set
   pub replies : ended.replies ≡ Some finished.replies
 
--- where a domain has ended, no row of its journal was used again while it was linked or held, nor twice
-abbrev pub QueueReuses : Ended → Type 0
-QueueReuses ended = IfSome ended.queue (λ r. ReusesRowsSafely (domain_bounds (rest_domain r)) r)
+-- where the domain of a queue, at false, or of the rush queue, at true, has ended, no row of its journal was used again while it was
+-- linked or held, nor twice
+abbrev pub QueuesReuse : Ended → Type 0
+QueuesReuse ended = (rush : Bool) → IfSome (pick ended.queue ended.rush rush) (λ r. ReusesRowsSafely (domain_bounds (rest_domain r)) r)
 
 abbrev pub SetReuses : Ended → Type 0
 SetReuses ended = IfSome ended.set (λ r. ReusesRowsSafely (domain_bounds (rest_domain r)) r)
 
 -- where a domain has ended, its journal is at rest, and what was given was freed or is linked
-abbrev pub QueueRests : Ended → Type 0
-QueueRests ended = IfSome ended.queue (λ r. EndsWithoutLeak (domain_bounds (rest_domain r)) r)
+abbrev pub QueuesRest : Ended → Type 0
+QueuesRest ended = (rush : Bool) → IfSome (pick ended.queue ended.rush rush) (λ r. EndsWithoutLeak (domain_bounds (rest_domain r)) r)
 
 abbrev pub SetRests : Ended → Type 0
 SetRests ended = IfSome ended.set (λ r. EndsWithoutLeak (domain_bounds (rest_domain r)) r)

@@ -7,11 +7,12 @@ use orc_fifo_rule::Fifo;
 use orc_reclaiming_domain::OrcRest;
 use orc_run::Finished;
 
-/// The domains of queue and set at rest, each with the journal of all that happened on it, and the replies of a run. All three
-/// are there after a run, and none of them otherwise.
+/// The domains of queue, rush queue and set at rest, each with the journal of all that happened on it, and the replies of a run.
+/// All four are there after a run, and none of them otherwise.
 #[derive(Drop)]
 pub struct Ended {
     pub queue: Option<OrcRest<Fifo>>,
+    pub rush: Option<OrcRest<Fifo>>,
     pub set: Option<OrcRest<Chain>>,
     pub replies: Option<Replies>,
 }
@@ -23,6 +24,7 @@ impl Ended {
     {
         Ended {
             queue: None,
+            rush: None,
             set: None,
             replies: None,
         }
@@ -34,10 +36,12 @@ impl Ended {
     {
         let Finished {
             queue,
+            rush,
             set,
             replies,
         } = finished;
         self.queue = Some(queue);
+        self.rush = Some(rush);
         self.set = Some(set);
         self.replies = Some(replies);
     }

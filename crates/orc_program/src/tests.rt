@@ -33,31 +33,37 @@ const NINE_POSTS: &[u8] =
 const EIGHT_ROWS_REST: &[u8] =
     b"rest\nqueue given 8 reused 7 linked 1\nset given 9 reused 9 linked 0\n";
 
+// A job of each queue, and a drop of the first.
+const ONE_RUSH: &[u8] = b"post,1,bytes,a\nrush,2,bytes,bb\ndrop,1\n";
+
+const ONE_RUSH_REPORT: &[u8] =
+    b"board\n0 line 0 id 1 void\nrush\n0 line 1 id 2 done 2\nreplies\nposter 1 line 0 posted 0\nposter 1 line 1 rushed 0\nposter 1 line 2 dropped\ntaker 0 rush 0 done 2\ntaker 0 at 0 void\n";
+
+const ONE_RUSH_REST: &[u8] =
+    b"rest\nqueue given 2 reused 1 linked 1\nrush given 2 reused 1 linked 1\nset given 2 reused 2 linked 0\n";
+
 const FIVE_LINES_REST: &[u8] =
     b"rest\nqueue given 3 reused 2 linked 1\nset given 2 reused 2 linked 0\n";
 
-// Runs an input that is read and written in pieces, with faults at the given calls, and answers whether a run has ended.
-fn run_with<R: Threads + Wait + Sync + Abort>(
+// Runs an input that is read and written in pieces of so many bytes, without words.
+fn run<R: Threads + Wait + Sync + Abort>(
     rt: &R,
     alloc: Global,
-    words: &CommandWords,
     input: &[u8],
     piece: u64,
-    read_fails: &[u64],
-    room: u64,
-    write_fails: &[u64],
     status: u8,
     output: &[u8],
-) -> Result<bool, Fail>
+) -> Result<(), Fail>
     requires { 1 ≤ piece }
 {
-    let mut source = MemorySource::new(alloc, input, piece, read_fails)?;
-    let mut sink = MemorySink::new(alloc, room, piece, write_fails)?;
+    let words = CommandWords::new(alloc);
+    let mut source = MemorySource::new(alloc, input, piece, &[])?;
+    let mut sink = MemorySink::new(alloc, 1024, piece, &[])?;
     let mut ended = Ended::new();
     let got = orc_main(
         rt,
         alloc,
-        words,
+        &words,
         &mut source,
         &mut sink,
         &OpenGate,
@@ -65,45 +71,16 @@ fn run_with<R: Threads + Wait + Sync + Abort>(
     );
     assert_eq!(rt; got, status);
     assert_eq!(rt; sink.bytes(), output);
-    Ok(ended.replies.is_some())
-}
-
-// The same without words, where a status 5 follows a run.
-fn run<R: Threads + Wait + Sync + Abort>(
-    rt: &R,
-    alloc: Global,
-    input: &[u8],
-    piece: u64,
-    read_fails: &[u64],
-    room: u64,
-    write_fails: &[u64],
-    status: u8,
-    output: &[u8],
-) -> Result<(), Fail>
-    requires { 1 ≤ piece }
-{
-    let words = CommandWords::new(alloc);
-    let ran = run_with(
-        rt,
-        alloc,
-        &words,
-        input,
-        piece,
-        read_fails,
-        room,
-        write_fails,
-        status,
-        output,
-    )?;
-    assert_eq!(rt; ran, status == 0 || status == 5);
+    assert_eq!(rt; ended.replies.is_some(), status == 0);
     Ok(())
 }
 
 #[test]
 fn reports(rt: HostRuntime) -> Result<(), Fail> {
-    let cases: [(&[u8], &[u8]); 7] = [
+    let cases: [(&[u8], &[u8]); 8] = [
         (b"", b"board\nreplies\n"),
         (FIVE_LINES, FIVE_LINES_REPORT),
+        (ONE_RUSH, ONE_RUSH_REPORT),
         (
             b"post,7,bytes,hello\npost,9,bytes,abc\ndrop,9\npost,7,bytes,ab\ndrop,8\n",
             FIVE_LINES_REPORT,
@@ -126,14 +103,15 @@ fn reports(rt: HostRuntime) -> Result<(), Fail> {
         ),
     ];
     for (input, output) in cases {
-        run(&rt, rt.alloc(), input, 7, &[], 1000, &[], 0, output)?;
+        run(&rt, rt.alloc(), input, 7, 0, output)?;
     }
     Ok(())
 }
 
 #[test]
 fn names_the_first_refused_record(rt: HostRuntime) -> Result<(), Fail> {
-    let cases: [(&[u8], &[u8]); 7] = [
+    let cases: [(&[u8], &[u8]); 8] = [
+        (b"rush,2\n", b"line 0: fields\n"),
         (b"post,4294967296,bytes,x\n", b"line 0: id\n"),
         (b"post,007,bytes,x\n", b"line 0: id\n"),
         (b"post,1,sum,1  2\n", b"line 0: sum\n"),
@@ -143,7 +121,7 @@ fn names_the_first_refused_record(rt: HostRuntime) -> Result<(), Fail> {
         (b"post,1,bytes,\xff\n", b"line 0: utf8\n"),
     ];
     for (input, output) in cases {
-        run(&rt, rt.alloc(), input, 7, &[], 1000, &[], 3, output)?;
+        run(&rt, rt.alloc(), input, 7, 3, output)?;
     }
     Ok(())
 }
@@ -158,280 +136,63 @@ fn words_of(alloc: Global, words: &[&str]) -> Result<CommandWords, NoMemory> {
 }
 
 #[test]
-fn words_are_refused(rt: HostRuntime) -> Result<(), Fail> {
-    let refused: [&[&str]; 15] = [
-        &["run"],
-        &["replay"],
-        &["--help"],
-        &["-h"],
-        &["--mode", "Replay"],
-        &["--mod", "run"],
-        &["--posters", "0"],
-        &["--posters=9"],
-        &["--takers", "8"],
-        &["--rows", "7"],
-        &["--rows", "65536"],
-        &["--rows", "8", "--rows", "8"],
-        &["--buckets", "0"],
-        &["--buckets=257"],
-        &["--rest", "maybe"],
-    ];
-    for words in refused {
-        let words = words_of(rt.alloc(), words)?;
-        for (room, written, status) in [(1000, "words refused\n", 2), (5, "words", 5)] {
-            let ran = run_with(
-                &rt,
-                rt.alloc(),
-                &words,
-                FIVE_LINES,
-                5,
-                &[],
-                room,
-                &[],
-                status,
-                written.as_bytes(),
-            )?;
-            assert!(&rt; !ran);
-        }
-    }
-    Ok(())
-}
-
-#[test]
-fn a_board_of_eight_rows(rt: HostRuntime) -> Result<(), Fail> {
-    let words = words_of(rt.alloc(), &["--rows", "8"])?;
-    let ran = run_with(
-        &rt,
-        rt.alloc(),
-        &words,
-        NINE_POSTS,
-        64,
-        &[],
-        1000,
-        &[],
-        0,
-        EIGHT_ROWS_REPORT,
-    )?;
-    assert!(&rt; ran);
-    Ok(())
-}
-
-#[test]
-fn makes_job_files(rt: HostRuntime) -> Result<(), Fail> {
-    let words = words_of(rt.alloc(), &["--mode", "make", "--seed=1", "--lines", "2"])?;
-    for (room, written, status) in [
-        (1000, "post,0,bytes,x\npost,1,bytes,xxxxx\n", 0),
-        (5, "post,", 5),
-    ] {
-        // A first read would fail.
-        let ran = run_with(
-            &rt,
-            rt.alloc(),
-            &words,
-            FIVE_LINES,
-            5,
-            &[0],
-            room,
-            &[],
-            status,
-            written.as_bytes(),
-        )?;
-        assert!(&rt; !ran);
-    }
-    Ok(())
-}
-
-#[test]
-fn sums_up_trials(rt: HostRuntime) -> Result<(), Fail> {
-    let words = words_of(rt.alloc(), &["--mode", "trial", "--seed=1", "--lines", "2"])?;
-    let summary = "done 2\nbytes jobs 2 total 6\n";
-    for (room, write_fails, written, status) in [
-        (1000, &[] as &[u64], summary, 0),
-        (7, &[], "done 2\n", 5),
-        (1000, &[1], "done ", 5),
-    ] {
-        // A first read would fail.
-        let ran = run_with(
-            &rt,
-            rt.alloc(),
-            &words,
-            FIVE_LINES,
-            5,
-            &[0],
-            room,
-            write_fails,
-            status,
-            written.as_bytes(),
-        )?;
-        assert!(&rt; ran);
-    }
-    Ok(())
-}
-
-#[test]
-fn replays(rt: HostRuntime) -> Result<(), Fail> {
-    let words = words_of(rt.alloc(), &["--mode", "replay"])?;
-    let cases: [(&[u8], u8, &[u8]); 6] = [
-        (
-            b"shape 2 1 2 8\n0 enroll\n1 enroll\n0 look 0\n0 count 0\n0 take 0\n0 publish 1 0\n0 count 0\n0 cas r0 - 0\n0 inc 0\n",
-            0,
-            b"steps 9 out 1 retired 0 handed 0 listed 0 linked 1\n",
-        ),
-        (
-            b"shape 2 1 2 8\n0 enroll\n1 enroll\n0 look 0\n0 count 0\n0 take 0\n0 publish 1 0\n0 count 0\n0 cas r0 - 0\n0 inc 0\n1 load r0\n1 publish 2 0\n1 load r0 2\n0 cas r0 0 -\n0 arm 0\n0 dec 0\n0 clear 1\n",
-            8,
-            b"step 15: not allowed\n",
-        ),
-        (
-            b"shape 2 1 2 8\n0 enroll\n1 enroll\n0 look 0\n0 count 0\n0 tak",
-            8,
-            b"step 4: unreadable\n",
-        ),
-        (b"", 8, b"shape: unreadable\n"),
-        (b"shape 1 1 1 1\n", 8, b"shape: rows\n"),
-        (
-            b"shape 2 1 2 8\n",
-            0,
-            b"steps 0 out 0 retired 0 handed 0 listed 0 linked 0\n",
-        ),
-    ];
-    for (input, status, output) in cases {
-        let ran = run_with(
-            &rt,
-            rt.alloc(),
-            &words,
-            input,
-            7,
-            &[],
-            1000,
-            &[],
-            status,
-            output,
-        )?;
-        assert!(&rt; !ran);
-    }
-    Ok(())
-}
-
-#[test]
-fn audits(rt: HostRuntime) -> Result<(), Fail> {
-    let words = words_of(rt.alloc(), &["--mode", "audit"])?;
-    let leaks = "steps 18\nretired most 0 after 0\nrow 0 lives 1\nleak after 17 row 0\n";
-    let cycle =
-        "shape 2 1 1 8\n0 enroll\n0 look 0\n0 count 0\n0 take 0\n0 publish 1 0\n0 count 0\n0 cas r0 - 0\n0 inc 0\n0 count 0\n0 cas n0 - 0\n0 inc 0\n0 cas r0 0 -\n0 arm 0\n0 dec 0\n0 clear 0\n0 takein 0\n0 clear 1\n0 takein 1\n";
-    let cases: [(&[u8], u8, &[u8]); 4] = [
-        (cycle.as_bytes(), 0, leaks.as_bytes()),
-        (
-            b"shape 2 1 2 8\n",
-            0,
-            b"steps 0\nretired most 0 after 0\nleak none\n",
-        ),
-        (b"shape 2 1 1 8\n0 look 0\n", 8, b"step 0: not allowed\n"),
-        (b"shape 1 1 1 1\n", 8, b"shape: rows\n"),
-    ];
-    for (input, status, output) in cases {
-        let ran = run_with(
-            &rt,
-            rt.alloc(),
-            &words,
-            input,
-            7,
-            &[],
-            1000,
-            &[],
-            status,
-            output,
-        )?;
-        assert!(&rt; !ran);
-    }
-    Ok(())
-}
-
-#[test]
 fn largest_inputs(rt: HostRuntime) -> Result<(), Fail> {
-    let mut input = vec![in rt.alloc(); b'x'; 16777216]?;
-    run(
-        &rt,
-        rt.alloc(),
-        input.as_slice(),
-        4096,
-        &[],
-        1000,
-        &[],
-        3,
-        b"line 0: fields\n",
-    )?;
+    let alloc = rt.alloc();
+    let mut input = vec![in alloc; b'x'; 16777216]?;
+    run(&rt, alloc, input.as_slice(), 4096, 3, b"line 0: fields\n")?;
     input.push(b'x')?;
-    run(
-        &rt,
-        rt.alloc(),
-        input.as_slice(),
-        4096,
-        &[],
-        1000,
-        &[],
-        6,
-        b"input too large\n",
-    )?;
-    let mut drops = Vec::new(rt.alloc());
+    run(&rt, alloc, input.as_slice(), 4096, 6, b"input too large\n")?;
+    let mut drops = Vec::new(alloc);
     for _ in 0..65536 {
         drops.extend_from_slice(b"drop,1\n")?;
     }
-    run(
-        &rt,
-        rt.alloc(),
-        drops.as_slice(),
-        4096,
-        &[],
-        1000,
-        &[],
-        6,
-        b"input too large\n",
-    )?;
-    let mut late = Vec::new(rt.alloc());
+    run(&rt, alloc, drops.as_slice(), 4096, 6, b"input too large\n")?;
+    let mut late = Vec::new(alloc);
     late.extend_from_slice(b"drop,1\ndrop,1\ndrop,1\ndrop,01\n")?;
     for _ in 4..65536 {
         late.extend_from_slice(b"drop,1\n")?;
     }
-    run(
-        &rt,
-        rt.alloc(),
-        late.as_slice(),
-        4096,
-        &[],
-        1000,
-        &[],
-        3,
-        b"line 3: id\n",
-    )?;
+    run(&rt, alloc, late.as_slice(), 4096, 3, b"line 3: id\n")?;
     Ok(())
 }
 
 #[test]
-fn reports_what_is_at_rest(rt: HostRuntime) -> Result<(), Fail> {
+fn reports_as_the_words_ask(rt: HostRuntime) -> Result<(), Fail> {
     let alloc = rt.alloc();
-    let mut report = Vec::new(alloc);
-    report.extend_from_slice(FIVE_LINES_REPORT)?;
-    report.extend_from_slice(FIVE_LINES_REST)?;
-    for buckets in ["1", "16", "256"] {
-        let words = words_of(alloc, &["--rest", "yes", "--buckets", buckets])?;
-        let text = report_of(&rt, alloc, &words, FIVE_LINES, &OpenGate)?;
+    let at_rest: [(&[&str], &[u8], &[u8], &[u8]); 5] = [
+        (
+            &["--rest", "yes", "--buckets", "1"],
+            FIVE_LINES,
+            FIVE_LINES_REPORT,
+            FIVE_LINES_REST,
+        ),
+        (
+            &["--rest", "yes", "--buckets", "256"],
+            FIVE_LINES,
+            FIVE_LINES_REPORT,
+            FIVE_LINES_REST,
+        ),
+        (&["--rest=yes"], ONE_RUSH, ONE_RUSH_REPORT, ONE_RUSH_REST),
+        (
+            &["--rows=8", "--rest=yes"],
+            NINE_POSTS,
+            EIGHT_ROWS_REPORT,
+            EIGHT_ROWS_REST,
+        ),
+        (
+            &["--posters", "8", "--takers", "7", "--rest=no"],
+            b"",
+            b"board\nreplies\n",
+            b"",
+        ),
+    ];
+    for (words, input, board, rest) in at_rest {
+        let words = words_of(alloc, words)?;
+        let mut report = Vec::new(alloc);
+        report.extend_from_slice(board)?;
+        report.extend_from_slice(rest)?;
+        let text = report_of(&rt, alloc, &words, input, &OpenGate)?;
         assert_eq!(&rt; text.as_slice(), report.as_slice());
     }
-    let words = words_of(alloc, &["--rest=no"])?;
-    let text = report_of(&rt, alloc, &words, FIVE_LINES, &OpenGate)?;
-    assert_eq!(&rt; text.as_slice(), FIVE_LINES_REPORT);
-    Ok(())
-}
-
-#[test]
-fn what_is_at_rest_of_eight_rows(rt: HostRuntime) -> Result<(), Fail> {
-    let alloc = rt.alloc();
-    let words = words_of(alloc, &["--rows=8", "--rest=yes"])?;
-    let mut report = Vec::new(alloc);
-    report.extend_from_slice(EIGHT_ROWS_REPORT)?;
-    report.extend_from_slice(EIGHT_ROWS_REST)?;
-    let text = report_of(&rt, alloc, &words, NINE_POSTS, &OpenGate)?;
-    assert_eq!(&rt; text.as_slice(), report.as_slice());
     Ok(())
 }

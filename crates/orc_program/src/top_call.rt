@@ -15,7 +15,7 @@ ghost use Rattle.orc_trace.specs.Answers.{audit_lines, fault_line, replay_line};
 ghost use Rattle.orc_options.specs.Settings.{AskFor, Gives, Refuses as RefusesWords};
 ghost use Rattle.orc_options.specs.declared.settings.Mode.{Mode};
 ghost use Rattle.orc_options.specs.declared.settings.Settings.{Settings};
-ghost use Rattle.orc_program.specs.Ended.{IsNew, QueueRests, QueueReuses, SetRests, SetReuses};
+ghost use Rattle.orc_program.specs.Ended.{IsNew, QueuesRest, QueuesReuse, SetRests, SetReuses};
 ghost use Rattle.orc_program.specs.Refusals.{IsTooLarge, NamesFault, NamesRecord, input_limit, input_too_large, malformed_line, words_refused};
 ghost use Rattle.orc_program.specs.Outcomes.{Tells, WasToWrite, made_text};
 
@@ -66,11 +66,11 @@ pub fn orc_main<R: Threads + Wait + Sync, S: Source, K: Sink, G: Gate + Sync>(
     ensures done { result ≡ 0 → (s : Settings) × (text : List ℕ) × Gives words.now s × Tells s.mode s (S.left source.old) ended.new text
         × Appends (K.written sink.old) (K.written sink.new) text }
 
-    // Wherever a run has ended, by the two actual journals: no row was used again while it was linked or held, nor twice; and what
+    // Wherever a run has ended, by the three actual journals: no row was used again while it was linked or held, nor twice; and what
     // was given was freed or is linked.
-    ensures queue_reuse { QueueReuses ended.new }
+    ensures queues_reuse { QueuesReuse ended.new }
     ensures set_reuse { SetReuses ended.new }
-    ensures queue_rest { QueueRests ended.new }
+    ensures queues_rest { QueuesRest ended.new }
     ensures set_rest { SetRests ended.new }
 
     // What is read: nothing at refused words and in modes make and trial, no more than one byte past the limit, and all that there is

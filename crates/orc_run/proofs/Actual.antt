@@ -1,5 +1,5 @@
 -- What is known of the journal of a domain at rest.
-use Rattle.std.proofs.Common.{List, [], refl, subst, sym, ℕ, ◌≡◌}
+use Rattle.std.proofs.Common.{List, [], ap, arith, refl, subst, sym, ℕ, ◌∙◌, ◌≡◌}
 use mathlib.Core.List.{IsPrefix}
 use Rattle.orc_words.specs.Bounds.{Bounds}
 use Rattle.orc_core.specs.Machine.{new_machine}
@@ -31,14 +31,14 @@ use Rattle.orc_reclaiming_domain.specs.Rest.{IsShown, rest_domain, rest_journal}
 use Rattle.orc_reclaiming_domain.specs.declared.at_rest.OrcRest.{OrcRest}
 use Rattle.orc_reclaiming_domain.specs.declared.domain.OrcDomain.{OrcDomain}
 use Rattle.orc_run.proofs.Reusing.{reuses_safely}
-use Rattle.orc_run.specs.Journals.{HasJournal}
+use Rattle.orc_run.specs.Journals.{HasJournal, IsLeft}
 use Rattle.orc_run.specs.Reuse.{LeaksNothing, ReusesSafely}
 
 module _ {D N : Type 0} {d : discipline.Ghosts D N} {m : machine.Ghosts Reclaiming N (MachineShape N) Request (Step N) Agent Agent}
     (r : OrcRest D N d m) (shown : IsShown r) (b : Bounds) (sizes : domain_bounds (rest_domain r) ≡ b)
   where
     -- the journal of a domain of these sizes and this seed
-    pub has_journal : (seed : Seed N) → board_seed (rest_domain r).board ≡ seed → HasJournal d.may b seed r
+    has_journal : (seed : Seed N) → board_seed (rest_domain r).board ≡ seed → HasJournal d.may b seed r
     has_journal seed seeds =
         let now = shown.keeps.now in
         record {
@@ -52,7 +52,7 @@ module _ {D N : Type 0} {d : discipline.Ghosts D N} {m : machine.Ghosts Reclaimi
           agents_below = subst (λ (c : Bounds). AgentsBelow (λ (s : Step N). s.agent) c.agents (rest_journal r)) sizes now.below;
         }
 
-    pub rows_reused : ReusesSafely b (rest_journal r)
+    rows_reused : ReusesSafely b (rest_journal r)
     rows_reused = subst (λ (c : Bounds). ReusesSafely c (rest_journal r)) sizes
         (reuses_safely (domain_bounds (rest_domain r)) (rest_journal r) (in_range (rest_domain r).board.words.shape.shape) shown.keeps.now.lawful.0)
 
@@ -64,7 +64,7 @@ module _ {D N : Type 0} {d : discipline.Ghosts D N} {m : machine.Ghosts Reclaimi
         abbrev c : Bounds
         c = domain_bounds (rest_domain r)
 
-        ends : EndsAtRest (d.holds (numbers_of c)) (d.may (numbers_of c)) c (rest_journal r)
+        ends : EndsAtRest (d.holds (numbers_of c)) (d.may (numbers_of c)) (rank (numbers_of c)) c (rest_journal r)
         ends =
             let now = shown.keeps.now in
             record {
@@ -73,10 +73,11 @@ module _ {D N : Type 0} {d : discipline.Ghosts D N} {m : machine.Ghosts Reclaimi
               unmarked = now.lawful.1;
               starts = shown.keeps.began;
               allowed = now.each;
+              sides = λ more. let one = (rest_domain r).board.single in absurd (omega (arith, more, one));
               rest = rest;
             }
 
-        pub leaks_nothing : LeaksNothing b (rest_journal r)
+        leaks_nothing : LeaksNothing b (rest_journal r)
         leaks_nothing =
             let n = numbers_of c in
             let list = reached_list (d.holds n) (d.may n) (rank n) n (d.keeps n) (d.moves_linked n) (rises n) c (rest_journal r) refl ends in
@@ -90,8 +91,21 @@ module _ {D N : Type 0} {d : discipline.Ghosts D N} {m : machine.Ghosts Reclaimi
               linked = list.2;
             }
 
--- a domain is at rest where the one that it was is
-pub at_rest_there : {D N : Type 0} {d : discipline.Ghosts D N} {m : machine.Ghosts Reclaiming N (MachineShape N) Request (Step N) Agent Agent}
-    (r : OrcRest D N d m) (domain : OrcDomain D N) → rest_domain r ≡ domain → IsAtRest (run_of (domain_bounds domain) (rest_journal r))
-    → IsAtRest (run_of (domain_bounds (rest_domain r)) (rest_journal r))
-at_rest_there {D} {N} r domain same h = subst (λ (x : OrcDomain D N). IsAtRest (run_of (domain_bounds x) (rest_journal r))) (sym same) h
+-- what a domain of these sizes has left
+module _ {D N : Type 0} {d : discipline.Ghosts D N} {m : machine.Ghosts Reclaiming N (MachineShape N) Request (Step N) Agent Agent}
+    (r : OrcRest D N d m) (domain : OrcDomain D N) (seen : List (Step N)) (left : IsLeft domain seen r) (b : Bounds) (sizes : domain_bounds domain ≡ b)
+  where
+    same_sizes : domain_bounds (rest_domain r) ≡ b
+    same_sizes = ap (λ (x : OrcDomain D N). domain_bounds x) left.domain_is ∙ sizes
+
+    pub left_journal : (seed : Seed N) → board_seed domain.board ≡ seed → HasJournal d.may b seed r
+    left_journal seed seeds = has_journal r left.shown b same_sizes seed (ap (λ (x : OrcDomain D N). board_seed x.board) left.domain_is ∙ seeds)
+
+    pub left_reuse : ReusesSafely b (rest_journal r)
+    left_reuse = rows_reused r left.shown b same_sizes
+
+    pub left_rest : (rank : HeapNumbers → List (Event N) → ℕ → ℕ)
+        → ((n : HeapNumbers) (seen : List (Event N)) → d.holds n seen → Rises (rank n seen) (run_heap n seen)) → LeaksNothing b (rest_journal r)
+    left_rest rank rises =
+        leaks_nothing r left.shown b same_sizes rank rises
+        (subst (λ (x : OrcDomain D N). IsAtRest (run_of (domain_bounds x) (rest_journal r))) (sym left.domain_is) left.rest)

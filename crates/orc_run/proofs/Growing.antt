@@ -1,7 +1,6 @@
--- Replies that follow two journals follow them also where they go on without an entry.
-use Rattle.std.proofs.Common.{List, [], ap, subst, sym, ℕ, ◌+◌, ◌∙◌, ◌∷◌, ◌≡◌}
+-- Replies that follow three journals follow them also where they go on without an entry.
+use Rattle.std.proofs.Common.{Bool, List, [], ap, append-nil, refl, subst, sym, ℕ, ◌+◌, ◌∙◌, ◌≡◌}
 use mathlib.Core.List.{IsPrefix}
-use Rattle.orc_heap.proofs.Pieces.{goes_on}
 use Rattle.orc_history.specs.declared.queue.QueueEntry.{QueueEntry}
 use Rattle.orc_history.specs.declared.queue.QueueRefused.{QueueRefused}
 use Rattle.orc_history.specs.declared.set.SetEntry.{SetEntry}
@@ -11,73 +10,59 @@ use Rattle.orc_history.specs.SetHistory.{IsLegalSet, agent_of_set_entry}
 use Rattle.orc_jobs.specs.declared.line.Line.{Line}
 use Rattle.orc_board.specs.declared.replies.PostReply.{PostReply}
 use Rattle.orc_board.specs.declared.replies.TakeReply.{TakeReply}
-use Rattle.orc_board.specs.Follows.{LastIsEmpty, ZeroLast}
+use Rattle.orc_board.specs.Follows.{LastIsEmpty, ZeroLast, none}
 use Rattle.orc_board.specs.Runs.{Ran}
-use Rattle.orc_board.specs.Stretches.{Chain, Kind, Row, Stretch, View, beside}
+use Rattle.orc_board.specs.Stretches.{Did, Kind, Row, View, Works, all_beside, beside, nothing, of_queue, of_set}
+use Rattle.orc_board.proofs.Chains.{Did-just, chain_more}
 
 -- from the journal j to k the history doesn't grow
 pub record Silent {A E : Type 0} (history : List A → List E) (j k : List A) : Type 0 where
   pub later : IsPrefix j k
   pub same : history k ≡ history j
 
-stretch_more : {A E W : Type 0} (kind : Kind E) (x : View A E W) (worker : ℕ) (own : List E) (j k l : List A) → Stretch kind x worker own j k
-    → Silent x.history k l → Stretch kind x worker own j l
-stretch_more kind x worker own j k l s more = record {
-  later = goes_on j k l s.later more.later;
-  part = s.part;
-  is = more.same ∙ s.is;
-  own_is = s.own_is;
-  others = s.others;
+-- there a worker does nothing
+did_nothing : {A E W : Type 0} (kind : Kind E) (x : View A E W) (worker : ℕ) (j k : List A) → Silent x.history j k → Did kind x worker nothing j k
+did_nothing kind x worker j k silent = Did-just kind x worker [] j k record {
+  later = silent.later;
+  part = [];
+  is = silent.same ∙ sym (append-nil (x.history j));
+  own_is = refl;
+  others = tt;
 }
 
-module _ {A B : Type 0} (q : View A QueueEntry QueueRefused) (s : View B SetEntry ListRefused) where
-  chain_more : (worker : ℕ) (rows : List Row) (j : List A) (m : List B) (k : List A) (n : List B) (l : List A) (o : List B)
-      → Chain q s worker rows j m k n → Silent q.history k l → Silent s.history n o → Chain q s worker rows j m l o
-  chain_more worker [] j m k n l o c a b = record {
-    queue = record { stretch = stretch_more _ q worker _ j k l c.queue.stretch a; licence = tt };
-    set = record { stretch = stretch_more _ s worker _ m n o c.set.stretch b; licence = tt };
-  }
-  chain_more worker (row ∷ rows) j m k n l o c a b = (c.0, c.1, c.2, chain_more worker rows c.0 c.1 k n l o c.3 a b)
-
-module _ {A B : Type 0} (q : View A QueueEntry QueueRefused) (s : View B SetEntry ListRefused) (lines : List Line) (posters takers : ℕ)
-    (posts : List PostReply) (takes : List TakeReply)
+module _ {A B : Type 0} (qs : Bool → View A QueueEntry QueueRefused) (s : View B SetEntry ListRefused) (lines : List Line) (posters takers : ℕ)
+    (posts : List PostReply) (takes : List TakeReply) (k : Bool → List A) (n : List B) (l : Bool → List A) (o : List B)
+    (a : (rush : Bool) → Silent (qs rush).history (k rush) (l rush)) (b : Silent s.history n o)
   where
-    pub ran_more : (k : List A) (n : List B) (l : List A) (o : List B) → Ran q s lines posters takers posts takes k n
-        → Silent q.history k l → Silent s.history n o → Ran q s lines posters takers posts takes l o
-    ran_more k n l o r a b =
+    works_more : (crowd : ℕ → Type 0) (worker : ℕ) (rows : List Row) → Works (all_beside qs crowd) (beside s crowd) worker rows none [] k n
+        → Works (all_beside qs crowd) (beside s crowd) worker rows none [] l o
+    works_more crowd worker rows w = record {
+      queues = λ rush.
+          chain_more of_queue (beside (qs rush) crowd) worker (λ (row : Row). row.queues rush) rows [] (k rush) (l rush) (w.queues rush)
+          (did_nothing of_queue (beside (qs rush) crowd) worker (k rush) (l rush) (record { later = (a rush).later; same = (a rush).same }));
+      set = chain_more of_set (beside s crowd) worker (λ (row : Row). row.set) rows [] n o w.set
+          (did_nothing of_set (beside s crowd) worker n o (record { later = b.later; same = b.same }));
+    }
+
+    pub ran_more : Ran qs s lines posters takers posts takes k n → Ran qs s lines posters takers posts takes l o
+    ran_more r =
         let w = r.follows.workers in
         record {
           follows = record {
             workers = record {
-              posting = λ p low high.
-                  let x = w.posting p low high in
-                  record {
-                    rows = x.rows;
-                    table = x.table;
-                    works = record {
-                      chain = chain_more (beside q _) (beside s _) p x.rows [] [] k n l o x.works.chain
-                          (record { later = a.later; same = a.same }) (record { later = b.later; same = b.same });
-                    };
-                  };
-              claiming = λ t low.
-                  let x = w.claiming t low in
-                  record {
-                    rows = x.rows;
-                    table = x.table;
-                    works = record {
-                      chain = chain_more (beside q _) (beside s _) _ x.rows [] [] k n l o x.works.chain
-                          (record { later = a.later; same = a.same }) (record { later = b.later; same = b.same });
-                    };
-                  };
+              posting = λ p low high. let x = w.posting p low high in record { rows = x.rows; table = x.table; works = works_more _ p x.rows x.works };
+              claiming = λ t low. let x = w.claiming t low in record { rows = x.rows; table = x.table; works = works_more _ _ x.rows x.works };
               order = w.order;
-              queue_zero_last = subst (λ (h : List QueueEntry). ZeroLast agent_of_entry h) (sym a.same) w.queue_zero_last;
+              queues_zero_last = λ rush.
+                  subst (λ (h : List QueueEntry). ZeroLast agent_of_entry h) (sym (a rush).same) (w.queues_zero_last rush);
               set_zero_last = subst (λ (h : List SetEntry). ZeroLast agent_of_set_entry h) (sym b.same) w.set_zero_last;
-              found_empty = λ t low high few. subst (λ (h : List QueueEntry). LastIsEmpty (posters + t) h) (sym a.same) (w.found_empty t low high few);
+              found_empty = λ t low high few rush.
+                  subst (λ (h : List QueueEntry). LastIsEmpty (posters + t) h) (sym (a rush).same) (w.found_empty t low high few rush);
             };
             no_positions = r.follows.no_positions;
           };
-          queue_legal = subst (λ (h : List QueueEntry). IsLegalQueue 0 h) (sym a.same) r.queue_legal;
+          queues_legal = λ rush. subst (λ (h : List QueueEntry). IsLegalQueue 0 h) (sym (a rush).same) (r.queues_legal rush);
           set_legal = subst (λ (h : List SetEntry). IsLegalSet h) (sym b.same) r.set_legal;
-          empty = ap (waiting_after []) a.same ∙ r.empty;
+          empty = λ rush. ap (waiting_after []) (a rush).same ∙ r.empty rush;
           reportable = r.reportable;
         }

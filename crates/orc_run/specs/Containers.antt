@@ -1,4 +1,4 @@
--- Queue and set over a reclaiming domain, as the definition of replies that follow two journals sees them.
+-- Queue and set over a reclaiming domain, as the definition of replies that follow three journals sees them.
 use Rattle.std.specs.Prelude.{ℕ, ◌<◌}
 use Rattle.orc_words.specs.Bounds.{Bounds}
 use Rattle.orc_sound.specs.declared.steps.Step.{Step}
@@ -15,15 +15,14 @@ use Rattle.orc_chain_rule.specs.declared.chain.ChainNote.{ChainNote}
 use Rattle.orc_reclaiming_domain.specs.Causes.{IsLacking, IsWornIn}
 use Rattle.orc_queue.specs.Causes.{Cause}
 use Rattle.orc_list.specs.Causes.{Cause as SetCause}
-use Rattle.orc_board.specs.declared.again.TheConstants.{TURNS}
-use Rattle.orc_board.specs.Stretches.{View}
+use Rattle.orc_board.specs.Stretches.{View, turns}
 
 -- a queue with this first position over a domain of these sizes: a journal's history is that of the notes of its events; a node is
 -- refused where each row was out or spent at some time of the call; all agents may step in between
 abbrev pub queue_over : ℕ → Bounds → View (Step FifoNote) QueueEntry QueueRefused
 queue_over first b = record {
   history = λ journal. entries_of (project b journal);
-  licence = λ agent why journal from to. Cause (λ s. s.agent) (λ j. project b j) first (IsLacking b agent journal from to) agent TURNS why journal from to;
+  licence = λ agent why journal from to. Cause (λ s. s.agent) (λ j. project b j) first (IsLacking b agent journal from to) agent turns why journal from to;
   crowd = λ agent. agent < b.agents;
 }
 
@@ -32,6 +31,6 @@ abbrev pub set_over : Bounds → View (Step ChainNote) SetEntry ListRefused
 set_over b = record {
   history = λ journal. set_entries_of (project b journal);
   licence = λ agent why journal from to. SetCause (numbers_of b) (λ s. s.agent) (λ j. project b j) (IsLacking b agent journal from to)
-      (λ spent. IsWornIn b agent spent journal from to) agent TURNS why journal from to;
+      (λ spent. IsWornIn b agent spent journal from to) agent turns why journal from to;
   crowd = λ agent. agent < b.agents;
 }

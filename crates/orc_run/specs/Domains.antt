@@ -9,7 +9,7 @@ use Rattle.orc_chain_rule.specs.declared.chain.ChainNote.{ChainNote}
 
 -- the sizes of a domain with so many rows, roots and agents
 abbrev pub run_bounds : ℕ → ℕ → ℕ → Bounds
-run_bounds rows roots agents = record { rows = rows; roots = roots; agents = agents; limit = 2 ^ 39 }
+run_bounds rows roots agents = record { rows = rows; roots = roots; agents = agents; limit = 2 ^ 39; links = 1 }
 
 -- the queue begins with a dummy, whose successor gets position 0, and the set with nothing
 abbrev pub queue_seed : Seed FifoNote

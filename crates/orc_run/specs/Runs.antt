@@ -1,4 +1,4 @@
--- What a run leaves: one journal for each container, and replies that follow both.
+-- What a run leaves: one journal for each container, and replies that follow all three.
 use Rattle.std.specs.Prelude.{ℕ, List}
 use Rattle.orc_words.specs.Bounds.{Bounds}
 use Rattle.orc_core.specs.declared.records.Agent.{Agent}
@@ -16,13 +16,14 @@ use Rattle.orc_reclaiming_domain.specs.Rest.{rest_journal}
 use Rattle.orc_reclaiming_domain.specs.declared.at_rest.OrcRest.{OrcRest}
 use Rattle.orc_jobs.specs.declared.line.Line.{Line}
 use Rattle.orc_board.specs.Runs.{Ran}
+use Rattle.orc_board.specs.Stretches.{pick}
 use Rattle.orc_run.specs.declared.run.Finished.{Finished}
 use Rattle.orc_run.specs.Containers.{queue_over, set_over}
 use Rattle.orc_run.specs.Domains.{agents_of, queue_seed, run_bounds, set_seed}
 use Rattle.orc_run.specs.Journals.{HasJournal}
 use Rattle.orc_run.specs.Reuse.{LeaksNothing, ReusesSafely}
 
--- the sizes of the queue's domain, and of the set's, in a run of so many posters and takers with so many rows and buckets
+-- the sizes of each queue's domain, and of the set's, in a run of so many posters and takers with so many rows and buckets
 abbrev pub queue_bounds : ℕ → ℕ → ℕ → Bounds
 queue_bounds posters takers rows = run_bounds rows 2 (agents_of posters takers)
 
@@ -52,9 +53,9 @@ module _ {D N : Type 0} {d : discipline.Ghosts D N} {m : machine.Ghosts Reclaimi
   abbrev pub EndsWithoutLeak : Bounds → OrcRest D N d m → Type 0
   EndsWithoutLeak b r = LeaksNothing b (rest_journal r)
 
--- the replies of so many posters and takers over containers of so many rows and buckets follow the two journals, whose histories
--- are legal and leave the queue empty
+-- the replies of so many posters and takers over containers of so many rows and buckets follow the three journals, whose histories
+-- are legal and leave both queues empty
 abbrev pub RepliesFollow : List Line → ℕ → ℕ → ℕ → ℕ → Finished → Type 0
 RepliesFollow lines posters takers rows buckets f =
-    Ran (queue_over 0 (queue_bounds posters takers rows)) (set_over (set_bounds posters takers rows buckets)) lines posters takers
-    f.replies.posts.items f.replies.takes.items (rest_journal f.queue) (rest_journal f.set)
+    Ran (λ rush. queue_over 0 (queue_bounds posters takers rows)) (set_over (set_bounds posters takers rows buckets)) lines posters takers
+    f.replies.posts.items f.replies.takes.items (λ rush. rest_journal (pick f.queue f.rush rush)) (rest_journal f.set)

@@ -1,4 +1,4 @@
-//! The two containers of a run, and their passes.
+//! The containers of a run, and their passes.
 
 ghost use Rattle.std.specs.Prelude.{◌≡◌, ◌<◌, ◌≤◌, ℕ, [], All, IfOk, length, slice_index_or};
 ghost use Rattle.orc_words.specs.Bounds.{bounds_of};

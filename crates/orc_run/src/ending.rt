@@ -1,6 +1,6 @@
 //! The domains of a run are brought to rest.
 
-ghost use Rattle.std.specs.Prelude.{◌≡◌, ◌≤◌, [], All, List, length, vec_capacity};
+ghost use Rattle.std.specs.Prelude.{◌≡◌, ◌≤◌, [], All, List, false, length, true, vec_capacity};
 ghost use mathlib.Core.List.{IsPrefix};
 ghost use Rattle.orc_machine_board.specs.Rules.{run_of};
 ghost use Rattle.orc_projection.specs.Projection.{project};
@@ -8,7 +8,7 @@ ghost use Rattle.orc_reclaiming_domain.specs.Ends.{AreAll, AreIdle, SawAll, whol
 ghost use Rattle.orc_reclaiming_domain.specs.Passes.{domain_bounds, journal_of};
 ghost use Rattle.orc_reclaiming_domain.specs.Rest.{IsShown, rest_domain, rest_journal};
 ghost use Rattle.orc_rest.specs.Rest.{IsAtRest};
-ghost use Rattle.orc_run.specs.Journals.{GoesOnQuietly};
+ghost use Rattle.orc_run.specs.Journals.{GoesOnQuietly, IsLeft};
 ghost use Rattle.orc_sound.specs.declared.steps.Step.{Step};
 ghost use Rattle.orc_workers.specs.Desks.{AreIdle as AreIdleDesks, HaveSeenTheSame, queue_seen, set_seen};
 
@@ -22,10 +22,11 @@ use orc_heap::Discipline;
 use orc_history::{SharedQueue, SharedSet};
 use orc_reclaiming_domain::{OrcDomain, OrcPass, OrcRest};
 
-/// The domains of both containers at rest.
+/// The domains of all containers at rest.
 #[derive(Drop)]
 pub(crate) struct Ends {
     pub(crate) queue: OrcRest<Fifo>,
+    pub(crate) rush: OrcRest<Fifo>,
     pub(crate) set: OrcRest<Chain>,
 }
 
@@ -60,36 +61,36 @@ fn drain_passes<D: Discipline>(domain: &OrcDomain<D>, passes: &mut Vec<OrcPass<D
     domain.drain_all(passes.as_mut_slice());
 }
 
-// Ends a run whose passes have all seen the same journals: takes them from their desks, and brings both domains to rest. It
+// Ends a run whose passes have all seen the same journals: takes them from their desks, and brings all three domains to rest. It
 // takes no memory.
 pub(crate) fn end_run(
     queue: RunQueue,
+    rush: RunQueue,
     set: RunSet,
     desks: Vec<Desk<QueuePass, SetPass>>,
     mut passes: Passes<QueuePass, SetPass>,
 ) -> Ends
-    requires idle { AreIdleDesks ⟦<RunQueue as SharedQueue>⟧ ⟦<RunSet as SharedSet>⟧ queue set 0 desks.items }
+    requires idle { AreIdleDesks ⟦<RunQueue as SharedQueue>⟧ ⟦<RunSet as SharedSet>⟧ queue rush set 0 desks.items }
     requires seen { HaveSeenTheSame ⟦<RunQueue as SharedQueue>⟧ ⟦<RunSet as SharedSet>⟧ desks.items }
     requires all { (length desks.items ≡ (domain_bounds queue.queue.links).agents)
+        × (length desks.items ≡ (domain_bounds rush.queue.links).agents)
         × (length desks.items ≡ (domain_bounds set.set.list.links).agents) }
-    requires none { (passes.queue.items ≡ []) × (passes.set.items ≡ []) }
-    requires room { (length desks.items ≤ vec_capacity passes.queue) × (length desks.items ≤ vec_capacity passes.set) }
-    ensures domains { (rest_domain result.queue ≡ queue.queue.links) × (rest_domain result.set ≡ set.set.list.links) }
-    ensures shown { IsShown result.queue × IsShown result.set }
-    ensures queue_rest { IsAtRest (run_of (domain_bounds queue.queue.links) (rest_journal result.queue)) }
-    ensures set_rest { IsAtRest (run_of (domain_bounds set.set.list.links) (rest_journal result.set)) }
-    ensures queue_journal { GoesOnQuietly (domain_bounds queue.queue.links)
-        (queue_seen ⟦<RunQueue as SharedQueue>⟧ desks.items) (rest_journal result.queue) }
-    ensures set_journal { GoesOnQuietly (domain_bounds set.set.list.links)
-        (set_seen ⟦<RunSet as SharedSet>⟧ desks.items) (rest_journal result.set) }
+    requires none { (passes.queue.items ≡ []) × (passes.rush.items ≡ []) × (passes.set.items ≡ []) }
+    requires room { (length desks.items ≤ vec_capacity passes.queue) × (length desks.items ≤ vec_capacity passes.rush)
+        × (length desks.items ≤ vec_capacity passes.set) }
+    ensures queue { IsLeft queue.queue.links (queue_seen ⟦<RunQueue as SharedQueue>⟧ desks.items false) result.queue }
+    ensures rush { IsLeft rush.queue.links (queue_seen ⟦<RunQueue as SharedQueue>⟧ desks.items true) result.rush }
+    ensures set { IsLeft set.set.list.links (set_seen ⟦<RunSet as SharedSet>⟧ desks.items) result.set }
 {
     passes_apart(desks, &mut passes);
     let Passes {
         queue: queue_passes,
+        rush: rush_passes,
         set: set_passes,
     } = passes;
     Ends {
         queue: bring_to_rest(queue.into_links(), queue_passes),
+        rush: bring_to_rest(rush.into_links(), rush_passes),
         set: bring_to_rest(set.into_links(), set_passes),
     }
 }

@@ -1,5 +1,5 @@
-//! A run of the job board on threads: Michael and Scott's queue and a set of Harris's lists, each over a reclaiming domain of its
-//! own.
+//! A run of the job board on threads: two of Michael and Scott's queues and a set of Harris's lists, each over a reclaiming domain
+//! of its own.
 #![tactic(auto)]
 
 mod containers;

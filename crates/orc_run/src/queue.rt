@@ -1,4 +1,4 @@
-//! The queue of a run.
+//! A queue of a run.
 
 ghost use Rattle.std.specs.Prelude.{◌≡◌, refl};
 ghost use Rattle.orc_fifo_rule.specs.QueueDiscipline.{position_of};
@@ -24,7 +24,7 @@ pub(crate) type OrcQueue = Queue<OrcDomain<Fifo>>;
 /// An agent's pass to it.
 pub(crate) type QueuePass = OrcPass<Fifo>;
 
-/// The queue of a run. All its calls are those of the queue over the reclaiming domain; this type has no parameters, which
+/// A queue of a run. All its calls are those of the queue over the reclaiming domain; this type has no parameters, which
 /// keeps the proofs of what runs on threads small.
 #[derive(Drop)]
 pub(crate) struct RunQueue {

@@ -94,12 +94,14 @@ fn a_drop_closes_an_open_id(rt: HostRuntime) -> Result<(), Fail> {
         taker: 0,
         at: 0,
         line: 0,
+        rush: false,
         what: TakeWord::Done(5),
     };
     let void = TakeReply {
         taker: 0,
         at: 1,
         line: 1,
+        rush: false,
         what: TakeWord::Void,
     };
     assert_eq!(rt; finished.replies.takes.items(), [done, void].as_slice());

@@ -66,12 +66,12 @@ fn call_with<R: Threads + Wait + Sync>(
 
 // Whether nothing has ended.
 fn is_empty(ended: &Ended) -> bool {
-    ended.queue.is_none() && ended.set.is_none() && ended.replies.is_none()
+    ended.queue.is_none() && ended.rush.is_none() && ended.set.is_none() && ended.replies.is_none()
 }
 
-// Whether both domains and the replies have ended.
+// Whether all domains and the replies have ended.
 fn is_whole(ended: &Ended) -> bool {
-    ended.queue.is_some() && ended.set.is_some() && ended.replies.is_some()
+    ended.queue.is_some() && ended.rush.is_some() && ended.set.is_some() && ended.replies.is_some()
 }
 
 // Whether these bytes are a front of the text, and not all of it.
@@ -122,7 +122,7 @@ fn fail_each_write<R: Threads + Wait + Sync + Abort>(
 
 #[test]
 fn each_write_fails_in_turn(rt: HostRuntime) -> Result<(), Fail> {
-    let cases: [(&[&str], u8, &[u8], bool, u64); 5] = [
+    let cases: [(&[&str], u8, &[u8], bool, u64); 6] = [
         (&["--rows=64"], 0, FIVE_LINES_REPORT, true, 14),
         (
             &["--mode=trial", "--lines=2", "--rows=64"],
@@ -139,6 +139,7 @@ fn each_write_fails_in_turn(rt: HostRuntime) -> Result<(), Fail> {
             3,
         ),
         (&["--mode=replay"], 8, b"shape: unreadable\n", false, 2),
+        (&["--mode=audit"], 8, b"shape: unreadable\n", false, 2),
         (&["report"], 2, b"words refused\n", false, 1),
     ];
     for (words, status, text, ran, writes) in cases {
@@ -216,7 +217,7 @@ fn the_last_line_feed_may_be_missing(rt: HostRuntime) -> Result<(), Fail> {
         (b"post,7,bytes,\xff", 3, b"line 0: utf8\n"),
     ];
     for (input, status, output) in cases {
-        run(&rt, rt.alloc(), input, 16, &[], 1024, &[], status, output)?;
+        run(&rt, rt.alloc(), input, 16, status, output)?;
     }
     Ok(())
 }

@@ -2,7 +2,7 @@
 
 ghost use Rattle.std.specs.Prelude.{◌≤◌};
 
-use super::{run_with, words_of};
+use super::words_of;
 use crate::{CommandWords, Ended, orc_main};
 use orc_board::{Gate, OpenGate};
 use orc_fault::NoMemory;
@@ -50,23 +50,8 @@ pub(super) fn posts(alloc: Global, count: u32) -> Result<String, NoMemory> {
     Ok(text)
 }
 
-// A job file of so many lines over 10 ids, of which each third is a drop.
-fn mixed(alloc: Global, count: u32) -> Result<String, NoMemory> {
-    let mut text = String::new(alloc);
-    for index in 0..count {
-        let id = index % 10;
-        let line = if index % 3 == 2 {
-            format!(in alloc; "drop,{id}\n")?
-        } else {
-            format!(in alloc; "post,{id},bytes,xy\n")?
-        };
-        text.push_str(line.as_str())?;
-    }
-    Ok(text)
-}
-
 // What is counted in a report: how often each position stands in the board, in a reply to a post and in a reply to a take, with
-// the sum of its lines; how many lines are done, and how many posters' replies there are; and how often rows were freed.
+// the sum of its lines; how many lines are done, and how many posters' replies there are.
 #[derive(Drop)]
 struct Counts {
     board: Vec<u64>,
@@ -76,8 +61,6 @@ struct Counts {
     posted_line: Vec<u64>,
     done: u64,
     replies: u64,
-    reused: u64,
-    none_leaked: bool,
     in_file_order: bool,
     last: (u64, u64),
 }
@@ -92,8 +75,6 @@ impl Counts {
             posted_line: vec![in alloc; 0; lines]?,
             done: 0,
             replies: 0,
-            reused: 0,
-            none_leaked: true,
             in_file_order: true,
             last: (0, 0),
         })
@@ -120,11 +101,6 @@ impl Counts {
                 }
             }
             ["taker", _, "at", at, ..] => add(&mut self.taken, number(at), 1),
-            [_, "given", given, "reused", reused, "linked", linked] => {
-                let there = number(reused).wrapping_add(number(linked));
-                self.none_leaked = self.none_leaked && number(given) == there;
-                self.reused = self.reused.wrapping_add(number(reused));
-            }
             _ => {}
         }
     }
@@ -180,64 +156,5 @@ fn a_thousand_posts_are_done_once_each(rt: HostRuntime) -> Result<(), Fail> {
     assert!(rt; counts.agree());
     assert_eq!(rt; counts.done, 1000);
     assert_eq!(rt; counts.replies, 1000);
-    Ok(())
-}
-
-#[test]
-fn a_thousand_runs_with_drops(rt: HostRuntime) -> Result<(), Fail> {
-    let alloc = rt.alloc();
-    let words = words_of(alloc, &["--posters=4", "--takers=3", "--rows=256"])?;
-    let input = mixed(alloc, 50)?;
-    for _ in 0..1000 {
-        let report = report_of(&rt, alloc, &words, input.as_bytes(), &OpenGate)?;
-        let counts = counts_of(alloc, report.as_slice(), 50)?;
-        assert!(rt; counts.agree());
-        assert_eq!(rt; counts.replies, 50);
-    }
-    Ok(())
-}
-
-#[test]
-fn the_largest_team(rt: HostRuntime) -> Result<(), Fail> {
-    let alloc = rt.alloc();
-    let words = team_words(alloc, "8", "7")?;
-    run_with(
-        &rt,
-        alloc,
-        &words,
-        b"",
-        7,
-        &[],
-        1000,
-        &[],
-        0,
-        b"board\nreplies\n",
-    )?;
-    Ok(())
-}
-
-#[test]
-fn eight_rows_serve_ten_thousand_lines(rt: HostRuntime) -> Result<(), Fail> {
-    let alloc = rt.alloc();
-    let input = mixed(alloc, 10_000)?;
-    for buckets in ["1", "256"] {
-        let words = words_of(
-            alloc,
-            &[
-                "--posters=4",
-                "--takers=3",
-                "--rows=8",
-                "--rest=yes",
-                "--buckets",
-                buckets,
-            ],
-        )?;
-        let report = report_of(&rt, alloc, &words, input.as_bytes(), &OpenGate)?;
-        let counts = counts_of(alloc, report.as_slice(), 10_000)?;
-        assert!(rt; counts.agree());
-        assert_eq!(rt; counts.replies, 10_000);
-        assert!(rt; counts.none_leaked);
-        assert!(rt; counts.reused >= 1000);
-    }
     Ok(())
 }

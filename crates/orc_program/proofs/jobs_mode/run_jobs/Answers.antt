@@ -10,14 +10,14 @@ use Rattle.orc_program.proofs.jobs_mode.run_jobs.Goals as goal
 pub returns-in-Ok-Report-clause-done : goal.returns-in-Ok-Report-clause-done
 returns-in-Ok-Report-clause-done g c zero =
     let reported : HasReported c.args.settings (Some c.args.bytes.now)
-    (record { queue = Some c.in-Ok-Report.finished.queue; set = Some c.in-Ok-Report.finished.set; replies = Some c.in-Ok-Report.finished.replies })
+    (record { queue = Some c.in-Ok-Report.finished.queue; rush = Some c.in-Ok-Report.finished.rush; set = Some c.in-Ok-Report.finished.set; replies = Some c.in-Ok-Report.finished.replies })
     c.bytes.result.now = search rules in
     (c.bytes.result.now, kept_report _ _ c.in-Ok-Report.finished _ _ reported c.keep.ensures, c.write_text.ensures.written zero)
 
 pub returns-in-Ok-Report-clause-cut_short : goal.returns-in-Ok-Report-clause-cut_short
 returns-in-Ok-Report-clause-cut_short g c five =
     let reported : HasReported c.args.settings (Some c.args.bytes.now)
-    (record { queue = Some c.in-Ok-Report.finished.queue; set = Some c.in-Ok-Report.finished.set; replies = Some c.in-Ok-Report.finished.replies })
+    (record { queue = Some c.in-Ok-Report.finished.queue; rush = Some c.in-Ok-Report.finished.rush; set = Some c.in-Ok-Report.finished.set; replies = Some c.in-Ok-Report.finished.replies })
     c.bytes.result.now = search rules in
     let kept = kept_report _ _ c.in-Ok-Report.finished c.keep.new.self _ reported c.keep.ensures in
     (c.bytes.result.now, inl kept, c.write_text.ensures.cut_short five)

@@ -192,16 +192,16 @@ returns-in-Err-Words-clause-complete_make g c s gives make none =
     let refuses : Refuses c.args.words.now = search rules in
     absurd (never_both _ s gives refuses)
 
-pub returns-in-Ok-clause-queue_reuse : goal.returns-in-Ok-clause-queue_reuse
-returns-in-Ok-clause-queue_reuse g c =
+pub returns-in-Ok-clause-queues_reuse : goal.returns-in-Ok-clause-queues_reuse
+returns-in-Ok-clause-queues_reuse g c =
     let e = c.run_mode.ensures in
-    (of_status c.in-Ok.settings.mode c.in-Ok.settings _ _ _ _ _ e.statuses e.done e.cut_short e.nothing_ended).queue_reuse
+    (of_status c.in-Ok.settings.mode c.in-Ok.settings _ _ _ _ _ e.statuses e.done e.cut_short e.nothing_ended).queues_reuse
 
-pub returns-in-Err-Words-clause-queue_reuse : goal.returns-in-Err-Words-clause-queue_reuse
-returns-in-Err-Words-clause-queue_reuse g c = (of_none _ c.requires).queue_reuse
+pub returns-in-Err-Words-clause-queues_reuse : goal.returns-in-Err-Words-clause-queues_reuse
+returns-in-Err-Words-clause-queues_reuse g c = (of_none _ c.requires).queues_reuse
 
-pub returns-in-Err-NoMemory-clause-queue_reuse : goal.returns-in-Err-NoMemory-clause-queue_reuse
-returns-in-Err-NoMemory-clause-queue_reuse g c = (of_none _ c.requires).queue_reuse
+pub returns-in-Err-NoMemory-clause-queues_reuse : goal.returns-in-Err-NoMemory-clause-queues_reuse
+returns-in-Err-NoMemory-clause-queues_reuse g c = (of_none _ c.requires).queues_reuse
 
 pub returns-in-Ok-clause-set_reuse : goal.returns-in-Ok-clause-set_reuse
 returns-in-Ok-clause-set_reuse g c =
@@ -214,16 +214,16 @@ returns-in-Err-Words-clause-set_reuse g c = (of_none _ c.requires).set_reuse
 pub returns-in-Err-NoMemory-clause-set_reuse : goal.returns-in-Err-NoMemory-clause-set_reuse
 returns-in-Err-NoMemory-clause-set_reuse g c = (of_none _ c.requires).set_reuse
 
-pub returns-in-Ok-clause-queue_rest : goal.returns-in-Ok-clause-queue_rest
-returns-in-Ok-clause-queue_rest g c =
+pub returns-in-Ok-clause-queues_rest : goal.returns-in-Ok-clause-queues_rest
+returns-in-Ok-clause-queues_rest g c =
     let e = c.run_mode.ensures in
-    (of_status c.in-Ok.settings.mode c.in-Ok.settings _ _ _ _ _ e.statuses e.done e.cut_short e.nothing_ended).queue_rest
+    (of_status c.in-Ok.settings.mode c.in-Ok.settings _ _ _ _ _ e.statuses e.done e.cut_short e.nothing_ended).queues_rest
 
-pub returns-in-Err-Words-clause-queue_rest : goal.returns-in-Err-Words-clause-queue_rest
-returns-in-Err-Words-clause-queue_rest g c = (of_none _ c.requires).queue_rest
+pub returns-in-Err-Words-clause-queues_rest : goal.returns-in-Err-Words-clause-queues_rest
+returns-in-Err-Words-clause-queues_rest g c = (of_none _ c.requires).queues_rest
 
-pub returns-in-Err-NoMemory-clause-queue_rest : goal.returns-in-Err-NoMemory-clause-queue_rest
-returns-in-Err-NoMemory-clause-queue_rest g c = (of_none _ c.requires).queue_rest
+pub returns-in-Err-NoMemory-clause-queues_rest : goal.returns-in-Err-NoMemory-clause-queues_rest
+returns-in-Err-NoMemory-clause-queues_rest g c = (of_none _ c.requires).queues_rest
 
 pub returns-in-Ok-clause-set_rest : goal.returns-in-Ok-clause-set_rest
 returns-in-Ok-clause-set_rest g c =

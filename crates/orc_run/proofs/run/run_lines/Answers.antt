@@ -1,62 +1,77 @@
-use Rattle.std.proofs.Common.{◌≡◌, ◌+◌, ◌∙◌, ap, arith}
+use Rattle.std.proofs.Common.{◌≡◌, ◌+◌, ◌∙◌, Bool, ap, arith}
 use Rattle.orc_fifo_rule.specs.Laws.Kept.{fifo_rises}
-use Rattle.orc_fifo_rule.specs.QueueDiscipline.{fifo_rank}
+use Rattle.orc_fifo_rule.specs.QueueDiscipline.{fifo_rank, position_of}
+use Rattle.orc_heap.specs.Journals.{run_heap}
 use Rattle.orc_chain_rule.specs.ChainDiscipline.{chain_rank}
 use Rattle.orc_chain_rule.specs.Laws.Kept.{chain_rises}
-use Rattle.orc_machine_board.specs.Views.{board_seed}
-use Rattle.orc_reclaiming_domain.specs.Passes.{domain_bounds}
+use Rattle.orc_board.specs.Stretches.{pick}
+use Rattle.orc_reclaiming_domain.specs.Passes.{domain_bounds, domain_numbers, domain_opening}
+use Rattle.orc_workers.proofs.CameBack.{for_both}
 use Rattle.orc_run.specs.Domains.{agents_of, queue_seed, run_bounds, set_seed}
-use Rattle.orc_run.specs.Runs.{queue_bounds, set_bounds}
-use Rattle.orc_run.proofs.Actual.{at_rest_there, has_journal, leaks_nothing, rows_reused}
-use Rattle.orc_run.proofs.SameSizes.{ran}
+use Rattle.orc_run.specs.Runs.{EndsWithoutLeak, HasQueueJournal, ReusesRowsSafely, queue_bounds, set_bounds}
+use Rattle.orc_run.proofs.Actual.{left_journal, left_rest, left_reuse}
+use Rattle.orc_run.specs.declared.queue.RunQueue.{RunQueue}
+use Rattle.orc_run.proofs.SameSizes.{ran_both}
 use Rattle.orc_run.proofs.run.run_lines.Goals as goal
 
 pub returns-clause-replies : goal.returns-clause-replies
 returns-clause-replies g c =
+    let q : RunQueue = c.in_ok-queue.queue in
+    let h : RunQueue = c.in_ok-rush.rush in
     let count : 1 + c.args.posters + c.args.takers ≡ agents_of c.args.posters c.args.takers = omega arith in
-    ran c.args.lines.now c.args.posters c.args.takers c.in_ok-replies.replies.posts.items c.in_ok-replies.replies.takes.items _ _ _ _ _ _ _ _ _ _
-    c.in_ok-queue.ensures.first
-    (c.in_ok-queue.ensures.bounds ∙ ap (run_bounds c.args.rows 2) count) (c.in_ok-set.ensures.bounds ∙ ap (run_bounds c.args.rows c.args.buckets) count)
-    c.end_run-queue.ensures.queue_journal c.end_run-queue.ensures.set_journal
-    c.in_ok-replies.ensures.follows c.in_ok-replies.ensures.queue_legal c.in_ok-replies.ensures.set_legal c.in_ok-replies.ensures.empty
-    c.in_ok-replies.ensures.reportable
+    let sizes = ap (run_bounds c.args.rows 2) count in
+    let ends = c.end_run-queue.ensures in
+    let done = c.in_ok-replies.ensures in
+    ran_both c.args.lines.now c.args.posters c.args.takers c.in_ok-replies.replies.posts.items c.in_ok-replies.replies.takes.items _ _ _ _
+    (λ (rush : Bool). position_of (run_heap (domain_numbers (pick q h rush).queue.links) (domain_opening (pick q h rush).queue.links)) 0) _
+    (λ (rush : Bool). domain_bounds (pick q h rush).queue.links) _ _ _
+    c.in_ok-queue.ensures.first c.in_ok-rush.ensures.first
+    (c.in_ok-queue.ensures.bounds ∙ sizes) (c.in_ok-rush.ensures.bounds ∙ sizes)
+    (c.in_ok-set.ensures.bounds ∙ ap (run_bounds c.args.rows c.args.buckets) count)
+    ends.queue.journal ends.rush.journal ends.set.journal
+    done.follows done.queues_legal done.set_legal done.empty done.reportable
 
-pub returns-clause-queue_journal : goal.returns-clause-queue_journal
-returns-clause-queue_journal g c =
+pub returns-clause-queue_journals : goal.returns-clause-queue_journals
+returns-clause-queue_journals g c =
+    let b = queue_bounds c.args.posters c.args.takers c.args.rows in
     let count : 1 + c.args.posters + c.args.takers ≡ agents_of c.args.posters c.args.takers = omega arith in
-    has_journal c.end_run-queue.result.queue c.end_run-queue.ensures.shown.0 (queue_bounds c.args.posters c.args.takers c.args.rows)
-    (ap (λ d. domain_bounds d) c.end_run-queue.ensures.domains.0 ∙ (c.in_ok-queue.ensures.bounds ∙ ap (run_bounds c.args.rows 2) count)) queue_seed
-    (ap (λ d. board_seed d.board) c.end_run-queue.ensures.domains.0 ∙ c.in_ok-queue.ensures.seed)
+    let sizes = ap (run_bounds c.args.rows 2) count in
+    for_both (λ rush. HasQueueJournal b (pick c.end_run-queue.result.queue c.end_run-queue.result.rush rush))
+    (left_journal c.end_run-queue.result.queue _ _ c.end_run-queue.ensures.queue b (c.in_ok-queue.ensures.bounds ∙ sizes) queue_seed c.in_ok-queue.ensures.seed)
+    (left_journal c.end_run-queue.result.rush _ _ c.end_run-queue.ensures.rush b (c.in_ok-rush.ensures.bounds ∙ sizes) queue_seed c.in_ok-rush.ensures.seed)
 
 pub returns-clause-set_journal : goal.returns-clause-set_journal
 returns-clause-set_journal g c =
     let count : 1 + c.args.posters + c.args.takers ≡ agents_of c.args.posters c.args.takers = omega arith in
-    has_journal c.end_run-queue.result.set c.end_run-queue.ensures.shown.1 (set_bounds c.args.posters c.args.takers c.args.rows c.args.buckets)
-    (ap (λ d. domain_bounds d) c.end_run-queue.ensures.domains.1 ∙ (c.in_ok-set.ensures.bounds ∙ ap (run_bounds c.args.rows c.args.buckets) count)) set_seed
-    (ap (λ d. board_seed d.board) c.end_run-queue.ensures.domains.1 ∙ c.in_ok-set.ensures.seed)
+    left_journal c.end_run-queue.result.set _ _ c.end_run-queue.ensures.set (set_bounds c.args.posters c.args.takers c.args.rows c.args.buckets)
+    (c.in_ok-set.ensures.bounds ∙ ap (run_bounds c.args.rows c.args.buckets) count) set_seed c.in_ok-set.ensures.seed
 
-pub returns-clause-queue_reuse : goal.returns-clause-queue_reuse
-returns-clause-queue_reuse g c =
+pub returns-clause-queues_reuse : goal.returns-clause-queues_reuse
+returns-clause-queues_reuse g c =
+    let b = queue_bounds c.args.posters c.args.takers c.args.rows in
     let count : 1 + c.args.posters + c.args.takers ≡ agents_of c.args.posters c.args.takers = omega arith in
-    rows_reused c.end_run-queue.result.queue c.end_run-queue.ensures.shown.0 (queue_bounds c.args.posters c.args.takers c.args.rows)
-    (ap (λ d. domain_bounds d) c.end_run-queue.ensures.domains.0 ∙ (c.in_ok-queue.ensures.bounds ∙ ap (run_bounds c.args.rows 2) count))
+    let sizes = ap (run_bounds c.args.rows 2) count in
+    for_both (λ rush. ReusesRowsSafely b (pick c.end_run-queue.result.queue c.end_run-queue.result.rush rush))
+    (left_reuse c.end_run-queue.result.queue _ _ c.end_run-queue.ensures.queue b (c.in_ok-queue.ensures.bounds ∙ sizes))
+    (left_reuse c.end_run-queue.result.rush _ _ c.end_run-queue.ensures.rush b (c.in_ok-rush.ensures.bounds ∙ sizes))
 
 pub returns-clause-set_reuse : goal.returns-clause-set_reuse
 returns-clause-set_reuse g c =
     let count : 1 + c.args.posters + c.args.takers ≡ agents_of c.args.posters c.args.takers = omega arith in
-    rows_reused c.end_run-queue.result.set c.end_run-queue.ensures.shown.1 (set_bounds c.args.posters c.args.takers c.args.rows c.args.buckets)
-    (ap (λ d. domain_bounds d) c.end_run-queue.ensures.domains.1 ∙ (c.in_ok-set.ensures.bounds ∙ ap (run_bounds c.args.rows c.args.buckets) count))
+    left_reuse c.end_run-queue.result.set _ _ c.end_run-queue.ensures.set (set_bounds c.args.posters c.args.takers c.args.rows c.args.buckets)
+    (c.in_ok-set.ensures.bounds ∙ ap (run_bounds c.args.rows c.args.buckets) count)
 
-pub returns-clause-queue_rest : goal.returns-clause-queue_rest
-returns-clause-queue_rest g c =
+pub returns-clause-queues_rest : goal.returns-clause-queues_rest
+returns-clause-queues_rest g c =
+    let b = queue_bounds c.args.posters c.args.takers c.args.rows in
     let count : 1 + c.args.posters + c.args.takers ≡ agents_of c.args.posters c.args.takers = omega arith in
-    leaks_nothing c.end_run-queue.result.queue c.end_run-queue.ensures.shown.0 (queue_bounds c.args.posters c.args.takers c.args.rows)
-    (ap (λ d. domain_bounds d) c.end_run-queue.ensures.domains.0 ∙ (c.in_ok-queue.ensures.bounds ∙ ap (run_bounds c.args.rows 2) count))
-    fifo_rank fifo_rises (at_rest_there c.end_run-queue.result.queue _ c.end_run-queue.ensures.domains.0 c.end_run-queue.ensures.queue_rest)
+    let sizes = ap (run_bounds c.args.rows 2) count in
+    for_both (λ rush. EndsWithoutLeak b (pick c.end_run-queue.result.queue c.end_run-queue.result.rush rush))
+    (left_rest c.end_run-queue.result.queue _ _ c.end_run-queue.ensures.queue b (c.in_ok-queue.ensures.bounds ∙ sizes) fifo_rank fifo_rises)
+    (left_rest c.end_run-queue.result.rush _ _ c.end_run-queue.ensures.rush b (c.in_ok-rush.ensures.bounds ∙ sizes) fifo_rank fifo_rises)
 
 pub returns-clause-set_rest : goal.returns-clause-set_rest
 returns-clause-set_rest g c =
     let count : 1 + c.args.posters + c.args.takers ≡ agents_of c.args.posters c.args.takers = omega arith in
-    leaks_nothing c.end_run-queue.result.set c.end_run-queue.ensures.shown.1 (set_bounds c.args.posters c.args.takers c.args.rows c.args.buckets)
-    (ap (λ d. domain_bounds d) c.end_run-queue.ensures.domains.1 ∙ (c.in_ok-set.ensures.bounds ∙ ap (run_bounds c.args.rows c.args.buckets) count))
-    chain_rank chain_rises (at_rest_there c.end_run-queue.result.set _ c.end_run-queue.ensures.domains.1 c.end_run-queue.ensures.set_rest)
+    left_rest c.end_run-queue.result.set _ _ c.end_run-queue.ensures.set (set_bounds c.args.posters c.args.takers c.args.rows c.args.buckets)
+    (c.in_ok-set.ensures.bounds ∙ ap (run_bounds c.args.rows c.args.buckets) count) chain_rank chain_rises
