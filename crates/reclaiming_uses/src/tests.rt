@@ -5,7 +5,6 @@ use super::*;
 mod calls;
 mod crew;
 mod four_threads;
-mod hold_in_list;
 mod hold_in_queue;
 mod mark_in_list;
 mod set_calls;

@@ -5,21 +5,17 @@ mod asking;
 mod learning;
 mod list;
 mod many_threads;
-mod one_thread;
 mod queue;
 mod set;
 mod stopping;
-mod two_threads;
 
 pub use asking::{SetAnswer, set_answers};
 pub use learning::{each_sees_the_others, each_takes_the_others};
 pub use list::{DomainList, ListPass, next_list_pass, one_list_over, two_list_passes};
 pub use many_threads::{QueueSums, SetSums, add_and_take_out_by_all, present, put_and_take_by_all};
-pub use one_thread::put_and_take;
 pub use queue::{DomainQueue, QueuePass, Unmade, next_pass, plain_queue, queue_over, two_passes};
 pub use set::{DomainSet, set_over};
 pub use stopping::{goes_past_marked_nodes, helps_a_lagging_tail_on};
-pub use two_threads::put_beside_take;
 
 #[cfg(test)]
 mod tests;

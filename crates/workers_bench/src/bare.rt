@@ -4,12 +4,18 @@ ghost use Rattle.std.specs.Prelude.{◌≡◌, ◌+◌, ◌≤◌, All, IfSome, 
 ghost use Rattle.std.specs.Thread.{IsSync};
 ghost use Rattle.workers_bench.specs.Usable.{IsUsable};
 
-use orc_board::Desk;
 use orc_history::{SharedQueue, SharedSet};
 use std::thread::{Threads, join};
 
 // More turns than there are events in a lap, so that no call is refused for want of them.
 const TURNS: u64 = 1 << 30;
+
+// A pass of the queue and one of the set.
+#[derive(Drop)]
+pub(crate) struct Passes<A, B> {
+    queue: A,
+    set: B,
+}
 
 // The last of the queue's passes that are left.
 fn next_queue_pass<Q: SharedQueue>(queue: &Q, passes: &mut Vec<Q::Pass>) -> Option<Q::Pass>
@@ -30,44 +36,41 @@ fn next_set_pass<S: SharedSet>(set: &S, passes: &mut Vec<S::Pass>) -> Option<S::
     passes.pop()
 }
 
-// A desk of the last passes that are left.
-pub(crate) fn next_desk<Q: SharedQueue, S: SharedSet>(
+// The last passes of both that are left.
+pub(crate) fn next_passes<Q: SharedQueue, S: SharedSet>(
     queue: &Q,
     set: &S,
     queue_passes: &mut Vec<Q::Pass>,
     set_passes: &mut Vec<S::Pass>,
-) -> Option<Desk<Q::Pass, S::Pass>>
+) -> Option<Passes<Q::Pass, S::Pass>>
     requires queue { All (λ p. Q.usable queue.now p) queue_passes.old.items }
     requires set { All (λ p. S.usable set.now p) set_passes.old.items }
     ensures queue { All (λ p. Q.usable queue.now p) queue_passes.new.items }
     ensures set { All (λ p. S.usable set.now p) set_passes.new.items }
-    ensures desk { IfSome result (IsUsable Q.SharedQueue S.SharedSet queue.now set.now) }
-    ensures fewer { IfSome result (λ d. length queue_passes.old.items ≡ length queue_passes.new.items + 1) }
+    ensures passes { IfSome result (IsUsable Q.SharedQueue S.SharedSet queue.now set.now) }
+    ensures fewer { IfSome result (λ p. length queue_passes.old.items ≡ length queue_passes.new.items + 1) }
 {
-    let queue_pass = next_queue_pass(queue, queue_passes)?;
-    let set_pass = next_set_pass(set, set_passes)?;
-    Some(Desk {
-        queue: queue_pass,
-        set: set_pass,
-    })
+    let queue = next_queue_pass(queue, queue_passes)?;
+    let set = next_set_pass(set, set_passes)?;
+    Some(Passes { queue, set })
 }
 
 // Opens and puts each `step`th number from `first` on.
 fn post_bare<Q: SharedQueue, S: SharedSet>(
     queue: &Q,
     set: &S,
-    mut desk: Desk<Q::Pass, S::Pass>,
+    mut passes: Passes<Q::Pass, S::Pass>,
     posts: u32,
     first: u32,
     step: u32,
 )
-    requires desk { IsUsable Q.SharedQueue S.SharedSet queue.now set.now desk }
+    requires passes { IsUsable Q.SharedQueue S.SharedSet queue.now set.now passes }
     requires some { 1 ≤ step }
 {
     for index in 0..posts {
         if index % step == first {
-            let _opened = set.insert(&mut desk.set, u64::from(posts - 1 - index), TURNS);
-            let _put = queue.enqueue(&mut desk.queue, u64::from(index), TURNS);
+            let _opened = set.insert(&mut passes.set, u64::from(posts - 1 - index), TURNS);
+            let _put = queue.enqueue(&mut passes.queue, u64::from(index), TURNS);
         }
     }
 }
@@ -90,13 +93,13 @@ where
     requires set { All (λ p. S.usable set.now p) set_passes.items }
     requires some { 1 ≤ threads }
 {
-    let Some(desk) = next_desk(queue, set, &mut queue_passes, &mut set_passes) else {
+    let Some(passes) = next_passes(queue, set, &mut queue_passes, &mut set_passes) else {
         return;
     };
     let first = u32::try_from(queue_passes.len()).unwrap_or(0);
     let one = move ||
-        requires { IsUsable Q.SharedQueue S.SharedSet queue.now set.now desk × (1 ≤ threads) }
-    { post_bare(queue, set, desk, posts, first, threads) };
+        requires { IsUsable Q.SharedQueue S.SharedSet queue.now set.now passes × (1 ≤ threads) }
+    { post_bare(queue, set, passes, posts, first, threads) };
     let others = move ||
         requires { IsSync R.row × All (λ p. Q.usable queue.now p) queue_passes.items
             × All (λ p. S.usable set.now p) set_passes.items × (1 ≤ threads) }
@@ -108,17 +111,17 @@ where
 pub(crate) fn take_bare<Q: SharedQueue, S: SharedSet>(
     queue: &Q,
     set: &S,
-    mut desk: Desk<Q::Pass, S::Pass>,
+    mut passes: Passes<Q::Pass, S::Pass>,
     posts: u32,
 ) -> u64
-    requires desk { IsUsable Q.SharedQueue S.SharedSet queue.now set.now desk }
+    requires passes { IsUsable Q.SharedQueue S.SharedSet queue.now set.now passes }
 {
     let mut taken: u64 = 0;
     for _call in 0..posts {
-        if let Ok(Some((job, _at))) = queue.dequeue(&mut desk.queue, TURNS) {
+        if let Ok(Some((job, _at))) = queue.dequeue(&mut passes.queue, TURNS) {
             taken = taken.wrapping_add(1);
             let id = u64::from(posts).wrapping_sub(1).wrapping_sub(job);
-            let _closed = set.remove(&mut desk.set, id, TURNS);
+            let _closed = set.remove(&mut passes.set, id, TURNS);
         }
     }
     taken

@@ -3,7 +3,7 @@
 ghost use Rattle.std.specs.Prelude.{◌≡◌, ◌+◌, ◌<◌, ◌≤◌, ℕ, [], All, length, slice_index_or};
 ghost use Rattle.orc_jobs.specs.GoodLines.{AreGood};
 
-use crate::bare::{next_desk, post_on_threads, take_bare};
+use crate::bare::{next_passes, post_on_threads, take_bare};
 use orc_board::Gate;
 use orc_history::{LearnQueue, LearnSet, SharedQueue, SharedSet};
 use orc_jobs::Lines;
@@ -60,8 +60,10 @@ pub(crate) fn lap_of_workers<
     posters: u32,
     takers: u32,
     queue: &Q,
+    rush: &Q,
     set: &S,
     queue_passes: Vec<Q::Pass>,
+    rush_passes: Vec<Q::Pass>,
     set_passes: Vec<S::Pass>,
 ) -> io::Result<Option<Lap>>
 where
@@ -74,14 +76,27 @@ where
     requires queue_numbered { (i : ℕ) (p : Q.Pass) → i < length queue_passes.items
         → Q.agent_of queue.now (slice_index_or queue_passes.items i p) ≡ i }
     requires queue_all { (length queue_passes.items ≡ 1 + (posters + takers)) × (Q.agents queue.now ≡ 1 + (posters + takers)) }
-    requires first { Q.first queue.now ≡ 0 }
+    requires rush_usable { All (λ p. Q.usable rush.now p) rush_passes.items }
+    requires rush_fresh { All (λ p. Q.history rush.now (Q.journal p) ≡ []) rush_passes.items }
+    requires rush_numbered { (i : ℕ) (p : Q.Pass) → i < length rush_passes.items
+        → Q.agent_of rush.now (slice_index_or rush_passes.items i p) ≡ i }
+    requires rush_all { (length rush_passes.items ≡ 1 + (posters + takers)) × (Q.agents rush.now ≡ 1 + (posters + takers)) }
+    requires first { (Q.first queue.now ≡ 0) × (Q.first rush.now ≡ 0) }
     requires set_usable { All (λ p. S.usable set.now p) set_passes.items }
     requires set_fresh { All (λ p. S.history set.now (S.journal p) ≡ []) set_passes.items }
     requires set_numbered { (i : ℕ) (p : S.Pass) → i < length set_passes.items
         → S.agent_of set.now (slice_index_or set_passes.items i p) ≡ i }
     requires set_all { (length set_passes.items ≡ 1 + (posters + takers)) × (S.agents set.now ≡ 1 + (posters + takers)) }
 {
-    let Ok(mut desks) = fresh_desks(alloc, queue, set, queue_passes, set_passes) else {
+    let Ok(mut desks) = fresh_desks(
+        alloc,
+        queue,
+        rush,
+        set,
+        queue_passes,
+        rush_passes,
+        set_passes,
+    ) else {
         return Ok(None);
     };
     let start = Instant::now(rt)?;
@@ -91,7 +106,7 @@ where
         posting: AtomicU64::new(0),
     };
     let run = run_at_desks(
-        rt, alloc, lines, posters, takers, queue, set, &mut desks, &watch,
+        rt, alloc, lines, posters, takers, queue, rush, set, &mut desks, &watch,
     );
     let all = micros_since(rt, start);
     let posting = watch.posting.load(Ordering::SeqCst);
@@ -124,13 +139,13 @@ where
     requires set { All (λ p. S.usable made.1 p) made.3.items }
 {
     let (queue, set, mut queue_passes, mut set_passes) = made;
-    let Some(desk) = next_desk(&queue, &set, &mut queue_passes, &mut set_passes) else {
+    let Some(passes) = next_passes(&queue, &set, &mut queue_passes, &mut set_passes) else {
         return Ok(None);
     };
     let start = Instant::now(rt)?;
     post_on_threads(rt, &queue, &set, posts, threads, queue_passes, set_passes);
     let posting = micros_since(rt, start);
-    let jobs = take_bare(&queue, &set, desk, posts);
+    let jobs = take_bare(&queue, &set, passes, posts);
     let all = micros_since(rt, start);
     Ok(Some(Lap { posting, all, jobs }))
 }

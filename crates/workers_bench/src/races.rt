@@ -16,7 +16,7 @@ use std::sync::Wait;
 use std::thread::Threads;
 use std::time::Clock;
 
-// A lap by workers over this queue and a set over a plain domain.
+// A lap by workers over these queues and a set over a plain domain.
 fn workers_beside_a_set<R: Threads + Wait + Clock + Sync, Q: LearnQueue + Sync>(
     rt: &R,
     alloc: Global,
@@ -25,18 +25,25 @@ fn workers_beside_a_set<R: Threads + Wait + Clock + Sync, Q: LearnQueue + Sync>(
     posters: u32,
     takers: u32,
     queue: &Q,
+    rush: &Q,
     queue_passes: Vec<Q::Pass>,
+    rush_passes: Vec<Q::Pass>,
 ) -> io::Result<Option<Lap>>
 where
     Q::Pass: Send,
     requires good { AreGood lines.now }
     requires posters { (1 ≤ posters) × (posters ≤ 8) × (takers ≤ 7) }
-    requires usable { All (λ p. Q.usable queue.now p) queue_passes.items }
-    requires fresh { All (λ p. Q.history queue.now (Q.journal p) ≡ []) queue_passes.items }
-    requires numbered { (i : ℕ) (p : Q.Pass) → i < length queue_passes.items
+    requires queue_usable { All (λ p. Q.usable queue.now p) queue_passes.items }
+    requires queue_fresh { All (λ p. Q.history queue.now (Q.journal p) ≡ []) queue_passes.items }
+    requires queue_numbered { (i : ℕ) (p : Q.Pass) → i < length queue_passes.items
         → Q.agent_of queue.now (slice_index_or queue_passes.items i p) ≡ i }
-    requires all { (length queue_passes.items ≡ 1 + (posters + takers)) × (Q.agents queue.now ≡ 1 + (posters + takers)) }
-    requires first { Q.first queue.now ≡ 0 }
+    requires queue_all { (length queue_passes.items ≡ 1 + (posters + takers)) × (Q.agents queue.now ≡ 1 + (posters + takers)) }
+    requires rush_usable { All (λ p. Q.usable rush.now p) rush_passes.items }
+    requires rush_fresh { All (λ p. Q.history rush.now (Q.journal p) ≡ []) rush_passes.items }
+    requires rush_numbered { (i : ℕ) (p : Q.Pass) → i < length rush_passes.items
+        → Q.agent_of rush.now (slice_index_or rush_passes.items i p) ≡ i }
+    requires rush_all { (length rush_passes.items ≡ 1 + (posters + takers)) × (Q.agents rush.now ≡ 1 + (posters + takers)) }
+    requires first { (Q.first queue.now ≡ 0) × (Q.first rush.now ≡ 0) }
 {
     let Ok((set, set_passes)) = set_over(alloc, buckets, 1 + posters + takers) else {
         return Ok(None);
@@ -48,8 +55,10 @@ where
         posters,
         takers,
         queue,
+        rush,
         &set,
         queue_passes,
+        rush_passes,
         set_passes,
     )
 }
@@ -69,6 +78,9 @@ fn workers_on_plain<R: Threads + Wait + Clock + Sync>(
     let Ok((queue, queue_passes)) = queue_over(alloc, 1 + posters + takers) else {
         return Ok(None);
     };
+    let Ok((rush, rush_passes)) = queue_over(alloc, 1 + posters + takers) else {
+        return Ok(None);
+    };
     workers_beside_a_set(
         rt,
         alloc,
@@ -77,7 +89,9 @@ fn workers_on_plain<R: Threads + Wait + Clock + Sync>(
         posters,
         takers,
         &queue,
+        &rush,
         queue_passes,
+        rush_passes,
     )
 }
 

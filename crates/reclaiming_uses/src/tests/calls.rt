@@ -8,30 +8,7 @@ use orc_history::{ListRefused, QueueRefused, SharedQueue, SharedSet};
 use orc_words::Shape;
 use std::process::Abort;
 use std::test::Fail;
-use uses::{
-    each_sees_the_others, each_takes_the_others, goes_past_marked_nodes, helps_a_lagging_tail_on,
-    next_list_pass, next_pass,
-};
-
-#[test]
-fn both_take_what_both_put(rt: HostRuntime) -> Result<(), Fail> {
-    let shape = Shape::new(8, 2, 2, 1 << 39)?;
-    let Ok((queue, passes)) = reclaiming_queue_over(rt.alloc(), &shape, 0) else {
-        panic!(rt; "memory")
-    };
-    assert!(rt; each_takes_the_others(&queue, passes));
-    Ok(())
-}
-
-#[test]
-fn both_see_what_both_add(rt: HostRuntime) -> Result<(), Fail> {
-    let shape = Shape::new(8, 1, 2, 1 << 39)?;
-    let Ok((list, passes)) = reclaiming_list_over(rt.alloc(), &shape) else {
-        panic!(rt; "memory")
-    };
-    assert!(rt; each_sees_the_others(&list, passes));
-    Ok(())
-}
+use uses::{goes_past_marked_nodes, helps_a_lagging_tail_on, next_list_pass, next_pass};
 
 #[test]
 fn a_lagging_tail_is_helped_on(rt: HostRuntime) -> Result<(), Fail> {

@@ -2,7 +2,7 @@
 
 ghost use Rattle.std.specs.Prelude.{◌≡◌, ◌<◌, ℕ, All, length, slice_index_or};
 
-use crate::{each_sees_the_others, goes_past_marked_nodes, next_list_pass, one_list_over};
+use crate::{each_sees_the_others, next_list_pass, one_list_over};
 use orc_fault::Again;
 use orc_history::{ListRefused, SharedSet};
 use orc_words::Shape;
@@ -74,16 +74,6 @@ fn keys_of_one_list_and_refused_calls(rt: HostRuntime) -> Result<(), Fail> {
     };
     list.members();
     one_agent_calls(&rt, &list, passes);
-    Ok(())
-}
-
-#[test]
-fn an_insert_past_marked_nodes(rt: HostRuntime) -> Result<(), Fail> {
-    let shape = Shape::new(16, 1, 2, 1 << 39)?;
-    let Ok((list, passes)) = one_list_over(rt.alloc(), &shape) else {
-        panic!(rt; "memory")
-    };
-    assert!(rt; goes_past_marked_nodes(&list, passes));
     Ok(())
 }
 

@@ -1,15 +1,16 @@
-//! A queue whose first calls by agents 1, 2 and 3 wait for each other.
+//! Queues whose calls are watched: the first calls of agents 1, 2 and 3 wait for each other, and a rush job comes between the two
+//! dequeues of a take.
 
-ghost use Rattle.std.specs.Prelude.{◌≡◌, ◌<◌, ℕ, [], All, IfOk, length, slice_index_or};
+ghost use Rattle.std.specs.Prelude.{◌≡◌, ◌+◌, ◌<◌, ◌≤◌, ℕ, [], All, IfOk, length, slice_index_or};
 ghost use Rattle.orc_jobs.specs.GoodLines.{AreGood};
 
 use crate::{Unmade, plain_queue, set_over};
-use orc_board::{OpenGate, PostWord, Replies};
+use orc_board::{OpenGate, PostWord, Replies, TakeReply, TakeWord};
 use orc_fault::{Again, NoMemory};
 use orc_history::{LearnQueue, LearnSet, QueueRefused, SharedQueue};
 use orc_jobs::{Lines, read_jobs};
 use orc_words::Shape;
-use orc_workers::{fresh_desks, run_board};
+use orc_workers::{fresh_desks, run_at_desks};
 use std::alloc::Global;
 use std::sync::Wait;
 use std::sync::atomic::{AtomicU64, Ordering};
@@ -29,36 +30,28 @@ fn came(flag: &AtomicU64) -> bool {
     false
 }
 
-// Passes each call on, and holds the first one of each of three agents until all three have come.
+// A call of a queue.
+#[derive(Clone, Copy, PartialEq, Eq, Drop)]
+enum Call {
+    Put,
+    Take,
+}
+
+// What is done before a queue's calls, and after them.
+trait Watch {
+    fn before(&self, agent: u32, call: Call);
+
+    fn after(&self, call: Call);
+}
+
+// A queue that passes each call on, and is watched.
 #[derive(Drop)]
-struct Meeting<Q> {
+struct Watched<Q, W> {
     inner: Q,
-    first: AtomicU64,
-    second: AtomicU64,
-    third: AtomicU64,
-    met: AtomicU64,
+    watch: W,
 }
 
-impl<Q> Meeting<Q> {
-    // Notes that the agent has come, and waits for the others if it is its first call.
-    fn meet(&self, agent: u32) {
-        let own = match agent {
-            1 => &self.first,
-            2 => &self.second,
-            3 => &self.third,
-            _ => return,
-        };
-        if own.swap(1, Ordering::SeqCst) == 0
-            && came(&self.first)
-            && came(&self.second)
-            && came(&self.third)
-        {
-            self.met.fetch_add(1, Ordering::SeqCst);
-        }
-    }
-}
-
-impl<Q: SharedQueue> SharedQueue for Meeting<Q> {
+impl<Q: SharedQueue, W: Watch> SharedQueue for Watched<Q, W> {
     type Pass = Q::Pass;
 
     type Step = Q::Step;
@@ -90,17 +83,21 @@ impl<Q: SharedQueue> SharedQueue for Meeting<Q> {
     }
 
     fn enqueue(&self, p: &mut Q::Pass, job: u64, turns: u64) -> Result<u64, QueueRefused> {
-        self.meet(self.inner.agent(p));
-        self.inner.enqueue(p, job, turns)
+        self.watch.before(self.inner.agent(p), Call::Put);
+        let put = self.inner.enqueue(p, job, turns);
+        self.watch.after(Call::Put);
+        put
     }
 
     fn dequeue(&self, p: &mut Q::Pass, turns: u64) -> Result<Option<(u64, u64)>, Again> {
-        self.meet(self.inner.agent(p));
-        self.inner.dequeue(p, turns)
+        self.watch.before(self.inner.agent(p), Call::Take);
+        let taken = self.inner.dequeue(p, turns);
+        self.watch.after(Call::Take);
+        taken
     }
 }
 
-impl<Q: LearnQueue> LearnQueue for Meeting<Q> {
+impl<Q: LearnQueue, W: Watch> LearnQueue for Watched<Q, W> {
     ghost agents = { λ m. Q.agents m.inner };
 
     fn learn(&self, into: &mut Q::Pass, from: &mut Q::Pass) {
@@ -112,78 +109,204 @@ impl<Q: LearnQueue> LearnQueue for Meeting<Q> {
     ghost crowd_below = { λ m agent h. Q.crowd_below m.inner agent h };
 }
 
-// The lines of a file of two posts.
-fn two_posts(alloc: Global) -> Result<Lines, NoMemory>
+// Holds the first call of each of three agents until all three have come.
+#[derive(Drop)]
+struct Meeting {
+    first: AtomicU64,
+    second: AtomicU64,
+    third: AtomicU64,
+    met: AtomicU64,
+}
+
+impl Meeting {
+    // For the first calls of this queue; or none of its calls is held, where they have come.
+    fn new(have_come: bool) -> Meeting {
+        let flag = u64::from(have_come);
+        Meeting {
+            first: AtomicU64::new(flag),
+            second: AtomicU64::new(flag),
+            third: AtomicU64::new(flag),
+            met: AtomicU64::new(0),
+        }
+    }
+}
+
+impl Watch for Meeting {
+    fn before(&self, agent: u32, _call: Call) {
+        let own = match agent {
+            1 => &self.first,
+            2 => &self.second,
+            3 => &self.third,
+            _ => return,
+        };
+        if own.swap(1, Ordering::SeqCst) == 0
+            && came(&self.first)
+            && came(&self.second)
+            && came(&self.third)
+        {
+            self.met.fetch_add(1, Ordering::SeqCst);
+        }
+    }
+
+    fn after(&self, _call: Call) {}
+}
+
+// That a taker has found the rush queue empty, and that a rush job was put after that.
+#[derive(Drop)]
+struct Flags {
+    found_empty: AtomicU64,
+    rushed: AtomicU64,
+}
+
+// Holds a put into the rush queue until a taker asks the queue, and this taker until the rush job is there.
+#[derive(Drop)]
+struct Between<'a> {
+    is_rush: bool,
+    flags: &'a Flags,
+}
+
+impl Watch for Between<'_> {
+    fn before(&self, agent: u32, call: Call) {
+        if self.is_rush {
+            if call == Call::Put {
+                let _in_time = came(&self.flags.found_empty);
+            }
+        } else if call == Call::Take && agent != 0 {
+            self.flags.found_empty.store(1, Ordering::SeqCst);
+            let _in_time = came(&self.flags.rushed);
+        }
+    }
+
+    fn after(&self, call: Call) {
+        if self.is_rush && call == Call::Put {
+            self.flags.rushed.store(1, Ordering::SeqCst);
+        }
+    }
+}
+
+// The lines of this file.
+fn lines_of(alloc: Global, text: &[u8]) -> Result<Lines, NoMemory>
+    requires { length text.now ≤ 16777216 }
     ensures { IfOk result AreGood }
 {
-    match read_jobs(alloc, b"post,0,bytes,x\npost,1,bytes,x\n") {
+    match read_jobs(alloc, text) {
         Ok(lines) => Ok(lines),
         Err(_) => Err(NoMemory),
     }
 }
 
-// Whether both were posted, and each was taken once.
-fn are_both_taken_once(replies: &Replies) -> bool {
-    let posts = replies.posts.items();
-    let takes = replies.takes.items();
-    posts
-        .iter()
-        .all(|reply| matches!(reply.what, PostWord::Posted(_)))
-        && takes.len() == 2
-        && takes[0].at != takes[1].at
-}
-
-// What came of a run: how many agents met, how many desks came back, and whether each job was taken once.
-#[derive(Clone, Copy, Debug, PartialEq, Eq, Drop)]
-struct Met {
-    agents: u64,
-    desks: usize,
-    taken_once: bool,
-}
-
-// Two posters and a taker work through two posts over a queue in which their first calls meet, and this set.
-fn meet_over<R: Threads + Wait + Sync, S: LearnSet + Sync>(
+// Runs this file by so many posters and takers over two queues that are watched so, and this set.
+fn run_watched<R: Threads + Wait + Sync, W: Watch + Drop + Sync, S: LearnSet + Sync>(
     rt: &R,
     alloc: Global,
+    text: &[u8],
+    posters: u32,
+    takers: u32,
+    watches: (W, W),
     set: &S,
     set_passes: Vec<S::Pass>,
-) -> Result<Met, Unmade>
+) -> Result<(W, usize, Replies), Unmade>
 where
     S::Pass: Send,
+    requires short { length text.now ≤ 16777216 }
+    requires posters { (1 ≤ posters) × (posters ≤ 8) × (takers ≤ 7) }
     requires usable { All (λ p. S.usable set.now p) set_passes.items }
     requires fresh { All (λ p. S.history set.now (S.journal p) ≡ []) set_passes.items }
     requires numbered { (i : ℕ) (p : S.Pass) → i < length set_passes.items → S.agent_of set.now (slice_index_or set_passes.items i p) ≡ i }
-    requires four { (length set_passes.items ≡ 4) × (S.agents set.now ≡ 4) }
+    requires all { (length set_passes.items ≡ 1 + (posters + takers)) × (S.agents set.now ≡ 1 + (posters + takers)) }
 {
-    let lines = two_posts(alloc)?;
-    let (inner, queue_passes) = plain_queue(alloc, 16, 4)?;
-    let queue = Meeting {
-        inner,
-        first: AtomicU64::new(0),
-        second: AtomicU64::new(0),
-        third: AtomicU64::new(0),
-        met: AtomicU64::new(0),
+    let agents = 1 + posters + takers;
+    let lines = lines_of(alloc, text)?;
+    let (inner, queue_passes) = plain_queue(alloc, 16, agents)?;
+    let (rush_inner, rush_passes) = plain_queue(alloc, 16, agents)?;
+    let (watch, rush_watch) = watches;
+    let queue = Watched { inner, watch };
+    let rush = Watched {
+        inner: rush_inner,
+        watch: rush_watch,
     };
-    let desks = fresh_desks(alloc, &queue, set, queue_passes, set_passes)?;
-    let finished = run_board(rt, alloc, &lines, 2, 1, &queue, set, desks, &OpenGate)?;
-    Ok(Met {
-        agents: queue.met.load(Ordering::SeqCst),
-        desks: finished.desks.len(),
-        taken_once: are_both_taken_once(&finished.replies),
-    })
+    let mut desks = fresh_desks(
+        alloc,
+        &queue,
+        &rush,
+        set,
+        queue_passes,
+        rush_passes,
+        set_passes,
+    )?;
+    let replies = run_at_desks(
+        rt, alloc, &lines, posters, takers, &queue, &rush, set, &mut desks, &OpenGate,
+    )?;
+    let Watched { watch, .. } = queue;
+    Ok((watch, desks.len(), replies))
 }
 
 #[test]
 fn the_calls_of_three_agents_are_made_at_once(rt: HostRuntime) -> Result<(), Fail> {
+    let alloc = rt.alloc();
     let shape = Shape::new(16, 16, 4, 1)?;
-    let Ok((set, set_passes)) = set_over(rt.alloc(), &shape) else {
+    let Ok((set, set_passes)) = set_over(alloc, &shape) else {
         panic!(rt; "memory")
     };
-    let Ok(met) = meet_over(&rt, rt.alloc(), &set, set_passes) else {
+    let file = b"post,0,bytes,x\npost,1,bytes,x\n";
+    let watches = (Meeting::new(false), Meeting::new(true));
+    let Ok((meeting, desks, replies)) = run_watched(
+        &rt, alloc, file, 2, 1, watches, &set, set_passes,
+    ) else {
         panic!(rt; "memory")
     };
-    assert_eq!(rt; met.agents, 3);
-    assert_eq!(rt; met.desks, 4);
-    assert!(rt; met.taken_once);
+    assert_eq!(rt; meeting.met.load(Ordering::SeqCst), 3);
+    assert_eq!(rt; desks, 4);
+    for reply in replies.posts.items() {
+        assert!(rt; matches!(reply.what, PostWord::Posted(_)));
+    }
+    let takes = replies.takes.items();
+    assert_eq!(rt; takes.len(), 2);
+    assert!(rt; takes[0].at != takes[1].at);
+    Ok(())
+}
+
+#[test]
+fn a_rush_job_comes_between_the_two_dequeues_of_a_take(rt: HostRuntime) -> Result<(), Fail> {
+    let alloc = rt.alloc();
+    let shape = Shape::new(16, 16, 3, 1)?;
+    let Ok((set, set_passes)) = set_over(alloc, &shape) else {
+        panic!(rt; "memory")
+    };
+    let flags = Flags {
+        found_empty: AtomicU64::new(0),
+        rushed: AtomicU64::new(0),
+    };
+    let watches = (
+        Between {
+            is_rush: false,
+            flags: &flags,
+        },
+        Between {
+            is_rush: true,
+            flags: &flags,
+        },
+    );
+    let file = b"post,0,bytes,x\nrush,1,bytes,yy\n";
+    let Ok((_watch, _desks, replies)) = run_watched(
+        &rt, alloc, file, 1, 1, watches, &set, set_passes,
+    ) else {
+        panic!(rt; "memory")
+    };
+    let first = TakeReply {
+        taker: 1,
+        at: 0,
+        line: 0,
+        rush: false,
+        what: TakeWord::Done(1),
+    };
+    let second = TakeReply {
+        taker: 1,
+        at: 0,
+        line: 1,
+        rush: true,
+        what: TakeWord::Done(2),
+    };
+    assert_eq!(rt; replies.takes.items(), [first, second].as_slice());
     Ok(())
 }

@@ -2,47 +2,12 @@
 
 ghost use Rattle.std.specs.Prelude.{◌≡◌, ◌<◌, ℕ, All, length, slice_index_or};
 
-use crate::{each_takes_the_others, helps_a_lagging_tail_on, next_pass, queue_over};
+use crate::{each_takes_the_others, next_pass, queue_over};
 use orc_fault::Again;
 use orc_history::{QueueRefused, SharedQueue};
 use orc_words::Shape;
 use std::process::Abort;
 use std::test::Fail;
-
-// The last position is given, and none behind it.
-fn at_the_last_position<R: Abort, Q: SharedQueue>(rt: &R, queue: &Q, mut passes: Vec<Q::Pass>)
-    requires usable { All (λ p. Q.usable queue.now p) passes.items }
-    requires agents { (i : ℕ) (p : Q.Pass) → i < length passes.items → Q.agent_of queue.now (slice_index_or passes.items i p) ≡ i }
-{
-    let Some(mut p) = next_pass(queue, &mut passes) else {
-        panic!(rt; "a pass")
-    };
-    assert_eq!(rt; queue.enqueue(&mut p, 1, 2), Ok((1 << 62) - 1));
-    assert_eq!(rt; queue.enqueue(&mut p, 2, 2), Err(QueueRefused::Positions));
-    assert_eq!(rt; queue.dequeue(&mut p, 2), Ok(Some((1, (1 << 62) - 1))));
-    assert_eq!(rt; queue.dequeue(&mut p, 2), Ok(None));
-}
-
-#[test]
-fn the_last_position(rt: HostRuntime) -> Result<(), Fail> {
-    let shape = Shape::new(8, 2, 1, 1 << 39)?;
-    let Ok((queue, passes)) = queue_over(rt.alloc(), &shape, (1 << 62) - 1) else {
-        panic!(rt; "memory")
-    };
-    queue.members();
-    at_the_last_position(&rt, &queue, passes);
-    Ok(())
-}
-
-#[test]
-fn a_lagging_tail_is_helped_on(rt: HostRuntime) -> Result<(), Fail> {
-    let shape = Shape::new(16, 2, 2, 1 << 39)?;
-    let Ok((queue, passes)) = queue_over(rt.alloc(), &shape, 0) else {
-        panic!(rt; "memory")
-    };
-    assert!(rt; helps_a_lagging_tail_on(&queue, passes));
-    Ok(())
-}
 
 #[test]
 fn both_take_what_both_put(rt: HostRuntime) -> Result<(), Fail> {
@@ -80,6 +45,7 @@ fn calls_without_turns_and_without_rows(rt: HostRuntime) -> Result<(), Fail> {
     let Ok((queue, passes)) = queue_over(rt.alloc(), &shape, 0) else {
         panic!(rt; "memory")
     };
+    queue.members();
     refused_calls(&rt, &queue, passes);
     Ok(())
 }

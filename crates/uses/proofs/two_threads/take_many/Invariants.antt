@@ -1,5 +1,0 @@
-use Rattle.uses.proofs.two_threads.take_many.Given as goal
-
--- the pass may be used
-abbrev pub invariant-loop-call : goal.invariant-loop-call
-invariant-loop-call g l = g.Q.SharedQueue.usable l.queue l.p
