@@ -4,7 +4,7 @@
 # The figures go to docs/SPEED.md with date and machine.
 set -eu
 cd "$(dirname "$0")/.."
-printf '' | ./mooringakee >/dev/null
+MOORINGAKEE_BUILD=here ./mooringakee </dev/null >/dev/null
 work=$(mktemp -d)
 trap 'rm -rf "$work"' EXIT
 python3 - "$work" <<'PY'

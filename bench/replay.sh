@@ -3,7 +3,7 @@
 # each step, and of one in which a row is linked, retired, scanned and freed again and again.
 set -eu
 cd "$(dirname "$0")/.."
-printf '' | ./mooringakee >/dev/null
+MOORINGAKEE_BUILD=here ./mooringakee </dev/null >/dev/null
 trace=$(mktemp)
 trap 'rm -f "$trace" "$trace.time"' EXIT
 

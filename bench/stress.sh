@@ -5,7 +5,7 @@
 # The figures go to docs/SPEED.md with date and machine.
 set -euo pipefail
 cd "$(dirname "$0")/.."
-./mooringakee-stress --calls 1 >/dev/null
+MOORINGAKEE_BUILD=here ./mooringakee-stress --calls 1 >/dev/null
 scratch=$(mktemp -d)
 trap 'rm -rf "$scratch"' EXIT
 "${CXX:-g++}" -std=c++17 -O2 -pthread -o "$scratch/model" bench/model.cpp

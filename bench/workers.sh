@@ -5,7 +5,7 @@
 # and more open ids. The figures go to docs/SPEED.md with date and machine. Arguments: how many rounds of races, and how many runs.
 set -euo pipefail
 cd "$(dirname "$0")/.."
-printf '' | ./mooringakee >/dev/null
+MOORINGAKEE_BUILD=here ./mooringakee </dev/null >/dev/null
 (cd crates/workers_bench && rt run >/dev/null 2>&1)
 uptime
 python3 - "${1:-21}" "${2:-5}" <<'PY'
