@@ -60,8 +60,8 @@ fits_within b e a (LinkCas (Root i) f t) d n h = grind arith
 fits_within b e a (LinkCas (Next i) f t) d n h = grind arith
 fits_within b e a (LinkCas (Side i) f t) d n h = grind arith
 fits_within b e a (LinkCas w f t) d n h = grind arith
-fits_within b e a (LinkStore r zero l) d n h = grind arith
-fits_within b e a (LinkStore r (suc k) l) d n h =
+fits_within b e a (LinkStore r l zero) d n h = grind arith
+fits_within b e a (LinkStore r l (suc k)) d n h =
     let p : (ltb r b.rows ≡ true) × (ltb (suc k) b.links ≡ true) = and_both _ _ (and_both _ _ (and_both _ _ h).0).0 in
     let i = ltb-true (suc k) b.links p.1 in
     (ltb-true r b.rows p.0, omega arith)
@@ -81,7 +81,7 @@ pub fits_packable : (b : Bounds) (e a : ℕ) (op : Op) (d : Agent) → fits b e 
 fits_packable b e a Enroll d h s l = tt
 fits_packable b e a (GateTake r) d h s l = grind arith
 fits_packable b e a (LinkCas p f t) d h s l = grind arith
-fits_packable b e a (LinkStore r n k) d h s l = grind arith
+fits_packable b e a (LinkStore r k n) d h s l = grind arith
 fits_packable b e a (SetRetired r q) d h s l = grind arith
 fits_packable b e a op d h s l = grind arith
 
@@ -91,7 +91,7 @@ may_packable b e a op d h s l = fits_packable b e a op d (may_parts b e a op d h
 pub fits_recordable : (b : Bounds) (e a : ℕ) (op : Op) (d : Agent) → fits b e a op d ≡ true → b.agents ≤ 16 → b.links ≤ 2 → IsRecordable op d
 fits_recordable b e a (LinkLoad p None) d h s l = grind arith
 fits_recordable b e a (LinkLoad p (Some k)) d h s l = grind arith
-fits_recordable b e a (LinkStore r n k) d h s l = grind arith
+fits_recordable b e a (LinkStore r k n) d h s l = grind arith
 fits_recordable b e a (SlotLook k) d h s l = grind arith
 fits_recordable b e a op d h s l = grind arith
 

@@ -31,7 +31,7 @@ action_of a (Publish k r) d = record { word = Slot a k; operation = Store (r + 1
 action_of a (Clear k) d = record { word = Slot a k; operation = Store 0 }
 action_of a (Arm r) d = record { word = Slot a 0; operation = Store (r + 1) }
 action_of a (LinkCas p f t) d = record { word = p; operation = CompareExchange (link_word f) (link_word t) }
-action_of a (LinkStore r n l) d = record { word = link_at n r; operation = Swap (link_word l) }
+action_of a (LinkStore r l n) d = record { word = link_at n r; operation = Swap (link_word l) }
 action_of a (Inc r) d = record { word = Counter r; operation = Add INCREMENT }
 action_of a (Dec r) d = record { word = Counter r; operation = Add DECREMENT }
 action_of a (SetRetired r q) d = record { word = Counter r; operation = CompareExchange (clear_word q) (clear_word q + RETIRED) }
@@ -46,6 +46,6 @@ action_of a (Free r) d = record { word = Gate r; operation = Sub 1 }
 abbrev pub IsPackable : Op → Agent → Type 0
 IsPackable (GateTake r) d = number_of d.looked < 2 ^ 40
 IsPackable (LinkCas p f t) d = ForSome f.to (λ r. r < 65535) × ForSome t.to (λ r. r < 65535)
-IsPackable (LinkStore r n l) d = ForSome l.to (λ r. r < 65535)
+IsPackable (LinkStore r l n) d = ForSome l.to (λ r. r < 65535)
 IsPackable (SetRetired r q) d = q < 2 ^ 40
 IsPackable _ d = Unit {0}

@@ -97,7 +97,7 @@ after (LinkCas p f t) d w = record d {
   fresh = cond (w == link_word f) (cond (same_target f.to t.to) d.fresh (cond (same_target d.fresh t.to) None d.fresh)) d.fresh;
   checked = None;
 }
-after (LinkStore r n l) d w = record d {
+after (LinkStore r l n) d w = record d {
   inc = cond (same_target (named (w / 2)) l.to) d.inc l.to;
   dec = cond (same_target (named (w / 2)) l.to) d.dec (named (w / 2));
   checked = None;
@@ -132,6 +132,6 @@ abbrev pub IsRecordable : Op → Agent → Type 0
 IsRecordable (LinkLoad p slot) d = ForSome slot (λ k. k < 8)
 IsRecordable (Publish k r) d = k < 8
 IsRecordable (Clear k) d = k < 8
-IsRecordable (LinkStore r n l) d = n < 2
+IsRecordable (LinkStore r l n) d = n < 2
 IsRecordable (SlotLook k) d = ForSome d.scan (λ s. s.place < 2 ^ 31)
 IsRecordable _ d = Unit {0}

@@ -80,7 +80,7 @@ fits b e a (Arm r) d = nat_lt r b.rows && is_empty (slot_of d 0) && (names d.dec
 fits b e a (LinkCas p f t) d =
     may_place b p (λ r. any_holds d.slots r && not (names d.fresh r)) && is_empty (slot_of d 0) && may_target b d f.to && may_target b d t.to &&
     may_change d (b.limit + 64) f.to t.to
-fits b e a (LinkStore r n l) d =
+fits b e a (LinkStore r l n) d =
     nat_lt r b.rows && nat_lt n b.links && is_empty (slot_of d 0) &&
     ((names d.fresh r && may_target b d l.to && may_change d (b.limit + 64) None l.to) || (doom_at d.doom r n && is_none l.to && not l.mark))
 fits b e a (Inc r) d = nat_lt r b.rows && names d.inc r

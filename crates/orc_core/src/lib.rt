@@ -27,6 +27,3 @@ pub use permission::may_step;
 pub use records::{Agent, Doom, Reading, Scan, SlotUse};
 pub use state::{NotAllowed, State, allowed, apply};
 pub use work_list::WorkList;
-
-#[cfg(test)]
-mod tests;

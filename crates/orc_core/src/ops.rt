@@ -64,8 +64,8 @@ pub enum Op {
     /// Swaps the first (0) or second (1) link of the fresh row, or takes out the next link of a row to be freed.
     LinkStore {
         row: u32,
-        number: u32,
         link: RowLink,
+        number: u32,
     },
     /// Counts a link that was made.
     Inc {

@@ -183,7 +183,7 @@ fn link_swung(agent: &mut Agent, from: RowLink, to: RowLink, read: u64)
 // A link was stored. Where the targets differ, their counts have to follow.
 fn link_stored(agent: &mut Agent, row: u32, number: u32, link: RowLink, read: u64)
     requires { number < 2 }
-    ensures { agent.new ≡ after (Op.LinkStore row number link) agent.old read }
+    ensures { agent.new ≡ after (Op.LinkStore row link number) agent.old read }
 {
     let old = named(read / 2);
     if !same_target(old, link.to) {

@@ -121,7 +121,7 @@ fn may_swing(shape: &Shape, agent: &Agent, place: Word, from: RowLink, to: RowLi
 }
 
 fn may_store(shape: &Shape, agent: &Agent, row: u32, number: u32, link: RowLink) -> bool
-    ensures { result ≡ fits (bounds_of shape.now) 0 0 (Op.LinkStore row number link) agent.now }
+    ensures { result ≡ fits (bounds_of shape.now) 0 0 (Op.LinkStore row link number) agent.now }
 {
     row < shape.rows()
         && number < shape.links()

@@ -1,6 +1,7 @@
 -- Where the words of a table that threads share lie: the word of enrolments, each root and each agent's words on cache lines of
 -- their own, of eight words each, and the rows without gaps, so that two of them may share a line.
 use Rattle.std.specs.Prelude.{List, [], cond, nat_lt, replicate, ℕ, ◌*◌, ◌++◌, ◌+◌, ◌-◌, ◌/◌, ◌<◌, ◌∷◌, ◌≡◌}
+use Rattle.orc_layout.specs.declared.layout.Layout.{Layout}
 use Rattle.orc_words.specs.Bounds.{Bounds}
 use Rattle.orc_words.specs.Places.{places, words_of_rows}
 
@@ -11,6 +12,10 @@ rows_at b = 8 * (1 + b.roots)
 -- the first index of an agent: the next line behind the rows
 abbrev pub agents_at : Bounds → ℕ
 agents_at b = 8 * ((rows_at b + words_of_rows b b.rows + 7) / 8)
+
+-- both, as they are kept
+abbrev pub layout_of : Bounds → Layout
+layout_of b = record { first_row = rows_at b; first_agent = agents_at b }
 
 -- the index of a place: eight words each up to the last root, then the rows without gaps, and then the agents without gaps
 abbrev pub index : Bounds → ℕ → ℕ

@@ -5,7 +5,7 @@ ghost use Rattle.orc_words.specs.Bounds.{bounds_of};
 ghost use Rattle.orc_words.specs.Places.{places};
 ghost use Rattle.orc_layout.specs.Layout.{index, lay, room};
 
-use crate::layout::index_at;
+use crate::layout::Layout;
 use orc_fault::NoMemory;
 use orc_words::Shape;
 use std::alloc::Global;
@@ -21,9 +21,10 @@ pub fn laid_words(alloc: Global, shape: &Shape, words: &[u64]) -> Result<Vec<u64
     ensures laid { IfOk result (λ laid. laid.items ≡ lay (index (bounds_of shape.now)) words.now) }
     ensures long { IfOk result (λ laid. length laid.items ≡ room (bounds_of shape.now)) }
 {
-    let mut laid = vec![in alloc; 0; index_at(shape, words.len())]?;
+    let layout = Layout::new(shape);
+    let mut laid = vec![in alloc; 0; layout.index_at(shape, words.len())]?;
     for (place, word) in words.iter().enumerate() {
-        laid[index_at(shape, place)] = *word;
+        laid[layout.index_at(shape, place)] = *word;
     }
     Ok(laid)
 }

@@ -4,63 +4,77 @@ ghost use Rattle.std.specs.Prelude.{◌≡◌, ◌<◌, ◌≤◌, ◌*◌, ◌+
 ghost use Rattle.orc_words.specs.Bounds.{Bounds, bounds_of};
 ghost use Rattle.orc_words.specs.Places.{IsWithin, place, places};
 ghost use Rattle.orc_words.specs.declared.place.Word.TheVariants.{Enrolled, Root, Slot};
-ghost use Rattle.orc_layout.specs.Layout.{agents_at, index, room, rows_at};
+ghost use Rattle.orc_layout.specs.Layout.{index, layout_of, room};
 
 use orc_words::{Shape, Word};
 
 // How many words a cache line has.
 const LINE: usize = 8;
 
-// The first index of a row.
-#[inline(always)]
-fn rows_at(shape: &Shape) -> usize
-    ensures { result ≡ rows_at (bounds_of shape.now) }
-{
-    LINE * (1 + shape.roots() as usize)
+/// The first indices of the rows and of the agents of a table, which are worked out once.
+#[derive(Clone, Copy, Debug, PartialEq, Eq)]
+pub struct Layout {
+    pub first_row: usize,
+    pub first_agent: usize,
 }
 
-// The first index of an agent.
-#[inline(always)]
-fn agents_at(shape: &Shape) -> usize
-    ensures { result ≡ agents_at (bounds_of shape.now) }
-{
-    LINE * ((rows_at(shape) + shape.words_of_rows(shape.rows()) as usize + 7) / LINE)
-}
+impl Layout {
+    ghost use Rattle.std.specs.Prelude.{◌≡◌, ◌<◌, ◌≤◌};
+    ghost use Rattle.orc_words.specs.Bounds.{bounds_of};
+    ghost use Rattle.orc_words.specs.Places.{IsWithin, place, places};
+    ghost use Rattle.orc_layout.specs.Layout.{index, layout_of, room};
 
-/// The index of a word in the table, from 0.
-#[inline(always)]
-pub fn index_of(shape: &Shape, word: Word) -> usize
-    requires { IsWithin (bounds_of shape.now) word }
-    ensures index { result ≡ index (bounds_of shape.now) (place (bounds_of shape.now) word) }
-    ensures inside { result < room (bounds_of shape.now) }
-{
-    match word {
-        Word::Enrolled => 0,
-        Word::Root(root) => LINE * (1 + root as usize),
-        Word::Gate(row) => rows_at(shape) + shape.words_of_rows(row) as usize,
-        Word::Counter(row) => rows_at(shape) + shape.words_of_rows(row) as usize + 1,
-        Word::First(row) => rows_at(shape) + shape.words_of_rows(row) as usize + 2,
-        Word::Second(row) => rows_at(shape) + shape.words_of_rows(row) as usize + 3,
-        Word::Next(row) => rows_at(shape) + shape.words_of_rows(row) as usize + 4,
-        Word::Side(row) => rows_at(shape) + shape.words_of_rows(row) as usize + 5,
-        Word::Slot(agent, slot) => agents_at(shape) + 16 * agent as usize + slot as usize,
-        Word::Handover(agent, slot) => agents_at(shape) + 16 * agent as usize + 8 + slot as usize,
+    /// The layout of tables of this shape.
+    pub fn new(shape: &Shape) -> Layout
+        ensures { result ≡ layout_of (bounds_of shape.now) }
+    {
+        let first_row = LINE * (1 + shape.roots() as usize);
+        let end = first_row + shape.words_of_rows(shape.rows()) as usize;
+        Layout {
+            first_row,
+            first_agent: LINE * ((end + 7) / LINE),
+        }
     }
-}
 
-// The index of a place of the table.
-pub(crate) fn index_at(shape: &Shape, place: usize) -> usize
-    requires { place ≤ places (bounds_of shape.now) }
-    ensures { result ≡ index (bounds_of shape.now) place }
-{
-    let first_row = 1 + shape.roots() as usize;
-    let first_agent = first_row + shape.words_of_rows(shape.rows()) as usize;
-    if place < first_row {
-        LINE * place
-    } else if place < first_agent {
-        rows_at(shape) + (place - first_row)
-    } else {
-        agents_at(shape) + (place - first_agent)
+    /// The index of a word in a table of this layout, from 0.
+    #[inline(always)]
+    pub fn index_of(&self, shape: &Shape, word: Word) -> usize
+        requires laid { self.now ≡ layout_of (bounds_of shape.now) }
+        requires within { IsWithin (bounds_of shape.now) word }
+        ensures index { result ≡ index (bounds_of shape.now) (place (bounds_of shape.now) word) }
+        ensures inside { result < room (bounds_of shape.now) }
+    {
+        match word {
+            Word::Enrolled => 0,
+            Word::Root(root) => LINE * (1 + root as usize),
+            Word::Gate(row) => self.first_row + shape.words_of_rows(row) as usize,
+            Word::Counter(row) => self.first_row + shape.words_of_rows(row) as usize + 1,
+            Word::First(row) => self.first_row + shape.words_of_rows(row) as usize + 2,
+            Word::Second(row) => self.first_row + shape.words_of_rows(row) as usize + 3,
+            Word::Next(row) => self.first_row + shape.words_of_rows(row) as usize + 4,
+            Word::Side(row) => self.first_row + shape.words_of_rows(row) as usize + 5,
+            Word::Slot(agent, slot) => self.first_agent + 16 * agent as usize + slot as usize,
+            Word::Handover(agent, slot) => {
+                self.first_agent + 16 * agent as usize + 8 + slot as usize
+            }
+        }
+    }
+
+    // The index of a place of the table.
+    pub(crate) fn index_at(&self, shape: &Shape, place: usize) -> usize
+        requires laid { self.now ≡ layout_of (bounds_of shape.now) }
+        requires place { place ≤ places (bounds_of shape.now) }
+        ensures { result ≡ index (bounds_of shape.now) place }
+    {
+        let first_row = 1 + shape.roots() as usize;
+        let first_agent = first_row + shape.words_of_rows(shape.rows()) as usize;
+        if place < first_row {
+            LINE * place
+        } else if place < first_agent {
+            self.first_row + (place - first_row)
+        } else {
+            self.first_agent + (place - first_agent)
+        }
     }
 }
 

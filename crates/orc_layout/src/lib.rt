@@ -6,7 +6,4 @@ mod laid;
 mod layout;
 
 pub use laid::laid_words;
-pub use layout::{different_places_have_different_indices, index_of};
-
-#[cfg(test)]
-mod tests;
+pub use layout::{Layout, different_places_have_different_indices};

@@ -83,7 +83,7 @@ plain_act p d w (GateTake r) want e = plain_if (is_taken d w) (Some Give) None t
 plain_act p d w (FillStep r which v) want e = tt
 plain_act p d w (LinkLoad place slot) want e = plain_load p w want (node_place p place)
 plain_act p d w (LinkCas place from to) want e = absurd (false≢true e)
-plain_act p d w (LinkStore r number k) want e = absurd (false≢true e)
+plain_act p d w (LinkStore r k number) want e = absurd (false≢true e)
 plain_act p d w op want e = tt
 
 module _ {N : Type 0} where
@@ -131,7 +131,7 @@ plain_allowed b a (Publish x r) want d e w = (tt, refl)
 plain_allowed b a (Clear x) want d e w = (tt, refl)
 plain_allowed b a (Arm r) want d e w = (tt, refl)
 plain_allowed b a (LinkCas p f t) want d e w = absurd (false≢true e)
-plain_allowed b a (LinkStore r number l) want d e w = absurd (false≢true e)
+plain_allowed b a (LinkStore r l number) want d e w = absurd (false≢true e)
 plain_allowed b a (Inc r) want d e w = (tt, refl)
 plain_allowed b a (Dec r) want d e w = (tt, refl)
 plain_allowed b a (SetRetired r q) want d e w = (tt, refl)

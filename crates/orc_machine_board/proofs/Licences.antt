@@ -205,7 +205,7 @@ wanted_has : (d : Agent) (to : Option ℕ) → IsHeldOrNull d to → HasTarget d
 wanted_has d None h = tt
 wanted_has d (Some r) h = has_either (any_holds d.slots r) (names d.fresh r) h
 
-store_has : (b : Bounds) (a : ℕ) (d : Agent) (row : ℕ) (link : RowLink) → fits b 0 a (LinkStore row 0 link) d ≡ true → HasTarget d link.to
+store_has : (b : Bounds) (a : ℕ) (d : Agent) (row : ℕ) (link : RowLink) → fits b 0 a (LinkStore row link 0) d ≡ true → HasTarget d link.to
 store_has b a d row link h =
     let fresh = names d.fresh row && may_target b d link.to && may_change d (b.limit + 64) None link.to in
     let doomed = doom_at d.doom row 0 && is_none link.to && not link.mark in
@@ -297,13 +297,13 @@ module _ {N : Type 0} where
         none_some e = cc
     load_licensed place slot (Some link) (Some said) can bare allowed = noted_licensed place slot link (Some said) can (allowed link said refl refl)
 
-    pub store_licensed : (row : ℕ) (link : RowLink) → RequestAllowed (bounds_in k) a (asks (LinkStore row 0 link)) v.own
+    pub store_licensed : (row : ℕ) (link : RowLink) → RequestAllowed (bounds_in k) a (asks (LinkStore row link 0)) v.own
         → (names v.own.fresh row ≡ true → AimAllowed may (bounds_in k) (view_of a v) row link.to)
-        → Licensed counted_rules k holds may v a (asks (LinkStore row 0 link)) None
+        → Licensed counted_rules k holds may v a (asks (LinkStore row link 0)) None
     store_licensed row link can allowed between none later =
         let b = bounds_in k in
         let j = v.seen ++ between in
-        let ask : Request = asks (LinkStore row 0 link) in
+        let ask : Request = asks (LinkStore row link 0) in
         let s : Step N = step_of a ask None in
         let l = (counted_obeys k).lawful_next j a ask None later.lawful (subst (RequestAllowed b a ask) (sym later.mine) can) in
         let p : PresentIds = present_ids b v.seen in
@@ -311,9 +311,9 @@ module _ {N : Type 0} where
         let d : Agent = record_at (run_of b j) a in
         let stays = stays_for k holds may v a number now between none later in
         let st : option_map q.node link.to ≡ option_map p.node link.to = same_target p q v.own stays link.to
-        (store_has b a v.own row link (may_parts b 0 a (LinkStore row 0 link) v.own can.may).fits) in
+        (store_has b a v.own row link (may_parts b 0 a (LinkStore row link 0) v.own can.may).fits) in
         let met = meets k holds may v a between none later in
-        aim_may (heap_numbers k) may (project b j) (λ e. law (project b j) e later.kept) s q (word_read (run_of b j) a (LinkStore row 0 link))
+        aim_may (heap_numbers k) may (project b j) (λ e. law (project b j) e later.kept) s q (word_read (run_of b j) a (LinkStore row link 0))
         (names d.fresh row) (q.node row) (option_map q.node link.to)
         (λ e fits.
         let fresh : names v.own.fresh row ≡ true = subst (λ (z : Agent). names z.fresh row ≡ true) later.mine e in

@@ -12,7 +12,7 @@ use Rattle.orc_words.specs.declared.packed.RowLink.{RowLink}
 abbrev pub is_plain_kind : Op → Bool
 is_plain_kind Enroll = false
 is_plain_kind (LinkCas place from to) = false
-is_plain_kind (LinkStore row number link) = false
+is_plain_kind (LinkStore row link number) = false
 is_plain_kind op = true
 
 -- the request of an op that wants no link

@@ -60,12 +60,12 @@ impl<D: Discipline> MachineBoard<D> {
     /// Swaps the fresh row's first link, or takes that out of a doomed row. Answers the word that was there.
     pub fn link_store(&self, p: &mut MachineBoardPass<D>, row: u32, link: RowLink) -> u64
         requires belongs { Belongs self.now p.old }
-        requires allowed { MayDo (board_bounds self.now) (shows p.old) (Op.LinkStore row 0 link) }
+        requires allowed { MayDo (board_bounds self.now) (shows p.old) (Op.LinkStore row link 0) }
         requires without_mark { link.mark ≡ false }
         requires licensed { names (shows p.old).record_is.fresh row ≡ true
             → AimAllowed (D.may (board_numbers self.now)) (board_bounds self.now) (shows p.old) row link.to }
         ensures belongs { Belongs self.now p.new }
-        ensures makes { Makes (board_bounds self.now) (asks (Op.LinkStore row 0 link)) None (shows p.old) result (shows p.new) }
+        ensures makes { Makes (board_bounds self.now) (asks (Op.LinkStore row link 0)) None (shows p.old) result (shows p.new) }
     {
         let op = Op::LinkStore {
             row,

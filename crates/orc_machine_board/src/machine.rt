@@ -1,20 +1,38 @@
 //! The machine of twenty kinds over shared words.
 
 ghost use Rattle.std.specs.Prelude.{◌≡◌};
+ghost use Rattle.orc_layout.specs.Layout.{layout_of};
+ghost use Rattle.orc_words.specs.Bounds.{bounds_of};
 
 use orc_core::{Agent, Op, action_of, advance};
 use orc_heap::Seed;
-use orc_layout::index_of;
+use orc_layout::Layout;
 use orc_shared_words::{Machine, PlacedOperation};
 use orc_sound::Step;
 use orc_words::{RowLink, Shape};
+use std::alloc::AllocError;
 
-/// The sizes of a board, and what it begins with.
-#[derive(Clone, Copy)]
+/// The sizes of a board, what it begins with, and where its words lie.
 pub struct MachineShape<N> {
     pub shape: Shape,
     pub seed: Seed<N>,
+    pub layout: Layout,
+    pub ghost laid: { layout ≡ layout_of (bounds_of shape) },
 }
+
+impl<N: Copy> Clone for MachineShape<N> {
+    ghost use Rattle.std.specs.Prelude.{◌≡◌, ⊤};
+
+    ghost is_clone = { λ x y. y ≡ x };
+
+    ghost is_infallible = { λ _. ⊤ };
+
+    fn clone(&self) -> Result<MachineShape<N>, AllocError> {
+        Ok(*self)
+    }
+}
+
+impl<N: Copy> Copy for MachineShape<N> {}
 
 /// An op, and the link that its caller wants a load to find.
 #[derive(Clone, Copy, Debug, PartialEq, Eq)]
@@ -61,7 +79,7 @@ impl<N: Copy> Machine<N> for Reclaiming {
     ) -> PlacedOperation {
         let action = action_of(agent, &op.op, own);
         PlacedOperation {
-            index: index_of(&shape.shape, action.word),
+            index: shape.layout.index_of(&shape.shape, action.word),
             operation: action.operation,
         }
     }

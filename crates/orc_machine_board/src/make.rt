@@ -20,7 +20,7 @@ use crate::machine::{MachineShape, Reclaiming};
 use orc_core::{Agent, CounterUse, Op, State, apply};
 use orc_fault::NoMemory;
 use orc_heap::{Discipline, Seed};
-use orc_layout::laid_words;
+use orc_layout::{Layout, laid_words};
 use orc_shared_words::{SharedPass, SharedWords};
 use orc_words::{RowLink, Shape, Word};
 use std::alloc::Global;
@@ -52,6 +52,7 @@ impl<D: Discipline> MachineBoard<D> {
         let board_shape = MachineShape {
             shape: *shape,
             seed,
+            layout: Layout::new(shape),
         };
         let (words, passes) = SharedWords::<Reclaiming, D>::make(
             alloc,

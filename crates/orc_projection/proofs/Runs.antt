@@ -49,7 +49,7 @@ step_shows b z p h a (GateTake q) want l c u n s = take_step b z p h a q l s (is
 step_shows b z p h a (FillStep q which v) want l c u n s = (fill_fits b z p h a q which v l s, fill_shows b z p h a q which v l s)
 step_shows b z p h a (LinkLoad w slot) want l c u n s = load_step b z p h a w slot want l u s
 step_shows b z p h a (LinkCas w x t) want l c u n s = exchange_step b z p h a w x t want l c s
-step_shows b z p h a (LinkStore q nr k) want l c u n s = store_step b z p h a q nr k l n s (names (z.seats a).fresh q) refl
+step_shows b z p h a (LinkStore q k nr) want l c u n s = store_step b z p h a q nr k l n s (names (z.seats a).fresh q) refl
 step_shows b z p h a op want l c u n s = (tt, still_shows b z p h a op l refl s)
 
 events_lawful : {N : Type 0} (s : Step N) (o : Option Act) (h : Heap) (rest : List (Event N)) → Fitting s.agent o h

@@ -34,7 +34,7 @@ abbrev pub is_still : Op → Agent → ℕ → Bool
 is_still (GateTake q) d v = not (is_taken d v)
 is_still (Fill q which x) d v = false
 is_still (LinkCas w f t) d v = not (v == link_word f)
-is_still (LinkStore q nr l) d v = false
+is_still (LinkStore q l nr) d v = false
 is_still op d v = true
 
 -- a link or a value
@@ -61,7 +61,7 @@ still_words a (LinkLoad w k) d m x s t = write_same m w x
 still_words a (Read q w) d m x s t = write_same m (cond (w == 0) (First q) (Second q)) x
 still_words a (LinkCas w f l) d m x s t = lost_same m w x (link_word l) (m w == link_word f) (not-false _ s)
 still_words a (Fill q w v) d m x s t = absurd (false≢true s)
-still_words a (LinkStore q nr l) d m x s t = absurd (false≢true s)
+still_words a (LinkStore q l nr) d m x s t = absurd (false≢true s)
 still_words a op d m (Root i) s t = refl
 still_words a op d m (First i) s t = refl
 still_words a op d m (Second i) s t = refl
@@ -129,7 +129,7 @@ freed_even w h = omega arith
 
 own_cut : (b : Bounds) (z : World) (a : ℕ) (op : Op) (j n : ℕ) → LawfulStep b z a op → out ((step_world z a op).memory (Gate j)) ≡ 1
     → cuts_past (z.seats a).doom j n ≡ true → cuts_past (record_by z a op).doom j n ≡ true
-own_cut b z a (LinkStore q nr l) j n p o h = past_more (z.seats a).doom q nr j n h
+own_cut b z a (LinkStore q l nr) j n p o h = past_more (z.seats a).doom q nr j n h
 own_cut b z a (CounterLoad q Check) j n p o h = h
 own_cut b z a (CounterLoad q Start) j n p o h = h
 own_cut b z a (CounterLoad q End) j n p o h =

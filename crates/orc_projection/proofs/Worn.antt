@@ -159,15 +159,15 @@ spending_local b z p a (LinkCas (Side i) f t) want r l lo h =
     let y = cas_new p (SidePlace (p.node i)) f t (z.memory (Side i)) (z.seats a).inc r n.1 in
     omega arith
 spending_local b z p a (LinkCas w f t) want r l lo h = absurd (cas_place_out b z a w f t l)
-spending_local b z p a (LinkStore q zero k) want r l lo h =
-    let c = balance_kept b z a (LinkStore q zero k) r l h in
-    let n = nothing_pending (z.seats a).due (z.seats a).inc (z.seats a).dec (LinkStore q zero k) refl l.forced in
+spending_local b z p a (LinkStore q k zero) want r l lo h =
+    let c = balance_kept b z a (LinkStore q k zero) r l h in
+    let n = nothing_pending (z.seats a).due (z.seats a).inc (z.seats a).dec (LinkStore q k zero) refl l.forced in
     let y = store_new p q zero k (z.memory (Next q)) (z.seats a).inc r (names (z.seats a).fresh q) n.1
     (λ e. (store_doomed b (z.memory Enrolled) a q zero k (z.seats a) l.fits e).1) in
     omega arith
-spending_local b z p a (LinkStore q (suc ln) k) want r l lo h =
-    let c = balance_kept b z a (LinkStore q (suc ln) k) r l h in
-    let n = nothing_pending (z.seats a).due (z.seats a).inc (z.seats a).dec (LinkStore q (suc ln) k) refl l.forced in
+spending_local b z p a (LinkStore q k (suc ln)) want r l lo h =
+    let c = balance_kept b z a (LinkStore q k (suc ln)) r l h in
+    let n = nothing_pending (z.seats a).due (z.seats a).inc (z.seats a).dec (LinkStore q k (suc ln)) refl l.forced in
     let y = store_new p q (suc ln) k (z.memory (Side q)) (z.seats a).inc r (names (z.seats a).fresh q) n.1
     (λ e. (store_doomed b (z.memory Enrolled) a q (suc ln) k (z.seats a) l.fits e).1) in
     omega arith

@@ -44,7 +44,7 @@ act_of p d w (GateTake r) want = if is_taken d w then Some Give else None
 act_of p d w (FillStep r which value) want = Some (Fill (p.node r) which value)
 act_of p d w (LinkLoad place slot) want = option_map (load_act p w want) (node_place p place)
 act_of p d w (LinkCas place from to) want = option_map (exchange_act p w from to) (node_place p place)
-act_of p d w (LinkStore r n link) want = if names d.fresh r then Some (aim_act n (p.node r) (option_map p.node link.to)) else None
+act_of p d w (LinkStore r link n) want = if names d.fresh r then Some (aim_act n (p.node r) (option_map p.node link.to)) else None
 act_of p d w op want = None
 
 -- the present ids after the step
@@ -85,7 +85,7 @@ present_ids b steps = ids_from (new_machine b) no_ids steps
 
 -- the step stores no mark
 abbrev pub IsPlainOp : Op → Type 0
-IsPlainOp (LinkStore r n link) = link.mark ≡ false
+IsPlainOp (LinkStore r link n) = link.mark ≡ false
 IsPlainOp op = Unit {0}
 
 -- no step stores a marked link

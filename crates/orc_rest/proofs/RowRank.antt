@@ -139,11 +139,11 @@ cas_link b z p h a (Side k) x t want (suc n) j q l m u e =
 cas_link b z p h a w x t want i j q l m u e = absurd (cas_place_out b z a w x t l)
 
 -- a link that is stored in a row which is fresh nowhere afterwards has no target
-store_link : (b : Bounds) (z : World) (a r n : ℕ) (k : RowLink) (j q : ℕ) → LawfulStep b z a (LinkStore r n k)
-    → IsFreshNowhere (step_world z a (LinkStore r n k)) j → (j == r) ≡ true → to_row (link_word k) q ≡ 1 → ⊥
+store_link : (b : Bounds) (z : World) (a r n : ℕ) (k : RowLink) (j q : ℕ) → LawfulStep b z a (LinkStore r k n)
+    → IsFreshNowhere (step_world z a (LinkStore r k n)) j → (j == r) ≡ true → to_row (link_word k) q ≡ 1 → ⊥
 store_link b z a r n k j q l f g y =
     ⊎_elim
-    (λ x. both_ways (names (z.seats a).fresh j) (rw (eqb-true j r g) x) (rw (seat_same z.seats a (record_by z a (LinkStore r n k))) at (f a)))
+    (λ x. both_ways (names (z.seats a).fresh j) (rw (eqb-true j r g) x) (rw (seat_same z.seats a (record_by z a (LinkStore r k n))) at (f a)))
     (λ d. no_target k.to (store_doomed b (z.memory Enrolled) a r n k (z.seats a) l.fits unfresh).1 y)
     (store_cases b (z.memory Enrolled) a r n k (z.seats a) l.fits)
   where
@@ -152,18 +152,18 @@ store_link b z a r n k j q l f g y =
     no_target (Some c) g y = false≢true g
 
     unfresh : names (z.seats a).fresh r ≡ false
-    unfresh = rw (← eqb-true j r g) (rw (seat_same z.seats a (record_by z a (LinkStore r n k))) at (f a))
+    unfresh = rw (← eqb-true j r g) (rw (seat_same z.seats a (record_by z a (LinkStore r k n))) at (f a))
 
 -- the link words of rows that are out and not fresh are the same before, but for Moves at once linked nodes
 link_before : (b : Bounds) (z : World) (p : PresentIds) (h : Heap) (a : ℕ) (op : Op) (want : Option RowLink) (i j q : ℕ) → LawfulStep b z a op
     → ((act : Act) → act_of p (z.seats a) (read_by z a op) op want ≡ Some act → MovesLinked act h) → IsUnlinked p h j → IsFreshNowhere (step_world z a op) j
     → to_row ((step_world z a op).memory (link_at i j)) q ≡ 1 → to_row (z.memory (link_at i j)) q ≡ 1
 link_before b z p h a (LinkCas w x t) want i j q l m u n e = cas_link b z p h a w x t want i j q l m u e
-link_before b z p h a (LinkStore r zero k) want zero j q l m u n e =
+link_before b z p h a (LinkStore r k zero) want zero j q l m u n e =
     put_link (j == r) (link_word k) (z.memory (Next j)) q (λ s y. absurd (store_link b z a r 0 k j q l n s y)) e
-link_before b z p h a (LinkStore r zero k) want (suc i) j q l m u n e = e
-link_before b z p h a (LinkStore r (suc c) k) want zero j q l m u n e = e
-link_before b z p h a (LinkStore r (suc c) k) want (suc i) j q l m u n e =
+link_before b z p h a (LinkStore r k zero) want (suc i) j q l m u n e = e
+link_before b z p h a (LinkStore r k (suc c)) want zero j q l m u n e = e
+link_before b z p h a (LinkStore r k (suc c)) want (suc i) j q l m u n e =
     put_link (j == r) (link_word k) (z.memory (Side j)) q (λ s y. absurd (store_link b z a r (suc c) k j q l n s y)) e
 link_before b z p h a (FillStep r which v) want i j q l m u n e =
     ⊎_elim (λ o. o) (λ x. absurd (false≢true x)) (links_source b (z.memory Enrolled) a (FillStep r which v) (z.seats a) z.memory i j q l.fits e)

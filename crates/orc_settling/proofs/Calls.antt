@@ -129,17 +129,17 @@ doomed_row m a r k e = subst (λ x. dooms (record_at x a).doom r ≡ true → r 
         (world_of (run (new_machine k.bounds) k.steps)) r f.counted (f.doomed.gone a r h).is_out
 
 pub cut_allowed : (m : Machine) (a r : ℕ) → m.bounds.links ≡ 1 → IsReachedState m → a < m.bounds.agents → IsStill (record_at m a) → IsDoomOf r (record_at m a).doom
-    → is_allowed m a (LinkStore r 0 (record { to = None; mark = false })) ≡ true
-cut_allowed m a r one k h s e = allowed m a (LinkStore r 0 (record { to = None; mark = false })) h s.calm.enrolled (rw (s.due, s.calm.inc, s.dec) refl)
+    → is_allowed m a (LinkStore r (record { to = None; mark = false }) 0) ≡ true
+cut_allowed m a r one k h s e = allowed m a (LinkStore r (record { to = None; mark = false }) 0) h s.calm.enrolled (rw (s.due, s.calm.inc, s.dec) refl)
     (rw (lt-ltb r m.bounds.rows (doomed_row m a r k e), one, s.zero, s.calm.fresh, e, eq-eqb r r refl) refl)
 
 -- the doom after the link is out: cut
-pub doom_is_cut : (m n o : Machine) (a r : ℕ) → IsDoomOf r (record_at m a).doom → AfterStep a (LinkStore r 0 (record { to = None; mark = false })) m n
+pub doom_is_cut : (m n o : Machine) (a r : ℕ) → IsDoomOf r (record_at m a).doom → AfterStep a (LinkStore r (record { to = None; mark = false }) 0) m n
     → SameTasks (record_at n a) (record_at o a) → (record_at o a).doom ≡ Some (record { row = r; cuts = 1; bare = false })
 doom_is_cut m n o a r e w k = k.doom ∙ (ap (λ (d : Agent). d.doom) w.is ∙ rw (e, eq-eqb r r refl) refl)
 
 pub unretire_cut : (m n o : Machine) (a r : ℕ) → o.bounds.links ≡ 1 → IsReachedState m → a < m.bounds.agents → IsDoomOf r (record_at m a).doom
-    → AfterStep a (LinkStore r 0 (record { to = None; mark = false })) m n → SameTasks (record_at n a) (record_at o a) → IsStill (record_at o a)
+    → AfterStep a (LinkStore r (record { to = None; mark = false }) 0) m n → SameTasks (record_at n a) (record_at o a) → IsStill (record_at o a)
     → n.bounds ≡ m.bounds → o.bounds ≡ n.bounds → (record_at m a).scan ≡ None
     → is_allowed o a (Unretire r) ≡ true
 unretire_cut m n o a r one k h e w t s b c q =
@@ -148,7 +148,7 @@ unretire_cut m n o a r one k h e w t s b c q =
     (rw (lt-ltb r o.bounds.rows (rows_on n o r c (rows_on m n r b (doomed_row m a r k e))), doom_is_cut m n o a r e w t, one, scan, eq-eqb r r refl) refl)
 
 pub free_bare : (m n o p : Machine) (a r : ℕ) → IsReachedState m → a < m.bounds.agents → IsDoomOf r (record_at m a).doom
-    → AfterStep a (LinkStore r 0 (record { to = None; mark = false })) m n → SameTasks (record_at n a) (record_at o a) → IsStill (record_at o a)
+    → AfterStep a (LinkStore r (record { to = None; mark = false }) 0) m n → SameTasks (record_at n a) (record_at o a) → IsStill (record_at o a)
     → n.bounds ≡ m.bounds → o.bounds ≡ n.bounds → (record_at m a).scan ≡ None
     → p.bounds ≡ o.bounds → AfterStep a (Unretire r) o p → is_allowed p a (Free r) ≡ true
 free_bare m n o p a r k h e w t s b c q d v =
@@ -158,7 +158,7 @@ free_bare m n o p a r k h e w t s b c q d v =
     (rw (lt-ltb r p.bounds.rows (rows_on o p r d (rows_on n o r c (rows_on m n r b (doomed_row m a r k e)))), doom_is_cut m n o a r e w t, eq-eqb r r refl)
     refl)
 
-pub freed_went : (m n o p q : Machine) (a r : ℕ) → AfterStep a (LinkStore r 0 (record { to = None; mark = false })) m n
+pub freed_went : (m n o p q : Machine) (a r : ℕ) → AfterStep a (LinkStore r (record { to = None; mark = false }) 0) m n
     → SameTasks (record_at n a) (record_at o a) → (record_at m a).scan ≡ None → Went a 0 m n → Went a 0 n o
     → Went a (bit (is_some (record_at o a).scan)) o p → Went a 1 p q → Went a 1 m q
 freed_went m n o p q a r w t s x y u v =

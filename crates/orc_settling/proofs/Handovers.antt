@@ -47,8 +47,8 @@ own_handover b z a (LinkCas w x t) k p s o = absurd s
 own_handover b z a (LinkLoad w j) k p s o = absurd s
 own_handover b z a (FillStep r w v) k p s o = absurd s
 own_handover b z a (Read r w) k p s o = absurd s
-own_handover b z a (LinkStore q zero l) k p s o = o
-own_handover b z a (LinkStore q (suc n) l) k p s o = o
+own_handover b z a (LinkStore q l zero) k p s o = o
+own_handover b z a (LinkStore q l (suc n)) k p s o = o
 own_handover b z a op k p s o = o
 
 -- where no slot names a row, nothing is handed over
@@ -78,6 +78,6 @@ other_handover b z a (LinkCas w y t) x k p ne s q o = absurd s
 other_handover b z a (LinkLoad w j) x k p ne s q o = absurd s
 other_handover b z a (FillStep r w v) x k p ne s q o = absurd s
 other_handover b z a (Read r w) x k p ne s q o = absurd s
-other_handover b z a (LinkStore r zero l) x k p ne s q o = o
-other_handover b z a (LinkStore r (suc n) l) x k p ne s q o = o
+other_handover b z a (LinkStore r l zero) x k p ne s q o = o
+other_handover b z a (LinkStore r l (suc n)) x k p ne s q o = o
 other_handover b z a op x k p ne s q o = o

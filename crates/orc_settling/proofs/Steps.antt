@@ -262,17 +262,17 @@ stale_cut m q n v None = refl
 stale_cut m q zero v (Some s) = refl
 stale_cut m q (suc n) v (Some s) = refl
 
-pub cut_work : (b : Bounds) (z : World) (a q nr : ℕ) (l : RowLink) → LawfulStep b z a (LinkStore q nr l) → doom_at (z.seats a).doom q nr ≡ true → l.to ≡ None
-    → work_after b z a (LinkStore q nr l) ≤ work_in b z a
+pub cut_work : (b : Bounds) (z : World) (a q nr : ℕ) (l : RowLink) → LawfulStep b z a (LinkStore q l nr) → doom_at (z.seats a).doom q nr ≡ true → l.to ≡ None
+    → work_after b z a (LinkStore q l nr) ≤ work_in b z a
 cut_work b z a q zero l p c t =
-    let n = nothing_pending (z.seats a).due (z.seats a).inc (z.seats a).dec (LinkStore q 0 l) refl p.forced in
+    let n = nothing_pending (z.seats a).due (z.seats a).inc (z.seats a).dec (LinkStore q l 0) refl p.forced in
     let o = one_of (cond (same_target (named (z.memory (Next q) / 2)) None) (z.seats a).dec (named (z.memory (Next q) / 2))) in
     let e = cut_more (z.seats a).doom q 0 (number_below b z a q 0 l p) c in
     let d : bit (is_some (z.seats a).dec) ≡ 0 = rw n.2 refl in
     let s = stale_cut z.memory q 0 (link_word l) (z.seats a).scan in
     rw t (omega arith)
 cut_work b z a q (suc k) l p c t =
-    let n = nothing_pending (z.seats a).due (z.seats a).inc (z.seats a).dec (LinkStore q (suc k) l) refl p.forced in
+    let n = nothing_pending (z.seats a).due (z.seats a).inc (z.seats a).dec (LinkStore q l (suc k)) refl p.forced in
     let o = one_of (cond (same_target (named (z.memory (Side q) / 2)) None) (z.seats a).dec (named (z.memory (Side q) / 2))) in
     let e = cut_more (z.seats a).doom q (suc k) (number_below b z a q (suc k) l p) c in
     let d : bit (is_some (z.seats a).dec) ≡ 0 = rw n.2 refl in

@@ -84,7 +84,7 @@ store_core : (v : ℕ) (l : RowLink) (i j : Option ℕ) (r : ℕ) → r < 65535 
 store_core v l i j r h ni nj = rw (ni, nj) (store_cases v l r (same_target (named (v / 2)) l.to) h (same_names (named (v / 2)) l.to r))
 
 pub store_kept : (m : Word → ℕ) (a q nr : ℕ) (l : RowLink) (d : Agent) (r : ℕ) → r < 65535 → out (m (Gate q)) ≡ 1 → d.inc ≡ None → d.dec ≡ None
-    → Kept m a (LinkStore q nr l) d r
+    → Kept m a (LinkStore q l nr) d r
 store_kept m a q zero l d r b h ni nd = rw h (omega (arith, store_core (m (Next q)) l d.inc d.dec r b ni nd))
 store_kept m a q (suc k) l d r b h ni nd = rw h (omega (arith, store_core (m (Side q)) l d.inc d.dec r b ni nd))
 

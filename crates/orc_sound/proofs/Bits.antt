@@ -116,6 +116,6 @@ bit_before b z a (LinkCas (Side i) x t) r p h = inl h
 bit_before b z a (LinkCas w x t) r p h = let f = p.fits in grind arith
 bit_before b z a (Fill q w v) r p h = inl (fill_bit z.memory q w v r h)
 bit_before b z a (Read q w) r p h = inl (rw (write_same z.memory (cond (w == 0) (First q) (Second q)) (Counter r)) at h)
-bit_before b z a (LinkStore lq zero ll) r p h = inl h
-bit_before b z a (LinkStore lq (suc ln) ll) r p h = inl h
+bit_before b z a (LinkStore lq ll zero) r p h = inl h
+bit_before b z a (LinkStore lq ll (suc ln)) r p h = inl h
 bit_before b z a op r p h = inl h

@@ -43,7 +43,7 @@ balance_kept b z a (Fill q w v) r p h = fill_kept z.memory a q w v (z.seats a) r
 balance_kept b z a (Read q w) r p h = grind arith
 balance_kept b z a (LinkCas w x t) r p h = let n = nothing_pending (z.seats a).due (z.seats a).inc (z.seats a).dec (LinkCas w x t) refl p.forced in
     cas_kept z.memory a w x t (z.seats a) r (cas_place_out b z a w x t p) n.1 n.2
-balance_kept b z a (LinkStore q nr l) r p h = let n = nothing_pending (z.seats a).due (z.seats a).inc (z.seats a).dec (LinkStore q nr l) refl p.forced in
+balance_kept b z a (LinkStore q l nr) r p h = let n = nothing_pending (z.seats a).due (z.seats a).inc (z.seats a).dec (LinkStore q l nr) refl p.forced in
     let k = p.shape.rows.1 in store_kept z.memory a q nr l (z.seats a) r (omega arith) (store_row_out b z a q nr l p) n.1 n.2
 balance_kept b z a (Inc q) r p h = inc_kept z.memory a q (z.seats a) r (and_both _ _ p.fits).1 (inc_count _ (inc_bounds b z a q p))
 balance_kept b z a (Dec q) r p h = dec_kept z.memory a q (z.seats a) r (and_both _ _ (and_both _ _ p.fits).0).1 (dec_count _ (dec_bounds b z a q p))
@@ -101,7 +101,7 @@ token_kept b z a (LinkCas (Root i) x t) r p h = refl
 token_kept b z a (LinkCas (Next i) x t) r p h = refl
 token_kept b z a (LinkCas (Side i) x t) r p h = refl
 token_kept b z a (LinkCas w x t) r p h = absurd (cas_place_out b z a w x t p)
-token_kept b z a (LinkStore q nr l) r p h = store_token z.memory a q nr l (z.seats a) r
+token_kept b z a (LinkStore q l nr) r p h = store_token z.memory a q nr l (z.seats a) r
 token_kept b z a (Inc q) r p h = inc_token z.memory a q (z.seats a) r (inc_bit _ (inc_bounds b z a q p))
 token_kept b z a (Dec q) r p h = rw (dec_bit _ (dec_bounds b z a q p))
 token_kept b z a (SetRetired q n) r p h = set_token z.memory a q n (z.seats a) r (ltb-true _ _ (and_both _ _ (and_both _ _ p.fits).0).1)

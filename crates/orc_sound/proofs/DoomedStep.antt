@@ -115,7 +115,7 @@ end_doom o q r true h = inr (grind arith)
 end_doom o q r false h = inl h
 
 pub doom_source : (op : Op) (d : Agent) (v r : ℕ) → dooms (after op d v).doom r ≡ true → (dooms d.doom r ≡ true) ⊎ (ends op d v r ≡ true)
-doom_source (LinkStore q nr l) d v r h = inl (sym (cut_row d.doom q nr r) ∙ h)
+doom_source (LinkStore q l nr) d v r h = inl (sym (cut_row d.doom q nr r) ∙ h)
 doom_source (CounterLoad q Check) d v r h = inl h
 doom_source (CounterLoad q Start) d v r h = inl h
 doom_source (CounterLoad q End) d v r h = end_doom d.doom q r (v == kept d.scan) h
@@ -162,7 +162,7 @@ new_use_gone : (b : Bounds) (z : World) (a : ℕ) (op : Op) (r : ℕ) → Lawful
     → ((q : ℕ) → op ≡ Arm q → scans (z.seats a).scan r ≡ true → ⊥) → NewUse op (z.seats a) (read_by z a op) r → ⊥
 new_use_gone b z a (LinkLoad w k) r p g n h =
     unlinked_place b z w r p.counted g (read_out b z a w p.counted (load_place b (z.memory Enrolled) a w k (z.seats a) p.fits)) h
-new_use_gone b z a (LinkStore q nr l) r p g n h = none_linked g.unlinked (linked_link b z nr q r p.counted (store_row_out b z a q nr l p) h)
+new_use_gone b z a (LinkStore q l nr) r p g n h = none_linked g.unlinked (linked_link b z nr q r p.counted (store_row_out b z a q nr l p) h)
 new_use_gone b z a (Arm q) r p g n h = n q refl (rw h.0 h.1)
 new_use_gone b z a (GateTake q) r p g n h = zero_one (takes_free (GateTake q) (z.seats a) z.memory a r h) g.is_out
 new_use_gone b z a op r p g n h = h
@@ -216,8 +216,8 @@ count_stays b z a (LinkCas (Side i) x t) r p n = refl
 count_stays b z a (LinkCas w x t) r p n = absurd (cas_place_out b z a w x t p)
 count_stays b z a (Fill q w v) r p n = ap count_bits (fill_counter z.memory q w v r)
 count_stays b z a (Read q w) r p n = ap count_bits (write_same z.memory (cond (w == 0) (First q) (Second q)) (Counter r))
-count_stays b z a (LinkStore lq zero ll) r p n = refl
-count_stays b z a (LinkStore lq (suc ln) ll) r p n = refl
+count_stays b z a (LinkStore lq ll zero) r p n = refl
+count_stays b z a (LinkStore lq ll (suc ln)) r p n = refl
 count_stays b z a op r p n = refl
 
 -- a step that doesn't count the row leaves its sequence
@@ -236,8 +236,8 @@ sequence_stays b z a (LinkCas (Side i) x t) r p l n = refl
 sequence_stays b z a (LinkCas w x t) r p l n = absurd (cas_place_out b z a w x t p)
 sequence_stays b z a (Fill q w v) r p l n = ap sequence_of (fill_counter z.memory q w v r)
 sequence_stays b z a (Read q w) r p l n = ap sequence_of (write_same z.memory (cond (w == 0) (First q) (Second q)) (Counter r))
-sequence_stays b z a (LinkStore lq zero ll) r p l n = refl
-sequence_stays b z a (LinkStore lq (suc ln) ll) r p l n = refl
+sequence_stays b z a (LinkStore lq ll zero) r p l n = refl
+sequence_stays b z a (LinkStore lq ll (suc ln)) r p l n = refl
 sequence_stays b z a op r p l n = refl
 
 pub counts_uses : (b : Bounds) (e a : ℕ) (op : Op) (d : Agent) (r : ℕ) → fits b e a op d ≡ true → counts_row op r ≡ true → uses d r ≡ true
@@ -306,7 +306,7 @@ alone_step b z a op p x y r h k =
 
 -- a doom has one more link out where that link of its row was stored
 abbrev pub cuts : Op → ℕ → ℕ → Bool
-cuts (LinkStore q k l) r n = (q == r) && (k == n)
+cuts (LinkStore q l k) r n = (q == r) && (k == n)
 cuts _ r n = false
 
 cut_new : (o : Option Doom) (q k r n : ℕ) → cuts_past (cut_of o q k) r n ≡ true → (cuts_past o r n ≡ true) ⊎ (((q == r) && (k == n)) ≡ true)
@@ -322,7 +322,7 @@ end_past o q r n true h = grind arith
 end_past o q r n false h = h
 
 past_source : (op : Op) (d : Agent) (v r n : ℕ) → cuts_past (after op d v).doom r n ≡ true → (cuts_past d.doom r n ≡ true) ⊎ (cuts op r n ≡ true)
-past_source (LinkStore q nr l) d v r n h = cut_new d.doom q nr r n h
+past_source (LinkStore q l nr) d v r n h = cut_new d.doom q nr r n h
 past_source (CounterLoad q Check) d v r n h = inl h
 past_source (CounterLoad q Start) d v r n h = inl h
 past_source (CounterLoad q End) d v r n h = inl (end_past d.doom q r n (v == kept d.scan) h)
@@ -351,19 +351,19 @@ store_null : (n y e f t c u s k : Bool) → (n && y && e && ((f && t && c) || (u
 store_null n y e true t c u s k h g = absurd (false≢true (sym g))
 store_null n y e false t c u s k h g = let a = and_both (u && s) k (and_both (n && y && e) (u && s && k) h).1 in let c = and_both u s a.0 in (c.0, c.1, a.1)
 
-store_parts : (b : Bounds) (e a q nr : ℕ) (l : RowLink) (d : Agent) → fits b e a (LinkStore q nr l) d ≡ true → names d.fresh q ≡ false
+store_parts : (b : Bounds) (e a q nr : ℕ) (l : RowLink) (d : Agent) → fits b e a (LinkStore q l nr) d ≡ true → names d.fresh q ≡ false
     → (doom_at d.doom q nr ≡ true) × (is_none l.to ≡ true) × (not l.mark ≡ true)
 store_parts b e a q nr l d f g = store_null (nat_lt q b.rows) (nat_lt nr b.links) (is_empty (slot_of d 0)) (names d.fresh q) (may_target b d l.to)
     (may_change d (b.limit + 64) None l.to) (doom_at d.doom q nr) (is_none l.to) (not l.mark) f g
 
 -- the number of a link that is stored is below two
-pub number_below : (b : Bounds) (z : World) (a q nr : ℕ) (l : RowLink) → LawfulStep b z a (LinkStore q nr l) → nr < 2
+pub number_below : (b : Bounds) (z : World) (a q nr : ℕ) (l : RowLink) → LawfulStep b z a (LinkStore q l nr) → nr < 2
 number_below b z a q nr l p = let k = ltb-true nr b.links (and_both _ _ (and_both _ _ (and_both _ _ p.fits).0).0).1 in let m = p.shape.links.1 in omega arith
 
 -- a step that cuts a link stores 0 in it
 cut_null : (b : Bounds) (z : World) (a : ℕ) (op : Op) (r n : ℕ) → LawfulStep b z a op → uses (z.seats a) r ≡ false → cuts op r n ≡ true
     → (step_world z a op).memory (link_at n r) ≡ 0
-cut_null b z a (LinkStore q nr l) r n p u h =
+cut_null b z a (LinkStore q l nr) r n p u h =
     let e : q ≡ r = eqb-true q r (and_both _ _ h).0 in
     let k : nr ≡ n = eqb-true nr n (and_both _ _ h).1 in
     rw (← e, ← k, same_word-self (link_at nr q))
@@ -386,7 +386,7 @@ cut_unchanged b z a (LinkCas w f t) x r n p g c h =
         → uses d r ≡ true
     cas_row_used b a zero r f t d h = held_uses d r (and_both _ _ (and_both _ _ h).1).0
     cas_row_used b a (suc k) r f t d h = held_uses d r (and_both _ _ (and_both _ _ h).1).0
-cut_unchanged b z a (LinkStore q nr l) x r n p g c h =
+cut_unchanged b z a (LinkStore q l nr) x r n p g c h =
     let e = same_link n r nr q h in
     ⊎_elim
     (λ k. both_ways (uses (z.seats a) r) (rw e (fresh_uses (z.seats a) q k)) (g.unused a))
@@ -445,7 +445,7 @@ bares _ r = false
 bare_source : (b : Bounds) (e a : ℕ) (op : Op) (d : Agent) (v r : ℕ) → fits b e a op d ≡ true → HasOnePart d → doom_bare (after op d v).doom r ≡ true
     → (((doom_bare d.doom r ≡ true) × (dooms_cut b.links d.doom r ≡ true → dooms_cut b.links (after op d v).doom r ≡ true)))
     ⊎ ((bares op r ≡ true) × (dooms_cut b.links (after op d v).doom r ≡ true))
-bare_source b e a (LinkStore q nr l) d v r f o h = inl (sym (cut_bare d.doom q nr r) ∙ h, cut_more b.links d.doom q nr r (ltb-true nr b.links (and_both _ _ (and_both _ _ (and_both _ _ f).0).0).1))
+bare_source b e a (LinkStore q l nr) d v r f o h = inl (sym (cut_bare d.doom q nr r) ∙ h, cut_more b.links d.doom q nr r (ltb-true nr b.links (and_both _ _ (and_both _ _ (and_both _ _ f).0).0).1))
 bare_source b e a (CounterLoad q Check) d v r f o h = inl (h, λ k. k)
 bare_source b e a (CounterLoad q Start) d v r f o h = inl (h, λ k. k)
 bare_source b e a (CounterLoad q End) d v r f o h = let k = end_bare d.doom q r (v == kept d.scan) h in inl (k.1, λ g. rw k.0 g)

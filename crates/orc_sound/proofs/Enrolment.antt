@@ -29,8 +29,8 @@ enrolled_word b e a (LinkCas (Side i) x t) d m f n = refl
 enrolled_word b e a (LinkCas p x t) d m f n = grind arith
 enrolled_word b e a (Fill q w v) d m f n = grind arith
 enrolled_word b e a (Read q w) d m f n = write_same m (cond (w == 0) (First q) (Second q)) Enrolled
-enrolled_word b e a (LinkStore lq zero ll) d m f n = refl
-enrolled_word b e a (LinkStore lq (suc ln) ll) d m f n = refl
+enrolled_word b e a (LinkStore lq ll zero) d m f n = refl
+enrolled_word b e a (LinkStore lq ll (suc ln)) d m f n = refl
 enrolled_word b e a op d m f n = refl
 
 stays_enrolled : (op : Op) (d : Agent) (v : ℕ) → d.enrolled ≡ true → (after op d v).enrolled ≡ true

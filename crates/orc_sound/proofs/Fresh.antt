@@ -99,7 +99,7 @@ place_alone b z a (Next j) x r s m h f n = row_alone b z a 0 j x r s m h f n
 place_alone b z a (Side j) x r s m h f n = row_alone b z a 1 j x r s m h f n
 place_alone b z a w x r s m h f n = false≢true m
 
-store_alone : (b : Bounds) (z : World) (a q nr : ℕ) (l : RowLink) (x r : ℕ) → LawfulStep b z a (LinkStore q nr l) → to_row (z.memory (link_at nr q)) r ≡ 1
+store_alone : (b : Bounds) (z : World) (a q nr : ℕ) (l : RowLink) (x r : ℕ) → LawfulStep b z a (LinkStore q l nr) → to_row (z.memory (link_at nr q)) r ≡ 1
     → names (z.seats x).fresh r ≡ true → a ≢ x → ⊥
 store_alone b z a q nr l x r p h f n = cases (q == r) refl
   where
@@ -116,7 +116,7 @@ store_alone b z a q nr l x r p h f n = cases (q == r) refl
 new_use_alone : (b : Bounds) (z : World) (a : ℕ) (op : Op) (x r : ℕ) → LawfulStep b z a op → NewUse op (z.seats a) (read_by z a op) r
     → names (z.seats x).fresh r ≡ true → a ≢ x → ⊥
 new_use_alone b z a (LinkLoad w k) x r p h f n = place_alone b z a w x r p.counted (load_place b (z.memory Enrolled) a w k (z.seats a) p.fits) h f n
-new_use_alone b z a (LinkStore q nr l) x r p h f n = store_alone b z a q nr l x r p h f n
+new_use_alone b z a (LinkStore q l nr) x r p h f n = store_alone b z a q nr l x r p h f n
 new_use_alone b z a (Arm q) x r p h f n = zero_one (p.counted.fresh_bit x r f) (rw h.0 (arm_retired b z a q p h.1))
 new_use_alone b z a (GateTake q) x r p h f n = taken_unused b z a (GateTake q) x r p.counted h (fresh_uses (z.seats x) r f)
 new_use_alone b z a op x r p h f n = h
@@ -166,8 +166,8 @@ own_root b e a (LinkCas (Root j) x t) d m i r f h k =
 own_root b e a (LinkCas (Next j) x t) d m i r f h k = k
 own_root b e a (LinkCas (Side j) x t) d m i r f h k = k
 own_root b e a (LinkCas w x t) d m i r f h k = grind arith
-own_root b e a (LinkStore q zero l) d m i r f h k = k
-own_root b e a (LinkStore q (suc n) l) d m i r f h k = k
+own_root b e a (LinkStore q l zero) d m i r f h k = k
+own_root b e a (LinkStore q l (suc n)) d m i r f h k = k
 own_root b e a op d m i r f h k = ⊎_elim (λ old. old) (λ new. absurd (false≢true new)) (root_source b e a op d m i r f k)
 
 fresh_or_null : (n y e f t c u s k : Bool) → (n && y && e && ((f && t && c) || (u && s && k))) ≡ true → (f ≡ true) ⊎ (s ≡ true)
@@ -183,7 +183,7 @@ two_names None q r h k = absurd (false≢true h)
 two_names (Some x) q r h k = sym (eqb-true x q h) ∙ eqb-true x r k
 
 -- the row that is linked_in to the agent's fresh row by a store is that row
-own_store : (b : Bounds) (e a q nr : ℕ) (l : RowLink) (d : Agent) (r : ℕ) → fits b e a (LinkStore q nr l) d ≡ true → names d.fresh r ≡ true
+own_store : (b : Bounds) (e a q nr : ℕ) (l : RowLink) (d : Agent) (r : ℕ) → fits b e a (LinkStore q l nr) d ≡ true → names d.fresh r ≡ true
     → names l.to r ≡ true → q ≡ r
 own_store b e a q nr l d r f h k =
     ⊎_elim
@@ -200,9 +200,9 @@ own_link b e a (LinkCas w x t) d m n i r f h k =
     inl (cas_fresh (m w) (m (link_at n i)) x t d.fresh r (same_word (link_at n i) w) (m w == link_word x) (same_target x.to t.to)
     (same_target d.fresh t.to) (λ q. ap m (same_word-true (link_at n i) w q)) (eqb-true (m w) (link_word x)) (same_names x.to t.to r)
     (differ d.fresh t.to r) h k)
-own_link b e a (LinkStore q nr l) d m n i r f h k =
+own_link b e a (LinkStore q l nr) d m n i r f h k =
     ⊎_elim (λ old. inl old) (λ new. inr (same_link n i nr q (and_both _ _ new).0 ∙ own_store b e a q nr l d r f h (and_both _ _ new).1))
-    (links_source b e a (LinkStore q nr l) d m n i r f k)
+    (links_source b e a (LinkStore q l nr) d m n i r f k)
 own_link b e a op d m n i r f h k = ⊎_elim (λ old. inl old) (λ new. absurd (false≢true new)) (links_source b e a op d m n i r f k)
 
 pub not_one : (b : Bool) → (bit b ≡ 1 → ⊥) → bit b ≡ 0

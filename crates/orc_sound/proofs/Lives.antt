@@ -69,8 +69,8 @@ gate_change b z a (Fill q w v) r p s = inl (fill_same z.memory q w v r)
     fill_same m q w v r = grind arith
 gate_change b z a (Read q w) r p s = inl (write_same z.memory (cond (w == 0) (First q) (Second q)) (Gate r))
 gate_change b z a (Free q) r p s = free_gate b z.memory q r p.shape.limit.1 (s.within q) (freed_row b z a q p).gone.is_out
-gate_change b z a (LinkStore lq zero ll) r p s = inl refl
-gate_change b z a (LinkStore lq (suc ln) ll) r p s = inl refl
+gate_change b z a (LinkStore lq ll zero) r p s = inl refl
+gate_change b z a (LinkStore lq ll (suc ln)) r p s = inl refl
 gate_change b z a op r p s = inl refl
 
 within_step : (b : Bounds) (v w : ℕ) → GateChange b v w → v / 2 ≤ b.limit → w / 2 ≤ b.limit
@@ -149,7 +149,7 @@ check_source : (op : Op) (d : Agent) (v r : ℕ) → saw (after op d v).checked 
 check_source (GateLook q) d v r h = absurd (false≢true h)
 check_source (GateTake q) d v r h = absurd (false≢true h)
 check_source (LinkCas p x t) d v r h = absurd (false≢true h)
-check_source (LinkStore q nr l) d v r h = absurd (false≢true h)
+check_source (LinkStore q l nr) d v r h = absurd (false≢true h)
 check_source (CounterLoad q Check) d v r h = inr (h, refl)
 check_source (CounterLoad q Start) d v r h = inl (h, refl)
 check_source (CounterLoad q End) d v r h = inl (h, refl)

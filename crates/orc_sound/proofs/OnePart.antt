@@ -50,7 +50,7 @@ end_parts true h s c m e k = omega arith
 end_parts false h s c m e k = omega arith
 
 pub parts_kept : (b : Bounds) (e a : ℕ) (op : Op) (d : Agent) (v : ℕ) → fits b e a op d ≡ true → HasOnePart d → HasOnePart (after op d v)
-parts_kept b e a (LinkStore q nr l) d v f h = rw (some_cut d.doom q nr) h
+parts_kept b e a (LinkStore q l nr) d v f h = rw (some_cut d.doom q nr) h
 parts_kept b e a (CounterLoad q Check) d v f h = h
 parts_kept b e a (CounterLoad q Start) d v f h = let k = none_zero d.doom (and_both _ _ (and_both _ _ f).0).1 in omega arith
 parts_kept b e a (CounterLoad q End) d v f h = let s = scans_some d.scan q (and_both _ _ (and_both _ _ (and_both _ _ f).0).0).1 in

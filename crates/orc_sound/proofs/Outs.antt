@@ -109,11 +109,11 @@ load_place b e a p None d h = h
 load_place b e a p (Some k) d h = (and_both _ _ (and_both _ _ h).0).0
 
 -- the row whose link is stored is fresh, or doomed with its link in
-pub store_cases : (b : Bounds) (e a q nr : ℕ) (l : RowLink) (d : Agent) → fits b e a (LinkStore q nr l) d ≡ true → (names d.fresh q ≡ true)
+pub store_cases : (b : Bounds) (e a q nr : ℕ) (l : RowLink) (d : Agent) → fits b e a (LinkStore q l nr) d ≡ true → (names d.fresh q ≡ true)
     ⊎ (doom_at d.doom q nr ≡ true)
 store_cases b e a q nr l d f = grind arith
 
-pub store_row_out : (b : Bounds) (z : World) (a q nr : ℕ) (l : RowLink) → LawfulStep b z a (LinkStore q nr l) → out (z.memory (Gate q)) ≡ 1
+pub store_row_out : (b : Bounds) (z : World) (a q nr : ℕ) (l : RowLink) → LawfulStep b z a (LinkStore q l nr) → out (z.memory (Gate q)) ≡ 1
 store_row_out b z a q nr l p =
     ⊎_elim
     (λ f. p.counted.used_out a q (fresh_uses (z.seats a) q f))
@@ -137,8 +137,8 @@ new_use_out : (b : Bounds) (z : World) (a : ℕ) (op : Op) (r : ℕ) → LawfulS
 new_use_out b z a (LinkLoad w k) r p h =
     out_stays z.memory b (z.memory Enrolled) a (LinkLoad w k) (z.seats a) r p.fits refl
     (target_out b z w r p.counted (read_out b z a w p.counted (load_place b (z.memory Enrolled) a w k (z.seats a) p.fits)) h)
-new_use_out b z a (LinkStore q zero l) r p h = p.counted.links_out 0 q r (store_row_out b z a q 0 l p) h
-new_use_out b z a (LinkStore q (suc k) l) r p h = p.counted.links_out (suc k) q r (store_row_out b z a q (suc k) l p) h
+new_use_out b z a (LinkStore q l zero) r p h = p.counted.links_out 0 q r (store_row_out b z a q 0 l p) h
+new_use_out b z a (LinkStore q l (suc k)) r p h = p.counted.links_out (suc k) q r (store_row_out b z a q (suc k) l p) h
 new_use_out b z a (Arm q) r p h = rw h.0 (p.counted.bit_out q (arm_retired b z a q p h.1))
 new_use_out b z a (GateTake q) r p h = taken_out (GateTake q) (z.seats a) z.memory a r h
 new_use_out b z a op r p h = absurd h
@@ -174,7 +174,7 @@ bit_out_step b z a op p r h =
 
 pub puts_links : (op : Op) (w : Word) (r : ℕ) → puts op w r ≡ true → links op r ≡ true
 puts_links (LinkCas p x t) w r h = (and_both _ _ h).1
-puts_links (LinkStore q nr l) w r h = (and_both _ _ h).1
+puts_links (LinkStore q l nr) w r h = (and_both _ _ h).1
 puts_links op w r h = absurd (false≢true h)
 
 -- who makes a link to a row uses it
@@ -257,7 +257,7 @@ changed_out : (b : Bounds) (z : World) (a : ℕ) (op : Op) (n j : ℕ) → Lawfu
     → (frees op j ≡ false) × (out (z.memory (Gate j)) ≡ 1)
 changed_out b z a (LinkCas w x t) n j p h =
     (refl, link_row_out z.memory n j (subst (OutPlace z.memory) (sym (same_word-true (link_at n j) w h)) (cas_place_out b z a w x t p)))
-changed_out b z a (LinkStore q nr l) n j p h = (refl, rw (same_link n j nr q h) (store_row_out b z a q nr l p))
+changed_out b z a (LinkStore q l nr) n j p h = (refl, rw (same_link n j nr q h) (store_row_out b z a q nr l p))
 changed_out b z a op n j p h = absurd (false≢true h)
 
 bit_zero : (w x : ℕ) → (out w ≡ 1 → out x ≡ 1) → out x ≡ 0 → out w ≡ 0

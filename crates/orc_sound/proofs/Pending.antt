@@ -69,5 +69,5 @@ one_change (Dec q) d v f o = inr (dec_waits d.due d.inc d.dec q f).1
 one_change (Unretire q) d v f o = inr (nothing_pending d.due d.inc d.dec (Unretire q) refl f).1
 one_change (SetRetired q n) d v f o = inl refl
 one_change (LinkCas w x t) d v f o = inl (nothing_pending d.due d.inc d.dec (LinkCas w x t) refl f).0
-one_change (LinkStore q nr l) d v f o = inl (nothing_pending d.due d.inc d.dec (LinkStore q nr l) refl f).0
+one_change (LinkStore q l nr) d v f o = inl (nothing_pending d.due d.inc d.dec (LinkStore q l nr) refl f).0
 one_change op d v f o = o

@@ -85,7 +85,7 @@ change_or_null n y e true t c u s k h = ⊎_elim (λ g. inl (and_both t c g).1) 
     (either (t && c) (u && s && k) (and_both (n && y && e) ((t && c) || (u && s && k)) h).1)
 change_or_null n y e false t c u s k h = inr (and_both u s (and_both (u && s) k (and_both (n && y && e) (u && s && k) h).1).0).1
 
-store_may : (b : Bounds) (e a q nr : ℕ) (l : RowLink) (d : Agent) → fits b e a (LinkStore q nr l) d ≡ true → may_change d (b.limit + 64) None l.to ≡ true
+store_may : (b : Bounds) (e a q nr : ℕ) (l : RowLink) (d : Agent) → fits b e a (LinkStore q l nr) d ≡ true → may_change d (b.limit + 64) None l.to ≡ true
 store_may b e a q nr l d f =
     ⊎_elim (λ c. c) (λ s. none_may d (b.limit + 64) l.to s)
     (change_or_null (nat_lt q b.rows) (nat_lt nr b.links) (is_empty (slot_of d 0)) (names d.fresh q) (may_target b d l.to) (may_change d (b.limit + 64) None l.to)
@@ -96,7 +96,7 @@ pub pays : (b : Bounds) (e a : ℕ) (op : Op) (d : Agent) (v r : ℕ) → fits b
 pays b e a (GateLook q) d v r f n = omega arith
 pays b e a (GateTake q) d v r f n = omega arith
 pays b e a (LinkCas p x t) d v r f n = cas_pays b d x.to t.to r (b.limit + 64) (v == link_word x) (and_both _ _ f).1
-pays b e a (LinkStore q nr l) d v r f n = store_pays b d l.to r (b.limit + 64) (same_target (named (v / 2)) l.to) (store_may b e a q nr l d f)
+pays b e a (LinkStore q l nr) d v r f n = store_pays b d l.to r (b.limit + 64) (same_target (named (v / 2)) l.to) (store_may b e a q nr l d f)
 pays b e a (Inc q) d v r f n = omega arith
 pays b e a (CounterLoad q Check) d v r f n = absurd (n q refl)
 pays b e a (CounterLoad q Start) d v r f n = omega arith
@@ -163,10 +163,10 @@ quota_local b z a (LinkCas (Side i) x t) r p lo h n = let k = balance_kept b z a
     let y = pays b (z.memory Enrolled) a (LinkCas (Side i) x t) (z.seats a) (z.memory (action_of a (LinkCas (Side i) x t) (z.seats a)).word) r p.fits
     n in omega arith
 quota_local b z a (LinkCas w x t) r p lo h n = absurd (cas_place_out b z a w x t p)
-quota_local b z a (LinkStore q zero l) r p lo h n = let k = balance_kept b z a (LinkStore q zero l) r p h in
-    let y = pays b (z.memory Enrolled) a (LinkStore q zero l) (z.seats a) (z.memory (action_of a (LinkStore q zero l) (z.seats a)).word) r p.fits n in omega arith
-quota_local b z a (LinkStore q (suc ln) l) r p lo h n = let k = balance_kept b z a (LinkStore q (suc ln) l) r p h in
-    let y = pays b (z.memory Enrolled) a (LinkStore q (suc ln) l) (z.seats a) (z.memory (action_of a (LinkStore q (suc ln) l) (z.seats a)).word) r p.fits n in omega arith
+quota_local b z a (LinkStore q l zero) r p lo h n = let k = balance_kept b z a (LinkStore q l zero) r p h in
+    let y = pays b (z.memory Enrolled) a (LinkStore q l zero) (z.seats a) (z.memory (action_of a (LinkStore q l zero) (z.seats a)).word) r p.fits n in omega arith
+quota_local b z a (LinkStore q l (suc ln)) r p lo h n = let k = balance_kept b z a (LinkStore q l (suc ln)) r p h in
+    let y = pays b (z.memory Enrolled) a (LinkStore q l (suc ln)) (z.seats a) (z.memory (action_of a (LinkStore q l (suc ln)) (z.seats a)).word) r p.fits n in omega arith
 quota_local b z a (Fill q w v) r p lo h n = grind arith
 quota_local b z a (Read q w) r p lo h n = grind arith
 quota_local b z a (GateTake q) r p lo h n = let k = balance_kept b z a (GateTake q) r p h in

@@ -263,19 +263,19 @@ reason b e a (LinkCas (Side i) x t) d m r f u z g =
           (same_target d.fresh t.to) (same_names d.fresh t.to r) (is_none_of d.inc (nothing_pending d.due d.inc d.dec (LinkCas (Side i) x t) refl u).1),
     ))
 reason b e a (LinkCas p x t) d m r f u z g = grind arith
-reason b e a (LinkStore q zero l) d m r f u z g =
+reason b e a (LinkStore q l zero) d m r f u z g =
     inr (inl (
       refl,
       omega arith,
       store_reason d q zero l.to r (m (Counter r)) (same_target (named (m (Next q) / 2)) l.to)
-          (is_none_of d.inc (nothing_pending d.due d.inc d.dec (LinkStore q zero l) refl u).1),
+          (is_none_of d.inc (nothing_pending d.due d.inc d.dec (LinkStore q l zero) refl u).1),
     ))
-reason b e a (LinkStore q (suc ln) l) d m r f u z g =
+reason b e a (LinkStore q l (suc ln)) d m r f u z g =
     inr (inl (
       refl,
       omega arith,
       store_reason d q (suc ln) l.to r (m (Counter r)) (same_target (named (m (Side q) / 2)) l.to)
-          (is_none_of d.inc (nothing_pending d.due d.inc d.dec (LinkStore q (suc ln) l) refl u).1),
+          (is_none_of d.inc (nothing_pending d.due d.inc d.dec (LinkStore q l (suc ln)) refl u).1),
     ))
 reason b e a (Inc q) d m r f u z g =
     ⊎_elim (λ k. inl k) (λ k. inr (inl (k.0, omega arith, k.1)))

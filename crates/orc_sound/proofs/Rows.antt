@@ -50,8 +50,8 @@ handover_stays b e a (Fill q w v) d m x k f n = grind arith
 handover_stays b e a (Read q w) d m x k f n = write_same m (cond (w == 0) (First q) (Second q)) (Handover x k)
 handover_stays b e a (Hand j) d m x k f n = absurd (false≢true (sym n))
 handover_stays b e a (TakeIn j) d m x k f n = absurd (false≢true (sym n))
-handover_stays b e a (LinkStore lq zero ll) d m x k f n = refl
-handover_stays b e a (LinkStore lq (suc ln) ll) d m x k f n = refl
+handover_stays b e a (LinkStore lq ll zero) d m x k f n = refl
+handover_stays b e a (LinkStore lq ll (suc ln)) d m x k f n = refl
 handover_stays b e a op d m x k f n = refl
 
 found_scans : (o : Option Scan) → scan_found o ≡ true → scans o (scanned o) ≡ true

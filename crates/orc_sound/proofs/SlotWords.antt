@@ -66,8 +66,8 @@ own_fits b e a (LinkCas p x t) d m k f l h = grind arith
 own_fits b e a (SlotLook j) d m k f l h = rw (write_same m (Slot (j / 8) (j % 8)) (Slot a k)) h
 own_fits b e a (Fill q w v) d m k f l h = grind arith
 own_fits b e a (Read q w) d m k f l h = rw (write_same m (cond (w == 0) (First q) (Second q)) (Slot a k)) h
-own_fits b e a (LinkStore lq zero ll) d m k f l h = h
-own_fits b e a (LinkStore lq (suc ln) ll) d m k f l h = h
+own_fits b e a (LinkStore lq ll zero) d m k f l h = h
+own_fits b e a (LinkStore lq ll (suc ln)) d m k f l h = h
 own_fits b e a op d m k f l h = h
 
 pub other_slot : (b : Bounds) (e a : ℕ) (op : Op) (d : Agent) (m : Word → ℕ) (x k : ℕ) → fits b e a op d ≡ true → (x == a) ≡ false
@@ -83,8 +83,8 @@ other_slot b e a (LinkCas p y t) d m x k f n = grind arith
 other_slot b e a (SlotLook j) d m x k f n = write_same m (Slot (j / 8) (j % 8)) (Slot x k)
 other_slot b e a (Fill q w v) d m x k f n = grind arith
 other_slot b e a (Read q w) d m x k f n = write_same m (cond (w == 0) (First q) (Second q)) (Slot x k)
-other_slot b e a (LinkStore lq zero ll) d m x k f n = refl
-other_slot b e a (LinkStore lq (suc ln) ll) d m x k f n = refl
+other_slot b e a (LinkStore lq ll zero) d m x k f n = refl
+other_slot b e a (LinkStore lq ll (suc ln)) d m x k f n = refl
 other_slot b e a op d m x k f n = refl
 
 -- a step keeps the number of slots, and that slot 0 is never Published

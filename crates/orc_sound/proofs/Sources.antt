@@ -70,24 +70,24 @@ fresh_source op d v r h = inl h
 -- a pending increment is new where a link was made to the row
 abbrev pub links : Op → ℕ → Bool
 links (LinkCas p f t) r = names t.to r
-links (LinkStore q nr l) r = names l.to r
+links (LinkStore q l nr) r = names l.to r
 links _ r = false
 
 pub inc_source : (op : Op) (d : Agent) (v r : ℕ) → names (after op d v).inc r ≡ true → (names d.inc r ≡ true) ⊎ (links op r ≡ true)
 inc_source (LinkCas p f t) d v r h = grind arith
-inc_source (LinkStore q nr l) d v r h = grind arith
+inc_source (LinkStore q l nr) d v r h = grind arith
 inc_source (Inc q) d v r h = grind arith
 inc_source op d v r h = inl h
 
 -- a pending decrement is new where a link to the row was replaced
 abbrev pub unlinks : Op → ℕ → ℕ → Bool
 unlinks (LinkCas p f t) v r = names f.to r
-unlinks (LinkStore q nr l) v r = names (named (v / 2)) r
+unlinks (LinkStore q l nr) v r = names (named (v / 2)) r
 unlinks _ v r = false
 
 pub dec_source : (op : Op) (d : Agent) (v r : ℕ) → names (after op d v).dec r ≡ true → (names d.dec r ≡ true) ⊎ (unlinks op v r ≡ true)
 dec_source (LinkCas p f t) d v r h = grind arith
-dec_source (LinkStore q nr l) d v r h = grind arith
+dec_source (LinkStore q l nr) d v r h = grind arith
 dec_source (Dec q) d v r h = grind arith
 dec_source op d v r h = inl h
 
@@ -116,8 +116,8 @@ out_stays m b e a (LinkCas p x t) d r f n h = grind arith
 out_stays m b e a (Free q) d r f n h = grind arith
 out_stays m b e a (Fill q w v) d r f n h = grind arith
 out_stays m b e a (Read q w) d r f n h = grind arith
-out_stays m b e a (LinkStore lq zero ll) d r f n h = h
-out_stays m b e a (LinkStore lq (suc ln) ll) d r f n h = h
+out_stays m b e a (LinkStore lq ll zero) d r f n h = h
+out_stays m b e a (LinkStore lq ll (suc ln)) d r f n h = h
 out_stays m b e a op d r f n h = h
 
 -- a row is due anew where a counter came to count 0 with no bit
@@ -137,7 +137,7 @@ due_source op d v r h = inl h
 -- a root's link is new where a LinkCas put its target there
 abbrev pub puts : Op → Word → ℕ → Bool
 puts (LinkCas p f t) w r = same_word w p && names t.to r
-puts (LinkStore q nr l) w r = same_word w (link_at nr q) && names l.to r
+puts (LinkStore q l nr) w r = same_word w (link_at nr q) && names l.to r
 puts _ w r = false
 
 pub one-true : (b : Bool) → bit b ≡ 1 → b ≡ true
@@ -161,8 +161,8 @@ root_source b e a (LinkCas (Side j) x t) d m i r f h = inl h
 root_source b e a (LinkCas p x t) d m i r f h = grind arith
 root_source b e a (Fill q w v) d m i r f h = grind arith
 root_source b e a (Read q w) d m i r f h = grind arith
-root_source b e a (LinkStore lq zero ll) d m i r f h = inl h
-root_source b e a (LinkStore lq (suc ln) ll) d m i r f h = inl h
+root_source b e a (LinkStore lq ll zero) d m i r f h = inl h
+root_source b e a (LinkStore lq ll (suc ln)) d m i r f h = inl h
 root_source b e a op d m i r f h = inl h
 
 next_source : (b : Bounds) (e a : ℕ) (op : Op) (d : Agent) (m : Word → ℕ) (i r : ℕ) → fits b e a op d ≡ true
@@ -171,7 +171,7 @@ next_source : (b : Bounds) (e a : ℕ) (op : Op) (d : Agent) (m : Word → ℕ) 
 next_source b e a (LinkLoad p k) d m i r f h = inl (rw (write_same m p (Next i)) at h)
 next_source b e a (LinkCas p x t) d m i r f h =
     link_source (m p) (m (Next i)) t r (same_word (Next i) p) (m p == link_word x) (λ e. ap m (same_word-true (Next i) p e)) h
-next_source b e a (LinkStore j k l) d m i r f h =
+next_source b e a (LinkStore j l k) d m i r f h =
     link_source (m (link_at k j)) (m (Next i)) l r (same_word (Next i) (link_at k j)) true (λ e. ap m (same_word-true (Next i) (link_at k j) e)) h
 next_source b e a (Fill q w v) d m i r f h = grind arith
 next_source b e a (Read q w) d m i r f h = grind arith
@@ -183,7 +183,7 @@ side_source : (b : Bounds) (e a : ℕ) (op : Op) (d : Agent) (m : Word → ℕ) 
 side_source b e a (LinkLoad p k) d m i r f h = inl (rw (write_same m p (Side i)) at h)
 side_source b e a (LinkCas p x t) d m i r f h =
     link_source (m p) (m (Side i)) t r (same_word (Side i) p) (m p == link_word x) (λ e. ap m (same_word-true (Side i) p e)) h
-side_source b e a (LinkStore j k l) d m i r f h =
+side_source b e a (LinkStore j l k) d m i r f h =
     link_source (m (link_at k j)) (m (Side i)) l r (same_word (Side i) (link_at k j)) true (λ e. ap m (same_word-true (Side i) (link_at k j) e)) h
 side_source b e a (Fill q w v) d m i r f h = grind arith
 side_source b e a (Read q w) d m i r f h = grind arith
@@ -210,21 +210,21 @@ gate_source b e a (LinkCas p x t) d m r f n h = grind arith
 gate_source b e a (Free q) d m r f n h = grind arith
 gate_source b e a (Fill q w v) d m r f n h = grind arith
 gate_source b e a (Read q w) d m r f n h = grind arith
-gate_source b e a (LinkStore lq zero ll) d m r f n h = inl h
-gate_source b e a (LinkStore lq (suc ln) ll) d m r f n h = inl h
+gate_source b e a (LinkStore lq ll zero) d m r f n h = inl h
+gate_source b e a (LinkStore lq ll (suc ln)) d m r f n h = inl h
 gate_source b e a op d m r f n h = inl h
 
 -- the kind changes this link word
 abbrev pub changes_link : Op → Word → Bool
 changes_link (LinkCas p f t) w = same_word w p
-changes_link (LinkStore q k l) w = same_word w (link_at k q)
+changes_link (LinkStore q l k) w = same_word w (link_at k q)
 changes_link _ w = false
 
 next_stays : (b : Bounds) (e a : ℕ) (op : Op) (d : Agent) (m : Word → ℕ) (i : ℕ) → fits b e a op d ≡ true → changes_link op (Next i) ≡ false
     → write m (action_of a op d).word (word_after (action_of a op d).operation (m (action_of a op d).word)) (Next i) ≡ m (Next i)
 next_stays b e a (LinkLoad p k) d m i f n = write_same m p (Next i)
 next_stays b e a (LinkCas p x t) d m i f n = rw n
-next_stays b e a (LinkStore j k l) d m i f n = rw n
+next_stays b e a (LinkStore j l k) d m i f n = rw n
 next_stays b e a (Fill q w v) d m i f n = grind arith
 next_stays b e a (Read q w) d m i f n = grind arith
 next_stays b e a op d m i f n = refl
@@ -233,7 +233,7 @@ side_stays : (b : Bounds) (e a : ℕ) (op : Op) (d : Agent) (m : Word → ℕ) (
     → write m (action_of a op d).word (word_after (action_of a op d).operation (m (action_of a op d).word)) (Side i) ≡ m (Side i)
 side_stays b e a (LinkLoad p k) d m i f n = write_same m p (Side i)
 side_stays b e a (LinkCas p x t) d m i f n = rw n
-side_stays b e a (LinkStore j k l) d m i f n = rw n
+side_stays b e a (LinkStore j l k) d m i f n = rw n
 side_stays b e a (Fill q w v) d m i f n = grind arith
 side_stays b e a (Read q w) d m i f n = grind arith
 side_stays b e a op d m i f n = refl

@@ -147,7 +147,7 @@ pub inc_token : (m : Word → ℕ) (a q : ℕ) (d : Agent) (r : ℕ)
     → retired_bit ((m (Counter q) + 16777217) % 18446744073709551616) ≡ retired_bit (m (Counter q)) → KeptToken m a (Inc q) d r
 inc_token m a q d r same = rw same
 
-pub store_token : (m : Word → ℕ) (a q nr : ℕ) (l : RowLink) (d : Agent) (r : ℕ) → KeptToken m a (LinkStore q nr l) d r
+pub store_token : (m : Word → ℕ) (a q nr : ℕ) (l : RowLink) (d : Agent) (r : ℕ) → KeptToken m a (LinkStore q l nr) d r
 store_token m a q zero l d r = grind arith
 store_token m a q (suc k) l d r = grind arith
 

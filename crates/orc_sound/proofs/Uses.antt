@@ -20,7 +20,7 @@ use Rattle.orc_sound.specs.RetirementToken.{HasOnePart}
 -- a link that was read, a scan, or a row that was taken
 abbrev pub NewUse : Op → Agent → ℕ → ℕ → Type 0
 NewUse (LinkLoad p k) d v r = to_row v r ≡ 1
-NewUse (LinkStore q nr l) d v r = to_row v r ≡ 1
+NewUse (LinkStore q l nr) d v r = to_row v r ≡ 1
 NewUse (Arm q) d v r = (r ≡ q) × (scans d.scan q ≡ true)
 NewUse (GateTake q) d v r = takes (GateTake q) d v r ≡ true
 NewUse _ d v r = ⊥
@@ -54,13 +54,13 @@ target_held b d (Some q) r h k = rw (← eqb-true q r k) (and_both _ _ h).1
 -- who makes a link to a row holds it
 pub links_held : (b : Bounds) (e a : ℕ) (op : Op) (d : Agent) (r : ℕ) → fits b e a op d ≡ true → links op r ≡ true → any_holds d.slots r ≡ true
 links_held b e a (LinkCas p x t) d r f h = target_held b d t.to r (and_both _ _ (and_both _ _ f).0).1 h
-links_held b e a (LinkStore q nr l) d r f h = grind (arith, target_held b d l.to r)
+links_held b e a (LinkStore q l nr) d r f h = grind (arith, target_held b d l.to r)
 links_held b e a op d r f h = absurd (false≢true h)
 
 -- and goes on holding it
 pub links_holds : (op : Op) (d : Agent) (v r : ℕ) → links op r ≡ true → any_holds d.slots r ≡ true → any_holds (after op d v).slots r ≡ true
 links_holds (LinkCas w x t) d v r n h = h
-links_holds (LinkStore q nr l) d v r n h = h
+links_holds (LinkStore q l nr) d v r n h = h
 links_holds op d v r n h = absurd (false≢true n)
 
 names_link : (w r : ℕ) → names (named (w / 2)) r ≡ true → to_row w r ≡ 1
@@ -78,7 +78,7 @@ fresh_use op d v r h = absurd (false≢true h)
 
 dec_use : (b : Bounds) (e a : ℕ) (op : Op) (d : Agent) (v r : ℕ) → fits b e a op d ≡ true → unlinks op v r ≡ true → (uses d r ≡ true) ⊎ NewUse op d v r
 dec_use b e a (LinkCas p x t) d v r f h = inl (held_uses d r (target_held b d x.to r (and_both _ _ (and_both _ _ (and_both _ _ f).0).0).1 h))
-dec_use b e a (LinkStore q nr l) d v r f h = inr (names_link v r h)
+dec_use b e a (LinkStore q l nr) d v r f h = inr (names_link v r h)
 dec_use b e a op d v r f h = absurd (false≢true h)
 
 pub cut_some : (links : ℕ) (o : Option Doom) (q : ℕ) → doom_cut links o q ≡ true → bit (is_some o) ≡ 1

@@ -17,6 +17,3 @@ pub use laws::{
 };
 pub use soundness::sound;
 pub use steps::Step;
-
-#[cfg(test)]
-mod tests;

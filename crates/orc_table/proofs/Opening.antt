@@ -1,5 +1,7 @@
 -- The steps that a new board begins with: their events, the words that they leave, and that the discipline allows them.
 use Rattle.std.proofs.Common.{◌≡◌, ℕ, ◌<◌, ◌≤◌, List, [], ◌∷◌, ◌++◌, Bool, cond, if◌then◌else◌, Some, None, slice_index, slice_set, refl, sym, ap, ◌∙◌, subst, arith, eq-eqb}
+use Rattle.orc_layout.specs.Layout.{layout_of}
+use Rattle.orc_layout.specs.declared.layout.Layout.{Layout}
 use Rattle.orc_words.specs.Bounds.{Bounds, bounds_of}
 use Rattle.orc_words.specs.NewWords.{new_words}
 use Rattle.orc_words.specs.Places.{place}
@@ -195,9 +197,9 @@ module _ {D N : Type 0} (d : discipline.Ghosts D N) (shape : Shape) where
   opened_below (Dummy first begin) = let some = shape.some_agents in let one : 0 < k.agents = omega (arith, some) in (one, (one, (one, (one, (one, tt)))))
 
   -- the opening is allowed
-  pub opens : (seed : Seed N) → d.holds (numbers k) [] → SeedAllowed d.may (numbers k) seed
-      → Opens plain_rules (record { shape = shape; seed = seed }) (d.holds (numbers k)) (d.may (numbers k))
-  opens seed began can =
+  pub opens : (layout : Layout) (laid : layout ≡ layout_of k) (seed : Seed N) → d.holds (numbers k) [] → SeedAllowed d.may (numbers k) seed
+      → Opens plain_rules (record { shape = shape; seed = seed; layout = layout; laid = laid }) (d.holds (numbers k)) (d.may (numbers k))
+  opens layout laid seed began can =
       let events = opened_events seed (has_roots d.may (numbers k) seed can) in
       let each = subst (AllAllowed (d.may (numbers k)) []) (sym events) (opened_each seed began can) in
       let some = shape.some_agents in record {

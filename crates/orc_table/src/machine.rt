@@ -4,7 +4,6 @@ ghost use Rattle.std.specs.Prelude.{◌≡◌};
 ghost use Rattle.orc_table.specs.Machine.{value_word, word_of};
 
 use crate::shape::PlainShape;
-use orc_layout::index_of;
 use orc_shared_words::{Machine, PlacedOperation};
 use orc_words::{Operation, RowLink, Word, pack_link};
 
@@ -123,7 +122,7 @@ impl<N: Copy> Machine<N> for Plain {
 
     #[inline(always)]
     fn operation(shape: &PlainShape<N>, agent: u32, op: &PlainOp, own: &()) -> PlacedOperation {
-        let index = index_of(&shape.shape, word_of(op));
+        let index = shape.layout.index_of(&shape.shape, word_of(op));
         let operation = match *op {
             PlainOp::GateLook { row: _ } => Operation::Load,
             PlainOp::GateTake { row: _ } => Operation::CompareExchange(0, OUT),

@@ -15,7 +15,7 @@ use crate::pass::{PlainBoard, PlainBoardPass};
 use crate::shape::PlainShape;
 use orc_fault::NoMemory;
 use orc_heap::{Discipline, Seed};
-use orc_layout::laid_words;
+use orc_layout::{Layout, laid_words};
 use orc_shared_words::{SharedPass, SharedWords};
 use orc_words::{RowLink, Shape, Word, new_words, pack_link, place_of};
 use std::alloc::Global;
@@ -48,6 +48,7 @@ impl<D: Discipline> PlainBoard<D> {
         let plain = PlainShape {
             shape: *shape,
             seed,
+            layout: Layout::new(shape),
         };
         let (words, passes) = SharedWords::<Plain, D>::make(alloc, plain, words.as_slice(), owns)?;
         let passes = plain_passes(alloc, passes)?;

@@ -14,6 +14,3 @@ pub use auditing::audit;
 pub use orc_trace_text::ShapeWord;
 pub use playing::replay;
 pub use text::{audit_text, fault_text, replay_text};
-
-#[cfg(test)]
-mod tests;

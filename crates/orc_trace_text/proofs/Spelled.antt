@@ -26,8 +26,8 @@ kind_for (op.Publish k r) = kind.Publish
 kind_for (op.Clear k) = kind.Clear
 kind_for (op.Arm r) = kind.Arm
 kind_for (op.LinkCas p f t) = kind.Cas
-kind_for (op.LinkStore r zero l) = kind.Store
-kind_for (op.LinkStore r (suc n) l) = kind.Side
+kind_for (op.LinkStore r l zero) = kind.Store
+kind_for (op.LinkStore r l (suc n)) = kind.Side
 kind_for (op.Inc r) = kind.Inc
 kind_for (op.Dec r) = kind.Dec
 kind_for (op.SetRetired r q) = kind.Set
@@ -63,7 +63,7 @@ OfCas b ws o = (p : Word) × (f : RowLink) × (t : RowLink) × IsPlace b p × Is
 
 -- a store of the link of this number
 abbrev pub OfStore : Bounds → ℕ → List (List ℕ) → Op → Type 0
-OfStore b n ws o = (r : ℕ) × (l : RowLink) × (r < b.rows) × (n < b.links) × IsLink b l × (ws ≡ decimal r ∷ link_text l ∷ []) × (o ≡ op.LinkStore r n l)
+OfStore b n ws o = (r : ℕ) × (l : RowLink) × (r < b.rows) × (n < b.links) × IsLink b l × (ws ≡ decimal r ∷ link_text l ∷ []) × (o ≡ op.LinkStore r l n)
 
 abbrev pub Spelled : Bounds → Kind → List (List ℕ) → Op → Type 0
 Spelled b kind.Enroll ws o = (ws ≡ []) × (o ≡ op.Enroll)
@@ -103,8 +103,8 @@ own b (op.Publish k r) h = (_, refl, (k, r, h.0, h.1, refl, refl))
 own b (op.Clear k) h = (_, refl, (k, h, refl, refl))
 own b (op.Arm r) h = (_, refl, (r, h, refl, refl))
 own b (op.LinkCas p f t) h = (_, refl, (p, f, t, h.0, h.1, h.2, refl, refl))
-own b (op.LinkStore r zero l) h = (_, refl, (r, l, h.0, h.1, h.2, refl, refl))
-own b (op.LinkStore r (suc n) l) h = (_, refl, (n, (r, l, h.0, h.1, h.2, refl, refl)))
+own b (op.LinkStore r l zero) h = (_, refl, (r, l, h.0, h.1, h.2, refl, refl))
+own b (op.LinkStore r l (suc n)) h = (_, refl, (n, (r, l, h.0, h.1, h.2, refl, refl)))
 own b (op.Inc r) h = (_, refl, (r, h, refl, refl))
 own b (op.Dec r) h = (_, refl, (r, h, refl, refl))
 own b (op.SetRetired r q) h = (_, refl, (r, q, h.0, h.1, refl, refl))

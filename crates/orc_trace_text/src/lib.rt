@@ -9,6 +9,3 @@ mod shape_line;
 
 pub use line::first_step;
 pub use shape_line::{ShapeWord, read_shape};
-
-#[cfg(test)]
-mod tests;

@@ -17,6 +17,3 @@ pub use packed::{
 };
 pub use place::{Word, different_words_have_different_places, link_of_row, place_of};
 pub use shape::{Shape, ShapeFault};
-
-#[cfg(test)]
-mod tests;

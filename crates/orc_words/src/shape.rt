@@ -134,7 +134,7 @@ impl Shape {
         requires { rows ≤ 65535 }
         ensures { result ≡ words_of_rows (bounds_of self.now) rows }
     {
-        if self.links > 1 { 6 * rows } else { 5 * rows }
+        (4 + self.links) * rows
     }
 
     /// The number of words of the machine, one at each place. A table that threads share is longer, for it has gaps

@@ -26,7 +26,7 @@ make-requires-clause-agents g c =
     (e, omega (arith, e, few))
 
 pub make-requires-clause-opening : goal.make-requires-clause-opening
-make-requires-clause-opening g c = opens g.D.Discipline (record { shape = c.args.shape.now; seed = c.args.seed }) c.requires.holds c.requires.seed
+make-requires-clause-opening g c = opens g.D.Discipline (record { shape = c.args.shape.now; seed = c.args.seed; layout = c.new.result; laid = c.make-arg-1.given.0 }) c.requires.holds c.requires.seed
 
 pub invariant_of-result : goal.invariant_of-result
 invariant_of-result g c =
@@ -58,7 +58,7 @@ returns-clause-idle g c = λ i p lt.
     let agent = ap (λ z. z.agent) e ∙ c.in_ok-words-2.ensures.agents i p.pass lt2 in
     let count = c.in_ok-words-2.ensures.passes in
     let below : x.pass.agent < b.agents = omega (arith, agent, count, lt2) in
-    let k : MachineShape _ = record { shape = c.args.shape.now; seed = c.args.seed } in
+    let k : MachineShape _ = record { shape = c.args.shape.now; seed = c.args.seed; layout = c.new.result; laid = c.make-arg-1.given.0 } in
     let owned = c.in_ok-words-2.ensures.owns i p.pass lt2 in
     let own = x.pass.mine ∙ (ap (λ z. z.own) e ∙ (owned ∙ ap ((counted_rules {N = _}).own k ((counted_rules {N = _}).opening k)) (sym agent))) in
     subst HasNothing (sym own) (opening_nothing b c.args.seed x.pass.agent (in_range c.args.shape.now)
@@ -75,7 +75,7 @@ returns-clause-belongs g c = λ i p lt.
     let lt2 = subst (λ n. i < n) c.in_ok-passes.ensures.long lt in
     let e = c.in_ok-passes.ensures.same i p p.pass lt2 in
     let d = g.D.Discipline in
-    let k : MachineShape _ = record { shape = c.args.shape.now; seed = c.args.seed } in
+    let k : MachineShape _ = record { shape = c.args.shape.now; seed = c.args.seed; layout = c.new.result; laid = c.make-arg-1.given.0 } in
     let x = slice_index_or c.in_ok-passes.passes.items i p in
     let seen = ap (λ z. z.seat.me.0.seen) e ∙ (c.in_ok-words-2.ensures.seen i p.pass lt2).0 in
     let also = ap (λ z. z.seat.me.0.also) e ∙ (c.in_ok-words-2.ensures.seen i p.pass lt2).1 in

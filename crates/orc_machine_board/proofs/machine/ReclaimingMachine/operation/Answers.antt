@@ -7,5 +7,8 @@ action_of-action-requires g c = let s = c.args.shape.now.shape in may_packable
     (bounds_of s) 0 c.args.agent c.args.op.now.op c.args.own.now c.requires.allowed.may s.few_rows s.low_limit
 
 pub index_of-requires : goal.index_of-requires
-index_of-requires g c = rw c.action_of-action.ensures
-    (may_within (bounds_of c.args.shape.now.shape) 0 c.args.agent c.args.op.now.op c.args.own.now c.requires.allowed.may)
+index_of-requires g c = record {
+  laid = c.args.shape.now.laid;
+  within = rw c.action_of-action.ensures
+      (may_within (bounds_of c.args.shape.now.shape) 0 c.args.agent c.args.op.now.op c.args.own.now c.requires.allowed.may);
+}

@@ -11,7 +11,7 @@ pub opening_words-requires : goal.opening_words-requires
 opening_words-requires g c = record { roots = has_roots g.D.Discipline.may (numbers (bounds_of c.args.shape.now)) c.args.seed c.requires.seed }
 
 pub make-requires-clause-opening : goal.make-requires-clause-opening
-make-requires-clause-opening g c = opens g.D.Discipline c.args.shape.now c.args.seed c.requires.holds c.requires.seed
+make-requires-clause-opening g c = opens g.D.Discipline c.args.shape.now c.new.result c.make-arg-1.given.0 c.args.seed c.requires.holds c.requires.seed
 
 pub make-requires-clause-some : goal.make-requires-clause-some
 make-requires-clause-some g c = let e : length c.as_slice.result.now ≡ room (bounds_of c.args.shape.now) = ap length c.as_slice.ensures.value
@@ -49,8 +49,8 @@ returns-clause-belongs g c = λ i p lt.
     let below : x.pass.agent < (bounds_of c.args.shape.now).agents = omega (arith, agent, count, lt2) in
     record {
       table = ap (λ z. z.seat.table_id) e ∙ c.in_ok-words-2.ensures.table i p.pass lt2;
-      keeps = new_keeps d (record { shape = c.args.shape.now; seed = c.args.seed }) c.in_ok-words-2.words.shape c.in_ok-words-2.ensures.shape
-          (opens d c.args.shape.now c.args.seed c.requires.holds c.requires.seed) c.requires.holds x.pass.seat.me.0 x.pass.agent x.pass.named below
+      keeps = new_keeps d (record { shape = c.args.shape.now; seed = c.args.seed; layout = c.new.result; laid = c.make-arg-1.given.0 }) c.in_ok-words-2.words.shape c.in_ok-words-2.ensures.shape
+          (opens d c.args.shape.now c.new.result c.make-arg-1.given.0 c.args.seed c.requires.holds c.requires.seed) c.requires.holds x.pass.seat.me.0 x.pass.agent x.pass.named below
           seen x.fresh (c.in_ok-passes.ensures.fresh i p lt);
     }
 

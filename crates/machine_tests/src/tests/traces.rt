@@ -1,7 +1,7 @@
 //! Traces with answers computed by hand.
 
-use super::*;
 use orc_fault::NoMemory;
+use orc_trace::*;
 use std::alloc::{AllocError, Global};
 use std::process::Abort;
 use std::test::Fail;

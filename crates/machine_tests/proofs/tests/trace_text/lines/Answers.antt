@@ -1,6 +1,6 @@
 use Rattle.std.proofs.Common.{ap, arith, length, refl}
 use Rattle.std.specs.Fmt.{digits}
-use Rattle.orc_trace_text.proofs.tests.lines.Goals as goal
+use Rattle.machine_tests.proofs.tests.trace_text.lines.Goals as goal
 
 pub returns-clause-root : goal.returns-clause-root
 unfolding digits

@@ -7,7 +7,7 @@ ghost use Rattle.orc_words.specs.Operations.{answer_of, word_after};
 ghost use Rattle.orc_words.specs.Packed.{named, link_word, link_of, counter_word, counter_of, gate_word, gate_of};
 ghost use Rattle.orc_words.specs.Places.{IsWithin, place, places};
 
-use super::*;
+use orc_words::*;
 use std::test::Fail;
 
 // Row 4 with a mark is 2 × 5 + 1, and the greatest link word names row 65,534.

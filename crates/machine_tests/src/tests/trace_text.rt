@@ -8,8 +8,8 @@ ghost use Rattle.orc_trace_text.specs.FirstLines.{IsFirstOut};
 ghost use Rattle.orc_trace_text.specs.Reading.{Cuts, words_in, words_left};
 ghost use Rattle.orc_trace_text.specs.TraceText.{IsReadable, IsShapeText, line_text, place_text, link_text, steps_text};
 
-use super::*;
 use orc_core::{CounterUse, Op};
+use orc_trace_text::*;
 use orc_words::{RowLink, Word};
 use std::test::Fail;
 
@@ -24,8 +24,8 @@ fn lines()
     ensures not_marked { link_text (record { to = Some 2; mark = false }) ≢ codes "2m" }
     ensures publish { line_text 1 (Op.Publish 2 0) ≡ codes "1 publish 2 0" }
     ensures cas { line_text 0 (Op.LinkCas (Word.Next 0) (record { to = None; mark = false }) (record { to = Some 1; mark = true })) ≡ codes "0 cas n0 - 1m" }
-    ensures store { line_text 0 (Op.LinkStore 1 0 (record { to = None; mark = false })) ≡ codes "0 store 1 -" }
-    ensures side_store { line_text 0 (Op.LinkStore 1 1 (record { to = Some 0; mark = false })) ≡ codes "0 side 1 0" }
+    ensures store { line_text 0 (Op.LinkStore 1 (record { to = None; mark = false }) 0) ≡ codes "0 store 1 -" }
+    ensures side_store { line_text 0 (Op.LinkStore 1 (record { to = Some 0; mark = false }) 1) ≡ codes "0 side 1 0" }
     ensures steps { steps_text ((0, Op.Enroll) ∷ (0, Op.CounterLoad 0 CounterUse.Start) ∷ []) ≡ codes "0 enroll\n0 start 0\n" }
 {}
 
@@ -47,7 +47,7 @@ fn ranges()
     ensures no_link { ¬ IsReadable (record { rows = 2; roots = 1; agents = 2; limit = 8; links = 1 }) (0, Op.LinkLoad (Word.Gate 0) None) }
     ensures side { IsReadable (record { rows = 2; roots = 1; agents = 2; limit = 8; links = 2 }) (0, Op.LinkLoad (Word.Side 1) None) }
     ensures no_side { ¬ IsReadable (record { rows = 2; roots = 1; agents = 2; limit = 8; links = 1 }) (0, Op.LinkLoad (Word.Side 1) None) }
-    ensures no_side_store { ¬ IsReadable (record { rows = 2; roots = 1; agents = 2; limit = 8; links = 1 }) (0, Op.LinkStore 0 1 (record { to = None; mark = false })) }
+    ensures no_side_store { ¬ IsReadable (record { rows = 2; roots = 1; agents = 2; limit = 8; links = 1 }) (0, Op.LinkStore 0 (record { to = None; mark = false }) 1) }
     ensures first_out { IsFirstOut (record { rows = 2; roots = 0; agents = 17; limit = 8; links = 1 }) ShapeWord.Roots }
     ensures not_first { ¬ IsFirstOut (record { rows = 2; roots = 0; agents = 17; limit = 8; links = 1 }) ShapeWord.Agents }
 {}

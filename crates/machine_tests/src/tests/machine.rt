@@ -1,7 +1,10 @@
 //! Runs of the machine with words and records computed by hand, and a refused step of each kind.
 
-use super::*;
-use orc_words::{RowLink, Shape, Word};
+use super::playing::{
+    NULL, hold, let_go, link, look_at_slots, scan_and_free, start, step, steps, unlink,
+};
+use orc_core::*;
+use orc_words::{Shape, Word};
 use std::alloc::Global;
 use std::process::Abort;
 use std::test::Fail;
@@ -9,16 +12,6 @@ use std::test::Fail;
 mod examples;
 mod permissions;
 mod two_links;
-
-const NULL: RowLink = RowLink {
-    to: None,
-    mark: false,
-};
-
-const ROW_0: RowLink = RowLink {
-    to: Some(0),
-    mark: false,
-};
 
 const ROOT_0: Word = Word::Root(0);
 
@@ -30,130 +23,6 @@ const NONE_OUT: Census = Census {
     linked: 0,
 };
 
-// Makes a step; a step of an agent whose work list is full counts as refused.
-fn step(state: &mut State, agent: u32, op: Op) -> Result<u64, NotAllowed> {
-    if !state.has_room(agent) {
-        return Err(NotAllowed);
-    }
-    apply(state, agent, &op)
-}
-
-// Makes these steps of one agent.
-fn steps(state: &mut State, agent: u32, ops: &[Op]) -> Result<(), NotAllowed> {
-    for op in ops {
-        let _ = step(state, agent, *op)?;
-    }
-    Ok(())
-}
-
-// An agent's looks at the slots of these scan places.
-fn look_at_slots(state: &mut State, agent: u32, from: u32, end: u32) -> Result<(), NotAllowed> {
-    for k in from..end {
-        let _ = step(state, agent, Op::SlotLook { k })?;
-    }
-    Ok(())
-}
-
-// The agent takes row 0 and links it from root 0.
-fn link_row_0(state: &mut State, agent: u32) -> Result<(), NotAllowed> {
-    let check = Op::CounterLoad {
-        row: 0,
-        how: CounterUse::Check,
-    };
-    steps(
-        state,
-        agent,
-        &[
-            Op::GateLook { row: 0 },
-            check,
-            Op::GateTake { row: 0 },
-            Op::Publish { slot: 1, row: 0 },
-            check,
-            Op::LinkCas {
-                place: ROOT_0,
-                from: NULL,
-                to: ROW_0,
-            },
-            Op::Inc { row: 0 },
-        ],
-    )
-}
-
-// The agent holds row 0 in this slot, as root 0 shows it.
-fn hold_row_0(state: &mut State, agent: u32, slot: u32) -> Result<(), NotAllowed> {
-    steps(
-        state,
-        agent,
-        &[
-            Op::LinkLoad {
-                place: ROOT_0,
-                slot: None,
-            },
-            Op::Publish { slot, row: 0 },
-            Op::LinkLoad {
-                place: ROOT_0,
-                slot: Some(slot),
-            },
-        ],
-    )
-}
-
-// The agent unlinks row 0 from root 0, retires it and lets it go.
-fn unlink_row_0(state: &mut State, agent: u32) -> Result<(), NotAllowed> {
-    steps(
-        state,
-        agent,
-        &[
-            Op::LinkCas {
-                place: ROOT_0,
-                from: ROW_0,
-                to: NULL,
-            },
-            Op::Arm { row: 0 },
-            Op::Dec { row: 0 },
-            Op::SetRetired {
-                row: 0,
-                sequence: 2,
-            },
-            Op::Clear { slot: 0 },
-            Op::TakeIn { slot: 0 },
-            Op::Clear { slot: 1 },
-            Op::TakeIn { slot: 1 },
-        ],
-    )
-}
-
-fn start(state: &mut State, agent: u32) -> Result<(), NotAllowed> {
-    let op = Op::CounterLoad {
-        row: 0,
-        how: CounterUse::Start,
-    };
-    steps(state, agent, &[op])
-}
-
-// A whole scan of row 0 by agent 1 that finds no slot, and the row's end.
-fn scan_and_free(state: &mut State) -> Result<(), NotAllowed> {
-    start(state, 1)?;
-    look_at_slots(state, 1, 0, 16)?;
-    steps(
-        state,
-        1,
-        &[
-            Op::CounterLoad {
-                row: 0,
-                how: CounterUse::End,
-            },
-            Op::LinkStore {
-                row: 0,
-                number: 0,
-                link: NULL,
-            },
-            Op::Unretire { row: 0 },
-            Op::Free { row: 0 },
-        ],
-    )
-}
-
 // Row 0 is linked by agent 0, held by agent 1, unlinked, and found held by a scan of agent 0: 32 steps.
 fn found_held(rt: &impl Abort, alloc: Global) -> Result<State, Fail> {
     let shape = Shape::new(2, 1, 2, 8)?;
@@ -163,14 +32,15 @@ fn found_held(rt: &impl Abort, alloc: Global) -> Result<State, Fail> {
         step(&mut state, 1, Op::Enroll)?,
     );
     assert_eq!(rt; enrolled, (0, 1));
-    link_row_0(&mut state, 0)?;
+    link(&mut state, 0)?;
     assert_eq!(rt; words_of_row_0(&state), (3, 20_971_521, 2));
     assert_eq!(rt; record_of(&state, 0), (SlotUse::Held(0), None, None, None));
-    hold_row_0(&mut state, 1, 2)?;
-    unlink_row_0(&mut state, 0)?;
+    hold(&mut state, 0, 2)?;
+    unlink(&mut state, 0)?;
+    let_go(&mut state)?;
     assert_eq!(rt; words_of_row_0(&state), (3, 46_137_344, 0));
     assert_eq!(rt; record_of(&state, 0), (SlotUse::Empty, None, None, None));
-    start(&mut state, 0)?;
+    start(&mut state, 0, 0)?;
     look_at_slots(&mut state, 0, 0, 11)?;
     let found = Scan {
         row: 0,

@@ -4,7 +4,7 @@ ghost use Rattle.std.specs.Prelude.{◌≡◌, ◌≢◌, [], codes};
 ghost use Rattle.orc_trace.specs.Answers.{fault_line, replay_line};
 ghost use Rattle.orc_trace.specs.Replay.{Refuses};
 
-use crate::{ShapeWord, TraceFault};
+use orc_trace::{ShapeWord, TraceFault};
 
 // The lines that are written.
 fn answers()

@@ -1,6 +1,6 @@
 use Rattle.std.proofs.Common.{List, ℕ, ap, arith, get_or, refl}
 use Rattle.std.specs.Fmt.{digits}
-use Rattle.orc_trace.proofs.tests.examples.answers.Goals as goal
+use Rattle.machine_tests.proofs.tests.traces.examples.answers.Goals as goal
 
 pub returns-clause-played : goal.returns-clause-played
 unfolding digits

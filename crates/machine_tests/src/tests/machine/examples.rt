@@ -12,7 +12,7 @@ ghost use Rattle.orc_core.specs.Runs.{IsLawful, run};
 ghost use Rattle.orc_core.specs.Sums.{count_below, some_below, sum_below};
 ghost use Rattle.orc_core.specs.Counts.{census_of, is_target, links_to};
 
-use crate::{Op, SlotUse};
+use orc_core::{Op, SlotUse};
 use orc_words::{Operation, Word};
 
 // A work list is taken from at its front and added to at its end.

@@ -1,6 +1,6 @@
 use Rattle.std.proofs.Common.{ap, arith, inl, inr, length, refl}
 use Rattle.std.specs.Fmt.{digits}
-use Rattle.orc_trace_text.proofs.tests.first_lines.Goals as goal
+use Rattle.machine_tests.proofs.tests.trace_text.first_lines.Goals as goal
 
 pub returns-clause-two_links : goal.returns-clause-two_links
 unfolding digits

@@ -50,8 +50,8 @@ fn links_of_both_numbers()
         ∷ (0, Op.CounterLoad 0 CounterUse.Check)
         ∷ (0, Op.LinkCas (Word.Root 0) (record { to = None; mark = false }) (record { to = Some 0; mark = false })) ∷ (0, Op.Inc 0)
         ∷ (0, Op.GateLook 1) ∷ (0, Op.CounterLoad 1 CounterUse.Check) ∷ (0, Op.GateTake 1) ∷ (0, Op.Publish 2 1)
-        ∷ (0, Op.CounterLoad 0 CounterUse.Check) ∷ (0, Op.LinkStore 1 0 (record { to = Some 0; mark = false })) ∷ (0, Op.Inc 0)
-        ∷ (0, Op.CounterLoad 0 CounterUse.Check) ∷ (0, Op.LinkStore 1 1 (record { to = Some 0; mark = false })) ∷ (0, Op.Inc 0) ∷ []) in
+        ∷ (0, Op.CounterLoad 0 CounterUse.Check) ∷ (0, Op.LinkStore 1 (record { to = Some 0; mark = false }) 0) ∷ (0, Op.Inc 0)
+        ∷ (0, Op.CounterLoad 0 CounterUse.Check) ∷ (0, Op.LinkStore 1 (record { to = Some 0; mark = false }) 1) ∷ (0, Op.Inc 0) ∷ []) in
         (linked m 0 ≡ 3) × (linked m 1 ≡ 0) × ((counter_of (word_in m (Word.Counter 0))).count ≡ pos 3) }
 {}
 

@@ -1,6 +1,7 @@
 //! A run in which a row has two links, with words and counts computed by hand.
 
 use super::*;
+use crate::tests::playing::{check, link_to};
 
 // Both links of row 1 are to row 0, which root 0 links too. When row 1 is to be freed its links are taken out one after the
 // other, and its bit isn't cleared after the first.
@@ -9,11 +10,7 @@ fn a_row_with_two_links(rt: HostRuntime) -> Result<(), Fail> {
     let shape = Shape::with_links(2, 1, 1, 8, 2)?;
     let mut state = State::new(rt.alloc(), &shape)?;
     let _ = step(&mut state, 0, Op::Enroll)?;
-    link_row_0(&mut state, 0)?;
-    let check = |row| Op::CounterLoad {
-        row,
-        how: CounterUse::Check,
-    };
+    link(&mut state, 0)?;
     steps(
         &mut state,
         0,
@@ -26,14 +23,14 @@ fn a_row_with_two_links(rt: HostRuntime) -> Result<(), Fail> {
             Op::LinkStore {
                 row: 1,
                 number: 0,
-                link: ROW_0,
+                link: link_to(0),
             },
             Op::Inc { row: 0 },
             check(0),
             Op::LinkStore {
                 row: 1,
                 number: 1,
-                link: ROW_0,
+                link: link_to(0),
             },
             Op::Inc { row: 0 },
         ],

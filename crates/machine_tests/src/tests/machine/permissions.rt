@@ -12,7 +12,7 @@ ghost use Rattle.orc_core.specs.declared.records.SlotUse.{SlotUse};
 ghost use Rattle.orc_core.specs.Allowed.{fits, may};
 ghost use Rattle.orc_core.specs.Machine.{nobody};
 
-use crate::{CounterUse, Op, SlotUse};
+use orc_core::{CounterUse, Op, SlotUse};
 use orc_words::Word;
 
 // The agents enroll in order, each once, and every row of the table may be looked at and checked.
@@ -152,20 +152,20 @@ fn store_a_link()
           slots = SlotUse.Empty ∷ SlotUse.Held 1 ∷ [];
           checked = Some (record { row = 1; number = n });
         } in
-        let op : Op = Op.LinkStore 0 0 (record { to = Some 1; mark = false }) in
+        let op : Op = Op.LinkStore 0 (record { to = Some 1; mark = false }) 0 in
         (fits b 1 0 op (d 71) ≡ true) × (fits b 1 0 op (d 72) ≡ false)
-        × (fits b 1 0 (Op.LinkStore 1 0 (record { to = Some 1; mark = false })) (d 71) ≡ false) }
+        × (fits b 1 0 (Op.LinkStore 1 (record { to = Some 1; mark = false }) 0) (d 71) ≡ false) }
     ensures held { let b : Bounds = record { rows = 2; roots = 1; agents = 2; limit = 8; links = 1 } in
         let d : List SlotUse → Agent = λ slots. record (nobody 2) { fresh = Some 0; slots = slots; checked = Some (record { row = 1; number = 0 }) } in
-        let op : Op = Op.LinkStore 0 0 (record { to = Some 1; mark = false }) in
+        let op : Op = Op.LinkStore 0 (record { to = Some 1; mark = false }) 0 in
         (fits b 1 0 op (d (SlotUse.Empty ∷ SlotUse.Held 1 ∷ [])) ≡ true) × (fits b 1 0 op (d (SlotUse.Empty ∷ SlotUse.Published 1 ∷ [])) ≡ false)
         × (fits b 1 0 op (d (SlotUse.Held 1 ∷ SlotUse.Held 1 ∷ [])) ≡ false) }
     ensures null { let b : Bounds = record { rows = 2; roots = 1; agents = 2; limit = 8; links = 1 } in
-        (fits b 1 0 (Op.LinkStore 0 0 (record { to = None; mark = false })) (record (nobody 2) { fresh = Some 0 }) ≡ true)
-        × (fits b 1 0 (Op.LinkStore 2 0 (record { to = None; mark = false })) (record (nobody 2) { fresh = Some 2 }) ≡ false) }
+        (fits b 1 0 (Op.LinkStore 0 (record { to = None; mark = false }) 0) (record (nobody 2) { fresh = Some 0 }) ≡ true)
+        × (fits b 1 0 (Op.LinkStore 2 (record { to = None; mark = false }) 0) (record (nobody 2) { fresh = Some 2 }) ≡ false) }
     ensures doomed { let b : Bounds = record { rows = 2; roots = 1; agents = 2; limit = 8; links = 1 } in
         let d : Doom → Agent = λ doom. record (nobody 2) { doom = Some doom } in
-        let op : RowLink → Op = λ l. Op.LinkStore 0 0 l in
+        let op : RowLink → Op = λ l. Op.LinkStore 0 l 0 in
         (fits b 1 0 (op (record { to = None; mark = false })) (d (record { row = 0; cuts = 0; bare = false })) ≡ true)
         × (fits b 1 0 (op (record { to = None; mark = true })) (d (record { row = 0; cuts = 0; bare = false })) ≡ false)
         × (fits b 1 0 (op (record { to = Some 1; mark = false })) (d (record { row = 0; cuts = 0; bare = false })) ≡ false)
@@ -272,11 +272,11 @@ fn second_links()
         (fits (b 2) 1 0 op (d None) ≡ true) × (fits (b 1) 1 0 op (d None) ≡ false) × (fits (b 2) 1 0 op (d (Some 1)) ≡ false) }
     ensures store { let b : ℕ → Bounds = λ links. record { rows = 2; roots = 1; agents = 2; limit = 8; links = links } in
         let d : Agent = record (nobody 2) { fresh = Some 0 } in
-        let op : ℕ → Op = λ n. Op.LinkStore 0 n (record { to = None; mark = false }) in
+        let op : ℕ → Op = λ n. Op.LinkStore 0 (record { to = None; mark = false }) n in
         (fits (b 2) 1 0 (op 1) d ≡ true) × (fits (b 1) 1 0 (op 1) d ≡ false) × (fits (b 2) 1 0 (op 2) d ≡ false) }
     ensures doomed { let b : Bounds = record { rows = 2; roots = 1; agents = 2; limit = 8; links = 2 } in
         let d : ℕ → Agent = λ cuts. record (nobody 2) { doom = Some (record { row = 0; cuts = cuts; bare = false }) } in
-        let op : ℕ → Op = λ n. Op.LinkStore 0 n (record { to = None; mark = false }) in
+        let op : ℕ → Op = λ n. Op.LinkStore 0 (record { to = None; mark = false }) n in
         (fits b 1 0 (op 0) (d 0) ≡ true) × (fits b 1 0 (op 1) (d 0) ≡ false) × (fits b 1 0 (op 1) (d 1) ≡ true)
         × (fits b 1 0 (op 0) (d 1) ≡ false) × (fits b 1 0 (Op.Unretire 0) (d 1) ≡ false) × (fits b 1 0 (Op.Unretire 0) (d 2) ≡ true) }
 {}
