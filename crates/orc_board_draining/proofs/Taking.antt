@@ -1,9 +1,14 @@
 -- What was handed over is taken in, slot by slot.
-use Rattle.std.proofs.Common.{[], refl, sym, ℕ, ◌++◌, ◌+◌, ◌<◌, ◌∙◌, ◌∷◌, ◌≡◌, arith, ◌≢◌, ◌≤◌}
+use Rattle.std.proofs.Common.{List, [], refl, subst, sym, ℕ, ◌++◌, ◌+◌, ◌<◌, ◌∙◌, ◌∷◌, ◌≡◌, arith, ◌≢◌, ◌≤◌}
+use Rattle.std.proofs.Math.Decide.{dec_lt}
+use mathlib.Core.List.{IsPrefix}
+use mathlib.Core.Logic.{dite}
 use Rattle.orc_board_draining.specs.Drains.{Drains, Takes, TakesInFrom}
 use Rattle.orc_board_settling.proofs.Joins.{adds_none, adds_then}
 use Rattle.orc_board_settling.proofs.Makes.{added_adds}
 use Rattle.orc_board_settling.proofs.Passes.{added, bounds_are, made, mine}
+use Rattle.orc_board_settling.proofs.TakenIn.{taken_since, taken_then}
+use Rattle.orc_board_settling.specs.OwnSteps.{HasTakenIn}
 use Rattle.orc_board_settling.specs.Parts.{Settles}
 use Rattle.orc_board_settling.specs.Passes.{IsPassOf, record_of, state_of}
 use Rattle.orc_core.specs.Allowed.{may}
@@ -44,6 +49,11 @@ module _ {D N : Type 0} {d : discipline.Ghosts D N} {m : machine.Ghosts Reclaimi
       adds = added_adds (board_bounds board) a _ (TakeIn k ∷ []) (shows p) (shows q) tt (added board a (TakeIn k) p q n h g mk (λ i w. refl));
     }
 
+    pub taken_in : HasTakenIn a k (shows p).journal (shows q).journal
+    taken_in =
+        let one = added board a (TakeIn k) p q n h g mk (λ i w. refl) in
+        record { earlier = []; later = []; done = record { part = one.part; is = one.journal; own = one.own } }
+
     pub still_between : IsBetweenRounds (record_of board a q)
     still_between = made_between (state_of board p) (state_of board q) a k h.reached h.low between (made board a (TakeIn k) p q n h g mk)
 
@@ -65,6 +75,16 @@ module _ {N : Type 0} (b : Bounds) (a : ℕ) where
     adds = adds_then b a (x.made.others ++ (a, TakeIn 0) ∷ []) (y.took.steps ++ z.settled.steps) s t v x.adds
         (adds_then b a y.took.steps z.settled.steps t u v y.adds z.adds);
   }
+
+module _ {N : Type 0} (a : ℕ) where
+  -- beside slot k, and then beside each later one
+  pub taken_more : (k : ℕ) (x y z : List (Step N)) → HasTakenIn a k x y → IsPrefix x y → IsPrefix y z
+      → ((slot : ℕ) → k + 1 ≤ slot → slot < 8 → HasTakenIn a slot y z) → (slot : ℕ) → k ≤ slot → slot < 8 → HasTakenIn a slot x z
+  taken_more k x y z first p q later slot from low = dite (dec_lt k slot)
+      (λ after. taken_since a slot x y z p (later slot (omega (arith, after)) low))
+      (λ same.
+      let is : k ≡ slot = omega (arith, from, same) in
+      subst (λ n. HasTakenIn a n x z) is (taken_then a k x y z first q))
 
 pub below_eight : (k : ℕ) → k ≤ 8 → (k ≡ 8 → ⊥) → k < 8
 below_eight k l n = let ne : k ≢ 8 = n in omega arith

@@ -1,8 +1,8 @@
 //! Taking in slot by slot, and draining.
 
-ghost use Rattle.std.specs.Prelude.{◌≡◌, ◌<◌, ◌≤◌};
+ghost use Rattle.std.specs.Prelude.{◌≡◌, ◌<◌, ◌≤◌, ◌+◌, ◌-◌, ◌*◌, ℕ};
 ghost use Rattle.orc_board_draining.specs.Drains.{Drains, Takes, TakesInFrom};
-ghost use Rattle.orc_board_settling.specs.OwnSteps.{LeavesNothing};
+ghost use Rattle.orc_board_settling.specs.OwnSteps.{AtMostMore, HasTakenIn, LeavesNothing, TakesInAll, most_rounds, steps_a_round};
 ghost use Rattle.orc_board_settling.specs.Parts.{NoEvents};
 ghost use Rattle.orc_board_settling.specs.Passes.{IsPassOf, record_of, state_of};
 ghost use Rattle.orc_history.specs.Parts.{IsAlone};
@@ -22,6 +22,8 @@ fn take_in<D: Discipline>(board: &MachineBoard<D>, p: &mut MachineBoardPass<D>, 
     ensures pass { IsPassOf board.now agent p.new }
     ensures between { IsBetweenRounds (record_of board.now agent p.new) }
     ensures takes { Takes (board_bounds board.now) agent k (shows p.old) (shows p.new) }
+    ensures taken_in { HasTakenIn agent k (shows p.old).journal (shows p.new).journal }
+    ensures few { AtMostMore agent 1 (shows p.old).journal (shows p.new).journal }
 {
     let _ = board.take_in(p, k);
 }
@@ -39,6 +41,8 @@ fn take_in_from<D: Discipline>(
     ensures pass { IsPassOf board.now agent p.new }
     ensures between { IsBetweenRounds (record_of board.now agent p.new) }
     ensures takes { TakesInFrom (board_bounds board.now) agent k (shows p.old) (shows p.new) }
+    ensures taken_in { (slot : ℕ) → k ≤ slot → slot < 8 → HasTakenIn agent slot (shows p.old).journal (shows p.new).journal }
+    ensures few { AtMostMore agent (8 - k) (shows p.old).journal (shows p.new).journal }
 {
     if k == 8 {
         return;
@@ -54,14 +58,17 @@ fn drain_own<D: Discipline>(board: &MachineBoard<D>, p: &mut MachineBoardPass<D>
     ensures pass { IsPassOf board.now agent p.new }
     ensures between { IsBetweenRounds (record_of board.now agent p.new) }
     ensures drains { Drains (board_bounds board.now) agent (shows p.old) (shows p.new) }
+    ensures takes_all { TakesInAll agent (shows p.old).journal (shows p.new).journal }
+    ensures few { AtMostMore agent (8 + most_rounds (board_bounds board.now) * steps_a_round (board_bounds board.now))
+        (shows p.old).journal (shows p.new).journal }
 {
     take_in(board, p, agent, 0);
     take_in_from(board, p, agent, 1);
     settle(board, p);
 }
 
-/// Takes in what was handed over beside each of the eight slots, and settles. What is left afterwards is left only where
-/// another agent steps meanwhile.
+/// Takes in what was handed over beside each of the eight slots, and settles, in at most `4 * (rows + 8 * agents)` rounds. What is
+/// left afterwards is left only where another agent steps meanwhile.
 pub fn drain<D: Discipline>(board: &MachineBoard<D>, p: &mut MachineBoardPass<D>)
     requires belongs { Belongs board.now p.old }
     requires between { IsBetweenRounds (shows p.old).record_is }
@@ -74,6 +81,9 @@ pub fn drain<D: Discipline>(board: &MachineBoard<D>, p: &mut MachineBoardPass<D>
     ensures handovers { IsAlone (λ s. s.agent) (shows p.old).agent (shows p.old).journal (shows p.new).journal
         → NoneHanded (shows p.old).agent (state_of board.now p.new) }
     ensures drains { Drains (board_bounds board.now) (shows p.old).agent (shows p.old) (shows p.new) }
+    ensures takes_all { TakesInAll (shows p.old).agent (shows p.old).journal (shows p.new).journal }
+    ensures few { AtMostMore (shows p.old).agent (8 + most_rounds (board_bounds board.now) * steps_a_round (board_bounds board.now))
+        (shows p.old).journal (shows p.new).journal }
 {
     let agent = p.agent();
     drain_own(board, p, agent);

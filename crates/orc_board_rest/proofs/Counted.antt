@@ -83,6 +83,10 @@ module _ {D N : Type 0} {d : discipline.Ghosts D N} {m : machine.Ghosts Reclaimi
             subst (λ n. n ≤ 2 ^ 39 * row) (sym c.given_is)
             (lives_low (board_bounds board) (shows p).journal row (shape board) h.keeps.now.lawful.0 (omega arith))
 
+        -- it is still the pass that took in all others
+        pub still_all : TookInAll (board_bounds board) (shows p) → TookInAll (board_bounds board) (shows q)
+        still_all all a l = subst (λ (z : ℕ × List ℕ). (a ≡ z.0) ⊎ Among a z.1) (λ i. (sym c.agent i, sym c.absorbed i)) (all a l)
+
         module _ (all : TookInAll (board_bounds board) (shows p)) (r : MachineBoardPass D N (MachineShape N) Request (Step N) Agent Agent d m)
             (x : Belongs board r)
             (n : ℕ) (made : MakesPlain (board_bounds board) (GateLook row) (shows q) n (shows r))
@@ -90,11 +94,8 @@ module _ {D N : Type 0} {d : discipline.Ghosts D N} {m : machine.Ghosts Reclaimi
             abbrev b : Bounds
             b = board_bounds board
 
-            whole : TookInAll b (shows q)
-            whole = λ a l. subst (λ (z : ℕ × List ℕ). (a ≡ z.0) ⊎ Among a z.1) (λ i. (sym c.agent i, sym c.absorbed i)) (all a l)
-
             next : (shows r).journal ≡ (shows q).journal ++ does (shows q).agent (GateLook row) None ∷ []
-            next = steps_next b (asks (GateLook row)) None (shows q) (shows r) n made whole x.keeps.now.below
+            next = steps_next b (asks (GateLook row)) None (shows q) (shows r) n made (still_all all) x.keeps.now.below
 
             nothing_met : (shows q).journal ++ made.met ≡ (shows q).journal
             nothing_met =

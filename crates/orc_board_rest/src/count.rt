@@ -27,6 +27,7 @@ pub fn count_rows<D: Discipline>(board: &MachineBoard<D>, p: &mut MachineBoardPa
     requires looks { MayLookAtGates (shows p.old).record_is }
     requires all { TookInAll (board_bounds board.now) (shows p.old) }
     ensures belongs { Belongs board.now p.new }
+    ensures all { TookInAll (board_bounds board.now) (shows p.new) }
     ensures journal { (shows p.new).journal ≡ (shows p.old).journal ++ gate_looks (shows p.old).agent (board_bounds board.now).rows }
     ensures given { result.given ≡ given (new_machine (board_bounds board.now)) (plain (shows p.new).journal) }
     ensures reused { result.reused ≡ reused (plain (shows p.new).journal) }

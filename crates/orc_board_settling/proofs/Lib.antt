@@ -4,3 +4,4 @@ pub mod Joins
 pub mod Leaving
 pub mod Makes
 pub mod Passes
+pub mod TakenIn

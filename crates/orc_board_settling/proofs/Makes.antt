@@ -54,7 +54,7 @@ silent p d x w m (GateTake q) k h = absurd h
 silent p d x w m (FillStep q which v) k h = absurd h
 silent p d x w m (LinkLoad at s) k h = absurd h
 silent p d x w m (LinkCas at f t) k h = absurd h
-silent p d x w m (LinkStore q number l) k h = absurd (false≢true k)
+silent p d x w m (LinkStore q l number) k h = absurd (false≢true k)
 silent p d x w m op k h = refl
 
 pub may_here : (b : Bounds) (s : ℕ) (d : Agent) (m : Machine) (a : ℕ) (op : Op) → m.bounds ≡ b → s ≡ a → record_at m a ≡ d

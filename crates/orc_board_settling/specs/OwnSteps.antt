@@ -1,5 +1,5 @@
 -- The steps that a call's agent makes: at most how many, and that what was handed over beside a slot is taken in once the slot is clear.
-use Rattle.std.specs.Prelude.{List, [], length, map, ℕ, ◌*◌, ◌++◌, ◌+◌, ◌∷◌, ◌≡◌, ◌≤◌}
+use Rattle.std.specs.Prelude.{List, [], length, map, ℕ, ◌*◌, ◌++◌, ◌+◌, ◌<◌, ◌∷◌, ◌≡◌, ◌≤◌}
 use Rattle.orc_core.specs.declared.ops.Op.{Op}
 use Rattle.orc_core.specs.declared.ops.Op.TheVariants.{Clear, TakeIn}
 use Rattle.orc_machine_board.specs.Passes.{steps_of}
@@ -45,3 +45,13 @@ module _ {N : Type 0} where
     pub ops : List Op
     pub done : HasDone agent ops before after
     pub taken_in : TakesInCleared ops
+
+  -- in what is new, the agent took in what was handed over beside this slot
+  pub record HasTakenIn (agent slot : ℕ) (before after : List (Step N)) : Type 0 where
+    pub earlier : List Op
+    pub later : List Op
+    pub done : HasDone agent (earlier ++ TakeIn slot ∷ later) before after
+
+  -- and beside each of its eight slots
+  abbrev pub TakesInAll : ℕ → List (Step N) → List (Step N) → Type 0
+  TakesInAll agent before after = (slot : ℕ) → slot < 8 → HasTakenIn agent slot before after

@@ -97,7 +97,7 @@ pub(crate) fn take_link_out<D: Discipline>(
     requires doom { IsDoomOf row (record_of board.now agent p.old).doom }
     ensures pass { IsPassOf board.now agent p.new }
     ensures goes { Goes (board_bounds board.now) agent 0 (shows p.old) (shows p.new) }
-    ensures after { AfterStep agent (Op.LinkStore row 0 (record { to = None; mark = false })) (state_of board.now p.old) (state_of board.now p.new) }
+    ensures after { AfterStep agent (Op.LinkStore row (record { to = None; mark = false }) 0) (state_of board.now p.old) (state_of board.now p.new) }
     ensures few { AtMostMore agent 1 (shows p.old).journal (shows p.new).journal }
 {
     let null = RowLink {

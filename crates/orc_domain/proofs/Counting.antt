@@ -1,5 +1,5 @@
 -- How many rows were given.
-use Rattle.std.proofs.Common.{◌≡◌, ◌≢◌, ℕ, zero, suc, ◌+◌, ◌-◌, ◌<◌, ◌≤◌, ◌%◌, ◌==◌, List, [], ◌∷◌, ◌++◌, length, length-append, false, Option, Some, None, slice_get, refl, sym, ap, ◌∙◌, subst, arith, eq-eqb, ne_eqb}
+use Rattle.std.proofs.Common.{◌≡◌, ◌≢◌, ℕ, zero, suc, ◌+◌, ◌-◌, ◌<◌, ◌≤◌, ◌%◌, ◌==◌, List, [], ◌∷◌, ◌++◌, length, length-append, false, Option, Some, slice_get, refl, sym, ap, ◌∙◌, subst, arith, eq-eqb, ne_eqb}
 use Rattle.orc_heap.proofs.Moved.{target_length}
 use Rattle.std.proofs.Math.Decide.{dec_lt}
 use Rattle.std.proofs.Math.Nat.{add-mod_right, mod-eq_of_lt}
@@ -10,7 +10,7 @@ use native.Mathlib.Decide.{ℕ_discrete}
 use Rattle.orc_heap.proofs.Changes.{length-change}
 use Rattle.orc_heap.proofs.Runs.{run_from-append}
 use Rattle.orc_heap.specs.Acts.{as_linked, as_named, change_node, change_target, heap_after, set_link, with_link, with_side, with_value}
-use Rattle.orc_heap.specs.Heap.{Heap, HeapNumbers, Node, change, new_heap, new_node}
+use Rattle.orc_heap.specs.Heap.{Heap, HeapNumbers, Node, new_heap, new_node}
 use Rattle.orc_heap.specs.Journals.{run_from, run_heap}
 use Rattle.orc_heap.specs.declared.events.Act.{Act}
 use Rattle.orc_heap.specs.declared.events.Act.TheVariants.{Aim, AimSide, Fill, Give, Look, Miss, Move}

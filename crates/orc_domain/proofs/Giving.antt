@@ -21,7 +21,7 @@ use Rattle.orc_table.specs.declared.machine.Plain.{Plain}
 use Rattle.orc_table.specs.declared.machine.PlainOp.{PlainOp}
 use Rattle.orc_table.specs.declared.machine.PlainStep.{PlainStep}
 use Rattle.orc_table.specs.declared.shape.PlainShape.{PlainShape}
-use Rattle.orc_domain.specs.Passes.{IsPassOf, domain_bounds, domain_numbers, seat_of}
+use Rattle.orc_domain.specs.Passes.{IsPassOf, domain_bounds, domain_numbers, rows_of, seat_of}
 use Rattle.orc_domain.specs.declared.domain.PlainDomain.{PlainDomain}
 use Rattle.orc_domain.specs.declared.domain.PlainPass.{PlainPass}
 use Rattle.orc_domain.specs.Calls.{Furnishes, IsSame, Loses, Takes}
@@ -29,6 +29,7 @@ use Rattle.orc_domain.specs.Given.{IsLacking}
 use Rattle.orc_domain.specs.Laws.Passes.{seen_by}
 use Rattle.orc_domain.specs.Passes.{journal_of}
 use Rattle.orc_domain.specs.Rows.{slots_by}
+use Rattle.orc_domain.specs.Turns.{IsNext}
 use Rattle.orc_domain.proofs.Counting.{lacks_all, nodes_given, nodes_stay, once_round, rows_all}
 use Rattle.orc_domain.proofs.Growing.{held_given, tie}
 use Rattle.orc_domain.proofs.Rows.{slots_grow}
@@ -50,6 +51,7 @@ module _ {D N : Type 0} {d : discipline.Ghosts D N} {m : machine.Ghosts Plain N 
       pub only : Only [] (seat_of domain p) (seat_of domain q)
       pub fresh : (shows domain.board q.pass).fresh ≡ None
       pub inside : (rows ≡ (domain_bounds domain).rows) × (begin < rows)
+      pub same_next : q.next ≡ p.next
       pub out : (k : ℕ) → k < offset → IsOut (shows domain.board q.pass).rows ((begin + k) % rows)
 
     pub tried_none : (p : PlainPass D N (PlainShape N) PlainOp (PlainStep N) (Unit {0}) (Unit {0}) d m) (rows begin : ℕ) → IsPassOf domain p
@@ -60,12 +62,25 @@ module _ {D N : Type 0} {d : discipline.Ghosts D N} {m : machine.Ghosts Plain N 
           only = record { slots = refl; fresh = refl; puts = record { part = []; is = sym (append-nil (seat_of domain p).seen); agent = refl; own_is = refl } };
           fresh = no_row (shows domain.board p.pass).fresh fresh;
           inside = (same, let l = h.keeps.inside in omega (arith, l, same, next));
+          same_next = refl;
           out = λ k l. absurd (omega (arith, l));
         }
       where
         no_row : (fresh : Option ℕ) → id_by (shows domain.board p.pass).rows fresh ≡ None → fresh ≡ None
         no_row None e = refl
         no_row (Some row) e = cc
+
+    -- the row that is tried next, where the others were out
+    pub tried_next : (p q : PlainPass D N (PlainShape N) PlainOp (PlainStep N) (Unit {0}) (Unit {0}) d m) (rows begin offset : ℕ)
+        → Tried p q rows begin offset → offset < rows → (given : List ℕ) → IsPrefix (rows_of domain q) given
+        → IsNext (domain_bounds domain).rows begin (IsOut given) ((begin + offset) % rows)
+    tried_next p q rows begin offset t low given more =
+        subst (λ n. IsNext n begin (IsOut given) ((begin + offset) % rows)) t.inside.0 (record {
+          offset = offset;
+          low = low;
+          is = refl;
+          passed = λ k l. subst (λ z. IsOut z ((begin + k) % rows)) more.1 (out_stays (rows_of domain q) more.0 ((begin + k) % rows) (t.out k l));
+        })
 
     -- the slots are the same as more rows are given
     slots_kept : (q r : PlainPass D N (PlainShape N) PlainOp (PlainStep N) (Unit {0}) (Unit {0}) d m) → IsPassOf domain q → IsSame q r
@@ -87,6 +102,7 @@ module _ {D N : Type 0} {d : discipline.Ghosts D N} {m : machine.Ghosts Plain N 
             only = Only-trans (seat_of domain p) (seat_of domain q) (seat_of domain r) [] [] t.only last;
             fresh = l.fresh ∙ t.fresh;
             inside = t.inside;
+            same_next = same.next ∙ t.same_next;
             out = λ k m. out k m l;
           }
         where

@@ -17,3 +17,4 @@ pub mod Making
 pub mod Rounds
 pub mod Draining
 pub mod Resting
+pub mod Turns

@@ -5,3 +5,4 @@ pub mod Calls
 pub mod Laws
 pub mod Ends
 pub mod Rest
+pub mod Turns

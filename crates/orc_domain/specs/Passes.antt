@@ -1,5 +1,5 @@
 -- The passes of a domain.
-use Rattle.std.specs.Prelude.{◌≡◌, List}
+use Rattle.std.specs.Prelude.{◌≡◌, List, ℕ}
 use Rattle.orc_words.specs.Bounds.{Bounds, bounds_of}
 use Rattle.orc_heap.specs.Heap.{HeapNumbers}
 use Rattle.orc_heap.specs.Seats.{Seat}
@@ -35,6 +35,14 @@ module _ {D N : Type 0} {d : discipline.Ghosts D N} {m : machine.Ghosts Plain N 
   -- what a pass shows
   abbrev pub seat_of : PlainDomain D N → PlainPass D N (PlainShape N) PlainOp (PlainStep N) (Unit {0}) (Unit {0}) d m → Seat N
   seat_of domain p = seat_by (shows domain.board p.pass) p.slots
+
+  -- the row with which the next search of a pass begins
+  abbrev pub next_row : PlainPass D N (PlainShape N) PlainOp (PlainStep N) (Unit {0}) (Unit {0}) d m → ℕ
+  next_row p = p.next
+
+  -- the rows that were given, in that order, by what a pass has seen
+  abbrev pub rows_of : PlainDomain D N → PlainPass D N (PlainShape N) PlainOp (PlainStep N) (Unit {0}) (Unit {0}) d m → List ℕ
+  rows_of domain p = (shows domain.board p.pass).rows
 
   -- the pass is one of the domain's
   pub record IsPassOf (domain : PlainDomain D N) (p : PlainPass D N (PlainShape N) PlainOp (PlainStep N) (Unit {0}) (Unit {0}) d m) : Type 0 where

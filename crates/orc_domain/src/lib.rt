@@ -11,7 +11,7 @@ mod rest;
 mod steps;
 
 pub use domain::{PlainDomain, PlainPass, PlainRest};
-pub use names::{row_link, word_at};
+pub use names::{first_row, row_link, word_at};
 
 #[cfg(test)]
 mod tests;

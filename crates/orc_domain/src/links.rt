@@ -1,13 +1,17 @@
 //! The calls of links, over a board.
 
-ghost use Rattle.std.specs.Prelude.{◌≡◌, ℕ, ◌∷◌, [], None, Some, IfErr, IfOk, refl, true};
+ghost use Rattle.std.specs.Prelude.{◌≡◌, ◌+◌, ◌%◌, ℕ, ◌∷◌, [], None, Some, IfErr, IfOk, refl, true};
 ghost use mathlib.Core.List.{IsPrefix};
 ghost use Rattle.orc_fault.specs.declared.Spent.{Spent};
-ghost use Rattle.orc_heap.specs.Calls.{MayLook, MayMove, RefusesSwing, Swings, Tests};
+ghost use Rattle.orc_heap.specs.Calls.{Gives, MayLook, MayMove, RefusesSwing, Swings, Tests};
 ghost use Rattle.orc_heap.specs.OwnEvents.{Only};
 ghost use Rattle.orc_history.specs.Parts.{InPart};
+ghost use Rattle.orc_heap.specs.Slots.{IsFree};
 ghost use Rattle.orc_heap.specs.Seats.{HoldsPlace, HoldsWant, IsNotFresh, Seat};
-ghost use Rattle.orc_domain.specs.Passes.{IsPassOf, domain_numbers, journal_of, seat_of};
+ghost use Rattle.orc_domain.specs.Given.{IsLacking};
+ghost use Rattle.orc_domain.specs.Passes.{IsPassOf, domain_bounds, domain_numbers, journal_of, next_row, rows_of, seat_of};
+ghost use Rattle.orc_domain.specs.Turns.{IsNext};
+ghost use Rattle.orc_table.specs.Words.{IsOut};
 
 use crate::domain::{PlainDomain, PlainPass};
 use crate::names::{row_link, target_link, word_at};
@@ -16,9 +20,8 @@ use orc_heap::{At, Discipline, Event, Held, Links, Looked, Seen, Want};
 use orc_words::pack_link;
 
 impl<D: Discipline> Links for PlainDomain<D> {
-    ghost use Rattle.orc_domain.specs.Given.{IsLacking};
-    ghost use Rattle.orc_domain.specs.Laws.Passes.{all_allowed, all_below, all_given, all_obey, begins_so, begun, fresh_untouched, held_known, lacking_later, one_more, seen_by};
-    ghost use Rattle.orc_domain.specs.Passes.{domain_bounds, domain_opening};
+    ghost use Rattle.orc_domain.specs.Laws.Passes.{all_allowed, all_below, all_given, all_obey, all_of_agents, begins_so, begun, fresh_untouched, held_known, lacking_later, one_more, seen_by};
+    ghost use Rattle.orc_domain.specs.Passes.{domain_opening};
 
     type Rule = D;
 
@@ -54,13 +57,27 @@ impl<D: Discipline> Links for PlainDomain<D> {
         p.pass.agent()
     }
 
-    fn give(
-        &self,
-        p: &mut PlainPass<D>,
-        slot: u32,
-        first: u64,
-        second: u64,
-    ) -> Result<Held, NoNode> {
+    /// Gives a new node with these values and a null link, held in this slot. It is the pass's fresh node until it is
+    /// linked or released. Its row is the first one, from the row after the one that the pass was given last, that was never given.
+    /// NoNode leaves all as it was.
+    ///
+    /// # Errors
+    ///
+    /// `NoNode` where all rows were given.
+    fn give(&self, p: &mut PlainPass<D>, slot: u32, first: u64, second: u64) -> Result<Held, NoNode>
+        requires pass { IsPassOf self.now p.old }
+        requires slot { IsFree (seat_of self.now p.old).slots slot }
+        requires no_other { (seat_of self.now p.old).fresh ≡ None }
+        ensures pass { IsPassOf self.now p.new }
+        ensures later { IsPrefix (journal_of p.old) (journal_of p.new) }
+        ensures given { IfOk result (λ h. Gives (domain_numbers self.now) slot first second (seat_of self.now p.old) h (seat_of self.now p.new)) }
+        ensures none { IfErr result (λ e. Only [] (seat_of self.now p.old) (seat_of self.now p.new)) }
+        ensures lacking { IfErr result (λ e. InPart (λ s. s.agent) (seat_of self.now p.old).agent (journal_of p.old) (journal_of p.new)
+            (λ from to. IsLacking (domain_bounds self.now).rows (journal_of p.new) to)) }
+        ensures in_turn { IfOk result (λ h. IsNext (domain_bounds self.now).rows (next_row p.old) (IsOut (rows_of self.now p.new)) h.row) }
+        ensures next { IfOk result (λ h. next_row p.new ≡ (h.row + 1) % (domain_bounds self.now).rows) }
+        ensures same_next { IfErr result (λ e. next_row p.new ≡ next_row p.old) }
+    {
         let rows = p.shape.rows();
         let begin = p.next;
         for offset in 0..rows {
@@ -189,6 +206,8 @@ impl<D: Discipline> Links for PlainDomain<D> {
     ghost obeys = { λ d p h. all_obey d p h };
 
     ghost agents_below = { λ d p h. all_below d p h };
+
+    ghost steps_below = { λ d p h. all_of_agents d p h };
 
     ghost fresh_is = { λ d p id h e. fresh_untouched d p h id e };
 

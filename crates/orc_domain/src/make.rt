@@ -1,15 +1,18 @@
 //! New domains.
 
-ghost use Rattle.std.specs.Prelude.{◌≡◌, ◌<◌, [], All, IfOk, None, length, replicate};
+ghost use Rattle.std.specs.Prelude.{◌≡◌, ◌<◌, ◌%◌, [], All, IfOk, None, length, replicate};
 ghost use Rattle.orc_words.specs.Bounds.{bounds_of};
 ghost use Rattle.orc_heap.specs.Seats.{IsIdle};
 ghost use Rattle.orc_shared_words.specs.Lists.{EachAt};
 ghost use Rattle.orc_table.specs.Machine.{numbers};
 ghost use Rattle.orc_heap.specs.Seeds.{SeedAllowed, opening_events};
 ghost use Rattle.orc_shared_words.specs.Lists.{EachFrom};
-ghost use Rattle.orc_domain.specs.Passes.{IsPassOf, domain_bounds, domain_opening, seat_of};
+ghost use Rattle.orc_domain.specs.Passes.{IsPassOf, domain_bounds, domain_opening, next_row, seat_of};
+ghost use Rattle.orc_domain.specs.Turns.{first_row};
+ghost use Rattle.orc_table.specs.Views.{shows_by};
 
 use crate::domain::{PlainDomain, PlainPass};
+use crate::names::first_row;
 use orc_fault::NoMemory;
 use orc_heap::{Discipline, Seed};
 use orc_table::PlainBoard;
@@ -37,6 +40,7 @@ impl<D: Discipline> PlainDomain<D> {
         ensures agents { IfOk result (λ made. EachAt (λ i p. (seat_of made.0 p).agent ≡ i) made.1.items) }
         ensures idle { IfOk result (λ made. All (λ p. IsIdle (seat_of made.0 p)) made.1.items) }
         ensures seen { IfOk result (λ made. All (λ p. (seat_of made.0 p).seen ≡ opening_events seed) made.1.items) }
+        ensures next { IfOk result (λ made. EachAt (λ i p. next_row p ≡ first_row (bounds_of shape.now) i) made.1.items) }
     {
         let (board, passes) = PlainBoard::make(alloc, shape, seed)?;
         let passes = domain_passes(alloc, shape, passes)?;
@@ -54,6 +58,8 @@ fn domain_passes<D: Discipline>(
     ensures same { IfOk result (λ made. EachFrom (λ p. p.pass) made.items passes.items) }
     ensures slots { IfOk result (λ made. All (λ p. p.slots ≡ replicate 8 None) made.items) }
     ensures next { IfOk result (λ made. All (λ p. p.next < (bounds_of shape.now).rows) made.items) }
+    ensures first { IfOk result (λ made. All (λ p. p.next
+        ≡ first_row (bounds_of shape.now) (shows_by (bounds_of shape.now) p.pass).agent % (bounds_of shape.now).rows) made.items) }
     ensures shape { IfOk result (λ made. All (λ p. bounds_of p.shape ≡ bounds_of shape.now) made.items) }
 {
     let made = passes
@@ -68,6 +74,7 @@ fn new_pass<D: Discipline>(shape: &Shape, pass: orc_table::PlainBoardPass<D>) ->
     ensures same { result.pass ≡ pass }
     ensures slots { result.slots ≡ replicate 8 None }
     ensures next { result.next < (bounds_of shape.now).rows }
+    ensures first { result.next ≡ first_row (bounds_of shape.now) (shows_by (bounds_of shape.now) result.pass).agent % (bounds_of shape.now).rows }
     ensures shape { bounds_of result.shape ≡ bounds_of shape.now }
 {
     let next = first_row(shape, pass.agent());
@@ -77,12 +84,4 @@ fn new_pass<D: Discipline>(shape: &Shape, pass: orc_table::PlainBoardPass<D>) ->
         next,
         shape: *shape,
     }
-}
-
-// Answers the row with which an agent begins to look for a free one.
-fn first_row(shape: &Shape, agent: u32) -> u32
-    ensures { result < (bounds_of shape.now).rows }
-{
-    let rows = u64::from(shape.rows());
-    (u64::from(agent) * rows / u64::from(shape.agents()) % rows) as u32
 }

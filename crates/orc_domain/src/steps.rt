@@ -1,12 +1,13 @@
 //! The parts of which the calls are made.
 
-ghost use Rattle.std.specs.Prelude.{◌≡◌, ◌<◌, ◌%◌, MatchBool, None, Some, slice_get};
+ghost use Rattle.std.specs.Prelude.{◌≡◌, ◌<◌, ◌%◌, ◌+◌, MatchBool, None, Some, slice_get};
+ghost use mathlib.Core.List.{IsPrefix};
 ghost use Rattle.orc_heap.specs.Heap.{new_node};
 ghost use Rattle.orc_table.specs.Calls.{KnowsPlace};
 ghost use Rattle.orc_table.specs.Machine.{index_of, place_by};
 ghost use Rattle.orc_table.specs.Views.{heap_of, shows};
 ghost use Rattle.orc_domain.specs.Calls.{Furnishes, IsSame, Loads, Loses, Retires, Takes};
-ghost use Rattle.orc_domain.specs.Passes.{IsPassOf, domain_bounds, domain_numbers, seat_of};
+ghost use Rattle.orc_domain.specs.Passes.{IsPassOf, domain_bounds, domain_numbers, next_row, rows_of, seat_of};
 
 use crate::domain::{PlainDomain, PlainPass};
 use orc_heap::{Discipline, Held};
@@ -50,6 +51,8 @@ impl<D: Discipline> PlainDomain<D> {
         ensures pass { IsPassOf self.now p.new }
         ensures shape { p.new.shape ≡ p.old.shape }
         ensures hold { result ≡ record { row = row; slot = slot } }
+        ensures rows { IsPrefix (rows_of self.now p.old) (rows_of self.now p.new) }
+        ensures next { next_row p.new ≡ (row + 1) % (domain_bounds self.now).rows }
         ensures furnished { Furnishes (domain_numbers self.now) row (index_of row (shows self.now.board p.old.pass).rows) slot first second
             (seat_of self.now p.old) (seat_of self.now p.new) }
     {

@@ -1,7 +1,7 @@
 //! What a domain of links promises the containers that it serves.
 
 ghost use Rattle.std.specs.Prelude.{◌≡◌, ◌≢◌, ℕ, ◌+◌, ◌<◌, ◌≤◌, List, [], ◌∷◌, ◌++◌, take, None, Some, true, ◌==◌, IfOk, IfErr};
-ghost use Rattle.std.specs.List.{list_all};
+ghost use Rattle.std.specs.List.{AllByRecursion, list_all};
 ghost use mathlib.Core.List.{IsPrefix};
 ghost use Rattle.orc_fault.specs.declared.Spent.{Spent};
 ghost use Rattle.orc_heap.specs.Heap.{HeapNumbers};
@@ -215,6 +215,9 @@ pub trait Links {
 
     // each of them is of one of the domain's agents, and so is the pass
     ghost agents_below: { (d : Self) (p : Self.Pass) → belongs d p → ((seat d p).agent < agents d) × IsBelow (agents d) (seat d p).seen };
+
+    // each step of its journal, too, is of one of the domain's agents
+    ghost steps_below: { (d : Self) (p : Self.Pass) → belongs d p → AllByRecursion (λ s. agent_of s < agents d) (journal p) };
 
     // a fresh node was given to the pass's agent, and nothing was linked to it
     ghost fresh_is: { (d : Self) (p : Self.Pass) (id : ℕ) → belongs d p → (seat d p).fresh ≡ Some id

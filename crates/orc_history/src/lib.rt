@@ -8,8 +8,6 @@ mod queue;
 mod set;
 mod sorted_keys;
 mod stored_history;
-#[cfg(test)]
-mod tests;
 
 pub use learn::{LearnQueue, LearnSet};
 pub use plain_queue::{PlainQueue, PlainQueuePass};

@@ -45,14 +45,14 @@ pending_is true o r e = cc
 pending_is false o r e = e
 
 module _ {D N : Type 0} {d : discipline.Ghosts D N} {k : MachineShape N} (s t : Stage d k) (r : ℕ) (to : Option ℕ) (n : ℕ)
-    (m : Steps (LinkStore r 0 (without_mark to)) s n t) (is : Between s) (fresh : names s.view.record_is.fresh r ≡ true)
+    (m : Steps (LinkStore r (without_mark to) 0) s n t) (is : Between s) (fresh : names s.view.record_is.fresh r ≡ true)
     (target : may_target (bounds_in k) s.view.record_is to ≡ true)
     (other : (x : ℕ) → to ≡ Some x → names s.view.record_is.fresh x ≡ false) where
   abbrev b : Bounds
   b = bounds_in k
 
   abbrev q : Request
-  q = asks (LinkStore r 0 (without_mark to))
+  q = asks (LinkStore r (without_mark to) 0)
 
   abbrev j : List (Step N)
   j = s.view.journal ++ m.met
@@ -123,5 +123,5 @@ module _ {D N : Type 0} {d : discipline.Ghosts D N} {k : MachineShape N} (s t : 
         (untouched_at s t _ stored.puts id (ap (λ y. y || false) (no_self to refl id same)) (is.untouched id was))
 
     pub stored_leaves : LeavesNothing s.view.agent s.view.journal u.view.journal
-    stored_leaves = leaves_then s.view.agent s.view.journal t.view.journal u.view.journal (leaves_one s t (LinkStore r 0 (without_mark to)) n m tt)
+    stored_leaves = leaves_then s.view.agent s.view.journal t.view.journal u.view.journal (leaves_one s t (LinkStore r (without_mark to) 0) n m tt)
         (subst (λ a. LeavesNothing a t.view.journal u.view.journal) m.agent z.leaves)

@@ -26,7 +26,8 @@ use Rattle.orc_reclaiming_domain.proofs.Protecting.{same_then}
 use Rattle.orc_reclaiming_domain.proofs.Searching.{idle_none}
 use Rattle.orc_reclaiming_domain.proofs.Seats.{only, sets}
 use Rattle.orc_reclaiming_domain.proofs.Setting.{clear_may, set_same, set_twice}
-use Rattle.orc_reclaiming_domain.proofs.Stages.{Stage, Steps, done_none, done_one, done_then, seat}
+use Rattle.orc_board_settling.proofs.TakenIn.{done_none, done_then}
+use Rattle.orc_reclaiming_domain.proofs.Stages.{Stage, Steps, done_one, seat}
 use Rattle.orc_machine_board.proofs.Licences.{has_either}
 use Rattle.orc_reclaiming_domain.specs.Calls.{SameParts, Unlocks}
 use Rattle.orc_reclaiming_domain.specs.Changes.{Becomes, IsCountable}

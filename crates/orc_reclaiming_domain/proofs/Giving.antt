@@ -36,7 +36,8 @@ use Rattle.orc_projection.specs.PresentIds.{PresentIds, no_ids}
 use Rattle.orc_projection.specs.Projection.{present_ids}
 use Rattle.orc_reclaiming_domain.proofs.Protecting.{empty_slot, held_ready, publish_may, still_ready}
 use Rattle.orc_reclaiming_domain.proofs.Seats.{calm_forced, ids_keep, only, ready_calm, sets}
-use Rattle.orc_reclaiming_domain.proofs.Stages.{Between, Stage, Steps, done_later, done_one, seat}
+use Rattle.orc_board_settling.proofs.TakenIn.{done_later}
+use Rattle.orc_reclaiming_domain.proofs.Stages.{Between, Stage, Steps, done_one, seat}
 use Rattle.orc_reclaiming_domain.specs.Searches.{Gets}
 use Rattle.orc_reclaiming_domain.specs.Seats.{IsCalm, IsReady, SetsSlot}
 use Rattle.orc_words.specs.Bounds.{Bounds}
@@ -232,8 +233,10 @@ module _ {D N : Type 0} {d : discipline.Ghosts D N} {k : MachineShape N} where
                     (record { node = given_node s.view.agent first second; there = g.node; mine = refl; unnamed = refl; unlinked = refl });
               }
 
-          pub gives_later : IsPrefix s.view.journal w.view.journal
-          gives_later = goes_on s.view.journal t.view.journal w.view.journal (took.got.more, sym took.got.journal)
-              (goes_on t.view.journal u.view.journal w.view.journal (done_later _ _ _ _ (done_one (asks (FillStep r 0 first)) None t u n1 m1))
+          pub filled_later : IsPrefix t.view.journal w.view.journal
+          filled_later = (goes_on t.view.journal u.view.journal w.view.journal (done_later _ _ _ _ (done_one (asks (FillStep r 0 first)) None t u n1 m1))
               (goes_on u.view.journal v.view.journal w.view.journal (done_later _ _ _ _ (done_one (asks (FillStep r 1 second)) None u v n2 m2))
               (done_later _ _ _ _ (done_one (asks (Publish slot r)) None v w n3 m3))))
+
+          pub gives_later : IsPrefix s.view.journal w.view.journal
+          gives_later = goes_on s.view.journal t.view.journal w.view.journal (took.got.more, sym took.got.journal) filled_later

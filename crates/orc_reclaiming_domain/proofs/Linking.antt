@@ -116,12 +116,12 @@ module _ {D N : Type 0} {d : discipline.Ghosts D N} {k : MachineShape N} (s : St
   -- the link of the fresh row may be set
   pub store_can : (r : ℕ) (to : Option ℕ) → IsReady s.view.record_is → names s.view.record_is.fresh r ≡ true
       → may_target (bounds_in k) s.view.record_is to ≡ true → may_change s.view.record_is ((bounds_in k).limit + 64) None to ≡ true
-      → MayDo (bounds_in k) s.view (LinkStore r 0 (without_mark to))
+      → MayDo (bounds_in k) s.view (LinkStore r (without_mark to) 0)
   store_can r to ready fresh target change =
       let e = s.view.record_is in
       let agent = lt-ltb s.view.agent (bounds_in k).agents s.number in
       let on = ready.enrolled in
-      let first = calm_forced e (LinkStore r 0 (without_mark to)) (ready_calm e ready) in
+      let first = calm_forced e (LinkStore r (without_mark to) 0) (ready_calm e ready) in
       let row = lt-ltb r (bounds_in k).rows (has_low s r (or_right (any_holds e.slots r) (names e.fresh r) fresh)) in
       let link = lt-ltb 0 (bounds_in k).links k.shape.some_links in
       let empty : is_empty (slot_of e 0) ≡ true = ap is_empty ready.zero in

@@ -46,7 +46,8 @@ use Rattle.orc_reclaiming_domain.proofs.Loading.{found_out, ids_same, load_may, 
 use Rattle.orc_reclaiming_domain.proofs.Protecting.{either_way, empty_slot, held_ready, promoted_fresh, promoted_full, publish_may, reload_may, still_ready, target_named, true_false, word_row}
 use Rattle.orc_reclaiming_domain.proofs.Seats.{before_keep, ids_keep, ready_calm, sets}
 use Rattle.orc_reclaiming_domain.proofs.Setting.{clear_may, set_back, set_same, set_twice}
-use Rattle.orc_reclaiming_domain.proofs.Stages.{Between, Stage, Steps, before_lawful, before_out, before_unmarked, done_one, done_then, seat}
+use Rattle.orc_board_settling.proofs.TakenIn.{done_then}
+use Rattle.orc_reclaiming_domain.proofs.Stages.{Between, Stage, Steps, before_lawful, before_out, before_unmarked, done_one, seat}
 use Rattle.orc_reclaiming_domain.proofs.Untouched.{still_between, untouched_more}
 use Rattle.orc_reclaiming_domain.specs.Calls.{SameParts, Unlocks}
 use Rattle.orc_board_settling.specs.OwnSteps.{HasDone, LeavesNothing}

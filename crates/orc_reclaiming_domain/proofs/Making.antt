@@ -10,6 +10,7 @@ use Rattle.orc_heap.specs.Seats.{IsIdle}
 use Rattle.orc_heap.specs.Seeds.{SeedAllowed, opening_events}
 use Rattle.orc_heap.specs.declared.discipline.Discipline as discipline
 use Rattle.orc_heap.specs.declared.seed.Seed.{Seed}
+use Rattle.orc_layout.specs.Layout.{layout_of}
 use Rattle.orc_machine_board.proofs.Opening.{opened_events, seed_roots}
 use Rattle.orc_machine_board.specs.Laws.Steps.{in_range}
 use Rattle.orc_machine_board.specs.Licences.{ids_of}
@@ -98,7 +99,7 @@ module _ {D N : Type 0} {d : discipline.Ghosts D N} {m : machine.Ghosts Reclaimi
       → All (λ (q : BoardPass d m). (shows q).journal ≡ machine_opening (bounds_of shape).agents seed) ys
       → All (λ (p : DomainPass d m). (seat_of domain p).seen ≡ opening_events seed) xs
   opening_seen e domain xs ys long same shape seed bounds began can journals i p l =
-      let k : MachineShape N = record { shape = shape; seed = seed } in
+      let k : MachineShape N = record { shape = shape; seed = seed; layout = layout_of (bounds_of shape); laid = refl } in
       let q = slice_index_or xs i p in
       let journal = each_pass domain xs ys long same (λ r. (shows r).journal ≡ machine_opening (bounds_of shape).agents seed) journals i p l in
       (λ x. project (bounds x) (journal x)) ∙ opened_events (bounds_of shape) seed (in_range shape) (seed_roots e k began seed can)

@@ -31,7 +31,8 @@ use Rattle.orc_reclaiming_domain.proofs.Held.{has_low, hold_slot}
 use Rattle.orc_reclaiming_domain.proofs.Protecting.{still_ready, true_false}
 use Rattle.orc_reclaiming_domain.proofs.Releasing.{release_between, release_can}
 use Rattle.orc_reclaiming_domain.proofs.Seats.{calm_forced, puts, ready_calm, slots_keep}
-use Rattle.orc_reclaiming_domain.proofs.Stages.{Between, Stage, Steps, before_lawful, before_out, before_record, before_unmarked, done_none, done_one, done_then, seat, whole_lawful}
+use Rattle.orc_board_settling.proofs.TakenIn.{done_none, done_then}
+use Rattle.orc_reclaiming_domain.proofs.Stages.{Between, Stage, Steps, before_lawful, before_out, before_record, before_unmarked, done_one, seat, whole_lawful}
 use Rattle.orc_reclaiming_domain.proofs.Untouched.{untouched_before}
 use Rattle.orc_reclaiming_domain.proofs.Wearing.{check_may}
 use Rattle.orc_reclaiming_domain.specs.Calls.{Retires, SameParts, Unlocks}

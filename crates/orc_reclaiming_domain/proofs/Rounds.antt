@@ -1,5 +1,5 @@
 -- All rows were tried, and none could be given.
-use Rattle.std.proofs.Common.{List, None, Some, [], ap, append_assoc, append-nil, arith, length, length-append, subst, suc, sym, take, zero, ℕ, ◌++◌, ◌+◌, ◌-◌, ◌%◌, ◌<◌, ◌∙◌, ◌≡◌, ◌∷◌, ◌≤◌}
+use Rattle.std.proofs.Common.{List, None, Some, [], ap, append_assoc, append-nil, arith, length, length-append, refl, subst, suc, sym, take, zero, ℕ, ◌++◌, ◌+◌, ◌-◌, ◌%◌, ◌<◌, ◌∙◌, ◌≡◌, ◌∷◌, ◌≤◌}
 use Rattle.std.proofs.Math.Decide.{dec_lt}
 use Rattle.std.proofs.Math.Seq.{take-append_seam, take-length}
 use Rattle.std.proofs.Math.Nat.{add-mod_right, mod-eq_of_lt}
@@ -17,6 +17,7 @@ use Rattle.orc_heap.specs.OwnEvents.{Puts}
 use Rattle.orc_heap.specs.declared.events.Act.TheVariants.{Give}
 use Rattle.orc_heap.specs.declared.events.Event.{Event}
 use Rattle.orc_projection.specs.Mirror.{numbers_of}
+use Rattle.orc_domain.specs.Turns.{IsNext}
 use Rattle.orc_domain.proofs.Counting.{nodes_stay}
 use Rattle.orc_machine_board.specs.Licences.{ids_of}
 use Rattle.orc_reclaiming_domain.specs.Seats.{seat_by}
@@ -109,6 +110,27 @@ module _ {N : Type 0} where
         subst (λ z. Found b s.agent s.journal u.journal ((begin + z) % rows)) (sym e)
         (found_since b s.agent s.journal t.journal u.journal ((begin + offset) % rows) long
         (subst (λ z. Found b z t.journal u.journal ((begin + offset) % rows)) p.idle.only.puts.agent f.found)));
+  }
+
+  -- the row that is tried next, where the others couldn't be given
+  pub tries_next : (b : Bounds) (begin offset : ℕ) (s t : MachineView N) (after : List (Step N)) → Tries b begin b.rows offset s t → offset < b.rows
+      → IsPrefix t.journal after → IsNext b.rows begin (Found b s.agent s.journal after) ((begin + offset) % b.rows)
+  tries_next b begin offset s t after p low more = record {
+    offset = offset;
+    low = low;
+    is = refl;
+    passed = λ k h. subst (λ z. Found b s.agent s.journal z ((begin + k) % b.rows)) more.1
+        (found_grows b s.agent s.journal t.journal more.0 ((begin + k) % b.rows) (p.found k h));
+  }
+
+  pub next_grows : (b : Bounds) (begin a row : ℕ) (before after later : List (Step N)) → IsPrefix after later
+      → IsNext b.rows begin (Found b a before after) row → IsNext b.rows begin (Found b a before later) row
+  next_grows b begin a row before after later more p = record {
+    offset = p.offset;
+    low = p.low;
+    is = p.is;
+    passed = λ k h. subst (λ z. Found b a before z ((begin + k) % b.rows)) more.1
+        (found_grows b a before after more.0 ((begin + k) % b.rows) (p.passed k h));
   }
 
   -- the row that is taken after others were tried

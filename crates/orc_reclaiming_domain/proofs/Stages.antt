@@ -1,8 +1,6 @@
 -- Points of a call: what a pass shows there, what is true of it, and what one step does from one to the next.
-use Rattle.std.proofs.Common.{List, Option, [], ap, append_assoc, append-nil, refl, subst, sym, ℕ, ◌++◌, ◌<◌, ◌∙◌, ◌≡◌, ◌∷◌}
+use Rattle.std.proofs.Common.{List, Option, [], ap, append_assoc, refl, subst, sym, ℕ, ◌++◌, ◌<◌, ◌∙◌, ◌≡◌, ◌∷◌}
 use Rattle.std.specs.Prelude.{map}
-use mathlib.Core.List.{IsPrefix}
-use Rattle.orc_board_settling.proofs.Joins.{ops-append}
 use Rattle.orc_board_settling.specs.OwnSteps.{HasDone}
 use Rattle.orc_core.specs.Machine.{new_machine, record_at}
 use Rattle.orc_core.specs.declared.ops.Op.{Op}
@@ -100,17 +98,3 @@ module _ {D N : Type 0} where
             ∙ (ap (λ l. l ++ own_of (λ (x : Step N). x.agent) s.view.agent (its_step ∷ [])) m.others
             ∙ by_own (λ (x : Step N). x.agent) s.view.agent its_step [] refl));
       }
-
-module _ {N : Type 0} where
-  pub done_none : (a : ℕ) (j : List (Step N)) → HasDone a [] j j
-  done_none a j = record { part = []; is = sym (append-nil j); own = refl }
-
-  pub done_then : (a : ℕ) (x y z : List (Step N)) (ops more : List Op) → HasDone a ops x y → HasDone a more y z → HasDone a (ops ++ more) x z
-  done_then a x y z ops more p q = record {
-    part = p.part ++ q.part;
-    is = q.is ∙ (ap (λ l. l ++ q.part) p.is ∙ append_assoc x p.part q.part);
-    own = ops-append a p.part q.part ∙ (λ i. p.own i ++ q.own i);
-  }
-
-  pub done_later : (a : ℕ) (x y : List (Step N)) (ops : List Op) → HasDone a ops x y → IsPrefix x y
-  done_later a x y ops p = (p.part, sym p.is)

@@ -1,5 +1,5 @@
 -- What was handed over beside empty slots is taken in.
-use Rattle.std.proofs.Common.{List, None, [], ap, append_assoc, arith, false, refl, subst, sym, true, ℕ, ◌++◌, ◌+◌, ◌<◌, ◌∙◌, ◌≡◌, ◌∷◌}
+use Rattle.std.proofs.Common.{List, None, [], ap, arith, false, refl, subst, sym, true, ℕ, ◌+◌, ◌<◌, ◌∙◌, ◌≡◌, ◌∷◌}
 use Rattle.std.proofs.Math.Decide.{dec_lt}
 use Rattle.std.proofs.lemmas.Bool.{false≢true}
 use Rattle.std.proofs.lemmas.List.{length-map}
@@ -20,41 +20,22 @@ use Rattle.orc_machine_board.specs.declared.machine.MachineShape.{MachineShape}
 use Rattle.orc_reclaiming_domain.proofs.Protecting.{empty_slot}
 use Rattle.orc_reclaiming_domain.proofs.Searching.{idle_none, idle_trans, idles}
 use Rattle.orc_reclaiming_domain.proofs.Setting.{take_in_may}
-use Rattle.orc_reclaiming_domain.proofs.Stages.{Stage, Steps, done_one, done_then, seat}
+use Rattle.orc_board_settling.proofs.TakenIn.{done_some, done_then, taken_since, taken_then}
+use Rattle.orc_reclaiming_domain.proofs.Stages.{Stage, Steps, done_one, seat}
 use Rattle.orc_reclaiming_domain.specs.Calls.{SameParts}
-use Rattle.orc_board_settling.specs.OwnSteps.{HasDone, ops_of}
-use Rattle.orc_reclaiming_domain.specs.OwnSteps.{HasTakenIn, TakesInFree}
+use Rattle.orc_board_settling.specs.OwnSteps.{HasDone, HasTakenIn, ops_of}
+use Rattle.orc_reclaiming_domain.specs.OwnSteps.{TakesInFree}
 use Rattle.orc_reclaiming_domain.specs.Searches.{Idles}
 use Rattle.orc_reclaiming_domain.specs.Seats.{IsCalm, IsReady, slot_by}
 use Rattle.orc_sound.specs.declared.steps.Step.{Step}
 use Rattle.orc_words.specs.Bounds.{Bounds}
 
 module _ {N : Type 0} where
-  -- the agent's ops in what is new
-  done_some : (a : ℕ) (x y : List (Step N)) (p : IsPrefix x y) → HasDone a (ops_of a p.0) x y
-  done_some a x y p = record { part = p.0; is = sym p.1; own = refl }
-
-  pub taken_then : (a slot : ℕ) (x y z : List (Step N)) → HasTakenIn a slot x y → IsPrefix y z → HasTakenIn a slot x z
-  taken_then a slot x y z t p = record {
-    earlier = t.earlier;
-    later = t.later ++ ops_of a p.0;
-    done = subst (λ ops. HasDone a ops x z) (append_assoc t.earlier (TakeIn slot ∷ t.later) (ops_of a p.0))
-        (done_then a x y z (t.earlier ++ TakeIn slot ∷ t.later) (ops_of a p.0) t.done (done_some a y z p));
-  }
-
   taken_last : (a slot : ℕ) (x y z : List (Step N)) → IsPrefix x y → HasDone a (TakeIn slot ∷ []) y z → HasTakenIn a slot x z
   taken_last a slot x y z p d = record {
     earlier = ops_of a p.0;
     later = [];
     done = done_then a x y z (ops_of a p.0) (TakeIn slot ∷ []) (done_some a x y p) d;
-  }
-
-  taken_since : (a slot : ℕ) (x y z : List (Step N)) → IsPrefix x y → HasTakenIn a slot y z → HasTakenIn a slot x z
-  taken_since a slot x y z p t = record {
-    earlier = ops_of a p.0 ++ t.earlier;
-    later = t.later;
-    done = subst (λ ops. HasDone a ops x z) (sym (append_assoc (ops_of a p.0) t.earlier (TakeIn slot ∷ t.later)))
-        (done_then a x y z (ops_of a p.0) (t.earlier ++ TakeIn slot ∷ t.later) (done_some a x y p) t.done);
   }
 
   -- beside the empty ones of this many slots was taken in

@@ -42,6 +42,10 @@ module _ {D N : Type 0} {d : discipline.Ghosts D N} {m : machine.Ghosts Reclaimi
   abbrev pub seat_of : OrcDomain D N → OrcPass D N (MachineShape N) Request (Step N) Agent Agent d m → Seat N
   seat_of domain p = seat_by (domain_bounds domain) (shows p.pass)
 
+  -- the row with which the next search of a pass begins
+  abbrev pub next_row : OrcPass D N (MachineShape N) Request (Step N) Agent Agent d m → ℕ
+  next_row p = p.next
+
   -- the pass is one of the domain's: nothing is pending in it, its fresh node is untouched, and it goes on from a row of the table
   pub record IsPassOf (domain : OrcDomain D N) (p : OrcPass D N (MachineShape N) Request (Step N) Agent Agent d m) : Type 0 where
     pub board : Belongs domain.board p.pass

@@ -1,19 +1,19 @@
 //! Passes that end their work.
 
-ghost use Rattle.std.specs.Prelude.{◌≡◌, ◌≢◌, [], suc};
+ghost use Rattle.std.specs.Prelude.{◌≡◌, ◌≢◌, ◌+◌, ◌*◌, [], suc};
 ghost use Rattle.std.specs.List.{AllByRecursion};
 ghost use mathlib.Core.List.{IsPrefix};
 ghost use Rattle.orc_heap.specs.OwnEvents.{Only};
 ghost use Rattle.orc_heap.specs.Seats.{IsIdle};
 ghost use Rattle.orc_history.specs.Parts.{IsAlone};
 ghost use Rattle.orc_board_draining.specs.Drains.{Drains};
-ghost use Rattle.orc_board_settling.specs.OwnSteps.{LeavesNothing};
+ghost use Rattle.orc_board_settling.specs.OwnSteps.{AtMostMore, LeavesNothing, TakesInAll, most_rounds, steps_a_round};
 ghost use Rattle.orc_machine_board.specs.Passes.{backlog_in};
 ghost use Rattle.orc_machine_board.specs.Rules.{run_of};
 ghost use Rattle.orc_machine_board.specs.Views.{shows};
 ghost use Rattle.orc_reclaiming_domain.specs.Drains.{AreNumbered, DrainInTurn, HearsSteps, StepsRound};
 ghost use Rattle.orc_reclaiming_domain.specs.Ends.{AddsNoEvents, AreAll, AreIdle, HaveNoBacklog, IsNoLonger, SawAll, SawOneList, whole_journal};
-ghost use Rattle.orc_reclaiming_domain.specs.Passes.{IsPassOf, domain_bounds, journal_of, seat_of};
+ghost use Rattle.orc_reclaiming_domain.specs.Passes.{IsPassOf, domain_bounds, journal_of, next_row, seat_of};
 ghost use Rattle.orc_rest.specs.Rest.{IsAtRest};
 ghost use Rattle.orc_settling.specs.Turns.{NoneHanded};
 
@@ -22,8 +22,8 @@ use orc_board_draining::drain;
 use orc_heap::{Discipline, Links};
 
 impl<D: Discipline> OrcDomain<D> {
-    /// Takes in what was handed over beside each of the eight slots, and settles. What is left afterwards is left only where
-    /// another agent steps meanwhile.
+    /// Takes in what was handed over beside each of the eight slots, and settles, in at most `4 * (rows + 8 * agents)` rounds. What
+    /// is left afterwards is left only where another agent steps meanwhile.
     pub fn drain(&self, p: &mut OrcPass<D>)
         requires pass { IsPassOf self.now p.old }
         requires idle { IsIdle (seat_of self.now p.old) }
@@ -37,6 +37,10 @@ impl<D: Discipline> OrcDomain<D> {
             → NoneHanded (seat_of self.now p.old).agent (run_of (domain_bounds self.now) (journal_of p.new)) }
         ensures taken_in { LeavesNothing (seat_of self.now p.old).agent (journal_of p.old) (journal_of p.new) }
         ensures drains { Drains (domain_bounds self.now) (seat_of self.now p.old).agent (shows p.old.pass) (shows p.new.pass) }
+        ensures takes_all { TakesInAll (seat_of self.now p.old).agent (journal_of p.old) (journal_of p.new) }
+        ensures few { AtMostMore (seat_of self.now p.old).agent (8 + most_rounds (domain_bounds self.now) * steps_a_round (domain_bounds self.now))
+            (journal_of p.old) (journal_of p.new) }
+        ensures next { next_row p.new ≡ next_row p.old }
     {
         drain(&self.board, &mut p.pass);
     }

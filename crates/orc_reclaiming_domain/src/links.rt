@@ -1,8 +1,9 @@
 //! The calls of links, over the board.
 
-ghost use Rattle.std.specs.Prelude.{◌≡◌, ◌<◌, ◌*◌, ◌∷◌, [], IfErr, IfOk, None, refl};
+ghost use Rattle.std.specs.Prelude.{◌≡◌, ◌≢◌, ◌<◌, ◌*◌, ◌+◌, ◌%◌, ◌∷◌, [], IfErr, IfOk, None, refl};
 ghost use mathlib.Core.List.{IsPrefix};
-ghost use Rattle.orc_heap.specs.Calls.{Gives, Looks, MayAim, MayLook, MayMove, ReadsValue, RefusesAim, RefusesSwing, Releases, Swings, Tests, aim_of, fill_of};
+ghost use Rattle.orc_domain.specs.Turns.{IsNext};
+ghost use Rattle.orc_heap.specs.Calls.{Gives, Learns, Looks, MayAim, MayLook, MayMove, ReadsValue, RefusesAim, RefusesSwing, Releases, Swings, Tests, aim_of, fill_of};
 ghost use Rattle.orc_heap.specs.Journals.{run_heap};
 ghost use Rattle.orc_heap.specs.OwnEvents.{Only};
 ghost use Rattle.orc_heap.specs.Seats.{HoldsFresh, HoldsPlace, HoldsTarget, HoldsWant, IsIdle, IsNotFresh, place_in};
@@ -11,7 +12,8 @@ ghost use Rattle.orc_history.specs.Parts.{InPart, IsAlone};
 ghost use Rattle.orc_reclaiming_domain.specs.Causes.{IsLacking, IsWornIn};
 ghost use Rattle.orc_board_settling.specs.OwnSteps.{AtMostMore, LeavesNothing, most_rounds, steps_a_round};
 ghost use Rattle.orc_reclaiming_domain.specs.OwnSteps.{TakesInFree};
-ghost use Rattle.orc_reclaiming_domain.specs.Passes.{IsPassOf, domain_bounds, domain_numbers, journal_of, seat_of};
+ghost use Rattle.orc_reclaiming_domain.specs.Passes.{IsPassOf, domain_bounds, domain_numbers, journal_of, next_row, seat_of};
+ghost use Rattle.orc_reclaiming_domain.specs.Searches.{Found};
 
 use crate::domain::{OrcDomain, OrcPass};
 use orc_board_settling::settle;
@@ -28,7 +30,7 @@ impl<D: Discipline> Links for OrcDomain<D> {
     ghost use Rattle.orc_reclaiming_domain.specs.Laws.Adding.{one_more};
     ghost use Rattle.orc_reclaiming_domain.specs.Laws.Lacking.{lacking_all};
     ghost use Rattle.orc_reclaiming_domain.specs.Laws.Lasting.{lacking_later, worn_later};
-    ghost use Rattle.orc_reclaiming_domain.specs.Laws.Passes.{all_allowed, all_below, all_obey, begins_so, begun, fresh_untouched, held_known};
+    ghost use Rattle.orc_reclaiming_domain.specs.Laws.Passes.{all_allowed, all_below, all_obey, all_of_agents, begins_so, begun, fresh_untouched, held_known};
     ghost use Rattle.orc_reclaiming_domain.specs.Passes.{domain_opening};
 
     type Rule = D;
@@ -66,7 +68,7 @@ impl<D: Discipline> Links for OrcDomain<D> {
     }
 
     /// Gives a new node with these values and a null link, held in this slot. It is the pass's fresh node until it is
-    /// linked or released. NoNode leaves what the pass holds as it was, and comes once what was handed over beside each
+    /// linked or released. Its row is the first one, from the row after the one that the pass was given last, that could be given. NoNode leaves what the pass holds as it was, and comes once what was handed over beside each
     /// empty slot was taken in: the pass settles it next.
     ///
     /// # Errors
@@ -83,6 +85,10 @@ impl<D: Discipline> Links for OrcDomain<D> {
         ensures lacking { IfErr result (λ e. InPart (λ s. s.agent) (seat_of self.now p.old).agent (journal_of p.old) (journal_of p.new)
             (IsLacking (domain_bounds self.now) (seat_of self.now p.old).agent (journal_of p.new))) }
         ensures taken_in { IfErr result (λ e. TakesInFree (seat_of self.now p.old) (journal_of p.old) (journal_of p.new)) }
+        ensures in_turn { IfOk result (λ h. IsNext (domain_bounds self.now).rows (next_row p.old)
+            (Found (domain_bounds self.now) (seat_of self.now p.old).agent (journal_of p.old) (journal_of p.new)) h.row) }
+        ensures next { IfOk result (λ h. next_row p.new ≡ (h.row + 1) % (domain_bounds self.now).rows) }
+        ensures same_next { IfErr result (λ e. next_row p.new ≡ next_row p.old) }
     {
         let begin = p.next;
         let Some(row) = self.search(&mut p.pass, begin) else {
@@ -104,6 +110,7 @@ impl<D: Discipline> Links for OrcDomain<D> {
         ensures later { IsPrefix (journal_of p.old) (journal_of p.new) }
         ensures filled { Only (fill_of (seat_of self.now p.old) fresh.now which value ∷ []) (seat_of self.now p.old) (seat_of self.now p.new) }
         ensures taken_in { LeavesNothing (seat_of self.now p.old).agent (journal_of p.old) (journal_of p.new) }
+        ensures next { next_row p.new ≡ next_row p.old }
     {
         self.board.fill(&mut p.pass, fresh.row(), which, value);
     }
@@ -118,6 +125,7 @@ impl<D: Discipline> Links for OrcDomain<D> {
         ensures later { IsPrefix (journal_of p.old) (journal_of p.new) }
         ensures looked { Looks (place_in (seat_of self.now p.old).slots place.now) slot (seat_of self.now p.old) result (seat_of self.now p.new) }
         ensures taken_in { LeavesNothing (seat_of self.now p.old).agent (journal_of p.old) (journal_of p.new) }
+        ensures next { next_row p.new ≡ next_row p.old }
     {
         let word = word_at(place);
         let one = self.load(&mut p.pass, word, None);
@@ -160,6 +168,7 @@ impl<D: Discipline> Links for OrcDomain<D> {
         ensures later { IsPrefix (journal_of p.old) (journal_of p.new) }
         ensures tested { Tests place.now link.now note (seat_of self.now p.old) result (seat_of self.now p.new) }
         ensures taken_in { LeavesNothing (seat_of self.now p.old).agent (journal_of p.old) (journal_of p.new) }
+        ensures next { next_row p.new ≡ next_row p.old }
     {
         let want = row_link(link);
         let found = self
@@ -177,6 +186,7 @@ impl<D: Discipline> Links for OrcDomain<D> {
         ensures value { ReadsValue (run_heap (domain_numbers self.now) (seat_of self.now p.new).seen) (id_in (seat_of self.now p.old).slots h.now) which result }
         ensures nothing { Only [] (seat_of self.now p.old) (seat_of self.now p.new) }
         ensures taken_in { LeavesNothing (seat_of self.now p.old).agent (journal_of p.old) (journal_of p.new) }
+        ensures next { next_row p.new ≡ next_row p.old }
     {
         self.board.read(&mut p.pass, h.row(), which)
     }
@@ -199,6 +209,7 @@ impl<D: Discipline> Links for OrcDomain<D> {
         ensures worn { IfErr result (λ e. InPart (λ s. s.agent) (seat_of self.now p.old).agent (journal_of p.old) (journal_of p.new)
             (IsWornIn (domain_bounds self.now) (seat_of self.now p.old).agent e (journal_of p.new))) }
         ensures taken_in { LeavesNothing (seat_of self.now p.old).agent (journal_of p.old) (journal_of p.new) }
+        ensures next { next_row p.new ≡ next_row p.old }
     {
         let Some(h) = to else {
             self.store(&mut p.pass, fresh.row(), None);
@@ -237,6 +248,7 @@ impl<D: Discipline> Links for OrcDomain<D> {
         ensures worn { IfErr result (λ e. InPart (λ s. s.agent) (seat_of self.now p.old).agent (journal_of p.old) (journal_of p.new)
             (IsWornIn (domain_bounds self.now) (seat_of self.now p.old).agent e (journal_of p.new))) }
         ensures taken_in { LeavesNothing (seat_of self.now p.old).agent (journal_of p.old) (journal_of p.new) }
+        ensures next { next_row p.new ≡ next_row p.old }
     {
         self.prepare(&mut p.pass, from, to)?;
         let done = self.exchange(&mut p.pass, place, from, to, note);
@@ -252,6 +264,7 @@ impl<D: Discipline> Links for OrcDomain<D> {
         ensures later { IsPrefix (journal_of p.old) (journal_of p.new) }
         ensures released { Releases (seat_of self.now p.old) h (seat_of self.now p.new) }
         ensures taken_in { LeavesNothing (seat_of self.now p.old).agent (journal_of p.old) (journal_of p.new) }
+        ensures next { next_row p.new ≡ next_row p.old }
     {
         self.give_up(&mut p.pass, h.row());
         self.unlock(&mut p.pass, h.slot());
@@ -272,11 +285,19 @@ impl<D: Discipline> Links for OrcDomain<D> {
         ensures few { AtMostMore (seat_of self.now p.old).agent (most_rounds (domain_bounds self.now) * steps_a_round (domain_bounds self.now))
             (journal_of p.old) (journal_of p.new) }
         ensures taken_in { LeavesNothing (seat_of self.now p.old).agent (journal_of p.old) (journal_of p.new) }
+        ensures next { next_row p.new ≡ next_row p.old }
     {
         settle(&self.board, &mut p.pass);
     }
 
-    fn learn(&self, into: &mut OrcPass<D>, from: &mut OrcPass<D>) {
+    fn learn(&self, into: &mut OrcPass<D>, from: &mut OrcPass<D>)
+        requires passes { IsPassOf self.now into.old × IsPassOf self.now from.old }
+        requires agents { (seat_of self.now into.old).agent ≢ (seat_of self.now from.old).agent }
+        ensures passes { IsPassOf self.now into.new × IsPassOf self.now from.new }
+        ensures learned { Learns (λ s. s.agent) (seat_of self.now into.old) (seat_of self.now from.old) (seat_of self.now into.new)
+            (seat_of self.now from.new) (journal_of into.old) (journal_of from.old) (journal_of into.new) (journal_of from.new) }
+        ensures next { (next_row into.new ≡ next_row into.old) × (next_row from.new ≡ next_row from.old) }
+    {
         self.board.learn(&mut into.pass, &mut from.pass);
     }
 
@@ -293,6 +314,8 @@ impl<D: Discipline> Links for OrcDomain<D> {
     ghost obeys = { λ d p h. all_obey d p h };
 
     ghost agents_below = { λ d p h. all_below d p h };
+
+    ghost steps_below = { λ d p h. all_of_agents d p h };
 
     ghost fresh_is = { λ d p id h e. fresh_untouched d p h id e };
 

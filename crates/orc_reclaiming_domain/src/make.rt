@@ -1,15 +1,17 @@
 //! New domains.
 
-ghost use Rattle.std.specs.Prelude.{◌≡◌, ◌<◌, [], All, IfOk, length};
+ghost use Rattle.std.specs.Prelude.{◌≡◌, ◌<◌, ◌%◌, [], All, IfOk, length};
 ghost use Rattle.orc_words.specs.Bounds.{bounds_of};
+ghost use Rattle.orc_domain.specs.Turns.{first_row};
 ghost use Rattle.orc_heap.specs.Seats.{IsIdle};
 ghost use Rattle.orc_heap.specs.Seeds.{SeedAllowed, opening_events};
-ghost use Rattle.orc_machine_board.specs.Views.{board_seed};
+ghost use Rattle.orc_machine_board.specs.Views.{board_seed, shows};
 ghost use Rattle.orc_projection.specs.Mirror.{numbers_of};
 ghost use Rattle.orc_shared_words.specs.Lists.{EachAt, EachFrom};
-ghost use Rattle.orc_reclaiming_domain.specs.Passes.{IsPassOf, domain_bounds, domain_opening, seat_of};
+ghost use Rattle.orc_reclaiming_domain.specs.Passes.{IsPassOf, domain_bounds, domain_opening, next_row, seat_of};
 
 use crate::domain::{OrcDomain, OrcPass};
+use orc_domain::first_row;
 use orc_fault::NoMemory;
 use orc_heap::{Discipline, Seed};
 use orc_machine_board::{MachineBoard, MachineBoardPass};
@@ -38,6 +40,7 @@ impl<D: Discipline> OrcDomain<D> {
         ensures agents { IfOk result (λ made. EachAt (λ i p. (seat_of made.0 p).agent ≡ i) made.1.items) }
         ensures idle { IfOk result (λ made. All (λ p. IsIdle (seat_of made.0 p)) made.1.items) }
         ensures seen { IfOk result (λ made. All (λ p. (seat_of made.0 p).seen ≡ opening_events seed) made.1.items) }
+        ensures next { IfOk result (λ made. EachAt (λ i p. next_row p ≡ first_row (bounds_of shape.now) i) made.1.items) }
     {
         let (board, passes) = MachineBoard::make(alloc, shape, seed)?;
         let passes = domain_passes(alloc, shape, passes)?;
@@ -54,6 +57,7 @@ fn domain_passes<D: Discipline>(
     ensures long { IfOk result (λ made. length made.items ≡ length passes.items) }
     ensures same { IfOk result (λ made. EachFrom (λ p. p.pass) made.items passes.items) }
     ensures next { IfOk result (λ made. All (λ p. p.next < (bounds_of shape.now).rows) made.items) }
+    ensures first { IfOk result (λ made. All (λ p. p.next ≡ first_row (bounds_of shape.now) (shows p.pass).agent % (bounds_of shape.now).rows) made.items) }
 {
     let made = passes
         .into_iter()
@@ -66,15 +70,8 @@ fn domain_passes<D: Discipline>(
 fn new_pass<D: Discipline>(shape: &Shape, pass: MachineBoardPass<D>) -> OrcPass<D>
     ensures same { result.pass ≡ pass }
     ensures next { result.next < (bounds_of shape.now).rows }
+    ensures first { result.next ≡ first_row (bounds_of shape.now) (shows result.pass).agent % (bounds_of shape.now).rows }
 {
     let next = first_row(shape, pass.agent());
     OrcPass { pass, next }
-}
-
-// Answers the row with which an agent begins to look for a free one.
-fn first_row(shape: &Shape, agent: u32) -> u32
-    ensures { result < (bounds_of shape.now).rows }
-{
-    let rows = u64::from(shape.rows());
-    (u64::from(agent) * rows / u64::from(shape.agents()) % rows) as u32
 }

@@ -5,6 +5,7 @@ ghost use Rattle.std.specs.List.{AllByRecursion};
 ghost use Rattle.orc_board_rest.specs.Ends.{TakesIn};
 ghost use Rattle.orc_board_rest.specs.Looks.{gate_looks};
 ghost use Rattle.orc_core.specs.Machine.{new_machine};
+ghost use Rattle.orc_layout.specs.Layout.{index, lay};
 ghost use Rattle.orc_machine_board.specs.Rules.{run_of};
 ghost use Rattle.orc_machine_board.specs.Views.{Belongs, shows};
 ghost use Rattle.orc_reclaiming_domain.specs.Ends.{AreAll, SawAll, whole_journal};
@@ -19,6 +20,7 @@ use crate::domain::{OrcDomain, OrcPass};
 use orc_board_rest::count_rows;
 use orc_heap::Discipline;
 use orc_machine_board::MachineBoardPass;
+use orc_shared_words::LastWords;
 
 impl<D: Discipline> OrcRest<D> {
     /// How many rows were given, each as often as it was.
@@ -40,6 +42,19 @@ impl<D: Discipline> OrcRest<D> {
         ensures { result ≡ rows_out (run_of (domain_bounds (rest_domain self.now)) (rest_journal self.now)) }
     {
         self.counts.linked
+    }
+
+    /// Ends the table. Its last words are those that the journal leaves, each at its index.
+    pub fn close(self) -> LastWords
+        requires shown { IsShown self }
+        ensures words { result ≡ lay (index (domain_bounds (rest_domain self))) (run_of (domain_bounds (rest_domain self)) (rest_journal self)).words }
+    {
+        let OrcRest {
+            domain,
+            pass,
+            counts: _,
+        } = self;
+        domain.board.close(pass)
     }
 }
 

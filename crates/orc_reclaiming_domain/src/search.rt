@@ -3,10 +3,11 @@
 ghost use Rattle.std.specs.Prelude.{◌≡◌, ◌<◌, None, false, true, ℕ};
 ghost use Rattle.std.specs.Option.{ForSome};
 ghost use Rattle.orc_core.specs.RecordParts.{is_empty, slot_of};
+ghost use Rattle.orc_board_settling.specs.OwnSteps.{HasTakenIn};
+ghost use Rattle.orc_domain.specs.Turns.{IsNext};
 ghost use Rattle.orc_machine_board.specs.Views.{Belongs, shows};
-ghost use Rattle.orc_reclaiming_domain.specs.OwnSteps.{HasTakenIn};
 ghost use Rattle.orc_reclaiming_domain.specs.Passes.{domain_bounds};
-ghost use Rattle.orc_reclaiming_domain.specs.Searches.{Fails, Gets, Idles, TriesAll};
+ghost use Rattle.orc_reclaiming_domain.specs.Searches.{Fails, Found, Gets, Idles, TriesAll};
 ghost use Rattle.orc_reclaiming_domain.specs.Seats.{IsCalm, IsReady};
 
 use crate::domain::OrcDomain;
@@ -23,6 +24,8 @@ impl<D: Discipline> OrcDomain<D> {
         requires begin { begin < (domain_bounds self.now).rows }
         ensures belongs { Belongs self.now.board p.new }
         ensures found { ForSome result (λ row. (row < (domain_bounds self.now).rows) × Gets (domain_bounds self.now) row (shows p.old) (shows p.new)) }
+        ensures in_turn { ForSome result (λ row. IsNext (domain_bounds self.now).rows begin
+            (Found (domain_bounds self.now) (shows p.old).agent (shows p.old).journal (shows p.new).journal) row) }
         ensures tried { result ≡ None → TriesAll (domain_bounds self.now) begin (shows p.old) (shows p.new) }
     {
         let rows = self.board.shape().rows();

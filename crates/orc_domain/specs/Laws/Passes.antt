@@ -80,6 +80,9 @@ module _ {D N : Type 0} {d : discipline.Ghosts D N} {m : machine.Ghosts Plain N 
     pub all_below : ((seat_of domain p).agent < (domain_bounds domain).agents) × IsBelow (domain_bounds domain).agents (seat_of domain p).seen
     all_below = (h.board.keeps.number, below d domain.board.words.shape p.pass.pass.seat.me.0 p.pass.pass.agent p.pass.fresh p.pass.looked h.board.keeps)
 
+    pub all_of_agents : IsBelow (domain_bounds domain).agents (journal_of p)
+    all_of_agents = subst (IsBelow (domain_bounds domain).agents) seen_by all_below.1
+
     pub fresh_untouched : (id : ℕ) → (seat_of domain p).fresh ≡ Some id
         → IsUntouched (seat_of domain p).agent (run_heap (domain_numbers domain) (seat_of domain p).seen) id
     fresh_untouched id e = went s.fresh refl e

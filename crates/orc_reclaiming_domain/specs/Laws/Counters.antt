@@ -89,8 +89,8 @@ counter_source b z a (LinkCas (Root i) f t) r l = inl refl
 counter_source b z a (LinkCas (Next q) f t) r l = inl refl
 counter_source b z a (LinkCas (Side q) f t) r l = inl refl
 counter_source b z a (LinkCas p f t) r l = absurd (false≢true l.fits)
-counter_source b z a (LinkStore q zero k) r l = inl refl
-counter_source b z a (LinkStore q (suc n) k) r l = inl refl
+counter_source b z a (LinkStore q k zero) r l = inl refl
+counter_source b z a (LinkStore q k (suc n)) r l = inl refl
 counter_source b z a (Inc q) r l =
     let d = z.seats a in
     write_counter z.memory q _ r (λ y. (uses d y ≡ true) ⊎ (dooms d.doom y ≡ true)) (inl (uses_inc d q (and_both (nat_lt q b.rows) (names d.inc q) l.fits).1))

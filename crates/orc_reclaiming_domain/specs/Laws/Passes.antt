@@ -1,5 +1,6 @@
 -- Laws of the passes of a domain.
-use Rattle.std.specs.Prelude.{Some, [], ℕ, ◌<◌, ◌≡◌}
+use Rattle.std.specs.List.{AllByRecursion}
+use Rattle.std.specs.Prelude.{List, Some, [], ℕ, ◌<◌, ◌∷◌, ◌≡◌}
 use mathlib.Core.List.{IsPrefix}
 use Rattle.orc_core.specs.declared.records.Agent.{Agent}
 use Rattle.orc_heap.specs.Acts.{IsKnown}
@@ -18,8 +19,13 @@ use Rattle.orc_reclaiming_domain.specs.Laws.Opened.{below_all, opens_so}
 use Rattle.orc_reclaiming_domain.specs.Passes.{IsPassOf, domain_bounds, domain_numbers, domain_opening, journal_of, seat_of}
 use Rattle.orc_reclaiming_domain.specs.declared.domain.OrcDomain.{OrcDomain}
 use Rattle.orc_reclaiming_domain.specs.declared.domain.OrcPass.{OrcPass}
+use Rattle.orc_shared_words.specs.Runs.{AgentsBelow}
 use Rattle.orc_shared_words.specs.declared.machine.Machine as machine
 use Rattle.orc_sound.specs.declared.steps.Step.{Step}
+
+each_below : {N : Type 0} (n : ℕ) (j : List (Step N)) → AgentsBelow (λ (s : Step N). s.agent) n j → AllByRecursion (λ (s : Step N). s.agent < n) j
+each_below n [] h = tt
+each_below n (s ∷ ss) h = (h.0, each_below n ss h.1)
 
 module _ {D N : Type 0} {d : discipline.Ghosts D N} {m : machine.Ghosts Reclaiming N (MachineShape N) Request (Step N) Agent Agent}
     (domain : OrcDomain D N) (p : OrcPass D N (MachineShape N) Request (Step N) Agent Agent d m) (h : IsPassOf domain p)
@@ -41,6 +47,9 @@ module _ {D N : Type 0} {d : discipline.Ghosts D N} {m : machine.Ghosts Reclaimi
 
     pub all_below : ((seat_of domain p).agent < (domain_bounds domain).agents) × IsBelow (domain_bounds domain).agents (seat_of domain p).seen
     all_below = (h.board.keeps.number, below_all (domain_bounds domain) p.pass.pass.seat.me.0.seen h.board.keeps.now.below)
+
+    pub all_of_agents : AllByRecursion (λ (s : Step N). s.agent < (domain_bounds domain).agents) (journal_of p)
+    all_of_agents = each_below (domain_bounds domain).agents (journal_of p) h.board.keeps.now.below
 
     pub fresh_untouched : (id : ℕ) → (seat_of domain p).fresh ≡ Some id
         → IsUntouched (seat_of domain p).agent (run_heap (domain_numbers domain) (seat_of domain p).seen) id

@@ -12,7 +12,7 @@ fn a_new_pass_drains(rt: HostRuntime) -> Result<(), Fail> {
     let shape = Shape::new(2, 1, 1, 8)?;
     let (domain, mut passes) = new_domain(rt.alloc(), &shape)?;
     let Some(mut pass) = next_pass(&domain, &mut passes) else {
-        return Ok(());
+        panic!(rt; "no pass")
     };
     domain.drain(&mut pass);
     assert_eq!(rt; domain.backlog(&pass), 0);
@@ -44,7 +44,7 @@ fn first_of_all_gives(domain: &Domain, passes: &mut Vec<Pass>) -> Option<(u64, b
     first_gives(domain, passes.as_mut_slice())
 }
 
-// Brings the domain to rest, and answers its numbers.
+// Brings the domain to rest, answers its numbers, and ends its table.
 fn numbers_at_rest(domain: Domain, passes: Vec<Pass>) -> (u64, u64, u32)
     requires all { AreAll domain passes.items }
     requires idle { AreIdle domain passes.items }
@@ -52,7 +52,9 @@ fn numbers_at_rest(domain: Domain, passes: Vec<Pass>) -> (u64, u64, u32)
     let mut passes = passes;
     domain.drain_all(passes.as_mut_slice());
     let rest = domain.rest(passes);
-    (rest.given(), rest.reused(), rest.linked())
+    let numbers = (rest.given(), rest.reused(), rest.linked());
+    let _words = rest.close();
+    numbers
 }
 
 // Both rows are given, and released unlinked. No third is had while they wait; at rest both have been freed, and none is out.

@@ -1,7 +1,8 @@
-use Rattle.std.proofs.Common.{subst, sym}
+use Rattle.std.proofs.Common.{subst, sym, ◌*◌, ◌+◌}
 use Rattle.orc_board_draining.proofs.Taking.{alone_drained, alone_taken}
 use Rattle.orc_board_draining.specs.Drains.{Drains}
 use Rattle.orc_board_settling.proofs.Passes.{mine, pass_of}
+use Rattle.orc_board_settling.specs.OwnSteps.{AtMostMore, TakesInAll, most_rounds, steps_a_round}
 use Rattle.orc_board_settling.specs.Passes.{record_of}
 use Rattle.orc_machine_board.specs.Views.{board_bounds, shows}
 use Rattle.orc_settling.specs.Records.{IsDone}
@@ -27,3 +28,13 @@ returns-clause-handovers g c = λ alone.
     let s = shows c.args.p.now in
     let t = shows c.drain_own.new.p in
     alone_taken b s.agent s t (subst (λ a. Drains b a s t) c.agent-agent.ensures c.drain_own.ensures.drains) alone
+
+pub returns-clause-takes_all : goal.returns-clause-takes_all
+returns-clause-takes_all g c =
+    subst (λ a. TakesInAll a (shows c.args.p.now).journal (shows c.drain_own.new.p).journal) c.agent-agent.ensures c.drain_own.ensures.takes_all
+
+pub returns-clause-few : goal.returns-clause-few
+returns-clause-few g c =
+    let b = board_bounds c.args.board.now in
+    subst (λ a. AtMostMore a (8 + most_rounds b * steps_a_round b) (shows c.args.p.now).journal (shows c.drain_own.new.p).journal)
+    c.agent-agent.ensures c.drain_own.ensures.few

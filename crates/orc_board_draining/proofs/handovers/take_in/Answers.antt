@@ -1,5 +1,5 @@
-use Rattle.orc_board_draining.proofs.Taking.{may_take, still_between, takes}
-use Rattle.orc_board_settling.proofs.Passes.{next_pass}
+use Rattle.orc_board_draining.proofs.Taking.{may_take, still_between, taken_in, takes}
+use Rattle.orc_board_settling.proofs.Passes.{next_pass, one_step}
 use Rattle.orc_core.specs.declared.ops.Op.TheVariants.{TakeIn}
 use Rattle.orc_board_draining.proofs.handovers.take_in.Goals as goal
 
@@ -20,3 +20,13 @@ pub returns-clause-takes : goal.returns-clause-takes
 returns-clause-takes g c =
     takes c.args.board.now c.args.agent c.args.k c.args.p.now c.requires.pass c.requires.between c.take_in.new.p c.take_in.result
     c.take_in.ensures.belongs c.take_in.ensures.made
+
+pub returns-clause-taken_in : goal.returns-clause-taken_in
+returns-clause-taken_in g c =
+    taken_in c.args.board.now c.args.agent c.args.k c.args.p.now c.requires.pass c.requires.between c.take_in.new.p c.take_in.result
+    c.take_in.ensures.belongs c.take_in.ensures.made
+
+pub returns-clause-few : goal.returns-clause-few
+returns-clause-few g c =
+    one_step c.args.board.now c.args.agent (TakeIn c.args.k) c.args.p.now c.take_in.new.p c.take_in.result c.requires.pass c.take_in.ensures.belongs
+    c.take_in.ensures.made

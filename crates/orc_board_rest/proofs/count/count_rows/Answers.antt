@@ -1,5 +1,5 @@
 use Rattle.std.proofs.Common.{arith}
-use Rattle.orc_board_rest.proofs.Counted.{balance_end, counted_one, gate_low, given_end, given_low, journal_end, linked_end, linked_low}
+use Rattle.orc_board_rest.proofs.Counted.{balance_end, counted_one, gate_low, given_end, given_low, journal_end, linked_end, linked_low, still_all}
 use Rattle.orc_board_rest.proofs.count.count_rows.Goals as goal
 
 pub overflow_add-given : goal.overflow_add-given
@@ -72,3 +72,8 @@ returns-clause-balance g c =
     let e = balance_end c.args.board.now c.args.p.now c.loop-row.p c.rows-row-end.result c.loop-row.row c.loop-row.given c.loop-row.linked
     c.loop-row.invariant (omega (arith, low, high)) in
     omega arith
+
+pub returns-clause-all : goal.returns-clause-all
+returns-clause-all g c =
+    still_all c.args.board.now c.args.p.now c.loop-row.p c.rows-row-end.result c.loop-row.row c.loop-row.given c.loop-row.linked c.loop-row.invariant
+    c.requires.all

@@ -15,7 +15,7 @@ returns g c =
     let holds = g.D.Discipline.holds n in
     let may = g.D.Discipline.may n in
     let rank = g.D.Ranked.rank n in
-    let keeps = c.requires.shown.keeps in
+    let keeps = c.requires.shown.belongs.keeps in
     let ends : EndsAtRest holds may rank b (rest_journal rest) =
     record {
       shape = in_range rest.domain.board.words.shape.shape;

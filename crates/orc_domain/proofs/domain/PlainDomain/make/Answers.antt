@@ -1,7 +1,9 @@
-use Rattle.std.proofs.Common.{◌≡◌}
+use Rattle.std.proofs.Common.{arith, ◌∙◌, ◌≡◌}
 use Rattle.orc_heap.specs.Seeds.{opening_events}
 use Rattle.orc_table.specs.Views.{shows}
+use Rattle.orc_words.specs.Bounds.{bounds_of}
 use Rattle.orc_domain.proofs.Making.{all_belong, all_idle, each_at, each_pass}
+use Rattle.orc_domain.proofs.Turns.{first_rows}
 use Rattle.orc_domain.proofs.domain.PlainDomain.make.Goals as goal
 
 pub returns-clause-belongs : goal.returns-clause-belongs
@@ -27,3 +29,13 @@ returns-clause-seen g c =
     each_pass (record { board = c.in_ok-board.board }) c.in_ok-passes.passes.items c.in_ok-board.passes.items c.in_ok-passes.ensures.long
     c.in_ok-passes.ensures.same
     (λ q. (shows c.in_ok-board.board q).events ≡ opening_events c.args.seed) c.in_ok-board.ensures.events
+
+pub returns-clause-next : goal.returns-clause-next
+returns-clause-next g c =
+    let board = c.in_ok-board.board in
+    let some = c.args.shape.now.some_rows in
+    first_rows (bounds_of c.args.shape.now) (λ p. p.next) (λ p. (shows board p.pass).agent) c.in_ok-passes.passes.items
+    c.in_ok-passes.ensures.first
+    (each_at (record { board = board }) c.in_ok-passes.passes.items c.in_ok-board.passes.items c.in_ok-passes.ensures.long c.in_ok-passes.ensures.same
+    (λ i q. (shows board q).agent ≡ i) c.in_ok-board.ensures.agents)
+    (c.in_ok-passes.ensures.long ∙ c.in_ok-board.ensures.passes) (omega (arith, some))

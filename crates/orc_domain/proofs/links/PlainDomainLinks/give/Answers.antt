@@ -1,5 +1,10 @@
-use Rattle.std.proofs.Common.{◌≡◌, refl, arith}
-use Rattle.orc_domain.proofs.Giving.{gives, tried_all, tried_none, tried_one}
+use Rattle.std.proofs.Common.{◌%◌, ◌+◌, ◌≡◌, ◌∙◌, ap, arith, refl, subst, sym}
+use Rattle.orc_heap.proofs.Pieces.{goes_on}
+use Rattle.orc_heap.specs.Slots.{Hold}
+use Rattle.orc_table.specs.Words.{IsOut}
+use Rattle.orc_domain.specs.Passes.{domain_bounds, rows_of}
+use Rattle.orc_domain.specs.Turns.{IsNext}
+use Rattle.orc_domain.proofs.Giving.{gives, tried_all, tried_next, tried_none, tried_one}
 use Rattle.orc_domain.proofs.links.PlainDomainLinks.give.Goals as goal
 
 pub loop-offset-init : goal.loop-offset-init
@@ -22,3 +27,20 @@ returns-clause-lacking g c =
     let high = c.loop-offset.auto.offset-end in
     let end : c.loop-offset.offset ≡ c.rows-rows.result = omega (arith, low, high) in
     tried_all c.args.self.now c.args.p.now c.loop-offset.p c.rows-rows.result c.args.p.now.next c.loop-offset.offset end c.loop-offset.invariant
+
+pub returns-then-take-clause-in_turn : goal.returns-then-take-clause-in_turn
+returns-then-take-clause-in_turn g c =
+    let links = c.args.self.now in
+    let begin = c.args.p.now.next in
+    let rows = c.rows-rows.result in
+    let more = goes_on _ _ _ c.if-take.ensures.took.rows c.furnish.ensures.rows in
+    subst (IsNext (domain_bounds links).rows begin (IsOut (rows_of links c.furnish.new.p))) (ap (λ (h : Hold). h.row) (sym c.furnish.ensures.hold))
+    (tried_next links c.args.p.now c.loop-offset.p rows begin c.loop-offset.offset c.loop-offset.invariant c.loop-offset-test.true
+    (rows_of links c.furnish.new.p) more)
+
+pub returns-then-take-clause-next : goal.returns-then-take-clause-next
+returns-then-take-clause-next g c =
+    c.furnish.ensures.next ∙ ap (λ (h : Hold). (h.row + 1) % (domain_bounds c.args.self.now).rows) (sym c.furnish.ensures.hold)
+
+pub returns-clause-same_next : goal.returns-clause-same_next
+returns-clause-same_next g c = c.loop-offset.invariant.same_next

@@ -1,9 +1,10 @@
-use Rattle.std.proofs.Common.{ap, arith, refl, subst, ◌∙◌, ◌%◌, ◌+◌, ◌<◌, ◌≡◌}
+use Rattle.std.proofs.Common.{ap, arith, refl, subst, sym, ◌∙◌, ◌%◌, ◌+◌, ◌<◌, ◌≡◌}
 use Rattle.std.proofs.Math.Nat.{mod-lt}
+use Rattle.orc_domain.specs.Turns.{IsNext}
 use Rattle.orc_machine_board.specs.Views.{shows}
-use Rattle.orc_reclaiming_domain.proofs.Rounds.{tries_gets, tries_none, tries_one}
+use Rattle.orc_reclaiming_domain.proofs.Rounds.{tries_gets, tries_next, tries_none, tries_one}
 use Rattle.orc_reclaiming_domain.specs.Passes.{domain_bounds}
-use Rattle.orc_reclaiming_domain.specs.Searches.{Gets, Tries}
+use Rattle.orc_reclaiming_domain.specs.Searches.{Found, Gets, Tries}
 use Rattle.orc_words.specs.Bounds.{Bounds}
 use Rattle.orc_reclaiming_domain.proofs.domain.OrcDomain.search.Goals as goal
 
@@ -47,3 +48,18 @@ returns-clause-tried g c e =
     let end : c.loop-offset.offset ≡ c.rows-rows.result = omega (arith, low, high) in
     subst (λ z. Tries b c.args.begin z z (shows c.args.p.now) (shows c.loop-offset.p)) i.1
     (subst (λ z. Tries b c.args.begin c.rows-rows.result z (shows c.args.p.now) (shows c.loop-offset.p)) end i.2)
+
+pub returns-then-try_take-clause-in_turn : goal.returns-then-try_take-clause-in_turn
+returns-then-try_take-clause-in_turn g c x e =
+    let i = c.loop-offset.invariant in
+    let b = domain_bounds c.args.self.now in
+    let s = shows c.args.p.now in
+    let u = shows c.try_take.new.p in
+    let begin = c.args.begin in
+    let offset = c.loop-offset.offset in
+    let same : (begin + offset) % c.rows-rows.result ≡ x = cc in
+    let got = c.if-try_take.ensures.took refl in
+    subst (IsNext b.rows begin (Found b s.agent s.journal u.journal)) (ap (λ n. (begin + offset) % n) (sym i.1) ∙ same)
+    (tries_next b begin offset s (shows c.loop-offset.p) u.journal
+    (subst (λ n. Tries b begin n offset s (shows c.loop-offset.p)) i.1 i.2)
+    (subst (λ n. offset < n) i.1 c.loop-offset-test.true) (got.more, sym got.journal))

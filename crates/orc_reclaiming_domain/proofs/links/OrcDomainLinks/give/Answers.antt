@@ -1,10 +1,13 @@
-use Rattle.std.proofs.Common.{ap, arith, refl, subst, ◌∙◌, ◌%◌, ◌+◌, ◌<◌, ◌≡◌}
+use Rattle.std.proofs.Common.{ap, arith, refl, subst, sym, ◌∙◌, ◌%◌, ◌+◌, ◌<◌, ◌≡◌}
 use Rattle.std.proofs.Math.Nat.{mod-lt}
-use Rattle.orc_reclaiming_domain.proofs.Giving.{Took, first_can, gives, gives_between, gives_later, publish_can, second_can}
-use Rattle.orc_reclaiming_domain.proofs.Rounds.{tries_all, tries_then}
+use Rattle.orc_reclaiming_domain.proofs.Giving.{Took, filled_later, first_can, gives, gives_between, gives_later, publish_can, second_can}
+use Rattle.orc_reclaiming_domain.proofs.Rounds.{next_grows, tries_all, tries_then}
 use Rattle.orc_reclaiming_domain.proofs.Stages.{stage}
 use Rattle.orc_reclaiming_domain.proofs.TakingIn.{takes_free}
+use Rattle.orc_domain.specs.Turns.{IsNext}
+use Rattle.orc_heap.specs.Slots.{Hold}
 use Rattle.orc_reclaiming_domain.specs.Passes.{domain_bounds}
+use Rattle.orc_reclaiming_domain.specs.Searches.{Found}
 use Rattle.orc_words.specs.Bounds.{Bounds}
 use Rattle.orc_reclaiming_domain.proofs.links.OrcDomainLinks.give.Given.{Over}
 use Rattle.orc_reclaiming_domain.proofs.links.OrcDomainLinks.give.Goals.{In-Some}
@@ -123,3 +126,26 @@ returns-clause-given g c =
     let w = stage d k _ _ c.publish.ensures.belongs.keeps in
     gives s t c.in-Some.row took u c.args.first c.fill.result c.fill.ensures.made
     v c.args.second c.fill-2.result c.fill-2.ensures.made c.args.slot c.requires.slot w c.publish.result c.publish.ensures.made c.new.result c.new.ensures
+
+pub returns-clause-in_turn : goal.returns-clause-in_turn
+returns-clause-in_turn g c =
+    let k = c.args.self.now.board.words.shape in
+    let d = g.D.Discipline in
+    let b = domain_bounds c.args.self.now in
+    let row = c.in-Some.row in
+    let took = taken g (goal.at.returns-clause-in_turn g c).In-Some in
+    let s = stage d k _ _ c.requires.pass.board.keeps in
+    let t = stage d k _ _ c.search.ensures.belongs.keeps in
+    let u = stage d k _ _ c.fill.ensures.belongs.keeps in
+    let v = stage d k _ _ c.fill-2.ensures.belongs.keeps in
+    let w = stage d k _ _ c.publish.ensures.belongs.keeps in
+    let more = filled_later s t row took u c.args.first c.fill.result c.fill.ensures.made
+    v c.args.second c.fill-2.result c.fill-2.ensures.made c.args.slot c.requires.slot w c.publish.result c.publish.ensures.made in
+    subst (IsNext b.rows c.args.p.now.next (Found b s.view.agent s.view.journal w.view.journal)) (ap (λ (h : Hold). h.row) (sym c.new.ensures))
+    (next_grows b c.args.p.now.next s.view.agent row s.view.journal t.view.journal w.view.journal more (c.in-Some.ensures.in_turn row refl))
+
+pub returns-clause-next : goal.returns-clause-next
+returns-clause-next g c =
+    let rows = c.rows.ensures ∙ ap (λ (b : Bounds). b.rows) c.shape.ensures in
+    let same = ap (λ (h : Hold). h.row) (sym c.new.ensures) in
+    λ i. (same i + 1) % rows i

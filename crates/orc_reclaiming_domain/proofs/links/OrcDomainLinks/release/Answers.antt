@@ -5,7 +5,8 @@ use Rattle.orc_machine_board.specs.Kinds.{MayDo}
 use Rattle.orc_machine_board.specs.Views.{shows}
 use Rattle.orc_reclaiming_domain.proofs.Retiring.{LetsGo, clear_can, goes, release_leaves, released_between, releases}
 use Rattle.orc_reclaiming_domain.proofs.Seats.{ready_calm}
-use Rattle.orc_reclaiming_domain.proofs.Stages.{done_later, stage}
+use Rattle.orc_board_settling.proofs.TakenIn.{done_later}
+use Rattle.orc_reclaiming_domain.proofs.Stages.{stage}
 use Rattle.orc_reclaiming_domain.specs.Calls.{Retires, Unlocks}
 use Rattle.orc_reclaiming_domain.specs.Passes.{domain_bounds}
 use Rattle.orc_reclaiming_domain.proofs.links.OrcDomainLinks.release.Given.{Over}

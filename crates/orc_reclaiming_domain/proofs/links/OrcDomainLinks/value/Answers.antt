@@ -3,7 +3,8 @@ use Rattle.orc_core.specs.declared.ops.Op.TheVariants.{Read}
 use Rattle.orc_machine_board.specs.Kinds.{MakesPlain, MayDo}
 use Rattle.orc_machine_board.specs.Views.{shows}
 use Rattle.orc_reclaiming_domain.proofs.Reading.{may_read, read_between, read_only, reads_value}
-use Rattle.orc_reclaiming_domain.proofs.Stages.{done_later, done_one, stage}
+use Rattle.orc_board_settling.proofs.TakenIn.{done_later}
+use Rattle.orc_reclaiming_domain.proofs.Stages.{done_one, stage}
 use Rattle.orc_reclaiming_domain.specs.Passes.{domain_bounds}
 use Rattle.orc_reclaiming_domain.proofs.links.OrcDomainLinks.value.Goals as goal
 
