@@ -2,5 +2,4 @@ pub mod Later
 pub mod Coming
 pub mod OwnEntries
 pub mod Leaving
-pub mod Runs
 pub mod Stretches

@@ -3,8 +3,6 @@
 
 mod chain;
 mod laws;
-#[cfg(test)]
-mod tests;
 
 pub use chain::{Chain, ChainNote};
 pub use laws::{

@@ -3,8 +3,6 @@
 
 mod fifo;
 mod laws;
-#[cfg(test)]
-mod tests;
 
 pub use fifo::{Fifo, FifoNote};
 pub use laws::{

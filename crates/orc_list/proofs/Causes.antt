@@ -41,17 +41,23 @@ of_crowd : (agent agents : ℕ) (es : List (Event ChainNote)) → IsBelow agents
 of_crowd agent agents [] b = tt
 of_crowd agent agents (e ∷ es) b = (inr b.0, of_crowd agent agents es b.1)
 
--- the own events
+-- the own events of a call
+pub own_part : (s u : Seat ChainNote) (own : List (Event ChainNote)) → Puts s own u → events_by u.agent u.seen ≡ events_by s.agent s.seen ++ own
+own_part s u own p =
+    ap (λ (a : ℕ). events_by a u.seen) p.agent ∙ (ap (λ z. events_by s.agent z) p.is ∙ (filter-append (λ e. e.agent == s.agent) s.seen p.part ∙ ap
+    (λ z. events_by s.agent s.seen ++ z) p.own_is))
+
+pub own_drop : (s u : Seat ChainNote) (own : List (Event ChainNote)) → Puts s own u
+    → drop (length (events_by s.agent s.seen)) (events_by u.agent u.seen) ≡ own
+own_drop s u own p = ap (λ z. drop (length (events_by s.agent s.seen)) z) (own_part s u own p) ∙ drop-append_seam (events_by s.agent s.seen) own
+
 module _ {E IsAgain : Type 0} (most turns : ℕ) (entry : Bool → SetEntry) (s u : Seat ChainNote) (r : Result Bool E)
     (d : Did {E = E} IsAgain most turns entry s r u) where
   own_events : events_by u.agent u.seen ≡ events_by s.agent s.seen ++ d.own
-  own_events =
-      let p = d.made.puts in
-      ap (λ (a : ℕ). events_by a u.seen) p.agent ∙ (ap (λ z. events_by s.agent z) p.is ∙ (filter-append (λ e. e.agent == s.agent) s.seen p.part ∙ ap
-      (λ z. events_by s.agent s.seen ++ z) p.own_is))
+  own_events = own_part s u d.own d.made.puts
 
   pub own_call : drop (length (events_by s.agent s.seen)) (events_by u.agent u.seen) ≡ d.own
-  own_call = ap (λ z. drop (length (events_by s.agent s.seen)) z) own_events ∙ drop-append_seam (events_by s.agent s.seen) d.own
+  own_call = own_drop s u d.own d.made.puts
 
   pub did_give : gives_in (drop (length (events_by s.agent s.seen)) (events_by u.agent u.seen)) ≤ most
   did_give = rw own_call (omega (arith, d.made.gives, d.at_most))
@@ -80,7 +86,7 @@ module _ {S : Type 0} (n : HeapNumbers) (agents : ℕ) (agent_of : S → ℕ) (e
     (all : AllAllowed (ChainMay n) [] u.seen) (below : IsBelow agents u.seen)
   where
     -- the entries
-    call_adds : (own : List (Event ChainNote)) (es : List SetEntry) (p : Puts s own u) → entries_of own ≡ es
+    pub call_adds : (own : List (Event ChainNote)) (es : List SetEntry) (p : Puts s own u) → entries_of own ≡ es
         → Adds agent_of_set_entry (λ (a : ℕ). a < agents) s.agent (entries_of (events j)) es (entries_of (events m))
     call_adds own es p entries_are =
         let others = of_crowd s.agent agents p.part (below_right agents s.seen p.part (subst (λ z. IsBelow agents z) p.is below)) in

@@ -1,4 +1,5 @@
 -- A key is taken out at the node that a search found.
+use Rattle.std.proofs.lemmas.List.{length-append}
 use Rattle.std.proofs.Common.{Bool, List, None, Option, Some, [], ap, append_assoc, arith, false, inl, inr, refl, subst, sym, true, ℕ, ◌++◌, ◌∙◌, ◌∷◌, ◌≡◌, ◌≢◌, ◌≤◌, length}
 use Rattle.std.specs.List.{Contains}
 use Rattle.orc_heap.proofs.Calls.{Puts-stood, Puts-trans, part_allowed}
@@ -30,8 +31,8 @@ use Rattle.orc_chain_rule.specs.declared.chain.ChainNote.TheVariants.{Entry, Unl
 use Rattle.orc_chain_rule.specs.ChainDiscipline.{ChainHolds, ChainMay, FollowsOn, HasKey, IsOnNoChain, IsRun, entries_of, link_over, IsChainPlace}
 use Rattle.orc_chain_rule.specs.Laws.Kept.{chain_keeps}
 use Rattle.orc_chain_rule.specs.Laws.Kinds.{key_linked, key_one, move_moves}
-use Rattle.orc_list.specs.Searches.{AllGone, BeginsRun, FindsPresent, HoldsIfAny, InHand, NextFollows, left_place, node_of}
-use Rattle.orc_list.specs.Turns.{LeavesOff, Made, Marks, TakesKey, TakesOut, Tires, TriesUnlink, first_or, place_at, target_at}
+use Rattle.orc_list.specs.Searches.{AllGone, BeginsRun, FindsPresent, HoldsIfAny, InHand, NextFollows, Quiet, left_place, node_of}
+use Rattle.orc_list.specs.Turns.{LeavesOff, Made, MarkStops, Marks, TakesKey, TakesOut, Tires, TriesUnlink, first_or, place_at, target_at}
 use Rattle.orc_list.proofs.Answering.{from_is, head_of, place_of_hand, reads_node, target_is}
 use Rattle.orc_list.proofs.Held.{first_held, in_hand_on, present_hand, second_held}
 use Rattle.orc_list.proofs.Making.{made_after, made_on, missed, over_on}
@@ -104,6 +105,19 @@ alone_exact s t y own ys q p w some alone =
 takes_right : (es fs : List (Event ChainNote)) (key id : ℕ) → TakesKey fs key id → TakesKey (es ++ fs) key id
 takes_right [] fs key id k = k
 takes_right (e ∷ es) fs key id k = inr (takes_right es fs key id k)
+
+-- a search alone, that let all go
+pub quiet_stops : (key : ℕ) (s t y : Seat ChainNote) (own : List (Event ChainNote)) → Quiet s own t → Puts t [] y → y.slots ≡ s.slots → y.fresh ≡ t.fresh
+    → MarkStops key s false y
+quiet_stops key s t y own q p slots fresh = record {
+  own = own;
+  puts = puts_released s t y own q.puts p;
+  slots = slots;
+  fresh = fresh ∙ q.fresh;
+  some = q.some;
+  entries_are = q.no_entries;
+  moves = q.no_move;
+}
 
 left_apart : (n : HeapNumbers) (t : Seat ChainNote) (root key id : ℕ) (left : Option Hold) (left_id : ℕ)
     → FollowsOn n.roots (heap_of n t) (left_place root left left_id) key → HasKey (heap_of n t) id key → left_place root left left_id ≢ Next id
@@ -275,6 +289,39 @@ module _ (n : HeapNumbers) (root key : ℕ) (left first : Option Hold) (node : H
       (λ z. Removed s.agent key true ∷ z) none in
       made_on 0 1 s v y (f.own ++ mark ∷ ys) (Removed s.agent key true ∷ []) (made_after 0 s t v f.own (mark ∷ ys) (Removed s.agent key true ∷ []) q f.few
       p entries (omega (arith, no_give)) (omega (arith, short))) g
+
+  -- a remove that stops there
+  pub mark_stops : (done : Bool) (u y : Seat ChainNote) → Marks key f.id (node_of next f.next_id) t done u → AllGone s.slots u y → MarkStops key s done y
+  mark_stops true u y m g =
+      let q = f.behind.quiet in
+      let made = made_on 0 1 s u y (f.own ++ mark ∷ []) (Removed s.agent key true ∷ []) (made_after 0 s t u f.own (mark ∷ []) (Removed s.agent key true ∷ [])
+      q f.few m.puts (ap (λ (a : ℕ). Removed a key true ∷ []) q.puts.agent) refl (omega arith)) g.puts in
+      record {
+        own = f.own ++ mark ∷ [];
+        puts = made.puts;
+        slots = g.slots_are;
+        fresh = g.fresh ∙ (m.fresh ∙ q.fresh);
+        some = omega (arith, length-append f.own (mark ∷ []));
+        entries_are = made.entries_are;
+        moves = (
+          omega (arith, moves_in-append f.own (mark ∷ []), q.no_move),
+          f.id,
+          takes_right f.own (mark ∷ []) key f.id (inl (link_over to, marked, refl, refl)),
+        );
+      }
+  mark_stops false u y m g =
+      let q = f.behind.quiet in
+      let miss : Event ChainNote = event_of t (Miss (Next f.id) (link_over to) m.puts.found) None in
+      let made = made_on 0 1 s u y (f.own ++ miss ∷ []) [] (made_after 0 s t u f.own (miss ∷ []) [] q f.few m.puts.puts refl refl (omega arith)) g.puts in
+      record {
+        own = f.own ++ miss ∷ [];
+        puts = made.puts;
+        slots = g.slots_are;
+        fresh = g.fresh ∙ (m.fresh ∙ q.fresh);
+        some = omega (arith, length-append f.own (miss ∷ []));
+        entries_are = made.entries_are;
+        moves = omega (arith, moves_in-append f.own (miss ∷ []), q.no_move);
+      }
 
   -- where the pass was alone: what it saw, and that the place showed its link when the node was marked
   record Alone (ys : List (Event ChainNote)) (y : Seat ChainNote) : Type 0 where

@@ -2,7 +2,7 @@
 use Rattle.std.specs.Prelude.{List, [], drop, length, ℕ, ◌%◌, ◌<◌, ◌≡◌, ◌≤◌}
 use Rattle.orc_fault.specs.declared.Spent.{Spent}
 use Rattle.orc_heap.specs.Domains.{Enters as EntersHistory, InCall, agent, heap, own_events}
-use Rattle.orc_heap.specs.Moves.{gives_in}
+use Rattle.orc_heap.specs.Moves.{gives_in, moves_in}
 use Rattle.orc_heap.specs.declared.events.Event.{Event}
 use Rattle.orc_heap.specs.declared.links.Links.{Ghosts as LinksOf}
 use Rattle.orc_history.specs.SetHistory.{agent_of_set_entry}
@@ -11,7 +11,7 @@ use Rattle.orc_chain_rule.specs.ChainDiscipline.{entries_in}
 use Rattle.orc_chain_rule.specs.declared.chain.ChainNote.{ChainNote}
 use Rattle.orc_list.specs.Causes.{CostTurns, HasWorn, UsesTurns, WithinPart}
 use Rattle.orc_list.specs.Inserts.{SeesAbsent}
-use Rattle.orc_list.specs.Turns.{AreFew, LeavesOff}
+use Rattle.orc_list.specs.Turns.{AreFew, LeavesOff, MarksAlone}
 
 module _ {L D P S : Type 0} (members : LinksOf L D P S ChainNote) (links : L) where
   -- the root is that of the key
@@ -70,3 +70,11 @@ module _ {L D P S : Type 0} (members : LinksOf L D P S ChainNote) (links : L) wh
   -- the node at which the call took the key out is on no chain, nor is a node of the run that its Looks found before that
   abbrev pub LeavesOffChain : ℕ → P → P → Type 0
   LeavesOffChain key old new = LeavesOff key (call_events old new) (heap members links new)
+
+  -- one event of the call takes the key out at a node, and it is the call's only Move: no place was led past the node
+  abbrev pub LeavesMarked : ℕ → P → P → Type 0
+  LeavesMarked key old new = MarksAlone key (call_events old new)
+
+  -- the call looked, and moved nothing
+  abbrev pub LooksAlone : P → P → Type 0
+  LooksAlone old new = (1 ≤ length (call_events old new)) × (moves_in (call_events old new) ≡ 0)

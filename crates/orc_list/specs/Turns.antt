@@ -1,6 +1,6 @@
 -- What the turns of a call do. After Harris 2001.
 use Rattle.std.specs.List.{Contains}
-use Rattle.std.specs.Prelude.{Bool, List, MatchBool, None, Option, Some, [], false, length, true, ℕ, ◌*◌, ◌++◌, ◌+◌, ◌∷◌, ◌≡◌, ◌≤◌, ◌⊎◌}
+use Rattle.std.specs.Prelude.{Bool, List, MatchBool, None, Option, Some, [], false, if◌then◌else◌, length, true, ℕ, ◌*◌, ◌++◌, ◌+◌, ◌∷◌, ◌≡◌, ◌≤◌, ◌⊎◌}
 use Rattle.orc_heap.specs.Calls.{Misses, event_of}
 use Rattle.orc_heap.specs.Heap.{Heap, HeapNumbers, link_to}
 use Rattle.orc_heap.specs.Moves.{AllOwn, from_own, gives_in, moves_in}
@@ -134,7 +134,16 @@ RemovesTurn n key IsWorn turns s None t = Tires turns s t
 RemovesTurn n key IsWorn turns s (Some false) t = Answers turns s (Removed s.agent key false) t
 RemovesTurn n key IsWorn turns s (Some true) t = TakesOut n key IsWorn turns s t
 
--- the pass holds what it held
-pub record HoldsWhatItHeld (s t : Seat ChainNote) : Type 0 where
+-- among the events is one Move, which takes the key out at a node
+abbrev pub MarksAlone : ℕ → List (Event ChainNote) → Type 0
+MarksAlone key es = (moves_in es ≡ 1) × (id : ℕ) × TakesKey es key id
+
+-- a remove that stops before its last step: the pass holds what it held, and looked; a node was marked, by the only Move, or nothing moved
+pub record MarkStops (key : ℕ) (s : Seat ChainNote) (marked : Bool) (t : Seat ChainNote) : Type 0 where
+  pub own : List (Event ChainNote)
+  pub puts : Puts s own t
   pub slots : t.slots ≡ s.slots
   pub fresh : t.fresh ≡ s.fresh
+  pub some : 1 ≤ length own
+  pub entries_are : entries_of own ≡ (if marked then Removed s.agent key true ∷ [] else [])
+  pub moves : MatchBool marked (MarksAlone key own) (moves_in own ≡ 0)

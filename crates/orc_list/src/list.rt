@@ -1,12 +1,12 @@
 //! The list, and its calls.
 
-ghost use Rattle.std.specs.Prelude.{◌≡◌, [], ◌∷◌, Err, IfErr, IfOk, IsErr, Ok, true};
+ghost use Rattle.std.specs.Prelude.{◌≡◌, [], ◌∷◌, Err, IfErr, IfOk, IsErr, Ok, false, true};
 ghost use mathlib.Core.List.{IsPrefix};
 ghost use Rattle.orc_heap.specs.Domains.{IsCallAlone, MakesNoEvent, agent};
 ghost use Rattle.orc_heap.specs.Seats.{IsIdle};
 ghost use Rattle.orc_history.specs.declared.set.ListRefused.{ListRefused};
 ghost use Rattle.orc_history.specs.declared.set.SetEntry.{SetEntry};
-ghost use Rattle.orc_list.specs.ListCalls.{CostsOthers, Enters, EntersNone, FindsAbsent, FindsNoneWorn, FindsWorn, GivesAtMost, IsRootOf, LacksRow, LeavesOffChain, MakesFew, UsesAllTurns};
+ghost use Rattle.orc_list.specs.ListCalls.{CostsOthers, Enters, EntersNone, FindsAbsent, FindsNoneWorn, FindsWorn, GivesAtMost, IsRootOf, LacksRow, LeavesMarked, LeavesOffChain, LooksAlone, MakesFew, UsesAllTurns};
 
 use crate::answer::ask_turns;
 use crate::insert::insert_key;
@@ -93,7 +93,8 @@ impl<L: Links<Rule = Chain>> List<L> {
     /// events in each try for each node at whose link it looked, and 4.
     ///
     /// Where no other agent has a step in its part of the journal, and no row is worn, a remove that answered true leaves
-    /// the node of the key, and the marked nodes before it, on no chain.
+    /// the node of the key, and the marked nodes before it, on no chain. Of all rows it checks one alone, that of the node
+    /// behind these, to which it makes a link; where null is behind them it checks none.
     ///
     /// # Errors
     ///
@@ -155,8 +156,9 @@ impl<L: Links<Rule = Chain>> List<L> {
     }
 
     /// Marks the node with the key in one try, and leaves it on its chain: the state in which a thread leaves the list that
-    /// is stopped in `remove` before its last step. For tests of what the others do then. Answers whether a node was marked:
-    /// none was where the key was absent, or a link moved meanwhile.
+    /// is stopped in `remove` before its last step. For tests of what the others do then. Answers whether a node was marked,
+    /// which is the call's only Move: the node stays on its chain until another call leads past it. None was marked where the
+    /// key was absent, or a link moved meanwhile.
     pub fn mark_and_stop(&self, p: &mut L::Pass, root: u32, key: u64) -> bool
         requires pass { L.belongs self.now.links p.old }
         requires idle { IsIdle (L.seat self.now.links p.old) }
@@ -164,6 +166,11 @@ impl<L: Links<Rule = Chain>> List<L> {
         ensures pass { L.belongs self.now.links p.new }
         ensures idle { IsIdle (L.seat self.now.links p.new) }
         ensures later { IsPrefix (L.journal p.old) (L.journal p.new) }
+        ensures agent { agent L.Links self.now.links p.new ≡ agent L.Links self.now.links p.old }
+        ensures removed { result ≡ true → Enters L.Links self.now.links p.old p.new (λ agent. SetEntry.Removed agent key true ∷ []) }
+        ensures none { result ≡ false → EntersNone L.Links self.now.links p.old p.new }
+        ensures marked { result ≡ true → LeavesMarked L.Links self.now.links key p.old p.new }
+        ensures unmoved { result ≡ false → LooksAlone L.Links self.now.links p.old p.new }
     {
         stop_a_remove(&self.links, p, root, key)
     }

@@ -1,13 +1,13 @@
 //! One list as a set that agents share.
 
-ghost use Rattle.std.specs.Prelude.{◌≡◌, ◌<◌, ◌↔◌, ◌∷◌, [], ℕ, Err, IfErr, IfOk, IsErr, Ok, length, true};
+ghost use Rattle.std.specs.Prelude.{◌≡◌, ◌<◌, ◌↔◌, ◌∷◌, [], ℕ, Err, IfErr, IfOk, IsErr, Ok, false, length, true};
 ghost use mathlib.Core.List.{IsPrefix};
 ghost use Rattle.orc_heap.specs.Domains.{IsCallAlone, MakesNoEvent, agent};
 ghost use Rattle.orc_history.specs.Journals.{Within};
 ghost use Rattle.orc_history.specs.declared.set.ListRefused.{ListRefused};
 ghost use Rattle.orc_history.specs.declared.set.SetEntry.{SetEntry};
 ghost use Rattle.orc_list.specs.ListCalls.{CostsOthers, Enters, EntersNone, FindsAbsent, FindsNoneWorn, FindsWorn, GivesAtMost, LacksRow};
-ghost use Rattle.orc_list.specs.ListCalls.{LeavesOffChain, MakesFew, UsesAllTurns};
+ghost use Rattle.orc_list.specs.ListCalls.{LeavesMarked, LeavesOffChain, LooksAlone, MakesFew, UsesAllTurns};
 ghost use Rattle.orc_list.specs.SetMembers.{HasCause, IsUsable, set_history};
 ghost use Rattle.orc_list.specs.Laws.SetLaws.{cause_stays, entries_below, history_grows, seen_legal};
 
@@ -54,6 +54,11 @@ impl<L: Links<Rule = Chain>> OneList<L> {
         requires usable { IsUsable L.Links self.now.list.links p.old }
         ensures usable { IsUsable L.Links self.now.list.links p.new }
         ensures later { IsPrefix (L.journal p.old) (L.journal p.new) }
+        ensures agent { agent L.Links self.now.list.links p.new ≡ agent L.Links self.now.list.links p.old }
+        ensures removed { result ≡ true → Enters L.Links self.now.list.links p.old p.new (λ agent. SetEntry.Removed agent key true ∷ []) }
+        ensures none { result ≡ false → EntersNone L.Links self.now.list.links p.old p.new }
+        ensures marked { result ≡ true → LeavesMarked L.Links self.now.list.links key p.old p.new }
+        ensures unmoved { result ≡ false → LooksAlone L.Links self.now.list.links p.old p.new }
     {
         self.list.mark_and_stop(p, 0, key)
     }

@@ -9,7 +9,7 @@ ghost use Rattle.orc_chain_rule.specs.declared.chain.ChainNote.{ChainNote};
 ghost use Rattle.orc_list.specs.Answers.{RemovesTurns};
 ghost use Rattle.orc_list.specs.Causes.{HasWorn};
 ghost use Rattle.orc_list.specs.Searches.{FindsPresent, HasRoom, HoldsIfAny, NextFollows};
-ghost use Rattle.orc_list.specs.Turns.{HoldsWhatItHeld, Marks, RemovesNode, RemovesTurn, TriesUnlink, place_at, target_at};
+ghost use Rattle.orc_list.specs.Turns.{MarkStops, Marks, RemovesNode, RemovesTurn, TriesUnlink, place_at, target_at};
 
 use crate::answer::enter_absent;
 use crate::search::{Searched, search};
@@ -200,8 +200,8 @@ fn mark_and_go<L: Links<Rule = Chain>>(
     requires present { (s : Seat ChainNote) × FindsPresent (L.numbers links.now) root key left first node next s (L.seat links.now p.old) }
     ensures pass { L.belongs links.now p.new }
     ensures later { IsPrefix (L.journal p.old) (L.journal p.new) }
-    ensures held { (s : Seat ChainNote) → FindsPresent (L.numbers links.now) root key left first node next s (L.seat links.now p.old)
-        → HoldsWhatItHeld s (L.seat links.now p.new) }
+    ensures stopped { (s : Seat ChainNote) → FindsPresent (L.numbers links.now) root key left first node next s (L.seat links.now p.old)
+        → MarkStops key s result (L.seat links.now p.new) }
 {
     let marked = mark_node(links, p, key, &node, &next);
     let_all_go(links, p, left, first, Some(node), next);
@@ -220,7 +220,7 @@ pub(crate) fn stop_a_remove<L: Links<Rule = Chain>>(
     requires room { HasRoom (L.seat links.now p.old).slots }
     ensures pass { L.belongs links.now p.new }
     ensures later { IsPrefix (L.journal p.old) (L.journal p.new) }
-    ensures held { HoldsWhatItHeld (L.seat links.now p.old) (L.seat links.now p.new) }
+    ensures stopped { MarkStops key (L.seat links.now p.old) result (L.seat links.now p.new) }
 {
     match search(links, p, root, key) {
         Searched::Over => false,

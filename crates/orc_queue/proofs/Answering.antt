@@ -1,5 +1,5 @@
 -- A whole call, from the idle pass to the idle pass.
-use Rattle.std.proofs.Common.{List, Option, Some, None, Ok, Err, Result, [], ap, append-nil, arith, length, refl, suc, sym, zero, ℕ, ◌*◌, ◌∙◌, ◌∷◌, ◌≡◌, ◌≢◌, ◌≤◌}
+use Rattle.std.proofs.Common.{List, Option, Some, None, Ok, Err, Result, [], ap, append-nil, arith, inl, inr, length, refl, suc, sym, zero, ℕ, ◌*◌, ◌∙◌, ◌∷◌, ◌≡◌, ◌≢◌, ◌≤◌, ◌⊎◌}
 use Rattle.std.specs.List.{slice_get}
 use Rattle.orc_fault.specs.declared.Again.{Again as AgainFault}
 use Rattle.orc_heap.proofs.ByAnswer.{unless_same}
@@ -19,7 +19,7 @@ use Rattle.orc_history.specs.declared.queue.QueueRefused.{QueueRefused}
 use Rattle.orc_history.specs.declared.queue.QueueRefused.TheVariants.{Again, NoNode, Positions}
 use Rattle.orc_fifo_rule.specs.declared.fifo.FifoNote.{FifoNote}
 use Rattle.orc_fifo_rule.specs.QueueDiscipline.{entries_of}
-use Rattle.orc_queue.specs.Answers.{IsCall, PutAnswers, PutFull, PutLacking, PutMade, PutTired, TakeAnswers, TakeMade, Tires, gives_of}
+use Rattle.orc_queue.specs.Answers.{IsCall, PutAnswers, PutFull, PutLacking, PutMade, PutTired, StopsPiece, StopsShort, TakeAnswers, TakeMade, Tires, gives_of}
 use Rattle.orc_queue.specs.Turns.{AreOver, EndsHelping, FindsFull, HoldsNode, IsFull, Piece, PutTires, PutsJob, TailIsPast}
 use Rattle.orc_queue.proofs.Backs.{backs_since_both}
 use Rattle.orc_queue.proofs.Joins.{full_join_left, full_join_right, room_join}
@@ -159,6 +159,41 @@ module _ {n : HeapNumbers} {job : ℕ} (turns : ℕ) {h : Hold} {s a b t : Seat 
         helps =
             ends_helping (event_of s Give None ∷ event_of s (Fill g.id 0 job) None ∷ event_of s (Fill g.id 1 0) None ∷ []) p.own l.helps;
       }
+
+-- a put that stops
+module _ {n : HeapNumbers} {job : ℕ} {h : Hold} {s a b t : Seat FifoNote} (idle : IsIdle s) (g : Gives n 1 job 0 s h a) (w : Releases b h t) where
+  pub put_stops : (es fs : List QueueEntry) → StopsPiece 4 a es b → (b.fresh ≡ a.fresh) ⊎ (b.fresh ≡ None) → es ≡ fs → StopsShort 1 s fs t
+  put_stops es fs p fresh is =
+      let node = given_held n job h s a (idle_free s idle) g in
+      let gone : t.fresh ≡ None = elim fresh [
+        | inl same ↦ fresh_released 1 idle g (λ e. omega (arith, e)) w p.piece.slots same
+        | inr none ↦ w.fresh ∙ ap (λ o. unless_node o (Some (id_in b.slots h))) none
+      ] in
+      record {
+        call = record {
+          idle = put_idle 1 idle g (λ e. omega (arith, e)) w p.piece.slots gone;
+          own = _;
+          puts = all_puts 1 idle g (λ e. omega (arith, e)) w p.piece.own p.piece.puts p.piece.no_give (omega (arith, p.piece.few));
+          entries_are = p.piece.entries_are ∙ is;
+          gives = omega (arith, p.piece.no_give);
+          few = omega (arith, p.piece.few);
+        };
+        keeps = p.keeps;
+      }
+
+-- no node for it
+pub stops_lacking : (s t : Seat FifoNote) → IsIdle s → Only [] s t → StopsShort 0 s [] t
+stops_lacking s t idle o = record {
+  call = record {
+    idle = record { slots = o.slots ∙ idle.slots; fresh = o.fresh ∙ idle.fresh };
+    own = [];
+    puts = o.puts;
+    entries_are = refl;
+    gives = refl;
+    few = omega arith;
+  };
+  keeps = refl;
+}
 
 -- no turn
 pub put_none : (n : HeapNumbers) (s : Seat FifoNote) → IsIdle s → PutTired n 0 s s

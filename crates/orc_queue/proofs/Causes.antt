@@ -8,13 +8,13 @@ use Rattle.std.specs.Prelude.{IfErr, IfOk, IsErr, ◌↔◌}
 use mathlib.Core.List.{IsPrefix}
 use Rattle.orc_heap.proofs.Moved.{gives_in-append}
 use Rattle.orc_heap.proofs.OwnParts.{from_own-others, own_from}
-use Rattle.orc_heap.proofs.Steps.{events_grow, part_bounds, part_within, part_events}
+use Rattle.orc_heap.proofs.Steps.{events_grow, part_bounds, part_events}
 use Rattle.orc_heap.proofs.Stays.{allowed-right}
 use Rattle.orc_heap.specs.Allowed.{AllAllowed, events_by}
 use Rattle.orc_heap.specs.Heap.{HeapNumbers}
 use Rattle.orc_heap.specs.Journals.{run_heap}
 use Rattle.orc_heap.specs.Moves.{AllOwn, from_own, gives_in}
-use Rattle.orc_heap.specs.OwnEvents.{IsBelow}
+use Rattle.orc_heap.specs.OwnEvents.{IsBelow, Puts}
 use Rattle.orc_history.specs.Parts.{InPart, IsAlone, part_begin}
 use Rattle.orc_heap.specs.Seats.{Seat}
 use Rattle.orc_heap.specs.declared.events.Event.{Event}
@@ -29,12 +29,13 @@ use Rattle.orc_fifo_rule.proofs.OwnEntries.{entries_own}
 use Rattle.orc_fifo_rule.specs.declared.fifo.FifoNote.{FifoNote}
 use Rattle.orc_heap.specs.declared.links.Links.{Ghosts as LinksOf}
 use Rattle.orc_fifo_rule.specs.QueueDiscipline.{FifoMay, entries_of, position_of, entries_in}
-use Rattle.orc_queue.specs.Answers.{CallFindsFull, IsCall, PutAnswers, TakeAnswers, gives_of}
-use Rattle.orc_queue.specs.Causes.{Cause, LacksPosition, UsesTurns}
-use Rattle.orc_queue.specs.Turns.{FindsFull, HasDummy, TailIsLast}
+use Rattle.orc_queue.specs.Answers.{CallFindsFull, IsCall, PutAnswers, StopsShort, TakeAnswers, gives_of}
+use Rattle.orc_queue.specs.Causes.{BeforeFirstStep, Cause, FromFirstStep, LacksPosition, UsesTurns}
+use Rattle.orc_queue.specs.Turns.{FindsFull, HasDummy, KeepsTail, TailIsLast}
 use Rattle.orc_queue.specs.Laws.Histories.{first_stays}
 use Rattle.orc_queue.proofs.Alone.{tail_settles, alone_runs}
 use Rattle.orc_queue.proofs.Filled.{Known}
+use Rattle.orc_queue.proofs.Lacking.{lacks_within}
 use Rattle.orc_queue.proofs.Room.{full_puts}
 use Rattle.orc_heap.proofs.OwnEntries.{entries_added, own_of_events}
 use Rattle.orc_heap.proofs.Calls.{part_allowed}
@@ -82,18 +83,29 @@ pub take_any : (turns : ℕ) (s t : Seat FifoNote) (r : Result (Option (ℕ × �
 take_any turns s t (Ok got) l = record { entries = _; call = l.call }
 take_any turns s t (Err again) l = record { entries = _; call = l.call }
 
+-- what its own events are then
+own_after : (s t : Seat FifoNote) (own : List (Event FifoNote)) → Puts s own t → events_by t.agent t.seen ≡ events_by s.agent s.seen ++ own
+own_after s t own p =
+    ap (λ (a : ℕ). events_by a t.seen) p.agent
+    ∙ (ap (λ z. events_by s.agent z) p.is ∙ (filter-append (λ e. e.agent == s.agent) s.seen p.part ∙ ap (λ z. events_by s.agent s.seen ++ z) p.own_is))
+
 module _ (given turns : ℕ) (s t : Seat FifoNote) (any : AnyCall given turns s t) where
   own_events : events_by t.agent t.seen ≡ events_by s.agent s.seen ++ any.call.own
-  own_events =
-      let p = any.call.puts in
-      ap (λ (a : ℕ). events_by a t.seen) p.agent
-      ∙ (ap (λ z. events_by s.agent z) p.is ∙ (filter-append (λ e. e.agent == s.agent) s.seen p.part ∙ ap (λ z. events_by s.agent s.seen ++ z) p.own_is))
+  own_events = own_after s t any.call.own any.call.puts
 
   pub any_gives : gives_in (events_by t.agent t.seen) ≡ gives_in (events_by s.agent s.seen) + given
   any_gives = rw own_events (omega (arith, gives_in-append (events_by s.agent s.seen) any.call.own, any.call.gives))
 
   pub any_tries : length (events_by t.agent t.seen) ≤ length (events_by s.agent s.seen) + 6 * turns + 3 * given
   any_tries = rw own_events (omega (arith, length-append (events_by s.agent s.seen) any.call.own, any.call.few))
+
+-- a put that stops moves the tail nowhere
+pub stop_tail : (given : ℕ) (s t : Seat FifoNote) (es : List QueueEntry) → StopsShort given s es t
+    → KeepsTail (drop (length (events_by s.agent s.seen)) (events_by t.agent t.seen))
+stop_tail given s t es c =
+    let is = own_after s t c.call.own c.call.puts in
+    subst (λ z. KeepsTail z)
+    (sym (ap (λ z. drop (length (events_by s.agent s.seen)) z) is ∙ drop-append_seam (events_by s.agent s.seen) c.call.own)) c.keeps
 
 -- a call with no turn
 any_none : (s t : Seat FifoNote) → AnyCall 0 0 s t → events_by t.agent t.seen ≡ events_by s.agent s.seen
@@ -205,7 +217,7 @@ module _ {S : Type 0} {n : HeapNumbers} {agents : ℕ} {agent_of : S → ℕ} {e
     pub put_licence : (turns : ℕ) (opening : List (Event FifoNote)) → HasDummy n opening → IsPrefix opening t.seen → Known n s.seen
         → (Lacks : ℕ → ℕ → Type 0) (r : Result ℕ QueueRefused)
         → (turns ≡ 0 → r ≡ Err Again) → (r ≡ Err Again → InPart agent_of s.agent j k (λ from to. UsesTurns agent_of events s.agent turns k from to))
-        → (r ≡ Err NoNode → (seen : List S) × IsPrefix j seen × IsPrefix seen k × InPart agent_of s.agent j seen Lacks)
+        → (r ≡ Err NoNode → FromFirstStep agent_of s.agent j k Lacks ⊎ BeforeFirstStep agent_of s.agent j k Lacks)
         → ((r ≡ Err Positions) ↔ CallFindsFull n s t)
         → IfErr r (λ e. Within (length j) (length k)
         (λ from to. Cause agent_of events (position_of (run_heap n opening) 0) (Lacks from to) s.agent turns e k from to))
@@ -215,8 +227,7 @@ module _ {S : Type 0} {n : HeapNumbers} {agents : ℕ} {agent_of : S → ℕ} {e
         (part_begin agent_of s.agent j k, length k, bounds.0, bounds.1, omega arith, again refl)
     put_licence turns opening made begins known Lacks (Err NoNode) none again node full =
         let some : turns ≢ 0 = λ zero_turns. let bad : ◌≡◌ {A = Result ℕ QueueRefused} (Err NoNode) (Err Again) = none zero_turns in cc in
-        let (seen, one, two, lacks) = node refl in
-        let (from, to, a, b, c, lacks) = part_within agent_of s.agent j seen k Lacks one two lacks in
+        let (from, to, a, b, c, lacks) = lacks_within agent_of s.agent j k Lacks o.grows (node refl) in
         (from, to, a, b, c, (some, lacks))
     put_licence turns opening made begins known Lacks (Err Positions) none again node full =
         let some : turns ≢ 0 = λ zero_turns. let bad : ◌≡◌ {A = Result ℕ QueueRefused} (Err Positions) (Err Again) = none zero_turns in cc in
@@ -247,14 +258,6 @@ call_seen m links p q seen_is allowed below adds before after grows = record {
   all = allowed q after;
   below = below;
 }
-
--- a fact of the part of a call, as the pass had seen it at some time, stays one of the longer journal
-pub during : {S : Type 0} (agent_of : S → ℕ) (agent : ℕ) (Fact : List S → ℕ → ℕ → Type 0)
-    → ((j more : List S) (from to : ℕ) → Fact j from to → Fact (j ++ more) from to)
-    → (j k m : List S) → IsPrefix j k → IsPrefix k m → InPart agent_of agent j k (Fact k)
-    → (seen : List S) × IsPrefix j seen × IsPrefix seen m × InPart agent_of agent j seen (Fact m)
-during agent_of agent Fact stays j k m grows (more, is) fact =
-    (k, grows, (more, is), subst (λ z. Fact z (part_begin agent_of agent j k) (length k)) is (stays k more _ _ fact))
 
 -- the entries of each of two agents in what both have seen
 pub learns : {S : Type 0} (n : HeapNumbers) (events : List S → List (Event FifoNote)) (agent1 agent2 : ℕ) (s1 s2 t1 : Seat FifoNote)

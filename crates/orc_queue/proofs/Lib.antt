@@ -5,12 +5,14 @@ pub mod Causes
 pub mod Filled
 pub mod Holding
 pub mod Joins
+pub mod Lacking
 pub mod Linking
 pub mod Looking
 pub mod Openings
 pub mod Pieces
 pub mod PutTurns
 pub mod Room
+pub mod Stopping
 pub mod TakeTurns
 pub mod Taking
 mod Backs

@@ -1,5 +1,5 @@
 -- Linking the new node behind the last one.
-use Rattle.std.proofs.Common.{Bool, List, Option, Some, None, [], ap, append-nil, append_assoc, arith, cond, false, inl, inr, refl, subst, sym, ℕ, ◌++◌, ◌+◌, ◌<◌, ◌^◌, ◌∙◌, ◌∷◌, ◌≡◌, ◌⊎◌}
+use Rattle.std.proofs.Common.{Bool, List, Option, Some, None, [], length, ap, append-nil, append_assoc, arith, cond, false, inl, inr, refl, subst, sym, ℕ, ◌++◌, ◌+◌, ◌<◌, ◌^◌, ◌∙◌, ◌∷◌, ◌≡◌, ◌≤◌, ◌⊎◌}
 use Rattle.std.proofs.lemmas.Bool.{eq-eqb}
 use Rattle.std.proofs.lemmas.List.{length-append}
 use Rattle.std.specs.List.{list_any, slice_get}
@@ -11,12 +11,13 @@ use Rattle.orc_heap.specs.Calls.{Misses, ReadsValue, event_of, given_node, unles
 use Rattle.orc_heap.specs.Heap.{HeapNumbers, Node, null, link_to}
 use Rattle.orc_heap.specs.Journals.{run_heap}
 use Rattle.orc_heap.specs.OwnEvents.{Only, Puts}
-use Rattle.orc_heap.specs.Moves.{gives_in}
+use Rattle.orc_heap.specs.Moves.{gives_in, move_with, moves_in, moves_place}
+use Rattle.orc_heap.specs.declared.events.Act.{Act}
 use Rattle.orc_heap.specs.Seats.{Seat, heap_of}
 use Rattle.orc_heap.specs.Slots.{Hold, id_in}
-use Rattle.orc_heap.specs.declared.events.Act.TheVariants.{Fill, Miss, Move}
+use Rattle.orc_heap.specs.declared.events.Act.TheVariants.{Aim, AimSide, Fill, Give, Look, Miss, Move}
 use Rattle.orc_heap.specs.declared.events.Event.{Event}
-use Rattle.orc_heap.specs.declared.events.Place.TheVariants.{Next}
+use Rattle.orc_heap.specs.declared.events.Place.TheVariants.{Next, Root}
 use Rattle.orc_history.specs.declared.queue.QueueEntry.TheVariants.{Put}
 use Rattle.orc_fifo_rule.proofs.Coming.{put_allowed}
 use Rattle.orc_fifo_rule.proofs.Later.{link_later, linked_later}
@@ -27,6 +28,7 @@ use Rattle.orc_fifo_rule.specs.Watches.{WasNamed, node_to_put}
 use Rattle.orc_fifo_rule.specs.Laws.Nodes.{link_next}
 use Rattle.orc_queue.specs.declared.put.PutTurn.{PutTurn}
 use Rattle.orc_queue.specs.declared.put.PutTurn.TheVariants.{Full, Over as PutOver, Put as PutDone}
+use Rattle.orc_queue.specs.Answers.{StopsPiece, stop_entries}
 use Rattle.orc_queue.specs.Turns.{Helps, HoldsNode, KeepsTail, LinkMissed, LinksBehind, LinksJob, SwingsLast, SwingsTail}
 use Rattle.orc_queue.proofs.Backs.{miss_back}
 use Rattle.orc_queue.proofs.Filled.{Known}
@@ -199,17 +201,50 @@ link_helped n job tail next at h s c t all l helped =
           link = link_puts n c t (e ∷ []) q all tail (id_in s.slots h) l.link;
         }
 
--- what the pass holds after the link
-pub record LinkKept (s t : Seat FifoNote) : Type 0 where
-  pub own : List (Event FifoNote)
-  pub slots : t.slots ≡ s.slots
-  pub puts : Puts s own t
+-- events that move nothing keep the tail
+act_keeps : (act : Act) → move_with act ≡ 0 → moves_place (Root 1) act ≡ false
+act_keeps Give none = refl
+act_keeps (Fill id which value) none = refl
+act_keeps (Aim id to) none = refl
+act_keeps (AimSide id to) none = refl
+act_keeps (Look place link) none = refl
+act_keeps (Move place from to) none = absurd (omega (arith, none))
+act_keeps (Miss place wanted found) none = refl
+
+quiet_keeps : (es : List (Event FifoNote)) → moves_in es ≡ 0 → KeepsTail es
+quiet_keeps [] none = refl
+quiet_keeps (e ∷ es) none = rw (act_keeps e.act (omega (arith, none))) (quiet_keeps es (omega (arith, none)))
+
+empty_keeps : (es : List (Event FifoNote)) → length es ≤ 0 → KeepsTail es
+empty_keeps [] few = refl
+empty_keeps (e ∷ es) few = absurd (omega (arith, few))
+
+-- what the pass did by the link, and what it holds after it
+pub record LinkKept (job : ℕ) (s : Seat FifoNote) (turn : PutTurn) (t : Seat FifoNote) : Type 0 where
+  pub stops : StopsPiece 2 s (stop_entries s.agent job turn) t
   pub fresh : (t.fresh ≡ s.fresh) ⊎ (t.fresh ≡ None)
 
-pub link_kept : (n : HeapNumbers) (most : ℕ) (IsHelping : List (Event FifoNote) → Type 0) (job tail : ℕ) (h : Hold) (s t : Seat FifoNote)
-    (turn : PutTurn) → LinksBehind n most IsHelping job tail h s turn t → LinkKept s t
-link_kept n most IsHelping job tail h s t PutOver l =
-    record { own = l.stops.piece.own; slots = l.stops.piece.slots; puts = l.stops.piece.puts; fresh = inl l.stops.fresh }
-link_kept n most IsHelping job tail h s t (PutDone at) l =
-    record { own = l.puts.piece.own; slots = l.puts.piece.slots; puts = l.puts.piece.puts; fresh = inr l.puts.fresh }
-link_kept n most IsHelping job tail h s t Full l = record { own = l.piece.own; slots = l.piece.slots; puts = l.piece.puts; fresh = inl l.fresh }
+pub link_kept : (n : HeapNumbers) (job tail : ℕ) (h : Hold) (s t : Seat FifoNote) (turn : PutTurn)
+    → LinksBehind n 2 KeepsTail job tail h s turn t → LinkKept job s turn t
+link_kept n job tail h s t PutOver l = record {
+  stops = record {
+    piece = l.stops.piece;
+    keeps = elim l.stops.own_moves [ inl none ↦ quiet_keeps l.stops.piece.own none | inr helped ↦ absurd helped ];
+  };
+  fresh = inl l.stops.fresh;
+}
+link_kept n job tail h s t (PutDone at) l = record { stops = record { piece = l.puts.piece; keeps = l.puts.helps }; fresh = inr l.puts.fresh }
+link_kept n job tail h s t Full l = record {
+  stops = record {
+    piece = record {
+      own = l.piece.own;
+      slots = l.piece.slots;
+      puts = l.piece.puts;
+      entries_are = l.piece.entries_are;
+      no_give = l.piece.no_give;
+      few = omega (arith, l.piece.few);
+    };
+    keeps = empty_keeps l.piece.own l.piece.few;
+  };
+  fresh = inl l.fresh;
+}

@@ -1,5 +1,5 @@
 -- What a call did, by its answer.
-use Rattle.std.specs.Prelude.{Err, List, Ok, Option, Result, [], drop, length, suc, zero, ℕ, ◌*◌, ◌+◌, ◌<◌, ◌^◌, ◌∷◌, ◌≡◌, ◌≢◌, ◌≤◌}
+use Rattle.std.specs.Prelude.{Err, List, None, Ok, Option, Result, Some, [], drop, length, suc, zero, ℕ, ◌*◌, ◌+◌, ◌<◌, ◌^◌, ◌∷◌, ◌≡◌, ◌≢◌, ◌≤◌, ◌⊎◌}
 use Rattle.orc_fault.specs.declared.Again.{Again as AgainFault}
 use Rattle.orc_heap.specs.Heap.{HeapNumbers}
 use Rattle.orc_heap.specs.Moves.{AllOwn, from_own, gives_in, moves_in}
@@ -13,7 +13,9 @@ use Rattle.orc_history.specs.declared.queue.QueueRefused.{QueueRefused}
 use Rattle.orc_history.specs.declared.queue.QueueRefused.TheVariants.{Again, NoNode, Positions}
 use Rattle.orc_fifo_rule.specs.declared.fifo.FifoNote.{FifoNote}
 use Rattle.orc_fifo_rule.specs.QueueDiscipline.{entries_of}
-use Rattle.orc_queue.specs.Turns.{EndsHelping, FindsFull, back_moves_in}
+use Rattle.orc_queue.specs.Turns.{EndsHelping, FindsFull, KeepsTail, Piece, back_moves_in}
+use Rattle.orc_queue.specs.declared.put.PutTurn.{PutTurn}
+use Rattle.orc_queue.specs.declared.put.PutTurn.TheVariants.{Full, Over as PutOver, Put as PutDone}
 
 -- a call of so many turns that leaves the pass idle: its own events enter these entries and give so many nodes; at most 6 of
 -- them are of each turn, and 3 of each node that is given
@@ -88,3 +90,24 @@ pub record TakeMade (turns : ℕ) (got : Option (ℕ × ℕ)) (s t : Seat FifoNo
 abbrev pub TakeAnswers : ℕ → Seat FifoNote → Result (Option (ℕ × ℕ)) AgainFault → Seat FifoNote → Type 0
 TakeAnswers turns s (Ok got) t = TakeMade turns got s t
 TakeAnswers turns s (Err again) t = Tires 0 turns s t
+
+-- what a turn of a put that stops before its last step enters
+abbrev pub stop_entries : ℕ → ℕ → PutTurn → List QueueEntry
+stop_entries agent job (PutDone at) = Put agent job at ∷ []
+stop_entries agent job PutOver = []
+stop_entries agent job Full = []
+
+-- a piece of such a put: it moves root 1 nowhere
+pub record StopsPiece (most : ℕ) (s : Seat FifoNote) (entries : List QueueEntry) (t : Seat FifoNote) : Type 0 where
+  pub piece : Piece most s entries t
+  pub keeps : KeepsTail piece.own
+
+-- such a put, whole
+pub record StopsShort (given : ℕ) (s : Seat FifoNote) (entries : List QueueEntry) (t : Seat FifoNote) : Type 0 where
+  pub call : IsCall given 1 s entries t
+  pub keeps : KeepsTail call.own
+
+-- by its answer, where `Lacks` says that no row could be given
+abbrev pub PutStops : ℕ → Type 0 → Seat FifoNote → Option ℕ → Seat FifoNote → Type 0
+PutStops job Lacks s (Some at) t = StopsShort 1 s (Put s.agent job at ∷ []) t
+PutStops job Lacks s None t = StopsShort 1 s [] t ⊎ (Lacks × StopsShort 0 s [] t)

@@ -1,8 +1,9 @@
 -- Why a call of the queue is refused: facts of a journal and two places in it.
 use Rattle.std.specs.List.{list_all}
-use Rattle.std.specs.Prelude.{List, drop, length, take, true, ℕ, ◌*◌, ◌+◌, ◌==◌, ◌^◌, ◌≡◌, ◌≢◌, ◌≤◌}
+use Rattle.std.specs.Prelude.{List, drop, length, take, true, ℕ, ◌*◌, ◌+◌, ◌<◌, ◌==◌, ◌^◌, ◌≡◌, ◌≢◌, ◌≤◌}
 use Rattle.orc_heap.specs.Moves.{moves_in}
 use Rattle.orc_heap.specs.declared.events.Event.{Event}
+use Rattle.orc_history.specs.Parts.{part_begin}
 use Rattle.orc_history.specs.QueueHistory.{puts_in}
 use Rattle.orc_history.specs.declared.queue.QueueEntry.{QueueEntry}
 use Rattle.orc_history.specs.declared.queue.QueueRefused.{QueueRefused}
@@ -15,6 +16,15 @@ use Rattle.orc_fifo_rule.specs.QueueDiscipline.{entries_of}
 abbrev pub entered_by_others : {S : Type 0} → (List S → List (Event FifoNote)) → ℕ → List S → ℕ → ℕ → List QueueEntry
 entered_by_others events agent journal from to =
     entries_of_others agent (drop (length (entries_of (events (take from journal)))) (entries_of (events (take to journal))))
+
+-- a fact of the first step of a call's part of the journal and a later place of that part
+abbrev pub FromFirstStep : {S : Type 0} → (S → ℕ) → ℕ → List S → List S → (ℕ → ℕ → Type 0) → Type 0
+FromFirstStep agent_of agent before after Fact = (to : ℕ) × (part_begin agent_of agent before after < to) × (to ≤ length after)
+    × Fact (part_begin agent_of agent before after) to
+
+-- a fact of the one place to which the journal had come in the call, no later than the call's first step
+abbrev pub BeforeFirstStep : {S : Type 0} → (S → ℕ) → ℕ → List S → List S → (ℕ → ℕ → Type 0) → Type 0
+BeforeFirstStep agent_of agent before after Fact = (at : ℕ) × (length before ≤ at) × (at ≤ part_begin agent_of agent before after) × Fact at at
 
 -- all turns were used: as many Moves stand between the two places, and a step of another agent if they are two or more; and
 -- others' Puts and Tooks there, of which each Put costs at most two turns and each Took one, cost all turns but one

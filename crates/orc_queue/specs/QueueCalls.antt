@@ -1,6 +1,6 @@
 -- What the contracts of the queue's calls say of a pass before a call, `old`, and after it, `new`.
-use Rattle.std.specs.Prelude.{List, [], length, ℕ}
-use Rattle.orc_heap.specs.Domains.{DuringCall, Enters as EntersHistory, InCall, agent, heap}
+use Rattle.std.specs.Prelude.{List, [], drop, length, ℕ, ◌⊎◌}
+use Rattle.orc_heap.specs.Domains.{Enters as EntersHistory, InCall, agent, heap, own_events}
 use Rattle.orc_heap.specs.Journals.{run_heap}
 use Rattle.orc_heap.specs.declared.links.Links.{Ghosts as LinksOf}
 use Rattle.orc_history.specs.Parts.{part_begin}
@@ -11,8 +11,8 @@ use Rattle.orc_fifo_rule.specs.declared.fifo.FifoNote.{FifoNote}
 use Rattle.orc_fifo_rule.specs.Counts.{tooks_in}
 use Rattle.orc_fifo_rule.specs.QueueDiscipline.{entries_in, position_of}
 use Rattle.orc_queue.specs.Answers.{CallFindsFull}
-use Rattle.orc_queue.specs.Causes.{Cause, UsesTurns, entered_by_others}
-use Rattle.orc_queue.specs.Turns.{TailIsLast}
+use Rattle.orc_queue.specs.Causes.{BeforeFirstStep, Cause, FromFirstStep, UsesTurns, entered_by_others}
+use Rattle.orc_queue.specs.Turns.{KeepsTail, TailIsLast}
 
 module _ {L D P S : Type 0} (members : LinksOf L D P S FifoNote) (links : L) where
   -- the call enters these entries of its agent, and others' entries may stand among them
@@ -41,9 +41,14 @@ module _ {L D P S : Type 0} (members : LinksOf L D P S FifoNote) (links : L) whe
   abbrev pub others_tooks : P → P → ℕ
   others_tooks old new = tooks_in (others_entries old new)
 
-  -- no row could be given to the call's agent in the part that the call had made by some time
+  -- no row could be given to the call's agent: from the call's first step on; or, where the refused give made no step, at the place to
+  -- which the journal had come by then
   abbrev pub LacksRow : P → P → Type 0
-  LacksRow old new = DuringCall members links old new (members.lacking links (agent members links old) (members.journal new))
+  LacksRow old new =
+      FromFirstStep members.agent_of (agent members links old) (members.journal old) (members.journal new)
+      (members.lacking links (agent members links old) (members.journal new))
+      ⊎ BeforeFirstStep members.agent_of (agent members links old) (members.journal old) (members.journal new)
+      (members.lacking links (agent members links old) (members.journal new))
 
   -- the call found the end of the queue where no position was left
   abbrev pub FindsNoPosition : P → P → Type 0
@@ -52,6 +57,10 @@ module _ {L D P S : Type 0} (members : LinksOf L D P S FifoNote) (links : L) whe
   -- the tail is at the last node, as far as the pass has seen
   abbrev pub LeavesTailLast : P → Type 0
   LeavesTailLast new = TailIsLast (heap members links new)
+
+  -- no event of the call moves the tail
+  abbrev pub LeavesTail : P → P → Type 0
+  LeavesTail old new = KeepsTail (drop (length (own_events members links old)) (own_events members links new))
 
   -- a refusal has its cause between two places of the journal
   abbrev pub HasCause : ℕ → ℕ → QueueRefused → List S → ℕ → ℕ → Type 0

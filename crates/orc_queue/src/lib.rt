@@ -8,6 +8,3 @@ mod swings;
 mod take;
 
 pub use queue::Queue;
-
-#[cfg(test)]
-mod tests;

@@ -1,6 +1,6 @@
 //! The queue, and its calls.
 
-ghost use Rattle.std.specs.Prelude.{◌≡◌, ℕ, ◌*◌, ◌+◌, ◌<◌, ◌≤◌, ◌↔◌, List, [], ◌∷◌, Err, IfOk, IfErr, IsErr, length};
+ghost use Rattle.std.specs.Prelude.{◌≡◌, ℕ, ◌*◌, ◌+◌, ◌<◌, ◌≤◌, ◌↔◌, List, [], ◌∷◌, Err, IfOk, IfErr, IfSome, IsErr, None, length, ◌⊎◌};
 ghost use mathlib.Core.List.{IsPrefix};
 ghost use Rattle.orc_heap.specs.Domains.{GivesNodes, IsCallAlone, MakesAtMost, MakesNoEvent, agent};
 ghost use Rattle.orc_heap.specs.Journals.{run_heap};
@@ -13,7 +13,7 @@ ghost use Rattle.orc_fifo_rule.specs.QueueDiscipline.{entries_of, position_of};
 ghost use Rattle.orc_queue.specs.Answers.{gives_of};
 ghost use Rattle.orc_queue.specs.Causes.{Cause};
 ghost use Rattle.orc_queue.specs.Laws.Histories.{cause_puts, cause_stays, entries_below, history_grows, seen_legal};
-ghost use Rattle.orc_queue.specs.QueueCalls.{Enters, EntersNone, FindsNoPosition, LacksRow, LeavesTailLast, UsesAllTurns};
+ghost use Rattle.orc_queue.specs.QueueCalls.{Enters, EntersNone, FindsNoPosition, LacksRow, LeavesTail, LeavesTailLast, UsesAllTurns};
 ghost use Rattle.orc_queue.specs.QueueCalls.{HasCause, others_puts, others_tooks};
 ghost use Rattle.orc_queue.specs.Turns.{HasDummy};
 
@@ -68,7 +68,8 @@ impl<L: Links<Rule = Fifo>> Queue<L> {
     ///
     /// * `Again` if all tries were used up. With no turns it gives no node and makes no event. Each Put of another agent in
     ///   the call's part uses up at most two tries, and one try more may be used up by a swing of the tail.
-    /// * `NoNode` if the domain had no node to give.
+    /// * `NoNode` if the domain had no node to give: from the call's first step on, or, where the refused give made no step, at
+    ///   the place to which the journal had come. What others did before that licenses no answer.
     /// * `Positions` if it came to the last node and no position is left behind that.
     pub fn put(&self, p: &mut L::Pass, job: u64, turns: u64) -> Result<u64, QueueRefused>
         requires pass { L.belongs self.now.links p.old }
@@ -130,14 +131,22 @@ impl<L: Links<Rule = Fifo>> Queue<L> {
 impl<L: Links<Rule = Fifo>> Queue<L> {
     /// Links a node with the job behind the node that the tail names, in one try, and leaves the tail there: the state in
     /// which a thread leaves the queue that is stopped in `put` before its last step. For tests of what the others do then.
-    /// Answers the job's position; None where nothing was linked, because no row or no position was left, or the tail
-    /// lagged or moved on meanwhile.
+    /// No event of the call moves the tail, which lags from then on until another call helps it on.
+    ///
+    /// Answers the job's position; None where nothing was linked: no row could be given; or a node was, and was let go,
+    /// because no position was left, or the tail lagged or moved on meanwhile.
     pub fn put_and_stop(&self, p: &mut L::Pass, job: u64) -> Option<u64>
         requires pass { L.belongs self.now.links p.old }
         requires idle { IsIdle (L.seat self.now.links p.old) }
         ensures pass { L.belongs self.now.links p.new }
         ensures idle { IsIdle (L.seat self.now.links p.new) }
         ensures later { IsPrefix (L.journal p.old) (L.journal p.new) }
+        ensures agent { agent L.Links self.now.links p.new ≡ agent L.Links self.now.links p.old }
+        ensures put { IfSome result (λ at. Enters L.Links self.now.links p.old p.new (λ agent. QueueEntry.Put agent job at ∷ [])) }
+        ensures none { result ≡ None → EntersNone L.Links self.now.links p.old p.new }
+        ensures gives { GivesNodes L.Links self.now.links 1 p.old p.new ⊎ ((result ≡ None) × LacksRow L.Links self.now.links p.old p.new) }
+        ensures tries { MakesAtMost L.Links self.now.links 9 p.old p.new }
+        ensures tail { LeavesTail L.Links self.now.links p.old p.new }
     {
         stop_a_put(&self.links, p, job)
     }

@@ -4,6 +4,8 @@ ghost use Rattle.std.specs.Prelude.{◌≡◌, ◌⊎◌, None};
 ghost use mathlib.Core.List.{IsPrefix};
 ghost use Rattle.orc_heap.specs.Seats.{IsIdle};
 ghost use Rattle.orc_heap.specs.Slots.{IsFree};
+ghost use Rattle.orc_history.specs.Parts.{InPart};
+ghost use Rattle.orc_queue.specs.Answers.{PutStops, StopsPiece, stop_entries};
 ghost use Rattle.orc_queue.specs.Turns.{HasDummy, HoldsNode};
 
 use crate::put::{PutTurn, link_node};
@@ -18,16 +20,19 @@ pub(crate) fn stop_a_put<L: Links<Rule = Fifo>>(links: &L, p: &mut L::Pass, job:
     requires idle { IsIdle (L.seat links.now p.old) }
     ensures pass { L.belongs links.now p.new }
     ensures later { IsPrefix (L.journal p.old) (L.journal p.new) }
-    ensures idle { IsIdle (L.seat links.now p.new) }
+    ensures stopped { PutStops job (InPart L.agent_of (L.seat links.now p.old).agent (L.journal p.old) (L.journal p.new)
+        (L.lacking links.now (L.seat links.now p.old).agent (L.journal p.new))) (L.seat links.now p.old) result (L.seat links.now p.new) }
 {
-    let Ok(node) = links.give(p, 1, job, 0) else {
-        return None;
+    let node = match links.give(p, 1, job, 0) {
+        Ok(node) => node,
+        Err(_) => return None,
     };
     let turn = link_at_tail(links, p, &node, job);
     links.release(p, node);
     match turn {
         PutTurn::Put(at) => Some(at),
-        PutTurn::Full | PutTurn::Over => None,
+        PutTurn::Full => None,
+        PutTurn::Over => None,
     }
 }
 
@@ -39,7 +44,7 @@ fn link_at_tail<L: Links<Rule = Fifo>>(links: &L, p: &mut L::Pass, node: &Held, 
     requires slot { IsFree (L.seat links.now p.old).slots 2 }
     ensures pass { L.belongs links.now p.new }
     ensures later { IsPrefix (L.journal p.old) (L.journal p.new) }
-    ensures slots { (L.seat links.now p.new).slots ≡ (L.seat links.now p.old).slots }
+    ensures stopped { StopsPiece 4 (L.seat links.now p.old) (stop_entries (L.seat links.now p.old).agent job result) (L.seat links.now p.new) }
     ensures fresh { ((L.seat links.now p.new).fresh ≡ (L.seat links.now p.old).fresh) ⊎ ((L.seat links.now p.new).fresh ≡ None) }
 {
     match links.look(p, &At::Root(TAIL), 2) {

@@ -4,6 +4,3 @@
 mod set;
 
 pub use set::Set;
-
-#[cfg(test)]
-mod tests;

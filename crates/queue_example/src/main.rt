@@ -1,94 +1,143 @@
-//! Two threads put jobs into a queue and take them out, over 64 rows that are used again and again.
+//! Two threads put jobs into a queue and take them out, over 64 rows that are used again and again. Then the domain comes to rest.
 #![tactic(auto)]
+
+ghost use Rattle.std.specs.Prelude.{◌≡◌, ◌<◌, ℕ, All, length, slice_index_or, true};
 
 use orc_history::SharedQueue;
 use orc_words::Shape;
-use reclaiming_uses::reclaiming_queue_over;
+use reclaiming_uses::{ReclaimingQueue, ReclaimingQueuePass, queue_at_rest, reclaiming_queue_over};
 use std::alloc::Global;
 use std::process::ExitCode;
-use std::thread::{Threads, join_mut};
-use uses::two_passes;
+use std::sync::atomic::{AtomicU64, Ordering};
+use std::thread::{Threads, for_each_mut};
 
 // How often a row may be given.
 const LIMIT: u64 = 1 << 39;
 
-// The sum of the jobs that were put, and of those that were taken.
-#[derive(Clone, Copy, Drop)]
-struct Sums {
-    put: u64,
-    taken: u64,
+// What all threads did: the sums of the jobs that were put, and of those that were taken, and how many jobs a thread took
+// from a lower position than the job before.
+#[derive(Drop)]
+struct Work {
+    put: AtomicU64,
+    taken: AtomicU64,
+    misplaced: AtomicU64,
 }
 
-// Tries to put a thousand jobs, from this one on, and to take one after each. A put is refused where no row is free.
-fn put_and_take<Q: SharedQueue>(queue: &Q, pass: &mut Q::Pass, first: u64) -> Sums
+impl Work {
+    fn new() -> Work {
+        Work {
+            put: AtomicU64::new(0),
+            taken: AtomicU64::new(0),
+            misplaced: AtomicU64::new(0),
+        }
+    }
+}
+
+// How a run ended.
+#[derive(Clone, Copy, Drop)]
+struct Outcome {
+    all_taken: bool,
+    in_order: bool,
+    linked: u32,
+}
+
+// Takes a job, if there is one, at this position or a higher one. Answers the lowest position that the next may have.
+fn take_one<Q: SharedQueue>(queue: &Q, pass: &mut Q::Pass, lowest: u64, work: &Work) -> u64
     requires { Q.usable queue.now pass.old }
     ensures { Q.usable queue.now pass.new }
 {
-    let mut sums = Sums { put: 0, taken: 0 };
+    let Ok(Some((job, at))) = queue.dequeue(pass, 64) else {
+        return lowest;
+    };
+    work.taken.fetch_add(job, Ordering::SeqCst);
+    if at < lowest {
+        work.misplaced.fetch_add(1, Ordering::SeqCst);
+    }
+    at.saturating_add(1)
+}
+
+// Tries to put a thousand jobs, from this one on, and to take one after each; then takes what is left. A put is refused
+// where no row is free.
+fn put_and_take<Q: SharedQueue>(queue: &Q, pass: &mut Q::Pass, first: u64, work: &Work)
+    requires { Q.usable queue.now pass.old }
+    ensures { Q.usable queue.now pass.new }
+{
+    let mut lowest = 0;
     for number in 0..1000 {
         let job = first.wrapping_add(number);
         if queue.enqueue(pass, job, 64).is_ok() {
-            sums.put = sums.put.wrapping_add(job);
+            work.put.fetch_add(job, Ordering::SeqCst);
         }
-        if let Ok(Some((taken, _))) = queue.dequeue(pass, 64) {
-            sums.taken = sums.taken.wrapping_add(taken);
-        }
+        lowest = take_one(queue, pass, lowest, work);
     }
-    sums
+    for _call in 0..1000 {
+        lowest = take_one(queue, pass, lowest, work);
+    }
 }
 
-// Takes what is left. Answers the sum of these jobs.
-fn take_rest<Q: SharedQueue>(queue: &Q, pass: &mut Q::Pass) -> u64
-    requires { Q.usable queue.now pass.old }
-    ensures { Q.usable queue.now pass.new }
-{
-    let mut sum: u64 = 0;
-    for _call in 0..2000 {
-        if let Ok(Some((taken, _))) = queue.dequeue(pass, 64) {
-            sum = sum.wrapping_add(taken);
-        }
-    }
-    sum
-}
-
-// Lets two threads put and take at once. Answers whether what was taken in the end is what was put.
-fn is_all_taken<R: Threads + Sync, Q: SharedQueue + Sync>(
+// Each agent puts and takes in a thread of its own.
+fn put_and_take_by_all<R: Threads + Sync, Q: SharedQueue + Sync>(
     rt: &R,
     queue: &Q,
-    one: &mut Q::Pass,
-    other: &mut Q::Pass,
-) -> bool
+    passes: &mut [Q::Pass],
+    work: &Work,
+)
 where
     Q::Pass: Send,
-    requires one { Q.usable queue.now one.old }
-    requires other { Q.usable queue.now other.old }
-    ensures one { Q.usable queue.now one.new }
-    ensures other { Q.usable queue.now other.new }
+    requires usable { All (λ p. Q.usable queue.now p) passes.old }
+    ensures usable { All (λ p. Q.usable queue.now p) passes.new }
+    ensures many { length passes.new ≡ length passes.old }
 {
-    let (some, more) = join_mut(
-        rt,
-        &mut || put_and_take(queue, one, 0),
-        &mut || put_and_take(queue, other, 1000),
-    );
-    let taken = some.taken.wrapping_add(more.taken);
-    some.put.wrapping_add(more.put) == taken.wrapping_add(take_rest(queue, one))
+    let calls = move |place: usize, p: &mut Q::Pass|
+        requires { Q.usable queue.now p.old }
+        ensures { Q.usable queue.entry.now p.new }
+    { put_and_take(queue, p, (place as u64).wrapping_mul(1000), work) };
+    for_each_mut(rt, passes, 2, &calls);
 }
 
-// Makes a queue over 64 rows, with a pass for each of two agents, and lets them work.
-fn run<R: Threads + Sync>(rt: &R, alloc: Global) -> Option<bool> {
+// Whether the passes are in order of agent.
+fn are_in_order(queue: &ReclaimingQueue, passes: &[ReclaimingQueuePass]) -> bool
+    ensures { result ≡ true → (i : ℕ) (p : _) → i < length passes.now
+        → ⟦<ReclaimingQueue as SharedQueue>⟧.agent_of queue.now (slice_index_or passes.now i p) ≡ i }
+{
+    for place in 0..passes.len() {
+        if queue.agent(&passes[place]) as usize != place {
+            return false;
+        }
+    }
+    true
+}
+
+// Makes a queue over 64 rows, lets two agents work, and brings the queue's domain to rest.
+fn run<R: Threads + Sync>(rt: &R, alloc: Global) -> Option<Outcome> {
     let shape = Shape::new(64, 2, 2, LIMIT).ok()?; // 64 rows, front and back, two agents
-    let Ok((queue, passes)) = reclaiming_queue_over(alloc, &shape, 0) else {
+    let Ok((queue, mut passes)) = reclaiming_queue_over(alloc, &shape, 0) else {
         return None;
     };
-    let (mut one, mut other) = two_passes(&queue, passes)?;
-    Some(is_all_taken(rt, &queue, &mut one, &mut other))
+    let work = Work::new();
+    put_and_take_by_all(rt, &queue, passes.as_mut_slice(), &work);
+    if !are_in_order(&queue, passes.as_slice()) {
+        return None;
+    }
+    Some(Outcome {
+        all_taken: work.put.load(Ordering::SeqCst) == work.taken.load(Ordering::SeqCst),
+        in_order: work.misplaced.load(Ordering::SeqCst) == 0,
+        linked: queue_at_rest(queue, passes).linked(),
+    })
 }
 
 fn main(rt: HostRuntime) -> ExitCode {
-    let Some(all) = run(&rt, rt.alloc()) else {
+    let Some(outcome) = run(&rt, rt.alloc()) else {
         return ExitCode::FAILURE;
     };
-    match println!(rt; "each job that was put was taken: {all}") {
+    let Outcome {
+        all_taken,
+        in_order,
+        linked,
+    } = outcome;
+    match println!(rt;
+        "each job that was put was taken: {all_taken}\neach thread took rising positions: {in_order}\nrows linked at rest: {linked}"
+    ) {
         Ok(()) => ExitCode::SUCCESS,
         Err(_) => ExitCode::FAILURE,
     }

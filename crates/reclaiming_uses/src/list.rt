@@ -1,6 +1,6 @@
 //! A list over a domain whose rows are reclaimed.
 
-ghost use Rattle.std.specs.Prelude.{◌≡◌, ◌<◌, ℕ, All, IfOk, length, slice_index_or};
+ghost use Rattle.std.specs.Prelude.{◌≡◌, ◌<◌, ℕ, [], All, IfOk, length, slice_index_or};
 ghost use Rattle.orc_words.specs.Bounds.{bounds_of};
 ghost use Rattle.orc_machine_board.specs.Rules.{run_of};
 ghost use Rattle.orc_reclaiming_domain.specs.Passes.{domain_bounds};
@@ -11,7 +11,7 @@ use crate::rest::bring_to_rest;
 use orc_chain_rule::Chain;
 use orc_fault::NoMemory;
 use orc_heap::Seed;
-use orc_history::SharedSet;
+use orc_history::{LearnSet, SharedSet};
 use orc_list::{List, OneList};
 use orc_reclaiming_domain::{OrcDomain, OrcPass, OrcRest};
 use orc_words::Shape;
@@ -38,6 +38,9 @@ pub fn reclaiming_list_over(
     ensures agents { IfOk result (λ made. (i : ℕ) (p : _) → i < length made.1.items
         → ⟦<ReclaimingList as SharedSet>⟧.agent_of made.0 (slice_index_or made.1.items i p) ≡ i) }
     ensures passes { IfOk result (λ made. length made.1.items ≡ (bounds_of shape.now).agents) }
+    ensures fresh { IfOk result (λ made. All (λ p. ⟦<ReclaimingList as SharedSet>⟧.history made.0
+        (⟦<ReclaimingList as SharedSet>⟧.journal p) ≡ []) made.1.items) }
+    ensures all { IfOk result (λ made. ⟦<ReclaimingList as LearnSet>⟧.agents made.0 ≡ (bounds_of shape.now).agents) }
     ensures bounds { IfOk result (λ made. domain_bounds made.0.list.links ≡ bounds_of shape.now) }
 {
     let (domain, passes) = OrcDomain::make(alloc, shape, Seed::Empty)?;

@@ -1,6 +1,6 @@
 //! A queue over a domain whose rows are reclaimed.
 
-ghost use Rattle.std.specs.Prelude.{◌≡◌, ◌<◌, ◌≤◌, ◌^◌, ℕ, All, IfOk, length, slice_index_or};
+ghost use Rattle.std.specs.Prelude.{◌≡◌, ◌<◌, ◌≤◌, ◌^◌, ℕ, [], All, IfOk, length, slice_index_or};
 ghost use Rattle.orc_words.specs.Bounds.{bounds_of};
 ghost use Rattle.orc_machine_board.specs.Rules.{run_of};
 ghost use Rattle.orc_reclaiming_domain.specs.Passes.{domain_bounds};
@@ -11,7 +11,7 @@ use crate::rest::bring_to_rest;
 use orc_fault::NoMemory;
 use orc_fifo_rule::{Fifo, FifoNote};
 use orc_heap::Seed;
-use orc_history::SharedQueue;
+use orc_history::{LearnQueue, SharedQueue};
 use orc_queue::Queue;
 use orc_reclaiming_domain::{OrcDomain, OrcPass, OrcRest};
 use orc_words::Shape;
@@ -41,6 +41,10 @@ pub fn reclaiming_queue_over(
     ensures agents { IfOk result (λ made. (i : ℕ) (p : _) → i < length made.1.items
         → ⟦<ReclaimingQueue as SharedQueue>⟧.agent_of made.0 (slice_index_or made.1.items i p) ≡ i) }
     ensures passes { IfOk result (λ made. length made.1.items ≡ (bounds_of shape.now).agents) }
+    ensures fresh { IfOk result (λ made. All (λ p. ⟦<ReclaimingQueue as SharedQueue>⟧.history made.0
+        (⟦<ReclaimingQueue as SharedQueue>⟧.journal p) ≡ []) made.1.items) }
+    ensures all { IfOk result (λ made. ⟦<ReclaimingQueue as LearnQueue>⟧.agents made.0 ≡ (bounds_of shape.now).agents) }
+    ensures first { IfOk result (λ made. ⟦<ReclaimingQueue as SharedQueue>⟧.first made.0 ≡ first) }
     ensures bounds { IfOk result (λ made. domain_bounds made.0.links ≡ bounds_of shape.now) }
 {
     let seed = Seed::Dummy {

@@ -1,6 +1,6 @@
 //! A bucketed set over a domain whose rows are reclaimed.
 
-ghost use Rattle.std.specs.Prelude.{◌≡◌, ◌<◌, ℕ, All, IfOk, length, slice_index_or};
+ghost use Rattle.std.specs.Prelude.{◌≡◌, ◌<◌, ℕ, [], All, IfOk, length, slice_index_or};
 ghost use Rattle.orc_words.specs.Bounds.{bounds_of};
 ghost use Rattle.orc_machine_board.specs.Rules.{run_of};
 ghost use Rattle.orc_reclaiming_domain.specs.Passes.{domain_bounds};
@@ -12,7 +12,7 @@ use crate::rest::bring_to_rest;
 use orc_chain_rule::Chain;
 use orc_fault::NoMemory;
 use orc_heap::Seed;
-use orc_history::SharedSet;
+use orc_history::{LearnSet, SharedSet};
 use orc_list::List;
 use orc_reclaiming_domain::{OrcDomain, OrcRest};
 use orc_set::Set;
@@ -36,6 +36,9 @@ pub fn reclaiming_set_over(
     ensures agents { IfOk result (λ made. (i : ℕ) (p : _) → i < length made.1.items
         → ⟦<ReclaimingSet as SharedSet>⟧.agent_of made.0 (slice_index_or made.1.items i p) ≡ i) }
     ensures passes { IfOk result (λ made. length made.1.items ≡ (bounds_of shape.now).agents) }
+    ensures fresh { IfOk result (λ made. All (λ p. ⟦<ReclaimingSet as SharedSet>⟧.history made.0
+        (⟦<ReclaimingSet as SharedSet>⟧.journal p) ≡ []) made.1.items) }
+    ensures all { IfOk result (λ made. ⟦<ReclaimingSet as LearnSet>⟧.agents made.0 ≡ (bounds_of shape.now).agents) }
     ensures bounds { IfOk result (λ made. domain_bounds made.0.list.links ≡ bounds_of shape.now) }
 {
     let (domain, passes) = OrcDomain::make(alloc, shape, Seed::Empty)?;

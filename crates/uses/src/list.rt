@@ -1,13 +1,13 @@
 //! A list in one call, and its passes.
 
-ghost use Rattle.std.specs.Prelude.{◌≡◌, ◌≢◌, ◌+◌, ◌<◌, ℕ, All, IfOk, IfSome, length, slice_index_or};
+ghost use Rattle.std.specs.Prelude.{◌≡◌, ◌≢◌, ◌+◌, ◌<◌, ℕ, [], All, IfOk, IfSome, length, slice_index_or};
 ghost use Rattle.orc_words.specs.Bounds.{bounds_of};
 
 use orc_chain_rule::Chain;
 use orc_domain::{PlainDomain, PlainPass};
 use orc_fault::NoMemory;
 use orc_heap::Seed;
-use orc_history::SharedSet;
+use orc_history::{LearnSet, SharedSet};
 use orc_list::{List, OneList};
 use orc_words::Shape;
 use std::alloc::Global;
@@ -30,6 +30,9 @@ pub fn one_list_over(alloc: Global, shape: &Shape) -> Result<(DomainList, Vec<Li
     ensures agents { IfOk result (λ made. (i : ℕ) (p : _) → i < length made.1.items
         → ⟦<DomainList as SharedSet>⟧.agent_of made.0 (slice_index_or made.1.items i p) ≡ i) }
     ensures passes { IfOk result (λ made. length made.1.items ≡ (bounds_of shape.now).agents) }
+    ensures fresh { IfOk result (λ made. All (λ p. ⟦<DomainList as SharedSet>⟧.history made.0
+        (⟦<DomainList as SharedSet>⟧.journal p) ≡ []) made.1.items) }
+    ensures all { IfOk result (λ made. ⟦<DomainList as LearnSet>⟧.agents made.0 ≡ (bounds_of shape.now).agents) }
 {
     let (domain, passes) = PlainDomain::make(alloc, shape, Seed::Empty)?;
     Ok((OneList::new(List::new(domain)), passes))

@@ -1,7 +1,6 @@
 -- The node is marked, and all nodes are let go.
-use Rattle.std.proofs.Common.{◌∙◌}
 use Rattle.orc_list.proofs.Answering.{reads_node}
-use Rattle.orc_list.proofs.Removing.{marked_hand, marks_at}
+use Rattle.orc_list.proofs.Removing.{mark_stops, marked_hand, marks_at}
 use Rattle.orc_list.proofs.remove.mark_and_go.Goals as goal
 
 pub mark_node-marked-requires-clause-node : goal.mark_node-marked-requires-clause-node
@@ -25,14 +24,17 @@ let_all_go-requires-clause-hands g c =
           (g.met.L.Links.allowed d c.mark_node-marked.new.p e.pass),
     )
 
-pub returns-clause-held : goal.returns-clause-held
-returns-clause-held g c = λ s f.
+pub returns-clause-stopped : goal.returns-clause-stopped
+returns-clause-stopped g c = λ s f.
     let d = c.args.links.now in
     let n = g.L.Links.numbers d in
     let a = c.args in
     let t = g.L.Links.seat d a.p.now in
     let u = g.L.Links.seat d c.mark_node-marked.new.p in
+    let y = g.L.Links.seat d c.let_all_go.new.p in
     let e = c.mark_node-marked.ensures in
-    let gone = c.let_all_go.ensures.gone s.slots (marked_hand n a.root a.key a.left a.first a.node a.next s t f _ u
-    (marks_at n a.root a.key a.left a.first a.node a.next s t f _ u e.marked) (g.met.L.Links.allowed d c.mark_node-marked.new.p e.pass)) in
-    record { slots = gone.slots_are; fresh = gone.fresh ∙ (e.marked.fresh ∙ f.behind.quiet.fresh) }
+    let done = c.mark_node-marked.result in
+    let m = marks_at n a.root a.key a.left a.first a.node a.next s t f done u e.marked in
+    let gone = c.let_all_go.ensures.gone s.slots (marked_hand n a.root a.key a.left a.first a.node a.next s t f done u m
+    (g.met.L.Links.allowed d c.mark_node-marked.new.p e.pass)) in
+    mark_stops n a.root a.key a.left a.first a.node a.next s t f done u y m gone

@@ -1,9 +1,11 @@
 -- The look of the tail, the link, and the release.
-use Rattle.std.proofs.Common.{arith, inl, inr, ◌∙◌}
+use Rattle.std.proofs.Common.{ap, arith, inl, inr, refl, ℕ, ◌∙◌}
 use Rattle.orc_heap.proofs.ByAnswer.{Looks-held, Looks-null}
 use Rattle.orc_heap.specs.Slots.{id_in}
 use Rattle.orc_heap.specs.declared.events.Place.TheVariants.{Root}
-use Rattle.orc_queue.specs.Turns.{KeepsTail}
+use Rattle.orc_heap.proofs.Calls.{Puts-trans}
+use Rattle.orc_heap.proofs.Pieces.{puts_released}
+use Rattle.orc_queue.specs.Answers.{stop_entries}
 use Rattle.orc_queue.proofs.Holding.{found_fresh, found_holds, found_kept, found_released, pass_known}
 use Rattle.orc_queue.proofs.Linking.{LinkKept, link_kept}
 use Rattle.orc_queue.proofs.Looking.{HoldsRoot, root_fresh, root_held, root_named, root_not_null, roots_there}
@@ -24,11 +26,11 @@ found g c =
 
 -- what the pass did behind it
 kept : (g : Over) (c : After-link_node-turn g) → let d = c.args.links.now in
-    LinkKept (g.L.Links.seat d c.look.new.p) (g.L.Links.seat d c.link_node-turn.new.p)
+    LinkKept c.args.job (g.L.Links.seat d c.look.new.p) c.link_node-turn.result (g.L.Links.seat d c.link_node-turn.new.p)
 kept g c =
     let d = c.args.links.now in
     let tail = id_in (g.L.Links.seat d c.look.new.p).slots c.in-Stable-default-Some.tail in
-    link_kept (g.L.Links.numbers d) 2 KeepsTail c.args.job tail c.args.node.now _ _ c.link_node-turn.result c.link_node-turn.ensures.linked
+    link_kept (g.L.Links.numbers d) c.args.job tail c.args.node.now _ _ c.link_node-turn.result c.link_node-turn.ensures.linked
 
 pub look-requires-clause-place : goal.look-requires-clause-place
 look-requires-clause-place g c =
@@ -59,12 +61,26 @@ link_node-turn-requires g c =
 pub release-requires-clause-held : goal.release-requires-clause-held
 release-requires-clause-held g c =
     let at = goal.at.release-requires-clause-held g c in
-    found_kept (found g at.In-Stable-default-Some).node (kept g at.After-link_node-turn).slots
+    found_kept (found g at.In-Stable-default-Some).node (kept g at.After-link_node-turn).stops.piece.slots
 
-pub returns-in-Stable-default-Some-clause-slots : goal.returns-in-Stable-default-Some-clause-slots
-returns-in-Stable-default-Some-clause-slots g c =
-    let at = goal.at.returns-in-Stable-default-Some-clause-slots g c in
-    found_released (found g at.In-Stable-default-Some).node (kept g at.After-link_node-turn).slots c.release.ensures.released
+pub returns-in-Stable-default-Some-clause-stopped : goal.returns-in-Stable-default-Some-clause-stopped
+returns-in-Stable-default-Some-clause-stopped g c =
+    let at = goal.at.returns-in-Stable-default-Some-clause-stopped g c in
+    let f = found g at.In-Stable-default-Some in
+    let k = (kept g at.After-link_node-turn).stops in
+    let d = c.args.links.now in
+    let q = puts_released _ _ (g.L.Links.seat d c.release.new.p) k.piece.own k.piece.puts c.release.ensures.released.puts in
+    record {
+      piece = record {
+        own = _;
+        slots = found_released f.node k.piece.slots c.release.ensures.released;
+        puts = Puts-trans _ _ _ _ k.piece.own f.puts q;
+        entries_are = k.piece.entries_are ∙ ap (λ (x : ℕ). stop_entries x c.args.job c.link_node-turn.result) f.puts.agent;
+        no_give = omega (arith, k.piece.no_give);
+        few = omega (arith, k.piece.few);
+      };
+      keeps = k.keeps;
+    }
 
 pub returns-in-Stable-default-Some-clause-fresh : goal.returns-in-Stable-default-Some-clause-fresh
 returns-in-Stable-default-Some-clause-fresh g c =
@@ -74,9 +90,11 @@ returns-in-Stable-default-Some-clause-fresh g c =
     let d = c.args.links.now in
     let e = c.link_node-turn.ensures in
     let all = g.met.L.Links.allowed d c.link_node-turn.new.p e.pass in
-    let linked = linked_puts (g.L.Links.numbers d) _ _ k.own k.puts all node.id node.linked in
-    let fresh = found_fresh node k.slots (λ i is. g.met.L.Links.fresh_is d c.link_node-turn.new.p i e.pass is) linked c.release.ensures.released in
+    let linked = linked_puts (g.L.Links.numbers d) _ _ k.stops.piece.own k.stops.piece.puts all node.id node.linked in
+    let fresh = found_fresh node k.stops.piece.slots (λ i is. g.met.L.Links.fresh_is d c.link_node-turn.new.p i e.pass is) linked c.release.ensures.released in
     elim k.fresh [ inl is ↦ inl (fresh ∙ (is ∙ c.in-Stable-default-Some.ensures.looked.fresh)) | inr is ↦ inr (fresh ∙ is) ]
 
-pub returns-in-Moved-clause-slots : goal.returns-in-Moved-clause-slots
-returns-in-Moved-clause-slots g c = c.in-Moved.ensures.looked.tells.3
+pub returns-in-Moved-clause-stopped : goal.returns-in-Moved-clause-stopped
+returns-in-Moved-clause-stopped g c =
+    let r = c.in-Moved.ensures.looked.tells in
+    record { piece = record { own = _; slots = r.3; puts = r.4; entries_are = refl; no_give = refl; few = omega arith }; keeps = refl }

@@ -4,9 +4,10 @@ use Rattle.orc_heap.proofs.Pieces.{goes_on}
 use Rattle.orc_heap.proofs.Steps.{alone_later}
 use Rattle.orc_history.specs.Parts.{IsAlone}
 use Rattle.orc_queue.proofs.Answering.{put_settled}
-use Rattle.orc_queue.proofs.Causes.{any_gives, any_tries, call_seen, during, put_any, put_err, put_no_turns, put_ok, put_positions, put_tail}
+use Rattle.orc_queue.proofs.Causes.{any_gives, any_tries, call_seen, put_any, put_err, put_no_turns, put_ok, put_positions, put_tail}
 use Rattle.orc_queue.proofs.Costs.{put_again, put_cost}
 use Rattle.orc_queue.proofs.Holding.{pass_known}
+use Rattle.orc_queue.proofs.Lacking.{lacks_row}
 use Rattle.orc_queue.proofs.queue.Queue.put.Goals as goal
 
 pub returns : goal.returns
@@ -42,7 +43,7 @@ returns g c =
       no_event = λ zero. (put_no_turns n c.args.job c.args.turns s u r l zero).1;
       again = put_again seen known c.args.job c.args.turns r l;
       cost = put_cost seen known c.args.job c.args.turns r l;
-      no_node = λ is. during by s.agent (g.L.Links.lacking d s.agent) (g.met.L.Links.lacking_stays d s.agent) j k m done.later settle.later (done.lacking is);
+      no_node = λ is. lacks_row by s.agent (g.L.Links.lacking d s.agent) (g.met.L.Links.lacking_stays d s.agent) j k m done.later settle.later (done.lacking is);
       positions = put_positions n c.args.job c.args.turns s u r l;
       gives = any_gives _ c.args.turns s u any;
       tries = omega (arith, any_tries _ c.args.turns s u any);

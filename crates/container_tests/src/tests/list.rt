@@ -1,0 +1,19 @@
+//! Lists cross threads where their domains do. The calls are run over each domain by the crates `uses` and `reclaiming_uses`.
+
+use orc_chain_rule::Chain;
+use orc_heap::Links;
+use orc_list::{List, OneList};
+
+mod examples;
+
+fn is_shared<T: Sync>() {}
+
+fn is_sent<T: Send>() {}
+
+// Compiles for each domain that may cross threads.
+fn lists_cross_threads<L: Links<Rule = Chain> + Send + Sync>() {
+    is_shared::<List<L>>();
+    is_sent::<List<L>>();
+    is_shared::<OneList<L>>();
+    is_sent::<OneList<L>>();
+}

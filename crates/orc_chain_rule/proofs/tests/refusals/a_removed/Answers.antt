@@ -1,5 +1,0 @@
-use Rattle.std.proofs.Common.{refl}
-use Rattle.orc_chain_rule.proofs.tests.refusals.a_removed.Goals as goal
-
-pub returns-clause-allowed : goal.returns-clause-allowed
-returns-clause-allowed c = (refl, record { has_key = record { node = _; there = refl; linked = refl; key_is = refl }; plain = refl; to_is = refl })

@@ -1,8 +1,0 @@
-use Rattle.std.proofs.Common.{inl, refl}
-use Rattle.orc_fifo_rule.proofs.tests.examples.while_the_tail_lags.Goals as goal
-
-pub returns-clause-allowed : goal.returns-clause-allowed
-returns-clause-allowed c = (
-  record { root_is = refl; steps = record { id = 0; next = 1; from_is = refl; to_is = refl; successor = refl } },
-  record { linked = record { node = _; there = refl; linked = refl }; either = inl refl },
-)

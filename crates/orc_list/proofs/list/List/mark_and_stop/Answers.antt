@@ -1,0 +1,57 @@
+-- What the call did.
+use Rattle.std.proofs.Common.{Bool, List, [], false, length, subst, sym, true, ℕ, ◌∙◌, ◌∷◌, ◌≡◌, ◌≤◌}
+use Rattle.orc_heap.specs.Moves.{moves_in}
+use Rattle.orc_heap.specs.Seats.{Seat}
+use Rattle.orc_heap.specs.declared.events.Event.{Event}
+use Rattle.orc_history.specs.declared.set.SetEntry.TheVariants.{Removed}
+use Rattle.orc_chain_rule.specs.ChainDiscipline.{entries_of}
+use Rattle.orc_chain_rule.specs.declared.chain.ChainNote.{ChainNote}
+use Rattle.orc_list.specs.Turns.{MarkStops, MarksAlone}
+use Rattle.orc_list.proofs.Causes.{call_adds, own_drop}
+use Rattle.orc_list.proofs.list.List.mark_and_stop.Goals as goal
+
+-- by the answer
+marked_entries : (key : ℕ) (s u : Seat ChainNote) (r : Bool) → r ≡ true → (k : MarkStops key s r u) → entries_of k.own ≡ Removed s.agent key true ∷ []
+marked_entries key s u true is k = k.entries_are
+marked_entries key s u false is k = cc
+
+marked_moves : (key : ℕ) (s u : Seat ChainNote) (r : Bool) → r ≡ true → (k : MarkStops key s r u) → MarksAlone key k.own
+marked_moves key s u true is k = k.moves
+marked_moves key s u false is k = cc
+
+unmarked_entries : (key : ℕ) (s u : Seat ChainNote) (r : Bool) → r ≡ false → (k : MarkStops key s r u) → entries_of k.own ≡ []
+unmarked_entries key s u true is k = cc
+unmarked_entries key s u false is k = k.entries_are
+
+unmarked_moves : (key : ℕ) (s u : Seat ChainNote) (r : Bool) → r ≡ false → (k : MarkStops key s r u) → moves_in k.own ≡ 0
+unmarked_moves key s u true is k = cc
+unmarked_moves key s u false is k = k.moves
+
+pub returns : goal.returns
+returns g c =
+    let d = c.args.self.now.links in
+    let n = g.L.Links.numbers d in
+    let key = c.args.key in
+    let s = g.L.Links.seat d c.args.p.now in
+    let u = g.L.Links.seat d c.stop_a_remove.new.p in
+    let j = g.L.Links.journal c.args.p.now in
+    let m = g.L.Links.journal c.stop_a_remove.new.p in
+    let r = c.stop_a_remove.result in
+    let done = c.stop_a_remove.ensures in
+    let k = done.stopped in
+    let is_s = g.met.L.Links.seen_is d c.args.p.now c.requires.pass in
+    let is_u = g.met.L.Links.seen_is d c.stop_a_remove.new.p done.pass in
+    let all = g.met.L.Links.allowed d c.stop_a_remove.new.p done.pass in
+    let below = (g.met.L.Links.agents_below d c.stop_a_remove.new.p done.pass).1 in
+    let adds = call_adds n (g.L.Links.agents d) g.L.Links.agent_of (g.L.Links.events d) (g.met.L.Links.steps_add d) s u j m done.later is_s is_u all below in
+    let own = sym (own_drop s u k.own k.puts) in
+    record {
+      pass = done.pass;
+      idle = record { slots = k.slots ∙ c.requires.idle.slots; fresh = k.fresh ∙ c.requires.idle.fresh };
+      later = done.later;
+      agent = k.puts.agent;
+      removed = λ is. adds k.own (Removed s.agent key true ∷ []) k.puts (marked_entries key s u r is k);
+      none = λ is. adds k.own [] k.puts (unmarked_entries key s u r is k);
+      marked = λ is. subst (λ (z : List (Event ChainNote)). MarksAlone key z) own (marked_moves key s u r is k);
+      unmoved = λ is. subst (λ (z : List (Event ChainNote)). (1 ≤ length z) × (moves_in z ≡ 0)) own (k.some, unmarked_moves key s u r is k);
+    }
