@@ -1,0 +1,73 @@
+-- From the clauses of a call to what the trait of shared sets asks, and what two passes learn from each other.
+use Rattle.std.proofs.Common.{Bool, Err, List, Ok, Result, [], ap, arith, length, refl, sym, ℕ, ◌∙◌, ◌≡◌, ◌≢◌, ◌⊎◌}
+use Rattle.std.specs.Prelude.{IfErr}
+use mathlib.Core.List.{IsPrefix}
+use Rattle.orc_fault.specs.declared.Again.{Again as AgainFault}
+use Rattle.orc_fault.specs.declared.Spent.{Spent as SpentRow}
+use Rattle.orc_heap.proofs.OwnEntries.{own_of_events}
+use Rattle.orc_heap.proofs.Steps.{part_bounds}
+use Rattle.orc_heap.specs.Allowed.{AllAllowed, events_by}
+use Rattle.orc_heap.specs.Seats.{Seat}
+use Rattle.orc_heap.specs.declared.events.Event.{Event}
+use Rattle.orc_history.specs.Journals.{LearnsEntries, Within, own_of}
+use Rattle.orc_history.specs.Parts.{InPart, part_begin}
+use Rattle.orc_history.specs.SetHistory.{agent_of_set_entry}
+use Rattle.orc_history.specs.declared.set.ListRefused.{ListRefused}
+use Rattle.orc_history.specs.declared.set.ListRefused.TheVariants.{Again, NoNode, Spent}
+use Rattle.orc_heap.specs.Journals.{noted_entries}
+use Rattle.orc_ordered_search.specs.Reading.{Ordering}
+use Rattle.orc_ordered_search.specs.Causes.{Cause, UsesTurns, WithinPart}
+
+-- the licence of a refusal, from the clauses of a call
+module _ {N S : Type 0} (agent_of : S → ℕ) (events : List S → List (Event N)) (agent turns : ℕ) (j m : List S)
+    (grows : IsPrefix j m) (Lacks : ℕ → ℕ → Type 0) (Worn : SpentRow → ℕ → ℕ → Type 0) where
+  abbrev IsLicensed : ListRefused → Type 0
+  IsLicensed why = Within (length j) (length m) (λ from to. Cause agent_of events (Lacks from to) (λ spent. Worn spent from to) agent turns why m from to)
+
+  of_again : InPart agent_of agent j m (λ from to. UsesTurns agent_of events agent turns m from to) → IsLicensed Again
+  of_again used = let bounds = part_bounds agent_of agent j m grows in (part_begin agent_of agent j m, length m, bounds.0, bounds.1, omega arith, used)
+
+  pub again_licence : (r : Result Bool AgainFault) → IfErr r (λ e. InPart agent_of agent j m (λ from to. UsesTurns agent_of events agent turns m from to))
+      → IfErr r (λ e. IsLicensed Again)
+  again_licence (Ok answer) again = tt
+  again_licence (Err e) again = of_again again
+
+  pub insert_licence : (r : Result Bool ListRefused) → (turns ≡ 0 → r ≡ Err Again)
+      → (r ≡ Err Again → InPart agent_of agent j m (λ from to. UsesTurns agent_of events agent turns m from to))
+      → (r ≡ Err NoNode → WithinPart agent_of agent j m Lacks) → ((why : SpentRow) → r ≡ Err (Spent why) → WithinPart agent_of agent j m (Worn why))
+      → IfErr r (λ e. IsLicensed e)
+  insert_licence (Ok answer) none again node spent = tt
+  insert_licence (Err Again) none again node spent = of_again (again refl)
+  insert_licence (Err NoNode) none again node spent =
+      let some : turns ≢ 0 = λ zero_turns. let bad : ◌≡◌ {A = Result Bool ListRefused} (Err NoNode) (Err Again) = none zero_turns in cc in
+      let (from, to, low, order, high, fact) = (node refl).within in
+      (from, to, omega (arith, low, (part_bounds agent_of agent j m grows).0), order, high, (some, fact))
+  insert_licence (Err (Spent why)) none again node spent =
+      let some : turns ≢ 0 = λ zero_turns. let bad : ◌≡◌ {A = Result Bool ListRefused} (Err (Spent why)) (Err Again) = none zero_turns in cc in
+      let (from, to, low, order, high, fact) = (spent why refl).within in
+      (from, to, omega (arith, low, (part_bounds agent_of agent j m grows).0), order, high, (some, fact))
+
+-- the entries of each of two agents in what both have seen
+pub learns : {N S : Type 0} (ord : Ordering N) (events : List S → List (Event N)) (agent1 agent2 : ℕ) (s1 s2 t1 : Seat N)
+    (j1 j2 k1 k2 : List S)
+    → k1 ≡ k2 → (IsPrefix j1 j2 × (k1 ≡ j2)) ⊎ (IsPrefix j2 j1 × (k1 ≡ j1))
+    → AllAllowed ord.may [] s1.seen → AllAllowed ord.may [] s2.seen → AllAllowed ord.may [] t1.seen → s1.seen ≡ events j1 → s2.seen ≡ events
+    j2
+    → t1.seen ≡ events k1
+    → events_by agent1 t1.seen ≡ events_by agent1 s1.seen → events_by agent2 t1.seen ≡ events_by agent2 s2.seen
+    → LearnsEntries (λ j. noted_entries ord.reading.entries_in (events j)) agent_of_set_entry agent1 agent2 j1 j2 k1 k2
+learns {N} {S} ord events agent1 agent2 s1 s2 t1 j1 j2 k1 k2 one longer all1 all2 all is1 is2 is own1 own2 = record {
+  one = one;
+  longer = longer;
+  own1 = own agent1 s1 j1 all1 is1 own1;
+  own2 = own agent2 s2 j2 all2 is2 own2;
+}
+  where
+    own : (agent : ℕ) (s : Seat N) (j : List S) → AllAllowed ord.may [] s.seen → s.seen ≡ events j
+        → events_by agent t1.seen ≡ events_by agent s.seen
+        → own_of agent_of_set_entry agent (noted_entries ord.reading.entries_in (events k1)) ≡ own_of agent_of_set_entry agent (noted_entries ord.reading.entries_in (events j))
+    own agent s j all_s is_j same =
+        ap (λ z. own_of agent_of_set_entry agent (noted_entries ord.reading.entries_in z)) (sym is)
+        ∙ (own_of_events ord.reading.entries_in agent_of_set_entry ord.may (λ es e may. ord.own es e may) agent [] t1.seen all ∙
+        (ap (λ z. noted_entries ord.reading.entries_in z) same ∙ (sym (own_of_events ord.reading.entries_in agent_of_set_entry ord.may (λ es e may. ord.own es e may) agent [] s.seen all_s) ∙ ap
+        (λ z. own_of agent_of_set_entry agent (noted_entries ord.reading.entries_in z)) is_j)))

@@ -1,0 +1,129 @@
+-- A node is marked, and a place is led past a run of marked nodes.
+use Rattle.std.proofs.Common.{Bool, List, None, Ok, Err, Option, Result, Some, [], ap, append-nil, arith, false, length, length-append, refl, subst, sym, true, ℕ, ◌+◌, ◌++◌, ◌∙◌, ◌∷◌, ◌≡◌}
+use Rattle.std.specs.Prelude.{IfErr, IfOk}
+use mathlib.Core.List.{IsPrefix}
+use Rattle.orc_fault.specs.declared.Spent.{Spent}
+use Rattle.orc_heap.proofs.ByAnswer.{Swings-fresh, Swings-missed, Swings-moved, unless_none}
+use Rattle.orc_heap.proofs.Pieces.{linked_not_fresh, missed_fresh, unless_other}
+use Rattle.orc_heap.proofs.Steps.{part_bounds}
+use Rattle.orc_heap.specs.Calls.{Misses, RefusesSwing, Swings, event_of, move_of, unless_node}
+use Rattle.orc_heap.specs.OwnEvents.{Only, Puts}
+use Rattle.orc_heap.specs.Seats.{IsNotFresh, Seat, heap_of, link_in, place_in}
+use Rattle.orc_heap.specs.Slots.{Slots, id_in}
+use Rattle.orc_heap.specs.declared.events.Act.TheVariants.{Miss, Move}
+use Rattle.orc_heap.specs.declared.events.Event.{Event}
+use Rattle.orc_heap.specs.declared.events.Link.{Link}
+use Rattle.orc_heap.specs.declared.events.Place.{Place}
+use Rattle.orc_heap.specs.declared.events.Place.TheVariants.{Next}
+use Rattle.orc_heap.specs.declared.holds.At.{At}
+use Rattle.orc_heap.specs.declared.holds.At.TheVariants.{Node as AtNode, Root as AtRoot}
+use Rattle.orc_heap.specs.declared.holds.Want.{Want}
+use Rattle.orc_heap.specs.declared.holds.Want.TheVariants.{Node as WantNode, Null as WantNull}
+use Rattle.orc_history.specs.Journals.{Within}
+use Rattle.orc_history.specs.Parts.{InPart, part_begin}
+use Rattle.orc_ordered_chains.proofs.Acts.{rank_linked}
+use Rattle.orc_ordered_chains.specs.Chains.{IsChainPlace, link_over}
+use Rattle.orc_ordered_search.specs.Reading.{Ordering}
+use Rattle.orc_ordered_search.specs.Searches.{NextFollows}
+use Rattle.orc_ordered_search.specs.Turns.{Marks, Tries}
+use Rattle.orc_ordered_search.proofs.Held.{FreshIs}
+use Rattle.orc_ordered_search.proofs.Quiets.{silent_one}
+
+-- a swing is refused only where it would change the target
+pub refused_apart : (slots : Slots) (from to : Want) (why : Spent) → {N : Type 0} → (seen : List (Event N)) → RefusesSwing slots from to why seen
+    → (link_in slots from).to ≡ (link_in slots to).to → ⊥
+refused_apart slots from (WantNull mark) why seen r same = r
+refused_apart slots from (WantNode h mark) why seen r same = r.0 same
+
+pub not_fresh_at : {N : Type 0} (ord : Ordering N) (s : Seat N) (at : At) (place : Place) → place_in s.slots at ≡ place
+    → IsChainPlace ord.reading.order (heap_of ord.reading.numbers s) place → FreshIs ord s → IsNotFresh s at
+not_fresh_at ord s (AtRoot r) place is l fresh = tt
+not_fresh_at {N} ord s (AtNode h) place is l fresh =
+    let (rank, own) = subst (λ (p : Place). IsChainPlace ord.reading.order (heap_of ord.reading.numbers s) p) (sym is) l in
+    linked_not_fresh ord.reading.numbers s (id_in s.slots h.now) fresh
+    (rank_linked ord.reading.order (heap_of ord.reading.numbers s) (id_in s.slots h.now) rank own)
+
+pub target_fresh : {N : Type 0} (ord : Ordering N) (s : Seat N) (id : ℕ) (to : Option ℕ) → NextFollows ord.reading id to s → FreshIs ord s
+    → unless_node s.fresh to ≡ s.fresh
+target_fresh ord s id None f fresh = unless_none s.fresh
+target_fresh ord s id (Some x) (key, own, follows) fresh =
+    unless_other s.fresh x (linked_not_fresh ord.reading.numbers s x fresh (rank_linked ord.reading.order (heap_of ord.reading.numbers s) x key own))
+
+pub marks : {N : Type 0} (ord : Ordering N) (s t : Seat N) (id : ℕ) (to : Option ℕ) (noted same : N) (at : At) (from marked : Want) (done : Bool)
+    → place_in s.slots at ≡ Next id → link_in s.slots from ≡ link_over to
+    → link_in s.slots marked ≡ record { to = to; mark = true } → noted ≡ same → NextFollows ord.reading id to s → FreshIs ord s
+    → Swings at from marked (Some noted) s done t → Marks same id to s done t
+marks {N} ord s t id to noted same at from marked done at_is from_is marked_is noted_is follows fresh w = cases done refl
+  where
+    event_is : noted ≡ same
+        → move_of s at from marked (Some noted) ≡ event_of s (Move (Next id) (link_over to) (record { to = to; mark = true })) (Some same)
+    event_is e = rw (at_is, from_is, marked_is, e) refl
+
+    cases : (b : Bool) → done ≡ b → Marks same id to s b t
+    cases true is = record {
+      slots = w.slots;
+      fresh = Swings-fresh w is ∙ (ap (λ (l : Link). unless_node s.fresh l.to) marked_is ∙ target_fresh ord s id to follows fresh);
+      puts = subst (λ (e : Event N). Puts s (e ∷ []) t) (event_is noted_is) (Swings-moved w is);
+    }
+    cases false is = record {
+      slots = w.slots;
+      fresh = missed_fresh w is;
+      puts = subst (λ (p : Place). Misses p (link_over to) s t) at_is (subst (λ (l : Link). Misses (place_in s.slots at) l s t) from_is
+          (Swings-missed w is));
+    }
+
+-- a swing with a note that enters nothing, whatever comes of it
+pub tries : {N : Type 0} (ord : Ordering N) (s t : Seat N) (id : ℕ) (to : Option ℕ) (noted : N) (at : At) (from past : Want) (result : Result Bool Spent)
+    → ord.reading.entries_in (Some noted) ≡ [] → link_in s.slots past ≡ link_over to → NextFollows ord.reading id to s → FreshIs ord s
+    → IfOk result (λ done. Swings at from past (Some noted) s done t) → IfErr result (λ e. Only [] s t) → Tries ord.reading s t
+tries {N} ord s t id to noted at from past (Ok done) silent past_is follows fresh w none = cases done refl
+  where
+    cases : (b : Bool) → done ≡ b → Tries ord.reading s t
+    cases true is = record {
+      own = move_of s at from past (Some noted) ∷ [];
+      puts = Swings-moved w is;
+      no_entries = rw silent refl;
+      no_give = refl;
+      slots = w.slots;
+      fresh = Swings-fresh w is ∙ (ap (λ (l : Link). unless_node s.fresh l.to) past_is ∙ target_fresh ord s id to follows fresh);
+    }
+    cases false is =
+        let m = Swings-missed w is in
+        record {
+          own = event_of s (Miss (place_in s.slots at) (link_in s.slots from) m.found) None ∷ [];
+          puts = m.puts;
+          no_entries = silent_one ord s.agent (Miss (place_in s.slots at) (link_in s.slots from) m.found);
+          no_give = refl;
+          slots = w.slots;
+          fresh = missed_fresh w is;
+        }
+tries ord s t id to noted at from past (Err e) silent past_is follows fresh w none =
+    record { own = []; puts = none.puts; no_entries = refl; no_give = refl; slots = none.slots; fresh = none.fresh }
+
+-- a fact of a call's part is one of two places in what is new
+pub part_fact : {S : Type 0} (agent_of : S → ℕ) (agent : ℕ) (before after : List S) (Fact : ℕ → ℕ → Type 0) → IsPrefix before after
+    → InPart agent_of agent before after Fact → Within (length before) (length after) Fact
+part_fact agent_of agent before after Fact grows fact =
+    let b = part_bounds agent_of agent before after grows in
+    (part_begin agent_of agent before after, length after, b.0, b.1, omega arith, fact)
+
+-- a fact of two places of a piece of a call is one of two places of the whole
+pub within_wider : {S : Type 0} (fact : List S → ℕ → ℕ → Type 0) (j k m o : List S)
+    → ((xs more : List S) (from to : ℕ) → fact xs from to → fact (xs ++ more) from to) → IsPrefix j k → IsPrefix m o
+    → Within (length k) (length m) (fact m) → Within (length j) (length o) (fact o)
+within_wider {S} fact j k m o stays (first, one) (more, two) w =
+    let (from, to, low, order, high, here) = w in
+    let there : fact o from to = subst (λ (z : List S). fact z from to) two (stays m more from to here) in
+    let left : length j + length first ≡ length k = sym (length-append j first) ∙ ap (λ (z : List S). length z) one in
+    let right : length m + length more ≡ length o = sym (length-append m more) ∙ ap (λ (z : List S). length z) two in
+    (from, to, omega (arith, low, left), order, omega (arith, high, right), there)
+
+-- what was worn in the last piece of a call
+pub worn_since : {S : Type 0} (worn : ℕ → Spent → List S → ℕ → ℕ → Type 0) (agent_of : S → ℕ) (a b : ℕ) (j k m : List S)
+    → ((why : Spent) (xs more : List S) (from to : ℕ) → worn a why xs from to → worn a why (xs ++ more) from to) → b ≡ a → IsPrefix j k → IsPrefix k m
+    → (result : Result Bool Spent) → IfErr result (λ e. InPart agent_of b k m (worn b e m)) → IfErr result (λ e. Within (length j) (length m) (worn a e m))
+worn_since worn agent_of a b j k m stays same one two (Ok done) w = tt
+worn_since {S} worn agent_of a b j k m stays same one two (Err e) w =
+    let here : Within (length k) (length m) (worn b e m) = part_fact agent_of b k m (worn b e m) two w in
+    let there : Within (length k) (length m) (worn a e m) = subst (λ (x : ℕ). Within (length k) (length m) (worn x e m)) same here in
+    within_wider (worn a e) j k m m (stays e) one ([], append-nil m) there

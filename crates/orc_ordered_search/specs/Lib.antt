@@ -1,0 +1,6 @@
+pub mod Ways
+pub mod Reading
+pub mod Searches
+pub mod Turns
+pub mod Inserts
+pub mod Causes

@@ -1,0 +1,75 @@
+-- What the turns of a call do. After Harris 2001.
+use Rattle.std.specs.Prelude.{Bool, Err, List, MatchBool, None, Ok, Option, Result, Some, [], false, true, ℕ, ◌∷◌, ◌≡◌, ◌≢◌, ◌≤◌}
+use Rattle.orc_fault.specs.declared.Again.{Again as AgainFault}
+use Rattle.orc_heap.specs.Calls.{Misses, event_of}
+use Rattle.orc_heap.specs.Journals.{noted_entries}
+use Rattle.orc_heap.specs.Moves.{from_own, gives_in, moves_in}
+use Rattle.orc_heap.specs.OwnEvents.{Puts}
+use Rattle.orc_heap.specs.Seats.{Seat}
+use Rattle.orc_heap.specs.declared.events.Act.TheVariants.{Move}
+use Rattle.orc_heap.specs.declared.events.Event.{Event}
+use Rattle.orc_heap.specs.declared.events.Place.TheVariants.{Next}
+use Rattle.orc_history.specs.declared.set.SetEntry.{SetEntry}
+use Rattle.orc_ordered_chains.specs.Chains.{link_over}
+use Rattle.orc_ordered_search.specs.Reading.{Reading}
+use Rattle.orc_ordered_search.specs.Ways.{AreLoads}
+
+module _ {N : Type 0} where
+  -- what the pass did: its own events enter these entries, and give so many nodes
+  pub record Made (r : Reading N) (given : ℕ) (s : Seat N) (own : List (Event N)) (entries : List SetEntry) (t : Seat N) : Type 0 where
+    pub puts : Puts s own t
+    pub entries_are : noted_entries r.entries_in own ≡ entries
+    pub gives : gives_in own ≡ given
+
+  -- so many turns that are over: the pass moved nothing, and as many Moves of others stand after its first event. No turn has no event
+  pub record AreOver (r : Reading N) (given turns : ℕ) (s : Seat N) (own : List (Event N)) (t : Seat N) : Type 0 where
+    pub made : Made r given s own [] t
+    pub no_move : moves_in own ≡ 0
+    pub moved : turns ≤ moves_in (from_own s.agent made.puts.part)
+    pub none : turns ≡ 0 → own ≡ []
+
+  -- the same, by loads alone, and the pass holds what it held
+  pub record Tires (r : Reading N) (turns : ℕ) (s t : Seat N) : Type 0 where
+    pub own : List (Event N)
+    pub over : AreOver r 0 turns s own t
+    pub loads : AreLoads own
+    pub slots : t.slots ≡ s.slots
+    pub fresh : t.fresh ≡ s.fresh
+
+  -- turns of which the last answered with this entry, and the pass holds what it held
+  pub record Answers (r : Reading N) (s : Seat N) (entry : SetEntry) (t : Seat N) : Type 0 where
+    pub own : List (Event N)
+    pub made : Made r 0 s own (entry ∷ []) t
+    pub slots : t.slots ≡ s.slots
+    pub fresh : t.fresh ≡ s.fresh
+
+  -- the entry was entered, or a link moved meanwhile
+  abbrev pub Enters : Reading N → SetEntry → Seat N → Bool → Seat N → Type 0
+  Enters r entry s true t = Answers r s entry t
+  Enters r entry s false t = Tires r 1 s t
+
+  -- at most so many turns of a call that keeps no node: one answered, or all are over
+  abbrev pub AnswersTurns : Reading N → (Bool → SetEntry) → ℕ → Seat N → Result Bool AgainFault → Seat N → Type 0
+  AnswersTurns r entry turns s (Ok answer) t = (turns ≢ 0) × Answers r s (entry answer) t
+  AnswersTurns r entry turns s (Err again) t = Tires r turns s t
+
+  -- one such turn
+  abbrev pub AnswersTurn : Reading N → (Bool → SetEntry) → Seat N → Option Bool → Seat N → Type 0
+  AnswersTurn r entry s (Some answer) t = Answers r s (entry answer) t
+  AnswersTurn r entry s None t = Tires r 1 s t
+
+  -- the node's link to this target was marked, with this note; or the link was another
+  pub record Marks (noted : N) (id : ℕ) (to : Option ℕ) (s : Seat N) (done : Bool) (t : Seat N) : Type 0 where
+    pub slots : t.slots ≡ s.slots
+    pub fresh : t.fresh ≡ s.fresh
+    pub puts : MatchBool done (Puts s (event_of s (Move (Next id) (link_over to) (record { to = to; mark = true })) (Some noted) ∷ []) t)
+        (Misses (Next id) (link_over to) s t)
+
+  -- one event at most, which enters nothing and gives no node; the pass holds what it held
+  pub record Tries (r : Reading N) (s t : Seat N) : Type 0 where
+    pub own : List (Event N)
+    pub puts : Puts s own t
+    pub no_entries : noted_entries r.entries_in own ≡ []
+    pub no_give : gives_in own ≡ 0
+    pub slots : t.slots ≡ s.slots
+    pub fresh : t.fresh ≡ s.fresh

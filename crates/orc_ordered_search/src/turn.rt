@@ -1,0 +1,16 @@
+//! How the turns of an insert end.
+
+use orc_fault::Spent;
+
+/// How a turn of an insert ended.
+#[derive(Clone, Copy, Debug, PartialEq, Eq)]
+pub enum InsertTurn {
+    /// With no answer.
+    Over,
+    /// With this answer.
+    Answered(bool),
+    /// No node could be had.
+    NoNode,
+    /// A row that was to be linked is used up.
+    Spent(Spent),
+}

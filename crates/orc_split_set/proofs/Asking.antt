@@ -1,0 +1,83 @@
+-- A search for a key begins, and what it found is what the law of an answer asks for.
+use Rattle.std.proofs.Common.{List, None, Option, Some, ap, arith, refl, subst, suc, sym, zero, ℕ, ◌*◌, ◌+◌, ◌<◌, ◌++◌, ◌∙◌, ◌≡◌}
+use Rattle.orc_heap.proofs.SingleActs.{some_same}
+use Rattle.orc_heap.specs.Allowed.{events_by}
+use Rattle.orc_heap.specs.Heap.{Heap, HeapNumbers}
+use Rattle.orc_heap.specs.OwnEvents.{Puts}
+use Rattle.orc_heap.specs.declared.events.Event.{Event}
+use Rattle.orc_heap.specs.Seats.{Seat}
+use Rattle.orc_heap.specs.Slots.{Hold}
+use Rattle.orc_heap.specs.declared.events.Place.TheVariants.{Root}
+use Rattle.orc_heap.specs.declared.events.Place.{Place}
+use Rattle.orc_ordered_chains.specs.Chains.{HasRank}
+use Rattle.orc_ordered_search.specs.Searches.{FindsAbsent, FindsPresent}
+use Rattle.orc_split_rule.proofs.Reversed.{reversed_same}
+use Rattle.orc_split_rule.specs.SplitDiscipline.{HasKey}
+use Rattle.orc_split_rule.specs.SplitOrder.{key_place, place_of, reversed, split_order}
+use Rattle.orc_split_rule.specs.declared.split.SplitNote.{SplitNote}
+use Rattle.orc_split_set.specs.SplitSearches.{BeginsAt, split_reading}
+
+-- a place is that of one pair of values
+place_one : (a b s t : ℕ) → s < 2 → t < 2 → 2 * reversed a + s ≡ 2 * reversed b + t → (a ≡ b) × (s ≡ t)
+place_one a b s t low_s low_t same = (reversed_same a b (omega (arith, low_s, low_t, same)), omega (arith, low_s, low_t, same))
+
+-- a node at a key's place has the key
+
+place_values : (first second : Option ℕ) (key : ℕ) → place_of first second ≡ Some (key_place key) → (first ≡ Some key) × (second ≡ Some 1)
+place_values None second key is = cc
+place_values (Some f) None key is = cc
+place_values (Some f) (Some zero) key is =
+    let (same, bad) = place_one f key 0 1 (omega arith) (omega arith) (omega (arith, some_same is)) in
+    absurd (omega (arith, bad))
+place_values (Some f) (Some (suc zero)) key is =
+    let (same, one) = place_one f key 1 1 (omega arith) (omega arith) (some_same is) in
+    (ap (λ (x : ℕ). Some x) same, refl)
+place_values (Some f) (Some (suc (suc s))) key is = cc
+
+pub key_of_place : (h : Heap) (id key : ℕ) → HasRank split_order h id (key_place key) → HasKey h id key
+key_of_place h id key r =
+    let (first, second) = place_values r.node.first r.node.second key r.rank_is in
+    record { node = r.node; there = r.there; linked = r.linked; first_is = first; second_is = second }
+
+-- a search from root 0 begins
+pub begins_at_root : (n : HeapNumbers) (s : Seat SplitNote) (key : ℕ) → BeginsAt n (Root 0) (key_place key) None s s
+begins_at_root n s key = record {
+  begins = record {
+    left_id = 0;
+    agent = refl;
+    seen = refl;
+    fresh = refl;
+    hands = record { same_length = refl; others = λ slot apart. refl; held = (tt, tt) };
+    apart = (tt, tt);
+    start_is = refl;
+    begins = refl;
+    below = refl;
+  };
+  dummy = tt;
+}
+
+-- what a search for a key's place found, by the place that was computed
+
+pub absent_of : (n : HeapNumbers) (start : Place) (wanted key passed : ℕ) (left first right : Option Hold) (s t : Seat SplitNote) → wanted ≡ key_place key
+    → FindsAbsent (split_reading n) start wanted passed left first right s t → FindsAbsent (split_reading n) start (key_place key) passed left first right s t
+absent_of n start wanted key passed left first right s t is f =
+    subst (λ (w : ℕ). FindsAbsent (split_reading n) start w passed left first right s t) is f
+
+pub present_of : (n : HeapNumbers) (start : Place) (wanted key passed : ℕ) (left first : Option Hold) (node : Hold) (next : Option Hold) (s t : Seat SplitNote)
+    → wanted ≡ key_place key → FindsPresent (split_reading n) start wanted passed left first node next s t
+    → FindsPresent (split_reading n) start (key_place key) passed left first node next s t
+present_of n start wanted key passed left first node next s t is f =
+    subst (λ (w : ℕ). FindsPresent (split_reading n) start w passed left first node next s t) is f
+
+pub begins_of : (n : HeapNumbers) (start : Place) (wanted key : ℕ) (left : Option Hold) (s t : Seat SplitNote) → wanted ≡ key_place key
+    → BeginsAt n start (key_place key) left s t → BeginsAt n start wanted left s t
+begins_of n start wanted key left s t is b = subst (λ (w : ℕ). BeginsAt n start w left s t) (sym is) b
+
+-- what was put since a search began was put since the seat at which it did
+pub puts_since : (s t u : Seat SplitNote) (own : List (Event SplitNote)) → t.seen ≡ s.seen → t.agent ≡ s.agent → Puts s own u → Puts t own u
+puts_since s t u own seen agent p = record {
+  part = p.part;
+  is = p.is ∙ ap (λ z. z ++ p.part) (sym seen);
+  agent = p.agent ∙ sym agent;
+  own_is = subst (λ (a : ℕ). events_by a p.part ≡ own) (sym agent) p.own_is;
+}

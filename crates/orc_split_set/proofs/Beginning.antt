@@ -1,0 +1,229 @@
+-- Looks of the other roots: a bucket's root tells where a search may begin, and the last one the size.
+use Rattle.std.proofs.Common.{List, None, Some, [], ap, arith, refl, subst, sym, ℕ, ◌++◌, ◌%◌, ◌*◌, ◌/◌, ◌<◌, ◌∙◌, ◌∷◌, ◌≡◌, ◌≤◌, ◌^◌, suc, zero}
+use Rattle.std.proofs.Math.Nat.{mod-lt}
+use Rattle.std.specs.List.{slice_get, slice_set}
+use Rattle.orc_heap.proofs.Calls.{Puts-stood}
+use Rattle.orc_heap.proofs.Hands.{hands_take}
+use Rattle.orc_heap.proofs.Moments.{looks_differ, seen_is, since}
+use Rattle.orc_heap.specs.Allowed.{AllAllowed}
+use Rattle.orc_heap.specs.Calls.{Looks, Tells, event_of}
+use Rattle.orc_heap.specs.Heap.{Heap, HeapNumbers, shown}
+use Rattle.orc_heap.specs.Journals.{run_heap}
+use Rattle.orc_heap.specs.OwnEvents.{Puts}
+use Rattle.orc_heap.specs.Seats.{Seat, heap_of}
+use Rattle.orc_heap.specs.Slots.{Hold, Slots}
+use Rattle.orc_heap.specs.Hands.{Hands, hand}
+use Rattle.orc_heap.specs.declared.events.Act.TheVariants.{Look}
+use Rattle.orc_heap.specs.declared.events.Event.{Event}
+use Rattle.orc_heap.specs.declared.events.Link.{Link}
+use Rattle.orc_heap.specs.declared.events.Place.TheVariants.{Next, Root}
+use Rattle.orc_heap.specs.declared.holds.Looked.TheVariants.{Moved as LookedMoved, Stable}
+use Rattle.orc_heap.specs.declared.holds.Seen.{Seen}
+use Rattle.orc_ordered_chains.specs.Chains.{FollowsOn, LeadsTo}
+use Rattle.orc_ordered_search.specs.Searches.{FindsMoved, HasRoom, Quiet}
+use Rattle.orc_ordered_search.proofs.Preceding.{finds_after, quiet_trans}
+use Rattle.orc_ordered_search.proofs.Quiets.{silent_one, silent_two}
+use Rattle.orc_split_rule.proofs.Later.{holds_later, may_fits, values_later}
+use Rattle.orc_split_rule.proofs.Reversed.{low_before, low_first}
+use Rattle.orc_split_rule.proofs.Sizes.{size_later}
+use Rattle.orc_split_rule.specs.Laws.Values.{dummy_rank}
+use Rattle.orc_split_rule.specs.SplitDiscipline.{HasValues, IsDummy, IsSize, SplitHolds, SplitMay, greatest, size_of}
+use Rattle.orc_split_rule.specs.SplitOrder.{dummy_place, reversed, split_order}
+use Rattle.orc_split_rule.specs.declared.split.SplitNote.{SplitNote}
+use Rattle.orc_split_set.specs.Beginnings.{BeginsNear, Held, MayBegin, seat_before}
+use Rattle.orc_split_set.specs.NewNodes.{place_for, value_of}
+use Rattle.orc_split_set.specs.SplitSearches.{split_reading}
+use Rattle.orc_split_set.specs.declared.begin.Begun.TheVariants.{From}
+use Rattle.orc_split_set.specs.declared.node.NewNode.{NewNode}
+use Rattle.orc_split_set.specs.declared.node.NewNode.TheVariants.{Dummy, Key}
+use Rattle.orc_split_set.proofs.Ordered.{split_ordering}
+
+-- what a Look of a root found of a node's values where it stands is so at the end
+pub root_tells : (n : HeapNumbers) (s t : Seat SplitNote) (root : ℕ) (link : Link) (before rest : List (Event SplitNote)) (id : ℕ) (P : ℕ → Type 0) (second : ℕ)
+    → SplitHolds n s.seen → Puts s (before ++ event_of s (Look (Root root) link) None ∷ rest) t → AllAllowed (SplitMay n) [] t.seen → link.to ≡ Some id
+    → ((es : List (Event SplitNote)) → SplitHolds n es → LeadsTo (run_heap n es) (Root root) (Some id)
+    → (first : ℕ) × HasValues (run_heap n es) id first second × P first)
+    → (first : ℕ) × HasValues (heap_of n t) id first second × P first
+root_tells n s t root link before rest id P second holds p all to_is tells =
+    let e : Event SplitNote = event_of s (Look (Root root) link) None in
+    let m = Puts-stood (SplitMay n) s t before e rest p all in
+    let es : List (Event SplitNote) = s.seen ++ m.before in
+    let now = holds_later n s.seen m.before holds m.first in
+    let (first, values, more) = tells es now (record { link = link; at = may_fits n es e m.here; to_is = to_is }) in
+    (first, subst (λ z. HasValues (run_heap n z) id first second) (sym (p.is ∙ seen_is m)) (values_later n es (e ∷ m.later) id first second values (since m)), more)
+
+-- what a Look of the size's root found stands for a size that lies between those before and after
+pub size_was : (n : HeapNumbers) (s t : Seat SplitNote) (link : Link) (before rest : List (Event SplitNote)) (size : ℕ) → 1 ≤ greatest n → SplitHolds n s.seen
+    → Puts s (before ++ event_of s (Look (Root (greatest n)) link) None ∷ rest) t → AllAllowed (SplitMay n) [] t.seen
+    → ((es more : List (Event SplitNote)) → SplitHolds n es → AllAllowed (SplitMay n) es more → es ++ more ≡ t.seen
+    → shown (run_heap n es) (Root (greatest n)) ≡ Some link → size_of n es ≡ size)
+    → (size_of n s.seen ≤ size) × (size ≤ size_of n t.seen)
+size_was n s t link before rest size some holds p all stands =
+    let e : Event SplitNote = event_of s (Look (Root (greatest n)) link) None in
+    let m = Puts-stood (SplitMay n) s t before e rest p all in
+    let es : List (Event SplitNote) = s.seen ++ m.before in
+    let now = holds_later n s.seen m.before holds m.first in
+    let is : t.seen ≡ es ++ e ∷ m.later = p.is ∙ seen_is m in
+    let here = stands es (e ∷ m.later) now (since m) (sym is) (may_fits n es e m.here) in
+    let low = size_later n s.seen m.before some holds m.first in
+    let high = size_later n es (e ∷ m.later) some now (since m) in
+    let after : size_of n (es ++ e ∷ m.later) ≡ size_of n t.seen = ap (λ z. size_of n z) (sym is) in
+    (omega (arith, low, here), omega (arith, high, here, after))
+
+-- the dummy of the bucket of a number, where there are so many buckets, lies below the node
+below_new : (h : Heap) (id i : ℕ) (new : NewNode) → 0 < 2 ^ i → MayBegin new (2 ^ i) → IsDummy h id (value_of new % 2 ^ i)
+    → FollowsOn split_order h (Next id) (place_for new)
+below_new h id i (Key key) some may d = (dummy_place (key % 2 ^ i), dummy_rank h id (key % 2 ^ i) d, omega (arith, low_first key i), refl)
+below_new h id i (Dummy bucket) some may d =
+    let less : reversed (bucket % 2 ^ i) < reversed bucket =
+    low_before bucket i (λ same. omega (arith, same, may, mod-lt bucket some)) in
+    (dummy_place (bucket % 2 ^ i), dummy_rank h id (bucket % 2 ^ i) d, omega (arith, less), refl)
+
+-- the pass's loads are the same, by what it held before
+quiet_before : (n : HeapNumbers) (s t : Seat SplitNote) (own : List (Event SplitNote)) (p : Puts s own t) → Quiet (split_reading n) s own t
+    → Quiet (split_reading n) s own (seat_before s t)
+quiet_before n s t own p q = record {
+  puts = record { part = q.puts.part; is = q.puts.is; agent = refl; own_is = q.puts.own_is };
+  fresh = refl;
+  loads = q.loads;
+  some = q.some;
+  no_entries = q.no_entries;
+  no_give = q.no_give;
+  no_move = q.no_move;
+}
+
+module _ (n : HeapNumbers) (new : NewNode) (s t : Seat SplitNote) (own : List (Event SplitNote)) (q : Quiet (split_reading n) s own t)
+    (same : t.slots ≡ s.slots) where
+  -- a search from root 0
+  pub from_root : BeginsNear n new s (From None) t
+  from_root = record {
+    own = own;
+    quiet = quiet_before n s t own q.puts q;
+    start = Root 0;
+    begins = record {
+      begins = record {
+        left_id = 0;
+        agent = q.puts.agent;
+        seen = refl;
+        fresh = q.fresh;
+        hands = subst (λ (z : Slots). Hands s.slots z (hand None 0 ∷ [])) (sym same)
+            (record { same_length = refl; others = λ slot apart. refl; held = (tt, tt) });
+        apart = (tt, tt);
+        start_is = refl;
+        begins = refl;
+        below = refl;
+      };
+      dummy = tt;
+    };
+  }
+
+  -- a root that was null
+  pub root_null : (u : Seat SplitNote) (bucket : ℕ) (seen : Seen) → Looks (Root bucket) 2 t (Stable seen None) u → Held n s u
+  root_null u bucket seen looks =
+      let (null, slots, puts) = looks.tells in
+      let act = Look (Root bucket) (record { to = None; mark = seen.mark }) in
+      let ys : List (Event SplitNote) = event_of t act None ∷ [] in
+      let here : Quiet (split_reading n) t ys u = record {
+        puts = puts;
+        fresh = looks.fresh;
+        loads = (tt, tt);
+        some = omega arith;
+        no_entries = silent_one (split_ordering n) t.agent act;
+        no_give = refl;
+        no_move = refl;
+      } in
+      record { own = own ++ ys; quiet = quiet_trans (split_reading n) s t u own ys q here; slots = slots ∙ same }
+
+  -- a root that moved meanwhile
+  pub root_moved : (u : Seat SplitNote) (bucket : ℕ) → Looks (Root bucket) 2 t LookedMoved u → AllAllowed (SplitMay n) [] u.seen
+      → FindsMoved (split_reading n) s u
+  root_moved u bucket looks all =
+      let (one, two, other, slots, puts, some) = looks.tells in
+      finds_after (split_reading n) s t u own q same (record {
+        own = event_of t (Look (Root bucket) one) None ∷ event_of t (Look (Root bucket) two) None ∷ [];
+        quiet = record {
+          puts = puts;
+          fresh = looks.fresh;
+          loads = (tt, (tt, tt));
+          some = omega arith;
+          no_entries = silent_two (split_ordering n) t.agent t.agent (Look (Root bucket) one) (Look (Root bucket) two);
+          no_give = refl;
+          no_move = refl;
+        };
+        slots = slots;
+        moved = looks_differ n (SplitMay n) (λ es e may. may.fits) t u (Root bucket) one two puts all tt other;
+      })
+
+  -- a root that names a dummy, at whose link the search begins
+  pub root_dummy : (u : Seat SplitNote) (bucket i : ℕ) (seen : Seen) (h : Hold) → SplitHolds n t.seen → AllAllowed (SplitMay n) [] u.seen
+      → HasRoom t.slots → 1 ≤ bucket → bucket < greatest n → 0 < 2 ^ i → MayBegin new (2 ^ i) → bucket ≡ value_of new % 2 ^ i
+      → Looks (Root bucket) 2 t (Stable seen (Some h)) u → BeginsNear n new s (From (Some h)) u
+  root_dummy u bucket i seen h holds all room some less many may is looks = by_next looks.tells
+    where
+      by_next : Tells (Root bucket) 2 t (Stable seen (Some h)) u → BeginsNear n new s (From (Some h)) u
+      by_next (id, one, more, marked, null, at_slot, slots, puts) =
+          let link : Link = record { to = Some id; mark = seen.mark } in
+          let ys : List (Event SplitNote) = event_of t (Look (Root bucket) one) None ∷ event_of t (Look (Root bucket) link) None ∷ [] in
+          let (first, dummy, same_bucket) = root_tells n t u bucket link (event_of t (Look (Root bucket) one) None ∷ []) [] id (λ (x : ℕ). x ≡ bucket) 0 holds
+          puts all refl (λ es now leads. (bucket, now.buckets.anchors bucket id some less leads, refl)) in
+          let d : IsDummy (heap_of n u) id (value_of new % 2 ^ i) = subst (λ (x : ℕ). IsDummy (heap_of n u) id x) (same_bucket ∙ is) dummy in
+          let here : Quiet (split_reading n) t ys u = record {
+            puts = puts;
+            fresh = looks.fresh;
+            loads = (tt, (tt, tt));
+            some = omega arith;
+            no_entries = silent_two (split_ordering n) t.agent t.agent (Look (Root bucket) one) (Look (Root bucket) link);
+            no_give = refl;
+            no_move = refl;
+          } in
+          let whole = quiet_trans (split_reading n) s t u own ys q here in
+          let free : slice_get s.slots 2 ≡ Some None = subst (λ (z : Slots). slice_get z 2 ≡ Some None) same room.two.empty in
+          record {
+            own = own ++ ys;
+            quiet = quiet_before n s u (own ++ ys) whole.puts whole;
+            start = Next id;
+            begins = record {
+              begins = record {
+                left_id = id;
+                agent = puts.agent ∙ q.puts.agent;
+                seen = refl;
+                fresh = looks.fresh ∙ q.fresh;
+                hands = hands_take s.slots s.slots u.slots [] h id (record { same_length = refl; others = λ j a. refl; held = tt }) tt
+                    (subst (λ (j : ℕ). slice_get s.slots j ≡ Some None) (sym at_slot) free)
+                    (subst (λ (j : ℕ). u.slots ≡ slice_set s.slots j (Some (record { row = h.row; id = id }))) (sym at_slot)
+                    (subst (λ (z : Slots). u.slots ≡ slice_set z 2 (Some (record { row = h.row; id = id }))) same slots));
+                apart = ((λ e. omega (arith, e, at_slot)), tt);
+                start_is = refl;
+                begins = (dummy_place (value_of new % 2 ^ i), dummy_rank (heap_of n u) id (value_of new % 2 ^ i) d);
+                below = below_new (heap_of n u) id i new many may d;
+              };
+              dummy = (value_of new % 2 ^ i, d);
+            };
+          }
+
+-- half as many buckets, a power of two again
+
+pub half_size : (most size i : ℕ) → 2 ≤ size → size ≡ 2 ^ i → size ≤ most → IsSize most (size / 2)
+half_size most size zero two is low = absurd (omega (arith, two, is))
+half_size most size (suc i) two is low = (omega (arith, low), i, halved)
+  where
+    double : 2 ^ suc i ≡ 2 * 2 ^ i
+    double = grind (arith)
+
+    halved : size / 2 ≡ 2 ^ i
+    halved = omega (arith, is, double)
+
+pub half_begins : (new : NewNode) (size : ℕ) → MayBegin new size → MayBegin new (size / 2)
+half_begins (Key key) size may = tt
+half_begins (Dummy bucket) size may = omega (arith, may)
+
+-- by the size that was computed
+pub root_at : (n : HeapNumbers) (new : NewNode) (s t : Seat SplitNote) (own : List (Event SplitNote)) (q : Quiet (split_reading n) s own t)
+    (same : t.slots ≡ s.slots) (u : Seat SplitNote) (value size most : ℕ) (seen : Seen) (h : Hold) → SplitHolds n t.seen → AllAllowed (SplitMay n) [] u.seen
+    → HasRoom t.slots → IsSize (greatest n) size → 2 ≤ size → MayBegin new size → value ≡ value_of new → most ≡ size → size / 2 ≤ value % most
+    → Looks (Root (value % most)) 2 t (Stable seen (Some h)) u → BeginsNear n new s (From (Some h)) u
+root_at n new s t own q same u value size most seen h holds all room (low, i, is) two may value_is most_is high looks =
+    let many : 0 < 2 ^ i = omega (arith, two, is) in
+    let less : value % most < most = mod-lt value (omega (arith, two, most_is)) in
+    root_dummy n new s t own q same u (value % most) i seen h holds all room (omega (arith, two, high)) (omega (arith, less, low, most_is)) many
+    (subst (λ (x : ℕ). MayBegin new x) is may) (ap (λ (x : ℕ). x % most) value_is ∙ ap (λ (x : ℕ). value_of new % x) (most_is ∙ is)) looks

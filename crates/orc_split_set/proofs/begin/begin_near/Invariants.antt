@@ -1,0 +1,25 @@
+use mathlib.Core.List.{IsPrefix}
+use Rattle.std.proofs.Common.{List, ◌≡◌}
+use Rattle.orc_heap.specs.Seats.{Seat}
+use Rattle.orc_heap.specs.declared.events.Event.{Event}
+use Rattle.orc_ordered_search.specs.Searches.{HasRoom, Quiet}
+use Rattle.orc_split_rule.specs.SplitDiscipline.{IsSize, greatest}
+use Rattle.orc_split_rule.specs.declared.split.SplitNote.{SplitNote}
+use Rattle.orc_split_set.specs.Beginnings.{Held, MayBegin}
+use Rattle.orc_split_set.specs.SplitSearches.{split_reading}
+use Rattle.orc_split_set.proofs.begin.begin_near.Given as goal
+
+-- no root of more buckets than this names a dummy
+abbrev pub invariant-loop-size : goal.invariant-loop-size
+invariant-loop-size g l = record {
+  pass : g.L.Links.belongs l.links l.p;
+  later : IsPrefix (g.L.Links.journal l.fn.p) (g.L.Links.journal l.p);
+  size : IsSize (greatest (g.L.Links.numbers l.links)) l.size;
+  begins : MayBegin l.new l.size;
+  room : HasRoom (g.L.Links.seat l.links l.p).slots;
+  held : (s : Seat SplitNote) (own : List (Event SplitNote)) → Quiet (split_reading (g.L.Links.numbers l.links)) s own (g.L.Links.seat l.links l.fn.p)
+      → (g.L.Links.seat l.links l.fn.p).slots ≡ s.slots → Held (g.L.Links.numbers l.links) s (g.L.Links.seat l.links l.p);
+}
+
+abbrev pub decreases-loop-size : goal.decreases-loop-size
+decreases-loop-size g l = l.size

@@ -1,0 +1,81 @@
+-- Where the turn's search begins, and what it found.
+use Rattle.std.proofs.Common.{refl, subst, ℕ}
+use Rattle.orc_history.specs.declared.set.SetEntry.TheVariants.{Added}
+use Rattle.orc_ordered_search.specs.Causes.{WithinPart}
+use Rattle.orc_ordered_search.proofs.Inserting.{has_room, keeps_on}
+use Rattle.orc_ordered_search.proofs.Making.{found_over}
+use Rattle.orc_ordered_search.proofs.Parting.{part_of_part}
+use Rattle.orc_ordered_search.proofs.Preceding.{inserts_after, keeps_after}
+use Rattle.orc_split_set.specs.Beginnings.{seat_before}
+use Rattle.orc_split_set.specs.SplitSearches.{split_reading}
+use Rattle.orc_split_set.proofs.Ordered.{split_ordering}
+use Rattle.orc_split_set.proofs.insert.insert_turn.Goals as goal
+
+pub begin-requires-clause-room : goal.begin-requires-clause-room
+begin-requires-clause-room g c =
+    let d = c.args.links.now in
+    let (slots, room, k) = c.requires.keeps in
+    has_room (split_reading (g.L.Links.numbers d)) c.args.key 1 c.args.node slots (g.L.Links.seat d c.args.p.now) room k
+
+pub insert_from-requires-clause-begins : goal.insert_from-requires-clause-begins
+insert_from-requires-clause-begins g c =
+    let d = c.args.links.now in
+    let n = g.L.Links.numbers d in
+    let s = g.L.Links.seat d c.args.p.now in
+    let t = g.L.Links.seat d c.begin.new.p in
+    let (slots, room, k) = c.requires.keeps in
+    let b = c.in-From.ensures.begun in
+    let all = g.met.L.Links.allowed d c.begin.new.p c.in-From.ensures.pass in
+    let kept = keeps_after (split_ordering n) c.args.key 1 c.args.node slots s (seat_before s t) b.own k b.quiet refl
+    (g.met.L.Links.obeys d c.args.p.now c.requires.pass) all in
+    (b.start, slots, seat_before s t, room, kept, b.begins)
+
+pub returns-in-Moved-clause-inserted : goal.returns-in-Moved-clause-inserted
+returns-in-Moved-clause-inserted g c = λ slots room k.
+    let d = c.args.links.now in
+    let n = g.L.Links.numbers d in
+    let s = g.L.Links.seat d c.args.p.now in
+    let t = g.L.Links.seat d c.begin.new.p in
+    let e = c.in-Moved.ensures in
+    keeps_on (split_ordering n) c.args.key 1 c.args.node slots s t k (found_over (split_reading n) s t e.begun)
+    (g.met.L.Links.obeys d c.args.p.now c.requires.pass) (g.met.L.Links.allowed d c.begin.new.p e.pass)
+
+pub returns-in-From-clause-inserted : goal.returns-in-From-clause-inserted
+returns-in-From-clause-inserted g c = λ slots room k.
+    let d = c.args.links.now in
+    let n = g.L.Links.numbers d in
+    let s = g.L.Links.seat d c.args.p.now in
+    let t = g.L.Links.seat d c.begin.new.p in
+    let u = g.L.Links.seat d c.insert_from.new.p in
+    let b = c.in-From.ensures.begun in
+    let all = g.met.L.Links.allowed d c.begin.new.p c.in-From.ensures.pass in
+    let kept = keeps_after (split_ordering n) c.args.key 1 c.args.node slots s (seat_before s t) b.own k b.quiet refl
+    (g.met.L.Links.obeys d c.args.p.now c.requires.pass) all in
+    inserts_after (split_reading n) s (seat_before s t) u b.own b.quiet c.args.key 1 (λ answer. Added s.agent c.args.key answer) slots c.args.node
+    c.insert_from.result.1 c.insert_from.result.0 (c.insert_from.ensures.inserted b.start slots (seat_before s t) room kept b.begins)
+
+pub returns-in-From-clause-lacking : goal.returns-in-From-clause-lacking
+returns-in-From-clause-lacking g c = λ told.
+    let d = c.args.links.now in
+    let s = g.L.Links.seat d c.args.p.now in
+    let t = g.L.Links.seat d c.begin.new.p in
+    let j = g.L.Links.journal c.args.p.now in
+    let k = g.L.Links.journal c.begin.new.p in
+    let m = g.L.Links.journal c.insert_from.new.p in
+    let b = c.in-From.ensures.begun in
+    let f = c.insert_from.ensures in
+    let fact = subst (λ (x : ℕ). WithinPart g.L.Links.agent_of x k m (g.L.Links.lacking d x m)) b.begins.begins.agent (f.lacking told) in
+    part_of_part g.L.Links.agent_of s.agent (g.L.Links.lacking d s.agent) j k m c.in-From.ensures.later f.later fact
+
+pub returns-in-From-clause-worn : goal.returns-in-From-clause-worn
+returns-in-From-clause-worn g c = λ why told.
+    let d = c.args.links.now in
+    let s = g.L.Links.seat d c.args.p.now in
+    let t = g.L.Links.seat d c.begin.new.p in
+    let j = g.L.Links.journal c.args.p.now in
+    let k = g.L.Links.journal c.begin.new.p in
+    let m = g.L.Links.journal c.insert_from.new.p in
+    let b = c.in-From.ensures.begun in
+    let f = c.insert_from.ensures in
+    let fact = subst (λ (x : ℕ). WithinPart g.L.Links.agent_of x k m (g.L.Links.worn d x why m)) b.begins.begins.agent (f.worn why told) in
+    part_of_part g.L.Links.agent_of s.agent (g.L.Links.worn d s.agent why) j k m c.in-From.ensures.later f.later fact

@@ -1,0 +1,88 @@
+-- One turn after another, until one answers.
+use Rattle.std.proofs.Common.{[], append-nil, arith, subst, ℕ, None, ◌≡◌}
+use Rattle.orc_heap.proofs.Pieces.{goes_on}
+use Rattle.orc_history.specs.declared.set.SetEntry.TheVariants.{Added}
+use Rattle.orc_ordered_search.specs.Causes.{WithinPart}
+use Rattle.orc_ordered_search.specs.Inserts.{Inserts, InsertsOn}
+use Rattle.orc_ordered_search.specs.declared.turn.InsertTurn.{InsertTurn}
+use Rattle.orc_ordered_search.proofs.Inserting.{inserts_done, inserts_next, inserts_none}
+use Rattle.orc_ordered_search.proofs.Parting.{part_of_part}
+use Rattle.orc_split_set.specs.SplitSearches.{split_reading}
+use Rattle.orc_split_set.proofs.insert.insert_turns.Goals as goal
+
+pub loop-init : goal.loop-init
+loop-init g c =
+    let d = c.args.links.now in
+    record {
+      pass = c.requires.pass;
+      later = ([], append-nil _);
+      on = inserts_none (split_reading (g.L.Links.numbers d)) c.args.key 1 (g.L.Links.seat d c.args.p.now)
+          c.requires.fresh;
+    }
+
+pub insert_turn-turn-requires-clause-keeps : goal.insert_turn-turn-requires-clause-keeps
+insert_turn-turn-requires-clause-keeps g c =
+    let d = c.args.links.now in
+    ((g.L.Links.seat d c.args.p.now).slots, c.requires.room, c.loop.invariant.on.keeps)
+
+pub loop-preserved : goal.loop-preserved
+loop-preserved g c =
+    let d = c.args.links.now in
+    let n = g.L.Links.numbers d in
+    let s = g.L.Links.seat d c.args.p.now in
+    let t = g.L.Links.seat d c.loop.p in
+    let u = g.L.Links.seat d c.insert_turn-turn.new.p in
+    let i = c.loop.invariant in
+    let e = c.insert_turn-turn.ensures in
+    let kept = c.insert_turn-turn.result.1 in
+    let over = subst (λ (turn : InsertTurn). Inserts (split_reading n) c.args.key 1 (λ answer. Added t.agent c.args.key answer) 1 s.slots c.loop.node t turn kept u) c.in-Over.is
+    (e.inserted s.slots c.requires.room i.on.keeps) in
+    record { pass = e.pass; later = goes_on _ _ _ i.later e.later; on = inserts_next (split_reading n) c.args.key 1 c.loop.counter c.loop.node kept s t u i.on over }
+
+pub returns-in_default-clause-inserted : goal.returns-in_default-clause-inserted
+returns-in_default-clause-inserted g c =
+    let d = c.args.links.now in
+    let n = g.L.Links.numbers d in
+    let s = g.L.Links.seat d c.args.p.now in
+    let t = g.L.Links.seat d c.loop.p in
+    let u = g.L.Links.seat d c.insert_turn-turn.new.p in
+    let i = c.loop.invariant in
+    let e = c.insert_turn-turn.ensures in
+    let kept = c.insert_turn-turn.result.1 in
+    let turn = c.insert_turn-turn.result.0 in
+    let last = e.inserted s.slots c.requires.room i.on.keeps in
+    let here = subst (λ (x : ℕ). Inserts (split_reading n) c.args.key 1 (λ answer. Added x c.args.key answer) 1 s.slots c.loop.node t turn kept u)
+    i.on.over.made.puts.agent last in
+    inserts_done (split_reading n) c.args.key 1 c.loop.counter c.loop.node kept s t u i.on (λ answer. Added s.agent c.args.key answer) c.args.turns turn here
+    c.in_default.not-Over (omega (arith, c.loop-test.true))
+
+pub returns-in_default-clause-lacking : goal.returns-in_default-clause-lacking
+returns-in_default-clause-lacking g c = λ is.
+    let d = c.args.links.now in
+    let s = g.L.Links.seat d c.args.p.now in
+    let j = g.L.Links.journal c.args.p.now in
+    let k = g.L.Links.journal c.loop.p in
+    let m = g.L.Links.journal c.insert_turn-turn.new.p in
+    let i = c.loop.invariant in
+    let e = c.insert_turn-turn.ensures in
+    let fact = subst (λ (x : ℕ). WithinPart g.L.Links.agent_of x k m (g.L.Links.lacking d x m)) i.on.over.made.puts.agent (e.lacking is) in
+    part_of_part g.L.Links.agent_of s.agent (g.L.Links.lacking d s.agent) j k m i.later e.later fact
+
+pub returns-in_default-clause-worn : goal.returns-in_default-clause-worn
+returns-in_default-clause-worn g c = λ why is.
+    let d = c.args.links.now in
+    let s = g.L.Links.seat d c.args.p.now in
+    let j = g.L.Links.journal c.args.p.now in
+    let k = g.L.Links.journal c.loop.p in
+    let m = g.L.Links.journal c.insert_turn-turn.new.p in
+    let i = c.loop.invariant in
+    let e = c.insert_turn-turn.ensures in
+    let fact = subst (λ (x : ℕ). WithinPart g.L.Links.agent_of x k m (g.L.Links.worn d x why m)) i.on.over.made.puts.agent (e.worn why is) in
+    part_of_part g.L.Links.agent_of s.agent (g.L.Links.worn d s.agent why) j k m i.later e.later fact
+
+pub returns-clause-inserted : goal.returns-clause-inserted
+returns-clause-inserted g c =
+    let d = c.args.links.now in
+    let s = g.L.Links.seat d c.args.p.now in
+    let all : c.loop.counter ≡ c.args.turns = omega (arith, c.loop-test.false, c.loop.auto.counter-end) in
+    subst (λ (k : ℕ). InsertsOn (split_reading (g.L.Links.numbers d)) c.args.key 1 k s.slots None c.loop.node s (g.L.Links.seat d c.loop.p)) all c.loop.invariant.on

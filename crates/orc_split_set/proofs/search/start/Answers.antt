@@ -1,0 +1,65 @@
+-- By what the first look found.
+use Rattle.std.proofs.Common.{sym, ◌∙◌}
+use Rattle.orc_ordered_search.proofs.Starting.{start_looks, start_moved}
+use Rattle.orc_split_set.proofs.Ordered.{looks_from, never_marked, split_ordering, start_held, start_place}
+use Rattle.orc_split_set.proofs.search.start.Goals as goal
+
+pub look-requires-clause-place : goal.look-requires-clause-place
+look-requires-clause-place g c =
+    let d = c.args.links.now in
+    let n = g.L.Links.numbers d in
+    let t = g.L.Links.seat d c.args.p.now in
+    let (place, s, room, b) = c.requires.begins in
+    c.place_from.ensures.held n.roots t.slots c.requires.roots (start_held n place c.args.wanted c.args.left s t b)
+
+pub go_on-requires-clause-passed : goal.go_on-requires-clause-passed
+go_on-requires-clause-passed g c =
+    let d = c.args.links.now in
+    let n = g.L.Links.numbers d in
+    let t = g.L.Links.seat d c.args.p.now in
+    let u = g.L.Links.seat d c.look.new.p in
+    let a = c.args in
+    let holds = g.met.L.Links.obeys d a.p.now c.requires.pass in
+    let k = c.spare_slot-slot.ensures in
+    let e = c.in-Stable.ensures in
+    let (place, s, room, b) = c.requires.begins in (
+      place,
+      a.wanted,
+      s,
+      0,
+      start_looks (split_ordering n) place a.wanted a.left s t u b.begins holds (never_marked n place a.wanted a.left s t holds b)
+          (g.met.L.Links.allowed d c.look.new.p e.pass) c.spare_slot-slot.result _ c.in-Stable.next room k.range.0 k.range.1
+          (λ e. k.left (e ∙ sym c.slot_of.ensures))
+          (looks_from _ place c.spare_slot-slot.result _ t u (c.place_from.ensures.place t.slots ∙ start_place n place a.wanted a.left s t b) e.looked),
+    )
+
+pub returns-in-Stable-clause-stepped : goal.returns-in-Stable-clause-stepped
+returns-in-Stable-clause-stepped g c = λ place s room b.
+    let d = c.args.links.now in
+    let n = g.L.Links.numbers d in
+    let t = g.L.Links.seat d c.args.p.now in
+    let u = g.L.Links.seat d c.look.new.p in
+    let a = c.args in
+    let holds = g.met.L.Links.obeys d a.p.now c.requires.pass in
+    let k = c.spare_slot-slot.ensures in
+    let e = c.in-Stable.ensures in
+    c.go_on.ensures.stepped place a.wanted s 0 (start_looks (split_ordering n) place a.wanted a.left s t u b.begins holds (never_marked n place a.wanted a.left s t holds b)
+    (g.met.L.Links.allowed d c.look.new.p e.pass) c.spare_slot-slot.result _ c.in-Stable.next room k.range.0 k.range.1
+    (λ e. k.left (e ∙ sym c.slot_of.ensures))
+    (looks_from _ place c.spare_slot-slot.result _ t u (c.place_from.ensures.place t.slots ∙ start_place n place a.wanted a.left s t b) e.looked))
+
+pub returns-in-Moved-clause-stepped : goal.returns-in-Moved-clause-stepped
+returns-in-Moved-clause-stepped g c = λ place s room b.
+    let d = c.args.links.now in
+    let n = g.L.Links.numbers d in
+    let t = g.L.Links.seat d c.args.p.now in
+    let u = g.L.Links.seat d c.look.new.p in
+    let a = c.args in
+    let holds = g.met.L.Links.obeys d a.p.now c.requires.pass in
+    let k = c.spare_slot-slot.ensures in
+    let v = g.L.Links.seat d c.let_go.new.p in
+    let e = c.in-Moved.ensures in
+    start_moved (split_ordering n) place a.wanted c.spare_slot-slot.result a.left s t u v b.begins
+    (looks_from _ place c.spare_slot-slot.result _ t u (c.place_from.ensures.place t.slots ∙ start_place n place a.wanted a.left s t b) e.looked)
+    (g.met.L.Links.allowed d c.look.new.p e.pass) c.let_go.ensures.let_go (λ i h. g.met.L.Links.fresh_is d c.look.new.p i e.pass h)
+    (g.met.L.Links.allowed d c.let_go.new.p c.let_go.ensures.pass)

@@ -1,0 +1,34 @@
+-- The marked node belongs to the run.
+use Rattle.std.proofs.Common.{◌+◌}
+use Rattle.orc_ordered_search.proofs.Stepping.{passed_marked}
+use Rattle.orc_split_set.proofs.Ordered.{split_ordering}
+use Rattle.orc_split_set.proofs.search.step_past.Goals as goal
+
+pub go_on-requires-clause-passed : goal.go_on-requires-clause-passed
+go_on-requires-clause-passed g c =
+    let d = c.args.links.now in
+    let n = g.L.Links.numbers d in
+    let t = g.L.Links.seat d c.args.p.now in
+    let a = c.args in
+    let k = c.keep_first-first in
+    let u = g.L.Links.seat d k.new.p in
+    let (start, wanted, s, w) = c.requires.looks in (
+      start,
+      wanted,
+      s,
+      a.walk.place + 1,
+      passed_marked (split_ordering n) start wanted a.walk.left a.walk.first a.walk.at a.walk.place a.walk.has_key a.walk.passed a.next k.result s t u w k.ensures.kept
+          (λ i e. g.met.L.Links.fresh_is d a.p.now i c.requires.pass e) (g.met.L.Links.allowed d k.new.p k.ensures.pass),
+    )
+
+pub returns-clause-stepped : goal.returns-clause-stepped
+returns-clause-stepped g c = λ start wanted s w.
+    let d = c.args.links.now in
+    let n = g.L.Links.numbers d in
+    let t = g.L.Links.seat d c.args.p.now in
+    let a = c.args in
+    let k = c.keep_first-first in
+    let u = g.L.Links.seat d k.new.p in
+    c.go_on.ensures.stepped start wanted s (a.walk.place + 1)
+    (passed_marked (split_ordering n) start wanted a.walk.left a.walk.first a.walk.at a.walk.place a.walk.has_key a.walk.passed a.next k.result s t u w k.ensures.kept
+    (λ i e. g.met.L.Links.fresh_is d a.p.now i c.requires.pass e) (g.met.L.Links.allowed d k.new.p k.ensures.pass))

@@ -1,0 +1,50 @@
+-- One turn after another, until one answers.
+use Rattle.std.proofs.Common.{[], append-nil, arith, subst, sym, ℕ, ◌≡◌, ◌≤◌}
+use Rattle.orc_heap.proofs.Pieces.{goes_on}
+use Rattle.orc_heap.specs.Slots.{Slots}
+use Rattle.orc_ordered_search.specs.Searches.{HasRoom}
+use Rattle.orc_ordered_search.specs.Turns.{Tires}
+use Rattle.orc_ordered_search.proofs.Making.{found_over}
+use Rattle.orc_ordered_search.proofs.Tiring.{tires_next, tires_none}
+use Rattle.orc_split_set.specs.SplitSearches.{split_reading}
+use Rattle.orc_split_set.proofs.Sizes.{size_found}
+use Rattle.orc_split_set.proofs.size.size_turns.Goals as goal
+
+pub loop-init : goal.loop-init
+loop-init g c =
+    let d = c.args.links.now in
+    record { pass = c.requires.pass; later = ([], append-nil _); tires = tires_none (split_reading (g.L.Links.numbers d)) (g.L.Links.seat d c.args.p.now) }
+
+pub read_size-requires-clause-room : goal.read_size-requires-clause-room
+read_size-requires-clause-room g c = subst (λ (z : Slots). HasRoom z) (sym c.loop.invariant.tires.slots) c.requires.room
+
+pub loop-preserved : goal.loop-preserved
+loop-preserved g c =
+    let d = c.args.links.now in
+    let r = split_reading (g.L.Links.numbers d) in
+    let i = c.loop.invariant in
+    let e = c.in_default.ensures in
+    let t = g.L.Links.seat d c.loop.p in
+    let u = g.L.Links.seat d c.read_size.new.p in
+    record {
+      pass = e.pass;
+      later = goes_on _ _ _ i.later e.later;
+      tires = tires_next r c.loop.counter (g.L.Links.seat d c.args.p.now) t u i.tires (found_over r t u e.read);
+    }
+
+pub returns-in-Some-clause-read : goal.returns-in-Some-clause-read
+returns-in-Some-clause-read g c =
+    let d = c.args.links.now in
+    let n = g.L.Links.numbers d in
+    let s = g.L.Links.seat d c.args.p.now in
+    let t = g.L.Links.seat d c.loop.p in
+    let u = g.L.Links.seat d c.read_size.new.p in
+    let all = g.met.L.Links.allowed d c.loop.p c.loop.invariant.pass in
+    let some = subst (λ (k : ℕ). 1 ≤ k) c.requires.most.0 c.requires.most.1 in
+    ((λ zero. omega (arith, zero, c.loop-test.true)), size_found n c.loop.counter c.in-Some.size s t u some all c.loop.invariant.tires c.in-Some.ensures.read)
+
+pub returns-clause-read : goal.returns-clause-read
+returns-clause-read g c =
+    let d = c.args.links.now in
+    let all : c.loop.counter ≡ c.args.turns = omega (arith, c.loop-test.false, c.loop.auto.counter-end) in
+    subst (λ (k : ℕ). Tires (split_reading (g.L.Links.numbers d)) k (g.L.Links.seat d c.args.p.now) (g.L.Links.seat d c.loop.p)) all c.loop.invariant.tires

@@ -1,0 +1,2 @@
+-- Proofs of the laws that the set owes to its traits.
+pub mod SetLaws

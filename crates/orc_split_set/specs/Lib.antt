@@ -1,0 +1,5 @@
+pub mod SplitSearches
+pub mod NewNodes
+pub mod Beginnings
+pub mod SetCalls
+pub mod Laws

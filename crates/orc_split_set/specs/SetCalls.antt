@@ -1,0 +1,61 @@
+-- What the members of `SharedSet` and `LearnSet` mean for a split-ordered set, and what the contracts of its calls say of a pass of its
+-- domain of links before a call, `old`, and after it, `new`.
+use Rattle.std.specs.Prelude.{List, [], drop, length, ℕ, ◌≤◌}
+use Rattle.orc_fault.specs.declared.Spent.{Spent}
+use Rattle.orc_heap.specs.Domains.{Enters as EntersHistory, InCall, agent, own_events}
+use Rattle.orc_heap.specs.Moves.{gives_in}
+use Rattle.orc_heap.specs.Seats.{IsIdle}
+use Rattle.orc_heap.specs.declared.links.Links.{Ghosts as LinksOf}
+use Rattle.orc_history.specs.SetHistory.{agent_of_set_entry}
+use Rattle.orc_history.specs.declared.set.ListRefused.{ListRefused}
+use Rattle.orc_history.specs.declared.set.SetEntry.{SetEntry}
+use Rattle.orc_ordered_search.specs.Causes.{Cause, UsesTurns, WithinPart}
+use Rattle.orc_split_rule.specs.SplitDiscipline.{IsSize, entries_in, entries_of, greatest, size_of}
+use Rattle.orc_split_rule.specs.declared.split.SplitNote.{SplitNote}
+
+module _ {L D P S : Type 0} (members : LinksOf L D P S SplitNote) (links : L) where
+  -- the pass is one of the domain, and idle
+  abbrev pub IsUsable : P → Type 0
+  IsUsable p = members.belongs links p × IsIdle (members.seat links p)
+
+  -- the history is that of the domain's events
+  abbrev pub set_history : List S → List SetEntry
+  set_history journal = entries_of (members.events links journal)
+
+  -- a refusal has its cause between two places of the journal
+  abbrev pub HasCause : ℕ → ℕ → ListRefused → List S → ℕ → ℕ → Type 0
+  HasCause agent turns why journal from to =
+      Cause members.agent_of (members.events links) (members.lacking links agent journal from to)
+      (λ spent. members.worn links agent spent journal from to) agent turns why journal from to
+
+  -- the call enters these entries of its agent, and others' entries may stand among them
+  abbrev pub Enters : P → P → (ℕ → List SetEntry) → Type 0
+  Enters old new entries = EntersHistory members links agent_of_set_entry entries_in old new (entries (agent members links old))
+
+  -- it enters none
+  abbrev pub EntersNone : P → P → Type 0
+  EntersNone old new = Enters old new (λ agent. [])
+
+  -- it gave at most so many nodes
+  abbrev pub GivesAtMost : ℕ → P → P → Type 0
+  GivesAtMost most old new = gives_in (drop (length (own_events members links old)) (own_events members links new)) ≤ most
+
+  -- all turns were used in the call's part of the journal: as many Moves of other agents stand there
+  abbrev pub UsesAllTurns : ℕ → P → P → Type 0
+  UsesAllTurns turns old new = InCall members links old new
+      (UsesTurns members.agent_of (members.events links) (agent members links old) turns (members.journal new))
+
+  -- no row could be given to the call's agent in the call's part of the journal
+  abbrev pub LacksRow : P → P → Type 0
+  LacksRow old new = WithinPart members.agent_of (agent members links old) (members.journal old) (members.journal new)
+      (members.lacking links (agent members links old) (members.journal new))
+
+  -- the call's agent read this row's sequence at its limit in the call's part of the journal
+  abbrev pub FindsWorn : Spent → P → P → Type 0
+  FindsWorn why old new = WithinPart members.agent_of (agent members links old) (members.journal old) (members.journal new)
+      (members.worn links (agent members links old) why (members.journal new))
+
+  -- there were so many buckets at a moment of the call: a power of two, no fewer than before it, and no more than after it
+  abbrev pub HadSize : ℕ → P → P → Type 0
+  HadSize size old new = IsSize (greatest (members.numbers links)) size
+      × (size_of (members.numbers links) (members.seat links old).seen ≤ size) × (size ≤ size_of (members.numbers links) (members.seat links new).seen)

@@ -1,0 +1,176 @@
+//! Answers that change nothing: one load that still finds the link on which the answer rests.
+
+ghost use Rattle.std.specs.Prelude.{◌≡◌, ◌<◌, ◌≤◌, ◌≢◌, ℕ, Ok, Err};
+ghost use mathlib.Core.List.{IsPrefix};
+ghost use Rattle.orc_heap.specs.Seats.{Seat};
+ghost use Rattle.orc_heap.specs.declared.events.Place.{Place};
+ghost use Rattle.orc_history.specs.declared.set.SetEntry.{SetEntry};
+ghost use Rattle.orc_ordered_search.specs.Searches.{FindsAbsent, FindsPresent, HasRoom};
+ghost use Rattle.orc_ordered_search.specs.Turns.{AnswersTurn, AnswersTurns, Enters};
+ghost use Rattle.orc_split_rule.specs.SplitDiscipline.{greatest};
+ghost use Rattle.orc_split_rule.specs.SplitOrder.{key_place};
+ghost use Rattle.orc_split_rule.specs.declared.split.SplitNote.{SplitNote};
+ghost use Rattle.orc_split_set.specs.SplitSearches.{BeginsAt, IsAbsence, IsPresence, split_reading};
+
+use crate::begin::{Begun, begin};
+use crate::order::place_of;
+use crate::search::{Searched, search};
+use crate::spot::{let_all_go, link_of, link_to, place_from};
+use orc_fault::Again;
+use orc_heap::{At, Held, Links};
+use orc_history::SetEntry;
+use orc_split_rule::{Split, SplitNote};
+
+// Enters an answer that rests on the key's absence, if the left place still shows its link.
+pub(crate) fn enter_absent<L: Links<Rule = Split>>(
+    links: &L,
+    p: &mut L::Pass,
+    key: u64,
+    left: Option<Held>,
+    first: Option<Held>,
+    right: Option<Held>,
+    entry: SetEntry,
+) -> bool
+    requires pass { L.belongs links.now p.old }
+    requires roots { 0 < (L.numbers links.now).roots }
+    requires entry { IsAbsence (L.seat links.now p.old).agent key entry }
+    requires absent { (start : Place) × (passed : ℕ) × (s : Seat SplitNote)
+        × FindsAbsent (split_reading (L.numbers links.now)) start (key_place key) passed left first right s (L.seat links.now p.old) }
+    ensures pass { L.belongs links.now p.new }
+    ensures later { IsPrefix (L.journal p.old) (L.journal p.new) }
+    ensures entered { (start : Place) (passed : ℕ) (s : Seat SplitNote)
+        → FindsAbsent (split_reading (L.numbers links.now)) start (key_place key) passed left first right s (L.seat links.now p.old)
+        → Enters (split_reading (L.numbers links.now)) entry s result (L.seat links.now p.new) }
+{
+    let entered = links.same(
+        p,
+        &place_from(&left),
+        &link_of(&first, &right),
+        Some(SplitNote::Entry(entry)),
+    );
+    let_all_go(links, p, left, first, right, None);
+    entered
+}
+
+// Enters an answer that rests on the key's presence, if its node still shows its unmarked link.
+pub(crate) fn enter_present<L: Links<Rule = Split>>(
+    links: &L,
+    p: &mut L::Pass,
+    key: u64,
+    left: Option<Held>,
+    first: Option<Held>,
+    node: Held,
+    next: Option<Held>,
+    entry: SetEntry,
+) -> bool
+    requires pass { L.belongs links.now p.old }
+    requires entry { IsPresence (L.seat links.now p.old).agent key entry }
+    requires present { (start : Place) × (passed : ℕ) × (s : Seat SplitNote)
+        × FindsPresent (split_reading (L.numbers links.now)) start (key_place key) passed left first node next s (L.seat links.now p.old) }
+    ensures pass { L.belongs links.now p.new }
+    ensures later { IsPrefix (L.journal p.old) (L.journal p.new) }
+    ensures entered { (start : Place) (passed : ℕ) (s : Seat SplitNote)
+        → FindsPresent (split_reading (L.numbers links.now)) start (key_place key) passed left first node next s (L.seat links.now p.old)
+        → Enters (split_reading (L.numbers links.now)) entry s result (L.seat links.now p.new) }
+{
+    let entered = links.same(
+        p,
+        &At::Node(&node),
+        &link_to(&next, false),
+        Some(SplitNote::Entry(entry)),
+    );
+    let_all_go(links, p, left, first, Some(node), next);
+    entered
+}
+
+// One turn of a question, which begins at the dummy in hand, or else at root 0.
+fn ask_from<L: Links<Rule = Split>>(
+    links: &L,
+    p: &mut L::Pass,
+    key: u64,
+    left: Option<Held>,
+) -> Option<bool>
+    requires pass { L.belongs links.now p.old }
+    requires roots { 0 < (L.numbers links.now).roots }
+    requires begins { (start : Place) × (s : Seat SplitNote) × HasRoom s.slots
+        × BeginsAt (L.numbers links.now) start (key_place key) left s (L.seat links.now p.old) }
+    ensures pass { L.belongs links.now p.new }
+    ensures later { IsPrefix (L.journal p.old) (L.journal p.new) }
+    ensures asked { (start : Place) (s : Seat SplitNote) → HasRoom s.slots
+        → BeginsAt (L.numbers links.now) start (key_place key) left s (L.seat links.now p.old)
+        → AnswersTurn (split_reading (L.numbers links.now)) (λ answer. SetEntry.Asked s.agent key answer) s result (L.seat links.now p.new) }
+{
+    let agent = links.agent(p);
+    match search(links, p, place_of(key, 1), left) {
+        Searched::Over => None,
+        Searched::Absent {
+            left,
+            first,
+            right,
+            passed: _,
+        } => {
+            let yes = false;
+            let entry = SetEntry::Asked { agent, key, yes };
+            if enter_absent(links, p, key, left, first, right, entry) {
+                Some(false)
+            } else {
+                None
+            }
+        }
+        Searched::Present {
+            left,
+            first,
+            node,
+            next,
+            passed: _,
+        } => {
+            let yes = true;
+            let entry = SetEntry::Asked { agent, key, yes };
+            if enter_present(links, p, key, left, first, node, next, entry) {
+                Some(true)
+            } else {
+                None
+            }
+        }
+    }
+}
+
+// One turn of a question.
+fn ask_turn<L: Links<Rule = Split>>(links: &L, p: &mut L::Pass, most: u32, key: u64) -> Option<bool>
+    requires pass { L.belongs links.now p.old }
+    requires most { (most ≡ greatest (L.numbers links.now)) × (1 ≤ most) }
+    requires room { HasRoom (L.seat links.now p.old).slots }
+    ensures pass { L.belongs links.now p.new }
+    ensures later { IsPrefix (L.journal p.old) (L.journal p.new) }
+    ensures asked { AnswersTurn (split_reading (L.numbers links.now)) (λ answer. SetEntry.Asked (L.seat links.now p.old).agent key answer)
+        (L.seat links.now p.old) result (L.seat links.now p.new) }
+{
+    match begin(links, p, most, key) {
+        Begun::Moved => None,
+        Begun::From(left) => ask_from(links, p, key, left),
+    }
+}
+
+// Answers whether the key is present, in at most so many turns.
+pub(crate) fn ask_turns<L: Links<Rule = Split>>(
+    links: &L,
+    p: &mut L::Pass,
+    most: u32,
+    key: u64,
+    turns: u64,
+) -> Result<bool, Again>
+    requires pass { L.belongs links.now p.old }
+    requires most { (most ≡ greatest (L.numbers links.now)) × (1 ≤ most) }
+    requires room { HasRoom (L.seat links.now p.old).slots }
+    ensures pass { L.belongs links.now p.new }
+    ensures later { IsPrefix (L.journal p.old) (L.journal p.new) }
+    ensures asked { AnswersTurns (split_reading (L.numbers links.now)) (λ answer. SetEntry.Asked (L.seat links.now p.old).agent key answer) turns
+        (L.seat links.now p.old) result (L.seat links.now p.new) }
+{
+    for _ in 0..turns {
+        if let Some(answer) = ask_turn(links, p, most, key) {
+            return Ok(answer);
+        }
+    }
+    Err(Again)
+}

@@ -1,0 +1,18 @@
+//! The split-ordered set of Shalev and Shavit (2006) over any domain of links.
+#![tactic(auto)]
+
+mod answer;
+mod begin;
+mod insert;
+mod node;
+mod order;
+mod remove;
+mod search;
+mod set;
+mod size;
+mod spot;
+
+pub use set::SplitSet;
+
+#[cfg(test)]
+mod tests;

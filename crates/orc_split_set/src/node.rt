@@ -1,0 +1,59 @@
+//! Nodes that are to be linked.
+
+ghost use Rattle.std.specs.Prelude.{◌≡◌};
+ghost use Rattle.orc_split_set.specs.NewNodes.{kind_of, note_for, place_for, value_of};
+
+use crate::order::place_of;
+use orc_history::SetEntry;
+use orc_split_rule::SplitNote;
+
+/// What a node stands for that is to be linked.
+#[derive(Clone, Copy, Debug, PartialEq, Eq)]
+pub enum NewNode {
+    /// This key.
+    Key(u64),
+    /// The beginning of this bucket.
+    Dummy(u32),
+}
+
+impl NewNode {
+    // The first value of the node.
+    pub(crate) fn value(self) -> u64
+        ensures { result ≡ value_of self }
+    {
+        match self {
+            NewNode::Key(key) => key,
+            NewNode::Dummy(bucket) => u64::from(bucket),
+        }
+    }
+
+    // The second value of the node.
+    pub(crate) fn kind(self) -> u64
+        ensures { result ≡ kind_of self }
+    {
+        match self {
+            NewNode::Key(_) => 1,
+            NewNode::Dummy(_) => 0,
+        }
+    }
+
+    // The place in split order where the node belongs.
+    pub(crate) fn place(self) -> u128
+        ensures { result ≡ place_for self }
+    {
+        place_of(self.value(), self.kind())
+    }
+
+    // What this agent says of the Move that links the node.
+    pub(crate) fn note(self, agent: u32) -> SplitNote
+        ensures { result ≡ note_for agent self }
+    {
+        match self {
+            NewNode::Key(key) => {
+                let yes = true;
+                SplitNote::Entry(SetEntry::Added { agent, key, yes })
+            }
+            NewNode::Dummy(_) => SplitNote::Bucket,
+        }
+    }
+}
