@@ -7,8 +7,6 @@ mod gate;
 mod lists;
 mod loops;
 mod replies;
-#[cfg(test)]
-mod tests;
 
 pub use desk::{Desk, drop_line, post_line, take_one};
 pub use gate::{Gate, OpenGate};

@@ -37,6 +37,3 @@ fn is_plain(text: &[u8]) -> bool
         [..] => true,
     }
 }
-
-#[cfg(test)]
-mod tests;

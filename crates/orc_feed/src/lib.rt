@@ -8,8 +8,6 @@ mod memory_source;
 mod plan;
 mod sink;
 mod source;
-#[cfg(test)]
-mod tests;
 
 pub use all::{ReadAll, read_all, write_all};
 pub use memory_sink::MemorySink;

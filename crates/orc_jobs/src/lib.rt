@@ -10,8 +10,6 @@ mod lines;
 mod number;
 mod read;
 mod record;
-#[cfg(test)]
-mod tests;
 mod text;
 mod value;
 

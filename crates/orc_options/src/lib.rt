@@ -7,6 +7,3 @@ mod words;
 
 pub use settings::{Mode, Refused, Settings, settings_of, words_have_one_answer};
 pub use words::CommandWords;
-
-#[cfg(test)]
-mod tests;

@@ -3,8 +3,6 @@
 
 mod report;
 mod summary;
-#[cfg(test)]
-mod tests;
 
 pub use report::{RestNumbers, report_text};
 pub use summary::summary_text;

@@ -40,7 +40,7 @@ module _ {D N : Type 0} {d : discipline.Ghosts D N} {m : machine.Ghosts Reclaimi
     -- the journal of a domain of these sizes and this seed
     has_journal : (seed : Seed N) → board_seed (rest_domain r).board ≡ seed → HasJournal d.may b seed r
     has_journal seed seeds =
-        let now = shown.keeps.now in
+        let now = shown.belongs.keeps.now in
         record {
           sizes = sizes;
           shown = shown;
@@ -54,7 +54,7 @@ module _ {D N : Type 0} {d : discipline.Ghosts D N} {m : machine.Ghosts Reclaimi
 
     rows_reused : ReusesSafely b (rest_journal r)
     rows_reused = subst (λ (c : Bounds). ReusesSafely c (rest_journal r)) sizes
-        (reuses_safely (domain_bounds (rest_domain r)) (rest_journal r) (in_range (rest_domain r).board.words.shape.shape) shown.keeps.now.lawful.0)
+        (reuses_safely (domain_bounds (rest_domain r)) (rest_journal r) (in_range (rest_domain r).board.words.shape.shape) shown.belongs.keeps.now.lawful.0)
 
     -- where links rise, and the table is at rest
     module _ (rank : HeapNumbers → List (Event N) → ℕ → ℕ)
@@ -66,12 +66,12 @@ module _ {D N : Type 0} {d : discipline.Ghosts D N} {m : machine.Ghosts Reclaimi
 
         ends : EndsAtRest (d.holds (numbers_of c)) (d.may (numbers_of c)) (rank (numbers_of c)) c (rest_journal r)
         ends =
-            let now = shown.keeps.now in
+            let now = shown.belongs.keeps.now in
             record {
               shape = in_range (rest_domain r).board.words.shape.shape;
               lawful = now.lawful.0;
               unmarked = now.lawful.1;
-              starts = shown.keeps.began;
+              starts = shown.belongs.keeps.began;
               allowed = now.each;
               sides = λ more. let one = (rest_domain r).board.single in absurd (omega (arith, more, one));
               rest = rest;

@@ -10,6 +10,3 @@ mod run;
 mod set;
 
 pub use run::{Finished, run_lines};
-
-#[cfg(test)]
-mod tests;

@@ -1,6 +1,0 @@
-use Rattle.std.proofs.Common.{length, arith}
-use Rattle.orc_board.proofs.PairLists.{records_fewer}
-use Rattle.orc_board.proofs.tests.work_through.Goals as goal
-
-pub post_records-requires-clause-room : goal.post_records-requires-clause-room
-post_records-requires-clause-room g c = omega (arith, records_fewer 1 1 (length c.args.lines.now), c.in_ok-posts.ensures.1)

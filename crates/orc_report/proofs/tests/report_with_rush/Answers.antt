@@ -1,7 +1,0 @@
-use Rattle.std.proofs.Common.{refl}
-use Rattle.std.specs.Fmt.{digits}
-use Rattle.orc_report.proofs.tests.report_with_rush.Goals as goal
-
-pub returns : goal.returns
-unfolding digits
-returns c = refl

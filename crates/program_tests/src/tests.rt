@@ -1,0 +1,28 @@
+//! What is run, and what was worked out by hand.
+
+ghost use Rattle.std.specs.Prelude.{◌≤◌, IfOk, length};
+ghost use Rattle.orc_jobs.specs.GoodLines.{AreGood};
+
+use orc_fault::NoMemory;
+use orc_jobs::{Lines, read_jobs};
+use std::alloc::Global;
+
+mod board;
+mod decimals;
+mod feed;
+mod histories;
+mod jobs;
+mod options;
+mod report;
+mod runs;
+
+// The lines of a job file.
+fn lines_of(alloc: Global, bytes: &[u8]) -> Result<Lines, NoMemory>
+    requires { length bytes.now ≤ 16777216 }
+    ensures { IfOk result AreGood }
+{
+    match read_jobs(alloc, bytes) {
+        Ok(lines) => Ok(lines),
+        Err(_) => Err(NoMemory),
+    }
+}
