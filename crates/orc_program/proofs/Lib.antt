@@ -1,5 +1,5 @@
-pub mod Answering
 pub mod Inputs
+pub mod OneAnswer
 pub mod Rows
-pub mod Wrote
 pub mod Sums
+pub mod Whole

@@ -1,48 +1,101 @@
--- What is answered to the bytes of an input.
-use Rattle.std.specs.Prelude.{◌≡◌, List, ℕ, Some, ⊤}
-use Rattle.std.specs.String.{string_bytes}
-use Rattle.orc_jobs.specs.JobGrammar.{Refuses}
-use Rattle.orc_jobs.specs.declared.cause.JobsFault.{JobsFault}
+-- What the program answers: a status, a text that is written, and what has ended.
+use Rattle.std.specs.Prelude.{◌≡◌, ◌≢◌, ◌<◌, ◌≤◌, ◌⊎◌, Bool, true, false, List, [], ℕ, Option, length}
+use Rattle.std.specs.Io.KnownBytes.{Consumes, IsAtEnd}
+use Rattle.orc_jobs.specs.Generated.{text_of_lines}
+use Rattle.orc_jobs.specs.JobGrammar.{IsFileOf, Refuses}
+use Rattle.orc_jobs.specs.declared.cause.Cause.{Cause}
 use Rattle.orc_jobs.specs.declared.cause.JobsFault.TheVariants as fault
 use Rattle.orc_jobs.specs.declared.line.Line.{Line}
-use Rattle.orc_program.specs.declared.answer.Answer.{Answer}
-use Rattle.orc_program.specs.declared.answer.Answer.TheVariants as answer
+use Rattle.orc_trace.specs.declared.answers.Audit.{Audit}
+use Rattle.orc_trace.specs.declared.answers.Replayed.{Replayed}
+use Rattle.orc_trace.specs.declared.answers.TraceFault.{TraceFault}
+use Rattle.orc_trace.specs.declared.answers.TraceFault.TheVariants as trace
+use Rattle.orc_trace.specs.Answers.{audit_lines, fault_line, replay_line}
+use Rattle.orc_trace.specs.Audit.{IsAudit}
+use Rattle.orc_trace.specs.Replay.{IsReplay, Refuses as RefusesTrace}
+use Rattle.orc_options.specs.Settings.{Gives, Refuses as RefusesWords}
+use Rattle.orc_options.specs.declared.settings.Mode.{Mode}
+use Rattle.orc_options.specs.declared.settings.Mode.TheVariants as mode
 use Rattle.orc_options.specs.declared.settings.Settings.{Settings}
-use Rattle.orc_program.specs.Ended.{HasReported}
-use Rattle.orc_program.specs.Headline.{Headline}
-use Rattle.orc_program.specs.Refusals.{NamesRecord, malformed_line}
+use Rattle.orc_program.specs.declared.ended.Ended.{Ended}
+use Rattle.orc_program.specs.declared.trace_mode.Told.{Told}
+use Rattle.orc_program.specs.declared.trace_mode.Told.TheVariants as told
+use Rattle.orc_program.specs.Ended.{HasReported, HasSummed, IsNew, generated_lines}
+use Rattle.orc_program.specs.Refusals.{input_limit, input_too_large, malformed_line, words_refused}
 
--- a report of a run of these bytes by the settings, or the refusal that they call for
-abbrev pub Answers : Settings → List ℕ → Answer → Type 0
-Answers settings bytes (answer.Report text finished) =
-    HasReported settings (Some bytes) (record { queue = Some finished.queue; rush = Some finished.rush; set = Some finished.set; replies = Some finished.replies }) text
-Answers settings bytes (answer.Malformed text) = NamesRecord bytes (string_bytes text)
-Answers settings bytes answer.TooMany = Refuses bytes fault.TooMany
+-- the text names the first record of the bytes that is outside the grammar, and its cause
+pub record NamesRecord (bytes text : List ℕ) : Type 0 where
+  pub place : ℕ
+  pub why : Cause
+  pub refused : Refuses bytes (fault.Malformed place why)
+  pub says : text ≡ malformed_line place why
 
--- the report of a run of these lines by the settings
-abbrev pub Reports : Settings → List Line → Answer → Type 0
-Reports settings lines (answer.Report text finished) = Headline lines settings finished text
-Reports settings lines (answer.Malformed text) = ⊥
-Reports settings lines answer.TooMany = ⊥
+-- the text names the first fault of the bytes as a trace
+pub record NamesFault (bytes text : List ℕ) : Type 0 where
+  pub why : TraceFault
+  pub some : why ≢ trace.NoMemory
+  pub refused : RefusesTrace bytes why
+  pub says : text ≡ fault_line why
 
--- the refusal that this fault calls for
-abbrev pub IsRefusalFor : JobsFault → Answer → Type 0
-IsRefusalFor (fault.Malformed place why) (answer.Malformed text) = string_bytes text ≡ malformed_line place why
-IsRefusalFor fault.TooMany answer.TooMany = ⊤
-IsRefusalFor f a = ⊥
+-- the text of the lines that are generated from the settings' seed, as many as they say
+abbrev pub made_text : Settings → List ℕ
+made_text settings = text_of_lines (generated_lines settings)
 
-abbrev pub IsReport : Answer → Type 0
-IsReport (answer.Report text finished) = ⊤
-IsReport (answer.Malformed text) = ⊥
-IsReport answer.TooMany = ⊥
+-- the text tells what the run of this trace leaves, or the audit of the run
+abbrev pub Tells : Told → List ℕ → List ℕ → Type 0
+Tells told.Census bytes text = (played : Replayed) × IsReplay bytes played × (text ≡ replay_line played)
+Tells told.Audit bytes text = (audit : Audit) × IsAudit bytes audit × (text ≡ audit_lines audit)
 
--- a refusal of a record by this line
-abbrev pub IsMalformed : List ℕ → Answer → Type 0
-IsMalformed line (answer.Report text finished) = ⊥
-IsMalformed line (answer.Malformed text) = string_bytes text ≡ line
-IsMalformed line answer.TooMany = ⊥
+-- a job file is worked through and reported; other bytes are refused at their first record outside the grammar
+abbrev pub AnswersJobs : Settings → List ℕ → Ended → ℕ → List ℕ → Type 0
+AnswersJobs settings bytes ended status text =
+    ((status ≡ 0) × ((lines : List Line) × IsFileOf lines bytes × HasReported lines settings ended text))
+    ⊎ ((status ≡ 3) × IsNew ended × NamesRecord bytes text)
 
-abbrev pub IsTooMany : Answer → Type 0
-IsTooMany (answer.Report text finished) = ⊥
-IsTooMany (answer.Malformed text) = ⊥
-IsTooMany answer.TooMany = ⊤
+-- a trace is told; other bytes are refused at their first fault
+abbrev pub AnswersTrace : Told → List ℕ → ℕ → List ℕ → Type 0
+AnswersTrace what bytes status text = ((status ≡ 0) × Tells what bytes text) ⊎ ((status ≡ 8) × NamesFault bytes text)
+
+-- what each mode answers to bytes that are not too large
+abbrev pub ModeAnswers : Mode → Settings → List ℕ → Ended → ℕ → List ℕ → Type 0
+ModeAnswers mode.Run settings bytes ended status text = AnswersJobs settings bytes ended status text
+ModeAnswers mode.Make settings bytes ended status text = (status ≡ 0) × IsNew ended × (text ≡ made_text settings)
+ModeAnswers mode.Trial settings bytes ended status text = (status ≡ 0) × HasSummed settings ended text
+ModeAnswers mode.Replay settings bytes ended status text = IsNew ended × AnswersTrace told.Census bytes status text
+ModeAnswers mode.Audit settings bytes ended status text = IsNew ended × AnswersTrace told.Audit bytes status text
+
+-- more bytes than an input may have, or, in mode run, more records than a job file may have
+abbrev pub IsTooLarge : Mode → List ℕ → Type 0
+IsTooLarge m bytes = (input_limit < length bytes) ⊎ ((m ≡ mode.Run) × Refuses bytes fault.TooMany)
+
+-- what the program answers in these settings to these bytes: that they are too large, or what the mode answers
+abbrev pub Answers : Settings → List ℕ → Ended → ℕ → List ℕ → Type 0
+Answers settings bytes ended status text =
+    ((status ≡ 6) × IsNew ended × IsTooLarge settings.mode bytes × (text ≡ input_too_large))
+    ⊎ ((length bytes ≤ input_limit) × ModeAnswers settings.mode settings bytes ended status text)
+
+-- the mode reads an input
+abbrev pub reads : Mode → Bool
+reads mode.Run = true
+reads mode.Make = false
+reads mode.Trial = false
+reads mode.Replay = true
+reads mode.Audit = true
+
+-- the bytes that are answered, by what was left before and after: where the mode reads, those that were taken from the front, all of
+-- them or more than an input may have; else none, and nothing was taken
+abbrev pub IsInput : Bool → Option (List ℕ) → Option (List ℕ) → List ℕ → Type 0
+IsInput true left after bytes = Consumes left after bytes × (length bytes ≤ input_limit → IsAtEnd after)
+IsInput false left after bytes = (after ≡ left) × (bytes ≡ [])
+
+-- what the program answers to these words and to what was left of its input: that it refuses the words, or what it answers to the
+-- bytes that it reads in the settings that the words give
+abbrev pub AnswersWords : List (List ℕ) → Option (List ℕ) → Option (List ℕ) → Ended → ℕ → List ℕ → Type 0
+AnswersWords words left after ended status text =
+    (RefusesWords words × IsNew ended × (status ≡ 2) × (text ≡ words_refused))
+    ⊎ ((settings : Settings) × (bytes : List ℕ) × Gives words settings × IsInput (reads settings.mode) left after bytes
+    × Answers settings bytes ended status text)
+
+-- the words ask for a mode that reads
+abbrev pub AskToRead : List (List ℕ) → Type 0
+AskToRead words = (settings : Settings) × Gives words settings × (reads settings.mode ≡ true)

@@ -1,9 +1,8 @@
 -- What a run leaves.
-use Rattle.std.specs.Prelude.{◌≡◌, Bool, ℕ, List, Option, Some, None, IfSome}
+use Rattle.std.specs.Prelude.{◌≡◌, Bool, ℕ, List, Some, None, IfSome}
 use Rattle.orc_jobs.specs.declared.line.Job.{Job}
 use Rattle.orc_jobs.specs.declared.line.Line.{Line}
 use Rattle.orc_jobs.specs.Generated.{generated}
-use Rattle.orc_jobs.specs.JobGrammar.{IsFileOf}
 use Rattle.orc_report.specs.AllDone.{AreJobsOf, NoneRefused, NoneVoid}
 use Rattle.orc_report.specs.Summary.{done_jobs, summary_of}
 use Rattle.orc_board.specs.Stretches.{pick}
@@ -29,25 +28,16 @@ pub record Keeps (finished : Finished) (ended : Ended) : Type 0 where
   pub set : ended.set ≡ Some finished.set
   pub replies : ended.replies ≡ Some finished.replies
 
--- where the domain of a queue, at false, or of the rush queue, at true, has ended, no row of its journal was used again while it was
--- linked or held, nor twice
-abbrev pub QueuesReuse : Ended → Type 0
-QueuesReuse ended = (rush : Bool) → IfSome (pick ended.queue ended.rush rush) (λ r. ReusesRowsSafely (domain_bounds (rest_domain r)) r)
+-- Where a run has ended, by the three actual journals, of the queue, at false, of the rush queue, at true, and of the set: no row was
+-- used again while it was linked or held, nor twice; and at the end what was given was freed or is linked.
+pub record EndsSafely (ended : Ended) : Type 0 where
+  pub queues_reuse : (rush : Bool) → IfSome (pick ended.queue ended.rush rush) (λ r. ReusesRowsSafely (domain_bounds (rest_domain r)) r)
+  pub set_reuse : IfSome ended.set (λ r. ReusesRowsSafely (domain_bounds (rest_domain r)) r)
+  pub queues_rest : (rush : Bool) → IfSome (pick ended.queue ended.rush rush) (λ r. EndsWithoutLeak (domain_bounds (rest_domain r)) r)
+  pub set_rest : IfSome ended.set (λ r. EndsWithoutLeak (domain_bounds (rest_domain r)) r)
 
-abbrev pub SetReuses : Ended → Type 0
-SetReuses ended = IfSome ended.set (λ r. ReusesRowsSafely (domain_bounds (rest_domain r)) r)
-
--- where a domain has ended, its journal is at rest, and what was given was freed or is linked
-abbrev pub QueuesRest : Ended → Type 0
-QueuesRest ended = (rush : Bool) → IfSome (pick ended.queue ended.rush rush) (λ r. EndsWithoutLeak (domain_bounds (rest_domain r)) r)
-
-abbrev pub SetRests : Ended → Type 0
-SetRests ended = IfSome ended.set (λ r. EndsWithoutLeak (domain_bounds (rest_domain r)) r)
-
--- the bytes that were left are a file of these lines, which were worked through as the settings say, and the headline holds of what has ended
-pub record HasReported (settings : Settings) (left : Option (List ℕ)) (ended : Ended) (text : List ℕ) : Type 0 where
-  pub lines : List Line
-  pub file : IfSome left (IsFileOf lines)
+-- these lines were worked through as the settings say, and the headline holds of what has ended
+pub record HasReported (lines : List Line) (settings : Settings) (ended : Ended) (text : List ℕ) : Type 0 where
   pub finished : Finished
   pub kept : Keeps finished ended
   pub headline : Headline lines settings finished text

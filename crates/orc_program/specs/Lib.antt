@@ -1,5 +1,4 @@
 pub mod Headline
 pub mod Ended
 pub mod Refusals
-pub mod Outcomes
 pub mod Answers

@@ -1,134 +1,62 @@
-//! What is answered to the bytes of an input.
-ghost use Rattle.std.specs.Prelude.{◌≡◌, ◌≤◌, if◌then◌else◌, IfOk, List, None, Some, ℕ, length};
-ghost use Rattle.std.specs.String.{string_bytes};
-ghost use Rattle.orc_jobs.specs.JobGrammar.{IsFileOf, Refuses};
-ghost use Rattle.orc_jobs.specs.declared.cause.Cause.{Cause};
-ghost use Rattle.orc_jobs.specs.declared.line.Line.{Line};
-ghost use Rattle.orc_jobs.specs.GoodLines.{AreGood};
+//! What the program answers to the bytes of an input.
+ghost use Rattle.std.specs.Prelude.{◌≡◌, IfOk, OnErr};
 ghost use Rattle.orc_options.specs.Settings.{AreInRange};
-ghost use Rattle.orc_program.specs.Answers.{Answers, IsMalformed, IsRefusalFor, IsReport, IsTooMany, Reports};
-ghost use Rattle.orc_program.specs.Headline.{numbers_of_rest};
-ghost use Rattle.orc_program.specs.Refusals.{cause_word, malformed_line, input_limit};
+ghost use Rattle.orc_program.specs.Answers.{Answers};
+ghost use Rattle.orc_program.specs.Ended.{IsNew};
+ghost use Rattle.orc_program.specs.Refusals.{input_too_large};
 
+use crate::Ended;
+use crate::jobs_mode::answer_jobs;
+use crate::make_mode::answer_make;
+use crate::reading::INPUT_LIMIT;
+use crate::trace_mode::{Told, answer_trace};
+use crate::trial_mode::answer_trial;
 use orc_board::Gate;
 use orc_fault::NoMemory;
-use orc_jobs::{Cause, JobsFault, Lines, Text, read_jobs};
-use orc_options::Settings;
-use orc_report::{RestNumbers, report_text};
-use orc_run::{Finished, run_lines};
+use orc_jobs::Text;
+use orc_options::{Mode, Settings};
 use std::alloc::Global;
 use std::sync::Wait;
 use std::thread::Threads;
 
-/// What is to be written, and what a run has left.
+/// The status with which the program ends, and the text that it writes.
 #[derive(Drop)]
-pub enum Answer {
-    Report { text: Text, finished: Finished },
-    Malformed { text: String },
-    TooMany,
+pub(crate) struct Answer {
+    pub status: u8,
+    pub text: Text,
 }
 
-// Reads the jobs, runs them and reports, or refuses them.
-pub(crate) fn answer_to<R: Threads + Wait + Sync, G: Gate + Sync>(
+// What the settings ask for: the report of the jobs of these bytes, a generated file, the summary of generated work, or what is told
+// of a trace; or the refusal of the bytes.
+pub(crate) fn answer_of<R: Threads + Wait + Sync, G: Gate + Sync>(
     rt: &R,
     alloc: Global,
     settings: Settings,
     bytes: &[u8],
     gate: &G,
+    ended: &mut Ended,
 ) -> Result<Answer, NoMemory>
     requires ranges { AreInRange settings }
-    requires few { length bytes.now ≤ input_limit }
-    ensures answers { IfOk result (Answers settings bytes.now) }
-    ensures file { (lines : List Line) → IsFileOf lines bytes.now → IfOk result IsReport }
-    ensures malformed { (place : ℕ) (why : Cause) → Refuses bytes.now (JobsFault.Malformed place why)
-        → IfOk result (IsMalformed (malformed_line place why)) }
-    ensures many { Refuses bytes.now JobsFault.TooMany → IfOk result IsTooMany }
+    requires new { IsNew ended.old }
+    ensures answers { IfOk result (λ a. Answers settings bytes.now ended.new a.status a.text) }
+    ensures nothing { OnErr result (IsNew ended.new) }
 {
-    match read_jobs(alloc, bytes) {
-        Ok(lines) => report(rt, alloc, settings, &lines, gate),
-        Err(fault) => refusal(alloc, fault),
+    if bytes.len() as u64 > INPUT_LIMIT {
+        return too_large(alloc);
+    }
+    match settings.mode {
+        Mode::Run => answer_jobs(rt, alloc, settings, bytes, gate, ended),
+        Mode::Make => answer_make(alloc, settings),
+        Mode::Trial => answer_trial(rt, alloc, settings, gate, ended),
+        Mode::Replay => answer_trace(alloc, bytes, Told::Census),
+        Mode::Audit => answer_trace(alloc, bytes, Told::Audit),
     }
 }
 
-// Works through these lines, and reports.
-fn report<R: Threads + Wait + Sync, G: Gate + Sync>(
-    rt: &R,
-    alloc: Global,
-    settings: Settings,
-    lines: &Lines,
-    gate: &G,
-) -> Result<Answer, NoMemory>
-    requires ranges { AreInRange settings }
-    requires good { AreGood lines.now }
-    ensures { IfOk result (Reports settings lines.now) }
+// That the input is too large.
+pub(crate) fn too_large(alloc: Global) -> Result<Answer, NoMemory>
+    ensures { IfOk result (λ a. (a.status ≡ 6) × (a.text ≡ input_too_large)) }
 {
-    let Settings {
-        posters,
-        takers,
-        rows,
-        buckets,
-        rest,
-        ..
-    } = settings;
-    let finished = run_lines(rt, alloc, lines, posters, takers, rows, buckets, gate)?;
-    let numbers = numbers_at_rest(rest, &finished);
-    let text = report_text(alloc, lines, &finished.replies, numbers.as_ref())?;
-    Ok(Answer::Report { text, finished })
-}
-
-// What is at rest after a run, where it is asked for.
-fn numbers_at_rest(asked: bool, finished: &Finished) -> Option<RestNumbers>
-    ensures { result ≡ (if asked then Some (numbers_of_rest finished.now) else None) }
-{
-    if !asked {
-        return None;
-    }
-    Some(RestNumbers {
-        queue_given: finished.queue.given(),
-        queue_reused: finished.queue.reused(),
-        queue_linked: finished.queue.linked(),
-        rush_given: finished.rush.given(),
-        rush_reused: finished.rush.reused(),
-        rush_linked: finished.rush.linked(),
-        set_given: finished.set.given(),
-        set_reused: finished.set.reused(),
-        set_linked: finished.set.linked(),
-    })
-}
-
-// The refusal of a job file with this fault.
-fn refusal(alloc: Global, fault: JobsFault) -> Result<Answer, NoMemory>
-    ensures { IfOk result (IsRefusalFor fault) }
-{
-    match fault {
-        JobsFault::Malformed { line, cause } => {
-            let text = malformed(alloc, line, cause)?;
-            Ok(Answer::Malformed { text })
-        }
-        JobsFault::TooMany => Ok(Answer::TooMany),
-        JobsFault::NoMemory => Err(NoMemory),
-    }
-}
-
-// The line that names a record and its cause.
-fn malformed(alloc: Global, line: u32, cause: Cause) -> Result<String, NoMemory>
-    ensures { IfOk result (λ text. string_bytes text ≡ malformed_line line cause) }
-{
-    let word = word_of(cause);
-    let text = format!(in alloc; "line {line}: {word}\n")?;
-    Ok(text)
-}
-
-// The word of a cause.
-fn word_of(cause: Cause) -> &'static str
-    ensures { result.now ≡ cause_word cause }
-{
-    match cause {
-        Cause::Fields => "fields",
-        Cause::Utf8 => "utf8",
-        Cause::Verb => "verb",
-        Cause::Id => "id",
-        Cause::Op => "op",
-        Cause::Sum => "sum",
-    }
+    let text = Text::from_slice(alloc, b"input too large\n")?;
+    Ok(Answer { status: 6, text })
 }

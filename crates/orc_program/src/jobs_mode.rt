@@ -1,67 +1,122 @@
-//! Mode run: a job file is read, worked through and reported.
-ghost use Rattle.std.specs.Prelude.{◌≡◌, ◌≢◌, ◌≤◌, ◌⊎◌, List, ℕ, Some, length};
-ghost use Rattle.std.specs.Io.KnownBytes.{Appends, Keeps};
-ghost use Rattle.orc_feed.specs.Faults.{Rose};
-ghost use Rattle.orc_feed.specs.Whole.{AppendsPrefix};
-ghost use Rattle.orc_jobs.specs.JobGrammar.{IsFileOf, Refuses};
+//! Mode run: a job file is worked through and reported.
+ghost use Rattle.std.specs.Prelude.{◌≡◌, ◌≤◌, ◌⊎◌, if◌then◌else◌, IfOk, None, OnErr, Some, length};
+ghost use Rattle.orc_jobs.specs.GoodLines.{AreGood};
+ghost use Rattle.orc_jobs.specs.JobGrammar.{Refuses};
 ghost use Rattle.orc_jobs.specs.declared.cause.Cause.{Cause};
-ghost use Rattle.orc_jobs.specs.declared.line.Line.{Line};
-ghost use Rattle.orc_program.specs.Ended.{HasReported, IsNew};
 ghost use Rattle.orc_options.specs.Settings.{AreInRange};
-ghost use Rattle.orc_options.specs.declared.settings.Mode.{Mode};
-ghost use Rattle.orc_program.specs.Refusals.{NamesRecord, input_limit, input_too_large, malformed_line};
-ghost use Rattle.orc_program.specs.Outcomes.{ModeWrites};
+ghost use Rattle.orc_program.specs.Answers.{AnswersJobs};
+ghost use Rattle.orc_program.specs.Ended.{HasReported, IsNew};
+ghost use Rattle.orc_program.specs.Headline.{numbers_of_rest};
+ghost use Rattle.orc_program.specs.Refusals.{cause_word, input_limit, input_too_large, malformed_line};
 
 use crate::Ended;
-use crate::answer::{Answer, answer_to};
-use crate::writing::{refuse_size, write_text};
+use crate::answer::{Answer, too_large};
 use orc_board::Gate;
 use orc_fault::NoMemory;
-use orc_feed::Sink;
-use orc_jobs::JobsFault;
-use orc_options::{Mode, Settings};
+use orc_jobs::{Cause, JobsFault, Lines, Text, read_jobs};
+use orc_options::Settings;
+use orc_report::{RestNumbers, report_text};
+use orc_run::{Finished, run_lines};
 use std::alloc::Global;
 use std::sync::Wait;
 use std::thread::Threads;
 
-// Works through the jobs of these bytes and writes the report, or the line of their refusal.
-pub(crate) fn run_jobs<R: Threads + Wait + Sync, K: Sink, G: Gate + Sync>(
+// The report of the jobs of these bytes, or why there is none.
+pub(crate) fn answer_jobs<R: Threads + Wait + Sync, G: Gate + Sync>(
     rt: &R,
     alloc: Global,
     settings: Settings,
     bytes: &[u8],
-    sink: &mut K,
     gate: &G,
     ended: &mut Ended,
-) -> u8
+) -> Result<Answer, NoMemory>
     requires ranges { AreInRange settings }
-    requires new { IsNew ended.old }
     requires few { length bytes.now ≤ input_limit }
-    ensures statuses { (result ≡ 0) ⊎ (result ≡ 3) ⊎ (result ≡ 5) ⊎ (result ≡ 6) ⊎ (result ≡ 7) }
-    ensures done { result ≡ 0 → (text : List ℕ) × HasReported settings (Some bytes.now) ended.new text
-        × Appends (K.written sink.old) (K.written sink.new) text }
-    ensures malformed { result ≡ 3 → (text : List ℕ) × NamesRecord bytes.now text
-        × Appends (K.written sink.old) (K.written sink.new) text }
-    ensures write_fault { result ≡ 5 → Rose (K.faults sink.old) (K.faults sink.new) }
-    ensures no_fault { result ≢ 5 → K.faults sink.new ≡ K.faults sink.old }
-    ensures cut_short { result ≡ 5 → (text : List ℕ) × ModeWrites Mode.Run settings (Some bytes.now) ended.new text
-        × AppendsPrefix (K.written sink.old) (K.written sink.new) text }
-    ensures large { result ≡ 6 → Refuses bytes.now JobsFault.TooMany
-        × Appends (K.written sink.old) (K.written sink.new) input_too_large }
-    ensures memory { result ≡ 7 → Keeps (K.written sink.old) (K.written sink.new) }
-    ensures nothing_ended { result ≢ 0 → result ≢ 5 → IsNew ended.new }
-    ensures malformed_comes { (place : ℕ) (why : Cause) → Refuses bytes.now (JobsFault.Malformed place why)
-        → ((result ≡ 3) × Appends (K.written sink.old) (K.written sink.new) (malformed_line place why)) ⊎ (result ≡ 5) ⊎ (result ≡ 7) }
-    ensures large_comes { Refuses bytes.now JobsFault.TooMany → (result ≡ 6) ⊎ (result ≡ 5) ⊎ (result ≡ 7) }
-    ensures complete { (lines : List Line) → IsFileOf lines bytes.now → (result ≡ 0) ⊎ (result ≡ 5) ⊎ (result ≡ 7) }
+    requires new { IsNew ended.old }
+    ensures answers { IfOk result (λ a. AnswersJobs settings bytes.now ended.new a.status a.text
+        ⊎ ((a.status ≡ 6) × IsNew ended.new × Refuses bytes.now JobsFault.TooMany × (a.text ≡ input_too_large))) }
+    ensures nothing { OnErr result (IsNew ended.new) }
 {
-    match answer_to(rt, alloc, settings, bytes, gate) {
-        Ok(Answer::Report { text, finished }) => {
-            ended.keep(finished);
-            write_text(sink, text.bytes(), 0)
-        }
-        Ok(Answer::Malformed { text }) => write_text(sink, text.as_bytes(), 3),
-        Ok(Answer::TooMany) => refuse_size(sink),
-        Err(NoMemory) => 7,
+    match read_jobs(alloc, bytes) {
+        Ok(lines) => report(rt, alloc, settings, &lines, gate, ended),
+        Err(JobsFault::Malformed { line, cause }) => refuse_record(alloc, line, cause),
+        Err(JobsFault::TooMany) => too_large(alloc),
+        Err(JobsFault::NoMemory) => Err(NoMemory),
+    }
+}
+
+// Works through these lines, and reports.
+fn report<R: Threads + Wait + Sync, G: Gate + Sync>(
+    rt: &R,
+    alloc: Global,
+    settings: Settings,
+    lines: &Lines,
+    gate: &G,
+    ended: &mut Ended,
+) -> Result<Answer, NoMemory>
+    requires ranges { AreInRange settings }
+    requires good { AreGood lines.now }
+    requires new { IsNew ended.old }
+    ensures reported { IfOk result (λ a. (a.status ≡ 0) × HasReported lines.now settings ended.new a.text) }
+    ensures nothing { OnErr result (IsNew ended.new) }
+{
+    let Settings {
+        posters,
+        takers,
+        rows,
+        buckets,
+        rest,
+        ..
+    } = settings;
+    let finished = run_lines(rt, alloc, lines, posters, takers, rows, buckets, gate)?;
+    let numbers = numbers_at_rest(rest, &finished);
+    let text = report_text(alloc, lines, &finished.replies, numbers.as_ref())?;
+    ended.keep(finished);
+    Ok(Answer { status: 0, text })
+}
+
+// What is at rest after a run, where it is asked for.
+fn numbers_at_rest(asked: bool, finished: &Finished) -> Option<RestNumbers>
+    ensures { result ≡ (if asked then Some (numbers_of_rest finished.now) else None) }
+{
+    if !asked {
+        return None;
+    }
+    Some(RestNumbers {
+        queue_given: finished.queue.given(),
+        queue_reused: finished.queue.reused(),
+        queue_linked: finished.queue.linked(),
+        rush_given: finished.rush.given(),
+        rush_reused: finished.rush.reused(),
+        rush_linked: finished.rush.linked(),
+        set_given: finished.set.given(),
+        set_reused: finished.set.reused(),
+        set_linked: finished.set.linked(),
+    })
+}
+
+// The line that names a record and its cause.
+fn refuse_record(alloc: Global, line: u32, cause: Cause) -> Result<Answer, NoMemory>
+    ensures { IfOk result (λ a. (a.status ≡ 3) × (a.text ≡ malformed_line line cause)) }
+{
+    let word = word_of(cause);
+    let text = format!(in alloc; "line {line}: {word}\n")?;
+    Ok(Answer {
+        status: 3,
+        text: Text::from_string(text),
+    })
+}
+
+// The word of a cause.
+fn word_of(cause: Cause) -> &'static str
+    ensures { result.now ≡ cause_word cause }
+{
+    match cause {
+        Cause::Fields => "fields",
+        Cause::Utf8 => "utf8",
+        Cause::Verb => "verb",
+        Cause::Id => "id",
+        Cause::Op => "op",
+        Cause::Sum => "sum",
     }
 }

@@ -3,11 +3,11 @@
 #![tactic(auto)]
 
 mod answer;
-mod audit_mode;
 mod ended;
 mod jobs_mode;
+mod laws;
 mod make_mode;
-mod run_mode;
+mod reading;
 mod streams;
 mod top_call;
 mod trace_mode;
@@ -15,6 +15,7 @@ mod trial_mode;
 mod writing;
 
 pub use ended::Ended;
+pub use laws::{inputs_are_read_whole, inputs_have_one_answer};
 pub use orc_options::{CommandWords, Mode, Settings};
 pub use streams::{StdSink, StdSource};
 pub use top_call::orc_main;

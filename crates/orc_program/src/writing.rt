@@ -3,7 +3,7 @@ ghost use Rattle.std.specs.Prelude.{◌≡◌, ◌≢◌, ◌⊎◌};
 ghost use Rattle.std.specs.Io.KnownBytes.{Appends};
 ghost use Rattle.orc_feed.specs.Faults.{Rose};
 ghost use Rattle.orc_feed.specs.Whole.{AppendsPrefix};
-ghost use Rattle.orc_program.specs.Refusals.{input_too_large, words_refused};
+ghost use Rattle.orc_program.specs.Refusals.{words_refused};
 
 use orc_feed::{Sink, write_all};
 
@@ -16,17 +16,6 @@ pub fn refuse_words<K: Sink>(sink: &mut K) -> u8
     ensures no_fault { result ≢ 5 → K.faults sink.new ≡ K.faults sink.old }
 {
     write_text(sink, b"words refused\n", 2)
-}
-
-// Writes that the input is too large, and answers the status.
-pub(crate) fn refuse_size<K: Sink>(sink: &mut K) -> u8
-    ensures statuses { (result ≡ 6) ⊎ (result ≡ 5) }
-    ensures written { result ≡ 6 → Appends (K.written sink.old) (K.written sink.new) input_too_large }
-    ensures cut_short { result ≡ 5 → AppendsPrefix (K.written sink.old) (K.written sink.new) input_too_large }
-    ensures fault { result ≡ 5 → Rose (K.faults sink.old) (K.faults sink.new) }
-    ensures no_fault { result ≢ 5 → K.faults sink.new ≡ K.faults sink.old }
-{
-    write_text(sink, b"input too large\n", 6)
 }
 
 // Writes the text, and answers this status, or 5 where a write failed.

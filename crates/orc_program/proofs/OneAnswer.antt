@@ -1,0 +1,134 @@
+-- Settings and bytes have one answer.
+use Rattle.std.proofs.Common.{◌≡◌, ◌≢◌, ◌∙◌, ◌≤◌, ◌⊎◌, List, [], ℕ, Ok, ap, arith, inl, inr, length, subst}
+use Rattle.orc_jobs.specs.JobGrammar.{IsFileOf, Refuses}
+use Rattle.orc_jobs.specs.declared.cause.Cause.{Cause}
+use Rattle.orc_jobs.specs.declared.cause.JobsFault.{JobsFault}
+use Rattle.orc_jobs.specs.declared.cause.JobsFault.TheVariants as fault
+use Rattle.orc_jobs.specs.declared.line.Line.{Line}
+use Rattle.orc_jobs.proofs.GrammarLaws.{not-few, not-read, refused-bad}
+use Rattle.orc_trace.specs.Answers.{audit_lines, fault_line, replay_line}
+use Rattle.orc_trace.specs.Audit.{IsAudit}
+use Rattle.orc_trace.specs.Replay.{IsReplay, Refuses as RefusesTrace}
+use Rattle.orc_trace.specs.declared.answers.Audit.{Audit}
+use Rattle.orc_trace.specs.declared.answers.Replayed.{Replayed}
+use Rattle.orc_trace.specs.declared.answers.TraceFault.{TraceFault}
+use Rattle.orc_trace.specs.declared.answers.TraceFault.TheVariants as trace
+use Rattle.orc_trace.proofs.OneAudit.{only-audit, only-refusal}
+use Rattle.orc_trace.proofs.Unique.{refusal-unique, replay-not_refused, replay-unique}
+use Rattle.orc_options.specs.declared.settings.Mode.{Mode}
+use Rattle.orc_options.specs.declared.settings.Mode.TheVariants as mode
+use Rattle.orc_options.specs.declared.settings.Settings.{Settings}
+use Rattle.orc_program.specs.declared.ended.Ended.{Ended}
+use Rattle.orc_program.specs.declared.trace_mode.Told.{Told}
+use Rattle.orc_program.specs.declared.trace_mode.Told.TheVariants as told
+use Rattle.orc_program.specs.Answers.{Answers, AnswersJobs, AnswersTrace, IsTooLarge, ModeAnswers, made_text}
+use Rattle.orc_program.specs.Refusals.{input_limit, input_too_large, malformed_line}
+
+-- the line of a fault that names a record
+abbrev line_of : JobsFault → List ℕ
+line_of (fault.Malformed place why) = malformed_line place why
+line_of fault.TooMany = []
+line_of fault.NoMemory = []
+
+-- a record that is refused is the first, so there is one line
+one_line : (bytes : List ℕ) (place : ℕ) (why : Cause) (p : ℕ) (w : Cause) → Refuses bytes (fault.Malformed place why)
+    → Refuses bytes (fault.Malformed p w) → malformed_line p w ≡ malformed_line place why
+one_line bytes place why p w bad found = elim (refused-bad bytes place why (fault.Malformed p w) bad found) [
+  | inl same ↦ ap line_of same
+  | inr memory ↦ let n : ⊥ = cc memory in absurd n
+]
+
+not_many : (bytes : List ℕ) (place : ℕ) (why : Cause) → Refuses bytes (fault.Malformed place why) → Refuses bytes fault.TooMany → ⊥
+not_many bytes place why bad many = elim (refused-bad bytes place why fault.TooMany bad many) [ inl same ↦ cc same | inr memory ↦ cc memory ]
+
+-- none of these is the status of a failed read or write, or of want of memory
+pub no_failure : (n : ℕ) → (n ≡ 0) ⊎ (n ≡ 3) ⊎ (n ≡ 6) ⊎ (n ≡ 8) → (n ≢ 4) × (n ≢ 5) × (n ≢ 7)
+no_failure n (inl is) = (λ e. omega (arith, is, e), λ e. omega (arith, is, e), λ e. omega (arith, is, e))
+no_failure n (inr (inl is)) = (λ e. omega (arith, is, e), λ e. omega (arith, is, e), λ e. omega (arith, is, e))
+no_failure n (inr (inr (inl is))) = (λ e. omega (arith, is, e), λ e. omega (arith, is, e), λ e. omega (arith, is, e))
+no_failure n (inr (inr (inr is))) = (λ e. omega (arith, is, e), λ e. omega (arith, is, e), λ e. omega (arith, is, e))
+
+module _ (s : Settings) (bytes : List ℕ) (e : Ended) (status : ℕ) (text : List ℕ) where
+  -- bytes that are not too large are answered by the mode
+  in_mode : (m : Mode) → Answers s bytes e status text → s.mode ≡ m → length bytes ≤ input_limit
+      → (s.mode ≡ mode.Run → Refuses bytes fault.TooMany → ⊥) → ModeAnswers m s bytes e status text
+  in_mode m (inr answer) is few single = subst (λ (n : Mode). ModeAnswers n s bytes e status text) is answer.1
+  in_mode m (inl large) is few single = elim large.2 [
+    | inl more ↦ absurd (omega (arith, few, more))
+    | inr many ↦ absurd (single many.0 many.1)
+  ]
+
+  of_file : (lines : List Line) → IsFileOf lines bytes → AnswersJobs s bytes e status text → status ≡ 0
+  of_file lines is (inl reported) = reported.0
+  of_file lines is (inr named) = absurd (not-read bytes lines named.2.place named.2.why named.2.refused is)
+
+  pub file : Answers s bytes e status text → s.mode ≡ mode.Run → length bytes ≤ input_limit → (lines : List Line) → IsFileOf lines bytes → status ≡ 0
+  file a run few lines is = of_file lines is (in_mode mode.Run a run few (λ _ many. not-few bytes lines many is))
+
+  of_record : (place : ℕ) (why : Cause) → Refuses bytes (fault.Malformed place why) → AnswersJobs s bytes e status text
+      → (status ≡ 3) × (text ≡ malformed_line place why)
+  of_record place why bad (inl (is, (lines, file, reported))) = absurd (not-read bytes lines place why bad file)
+  of_record place why bad (inr (is, new, named)) = (is, named.says ∙ one_line bytes place why named.place named.why bad named.refused)
+
+  pub refused : Answers s bytes e status text → s.mode ≡ mode.Run → length bytes ≤ input_limit → (place : ℕ) (why : Cause)
+      → Refuses bytes (fault.Malformed place why) → (status ≡ 3) × (text ≡ malformed_line place why)
+  refused a run few place why bad = of_record place why bad (in_mode mode.Run a run few (λ _ many. not_many bytes place why bad many))
+
+  not_in_run : Refuses bytes fault.TooMany → AnswersJobs s bytes e status text → ⊥
+  not_in_run many (inl (is, (lines, file, reported))) = not-few bytes lines many file
+  not_in_run many (inr (is, new, named)) = not_many bytes named.place named.why named.refused many
+
+  pub large : Answers s bytes e status text → IsTooLarge s.mode bytes → (status ≡ 6) × (text ≡ input_too_large)
+  large (inl a) is = (a.0, a.3)
+  large (inr a) (inl more) = absurd (omega (arith, a.0, more))
+  large (inr a) (inr (run, many)) = absurd (not_in_run many (subst (λ (n : Mode). ModeAnswers n s bytes e status text) run a.1))
+
+  mode_status : (m : Mode) → ModeAnswers m s bytes e status text → (status ≡ 0) ⊎ (status ≡ 3) ⊎ (status ≡ 6) ⊎ (status ≡ 8)
+  mode_status mode.Run (inl a) = inl a.0
+  mode_status mode.Run (inr a) = inr (inl a.0)
+  mode_status mode.Make a = inl a.0
+  mode_status mode.Trial a = inl a.0
+  mode_status mode.Replay (new, inl a) = inl a.0
+  mode_status mode.Replay (new, inr a) = inr (inr (inr a.0))
+  mode_status mode.Audit (new, inl a) = inl a.0
+  mode_status mode.Audit (new, inr a) = inr (inr (inr a.0))
+
+  pub statuses : Answers s bytes e status text → (status ≡ 0) ⊎ (status ≡ 3) ⊎ (status ≡ 6) ⊎ (status ≡ 8)
+  statuses (inl a) = inr (inr (inl a.0))
+  statuses (inr a) = mode_status s.mode a.1
+
+  -- each told trace has one text, and one line of its first fault
+  of_trace : (played : Replayed) → IsReplay bytes played → AnswersTrace told.Census bytes status text → (status ≡ 0) × (text ≡ replay_line played)
+  of_trace played is (inl (zero, (other, also, says))) = (zero, says ∙ ap replay_line (replay-unique bytes other played also is))
+  of_trace played is (inr (eight, named)) = absurd (replay-not_refused bytes played named.why named.some is named.refused)
+
+  pub replay : Answers s bytes e status text → s.mode ≡ mode.Replay → length bytes ≤ input_limit → (played : Replayed) → IsReplay bytes played
+      → (status ≡ 0) × (text ≡ replay_line played)
+  replay a asks few played is = of_trace played is (in_mode mode.Replay a asks few (λ run _. cc (run, asks))).1
+
+  of_audit : (audit : Audit) → IsAudit bytes audit → AnswersTrace told.Audit bytes status text → (status ≡ 0) × (text ≡ audit_lines audit)
+  of_audit audit is (inl (zero, (other, also, says))) = (zero, says ∙ ap audit_lines (only-audit bytes (Ok other) also tt audit is))
+  of_audit audit is (inr (eight, named)) = absurd (only-refusal bytes (Ok audit) is tt named.why named.some named.refused)
+
+  pub audit : Answers s bytes e status text → s.mode ≡ mode.Audit → length bytes ≤ input_limit → (audit : Audit) → IsAudit bytes audit
+      → (status ≡ 0) × (text ≡ audit_lines audit)
+  audit a asks few told_audit is = of_audit told_audit is (in_mode mode.Audit a asks few (λ run _. cc (run, asks))).1
+
+  named_fault : (why : TraceFault) → why ≢ trace.NoMemory → RefusesTrace bytes why → (what : Told) → AnswersTrace what bytes status text
+      → (status ≡ 8) × (text ≡ fault_line why)
+  named_fault why other bad told.Census (inl (zero, (played, is, says))) = absurd (replay-not_refused bytes played why other is bad)
+  named_fault why other bad told.Audit (inl (zero, (audit, is, says))) = absurd (only-refusal bytes (Ok audit) is tt why other bad)
+  named_fault why other bad what (inr (eight, named)) =
+      (eight, named.says ∙ ap fault_line (refusal-unique bytes named.why why named.some other named.refused bad))
+
+  pub fault_named : Answers s bytes e status text → (s.mode ≡ mode.Replay) ⊎ (s.mode ≡ mode.Audit) → length bytes ≤ input_limit → (why : TraceFault)
+      → why ≢ trace.NoMemory → RefusesTrace bytes why → (status ≡ 8) × (text ≡ fault_line why)
+  fault_named a (inl asks) few why other bad = named_fault why other bad told.Census (in_mode mode.Replay a asks few (λ run _. cc (run, asks))).1
+  fault_named a (inr asks) few why other bad = named_fault why other bad told.Audit (in_mode mode.Audit a asks few (λ run _. cc (run, asks))).1
+
+module _ (s : Settings) (e : Ended) (status : ℕ) (text : List ℕ) where
+  pub make : Answers s [] e status text → s.mode ≡ mode.Make → (status ≡ 0) × (text ≡ made_text s)
+  make a asks = let made = in_mode s [] e status text mode.Make a asks (omega arith) (λ run _. cc (run, asks)) in (made.0, made.2)
+
+  pub trial : Answers s [] e status text → s.mode ≡ mode.Trial → status ≡ 0
+  trial a asks = (in_mode s [] e status text mode.Trial a asks (omega arith) (λ run _. cc (run, asks))).0
