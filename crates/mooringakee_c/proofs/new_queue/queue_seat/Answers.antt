@@ -1,0 +1,9 @@
+-- A new pass has a new place.
+use Rattle.std.proofs.Common.{refl, sym}
+use Rattle.mooringakee_c.proofs.QueuePlaces.{new_place}
+use Rattle.mooringakee_c.proofs.new_queue.queue_seat.Goals as goal
+
+pub returns : goal.returns
+returns c =
+    new_place (record { queue = c.in_ok-queue.queue; pass = c.args.pass; turns = c.args.turns }) c.args.queue.now.value.links c.args.turns
+    c.in_ok-new.field-0.value c.in_ok-new.ensures.ok (λ j. (sym c.in_ok-queue.ensures.cases j).links) refl c.requires.usable c.requires.none c.requires.first

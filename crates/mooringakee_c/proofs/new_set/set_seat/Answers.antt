@@ -1,0 +1,9 @@
+-- A new pass has a new place.
+use Rattle.std.proofs.Common.{refl, sym}
+use Rattle.mooringakee_c.proofs.SetPlaces.{new_place}
+use Rattle.mooringakee_c.proofs.new_set.set_seat.Goals as goal
+
+pub returns : goal.returns
+returns c =
+    new_place (record { set = c.in_ok-set.set; pass = c.args.pass; turns = c.args.turns }) c.args.set.now.value.list.links c.args.turns
+    c.in_ok-new.field-0.value c.in_ok-new.ensures.ok (λ j. (sym c.in_ok-set.ensures.cases j).list.links) refl c.requires.usable c.requires.none

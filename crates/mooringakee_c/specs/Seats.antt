@@ -1,0 +1,37 @@
+-- An agent's place at a container of either kind, and what a call through a pass answers.
+use Rattle.std.specs.Prelude.{None, Option, Some, ◌≡◌}
+use Rattle.mooringakee_c.specs.declared.answer.Answer.{Answer}
+use Rattle.mooringakee_c.specs.declared.answer.Answer.TheVariants.{Kind, NoPass}
+use Rattle.mooringakee_c.specs.declared.queue.QueueSeat.{QueueSeat}
+use Rattle.mooringakee_c.specs.declared.set.SetSeat.{SetSeat}
+use Rattle.mooringakee_c.specs.declared.seat.Seat.{Seat}
+use Rattle.mooringakee_c.specs.declared.seat.Seat.TheVariants.{Queue, Set}
+use Rattle.mooringakee_c.specs.QueueSeats.{IsQueueSeat}
+use Rattle.mooringakee_c.specs.SetSeats.{IsSetSeat}
+
+-- it can be used
+abbrev pub IsSeat : Seat → Type 0
+IsSeat (Queue s) = IsQueueSeat s
+IsSeat (Set s) = IsSetSeat s
+
+-- a call at a queue: a place at a set stays as it is
+abbrev pub AtQueue : (QueueSeat → Answer → QueueSeat → Type 0) → Seat → Answer → Seat → Type 0
+AtQueue call (Queue old) answer (Queue new) = call old answer new
+AtQueue call (Set old) Kind (Set new) = new ≡ old
+AtQueue call _ _ _ = ⊥
+
+-- a call at a set: a place at a queue stays as it is
+abbrev pub AtSet : (SetSeat → Answer → SetSeat → Type 0) → Seat → Answer → Seat → Type 0
+AtSet call (Set old) answer (Set new) = call old answer new
+AtSet call (Queue old) Kind (Queue new) = new ≡ old
+AtSet call _ _ _ = ⊥
+
+-- a call through a pass, which stands for a place, or is none
+abbrev pub Through : (Seat → Answer → Seat → Type 0) → Option Seat → Answer → Option Seat → Type 0
+Through call (Some old) answer (Some new) = call old answer new
+Through call None NoPass None = Unit {0}
+Through call _ _ _ = ⊥
+
+-- what a pointer stands for is this place, and it can be used
+abbrev pub Holds : Option Seat → Seat → Type 0
+Holds seat s = (seat ≡ Some s) × IsSeat s

@@ -1,0 +1,50 @@
+-- What settling answers, and what a pass has left to work through.
+use Rattle.std.specs.Prelude.{None, Option, Some, [], ℕ, ◌≡◌}
+use Rattle.orc_history.specs.Parts.{IsAlone}
+use Rattle.orc_machine_board.specs.Passes.{backlog_in}
+use Rattle.orc_machine_board.specs.Views.{shows}
+use Rattle.orc_reclaiming_domain.specs.Passes.{journal_of}
+use Rattle.mooringakee_c.specs.declared.answer.Answer.{Answer}
+use Rattle.mooringakee_c.specs.declared.answer.Answer.TheVariants.{Done, Kept, NoPass}
+use Rattle.mooringakee_c.specs.declared.queue.QueueSeat.{QueueSeat}
+use Rattle.mooringakee_c.specs.declared.set.SetSeat.{SetSeat}
+use Rattle.mooringakee_c.specs.declared.seat.Seat.{Seat}
+use Rattle.mooringakee_c.specs.declared.seat.Seat.TheVariants.{Queue, Set}
+use Rattle.mooringakee_c.specs.QueueCalls.{GoesOn}
+use Rattle.mooringakee_c.specs.QueueSeats.{agent_at}
+use Rattle.mooringakee_c.specs.SetCalls.{GoesOn as SetGoesOn}
+use Rattle.mooringakee_c.specs.SetSeats.{agent_at as set_agent_at}
+
+-- how many retired rows the pass has to work through: those in its work list, and one that it has in hand or scanned
+abbrev pub backlog_at : Seat → ℕ
+backlog_at (Queue s) = backlog_in (shows s.pass.pass).record_is
+backlog_at (Set s) = backlog_in (shows s.pass.pass).record_is
+
+-- no other agent made a step meanwhile
+abbrev pub WasAlone : Seat → Seat → Type 0
+WasAlone (Queue old) (Queue new) = IsAlone (λ step. step.agent) (agent_at old) (journal_of old.pass) (journal_of new.pass)
+WasAlone (Set old) (Set new) = IsAlone (λ step. step.agent) (set_agent_at old) (journal_of old.pass) (journal_of new.pass)
+WasAlone _ _ = ⊥
+
+-- the place is the same, and its agent entered nothing
+abbrev pub EntersNone : Seat → Seat → Type 0
+EntersNone (Queue old) (Queue new) = GoesOn old [] new
+EntersNone (Set old) (Set new) = SetGoesOn old [] new
+EntersNone _ _ = ⊥
+
+-- nothing is left, or some rows, which is so only where other agents made steps meanwhile
+abbrev pub Settles : Seat → Answer → Seat → Type 0
+Settles old Done new = EntersNone old new × (backlog_at new ≡ 0)
+Settles old Kept new = EntersNone old new × (¬ WasAlone old new)
+Settles old _ new = ⊥
+
+-- a question how many rows are left
+abbrev pub CountsBacklog : ℕ → Seat → Answer → Seat → Type 0
+CountsBacklog count old Done new = (new ≡ old) × (count ≡ backlog_at old)
+CountsBacklog count old _ new = ⊥
+
+-- the pass is given up once it has settled
+abbrev pub GivesUp : Option Seat → Answer → Option Seat → Type 0
+GivesUp (Some old) answer None = (last : Seat) × Settles old answer last
+GivesUp None NoPass None = Unit {0}
+GivesUp _ _ _ = ⊥

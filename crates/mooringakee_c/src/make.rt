@@ -1,0 +1,59 @@
+//! What making a container asks of the caller's places, and how they are filled.
+
+ghost use Rattle.std.specs.Prelude.{◌≡◌, ◌↔◌, All, IfSome, IsTrue, None, Some, length, slice_index_or};
+ghost use Rattle.orc_shared_words.specs.Lists.{EachAt};
+ghost use Rattle.orc_words.specs.Bounds.{bounds_of};
+ghost use Rattle.mooringakee_c.specs.Making.{AreFree, CanBeMade, sizes_of};
+ghost use Rattle.mooringakee_c.specs.Seats.{IsSeat};
+
+use crate::pass::Pass;
+use crate::seat::Seat;
+use orc_words::Shape;
+
+// From which life or sequence on a row is taken no more.
+const LIMIT: u64 = 549_755_813_888;
+
+// The shape of a container, if all its numbers are in range.
+pub(crate) fn shape_of(rows: u32, roots: u32, turns: u64, agents: usize) -> Option<Shape>
+    ensures in_range { IfSome result (λ shape. CanBeMade rows roots turns agents) }
+    ensures sizes { IfSome result (λ shape. bounds_of shape ≡ sizes_of rows roots agents) }
+    ensures out_of_range { result ≡ None → ¬ CanBeMade rows roots turns agents }
+{
+    let Ok(agents) = u32::try_from(agents) else {
+        return None;
+    };
+    if turns == 0 {
+        return None;
+    }
+    match Shape::new(rows, roots, agents, LIMIT) {
+        Ok(shape) => Some(shape),
+        Err(_) => None,
+    }
+}
+
+// Whether there is no pass at any of these places.
+pub(crate) fn are_free(places: &[Pass]) -> bool
+    ensures { IsTrue result ↔ AreFree places.now }
+{
+    for place in places.iter() {
+        if place.is_live() {
+            return false;
+        }
+    }
+    true
+}
+
+// Gives each place its seat.
+pub(crate) fn hand_out(places: &mut [Pass], seats: Vec<Box<Seat>>)
+    requires many { length seats.items ≡ length places.old }
+    requires usable { All (λ b. IsSeat b.value) seats.items }
+    ensures { EachAt (λ i p. (b : _) → p.pointer.seat ≡ Some (slice_index_or seats.items i b).value) places.new }
+{
+    let mut left = seats;
+    while let Some(seat) = left.pop() {
+        places[left.len()] = Pass::of(seat);
+    }
+}
+
+// Has the check show that a value may go to another thread.
+pub(crate) fn may_cross<T: Send>(_value: &T) {}

@@ -1,0 +1,79 @@
+//! One agent's place at a queue.
+
+ghost use Rattle.std.specs.Prelude.{◌≡◌, ◌↔◌, ◌⊎◌, IsTrue, []};
+ghost use Rattle.mooringakee_c.specs.QueueCalls.{GoesOn, Puts, Takes};
+ghost use Rattle.mooringakee_c.specs.QueueSeats.{IsQueueSeat};
+ghost use Rattle.mooringakee_c.specs.Settling.{WasAlone, backlog_at};
+ghost use Rattle.mooringakee_c.specs.declared.seat.Seat.{Seat};
+
+use crate::answer::Answer;
+use orc_fifo_rule::Fifo;
+use orc_history::{QueueRefused, SharedQueue};
+use orc_queue::Queue;
+use orc_reclaiming_domain::{OrcDomain, OrcPass};
+use std::alloc::Global;
+use std::sync::Arc;
+
+/// Michael and Scott's queue over a domain whose rows are reclaimed.
+pub(crate) type ReclaimingQueue = Queue<OrcDomain<Fifo>>;
+
+/// An agent's place at a queue: its share of it, its pass to it, and how many turns a call has.
+#[derive(Drop)]
+pub(crate) struct QueueSeat {
+    pub(crate) queue: Arc<ReclaimingQueue, Global>,
+    pub(crate) pass: OrcPass<Fifo>,
+    pub(crate) turns: u64,
+}
+
+impl QueueSeat {
+    // Puts a value at the back.
+    pub(crate) fn put(&mut self, value: u64) -> Answer
+        requires { IsQueueSeat self.old }
+        ensures seat { IsQueueSeat self.new }
+        ensures answer { Puts value self.old result self.new }
+    {
+        match self.queue.enqueue(&mut self.pass, value, self.turns) {
+            Ok(_) => Answer::Done,
+            Err(QueueRefused::Again) => Answer::Again,
+            Err(QueueRefused::NoNode) => Answer::Full,
+            Err(QueueRefused::Positions) => Answer::Positions,
+        }
+    }
+
+    // Takes the value at the front.
+    pub(crate) fn take(&mut self, value: &mut u64) -> Answer
+        requires { IsQueueSeat self.old }
+        ensures seat { IsQueueSeat self.new }
+        ensures answer { Takes value.new self.old result self.new }
+        ensures kept { (result ≡ Answer.Done) ⊎ (value.new ≡ value.old) }
+    {
+        match self.queue.dequeue(&mut self.pass, self.turns) {
+            Ok(Some((taken, _))) => {
+                *value = taken;
+                Answer::Done
+            }
+            Ok(None) => Answer::Empty,
+            Err(_) => Answer::Again,
+        }
+    }
+
+    // Takes in what was handed over to the pass, and works through its retired rows. Answers whether none is left.
+    pub(crate) fn settle(&mut self) -> bool
+        requires { IsQueueSeat self.old }
+        ensures seat { IsQueueSeat self.new }
+        ensures none { GoesOn self.old [] self.new }
+        ensures backlog { IsTrue result ↔ (backlog_at (Seat.Queue self.new) ≡ 0) }
+        ensures alone { WasAlone (Seat.Queue self.old) (Seat.Queue self.new) → backlog_at (Seat.Queue self.new) ≡ 0 }
+    {
+        self.queue.links().drain(&mut self.pass);
+        self.backlog() == 0
+    }
+
+    // How many retired rows the pass has to work through.
+    pub(crate) fn backlog(&self) -> u32
+        requires { IsQueueSeat self.now }
+        ensures { result ≡ backlog_at (Seat.Queue self.now) }
+    {
+        self.queue.links().backlog(&self.pass)
+    }
+}

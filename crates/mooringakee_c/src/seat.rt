@@ -1,0 +1,112 @@
+//! One agent's place at a container of either kind.
+
+ghost use Rattle.std.specs.Prelude.{◌≡◌, ◌⊎◌};
+ghost use Rattle.mooringakee_c.specs.QueueCalls.{Puts, Takes};
+ghost use Rattle.mooringakee_c.specs.Seats.{AtQueue, AtSet, IsSeat};
+ghost use Rattle.mooringakee_c.specs.SetCalls.{Asks, Inserts, Removes};
+ghost use Rattle.mooringakee_c.specs.Settling.{Settles, backlog_at};
+
+use crate::answer::Answer;
+use crate::queue::QueueSeat;
+use crate::set::SetSeat;
+
+/// An agent's place at a queue or at a set.
+#[derive(Drop)]
+pub(crate) enum Seat {
+    Queue(QueueSeat),
+    Set(SetSeat),
+}
+
+impl Seat {
+    // Puts a value at the back of the queue.
+    pub(crate) fn put(&mut self, value: u64) -> Answer
+        requires { IsSeat self.old }
+        ensures seat { IsSeat self.new }
+        ensures answer { AtQueue (Puts value) self.old result self.new }
+    {
+        match self {
+            Seat::Queue(seat) => seat.put(value),
+            Seat::Set(_) => Answer::Kind,
+        }
+    }
+
+    // Takes the value at the front of the queue.
+    pub(crate) fn take(&mut self, value: &mut u64) -> Answer
+        requires { IsSeat self.old }
+        ensures seat { IsSeat self.new }
+        ensures answer { AtQueue (Takes value.new) self.old result self.new }
+        ensures kept { (result ≡ Answer.Done) ⊎ (value.new ≡ value.old) }
+    {
+        match self {
+            Seat::Queue(seat) => seat.take(value),
+            Seat::Set(_) => Answer::Kind,
+        }
+    }
+
+    // Adds a key to the set, and tells whether it was absent.
+    pub(crate) fn insert(&mut self, key: u64, absent: &mut bool) -> Answer
+        requires { IsSeat self.old }
+        ensures seat { IsSeat self.new }
+        ensures answer { AtSet (Inserts key absent.new) self.old result self.new }
+        ensures kept { (result ≡ Answer.Done) ⊎ (absent.new ≡ absent.old) }
+    {
+        match self {
+            Seat::Queue(_) => Answer::Kind,
+            Seat::Set(seat) => seat.insert(key, absent),
+        }
+    }
+
+    // Takes a key out of the set, and tells whether it was present.
+    pub(crate) fn remove(&mut self, key: u64, present: &mut bool) -> Answer
+        requires { IsSeat self.old }
+        ensures seat { IsSeat self.new }
+        ensures answer { AtSet (Removes key present.new) self.old result self.new }
+        ensures kept { (result ≡ Answer.Done) ⊎ (present.new ≡ present.old) }
+    {
+        match self {
+            Seat::Queue(_) => Answer::Kind,
+            Seat::Set(seat) => seat.remove(key, present),
+        }
+    }
+
+    // Tells whether a key is present in the set.
+    pub(crate) fn contains(&mut self, key: u64, present: &mut bool) -> Answer
+        requires { IsSeat self.old }
+        ensures seat { IsSeat self.new }
+        ensures answer { AtSet (Asks key present.new) self.old result self.new }
+        ensures kept { (result ≡ Answer.Done) ⊎ (present.new ≡ present.old) }
+    {
+        match self {
+            Seat::Queue(_) => Answer::Kind,
+            Seat::Set(seat) => seat.contains(key, present),
+        }
+    }
+
+    // Takes in what was handed over to the pass, and works through its retired rows.
+    pub(crate) fn settle(&mut self) -> Answer
+        requires { IsSeat self.old }
+        ensures seat { IsSeat self.new }
+        ensures answer { Settles self.old result self.new }
+    {
+        let none_left = match self {
+            Seat::Queue(seat) => seat.settle(),
+            Seat::Set(seat) => seat.settle(),
+        };
+        if none_left {
+            Answer::Done
+        } else {
+            Answer::Kept
+        }
+    }
+
+    // How many retired rows the pass has to work through.
+    pub(crate) fn backlog(&self) -> u32
+        requires { IsSeat self.now }
+        ensures { result ≡ backlog_at self.now }
+    {
+        match self {
+            Seat::Queue(seat) => seat.backlog(),
+            Seat::Set(seat) => seat.backlog(),
+        }
+    }
+}

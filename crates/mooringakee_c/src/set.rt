@@ -1,0 +1,94 @@
+//! One agent's place at a set.
+
+ghost use Rattle.std.specs.Prelude.{◌≡◌, ◌↔◌, ◌⊎◌, IsTrue, []};
+ghost use Rattle.mooringakee_c.specs.SetCalls.{Asks, GoesOn, Inserts, Removes};
+ghost use Rattle.mooringakee_c.specs.SetSeats.{IsSetSeat};
+ghost use Rattle.mooringakee_c.specs.Settling.{WasAlone, backlog_at};
+ghost use Rattle.mooringakee_c.specs.declared.seat.Seat.{Seat};
+
+use crate::answer::Answer;
+use orc_chain_rule::Chain;
+use orc_history::{ListRefused, SharedSet};
+use orc_reclaiming_domain::{OrcDomain, OrcPass};
+use orc_set::Set;
+use std::alloc::Global;
+use std::sync::Arc;
+
+/// The bucketed set over a domain whose rows are reclaimed.
+pub(crate) type ReclaimingSet = Set<OrcDomain<Chain>>;
+
+/// An agent's place at a set: its share of it, its pass to it, and how many turns a call has.
+#[derive(Drop)]
+pub(crate) struct SetSeat {
+    pub(crate) set: Arc<ReclaimingSet, Global>,
+    pub(crate) pass: OrcPass<Chain>,
+    pub(crate) turns: u64,
+}
+
+impl SetSeat {
+    // Adds a key, and tells whether it was absent.
+    pub(crate) fn insert(&mut self, key: u64, absent: &mut bool) -> Answer
+        requires { IsSetSeat self.old }
+        ensures seat { IsSetSeat self.new }
+        ensures answer { Inserts key absent.new self.old result self.new }
+        ensures kept { (result ≡ Answer.Done) ⊎ (absent.new ≡ absent.old) }
+    {
+        match self.set.insert(&mut self.pass, key, self.turns) {
+            Ok(yes) => {
+                *absent = yes;
+                Answer::Done
+            }
+            Err(ListRefused::Again) => Answer::Again,
+            Err(ListRefused::NoNode) => Answer::Full,
+            Err(ListRefused::Spent(_)) => Answer::Spent,
+        }
+    }
+
+    // Takes a key out, and tells whether it was present.
+    pub(crate) fn remove(&mut self, key: u64, present: &mut bool) -> Answer
+        requires { IsSetSeat self.old }
+        ensures seat { IsSetSeat self.new }
+        ensures answer { Removes key present.new self.old result self.new }
+        ensures kept { (result ≡ Answer.Done) ⊎ (present.new ≡ present.old) }
+    {
+        let Ok(yes) = self.set.remove(&mut self.pass, key, self.turns) else {
+            return Answer::Again;
+        };
+        *present = yes;
+        Answer::Done
+    }
+
+    // Tells whether a key is present.
+    pub(crate) fn contains(&mut self, key: u64, present: &mut bool) -> Answer
+        requires { IsSetSeat self.old }
+        ensures seat { IsSetSeat self.new }
+        ensures answer { Asks key present.new self.old result self.new }
+        ensures kept { (result ≡ Answer.Done) ⊎ (present.new ≡ present.old) }
+    {
+        let Ok(yes) = self.set.contains(&mut self.pass, key, self.turns) else {
+            return Answer::Again;
+        };
+        *present = yes;
+        Answer::Done
+    }
+
+    // Takes in what was handed over to the pass, and works through its retired rows. Answers whether none is left.
+    pub(crate) fn settle(&mut self) -> bool
+        requires { IsSetSeat self.old }
+        ensures seat { IsSetSeat self.new }
+        ensures none { GoesOn self.old [] self.new }
+        ensures backlog { IsTrue result ↔ (backlog_at (Seat.Set self.new) ≡ 0) }
+        ensures alone { WasAlone (Seat.Set self.old) (Seat.Set self.new) → backlog_at (Seat.Set self.new) ≡ 0 }
+    {
+        self.set.links().drain(&mut self.pass);
+        self.backlog() == 0
+    }
+
+    // How many retired rows the pass has to work through.
+    pub(crate) fn backlog(&self) -> u32
+        requires { IsSetSeat self.now }
+        ensures { result ≡ backlog_at (Seat.Set self.now) }
+    {
+        self.set.links().backlog(&self.pass)
+    }
+}
