@@ -7,9 +7,10 @@ ghost use Rattle.orc_stress.specs.Answers.{calls_of};
 ghost use Rattle.orc_stress.specs.Parts.{HaveRun, part_of, parts_of};
 ghost use Rattle.orc_stress.specs.Passes.{Stay, Stays};
 
-use crate::container::{Container, Outcome};
-use crate::load::{Ask, Draws, Load, Plan};
-use crate::tally::{Order, Tally};
+use crate::container::Container;
+use crate::load::{Ask, Draws, Plan};
+use crate::seen::Seen;
+use crate::tally::Tally;
 use std::sync::atomic::{AtomicU64, Ordering};
 use std::thread;
 use std::thread::Threads;
@@ -40,15 +41,16 @@ impl Start {
         }
     }
 
-    // Waits until all have come.
-    fn meet(&self) {
+    // Waits until all have come, and answers whether they have.
+    fn meet(&self) -> bool {
         self.come.fetch_add(1, Ordering::SeqCst);
         for _ in 0..LOOKS {
             if self.come.load(Ordering::SeqCst) >= self.meeting {
-                return;
+                return true;
             }
             std::hint::spin_loop();
         }
+        false
     }
 
     // Tells that an agent made its calls.
@@ -80,7 +82,7 @@ fn make_call<C: Container>(
     container: &C,
     p: &mut C::Pass,
     ask: &Ask,
-    order: &mut Order,
+    seen: &mut Seen,
     tally: &mut Tally,
 )
     requires ready { C.ready container.now p.old }
@@ -89,23 +91,23 @@ fn make_call<C: Container>(
     ensures counted { calls_of tally.new.answers ≡ calls_of tally.old.answers + 1 }
 {
     let outcome = container.call(p, ask);
-    tally.record(&outcome, order);
+    tally.record(ask, &outcome, seen);
     tally.backlog = tally.backlog.max(container.backlog(p));
 }
 
 // Makes all calls of an agent.
-fn make_calls<C: Container>(container: &C, p: &mut C::Pass, load: &Load) -> Tally
+fn make_calls<C: Container>(container: &C, p: &mut C::Pass, plan: &Plan) -> Tally
     requires ready { C.ready container.now p.old }
     ensures ready { Stays (C.ready container.now) (C.agent_of container.now) p.old p.new }
-    ensures calls { calls_of result.answers ≡ load.now.calls }
+    ensures calls { calls_of result.answers ≡ plan.now.load.calls }
 {
     let agent = container.agent(p);
-    let mut draws = Draws::new(load.seed, agent);
-    let mut order = Order::new();
+    let mut draws = Draws::new(plan.load.seed, agent);
+    let mut seen = Seen::new(agent, plan);
     let mut tally = Tally::new();
-    for number in 0..load.calls {
-        let ask = load.ask(agent, number, &mut draws);
-        make_call(container, p, &ask, &mut order, &mut tally);
+    for number in 0..plan.load.calls {
+        let ask = plan.load.ask(agent, number, &mut draws, &seen.own);
+        make_call(container, p, &ask, &mut seen, &mut tally);
     }
     tally
 }
@@ -115,16 +117,17 @@ fn work<R: Clock, C: Container>(
     rt: &R,
     container: &C,
     p: &mut C::Pass,
-    load: &Load,
+    plan: &Plan,
     start: &Start,
 ) -> Tally
     requires ready { C.ready container.now p.old }
     ensures ready { Stays (C.ready container.now) (C.agent_of container.now) p.old p.new }
-    ensures calls { calls_of result.answers ≡ load.now.calls }
+    ensures calls { calls_of result.answers ≡ plan.now.load.calls }
 {
-    start.meet();
+    let all_came = start.meet();
     let begun = start.micros(rt);
-    let mut tally = make_calls(container, p, load);
+    let mut tally = make_calls(container, p, plan);
+    tally.all_came = all_came;
     tally.begun = begun;
     tally.ended = start.micros(rt);
     start.leave();
@@ -132,14 +135,18 @@ fn work<R: Clock, C: Container>(
 }
 
 // Stops in the middle of a call until all others have made theirs.
-fn stall<R: Clock, C: Container>(rt: &R, container: &C, p: &mut C::Pass, start: &Start)
+fn stall<R: Clock, C: Container>(rt: &R, container: &C, p: &mut C::Pass, start: &Start) -> Tally
     requires ready { C.ready container.now p.old }
     ensures ready { Stays (C.ready container.now) (C.agent_of container.now) p.old p.new }
+    ensures calls { calls_of result.answers ≡ 0 }
 {
-    let hold = container.stop(p);
-    start.meet();
+    let (hold, outcome) = container.stop(p);
+    let mut tally = Tally::new();
+    tally.note(&outcome);
+    tally.all_came = start.meet();
     start.wait_for_all(rt);
-    container.go_on(p, hold);
+    tally.backlog = container.go_on(p, hold);
+    tally
 }
 
 // What an agent did, and its pass.
@@ -162,12 +169,13 @@ fn run_agent<R: Clock, C: Container>(
     ensures calls { calls_of result.tally.answers ≡ part_of plan.now (C.agent_of container.now pass) }
 {
     let agent = container.agent(&pass);
-    let mut tally = Tally::new();
-    if agent < plan.threads {
-        tally = work(rt, container, &mut pass, &plan.load, start);
+    let tally = if agent < plan.threads {
+        work(rt, container, &mut pass, plan, start)
     } else if agent == plan.threads && plan.stalls {
-        stall(rt, container, &mut pass, start);
-    }
+        stall(rt, container, &mut pass, start)
+    } else {
+        Tally::new()
+    };
     Done { pass, tally }
 }
 

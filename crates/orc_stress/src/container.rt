@@ -9,16 +9,20 @@ use crate::tally::Answer;
 /// What a call did.
 #[derive(Clone, Copy, Debug, PartialEq, Eq, Drop)]
 pub enum Outcome {
-    /// An item went in: a job with its position, or a key and 0.
+    /// A job went in, with its position.
     Put(u64, u64),
     /// A job came out, with its position.
     Taken(u64, u64),
+    /// There was no job to take.
+    Empty,
+    /// A key went in.
+    Inserted(u64),
     /// A key came out.
     Removed(u64),
     /// The key is there.
     Found,
-    /// Nothing went in or came out.
-    Nothing,
+    /// A key that was to go in is there, or one that was to come out, or was asked for, is not.
+    Unchanged,
     /// The call was refused.
     Refused(Answer),
 }
@@ -28,6 +32,7 @@ impl Outcome {
     pub(crate) fn answer(&self) -> Answer {
         match self {
             Outcome::Refused(answer) => *answer,
+            Outcome::Empty => Answer::Empty,
             _ => Answer::Ok,
         }
     }
@@ -63,14 +68,14 @@ pub trait Container {
     fn backlog(&self, p: &Self::Pass) -> u32
         requires { ready self.now p.now };
 
-    /// Begins a call, and stops once the agent holds the first node, where there is one.
-    fn stop(&self, p: &mut Self::Pass) -> Self::Hold
+    /// Begins a call, and stops in the middle of it. Answers what the agent holds, and what the call did by then.
+    fn stop(&self, p: &mut Self::Pass) -> (Self::Hold, Outcome)
         requires { ready self.now p.old }
-        ensures stopped { stopped self.now result p.new }
+        ensures stopped { stopped self.now result.0 p.new }
         ensures agent { agent_of self.now p.new ≡ agent_of self.now p.old };
 
-    /// Lets go of what the stopped agent holds.
-    fn go_on(&self, p: &mut Self::Pass, hold: Self::Hold)
+    /// Lets go of what the stopped agent holds, and works through what waited for it. Answers how many retired rows that were.
+    fn go_on(&self, p: &mut Self::Pass, hold: Self::Hold) -> u32
         requires { stopped self.now hold p.old }
         ensures { Stays (ready self.now) (agent_of self.now) p.old p.new };
 }

@@ -6,14 +6,15 @@ mod container;
 mod load;
 mod results;
 mod runs;
+mod seen;
 mod settings;
 mod tally;
 
 pub use container::{Container, Outcome};
 pub use load::{Ask, Load, Mix, Plan};
-pub use results::{Counts, judge, print_figures};
+pub use results::{Counts, judge, print_figures, tell_missing};
 pub use runs::{Driven, Rest, drive};
-pub use settings::{Domain, Kind, Refused, Settings, settings_of};
+pub use settings::{Domain, Kind, Refused, Settings, Stop, settings_of};
 pub use tally::{Answer, Answers, Items, Tally};
 
 #[cfg(test)]

@@ -2,6 +2,8 @@
 
 ghost use Rattle.std.specs.Prelude.{◌≤◌, ◌<◌, ◌^◌};
 
+use crate::seen::Own;
+
 // Which calls agents make: of a queue puts and takes, in turn or by agents apart; of a set so many of a hundred that ask, insert
 // and remove.
 #[derive(Clone, Copy, Debug, PartialEq, Eq, Drop)]
@@ -65,25 +67,26 @@ pub enum Ask {
 
 impl Load {
     // This call of an agent.
-    pub(crate) fn ask(&self, agent: u32, number: u32, draws: &mut Draws) -> Ask {
+    pub(crate) fn ask(&self, agent: u32, number: u32, draws: &mut Draws, own: &Own) -> Ask {
         match self.mix {
             Mix::Pairs => put_or_take(number % 2 == 0, agent, number),
             Mix::Apart => put_or_take(agent % 2 == 0, agent, number),
-            Mix::Reads => self.ask_by_key(90, 95, draws),
-            Mix::Writes => self.ask_by_key(34, 67, draws),
+            Mix::Reads => self.ask_by_key(90, 95, draws, own),
+            Mix::Writes => self.ask_by_key(34, 67, draws, own),
         }
     }
 
-    // One of a hundred calls, of which so many ask for a key, and those up to the second number insert one.
-    fn ask_by_key(&self, asks: u64, inserts: u64, draws: &mut Draws) -> Ask {
+    // One of a hundred calls, of which so many ask for a key, and those up to the second number insert one. No agent changes
+    // another's own key.
+    fn ask_by_key(&self, asks: u64, inserts: u64, draws: &mut Draws, own: &Own) -> Ask {
         let kind = draws.draw() % 100;
         let key = draws.draw().wrapping_mul(u64::from(self.keys)) >> 31;
         if kind < asks {
             Ask::Read(key)
         } else if kind < inserts {
-            Ask::Give(key)
+            Ask::Give(own.may_change(key))
         } else {
-            Ask::Take(key)
+            Ask::Take(own.may_change(key))
         }
     }
 }

@@ -1,7 +1,9 @@
 //! The figures of a run, and what is wrong with it.
 
+use crate::load::Mix;
 use crate::runs::Driven;
 use crate::settings::Settings;
+use crate::tally::Items;
 use std::io;
 
 /// What a domain at rest counted.
@@ -33,15 +35,29 @@ fn figure<R: Print>(
         settings.container.word(),
         settings.plan.load.mix.word(),
         settings.memory(),
-        if settings.plan.stalls { " stalled" } else { "" },
+        settings.stalled(),
         settings.plan.threads,
         thousandths / 10,
         thousandths % 10
     )
 }
 
+// How many calls there were a second, and how many of them were answered.
+fn print_speed<R: Print>(
+    rt: &R,
+    settings: &Settings,
+    driven: &Driven,
+    calls: u128,
+) -> io::Result<()> {
+    let micros = driven.tally.ended.saturating_sub(driven.tally.begun).max(1);
+    let speed = calls.wrapping_mul(1_000_000) / micros;
+    let answered = u128::from(driven.tally.answers.ok).wrapping_mul(1_000_000) / micros;
+    figure(rt, settings, "calls a second", speed, speed)?;
+    figure(rt, settings, "answers a second", answered, speed)
+}
+
 /// Prints a run's figures, one a line: what was driven, of what, on how many threads, the number, and its share in percent. The
-/// share of calls a second is that of the calls that were answered.
+/// share of calls a second is that of the calls that were answered; a take that found nothing isn't counted among those.
 pub fn print_figures<R: Print>(
     rt: &R,
     settings: &Settings,
@@ -49,61 +65,92 @@ pub fn print_figures<R: Print>(
     counts: &Counts,
 ) -> io::Result<()> {
     let answers = &driven.tally.answers;
-    let calls = u128::from(answers.ok)
-        .wrapping_add(u128::from(answers.again))
-        .wrapping_add(u128::from(answers.no_node))
-        .wrapping_add(u128::from(answers.spent));
-    if settings.times {
-        let micros = driven.tally.ended.saturating_sub(driven.tally.begun).max(1);
-        let speed = calls.wrapping_mul(1_000_000) / micros;
-        let answered = u128::from(answers.ok).wrapping_mul(1_000_000) / micros;
-        println!(rt;
-            "RESULT|{} {}|{}{} calls a second|{}|{speed}|100.0",
-            settings.container.word(),
-            settings.plan.load.mix.word(),
-            settings.memory(),
-            if settings.plan.stalls { " stalled" } else { "" },
-            settings.plan.threads
-        )?;
-        figure(rt, settings, "answers a second", answered, speed)?;
+    let named = [
+        ("Ok", answers.ok),
+        ("found nothing", answers.empty),
+        ("Again", answers.again),
+        ("NoNode", answers.no_node),
+        ("Spent", answers.spent),
+        ("Positions", answers.positions),
+    ];
+    let mut calls = 0u128;
+    for (_, count) in named {
+        calls = calls.wrapping_add(u128::from(count));
     }
-    figure(rt, settings, "Ok", u128::from(answers.ok), calls)?;
-    figure(rt, settings, "Again", u128::from(answers.again), calls)?;
-    figure(rt, settings, "NoNode", u128::from(answers.no_node), calls)?;
-    figure(rt, settings, "Spent", u128::from(answers.spent), calls)?;
+    if settings.times {
+        print_speed(rt, settings, driven, calls)?;
+    }
+    for (name, count) in named {
+        figure(rt, settings, name, u128::from(count), calls)?;
+    }
     let rows = u128::from(settings.rows);
-    figure(
-        rt,
-        settings,
-        "largest backlog",
-        u128::from(driven.tally.backlog),
-        rows,
-    )?;
+    let backlog = u128::from(driven.tally.backlog);
+    figure(rt, settings, "largest backlog", backlog, rows)?;
+    let bound = u128::from(settings.bound());
+    figure(rt, settings, "bound of the backlog", bound, rows)?;
     figure(rt, settings, "nodes out", u128::from(counts.linked), rows)
 }
 
-// What is wrong, in a line.
-fn complain<R: Print>(rt: &R, right: bool, what: &str) -> io::Result<()> {
-    if right {
-        Ok(())
-    } else {
-        println!(rt; "WRONG|{what}")
+// What is wrong, in a line; answers whether nothing is.
+fn complain<R: Print>(rt: &R, right: bool, what: &str) -> io::Result<bool> {
+    if !right {
+        println!(rt; "WRONG|{what}")?;
     }
+    Ok(right)
 }
 
 /// Prints what is wrong with a run, and answers whether nothing is.
-pub fn judge<R: Print>(rt: &R, driven: &Driven, counts: &Counts) -> io::Result<bool> {
-    let mut out = driven.tally.taken;
+pub fn judge<R: Print>(
+    rt: &R,
+    settings: &Settings,
+    driven: &Driven,
+    counts: &Counts,
+) -> io::Result<bool> {
+    let tally = &driven.tally;
+    let mut out = tally.taken;
     out.join(&driven.rest.items);
-    let each_once = out == driven.tally.put;
-    let in_order = driven.tally.in_order && driven.rest.in_order;
-    let counted = counts.given == counts.reused.wrapping_add(u64::from(counts.linked));
-    complain(rt, each_once, "what came out or is left isn't what went in")?;
-    complain(rt, in_order, "jobs came out of order")?;
-    complain(
-        rt,
-        counted,
-        "rows that were given aren't those that were freed or are out",
-    )?;
-    Ok(each_once && in_order && counted)
+    let has_keys = settings.plan.load.mix.has_keys();
+    let judged = [
+        (
+            out == tally.put,
+            "what came out or is left isn't what went in",
+        ),
+        (
+            has_keys || tally.places == Items::below(tally.put.count),
+            "the positions of jobs aren't 0, 1, 2 and so on, each once",
+        ),
+        (
+            tally.in_order && driven.rest.in_order,
+            "jobs came out of order",
+        ),
+        (
+            settings.plan.load.mix != Mix::Pairs || tally.answers.empty <= tally.unput,
+            "a take found nothing, though each agent had put before it took",
+        ),
+        (
+            tally.is_true,
+            "an answer about a key that one agent alone changes is not what its calls had left",
+        ),
+        (
+            tally.backlog <= settings.bound(),
+            "more retired rows than nine an agent waited",
+        ),
+        (
+            counts.given == counts.reused.wrapping_add(u64::from(counts.linked)),
+            "rows that were given aren't those that were freed or are out",
+        ),
+    ];
+    let mut right = true;
+    for (holds, what) in judged {
+        right = complain(rt, holds, what)? && right;
+    }
+    Ok(right)
+}
+
+/// Prints a line where a thread couldn't be made, so that agents didn't call at once, and answers whether all were.
+pub fn tell_missing<R: Print>(rt: &R, driven: &Driven) -> io::Result<bool> {
+    if !driven.tally.all_came {
+        println!(rt; "MISSING|a thread couldn't be made, so agents called one after another")?;
+    }
+    Ok(driven.tally.all_came)
 }

@@ -9,7 +9,8 @@ ghost use Rattle.orc_stress.specs.Passes.{Stay, Stays};
 use crate::agents::{Ran, Start, run_all};
 use crate::container::{Container, Outcome};
 use crate::load::{Ask, Plan};
-use crate::tally::{Items, Order, Tally};
+use crate::seen::Seen;
+use crate::tally::{Answer, Items, Tally};
 use std::alloc::{AllocError, Global};
 use std::thread::Threads;
 use std::time::{Clock, Instant};
@@ -32,7 +33,7 @@ pub struct Rest {
     pub in_order: bool,
 }
 
-// Inserts every second key, the greatest first.
+// Inserts every second key, the greatest first, as long as there is a row for one.
 fn fill<C: Container>(container: &C, p: &mut C::Pass, keys: u32) -> Items
     requires ready { C.ready container.now p.old }
     ensures ready { Stays (C.ready container.now) (C.agent_of container.now) p.old p.new }
@@ -41,8 +42,10 @@ fn fill<C: Container>(container: &C, p: &mut C::Pass, keys: u32) -> Items
     for place in 0..keys {
         let key = u64::from(keys - 1 - place);
         if key % 2 == 0 {
-            if let Outcome::Put(item, at) = container.call(p, &Ask::Give(key)) {
-                put.add(item, at);
+            match container.call(p, &Ask::Give(key)) {
+                Outcome::Inserted(key) => put.add(key, 0),
+                Outcome::Refused(Answer::NoNode) => return put,
+                _ => {}
             }
         }
     }
@@ -67,24 +70,25 @@ fn find_keys<C: Container>(container: &C, p: &mut C::Pass, keys: u32) -> Rest
 }
 
 // Takes so many jobs, and looks whether there is one more.
-fn take_jobs<C: Container>(container: &C, p: &mut C::Pass, waiting: u64) -> Rest
+fn take_jobs<C: Container>(container: &C, p: &mut C::Pass, plan: &Plan, waiting: u64) -> Rest
     requires ready { C.ready container.now p.old }
     ensures ready { Stays (C.ready container.now) (C.agent_of container.now) p.old p.new }
 {
     let mut items = Items::new();
-    let mut order = Order::new();
+    let mut seen = Seen::new(0, plan);
     let mut in_order = true;
     for _job in 0..waiting {
-        if let Outcome::Taken(job, at) = container.call(p, &Ask::Take(0)) {
+        let outcome = container.call(p, &Ask::Take(0));
+        if let Outcome::Taken(job, at) = outcome {
             items.add(job, at);
-            let follows = order.follows(job, at);
-            in_order = in_order && follows;
         }
+        let follows = seen.follows(&outcome);
+        in_order = in_order && follows;
     }
     let last = container.call(p, &Ask::Take(0));
     Rest {
         items,
-        in_order: in_order && last == Outcome::Nothing,
+        in_order: in_order && last == Outcome::Empty,
     }
 }
 
@@ -123,7 +127,7 @@ fn finish<C: Container>(container: &C, passes: &mut Vec<C::Pass>, plan: &Plan, w
     let rest = if plan.load.mix.has_keys() {
         find_keys(container, &mut p, plan.load.keys)
     } else {
-        take_jobs(container, &mut p, waiting)
+        take_jobs(container, &mut p, plan, waiting)
     };
     let Ok(()) = passes.push(p) else {
         unreachable!()

@@ -38,6 +38,26 @@ pub enum Domain {
     Reclaiming,
 }
 
+/// Where the agent more is stopped: it holds the first node, or has put a job and not moved the tail, or has marked a key's node
+/// and not taken it off its chain.
+#[derive(Clone, Copy, Debug, PartialEq, Eq, Drop)]
+pub enum Stop {
+    First,
+    Tail,
+    Marked,
+}
+
+impl Stop {
+    // What is said of a run in which an agent is stopped so.
+    pub(crate) fn words(self) -> &'static str {
+        match self {
+            Stop::First => " stalled",
+            Stop::Tail => " stalled at the tail",
+            Stop::Marked => " stalled at a mark",
+        }
+    }
+}
+
 /// What the words ask for.
 #[derive(Clone, Copy, Debug, PartialEq, Eq, Drop)]
 pub struct Settings {
@@ -51,6 +71,10 @@ pub struct Settings {
     pub roots: u32,
     /// `--agents`, or as many as there are threads and stopped agents, if those are more.
     pub agents: u32,
+    /// `--turns`: how often a call tries.
+    pub turns: u32,
+    /// `--stop`, of the agent that is stopped, where one is.
+    pub stop: Stop,
     /// Whether the speed is printed: not under `--untimed`.
     pub times: bool,
     /// The other options.
@@ -68,15 +92,55 @@ impl Settings {
             (_, Domain::Reclaiming) => "reclaiming",
         }
     }
+
+    // Of the agent that is stopped, if there is one.
+    pub(crate) fn stalled(&self) -> &'static str {
+        if self.plan.stalls {
+            self.stop.words()
+        } else {
+            ""
+        }
+    }
+
+    // How many retired rows there are at most that no agent has in hand: nine an agent, of a domain whose rows come back.
+    pub(crate) fn bound(&self) -> u32 {
+        match (self.container, self.domain) {
+            (Kind::Sorted, _) | (_, Domain::Plain) => 0,
+            (_, Domain::Reclaiming) => self.agents.wrapping_mul(9),
+        }
+    }
 }
 
 /// Why words give no settings.
 #[derive(Clone, Copy, Debug, PartialEq, Eq, Drop)]
 pub enum Refused {
-    /// `clap` refuses the words, or a container hasn't such calls or isn't for several threads.
+    /// `clap` refuses the words.
     Words,
+    /// The container hasn't such calls.
+    Calls,
+    /// The container is for one thread.
+    Alone,
+    /// The container's calls don't stop there.
+    Stop,
+    /// With the stopped agent there are more than 16.
+    Agents,
     /// Memory was refused.
     NoMemory,
+}
+
+impl Refused {
+    /// Why, in words; nothing of what `clap` refuses, nor where memory was refused.
+    pub fn why(self) -> Option<&'static str> {
+        match self {
+            Refused::Words | Refused::NoMemory => None,
+            Refused::Calls => Some("the container has no such calls"),
+            Refused::Alone => Some("the container is for one thread, and none is stopped"),
+            Refused::Stop => Some("no call of the container stops there"),
+            Refused::Agents => Some(
+                "16 threads and an agent that is stopped are more than 16 agents",
+            ),
+        }
+    }
 }
 
 static KINDS: [&str; 4] = ["queue", "list", "set", "sorted"];
@@ -84,6 +148,8 @@ static KINDS: [&str; 4] = ["queue", "list", "set", "sorted"];
 static DOMAINS: [&str; 2] = ["plain", "reclaiming"];
 
 static MIXES: [&str; 4] = ["pairs", "apart", "90/5/5", "34/33/33"];
+
+static STOPS: [&str; 3] = ["first", "tail", "marked"];
 
 // An option with a number in a range.
 fn number_option<'a>(alloc: Global, id: &'a str, default: &'a str, low: u32, high: u32) -> Arg<'a> {
@@ -111,9 +177,11 @@ fn command<'a>(alloc: Global) -> Result<Command<'a>, AllocError> {
     let command = command.arg(choice_option(alloc, "container", KINDS.as_slice()))?;
     let command = command.arg(choice_option(alloc, "domain", DOMAINS.as_slice()))?;
     let command = command.arg(choice_option(alloc, "mix", MIXES.as_slice()))?;
+    let command = command.arg(choice_option(alloc, "stop", STOPS.as_slice()))?;
     let command = command.arg(number_option(alloc, "threads", "1", 1, 16))?;
     let command = command.arg(number_option(alloc, "agents", "1", 1, 16))?;
     let command = command.arg(number_option(alloc, "calls", "60000", 0, 4294967295))?;
+    let command = command.arg(number_option(alloc, "turns", "64", 1, 65535))?;
     let command = command.arg(number_option(alloc, "rows", "65535", 2, 65535))?;
     let command = command.arg(number_option(alloc, "roots", "16", 1, 257))?;
     let command = command.arg(number_option(alloc, "keys", "1000", 1, 1000000))?;
@@ -145,23 +213,47 @@ fn mix_of(word: Option<&str>, container: Kind) -> Option<Mix> {
     }
 }
 
-// The settings of these matches.
-fn settings_in(matches: &ArgMatches<'_>) -> Option<Settings> {
-    let container = match matches.get_str("container") {
+// Where a word says that an agent is stopped, if the container has such calls; without a word it holds the first node.
+fn stop_of(word: Option<&str>, container: Kind) -> Option<Stop> {
+    match (word, container) {
+        (None | Some("first"), _) => Some(Stop::First),
+        (Some("tail"), Kind::Queue) => Some(Stop::Tail),
+        (Some("marked"), Kind::List | Kind::Set) => Some(Stop::Marked),
+        (Some(_), _) => None,
+    }
+}
+
+// What is driven.
+fn container_of(word: Option<&str>) -> Kind {
+    match word {
         Some("list") => Kind::List,
         Some("set") => Kind::Set,
         Some("sorted") => Kind::Sorted,
         _ => Kind::Queue,
-    };
-    let domain = match matches.get_str("domain") {
+    }
+}
+
+// What it stands on.
+fn domain_of(word: Option<&str>) -> Domain {
+    match word {
         Some("reclaiming") => Domain::Reclaiming,
         _ => Domain::Plain,
-    };
-    let mix = mix_of(matches.get_str("mix"), container)?;
+    }
+}
+
+// The settings of these matches.
+fn settings_in(matches: &ArgMatches<'_>) -> Result<Settings, Refused> {
+    let container = container_of(matches.get_str("container"));
+    let mix = mix_of(matches.get_str("mix"), container).ok_or(Refused::Calls)?;
+    let stop = stop_of(matches.get_str("stop"), container).ok_or(Refused::Stop)?;
     let threads = number_of(matches, "threads", 1, 16);
-    let stalls = matches.get_flag("stall");
+    let stalls = matches.get_flag("stall") || matches.get_str("stop").is_some();
     if container == Kind::Sorted && (threads > 1 || stalls) {
-        return None;
+        return Err(Refused::Alone);
+    }
+    let working = threads + u32::from(stalls);
+    if working > 16 {
+        return Err(Refused::Agents);
     }
     let load = Load {
         mix,
@@ -169,12 +261,14 @@ fn settings_in(matches: &ArgMatches<'_>) -> Option<Settings> {
         keys: number_of(matches, "keys", 1, 1000000),
         seed: number_of(matches, "seed", 1, 4294967295),
     };
-    Some(Settings {
+    Ok(Settings {
         container,
-        domain,
+        domain: domain_of(matches.get_str("domain")),
         rows: number_of(matches, "rows", 2, 65535),
         roots: number_of(matches, "roots", 1, 257),
-        agents: number_of(matches, "agents", 1, 16).max(threads + u32::from(stalls)),
+        agents: number_of(matches, "agents", 1, 16).max(working),
+        turns: number_of(matches, "turns", 1, 65535),
+        stop,
         times: !matches.get_flag("untimed"),
         plan: Plan {
             threads,
@@ -188,14 +282,16 @@ fn settings_in(matches: &ArgMatches<'_>) -> Option<Settings> {
 ///
 /// # Errors
 ///
-/// * `Words` where `clap` refuses the words, or the container hasn't such calls or isn't for several threads.
+/// * `Words` where `clap` refuses the words.
+/// * `Calls`, `Stop`, `Alone` where the container hasn't such calls, none that stops there, or isn't for several threads.
+/// * `Agents` where there are more than 16 agents with the one that is stopped.
 /// * `NoMemory` where memory is refused.
 pub fn settings_of(alloc: Global, words: &[String]) -> Result<Settings, Refused> {
     let Ok(command) = command(alloc) else {
         return Err(Refused::NoMemory);
     };
     match command.try_get_matches_from(words) {
-        Ok(matches) => settings_in(&matches).ok_or(Refused::Words),
+        Ok(matches) => settings_in(&matches),
         Err(error) if error.kind() == ErrorKind::OutOfMemory => Err(Refused::NoMemory),
         Err(_) => Err(Refused::Words),
     }

@@ -4,23 +4,30 @@ ghost use Rattle.std.specs.Prelude.{◌≡◌, ◌+◌, ◌<◌, ◌^◌};
 ghost use Rattle.orc_stress.specs.Answers.{calls_of, counted, summed};
 
 use crate::container::Outcome;
+use crate::load::Ask;
+use crate::seen::Seen;
 
-// How a call ended.
+/// How a call ended: by an answer, one that there was no job to take among them apart, or refused. `Again`: its turns were used
+/// up; `NoNode`: no row was left; `Spent`: a row was linked too often; `Positions`: a queue's positions were used up.
 #[derive(Clone, Copy, Debug, PartialEq, Eq)]
 pub enum Answer {
     Ok,
+    Empty,
     Again,
     NoNode,
     Spent,
+    Positions,
 }
 
 // How many calls ended so.
 #[derive(Clone, Copy, Debug, PartialEq, Eq)]
 pub struct Answers {
     pub(crate) ok: u64,
+    pub(crate) empty: u64,
     pub(crate) again: u64,
     pub(crate) no_node: u64,
     pub(crate) spent: u64,
+    pub(crate) positions: u64,
 }
 
 impl Answers {
@@ -30,9 +37,11 @@ impl Answers {
     {
         Answers {
             ok: 0,
+            empty: 0,
             again: 0,
             no_node: 0,
             spent: 0,
+            positions: 0,
         }
     }
 
@@ -43,9 +52,11 @@ impl Answers {
     {
         match answer {
             Answer::Ok => self.ok += 1,
+            Answer::Empty => self.empty += 1,
             Answer::Again => self.again += 1,
             Answer::NoNode => self.no_node += 1,
             Answer::Spent => self.spent += 1,
+            Answer::Positions => self.positions += 1,
         }
     }
 
@@ -55,9 +66,11 @@ impl Answers {
         ensures { self.new ≡ summed self.old other.now }
     {
         self.ok += other.ok;
+        self.empty += other.empty;
         self.again += other.again;
         self.no_node += other.no_node;
         self.spent += other.spent;
+        self.positions += other.positions;
     }
 }
 
@@ -72,6 +85,15 @@ impl Items {
     // None.
     pub(crate) fn new() -> Items {
         Items { count: 0, sum: 0 }
+    }
+
+    // The numbers below this one.
+    pub(crate) fn below(count: u64) -> Items {
+        let mut items = Items::new();
+        for number in 0..count {
+            items.add(number, 0);
+        }
+        items
     }
 
     // One item more.
@@ -94,42 +116,23 @@ fn scramble(item: u64) -> u64 {
     two ^ (two >> 31)
 }
 
-// What one agent took from a queue last: of each producer the number of its job, and the position of the last one.
-#[derive(Clone, Copy, Debug, PartialEq, Eq)]
-pub(crate) struct Order {
-    numbers: [u64; 16],
-    position: u64,
-}
-
-impl Order {
-    // Nothing yet.
-    pub(crate) fn new() -> Order {
-        Order {
-            numbers: [0; 16],
-            position: 0,
-        }
-    }
-
-    // Whether the job comes after those of its producer that were taken before, and its position after theirs.
-    pub(crate) fn follows(&mut self, job: u64, position: u64) -> bool {
-        let producer = ((job >> 32) % 16) as usize;
-        let number = (job % 4_294_967_296) + 1;
-        let follows = number > self.numbers[producer] && position >= self.position;
-        self.numbers[producer] = number;
-        self.position = position.wrapping_add(1);
-        follows
-    }
-}
-
 // What the calls of agents came to.
 #[derive(Clone, Copy, Debug, PartialEq, Eq)]
 pub struct Tally {
     pub(crate) answers: Answers,
     pub(crate) put: Items,
     pub(crate) taken: Items,
-    // whether each agent took jobs in the order of their positions, and those of a producer in its order
+    // the positions of the jobs that were put
+    pub(crate) places: Items,
+    // how many jobs or keys weren't taken in, since the call was refused
+    pub(crate) unput: u64,
+    // whether each agent put and took jobs in the order of their positions, and took those of a producer in its order
     pub(crate) in_order: bool,
-    // the most retired rows that a pass had in hand after a call
+    // whether each answer about a key of the agent's own was what its calls had left
+    pub(crate) is_true: bool,
+    // whether all agents had come before the calls began
+    pub(crate) all_came: bool,
+    // the most retired rows that a pass had in hand after a call, or that waited for a stopped agent
     pub(crate) backlog: u32,
     // when the first call began and the last ended, in microseconds
     pub(crate) begun: u128,
@@ -145,27 +148,45 @@ impl Tally {
             answers: Answers::new(),
             put: Items::new(),
             taken: Items::new(),
+            places: Items::new(),
+            unput: 0,
             in_order: true,
+            is_true: true,
+            all_came: true,
             backlog: 0,
             begun: u128::MAX,
             ended: 0,
         }
     }
 
-    // Counts one call more, and what it did.
-    pub(crate) fn record(&mut self, outcome: &Outcome, order: &mut Order)
+    // Notes what went in or came out.
+    pub(crate) fn note(&mut self, outcome: &Outcome)
+        ensures { self.new.answers ≡ self.old.answers }
+    {
+        match outcome {
+            Outcome::Put(job, at) => {
+                self.put.add(*job, *at);
+                self.places.add(*at, 0);
+            }
+            Outcome::Taken(job, at) => self.taken.add(*job, *at),
+            Outcome::Inserted(key) => self.put.add(*key, 0),
+            Outcome::Removed(key) => self.taken.add(*key, 0),
+            Outcome::Empty | Outcome::Found | Outcome::Unchanged | Outcome::Refused(_) => {}
+        }
+    }
+
+    // Counts one call more, notes what it did, and judges it by what its agent has seen.
+    pub(crate) fn record(&mut self, ask: &Ask, outcome: &Outcome, seen: &mut Seen)
         requires { calls_of self.old.answers + 1 < 2 ^ 64 }
         ensures { calls_of self.new.answers ≡ calls_of self.old.answers + 1 }
     {
-        match outcome {
-            Outcome::Put(item, place) => self.put.add(*item, *place),
-            Outcome::Taken(item, place) => {
-                self.taken.add(*item, *place);
-                let follows = order.follows(*item, *place);
-                self.in_order = self.in_order && follows;
-            }
-            Outcome::Removed(key) => self.taken.add(*key, 0),
-            Outcome::Found | Outcome::Nothing | Outcome::Refused(_) => {}
+        self.note(outcome);
+        let follows = seen.follows(outcome);
+        self.in_order = self.in_order && follows;
+        let is_true = seen.own.is_true(ask, outcome);
+        self.is_true = self.is_true && is_true;
+        if let (Ask::Give(_), Outcome::Refused(_)) = (ask, outcome) {
+            self.unput = self.unput.wrapping_add(1);
         }
         self.answers.count(outcome.answer());
     }
@@ -178,7 +199,11 @@ impl Tally {
         self.answers.add(&other.answers);
         self.put.join(&other.put);
         self.taken.join(&other.taken);
+        self.places.join(&other.places);
+        self.unput = self.unput.wrapping_add(other.unput);
         self.in_order = self.in_order && other.in_order;
+        self.is_true = self.is_true && other.is_true;
+        self.all_came = self.all_came && other.all_came;
         self.backlog = self.backlog.max(other.backlog);
         self.begun = self.begun.min(other.begun);
         self.ended = self.ended.max(other.ended);

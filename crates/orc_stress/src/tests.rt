@@ -4,7 +4,8 @@ use crate::container::{Container, Outcome};
 use crate::load::{Ask, Load, Mix, Plan};
 use crate::results::{Counts, judge};
 use crate::runs::{Driven, drive};
-use crate::settings::{Domain, Kind, Refused, Settings, settings_of};
+use crate::seen::Own;
+use crate::settings::{Domain, Kind, Refused, Settings, Stop, settings_of};
 use crate::tally::Answer;
 use std::alloc::{AllocError, Global};
 use std::collections::VecDeque;
@@ -21,30 +22,35 @@ fn words_of(alloc: Global, words: &[&str]) -> Result<Vec<String>, AllocError> {
     Ok(all)
 }
 
-// What no words ask for.
-const DEFAULTS: Settings = Settings {
-    container: Kind::Queue,
-    domain: Domain::Plain,
-    rows: 65535,
-    roots: 16,
-    agents: 1,
-    times: true,
-    plan: Plan {
-        threads: 1,
-        stalls: false,
-        load: Load {
-            mix: Mix::Pairs,
-            calls: 60000,
-            keys: 1000,
-            seed: 1,
+// What no words ask for, but for the load.
+fn usual(load: Load) -> Settings {
+    Settings {
+        container: Kind::Queue,
+        domain: Domain::Plain,
+        rows: 65535,
+        roots: 16,
+        agents: 1,
+        turns: 64,
+        stop: Stop::First,
+        times: true,
+        plan: Plan {
+            threads: 1,
+            stalls: false,
+            load,
         },
-    },
-};
+    }
+}
 
 #[test]
 fn words_give_settings(rt: HostRuntime) -> Result<(), Fail> {
     let none = words_of(rt.alloc(), &[])?;
-    assert_eq!(rt; settings_of(rt.alloc(), none.as_slice()), Ok(DEFAULTS));
+    let load = Load {
+        mix: Mix::Pairs,
+        calls: 60000,
+        keys: 1000,
+        seed: 1,
+    };
+    assert_eq!(rt; settings_of(rt.alloc(), none.as_slice()), Ok(usual(load)));
     let some = words_of(
         rt.alloc(),
         &[
@@ -54,7 +60,8 @@ fn words_give_settings(rt: HostRuntime) -> Result<(), Fail> {
             "--mix=34/33/33",
             "--threads",
             "4",
-            "--stall",
+            "--stop=marked",
+            "--turns=1",
             "--untimed",
             "--calls=7",
             "--rows=65",
@@ -69,6 +76,8 @@ fn words_give_settings(rt: HostRuntime) -> Result<(), Fail> {
         rows: 65,
         roots: 257,
         agents: 5,
+        turns: 1,
+        stop: Stop::Marked,
         times: false,
         plan: Plan {
             threads: 4,
@@ -87,19 +96,20 @@ fn words_give_settings(rt: HostRuntime) -> Result<(), Fail> {
 
 #[test]
 fn words_are_refused(rt: HostRuntime) -> Result<(), Fail> {
-    let refused: [&[&str]; 6] = [
-        &["--threads=17"],
-        &["--rows", "1"],
-        &["--container", "stack"],
-        &["--container=queue", "--mix=90/5/5"],
-        &["--container=set", "--mix=pairs"],
-        &["--container=sorted", "--threads=2"],
+    let refused: [(&[&str], Refused); 7] = [
+        (&["--threads=17"], Refused::Words),
+        (&["--container", "stack"], Refused::Words),
+        (&["--container=queue", "--mix=90/5/5"], Refused::Calls),
+        (&["--container=set", "--mix=pairs"], Refused::Calls),
+        (&["--container=sorted", "--threads=2"], Refused::Alone),
+        (&["--container=list", "--stop=tail"], Refused::Stop),
+        (&["--threads=16", "--stall"], Refused::Agents),
     ];
-    for words in refused {
+    for (words, why) in refused {
         let words = words_of(rt.alloc(), words)?;
         assert_eq!(rt;
             settings_of(rt.alloc(), words.as_slice()),
-            Err(Refused::Words),
+            Err(why),
             "{words:?}"
         );
     }
@@ -116,6 +126,8 @@ enum Fault {
     Repeats,
     // the last job is taken first
     TurnsRound,
+    // the first take finds nothing
+    Hides,
 }
 
 // A queue for one agent, whose jobs lie in its pass.
@@ -124,11 +136,12 @@ struct Shelf {
     fault: Fault,
 }
 
-// The jobs that lie on a shelf, and how many were put there and taken.
+// The jobs that lie on a shelf, and how many were put there, asked for and taken.
 #[derive(Drop)]
 struct Jobs {
     jobs: VecDeque<(u64, u64)>,
     put: u64,
+    asked: u64,
     taken: u64,
 }
 
@@ -148,13 +161,17 @@ impl Shelf {
 
     // Takes a job from the shelf.
     fn take(&self, p: &mut Jobs) -> Outcome {
+        p.asked = p.asked.wrapping_add(1);
+        if self.fault == Fault::Hides && p.asked == 1 {
+            return Outcome::Empty;
+        }
         let next = if self.fault == Fault::TurnsRound {
             p.jobs.pop_back()
         } else {
             p.jobs.pop_front()
         };
         let Some((job, at)) = next else {
-            return Outcome::Nothing;
+            return Outcome::Empty;
         };
         if self.fault == Fault::Repeats && p.taken == 0 && p.jobs.push_front((job, at)).is_err() {
             return Outcome::Refused(Answer::NoNode);
@@ -190,9 +207,13 @@ impl Container for Shelf {
         0
     }
 
-    fn stop(&self, _p: &mut Jobs) -> () {}
+    fn stop(&self, _p: &mut Jobs) -> ((), Outcome) {
+        ((), Outcome::Unchanged)
+    }
 
-    fn go_on(&self, _p: &mut Jobs, _hold: ()) {}
+    fn go_on(&self, _p: &mut Jobs, _hold: ()) -> u32 {
+        0
+    }
 }
 
 // Drives such a shelf with four calls of one agent.
@@ -205,26 +226,27 @@ fn drive_shelf<R: Threads + Clock + Sync>(
     let jobs = Jobs {
         jobs: VecDeque::new(alloc),
         put: 0,
+        asked: 0,
         taken: 0,
     };
     let passes = vec![in alloc; jobs]?;
-    let load = Load {
-        mix,
-        calls: 4,
-        keys: 1,
-        seed: 1,
-    };
-    let plan = Plan {
-        threads: 1,
-        stalls: false,
-        load,
-    };
     let instant = Instant::now(rt)?;
+    let plan = settings_for(mix).plan;
     let (_passes, driven) = drive(rt, alloc, &Shelf { fault }, passes, &plan, instant)?;
     Ok(driven)
 }
 
-// Of a mix: the jobs that are put by four calls, those that these take, and those that are left.
+// The settings of four calls of this mix.
+fn settings_for(mix: Mix) -> Settings {
+    usual(Load {
+        mix,
+        calls: 4,
+        keys: 1,
+        seed: 1,
+    })
+}
+
+// Of a mix: the jobs that are put by four calls, those that these take, those that are left, and how many calls found one or put one.
 #[test]
 fn a_shelf_is_judged(rt: HostRuntime) -> Result<(), Fail> {
     let rest = Counts {
@@ -233,12 +255,13 @@ fn a_shelf_is_judged(rt: HostRuntime) -> Result<(), Fail> {
         linked: 1,
     };
     let cases = [
-        (Fault::None, Mix::Pairs, (2, 2, 0), true),
-        (Fault::None, Mix::Apart, (4, 0, 4), true),
-        (Fault::Loses, Mix::Pairs, (2, 1, 0), false),
-        (Fault::Loses, Mix::Apart, (4, 0, 3), false),
-        (Fault::Repeats, Mix::Pairs, (2, 2, 0), false),
-        (Fault::TurnsRound, Mix::Apart, (4, 0, 4), false),
+        (Fault::None, Mix::Pairs, (2, 2, 0, 4), true),
+        (Fault::None, Mix::Apart, (4, 0, 4, 4), true),
+        (Fault::Loses, Mix::Pairs, (2, 1, 0, 3), false),
+        (Fault::Loses, Mix::Apart, (4, 0, 3, 4), false),
+        (Fault::Repeats, Mix::Pairs, (2, 2, 0, 4), false),
+        (Fault::TurnsRound, Mix::Apart, (4, 0, 4, 4), false),
+        (Fault::Hides, Mix::Pairs, (2, 1, 1, 3), false),
     ];
     for (fault, mix, counts, right) in cases {
         let driven = drive_shelf(&rt, rt.alloc(), fault, mix)?;
@@ -246,10 +269,11 @@ fn a_shelf_is_judged(rt: HostRuntime) -> Result<(), Fail> {
             driven.tally.put.count,
             driven.tally.taken.count,
             driven.rest.items.count,
+            driven.tally.answers.ok,
         );
         assert_eq!(rt; items, counts, "{fault:?} {mix:?}");
-        assert_eq!(rt; driven.tally.answers.ok, 4, "{fault:?} {mix:?}");
-        assert_eq!(rt; judge(&rt, &driven, &rest)?, right, "{fault:?} {mix:?}");
+        let judged = judge(&rt, &settings_for(mix), &driven, &rest)?;
+        assert_eq!(rt; judged, right, "{fault:?} {mix:?}");
     }
     Ok(())
 }
@@ -262,6 +286,38 @@ fn rows_that_leak_are_wrong(rt: HostRuntime) -> Result<(), Fail> {
         reused: 1,
         linked: 1,
     };
-    assert_eq!(rt; judge(&rt, &driven, &leaks)?, false);
+    assert_eq!(rt;
+        judge(&rt, &settings_for(Mix::Pairs), &driven, &leaks)?,
+        false
+    );
+    Ok(())
+}
+
+// Of two agents the first has key 1 of its own, and the second key 9.
+#[test]
+fn keys_of_ones_own_are_judged(rt: HostRuntime) -> Result<(), Fail> {
+    let mut plan = settings_for(Mix::Reads).plan;
+    plan.threads = 2;
+    let mut own = Own::new(0, &plan);
+    assert_eq!(rt;
+        (own.may_change(1), own.may_change(9), own.may_change(8)),
+        (1, 8, 8)
+    );
+    let told = [
+        (Ask::Read(1), Outcome::Found, false),
+        (Ask::Read(1), Outcome::Unchanged, true),
+        (Ask::Give(1), Outcome::Unchanged, false),
+        (Ask::Give(1), Outcome::Refused(Answer::Again), true),
+        (Ask::Take(1), Outcome::Unchanged, true),
+        (Ask::Give(1), Outcome::Inserted(1), true),
+        (Ask::Read(1), Outcome::Unchanged, false),
+        (Ask::Read(1), Outcome::Found, true),
+        (Ask::Take(1), Outcome::Removed(1), true),
+        (Ask::Take(1), Outcome::Removed(1), false),
+        (Ask::Read(9), Outcome::Found, true),
+    ];
+    for (ask, outcome, right) in told {
+        assert_eq!(rt; own.is_true(&ask, &outcome), right, "{ask:?} {outcome:?}");
+    }
     Ok(())
 }

@@ -6,70 +6,72 @@ use orc_fault::Again;
 use orc_history::{ListRefused, QueueRefused, SharedQueue, SharedSet};
 use orc_stress::{Answer, Ask, Outcome};
 
-// In how many tries a call is made.
-const TURNS: u64 = 64;
-
-// Puts a job at the back, or takes the one at the front.
-pub(crate) fn call_queue<Q: SharedQueue>(queue: &Q, p: &mut Q::Pass, ask: &Ask) -> Outcome
+// Puts a job at the back, or takes the one at the front, in so many tries.
+pub(crate) fn call_queue<Q: SharedQueue>(
+    queue: &Q,
+    p: &mut Q::Pass,
+    ask: &Ask,
+    turns: u64,
+) -> Outcome
     requires { Q.usable queue.now p.old }
     ensures usable { Q.usable queue.now p.new }
     ensures agent { Q.agent_of queue.now p.new ≡ Q.agent_of queue.now p.old }
 {
     match ask {
-        Ask::Give(job) => put_job(queue, p, *job),
-        Ask::Take(_) | Ask::Read(_) => take_job(queue, p),
+        Ask::Give(job) => put_job(queue, p, *job, turns),
+        Ask::Take(_) | Ask::Read(_) => take_job(queue, p, turns),
     }
 }
 
 // Puts a job at the back.
-fn put_job<Q: SharedQueue>(queue: &Q, p: &mut Q::Pass, job: u64) -> Outcome
+fn put_job<Q: SharedQueue>(queue: &Q, p: &mut Q::Pass, job: u64, turns: u64) -> Outcome
     requires { Q.usable queue.now p.old }
     ensures usable { Q.usable queue.now p.new }
     ensures agent { Q.agent_of queue.now p.new ≡ Q.agent_of queue.now p.old }
 {
-    match queue.enqueue(p, job, TURNS) {
+    match queue.enqueue(p, job, turns) {
         Ok(at) => Outcome::Put(job, at),
         Err(QueueRefused::Again) => Outcome::Refused(Answer::Again),
         Err(QueueRefused::NoNode) => Outcome::Refused(Answer::NoNode),
-        Err(QueueRefused::Positions) => Outcome::Refused(Answer::Spent),
+        Err(QueueRefused::Positions) => Outcome::Refused(Answer::Positions),
     }
 }
 
 // Takes the job at the front.
-fn take_job<Q: SharedQueue>(queue: &Q, p: &mut Q::Pass) -> Outcome
+fn take_job<Q: SharedQueue>(queue: &Q, p: &mut Q::Pass, turns: u64) -> Outcome
     requires { Q.usable queue.now p.old }
     ensures usable { Q.usable queue.now p.new }
     ensures agent { Q.agent_of queue.now p.new ≡ Q.agent_of queue.now p.old }
 {
-    match queue.dequeue(p, TURNS) {
+    match queue.dequeue(p, turns) {
         Ok(Some((job, at))) => Outcome::Taken(job, at),
-        Ok(None) => Outcome::Nothing,
+        Ok(None) => Outcome::Empty,
         Err(Again) => Outcome::Refused(Answer::Again),
     }
 }
 
-// Inserts a key, removes one, or asks for one.
-pub(crate) fn call_set<S: SharedSet>(set: &S, p: &mut S::Pass, ask: &Ask) -> Outcome
+// Inserts a key, removes one, or asks for one, in so many tries.
+pub(crate) fn call_set<S: SharedSet>(set: &S, p: &mut S::Pass, ask: &Ask, turns: u64) -> Outcome
     requires { S.usable set.now p.old }
     ensures usable { S.usable set.now p.new }
     ensures agent { S.agent_of set.now p.new ≡ S.agent_of set.now p.old }
 {
     match ask {
-        Ask::Give(key) => insert_key(set, p, *key),
-        Ask::Take(key) => remove_key(set, p, *key),
-        Ask::Read(key) => find_key(set, p, *key),
+        Ask::Give(key) => insert_key(set, p, *key, turns),
+        Ask::Take(key) => remove_key(set, p, *key, turns),
+        Ask::Read(key) => find_key(set, p, *key, turns),
     }
 }
 
 // Inserts a key.
-fn insert_key<S: SharedSet>(set: &S, p: &mut S::Pass, key: u64) -> Outcome
+fn insert_key<S: SharedSet>(set: &S, p: &mut S::Pass, key: u64, turns: u64) -> Outcome
     requires { S.usable set.now p.old }
     ensures usable { S.usable set.now p.new }
     ensures agent { S.agent_of set.now p.new ≡ S.agent_of set.now p.old }
 {
-    match set.insert(p, key, TURNS) {
-        Ok(true) => Outcome::Put(key, 0),
-        Ok(false) => Outcome::Nothing,
+    match set.insert(p, key, turns) {
+        Ok(true) => Outcome::Inserted(key),
+        Ok(false) => Outcome::Unchanged,
         Err(ListRefused::Again) => Outcome::Refused(Answer::Again),
         Err(ListRefused::NoNode) => Outcome::Refused(Answer::NoNode),
         Err(ListRefused::Spent(_)) => Outcome::Refused(Answer::Spent),
@@ -77,27 +79,27 @@ fn insert_key<S: SharedSet>(set: &S, p: &mut S::Pass, key: u64) -> Outcome
 }
 
 // Removes a key.
-fn remove_key<S: SharedSet>(set: &S, p: &mut S::Pass, key: u64) -> Outcome
+fn remove_key<S: SharedSet>(set: &S, p: &mut S::Pass, key: u64, turns: u64) -> Outcome
     requires { S.usable set.now p.old }
     ensures usable { S.usable set.now p.new }
     ensures agent { S.agent_of set.now p.new ≡ S.agent_of set.now p.old }
 {
-    match set.remove(p, key, TURNS) {
+    match set.remove(p, key, turns) {
         Ok(true) => Outcome::Removed(key),
-        Ok(false) => Outcome::Nothing,
+        Ok(false) => Outcome::Unchanged,
         Err(Again) => Outcome::Refused(Answer::Again),
     }
 }
 
 // Asks for a key.
-fn find_key<S: SharedSet>(set: &S, p: &mut S::Pass, key: u64) -> Outcome
+fn find_key<S: SharedSet>(set: &S, p: &mut S::Pass, key: u64, turns: u64) -> Outcome
     requires { S.usable set.now p.old }
     ensures usable { S.usable set.now p.new }
     ensures agent { S.agent_of set.now p.new ≡ S.agent_of set.now p.old }
 {
-    match set.contains(p, key, TURNS) {
+    match set.contains(p, key, turns) {
         Ok(true) => Outcome::Found,
-        Ok(false) => Outcome::Nothing,
+        Ok(false) => Outcome::Unchanged,
         Err(Again) => Outcome::Refused(Answer::Again),
     }
 }

@@ -99,7 +99,7 @@ where
         begin: FifoNote::Begin,
     };
     let (domain, passes) = L::make(alloc, &shape, seed)?;
-    let queue = Rooted::new(Queue::new(domain));
+    let queue = Rooted::new(Queue::new(domain), settings);
     Ok(drive_to_rest(rt, alloc, &settings.plan, instant, queue, passes)?)
 }
 
@@ -116,7 +116,7 @@ where
 {
     let shape = Shape::new(settings.rows, 1, settings.agents, LIMIT)?;
     let (domain, passes) = L::make(alloc, &shape, Seed::Empty)?;
-    let list = Rooted::new(OneList::new(List::new(domain)));
+    let list = Rooted::new(OneList::new(List::new(domain)), settings);
     Ok(drive_to_rest(rt, alloc, &settings.plan, instant, list, passes)?)
 }
 
@@ -133,6 +133,6 @@ where
 {
     let shape = Shape::new(settings.rows, settings.roots, settings.agents, LIMIT)?;
     let (domain, passes) = L::make(alloc, &shape, Seed::Empty)?;
-    let set = Rooted::new(Set::new(List::new(domain), settings.roots));
+    let set = Rooted::new(Set::new(List::new(domain), settings.roots), settings);
     Ok(drive_to_rest(rt, alloc, &settings.plan, instant, set, passes)?)
 }

@@ -15,7 +15,7 @@ use orc_heap::Held;
 use orc_list::OneList;
 use orc_queue::Queue;
 use orc_set::Set;
-use orc_stress::{Ask, Container, Counts, Outcome};
+use orc_stress::{Ask, Container, Counts, Outcome, Settings, Stop};
 use std::marker::PhantomData;
 
 // A container over a domain, which agents call with passes of that.
@@ -31,8 +31,14 @@ pub(crate) trait Over<L: Ending> {
     fn into_domain(self) -> L
         ensures { result ≡ domain_of self };
 
-    // Makes one call.
-    fn call(&self, p: &mut L::Pass, ask: &Ask) -> Outcome
+    // Makes one call, in so many tries.
+    fn call(&self, p: &mut L::Pass, ask: &Ask, turns: u64) -> Outcome
+        requires { IsIdlePass L.Links (domain_of self.now) p.old }
+        ensures idle { IsIdlePass L.Links (domain_of self.now) p.new }
+        ensures agent { agent L.Links (domain_of self.now) p.new ≡ agent L.Links (domain_of self.now) p.old };
+
+    // Puts a job or removes key 0, and stops before the last step, which leaves the tail behind, or the marked node on its chain.
+    fn call_and_stop(&self, p: &mut L::Pass) -> Outcome
         requires { IsIdlePass L.Links (domain_of self.now) p.old }
         ensures idle { IsIdlePass L.Links (domain_of self.now) p.new }
         ensures agent { agent L.Links (domain_of self.now) p.new ≡ agent L.Links (domain_of self.now) p.old };
@@ -49,8 +55,16 @@ impl<L: Ending<Rule = Fifo>> Over<L> for Queue<L> {
         self.into_links()
     }
 
-    fn call(&self, p: &mut L::Pass, ask: &Ask) -> Outcome {
-        call_queue(self, p, ask)
+    fn call(&self, p: &mut L::Pass, ask: &Ask, turns: u64) -> Outcome {
+        call_queue(self, p, ask, turns)
+    }
+
+    fn call_and_stop(&self, p: &mut L::Pass) -> Outcome {
+        let job = u64::from(self.links().agent(p)) << 32;
+        match self.put_and_stop(p, job) {
+            Some(at) => Outcome::Put(job, at),
+            None => Outcome::Unchanged,
+        }
     }
 }
 
@@ -65,8 +79,16 @@ impl<L: Ending<Rule = Chain>> Over<L> for OneList<L> {
         self.into_links()
     }
 
-    fn call(&self, p: &mut L::Pass, ask: &Ask) -> Outcome {
-        call_set(self, p, ask)
+    fn call(&self, p: &mut L::Pass, ask: &Ask, turns: u64) -> Outcome {
+        call_set(self, p, ask, turns)
+    }
+
+    fn call_and_stop(&self, p: &mut L::Pass) -> Outcome {
+        if self.mark_and_stop(p, 0) {
+            Outcome::Removed(0)
+        } else {
+            Outcome::Unchanged
+        }
     }
 }
 
@@ -81,8 +103,16 @@ impl<L: Ending<Rule = Chain>> Over<L> for Set<L> {
         self.into_links()
     }
 
-    fn call(&self, p: &mut L::Pass, ask: &Ask) -> Outcome {
-        call_set(self, p, ask)
+    fn call(&self, p: &mut L::Pass, ask: &Ask, turns: u64) -> Outcome {
+        call_set(self, p, ask, turns)
+    }
+
+    fn call_and_stop(&self, p: &mut L::Pass) -> Outcome {
+        if self.mark_and_stop(p, 0) {
+            Outcome::Removed(0)
+        } else {
+            Outcome::Unchanged
+        }
     }
 }
 
@@ -90,18 +120,22 @@ impl<L: Ending<Rule = Chain>> Over<L> for Set<L> {
 #[derive(Drop)]
 pub(crate) struct Rooted<L: Ending, C: Over<L>> {
     container: C,
+    turns: u64,
+    stop: Stop,
     of: PhantomData<L>,
     ghost root: { 0 < (L.numbers (C.domain_of container)).roots },
 }
 
 impl<L: Ending, C: Over<L>> Rooted<L, C> {
-    // Takes a container over a domain that has a root.
-    pub(crate) fn new(container: C) -> Rooted<L, C>
+    // Takes a container over a domain that has a root, whose calls are made and stopped as the settings say.
+    pub(crate) fn new(container: C, settings: &Settings) -> Rooted<L, C>
         requires { 0 < (L.numbers (C.domain_of container)).roots }
         ensures { result.container ≡ container }
     {
         Rooted {
             container,
+            turns: u64::from(settings.turns),
+            stop: settings.stop,
             of: PhantomData,
         }
     }
@@ -123,19 +157,22 @@ impl<L: Ending, C: Over<L>> Container for Rooted<L, C> {
     }
 
     fn call(&self, p: &mut L::Pass, ask: &Ask) -> Outcome {
-        self.container.call(p, ask)
+        self.container.call(p, ask, self.turns)
     }
 
     fn backlog(&self, p: &L::Pass) -> u32 {
         self.container.domain().backlog(p)
     }
 
-    fn stop(&self, p: &mut L::Pass) -> Option<Held> {
-        hold_first(self.container.domain(), p)
+    fn stop(&self, p: &mut L::Pass) -> (Option<Held>, Outcome) {
+        match self.stop {
+            Stop::First => (hold_first(self.container.domain(), p), Outcome::Unchanged),
+            Stop::Tail | Stop::Marked => (None, self.container.call_and_stop(p)),
+        }
     }
 
-    fn go_on(&self, p: &mut L::Pass, hold: Option<Held>) {
-        let_go(self.container.domain(), p, hold);
+    fn go_on(&self, p: &mut L::Pass, hold: Option<Held>) -> u32 {
+        let_go(self.container.domain(), p, hold)
     }
 }
 

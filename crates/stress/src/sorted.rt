@@ -26,26 +26,26 @@ impl Keys {
     // Inserts a key where it belongs, unless it is there.
     fn insert(&mut self, key: u64) -> Outcome {
         let Err(at) = self.keys.binary_search(&key) else {
-            return Outcome::Nothing;
+            return Outcome::Unchanged;
         };
         if self.keys.insert(at, key).is_err() {
             return Outcome::Refused(Answer::NoNode);
         }
         self.inserted = self.inserted.wrapping_add(1);
-        Outcome::Put(key, 0)
+        Outcome::Inserted(key)
     }
 
     // Removes a key, if it is there.
     fn remove(&mut self, key: u64) -> Outcome {
         let Ok(at) = self.keys.binary_search(&key) else {
-            return Outcome::Nothing;
+            return Outcome::Unchanged;
         };
         match self.keys.remove(at) {
             Some(found) => {
                 self.removed = self.removed.wrapping_add(1);
                 Outcome::Removed(found)
             }
-            None => Outcome::Nothing,
+            None => Outcome::Unchanged,
         }
     }
 
@@ -53,7 +53,7 @@ impl Keys {
     fn find(&self, key: u64) -> Outcome {
         match self.keys.binary_search(&key) {
             Ok(_) => Outcome::Found,
-            Err(_) => Outcome::Nothing,
+            Err(_) => Outcome::Unchanged,
         }
     }
 
@@ -94,9 +94,13 @@ impl Container for Sorted {
         0
     }
 
-    fn stop(&self, _p: &mut Keys) {}
+    fn stop(&self, _p: &mut Keys) -> ((), Outcome) {
+        ((), Outcome::Unchanged)
+    }
 
-    fn go_on(&self, _p: &mut Keys, _hold: ()) {}
+    fn go_on(&self, _p: &mut Keys, _hold: ()) -> u32 {
+        0
+    }
 }
 
 impl Resting for Sorted {

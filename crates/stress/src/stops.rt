@@ -4,6 +4,7 @@ ghost use Rattle.std.specs.Prelude.{◌≡◌, ◌<◌};
 ghost use Rattle.orc_heap.specs.Seats.{IsIdle};
 ghost use Rattle.stress.specs.Stops.{IsStopped};
 
+use crate::domains::Ending;
 use orc_heap::{At, Held, Links, Looked};
 
 // Holds the first node behind root 0, where there is one.
@@ -34,13 +35,15 @@ fn release<L: Links>(links: &L, p: &mut L::Pass, held: Option<Held>)
     }
 }
 
-// Lets go of it, and works through what was retired meanwhile.
-pub(crate) fn let_go<L: Links>(links: &L, p: &mut L::Pass, held: Option<Held>)
+// Lets go of it, and works through what was retired meanwhile and waited for the agent: so many rows.
+pub(crate) fn let_go<L: Ending>(links: &L, p: &mut L::Pass, held: Option<Held>) -> u32
     requires stopped { IsStopped L.Links links.now held p.old }
     ensures pass { L.belongs links.now p.new }
     ensures idle { IsIdle (L.seat links.now p.new) }
     ensures agent { (L.seat links.now p.new).agent ≡ (L.seat links.now p.old).agent }
 {
     release(links, p, held);
+    let waiting = links.backlog(p);
     links.settle(p);
+    waiting
 }
