@@ -101,7 +101,7 @@ fn clear<L: Links<Rule = OwnRoots>>(links: &L, p: &mut L::Pass, top: &Held)
 fn look_at<L: Links<Rule = OwnRoots>>(links: &L, p: &mut L::Pass, place: &At, slot: u32) -> Held
     requires pass { L.belongs links.now p.old }
     requires slot { IsFree (L.seat links.now p.old).slots slot }
-    requires place { HoldsPlace (L.numbers links.now).roots (L.seat links.now p.old).slots place.now }
+    requires place { HoldsPlace (L.numbers links.now) (L.seat links.now p.old).slots place.now }
     requires stack { (to : ℕ) × LeadsTo (L.numbers links.now) (L.seat links.now p.old) (place_in (L.seat links.now p.old).slots place.now) to }
     ensures pass { L.belongs links.now p.new }
     ensures found { Finds (L.numbers links.now) (place_in (L.seat links.now p.old).slots place.now) slot (L.seat links.now p.old) result

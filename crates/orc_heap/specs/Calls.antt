@@ -11,7 +11,7 @@ use Rattle.orc_history.specs.Journals.{own_of}
 use Rattle.orc_heap.specs.Seats.{Seat, link_in, place_in, target_in}
 use Rattle.orc_heap.specs.Slots.{Hold, Slots, id_in}
 use Rattle.orc_heap.specs.declared.events.Act.{Act}
-use Rattle.orc_heap.specs.declared.events.Act.TheVariants.{Aim, Fill, Give, Look, Miss, Move}
+use Rattle.orc_heap.specs.declared.events.Act.TheVariants.{Aim, AimSide, Fill, Give, Look, Miss, Move}
 use Rattle.orc_heap.specs.declared.events.Event.{Event}
 use Rattle.orc_heap.specs.declared.events.Link.{Link}
 use Rattle.orc_heap.specs.declared.events.Place.{Place}
@@ -41,6 +41,10 @@ fill_of s fresh which value = event_of s (Fill (id_in s.slots fresh) which value
 abbrev pub aim_of : {N : Type 0} → Seat N → Hold → Option (Bor Hold) → Event N
 aim_of s fresh to = event_of s (Aim (id_in s.slots fresh) (target_in s.slots to)) None
 
+-- the AimSide that a caller asks for
+abbrev pub aim_side_of : {N : Type 0} → Seat N → Hold → Option (Bor Hold) → Event N
+aim_side_of s fresh to = event_of s (AimSide (id_in s.slots fresh) (target_in s.slots to)) None
+
 module _ {N : Type 0} (may : List (Event N) → Event N → Type 0) (n : HeapNumbers) where
   -- the discipline allows this Look, wherever the place shows the link
   abbrev pub MayLook : Seat N → At → Want → Option N → Type 0
@@ -55,6 +59,10 @@ module _ {N : Type 0} (may : List (Event N) → Event N → Type 0) (n : HeapNum
   -- it allows this Aim, wherever that fits
   abbrev pub MayAim : Seat N → Hold → Option (Bor Hold) → Type 0
   MayAim s fresh to = AllowedWhereFits may n s.agent s.seen (aim_of s fresh to)
+
+  -- it allows this AimSide, wherever that fits
+  abbrev pub MayAimSide : Seat N → Hold → Option (Bor Hold) → Type 0
+  MayAimSide s fresh to = AllowedWhereFits may n s.agent s.seen (aim_side_of s fresh to)
 
 -- a node that was given to this agent and has these values, null links, and no link to it
 abbrev pub given_node : ℕ → ℕ → ℕ → Node

@@ -8,9 +8,9 @@ use Rattle.orc_heap.specs.Slots.{Hold, Holds, Slots, id_in}
 use Rattle.orc_heap.specs.declared.events.Event.{Event}
 use Rattle.orc_heap.specs.declared.events.Link.{Link}
 use Rattle.orc_heap.specs.declared.events.Place.{Place}
-use Rattle.orc_heap.specs.declared.events.Place.TheVariants.{Next, Root}
+use Rattle.orc_heap.specs.declared.events.Place.TheVariants.{Next, Root, Side}
 use Rattle.orc_heap.specs.declared.holds.At.{At}
-use Rattle.orc_heap.specs.declared.holds.At.TheVariants.{Node as AtNode, Root as AtRoot}
+use Rattle.orc_heap.specs.declared.holds.At.TheVariants.{Node as AtNode, Root as AtRoot, Side as AtSide}
 use Rattle.orc_heap.specs.declared.holds.Want.{Want}
 use Rattle.orc_heap.specs.declared.holds.Want.TheVariants.{Node as WantNode, Null as WantNull}
 
@@ -34,11 +34,13 @@ pub record IsIdle {N : Type 0} (s : Seat N) : Type 0 where
 abbrev pub place_in : Slots → At → Place
 place_in slots (AtRoot r) = Root r
 place_in slots (AtNode h) = Next (id_in slots h.now)
+place_in slots (AtSide h) = Side (id_in slots h.now)
 
--- it is a root of the heap, or in a node that is held
-abbrev pub HoldsPlace : ℕ → Slots → At → Type 0
-HoldsPlace roots slots (AtRoot r) = r < roots
-HoldsPlace roots slots (AtNode h) = Holds slots h.now
+-- it is a root of the heap, or in a node that is held; second links are there where nodes have two
+abbrev pub HoldsPlace : HeapNumbers → Slots → At → Type 0
+HoldsPlace n slots (AtRoot r) = r < n.roots
+HoldsPlace n slots (AtNode h) = Holds slots h.now
+HoldsPlace n slots (AtSide h) = Holds slots h.now × (n.links ≡ 2)
 
 -- the link that a caller names
 abbrev pub link_in : Slots → Want → Link
@@ -65,12 +67,13 @@ pub record HoldsFresh {N : Type 0} (s : Seat N) (h : Hold) : Type 0 where
   pub held : Holds s.slots h
   pub fresh : s.fresh ≡ Some (id_in s.slots h)
 
--- the place isn't the link of the fresh node
+-- the place isn't a link of the fresh node
 abbrev pub IsNotFresh : {N : Type 0} → Seat N → At → Type 0
 IsNotFresh s (AtRoot r) = Unit {0}
 IsNotFresh s (AtNode h) = s.fresh ≢ Some (id_in s.slots h.now)
+IsNotFresh s (AtSide h) = s.fresh ≢ Some (id_in s.slots h.now)
 
--- the node was given to this agent, and no Aim and no Move made a link to it
+-- the node was given to this agent, and no Aim, AimSide or Move made a link to it
 pub record IsUntouched (agent : ℕ) (h : Heap) (id : ℕ) : Type 0 where
   pub node : Node
   pub there : slice_get h.nodes id ≡ Some node

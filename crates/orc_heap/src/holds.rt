@@ -47,11 +47,12 @@ impl Held {
     }
 }
 
-/// Where a link stands: at a root, or in a node that is held.
+/// Where a link stands: at a root, or in a node that is held, as its first or its second link.
 #[derive(Clone, Copy)]
 pub enum At<'a> {
     Root(u32),
     Node(&'a Held),
+    Side(&'a Held),
 }
 
 /// A link that a caller names, with its mark: null, or to a node that is held.

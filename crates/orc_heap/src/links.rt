@@ -13,7 +13,7 @@ ghost use Rattle.orc_heap.specs.Slots.{Hold, Holds, IsFree, id_in};
 ghost use Rattle.orc_heap.specs.Seats.{HoldsFresh, HoldsPlace, HoldsTarget, HoldsWant, IsIdle, IsNotFresh, IsUntouched, Seat, place_in};
 ghost use Rattle.orc_heap.specs.OwnEvents.{IsBelow, Only};
 ghost use Rattle.orc_history.specs.Parts.{InPart, IsAlone};
-ghost use Rattle.orc_heap.specs.Calls.{Gives, Learns, Looks, MayAim, MayLook, MayMove, ReadsValue, RefusesAim, RefusesSwing, Releases, Swings, Tests, aim_of, fill_of};
+ghost use Rattle.orc_heap.specs.Calls.{Gives, Learns, Looks, MayAim, MayAimSide, MayLook, MayMove, ReadsValue, RefusesAim, RefusesSwing, Releases, Swings, Tests, aim_of, aim_side_of, fill_of};
 ghost use Rattle.orc_heap.specs.declared.events.Event.{Event};
 
 use crate::discipline::Discipline;
@@ -76,7 +76,7 @@ pub trait Links {
     fn agent(&self, p: &Self::Pass) -> u32
         ensures { result ≡ (seat self.now p.now).agent };
 
-    /// Gives a new node with these values and a null link, held in this slot. It is the pass's fresh node until it is
+    /// Gives a new node with these values and null links, held in this slot. It is the pass's fresh node until it is
     /// linked or released. NoNode leaves all as it was.
     fn give(&self, p: &mut Self::Pass, slot: u32, first: u64, second: u64) -> Result<Held, NoNode>
         requires pass { belongs self.now p.old }
@@ -101,7 +101,7 @@ pub trait Links {
     /// One try of a protected load: reads the link, protects its target in this slot, and reads the link again.
     fn look(&self, p: &mut Self::Pass, place: &At, slot: u32) -> Looked
         requires pass { belongs self.now p.old }
-        requires place { HoldsPlace (numbers self.now).roots (seat self.now p.old).slots place.now }
+        requires place { HoldsPlace (numbers self.now) (seat self.now p.old).slots place.now }
         requires slot { IsFree (seat self.now p.old).slots slot }
         ensures pass { belongs self.now p.new }
         ensures later { IsPrefix (journal p.old) (journal p.new) }
@@ -116,7 +116,7 @@ pub trait Links {
         note: Option<<Self::Rule as Discipline>::Note>,
     ) -> bool
         requires pass { belongs self.now p.old }
-        requires place { HoldsPlace (numbers self.now).roots (seat self.now p.old).slots place.now }
+        requires place { HoldsPlace (numbers self.now) (seat self.now p.old).slots place.now }
         requires link { HoldsWant (seat self.now p.old).slots link.now }
         requires allowed { MayLook (Self.Rule.may (numbers self.now)) (numbers self.now) (seat self.now p.old) place.now link.now note }
         ensures pass { belongs self.now p.new }
@@ -133,7 +133,7 @@ pub trait Links {
         ensures value { ReadsValue (run_heap (numbers self.now) (seat self.now p.new).seen) (id_in (seat self.now p.old).slots h.now) which result }
         ensures nothing { Only [] (seat self.now p.old) (seat self.now p.new) };
 
-    /// Sets the link of the fresh node. Spent leaves it as it was.
+    /// Sets the first link of the fresh node. Spent leaves it as it was.
     fn aim(&self, p: &mut Self::Pass, fresh: &Held, to: Option<&Held>) -> Result<(), Spent>
         requires pass { belongs self.now p.old }
         requires fresh { HoldsFresh (seat self.now p.old) fresh.now }
@@ -142,6 +142,21 @@ pub trait Links {
         ensures pass { belongs self.now p.new }
         ensures later { IsPrefix (journal p.old) (journal p.new) }
         ensures aimed { IfOk result (λ _. Only (aim_of (seat self.now p.old) fresh.now to.entry ∷ []) (seat self.now p.old) (seat self.now p.new)) }
+        ensures none { IfErr result (λ e. Only [] (seat self.now p.old) (seat self.now p.new)) }
+        ensures spent { IfErr result (λ e. RefusesAim (seat self.now p.old).slots to.entry e (seat self.now p.new).seen) }
+        ensures worn { IfErr result (λ e. InPart agent_of (seat self.now p.old).agent (journal p.old) (journal p.new)
+            (worn self.now (seat self.now p.old).agent e (journal p.new))) };
+
+    /// Sets the second link of the fresh node, where nodes have two. Spent leaves it as it was.
+    fn aim_side(&self, p: &mut Self::Pass, fresh: &Held, to: Option<&Held>) -> Result<(), Spent>
+        requires pass { belongs self.now p.old }
+        requires two { (numbers self.now).links ≡ 2 }
+        requires fresh { HoldsFresh (seat self.now p.old) fresh.now }
+        requires target { HoldsTarget (seat self.now p.old) to }
+        requires allowed { MayAimSide (Self.Rule.may (numbers self.now)) (numbers self.now) (seat self.now p.old) fresh.now to }
+        ensures pass { belongs self.now p.new }
+        ensures later { IsPrefix (journal p.old) (journal p.new) }
+        ensures aimed { IfOk result (λ _. Only (aim_side_of (seat self.now p.old) fresh.now to.entry ∷ []) (seat self.now p.old) (seat self.now p.new)) }
         ensures none { IfErr result (λ e. Only [] (seat self.now p.old) (seat self.now p.new)) }
         ensures spent { IfErr result (λ e. RefusesAim (seat self.now p.old).slots to.entry e (seat self.now p.new).seen) }
         ensures worn { IfErr result (λ e. InPart agent_of (seat self.now p.old).agent (journal p.old) (journal p.new)
@@ -157,7 +172,7 @@ pub trait Links {
         note: Option<<Self::Rule as Discipline>::Note>,
     ) -> Result<bool, Spent>
         requires pass { belongs self.now p.old }
-        requires place { HoldsPlace (numbers self.now).roots (seat self.now p.old).slots place.now }
+        requires place { HoldsPlace (numbers self.now) (seat self.now p.old).slots place.now }
         requires linked { IsNotFresh (seat self.now p.old) place.now }
         requires links { HoldsWant (seat self.now p.old).slots from.now × HoldsWant (seat self.now p.old).slots to.now }
         requires allowed { MayMove (Self.Rule.may (numbers self.now)) (numbers self.now) (seat self.now p.old) place.now from.now to.now note }

@@ -2,6 +2,7 @@
 
 ghost use Rattle.std.specs.Prelude.{◌≡◌, ◌≢◌, ◌≤◌, ◌<◌, ℕ, None, Some, false};
 ghost use mathlib.Core.List.{IsPrefix};
+ghost use Rattle.orc_heap.specs.Heap.{HeapNumbers};
 ghost use Rattle.orc_heap.specs.Slots.{Holds, Slots};
 ghost use Rattle.orc_heap.specs.Seats.{HoldsPlace, HoldsWant, link_in, place_in};
 ghost use Rattle.orc_list.specs.Turns.{first_or, place_at, target_at};
@@ -106,7 +107,7 @@ pub(crate) fn spare_slot(left: u32, first: u32, at: u32) -> u32
 // The left place.
 pub(crate) fn place_of<'a>(root: u32, left: &'a Option<Held>) -> At<'a>
     ensures place { (slots : Slots) → place_in slots result ≡ place_at slots root left.now }
-    ensures held { (roots : ℕ) (slots : Slots) → root < roots → HoldsIfAny slots left.now → HoldsPlace roots slots result }
+    ensures held { (n : HeapNumbers) (slots : Slots) → root < n.roots → HoldsIfAny slots left.now → HoldsPlace n slots result }
 {
     match left {
         Some(node) => At::Node(node),

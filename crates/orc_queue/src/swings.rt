@@ -30,7 +30,7 @@ pub(crate) fn change<L: Links<Rule = Fifo>>(
     noted: FifoNote,
 ) -> bool
     requires pass { L.belongs links.now p.old }
-    requires place { HoldsPlace (L.numbers links.now).roots (L.seat links.now p.old).slots place.now }
+    requires place { HoldsPlace (L.numbers links.now) (L.seat links.now p.old).slots place.now }
     requires linked { IsNotFresh (L.seat links.now p.old) place.now }
     requires links { HoldsWant (L.seat links.now p.old).slots from.now × HoldsWant (L.seat links.now p.old).slots to.now }
     requires allowed { AllowedLater (FifoMay (L.numbers links.now)) (L.numbers links.now)

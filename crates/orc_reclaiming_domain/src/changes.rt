@@ -88,7 +88,7 @@ impl<D: Discipline> OrcDomain<D> {
         requires belongs { Belongs self.now.board p.old }
         requires ready { IsReady (shows p.old).record_is }
         requires untouched { IsFreshUntouched (domain_numbers self.now) (seat_by (domain_bounds self.now) (shows p.old)) }
-        requires place { HoldsPlace (domain_numbers self.now).roots (seat_by (domain_bounds self.now) (shows p.old)).slots place.now }
+        requires place { HoldsPlace (domain_numbers self.now) (seat_by (domain_bounds self.now) (shows p.old)).slots place.now }
         requires linked { IsNotFresh (seat_by (domain_bounds self.now) (shows p.old)) place.now }
         requires links { HoldsWant (seat_by (domain_bounds self.now) (shows p.old)).slots from.now
             × HoldsWant (seat_by (domain_bounds self.now) (shows p.old)).slots to.now }

@@ -119,7 +119,7 @@ impl<D: Discipline> Links for OrcDomain<D> {
     /// link moved, it takes in what was handed over beside the slot meanwhile.
     fn look(&self, p: &mut OrcPass<D>, place: &At, slot: u32) -> Looked
         requires pass { IsPassOf self.now p.old }
-        requires place { HoldsPlace (domain_numbers self.now).roots (seat_of self.now p.old).slots place.now }
+        requires place { HoldsPlace (domain_numbers self.now) (seat_of self.now p.old).slots place.now }
         requires slot { IsFree (seat_of self.now p.old).slots slot }
         ensures pass { IsPassOf self.now p.new }
         ensures later { IsPrefix (journal_of p.old) (journal_of p.new) }
@@ -161,7 +161,7 @@ impl<D: Discipline> Links for OrcDomain<D> {
         note: Option<<Self::Rule as Discipline>::Note>,
     ) -> bool
         requires pass { IsPassOf self.now p.old }
-        requires place { HoldsPlace (domain_numbers self.now).roots (seat_of self.now p.old).slots place.now }
+        requires place { HoldsPlace (domain_numbers self.now) (seat_of self.now p.old).slots place.now }
         requires link { HoldsWant (seat_of self.now p.old).slots link.now }
         requires allowed { MayLook (D.may (domain_numbers self.now)) (domain_numbers self.now) (seat_of self.now p.old) place.now link.now note }
         ensures pass { IsPassOf self.now p.new }
@@ -236,7 +236,7 @@ impl<D: Discipline> Links for OrcDomain<D> {
         note: Option<<Self::Rule as Discipline>::Note>,
     ) -> Result<bool, Spent>
         requires pass { IsPassOf self.now p.old }
-        requires place { HoldsPlace (domain_numbers self.now).roots (seat_of self.now p.old).slots place.now }
+        requires place { HoldsPlace (domain_numbers self.now) (seat_of self.now p.old).slots place.now }
         requires linked { IsNotFresh (seat_of self.now p.old) place.now }
         requires links { HoldsWant (seat_of self.now p.old).slots from.now × HoldsWant (seat_of self.now p.old).slots to.now }
         requires allowed { MayMove (D.may (domain_numbers self.now)) (domain_numbers self.now) (seat_of self.now p.old) place.now from.now to.now note }

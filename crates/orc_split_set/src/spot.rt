@@ -99,7 +99,7 @@ pub(crate) fn spare_slot(left: u32, first: u32, at: u32) -> u32
 // The place at which a search begins: the link of the node in hand, or else root 0.
 pub(crate) fn place_from<'a>(left: &'a Option<Held>) -> At<'a>
     ensures place { (slots : Slots) → place_in slots result ≡ place_at slots 0 left.now }
-    ensures held { (roots : ℕ) (slots : Slots) → 0 < roots → HoldsIfAny slots left.now → HoldsPlace roots slots result }
+    ensures held { (n : HeapNumbers) (slots : Slots) → 0 < n.roots → HoldsIfAny slots left.now → HoldsPlace n slots result }
 {
     match left {
         Some(node) => At::Node(node),

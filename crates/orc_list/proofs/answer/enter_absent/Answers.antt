@@ -9,7 +9,7 @@ same-entered-requires-clause-place g c =
     let d = c.args.links.now in
     let t = g.L.Links.seat d c.args.p.now in
     let (s, f) = c.requires.absent in
-    c.place_of.ensures.held _ t.slots c.requires.root (first_held s.slots t.slots _ f.left_id _ f.hands)
+    c.place_of.ensures.held (g.L.Links.numbers d) t.slots c.requires.root (first_held s.slots t.slots _ f.left_id _ f.hands)
 
 pub same-entered-requires-clause-link : goal.same-entered-requires-clause-link
 same-entered-requires-clause-link g c =

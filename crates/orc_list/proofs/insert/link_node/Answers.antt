@@ -42,7 +42,7 @@ pub swing-requires-clause-place : goal.swing-requires-clause-place
 swing-requires-clause-place g c =
     let d = c.args.links.now in
     let t = g.L.Links.seat d c.aim.new.p in
-    c.place_of.ensures.held _ t.slots c.requires.root (subst (λ (z : Slots). HoldsIfAny z c.args.left.now) (sym c.in_ok-aim.ensures.aimed.slots)
+    c.place_of.ensures.held (g.L.Links.numbers d) t.slots c.requires.root (subst (λ (z : Slots). HoldsIfAny z c.args.left.now) (sym c.in_ok-aim.ensures.aimed.slots)
     c.requires.held.0)
 
 pub swing-requires-clause-links : goal.swing-requires-clause-links

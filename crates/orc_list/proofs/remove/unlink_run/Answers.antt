@@ -8,7 +8,7 @@ use Rattle.orc_list.proofs.remove.unlink_run.Goals as goal
 pub swing-tried-requires-clause-place : goal.swing-tried-requires-clause-place
 swing-tried-requires-clause-place g c =
     let s = g.L.Links.seat c.args.links.now c.args.p.now in
-    c.place_of.ensures.held _ s.slots c.requires.root c.requires.held.0
+    c.place_of.ensures.held (g.L.Links.numbers c.args.links.now) s.slots c.requires.root c.requires.held.0
 
 pub swing-tried-requires-clause-linked : goal.swing-tried-requires-clause-linked
 swing-tried-requires-clause-linked g c =
