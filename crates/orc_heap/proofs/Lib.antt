@@ -14,6 +14,7 @@ pub mod Pieces
 pub mod Calls
 pub mod Roots
 pub mod Runs
+pub mod Sides
 pub mod Slots
 pub mod Stays
 pub mod Steps

@@ -100,7 +100,7 @@ linked_after agent (Move (Side t) from to) h d old fits there linked =
     target_keeps as_linked linked_keeps (λ n. refl) to.to (change_node (with_side to) t h) d old _ (side_moved t d to h old there linked)
 linked_after agent (Miss place wanted found) h d old fits there linked = unchanged h d old there linked
 
-either_side : (b : Bool) (x y : Node) (link : Link) → x.side ≡ link → y.side ≡ link → (if b then x else y).side ≡ link
+pub either_side : (b : Bool) (x y : Node) (link : Link) → x.side ≡ link → y.side ≡ link → (if b then x else y).side ≡ link
 either_side true x y link e f = e
 either_side false x y link e f = f
 

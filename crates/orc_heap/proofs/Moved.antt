@@ -85,7 +85,7 @@ pub shown_side : (h : Heap) (id : ℕ) (node : Node) → slice_get h.nodes id �
 shown_side h id node there = ap (λ o. cond (nat_lt 1 h.links) (option_map (λ (x : Node). x.side) o) None) there
 
 -- a once linked node's second link after an act
-side_shown : (agent : ℕ) (act : Act) (h : Heap) (id : ℕ) (old : Node) (link : Link) → Fits agent act h → slice_get h.nodes id ≡ Some old → old.linked ≡ true
+pub side_shown : (agent : ℕ) (act : Act) (h : Heap) (id : ℕ) (old : Node) (link : Link) → Fits agent act h → slice_get h.nodes id ≡ Some old → old.linked ≡ true
     → moved_side act id old.side ≡ link → shown (heap_after agent act h) (Side id) ≡ cond (nat_lt 1 h.links) (Some link) None
 side_shown agent act h id old link fits there linked same =
     shown_side (heap_after agent act h) id (touched act id old) (node-after agent act h id old there)

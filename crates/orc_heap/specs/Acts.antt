@@ -17,6 +17,11 @@ with_link link n = record n { link = link }
 abbrev pub with_side : Link → Node → Node
 with_side link n = record n { side = link }
 
+-- the node with its link of this number, 0 or 1, set
+abbrev pub with_numbered : ℕ → Link → Node → Node
+with_numbered zero link n = with_link link n
+with_numbered (suc number) link n = with_side link n
+
 abbrev pub as_named : Node → Node
 as_named n = record n { named = true }
 
@@ -47,6 +52,11 @@ heap_after agent (AimSide id to) h = change_target as_named to (change_node (wit
 heap_after agent (Look place link) h = h
 heap_after agent (Move place from to) h = change_target as_linked to.to (set_link place to h)
 heap_after agent (Miss place wanted found) h = h
+
+-- an Aim of a node's link of this number, 0 or 1
+abbrev pub aim_act : ℕ → ℕ → Option ℕ → Act
+aim_act zero id to = Aim id to
+aim_act (suc number) id to = AimSide id to
 
 -- the node was given to this agent, and no Move made a link to it
 pub record IsFresh (agent : ℕ) (h : Heap) (id : ℕ) : Type 0 where

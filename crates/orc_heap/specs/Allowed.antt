@@ -1,6 +1,6 @@
 -- Events that a discipline allows: where they stand, and in every later journal of an agent.
 use Rattle.std.specs.Prelude.{List, None, Some, [], filter, slice_get, true, ℕ, ◌++◌, ◌<◌, ◌==◌, ◌∷◌, ◌≡◌, ◌⊎◌}
-use Rattle.orc_heap.specs.Heap.{Heap, HeapNumbers, Node, shown}
+use Rattle.orc_heap.specs.Heap.{Heap, HeapNumbers, Node, null, shown}
 use Rattle.orc_heap.specs.Journals.{FitsAfter, run_heap}
 use Rattle.orc_heap.specs.declared.events.Act.{Act}
 use Rattle.orc_heap.specs.declared.events.Act.TheVariants.{Move}
@@ -52,7 +52,19 @@ MovesLinked (Move (Next id) from to) h = IsLinkedNode h id
 MovesLinked (Move (Side id) from to) h = IsLinkedNode h id
 MovesLinked act h = Unit {0}
 
--- the first link of each once linked node is null or names a once linked node of a greater rank
+-- the link is null, or names a once linked node of a greater rank than the node of this id
+abbrev pub LeadsUp : (ℕ → ℕ) → Heap → ℕ → Link → Type 0
+LeadsUp rank h id link = (link.to ≡ None) ⊎ ((next : ℕ) × (link.to ≡ Some next) × IsLinkedNode h next × (rank id < rank next))
+
+-- each link of each once linked node does so: the first, and the second where nodes have two
 abbrev pub Rises : (ℕ → ℕ) → Heap → Type 0
 Rises rank h = (id : ℕ) (n : Node) → slice_get h.nodes id ≡ Some n → n.linked ≡ true
-    → (n.link.to ≡ None) ⊎ ((next : ℕ) × (n.link.to ≡ Some next) × IsLinkedNode h next × (rank id < rank next))
+    → LeadsUp rank h id n.link × (1 < h.links → LeadsUp rank h id n.side)
+
+-- the node's second link, if there is one, is null
+abbrev pub HasNullSide : Heap → ℕ → Type 0
+HasNullSide h id = (link : Link) → shown h (Side id) ≡ Some link → link ≡ null
+
+-- so is that of each once linked node
+abbrev pub AreSidesNull : Heap → Type 0
+AreSidesNull h = (id : ℕ) → IsLinkedNode h id → HasNullSide h id

@@ -34,12 +34,12 @@ pub trait Discipline {
         → holds n seen → may n seen e → MovesLinked e.act (run_heap n seen) };
 }
 
-/// A discipline whose first links rise, so that they lead in no circle.
+/// A discipline whose links rise, first and second ones alike, so that they lead in no circle.
 pub trait Ranked: Discipline {
     // after these events, the rank of the node of this id
     ghost rank: { HeapNumbers → List (Event Self.Note) → ℕ → ℕ };
 
-    // the first link of each once linked node is null or names a once linked node of a greater rank
+    // each link of each once linked node is null or names a once linked node of a greater rank
     ghost rises: { (n : HeapNumbers) (seen : List (Event Self.Note))
         → Self.holds n seen → Rises (rank n seen) (run_heap n seen) };
 }
