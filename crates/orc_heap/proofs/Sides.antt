@@ -9,7 +9,7 @@ use Rattle.orc_heap.proofs.Linked.{either_side}
 use Rattle.orc_heap.proofs.Moved.{same_links, shown_side, side_shown}
 use Rattle.orc_heap.proofs.SingleActs.{some_same}
 use Rattle.orc_heap.specs.Acts.{Fits, as_linked, heap_after, moved_side, with_link}
-use Rattle.orc_heap.specs.Allowed.{AreSidesNull, HasNullSide, IsLinkedNode}
+use Rattle.orc_heap.specs.Allowed.{AreSidesNull, HasNullSide, IsLinkedNode, LeadsUp}
 use Rattle.orc_heap.specs.Heap.{Heap, Node, null, shown}
 use Rattle.orc_heap.specs.Journals.{IsPlainAct, moves_to, names_node}
 use Rattle.orc_heap.specs.Moves.{move_with}
@@ -21,6 +21,11 @@ use Rattle.orc_heap.specs.declared.events.Place.TheVariants.{Next, Root, Side}
 -- where nodes have two links, that of a node that is there shows
 pub side_there : (h : Heap) (id : ℕ) (node : Node) → 1 < h.links → slice_get h.nodes id ≡ Some node → shown h (Side id) ≡ Some node.side
 side_there h id node two there = shown_side h id node there ∙ ap (λ (b : Bool). cond b (Some node.side) None) (lt-ltb 1 h.links two)
+
+-- a null second link leads up by any rank
+pub side_rises : (rank : ℕ → ℕ) (h : Heap) (id : ℕ) (node : Node) → slice_get h.nodes id ≡ Some node → HasNullSide h id → 1 < h.links
+    → LeadsUp rank h id node.side
+side_rises rank h id node there null two = inl (ap (λ (l : Link). l.to) (null node.side (side_there h id node two there)))
 
 -- a node with a null second link shows no other
 pub null_side : (h : Heap) (id : ℕ) (node : Node) → slice_get h.nodes id ≡ Some node → node.side ≡ null → HasNullSide h id
