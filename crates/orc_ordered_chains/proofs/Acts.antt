@@ -6,10 +6,10 @@ use Rattle.std.specs.Option.{option_map}
 use Rattle.orc_heap.proofs.Before.{linked_before}
 use Rattle.orc_heap.proofs.Changes.{get-change_other, get-change_same}
 use Rattle.orc_heap.proofs.Linked.{linked_after}
-use Rattle.orc_heap.proofs.Moved.{shown_after, shown_node, shown_side}
+use Rattle.orc_heap.proofs.Moved.{shown_after, shown_node}
 use Rattle.orc_heap.proofs.SingleActs.{node_shown, some_same}
 use Rattle.orc_heap.specs.Acts.{Fits, as_linked, change_target, heap_after, set_link, with_link, with_side}
-use Rattle.orc_heap.specs.Allowed.{IsLinkedNode}
+use Rattle.orc_heap.specs.Allowed.{AreSidesNull, IsLinkedNode}
 use Rattle.orc_heap.specs.Heap.{Heap, Node, change, null, shown}
 use Rattle.orc_heap.specs.Journals.{moves_to, names_node}
 use Rattle.orc_heap.specs.Moves.{IsLinkedPlace, move_with}
@@ -18,7 +18,7 @@ use Rattle.orc_heap.specs.declared.events.Act.TheVariants.{Aim, AimSide, Fill, G
 use Rattle.orc_heap.specs.declared.events.Link.{Link}
 use Rattle.orc_heap.specs.declared.events.Place.{Place}
 use Rattle.orc_heap.specs.declared.events.Place.TheVariants.{Next, Root, Side}
-use Rattle.orc_ordered_chains.specs.Chains.{AreSidesNull, HasNullSide, HasRank, IsChainPlace, Order}
+use Rattle.orc_ordered_chains.specs.Chains.{HasRank, IsChainPlace, Order}
 
 -- a once linked node keeps its values
 pub record KeepsValues (h k : Heap) : Type 0 where
@@ -201,14 +201,6 @@ act_unmoved agent act h fits plain = record {
 -- those that are null stay so
 pub sides_unmoved : (h k : Heap) → IsUnmoved h k → AreSidesNull h → AreSidesNull k
 sides_unmoved h k u null = λ id l link at. null id (u.old id l) link (sym (u.shows (Side id) (u.old id l)) ∙ at)
-
--- a node with a null second link shows no other
-pub null_side : (h : Heap) (id : ℕ) (node : Node) → slice_get h.nodes id ≡ Some node → node.side ≡ null → HasNullSide h id
-null_side h id node there is = λ link at. given (nat_lt 1 h.links) link (sym (shown_side h id node there) ∙ at)
-  where
-    given : (b : Bool) (link : Link) → cond b (Some node.side) None ≡ Some link → link ≡ null
-    given true link at = sym (some_same at) ∙ is
-    given false link at = cc
 
 -- ranks
 

@@ -1,7 +1,7 @@
 -- Chains of linked nodes in order of rank, and the Moves that keep them so. After Harris 2001.
 use Rattle.std.specs.Prelude.{Bool, List, None, Option, Some, [], false, slice_get, true, ℕ, ◌<◌, ◌∷◌, ◌≡◌}
-use Rattle.orc_heap.specs.Allowed.{HasLink, IsLinkedNode}
-use Rattle.orc_heap.specs.Heap.{Heap, Node, link_to, null, shown}
+use Rattle.orc_heap.specs.Allowed.{HasLink, HasNullSide}
+use Rattle.orc_heap.specs.Heap.{Heap, Node, link_to, shown}
 use Rattle.orc_heap.specs.declared.events.Link.{Link}
 use Rattle.orc_heap.specs.declared.events.Place.{Place}
 use Rattle.orc_heap.specs.declared.events.Place.TheVariants.{Next, Root, Side}
@@ -54,14 +54,6 @@ abbrev pub IsRun : Heap → Link → List ℕ → Option ℕ → Type 0
 IsRun h link [] to = link.to ≡ to
 IsRun h link (id ∷ ids) to =
     (link.to ≡ Some id) × (next : Link) × HasLink h id next × (next.mark ≡ true) × IsRun h next ids to
-
--- the node's second link, if there is one, is null
-abbrev pub HasNullSide : Heap → ℕ → Type 0
-HasNullSide h id = (link : Link) → shown h (Side id) ≡ Some link → link ≡ null
-
--- so is that of each once linked node
-abbrev pub AreSidesNull : Heap → Type 0
-AreSidesNull h = (id : ℕ) → IsLinkedNode h id → HasNullSide h id
 
 module _ (o : Order) where
   -- a root at which a chain begins, or the first link of a once linked node with a rank

@@ -14,7 +14,7 @@ use Rattle.orc_heap.specs.declared.events.Place.TheVariants.{Next, Root}
 use Rattle.orc_history.specs.SetHistory.{has}
 use Rattle.orc_history.specs.declared.set.SetEntry.TheVariants.{Added, Asked, Removed}
 use Rattle.orc_ordered_chains.specs.Chains.{IsAbove, IsChainPlace, IsOnChain, IsRun, MayLink, link_over}
-use Rattle.orc_ordered_chains.proofs.Acts.{null_side}
+use Rattle.orc_heap.proofs.Sides.{null_side}
 use Rattle.orc_ordered_chains.proofs.Later.{above_later, chain_place_later, follows_later, follows_on_chain, run_later, run_target}
 use Rattle.orc_ordered_chains.proofs.Paths.{absent}
 use Rattle.orc_split_rule.specs.declared.split.SplitNote.{SplitNote}

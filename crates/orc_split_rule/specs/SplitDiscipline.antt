@@ -1,7 +1,7 @@
 -- The split-order discipline: what the events of a split-ordered set obey. After Shalev and Shavit 2006, over the chains of Harris 2001.
 use Rattle.std.specs.Prelude.{List, None, Option, Some, [], false, slice_get, true, unwrap_or, ℕ, ◌*◌, ◌++◌, ◌-◌, ◌<◌, ◌↔◌, ◌∷◌, ◌≡◌, ◌≤◌, ◌^◌, ◌⊎◌}
 use Rattle.orc_heap.specs.Heap.{Heap, HeapNumbers, Node, link_to, null, shown}
-use Rattle.orc_heap.specs.Allowed.{HasLink, IsLinkedNode}
+use Rattle.orc_heap.specs.Allowed.{AreSidesNull, HasLink, HasNullSide, IsLinkedNode}
 use Rattle.orc_heap.specs.Journals.{FitsAfter, IsLawful, noted_entries, run_heap}
 use Rattle.orc_heap.specs.Moves.{move_with}
 use Rattle.orc_heap.specs.declared.events.Act.{Act}
@@ -14,7 +14,7 @@ use Rattle.orc_history.specs.SetHistory.{IsLegalSet, agent_of_set_entry, has, ke
 use Rattle.orc_history.specs.declared.set.SetEntry.{SetEntry}
 use Rattle.orc_history.specs.declared.set.SetEntry.TheVariants.{Added, Removed}
 use Rattle.orc_ordered_chains.specs.Answers.{MayAnswer}
-use Rattle.orc_ordered_chains.specs.Chains.{AreChains, AreSidesNull, HasNullSide, IsOnChain, LeadsTo, MayLink, MayUnlink}
+use Rattle.orc_ordered_chains.specs.Chains.{AreChains, IsOnChain, LeadsTo, MayLink, MayUnlink}
 use Rattle.orc_split_rule.specs.SplitOrder.{dummy_place, key_place, place_of, split_order}
 use Rattle.orc_split_rule.specs.declared.split.SplitNote.{SplitNote}
 use Rattle.orc_split_rule.specs.declared.split.SplitNote.TheVariants.{Anchor, Bucket, Entry, Grow, Unlink}

@@ -2,12 +2,12 @@
 use Rattle.std.proofs.Common.{None, Option, Some, ap, arith, false, inl, inr, refl, subst, suc, sym, zero, ℕ, ◌*◌, ◌<◌, ◌∙◌, ◌≡◌, ◌≢◌, ◌≤◌, ◌⊎◌}
 use Rattle.std.specs.List.{slice_get}
 use Rattle.orc_heap.proofs.SingleActs.{some_same}
-use Rattle.orc_heap.specs.Allowed.{IsLinkedNode}
+use Rattle.orc_heap.specs.Allowed.{HasNullSide, IsLinkedNode}
 use Rattle.orc_heap.specs.Heap.{Heap, null, shown}
 use Rattle.orc_heap.specs.declared.events.Link.{Link}
 use Rattle.orc_heap.specs.declared.events.Place.{Place}
 use Rattle.orc_heap.specs.declared.events.Place.TheVariants.{Next, Root, Side}
-use Rattle.orc_ordered_chains.specs.Chains.{HasNullSide, IsChainPlace, LeadsTo}
+use Rattle.orc_ordered_chains.specs.Chains.{IsChainPlace, LeadsTo}
 use Rattle.orc_ordered_chains.proofs.Acts.{IsLinkedIn, IsMoved, IsUnmoved, KeepsValues, chain_place_first, next_same, place_either, rank_before, rank_linked, sides_unmoved}
 use Rattle.orc_ordered_chains.proofs.Paths.{leads_same, moved_target}
 use Rattle.orc_ordered_chains.proofs.Still.{IsStill}

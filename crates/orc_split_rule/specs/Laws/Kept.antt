@@ -6,9 +6,10 @@ use Rattle.std.specs.Prelude.{unwrap_or}
 use Rattle.orc_heap.proofs.Linked.{linked_after}
 use Rattle.orc_heap.proofs.Moved.{shown_node}
 use Rattle.orc_heap.proofs.Runs.{lawful-snoc, run_heap-snoc}
+use Rattle.orc_heap.proofs.Sides.{side_rises}
 use Rattle.orc_heap.proofs.SingleActs.{linked_node, shown_link, some_same}
 use Rattle.orc_heap.specs.Acts.{Fits, heap_after}
-use Rattle.orc_heap.specs.Allowed.{HasLink, IsLinkedNode, MovesLinked, Rises}
+use Rattle.orc_heap.specs.Allowed.{HasLink, IsLinkedNode, LeadsUp, MovesLinked, Rises}
 use Rattle.orc_heap.specs.Heap.{Heap, HeapNumbers, Node, null, shown}
 use Rattle.orc_heap.specs.Journals.{FitsAfter, IsPlain, IsPlainAct, event_by, run_heap}
 use Rattle.orc_heap.specs.Moves.{IsLinkedPlace, move_with}
@@ -422,21 +423,22 @@ pub rank_at : (h : Heap) (id rank : ℕ) → HasRank split_order h id rank → p
 rank_at h id rank r = rw r.there (ap (λ (o : Option ℕ). unwrap_or o 0) r.rank_is)
 
 pub split_rises : (n : HeapNumbers) (seen : List (Event SplitNote)) → SplitHolds n seen → Rises (split_rank n seen) (run_heap n seen)
-split_rises n seen holds = λ id node there linked. cases id node there linked node.link.to refl
+split_rises n seen holds = λ id node there linked. (
+  cases id node there linked node.link.to refl,
+  side_rises (split_rank n seen) h id node there (holds.buckets.sides id (record { node = node; there = there; linked = linked })),
+)
   where
     h : Heap
     h = run_heap n seen
 
     cases : (id : ℕ) (node : Node) → slice_get (run_heap n seen).nodes id ≡ Some node → node.linked ≡ true → (to : Option ℕ) → node.link.to ≡ to
-        → (node.link.to ≡ None)
-        ⊎ ((next : ℕ) × (node.link.to ≡ Some next) × IsLinkedNode (run_heap n seen) next × (split_rank n seen id < split_rank n seen next))
+        → LeadsUp (split_rank n seen) (run_heap n seen) id node.link
     cases id node there linked None is = inl is
     cases id node there linked (Some next) is =
         let h : Heap = run_heap n seen in
         let l : IsLinkedNode h id = record { node = node; there = there; linked = linked } in
         let ranked : (rank : ℕ) → HasRank split_order h id rank
-        → (node.link.to ≡ None) ⊎ ((next : ℕ) × (node.link.to ≡ Some next) × IsLinkedNode h next × (split_rank n seen id < split_rank n seen next))
-        = λ rank own.
+        → LeadsUp (split_rank n seen) h id node.link = λ rank own.
         let (high, has_high, follows) =
         holds.chains.leads (Next id) next (rank, own) (record { link = node.link; at = shown_node h id node there; to_is = is }) in
         let (low, mine, less, same) = follows in
