@@ -19,6 +19,7 @@ use Rattle.orc_fifo_rule.specs.Laws.Events.{begun_more}
 use Rattle.orc_fifo_rule.specs.Laws.Nodes.{job_linked}
 use Rattle.orc_fifo_rule.specs.Laws.Paths.{path_ends, path_step, successor_linked}
 use Rattle.orc_heap.proofs.Fresh.{node_later}
+use Rattle.orc_heap.proofs.Sides.{null_side}
 use Rattle.orc_fifo_rule.specs.Laws.Kept.{fifo_fits, fifo_keeps, fifo_moves_linked}
 use Rattle.orc_fifo_rule.proofs.Later.{holds_later, job_later, link_later, named_later, next_position, position_later, still_named}
 use Rattle.orc_fifo_rule.proofs.Leaving.{left_later}
@@ -141,6 +142,7 @@ put_allowed n agent id fresh job at seen holds begun named position low there = 
         there = node;
         unlinked = refl;
         ends = refl;
+        side_null = null_side h fresh (node_to_put agent job at) node refl;
         holds = record { job_is = refl; position_is = refl; low = low };
       };
       in_time = begun_now;

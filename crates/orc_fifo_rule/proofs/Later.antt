@@ -37,6 +37,7 @@ nothing_yet n = record {
   puts = λ id job at put. absurd (omega (arith, put.among.1));
   links = λ id link l. let none : ◌≡◌ {A = Option Node} None (Some l.node) = l.there in cc;
   frozen = λ before after id link split l some. no_link n before after id link split l;
+  sides = λ id l. let none : ◌≡◌ {A = Option Node} None (Some l.node) = l.there in cc;
 }
 
 pub holds_later : (n : HeapNumbers) (seen more : List (Event FifoNote)) → FifoHolds n seen → AllAllowed (FifoMay n) seen more → FifoHolds n (seen ++ more)

@@ -6,4 +6,5 @@ pub mod Opening
 pub mod Paths
 pub mod Leaves
 pub mod Running
+pub mod Sides
 pub mod Kept

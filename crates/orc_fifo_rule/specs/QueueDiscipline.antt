@@ -2,7 +2,7 @@
 use Rattle.std.specs.Prelude.{Bool, Contains, List, None, Option, Some, [], false, length, slice_get, true, unwrap_or, ℕ, ◌&&◌, ◌++◌, ◌+◌, ◌<◌, ◌==◌, ◌^◌, ◌∷◌, ◌≡◌, ◌≢◌, ◌≤◌, ◌⊎◌}
 use Rattle.std.specs.List.{list_any, AllByRecursion}
 use Rattle.orc_heap.specs.Heap.{Heap, HeapNumbers, Node, link_to, null, shown}
-use Rattle.orc_heap.specs.Allowed.{HasLink, IsLinkedNode}
+use Rattle.orc_heap.specs.Allowed.{AreSidesNull, HasLink, HasNullSide, IsLinkedNode}
 use Rattle.orc_heap.specs.Journals.{FitsAfter, IsLawful, IsPlainAct, noted_entries, run_heap}
 use Rattle.orc_heap.specs.declared.events.Act.{Act}
 use Rattle.orc_heap.specs.declared.events.Act.TheVariants.{Look, Move}
@@ -128,15 +128,18 @@ pub record FifoHolds (n : HeapNumbers) (es : List (Event FifoNote)) : Type 0 whe
   -- once it isn't null it never changes
   pub frozen : (before after : List (Event FifoNote)) (id : ℕ) (link : Link) → es ≡ before ++ after
       → HasLink (run_heap n before) id link → link ≢ null → HasLink (run_heap n es) id link
+  -- the second link of a once linked node, if there is one, is null
+  pub sides : AreSidesNull (run_heap n es)
 
--- a Begin: root 0 or root 1 goes from null to node 0, whose link is null
+-- a Begin: root 0 or root 1 goes from null to node 0, whose links are null
 pub record MayBegin (h : Heap) (root : ℕ) (from to : Link) : Type 0 where
   pub root_is : root < 2
   pub from_is : from ≡ null
   pub to_is : to ≡ link_to 0
   pub ends : shown h (Next 0) ≡ Some null
+  pub side_null : HasNullSide h 0
 
--- a Put: the null link of the node that root 1 names goes to a node that was never linked, has a null link, and
+-- a Put: the null link of the node that root 1 names goes to a node that was never linked, has null links, and
 -- holds the job
 pub record MayPut (h : Heap) (tail : ℕ) (from to : Link) (job at : ℕ) : Type 0 where
   pub tail_is : shown h (Root 1) ≡ Some (link_to tail)
@@ -147,6 +150,7 @@ pub record MayPut (h : Heap) (tail : ℕ) (from to : Link) (job at : ℕ) : Type
   pub there : slice_get h.nodes id ≡ Some node
   pub unlinked : node.linked ≡ false
   pub ends : node.link ≡ null
+  pub side_null : HasNullSide h id
   pub holds : HoldsJob node job at
 
 -- the root goes from its node to that node's successor

@@ -15,6 +15,6 @@ pub record IsLeft (h : Heap) (id : ℕ) : Type 0 where
   pub link : HasLink h id (link_to next)
   pub tail_apart : shown h (Root 1) ≢ Some (link_to id)
 
--- a node that was given to the agent, to which nothing links, with a null link and the values of a Put
+-- a node that was given to the agent, to which nothing links, with null links and the values of a Put
 abbrev pub node_to_put : ℕ → ℕ → ℕ → Node
 node_to_put agent job at = record { giver = agent; first = Some job; second = Some (at + 1); link = null; side = null; named = false; linked = false }

@@ -3,7 +3,7 @@ use Rattle.std.proofs.Common.{Bool, List, None, Option, Some, [], ap, arith, fal
 use Rattle.std.proofs.Math.Bool.{and-eq-true_iff}
 use Rattle.orc_heap.proofs.Runs.{lawful-snoc, run_heap-snoc}
 use Rattle.orc_heap.specs.Acts.{as_linked, heap_after, set_link}
-use Rattle.orc_heap.specs.Allowed.{IsLinkedNode, MovesLinked, Rises}
+use Rattle.orc_heap.specs.Allowed.{IsLinkedNode, LeadsUp, MovesLinked, Rises}
 use Rattle.orc_heap.specs.Heap.{Heap, HeapNumbers, null}
 use Rattle.orc_heap.specs.Journals.{FitsAfter, IsPlain, IsPlainAct, run_heap, event_by}
 use Rattle.orc_heap.specs.declared.events.Act.{Act}
@@ -22,7 +22,9 @@ use Rattle.orc_fifo_rule.specs.Laws.Opening.{begun_root, no_puts}
 use Rattle.orc_fifo_rule.specs.Laws.Paths.{tail_linked}
 use Rattle.orc_fifo_rule.specs.Laws.Leaves.{frozen_next, legal_next, links_next, puts_next, target_at}
 use Rattle.orc_fifo_rule.specs.Laws.Running.{running_next}
+use Rattle.orc_fifo_rule.specs.Laws.Sides.{sides_next}
 use Rattle.std.specs.List.{AllByRecursion}
+use Rattle.orc_heap.proofs.Sides.{side_rises}
 use Rattle.orc_heap.proofs.SingleActs.{link_same, node_shown, some_same}
 
 pub fifo_fits : (n : HeapNumbers) (seen : List (Event FifoNote)) (e : Event FifoNote) → FifoHolds n seen → FifoMay n seen e → FitsAfter n seen e
@@ -206,16 +208,19 @@ fifo_keeps n seen e holds may = record {
   puts = λ id job at put. puts_next n seen e id job at holds may put;
   links = λ id link l. links_next n seen e id link holds may l;
   frozen = λ before after id link split l some. frozen_next n seen e before after id link holds may split l some;
+  sides = sides_next n seen e holds may;
 }
 
 -- links lead to greater positions
 pub fifo_rises : (n : HeapNumbers) (seen : List (Event FifoNote)) → FifoHolds n seen → Rises (fifo_rank n seen) (run_heap n seen)
 fifo_rises n seen holds = λ id node there linked.
     let h : Heap = run_heap n seen in
+    let first : LeadsUp (fifo_rank n seen) h id node.link =
     elim (holds.links id node.link (record { node = node; there = there; linked = linked; link_is = refl })) [
       | inl none ↦ inl (ap (λ (l : Link). l.to) none)
       | inr leads ↦
           let (next, job, is, put) = leads in
           let has = holds.puts next job (position_of h id) put in
           inr (next, ap (λ (l : Link). l.to) is, job_linked h next job (position_of h id) has, omega (arith, job_position h next job (position_of h id) has))
-    ]
+    ] in
+    (first, side_rises (fifo_rank n seen) h id node there (holds.sides id (record { node = node; there = there; linked = linked })))
