@@ -2,6 +2,7 @@
 use Rattle.std.proofs.Common.{List, None, Option, Some, [], false, inl, refl, subst, sym, true, ℕ, ◌%◌, ◌++◌, ◌∷◌, ◌≡◌, slice_get}
 use Rattle.std.proofs.lemmas.Bool.{false_from_ne_true}
 use Rattle.orc_heap.proofs.Fresh.{node_later}
+use Rattle.orc_heap.proofs.Sides.{null_side}
 use Rattle.orc_heap.proofs.Known.{linked_known}
 use Rattle.orc_heap.specs.Acts.{IsTarget}
 use Rattle.orc_heap.specs.Allowed.{AllowedLater}
@@ -98,6 +99,7 @@ added_allowed n agent place from over to key second fresh seen holds f plain run
           over = over;
           run = run_later n seen more from over to run later.allowed;
           above = above_later n seen more to key above later.allowed;
+          side_null = null_side h fresh (node_to_add agent key second to) node refl;
         },
       );
       own = refl;

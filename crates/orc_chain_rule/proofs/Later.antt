@@ -49,6 +49,7 @@ nothing_yet n = record {
     set = λ key. ((λ is. let bad : false ≡ true = is in cc), (λ y. absurd (no_node y.id y.has_key.node y.has_key.there)));
   };
   frozen = λ before after id link split l mark. no_frozen n before after id link split l;
+  sides = λ id l. absurd (no_node id l.node l.there);
 }
 
 pub holds_later : (n : HeapNumbers) (seen more : List (Event ChainNote)) → ChainHolds n seen → AllAllowed (ChainMay n) seen more → ChainHolds n (seen ++ more)

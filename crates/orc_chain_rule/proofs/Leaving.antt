@@ -21,8 +21,8 @@ use Rattle.orc_chain_rule.specs.ChainDiscipline.{IsOnNoChain, link_over, AreChai
 use Rattle.orc_chain_rule.specs.Laws.Adding.{added_linked}
 use Rattle.orc_heap.proofs.SingleActs.{link_shown, linked_node, shown_link, some_same}
 use Rattle.orc_chain_rule.specs.Laws.Kinds.{IsMoved, IsStill, act_still, each_kind, key_linked, key_one, move_moves, place_either}
-use Rattle.orc_chain_rule.specs.Laws.Kept.{chain_keeps, place_linked}
-use Rattle.orc_chain_rule.specs.Laws.Paths.{below, chain_root, from_low, path_follows, leads_one, leads_same, path_join, run_follows, run_path}
+use Rattle.orc_chain_rule.specs.Laws.Kept.{chain_keeps}
+use Rattle.orc_chain_rule.specs.Laws.Paths.{below, chain_root, from_low, path_follows, leads_one, leads_same, path_join, place_linked, run_follows, run_path}
 use Rattle.orc_chain_rule.specs.Laws.Removing.{chain_before}
 
 -- where a chain led before

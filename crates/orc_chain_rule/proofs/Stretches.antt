@@ -21,8 +21,8 @@ use Rattle.orc_chain_rule.specs.Counts.{AreLeftOver, IsLeftOver, adds_in, remove
 use Rattle.orc_chain_rule.specs.Laws.Adding.{added_linked}
 use Rattle.orc_heap.proofs.SingleActs.{has_link, shown_link, some_same}
 use Rattle.orc_chain_rule.specs.Laws.Kinds.{IsMoved, IsStill, act_still, each_kind, move_moves, place_either}
-use Rattle.orc_chain_rule.specs.Laws.Kept.{chain_keeps, place_linked}
-use Rattle.orc_chain_rule.specs.Laws.Paths.{chain_linked}
+use Rattle.orc_chain_rule.specs.Laws.Kept.{chain_keeps}
+use Rattle.orc_chain_rule.specs.Laws.Paths.{chain_linked, place_linked}
 use Rattle.orc_chain_rule.specs.Laws.Removing.{chain_before}
 use Rattle.orc_chain_rule.specs.Laws.Sets.{filter_less, has_kept}
 use Rattle.orc_chain_rule.proofs.Leaving.{chain_back, chains_after, chain_step, passed_off, path_still_back}

@@ -1,7 +1,7 @@
 -- The chain discipline: what the events of sorted lists of linked nodes obey. After Harris 2001.
 use Rattle.std.specs.Prelude.{List, None, Option, Some, [], false, slice_get, true, unwrap_or, ℕ, ◌%◌, ◌++◌, ◌<◌, ◌↔◌, ◌∷◌, ◌≡◌}
 use Rattle.orc_heap.specs.Heap.{Heap, HeapNumbers, Node, link_to, shown}
-use Rattle.orc_heap.specs.Allowed.{HasLink, IsLinkedNode}
+use Rattle.orc_heap.specs.Allowed.{AreSidesNull, HasLink, HasNullSide, IsLinkedNode}
 use Rattle.orc_heap.specs.Journals.{FitsAfter, IsLawful, noted_entries, run_heap}
 use Rattle.orc_heap.specs.Moves.{move_with}
 use Rattle.orc_heap.specs.declared.events.Act.{Act}
@@ -127,9 +127,11 @@ pub record ChainHolds (n : HeapNumbers) (es : List (Event ChainNote)) : Type 0 w
   -- a marked link never changes
   pub frozen : (before after : List (Event ChainNote)) (id : ℕ) (link : Link) → es ≡ before ++ after
       → HasLink (run_heap n before) id link → link.mark ≡ true → HasLink (run_heap n es) id link
+  -- the second link of a once linked node, if there is one, is null
+  pub sides : AreSidesNull (run_heap n es)
 
 -- an Added true: a place on the chain of the key's root, below the key, goes to a node that was never linked and has the key. Its
--- own link leads above the key, to what the place showed or what a run of marked nodes from there leads to
+-- own link leads above the key, to what the place showed or what a run of marked nodes from there leads to; its second link is null
 pub record MayAdd (roots : ℕ) (h : Heap) (place : Place) (from to : Link) (key : ℕ) : Type 0 where
   pub on_chain : IsPlaceOnChain h (key % roots) place
   pub below : IsBelow h place key
@@ -144,6 +146,7 @@ pub record MayAdd (roots : ℕ) (h : Heap) (place : Place) (from to : Link) (key
   pub over : List ℕ
   pub run : IsRun h from over node.link.to
   pub above : IsAbove h node.link.to key
+  pub side_null : HasNullSide h id
 
 -- a Removed true: the link of a once linked node with the key gets a mark, and keeps its target
 pub record MayRemove (h : Heap) (id : ℕ) (from to : Link) (key : ℕ) : Type 0 where

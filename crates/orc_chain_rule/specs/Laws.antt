@@ -6,4 +6,5 @@ pub mod Chains
 pub mod Unlinking
 pub mod Removing
 pub mod Adding
+pub mod Sides
 pub mod Kept

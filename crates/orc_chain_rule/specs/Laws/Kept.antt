@@ -1,12 +1,12 @@
 -- What the discipline owes to the traits of disciplines.
-use Rattle.std.proofs.Common.{List, None, Option, Some, [], ap, arith, false, inl, inr, refl, subst, sym, true, ℕ, ◌++◌, ◌<◌, ◌∙◌, ◌∷◌, ◌≡◌, ◌⊎◌, ◌%◌}
+use Rattle.std.proofs.Common.{List, None, Option, Some, [], ap, arith, false, inl, inr, refl, subst, sym, true, ℕ, ◌++◌, ◌∙◌, ◌∷◌, ◌≡◌, ◌⊎◌, ◌%◌}
 use Rattle.std.proofs.lemmas.Bool.{false_from_ne_true}
 use Rattle.std.specs.List.{slice_get}
 use Rattle.std.specs.Prelude.{unwrap_or}
 use Rattle.orc_heap.proofs.Linked.{linked_after}
 use Rattle.orc_heap.proofs.Runs.{lawful-snoc, run_heap-snoc}
 use Rattle.orc_heap.specs.Acts.{Fits, heap_after}
-use Rattle.orc_heap.specs.Allowed.{IsLinkedNode, MovesLinked, Rises, HasLink}
+use Rattle.orc_heap.specs.Allowed.{LeadsUp, MovesLinked, Rises, HasLink}
 use Rattle.orc_heap.specs.Heap.{Heap, HeapNumbers, Node, shown}
 use Rattle.orc_heap.specs.Journals.{FitsAfter, IsPlain, IsPlainAct, event_by, run_heap}
 use Rattle.orc_heap.specs.Moves.{move_with}
@@ -22,13 +22,15 @@ use Rattle.orc_history.specs.declared.set.SetEntry.TheVariants.{Added, Asked, Re
 use Rattle.orc_history.proofs.SetHistories.{IsLegalSetFrom-snoc}
 use Rattle.orc_chain_rule.specs.declared.chain.ChainNote.{ChainNote}
 use Rattle.orc_chain_rule.specs.declared.chain.ChainNote.TheVariants.{Entry, Unlink}
-use Rattle.orc_chain_rule.specs.ChainDiscipline.{AreChains, ChainHolds, ChainMay, HasKey, IsPlaceOnChain, MayAct, MayAnswer, chain_rank, entries_of, key_of, set_after, IsOwnEntry, IsChainPlace}
+use Rattle.orc_chain_rule.specs.ChainDiscipline.{AreChains, ChainHolds, ChainMay, HasKey, MayAct, MayAnswer, chain_rank, entries_of, key_of, set_after, IsOwnEntry, IsChainPlace}
 use Rattle.orc_chain_rule.specs.Laws.Adding.{added_linked, chains_add, was_absent}
 use Rattle.orc_chain_rule.specs.Laws.Chains.{chains_still}
 use Rattle.orc_heap.proofs.Moved.{shown_node}
+use Rattle.orc_heap.proofs.Sides.{side_rises}
 use Rattle.orc_heap.proofs.SingleActs.{linked_node, shown_link, some_same}
 use Rattle.orc_chain_rule.specs.Laws.Kinds.{act_still, each_kind, key_linked, move_moves, no_move_linked, place_either}
-use Rattle.orc_chain_rule.specs.Laws.Paths.{chain_linked}
+use Rattle.orc_chain_rule.specs.Laws.Paths.{place_linked}
+use Rattle.orc_chain_rule.specs.Laws.Sides.{sides_next}
 use Rattle.orc_chain_rule.specs.Laws.Removing.{chains_remove, was_present}
 use Rattle.orc_chain_rule.specs.Laws.Sets.{entries_more, entries_same, set_more}
 use Rattle.orc_chain_rule.specs.Laws.Unlinking.{chains_unlink}
@@ -52,12 +54,6 @@ chain_allows_plain n seen e holds fits plain = record {
   may_act = subst (λ (x : Option ChainNote). MayAct n.roots (run_heap n seen) (set_after seen) e.act x) (sym plain.0) (no_move_plain e.act plain.1);
   own = subst (λ (x : Option ChainNote). IsOwnEntry e.agent x) (sym plain.0) tt;
 }
-
--- a place on a chain is a root or the link of a once linked node
-pub place_linked : (roots : ℕ) (h : Heap) (keys : List ℕ) → AreChains roots h keys → (root : ℕ) (p : Place) → IsPlaceOnChain h root p → IsChainPlace p h
-place_linked roots h keys c root (Root r) on = tt
-place_linked roots h keys c root (Side d) on = absurd on
-place_linked roots h keys c root (Next d) on = chain_linked roots h keys c root d on
 
 moves_linked : (p : Place) (from to : Link) (h : Heap) → IsChainPlace p h → MovesLinked (Move p from to) h
 moves_linked (Root r) from to h l = tt
@@ -208,6 +204,7 @@ chain_keeps n seen e holds may =
       legal = s.legal;
       chains = rw (run_heap-snoc n seen e) s.chains;
       frozen = λ before after id link split l mark. frozen_next n seen e holds may before after id link split l mark;
+      sides = sides_next n seen e holds may;
     }
 
 -- links lead to greater keys
@@ -215,11 +212,13 @@ pub key_at : (h : Heap) (id key : ℕ) → HasKey h id key → key_of h id ≡ k
 key_at h id key k = rw k.there (ap (λ (o : Option ℕ). unwrap_or o 0) k.key_is)
 
 pub chain_rises : (n : HeapNumbers) (seen : List (Event ChainNote)) → ChainHolds n seen → Rises (chain_rank n seen) (run_heap n seen)
-chain_rises n seen holds = λ id node there linked. cases id node there linked node.link.to refl
+chain_rises n seen holds = λ id node there linked. (
+  cases id node there linked node.link.to refl,
+  side_rises (chain_rank n seen) (run_heap n seen) id node there (holds.sides id (record { node = node; there = there; linked = linked })),
+)
   where
     cases : (id : ℕ) (node : Node) → slice_get (run_heap n seen).nodes id ≡ Some node → node.linked ≡ true → (to : Option ℕ) → node.link.to ≡ to
-        → (node.link.to ≡ None)
-        ⊎ ((next : ℕ) × (node.link.to ≡ Some next) × IsLinkedNode (run_heap n seen) next × (chain_rank n seen id < chain_rank n seen next))
+        → LeadsUp (chain_rank n seen) (run_heap n seen) id node.link
     cases id node there linked None is = inl is
     cases id node there linked (Some next) is =
         let h : Heap = run_heap n seen in

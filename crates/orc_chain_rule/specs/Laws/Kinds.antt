@@ -133,7 +133,7 @@ shown_unset (Next id) (Root s) to h ne = refl
 shown_unset (Next i) (Next j) to h ne =
     ap (option_map (λ (x : Node). x.link)) (get-change_other (with_link to) i j h.nodes (λ e. ne (ap (λ (x : ℕ). Next x) e)))
 
-named : (to : Option ℕ) (id : ℕ) → names_node to id ≡ true → to ≡ Some id
+pub named : (to : Option ℕ) (id : ℕ) → names_node to id ≡ true → to ≡ Some id
 named None id e = cc
 named (Some i) id e = ap (λ (x : ℕ). Some x) (eqb-true i id e)
 
@@ -165,7 +165,7 @@ linked_place (Root r) h l = tt
 linked_place (Next id) h l = l
 linked_place (Side id) h l = absurd l
 
-no_move_to : (act : Act) (d : ℕ) → move_with act ≡ 0 → moves_to act d ≡ false
+pub no_move_to : (act : Act) (d : ℕ) → move_with act ≡ 0 → moves_to act d ≡ false
 no_move_to Give d p = refl
 no_move_to (Fill id which value) d p = refl
 no_move_to (Aim id to) d p = refl

@@ -198,3 +198,9 @@ pub detour : (h k : Heap) (p : Place) (from : Link) (run : List ℕ) (to : Optio
 detour h k p from run to new at r way others y link own plain root on =
     let (over, path) = detour_of h k p from run to new at r way others y link own plain (length on.over) (Root root) on.over (omega arith) on.path in
     record { over = over; path = path }
+
+-- a place on a chain is a root or the link of a once linked node
+pub place_linked : (roots : ℕ) (h : Heap) (keys : List ℕ) → AreChains roots h keys → (root : ℕ) (p : Place) → IsPlaceOnChain h root p → IsChainPlace p h
+place_linked roots h keys c root (Root r) on = tt
+place_linked roots h keys c root (Side d) on = absurd on
+place_linked roots h keys c root (Next d) on = chain_linked roots h keys c root d on
