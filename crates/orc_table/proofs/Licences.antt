@@ -1,5 +1,5 @@
 -- What licenses each step.
-use Rattle.std.proofs.Common.{◌≡◌, ◌≢◌, ℕ, ◌+◌, ◌*◌, ◌<◌, ◌==◌, List, [], ◌++◌, length, Bool, true, false, Option, Some, None, slice_index, refl, sym, ap, ◌∙◌, subst, arith, eq-eqb, length-append}
+use Rattle.std.proofs.Common.{◌≡◌, ◌≢◌, ℕ, zero, suc, ◌+◌, ◌*◌, ◌<◌, ◌==◌, List, [], ◌++◌, length, Bool, true, false, Option, Some, None, slice_index, refl, sym, ap, ◌∙◌, subst, arith, eq-eqb, length-append}
 use Rattle.orc_heap.proofs.Changes.{get_lt}
 use Rattle.std.proofs.lemmas.Bool.Decides.{nat_tests}
 use Rattle.orc_words.specs.Bounds.{Bounds, bounds_of}
@@ -10,7 +10,7 @@ use Rattle.orc_words.specs.declared.place.Word.{Word}
 use Rattle.orc_words.specs.declared.shape.Shape.{Shape}
 use Rattle.std.specs.Option.{ForSome}
 use Rattle.orc_words.specs.declared.place.Word.TheVariants as word
-use Rattle.orc_heap.specs.Acts.{Fits, IsFresh, IsTarget}
+use Rattle.orc_heap.specs.Acts.{Fits, IsFresh, IsTarget, aim_act}
 use Rattle.orc_heap.specs.Allowed.{AllowedLater}
 use Rattle.orc_heap.specs.Heap.{Heap, shown}
 use Rattle.orc_heap.specs.Journals.{FitsAfter, IsPlain, event_by, run_heap}
@@ -19,7 +19,8 @@ use Rattle.orc_heap.specs.declared.events.Act.TheVariants as act
 use Rattle.orc_heap.specs.declared.events.Event.{Event}
 use Rattle.orc_heap.specs.declared.events.Link.{Link}
 use Rattle.orc_heap.specs.declared.events.Place.{Place}
-use Rattle.orc_heap.specs.declared.events.Place.TheVariants.{Next as AtNext}
+use Rattle.orc_heap.specs.declared.events.Place.TheVariants.{Next as AtNext, Side as AtSide}
+use Rattle.orc_heap.proofs.Sides.{side_there}
 use Rattle.orc_heap.proofs.Stays.{stays}
 use Rattle.orc_shared_words.specs.Lists.{Each}
 use Rattle.orc_shared_words.specs.Steps.{Licensed}
@@ -38,10 +39,11 @@ use Rattle.orc_table.proofs.Ties.{Given, link_in, one_link, word_by}
 use Rattle.orc_table.proofs.Steps.{Tied, heap_is, tied}
 use Rattle.orc_table.proofs.Walks.{Mid, given_more, lawful_of, mid_fresh, mid_of, mid_target}
 
--- a root, or the link of a row that was given
+-- a root, or a link of a row that was given
 abbrev pub PlaceHeld : Bounds → List ℕ → Word → Type 0
 PlaceHeld k g (word.Root r) = r < k.roots
 PlaceHeld k g (word.Next row) = index_of row g < length g
+PlaceHeld k g (word.Side row) = (index_of row g < length g) × (1 < k.links)
 PlaceHeld k g at = ⊥
 
 pub place_grown : (k : Bounds) (g more r : List ℕ) (at : Word) → r ≡ g ++ more → PlaceHeld k g at → PlaceHeld k r at × (place_by r at ≡ place_by g at)
@@ -50,6 +52,11 @@ place_grown k g more r (word.Next row) e h =
     let one : index_of row r ≡ index_of row g = ap (index_of row) e ∙ index_grown row g more h in
     let long : length r ≡ length g + length more = ap length e ∙ length-append g more in
     (omega (arith, one, long, h), ap AtNext one)
+place_grown k g more r (word.Side row) e h =
+    let given = h.0 in
+    let one : index_of row r ≡ index_of row g = ap (index_of row) e ∙ index_grown row g more given in
+    let long : length r ≡ length g + length more = ap length e ∙ length-append g more in
+    ((omega (arith, one, long, given), h.1), ap AtSide one)
 place_grown k g more r at e h = absurd h
 
 pub link_grown : (g more r : List ℕ) (l : RowLink) → r ≡ g ++ more → Given g l.to → Given r l.to × (link_by r l ≡ link_by g l)
@@ -88,6 +95,19 @@ shows k x (word.Next row) tie h =
       word = (tie.node (index_of row x.given) row n.0 here n.1).link;
       spot =
           tie.inside (index_of row x.given) row here;
+    }
+shows k x (word.Side row) tie h =
+    let even = tie.even in
+    let linked = tie.linked in
+    let given = h.0 in
+    let two = h.1 in
+    let n = lt_get x.heap.nodes (index_of row x.given) (omega (arith, even, given)) in
+    let here = at_index row x.given given in
+    record {
+      link = n.0.side;
+      is = side_there x.heap (index_of row x.given) n.0 (omega (arith, linked, two)) n.1;
+      word = (tie.node (index_of row x.given) row n.0 here n.1).side two;
+      spot = (tie.inside (index_of row x.given) row here, two);
     }
 shows k x at tie h = absurd h
 
@@ -149,6 +169,7 @@ module _ {D N : Type 0} (d : discipline.Ghosts D N) (q : PlainShape N) (v : View
   pub place_given : (at : Word) → KnowsPlace k s at → PlaceHeld k g0 at
   place_given (word.Root r) e = e
   place_given (word.Next row) e = row_given row e
+  place_given (word.Side row) e = (row_given row e.0, e.1)
   place_given at e = absurd e
 
   pub link_given : (l : RowLink) → KnowsTarget k s l → Given g0 l.to
@@ -265,9 +286,14 @@ module _ {D N : Type 0} (d : discipline.Ghosts D N) (q : PlainShape N) (v : View
       (λ between m hk. let x : State = run_from k (run k v.seen) between in
       stands (v.seen ++ between) x (event_by a (act.Fill (index_of row x.given) which value) None) m.heap hk (fresh_at between m row is, low) (refl, tt))
 
-  pub store_licence : (row : ℕ) (l : RowLink) → fresh ≡ Some row → KnowsTarget k s l → MayWhereFits may k s (aim_event s row l)
-      → Licensed plain_rules q holds may v a (LinkStore row l.to) None
-  store_licence row l is knows allowed = from_mid (LinkStore row l.to) None
+  -- an Aim of a link that nodes have fits
+  aim_fits : (h : Heap) (number id : ℕ) (to : Option ℕ) → number < h.links → IsFresh a h id → IsTarget a h to → Fits a (aim_act number id to) h
+  aim_fits h zero id to low f t = (f, t)
+  aim_fits h (suc number) id to low f t = (f, t, omega (arith, low))
+
+  pub store_licence : (row number : ℕ) (l : RowLink) → fresh ≡ Some row → number < k.links → KnowsTarget k s l
+      → MayWhereFits may k s (aim_event s row number l) → Licensed plain_rules q holds may v a (LinkStore row number l.to) None
+  store_licence row number l is low knows allowed = from_mid (LinkStore row number l.to) None
       (λ between m hk.
       let x : State = run_from k (run k v.seen) between in
       let es : List (Event N) = project_from k (run k v.seen) between in
@@ -279,9 +305,9 @@ module _ {D N : Type 0} (d : discipline.Ghosts D N) (q : PlainShape N) (v : View
       let heap : x.heap ≡ run_heap (numbers k) (project k v.seen ++ es) = sym m.heap ∙ ap (run_heap (numbers k)) m.events in
       let target : IsTarget a x.heap (id_by g0 l.to) =
       mid_target k may v.seen between a m (id_by g0 l.to) (subst (λ z. IsTarget a z (id_by g0 l.to)) heap_now knows) in
-      let fits : FitsAfter (numbers k) (project k v.seen ++ es) (aim_event s row l) = (
-        subst (λ (z : Heap × ℕ). IsFresh a z.0 z.1) (λ i. (heap i, one i)) (fresh_at between m row is),
-        subst (λ z. IsTarget a z (id_by g0 l.to)) heap target,
-      ) in
-      let ok : may (project k v.seen ++ es) (aim_event s row l) = allowed es record { allowed = m.allowed; others = m.none } fits in
-      subst (λ (z : List (Event N) × ℕ × Option ℕ). may z.0 (event_by a (act.Aim z.1 z.2) None)) (λ i. (sym m.events i, sym one i, sym to i)) ok)
+      let linked = m.tie.linked in
+      let fits : FitsAfter (numbers k) (project k v.seen ++ es) (aim_event s row number l) =
+      subst (λ (z : Heap × ℕ). Fits a (aim_act number z.1 (id_by g0 l.to)) z.0) (λ i. (heap i, one i))
+      (aim_fits x.heap number (index_of row x.given) (id_by g0 l.to) (omega (arith, low, linked)) (fresh_at between m row is) target) in
+      let ok : may (project k v.seen ++ es) (aim_event s row number l) = allowed es record { allowed = m.allowed; others = m.none } fits in
+      subst (λ (z : List (Event N) × ℕ × Option ℕ). may z.0 (event_by a (aim_act number z.1 z.2) None)) (λ i. (sym m.events i, sym one i, sym to i)) ok)

@@ -1,25 +1,23 @@
 -- What loads, exchanges and stores of links tell, in events.
-use Rattle.std.proofs.Common.{◌≡◌, ◌≢◌, ℕ, ◌<◌, ◌==◌, List, [], ◌∷◌, ◌++◌, length, Bool, true, false, true≢false, cond, if◌then◌else◌, Option, Some, None, slice_get, slice_index, refl, sym, ap, ◌∙◌, subst, arith, eq-eqb, ne_eqb}
+use Rattle.std.proofs.Common.{◌≡◌, ◌≢◌, ℕ, zero, suc, ◌<◌, ◌==◌, List, [], ◌∷◌, ◌++◌, length, Bool, true, false, true≢false, cond, if◌then◌else◌, Option, Some, None, slice_get, slice_index, refl, sym, ap, ◌∙◌, subst, arith, eq-eqb, ne_eqb}
 use mathlib.Core.Logic.{dite}
 use native.Mathlib.Decide.{ℕ_discrete}
 use Rattle.orc_words.specs.Bounds.{Bounds, bounds_of}
 use Rattle.orc_words.specs.Packed.{link_word}
-use Rattle.orc_words.specs.Places.{place as word_place}
+use Rattle.orc_words.specs.Places.{link_at as link_word_at, place as word_place}
 use Rattle.orc_words.specs.declared.packed.RowLink.{RowLink}
 use Rattle.orc_words.specs.declared.place.Word.{Word}
-use Rattle.orc_words.specs.declared.place.Word.TheVariants as word
 use Rattle.std.proofs.lemmas.Bool.Decides.{nat_tests}
-use Rattle.orc_heap.specs.Acts.{IsTarget}
+use Rattle.orc_heap.specs.Acts.{IsTarget, aim_act}
 use Rattle.orc_heap.specs.Allowed.{AllAllowed}
 use Rattle.orc_heap.specs.Seats.{IsUntouched}
 use Rattle.orc_heap.specs.Heap.{Heap, shown}
-use Rattle.orc_heap.specs.Journals.{event_by, run_from as heap_from, run_heap}
+use Rattle.orc_heap.specs.Journals.{event_by, names_node, points_to, run_from as heap_from, run_heap}
 use Rattle.orc_heap.specs.declared.discipline.Discipline as discipline
 use Rattle.orc_heap.specs.declared.events.Act.TheVariants as act
 use Rattle.orc_heap.specs.declared.events.Event.{Event}
 use Rattle.orc_heap.specs.declared.events.Link.{Link}
 use Rattle.orc_heap.specs.declared.events.Place.{Place}
-use Rattle.orc_heap.specs.declared.events.Place.TheVariants.{Next as AtNext}
 use Rattle.orc_heap.proofs.Untouched.{names_other, target_from, untouched_after}
 use Rattle.orc_shared_words.specs.Steps.{Extends}
 use Rattle.orc_shared_words.specs.declared.journal.View.{View}
@@ -276,44 +274,56 @@ module _ {D N : Type 0} (d : discipline.Ghosts D N) (q : PlainShape N) (v w : Vi
           (λ row2 r2 _. subst (λ z. id_by (at wk).given to.to ≢ Some (index_of z (at wk).given)) (some_one row row2 r2) ne))
       held false q2 = held_still false q2 fresh h.untouched (λ row r b. absurd (true≢false (sym b)))
 
-  pub store_replaces : (row n : ℕ) (l : RowLink) → fresh ≡ Some row → KnowsTarget k s l → Made (LinkStore row l.to) None n → Replaces may k row n l s t
-  store_replaces row n l is known x =
-      let wk = walks (LinkStore row l.to) None n x in
+  -- the link word of a row that was given
+  link_held : (number row : ℕ) → number < k.links → index_of row g0 < length g0 → PlaceHeld k g0 (link_word_at number row)
+  link_held zero row low given = given
+  link_held (suc number) row low given = (given, omega (arith, low))
+
+  pub store_replaces : (row number n : ℕ) (l : RowLink) → fresh ≡ Some row → number < k.links → KnowsTarget k s l → Made (LinkStore row number l.to) None n
+      → Replaces may k row number n l s t
+  store_replaces row number n l is low known x =
+      let wk = walks (LinkStore row number l.to) None n x in
       let y : State = at wk in
       let held0 = subst (FreshHeld a (run k v.seen)) is h.untouched in
-      let held = mid_fresh k may v.seen wk.between a wk.mid (Some row) held0 in
       let id = id_met d q v w a c fresh looked fresh2 looked2 h e wk row held0.0 in
       let lw = link_met wk l known in
       let to : id_by y.given l.to ≡ id_by g0 l.to = ap (λ (z : Link). z.to) lw.1 in
-      let sh = shows k y (word.Next row) wk.mid.tie held.0 in
+      let g = given_more k (run k v.seen) wk.between in
+      let sp = place_grown k g0 g.0 y.given (link_word_at number row) (sym g.1) (link_held number row low held0.0) in
+      let sh = shows k y (link_word_at number row) wk.mid.tie sp.0 in
       let es : List (Event N) = project_from k (run k v.seen) wk.between in
       let heap : y.heap ≡ run_heap (numbers k) (project k v.seen ++ project_from k (run k v.seen) wk.between) =
       sym wk.mid.heap ∙ ap (run_heap (numbers k)) wk.mid.events in record {
         adds = record {
           met = es;
           later = record { allowed = wk.mid.allowed; others = wk.mid.none };
-          events = wk.events ∙ (λ i. (project k v.seen ++ es) ++ event_by a (act.Aim (id i) (to i)) None ∷ []);
-          allowed = subst (λ (z : ℕ × Option ℕ). AllAllowed may (project k v.seen ++ es) (event_by a (act.Aim z.0 z.1) None ∷ []))
+          events = wk.events ∙ (λ i. (project k v.seen ++ es) ++ event_by a (aim_act number (id i) (to i)) None ∷ []);
+          allowed = subst (λ (z : ℕ × Option ℕ). AllAllowed may (project k v.seen ++ es) (event_by a (aim_act number z.0 z.1) None ∷ []))
               (λ i. (id i, to i)) wk.allowed;
           agent = e;
-          rows = rows_later k may v w a (LinkStore row l.to) None n wk;
+          rows = rows_later k may v w a (LinkStore row number l.to) None n wk;
           absorbed = wk.also;
           retired = λ b there. others_none k b (run k v.seen) wk.between (wk.retired b there);
         };
         old = sh.link;
-        shown_is = subst (λ (z : Heap × ℕ). shown z.0 (AtNext z.1) ≡ Some sh.link) (λ i. (heap i, id i)) sh.is;
+        shown_is = subst (λ (z : Heap × Place). shown z.0 z.1 ≡ Some sh.link) (λ i. (heap i, sp.1 i)) sh.is;
         word = word_then wk refl sh.link n (subst (IsWord y.given sh.link.to sh.link.mark) (sym wk.answers) sh.word);
       }
 
-  pub store_keeps : (row n : ℕ) (l : RowLink) → fresh ≡ Some row → l.to ≢ Some row → KnowsTarget k s l → fresh2 ≡ fresh
-      → Made (LinkStore row l.to) None n → Keeps q holds may w c fresh2
-  store_keeps row n l is ne known f x =
-      let wk = walks (LinkStore row l.to) None n x in
+  aim_points : (number i id : ℕ) (to : Option ℕ) → points_to (aim_act number i to) id ≡ names_node to id
+  aim_points zero i id to = refl
+  aim_points (suc number) i id to = refl
+
+  pub store_keeps : (row number n : ℕ) (l : RowLink) → fresh ≡ Some row → l.to ≢ Some row → KnowsTarget k s l → fresh2 ≡ fresh
+      → Made (LinkStore row number l.to) None n → Keeps q holds may w c fresh2
+  store_keeps row number n l is ne known f x =
+      let wk = walks (LinkStore row number l.to) None n x in
       let y : State = at wk in
       let held = mid_fresh k may v.seen wk.between a wk.mid (Some row) (subst (FreshHeld a (run k v.seen)) is h.untouched) in
-      keeps d q v w a c fresh looked fresh2 looked2 h e (LinkStore row l.to) None n x f
-      (λ r r_is u. untouched_after a a y.heap (act.Aim (index_of row y.given) (id_by y.given l.to)) (index_of r y.given)
-      (names_other (id_by y.given l.to) (index_of r y.given) (spared y.given l.to r (some_one row r (sym is ∙ r_is)) ne (link_met wk l known).0 held.0)) u)
+      keeps d q v w a c fresh looked fresh2 looked2 h e (LinkStore row number l.to) None n x f
+      (λ r r_is u. untouched_after a a y.heap (aim_act number (index_of row y.given) (id_by y.given l.to)) (index_of r y.given)
+      (aim_points number (index_of row y.given) (index_of r y.given) (id_by y.given l.to)
+      ∙ names_other (id_by y.given l.to) (index_of r y.given) (spared y.given l.to r (some_one row r (sym is ∙ r_is)) ne (link_met wk l known).0 held.0)) u)
     where
       spared : (g : List ℕ) (to : Option ℕ) (r : ℕ) → row ≡ r → to ≢ Some row → Given g to → index_of row g < length g → id_by g to ≢ Some (index_of r g)
       spared g None r same ne gt lt z = cc

@@ -1,7 +1,8 @@
 -- Each step that is allowed, and whose event fits, keeps what the words show.
-use Rattle.std.proofs.Common.{◌≡◌, ℕ, zero, suc, ◌+◌, ◌<◌, ◌==◌, List, [], ◌∷◌, ◌++◌, length, cond, Bool, true, false, if◌then◌else◌, Option, Some, None, slice_get, slice_index, slice_set, refl, sym, ◌∙◌, subst, append-nil, arith}
+use Rattle.std.proofs.Common.{◌≡◌, ℕ, zero, suc, ◌+◌, ◌<◌, ◌==◌, List, [], ◌∷◌, ◌++◌, length, cond, nat_lt, Bool, true, false, if◌then◌else◌, Option, Some, None, slice_get, slice_index, slice_set, refl, sym, ◌∙◌, subst, append-nil, arith}
 use Rattle.orc_heap.proofs.Changes.{get_lt}
 use Rattle.std.proofs.lemmas.Bool.Decides.{nat_tests}
+use Rattle.std.specs.Option.{option_map}
 use lib.Seq.{set-get_or}
 use Rattle.orc_words.specs.Bounds.{Bounds}
 use Rattle.orc_words.specs.Packed.{link_word}
@@ -15,7 +16,7 @@ use Rattle.orc_heap.specs.Journals.{IsLawful, IsLawfulFrom, event_by, run_from a
 use Rattle.orc_heap.specs.declared.events.Act.TheVariants as act
 use Rattle.orc_heap.specs.declared.events.Link.{Link}
 use Rattle.orc_heap.specs.declared.events.Place.{Place}
-use Rattle.orc_heap.specs.declared.events.Place.TheVariants.{Next}
+use Rattle.orc_heap.specs.declared.events.Place.TheVariants.{Next, Side}
 use Rattle.orc_heap.proofs.Runs.{lawful-left, lawful-right, run_from-append as heap-append}
 use Rattle.orc_table.specs.Machine.{State, Allowed, AllowedFrom, IsLinkWord, events_at, events_of, finds, id_by, index_of, link_by, load_event, next, numbers, place_by, project, project_from, run, run_from, start, taken, tested, value_word, word_of, written}
 use Rattle.orc_table.specs.declared.machine.PlainOp.{PlainOp}
@@ -37,6 +38,17 @@ shown_lt h id l e = went (slice_get h.nodes id) refl e
     went None q x = cc
     went (Some n) q x = get_lt h.nodes id n q
 
+pub side_lt : (h : Heap) (id : ℕ) (l : Link) → shown h (Side id) ≡ Some l → id < length h.nodes
+side_lt h id l e = by_links (nat_lt 1 h.links) e
+  where
+    went : (o : Option Node) → slice_get h.nodes id ≡ o → option_map (λ n. n.side) o ≡ Some l → id < length h.nodes
+    went None q x = cc
+    went (Some n) q x = get_lt h.nodes id n q
+
+    by_links : (two : Bool) → cond two (option_map (λ n. n.side) (slice_get h.nodes id)) None ≡ Some l → id < length h.nodes
+    by_links true e = went (slice_get h.nodes id) refl e
+    by_links false e = cc
+
 tie_words : (k : Bounds) (w v g r : List ℕ) (h i : Heap) → v ≡ w → r ≡ g → i ≡ h → Tie k w g h → Tie k v r i
 tie_words k w v g r h i e q p x = subst (λ z. Tie k z r i) (sym e) (subst (λ z. Tie k w z i) (sym q) (subst (λ z. Tie k w g z) (sym p) x))
 
@@ -50,10 +62,10 @@ value_place k row zero low = omega arith
 value_place k row (suc which) low = let none : which ≡ 0 = omega (arith, low) in omega (arith, none)
 
 named_alike : (n : Node) → Alike (as_named n) n
-named_alike n = record { link = refl; first = refl; second = refl }
+named_alike n = record { link = refl; side = refl; first = refl; second = refl }
 
 linked_alike : (n : Node) → Alike (as_linked n) n
-linked_alike n = record { link = refl; first = refl; second = refl }
+linked_alike n = record { link = refl; side = refl; first = refl; second = refl }
 
 module _ (k : Bounds) (x : State) (tie : Tied k x) where
   -- nothing changes
@@ -85,7 +97,13 @@ module _ {N : Type 0} (k : Bounds) (x : State) (tie : Tied k x) where
       let l = shown_lt x.heap (index_of row x.given) (link_by x.given from) fits.0.0 in
       let even = tie.even in
       given_too k x tie _ _ _ (target_heap as_linked (id_by x.given to.to) _)
-      (tie_link k x.words x.given x.heap as_linked linked_alike (λ n. refl) row to.to to.mark tie there (omega (arith, l, even))
+      (tie_link k x.words x.given x.heap as_linked linked_alike (λ n. refl) 0 row to.to to.mark tie tt there (omega (arith, l, even))
+      (given_by k x.words x.given x.heap tie a to.to fits.0.1))
+  cas a (word.Side row) from to said true there fits =
+      let l = side_lt x.heap (index_of row x.given) (link_by x.given from) fits.0.0 in
+      let even = tie.even in
+      given_too k x tie _ _ _ (target_heap as_linked (id_by x.given to.to) _)
+      (tie_link k x.words x.given x.heap as_linked linked_alike (λ n. refl) 1 row to.to to.mark tie there.1 there.0 (omega (arith, l, even))
       (given_by k x.words x.given x.heap tie a to.to fits.0.1))
   cas a at from to said true there fits = absurd there
 
@@ -121,9 +139,14 @@ module _ {N : Type 0} (k : Bounds) (x : State) (tie : Tied k x) where
   one a (Read row which) said can fits = same k x tie (place k (value_word row which))
   one a (LinkLoad at want) said can fits = load a (place_by x.given at) want (slice_index x.words (place k at)) said (place k at)
   one a (LinkCas at from to) said can fits = cas a at from to said (slice_index x.words (place k at) == link_word from) can.0 fits
-  one a (LinkStore row to) said can fits =
+  one a (LinkStore row zero to) said can fits =
       given_too k x tie _ _ _ (target_heap as_named (id_by x.given to) _)
-      (tie_link k x.words x.given x.heap as_named named_alike (λ n. refl) row to false tie can.0 (fresh_given k x tie a row fits.0.0)
+      (tie_link k x.words x.given x.heap as_named named_alike (λ n. refl) 0 row to false tie tt can.0 (fresh_given k x tie a row fits.0.0)
+      (given_by k x.words x.given x.heap tie a to fits.0.1))
+  one a (LinkStore row (suc number) to) said can fits =
+      let below = can.1 in
+      given_too k x tie _ _ _ (target_heap as_named (id_by x.given to) _)
+      (tie_link k x.words x.given x.heap as_named named_alike (λ n. refl) 1 row to false tie (omega (arith, below)) can.0 (fresh_given k x tie a row fits.0.0)
       (given_by k x.words x.given x.heap tie a to fits.0.1))
 
 module _ {N : Type 0} (k : Bounds) where

@@ -1,5 +1,6 @@
 -- The words show the heap, with rows read as ids.
 use Rattle.std.proofs.Common.{◌≡◌, ◌≢◌, ℕ, zero, suc, ◌+◌, ◌*◌, ◌<◌, ◌≤◌, List, [], ◌∷◌, ◌++◌, length, replicate, Bool, true, false, cond, nat_lt, Option, Some, None, slice_get, slice_index, slice_set, length-set, length-append, refl, sym, ap, ◌∙◌, subst, ◌⊎◌, inl, inr, arith}
+use Rattle.std.proofs.lemmas.Bool.{lt-ltb}
 use Rattle.std.proofs.lemmas.List.{length-replicate}
 use Rattle.std.specs.Option.{option_map}
 use Rattle.orc_words.specs.Bounds.{Bounds}
@@ -8,7 +9,7 @@ use Rattle.orc_words.specs.NewWords.{new_words}
 use Rattle.orc_words.specs.Places.{places, words_of_rows}
 use Rattle.orc_words.specs.declared.place.Word.TheVariants as word
 use Rattle.orc_words.proofs.NewWords.{new_words_each, new_words_long}
-use Rattle.orc_heap.specs.Acts.{IsTarget, with_value}
+use Rattle.orc_heap.specs.Acts.{IsTarget, with_numbered, with_value}
 use Rattle.orc_heap.specs.Heap.{Heap, Node, change, new_heap, new_node, null, shown}
 use Rattle.orc_heap.specs.declared.events.Link.{Link}
 use Rattle.orc_heap.specs.declared.events.Place.{Place}
@@ -18,25 +19,39 @@ use Rattle.orc_table.specs.Machine.{index_of, id_by, numbers}
 use Rattle.orc_table.specs.Words.{Block, IsFreeRow, IsWord, Named, Once, Tie}
 use Rattle.orc_table.proofs.Lists.{some_one, lt_get, get_end, get_last, change_back, at_index, index_at, new_word, same_word}
 
--- the place of a row's gate; its values stand two and three after it, its link four
+-- the place of a row's gate; its values stand two and three after it, its first link four, and its second, if there is one, five
 abbrev pub row_place : Bounds → ℕ → ℕ
 row_place k row = 1 + k.roots + words_of_rows k row
 
-words_apart : (two : Bool) (r s i j : ℕ) → i < 5 → j < 5 → cond two (6 * r) (5 * r) + i ≡ cond two (6 * s) (5 * s) + j → r ≡ s
+-- one of the row's words stands so far after its gate
+abbrev IsOffset : Bounds → ℕ → Type 0
+IsOffset k i = i < cond (nat_lt 1 k.links) 6 5
+
+first_five : (k : Bounds) (i : ℕ) → i < 5 → IsOffset k i
+first_five k i low = go (nat_lt 1 k.links)
+  where
+    go : (two : Bool) → i < cond two 6 5
+    go true = omega (arith, low)
+    go false = low
+
+side_offset : (k : Bounds) → 1 < k.links → IsOffset k 5
+side_offset k two = subst (λ (b : Bool). 5 < cond b 6 5) (sym (lt-ltb 1 k.links two)) (omega arith)
+
+words_apart : (two : Bool) (r s i j : ℕ) → i < cond two 6 5 → j < cond two 6 5 → cond two (6 * r) (5 * r) + i ≡ cond two (6 * s) (5 * s) + j → r ≡ s
 words_apart true r s i j low less e = omega (arith, low, less, e)
 words_apart false r s i j low less e = omega (arith, low, less, e)
 
 -- two words of rows that stand at one place are of one row
-rows_apart : (k : Bounds) (r s i j : ℕ) → i < 5 → j < 5 → row_place k r + i ≡ row_place k s + j → r ≡ s
+rows_apart : (k : Bounds) (r s i j : ℕ) → IsOffset k i → IsOffset k j → row_place k r + i ≡ row_place k s + j → r ≡ s
 rows_apart k r s i j low less e = words_apart (nat_lt 1 k.links) r s i j low less (omega (arith, e))
 
-words_below : (two : Bool) (r n : ℕ) → r < n → cond two (6 * r) (5 * r) + 5 ≤ cond two (6 * n) (5 * n)
-words_below true r n lt = omega (arith, lt)
-words_below false r n lt = omega (arith, lt)
+words_below : (two : Bool) (r n i : ℕ) → r < n → i < cond two 6 5 → cond two (6 * r) (5 * r) + i < cond two (6 * n) (5 * n)
+words_below true r n i lt low = omega (arith, lt, low)
+words_below false r n i lt low = omega (arith, lt, low)
 
 -- the words of a row of the table are in it
-row_below : (k : Bounds) (r : ℕ) → r < k.rows → row_place k r + 5 ≤ places k
-row_below k r lt = let below = words_below (nat_lt 1 k.links) r k.rows lt in omega (arith, below)
+row_below : (k : Bounds) (r i : ℕ) → r < k.rows → IsOffset k i → row_place k r + i < places k
+row_below k r i lt low = let below = words_below (nat_lt 1 k.links) r k.rows i lt low in omega (arith, below)
 
 abbrev pub link_in : Option Node → Option Link
 link_in o = option_map (λ n. n.link) o
@@ -98,32 +113,81 @@ now_named f sets None nodes there = tt
 now_named f sets (Some i) nodes there = let t = there i refl in
     elim (get-change f i i nodes t.0 t.1) [ inl r ↦ (f t.0, r.1, sets t.0) | inr r ↦ absurd (r.0 refl) ]
 
--- where nodes have one link, no second link shows
-no_side : (links : ℕ) (l : Link) (side : Option Link) → links ≡ 1 → cond (nat_lt 1 links) side None ≢ Some l
-no_side links l side single e = let none : cond (nat_lt 1 links) side None ≡ None = ap (λ n. cond (nat_lt 1 n) side None) single in cc
+-- a part of a node of the changed list is as it was, or new
+part_back : (part : Node → Link) (P : Link → Type 0) (f : Node → Node) → ((n : Node) → P (part (f n)) ⊎ (part (f n) ≡ part n)) → (i id : ℕ)
+    (nodes : List Node) (l : Link) → option_map part (slice_get (change f i nodes) id) ≡ Some l → P l ⊎ (option_map part (slice_get nodes id) ≡ Some l)
+part_back part P f either i id nodes l e = went (slice_get (change f i nodes) id) refl e
+  where
+    went : (o : Option Node) → slice_get (change f i nodes) id ≡ o → option_map part o ≡ Some l → P l ⊎ (option_map part (slice_get nodes id) ≡ Some l)
+    went None q x = cc
+    went (Some n) q x = elim (change_back f i id nodes n q) [
+      | inl t ↦
+          let is : part (f t.1) ≡ l = ap part (sym t.3) ∙ some_one (part n) l x in
+          elim (either t.1) [ inl new ↦ inl (subst P is new) | inr same ↦ inr (ap (option_map part) t.2 ∙ ap Some (sym same ∙ is)) ]
+      | inr t ↦ inr (ap (option_map part) t.1 ∙ x)
+    ]
 
-abbrev side_in : List Node → ℕ → Option Link
-side_in nodes id = option_map (λ n. n.side) (slice_get nodes id)
+part_end : (part : Node → Link) (nodes : List Node) (new : Node) (id : ℕ) (l : Link) → option_map part (slice_get (nodes ++ new ∷ []) id) ≡ Some l
+    → (option_map part (slice_get nodes id) ≡ Some l) ⊎ (l ≡ part new)
+part_end part nodes new id l e = went (slice_get (nodes ++ new ∷ []) id) refl e
+  where
+    went : (o : Option Node) → slice_get (nodes ++ new ∷ []) id ≡ o → option_map part o ≡ Some l → (option_map part (slice_get nodes id) ≡ Some l) ⊎ (l ≡ part new)
+    went None q x = cc
+    went (Some n) q x = elim (get_end nodes new id n q) [
+      | inl t ↦ inl (ap (option_map part) t ∙ x)
+      | inr t ↦ inr (sym (some_one (part n) l x) ∙ ap part t.1)
+    ]
+
+-- where nodes have two links
+when_two : (two : Bool) (o q : Option Link) (l : Link) (P : Type 0) → (o ≡ Some l → P ⊎ (q ≡ Some l)) → cond two o None ≡ Some l → P ⊎ (cond two q None ≡ Some l)
+when_two true o q l P f e = f e
+when_two false o q l P f e = cc
+
+-- a change of nodes that keeps their links, or makes them such ones
+pub record ChangesLinks (P : Link → Type 0) (f : Node → Node) : Type 0 where
+  pub first : (n : Node) → P (f n).link ⊎ ((f n).link ≡ n.link)
+  pub side : (n : Node) → P (f n).side ⊎ ((f n).side ≡ n.side)
+
+-- what a place shows after it, it showed before, or it is such a link
+shown_back : (P : Link → Type 0) (f : Node → Node) → ChangesLinks P f → (i : ℕ) (h : Heap) (at : Place) (l : Link)
+    → shown record { nodes = change f i h.nodes; roots = h.roots; links = h.links } at ≡ Some l → P l ⊎ (shown h at ≡ Some l)
+shown_back P f c i h (AtRoot r) l e = inr e
+shown_back P f c i h (Next id) l e = part_back (λ n. n.link) P f c.first i id h.nodes l e
+shown_back P f c i h (Side id) l e =
+    when_two (nat_lt 1 h.links) (option_map (λ n. n.side) (slice_get (change f i h.nodes) id)) (option_map (λ n. n.side) (slice_get h.nodes id)) l (P l)
+    (part_back (λ n. n.side) P f c.side i id h.nodes l) e
+
+no_link : Link → Type 0
+no_link l = ⊥
+
+-- a change that keeps them
+shown_kept : (f : Node → Node) → ((n : Node) → (f n).link ≡ n.link) → ((n : Node) → (f n).side ≡ n.side) → (i : ℕ) (h : Heap) (at : Place) (l : Link)
+    → shown record { nodes = change f i h.nodes; roots = h.roots; links = h.links } at ≡ Some l → shown h at ≡ Some l
+unfolding no_link
+shown_kept f first side i h at l e = elim (shown_back no_link f record { first = λ n. inr (first n); side = λ n. inr (side n) } i h at l e) [
+  | inl none ↦ absurd none
+  | inr same ↦ same
+]
 
 -- a node shows the same words as the other
 pub record Alike (n m : Node) : Type 0 where
   pub link : n.link ≡ m.link
+  pub side : n.side ≡ m.side
   pub first : n.first ≡ m.first
   pub second : n.second ≡ m.second
+
+alike : (n : Node) → Alike n n
+alike n = record { link = refl; side = refl; first = refl; second = refl }
+
+alike_by : (n m o : Node) → n ≡ m → Alike m o → Alike n o
+alike_by n m o e a = subst (λ (x : Node). Alike x o) (sym e) a
 
 target_back : (f : Node → Node) → ((n : Node) → Alike (f n) n) → (to : Option ℕ) (nodes : List Node) (id : ℕ) (n : Node)
     → slice_get (target_nodes f to nodes) id ≡ Some n
     → (m : Node) × (slice_get nodes id ≡ Some m) × Alike n m
-target_back f same None nodes id n e = (n, e, record { link = refl; first = refl; second = refl })
-target_back f same (Some i) nodes id n e = elim (change_back f i id nodes n e) [
-  | inl r ↦ (
-    r.1,
-    r.2,
-    let s = same r.1 in
-        record { link = ap (λ x. x.link) r.3 ∙ s.link; first = ap (λ x. x.first) r.3 ∙ s.first; second = ap (λ x. x.second) r.3 ∙ s.second },
-  )
-  | inr r ↦ (n, r.1, record { link = refl; first = refl; second = refl })
-]
+target_back f same None nodes id n e = (n, e, alike n)
+target_back f same (Some i) nodes id n e =
+    elim (change_back f i id nodes n e) [ inl r ↦ (r.1, r.2, alike_by n (f r.1) r.1 r.3 (same r.1)) | inr r ↦ (n, r.1, alike n) ]
 
 pub length_target : (f : Node → Node) (to : Option ℕ) (nodes : List Node) → length (target_nodes f to nodes) ≡ length nodes
 length_target f None nodes = refl
@@ -133,50 +197,58 @@ block_alike : (k : Bounds) (w g : List ℕ) (row : ℕ) (n m : Node) → Alike n
 block_alike k w g row n m a b = record {
   gate = b.gate;
   link = subst (λ (l : Link). IsWord g l.to l.mark (slice_index w (row_place k row + 4))) (sym a.link) b.link;
+  side = λ two. subst (λ (l : Link). IsWord g l.to l.mark (slice_index w (row_place k row + 5))) (sym a.side) (b.side two);
   first = λ v e. b.first v (sym a.first ∙ e);
   second = λ v e. b.second v (sym a.second ∙ e);
 }
 
 -- a word that is none of the row's
-block_else : (k : Bounds) (w g : List ℕ) (row : ℕ) (n : Node) (p v : ℕ) → row_place k row ≢ p → row_place k row + 2 ≢ p → row_place k row + 3 ≢ p
-    → row_place k row + 4 ≢ p
+block_else : (k : Bounds) (w g : List ℕ) (row : ℕ) (n : Node) (p v : ℕ) → ((i : ℕ) → IsOffset k i → row_place k row + i ≢ p)
     → Block k w g row n → Block k (slice_set w p v) g row n
-block_else k w g row n p v a b c d x = record {
-  gate = same_word w p v (row_place k row) a ∙ x.gate;
-  link = subst (IsWord g n.link.to n.link.mark) (sym (same_word w p v (row_place k row + 4) d)) x.link;
-  first = λ u e. same_word w p v (row_place k row + 2) b ∙ x.first u e;
-  second = λ u e. same_word w p v (row_place k row + 3) c ∙ x.second u e;
+block_else k w g row n p v other x = record {
+  gate = same_word w p v (row_place k row) (λ z. other 0 (first_five k 0 (omega arith)) (omega (arith, z))) ∙ x.gate;
+  link = subst (IsWord g n.link.to n.link.mark) (sym (same_word w p v (row_place k row + 4) (other 4 (first_five k 4 (omega arith))))) x.link;
+  side = λ two. subst (IsWord g n.side.to n.side.mark) (sym (same_word w p v (row_place k row + 5) (other 5 (side_offset k two)))) (x.side two);
+  first = λ u e. same_word w p v (row_place k row + 2) (other 2 (first_five k 2 (omega arith))) ∙ x.first u e;
+  second = λ u e. same_word w p v (row_place k row + 3) (other 3 (first_five k 3 (omega arith))) ∙ x.second u e;
+}
+
+free_else : (k : Bounds) (w : List ℕ) (r p v : ℕ) → ((i : ℕ) → IsOffset k i → row_place k r + i ≢ p) → IsFreeRow k w r → IsFreeRow k (slice_set w p v) r
+free_else k w r p v other x = record {
+  gate = same_word w p v (row_place k r) (λ z. other 0 (first_five k 0 (omega arith)) (omega (arith, z))) ∙ x.gate;
+  link = same_word w p v (row_place k r + 4) (other 4 (first_five k 4 (omega arith))) ∙ x.link;
+  side = λ two. same_word w p v (row_place k r + 5) (other 5 (side_offset k two)) ∙ x.side two;
 }
 
 -- a word of another row
-block_other : (k : Bounds) (w g : List ℕ) (r row i p v : ℕ) (n : Node) → i < 5 → p ≡ row_place k row + i → r ≢ row
-    → Block k w g r n → Block k (slice_set w p v) g r n
-block_other k w g r row i p v n low at ne x =
-    block_else k w g r n p v (λ z. ne (rows_apart k r row 0 i (omega arith) low (omega (arith, z, at))))
-    (λ z. ne (rows_apart k r row 2 i (omega arith) low (omega (arith, z, at))))
-    (λ z. ne (rows_apart k r row 3 i (omega arith) low (omega (arith, z, at))))
-    (λ z. ne (rows_apart k r row 4 i (omega arith) low (omega (arith, z, at)))) x
+of_other : (k : Bounds) (r row i p : ℕ) → IsOffset k i → p ≡ row_place k row + i → r ≢ row → (j : ℕ) → IsOffset k j → row_place k r + j ≢ p
+of_other k r row i p low at ne j less = λ z. ne (rows_apart k r row j i less low (z ∙ at))
 
-free_other : (k : Bounds) (w : List ℕ) (r row i p v : ℕ) → i < 5 → p ≡ row_place k row + i → r ≢ row → IsFreeRow k w r → IsFreeRow k (slice_set w p v) r
-free_other k w r row i p v low at ne x = record {
-  gate = same_word w p v (row_place k r) (λ z. ne (rows_apart k r row 0 i (omega arith) low (omega (arith, z, at)))) ∙ x.gate;
-  link = same_word w p v (row_place k r + 4) (λ z. ne (rows_apart k r row 4 i (omega arith) low (omega (arith, z, at)))) ∙ x.link;
-}
+block_other : (k : Bounds) (w g : List ℕ) (r row i p v : ℕ) (n : Node) → IsOffset k i → p ≡ row_place k row + i → r ≢ row
+    → Block k w g r n → Block k (slice_set w p v) g r n
+block_other k w g r row i p v n low at ne x = block_else k w g r n p v (of_other k r row i p low at ne) x
+
+free_other : (k : Bounds) (w : List ℕ) (r row i p v : ℕ) → IsOffset k i → p ≡ row_place k row + i → r ≢ row → IsFreeRow k w r → IsFreeRow k (slice_set w p v) r
+free_other k w r row i p v low at ne x = free_else k w r p v (of_other k r row i p low at ne) x
+
+-- a root's word is no row's
+of_root : (k : Bounds) (row r : ℕ) → r < k.roots → (i : ℕ) → IsOffset k i → row_place k row + i ≢ 1 + r
+of_root k row r lt i low = λ z. omega (arith, z, lt)
 
 -- nodes that were changed where no word shows
 tie_target : (k : Bounds) (w g : List ℕ) (h : Heap) (f : Node → Node) → ((n : Node) → Alike (f n) n) → ((n : Node) → (f n).named ≡ true) → (to : Option ℕ)
     → ((at : Place) (l : Link) → shown h at ≡ Some l → Named h.nodes l.to ⊎ (l.to ≡ to))
     → ((id : ℕ) → to ≡ Some id → (n : Node) × (slice_get h.nodes id ≡ Some n))
-    → (long : length w ≡ places k) (rooted : length h.roots ≡ k.roots) (single : h.links ≡ 1) (even : length g ≡ length h.nodes) (once : Once g)
+    → (long : length w ≡ places k) (rooted : length h.roots ≡ k.roots) (linked : h.links ≡ k.links) (even : length g ≡ length h.nodes) (once : Once g)
     (inside : (i row : ℕ) → slice_get g i ≡ Some row → row < k.rows)
     → ((r : ℕ) (l : Link) → slice_get h.roots r ≡ Some l → IsWord g l.to l.mark (slice_index w (1 + r)))
     → ((id row : ℕ) (n : Node) → slice_get g id ≡ Some row → slice_get h.nodes id ≡ Some n → Block k w g row n)
     → ((row : ℕ) → row < k.rows → ((id : ℕ) → slice_get g id ≢ Some row) → IsFreeRow k w row)
     → Tie k w g record { nodes = target_nodes f to h.nodes; roots = h.roots; links = h.links }
-tie_target k w g h f same sets to named there long rooted single even once inside root node free = record {
+tie_target k w g h f same sets to named there long rooted linked even once inside root node free = record {
   long = long;
   rooted = rooted;
-  single = single;
+  linked = linked;
   even = even ∙ sym (length_target f to h.nodes);
   once = once;
   inside = inside;
@@ -190,13 +262,11 @@ tie_target k w g h f same sets to named there long rooted single even once insid
 }
   where
     before : (at : Place) (l : Link) → shown record { nodes = target_nodes f to h.nodes; roots = h.roots; links = h.links } at ≡ Some l → shown h at ≡ Some l
-    before (AtRoot r) l e = e
-    before (Next id) l e = went (slice_get (target_nodes f to h.nodes) id) refl e
+    before at l e = by_target to e
       where
-        went : (o : Option Node) → slice_get (target_nodes f to h.nodes) id ≡ o → link_in o ≡ Some l → shown h (Next id) ≡ Some l
-        went None q x = cc
-        went (Some n) q x = let b = target_back f same to h.nodes id n q in ap link_in b.1 ∙ (ap Some (sym b.2.link) ∙ x)
-    before (Side id) l e = absurd (no_side h.links l (side_in (target_nodes f to h.nodes) id) single e)
+        by_target : (to : Option ℕ) → shown record { nodes = target_nodes f to h.nodes; roots = h.roots; links = h.links } at ≡ Some l → shown h at ≡ Some l
+        by_target None e = e
+        by_target (Some i) e = shown_kept f (λ n. (same n).link) (λ n. (same n).side) i h at l e
 
 -- a target that was given is there
 there_by : (k : Bounds) (w g : List ℕ) (h : Heap) → Tie k w g h → (t : Option ℕ) → Given g t → (id : ℕ) → id_by g t ≡ Some id
@@ -219,7 +289,7 @@ pub tie_take : (k : Bounds) (w g : List ℕ) (h : Heap) (a row : ℕ) → Tie k 
     → Tie k (slice_set w (row_place k row) 3) (g ++ row ∷ []) record { nodes = h.nodes ++ new_node a ∷ []; roots = h.roots; links = h.links }
 tie_take k w g h a row x lt zero_gate =
     let long = x.long in
-    let below = row_below k row lt in
+    let below = row_below k row 0 lt (first_five k 0 (omega arith)) in
     let new : (id : ℕ) → slice_get g id ≢ Some row = λ id e.
     let n = lt_get h.nodes id (let l = get_lt g id row e in let v = x.even in omega (arith, l, v)) in
     let b = (x.node id row n.0 e n.1).gate in omega (arith, b, zero_gate) in
@@ -228,7 +298,7 @@ tie_take k w g h a row x lt zero_gate =
     record {
       long = set_length ∙ long;
       rooted = x.rooted;
-      single = x.single;
+      linked = x.linked;
       even = length-append g (row ∷ []) ∙ (ap (λ n. n + 1) x.even ∙ sym (length-append h.nodes (new_node a ∷ [])));
       once = λ i j r e q. elim (get_end g row i r e) [
         | inl s ↦ elim (get_end g row j r q) [ inl t ↦ x.once i j r s t | inr t ↦ absurd (new i (s ∙ ap Some t.1)) ]
@@ -248,8 +318,14 @@ tie_take k w g h a row x lt zero_gate =
               | inl t ↦
                   let b = x.node id r n s t in
                   let ne : r ≢ row = λ z. new id (s ∙ ap Some z) in
-                  let old = block_other k w g r row 0 (row_place k row) 3 n (omega arith) (omega arith) ne b in
-                  record { gate = old.gate; link = word_grown g more n.link.to n.link.mark _ old.link; first = old.first; second = old.second }
+                  let old = block_other k w g r row 0 (row_place k row) 3 n (first_five k 0 (omega arith)) (omega arith) ne b in
+                  record {
+                    gate = old.gate;
+                    link = word_grown g more n.link.to n.link.mark _ old.link;
+                    side = λ two. word_grown g more n.side.to n.side.mark _ (old.side two);
+                    first = old.first;
+                    second = old.second;
+                  }
               | inr t ↦ let z = t.0 in absurd (omega (arith, z, in_old, even))
             ]
         | inr s ↦
@@ -261,12 +337,13 @@ tie_take k w g h a row x lt zero_gate =
                   (subst (λ (i : ℕ). Block k (slice_set w (row_place k row) 3) (g ++ more) i (new_node a)) (sym s.1) record {
                     gate = new_word w (row_place k row) 3 (omega (arith, long, below));
                     link = same_word w (row_place k row) 3 (row_place k row + 4) (λ z. omega (arith, z)) ∙ (x.free row lt new).link;
+                    side = λ two. same_word w (row_place k row) 3 (row_place k row + 5) (λ z. omega (arith, z)) ∙ (x.free row lt new).side two;
                     first = λ v e. cc;
                     second = λ v e. cc;
                   })
             ]
       ];
-      free = λ r l none. free_other k w r row 0 (row_place k row) 3 (omega arith) (omega arith)
+      free = λ r l none. free_other k w r row 0 (row_place k row) 3 (first_five k 0 (omega arith)) (omega arith)
           (λ q. none (length g) (subst (λ s. slice_get (g ++ row ∷ []) (length g) ≡ Some s) (sym q) (get_last g row)))
           (x.free r l (λ id e. none id (get-grown id g more r e)));
       targets = λ at l e. targets at l e;
@@ -282,15 +359,16 @@ tie_take k w g h a row x lt zero_gate =
     targets : (at : Place) (l : Link) → shown record { nodes = h.nodes ++ new_node a ∷ []; roots = h.roots; links = h.links } at ≡ Some l
         → Named (h.nodes ++ new_node a ∷ []) l.to
     targets (AtRoot r) l e = old_named l.to (x.targets (AtRoot r) l e)
-    targets (Next id) l e = went (slice_get (h.nodes ++ new_node a ∷ []) id) refl e
+    targets (Next id) l e = elim (part_end (λ n. n.link) h.nodes (new_node a) id l e) [
+      | inl old ↦ old_named l.to (x.targets (Next id) l old)
+      | inr new ↦ null_named l new
+    ]
+    targets (Side id) l e = by_links (nat_lt 1 h.links) (λ old. old_named l.to (x.targets (Side id) l old)) e
       where
-        went : (o : Option Node) → slice_get (h.nodes ++ new_node a ∷ []) id ≡ o → link_in o ≡ Some l → Named (h.nodes ++ new_node a ∷ []) l.to
-        went None q e = cc
-        went (Some n) q e = elim (get_end h.nodes (new_node a) id n q) [
-          | inl t ↦ old_named l.to (x.targets (Next id) l (ap link_in t ∙ e))
-          | inr t ↦ null_named l (sym (some_one n.link l e) ∙ ap (λ (m : Node). m.link) t.1)
-        ]
-    targets (Side id) l e = absurd (no_side h.links l (side_in (h.nodes ++ new_node a ∷ []) id) x.single e)
+        by_links : (two : Bool) → (cond two (option_map (λ n. n.side) (slice_get h.nodes id)) None ≡ Some l → Named (h.nodes ++ new_node a ∷ []) l.to)
+            → cond two (option_map (λ n. n.side) (slice_get (h.nodes ++ new_node a ∷ []) id)) None ≡ Some l → Named (h.nodes ++ new_node a ∷ []) l.to
+        by_links true f e = elim (part_end (λ n. n.side) h.nodes (new_node a) id l e) [ inl old ↦ f old | inr new ↦ null_named l new ]
+        by_links false f e = cc
 
 -- a value is filled
 pub tie_fill : (k : Bounds) (w g : List ℕ) (h : Heap) (row which value : ℕ) → Tie k w g h → row < k.rows → index_of row g < length g → which < 2
@@ -300,7 +378,7 @@ tie_fill k w g h row which value x lt given low =
     record {
       long = length-set w (row_place k row + 2 + which) value ∙ long;
       rooted = x.rooted;
-      single = x.single;
+      linked = x.linked;
       even = x.even ∙ sym (length-change (with_value which value) (index_of row g) h.nodes);
       once = x.once;
       inside = x.inside;
@@ -316,21 +394,23 @@ tie_fill k w g h row which value x lt given low =
             (filled_block which low t.1 long (x.node id row t.1 (e ∙ ap Some same) t.2)))
         | inr t ↦
             let ne = apart_rows k g x.once id row r e given t.0 in
-            block_other k w g r row (2 + which) (row_place k row + 2 + which) value n (omega (arith, low)) (omega arith) ne (x.node id r n e t.1)
+            block_other k w g r row (2 + which) (row_place k row + 2 + which) value n (first_five k (2 + which) (omega (arith, low))) (omega arith) ne (x.node id r n e t.1)
       ];
-      free = λ r l none. free_other k w r row (2 + which) (row_place k row + 2 + which) value (omega (arith, low)) (omega arith)
+      free = λ r l none. free_other k w r row (2 + which) (row_place k row + 2 + which) value (first_five k (2 + which) (omega (arith, low))) (omega arith)
           (λ q. none (index_of row g) (at_index row g given ∙ ap Some (sym q))) (x.free r l none);
       targets = targets;
     }
   where
-    below : row_place k row + 5 ≤ places k
-    below = row_below k row lt
+    below : row_place k row + 4 < places k
+    below = row_below k row 4 lt (first_five k 4 (omega arith))
 
     filled_block : (i : ℕ) → i < 2 → (m : Node) → length w ≡ places k → Block k w g row m
         → Block k (slice_set w (row_place k row + 2 + i) value) g row (with_value i value m)
     filled_block zero low m long b = record {
       gate = same_word w (row_place k row + 2 + 0) value (row_place k row) (λ z. omega (arith, z)) ∙ b.gate;
       link = subst (IsWord g m.link.to m.link.mark) (sym (same_word w (row_place k row + 2 + 0) value (row_place k row + 4) (λ z. omega (arith, z)))) b.link;
+      side = λ two. subst (IsWord g m.side.to m.side.mark)
+          (sym (same_word w (row_place k row + 2 + 0) value (row_place k row + 5) (λ z. omega (arith, z)))) (b.side two);
       first = λ v e. subst (λ z. slice_index (slice_set w z value) (row_place k row + 2) ≡ v) (let p : row_place k row + 2 ≡ row_place k row + 2 + 0 =
           omega arith in p) (new_word w (row_place k row + 2) value (omega (arith, long, below)) ∙ some_one value v e);
       second = λ v e. same_word w (row_place k row + 2 + 0) value (row_place k row + 3) (λ z. omega (arith, z)) ∙ b.second v e;
@@ -339,6 +419,8 @@ tie_fill k w g h row which value x lt given low =
       gate = same_word w (row_place k row + 2 + suc i) value (row_place k row) (λ z. omega (arith, z)) ∙ b.gate;
       link = subst (IsWord g m.link.to m.link.mark)
           (sym (same_word w (row_place k row + 2 + suc i) value (row_place k row + 4) (λ z. omega (arith, z, none)))) b.link;
+      side = λ two. subst (IsWord g m.side.to m.side.mark)
+          (sym (same_word w (row_place k row + 2 + suc i) value (row_place k row + 5) (λ z. omega (arith, z, none)))) (b.side two);
       first = λ v e. same_word w (row_place k row + 2 + suc i) value (row_place k row + 2) (λ z. omega (arith, z)) ∙ b.first v e;
       second = λ v e. subst (λ z. slice_index (slice_set w z value) (row_place k row + 3) ≡ v)
           (let p : row_place k row + 3 ≡ row_place k row + 2 + suc i = omega (arith, none) in p)
@@ -357,61 +439,100 @@ tie_fill k w g h row which value x lt given low =
         keeps_link zero n = refl
         keeps_link (suc i) n = refl
 
+        keeps_side : (i : ℕ) (n : Node) → (with_value i value n).side ≡ n.side
+        keeps_side zero n = refl
+        keeps_side (suc i) n = refl
+
         before : (at : Place) → shown record { nodes = change (with_value which value) (index_of row g) h.nodes; roots = h.roots; links = h.links } at ≡ Some l
             → shown h at ≡ Some l
-        before (AtRoot r) e = e
-        before (Next id) e = went (slice_get (change (with_value which value) (index_of row g) h.nodes) id) refl e
-          where
-            went : (o : Option Node) → slice_get (change (with_value which value) (index_of row g) h.nodes) id ≡ o → link_in o ≡ Some l
-                → shown h (Next id) ≡ Some l
-            went None q e = cc
-            went (Some n) q e = elim (change_back (with_value which value) (index_of row g) id h.nodes n q) [
-              | inl t ↦ ap link_in t.2 ∙ (ap Some (sym (keeps_link which t.1) ∙ ap (λ (m : Node). m.link) (sym t.3)) ∙ e)
-              | inr t ↦ ap link_in t.1 ∙ e
-            ]
-        before (Side id) e = absurd (no_side h.links l (side_in (change (with_value which value) (index_of row g) h.nodes) id) x.single e)
+        before at e = shown_kept (with_value which value) (keeps_link which) (keeps_side which) (index_of row g) h at l e
+
+-- where a row's link of this number stands after its gate
+abbrev pub link_offset : ℕ → ℕ
+link_offset zero = 4
+link_offset (suc number) = 5
+
+-- rows have a link of this number
+abbrev pub HasNumber : Bounds → ℕ → Type 0
+HasNumber k zero = Unit {0}
+HasNumber k (suc number) = 1 < k.links
+
+number_offset : (k : Bounds) (number : ℕ) → HasNumber k number → IsOffset k (link_offset number)
+number_offset k zero has = first_five k 4 (omega arith)
+number_offset k (suc number) has = side_offset k has
+
+-- a row's words after its link of this number was set
+block_link : (k : Bounds) (w g : List ℕ) (row number v : ℕ) (l : Link) (m : Node) → row_place k row + link_offset number < length w → IsWord g l.to l.mark v
+    → Block k w g row m → Block k (slice_set w (row_place k row + link_offset number) v) g row (with_numbered number l m)
+block_link k w g row zero v l m below is b = record {
+  gate = same_word w (row_place k row + 4) v (row_place k row) (λ z. omega (arith, z)) ∙ b.gate;
+  link = subst (IsWord g l.to l.mark) (sym (new_word w (row_place k row + 4) v below)) is;
+  side = λ two. subst (IsWord g m.side.to m.side.mark) (sym (same_word w (row_place k row + 4) v (row_place k row + 5) (λ z. omega (arith, z)))) (b.side two);
+  first = λ u e. same_word w (row_place k row + 4) v (row_place k row + 2) (λ z. omega (arith, z)) ∙ b.first u e;
+  second = λ u e. same_word w (row_place k row + 4) v (row_place k row + 3) (λ z. omega (arith, z)) ∙ b.second u e;
+}
+block_link k w g row (suc number) v l m below is b = record {
+  gate = same_word w (row_place k row + 5) v (row_place k row) (λ z. omega (arith, z)) ∙ b.gate;
+  link = subst (IsWord g m.link.to m.link.mark) (sym (same_word w (row_place k row + 5) v (row_place k row + 4) (λ z. omega (arith, z)))) b.link;
+  side = λ two. subst (IsWord g l.to l.mark) (sym (new_word w (row_place k row + 5) v below)) is;
+  first = λ u e. same_word w (row_place k row + 5) v (row_place k row + 2) (λ z. omega (arith, z)) ∙ b.first u e;
+  second = λ u e. same_word w (row_place k row + 5) v (row_place k row + 3) (λ z. omega (arith, z)) ∙ b.second u e;
+}
+
+links_set : (number : ℕ) (l : Link) → ChangesLinks (λ x. x.to ≡ l.to) (with_numbered number l)
+links_set zero l = record { first = λ n. inl refl; side = λ n. inr refl }
+links_set (suc number) l = record { first = λ n. inr refl; side = λ n. inl refl }
+
+keeps_named : (number : ℕ) (l : Link) (n : Node) → n.named ≡ true → (with_numbered number l n).named ≡ true
+keeps_named zero l n e = e
+keeps_named (suc number) l n e = e
 
 -- a node's link is set, and its target is noted
 pub tie_link : (k : Bounds) (w g : List ℕ) (h : Heap) (f : Node → Node) → ((n : Node) → Alike (f n) n) → ((n : Node) → (f n).named ≡ true)
-    → (row : ℕ) (to : Option ℕ) (mark : Bool)
-    → Tie k w g h → row < k.rows → index_of row g < length g → Given g to
-    → Tie k (slice_set w (row_place k row + 4) (2 * name_word to + bit mark)) g
+    → (number row : ℕ) (to : Option ℕ) (mark : Bool)
+    → Tie k w g h → HasNumber k number → row < k.rows → index_of row g < length g → Given g to
+    → Tie k (slice_set w (row_place k row + link_offset number) (2 * name_word to + bit mark)) g
     record {
-      nodes = target_nodes f (id_by g to) (change (λ n. record n { link = record { to = id_by g to; mark = mark } }) (index_of row g) h.nodes);
+      nodes = target_nodes f (id_by g to) (change (with_numbered number (record { to = id_by g to; mark = mark })) (index_of row g) h.nodes);
       roots = h.roots;
       links = h.links;
     }
-tie_link k w g h f same sets row to mark x lt given target =
+tie_link k w g h f same sets number row to mark x has lt given target =
     let long = x.long in
-    tie_target k (slice_set w (row_place k row + 4) v) g h1 f same sets (id_by g to) named there
-    (length-set w (row_place k row + 4) v ∙ long)
+    let low = number_offset k number has in
+    tie_target k (slice_set w (row_place k row + link_offset number) v) g h1 f same sets (id_by g to) named there
+    (length-set w (row_place k row + link_offset number) v ∙ long)
     x.rooted
-    x.single
+    x.linked
     (x.even ∙ sym (length-change linked_to (index_of row g) h.nodes))
     x.once
     x.inside
     (λ r l e.
     let below = get_lt h.roots r l e in
     let rooted = x.rooted in
-    subst (IsWord g l.to l.mark) (sym (same_word w (row_place k row + 4) v (1 + r) (λ q. omega (arith, q, below, rooted)))) (x.root r l e))
+    subst (IsWord g l.to l.mark) (sym (same_word w (row_place k row + link_offset number) v (1 + r) (λ q. omega (arith, q, below, rooted)))) (x.root r l e))
     (λ id r n e q. elim (change_back linked_to (index_of row g) id h.nodes n q) [
       | inl t ↦
           let same : r ≡ row = some_one r row (sym e ∙ (ap (slice_get g) (sym t.0) ∙ at_index row g given)) in
-          subst (λ (m : Node). Block k (slice_set w (row_place k row + 4) v) g r m) (sym t.3)
-          (subst (λ i. Block k (slice_set w (row_place k row + 4) v) g i (linked_to t.1)) (sym same)
-          (own t.1 long (x.node id row t.1 (e ∙ ap Some same) t.2)))
+          let below = row_below k row (link_offset number) lt low in
+          subst (λ (m : Node). Block k (slice_set w (row_place k row + link_offset number) v) g r m) (sym t.3)
+          (subst (λ i. Block k (slice_set w (row_place k row + link_offset number) v) g i (linked_to t.1)) (sym same)
+          (block_link k w g row number v new t.1 (omega (arith, long, below)) (word_by g to mark target) (x.node id row t.1 (e ∙ ap Some same) t.2)))
       | inr t ↦
           let ne = apart_rows k g x.once id row r e given t.0 in
-          block_other k w g r row 4 (row_place k row + 4) v n (omega arith) refl ne (x.node id r n e t.1)
+          block_other k w g r row (link_offset number) (row_place k row + link_offset number) v n low refl ne (x.node id r n e t.1)
     ])
-    (λ r l none. free_other k w r row 4 (row_place k row + 4) v (omega arith) refl
+    (λ r l none. free_other k w r row (link_offset number) (row_place k row + link_offset number) v low refl
     (λ q. none (index_of row g) (at_index row g given ∙ ap Some (sym q))) (x.free r l none))
   where
     v : ℕ
     v = 2 * name_word to + bit mark
 
+    new : Link
+    new = record { to = id_by g to; mark = mark }
+
     linked_to : Node → Node
-    linked_to n = record n { link = record { to = id_by g to; mark = mark } }
+    linked_to n = with_numbered number (record { to = id_by g to; mark = mark }) n
 
     h1 : Heap
     h1 = record { nodes = change linked_to (index_of row g) h.nodes; roots = h.roots; links = h.links }
@@ -420,25 +541,11 @@ tie_link k w g h f same sets row to mark x lt given target =
     there id e = let t = there_by k w g h x to target id e in
         elim (get-change linked_to (index_of row g) id h.nodes t.0 t.1) [ inl r ↦ (linked_to t.0, r.1) | inr r ↦ (t.0, r.1) ]
 
-    own : (m : Node) → length w ≡ places k → Block k w g row m → Block k (slice_set w (row_place k row + 4) v) g row (linked_to m)
-    own m long b = let below = row_below k row lt in record {
-      gate = same_word w (row_place k row + 4) v (row_place k row) (λ z. omega (arith, z)) ∙ b.gate;
-      link = subst (IsWord g (id_by g to) mark) (sym (new_word w (row_place k row + 4) v (omega (arith, long, below)))) (word_by g to mark target);
-      first = λ u e. same_word w (row_place k row + 4) v (row_place k row + 2) (λ z. omega (arith, z)) ∙ b.first u e;
-      second = λ u e. same_word w (row_place k row + 4) v (row_place k row + 3) (λ z. omega (arith, z)) ∙ b.second u e;
-    }
-
     named : (at : Place) (l : Link) → shown h1 at ≡ Some l → Named h1.nodes l.to ⊎ (l.to ≡ id_by g to)
-    named (AtRoot r) l e = inl (named_change linked_to (λ n q. q) (index_of row g) h.nodes l.to (x.targets (AtRoot r) l e))
-    named (Next id) l e = went (slice_get (change linked_to (index_of row g) h.nodes) id) refl e
-      where
-        went : (o : Option Node) → slice_get (change linked_to (index_of row g) h.nodes) id ≡ o → link_in o ≡ Some l → Named h1.nodes l.to ⊎ (l.to ≡ id_by g to)
-        went None q e = cc
-        went (Some n) q e = elim (change_back linked_to (index_of row g) id h.nodes n q) [
-          | inl t ↦ inr (ap (λ (z : Link). z.to) (sym (some_one n.link l e)) ∙ ap (λ (m : Node). m.link.to) t.3)
-          | inr t ↦ inl (named_change linked_to (λ n q. q) (index_of row g) h.nodes l.to (x.targets (Next id) l (ap link_in t.1 ∙ e)))
-        ]
-    named (Side id) l e = absurd (no_side h.links l (side_in h1.nodes id) x.single e)
+    named at l e = elim (shown_back (λ y. y.to ≡ id_by g to) linked_to (links_set number new) (index_of row g) h at l e) [
+      | inl is ↦ inr is
+      | inr old ↦ inl (named_change linked_to (λ n q. keeps_named number new n q) (index_of row g) h.nodes l.to (x.targets at l old))
+    ]
 
 -- a root is set, and its target is noted
 pub tie_root : (k : Bounds) (w g : List ℕ) (h : Heap) (f : Node → Node) → ((n : Node) → Alike (f n) n) → ((n : Node) → (f n).named ≡ true)
@@ -451,7 +558,7 @@ tie_root k w g h f same sets r to mark x lt target =
     tie_target k (slice_set w (1 + r) v) g h1 f same sets (id_by g to) named (λ id e. there_by k w g h x to target id e)
     (length-set w (1 + r) v ∙ long)
     (length-change (λ l. new) r h.roots ∙ x.rooted)
-    x.single
+    x.linked
     x.even
     x.once
     x.inside
@@ -461,12 +568,8 @@ tie_root k w g h f same sets r to mark x lt target =
           (subst (IsWord g (id_by g to) mark) (sym (new_word w (1 + r) v (omega (arith, long, lt)))) (word_by g to mark target)))
       | inr t ↦ subst (IsWord g l.to l.mark) (sym (same_word w (1 + r) v (1 + i) (λ z. t.0 (omega (arith, z))))) (x.root i l t.1)
     ])
-    (λ id i n e q. block_else k w g i n (1 + r) v (λ z. omega (arith, z, lt)) (λ z. omega (arith, z, lt)) (λ z. omega (arith, z, lt))
-    (λ z. omega (arith, z, lt)) (x.node id i n e q))
-    (λ i l none. record {
-      gate = same_word w (1 + r) v (row_place k i) (λ z. omega (arith, z, lt)) ∙ (x.free i l none).gate;
-      link = same_word w (1 + r) v (row_place k i + 4) (λ z. omega (arith, z, lt)) ∙ (x.free i l none).link;
-    })
+    (λ id i n e q. block_else k w g i n (1 + r) v (of_root k i r lt) (x.node id i n e q))
+    (λ i l none. free_else k w i (1 + r) v (of_root k i r lt) (x.free i l none))
   where
     v : ℕ
     v = 2 * name_word to + bit mark
@@ -483,14 +586,14 @@ tie_root k w g h f same sets r to mark x lt target =
       | inr t ↦ inl (x.targets (AtRoot i) l t.1)
     ]
     named (Next id) l e = inl (x.targets (Next id) l e)
-    named (Side id) l e = absurd (no_side h.links l (side_in h1.nodes id) x.single e)
+    named (Side id) l e = inl (x.targets (Side id) l e)
 
 -- a new table's words show the new heap
 pub tie_start : (k : Bounds) → Tie k (new_words k) [] (new_heap (numbers k))
 tie_start k = record {
   long = new_words_long k;
   rooted = length-replicate k.roots null;
-  single = refl;
+  linked = refl;
   even = refl;
   once = λ i j r e q. cc;
   inside = λ i r e. cc;
@@ -498,7 +601,11 @@ tie_start k = record {
       subst (λ (z : Link). IsWord [] z.to z.mark (slice_index (new_words k) (1 + r))) (sym (all_null k.roots r l e))
       (new_words_each k (word.Root r) (omega (arith, low, long)));
   node = λ id r n e q. cc;
-  free = λ r l none. record { gate = new_words_each k (word.Gate r) l; link = new_words_each k (word.Next r) l };
+  free = λ r l none. record {
+    gate = new_words_each k (word.Gate r) l;
+    link = new_words_each k (word.Next r) l;
+    side = λ two. new_words_each k (word.Side r) (l, two);
+  };
   targets = targets;
 }
   where
@@ -510,4 +617,8 @@ tie_start k = record {
     targets : (at : Place) (l : Link) → shown (new_heap (numbers k)) at ≡ Some l → Named [] l.to
     targets (AtRoot r) l e = subst (λ (z : Link). Named [] z.to) (sym (all_null k.roots r l e)) tt
     targets (Next id) l e = cc
-    targets (Side id) l e = cc
+    targets (Side id) l e = no_link_at (nat_lt 1 k.links) e
+      where
+        no_link_at : (two : Bool) → cond two None None ≡ Some l → Named [] l.to
+        no_link_at true e = cc
+        no_link_at false e = cc

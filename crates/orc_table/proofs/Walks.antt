@@ -60,7 +60,7 @@ module _ {N : Type 0} where
   signed x a (Read row which) n said = tt
   signed x a (LinkLoad at want) n said = load_signed x a (place_by x.given at) want n said
   signed x a (LinkCas at from to) n said = test_signed x a (place_by x.given at) (link_by x.given from) _ (n == link_word from) refl
-  signed x a (LinkStore row to) n said = (refl, tt)
+  signed x a (LinkStore row number to) n said = (refl, tt)
 
 module _ {N : Type 0} (k : Bounds) where
   -- steps of others have events of others

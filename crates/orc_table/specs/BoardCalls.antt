@@ -38,7 +38,7 @@ module _ {D N : Type 0} {d : discipline.Ghosts D N} {m : machine.Ghosts Plain N 
   abbrev pub KnowsRow : PassOf D N d m → ℕ → Type 0
   KnowsRow p row = ViewKnowsRow (board_bounds board) (shows board p) row
 
-  -- the place is a root, or the link of a row whose node the agent knows
+  -- the place is a root, or the first or second link of a row whose node the agent knows
   abbrev pub KnowsPlace : PassOf D N d m → Word → Type 0
   KnowsPlace p place = ViewKnowsPlace (board_bounds board) (shows board p) place
 
@@ -56,9 +56,10 @@ module _ {D N : Type 0} {d : discipline.Ghosts D N} {m : machine.Ghosts Plain N 
   MayMove p place from to note =
       MayWhereShown (d.may (board_numbers board)) (board_bounds board) (shows board p) place from (move_event (shows board p) place from to note)
 
-  -- it allows an Aim of the row's node, wherever that fits
-  abbrev pub MayAim : PassOf D N d m → ℕ → RowLink → Type 0
-  MayAim p row link = MayWhereFits (d.may (board_numbers board)) (board_bounds board) (shows board p) (aim_event (shows board p) row link)
+  -- it allows an Aim of the first link of the row's node, or an AimSide of its second, wherever that fits
+  abbrev pub MayAim : PassOf D N d m → ℕ → ℕ → RowLink → Type 0
+  MayAim p row number link =
+      MayWhereFits (d.may (board_numbers board)) (board_bounds board) (shows board p) (aim_event (shows board p) row number link)
 
   -- the call makes no event
   abbrev pub MakesNoEvent : PassOf D N d m → PassOf D N d m → Type 0
@@ -103,9 +104,10 @@ module _ {D N : Type 0} {d : discipline.Ghosts D N} {m : machine.Ghosts Plain N 
   FailsToMove old new place wanted =
       Fails (d.may (board_numbers board)) (place_by (shows board old).rows place) (link_by (shows board old).rows wanted) (shows board old) (shows board new)
 
-  -- the row's link was of this word, and is aimed at the link's target
-  abbrev pub ReplacesWord : PassOf D N d m → PassOf D N d m → ℕ → ℕ → RowLink → Type 0
-  ReplacesWord old new row word link = Replaces (d.may (board_numbers board)) (board_bounds board) row word link (shows board old) (shows board new)
+  -- the row's first or second link was of this word, and is aimed at the link's target
+  abbrev pub ReplacesWord : PassOf D N d m → PassOf D N d m → ℕ → ℕ → ℕ → RowLink → Type 0
+  ReplacesWord old new row number word link =
+      Replaces (d.may (board_numbers board)) (board_bounds board) row number word link (shows board old) (shows board new)
 
   -- the row's node has this value, as far as it was filled
   abbrev pub ReadsRow : PassOf D N d m → PassOf D N d m → ℕ → ℕ → ℕ → Type 0

@@ -1,10 +1,11 @@
 -- What the calls ask, and what they tell, of what the pass shows before and after.
 use Rattle.std.specs.Prelude.{◌≡◌, ◌≢◌, ℕ, ◌<◌, ◌%◌, ◌==◌, cond, List, [], ◌∷◌, ◌++◌, Option, Some, None, ◌⊎◌}
 use Rattle.orc_words.specs.Bounds.{Bounds}
+use Rattle.orc_words.specs.Places.{link_at}
 use Rattle.orc_words.specs.declared.packed.RowLink.{RowLink}
 use Rattle.orc_words.specs.declared.place.Word.{Word}
-use Rattle.orc_words.specs.declared.place.Word.TheVariants.{Root, Next}
-use Rattle.orc_heap.specs.Acts.{IsKnown, IsTarget}
+use Rattle.orc_words.specs.declared.place.Word.TheVariants.{Root, Next, Side}
+use Rattle.orc_heap.specs.Acts.{IsKnown, IsTarget, aim_act}
 use Rattle.orc_heap.specs.Allowed.{AllAllowed, AllowedLater, AllowedWhereFits, Later, events_by}
 use Rattle.orc_heap.specs.Heap.{shown}
 use Rattle.orc_heap.specs.Journals.{event_by, run_heap}
@@ -12,7 +13,6 @@ use Rattle.orc_heap.specs.declared.events.Act.TheVariants as act
 use Rattle.orc_heap.specs.declared.events.Event.{Event}
 use Rattle.orc_heap.specs.declared.events.Link.{Link}
 use Rattle.orc_heap.specs.declared.events.Place.{Place}
-use Rattle.orc_heap.specs.declared.events.Place.TheVariants.{Next as AtNext}
 use mathlib.Core.List.{IsPrefix}
 use Rattle.orc_shared_words.specs.Lists.{Among}
 use Rattle.orc_table.specs.Machine.{id_by, index_of, link_by, numbers, place_by}
@@ -41,10 +41,11 @@ module _ {N : Type 0} where
   abbrev pub KnowsTarget : Bounds → PlainView N → RowLink → Type 0
   KnowsTarget b s l = IsTarget s.agent (heap_of b s) (id_by s.rows l.to)
 
-  -- a root, or the link of a row whose node the agent knows
+  -- a root, or the first or second link of a row whose node the agent knows
   abbrev pub KnowsPlace : Bounds → PlainView N → Word → Type 0
   KnowsPlace b s (Root r) = r < b.roots
   KnowsPlace b s (Next row) = KnowsRow b s row
+  KnowsPlace b s (Side row) = KnowsRow b s row × (1 < b.links)
   KnowsPlace b s word = ⊥
 
   -- a look at a link, an exchange of a link, and a store of a link, as events of the pass
@@ -54,8 +55,8 @@ module _ {N : Type 0} where
   abbrev pub move_event : PlainView N → Word → RowLink → RowLink → Option N → Event N
   move_event s place from to said = event_by s.agent (act.Move (place_by s.rows place) (link_by s.rows from) (link_by s.rows to)) said
 
-  abbrev pub aim_event : PlainView N → ℕ → RowLink → Event N
-  aim_event s row link = event_by s.agent (act.Aim (index_of row s.rows) (id_by s.rows link.to)) None
+  abbrev pub aim_event : PlainView N → ℕ → ℕ → RowLink → Event N
+  aim_event s row number link = event_by s.agent (aim_act number (index_of row s.rows) (id_by s.rows link.to)) None
 
   module _ (may : List (Event N) → Event N → Type 0) where
     -- the event is allowed in every later journal of the pass, wherever the place shows the link
@@ -115,11 +116,11 @@ module _ {N : Type 0} where
       pub adds : Adds (event_by s.agent (act.Miss place wanted link) None ∷ []) s t
       pub fresh : t.fresh ≡ s.fresh
 
-    -- the store replaces this link, whose word is the number
-    pub record Replaces (b : Bounds) (row n : ℕ) (link : RowLink) (s t : PlainView N) : Type 0 where
-      pub adds : Adds (aim_event s row link ∷ []) s t
+    -- the store replaces this link of the row, its first or second one, whose word is n
+    pub record Replaces (b : Bounds) (row number n : ℕ) (link : RowLink) (s t : PlainView N) : Type 0 where
+      pub adds : Adds (aim_event s row number link ∷ []) s t
       pub old : Link
-      pub shown_is : shown (run_heap (numbers b) (s.events ++ adds.met)) (AtNext (index_of row s.rows)) ≡ Some old
+      pub shown_is : shown (run_heap (numbers b) (s.events ++ adds.met)) (place_by s.rows (link_at number row)) ≡ Some old
       pub word : IsWord t.rows old.to old.mark n
 
   -- the events, and the rows that they gave, of the one or the other, whichever has seen more; the other's events are a prefix

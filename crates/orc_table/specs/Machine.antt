@@ -5,24 +5,25 @@ use Rattle.std.specs.Prelude.{ℕ, zero, suc, ◌<◌, ◌==◌, List, [], ◌�
 use Rattle.orc_words.specs.Bounds.{Bounds}
 use Rattle.orc_words.specs.Packed.{link_word}
 use Rattle.orc_words.specs.NewWords.{new_words}
-use Rattle.orc_words.specs.Places.{place}
+use Rattle.orc_words.specs.Places.{link_at as link_word_at, place}
 use Rattle.orc_words.specs.declared.packed.RowLink.{RowLink}
 use Rattle.orc_words.specs.declared.place.Word.{Word}
-use Rattle.orc_words.specs.declared.place.Word.TheVariants.{Root, Gate, First, Second, Next}
+use Rattle.orc_words.specs.declared.place.Word.TheVariants.{Root, Gate, First, Second, Next, Side}
+use Rattle.orc_heap.specs.Acts.{aim_act}
 use Rattle.orc_heap.specs.Heap.{Heap, HeapNumbers, new_heap, null, shown}
 use Rattle.orc_heap.specs.Journals.{event_by, run_from as heap_from}
 use Rattle.orc_heap.specs.declared.events.Act.TheVariants as act
 use Rattle.orc_heap.specs.declared.events.Event.{Event}
 use Rattle.orc_heap.specs.declared.events.Link.{Link}
 use Rattle.orc_heap.specs.declared.events.Place.{Place}
-use Rattle.orc_heap.specs.declared.events.Place.TheVariants.{Root as AtRoot, Next as AtNext}
+use Rattle.orc_heap.specs.declared.events.Place.TheVariants.{Root as AtRoot, Next as AtNext, Side as AtSide}
 use Rattle.orc_table.specs.declared.machine.PlainOp.{PlainOp}
 use Rattle.orc_table.specs.declared.machine.PlainOp.TheVariants.{GateLook, GateTake, Fill, Read, LinkLoad, LinkCas, LinkStore}
 use Rattle.orc_table.specs.declared.machine.PlainStep.{PlainStep}
 
--- the heap of a table has its roots, and nodes of one link
+-- the heap of a table has its roots, and nodes with as many links as its rows
 abbrev pub numbers : Bounds → HeapNumbers
-numbers b = record { roots = b.roots; links = 1 }
+numbers b = record { roots = b.roots; links = b.links }
 
 -- the word of a row's first (0) or second (1) value
 abbrev pub value_word : ℕ → ℕ → Word
@@ -37,7 +38,7 @@ word_of (Fill row which value) = value_word row which
 word_of (Read row which) = value_word row which
 word_of (LinkLoad at want) = at
 word_of (LinkCas at from to) = at
-word_of (LinkStore row to) = Next row
+word_of (LinkStore row number to) = link_word_at number row
 
 abbrev pub unmarked : Option ℕ → RowLink
 unmarked to = record { to = to; mark = false }
@@ -50,7 +51,7 @@ written (Fill row which value) n = value
 written (Read row which) n = n
 written (LinkLoad at want) n = n
 written (LinkCas at from to) n = cond (n == link_word from) (link_word to) n
-written (LinkStore row to) n = link_word (unmarked to)
+written (LinkStore row number to) n = link_word (unmarked to)
 
 -- what it answers: the number found, and after a fill the number written
 abbrev pub answer : PlainOp → ℕ → ℕ
@@ -60,19 +61,20 @@ answer (Fill row which value) n = value
 answer (Read row which) n = n
 answer (LinkLoad at want) n = n
 answer (LinkCas at from to) n = n
-answer (LinkStore row to) n = n
+answer (LinkStore row number to) n = n
 
--- the word of a root's or a row's link
+-- the word of a root's link, or of a row's first or second one
 abbrev pub IsLinkWord : Bounds → Word → Type 0
 IsLinkWord b (Root r) = r < b.roots
 IsLinkWord b (Next row) = row < b.rows
+IsLinkWord b (Side row) = (row < b.rows) × (1 < b.links)
 IsLinkWord b word = ⊥
 
 -- null, or a link to a row of the table
 abbrev pub IsRowLink : Bounds → Option ℕ → Type 0
 IsRowLink b to = ForSome to (λ row. row < b.rows)
 
--- rows, roots and values are within the table
+-- rows, roots, values and links are within the table
 abbrev pub Allowed : Bounds → PlainOp → Type 0
 Allowed b (GateLook row) = row < b.rows
 Allowed b (GateTake row) = row < b.rows
@@ -80,7 +82,7 @@ Allowed b (Fill row which value) = (row < b.rows) × (which < 2)
 Allowed b (Read row which) = (row < b.rows) × (which < 2)
 Allowed b (LinkLoad at want) = IsLinkWord b at
 Allowed b (LinkCas at from to) = IsLinkWord b at × IsRowLink b from.to × IsRowLink b to.to
-Allowed b (LinkStore row to) = (row < b.rows) × IsRowLink b to
+Allowed b (LinkStore row number to) = (row < b.rows) × (number < b.links) × IsRowLink b to
 
 -- the row that is given, if the operation gives one
 abbrev pub taken : PlainOp → ℕ → List ℕ
@@ -105,6 +107,7 @@ link_by g l = record { to = id_by g l.to; mark = l.mark }
 abbrev pub place_by : List ℕ → Word → Place
 place_by g (Root r) = AtRoot r
 place_by g (Next row) = AtNext (index_of row g)
+place_by g (Side row) = AtSide (index_of row g)
 place_by g word = AtNext (length g)
 
 -- the link of a place that is there
@@ -150,7 +153,7 @@ module _ {N : Type 0} where
   events_of x a (Read row which) n said = []
   events_of x a (LinkLoad at want) n said = load_event x a (place_by x.given at) want n said ∷ []
   events_of x a (LinkCas at from to) n said = cas_event x a (place_by x.given at) from to n said ∷ []
-  events_of x a (LinkStore row to) n said = event_by a (act.Aim (index_of row x.given) (id_by x.given to)) None ∷ []
+  events_of x a (LinkStore row number to) n said = event_by a (aim_act number (index_of row x.given) (id_by x.given to)) None ∷ []
 
   abbrev pub events_at : Bounds → State → PlainStep N → List (Event N)
   events_at b x s = events_of x s.agent s.op (finds b x s.op) s.note

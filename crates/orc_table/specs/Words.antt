@@ -3,7 +3,7 @@ use Rattle.std.specs.Prelude.{◌≡◌, ◌≢◌, ℕ, ◌+◌, ◌*◌, ◌<�
 use Rattle.orc_words.specs.Bounds.{Bounds}
 use Rattle.orc_words.specs.Packed.{bit}
 use Rattle.orc_words.specs.Places.{place, places}
-use Rattle.orc_words.specs.declared.place.Word.TheVariants.{Root, Gate, First, Second, Next}
+use Rattle.orc_words.specs.declared.place.Word.TheVariants.{Root, Gate, First, Second, Next, Side}
 use Rattle.orc_heap.specs.Heap.{Heap, Node, shown}
 use Rattle.orc_heap.specs.declared.events.Link.{Link}
 use Rattle.orc_heap.specs.declared.events.Place.{Place}
@@ -21,10 +21,11 @@ IsOut g row = (id : ℕ) × (slice_get g id ≡ Some row)
 abbrev pub Once : List ℕ → Type 0
 Once g = (i j row : ℕ) → slice_get g i ≡ Some row → slice_get g j ≡ Some row → i ≡ j
 
--- the words of a row show its node: the gate word of a first life, the link, and each value that was filled
+-- the words of a row show its node: the gate word of a first life, the links, and each value that was filled
 pub record Block (b : Bounds) (w g : List ℕ) (row : ℕ) (n : Node) : Type 0 where
   pub gate : slice_index w (place b (Gate row)) ≡ 3
   pub link : IsWord g n.link.to n.link.mark (slice_index w (place b (Next row)))
+  pub side : 1 < b.links → IsWord g n.side.to n.side.mark (slice_index w (place b (Side row)))
   pub first : (v : ℕ) → n.first ≡ Some v → slice_index w (place b (First row)) ≡ v
   pub second : (v : ℕ) → n.second ≡ Some v → slice_index w (place b (Second row)) ≡ v
 
@@ -32,17 +33,18 @@ pub record Block (b : Bounds) (w g : List ℕ) (row : ℕ) (n : Node) : Type 0 w
 pub record IsFreeRow (b : Bounds) (w : List ℕ) (row : ℕ) : Type 0 where
   pub gate : slice_index w (place b (Gate row)) ≡ 0
   pub link : slice_index w (place b (Next row)) ≡ 0
+  pub side : 1 < b.links → slice_index w (place b (Side row)) ≡ 0
 
--- the node that a link names is there, and an Aim or a Move made a link to it
+-- the node that a link names is there, and an Aim, an AimSide or a Move made a link to it
 abbrev pub Named : List Node → Option ℕ → Type 0
 Named nodes None = Unit {0}
 Named nodes (Some id) = (n : Node) × (slice_get nodes id ≡ Some n) × (n.named ≡ true)
 
--- the words show the heap of nodes of one link, where row i of the list is node i, and no other row is out
+-- the words show the heap, where row i of the list is node i, and no other row is out
 pub record Tie (b : Bounds) (w g : List ℕ) (h : Heap) : Type 0 where
   pub long : length w ≡ places b
   pub rooted : length h.roots ≡ b.roots
-  pub single : h.links ≡ 1
+  pub linked : h.links ≡ b.links
   pub even : length g ≡ length h.nodes
   pub once : Once g
   pub inside : (i row : ℕ) → slice_get g i ≡ Some row → row < b.rows

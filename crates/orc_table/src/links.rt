@@ -70,21 +70,30 @@ impl<D: Discipline> PlainBoard<D> {
         0
     }
 
-    /// Writes the fresh row's link, without a mark. Answers the word that was there.
-    pub fn link_store(&self, p: &mut PlainBoardPass<D>, row: u32, link: RowLink) -> u64
+    /// Writes the fresh row's first (0) or second (1) link, without a mark. Answers the word that was there.
+    pub fn link_store(&self, p: &mut PlainBoardPass<D>, row: u32, number: u32, link: RowLink) -> u64
         requires belongs { Belongs self.now p.old }
         requires row { row < (board_bounds self.now).rows }
+        requires number { number < (board_bounds self.now).links }
         requires fresh { IsFresh self.now p.old row }
         requires unmarked { link.mark ≡ false }
         requires other { link.to ≢ Some row }
         requires target { KnowsLink self.now p.old link }
-        requires allowed { MayAim self.now p.old row link }
+        requires allowed { MayAim self.now p.old row number link }
         ensures belongs { Belongs self.now p.new }
-        ensures replaces { ReplacesWord self.now p.old p.new row result link }
+        ensures replaces { ReplacesWord self.now p.old p.new row number result link }
         ensures looked { KeepsLook self.now p.old p.new }
         ensures fresh { KeepsFresh self.now p.old p.new }
     {
-        self.step(p, PlainOp::LinkStore { row, to: link.to }, &None)
+        self.step(
+            p,
+            PlainOp::LinkStore {
+                row,
+                number,
+                to: link.to,
+            },
+            &None,
+        )
     }
 }
 

@@ -5,7 +5,7 @@ ghost use Rattle.orc_table.specs.Machine.{value_word, word_of};
 
 use crate::shape::PlainShape;
 use orc_shared_words::{Machine, PlacedOperation};
-use orc_words::{Operation, RowLink, Word, pack_link};
+use orc_words::{Operation, RowLink, Word, link_of_row, pack_link};
 
 /// An operation of one agent on one word.
 #[derive(Clone, Copy, Debug, PartialEq, Eq)]
@@ -40,9 +40,10 @@ pub enum PlainOp {
         from: RowLink,
         to: RowLink,
     },
-    /// Writes the link word of a row, without a mark, and reads what was there.
+    /// Writes a row's first (0) or second (1) link word, without a mark, and reads what was there.
     LinkStore {
         row: u32,
+        number: u32,
         to: Option<u32>,
     },
 }
@@ -88,7 +89,7 @@ fn word_of(op: &PlainOp) -> Word
             from: _,
             to: _,
         } => place,
-        PlainOp::LinkStore { row, to: _ } => Word::Next(row),
+        PlainOp::LinkStore { row, number, to: _ } => link_of_row(number, row),
     }
 }
 
@@ -136,9 +137,11 @@ impl<N: Copy> Machine<N> for Plain {
             PlainOp::LinkCas { place: _, from, to } => {
                 Operation::CompareExchange(pack_link(from), pack_link(to))
             }
-            PlainOp::LinkStore { row: _, to } => {
-                Operation::Swap(pack_link(RowLink { to, mark: false }))
-            }
+            PlainOp::LinkStore {
+                row: _,
+                number: _,
+                to,
+            } => Operation::Swap(pack_link(RowLink { to, mark: false })),
         };
         PlacedOperation { index, operation }
     }

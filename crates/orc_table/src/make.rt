@@ -21,7 +21,7 @@ use orc_words::{RowLink, Shape, Word, new_words, pack_link, place_of};
 use std::alloc::Global;
 
 impl<D: Discipline> PlainBoard<D> {
-    /// A board whose rows have one link, and one pass an agent, in order. Its journal begins with the seed's events, of agent 0.
+    /// A board, and one pass an agent, in order. Its journal begins with the seed's events, of agent 0.
     ///
     /// # Errors
     ///
@@ -31,7 +31,6 @@ impl<D: Discipline> PlainBoard<D> {
         shape: &Shape,
         seed: Seed<D::Note>,
     ) -> Result<(PlainBoard<D>, Vec<PlainBoardPass<D>>), NoMemory>
-        requires links { (bounds_of shape.now).links ≡ 1 }
         requires holds { D.holds (numbers (bounds_of shape.now)) [] }
         requires seed { SeedAllowed D.may (numbers (bounds_of shape.now)) seed }
         ensures bounds { IfOk result (λ made. board_bounds made.0 ≡ bounds_of shape.now) }

@@ -57,7 +57,7 @@ fn fill_row(board: &Board, p: &mut Pass, row: u32) -> (u64, u64)
 {
     board.fill(p, row, 0, 7);
     board.fill(p, row, 1, 8);
-    board.link_store(p, row, NULL);
+    board.link_store(p, row, 0, NULL);
     board.seen_by(p);
     let first = board.read(p, row, 0);
     board.seen_by(p);
@@ -112,7 +112,6 @@ fn look_at_root(board: &Board, p: &mut Pass) -> (u64, u64)
 
 // Makes a board with one node, to which roots 0 and 1 link.
 fn with_dummy(alloc: Global, shape: &Shape) -> Result<(Board, Vec<Pass>), NoMemory>
-    requires links { (bounds_of shape.now).links ≡ 1 }
     requires roots { 2 ≤ (bounds_of shape.now).roots }
     ensures bounds { IfOk result (λ made. board_bounds made.0 ≡ bounds_of shape.now) }
     ensures belongs { IfOk result (λ made. All (λ p. Belongs made.0 p) made.1.items) }

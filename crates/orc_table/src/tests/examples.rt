@@ -22,6 +22,7 @@ fn rows_and_nodes()
     ensures not_out { ¬ IsOut (3 ∷ 7 ∷ []) 9 }
     ensures link { link_by (3 ∷ 7 ∷ []) (record { to = Some 7; mark = true }) ≡ record { to = Some 1; mark = true } }
     ensures next { place_by (3 ∷ 7 ∷ []) (Word.Next 3) ≡ at.Next 0 }
+    ensures side { place_by (3 ∷ 7 ∷ []) (Word.Side 7) ≡ at.Side 1 }
     ensures root { place_by (3 ∷ 7 ∷ []) (Word.Root 1) ≡ at.Root 1 }
 {}
 
@@ -49,6 +50,14 @@ fn fresh_rows()
     ensures linked { unless_linked (Some 4) (Some 4) ≡ None }
     ensures other { unless_linked (Some 4) (Some 5) ≡ Some 4 }
     ensures unlinked { unless_linked (Some 4) None ≡ Some 4 }
+{}
+
+// Agent 1 takes row 0, and stores null in both of its links.
+fn stores_of_both_links()
+    ensures { let b : Bounds = record { rows = 2; roots = 1; agents = 2; limit = 8; links = 2 } in
+        project b (step_of {N = Unit {0}} 1 (PlainOp.GateTake 0) None ∷ step_of 1 (PlainOp.LinkStore 0 0 None) None
+        ∷ step_of 1 (PlainOp.LinkStore 0 1 None) None ∷ [])
+        ≡ event_by 1 act.Give None ∷ event_by 1 (act.Aim 0 None) None ∷ event_by 1 (act.AimSide 0 None) None ∷ [] }
 {}
 
 // Two agents take row 1: the first gets it, and the other's step is no event. Then a load finds null.
