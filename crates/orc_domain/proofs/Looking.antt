@@ -49,7 +49,7 @@ link_one rows l k g f e = let r = went l.to k.to g f (ap (λ (z : Link). z.to) e
 module _ {D N : Type 0} {d : discipline.Ghosts D N} {m : machine.Ghosts Plain N (PlainShape N) PlainOp (PlainStep N) (Unit {0}) (Unit {0})}
     (domain : PlainDomain D N) (p p1 : PlainPass D N (PlainShape N) PlainOp (PlainStep N) (Unit {0}) (Unit {0}) d m) (h : IsPassOf domain p)
     (h1 : IsPassOf domain p1) (same : IsSame p p1)
-    (at : At) (word : Word) (there : HoldsPlace (domain_bounds domain).roots (seat_of domain p).slots at) (word_same : word ≡ word_at at)
+    (at : At) (word : Word) (there : HoldsPlace (domain_numbers domain) (seat_of domain p).slots at) (word_same : word ≡ word_at at)
     (one : RowLink)
     (l : Loads (d.may (domain_numbers domain)) (domain_bounds domain) (place_by (shows domain.board p.pass).rows word) one
     (shows domain.board p.pass) (shows domain.board p1.pass))
@@ -75,8 +75,8 @@ module _ {D N : Type 0} {d : discipline.Ghosts D N} {m : machine.Ghosts Plain N 
     pub fresh_still : (seat_of domain p1).fresh ≡ (seat_of domain p).fresh
     fresh_still = ap (id_by t.rows) l.fresh ∙ fresh_stays b s t s.fresh grows (fresh_given domain p h)
 
-    pub there_still : HoldsPlace b.roots (seat_of domain p1).slots at
-    there_still = subst (λ (z : Slots). HoldsPlace b.roots z at) (sym slots_still) there
+    pub there_still : HoldsPlace (domain_numbers domain) (seat_of domain p1).slots at
+    there_still = subst (λ (z : Slots). HoldsPlace (domain_numbers domain) z at) (sym slots_still) there
 
     pub known_first : KnowsPlace b s word
     known_first = subst (λ w. KnowsPlace b s w) (sym word_same) (place_known domain p h at there)

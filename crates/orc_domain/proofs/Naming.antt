@@ -1,13 +1,13 @@
 -- What a caller names, by what the pass holds.
 use Rattle.std.specs.Borrow.{Bor}
-use Rattle.std.proofs.Common.{◌≡◌, ◌≢◌, ℕ, ◌<◌, length, Option, Some, None, slice_get, false, refl, sym, ap, ◌∙◌, subst}
+use Rattle.std.proofs.Common.{◌≡◌, ◌≢◌, ℕ, ◌<◌, length, Option, Some, None, slice_get, false, refl, sym, ap, ◌∙◌, subst, arith}
 use Rattle.orc_words.specs.Bounds.{Bounds}
 use Rattle.orc_heap.specs.Seats.{HoldsFresh, HoldsPlace, HoldsTarget, HoldsWant, link_in, place_in, target_in}
 use Rattle.orc_heap.specs.Slots.{Hold, Holds, id_in}
 use Rattle.orc_heap.specs.declared.discipline.Discipline as discipline
-use Rattle.orc_heap.specs.declared.events.Place.TheVariants.{Next}
+use Rattle.orc_heap.specs.declared.events.Place.TheVariants.{Next, Side}
 use Rattle.orc_heap.specs.declared.holds.At.{At}
-use Rattle.orc_heap.specs.declared.holds.At.TheVariants.{Node as AtNode, Root as AtRoot}
+use Rattle.orc_heap.specs.declared.holds.At.TheVariants.{Node as AtNode, Root as AtRoot, Side as AtSide}
 use Rattle.orc_heap.specs.declared.holds.Want.{Want}
 use Rattle.orc_heap.specs.declared.holds.Want.TheVariants.{Node as WantNode, Null as WantNull}
 use Rattle.orc_shared_words.specs.declared.machine.Machine as machine
@@ -22,7 +22,7 @@ use Rattle.orc_table.specs.declared.machine.PlainOp.{PlainOp}
 use Rattle.orc_table.specs.declared.machine.PlainStep.{PlainStep}
 use Rattle.orc_table.specs.declared.shape.PlainShape.{PlainShape}
 use Rattle.orc_domain.specs.Laws.Passes.{row_in}
-use Rattle.orc_domain.specs.Passes.{IsPassOf, domain_bounds, seat_of}
+use Rattle.orc_domain.specs.Passes.{IsPassOf, domain_bounds, domain_numbers, seat_of}
 use Rattle.orc_domain.specs.Rows.{row_link, target_link, word_at}
 use Rattle.orc_domain.specs.declared.domain.PlainDomain.{PlainDomain}
 use Rattle.orc_domain.specs.declared.domain.PlainPass.{PlainPass}
@@ -61,13 +61,15 @@ module _ {D N : Type 0} {d : discipline.Ghosts D N} {m : machine.Ghosts Plain N 
         went (Some row) is g f =
             is ∙ ap Some (one_row s.rows row hold.row g (hold_given hold e.held) (some_one (index_of row s.rows) (index_of hold.row s.rows) f))
 
-    pub place_known : (at : At) → HoldsPlace b.roots (seat_of domain p).slots at → KnowsPlace b s (word_at at)
+    pub place_known : (at : At) → HoldsPlace (domain_numbers domain) (seat_of domain p).slots at → KnowsPlace b s (word_at at)
     place_known (AtRoot r) l = l
     place_known (AtNode hold) e = hold_known hold.now e
+    place_known (AtSide hold) e = let two : b.links ≡ 2 = e.1 in (hold_known hold.now e.0, omega (arith, two))
 
-    pub place_is : (at : At) → HoldsPlace b.roots (seat_of domain p).slots at → place_by s.rows (word_at at) ≡ place_in (seat_of domain p).slots at
+    pub place_is : (at : At) → HoldsPlace (domain_numbers domain) (seat_of domain p).slots at → place_by s.rows (word_at at) ≡ place_in (seat_of domain p).slots at
     place_is (AtRoot r) l = refl
     place_is (AtNode hold) e = ap Next (sym (hold_in hold.now e).1)
+    place_is (AtSide hold) e = ap Side (sym (hold_in hold.now e.0).1)
 
     pub want_known : (want : Want) → HoldsWant (seat_of domain p).slots want → KnowsTarget b s (row_link want)
     want_known (WantNull mark) e = tt

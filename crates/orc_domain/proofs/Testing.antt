@@ -62,7 +62,7 @@ unless_is rows (Some row) (Some other) g k = dite (ℕ_discrete row other)
 module _ {D N : Type 0} {d : discipline.Ghosts D N} {m : machine.Ghosts Plain N (PlainShape N) PlainOp (PlainStep N) (Unit {0}) (Unit {0})}
     (domain : PlainDomain D N) (p : PlainPass D N (PlainShape N) PlainOp (PlainStep N) (Unit {0}) (Unit {0}) d m) (h : IsPassOf domain p)
     (q : BoardPass D N (PlainShape N) PlainOp (PlainStep N) (Unit {0}) (Unit {0}) d m) (x : Belongs domain.board q)
-    (at : At) (place : Word) (there : HoldsPlace (domain_bounds domain).roots (seat_of domain p).slots at) (place_same : place ≡ word_at at)
+    (at : At) (place : Word) (there : HoldsPlace (domain_numbers domain) (seat_of domain p).slots at) (place_same : place ≡ word_at at)
     (from : Want) (link : RowLink) (holds_from : HoldsWant (seat_of domain p).slots from) (link_same : link ≡ row_link from)
   where
     abbrev b : Bounds

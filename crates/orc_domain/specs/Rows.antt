@@ -8,7 +8,7 @@ use Rattle.orc_words.specs.declared.place.Word.TheVariants as word
 use Rattle.orc_heap.specs.Seats.{Seat}
 use Rattle.orc_heap.specs.Slots.{Hold, SlotNode, Slots}
 use Rattle.orc_heap.specs.declared.holds.At.{At}
-use Rattle.orc_heap.specs.declared.holds.At.TheVariants.{Node as AtNode, Root as AtRoot}
+use Rattle.orc_heap.specs.declared.holds.At.TheVariants.{Node as AtNode, Root as AtRoot, Side as AtSide}
 use Rattle.orc_heap.specs.declared.holds.Want.{Want}
 use Rattle.orc_heap.specs.declared.holds.Want.TheVariants.{Node as WantNode, Null as WantNull}
 use Rattle.orc_table.specs.Calls.{KnowsRow}
@@ -38,6 +38,7 @@ pub record Keeps {N : Type 0} (b : Bounds) (s : PlainView N) (slots : List (Opti
 abbrev pub word_at : At → Word
 word_at (AtRoot r) = word.Root r
 word_at (AtNode h) = word.Next h.now.row
+word_at (AtSide h) = word.Side h.now.row
 
 -- the link that a caller names, by its row
 abbrev pub row_link : Want → RowLink

@@ -14,7 +14,7 @@ ghost use Rattle.orc_domain.specs.Turns.{IsNext};
 ghost use Rattle.orc_table.specs.Words.{IsOut};
 
 use crate::domain::{PlainDomain, PlainPass};
-use crate::names::{row_link, target_link, word_at};
+use crate::names::{row_link, word_at};
 use orc_fault::{NoNode, Spent};
 use orc_heap::{At, Discipline, Event, Held, Links, Looked, Seen, Want};
 use orc_words::pack_link;
@@ -146,8 +146,12 @@ impl<D: Discipline> Links for PlainDomain<D> {
     }
 
     fn aim(&self, p: &mut PlainPass<D>, fresh: &Held, to: Option<&Held>) -> Result<(), Spent> {
-        let link = target_link(to);
-        self.board.link_store(&mut p.pass, fresh.row(), link);
+        self.store(p, fresh, 0, to);
+        Ok(())
+    }
+
+    fn aim_side(&self, p: &mut PlainPass<D>, fresh: &Held, to: Option<&Held>) -> Result<(), Spent> {
+        self.store(p, fresh, 1, to);
         Ok(())
     }
 

@@ -20,7 +20,7 @@ use orc_words::Shape;
 use std::alloc::Global;
 
 impl<D: Discipline> PlainDomain<D> {
-    /// A domain whose nodes have one link, and one pass an agent, in order. Its journal begins with the seed's events, of agent 0.
+    /// A domain whose nodes have as many links as the shape's rows, and one pass an agent, in order. Its journal begins with the seed's events, of agent 0.
     ///
     /// # Errors
     ///
@@ -30,7 +30,6 @@ impl<D: Discipline> PlainDomain<D> {
         shape: &Shape,
         seed: Seed<D::Note>,
     ) -> Result<(PlainDomain<D>, Vec<PlainPass<D>>), NoMemory>
-        requires links { (bounds_of shape.now).links ≡ 1 }
         requires holds { D.holds (numbers (bounds_of shape.now)) [] }
         requires seed { SeedAllowed D.may (numbers (bounds_of shape.now)) seed }
         ensures bounds { IfOk result (λ made. domain_bounds made.0 ≡ bounds_of shape.now) }

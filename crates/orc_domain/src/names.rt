@@ -15,6 +15,7 @@ pub fn word_at(place: &At) -> Word
     match *place {
         At::Root(root) => Word::Root(root),
         At::Node(h) => Word::Next(h.row()),
+        At::Side(h) => Word::Side(h.row()),
     }
 }
 

@@ -1,15 +1,18 @@
 //! The parts of which the calls are made.
 
-ghost use Rattle.std.specs.Prelude.{◌≡◌, ◌<◌, ◌%◌, ◌+◌, MatchBool, None, Some, slice_get};
+ghost use Rattle.std.specs.Prelude.{◌≡◌, ◌<◌, ◌%◌, ◌+◌, ◌∷◌, [], MatchBool, None, Some, slice_get};
 ghost use mathlib.Core.List.{IsPrefix};
 ghost use Rattle.orc_heap.specs.Heap.{new_node};
+ghost use Rattle.orc_heap.specs.OwnEvents.{Only};
+ghost use Rattle.orc_heap.specs.Seats.{HoldsFresh, HoldsTarget};
 ghost use Rattle.orc_table.specs.Calls.{KnowsPlace};
 ghost use Rattle.orc_table.specs.Machine.{index_of, place_by};
 ghost use Rattle.orc_table.specs.Views.{heap_of, shows};
-ghost use Rattle.orc_domain.specs.Calls.{Furnishes, IsSame, Loads, Loses, Retires, Takes};
-ghost use Rattle.orc_domain.specs.Passes.{IsPassOf, domain_bounds, domain_numbers, next_row, rows_of, seat_of};
+ghost use Rattle.orc_domain.specs.Calls.{Furnishes, IsSame, Loads, Loses, MayAimAt, Retires, Takes, aim_at};
+ghost use Rattle.orc_domain.specs.Passes.{IsPassOf, domain_bounds, domain_numbers, journal_of, next_row, rows_of, seat_of};
 
 use crate::domain::{PlainDomain, PlainPass};
+use crate::names::target_link;
 use orc_heap::{Discipline, Held};
 use orc_words::{RowLink, Word, read_link};
 
@@ -61,6 +64,22 @@ impl<D: Discipline> PlainDomain<D> {
         p.slots[slot as usize] = Some(row);
         p.next = (row + 1) % p.shape.rows();
         Held::new(row, slot)
+    }
+
+    // Sets the first (0) or second (1) link of the fresh node.
+    pub(crate) fn store(&self, p: &mut PlainPass<D>, fresh: &Held, number: u32, to: Option<&Held>)
+        requires pass { IsPassOf self.now p.old }
+        requires number { number < (domain_bounds self.now).links }
+        requires fresh { HoldsFresh (seat_of self.now p.old) fresh.now }
+        requires target { HoldsTarget (seat_of self.now p.old) to }
+        requires allowed { MayAimAt (D.may (domain_numbers self.now)) (domain_numbers self.now) (seat_of self.now p.old) number fresh.now to }
+        ensures pass { IsPassOf self.now p.new }
+        ensures later { IsPrefix (journal_of p.old) (journal_of p.new) }
+        ensures aimed { Only (aim_at (seat_of self.now p.old) number fresh.now to.entry ∷ []) (seat_of self.now p.old) (seat_of self.now p.new) }
+    {
+        let link = target_link(to);
+        self.board
+            .link_store(&mut p.pass, fresh.row(), number, link);
     }
 
     // Reads a link.

@@ -7,7 +7,7 @@ use Rattle.orc_domain.proofs.Aiming.{aims, may_aim}
 use Rattle.orc_domain.proofs.Filling.{fresh_is}
 use Rattle.orc_domain.proofs.Growing.{still_adds}
 use Rattle.orc_domain.proofs.Naming.{hold_below, target_known, target_other, target_plain}
-use Rattle.orc_domain.proofs.links.PlainDomainLinks.aim.Goals as goal
+use Rattle.orc_domain.proofs.domain.PlainDomain.store.Goals as goal
 
 pub link_store-requires-clause-row : goal.link_store-requires-clause-row
 link_store-requires-clause-row g c =
@@ -36,7 +36,7 @@ link_store-requires-clause-target g c =
 
 pub link_store-requires-clause-allowed : goal.link_store-requires-clause-allowed
 link_store-requires-clause-allowed g c =
-    may_aim c.args.self.now c.args.p.now c.requires.pass c.args.p.now.pass c.requires.pass.board c.args.fresh.now c.row.result c.row.ensures
+    may_aim c.args.self.now c.args.p.now c.requires.pass c.args.p.now.pass c.requires.pass.board c.args.fresh.now c.row.result c.args.number c.row.ensures
     c.requires.fresh c.args.to c.target_link-link.result c.requires.target c.target_link-link.ensures c.requires.allowed
 
 pub returns-clause-pass : goal.returns-clause-pass
@@ -45,6 +45,6 @@ returns-clause-pass g c =
 
 pub returns-clause-aimed : goal.returns-clause-aimed
 returns-clause-aimed g c =
-    aims c.args.self.now c.args.p.now c.requires.pass c.link_store.new.p c.link_store.ensures.belongs c.args.fresh.now c.row.result c.row.ensures
+    aims c.args.self.now c.args.p.now c.requires.pass c.link_store.new.p c.link_store.ensures.belongs c.args.fresh.now c.row.result c.args.number c.row.ensures
     c.requires.fresh c.args.to c.target_link-link.result c.requires.target c.target_link-link.ensures
     c.link_store.ensures.replaces.adds c.link_store.ensures.fresh
