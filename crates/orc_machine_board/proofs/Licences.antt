@@ -1,5 +1,5 @@
 -- What licenses the steps on links.
-use Rattle.std.proofs.Common.{Bool, List, None, Option, Some, [], ap, arith, eqb-true, false, refl, subst, sym, true, ℕ, ◌++◌, ◌+◌, ◌<◌, ◌∙◌, ◌≡◌}
+use Rattle.std.proofs.Common.{Bool, List, None, Option, Some, [], ap, arith, eqb-true, false, refl, subst, suc, sym, true, zero, ℕ, ◌++◌, ◌+◌, ◌<◌, ◌∙◌, ◌≡◌}
 use Rattle.std.specs.Option.{option_map}
 use Rattle.std.specs.Prelude.{if◌then◌else◌, is_none, nat_lt, not, ◌&&◌, ◌==◌, ◌||◌}
 use Rattle.orc_core.proofs.Within.{and_both, may_parts}
@@ -13,13 +13,13 @@ use Rattle.orc_heap.specs.Allowed.{AllAllowed, Later}
 use Rattle.orc_heap.specs.Heap.{HeapNumbers, shown}
 use Rattle.orc_heap.specs.Journals.{FitsAfter, IsPlain as IsPlainEvent, run_heap}
 use Rattle.orc_heap.specs.declared.events.Act.{Act}
-use Rattle.orc_heap.specs.declared.events.Act.TheVariants.{Aim, Look, Miss, Move}
+use Rattle.orc_heap.specs.declared.events.Act.TheVariants.{Look, Miss, Move}
 use Rattle.orc_heap.specs.declared.events.Event.{Event}
 use Rattle.orc_heap.specs.declared.events.Link.{Link}
 use Rattle.orc_heap.specs.declared.events.Place.{Place}
 use Rattle.orc_history.specs.Journals.{own_of}
 use Rattle.orc_projection.specs.PresentIds.{PresentIds, node_link, node_place}
-use Rattle.orc_projection.specs.Projection.{act_of, events_of, exchange_act, load_act, present_ids, project}
+use Rattle.orc_projection.specs.Projection.{act_of, aim_act, events_of, exchange_act, load_act, present_ids, project}
 use Rattle.orc_machine_board.proofs.Events.{event_fits, plain_licensed}
 use Rattle.orc_machine_board.proofs.Holds.{has_out, node_stays, one_of}
 use Rattle.orc_projection.proofs.Links.{link_back}
@@ -205,16 +205,16 @@ wanted_has : (d : Agent) (to : Option ℕ) → IsHeldOrNull d to → HasTarget d
 wanted_has d None h = tt
 wanted_has d (Some r) h = has_either (any_holds d.slots r) (names d.fresh r) h
 
-store_has : (b : Bounds) (a : ℕ) (d : Agent) (row : ℕ) (link : RowLink) → fits b 0 a (LinkStore row link 0) d ≡ true → HasTarget d link.to
-store_has b a d row link h =
+store_has : (b : Bounds) (a : ℕ) (d : Agent) (row number : ℕ) (link : RowLink) → fits b 0 a (LinkStore row link number) d ≡ true → HasTarget d link.to
+store_has b a d row number link h =
     let fresh = names d.fresh row && may_target b d link.to && may_change d (b.limit + 64) None link.to in
-    let doomed = doom_at d.doom row 0 && is_none link.to && not link.mark in
-    let one = and_both (nat_lt row b.rows && nat_lt 0 b.links && is_empty (slot_of d 0)) (fresh || doomed) h in
+    let doomed = doom_at d.doom row number && is_none link.to && not link.mark in
+    let one = and_both (nat_lt row b.rows && nat_lt number b.links && is_empty (slot_of d 0)) (fresh || doomed) h in
     one_of fresh doomed (HasTarget d link.to) one.1
     (λ e. has_target b d link.to
     (and_both (names d.fresh row) (may_target b d link.to)
     (and_both (names d.fresh row && may_target b d link.to) (may_change d (b.limit + 64) None link.to) e).0).1)
-    (λ e. none_has link.to (and_both (doom_at d.doom row 0) (is_none link.to) (and_both (doom_at d.doom row 0 && is_none link.to) (not link.mark) e).0).1)
+    (λ e. none_has link.to (and_both (doom_at d.doom row number) (is_none link.to) (and_both (doom_at d.doom row number && is_none link.to) (not link.mark) e).0).1)
   where
     none_has : (to : Option ℕ) → is_none to ≡ true → HasTarget d to
     none_has None e = tt
@@ -244,13 +244,14 @@ module _ {N : Type 0} where
             (h at refl (f ∙ ap Some (same e)))
         choice false e f = plain _ f (refl, tt)
 
-    aim_may : (t : Bool) (row : ℕ) (to : Option ℕ)
-        → (t ≡ true → FitsAfter n past (record { agent = s.agent; act = Aim row to; note = None })
-        → may past (record { agent = s.agent; act = Aim row to; note = None }))
-        → Each (FitsAfter n past) (events_of s (if t then Some (Aim row to) else None))
-        → Each (may past) (events_of s (if t then Some (Aim row to) else None))
-    aim_may true row to h f = h refl f
-    aim_may false row to h f = tt
+    aim_may : (t : Bool) (number row : ℕ) (to : Option ℕ)
+        → (t ≡ true → FitsAfter n past (record { agent = s.agent; act = aim_act number row to; note = None })
+        → may past (record { agent = s.agent; act = aim_act number row to; note = None }))
+        → Each (FitsAfter n past) (events_of s (if t then Some (aim_act number row to) else None))
+        → Each (may past) (events_of s (if t then Some (aim_act number row to) else None))
+    aim_may true zero row to h f = h refl f
+    aim_may true (suc number) row to h f = h refl f
+    aim_may false number row to h f = tt
 
   module _ (k : MachineShape N) (holds : List (Event N) → Type 0) (may : List (Event N) → Event N → Type 0)
       (law : (past : List (Event N)) (e : Event N) → holds past → FitsAfter (heap_numbers k) past e → IsPlainEvent e → may past e)
@@ -297,13 +298,13 @@ module _ {N : Type 0} where
         none_some e = cc
     load_licensed place slot (Some link) (Some said) can bare allowed = noted_licensed place slot link (Some said) can (allowed link said refl refl)
 
-    pub store_licensed : (row : ℕ) (link : RowLink) → RequestAllowed (bounds_in k) a (asks (LinkStore row link 0)) v.own
-        → (names v.own.fresh row ≡ true → AimAllowed may (bounds_in k) (view_of a v) row link.to)
-        → Licensed counted_rules k holds may v a (asks (LinkStore row link 0)) None
-    store_licensed row link can allowed between none later =
+    pub store_licensed : (row which : ℕ) (link : RowLink) → RequestAllowed (bounds_in k) a (asks (LinkStore row link which)) v.own
+        → (names v.own.fresh row ≡ true → AimAllowed may (bounds_in k) (view_of a v) row which link.to)
+        → Licensed counted_rules k holds may v a (asks (LinkStore row link which)) None
+    store_licensed row which link can allowed between none later =
         let b = bounds_in k in
         let j = v.seen ++ between in
-        let ask : Request = asks (LinkStore row link 0) in
+        let ask : Request = asks (LinkStore row link which) in
         let s : Step N = step_of a ask None in
         let l = (counted_obeys k).lawful_next j a ask None later.lawful (subst (RequestAllowed b a ask) (sym later.mine) can) in
         let p : PresentIds = present_ids b v.seen in
@@ -311,18 +312,18 @@ module _ {N : Type 0} where
         let d : Agent = record_at (run_of b j) a in
         let stays = stays_for k holds may v a number now between none later in
         let st : option_map q.node link.to ≡ option_map p.node link.to = same_target p q v.own stays link.to
-        (store_has b a v.own row link (may_parts b 0 a (LinkStore row link 0) v.own can.may).fits) in
+        (store_has b a v.own row which link (may_parts b 0 a (LinkStore row link which) v.own can.may).fits) in
         let met = meets k holds may v a between none later in
-        aim_may (heap_numbers k) may (project b j) (λ e. law (project b j) e later.kept) s q (word_read (run_of b j) a (LinkStore row link 0))
-        (names d.fresh row) (q.node row) (option_map q.node link.to)
+        aim_may (heap_numbers k) may (project b j) (λ e. law (project b j) e later.kept) s q (word_read (run_of b j) a (LinkStore row link which))
+        (names d.fresh row) which (q.node row) (option_map q.node link.to)
         (λ e fits.
         let fresh : names v.own.fresh row ≡ true = subst (λ (z : Agent). names z.fresh row ≡ true) later.mine e in
         let sr : q.node row ≡ p.node row = stays row (fresh_has (any_holds v.own.slots row) (names v.own.fresh row) fresh) in
-        subst (λ (z : ℕ × Option ℕ). may (project b j) (record { agent = a; act = Aim z.0 z.1; note = None })) (λ i. (sym sr i, sym st i))
-        (subst (λ l. may l (record { agent = a; act = Aim (p.node row) (option_map p.node link.to); note = None })) (sym met.is)
+        subst (λ (z : ℕ × Option ℕ). may (project b j) (record { agent = a; act = aim_act which z.0 z.1; note = None })) (λ i. (sym sr i, sym st i))
+        (subst (λ l. may l (record { agent = a; act = aim_act which (p.node row) (option_map p.node link.to); note = None })) (sym met.is)
         (allowed fresh met.more met.later
-        (subst (λ l. FitsAfter (heap_numbers k) l (record { agent = a; act = Aim (p.node row) (option_map p.node link.to); note = None })) met.is
-        (subst (λ (z : ℕ × Option ℕ). FitsAfter (heap_numbers k) (project b j) (record { agent = a; act = Aim z.0 z.1; note = None }))
+        (subst (λ l. FitsAfter (heap_numbers k) l (record { agent = a; act = aim_act which (p.node row) (option_map p.node link.to); note = None })) met.is
+        (subst (λ (z : ℕ × Option ℕ). FitsAfter (heap_numbers k) (project b j) (record { agent = a; act = aim_act which z.0 z.1; note = None }))
         (λ i. (sr i, st i)) fits)))))
         (event_fits b j s (in_range k.shape) l.0 l.1)
       where

@@ -4,12 +4,12 @@ use Rattle.std.specs.Option.{option_map}
 use Rattle.std.specs.Prelude.{List, None, Option, Some, ℕ, ◌≡◌}
 use Rattle.orc_heap.specs.Allowed.{AllowedLater, AllowedWhereFits}
 use Rattle.orc_heap.specs.Journals.{event_by}
-use Rattle.orc_heap.specs.declared.events.Act.TheVariants.{Aim, Look, Move}
+use Rattle.orc_heap.specs.declared.events.Act.TheVariants.{Look, Move}
 use Rattle.orc_heap.specs.declared.events.Event.{Event}
 use Rattle.orc_heap.specs.declared.events.Place.{Place}
 use Rattle.orc_projection.specs.Mirror.{numbers_of}
 use Rattle.orc_projection.specs.PresentIds.{PresentIds, node_link, node_place}
-use Rattle.orc_projection.specs.Projection.{present_ids, project}
+use Rattle.orc_projection.specs.Projection.{aim_act, present_ids, project}
 use Rattle.orc_machine_board.specs.Views.{MachineView}
 use Rattle.orc_words.specs.Bounds.{Bounds}
 use Rattle.orc_words.specs.declared.packed.RowLink.{RowLink}
@@ -37,7 +37,7 @@ module _ {N : Type 0} where
         → AllowedLater may (numbers_of b) s.agent (events_seen b s) at (node_link (ids_of b s) link)
         (event_by s.agent (Look at (node_link (ids_of b s) link)) note)
 
-    -- an Aim of the fresh row's node
-    abbrev pub AimAllowed : ℕ → Option ℕ → Type 0
-    AimAllowed row to = AllowedWhereFits may (numbers_of b) s.agent (events_seen b s)
-        (event_by s.agent (Aim ((ids_of b s).node row) (option_map (ids_of b s).node to)) None)
+    -- an Aim of the fresh row's node for link number 0, and an AimSide for number 1
+    abbrev pub AimAllowed : ℕ → ℕ → Option ℕ → Type 0
+    AimAllowed row number to = AllowedWhereFits may (numbers_of b) s.agent (events_seen b s)
+        (event_by s.agent (aim_act number ((ids_of b s).node row) (option_map (ids_of b s).node to)) None)

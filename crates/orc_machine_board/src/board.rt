@@ -13,7 +13,6 @@ use orc_shared_words::{Machine, SharedPass, SharedWords};
 pub struct MachineBoard<D: Discipline> {
     pub(crate) words: SharedWords<Reclaiming, D>,
     ghost sized: { words.table.shared.table_id.words ≡ room (bounds_of words.shape.shape) },
-    ghost single: { (bounds_of words.shape.shape).links ≡ 1 },
 }
 
 /// An agent's pass to a board, with its record.

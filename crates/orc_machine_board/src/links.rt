@@ -57,21 +57,23 @@ impl<D: Discipline> MachineBoard<D> {
         self.step(p, Request { op, want: None }, &note)
     }
 
-    /// Swaps the fresh row's first link, or takes that out of a doomed row. Answers the word that was there.
-    pub fn link_store(&self, p: &mut MachineBoardPass<D>, row: u32, link: RowLink) -> u64
+    /// Swaps the fresh row's link of this number, 0 or 1, or takes that out of a doomed row. Answers the word that was there.
+    pub fn link_store(
+        &self,
+        p: &mut MachineBoardPass<D>,
+        row: u32,
+        number: u32,
+        link: RowLink,
+    ) -> u64
         requires belongs { Belongs self.now p.old }
-        requires allowed { MayDo (board_bounds self.now) (shows p.old) (Op.LinkStore row link 0) }
+        requires allowed { MayDo (board_bounds self.now) (shows p.old) (Op.LinkStore row link number) }
         requires without_mark { link.mark ≡ false }
         requires licensed { names (shows p.old).record_is.fresh row ≡ true
-            → AimAllowed (D.may (board_numbers self.now)) (board_bounds self.now) (shows p.old) row link.to }
+            → AimAllowed (D.may (board_numbers self.now)) (board_bounds self.now) (shows p.old) row number link.to }
         ensures belongs { Belongs self.now p.new }
-        ensures makes { Makes (board_bounds self.now) (asks (Op.LinkStore row link 0)) None (shows p.old) result (shows p.new) }
+        ensures makes { Makes (board_bounds self.now) (asks (Op.LinkStore row link number)) None (shows p.old) result (shows p.new) }
     {
-        let op = Op::LinkStore {
-            row,
-            number: 0,
-            link,
-        };
+        let op = Op::LinkStore { row, number, link };
         self.step(p, Request { op, want: None }, &None)
     }
 }

@@ -26,7 +26,7 @@ use orc_words::{RowLink, Shape, Word};
 use std::alloc::Global;
 
 impl<D: Discipline> MachineBoard<D> {
-    /// A board whose rows have one link, and one pass an agent, in order. Its journal begins with the enrolments and the steps for the seed.
+    /// A board, and one pass an agent, in order. Its journal begins with the enrolments and the steps for the seed.
     ///
     /// # Errors
     ///
@@ -36,7 +36,6 @@ impl<D: Discipline> MachineBoard<D> {
         shape: &Shape,
         seed: Seed<D::Note>,
     ) -> Result<(MachineBoard<D>, Vec<MachineBoardPass<D>>), NoMemory>
-        requires links { (bounds_of shape.now).links ≡ 1 }
         requires holds { D.holds (numbers_of (bounds_of shape.now)) [] }
         requires seed { SeedAllowed D.may (numbers_of (bounds_of shape.now)) seed }
         ensures bounds { IfOk result (λ made. board_bounds made.0 ≡ bounds_of shape.now) }

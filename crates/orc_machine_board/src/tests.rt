@@ -115,16 +115,11 @@ fn make_one<D: Discipline>(
     ensures agent { (shows p.new).agent ≡ (shows p.old).agent }
     ensures absorbed { (shows p.new).absorbed ≡ (shows p.old).absorbed }
 {
-    if let Op::LinkStore {
-        row,
-        number: 0,
-        link,
-    } = op
-    {
+    if let Op::LinkStore { row, number, link } = op {
         if link.mark || p.record().is_fresh(row) || !may_make(board, p, &op) {
             return None;
         }
-        return Some(board.link_store(p, row, link));
+        return Some(board.link_store(p, row, number, link));
     }
     make_plain(board, p, op)
 }

@@ -120,52 +120,47 @@ pub four_went : (a : ℕ) (m n o p q : Machine) → Went a 0 m n → Went a 0 n 
 four_went a m n o p q t u v x = went_join a 0 0 m p q (went_join a 0 0 m o p (went_join a 0 0 m n o t u) v) x
 
 -- a doomed row
-pub doomed_row : (m : Machine) (a r : ℕ) → IsReachedState m → IsDoomOf r (record_at m a).doom → r < m.bounds.rows
-doomed_row m a r k e = subst (λ x. dooms (record_at x a).doom r ≡ true → r < x.bounds.rows) (sym k.is) below
+pub doomed_row : (m : Machine) (a r cuts : ℕ) → IsReachedState m → IsDoomOf r cuts (record_at m a).doom → r < m.bounds.rows
+doomed_row m a r cuts k e = subst (λ x. dooms (record_at x a).doom r ≡ true → r < x.bounds.rows) (sym k.is) below
     (subst (λ o. dooms o r ≡ true) (sym e) (eq-eqb r r refl))
   where
     below : dooms (record_at (run (new_machine k.bounds) k.steps) a).doom r ≡ true → r < (run (new_machine k.bounds) k.steps).bounds.rows
     below h = let f = run_fits k.bounds k.steps k.shape k.lawful in out_below (run (new_machine k.bounds) k.steps).bounds
         (world_of (run (new_machine k.bounds) k.steps)) r f.counted (f.doomed.gone a r h).is_out
 
-pub cut_allowed : (m : Machine) (a r : ℕ) → m.bounds.links ≡ 1 → IsReachedState m → a < m.bounds.agents → IsStill (record_at m a) → IsDoomOf r (record_at m a).doom
-    → is_allowed m a (LinkStore r (record { to = None; mark = false }) 0) ≡ true
-cut_allowed m a r one k h s e = allowed m a (LinkStore r (record { to = None; mark = false }) 0) h s.calm.enrolled (rw (s.due, s.calm.inc, s.dec) refl)
-    (rw (lt-ltb r m.bounds.rows (doomed_row m a r k e), one, s.zero, s.calm.fresh, e, eq-eqb r r refl) refl)
+-- the next link of the doomed row
+pub cut_allowed : (m : Machine) (a r number : ℕ) → number < m.bounds.links → IsReachedState m → a < m.bounds.agents → IsStill (record_at m a)
+    → IsDoomOf r number (record_at m a).doom → is_allowed m a (LinkStore r (record { to = None; mark = false }) number) ≡ true
+cut_allowed m a r number low k h s e = allowed m a (LinkStore r (record { to = None; mark = false }) number) h s.calm.enrolled
+    (rw (s.due, s.calm.inc, s.dec) refl)
+    (rw (
+      lt-ltb r m.bounds.rows (doomed_row m a r number k e),
+      lt-ltb number m.bounds.links low,
+      s.zero,
+      s.calm.fresh,
+      e,
+      eq-eqb r r refl,
+      eq-eqb number number refl,
+    ) refl)
 
--- the doom after the link is out: cut
-pub doom_is_cut : (m n o : Machine) (a r : ℕ) → IsDoomOf r (record_at m a).doom → AfterStep a (LinkStore r (record { to = None; mark = false }) 0) m n
-    → SameTasks (record_at n a) (record_at o a) → (record_at o a).doom ≡ Some (record { row = r; cuts = 1; bare = false })
-doom_is_cut m n o a r e w k = k.doom ∙ (ap (λ (d : Agent). d.doom) w.is ∙ rw (e, eq-eqb r r refl) refl)
+-- the doom after the link is out
+pub doom_is_cut : (m n o : Machine) (a r number : ℕ) → IsDoomOf r number (record_at m a).doom
+    → AfterStep a (LinkStore r (record { to = None; mark = false }) number) m n → SameTasks (record_at n a) (record_at o a)
+    → IsDoomOf r (number + 1) (record_at o a).doom
+doom_is_cut m n o a r number e w k = k.doom ∙ (ap (λ (d : Agent). d.doom) w.is ∙ rw (e, eq-eqb r r refl, eq-eqb number number refl) refl)
 
-pub unretire_cut : (m n o : Machine) (a r : ℕ) → o.bounds.links ≡ 1 → IsReachedState m → a < m.bounds.agents → IsDoomOf r (record_at m a).doom
-    → AfterStep a (LinkStore r (record { to = None; mark = false }) 0) m n → SameTasks (record_at n a) (record_at o a) → IsStill (record_at o a)
-    → n.bounds ≡ m.bounds → o.bounds ≡ n.bounds → (record_at m a).scan ≡ None
-    → is_allowed o a (Unretire r) ≡ true
-unretire_cut m n o a r one k h e w t s b c q =
-    let scan : (record_at o a).scan ≡ None = t.scan ∙ (ap (λ (d : Agent). d.scan) w.is ∙ q) in
-    allowed o a (Unretire r) (agents_on n o a c (agents_on m n a b h)) s.calm.enrolled (rw (s.due, s.calm.inc, s.dec) refl)
-    (rw (lt-ltb r o.bounds.rows (rows_on n o r c (rows_on m n r b (doomed_row m a r k e))), doom_is_cut m n o a r e w t, one, scan, eq-eqb r r refl) refl)
+-- once all links are out
+pub unretire_cut : (m : Machine) (a r cuts : ℕ) → cuts ≡ m.bounds.links → IsReachedState m → a < m.bounds.agents → IsStill (record_at m a)
+    → (record_at m a).scan ≡ None → IsDoomOf r cuts (record_at m a).doom → is_allowed m a (Unretire r) ≡ true
+unretire_cut m a r cuts all k h s scan e = allowed m a (Unretire r) h s.calm.enrolled (rw (s.due, s.calm.inc, s.dec) refl)
+    (rw (lt-ltb r m.bounds.rows (doomed_row m a r cuts k e), e, eq-eqb cuts m.bounds.links all, scan, eq-eqb r r refl) refl)
 
-pub free_bare : (m n o p : Machine) (a r : ℕ) → IsReachedState m → a < m.bounds.agents → IsDoomOf r (record_at m a).doom
-    → AfterStep a (LinkStore r (record { to = None; mark = false }) 0) m n → SameTasks (record_at n a) (record_at o a) → IsStill (record_at o a)
-    → n.bounds ≡ m.bounds → o.bounds ≡ n.bounds → (record_at m a).scan ≡ None
-    → p.bounds ≡ o.bounds → AfterStep a (Unretire r) o p → is_allowed p a (Free r) ≡ true
-free_bare m n o p a r k h e w t s b c q d v =
-    let scan : (record_at o a).scan ≡ None = t.scan ∙ (ap (λ (d : Agent). d.scan) w.is ∙ q) in
-    allowed_at p a (Free r) (after (Unretire r) (record_at o a) v.word) v.is (agents_on o p a d (agents_on n o a c (agents_on m n a b h))) s.calm.enrolled
+pub free_bare : (m n : Machine) (a r cuts : ℕ) → IsReachedState m → a < m.bounds.agents → IsStill (record_at m a) → (record_at m a).scan ≡ None
+    → IsDoomOf r cuts (record_at m a).doom → n.bounds ≡ m.bounds → AfterStep a (Unretire r) m n → is_allowed n a (Free r) ≡ true
+free_bare m n a r cuts k h s scan e b w =
+    allowed_at n a (Free r) (after (Unretire r) (record_at m a) w.word) w.is (agents_on m n a b h) s.calm.enrolled
     (rw (scan, s.due, s.calm.inc, s.dec) refl)
-    (rw (lt-ltb r p.bounds.rows (rows_on o p r d (rows_on n o r c (rows_on m n r b (doomed_row m a r k e)))), doom_is_cut m n o a r e w t, eq-eqb r r refl)
-    refl)
-
-pub freed_went : (m n o p q : Machine) (a r : ℕ) → AfterStep a (LinkStore r (record { to = None; mark = false }) 0) m n
-    → SameTasks (record_at n a) (record_at o a) → (record_at m a).scan ≡ None → Went a 0 m n → Went a 0 n o
-    → Went a (bit (is_some (record_at o a).scan)) o p → Went a 1 p q → Went a 1 m q
-freed_went m n o p q a r w t s x y u v =
-    let scan : (record_at o a).scan ≡ None = t.scan ∙ (ap (λ (d : Agent). d.scan) w.is ∙ s) in
-    let zero : bit (is_some (record_at o a).scan) ≡ 0 = rw scan refl in
-    went_is a (0 + 0 + bit (is_some (record_at o a).scan) + 1) 1 m q (omega arith)
-    (went_join a _ 1 m p q (went_join a _ _ m o p (went_join a 0 0 m n o x y) u) v)
+    (rw (lt-ltb r n.bounds.rows (rows_on m n r b (doomed_row m a r cuts k e)), e, eq-eqb r r refl) refl)
 
 -- a turn that lowers the work by more lowers it by less
 abbrev pub went_less : (a x y : ℕ) (m n : Machine) → y ≤ x → Went a x m n → Went a y m n

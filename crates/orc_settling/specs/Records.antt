@@ -53,9 +53,9 @@ abbrev pub DueFits : Bounds → Option Reading → Type 0
 DueFits b None = Unit {0}
 DueFits b (Some s) = (s.row < b.rows) × (s.number < 2 ^ 40)
 
--- the doom is this row, whose links and bit are still in
-abbrev pub IsDoomOf : ℕ → Option Doom → Type 0
-IsDoomOf r o = o ≡ Some (record { row = r; cuts = 0; bare = false })
+-- the doom is this row, with so many of its links out, and its bit still set
+abbrev pub IsDoomOf : ℕ → ℕ → Option Doom → Type 0
+IsDoomOf r cuts o = o ≡ Some (record { row = r; cuts = cuts; bare = false })
 
 -- the scan is of this row, has come to this place, found nothing yet, and keeps count 0
 pub record IsScanOf (r k : ℕ) (o : Option Scan) : Type 0 where

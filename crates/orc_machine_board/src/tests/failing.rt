@@ -27,7 +27,7 @@ fn aim(board: &Board, p: &mut Pass, row: u32, link: RowLink) -> Option<u64>
     if link.mark || !may_make(board, p, &op) {
         return None;
     }
-    Some(board.link_store(p, row, link))
+    Some(board.link_store(p, row, 0, link))
 }
 
 // Lets both agents see row 0 free, and then take it, the one after the other. Answers what both takes answer.

@@ -10,4 +10,4 @@ step-requires-clause-licensed g c =
     let kept = c.requires.belongs.keeps in
     store_licensed k (g.D.Discipline.holds (heap_numbers k)) (g.D.Discipline.may (heap_numbers k))
     (g.D.Discipline.allows_plain (heap_numbers k)) p.seat.me.0 p.agent kept.number kept.now
-    c.args.row c.args.link (record { may = c.requires.allowed; enrolled = refl; wanted = tt; plain = c.requires.without_mark }) c.requires.licensed
+    c.args.row c.args.number c.args.link (record { may = c.requires.allowed; enrolled = refl; wanted = tt; plain = c.requires.without_mark }) c.requires.licensed

@@ -32,10 +32,7 @@ pub invariant_of-result : goal.invariant_of-result
 invariant_of-result g c =
     let b = bounds_of c.args.shape.now in
     let e : length c.as_slice.result.now ≡ room b = ap length c.as_slice.ensures.value ∙ c.in_ok-words.ensures.long in
-    record {
-      sized = c.in_ok-words-2.ensures.words ∙ (e ∙ ap (λ q. room (bounds_in q)) (sym c.in_ok-words-2.ensures.shape));
-      single = ap (λ q. (bounds_in q).links) c.in_ok-words-2.ensures.shape ∙ c.requires.links;
-    }
+    record { sized = c.in_ok-words-2.ensures.words ∙ (e ∙ ap (λ q. room (bounds_in q)) (sym c.in_ok-words-2.ensures.shape)) }
 
 pub returns-clause-agents : goal.returns-clause-agents
 returns-clause-agents g c = λ i p lt.
