@@ -10,7 +10,7 @@ use Rattle.orc_core.specs.RecordParts.{any_holds, doom_at, holds, is_empty, name
 use Rattle.orc_core.specs.declared.ops.Op.TheVariants.{LinkStore}
 use Rattle.orc_core.specs.declared.records.Agent.{Agent}
 use Rattle.orc_core.specs.declared.records.Doom.{Doom}
-use Rattle.orc_heap.specs.Acts.{Fits, as_named, change_node, change_target, heap_after, with_link, with_side}
+use Rattle.orc_heap.specs.Acts.{Fits, aim_act, as_named, change_node, change_target, heap_after, with_link, with_side}
 use Rattle.orc_heap.specs.Heap.{Heap, Node}
 use Rattle.orc_heap.specs.declared.events.Link.{Link}
 use Rattle.orc_projection.proofs.LinkStep.{Relinks, next_shows, side_shows}
@@ -20,7 +20,6 @@ use Rattle.orc_projection.proofs.Shows.{Fitting, RowShows, Shows, heap_then, hol
 use Rattle.orc_projection.proofs.Still.{cut_stays, fresh_before, out_before}
 use Rattle.orc_projection.proofs.Steps.{held_out, named_marks, packs}
 use Rattle.orc_projection.specs.PresentIds.{PresentIds, node_link}
-use Rattle.orc_projection.specs.Projection.{aim_act}
 use Rattle.orc_sound.proofs.DoomedStep.{number_below}
 use Rattle.orc_sound.proofs.Fresh.{no_target}
 use Rattle.orc_sound.proofs.Facts.{LawfulStep, out}

@@ -18,6 +18,7 @@ use Rattle.orc_core.specs.declared.ops.Op.TheVariants.{CounterLoad, Dec, Fill, F
 use Rattle.orc_core.specs.declared.ops.CounterUse.TheVariants.{Check, End, Start}
 use Rattle.orc_core.specs.declared.records.Agent.{Agent}
 use Rattle.orc_core.specs.declared.records.Reading.{Reading}
+use Rattle.orc_heap.specs.Acts.{aim_act}
 use Rattle.orc_heap.specs.Calls.{links_made}
 use Rattle.orc_heap.specs.Journals.{names_node, points_to}
 use Rattle.orc_heap.specs.declared.events.Act.{Act}
@@ -29,7 +30,7 @@ use Rattle.orc_heap.specs.declared.events.Place.TheVariants.{Next as NodePlace, 
 use Rattle.orc_projection.proofs.Still.{out_before}
 use Rattle.orc_projection.proofs.StoreStep.{store_doomed}
 use Rattle.orc_projection.specs.PresentIds.{PresentIds, no_ids, node_link}
-use Rattle.orc_projection.specs.Projection.{act_of, aim_act, events_of, exchange_act, ids_after, ids_from, is_taken, present_ids, project, project_from}
+use Rattle.orc_projection.specs.Projection.{act_of, events_of, exchange_act, ids_after, ids_from, is_taken, present_ids, project, project_from}
 use Rattle.orc_sound.proofs.AllFits.{AllFits, all_first, all_step, allowed_step, low_sequences, run_bounds}
 use Rattle.orc_sound.proofs.NewState.{zero_first}
 use Rattle.orc_sound.proofs.Bits.{dec_bounds, inc_bounds, unretire_one}

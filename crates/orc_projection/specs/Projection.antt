@@ -1,14 +1,15 @@
 -- The heap events that the steps of a journal stand for. The heap is that of Michael and Scott 1996 and Harris 2001, with
 -- new memory for every node.
 use Rattle.std.specs.Option.{option_map}
-use Rattle.std.specs.Prelude.{Bool, List, None, Option, Some, [], false, if◌then◌else◌, suc, zero, ℕ, ◌*◌, ◌++◌, ◌==◌, ◌∷◌, ◌≡◌}
+use Rattle.std.specs.Prelude.{Bool, List, None, Option, Some, [], false, if◌then◌else◌, ℕ, ◌*◌, ◌++◌, ◌==◌, ◌∷◌, ◌≡◌}
 use Rattle.orc_core.specs.Machine.{Machine, new_machine, record_at, step, word_read}
 use Rattle.orc_core.specs.RecordParts.{names, number_of}
 use Rattle.orc_core.specs.declared.ops.Op.{Op}
 use Rattle.orc_core.specs.declared.ops.Op.TheVariants.{Fill as FillStep, GateTake, LinkCas, LinkLoad, LinkStore}
 use Rattle.orc_core.specs.declared.records.Agent.{Agent}
+use Rattle.orc_heap.specs.Acts.{aim_act}
 use Rattle.orc_heap.specs.declared.events.Act.{Act}
-use Rattle.orc_heap.specs.declared.events.Act.TheVariants.{Aim, AimSide, Fill, Give, Look, Miss, Move}
+use Rattle.orc_heap.specs.declared.events.Act.TheVariants.{Fill, Give, Look, Miss, Move}
 use Rattle.orc_heap.specs.declared.events.Event.{Event}
 use Rattle.orc_heap.specs.declared.events.Place.{Place}
 use Rattle.orc_projection.specs.PresentIds.{PresentIds, no_ids, node_link, node_place, with_taken}
@@ -31,11 +32,6 @@ exchange_act p w from to place =
 -- the row was free in the life that the agent saw, and is taken
 abbrev pub is_taken : Agent → ℕ → Bool
 is_taken d w = w == 2 * number_of d.looked
-
--- a store of the fresh row's link of this number, 0 or 1, aims that link of its node
-abbrev pub aim_act : ℕ → ℕ → Option ℕ → Act
-aim_act zero id to = Aim id to
-aim_act (suc n) id to = AimSide id to
 
 -- the act of a step by an agent with record d that read the word w, and wanted that link. A link that is stored in a row that
 -- isn't fresh is taken out of a doomed row, which nobody can reach

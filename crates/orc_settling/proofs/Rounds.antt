@@ -72,34 +72,31 @@ pub done_here : (m : Machine) (a : ℕ) → IsReachedState m → ((r : ℕ) → 
     → (record_at m a).scan ≡ None → (record_at m a).hand ≡ None → IsDone (record_at m a)
 done_here m a k h s d = record { list = list_empty m a k h; hand = d; scan = s }
 
--- a round, and then as many as are left
-abbrev pub rounds_join : (a left : ℕ) (m n o : Machine) → (left ≡ 0 → ⊥) → Went a 1 m n → Rounds a (left - 1) n o → Rounds a left m o
-rounds_join a left m n o ne w r = record {
-  steps = w.turn.steps ++ r.steps;
-  lawful = lawful_join m w.turn.steps r.steps w.turn.lawful (subst (λ x. IsLawful x r.steps) w.turn.is r.lawful);
-  is = r.is ∙ (ap (λ x. run x r.steps) w.turn.is ∙ sym (run-append m w.turn.steps r.steps));
-  done = λ all less. let f = w.turn.falls (all_left a w.turn.steps r.steps all) in r.done (all_right a w.turn.steps r.steps all) (omega arith);
-  hands = λ all z. r.hands (all_right a w.turn.steps r.steps all) (w.turn.hands (all_left a w.turn.steps r.steps all) z);
-  others = zero_join m n o a w.turn.steps r.steps w.turn.is w.turn.others r.others;
-}
-
 pub positive : (o : Option Doom) → 1 ≤ uncut o
 positive None = omega arith
 positive (Some d) = omega arith
 
-abbrev pub no_rounds : (a : ℕ) (m : Machine) → Rounds a 0 m m
-no_rounds a m = record {
-  steps = [];
-  lawful = tt;
-  is = refl;
-  done = λ all less. let p = positive (record_at m a).doom in absurd
-      (omega arith);
-  hands = λ all z. z;
-  others = λ all s x k lx lk ne z. z;
+-- as many turns as there were rounds to make
+abbrev pub rounds_made : (a left : ℕ) (m n : Machine) → Went a left m n → Rounds a left m n
+rounds_made a left m n w = record {
+  steps = w.turn.steps;
+  lawful = w.turn.lawful;
+  is = w.turn.is;
+  done = λ all less. let f = w.turn.falls all in let p = positive (record_at n a).doom in absurd (omega arith);
+  hands = w.turn.hands;
+  others = w.turn.others;
 }
 
-abbrev pub rounds_done : (a left : ℕ) (m : Machine) → IsDone (record_at m a) → Rounds a left m m
-rounds_done a left m d = record { steps = []; lawful = tt; is = refl; done = λ all less. d; hands = λ all z. z; others = λ all s x k lx lk ne z. z }
+-- turns after which nothing is left
+abbrev pub rounds_done : (a x left : ℕ) (m n : Machine) → Went a x m n → IsDone (record_at n a) → Rounds a left m n
+rounds_done a x left m n w d = record {
+  steps = w.turn.steps;
+  lawful = w.turn.lawful;
+  is = w.turn.is;
+  done = λ all less. d;
+  hands = w.turn.hands;
+  others = w.turn.others;
+}
 
 pub reached_work : (m : Machine) (a : ℕ) → IsReachedState m → a < m.bounds.agents → (record_at m a).dec ≡ None → (record_at m a).due ≡ None
     → work_left m a ≤ 4 * (m.bounds.rows + 8 * m.bounds.agents)
