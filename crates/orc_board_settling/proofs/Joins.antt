@@ -12,7 +12,7 @@ use Rattle.orc_machine_board.specs.Rules.{run_of}
 use Rattle.orc_machine_board.specs.Views.{MachineView}
 use Rattle.orc_projection.specs.Projection.{project}
 use Rattle.orc_settling.proofs.Opening.{opened_less, opened_more, opened_went, settled_first, settled_none}
-use Rattle.orc_settling.proofs.Rounds.{no_rounds, rounds_done, rounds_join}
+use Rattle.orc_settling.proofs.Rounds.{rounds_done, rounds_made}
 use Rattle.orc_settling.proofs.Stages.{went_join, went_none}
 use Rattle.orc_settling.specs.Records.{IsBetweenRounds, IsDone}
 use Rattle.orc_settling.specs.Turns.{IsReachedState}
@@ -31,6 +31,26 @@ pub takes_in_both : (xs ys : List Op) → TakesInCleared xs → TakesInCleared y
 takes_in_both [] ys h g = g
 takes_in_both (Clear slot ∷ xs) ys h g = (begins_more (TakeIn slot) xs ys h.0, takes_in_both xs ys h.1 g)
 takes_in_both (x ∷ xs) ys h g = takes_in_both xs ys h g
+
+-- one round of k more, after some
+pub rounds_last : (i k x y z : ℕ) → y ≤ x + i * k → z ≤ y + k → z ≤ x + (i + 1) * k
+rounds_last i k x y z p q =
+    let m = suc-mul i k in
+    let next : i + 1 ≡ suc i = omega arith in
+    let same : (i + 1) * k ≡ suc i * k = ap (λ j. j * k) next in
+    omega (arith, m, same, p, q)
+
+-- some rounds are no more than all of them
+pub rounds_within : (i n k x y : ℕ) → i ≤ n → y ≤ x + i * k → y ≤ x + n * k
+rounds_within zero n k x y le p = omega (arith, p)
+rounds_within (suc i) zero k x y le p = absurd (omega (arith, le))
+rounds_within (suc i) (suc n) k x y le p =
+    let some = suc-mul i k in
+    let all = suc-mul n k in
+    let less : i ≤ n = omega (arith, le) in
+    let rest : y ≤ (x + k) + i * k = omega (arith, some, p) in
+    let q = rounds_within i n k (x + k) y less rest in
+    omega (arith, all, q)
 
 -- one round of k more, and then the others
 pub rounds_add : (left n k x y z : ℕ) → n ≢ 0 → left ≡ n - 1 → y ≤ x + k → z ≤ y + left * k → z ≤ x + n * k
@@ -107,21 +127,14 @@ module _ {N : Type 0} where
   pub opens_goes : (b : Bounds) (a x : ℕ) (s t : MachineView N) → IsReachedState (run_of b s.journal) → Opens b a x s t → Goes b a x s t
   opens_goes b a x s t r p = record { went = opened_went a x (run_of b s.journal) (run_of b t.journal) r p.opened; adds = p.adds }
 
-  pub rounds_then : (b : Bounds) (a left : ℕ) (s t u : MachineView N) → (left ≡ 0 → ⊥) → Goes b a 1 s t → MakesRounds b a (left - 1) t u
-      → MakesRounds b a left s u
-  rounds_then b a left s t u ne p q = record {
-    rounds = rounds_join a left (run_of b s.journal) (run_of b t.journal) (run_of b u.journal) ne p.went q.rounds;
-    adds = adds_then b a p.went.turn.steps q.rounds.steps s t u p.adds q.adds;
-  }
+  -- as many rounds as there were to make
+  pub rounds_all : (b : Bounds) (a left : ℕ) (s t : MachineView N) → Goes b a left s t → MakesRounds b a left s t
+  rounds_all b a left s t p = record { rounds = rounds_made a left (run_of b s.journal) (run_of b t.journal) p.went; adds = p.adds }
 
-  pub rounds_none : (b : Bounds) (a : ℕ) (s : MachineView N) → MakesRounds b a 0 s s
-  rounds_none b a s = record { rounds = no_rounds a (run_of b s.journal); adds = adds_none b a s }
-
-  pub rounds_zero : (b : Bounds) (a left : ℕ) (s : MachineView N) → left ≡ 0 → MakesRounds b a left s s
-  rounds_zero b a left s e = subst (λ n. MakesRounds b a n s s) (sym e) (rounds_none b a s)
-
-  pub rounds_over : (b : Bounds) (a left : ℕ) (s : MachineView N) → IsDone (record_at (run_of b s.journal) a) → MakesRounds b a left s s
-  rounds_over b a left s done = record { rounds = rounds_done a left (run_of b s.journal) done; adds = adds_none b a s }
+  -- rounds after which nothing is left
+  pub rounds_over : (b : Bounds) (a x left : ℕ) (s t : MachineView N) → Goes b a x s t → IsDone (record_at (run_of b t.journal) a)
+      → MakesRounds b a left s t
+  rounds_over b a x left s t p done = record { rounds = rounds_done a x left (run_of b s.journal) (run_of b t.journal) p.went done; adds = p.adds }
 
   -- a first round, and as many as are left
   pub settles_first : (b : Bounds) (a left : ℕ) (s t u : MachineView N) → IsReachedState (run_of b s.journal) → a < (run_of b s.journal).bounds.agents

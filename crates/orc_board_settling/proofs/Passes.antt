@@ -41,9 +41,8 @@ module _ {D N : Type 0} {d : discipline.Ghosts D N} {m : machine.Ghosts Reclaimi
   pub bounds_are : (board : MachineBoard D N) (p : Pass d m) → (state_of board p).bounds ≡ board_bounds board
   bounds_are board p = bounds_run (board_bounds board) (shows p).journal
 
-  -- rows have one link
-  pub one_link : (board : MachineBoard D N) (p : Pass d m) → (state_of board p).bounds.links ≡ 1
-  one_link board p = ap (λ (b : Bounds). b.links) (bounds_are board p) ∙ board.single
+  pub links_are : (board : MachineBoard D N) (p : Pass d m) → (state_of board p).bounds.links ≡ (board_bounds board).links
+  links_are board p = ap (λ (b : Bounds). b.links) (bounds_are board p)
 
   pub pass_of : (board : MachineBoard D N) (a : ℕ) (p : Pass d m) → Belongs board p → (shows p).agent ≡ a → IsPassOf board a p
   pass_of board a p g e = record {

@@ -21,9 +21,9 @@ TakesInCleared (op ∷ ops) = TakesInCleared ops
 abbrev pub most_rounds : Bounds → ℕ
 most_rounds b = 4 * (b.rows + 8 * b.agents)
 
--- the most steps of one round: a Start, a look at each slot, an End, and eight that free the row
+-- the most steps of one round: a Start, a look at each slot, an End, six for each link of the row, and two that free it
 abbrev pub steps_a_round : Bounds → ℕ
-steps_a_round b = 8 * b.agents + 10
+steps_a_round b = 8 * b.agents + 6 * b.links + 4
 
 module _ {N : Type 0} where
   -- the agent has at most n steps more

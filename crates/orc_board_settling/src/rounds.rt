@@ -1,6 +1,6 @@
 //! Rounds, and settling by as many of them as it takes.
 
-ghost use Rattle.std.specs.Prelude.{◌≡◌, ◌+◌, ◌*◌, IfSome, None, true};
+ghost use Rattle.std.specs.Prelude.{◌≡◌, ◌+◌, ◌-◌, ◌*◌, IfSome, None, true};
 ghost use Rattle.orc_board_settling.specs.OwnSteps.{AtMostMore, LeavesNothing, most_rounds, steps_a_round};
 ghost use Rattle.orc_board_settling.specs.Parts.{MakesRounds, NoEvents, Opens, Settles};
 ghost use Rattle.orc_board_settling.specs.Passes.{IsPassOf, record_of, state_of};
@@ -39,7 +39,7 @@ fn look_over<D: Discipline>(
     ensures pass { IsPassOf board.now agent p.new }
     ensures opens { Opens (board_bounds board.now) agent 1 (shows p.old) (shows p.new) }
     ensures between { IsBetweenRounds (record_of board.now agent p.new) }
-    ensures few { AtMostMore agent (left + 9) (shows p.old).journal (shows p.new).journal }
+    ensures few { AtMostMore agent (left + 6 * (board_bounds board.now).links + 3) (shows p.old).journal (shows p.new).journal }
 {
     if left == 0 {
         let how = CounterUse::End;
@@ -87,7 +87,7 @@ fn scan_round<D: Discipline>(
     ensures pass { IsPassOf board.now agent p.new }
     ensures opens { Opens (board_bounds board.now) agent 1 (shows p.old) (shows p.new) }
     ensures between { IsBetweenRounds (record_of board.now agent p.new) }
-    ensures few { AtMostMore agent (8 * (board_bounds board.now).agents + 9) (shows p.old).journal (shows p.new).journal }
+    ensures few { AtMostMore agent (steps_a_round (board_bounds board.now) - 1) (shows p.old).journal (shows p.new).journal }
 {
     let end = 8 * board.shape().agents();
     let Some(scan) = own_record(board, p, agent).scan else {
@@ -133,12 +133,11 @@ fn settle_rounds<D: Discipline>(
     ensures between { IsBetweenRounds (record_of board.now agent p.new) }
     ensures few { AtMostMore agent (left * steps_a_round (board_bounds board.now)) (shows p.old).journal (shows p.new).journal }
 {
-    if left == 0 {
-        return;
-    }
-    if let Some(row) = next_work(board, p, agent) {
+    for _turn in 0..left {
+        let Some(row) = next_work(board, p, agent) else {
+            return;
+        };
         round(board, p, agent, row);
-        settle_rounds(board, p, agent, left - 1);
     }
 }
 
@@ -161,7 +160,7 @@ fn settle_all<D: Discipline>(board: &MachineBoard<D>, p: &mut MachineBoardPass<D
 }
 
 /// Works through the retired rows that the pass has in its work list, in hand or scanned, in at most
-/// `4 * (rows + 8 * agents)` rounds, of `8 * agents + 10` steps at most. Some remain only where another agent steps meanwhile.
+/// `4 * (rows + 8 * agents)` rounds, of `8 * agents + 6 * links + 4` steps at most. Some remain only where another agent steps meanwhile.
 pub fn settle<D: Discipline>(board: &MachineBoard<D>, p: &mut MachineBoardPass<D>)
     requires belongs { Belongs board.now p.old }
     requires between { IsBetweenRounds (shows p.old).record_is }

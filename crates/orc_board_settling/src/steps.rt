@@ -1,6 +1,6 @@
 //! The parts of a round: steps, and what follows one another without a choice.
 
-ghost use Rattle.std.specs.Prelude.{◌≡◌, ◌<◌, ◌*◌, None, Some, [], ◌∷◌, false, true};
+ghost use Rattle.std.specs.Prelude.{◌≡◌, ◌<◌, ◌*◌, ◌+◌, None, Some, [], ◌∷◌, false, true};
 ghost use Rattle.orc_board_settling.specs.OwnSteps.{AtMostMore, TakesInCleared};
 ghost use Rattle.orc_board_settling.specs.Parts.{Goes, Opens};
 ghost use Rattle.orc_board_settling.specs.Passes.{IsPassOf, record_of, state_of};
@@ -85,26 +85,28 @@ pub(crate) fn is_found(agent: &Agent) -> bool
     }
 }
 
-// Takes the link out of a doomed row.
+// Takes the link of this number out of a doomed row.
 pub(crate) fn take_link_out<D: Discipline>(
     board: &MachineBoard<D>,
     p: &mut MachineBoardPass<D>,
     agent: u32,
     row: u32,
+    number: u32,
 )
     requires pass { IsPassOf board.now agent p.old }
     requires still { IsStill (record_of board.now agent p.old) }
-    requires doom { IsDoomOf row (record_of board.now agent p.old).doom }
+    requires number { number < (state_of board.now p.old).bounds.links }
+    requires doom { IsDoomOf row number (record_of board.now agent p.old).doom }
     ensures pass { IsPassOf board.now agent p.new }
     ensures goes { Goes (board_bounds board.now) agent 0 (shows p.old) (shows p.new) }
-    ensures after { AfterStep agent (Op.LinkStore row (record { to = None; mark = false }) 0) (state_of board.now p.old) (state_of board.now p.new) }
+    ensures after { AfterStep agent (Op.LinkStore row (record { to = None; mark = false }) number) (state_of board.now p.old) (state_of board.now p.new) }
     ensures few { AtMostMore agent 1 (shows p.old).journal (shows p.new).journal }
 {
     let null = RowLink {
         to: None,
         mark: false,
     };
-    let _ = board.link_store(p, row, null);
+    let _ = board.link_store(p, row, number, null);
 }
 
 // Empties slot 0, and takes in what was handed over beside it meanwhile.
@@ -210,6 +212,31 @@ pub(crate) fn finish_decrement<D: Discipline>(
     }
 }
 
+// Takes the links out of a doomed row, in order, each from its target's count.
+pub(crate) fn take_links_out<D: Discipline>(
+    board: &MachineBoard<D>,
+    p: &mut MachineBoardPass<D>,
+    agent: u32,
+    row: u32,
+)
+    requires pass { IsPassOf board.now agent p.old }
+    requires still { IsStill (record_of board.now agent p.old) }
+    requires scan { (record_of board.now agent p.old).scan ≡ None }
+    requires doom { IsDoomOf row 0 (record_of board.now agent p.old).doom }
+    ensures pass { IsPassOf board.now agent p.new }
+    ensures goes { Goes (board_bounds board.now) agent 0 (shows p.old) (shows p.new) }
+    ensures still { IsStill (record_of board.now agent p.new) }
+    ensures scan { (record_of board.now agent p.new).scan ≡ None }
+    ensures doom { IsDoomOf row (board_bounds board.now).links (record_of board.now agent p.new).doom }
+    ensures few { AtMostMore agent (6 * (board_bounds board.now).links) (shows p.old).journal (shows p.new).journal }
+{
+    let links = board.shape().links();
+    for number in 0..links {
+        take_link_out(board, p, agent, row, number);
+        finish_decrement(board, p, agent);
+    }
+}
+
 // Frees a doomed row.
 pub(crate) fn free_doomed<D: Discipline>(
     board: &MachineBoard<D>,
@@ -220,14 +247,13 @@ pub(crate) fn free_doomed<D: Discipline>(
     requires pass { IsPassOf board.now agent p.old }
     requires still { IsStill (record_of board.now agent p.old) }
     requires scan { (record_of board.now agent p.old).scan ≡ None }
-    requires doom { IsDoomOf row (record_of board.now agent p.old).doom }
+    requires doom { IsDoomOf row 0 (record_of board.now agent p.old).doom }
     ensures pass { IsPassOf board.now agent p.new }
     ensures goes { Goes (board_bounds board.now) agent 1 (shows p.old) (shows p.new) }
     ensures between { IsBetweenRounds (record_of board.now agent p.new) }
-    ensures few { AtMostMore agent 8 (shows p.old).journal (shows p.new).journal }
+    ensures few { AtMostMore agent (6 * (board_bounds board.now).links + 2) (shows p.old).journal (shows p.new).journal }
 {
-    take_link_out(board, p, agent, row);
-    finish_decrement(board, p, agent);
+    take_links_out(board, p, agent, row);
     settle_step(board, p, agent, Op::Unretire { row });
     settle_step(board, p, agent, Op::Free { row });
 }
