@@ -31,7 +31,6 @@ use Rattle.orc_words.specs.Places.{link_at}
 use Rattle.orc_words.specs.declared.place.Word.TheVariants.{Counter, Gate, Next, Root, Side}
 use Rattle.orc_rest.proofs.RowRank.{RanksRows, IsUnlinked}
 use Rattle.orc_rest.specs.Reached.{IsPath, IsReached, IsRootTarget}
-use Rattle.orc_rest.specs.Rest.{SidesRise}
 
 -- no agent has a fresh row, a change pending or a doom, and no row has its bit
 pub record Resting (b : Bounds) (z : World) : Type 0 where
@@ -49,7 +48,6 @@ pub record AtRest (b : Bounds) (z : World) (p : PresentIds) (h : Heap) (rank : �
   pub shows : Shows b z p h
   pub ranked : RanksRows z p h
   pub rises : Rises rank h
-  pub sides : SidesRise b.links rank h
   pub roots : (i r : ℕ) → i < b.roots → to_row (z.memory (Root i)) r ≡ 1 → IsLinkedNode h (p.node r)
   pub resting : Resting b z
 
@@ -211,11 +209,11 @@ next_linked b z p h rank i j r q oj or e k =
     rises_to (inr w) t = let same : w.0 ≡ p.node r = cc in subst (λ id. IsLinkedNode h id × (rank (p.node j) < rank id)) same (w.2, w.3)
 
     leads_on : (i : ℕ) → to_row (z.memory (link_at i j)) r ≡ 1 → LeadsOn rank h (p.node j) (node_at i k.node).to
-    leads_on zero f = q.rises (p.node j) k.node k.there k.linked
+    leads_on zero f = (q.rises (p.node j) k.node k.there k.linked).0
     leads_on (suc c) f = with_sides (nat_lt 1 b.links) refl
       where
         with_sides : (t : Bool) → nat_lt 1 b.links ≡ t → LeadsOn rank h (p.node j) k.node.side.to
-        with_sides true g = q.sides (ltb-true 1 b.links g) (p.node j) k.node k.there k.linked
+        with_sides true g = (q.rises (p.node j) k.node k.there k.linked).1 (rw q.shows.links (ltb-true 1 b.links g))
         with_sides false g = absurd (no_side b z j r q.all.counted (λ more. false≢true (sym g ∙ lt-ltb 1 b.links more)) f)
 
 -- whether a Move linked the row's node

@@ -37,7 +37,7 @@ use Rattle.orc_words.specs.declared.place.Word.TheVariants.{Handover, Root}
 use Rattle.orc_rest.proofs.RowRankRuns.{AllMoveLinked, first_rank, rank_run}
 use Rattle.orc_rest.proofs.Reached.{AtRest, Resting, out_reached, reached_out, small_row, target_node}
 use Rattle.orc_rest.specs.Reached.{IsReached, AreTheReached, LiesInOneRow}
-use Rattle.orc_rest.specs.Rest.{SidesRise, IsAtRest, IsResting, EndsAtRest}
+use Rattle.orc_rest.specs.Rest.{IsAtRest, IsResting, EndsAtRest}
 use Rattle.orc_rest.specs.Reuse.{rows_out}
 use Rattle.orc_rest.proofs.ValuesBelow.{distinct_below, length-values_below, value_at, value_below, values_below}
 use Rattle.orc_core.specs.Counts.{is_out}
@@ -112,10 +112,10 @@ moves_all holds may n keeps moves seen (e ∷ es) h m = (
 -- all of it, after a journal
 pub at_rest : {N : Type 0} (b : Bounds) (steps : List (Step N)) (rank : ℕ → ℕ) → IsShape b → IsLawfulJournal (new_machine b) steps → StoresUnmarked steps
     → AllMoveLinked (new_heap (numbers_of b)) (project b steps)
-    → Rises rank (run_heap (numbers_of b) (project b steps)) → SidesRise b.links rank (run_heap (numbers_of b) (project b steps))
+    → Rises rank (run_heap (numbers_of b) (project b steps))
     → IsAtRest (run (new_machine b) (plain steps)) → (run (new_machine b) (plain steps)).bounds ≡ b
     → AtRest b (world_of (run (new_machine b) (plain steps))) (present_ids b steps) (run_heap (numbers_of b) (project b steps)) rank
-at_rest b steps rank shape l n moves rises sides q e =
+at_rest b steps rank shape l n moves rises q e =
     let m = run (new_machine b) (plain steps) in
     let p = present_ids b steps in
     let h = run_heap (numbers_of b) (project b steps) in
@@ -131,7 +131,6 @@ at_rest b steps rank shape l n moves rises sides q e =
       shows = shows;
       ranked = g;
       rises = rises;
-      sides = sides;
       roots = λ i r k t.
           let o = all.counted.roots_out i r t in
           let x = shows.rows r o in
@@ -146,7 +145,7 @@ module _ {N : Type 0} (holds : List (Event N) → Type 0) (may : List (Event N) 
     (keeps : (seen : List (Event N)) (e : Event N) → holds seen → may seen e → holds (seen ++ e ∷ []))
     (moves : (seen : List (Event N)) (e : Event N) → holds seen → may seen e → MovesLinked e.act (run_heap n seen))
     (rises : (seen : List (Event N)) → holds seen → Rises (rank seen) (run_heap n seen)) (b : Bounds) (steps : List (Step N)) (same : n ≡ numbers_of b)
-    (ends : EndsAtRest holds may rank b steps)
+    (ends : EndsAtRest holds may b steps)
   where
     rested : AtRest b (world_of (run (new_machine b) (plain steps))) (present_ids b steps) (run_heap (numbers_of b) (project b steps)) (rank (project b steps))
     rested =
@@ -154,7 +153,7 @@ module _ {N : Type 0} (holds : List (Event N) → Type 0) (may : List (Event N) 
         (subst (λ k. AllMoveLinked (new_heap k) (project b steps)) same (moves_all holds may n keeps moves [] (project b steps) ends.starts ends.allowed))
         (subst (λ k. Rises (rank (project b steps)) (run_heap k (project b steps))) same
         (rises (project b steps) (stays may holds (λ es x k j. keeps es x k j) [] (project b steps) ends.starts ends.allowed)))
-        ends.sides ends.rest (run_bounds (new_machine b) (plain steps))
+        ends.rest (run_bounds (new_machine b) (plain steps))
 
     pub row_reached : (r : ℕ) → IsOut (run (new_machine b) (plain steps)) r
         → IsReached (numbers_of b) (run_heap (numbers_of b) (project b steps)) ((present_ids b steps).node r)

@@ -1,14 +1,12 @@
 -- A state of the machine at rest: no agent has anything under way, and no retired row waits anywhere.
-use Rattle.std.specs.Prelude.{List, None, Some, [], false, slice_get, true, ℕ, ◌<◌, ◌≡◌, ◌⊎◌}
+use Rattle.std.specs.Prelude.{List, None, [], false, ℕ, ◌<◌, ◌≡◌}
 use Rattle.orc_words.specs.Bounds.{Bounds, IsShape}
 use Rattle.orc_words.specs.declared.place.Word.TheVariants.{Handover}
 use Rattle.orc_core.specs.Machine.{Machine, new_machine, record_at, word_in}
 use Rattle.orc_core.specs.RecordParts.{any_holds}
 use Rattle.orc_core.specs.Runs.{run}
 use Rattle.orc_core.specs.declared.records.Agent.{Agent}
-use Rattle.orc_heap.specs.Allowed.{AllAllowed, IsLinkedNode}
-use Rattle.orc_heap.specs.Heap.{Heap, Node}
-use Rattle.orc_heap.specs.Journals.{run_heap}
+use Rattle.orc_heap.specs.Allowed.{AllAllowed}
 use Rattle.orc_heap.specs.declared.events.Event.{Event}
 use Rattle.orc_projection.specs.Mirror.{numbers_of}
 use Rattle.orc_projection.specs.Projection.{StoresUnmarked, project}
@@ -32,20 +30,12 @@ pub record IsAtRest (m : Machine) : Type 0 where
   pub agents : (a : ℕ) → a < m.bounds.agents → IsResting (record_at m a)
   pub handovers : (a k : ℕ) → a < m.bounds.agents → k < 8 → word_in m (Handover a k) ≡ 0
 
--- where nodes have so many links that there are second ones: that of each once linked node is null or names a once linked node of a
--- greater rank
-abbrev pub SidesRise : ℕ → (ℕ → ℕ) → Heap → Type 0
-SidesRise links rank h = 1 < links → (id : ℕ) (n : Node) → slice_get h.nodes id ≡ Some n → n.linked ≡ true
-    → (n.side.to ≡ None) ⊎ ((next : ℕ) × (n.side.to ≡ Some next) × IsLinkedNode h next × (rank id < rank next))
-
--- a lawful journal of a table of these bounds. It stores no mark, a discipline allows its events, second links rise as the discipline
--- ranks the nodes, and it leaves a state at rest
-pub record EndsAtRest {N : Type 0} (holds : List (Event N) → Type 0) (may : List (Event N) → Event N → Type 0) (rank : List (Event N) → ℕ → ℕ)
-    (b : Bounds) (steps : List (Step N)) : Type 0 where
+-- a lawful journal of a table of these bounds. It stores no mark, a discipline allows its events, and it leaves a state at rest
+pub record EndsAtRest {N : Type 0} (holds : List (Event N) → Type 0) (may : List (Event N) → Event N → Type 0) (b : Bounds) (steps : List (Step N))
+    : Type 0 where
   pub shape : IsShape b
   pub lawful : IsLawfulJournal (new_machine b) steps
   pub unmarked : StoresUnmarked steps
   pub starts : holds []
   pub allowed : AllAllowed may [] (project b steps)
-  pub sides : SidesRise b.links (rank (project b steps)) (run_heap (numbers_of b) (project b steps))
   pub rest : IsAtRest (run (new_machine b) (plain steps))

@@ -21,16 +21,17 @@ ghost use Rattle.orc_rest.specs.Reuse.{given, reused, rows_out};
 
 use orc_heap::Ranked;
 
-/// Nothing leaks at rest, where the discipline ranks its links, and second links rise with the first: the roots reach the present node of each row that is out, each
-/// node that they reach lies in exactly one row that is out, and so the rows that are out are as many as the nodes that are reached.
+/// Nothing leaks at rest, where the links rise as the discipline ranks the nodes: the roots reach the present node of each row that
+/// is out, each node that they reach lies in exactly one row that is out, and so the rows that are out are as many as the nodes that
+/// are reached.
 pub fn nothing_leaks_at_rest<D: Ranked>()
-    ensures reached { (b : Bounds) (steps : List (Step D.Note)) (r : ℕ) → EndsAtRest (D.holds (numbers_of b)) (D.may (numbers_of b)) (D.rank (numbers_of b)) b steps
+    ensures reached { (b : Bounds) (steps : List (Step D.Note)) (r : ℕ) → EndsAtRest (D.holds (numbers_of b)) (D.may (numbers_of b)) b steps
         → IsOut (run (new_machine b) (plain steps)) r
         → IsReached (numbers_of b) (run_heap (numbers_of b) (project b steps)) ((present_ids b steps).node r) }
-    ensures one_row { (b : Bounds) (steps : List (Step D.Note)) (id : ℕ) → EndsAtRest (D.holds (numbers_of b)) (D.may (numbers_of b)) (D.rank (numbers_of b)) b steps
+    ensures one_row { (b : Bounds) (steps : List (Step D.Note)) (id : ℕ) → EndsAtRest (D.holds (numbers_of b)) (D.may (numbers_of b)) b steps
         → IsReached (numbers_of b) (run_heap (numbers_of b) (project b steps)) id
         → LiesInOneRow (run (new_machine b) (plain steps)) (present_ids b steps) id }
-    ensures linked { (b : Bounds) (steps : List (Step D.Note)) → EndsAtRest (D.holds (numbers_of b)) (D.may (numbers_of b)) (D.rank (numbers_of b)) b steps
+    ensures linked { (b : Bounds) (steps : List (Step D.Note)) → EndsAtRest (D.holds (numbers_of b)) (D.may (numbers_of b)) b steps
         → (ids : List ℕ) × AreTheReached (numbers_of b) (run_heap (numbers_of b) (project b steps)) ids
         × (length ids ≡ rows_out (run (new_machine b) (plain steps))) }
 {}

@@ -1,5 +1,5 @@
 -- What is known of the journal of a domain at rest.
-use Rattle.std.proofs.Common.{List, [], ap, arith, refl, subst, sym, ℕ, ◌∙◌, ◌≡◌}
+use Rattle.std.proofs.Common.{List, [], ap, refl, subst, sym, ℕ, ◌∙◌, ◌≡◌}
 use mathlib.Core.List.{IsPrefix}
 use Rattle.orc_words.specs.Bounds.{Bounds}
 use Rattle.orc_core.specs.Machine.{new_machine}
@@ -64,7 +64,7 @@ module _ {D N : Type 0} {d : discipline.Ghosts D N} {m : machine.Ghosts Reclaimi
         abbrev c : Bounds
         c = domain_bounds (rest_domain r)
 
-        ends : EndsAtRest (d.holds (numbers_of c)) (d.may (numbers_of c)) (rank (numbers_of c)) c (rest_journal r)
+        ends : EndsAtRest (d.holds (numbers_of c)) (d.may (numbers_of c)) c (rest_journal r)
         ends =
             let now = shown.belongs.keeps.now in
             record {
@@ -73,7 +73,6 @@ module _ {D N : Type 0} {d : discipline.Ghosts D N} {m : machine.Ghosts Reclaimi
               unmarked = now.lawful.1;
               starts = shown.belongs.keeps.began;
               allowed = now.each;
-              sides = λ more. let one = (rest_domain r).board.single in absurd (omega (arith, more, one));
               rest = rest;
             }
 

@@ -1,4 +1,4 @@
-use Rattle.std.proofs.Common.{arith, refl}
+use Rattle.std.proofs.Common.{refl}
 use Rattle.orc_machine_board.specs.Laws.Steps.{in_range}
 use Rattle.orc_projection.specs.Mirror.{numbers_of}
 use Rattle.orc_reclaiming_domain.specs.Passes.{domain_bounds}
@@ -16,14 +16,13 @@ returns g c =
     let may = g.D.Discipline.may n in
     let rank = g.D.Ranked.rank n in
     let keeps = c.requires.shown.belongs.keeps in
-    let ends : EndsAtRest holds may rank b (rest_journal rest) =
+    let ends : EndsAtRest holds may b (rest_journal rest) =
     record {
       shape = in_range rest.domain.board.words.shape.shape;
       lawful = keeps.now.lawful.0;
       unmarked = keeps.now.lawful.1;
       starts = keeps.began;
       allowed = keeps.now.each;
-      sides = λ more. let one = rest.domain.board.single in absurd (omega (arith, more, one));
       rest = c.requires.rest;
     } in
     record {
