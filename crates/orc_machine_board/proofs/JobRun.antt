@@ -138,13 +138,13 @@ dummy_allowed b same = subst (λ c. DummyAllowed FifoMay (numbers_of c) 0 Begin)
   low = omega arith;
   first_link = record {
     fits = (refl, record { node = new_dummy; there = refl; known = inl refl });
-    may_act = record { root_is = omega arith; from_is = refl; to_is = refl; ends = refl };
+    may_act = record { root_is = omega arith; from_is = refl; to_is = refl; ends = refl; side_null = λ link e. cc };
     in_time = tt;
     may_enter = tt;
   };
   second_link = record {
     fits = (refl, record { node = dummy null; there = refl; known = inl refl });
-    may_act = record { root_is = omega arith; from_is = refl; to_is = refl; ends = refl };
+    may_act = record { root_is = omega arith; from_is = refl; to_is = refl; ends = refl; side_null = λ link e. cc };
     in_time = tt;
     may_enter = tt;
   };

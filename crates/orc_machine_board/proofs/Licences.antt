@@ -9,6 +9,7 @@ use Rattle.orc_core.specs.RecordParts.{any_holds, doom_at, is_empty, is_publishe
 use Rattle.orc_core.specs.declared.ops.Op.TheVariants.{LinkCas, LinkLoad, LinkStore}
 use Rattle.orc_core.specs.declared.records.Agent.{Agent}
 use Rattle.orc_heap.proofs.Stays.{allowed-right}
+use Rattle.orc_heap.specs.Acts.{aim_act}
 use Rattle.orc_heap.specs.Allowed.{AllAllowed, Later}
 use Rattle.orc_heap.specs.Heap.{HeapNumbers, shown}
 use Rattle.orc_heap.specs.Journals.{FitsAfter, IsPlain as IsPlainEvent, run_heap}
@@ -19,7 +20,7 @@ use Rattle.orc_heap.specs.declared.events.Link.{Link}
 use Rattle.orc_heap.specs.declared.events.Place.{Place}
 use Rattle.orc_history.specs.Journals.{own_of}
 use Rattle.orc_projection.specs.PresentIds.{PresentIds, node_link, node_place}
-use Rattle.orc_projection.specs.Projection.{act_of, aim_act, events_of, exchange_act, load_act, present_ids, project}
+use Rattle.orc_projection.specs.Projection.{act_of, events_of, exchange_act, load_act, present_ids, project}
 use Rattle.orc_machine_board.proofs.Events.{event_fits, plain_licensed}
 use Rattle.orc_machine_board.proofs.Holds.{has_out, node_stays, one_of}
 use Rattle.orc_projection.proofs.Links.{link_back}

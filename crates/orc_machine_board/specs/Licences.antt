@@ -2,6 +2,7 @@
 -- rows that the agent has, in every later journal of the pass.
 use Rattle.std.specs.Option.{option_map}
 use Rattle.std.specs.Prelude.{List, None, Option, Some, ℕ, ◌≡◌}
+use Rattle.orc_heap.specs.Acts.{aim_act}
 use Rattle.orc_heap.specs.Allowed.{AllowedLater, AllowedWhereFits}
 use Rattle.orc_heap.specs.Journals.{event_by}
 use Rattle.orc_heap.specs.declared.events.Act.TheVariants.{Look, Move}
@@ -9,7 +10,7 @@ use Rattle.orc_heap.specs.declared.events.Event.{Event}
 use Rattle.orc_heap.specs.declared.events.Place.{Place}
 use Rattle.orc_projection.specs.Mirror.{numbers_of}
 use Rattle.orc_projection.specs.PresentIds.{PresentIds, node_link, node_place}
-use Rattle.orc_projection.specs.Projection.{aim_act, present_ids, project}
+use Rattle.orc_projection.specs.Projection.{present_ids, project}
 use Rattle.orc_machine_board.specs.Views.{MachineView}
 use Rattle.orc_words.specs.Bounds.{Bounds}
 use Rattle.orc_words.specs.declared.packed.RowLink.{RowLink}
