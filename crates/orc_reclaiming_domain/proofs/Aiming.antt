@@ -1,5 +1,5 @@
--- The link of the fresh row is set, and what that leaves pending.
-use Rattle.std.proofs.Common.{Bool, List, None, Option, Some, [], ap, cond, false, refl, subst, sym, true, ℕ, ⊎_elim, ◌++◌, ◌∙◌, ◌≡◌, ◌∷◌}
+-- A link of the fresh row is set, and what that leaves pending.
+use Rattle.std.proofs.Common.{Bool, List, None, Option, Some, [], ap, arith, cond, false, refl, subst, suc, sym, true, zero, ℕ, ⊎_elim, ◌++◌, ◌<◌, ◌∙◌, ◌≡◌, ◌∷◌}
 use Rattle.std.proofs.lemmas.Bool.{lt-ltb, ne_eqb, or_right}
 use Rattle.std.specs.Option.{option_map}
 use Rattle.std.specs.Prelude.{if◌then◌else◌, length, nat_lt, ◌/◌, ◌&&◌, ◌||◌}
@@ -9,11 +9,11 @@ use Rattle.orc_core.specs.Machine.{record_at, word_in}
 use Rattle.orc_core.specs.RecordParts.{any_holds, names, same_target, slot_of}
 use Rattle.orc_core.specs.declared.ops.Op.TheVariants.{LinkStore}
 use Rattle.orc_core.specs.declared.records.Agent.{Agent}
+use Rattle.orc_heap.specs.Acts.{aim_act}
 use Rattle.orc_heap.proofs.Calls.{Only-trans}
-use Rattle.orc_heap.specs.Journals.{event_by, names_node}
+use Rattle.orc_heap.specs.Journals.{event_by, names_node, points_to}
 use Rattle.orc_heap.specs.OwnEvents.{Only}
 use Rattle.orc_heap.specs.declared.discipline.Discipline as discipline
-use Rattle.orc_heap.specs.declared.events.Act.TheVariants.{Aim}
 use Rattle.orc_machine_board.proofs.Licences.{has_either, same_target as same_node}
 use Rattle.orc_machine_board.specs.Holding.{HasRow, HasTarget}
 use Rattle.orc_machine_board.specs.Kinds.{asks}
@@ -37,28 +37,47 @@ use Rattle.orc_reclaiming_domain.specs.Passes.{IsFreshUntouched}
 use Rattle.orc_sound.specs.declared.steps.Step.{Step}
 use Rattle.orc_words.specs.Bounds.{Bounds}
 use Rattle.orc_words.specs.Packed.{named}
-use Rattle.orc_words.specs.declared.place.Word.TheVariants.{Next}
+use Rattle.orc_words.specs.Places.{link_at}
 
 -- a pending target is the new one, or the old one
 pending_is : (same : Bool) (o : Option ℕ) (r : ℕ) → cond same None o ≡ Some r → o ≡ Some r
 pending_is true o r e = cc
 pending_is false o r e = e
 
-module _ {D N : Type 0} {d : discipline.Ghosts D N} {k : MachineShape N} (s t : Stage d k) (r : ℕ) (to : Option ℕ) (n : ℕ)
-    (m : Steps (LinkStore r (without_mark to) 0) s n t) (is : Between s) (fresh : names s.view.record_is.fresh r ≡ true)
+-- a store of each number has one event
+aim_alone : {N : Type 0} (s : Step N) (number id : ℕ) (to : Option ℕ)
+    → events_of s (Some (aim_act number id to)) ≡ event_by s.agent (aim_act number id to) None ∷ []
+aim_alone s zero id to = refl
+aim_alone s (suc number) id to = refl
+
+-- which makes a link to its target alone
+aims_at_none : (number row : ℕ) (to : Option ℕ) (id : ℕ) → names_node to id ≡ false → points_to (aim_act number row to) id ≡ false
+aims_at_none zero row to id e = e
+aims_at_none (suc number) row to id e = e
+
+-- the place of a link that the row has
+its_place : (b : Bounds) (r number : ℕ) (p : ℕ → Bool) → r < b.rows → number < b.links → p r ≡ true → may_place b (link_at number r) p ≡ true
+its_place b r zero p low there e = let row = lt-ltb r b.rows low in λ i. row i && e i
+its_place b r (suc number) p low there e =
+    let row = lt-ltb r b.rows low in
+    let two = lt-ltb 1 b.links (omega (arith, there)) in
+    λ i. (row i && two i) && e i
+
+module _ {D N : Type 0} {d : discipline.Ghosts D N} {k : MachineShape N} (s t : Stage d k) (r number : ℕ) (to : Option ℕ) (n : ℕ)
+    (m : Steps (LinkStore r (without_mark to) number) s n t) (is : Between s) (there : number < (bounds_in k).links) (fresh : names s.view.record_is.fresh r ≡ true)
     (target : may_target (bounds_in k) s.view.record_is to ≡ true)
     (other : (x : ℕ) → to ≡ Some x → names s.view.record_is.fresh x ≡ false) where
   abbrev b : Bounds
   b = bounds_in k
 
   abbrev q : Request
-  q = asks (LinkStore r (without_mark to) 0)
+  q = asks (LinkStore r (without_mark to) number)
 
   abbrev j : List (Step N)
   j = s.view.journal ++ m.met
 
   abbrev g : ℕ
-  g = word_in (run_of (bounds_in k) (s.view.journal ++ m.met)) (Next r)
+  g = word_in (run_of (bounds_in k) (s.view.journal ++ m.met)) (link_at number r)
 
   has_fresh : HasRow s.view.record_is r
   has_fresh = or_right (any_holds s.view.record_is.slots r) (names s.view.record_is.fresh r) fresh
@@ -68,16 +87,18 @@ module _ {D N : Type 0} {d : discipline.Ghosts D N} {k : MachineShape N} (s t : 
   has_target (Some x) h = has_either (any_holds s.view.record_is.slots x) (names s.view.record_is.fresh x)
       (and_both (nat_lt x b.rows) (any_holds s.view.record_is.slots x) h).1
 
-  event : step_events q None s t n m ≡ event_by s.view.agent (Aim ((ids_of b s.view).node r) (option_map (ids_of b s.view).node to)) None ∷ []
+  event : step_events q None s t n m
+      ≡ event_by s.view.agent (aim_act number ((ids_of b s.view).node r) (option_map (ids_of b s.view).node to)) None ∷ []
   event =
       let p = present_ids b j in
       let mine : names (record_at (run_of b j) s.view.agent).fresh r ≡ true = ap (λ (e : Agent). names e.fresh r) (before_record q None s t n m) ∙ fresh in
       let one = before_keep q None s t n m r has_fresh in
       let two = same_node (ids_of b s.view) p s.view.record_is (before_keep q None s t n m) to (has_target to target) in
-      ap (λ (c : Bool). events_of (step_of s.view.agent q None) (if c then Some (Aim (p.node r) (option_map p.node to)) else None)) mine
-      ∙ (λ i. event_by s.view.agent (Aim (one i) (two i)) None ∷ [])
+      ap (λ (c : Bool). events_of (step_of s.view.agent q None) (if c then Some (aim_act number (p.node r) (option_map p.node to)) else None)) mine
+      ∙ (aim_alone (step_of s.view.agent q None) number (p.node r) (option_map p.node to)
+      ∙ (λ i. event_by s.view.agent (aim_act number (one i) (two i)) None ∷ []))
 
-  stored : Stores b r to s.view t.view
+  stored : Stores b r number to s.view t.view
   stored = subst (λ es. Only es (seat s) (seat t)) event
       (only q None s t n m (ap (λ (e : Agent). e.slots) m.record_is) (ap (λ (e : Agent). e.fresh) m.record_is))
 
@@ -89,14 +110,14 @@ module _ {D N : Type 0} {d : discipline.Ghosts D N} {k : MachineShape N} (s t : 
       let inc : t.view.record_is.inc ≡ cond same None to = ap (λ (e : Agent). e.inc) m.record_is ∙ ap (λ o. cond same o to) is.ready.inc in
       let dec : t.view.record_is.dec ≡ cond same None (named (g / 2)) = ap (λ (e : Agent). e.dec) m.record_is
       ∙ ap (λ o. cond same o (named (g / 2))) is.ready.dec in
-      let place : may_place b (Next r) (λ x. names e0.fresh x) ≡ true = let low = lt-ltb r b.rows (has_low s r has_fresh) in λ i. low i && fresh i in
+      let place = its_place b r number (λ x. names e0.fresh x) (has_low s r has_fresh) there fresh in
       record {
         enrolled = ap (λ (e : Agent). e.enrolled) m.record_is ∙ is.ready.enrolled;
         eight = ap (λ (e : Agent). length e.slots) m.record_is ∙ is.ready.eight;
         due = ap (λ (e : Agent). e.due) m.record_is ∙ is.ready.due;
         zero = ap (λ (e : Agent). slot_of e 0) m.record_is ∙ is.ready.zero;
         others = λ x h. ap (λ (e : Agent). names e.fresh x) m.record_is ∙ ⊎_elim (λ e. other x (pending_is same to x (sym inc ∙ e)))
-            (λ e. old_other q None s t n m is (Next r) (λ y. names e0.fresh y) (λ y f. or_right (any_holds e0.slots y) (names e0.fresh y) f) place x
+            (λ e. old_other q None s t n m is (link_at number r) (λ y. names e0.fresh y) (λ y f. or_right (any_holds e0.slots y) (names e0.fresh y) f) place x
             (pending_is same (named (g / 2)) x (sym dec ∙ e))) h;
       }
 
@@ -110,7 +131,7 @@ module _ {D N : Type 0} {d : discipline.Ghosts D N} {k : MachineShape N} (s t : 
 
   -- after it was counted
   module _ (u : Stage d k) (z : Becomes (bounds_in k) (record t.view.record_is { inc = None; dec = None }) t.view u.view) where
-    pub stores : Stores (bounds_in k) r to s.view u.view
+    pub stores : Stores (bounds_in k) r number to s.view u.view
     stores = Only-trans (seat s) (seat t) (seat u) _ [] stored z.only
 
     pub stored_untouched : IsFreshUntouched (heap_numbers k) (seat u)
@@ -120,8 +141,8 @@ module _ {D N : Type 0} {d : discipline.Ghosts D N} {k : MachineShape N} (s t : 
         let its : Some (p.node r) ≡ Some id = sym (ap (option_map p.node) (names-some s.view.record_is.fresh r fresh)) ∙ was in
         let same : id ≡ p.node r = cc in
         still_untouched t u [] z.only.puts (λ y. refl) id
-        (untouched_at s t _ stored.puts id (ap (λ y. y || false) (no_self to refl id same)) (is.untouched id was))
+        (untouched_at s t _ stored.puts id (ap (λ y. y || false) (aims_at_none number (p.node r) (option_map p.node to) id (no_self to refl id same))) (is.untouched id was))
 
     pub stored_leaves : LeavesNothing s.view.agent s.view.journal u.view.journal
-    stored_leaves = leaves_then s.view.agent s.view.journal t.view.journal u.view.journal (leaves_one s t (LinkStore r (without_mark to) 0) n m tt)
+    stored_leaves = leaves_then s.view.agent s.view.journal t.view.journal u.view.journal (leaves_one s t (LinkStore r (without_mark to) number) n m tt)
         (subst (λ a. LeavesNothing a t.view.journal u.view.journal) m.agent z.leaves)

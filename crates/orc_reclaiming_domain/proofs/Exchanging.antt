@@ -19,7 +19,7 @@ use Rattle.orc_heap.specs.declared.events.Act.TheVariants.{Miss, Move}
 use Rattle.orc_heap.specs.declared.events.Link.{Link}
 use Rattle.orc_heap.specs.declared.events.Place.{Place}
 use Rattle.orc_heap.specs.declared.holds.At.{At}
-use Rattle.orc_heap.specs.declared.holds.At.TheVariants.{Node as AtNode, Root as AtRoot}
+use Rattle.orc_heap.specs.declared.holds.At.TheVariants.{Node as AtNode, Root as AtRoot, Side as AtSide}
 use Rattle.orc_heap.specs.declared.holds.Want.{Want}
 use Rattle.orc_heap.specs.declared.holds.Want.TheVariants.{Node as WantNode, Null as WantNull}
 use Rattle.orc_machine_board.proofs.Events.{event_fits}
@@ -146,7 +146,7 @@ unless_some (Some i) (Some u) id e = cases (u == i) refl e
 
 module _ {D N : Type 0} {d : discipline.Ghosts D N} {k : MachineShape N} (s t : Stage d k) (at : At) (from to : Want) (note : Option N) (n : ℕ)
     (m : Makes (bounds_in k) (asks (LinkCas (word_at at) (row_link from) (row_link to))) note s.view n t.view) (is : Between s)
-    (there : HoldsPlace (bounds_in k).roots (seat s).slots at) (other : IsNotFresh (seat s) at)
+    (there : HoldsPlace (heap_numbers k) (seat s).slots at) (other : IsNotFresh (seat s) at)
     (hf : HoldsWant (seat s).slots from) (ht : HoldsWant (seat s).slots to) where
   abbrev b : Bounds
   b = bounds_in k
@@ -172,14 +172,15 @@ module _ {D N : Type 0} {d : discipline.Ghosts D N} {k : MachineShape N} (s t : 
   abbrev g : ℕ
   g = word_in (run_of (bounds_in k) (s.view.journal ++ m.met)) (word_at at)
 
-  place_has : (p : At) → HoldsPlace (bounds_in k).roots (seat s).slots p → HasPlace s.view.record_is (word_at p)
+  place_has : (p : At) → HoldsPlace (heap_numbers k) (seat s).slots p → HasPlace s.view.record_is (word_at p)
   place_has (AtRoot r) h = tt
   place_has (AtNode h) held = hold_has s h.now held
+  place_has (AtSide h) held = hold_has s h.now held.0
 
   -- the links and the place, where the step stands
   place_there : node_place (present_ids b j) w ≡ Some x
   place_there = same_place (ids_of b s.view) (present_ids b j) s.view.record_is (before_keep q note s t n m) w (place_has at there)
-      ∙ place_named (ids_of b s.view) b.roots s.view.record_is.slots at there
+      ∙ place_named (ids_of b s.view) (heap_numbers k) s.view.record_is.slots at there
 
   from_there : node_link (present_ids b j) f ≡ link_in (seat s).slots from
   from_there = same_link (ids_of b s.view) (present_ids b j) s.view.record_is (before_keep q note s t n m) f (want_has s from hf)

@@ -1,5 +1,5 @@
 -- What a pass holds: its rows are out and known, and what a caller names by them.
-use Rattle.std.proofs.Common.{List, Some, ap, refl, subst, sym, true, ℕ, ◌<◌, ◌≡◌}
+use Rattle.std.proofs.Common.{List, Some, ap, arith, refl, subst, sym, true, ℕ, ◌<◌, ◌≡◌}
 use Rattle.std.proofs.lemmas.Bool.{lt-ltb}
 use Rattle.std.specs.Prelude.{map, slice_get, ◌&&◌, ◌||◌}
 use Rattle.orc_core.specs.Allowed.{may_place}
@@ -7,13 +7,14 @@ use Rattle.orc_core.specs.RecordParts.{any_holds, names}
 use Rattle.orc_core.specs.declared.records.SlotUse.{SlotUse}
 use Rattle.orc_core.specs.declared.records.SlotUse.TheVariants.{Held}
 use Rattle.orc_domain.specs.Rows.{row_link, word_at}
+use Rattle.orc_heap.specs.Heap.{HeapNumbers}
 use Rattle.orc_heap.specs.Journals.{run_heap}
 use Rattle.orc_heap.specs.Seats.{HoldsPlace, HoldsWant, link_in, place_in}
 use Rattle.orc_heap.specs.Slots.{Hold, Holds, id_in}
 use Rattle.orc_heap.specs.declared.discipline.Discipline as discipline
-use Rattle.orc_heap.specs.declared.events.Place.TheVariants.{Next as NodePlace}
+use Rattle.orc_heap.specs.declared.events.Place.TheVariants.{Next as NodePlace, Side as SidePlace}
 use Rattle.orc_heap.specs.declared.holds.At.{At}
-use Rattle.orc_heap.specs.declared.holds.At.TheVariants.{Node as AtNode, Root as AtRoot}
+use Rattle.orc_heap.specs.declared.holds.At.TheVariants.{Node as AtNode, Root as AtRoot, Side as AtSide}
 use Rattle.orc_heap.specs.declared.holds.Want.{Want}
 use Rattle.orc_heap.specs.declared.holds.Want.TheVariants.{Node as WantNode, Null as WantNull}
 use Rattle.orc_machine_board.proofs.Holds.{has_out}
@@ -33,13 +34,20 @@ use Rattle.orc_reclaiming_domain.specs.Laws.Holding.{held_slot}
 use Rattle.orc_reclaiming_domain.specs.Seats.{slot_by}
 use Rattle.orc_words.specs.Bounds.{Bounds}
 
+-- where nodes have two links, there are second ones
+pub above_one : (links : ℕ) → links ≡ 2 → 1 < links
+above_one links e = omega (arith, e)
+
 -- a place that a caller names is that of its word
-pub place_named : (p : PresentIds) (roots : ℕ) (slots : List SlotUse) (at : At) → HoldsPlace roots (map (slot_by p) slots) at
+pub place_named : (p : PresentIds) (n : HeapNumbers) (slots : List SlotUse) (at : At) → HoldsPlace n (map (slot_by p) slots) at
     → node_place p (word_at at) ≡ Some (place_in (map (slot_by p) slots) at)
-place_named p roots slots (AtRoot r) h = refl
-place_named p roots slots (AtNode h) e =
+place_named p n slots (AtRoot r) h = refl
+place_named p n slots (AtNode h) e =
     let slot = held_slot p slots h.now.slot (record { row = h.now.row; id = id_in (map (slot_by p) slots) h.now }) e in
     ap (λ i. Some (NodePlace i)) (sym slot.1)
+place_named p n slots (AtSide h) e =
+    let slot = held_slot p slots h.now.slot (record { row = h.now.row; id = id_in (map (slot_by p) slots) h.now }) e.0 in
+    ap (λ i. Some (SidePlace i)) (sym slot.1)
 
 -- so is a link
 pub link_named : (p : PresentIds) (slots : List SlotUse) (w : Want) → HoldsWant (map (slot_by p) slots) w
@@ -72,10 +80,15 @@ module _ {D N : Type 0} {d : discipline.Ghosts D N} {k : MachineShape N} (s : St
   hold_low h e = has_low h.row (hold_has h e)
 
   -- the word of a place that a caller names may be read
-  pub place_may : (at : At) → HoldsPlace (bounds_in k).roots (seat s).slots at
+  pub place_may : (at : At) → HoldsPlace (heap_numbers k) (seat s).slots at
       → may_place (bounds_in k) (word_at at) (λ r. any_holds s.view.record_is.slots r || names s.view.record_is.fresh r) ≡ true
   place_may (AtRoot r) h = lt-ltb r (bounds_in k).roots h
   place_may (AtNode h) e =
       let low = lt-ltb h.now.row (bounds_in k).rows (hold_low h.now e) in
       let has = hold_has h.now e in
       λ i. low i && has i
+  place_may (AtSide h) e =
+      let low = lt-ltb h.now.row (bounds_in k).rows (hold_low h.now e.0) in
+      let two = lt-ltb 1 (bounds_in k).links (above_one (bounds_in k).links e.1) in
+      let has = hold_has h.now e.0 in
+      λ i. (low i && two i) && has i

@@ -1,5 +1,5 @@
 -- What a caller names for a change of a link, as the machine and the board ask for it.
-use Rattle.std.proofs.Common.{Bool, List, None, Option, Some, [], ap, false, refl, subst, sym, true, ℕ, ◌++◌, ◌+◌, ◌∙◌, ◌≡◌, ◌≢◌, ◌∷◌}
+use Rattle.std.proofs.Common.{Bool, List, None, Option, Some, [], ap, false, refl, subst, sym, true, ℕ, ◌++◌, ◌+◌, ◌<◌, ◌∙◌, ◌≡◌, ◌≢◌, ◌∷◌}
 use Rattle.std.proofs.lemmas.Bool.{lt-ltb, or_right}
 use Rattle.std.specs.Borrow.{Bor}
 use Rattle.std.specs.Option.{option_map}
@@ -8,20 +8,22 @@ use Rattle.orc_core.specs.Allowed.{may_change, may_place, may_target}
 use Rattle.orc_core.specs.Machine.{word_in}
 use Rattle.orc_core.specs.RecordParts.{any_holds, is_empty, names, slot_of}
 use Rattle.orc_core.specs.declared.ops.Op.TheVariants.{LinkCas, LinkStore}
+use Rattle.orc_domain.specs.Calls.{MayAimAt, aim_at}
 use Rattle.orc_domain.specs.Rows.{row_link, target_link, word_at}
+use Rattle.orc_heap.specs.Acts.{aim_act}
 use Rattle.orc_heap.specs.Allowed.{AllowedLater, AllowedWhereFits}
-use Rattle.orc_heap.specs.Calls.{MayAim, MayMove, aim_of}
+use Rattle.orc_heap.specs.Calls.{MayMove}
 use Rattle.orc_heap.specs.Heap.{Node}
 use Rattle.orc_heap.specs.Journals.{event_by}
 use Rattle.orc_heap.specs.OwnEvents.{Only}
 use Rattle.orc_heap.specs.Seats.{HoldsPlace, HoldsTarget, HoldsWant, IsNotFresh, link_in, place_in, target_in}
 use Rattle.orc_heap.specs.Slots.{Hold, Holds, id_in}
 use Rattle.orc_heap.specs.declared.discipline.Discipline as discipline
-use Rattle.orc_heap.specs.declared.events.Act.TheVariants.{Aim, Move}
+use Rattle.orc_heap.specs.declared.events.Act.TheVariants.{Move}
 use Rattle.orc_heap.specs.declared.events.Link.{Link}
 use Rattle.orc_heap.specs.declared.events.Place.{Place}
 use Rattle.orc_heap.specs.declared.holds.At.{At}
-use Rattle.orc_heap.specs.declared.holds.At.TheVariants.{Node as AtNode, Root as AtRoot}
+use Rattle.orc_heap.specs.declared.holds.At.TheVariants.{Node as AtNode, Root as AtRoot, Side as AtSide}
 use Rattle.orc_heap.specs.declared.holds.Want.{Want}
 use Rattle.orc_heap.specs.declared.holds.Want.TheVariants.{Node as WantNode, Null as WantNull}
 use Rattle.orc_machine_board.proofs.Licences.{has_either}
@@ -35,7 +37,7 @@ use Rattle.orc_machine_board.specs.declared.machine.MachineShape.{MachineShape}
 use Rattle.orc_machine_board.specs.declared.machine.Request.{Request}
 use Rattle.orc_projection.proofs.Links.{names-some}
 use Rattle.orc_reclaiming_domain.proofs.Filling.{has_is_out}
-use Rattle.orc_reclaiming_domain.proofs.Held.{has_low, hold_has, hold_low, hold_slot, link_named, mirrors, place_named}
+use Rattle.orc_reclaiming_domain.proofs.Held.{above_one, has_low, hold_has, hold_low, hold_slot, link_named, mirrors, place_named}
 use Rattle.orc_reclaiming_domain.proofs.Protecting.{either_way, target_named, true_false}
 use Rattle.orc_reclaiming_domain.proofs.Seats.{calm_forced, ready_calm, slot_holds}
 use Rattle.orc_reclaiming_domain.proofs.Stages.{Between, Stage, before_lawful, before_out, before_unmarked, seat}
@@ -75,7 +77,7 @@ module _ {D N : Type 0} {d : discipline.Ghosts D N} {k : MachineShape N} (s : St
   want_target (WantNode h mark) held = hold_target h.now held
 
   -- the link of a place that isn't in the fresh node may be changed
-  pub cas_place : (at : At) → HoldsPlace (bounds_in k).roots (seat s).slots at → IsNotFresh (seat s) at
+  pub cas_place : (at : At) → HoldsPlace (heap_numbers k) (seat s).slots at → IsNotFresh (seat s) at
       → may_place (bounds_in k) (word_at at) (λ r. any_holds s.view.record_is.slots r && not (names s.view.record_is.fresh r)) ≡ true
   cas_place (AtRoot r) there other = lt-ltb r (bounds_in k).roots there
   cas_place (AtNode h) there other =
@@ -83,8 +85,14 @@ module _ {D N : Type 0} {d : discipline.Ghosts D N} {k : MachineShape N} (s : St
       let has = slot_holds s.view.record_is.slots h.now.slot h.now.row (hold_slot s h.now there).0 in
       let older : not (names s.view.record_is.fresh h.now.row) ≡ true = ap not (not_fresh h.now there other) in
       λ i. low i && (has i && older i)
+  cas_place (AtSide h) there other =
+      let low = lt-ltb h.now.row (bounds_in k).rows (hold_low s h.now there.0) in
+      let two = lt-ltb 1 (bounds_in k).links (above_one (bounds_in k).links there.1) in
+      let has = slot_holds s.view.record_is.slots h.now.slot h.now.row (hold_slot s h.now there.0).0 in
+      let older : not (names s.view.record_is.fresh h.now.row) ≡ true = ap not (not_fresh h.now there.0 other) in
+      λ i. (low i && two i) && (has i && older i)
 
-  pub cas_can : (at : At) (from to : Want) → IsReady s.view.record_is → HoldsPlace (bounds_in k).roots (seat s).slots at → IsNotFresh (seat s) at
+  pub cas_can : (at : At) (from to : Want) → IsReady s.view.record_is → HoldsPlace (heap_numbers k) (seat s).slots at → IsNotFresh (seat s) at
       → HoldsWant (seat s).slots from → HoldsWant (seat s).slots to
       → may_change s.view.record_is ((bounds_in k).limit + 64) (row_link from).to (row_link to).to ≡ true
       → MayDo (bounds_in k) s.view (LinkCas (word_at at) (row_link from) (row_link to))
@@ -99,13 +107,13 @@ module _ {D N : Type 0} {d : discipline.Ghosts D N} {k : MachineShape N} (s : St
       let new = want_target to ht in
       λ i. ((agent i && on i) && first i) && ((((place i && empty i) && old i) && new i) && change i)
 
-  pub move_allowed : (at : At) (from to : Want) (note : Option N) → HoldsPlace (bounds_in k).roots (seat s).slots at → HoldsWant (seat s).slots from
+  pub move_allowed : (at : At) (from to : Want) (note : Option N) → HoldsPlace (heap_numbers k) (seat s).slots at → HoldsWant (seat s).slots from
       → HoldsWant (seat s).slots to → MayMove (d.may (heap_numbers k)) (heap_numbers k) (seat s) at from to note
       → MoveAllowed (d.may (heap_numbers k)) (bounds_in k) s.view (word_at at) (row_link from) (row_link to) note
   move_allowed at from to note there hf ht allowed place is =
       let p = ids_of (bounds_in k) s.view in
       let slots = s.view.record_is.slots in
-      let one : Some (place_in (seat s).slots at) ≡ Some place = sym (place_named p (bounds_in k).roots slots at there) ∙ is in
+      let one : Some (place_in (seat s).slots at) ≡ Some place = sym (place_named p (heap_numbers k) slots at there) ∙ is in
       let same : place_in (seat s).slots at ≡ place = cc in
       let old = link_named p slots from hf in
       let new = link_named p slots to ht in
@@ -113,17 +121,17 @@ module _ {D N : Type 0} {d : discipline.Ghosts D N} {k : MachineShape N} (s : St
       (event_by s.view.agent (Move z.0 z.1 z.2) note))
       (λ i. (same i, sym old i, sym new i)) allowed
 
-  -- the link of the fresh row may be set
-  pub store_can : (r : ℕ) (to : Option ℕ) → IsReady s.view.record_is → names s.view.record_is.fresh r ≡ true
+  -- each link of the fresh row may be set
+  pub store_can : (r number : ℕ) (to : Option ℕ) → number < (bounds_in k).links → IsReady s.view.record_is → names s.view.record_is.fresh r ≡ true
       → may_target (bounds_in k) s.view.record_is to ≡ true → may_change s.view.record_is ((bounds_in k).limit + 64) None to ≡ true
-      → MayDo (bounds_in k) s.view (LinkStore r (without_mark to) 0)
-  store_can r to ready fresh target change =
+      → MayDo (bounds_in k) s.view (LinkStore r (without_mark to) number)
+  store_can r number to there ready fresh target change =
       let e = s.view.record_is in
       let agent = lt-ltb s.view.agent (bounds_in k).agents s.number in
       let on = ready.enrolled in
-      let first = calm_forced e (LinkStore r (without_mark to) 0) (ready_calm e ready) in
+      let first = calm_forced e (LinkStore r (without_mark to) number) (ready_calm e ready) in
       let row = lt-ltb r (bounds_in k).rows (has_low s r (or_right (any_holds e.slots r) (names e.fresh r) fresh)) in
-      let link = lt-ltb 0 (bounds_in k).links k.shape.some_links in
+      let link = lt-ltb number (bounds_in k).links there in
       let empty : is_empty (slot_of e 0) ≡ true = ap is_empty ready.zero in
       let its = has_either ((names e.fresh r && may_target (bounds_in k) e to) && may_change e ((bounds_in k).limit + 64) None to) _
       (λ i. (fresh i && target i) && change i) in
@@ -134,23 +142,23 @@ module _ {D N : Type 0} {d : discipline.Ghosts D N} {k : MachineShape N} (s : St
   target_id None held = refl
   target_id (Some h) held = ap Some (hold_slot s h.now held.0).1
 
-  pub aim_allowed : (h : Hold) (to : Option (Bor Hold)) → Holds (seat s).slots h → HoldsTarget (seat s) to
-      → MayAim (d.may (heap_numbers k)) (heap_numbers k) (seat s) h to
-      → AimAllowed (d.may (heap_numbers k)) (bounds_in k) s.view h.row (target_link to).to
-  aim_allowed h to held target allowed =
+  pub aim_allowed : (number : ℕ) (h : Hold) (to : Option (Bor Hold)) → Holds (seat s).slots h → HoldsTarget (seat s) to
+      → MayAimAt (d.may (heap_numbers k)) (heap_numbers k) (seat s) number h to
+      → AimAllowed (d.may (heap_numbers k)) (bounds_in k) s.view h.row number (target_link to).to
+  aim_allowed number h to held target allowed =
       let id = (hold_slot s h held).1 in
       let its = target_id to target in
       subst (λ (z : ℕ × Option ℕ). AllowedWhereFits (d.may (heap_numbers k)) (heap_numbers k) s.view.agent (seat s).seen
-      (event_by s.view.agent (Aim z.0 z.1) None))
+      (event_by s.view.agent (aim_act number z.0 z.1) None))
       (λ i. (id i, its i)) allowed
 
-  -- a store in the fresh row is the Aim that a caller asks for
-  pub aims : (h : Hold) (to : Option (Bor Hold)) → Holds (seat s).slots h → HoldsTarget (seat s) to → (u : Stage d k)
-      → Stores (bounds_in k) h.row (target_link to).to s.view u.view → Only (aim_of (seat s) h to ∷ []) (seat s) (seat u)
-  aims h to held target u stored =
+  -- a store in the fresh row is the Aim or AimSide that a caller asks for
+  pub aims : (number : ℕ) (h : Hold) (to : Option (Bor Hold)) → Holds (seat s).slots h → HoldsTarget (seat s) to → (u : Stage d k)
+      → Stores (bounds_in k) h.row number (target_link to).to s.view u.view → Only (aim_at (seat s) number h to ∷ []) (seat s) (seat u)
+  aims number h to held target u stored =
       let id = (hold_slot s h held).1 in
       let its = target_id to target in
-      subst (λ (z : ℕ × Option ℕ). Only (event_by s.view.agent (Aim z.0 z.1) None ∷ []) (seat s) (seat u)) (λ i. (sym id i, sym its i)) stored
+      subst (λ (z : ℕ × Option ℕ). Only (event_by s.view.agent (aim_act number z.0 z.1) None ∷ []) (seat s) (seat u)) (λ i. (sym id i, sym its i)) stored
 
 -- the old target of a link that is changed isn't the fresh row: no link was made to that
 module _ {D N : Type 0} {d : discipline.Ghosts D N} {k : MachineShape N} (q : Request) (note : Option N) (s t : Stage d k) (n : ℕ)

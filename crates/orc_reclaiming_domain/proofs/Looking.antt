@@ -63,7 +63,7 @@ use Rattle.orc_words.specs.declared.place.Word.{Word}
 -- a look of a place, at this word, with a free slot, begun between calls
 pub record Begun {D N : Type 0} {d : discipline.Ghosts D N} {k : MachineShape N} (s : Stage d k) (at : At) (w : Word) (slot : ℕ) : Type 0 where
   pub between : Between s
-  pub place : HoldsPlace (bounds_in k).roots (seat s).slots at
+  pub place : HoldsPlace (heap_numbers k) (seat s).slots at
   pub word : w ≡ word_at at
   pub free : IsFree (seat s).slots slot
 
@@ -78,7 +78,7 @@ module _ {D N : Type 0} {d : discipline.Ghosts D N} {k : MachineShape N} {s : St
   place_ok = subst (λ z. may_place b z (λ r. any_holds s.view.record_is.slots r || names s.view.record_is.fresh r) ≡ true) (sym c.word) (place_may s at c.place)
 
   there : node_place (ids_of b s.view) w ≡ Some x
-  there = ap (node_place (ids_of b s.view)) c.word ∙ place_named (ids_of b s.view) b.roots s.view.record_is.slots at c.place
+  there = ap (node_place (ids_of b s.view)) c.word ∙ place_named (ids_of b s.view) (heap_numbers k) s.view.record_is.slots at c.place
 
   pub load_can : MayDo b s.view (LinkLoad w None)
   load_can = load_may b s.view.agent s.view.record_is w s.number (ready_calm s.view.record_is c.between.ready) place_ok

@@ -4,10 +4,11 @@ use Rattle.std.proofs.lemmas.Bool.{false≢true}
 use Rattle.std.specs.Borrow.{Bor}
 use Rattle.std.specs.Option.{option_eq}
 use Rattle.std.specs.Prelude.{Err, IfErr, Ok, Result}
+use Rattle.orc_domain.specs.Calls.{MayAimAt, aim_at}
 use Rattle.orc_heap.proofs.Calls.{Puts-trans}
 use Rattle.orc_heap.proofs.Stays.{allowed-join, allowed-right}
 use Rattle.orc_heap.specs.Allowed.{AllAllowed, Later}
-use Rattle.orc_heap.specs.Calls.{MayAim, MayMove, Swings, aim_of, event_of, move_of}
+use Rattle.orc_heap.specs.Calls.{MayMove, Swings, event_of, move_of}
 use Rattle.orc_heap.specs.Heap.{shown}
 use Rattle.orc_heap.specs.Journals.{FitsAfter, run_heap}
 use Rattle.orc_heap.specs.OwnEvents.{Only, Puts}
@@ -92,13 +93,13 @@ module _ {D N : Type 0} {d : discipline.Ghosts D N} {k : MachineShape N} (s t : 
       subst (λ z. MayMove (d.may n) n z at from to note) same_seat
       (subst (λ es. MayMove (d.may n) n (meanwhile es) at from to note) (sym idle.only.puts.is) wide)
 
-  pub aim_on : (h : Hold) (to : Option (Bor Hold)) → MayAim (d.may (heap_numbers k)) (heap_numbers k) (seat s) h to
-      → MayAim (d.may (heap_numbers k)) (heap_numbers k) (seat t) h to
-  aim_on x to h =
+  pub aim_on : (number : ℕ) (h : Hold) (to : Option (Bor Hold)) → MayAimAt (d.may (heap_numbers k)) (heap_numbers k) (seat s) number h to
+      → MayAimAt (d.may (heap_numbers k)) (heap_numbers k) (seat t) number h to
+  aim_on number x to h =
       let n = heap_numbers k in
-      let wide : MayAim (d.may n) n (meanwhile ((seat s).seen ++ idle.only.puts.part)) x to = later_on
-      (λ es. FitsAfter n es (aim_of (seat s) x to) → d.may n es (aim_of (seat s) x to)) h in
-      subst (λ z. MayAim (d.may n) n z x to) same_seat (subst (λ es. MayAim (d.may n) n (meanwhile es) x to) (sym idle.only.puts.is) wide)
+      let wide : MayAimAt (d.may n) n (meanwhile ((seat s).seen ++ idle.only.puts.part)) number x to = later_on
+      (λ es. FitsAfter n es (aim_at (seat s) number x to) → d.may n es (aim_at (seat s) number x to)) h in
+      subst (λ z. MayAimAt (d.may n) n z number x to) same_seat (subst (λ es. MayAimAt (d.may n) n (meanwhile es) number x to) (sym idle.only.puts.is) wide)
 
   -- what the second part tells is told of both
   first : Puts (seat s) [] (meanwhile (seat t).seen)
@@ -109,14 +110,14 @@ module _ {D N : Type 0} {d : discipline.Ghosts D N} {k : MachineShape N} (s t : 
   leaves_both u one two = leaves_then s.view.agent s.view.journal t.view.journal u.view.journal one
       (subst (λ a. LeavesNothing a t.view.journal u.view.journal) idle.only.puts.agent two)
 
-  pub aims_both : (u : Stage d k) (h : Hold) (to : Option (Bor Hold)) → Only (aim_of (seat t) h to ∷ []) (seat t) (seat u)
-      → Only (aim_of (seat s) h to ∷ []) (seat s) (seat u)
-  aims_both u h to o =
-      let back : Only (aim_of (seat s) h to ∷ []) (meanwhile (seat t).seen) (seat u) = subst (λ z. Only (aim_of z h to ∷ []) z (seat u)) (sym same_seat) o in
+  pub aims_both : (number : ℕ) (u : Stage d k) (h : Hold) (to : Option (Bor Hold)) → Only (aim_at (seat t) number h to ∷ []) (seat t) (seat u)
+      → Only (aim_at (seat s) number h to ∷ []) (seat s) (seat u)
+  aims_both number u h to o =
+      let back : Only (aim_at (seat s) number h to ∷ []) (meanwhile (seat t).seen) (seat u) = subst (λ z. Only (aim_at z number h to ∷ []) z (seat u)) (sym same_seat) o in
       record {
         slots = back.slots;
         fresh = back.fresh;
-        puts = Puts-trans (seat s) (meanwhile (seat t).seen) (seat u) [] (aim_of (seat s) h to ∷ []) first back.puts;
+        puts = Puts-trans (seat s) (meanwhile (seat t).seen) (seat u) [] (aim_at (seat s) number h to ∷ []) first back.puts;
       }
 
   pub swings_both : (u : Stage d k) (at : At) (from to : Want) (note : Option N) (done : Bool) → Swings at from to note (seat t) done (seat u)

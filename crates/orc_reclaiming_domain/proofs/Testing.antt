@@ -62,13 +62,13 @@ module _ {D N : Type 0} {d : discipline.Ghosts D N} {k : MachineShape N} (s : St
       omega (arith, low, same, few)
 
   -- what the discipline allows by nodes is allowed by rows
-  pub look_allowed : (at : At) (w : Want) (note : Option N) → HoldsPlace (bounds_in k).roots (seat s).slots at → HoldsWant (seat s).slots w
+  pub look_allowed : (at : At) (w : Want) (note : Option N) → HoldsPlace (heap_numbers k) (seat s).slots at → HoldsWant (seat s).slots w
       → AllowedLater (d.may (heap_numbers k)) (heap_numbers k) s.view.agent (seat s).seen (place_in (seat s).slots at) (link_in (seat s).slots w)
       (look_of (seat s) at w note)
       → LookAllowed (d.may (heap_numbers k)) (bounds_in k) s.view (word_at at) (row_link w) note
   look_allowed at w note there held allowed place is =
       let p = ids_of (bounds_in k) s.view in
-      let one : Some (place_in (seat s).slots at) ≡ Some place = sym (place_named p (bounds_in k).roots s.view.record_is.slots at there) ∙ is in
+      let one : Some (place_in (seat s).slots at) ≡ Some place = sym (place_named p (heap_numbers k) s.view.record_is.slots at there) ∙ is in
       let same : place_in (seat s).slots at ≡ place = cc in
       let link = link_named p s.view.record_is.slots w held in
       subst (λ (z : Place × Link). AllowedLater (d.may (heap_numbers k)) (heap_numbers k) s.view.agent (seat s).seen z.0 z.1
@@ -77,7 +77,7 @@ module _ {D N : Type 0} {d : discipline.Ghosts D N} {k : MachineShape N} (s : St
 
 module _ {D N : Type 0} {d : discipline.Ghosts D N} {k : MachineShape N} (s t : Stage d k) (at : At) (w : Want) (note : Option N) (n : ℕ)
     (m : Makes (bounds_in k) (wants (LinkLoad (word_at at) None) (Some (row_link w))) note s.view n t.view)
-    (there : HoldsPlace (bounds_in k).roots (seat s).slots at) (held : HoldsWant (seat s).slots w) (ready : IsReady s.view.record_is) where
+    (there : HoldsPlace (heap_numbers k) (seat s).slots at) (held : HoldsWant (seat s).slots w) (ready : IsReady s.view.record_is) where
   abbrev b : Bounds
   b = bounds_in k
 
@@ -95,7 +95,7 @@ module _ {D N : Type 0} {d : discipline.Ghosts D N} {k : MachineShape N} (s t : 
 
   events : step_events q note s t n m ≡ events_of (step_of s.view.agent q note) (Some (load_act (present_ids b j) n (Some (row_link w)) place))
   events = load_events s t (word_at at) None (Some (row_link w)) note n m can (want_held s w held) place
-      (place_named (ids_of b s.view) b.roots s.view.record_is.slots at there)
+      (place_named (ids_of b s.view) (heap_numbers k) s.view.record_is.slots at there)
 
   -- the wanted link, as nodes, at the load
   wanted : node_link (present_ids b j) (row_link w) ≡ link_in (seat s).slots w

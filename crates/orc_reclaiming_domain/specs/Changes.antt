@@ -4,9 +4,9 @@ use Rattle.std.specs.Prelude.{None, Option, Some, [], false, length, true, ℕ, 
 use Rattle.orc_core.specs.RecordParts.{names, slot_of}
 use Rattle.orc_core.specs.declared.records.Agent.{Agent}
 use Rattle.orc_core.specs.declared.records.SlotUse.TheVariants.{Empty}
+use Rattle.orc_heap.specs.Acts.{aim_act}
 use Rattle.orc_heap.specs.Journals.{event_by}
 use Rattle.orc_heap.specs.OwnEvents.{Only}
-use Rattle.orc_heap.specs.declared.events.Act.TheVariants.{Aim}
 use Rattle.orc_machine_board.specs.Licences.{ids_of}
 use Rattle.orc_machine_board.specs.Views.{MachineView}
 use Rattle.orc_reclaiming_domain.specs.Calls.{SameParts}
@@ -40,6 +40,7 @@ module _ {N : Type 0} where
     pub idle : Idles b s t
     pub leaves : LeavesNothing s.agent s.journal t.journal
 
-  -- the link of the fresh row's node was set, and nothing else that the pass shows has changed
-  abbrev pub Stores : Bounds → ℕ → Option ℕ → MachineView N → MachineView N → Type 0
-  Stores b r to s t = Only (event_by s.agent (Aim ((ids_of b s).node r) (option_map (ids_of b s).node to)) None ∷ []) (seat_by b s) (seat_by b t)
+  -- the link of this number of the fresh row's node was set, and nothing else that the pass shows has changed
+  abbrev pub Stores : Bounds → ℕ → ℕ → Option ℕ → MachineView N → MachineView N → Type 0
+  Stores b r number to s t =
+      Only (event_by s.agent (aim_act number ((ids_of b s).node r) (option_map (ids_of b s).node to)) None ∷ []) (seat_by b s) (seat_by b t)

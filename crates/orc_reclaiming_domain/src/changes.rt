@@ -1,6 +1,6 @@
 //! The parts of which the calls that change links are made.
 
-ghost use Rattle.std.specs.Prelude.{◌≡◌, ◌+◌, IfErr, IfOk, None, Some, false, true, ℕ};
+ghost use Rattle.std.specs.Prelude.{◌≡◌, ◌<◌, ◌+◌, IfErr, IfOk, None, Some, false, true, ℕ};
 ghost use Rattle.orc_core.specs.Allowed.{may_change, may_target};
 ghost use Rattle.orc_core.specs.RecordParts.{checked_below, names};
 ghost use Rattle.orc_domain.specs.Rows.{row_link};
@@ -113,23 +113,25 @@ impl<D: Discipline> OrcDomain<D> {
         true
     }
 
-    // Sets the link of the fresh row, and then counts what was linked and unlinked.
-    pub(crate) fn store(&self, p: &mut MachineBoardPass<D>, row: u32, to: Option<u32>)
+    // Sets the link of this number of the fresh row, and then counts what was linked and unlinked.
+    pub(crate) fn store(&self, p: &mut MachineBoardPass<D>, row: u32, number: u32, to: Option<u32>)
         requires belongs { Belongs self.now.board p.old }
         requires ready { IsReady (shows p.old).record_is }
         requires untouched { IsFreshUntouched (domain_numbers self.now) (seat_by (domain_bounds self.now) (shows p.old)) }
+        requires number { number < (domain_bounds self.now).links }
         requires fresh { names (shows p.old).record_is.fresh row ≡ true }
         requires target { may_target (domain_bounds self.now) (shows p.old).record_is to ≡ true }
         requires low { may_change (shows p.old).record_is ((domain_bounds self.now).limit + 64) None to ≡ true }
         requires other { (r : ℕ) → to ≡ Some r → names (shows p.old).record_is.fresh r ≡ false }
-        requires licensed { AimAllowed (D.may (domain_numbers self.now)) (domain_bounds self.now) (shows p.old) row to }
+        requires licensed { AimAllowed (D.may (domain_numbers self.now)) (domain_bounds self.now) (shows p.old) row number to }
         ensures belongs { Belongs self.now.board p.new }
         ensures ready { IsReady (shows p.new).record_is }
         ensures untouched { IsFreshUntouched (domain_numbers self.now) (seat_by (domain_bounds self.now) (shows p.new)) }
-        ensures stores { Stores (domain_bounds self.now) row to (shows p.old) (shows p.new) }
+        ensures stores { Stores (domain_bounds self.now) row number to (shows p.old) (shows p.new) }
         ensures leaves { LeavesNothing (shows p.old).agent (shows p.old).journal (shows p.new).journal }
     {
-        self.board.link_store(p, row, RowLink { to, mark: false });
+        self.board
+            .link_store(p, row, number, RowLink { to, mark: false });
         self.complete(p);
     }
 }

@@ -1,6 +1,7 @@
 //! A domain of links whose rows are reclaimed: each row is counted, retired, scanned for, freed and given again.
 #![tactic(auto)]
 
+mod aims;
 mod at_rest;
 mod changes;
 mod counts;

@@ -3,7 +3,7 @@
 ghost use Rattle.std.specs.Prelude.{◌≡◌, ◌≢◌, ◌<◌, ◌*◌, ◌+◌, ◌%◌, ◌∷◌, [], IfErr, IfOk, None, refl};
 ghost use mathlib.Core.List.{IsPrefix};
 ghost use Rattle.orc_domain.specs.Turns.{IsNext};
-ghost use Rattle.orc_heap.specs.Calls.{Gives, Learns, Looks, MayAim, MayLook, MayMove, ReadsValue, RefusesAim, RefusesSwing, Releases, Swings, Tests, aim_of, fill_of};
+ghost use Rattle.orc_heap.specs.Calls.{Gives, Learns, Looks, MayAim, MayAimSide, MayLook, MayMove, ReadsValue, RefusesAim, RefusesSwing, Releases, Swings, Tests, aim_of, aim_side_of, fill_of};
 ghost use Rattle.orc_heap.specs.Journals.{run_heap};
 ghost use Rattle.orc_heap.specs.OwnEvents.{Only};
 ghost use Rattle.orc_heap.specs.Seats.{HoldsFresh, HoldsPlace, HoldsTarget, HoldsWant, IsIdle, IsNotFresh, place_in};
@@ -67,7 +67,7 @@ impl<D: Discipline> Links for OrcDomain<D> {
         p.pass.agent()
     }
 
-    /// Gives a new node with these values and a null link, held in this slot. It is the pass's fresh node until it is
+    /// Gives a new node with these values and null links, held in this slot. It is the pass's fresh node until it is
     /// linked or released. Its row is the first one, from the row after the one that the pass was given last, that could be given. NoNode leaves what the pass holds as it was, and comes once what was handed over beside each
     /// empty slot was taken in: the pass settles it next.
     ///
@@ -191,7 +191,7 @@ impl<D: Discipline> Links for OrcDomain<D> {
         self.board.read(&mut p.pass, h.row(), which)
     }
 
-    /// Sets the link of the fresh node, and counts the target. Spent leaves it as it was.
+    /// Sets the first link of the fresh node, and counts the target. Spent leaves it as it was.
     ///
     /// # Errors
     ///
@@ -211,13 +211,31 @@ impl<D: Discipline> Links for OrcDomain<D> {
         ensures taken_in { LeavesNothing (seat_of self.now p.old).agent (journal_of p.old) (journal_of p.new) }
         ensures next { next_row p.new ≡ next_row p.old }
     {
-        let Some(h) = to else {
-            self.store(&mut p.pass, fresh.row(), None);
-            return Ok(());
-        };
-        self.check(&mut p.pass, h)?;
-        self.store(&mut p.pass, fresh.row(), Some(h.row()));
-        Ok(())
+        self.aim_link(p, fresh, 0, to)
+    }
+
+    /// Sets the second link of the fresh node, where nodes have two, and counts the target. Spent leaves it as it was.
+    ///
+    /// # Errors
+    ///
+    /// `Spent` where the sequence of the target's row was read as the shape's limit + 64 or more.
+    fn aim_side(&self, p: &mut OrcPass<D>, fresh: &Held, to: Option<&Held>) -> Result<(), Spent>
+        requires pass { IsPassOf self.now p.old }
+        requires two { (domain_numbers self.now).links ≡ 2 }
+        requires fresh { HoldsFresh (seat_of self.now p.old) fresh.now }
+        requires target { HoldsTarget (seat_of self.now p.old) to }
+        requires allowed { MayAimSide (D.may (domain_numbers self.now)) (domain_numbers self.now) (seat_of self.now p.old) fresh.now to }
+        ensures pass { IsPassOf self.now p.new }
+        ensures later { IsPrefix (journal_of p.old) (journal_of p.new) }
+        ensures aimed { IfOk result (λ _. Only (aim_side_of (seat_of self.now p.old) fresh.now to.entry ∷ []) (seat_of self.now p.old) (seat_of self.now p.new)) }
+        ensures none { IfErr result (λ e. Only [] (seat_of self.now p.old) (seat_of self.now p.new)) }
+        ensures spent { IfErr result (λ e. RefusesAim (seat_of self.now p.old).slots to.entry e (seat_of self.now p.new).seen) }
+        ensures worn { IfErr result (λ e. InPart (λ s. s.agent) (seat_of self.now p.old).agent (journal_of p.old) (journal_of p.new)
+            (IsWornIn (domain_bounds self.now) (seat_of self.now p.old).agent e (journal_of p.new))) }
+        ensures taken_in { LeavesNothing (seat_of self.now p.old).agent (journal_of p.old) (journal_of p.new) }
+        ensures next { next_row p.new ≡ next_row p.old }
+    {
+        self.aim_link(p, fresh, 1, to)
     }
 
     /// One compare-and-swap of a link: true where it was `from`, and then it is `to`, and both targets are counted. Spent

@@ -19,7 +19,7 @@ use orc_words::Shape;
 use std::alloc::Global;
 
 impl<D: Discipline> OrcDomain<D> {
-    /// A domain whose nodes have one link, and one pass an agent, in order. Its journal begins with the seed's events, of agent 0.
+    /// A domain, and one pass an agent, in order. Its journal begins with the seed's events, of agent 0.
     ///
     /// # Errors
     ///
@@ -29,7 +29,6 @@ impl<D: Discipline> OrcDomain<D> {
         shape: &Shape,
         seed: Seed<D::Note>,
     ) -> Result<(OrcDomain<D>, Vec<OrcPass<D>>), NoMemory>
-        requires links { (bounds_of shape.now).links ≡ 1 }
         requires holds { D.holds (numbers_of (bounds_of shape.now)) [] }
         requires seed { SeedAllowed D.may (numbers_of (bounds_of shape.now)) seed }
         ensures bounds { IfOk result (λ made. domain_bounds made.0 ≡ bounds_of shape.now) }

@@ -3,7 +3,6 @@
 ghost use Rattle.std.specs.Prelude.{◌≡◌, ◌<◌, All, IfOk, IfSome, None};
 ghost use Rattle.orc_heap.specs.Seats.{IsIdle};
 ghost use Rattle.orc_machine_board.specs.Views.{Belongs};
-ghost use Rattle.orc_words.specs.Bounds.{bounds_of};
 ghost use Rattle.orc_reclaiming_domain.specs.Passes.{IsPassOf, domain_numbers, seat_of};
 
 use super::*;
@@ -41,7 +40,6 @@ where
 
 // Makes a domain without a dummy, with one root.
 fn new_domain(alloc: Global, shape: &Shape) -> Result<(Domain, Vec<Pass>), NoMemory>
-    requires links { (bounds_of shape.now).links ≡ 1 }
     ensures pass { IfOk result (λ made. All (λ p. IsPassOf made.0 p) made.1.items) }
     ensures idle { IfOk result (λ made. All (λ p. IsIdle (seat_of made.0 p)) made.1.items) }
 {

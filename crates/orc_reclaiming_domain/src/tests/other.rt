@@ -72,7 +72,7 @@ fn cut(board: &Board, p: &mut Pass, row: u32, link: RowLink) -> Option<u64>
     if link.mark || p.record().is_fresh(row) || !may_make(board, p, &op) {
         return None;
     }
-    Some(board.link_store(p, row, link))
+    Some(board.link_store(p, row, 0, link))
 }
 
 // Makes a step, where the record allows it.

@@ -7,7 +7,7 @@ pub link_store-requires-clause-allowed : goal.link_store-requires-clause-allowed
 link_store-requires-clause-allowed g c =
     let r = c.requires in
     let s = stage g.D.Discipline c.args.self.now.board.words.shape _ _ r.belongs.keeps in
-    store_can s c.args.row c.args.to r.ready r.fresh r.target r.low
+    store_can s c.args.row c.args.number c.args.to r.number r.ready r.fresh r.target r.low
 
 pub complete-requires-clause-countable : goal.complete-requires-clause-countable
 complete-requires-clause-countable g c =
@@ -17,7 +17,7 @@ complete-requires-clause-countable g c =
     let s = stage g.D.Discipline k _ _ r.belongs.keeps in
     let t = stage g.D.Discipline k _ _ e.belongs.keeps in
     let is : Between s = record { ready = r.ready; untouched = r.untouched } in
-    store_countable s t c.args.row c.args.to c.link_store.result e.makes is r.fresh r.target r.other
+    store_countable s t c.args.row c.args.number c.args.to c.link_store.result e.makes is r.number r.fresh r.target r.other
 
 pub returns-clause-untouched : goal.returns-clause-untouched
 returns-clause-untouched g c =
@@ -28,7 +28,7 @@ returns-clause-untouched g c =
     let t = stage g.D.Discipline k _ _ e.belongs.keeps in
     let is : Between s = record { ready = r.ready; untouched = r.untouched } in
     let u = stage g.D.Discipline k _ _ c.complete.ensures.belongs.keeps in
-    stored_untouched s t c.args.row c.args.to c.link_store.result e.makes is r.fresh r.target r.other u c.complete.ensures.becomes
+    stored_untouched s t c.args.row c.args.number c.args.to c.link_store.result e.makes is r.number r.fresh r.target r.other u c.complete.ensures.becomes
 
 pub returns-clause-stores : goal.returns-clause-stores
 returns-clause-stores g c =
@@ -39,7 +39,7 @@ returns-clause-stores g c =
     let t = stage g.D.Discipline k _ _ e.belongs.keeps in
     let is : Between s = record { ready = r.ready; untouched = r.untouched } in
     let u = stage g.D.Discipline k _ _ c.complete.ensures.belongs.keeps in
-    stores s t c.args.row c.args.to c.link_store.result e.makes is r.fresh r.target r.other u c.complete.ensures.becomes
+    stores s t c.args.row c.args.number c.args.to c.link_store.result e.makes is r.number r.fresh r.target r.other u c.complete.ensures.becomes
 
 pub returns-clause-leaves : goal.returns-clause-leaves
 returns-clause-leaves g c =
@@ -50,4 +50,4 @@ returns-clause-leaves g c =
     let t = stage g.D.Discipline k _ _ e.belongs.keeps in
     let is : Between s = record { ready = r.ready; untouched = r.untouched } in
     let u = stage g.D.Discipline k _ _ c.complete.ensures.belongs.keeps in
-    stored_leaves s t c.args.row c.args.to c.link_store.result e.makes is r.fresh r.target r.other u c.complete.ensures.becomes
+    stored_leaves s t c.args.row c.args.number c.args.to c.link_store.result e.makes is r.number r.fresh r.target r.other u c.complete.ensures.becomes
