@@ -194,55 +194,6 @@ some_last qs lines agent qa rush job at got r i j k p e is took at_is line_is ru
       rush_first = λ h. ends_later (qs true) agent (Empty agent) (p.skipped true) (i true) (j true) (k true) (p.stretch true) (last.rush_first h);
     }
 
--- the rush queue gave a job
-pub next_rush : {A : Type 0} (qs : Bool → View A QueueEntry QueueRefused) (agent job at : ℕ) (got : Option (ℕ × ℕ)) (j k : Bool → List A)
-    → got ≡ Some (job, at) → k false ≡ j false → Stretch of_queue (qs true) agent (took_of agent got) (j true) (k true)
-    → EndsWith (qs true) agent (entry_of_dequeue agent got) (j true) (k true) → Next qs agent (Some (true, job, at)) j k
-next_rush {A} qs agent job at got j k is same took ends = record {
-  stretches = elim [
-    | false ↦ subst (λ (z : List A). Stretch of_queue (qs false) agent [] (j false) z) (sym same) (Stretch-refl of_queue (qs false) agent (j false))
-    | true ↦ subst (λ (o : Option (ℕ × ℕ)). Stretch of_queue (qs true) agent (took_of agent o) (j true) (k true)) is took
-  ];
-  last = record {
-    took = subst (λ (o : Option (ℕ × ℕ)). EndsWith (qs true) agent (entry_of_dequeue agent o) (j true) (k true)) is ends;
-    rush_first = λ h. let no : ⊥ = cc in absurd no;
-  };
-}
-
--- the rush queue was empty, and the queue gave a job
-pub next_queue : {A : Type 0} (qs : Bool → View A QueueEntry QueueRefused) (agent job at : ℕ) (got hurried : Option (ℕ × ℕ)) (j k : Bool → List A)
-    → got ≡ Some (job, at) → hurried ≡ None → Stretch of_queue (qs true) agent (took_of agent hurried) (j true) (k true)
-    → EndsWith (qs true) agent (entry_of_dequeue agent hurried) (j true) (k true)
-    → Stretch of_queue (qs false) agent (took_of agent got) (j false) (k false)
-    → EndsWith (qs false) agent (entry_of_dequeue agent got) (j false) (k false) → Next qs agent (Some (false, job, at)) j k
-next_queue qs agent job at got hurried j k is none empty empty_ends took ends = record {
-  stretches = elim [
-    | false ↦ subst (λ (o : Option (ℕ × ℕ)). Stretch of_queue (qs false) agent (took_of agent o) (j false) (k false)) is took
-    | true ↦ subst (λ (o : Option (ℕ × ℕ)). Stretch of_queue (qs true) agent (took_of agent o) (j true) (k true)) none empty
-  ];
-  last = record {
-    took = subst (λ (o : Option (ℕ × ℕ)). EndsWith (qs false) agent (entry_of_dequeue agent o) (j false) (k false)) is ends;
-    rush_first = λ h. subst (λ (o : Option (ℕ × ℕ)). EndsWith (qs true) agent (entry_of_dequeue agent o) (j true) (k true)) none empty_ends;
-  };
-}
-
--- both were empty
-pub next_none : {A : Type 0} (qs : Bool → View A QueueEntry QueueRefused) (agent : ℕ) (got hurried : Option (ℕ × ℕ)) (j k : Bool → List A)
-    → got ≡ None → hurried ≡ None → Stretch of_queue (qs true) agent (took_of agent hurried) (j true) (k true)
-    → EndsWith (qs true) agent (entry_of_dequeue agent hurried) (j true) (k true)
-    → Stretch of_queue (qs false) agent (took_of agent got) (j false) (k false)
-    → EndsWith (qs false) agent (entry_of_dequeue agent got) (j false) (k false) → Next qs agent None j k
-next_none qs agent got hurried j k is none empty empty_ends took ends = record {
-  stretches = elim [
-    | false ↦ subst (λ (o : Option (ℕ × ℕ)). Stretch of_queue (qs false) agent (took_of agent o) (j false) (k false)) is took
-    | true ↦ subst (λ (o : Option (ℕ × ℕ)). Stretch of_queue (qs true) agent (took_of agent o) (j true) (k true)) none empty
-  ];
-  last = elim [
-    | false ↦ subst (λ (o : Option (ℕ × ℕ)). EndsWith (qs false) agent (entry_of_dequeue agent o) (j false) (k false)) is ends
-    | true ↦ subst (λ (o : Option (ℕ × ℕ)). EndsWith (qs true) agent (entry_of_dequeue agent o) (j true) (k true)) none empty_ends
-  ];
-}
-
 -- a job that was put
 pub placed_part : (agent i id at : ℕ) (rush : Bool) (w : PostWord) → IsPlacedAt rush at w
     → JobPart agent i id w (just (Put agent i at ∷ [])) (just (Added agent id true ∷ []))

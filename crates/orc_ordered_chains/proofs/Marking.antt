@@ -83,10 +83,6 @@ module _ (o : Order) (h k : Heap) (x : ℕ) (from to : Link) (c : AreChains o h)
         chain_after (o.root a) id (c.kept id a link (had id a own) before plain);
   }
 
-  -- the node was live
-  pub live_marked : IsLive o h x r.rank
-  live_marked = record { has_rank = r.has_rank; link = from; at = m.at; unmarked = r.plain }
-
   -- another node is live after it where it was live before it
   pub live_mark : (id rank : ℕ) → id ≢ x → IsLive o h id rank → IsLive o k id rank
   live_mark id rank ne y = record {
