@@ -1,2 +1,3 @@
--- Proofs of the laws that a pass of the domain owes to its traits.
+-- Proofs of the laws that a pass of the domain, and the discipline for tests, owe to their traits.
 pub mod Passes
+pub mod Twins

@@ -9,6 +9,7 @@ mod make;
 mod names;
 mod rest;
 mod steps;
+pub mod twins;
 
 pub use domain::{PlainDomain, PlainPass, PlainRest};
 pub use names::{first_row, row_link, word_at};
