@@ -1,10 +1,13 @@
 -- What a domain with a dummy begins with.
-use Rattle.std.proofs.Common.{Some, arith, inl, refl, suc, zero, ℕ, ◌^◌, ◌≡◌, ◌≤◌}
+use Rattle.std.proofs.Common.{Some, [], arith, inl, refl, suc, zero, ℕ, ◌++◌, ◌^◌, ◌∷◌, ◌≡◌, ◌≤◌}
 use Rattle.std.specs.List.{slice_get}
 use Rattle.std.specs.Prelude.{replicate}
+use Rattle.orc_heap.proofs.Sides.{null_side}
 use Rattle.orc_heap.specs.Heap.{HeapNumbers, change, link_to, null}
-use Rattle.orc_heap.specs.Seeds.{DummyAllowed}
+use Rattle.orc_heap.specs.Journals.{run_heap}
+use Rattle.orc_heap.specs.Seeds.{DummyAllowed, dummy_link, dummy_node}
 use Rattle.orc_heap.specs.declared.events.Link.{Link}
+use Rattle.orc_fifo_rule.specs.declared.fifo.FifoNote.{FifoNote}
 use Rattle.orc_fifo_rule.specs.declared.fifo.FifoNote.TheVariants.{Begin}
 use Rattle.orc_fifo_rule.specs.QueueDiscipline.{FifoMay}
 
@@ -27,7 +30,13 @@ dummy_allowed n first roots low = record {
       record {
         fits = (first_null n.roots roots, record { node = _; there = refl; known = inl refl });
         may_act =
-            record { root_is = omega arith; from_is = refl; to_is = refl; ends = refl };
+            record {
+              root_is = omega arith;
+              from_is = refl;
+              to_is = refl;
+              ends = refl;
+              side_null = null_side (run_heap n (dummy_node {N = FifoNote} first)) 0 _ refl refl;
+            };
         in_time = tt;
         may_enter = tt;
       };
@@ -35,7 +44,13 @@ dummy_allowed n first roots low = record {
       record {
         fits = (second_null n.roots (link_to 0) roots, record { node = _; there = refl; known = inl refl });
         may_act =
-            record { root_is = omega arith; from_is = refl; to_is = refl; ends = refl };
+            record {
+              root_is = omega arith;
+              from_is = refl;
+              to_is = refl;
+              ends = refl;
+              side_null = null_side (run_heap n (dummy_node first ++ dummy_link 0 Begin ∷ [])) 0 _ refl refl;
+            };
         in_time = tt;
         may_enter = tt;
       };
