@@ -58,6 +58,7 @@ returns c = (
                       unlinked = refl;
                       key_is = refl;
                       own_plain = refl;
+                      side_null = λ link at. cc;
                       over = [];
                       run = refl;
                       above = (5, record { node = _; there = refl; linked = refl; key_is = refl }, omega arith);
@@ -89,6 +90,7 @@ returns c = (
                             unlinked = refl;
                             key_is = refl;
                             own_plain = refl;
+                            side_null = λ link at. cc;
                             over = [];
                             run = refl;
                             above = tt;

@@ -105,6 +105,7 @@ returns-clause-inserted_over c = (
     unlinked = refl;
     key_is = refl;
     own_plain = refl;
+    side_null = λ link at. cc;
     over = 0 ∷ 1 ∷ [];
     run = (
       refl,

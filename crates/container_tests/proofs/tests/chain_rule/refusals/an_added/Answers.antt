@@ -21,6 +21,7 @@ returns-clause-allowed c = (
     unlinked = refl;
     key_is = refl;
     own_plain = refl;
+    side_null = λ link at. cc;
     over = [];
     run = refl;
     above = tt;

@@ -11,7 +11,7 @@ returns c = (
         record {
           fits = (refl, record { node = _; there = refl; known = inl refl });
           may_act =
-              record { root_is = omega arith; from_is = refl; to_is = refl; ends = refl };
+              record { root_is = omega arith; from_is = refl; to_is = refl; ends = refl; side_null = λ link at. cc };
           in_time = tt;
           may_enter = tt;
         },
@@ -19,7 +19,7 @@ returns c = (
           record {
             fits = (refl, record { node = _; there = refl; known = inl refl });
             may_act =
-                record { root_is = omega arith; from_is = refl; to_is = refl; ends = refl };
+                record { root_is = omega arith; from_is = refl; to_is = refl; ends = refl; side_null = λ link at. cc };
             in_time = tt;
             may_enter = tt;
           },
