@@ -22,7 +22,7 @@ use Rattle.orc_pairs_rule.specs.Watches.{Follows, IsKept, IsOwnPair}
 use Rattle.orc_pairs_rule.specs.Laws.Histories.{legal-join}
 use Rattle.orc_pairs_rule.specs.Laws.Kept.{pairs_fits, pairs_keeps, pairs_moves_linked, unnoted_allowed}
 use Rattle.orc_pairs_rule.proofs.Later.{holds_later, pair_later, part_later}
-use Rattle.orc_pairs_rule.proofs.SecondLinks.{side_there}
+use Rattle.orc_pairs_rule.proofs.SecondLinks.{side_shows}
 
 -- an event without a note that is no Move, wherever it fits
 pub unnoted_later : (n : HeapNumbers) (agent : ℕ) (act : Act) (seen : List (Event PairsNote)) → IsNoMove act
@@ -156,7 +156,7 @@ module _ (n : HeapNumbers) (agent : ℕ) (seen : List (Event PairsNote)) (holds 
             let p = pair_later n seen more later.allowed f.id f.old_left f.old_right f.old f.has in
             subst (λ (z : Link). KeepsSide k right z Side own.node.side) (sym f.from_is)
             (keeps_of k right f.id f.old_right r Side own.node.side
-            (side_there n es f.id p.node two p.there ∙ ap (λ (z : Link). Some z) p.pair.side_is) own.pair.side_is f.keeps_right)
+            (side_shows n es f.id p.node two p.there ∙ ap (λ (z : Link). Some z) p.pair.side_is) own.pair.side_is f.keeps_right)
       ] in
       record {
         fits = (at, record { node = own.node; there = still; known = inl own.mine });

@@ -1,8 +1,8 @@
 -- The second link of a node, where nodes have two links.
-use Rattle.std.proofs.Common.{List, None, Some, [], ap, refl, ℕ, ◌∙◌, ◌∷◌, ◌≡◌}
+use Rattle.std.proofs.Common.{List, Some, [], arith, refl, ℕ, ◌∙◌, ◌∷◌, ◌≡◌}
 use Rattle.std.specs.List.{slice_get}
-use Rattle.std.specs.Prelude.{cond, nat_lt}
-use Rattle.orc_heap.proofs.Moved.{same_links, shown_side}
+use Rattle.orc_heap.proofs.Moved.{same_links}
+use Rattle.orc_heap.proofs.Sides.{side_there}
 use Rattle.orc_heap.specs.Acts.{heap_after}
 use Rattle.orc_heap.specs.Heap.{Heap, HeapNumbers, Node, new_heap, shown}
 use Rattle.orc_heap.specs.Journals.{run_from, run_heap}
@@ -14,8 +14,7 @@ links_from h [] = refl
 links_from h (e ∷ es) = links_from (heap_after e.agent e.act h) es ∙ same_links e.agent e.act h
 
 -- it is what the node's place shows
-pub side_there : {N : Type 0} (n : HeapNumbers) (es : List (Event N)) (id : ℕ) (node : Node) → n.links ≡ 2 → slice_get (run_heap n es).nodes id ≡ Some node
+pub side_shows : {N : Type 0} (n : HeapNumbers) (es : List (Event N)) (id : ℕ) (node : Node) → n.links ≡ 2 → slice_get (run_heap n es).nodes id ≡ Some node
     → shown (run_heap n es) (Side id) ≡ Some node.side
-side_there n es id node two there =
-    shown_side (run_heap n es) id node there
-    ∙ ap (λ k. cond (nat_lt 1 k) (Some node.side) None) (links_from (new_heap n) es ∙ two)
+side_shows n es id node two there =
+    side_there (run_heap n es) id node (let same = links_from (new_heap n) es in omega (arith, same, two)) there

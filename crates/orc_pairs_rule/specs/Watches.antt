@@ -1,6 +1,5 @@
 -- What an agent may rely on between its own events, whatever the others do meanwhile.
-use Rattle.std.specs.Prelude.{None, Option, Some, false, slice_get, ℕ, ◌<◌, ◌≡◌, ◌⊎◌}
-use Rattle.orc_heap.specs.Allowed.{IsLinkedNode}
+use Rattle.std.specs.Prelude.{None, Option, Some, false, slice_get, ℕ, ◌≡◌, ◌⊎◌}
 use Rattle.orc_heap.specs.Heap.{Heap, Node, link_to, null}
 use Rattle.orc_heap.specs.declared.events.Link.{Link}
 use Rattle.orc_pairs_rule.specs.CellHistory.{Parts, no_parts, replaced}
@@ -36,7 +35,3 @@ pub record FollowsPair (h : Heap) (given_left given_right : Option ℕ) (from : 
 abbrev pub Follows : Heap → Option ℕ → Option ℕ → Link → ℕ → ℕ → Parts → Type 0
 Follows h given_left given_right from left right parts =
     ((from ≡ null) × (replaced given_left given_right no_parts ≡ parts)) ⊎ FollowsPair h given_left given_right from left right parts
-
--- a link of this node is null, or names a once linked node of a greater rank
-abbrev pub LeadsUp : (ℕ → ℕ) → Heap → ℕ → Link → Type 0
-LeadsUp rank h id link = (link.to ≡ None) ⊎ ((next : ℕ) × (link.to ≡ Some next) × IsLinkedNode h next × (rank id < rank next))

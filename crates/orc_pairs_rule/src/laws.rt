@@ -12,7 +12,7 @@ ghost use Rattle.orc_heap.specs.declared.events.Place.{Place};
 ghost use Rattle.orc_history.specs.Journals.{own_of};
 ghost use Rattle.orc_pairs_rule.specs.CellHistory.{IsLegalCell, Parts, agent_of_entry, no_parts, parts_after, replaced};
 ghost use Rattle.orc_pairs_rule.specs.PairsDiscipline.{HasPair, HasPart, IsPart, IsStaging, PairsHolds, PairsMay, ShowsParts, entries_in, entries_of, pairs_rank, parts_of};
-ghost use Rattle.orc_pairs_rule.specs.Watches.{Follows, IsOwnPair, LeadsUp};
+ghost use Rattle.orc_pairs_rule.specs.Watches.{Follows, IsOwnPair};
 ghost use Rattle.orc_pairs_rule.specs.declared.entry.CellEntry.{CellEntry};
 ghost use Rattle.orc_pairs_rule.specs.declared.pairs.PairsNote.{PairsNote};
 
@@ -41,14 +41,6 @@ pub fn cell_histories_are_legal()
         → ShowsParts (run_heap n es) (parts_of es) }
     ensures own { (n : HeapNumbers) (agent : ℕ) (seen more : List (Event PairsNote)) → AllAllowed (PairsMay n) seen more
         → own_of agent_of_entry agent (entries_of more) ≡ entries_of (events_by agent more) }
-{}
-
-/// Each link of a once linked node is null or names a once linked node of a greater rank: links lead from pairs to parts.
-pub fn links_lead_from_pairs_to_parts()
-    ensures first { (n : HeapNumbers) (es : List (Event PairsNote)) (id : ℕ) (node : Node) → PairsHolds n es
-        → slice_get (run_heap n es).nodes id ≡ Some node → node.linked ≡ true → LeadsUp (pairs_rank n es) (run_heap n es) id node.link }
-    ensures second { (n : HeapNumbers) (es : List (Event PairsNote)) (id : ℕ) (node : Node) → PairsHolds n es
-        → slice_get (run_heap n es).nodes id ≡ Some node → node.linked ≡ true → LeadsUp (pairs_rank n es) (run_heap n es) id node.side }
 {}
 
 /// What stays true whatever is allowed: that a node is a part with its value, or a pair with its parts. A fresh node, and what

@@ -11,6 +11,6 @@ pub use entry::CellEntry;
 pub use laws::{
     a_move_of_the_pair_has_an_entry, a_published_may_come, a_seen_may_come, a_stage_may_come,
     allowed_events_obey_the_discipline, cell_histories_are_legal, facts_of_a_cell_stay,
-    legal_histories_show_one_version, links_lead_from_pairs_to_parts,
+    legal_histories_show_one_version,
 };
 pub use pairs::{Pairs, PairsNote};

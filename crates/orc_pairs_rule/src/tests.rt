@@ -46,7 +46,6 @@ fn laws_are_there(rt: HostRuntime) -> Result<(), Fail> {
     allowed_events_obey_the_discipline();
     legal_histories_show_one_version();
     cell_histories_are_legal();
-    links_lead_from_pairs_to_parts();
     facts_of_a_cell_stay();
     a_move_of_the_pair_has_an_entry();
     a_seen_may_come();

@@ -7,7 +7,7 @@ use Rattle.orc_heap.proofs.OwnEntries.{noted-snoc}
 use Rattle.orc_heap.proofs.Runs.{lawful-snoc, run_heap-snoc}
 use Rattle.orc_heap.proofs.SingleActs.{some_same}
 use Rattle.orc_heap.specs.Acts.{as_linked, heap_after}
-use Rattle.orc_heap.specs.Allowed.{MovesLinked, Rises}
+use Rattle.orc_heap.specs.Allowed.{LeadsUp, MovesLinked, Rises}
 use Rattle.orc_heap.specs.Heap.{Heap, HeapNumbers, Node, link_to, null}
 use Rattle.orc_heap.specs.Journals.{FitsAfter, IsPlain, IsPlainAct, event_by, moves_to, names_node, run_heap}
 use Rattle.orc_heap.specs.declared.events.Act.{Act}
@@ -20,7 +20,6 @@ use Rattle.orc_pairs_rule.specs.declared.pairs.PairsNote.{PairsNote}
 use Rattle.orc_pairs_rule.specs.declared.pairs.PairsNote.TheVariants.{Entry}
 use Rattle.orc_pairs_rule.specs.CellHistory.{Parts}
 use Rattle.orc_pairs_rule.specs.PairsDiscipline.{HasLinks, HasPart, IsNoMove, IsOfCell, IsPart, MayAct, MayEnter, PairsHolds, PairsMay, entries_in, entries_of, pairs_rank, rank_in}
-use Rattle.orc_pairs_rule.specs.Watches.{LeadsUp}
 use Rattle.orc_pairs_rule.specs.Laws.Histories.{legal_more}
 use Rattle.orc_pairs_rule.specs.Laws.Kinds.{each_kind}
 use Rattle.orc_pairs_rule.specs.Laws.Nodes.{MovesRoot, links_next, linked_stays, moves_root, names, parts_next, side_kept, target_after}
@@ -174,26 +173,15 @@ leads_up n seen id part value link zero_is is p =
     rank_of (run_heap n seen) part p.node p.there ∙ ap (λ (l : Link). if is_some l.to then 0 else 1) p.part.link_is in
     inr (part, ap (λ (l : Link). l.to) is, record { node = p.node; there = p.there; linked = p.linked }, omega (arith, zero_is, one))
 
--- both links of a once linked node lead up
-both_lead_up : (n : HeapNumbers) (seen : List (Event PairsNote)) (id : ℕ) (node : Node) → PairsHolds n seen → slice_get (run_heap n seen).nodes id ≡ Some node
-    → node.linked ≡ true
-    → LeadsUp (pairs_rank n seen) (run_heap n seen) id node.link × LeadsUp (pairs_rank n seen) (run_heap n seen) id node.side
-both_lead_up n seen id node holds there linked =
+pub pairs_rises : (n : HeapNumbers) (seen : List (Event PairsNote)) → PairsHolds n seen → Rises (pairs_rank n seen) (run_heap n seen)
+pairs_rises n seen holds = λ id node there linked.
     elim (holds.kinds id node there linked) [
-      | inl part ↦ (inl (ap (λ (l : Link). l.to) part.1.link_is), inl (ap (λ (l : Link). l.to) part.1.side_is))
+      | inl part ↦ (inl (ap (λ (l : Link). l.to) part.1.link_is), (λ two. inl (ap (λ (l : Link). l.to) part.1.side_is)))
       | inr pair ↦
           let p = pair.3 in
           let zero_is : pairs_rank n seen id ≡ 0 =
           rank_of (run_heap n seen) id node there ∙ ap (λ (l : Link). if is_some l.to then 0 else 1) p.link_is in (
             leads_up n seen id pair.0 pair.2.left node.link zero_is p.link_is p.left_part,
-            leads_up n seen id pair.1 pair.2.right node.side zero_is p.side_is p.right_part,
+            (λ two. leads_up n seen id pair.1 pair.2.right node.side zero_is p.side_is p.right_part),
           )
     ]
-
-pub pairs_rises : (n : HeapNumbers) (seen : List (Event PairsNote)) → PairsHolds n seen → Rises (pairs_rank n seen) (run_heap n seen)
-pairs_rises n seen holds = λ id node there linked. (both_lead_up n seen id node holds there linked).0
-
--- the same of second links
-pub pairs_sides_rise : (n : HeapNumbers) (seen : List (Event PairsNote)) → PairsHolds n seen → (id : ℕ) (node : Node)
-    → slice_get (run_heap n seen).nodes id ≡ Some node → node.linked ≡ true → LeadsUp (pairs_rank n seen) (run_heap n seen) id node.side
-pairs_sides_rise n seen holds = λ id node there linked. (both_lead_up n seen id node holds there linked).1
