@@ -1,0 +1,79 @@
+-- What passes know that have learned from each other, or have seen nothing yet.
+use Rattle.std.proofs.Common.{List, Some, [], ap, append-nil, arith, inl, inr, refl, subst, suc, sym, zero, ℕ, ◌*◌, ◌+◌, ◌<◌, ◌==◌, ◌∙◌, ◌≡◌, ◌⊎◌}
+use Rattle.std.proofs.lemmas.List.{append_cancel_left}
+use Rattle.std.proofs.lemmas.List.Elements.{filter-append}
+use Rattle.std.specs.List.{slice_get}
+use Rattle.std.specs.Prelude.{replicate}
+use mathlib.Core.List.{IsPrefix}
+use Rattle.orc_heap.proofs.OwnEntries.{own_of_events}
+use Rattle.orc_heap.proofs.Stays.{allowed-right}
+use Rattle.orc_heap.specs.Allowed.{AllAllowed, events_by}
+use Rattle.orc_heap.specs.Heap.{HeapNumbers, null, shown}
+use Rattle.orc_heap.specs.Journals.{run_heap}
+use Rattle.orc_heap.specs.Seats.{Seat}
+use Rattle.orc_heap.specs.declared.events.Event.{Event}
+use Rattle.orc_heap.specs.declared.events.Place.TheVariants.{Root}
+use Rattle.orc_history.specs.Journals.{LearnsEntries, own_of}
+use Rattle.orc_pairs_rule.proofs.Later.{staging_later}
+use Rattle.orc_pairs_rule.proofs.OwnEntries.{entries_own}
+use Rattle.orc_pairs_rule.specs.declared.pairs.PairsNote.{PairsNote}
+use Rattle.orc_pairs_rule.specs.CellHistory.{agent_of_entry}
+use Rattle.orc_pairs_rule.specs.PairsDiscipline.{IsStaging, PairsMay, entries_in, entries_of}
+
+-- a staging root stays where the agent has no event in what was learned
+pub staging_learned : (n : HeapNumbers) (agent : ℕ) (xs ys : List (Event PairsNote)) (root : ℕ) → IsPrefix xs ys → events_by agent ys ≡ events_by agent xs
+    → AllAllowed (PairsMay n) [] ys → IsStaging agent root → shown (run_heap n ys) (Root root) ≡ shown (run_heap n xs) (Root root)
+staging_learned n agent xs ys root (more, is) same all own =
+    let none : events_by agent more ≡ [] = append_cancel_left (events_by agent xs) (events_by agent more) []
+    (sym (filter-append (λ (e : Event PairsNote). e.agent == agent) xs more) ∙ (ap (λ z. events_by agent z) is ∙ (same ∙ sym (append-nil (events_by agent xs))))) in
+    ap (λ es. shown (run_heap n es) (Root root)) (sym is)
+    ∙ staging_later n xs more agent root own (record {
+      allowed = allowed-right (PairsMay n) [] xs more (subst (λ z. AllAllowed (PairsMay n) [] z) (sym is) all);
+      others = none;
+    })
+
+-- either of two passes, of which the later list is the longer of what they had seen
+pub staging_either : (n : HeapNumbers) (agent : ℕ) (xs ys : List (Event PairsNote)) (root : ℕ) → IsPrefix xs ys ⊎ (ys ≡ xs)
+    → events_by agent ys ≡ events_by agent xs → AllAllowed (PairsMay n) [] ys → IsStaging agent root → shown (run_heap n xs) (Root root) ≡ Some null
+    → shown (run_heap n ys) (Root root) ≡ Some null
+staging_either n agent xs ys root (inl begins) same all own empty = staging_learned n agent xs ys root begins same all own ∙ empty
+staging_either n agent xs ys root (inr one) same all own empty = ap (λ es. shown (run_heap n es) (Root root)) one ∙ empty
+
+-- the entries of each of two agents in what both have seen
+pub learns : {S : Type 0} (n : HeapNumbers) (events : List S → List (Event PairsNote)) (agent1 agent2 : ℕ) (s1 s2 t1 : Seat PairsNote)
+    (j1 j2 k1 k2 : List S) → k1 ≡ k2 → (IsPrefix j1 j2 × (k1 ≡ j2)) ⊎ (IsPrefix j2 j1 × (k1 ≡ j1))
+    → AllAllowed (PairsMay n) [] s1.seen → AllAllowed (PairsMay n) [] s2.seen → AllAllowed (PairsMay n) [] t1.seen → s1.seen ≡ events j1
+    → s2.seen ≡ events j2 → t1.seen ≡ events k1
+    → events_by agent1 t1.seen ≡ events_by agent1 s1.seen → events_by agent2 t1.seen ≡ events_by agent2 s2.seen
+    → LearnsEntries (λ j. entries_of (events j)) agent_of_entry agent1 agent2 j1 j2 k1 k2
+learns {S} n events agent1 agent2 s1 s2 t1 j1 j2 k1 k2 one longer all1 all2 all is1 is2 is own1 own2 = record {
+  one = one;
+  longer = longer;
+  own1 = own agent1 s1 j1 all1 is1 own1;
+  own2 = own agent2 s2 j2 all2 is2 own2;
+}
+  where
+    own : (agent : ℕ) (s : Seat PairsNote) (j : List S) → AllAllowed (PairsMay n) [] s.seen → s.seen ≡ events j
+        → events_by agent t1.seen ≡ events_by agent s.seen
+        → own_of agent_of_entry agent (entries_of (events k1)) ≡ own_of agent_of_entry agent (entries_of (events j))
+    own agent s j all_s is_j same =
+        ap (λ z. own_of agent_of_entry agent (entries_of z)) (sym is)
+        ∙ (own_of_events entries_in agent_of_entry (PairsMay n) (entries_own n) agent [] t1.seen all
+        ∙ (ap entries_of same
+        ∙ (sym (own_of_events entries_in agent_of_entry (PairsMay n) (entries_own n) agent [] s.seen all_s)
+        ∙ ap (λ z. own_of agent_of_entry agent (entries_of z)) is_j)))
+
+null_there : (roots root : ℕ) → root < roots → slice_get (replicate roots null) root ≡ Some null
+null_there zero root low = absurd (omega (arith, low))
+null_there (suc roots) zero low = refl
+null_there (suc roots) (suc root) low = null_there roots root (omega (arith, low))
+
+-- before all events an agent's staging roots are null
+pub staging_begins : (n : HeapNumbers) (agents agent root : ℕ) (seen : List (Event PairsNote)) → n.roots ≡ 1 + 2 * agents → agent < agents → seen ≡ []
+    → IsStaging agent root → shown (run_heap n seen) (Root root) ≡ Some null
+staging_begins n agents agent root seen roots below none own =
+    ap (λ es. shown (run_heap n es) (Root root)) none ∙ null_there n.roots root (low own)
+  where
+    low : IsStaging agent root → root < n.roots
+    low (inl is) = omega (arith, is, roots, below)
+    low (inr is) = omega (arith, is, roots, below)

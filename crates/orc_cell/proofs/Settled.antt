@@ -1,0 +1,131 @@
+-- A call and the settling after it, by the call's answer.
+use Rattle.std.proofs.Common.{Err, List, None, Ok, Option, Result, [], append-nil, arith, subst, ℕ, ◌<◌, ◌∙◌, ◌∷◌, ◌≡◌}
+use Rattle.std.specs.Prelude.{IfErr, IfOk}
+use Rattle.orc_fault.specs.declared.Again.{Again as AgainFault}
+use Rattle.orc_heap.specs.Allowed.{AllAllowed}
+use Rattle.orc_heap.specs.Heap.{HeapNumbers, null, shown}
+use Rattle.orc_heap.specs.OwnEvents.{Only}
+use Rattle.orc_heap.specs.Seats.{IsIdle, Seat, heap_of}
+use Rattle.orc_heap.specs.declared.events.Event.{Event}
+use Rattle.orc_heap.specs.declared.events.Place.TheVariants.{Root}
+use Rattle.orc_history.specs.Journals.{Adds}
+use Rattle.orc_history.specs.Parts.{part_begin}
+use Rattle.std.specs.Prelude.{length, Some}
+use Rattle.orc_pairs_rule.specs.declared.entry.CellEntry.{CellEntry}
+use Rattle.orc_pairs_rule.specs.declared.entry.CellEntry.TheVariants.{Published, Seen}
+use Rattle.orc_pairs_rule.specs.declared.pairs.PairsNote.{PairsNote}
+use Rattle.orc_pairs_rule.specs.CellHistory.{agent_of_entry}
+use Rattle.orc_pairs_rule.specs.PairsDiscipline.{IsStaging, PairsMay, entries_of}
+use Rattle.orc_cell.specs.Answers.{Answers, PublishAnswers, ReadAnswers}
+use Rattle.orc_cell.specs.Causes.{UsesTurns}
+use Rattle.orc_cell.specs.Publishes.{Stretch}
+use Rattle.orc_cell.specs.Turns.{FindsOnly}
+use Rattle.orc_cell.specs.declared.refused.CellRefused.{CellRefused}
+use Rattle.orc_cell.specs.declared.refused.CellRefused.TheVariants.{Again, NoNode, Spent}
+use Rattle.orc_cell.proofs.Answering.{moved_before}
+use Rattle.orc_cell.proofs.Journals.{CallSeen, call_adds, uses_turns}
+use Rattle.orc_cell.proofs.Pieces.{FindsOnly-trans, finds_none}
+use Rattle.orc_cell.proofs.Staging.{Answered-trans, finds_stretch, found_answered}
+
+-- a publish
+
+answers_settled : (n : HeapNumbers) (given : ℕ) (s t u : Seat PairsNote) (es : List CellEntry) → Answers n given s es t → Only [] t u
+    → AllAllowed (PairsMay n) [] u.seen → Answers n given s es u
+answers_settled n given s t u es x o all =
+    let w = Answered-trans n given 0 s t u es [] x.answered (found_answered n t u [] (finds_none t u o) all) in
+    record {
+      answered = record {
+        stretch = record {
+          own = w.stretch.own;
+          puts = w.stretch.puts;
+          entries_are = w.stretch.entries_are ∙ append-nil es;
+          gives = omega (arith, w.stretch.gives);
+        };
+        slots = w.slots;
+        staging = w.staging;
+      };
+      fresh = o.fresh ∙ x.fresh;
+    }
+
+pub publish_settled : (n : HeapNumbers) (given turns : ℕ) (left right : Option ℕ) (s t u : Seat PairsNote) (r : Result (ℕ × ℕ) CellRefused)
+    → PublishAnswers n given turns left right s r t → Only [] t u → AllAllowed (PairsMay n) [] u.seen → PublishAnswers n given turns left right s r u
+publish_settled n given turns left right s t u (Ok now) x o all = answers_settled n given s t u (Published s.agent left right now.0 now.1 ∷ []) x o all
+publish_settled n given turns left right s t u (Err NoNode) x o all = answers_settled n given s t u [] x o all
+publish_settled n given turns left right s t u (Err (Spent why)) x o all = answers_settled n given s t u [] x o all
+publish_settled n given turns left right s t u (Err Again) x o all =
+    let w = answers_settled n given s t u [] x.answers o all in
+    record { answers = w; moved = moved_before s t u turns _ _ _ x.answers.answered.stretch.puts o.puts w.answered.stretch.puts x.moved }
+
+-- a read
+
+pub read_settled : (turns : ℕ) (s t u : Seat PairsNote) (r : Result (ℕ × ℕ) AgainFault) → ReadAnswers turns s r t → Only [] t u → ReadAnswers turns s r u
+read_settled turns s t u (Ok got) x o = FindsOnly-trans s t u (Seen s.agent got.0 got.1 ∷ []) [] x (finds_none t u o)
+read_settled turns s t u (Err again) x o =
+    let w = FindsOnly-trans s t u [] [] x.only (finds_none t u o) in
+    record { only = w; moved = moved_before s t u turns _ _ _ x.only.finds.puts o.puts w.finds.puts x.moved }
+
+-- a read whatever it answered
+pub any_read : (turns : ℕ) (s t : Seat PairsNote) (r : Result (ℕ × ℕ) AgainFault) → ReadAnswers turns s r t → (es : List CellEntry) × FindsOnly s es t
+any_read turns s t (Ok got) x = (Seen s.agent got.0 got.1 ∷ [], x)
+any_read turns s t (Err again) x = ([], x.only)
+
+pub read_answers : (n : HeapNumbers) (turns : ℕ) (s t : Seat PairsNote) (r : Result (ℕ × ℕ) AgainFault) → ReadAnswers turns s r t → s.fresh ≡ None
+    → AllAllowed (PairsMay n) [] t.seen → (es : List CellEntry) × Answers n 0 s es t
+read_answers n turns s t r x none all =
+    let y = any_read turns s t r x in
+    (y.0, record { answered = found_answered n s t y.0 y.1 all; fresh = y.1.finds.fresh ∙ none })
+
+-- the pass after a call
+pub idle_after : (n : HeapNumbers) (given : ℕ) (s t : Seat PairsNote) (es : List CellEntry) → IsIdle s → Answers n given s es t → IsIdle t
+idle_after n given s t es idle x = record { slots = x.answered.slots ∙ idle.slots; fresh = x.fresh }
+
+pub staging_after : (n : HeapNumbers) (given : ℕ) (s t : Seat PairsNote) (es : List CellEntry) → Answers n given s es t
+    → ((root : ℕ) → IsStaging s.agent root → shown (heap_of n s) (Root root) ≡ Some null)
+    → (root : ℕ) → IsStaging t.agent root → shown (heap_of n t) (Root root) ≡ Some null
+staging_after n given s t es x empty root own =
+    let own_s = subst (λ (i : ℕ). IsStaging i root) x.answered.stretch.puts.agent own in
+    x.answered.staging root own_s ∙ empty root own_s
+
+-- the entries, by the answer
+
+module _ {S : Type 0} {n : HeapNumbers} {agents : ℕ} {agent_of : S → ℕ} {events : List S → List (Event PairsNote)} {s t : Seat PairsNote} {j k : List S}
+    (o : CallSeen n agents agent_of events s t j k)
+  where
+    entered : (given : ℕ) (es : List CellEntry) → Stretch given s es t
+        → Adds agent_of_entry (λ (a : ℕ). a < agents) s.agent (entries_of (events j)) es (entries_of (events k))
+    entered given es x = call_adds o x.own es x.puts x.entries_are
+
+    pub publish_ok : (given turns : ℕ) (left right : Option ℕ) (r : Result (ℕ × ℕ) CellRefused) → PublishAnswers n given turns left right s r t
+        → IfOk r (λ now. Adds agent_of_entry (λ (a : ℕ). a < agents) s.agent (entries_of (events j)) (Published s.agent left right now.0 now.1 ∷ [])
+        (entries_of (events k)))
+    publish_ok given turns left right (Ok now) x = entered given (Published s.agent left right now.0 now.1 ∷ []) x.answered.stretch
+    publish_ok given turns left right (Err why) x = tt
+
+    pub publish_err : (given turns : ℕ) (left right : Option ℕ) (r : Result (ℕ × ℕ) CellRefused) → PublishAnswers n given turns left right s r t
+        → IfErr r (λ e. Adds agent_of_entry (λ (a : ℕ). a < agents) s.agent (entries_of (events j)) [] (entries_of (events k)))
+    publish_err given turns left right (Ok now) x = tt
+    publish_err given turns left right (Err Again) x = entered given [] x.answers.answered.stretch
+    publish_err given turns left right (Err NoNode) x = entered given [] x.answered.stretch
+    publish_err given turns left right (Err (Spent why)) x = entered given [] x.answered.stretch
+
+    pub publish_again : (given turns : ℕ) (left right : Option ℕ) (r : Result (ℕ × ℕ) CellRefused) → PublishAnswers n given turns left right s r t
+        → r ≡ Err Again → UsesTurns events s.agent turns k (part_begin agent_of s.agent j k) (length k)
+    publish_again given turns left right (Err Again) x is = uses_turns o turns _ x.answers.answered.stretch.puts x.moved
+    publish_again given turns left right (Ok now) x is = cc
+    publish_again given turns left right (Err NoNode) x is = cc
+    publish_again given turns left right (Err (Spent why)) x is = cc
+
+    pub read_ok : (turns : ℕ) (r : Result (ℕ × ℕ) AgainFault) → ReadAnswers turns s r t
+        → IfOk r (λ now. Adds agent_of_entry (λ (a : ℕ). a < agents) s.agent (entries_of (events j)) (Seen s.agent now.0 now.1 ∷ []) (entries_of (events k)))
+    read_ok turns (Ok got) x = entered 0 (Seen s.agent got.0 got.1 ∷ []) (finds_stretch s t (Seen s.agent got.0 got.1 ∷ []) x.finds)
+    read_ok turns (Err again) x = tt
+
+    pub read_err : (turns : ℕ) (r : Result (ℕ × ℕ) AgainFault) → ReadAnswers turns s r t
+        → IfErr r (λ e. Adds agent_of_entry (λ (a : ℕ). a < agents) s.agent (entries_of (events j)) [] (entries_of (events k)))
+    read_err turns (Ok got) x = tt
+    read_err turns (Err again) x = entered 0 [] (finds_stretch s t [] x.only.finds)
+
+    pub read_again : (turns : ℕ) (r : Result (ℕ × ℕ) AgainFault) → ReadAnswers turns s r t
+        → IfErr r (λ e. UsesTurns events s.agent turns k (part_begin agent_of s.agent j k) (length k))
+    read_again turns (Ok got) x = tt
+    read_again turns (Err again) x = uses_turns o turns _ x.only.finds.puts x.moved

@@ -1,0 +1,285 @@
+-- The swing of root 0 to a new pair whose two halves were aimed.
+use Rattle.std.proofs.Common.{Bool, List, None, Option, Some, [], ap, arith, false, inl, inr, refl, subst, sym, true, ℕ, ◌*◌, ◌++◌, ◌+◌, ◌∙◌, ◌∷◌, ◌≡◌, ◌≤◌}
+use Rattle.std.proofs.lemmas.Bool.{ne_eqb}
+use Rattle.std.specs.List.{slice_get}
+use Rattle.std.specs.Prelude.{MatchBool, if◌then◌else◌, unwrap_or, ◌||◌}
+use Rattle.orc_heap.proofs.Calls.{part_allowed}
+use Rattle.orc_heap.proofs.Changes.{get-change_same}
+use Rattle.orc_heap.proofs.Moved.{target_roots}
+use Rattle.orc_heap.proofs.Pieces.{new_is}
+use Rattle.orc_heap.proofs.Runs.{run_heap-snoc}
+use Rattle.orc_heap.proofs.Stays.{stays}
+use Rattle.orc_heap.specs.Acts.{as_linked, heap_after, set_link}
+use Rattle.orc_pairs_rule.specs.Laws.Kinds.{each_kind}
+use Rattle.orc_heap.proofs.SingleActs.{link_same, root_other, some_same}
+use Rattle.orc_heap.proofs.Told.{named_told}
+use Rattle.orc_heap.specs.Allowed.{AllAllowed}
+use Rattle.orc_heap.proofs.ByAnswer.{unless_same}
+use Rattle.orc_heap.specs.Calls.{Misses, event_of, links_made, unless_node}
+use Rattle.orc_heap.specs.Heap.{Heap, HeapNumbers, Node, link_to, null, shown}
+use Rattle.orc_heap.specs.Journals.{IsLawful, is_once_named, points_to, run_heap}
+use Rattle.orc_heap.specs.OwnEvents.{Puts}
+use Rattle.orc_heap.specs.Seats.{IsUntouched, Seat, heap_of}
+use Rattle.orc_heap.specs.Slots.{Hold, Holds, Slots, id_in}
+use Rattle.orc_heap.specs.declared.events.Act.TheVariants.{Move}
+use Rattle.orc_heap.specs.declared.events.Event.{Event}
+use Rattle.orc_heap.specs.declared.events.Link.{Link}
+use Rattle.orc_heap.specs.declared.events.Place.{Place}
+use Rattle.orc_heap.specs.declared.events.Place.TheVariants.{Next, Root, Side}
+use Rattle.orc_pairs_rule.proofs.Coming.{one_part, publish_own}
+use Rattle.orc_pairs_rule.specs.declared.entry.CellEntry.{CellEntry}
+use Rattle.orc_pairs_rule.specs.declared.entry.CellEntry.TheVariants.{Published}
+use Rattle.orc_pairs_rule.specs.declared.pairs.PairsNote.{PairsNote}
+use Rattle.orc_pairs_rule.specs.declared.pairs.PairsNote.TheVariants.{Entry}
+use Rattle.orc_pairs_rule.specs.Laws.Shown.{not_root_0, roots_kept}
+use Rattle.orc_pairs_rule.specs.PairsDiscipline.{HasPart, IsStaging, PairsMay}
+use Rattle.orc_pairs_rule.specs.Watches.{Follows, IsKept, IsOwnPair}
+use Rattle.orc_cell.specs.Publishes.{Aimed, Answered, IsFirst, IsNewPart, IsPublished, KeepsStaging, MayPublish, NotAimed, PublishDone, PublishMissed, PublishSpent, SideHeld, SwingsPair, given_of}
+use Rattle.orc_cell.specs.Turns.{IsPairOf, others_moves}
+use Rattle.orc_cell.specs.declared.publish.Half.TheVariants.{Left, Right}
+use Rattle.orc_cell.specs.declared.publish.New.{New}
+use Rattle.orc_cell.specs.declared.publish.New.TheVariants.{Given, Kept, Zero}
+use Rattle.orc_cell.proofs.Looking.{left_shows, right_shows}
+use Rattle.orc_cell.proofs.Others.{missed_by_others, others-append, still_or_others}
+use Rattle.orc_cell.proofs.Pieces.{Known, pair_puts, part_puts}
+use Rattle.orc_cell.proofs.Staging.{Answered-trans, root_kept}
+
+-- a node to which nothing links isn't worn
+
+no_links : (es : List (Event PairsNote)) (id : ℕ) → is_once_named es id ≡ false → links_made es id ≡ 0
+no_links [] id none = refl
+no_links (e ∷ es) id none = cases (points_to e.act id) refl none (λ h. no_links es id h)
+  where
+    cases : (b : Bool) → points_to e.act id ≡ b → (b || is_once_named es id) ≡ false → (is_once_named es id ≡ false → links_made es id ≡ 0)
+        → links_made (e ∷ es) id ≡ 0
+    cases true is h rest = cc
+    cases false is h rest = rw is (rest h)
+
+pub not_worn : (n : HeapNumbers) (agent : ℕ) (es : List (Event PairsNote)) (id : ℕ) → IsLawful n es → IsUntouched agent (run_heap n es) id
+    → 32 ≤ links_made es id → ⊥
+not_worn n agent es id lawful u many =
+    let none : is_once_named es id ≡ false = sym (named_told n es id u.node lawful u.there) ∙ u.unnamed in
+    omega (arith, many, no_links es id none)
+
+-- both halves were aimed
+
+module _ (n : HeapNumbers) (s a b : Seat PairsNote) (pair : Hold) (l r x y : ℕ) (left : Aimed n Left pair l x s a) (right : Aimed n Right pair r y a b)
+    (known_b : Known n b.seen) (untouched : (i : ℕ) → b.fresh ≡ Some i → IsUntouched b.agent (heap_of n b) i)
+  where
+    pub own_pair : IsOwnPair (heap_of n b) b.agent (id_in b.slots pair) l r (record { left = x; right = y })
+    own_pair =
+        let u = untouched (id_in b.slots pair) right.fresh.fresh in
+        let same : u.node ≡ right.node = some_same (sym u.there ∙ right.there) in
+        record {
+          node = right.node;
+          there = right.there;
+          mine = ap (λ (z : Node). z.giver) (sym same) ∙ u.mine;
+          unnamed = ap (λ (z : Node). z.named) (sym same) ∙ u.unnamed;
+          unlinked = ap (λ (z : Node). z.linked) (sym same) ∙ u.unlinked;
+          pair = record {
+            link_is = right.keeps left.node left.there ∙ left.leads;
+            side_is = right.leads;
+            left_part = part_puts n a b right.answered.stretch.own right.answered.stretch.puts known_b.all l x left.has;
+            right_part = right.has;
+          };
+        }
+
+    pub may_publish : (given_left given_right : Option ℕ) (from : Link) → n.links ≡ 2
+        → Follows (heap_of n b) given_left given_right from l r (record { left = x; right = y })
+        → MayPublish n b from (id_in b.slots pair) given_left given_right x y
+    may_publish given_left given_right from two follows =
+        publish_own n b.agent b.seen known_b.holds given_left given_right from (id_in b.slots pair) l r (record { left = x; right = y }) two own_pair follows
+
+    both_aimed : Answered n 0 s [] b
+    both_aimed = Answered-trans n 0 0 s a b [] [] left.answered right.answered
+
+    pub agents : b.agent ≡ s.agent
+    agents = right.answered.stretch.puts.agent ∙ left.answered.stretch.puts.agent
+
+    module _ (t : Seat PairsNote) (from : Link) (given_left given_right : Option ℕ) (done : Bool)
+        (w : SwingsPair from (id_in b.slots pair) given_left given_right x y b done t) (all_t : AllAllowed (PairsMay n) [] t.seen)
+      where
+        pub was_published : done ≡ true → PublishDone n given_left given_right x y s t
+        was_published is =
+            let e : Event PairsNote = event_of b (Move (Root 0) from (link_to (id_in b.slots pair))) (Some (Entry (Published b.agent given_left given_right x y))) in
+            let puts : Puts b (e ∷ []) t = subst (λ (v : Bool). MatchBool v (Puts b (e ∷ []) t) (Misses (Root 0) from b t)) is w.puts in
+            let swing : Answered n 0 b (Published s.agent given_left given_right x y ∷ []) t = record {
+              stretch = record {
+                own = e ∷ [];
+                puts = puts;
+                entries_are = ap (λ (i : ℕ). Published i given_left given_right x y ∷ []) agents;
+                gives = omega arith;
+              };
+              slots = w.slots;
+              staging = λ root own. root_kept n b t (e ∷ []) root puts all_t own (rw (ne_eqb 0 root (not_root_0 b.agent root own)) refl);
+            } in
+            record {
+              answered = Answered-trans n 0 0 s b t [] (Published s.agent given_left given_right x y ∷ []) both_aimed swing;
+              fresh = w.fresh ∙ ap (λ (v : Bool). if v then None else b.fresh) is;
+            }
+
+        pub was_missed : done ≡ false → PublishMissed n from pair s t
+        was_missed is =
+            let e : Event PairsNote = event_of b (Move (Root 0) from (link_to (id_in b.slots pair))) (Some (Entry (Published b.agent given_left given_right x y))) in
+            let m : Misses (Root 0) from b t = subst (λ (v : Bool). MatchBool v (Puts b (e ∷ []) t) (Misses (Root 0) from b t)) is w.puts in
+            let fresh_t : t.fresh ≡ b.fresh = w.fresh ∙ ap (λ (v : Bool). if v then None else b.fresh) is in
+            let miss : Answered n 0 b [] t = record {
+              stretch = record { own = _; puts = m.puts; entries_are = refl; gives = omega arith };
+              slots = w.slots;
+              staging = λ root own. root_kept n b t _ root m.puts all_t own refl;
+            } in
+            let whole = Answered-trans n 0 0 s b t [] [] both_aimed miss in
+            record {
+              answered = whole;
+              fresh = record {
+                held = subst (λ (z : Slots). Holds z pair) (sym w.slots) right.fresh.held;
+                fresh = fresh_t ∙ (right.fresh.fresh ∙ ap (λ z. Some (id_in z pair)) (sym w.slots));
+              };
+              moved = λ at.
+                  let count : others_moves s.agent whole.stretch.puts.part ≡ others_moves s.agent both_aimed.stretch.puts.part + others_moves s.agent m.puts.part =
+                  ap (others_moves s.agent) (new_is s b t _ _ _ both_aimed.stretch.puts m.puts whole.stretch.puts)
+                  ∙ others-append s.agent both_aimed.stretch.puts.part m.puts.part in
+                  elim (still_or_others n s b from both_aimed.stretch.own both_aimed.stretch.puts known_b.all both_aimed.stretch.entries_are at) [
+                    | inl still ↦
+                        let moved = subst (λ (i : ℕ). 1 ≤ others_moves i m.puts.part) agents (missed_by_others n b t from m.found m.puts all_t m.other still) in
+                        omega (arith, count, moved)
+                    | inr moved ↦ omega (arith, count, moved)
+                  ];
+            }
+
+-- a refused aim
+pub spent_left : (n : HeapNumbers) (s a : Seat PairsNote) (pair : Hold) → NotAimed n pair s a → PublishSpent n pair s a
+spent_left n s a pair x = record { answered = x.answered; fresh = x.fresh }
+
+pub spent_right : (n : HeapNumbers) (s a b : Seat PairsNote) (pair : Hold) (l x : ℕ) → Aimed n Left pair l x s a → NotAimed n pair a b → PublishSpent n pair s b
+spent_right n s a b pair l x left right = record { answered = Answered-trans n 0 0 s a b [] [] left.answered right.answered; fresh = right.fresh }
+
+-- a first pair
+
+first_value : (new : New) (id value : ℕ) → IsFirst new id value → unwrap_or (given_of new) 0 ≡ value
+first_value (Given given h) id value is = sym is
+first_value (Zero h) id value is = sym is
+first_value Kept id value is = absurd is
+
+pub follows_null : (h : Heap) (left right : New) (l r x y : ℕ) → IsFirst left l x → IsFirst right r y
+    → Follows h (given_of left) (given_of right) null l r (record { left = x; right = y })
+follows_null h left right l r x y one other =
+    inl (
+      refl,
+      ap (λ (v : ℕ). record { left = v; right = unwrap_or (given_of right) 0 }) (first_value left l x one)
+          ∙ ap (λ (v : ℕ). record { left = x; right = v }) (first_value right r y other),
+    )
+
+-- a pair after another
+
+kept_part : (n : HeapNumbers) (s b : Seat PairsNote) (new : New) (place : Place) (old was id value : ℕ) → shown (heap_of n s) place ≡ Some (link_to old)
+    → HasPart (heap_of n b) old was → HasPart (heap_of n b) id value → IsNewPart (heap_of n s) place new id value
+    → (unwrap_or (given_of new) was ≡ value) × IsKept (given_of new) old id
+kept_part n s b (Given given h) place old was id value at p q is = (sym is, tt)
+kept_part n s b (Zero h) place old was id value at p q is =
+    let same : old ≡ id = link_same old id (some_same (sym at ∙ is)) in
+    (one_part (heap_of n b) id was value (subst (λ (i : ℕ). HasPart (heap_of n b) i was) same p) q, sym same)
+kept_part n s b Kept place old was id value at p q is =
+    let same : old ≡ id = link_same old id (some_same (sym at ∙ is)) in
+    (one_part (heap_of n b) id was value (subst (λ (i : ℕ). HasPart (heap_of n b) i was) same p) q, sym same)
+
+pub follows_pair : (n : HeapNumbers) (s a b : Seat PairsNote) (pair : Hold) (left right : New) (old l r x y : ℕ) → n.links ≡ 2 → IsPairOf (heap_of n s) old
+    → Aimed n Left pair l x s a → Aimed n Right pair r y a b → AllAllowed (PairsMay n) [] a.seen → AllAllowed (PairsMay n) [] b.seen
+    → IsNewPart (heap_of n s) (Next old) left l x → IsNewPart (heap_of n a) (Side old) right r y
+    → Follows (heap_of n b) (given_of left) (given_of right) (link_to old) l r (record { left = x; right = y })
+follows_pair n s a b pair left right old l r x y two (l0, r0, was, has) one second all_a all_b is_left is_right =
+    let to_a = one.answered.stretch in
+    let to_b = second.answered.stretch in
+    let in_a = pair_puts n s a to_a.own to_a.puts all_a old l0 r0 was has in
+    let in_b = pair_puts n a b to_b.own to_b.puts all_b old l0 r0 was in_a in
+    let x_has = part_puts n a b to_b.own to_b.puts all_b l x one.has in
+    let lk = kept_part n s b left (Next old) l0 was.left l x (left_shows n s.seen old l0 r0 was has) in_b.pair.left_part x_has is_left in
+    let rk = kept_part n a b right (Side old) r0 was.right r y (right_shows n a.seen old l0 r0 was two in_a) in_b.pair.right_part second.has is_right in
+    inr (record {
+      id = old;
+      old_left = l0;
+      old_right = r0;
+      old = was;
+      from_is = refl;
+      has = in_b;
+      parts_are = ap (λ (v : ℕ). record { left = v; right = unwrap_or (given_of right) was.right }) lk.0 ∙ ap (λ (v : ℕ). record { left = x; right = v }) rk.0;
+      keeps_left = lk.1;
+      keeps_right = rk.1;
+    })
+
+-- once a pair was published, root 0 names one
+published_next : (n : HeapNumbers) (es : List (Event PairsNote)) (e : Event PairsNote) → IsPublished (run_heap n es) → PairsMay n es e
+    → IsPublished (run_heap n (es ++ e ∷ []))
+published_next n es e (id, at) may =
+    let h = run_heap n es in
+    let k = run_heap n (es ++ e ∷ []) in
+    let moved = ap (λ g. shown g (Root 0)) (run_heap-snoc n es e) in
+    let r = each_kind h e.agent (λ act noted. (i : ℕ) × (shown (heap_after e.agent act h) (Root 0) ≡ Some (link_to i)))
+    (λ act m. (id, roots_kept e.agent act h 0 m ∙ at))
+    (λ r from to m. (id, root_other e.agent r 0 from to h (not_root_0 e.agent r m.own) ∙ at))
+    (λ r from to m. (id, root_other e.agent r 0 from to h (not_root_0 e.agent r m.own) ∙ at))
+    (λ r from to by left right x y m.
+    let same : shown h (Root r) ≡ Some (link_to id) = subst (λ (q : ℕ). shown h (Root q) ≡ Some (link_to id)) (sym m.root_is) at in (
+      m.id,
+      subst (λ (q : ℕ). shown (heap_after e.agent (Move (Root r) from to) h) (Root q) ≡ Some (link_to m.id)) m.root_is
+          (root_moved_any e.agent r from to (link_to id) h same ∙ ap (λ (z : Link). Some z) m.to_is),
+    ))
+    (λ place link by x y. (id, at))
+    e.act e.note may.may_act in
+    (r.0, moved ∙ r.1)
+  where
+    root_moved_any : (agent r : ℕ) (from to was : Link) (h : Heap) → shown h (Root r) ≡ Some was
+        → shown (heap_after agent (Move (Root r) from to) h) (Root r) ≡ Some to
+    root_moved_any agent r from to was h at =
+        ap (λ (l : List Link). slice_get l r) (target_roots as_linked to.to (set_link (Root r) to h)) ∙ get-change_same (λ (l : Link). to) r h.roots was at
+
+pub published_later : (n : HeapNumbers) (seen more : List (Event PairsNote)) → AllAllowed (PairsMay n) seen more → IsPublished (run_heap n seen)
+    → IsPublished (run_heap n (seen ++ more))
+published_later n seen more all x =
+    stays (PairsMay n) (λ es. IsPublished (run_heap n es)) (λ es e y may. published_next n es e y may) seen more x all
+
+pub published_puts : (n : HeapNumbers) (s t : Seat PairsNote) (own : List (Event PairsNote)) → Puts s own t → AllAllowed (PairsMay n) [] t.seen
+    → IsPublished (heap_of n s) → IsPublished (heap_of n t)
+published_puts n s t own p all x =
+    subst (λ es. IsPublished (run_heap n es)) (sym p.is)
+    (stays (PairsMay n) (λ es. IsPublished (run_heap n es)) (λ es e y may. published_next n es e y may) s.seen p.part x (part_allowed (PairsMay n) s t own p all))
+
+-- a staged part stays so over a piece of a call
+pub side_kept : (n : HeapNumbers) (s t : Seat PairsNote) (root : ℕ) (new : New) (own : List (Event PairsNote)) → Puts s own t → AllAllowed (PairsMay n) [] t.seen
+    → IsStaging s.agent root → KeepsStaging n s t → ((h : Hold) → Holds s.slots h → Holds t.slots h × (id_in t.slots h ≡ id_in s.slots h))
+    → SideHeld n root new s → SideHeld n root new t
+side_kept n s t root (Given value h) own p all staging kept carries x =
+    let c = carries h x.held in
+    record {
+      held = c.0;
+      root_is = kept root staging ∙ (x.root_is ∙ ap (λ (i : ℕ). Some (link_to i)) (sym c.1));
+      part = subst (λ (i : ℕ). HasPart (heap_of n t) i value) (sym c.1) (part_puts n s t own p all (id_in s.slots h) value x.part);
+    }
+side_kept n s t root (Zero h) own p all staging kept carries x =
+    let c = carries h x.held in
+    record {
+      held = c.0;
+      root_is = kept root staging ∙ (x.root_is ∙ ap (λ (i : ℕ). Some (link_to i)) (sym c.1));
+      part = subst (λ (i : ℕ). HasPart (heap_of n t) i 0) (sym c.1) (part_puts n s t own p all (id_in s.slots h) 0 x.part);
+    }
+side_kept n s t root Kept own p all staging kept carries x = published_puts n s t own p all x
+
+pub same_slots : (s t : Seat PairsNote) → t.slots ≡ s.slots → (h : Hold) → Holds s.slots h → Holds t.slots h × (id_in t.slots h ≡ id_in s.slots h)
+same_slots s t same h held = (subst (λ (z : Slots). Holds z h) (sym same) held, ap (λ z. id_in z h) same)
+
+-- the pair was the fresh node
+pub swung_fresh : (fresh : Option ℕ) (id : ℕ) (done : Bool) → fresh ≡ Some id
+    → (if done then unless_node fresh (Some id) else fresh) ≡ (if done then None else fresh)
+swung_fresh fresh id done is = ap (λ (o : Option ℕ). if done then o else fresh) (ap (λ (o : Option ℕ). unless_node o (Some id)) is ∙ unless_same id)
+
+-- the pair before stays one
+pub before_kept : (n : HeapNumbers) (s a : Seat PairsNote) (old : ℕ) (es : List CellEntry) → Answered n 0 s es a → AllAllowed (PairsMay n) [] a.seen
+    → IsPairOf (heap_of n s) old → IsPairOf (heap_of n a) old
+before_kept n s a old es x all (l, r, parts, has) = (l, r, parts, pair_puts n s a x.stretch.own x.stretch.puts all old l r parts has)
+
+-- a staged part, after the other half was aimed
+pub right_kept : (n : HeapNumbers) (s a : Seat PairsNote) (right : New) (es : List CellEntry) → Answered n 0 s es a → AllAllowed (PairsMay n) [] a.seen
+    → SideHeld n (2 + 2 * s.agent) right s → SideHeld n (2 + 2 * a.agent) right a
+right_kept n s a right es x all held =
+    subst (λ (i : ℕ). SideHeld n (2 + 2 * i) right a) (sym x.stretch.puts.agent)
+    (side_kept n s a (2 + 2 * s.agent) right x.stretch.own x.stretch.puts all (inr refl) x.staging (same_slots s a x.slots) held)

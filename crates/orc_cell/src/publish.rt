@@ -1,0 +1,378 @@
+//! Turns of a publish: the new pair is aimed at its parts, and root 0 is swung to it.
+
+ghost use Rattle.std.specs.Prelude.{◌≡◌, ◌<◌, ℕ, [], ◌∷◌, Some, None, IfOk, IfErr, length};
+ghost use mathlib.Core.List.{IsPrefix};
+ghost use Rattle.orc_heap.specs.Calls.{IsWorn, Swings, event_of};
+ghost use Rattle.orc_heap.specs.Heap.{link_to, null, shown};
+ghost use Rattle.orc_heap.specs.OwnEvents.{Only};
+ghost use Rattle.orc_heap.specs.Seats.{HoldsFresh, HoldsPlace, HoldsWant, heap_of, link_in, place_in};
+ghost use Rattle.orc_heap.specs.Slots.{Hold, Holds, IsFree, id_in};
+ghost use Rattle.orc_history.specs.Journals.{Within};
+ghost use Rattle.orc_cell.specs.Publishes.{Aims, HasStaged, IsFirst, IsNewPart, MayPublish, NotFresh, PublishesFrom, PublishesTurns, SideHeld, Staged, SwingsPair, aim_act, given_of, half_at, staging_root};
+ghost use Rattle.orc_fault.specs.declared.Spent.{Spent as SpentRow};
+ghost use Rattle.orc_cell.specs.declared.publish.Half.{Half};
+ghost use Rattle.orc_cell.specs.declared.publish.PublishTurn.{PublishTurn};
+ghost use Rattle.orc_cell.specs.Turns.{IsCellDomain, IsPairOf, LeadsToPart};
+
+use crate::read::{PAIR, hold_part};
+use orc_fault::Spent;
+use orc_heap::{At, Held, Links, Looked, Want};
+use orc_pairs_rule::{CellEntry, Pairs, PairsNote};
+
+/// One of the two parts of a pair.
+#[derive(Clone, Copy, Debug, PartialEq, Eq)]
+pub enum Half {
+    Left,
+    Right,
+}
+
+/// A part of a new pair.
+pub enum New {
+    /// Its value is given, and this node has it.
+    Given(u64, Held),
+    /// It isn't given, and no pair was published before: a node with the value 0.
+    Zero(Held),
+    /// It is that of the pair before.
+    Kept,
+}
+
+/// How a turn of a publish ended.
+pub enum PublishTurn {
+    /// With no answer.
+    Over,
+    /// The pair was published, with these parts.
+    Published(u64, u64),
+    /// A part's row is worn.
+    Spent(Spent),
+}
+
+// Aims one half of the new pair at a part.
+fn aim_half<L: Links<Rule = Pairs>>(
+    links: &L,
+    p: &mut L::Pass,
+    half: Half,
+    pair: &Held,
+    part: &Held,
+) -> Result<(), Spent>
+    requires pass { L.belongs links.now p.old }
+    requires made { IsCellDomain (L.numbers links.now) (L.agents links.now) (L.opening links.now) }
+    requires fresh { HoldsFresh (L.seat links.now p.old) pair.now }
+    requires part { Holds (L.seat links.now p.old).slots part.now }
+    requires other { NotFresh (L.seat links.now p.old) part.now }
+    ensures pass { L.belongs links.now p.new }
+    ensures later { IsPrefix (L.journal p.old) (L.journal p.new) }
+    ensures aimed { IfOk result (λ _. Only (event_of (L.seat links.now p.old)
+        (aim_act half (id_in (L.seat links.now p.old).slots pair.now) (Some (id_in (L.seat links.now p.old).slots part.now))) None ∷ [])
+        (L.seat links.now p.old) (L.seat links.now p.new)) }
+    ensures none { IfErr result (λ e. Only [] (L.seat links.now p.old) (L.seat links.now p.new)) }
+    ensures worn { IfErr result (λ e. Within (length (L.journal p.old)) (length (L.journal p.new))
+        (L.worn links.now (L.seat links.now p.old).agent e (L.journal p.new))) }
+{
+    match half {
+        Half::Left => links.aim(p, pair, Some(part)),
+        Half::Right => links.aim_side(p, pair, Some(part)),
+    }
+}
+
+// Aims one half of the new pair at the part of the pair before.
+fn aim_kept<L: Links<Rule = Pairs>>(
+    links: &L,
+    p: &mut L::Pass,
+    half: Half,
+    pair: &Held,
+    place: &At,
+) -> Result<u64, Spent>
+    requires pass { L.belongs links.now p.old }
+    requires made { IsCellDomain (L.numbers links.now) (L.agents links.now) (L.opening links.now) }
+    requires fresh { HoldsFresh (L.seat links.now p.old) pair.now }
+    requires place { HoldsPlace (L.numbers links.now) (L.seat links.now p.old).slots place.now }
+    requires slot { IsFree (L.seat links.now p.old).slots 5 }
+    requires leads { LeadsToPart (heap_of (L.numbers links.now) (L.seat links.now p.old)) (place_in (L.seat links.now p.old).slots place.now) }
+    ensures pass { L.belongs links.now p.new }
+    ensures later { IsPrefix (L.journal p.old) (L.journal p.new) }
+    ensures aimed { Aims (L.numbers links.now) half pair.now (λ id value. shown (heap_of (L.numbers links.now) (L.seat links.now p.old))
+        (place_in (L.seat links.now p.old).slots place.now) ≡ Some (link_to id)) (L.seat links.now p.old) result (L.seat links.now p.new) }
+    ensures worn { IfErr result (λ e. Within (length (L.journal p.old)) (length (L.journal p.new))
+        (L.worn links.now (L.seat links.now p.old).agent e (L.journal p.new))) }
+{
+    let part = hold_part(links, p, place, 5);
+    let value = links.value(p, &part, 0);
+    let aimed = aim_half(links, p, half, pair, &part);
+    links.release(p, part);
+    match aimed {
+        Ok(()) => Ok(value),
+        Err(spent) => Err(spent),
+    }
+}
+
+// Aims one half of the new pair at a staged part.
+fn aim_staged<L: Links<Rule = Pairs>>(
+    links: &L,
+    p: &mut L::Pass,
+    half: Half,
+    pair: &Held,
+    part: &Held,
+    value: u64,
+) -> Result<u64, Spent>
+    requires pass { L.belongs links.now p.old }
+    requires made { IsCellDomain (L.numbers links.now) (L.agents links.now) (L.opening links.now) }
+    requires fresh { HoldsFresh (L.seat links.now p.old) pair.now }
+    requires staged { Staged (L.numbers links.now) (staging_root half (L.seat links.now p.old).agent) value part.now (L.seat links.now p.old) }
+    ensures pass { L.belongs links.now p.new }
+    ensures later { IsPrefix (L.journal p.old) (L.journal p.new) }
+    ensures aimed { Aims (L.numbers links.now) half pair.now (λ id x. x ≡ value) (L.seat links.now p.old) result (L.seat links.now p.new) }
+    ensures worn { IfErr result (λ e. Within (length (L.journal p.old)) (length (L.journal p.new))
+        (L.worn links.now (L.seat links.now p.old).agent e (L.journal p.new))) }
+{
+    match aim_half(links, p, half, pair, part) {
+        Ok(()) => Ok(value),
+        Err(spent) => Err(spent),
+    }
+}
+
+// Aims one half of a pair that follows another.
+fn aim_next<L: Links<Rule = Pairs>>(
+    links: &L,
+    p: &mut L::Pass,
+    half: Half,
+    pair: &Held,
+    new: &New,
+    place: &At,
+) -> Result<u64, Spent>
+    requires pass { L.belongs links.now p.old }
+    requires made { IsCellDomain (L.numbers links.now) (L.agents links.now) (L.opening links.now) }
+    requires fresh { HoldsFresh (L.seat links.now p.old) pair.now }
+    requires new { SideHeld (L.numbers links.now) (staging_root half (L.seat links.now p.old).agent) new.now (L.seat links.now p.old) }
+    requires place { HoldsPlace (L.numbers links.now) (L.seat links.now p.old).slots place.now }
+    requires slot { IsFree (L.seat links.now p.old).slots 5 }
+    requires leads { LeadsToPart (heap_of (L.numbers links.now) (L.seat links.now p.old)) (place_in (L.seat links.now p.old).slots place.now) }
+    ensures pass { L.belongs links.now p.new }
+    ensures later { IsPrefix (L.journal p.old) (L.journal p.new) }
+    ensures aimed { Aims (L.numbers links.now) half pair.now (IsNewPart (heap_of (L.numbers links.now) (L.seat links.now p.old))
+        (place_in (L.seat links.now p.old).slots place.now) new.now) (L.seat links.now p.old) result (L.seat links.now p.new) }
+    ensures worn { IfErr result (λ e. Within (length (L.journal p.old)) (length (L.journal p.new))
+        (L.worn links.now (L.seat links.now p.old).agent e (L.journal p.new))) }
+{
+    match new {
+        New::Given(value, part) => aim_staged(links, p, half, pair, part, *value),
+        New::Zero(_) => aim_kept(links, p, half, pair, place),
+        New::Kept => aim_kept(links, p, half, pair, place),
+    }
+}
+
+// Aims one half of a first pair.
+fn aim_first<L: Links<Rule = Pairs>>(
+    links: &L,
+    p: &mut L::Pass,
+    half: Half,
+    pair: &Held,
+    new: &New,
+) -> Result<u64, Spent>
+    requires pass { L.belongs links.now p.old }
+    requires made { IsCellDomain (L.numbers links.now) (L.agents links.now) (L.opening links.now) }
+    requires fresh { HoldsFresh (L.seat links.now p.old) pair.now }
+    requires new { SideHeld (L.numbers links.now) (staging_root half (L.seat links.now p.old).agent) new.now (L.seat links.now p.old) }
+    requires staged { HasStaged new.now }
+    ensures pass { L.belongs links.now p.new }
+    ensures later { IsPrefix (L.journal p.old) (L.journal p.new) }
+    ensures aimed { Aims (L.numbers links.now) half pair.now (IsFirst new.now) (L.seat links.now p.old) result (L.seat links.now p.new) }
+    ensures worn { IfErr result (λ e. Within (length (L.journal p.old)) (length (L.journal p.new))
+        (L.worn links.now (L.seat links.now p.old).agent e (L.journal p.new))) }
+{
+    match new {
+        New::Given(value, part) => aim_staged(links, p, half, pair, part, *value),
+        New::Zero(part) => aim_staged(links, p, half, pair, part, 0),
+        New::Kept => unreachable!(),
+    }
+}
+
+// Swings root 0 from this link to the new pair.
+fn swing_pair<L: Links<Rule = Pairs>>(
+    links: &L,
+    p: &mut L::Pass,
+    from: &Want,
+    pair: &Held,
+    given: (Option<u64>, Option<u64>),
+    parts: (u64, u64),
+) -> bool
+    requires pass { L.belongs links.now p.old }
+    requires made { IsCellDomain (L.numbers links.now) (L.agents links.now) (L.opening links.now) }
+    requires fresh { HoldsFresh (L.seat links.now p.old) pair.now }
+    requires from { HoldsWant (L.seat links.now p.old).slots from.now }
+    requires allowed { MayPublish (L.numbers links.now) (L.seat links.now p.old) (link_in (L.seat links.now p.old).slots from.now)
+        (id_in (L.seat links.now p.old).slots pair.now) given.0 given.1 parts.0 parts.1 }
+    ensures pass { L.belongs links.now p.new }
+    ensures later { IsPrefix (L.journal p.old) (L.journal p.new) }
+    ensures swung { SwingsPair (link_in (L.seat links.now p.old).slots from.now) (id_in (L.seat links.now p.old).slots pair.now)
+        given.0 given.1 parts.0 parts.1 (L.seat links.now p.old) result (L.seat links.now p.new) }
+{
+    let agent = links.agent(p);
+    let note = PairsNote::Entry(CellEntry::Published {
+        agent,
+        left: given.0,
+        right: given.1,
+        now_left: parts.0,
+        now_right: parts.1,
+    });
+    match links.swing(
+        p,
+        &At::Root(PAIR),
+        from,
+        &Want::Node(pair, false),
+        Some(note),
+    ) {
+        Ok(done) => done,
+        Err(_) => unreachable!(),
+    }
+}
+
+// The value that is given.
+fn given(new: &New) -> Option<u64>
+    ensures { result ≡ given_of new.now }
+{
+    match new {
+        New::Given(value, _) => Some(*value),
+        New::Zero(_) => None,
+        New::Kept => None,
+    }
+}
+
+// Publishes a first pair, if root 0 is still null.
+fn publish_first<L: Links<Rule = Pairs>>(
+    links: &L,
+    p: &mut L::Pass,
+    pair: &Held,
+    left: &New,
+    right: &New,
+) -> PublishTurn
+    requires pass { L.belongs links.now p.old }
+    requires made { IsCellDomain (L.numbers links.now) (L.agents links.now) (L.opening links.now) }
+    requires fresh { HoldsFresh (L.seat links.now p.old) pair.now }
+    requires left { SideHeld (L.numbers links.now) (staging_root Half.Left (L.seat links.now p.old).agent) left.now (L.seat links.now p.old) }
+    requires right { SideHeld (L.numbers links.now) (staging_root Half.Right (L.seat links.now p.old).agent) right.now (L.seat links.now p.old) }
+    requires staged { HasStaged left.now × HasStaged right.now }
+    ensures pass { L.belongs links.now p.new }
+    ensures later { IsPrefix (L.journal p.old) (L.journal p.new) }
+    ensures published { PublishesFrom (L.numbers links.now) null (given_of left.now) (given_of right.now) pair.now (L.seat links.now p.old) result
+        (L.seat links.now p.new) }
+    ensures worn { (why : SpentRow) → result ≡ PublishTurn.Spent why → Within (length (L.journal p.old)) (length (L.journal p.new))
+        (L.worn links.now (L.seat links.now p.old).agent why (L.journal p.new)) }
+{
+    let x = match aim_first(links, p, Half::Left, pair, left) {
+        Ok(x) => x,
+        Err(spent) => return PublishTurn::Spent(spent),
+    };
+    let y = match aim_first(links, p, Half::Right, pair, right) {
+        Ok(y) => y,
+        Err(spent) => return PublishTurn::Spent(spent),
+    };
+    let parts = (given(left), given(right));
+    if swing_pair(links, p, &Want::Null(false), pair, parts, (x, y)) {
+        PublishTurn::Published(x, y)
+    } else {
+        PublishTurn::Over
+    }
+}
+
+// Publishes a pair after another, if root 0 still names that.
+fn publish_next<L: Links<Rule = Pairs>>(
+    links: &L,
+    p: &mut L::Pass,
+    pair: &Held,
+    old: &Held,
+    left: &New,
+    right: &New,
+) -> PublishTurn
+    requires pass { L.belongs links.now p.old }
+    requires made { IsCellDomain (L.numbers links.now) (L.agents links.now) (L.opening links.now) }
+    requires fresh { HoldsFresh (L.seat links.now p.old) pair.now }
+    requires left { SideHeld (L.numbers links.now) (staging_root Half.Left (L.seat links.now p.old).agent) left.now (L.seat links.now p.old) }
+    requires right { SideHeld (L.numbers links.now) (staging_root Half.Right (L.seat links.now p.old).agent) right.now (L.seat links.now p.old) }
+    requires old { Holds (L.seat links.now p.old).slots old.now }
+    requires slot { IsFree (L.seat links.now p.old).slots 5 }
+    requires before { IsPairOf (heap_of (L.numbers links.now) (L.seat links.now p.old)) (id_in (L.seat links.now p.old).slots old.now) }
+    ensures pass { L.belongs links.now p.new }
+    ensures later { IsPrefix (L.journal p.old) (L.journal p.new) }
+    ensures published { PublishesFrom (L.numbers links.now) (link_to (id_in (L.seat links.now p.old).slots old.now)) (given_of left.now) (given_of right.now)
+        pair.now (L.seat links.now p.old) result (L.seat links.now p.new) }
+    ensures worn { (why : SpentRow) → result ≡ PublishTurn.Spent why → Within (length (L.journal p.old)) (length (L.journal p.new))
+        (L.worn links.now (L.seat links.now p.old).agent why (L.journal p.new)) }
+{
+    let x = match aim_next(links, p, Half::Left, pair, left, &At::Node(old)) {
+        Ok(x) => x,
+        Err(spent) => return PublishTurn::Spent(spent),
+    };
+    let y = match aim_next(links, p, Half::Right, pair, right, &At::Side(old)) {
+        Ok(y) => y,
+        Err(spent) => return PublishTurn::Spent(spent),
+    };
+    let parts = (given(left), given(right));
+    if swing_pair(links, p, &Want::Node(old, false), pair, parts, (x, y)) {
+        PublishTurn::Published(x, y)
+    } else {
+        PublishTurn::Over
+    }
+}
+
+// Makes one turn of a publish.
+fn publish_turn<L: Links<Rule = Pairs>>(
+    links: &L,
+    p: &mut L::Pass,
+    pair: &Held,
+    left: &New,
+    right: &New,
+) -> PublishTurn
+    requires pass { L.belongs links.now p.old }
+    requires made { IsCellDomain (L.numbers links.now) (L.agents links.now) (L.opening links.now) }
+    requires fresh { HoldsFresh (L.seat links.now p.old) pair.now }
+    requires left { SideHeld (L.numbers links.now) (staging_root Half.Left (L.seat links.now p.old).agent) left.now (L.seat links.now p.old) }
+    requires right { SideHeld (L.numbers links.now) (staging_root Half.Right (L.seat links.now p.old).agent) right.now (L.seat links.now p.old) }
+    requires slots { IsFree (L.seat links.now p.old).slots 4 × IsFree (L.seat links.now p.old).slots 5 }
+    ensures pass { L.belongs links.now p.new }
+    ensures later { IsPrefix (L.journal p.old) (L.journal p.new) }
+    ensures published { PublishesTurns (L.numbers links.now) 1 (given_of left.now) (given_of right.now) pair.now (L.seat links.now p.old) result
+        (L.seat links.now p.new) }
+    ensures worn { (why : SpentRow) → result ≡ PublishTurn.Spent why → Within (length (L.journal p.old)) (length (L.journal p.new))
+        (L.worn links.now (L.seat links.now p.old).agent why (L.journal p.new)) }
+{
+    match links.look(p, &At::Root(PAIR), 4) {
+        Looked::Stable(_, Some(old)) => {
+            let turn = publish_next(links, p, pair, &old, left, right);
+            links.release(p, old);
+            turn
+        }
+        Looked::Stable(_, None) => publish_first(links, p, pair, left, right),
+        Looked::Moved => PublishTurn::Over,
+    }
+}
+
+// Publishes the new pair, in at most so many turns.
+pub(crate) fn publish_turns<L: Links<Rule = Pairs>>(
+    links: &L,
+    p: &mut L::Pass,
+    pair: &Held,
+    left: &New,
+    right: &New,
+    turns: u64,
+) -> PublishTurn
+    requires pass { L.belongs links.now p.old }
+    requires made { IsCellDomain (L.numbers links.now) (L.agents links.now) (L.opening links.now) }
+    requires fresh { HoldsFresh (L.seat links.now p.old) pair.now }
+    requires left { SideHeld (L.numbers links.now) (staging_root Half.Left (L.seat links.now p.old).agent) left.now (L.seat links.now p.old) }
+    requires right { SideHeld (L.numbers links.now) (staging_root Half.Right (L.seat links.now p.old).agent) right.now (L.seat links.now p.old) }
+    requires slots { IsFree (L.seat links.now p.old).slots 4 × IsFree (L.seat links.now p.old).slots 5 }
+    ensures pass { L.belongs links.now p.new }
+    ensures later { IsPrefix (L.journal p.old) (L.journal p.new) }
+    ensures published { PublishesTurns (L.numbers links.now) turns (given_of left.now) (given_of right.now) pair.now (L.seat links.now p.old) result
+        (L.seat links.now p.new) }
+    ensures worn { (why : SpentRow) → result ≡ PublishTurn.Spent why → Within (length (L.journal p.old)) (length (L.journal p.new))
+        (L.worn links.now (L.seat links.now p.old).agent why (L.journal p.new)) }
+{
+    for _ in 0..turns {
+        match publish_turn(links, p, pair, left, right) {
+            PublishTurn::Over => {}
+            turn => return turn,
+        }
+    }
+    PublishTurn::Over
+}

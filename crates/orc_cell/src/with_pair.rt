@@ -1,0 +1,181 @@
+//! A publish whose parts are staged: the new pair is given, published and let go.
+
+ghost use Rattle.std.specs.Prelude.{◌≡◌, ℕ, Err, length};
+ghost use mathlib.Core.List.{IsPrefix};
+ghost use Rattle.orc_fault.specs.declared.Spent.{Spent as SpentRow};
+ghost use Rattle.orc_heap.specs.Slots.{IsFree};
+ghost use Rattle.orc_heap.specs.OwnEvents.{Only};
+ghost use Rattle.orc_history.specs.Journals.{Within};
+ghost use Rattle.orc_history.specs.Parts.{part_begin};
+ghost use Rattle.std.specs.Prelude.{None, Some, [], false, ◌<◌};
+ghost use Rattle.orc_heap.specs.Heap.{null, shown};
+ghost use Rattle.orc_heap.specs.Seats.{IsIdle, heap_of};
+ghost use Rattle.orc_heap.specs.declared.events.Place.{Place};
+ghost use Rattle.orc_cell.specs.Answers.{PublishAnswers};
+ghost use Rattle.orc_cell.specs.Causes.{WithinPart};
+ghost use Rattle.orc_cell.specs.Publishes.{IsPublished, SideHeld, given_of, staging_root};
+ghost use Rattle.orc_cell.specs.Turns.{FindsOnly, IsCellDomain};
+ghost use Rattle.orc_cell.specs.declared.publish.Half.{Half};
+ghost use Rattle.orc_cell.specs.declared.refused.CellRefused.{CellRefused};
+
+use crate::new_parts::{let_go, ready};
+use crate::publish::{New, PublishTurn, publish_turns};
+use crate::read::PAIR;
+use crate::refused::CellRefused;
+use orc_heap::{At, Links, Want};
+use orc_pairs_rule::Pairs;
+
+// Publishes a pair of these parts, in at most so many turns.
+pub(crate) fn publish_pair<L: Links<Rule = Pairs>>(
+    links: &L,
+    p: &mut L::Pass,
+    left: &New,
+    right: &New,
+    turns: u64,
+) -> Result<(u64, u64), CellRefused>
+    requires pass { L.belongs links.now p.old }
+    requires made { IsCellDomain (L.numbers links.now) (L.agents links.now) (L.opening links.now) }
+    requires no_fresh { (L.seat links.now p.old).fresh ≡ None }
+    requires left { SideHeld (L.numbers links.now) (staging_root Half.Left (L.seat links.now p.old).agent) left.now (L.seat links.now p.old) }
+    requires right { SideHeld (L.numbers links.now) (staging_root Half.Right (L.seat links.now p.old).agent) right.now (L.seat links.now p.old) }
+    requires slots { IsFree (L.seat links.now p.old).slots 3 × IsFree (L.seat links.now p.old).slots 4 × IsFree (L.seat links.now p.old).slots 5 }
+    ensures pass { L.belongs links.now p.new }
+    ensures later { IsPrefix (L.journal p.old) (L.journal p.new) }
+    ensures answered { PublishAnswers (L.numbers links.now) 1 turns (given_of left.now) (given_of right.now) (L.seat links.now p.old) result
+        (L.seat links.now p.new) }
+    ensures no_node { result ≡ Err CellRefused.NoNode → Within (length (L.journal p.old)) (length (L.journal p.new))
+        (L.lacking links.now (L.seat links.now p.old).agent (L.journal p.new)) }
+    ensures worn { (why : SpentRow) → result ≡ Err (CellRefused.Spent why) → Within (length (L.journal p.old)) (length (L.journal p.new))
+        (L.worn links.now (L.seat links.now p.old).agent why (L.journal p.new)) }
+{
+    let pair = match links.give(p, 3, 0, 0) {
+        Ok(pair) => pair,
+        Err(_) => return Err(CellRefused::NoNode),
+    };
+    let turn = publish_turns(links, p, &pair, left, right, turns);
+    links.release(p, pair);
+    match turn {
+        PublishTurn::Published(x, y) => Ok((x, y)),
+        PublishTurn::Over => Err(CellRefused::Again),
+        PublishTurn::Spent(spent) => Err(CellRefused::Spent(spent)),
+    }
+}
+
+// Makes the right part ready, publishes, and lets the part go.
+fn publish_right<L: Links<Rule = Pairs>>(
+    links: &L,
+    p: &mut L::Pass,
+    root: u32,
+    left: &New,
+    right: (Option<u64>, bool),
+    turns: u64,
+) -> Result<(u64, u64), CellRefused>
+    requires pass { L.belongs links.now p.old }
+    requires made { IsCellDomain (L.numbers links.now) (L.agents links.now) (L.opening links.now) }
+    requires no_fresh { (L.seat links.now p.old).fresh ≡ None }
+    requires root { root ≡ staging_root Half.Right (L.seat links.now p.old).agent }
+    requires there { root < (L.numbers links.now).roots }
+    requires null { shown (heap_of (L.numbers links.now) (L.seat links.now p.old)) (Place.Root root) ≡ Some null }
+    requires left { SideHeld (L.numbers links.now) (staging_root Half.Left (L.seat links.now p.old).agent) left.now (L.seat links.now p.old) }
+    requires published { right.0 ≡ None → right.1 ≡ false → IsPublished (heap_of (L.numbers links.now) (L.seat links.now p.old)) }
+    requires slots { IsFree (L.seat links.now p.old).slots 2 × IsFree (L.seat links.now p.old).slots 3 × IsFree (L.seat links.now p.old).slots 4
+        × IsFree (L.seat links.now p.old).slots 5 }
+    ensures pass { L.belongs links.now p.new }
+    ensures later { IsPrefix (L.journal p.old) (L.journal p.new) }
+    ensures answered { PublishAnswers (L.numbers links.now) 2 turns (given_of left.now) right.0 (L.seat links.now p.old) result (L.seat links.now p.new) }
+    ensures no_node { result ≡ Err CellRefused.NoNode → Within (length (L.journal p.old)) (length (L.journal p.new))
+        (L.lacking links.now (L.seat links.now p.old).agent (L.journal p.new)) }
+    ensures worn { (why : SpentRow) → result ≡ Err (CellRefused.Spent why) → Within (length (L.journal p.old)) (length (L.journal p.new))
+        (L.worn links.now (L.seat links.now p.old).agent why (L.journal p.new)) }
+{
+    let part = match ready(links, p, 2, root, right.0, right.1) {
+        Ok(part) => part,
+        Err(_) => return Err(CellRefused::NoNode),
+    };
+    let answer = publish_pair(links, p, left, &part, turns);
+    let_go(links, p, root, part);
+    answer
+}
+
+// Makes both parts ready, the left one first, publishes, and lets them go.
+pub(crate) fn publish_both<L: Links<Rule = Pairs>>(
+    links: &L,
+    p: &mut L::Pass,
+    roots: (u32, u32),
+    left: (Option<u64>, bool),
+    right: (Option<u64>, bool),
+    turns: u64,
+) -> Result<(u64, u64), CellRefused>
+    requires pass { L.belongs links.now p.old }
+    requires made { IsCellDomain (L.numbers links.now) (L.agents links.now) (L.opening links.now) }
+    requires no_fresh { (L.seat links.now p.old).fresh ≡ None }
+    requires roots { (roots.0 ≡ staging_root Half.Left (L.seat links.now p.old).agent) × (roots.1 ≡ staging_root Half.Right (L.seat links.now p.old).agent) }
+    requires there { (roots.0 < (L.numbers links.now).roots) × (roots.1 < (L.numbers links.now).roots) }
+    requires null { (shown (heap_of (L.numbers links.now) (L.seat links.now p.old)) (Place.Root roots.0) ≡ Some null)
+        × (shown (heap_of (L.numbers links.now) (L.seat links.now p.old)) (Place.Root roots.1) ≡ Some null) }
+    requires left_published { left.0 ≡ None → left.1 ≡ false → IsPublished (heap_of (L.numbers links.now) (L.seat links.now p.old)) }
+    requires right_published { right.0 ≡ None → right.1 ≡ false → IsPublished (heap_of (L.numbers links.now) (L.seat links.now p.old)) }
+    requires slots { IsFree (L.seat links.now p.old).slots 1 × IsFree (L.seat links.now p.old).slots 2 × IsFree (L.seat links.now p.old).slots 3
+        × IsFree (L.seat links.now p.old).slots 4 × IsFree (L.seat links.now p.old).slots 5 }
+    ensures pass { L.belongs links.now p.new }
+    ensures later { IsPrefix (L.journal p.old) (L.journal p.new) }
+    ensures answered { PublishAnswers (L.numbers links.now) 3 turns left.0 right.0 (L.seat links.now p.old) result (L.seat links.now p.new) }
+    ensures no_node { result ≡ Err CellRefused.NoNode → Within (length (L.journal p.old)) (length (L.journal p.new))
+        (L.lacking links.now (L.seat links.now p.old).agent (L.journal p.new)) }
+    ensures worn { (why : SpentRow) → result ≡ Err (CellRefused.Spent why) → Within (length (L.journal p.old)) (length (L.journal p.new))
+        (L.worn links.now (L.seat links.now p.old).agent why (L.journal p.new)) }
+{
+    let part = match ready(links, p, 1, roots.0, left.0, left.1) {
+        Ok(part) => part,
+        Err(_) => return Err(CellRefused::NoNode),
+    };
+    let answer = publish_right(links, p, roots.1, &part, right, turns);
+    let_go(links, p, roots.0, part);
+    answer
+}
+
+// Whether no pair was published yet.
+fn is_null<L: Links<Rule = Pairs>>(links: &L, p: &mut L::Pass) -> bool
+    requires pass { L.belongs links.now p.old }
+    requires made { IsCellDomain (L.numbers links.now) (L.agents links.now) (L.opening links.now) }
+    ensures pass { L.belongs links.now p.new }
+    ensures later { IsPrefix (L.journal p.old) (L.journal p.new) }
+    ensures only { FindsOnly (L.seat links.now p.old) [] (L.seat links.now p.new) }
+    ensures published { result ≡ false → IsPublished (heap_of (L.numbers links.now) (L.seat links.now p.new)) }
+    ensures begun { part_begin L.agent_of (L.seat links.now p.old).agent (L.journal p.old) (L.journal p.new) < length (L.journal p.new) }
+{
+    links.same(p, &At::Root(PAIR), &Want::Null(false), None)
+}
+
+// Publishes these parts, in at most so many turns.
+pub(crate) fn publish_parts<L: Links<Rule = Pairs>>(
+    links: &L,
+    p: &mut L::Pass,
+    roots: (u32, u32),
+    left: Option<u64>,
+    right: Option<u64>,
+    turns: u64,
+) -> Result<(u64, u64), CellRefused>
+    requires pass { L.belongs links.now p.old }
+    requires made { IsCellDomain (L.numbers links.now) (L.agents links.now) (L.opening links.now) }
+    requires idle { IsIdle (L.seat links.now p.old) }
+    requires roots { (roots.0 ≡ staging_root Half.Left (L.seat links.now p.old).agent) × (roots.1 ≡ staging_root Half.Right (L.seat links.now p.old).agent) }
+    requires there { (roots.0 < (L.numbers links.now).roots) × (roots.1 < (L.numbers links.now).roots) }
+    requires null { (shown (heap_of (L.numbers links.now) (L.seat links.now p.old)) (Place.Root roots.0) ≡ Some null)
+        × (shown (heap_of (L.numbers links.now) (L.seat links.now p.old)) (Place.Root roots.1) ≡ Some null) }
+    ensures pass { L.belongs links.now p.new }
+    ensures later { IsPrefix (L.journal p.old) (L.journal p.new) }
+    ensures answered { PublishAnswers (L.numbers links.now) 3 turns left right (L.seat links.now p.old) result (L.seat links.now p.new) }
+    ensures no_turns { turns ≡ 0 → result ≡ Err CellRefused.Again }
+    ensures nothing { turns ≡ 0 → Only [] (L.seat links.now p.old) (L.seat links.now p.new) }
+    ensures no_node { result ≡ Err CellRefused.NoNode → WithinPart L.agent_of (L.seat links.now p.old).agent (L.journal p.old) (L.journal p.new)
+        (L.lacking links.now (L.seat links.now p.old).agent (L.journal p.new)) }
+    ensures worn { (why : SpentRow) → result ≡ Err (CellRefused.Spent why) → WithinPart L.agent_of (L.seat links.now p.old).agent
+        (L.journal p.old) (L.journal p.new) (L.worn links.now (L.seat links.now p.old).agent why (L.journal p.new)) }
+{
+    if turns == 0 {
+        return Err(CellRefused::Again);
+    }
+    let empty = is_null(links, p);
+    publish_both(links, p, roots, (left, empty), (right, empty), turns)
+}
