@@ -26,7 +26,7 @@ use Rattle.orc_chain_rule.proofs.Later.{holds_later, nothing_yet}
 use Rattle.orc_chain_rule.specs.ChainDiscipline.{ChainHolds, ChainMay, FollowsOn, IsAbove, IsRun, entries_of, link_over}
 use Rattle.orc_chain_rule.specs.Watches.{node_to_add}
 use Rattle.orc_chain_rule.specs.declared.chain.ChainNote.{ChainNote}
-use Rattle.orc_list.specs.Inserts.{AddEnds, AddOver, AddsAt, AddsNode, HasRoomFor, InsertEnds, Inserts, InsertsOn, IsInFirst, IsToAdd, KeepsNode, LinkMissed, LinkRefused, LinksNode, LinksTo, SeesAbsent, count_of, slots_with}
+use Rattle.orc_list.specs.Inserts.{AddEnds, AddOver, AddsAt, AddsNode, HasRoomFor, InsertEnds, Inserts, InsertsOn, IsInFirst, IsToAdd, KeepsNode, LeavesRunOff, LinkMissed, LinkRefused, LinksNode, LinksTo, SeesAbsent, count_of, slots_with}
 use Rattle.orc_list.specs.Searches.{AllGone, FindsAbsent, HasRoom, HoldsIfAny, InHand, IsFew, left_place, node_of}
 use Rattle.orc_list.specs.Turns.{Answers, Made, Tires, first_or, place_at, target_at}
 use Rattle.orc_list.specs.declared.insert.InsertTurn.{InsertTurn}
@@ -35,8 +35,9 @@ use Rattle.orc_list.proofs.Answering.{from_is, place_of_hand, target_is, target_
 use Rattle.orc_list.proofs.Held.{absent_hand, first_held, first_linked, in_hand_on, left_linked, right_linked, second_held, third_held, three_hands}
 use Rattle.orc_list.proofs.Linking.{holds_on, loads_leave}
 use Rattle.orc_list.proofs.Making.{made_on, missed, over_on}
-use Rattle.orc_list.proofs.Quiets.{above_puts, below_puts, entries_of-append, leads_puts, left_place_linked, shows_on}
-use Rattle.orc_list.proofs.Seen.{covers_left, few_more}
+use Rattle.orc_list.proofs.Quiets.{above_puts, below_puts, entries_of-append, leads_puts, left_place_linked, run_puts, shows_on}
+use Rattle.orc_list.proofs.Passing.{adds_right as adds_later, leaves_on}
+use Rattle.orc_list.proofs.Seen.{covers_left, ends_left, few_more, sees_left}
 
 -- slots that hold a node besides
 
@@ -143,16 +144,40 @@ module _ (n : HeapNumbers) (root key : ℕ) (left first right : Option Hold) (no
   }
 
   -- it was linked
-  pub adds_linked : (u v : Seat ChainNote) → LinksNode key t u → AllGone slots u v → AddEnds given slots s (Added s.agent key true ∷ []) None v
-  adds_linked u v l g =
+  pub adds_linked : (u v : Seat ChainNote)
+      → LinksNode n key (place_at t.slots root left) (link_over (target_at t.slots (first_or first right))) (target_at t.slots right) t u → AllGone slots u v
+      → ChainHolds n u.seen → AllAllowed (ChainMay n) [] u.seen → AllAllowed (ChainMay n) [] v.seen
+      → (e : AddEnds given slots s (Added s.agent key true ∷ []) None v) × LeavesRunOff key e.own (heap_of n v)
+  adds_linked u v linked g holds all_u all_v =
+      let place = left_place root left a.left_id in
+      let from = a.leads.from in
+      let to = node_of right a.right_id in
+      let by_place = subst (λ (p : Place). LinksNode n key p (link_over (target_at t.slots (first_or first right))) (target_at t.slots right) t u) adds_place
+      linked in
+      let by_link = subst (λ (x : Link). LinksNode n key place x (target_at t.slots right) t u) adds_link by_place in
+      let l = subst (λ (o : Option ℕ). LinksNode n key place from o t u) adds_right by_link in
       let entries : entries_of l.own ≡ Added s.agent key true ∷ [] = l.entries_are ∙ ap (λ (x : ℕ). Added x key true ∷ []) a.puts.agent in
-      record {
-        own = a.own ++ l.own;
-        made = made_on given 1 s u v (a.own ++ l.own) (Added s.agent key true ∷ []) (made_since given s t u a.own l.own (Added s.agent key true ∷ [])
-            a.puts a.no_entries a.gives a.few l.puts entries l.no_give l.short) g.puts;
-        slots_are = g.slots_are;
-        fresh_is = g.fresh ∙ l.fresh;
-      }
+      let leaves : LeavesRunOff key (a.own ++ l.own) (heap_of n u) = record {
+        place = place;
+        from = from;
+        plain = a.leads.plain;
+        sees = sees_left a.own l.own place from a.leads.sees;
+        adds = adds_later a.own l.own key place from l.adds;
+        over = a.leads.over;
+        to = to;
+        run = run_puts n t u l.own l.puts all_u from a.leads.over to a.leads.run;
+        ends = ends_left a.own l.own to a.ends;
+        off = l.off a.leads.over a.leads.run;
+      } in (
+        record {
+          own = a.own ++ l.own;
+          made = made_on given 1 s u v (a.own ++ l.own) (Added s.agent key true ∷ []) (made_since given s t u a.own l.own (Added s.agent key true ∷ [])
+              a.puts a.no_entries a.gives a.few l.puts entries l.no_give l.short) g.puts;
+          slots_are = g.slots_are;
+          fresh_is = g.fresh ∙ l.fresh;
+        },
+        leaves_on n key (a.own ++ l.own) u v g.puts holds all_v leaves,
+      )
 
   -- a row was worn
   pub adds_refused : (u v : Seat ChainNote) → LinkRefused t u → AllGone slots u v → AddEnds given slots s [] (Some a.id) v
@@ -196,12 +221,12 @@ module _ (n : HeapNumbers) (root key : ℕ) (left first right : Option Hold) (no
       }
 
   -- the nodes of the search are in hand on
-  pub links_hand : (u : Seat ChainNote) (link : Link) (place : Place) (result : Result Bool SpentRow) → LinksTo n key node a.id place link t result u
-      → AllAllowed (ChainMay n) [] u.seen → InHand n slots left first right None u
-  links_hand u link place (Ok true) l all = in_hand_on n slots left first right None t u l.own l.puts all l.slots adds_hand
-  links_hand u link place (Ok false) l all =
+  pub links_hand : (u : Seat ChainNote) (link : Link) (place : Place) (to : Option ℕ) (result : Result Bool SpentRow)
+      → LinksTo n key node a.id place link to t result u → AllAllowed (ChainMay n) [] u.seen → InHand n slots left first right None u
+  links_hand u link place to (Ok true) l all = in_hand_on n slots left first right None t u l.own l.puts all l.slots adds_hand
+  links_hand u link place to (Ok false) l all =
       in_hand_on n slots left first right None t u _ (Puts-trans t l.mid u _ _ l.aims l.misses.puts) all l.slots adds_hand
-  links_hand u link place (Err why) l all = in_hand_on n slots left first right None t u l.own l.puts all l.slots adds_hand
+  links_hand u link place to (Err why) l all = in_hand_on n slots left first right None t u l.own l.puts all l.slots adds_hand
 
 pub same_spent : (a b : SpentRow) → ◌≡◌ {A = InsertTurn} (Spent a) (Spent b) → a ≡ b
 same_spent a b e = cc
@@ -229,6 +254,7 @@ absent_adds n root key left first right node slots s t k f holds all =
       hands = f.hands;
       leads = f.behind.leads;
       above = f.above;
+      ends = f.ends;
       id = k.id;
       kept = k.to_add.held;
       holds = holds_on n key node k.id s t f.own k.to_add q.puts (loads_leave k.id f.own q.loads) holds all
@@ -276,6 +302,7 @@ module _ (n : HeapNumbers) (root key : ℕ) (left first right : Option Hold) (s 
         hands = subst (λ (z : Slots). Hands (slice_set s.slots 1 x) z hs) (sym g.slots) (hands_rebase s.slots t.slots hs 1 x f.hands f.apart one.empty);
         leads = leads_puts n t u ys g.puts all root key left first f.left_id f.first_id (node_of right f.right_id) s f.own q.puts w q.some f.behind.leads;
         above = above_puts n t u ys g.puts all (node_of right f.right_id) key f.above;
+        ends = ends_left f.own ys (node_of right f.right_id) f.ends;
         id = g.id;
         kept = kept;
         holds = record {
@@ -338,7 +365,7 @@ adds_inserts n key h id given base slots had s u Over a is first count = record 
   keeps = record { id = id; slots_are = a.slots_are ∙ is; slot_is = first; to_add = a.holds };
 }
 adds_inserts n key h id given base slots had s u (Answered false) a is first count = absurd a
-adds_inserts n key h id given base slots had s u (Answered true) a is first count = (
+adds_inserts n key h id given base slots had s u (Answered true) (a, leaves) is first count = (
   a.own,
   record {
     given = given;
@@ -352,6 +379,7 @@ adds_inserts n key h id given base slots had s u (Answered true) a is first coun
           a.fresh_is;
     };
   },
+  λ yes. leaves,
 )
 adds_inserts n key h id given base slots had s u NoNode a is first count = absurd a
 adds_inserts n key h id given base slots had s u (Spent why) a is first count = (

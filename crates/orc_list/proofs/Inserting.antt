@@ -9,7 +9,7 @@ use Rattle.orc_heap.specs.Allowed.{AllAllowed}
 use Rattle.orc_heap.specs.Calls.{unless_node}
 use Rattle.orc_heap.specs.Hands.{HoldsId}
 use Rattle.orc_heap.specs.Heap.{HeapNumbers}
-use Rattle.orc_heap.specs.Seats.{IsIdle, Seat}
+use Rattle.orc_heap.specs.Seats.{IsIdle, Seat, heap_of}
 use Rattle.orc_heap.specs.Slots.{Hold, SlotNode, Slots}
 use Rattle.orc_heap.specs.declared.events.Event.{Event}
 use Rattle.orc_history.specs.declared.set.ListRefused.{ListRefused}
@@ -24,6 +24,7 @@ use Rattle.orc_list.specs.Searches.{HoldsIfAny, LetsGo, node_of}
 use Rattle.orc_list.specs.declared.insert.InsertTurn.{InsertTurn}
 use Rattle.orc_list.specs.declared.insert.InsertTurn.TheVariants.{Answered, NoNode, Over, Spent}
 use Rattle.orc_list.proofs.Making.{made_most, made_next, made_on, over_next, over_none, over_on}
+use Rattle.orc_list.proofs.Passing.{leaves_right}
 use Rattle.orc_list.proofs.Quiets.{above_puts, below_puts}
 use Rattle.orc_list.proofs.Seen.{sees_right, sees_run_right}
 
@@ -74,10 +75,12 @@ module _ (n : HeapNumbers) (key turns : ℕ) (had kept : Option Hold) (s t u : S
   pub inserts_done : (most : ℕ) (turn : InsertTurn) → Inserts n key 1 s.slots had t turn kept u → (turn ≡ Over → ⊥) → turns + 1 ≤ most
       → InsertsTurns n key most s turn kept u
   inserts_done most Over f other low = absurd (other refl)
-  inserts_done most (Answered answer) (own, e) other low =
+  inserts_done most (Answered answer) (own, e, leaves) other low =
       let first : InsertEnds 1 s.slots had kept t own (Added s.agent key answer ∷ []) u = subst
-      (λ (x : ℕ). InsertEnds 1 s.slots had kept t own (Added x key answer ∷ []) u) w.over.made.puts.agent e in
-      ((λ zero. omega (arith, zero, low)), (w.own ++ own, ends_next most own (Added s.agent key answer ∷ []) first low))
+      (λ (x : ℕ). InsertEnds 1 s.slots had kept t own (Added x key answer ∷ []) u) w.over.made.puts.agent e in (
+        (λ zero. omega (arith, zero, low)),
+        (w.own ++ own, ends_next most own (Added s.agent key answer ∷ []) first low, λ yes. leaves_right (heap_of n u) key w.own own (leaves yes)),
+      )
   inserts_done most NoNode (own, e, a) other low = ((λ zero. omega (arith, zero, low)), (w.own ++ own, ends_next most own [] e low, absent_next own a))
   inserts_done most (Spent why) (own, e) other low = ((λ zero. omega (arith, zero, low)), (w.own ++ own, ends_next most own [] e low))
 

@@ -8,6 +8,7 @@ pub mod Answering
 pub mod Tiring
 pub mod Marking
 pub mod Removing
+pub mod Passing
 pub mod Linking
 pub mod Adding
 pub mod Parting

@@ -1,5 +1,5 @@
 -- A fresh node is aimed, and linked.
-use Rattle.std.proofs.Common.{Bool, Err, List, None, Ok, Option, Result, Some, [], ap, arith, false, refl, subst, sym, true, ℕ, ◌∙◌, ◌∷◌, ◌≡◌, ◌≢◌}
+use Rattle.std.proofs.Common.{Bool, Err, List, None, Ok, Option, Result, Some, [], ap, arith, false, inl, inr, refl, subst, sym, true, ℕ, ◌∙◌, ◌∷◌, ◌≡◌, ◌≢◌}
 use Rattle.std.proofs.lemmas.Bool.{eq-eqb, ne_eqb}
 use Rattle.std.specs.List.{list_any, slice_get}
 use Rattle.std.specs.Prelude.{IfErr, IfOk, ◌||◌}
@@ -10,7 +10,7 @@ use Rattle.orc_heap.proofs.Fresh.{touched, touched_by}
 use Rattle.orc_heap.proofs.Hands.{holds_of}
 use Rattle.orc_heap.proofs.Pieces.{linked_not_fresh, missed_fresh, own_node_puts}
 use Rattle.orc_heap.specs.Allowed.{AllAllowed, AllowedLater}
-use Rattle.orc_heap.specs.Calls.{Misses, Swings, event_of, unless_node}
+use Rattle.orc_heap.specs.Calls.{Misses, Swings, event_of, move_of, unless_node}
 use Rattle.orc_heap.specs.Hands.{HoldsId}
 use Rattle.orc_heap.specs.Heap.{HeapNumbers, Node, link_to}
 use Rattle.orc_heap.specs.Journals.{names_node, points_to}
@@ -35,6 +35,7 @@ use Rattle.orc_chain_rule.specs.declared.chain.ChainNote.TheVariants.{Entry}
 use Rattle.orc_list.specs.Inserts.{HoldsKey, LinkRefused, LinksTo}
 use Rattle.orc_list.specs.Searches.{AreLoads, IsLoad}
 use Rattle.orc_list.proofs.Held.{FreshIs}
+use Rattle.orc_list.proofs.Passing.{linked_off}
 use Rattle.orc_list.proofs.Quiets.{above_puts, below_puts, run_puts}
 
 pub above_not_fresh : (n : HeapNumbers) (s : Seat ChainNote) (to : Option ℕ) (key : ℕ) → IsAbove (heap_of n s) to key → FreshIs n s → (id : ℕ) → to ≡ Some
@@ -149,10 +150,10 @@ pub links_to : (n : HeapNumbers) (key by : ℕ) (h : Hold) (id : ℕ) (to : Opti
     (from new : Want) (result : Result Bool SpentRow)
     → HoldsKey n key h id s → Only (event_of s (Aim id to) None ∷ []) s t
     → by ≡ t.agent → place_in t.slots at ≡ place → link_in t.slots from ≡ link → link_in t.slots new ≡ link_to (id_in t.slots h) → ChainHolds n s.seen
-    → AllAllowed (ChainMay n) [] u.seen → to ≢ Some id
+    → ChainHolds n t.seen → AllAllowed (ChainMay n) [] t.seen → AllAllowed (ChainMay n) [] u.seen → to ≢ Some id
     → IfOk result (λ done. Swings at from new (Some (Entry (Added by key true))) t done u) → IfErr result (λ e. Only [] t u)
-    → LinksTo n key h id place link s result u
-links_to n key by h id to s t u place link at from new (Err e) k o by_is at_is from_is new_is holds all apart w none = record {
+    → LinksTo n key h id place link to s result u
+links_to n key by h id to s t u place link at from new (Err e) k o by_is at_is from_is new_is holds now all_t all apart w none = record {
   own = event_of s (Aim id to) None ∷ [];
   puts = Puts-trans s t u (event_of s (Aim id to) None ∷ []) [] o.puts none.puts;
   slots = none.slots ∙ o.slots;
@@ -161,20 +162,28 @@ links_to n key by h id to s t u place link at from new (Err e) k o by_is at_is f
   no_give = refl;
   short = omega arith;
 }
-links_to n key by h id to s t u place link at from new (Ok true) k o by_is at_is from_is new_is holds all apart w none =
+links_to n key by h id to s t u place link at from new (Ok true) k o by_is at_is from_is new_is holds now all_t all apart w none =
     let id_is : id_in t.slots h ≡ id = ap (λ (z : Slots). id_in z h) o.slots ∙ (holds_of s.slots h id k.held).1 in
     let fresh : u.fresh ≡ None = Swings-fresh w refl ∙ (ap (λ (l : Link). unless_node t.fresh l.to) new_is ∙
     (ap (λ (i : ℕ). unless_node t.fresh (Some i)) id_is ∙ (ap (λ (f : Option ℕ). unless_node f (Some id)) (o.fresh ∙ k.fresh) ∙ unless_same id))) in
+    let aim : Event ChainNote = event_of s (Aim id to) None in
+    let moved : Event ChainNote = event_of t (Move place link (link_to id)) (Some (Entry (Added t.agent key true))) in
+    let event_is : move_of t at from new (Some (Entry (Added by key true))) ≡ moved = rw (at_is, from_is, new_is, id_is, by_is) refl in
+    let p : Puts t (moved ∷ []) u = subst (λ (e : Event ChainNote). Puts t (e ∷ []) u) event_is (Swings-moved w refl) in
+    let node = aimed n key h id to [] s t k o.puts tt holds all_t apart in
     record {
-      own = _;
-      puts = Puts-trans s t u _ _ o.puts (Swings-moved w refl);
+      own = aim ∷ moved ∷ [];
+      puts = Puts-trans s t u (aim ∷ []) (moved ∷ []) o.puts p;
       slots = w.slots ∙ o.slots;
       fresh = fresh;
-      entries_are = ap (λ (a : ℕ). Added a key true ∷ []) (by_is ∙ o.puts.agent);
+      entries_are = ap (λ (a : ℕ). Added a key true ∷ []) o.puts.agent;
       no_give = refl;
       short = omega arith;
+      adds = inr (inl (link_to id, refl, refl));
+      off = λ over run. linked_off n key k.second id to t u place link over p now all node
+          (run_puts n s t (aim ∷ []) o.puts all_t link over to run);
     }
-links_to n key by h id to s t u place link at from new (Ok false) k o by_is at_is from_is new_is holds all apart w none =
+links_to n key by h id to s t u place link at from new (Ok false) k o by_is at_is from_is new_is holds now all_t all apart w none =
     let miss : Misses place link t u = subst (λ (p : Place). Misses p link t u) at_is (subst (λ (l : Link). Misses (place_in t.slots at) l t u) from_is
     (Swings-missed w refl)) in
     let e : Event ChainNote = event_of t (Miss place link miss.found) None in

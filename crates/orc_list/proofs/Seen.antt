@@ -1,5 +1,5 @@
 -- What Looks among events found, and how many nodes they visited.
-use Rattle.std.proofs.Common.{Bool, List, [], arith, cond, false, filter, inl, inr, length, length-append, not, refl, subst, true, ℕ, ◌++◌, ◌+◌, ◌==◌, ◌∷◌, ◌≡◌, ◌≤◌, ◌⊎◌, Option}
+use Rattle.std.proofs.Common.{Bool, List, [], arith, cond, false, filter, inl, inr, length, length-append, not, refl, subst, true, ℕ, ◌++◌, ◌+◌, ◌==◌, ◌∷◌, ◌≡◌, ◌≤◌, ◌⊎◌, None, Option, Some}
 use Rattle.std.proofs.lemmas.Bool.{eq-eqb, eqb-true, or_cases, or_right}
 use Rattle.orc_heap.specs.Heap.{Heap, HeapNumbers}
 use Rattle.orc_heap.specs.Seats.{Seat, heap_of}
@@ -12,7 +12,7 @@ use Rattle.orc_chain_rule.specs.declared.chain.ChainNote.{ChainNote}
 use Rattle.orc_chain_rule.specs.ChainDiscipline.{HasKey}
 use Rattle.orc_chain_rule.specs.Laws.Kinds.{key_one}
 use Rattle.orc_chain_rule.specs.Laws.Sets.{has_kept}
-use Rattle.orc_list.specs.Searches.{AllSeen, AreLoads, CoversLooks, IsFew, KeysFall, Sees, SeesRun, Visits}
+use Rattle.orc_list.specs.Searches.{AllSeen, AreLoads, CoversLooks, EndsRun, IsFew, KeysFall, Sees, SeesRun, Visits}
 
 pub sees_left : (es fs : List (Event ChainNote)) (place : Place) (link : Link) → Sees es place link → Sees (es ++ fs) place link
 sees_left [] fs place link s = absurd s
@@ -46,6 +46,16 @@ sees_run_right es fs link (id ∷ ids) to (is, next, seen, mark, rest) = (
   sees_run_right es fs next ids
       to rest,
 )
+
+-- where a run ends
+
+pub ends_left : (es fs : List (Event ChainNote)) (to : Option ℕ) → EndsRun es to → EndsRun (es ++ fs) to
+ends_left es fs None e = tt
+ends_left es fs (Some id) (link, seen, plain) = (link, sees_left es fs (Next id) link seen, plain)
+
+pub ends_right : (es fs : List (Event ChainNote)) (to : Option ℕ) → EndsRun fs to → EndsRun (es ++ fs) to
+ends_right es fs None e = tt
+ends_right es fs (Some id) (link, seen, plain) = (link, sees_right es fs (Next id) link seen, plain)
 
 pub all_seen_left : (es fs : List (Event ChainNote)) (ids : List ℕ) → AllSeen es ids → AllSeen (es ++ fs) ids
 all_seen_left es fs [] all = tt

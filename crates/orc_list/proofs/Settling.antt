@@ -22,12 +22,13 @@ use Rattle.orc_history.specs.declared.set.ListRefused.TheVariants.{Again, NoNode
 use Rattle.orc_history.specs.declared.set.SetEntry.{SetEntry}
 use Rattle.orc_history.specs.declared.set.SetEntry.TheVariants.{Added, Asked, Removed}
 use Rattle.orc_chain_rule.proofs.Later.{above_later, follows_later}
-use Rattle.orc_chain_rule.specs.ChainDiscipline.{ChainMay, FollowsOn, IsAbove, entries_of}
+use Rattle.orc_chain_rule.specs.ChainDiscipline.{ChainHolds, ChainMay, FollowsOn, IsAbove, entries_of}
 use Rattle.orc_chain_rule.specs.declared.chain.ChainNote.{ChainNote}
 use Rattle.orc_list.specs.Answers.{AsksTurns, InsertAnswers, InsertCall, RemovesTurns}
-use Rattle.orc_list.specs.Inserts.{SeesAbsent}
+use Rattle.orc_list.specs.Inserts.{LeavesRunOff, SeesAbsent}
 use Rattle.orc_list.specs.Searches.{CoversLooks}
 use Rattle.orc_list.specs.Turns.{Answers, AreFew, AreOver, LeavesOff, Made, Tires}
+use Rattle.orc_list.proofs.Passing.{leaves_on}
 
 -- the entries of a call, by its answer
 abbrev pub entries_by : {E : Type 0} → (Bool → SetEntry) → Result Bool E → List SetEntry
@@ -184,6 +185,14 @@ module _ (s t u : Seat ChainNote) (o : Only [] t u) where
   absent_did n key turns (Err Again) l is all = cc
   absent_did n key turns (Err NoNode) l is all = absent_settled n key l.1 all l.3
   absent_did n key turns (Err (Spent why)) l is all = cc
+
+  -- an insert that answered true
+  pub leaves_did : (n : HeapNumbers) (key turns : ℕ) (r : Result Bool ListRefused) (l : InsertAnswers n key turns s r t) → r ≡ Ok true
+      → ChainHolds n t.seen → AllAllowed (ChainMay n) [] u.seen → LeavesRunOff key (insert_did n key turns r l).own (heap_of n u)
+  unfolding insert_did ended
+  leaves_did n key turns (Ok true) l is holds all = leaves_on n key l.1 t u o.puts holds all (l.3 refl)
+  leaves_did n key turns (Ok Bool.false) l is holds all = cc
+  leaves_did n key turns (Err e) l is holds all = cc
 
   -- where the call was alone, nothing stands behind what it did
   nothing_new : (own : List (Event ChainNote)) → 1 ≤ length own → (p : Puts s own t) (w : Puts s own u) → AllOwn s.agent (from_own s.agent w.part)

@@ -299,6 +299,7 @@ passed_none n root wanted least left first s t w =
       apart = (w.apart.1.0, (w.apart.1.1.0, (tt, tt)));
       behind = w.behind;
       above = tt;
+      ends = tt;
       few = visits_few n least w.own t w.visits;
     }
 
@@ -376,6 +377,7 @@ looks_above n root wanted left first at key next s t u w less g fresh all =
       apart = w.apart.1;
       behind = j.behind;
       above = (key, j.is_of.has_key, less);
+      ends = (link_over (node_of next w.next_id), k.sees, refl);
       few = visits_few n (key + 1) w.own t k.visits;
     }
 

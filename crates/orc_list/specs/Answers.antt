@@ -2,7 +2,7 @@
 use Rattle.std.specs.Prelude.{Bool, Err, List, None, Ok, Option, Result, Some, [], false, true, ℕ, ◌∷◌, ◌≡◌, ◌≢◌, ◌≤◌}
 use Rattle.orc_fault.specs.declared.Again.{Again as AgainFault}
 use Rattle.orc_heap.specs.Heap.{HeapNumbers}
-use Rattle.orc_heap.specs.Seats.{Seat}
+use Rattle.orc_heap.specs.Seats.{Seat, heap_of}
 use Rattle.orc_heap.specs.declared.events.Event.{Event}
 use Rattle.orc_heap.specs.Slots.{Hold}
 use Rattle.orc_history.specs.declared.set.ListRefused.{ListRefused}
@@ -10,7 +10,7 @@ use Rattle.orc_history.specs.declared.set.ListRefused.TheVariants.{Again, NoNode
 use Rattle.orc_history.specs.declared.set.SetEntry.{SetEntry}
 use Rattle.orc_history.specs.declared.set.SetEntry.TheVariants.{Added, Asked}
 use Rattle.orc_chain_rule.specs.declared.chain.ChainNote.{ChainNote}
-use Rattle.orc_list.specs.Inserts.{Inserts, SeesAbsent}
+use Rattle.orc_list.specs.Inserts.{Inserts, LeavesRunOff, SeesAbsent}
 use Rattle.orc_list.specs.Turns.{Answers, AreOver, Made, RemovesTurn, Tires}
 use Rattle.orc_list.specs.declared.insert.InsertTurn.{InsertTurn}
 use Rattle.orc_list.specs.declared.insert.InsertTurn.TheVariants.{Answered, NoNode, Over, Spent}
@@ -54,6 +54,7 @@ pub record InsertTires (turns : ℕ) (s t : Seat ChainNote) : Type 0 where
 -- an insert, by its answer
 abbrev pub InsertAnswers : HeapNumbers → ℕ → ℕ → Seat ChainNote → Result Bool ListRefused → Seat ChainNote → Type 0
 InsertAnswers n key turns s (Ok answer) t = (turns ≢ 0) × (own : List (Event ChainNote)) × InsertCall turns s own (Added s.agent key answer ∷ []) t
+    × (answer ≡ true → LeavesRunOff key own (heap_of n t))
 InsertAnswers n key turns s (Err Again) t = InsertTires turns s t
 InsertAnswers n key turns s (Err RefusedNoNode) t = (turns ≢ 0) × (own : List (Event ChainNote)) × InsertCall turns s own [] t × SeesAbsent n key own t
 InsertAnswers n key turns s (Err (RefusedSpent why)) t = (turns ≢ 0) × (own : List (Event ChainNote)) × InsertCall turns s own [] t

@@ -1,23 +1,25 @@
 -- What the turns of an insert do. After Harris 2001.
+use Rattle.std.specs.List.{Contains}
 use Rattle.std.specs.Prelude.{Bool, Err, List, None, Ok, Option, Result, Some, [], false, length, slice_get, slice_set, true, ℕ, ◌*◌, ◌+◌, ◌∷◌, ◌≡◌, ◌≤◌, ◌⊎◌}
 use Rattle.orc_fault.specs.declared.Spent.{Spent as SpentRow}
 use Rattle.orc_heap.specs.Calls.{Misses, event_of}
 use Rattle.orc_heap.specs.Hands.{Hands, HoldsId, hand}
-use Rattle.orc_heap.specs.Heap.{HeapNumbers}
+use Rattle.orc_heap.specs.Heap.{Heap, HeapNumbers}
 use Rattle.orc_heap.specs.Moves.{gives_in, moves_in}
 use Rattle.orc_heap.specs.OwnEvents.{Puts}
 use Rattle.orc_heap.specs.Seats.{Seat, heap_of}
 use Rattle.orc_heap.specs.Slots.{Hold, IsFree, Slots}
-use Rattle.orc_heap.specs.declared.events.Act.TheVariants.{Aim}
+use Rattle.orc_heap.specs.declared.events.Act.TheVariants.{Aim, Move}
 use Rattle.orc_heap.specs.declared.events.Event.{Event}
 use Rattle.orc_heap.specs.declared.events.Link.{Link}
 use Rattle.orc_heap.specs.declared.events.Place.{Place}
 use Rattle.orc_history.specs.declared.set.SetEntry.{SetEntry}
 use Rattle.orc_history.specs.declared.set.SetEntry.TheVariants.{Added}
-use Rattle.orc_chain_rule.specs.ChainDiscipline.{FollowsOn, IsAbove, entries_of}
+use Rattle.orc_chain_rule.specs.ChainDiscipline.{FollowsOn, IsAbove, IsOnNoChain, IsRun, entries_of}
 use Rattle.orc_chain_rule.specs.Watches.{node_to_add}
 use Rattle.orc_chain_rule.specs.declared.chain.ChainNote.{ChainNote}
-use Rattle.orc_list.specs.Searches.{HasRoom, IsFew, LeadsOver, Sees, SeesRun, node_of}
+use Rattle.orc_chain_rule.specs.declared.chain.ChainNote.TheVariants.{Entry}
+use Rattle.orc_list.specs.Searches.{EndsRun, HasRoom, IsFew, LeadsOver, Sees, SeesRun, node_of}
 use Rattle.orc_list.specs.Turns.{AreOver, Made}
 use Rattle.orc_list.specs.declared.insert.InsertTurn.{InsertTurn}
 use Rattle.orc_list.specs.declared.insert.InsertTurn.TheVariants.{Answered, NoNode, Over, Spent}
@@ -34,6 +36,26 @@ pub record SeesAbsent (n : HeapNumbers) (key : ℕ) (es : List (Event ChainNote)
   pub to : Option ℕ
   pub sees_run : SeesRun es from over to
   pub above : IsAbove (heap_of n t) to key
+
+-- one of these events adds the key: it leads the place from this link to a node
+abbrev pub AddsKey : List (Event ChainNote) → ℕ → Place → Link → Type 0
+AddsKey [] key place from = ⊥
+AddsKey (e ∷ es) key place from =
+    ((to : Link) × (e.act ≡ Move place from to) × (e.note ≡ Some (Entry (Added e.agent key true)))) ⊎ AddsKey es key place from
+
+-- these events added the key at a place whose link one of them had found unmarked. From that link a run of marked nodes led to null, or
+-- to a node whose link they found unmarked; and no node of the run is on a chain. After Harris 2001
+pub record LeavesRunOff (key : ℕ) (es : List (Event ChainNote)) (h : Heap) : Type 0 where
+  pub place : Place
+  pub from : Link
+  pub plain : from.mark ≡ false
+  pub sees : Sees es place from
+  pub adds : AddsKey es key place from
+  pub over : List ℕ
+  pub to : Option ℕ
+  pub run : IsRun h from over to
+  pub ends : EndsRun es to
+  pub off : (id : ℕ) → Contains over id → IsOnNoChain h id
 
 -- how many nodes were given, where none is let go
 abbrev pub count_of : Option Hold → ℕ
@@ -98,12 +120,13 @@ pub record AddsAt (n : HeapNumbers) (root key : ℕ) (left first right : Option 
   pub hands : Hands slots t.slots (hand left left_id ∷ hand first first_id ∷ hand right right_id ∷ [])
   pub leads : LeadsOver n root key left first left_id first_id (node_of right right_id) s own t puts.part
   pub above : IsAbove (heap_of n t) (node_of right right_id) key
+  pub ends : EndsRun own (node_of right right_id)
   pub id : ℕ
   pub kept : HoldsId slots node id
   pub holds : HoldsKey n key node id t
 
--- the node was aimed and linked, and so the key is added
-pub record LinksNode (key : ℕ) (s u : Seat ChainNote) : Type 0 where
+-- the node was aimed and linked, and so the key is added; and each run of marked nodes from the link to the target is off the chain
+pub record LinksNode (n : HeapNumbers) (key : ℕ) (place : Place) (from : Link) (to : Option ℕ) (s u : Seat ChainNote) : Type 0 where
   pub own : List (Event ChainNote)
   pub puts : Puts s own u
   pub slots : u.slots ≡ s.slots
@@ -111,6 +134,8 @@ pub record LinksNode (key : ℕ) (s u : Seat ChainNote) : Type 0 where
   pub entries_are : entries_of own ≡ Added s.agent key true ∷ []
   pub no_give : gives_in own ≡ 0
   pub short : length own ≤ 2
+  pub adds : AddsKey own key place from
+  pub off : (over : List ℕ) → IsRun (heap_of n s) from over to → (id : ℕ) → Contains over id → IsOnNoChain (heap_of n u) id
 
 -- it was aimed, and then the place showed another link than this one
 pub record LinkMissed (n : HeapNumbers) (key : ℕ) (h : Hold) (id : ℕ) (place : Place) (link : Link) (s u : Seat ChainNote) : Type 0 where
@@ -132,10 +157,10 @@ pub record LinkRefused (s u : Seat ChainNote) : Type 0 where
   pub short : length own ≤ 1
 
 -- by the answer
-abbrev pub LinksTo : HeapNumbers → ℕ → Hold → ℕ → Place → Link → Seat ChainNote → Result Bool SpentRow → Seat ChainNote → Type 0
-LinksTo n key h id place link s (Ok true) u = LinksNode key s u
-LinksTo n key h id place link s (Ok false) u = LinkMissed n key h id place link s u
-LinksTo n key h id place link s (Err why) u = LinkRefused s u
+abbrev pub LinksTo : HeapNumbers → ℕ → Hold → ℕ → Place → Link → Option ℕ → Seat ChainNote → Result Bool SpentRow → Seat ChainNote → Type 0
+LinksTo n key h id place link to s (Ok true) u = LinksNode n key place link to s u
+LinksTo n key h id place link to s (Ok false) u = LinkMissed n key h id place link s u
+LinksTo n key h id place link to s (Err why) u = LinkRefused s u
 
 -- so many turns that are over
 pub record InsertsOn (n : HeapNumbers) (key turns : ℕ) (slots : Slots) (node kept : Option Hold) (s t : Seat ChainNote) : Type 0 where
@@ -158,7 +183,7 @@ pub record InsertEnds (turns : ℕ) (slots : Slots) (node kept : Option Hold) (s
 abbrev pub Inserts : HeapNumbers → ℕ → ℕ → Slots → Option Hold → Seat ChainNote → InsertTurn → Option Hold → Seat ChainNote → Type 0
 Inserts n key turns slots node s Over kept t = InsertsOn n key turns slots node kept s t
 Inserts n key turns slots node s (Answered answer) kept t = (own : List (Event ChainNote)) × InsertEnds turns slots node kept s own
-    (Added s.agent key answer ∷ []) t
+    (Added s.agent key answer ∷ []) t × (answer ≡ true → LeavesRunOff key own (heap_of n t))
 Inserts n key turns slots node s NoNode kept t = (own : List (Event ChainNote)) × InsertEnds turns slots node kept s own [] t × SeesAbsent n key own t
 Inserts n key turns slots node s (Spent why) kept t = (own : List (Event ChainNote)) × InsertEnds turns slots node kept s own [] t
 
@@ -180,6 +205,7 @@ pub record AddEnds (given : ℕ) (slots : Slots) (s : Seat ChainNote) (entries :
 abbrev pub AddsNode : HeapNumbers → ℕ → Hold → ℕ → ℕ → Slots → Seat ChainNote → InsertTurn → Seat ChainNote → Type 0
 AddsNode n key h id given slots s Over u = AddOver n key h id given slots s u
 AddsNode n key h id given slots s (Answered false) u = ⊥
-AddsNode n key h id given slots s (Answered true) u = AddEnds given slots s (Added s.agent key true ∷ []) None u
+AddsNode n key h id given slots s (Answered true) u =
+    (e : AddEnds given slots s (Added s.agent key true ∷ []) None u) × LeavesRunOff key e.own (heap_of n u)
 AddsNode n key h id given slots s NoNode u = ⊥
 AddsNode n key h id given slots s (Spent why) u = AddEnds given slots s [] (Some id) u

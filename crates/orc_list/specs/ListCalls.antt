@@ -10,7 +10,7 @@ use Rattle.orc_history.specs.declared.set.SetEntry.{SetEntry}
 use Rattle.orc_chain_rule.specs.ChainDiscipline.{entries_in}
 use Rattle.orc_chain_rule.specs.declared.chain.ChainNote.{ChainNote}
 use Rattle.orc_list.specs.Causes.{CostTurns, HasWorn, UsesTurns, WithinPart}
-use Rattle.orc_list.specs.Inserts.{SeesAbsent}
+use Rattle.orc_list.specs.Inserts.{LeavesRunOff, SeesAbsent}
 use Rattle.orc_list.specs.Turns.{AreFew, LeavesOff, MarksAlone}
 
 module _ {L D P S : Type 0} (members : LinksOf L D P S ChainNote) (links : L) where
@@ -70,6 +70,10 @@ module _ {L D P S : Type 0} (members : LinksOf L D P S ChainNote) (links : L) wh
   -- the node at which the call took the key out is on no chain, nor is a node of the run that its Looks found before that
   abbrev pub LeavesOffChain : ℕ → P → P → Type 0
   LeavesOffChain key old new = LeavesOff key (call_events old new) (heap members links new)
+
+  -- the run of marked nodes at which the call's Looks found the place for the key, up to null or an unmarked node, is on no chain
+  abbrev pub LeavesRunOffChain : ℕ → P → P → Type 0
+  LeavesRunOffChain key old new = LeavesRunOff key (call_events old new) (heap members links new)
 
   -- one event of the call takes the key out at a node, and it is the call's only Move: no place was led past the node
   abbrev pub LeavesMarked : ℕ → P → P → Type 0

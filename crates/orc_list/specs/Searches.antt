@@ -32,6 +32,11 @@ abbrev pub SeesRun : List (Event ChainNote) → Link → List ℕ → Option ℕ
 SeesRun es link [] to = link.to ≡ to
 SeesRun es link (id ∷ ids) to = (link.to ≡ Some id) × (next : Link) × Sees es (Next id) next × (next.mark ≡ true) × SeesRun es next ids to
 
+-- a run ends there: at null, or at a node whose link one of these events found unmarked
+abbrev pub EndsRun : List (Event ChainNote) → Option ℕ → Type 0
+EndsRun es None = Unit {0}
+EndsRun es (Some id) = (link : Link) × Sees es (Next id) link × (link.mark ≡ false)
+
 -- each node at whose link one of these events looked is one of these
 abbrev pub CoversLooks : List ℕ → List (Event ChainNote) → Type 0
 CoversLooks ids es = (id : ℕ) (link : Link) → Sees es (Next id) link → has id ids ≡ true
@@ -175,7 +180,7 @@ pub record Passed (n : HeapNumbers) (root wanted least : ℕ) (left first next :
   pub next_is : NextIsOf n wanted least (node_of next next_id) t
   pub visits : Visits n least own t
 
--- the key is absent between the left place and the right node
+-- the key is absent between the left place and the right node, which showed an unmarked link in this search
 pub record FindsAbsent (n : HeapNumbers) (root wanted : ℕ) (left first right : Option Hold) (s t : Seat ChainNote) : Type 0 where
   pub own : List (Event ChainNote)
   pub left_id : ℕ
@@ -185,6 +190,7 @@ pub record FindsAbsent (n : HeapNumbers) (root wanted : ℕ) (left first right :
   pub apart : IsApart 1 (hand left left_id ∷ hand first first_id ∷ hand right right_id ∷ [])
   pub behind : Behind n root wanted left first left_id first_id (node_of right right_id) s own t
   pub above : IsAbove (heap_of n t) (node_of right right_id) wanted
+  pub ends : EndsRun own (node_of right right_id)
   pub few : IsFew 2 own
 
 -- this node has the key, and showed an unmarked link to the next one in this search

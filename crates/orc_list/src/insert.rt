@@ -73,7 +73,7 @@ fn link_node<L: Links<Rule = Chain>>(
     ensures later { IsPrefix (L.journal p.old) (L.journal p.new) }
     ensures linked { (id : ℕ) → HoldsKey (L.numbers links.now) key node.now id (L.seat links.now p.old)
         → LinksTo (L.numbers links.now) key node.now id (place_at (L.seat links.now p.old).slots root left.now) (link_over (target_at
-        (L.seat links.now p.old).slots (first_or first.now right.now)))
+        (L.seat links.now p.old).slots (first_or first.now right.now))) (target_at (L.seat links.now p.old).slots right.now)
         (L.seat links.now p.old) result (L.seat links.now p.new) }
     ensures worn { IfErr result (λ e. Within (length (L.journal p.old)) (length (L.journal p.new)) (L.worn links.now (L.seat links.now p.old).agent e
         (L.journal p.new))) }

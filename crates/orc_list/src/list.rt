@@ -6,7 +6,8 @@ ghost use Rattle.orc_heap.specs.Domains.{IsCallAlone, MakesNoEvent, agent};
 ghost use Rattle.orc_heap.specs.Seats.{IsIdle};
 ghost use Rattle.orc_history.specs.declared.set.ListRefused.{ListRefused};
 ghost use Rattle.orc_history.specs.declared.set.SetEntry.{SetEntry};
-ghost use Rattle.orc_list.specs.ListCalls.{CostsOthers, Enters, EntersNone, FindsAbsent, FindsNoneWorn, FindsWorn, GivesAtMost, IsRootOf, LacksRow, LeavesMarked, LeavesOffChain, LooksAlone, MakesFew, UsesAllTurns};
+ghost use Rattle.orc_list.specs.ListCalls.{CostsOthers, Enters, EntersNone, FindsAbsent, FindsNoneWorn, FindsWorn, GivesAtMost, IsRootOf, LacksRow};
+ghost use Rattle.orc_list.specs.ListCalls.{LeavesMarked, LeavesOffChain, LeavesRunOffChain, LooksAlone, MakesFew, UsesAllTurns};
 
 use crate::answer::ask_turns;
 use crate::insert::insert_key;
@@ -51,6 +52,9 @@ impl<L: Links<Rule = Chain>> List<L> {
     /// Adds a key, and answers true where it was absent, in at most `turns` tries. Its agent makes at most two events in
     /// each try for each node at whose link it looked, and 4, and 3 more for the new node.
     ///
+    /// An insert that answered true leaves the marked nodes that it found at the place for the key on no chain, whatever
+    /// other agents do.
+    ///
     /// # Errors
     ///
     /// * `Again` if all tries were used up, each by a Move of another agent: one try for each key that was added meanwhile, two
@@ -82,6 +86,7 @@ impl<L: Links<Rule = Chain>> List<L> {
         ensures spent { (why : Spent) → result ≡ Err (ListRefused.Spent why) → FindsWorn L.Links self.now.links why p.old p.new }
         ensures gives { GivesAtMost L.Links self.now.links 1 p.old p.new }
         ensures tries { MakesFew L.Links self.now.links turns 3 p.old p.new }
+        ensures off_the_chain { result ≡ Ok true → LeavesRunOffChain L.Links self.now.links key p.old p.new }
         ensures settled { IsCallAlone L.Links self.now.links p.old p.new → L.backlog p.new ≡ 0 }
     {
         let answer = insert_key(&self.links, p, root, key, turns);

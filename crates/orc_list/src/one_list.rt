@@ -7,7 +7,7 @@ ghost use Rattle.orc_history.specs.Journals.{Within};
 ghost use Rattle.orc_history.specs.declared.set.ListRefused.{ListRefused};
 ghost use Rattle.orc_history.specs.declared.set.SetEntry.{SetEntry};
 ghost use Rattle.orc_list.specs.ListCalls.{CostsOthers, Enters, EntersNone, FindsAbsent, FindsNoneWorn, FindsWorn, GivesAtMost, LacksRow};
-ghost use Rattle.orc_list.specs.ListCalls.{LeavesMarked, LeavesOffChain, LooksAlone, MakesFew, UsesAllTurns};
+ghost use Rattle.orc_list.specs.ListCalls.{LeavesMarked, LeavesOffChain, LeavesRunOffChain, LooksAlone, MakesFew, UsesAllTurns};
 ghost use Rattle.orc_list.specs.SetMembers.{HasCause, IsUsable, set_history};
 ghost use Rattle.orc_list.specs.Laws.SetLaws.{cause_stays, entries_below, history_grows, seen_legal};
 
@@ -128,6 +128,7 @@ impl<L: Links<Rule = Chain>> SharedSet for OneList<L> {
         ensures spent { (why : Spent) → result ≡ Err (ListRefused.Spent why) → FindsWorn L.Links self.now.list.links why p.old p.new }
         ensures gives { GivesAtMost L.Links self.now.list.links 1 p.old p.new }
         ensures tries { MakesFew L.Links self.now.list.links turns 3 p.old p.new }
+        ensures off_the_chain { result ≡ Ok true → LeavesRunOffChain L.Links self.now.list.links key p.old p.new }
         ensures settled { IsCallAlone L.Links self.now.list.links p.old p.new → L.backlog p.new ≡ 0 }
     {
         self.list.insert(p, 0, key, turns)

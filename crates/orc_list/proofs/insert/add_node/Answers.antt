@@ -48,7 +48,7 @@ let_all_go-requires-clause-hands g c =
     let (given, slots, s, w) = c.requires.adds in
     let e = c.link_node-linked.ensures in (
       slots,
-      links_hand n a.root a.key a.spot.left a.spot.first a.spot.right a.node.now given slots s t w u _ _ c.link_node-linked.result
+      links_hand n a.root a.key a.spot.left a.spot.first a.spot.right a.node.now given slots s t w u _ _ _ c.link_node-linked.result
           (e.linked w.id w.holds) (g.met.L.Links.allowed d c.link_node-linked.new.p e.pass),
     )
 
@@ -62,14 +62,17 @@ returns-in-Ok-true-clause-added g c = λ given slots s w.
     let y = g.L.Links.seat d c.let_all_go.new.p in
     let e = c.link_node-linked.ensures in
     let linked = e.linked w.id w.holds in
-    let hand = links_hand n a.root a.key a.spot.left a.spot.first a.spot.right a.node.now given slots s t w u _ _ c.link_node-linked.result linked
+    let hand = links_hand n a.root a.key a.spot.left a.spot.first a.spot.right a.node.now given slots s t w u _ _ _ c.link_node-linked.result linked
     (g.met.L.Links.allowed d c.link_node-linked.new.p e.pass) in
-    let done : LinksTo n a.key a.node.now w.id (place_at t.slots a.root a.spot.left) (link_over (target_at t.slots (first_or a.spot.first a.spot.right))) t
+    let done : LinksTo n a.key a.node.now w.id (place_at t.slots a.root a.spot.left) (link_over (target_at t.slots (first_or a.spot.first a.spot.right)))
+    (target_at t.slots a.spot.right) t
     (Ok true) u =
     subst (λ (r : Result Bool Spent). LinksTo n a.key a.node.now w.id (place_at t.slots a.root a.spot.left)
-    (link_over (target_at t.slots (first_or a.spot.first a.spot.right))) t r u) (c.in-Ok-true.is ∙ ap (λ (b : Bool). Ok b) c.in-Ok-true.field-0-test)
+    (link_over (target_at t.slots (first_or a.spot.first a.spot.right))) (target_at t.slots a.spot.right) t r u) (c.in-Ok-true.is ∙ ap (λ (b : Bool). Ok b) c.in-Ok-true.field-0-test)
     linked in
     adds_linked n a.root a.key a.spot.left a.spot.first a.spot.right a.node.now given slots s t w u y done (c.let_all_go.ensures.gone slots hand)
+    (g.met.L.Links.obeys d c.link_node-linked.new.p e.pass) (g.met.L.Links.allowed d c.link_node-linked.new.p e.pass)
+    (g.met.L.Links.allowed d c.let_all_go.new.p c.let_all_go.ensures.pass)
 
 pub returns-in-Ok-false-clause-added : goal.returns-in-Ok-false-clause-added
 returns-in-Ok-false-clause-added g c = λ given slots s w.
@@ -83,11 +86,12 @@ returns-in-Ok-false-clause-added g c = λ given slots s w.
     let f = c.let_all_go.ensures in
     let linked = e.linked w.id w.holds in
     let all = g.met.L.Links.allowed d c.link_node-linked.new.p e.pass in
-    let hand = links_hand n a.root a.key a.spot.left a.spot.first a.spot.right a.node.now given slots s t w u _ _ c.link_node-linked.result linked all in
-    let done : LinksTo n a.key a.node.now w.id (place_at t.slots a.root a.spot.left) (link_over (target_at t.slots (first_or a.spot.first a.spot.right))) t
+    let hand = links_hand n a.root a.key a.spot.left a.spot.first a.spot.right a.node.now given slots s t w u _ _ _ c.link_node-linked.result linked all in
+    let done : LinksTo n a.key a.node.now w.id (place_at t.slots a.root a.spot.left) (link_over (target_at t.slots (first_or a.spot.first a.spot.right)))
+    (target_at t.slots a.spot.right) t
     (Ok false) u =
     subst (λ (r : Result Bool Spent). LinksTo n a.key a.node.now w.id (place_at t.slots a.root a.spot.left)
-    (link_over (target_at t.slots (first_or a.spot.first a.spot.right))) t r u) (c.in-Ok-false.is ∙ ap (λ (b : Bool). Ok b) c.in-Ok-false.field-0-test)
+    (link_over (target_at t.slots (first_or a.spot.first a.spot.right))) (target_at t.slots a.spot.right) t r u) (c.in-Ok-false.is ∙ ap (λ (b : Bool). Ok b) c.in-Ok-false.field-0-test)
     linked in
     adds_missed n a.root a.key a.spot.left a.spot.first a.spot.right a.node.now given slots s t w u y done (f.gone slots hand)
     (g.met.L.Links.obeys d c.link_node-linked.new.p e.pass) all (g.met.L.Links.allowed d c.let_all_go.new.p f.pass)
@@ -102,12 +106,13 @@ returns-in-Err-clause-added g c = λ given slots s w.
     let y = g.L.Links.seat d c.let_all_go.new.p in
     let e = c.link_node-linked.ensures in
     let linked = e.linked w.id w.holds in
-    let hand = links_hand n a.root a.key a.spot.left a.spot.first a.spot.right a.node.now given slots s t w u _ _ c.link_node-linked.result linked
+    let hand = links_hand n a.root a.key a.spot.left a.spot.first a.spot.right a.node.now given slots s t w u _ _ _ c.link_node-linked.result linked
     (g.met.L.Links.allowed d c.link_node-linked.new.p e.pass) in
-    let done : LinksTo n a.key a.node.now w.id (place_at t.slots a.root a.spot.left) (link_over (target_at t.slots (first_or a.spot.first a.spot.right))) t
+    let done : LinksTo n a.key a.node.now w.id (place_at t.slots a.root a.spot.left) (link_over (target_at t.slots (first_or a.spot.first a.spot.right)))
+    (target_at t.slots a.spot.right) t
     (Err c.in-Err.spent) u =
     subst (λ (r : Result Bool Spent). LinksTo n a.key a.node.now w.id (place_at t.slots a.root a.spot.left)
-    (link_over (target_at t.slots (first_or a.spot.first a.spot.right))) t r u) c.in-Err.is linked in
+    (link_over (target_at t.slots (first_or a.spot.first a.spot.right))) (target_at t.slots a.spot.right) t r u) c.in-Err.is linked in
     adds_refused n a.root a.key a.spot.left a.spot.first a.spot.right a.node.now given slots s t w u y done (c.let_all_go.ensures.gone slots hand)
 
 pub returns-in-Err-clause-worn : goal.returns-in-Err-clause-worn

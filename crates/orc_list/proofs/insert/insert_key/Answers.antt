@@ -6,6 +6,7 @@ use Rattle.orc_list.specs.declared.insert.InsertTurn.{InsertTurn}
 use Rattle.orc_list.specs.declared.insert.InsertTurn.TheVariants.{Spent as TurnSpent}
 use Rattle.orc_list.proofs.Inserting.{ends_held, idle_room, insert_absent, insert_call, insert_tires, spent_same}
 use Rattle.orc_list.proofs.Parting.{part_goes_on}
+use Rattle.orc_list.proofs.Passing.{leaves_on}
 use Rattle.orc_list.proofs.insert.insert_key.Goals as goal
 
 pub insert_turns-turn-requires-clause-room : goal.insert_turns-turn-requires-clause-room
@@ -38,8 +39,15 @@ returns-in-Answered-clause-inserted g c =
     let t = g.L.Links.seat d c.insert_turns-turn.new.p in
     let u = g.L.Links.seat d c.let_go.new.p in
     let kept = c.insert_turns-turn.result.1 in
-    let f = subst (λ (turn : InsertTurn). InsertsTurns n c.args.key c.args.turns s turn kept t) c.in-Answered.is c.insert_turns-turn.ensures.inserted in
-    (f.0, f.1.0, insert_call n c.args.key c.args.turns kept s t u (idle_room s c.requires.idle) c.let_go.ensures.let_go f.1.0 _ f.1.1)
+    let e = c.insert_turns-turn.ensures in
+    let h = c.let_go.ensures in
+    let f = subst (λ (turn : InsertTurn). InsertsTurns n c.args.key c.args.turns s turn kept t) c.in-Answered.is e.inserted in (
+      f.0,
+      f.1.0,
+      insert_call n c.args.key c.args.turns kept s t u (idle_room s c.requires.idle) h.let_go f.1.0 _ f.1.1,
+      λ yes. leaves_on n c.args.key f.1.0 t u h.let_go.puts (g.met.L.Links.obeys d c.insert_turns-turn.new.p e.pass)
+          (g.met.L.Links.allowed d c.let_go.new.p h.pass) (f.1.2 yes),
+    )
 
 pub returns-in-NoNode-clause-inserted : goal.returns-in-NoNode-clause-inserted
 returns-in-NoNode-clause-inserted g c =

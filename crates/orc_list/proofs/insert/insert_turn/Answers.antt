@@ -69,7 +69,9 @@ returns-then-enter_present-clause-inserted g c = λ slots room k.
     let agent = c.agent-agent.ensures ∙ c.in-Present.ensures.found.behind.quiet.puts.agent in
     let done = subst (λ (b : Bool). Enters (Added c.agent-agent.result a.key false) s b u) c.if-enter_present.true
     (c.enter_present.ensures.entered s c.in-Present.ensures.found) in
-    keeps_answer n a.key a.node slots (Added s.agent a.key false) s u k (subst (λ (x : ℕ). Enters (Added x a.key false) s true u) agent done)
+    let (own, ends) = keeps_answer n a.key a.node slots (Added s.agent a.key false) s u k
+    (subst (λ (x : ℕ). Enters (Added x a.key false) s true u) agent done) in
+    (own, ends, λ yes. cc)
 
 pub returns-else-enter_present-clause-inserted : goal.returns-else-enter_present-clause-inserted
 returns-else-enter_present-clause-inserted g c = λ slots room k.

@@ -99,7 +99,8 @@ returns-clause-linked g c = λ id k.
     k.fresh in
     links_to n a.key c.agent-agent.result a.node.now id to s t u (place_at s.slots a.root a.left.now)
     (link_over (target_at s.slots (first_or a.first.now a.right.now))) _ _ _ c.swing.result k only c.agent-agent.ensures place_is from_is refl
-    (g.met.L.Links.obeys d a.p.now c.requires.pass) (g.met.L.Links.allowed d c.swing.new.p f.pass) apart f.swung f.none
+    (g.met.L.Links.obeys d a.p.now c.requires.pass) (g.met.L.Links.obeys d c.aim.new.p e.pass) (g.met.L.Links.allowed d c.aim.new.p e.pass)
+    (g.met.L.Links.allowed d c.swing.new.p f.pass) apart f.swung f.none
 
 pub returns-clause-worn : goal.returns-clause-worn
 returns-clause-worn g c =

@@ -6,8 +6,9 @@ use Rattle.orc_history.specs.Parts.{IsAlone}
 use Rattle.orc_history.specs.declared.set.SetEntry.{SetEntry}
 use Rattle.orc_history.specs.declared.set.SetEntry.TheVariants.{Added}
 use Rattle.orc_list.proofs.Causes.{did_enter, did_few, did_give, did_not_enter, did_nothing, own_call, turns_used}
-use Rattle.orc_list.proofs.Settling.{absent_did, idle_settled, insert_did, insert_keeps}
-use Rattle.orc_list.specs.Inserts.{SeesAbsent}
+use Rattle.orc_list.proofs.Settling.{absent_did, idle_settled, insert_did, insert_keeps, leaves_did}
+use Rattle.orc_heap.specs.Seats.{heap_of}
+use Rattle.orc_list.specs.Inserts.{LeavesRunOff, SeesAbsent}
 use Rattle.orc_list.proofs.Parts.{within_goes_on}
 use Rattle.orc_list.proofs.list.List.insert.Goals as goal
 
@@ -55,6 +56,8 @@ returns g c =
           (done.lacking is);
       absent = λ is. subst (λ z. SeesAbsent n c.args.key z u) (sym (own_call 1 turns entry s u r did))
           (absent_did s t u settle.nothing n c.args.key turns r done.inserted is all);
+      off_the_chain = λ is. subst (λ z. LeavesRunOff c.args.key z (heap_of n u)) (sym (own_call 1 turns entry s u r did))
+          (leaves_did s t u settle.nothing n c.args.key turns r done.inserted is (g.met.L.Links.obeys d c.insert_key-answer.new.p done.pass) all);
       spent = λ why is. within_goes_on by s.agent (g.L.Links.worn d s.agent why) (g.met.L.Links.worn_stays d s.agent why) j k m done.later settle.later
           (done.worn why is);
       settled = λ alone. settle.settled (subst (λ (x : ℕ). IsAlone by x k m) (sym keeps.1) (alone_later by s.agent j k m done.later settle.later alone));
