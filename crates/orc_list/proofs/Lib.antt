@@ -2,6 +2,7 @@ pub mod Seen
 pub mod Quiets
 pub mod Held
 pub mod Stepping
+pub mod Running
 pub mod Starting
 pub mod Making
 pub mod Answering

@@ -1,5 +1,5 @@
 -- What a search finds: where a key belongs on its chain. After Harris 2001.
-use Rattle.std.specs.Prelude.{Bool, List, None, Option, Some, [], false, length, slice_set, true, ℕ, ◌%◌, ◌*◌, ◌+◌, ◌<◌, ◌∷◌, ◌≡◌, ◌≤◌, ◌⊎◌}
+use Rattle.std.specs.Prelude.{Bool, Err, List, None, Ok, Option, Result, Some, [], false, length, slice_set, true, ℕ, ◌%◌, ◌*◌, ◌+◌, ◌<◌, ◌∷◌, ◌≡◌, ◌≤◌, ◌⊎◌}
 use Rattle.orc_heap.specs.Allowed.{HasLink, IsLinkedNode}
 use Rattle.orc_heap.specs.Calls.{unless_node}
 use Rattle.orc_heap.specs.Hands.{Hands, IsApart, hand}
@@ -14,6 +14,9 @@ use Rattle.orc_heap.specs.declared.events.Event.{Event}
 use Rattle.orc_heap.specs.declared.events.Link.{Link}
 use Rattle.orc_heap.specs.declared.events.Place.{Place}
 use Rattle.orc_heap.specs.declared.events.Place.TheVariants.{Next, Root}
+use Rattle.orc_heap.specs.declared.holds.Looked.{Looked}
+use Rattle.orc_heap.specs.declared.holds.Looked.TheVariants.{Moved, Stable}
+use Rattle.orc_heap.specs.declared.holds.Seen.{Seen}
 use Rattle.orc_history.specs.SetHistory.{has}
 use Rattle.orc_chain_rule.specs.declared.chain.ChainNote.{ChainNote}
 use Rattle.orc_chain_rule.specs.ChainDiscipline.{FollowsOn, HasKey, IsAbove, IsRun, entries_of, link_over}
@@ -228,6 +231,16 @@ pub record Stops (n : HeapNumbers) (root wanted : ℕ) (left first : Option Hold
   pub has_key : HasKey (heap_of n t) id key
   pub moved : 1 ≤ moves_in (from_own s.agent behind.quiet.puts.part)
   pub few : IsFew 4 own
+
+-- by what the look found
+abbrev pub LooksBy : HeapNumbers → ℕ → ℕ → Option Hold → Option Hold → Hold → ℕ → Seat ChainNote → Looked → Seat ChainNote → Type 0
+LooksBy n root wanted left first at key s (Stable seen next) t = LooksOn n root wanted left first at key seen.mark next s t
+LooksBy n root wanted left first at key s Moved t = Stops n root wanted left first at s t
+
+-- the look found an unmarked link to this node, or anything else
+abbrev pub FindsPlain : Looked → Result Hold Looked → Type 0
+FindsPlain looked (Ok next) = (seen : Seen) × (looked ≡ Stable seen (Some next)) × (seen.mark ≡ false)
+FindsPlain looked (Err other) = other ≡ looked
 
 -- the slots, and the fresh node, once this node is let go
 abbrev pub slots_without : Slots → Option Hold → Slots

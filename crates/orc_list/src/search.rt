@@ -1,10 +1,10 @@
 //! The search for the place of a key.
 
-ghost use Rattle.std.specs.Prelude.{◌≡◌, ◌+◌, ◌<◌, ◌%◌, ℕ, false, true};
+ghost use Rattle.std.specs.Prelude.{◌≡◌, ◌+◌, ◌<◌, ◌%◌, ℕ, None, Some, false, true};
 ghost use mathlib.Core.List.{IsPrefix};
 ghost use Rattle.orc_heap.specs.Seats.{Seat};
 ghost use Rattle.orc_chain_rule.specs.declared.chain.ChainNote.{ChainNote};
-ghost use Rattle.orc_list.specs.Searches.{Finds, FindsMoved, HasRoom, LooksOn, Passed, StepsTo, Stops, Walks};
+ghost use Rattle.orc_list.specs.Searches.{Finds, FindsMoved, FindsPlain, HasRoom, LooksBy, LooksOn, Passed, StepsTo, Stops, Walks};
 
 use crate::spot::{Spot, keep_first, let_all_go, let_go, slot_of, spare_slot};
 use orc_chain_rule::Chain;
@@ -198,6 +198,33 @@ fn stop<L: Links<Rule = Chain>>(links: &L, p: &mut L::Pass, root: u32, wanted: u
     let_all_go(links, p, left, first, Some(at), None);
 }
 
+// Goes on by what the look at the link of that node found.
+fn step_by<L: Links<Rule = Chain>>(
+    links: &L,
+    p: &mut L::Pass,
+    root: u32,
+    wanted: u64,
+    walk: Walk,
+    looked: Looked,
+) -> Stepped
+    requires pass { L.belongs links.now p.old }
+    requires looked { (s : Seat ChainNote) × LooksBy (L.numbers links.now) root wanted walk.left walk.first walk.at walk.key s looked
+        (L.seat links.now p.old) }
+    ensures pass { L.belongs links.now p.new }
+    ensures later { IsPrefix (L.journal p.old) (L.journal p.new) }
+    ensures stepped { (s : Seat ChainNote) → LooksBy (L.numbers links.now) root wanted walk.left walk.first walk.at walk.key s looked
+        (L.seat links.now p.old)
+        → StepsTo (L.numbers links.now) root wanted (walk.key + 1) s result (L.seat links.now p.new) }
+{
+    match looked {
+        Looked::Stable(seen, next) => step_from(links, p, root, wanted, walk, seen.mark, next),
+        Looked::Moved => {
+            stop(links, p, root, wanted, walk);
+            Stepped::End(Searched::Over)
+        }
+    }
+}
+
 // Looks at the link of the node that the search has come to.
 fn step<L: Links<Rule = Chain>>(
     links: &L,
@@ -216,12 +243,135 @@ fn step<L: Links<Rule = Chain>>(
         → StepsTo (L.numbers links.now) root wanted (walk.key + 1) s result (L.seat links.now p.new) }
 {
     let slot = spare_slot(slot_of(&walk.left), slot_of(&walk.first), walk.at.slot());
-    match links.look(p, &At::Node(&walk.at), slot) {
-        Looked::Stable(seen, next) => step_from(links, p, root, wanted, walk, seen.mark, next),
-        Looked::Moved => {
-            stop(links, p, root, wanted, walk);
-            Stepped::End(Searched::Over)
+    let looked = links.look(p, &At::Node(&walk.at), slot);
+    step_by(links, p, root, wanted, walk, looked)
+}
+
+// The node to which an unmarked link led, or else what the look found.
+#[inline(always)]
+fn plain_next(looked: Looked) -> Result<Held, Looked>
+    ensures { FindsPlain looked result }
+{
+    match looked {
+        Looked::Stable(seen, next) => {
+            if seen.mark {
+                return Err(Looked::Stable(seen, next));
+            }
+            match next {
+                Some(next) => Ok(next),
+                None => Err(Looked::Stable(seen, None)),
+            }
         }
+        Looked::Moved => Err(Looked::Moved),
+    }
+}
+
+// Goes on over unmarked nodes with lower keys, and then one step more. The two nodes in hand stand in variables of their own, and
+// so in registers: most steps of a search are of this kind.
+fn pass_lower<L: Links<Rule = Chain>>(
+    links: &L,
+    p: &mut L::Pass,
+    root: u32,
+    wanted: u64,
+    left: Held,
+    at: Held,
+    key: u64,
+) -> Stepped
+    requires pass { L.belongs links.now p.old }
+    requires walks { (s : Seat ChainNote) × HasRoom s.slots × Walks (L.numbers links.now) root wanted (Some left) None at key s
+        (L.seat links.now p.old) }
+    ensures pass { L.belongs links.now p.new }
+    ensures later { IsPrefix (L.journal p.old) (L.journal p.new) }
+    ensures stepped { (s : Seat ChainNote) → HasRoom s.slots → Walks (L.numbers links.now) root wanted (Some left) None at key s
+        (L.seat links.now p.old)
+        → StepsTo (L.numbers links.now) root wanted (key + 1) s result (L.seat links.now p.new) }
+{
+    let mut left = left;
+    let mut at = at;
+    let mut key = key;
+    while key < wanted {
+        let slot = spare_slot(left.slot(), 8, at.slot());
+        match plain_next(links.look(p, &At::Node(&at), slot)) {
+            Ok(next) => {
+                links.release(p, left);
+                key = links.value(p, &next, 0);
+                left = at;
+                at = next;
+            }
+            Err(looked) => {
+                let walk = Walk {
+                    left: Some(left),
+                    first: None,
+                    at,
+                    key,
+                };
+                return step_by(links, p, root, wanted, walk, looked);
+            }
+        }
+    }
+    let walk = Walk {
+        left: Some(left),
+        first: None,
+        at,
+        key,
+    };
+    step(links, p, root, wanted, walk)
+}
+
+// Goes on as far as may be at once: over all unmarked nodes with lower keys, where no marked one is in hand, and else by one step.
+fn advance<L: Links<Rule = Chain>>(
+    links: &L,
+    p: &mut L::Pass,
+    root: u32,
+    wanted: u64,
+    walk: Walk,
+) -> Stepped
+    requires pass { L.belongs links.now p.old }
+    requires walks { (s : Seat ChainNote) × HasRoom s.slots × Walks (L.numbers links.now) root wanted walk.left walk.first walk.at walk.key s
+        (L.seat links.now p.old) }
+    ensures pass { L.belongs links.now p.new }
+    ensures later { IsPrefix (L.journal p.old) (L.journal p.new) }
+    ensures stepped { (s : Seat ChainNote) → HasRoom s.slots → Walks (L.numbers links.now) root wanted walk.left walk.first walk.at walk.key s
+        (L.seat links.now p.old)
+        → StepsTo (L.numbers links.now) root wanted (walk.key + 1) s result (L.seat links.now p.new) }
+{
+    let Walk {
+        left,
+        first,
+        at,
+        key,
+    } = walk;
+    match first {
+        Some(first) => {
+            let first = Some(first);
+            step(
+                links,
+                p,
+                root,
+                wanted,
+                Walk {
+                    left,
+                    first,
+                    at,
+                    key,
+                },
+            )
+        }
+        None => match left {
+            Some(left) => pass_lower(links, p, root, wanted, left, at, key),
+            None => step(
+                links,
+                p,
+                root,
+                wanted,
+                Walk {
+                    left: None,
+                    first: None,
+                    at,
+                    key,
+                },
+            ),
+        },
     }
 }
 
@@ -259,7 +409,7 @@ pub(crate) fn search<L: Links<Rule = Chain>>(
         Stepped::End(found) => return found,
     };
     loop {
-        match step(links, p, root, wanted, walk) {
+        match advance(links, p, root, wanted, walk) {
             Stepped::On(next) => walk = next,
             Stepped::End(found) => return found,
         }

@@ -1,0 +1,175 @@
+-- One unmarked node with a lower key after another.
+use Rattle.std.proofs.Common.{Bool, None, Result, Some, [], append-nil, arith, subst, sym, ◌+◌, ◌∙◌}
+use Rattle.orc_heap.proofs.Pieces.{goes_on}
+use Rattle.orc_heap.specs.Slots.{Hold}
+use Rattle.orc_heap.specs.declared.holds.Looked.{Looked}
+use Rattle.orc_list.specs.Searches.{FindsPlain, LooksBy}
+use Rattle.orc_list.proofs.Running.{looks_hold, lower_looked, lower_on, lower_released, passed_holds, steps_up, walk_holds}
+use Rattle.orc_list.proofs.Stepping.{passed_some, walk_free}
+use Rattle.orc_list.proofs.search.pass_lower.Goals as goal
+
+pub loop-key-init : goal.loop-key-init
+loop-key-init g c = record { pass = c.requires.pass; later = ([], append-nil _); up = omega arith; walks = λ s room w. w }
+
+pub look-requires-clause-place : goal.look-requires-clause-place
+look-requires-clause-place g c =
+    let d = c.args.links.now in
+    let (s, room, w) = c.requires.walks in
+    walk_holds (g.L.Links.numbers d) c.args.root c.args.wanted (Some c.loop-key.left) None c.loop-key.at c.loop-key.key s (g.L.Links.seat d c.loop-key.p)
+    (c.loop-key.invariant.walks s room w)
+
+pub look-requires-clause-slot : goal.look-requires-clause-slot
+look-requires-clause-slot g c =
+    let d = c.args.links.now in
+    let (s, room, w) = c.requires.walks in
+    let l = c.loop-key in
+    let k = c.spare_slot-slot.ensures in
+    walk_free (g.L.Links.numbers d) c.args.root c.args.wanted (Some l.left) None l.at l.key c.spare_slot-slot.result s (g.L.Links.seat d l.p) room
+    (l.invariant.walks s room w) k.range.0 k.range.1 (λ e. k.left (e ∙ sym c.slot.ensures)) (λ e. omega (arith, e, k.range.1))
+    (λ e. k.at (e ∙ sym c.slot-in-loop-key.ensures))
+
+pub release-requires-clause-held : goal.release-requires-clause-held
+release-requires-clause-held g c =
+    let d = c.args.links.now in
+    let (s, room, w) = c.requires.walks in
+    let n = g.L.Links.numbers d in
+    let l = c.loop-key in
+    let t = g.L.Links.seat d l.p in
+    let u = g.L.Links.seat d c.look.new.p in
+    let k = c.spare_slot-slot.ensures in
+    let e = c.look.ensures in
+    let found = subst (λ (r : Result Hold Looked). FindsPlain c.look.result r) c.in-Ok.is c.plain_next.ensures in
+    let on = lower_on n c.args.root c.args.wanted l.left l.at c.in-Ok.next l.key c.spare_slot-slot.result c.look.result s t u room
+    (l.invariant.walks s room w) k.range.0 k.range.1 (λ e. k.left (e ∙ sym c.slot.ensures)) (λ e. k.at (e ∙ sym c.slot-in-loop-key.ensures))
+    e.looked (g.met.L.Links.obeys d l.p l.invariant.pass) (g.met.L.Links.allowed d c.look.new.p e.pass) found in
+    looks_hold n c.args.root c.args.wanted l.left None l.at l.key Bool.false (Some c.in-Ok.next) s u on
+
+pub value-key-requires-clause-held : goal.value-key-requires-clause-held
+value-key-requires-clause-held g c =
+    let d = c.args.links.now in
+    let (s, room, w) = c.requires.walks in
+    let n = g.L.Links.numbers d in
+    let l = c.loop-key in
+    let t = g.L.Links.seat d l.p in
+    let u = g.L.Links.seat d c.look.new.p in
+    let v = g.L.Links.seat d c.release.new.p in
+    let k = c.spare_slot-slot.ensures in
+    let e = c.look.ensures in
+    let f = c.release.ensures in
+    let found = subst (λ (r : Result Hold Looked). FindsPlain c.look.result r) c.in-Ok.is c.plain_next.ensures in
+    let on = lower_on n c.args.root c.args.wanted l.left l.at c.in-Ok.next l.key c.spare_slot-slot.result c.look.result s t u room
+    (l.invariant.walks s room w) k.range.0 k.range.1 (λ e. k.left (e ∙ sym c.slot.ensures)) (λ e. k.at (e ∙ sym c.slot-in-loop-key.ensures))
+    e.looked (g.met.L.Links.obeys d l.p l.invariant.pass) (g.met.L.Links.allowed d c.look.new.p e.pass) found in
+    let passed = lower_released n c.args.root c.args.wanted l.left l.at l.key (Some c.in-Ok.next) s u v on c.loop-key-test.true f.released
+    (λ i h. g.met.L.Links.fresh_is d c.look.new.p i e.pass h) (λ i h. g.met.L.Links.fresh_is d c.release.new.p i f.pass h)
+    (g.met.L.Links.allowed d c.release.new.p f.pass) in
+    passed_holds n c.args.root c.args.wanted (l.key + 1) (Some l.at) None c.in-Ok.next s v passed
+
+pub loop-key-smaller : goal.loop-key-smaller
+loop-key-smaller g c =
+    let d = c.args.links.now in
+    let (s, room, w) = c.requires.walks in
+    let n = g.L.Links.numbers d in
+    let l = c.loop-key in
+    let t = g.L.Links.seat d l.p in
+    let u = g.L.Links.seat d c.look.new.p in
+    let v = g.L.Links.seat d c.release.new.p in
+    let k = c.spare_slot-slot.ensures in
+    let e = c.look.ensures in
+    let f = c.release.ensures in
+    let found = subst (λ (r : Result Hold Looked). FindsPlain c.look.result r) c.in-Ok.is c.plain_next.ensures in
+    let on = lower_on n c.args.root c.args.wanted l.left l.at c.in-Ok.next l.key c.spare_slot-slot.result c.look.result s t u room
+    (l.invariant.walks s room w) k.range.0 k.range.1 (λ e. k.left (e ∙ sym c.slot.ensures)) (λ e. k.at (e ∙ sym c.slot-in-loop-key.ensures))
+    e.looked (g.met.L.Links.obeys d l.p l.invariant.pass) (g.met.L.Links.allowed d c.look.new.p e.pass) found in
+    let passed = lower_released n c.args.root c.args.wanted l.left l.at l.key (Some c.in-Ok.next) s u v on c.loop-key-test.true f.released
+    (λ i h. g.met.L.Links.fresh_is d c.look.new.p i e.pass h) (λ i h. g.met.L.Links.fresh_is d c.release.new.p i f.pass h)
+    (g.met.L.Links.allowed d c.release.new.p f.pass) in
+    let o = c.value-key.ensures in
+    let x = g.L.Links.seat d c.value-key.new.p in
+    let next = passed_some n c.args.root c.args.wanted (l.key + 1) (Some l.at) None c.in-Ok.next c.value-key.result s v x passed o.nothing o.value
+    (g.met.L.Links.allowed d c.value-key.new.p o.pass) in
+    omega (arith, next.1, c.loop-key-test.true)
+
+pub loop-key-preserved : goal.loop-key-preserved
+loop-key-preserved g c =
+    let d = c.args.links.now in
+    let (s, room, w) = c.requires.walks in
+    let n = g.L.Links.numbers d in
+    let l = c.loop-key in
+    let t = g.L.Links.seat d l.p in
+    let u = g.L.Links.seat d c.look.new.p in
+    let v = g.L.Links.seat d c.release.new.p in
+    let k = c.spare_slot-slot.ensures in
+    let e = c.look.ensures in
+    let f = c.release.ensures in
+    let found = subst (λ (r : Result Hold Looked). FindsPlain c.look.result r) c.in-Ok.is c.plain_next.ensures in
+    let on = lower_on n c.args.root c.args.wanted l.left l.at c.in-Ok.next l.key c.spare_slot-slot.result c.look.result s t u room
+    (l.invariant.walks s room w) k.range.0 k.range.1 (λ e. k.left (e ∙ sym c.slot.ensures)) (λ e. k.at (e ∙ sym c.slot-in-loop-key.ensures))
+    e.looked (g.met.L.Links.obeys d l.p l.invariant.pass) (g.met.L.Links.allowed d c.look.new.p e.pass) found in
+    let passed = lower_released n c.args.root c.args.wanted l.left l.at l.key (Some c.in-Ok.next) s u v on c.loop-key-test.true f.released
+    (λ i h. g.met.L.Links.fresh_is d c.look.new.p i e.pass h) (λ i h. g.met.L.Links.fresh_is d c.release.new.p i f.pass h)
+    (g.met.L.Links.allowed d c.release.new.p f.pass) in
+    let o = c.value-key.ensures in
+    let x = g.L.Links.seat d c.value-key.new.p in
+    let next = passed_some n c.args.root c.args.wanted (l.key + 1) (Some l.at) None c.in-Ok.next c.value-key.result s v x passed o.nothing o.value
+    (g.met.L.Links.allowed d c.value-key.new.p o.pass) in
+    record {
+      pass = o.pass;
+      later = goes_on _ _ _ (goes_on _ _ _ (goes_on _ _ _ l.invariant.later e.later) f.later) o.later;
+      up = omega (arith, l.invariant.up, next.1);
+      walks = λ s room w.
+          let on = lower_on n c.args.root c.args.wanted l.left l.at c.in-Ok.next l.key c.spare_slot-slot.result c.look.result s t u room
+          (l.invariant.walks s room w) k.range.0 k.range.1 (λ e. k.left (e ∙ sym c.slot.ensures)) (λ e. k.at (e ∙ sym c.slot-in-loop-key.ensures))
+          e.looked (g.met.L.Links.obeys d l.p l.invariant.pass) (g.met.L.Links.allowed d c.look.new.p e.pass) found in
+          let passed = lower_released n c.args.root c.args.wanted l.left l.at l.key (Some c.in-Ok.next) s u v on c.loop-key-test.true f.released
+          (λ i h. g.met.L.Links.fresh_is d c.look.new.p i e.pass h) (λ i h. g.met.L.Links.fresh_is d c.release.new.p i f.pass h)
+          (g.met.L.Links.allowed d c.release.new.p f.pass) in
+          (passed_some n c.args.root c.args.wanted (l.key + 1) (Some l.at) None c.in-Ok.next c.value-key.result s v x passed o.nothing o.value
+          (g.met.L.Links.allowed d c.value-key.new.p o.pass)).0;
+    }
+
+pub step_by-requires-clause-looked : goal.step_by-requires-clause-looked
+step_by-requires-clause-looked g c =
+    let d = c.args.links.now in
+    let (s, room, w) = c.requires.walks in
+    let n = g.L.Links.numbers d in
+    let l = c.loop-key in
+    let t = g.L.Links.seat d l.p in
+    let u = g.L.Links.seat d c.look.new.p in
+    let k = c.spare_slot-slot.ensures in
+    let e = c.look.ensures in
+    let found = subst (λ (r : Result Hold Looked). FindsPlain c.look.result r) c.in-Err.is c.plain_next.ensures in
+    let by = subst (λ (z : Looked). LooksBy n c.args.root c.args.wanted (Some l.left) None l.at l.key s z u) (sym found)
+    (lower_looked n c.args.root c.args.wanted l.left l.at l.at l.key c.spare_slot-slot.result c.look.result s t u room
+    (l.invariant.walks s room w) k.range.0 k.range.1 (λ e. k.left (e ∙ sym c.slot.ensures)) (λ e. k.at (e ∙ sym c.slot-in-loop-key.ensures))
+    e.looked (g.met.L.Links.obeys d l.p l.invariant.pass) (g.met.L.Links.allowed d c.look.new.p e.pass)) in
+    (s, by)
+
+pub returns-in-Err-clause-stepped : goal.returns-in-Err-clause-stepped
+returns-in-Err-clause-stepped g c = λ s room w.
+    let d = c.args.links.now in
+    let n = g.L.Links.numbers d in
+    let l = c.loop-key in
+    let t = g.L.Links.seat d l.p in
+    let u = g.L.Links.seat d c.look.new.p in
+    let k = c.spare_slot-slot.ensures in
+    let e = c.look.ensures in
+    let found = subst (λ (r : Result Hold Looked). FindsPlain c.look.result r) c.in-Err.is c.plain_next.ensures in
+    let by = subst (λ (z : Looked). LooksBy n c.args.root c.args.wanted (Some l.left) None l.at l.key s z u) (sym found)
+    (lower_looked n c.args.root c.args.wanted l.left l.at l.at l.key c.spare_slot-slot.result c.look.result s t u room
+    (l.invariant.walks s room w) k.range.0 k.range.1 (λ e. k.left (e ∙ sym c.slot.ensures)) (λ e. k.at (e ∙ sym c.slot-in-loop-key.ensures))
+    e.looked (g.met.L.Links.obeys d l.p l.invariant.pass) (g.met.L.Links.allowed d c.look.new.p e.pass)) in
+    steps_up n c.args.root c.args.wanted (c.args.key + 1) (l.key + 1) s c.step_by.result (g.L.Links.seat d c.step_by.new.p)
+    (c.step_by.ensures.stepped s by) (omega (arith, l.invariant.up))
+
+pub step-requires-clause-walks : goal.step-requires-clause-walks
+step-requires-clause-walks g c =
+    let (s, room, w) = c.requires.walks in
+    (s, room, c.loop-key.invariant.walks s room w)
+
+pub returns-clause-stepped : goal.returns-clause-stepped
+returns-clause-stepped g c = λ s room w.
+    let d = c.args.links.now in
+    let i = c.loop-key.invariant in
+    steps_up (g.L.Links.numbers d) c.args.root c.args.wanted (c.args.key + 1) (c.loop-key.key + 1) s c.step.result (g.L.Links.seat d c.step.new.p)
+    (c.step.ensures.stepped s room (i.walks s room w)) (omega (arith, i.up))
