@@ -6,4 +6,5 @@ pub mod Blocks
 pub mod Boards
 pub mod Rooms
 pub mod CameBack
+pub mod Counts
 pub mod Over

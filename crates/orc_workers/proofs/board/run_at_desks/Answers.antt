@@ -1,4 +1,4 @@
-use Rattle.std.proofs.Common.{rules, ◌≡◌, ◌+◌, ◌++◌, ◌∷◌, [], ap, ◌∙◌, length, map, arith, List}
+use Rattle.std.proofs.Common.{◌≡◌, ◌+◌, ◌++◌, ◌∷◌, [], ap, sym, ◌∙◌, length, map, arith, List}
 use Rattle.orc_board.specs.declared.desk.Desk.{Desk}
 use Rattle.orc_board.specs.declared.replies.PostReply.{PostReply}
 use Rattle.orc_board.specs.declared.replies.TakeReply.{TakeReply}
@@ -6,7 +6,8 @@ use Rattle.orc_workers.specs.declared.team.Worker.{Worker}
 use Rattle.orc_workers.specs.Seats.{all_of}
 use Rattle.orc_workers.proofs.CameBack.{for_both}
 use Rattle.orc_workers.proofs.Over.{over_of, few_replies}
-use Rattle.orc_workers.proofs.Rooms.{fresh_rest, fresh_agents, seats_ready, seated_length}
+use Rattle.orc_workers.proofs.Counts.{seats_of, room_done, desks_fit}
+use Rattle.orc_workers.proofs.Rooms.{fresh_rest, fresh_agents, seats_ready}
 use Rattle.orc_workers.proofs.board.run_at_desks.Goals as goal
 
 pub seat-waiting-requires-clause-agents : goal.seat-waiting-requires-clause-agents
@@ -16,17 +17,21 @@ seat-waiting-requires-clause-agents g c =
 
 pub run_seated-desk-requires-clause-room : goal.run_seated-desk-requires-clause-room
 run_seated-desk-requires-clause-room g c κs within =
-    let rest : length c.remove-desk.new.self.items ≡ c.args.posters + c.args.takers = search rules in
-    let rooms : length c.in_ok-rooms.field-0.rooms.items ≡ length c.remove-desk.new.self.items = search rules in
-    let all : length c.seat-waiting.result.items ≡ length c.remove-desk.new.self.items = ap length c.seat-waiting.ensures.seated ∙ seated_length 1 _ _ rooms in
-    let none : length c.in_ok-rooms.field-0.done.items ≡ 0 = ap length c.in_ok-rooms.ensures.nobody_is_done in
-    search rules
+    let s = seats_of c.args.desks.now.items c.remove-desk.new.self.items c.in_ok-rooms.field-0.rooms.items c.seat-waiting.result.items c.len.result _
+    c.remove-desk.ensures.items (sym c.args.desks.now.ok.0 ∙ c.requires.count) (c.len.ensures ∙ c.requires.count) c.in_ok-rooms.ensures.all
+    c.seat-waiting.ensures.seated in
+    let none = c.in_ok-rooms.ensures.nobody_is_done in (
+      c.in_ok-rooms.field-0.done.ok.0 ∙ ap length none,
+      none,
+      room_done _ _ _ _ _ c.seat-waiting.result.ok.0 s.workers (c.len.ensures ∙ c.requires.count) c.in_ok-rooms.ensures.done_room,
+    )
 
 pub run_seated-desk-requires-clause-count : goal.run_seated-desk-requires-clause-count
 run_seated-desk-requires-clause-count g c κs within =
-    let rest : length c.remove-desk.new.self.items ≡ c.args.posters + c.args.takers = search rules in
-    let rooms : length c.in_ok-rooms.field-0.rooms.items ≡ length c.remove-desk.new.self.items = search rules in
-    ap length c.seat-waiting.ensures.seated ∙ (seated_length 1 _ _ rooms ∙ rest)
+    let s = seats_of c.args.desks.now.items c.remove-desk.new.self.items c.in_ok-rooms.field-0.rooms.items c.seat-waiting.result.items c.len.result _
+    c.remove-desk.ensures.items (sym c.args.desks.now.ok.0 ∙ c.requires.count) (c.len.ensures ∙ c.requires.count) c.in_ok-rooms.ensures.all
+    c.seat-waiting.ensures.seated in
+    s.workers
 
 pub run_seated-desk-requires-clause-ready : goal.run_seated-desk-requires-clause-ready
 run_seated-desk-requires-clause-ready g c κs within =
@@ -54,17 +59,21 @@ run_seated-desk-requires-clause-numbered g c κs within =
 
 pub hand_back-requires-clause-desks : goal.hand_back-requires-clause-desks
 hand_back-requires-clause-desks g c =
-    let rooms : length c.in_ok-rooms.field-0.rooms.items ≡ length c.remove-desk.new.self.items = search rules in
-    let all : length c.seat-waiting.result.items ≡ length c.remove-desk.new.self.items = ap length c.seat-waiting.ensures.seated ∙ seated_length 1 _ _ rooms in
-    let none : length c.seat-waiting.new.desks.items ≡ 0 = ap length c.seat-waiting.ensures.none in
-    search rules
+    let s = seats_of c.args.desks.now.items c.remove-desk.new.self.items c.in_ok-rooms.field-0.rooms.items c.seat-waiting.result.items c.len.result _
+    c.remove-desk.ensures.items (sym c.args.desks.now.ok.0 ∙ c.requires.count) (c.len.ensures ∙ c.requires.count) c.in_ok-rooms.ensures.all
+    c.seat-waiting.ensures.seated in
+    desks_fit c.args.desks.now.len c.args.desks.now.cap c.remove-desk.new.self.cap c.seat-waiting.new.desks.cap c.push.new.self.cap c.seat-waiting.new.desks.len _
+    c.push.new.self.len c.run_seated-desk.result.workers.len c.seat-waiting.result.len _ _ c.args.desks.now.ok.1 c.requires.count c.remove-desk.ensures.capacity
+    c.seat-waiting.ensures.desks c.in-Ok.ensures.capacity c.seat-waiting.new.desks.ok.0 (ap length c.seat-waiting.ensures.none) c.in-Ok.ensures.len
+    c.run_seated-desk.ensures.len c.seat-waiting.result.ok.0 s.workers
 
 pub append-requires : goal.append-requires
 append-requires g c =
-    let rest : length c.remove-desk.new.self.items ≡ c.args.posters + c.args.takers = search rules in
-    let rooms : length c.in_ok-rooms.field-0.rooms.items ≡ length c.remove-desk.new.self.items = search rules in
-    let all : length c.seat-waiting.result.items ≡ length c.remove-desk.new.self.items = ap length c.seat-waiting.ensures.seated ∙ seated_length 1 _ _ rooms in
-    let many : length c.run_seated-desk.result.workers.items ≡ c.args.posters + c.args.takers = search rules in
+    let s = seats_of c.args.desks.now.items c.remove-desk.new.self.items c.in_ok-rooms.field-0.rooms.items c.seat-waiting.result.items c.len.result _
+    c.remove-desk.ensures.items (sym c.args.desks.now.ok.0 ∙ c.requires.count) (c.len.ensures ∙ c.requires.count) c.in_ok-rooms.ensures.all
+    c.seat-waiting.ensures.seated in
+    let many : length c.run_seated-desk.result.workers.items ≡ c.args.posters + c.args.takers =
+    sym c.run_seated-desk.result.workers.ok.0 ∙ (c.run_seated-desk.ensures.len ∙ (c.seat-waiting.result.ok.0 ∙ s.workers)) in
     let few = few_replies g.Q.SharedQueue g.S.SharedSet c.args.queue.now c.args.rush.now c.args.set.now c.args.lines.now c.args.posters c.args.takers
     c.run_seated-desk.result.desk c.run_seated-desk.result.takes.items c.run_seated-desk.result.workers.items
     c.requires.posters c.requires.good.few (for_both _ c.requires.first.0 c.requires.first.1) many c.run_seated-desk.ensures.back in
@@ -72,10 +81,11 @@ append-requires g c =
 
 pub hand_back-requires-clause-posts : goal.hand_back-requires-clause-posts
 hand_back-requires-clause-posts g c =
-    let rest : length c.remove-desk.new.self.items ≡ c.args.posters + c.args.takers = search rules in
-    let rooms : length c.in_ok-rooms.field-0.rooms.items ≡ length c.remove-desk.new.self.items = search rules in
-    let all : length c.seat-waiting.result.items ≡ length c.remove-desk.new.self.items = ap length c.seat-waiting.ensures.seated ∙ seated_length 1 _ _ rooms in
-    let many : length c.run_seated-desk.result.workers.items ≡ c.args.posters + c.args.takers = search rules in
+    let s = seats_of c.args.desks.now.items c.remove-desk.new.self.items c.in_ok-rooms.field-0.rooms.items c.seat-waiting.result.items c.len.result _
+    c.remove-desk.ensures.items (sym c.args.desks.now.ok.0 ∙ c.requires.count) (c.len.ensures ∙ c.requires.count) c.in_ok-rooms.ensures.all
+    c.seat-waiting.ensures.seated in
+    let many : length c.run_seated-desk.result.workers.items ≡ c.args.posters + c.args.takers =
+    sym c.run_seated-desk.result.workers.ok.0 ∙ (c.run_seated-desk.ensures.len ∙ (c.seat-waiting.result.ok.0 ∙ s.workers)) in
     let few = few_replies g.Q.SharedQueue g.S.SharedSet c.args.queue.now c.args.rush.now c.args.set.now c.args.lines.now c.args.posters c.args.takers
     c.run_seated-desk.result.desk c.run_seated-desk.result.takes.items c.run_seated-desk.result.workers.items
     c.requires.posters c.requires.good.few (for_both _ c.requires.first.0 c.requires.first.1) many c.run_seated-desk.ensures.back in
@@ -83,10 +93,11 @@ hand_back-requires-clause-posts g c =
 
 pub hand_back-requires-clause-takes : goal.hand_back-requires-clause-takes
 hand_back-requires-clause-takes g c =
-    let rest : length c.remove-desk.new.self.items ≡ c.args.posters + c.args.takers = search rules in
-    let rooms : length c.in_ok-rooms.field-0.rooms.items ≡ length c.remove-desk.new.self.items = search rules in
-    let all : length c.seat-waiting.result.items ≡ length c.remove-desk.new.self.items = ap length c.seat-waiting.ensures.seated ∙ seated_length 1 _ _ rooms in
-    let many : length c.run_seated-desk.result.workers.items ≡ c.args.posters + c.args.takers = search rules in
+    let s = seats_of c.args.desks.now.items c.remove-desk.new.self.items c.in_ok-rooms.field-0.rooms.items c.seat-waiting.result.items c.len.result _
+    c.remove-desk.ensures.items (sym c.args.desks.now.ok.0 ∙ c.requires.count) (c.len.ensures ∙ c.requires.count) c.in_ok-rooms.ensures.all
+    c.seat-waiting.ensures.seated in
+    let many : length c.run_seated-desk.result.workers.items ≡ c.args.posters + c.args.takers =
+    sym c.run_seated-desk.result.workers.ok.0 ∙ (c.run_seated-desk.ensures.len ∙ (c.seat-waiting.result.ok.0 ∙ s.workers)) in
     let few = few_replies g.Q.SharedQueue g.S.SharedSet c.args.queue.now c.args.rush.now c.args.set.now c.args.lines.now c.args.posters c.args.takers
     c.run_seated-desk.result.desk c.run_seated-desk.result.takes.items c.run_seated-desk.result.workers.items
     c.requires.posters c.requires.good.few (for_both _ c.requires.first.0 c.requires.first.1) many c.run_seated-desk.ensures.back in
@@ -94,10 +105,11 @@ hand_back-requires-clause-takes g c =
 
 pub returns : goal.returns
 returns g c =
-    let rest : length c.remove-desk.new.self.items ≡ c.args.posters + c.args.takers = search rules in
-    let rooms : length c.in_ok-rooms.field-0.rooms.items ≡ length c.remove-desk.new.self.items = search rules in
-    let all : length c.seat-waiting.result.items ≡ length c.remove-desk.new.self.items = ap length c.seat-waiting.ensures.seated ∙ seated_length 1 _ _ rooms in
-    let many : length c.run_seated-desk.result.workers.items ≡ c.args.posters + c.args.takers = search rules in
+    let s = seats_of c.args.desks.now.items c.remove-desk.new.self.items c.in_ok-rooms.field-0.rooms.items c.seat-waiting.result.items c.len.result _
+    c.remove-desk.ensures.items (sym c.args.desks.now.ok.0 ∙ c.requires.count) (c.len.ensures ∙ c.requires.count) c.in_ok-rooms.ensures.all
+    c.seat-waiting.ensures.seated in
+    let many : length c.run_seated-desk.result.workers.items ≡ c.args.posters + c.args.takers =
+    sym c.run_seated-desk.result.workers.ok.0 ∙ (c.run_seated-desk.ensures.len ∙ (c.seat-waiting.result.ok.0 ∙ s.workers)) in
     let first : c.push.new.self.items ≡ c.run_seated-desk.result.desk ∷ [] =
     c.in-Ok.ensures.items
     ∙ ap (λ (xs : List (Desk g.row.Q-Pass.Denot g.row.S-Pass.Denot)). xs ++ c.run_seated-desk.result.desk ∷ []) c.seat-waiting.ensures.none in
