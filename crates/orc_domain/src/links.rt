@@ -93,6 +93,7 @@ impl<D: Discipline> Links for PlainDomain<D> {
         self.board.fill(&mut p.pass, fresh.row(), which, value);
     }
 
+    #[inline(always)]
     fn look(&self, p: &mut PlainPass<D>, place: &At, slot: u32) -> Looked {
         let word = word_at(place);
         let one = self.load(p, word);

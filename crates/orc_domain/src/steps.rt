@@ -83,6 +83,7 @@ impl<D: Discipline> PlainDomain<D> {
     }
 
     // Reads a link.
+    #[inline(always)]
     pub(crate) fn load(&self, p: &mut PlainPass<D>, at: Word) -> RowLink
         requires pass { IsPassOf self.now p.old }
         requires place { KnowsPlace (domain_bounds self.now) (shows self.now.board p.old.pass) at }

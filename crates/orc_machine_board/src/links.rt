@@ -17,6 +17,7 @@ use orc_words::{RowLink, Word};
 
 impl<D: Discipline> MachineBoard<D> {
     /// Reads a link word. A note goes to the event where the wanted link is found.
+    #[inline(always)]
     pub fn link_load(
         &self,
         p: &mut MachineBoardPass<D>,

@@ -117,6 +117,7 @@ impl<D: Discipline> Links for OrcDomain<D> {
 
     /// One try of a protected load: reads the link, protects its target in this slot, and reads the link again. Where the
     /// link moved, it takes in what was handed over beside the slot meanwhile.
+    #[inline(always)]
     fn look(&self, p: &mut OrcPass<D>, place: &At, slot: u32) -> Looked
         requires pass { IsPassOf self.now p.old }
         requires place { HoldsPlace (domain_numbers self.now) (seat_of self.now p.old).slots place.now }

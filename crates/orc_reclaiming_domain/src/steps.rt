@@ -18,6 +18,7 @@ use orc_words::{RowLink, Word, read_link};
 
 impl<D: Discipline> OrcDomain<D> {
     // Reads a link. A slot that is named holds the link's target from then on, if that is the row in the slot.
+    #[inline(always)]
     pub(crate) fn load(&self, p: &mut MachineBoardPass<D>, at: Word, slot: Option<u32>) -> RowLink
         requires belongs { Belongs self.now.board p.old }
         requires allowed { MayDo (domain_bounds self.now) (shows p.old) (Op.LinkLoad at slot) }

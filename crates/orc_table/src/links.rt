@@ -14,6 +14,7 @@ use orc_words::{RowLink, Word, pack_link};
 
 impl<D: Discipline> PlainBoard<D> {
     /// Reads a link word. A note goes to the event where the wanted link is found.
+    #[inline(always)]
     pub fn link_load(
         &self,
         p: &mut PlainBoardPass<D>,
