@@ -226,10 +226,26 @@ module _ {D N : Type 0} {d : discipline.Ghosts D N} {m : machine.Ghosts Reclaimi
                               (rest_after.agents (seat q).agent low) in
                               λ k. length (r.list k) + cond (is_some (r.hand k) || is_some (r.scan k)) 1 0
 
+                          further : IsPrefix (journal w2) f
+                          further = goes_further seat journal domain.board.words.shape (journal w2) (w2 ∷ ys) (w4 ∷ zs) all_turns numbered2 one_list
+                              (domain_bounds domain).agents long2 w2 (w6 ∷ ts) f hear within some is6.board.keeps.now.below
+
+                          heard_each : (vs qs : List (Pass d m)) → Pairwise (λ p q. HearsSteps seat journal p q × (journal q ≡ journal w2)) vs qs
+                              → AllByRecursion (λ p. IsPrefix (journal p) f) vs
+                          heard_each [] [] h = tt
+                          heard_each (v ∷ vs) (q ∷ qs) h = (
+                            goes_on (journal v) (journal w2) f (subst (IsPrefix (journal v)) h.0.1 h.0.0.more) further,
+                            heard_each vs qs h.1,
+                          )
+                          heard_each [] (q ∷ qs) h = absurd h
+                          heard_each (v ∷ vs) [] h = absurd h
+
+                          pub heard_after : All (λ p. IsPrefix (journal_of p) (whole_journal (w6 ∷ ts))) ps
+                          heard_after = subst (All (λ p. IsPrefix (journal p) f)) (sym is)
+                              (All-from_recursion (λ p. IsPrefix (journal p) f) (w ∷ ws) (heard_each (w ∷ ws) (w2 ∷ ys) heard))
+
                           first_more : IsPrefix (journal w) f
-                          first_more = goes_on (journal w) (journal w2) f heard.0.0.more
-                              (goes_further seat journal domain.board.words.shape (journal w2) (w2 ∷ ys) (w4 ∷ zs) all_turns numbered2 one_list
-                              (domain_bounds domain).agents long2 w2 (w6 ∷ ts) f hear within some is6.board.keeps.now.below)
+                          first_more = goes_on (journal w) (journal w2) f heard.0.0.more further
 
                           pub later_after : IsPrefix (whole_journal ps) (whole_journal (w6 ∷ ts))
                           later_after = subst (λ z. IsPrefix (whole_journal z) f) (sym is) first_more

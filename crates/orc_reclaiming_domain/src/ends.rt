@@ -1,6 +1,6 @@
 //! Passes that end their work.
 
-ghost use Rattle.std.specs.Prelude.{◌≡◌, ◌≢◌, ◌+◌, ◌*◌, [], suc};
+ghost use Rattle.std.specs.Prelude.{◌≡◌, ◌≢◌, ◌+◌, ◌*◌, [], All, suc};
 ghost use Rattle.std.specs.List.{AllByRecursion};
 ghost use mathlib.Core.List.{IsPrefix};
 ghost use Rattle.orc_heap.specs.OwnEvents.{Only};
@@ -57,6 +57,7 @@ impl<D: Discipline> OrcDomain<D> {
         ensures own { SawAll passes.new }
         ensures rest { IsAtRest (run_of (domain_bounds self.now) (whole_journal passes.new)) }
         ensures later { IsPrefix (whole_journal passes.old) (whole_journal passes.new) }
+        ensures heard { All (λ p. IsPrefix (journal_of p) (whole_journal passes.new)) passes.old }
         ensures longest { IsNoLonger self.now passes.old passes.new }
         ensures quiet { AddsNoEvents self.now passes.old passes.new }
     {

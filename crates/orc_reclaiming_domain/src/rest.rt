@@ -2,22 +2,23 @@
 
 ghost use Rattle.std.specs.Prelude.{◌≡◌, ◌+◌, ◌++◌};
 ghost use Rattle.std.specs.List.{AllByRecursion};
-ghost use Rattle.orc_board_rest.specs.Ends.{TakesIn};
+ghost use Rattle.orc_board_rest.specs.Ends.{CountsOf, TakesIn};
 ghost use Rattle.orc_board_rest.specs.Looks.{gate_looks};
 ghost use Rattle.orc_core.specs.Machine.{new_machine};
 ghost use Rattle.orc_layout.specs.Layout.{index, lay};
+ghost use Rattle.orc_machine_board.specs.Passes.{TookInAll};
 ghost use Rattle.orc_machine_board.specs.Rules.{run_of};
 ghost use Rattle.orc_machine_board.specs.Views.{Belongs, shows};
 ghost use Rattle.orc_reclaiming_domain.specs.Ends.{AreAll, SawAll, whole_journal};
 ghost use Rattle.orc_reclaiming_domain.specs.Passes.{IsPassOf, domain_bounds};
-ghost use Rattle.orc_reclaiming_domain.specs.Rest.{IsShown, rest_domain, rest_journal};
+ghost use Rattle.orc_reclaiming_domain.specs.Rest.{EndsWith, IsShown, rest_domain, rest_journal};
 ghost use Rattle.orc_rest.specs.Rest.{IsAtRest};
 ghost use Rattle.orc_rest.specs.Reuse.{given, reused, rows_out};
 ghost use Rattle.orc_sound.specs.Journals.{plain};
 
 use crate::at_rest::OrcRest;
 use crate::domain::{OrcDomain, OrcPass};
-use orc_board_rest::count_rows;
+use orc_board_rest::{RowCounts, count_rows};
 use orc_heap::Discipline;
 use orc_machine_board::MachineBoardPass;
 use orc_shared_words::LastWords;
@@ -72,16 +73,43 @@ impl<D: Discipline> OrcDomain<D> {
         ensures balance { given (new_machine (domain_bounds self)) (plain (rest_journal result))
             ≡ reused (plain (rest_journal result)) + rows_out (run_of (domain_bounds self) (rest_journal result)) }
     {
-        let mut others = passes;
-        let first = others.remove(0);
-        let OrcPass { mut pass, next: _ } = first;
-        self.take_in_all(&mut pass, others);
-        let counts = count_rows(&self.board, &mut pass);
+        let (pass, counts) = self.count(passes);
         OrcRest {
             domain: self,
             pass,
             counts,
         }
+    }
+
+    /// Ends all passes, as `rest` does, and tells what it would tell. The domain stays, but nobody has a pass to it any more.
+    pub fn end_passes(&self, passes: Vec<OrcPass<D>>) -> RowCounts
+        requires all { AreAll self.now passes.items }
+        requires own { SawAll passes.items }
+        requires rest { IsAtRest (run_of (domain_bounds self.now) (whole_journal passes.items)) }
+        ensures { EndsWith self.now passes.items result }
+    {
+        let (pass, counts) = self.count(passes);
+        drop(pass);
+        counts
+    }
+
+    // Lets the first pass take in all others, and look at each gate.
+    fn count(&self, passes: Vec<OrcPass<D>>) -> (MachineBoardPass<D>, RowCounts)
+        requires all { AreAll self.now passes.items }
+        requires own { SawAll passes.items }
+        requires rest { IsAtRest (run_of (domain_bounds self.now) (whole_journal passes.items)) }
+        ensures belongs { Belongs self.now.board result.0 }
+        ensures all { TookInAll (domain_bounds self.now) (shows result.0) }
+        ensures journal { (shows result.0).journal ≡ whole_journal passes.items ++ gate_looks 0 (domain_bounds self.now).rows }
+        ensures rest { IsAtRest (run_of (domain_bounds self.now) (shows result.0).journal) }
+        ensures counts { CountsOf (domain_bounds self.now) (shows result.0).journal result.1 }
+    {
+        let mut others = passes;
+        let first = others.remove(0);
+        let OrcPass { mut pass, next: _ } = first;
+        self.take_in_all(&mut pass, others);
+        let counts = count_rows(&self.board, &mut pass);
+        (pass, counts)
     }
 
     // Takes in the passes, one after another.

@@ -1,6 +1,6 @@
 use Rattle.orc_reclaiming_domain.proofs.Resting.{first_of, others_of}
 use Rattle.orc_reclaiming_domain.proofs.DrainingAll.{first_differs, idle2, last_differs, numbered_others, second_differs, seen_others, third_differs}
-use Rattle.orc_reclaiming_domain.proofs.DrainingAll.{all_after, idle_after, later_after, longest_after, one_after}
+use Rattle.orc_reclaiming_domain.proofs.DrainingAll.{all_after, heard_after, idle_after, later_after, longest_after, one_after}
 use Rattle.orc_reclaiming_domain.proofs.DrainingAll.{own_after, quiet_after, rest_after, settled_after}
 use Rattle.orc_reclaiming_domain.proofs.domain.OrcDomain.drain_all.Goals as goal
 
@@ -133,6 +133,17 @@ returns-in-Some-clause-rest g c =
 pub returns-in-Some-clause-later : goal.returns-in-Some-clause-later
 returns-in-Some-clause-later g c =
     later_after c.args.self.now c.args.passes.now c.in-Some.first.now c.in-Some.others.now c.in-Some.ensures.cases.0 c.requires.all c.requires.idle
+    c.learn_round.new.first c.learn_round.new.others c.learn_round.ensures.round
+    c.learn_round-in-Some.new.first c.learn_round-in-Some.new.others c.learn_round-in-Some.ensures.round c.learn_round-in-Some.ensures.first
+    c.drain.new.p c.drain.ensures.pass c.drain.ensures.idle c.drain.ensures.drains c.drain.ensures.nothing
+    c.drain_in_turn.new.before c.drain_in_turn.new.others c.drain_in_turn.ensures.hears c.drain_in_turn.ensures.same c.drain_in_turn.ensures.turns
+    c.learn_round-in-Some-2.new.first c.learn_round-in-Some-2.new.others c.learn_round-in-Some-2.ensures.round
+    c.learn_round-in-Some-3.new.first c.learn_round-in-Some-3.new.others c.learn_round-in-Some-3.ensures.round
+    c.learn_round-in-Some-3.ensures.first c.learn_round-in-Some-3.ensures.others
+
+pub returns-in-Some-clause-heard : goal.returns-in-Some-clause-heard
+returns-in-Some-clause-heard g c =
+    heard_after c.args.self.now c.args.passes.now c.in-Some.first.now c.in-Some.others.now c.in-Some.ensures.cases.0 c.requires.all c.requires.idle
     c.learn_round.new.first c.learn_round.new.others c.learn_round.ensures.round
     c.learn_round-in-Some.new.first c.learn_round-in-Some.new.others c.learn_round-in-Some.ensures.round c.learn_round-in-Some.ensures.first
     c.drain.new.p c.drain.ensures.pass c.drain.ensures.idle c.drain.ensures.drains c.drain.ensures.nothing
