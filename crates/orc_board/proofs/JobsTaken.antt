@@ -61,6 +61,7 @@ part_puts lines rush agent i id op text word.Positions queue set is h = rw h.0 t
 part_puts lines rush agent i id op text word.Spent queue set is h = rw h.0 tt
 part_puts lines rush agent i id op text word.Dropped queue set is h = absurd h
 part_puts lines rush agent i id op text word.Unknown queue set is h = absurd h
+part_puts lines rush agent i id op text word.Skipped queue set is h = absurd h
 
 no_puts : (lines : List Line) (rush : Bool) (queue : Share QueueEntry QueueRefused) → queue ≡ nothing → AllByRecursion (PutFits lines rush) queue.own
 no_puts lines rush queue e = rw e tt

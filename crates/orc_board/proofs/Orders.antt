@@ -173,6 +173,8 @@ posted_all false P i word.Dropped xs h a = a
 posted_all true P i word.Dropped xs h a = a
 posted_all false P i word.Unknown xs h a = a
 posted_all true P i word.Unknown xs h a = a
+posted_all false P i word.Skipped xs h a = a
+posted_all true P i word.Skipped xs h a = a
 
 all_posted : (rush : Bool) (P : ℕ → Type 0) (rs : List PostReply) → AllByRecursion P (map (λ (r : PostReply). r.line) rs)
     → AllByRecursion P (map (λ (x : ℕ × ℕ). x.0) (posted_of rush rs))
@@ -199,6 +201,8 @@ posted_cons false i word.Dropped xs h d = d
 posted_cons true i word.Dropped xs h d = d
 posted_cons false i word.Unknown xs h d = d
 posted_cons true i word.Unknown xs h d = d
+posted_cons false i word.Skipped xs h d = d
+posted_cons true i word.Skipped xs h d = d
 
 posted_distinct : (rush : Bool) (rs : List PostReply) → IsDistinct same (map (λ (r : PostReply). r.line) rs) → IsDistinct same (map (λ (x : ℕ × ℕ). x.0) (posted_of rush rs))
 unfolding IsDistinct

@@ -89,6 +89,7 @@ part_pairs false agent i id word.Spent queue set of h = rw h.0 (record { puts = 
 part_pairs true agent i id word.Spent queue set of h = rw h.0 (record { puts = refl; tooks = refl })
 part_pairs rush agent i id word.Dropped queue set of h = absurd h
 part_pairs rush agent i id word.Unknown queue set of h = absurd h
+part_pairs rush agent i id word.Skipped queue set of h = absurd h
 
 -- nothing was put in the other queue
 other_pairs : (rush : Bool) (i : ℕ) (w : PostWord) (queue : Share QueueEntry QueueRefused) → IsWordOf (not rush) w → queue ≡ nothing
@@ -109,6 +110,8 @@ other_pairs false i word.Dropped queue of e = rw e (record { puts = refl; tooks 
 other_pairs true i word.Dropped queue of e = rw e (record { puts = refl; tooks = refl })
 other_pairs false i word.Unknown queue of e = rw e (record { puts = refl; tooks = refl })
 other_pairs true i word.Unknown queue of e = rw e (record { puts = refl; tooks = refl })
+other_pairs false i word.Skipped queue of e = rw e (record { puts = refl; tooks = refl })
+other_pairs true i word.Skipped queue of e = rw e (record { puts = refl; tooks = refl })
 
 drop_pairs : (rush : Bool) (agent i id : ℕ) (w : PostWord) (row : Row) → DropRow agent id w row → PutsOf (row.queues rush).own (posted_by rush i w)
 drop_pairs rush agent i id (word.Posted at) row h = absurd h.part
@@ -121,6 +124,7 @@ drop_pairs false agent i id word.Dropped row h = rw (h.none false) (record { put
 drop_pairs true agent i id word.Dropped row h = rw (h.none true) (record { puts = refl; tooks = refl })
 drop_pairs false agent i id word.Unknown row h = rw (h.none false) (record { puts = refl; tooks = refl })
 drop_pairs true agent i id word.Unknown row h = rw (h.none true) (record { puts = refl; tooks = refl })
+drop_pairs rush agent i id word.Skipped row h = absurd h.part
 
 line_pairs : (rush : Bool) (agent i : ℕ) (l : Line) (w : PostWord) (row : Row) → PostRow agent i l w row → PutsOf (row.queues rush).own (posted_by rush i w)
 line_pairs false agent i (line.Post id op text) w row h = part_pairs false agent i id w (row.queues false) row.set h.word h.part
@@ -190,6 +194,7 @@ posted_one i word.Positions = omega arith
 posted_one i word.Spent = omega arith
 posted_one i word.Dropped = omega arith
 posted_one i word.Unknown = omega arith
+posted_one i word.Skipped = omega arith
 
 pub posted_fewer : (rs : List PostReply) → length (posted_of false rs) + length (posted_of true rs) ≤ length rs
 posted_fewer [] = omega arith

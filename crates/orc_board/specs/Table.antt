@@ -36,6 +36,7 @@ JobPart agent i id word.Positions queue set =
 JobPart agent i id word.Spent queue set = (queue ≡ nothing) × ((worn : Spent) × (set ≡ refusal (list_refused.Spent worn)))
 JobPart agent i id word.Dropped queue set = ⊥
 JobPart agent i id word.Unknown queue set = ⊥
+JobPart agent i id word.Skipped queue set = ⊥
 
 -- a job of the queue isn't rushed, and one of the rush queue isn't posted
 abbrev pub IsWordOf : Bool → PostWord → Type 0

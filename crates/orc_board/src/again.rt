@@ -55,8 +55,8 @@ pub(crate) fn remove_key<R: Wait, S: SharedSet>(rt: &R, set: &S, p: &mut S::Pass
     unreachable!()
 }
 
-// Puts the job.
-pub(crate) fn put_job<R: Wait, Q: SharedQueue>(
+/// Puts the job, and makes a call that answers Again once more until it is answered.
+pub fn put_job<R: Wait, Q: SharedQueue>(
     rt: &R,
     queue: &Q,
     p: &mut Q::Pass,
@@ -80,8 +80,8 @@ pub(crate) fn put_job<R: Wait, Q: SharedQueue>(
     unreachable!()
 }
 
-// Takes a job, or finds none.
-pub(crate) fn take_job<R: Wait, Q: SharedQueue>(
+/// Takes a job with its position, or finds none, and makes a call that answers Again once more until it is answered.
+pub fn take_job<R: Wait, Q: SharedQueue>(
     rt: &R,
     queue: &Q,
     p: &mut Q::Pass,

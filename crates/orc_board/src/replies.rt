@@ -20,6 +20,8 @@ pub enum PostWord {
     Dropped,
     /// A drop: the id wasn't open.
     Unknown,
+    /// A drop, where the queues form a pipeline: nothing was done. At a board it never comes.
+    Skipped,
 }
 
 /// A poster's reply.

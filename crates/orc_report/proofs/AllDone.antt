@@ -176,6 +176,7 @@ in_posted_by l word.Positions x xs i = inr i
 in_posted_by l word.Spent x xs i = inr i
 in_posted_by l word.Dropped x xs i = inr i
 in_posted_by l word.Unknown x xs i = inr i
+in_posted_by l word.Skipped x xs i = inr i
 
 in_posted : (x : ℕ × ℕ) (rs : List PostReply) → In x (posted_of false rs) → (r : PostReply) × In r rs × (r.line ≡ x.0) × (r.what ≡ word.Posted x.1)
 in_posted x [] i = absurd i
@@ -203,6 +204,7 @@ IsJobWord word.Positions = Unit {0}
 IsJobWord word.Spent = Unit {0}
 IsJobWord word.Dropped = ⊥
 IsJobWord word.Unknown = ⊥
+IsJobWord word.Skipped = ⊥
 
 job_word : (p i id : ℕ) (w : PostWord) (queue : Share QueueEntry QueueRefused) (set : Share SetEntry ListRefused) → IsWordOf false w
     → JobPart p i id w queue set → IsJobWord w
@@ -214,6 +216,7 @@ job_word p i id word.Positions queue set of h = tt
 job_word p i id word.Spent queue set of h = tt
 job_word p i id word.Dropped queue set of h = h
 job_word p i id word.Unknown queue set of h = h
+job_word p i id word.Skipped queue set of h = h
 
 only_posted : (w : PostWord) → IsJobWord w → w ≢ word.Busy → w ≢ word.NoNode → w ≢ word.Positions → w ≢ word.Spent → (at : ℕ) × (w ≡ word.Posted at)
 only_posted (word.Posted at) j a b c d = (at, refl)
@@ -224,6 +227,7 @@ only_posted word.Positions j a b c d = absurd (c refl)
 only_posted word.Spent j a b c d = absurd (d refl)
 only_posted word.Dropped j a b c d = absurd j
 only_posted word.Unknown j a b c d = absurd j
+only_posted word.Skipped j a b c d = absurd j
 
 -- the job of a claim that isn't Void
 done_word : (lines : List Line) (i : ℕ) (l : Line) (w : TakeWord) → (id : ℕ) (op : Job) (text : List ℕ) → l ≡ line.Post id op text → slice_get lines i ≡ Some l

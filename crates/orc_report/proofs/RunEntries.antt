@@ -187,6 +187,7 @@ job_says agent i id word.Positions queue set e of h = rw h.1.1 ((e, no_position)
 job_says agent i id word.Spent queue set e of h = rw h.1.1 tt
 job_says agent i id word.Dropped queue set e of h = absurd h
 job_says agent i id word.Unknown queue set e of h = absurd h
+job_says agent i id word.Skipped queue set e of h = absurd h
 
 -- a numbered line's row is that of a job of the queue whose id is the line's number
 pub numbered_row : (lines : List Line) → AreNumbered lines → (p : ℕ) (r : PostReply) (row : Row) → PosterRow lines p r row

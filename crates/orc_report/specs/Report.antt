@@ -35,6 +35,7 @@ post_word post.Positions = codes "positions"
 post_word post.Spent = codes "spent"
 post_word post.Dropped = codes "dropped"
 post_word post.Unknown = codes "unknown"
+post_word post.Skipped = codes "skipped"
 
 -- the board's line of a position: the record that was posted there, and what became of it
 abbrev pub board_row : ℕ → ℕ → ℕ → TakeWord → List ℕ

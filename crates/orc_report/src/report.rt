@@ -219,6 +219,7 @@ fn push_post(text: &mut String, reply: &PostReply) -> Result<(), AllocError>
         PostWord::Spent => writeln!(text, "poster {poster} line {line} spent"),
         PostWord::Dropped => writeln!(text, "poster {poster} line {line} dropped"),
         PostWord::Unknown => writeln!(text, "poster {poster} line {line} unknown"),
+        PostWord::Skipped => writeln!(text, "poster {poster} line {line} skipped"),
     }
 }
 

@@ -11,4 +11,4 @@ mod work;
 
 pub use board::run_at_desks;
 pub use desks::fresh_desks;
-pub use work::{run_poster, run_taker};
+pub use work::{count_jobs, run_poster, run_taker};

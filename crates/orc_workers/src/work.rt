@@ -112,8 +112,8 @@ fn count_job(line: &Line) -> usize
     }
 }
 
-// How many of the lines are Posts or Rushes.
-pub(crate) fn count_jobs(lines: &Lines) -> usize
+/// How many of the lines are Posts or Rushes.
+pub fn count_jobs(lines: &Lines) -> usize
     ensures { result ≡ jobs_in lines.now }
 {
     let mut jobs = 0;
