@@ -64,11 +64,12 @@ returns-in-Ok-true-clause-added g c = λ given slots s w.
     let linked = e.linked w.id w.holds in
     let hand = links_hand n a.root a.key a.spot.left a.spot.first a.spot.right a.node.now given slots s t w u _ _ _ c.link_node-linked.result linked
     (g.met.L.Links.allowed d c.link_node-linked.new.p e.pass) in
+    let is = c.in-Ok-true.is ∙ ap (λ (b : Bool). Ok b) c.in-Ok-true.field-0-test in
     let done : LinksTo n a.key a.node.now w.id (place_at t.slots a.root a.spot.left) (link_over (target_at t.slots (first_or a.spot.first a.spot.right)))
     (target_at t.slots a.spot.right) t
     (Ok true) u =
     subst (λ (r : Result Bool Spent). LinksTo n a.key a.node.now w.id (place_at t.slots a.root a.spot.left)
-    (link_over (target_at t.slots (first_or a.spot.first a.spot.right))) (target_at t.slots a.spot.right) t r u) (c.in-Ok-true.is ∙ ap (λ (b : Bool). Ok b) c.in-Ok-true.field-0-test)
+    (link_over (target_at t.slots (first_or a.spot.first a.spot.right))) (target_at t.slots a.spot.right) t r u) is
     linked in
     adds_linked n a.root a.key a.spot.left a.spot.first a.spot.right a.node.now given slots s t w u y done (c.let_all_go.ensures.gone slots hand)
     (g.met.L.Links.obeys d c.link_node-linked.new.p e.pass) (g.met.L.Links.allowed d c.link_node-linked.new.p e.pass)
@@ -87,11 +88,12 @@ returns-in-Ok-false-clause-added g c = λ given slots s w.
     let linked = e.linked w.id w.holds in
     let all = g.met.L.Links.allowed d c.link_node-linked.new.p e.pass in
     let hand = links_hand n a.root a.key a.spot.left a.spot.first a.spot.right a.node.now given slots s t w u _ _ _ c.link_node-linked.result linked all in
+    let is = c.in-Ok-false.is ∙ ap (λ (b : Bool). Ok b) c.in-Ok-false.field-0-test in
     let done : LinksTo n a.key a.node.now w.id (place_at t.slots a.root a.spot.left) (link_over (target_at t.slots (first_or a.spot.first a.spot.right)))
     (target_at t.slots a.spot.right) t
     (Ok false) u =
     subst (λ (r : Result Bool Spent). LinksTo n a.key a.node.now w.id (place_at t.slots a.root a.spot.left)
-    (link_over (target_at t.slots (first_or a.spot.first a.spot.right))) (target_at t.slots a.spot.right) t r u) (c.in-Ok-false.is ∙ ap (λ (b : Bool). Ok b) c.in-Ok-false.field-0-test)
+    (link_over (target_at t.slots (first_or a.spot.first a.spot.right))) (target_at t.slots a.spot.right) t r u) is
     linked in
     adds_missed n a.root a.key a.spot.left a.spot.first a.spot.right a.node.now given slots s t w u y done (f.gone slots hand)
     (g.met.L.Links.obeys d c.link_node-linked.new.p e.pass) all (g.met.L.Links.allowed d c.let_all_go.new.p f.pass)
