@@ -28,7 +28,7 @@ use Rattle.orc_pairs_rule.specs.declared.entry.CellEntry.TheVariants.{Published}
 use Rattle.orc_pairs_rule.specs.declared.pairs.PairsNote.{PairsNote}
 use Rattle.orc_pairs_rule.specs.PairsDiscipline.{HasPart, IsStaging, PairsMay, entries_of}
 use Rattle.orc_cell.specs.Answers.{Answers, AnswersAgain, PublishAnswers}
-use Rattle.orc_cell.specs.Publishes.{Answered, IsPublished, KeepsStaging, LetsGo, PublishDone, PublishOver, PublishSpent, PublishesTurns, Readies, SideHeld, Staged, Stages, Unstages}
+use Rattle.orc_cell.specs.Publishes.{Answered, IsPublished, KeepsStaging, LetsGo, PublishDone, PublishOver, PublishSpent, PublishesGiven, PublishesTurns, Readies, SideHeld, Staged, Stages, Unstages}
 use Rattle.orc_cell.specs.Turns.{FindsOnly, others_moves}
 use Rattle.orc_cell.specs.declared.publish.New.{New}
 use Rattle.orc_cell.specs.declared.publish.New.TheVariants.{Given, Kept, Zero}
@@ -162,11 +162,11 @@ module _ (n : HeapNumbers) (slot root value : ℕ) (s a b t : Seat PairsNote) (h
             let at_b = subst (λ (i : ℕ). IsStaging i r) (sym x.answered.stretch.puts.agent) at_a in
             last.others r at_b ne ∙ (x.answered.staging r at_a ∙ first.others r staging ne)
 
-pub turns_slots : (n : HeapNumbers) (turns : ℕ) (left right : Option ℕ) (pair : Hold) (a b : Seat PairsNote) (turn : PublishTurn)
-    → PublishesTurns n turns left right pair a turn b → b.slots ≡ a.slots
-turns_slots n turns left right pair a b Over x = x.answered.slots
-turns_slots n turns left right pair a b (Done u v) x = x.answered.slots
-turns_slots n turns left right pair a b (Worn why) x = x.answered.slots
+pub given_slots : (n : HeapNumbers) (turns : ℕ) (left right : Option ℕ) (pair : Hold) (a b : Seat PairsNote) (turn : PublishTurn)
+    → PublishesGiven n turns left right pair a turn b → b.slots ≡ a.slots
+given_slots n turns left right pair a b Over x = x.answered.slots
+given_slots n turns left right pair a b (Done u v) x = x.answered.slots
+given_slots n turns left right pair a b (Worn why) x = x.answered.slots
 
 -- the refusal of the turns is that of the call
 pub spent_same : {turn : PublishTurn} {spent why : SpentRow} → turn ≡ Worn spent → ◌≡◌ {A = Result (ℕ × ℕ) CellRefused} (Err (Spent spent)) (Err (Spent why))
@@ -397,3 +397,18 @@ tests_puts at wanted s t false x = let m = Tests-missed x refl in (_, m.puts, om
 -- a call that did nothing
 pub only_none : (s : Seat PairsNote) → Only [] s s
 only_none s = record { slots = refl; fresh = refl; puts = record { part = []; is = sym (append-nil s.seen); agent = refl; own_is = refl } }
+
+-- the aims at the parts that are given, and then the turns
+pub given_turns : (n : HeapNumbers) (turns : ℕ) (left right : Option ℕ) (pair : Hold) (s b t : Seat PairsNote) (turn : PublishTurn) → Answered n 0 s [] b
+    → PublishesTurns n turns left right pair b turn t → PublishesGiven n turns left right pair s turn t
+given_turns n turns left right pair s b t Over x y =
+    let w = Answered-trans n 0 0 s b t [] [] x y.over.answered in
+    record {
+      answered = w;
+      fresh = y.over.fresh;
+      moved = moved_after s b t turns _ _ _ x.stretch.puts y.over.answered.stretch.puts w.stretch.puts y.over.moved;
+    }
+given_turns n turns left right pair s b t (Done u v) x y =
+    let z = subst (λ (i : ℕ). Answered n 0 b (Published i left right u v ∷ []) t) x.stretch.puts.agent y.answered in
+    record { answered = Answered-trans n 0 0 s b t [] (Published s.agent left right u v ∷ []) x z; fresh = y.fresh }
+given_turns n turns left right pair s b t (Worn why) x y = record { answered = Answered-trans n 0 0 s b t [] [] x y.answered; fresh = y.fresh }

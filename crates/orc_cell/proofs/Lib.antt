@@ -6,6 +6,7 @@ pub mod Looking
 pub mod Reading
 pub mod Staging
 pub mod Aiming
+pub mod Readying
 pub mod Swinging
 pub mod Publishing
 pub mod Roots

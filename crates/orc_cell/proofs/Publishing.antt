@@ -27,7 +27,8 @@ use Rattle.orc_cell.specs.declared.publish.PublishTurn.{PublishTurn}
 use Rattle.orc_cell.specs.declared.publish.PublishTurn.TheVariants.{Over, Published as Done, Spent as Worn}
 use Rattle.orc_cell.proofs.Looking.{HoldsPair, RootNull}
 use Rattle.orc_cell.proofs.Others.{found_or_others, looks_differ_by_others, others_from_own-append, turn_moved}
-use Rattle.orc_cell.proofs.Pieces.{pair_puts}
+use Rattle.orc_cell.proofs.Pieces.{Known, pair_puts}
+use Rattle.orc_cell.proofs.Readying.{keeps_found, keeps_trans}
 use Rattle.orc_cell.proofs.Reading.{moved_more, null_seen, pair_seen}
 use Rattle.orc_cell.proofs.Staging.{Answered-trans, Stretch-trans, finds_staging, finds_stretch, found_answered, staging-trans}
 use Rattle.orc_cell.proofs.Swinging.{published_later, side_kept}
@@ -54,23 +55,28 @@ side_found n s a k new es f all staging carries held =
 
 -- from null on
 pub first_turn : (n : HeapNumbers) (s a t : Seat PairsNote) (left right : Option ℕ) (pair : Hold) (turn : PublishTurn) → RootNull n s a → a.fresh ≡ s.fresh
-    → AllAllowed (PairsMay n) [] a.seen → PublishesFrom n null left right pair a turn t → PublishesTurns n 1 left right pair s turn t
-first_turn n s a t left right pair Over r fresh all x =
+    → AllAllowed (PairsMay n) [] a.seen → Known n s.seen → IsUntouched s.agent (heap_of n s) (id_in s.slots pair)
+    → PublishesFrom n null left right pair a turn t → PublishesTurns n 1 left right pair s turn t
+first_turn n s a t left right pair Over r fresh all known node x =
     let w = Answered-trans n 0 0 s a t [] [] (found_answered n s a [] (null_seen n s a r fresh) all) x.answered in
     record {
-      answered = w;
-      fresh = x.fresh;
-      moved = turn_moved s a t _ _ _ r.puts x.answered.stretch.puts w.stretch.puts (omega arith) (shown (heap_of n a) (Root 0) ≡ Some null)
-          (found_or_others n s a null None [] [] r.puts all refl) x.moved;
+      over = record {
+        answered = w;
+        fresh = x.fresh;
+        moved = turn_moved s a t _ _ _ r.puts x.answered.stretch.puts w.stretch.puts (omega arith) (shown (heap_of n a) (Root 0) ≡ Some null)
+            (found_or_others n s a null None [] [] r.puts all refl) x.moved;
+      };
+      halves = keeps_trans n left right pair s a t
+          (keeps_found n left right pair s a _ r.puts known all (tt, tt) node (ap (λ z. id_in z pair) r.slots)) x.halves;
     }
-first_turn n s a t left right pair (Done u v) r fresh all x =
+first_turn n s a t left right pair (Done u v) r fresh all known node x =
     let by = r.puts.agent in
     let y = subst (λ (i : ℕ). Answered n 0 a (Published i left right u v ∷ []) t) by x.answered in
     record {
       answered = Answered-trans n 0 0 s a t [] (Published s.agent left right u v ∷ []) (found_answered n s a [] (null_seen n s a r fresh) all) y;
       fresh = x.fresh;
     }
-first_turn n s a t left right pair (Worn why) r fresh all x =
+first_turn n s a t left right pair (Worn why) r fresh all known node x =
     record { answered = Answered-trans n 0 0 s a t [] [] (found_answered n s a [] (null_seen n s a r fresh) all) x.answered; fresh = x.fresh }
 
 -- from a pair on
@@ -78,6 +84,7 @@ module _ (n : HeapNumbers) (s a b t : Seat PairsNote) (old pair : Hold) (free : 
     (fresh_a : a.fresh ≡ s.fresh) (all_a : AllAllowed (PairsMay n) [] a.seen) (all_b : AllAllowed (PairsMay n) [] b.seen)
     (all_t : AllAllowed (PairsMay n) [] t.seen) (held : HoldsFresh s pair)
     (untouched : (i : ℕ) → b.fresh ≡ Some i → IsUntouched b.agent (heap_of n b) i) (w : Releases b old t)
+    (known_s : Known n s.seen) (known_b : Known n b.seen) (node : IsUntouched s.agent (heap_of n s) (id_in s.slots pair))
   where
     looked : Finds s [] a
     looked = pair_seen n 4 s a old p fresh_a
@@ -124,7 +131,15 @@ module _ (n : HeapNumbers) (s a b t : Seat PairsNote) (old pair : Hold) (free : 
         let first = to_b [] x.answered in
         let moved = turn_moved s a b _ _ _ p.puts x.answered.stretch.puts first.puts (omega arith) (shown (heap_of n a) (Root 0) ≡ Some (link_to p.id))
         (found_or_others n s a (link_to p.id) None (event_of s (Look (Root 0) p.one) None ∷ []) [] p.puts all_a refl) x.moved in
-        record { answered = o; fresh = fresh_t x.answered x.fresh; moved = moved_more s b t 1 _ _ _ first.puts w.puts o.stretch.puts moved }
+        let same_a : id_in a.slots pair ≡ id_in s.slots pair = slot_other_id s a 4 p.id old free p.in_slot pair held.held in
+        let same_t : id_in t.slots pair ≡ id_in b.slots pair =
+        ap (λ z. id_in z pair) (back [] x.answered) ∙ sym (ap (λ z. id_in z pair) x.answered.slots ∙ same_a) in
+        record {
+          over = record { answered = o; fresh = fresh_t x.answered x.fresh; moved = moved_more s b t 1 _ _ _ first.puts w.puts o.stretch.puts moved };
+          halves = keeps_trans n left right pair s a t (keeps_found n left right pair s a _ p.puts known_s all_a (tt, (tt, tt)) node same_a)
+              (keeps_trans n left right pair a b t x.halves
+              (keeps_found n left right pair b t [] w.puts known_b all_t tt (untouched (id_in b.slots pair) x.fresh.fresh) same_t));
+        }
     next_turn left right (Done u v) x =
         let y = subst (λ (i : ℕ). Answered n 0 a (Published i left right u v ∷ []) b) p.puts.agent x.answered in
         record {

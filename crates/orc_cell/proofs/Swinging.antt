@@ -1,5 +1,5 @@
 -- The swing of root 0 to a new pair whose two halves were aimed.
-use Rattle.std.proofs.Common.{Bool, List, None, Option, Some, [], ap, arith, false, inl, inr, refl, subst, sym, true, ℕ, ◌*◌, ◌++◌, ◌+◌, ◌∙◌, ◌∷◌, ◌≡◌, ◌≤◌}
+use Rattle.std.proofs.Common.{Bool, List, None, Option, Some, [], ap, arith, false, inl, inr, refl, subst, sym, true, ℕ, ◌*◌, ◌++◌, ◌+◌, ◌∙◌, ◌∷◌, ◌≡◌, ◌≢◌, ◌≤◌}
 use Rattle.std.proofs.lemmas.Bool.{ne_eqb}
 use Rattle.std.specs.List.{slice_get}
 use Rattle.std.specs.Prelude.{MatchBool, if◌then◌else◌, unwrap_or, ◌||◌}
@@ -42,6 +42,7 @@ use Rattle.orc_cell.specs.declared.publish.New.TheVariants.{Given, Kept, Zero}
 use Rattle.orc_cell.proofs.Looking.{left_shows, right_shows}
 use Rattle.orc_cell.proofs.Others.{missed_by_others, others-append, still_or_others}
 use Rattle.orc_cell.proofs.Pieces.{Known, pair_puts, part_puts}
+use Rattle.orc_cell.proofs.Readying.{aims_keep, keeps_found, keeps_trans}
 use Rattle.orc_cell.proofs.Staging.{Answered-trans, root_kept}
 
 -- a node to which nothing links isn't worn
@@ -118,8 +119,8 @@ module _ (n : HeapNumbers) (s a b : Seat PairsNote) (pair : Hold) (l r x y : ℕ
               fresh = w.fresh ∙ ap (λ (v : Bool). if v then None else b.fresh) is;
             }
 
-        pub was_missed : done ≡ false → PublishMissed n from pair s t
-        was_missed is =
+        pub was_missed : done ≡ false → (given_left ≢ None → a ≡ s) → (given_right ≢ None → b ≡ a) → PublishMissed n from given_left given_right pair s t
+        was_missed is same_left same_right =
             let e : Event PairsNote = event_of b (Move (Root 0) from (link_to (id_in b.slots pair))) (Some (Entry (Published b.agent given_left given_right x y))) in
             let m : Misses (Root 0) from b t = subst (λ (v : Bool). MatchBool v (Puts b (e ∷ []) t) (Misses (Root 0) from b t)) is w.puts in
             let fresh_t : t.fresh ≡ b.fresh = w.fresh ∙ ap (λ (v : Bool). if v then None else b.fresh) is in
@@ -135,6 +136,10 @@ module _ (n : HeapNumbers) (s a b : Seat PairsNote) (pair : Hold) (l r x y : ℕ
                 held = subst (λ (z : Slots). Holds z pair) (sym w.slots) right.fresh.held;
                 fresh = fresh_t ∙ (right.fresh.fresh ∙ ap (λ z. Some (id_in z pair)) (sym w.slots));
               };
+              halves = keeps_trans n given_left given_right pair s b t
+                  (aims_keep n given_left given_right pair s a b l r x y left right same_left same_right)
+                  (keeps_found n given_left given_right pair b t _ m.puts known_b all_t (tt, tt) (untouched (id_in b.slots pair) right.fresh.fresh)
+                  (ap (λ z. id_in z pair) w.slots));
               moved = λ at.
                   let count : others_moves s.agent whole.stretch.puts.part ≡ others_moves s.agent both_aimed.stretch.puts.part + others_moves s.agent m.puts.part =
                   ap (others_moves s.agent) (new_is s b t _ _ _ both_aimed.stretch.puts m.puts whole.stretch.puts)
@@ -283,3 +288,10 @@ pub right_kept : (n : HeapNumbers) (s a : Seat PairsNote) (right : New) (es : Li
 right_kept n s a right es x all held =
     subst (λ (i : ℕ). SideHeld n (2 + 2 * i) right a) (sym x.stretch.puts.agent)
     (side_kept n s a (2 + 2 * s.agent) right x.stretch.own x.stretch.puts all (inr refl) x.staging (same_slots s a x.slots) held)
+
+-- the same of the left one
+pub left_kept : (n : HeapNumbers) (s a : Seat PairsNote) (left : New) (es : List CellEntry) → Answered n 0 s es a → AllAllowed (PairsMay n) [] a.seen
+    → SideHeld n (1 + 2 * s.agent) left s → SideHeld n (1 + 2 * a.agent) left a
+left_kept n s a left es x all held =
+    subst (λ (i : ℕ). SideHeld n (1 + 2 * i) left a) (sym x.stretch.puts.agent)
+    (side_kept n s a (1 + 2 * s.agent) left x.stretch.own x.stretch.puts all (inl refl) x.staging (same_slots s a x.slots) held)

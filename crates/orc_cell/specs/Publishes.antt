@@ -122,6 +122,38 @@ abbrev pub Aims : HeapNumbers → Half → Hold → (ℕ → ℕ → Type 0) →
 Aims n half pair IsNew s (Ok value) t = (id : ℕ) × IsNew id value × Aimed n half pair id value s t
 Aims n half pair IsNew s (Err why) t = NotAimed n pair s t
 
+-- one half of the fresh pair leads to this node
+pub record LeadsHalf (n : HeapNumbers) (half : Half) (pair : Hold) (id : ℕ) (s : Seat PairsNote) : Type 0 where
+  pub node : Node
+  pub there : slice_get (heap_of n s).nodes (id_in s.slots pair) ≡ Some node
+  pub leads : link_of half node ≡ link_to id
+
+-- it leads to the part, if that is given
+abbrev pub IsReady : HeapNumbers → Half → Hold → New → Seat PairsNote → Type 0
+IsReady n half pair (Given value h) s = LeadsHalf n half pair (id_in s.slots h) s
+IsReady n half pair (Zero h) s = Unit {0}
+IsReady n half pair Kept s = Unit {0}
+
+-- one half was aimed at the part, if that is given, and the other leads where it led
+pub record MakesReady (n : HeapNumbers) (half : Half) (pair : Hold) (new : New) (s t : Seat PairsNote) : Type 0 where
+  pub answered : Answered n 0 s [] t
+  pub fresh : HoldsFresh t pair
+  pub node : Node
+  pub there : slice_get (heap_of n t).nodes (id_in t.slots pair) ≡ Some node
+  pub keeps : (old : Node) → slice_get (heap_of n s).nodes (id_in s.slots pair) ≡ Some old → link_of (other half) node ≡ link_of (other half) old
+  pub ready : IsReady n half pair new t
+
+abbrev pub AimsGiven : HeapNumbers → Half → Hold → New → Seat PairsNote → Result (Unit {0}) Spent → Seat PairsNote → Type 0
+AimsGiven n half pair new s (Ok done) t = MakesReady n half pair new s t
+AimsGiven n half pair new s (Err why) t = NotAimed n pair s t
+
+-- the halves of the fresh pair whose parts are given lead where they led
+pub record KeepsHalves (n : HeapNumbers) (left right : Option ℕ) (pair : Hold) (s t : Seat PairsNote) : Type 0 where
+  pub node : Node
+  pub there : slice_get (heap_of n t).nodes (id_in t.slots pair) ≡ Some node
+  pub left_stays : left ≢ None → (old : Node) → slice_get (heap_of n s).nodes (id_in s.slots pair) ≡ Some old → node.link ≡ old.link
+  pub right_stays : right ≢ None → (old : Node) → slice_get (heap_of n s).nodes (id_in s.slots pair) ≡ Some old → node.side ≡ old.side
+
 -- a new part beside the pair before: it is given, or what that pair's place shows
 abbrev pub IsNewPart : Heap → Place → New → ℕ → ℕ → Type 0
 IsNewPart h place (Given given held) id value = value ≡ given
@@ -160,19 +192,31 @@ pub record PublishSpent (n : HeapNumbers) (pair : Hold) (s t : Seat PairsNote) :
   pub answered : Answered n 0 s [] t
   pub fresh : HoldsFresh t pair
 
+-- the turns so far, with what further turns ask for
+pub record PublishTurned (n : HeapNumbers) (turns : ℕ) (left right : Option ℕ) (pair : Hold) (s t : Seat PairsNote) : Type 0 where
+  pub over : PublishOver n turns pair s t
+  pub halves : KeepsHalves n left right pair s t
+
+-- the aims at the parts that are given, and then the turns
+abbrev pub PublishesGiven : HeapNumbers → ℕ → Option ℕ → Option ℕ → Hold → Seat PairsNote → PublishTurn → Seat PairsNote → Type 0
+PublishesGiven n turns left right pair s Over t = PublishOver n turns pair s t
+PublishesGiven n turns left right pair s (Done x y) t = PublishDone n left right x y s t
+PublishesGiven n turns left right pair s (Worn why) t = PublishSpent n pair s t
+
 abbrev pub PublishesTurns : HeapNumbers → ℕ → Option ℕ → Option ℕ → Hold → Seat PairsNote → PublishTurn → Seat PairsNote → Type 0
-PublishesTurns n turns left right pair s Over t = PublishOver n turns pair s t
+PublishesTurns n turns left right pair s Over t = PublishTurned n turns left right pair s t
 PublishesTurns n turns left right pair s (Done x y) t = PublishDone n left right x y s t
 PublishesTurns n turns left right pair s (Worn why) t = PublishSpent n pair s t
 
 -- what follows a look of root 0 that found this link: if root 0 still showed it, it was moved by others since
-pub record PublishMissed (n : HeapNumbers) (from : Link) (pair : Hold) (s t : Seat PairsNote) : Type 0 where
+pub record PublishMissed (n : HeapNumbers) (from : Link) (left right : Option ℕ) (pair : Hold) (s t : Seat PairsNote) : Type 0 where
   pub answered : Answered n 0 s [] t
   pub fresh : HoldsFresh t pair
+  pub halves : KeepsHalves n left right pair s t
   pub moved : shown (heap_of n s) (Root 0) ≡ Some from → 1 ≤ others_moves s.agent answered.stretch.puts.part
 
 abbrev pub PublishesFrom : HeapNumbers → Link → Option ℕ → Option ℕ → Hold → Seat PairsNote → PublishTurn → Seat PairsNote → Type 0
-PublishesFrom n from left right pair s Over t = PublishMissed n from pair s t
+PublishesFrom n from left right pair s Over t = PublishMissed n from left right pair s t
 PublishesFrom n from left right pair s (Done x y) t = PublishDone n left right x y s t
 PublishesFrom n from left right pair s (Worn why) t = PublishSpent n pair s t
 

@@ -1,6 +1,6 @@
 //! Turns of a publish: the new pair is aimed at its parts, and root 0 is swung to it.
 
-ghost use Rattle.std.specs.Prelude.{◌≡◌, ◌<◌, ℕ, [], ◌∷◌, Some, None, IfOk, IfErr, length};
+ghost use Rattle.std.specs.Prelude.{◌≡◌, ◌≢◌, ◌<◌, ℕ, [], ◌∷◌, Some, None, IfOk, IfErr, length};
 ghost use mathlib.Core.List.{IsPrefix};
 ghost use Rattle.orc_heap.specs.Calls.{IsWorn, Swings, event_of};
 ghost use Rattle.orc_heap.specs.Heap.{link_to, null, shown};
@@ -8,7 +8,7 @@ ghost use Rattle.orc_heap.specs.OwnEvents.{Only};
 ghost use Rattle.orc_heap.specs.Seats.{HoldsFresh, HoldsPlace, HoldsWant, heap_of, link_in, place_in};
 ghost use Rattle.orc_heap.specs.Slots.{Hold, Holds, IsFree, id_in};
 ghost use Rattle.orc_history.specs.Journals.{Within};
-ghost use Rattle.orc_cell.specs.Publishes.{Aims, HasStaged, IsFirst, IsNewPart, MayPublish, NotFresh, PublishesFrom, PublishesTurns, SideHeld, Staged, SwingsPair, aim_act, given_of, half_at, staging_root};
+ghost use Rattle.orc_cell.specs.Publishes.{Aims, AimsGiven, HasStaged, IsFirst, IsNewPart, IsReady, MayPublish, NotFresh, PublishesFrom, PublishesGiven, PublishesTurns, SideHeld, Staged, SwingsPair, aim_act, given_of, half_at, staging_root};
 ghost use Rattle.orc_fault.specs.declared.Spent.{Spent as SpentRow};
 ghost use Rattle.orc_cell.specs.declared.publish.Half.{Half};
 ghost use Rattle.orc_cell.specs.declared.publish.PublishTurn.{PublishTurn};
@@ -130,7 +130,32 @@ fn aim_staged<L: Links<Rule = Pairs>>(
     }
 }
 
-// Aims one half of a pair that follows another.
+// Aims one half of the new pair at the part, if that is given.
+fn aim_given<L: Links<Rule = Pairs>>(
+    links: &L,
+    p: &mut L::Pass,
+    half: Half,
+    pair: &Held,
+    new: &New,
+) -> Result<(), Spent>
+    requires pass { L.belongs links.now p.old }
+    requires made { IsCellDomain (L.numbers links.now) (L.agents links.now) (L.opening links.now) }
+    requires fresh { HoldsFresh (L.seat links.now p.old) pair.now }
+    requires new { SideHeld (L.numbers links.now) (staging_root half (L.seat links.now p.old).agent) new.now (L.seat links.now p.old) }
+    ensures pass { L.belongs links.now p.new }
+    ensures later { IsPrefix (L.journal p.old) (L.journal p.new) }
+    ensures aimed { AimsGiven (L.numbers links.now) half pair.now new.now (L.seat links.now p.old) result (L.seat links.now p.new) }
+    ensures worn { IfErr result (λ e. Within (length (L.journal p.old)) (length (L.journal p.new))
+        (L.worn links.now (L.seat links.now p.old).agent e (L.journal p.new))) }
+{
+    match new {
+        New::Given(_, part) => aim_half(links, p, half, pair, part),
+        New::Zero(_) => Ok(()),
+        New::Kept => Ok(()),
+    }
+}
+
+// Aims one half of a pair that follows another; a part that is given was aimed at before.
 fn aim_next<L: Links<Rule = Pairs>>(
     links: &L,
     p: &mut L::Pass,
@@ -143,6 +168,7 @@ fn aim_next<L: Links<Rule = Pairs>>(
     requires made { IsCellDomain (L.numbers links.now) (L.agents links.now) (L.opening links.now) }
     requires fresh { HoldsFresh (L.seat links.now p.old) pair.now }
     requires new { SideHeld (L.numbers links.now) (staging_root half (L.seat links.now p.old).agent) new.now (L.seat links.now p.old) }
+    requires ready { IsReady (L.numbers links.now) half pair.now new.now (L.seat links.now p.old) }
     requires place { HoldsPlace (L.numbers links.now) (L.seat links.now p.old).slots place.now }
     requires slot { IsFree (L.seat links.now p.old).slots 5 }
     requires leads { LeadsToPart (heap_of (L.numbers links.now) (L.seat links.now p.old)) (place_in (L.seat links.now p.old).slots place.now) }
@@ -150,17 +176,18 @@ fn aim_next<L: Links<Rule = Pairs>>(
     ensures later { IsPrefix (L.journal p.old) (L.journal p.new) }
     ensures aimed { Aims (L.numbers links.now) half pair.now (IsNewPart (heap_of (L.numbers links.now) (L.seat links.now p.old))
         (place_in (L.seat links.now p.old).slots place.now) new.now) (L.seat links.now p.old) result (L.seat links.now p.new) }
+    ensures same { given_of new.now ≢ None → L.seat links.now p.new ≡ L.seat links.now p.old }
     ensures worn { IfErr result (λ e. Within (length (L.journal p.old)) (length (L.journal p.new))
         (L.worn links.now (L.seat links.now p.old).agent e (L.journal p.new))) }
 {
     match new {
-        New::Given(value, part) => aim_staged(links, p, half, pair, part, *value),
+        New::Given(value, _) => Ok(*value),
         New::Zero(_) => aim_kept(links, p, half, pair, place),
         New::Kept => aim_kept(links, p, half, pair, place),
     }
 }
 
-// Aims one half of a first pair.
+// Aims one half of a first pair; a part that is given was aimed at before.
 fn aim_first<L: Links<Rule = Pairs>>(
     links: &L,
     p: &mut L::Pass,
@@ -172,15 +199,17 @@ fn aim_first<L: Links<Rule = Pairs>>(
     requires made { IsCellDomain (L.numbers links.now) (L.agents links.now) (L.opening links.now) }
     requires fresh { HoldsFresh (L.seat links.now p.old) pair.now }
     requires new { SideHeld (L.numbers links.now) (staging_root half (L.seat links.now p.old).agent) new.now (L.seat links.now p.old) }
+    requires ready { IsReady (L.numbers links.now) half pair.now new.now (L.seat links.now p.old) }
     requires staged { HasStaged new.now }
     ensures pass { L.belongs links.now p.new }
     ensures later { IsPrefix (L.journal p.old) (L.journal p.new) }
     ensures aimed { Aims (L.numbers links.now) half pair.now (IsFirst new.now) (L.seat links.now p.old) result (L.seat links.now p.new) }
+    ensures same { given_of new.now ≢ None → L.seat links.now p.new ≡ L.seat links.now p.old }
     ensures worn { IfErr result (λ e. Within (length (L.journal p.old)) (length (L.journal p.new))
         (L.worn links.now (L.seat links.now p.old).agent e (L.journal p.new))) }
 {
     match new {
-        New::Given(value, part) => aim_staged(links, p, half, pair, part, *value),
+        New::Given(value, _) => Ok(*value),
         New::Zero(part) => aim_staged(links, p, half, pair, part, 0),
         New::Kept => unreachable!(),
     }
@@ -250,6 +279,8 @@ fn publish_first<L: Links<Rule = Pairs>>(
     requires fresh { HoldsFresh (L.seat links.now p.old) pair.now }
     requires left { SideHeld (L.numbers links.now) (staging_root Half.Left (L.seat links.now p.old).agent) left.now (L.seat links.now p.old) }
     requires right { SideHeld (L.numbers links.now) (staging_root Half.Right (L.seat links.now p.old).agent) right.now (L.seat links.now p.old) }
+    requires ready { IsReady (L.numbers links.now) Half.Left pair.now left.now (L.seat links.now p.old)
+        × IsReady (L.numbers links.now) Half.Right pair.now right.now (L.seat links.now p.old) }
     requires staged { HasStaged left.now × HasStaged right.now }
     ensures pass { L.belongs links.now p.new }
     ensures later { IsPrefix (L.journal p.old) (L.journal p.new) }
@@ -288,6 +319,8 @@ fn publish_next<L: Links<Rule = Pairs>>(
     requires fresh { HoldsFresh (L.seat links.now p.old) pair.now }
     requires left { SideHeld (L.numbers links.now) (staging_root Half.Left (L.seat links.now p.old).agent) left.now (L.seat links.now p.old) }
     requires right { SideHeld (L.numbers links.now) (staging_root Half.Right (L.seat links.now p.old).agent) right.now (L.seat links.now p.old) }
+    requires ready { IsReady (L.numbers links.now) Half.Left pair.now left.now (L.seat links.now p.old)
+        × IsReady (L.numbers links.now) Half.Right pair.now right.now (L.seat links.now p.old) }
     requires old { Holds (L.seat links.now p.old).slots old.now }
     requires slot { IsFree (L.seat links.now p.old).slots 5 }
     requires before { IsPairOf (heap_of (L.numbers links.now) (L.seat links.now p.old)) (id_in (L.seat links.now p.old).slots old.now) }
@@ -327,6 +360,8 @@ fn publish_turn<L: Links<Rule = Pairs>>(
     requires fresh { HoldsFresh (L.seat links.now p.old) pair.now }
     requires left { SideHeld (L.numbers links.now) (staging_root Half.Left (L.seat links.now p.old).agent) left.now (L.seat links.now p.old) }
     requires right { SideHeld (L.numbers links.now) (staging_root Half.Right (L.seat links.now p.old).agent) right.now (L.seat links.now p.old) }
+    requires ready { IsReady (L.numbers links.now) Half.Left pair.now left.now (L.seat links.now p.old)
+        × IsReady (L.numbers links.now) Half.Right pair.now right.now (L.seat links.now p.old) }
     requires slots { IsFree (L.seat links.now p.old).slots 4 × IsFree (L.seat links.now p.old).slots 5 }
     ensures pass { L.belongs links.now p.new }
     ensures later { IsPrefix (L.journal p.old) (L.journal p.new) }
@@ -346,8 +381,8 @@ fn publish_turn<L: Links<Rule = Pairs>>(
     }
 }
 
-// Publishes the new pair, in at most so many turns.
-pub(crate) fn publish_turns<L: Links<Rule = Pairs>>(
+// Aims the new pair at the parts that are given, and publishes it, in at most so many turns.
+pub(crate) fn publish_given<L: Links<Rule = Pairs>>(
     links: &L,
     p: &mut L::Pass,
     pair: &Held,
@@ -360,6 +395,41 @@ pub(crate) fn publish_turns<L: Links<Rule = Pairs>>(
     requires fresh { HoldsFresh (L.seat links.now p.old) pair.now }
     requires left { SideHeld (L.numbers links.now) (staging_root Half.Left (L.seat links.now p.old).agent) left.now (L.seat links.now p.old) }
     requires right { SideHeld (L.numbers links.now) (staging_root Half.Right (L.seat links.now p.old).agent) right.now (L.seat links.now p.old) }
+    requires slots { IsFree (L.seat links.now p.old).slots 4 × IsFree (L.seat links.now p.old).slots 5 }
+    ensures pass { L.belongs links.now p.new }
+    ensures later { IsPrefix (L.journal p.old) (L.journal p.new) }
+    ensures published { PublishesGiven (L.numbers links.now) turns (given_of left.now) (given_of right.now) pair.now (L.seat links.now p.old) result
+        (L.seat links.now p.new) }
+    ensures worn { (why : SpentRow) → result ≡ PublishTurn.Spent why → Within (length (L.journal p.old)) (length (L.journal p.new))
+        (L.worn links.now (L.seat links.now p.old).agent why (L.journal p.new)) }
+{
+    match aim_given(links, p, Half::Left, pair, left) {
+        Ok(()) => {}
+        Err(spent) => return PublishTurn::Spent(spent),
+    }
+    match aim_given(links, p, Half::Right, pair, right) {
+        Ok(()) => {}
+        Err(spent) => return PublishTurn::Spent(spent),
+    }
+    publish_turns(links, p, pair, left, right, turns)
+}
+
+// Publishes the new pair, in at most so many turns.
+fn publish_turns<L: Links<Rule = Pairs>>(
+    links: &L,
+    p: &mut L::Pass,
+    pair: &Held,
+    left: &New,
+    right: &New,
+    turns: u64,
+) -> PublishTurn
+    requires pass { L.belongs links.now p.old }
+    requires made { IsCellDomain (L.numbers links.now) (L.agents links.now) (L.opening links.now) }
+    requires fresh { HoldsFresh (L.seat links.now p.old) pair.now }
+    requires left { SideHeld (L.numbers links.now) (staging_root Half.Left (L.seat links.now p.old).agent) left.now (L.seat links.now p.old) }
+    requires right { SideHeld (L.numbers links.now) (staging_root Half.Right (L.seat links.now p.old).agent) right.now (L.seat links.now p.old) }
+    requires ready { IsReady (L.numbers links.now) Half.Left pair.now left.now (L.seat links.now p.old)
+        × IsReady (L.numbers links.now) Half.Right pair.now right.now (L.seat links.now p.old) }
     requires slots { IsFree (L.seat links.now p.old).slots 4 × IsFree (L.seat links.now p.old).slots 5 }
     ensures pass { L.belongs links.now p.new }
     ensures later { IsPrefix (L.journal p.old) (L.journal p.new) }

@@ -19,7 +19,7 @@ ghost use Rattle.orc_cell.specs.declared.publish.Half.{Half};
 ghost use Rattle.orc_cell.specs.declared.refused.CellRefused.{CellRefused};
 
 use crate::new_parts::{let_go, ready};
-use crate::publish::{New, PublishTurn, publish_turns};
+use crate::publish::{New, PublishTurn, publish_given};
 use crate::read::PAIR;
 use crate::refused::CellRefused;
 use orc_heap::{At, Links, Want};
@@ -52,7 +52,7 @@ pub(crate) fn publish_pair<L: Links<Rule = Pairs>>(
         Ok(pair) => pair,
         Err(_) => return Err(CellRefused::NoNode),
     };
-    let turn = publish_turns(links, p, &pair, left, right, turns);
+    let turn = publish_given(links, p, &pair, left, right, turns);
     links.release(p, pair);
     match turn {
         PublishTurn::Published(x, y) => Ok((x, y)),

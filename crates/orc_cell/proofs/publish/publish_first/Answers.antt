@@ -5,10 +5,19 @@ use Rattle.orc_heap.specs.Seats.{heap_of}
 use Rattle.orc_heap.specs.Slots.{id_in}
 use Rattle.orc_cell.specs.Publishes.{MayPublish, SwingsPair, given_of}
 use Rattle.orc_cell.proofs.Pieces.{Known}
+use Rattle.orc_cell.proofs.Readying.{right_stays_ready}
 use Rattle.orc_cell.proofs.Swinging.{follows_null, may_publish, right_kept, spent_right, was_missed, was_published}
 use Rattle.orc_cell.proofs.publish.publish_first.Given.{Over}
 use Rattle.orc_cell.proofs.publish.publish_first.Goals.{After-swing_pair, In-Ok-aim_first}
 use Rattle.orc_cell.proofs.publish.publish_first.Goals as goal
+
+pub aim_first-requires-clause-ready : goal.aim_first-requires-clause-ready
+aim_first-requires-clause-ready g c = c.requires.ready.0
+
+pub aim_first-requires-2-clause-ready : goal.aim_first-requires-2-clause-ready
+aim_first-requires-2-clause-ready g c =
+    let d = c.args.links.now in
+    right_stays_ready (g.L.Links.numbers d) _ _ c.args.pair.now _ _ c.args.right.now c.in-Ok.ensures.aimed.2 c.requires.ready.1
 
 pub aim_first-requires-2-clause-new : goal.aim_first-requires-2-clause-new
 aim_first-requires-2-clause-new g c =
@@ -82,4 +91,4 @@ returns-else-swing_pair-clause-published g c =
     let right = c.in-Ok-aim_first.ensures.aimed in
     was_missed (g.L.Links.numbers d) _ _ _ c.args.pair.now left.0 right.0 c.in-Ok.x c.in-Ok-aim_first.y left.2 right.2 (known g at.In-Ok-aim_first)
     (λ i is. g.met.L.Links.fresh_is d c.aim_first-2.new.p i c.in-Ok-aim_first.ensures.pass is) _ _ _ _ _ (swung g at.After-swing_pair)
-    (g.met.L.Links.allowed d c.swing_pair.new.p c.swing_pair.ensures.pass) c.if-swing_pair.false
+    (g.met.L.Links.allowed d c.swing_pair.new.p c.swing_pair.ensures.pass) c.if-swing_pair.false c.in-Ok.ensures.same c.in-Ok-aim_first.ensures.same

@@ -8,10 +8,19 @@ use Rattle.orc_cell.specs.Publishes.{IsNewPart, MayPublish, SwingsPair, given_of
 use Rattle.orc_cell.specs.Turns.{LeadsToPart}
 use Rattle.orc_cell.proofs.Looking.{right_leads}
 use Rattle.orc_cell.proofs.Pieces.{Known}
+use Rattle.orc_cell.proofs.Readying.{right_stays_ready}
 use Rattle.orc_cell.proofs.Swinging.{before_kept, follows_pair, may_publish, right_kept, spent_right, was_missed, was_published}
 use Rattle.orc_cell.proofs.publish.publish_next.Given.{Over}
 use Rattle.orc_cell.proofs.publish.publish_next.Goals.{After-swing_pair, In-Ok, In-Ok-aim_next}
 use Rattle.orc_cell.proofs.publish.publish_next.Goals as goal
+
+pub aim_next-requires-clause-ready : goal.aim_next-requires-clause-ready
+aim_next-requires-clause-ready g c = c.requires.ready.0
+
+pub aim_next-requires-2-clause-ready : goal.aim_next-requires-2-clause-ready
+aim_next-requires-2-clause-ready g c =
+    let d = c.args.links.now in
+    right_stays_ready (g.L.Links.numbers d) _ _ c.args.pair.now _ _ c.args.right.now c.in-Ok.ensures.aimed.2 c.requires.ready.1
 
 pub aim_next-requires-2-clause-new : goal.aim_next-requires-2-clause-new
 aim_next-requires-2-clause-new g c =
@@ -107,4 +116,4 @@ returns-else-swing_pair-clause-published g c =
     let right = c.in-Ok-aim_next.ensures.aimed in
     was_missed (g.L.Links.numbers d) _ _ _ c.args.pair.now left.0 right.0 c.in-Ok.x c.in-Ok-aim_next.y left.2 right.2 (known g at.In-Ok-aim_next)
     (λ i is. g.met.L.Links.fresh_is d c.aim_next-2.new.p i c.in-Ok-aim_next.ensures.pass is) _ _ _ _ _ (swung g at.After-swing_pair)
-    (g.met.L.Links.allowed d c.swing_pair.new.p c.swing_pair.ensures.pass) c.if-swing_pair.false
+    (g.met.L.Links.allowed d c.swing_pair.new.p c.swing_pair.ensures.pass) c.if-swing_pair.false c.in-Ok.ensures.same c.in-Ok-aim_next.ensures.same

@@ -1,0 +1,169 @@
+-- Halves of a new pair that were aimed at parts that are given, and stay so.
+use Rattle.std.proofs.Common.{Err, List, None, Ok, Option, Result, Some, [], ap, append-nil, arith, refl, subst, sym, ℕ, ◌∙◌, ◌∷◌, ◌≡◌, ◌≢◌}
+use Rattle.std.specs.List.{AllByRecursion, slice_get}
+use Rattle.std.specs.Prelude.{IfErr, IfOk}
+use Rattle.orc_fault.specs.declared.Spent.{Spent}
+use Rattle.orc_heap.proofs.SingleActs.{some_same}
+use Rattle.orc_heap.specs.Allowed.{AllAllowed}
+use Rattle.orc_heap.specs.Calls.{event_of}
+use Rattle.orc_heap.specs.Heap.{HeapNumbers, Node, link_to}
+use Rattle.orc_heap.specs.OwnEvents.{Only, Puts}
+use Rattle.orc_heap.specs.Seats.{HoldsFresh, IsUntouched, Seat, heap_of}
+use Rattle.orc_heap.specs.Slots.{Hold, Holds, id_in}
+use Rattle.orc_heap.specs.declared.events.Event.{Event}
+use Rattle.orc_pairs_rule.specs.declared.pairs.PairsNote.{PairsNote}
+use Rattle.orc_pairs_rule.specs.PairsDiscipline.{PairsMay}
+use Rattle.orc_cell.specs.Publishes.{Aimed, AimsGiven, Answered, IsReady, KeepsHalves, LeadsHalf, MakesReady, SideHeld, Staged, aim_act, given_of, link_of, other}
+use Rattle.orc_cell.specs.Turns.{IsFinding}
+use Rattle.orc_cell.specs.declared.publish.Half.{Half}
+use Rattle.orc_cell.specs.declared.publish.Half.TheVariants.{Left, Right}
+use Rattle.orc_cell.specs.declared.publish.New.{New}
+use Rattle.orc_cell.specs.declared.publish.New.TheVariants.{Given, Kept, Zero}
+use Rattle.orc_cell.proofs.Aiming.{staged_aimed, staged_refused}
+use Rattle.orc_cell.proofs.Pieces.{Known}
+use Rattle.orc_cell.proofs.Staging.{own_found}
+
+-- nothing was done
+pub answered_none : (n : HeapNumbers) (s : Seat PairsNote) → Answered n 0 s [] s
+answered_none n s = record {
+  stretch = record {
+    own = [];
+    puts = record { part = []; is = sym (append-nil s.seen); agent = refl; own_is = refl };
+    entries_are = refl;
+    gives = omega arith;
+  };
+  slots = refl;
+  staging = λ root own. refl;
+}
+
+-- a half that was aimed at its part before
+pub ready_aimed : (n : HeapNumbers) (half : Half) (s : Seat PairsNote) (h pair : Hold) (root value : ℕ) → Staged n root value h s → HoldsFresh s pair
+    → LeadsHalf n half pair (id_in s.slots h) s → Aimed n half pair (id_in s.slots h) value s s
+ready_aimed n half s h pair root value staged fresh l = record {
+  answered = answered_none n s;
+  fresh = fresh;
+  node = l.node;
+  there = l.there;
+  leads = l.leads;
+  keeps = λ old there. ap (link_of (other half)) (some_same (sym l.there ∙ there));
+  has = staged.part;
+}
+
+-- the right half stays ready while the left one is aimed
+pub right_stays_ready : (n : HeapNumbers) (s a : Seat PairsNote) (pair : Hold) (id value : ℕ) (new : New) → Aimed n Left pair id value s a
+    → IsReady n Right pair new s → IsReady n Right pair new a
+right_stays_ready n s a pair id value (Given v h) x l = record {
+  node = x.node;
+  there = x.there;
+  leads = x.keeps l.node l.there ∙ (l.leads ∙ ap (λ z. link_to (id_in z h)) (sym x.answered.slots));
+}
+right_stays_ready n s a pair id value (Zero h) x l = tt
+right_stays_ready n s a pair id value Kept x l = tt
+
+-- and the left one while the right one is made ready
+pub left_stays_ready : (n : HeapNumbers) (s a : Seat PairsNote) (pair : Hold) (new side : New) → MakesReady n Right pair side s a
+    → IsReady n Left pair new s → IsReady n Left pair new a
+left_stays_ready n s a pair (Given v h) side x l = record {
+  node = x.node;
+  there = x.there;
+  leads = x.keeps l.node l.there ∙ (l.leads ∙ ap (λ z. link_to (id_in z h)) (sym x.answered.slots));
+}
+left_stays_ready n s a pair (Zero h) side x l = tt
+left_stays_ready n s a pair Kept side x l = tt
+
+-- a half is made ready: it is aimed at its part
+pub given_aimed : (n : HeapNumbers) (half : Half) (s t : Seat PairsNote) (h pair : Hold) (root value : ℕ) (r : Result (Unit {0}) Spent)
+    → Staged n root value h s → HoldsFresh s pair → Known n s.seen → AllAllowed (PairsMay n) [] t.seen
+    → ((i : ℕ) → s.fresh ≡ Some i → IsUntouched s.agent (heap_of n s) i)
+    → IfOk r (λ _. Only (event_of s (aim_act half (id_in s.slots pair) (Some (id_in s.slots h))) None ∷ []) s t) → IfErr r (λ e. Only [] s t)
+    → AimsGiven n half pair (Given value h) s r t
+given_aimed n half s t h pair root value (Ok done) staged fresh known all untouched ok err =
+    let x = staged_aimed n half s t h pair root value staged fresh known all untouched ok in
+    record {
+      answered = x.answered;
+      fresh = x.fresh;
+      node = x.node;
+      there = x.there;
+      keeps = x.keeps;
+      ready = record { node = x.node; there = x.there; leads = x.leads ∙ ap (λ z. link_to (id_in z h)) (sym x.answered.slots) };
+    }
+given_aimed n half s t h pair root value (Err why) staged fresh known all untouched ok err = staged_refused n s t pair fresh all err
+
+-- there is nothing to aim at
+pub none_given : (n : HeapNumbers) (half : Half) (s : Seat PairsNote) (pair : Hold) (new : New) → HoldsFresh s pair
+    → IsUntouched s.agent (heap_of n s) (id_in s.slots pair) → IsReady n half pair new s → MakesReady n half pair new s s
+none_given n half s pair new fresh u ready = record {
+  answered = answered_none n s;
+  fresh = fresh;
+  node = u.node;
+  there = u.there;
+  keeps = λ old there. ap (link_of (other half)) (some_same (sym u.there ∙ there));
+  ready = ready;
+}
+
+-- halves stay over pieces that look, and over turns
+
+pub keeps_found : (n : HeapNumbers) (left right : Option ℕ) (pair : Hold) (s a : Seat PairsNote) (own : List (Event PairsNote)) → Puts s own a
+    → Known n s.seen → AllAllowed (PairsMay n) [] a.seen → AllByRecursion (λ (e : Event PairsNote). IsFinding e.act) own
+    → IsUntouched s.agent (heap_of n s) (id_in s.slots pair) → id_in a.slots pair ≡ id_in s.slots pair → KeepsHalves n left right pair s a
+keeps_found n left right pair s a own p known all finding u same = record {
+  node = u.node;
+  there = subst (λ (i : ℕ). slice_get (heap_of n a).nodes i ≡ Some u.node) (sym same) (own_found n s a own (id_in s.slots pair) u.node p known all finding u u.there);
+  left_stays = λ some old there. ap (λ (z : Node). z.link) (some_same (sym u.there ∙ there));
+  right_stays = λ some old there. ap (λ (z : Node). z.side) (some_same (sym u.there ∙ there));
+}
+
+pub keeps_trans : (n : HeapNumbers) (left right : Option ℕ) (pair : Hold) (s a t : Seat PairsNote) → KeepsHalves n left right pair s a
+    → KeepsHalves n left right pair a t → KeepsHalves n left right pair s t
+keeps_trans n left right pair s a t p q = record {
+  node = q.node;
+  there = q.there;
+  left_stays = λ some old there. q.left_stays some p.node p.there ∙ p.left_stays some old there;
+  right_stays = λ some old there. q.right_stays some p.node p.there ∙ p.right_stays some old there;
+}
+
+-- where nothing was done
+pub keeps_none : (n : HeapNumbers) (left right : Option ℕ) (pair : Hold) (s : Seat PairsNote) → IsUntouched s.agent (heap_of n s) (id_in s.slots pair)
+    → KeepsHalves n left right pair s s
+keeps_none n left right pair s u = record {
+  node = u.node;
+  there = u.there;
+  left_stays = λ some old there. ap (λ (z : Node). z.link) (some_same (sym u.there ∙ there));
+  right_stays = λ some old there. ap (λ (z : Node). z.side) (some_same (sym u.there ∙ there));
+}
+
+-- both halves were aimed, each that is given before
+pub aims_keep : (n : HeapNumbers) (left right : Option ℕ) (pair : Hold) (s a b : Seat PairsNote) (l r x y : ℕ) → Aimed n Left pair l x s a
+    → Aimed n Right pair r y a b → (left ≢ None → a ≡ s) → (right ≢ None → b ≡ a) → KeepsHalves n left right pair s b
+aims_keep n left right pair s a b l r x y one two same_left same_right = record {
+  node = two.node;
+  there = two.there;
+  left_stays = λ some old there.
+      let at_s = subst (λ (z : Seat PairsNote). slice_get (heap_of n z).nodes (id_in z.slots pair) ≡ Some one.node) (same_left some) one.there in
+      two.keeps one.node one.there ∙ ap (λ (z : Node). z.link) (some_same (sym at_s ∙ there));
+  right_stays = λ some old there.
+      let at_a = subst (λ (z : Seat PairsNote). slice_get (heap_of n z).nodes (id_in z.slots pair) ≡ Some two.node) (same_right some) two.there in
+      ap (λ (z : Node). z.side) (some_same (sym at_a ∙ one.there)) ∙ one.keeps old there;
+}
+
+-- so they stay ready
+
+pub left_ready : (n : HeapNumbers) (root : ℕ) (new : New) (right : Option ℕ) (pair : Hold) (s a : Seat PairsNote) → KeepsHalves n (given_of new) right pair s a
+    → ((h : Hold) → Holds s.slots h → id_in a.slots h ≡ id_in s.slots h) → SideHeld n root new s → IsReady n Left pair new s → IsReady n Left pair new a
+left_ready n root (Given v h) right pair s a k carries held l = record {
+  node = k.node;
+  there = k.there;
+  leads = k.left_stays (λ e. cc) l.node l.there ∙ (l.leads ∙ ap link_to (sym (carries h held.held)));
+}
+left_ready n root (Zero h) right pair s a k carries held l = tt
+left_ready n root Kept right pair s a k carries held l = tt
+
+pub right_ready : (n : HeapNumbers) (root : ℕ) (new : New) (left : Option ℕ) (pair : Hold) (s a : Seat PairsNote) → KeepsHalves n left (given_of new) pair s a
+    → ((h : Hold) → Holds s.slots h → id_in a.slots h ≡ id_in s.slots h) → SideHeld n root new s → IsReady n Right pair new s → IsReady n Right pair new a
+right_ready n root (Given v h) left pair s a k carries held l = record {
+  node = k.node;
+  there = k.there;
+  leads = k.right_stays (λ e. cc) l.node l.there ∙ (l.leads ∙ ap link_to (sym (carries h held.held)));
+}
+right_ready n root (Zero h) left pair s a k carries held l = tt
+right_ready n root Kept left pair s a k carries held l = tt
