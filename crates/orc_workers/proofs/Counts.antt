@@ -1,12 +1,12 @@
 -- How many desks, rooms and workers a run has, and one worker more at its desk.
-use Rattle.std.proofs.Common.{◌≡◌, ℕ, ◌+◌, ◌-◌, ◌≤◌, List, [], ◌∷◌, ◌++◌, length, ap, sym, ◌∙◌, subst, arith}
+use Rattle.std.proofs.Common.{◌≡◌, ℕ, ◌+◌, ◌-◌, ◌≤◌, List, [], ◌∷◌, ◌++◌, length, map, refl, ap, sym, ◌∙◌, subst, arith, append_assoc}
 use Rattle.std.specs.List.{remove}
 use Rattle.orc_history.specs.declared.queue.SharedQueue.{Ghosts as QueueOf}
 use Rattle.orc_board.specs.declared.desk.Desk.{Desk}
 use Rattle.orc_workers.specs.declared.reserve.Room.{Room}
 use Rattle.orc_workers.specs.declared.team.Worker.{Worker}
-use Rattle.orc_workers.specs.Seats.{HaveAgents, seated}
-use Rattle.orc_workers.proofs.Rooms.{agents_before, seated-snoc, seated_length}
+use Rattle.orc_workers.specs.Seats.{HaveAgents, seated, all_of}
+use Rattle.orc_workers.proofs.Rooms.{agents_before, seated-snoc, seated_length, all_length}
 
 -- of two lists of one length, all but the last of each
 pub one_less_each : (a b fewer_a fewer_b x y : ℕ) → fewer_a + 1 ≡ a → fewer_b + 1 ≡ b → a ≡ b → fewer_a ≡ x → fewer_b ≡ y → x ≡ y
@@ -60,3 +60,29 @@ pub desks_fit : (len cap cap_1 cap_2 cap_3 len_2 items_2 len_3 workers waiting s
     → cap_2 ≤ cap_3 → len_2 ≡ items_2 → items_2 ≡ 0 → len_3 ≡ len_2 + 1 → workers ≡ waiting → waiting ≡ seated_len → seated_len ≡ n
     → len_3 + workers ≤ cap_3
 desks_fit len cap cap_1 cap_2 cap_3 len_2 items_2 len_3 workers waiting seated_len n a b c d e f g h i j k = omega (arith, a, b, c, d, e, f, g, h, i, j, k)
+
+-- one worker more that hands back: its desk, its replies, and the room that they take
+map_last : {W D : Type 0} (f : W → D) (ws : List W) (w : W) → map f (ws ++ w ∷ []) ≡ map f ws ++ f w ∷ []
+map_last f [] w = refl
+map_last {D = D} f (v ∷ ws) w = ap (λ (ds : List D). f v ∷ ds) (map_last f ws w)
+
+pub desks_more : {W D : Type 0} (f : W → D) (ws all : List W) (w : W) (before now after : List D)
+    → all ≡ ws ++ w ∷ [] → now ≡ before ++ map f ws → after ≡ now ++ f w ∷ [] → after ≡ before ++ map f all
+desks_more {D = D} f ws all w before now after all_is now_is after_is =
+    after_is
+    ∙ (ap (λ (ds : List D). ds ++ f w ∷ []) now_is
+    ∙ (append_assoc before (map f ws) (f w ∷ []) ∙ ap (λ (ds : List D). before ++ ds) (sym (map_last f ws w) ∙ ap (map f) (sym all_is))))
+
+pub one_desk_more : (after now before fewer workers : ℕ) → after ≡ now + 1 → now ≡ before + fewer → fewer + 1 ≡ workers → after ≡ before + workers
+one_desk_more after now before fewer workers a b c = omega (arith, a, b, c)
+
+pub no_smaller : (before now after : ℕ) → before ≤ now → now ≤ after → before ≤ after
+no_smaller before now after a b = omega (arith, a, b)
+
+pub room_left : {W X : Type 0} (items : W → List X) (ws all : List W) (w : W) (room left : ℕ) → all ≡ ws ++ w ∷ []
+    → length (all_of items all) ≤ room → left + length (all_of items ws) ≡ room → length (items w) ≤ left
+room_left items ws all w room left is fit rest = omega (arith, fit, rest, all_length items ws all w is)
+
+pub room_after : {W X : Type 0} (items : W → List X) (ws all : List W) (w : W) (room left after : ℕ) → all ≡ ws ++ w ∷ []
+    → left + length (all_of items ws) ≡ room → after + length (items w) ≡ left → after + length (all_of items all) ≡ room
+room_after items ws all w room left after is rest taken = omega (arith, rest, taken, all_length items ws all w is)

@@ -1,11 +1,30 @@
-use Rattle.std.proofs.Common.{arith}
-use Rattle.orc_workers.proofs.Rooms.{all_length}
+use Rattle.orc_workers.proofs.Counts.{desks_more, no_smaller, one_desk_more, room_after, room_left}
+use Rattle.orc_workers.proofs.Rooms.{back_more}
 use Rattle.orc_workers.proofs.seating.+hand_back.Goals as goal
 
 pub append-requires : goal.append-requires
 append-requires g t c =
-    omega (arith, c.requires.posts, c.hand_back.ensures.room_for_posts, all_length (λ w. w.posts.items) _ _ c.in-Some.worker c.in-Some.ensures.items)
+    room_left (λ w. w.posts.items) c.pop.new.self.items c.args.workers.items c.in-Some.worker c.args.posts.now.spare c.hand_back.new.posts.spare
+    c.in-Some.ensures.items c.requires.posts c.hand_back.ensures.room_for_posts
 
 pub append-requires-2 : goal.append-requires-2
 append-requires-2 g t c =
-    omega (arith, c.requires.takes, c.hand_back.ensures.room_for_takes, all_length (λ w. w.takes.items) _ _ c.in-Some.worker c.in-Some.ensures.items)
+    room_left (λ w. w.takes.items) c.pop.new.self.items c.args.workers.items c.in-Some.worker c.args.takes.now.spare c.hand_back.new.takes.spare
+    c.in-Some.ensures.items c.requires.takes c.hand_back.ensures.room_for_takes
+
+pub returns : goal.returns
+returns g t c = record {
+  desks = desks_more (λ w. w.desk) c.pop.new.self.items c.args.workers.items c.in-Some.worker c.args.desks.now.items c.hand_back.new.desks.items
+      c.push.new.self.items c.in-Some.ensures.items c.hand_back.ensures.desks c.in-Ok.ensures.items;
+  posts = back_more (λ w. w.posts.items) c.pop.new.self.items c.args.workers.items c.in-Some.worker c.args.posts.now.items c.hand_back.new.posts.items
+      c.append.new.self.items c.in-Some.ensures.items c.hand_back.ensures.posts c.append.ensures.items;
+  takes = back_more (λ w. w.takes.items) c.pop.new.self.items c.args.workers.items c.in-Some.worker c.args.takes.now.items c.hand_back.new.takes.items
+      c.append-2.new.self.items c.in-Some.ensures.items c.hand_back.ensures.takes c.append-2.ensures.items;
+  len = one_desk_more c.push.new.self.len c.hand_back.new.desks.len c.args.desks.now.len c.pop.new.self.len c.args.workers.len c.in-Ok.ensures.len
+      c.hand_back.ensures.len c.in-Some.ensures.cases;
+  capacity = no_smaller c.args.desks.now.cap c.hand_back.new.desks.cap c.push.new.self.cap c.hand_back.ensures.capacity c.in-Ok.ensures.capacity;
+  room_for_posts = room_after (λ w. w.posts.items) c.pop.new.self.items c.args.workers.items c.in-Some.worker c.args.posts.now.spare
+      c.hand_back.new.posts.spare c.append.new.self.spare c.in-Some.ensures.items c.hand_back.ensures.room_for_posts c.append.ensures.spare;
+  room_for_takes = room_after (λ w. w.takes.items) c.pop.new.self.items c.args.workers.items c.in-Some.worker c.args.takes.now.spare
+      c.hand_back.new.takes.spare c.append-2.new.self.spare c.in-Some.ensures.items c.hand_back.ensures.room_for_takes c.append-2.ensures.spare;
+}
