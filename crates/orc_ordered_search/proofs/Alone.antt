@@ -30,7 +30,7 @@ allowed_lawful {N} ord seen (e ∷ es) all = (
 )
 
 -- and loads leave the heap as it was
-loads_same : {N : Type 0} (ord : Ordering N) (seen es : List (Event N)) → AreLoads es
+pub loads_same : {N : Type 0} (ord : Ordering N) (seen es : List (Event N)) → AreLoads es
     → run_heap ord.reading.numbers (seen ++ es) ≡ run_heap ord.reading.numbers seen
 loads_same ord seen [] loads = ap (λ z. run_heap ord.reading.numbers z) (append-nil seen)
 loads_same {N} ord seen (e ∷ es) loads =

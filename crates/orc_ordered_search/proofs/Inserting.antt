@@ -29,16 +29,16 @@ use Rattle.orc_ordered_search.proofs.Stepping.{holds_later}
 -- what the turn comes to
 
 pub adds_inserts : {N : Type 0} (r : Reading N) (value kind : ℕ) (entry : Bool → SetEntry) (h : Hold) (id given : ℕ) (base slots : Slots) (had : Option Hold)
-    (s u : Seat N) (linked : Result Bool SpentRow) → AddsNode r value kind (entry true ∷ []) h id given base s linked u → base ≡ slots_with slots (Some h) id
-    → h.slot ≡ 1 → count_of had + given ≡ 1 → Inserts r value kind entry 1 slots had s (turn_by linked) (Some h) u
-adds_inserts r value kind entry h id given base slots had s u (Ok false) a is first count = record {
+    (s u : Seat N) (passed : ℕ) (linked : Result Bool SpentRow) → AddsNode r value kind (entry true ∷ []) h id given base s linked u
+    → base ≡ slots_with slots (Some h) id → h.slot ≡ 1 → count_of had + given ≡ 1 → Inserts r value kind entry 1 slots had s (turn_by passed linked) (Some h) u
+adds_inserts r value kind entry h id given base slots had s u passed (Ok false) a is first count = record {
   own = a.own;
   given = given;
   over = a.over;
   count = count;
   keeps = record { id = id; slots_are = a.slots_are ∙ is; slot_is = first; to_add = a.holds };
 }
-adds_inserts r value kind entry h id given base slots had s u (Ok true) a is first count = (
+adds_inserts r value kind entry h id given base slots had s u passed (Ok true) a is first count = (
   a.own,
   record {
     given = given;
@@ -47,7 +47,7 @@ adds_inserts r value kind entry h id given base slots had s u (Ok true) a is fir
     ends = record { id = id; slots_are = a.slots_are ∙ is; slot_is = first; fresh = inl a.fresh_is };
   },
 )
-adds_inserts r value kind entry h id given base slots had s u (Err why) a is first count = (
+adds_inserts r value kind entry h id given base slots had s u passed (Err why) a is first count = (
   a.own,
   record {
     given = given;
@@ -144,7 +144,7 @@ module _ {N : Type 0} (r : Reading N) (value kind turns : ℕ) (had kept : Optio
   pub inserts_done : (entry : Bool → SetEntry) (most : ℕ) (turn : InsertTurn) → Inserts r value kind entry 1 s.slots had t turn kept u → (turn ≡ Over → ⊥)
       → turns + 1 ≤ most → InsertsTurns r value kind entry most s turn kept u
   inserts_done entry most Over f other low = absurd (other refl)
-  inserts_done entry most (Answered answer) (own, e) other low =
+  inserts_done entry most (Answered answer passed) (own, e) other low =
       ((λ zero. omega (arith, zero, low)), (w.own ++ own, ends_next own (entry answer ∷ []) e))
   inserts_done entry most NoNode (own, e) other low = ((λ zero. omega (arith, zero, low)), (w.own ++ own, ends_next own [] e))
   inserts_done entry most (Spent why) (own, e) other low = ((λ zero. omega (arith, zero, low)), (w.own ++ own, ends_next own [] e))
@@ -162,7 +162,7 @@ keeps_ends r value kind node slots t k = record { id = k.id; slots_are = k.slots
 pub ends_of : {N : Type 0} (r : Reading N) (value kind : ℕ) (entry : Bool → SetEntry) (turns : ℕ) (kept : Option Hold) (s t : Seat N) (turn : InsertTurn)
     → InsertsTurns r value kind entry turns s turn kept t → EndsWith kept s.slots t
 ends_of r value kind entry turns kept s t Over f = keeps_ends r value kind kept s.slots t f.keeps
-ends_of r value kind entry turns kept s t (Answered answer) f = f.1.1.ends
+ends_of r value kind entry turns kept s t (Answered answer passed) f = f.1.1.ends
 ends_of r value kind entry turns kept s t NoNode f = f.1.1.ends
 ends_of r value kind entry turns kept s t (Spent why) f = f.1.1.ends
 
@@ -237,12 +237,12 @@ idle_room s idle =
 pub spent_same : (a b : SpentRow) → ◌≡◌ {A = Result Bool ListRefused} (Err (RefusedSpent a)) (Err (RefusedSpent b)) → a ≡ b
 spent_same a b e = cc
 
-pub turn_spent : (linked : Result Bool SpentRow) (why : SpentRow) → turn_by linked ≡ Spent why → linked ≡ Err why
-turn_spent (Ok true) why e = cc
-turn_spent (Ok false) why e = cc
-turn_spent (Err other) why e = let same : other ≡ why = cc in ap (λ (x : SpentRow). Err x) same
+pub turn_spent : (passed : ℕ) (linked : Result Bool SpentRow) (why : SpentRow) → turn_by passed linked ≡ Spent why → linked ≡ Err why
+turn_spent passed (Ok true) why e = cc
+turn_spent passed (Ok false) why e = cc
+turn_spent passed (Err other) why e = let same : other ≡ why = cc in ap (λ (x : SpentRow). Err x) same
 
-pub turn_node : (linked : Result Bool SpentRow) → turn_by linked ≡ NoNode → ⊥
-turn_node (Ok true) e = cc
-turn_node (Ok false) e = cc
-turn_node (Err why) e = cc
+pub turn_node : (passed : ℕ) (linked : Result Bool SpentRow) → turn_by passed linked ≡ NoNode → ⊥
+turn_node passed (Ok true) e = cc
+turn_node passed (Ok false) e = cc
+turn_node passed (Err why) e = cc

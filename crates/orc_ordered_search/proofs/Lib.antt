@@ -3,6 +3,7 @@ pub mod Seen
 pub mod Quiets
 pub mod Held
 pub mod Stepping
+pub mod Walking
 pub mod Starting
 pub mod Alone
 pub mod Making

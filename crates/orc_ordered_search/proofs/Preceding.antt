@@ -1,5 +1,5 @@
 -- Loads before a turn's search are part of the turn.
-use Rattle.std.proofs.Common.{List, None, Option, Some, [], arith, length-append, refl, subst, sym, ℕ, ◌++◌, ◌∙◌, ◌∷◌, ◌≡◌, ◌≤◌, Bool}
+use Rattle.std.proofs.Common.{List, None, Option, Some, [], arith, length-append, subst, sym, ℕ, ◌++◌, ◌∙◌, ◌∷◌, ◌≡◌, ◌≤◌, Bool}
 use Rattle.orc_heap.proofs.Calls.{Puts-trans}
 use Rattle.orc_heap.proofs.Moved.{gives_in-append, moves_in-append}
 use Rattle.orc_heap.proofs.OwnEntries.{noted-append}
@@ -97,7 +97,7 @@ module _ {N : Type 0} (r : Reading N) (s t u : Seat N) (own : List (Event N)) (q
     count = f.count;
     keeps = f.keeps;
   }
-  inserts_after value kind entry slots node kept (Answered answer) (ys, e) = (own ++ ys, ends_after slots node kept ys (entry answer ∷ []) e)
+  inserts_after value kind entry slots node kept (Answered answer passed) (ys, e) = (own ++ ys, ends_after slots node kept ys (entry answer ∷ []) e)
   inserts_after value kind entry slots node kept NoNode (ys, e) = (own ++ ys, ends_after slots node kept ys [] e)
   inserts_after value kind entry slots node kept (Spent why) (ys, e) = (own ++ ys, ends_after slots node kept ys [] e)
 

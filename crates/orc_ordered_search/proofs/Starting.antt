@@ -2,7 +2,7 @@
 use Rattle.std.proofs.Common.{Bool, List, None, Option, Some, [], ap, arith, false, inl, inr, length, refl, subst, sym, ℕ, ◌++◌, ◌∙◌, ◌∷◌, ◌≡◌, ◌≢◌, ◌<◌, ◌≤◌}
 use Rattle.std.specs.List.{slice_get, slice_set}
 use Rattle.orc_heap.proofs.Calls.{Puts-stood}
-use Rattle.orc_heap.proofs.Hands.{free_in, hands_done, hands_swap, hands_take, hands_with_none}
+use Rattle.orc_heap.proofs.Hands.{hands_done, hands_swap, hands_take, hands_with_none}
 use Rattle.orc_heap.proofs.Pieces.{own_moves_left}
 use Rattle.orc_heap.proofs.Moments.{look_found, looks_differ, seen_is, since}
 use Rattle.orc_heap.specs.Allowed.{AllAllowed, events_by}
@@ -13,7 +13,7 @@ use Rattle.orc_heap.specs.Journals.{noted_entries, run_heap}
 use Rattle.orc_heap.specs.Moves.{ShowsOrMoved, from_own, gives_in, moves_in}
 use Rattle.orc_heap.specs.OwnEvents.{Puts}
 use Rattle.orc_heap.specs.Seats.{Seat, heap_of}
-use Rattle.orc_heap.specs.Slots.{Hold, IsFree, Slots}
+use Rattle.orc_heap.specs.Slots.{Hold, Slots}
 use Rattle.orc_heap.specs.declared.events.Act.TheVariants.{Look}
 use Rattle.orc_heap.specs.declared.events.Event.{Event}
 use Rattle.orc_heap.specs.declared.events.Link.{Link}
@@ -149,10 +149,6 @@ module _ {N : Type 0} (ord : Ordering N) (start : Place) (wanted : ℕ) (left : 
   apart_of : (slot : ℕ) (o : Option Hold) → slot ≢ slot_in o → IsApartOf slot o
   apart_of slot None ne = tt
   apart_of slot (Some h) ne = ne
-
-  pub start_free : (slot : ℕ) → HasRoom s.slots → 2 ≤ slot → slot < 6 → slot ≢ slot_in left → IsFree t.slots slot
-  start_free slot room low high ne =
-      free_in s.slots t.slots (hand left b.left_id ∷ []) slot b.hands (apart_of slot left ne, tt) (room_at s.slots slot room low high)
 
   pub start_looks : (slot : ℕ) (seen : Seen) (next : Option Hold) → HasRoom s.slots → 2 ≤ slot → slot < 6 → slot ≢ slot_in left
       → Looks start slot t (Stable seen next) u → Passed ord.reading start wanted 0 0 left None next s u

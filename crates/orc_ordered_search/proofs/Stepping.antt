@@ -1,36 +1,33 @@
 -- One step of a search after another.
-use Rattle.std.proofs.Common.{Bool, List, None, Option, Some, [], ap, arith, false, inl, inr, length, length-append, refl, subst, sym, true, ℕ, ◌++◌, ◌+◌, ◌<◌, ◌∙◌, ◌∷◌, ◌≡◌, ◌≢◌, ◌≤◌, ◌⊎◌}
-use Rattle.std.specs.List.{slice_get, slice_set}
+use Rattle.std.proofs.Common.{Bool, List, None, Option, Some, [], ap, arith, false, inl, inr, length, length-append, refl, subst, sym, true, ℕ, ◌++◌, ◌+◌, ◌<◌, ◌∙◌, ◌∷◌, ◌≡◌, ◌≤◌, ◌⊎◌}
 use Rattle.orc_heap.proofs.Calls.{Puts-stood}
-use Rattle.orc_heap.proofs.Hands.{free_in, hand_held, hands_swap, hands_take, hands_with_none, holds_of}
-use Rattle.orc_heap.proofs.Moments.{look_found, looks_differ, seen_is, since}
+use Rattle.orc_heap.proofs.Hands.{hand_held, hands_swap, hands_with_none, holds_of}
+use Rattle.orc_heap.proofs.Moments.{look_found, seen_is, since}
 use Rattle.orc_heap.proofs.Pieces.{own_moves_right}
 use Rattle.orc_heap.proofs.SingleActs.{has_link}
 use Rattle.orc_heap.proofs.Stays.{stays}
 use Rattle.orc_heap.specs.Allowed.{AllAllowed, HasLink}
-use Rattle.orc_heap.specs.Calls.{Looks, Tells, event_of}
-use Rattle.orc_heap.specs.Hands.{Hand, Hands, HoldsId, IsApart, IsApartOf, hand}
+use Rattle.orc_heap.specs.Calls.{event_of}
+use Rattle.orc_heap.specs.Hands.{Hand, Hands, IsApartOf, hand}
 use Rattle.orc_heap.specs.Heap.{Heap, shown}
 use Rattle.orc_heap.specs.Journals.{noted_entries, run_heap}
 use Rattle.orc_heap.specs.Moves.{ShowsOrMoved, gives_in, moves_in}
 use Rattle.orc_heap.specs.OwnEvents.{Only, Puts}
 use Rattle.orc_heap.specs.Seats.{Seat, heap_of}
-use Rattle.orc_heap.specs.Slots.{Hold, IsFree, Slots, id_in}
+use Rattle.orc_heap.specs.Slots.{Hold, Slots, id_in}
 use Rattle.orc_heap.specs.declared.events.Act.TheVariants.{Look}
 use Rattle.orc_heap.specs.declared.events.Event.{Event}
 use Rattle.orc_heap.specs.declared.events.Link.{Link}
 use Rattle.orc_heap.specs.declared.events.Place.{Place}
 use Rattle.orc_heap.specs.declared.events.Place.TheVariants.{Next}
-use Rattle.orc_heap.specs.declared.holds.Looked.TheVariants.{Moved, Stable}
-use Rattle.orc_heap.specs.declared.holds.Seen.{Seen}
 use Rattle.orc_ordered_chains.proofs.Acts.{rank_linked, rank_one}
 use Rattle.orc_ordered_chains.proofs.Later.{follows_later, marked_later, rank_later}
 use Rattle.orc_ordered_chains.specs.Chains.{FollowsOn, HasRank, IsRun, link_over}
 use Rattle.orc_ordered_search.specs.Ways.{AreLoads, Sees}
 use Rattle.orc_ordered_search.specs.Reading.{Ordering}
-use Rattle.orc_ordered_search.specs.Searches.{AllGone, Behind, BeginsRun, FindsAbsent, FindsMoved, FindsPresent, HasRoom, IsOf, IsUncounted, KeepsFirst, LetsGo, Looking, LooksOn, NextFollows, NextIsOf, Passed, SeesRun, Stops, Visits, Walks, count_on, node_of, slot_in}
-use Rattle.orc_ordered_search.proofs.Held.{FreshIs, first_linked, goes_fresh, goes_hands, left_linked, next_linked, room_at, walk_apart}
-use Rattle.orc_ordered_search.proofs.Quiets.{behind_on, behind_puts, is_of_puts, key_puts, looking_on, moved_on, silent_one, silent_two, uncounted_puts, visits_on, visits_puts}
+use Rattle.orc_ordered_search.specs.Searches.{Behind, BeginsRun, FindsAbsent, FindsPresent, IsOf, IsUncounted, KeepsFirst, LetsGo, Looking, LooksOn, NextFollows, NextIsOf, Passed, SeesRun, Visits, Walks, count_on, node_of}
+use Rattle.orc_ordered_search.proofs.Held.{FreshIs, first_linked, goes_fresh, goes_hands, left_linked, next_linked}
+use Rattle.orc_ordered_search.proofs.Quiets.{behind_on, behind_puts, is_of_puts, looking_on, uncounted_puts, visits_on, visits_puts}
 use Rattle.orc_ordered_search.proofs.Seen.{sees_right}
 
 pub holds_later : {N : Type 0} (ord : Ordering N) (seen more : List (Event N)) → ord.holds seen → AllAllowed ord.may seen more → ord.holds (seen ++ more)
@@ -242,11 +239,6 @@ module _ {N : Type 0} (ord : Ordering N) (start : Place) (wanted : ℕ) (left fi
         counted = (passed, v.counted, inr (omega arith, inr (k.kind refl)));
       }
 
-visits_weaker : {N : Type 0} (ord : Ordering N) (start : Place) (wanted passed low high : ℕ) (to : Option ℕ) (own : List (Event N)) (t : Seat N)
-    → Visits ord.reading start wanted passed low to own t → low ≤ high → Visits ord.reading start wanted passed high to own t
-visits_weaker ord start wanted passed low high to own t v up =
-    record { nodes = v.nodes; few = omega (arith, v.few, up); way = v.way; on = v.on; counted = v.counted }
-
 -- the search has gone past the node
 
 pub passed_marked : {N : Type 0} (ord : Ordering N) (start : Place) (wanted : ℕ) (left first : Option Hold) (at : Hold) (key : ℕ) (counted : Bool) (passed : ℕ) (next : Option Hold) (kept : Hold)
@@ -351,7 +343,7 @@ passed_none ord start wanted least passed left first s t w =
       apart = (w.apart.1.0, (w.apart.1.1.0, (tt, tt)));
       behind = w.behind;
       above = tt;
-      visits = visits_weaker ord start wanted passed 2 4 None w.own t w.visits (omega arith);
+      visits = w.visits;
     }
 
 pub passed_some : {N : Type 0} (ord : Ordering N) (start : Place) (wanted least passed : ℕ) (left first : Option Hold) (at : Hold) (value : ℕ) (counted : Bool)
@@ -435,84 +427,4 @@ looks_above {N} ord start wanted left first at key counted passed next s t u w l
       behind = j.behind;
       above = (key, j.is_of.has_key, less);
       visits = j.visits;
-    }
-
--- a look from a node on the way
-
-pub walk_held : {N : Type 0} (ord : Ordering N) (start : Place) (wanted : ℕ) (left first : Option Hold) (at : Hold) (key : ℕ) (counted : Bool) (passed : ℕ) (s t : Seat N)
-    → (w : Walks ord.reading start wanted left first at key counted passed s t) → HoldsId t.slots at w.id
-walk_held {N} ord start wanted left first at key counted passed s t w = w.hands.held.1.1.0.0
-
-pub walk_free : {N : Type 0} (ord : Ordering N) (start : Place) (wanted : ℕ) (left first : Option Hold) (at : Hold) (key : ℕ) (counted : Bool) (passed slot : ℕ) (s t : Seat N) → HasRoom s.slots
-    → Walks ord.reading start wanted left first at key counted passed s t
-    → 2 ≤ slot → slot < 6 → slot ≢ slot_in left → slot ≢ slot_in first → slot ≢ at.slot → IsFree t.slots slot
-walk_free {N} ord start wanted left first at key counted passed slot s t room w low high a b c =
-    free_in s.slots t.slots (hand left w.left_id ∷ hand first w.first_id ∷ hand (Some at) w.id ∷ []) slot w.hands
-    (walk_apart left first at w.left_id w.first_id w.id slot a b c) (room_at s.slots slot room low high)
-
-pub walk_looks : {N : Type 0} (ord : Ordering N) (start : Place) (wanted : ℕ) (left first : Option Hold) (at : Hold) (key : ℕ) (counted : Bool) (passed slot : ℕ) (seen : Seen) (next : Option Hold)
-    (s t u : Seat N)
-    → HasRoom s.slots
-    → Walks ord.reading start wanted left first at key counted passed s t → 2 ≤ slot → slot < 6 → slot ≢ slot_in left → slot ≢ slot_in first → slot ≢ at.slot
-    → Looks (Next (id_in t.slots at)) slot t (Stable seen next) u → ord.holds t.seen → AllAllowed ord.may [] u.seen
-    → LooksOn ord.reading start wanted left first at key counted passed seen.mark next s u
-walk_looks {N} ord start wanted left first at key counted passed slot seen next s t u room w low high a b c looks holds all = by_next next looks.tells
-  where
-    id_is : id_in t.slots at ≡ w.id
-    id_is = (holds_of t.slots at w.id (walk_held ord start wanted left first at key counted passed s t w)).1
-
-    by_next : (next : Option Hold) → Tells (Next (id_in t.slots at)) slot t (Stable seen next) u → LooksOn ord.reading start wanted left first at key counted passed seen.mark next s
-        u
-    by_next None (null, slots, puts) =
-        let p = subst (λ (i : ℕ). Puts t (event_of t (Look (Next i) (record { to = None; mark = seen.mark })) None ∷ []) u) id_is puts in
-        let hs : List Hand = hand left w.left_id ∷ hand first w.first_id ∷ hand (Some at) w.id ∷ [] in
-        let hands = subst (λ (z : Slots). Hands s.slots z (hand None 0 ∷ hs)) (sym slots) (hands_with_none s.slots t.slots hs 0 w.hands) in
-        looks_on ord start wanted left first at key counted passed seen.mark None 0 s t u [] w hands tt p (omega arith) (tt, tt) (silent_one ord t.agent (Look (Next w.id) (record { to = None; mark = seen.mark }))) refl refl looks.fresh holds all
-    by_next (Some h) (next_id, one, some, marked, null, at_slot, slots, puts) =
-        let link : Link = record { to = Some next_id; mark = seen.mark } in
-        let p = subst (λ (i : ℕ). Puts t (event_of t (Look (Next i) one) None ∷ event_of t (Look (Next i) link) None ∷ []) u) id_is puts in
-        let hs : List Hand = hand left w.left_id ∷ hand first w.first_id ∷ hand (Some at) w.id ∷ [] in
-        let apart = walk_apart left first at w.left_id w.first_id w.id slot a b c in
-        let free = room_at s.slots slot room low high in
-        let hands = hands_take s.slots t.slots u.slots hs h next_id w.hands (subst (λ (i : ℕ). IsApart i hs) (sym at_slot) apart)
-        (subst (λ (i : ℕ). slice_get s.slots i ≡ Some None) (sym at_slot) free.empty)
-        (subst (λ (i : ℕ). u.slots ≡ slice_set t.slots i (Some (record { row = h.row; id = next_id }))) (sym at_slot) slots) in
-        looks_on ord start wanted left first at key counted passed seen.mark (Some h) next_id s t u (event_of t (Look (Next w.id) one) None ∷ []) w hands
-        (λ e. omega (arith, e, at_slot, low)) p (omega arith) (tt, (tt, tt))
-        (silent_two ord t.agent t.agent (Look (Next w.id) one) (Look (Next w.id) link)) refl refl looks.fresh holds all
-
-pub walk_stops : {N : Type 0} (ord : Ordering N) (start : Place) (wanted : ℕ) (left first : Option Hold) (at : Hold) (key : ℕ) (counted : Bool) (passed slot : ℕ) (s t u : Seat N)
-    → Walks ord.reading start wanted left first at key counted passed s t
-    → Looks (Next (id_in t.slots at)) slot t Moved u → AllAllowed ord.may [] u.seen → Stops ord.reading start wanted left first at s u
-walk_stops {N} ord start wanted left first at key counted passed slot s t u w looks all =
-    let (one, two, other, slots, puts, some) = looks.tells in
-    let id_is = (holds_of t.slots at w.id (walk_held ord start wanted left first at key counted passed s t w)).1 in
-    let linked = rank_linked ord.reading.order (heap_of ord.reading.numbers t) w.id key w.is_of.has_key in
-    let ys : List (Event N) = event_of t (Look (Next w.id) one) None ∷ event_of t (Look (Next w.id) two) None ∷ [] in
-    let p : Puts t ys u = subst (λ (i : ℕ). Puts t (event_of t (Look (Next i) one) None ∷ event_of t (Look (Next i) two) None ∷ []) u) id_is puts in
-    let moved = looks_differ ord.reading.numbers ord.may ord.fits t u (Next w.id) one two p all linked other in
-    let b = behind_puts ord t u ys p all start wanted left first w.left_id w.first_id (Some w.id) s w.own w.behind (tt, (tt, tt)) looks.fresh
-    (silent_two ord t.agent t.agent (Look (Next w.id) one) (Look (Next w.id) two)) refl refl in
-    record {
-      own = w.own ++ ys;
-      left_id = w.left_id;
-      first_id = w.first_id;
-      id = w.id;
-      key = key;
-      hands = subst (λ (z : Slots). Hands s.slots z (hand left w.left_id ∷ hand first w.first_id ∷ hand (Some at) w.id ∷ [])) (sym slots) w.hands;
-      behind = b;
-      has_key = key_puts ord t u ys p all w.id key w.is_of.has_key;
-      moved = omega (arith, moved, own_moves_right s t u w.own ys (w.own ++ ys) w.behind.quiet.puts p b.quiet.puts);
-    }
-
-pub stops_moved : {N : Type 0} (ord : Ordering N) (start : Place) (wanted : ℕ) (left first : Option Hold) (at : Hold) (s t u : Seat N) → Stops ord.reading start wanted left first at s
-    t
-    → AllGone s.slots t u → AllAllowed ord.may [] u.seen → FindsMoved ord.reading s u
-stops_moved {N} ord start wanted left first at s t u w g all =
-    let b = behind_on ord t u g.puts all start wanted left first w.left_id w.first_id (Some w.id) s w.own w.behind g.fresh in
-    record {
-      own = w.own;
-      quiet = b.quiet;
-      slots = g.slots_are;
-      moved = moved_on ord t u g.puts all s w.own w.behind.quiet.puts b.quiet.puts w.moved;
     }

@@ -48,11 +48,11 @@ pub record HasRoomFor (slots : Slots) : Type 0 where
   pub one : IsFree slots 1
   pub room : HasRoom slots
 
--- how a turn ends that linked a node, by what came of it
-abbrev pub turn_by : Result Bool SpentRow → InsertTurn
-turn_by (Ok true) = Answered true
-turn_by (Ok false) = Over
-turn_by (Err why) = Spent why
+-- how a turn ends that linked a node, by what came of it, where its search went past so many nodes
+abbrev pub turn_by : ℕ → Result Bool SpentRow → InsertTurn
+turn_by passed (Ok true) = Answered true passed
+turn_by passed (Ok false) = Over
+turn_by passed (Err why) = Spent why
 
 module _ {N : Type 0} where
   -- the pass holds its fresh node, which has these values
@@ -152,14 +152,14 @@ module _ {N : Type 0} where
   -- so many turns of an insert, by the answer of the last: with this node in hand before, and with the other one after them
   abbrev pub Inserts : Reading N → ℕ → ℕ → (Bool → SetEntry) → ℕ → Slots → Option Hold → Seat N → InsertTurn → Option Hold → Seat N → Type 0
   Inserts r value kind entry turns slots node s Over kept t = InsertsOn r value kind turns slots node kept s t
-  Inserts r value kind entry turns slots node s (Answered answer) kept t = (own : List (Event N)) × InsertEnds r slots node kept s own (entry answer ∷ []) t
+  Inserts r value kind entry turns slots node s (Answered answer passed) kept t = (own : List (Event N)) × InsertEnds r slots node kept s own (entry answer ∷ []) t
   Inserts r value kind entry turns slots node s NoNode kept t = (own : List (Event N)) × InsertEnds r slots node kept s own [] t
   Inserts r value kind entry turns slots node s (Spent why) kept t = (own : List (Event N)) × InsertEnds r slots node kept s own [] t
 
   -- at most so many turns of an insert, of which the first has no node
   abbrev pub InsertsTurns : Reading N → ℕ → ℕ → (Bool → SetEntry) → ℕ → Seat N → InsertTurn → Option Hold → Seat N → Type 0
   InsertsTurns r value kind entry turns s Over kept t = Inserts r value kind entry turns s.slots None s Over kept t
-  InsertsTurns r value kind entry turns s (Answered answer) kept t = (turns ≢ 0) × Inserts r value kind entry turns s.slots None s (Answered answer) kept t
+  InsertsTurns r value kind entry turns s (Answered answer passed) kept t = (turns ≢ 0) × Inserts r value kind entry turns s.slots None s (Answered answer passed) kept t
   InsertsTurns r value kind entry turns s NoNode kept t = (turns ≢ 0) × Inserts r value kind entry turns s.slots None s NoNode kept t
   InsertsTurns r value kind entry turns s (Spent why) kept t = (turns ≢ 0) × Inserts r value kind entry turns s.slots None s (Spent why) kept t
 

@@ -79,6 +79,11 @@ abbrev pub count_on : Bool → ℕ → ℕ
 count_on true passed = min (passed + 1) 9
 count_on false passed = passed
 
+-- how many events a search makes besides two for each node that it goes past: its first two, and two for the node where it ends
+abbrev pub ends_looks : Option Hold → ℕ
+ends_looks None = 2
+ends_looks (Some h) = 4
+
 module _ {N : Type 0} where
   -- Looks among these events found that this link leads over these nodes, each with a marked link, to the target
   abbrev pub SeesRun : List (Event N) → Link → List ℕ → Option ℕ → Type 0
@@ -225,7 +230,7 @@ module _ {N : Type 0} where
     pub apart : IsApart 1 (hand left left_id ∷ hand first first_id ∷ hand right right_id ∷ [])
     pub behind : Behind r start wanted left first left_id first_id (node_of right right_id) s own t
     pub above : IsAbove r.order (heap_of r.numbers t) (node_of right right_id) wanted
-    pub visits : Visits r start wanted passed 4 (node_of right right_id) own t
+    pub visits : Visits r start wanted passed (ends_looks right) (node_of right right_id) own t
 
   -- this node has the key, and showed an unmarked link to the next one in this search
   pub record FindsPresent (r : Reading N) (start : Place) (wanted passed : ℕ) (left first : Option Hold) (node : Hold) (next : Option Hold) (s t : Seat N) : Type 0

@@ -7,8 +7,8 @@ use orc_fault::Spent;
 pub enum InsertTurn {
     /// With no answer.
     Over,
-    /// With this answer.
-    Answered(bool),
+    /// With this answer, after a search that went past so many nodes which it counts, up to 9.
+    Answered(bool, u32),
     /// No node could be had.
     NoNode,
     /// A row that was to be linked is used up.
