@@ -7,13 +7,12 @@ use Rattle.orc_heap.specs.OwnEvents.{Puts}
 use Rattle.orc_heap.specs.declared.events.Event.{Event}
 use Rattle.orc_heap.specs.Seats.{Seat}
 use Rattle.orc_heap.specs.Slots.{Hold}
-use Rattle.orc_heap.specs.declared.events.Place.TheVariants.{Root}
 use Rattle.orc_heap.specs.declared.events.Place.{Place}
 use Rattle.orc_ordered_chains.specs.Chains.{HasRank}
 use Rattle.orc_ordered_search.specs.Searches.{FindsAbsent, FindsPresent}
 use Rattle.orc_split_rule.proofs.Reversed.{reversed_same}
-use Rattle.orc_split_rule.specs.SplitDiscipline.{HasKey}
-use Rattle.orc_split_rule.specs.SplitOrder.{key_place, place_of, reversed, split_order}
+use Rattle.orc_split_rule.specs.SplitDiscipline.{HasKey, HasValues, IsDummy}
+use Rattle.orc_split_rule.specs.SplitOrder.{dummy_place, key_place, place_of, reversed, split_order}
 use Rattle.orc_split_rule.specs.declared.split.SplitNote.{SplitNote}
 use Rattle.orc_split_set.specs.SplitSearches.{BeginsAt, split_reading}
 
@@ -21,40 +20,31 @@ use Rattle.orc_split_set.specs.SplitSearches.{BeginsAt, split_reading}
 place_one : (a b s t : ℕ) → s < 2 → t < 2 → 2 * reversed a + s ≡ 2 * reversed b + t → (a ≡ b) × (s ≡ t)
 place_one a b s t low_s low_t same = (reversed_same a b (omega (arith, low_s, low_t, same)), omega (arith, low_s, low_t, same))
 
--- a node at a key's place has the key
+-- a node has the values that its place tells
 
-place_values : (first second : Option ℕ) (key : ℕ) → place_of first second ≡ Some (key_place key) → (first ≡ Some key) × (second ≡ Some 1)
-place_values None second key is = cc
-place_values (Some f) None key is = cc
-place_values (Some f) (Some zero) key is =
-    let (same, bad) = place_one f key 0 1 (omega arith) (omega arith) (omega (arith, some_same is)) in
-    absurd (omega (arith, bad))
-place_values (Some f) (Some (suc zero)) key is =
-    let (same, one) = place_one f key 1 1 (omega arith) (omega arith) (some_same is) in
-    (ap (λ (x : ℕ). Some x) same, refl)
-place_values (Some f) (Some (suc (suc s))) key is = cc
+place_values : (first second : Option ℕ) (place value kind : ℕ) → place_of first second ≡ Some place → place ≡ 2 * reversed value + kind → kind < 2
+    → (first ≡ Some value) × (second ≡ Some kind)
+place_values None second place value kind is at low = cc
+place_values (Some f) None place value kind is at low = cc
+place_values (Some f) (Some zero) place value kind is at low =
+    let (same, kind_is) = place_one f value 0 kind (omega arith) low (omega (arith, some_same is, at)) in
+    (ap (λ (x : ℕ). Some x) same, ap (λ (x : ℕ). Some x) kind_is)
+place_values (Some f) (Some (suc zero)) place value kind is at low =
+    let (same, kind_is) = place_one f value 1 kind (omega arith) low (omega (arith, some_same is, at)) in
+    (ap (λ (x : ℕ). Some x) same, ap (λ (x : ℕ). Some x) kind_is)
+place_values (Some f) (Some (suc (suc s))) place value kind is at low = cc
 
-pub key_of_place : (h : Heap) (id key : ℕ) → HasRank split_order h id (key_place key) → HasKey h id key
-key_of_place h id key r =
-    let (first, second) = place_values r.node.first r.node.second key r.rank_is in
+values_of_place : (h : Heap) (id place value kind : ℕ) → HasRank split_order h id place → place ≡ 2 * reversed value + kind → kind < 2
+    → HasValues h id value kind
+values_of_place h id place value kind r at low =
+    let (first, second) = place_values r.node.first r.node.second place value kind r.rank_is at low in
     record { node = r.node; there = r.there; linked = r.linked; first_is = first; second_is = second }
 
--- a search from root 0 begins
-pub begins_at_root : (n : HeapNumbers) (s : Seat SplitNote) (key : ℕ) → BeginsAt n (Root 0) (key_place key) None s s
-begins_at_root n s key = record {
-  begins = record {
-    left_id = 0;
-    agent = refl;
-    seen = refl;
-    fresh = refl;
-    hands = record { same_length = refl; others = λ slot apart. refl; held = (tt, tt) };
-    apart = (tt, tt);
-    start_is = refl;
-    begins = refl;
-    below = refl;
-  };
-  dummy = tt;
-}
+pub key_of_place : (h : Heap) (id key : ℕ) → HasRank split_order h id (key_place key) → HasKey h id key
+key_of_place h id key r = values_of_place h id (key_place key) key 1 r refl (omega arith)
+
+pub dummy_of_place : (h : Heap) (id bucket : ℕ) → HasRank split_order h id (dummy_place bucket) → IsDummy h id bucket
+dummy_of_place h id bucket r = values_of_place h id (dummy_place bucket) bucket 0 r (omega arith) (omega arith)
 
 -- what a search for a key's place found, by the place that was computed
 

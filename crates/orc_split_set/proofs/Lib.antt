@@ -6,3 +6,7 @@ pub mod Allowing
 pub mod Sizes
 pub mod Turning
 pub mod Sizing
+pub mod Anchoring
+pub mod Rooting
+pub mod Preparing
+pub mod Calling

@@ -1,8 +1,8 @@
 -- Reads of the size.
-use Rattle.std.proofs.Common.{List, None, Option, Some, [], ap, append-nil, arith, length, length-append, refl, subst, sym, ℕ, ◌++◌, ◌∙◌, ◌∷◌, ◌≡◌, ◌≤◌}
+use Rattle.std.proofs.Common.{Bool, List, None, Option, Some, [], ap, append-nil, arith, inl, inr, length, length-append, refl, subst, sym, ℕ, ◌++◌, ◌∙◌, ◌∷◌, ◌≡◌, ◌≤◌, ◌⊎◌}
 use Rattle.std.specs.List.{slice_get, slice_set}
 use Rattle.orc_heap.proofs.Hands.{hand_held, hands_done, hands_take, holds_of}
-use Rattle.orc_heap.proofs.Moments.{looks_differ}
+use Rattle.orc_heap.proofs.Moments.{look_found, looks_differ}
 use Rattle.orc_heap.proofs.SingleActs.{some_same}
 use Rattle.orc_heap.specs.Allowed.{AllAllowed}
 use Rattle.orc_heap.specs.Calls.{Looks, ReadsValue, Releases, event_of}
@@ -10,7 +10,7 @@ use Rattle.orc_heap.specs.Hands.{Hands, hand}
 use Rattle.orc_heap.specs.Heap.{HeapNumbers, Node, shown}
 use Rattle.orc_heap.specs.OwnEvents.{Only}
 use Rattle.orc_heap.specs.Seats.{Seat, heap_of}
-use Rattle.orc_heap.specs.Slots.{Hold, Holds, Slots, id_in}
+use Rattle.orc_heap.specs.Slots.{Hold, Slots, id_in}
 use Rattle.orc_heap.specs.declared.events.Act.TheVariants.{Look}
 use Rattle.orc_heap.specs.declared.events.Event.{Event}
 use Rattle.orc_heap.specs.declared.events.Link.{Link}
@@ -19,17 +19,18 @@ use Rattle.orc_heap.specs.declared.holds.Looked.TheVariants.{Moved, Stable}
 use Rattle.orc_heap.specs.declared.holds.Seen.{Seen}
 use Rattle.orc_ordered_search.specs.Searches.{FindsMoved, HasRoom, Quiet}
 use Rattle.orc_ordered_search.proofs.Held.{FreshIs, goes_fresh, goes_hands, release_goes}
-use Rattle.orc_ordered_search.proofs.Quiets.{quiet_puts, silent_one, silent_two, values_on}
+use Rattle.orc_ordered_search.proofs.Quiets.{quiet_puts, shows_on, silent_one, silent_two, values_on}
 use Rattle.orc_heap.proofs.Calls.{Puts-trans, part_allowed}
 use Rattle.orc_heap.proofs.Moved.{gives_in-append, moves_in-append}
 use Rattle.orc_heap.proofs.OwnEntries.{noted-append}
 use Rattle.orc_ordered_search.proofs.Seen.{loads-append}
 use Rattle.orc_ordered_search.specs.Turns.{Tires}
 use Rattle.orc_heap.specs.Journals.{run_heap}
+use Rattle.orc_heap.specs.Moves.{ShowsOrMoved, from_own, moves_in}
 use Rattle.orc_heap.specs.OwnEvents.{Puts}
 use Rattle.orc_ordered_chains.specs.Chains.{LeadsTo}
 use Rattle.orc_ordered_search.proofs.Inserting.{seen_holds}
-use Rattle.orc_split_rule.proofs.Later.{values_later}
+use Rattle.orc_split_rule.proofs.Later.{may_fits, values_later}
 use Rattle.orc_split_rule.proofs.Sizes.{size_later}
 use Rattle.orc_split_rule.specs.Laws.Values.{value_first, value_linked}
 use Rattle.orc_split_rule.specs.SplitDiscipline.{HasValues, IsSize, IsSizeNode, SplitHolds, SplitMay, greatest, size_at, size_by, size_of}
@@ -37,6 +38,12 @@ use Rattle.orc_split_rule.specs.declared.split.SplitNote.{SplitNote}
 use Rattle.orc_split_set.specs.SplitSearches.{SizeFound, SizeRead, split_reading}
 use Rattle.orc_split_set.proofs.Beginning.{root_tells, size_was}
 use Rattle.orc_split_set.proofs.Ordered.{split_ordering}
+
+-- what the size's root showed in a read, by its target
+still_size : (n : HeapNumbers) (link : Link) (size : ℕ) (s t : Seat SplitNote) (part : List (Event SplitNote)) → size_at (heap_of n t) link.to ≡ size
+    → ShowsOrMoved n (Root (greatest n)) link s t part → (size_of n t.seen ≡ size) ⊎ (1 ≤ moves_in (from_own s.agent part))
+still_size n link size s t part stands (inl shows) = inl (ap (λ o. size_by (heap_of n t) o) shows ∙ stands)
+still_size n link size s t part stands (inr moved) = inr moved
 
 pub size_one : (n : HeapNumbers) (seen : Seen) (s t : Seat SplitNote) → 1 ≤ greatest n → SplitHolds n s.seen → AllAllowed (SplitMay n) [] t.seen
     → Looks (Root (greatest n)) 2 s (Stable seen None) t → SizeRead n 1 s t
@@ -58,6 +65,7 @@ size_one n seen s t some holds all looks =
       slots = slots;
       is_size = (some, 0, refl);
       was = size_was n s t link [] [] 1 some holds puts all (λ es more now later is at. ap (λ o. size_by (run_heap n es) o) at);
+      still = still_size n link 1 s t puts.part refl (look_found n (SplitMay n) (may_fits n) s t (Root (greatest n)) link None [] [] puts all tt);
     }
 
 pub size_moved : (n : HeapNumbers) (root : ℕ) (s t : Seat SplitNote) → Looks (Root root) 2 s Moved t → AllAllowed (SplitMay n) [] t.seen
@@ -100,6 +108,8 @@ record SizeHeld (n : HeapNumbers) (h : Hold) (s t : Seat SplitNote) : Type 0 whe
   quiet : Quiet (split_reading n) s own t
   few : length own ≤ 2
   was : (size_of n s.seen ≤ size) × (size ≤ size_of n t.seen)
+  mark : Bool
+  shows : ShowsOrMoved n (Root (greatest n)) (record { to = Some id; mark = mark }) s t quiet.puts.part
 
 size_held : (n : HeapNumbers) (seen : Seen) (h : Hold) (s t : Seat SplitNote) → SplitHolds n s.seen → AllAllowed (SplitMay n) [] t.seen → HasRoom s.slots
     → 1 ≤ greatest n → Looks (Root (greatest n)) 2 s (Stable seen (Some h)) t → SizeHeld n h s t
@@ -129,13 +139,15 @@ size_held n seen h s t holds all room some looks =
       few = omega arith;
       was = size_was n s t link (event_of s (Look (Root (greatest n)) one) None ∷ []) [] size some holds puts all
           (λ es more now later is at. size_there n id size t es more node now later is some (record { link = link; at = at; to_is = refl }) at);
+      mark = seen.mark;
+      shows = look_found n (SplitMay n) (may_fits n) s t (Root (greatest n)) link None (event_of s (Look (Root (greatest n)) one) None ∷ []) [] puts all tt;
     }
 
-pub size_hold : (n : HeapNumbers) (seen : Seen) (h : Hold) (s t : Seat SplitNote) → SplitHolds n s.seen → AllAllowed (SplitMay n) [] t.seen → HasRoom s.slots
-    → 1 ≤ greatest n → Looks (Root (greatest n)) 2 s (Stable seen (Some h)) t → Holds t.slots h
-size_hold n seen h s t holds all room some looks =
-    let k = size_held n seen h s t holds all room some looks in
-    (holds_of t.slots h k.id (hand_held s.slots t.slots [] h k.id k.hands)).0
+-- a once linked node keeps its values over what a pass has newly seen
+pub values_puts : (n : HeapNumbers) (s t : Seat SplitNote) (own : List (Event SplitNote)) (id first second : ℕ) → Puts s own t → AllAllowed (SplitMay n) [] t.seen
+    → HasValues (heap_of n s) id first second → HasValues (heap_of n t) id first second
+values_puts n s t own id first second p all v =
+    subst (λ es. HasValues (run_heap n es) id first second) (sym p.is) (values_later n s.seen p.part id first second v (part_allowed (SplitMay n) s t own p all))
 
 pub size_given : (n : HeapNumbers) (seen : Seen) (h : Hold) (value : ℕ) (s t u v : Seat SplitNote) → SplitHolds n s.seen → AllAllowed (SplitMay n) [] t.seen
     → AllAllowed (SplitMay n) [] u.seen → AllAllowed (SplitMay n) [] v.seen → HasRoom s.slots
@@ -160,9 +172,16 @@ size_given n seen h value s t u v holds all_t all_u all_v room some looks only r
     let holds_t = seen_holds (split_ordering n) t u [] only.puts all_u in
     let holds_u = seen_holds (split_ordering n) u v [] g.puts all_v in
     let own_is : (k.own ++ []) ++ [] ≡ k.own = append-nil (k.own ++ []) ∙ append-nil k.own in
+    let q = subst (λ z. Quiet (split_reading n) s z v) own_is quiet_v in
+    let link : Link = record { to = Some k.id; mark = k.mark } in
+    let shows_u = shows_on (split_ordering n) t u [] only.puts all_u s k.own (k.own ++ []) k.quiet.puts quiet_u.puts (Root (greatest n)) link k.quiet.some tt k.shows in
+    let shows_v = shows_on (split_ordering n) u v [] g.puts all_v s (k.own ++ []) k.own quiet_u.puts q.puts (Root (greatest n)) link quiet_u.some tt shows_u in
+    let node_u = values_puts n t u [] k.id k.size 2 only.puts all_u k.node in
+    let node_v = values_puts n u v [] k.id k.size 2 g.puts all_v node_u in
     record {
       own = k.own;
-      quiet = subst (λ z. Quiet (split_reading n) s z v) own_is quiet_v;
+      quiet = q;
+      still = still_size n link value s v q.puts.part (rw (node_v.there, node_v.first_is) (sym is)) shows_v;
       few = k.few;
       slots = hands_done s.slots v.slots (goes_hands s.slots u v (Some h) k.id [] g hands_u);
       is_size = subst (λ (x : ℕ). IsSize (greatest n) x) (sym is) k.is_size;

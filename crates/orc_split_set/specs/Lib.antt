@@ -1,5 +1,6 @@
 pub mod SplitSearches
 pub mod NewNodes
 pub mod Beginnings
+pub mod Rootings
 pub mod SetCalls
 pub mod Laws

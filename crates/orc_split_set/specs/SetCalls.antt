@@ -1,17 +1,21 @@
 -- What the members of `SharedSet` and `LearnSet` mean for a split-ordered set, and what the contracts of its calls say of a pass of its
 -- domain of links before a call, `old`, and after it, `new`.
-use Rattle.std.specs.Prelude.{List, [], drop, length, ℕ, ◌≤◌}
+use Rattle.std.specs.Prelude.{List, [], drop, length, take, ℕ, ◌≤◌, ◌⊎◌}
 use Rattle.orc_fault.specs.declared.Spent.{Spent}
-use Rattle.orc_heap.specs.Domains.{Enters as EntersHistory, InCall, agent, own_events}
+use Rattle.orc_heap.specs.Domains.{Enters as EntersHistory, InCall, IsCallAlone, agent, heap, own_events}
 use Rattle.orc_heap.specs.Moves.{gives_in}
 use Rattle.orc_heap.specs.Seats.{IsIdle}
+use Rattle.orc_heap.specs.declared.events.Event.{Event}
 use Rattle.orc_heap.specs.declared.links.Links.{Ghosts as LinksOf}
+use Rattle.orc_history.specs.Parts.{part_begin}
 use Rattle.orc_history.specs.SetHistory.{agent_of_set_entry}
 use Rattle.orc_history.specs.declared.set.ListRefused.{ListRefused}
 use Rattle.orc_history.specs.declared.set.SetEntry.{SetEntry}
 use Rattle.orc_ordered_search.specs.Causes.{Cause, UsesTurns, WithinPart}
 use Rattle.orc_split_rule.specs.SplitDiscipline.{IsSize, entries_in, entries_of, greatest, size_of}
+use Rattle.orc_split_rule.specs.SplitOrder.{bucket_of}
 use Rattle.orc_split_rule.specs.declared.split.SplitNote.{SplitNote}
+use Rattle.orc_split_set.specs.Rootings.{IsSet}
 
 module _ {L D P S : Type 0} (members : LinksOf L D P S SplitNote) (links : L) where
   -- the pass is one of the domain, and idle
@@ -59,3 +63,18 @@ module _ {L D P S : Type 0} (members : LinksOf L D P S SplitNote) (links : L) wh
   abbrev pub HadSize : ℕ → P → P → Type 0
   HadSize size old new = IsSize (greatest (members.numbers links)) size
       × (size_of (members.numbers links) (members.seat links old).seen ≤ size) × (size ≤ size_of (members.numbers links) (members.seat links new).seen)
+
+  -- the events before the call's part
+  abbrev pub events_before : P → P → List (Event SplitNote)
+  events_before old new = members.events links
+      (take (part_begin members.agent_of (agent members links old) (members.journal old) (members.journal new)) (members.journal new))
+
+  -- the bucket of a key before the call's part
+  abbrev pub bucket_before : ℕ → P → P → ℕ
+  bucket_before key old new = bucket_of key (size_of (members.numbers links) (events_before old new))
+
+  -- where no other agent has a step in the call's part, the root of the key's bucket isn't null after it, or no row could be given to the
+  -- call's agent, or a row was worn
+  abbrev pub RootsBucket : ℕ → P → P → Type 0
+  RootsBucket key old new = IsCallAlone members links old new → 1 ≤ bucket_before key old new
+      → IsSet (heap members links new) (bucket_before key old new) ⊎ (LacksRow old new ⊎ ((why : Spent) × FindsWorn why old new))

@@ -2,6 +2,7 @@
 use Rattle.std.specs.Prelude.{Bool, Err, List, None, Ok, Option, Result, Some, false, length, true, ℕ, ◌<◌, ◌==◌, ◌≡◌, ◌≢◌, ◌≤◌, ◌^◌, ◌⊎◌}
 use Rattle.orc_fault.specs.declared.Again.{Again as AgainFault}
 use Rattle.orc_heap.specs.Heap.{Heap, HeapNumbers}
+use Rattle.orc_heap.specs.Moves.{from_own, moves_in}
 use Rattle.orc_heap.specs.Seats.{Seat, heap_of}
 use Rattle.orc_heap.specs.Slots.{Hold}
 use Rattle.orc_heap.specs.declared.events.Event.{Event}
@@ -59,6 +60,8 @@ pub record SizeRead (n : HeapNumbers) (size : ℕ) (s t : Seat SplitNote) : Type
   pub is_size : IsSize (greatest n) size
   -- there were so many buckets at a moment of the read
   pub was : (size_of n s.seen ≤ size) × (size ≤ size_of n t.seen)
+  -- and there still are, or a Move stands after an own event
+  pub still : (size_of n t.seen ≡ size) ⊎ (1 ≤ moves_in (from_own s.agent quiet.puts.part))
 
 abbrev pub ReadsSize : HeapNumbers → Seat SplitNote → Option ℕ → Seat SplitNote → Type 0
 ReadsSize n s None t = FindsMoved (split_reading n) s t

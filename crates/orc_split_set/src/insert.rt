@@ -1,6 +1,6 @@
 //! Adding a key: a new node is aimed at the right node and linked at the left place, past the marked nodes between.
 
-ghost use Rattle.std.specs.Prelude.{◌≡◌, ◌≢◌, ◌<◌, ◌≤◌, ℕ, Err, IfErr, List, None, Option, Some, length, true, false};
+ghost use Rattle.std.specs.Prelude.{◌≡◌, ◌≢◌, ◌<◌, ◌≤◌, ℕ, Err, IfErr, List, None, Ok, Option, Some, length, true, false};
 ghost use mathlib.Core.List.{IsPrefix};
 ghost use Rattle.orc_fault.specs.declared.Spent.{Spent};
 ghost use Rattle.orc_heap.specs.Seats.{HoldsTarget, IsIdle, Seat, heap_of, target_in};
@@ -14,7 +14,7 @@ ghost use Rattle.orc_ordered_search.specs.Causes.{WithinPart};
 ghost use Rattle.orc_ordered_search.specs.Inserts.{AddsAt, AddsNode, HasRoomFor, HoldsNode, InsertAnswers, Inserts, InsertsTurns, KeepsNode, LinksTo, turn_by};
 ghost use Rattle.orc_ordered_search.specs.Searches.{FindsAbsent, HoldsIfAny, first_or, place_at, target_at};
 ghost use Rattle.orc_ordered_search.specs.declared.turn.InsertTurn.{InsertTurn};
-ghost use Rattle.orc_split_rule.specs.SplitDiscipline.{greatest};
+ghost use Rattle.orc_split_rule.specs.SplitDiscipline.{HasValues, greatest};
 ghost use Rattle.orc_split_rule.specs.SplitOrder.{key_place, split_order};
 ghost use Rattle.orc_split_rule.specs.declared.split.SplitNote.{SplitNote};
 ghost use Rattle.orc_split_set.specs.NewNodes.{IsPossible, entries_for, kind_of, place_for, value_of};
@@ -44,12 +44,12 @@ fn node_in<'a>(node: &'a Option<Held>) -> Option<&'a Held>
     }
 }
 
-// How a turn ends that linked a node, by what came of it.
-fn turn_of(linked: Result<bool, Spent>) -> InsertTurn
-    ensures { result ≡ turn_by linked }
+// How a turn ends that linked a node, by what came of it, where its search went past so many nodes.
+fn turn_of(passed: u32, linked: Result<bool, Spent>) -> InsertTurn
+    ensures { result ≡ turn_by passed linked }
 {
     match linked {
-        Ok(true) => InsertTurn::Answered(true),
+        Ok(true) => InsertTurn::Answered(true, passed),
         Ok(false) => InsertTurn::Over,
         Err(spent) => InsertTurn::Spent(spent),
     }
@@ -85,6 +85,8 @@ fn link_node<L: Links<Rule = Split>>(
         (L.seat links.now p.old) result (L.seat links.now p.new) }
     ensures worn { IfErr result (λ e. Within (length (L.journal p.old)) (length (L.journal p.new)) (L.worn links.now (L.seat links.now p.old).agent e
         (L.journal p.new))) }
+    ensures stands { (id : ℕ) → HoldsNode (split_reading (L.numbers links.now)) (value_of new) (kind_of new) node.now id (L.seat links.now p.old)
+        → result ≡ Ok true → HasValues (heap_of (L.numbers links.now) (L.seat links.now p.new)) id (value_of new) (kind_of new) }
 {
     links.aim(p, node, node_in(right))?;
     let agent = links.agent(p);
@@ -123,6 +125,8 @@ pub(crate) fn add_node<L: Links<Rule = Split>>(
         (L.seat links.now p.new) }
     ensures worn { (why : Spent) → result ≡ Err why → Within (length (L.journal p.old)) (length (L.journal p.new)) (L.worn links.now
         (L.seat links.now p.old).agent why (L.journal p.new)) }
+    ensures stands { (id : ℕ) → HoldsNode (split_reading (L.numbers links.now)) (value_of new) (kind_of new) node.now id (L.seat links.now p.old)
+        → result ≡ Ok true → HasValues (heap_of (L.numbers links.now) (L.seat links.now p.new)) id (value_of new) (kind_of new) }
 {
     let linked = link_node(links, p, new, &left, &first, &right, node);
     let_all_go(links, p, left, first, right, None);
@@ -138,15 +142,16 @@ fn add_at<L: Links<Rule = Split>>(
     first: Option<Held>,
     right: Option<Held>,
     node: Option<Held>,
+    passed: u32,
 ) -> (InsertTurn, Option<Held>)
     requires pass { L.belongs links.now p.old }
     requires roots { 0 < (L.numbers links.now).roots }
-    requires absent { (start : Place) × (passed : ℕ) × (slots : Slots) × (s : Seat SplitNote) × HasRoomFor slots
+    requires absent { (start : Place) × (slots : Slots) × (s : Seat SplitNote) × HasRoomFor slots
         × KeepsNode (split_reading (L.numbers links.now)) key 1 node slots s
         × FindsAbsent (split_reading (L.numbers links.now)) start (key_place key) passed left first right s (L.seat links.now p.old) }
     ensures pass { L.belongs links.now p.new }
     ensures later { IsPrefix (L.journal p.old) (L.journal p.new) }
-    ensures added { (start : Place) (passed : ℕ) (slots : Slots) (s : Seat SplitNote) → HasRoomFor slots
+    ensures added { (start : Place) (slots : Slots) (s : Seat SplitNote) → HasRoomFor slots
         → KeepsNode (split_reading (L.numbers links.now)) key 1 node slots s
         → FindsAbsent (split_reading (L.numbers links.now)) start (key_place key) passed left first right s (L.seat links.now p.old)
         → Inserts (split_reading (L.numbers links.now)) key 1 (λ answer. SetEntry.Added s.agent key answer) 1 slots node s result.0 result.1
@@ -158,12 +163,12 @@ fn add_at<L: Links<Rule = Split>>(
 {
     if let Some(node) = node {
         let linked = add_node(links, p, NewNode::Key(key), left, first, right, &node);
-        return (turn_of(linked), Some(node));
+        return (turn_of(passed, linked), Some(node));
     }
     match links.give(p, 1, key, 1) {
         Ok(node) => {
             let linked = add_node(links, p, NewNode::Key(key), left, first, right, &node);
-            (turn_of(linked), Some(node))
+            (turn_of(passed, linked), Some(node))
         }
         Err(_) => {
             let_all_go(links, p, left, first, right, None);
@@ -206,19 +211,19 @@ fn insert_from<L: Links<Rule = Split>>(
             left,
             first,
             right,
-            passed: _,
-        } => add_at(links, p, key, left, first, right, node),
+            passed,
+        } => add_at(links, p, key, left, first, right, node, passed),
         Searched::Present {
             left,
             first,
             node: found,
             next,
-            passed: _,
+            passed,
         } => {
             let yes = false;
             let entry = SetEntry::Added { agent, key, yes };
             if enter_present(links, p, key, left, first, found, next, entry) {
-                (InsertTurn::Answered(false), node)
+                (InsertTurn::Answered(false, passed), node)
             } else {
                 (InsertTurn::Over, node)
             }
@@ -313,7 +318,7 @@ pub(crate) fn insert_key<L: Links<Rule = Split>>(
     let_go(links, p, node);
     match turn {
         InsertTurn::Over => Err(ListRefused::Again),
-        InsertTurn::Answered(answer) => Ok(answer),
+        InsertTurn::Answered(answer, _) => Ok(answer),
         InsertTurn::NoNode => Err(ListRefused::NoNode),
         InsertTurn::Spent(spent) => Err(ListRefused::Spent(spent)),
     }

@@ -3,6 +3,7 @@
 
 mod answer;
 mod begin;
+mod bucket;
 mod insert;
 mod node;
 mod order;

@@ -6,10 +6,11 @@ ghost use Rattle.orc_heap.specs.Domains.{IsCallAlone, MakesNoEvent, agent};
 ghost use Rattle.orc_history.specs.Journals.{Within};
 ghost use Rattle.orc_history.specs.declared.set.ListRefused.{ListRefused};
 ghost use Rattle.orc_history.specs.declared.set.SetEntry.{SetEntry};
-ghost use Rattle.orc_split_set.specs.SetCalls.{Enters, EntersNone, FindsWorn, GivesAtMost, HadSize, HasCause, IsUsable, LacksRow, UsesAllTurns, set_history};
+ghost use Rattle.orc_split_set.specs.SetCalls.{Enters, EntersNone, FindsWorn, GivesAtMost, HadSize, HasCause, IsUsable, LacksRow, RootsBucket, UsesAllTurns, set_history};
 ghost use Rattle.orc_split_set.specs.Laws.SetLaws.{cause_stays, entries_below, history_grows, seen_legal};
 
 use crate::answer::ask_turns;
+use crate::bucket::prepare;
 use crate::insert::insert_key;
 use crate::remove::remove_turns;
 use crate::size::size_turns;
@@ -127,6 +128,7 @@ impl<L: Links<Rule = Split>> SharedSet for SplitSet<L> {
         ensures usable { IsUsable L.Links self.now.links p.new }
         ensures agent { agent L.Links self.now.links p.new ≡ agent L.Links self.now.links p.old }
         ensures later { IsPrefix (L.journal p.old) (L.journal p.new) }
+        ensures rooted { IfOk result (λ yes. RootsBucket L.Links self.now.links key p.old p.new) }
         ensures added { IfOk result (λ yes. Enters L.Links self.now.links p.old p.new (λ agent. SetEntry.Added agent key yes ∷ [])) }
         ensures none { IfErr result (λ e. EntersNone L.Links self.now.links p.old p.new) }
         ensures licence { IfErr result (λ e. Within (length (L.journal p.old)) (length (L.journal p.new))
@@ -136,9 +138,10 @@ impl<L: Links<Rule = Split>> SharedSet for SplitSet<L> {
         ensures again { result ≡ Err ListRefused.Again → UsesAllTurns L.Links self.now.links turns p.old p.new }
         ensures no_node { result ≡ Err ListRefused.NoNode → LacksRow L.Links self.now.links p.old p.new }
         ensures spent { (why : Spent) → result ≡ Err (ListRefused.Spent why) → FindsWorn L.Links self.now.links why p.old p.new }
-        ensures gives { GivesAtMost L.Links self.now.links 1 p.old p.new }
+        ensures gives { GivesAtMost L.Links self.now.links 3 p.old p.new }
         ensures settled { IsCallAlone L.Links self.now.links p.old p.new → L.backlog p.new ≡ 0 }
     {
+        let _rooted = prepare(&self.links, p, self.greatest, key, turns);
         let answer = insert_key(&self.links, p, self.greatest, key, turns);
         self.links.settle(p);
         answer
@@ -149,6 +152,7 @@ impl<L: Links<Rule = Split>> SharedSet for SplitSet<L> {
         ensures usable { IsUsable L.Links self.now.links p.new }
         ensures agent { agent L.Links self.now.links p.new ≡ agent L.Links self.now.links p.old }
         ensures later { IsPrefix (L.journal p.old) (L.journal p.new) }
+        ensures rooted { IfOk result (λ yes. RootsBucket L.Links self.now.links key p.old p.new) }
         ensures removed { IfOk result (λ yes. Enters L.Links self.now.links p.old p.new (λ agent. SetEntry.Removed agent key yes ∷ [])) }
         ensures none { IfErr result (λ e. EntersNone L.Links self.now.links p.old p.new) }
         ensures licence { IfErr result (λ e. Within (length (L.journal p.old)) (length (L.journal p.new))
@@ -156,9 +160,10 @@ impl<L: Links<Rule = Split>> SharedSet for SplitSet<L> {
         ensures no_turns { turns ≡ 0 → IsErr result }
         ensures no_event { turns ≡ 0 → MakesNoEvent L.Links self.now.links p.old p.new }
         ensures again { IfErr result (λ e. UsesAllTurns L.Links self.now.links turns p.old p.new) }
-        ensures gives { GivesAtMost L.Links self.now.links 0 p.old p.new }
+        ensures gives { GivesAtMost L.Links self.now.links 1 p.old p.new }
         ensures settled { IsCallAlone L.Links self.now.links p.old p.new → L.backlog p.new ≡ 0 }
     {
+        let _rooted = prepare(&self.links, p, self.greatest, key, turns);
         let answer = remove_turns(&self.links, p, self.greatest, key, turns);
         self.links.settle(p);
         answer
@@ -169,6 +174,7 @@ impl<L: Links<Rule = Split>> SharedSet for SplitSet<L> {
         ensures usable { IsUsable L.Links self.now.links p.new }
         ensures agent { agent L.Links self.now.links p.new ≡ agent L.Links self.now.links p.old }
         ensures later { IsPrefix (L.journal p.old) (L.journal p.new) }
+        ensures rooted { IfOk result (λ yes. RootsBucket L.Links self.now.links key p.old p.new) }
         ensures asked { IfOk result (λ yes. Enters L.Links self.now.links p.old p.new (λ agent. SetEntry.Asked agent key yes ∷ [])) }
         ensures none { IfErr result (λ e. EntersNone L.Links self.now.links p.old p.new) }
         ensures licence { IfErr result (λ e. Within (length (L.journal p.old)) (length (L.journal p.new))
@@ -176,9 +182,10 @@ impl<L: Links<Rule = Split>> SharedSet for SplitSet<L> {
         ensures no_turns { turns ≡ 0 → IsErr result }
         ensures no_event { turns ≡ 0 → MakesNoEvent L.Links self.now.links p.old p.new }
         ensures again { IfErr result (λ e. UsesAllTurns L.Links self.now.links turns p.old p.new) }
-        ensures gives { GivesAtMost L.Links self.now.links 0 p.old p.new }
+        ensures gives { GivesAtMost L.Links self.now.links 1 p.old p.new }
         ensures settled { IsCallAlone L.Links self.now.links p.old p.new → L.backlog p.new ≡ 0 }
     {
+        let _rooted = prepare(&self.links, p, self.greatest, key, turns);
         let answer = ask_turns(&self.links, p, self.greatest, key, turns);
         self.links.settle(p);
         answer

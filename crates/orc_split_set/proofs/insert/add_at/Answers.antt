@@ -22,7 +22,8 @@ give-requires-clause-slot g c =
     let n = g.L.Links.numbers d in
     let a = c.args in
     let t = g.L.Links.seat d a.p.now in
-    let (start, passed, slots, s, room, k, f) = c.requires.absent in
+    let passed = a.passed in
+    let (start, slots, s, room, k, f) = c.requires.absent in
     let none = subst (λ (o : Option Hold). KeepsNode (split_reading n) a.key 1 o slots s) c.in_default.is k in
     give_free (split_ordering n) start (key_place a.key) passed a.key 1 a.left a.first a.right s t t f (subst (λ (z : Slots). IsFree z 1) (sym none.slots_are) room.one)
 
@@ -31,7 +32,8 @@ give-requires-clause-no_other g c =
     let d = c.args.links.now in
     let n = g.L.Links.numbers d in
     let a = c.args in
-    let (start, passed, slots, s, room, k, f) = c.requires.absent in
+    let passed = a.passed in
+    let (start, slots, s, room, k, f) = c.requires.absent in
     let none = subst (λ (o : Option Hold). KeepsNode (split_reading n) a.key 1 o slots s) c.in_default.is k in
     f.behind.quiet.fresh ∙ none.to_add
 
@@ -41,7 +43,8 @@ add_node-linked-requires-clause-adds g c =
     let n = g.L.Links.numbers d in
     let a = c.args in
     let t = g.L.Links.seat d a.p.now in
-    let (start, passed, slots, s, room, k, f) = c.requires.absent in
+    let passed = a.passed in
+    let (start, slots, s, room, k, f) = c.requires.absent in
     let all = g.met.L.Links.allowed d a.p.now c.requires.pass in
     let some = subst (λ (o : Option Hold). KeepsNode (split_reading n) a.key 1 o slots s) c.in-Some.is k in (
       start,
@@ -53,7 +56,8 @@ add_node-linked-requires-clause-adds g c =
     )
 
 pub returns-in-Some-clause-added : goal.returns-in-Some-clause-added
-returns-in-Some-clause-added g c = λ start passed slots s room k f.
+returns-in-Some-clause-added g c = λ start slots s room k f.
+    let passed = c.args.passed in
     let d = c.args.links.now in
     let n = g.L.Links.numbers d in
     let a = c.args in
@@ -65,7 +69,7 @@ returns-in-Some-clause-added g c = λ start passed slots s room k f.
     let adds = absent_adds (split_ordering n) start (key_place a.key) passed a.key 1 a.left a.first a.right node slots s t some f (seen_holds (split_ordering n) s t f.own f.behind.quiet.puts all) all
     in
     let done = c.add_node-linked.ensures.added start 0 s.slots s adds in
-    let there = adds_inserts (split_reading n) a.key 1 (λ answer. Added s.agent a.key answer) node adds.id 0 s.slots slots (Some node) s u c.add_node-linked.result done
+    let there = adds_inserts (split_reading n) a.key 1 (λ answer. Added s.agent a.key answer) node adds.id 0 s.slots slots (Some node) s u passed c.add_node-linked.result done
     (some.slots_are ∙ ap (λ (i : ℕ). slots_with slots (Some node) i) (sym (absent_id (split_ordering n) start (key_place a.key) passed a.key 1 a.left a.first a.right node slots s
     t some f (seen_holds (split_ordering n) s t f.own f.behind.quiet.puts all) all))) some.slot_is refl in
     let turn = subst (λ (x : InsertTurn). Inserts (split_reading n) a.key 1 (λ answer. Added s.agent a.key answer) 1 slots (Some node) s x (Some node) u)
@@ -74,7 +78,7 @@ returns-in-Some-clause-added g c = λ start passed slots s room k f.
     (sym c.in-Some.is) turn
 
 pub returns-in-Some-clause-lacking : goal.returns-in-Some-clause-lacking
-returns-in-Some-clause-lacking g c = λ is. absurd (turn_node c.add_node-linked.result (sym c.turn_of.ensures ∙ is))
+returns-in-Some-clause-lacking g c = λ is. absurd (turn_node c.args.passed c.add_node-linked.result (sym c.turn_of.ensures ∙ is))
 
 pub add_node-linked-requires-in-Ok-clause-adds : goal.add_node-linked-requires-in-Ok-clause-adds
 add_node-linked-requires-in-Ok-clause-adds g c =
@@ -83,7 +87,8 @@ add_node-linked-requires-in-Ok-clause-adds g c =
     let a = c.args in
     let t = g.L.Links.seat d a.p.now in
     let u = g.L.Links.seat d c.give.new.p in
-    let (start, passed, slots, s, room, k, f) = c.requires.absent in
+    let passed = a.passed in
+    let (start, slots, s, room, k, f) = c.requires.absent in
     let e = c.in-Ok.ensures in
     let none = subst (λ (o : Option Hold). KeepsNode (split_reading n) a.key 1 o slots s) c.in_default.is k in
     let one = subst (λ (z : Slots). IsFree z 1) (sym none.slots_are) room.one in
@@ -97,7 +102,8 @@ add_node-linked-requires-in-Ok-clause-adds g c =
     )
 
 pub returns-in-Ok-clause-added : goal.returns-in-Ok-clause-added
-returns-in-Ok-clause-added g c = λ start passed slots s room k f.
+returns-in-Ok-clause-added g c = λ start slots s room k f.
+    let passed = c.args.passed in
     let d = c.args.links.now in
     let n = g.L.Links.numbers d in
     let a = c.args in
@@ -114,7 +120,7 @@ returns-in-Ok-clause-added g c = λ start passed slots s room k f.
     let base : slice_set s.slots 1 x ≡ slots_with slots (Some node) e.given.id = ap (λ (z : Slots). slice_set z 1 x) none.slots_are ∙ ap
     (λ (i : ℕ). slice_set slots i x) (sym e.given.slot_is) in
     let same = given_id (split_ordering n) start (key_place a.key) passed a.key 1 a.left a.first a.right s t u f one node e.given (g.met.L.Links.allowed d c.give.new.p e.pass) in
-    let there = adds_inserts (split_reading n) a.key 1 (λ answer. Added s.agent a.key answer) node adds.id 1 (slice_set s.slots 1 x) slots None s y c.add_node-linked-in-Ok.result done
+    let there = adds_inserts (split_reading n) a.key 1 (λ answer. Added s.agent a.key answer) node adds.id 1 (slice_set s.slots 1 x) slots None s y passed c.add_node-linked-in-Ok.result done
     (base ∙ ap (λ (i : ℕ). slots_with slots (Some node) i) (sym same)) e.given.slot_is refl in
     let turn = subst (λ (x : InsertTurn). Inserts (split_reading n) a.key 1 (λ answer. Added s.agent a.key answer) 1 slots None s x (Some node) y)
     (sym c.turn_of-in-Ok.ensures) there in
@@ -122,7 +128,7 @@ returns-in-Ok-clause-added g c = λ start passed slots s room k f.
     (sym c.in_default.is) turn
 
 pub returns-in-Ok-clause-lacking : goal.returns-in-Ok-clause-lacking
-returns-in-Ok-clause-lacking g c = λ is. absurd (turn_node c.add_node-linked-in-Ok.result (sym c.turn_of-in-Ok.ensures ∙ is))
+returns-in-Ok-clause-lacking g c = λ is. absurd (turn_node c.args.passed c.add_node-linked-in-Ok.result (sym c.turn_of-in-Ok.ensures ∙ is))
 
 pub let_all_go-requires-clause-hands : goal.let_all_go-requires-clause-hands
 let_all_go-requires-clause-hands g c =
@@ -131,14 +137,16 @@ let_all_go-requires-clause-hands g c =
     let a = c.args in
     let t = g.L.Links.seat d a.p.now in
     let u = g.L.Links.seat d c.give.new.p in
-    let (start, passed, slots, s, room, k, f) = c.requires.absent in
+    let passed = a.passed in
+    let (start, slots, s, room, k, f) = c.requires.absent in
     let e = c.in-Err.ensures in
     let none = subst (λ (o : Option Hold). KeepsNode (split_reading n) a.key 1 o slots s) c.in_default.is k in
     let one = subst (λ (z : Slots). IsFree z 1) (sym none.slots_are) room.one in
     (s.slots, absent_hand_on (split_ordering n) start (key_place a.key) passed a.key 1 a.left a.first a.right s t u f one e.none (g.met.L.Links.allowed d c.give.new.p e.pass))
 
 pub returns-in-Err-clause-added : goal.returns-in-Err-clause-added
-returns-in-Err-clause-added g c = λ start passed slots s room k f.
+returns-in-Err-clause-added g c = λ start slots s room k f.
+    let passed = c.args.passed in
     let d = c.args.links.now in
     let n = g.L.Links.numbers d in
     let a = c.args in
@@ -168,7 +176,7 @@ returns-in-Err-clause-lacking g c = λ is.
     (part_fact g.L.Links.agent_of t.agent j k (g.L.Links.lacking d t.agent k) e.later e.lacking)
 
 pub returns-in-Some-clause-worn : goal.returns-in-Some-clause-worn
-returns-in-Some-clause-worn g c = λ why is. c.add_node-linked.ensures.worn why (turn_spent c.add_node-linked.result why (sym c.turn_of.ensures ∙ is))
+returns-in-Some-clause-worn g c = λ why is. c.add_node-linked.ensures.worn why (turn_spent c.args.passed c.add_node-linked.result why (sym c.turn_of.ensures ∙ is))
 
 pub returns-in-Ok-clause-worn : goal.returns-in-Ok-clause-worn
 returns-in-Ok-clause-worn g c = λ why is.
@@ -179,7 +187,7 @@ returns-in-Ok-clause-worn g c = λ why is.
     let k = g.L.Links.journal c.give.new.p in
     let m = g.L.Links.journal c.add_node-linked-in-Ok.new.p in
     let e = c.in-Ok.ensures in
-    let w = c.add_node-linked-in-Ok.ensures.worn why (turn_spent c.add_node-linked-in-Ok.result why (sym c.turn_of-in-Ok.ensures ∙ is)) in
+    let w = c.add_node-linked-in-Ok.ensures.worn why (turn_spent c.args.passed c.add_node-linked-in-Ok.result why (sym c.turn_of-in-Ok.ensures ∙ is)) in
     let there = subst (λ (x : ℕ). Within (length k) (length m) (g.L.Links.worn d x why m)) e.given.puts.agent w in
     within_wider (g.L.Links.worn d t.agent why) j k m m (λ xs more from to h. g.met.L.Links.worn_stays d t.agent why xs more from to h) e.later
     ([], append-nil m) there

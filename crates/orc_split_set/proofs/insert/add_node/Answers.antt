@@ -6,6 +6,7 @@ use Rattle.orc_history.specs.Journals.{Within}
 use Rattle.orc_ordered_search.proofs.Adding.{adds_above, adds_below, adds_held, adds_run, links_hand, links_on}
 use Rattle.orc_ordered_search.proofs.Marking.{within_wider}
 use Rattle.orc_split_set.specs.NewNodes.{entries_for, kind_of, place_for, value_of}
+use Rattle.orc_split_set.proofs.Sizes.{values_puts}
 use Rattle.orc_split_set.proofs.Ordered.{split_ordering}
 use Rattle.orc_split_set.proofs.insert.add_node.Goals as goal
 
@@ -80,3 +81,18 @@ returns-clause-worn g c = λ why is.
     (λ (r : Result Bool Spent). IfErr r (λ x. Within (length j) (length k) (g.L.Links.worn d t.agent x k))) is e.worn in
     within_wider (g.L.Links.worn d t.agent why) j j k o (λ xs more from to h. g.met.L.Links.worn_stays d t.agent why xs more from to h) ([], append-nil j)
     c.let_all_go.ensures.later worn
+
+pub returns-clause-stands : goal.returns-clause-stands
+returns-clause-stands g c = λ id k is.
+    let d = c.args.links.now in
+    let n = g.L.Links.numbers d in
+    let a = c.args in
+    let t = g.L.Links.seat d a.p.now in
+    let u = g.L.Links.seat d c.link_node-linked.new.p in
+    let y = g.L.Links.seat d c.let_all_go.new.p in
+    let (start, given, slots, s, w) = c.requires.adds in
+    let e = c.link_node-linked.ensures in
+    let f = c.let_all_go.ensures in
+    let hand = links_hand (split_ordering n) start (place_for a.new) (value_of a.new) (kind_of a.new) a.left a.first a.right a.node.now given slots s t w
+    (entries_for t.agent a.new) u _ _ c.link_node-linked.result (e.linked w.id w.holds) (g.met.L.Links.allowed d c.link_node-linked.new.p e.pass) in
+    values_puts n u y [] id (value_of a.new) (kind_of a.new) (f.gone slots hand).puts (g.met.L.Links.allowed d c.let_all_go.new.p f.pass) (e.stands id k is)

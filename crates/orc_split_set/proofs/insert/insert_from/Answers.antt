@@ -53,7 +53,7 @@ add_at-requires-clause-absent g c =
     let rooms = has_room (split_reading n) a.key 1 a.node slots s room k in
     let x = c.in-Absent in
     let f = absent_of n start w a.key x.passed x.left x.first x.right s t is (x.ensures.found start s rooms begins) in
-    (start, x.passed, slots, s, room, k, f)
+    (start, slots, s, room, k, f)
 
 pub returns-in-Absent-clause-inserted : goal.returns-in-Absent-clause-inserted
 returns-in-Absent-clause-inserted g c = λ start slots s room k b.
@@ -68,7 +68,7 @@ returns-in-Absent-clause-inserted g c = λ start slots s room k b.
     let rooms = has_room (split_reading n) a.key 1 a.node slots s room k in
     let x = c.in-Absent in
     let f = absent_of n start w a.key x.passed x.left x.first x.right s t is (x.ensures.found start s rooms begins) in
-    c.add_at.ensures.added start x.passed slots s room k f
+    c.add_at.ensures.added start slots s room k f
 
 pub returns-in-Absent-clause-lacking : goal.returns-in-Absent-clause-lacking
 returns-in-Absent-clause-lacking g c = λ told.

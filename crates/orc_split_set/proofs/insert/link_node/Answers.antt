@@ -10,8 +10,9 @@ use Rattle.orc_ordered_chains.specs.Chains.{link_over}
 use Rattle.orc_ordered_search.specs.Searches.{HoldsIfAny, first_or, place_at, target_at}
 use Rattle.orc_ordered_search.proofs.Linking.{above_not_fresh, links_to}
 use Rattle.orc_ordered_search.proofs.Marking.{part_fact, worn_since}
-use Rattle.orc_split_set.specs.NewNodes.{entries_for, kind_of, place_for, value_of}
+use Rattle.orc_split_set.specs.NewNodes.{entries_for, kind_of, note_for, place_for, value_of}
 use Rattle.orc_split_set.proofs.Allowing.{link_allowed, note_enters}
+use Rattle.orc_split_set.proofs.Anchoring.{links_stand}
 use Rattle.orc_split_set.proofs.Ordered.{split_ordering}
 use Rattle.orc_split_set.proofs.insert.link_node.Goals as goal
 
@@ -113,3 +114,23 @@ returns-clause-worn g c =
     worn_since (g.L.Links.worn d) g.L.Links.agent_of s.agent t.agent (g.L.Links.journal c.args.p.now) (g.L.Links.journal c.aim.new.p)
     (g.L.Links.journal c.swing.new.p) (λ why xs more from to h. g.met.L.Links.worn_stays d s.agent why xs more from to h)
     c.in_ok-aim.ensures.aimed.puts.agent c.in_ok-aim.ensures.later f.later c.swing.result f.worn
+
+pub returns-clause-stands : goal.returns-clause-stands
+returns-clause-stands g c = λ id k is.
+    let d = c.args.links.now in
+    let n = g.L.Links.numbers d in
+    let s = g.L.Links.seat d c.args.p.now in
+    let t = g.L.Links.seat d c.aim.new.p in
+    let u = g.L.Links.seat d c.swing.new.p in
+    let a = c.args in
+    let e = c.in_ok-aim.ensures in
+    let f = c.swing.ensures in
+    let to : Option ℕ = target_at s.slots a.right.now in
+    let id_is = (holds_of s.slots a.node.now id k.held).1 in
+    let aims = subst (λ (o : Option ℕ). Only (event_of s (Aim (id_in s.slots a.node.now) o) None ∷ []) s t) (c.node_in.ensures.target s.slots) e.aimed in
+    let only = subst (λ (i : ℕ). Only (event_of s (Aim i to) None ∷ []) s t) id_is aims in
+    let apart : to ≢ Some id = λ named. above_not_fresh (split_ordering n) s to (place_for a.new) c.requires.above
+    (λ i h. g.met.L.Links.fresh_is d a.p.now i c.requires.pass h) id named k.fresh in
+    links_stand n a.new _ a.node.now id to s t u _ _ _ c.swing.result k only (c.note-note.ensures ∙ ap (λ (x : ℕ). note_for x a.new) c.agent-agent.ensures) refl
+    (g.met.L.Links.obeys d a.p.now c.requires.pass) (g.met.L.Links.obeys d c.aim.new.p e.pass) (g.met.L.Links.allowed d c.aim.new.p e.pass)
+    (g.met.L.Links.allowed d c.swing.new.p f.pass) apart is f.swung

@@ -1,6 +1,6 @@
 -- By what the look found.
 use Rattle.std.proofs.Common.{sym, ◌∙◌}
-use Rattle.orc_ordered_search.proofs.Stepping.{walk_free, walk_looks, walk_stops}
+use Rattle.orc_ordered_search.proofs.Walking.{walk_free, walk_looks, walk_stops}
 use Rattle.orc_split_set.proofs.Ordered.{split_ordering}
 use Rattle.orc_split_set.proofs.search.step.Goals as goal
 

@@ -1,6 +1,6 @@
 -- All nodes are let go.
 use Rattle.orc_ordered_search.proofs.Held.{stop_hand}
-use Rattle.orc_ordered_search.proofs.Stepping.{stops_moved}
+use Rattle.orc_ordered_search.proofs.Walking.{stops_moved}
 use Rattle.orc_split_set.proofs.Ordered.{split_ordering}
 use Rattle.orc_split_set.proofs.search.stop.Goals as goal
 

@@ -1,14 +1,21 @@
 -- What the call did, and the settling after it.
-use Rattle.std.proofs.Common.{Bool, subst, sym, ℕ}
+use Rattle.std.proofs.Common.{Bool, Err, Ok, arith, subst, sym, ℕ, ◌∙◌, ◌≡◌, ◌≢◌}
 use Rattle.orc_heap.proofs.Pieces.{goes_on}
 use Rattle.orc_heap.proofs.Steps.{alone_later}
+use Rattle.orc_heap.specs.Seats.{IsIdle}
 use Rattle.orc_history.specs.Parts.{IsAlone}
+use Rattle.orc_fault.specs.declared.Spent.{Spent as SpentRow}
+use Rattle.orc_history.specs.declared.set.ListRefused.TheVariants.{NoNode, Spent}
 use Rattle.orc_history.specs.declared.set.SetEntry.{SetEntry}
 use Rattle.orc_history.specs.declared.set.SetEntry.TheVariants.{Added}
 use Rattle.orc_ordered_search.proofs.Causes.{did_enter, did_give, did_not_enter, did_nothing, turns_used}
 use Rattle.orc_ordered_search.proofs.Licences.{insert_licence}
 use Rattle.orc_ordered_search.proofs.Parts.{within_goes_on}
 use Rattle.orc_ordered_search.proofs.Settling.{idle_settled, insert_did, insert_keeps}
+use Rattle.orc_ordered_search.specs.Causes.{WithinPart}
+use Rattle.orc_ordered_search.specs.Inserts.{InsertAnswers}
+use Rattle.orc_ordered_search.proofs.Parting.{part_of_part}
+use Rattle.orc_split_set.proofs.Calling.{did_after, if_ok, roots_call}
 use Rattle.orc_split_set.specs.SplitSearches.{split_reading}
 use Rattle.orc_split_set.proofs.Ordered.{split_ordering}
 use Rattle.orc_split_set.proofs.set.SplitSetSharedSet.insert.Goals as goal
@@ -19,6 +26,7 @@ returns g c =
     let n = g.L.Links.numbers d in
     let r = split_reading n in
     let s = g.L.Links.seat d c.args.p.now in
+    let t0 = g.L.Links.seat d c.prepare-rooted.new.p in
     let t = g.L.Links.seat d c.insert_key-answer.new.p in
     let u = g.L.Links.seat d c.settle.new.p in
     let answer = c.insert_key-answer.result in
@@ -26,12 +34,20 @@ returns g c =
     let done = c.insert_key-answer.ensures in
     let settle = c.settle.ensures in
     let entry : Bool → SetEntry = λ answer. Added s.agent c.args.key answer in
-    let did = insert_did r s t u settle.nothing entry turns answer done.inserted in
-    let keeps = insert_keeps r entry turns s t answer done.inserted c.requires.usable.1 in
+    let before = c.prepare-rooted.ensures in
+    let call = before.prepared.call in
+    let idle : IsIdle t0 = record { slots = call.slots ∙ c.requires.usable.1.slots; fresh = call.fresh } in
+    let same = call.made.puts.agent in
+    let inserted = subst (λ (x : ℕ). InsertAnswers r (λ answer. Added x c.args.key answer) turns t0 answer t) same done.inserted in
+    let inner = insert_did r t0 t u settle.nothing entry turns answer inserted in
+    let did = did_after r before.prepared.own turns before.prepared.none s t0 call 1 3 entry u answer (omega arith) inner in
+    let keeps = insert_keeps r entry turns t0 t answer inserted idle in
     let j = g.L.Links.journal c.args.p.now in
+    let j0 = g.L.Links.journal c.prepare-rooted.new.p in
     let k = g.L.Links.journal c.insert_key-answer.new.p in
     let m = g.L.Links.journal c.settle.new.p in
-    let grows = goes_on j k m done.later settle.later in
+    let since = goes_on j j0 k before.later done.later in
+    let grows = goes_on j k m since settle.later in
     let is_s = g.met.L.Links.seen_is d c.args.p.now c.requires.usable.0 in
     let is_u = g.met.L.Links.seen_is d c.settle.new.p settle.pass in
     let all = g.met.L.Links.allowed d c.settle.new.p settle.pass in
@@ -41,24 +57,34 @@ returns g c =
     let events = g.L.Links.events d in
     let adds = g.met.L.Links.steps_add d in
     let x = split_ordering n in
-    let used = turns_used x agents by events adds s u j m grows is_s is_u all below 1 turns entry answer did in
+    let used = turns_used x agents by events adds s u j m grows is_s is_u all below 3 turns entry answer did in
+    let lacks : answer ≡ Err NoNode → WithinPart by s.agent j m (g.L.Links.lacking d s.agent m) = λ is. within_goes_on by s.agent (g.L.Links.lacking d s.agent) (g.met.L.Links.lacking_stays d s.agent) j k m since settle.later
+    (part_of_part by s.agent (g.L.Links.lacking d s.agent) j j0 k before.later done.later
+    (subst (λ (x : ℕ). WithinPart by x j0 k (g.L.Links.lacking d x k)) same (done.lacking is))) in
+    let worn : (why : SpentRow) → answer ≡ Err (Spent why) → WithinPart by s.agent j m (g.L.Links.worn d s.agent why m) = λ why is. within_goes_on by s.agent (g.L.Links.worn d s.agent why) (g.met.L.Links.worn_stays d s.agent why) j k m since settle.later
+    (part_of_part by s.agent (g.L.Links.worn d s.agent why) j j0 k before.later done.later
+    (subst (λ (x : ℕ). WithinPart by x j0 k (g.L.Links.worn d x why k)) same (done.worn why is))) in
+    let some : (value : Bool) → answer ≡ Ok value → turns ≢ 0 = λ value is zero. (let again = (did.no_turns zero).0 in cc) in
     record {
+      rooted = if_ok answer _ (λ value is. roots_call n by events adds c.args.key turns s t0 u inner.own did.own j m c.prepare-rooted.result before.prepared (some value is)
+          inner.made.puts did.made.puts grows is_s is_u (g.met.L.Links.obeys d c.prepare-rooted.new.p before.pass) all
+          (WithinPart by s.agent j m (g.L.Links.lacking d s.agent m)) (λ why. WithinPart by s.agent j m (g.L.Links.worn d s.agent why m))
+          (λ told. within_goes_on by s.agent (g.L.Links.lacking d s.agent) (g.met.L.Links.lacking_stays d s.agent) j j0 m before.later
+          (goes_on j0 k m done.later settle.later) (before.lacking told))
+          (λ why told. within_goes_on by s.agent (g.L.Links.worn d s.agent why) (g.met.L.Links.worn_stays d s.agent why) j j0 m before.later
+          (goes_on j0 k m done.later settle.later) (before.worn why told)));
       usable = (settle.pass, idle_settled t u keeps.0 settle.nothing);
       agent = did.made.puts.agent;
       later = grows;
-      added = did_enter x agents by events adds s u j m grows is_s is_u all below 1 turns entry answer did;
-      none = did_not_enter x agents by events adds s u j m grows is_s is_u all below 1 turns entry answer did;
+      added = did_enter x agents by events adds s u j m grows is_s is_u all below 3 turns entry answer did;
+      none = did_not_enter x agents by events adds s u j m grows is_s is_u all below 3 turns entry answer did;
       licence = insert_licence by events s.agent turns j m grows (g.L.Links.lacking d s.agent m) (λ spent. g.L.Links.worn d s.agent spent m) answer
-          (λ zero. (did.no_turns zero).0) used (λ is. within_goes_on by s.agent (g.L.Links.lacking d s.agent) (g.met.L.Links.lacking_stays d s.agent) j k m done.later settle.later
-          (done.lacking is)) (λ why is. within_goes_on by s.agent (g.L.Links.worn d s.agent why) (g.met.L.Links.worn_stays d s.agent why) j k m done.later
-          settle.later (done.worn why is));
+          (λ zero. (did.no_turns zero).0) used lacks worn;
       no_turns = λ zero. (did.no_turns zero).0;
-      no_event = did_nothing r 1 turns entry s u answer did;
+      no_event = did_nothing r 3 turns entry s u answer did;
       again = used;
-      no_node = λ is. within_goes_on by s.agent (g.L.Links.lacking d s.agent) (g.met.L.Links.lacking_stays d s.agent) j k m done.later settle.later
-          (done.lacking is);
-      spent = λ why is. within_goes_on by s.agent (g.L.Links.worn d s.agent why) (g.met.L.Links.worn_stays d s.agent why) j k m done.later
-          settle.later (done.worn why is);
-      gives = did_give r 1 turns entry s u answer did;
-      settled = λ alone. settle.settled (subst (λ (x : ℕ). IsAlone by x k m) (sym keeps.1) (alone_later by s.agent j k m done.later settle.later alone));
+      no_node = lacks;
+      spent = worn;
+      gives = did_give r 3 turns entry s u answer did;
+      settled = λ alone. settle.settled (subst (λ (x : ℕ). IsAlone by x k m) (sym (keeps.1 ∙ same)) (alone_later by s.agent j k m since settle.later alone));
     }

@@ -1,0 +1,218 @@
+-- Roots of buckets: what names a dummy goes on to do so, and a swing from null makes a root name one.
+use Rattle.std.proofs.Common.{Bool, Err, List, None, Ok, Option, Result, Some, [], ap, append_assoc, arith, false, refl, subst, sym, true, ℕ, ◌++◌, ◌<◌, ◌∙◌, ◌∷◌, ◌≡◌, ◌≢◌, ◌≤◌}
+use Rattle.std.specs.List.{slice_get}
+use Rattle.std.specs.Prelude.{IfErr, IfOk}
+use Rattle.orc_fault.specs.declared.Spent.{Spent}
+use Rattle.orc_heap.proofs.ByAnswer.{Swings-fresh, Swings-missed, Swings-moved}
+use Rattle.orc_heap.proofs.Calls.{Puts-stood, part_allowed}
+use Rattle.orc_heap.proofs.Hands.{holds_of}
+use Rattle.orc_heap.proofs.Pieces.{linked_not_fresh, missed_fresh, unless_other}
+use Rattle.orc_heap.proofs.Runs.{run_heap-snoc}
+use Rattle.orc_heap.proofs.SingleActs.{some_same}
+use Rattle.orc_heap.proofs.Stays.{stays}
+use Rattle.orc_heap.specs.Acts.{Fits, heap_after}
+use Rattle.orc_heap.specs.Allowed.{AllAllowed}
+use Rattle.orc_heap.specs.Calls.{Swings, event_of, move_of, unless_node}
+use Rattle.orc_heap.specs.Heap.{Heap, HeapNumbers, link_to, null, shown}
+use Rattle.orc_heap.specs.Journals.{run_heap}
+use Rattle.orc_heap.specs.OwnEvents.{Only, Puts}
+use Rattle.orc_heap.specs.Seats.{Seat, heap_of, link_in, place_in}
+use Rattle.orc_heap.specs.Slots.{Hold, Slots, id_in}
+use Rattle.orc_heap.specs.declared.events.Act.{Act}
+use Rattle.orc_heap.specs.declared.events.Act.TheVariants.{Aim, Look, Miss, Move}
+use Rattle.orc_heap.specs.declared.events.Event.{Event}
+use Rattle.orc_heap.specs.declared.events.Link.{Link}
+use Rattle.orc_heap.specs.declared.events.Place.{Place}
+use Rattle.orc_heap.specs.declared.events.Place.TheVariants.{Next, Root}
+use Rattle.orc_heap.specs.declared.holds.At.{At}
+use Rattle.orc_heap.specs.declared.holds.Want.{Want}
+use Rattle.orc_ordered_chains.proofs.Acts.{act_unmoved, chain_place_linked, move_links, move_moves}
+use Rattle.orc_ordered_chains.proofs.Paths.{leads_same, place_on_chain}
+use Rattle.orc_ordered_chains.specs.Chains.{IsChainPlace, LeadsTo, MayLink}
+use Rattle.orc_ordered_search.specs.Inserts.{HoldsNode, node_to_link}
+use Rattle.orc_ordered_search.proofs.Held.{FreshIs}
+use Rattle.orc_ordered_search.proofs.Linking.{aimed}
+use Rattle.orc_ordered_search.proofs.Quiets.{silent_one}
+use Rattle.orc_split_rule.proofs.Later.{fresh_later, holds_later, values_later}
+use Rattle.orc_split_rule.specs.Laws.Kept.{split_keeps}
+use Rattle.orc_split_rule.specs.Laws.Kinds.{each_kind}
+use Rattle.orc_split_rule.specs.Laws.Values.{root_apart, value_linked, value_new}
+use Rattle.orc_split_rule.specs.SplitDiscipline.{HasValues, IsDummy, SplitHolds, SplitMay, greatest, set_after}
+use Rattle.orc_split_rule.specs.SplitOrder.{dummy_place, key_place, split_order}
+use Rattle.orc_split_rule.specs.declared.split.SplitNote.{SplitNote}
+use Rattle.orc_split_rule.specs.declared.split.SplitNote.TheVariants.{Anchor}
+use Rattle.orc_split_set.specs.NewNodes.{kind_of, note_for, value_of}
+use Rattle.orc_split_set.specs.Rootings.{Anchors, IsSet}
+use Rattle.orc_split_set.specs.SplitSearches.{split_reading}
+use Rattle.orc_split_set.specs.declared.node.NewNode.{NewNode}
+use Rattle.orc_split_set.specs.declared.node.NewNode.TheVariants.{Dummy, Key}
+use Rattle.orc_split_set.proofs.Ordered.{split_ordering}
+
+-- where the root of a bucket names a node, it goes on to name it
+
+root_next : (n : HeapNumbers) (es : List (Event SplitNote)) (e : Event SplitNote) (bucket id : ℕ) → 1 ≤ bucket → bucket < greatest n → SplitHolds n es
+    → SplitMay n es e → LeadsTo (run_heap n es) (Root bucket) (Some id) → LeadsTo (heap_after e.agent e.act (run_heap n es)) (Root bucket) (Some id)
+root_next n es e bucket id low high holds may leads =
+    let h : Heap = run_heap n es in
+    let most : ℕ = greatest n in
+    let after : Act → Heap = λ act. heap_after e.agent act h in
+    let goes : Act → Type 0 = λ act. LeadsTo (after act) (Root bucket) (Some id) in
+    let elsewhere : (p : Place) (from to : Link) → Fits e.agent (Move p from to) h → Root bucket ≢ p → goes (Move p from to)
+    = λ p from to fits ne. leads_same h (after (Move p from to)) (Root bucket) (Some id) ((move_moves e.agent p from to h fits).others (Root bucket) ne) leads in
+    let at_chain : (p : Place) (from to : Link) → Fits e.agent (Move p from to) h → IsChainPlace split_order h p → goes (Move p from to)
+    = λ p from to fits on. elsewhere p from to fits (root_apart h bucket p low on) in
+    let linked : (p : Place) (from to : Link) (rank : ℕ) → MayLink split_order h p from to rank → IsChainPlace split_order h p
+    = λ p from to rank a. place_on_chain split_order h holds.chains rank p a.on_chain in
+    each_kind most h (set_after es) (λ act noted. Fits e.agent act h → goes act)
+    (λ act plain fits. leads_same h (after act) (Root bucket) (Some id) ((act_unmoved e.agent act h fits plain).shows (Root bucket) tt) leads)
+    (λ p from to by key a fits. at_chain p from to fits (linked p from to (key_place key) a.links))
+    (λ d from to by key r fits. elsewhere (Next d) from to fits (λ same. cc))
+    (λ p from to u fits. at_chain p from to fits u.linked)
+    (λ p from to b fits. at_chain p from to fits (linked p from to (dummy_place b.bucket) b.links))
+    (λ root from to a fits. elsewhere (Root root) from to fits (λ same.
+    let one : shown h (Root bucket) ≡ Some from = subst (λ (q : Place). shown h q ≡ Some from) (sym same) fits.0 in
+    let is : leads.link ≡ from = some_same (sym leads.at ∙ one) in
+    let bad : None ≡ Some id = sym (ap (λ (l : Link). l.to) (is ∙ a.from_is)) ∙ leads.to_is in
+    cc))
+    (λ from to g fits. elsewhere (Root most) from to fits (λ same. (let is : bucket ≡ most = cc in omega (arith, high, is))))
+    (λ p link entry t fits. leads_same h (after (Look p link)) (Root bucket) (Some id) refl leads)
+    e.act e.note may.may_act may.fits
+
+pub root_later : (n : HeapNumbers) (seen more : List (Event SplitNote)) (bucket id : ℕ) → 1 ≤ bucket → bucket < greatest n → SplitHolds n seen
+    → AllAllowed (SplitMay n) seen more → LeadsTo (run_heap n seen) (Root bucket) (Some id) → LeadsTo (run_heap n (seen ++ more)) (Root bucket) (Some id)
+root_later n seen more bucket id low high holds all leads =
+    (stays (SplitMay n) (λ es. SplitHolds n es × LeadsTo (run_heap n es) (Root bucket) (Some id))
+    (λ es e x may. (
+      split_keeps n es e x.0 may,
+      subst (λ (h : Heap). LeadsTo h (Root bucket) (Some id)) (sym (run_heap-snoc n es e)) (root_next n es e bucket id low high x.0 may x.1),
+    ))
+    seen more (holds, leads) all).1
+
+pub set_later : (n : HeapNumbers) (seen more : List (Event SplitNote)) (bucket : ℕ) → 1 ≤ bucket → bucket < greatest n → SplitHolds n seen
+    → AllAllowed (SplitMay n) seen more → IsSet (run_heap n seen) bucket → IsSet (run_heap n (seen ++ more)) bucket
+set_later n seen more bucket low high holds all (id, leads) = (id, root_later n seen more bucket id low high holds all leads)
+
+-- over what a pass has newly seen
+pub set_puts : (n : HeapNumbers) (s t : Seat SplitNote) (own : List (Event SplitNote)) (bucket : ℕ) → 1 ≤ bucket → bucket < greatest n → SplitHolds n s.seen
+    → Puts s own t → AllAllowed (SplitMay n) [] t.seen → IsSet (heap_of n s) bucket → IsSet (heap_of n t) bucket
+set_puts n s t own bucket low high holds p all set =
+    subst (λ es. IsSet (run_heap n es) bucket) (sym p.is) (set_later n s.seen p.part bucket low high holds (part_allowed (SplitMay n) s t own p all) set)
+
+-- a swing of a bucket's root from null to its dummy
+
+module _ (n : HeapNumbers) (bucket : ℕ) (s t : Seat SplitNote) (id : ℕ) (low : 1 ≤ bucket) (high : bucket < greatest n) (holds : SplitHolds n s.seen)
+    (all : AllAllowed (SplitMay n) [] t.seen) (dummy : IsDummy (heap_of n s) id bucket) (fresh : FreshIs (split_ordering n) s) where
+  set_by_move : Puts s (event_of s (Move (Root bucket) null (link_to id)) (Some Anchor) ∷ []) t → IsSet (heap_of n t) bucket
+  set_by_move p =
+      let e : Event SplitNote = event_of s (Move (Root bucket) null (link_to id)) (Some Anchor) in
+      let m = Puts-stood (SplitMay n) s t [] e [] p all in
+      let es : List (Event SplitNote) = s.seen ++ m.before in
+      let now = holds_later n s.seen m.before holds m.first in
+      let moved = move_moves s.agent (Root bucket) null (link_to id) (run_heap n es) m.here.fits in
+      let leads : LeadsTo (heap_after s.agent e.act (run_heap n es)) (Root bucket) (Some id) = record { link = link_to id; at = moved.moved; to_is = refl } in
+      let next : LeadsTo (run_heap n (es ++ e ∷ [])) (Root bucket) (Some id) = subst (λ (h : Heap). LeadsTo h (Root bucket) (Some id)) (sym (run_heap-snoc n es e)) leads in
+      subst (λ z. IsSet (run_heap n z) bucket) (sym m.is)
+      (set_later n (es ++ e ∷ []) m.later bucket low high (split_keeps n es e now m.here) m.last (id, next))
+
+  set_by_miss : (found : Link) → found ≢ null → Puts s (event_of s (Miss (Root bucket) null found) None ∷ []) t → IsSet (heap_of n t) bucket
+  set_by_miss found other p =
+      let e : Event SplitNote = event_of s (Miss (Root bucket) null found) None in
+      let m = Puts-stood (SplitMay n) s t [] e [] p all in
+      let es : List (Event SplitNote) = s.seen ++ m.before in
+      let now = holds_later n s.seen m.before holds m.first in
+      let at : shown (run_heap n es) (Root bucket) ≡ Some found = m.here.fits.0 in
+      let plain = now.buckets.plain_roots bucket found at in
+      let set : IsSet (run_heap n es) bucket = by_target es found.to refl at plain in
+      subst (λ z. IsSet (run_heap n z) bucket) (sym m.is)
+      (subst (λ z. IsSet (run_heap n z) bucket) (sym (append_assoc es (e ∷ []) m.later)) (set_later n es (e ∷ m.later) bucket low high now (m.here, m.last) set))
+    where
+      by_target : (es : List (Event SplitNote)) (to : Option ℕ) → found.to ≡ to → shown (run_heap n es) (Root bucket) ≡ Some found → found.mark ≡ false
+          → IsSet (run_heap n es) bucket
+      by_target es None is at plain = absurd (other (rw (is, plain) refl))
+      by_target es (Some x) is at plain = (x, record { link = found; at = at; to_is = is })
+
+  pub anchors : (at : At) (from to : Want) (result : Result Bool Spent) → place_in s.slots at ≡ Root bucket → link_in s.slots from ≡ null
+      → link_in s.slots to ≡ link_to id → IfOk result (λ done. Swings at from to (Some Anchor) s done t) → IfErr result (λ e. Only [] s t)
+      → Anchors n bucket s result t
+  anchors at from to (Err e) at_is from_is to_is w none =
+      record { tried = record { own = []; puts = none.puts; no_entries = refl; no_give = refl; slots = none.slots; fresh = none.fresh }; set = tt }
+  anchors at from to (Ok true) at_is from_is to_is w none =
+      let e : Event SplitNote = event_of s (Move (Root bucket) null (link_to id)) (Some Anchor) in
+      let p : Puts s (e ∷ []) t = subst (λ (x : Event SplitNote). Puts s (x ∷ []) t) (event_is at_is from_is to_is) (Swings-moved w refl) in
+      record {
+        tried = record {
+          own = e ∷ [];
+          puts = p;
+          no_entries = refl;
+          no_give = refl;
+          slots = w.slots;
+          fresh = Swings-fresh w refl ∙ (ap (λ (l : Link). unless_node s.fresh l.to) to_is
+              ∙ unless_other s.fresh id (linked_not_fresh n s id fresh (value_linked (heap_of n s) id bucket 0 dummy)));
+        };
+        set = set_by_move p;
+      }
+    where
+      event_is : place_in s.slots at ≡ Root bucket → link_in s.slots from ≡ null → link_in s.slots to ≡ link_to id
+          → move_of s at from to (Some Anchor) ≡ event_of s (Move (Root bucket) null (link_to id)) (Some Anchor)
+      event_is a b c = rw (a, b, c) refl
+  anchors at from to (Ok false) at_is from_is to_is w none =
+      let m = Swings-missed w refl in
+      let act : Act = Miss (Root bucket) null m.found in
+      let p : Puts s (event_of s act None ∷ []) t = subst (λ (q : Place). Puts s (event_of s (Miss q null m.found) None ∷ []) t) at_is
+      (subst (λ (l : Link). Puts s (event_of s (Miss (place_in s.slots at) l m.found) None ∷ []) t) from_is m.puts) in
+      record {
+        tried = record {
+          own = event_of s act None ∷ [];
+          puts = p;
+          no_entries = silent_one (split_ordering n) s.agent act;
+          no_give = refl;
+          slots = w.slots;
+          fresh = missed_fresh w refl;
+        };
+        set = set_by_miss m.found (λ is. m.other (is ∙ sym from_is)) p;
+      }
+
+-- a node that was linked with its note has its values from then on
+pub node_stands : (n : HeapNumbers) (new : NewNode) (id : ℕ) (to : Option ℕ) (place : Place) (from : Link) (t u : Seat SplitNote)
+    → slice_get (heap_of n t).nodes id ≡ Some (node_to_link t.agent (value_of new) (kind_of new) to) → SplitHolds n t.seen
+    → Puts t (event_of t (Move place from (link_to id)) (Some (note_for t.agent new)) ∷ []) u → AllAllowed (SplitMay n) [] u.seen
+    → HasValues (heap_of n u) id (value_of new) (kind_of new)
+node_stands n new id to place from t u node holds p all =
+    let e : Event SplitNote = event_of t (Move place from (link_to id)) (Some (note_for t.agent new)) in
+    let m = Puts-stood (SplitMay n) t u [] e [] p all in
+    let es : List (Event SplitNote) = t.seen ++ m.before in
+    let h : Heap = run_heap n es in
+    let now = holds_later n t.seen m.before holds m.first in
+    let there = fresh_later n t.agent id (node_to_link t.agent (value_of new) (kind_of new) to) t.seen m.before holds node refl refl refl
+    (record { allowed = m.first; others = m.own_before }) in
+    let in_heap = move_links t.agent place from (link_to id) h id (node_to_link t.agent (value_of new) (kind_of new) to) m.here.fits
+    (chain_place_linked split_order h place (on es now new m.here)) refl there refl in
+    let values = value_new h (heap_after t.agent e.act h) id (node_to_link t.agent (value_of new) (kind_of new) to) (value_of new) (kind_of new) in_heap refl refl in
+    let next : HasValues (run_heap n (es ++ e ∷ [])) id (value_of new) (kind_of new) =
+    subst (λ (k : Heap). HasValues k id (value_of new) (kind_of new)) (sym (run_heap-snoc n es e)) values in
+    subst (λ z. HasValues (run_heap n z) id (value_of new) (kind_of new)) (sym m.is)
+    (values_later n (es ++ e ∷ []) m.later id (value_of new) (kind_of new) next m.last)
+  where
+    on : (es : List (Event SplitNote)) → SplitHolds n es → (new : NewNode)
+        → SplitMay n es (event_of t (Move place from (link_to id)) (Some (note_for t.agent new))) → IsChainPlace split_order (run_heap n es) place
+    on es now (Key key) may = place_on_chain split_order (run_heap n es) now.chains (key_place key) place may.may_act.1.links.on_chain
+    on es now (Dummy bucket) may =
+        place_on_chain split_order (run_heap n es) now.chains (dummy_place may.may_act.bucket) place may.may_act.links.on_chain
+
+-- so has one that was aimed, and then linked
+pub links_stand : (n : HeapNumbers) (new : NewNode) (noted : SplitNote) (h : Hold) (id : ℕ) (to : Option ℕ) (s t u : Seat SplitNote) (at : At)
+    (from want : Want) (result : Result Bool Spent) → HoldsNode (split_reading n) (value_of new) (kind_of new) h id s
+    → Only (event_of s (Aim id to) None ∷ []) s t → noted ≡ note_for t.agent new → link_in t.slots want ≡ link_to (id_in t.slots h) → SplitHolds n s.seen
+    → SplitHolds n t.seen → AllAllowed (SplitMay n) [] t.seen → AllAllowed (SplitMay n) [] u.seen → to ≢ Some id → result ≡ Ok true
+    → IfOk result (λ done. Swings at from want (Some noted) t done u) → HasValues (heap_of n u) id (value_of new) (kind_of new)
+links_stand n new noted h id to s t u at from want result k o noted_is want_is holds_s holds_t all_t all_u apart is w =
+    let swung : Swings at from want (Some noted) t true u =
+    subst (λ (r : Result Bool Spent). IfOk r (λ done. Swings at from want (Some noted) t done u)) is w in
+    let id_is : id_in t.slots h ≡ id = ap (λ (z : Slots). id_in z h) o.slots ∙ (holds_of s.slots h id k.held).1 in
+    let node = aimed (split_ordering n) (value_of new) (kind_of new) h id to [] s t k o.puts tt holds_s all_t apart in
+    node_stands n new id to (place_in t.slots at) (link_in t.slots from) t u node holds_t
+    (subst (λ (e : Event SplitNote). Puts t (e ∷ []) u) (event_is id_is) (Swings-moved swung refl)) all_u
+  where
+    event_is : id_in t.slots h ≡ id → move_of t at from want (Some noted)
+        ≡ event_of t (Move (place_in t.slots at) (link_in t.slots from) (link_to id)) (Some (note_for t.agent new))
+    event_is id_is = rw (want_is, id_is, noted_is) refl

@@ -1,0 +1,136 @@
+-- By what came of the dummy.
+use Rattle.std.proofs.Common.{Bool, Err, Ok, Some, [], ap, append-nil, length, subst, sym, ℕ, ◌∙◌}
+use Rattle.orc_heap.specs.Seats.{heap_of}
+use Rattle.orc_history.specs.Journals.{Within}
+use Rattle.orc_ordered_search.specs.Inserts.{AddsNode, slots_with}
+use Rattle.orc_ordered_search.proofs.Held.{release_goes}
+use Rattle.orc_ordered_search.proofs.Inserting.{seen_holds}
+use Rattle.orc_ordered_search.proofs.Marking.{within_wider}
+use Rattle.orc_split_rule.specs.SplitDiscipline.{IsDummy}
+use Rattle.orc_split_set.specs.SplitSearches.{split_reading}
+use Rattle.orc_split_set.proofs.Ordered.{split_ordering}
+use Rattle.orc_split_set.proofs.Rooting.{added_roots, dummy_held, missed_roots, refused_roots, spent_row}
+use Rattle.orc_split_set.proofs.bucket.link_dummy.Goals as goal
+
+pub add_node-requires-clause-adds : goal.add_node-requires-clause-adds
+add_node-requires-clause-adds g c =
+    let (s, w) = c.requires.to_link in
+    (w.start, 1, slots_with s.slots (Some c.args.dummy) w.id, s, w.adds)
+
+pub anchor_and_go-requires-clause-dummy : goal.anchor_and_go-requires-clause-dummy
+anchor_and_go-requires-clause-dummy g c =
+    let d = c.args.links.now in
+    let n = g.L.Links.numbers d in
+    let a = c.args in
+    let t = g.L.Links.seat d a.p.now in
+    let u = g.L.Links.seat d c.add_node.new.p in
+    let (s, w) = c.requires.to_link in
+    let slots = slots_with s.slots (Some a.dummy) w.id in
+    let one = subst (λ (i : ℕ). AddsNode (split_reading n) a.bucket 0 [] a.dummy i 1 slots s (Ok c.in-Ok-true.field-0) u) w.id_is
+    (c.in-Ok-true.ensures.added w.start 1 slots s w.adds) in
+    let added = subst (λ (b : Bool). AddsNode (split_reading n) a.bucket 0 [] a.dummy w.id 1 slots s (Ok b) u) c.in-Ok-true.field-0-test one in
+    let held = dummy_held n a.bucket a.left a.first a.right a.dummy s t u w added.slots_are in
+    let stands = c.in-Ok-true.ensures.stands w.adds.id w.adds.holds (ap (λ (b : Bool). Ok b) c.in-Ok-true.field-0-test) in
+    (held.0, subst (λ (i : ℕ). IsDummy (heap_of n u) i a.bucket) (w.id_is ∙ sym held.1) stands)
+
+pub release-requires-clause-held : goal.release-requires-clause-held
+release-requires-clause-held g c =
+    let d = c.args.links.now in
+    let n = g.L.Links.numbers d in
+    let a = c.args in
+    let t = g.L.Links.seat d a.p.now in
+    let u = g.L.Links.seat d c.add_node.new.p in
+    let (s, w) = c.requires.to_link in
+    let slots = slots_with s.slots (Some a.dummy) w.id in
+    let one = subst (λ (i : ℕ). AddsNode (split_reading n) a.bucket 0 [] a.dummy i 1 slots s (Ok c.in-Ok-false.field-0) u) w.id_is
+    (c.in-Ok-false.ensures.added w.start 1 slots s w.adds) in
+    let added = subst (λ (b : Bool). AddsNode (split_reading n) a.bucket 0 [] a.dummy w.id 1 slots s (Ok b) u) c.in-Ok-false.field-0-test one in
+    (dummy_held n a.bucket a.left a.first a.right a.dummy s t u w added.slots_are).0
+
+pub release-requires-in-Err-clause-held : goal.release-requires-in-Err-clause-held
+release-requires-in-Err-clause-held g c =
+    let d = c.args.links.now in
+    let n = g.L.Links.numbers d in
+    let a = c.args in
+    let t = g.L.Links.seat d a.p.now in
+    let u = g.L.Links.seat d c.add_node.new.p in
+    let (s, w) = c.requires.to_link in
+    let slots = slots_with s.slots (Some a.dummy) w.id in
+    let added = subst (λ (i : ℕ). AddsNode (split_reading n) a.bucket 0 [] a.dummy i 1 slots s (Err c.in-Err.spent) u) w.id_is
+    (c.in-Err.ensures.added w.start 1 slots s w.adds) in
+    (dummy_held n a.bucket a.left a.first a.right a.dummy s t u w added.slots_are).0
+
+pub returns-in-Ok-true-clause-rooted : goal.returns-in-Ok-true-clause-rooted
+returns-in-Ok-true-clause-rooted g c = λ s w.
+    let d = c.args.links.now in
+    let n = g.L.Links.numbers d in
+    let a = c.args in
+    let t = g.L.Links.seat d a.p.now in
+    let u = g.L.Links.seat d c.add_node.new.p in
+    let slots = slots_with s.slots (Some a.dummy) w.id in
+    let one = subst (λ (i : ℕ). AddsNode (split_reading n) a.bucket 0 [] a.dummy i 1 slots s (Ok c.in-Ok-true.field-0) u) w.id_is
+    (c.in-Ok-true.ensures.added w.start 1 slots s w.adds) in
+    let added = subst (λ (b : Bool). AddsNode (split_reading n) a.bucket 0 [] a.dummy w.id 1 slots s (Ok b) u) c.in-Ok-true.field-0-test one in
+    let x = g.L.Links.seat d c.anchor_and_go.new.p in
+    let k = c.anchor_and_go.ensures.anchored in
+    let all = g.met.L.Links.allowed d c.anchor_and_go.new.p c.anchor_and_go.ensures.pass in
+    added_roots n a.bucket a.dummy w.id s u x w.room w.slot_is added.slots_are added c.anchor_and_go.result c.requires.bucket.0 c.requires.bucket.1 k
+    (seen_holds (split_ordering n) k.mid x [] k.gone.puts all) all
+
+pub returns-in-Ok-false-clause-rooted : goal.returns-in-Ok-false-clause-rooted
+returns-in-Ok-false-clause-rooted g c = λ s w.
+    let d = c.args.links.now in
+    let n = g.L.Links.numbers d in
+    let a = c.args in
+    let t = g.L.Links.seat d a.p.now in
+    let u = g.L.Links.seat d c.add_node.new.p in
+    let slots = slots_with s.slots (Some a.dummy) w.id in
+    let one = subst (λ (i : ℕ). AddsNode (split_reading n) a.bucket 0 [] a.dummy i 1 slots s (Ok c.in-Ok-false.field-0) u) w.id_is
+    (c.in-Ok-false.ensures.added w.start 1 slots s w.adds) in
+    let added = subst (λ (b : Bool). AddsNode (split_reading n) a.bucket 0 [] a.dummy w.id 1 slots s (Ok b) u) c.in-Ok-false.field-0-test one in
+    let x = g.L.Links.seat d c.release.new.p in
+    missed_roots n a.bucket a.dummy w.id s u x w.room w.slot_is added.slots_are added (release_goes a.dummy u x c.release.ensures.released)
+
+pub returns-in-Err-clause-rooted : goal.returns-in-Err-clause-rooted
+returns-in-Err-clause-rooted g c = λ s w.
+    let d = c.args.links.now in
+    let n = g.L.Links.numbers d in
+    let a = c.args in
+    let t = g.L.Links.seat d a.p.now in
+    let u = g.L.Links.seat d c.add_node.new.p in
+    let slots = slots_with s.slots (Some a.dummy) w.id in
+    let added = subst (λ (i : ℕ). AddsNode (split_reading n) a.bucket 0 [] a.dummy i 1 slots s (Err c.in-Err.spent) u) w.id_is
+    (c.in-Err.ensures.added w.start 1 slots s w.adds) in
+    let x = g.L.Links.seat d c.release-in-Err.new.p in
+    refused_roots n a.bucket a.dummy w.id s u x w.room w.slot_is added.slots_are c.in-Err.spent added
+    (release_goes a.dummy u x c.release-in-Err.ensures.released)
+
+pub returns-in-Ok-true-clause-worn : goal.returns-in-Ok-true-clause-worn
+returns-in-Ok-true-clause-worn g c = λ why is.
+    let d = c.args.links.now in
+    let n = g.L.Links.numbers d in
+    let a = c.args in
+    let t = g.L.Links.seat d a.p.now in
+    let u = g.L.Links.seat d c.add_node.new.p in
+    let (s, w) = c.requires.to_link in
+    let slots = slots_with s.slots (Some a.dummy) w.id in
+    let one = subst (λ (i : ℕ). AddsNode (split_reading n) a.bucket 0 [] a.dummy i 1 slots s (Ok c.in-Ok-true.field-0) u) w.id_is
+    (c.in-Ok-true.ensures.added w.start 1 slots s w.adds) in
+    let added = subst (λ (b : Bool). AddsNode (split_reading n) a.bucket 0 [] a.dummy w.id 1 slots s (Ok b) u) c.in-Ok-true.field-0-test one in
+    let j = g.L.Links.journal c.args.p.now in
+    let k = g.L.Links.journal c.add_node.new.p in
+    let m = g.L.Links.journal c.anchor_and_go.new.p in
+    let there = subst (λ (x : ℕ). Within (length k) (length m) (g.L.Links.worn d x why m)) (added.made.puts.agent ∙ sym w.adds.puts.agent)
+    (c.anchor_and_go.ensures.worn why is) in
+    within_wider (g.L.Links.worn d t.agent why) j k m m (λ xs more from to h. g.met.L.Links.worn_stays d t.agent why xs more from to h)
+    c.in-Ok-true.ensures.later ([], append-nil m) there
+
+pub returns-in-Err-clause-worn : goal.returns-in-Err-clause-worn
+returns-in-Err-clause-worn g c = λ why is.
+    let d = c.args.links.now in
+    let t = g.L.Links.seat d c.args.p.now in
+    let j = g.L.Links.journal c.args.p.now in
+    let k = g.L.Links.journal c.add_node.new.p in
+    within_wider (g.L.Links.worn d t.agent why) j j k (g.L.Links.journal c.release-in-Err.new.p)
+    (λ xs more from to h. g.met.L.Links.worn_stays d t.agent why xs more from to h) ([], append-nil j) c.release-in-Err.ensures.later
+    (c.in-Err.ensures.worn why (spent_row c.in-Err.spent why is))

@@ -1,0 +1,96 @@
+-- By what the look of the bucket's root found.
+use Rattle.std.proofs.Common.{arith, subst, ℕ}
+use Rattle.orc_ordered_search.specs.Causes.{WithinPart}
+use Rattle.orc_ordered_search.proofs.Held.{release_goes}
+use Rattle.orc_ordered_search.proofs.Parting.{part_of_part}
+use Rattle.orc_split_set.proofs.Preparing.{kept_roots, no_roots, null_held, root_held}
+use Rattle.orc_split_set.proofs.Rooting.{moved_roots}
+use Rattle.orc_split_set.proofs.Sizes.{looks_none, looks_some, size_moved}
+use Rattle.orc_split_set.proofs.bucket.root_bucket.Goals as goal
+
+pub returns-then-bucket-eq0-clause-rooted : goal.returns-then-bucket-eq0-clause-rooted
+returns-then-bucket-eq0-clause-rooted g c =
+    let d = c.args.links.now in
+    no_roots (g.L.Links.numbers d) c.args.bucket (g.L.Links.seat d c.args.p.now) c.if-bucket-eq0.true c.requires.idle.fresh
+
+pub release-requires-clause-held : goal.release-requires-clause-held
+release-requires-clause-held g c =
+    let d = c.args.links.now in
+    let s = g.L.Links.seat d c.args.p.now in
+    let t = g.L.Links.seat d c.look.new.p in
+    let x = c.in-Stable-default-Some in
+    root_held (g.L.Links.numbers d) c.args.bucket s t x.field-0 x.dummy c.requires.idle
+    (looks_some c.args.bucket 2 x.field-0 x.field-1 x.dummy s t x.field-1-is x.ensures.looked)
+
+pub returns-in-Stable-default-Some-clause-rooted : goal.returns-in-Stable-default-Some-clause-rooted
+returns-in-Stable-default-Some-clause-rooted g c =
+    let d = c.args.links.now in
+    let s = g.L.Links.seat d c.args.p.now in
+    let t = g.L.Links.seat d c.look.new.p in
+    let u = g.L.Links.seat d c.release.new.p in
+    let x = c.in-Stable-default-Some in
+    kept_roots (g.L.Links.numbers d) c.args.bucket s t x.field-0 x.dummy c.requires.idle
+    (looks_some c.args.bucket 2 x.field-0 x.field-1 x.dummy s t x.field-1-is x.ensures.looked) u (omega (arith, c.if-bucket-eq0.false)) c.requires.bucket
+    (g.met.L.Links.obeys d c.args.p.now c.requires.pass) (g.met.L.Links.obeys d c.look.new.p x.ensures.pass)
+    (g.met.L.Links.allowed d c.look.new.p x.ensures.pass) (g.met.L.Links.allowed d c.release.new.p c.release.ensures.pass)
+    (release_goes x.dummy t u c.release.ensures.released)
+
+pub root_near-requires-clause-bucket : goal.root_near-requires-clause-bucket
+root_near-requires-clause-bucket g c = (omega (arith, c.if-bucket-eq0.false), c.requires.bucket)
+
+pub root_near-requires-clause-begun : goal.root_near-requires-clause-begun
+root_near-requires-clause-begun g c =
+    let d = c.args.links.now in
+    let s = g.L.Links.seat d c.args.p.now in
+    let t = g.L.Links.seat d c.look.new.p in
+    let x = c.in-Stable-default-None in
+    let k = null_held (g.L.Links.numbers d) s t c.args.bucket x.field-0 (looks_none c.args.bucket 2 x.field-0 x.field-1 s t x.field-1-is x.ensures.looked) in
+    (s, k.own, k.quiet, k.slots, c.requires.idle)
+
+pub returns-in-Stable-default-None-clause-rooted : goal.returns-in-Stable-default-None-clause-rooted
+returns-in-Stable-default-None-clause-rooted g c =
+    let d = c.args.links.now in
+    let s = g.L.Links.seat d c.args.p.now in
+    let t = g.L.Links.seat d c.look.new.p in
+    let x = c.in-Stable-default-None in
+    let k = null_held (g.L.Links.numbers d) s t c.args.bucket x.field-0 (looks_none c.args.bucket 2 x.field-0 x.field-1 s t x.field-1-is x.ensures.looked) in
+    c.root_near.ensures.rooted s k.own k.quiet k.slots c.requires.idle
+
+pub returns-in-Moved-clause-rooted : goal.returns-in-Moved-clause-rooted
+returns-in-Moved-clause-rooted g c =
+    let d = c.args.links.now in
+    let n = g.L.Links.numbers d in
+    let s = g.L.Links.seat d c.args.p.now in
+    let t = g.L.Links.seat d c.look.new.p in
+    moved_roots n c.args.bucket s t
+    (size_moved n c.args.bucket s t c.in-Moved.ensures.looked (g.met.L.Links.allowed d c.look.new.p c.in-Moved.ensures.pass)) c.requires.idle.fresh
+
+pub returns-in-Stable-default-None-clause-lacking : goal.returns-in-Stable-default-None-clause-lacking
+returns-in-Stable-default-None-clause-lacking g c = λ told.
+    let d = c.args.links.now in
+    let s = g.L.Links.seat d c.args.p.now in
+    let t = g.L.Links.seat d c.look.new.p in
+    let j = g.L.Links.journal c.args.p.now in
+    let k = g.L.Links.journal c.look.new.p in
+    let m = g.L.Links.journal c.root_near.new.p in
+    let x = c.in-Stable-default-None in
+    let held = null_held (g.L.Links.numbers d) s t c.args.bucket x.field-0
+    (looks_none c.args.bucket 2 x.field-0 x.field-1 s t x.field-1-is x.ensures.looked) in
+    let f = c.root_near.ensures in
+    let fact = subst (λ (y : ℕ). WithinPart g.L.Links.agent_of y k m (g.L.Links.lacking d y m)) held.quiet.puts.agent (f.lacking told) in
+    part_of_part g.L.Links.agent_of s.agent (g.L.Links.lacking d s.agent) j k m x.ensures.later f.later fact
+
+pub returns-in-Stable-default-None-clause-worn : goal.returns-in-Stable-default-None-clause-worn
+returns-in-Stable-default-None-clause-worn g c = λ why told.
+    let d = c.args.links.now in
+    let s = g.L.Links.seat d c.args.p.now in
+    let t = g.L.Links.seat d c.look.new.p in
+    let j = g.L.Links.journal c.args.p.now in
+    let k = g.L.Links.journal c.look.new.p in
+    let m = g.L.Links.journal c.root_near.new.p in
+    let x = c.in-Stable-default-None in
+    let held = null_held (g.L.Links.numbers d) s t c.args.bucket x.field-0
+    (looks_none c.args.bucket 2 x.field-0 x.field-1 s t x.field-1-is x.ensures.looked) in
+    let f = c.root_near.ensures in
+    let fact = subst (λ (y : ℕ). WithinPart g.L.Links.agent_of y k m (g.L.Links.worn d y why m)) held.quiet.puts.agent (f.worn why told) in
+    part_of_part g.L.Links.agent_of s.agent (g.L.Links.worn d s.agent why) j k m x.ensures.later f.later fact

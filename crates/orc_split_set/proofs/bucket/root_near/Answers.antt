@@ -1,0 +1,65 @@
+-- Where the search for the dummy begins, and what it found.
+use Rattle.std.proofs.Common.{refl, subst, sym, ℕ, ◌∙◌}
+use Rattle.orc_heap.specs.Slots.{Slots}
+use Rattle.orc_ordered_search.specs.Causes.{WithinPart}
+use Rattle.orc_ordered_search.specs.Searches.{HasRoom}
+use Rattle.orc_ordered_search.proofs.Inserting.{idle_room}
+use Rattle.orc_ordered_search.proofs.Parting.{part_of_part}
+use Rattle.orc_split_set.specs.Beginnings.{seat_before}
+use Rattle.orc_split_set.proofs.Rooting.{moved_roots, roots_after}
+use Rattle.orc_split_set.proofs.bucket.root_near.Goals as goal
+
+pub begin_near-requires-clause-size : goal.begin_near-requires-clause-size
+begin_near-requires-clause-size g c = c.size_within.ensures.size _ c.requires.size
+
+pub begin_near-requires-clause-room : goal.begin_near-requires-clause-room
+begin_near-requires-clause-room g c =
+    let (s, own, q, same, idle) = c.requires.begun in
+    subst (λ (z : Slots). HasRoom z) (sym same) (idle_room s idle).room
+
+pub root_from-requires-clause-begins : goal.root_from-requires-clause-begins
+root_from-requires-clause-begins g c =
+    let d = c.args.links.now in
+    let (s, own, q, same, idle) = c.requires.begun in
+    let b = c.in-From.ensures.begun s own q same in
+    (b.start, seat_before s (g.L.Links.seat d c.begin_near.new.p), idle_room s idle, idle.fresh, b.begins)
+
+pub returns-in-Moved-clause-rooted : goal.returns-in-Moved-clause-rooted
+returns-in-Moved-clause-rooted g c = λ s own q same idle.
+    let d = c.args.links.now in
+    moved_roots (g.L.Links.numbers d) c.args.bucket s (g.L.Links.seat d c.begin_near.new.p) (c.in-Moved.ensures.begun s own q same) idle.fresh
+
+pub returns-in-From-clause-rooted : goal.returns-in-From-clause-rooted
+returns-in-From-clause-rooted g c = λ s own q same idle.
+    let d = c.args.links.now in
+    let t = g.L.Links.seat d c.begin_near.new.p in
+    let b = c.in-From.ensures.begun s own q same in
+    roots_after (g.L.Links.numbers d) c.args.bucket s (seat_before s t) (g.L.Links.seat d c.root_from.new.p) b.own b.quiet refl c.root_from.result
+    (c.root_from.ensures.rooted b.start (seat_before s t) (idle_room s idle) idle.fresh b.begins)
+
+pub returns-in-From-clause-lacking : goal.returns-in-From-clause-lacking
+returns-in-From-clause-lacking g c = λ told.
+    let d = c.args.links.now in
+    let s0 = g.L.Links.seat d c.args.p.now in
+    let j = g.L.Links.journal c.args.p.now in
+    let k = g.L.Links.journal c.begin_near.new.p in
+    let m = g.L.Links.journal c.root_from.new.p in
+    let (s, own, q, same, idle) = c.requires.begun in
+    let b = c.in-From.ensures.begun s own q same in
+    let f = c.root_from.ensures in
+    let fact = subst (λ (x : ℕ). WithinPart g.L.Links.agent_of x k m (g.L.Links.lacking d x m)) (b.begins.begins.agent ∙ sym q.puts.agent) (f.lacking told) in
+    part_of_part g.L.Links.agent_of s0.agent (g.L.Links.lacking d s0.agent) j k m c.in-From.ensures.later f.later fact
+
+pub returns-in-From-clause-worn : goal.returns-in-From-clause-worn
+returns-in-From-clause-worn g c = λ why told.
+    let d = c.args.links.now in
+    let s0 = g.L.Links.seat d c.args.p.now in
+    let j = g.L.Links.journal c.args.p.now in
+    let k = g.L.Links.journal c.begin_near.new.p in
+    let m = g.L.Links.journal c.root_from.new.p in
+    let (s, own, q, same, idle) = c.requires.begun in
+    let b = c.in-From.ensures.begun s own q same in
+    let f = c.root_from.ensures in
+    let fact = subst (λ (x : ℕ). WithinPart g.L.Links.agent_of x k m (g.L.Links.worn d x why m)) (b.begins.begins.agent ∙ sym q.puts.agent)
+    (f.worn why told) in
+    part_of_part g.L.Links.agent_of s0.agent (g.L.Links.worn d s0.agent why) j k m c.in-From.ensures.later f.later fact

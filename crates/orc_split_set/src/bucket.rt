@@ -1,0 +1,329 @@
+//! What a call does before its turns: its key's bucket gets a dummy, and a root that names it.
+
+ghost use Rattle.std.specs.Prelude.{◌≡◌, ◌≢◌, ◌<◌, ◌≤◌, ℕ, IfErr, List, None, length};
+ghost use mathlib.Core.List.{IsPrefix};
+ghost use Rattle.orc_fault.specs.declared.Spent.{Spent};
+ghost use Rattle.orc_heap.specs.Seats.{IsIdle, Seat, heap_of};
+ghost use Rattle.orc_heap.specs.Slots.{Holds, id_in};
+ghost use Rattle.orc_heap.specs.declared.events.Event.{Event};
+ghost use Rattle.orc_heap.specs.declared.events.Place.{Place};
+ghost use Rattle.orc_history.specs.Journals.{Within};
+ghost use Rattle.orc_ordered_search.specs.Causes.{WithinPart};
+ghost use Rattle.orc_ordered_search.specs.Inserts.{HasRoomFor};
+ghost use Rattle.orc_ordered_search.specs.Searches.{FindsAbsent, FindsPresent, Quiet};
+ghost use Rattle.orc_split_rule.specs.SplitDiscipline.{IsDummy, IsSize, greatest};
+ghost use Rattle.orc_split_rule.specs.SplitOrder.{dummy_place};
+ghost use Rattle.orc_split_rule.specs.declared.split.SplitNote.{SplitNote};
+ghost use Rattle.orc_split_set.specs.Rootings.{Anchors, AnchorsAndGoes, HasDummy, Prepares, Roots, rooted_by};
+ghost use Rattle.orc_split_set.specs.SplitSearches.{BeginsAt, split_reading};
+
+use crate::begin::{Begun, begin_near};
+use crate::insert::add_node;
+use crate::node::NewNode;
+use crate::search::{Searched, search};
+use crate::size::read_size;
+use crate::spot::let_all_go;
+use orc_fault::Spent;
+use orc_heap::{At, Held, Links, Looked, Want};
+use orc_split_rule::{Split, SplitNote};
+
+/// What came of the root of a bucket.
+#[derive(Clone, Copy, Debug, PartialEq, Eq)]
+pub enum Rooted {
+    /// It names the bucket's dummy, unless the bucket is the first one, which has none.
+    Done,
+    /// A link moved meanwhile.
+    Moved,
+    /// No node could be had for the dummy.
+    NoNode,
+    /// A row that was to be linked is used up.
+    Spent(Spent),
+}
+
+// What came of the root, by what came of its one swing.
+fn rooted_of(anchored: Result<bool, Spent>) -> Rooted
+    ensures { result ≡ rooted_by anchored }
+{
+    match anchored {
+        Ok(_) => Rooted::Done,
+        Err(spent) => Rooted::Spent(spent),
+    }
+}
+
+// Lets the bucket's root name its dummy, if it is null.
+fn anchor<L: Links<Rule = Split>>(
+    links: &L,
+    p: &mut L::Pass,
+    bucket: u32,
+    dummy: &Held,
+) -> Result<bool, Spent>
+    requires pass { L.belongs links.now p.old }
+    requires bucket { (1 ≤ bucket) × (bucket < greatest (L.numbers links.now)) }
+    requires dummy { Holds (L.seat links.now p.old).slots dummy.now
+        × IsDummy (heap_of (L.numbers links.now) (L.seat links.now p.old)) (id_in (L.seat links.now p.old).slots dummy.now) bucket }
+    ensures pass { L.belongs links.now p.new }
+    ensures later { IsPrefix (L.journal p.old) (L.journal p.new) }
+    ensures anchored { Anchors (L.numbers links.now) bucket (L.seat links.now p.old) result (L.seat links.now p.new) }
+    ensures worn { IfErr result (λ e. Within (length (L.journal p.old)) (length (L.journal p.new))
+        (L.worn links.now (L.seat links.now p.old).agent e (L.journal p.new))) }
+{
+    links.swing(
+        p,
+        &At::Root(bucket),
+        &Want::Null(false),
+        &Want::Node(dummy, false),
+        Some(SplitNote::Anchor),
+    )
+}
+
+// The same, and then lets the dummy go.
+fn anchor_and_go<L: Links<Rule = Split>>(
+    links: &L,
+    p: &mut L::Pass,
+    bucket: u32,
+    dummy: Held,
+) -> Rooted
+    requires pass { L.belongs links.now p.old }
+    requires bucket { (1 ≤ bucket) × (bucket < greatest (L.numbers links.now)) }
+    requires dummy { Holds (L.seat links.now p.old).slots dummy
+        × IsDummy (heap_of (L.numbers links.now) (L.seat links.now p.old)) (id_in (L.seat links.now p.old).slots dummy) bucket }
+    ensures pass { L.belongs links.now p.new }
+    ensures later { IsPrefix (L.journal p.old) (L.journal p.new) }
+    ensures anchored { AnchorsAndGoes (L.numbers links.now) bucket dummy (L.seat links.now p.old) result (L.seat links.now p.new) }
+    ensures worn { (why : Spent) → result ≡ Rooted.Spent why → Within (length (L.journal p.old)) (length (L.journal p.new))
+        (L.worn links.now (L.seat links.now p.old).agent why (L.journal p.new)) }
+{
+    let anchored = anchor(links, p, bucket, &dummy);
+    links.release(p, dummy);
+    rooted_of(anchored)
+}
+
+// A search found the bucket's dummy: lets the bucket's root name it.
+fn anchor_found<L: Links<Rule = Split>>(
+    links: &L,
+    p: &mut L::Pass,
+    bucket: u32,
+    left: Option<Held>,
+    first: Option<Held>,
+    dummy: Held,
+    next: Option<Held>,
+) -> Rooted
+    requires pass { L.belongs links.now p.old }
+    requires bucket { (1 ≤ bucket) × (bucket < greatest (L.numbers links.now)) }
+    requires present { (start : Place) × (passed : ℕ) × (s : Seat SplitNote)
+        × FindsPresent (split_reading (L.numbers links.now)) start (dummy_place bucket) passed left first dummy next s (L.seat links.now p.old) }
+    ensures pass { L.belongs links.now p.new }
+    ensures later { IsPrefix (L.journal p.old) (L.journal p.new) }
+    ensures rooted { (start : Place) (passed : ℕ) (s : Seat SplitNote) → s.fresh ≡ None
+        → FindsPresent (split_reading (L.numbers links.now)) start (dummy_place bucket) passed left first dummy next s (L.seat links.now p.old)
+        → Roots (L.numbers links.now) bucket s result (L.seat links.now p.new) }
+    ensures some { result ≢ Rooted.NoNode }
+    ensures worn { (why : Spent) → result ≡ Rooted.Spent why → Within (length (L.journal p.old)) (length (L.journal p.new))
+        (L.worn links.now (L.seat links.now p.old).agent why (L.journal p.new)) }
+{
+    let anchored = anchor(links, p, bucket, &dummy);
+    let_all_go(links, p, left, first, Some(dummy), next);
+    rooted_of(anchored)
+}
+
+// Links the new dummy where a search found its place, and lets the bucket's root name it.
+fn link_dummy<L: Links<Rule = Split>>(
+    links: &L,
+    p: &mut L::Pass,
+    bucket: u32,
+    left: Option<Held>,
+    first: Option<Held>,
+    right: Option<Held>,
+    dummy: Held,
+) -> Rooted
+    requires pass { L.belongs links.now p.old }
+    requires bucket { (1 ≤ bucket) × (bucket < greatest (L.numbers links.now)) }
+    requires to_link { (s : Seat SplitNote) × HasDummy (L.numbers links.now) bucket left first right dummy s (L.seat links.now p.old) }
+    ensures pass { L.belongs links.now p.new }
+    ensures later { IsPrefix (L.journal p.old) (L.journal p.new) }
+    ensures rooted { (s : Seat SplitNote) → HasDummy (L.numbers links.now) bucket left first right dummy s (L.seat links.now p.old)
+        → Roots (L.numbers links.now) bucket s result (L.seat links.now p.new) }
+    ensures some { result ≢ Rooted.NoNode }
+    ensures worn { (why : Spent) → result ≡ Rooted.Spent why → Within (length (L.journal p.old)) (length (L.journal p.new))
+        (L.worn links.now (L.seat links.now p.old).agent why (L.journal p.new)) }
+{
+    match add_node(links, p, NewNode::Dummy(bucket), left, first, right, &dummy) {
+        Ok(true) => anchor_and_go(links, p, bucket, dummy),
+        Ok(false) => {
+            links.release(p, dummy);
+            Rooted::Moved
+        }
+        Err(spent) => {
+            links.release(p, dummy);
+            Rooted::Spent(spent)
+        }
+    }
+}
+
+// A search found the place of the bucket's dummy, which isn't there: links one, and lets the bucket's root name it.
+fn add_dummy<L: Links<Rule = Split>>(
+    links: &L,
+    p: &mut L::Pass,
+    bucket: u32,
+    left: Option<Held>,
+    first: Option<Held>,
+    right: Option<Held>,
+) -> Rooted
+    requires pass { L.belongs links.now p.old }
+    requires bucket { (1 ≤ bucket) × (bucket < greatest (L.numbers links.now)) }
+    requires absent { (start : Place) × (passed : ℕ) × (s : Seat SplitNote) × HasRoomFor s.slots × (s.fresh ≡ None)
+        × FindsAbsent (split_reading (L.numbers links.now)) start (dummy_place bucket) passed left first right s (L.seat links.now p.old) }
+    ensures pass { L.belongs links.now p.new }
+    ensures later { IsPrefix (L.journal p.old) (L.journal p.new) }
+    ensures rooted { (start : Place) (passed : ℕ) (s : Seat SplitNote) → HasRoomFor s.slots → s.fresh ≡ None
+        → FindsAbsent (split_reading (L.numbers links.now)) start (dummy_place bucket) passed left first right s (L.seat links.now p.old)
+        → Roots (L.numbers links.now) bucket s result (L.seat links.now p.new) }
+    ensures lacking { result ≡ Rooted.NoNode → Within (length (L.journal p.old)) (length (L.journal p.new))
+        (L.lacking links.now (L.seat links.now p.old).agent (L.journal p.new)) }
+    ensures worn { (why : Spent) → result ≡ Rooted.Spent why → Within (length (L.journal p.old)) (length (L.journal p.new))
+        (L.worn links.now (L.seat links.now p.old).agent why (L.journal p.new)) }
+{
+    match links.give(p, 1, u64::from(bucket), 0) {
+        Ok(dummy) => link_dummy(links, p, bucket, left, first, right, dummy),
+        Err(_) => {
+            let_all_go(links, p, left, first, right, None);
+            Rooted::NoNode
+        }
+    }
+}
+
+// Searches the bucket's dummy from the dummy in hand, or else from root 0, links one if it isn't there, and lets the
+// bucket's root name it.
+fn root_from<L: Links<Rule = Split>>(
+    links: &L,
+    p: &mut L::Pass,
+    bucket: u32,
+    left: Option<Held>,
+) -> Rooted
+    requires pass { L.belongs links.now p.old }
+    requires bucket { (1 ≤ bucket) × (bucket < greatest (L.numbers links.now)) }
+    requires begins { (start : Place) × (s : Seat SplitNote) × HasRoomFor s.slots × (s.fresh ≡ None)
+        × BeginsAt (L.numbers links.now) start (dummy_place bucket) left s (L.seat links.now p.old) }
+    ensures pass { L.belongs links.now p.new }
+    ensures later { IsPrefix (L.journal p.old) (L.journal p.new) }
+    ensures rooted { (start : Place) (s : Seat SplitNote) → HasRoomFor s.slots → s.fresh ≡ None
+        → BeginsAt (L.numbers links.now) start (dummy_place bucket) left s (L.seat links.now p.old)
+        → Roots (L.numbers links.now) bucket s result (L.seat links.now p.new) }
+    ensures lacking { result ≡ Rooted.NoNode → WithinPart L.agent_of (L.seat links.now p.old).agent (L.journal p.old) (L.journal p.new)
+        (L.lacking links.now (L.seat links.now p.old).agent (L.journal p.new)) }
+    ensures worn { (why : Spent) → result ≡ Rooted.Spent why
+        → WithinPart L.agent_of (L.seat links.now p.old).agent (L.journal p.old) (L.journal p.new) (L.worn links.now (L.seat links.now p.old).agent why
+        (L.journal p.new)) }
+{
+    match search(links, p, NewNode::Dummy(bucket).place(), left) {
+        Searched::Over => Rooted::Moved,
+        Searched::Absent {
+            left,
+            first,
+            right,
+            passed: _,
+        } => add_dummy(links, p, bucket, left, first, right),
+        Searched::Present {
+            left,
+            first,
+            node,
+            next,
+            passed: _,
+        } => anchor_found(links, p, bucket, left, first, node, next),
+    }
+}
+
+// The greatest number of buckets that is no more than this one, where so many are the most.
+fn size_within(bucket: u32, most: u32) -> u32
+    requires bucket { 1 ≤ bucket }
+    ensures low { result ≤ bucket }
+    ensures size { (all : ℕ) → IsSize all most → IsSize all result }
+{
+    let mut size = most;
+    while size > bucket {
+        size = size / 2;
+    }
+    size
+}
+
+// Looks for the nearest ancestor of the bucket that has a dummy, and from there for the bucket's own.
+fn root_near<L: Links<Rule = Split>>(links: &L, p: &mut L::Pass, bucket: u32, size: u32) -> Rooted
+    requires pass { L.belongs links.now p.old }
+    requires bucket { (1 ≤ bucket) × (bucket < greatest (L.numbers links.now)) }
+    requires size { IsSize (greatest (L.numbers links.now)) size }
+    requires begun { (s : Seat SplitNote) × (own : List (Event SplitNote)) × Quiet (split_reading (L.numbers links.now)) s own (L.seat links.now p.old)
+        × ((L.seat links.now p.old).slots ≡ s.slots) × IsIdle s }
+    ensures pass { L.belongs links.now p.new }
+    ensures later { IsPrefix (L.journal p.old) (L.journal p.new) }
+    ensures rooted { (s : Seat SplitNote) (own : List (Event SplitNote)) → Quiet (split_reading (L.numbers links.now)) s own (L.seat links.now p.old)
+        → (L.seat links.now p.old).slots ≡ s.slots → IsIdle s → Roots (L.numbers links.now) bucket s result (L.seat links.now p.new) }
+    ensures lacking { result ≡ Rooted.NoNode → WithinPart L.agent_of (L.seat links.now p.old).agent (L.journal p.old) (L.journal p.new)
+        (L.lacking links.now (L.seat links.now p.old).agent (L.journal p.new)) }
+    ensures worn { (why : Spent) → result ≡ Rooted.Spent why
+        → WithinPart L.agent_of (L.seat links.now p.old).agent (L.journal p.old) (L.journal p.new) (L.worn links.now (L.seat links.now p.old).agent why
+        (L.journal p.new)) }
+{
+    match begin_near(links, p, NewNode::Dummy(bucket), size_within(bucket, size)) {
+        Begun::Moved => Rooted::Moved,
+        Begun::From(left) => root_from(links, p, bucket, left),
+    }
+}
+
+// Lets the bucket's root name its dummy, where it is null, unless the bucket is the first one.
+fn root_bucket<L: Links<Rule = Split>>(links: &L, p: &mut L::Pass, bucket: u32, size: u32) -> Rooted
+    requires pass { L.belongs links.now p.old }
+    requires bucket { bucket < greatest (L.numbers links.now) }
+    requires size { IsSize (greatest (L.numbers links.now)) size }
+    requires idle { IsIdle (L.seat links.now p.old) }
+    ensures pass { L.belongs links.now p.new }
+    ensures later { IsPrefix (L.journal p.old) (L.journal p.new) }
+    ensures rooted { Roots (L.numbers links.now) bucket (L.seat links.now p.old) result (L.seat links.now p.new) }
+    ensures lacking { result ≡ Rooted.NoNode → WithinPart L.agent_of (L.seat links.now p.old).agent (L.journal p.old) (L.journal p.new)
+        (L.lacking links.now (L.seat links.now p.old).agent (L.journal p.new)) }
+    ensures worn { (why : Spent) → result ≡ Rooted.Spent why
+        → WithinPart L.agent_of (L.seat links.now p.old).agent (L.journal p.old) (L.journal p.new) (L.worn links.now (L.seat links.now p.old).agent why
+        (L.journal p.new)) }
+{
+    if bucket == 0 {
+        return Rooted::Done;
+    }
+    match links.look(p, &At::Root(bucket), 2) {
+        Looked::Stable(_, Some(dummy)) => {
+            links.release(p, dummy);
+            Rooted::Done
+        }
+        Looked::Stable(_, None) => root_near(links, p, bucket, size),
+        Looked::Moved => Rooted::Moved,
+    }
+}
+
+// What a call does before its turns: where the root of its key's bucket is null, the bucket gets a dummy, which the root
+// names from then on. One try; whatever comes of it, the call goes on. With no turns it does nothing.
+pub(crate) fn prepare<L: Links<Rule = Split>>(
+    links: &L,
+    p: &mut L::Pass,
+    most: u32,
+    key: u64,
+    turns: u64,
+) -> Rooted
+    requires pass { L.belongs links.now p.old }
+    requires most { (most ≡ greatest (L.numbers links.now)) × (1 ≤ most) }
+    requires idle { IsIdle (L.seat links.now p.old) }
+    ensures pass { L.belongs links.now p.new }
+    ensures later { IsPrefix (L.journal p.old) (L.journal p.new) }
+    ensures idle { IsIdle (L.seat links.now p.new) }
+    ensures prepared { Prepares (L.numbers links.now) key turns (L.seat links.now p.old) result (L.seat links.now p.new) }
+    ensures lacking { result ≡ Rooted.NoNode → WithinPart L.agent_of (L.seat links.now p.old).agent (L.journal p.old) (L.journal p.new)
+        (L.lacking links.now (L.seat links.now p.old).agent (L.journal p.new)) }
+    ensures worn { (why : Spent) → result ≡ Rooted.Spent why
+        → WithinPart L.agent_of (L.seat links.now p.old).agent (L.journal p.old) (L.journal p.new) (L.worn links.now (L.seat links.now p.old).agent why
+        (L.journal p.new)) }
+{
+    if turns == 0 {
+        return Rooted::Done;
+    }
+    match read_size(links, p, most) {
+        Some(size) => root_bucket(links, p, (key % u64::from(size)) as u32, size),
+        None => Rooted::Moved,
+    }
+}
