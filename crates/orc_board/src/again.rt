@@ -81,11 +81,7 @@ pub fn put_job<R: Wait, Q: SharedQueue>(
 }
 
 /// Takes a job with its position, or finds none, and makes a call that answers Again once more until it is answered.
-pub fn take_job<R: Wait, Q: SharedQueue>(
-    rt: &R,
-    queue: &Q,
-    p: &mut Q::Pass,
-) -> Option<(u64, u64)>
+pub fn take_job<R: Wait, Q: SharedQueue>(rt: &R, queue: &Q, p: &mut Q::Pass) -> Option<(u64, u64)>
     requires { Q.usable queue.now p.old }
     ensures usable { Q.usable queue.now p.new }
     ensures agent { KeepsQueueAgent Q.SharedQueue queue.now p.old p.new }
