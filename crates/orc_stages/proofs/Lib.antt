@@ -1,0 +1,12 @@
+pub mod Shares
+pub mod Moves
+pub mod Posts
+pub mod Desks
+pub mod Known
+pub mod Callers
+pub mod Jobs
+pub mod Tables
+pub mod Counts
+pub mod Places
+pub mod Pipelines
+pub mod ComeOut

@@ -1,0 +1,21 @@
+//! A pipeline of queues: each stage takes from one queue and puts into the next.
+#![tactic(auto)]
+
+mod caller;
+mod desk;
+mod laws;
+mod learning;
+mod poster;
+mod replies;
+mod stage;
+mod team;
+#[cfg(test)]
+mod tests;
+
+pub use caller::{move_all, take_outs};
+pub use laws::{all_come_out, runs_are_pipelines};
+pub use learning::learn_all;
+pub use poster::post_items;
+pub use replies::{OutList, StageDesk, StageList, StageReply};
+pub use stage::{move_rest, run_stage, stage_value};
+pub use team::{Worker, run_workers};
