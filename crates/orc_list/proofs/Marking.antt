@@ -17,7 +17,7 @@ use Rattle.orc_heap.specs.declared.events.Link.{Link}
 use Rattle.orc_heap.specs.declared.events.Place.{Place}
 use Rattle.orc_heap.specs.declared.events.Place.TheVariants.{Next}
 use Rattle.orc_heap.specs.declared.holds.At.{At}
-use Rattle.orc_heap.specs.declared.holds.At.TheVariants.{Node as AtNode, Root as AtRoot}
+use Rattle.orc_heap.specs.declared.holds.At.TheVariants.{Node as AtNode, Root as AtRoot, Side as AtSide}
 use Rattle.orc_heap.specs.declared.holds.Want.{Want}
 use Rattle.orc_heap.specs.declared.holds.Want.TheVariants.{Node as WantNode, Null as WantNull}
 use Rattle.orc_history.specs.Journals.{Within}
@@ -45,6 +45,7 @@ pub not_fresh_at : (n : HeapNumbers) (s : Seat ChainNote) (at : At) (place : Pla
 not_fresh_at n s (AtRoot r) place is l fresh = tt
 not_fresh_at n s (AtNode h) place is l fresh = linked_not_fresh n s (id_in s.slots h.now) fresh
     (subst (λ (p : Place). IsChainPlace p (heap_of n s)) (sym is) l)
+not_fresh_at n s (AtSide h) place is l fresh = absurd (subst (λ (p : Place). IsChainPlace p (heap_of n s)) (sym is) l)
 
 target_fresh : (n : HeapNumbers) (s : Seat ChainNote) (id : ℕ) (to : Option ℕ) → NextFollows n id to s → FreshIs n s → unless_node s.fresh to ≡ s.fresh
 target_fresh n s id None f fresh = unless_none s.fresh

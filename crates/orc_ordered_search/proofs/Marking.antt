@@ -16,7 +16,7 @@ use Rattle.orc_heap.specs.declared.events.Link.{Link}
 use Rattle.orc_heap.specs.declared.events.Place.{Place}
 use Rattle.orc_heap.specs.declared.events.Place.TheVariants.{Next}
 use Rattle.orc_heap.specs.declared.holds.At.{At}
-use Rattle.orc_heap.specs.declared.holds.At.TheVariants.{Node as AtNode, Root as AtRoot}
+use Rattle.orc_heap.specs.declared.holds.At.TheVariants.{Node as AtNode, Root as AtRoot, Side as AtSide}
 use Rattle.orc_heap.specs.declared.holds.Want.{Want}
 use Rattle.orc_heap.specs.declared.holds.Want.TheVariants.{Node as WantNode, Null as WantNull}
 use Rattle.orc_history.specs.Journals.{Within}
@@ -42,6 +42,8 @@ not_fresh_at {N} ord s (AtNode h) place is l fresh =
     let (rank, own) = subst (λ (p : Place). IsChainPlace ord.reading.order (heap_of ord.reading.numbers s) p) (sym is) l in
     linked_not_fresh ord.reading.numbers s (id_in s.slots h.now) fresh
     (rank_linked ord.reading.order (heap_of ord.reading.numbers s) (id_in s.slots h.now) rank own)
+not_fresh_at {N} ord s (AtSide h) place is l fresh =
+    absurd (subst (λ (p : Place). IsChainPlace ord.reading.order (heap_of ord.reading.numbers s) p) (sym is) l)
 
 pub target_fresh : {N : Type 0} (ord : Ordering N) (s : Seat N) (id : ℕ) (to : Option ℕ) → NextFollows ord.reading id to s → FreshIs ord s
     → unless_node s.fresh to ≡ s.fresh
