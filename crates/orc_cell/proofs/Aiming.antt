@@ -270,7 +270,8 @@ staged_refused n s t pair fresh all q =
     }
 
 -- the aim leaves the slots
-pub aimed_slots : (b c : Seat PairsNote) (xs : List (Event PairsNote)) (E : Type 0) (r : Result (Unit {0}) E) → IfOk r (λ _. Only xs b c) → IfErr r (λ _. Only [] b c)
+pub aimed_slots : (b c : Seat PairsNote) (xs : List (Event PairsNote)) (E : Type 0) (r : Result (Unit {0}) E) → IfOk r (λ _. Only xs b c)
+    → IfErr r (λ _. Only [] b c)
     → c.slots ≡ b.slots
 aimed_slots b c xs E (Ok x) ok err = ok.slots
 aimed_slots b c xs E (Err e) ok err = err.slots

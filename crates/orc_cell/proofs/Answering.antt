@@ -54,7 +54,8 @@ pub moved_before : (s a t : Seat PairsNote) (k : ℕ) (xs ys zs : List (Event Pa
 moved_before s a t k xs ys zs p q w some = rw (new_is s a t xs ys zs p q w) (omega (arith, some, others_from_own-append s.agent p.part q.part))
 
 -- the pair was given, and let go
-module _ (n : HeapNumbers) (s a : Seat PairsNote) (pair : Hold) (free : IsFree s.slots 3) (given : Gives n 3 0 0 s pair a) (all_a : AllAllowed (PairsMay n) [] a.seen)
+module _ (n : HeapNumbers) (s a : Seat PairsNote) (pair : Hold) (free : IsFree s.slots 3) (given : Gives n 3 0 0 s pair a) (all_a : AllAllowed
+    (PairsMay n) [] a.seen)
   where
     in_slot : InSlot s 3 given.id pair a
     in_slot = record { at = given.slot_is; slots = given.slots }
@@ -68,7 +69,8 @@ module _ (n : HeapNumbers) (s a : Seat PairsNote) (pair : Hold) (free : IsFree s
     pub given_staging : KeepsStaging n s a
     given_staging = λ root own. root_kept n s a _ root given.puts all_a own refl
 
-    pub side_given : (k : ℕ) (new : New) → ((agent : ℕ) → IsStaging agent (k + 2 * agent)) → SideHeld n (k + 2 * s.agent) new s → SideHeld n (k + 2 * a.agent) new a
+    pub side_given : (k : ℕ) (new : New) → ((agent : ℕ) → IsStaging agent (k + 2 * agent)) → SideHeld n (k + 2 * s.agent) new s
+        → SideHeld n (k + 2 * a.agent) new a
     side_given k new staging held =
         subst (λ (i : ℕ). SideHeld n (k + 2 * i) new a) (sym given.puts.agent)
         (side_kept n s a (k + 2 * s.agent) new _ given.puts all_a (staging s.agent) given_staging
@@ -146,7 +148,8 @@ module _ (n : HeapNumbers) (slot root value : ℕ) (s a b t : Seat PairsNote) (h
         record {
           answered = record {
             stretch = record { own = st.own; puts = st.puts; entries_are = st.entries_are ∙ append-nil es; gives = omega (arith, st.gives) };
-            slots = last.slots ∙ (ap (λ (z : Slots). slice_set z h.slot None) y.slots ∙ given-back s.slots a.slots slot first.id h free.empty first.in_slot.at first.in_slot.slots);
+            slots = last.slots ∙
+                (ap (λ (z : Slots). slice_set z h.slot None) y.slots ∙ given-back s.slots a.slots slot first.id h free.empty first.in_slot.at first.in_slot.slots);
             staging = λ r staging. by_root r staging (r == root) refl;
           };
           fresh = last.fresh;
@@ -211,7 +214,8 @@ ready_fresh n slot root s a (Given value h) none r = r.fresh
 ready_fresh n slot root s a (Zero h) none r = r.fresh
 ready_fresh n slot root s a Kept none r = r.0.fresh ∙ none
 
-pub ready_held : (n : HeapNumbers) (slot root : ℕ) (s a : Seat PairsNote) (new : New) → IsFree s.slots slot → Readies n slot root s new a → SideHeld n root new a
+pub ready_held : (n : HeapNumbers) (slot root : ℕ) (s a : Seat PairsNote) (new : New) → IsFree s.slots slot → Readies n slot root s new a
+    → SideHeld n root new a
 ready_held n slot root s a (Given value h) free r = stages_held n slot root value s a h free r
 ready_held n slot root s a (Zero h) free r = stages_held n slot root 0 s a h free r
 ready_held n slot root s a Kept free r = r.1
@@ -322,7 +326,8 @@ pub ready_published : (n : HeapNumbers) (slot root : ℕ) (s a : Seat PairsNote)
 ready_published n slot root s a new all r x = let p = ready_puts n slot root s a new r in published_puts n s a p.0 p.1 all x
 
 -- no pair was published, or one was
-pub null_missed : (n : HeapNumbers) (s t : Seat PairsNote) → Known n s.seen → AllAllowed (PairsMay n) [] t.seen → Misses (Root 0) null s t → IsPublished (heap_of n t)
+pub null_missed : (n : HeapNumbers) (s t : Seat PairsNote) → Known n s.seen → AllAllowed (PairsMay n) [] t.seen → Misses (Root 0) null s t
+    → IsPublished (heap_of n t)
 null_missed n s t k all x =
     let e : Event PairsNote = event_of s (Miss (Root 0) null x.found) None in
     let m = Puts-stood (PairsMay n) s t [] e [] x.puts all in

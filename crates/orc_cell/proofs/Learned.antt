@@ -25,7 +25,8 @@ pub staging_learned : (n : HeapNumbers) (agent : ℕ) (xs ys : List (Event Pairs
     → AllAllowed (PairsMay n) [] ys → IsStaging agent root → shown (run_heap n ys) (Root root) ≡ shown (run_heap n xs) (Root root)
 staging_learned n agent xs ys root (more, is) same all own =
     let none : events_by agent more ≡ [] = append_cancel_left (events_by agent xs) (events_by agent more) []
-    (sym (filter-append (λ (e : Event PairsNote). e.agent == agent) xs more) ∙ (ap (λ z. events_by agent z) is ∙ (same ∙ sym (append-nil (events_by agent xs))))) in
+    (sym (filter-append (λ (e : Event PairsNote). e.agent == agent) xs more) ∙
+    (ap (λ z. events_by agent z) is ∙ (same ∙ sym (append-nil (events_by agent xs))))) in
     ap (λ es. shown (run_heap n es) (Root root)) (sym is)
     ∙ staging_later n xs more agent root own (record {
       allowed = allowed-right (PairsMay n) [] xs more (subst (λ z. AllAllowed (PairsMay n) [] z) (sym is) all);

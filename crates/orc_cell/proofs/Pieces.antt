@@ -118,7 +118,8 @@ pub finds_none : (s t : Seat PairsNote) → Only [] s t → FindsOnly s [] t
 finds_none s t o = record { finds = record { own = []; puts = o.puts; finding = tt; entries_are = refl; fresh = o.fresh }; slots = o.slots }
 
 -- what was put into a free slot is released, at the end of such a piece
-pub finds_released : (n : HeapNumbers) (s a b t : Seat PairsNote) (h : Hold) (es : List CellEntry) → Finds s [] a → FindsOnly a es b → ((i : ℕ) → b.fresh ≡ Some i → IsUntouched b.agent (heap_of n b) i)
+pub finds_released : (n : HeapNumbers) (s a b t : Seat PairsNote) (h : Hold) (es : List CellEntry) → Finds s [] a → FindsOnly a es b
+    → ((i : ℕ) → b.fresh ≡ Some i → IsUntouched b.agent (heap_of n b) i)
     → IsLinkedNode (heap_of n b) (id_in b.slots h) → Releases b h t
     → (back : t.slots ≡ s.slots) → FindsOnly s es t
 finds_released n s a b t h es p q untouched linked w back =

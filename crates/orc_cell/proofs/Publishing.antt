@@ -155,7 +155,11 @@ pub moved_turn : (n : HeapNumbers) (s t : Seat PairsNote) (pair : Hold) (one two
 moved_turn n s t pair one two held p all ne slots fresh =
     let f : FindsOnly s [] t = record { finds = record { own = _; puts = p; finding = (tt, (tt, tt)); entries_are = refl; fresh = fresh }; slots = slots } in
     record {
-      answered = record { stretch = record { own = _; puts = p; entries_are = refl; gives = omega arith }; slots = slots; staging = finds_staging n s t [] f.finds all };
+      answered = record {
+        stretch = record { own = _; puts = p; entries_are = refl; gives = omega arith };
+        slots = slots;
+        staging = finds_staging n s t [] f.finds all;
+      };
       fresh = record {
         held = subst (λ (z : Slots). Holds z pair) (sym slots) held.held;
         fresh = fresh ∙ (held.fresh ∙ ap (λ z. Some (id_in z pair)) (sym slots));

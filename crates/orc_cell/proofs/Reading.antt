@@ -29,7 +29,8 @@ use Rattle.orc_cell.proofs.Others.{found_or_others, missed_by_others, others-app
 use Rattle.orc_cell.proofs.Pieces.{Finds-trans, FindsOnly-trans, Known, finds_none, finds_released, pair_puts, part_puts}
 
 -- the value of a part that is held
-pub value_read : (n : HeapNumbers) (b : Seat PairsNote) (i id v value : ℕ) → i ≡ id → HasPart (heap_of n b) id v → ReadsValue (heap_of n b) i 0 value → value ≡ v
+pub value_read : (n : HeapNumbers) (b : Seat PairsNote) (i id v value : ℕ) → i ≡ id → HasPart (heap_of n b) id v → ReadsValue (heap_of n b) i 0 value
+    → value ≡ v
 value_read n b i id v value same p r =
     let one : r.node ≡ p.node = some_same (sym r.there ∙ (ap (λ (k : ℕ). slice_get (heap_of n b).nodes k) same ∙ p.there)) in
     r.is v (ap (λ (z : Node). z.first) one ∙ p.part.value_is)
@@ -130,7 +131,8 @@ left_pair n s b t link left right done is x c all_b all_t =
           ap (others_moves s.agent) part_is ∙ others-append s.agent x.finds.puts.part m.puts.part in
           elim (still_or_others n s b link x.finds.own x.finds.puts all_b x.finds.entries_are at) [
             | inl still ↦
-                let moved = subst (λ (i : ℕ). 1 ≤ others_moves i m.puts.part) x.finds.puts.agent (missed_by_others n b t link m.found m.puts all_t m.other still) in
+                let moved =
+                subst (λ (i : ℕ). 1 ≤ others_moves i m.puts.part) x.finds.puts.agent (missed_by_others n b t link m.found m.puts all_t m.other still) in
                 omega (arith, count, moved)
             | inr moved ↦ omega (arith, count, moved)
           ];

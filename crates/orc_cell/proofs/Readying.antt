@@ -108,7 +108,8 @@ pub keeps_found : (n : HeapNumbers) (left right : Option ℕ) (pair : Hold) (s a
     → IsUntouched s.agent (heap_of n s) (id_in s.slots pair) → id_in a.slots pair ≡ id_in s.slots pair → KeepsHalves n left right pair s a
 keeps_found n left right pair s a own p known all finding u same = record {
   node = u.node;
-  there = subst (λ (i : ℕ). slice_get (heap_of n a).nodes i ≡ Some u.node) (sym same) (own_found n s a own (id_in s.slots pair) u.node p known all finding u u.there);
+  there = subst (λ (i : ℕ). slice_get (heap_of n a).nodes i ≡ Some u.node) (sym same)
+      (own_found n s a own (id_in s.slots pair) u.node p known all finding u u.there);
   left_stays = λ some old there. ap (λ (z : Node). z.link) (some_same (sym u.there ∙ there));
   right_stays = λ some old there. ap (λ (z : Node). z.side) (some_same (sym u.there ∙ there));
 }

@@ -68,7 +68,8 @@ pub root_kept : (n : HeapNumbers) (s t : Seat PairsNote) (own : List (Event Pair
     → IsStaging s.agent root → list_any (λ e. moves_place (Root root) e.act) own ≡ false → shown (heap_of n t) (Root root) ≡ shown (heap_of n s) (Root root)
 root_kept n s t own root p all staging none =
     let P : List (Event PairsNote) → Type 0 = λ es. shown (run_heap n es) (Root root) ≡ shown (heap_of n s) (Root root) in
-    let r : P (s.seen ++ p.part) = stays_but (PairsMay n) s.agent (moves_place (Root root)) P (λ es e x may away. step es e x may away (e.agent == s.agent) refl)
+    let r : P (s.seen ++ p.part) = stays_but (PairsMay n) s.agent (moves_place (Root root)) P
+    (λ es e x may away. step es e x may away (e.agent == s.agent) refl)
     s.seen p.part refl (part_allowed (PairsMay n) s t own p all) (ap (list_any (λ e. moves_place (Root root) e.act)) p.own_is ∙ none) in
     ap (λ es. shown (run_heap n es) (Root root)) p.is ∙ r
   where
@@ -164,7 +165,8 @@ pub own_touched : (n : HeapNumbers) (s t : Seat PairsNote) (own : List (Event Pa
     → AllAllowed (PairsMay n) [] t.seen → IsUntouched s.agent (heap_of n s) id → slice_get (heap_of n s).nodes id ≡ Some x
     → list_any (λ e. points_to e.act id) own ≡ false → slice_get (heap_of n t).nodes id ≡ Some (touched_by id own x)
 own_touched n s t own id x p k all u there away =
-    (own_node_puts n (PairsHolds n) (PairsMay n) (pairs_keeps n) (pairs_fits n) (pairs_moves_linked n) s t own p k.holds all id x (own_of n s id x u there) away).there
+    (own_node_puts n (PairsHolds n) (PairsMay n) (pairs_keeps n) (pairs_fits n) (pairs_moves_linked n) s t own p k.holds all id x
+    (own_of n s id x u there) away).there
 
 -- and not at all over a piece that only looks
 pub own_found : (n : HeapNumbers) (s t : Seat PairsNote) (own : List (Event PairsNote)) (id : ℕ) (x : Node) (p : Puts s own t) → Known n s.seen

@@ -102,7 +102,8 @@ module _ (n : HeapNumbers) (s a b : Seat PairsNote) (pair : Hold) (l r x y : ℕ
       where
         pub was_published : done ≡ true → PublishDone n given_left given_right x y s t
         was_published is =
-            let e : Event PairsNote = event_of b (Move (Root 0) from (link_to (id_in b.slots pair))) (Some (Entry (Published b.agent given_left given_right x y))) in
+            let e : Event PairsNote =
+            event_of b (Move (Root 0) from (link_to (id_in b.slots pair))) (Some (Entry (Published b.agent given_left given_right x y))) in
             let puts : Puts b (e ∷ []) t = subst (λ (v : Bool). MatchBool v (Puts b (e ∷ []) t) (Misses (Root 0) from b t)) is w.puts in
             let swing : Answered n 0 b (Published s.agent given_left given_right x y ∷ []) t = record {
               stretch = record {
@@ -121,7 +122,8 @@ module _ (n : HeapNumbers) (s a b : Seat PairsNote) (pair : Hold) (l r x y : ℕ
 
         pub was_missed : done ≡ false → (given_left ≢ None → a ≡ s) → (given_right ≢ None → b ≡ a) → PublishMissed n from given_left given_right pair s t
         was_missed is same_left same_right =
-            let e : Event PairsNote = event_of b (Move (Root 0) from (link_to (id_in b.slots pair))) (Some (Entry (Published b.agent given_left given_right x y))) in
+            let e : Event PairsNote =
+            event_of b (Move (Root 0) from (link_to (id_in b.slots pair))) (Some (Entry (Published b.agent given_left given_right x y))) in
             let m : Misses (Root 0) from b t = subst (λ (v : Bool). MatchBool v (Puts b (e ∷ []) t) (Misses (Root 0) from b t)) is w.puts in
             let fresh_t : t.fresh ≡ b.fresh = w.fresh ∙ ap (λ (v : Bool). if v then None else b.fresh) is in
             let miss : Answered n 0 b [] t = record {
@@ -141,7 +143,8 @@ module _ (n : HeapNumbers) (s a b : Seat PairsNote) (pair : Hold) (l r x y : ℕ
                   (keeps_found n given_left given_right pair b t _ m.puts known_b all_t (tt, tt) (untouched (id_in b.slots pair) right.fresh.fresh)
                   (ap (λ z. id_in z pair) w.slots));
               moved = λ at.
-                  let count : others_moves s.agent whole.stretch.puts.part ≡ others_moves s.agent both_aimed.stretch.puts.part + others_moves s.agent m.puts.part =
+                  let count : others_moves s.agent whole.stretch.puts.part
+                  ≡ others_moves s.agent both_aimed.stretch.puts.part + others_moves s.agent m.puts.part =
                   ap (others_moves s.agent) (new_is s b t _ _ _ both_aimed.stretch.puts m.puts whole.stretch.puts)
                   ∙ others-append s.agent both_aimed.stretch.puts.part m.puts.part in
                   elim (still_or_others n s b from both_aimed.stretch.own both_aimed.stretch.puts known_b.all both_aimed.stretch.entries_are at) [
@@ -247,10 +250,12 @@ pub published_puts : (n : HeapNumbers) (s t : Seat PairsNote) (own : List (Event
     → IsPublished (heap_of n s) → IsPublished (heap_of n t)
 published_puts n s t own p all x =
     subst (λ es. IsPublished (run_heap n es)) (sym p.is)
-    (stays (PairsMay n) (λ es. IsPublished (run_heap n es)) (λ es e y may. published_next n es e y may) s.seen p.part x (part_allowed (PairsMay n) s t own p all))
+    (stays (PairsMay n) (λ es. IsPublished (run_heap n es)) (λ es e y may. published_next n es e y may) s.seen p.part x
+    (part_allowed (PairsMay n) s t own p all))
 
 -- a staged part stays so over a piece of a call
-pub side_kept : (n : HeapNumbers) (s t : Seat PairsNote) (root : ℕ) (new : New) (own : List (Event PairsNote)) → Puts s own t → AllAllowed (PairsMay n) [] t.seen
+pub side_kept : (n : HeapNumbers) (s t : Seat PairsNote) (root : ℕ) (new : New) (own : List (Event PairsNote)) → Puts s own t
+    → AllAllowed (PairsMay n) [] t.seen
     → IsStaging s.agent root → KeepsStaging n s t → ((h : Hold) → Holds s.slots h → Holds t.slots h × (id_in t.slots h ≡ id_in s.slots h))
     → SideHeld n root new s → SideHeld n root new t
 side_kept n s t root (Given value h) own p all staging kept carries x =

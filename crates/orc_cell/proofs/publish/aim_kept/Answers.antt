@@ -53,7 +53,8 @@ returns-in-Ok-clause-aimed g c =
     let hp = c.hold_part-part.ensures in
     let vp = c.value-value.ensures in
     let ap = c.aim_half-aimed.ensures in
-    let known_s : Known n (g.L.Links.seat d o).seen = record { holds = g.met.L.Links.obeys d o c.requires.pass; all = g.met.L.Links.allowed d o c.requires.pass } in
+    let known_s : Known n (g.L.Links.seat d o).seen =
+    record { holds = g.met.L.Links.obeys d o c.requires.pass; all = g.met.L.Links.allowed d o c.requires.pass } in
     let known_a : Known n (g.L.Links.seat d x).seen = record { holds = g.met.L.Links.obeys d x hp.pass; all = g.met.L.Links.allowed d x hp.pass } in
     let known_b : Known n (g.L.Links.seat d y).seen = record { holds = g.met.L.Links.obeys d y vp.pass; all = g.met.L.Links.allowed d y vp.pass } in
     let known_c : Known n (g.L.Links.seat d z).seen = record { holds = g.met.L.Links.obeys d z ap.pass; all = g.met.L.Links.allowed d z ap.pass } in (
@@ -77,7 +78,8 @@ returns-in-Err-clause-aimed g c =
     let hp = c.hold_part-part.ensures in
     let vp = c.value-value.ensures in
     let ap = c.aim_half-aimed.ensures in
-    let known_s : Known n (g.L.Links.seat d o).seen = record { holds = g.met.L.Links.obeys d o c.requires.pass; all = g.met.L.Links.allowed d o c.requires.pass } in
+    let known_s : Known n (g.L.Links.seat d o).seen =
+    record { holds = g.met.L.Links.obeys d o c.requires.pass; all = g.met.L.Links.allowed d o c.requires.pass } in
     let known_a : Known n (g.L.Links.seat d x).seen = record { holds = g.met.L.Links.obeys d x hp.pass; all = g.met.L.Links.allowed d x hp.pass } in
     let known_b : Known n (g.L.Links.seat d y).seen = record { holds = g.met.L.Links.obeys d y vp.pass; all = g.met.L.Links.allowed d y vp.pass } in
     let known_c : Known n (g.L.Links.seat d z).seen = record { holds = g.met.L.Links.obeys d z ap.pass; all = g.met.L.Links.allowed d z ap.pass } in

@@ -35,7 +35,8 @@ returns-in-Kept-clause-aimed g c =
     let s = g.L.Links.seat d c.args.p.now in
     let t = g.L.Links.seat d c.aim_kept-in-Kept.new.p in
     let place = place_in s.slots c.args.place.now in
-    subst (λ (x : New). Aims n c.args.half c.args.pair.now (IsNewPart (heap_of n s) place x) s c.aim_kept-in-Kept.result t) (sym c.in-Kept.is) c.aim_kept-in-Kept.ensures.aimed
+    subst (λ (x : New). Aims n c.args.half c.args.pair.now (IsNewPart (heap_of n s) place x) s c.aim_kept-in-Kept.result t)
+    (sym c.in-Kept.is) c.aim_kept-in-Kept.ensures.aimed
 
 pub returns-in-Zero-clause-same : goal.returns-in-Zero-clause-same
 returns-in-Zero-clause-same g c = λ some. absurd (some (ap given_of c.in-Zero.is))

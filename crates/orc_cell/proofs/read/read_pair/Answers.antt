@@ -48,7 +48,8 @@ read_part-right-requires g c =
     let e = c.read_part-left.ensures in
     let slots = e.read.only.slots in
     let (l, r, parts, has) = c.requires.pair in
-    let in_a = pair_puts n s a e.read.only.finds.own e.read.only.finds.puts (g.met.L.Links.allowed d c.read_part-left.new.p e.pass) (id_in s.slots pair) l r parts
+    let in_a = pair_puts n s a e.read.only.finds.own e.read.only.finds.puts (g.met.L.Links.allowed d c.read_part-left.new.p e.pass)
+    (id_in s.slots pair) l r parts
     has in
     record {
       pass = e.pass;
@@ -68,7 +69,8 @@ confirm-requires g c =
     let pair = c.args.pair.now in
     let e = c.read_part-right.ensures in
     let slots = (so_far g at.After-read_part-right).slots in
-    let k : Known n b.seen = record { holds = g.met.L.Links.obeys d c.read_part-right.new.p e.pass; all = g.met.L.Links.allowed d c.read_part-right.new.p e.pass } in
+    let k : Known n b.seen =
+    record { holds = g.met.L.Links.obeys d c.read_part-right.new.p e.pass; all = g.met.L.Links.allowed d c.read_part-right.new.p e.pass } in
     record {
       pass = e.pass;
       made = c.requires.made;

@@ -53,12 +53,19 @@ let_go-requires g c =
     let own = inl (c.requires.roots.0 ∙ ap (λ (i : ℕ). 1 + 2 * i) (sym agent)) in
     let f = side_answered n 2 c.args.turns _ _ a b c.publish_right-answer.result c.args.roots.0 c.in-Ok.part own all_b x.answered
     (ready_held n 1 c.args.roots.0 s a c.in-Ok.part c.requires.slots.0 e.ready) in
-    record { pass = x.pass; there = c.requires.there.0; staging = f.0; held = f.1; no_fresh = answers_fresh n 2 c.args.turns _ _ a b c.publish_right-answer.result x.answered }
+    record {
+      pass = x.pass;
+      there = c.requires.there.0;
+      staging = f.0;
+      held = f.1;
+      no_fresh = answers_fresh n 2 c.args.turns _ _ a b c.publish_right-answer.result x.answered;
+    }
 
 pub returns-in-Err-clause-answered : goal.returns-in-Err-clause-answered
 returns-in-Err-clause-answered g c =
     let d = c.args.links.now in
-    pair_lacking (g.L.Links.numbers d) 3 _ _ (omega arith) c.requires.no_fresh c.in-Err.ensures.none (g.met.L.Links.allowed d c.ready.new.p c.in-Err.ensures.pass)
+    pair_lacking (g.L.Links.numbers d) 3 _ _ (omega arith) c.requires.no_fresh c.in-Err.ensures.none
+    (g.met.L.Links.allowed d c.ready.new.p c.in-Err.ensures.pass)
 
 pub returns-in-Err-clause-no_node : goal.returns-in-Err-clause-no_node
 returns-in-Err-clause-no_node g c = λ is. err_of _ c.in-Err.is c.ready.ensures.lacking

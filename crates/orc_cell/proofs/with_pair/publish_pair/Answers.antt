@@ -40,7 +40,8 @@ release-requires-clause-held g c =
 pub returns-in-Err-clause-answered : goal.returns-in-Err-clause-answered
 returns-in-Err-clause-answered g c =
     let d = c.args.links.now in
-    pair_lacking (g.L.Links.numbers d) 1 _ _ (omega arith) c.requires.no_fresh c.in-Err.ensures.none (g.met.L.Links.allowed d c.give.new.p c.in-Err.ensures.pass)
+    pair_lacking (g.L.Links.numbers d) 1 _ _ (omega arith) c.requires.no_fresh c.in-Err.ensures.none
+    (g.met.L.Links.allowed d c.give.new.p c.in-Err.ensures.pass)
 
 pub returns-in-Err-clause-no_node : goal.returns-in-Err-clause-no_node
 returns-in-Err-clause-no_node g c =

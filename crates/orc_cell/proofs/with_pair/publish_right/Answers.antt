@@ -26,7 +26,8 @@ publish_pair-answer-requires g c =
       left = subst (λ (i : ℕ). SideHeld n (1 + 2 * i) c.args.left.now a) (sym agent)
           (ready_other n 2 c.args.root (1 + 2 * s.agent) s a c.in-Ok.part c.args.left.now free all (inl refl) (λ z. omega (arith, z, c.requires.root)) e.ready
           c.requires.left);
-      right = subst (λ (i : ℕ). SideHeld n i c.in-Ok.part a) (c.requires.root ∙ ap (λ (i : ℕ). 2 + 2 * i) (sym agent)) (ready_held n 2 c.args.root s a c.in-Ok.part free e.ready);
+      right = subst (λ (i : ℕ). SideHeld n i c.in-Ok.part a) (c.requires.root ∙ ap (λ (i : ℕ). 2 + 2 * i) (sym agent))
+          (ready_held n 2 c.args.root s a c.in-Ok.part free e.ready);
       slots = (
         ready_slot n 2 c.args.root s a c.in-Ok.part free e.ready 3 (λ k. omega (arith, k)) c.requires.slots.1,
         ready_slot n 2 c.args.root s a c.in-Ok.part free e.ready 4 (λ k. omega (arith, k)) c.requires.slots.2,
@@ -48,12 +49,19 @@ let_go-requires g c =
     let own = inr (c.requires.root ∙ ap (λ (i : ℕ). 2 + 2 * i) (sym agent)) in
     let f = side_answered n 1 c.args.turns _ _ a b c.publish_pair-answer.result c.args.root c.in-Ok.part own all_b x.answered
     (ready_held n 2 c.args.root s a c.in-Ok.part c.requires.slots.0 e.ready) in
-    record { pass = x.pass; there = c.requires.there; staging = f.0; held = f.1; no_fresh = answers_fresh n 1 c.args.turns _ _ a b c.publish_pair-answer.result x.answered }
+    record {
+      pass = x.pass;
+      there = c.requires.there;
+      staging = f.0;
+      held = f.1;
+      no_fresh = answers_fresh n 1 c.args.turns _ _ a b c.publish_pair-answer.result x.answered;
+    }
 
 pub returns-in-Err-clause-answered : goal.returns-in-Err-clause-answered
 returns-in-Err-clause-answered g c =
     let d = c.args.links.now in
-    pair_lacking (g.L.Links.numbers d) 2 _ _ (omega arith) c.requires.no_fresh c.in-Err.ensures.none (g.met.L.Links.allowed d c.ready.new.p c.in-Err.ensures.pass)
+    pair_lacking (g.L.Links.numbers d) 2 _ _ (omega arith) c.requires.no_fresh c.in-Err.ensures.none
+    (g.met.L.Links.allowed d c.ready.new.p c.in-Err.ensures.pass)
 
 pub returns-in-Err-clause-no_node : goal.returns-in-Err-clause-no_node
 returns-in-Err-clause-no_node g c = λ is. err_of _ c.in-Err.is c.ready.ensures.lacking
