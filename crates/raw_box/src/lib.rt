@@ -19,6 +19,10 @@ impl<T, A: Allocator> Model for RawBox<T, A> {
     ghost also_owns = { λ b. box_owns (A.dealloc_token b.alloc) T.row b.at b.value };
 }
 
+unsafe impl<T: Send, A: Allocator + Send> Send for RawBox<T, A> {}
+
+unsafe impl<T: Send, A: Allocator + Send> Sync for RawBox<T, A> {}
+
 impl<T: Drop, A: Allocator> RawBox<T, A> {
     /// Takes a box apart.
     pub fn from_box(value: Box<T, A>) -> RawBox<T, A>
