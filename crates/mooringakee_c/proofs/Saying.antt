@@ -1,10 +1,10 @@
 -- What the number of an answer says.
 use Rattle.std.proofs.Common.{None, Option, Some, ap, of_z, refl, subst, sym, to_z, w32, ℤ, ◌∙◌, ◌≡◌}
 use Rattle.mooringakee_c.specs.Codes.{Says, code_of}
-use Rattle.mooringakee_c.specs.Seats.{Through}
+use Rattle.mooringakee_c.specs.Seats.{IsSeat, Through}
 use Rattle.mooringakee_c.specs.Settling.{GivesUp, Settles}
 use Rattle.mooringakee_c.specs.declared.answer.Answer.{Answer}
-use Rattle.mooringakee_c.specs.declared.answer.Answer.TheVariants.{Again, Done, Empty, Full, Kept, Kind, Live, Missing, NoMemory, NoPass, Positions, Shape, Spent}
+use Rattle.mooringakee_c.specs.declared.answer.Answer.TheVariants.{Again, Done, Empty, Full, Kept, Kind, Live, NoMemory, NoPass, Positions, Shape, Spent}
 use Rattle.mooringakee_c.specs.declared.seat.Seat.{Seat}
 
 -- each number fits
@@ -20,7 +20,6 @@ fits NoPass = refl
 fits Live = refl
 fits Kind = refl
 fits Spent = refl
-fits Missing = refl
 fits Kept = refl
 
 pub said : (answer : Answer) (code : ℤ) → code ≡ code_of answer → to_z w32 (of_z w32 code) ≡ code_of answer
@@ -54,9 +53,9 @@ says_gone old new code is gone left = (
 )
 
 pub says_given : (old new : Option Seat) (before last : Seat) (answer : Answer) (code : ℤ) → code ≡ code_of answer
-    → old ≡ Some before → new ≡ None → Settles before answer last → Says (to_z w32 (of_z w32 code)) (λ a. GivesUp old a new)
-says_given old new before last answer code is was left done = (
+    → old ≡ Some before → new ≡ None → IsSeat last → Settles before answer last → Says (to_z w32 (of_z w32 code)) (λ a. GivesUp old a new)
+says_given old new before last answer code is was left can done = (
   answer,
   said answer code is,
-  subst (λ (o : Option Seat). GivesUp o answer new) (sym was) (subst (λ (n : Option Seat). GivesUp (Some before) answer n) (sym left) (last, done)),
+  subst (λ (o : Option Seat). GivesUp o answer new) (sym was) (subst (λ (n : Option Seat). GivesUp (Some before) answer n) (sym left) (last, can, done)),
 )

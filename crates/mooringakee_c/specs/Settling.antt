@@ -12,6 +12,7 @@ use Rattle.mooringakee_c.specs.declared.seat.Seat.{Seat}
 use Rattle.mooringakee_c.specs.declared.seat.Seat.TheVariants.{Queue, Set}
 use Rattle.mooringakee_c.specs.QueueCalls.{GoesOn}
 use Rattle.mooringakee_c.specs.QueueSeats.{agent_at}
+use Rattle.mooringakee_c.specs.Seats.{IsSeat}
 use Rattle.mooringakee_c.specs.SetCalls.{GoesOn as SetGoesOn}
 use Rattle.mooringakee_c.specs.SetSeats.{agent_at as set_agent_at}
 
@@ -43,8 +44,8 @@ abbrev pub CountsBacklog : ℕ → Seat → Answer → Seat → Type 0
 CountsBacklog count old Done new = (new ≡ old) × (count ≡ backlog_at old)
 CountsBacklog count old _ new = ⊥
 
--- the pass is given up once it has settled
+-- the pass is given up once it has settled, from a place that could be used
 abbrev pub GivesUp : Option Seat → Answer → Option Seat → Type 0
-GivesUp (Some old) answer None = (last : Seat) × Settles old answer last
+GivesUp (Some old) answer None = (last : Seat) × IsSeat last × Settles old answer last
 GivesUp None NoPass None = Unit {0}
 GivesUp _ _ _ = ⊥

@@ -28,14 +28,12 @@ pub(crate) enum Answer {
     Kind,
     /// A row is used up.
     Spent,
-    /// These are not all passes of one container, in order of agent.
-    Missing,
     /// The pass has rows left to work through.
     Kept,
 }
 
 impl Answer {
-    // The number that C sees. A null pointer has number 9, which the C side answers.
+    // The number that C sees. A null pointer has number 9, which the C side answers, and nothing has 12.
     pub(crate) fn code(self) -> i32
         ensures { result ≡ code_of self }
     {
@@ -51,7 +49,6 @@ impl Answer {
             Answer::Live => 8,
             Answer::Kind => 10,
             Answer::Spent => 11,
-            Answer::Missing => 12,
             Answer::Kept => 13,
         }
     }
