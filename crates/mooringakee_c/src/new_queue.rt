@@ -31,7 +31,6 @@ pub(crate) fn queue_seats(
     shape: &Shape,
     turns: u64,
 ) -> Result<Vec<Box<Seat>>, NoMemory>
-    requires links { (bounds_of shape.now).links ≡ 1 }
     requires roots { (bounds_of shape.now).roots ≡ 2 }
     ensures many { IfOk result (λ seats. length seats.items ≡ (bounds_of shape.now).agents) }
     ensures places { IfOk result (λ seats. (domain : OrcDomain Fifo FifoNote) × (domain_bounds domain ≡ bounds_of shape.now)

@@ -31,7 +31,6 @@ pub(crate) fn set_seats(
     shape: &Shape,
     turns: u64,
 ) -> Result<Vec<Box<Seat>>, NoMemory>
-    requires { (bounds_of shape.now).links ≡ 1 }
     ensures many { IfOk result (λ seats. length seats.items ≡ (bounds_of shape.now).agents) }
     ensures places { IfOk result (λ seats. (domain : OrcDomain Chain ChainNote) × (domain_bounds domain ≡ bounds_of shape.now)
         × EachAt (λ agent b. IsNewSetSeat domain turns agent b.value) seats.items) }

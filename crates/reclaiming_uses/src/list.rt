@@ -32,7 +32,6 @@ pub fn reclaiming_list_over(
     alloc: Global,
     shape: &Shape,
 ) -> Result<(ReclaimingList, Vec<ReclaimingListPass>), NoMemory>
-    requires links { (bounds_of shape.now).links ≡ 1 }
     requires root { (bounds_of shape.now).roots ≡ 1 }
     ensures usable { IfOk result (λ made. All (λ p. ⟦<ReclaimingList as SharedSet>⟧.usable made.0 p) made.1.items) }
     ensures agents { IfOk result (λ made. (i : ℕ) (p : _) → i < length made.1.items

@@ -34,7 +34,6 @@ pub fn reclaiming_queue_over(
     shape: &Shape,
     first: u64,
 ) -> Result<(ReclaimingQueue, Vec<ReclaimingQueuePass>), NoMemory>
-    requires links { (bounds_of shape.now).links ≡ 1 }
     requires roots { 2 ≤ (bounds_of shape.now).roots }
     requires first { first ≤ 2 ^ 62 }
     ensures usable { IfOk result (λ made. All (λ p. ⟦<ReclaimingQueue as SharedQueue>⟧.usable made.0 p) made.1.items) }

@@ -31,7 +31,6 @@ pub fn reclaiming_set_over(
     alloc: Global,
     shape: &Shape,
 ) -> Result<(ReclaimingSet, Vec<ReclaimingListPass>), NoMemory>
-    requires links { (bounds_of shape.now).links ≡ 1 }
     ensures usable { IfOk result (λ made. All (λ p. ⟦<ReclaimingSet as SharedSet>⟧.usable made.0 p) made.1.items) }
     ensures agents { IfOk result (λ made. (i : ℕ) (p : _) → i < length made.1.items
         → ⟦<ReclaimingSet as SharedSet>⟧.agent_of made.0 (slice_index_or made.1.items i p) ≡ i) }

@@ -22,7 +22,6 @@ pub(crate) trait Ending: Links {
         shape: &Shape,
         seed: Seed<<Self::Rule as Discipline>::Note>,
     ) -> Result<(Self, Vec<Self::Pass>), NoMemory>
-        requires links { (bounds_of shape.now).links ≡ 1 }
         requires holds { Self.Rule.holds (numbers_of (bounds_of shape.now)) [] }
         requires seed { SeedAllowed Self.Rule.may (numbers_of (bounds_of shape.now)) seed }
         ensures numbers { IfOk result (λ made. Self.numbers made.0 ≡ numbers_of (bounds_of shape.now)) }
@@ -45,7 +44,6 @@ impl<D: Discipline> Ending for PlainDomain<D> {
         shape: &Shape,
         seed: Seed<D::Note>,
     ) -> Result<(PlainDomain<D>, Vec<PlainPass<D>>), NoMemory>
-        requires links { (bounds_of shape.now).links ≡ 1 }
         requires holds { D.holds (numbers_of (bounds_of shape.now)) [] }
         requires seed { SeedAllowed D.may (numbers_of (bounds_of shape.now)) seed }
         ensures numbers { IfOk result (λ made. ⟦<PlainDomain<D> as Links>⟧.numbers made.0 ≡ numbers_of (bounds_of shape.now)) }
@@ -80,7 +78,6 @@ impl<D: Discipline> Ending for OrcDomain<D> {
         shape: &Shape,
         seed: Seed<D::Note>,
     ) -> Result<(OrcDomain<D>, Vec<OrcPass<D>>), NoMemory>
-        requires links { (bounds_of shape.now).links ≡ 1 }
         requires holds { D.holds (numbers_of (bounds_of shape.now)) [] }
         requires seed { SeedAllowed D.may (numbers_of (bounds_of shape.now)) seed }
         ensures numbers { IfOk result (λ made. ⟦<OrcDomain<D> as Links>⟧.numbers made.0 ≡ numbers_of (bounds_of shape.now)) }

@@ -24,7 +24,6 @@ pub type ListPass = PlainPass<Chain>;
 ///
 /// `NoMemory` where memory is refused.
 pub fn one_list_over(alloc: Global, shape: &Shape) -> Result<(DomainList, Vec<ListPass>), NoMemory>
-    requires links { (bounds_of shape.now).links ≡ 1 }
     requires root { (bounds_of shape.now).roots ≡ 1 }
     ensures usable { IfOk result (λ made. All (λ p. ⟦<DomainList as SharedSet>⟧.usable made.0 p) made.1.items) }
     ensures agents { IfOk result (λ made. (i : ℕ) (p : _) → i < length made.1.items

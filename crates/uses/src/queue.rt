@@ -50,7 +50,6 @@ pub fn queue_over(
     shape: &Shape,
     first: u64,
 ) -> Result<(DomainQueue, Vec<QueuePass>), NoMemory>
-    requires links { (bounds_of shape.now).links ≡ 1 }
     requires roots { 2 ≤ (bounds_of shape.now).roots }
     requires first { first ≤ 2 ^ 62 }
     ensures usable { IfOk result (λ made. All (λ p. ⟦<DomainQueue as SharedQueue>⟧.usable made.0 p) made.1.items) }

@@ -23,7 +23,6 @@ pub type DomainSet = Set<PlainDomain<Chain>>;
 ///
 /// `NoMemory` where memory is refused.
 pub fn set_over(alloc: Global, shape: &Shape) -> Result<(DomainSet, Vec<ListPass>), NoMemory>
-    requires links { (bounds_of shape.now).links ≡ 1 }
     ensures usable { IfOk result (λ made. All (λ p. ⟦<DomainSet as SharedSet>⟧.usable made.0 p) made.1.items) }
     ensures agents { IfOk result (λ made. (i : ℕ) (p : _) → i < length made.1.items
         → ⟦<DomainSet as SharedSet>⟧.agent_of made.0 (slice_index_or made.1.items i p) ≡ i) }

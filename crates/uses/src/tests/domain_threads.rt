@@ -20,7 +20,6 @@ type Pass = PlainPass<OwnRoots>;
 
 // Makes a domain in which each agent has a root, which is null.
 fn with_roots(alloc: Global, shape: &Shape) -> Result<(Domain, Vec<Pass>), NoMemory>
-    requires links { (bounds_of shape.now).links ≡ 1 }
     requires roots { (bounds_of shape.now).agents ≤ (bounds_of shape.now).roots }
     ensures pass { IfOk result (λ made. All (λ p. IsPassOf made.0 p) made.1.items) }
     ensures ready { IfOk result (λ made. All (λ p. IsReady (domain_numbers made.0) (seat_of made.0 p)) made.1.items) }
