@@ -10,3 +10,4 @@ pub mod Anchoring
 pub mod Rooting
 pub mod Preparing
 pub mod Calling
+pub mod Growing

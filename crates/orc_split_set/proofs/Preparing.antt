@@ -63,7 +63,7 @@ bucket_low most size key fits =
     omega (arith, less, fits.0)
 
 -- nothing is done
-nothing : (n : HeapNumbers) (s : Seat SplitNote) → s.fresh ≡ None → InsertCall (split_reading n) s [] [] s
+pub nothing : (n : HeapNumbers) (s : Seat SplitNote) → s.fresh ≡ None → InsertCall (split_reading n) s [] [] s
 nothing n s fresh = record { given = 0; at_most = omega arith; made = (over_none (split_reading n) s).made; slots = refl; fresh = fresh }
 
 pub no_roots : (n : HeapNumbers) (bucket : ℕ) (s : Seat SplitNote) → bucket ≡ 0 → s.fresh ≡ None → Roots n bucket s Done s

@@ -61,7 +61,7 @@ others_later {N} agent (e ∷ es) fs = cases (e.agent == agent) (others_later ag
     cases false k low = k
 
 -- and so do those of the first
-others_sooner : {N : Type 0} (agent : ℕ) (es fs : List (Event N)) → others_moves agent (from_own agent es) ≤ others_moves agent (from_own agent (es ++ fs))
+pub others_sooner : {N : Type 0} (agent : ℕ) (es fs : List (Event N)) → others_moves agent (from_own agent es) ≤ others_moves agent (from_own agent (es ++ fs))
 others_sooner agent [] fs = omega arith
 others_sooner {N} agent (e ∷ es) fs = cases (e.agent == agent) (others_sooner agent es fs)
   where

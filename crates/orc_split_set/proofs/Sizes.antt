@@ -98,20 +98,21 @@ size_there n id size t es more node now later is some l at =
     ap (λ o. size_by (run_heap n es) o) at ∙ (ap (λ o. size_at (run_heap n es) o) l.to_is ∙ (rw (values.there, values.first_is) refl ∙ same))
 
 -- what a Look of the size's root, the read of its node's value and the node's release tell
-record SizeHeld (n : HeapNumbers) (h : Hold) (s t : Seat SplitNote) : Type 0 where
-  id : ℕ
-  size : ℕ
-  node : IsSizeNode (heap_of n t) id size
-  is_size : IsSize (greatest n) size
-  hands : Hands s.slots t.slots (hand (Some h) id ∷ [])
-  own : List (Event SplitNote)
-  quiet : Quiet (split_reading n) s own t
+pub record SizeHeld (n : HeapNumbers) (h : Hold) (s t : Seat SplitNote) : Type 0 where
+  pub id : ℕ
+  pub size : ℕ
+  pub node : IsSizeNode (heap_of n t) id size
+  pub is_size : IsSize (greatest n) size
+  pub slot_is : h.slot ≡ 2
+  pub hands : Hands s.slots t.slots (hand (Some h) id ∷ [])
+  pub own : List (Event SplitNote)
+  pub quiet : Quiet (split_reading n) s own t
   few : length own ≤ 2
   was : (size_of n s.seen ≤ size) × (size ≤ size_of n t.seen)
   mark : Bool
   shows : ShowsOrMoved n (Root (greatest n)) (record { to = Some id; mark = mark }) s t quiet.puts.part
 
-size_held : (n : HeapNumbers) (seen : Seen) (h : Hold) (s t : Seat SplitNote) → SplitHolds n s.seen → AllAllowed (SplitMay n) [] t.seen → HasRoom s.slots
+pub size_held : (n : HeapNumbers) (seen : Seen) (h : Hold) (s t : Seat SplitNote) → SplitHolds n s.seen → AllAllowed (SplitMay n) [] t.seen → HasRoom s.slots
     → 1 ≤ greatest n → Looks (Root (greatest n)) 2 s (Stable seen (Some h)) t → SizeHeld n h s t
 size_held n seen h s t holds all room some looks =
     let (id, one, more, marked, null, at_slot, slots, puts) = looks.tells in
@@ -123,6 +124,7 @@ size_held n seen h s t holds all room some looks =
       size = size;
       node = node;
       is_size = fits;
+      slot_is = at_slot;
       hands = hands_take s.slots s.slots t.slots [] h id (record { same_length = refl; others = λ j a. refl; held = tt }) tt
           (subst (λ (j : ℕ). slice_get s.slots j ≡ Some None) (sym at_slot) room.two.empty)
           (subst (λ (j : ℕ). t.slots ≡ slice_set s.slots j (Some (record { row = h.row; id = id }))) (sym at_slot) slots);

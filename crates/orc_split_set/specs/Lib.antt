@@ -2,5 +2,6 @@ pub mod SplitSearches
 pub mod NewNodes
 pub mod Beginnings
 pub mod Rootings
+pub mod Growths
 pub mod SetCalls
 pub mod Laws

@@ -27,14 +27,14 @@ use orc_fault::Spent;
 use orc_heap::{At, Held, Links, Looked, Want};
 use orc_split_rule::{Split, SplitNote};
 
-/// What came of the root of a bucket.
+/// What came of a root that was to name a node: the dummy of its bucket, or a node of twice the size.
 #[derive(Clone, Copy, Debug, PartialEq, Eq)]
 pub enum Rooted {
-    /// It names the bucket's dummy, unless the bucket is the first one, which has none.
+    /// It names one, unless none is wanted: the first bucket has no dummy, and there may be no roots for twice the size.
     Done,
     /// A link moved meanwhile.
     Moved,
-    /// No node could be had for the dummy.
+    /// No node could be had.
     NoNode,
     /// A row that was to be linked is used up.
     Spent(Spent),

@@ -7,7 +7,6 @@ ghost use Rattle.orc_heap.specs.Seats.{HoldsTarget, IsIdle, Seat, heap_of, targe
 ghost use Rattle.orc_heap.specs.Slots.{Hold, Slots};
 ghost use Rattle.orc_heap.specs.declared.events.Place.{Place};
 ghost use Rattle.orc_history.specs.Journals.{Within};
-ghost use Rattle.orc_history.specs.declared.set.ListRefused.{ListRefused};
 ghost use Rattle.orc_history.specs.declared.set.SetEntry.{SetEntry};
 ghost use Rattle.orc_ordered_chains.specs.Chains.{FollowsOn, IsAbove, IsRun, link_over};
 ghost use Rattle.orc_ordered_search.specs.Causes.{WithinPart};
@@ -17,6 +16,7 @@ ghost use Rattle.orc_ordered_search.specs.declared.turn.InsertTurn.{InsertTurn};
 ghost use Rattle.orc_split_rule.specs.SplitDiscipline.{HasValues, greatest};
 ghost use Rattle.orc_split_rule.specs.SplitOrder.{key_place, split_order};
 ghost use Rattle.orc_split_rule.specs.declared.split.SplitNote.{SplitNote};
+ghost use Rattle.orc_split_set.specs.Growths.{answer_by};
 ghost use Rattle.orc_split_set.specs.NewNodes.{IsPossible, entries_for, kind_of, place_for, value_of};
 ghost use Rattle.orc_split_set.specs.SplitSearches.{BeginsAt, split_reading};
 
@@ -293,29 +293,36 @@ fn insert_turns<L: Links<Rule = Split>>(
     (InsertTurn::Over, node)
 }
 
-// Adds the key, in at most so many turns.
+// Adds the key, in at most so many turns, and answers how they ended.
 pub(crate) fn insert_key<L: Links<Rule = Split>>(
     links: &L,
     p: &mut L::Pass,
     most: u32,
     key: u64,
     turns: u64,
-) -> Result<bool, ListRefused>
+) -> InsertTurn
     requires pass { L.belongs links.now p.old }
     requires most { (most ≡ greatest (L.numbers links.now)) × (1 ≤ most) }
     requires idle { IsIdle (L.seat links.now p.old) }
     ensures pass { L.belongs links.now p.new }
     ensures later { IsPrefix (L.journal p.old) (L.journal p.new) }
     ensures inserted { InsertAnswers (split_reading (L.numbers links.now)) (λ answer. SetEntry.Added (L.seat links.now p.old).agent key answer) turns
-        (L.seat links.now p.old) result (L.seat links.now p.new) }
-    ensures lacking { result ≡ Err ListRefused.NoNode → WithinPart L.agent_of (L.seat links.now p.old).agent (L.journal p.old) (L.journal p.new)
+        (L.seat links.now p.old) (answer_by result) (L.seat links.now p.new) }
+    ensures lacking { result ≡ InsertTurn.NoNode → WithinPart L.agent_of (L.seat links.now p.old).agent (L.journal p.old) (L.journal p.new)
         (L.lacking links.now (L.seat links.now p.old).agent (L.journal p.new)) }
-    ensures worn { (why : Spent) → result ≡ Err (ListRefused.Spent why)
+    ensures worn { (why : Spent) → result ≡ InsertTurn.Spent why
         → WithinPart L.agent_of (L.seat links.now p.old).agent (L.journal p.old) (L.journal p.new) (L.worn links.now (L.seat links.now p.old).agent why
         (L.journal p.new)) }
 {
     let (turn, node) = insert_turns(links, p, most, key, turns);
     let_go(links, p, node);
+    turn
+}
+
+// What an insert answers whose turns ended so.
+pub(crate) fn answer_of(turn: InsertTurn) -> Result<bool, ListRefused>
+    ensures { result ≡ answer_by turn }
+{
     match turn {
         InsertTurn::Over => Err(ListRefused::Again),
         InsertTurn::Answered(answer, _) => Ok(answer),

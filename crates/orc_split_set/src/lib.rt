@@ -4,6 +4,7 @@
 mod answer;
 mod begin;
 mod bucket;
+mod grow;
 mod insert;
 mod node;
 mod order;

@@ -6,12 +6,14 @@ ghost use Rattle.orc_heap.specs.Domains.{IsCallAlone, MakesNoEvent, agent};
 ghost use Rattle.orc_history.specs.Journals.{Within};
 ghost use Rattle.orc_history.specs.declared.set.ListRefused.{ListRefused};
 ghost use Rattle.orc_history.specs.declared.set.SetEntry.{SetEntry};
+ghost use Rattle.orc_split_rule.specs.SplitDiscipline.{IsSize};
 ghost use Rattle.orc_split_set.specs.SetCalls.{Enters, EntersNone, FindsWorn, GivesAtMost, HadSize, HasCause, IsUsable, LacksRow, RootsBucket, UsesAllTurns, set_history};
 ghost use Rattle.orc_split_set.specs.Laws.SetLaws.{cause_stays, entries_below, history_grows, seen_legal};
 
 use crate::answer::ask_turns;
 use crate::bucket::prepare;
-use crate::insert::insert_key;
+use crate::grow::grow_after;
+use crate::insert::{answer_of, insert_key};
 use crate::remove::remove_turns;
 use crate::size::size_turns;
 use orc_fault::{Again, Spent};
@@ -26,12 +28,13 @@ pub struct SplitSet<L: Links<Rule = Split>> {
     links: L,
     greatest: u32,
     ghost rooted: { (1 ≤ greatest) × ((L.numbers links).roots ≡ greatest + 1) },
+    ghost sized: { ∥ IsSize 256 greatest ∥₁ },
 }
 
 impl<L: Links<Rule = Split>> SplitSet<L> {
-    /// The set of a domain with roots for at most `greatest` buckets, and one root for their number.
+    /// The set of a domain with roots for at most `greatest` buckets, a power of two up to 256, and one root for their number.
     pub fn new(links: L, greatest: u32) -> SplitSet<L>
-        requires some { 1 ≤ greatest }
+        requires size { IsSize 256 greatest }
         requires roots { (L.numbers links).roots ≡ greatest + 1 }
         ensures { result.links ≡ links }
     {
@@ -142,9 +145,10 @@ impl<L: Links<Rule = Split>> SharedSet for SplitSet<L> {
         ensures settled { IsCallAlone L.Links self.now.links p.old p.new → L.backlog p.new ≡ 0 }
     {
         let _rooted = prepare(&self.links, p, self.greatest, key, turns);
-        let answer = insert_key(&self.links, p, self.greatest, key, turns);
+        let turn = insert_key(&self.links, p, self.greatest, key, turns);
+        grow_after(&self.links, p, self.greatest, turn);
         self.links.settle(p);
-        answer
+        answer_of(turn)
     }
 
     fn remove(&self, p: &mut L::Pass, key: u64, turns: u64) -> Result<bool, Again>

@@ -1,13 +1,9 @@
--- By how the turns ended; the node in hand is let go.
-use Rattle.std.proofs.Common.{ap, subst, ◌∙◌, ◌≡◌}
-use Rattle.orc_fault.specs.declared.Spent.{Spent as SpentRow}
+-- The node in hand is let go after the turns.
 use Rattle.orc_history.specs.declared.set.SetEntry.TheVariants.{Added}
-use Rattle.orc_ordered_search.specs.Inserts.{InsertsTurns}
-use Rattle.orc_ordered_search.specs.declared.turn.InsertTurn.{InsertTurn}
-use Rattle.orc_ordered_search.specs.declared.turn.InsertTurn.TheVariants.{Spent as TurnSpent}
-use Rattle.orc_ordered_search.proofs.Inserting.{ends_held, ends_of, idle_room, insert_call, insert_tires, spent_same}
+use Rattle.orc_ordered_search.proofs.Inserting.{ends_held, ends_of, idle_room}
 use Rattle.orc_ordered_search.proofs.Parting.{part_goes_on}
 use Rattle.orc_split_set.specs.SplitSearches.{split_reading}
+use Rattle.orc_split_set.proofs.Turning.{turns_answer}
 use Rattle.orc_split_set.proofs.insert.insert_key.Goals as goal
 
 pub insert_turns-turn-requires-clause-room : goal.insert_turns-turn-requires-clause-room
@@ -22,66 +18,30 @@ let_go-requires-clause-held g c =
     ends_held kept s t (ends_of (split_reading (g.L.Links.numbers d)) c.args.key 1 (λ answer. Added s.agent c.args.key answer) c.args.turns kept s t
     c.insert_turns-turn.result.0 c.insert_turns-turn.ensures.inserted) (idle_room s c.requires.idle)
 
-pub returns-in-Over-clause-inserted : goal.returns-in-Over-clause-inserted
-returns-in-Over-clause-inserted g c =
+pub returns-clause-inserted : goal.returns-clause-inserted
+returns-clause-inserted g c =
     let d = c.args.links.now in
     let n = g.L.Links.numbers d in
     let s = g.L.Links.seat d c.args.p.now in
     let t = g.L.Links.seat d c.insert_turns-turn.new.p in
     let u = g.L.Links.seat d c.let_go.new.p in
-    let kept = c.insert_turns-turn.result.1 in
-    let f = subst (λ (turn : InsertTurn). InsertsTurns (split_reading n) c.args.key 1 (λ answer. Added s.agent c.args.key answer) c.args.turns s turn kept t) c.in-Over.is c.insert_turns-turn.ensures.inserted in
-    insert_tires (split_reading n) c.args.turns kept s t u (idle_room s c.requires.idle) c.let_go.ensures.let_go c.args.key 1 f
+    turns_answer (split_reading n) c.args.turns c.insert_turns-turn.result.1 s t u (idle_room s c.requires.idle) c.let_go.ensures.let_go c.args.key 1
+    (λ answer. Added s.agent c.args.key answer) c.insert_turns-turn.result.0 c.insert_turns-turn.ensures.inserted
 
-pub returns-in-Answered-clause-inserted : goal.returns-in-Answered-clause-inserted
-returns-in-Answered-clause-inserted g c =
-    let d = c.args.links.now in
-    let n = g.L.Links.numbers d in
-    let s = g.L.Links.seat d c.args.p.now in
-    let t = g.L.Links.seat d c.insert_turns-turn.new.p in
-    let u = g.L.Links.seat d c.let_go.new.p in
-    let kept = c.insert_turns-turn.result.1 in
-    let f = subst (λ (turn : InsertTurn). InsertsTurns (split_reading n) c.args.key 1 (λ answer. Added s.agent c.args.key answer) c.args.turns s turn kept t) c.in-Answered.is c.insert_turns-turn.ensures.inserted in
-    (f.0, f.1.0, insert_call (split_reading n) c.args.turns kept s t u (idle_room s c.requires.idle) c.let_go.ensures.let_go f.1.0 _ f.1.1)
-
-pub returns-in-NoNode-clause-inserted : goal.returns-in-NoNode-clause-inserted
-returns-in-NoNode-clause-inserted g c =
-    let d = c.args.links.now in
-    let n = g.L.Links.numbers d in
-    let s = g.L.Links.seat d c.args.p.now in
-    let t = g.L.Links.seat d c.insert_turns-turn.new.p in
-    let u = g.L.Links.seat d c.let_go.new.p in
-    let kept = c.insert_turns-turn.result.1 in
-    let f = subst (λ (turn : InsertTurn). InsertsTurns (split_reading n) c.args.key 1 (λ answer. Added s.agent c.args.key answer) c.args.turns s turn kept t)
-    c.in-NoNode.is c.insert_turns-turn.ensures.inserted in
-    (f.0, f.1.0, insert_call (split_reading n) c.args.turns kept s t u (idle_room s c.requires.idle) c.let_go.ensures.let_go f.1.0 _ f.1.1)
-
-pub returns-in-Spent-clause-inserted : goal.returns-in-Spent-clause-inserted
-returns-in-Spent-clause-inserted g c =
-    let d = c.args.links.now in
-    let n = g.L.Links.numbers d in
-    let s = g.L.Links.seat d c.args.p.now in
-    let t = g.L.Links.seat d c.insert_turns-turn.new.p in
-    let u = g.L.Links.seat d c.let_go.new.p in
-    let kept = c.insert_turns-turn.result.1 in
-    let f = subst (λ (turn : InsertTurn). InsertsTurns (split_reading n) c.args.key 1 (λ answer. Added s.agent c.args.key answer) c.args.turns s turn kept t) c.in-Spent.is c.insert_turns-turn.ensures.inserted in
-    (f.0, f.1.0, insert_call (split_reading n) c.args.turns kept s t u (idle_room s c.requires.idle) c.let_go.ensures.let_go f.1.0 _ f.1.1)
-
-pub returns-in-NoNode-clause-lacking : goal.returns-in-NoNode-clause-lacking
-returns-in-NoNode-clause-lacking g c = λ is.
+pub returns-clause-lacking : goal.returns-clause-lacking
+returns-clause-lacking g c = λ is.
     let d = c.args.links.now in
     let s = g.L.Links.seat d c.args.p.now in
     let e = c.insert_turns-turn.ensures in
     part_goes_on g.L.Links.agent_of s.agent (g.L.Links.lacking d s.agent) (g.L.Links.journal c.args.p.now) (g.L.Links.journal c.insert_turns-turn.new.p)
     (g.L.Links.journal c.let_go.new.p) (λ xs more from to h. g.met.L.Links.lacking_stays d s.agent xs more from to h)
-    e.later c.let_go.ensures.later (e.lacking c.in-NoNode.is)
+    e.later c.let_go.ensures.later (e.lacking is)
 
-pub returns-in-Spent-clause-worn : goal.returns-in-Spent-clause-worn
-returns-in-Spent-clause-worn g c = λ why is.
+pub returns-clause-worn : goal.returns-clause-worn
+returns-clause-worn g c = λ why is.
     let d = c.args.links.now in
     let s = g.L.Links.seat d c.args.p.now in
     let e = c.insert_turns-turn.ensures in
-    let same : c.in-Spent.spent ≡ why = spent_same c.in-Spent.spent why is in
     part_goes_on g.L.Links.agent_of s.agent (g.L.Links.worn d s.agent why) (g.L.Links.journal c.args.p.now) (g.L.Links.journal c.insert_turns-turn.new.p)
     (g.L.Links.journal c.let_go.new.p) (λ xs more from to h. g.met.L.Links.worn_stays d s.agent why xs more from to h)
-    e.later c.let_go.ensures.later (e.worn why (c.in-Spent.is ∙ ap (λ (x : SpentRow). TurnSpent x) same))
+    e.later c.let_go.ensures.later (e.worn why is)

@@ -1,0 +1,268 @@
+-- The size's root is swung to a new size node.
+use Rattle.std.proofs.Common.{Bool, Err, List, None, Ok, Option, Result, Some, [], ap, arith, false, inl, refl, subst, sym, true, ℕ, ◌*◌, ◌++◌, ◌∙◌, ◌∷◌, ◌≡◌, ◌≢◌, ◌≤◌}
+use Rattle.std.specs.List.{slice_get, slice_set}
+use Rattle.std.specs.Prelude.{IfErr, IfOk}
+use Rattle.orc_fault.specs.declared.Spent.{Spent as SpentRow}
+use Rattle.orc_heap.proofs.ByAnswer.{Swings-fresh, Swings-missed, Swings-moved, unless_fresh, unless_same}
+use Rattle.orc_heap.proofs.Calls.{Puts-trans}
+use Rattle.orc_heap.proofs.Hands.{free_in, hands_done, holds_of}
+use Rattle.orc_heap.proofs.Moved.{gives_in-append}
+use Rattle.orc_heap.proofs.OwnEntries.{noted-append}
+use Rattle.orc_heap.proofs.Pieces.{missed_fresh, puts_released}
+use Rattle.orc_heap.proofs.SingleActs.{some_same}
+use Rattle.orc_heap.proofs.Slots.{get-set_other, get-set_same, set-back}
+use Rattle.orc_heap.specs.Allowed.{AllAllowed, AllowedLater}
+use Rattle.orc_heap.specs.Calls.{Gives, ReadsValue, Swings, event_of, move_of, unless_node}
+use Rattle.orc_heap.specs.Hands.{Hands, HoldsId, hand}
+use Rattle.orc_heap.specs.Heap.{HeapNumbers, Node, link_to}
+use Rattle.orc_heap.specs.OwnEvents.{Only, Puts}
+use Rattle.orc_heap.specs.Seats.{IsIdle, Seat, heap_of, link_in, place_in}
+use Rattle.orc_heap.specs.Slots.{Hold, IsFree, SlotNode, Slots, id_in, id_of}
+use Rattle.orc_heap.specs.declared.events.Act.TheVariants.{Fill, Give, Miss, Move}
+use Rattle.orc_heap.specs.declared.events.Event.{Event}
+use Rattle.orc_heap.specs.declared.events.Link.{Link}
+use Rattle.orc_heap.specs.declared.events.Place.TheVariants.{Root}
+use Rattle.orc_heap.specs.declared.holds.At.{At}
+use Rattle.orc_heap.specs.declared.holds.Want.{Want}
+use Rattle.orc_history.specs.declared.set.ListRefused.TheVariants.{Again, NoNode as RefusedNoNode, Spent as RefusedSpent}
+use Rattle.orc_ordered_search.specs.declared.turn.InsertTurn.{InsertTurn}
+use Rattle.orc_ordered_search.specs.declared.turn.InsertTurn.TheVariants.{Answered, NoNode, Over, Spent}
+use Rattle.orc_ordered_search.specs.Searches.{FindsMoved, HoldsIfAny, LetsGo, Quiet, target_at}
+use Rattle.orc_ordered_search.proofs.Held.{goes_hands}
+use Rattle.orc_ordered_search.proofs.Inserting.{idle_room, spent_same}
+use Rattle.orc_ordered_search.proofs.Making.{made_after, made_on}
+use Rattle.orc_ordered_search.proofs.Quiets.{silent_one, silent_three}
+use Rattle.orc_split_rule.proofs.Coming.{grow_allowed}
+use Rattle.orc_split_rule.specs.SplitDiscipline.{SplitHolds, SplitMay, greatest}
+use Rattle.orc_split_rule.specs.Watches.{StandsFor, node_to_link}
+use Rattle.orc_split_rule.specs.declared.split.SplitNote.{SplitNote}
+use Rattle.orc_split_rule.specs.declared.split.SplitNote.TheVariants.{Grow}
+use Rattle.orc_split_set.specs.Growths.{Doubles, DoublesAndGoes, GrowsAfter, HasSizeNode, HoldsSize, IsCrowded, SwingsSize, answer_by, grown_by}
+use Rattle.orc_split_set.specs.SplitSearches.{split_reading}
+use Rattle.orc_split_set.specs.declared.bucket.Rooted.{Rooted}
+use Rattle.orc_split_set.proofs.Ordered.{split_ordering}
+use Rattle.orc_split_set.proofs.Preparing.{nothing}
+use Rattle.orc_split_set.proofs.Sizes.{SizeHeld, values_puts}
+
+pub size_allowed : (n : HeapNumbers) (s : Seat SplitNote) (most size id : ℕ) (new : Hold) (from : Link) (to : Option ℕ) → most ≡ greatest n → 1 ≤ most
+    → 2 * size ≤ most → SplitHolds n s.seen → HasSizeNode n (2 * size) new id s → from ≡ record { to = to; mark = false } → StandsFor (heap_of n s) to size
+    → AllowedLater (SplitMay n) n s.agent s.seen (Root most) from (event_of s (Move (Root most) from (link_to (id_in s.slots new))) (Some Grow))
+size_allowed n s most size id new from to most_is some fits holds k from_is stands =
+    let there = grow_allowed n s.agent size id (record { to = to; mark = false }) s.seen holds (subst (λ (m : ℕ). 1 ≤ m) most_is some) refl stands
+    (subst (λ (m : ℕ). 2 * size ≤ m) most_is fits) k.node in
+    rw (most_is, from_is, (holds_of s.slots new id k.held).1) there
+
+module _ (n : HeapNumbers) (size : ℕ) (new : Hold) (id : ℕ) (s t u : Seat SplitNote) (k : HasSizeNode n size new id s) (g : LetsGo (Some new) t u) where
+  gone_unlinked : t.slots ≡ s.slots → t.fresh ≡ s.fresh → u.fresh ≡ None
+  gone_unlinked slots fresh =
+      let id_is : id_in t.slots new ≡ id = ap (λ (z : Slots). id_in z new) slots ∙ (holds_of s.slots new id k.held).1 in
+      g.fresh ∙ (ap (λ (i : ℕ). unless_node t.fresh (Some i)) id_is ∙ (ap (λ (f : Option ℕ). unless_node f (Some id)) (fresh ∙ k.fresh) ∙ unless_same id))
+
+  pub swings_size : (at : At) (from to : Want) (result : Result Bool SpentRow) → link_in s.slots to ≡ link_to id
+      → IfOk result (λ done. Swings at from to (Some Grow) s done t) → IfErr result (λ e. Only [] s t) → SwingsSize n new s (grown_by result) u
+  swings_size at from to (Err e) to_is w none = record {
+    own = [];
+    puts = puts_released s t u [] none.puts g.puts;
+    no_entries = refl;
+    no_give = refl;
+    slots = g.slots ∙ ap (λ (z : Slots). slice_set z new.slot None) none.slots;
+    fresh = gone_unlinked none.slots none.fresh;
+    grows = λ is. cc;
+  }
+  swings_size at from to (Ok true) to_is w none =
+      let fresh : t.fresh ≡ None = Swings-fresh w refl ∙ (ap (λ (l : Link). unless_node s.fresh l.to) to_is
+      ∙ (ap (λ (f : Option ℕ). unless_node f (Some id)) k.fresh ∙ unless_same id)) in
+      record {
+        own = move_of s at from to (Some Grow) ∷ [];
+        puts = puts_released s t u (move_of s at from to (Some Grow) ∷ []) (Swings-moved w refl) g.puts;
+        no_entries = refl;
+        no_give = refl;
+        slots = g.slots ∙ ap (λ (z : Slots). slice_set z new.slot None) w.slots;
+        fresh = g.fresh ∙ unless_fresh t.fresh _ fresh;
+        grows = λ is. inl refl;
+      }
+  swings_size at from to (Ok false) to_is w none =
+      let m = Swings-missed w refl in
+      let act = Miss (place_in s.slots at) (link_in s.slots from) m.found in
+      record {
+        own = event_of s act None ∷ [];
+        puts = puts_released s t u (event_of s act None ∷ []) m.puts g.puts;
+        no_entries = silent_one (split_ordering n) s.agent act;
+        no_give = refl;
+        slots = g.slots ∙ ap (λ (z : Slots). slice_set z new.slot None) w.slots;
+        fresh = gone_unlinked w.slots (missed_fresh w refl);
+        grows = λ is. cc;
+      }
+
+-- a node was given for it
+module _ (n : HeapNumbers) (size : ℕ) (s u : Seat SplitNote) (new : Hold) (g : Gives n 1 size 2 s new u) (one : IsFree s.slots 1) where
+  abbrev given : Option SlotNode
+  given = Some (record { row = new.row; id = g.id })
+
+  pub size_node : HasSizeNode n size new g.id u
+  size_node =
+      let held : HoldsId (slice_set s.slots 1 given) new g.id = subst (λ (i : ℕ). slice_get (slice_set s.slots 1 given) i ≡ Some given) (sym g.slot_is)
+      (get-set_same s.slots 1 None given one.empty) in
+      record {
+        held = subst (λ (z : Slots). HoldsId z new g.id) (sym g.slots) held;
+        fresh = g.fresh;
+        node = subst (λ (a : ℕ). slice_get (heap_of n u).nodes g.id ≡ Some (node_to_link a size 2 None)) (sym g.puts.agent) g.node;
+      }
+
+  pub doubles : (v : Seat SplitNote) (result : Rooted) → SwingsSize n new u result v → Doubles n s v
+  doubles v result w =
+      let ys : List (Event SplitNote) = event_of s Give None ∷ event_of s (Fill g.id 0 size) None ∷ event_of s (Fill g.id 1 2) None ∷ [] in
+      let back : slice_set (slice_set s.slots 1 given) new.slot None ≡ s.slots = ap (λ (i : ℕ). slice_set (slice_set s.slots 1 given) i None) g.slot_is
+      ∙ set-back s.slots 1 None given one.empty in
+      record {
+        own = ys ++ w.own;
+        call = record {
+          given = 1;
+          at_most = omega arith;
+          made = record {
+            puts = Puts-trans s u v ys w.own g.puts w.puts;
+            entries_are = noted-append (split_reading n).entries_in ys w.own
+                ∙ rw (silent_three (split_ordering n) s.agent Give (Fill g.id 0 size) (Fill g.id 1 2)) w.no_entries;
+            gives = omega (arith, gives_in-append ys w.own, w.no_give);
+          };
+          slots = w.slots ∙ (ap (λ (z : Slots). slice_set z new.slot None) g.slots ∙ back);
+          fresh = w.fresh;
+        };
+      }
+
+-- none could be had, or there are too many buckets
+pub doubles_none : (n : HeapNumbers) (s t : Seat SplitNote) → Only [] s t → s.fresh ≡ None → Doubles n s t
+doubles_none n s t o fresh = record {
+  own = [];
+  call = record {
+    given = 0;
+    at_most = omega arith;
+    made = record { puts = o.puts; entries_are = refl; gives = refl };
+    slots = o.slots;
+    fresh = o.fresh ∙ fresh;
+  };
+}
+
+-- what is held stays held beside a node in slot 1
+pub held_beside : (slots : Slots) (old : Option Hold) (x : Option SlotNode) → HoldsIfAny slots old → slice_get slots 1 ≡ Some None
+    → HoldsIfAny (slice_set slots 1 x) old × (target_at (slice_set slots 1 x) old ≡ target_at slots old)
+held_beside slots None x held free = (tt, refl)
+held_beside slots (Some h) x held free =
+    let apart : h.slot ≢ 1 = λ e.
+    (let bad : ◌≡◌ {A = Option (Option SlotNode)} (Some (Some (record { row = h.row; id = id_in slots h }))) (Some None) =
+    sym held ∙ (ap (λ (i : ℕ). slice_get slots i) e ∙ free) in cc) in
+    let same : slice_get (slice_set slots 1 x) h.slot ≡ slice_get slots h.slot = get-set_other slots 1 h.slot x apart in
+    let id_is : id_in (slice_set slots 1 x) h ≡ id_in slots h = ap (λ (o : Option (Option SlotNode)). id_of o) same in
+    (same ∙ (held ∙ ap (λ (i : ℕ). Some (Some (record { row = h.row; id = i }))) (sym id_is)), ap (λ (i : ℕ). Some i) id_is)
+
+pub stands_puts : (n : HeapNumbers) (s t : Seat SplitNote) (own : List (Event SplitNote)) (to : Option ℕ) (size : ℕ) → Puts s own t
+    → AllAllowed (SplitMay n) [] t.seen → StandsFor (heap_of n s) to size → StandsFor (heap_of n t) to size
+stands_puts n s t own None size p all stands = stands
+stands_puts n s t own (Some id) size p all stands = values_puts n s t own id size 2 p all stands
+
+-- whatever comes of a swing, the pass holds what it held
+pub swing_slots : (s t : Seat SplitNote) (at : At) (from to : Want) (noted : Option SplitNote) (result : Result Bool SpentRow)
+    → IfOk result (λ done. Swings at from to noted s done t) → IfErr result (λ e. Only [] s t) → t.slots ≡ s.slots
+swing_slots s t at from to noted (Ok done) w none = w.slots
+swing_slots s t at from to noted (Err e) w none = none.slots
+
+-- after loads
+pub doubles_after : (n : HeapNumbers) (s t u : Seat SplitNote) (own : List (Event SplitNote)) → Quiet (split_reading n) s own t → t.slots ≡ s.slots
+    → Doubles n t u → Doubles n s u
+doubles_after n s t u own q same k = record {
+  own = own ++ k.own;
+  call = record {
+    given = k.call.given;
+    at_most = k.call.at_most;
+    made = made_after (split_reading n) k.call.given s t u own k.own [] q k.call.made.puts k.call.made.entries_are k.call.made.gives;
+    slots = k.call.slots ∙ same;
+    fresh = k.call.fresh;
+  };
+}
+
+-- after a read of a value
+pub doubles_read : (n : HeapNumbers) (s t u : Seat SplitNote) → Only [] s t → Doubles n t u → Doubles n s u
+doubles_read n s t u o k = record {
+  own = k.own;
+  call = record {
+    given = k.call.given;
+    at_most = k.call.at_most;
+    made = record { puts = Puts-trans s t u [] k.own o.puts k.call.made.puts; entries_are = k.call.made.entries_are; gives = k.call.made.gives };
+    slots = k.call.slots ∙ o.slots;
+    fresh = k.call.fresh;
+  };
+}
+
+-- the old size node is let go
+pub doubles_held : (n : HeapNumbers) (h : Hold) (s t u : Seat SplitNote) (k : SizeHeld n h s t) → DoublesAndGoes n h t u → Doubles n s u
+doubles_held n h s t u k d =
+    let m = made_after (split_reading n) d.doubles.call.given s t d.mid k.own d.doubles.own [] k.quiet d.doubles.call.made.puts d.doubles.call.made.entries_are
+    d.doubles.call.made.gives in
+    let hands = subst (λ (z : Slots). Hands s.slots z (hand (Some h) k.id ∷ [])) (sym d.doubles.call.slots) k.hands in
+    record {
+      own = k.own ++ d.doubles.own;
+      call = record {
+        given = d.doubles.call.given;
+        at_most = d.doubles.call.at_most;
+        made = made_on (split_reading n) d.doubles.call.given s d.mid u (k.own ++ d.doubles.own) [] m d.gone.puts;
+        slots = hands_done s.slots u.slots (goes_hands s.slots d.mid u (Some h) k.id [] d.gone hands);
+        fresh = d.gone.fresh ∙ unless_fresh d.mid.fresh _ d.doubles.call.fresh;
+      };
+    }
+
+-- a link moved meanwhile
+pub doubles_moved : (n : HeapNumbers) (s t : Seat SplitNote) → FindsMoved (split_reading n) s t → s.fresh ≡ None → Doubles n s t
+doubles_moved n s t f fresh = record {
+  own = f.own;
+  call = record {
+    given = 0;
+    at_most = omega arith;
+    made = record { puts = f.quiet.puts; entries_are = f.quiet.no_entries; gives = f.quiet.no_give };
+    slots = f.slots;
+    fresh = f.quiet.fresh ∙ fresh;
+  };
+}
+
+pub doubles_idle : (n : HeapNumbers) (s t : Seat SplitNote) → Doubles n s t → IsIdle s → IsIdle t
+doubles_idle n s t k idle = record { slots = k.call.slots ∙ idle.slots; fresh = k.call.fresh }
+
+-- a size node that is held tells its size
+pub holds_size : (n : HeapNumbers) (h : Hold) (value : ℕ) (t u : Seat SplitNote) (k : HoldsSize n h t) → Only [] t u → AllAllowed (SplitMay n) [] u.seen
+    → ReadsValue (heap_of n u) (id_in t.slots h) 0 value → (value ≡ k.size) × (id_in u.slots h ≡ k.id)
+holds_size n h value t u k o all reads =
+    let (held, id_is) = holds_of t.slots h k.id k.held in
+    let v = values_puts n t u [] k.id k.size 2 o.puts all k.node in
+    let read : ReadsValue (heap_of n u) k.id 0 value = subst (λ (i : ℕ). ReadsValue (heap_of n u) i 0 value) id_is reads in
+    let here : read.node ≡ v.node = some_same (sym read.there ∙ v.there) in (
+      read.is k.size (ap (λ (x : Node). x.first) here ∙ v.first_is),
+      ap (λ (z : Slots). id_in z h) o.slots ∙ id_is,
+    )
+
+pub free_beside : (n : HeapNumbers) (h : Hold) (s t : Seat SplitNote) → SizeHeld n h s t → IsIdle s → IsFree t.slots 1
+free_beside n h s t k idle =
+    free_in s.slots t.slots (hand (Some h) k.id ∷ []) 1 k.hands ((λ e. omega (arith, e, k.slot_is)), tt) (idle_room s idle).one
+
+-- all turns were used: nothing follows them
+pub again_uncrowded : (turn : InsertTurn) → answer_by turn ≡ Err Again → IsCrowded turn → ⊥
+again_uncrowded Over e k = k
+again_uncrowded (Answered false passed) e k = k
+again_uncrowded (Answered true passed) e k = cc
+again_uncrowded NoNode e k = k
+again_uncrowded (Spent why) e k = k
+
+-- how the turns of an insert ended that was refused so
+pub turn_lacks : (turn : InsertTurn) → answer_by turn ≡ Err RefusedNoNode → turn ≡ NoNode
+turn_lacks Over e = cc
+turn_lacks (Answered answer passed) e = cc
+turn_lacks NoNode e = refl
+turn_lacks (Spent why) e = cc
+
+pub turn_worn : (turn : InsertTurn) (why : SpentRow) → answer_by turn ≡ Err (RefusedSpent why) → turn ≡ Spent why
+turn_worn Over why e = cc
+turn_worn (Answered answer passed) why e = cc
+turn_worn NoNode why e = cc
+turn_worn (Spent other) why e = ap (λ (x : SpentRow). Spent x) (spent_same other why e)
+
+-- no try followed
+pub grows_none : (n : HeapNumbers) (turn : InsertTurn) (s : Seat SplitNote) → s.fresh ≡ None → GrowsAfter n turn s s
+grows_none n turn s fresh = record { doubles = record { own = []; call = nothing n s fresh }; none = λ not. refl }

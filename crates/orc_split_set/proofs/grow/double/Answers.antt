@@ -1,0 +1,52 @@
+-- With a new size node, or without one.
+use Rattle.std.proofs.Common.{Option, Some, ap, arith, subst, sym, ℕ, ◌*◌, ◌∙◌, ◌≡◌}
+use Rattle.orc_heap.specs.Calls.{Gives}
+use Rattle.orc_heap.specs.Seats.{heap_of}
+use Rattle.orc_heap.specs.Slots.{SlotNode, Slots}
+use Rattle.orc_ordered_search.specs.Searches.{HoldsIfAny, target_at}
+use Rattle.orc_split_rule.specs.Watches.{StandsFor}
+use Rattle.orc_split_set.proofs.Growing.{doubles, doubles_none, held_beside, size_node, stands_puts}
+use Rattle.orc_split_set.proofs.grow.double.Goals as goal
+
+pub swing_size-requires-clause-old : goal.swing_size-requires-clause-old
+swing_size-requires-clause-old g c =
+    let d = c.args.links.now in
+    let n = g.L.Links.numbers d in
+    let a = c.args in
+    let s = g.L.Links.seat d a.p.now in
+    let u = g.L.Links.seat d c.give.new.p in
+    let e = c.in-Ok.ensures in
+    let x : Option SlotNode = Some (record { row = c.in-Ok.new.row; id = e.given.id }) in
+    let h = held_beside s.slots a.old.now x c.requires.old.0 c.requires.one.empty in
+    let to_is : target_at u.slots a.old.now ≡ target_at s.slots a.old.now = ap (λ (z : Slots). target_at z a.old.now) e.given.slots ∙ h.1 in (
+      subst (λ (z : Slots). HoldsIfAny z a.old.now) (sym e.given.slots) h.0,
+      subst (λ (o : Option ℕ). StandsFor (heap_of n u) o a.size) (sym to_is)
+          (stands_puts n s u _ (target_at s.slots a.old.now) a.size e.given.puts (g.met.L.Links.allowed d c.give.new.p e.pass) c.requires.old.1),
+    )
+
+pub swing_size-requires-clause-new : goal.swing_size-requires-clause-new
+swing_size-requires-clause-new g c =
+    let d = c.args.links.now in
+    let n = g.L.Links.numbers d in
+    let a = c.args in
+    let s = g.L.Links.seat d a.p.now in
+    let u = g.L.Links.seat d c.give.new.p in
+    let twice : c.from.result * 2 ≡ 2 * a.size = omega (arith, c.from.ensures) in
+    let given = subst (λ (v : ℕ). Gives n 1 v 2 s c.in-Ok.new u) twice c.in-Ok.ensures.given in
+    (given.id, size_node n (2 * a.size) s u c.in-Ok.new given c.requires.one)
+
+pub returns-in-Ok-clause-doubled : goal.returns-in-Ok-clause-doubled
+returns-in-Ok-clause-doubled g c =
+    let d = c.args.links.now in
+    let n = g.L.Links.numbers d in
+    let a = c.args in
+    let s = g.L.Links.seat d a.p.now in
+    let u = g.L.Links.seat d c.give.new.p in
+    let twice : c.from.result * 2 ≡ 2 * a.size = omega (arith, c.from.ensures) in
+    let given = subst (λ (v : ℕ). Gives n 1 v 2 s c.in-Ok.new u) twice c.in-Ok.ensures.given in
+    doubles n (2 * a.size) s u c.in-Ok.new given c.requires.one (g.L.Links.seat d c.swing_size.new.p) c.swing_size.result c.swing_size.ensures.swung
+
+pub returns-in-Err-clause-doubled : goal.returns-in-Err-clause-doubled
+returns-in-Err-clause-doubled g c =
+    let d = c.args.links.now in
+    doubles_none (g.L.Links.numbers d) (g.L.Links.seat d c.args.p.now) (g.L.Links.seat d c.give.new.p) c.in-Err.ensures.none c.requires.fresh

@@ -1,0 +1,63 @@
+-- The read of the old size, a try to double it, and the old node's release.
+use Rattle.std.proofs.Common.{Some, arith, subst, sym, ℕ, ◌∙◌}
+use Rattle.orc_heap.proofs.Hands.{holds_of}
+use Rattle.orc_heap.specs.Seats.{heap_of}
+use Rattle.orc_heap.specs.Slots.{IsFree, Slots}
+use Rattle.orc_ordered_search.specs.Searches.{HoldsIfAny}
+use Rattle.orc_split_rule.specs.SplitDiscipline.{IsSizeNode}
+use Rattle.orc_split_set.proofs.Growing.{doubles_read, holds_size}
+use Rattle.orc_split_set.proofs.Sizes.{values_puts}
+use Rattle.orc_split_set.proofs.grow.double_held.Goals as goal
+
+pub value-size-requires-clause-held : goal.value-size-requires-clause-held
+value-size-requires-clause-held g c =
+    let s = g.L.Links.seat c.args.links.now c.args.p.now in
+    (holds_of s.slots c.args.node c.requires.node.id c.requires.node.held).0
+
+pub overflow_cast-size : goal.overflow_cast-size
+overflow_cast-size g c =
+    let d = c.args.links.now in
+    let t = g.L.Links.seat d c.args.p.now in
+    let u = g.L.Links.seat d c.value-size.new.p in
+    let k = c.requires.node in
+    let is = holds_size (g.L.Links.numbers d) c.args.node c.value-size.result t u k c.value-size.ensures.nothing (g.met.L.Links.allowed d c.value-size.new.p c.value-size.ensures.pass)
+    c.value-size.ensures.value in
+    record { fits = omega (arith, is.0, k.is_size.0, c.requires.most.0, c.ranges.most.fits) }
+
+pub double_below-doubled-requires-clause-old : goal.double_below-doubled-requires-clause-old
+double_below-doubled-requires-clause-old g c =
+    let d = c.args.links.now in
+    let n = g.L.Links.numbers d in
+    let t = g.L.Links.seat d c.args.p.now in
+    let u = g.L.Links.seat d c.value-size.new.p in
+    let k = c.requires.node in
+    let o = c.value-size.ensures.nothing in
+    let all = g.met.L.Links.allowed d c.value-size.new.p c.value-size.ensures.pass in
+    let is = holds_size n c.args.node c.value-size.result t u k o all c.value-size.ensures.value in
+    let node = values_puts n t u _ k.id k.size 2 o.puts all k.node in (
+      subst (λ (z : Slots). HoldsIfAny z (Some c.args.node)) (sym o.slots) (holds_of t.slots c.args.node k.id k.held).0,
+      subst (λ (i : ℕ). IsSizeNode (heap_of n u) i c.value-size.result) (sym is.1) (subst (λ (v : ℕ). IsSizeNode (heap_of n u) k.id v) (sym is.0) node),
+    )
+
+pub double_below-doubled-requires-clause-one : goal.double_below-doubled-requires-clause-one
+double_below-doubled-requires-clause-one g c = subst (λ (z : Slots). IsFree z 1) (sym c.value-size.ensures.nothing.slots) c.requires.one
+
+pub double_below-doubled-requires-clause-fresh : goal.double_below-doubled-requires-clause-fresh
+double_below-doubled-requires-clause-fresh g c = c.value-size.ensures.nothing.fresh ∙ c.requires.fresh
+
+pub let_go-requires-clause-held : goal.let_go-requires-clause-held
+let_go-requires-clause-held g c =
+    let d = c.args.links.now in
+    let t = g.L.Links.seat d c.args.p.now in
+    let k = c.requires.node in
+    subst (λ (z : Slots). HoldsIfAny z (Some c.args.node)) (sym (c.double_below-doubled.ensures.doubled.call.slots ∙ c.value-size.ensures.nothing.slots))
+    (holds_of t.slots c.args.node k.id k.held).0
+
+pub returns-clause-doubled : goal.returns-clause-doubled
+returns-clause-doubled g c =
+    let d = c.args.links.now in
+    let n = g.L.Links.numbers d in
+    let t = g.L.Links.seat d c.args.p.now in
+    let u = g.L.Links.seat d c.value-size.new.p in
+    let v = g.L.Links.seat d c.double_below-doubled.new.p in
+    record { mid = v; doubles = doubles_read n t u v c.value-size.ensures.nothing c.double_below-doubled.ensures.doubled; gone = c.let_go.ensures.let_go }

@@ -1,0 +1,8 @@
+-- No try follows where the bucket isn't crowded.
+use Rattle.orc_split_set.proofs.Growing.{grows_none}
+use Rattle.orc_split_set.proofs.grow.grow_after.Goals as goal
+
+pub returns-clause-grown : goal.returns-clause-grown
+returns-clause-grown g c =
+    let d = c.args.links.now in
+    grows_none (g.L.Links.numbers d) c.args.turn (g.L.Links.seat d c.args.p.now) c.requires.idle.fresh

@@ -1,0 +1,50 @@
+-- The swing of the size's root, and the new node's release.
+use Rattle.std.proofs.Common.{ap, arith, subst, sym, ℕ, ◌*◌}
+use Rattle.orc_heap.proofs.Hands.{holds_of}
+use Rattle.orc_heap.specs.Heap.{link_to}
+use Rattle.orc_heap.specs.Slots.{Holds, Slots}
+use Rattle.orc_ordered_search.specs.Searches.{target_at}
+use Rattle.orc_ordered_search.proofs.Held.{release_goes}
+use Rattle.orc_split_set.specs.Growths.{SwingsSize}
+use Rattle.orc_split_set.specs.declared.bucket.Rooted.{Rooted}
+use Rattle.orc_split_set.proofs.Growing.{size_allowed, swing_slots, swings_size}
+use Rattle.orc_split_set.proofs.grow.swing_size.Goals as goal
+
+pub swing-swung-requires-clause-place : goal.swing-swung-requires-clause-place
+swing-swung-requires-clause-place g c = omega (arith, c.requires.most.0, c.requires.most.1)
+
+pub swing-swung-requires-clause-links : goal.swing-swung-requires-clause-links
+swing-swung-requires-clause-links g c =
+    let s = g.L.Links.seat c.args.links.now c.args.p.now in
+    let (id, k) = c.requires.new in
+    (c.link_to.ensures.held s.slots c.requires.old.0, (holds_of s.slots c.args.new id k.held).0)
+
+pub swing-swung-requires-clause-allowed : goal.swing-swung-requires-clause-allowed
+swing-swung-requires-clause-allowed g c =
+    let d = c.args.links.now in
+    let s = g.L.Links.seat d c.args.p.now in
+    let (id, k) = c.requires.new in
+    size_allowed (g.L.Links.numbers d) s c.args.most c.args.size id c.args.new _ (target_at s.slots c.args.old.now) c.requires.most.0 c.requires.most.1
+    c.requires.most.2 (g.met.L.Links.obeys d c.args.p.now c.requires.pass) k (c.link_to.ensures.link s.slots) c.requires.old.1
+
+pub release-requires-clause-held : goal.release-requires-clause-held
+release-requires-clause-held g c =
+    let d = c.args.links.now in
+    let s = g.L.Links.seat d c.args.p.now in
+    let f = c.swing-swung.ensures in
+    let (id, k) = c.requires.new in
+    subst (λ (z : Slots). Holds z c.args.new) (sym (swing_slots s (g.L.Links.seat d c.swing-swung.new.p) _ _ _ _ c.swing-swung.result f.swung f.none))
+    (holds_of s.slots c.args.new id k.held).0
+
+pub returns-clause-swung : goal.returns-clause-swung
+returns-clause-swung g c =
+    let d = c.args.links.now in
+    let n = g.L.Links.numbers d in
+    let s = g.L.Links.seat d c.args.p.now in
+    let t = g.L.Links.seat d c.swing-swung.new.p in
+    let u = g.L.Links.seat d c.release.new.p in
+    let f = c.swing-swung.ensures in
+    let (id, k) = c.requires.new in
+    subst (λ (r : Rooted). SwingsSize n c.args.new s r u) (sym c.grown_of.ensures)
+    (swings_size n (2 * c.args.size) c.args.new id s t u k (release_goes c.args.new t u c.release.ensures.released) _ _ _ c.swing-swung.result
+    (ap (λ (i : ℕ). link_to i) (holds_of s.slots c.args.new id k.held).1) f.swung f.none)

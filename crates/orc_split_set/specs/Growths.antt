@@ -1,0 +1,90 @@
+-- What a try to double the number of buckets comes to. After Shalev and Shavit 2006.
+use Rattle.std.specs.Prelude.{Bool, Err, List, None, Ok, Result, Some, [], false, slice_get, slice_set, true, ℕ, ◌<◌, ◌∷◌, ◌≡◌, ◌⊎◌}
+use Rattle.orc_fault.specs.declared.Spent.{Spent as SpentRow}
+use Rattle.orc_heap.specs.Hands.{HoldsId}
+use Rattle.orc_heap.specs.Heap.{HeapNumbers}
+use Rattle.orc_heap.specs.Journals.{noted_entries}
+use Rattle.orc_heap.specs.Moves.{gives_in}
+use Rattle.orc_heap.specs.OwnEvents.{Puts}
+use Rattle.orc_heap.specs.Seats.{Seat, heap_of}
+use Rattle.orc_heap.specs.Slots.{Hold}
+use Rattle.orc_heap.specs.declared.events.Event.{Event}
+use Rattle.orc_ordered_search.specs.Inserts.{InsertCall}
+use Rattle.orc_history.specs.declared.set.ListRefused.{ListRefused}
+use Rattle.orc_history.specs.declared.set.ListRefused.TheVariants.{Again, NoNode as RefusedNoNode, Spent as RefusedSpent}
+use Rattle.orc_ordered_search.specs.Searches.{LetsGo}
+use Rattle.orc_ordered_search.specs.declared.turn.InsertTurn.{InsertTurn}
+use Rattle.orc_ordered_search.specs.declared.turn.InsertTurn.TheVariants.{Answered, NoNode, Over, Spent as TurnSpent}
+use Rattle.orc_split_rule.specs.SplitDiscipline.{IsSize, IsSizeNode, greatest}
+use Rattle.orc_split_rule.specs.Watches.{node_to_link}
+use Rattle.orc_split_rule.specs.declared.split.SplitNote.{SplitNote}
+use Rattle.orc_split_rule.specs.declared.split.SplitNote.TheVariants.{Grow}
+use Rattle.orc_split_set.specs.SplitSearches.{split_reading}
+use Rattle.orc_split_set.specs.declared.bucket.Rooted.{Rooted}
+use Rattle.orc_split_set.specs.declared.bucket.Rooted.TheVariants.{Done, Moved, Spent}
+
+-- one of the events is a Grow
+abbrev pub HasGrow : List (Event SplitNote) → Type 0
+HasGrow [] = ⊥
+HasGrow (e ∷ es) = (e.note ≡ Some Grow) ⊎ HasGrow es
+
+-- what comes of it, by what came of the swing of the size's root
+abbrev pub grown_by : Result Bool SpentRow → Rooted
+grown_by (Ok true) = Done
+grown_by (Ok false) = Moved
+grown_by (Err why) = Spent why
+
+-- the pass holds its fresh node, which is a size node to be
+pub record HasSizeNode (n : HeapNumbers) (size : ℕ) (new : Hold) (id : ℕ) (s : Seat SplitNote) : Type 0 where
+  pub held : HoldsId s.slots new id
+  pub fresh : s.fresh ≡ Some id
+  pub node : slice_get (heap_of n s).nodes id ≡ Some (node_to_link s.agent size 2 None)
+
+-- the size's root was swung to it, if it was as it had been, and the node was let go
+pub record SwingsSize (n : HeapNumbers) (new : Hold) (s : Seat SplitNote) (result : Rooted) (t : Seat SplitNote) : Type 0 where
+  pub own : List (Event SplitNote)
+  pub puts : Puts s own t
+  pub no_entries : noted_entries (split_reading n).entries_in own ≡ []
+  pub no_give : gives_in own ≡ 0
+  pub slots : t.slots ≡ slice_set s.slots new.slot None
+  pub fresh : t.fresh ≡ None
+  pub grows : result ≡ Done → HasGrow own
+
+-- a try to double: one node at the most was given, nothing was entered, and the pass holds what it held
+pub record Doubles (n : HeapNumbers) (s t : Seat SplitNote) : Type 0 where
+  pub own : List (Event SplitNote)
+  pub call : InsertCall (split_reading n) s own [] t
+
+-- the same, and then the old size node was let go
+pub record DoublesAndGoes (n : HeapNumbers) (old : Hold) (s t : Seat SplitNote) : Type 0 where
+  pub mid : Seat SplitNote
+  pub doubles : Doubles n s mid
+  pub gone : LetsGo (Some old) mid t
+
+-- the pass holds a size node of this size
+pub record HoldsSize (n : HeapNumbers) (old : Hold) (s : Seat SplitNote) : Type 0 where
+  pub id : ℕ
+  pub size : ℕ
+  pub held : HoldsId s.slots old id
+  pub node : IsSizeNode (heap_of n s) id size
+  pub is_size : IsSize (greatest n) size
+
+-- what an insert answers whose turns ended so
+abbrev pub answer_by : InsertTurn → Result Bool ListRefused
+answer_by Over = Err Again
+answer_by (Answered answer passed) = Ok answer
+answer_by NoNode = Err RefusedNoNode
+answer_by (TurnSpent why) = Err (RefusedSpent why)
+
+-- such an insert added its key, and went past more than 8 others
+abbrev pub IsCrowded : InsertTurn → Type 0
+IsCrowded Over = ⊥
+IsCrowded (Answered false passed) = ⊥
+IsCrowded (Answered true passed) = 8 < passed
+IsCrowded NoNode = ⊥
+IsCrowded (TurnSpent why) = ⊥
+
+-- what follows the turns: a try to double, if the bucket was crowded
+pub record GrowsAfter (n : HeapNumbers) (turn : InsertTurn) (s t : Seat SplitNote) : Type 0 where
+  pub doubles : Doubles n s t
+  pub none : (IsCrowded turn → ⊥) → doubles.own ≡ []

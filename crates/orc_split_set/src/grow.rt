@@ -1,0 +1,171 @@
+//! Doubling the number of buckets.
+
+ghost use Rattle.std.specs.Prelude.{◌≡◌, ◌*◌, ◌≤◌, ◌↔◌, ℕ, None, true};
+ghost use mathlib.Core.List.{IsPrefix};
+ghost use Rattle.orc_heap.specs.Seats.{IsIdle, heap_of};
+ghost use Rattle.orc_heap.specs.Slots.{IsFree};
+ghost use Rattle.orc_ordered_search.specs.Searches.{HoldsIfAny, target_at};
+ghost use Rattle.orc_split_rule.specs.SplitDiscipline.{greatest};
+ghost use Rattle.orc_split_rule.specs.Watches.{StandsFor};
+ghost use Rattle.orc_split_set.specs.Growths.{Doubles, DoublesAndGoes, GrowsAfter, HasSizeNode, HoldsSize, IsCrowded, SwingsSize, grown_by};
+
+use crate::bucket::Rooted;
+use crate::spot::{let_go, link_to};
+use orc_fault::Spent;
+use orc_heap::{At, Held, Links, Looked, Want};
+use orc_ordered_search::InsertTurn;
+use orc_split_rule::{Split, SplitNote};
+
+// What came of a try to double, by what came of its one swing.
+fn grown_of(swung: Result<bool, Spent>) -> Rooted
+    ensures { result ≡ grown_by swung }
+{
+    match swung {
+        Ok(true) => Rooted::Done,
+        Ok(false) => Rooted::Moved,
+        Err(spent) => Rooted::Spent(spent),
+    }
+}
+
+// Lets the size's root name the new size node, if it still names the old one, and lets the new one go.
+fn swing_size<L: Links<Rule = Split>>(
+    links: &L,
+    p: &mut L::Pass,
+    most: u32,
+    size: u32,
+    old: &Option<Held>,
+    new: Held,
+) -> Rooted
+    requires pass { L.belongs links.now p.old }
+    requires most { (most ≡ greatest (L.numbers links.now)) × (1 ≤ most) × (2 * size ≤ most) }
+    requires old { HoldsIfAny (L.seat links.now p.old).slots old.now
+        × StandsFor (heap_of (L.numbers links.now) (L.seat links.now p.old)) (target_at (L.seat links.now p.old).slots old.now) size }
+    requires new { (id : ℕ) × HasSizeNode (L.numbers links.now) (2 * size) new id (L.seat links.now p.old) }
+    ensures pass { L.belongs links.now p.new }
+    ensures later { IsPrefix (L.journal p.old) (L.journal p.new) }
+    ensures swung { SwingsSize (L.numbers links.now) new (L.seat links.now p.old) result (L.seat links.now p.new) }
+{
+    let swung = links.swing(
+        p,
+        &At::Root(most),
+        &link_to(old, false),
+        &Want::Node(&new, false),
+        Some(SplitNote::Grow),
+    );
+    links.release(p, new);
+    grown_of(swung)
+}
+
+// Gives a node of twice the size, and lets the size's root name it.
+fn double<L: Links<Rule = Split>>(
+    links: &L,
+    p: &mut L::Pass,
+    most: u32,
+    size: u32,
+    old: &Option<Held>,
+) -> Rooted
+    requires pass { L.belongs links.now p.old }
+    requires most { (most ≡ greatest (L.numbers links.now)) × (1 ≤ most) × (2 * size ≤ most) }
+    requires old { HoldsIfAny (L.seat links.now p.old).slots old.now
+        × StandsFor (heap_of (L.numbers links.now) (L.seat links.now p.old)) (target_at (L.seat links.now p.old).slots old.now) size }
+    requires one { IsFree (L.seat links.now p.old).slots 1 }
+    requires fresh { (L.seat links.now p.old).fresh ≡ None }
+    ensures pass { L.belongs links.now p.new }
+    ensures later { IsPrefix (L.journal p.old) (L.journal p.new) }
+    ensures doubled { Doubles (L.numbers links.now) (L.seat links.now p.old) (L.seat links.now p.new) }
+{
+    match links.give(p, 1, u64::from(size) * 2, 2) {
+        Ok(new) => swing_size(links, p, most, size, old, new),
+        Err(_) => Rooted::NoNode,
+    }
+}
+
+// The same, unless there would be too many buckets.
+fn double_below<L: Links<Rule = Split>>(
+    links: &L,
+    p: &mut L::Pass,
+    most: u32,
+    size: u32,
+    old: &Option<Held>,
+) -> Rooted
+    requires pass { L.belongs links.now p.old }
+    requires most { (most ≡ greatest (L.numbers links.now)) × (1 ≤ most) }
+    requires old { HoldsIfAny (L.seat links.now p.old).slots old.now
+        × StandsFor (heap_of (L.numbers links.now) (L.seat links.now p.old)) (target_at (L.seat links.now p.old).slots old.now) size }
+    requires one { IsFree (L.seat links.now p.old).slots 1 }
+    requires fresh { (L.seat links.now p.old).fresh ≡ None }
+    ensures pass { L.belongs links.now p.new }
+    ensures later { IsPrefix (L.journal p.old) (L.journal p.new) }
+    ensures doubled { Doubles (L.numbers links.now) (L.seat links.now p.old) (L.seat links.now p.new) }
+{
+    if size <= most / 2 {
+        return double(links, p, most, size, old);
+    }
+    Rooted::Done
+}
+
+// The same for the size of the node in hand, which is let go.
+fn double_held<L: Links<Rule = Split>>(links: &L, p: &mut L::Pass, most: u32, node: Held) -> Rooted
+    requires pass { L.belongs links.now p.old }
+    requires most { (most ≡ greatest (L.numbers links.now)) × (1 ≤ most) }
+    requires node { HoldsSize (L.numbers links.now) node (L.seat links.now p.old) }
+    requires one { IsFree (L.seat links.now p.old).slots 1 }
+    requires fresh { (L.seat links.now p.old).fresh ≡ None }
+    ensures pass { L.belongs links.now p.new }
+    ensures later { IsPrefix (L.journal p.old) (L.journal p.new) }
+    ensures doubled { DoublesAndGoes (L.numbers links.now) node (L.seat links.now p.old) (L.seat links.now p.new) }
+{
+    let size = links.value(p, &node, 0) as u32;
+    let old = Some(node);
+    let doubled = double_below(links, p, most, size, &old);
+    let_go(links, p, old);
+    doubled
+}
+
+// One try to double the number of buckets, if there would not be too many.
+fn grow<L: Links<Rule = Split>>(links: &L, p: &mut L::Pass, most: u32) -> Rooted
+    requires pass { L.belongs links.now p.old }
+    requires most { (most ≡ greatest (L.numbers links.now)) × (1 ≤ most) }
+    requires idle { IsIdle (L.seat links.now p.old) }
+    ensures pass { L.belongs links.now p.new }
+    ensures later { IsPrefix (L.journal p.old) (L.journal p.new) }
+    ensures idle { IsIdle (L.seat links.now p.new) }
+    ensures doubled { Doubles (L.numbers links.now) (L.seat links.now p.old) (L.seat links.now p.new) }
+{
+    match links.look(p, &At::Root(most), 2) {
+        Looked::Stable(_, Some(node)) => double_held(links, p, most, node),
+        Looked::Stable(_, None) => double_below(links, p, most, 1, &None),
+        Looked::Moved => Rooted::Moved,
+    }
+}
+
+// Whether an insert whose turns ended so added its key, and went past more than 8 others.
+fn is_crowded(turn: InsertTurn) -> bool
+    ensures { (result ≡ true) ↔ IsCrowded turn }
+{
+    match turn {
+        InsertTurn::Answered(true, passed) => passed > 8,
+        _ => false,
+    }
+}
+
+// What follows the turns of an insert: one try to double the number of buckets, if its own bucket was crowded.
+pub(crate) fn grow_after<L: Links<Rule = Split>>(
+    links: &L,
+    p: &mut L::Pass,
+    most: u32,
+    turn: InsertTurn,
+)
+    requires pass { L.belongs links.now p.old }
+    requires most { (most ≡ greatest (L.numbers links.now)) × (1 ≤ most) }
+    requires idle { IsIdle (L.seat links.now p.old) }
+    ensures pass { L.belongs links.now p.new }
+    ensures later { IsPrefix (L.journal p.old) (L.journal p.new) }
+    ensures idle { IsIdle (L.seat links.now p.new) }
+    ensures grown { GrowsAfter (L.numbers links.now) turn (L.seat links.now p.old) (L.seat links.now p.new) }
+{
+    if is_crowded(turn) {
+        let _grown = grow(links, p, most);
+        return;
+    }
+}
