@@ -1,0 +1,5 @@
+//! Tests of both domains over rows with two links.
+#![tactic(auto)]
+
+#[cfg(test)]
+mod tests;
