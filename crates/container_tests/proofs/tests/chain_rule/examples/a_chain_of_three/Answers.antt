@@ -24,6 +24,7 @@ returns c = (
               key_is = refl;
               own_plain =
                   refl;
+              side_null = λ link at. cc;
               over = [];
               run = refl;
               above = tt;

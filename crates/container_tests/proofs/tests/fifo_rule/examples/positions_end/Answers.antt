@@ -11,5 +11,6 @@ returns-clause-last c = record {
   there = refl;
   unlinked = refl;
   ends = refl;
+  side_null = λ link at. cc;
   holds = record { job_is = refl; position_is = refl; low = omega arith };
 }

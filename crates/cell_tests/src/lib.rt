@@ -1,0 +1,5 @@
+//! The cell over both domains.
+#![tactic(auto)]
+
+#[cfg(test)]
+mod tests;
