@@ -17,7 +17,7 @@ same-entered-requires-clause-place g c =
     let t = g.L.Links.seat d c.args.p.now in
     let a = c.args in
     let (start, passed, s, f) = c.requires.absent in
-    c.place_from.ensures.held n.roots t.slots c.requires.roots (first_held s.slots t.slots a.left f.left_id _ f.hands)
+    c.place_from.ensures.held n t.slots c.requires.roots (first_held s.slots t.slots a.left f.left_id _ f.hands)
 
 pub same-entered-requires-clause-link : goal.same-entered-requires-clause-link
 same-entered-requires-clause-link g c =

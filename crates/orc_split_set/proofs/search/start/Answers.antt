@@ -10,7 +10,7 @@ look-requires-clause-place g c =
     let n = g.L.Links.numbers d in
     let t = g.L.Links.seat d c.args.p.now in
     let (place, s, room, b) = c.requires.begins in
-    c.place_from.ensures.held n.roots t.slots c.requires.roots (start_held n place c.args.wanted c.args.left s t b)
+    c.place_from.ensures.held n t.slots c.requires.roots (start_held n place c.args.wanted c.args.left s t b)
 
 pub go_on-requires-clause-passed : goal.go_on-requires-clause-passed
 go_on-requires-clause-passed g c =
