@@ -1,6 +1,7 @@
 -- Looks of the other roots: a bucket's root tells where a search may begin, and the last one the size.
-use Rattle.std.proofs.Common.{List, None, Some, [], ap, arith, refl, subst, sym, ℕ, ◌++◌, ◌%◌, ◌*◌, ◌/◌, ◌<◌, ◌∙◌, ◌∷◌, ◌≡◌, ◌≤◌, ◌^◌, suc, zero}
+use Rattle.std.proofs.Common.{List, None, Some, [], ap, arith, refl, subst, sym, ℕ, ◌++◌, ◌%◌, ◌*◌, ◌+◌, ◌/◌, ◌<◌, ◌∙◌, ◌∷◌, ◌≡◌, ◌≤◌, ◌^◌, suc, zero}
 use Rattle.std.proofs.Math.Nat.{mod-lt}
+use Rattle.std.proofs.Math.Pow.{mod-mod-pow}
 use Rattle.std.specs.List.{slice_get, slice_set}
 use Rattle.orc_heap.proofs.Calls.{Puts-stood}
 use Rattle.orc_heap.proofs.Hands.{hands_take}
@@ -16,7 +17,8 @@ use Rattle.orc_heap.specs.Hands.{Hands, hand}
 use Rattle.orc_heap.specs.declared.events.Act.TheVariants.{Look}
 use Rattle.orc_heap.specs.declared.events.Event.{Event}
 use Rattle.orc_heap.specs.declared.events.Link.{Link}
-use Rattle.orc_heap.specs.declared.events.Place.TheVariants.{Next, Root}
+use Rattle.orc_heap.specs.declared.events.Place.{Place}
+use Rattle.orc_heap.specs.declared.events.Place.TheVariants.{Next, Root, Side}
 use Rattle.orc_heap.specs.declared.holds.Looked.TheVariants.{Moved as LookedMoved, Stable}
 use Rattle.orc_heap.specs.declared.holds.Seen.{Seen}
 use Rattle.orc_ordered_chains.specs.Chains.{FollowsOn, LeadsTo}
@@ -28,12 +30,14 @@ use Rattle.orc_split_rule.proofs.Reversed.{low_before, low_first}
 use Rattle.orc_split_rule.proofs.Sizes.{size_later}
 use Rattle.orc_split_rule.specs.Laws.Values.{dummy_rank}
 use Rattle.orc_split_rule.specs.SplitDiscipline.{HasValues, IsDummy, IsSize, SplitHolds, SplitMay, greatest, size_of}
-use Rattle.orc_split_rule.specs.SplitOrder.{dummy_place, reversed, split_order}
+use Rattle.orc_split_rule.specs.SplitOrder.{bucket_of, dummy_place, reversed, split_order}
 use Rattle.orc_split_rule.specs.declared.split.SplitNote.{SplitNote}
-use Rattle.orc_split_set.specs.Beginnings.{BeginsNear, Held, MayBegin, seat_before}
+use Rattle.orc_split_set.specs.Beginnings.{BeginsKey, BeginsNear, BeginsWith, Held, MayBegin, seat_before}
+use Rattle.orc_split_set.specs.Crowds.{BeginsBy, SeesOwn}
 use Rattle.orc_split_set.specs.NewNodes.{place_for, value_of}
 use Rattle.orc_split_set.specs.SplitSearches.{split_reading}
-use Rattle.orc_split_set.specs.declared.begin.Begun.TheVariants.{From}
+use Rattle.orc_split_set.specs.declared.begin.Begun.{Begun}
+use Rattle.orc_split_set.specs.declared.begin.Begun.TheVariants.{From, Moved as BegunMoved}
 use Rattle.orc_split_set.specs.declared.node.NewNode.{NewNode}
 use Rattle.orc_split_set.specs.declared.node.NewNode.TheVariants.{Dummy, Key}
 use Rattle.orc_split_set.proofs.Ordered.{split_ordering}
@@ -95,11 +99,12 @@ quiet_before n s t own p q = record {
 module _ (n : HeapNumbers) (new : NewNode) (s t : Seat SplitNote) (own : List (Event SplitNote)) (q : Quiet (split_reading n) s own t)
     (same : t.slots ≡ s.slots) where
   -- a search from root 0
-  pub from_root : BeginsNear n new s (From None) t
-  from_root = record {
+  pub from_root : (size : ℕ) → BeginsWith n new size s (From None) t
+  from_root size = record {
     own = own;
     quiet = quiet_before n s t own q.puts q;
     start = Root 0;
+    near = refl;
     begins = record {
       begins = record {
         left_id = 0;
@@ -157,10 +162,10 @@ module _ (n : HeapNumbers) (new : NewNode) (s t : Seat SplitNote) (own : List (E
   -- a root that names a dummy, at whose link the search begins
   pub root_dummy : (u : Seat SplitNote) (bucket i : ℕ) (seen : Seen) (h : Hold) → SplitHolds n t.seen → AllAllowed (SplitMay n) [] u.seen
       → HasRoom t.slots → 1 ≤ bucket → bucket < greatest n → 0 < 2 ^ i → MayBegin new (2 ^ i) → bucket ≡ value_of new % 2 ^ i
-      → Looks (Root bucket) 2 t (Stable seen (Some h)) u → BeginsNear n new s (From (Some h)) u
+      → Looks (Root bucket) 2 t (Stable seen (Some h)) u → BeginsWith n new (2 ^ i) s (From (Some h)) u
   root_dummy u bucket i seen h holds all room some less many may is looks = by_next looks.tells
     where
-      by_next : Tells (Root bucket) 2 t (Stable seen (Some h)) u → BeginsNear n new s (From (Some h)) u
+      by_next : Tells (Root bucket) 2 t (Stable seen (Some h)) u → BeginsWith n new (2 ^ i) s (From (Some h)) u
       by_next (id, one, more, marked, null, at_slot, slots, puts) =
           let link : Link = record { to = Some id; mark = seen.mark } in
           let ys : List (Event SplitNote) = event_of t (Look (Root bucket) one) None ∷ event_of t (Look (Root bucket) link) None ∷ [] in
@@ -182,6 +187,7 @@ module _ (n : HeapNumbers) (new : NewNode) (s t : Seat SplitNote) (own : List (E
             own = own ++ ys;
             quiet = quiet_before n s u (own ++ ys) whole.puts whole;
             start = Next id;
+            near = (value_of new % 2 ^ i, d, omega arith);
             begins = record {
               begins = record {
                 left_id = id;
@@ -221,9 +227,54 @@ half_begins (Dummy bucket) size may = omega (arith, may)
 pub root_at : (n : HeapNumbers) (new : NewNode) (s t : Seat SplitNote) (own : List (Event SplitNote)) (q : Quiet (split_reading n) s own t)
     (same : t.slots ≡ s.slots) (u : Seat SplitNote) (value size most : ℕ) (seen : Seen) (h : Hold) → SplitHolds n t.seen → AllAllowed (SplitMay n) [] u.seen
     → HasRoom t.slots → IsSize (greatest n) size → 2 ≤ size → MayBegin new size → value ≡ value_of new → most ≡ size → size / 2 ≤ value % most
-    → Looks (Root (value % most)) 2 t (Stable seen (Some h)) u → BeginsNear n new s (From (Some h)) u
+    → Looks (Root (value % most)) 2 t (Stable seen (Some h)) u → BeginsWith n new size s (From (Some h)) u
 root_at n new s t own q same u value size most seen h holds all room (low, i, is) two may value_is most_is high looks =
     let many : 0 < 2 ^ i = omega (arith, two, is) in
     let less : value % most < most = mod-lt value (omega (arith, two, most_is)) in
-    root_dummy n new s t own q same u (value % most) i seen h holds all room (omega (arith, two, high)) (omega (arith, less, low, most_is)) many
-    (subst (λ (x : ℕ). MayBegin new x) is may) (ap (λ (x : ℕ). x % most) value_is ∙ ap (λ (x : ℕ). value_of new % x) (most_is ∙ is)) looks
+    subst (λ (x : ℕ). BeginsWith n new x s (From (Some h)) u) (sym is)
+    (root_dummy n new s t own q same u (value % most) i seen h holds all room (omega (arith, two, high)) (omega (arith, less, low, most_is)) many
+    (subst (λ (x : ℕ). MayBegin new x) is may) (ap (λ (x : ℕ). x % most) value_is ∙ ap (λ (x : ℕ). value_of new % x) (most_is ∙ is)) looks)
+
+-- half as many buckets begin no later
+pub half_by : (value size i : ℕ) → 2 ≤ size → size ≡ 2 ^ i → dummy_place (bucket_of value (size / 2)) ≤ dummy_place (bucket_of value size)
+half_by value size zero two is = absurd (omega (arith, two, is))
+half_by value size (suc i) two is =
+    let double : 2 ^ suc i ≡ 2 * 2 ^ i = grind (arith) in
+    let e : 1 + i ≡ suc i = omega arith in
+    let half : size / 2 ≡ 2 ^ i = omega (arith, is, double) in
+    let twice : value % 2 ^ suc i % 2 ^ i ≡ value % 2 ^ i = subst (λ (x : ℕ). value % 2 ^ x % 2 ^ i ≡ value % 2 ^ i) e (mod-mod-pow value 1 i) in
+    let low : reversed (value % 2 ^ i) ≤ reversed (value % 2 ^ suc i) =
+    subst (λ (x : ℕ). reversed x ≤ reversed (value % 2 ^ suc i)) twice (low_first (value % 2 ^ suc i) i) in
+    let one : value % (size / 2) ≡ value % 2 ^ i = ap (λ (x : ℕ). value % x) half in
+    let other : value % size ≡ value % 2 ^ suc i = ap (λ (x : ℕ). value % x) is in
+    subst (λ (x : ℕ). dummy_place x ≤ dummy_place (value % size)) (sym one)
+    (subst (λ (x : ℕ). dummy_place (value % 2 ^ i) ≤ dummy_place x) (sym other) (omega (arith, low)))
+
+by_later : (h : Heap) (start : Place) (bucket other : ℕ) → dummy_place bucket ≤ dummy_place other → BeginsBy h start bucket → BeginsBy h start other
+by_later h (Root r) bucket other low is = is
+by_later h (Next id) bucket other low (old, d, less) = (old, d, omega (arith, less, low))
+by_later h (Side id) bucket other low bad = bad
+
+-- what is so of where a search begins
+near_on : (n : HeapNumbers) (new : NewNode) (Near Far : Place → Type 0) → ((start : Place) → Near start → Far start) → (s t : Seat SplitNote) (begun : Begun)
+    → BeginsNear n new Near s begun t → BeginsNear n new Far s begun t
+near_on n new Near Far go s t BegunMoved f = f
+near_on n new Near Far go s t (From left) b =
+    record { own = b.own; quiet = b.quiet; start = b.start; begins = b.begins; near = go b.start b.near }
+
+-- where fewer buckets begin no later
+pub begins_later : (n : HeapNumbers) (new : NewNode) (fewer size : ℕ)
+    → dummy_place (bucket_of (value_of new) fewer) ≤ dummy_place (bucket_of (value_of new) size)
+    → (s t : Seat SplitNote) (begun : Begun) → BeginsWith n new fewer s begun t → BeginsWith n new size s begun t
+begins_later n new fewer size low s t begun b =
+    near_on n new (λ start. BeginsBy (heap_of n t) start (bucket_of (value_of new) fewer))
+    (λ start. BeginsBy (heap_of n t) start (bucket_of (value_of new) size))
+    (λ start by. by_later (heap_of n t) start (bucket_of (value_of new) fewer) (bucket_of (value_of new) size) low by) s t begun b
+
+-- a key's search, where the size that was read is the one before the call, if the pass saw only own events
+pub begins_key : (n : HeapNumbers) (key size : ℕ) (s t : Seat SplitNote) (begun : Begun) → (SeesOwn s t → size ≡ size_of n s.seen)
+    → BeginsWith n (Key key) size s begun t → BeginsKey n key s begun t
+begins_key n key size s t begun same b =
+    near_on n (Key key) (λ start. BeginsBy (heap_of n t) start (bucket_of key size))
+    (λ start. SeesOwn s t → BeginsBy (heap_of n t) start (bucket_of key (size_of n s.seen)))
+    (λ start by sees. subst (λ (z : ℕ). BeginsBy (heap_of n t) start (bucket_of key z)) (same sees) by) s t begun b

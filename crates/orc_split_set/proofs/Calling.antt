@@ -92,10 +92,10 @@ module _ {N : Type 0} (r : Reading N) (s t u : Seat N) (own : List (Event N)) (c
       }
 
 -- an insert, what followed its turns, and the settling
-pub insert_after : (n : HeapNumbers) (entry : Bool → SetEntry) (turns : ℕ) (turn : InsertTurn) (s t u v : Seat SplitNote)
-    → InsertAnswers (split_reading n) entry turns s (answer_by turn) t → GrowsAfter n turn t u → Only [] u v
+pub insert_after : (n : HeapNumbers) (entry : Bool → SetEntry) (turns : ℕ) (turn : InsertTurn) (grown : Rooted) (s t u v : Seat SplitNote)
+    → InsertAnswers (split_reading n) entry turns s (answer_by turn) t → GrowsAfter n turn t grown u → Only [] u v
     → Did (split_reading n) (answer_by turn ≡ Err Again) 2 turns entry s (answer_by turn) v
-insert_after n entry turns turn s t u v inserted k o =
+insert_after n entry turns turn grown s t u v inserted k o =
     let r = split_reading n in
     let c = k.doubles.call in
     let call : InsertCall r t k.doubles.own [] v = record {

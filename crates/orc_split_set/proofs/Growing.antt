@@ -1,46 +1,57 @@
 -- The size's root is swung to a new size node.
-use Rattle.std.proofs.Common.{Bool, Err, List, None, Ok, Option, Result, Some, [], ap, arith, false, inl, refl, subst, sym, true, ℕ, ◌*◌, ◌++◌, ◌∙◌, ◌∷◌, ◌≡◌, ◌≢◌, ◌≤◌}
+use mathlib.Core.List.{IsPrefix}
+use Rattle.std.proofs.Common.{Bool, Err, List, None, Ok, Option, Result, Some, [], ap, append-nil, arith, false, inl, inr, refl, subst, sym, true, ℕ, ◌*◌, ◌++◌, ◌<◌, ◌∙◌, ◌∷◌, ◌≡◌, ◌≢◌, ◌≤◌}
 use Rattle.std.specs.List.{slice_get, slice_set}
 use Rattle.std.specs.Prelude.{IfErr, IfOk}
 use Rattle.orc_fault.specs.declared.Spent.{Spent as SpentRow}
 use Rattle.orc_heap.proofs.ByAnswer.{Swings-fresh, Swings-missed, Swings-moved, unless_fresh, unless_same}
 use Rattle.orc_heap.proofs.Calls.{Puts-trans}
 use Rattle.orc_heap.proofs.Hands.{free_in, hands_done, holds_of}
+use Rattle.orc_heap.proofs.Moments.{look_found, miss_moved}
 use Rattle.orc_heap.proofs.Moved.{gives_in-append}
 use Rattle.orc_heap.proofs.OwnEntries.{noted-append}
 use Rattle.orc_heap.proofs.Pieces.{missed_fresh, puts_released}
 use Rattle.orc_heap.proofs.SingleActs.{some_same}
 use Rattle.orc_heap.proofs.Slots.{get-set_other, get-set_same, set-back}
 use Rattle.orc_heap.specs.Allowed.{AllAllowed, AllowedLater}
-use Rattle.orc_heap.specs.Calls.{Gives, ReadsValue, Swings, event_of, move_of, unless_node}
+use Rattle.orc_heap.specs.Calls.{Gives, Looks, Misses, ReadsValue, Swings, event_of, move_of, unless_node}
 use Rattle.orc_heap.specs.Hands.{Hands, HoldsId, hand}
-use Rattle.orc_heap.specs.Heap.{HeapNumbers, Node, link_to}
+use Rattle.orc_heap.specs.Heap.{Heap, HeapNumbers, Node, link_to}
+use Rattle.orc_heap.specs.Moves.{ShowsOrMoved, moves_in}
 use Rattle.orc_heap.specs.OwnEvents.{Only, Puts}
 use Rattle.orc_heap.specs.Seats.{IsIdle, Seat, heap_of, link_in, place_in}
 use Rattle.orc_heap.specs.Slots.{Hold, IsFree, SlotNode, Slots, id_in, id_of}
-use Rattle.orc_heap.specs.declared.events.Act.TheVariants.{Fill, Give, Miss, Move}
+use Rattle.orc_heap.specs.declared.events.Act.TheVariants.{Fill, Give, Look, Miss, Move}
 use Rattle.orc_heap.specs.declared.events.Event.{Event}
 use Rattle.orc_heap.specs.declared.events.Link.{Link}
+use Rattle.orc_heap.specs.declared.events.Place.{Place}
 use Rattle.orc_heap.specs.declared.events.Place.TheVariants.{Root}
 use Rattle.orc_heap.specs.declared.holds.At.{At}
+use Rattle.orc_heap.specs.declared.holds.Looked.TheVariants.{Stable}
+use Rattle.orc_heap.specs.declared.holds.Seen.{Seen}
 use Rattle.orc_heap.specs.declared.holds.Want.{Want}
 use Rattle.orc_history.specs.declared.set.ListRefused.TheVariants.{Again, NoNode as RefusedNoNode, Spent as RefusedSpent}
 use Rattle.orc_ordered_search.specs.declared.turn.InsertTurn.{InsertTurn}
-use Rattle.orc_ordered_search.specs.declared.turn.InsertTurn.TheVariants.{Answered, NoNode, Over, Spent}
+use Rattle.orc_ordered_search.specs.declared.turn.InsertTurn.TheVariants.{Answered, NoNode as TurnNoNode, Over, Spent as TurnSpent}
 use Rattle.orc_ordered_search.specs.Searches.{FindsMoved, HoldsIfAny, LetsGo, Quiet, target_at}
 use Rattle.orc_ordered_search.proofs.Held.{goes_hands}
 use Rattle.orc_ordered_search.proofs.Inserting.{idle_room, spent_same}
 use Rattle.orc_ordered_search.proofs.Making.{made_after, made_on}
 use Rattle.orc_ordered_search.proofs.Quiets.{silent_one, silent_three}
+use Rattle.orc_ordered_chains.specs.Chains.{link_over}
 use Rattle.orc_split_rule.proofs.Coming.{grow_allowed}
-use Rattle.orc_split_rule.specs.SplitDiscipline.{SplitHolds, SplitMay, greatest}
+use Rattle.orc_split_rule.proofs.Later.{may_fits}
+use Rattle.orc_split_rule.specs.SplitDiscipline.{SplitHolds, SplitMay, greatest, size_at, size_by, size_of}
 use Rattle.orc_split_rule.specs.Watches.{StandsFor, node_to_link}
 use Rattle.orc_split_rule.specs.declared.split.SplitNote.{SplitNote}
 use Rattle.orc_split_rule.specs.declared.split.SplitNote.TheVariants.{Grow}
-use Rattle.orc_split_set.specs.Growths.{Doubles, DoublesAndGoes, GrowsAfter, HasSizeNode, HoldsSize, IsCrowded, SwingsSize, answer_by, grown_by}
+use Rattle.orc_split_set.specs.Crowds.{SeesOwn}
+use Rattle.orc_split_set.specs.Growths.{Doubles, DoublesAndGoes, GrowTells, GrowsAfter, HasGrow, HasSizeNode, HoldsSize, IsCrowded, ShowsSize, SwingsSize, answer_by, grown_by}
 use Rattle.orc_split_set.specs.SplitSearches.{split_reading}
 use Rattle.orc_split_set.specs.declared.bucket.Rooted.{Rooted}
-use Rattle.orc_split_set.proofs.Ordered.{split_ordering}
+use Rattle.orc_split_set.specs.declared.bucket.Rooted.TheVariants.{Done, Moved, NoNode, Spent}
+use Rattle.orc_split_set.proofs.Crowding.{own_later, own_not_moved, own_part, own_seen, own_shows, own_size, own_sooner, own_unmoved, puts_grow}
+use Rattle.orc_split_set.proofs.Ordered.{goes_on, split_ordering}
 use Rattle.orc_split_set.proofs.Preparing.{nothing}
 use Rattle.orc_split_set.proofs.Sizes.{SizeHeld, values_puts}
 
@@ -58,9 +69,22 @@ module _ (n : HeapNumbers) (size : ℕ) (new : Hold) (id : ℕ) (s t u : Seat Sp
       let id_is : id_in t.slots new ≡ id = ap (λ (z : Slots). id_in z new) slots ∙ (holds_of s.slots new id k.held).1 in
       g.fresh ∙ (ap (λ (i : ℕ). unless_node t.fresh (Some i)) id_is ∙ (ap (λ (f : Option ℕ). unless_node f (Some id)) (fresh ∙ k.fresh) ∙ unless_same id))
 
-  pub swings_size : (at : At) (from to : Want) (result : Result Bool SpentRow) → link_in s.slots to ≡ link_to id
-      → IfOk result (λ done. Swings at from to (Some Grow) s done t) → IfErr result (λ e. Only [] s t) → SwingsSize n new s (grown_by result) u
-  swings_size at from to (Err e) to_is w none = record {
+  -- it was missed, though the size's root showed this: another agent has an event there
+  missed_size : (at : At) (from to : Want) (old : Option ℕ) → place_in s.slots at ≡ Root (greatest n) → link_in s.slots from ≡ link_over old
+      → AllAllowed (SplitMay n) [] t.seen → Swings at from to (Some Grow) s false t → ShowsSize n old s → SeesOwn s u → ⊥
+  missed_size at from to old place_is from_is all w shows sees =
+      let m = subst (λ (l : Link). Misses (Root (greatest n)) l s t) from_is
+      (subst (λ (p : Place). Misses p (link_in s.slots from) s t) place_is (Swings-missed w refl)) in
+      let e : Event SplitNote = event_of s (Miss (Root (greatest n)) (link_over old) m.found) None in
+      let k = own_sooner s t u (puts_grow s t (e ∷ []) m.puts) (puts_grow t u [] g.puts) sees in
+      let moved = miss_moved n (SplitMay n) (may_fits n) s t (Root (greatest n)) (link_over old) m.found [] e [] m.puts refl all tt m.other shows in
+      let none : moves_in m.puts.part ≡ 0 = ap (λ z. moves_in z) (own_part s t (e ∷ []) m.puts k).1 in
+      omega (arith, moved, none)
+
+  pub swings_size : (at : At) (from to : Want) (old : Option ℕ) (result : Result Bool SpentRow) → link_in s.slots to ≡ link_to id
+      → place_in s.slots at ≡ Root (greatest n) → link_in s.slots from ≡ link_over old → AllAllowed (SplitMay n) [] t.seen
+      → IfOk result (λ done. Swings at from to (Some Grow) s done t) → IfErr result (λ e. Only [] s t) → SwingsSize n old new s (grown_by result) u
+  swings_size at from to old (Err e) to_is place_is from_is all w none = record {
     own = [];
     puts = puts_released s t u [] none.puts g.puts;
     no_entries = refl;
@@ -68,8 +92,9 @@ module _ (n : HeapNumbers) (size : ℕ) (new : Hold) (id : ℕ) (s t u : Seat Sp
     slots = g.slots ∙ ap (λ (z : Slots). slice_set z new.slot None) none.slots;
     fresh = gone_unlinked none.slots none.fresh;
     grows = λ is. cc;
+    missed = λ is. cc;
   }
-  swings_size at from to (Ok true) to_is w none =
+  swings_size at from to old (Ok true) to_is place_is from_is all w none =
       let fresh : t.fresh ≡ None = Swings-fresh w refl ∙ (ap (λ (l : Link). unless_node s.fresh l.to) to_is
       ∙ (ap (λ (f : Option ℕ). unless_node f (Some id)) k.fresh ∙ unless_same id)) in
       record {
@@ -80,8 +105,9 @@ module _ (n : HeapNumbers) (size : ℕ) (new : Hold) (id : ℕ) (s t u : Seat Sp
         slots = g.slots ∙ ap (λ (z : Slots). slice_set z new.slot None) w.slots;
         fresh = g.fresh ∙ unless_fresh t.fresh _ fresh;
         grows = λ is. inl refl;
+        missed = λ is. cc;
       }
-  swings_size at from to (Ok false) to_is w none =
+  swings_size at from to old (Ok false) to_is place_is from_is all w none =
       let m = Swings-missed w refl in
       let act = Miss (place_in s.slots at) (link_in s.slots from) m.found in
       record {
@@ -92,7 +118,46 @@ module _ (n : HeapNumbers) (size : ℕ) (new : Hold) (id : ℕ) (s t u : Seat Sp
         slots = g.slots ∙ ap (λ (z : Slots). slice_set z new.slot None) w.slots;
         fresh = gone_unlinked w.slots (missed_fresh w refl);
         grows = λ is. cc;
+        missed = λ is. missed_size at from to old place_is from_is all w;
       }
+
+-- by what came of the swing
+pub grown_spent : (result : Result Bool SpentRow) (why : SpentRow) → grown_by result ≡ Spent why → result ≡ Err why
+grown_spent (Ok true) why e = cc
+grown_spent (Ok false) why e = cc
+grown_spent (Err other) why e = let same : other ≡ why = cc in ap (λ (x : SpentRow). Err x) same
+
+pub grown_node : (result : Result Bool SpentRow) → grown_by result ≡ NoNode → ⊥
+grown_node (Ok true) e = cc
+grown_node (Ok false) e = cc
+grown_node (Err why) e = cc
+
+-- a Grow in a list of events
+
+pub grow_left : (es fs : List (Event SplitNote)) → HasGrow es → HasGrow (es ++ fs)
+grow_left [] fs bad = absurd bad
+grow_left (e ∷ es) fs (inl here) = inl here
+grow_left (e ∷ es) fs (inr later) = inr (grow_left es fs later)
+
+pub grow_right : (es fs : List (Event SplitNote)) → HasGrow fs → HasGrow (es ++ fs)
+grow_right [] fs has = has
+grow_right (e ∷ es) fs has = inr (grow_right es fs has)
+
+-- what a try tells goes on, with what was seen before it and after it
+tells_after : (n : HeapNumbers) (If : Type 0) (s t u v : Seat SplitNote) (own ys : List (Event SplitNote)) (result : Rooted) → Puts s own t
+    → IsPrefix t.seen u.seen → IsPrefix u.seen v.seen → (SeesOwn s t → If × (size_of n t.seen ≡ size_of n s.seen)) → (If → GrowTells n t ys result u)
+    → GrowTells n s (own ++ ys) result v
+tells_after n If s t u v own ys Done p one two go tells = λ sees.
+    let first = puts_grow s t own p in
+    let k = own_sooner s u v (goes_on s.seen t.seen u.seen first one) two sees in
+    let (holds, same) = go (own_sooner s t u first one k) in
+    elim (tells holds (own_later s t u first one p.agent k)) [ inl grows ↦ inl (grow_right own ys grows) | inr many ↦ inr (omega (arith, many, same)) ]
+tells_after n If s t u v own ys Moved p one two go tells = λ sees.
+    let first = puts_grow s t own p in
+    let k = own_sooner s u v (goes_on s.seen t.seen u.seen first one) two sees in
+    tells (go (own_sooner s t u first one k)).0 (own_later s t u first one p.agent k)
+tells_after n If s t u v own ys NoNode p one two go tells = tt
+tells_after n If s t u v own ys (Spent why) p one two go tells = tt
 
 -- a node was given for it
 module _ (n : HeapNumbers) (size : ℕ) (s u : Seat SplitNote) (new : Hold) (g : Gives n 1 size 2 s new u) (one : IsFree s.slots 1) where
@@ -109,13 +174,25 @@ module _ (n : HeapNumbers) (size : ℕ) (s u : Seat SplitNote) (new : Hold) (g :
         node = subst (λ (a : ℕ). slice_get (heap_of n u).nodes g.id ≡ Some (node_to_link a size 2 None)) (sym g.puts.agent) g.node;
       }
 
-  pub doubles : (v : Seat SplitNote) (result : Rooted) → SwingsSize n new u result v → Doubles n s v
-  doubles v result w =
+  swing_tells : (v : Seat SplitNote) (result : Rooted) (old : Option ℕ) (own ys : List (Event SplitNote)) → (w : SwingsSize n old new u result v) → w.own ≡ ys
+      → Puts s own u → moves_in own ≡ 0 → AllAllowed (SplitMay n) [] u.seen → ShowsSize n old s → GrowTells n s (own ++ ys) result v
+  swing_tells v Done old own ys w is p none all shows = λ sees. inl (grow_right own ys (subst (λ z. HasGrow z) is (w.grows refl)))
+  swing_tells v Moved old own ys w is p none all shows = λ sees.
+      let first = puts_grow s u own p in
+      let later = puts_grow u v w.own w.puts in
+      w.missed refl (own_shows n s u own (greatest n) p all none (own_sooner s u v first later sees) ∙ shows) (own_later s u v first later p.agent sees)
+  swing_tells v NoNode old own ys w is p none all shows = tt
+  swing_tells v (Spent why) old own ys w is p none all shows = tt
+
+  pub doubles : (v : Seat SplitNote) (result : Rooted) (old : Option ℕ) → AllAllowed (SplitMay n) [] u.seen → SwingsSize n old new u result v
+      → Doubles n (ShowsSize n old s) s result v
+  doubles v result old all w =
       let ys : List (Event SplitNote) = event_of s Give None ∷ event_of s (Fill g.id 0 size) None ∷ event_of s (Fill g.id 1 2) None ∷ [] in
       let back : slice_set (slice_set s.slots 1 given) new.slot None ≡ s.slots = ap (λ (i : ℕ). slice_set (slice_set s.slots 1 given) i None) g.slot_is
       ∙ set-back s.slots 1 None given one.empty in
       record {
         own = ys ++ w.own;
+        tells = swing_tells v result old ys w.own w refl g.puts refl all;
         call = record {
           given = 1;
           at_most = omega arith;
@@ -130,10 +207,11 @@ module _ (n : HeapNumbers) (size : ℕ) (s u : Seat SplitNote) (new : Hold) (g :
         };
       }
 
--- none could be had, or there are too many buckets
-pub doubles_none : (n : HeapNumbers) (s t : Seat SplitNote) → Only [] s t → s.fresh ≡ None → Doubles n s t
-doubles_none n s t o fresh = record {
+-- none could be had
+pub doubles_none : (n : HeapNumbers) (If : Type 0) (s t : Seat SplitNote) → Only [] s t → s.fresh ≡ None → Doubles n If s NoNode t
+doubles_none n If s t o fresh = record {
   own = [];
+  tells = λ holds. tt;
   call = record {
     given = 0;
     at_most = omega arith;
@@ -141,6 +219,23 @@ doubles_none n s t o fresh = record {
     slots = o.slots;
     fresh = o.fresh ∙ fresh;
   };
+}
+
+-- or there would be too many buckets
+stands_size : (h : Heap) (to : Option ℕ) (size : ℕ) → StandsFor h to size → size_at h to ≡ size
+stands_size h None size is = sym is
+stands_size h (Some id) size node = rw (node.there, node.first_is) refl
+
+pub shows_size : (n : HeapNumbers) (s : Seat SplitNote) (to : Option ℕ) (size : ℕ) → ShowsSize n to s → StandsFor (heap_of n s) to size
+    → size_of n s.seen ≡ size
+shows_size n s to size shows stands = ap (λ (o : Option Link). size_by (heap_of n s) o) shows ∙ stands_size (heap_of n s) to size stands
+
+pub doubles_many : (n : HeapNumbers) (s : Seat SplitNote) (to : Option ℕ) (size : ℕ) → s.fresh ≡ None → StandsFor (heap_of n s) to size
+    → greatest n < 2 * size → Doubles n (ShowsSize n to s) s Done s
+doubles_many n s to size fresh stands many = record {
+  own = [];
+  call = nothing n s fresh;
+  tells = λ shows sees. inr (omega (arith, many, shows_size n s to size shows stands));
 }
 
 -- what is held stays held beside a node in slot 1
@@ -166,11 +261,31 @@ pub swing_slots : (s t : Seat SplitNote) (at : At) (from to : Want) (noted : Opt
 swing_slots s t at from to noted (Ok done) w none = w.slots
 swing_slots s t at from to noted (Err e) w none = none.slots
 
+-- the size's root shows what it showed, if the pass saw only own events, and its links have no marks
+pub still_shows : (n : HeapNumbers) (s t : Seat SplitNote) (own : List (Event SplitNote)) (link : Link) → (q : Quiet (split_reading n) s own t)
+    → SplitHolds n t.seen → ShowsOrMoved n (Root (greatest n)) link s t q.puts.part → SeesOwn s t → ShowsSize n link.to t
+still_shows n s t own link q holds (inl shows) k =
+    shows ∙ ap (λ (m : Bool). Some (record { to = link.to; mark = m })) (holds.buckets.plain_roots (greatest n) link shows)
+still_shows n s t own link q holds (inr moved) k = absurd (own_unmoved s t own q.puts q.no_move moved k)
+
+pub null_shows : (n : HeapNumbers) (s t : Seat SplitNote) (seen : Seen) → Looks (Root (greatest n)) 2 s (Stable seen None) t → SplitHolds n t.seen
+    → AllAllowed (SplitMay n) [] t.seen → SeesOwn s t → ShowsSize n None t
+null_shows n s t seen looks holds all k =
+    let (null, slots, puts) = looks.tells in
+    let link : Link = record { to = None; mark = seen.mark } in
+    let e : Event SplitNote = event_of s (Look (Root (greatest n)) link) None in
+    elim (look_found n (SplitMay n) (may_fits n) s t (Root (greatest n)) link None [] [] puts all tt) [
+      | inl shows ↦ shows ∙ ap (λ (m : Bool). Some (record { to = None; mark = m })) (holds.buckets.plain_roots (greatest n) link shows)
+      | inr moved ↦ absurd (own_unmoved s t (e ∷ []) puts refl moved k)
+    ]
+
 -- after loads
-pub doubles_after : (n : HeapNumbers) (s t u : Seat SplitNote) (own : List (Event SplitNote)) → Quiet (split_reading n) s own t → t.slots ≡ s.slots
-    → Doubles n t u → Doubles n s u
-doubles_after n s t u own q same k = record {
+pub doubles_after : (n : HeapNumbers) (If : Type 0) (s t u : Seat SplitNote) (own : List (Event SplitNote)) (result : Rooted) → Quiet (split_reading n) s own t
+    → t.slots ≡ s.slots → (SeesOwn s t → If) → Doubles n If t result u → Doubles n (Unit {0}) s result u
+doubles_after n If s t u own result q same go k = record {
   own = own ++ k.own;
+  tells = λ unit. tells_after n If s t u u own k.own result q.puts (puts_grow t u k.own k.call.made.puts) ([], append-nil u.seen)
+      (λ sees. (go sees, own_size n s t own q sees)) k.tells;
   call = record {
     given = k.call.given;
     at_most = k.call.at_most;
@@ -181,9 +296,12 @@ doubles_after n s t u own q same k = record {
 }
 
 -- after a read of a value
-pub doubles_read : (n : HeapNumbers) (s t u : Seat SplitNote) → Only [] s t → Doubles n t u → Doubles n s u
-doubles_read n s t u o k = record {
+pub doubles_read : (n : HeapNumbers) (If Then : Type 0) (s t u : Seat SplitNote) (result : Rooted) → Only [] s t → (Then → t.seen ≡ s.seen → If)
+    → Doubles n If t result u → Doubles n Then s result u
+doubles_read n If Then s t u result o go k = record {
   own = k.own;
+  tells = λ holds. tells_after n If s t u u [] k.own result o.puts (puts_grow t u k.own k.call.made.puts) ([], append-nil u.seen)
+      (λ sees. let same = own_seen s t [] o.puts sees ∙ append-nil s.seen in (go holds same, ap (λ z. size_of n z) same)) k.tells;
   call = record {
     given = k.call.given;
     at_most = k.call.at_most;
@@ -194,13 +312,16 @@ doubles_read n s t u o k = record {
 }
 
 -- the old size node is let go
-pub doubles_held : (n : HeapNumbers) (h : Hold) (s t u : Seat SplitNote) (k : SizeHeld n h s t) → DoublesAndGoes n h t u → Doubles n s u
-doubles_held n h s t u k d =
+pub doubles_held : (n : HeapNumbers) (If : Type 0) (h : Hold) (s t u : Seat SplitNote) (result : Rooted) (k : SizeHeld n h s t) → (SeesOwn s t → If)
+    → DoublesAndGoes n If h t result u → Doubles n (Unit {0}) s result u
+doubles_held n If h s t u result k go d =
     let m = made_after (split_reading n) d.doubles.call.given s t d.mid k.own d.doubles.own [] k.quiet d.doubles.call.made.puts d.doubles.call.made.entries_are
     d.doubles.call.made.gives in
     let hands = subst (λ (z : Slots). Hands s.slots z (hand (Some h) k.id ∷ [])) (sym d.doubles.call.slots) k.hands in
     record {
       own = k.own ++ d.doubles.own;
+      tells = λ unit. tells_after n If s t d.mid u k.own d.doubles.own result k.quiet.puts (puts_grow t d.mid d.doubles.own d.doubles.call.made.puts)
+          (puts_grow d.mid u [] d.gone.puts) (λ sees. (go sees, own_size n s t k.own k.quiet sees)) d.doubles.tells;
       call = record {
         given = d.doubles.call.given;
         at_most = d.doubles.call.at_most;
@@ -211,9 +332,10 @@ doubles_held n h s t u k d =
     }
 
 -- a link moved meanwhile
-pub doubles_moved : (n : HeapNumbers) (s t : Seat SplitNote) → FindsMoved (split_reading n) s t → s.fresh ≡ None → Doubles n s t
+pub doubles_moved : (n : HeapNumbers) (s t : Seat SplitNote) → FindsMoved (split_reading n) s t → s.fresh ≡ None → Doubles n (Unit {0}) s Moved t
 doubles_moved n s t f fresh = record {
   own = f.own;
+  tells = λ unit sees. own_not_moved n s t f sees;
   call = record {
     given = 0;
     at_most = omega arith;
@@ -223,8 +345,8 @@ doubles_moved n s t f fresh = record {
   };
 }
 
-pub doubles_idle : (n : HeapNumbers) (s t : Seat SplitNote) → Doubles n s t → IsIdle s → IsIdle t
-doubles_idle n s t k idle = record { slots = k.call.slots ∙ idle.slots; fresh = k.call.fresh }
+pub doubles_idle : (n : HeapNumbers) (If : Type 0) (s t : Seat SplitNote) (result : Rooted) → Doubles n If s result t → IsIdle s → IsIdle t
+doubles_idle n If s t result k idle = record { slots = k.call.slots ∙ idle.slots; fresh = k.call.fresh }
 
 -- a size node that is held tells its size
 pub holds_size : (n : HeapNumbers) (h : Hold) (value : ℕ) (t u : Seat SplitNote) (k : HoldsSize n h t) → Only [] t u → AllAllowed (SplitMay n) [] u.seen
@@ -247,22 +369,29 @@ pub again_uncrowded : (turn : InsertTurn) → answer_by turn ≡ Err Again → I
 again_uncrowded Over e k = k
 again_uncrowded (Answered false passed) e k = k
 again_uncrowded (Answered true passed) e k = cc
-again_uncrowded NoNode e k = k
-again_uncrowded (Spent why) e k = k
+again_uncrowded TurnNoNode e k = k
+again_uncrowded (TurnSpent why) e k = k
 
 -- how the turns of an insert ended that was refused so
-pub turn_lacks : (turn : InsertTurn) → answer_by turn ≡ Err RefusedNoNode → turn ≡ NoNode
+pub turn_lacks : (turn : InsertTurn) → answer_by turn ≡ Err RefusedNoNode → turn ≡ TurnNoNode
 turn_lacks Over e = cc
 turn_lacks (Answered answer passed) e = cc
-turn_lacks NoNode e = refl
-turn_lacks (Spent why) e = cc
+turn_lacks TurnNoNode e = refl
+turn_lacks (TurnSpent why) e = cc
 
-pub turn_worn : (turn : InsertTurn) (why : SpentRow) → answer_by turn ≡ Err (RefusedSpent why) → turn ≡ Spent why
+pub turn_worn : (turn : InsertTurn) (why : SpentRow) → answer_by turn ≡ Err (RefusedSpent why) → turn ≡ TurnSpent why
 turn_worn Over why e = cc
 turn_worn (Answered answer passed) why e = cc
-turn_worn NoNode why e = cc
-turn_worn (Spent other) why e = ap (λ (x : SpentRow). Spent x) (spent_same other why e)
+turn_worn TurnNoNode why e = cc
+turn_worn (TurnSpent other) why e = ap (λ (x : SpentRow). TurnSpent x) (spent_same other why e)
 
 -- no try followed
-pub grows_none : (n : HeapNumbers) (turn : InsertTurn) (s : Seat SplitNote) → s.fresh ≡ None → GrowsAfter n turn s s
-grows_none n turn s fresh = record { doubles = record { own = []; call = nothing n s fresh }; none = λ not. refl }
+pub grows_none : (n : HeapNumbers) (turn : InsertTurn) (s : Seat SplitNote) → (IsCrowded turn → ⊥) → s.fresh ≡ None → GrowsAfter n turn s Done s
+grows_none n turn s not fresh =
+    record { doubles = record { own = []; call = nothing n s fresh; tells = λ crowded. absurd (not crowded) }; none = λ is. refl }
+
+-- or one did
+pub grows_one : (n : HeapNumbers) (turn : InsertTurn) (s t : Seat SplitNote) (result : Rooted) → IsCrowded turn → Doubles n (Unit {0}) s result t
+    → GrowsAfter n turn s result t
+grows_one n turn s t result crowded k =
+    record { doubles = record { own = k.own; call = k.call; tells = λ is. k.tells tt }; none = λ not. absurd (not crowded) }

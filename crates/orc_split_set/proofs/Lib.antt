@@ -11,3 +11,6 @@ pub mod Rooting
 pub mod Preparing
 pub mod Calling
 pub mod Growing
+pub mod Counting
+pub mod Crowding
+pub mod Crowded

@@ -109,8 +109,8 @@ pub record SizeHeld (n : HeapNumbers) (h : Hold) (s t : Seat SplitNote) : Type 0
   pub quiet : Quiet (split_reading n) s own t
   few : length own ≤ 2
   was : (size_of n s.seen ≤ size) × (size ≤ size_of n t.seen)
-  mark : Bool
-  shows : ShowsOrMoved n (Root (greatest n)) (record { to = Some id; mark = mark }) s t quiet.puts.part
+  pub mark : Bool
+  pub shows : ShowsOrMoved n (Root (greatest n)) (record { to = Some id; mark = mark }) s t quiet.puts.part
 
 pub size_held : (n : HeapNumbers) (seen : Seen) (h : Hold) (s t : Seat SplitNote) → SplitHolds n s.seen → AllAllowed (SplitMay n) [] t.seen → HasRoom s.slots
     → 1 ≤ greatest n → Looks (Root (greatest n)) 2 s (Stable seen (Some h)) t → SizeHeld n h s t

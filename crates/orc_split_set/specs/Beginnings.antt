@@ -1,12 +1,15 @@
 -- Where a search for a node begins: at the dummy of the nearest bucket that has one.
 use Rattle.std.specs.Prelude.{List, None, Option, Some, ℕ, ◌≡◌, ◌≤◌}
 use Rattle.orc_heap.specs.Heap.{HeapNumbers}
-use Rattle.orc_heap.specs.Seats.{Seat}
+use Rattle.orc_heap.specs.Seats.{Seat, heap_of}
 use Rattle.orc_heap.specs.declared.events.Event.{Event}
 use Rattle.orc_heap.specs.declared.events.Place.{Place}
 use Rattle.orc_ordered_search.specs.Searches.{FindsMoved, Quiet}
+use Rattle.orc_split_rule.specs.SplitDiscipline.{size_of}
+use Rattle.orc_split_rule.specs.SplitOrder.{bucket_of}
 use Rattle.orc_split_rule.specs.declared.split.SplitNote.{SplitNote}
-use Rattle.orc_split_set.specs.NewNodes.{place_for}
+use Rattle.orc_split_set.specs.Crowds.{BeginsBy, SeesOwn}
+use Rattle.orc_split_set.specs.NewNodes.{place_for, value_of}
 use Rattle.orc_split_set.specs.SplitSearches.{BeginsAt, split_reading}
 use Rattle.orc_split_set.specs.declared.begin.Begun.{Begun}
 use Rattle.orc_split_set.specs.declared.begin.Begun.TheVariants.{From, Moved}
@@ -28,19 +31,29 @@ pub record Held (n : HeapNumbers) (s t : Seat SplitNote) : Type 0 where
   pub quiet : Quiet (split_reading n) s own t
   pub slots : t.slots ≡ s.slots
 
--- after loads a search for the node begins, with what it begins at in hand
-pub record BeginsFrom (n : HeapNumbers) (new : NewNode) (s t : Seat SplitNote) (Begins : Place → Type 0) : Type 0 where
+-- after loads a search for the node begins, with what it begins at in hand, and this is so of where it begins
+pub record BeginsFrom (n : HeapNumbers) (new : NewNode) (s t : Seat SplitNote) (Begins Near : Place → Type 0) : Type 0 where
   pub own : List (Event SplitNote)
   pub quiet : Quiet (split_reading n) s own (seat_before s t)
   pub start : Place
   pub begins : Begins start
+  pub near : Near start
 
 -- a search for a node begins, or a link moved meanwhile
-abbrev pub BeginsNear : HeapNumbers → NewNode → Seat SplitNote → Begun → Seat SplitNote → Type 0
-BeginsNear n new s Moved t = FindsMoved (split_reading n) s t
-BeginsNear n new s (From left) t = BeginsFrom n new s t (λ start. BeginsAt n start (place_for new) left (seat_before s t) t)
+abbrev pub BeginsNear : HeapNumbers → NewNode → (Place → Type 0) → Seat SplitNote → Begun → Seat SplitNote → Type 0
+BeginsNear n new Near s Moved t = FindsMoved (split_reading n) s t
+BeginsNear n new Near s (From left) t = BeginsFrom n new s t (λ start. BeginsAt n start (place_for new) left (seat_before s t) t) Near
+
+-- it begins by the bucket of the node, where there are so many buckets
+abbrev pub BeginsWith : HeapNumbers → NewNode → ℕ → Seat SplitNote → Begun → Seat SplitNote → Type 0
+BeginsWith n new size s begun t = BeginsNear n new (λ start. BeginsBy (heap_of n t) start (bucket_of (value_of new) size)) s begun t
 
 -- it begins, or is looked for at fewer buckets
-abbrev pub GoesNear : HeapNumbers → NewNode → Seat SplitNote → Option Begun → Seat SplitNote → Type 0
-GoesNear n new s None t = Held n s t
-GoesNear n new s (Some begun) t = BeginsNear n new s begun t
+abbrev pub GoesNear : HeapNumbers → NewNode → ℕ → Seat SplitNote → Option Begun → Seat SplitNote → Type 0
+GoesNear n new size s None t = Held n s t
+GoesNear n new size s (Some begun) t = BeginsWith n new size s begun t
+
+-- a search for a key begins by the key's bucket, if the pass saw only own events
+abbrev pub BeginsKey : HeapNumbers → ℕ → Seat SplitNote → Begun → Seat SplitNote → Type 0
+BeginsKey n key s begun t =
+    BeginsNear n (Key key) (λ start. SeesOwn s t → BeginsBy (heap_of n t) start (bucket_of key (size_of n s.seen))) s begun t

@@ -1,27 +1,30 @@
 -- What a try to double the number of buckets comes to. After Shalev and Shavit 2006.
-use Rattle.std.specs.Prelude.{Bool, Err, List, None, Ok, Result, Some, [], false, slice_get, slice_set, true, ℕ, ◌<◌, ◌∷◌, ◌≡◌, ◌⊎◌}
+use Rattle.std.specs.Prelude.{Bool, Err, List, None, Ok, Option, Result, Some, [], false, slice_get, slice_set, true, ℕ, ◌*◌, ◌<◌, ◌∷◌, ◌≡◌, ◌⊎◌}
 use Rattle.orc_fault.specs.declared.Spent.{Spent as SpentRow}
 use Rattle.orc_heap.specs.Hands.{HoldsId}
-use Rattle.orc_heap.specs.Heap.{HeapNumbers}
+use Rattle.orc_heap.specs.Heap.{HeapNumbers, shown}
 use Rattle.orc_heap.specs.Journals.{noted_entries}
 use Rattle.orc_heap.specs.Moves.{gives_in}
 use Rattle.orc_heap.specs.OwnEvents.{Puts}
 use Rattle.orc_heap.specs.Seats.{Seat, heap_of}
 use Rattle.orc_heap.specs.Slots.{Hold}
 use Rattle.orc_heap.specs.declared.events.Event.{Event}
+use Rattle.orc_heap.specs.declared.events.Place.TheVariants.{Root}
+use Rattle.orc_ordered_chains.specs.Chains.{link_over}
 use Rattle.orc_ordered_search.specs.Inserts.{InsertCall}
 use Rattle.orc_history.specs.declared.set.ListRefused.{ListRefused}
 use Rattle.orc_history.specs.declared.set.ListRefused.TheVariants.{Again, NoNode as RefusedNoNode, Spent as RefusedSpent}
 use Rattle.orc_ordered_search.specs.Searches.{LetsGo}
 use Rattle.orc_ordered_search.specs.declared.turn.InsertTurn.{InsertTurn}
-use Rattle.orc_ordered_search.specs.declared.turn.InsertTurn.TheVariants.{Answered, NoNode, Over, Spent as TurnSpent}
-use Rattle.orc_split_rule.specs.SplitDiscipline.{IsSize, IsSizeNode, greatest}
+use Rattle.orc_ordered_search.specs.declared.turn.InsertTurn.TheVariants.{Answered, NoNode as TurnNoNode, Over, Spent as TurnSpent}
+use Rattle.orc_split_rule.specs.SplitDiscipline.{IsSize, IsSizeNode, greatest, size_of}
 use Rattle.orc_split_rule.specs.Watches.{node_to_link}
 use Rattle.orc_split_rule.specs.declared.split.SplitNote.{SplitNote}
 use Rattle.orc_split_rule.specs.declared.split.SplitNote.TheVariants.{Grow}
+use Rattle.orc_split_set.specs.Crowds.{SeesOwn}
 use Rattle.orc_split_set.specs.SplitSearches.{split_reading}
 use Rattle.orc_split_set.specs.declared.bucket.Rooted.{Rooted}
-use Rattle.orc_split_set.specs.declared.bucket.Rooted.TheVariants.{Done, Moved, Spent}
+use Rattle.orc_split_set.specs.declared.bucket.Rooted.TheVariants.{Done, Moved, NoNode, Spent}
 
 -- one of the events is a Grow
 abbrev pub HasGrow : List (Event SplitNote) → Type 0
@@ -40,8 +43,12 @@ pub record HasSizeNode (n : HeapNumbers) (size : ℕ) (new : Hold) (id : ℕ) (s
   pub fresh : s.fresh ≡ Some id
   pub node : slice_get (heap_of n s).nodes id ≡ Some (node_to_link s.agent size 2 None)
 
--- the size's root was swung to it, if it was as it had been, and the node was let go
-pub record SwingsSize (n : HeapNumbers) (new : Hold) (s : Seat SplitNote) (result : Rooted) (t : Seat SplitNote) : Type 0 where
+-- the size's root shows an unmarked link to this target
+abbrev pub ShowsSize : HeapNumbers → Option ℕ → Seat SplitNote → Type 0
+ShowsSize n to s = shown (heap_of n s) (Root (greatest n)) ≡ Some (link_over to)
+
+-- the size's root was swung to it, if it was as it had been, with this target, and the node was let go
+pub record SwingsSize (n : HeapNumbers) (to : Option ℕ) (new : Hold) (s : Seat SplitNote) (result : Rooted) (t : Seat SplitNote) : Type 0 where
   pub own : List (Event SplitNote)
   pub puts : Puts s own t
   pub no_entries : noted_entries (split_reading n).entries_in own ≡ []
@@ -49,16 +56,26 @@ pub record SwingsSize (n : HeapNumbers) (new : Hold) (s : Seat SplitNote) (resul
   pub slots : t.slots ≡ slice_set s.slots new.slot None
   pub fresh : t.fresh ≡ None
   pub grows : result ≡ Done → HasGrow own
+  pub missed : result ≡ Moved → ShowsSize n to s → SeesOwn s t → ⊥
 
--- a try to double: one node at the most was given, nothing was entered, and the pass holds what it held
-pub record Doubles (n : HeapNumbers) (s t : Seat SplitNote) : Type 0 where
+-- what came of a try to double whose pass saw only own events: the number of buckets is doubled, or there would be too many; or no node
+-- could be had, or a row was worn
+abbrev pub GrowTells : HeapNumbers → Seat SplitNote → List (Event SplitNote) → Rooted → Seat SplitNote → Type 0
+GrowTells n s own Done t = SeesOwn s t → HasGrow own ⊎ (greatest n < 2 * size_of n s.seen)
+GrowTells n s own Moved t = SeesOwn s t → ⊥
+GrowTells n s own NoNode t = Unit {0}
+GrowTells n s own (Spent why) t = Unit {0}
+
+-- a try to double: one node at the most was given, nothing was entered, and the pass holds what it held. What came of it is so if this was
+pub record Doubles (n : HeapNumbers) (If : Type 0) (s : Seat SplitNote) (result : Rooted) (t : Seat SplitNote) : Type 0 where
   pub own : List (Event SplitNote)
   pub call : InsertCall (split_reading n) s own [] t
+  pub tells : If → GrowTells n s own result t
 
 -- the same, and then the old size node was let go
-pub record DoublesAndGoes (n : HeapNumbers) (old : Hold) (s t : Seat SplitNote) : Type 0 where
+pub record DoublesAndGoes (n : HeapNumbers) (If : Type 0) (old : Hold) (s : Seat SplitNote) (result : Rooted) (t : Seat SplitNote) : Type 0 where
   pub mid : Seat SplitNote
-  pub doubles : Doubles n s mid
+  pub doubles : Doubles n If s result mid
   pub gone : LetsGo (Some old) mid t
 
 -- the pass holds a size node of this size
@@ -73,7 +90,7 @@ pub record HoldsSize (n : HeapNumbers) (old : Hold) (s : Seat SplitNote) : Type 
 abbrev pub answer_by : InsertTurn → Result Bool ListRefused
 answer_by Over = Err Again
 answer_by (Answered answer passed) = Ok answer
-answer_by NoNode = Err RefusedNoNode
+answer_by TurnNoNode = Err RefusedNoNode
 answer_by (TurnSpent why) = Err (RefusedSpent why)
 
 -- such an insert added its key, and went past more than 8 others
@@ -81,10 +98,10 @@ abbrev pub IsCrowded : InsertTurn → Type 0
 IsCrowded Over = ⊥
 IsCrowded (Answered false passed) = ⊥
 IsCrowded (Answered true passed) = 8 < passed
-IsCrowded NoNode = ⊥
+IsCrowded TurnNoNode = ⊥
 IsCrowded (TurnSpent why) = ⊥
 
 -- what follows the turns: a try to double, if the bucket was crowded
-pub record GrowsAfter (n : HeapNumbers) (turn : InsertTurn) (s t : Seat SplitNote) : Type 0 where
-  pub doubles : Doubles n s t
+pub record GrowsAfter (n : HeapNumbers) (turn : InsertTurn) (s : Seat SplitNote) (result : Rooted) (t : Seat SplitNote) : Type 0 where
+  pub doubles : Doubles n (IsCrowded turn) s result t
   pub none : (IsCrowded turn → ⊥) → doubles.own ≡ []

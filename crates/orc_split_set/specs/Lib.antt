@@ -1,5 +1,6 @@
 pub mod SplitSearches
 pub mod NewNodes
+pub mod Crowds
 pub mod Beginnings
 pub mod Rootings
 pub mod Growths

@@ -1,6 +1,6 @@
 -- What the members of `SharedSet` and `LearnSet` mean for a split-ordered set, and what the contracts of its calls say of a pass of its
 -- domain of links before a call, `old`, and after it, `new`.
-use Rattle.std.specs.Prelude.{List, [], drop, length, take, ℕ, ◌≤◌, ◌⊎◌}
+use Rattle.std.specs.Prelude.{List, [], drop, length, take, ℕ, ◌<◌, ◌≤◌, ◌⊎◌}
 use Rattle.orc_fault.specs.declared.Spent.{Spent}
 use Rattle.orc_heap.specs.Domains.{Enters as EntersHistory, InCall, IsCallAlone, agent, heap, own_events}
 use Rattle.orc_heap.specs.Moves.{gives_in}
@@ -15,6 +15,8 @@ use Rattle.orc_ordered_search.specs.Causes.{Cause, UsesTurns, WithinPart}
 use Rattle.orc_split_rule.specs.SplitDiscipline.{IsSize, entries_in, entries_of, greatest, size_of}
 use Rattle.orc_split_rule.specs.SplitOrder.{bucket_of}
 use Rattle.orc_split_rule.specs.declared.split.SplitNote.{SplitNote}
+use Rattle.orc_split_set.specs.Crowds.{keys_before}
+use Rattle.orc_split_set.specs.Growths.{HasGrow}
 use Rattle.orc_split_set.specs.Rootings.{IsSet}
 
 module _ {L D P S : Type 0} (members : LinksOf L D P S SplitNote) (links : L) where
@@ -78,3 +80,15 @@ module _ {L D P S : Type 0} (members : LinksOf L D P S SplitNote) (links : L) wh
   abbrev pub RootsBucket : ℕ → P → P → Type 0
   RootsBucket key old new = IsCallAlone members links old new → 1 ≤ bucket_before key old new
       → IsSet (heap members links new) (bucket_before key old new) ⊎ (LacksRow old new ⊎ ((why : Spent) × FindsWorn why old new))
+
+  -- the events of the call's part
+  abbrev pub events_within : P → P → List (Event SplitNote)
+  events_within old new = drop (length (events_before old new)) (members.events links (members.journal new))
+
+  -- where no other agent has a step in the call's part, more than 8 keys of the set before it stood in split order between the start of the
+  -- key's bucket and the key, and there were fewer buckets than there may be: the part has a Grow, or no row could be given to the call's
+  -- agent, or a row was worn
+  abbrev pub GrowsCrowded : ℕ → P → P → Type 0
+  GrowsCrowded key old new = IsCallAlone members links old new → 8 < length (keys_before (members.numbers links) key (events_before old new))
+      → size_of (members.numbers links) (events_before old new) < greatest (members.numbers links)
+      → HasGrow (events_within old new) ⊎ (LacksRow old new ⊎ ((why : Spent) × FindsWorn why old new))

@@ -7,9 +7,8 @@ ghost use Rattle.orc_heap.specs.declared.events.Event.{Event};
 ghost use Rattle.orc_ordered_search.specs.Searches.{HasRoom, Quiet};
 ghost use Rattle.orc_split_rule.specs.SplitDiscipline.{IsSize, greatest};
 ghost use Rattle.orc_split_rule.specs.declared.split.SplitNote.{SplitNote};
-ghost use Rattle.orc_split_set.specs.Beginnings.{BeginsNear, GoesNear, MayBegin};
+ghost use Rattle.orc_split_set.specs.Beginnings.{BeginsKey, BeginsWith, GoesNear, MayBegin};
 ghost use Rattle.orc_split_set.specs.SplitSearches.{split_reading};
-ghost use Rattle.orc_split_set.specs.declared.node.NewNode.{NewNode};
 
 use crate::node::NewNode;
 use crate::size::read_size;
@@ -38,7 +37,7 @@ fn begin_at<L: Links<Rule = Split>>(
     ensures pass { L.belongs links.now p.new }
     ensures later { IsPrefix (L.journal p.old) (L.journal p.new) }
     ensures begun { (s : Seat SplitNote) (own : List (Event SplitNote)) → Quiet (split_reading (L.numbers links.now)) s own (L.seat links.now p.old)
-        → (L.seat links.now p.old).slots ≡ s.slots → GoesNear (L.numbers links.now) new s result (L.seat links.now p.new) }
+        → (L.seat links.now p.old).slots ≡ s.slots → GoesNear (L.numbers links.now) new size s result (L.seat links.now p.new) }
     ensures held { result ≡ None → (L.seat links.now p.new).slots ≡ (L.seat links.now p.old).slots }
 {
     let bucket = (new.value() % u64::from(size)) as u32;
@@ -67,7 +66,7 @@ pub(crate) fn begin_near<L: Links<Rule = Split>>(
     ensures pass { L.belongs links.now p.new }
     ensures later { IsPrefix (L.journal p.old) (L.journal p.new) }
     ensures begun { (s : Seat SplitNote) (own : List (Event SplitNote)) → Quiet (split_reading (L.numbers links.now)) s own (L.seat links.now p.old)
-        → (L.seat links.now p.old).slots ≡ s.slots → BeginsNear (L.numbers links.now) new s result (L.seat links.now p.new) }
+        → (L.seat links.now p.old).slots ≡ s.slots → BeginsWith (L.numbers links.now) new size s result (L.seat links.now p.new) }
 {
     let mut size = size;
     while size > 1 {
@@ -91,7 +90,7 @@ pub(crate) fn begin<L: Links<Rule = Split>>(
     requires room { HasRoom (L.seat links.now p.old).slots }
     ensures pass { L.belongs links.now p.new }
     ensures later { IsPrefix (L.journal p.old) (L.journal p.new) }
-    ensures begun { BeginsNear (L.numbers links.now) (NewNode.Key key) (L.seat links.now p.old) result (L.seat links.now p.new) }
+    ensures begun { BeginsKey (L.numbers links.now) key (L.seat links.now p.old) result (L.seat links.now p.new) }
 {
     match read_size(links, p, most) {
         Some(size) => begin_near(links, p, NewNode::Key(key), size),

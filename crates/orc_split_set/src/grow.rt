@@ -1,13 +1,17 @@
 //! Doubling the number of buckets.
 
-ghost use Rattle.std.specs.Prelude.{◌≡◌, ◌*◌, ◌≤◌, ◌↔◌, ℕ, None, true};
+ghost use Rattle.std.specs.Prelude.{◌≡◌, ◌≢◌, ◌*◌, ◌≤◌, ◌↔◌, ℕ, None, Some, length, true};
 ghost use mathlib.Core.List.{IsPrefix};
+ghost use Rattle.orc_fault.specs.declared.Spent.{Spent};
 ghost use Rattle.orc_heap.specs.Seats.{IsIdle, heap_of};
-ghost use Rattle.orc_heap.specs.Slots.{IsFree};
+ghost use Rattle.orc_heap.specs.Slots.{IsFree, id_in};
+ghost use Rattle.orc_history.specs.Journals.{Within};
+ghost use Rattle.orc_ordered_search.specs.Causes.{WithinPart};
 ghost use Rattle.orc_ordered_search.specs.Searches.{HoldsIfAny, target_at};
 ghost use Rattle.orc_split_rule.specs.SplitDiscipline.{greatest};
 ghost use Rattle.orc_split_rule.specs.Watches.{StandsFor};
-ghost use Rattle.orc_split_set.specs.Growths.{Doubles, DoublesAndGoes, GrowsAfter, HasSizeNode, HoldsSize, IsCrowded, SwingsSize, grown_by};
+ghost use Rattle.orc_split_set.specs.declared.bucket.Rooted.{Rooted};
+ghost use Rattle.orc_split_set.specs.Growths.{Doubles, DoublesAndGoes, GrowsAfter, HasSizeNode, HoldsSize, IsCrowded, ShowsSize, SwingsSize, grown_by};
 
 use crate::bucket::Rooted;
 use crate::spot::{let_go, link_to};
@@ -43,7 +47,11 @@ fn swing_size<L: Links<Rule = Split>>(
     requires new { (id : ℕ) × HasSizeNode (L.numbers links.now) (2 * size) new id (L.seat links.now p.old) }
     ensures pass { L.belongs links.now p.new }
     ensures later { IsPrefix (L.journal p.old) (L.journal p.new) }
-    ensures swung { SwingsSize (L.numbers links.now) new (L.seat links.now p.old) result (L.seat links.now p.new) }
+    ensures swung { SwingsSize (L.numbers links.now) (target_at (L.seat links.now p.old).slots old.now) new (L.seat links.now p.old) result
+        (L.seat links.now p.new) }
+    ensures some { result ≢ Rooted.NoNode }
+    ensures worn { (why : Spent) → result ≡ Rooted.Spent why → Within (length (L.journal p.old)) (length (L.journal p.new))
+        (L.worn links.now (L.seat links.now p.old).agent why (L.journal p.new)) }
 {
     let swung = links.swing(
         p,
@@ -72,7 +80,12 @@ fn double<L: Links<Rule = Split>>(
     requires fresh { (L.seat links.now p.old).fresh ≡ None }
     ensures pass { L.belongs links.now p.new }
     ensures later { IsPrefix (L.journal p.old) (L.journal p.new) }
-    ensures doubled { Doubles (L.numbers links.now) (L.seat links.now p.old) (L.seat links.now p.new) }
+    ensures doubled { Doubles (L.numbers links.now) (ShowsSize (L.numbers links.now) (target_at (L.seat links.now p.old).slots old.now)
+        (L.seat links.now p.old)) (L.seat links.now p.old) result (L.seat links.now p.new) }
+    ensures lacking { result ≡ Rooted.NoNode → Within (length (L.journal p.old)) (length (L.journal p.new))
+        (L.lacking links.now (L.seat links.now p.old).agent (L.journal p.new)) }
+    ensures worn { (why : Spent) → result ≡ Rooted.Spent why → Within (length (L.journal p.old)) (length (L.journal p.new))
+        (L.worn links.now (L.seat links.now p.old).agent why (L.journal p.new)) }
 {
     match links.give(p, 1, u64::from(size) * 2, 2) {
         Ok(new) => swing_size(links, p, most, size, old, new),
@@ -96,7 +109,12 @@ fn double_below<L: Links<Rule = Split>>(
     requires fresh { (L.seat links.now p.old).fresh ≡ None }
     ensures pass { L.belongs links.now p.new }
     ensures later { IsPrefix (L.journal p.old) (L.journal p.new) }
-    ensures doubled { Doubles (L.numbers links.now) (L.seat links.now p.old) (L.seat links.now p.new) }
+    ensures doubled { Doubles (L.numbers links.now) (ShowsSize (L.numbers links.now) (target_at (L.seat links.now p.old).slots old.now)
+        (L.seat links.now p.old)) (L.seat links.now p.old) result (L.seat links.now p.new) }
+    ensures lacking { result ≡ Rooted.NoNode → Within (length (L.journal p.old)) (length (L.journal p.new))
+        (L.lacking links.now (L.seat links.now p.old).agent (L.journal p.new)) }
+    ensures worn { (why : Spent) → result ≡ Rooted.Spent why → Within (length (L.journal p.old)) (length (L.journal p.new))
+        (L.worn links.now (L.seat links.now p.old).agent why (L.journal p.new)) }
 {
     if size <= most / 2 {
         return double(links, p, most, size, old);
@@ -113,7 +131,12 @@ fn double_held<L: Links<Rule = Split>>(links: &L, p: &mut L::Pass, most: u32, no
     requires fresh { (L.seat links.now p.old).fresh ≡ None }
     ensures pass { L.belongs links.now p.new }
     ensures later { IsPrefix (L.journal p.old) (L.journal p.new) }
-    ensures doubled { DoublesAndGoes (L.numbers links.now) node (L.seat links.now p.old) (L.seat links.now p.new) }
+    ensures doubled { DoublesAndGoes (L.numbers links.now) (ShowsSize (L.numbers links.now) (Some (id_in (L.seat links.now p.old).slots node))
+        (L.seat links.now p.old)) node (L.seat links.now p.old) result (L.seat links.now p.new) }
+    ensures lacking { result ≡ Rooted.NoNode → Within (length (L.journal p.old)) (length (L.journal p.new))
+        (L.lacking links.now (L.seat links.now p.old).agent (L.journal p.new)) }
+    ensures worn { (why : Spent) → result ≡ Rooted.Spent why → Within (length (L.journal p.old)) (length (L.journal p.new))
+        (L.worn links.now (L.seat links.now p.old).agent why (L.journal p.new)) }
 {
     let size = links.value(p, &node, 0) as u32;
     let old = Some(node);
@@ -130,7 +153,12 @@ fn grow<L: Links<Rule = Split>>(links: &L, p: &mut L::Pass, most: u32) -> Rooted
     ensures pass { L.belongs links.now p.new }
     ensures later { IsPrefix (L.journal p.old) (L.journal p.new) }
     ensures idle { IsIdle (L.seat links.now p.new) }
-    ensures doubled { Doubles (L.numbers links.now) (L.seat links.now p.old) (L.seat links.now p.new) }
+    ensures doubled { Doubles (L.numbers links.now) (Unit {0}) (L.seat links.now p.old) result (L.seat links.now p.new) }
+    ensures lacking { result ≡ Rooted.NoNode → WithinPart L.agent_of (L.seat links.now p.old).agent (L.journal p.old) (L.journal p.new)
+        (L.lacking links.now (L.seat links.now p.old).agent (L.journal p.new)) }
+    ensures worn { (why : Spent) → result ≡ Rooted.Spent why
+        → WithinPart L.agent_of (L.seat links.now p.old).agent (L.journal p.old) (L.journal p.new) (L.worn links.now (L.seat links.now p.old).agent why
+        (L.journal p.new)) }
 {
     match links.look(p, &At::Root(most), 2) {
         Looked::Stable(_, Some(node)) => double_held(links, p, most, node),
@@ -155,17 +183,22 @@ pub(crate) fn grow_after<L: Links<Rule = Split>>(
     p: &mut L::Pass,
     most: u32,
     turn: InsertTurn,
-)
+) -> Rooted
     requires pass { L.belongs links.now p.old }
     requires most { (most ≡ greatest (L.numbers links.now)) × (1 ≤ most) }
     requires idle { IsIdle (L.seat links.now p.old) }
     ensures pass { L.belongs links.now p.new }
     ensures later { IsPrefix (L.journal p.old) (L.journal p.new) }
     ensures idle { IsIdle (L.seat links.now p.new) }
-    ensures grown { GrowsAfter (L.numbers links.now) turn (L.seat links.now p.old) (L.seat links.now p.new) }
+    ensures grown { GrowsAfter (L.numbers links.now) turn (L.seat links.now p.old) result (L.seat links.now p.new) }
+    ensures lacking { result ≡ Rooted.NoNode → WithinPart L.agent_of (L.seat links.now p.old).agent (L.journal p.old) (L.journal p.new)
+        (L.lacking links.now (L.seat links.now p.old).agent (L.journal p.new)) }
+    ensures worn { (why : Spent) → result ≡ Rooted.Spent why
+        → WithinPart L.agent_of (L.seat links.now p.old).agent (L.journal p.old) (L.journal p.new) (L.worn links.now (L.seat links.now p.old).agent why
+        (L.journal p.new)) }
 {
     if is_crowded(turn) {
-        let _grown = grow(links, p, most);
-        return;
+        return grow(links, p, most);
     }
+    Rooted::Done
 }

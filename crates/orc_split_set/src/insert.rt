@@ -1,6 +1,6 @@
 //! Adding a key: a new node is aimed at the right node and linked at the left place, past the marked nodes between.
 
-ghost use Rattle.std.specs.Prelude.{◌≡◌, ◌≢◌, ◌<◌, ◌≤◌, ℕ, Err, IfErr, List, None, Ok, Option, Some, length, true, false};
+ghost use Rattle.std.specs.Prelude.{Bool, ◌≡◌, ◌≢◌, ◌<◌, ◌≤◌, ℕ, Err, IfErr, List, None, Ok, Option, Some, length, true, false};
 ghost use mathlib.Core.List.{IsPrefix};
 ghost use Rattle.orc_fault.specs.declared.Spent.{Spent};
 ghost use Rattle.orc_heap.specs.Seats.{HoldsTarget, IsIdle, Seat, heap_of, target_in};
@@ -16,6 +16,7 @@ ghost use Rattle.orc_ordered_search.specs.declared.turn.InsertTurn.{InsertTurn};
 ghost use Rattle.orc_split_rule.specs.SplitDiscipline.{HasValues, greatest};
 ghost use Rattle.orc_split_rule.specs.SplitOrder.{key_place, split_order};
 ghost use Rattle.orc_split_rule.specs.declared.split.SplitNote.{SplitNote};
+ghost use Rattle.orc_split_set.specs.Crowds.{BeginsBy, CountsFrom, CountsKeys};
 ghost use Rattle.orc_split_set.specs.Growths.{answer_by};
 ghost use Rattle.orc_split_set.specs.NewNodes.{IsPossible, entries_for, kind_of, place_for, value_of};
 ghost use Rattle.orc_split_set.specs.SplitSearches.{BeginsAt, split_reading};
@@ -156,6 +157,7 @@ fn add_at<L: Links<Rule = Split>>(
         → FindsAbsent (split_reading (L.numbers links.now)) start (key_place key) passed left first right s (L.seat links.now p.old)
         → Inserts (split_reading (L.numbers links.now)) key 1 (λ answer. SetEntry.Added s.agent key answer) 1 slots node s result.0 result.1
         (L.seat links.now p.new) }
+    ensures passed { (answer : Bool) (many : ℕ) → result.0 ≡ InsertTurn.Answered answer many → many ≡ passed }
     ensures lacking { result.0 ≡ InsertTurn.NoNode → Within (length (L.journal p.old)) (length (L.journal p.new)) (L.lacking links.now
         (L.seat links.now p.old).agent (L.journal p.new)) }
     ensures worn { (why : Spent) → result.0 ≡ InsertTurn.Spent why
@@ -198,6 +200,11 @@ fn insert_from<L: Links<Rule = Split>>(
         → BeginsAt (L.numbers links.now) start (key_place key) left s (L.seat links.now p.old)
         → Inserts (split_reading (L.numbers links.now)) key 1 (λ answer. SetEntry.Added s.agent key answer) 1 slots node s result.0 result.1
         (L.seat links.now p.new) }
+    ensures counted { (start : Place) (slots : Slots) (s : Seat SplitNote) → HasRoomFor slots
+        → KeepsNode (split_reading (L.numbers links.now)) key 1 node slots s
+        → BeginsAt (L.numbers links.now) start (key_place key) left s (L.seat links.now p.old)
+        → (bucket many : ℕ) → BeginsBy (heap_of (L.numbers links.now) s) start bucket → result.0 ≡ InsertTurn.Answered true many
+        → CountsFrom bucket key s many (L.seat links.now p.new) }
     ensures lacking { result.0 ≡ InsertTurn.NoNode → WithinPart L.agent_of (L.seat links.now p.old).agent (L.journal p.old) (L.journal p.new)
         (L.lacking links.now (L.seat links.now p.old).agent (L.journal p.new)) }
     ensures worn { (why : Spent) → result.0 ≡ InsertTurn.Spent why
@@ -247,6 +254,8 @@ fn insert_turn<L: Links<Rule = Split>>(
     ensures inserted { (slots : Slots) → HasRoomFor slots → KeepsNode (split_reading (L.numbers links.now)) key 1 node slots (L.seat links.now p.old)
         → Inserts (split_reading (L.numbers links.now)) key 1 (λ answer. SetEntry.Added (L.seat links.now p.old).agent key answer) 1 slots node
         (L.seat links.now p.old) result.0 result.1 (L.seat links.now p.new) }
+    ensures counted { (many : ℕ) → result.0 ≡ InsertTurn.Answered true many → CountsKeys (L.numbers links.now) key (L.seat links.now p.old) many
+        (L.seat links.now p.new) }
     ensures lacking { result.0 ≡ InsertTurn.NoNode → WithinPart L.agent_of (L.seat links.now p.old).agent (L.journal p.old) (L.journal p.new)
         (L.lacking links.now (L.seat links.now p.old).agent (L.journal p.new)) }
     ensures worn { (why : Spent) → result.0 ≡ InsertTurn.Spent why
@@ -275,6 +284,8 @@ fn insert_turns<L: Links<Rule = Split>>(
     ensures later { IsPrefix (L.journal p.old) (L.journal p.new) }
     ensures inserted { InsertsTurns (split_reading (L.numbers links.now)) key 1 (λ answer. SetEntry.Added (L.seat links.now p.old).agent key answer) turns
         (L.seat links.now p.old) result.0 result.1 (L.seat links.now p.new) }
+    ensures counted { (many : ℕ) → result.0 ≡ InsertTurn.Answered true many → CountsKeys (L.numbers links.now) key (L.seat links.now p.old) many
+        (L.seat links.now p.new) }
     ensures lacking { result.0 ≡ InsertTurn.NoNode → WithinPart L.agent_of (L.seat links.now p.old).agent (L.journal p.old) (L.journal p.new)
         (L.lacking links.now (L.seat links.now p.old).agent (L.journal p.new)) }
     ensures worn { (why : Spent) → result.0 ≡ InsertTurn.Spent why
@@ -308,6 +319,8 @@ pub(crate) fn insert_key<L: Links<Rule = Split>>(
     ensures later { IsPrefix (L.journal p.old) (L.journal p.new) }
     ensures inserted { InsertAnswers (split_reading (L.numbers links.now)) (λ answer. SetEntry.Added (L.seat links.now p.old).agent key answer) turns
         (L.seat links.now p.old) (answer_by result) (L.seat links.now p.new) }
+    ensures counted { (many : ℕ) → result ≡ InsertTurn.Answered true many → CountsKeys (L.numbers links.now) key (L.seat links.now p.old) many
+        (L.seat links.now p.new) }
     ensures lacking { result ≡ InsertTurn.NoNode → WithinPart L.agent_of (L.seat links.now p.old).agent (L.journal p.old) (L.journal p.new)
         (L.lacking links.now (L.seat links.now p.old).agent (L.journal p.new)) }
     ensures worn { (why : Spent) → result ≡ InsertTurn.Spent why

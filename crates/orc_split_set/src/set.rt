@@ -1,13 +1,13 @@
 //! The set, and its calls.
 
-ghost use Rattle.std.specs.Prelude.{◌≡◌, ◌+◌, ◌<◌, ◌≤◌, ◌↔◌, ◌∷◌, [], ℕ, Err, IfErr, IfOk, IsErr, length};
+ghost use Rattle.std.specs.Prelude.{◌≡◌, ◌+◌, ◌<◌, ◌≤◌, ◌↔◌, ◌∷◌, [], ℕ, Err, IfErr, IfOk, IsErr, Ok, length, true};
 ghost use mathlib.Core.List.{IsPrefix};
 ghost use Rattle.orc_heap.specs.Domains.{IsCallAlone, MakesNoEvent, agent};
 ghost use Rattle.orc_history.specs.Journals.{Within};
 ghost use Rattle.orc_history.specs.declared.set.ListRefused.{ListRefused};
 ghost use Rattle.orc_history.specs.declared.set.SetEntry.{SetEntry};
 ghost use Rattle.orc_split_rule.specs.SplitDiscipline.{IsSize};
-ghost use Rattle.orc_split_set.specs.SetCalls.{Enters, EntersNone, FindsWorn, GivesAtMost, HadSize, HasCause, IsUsable, LacksRow, RootsBucket, UsesAllTurns, set_history};
+ghost use Rattle.orc_split_set.specs.SetCalls.{Enters, EntersNone, FindsWorn, GivesAtMost, GrowsCrowded, HadSize, HasCause, IsUsable, LacksRow, RootsBucket, UsesAllTurns, set_history};
 ghost use Rattle.orc_split_set.specs.Laws.SetLaws.{cause_stays, entries_below, history_grows, seen_legal};
 
 use crate::answer::ask_turns;
@@ -132,6 +132,7 @@ impl<L: Links<Rule = Split>> SharedSet for SplitSet<L> {
         ensures agent { agent L.Links self.now.links p.new ≡ agent L.Links self.now.links p.old }
         ensures later { IsPrefix (L.journal p.old) (L.journal p.new) }
         ensures rooted { IfOk result (λ yes. RootsBucket L.Links self.now.links key p.old p.new) }
+        ensures grows { result ≡ Ok true → GrowsCrowded L.Links self.now.links key p.old p.new }
         ensures added { IfOk result (λ yes. Enters L.Links self.now.links p.old p.new (λ agent. SetEntry.Added agent key yes ∷ [])) }
         ensures none { IfErr result (λ e. EntersNone L.Links self.now.links p.old p.new) }
         ensures licence { IfErr result (λ e. Within (length (L.journal p.old)) (length (L.journal p.new))
@@ -146,7 +147,7 @@ impl<L: Links<Rule = Split>> SharedSet for SplitSet<L> {
     {
         let _rooted = prepare(&self.links, p, self.greatest, key, turns);
         let turn = insert_key(&self.links, p, self.greatest, key, turns);
-        grow_after(&self.links, p, self.greatest, turn);
+        let _grown = grow_after(&self.links, p, self.greatest, turn);
         self.links.settle(p);
         answer_of(turn)
     }

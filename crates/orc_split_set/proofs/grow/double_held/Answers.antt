@@ -1,10 +1,16 @@
 -- The read of the old size, a try to double it, and the old node's release.
-use Rattle.std.proofs.Common.{Some, arith, subst, sym, ℕ, ◌∙◌}
+use Rattle.std.proofs.Common.{Option, Some, ap, arith, length, subst, sym, ℕ, ◌∙◌, ◌≡◌}
 use Rattle.orc_heap.proofs.Hands.{holds_of}
+use Rattle.orc_heap.specs.Heap.{shown}
+use Rattle.orc_heap.specs.Journals.{run_heap}
 use Rattle.orc_heap.specs.Seats.{heap_of}
-use Rattle.orc_heap.specs.Slots.{IsFree, Slots}
-use Rattle.orc_ordered_search.specs.Searches.{HoldsIfAny}
-use Rattle.orc_split_rule.specs.SplitDiscipline.{IsSizeNode}
+use Rattle.orc_heap.specs.Slots.{IsFree, Slots, id_in}
+use Rattle.orc_heap.specs.declared.events.Place.TheVariants.{Root}
+use Rattle.orc_history.specs.Journals.{Within}
+use Rattle.orc_ordered_search.proofs.Marking.{within_wider}
+use Rattle.orc_ordered_search.specs.Searches.{HoldsIfAny, target_at}
+use Rattle.orc_split_rule.specs.SplitDiscipline.{IsSizeNode, greatest}
+use Rattle.orc_split_set.specs.Growths.{ShowsSize}
 use Rattle.orc_split_set.proofs.Growing.{doubles_read, holds_size}
 use Rattle.orc_split_set.proofs.Sizes.{values_puts}
 use Rattle.orc_split_set.proofs.grow.double_held.Goals as goal
@@ -60,4 +66,38 @@ returns-clause-doubled g c =
     let t = g.L.Links.seat d c.args.p.now in
     let u = g.L.Links.seat d c.value-size.new.p in
     let v = g.L.Links.seat d c.double_below-doubled.new.p in
-    record { mid = v; doubles = doubles_read n t u v c.value-size.ensures.nothing c.double_below-doubled.ensures.doubled; gone = c.let_go.ensures.let_go }
+    let o = c.value-size.ensures.nothing in
+    let target = Some (id_in t.slots c.args.node) in
+    let same : target_at u.slots (Some c.args.node) ≡ target = ap (λ (z : Slots). Some (id_in z c.args.node)) o.slots in
+    record {
+      mid = v;
+      doubles = doubles_read n (ShowsSize n (target_at u.slots (Some c.args.node)) u) (ShowsSize n target t) t u v c.double_below-doubled.result o
+          (λ shows seen. subst (λ (x : Option ℕ). ShowsSize n x u) (sym same) (ap (λ z. shown (run_heap n z) (Root (greatest n))) seen ∙ shows))
+          c.double_below-doubled.ensures.doubled;
+      gone = c.let_go.ensures.let_go;
+    }
+
+pub returns-clause-lacking : goal.returns-clause-lacking
+returns-clause-lacking g c = λ is.
+    let d = c.args.links.now in
+    let s = g.L.Links.seat d c.args.p.now in
+    let j = g.L.Links.journal c.args.p.now in
+    let k = g.L.Links.journal c.value-size.new.p in
+    let m = g.L.Links.journal c.double_below-doubled.new.p in
+    let o = c.value-size.ensures in
+    let there = subst (λ (x : ℕ). Within (length k) (length m) (g.L.Links.lacking d x m)) o.nothing.puts.agent (c.double_below-doubled.ensures.lacking is) in
+    within_wider (g.L.Links.lacking d s.agent) j k m (g.L.Links.journal c.let_go.new.p)
+    (λ xs more from to h. g.met.L.Links.lacking_stays d s.agent xs more from to h) o.later c.let_go.ensures.later there
+
+pub returns-clause-worn : goal.returns-clause-worn
+returns-clause-worn g c = λ why is.
+    let d = c.args.links.now in
+    let s = g.L.Links.seat d c.args.p.now in
+    let j = g.L.Links.journal c.args.p.now in
+    let k = g.L.Links.journal c.value-size.new.p in
+    let m = g.L.Links.journal c.double_below-doubled.new.p in
+    let o = c.value-size.ensures in
+    let there = subst (λ (x : ℕ). Within (length k) (length m) (g.L.Links.worn d x why m)) o.nothing.puts.agent
+    (c.double_below-doubled.ensures.worn why is) in
+    within_wider (g.L.Links.worn d s.agent why) j k m (g.L.Links.journal c.let_go.new.p)
+    (λ xs more from to h. g.met.L.Links.worn_stays d s.agent why xs more from to h) o.later c.let_go.ensures.later there

@@ -13,6 +13,7 @@ use Rattle.orc_ordered_search.proofs.Marking.{part_fact, within_wider}
 use Rattle.orc_split_rule.specs.SplitOrder.{key_place}
 use Rattle.orc_split_rule.specs.declared.split.SplitNote.{SplitNote}
 use Rattle.orc_split_set.specs.SplitSearches.{split_reading}
+use Rattle.orc_split_set.proofs.Crowding.{turn_passed}
 use Rattle.orc_split_set.proofs.Ordered.{split_ordering}
 use Rattle.orc_split_set.proofs.insert.add_at.Goals as goal
 
@@ -191,3 +192,11 @@ returns-in-Ok-clause-worn g c = λ why is.
     let there = subst (λ (x : ℕ). Within (length k) (length m) (g.L.Links.worn d x why m)) e.given.puts.agent w in
     within_wider (g.L.Links.worn d t.agent why) j k m m (λ xs more from to h. g.met.L.Links.worn_stays d t.agent why xs more from to h) e.later
     ([], append-nil m) there
+
+pub returns-in-Some-clause-passed : goal.returns-in-Some-clause-passed
+returns-in-Some-clause-passed g c = λ answer many is.
+    turn_passed c.args.passed c.add_node-linked.result answer many (sym c.turn_of.ensures ∙ is)
+
+pub returns-in-Ok-clause-passed : goal.returns-in-Ok-clause-passed
+returns-in-Ok-clause-passed g c = λ answer many is.
+    turn_passed c.args.passed c.add_node-linked-in-Ok.result answer many (sym c.turn_of-in-Ok.ensures ∙ is)

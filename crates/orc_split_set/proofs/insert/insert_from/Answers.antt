@@ -6,8 +6,10 @@ use Rattle.orc_ordered_search.specs.Turns.{Enters}
 use Rattle.orc_ordered_search.proofs.Inserting.{has_room, keeps_answer, keeps_on, seen_holds}
 use Rattle.orc_ordered_search.proofs.Making.{found_over}
 use Rattle.orc_ordered_search.proofs.Parting.{part_begun_seats, part_of_piece}
+use Rattle.orc_split_set.specs.Crowds.{CountsFrom}
 use Rattle.orc_split_set.specs.SplitSearches.{split_reading}
 use Rattle.orc_split_set.proofs.Asking.{absent_of, begins_of, present_of, puts_since}
+use Rattle.orc_split_set.proofs.Crowding.{absent_counts, seen_grows}
 use Rattle.orc_split_set.proofs.Ordered.{split_ordering}
 use Rattle.orc_split_set.proofs.insert.insert_from.Goals as goal
 
@@ -191,3 +193,25 @@ returns-else-enter_present-clause-inserted g c = λ start slots s room k b.
     let over = c.if-enter_present.ensures.entered start x.passed s f in
     let all = g.met.L.Links.allowed d c.enter_present.new.p c.enter_present.ensures.pass in
     keeps_on (split_ordering n) a.key 1 a.node slots s u k over (seen_holds (split_ordering n) s u over.own over.over.made.puts all) all
+
+pub returns-in-Absent-clause-counted : goal.returns-in-Absent-clause-counted
+returns-in-Absent-clause-counted g c = λ start slots s room k b bucket many by is.
+    let d = c.args.links.now in
+    let n = g.L.Links.numbers d in
+    let t0 = g.L.Links.seat d c.args.p.now in
+    let a = c.args in
+    let w = c.place_of.result in
+    let place = c.place_of.ensures in
+    let t = g.L.Links.seat d c.search.new.p in
+    let u = g.L.Links.seat d c.add_at.new.p in
+    let begins = begins_of n start w a.key a.left s t0 place b in
+    let rooms = has_room (split_reading n) a.key 1 a.node slots s room k in
+    let x = c.in-Absent in
+    let f = absent_of n start w a.key x.passed x.left x.first x.right s t place (x.ensures.found start s rooms begins) in
+    let e = c.add_at.ensures in
+    let grows = seen_grows (g.L.Links.events d) g.L.Links.agent_of (g.met.L.Links.steps_add d) (g.L.Links.journal c.search.new.p)
+    (g.L.Links.journal c.add_at.new.p) t u e.later (g.met.L.Links.seen_is d c.search.new.p x.ensures.pass)
+    (g.met.L.Links.seen_is d c.add_at.new.p e.pass) in
+    subst (λ (m : ℕ). CountsFrom bucket a.key s m u) (sym (e.passed true many is))
+    (absent_counts n start bucket a.key x.passed x.left x.first x.right s t u f (g.met.L.Links.obeys d c.search.new.p x.ensures.pass)
+    (g.met.L.Links.allowed d c.search.new.p x.ensures.pass) by grows)

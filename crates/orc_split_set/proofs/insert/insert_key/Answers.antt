@@ -4,6 +4,7 @@ use Rattle.orc_ordered_search.proofs.Inserting.{ends_held, ends_of, idle_room}
 use Rattle.orc_ordered_search.proofs.Parting.{part_goes_on}
 use Rattle.orc_split_set.specs.SplitSearches.{split_reading}
 use Rattle.orc_split_set.proofs.Turning.{turns_answer}
+use Rattle.orc_split_set.proofs.Crowding.{own_sooner, seen_grows}
 use Rattle.orc_split_set.proofs.insert.insert_key.Goals as goal
 
 pub insert_turns-turn-requires-clause-room : goal.insert_turns-turn-requires-clause-room
@@ -45,3 +46,20 @@ returns-clause-worn g c = λ why is.
     part_goes_on g.L.Links.agent_of s.agent (g.L.Links.worn d s.agent why) (g.L.Links.journal c.args.p.now) (g.L.Links.journal c.insert_turns-turn.new.p)
     (g.L.Links.journal c.let_go.new.p) (λ xs more from to h. g.met.L.Links.worn_stays d s.agent why xs more from to h)
     e.later c.let_go.ensures.later (e.worn why is)
+
+pub returns-clause-counted : goal.returns-clause-counted
+returns-clause-counted g c = λ many is sees.
+    let d = c.args.links.now in
+    let s = g.L.Links.seat d c.args.p.now in
+    let t = g.L.Links.seat d c.insert_turns-turn.new.p in
+    let u = g.L.Links.seat d c.let_go.new.p in
+    let e = c.insert_turns-turn.ensures in
+    let f = c.let_go.ensures in
+    let is_t = g.met.L.Links.seen_is d c.insert_turns-turn.new.p e.pass in
+    let events = g.L.Links.events d in
+    let j = g.L.Links.journal c.args.p.now in
+    let k = g.L.Links.journal c.insert_turns-turn.new.p in
+    let grew = seen_grows events g.L.Links.agent_of (g.met.L.Links.steps_add d) j k s t e.later (g.met.L.Links.seen_is d c.args.p.now c.requires.pass) is_t in
+    let grows = seen_grows events g.L.Links.agent_of (g.met.L.Links.steps_add d) k (g.L.Links.journal c.let_go.new.p) t u f.later is_t
+    (g.met.L.Links.seen_is d c.let_go.new.p f.pass) in
+    e.counted many is (own_sooner s t u grew grows sees)

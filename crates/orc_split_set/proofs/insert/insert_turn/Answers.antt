@@ -6,8 +6,11 @@ use Rattle.orc_ordered_search.proofs.Inserting.{has_room, keeps_on}
 use Rattle.orc_ordered_search.proofs.Making.{found_over}
 use Rattle.orc_ordered_search.proofs.Parting.{part_of_part}
 use Rattle.orc_ordered_search.proofs.Preceding.{inserts_after, keeps_after}
+use Rattle.orc_split_rule.specs.SplitDiscipline.{size_of}
+use Rattle.orc_split_rule.specs.SplitOrder.{bucket_of}
 use Rattle.orc_split_set.specs.Beginnings.{seat_before}
 use Rattle.orc_split_set.specs.SplitSearches.{split_reading}
+use Rattle.orc_split_set.proofs.Crowding.{seen_grows, turn_counts}
 use Rattle.orc_split_set.proofs.Ordered.{split_ordering}
 use Rattle.orc_split_set.proofs.insert.insert_turn.Goals as goal
 
@@ -79,3 +82,24 @@ returns-in-From-clause-worn g c = λ why told.
     let f = c.insert_from.ensures in
     let fact = subst (λ (x : ℕ). WithinPart g.L.Links.agent_of x k m (g.L.Links.worn d x why m)) b.begins.begins.agent (f.worn why told) in
     part_of_part g.L.Links.agent_of s.agent (g.L.Links.worn d s.agent why) j k m c.in-From.ensures.later f.later fact
+
+pub returns-in-From-clause-counted : goal.returns-in-From-clause-counted
+returns-in-From-clause-counted g c = λ many is.
+    let d = c.args.links.now in
+    let n = g.L.Links.numbers d in
+    let s = g.L.Links.seat d c.args.p.now in
+    let t = g.L.Links.seat d c.begin.new.p in
+    let u = g.L.Links.seat d c.insert_from.new.p in
+    let (slots, room, k) = c.requires.keeps in
+    let b = c.in-From.ensures.begun in
+    let all = g.met.L.Links.allowed d c.begin.new.p c.in-From.ensures.pass in
+    let kept = keeps_after (split_ordering n) c.args.key 1 c.args.node slots s (seat_before s t) b.own k b.quiet refl
+    (g.met.L.Links.obeys d c.args.p.now c.requires.pass) all in
+    let e = c.insert_from.ensures in
+    let grows = seen_grows (g.L.Links.events d) g.L.Links.agent_of (g.met.L.Links.steps_add d) (g.L.Links.journal c.begin.new.p)
+    (g.L.Links.journal c.insert_from.new.p) t u e.later (g.met.L.Links.seen_is d c.begin.new.p c.in-From.ensures.pass)
+    (g.met.L.Links.seen_is d c.insert_from.new.p e.pass) in
+    let bucket = bucket_of c.args.key (size_of n s.seen) in
+    turn_counts n c.args.key many s (seat_before s t) u b.own bucket b.quiet grows (λ sees. refl)
+    (λ sees. e.counted b.start slots (seat_before s t) room kept b.begins bucket many
+    (b.near (record { part = sees.part; is = sees.is; own = sees.own })) is)

@@ -8,6 +8,7 @@ use Rattle.orc_ordered_search.specs.declared.turn.InsertTurn.{InsertTurn}
 use Rattle.orc_ordered_search.proofs.Inserting.{inserts_done, inserts_next, inserts_none}
 use Rattle.orc_ordered_search.proofs.Parting.{part_of_part}
 use Rattle.orc_split_set.specs.SplitSearches.{split_reading}
+use Rattle.orc_split_set.proofs.Crowding.{seen_grows, turns_count}
 use Rattle.orc_split_set.proofs.insert.insert_turns.Goals as goal
 
 pub loop-init : goal.loop-init
@@ -86,3 +87,17 @@ returns-clause-inserted g c =
     let s = g.L.Links.seat d c.args.p.now in
     let all : c.loop.counter ≡ c.args.turns = omega (arith, c.loop-test.false, c.loop.auto.counter-end) in
     subst (λ (k : ℕ). InsertsOn (split_reading (g.L.Links.numbers d)) c.args.key 1 k s.slots None c.loop.node s (g.L.Links.seat d c.loop.p)) all c.loop.invariant.on
+
+pub returns-in_default-clause-counted : goal.returns-in_default-clause-counted
+returns-in_default-clause-counted g c = λ many is.
+    let d = c.args.links.now in
+    let n = g.L.Links.numbers d in
+    let s = g.L.Links.seat d c.args.p.now in
+    let t = g.L.Links.seat d c.loop.p in
+    let u = g.L.Links.seat d c.insert_turn-turn.new.p in
+    let i = c.loop.invariant in
+    let e = c.insert_turn-turn.ensures in
+    let grows = seen_grows (g.L.Links.events d) g.L.Links.agent_of (g.met.L.Links.steps_add d) (g.L.Links.journal c.loop.p)
+    (g.L.Links.journal c.insert_turn-turn.new.p) t u e.later (g.met.L.Links.seen_is d c.loop.p i.pass)
+    (g.met.L.Links.seen_is d c.insert_turn-turn.new.p e.pass) in
+    turns_count n c.args.key many i.on.given c.loop.counter s t u i.on.own i.on.over grows (e.counted many is)

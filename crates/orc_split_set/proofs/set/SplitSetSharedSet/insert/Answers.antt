@@ -1,5 +1,5 @@
 -- What the call did, and the settling after it.
-use Rattle.std.proofs.Common.{Bool, Err, Ok, Result, arith, subst, sym, ℕ, ◌∙◌, ◌≡◌, ◌≢◌}
+use Rattle.std.proofs.Common.{Bool, Err, Ok, Result, arith, subst, sym, true, ℕ, ◌+◌, ◌∙◌, ◌≡◌, ◌≢◌, ◌≤◌}
 use Rattle.orc_heap.proofs.Pieces.{goes_on}
 use Rattle.orc_heap.proofs.Steps.{alone_later}
 use Rattle.orc_heap.specs.Seats.{IsIdle}
@@ -17,14 +17,18 @@ use Rattle.orc_ordered_search.specs.Causes.{WithinPart}
 use Rattle.orc_ordered_search.specs.Inserts.{InsertAnswers}
 use Rattle.orc_ordered_search.proofs.Parting.{part_of_part}
 use Rattle.orc_split_set.proofs.Calling.{did_after, if_ok, insert_after, roots_call}
+use Rattle.orc_split_rule.specs.SplitDiscipline.{IsSize, greatest}
+use Rattle.orc_split_set.proofs.Crowded.{grows_call}
+use Rattle.orc_split_set.proofs.Crowding.{seen_grows}
 use Rattle.orc_split_set.proofs.Growing.{turn_lacks, turn_worn}
+use Rattle.orc_split_set.specs.declared.bucket.Rooted.TheVariants.{NoNode as RootedNoNode, Spent as RootedSpent}
 use Rattle.orc_split_set.specs.Growths.{answer_by}
 use Rattle.orc_split_set.specs.SplitSearches.{split_reading}
 use Rattle.orc_split_set.proofs.Ordered.{split_ordering}
 use Rattle.orc_split_set.proofs.set.SplitSetSharedSet.insert.Goals as goal
 
-pub grow_after-requires-clause-idle : goal.grow_after-requires-clause-idle
-grow_after-requires-clause-idle g c =
+pub grow_after-grown-requires-clause-idle : goal.grow_after-grown-requires-clause-idle
+grow_after-grown-requires-clause-idle g c =
     let d = c.args.self.now.links in
     let call = c.prepare-rooted.ensures.prepared.call in
     let t0 = g.L.Links.seat d c.prepare-rooted.new.p in
@@ -41,7 +45,7 @@ returns g c =
     let t0 = g.L.Links.seat d c.prepare-rooted.new.p in
     let t = g.L.Links.seat d c.insert_key-turn.new.p in
     let u = g.L.Links.seat d c.settle.new.p in
-    let v = g.L.Links.seat d c.grow_after.new.p in
+    let v = g.L.Links.seat d c.grow_after-grown.new.p in
     let turn = c.insert_key-turn.result in
     let answer = c.answer_of.result in
     let is_answer : answer ≡ answer_by turn = c.answer_of.ensures in
@@ -54,8 +58,8 @@ returns g c =
     let idle : IsIdle t0 = record { slots = call.slots ∙ c.requires.usable.1.slots; fresh = call.fresh } in
     let same = call.made.puts.agent in
     let inserted = subst (λ (x : ℕ). InsertAnswers r (λ answer. Added x c.args.key answer) turns t0 (answer_by turn) t) same done.inserted in
-    let grown = c.grow_after.ensures in
-    let inner = insert_after n entry turns turn t0 t v u inserted grown.grown settle.nothing in
+    let grown = c.grow_after-grown.ensures in
+    let inner = insert_after n entry turns turn c.grow_after-grown.result t0 t v u inserted grown.grown settle.nothing in
     let did = subst (λ (x : Result Bool ListRefused). Did r (x ≡ Err Again) 3 turns entry s x u) (sym is_answer)
     (did_after r before.prepared.own turns before.prepared.none s t0 call 2 3 entry u (answer_by turn) (omega arith) inner) in
     let keeps = insert_keeps r entry turns t0 t (answer_by turn) inserted idle in
@@ -63,7 +67,7 @@ returns g c =
     let j0 = g.L.Links.journal c.prepare-rooted.new.p in
     let k = g.L.Links.journal c.insert_key-turn.new.p in
     let m = g.L.Links.journal c.settle.new.p in
-    let k1 = g.L.Links.journal c.grow_after.new.p in
+    let k1 = g.L.Links.journal c.grow_after-grown.new.p in
     let since = goes_on j j0 k before.later done.later in
     let since_grown = goes_on j k k1 since grown.later in
     let rest = goes_on k k1 m grown.later settle.later in
@@ -85,7 +89,30 @@ returns g c =
     (part_of_part by s.agent (g.L.Links.worn d s.agent why) j j0 k before.later done.later
     (subst (λ (x : ℕ). WithinPart by x j0 k (g.L.Links.worn d x why k)) same (done.worn why (turn_worn turn why (sym is_answer ∙ is))))) in
     let some : (value : Bool) → answer ≡ Ok value → turns ≢ 0 = λ value is zero. (let again = (did.no_turns zero).0 in cc) in
+    let lacking = g.met.L.Links.lacking_stays d s.agent in
+    let stays = g.met.L.Links.worn_stays d s.agent in
+    let grown_agent : t.agent ≡ s.agent = keeps.1 ∙ same in
+    let later_lacks : c.grow_after-grown.result ≡ RootedNoNode → WithinPart by s.agent j m (g.L.Links.lacking d s.agent m) = λ told.
+    within_goes_on by s.agent (g.L.Links.lacking d s.agent) lacking j k1 m since_grown settle.later
+    (part_of_part by s.agent (g.L.Links.lacking d s.agent) j k k1 since grown.later
+    (subst (λ (x : ℕ). WithinPart by x k k1 (g.L.Links.lacking d x k1)) grown_agent (grown.lacking told))) in
+    let later_worn : (why : SpentRow) → c.grow_after-grown.result ≡ RootedSpent why → WithinPart by s.agent j m
+    (g.L.Links.worn d s.agent why m) = λ why told. within_goes_on by s.agent (g.L.Links.worn d s.agent why) (stays why) j k1 m since_grown settle.later
+    (part_of_part by s.agent (g.L.Links.worn d s.agent why) j k k1 since grown.later
+    (subst (λ (x : ℕ). WithinPart by x k k1 (g.L.Links.worn d x why k1)) grown_agent (grown.worn why told))) in
+    let roots : (1 ≤ c.args.self.now.greatest) × (n.roots ≡ c.args.self.now.greatest + 1) = c.args.self.now.rooted in
+    let most : c.args.self.now.greatest ≡ greatest n = omega (arith, roots.1) in
+    let grew_u = seen_grows events by adds j0 m t0 u (goes_on j0 k m done.later rest) (g.met.L.Links.seen_is d c.prepare-rooted.new.p before.pass) is_u in
     record {
+      grows = λ is alone many low. grows_call n by events adds c.args.key turns s t0 t v u did.own j m turn c.grow_after-grown.result
+          c.prepare-rooted.result before.prepared
+          (some true is) entry inserted done.counted grown.grown settle.nothing (sym is_answer ∙ is) did.made.puts grows is_s is_u grew_u
+          (subst (λ (x : ℕ). ∥ IsSize 256 x ∥₁) most c.args.self.now.sized) (subst (λ (x : ℕ). 1 ≤ x) most roots.0)
+          (g.met.L.Links.allowed d c.prepare-rooted.new.p before.pass) (g.met.L.Links.allowed d c.insert_key-turn.new.p done.pass) all
+          (WithinPart by s.agent j m (g.L.Links.lacking d s.agent m)) (λ why. WithinPart by s.agent j m (g.L.Links.worn d s.agent why m))
+          (λ told. within_goes_on by s.agent (g.L.Links.lacking d s.agent) lacking j j0 m before.later (goes_on j0 k m done.later rest) (before.lacking told))
+          (λ why told. within_goes_on by s.agent (g.L.Links.worn d s.agent why) (stays why) j j0 m before.later (goes_on j0 k m done.later rest)
+          (before.worn why told)) later_lacks later_worn alone many low;
       rooted = if_ok answer _ (λ value is. roots_call n by events adds c.args.key turns s t0 u inner.own did.own j m c.prepare-rooted.result before.prepared (some value is)
           inner.made.puts did.made.puts grows is_s is_u (g.met.L.Links.obeys d c.prepare-rooted.new.p before.pass) all
           (WithinPart by s.agent j m (g.L.Links.lacking d s.agent m)) (λ why. WithinPart by s.agent j m (g.L.Links.worn d s.agent why m))
