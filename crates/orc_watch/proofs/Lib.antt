@@ -1,0 +1,3 @@
+pub mod LineRecords
+pub mod GrammarLaws
+pub mod CauseOrLine

@@ -1,0 +1,3 @@
+pub mod WatchGrammar
+pub mod OneRecord
+pub mod WatchText

@@ -1,0 +1,70 @@
+-- What a watch file says: how each line is spelled as a record, and what is first amiss with a record that is the spelling of none.
+-- The records are those of RFC 4180 as the crate `csv` reads them, with no header row, of any lengths, and all else at its defaults.
+use Rattle.std.specs.Prelude.{◌≡◌, ◌≢◌, ◌^◌, ◌<◌, ◌≤◌, ◌⊎◌, ◌∷◌, ◌++◌, All, IsUtf8, List, [], ℕ, codes, length, map, ⊤}
+use Rattle.std.specs.Fmt.{decimal}
+use Rattle.orc_jobs.specs.JobGrammar.{field, records_of}
+use Rattle.orc_jobs.specs.Numbers.{IsNumber}
+use Rattle.orc_watch.specs.declared.fault.WatchCause.{WatchCause}
+use Rattle.orc_watch.specs.declared.fault.WatchCause.TheVariants as cause
+use Rattle.orc_watch.specs.declared.fault.WatchFault.{WatchFault}
+use Rattle.orc_watch.specs.declared.fault.WatchFault.TheVariants as fault
+use Rattle.orc_watch.specs.declared.line.WatchLine.{WatchLine}
+use Rattle.orc_watch.specs.declared.line.WatchLine.TheVariants as line
+
+-- the record that a line is spelled as
+abbrev pub record_of : WatchLine → List (List ℕ)
+record_of (line.Left value) = codes "left" ∷ decimal value ∷ []
+record_of (line.Right value) = codes "right" ∷ decimal value ∷ []
+record_of (line.Both left right) = codes "both" ∷ decimal left ∷ decimal right ∷ []
+record_of line.See = codes "see" ∷ []
+
+-- a line that a record with nothing amiss can stand for
+abbrev pub IsLine : WatchLine → Type 0
+IsLine (line.Left value) = value < 2 ^ 32
+IsLine (line.Right value) = value < 2 ^ 32
+IsLine (line.Both left right) = (left < 2 ^ 32) × (right < 2 ^ 32)
+IsLine line.See = ⊤
+
+-- the bytes are the file of these lines
+pub record IsFileOf (lines : List WatchLine) (bytes : List ℕ) : Type 0 where
+  pub records : records_of bytes ≡ map record_of lines
+  pub each : All IsLine lines
+  pub few : length lines ≤ 65535
+
+-- a record with this first field has another number of fields than it should
+abbrev pub HasOtherSize : List ℕ → ℕ → Type 0
+HasOtherSize verb size = ((verb ≡ codes "see") × (size ≢ 1)) ⊎ ((verb ≡ codes "both") × (size ≢ 3))
+    ⊎ ((verb ≢ codes "see") × (verb ≢ codes "both") × (size ≢ 2))
+
+-- this cause applies to a record
+abbrev pub Applies : WatchCause → List (List ℕ) → Type 0
+Applies cause.Fields fields = HasOtherSize (field fields 0) (length fields)
+Applies cause.Utf8 fields = ¬ All IsUtf8 fields
+Applies cause.Verb fields = (field fields 0 ≢ codes "left") × (field fields 0 ≢ codes "right") × (field fields 0 ≢ codes "both") × (field fields 0 ≢ codes "see")
+Applies cause.Value fields =
+    ((field fields 0 ≢ codes "see") × ¬ IsNumber (field fields 1)) ⊎ ((field fields 0 ≡ codes "both") × ¬ IsNumber (field fields 2))
+
+-- the order of the causes
+abbrev pub rank_of : WatchCause → ℕ
+rank_of cause.Fields = 0
+rank_of cause.Utf8 = 1
+rank_of cause.Verb = 2
+rank_of cause.Value = 3
+
+-- the cause of a record: the first that applies
+pub record HasCause (fields : List (List ℕ)) (why : WatchCause) : Type 0 where
+  pub applies : Applies why fields
+  pub first : (earlier : WatchCause) → rank_of earlier < rank_of why → ¬ Applies earlier fields
+
+-- the records of the bytes are these lines and then these others
+pub record BeginsWith (bytes : List ℕ) (front : List WatchLine) (rest : List (List (List ℕ))) : Type 0 where
+  pub records : records_of bytes ≡ map record_of front ++ rest
+  pub each : All IsLine front
+
+-- the bytes are refused with this fault: some lines, and then a record with a cause within the first 65,535; or 65,535 lines, and then any record
+abbrev pub Refuses : List ℕ → WatchFault → Type 0
+Refuses bytes (fault.Malformed at why) = (front : List WatchLine) × (bad : List (List ℕ)) × (rest : List (List (List ℕ)))
+    × BeginsWith bytes front (bad ∷ rest) × (length front ≡ at) × (at < 65535) × HasCause bad why
+Refuses bytes fault.TooMany = (front : List WatchLine) × (more : List (List ℕ)) × (rest : List (List (List ℕ)))
+    × BeginsWith bytes front (more ∷ rest) × (length front ≡ 65535)
+Refuses bytes fault.NoMemory = ⊤

@@ -1,0 +1,15 @@
+ghost use Rattle.std.specs.Prelude.{◌≡◌, ◌≢◌, List, ℕ};
+ghost use Rattle.orc_watch.specs.WatchGrammar.{HasCause, IsLine, record_of};
+ghost use Rattle.orc_watch.specs.declared.fault.WatchCause.{WatchCause as Cause};
+ghost use Rattle.orc_watch.specs.declared.line.WatchLine.{WatchLine as Line};
+
+/// A law, with nothing to run: a record is the spelling of one line at most, has one cause at most,
+/// and never both or neither.
+pub fn watch_records_are_determined()
+    ensures line { (a b : Line) → IsLine a → IsLine b → record_of a ≡ record_of b → a ≡ b }
+    ensures cause { (fields : List (List ℕ)) (a b : Cause) → HasCause fields a → HasCause fields b
+        → a ≡ b }
+    ensures not_both { (line : Line) (why : Cause) → IsLine line → ¬ HasCause (record_of line) why }
+    ensures not_neither { (fields : List (List ℕ)) → ((why : Cause) → ¬ HasCause fields why)
+        → ¬ ((line : Line) → IsLine line → fields ≢ record_of line) }
+{}
