@@ -171,21 +171,36 @@ fn flag<'a>(alloc: Global, id: &'a str) -> Arg<'a> {
     Arg::new(alloc, id).long(id).action(ArgAction::SetTrue)
 }
 
-// The command with its options.
-fn command<'a>(alloc: Global) -> Result<Command<'a>, AllocError> {
-    let command = Command::new(alloc, "stress").no_binary_name(true);
+// Adds the options that name what is driven and where an agent is stopped.
+fn with_choices<'a>(alloc: Global, command: Command<'a>) -> Result<Command<'a>, AllocError> {
     let command = command.arg(choice_option(alloc, "container", KINDS.as_slice()))?;
     let command = command.arg(choice_option(alloc, "domain", DOMAINS.as_slice()))?;
     let command = command.arg(choice_option(alloc, "mix", MIXES.as_slice()))?;
-    let command = command.arg(choice_option(alloc, "stop", STOPS.as_slice()))?;
-    let command = command.arg(number_option(alloc, "threads", "1", 1, 16))?;
+    command.arg(choice_option(alloc, "stop", STOPS.as_slice()))
+}
+
+// Adds the options that say how large what is driven is.
+fn with_sizes<'a>(alloc: Global, command: Command<'a>) -> Result<Command<'a>, AllocError> {
     let command = command.arg(number_option(alloc, "agents", "1", 1, 16))?;
-    let command = command.arg(number_option(alloc, "calls", "60000", 0, 4294967295))?;
-    let command = command.arg(number_option(alloc, "turns", "64", 1, 65535))?;
     let command = command.arg(number_option(alloc, "rows", "65535", 2, 65535))?;
     let command = command.arg(number_option(alloc, "roots", "16", 1, 257))?;
-    let command = command.arg(number_option(alloc, "keys", "1000", 1, 1000000))?;
-    let command = command.arg(number_option(alloc, "seed", "1", 1, 4294967295))?;
+    command.arg(number_option(alloc, "keys", "1000", 1, 1000000))
+}
+
+// Adds the options that say how much is called.
+fn with_loads<'a>(alloc: Global, command: Command<'a>) -> Result<Command<'a>, AllocError> {
+    let command = command.arg(number_option(alloc, "threads", "1", 1, 16))?;
+    let command = command.arg(number_option(alloc, "calls", "60000", 0, 4294967295))?;
+    let command = command.arg(number_option(alloc, "turns", "64", 1, 65535))?;
+    command.arg(number_option(alloc, "seed", "1", 1, 4294967295))
+}
+
+// The command with its options.
+fn command<'a>(alloc: Global) -> Result<Command<'a>, AllocError> {
+    let command = Command::new(alloc, "stress").no_binary_name(true);
+    let command = with_choices(alloc, command)?;
+    let command = with_sizes(alloc, command)?;
+    let command = with_loads(alloc, command)?;
     let command = command.arg(flag(alloc, "stall"))?;
     command.arg(flag(alloc, "untimed"))
 }
