@@ -8,17 +8,21 @@ use mathlib.Core.List.{IsPrefix}
 use Rattle.orc_heap.proofs.OwnEntries.{own_of_events}
 use Rattle.orc_heap.proofs.Stays.{allowed-right}
 use Rattle.orc_heap.specs.Allowed.{AllAllowed, events_by}
+use Rattle.orc_heap.specs.Domains.{agent}
 use Rattle.orc_heap.specs.Heap.{HeapNumbers, null, shown}
 use Rattle.orc_heap.specs.Journals.{run_heap}
-use Rattle.orc_heap.specs.Seats.{Seat}
+use Rattle.orc_heap.specs.Seats.{IsIdle, Seat}
 use Rattle.orc_heap.specs.declared.events.Event.{Event}
 use Rattle.orc_heap.specs.declared.events.Place.TheVariants.{Root}
+use Rattle.orc_heap.specs.declared.links.Links.{Ghosts as LinksOf}
 use Rattle.orc_history.specs.Journals.{LearnsEntries, own_of}
 use Rattle.orc_pairs_rule.proofs.Later.{staging_later}
 use Rattle.orc_pairs_rule.proofs.OwnEntries.{entries_own}
 use Rattle.orc_pairs_rule.specs.declared.pairs.PairsNote.{PairsNote}
 use Rattle.orc_pairs_rule.specs.CellHistory.{agent_of_entry}
 use Rattle.orc_pairs_rule.specs.PairsDiscipline.{IsStaging, PairsMay, entries_in, entries_of}
+use Rattle.orc_cell.specs.CellCalls.{IsUsable}
+use Rattle.orc_cell.specs.Turns.{IsCellDomain}
 
 -- a staging root stays where the agent has no event in what was learned
 pub staging_learned : (n : HeapNumbers) (agent : ℕ) (xs ys : List (Event PairsNote)) (root : ℕ) → IsPrefix xs ys → events_by agent ys ≡ events_by agent xs
@@ -78,3 +82,14 @@ staging_begins n agents agent root seen roots below none own =
     low : IsStaging agent root → root < n.roots
     low (inl is) = omega (arith, is, roots, below)
     low (inr is) = omega (arith, is, roots, below)
+
+-- a new pass of a new domain may make a call
+pub new_usable : {L D P S : Type 0} (members : LinksOf L D P S PairsNote) (links : L) (p : P)
+    → IsCellDomain (members.numbers links) (members.agents links) (members.opening links) → members.belongs links p → IsIdle (members.seat links p)
+    → agent members links p < members.agents links → (members.seat links p).seen ≡ members.opening links → IsUsable members links p
+new_usable members links p made pass idle below new = record {
+  pass = pass;
+  idle = idle;
+  staging = λ root own. staging_begins (members.numbers links) (members.agents links) (agent members links p) root (members.seat links p).seen made.roots below
+      (new ∙ made.empty) own;
+}

@@ -15,3 +15,4 @@ pub mod Parting
 pub mod Journals
 pub mod Settled
 pub mod Learned
+pub mod Stopping

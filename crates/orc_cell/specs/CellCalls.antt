@@ -1,10 +1,11 @@
 -- What the contracts of a cell's calls say of a pass before a call, `old`, and after it, `new`.
-use Rattle.std.specs.Prelude.{List, Some, [], ℕ, ◌+◌, ◌≡◌, ◌≤◌}
+use Rattle.std.specs.Prelude.{List, None, Some, [], replicate, slice_set, ℕ, ◌*◌, ◌+◌, ◌≡◌, ◌≤◌}
 use Rattle.orc_fault.specs.declared.Spent.{Spent}
 use Rattle.orc_heap.specs.Domains.{Enters as EntersHistory, InCall, agent, heap, history as history_of, own_events}
-use Rattle.orc_heap.specs.Heap.{null, shown}
+use Rattle.orc_heap.specs.Heap.{link_to, null, shown}
 use Rattle.orc_heap.specs.Moves.{gives_in}
 use Rattle.orc_heap.specs.Seats.{IsIdle}
+use Rattle.orc_heap.specs.Slots.{Hold, Holds, id_in}
 use Rattle.orc_heap.specs.declared.events.Place.TheVariants.{Root}
 use Rattle.orc_heap.specs.declared.links.Links.{Ghosts as LinksOf}
 use Rattle.orc_pairs_rule.specs.declared.entry.CellEntry.{CellEntry}
@@ -23,6 +24,16 @@ module _ {L D P S : Type 0} (members : LinksOf L D P S PairsNote) (links : L) wh
     pub pass : members.belongs links p
     pub idle : IsIdle (members.seat links p)
     pub staging : StagesNothing p
+
+  -- a pass that may not make a call, since its agent has staged this part and stopped: it holds the part alone, the agent's first
+  -- staging root names the part, and the second is null
+  pub record StagesPart (part : Hold) (p : P) : Type 0 where
+    pub pass : members.belongs links p
+    pub fresh : (members.seat links p).fresh ≡ None
+    pub held : Holds (members.seat links p).slots part
+    pub alone : slice_set (members.seat links p).slots part.slot None ≡ replicate 8 None
+    pub first : shown (heap members links p) (Root (1 + 2 * agent members links p)) ≡ Some (link_to (id_in (members.seat links p).slots part))
+    pub second : shown (heap members links p) (Root (2 + 2 * agent members links p)) ≡ Some null
 
   -- the history of the cell that the pass has seen
   abbrev pub history : P → List CellEntry

@@ -1,23 +1,25 @@
 //! The cell, and its calls.
 
-ghost use Rattle.std.specs.Prelude.{◌≡◌, ◌≢◌, ◌⊎◌, ◌+◌, ◌*◌, ◌<◌, ◌^◌, [], ◌∷◌, Err, IfErr, IfOk, IsErr, None};
+ghost use Rattle.std.specs.Prelude.{◌≡◌, ◌≢◌, ◌⊎◌, ◌+◌, ◌*◌, ◌<◌, ◌^◌, [], ◌∷◌, Err, IfErr, IfOk, IfSome, IsErr, None, length};
 ghost use mathlib.Core.List.{IsPrefix};
 ghost use Rattle.orc_fault.specs.declared.Spent.{Spent as SpentRow};
 ghost use Rattle.orc_heap.specs.Domains.{IsCallAlone, MakesNoEvent, agent, heap};
 ghost use Rattle.orc_heap.specs.Seats.{IsIdle};
-ghost use Rattle.orc_history.specs.Journals.{LearnsEntries};
+ghost use Rattle.orc_heap.specs.Slots.{id_in};
+ghost use Rattle.orc_history.specs.Journals.{LearnsEntries, Within};
 ghost use Rattle.orc_pairs_rule.specs.CellHistory.{IsLegalCell, agent_of_entry, no_parts, parts_after};
-ghost use Rattle.orc_pairs_rule.specs.PairsDiscipline.{ShowsParts, entries_of};
+ghost use Rattle.orc_pairs_rule.specs.PairsDiscipline.{HasPart, ShowsParts, entries_of};
 ghost use Rattle.orc_pairs_rule.specs.declared.entry.CellEntry.{CellEntry};
-ghost use Rattle.orc_cell.specs.CellCalls.{Enters, EntersNone, FindsWorn, GivesAtMost, IsUsable, LacksRow, UsesAllTurns, history};
+ghost use Rattle.orc_cell.specs.CellCalls.{Enters, EntersNone, FindsWorn, GivesAtMost, IsUsable, LacksRow, StagesPart, UsesAllTurns, history};
 ghost use Rattle.orc_cell.specs.Turns.{IsCellDomain};
 ghost use Rattle.orc_cell.specs.declared.refused.CellRefused.{CellRefused};
 
+use crate::new_parts::{stage, unstage};
 use crate::read::read_turns;
 use crate::refused::CellRefused;
 use crate::with_pair::publish_parts;
 use orc_fault::Again;
-use orc_heap::Links;
+use orc_heap::{Held, Links};
 use orc_pairs_rule::Pairs;
 
 /// A cell of two parts, left and right, over a domain of links. Root 0 names a pair node, whose first link names the left
@@ -122,6 +124,44 @@ impl<L: Links<Rule = Pairs>> Cell<L> {
         let answer = read_turns(&self.links, p, turns);
         self.links.settle(p);
         answer
+    }
+
+    /// Stages a new left part, as a publish of it begins, and stops there: the first staging root of the pass's agent names the
+    /// part, and the pass holds it. Answers the part, or None where the domain had no node to give, which leaves all as it was.
+    /// While it is staged the pass may not call; `unstage` goes on.
+    pub fn stage_and_stop(&self, p: &mut L::Pass, left: u64) -> Option<Held>
+        requires usable { IsUsable L.Links self.now.links p.old }
+        ensures agent { agent L.Links self.now.links p.new ≡ agent L.Links self.now.links p.old }
+        ensures later { IsPrefix (L.journal p.old) (L.journal p.new) }
+        ensures staged { IfSome result (λ part. StagesPart L.Links self.now.links part p.new) }
+        ensures left { IfSome result (λ part. HasPart (heap L.Links self.now.links p.new) (id_in (L.seat self.now.links p.new).slots part) left) }
+        ensures usable { result ≡ None → IsUsable L.Links self.now.links p.new }
+        ensures no_node { result ≡ None → Within (length (L.journal p.old)) (length (L.journal p.new))
+            (L.lacking self.now.links (agent L.Links self.now.links p.old) (L.journal p.new)) }
+        ensures none { EntersNone L.Links self.now.links p.old p.new }
+        ensures gives { GivesAtMost L.Links self.now.links 1 p.old p.new }
+    {
+        let roots = staging_roots(self.links.agent(p));
+        match stage(&self.links, p, 1, roots.0, left) {
+            Ok(part) => Some(part),
+            Err(_) => None,
+        }
+    }
+
+    /// Goes on after `stage_and_stop`: lets the part go unpublished, as a publish that is refused does. Its agent's staging roots
+    /// are null then.
+    pub fn unstage(&self, p: &mut L::Pass, part: Held)
+        requires staged { StagesPart L.Links self.now.links part p.old }
+        ensures usable { IsUsable L.Links self.now.links p.new }
+        ensures agent { agent L.Links self.now.links p.new ≡ agent L.Links self.now.links p.old }
+        ensures later { IsPrefix (L.journal p.old) (L.journal p.new) }
+        ensures none { EntersNone L.Links self.now.links p.old p.new }
+        ensures gives { GivesAtMost L.Links self.now.links 0 p.old p.new }
+        ensures settled { IsCallAlone L.Links self.now.links p.old p.new → L.backlog p.new ≡ 0 }
+    {
+        let roots = staging_roots(self.links.agent(p));
+        unstage(&self.links, p, roots.0, part);
+        self.links.settle(p);
     }
 
     /// Lets each of two passes of different agents see what the other has seen. It makes no step.

@@ -2,6 +2,7 @@
 #![tactic(auto)]
 
 mod asking;
+mod cell;
 mod learning;
 mod list;
 mod many_threads;
@@ -10,6 +11,7 @@ mod set;
 mod stopping;
 
 pub use asking::{SetAnswer, set_answers};
+pub use cell::{CellPass, DomainCell, cell_over};
 pub use learning::{each_sees_the_others, each_takes_the_others};
 pub use list::{DomainList, ListPass, next_list_pass, one_list_over, two_list_passes};
 pub use many_threads::{QueueSums, SetSums, add_and_take_out_by_all, present, put_and_take_by_all};
