@@ -7,10 +7,12 @@ ghost use Rattle.orc_stress.specs.Answers.{calls_of};
 ghost use Rattle.orc_stress.specs.Parts.{HaveRun, part_of, parts_of};
 ghost use Rattle.orc_stress.specs.Passes.{Stay, Stays};
 
-use crate::container::Container;
+use crate::container::{Container, Outcome};
 use crate::load::{Ask, Draws, Plan};
+use crate::pairs::PairLog;
 use crate::seen::Seen;
 use crate::tally::Tally;
+use std::alloc::{AllocError, Global};
 use std::sync::atomic::{AtomicU64, Ordering};
 use std::thread;
 use std::thread::Threads;
@@ -19,7 +21,7 @@ use std::time::{Clock, Duration, Instant};
 // How often an agent looks whether the others have come, or are done. Where a thread can't be made, it goes on without them.
 const LOOKS: u32 = 1_000_000_000;
 
-// Where agents meet before their calls and leave after them, and the time from which on theirs is told.
+// Where agents meet before their calls and leave after them, the time from which on theirs is told, and the pairs that they saw.
 #[derive(Drop)]
 pub(crate) struct Start {
     come: AtomicU64,
@@ -27,18 +29,25 @@ pub(crate) struct Start {
     meeting: u64,
     working: u64,
     instant: Instant,
+    pub(crate) pairs: PairLog,
 }
 
 impl Start {
-    pub(crate) fn new(plan: &Plan, instant: Instant) -> Start {
+    pub(crate) fn new(alloc: Global, plan: &Plan, instant: Instant) -> Result<Start, AllocError> {
         let working = u64::from(plan.threads);
-        Start {
+        let noted = if plan.load.mix.has_pairs() {
+            plan.load.calls
+        } else {
+            0
+        };
+        Ok(Start {
             come: AtomicU64::new(0),
             left: AtomicU64::new(0),
             meeting: working.wrapping_add(u64::from(plan.stalls)),
             working,
             instant,
-        }
+            pairs: PairLog::new(alloc, plan.threads, noted)?,
+        })
     }
 
     // Waits until all have come, and answers whether they have.
@@ -84,7 +93,7 @@ fn make_call<C: Container>(
     ask: &Ask,
     seen: &mut Seen,
     tally: &mut Tally,
-)
+) -> Outcome
     requires ready { C.ready container.now p.old }
     requires few { calls_of tally.old.answers + 1 < 2 ^ 64 }
     ensures ready { Stays (C.ready container.now) (C.agent_of container.now) p.old p.new }
@@ -93,10 +102,11 @@ fn make_call<C: Container>(
     let outcome = container.call(p, ask);
     tally.record(ask, &outcome, seen);
     tally.backlog = tally.backlog.max(container.backlog(p));
+    outcome
 }
 
 // Makes all calls of an agent.
-fn make_calls<C: Container>(container: &C, p: &mut C::Pass, plan: &Plan) -> Tally
+fn make_calls<C: Container>(container: &C, p: &mut C::Pass, plan: &Plan, pairs: &PairLog) -> Tally
     requires ready { C.ready container.now p.old }
     ensures ready { Stays (C.ready container.now) (C.agent_of container.now) p.old p.new }
     ensures calls { calls_of result.answers ≡ plan.now.load.calls }
@@ -107,7 +117,10 @@ fn make_calls<C: Container>(container: &C, p: &mut C::Pass, plan: &Plan) -> Tall
     let mut tally = Tally::new();
     for number in 0..plan.load.calls {
         let ask = plan.load.ask(agent, number, &mut draws, &seen.own);
-        make_call(container, p, &ask, &mut seen, &mut tally);
+        let outcome = make_call(container, p, &ask, &mut seen, &mut tally);
+        if let Outcome::Published(left, right) | Outcome::Saw(left, right) = outcome {
+            pairs.note(agent, number, (left, right));
+        }
     }
     tally
 }
@@ -126,7 +139,7 @@ fn work<R: Clock, C: Container>(
 {
     let all_came = start.meet();
     let begun = start.micros(rt);
-    let mut tally = make_calls(container, p, plan);
+    let mut tally = make_calls(container, p, plan, &start.pairs);
     tally.all_came = all_came;
     tally.begun = begun;
     tally.ended = start.micros(rt);

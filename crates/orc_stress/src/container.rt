@@ -23,6 +23,10 @@ pub enum Outcome {
     Found,
     /// A key that was to go in is there, or one that was to come out, or was asked for, is not.
     Unchanged,
+    /// Parts were published, and these are both as they were then.
+    Published(u64, u64),
+    /// Both parts were read.
+    Saw(u64, u64),
     /// The call was refused.
     Refused(Answer),
 }

@@ -4,6 +4,7 @@
 mod agents;
 mod container;
 mod load;
+mod pairs;
 mod results;
 mod runs;
 mod seen;
@@ -12,6 +13,7 @@ mod tally;
 
 pub use container::{Container, Outcome};
 pub use load::{Ask, Load, Mix, Plan};
+pub use pairs::{PairLog, value_of};
 pub use results::{Counts, judge, print_figures, tell_missing};
 pub use runs::{Driven, Rest, drive};
 pub use settings::{Domain, Kind, Refused, Settings, Stop, settings_of};

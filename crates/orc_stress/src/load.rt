@@ -2,16 +2,19 @@
 
 ghost use Rattle.std.specs.Prelude.{◌≤◌, ◌<◌, ◌^◌};
 
+use crate::pairs::value_of;
 use crate::seen::Own;
 
 // Which calls agents make: of a queue puts and takes, in turn or by agents apart; of a set so many of a hundred that ask, insert
-// and remove.
+// and remove; of a cell so many of a hundred that read, publish one part and publish both.
 #[derive(Clone, Copy, Debug, PartialEq, Eq, Drop)]
 pub enum Mix {
     Pairs,
     Apart,
     Reads,
     Writes,
+    PairReads,
+    PairWrites,
 }
 
 impl Mix {
@@ -20,16 +23,24 @@ impl Mix {
         match self {
             Mix::Pairs => "pairs",
             Mix::Apart => "apart",
-            Mix::Reads => "90/5/5",
-            Mix::Writes => "34/33/33",
+            Mix::Reads | Mix::PairReads => "90/5/5",
+            Mix::Writes | Mix::PairWrites => "34/33/33",
         }
     }
 
     // Whether its calls are those of a set.
     pub(crate) fn has_keys(self) -> bool {
         match self {
-            Mix::Pairs | Mix::Apart => false,
+            Mix::Pairs | Mix::Apart | Mix::PairReads | Mix::PairWrites => false,
             Mix::Reads | Mix::Writes => true,
+        }
+    }
+
+    // Whether its calls are those of a cell.
+    pub(crate) fn has_pairs(self) -> bool {
+        match self {
+            Mix::PairReads | Mix::PairWrites => true,
+            Mix::Pairs | Mix::Apart | Mix::Reads | Mix::Writes => false,
         }
     }
 }
@@ -57,12 +68,17 @@ pub struct Plan {
     pub load: Load,
 }
 
-// One call: what is put or inserted, a key that is taken out (of a queue whatever is at the front), or a key that is asked for.
+// One call: what is put or inserted, a key that is taken out (of a queue whatever is at the front), or a key that is asked for;
+// of a cell a left part, a right one, or one for both, that is published, or a read.
 #[derive(Clone, Copy, Debug, PartialEq, Eq)]
 pub enum Ask {
     Give(u64),
     Take(u64),
     Read(u64),
+    Left(u64),
+    Right(u64),
+    Both(u64),
+    See,
 }
 
 impl Load {
@@ -73,6 +89,8 @@ impl Load {
             Mix::Apart => put_or_take(agent % 2 == 0, agent, number),
             Mix::Reads => self.ask_by_key(90, 95, draws, own),
             Mix::Writes => self.ask_by_key(34, 67, draws, own),
+            Mix::PairReads => ask_for_pair(90, 95, draws, value_of(agent, number)),
+            Mix::PairWrites => ask_for_pair(34, 67, draws, value_of(agent, number)),
         }
     }
 
@@ -88,6 +106,21 @@ impl Load {
         } else {
             Ask::Take(own.may_change(key))
         }
+    }
+}
+
+// One of a hundred calls, of which so many read, and those up to the second number publish the value on one side.
+fn ask_for_pair(reads: u64, ones: u64, draws: &mut Draws, value: u64) -> Ask {
+    let kind = draws.draw() % 100;
+    let right = draws.draw() % 2 == 1;
+    if kind < reads {
+        Ask::See
+    } else if kind >= ones {
+        Ask::Both(value)
+    } else if right {
+        Ask::Right(value)
+    } else {
+        Ask::Left(value)
     }
 }
 

@@ -2,7 +2,7 @@
 
 use crate::load::Mix;
 use crate::runs::Driven;
-use crate::settings::Settings;
+use crate::settings::{Domain, Kind, Settings};
 use crate::tally::Items;
 use std::io;
 
@@ -99,6 +99,14 @@ fn complain<R: Print>(rt: &R, right: bool, what: &str) -> io::Result<bool> {
     Ok(right)
 }
 
+// Whether of a cell whose rows come back those of the version that is left are out, and no others.
+fn rows_fit(settings: &Settings, driven: &Driven, counts: &Counts) -> bool {
+    match (settings.container, settings.domain) {
+        (Kind::Cell, Domain::Reclaiming) => counts.linked == driven.rest.rows,
+        _ => true,
+    }
+}
+
 /// Prints what is wrong with a run, and answers whether nothing is.
 pub fn judge<R: Print>(
     rt: &R,
@@ -109,22 +117,30 @@ pub fn judge<R: Print>(
     let tally = &driven.tally;
     let mut out = tally.taken;
     out.join(&driven.rest.items);
-    let has_keys = settings.plan.load.mix.has_keys();
+    let mix = settings.plan.load.mix;
     let judged = [
         (
             out == tally.put,
             "what came out or is left isn't what went in",
         ),
         (
-            has_keys || tally.places == Items::below(tally.put.count),
+            mix.has_keys() || tally.places == Items::below(tally.put.count),
             "the positions of jobs aren't 0, 1, 2 and so on, each once",
         ),
         (
-            tally.in_order && driven.rest.in_order,
+            mix.has_pairs() || tally.in_order && driven.rest.in_order,
             "jobs came out of order",
         ),
         (
-            settings.plan.load.mix != Mix::Pairs || tally.answers.empty <= tally.unput,
+            !mix.has_pairs() || tally.in_order,
+            "a part came back that the agent that gave it had replaced",
+        ),
+        (
+            driven.rest.are_pairs,
+            "a pair that was read was never published, or what is left isn't what was published last",
+        ),
+        (
+            mix != Mix::Pairs || tally.answers.empty <= tally.unput,
             "a take found nothing, though each agent had put before it took",
         ),
         (
@@ -138,6 +154,10 @@ pub fn judge<R: Print>(
         (
             counts.given == counts.reused.wrapping_add(u64::from(counts.linked)),
             "rows that were given aren't those that were freed or are out",
+        ),
+        (
+            rows_fit(settings, driven, counts),
+            "the rows that are out aren't those of the version that is left",
         ),
     ];
     let mut right = true;

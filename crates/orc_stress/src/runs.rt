@@ -9,6 +9,7 @@ ghost use Rattle.orc_stress.specs.Passes.{Stay, Stays};
 use crate::agents::{Ran, Start, run_all};
 use crate::container::{Container, Outcome};
 use crate::load::{Ask, Plan};
+use crate::pairs::PairLog;
 use crate::seen::Seen;
 use crate::tally::{Answer, Items, Tally};
 use std::alloc::{AllocError, Global};
@@ -31,7 +32,14 @@ pub struct Rest {
     pub items: Items,
     /// Whether the jobs came in order, and nothing after them.
     pub in_order: bool,
+    /// Whether each pair that was read of a cell was published, and those parts are left that were last.
+    pub are_pairs: bool,
+    /// The rows of the version of a cell that is left.
+    pub rows: u32,
 }
+
+// The rows of a version: a pair and its two parts.
+const VERSION: u32 = 3;
 
 // Inserts every second key, the greatest first, as long as there is a row for one.
 fn fill<C: Container>(container: &C, p: &mut C::Pass, keys: u32) -> Items
@@ -66,6 +74,8 @@ fn find_keys<C: Container>(container: &C, p: &mut C::Pass, keys: u32) -> Rest
     Rest {
         items,
         in_order: true,
+        are_pairs: true,
+        rows: 0,
     }
 }
 
@@ -89,6 +99,26 @@ fn take_jobs<C: Container>(container: &C, p: &mut C::Pass, plan: &Plan, waiting:
     Rest {
         items,
         in_order: in_order && last == Outcome::Empty,
+        are_pairs: true,
+        rows: 0,
+    }
+}
+
+// Reads the pair that is left, and looks at those that were seen.
+fn see_pairs<C: Container>(container: &C, p: &mut C::Pass, pairs: &PairLog) -> Rest
+    requires ready { C.ready container.now p.old }
+    ensures ready { Stays (C.ready container.now) (C.agent_of container.now) p.old p.new }
+{
+    let (is_left, rows) = match container.call(p, &Ask::See) {
+        Outcome::Saw(0, 0) => (pairs.may_be_left((0, 0)), 0),
+        Outcome::Saw(left, right) => (pairs.may_be_left((left, right)), VERSION),
+        _ => (false, VERSION),
+    };
+    Rest {
+        items: Items::new(),
+        in_order: true,
+        are_pairs: is_left && pairs.all_published(),
+        rows,
     }
 }
 
@@ -114,7 +144,13 @@ fn begin<C: Container>(container: &C, passes: &mut Vec<C::Pass>, plan: &Plan) ->
 
 // Looks at what is left, with the last pass.
 #[tactic(auto, using(crate::proofs::Staying::last_stays, crate::proofs::Staying::each_stays))]
-fn finish<C: Container>(container: &C, passes: &mut Vec<C::Pass>, plan: &Plan, waiting: u64) -> Rest
+fn finish<C: Container>(
+    container: &C,
+    passes: &mut Vec<C::Pass>,
+    plan: &Plan,
+    pairs: &PairLog,
+    waiting: u64,
+) -> Rest
     requires ready { AllByRecursion (C.ready container.now) passes.old.items }
     ensures stay { Stay (C.ready container.now) (C.agent_of container.now) passes.old.items passes.new.items }
 {
@@ -122,10 +158,14 @@ fn finish<C: Container>(container: &C, passes: &mut Vec<C::Pass>, plan: &Plan, w
         return Rest {
             items: Items::new(),
             in_order: true,
+            are_pairs: true,
+            rows: 0,
         };
     };
     let rest = if plan.load.mix.has_keys() {
         find_keys(container, &mut p, plan.load.keys)
+    } else if plan.load.mix.has_pairs() {
+        see_pairs(container, &mut p, pairs)
     } else {
         take_jobs(container, &mut p, plan, waiting)
     };
@@ -136,7 +176,7 @@ fn finish<C: Container>(container: &C, passes: &mut Vec<C::Pass>, plan: &Plan, w
 }
 
 /// Drives a container: puts in every second key where the calls are those of a set, lets all agents do their parts, each in a
-/// thread of its own where one can be made, and then takes all jobs that wait or asks for each key.
+/// thread of its own where one can be made, and then takes all jobs that wait, asks for each key, or reads the pair that is left.
 ///
 /// # Errors
 ///
@@ -158,14 +198,14 @@ where
     ensures calls { IfOk result (λ r. calls_of r.1.tally.answers ≡ parts_of plan.now (C.agent_of container.now) passes.items) }
 {
     let room = Vec::with_capacity(alloc, passes.len())?;
+    let start = Start::new(alloc, plan, instant)?;
     let put = begin(container, &mut passes, plan);
-    let start = Start::new(plan, instant);
     let Ran {
         mut passes,
         mut tally,
     } = run_all(rt, container, passes, plan, &start, room);
     tally.put.join(&put);
     let waiting = tally.put.count.saturating_sub(tally.taken.count);
-    let rest = finish(container, &mut passes, plan, waiting);
+    let rest = finish(container, &mut passes, plan, &start.pairs, waiting);
     Ok((passes, Driven { tally, rest }))
 }

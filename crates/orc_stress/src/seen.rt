@@ -48,10 +48,12 @@ impl Own {
         }
     }
 
-    // Whether an answer about a key of its own is the one that the agent's calls before this one have left; that of a queue's call
-    // is about none. A refused call has changed nothing.
+    // Whether an answer about a key of its own is the one that the agent's calls before this one have left; that of a queue's or a
+    // cell's call is about none. A refused call has changed nothing.
     pub(crate) fn is_true(&mut self, ask: &Ask, outcome: &Outcome) -> bool {
-        let (Ask::Give(key) | Ask::Take(key) | Ask::Read(key)) = ask;
+        let (Ask::Give(key) | Ask::Take(key) | Ask::Read(key)) = ask else {
+            return true;
+        };
         let place = match self.owner(*key) {
             Some((owner, place)) if owner == self.agent => place,
             _ => return true,
@@ -77,11 +79,13 @@ impl Own {
     }
 }
 
-// What one agent put into a queue and took from it last, and its own keys of a set.
+// What one agent put into a queue and took from it last, its own keys of a set, and the parts of a cell that it saw last.
 #[derive(Clone, Copy, Debug, PartialEq, Eq)]
 pub(crate) struct Seen {
-    // of each producer the number of its job, plus one
+    // of each producer the number of its job, plus one; of a cell the call that gave the left part
     numbers: [u64; 16],
+    // and the right one
+    right_numbers: [u64; 16],
     // the position behind the one that was taken last
     taken: u64,
     // the position behind the one that was put last
@@ -94,6 +98,7 @@ impl Seen {
     pub(crate) fn new(agent: u32, plan: &Plan) -> Seen {
         Seen {
             numbers: [0; 16],
+            right_numbers: [0; 16],
             taken: 0,
             put: 0,
             own: Own::new(agent, plan),
@@ -102,7 +107,8 @@ impl Seen {
 
     // Whether a job that was put has its position behind the agent's others, and one that was taken behind those that the agent
     // took before, and of its producer those come later that were put later. Each producer's positions rise, so all takers take
-    // its jobs in its order.
+    // its jobs in its order. Whether no part of a cell is older than one that the agent had seen on that side, of those that one agent
+    // gave.
     pub(crate) fn follows(&mut self, outcome: &Outcome) -> bool {
         match outcome {
             Outcome::Put(_, at) => {
@@ -118,7 +124,23 @@ impl Seen {
                 self.taken = at.wrapping_add(1);
                 follows
             }
+            Outcome::Published(left, right) | Outcome::Saw(left, right) => {
+                let follows = goes_on(&mut self.numbers, *left);
+                goes_on(&mut self.right_numbers, *right) && follows
+            }
             _ => true,
         }
     }
+}
+
+// Whether a part was given by no earlier call than the last one of its agent that was seen.
+fn goes_on(numbers: &mut [u64; 16], part: u64) -> bool {
+    if part == 0 {
+        return true;
+    }
+    let agent = ((part >> 32) % 16) as usize;
+    let number = part % 4_294_967_296;
+    let follows = number >= numbers[agent];
+    numbers[agent] = number;
+    follows
 }

@@ -15,6 +15,10 @@ pub enum Kind {
     Queue,
     List,
     Set,
+    /// The set that doubles its buckets.
+    Split,
+    /// A pair that is published at once.
+    Cell,
     /// Keys in order in one piece, without a lock, on one thread.
     Sorted,
 }
@@ -26,6 +30,8 @@ impl Kind {
             Kind::Queue => "queue",
             Kind::List => "list",
             Kind::Set => "set",
+            Kind::Split => "split",
+            Kind::Cell => "cell",
             Kind::Sorted => "sorted",
         }
     }
@@ -39,12 +45,13 @@ pub enum Domain {
 }
 
 /// Where the agent more is stopped: it holds the first node, or has put a job and not moved the tail, or has marked a key's node
-/// and not taken it off its chain.
+/// and not taken it off its chain, or has staged a new part and not published it.
 #[derive(Clone, Copy, Debug, PartialEq, Eq, Drop)]
 pub enum Stop {
     First,
     Tail,
     Marked,
+    Staged,
 }
 
 impl Stop {
@@ -54,6 +61,7 @@ impl Stop {
             Stop::First => " stalled",
             Stop::Tail => " stalled at the tail",
             Stop::Marked => " stalled at a mark",
+            Stop::Staged => " stalled at a staged part",
         }
     }
 }
@@ -67,7 +75,7 @@ pub struct Settings {
     pub domain: Domain,
     /// `--rows`, 2 to 65,535.
     pub rows: u32,
-    /// `--roots`, 1 to 257: the buckets of a set.
+    /// `--roots`, 1 to 257: the buckets of a set, or the most that one has that doubles them.
     pub roots: u32,
     /// `--agents`, or as many as there are threads and stopped agents, if those are more.
     pub agents: u32,
@@ -143,13 +151,13 @@ impl Refused {
     }
 }
 
-static KINDS: [&str; 4] = ["queue", "list", "set", "sorted"];
+static KINDS: [&str; 6] = ["queue", "list", "set", "split", "cell", "sorted"];
 
 static DOMAINS: [&str; 2] = ["plain", "reclaiming"];
 
 static MIXES: [&str; 4] = ["pairs", "apart", "90/5/5", "34/33/33"];
 
-static STOPS: [&str; 3] = ["first", "tail", "marked"];
+static STOPS: [&str; 4] = ["first", "tail", "marked", "staged"];
 
 // An option with a number in a range.
 fn number_option<'a>(alloc: Global, id: &'a str, default: &'a str, low: u32, high: u32) -> Arg<'a> {
@@ -222,15 +230,20 @@ fn mix_of(word: Option<&str>, container: Kind) -> Option<Mix> {
         (None | Some("pairs"), Kind::Queue) => Some(Mix::Pairs),
         (Some("apart"), Kind::Queue) => Some(Mix::Apart),
         (_, Kind::Queue) => None,
+        (None | Some("90/5/5"), Kind::Cell) => Some(Mix::PairReads),
+        (Some("34/33/33"), Kind::Cell) => Some(Mix::PairWrites),
         (None | Some("90/5/5"), _) => Some(Mix::Reads),
         (Some("34/33/33"), _) => Some(Mix::Writes),
         (Some(_), _) => None,
     }
 }
 
-// Where a word says that an agent is stopped, if the container has such calls; without a word it holds the first node.
+// Where a word says that an agent is stopped, if the container has such calls; without a word it holds the first node, or has staged
+// a part of a cell.
 fn stop_of(word: Option<&str>, container: Kind) -> Option<Stop> {
     match (word, container) {
+        (None | Some("staged"), Kind::Cell) => Some(Stop::Staged),
+        (_, Kind::Cell) => None,
         (None | Some("first"), _) => Some(Stop::First),
         (Some("tail"), Kind::Queue) => Some(Stop::Tail),
         (Some("marked"), Kind::List | Kind::Set) => Some(Stop::Marked),
@@ -243,6 +256,8 @@ fn container_of(word: Option<&str>) -> Kind {
     match word {
         Some("list") => Kind::List,
         Some("set") => Kind::Set,
+        Some("split") => Kind::Split,
+        Some("cell") => Kind::Cell,
         Some("sorted") => Kind::Sorted,
         _ => Kind::Queue,
     }

@@ -126,7 +126,8 @@ pub struct Tally {
     pub(crate) places: Items,
     // how many jobs or keys weren't taken in, since the call was refused
     pub(crate) unput: u64,
-    // whether each agent put and took jobs in the order of their positions, and took those of a producer in its order
+    // whether each agent put and took jobs in the order of their positions, and took those of a producer in its order; and saw no
+    // part of a cell come back that its agent had replaced
     pub(crate) in_order: bool,
     // whether each answer about a key of the agent's own was what its calls had left
     pub(crate) is_true: bool,
@@ -171,7 +172,12 @@ impl Tally {
             Outcome::Taken(job, at) => self.taken.add(*job, *at),
             Outcome::Inserted(key) => self.put.add(*key, 0),
             Outcome::Removed(key) => self.taken.add(*key, 0),
-            Outcome::Empty | Outcome::Found | Outcome::Unchanged | Outcome::Refused(_) => {}
+            Outcome::Empty
+            | Outcome::Found
+            | Outcome::Unchanged
+            | Outcome::Published(..)
+            | Outcome::Saw(..)
+            | Outcome::Refused(_) => {}
         }
     }
 

@@ -2,9 +2,10 @@
 
 use crate::container::{Container, Outcome};
 use crate::load::{Ask, Load, Mix, Plan};
+use crate::pairs::{PairLog, value_of};
 use crate::results::{Counts, judge};
 use crate::runs::{Driven, drive};
-use crate::seen::Own;
+use crate::seen::{Own, Seen};
 use crate::settings::{Domain, Kind, Refused, Settings, Stop, settings_of};
 use crate::tally::Answer;
 use std::alloc::{AllocError, Global};
@@ -96,13 +97,15 @@ fn words_give_settings(rt: HostRuntime) -> Result<(), Fail> {
 
 #[test]
 fn words_are_refused(rt: HostRuntime) -> Result<(), Fail> {
-    let refused: [(&[&str], Refused); 7] = [
+    let refused: [(&[&str], Refused); 9] = [
         (&["--threads=17"], Refused::Words),
         (&["--container", "stack"], Refused::Words),
         (&["--container=queue", "--mix=90/5/5"], Refused::Calls),
         (&["--container=set", "--mix=pairs"], Refused::Calls),
         (&["--container=sorted", "--threads=2"], Refused::Alone),
         (&["--container=list", "--stop=tail"], Refused::Stop),
+        (&["--container=cell", "--stop=first"], Refused::Stop),
+        (&["--container=cell", "--mix=pairs"], Refused::Calls),
         (&["--threads=16", "--stall"], Refused::Agents),
     ];
     for (words, why) in refused {
@@ -199,7 +202,7 @@ impl Container for Shelf {
     fn call(&self, p: &mut Jobs, ask: &Ask) -> Outcome {
         match ask {
             Ask::Give(job) => self.put(p, *job),
-            Ask::Take(_) | Ask::Read(_) => self.take(p),
+            _ => self.take(p),
         }
     }
 
@@ -318,6 +321,46 @@ fn keys_of_ones_own_are_judged(rt: HostRuntime) -> Result<(), Fail> {
     ];
     for (ask, outcome, right) in told {
         assert_eq!(rt; own.is_true(&ask, &outcome), right, "{ask:?} {outcome:?}");
+    }
+    Ok(())
+}
+
+// The first agent publishes a left part, and the second one both, which the first reads. Then it reads its own left part again, with
+// the second one's right part: such a pair was never published.
+#[test]
+fn pairs_are_judged(rt: HostRuntime) -> Result<(), Fail> {
+    let log = PairLog::new(rt.alloc(), 2, 3)?;
+    let (mine, other) = (value_of(0, 0), value_of(1, 0));
+    log.note(0, 0, (mine, 0));
+    log.note(1, 0, (other, other));
+    log.note(0, 1, (other, other));
+    assert_eq!(rt; (log.noted(), log.all_published()), (3, true));
+    assert_eq!(rt;
+        (
+            log.may_be_left((other, other)),
+            log.may_be_left((mine, 0)),
+            log.may_be_left((0, 0))
+        ),
+        (true, false, false)
+    );
+    log.note(0, 2, (mine, other));
+    assert_eq!(rt; (log.noted(), log.all_published()), (4, false));
+    Ok(())
+}
+
+// An agent that saw the second part of another doesn't see its first one again on that side.
+#[test]
+fn parts_that_come_back_are_wrong(rt: HostRuntime) -> Result<(), Fail> {
+    let mut seen = Seen::new(0, &settings_for(Mix::PairReads).plan);
+    let (first, second) = (value_of(1, 0), value_of(1, 1));
+    let told = [
+        (Outcome::Saw(first, 0), true),
+        (Outcome::Published(second, value_of(0, 5)), true),
+        (Outcome::Saw(second, first), true),
+        (Outcome::Saw(first, first), false),
+    ];
+    for (outcome, right) in told {
+        assert_eq!(rt; seen.follows(&outcome), right, "{outcome:?}");
     }
     Ok(())
 }
