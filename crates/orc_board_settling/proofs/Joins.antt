@@ -1,5 +1,5 @@
 -- The parts of a settling follow one another.
-use Rattle.std.proofs.Common.{List, [], ap, append-nil, append_assoc, arith, refl, suc, subst, sym, zero, ℕ, ◌*◌, ◌++◌, ◌+◌, ◌-◌, ◌<◌, ◌∙◌, ◌∷◌, ◌≡◌, ◌≢◌, ◌≤◌}
+use Rattle.std.proofs.Common.{List, [], ap, append-nil, append_assoc, arith, inl, inr, refl, suc, subst, sym, zero, ℕ, ◌*◌, ◌++◌, ◌+◌, ◌-◌, ◌<◌, ◌∙◌, ◌∷◌, ◌≡◌, ◌≢◌, ◌≤◌, ◌⊎◌}
 use Rattle.std.proofs.Math.Nat.{suc-mul}
 use Rattle.std.specs.Prelude.{map}
 use Rattle.orc_board_settling.specs.OwnSteps.{BeginsWith, LeavesNothing, TakesInCleared, ops_of}
@@ -126,6 +126,12 @@ module _ {N : Type 0} where
   -- it is a turn as a whole
   pub opens_goes : (b : Bounds) (a x : ℕ) (s t : MachineView N) → IsReachedState (run_of b s.journal) → Opens b a x s t → Goes b a x s t
   opens_goes b a x s t r p = record { went = opened_went a x (run_of b s.journal) (run_of b t.journal) r p.opened; adds = p.adds }
+
+  -- what opens a turn opens one with what was before it, if that was nothing or an opening itself
+  pub opens_next : (b : Bounds) (a y : ℕ) (s t u : MachineView N) → (t ≡ s) ⊎ Opens b a 0 s t → IsReachedState (run_of b t.journal)
+      → Opens b a y t u → Opens b a y s u
+  opens_next b a y s t u (inl e) r q = subst (λ z. Opens b a y z u) e q
+  opens_next b a y s t u (inr p) r q = opens_less b a (0 + y) y s u (omega arith) (opens_then b a 0 y s t u p (opens_goes b a y t u r q))
 
   -- as many rounds as there were to make
   pub rounds_all : (b : Bounds) (a left : ℕ) (s t : MachineView N) → Goes b a left s t → MakesRounds b a left s t

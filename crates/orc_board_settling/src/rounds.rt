@@ -1,9 +1,9 @@
 //! Rounds, and settling by as many of them as it takes.
 
-ghost use Rattle.std.specs.Prelude.{◌≡◌, ◌+◌, ◌-◌, ◌*◌, IfSome, None, true};
+ghost use Rattle.std.specs.Prelude.{◌≡◌, ◌-◌, ◌*◌, ◌≤◌, IfSome, None, true};
 ghost use Rattle.orc_board_settling.specs.OwnSteps.{AtMostMore, LeavesNothing, most_rounds, steps_a_round};
 ghost use Rattle.orc_board_settling.specs.Parts.{MakesRounds, NoEvents, Opens, Settles};
-ghost use Rattle.orc_board_settling.specs.Passes.{IsPassOf, record_of, state_of};
+ghost use Rattle.orc_board_settling.specs.Passes.{IsPassOf, record_of};
 ghost use Rattle.orc_core.specs.RecordParts.{scans};
 ghost use Rattle.orc_history.specs.Parts.{IsAlone};
 ghost use Rattle.orc_machine_board.specs.Views.{Belongs, board_bounds, shows};
@@ -28,31 +28,29 @@ fn look_over<D: Discipline>(
     p: &mut MachineBoardPass<D>,
     agent: u32,
     row: u32,
-    k: u32,
-    left: u32,
+    first: u32,
 )
     requires pass { IsPassOf board.now agent p.old }
     requires still { IsStill (record_of board.now agent p.old) }
     requires doom { (record_of board.now agent p.old).doom ≡ None }
-    requires scan { IsScanOf row k (record_of board.now agent p.old).scan }
-    requires left { k + left ≡ 8 * (state_of board.now p.old).bounds.agents }
+    requires scan { IsScanOf row first (record_of board.now agent p.old).scan }
+    requires place { first ≤ 8 * (board_bounds board.now).agents }
     ensures pass { IsPassOf board.now agent p.new }
     ensures opens { Opens (board_bounds board.now) agent 1 (shows p.old) (shows p.new) }
     ensures between { IsBetweenRounds (record_of board.now agent p.new) }
-    ensures few { AtMostMore agent (left + 6 * (board_bounds board.now).links + 3) (shows p.old).journal (shows p.new).journal }
+    ensures few { AtMostMore agent (steps_a_round (board_bounds board.now) - 1) (shows p.old).journal (shows p.new).journal }
 {
-    if left == 0 {
-        let how = CounterUse::End;
-        settle_step(board, p, agent, Op::CounterLoad { row, how });
-        if own_record(board, p, agent).doom.is_some() {
-            free_doomed(board, p, agent, row);
+    let end = 8 * board.shape().agents();
+    for k in first..end {
+        if look_step(board, p, agent, row, k) {
+            settle_step(board, p, agent, Op::Hand { k });
+            return;
         }
-        return;
     }
-    if look_step(board, p, agent, row, k) {
-        settle_step(board, p, agent, Op::Hand { k });
-    } else {
-        look_over(board, p, agent, row, k + 1, left - 1);
+    let how = CounterUse::End;
+    settle_step(board, p, agent, Op::CounterLoad { row, how });
+    if own_record(board, p, agent).doom.is_some() {
+        free_doomed(board, p, agent, row);
     }
 }
 
@@ -89,12 +87,11 @@ fn scan_round<D: Discipline>(
     ensures between { IsBetweenRounds (record_of board.now agent p.new) }
     ensures few { AtMostMore agent (steps_a_round (board_bounds board.now) - 1) (shows p.old).journal (shows p.new).journal }
 {
-    let end = 8 * board.shape().agents();
     let Some(scan) = own_record(board, p, agent).scan else {
         return;
     };
     if scan.word % COUNT_RANGE == NO_LINKS {
-        look_over(board, p, agent, row, scan.place, end - scan.place);
+        look_over(board, p, agent, row, scan.place);
     } else {
         unretire_scanned(board, p, agent, row);
     }

@@ -7,22 +7,10 @@ use Rattle.orc_settling.specs.Records.{PlaceFits}
 use Rattle.orc_words.specs.Bounds.{Bounds}
 use Rattle.orc_board_settling.proofs.rounds.scan_round.Goals as goal
 
-pub overflow_sub-end : goal.overflow_sub-end
-overflow_sub-end g c =
+pub look_over-requires-clause-place : goal.look_over-requires-clause-place
+look_over-requires-clause-place g c =
     let m = state_of c.args.board.now c.args.p.now in
     let same = ap (λ (d : Agent). d.scan) (sym c.own_record.ensures) ∙ c.in-Some.is in
     let low = subst (PlaceFits m.bounds) same (place_fits m c.args.agent c.requires.pass.reached) in
     let agents = ap (λ (b : Bounds). b.agents) (bounds_are c.args.board.now c.args.p.now) in
-    let shape = ap (λ (b : Bounds). b.agents) c.shape.ensures in
-    let end = c.agents-end.ensures in
-    omega arith
-
-pub look_over-requires-clause-left : goal.look_over-requires-clause-left
-look_over-requires-clause-left g c =
-    let m = state_of c.args.board.now c.args.p.now in
-    let same = ap (λ (d : Agent). d.scan) (sym c.own_record.ensures) ∙ c.in-Some.is in
-    let low = subst (PlaceFits m.bounds) same (place_fits m c.args.agent c.requires.pass.reached) in
-    let agents = ap (λ (b : Bounds). b.agents) (bounds_are c.args.board.now c.args.p.now) in
-    let shape = ap (λ (b : Bounds). b.agents) c.shape.ensures in
-    let end = c.agents-end.ensures in
-    omega arith
+    omega (arith, low, agents)

@@ -1,5 +1,5 @@
 use Rattle.std.proofs.Common.{ap, arith, sym, ◌≡◌}
-use Rattle.std.specs.Prelude.{None, is_some}
+use Rattle.std.specs.Prelude.{is_some}
 use Rattle.orc_board_settling.proofs.Joins.{goes_is, goes_then}
 use Rattle.orc_board_settling.proofs.Passes.{links_are}
 use Rattle.orc_board_settling.specs.Passes.{record_of, state_of}

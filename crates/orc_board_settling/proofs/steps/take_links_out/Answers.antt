@@ -1,5 +1,4 @@
-use Rattle.std.proofs.Common.{ap, arith, subst, sym, ◌+◌, ◌<◌, ◌∙◌, ◌≡◌}
-use Rattle.std.specs.Prelude.{None}
+use Rattle.std.proofs.Common.{ap, arith, subst, ◌∙◌, ◌≡◌}
 use Rattle.orc_board_settling.proofs.Joins.{goes_none, goes_then}
 use Rattle.orc_board_settling.proofs.Passes.{links_are}
 use Rattle.orc_board_settling.specs.Passes.{record_of, state_of}
