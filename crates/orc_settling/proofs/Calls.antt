@@ -18,7 +18,7 @@ use Rattle.orc_settling.proofs.Stages.{allowed, dec_row, scanned_row, went_join}
 use Rattle.orc_settling.specs.Records.{DueFits, IsDoomOf, IsScanOf, IsSettling, IsStill, SameTasks}
 use Rattle.orc_settling.specs.Rounds.{AfterStep, Went}
 use Rattle.orc_settling.specs.Turns.{IsReachedState}
-use Rattle.orc_sound.proofs.AllFits.{run_bounds, run_fits}
+use Rattle.orc_sound.proofs.AllFits.{run_fits}
 use Rattle.orc_sound.proofs.DoomedStep.{out_below}
 use Rattle.orc_sound.proofs.World.{world_of}
 use Rattle.orc_sound.specs.Doomed.{dooms}
@@ -191,10 +191,6 @@ end_allowed m a r k q h s f e =
       eq-eqb k
           (8 * m.bounds.agents) e,
     ) refl)
-
-pub few_agents : (m : Machine) → IsReachedState m → m.bounds.agents ≤ 16
-few_agents m r = subst (λ x. x.bounds.agents ≤ 16) (sym r.is) (subst (λ (b : Bounds). b.agents ≤ 16)
-    (sym (run_bounds (new_machine r.bounds) r.steps)) r.shape.agents.1)
 
 -- all slots of an agent that is still are empty
 pub all_empty : (d : Agent) → IsStill d → (j : ℕ) → is_empty (slot_of d j) ≡ true

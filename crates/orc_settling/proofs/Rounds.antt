@@ -1,19 +1,17 @@
 -- Rounds of settling.
-use Rattle.std.proofs.Common.{Bool, List, [], ap, arith, false, refl, subst, sym, true, ℕ, ⊎_elim, ◌*◌, ◌++◌, ◌+◌, ◌-◌, ◌<◌, ◌∙◌, ◌∷◌, ◌≡◌, ◌≤◌}
+use Rattle.std.proofs.Common.{Bool, List, [], ap, arith, false, refl, subst, sym, true, ℕ, ⊎_elim, ◌*◌, ◌+◌, ◌<◌, ◌∙◌, ◌∷◌, ◌≡◌, ◌≤◌}
 use Rattle.std.proofs.lemmas.Bool.{eq-eqb, false≢true, lt-ltb}
 use Rattle.std.specs.Prelude.{None, Option, Some, is_none, is_some, ◌&&◌, ◌==◌, ◌||◌}
-use Rattle.orc_core.proofs.Steps.{run-append}
 use Rattle.orc_core.specs.Listed.{first_is}
 use Rattle.orc_core.specs.Machine.{Machine, is_allowed, new_machine, record_at}
 use Rattle.orc_core.specs.RecordParts.{names, scans}
-use Rattle.orc_core.specs.Runs.{IsLawful, run}
+use Rattle.orc_core.specs.Runs.{run}
 use Rattle.orc_core.specs.declared.ops.CounterUse.TheVariants.{Start}
 use Rattle.orc_core.specs.declared.ops.Op.TheVariants.{CounterLoad}
 use Rattle.orc_core.specs.declared.records.Doom.{Doom}
 use Rattle.orc_core.specs.declared.records.Scan.{Scan}
 use Rattle.orc_settling.proofs.ForRuns.{work_within}
 use Rattle.orc_settling.proofs.Stages.{allowed}
-use Rattle.orc_settling.proofs.Turns.{all_left, all_right, lawful_join, zero_join}
 use Rattle.orc_settling.specs.Records.{IsBetweenRounds, IsDone, IsNext}
 use Rattle.orc_settling.specs.Rounds.{Rounds, Went}
 use Rattle.orc_settling.specs.Turns.{IsReachedState}
