@@ -79,6 +79,26 @@ impl<L: Links<Rule = Split>> SplitSet<L> {
         answer
     }
 
+    /// Inserts as `insert` does, in at most `turns` tries, and stops where a call that added its key may still double the number
+    /// of buckets: so an agent leaves the set whose thread is stopped there. It gives its key's bucket no dummy.
+    ///
+    /// # Errors
+    ///
+    /// As `insert`.
+    pub fn insert_and_stop(&self, p: &mut L::Pass, key: u64, turns: u64) -> Result<bool, ListRefused>
+        requires usable { IsUsable L.Links self.now.links p.old }
+        ensures usable { IsUsable L.Links self.now.links p.new }
+        ensures agent { agent L.Links self.now.links p.new ≡ agent L.Links self.now.links p.old }
+        ensures later { IsPrefix (L.journal p.old) (L.journal p.new) }
+        ensures added { IfOk result (λ yes. Enters L.Links self.now.links p.old p.new (λ agent. SetEntry.Added agent key yes ∷ [])) }
+        ensures none { IfErr result (λ e. EntersNone L.Links self.now.links p.old p.new) }
+        ensures gives { GivesAtMost L.Links self.now.links 1 p.old p.new }
+    {
+        let turn = insert_key(&self.links, p, self.greatest, key, turns);
+        self.links.settle(p);
+        answer_of(turn)
+    }
+
     /// What the members of `SharedSet` and `LearnSet` mean here: the history is that of the domain's events; the domain's
     /// agents may step in between; each refusal has its cause.
     pub fn members(&self)

@@ -1,0 +1,52 @@
+-- What the turns did, and the settling after them.
+use Rattle.std.proofs.Common.{Bool, Err, Result, subst, sym, ◌≡◌}
+use Rattle.orc_heap.proofs.Pieces.{goes_on}
+use Rattle.orc_history.specs.declared.set.ListRefused.TheVariants.{Again}
+use Rattle.orc_history.specs.declared.set.ListRefused.{ListRefused}
+use Rattle.orc_history.specs.declared.set.SetEntry.{SetEntry}
+use Rattle.orc_history.specs.declared.set.SetEntry.TheVariants.{Added}
+use Rattle.orc_ordered_search.proofs.Causes.{did_enter, did_give, did_not_enter}
+use Rattle.orc_ordered_search.proofs.Settling.{Did, idle_settled, insert_did, insert_keeps}
+use Rattle.orc_split_set.specs.Growths.{answer_by}
+use Rattle.orc_split_set.specs.SplitSearches.{split_reading}
+use Rattle.orc_split_set.proofs.Ordered.{split_ordering}
+use Rattle.orc_split_set.proofs.set.SplitSet.insert_and_stop.Goals as goal
+
+pub returns : goal.returns
+returns g c =
+    let d = c.args.self.now.links in
+    let n = g.L.Links.numbers d in
+    let r = split_reading n in
+    let s = g.L.Links.seat d c.args.p.now in
+    let t = g.L.Links.seat d c.insert_key-turn.new.p in
+    let u = g.L.Links.seat d c.settle.new.p in
+    let turn = c.insert_key-turn.result in
+    let answer = c.answer_of.result in
+    let is_answer : answer ≡ answer_by turn = c.answer_of.ensures in
+    let turns = c.args.turns in
+    let done = c.insert_key-turn.ensures in
+    let settle = c.settle.ensures in
+    let entry : Bool → SetEntry = λ answer. Added s.agent c.args.key answer in
+    let did = subst (λ (x : Result Bool ListRefused). Did r (x ≡ Err Again) 1 turns entry s x u) (sym is_answer)
+    (insert_did r s t u settle.nothing entry turns (answer_by turn) done.inserted) in
+    let keeps = insert_keeps r entry turns s t (answer_by turn) done.inserted c.requires.usable.1 in
+    let j = g.L.Links.journal c.args.p.now in
+    let m = g.L.Links.journal c.settle.new.p in
+    let grows = goes_on j (g.L.Links.journal c.insert_key-turn.new.p) m done.later settle.later in
+    let is_s = g.met.L.Links.seen_is d c.args.p.now c.requires.usable.0 in
+    let is_u = g.met.L.Links.seen_is d c.settle.new.p settle.pass in
+    let all = g.met.L.Links.allowed d c.settle.new.p settle.pass in
+    let below = (g.met.L.Links.agents_below d c.settle.new.p settle.pass).1 in
+    let agents = g.L.Links.agents d in
+    let by = g.L.Links.agent_of in
+    let events = g.L.Links.events d in
+    let adds = g.met.L.Links.steps_add d in
+    let x = split_ordering n in
+    record {
+      usable = (settle.pass, idle_settled t u keeps.0 settle.nothing);
+      agent = did.made.puts.agent;
+      later = grows;
+      added = did_enter x agents by events adds s u j m grows is_s is_u all below 1 turns entry answer did;
+      none = did_not_enter x agents by events adds s u j m grows is_s is_u all below 1 turns entry answer did;
+      gives = did_give r 1 turns entry s u answer did;
+    }
