@@ -99,11 +99,14 @@ fn complain<R: Print>(rt: &R, right: bool, what: &str) -> io::Result<bool> {
     Ok(right)
 }
 
-// Whether of a cell whose rows come back those of the version that is left are out, and no others.
+// Whether the rows that are out are those that what is left takes, where rows come back. Of a set there may be more: marked nodes,
+// and those of buckets.
 fn rows_fit(settings: &Settings, driven: &Driven, counts: &Counts) -> bool {
     match (settings.container, settings.domain) {
-        (Kind::Cell, Domain::Reclaiming) => counts.linked == driven.rest.rows,
-        _ => true,
+        (_, Domain::Plain) | (Kind::Sorted, _) => true,
+        (Kind::Queue | Kind::Cell, Domain::Reclaiming) => counts.linked == driven.rest.rows,
+        (Kind::List | Kind::Set | Kind::Split, Domain::Reclaiming) => counts.linked
+            >= driven.rest.rows,
     }
 }
 
@@ -157,7 +160,7 @@ pub fn judge<R: Print>(
         ),
         (
             rows_fit(settings, driven, counts),
-            "the rows that are out aren't those of the version that is left",
+            "the rows that are out aren't those that what is left takes",
         ),
     ];
     let mut right = true;

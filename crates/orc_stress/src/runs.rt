@@ -34,11 +34,14 @@ pub struct Rest {
     pub in_order: bool,
     /// Whether each pair that was read of a cell was published, and those parts are left that were last.
     pub are_pairs: bool,
-    /// The rows of the version of a cell that is left.
+    /// How many rows what is left takes: the dummy of an empty queue, a node for each key, a cell's pair and its parts.
     pub rows: u32,
 }
 
-// The rows of a version: a pair and its two parts.
+// The rows of an empty queue: its dummy.
+const DUMMY: u32 = 1;
+
+// The rows of a cell's version: a pair and its two parts.
 const VERSION: u32 = 3;
 
 // Inserts every second key, the greatest first, as long as there is a row for one.
@@ -75,7 +78,7 @@ fn find_keys<C: Container>(container: &C, p: &mut C::Pass, keys: u32) -> Rest
         items,
         in_order: true,
         are_pairs: true,
-        rows: 0,
+        rows: u32::try_from(items.count).unwrap_or(u32::MAX),
     }
 }
 
@@ -100,7 +103,7 @@ fn take_jobs<C: Container>(container: &C, p: &mut C::Pass, plan: &Plan, waiting:
         items,
         in_order: in_order && last == Outcome::Empty,
         are_pairs: true,
-        rows: 0,
+        rows: DUMMY,
     }
 }
 
