@@ -1,1 +1,2 @@
+pub mod JobRun
 pub mod Swings

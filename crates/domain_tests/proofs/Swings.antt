@@ -1,4 +1,4 @@
--- What the discipline for tests allows, and what becomes of a fresh node.
+-- What the disciplines for tests allow, and what becomes of a fresh node.
 use Rattle.std.proofs.Common.{Bool, List, None, Option, Some, false, refl, true, ℕ, ◌++◌, ◌∙◌, ◌≡◌}
 use Rattle.std.proofs.lemmas.Bool.{eq-eqb}
 use Rattle.std.specs.Prelude.{if◌then◌else◌}
@@ -7,6 +7,7 @@ use Rattle.orc_heap.proofs.Known.{known-later}
 use Rattle.orc_heap.proofs.Pieces.{InSlot, slot_id, slot_released}
 use Rattle.orc_heap.specs.Acts.{IsKnown, IsTarget}
 use Rattle.orc_heap.specs.Allowed.{Later}
+use Rattle.orc_heap.specs.AnyFit.{AnyFit}
 use Rattle.orc_heap.specs.Calls.{Gives, MayMove, Releases, unless_node}
 use Rattle.orc_heap.specs.Heap.{HeapNumbers}
 use Rattle.orc_heap.specs.Journals.{run_heap}
@@ -17,15 +18,24 @@ use Rattle.orc_heap.specs.declared.holds.At.TheVariants.{Root as AtRoot}
 use Rattle.orc_heap.specs.declared.holds.Want.TheVariants.{Node as WantNode, Null as WantNull}
 use Rattle.orc_heap.specs.declared.holds.Want.{Want}
 
-module _ {N : Type 0} (n : HeapNumbers) (s : Seat N) (known : (h : Hold) → Holds s.slots h → IsKnown s.agent (run_heap n s.seen) (id_in s.slots h)) where
-  target_later : (to : Want) → HoldsWant s.slots to → (more : List (Event N)) → Later (TwinsMay n) s.agent s.seen more
-      → IsTarget s.agent (run_heap n (s.seen ++ more)) (link_in s.slots to).to
-  target_later (WantNull mark) held more later = tt
-  target_later (WantNode h mark) held more later = known-later n (TwinsMay n) s.agent (id_in s.slots h.now) s.seen more later.allowed (known h.now held)
+abbrev KnownAt : {N : Type 0} → HeapNumbers → Seat N → Type 0
+KnownAt n s = (h : Hold) → Holds s.slots h → IsKnown s.agent (run_heap n s.seen) (id_in s.slots h)
 
-  -- a root may be swung
+-- what is held stays a target for the pass's agent
+target_later : {N : Type 0} (n : HeapNumbers) (may : List (Event N) → Event N → Type 0) (s : Seat N) → KnownAt n s → (to : Want) → HoldsWant s.slots to
+    → (more : List (Event N)) → Later may s.agent s.seen more → IsTarget s.agent (run_heap n (s.seen ++ more)) (link_in s.slots to).to
+target_later n may s known (WantNull mark) held more later = tt
+target_later n may s known (WantNode h mark) held more later = known-later n may s.agent (id_in s.slots h.now) s.seen more later.allowed (known h.now held)
+
+module _ {N : Type 0} (n : HeapNumbers) (s : Seat N) (known : KnownAt n s) where
+  -- a root may be swung, under the discipline with two links
   pub may_swing : (root : ℕ) (from to : Want) → HoldsWant s.slots to → MayMove (TwinsMay n) n s (AtRoot root) from to None
-  may_swing root from to held more later there = record { fits = (there, target_later to held more later); of_root = tt; plain = refl }
+  may_swing root from to held more later there =
+      record { fits = (there, target_later n (TwinsMay n) s known to held more later); of_root = tt; plain = refl }
+
+  -- and where whatever fits is allowed
+  pub any_swing : (root : ℕ) (from to : Want) → HoldsWant s.slots to → MayMove (AnyFit n) n s (AtRoot root) from to None
+  any_swing root from to held more later there = ((there, target_later n (AnyFit n) s known to held more later), tt)
 
 -- what is fresh after a swing
 abbrev swung : Bool → Option ℕ → Option ℕ → Option ℕ

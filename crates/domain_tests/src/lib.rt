@@ -1,4 +1,4 @@
-//! Tests of both domains over rows with two links.
+//! Tests of the heap, the boards and both domains.
 #![tactic(auto)]
 
 #[cfg(test)]

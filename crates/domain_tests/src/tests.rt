@@ -1,5 +1,11 @@
-//! A node whose two links lead to another one: linked, unlinked, and counted at rest.
+//! The heap, shared words, both boards, and nodes over both domains: given, linked, held, reused, and counted at rest.
 
 mod calls;
+mod heap;
+mod job;
+mod nodes;
 mod plain;
+mod plain_board;
 mod reclaiming;
+mod steps;
+mod words;

@@ -4,6 +4,3 @@
 mod handovers;
 
 pub use handovers::drain;
-
-#[cfg(test)]
-mod tests;

@@ -4,6 +4,3 @@
 mod count;
 
 pub use count::{RowCounts, count_rows};
-
-#[cfg(test)]
-mod tests;

@@ -5,6 +5,3 @@ mod rounds;
 mod steps;
 
 pub use rounds::settle;
-
-#[cfg(test)]
-mod tests;

@@ -13,6 +13,3 @@ pub mod twins;
 
 pub use domain::{PlainDomain, PlainPass, PlainRest};
 pub use names::{first_row, row_link, word_at};
-
-#[cfg(test)]
-mod tests;

@@ -19,6 +19,3 @@ pub use laws::{
 };
 pub use links::Links;
 pub use seed::Seed;
-
-#[cfg(test)]
-mod tests;

@@ -1,7 +1,5 @@
-pub mod AnyMoves
 pub mod Events
 pub mod Holds
-pub mod JobRun
 pub mod Known
 pub mod Learning
 pub mod Licences

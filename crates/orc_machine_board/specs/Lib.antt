@@ -1,5 +1,4 @@
 pub mod Holding
-pub mod JobRun
 pub mod Kinds
 pub mod Laws
 pub mod Licences

@@ -14,6 +14,3 @@ mod step;
 pub use board::{MachineBoard, MachineBoardPass};
 pub use laws::{a_held_row_keeps_its_node, a_pass_that_took_in_all_steps_next};
 pub use machine::{MachineShape, Reclaiming, Request};
-
-#[cfg(test)]
-mod tests;

@@ -1,5 +1,4 @@
 pub mod Aiming
-pub mod AnySwings
 pub mod Counting
 pub mod Exchanging
 pub mod Filling

@@ -18,6 +18,3 @@ mod steps;
 pub use at_rest::OrcRest;
 pub use domain::{OrcDomain, OrcPass};
 pub use reached::what_is_left_is_reached;
-
-#[cfg(test)]
-mod tests;

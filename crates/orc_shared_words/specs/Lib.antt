@@ -6,4 +6,3 @@ pub mod Rule
 pub mod Steps
 pub mod Learning
 pub mod Ends
-pub mod Ticks

@@ -15,6 +15,3 @@ pub use machine::Machine;
 pub use operation::PlacedOperation;
 pub use rule::Shown;
 pub use shared_words::{SharedPass, SharedWords};
-
-#[cfg(test)]
-mod tests;

@@ -15,6 +15,3 @@ pub use laws::{a_pass_that_took_in_all_is_alone, rows_keep_their_nodes, words_sh
 pub use machine::{Plain, PlainOp, PlainStep};
 pub use pass::{PlainBoard, PlainBoardPass};
 pub use shape::PlainShape;
-
-#[cfg(test)]
-mod tests;

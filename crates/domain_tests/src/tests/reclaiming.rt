@@ -5,18 +5,48 @@ ghost use Rattle.orc_reclaiming_domain.specs.Ends.{AreAll, AreIdle};
 ghost use Rattle.orc_reclaiming_domain.specs.Passes.{domain_numbers};
 
 use super::calls::first_links;
+use super::nodes::{
+    first_gives, held_meanwhile, learn_both, on_two_threads, sees_each, value_at_root, with_a_node,
+};
 use orc_domain::twins::Twins;
-use orc_heap::Seed;
+use orc_heap::{AnyFit, Discipline, Seed};
 use orc_reclaiming_domain::{OrcDomain, OrcPass};
 use orc_words::Shape;
 use std::test::Fail;
 
-type Domain = OrcDomain<Twins>;
+type Domain = OrcDomain<AnyFit>;
 
-type Pass = OrcPass<Twins>;
+type Pass = OrcPass<AnyFit>;
 
-// Lets the first of all passes make the calls.
-fn first_of_all_links(domain: &Domain, passes: &mut Vec<Pass>) -> bool
+fn is_shared<T: Sync>() {}
+
+fn is_sent<T: Send>() {}
+
+// Compiles for each discipline whose notes may cross threads.
+fn domains_and_passes_cross_threads<D: Discipline>()
+where
+    D::Note: Send + Sync,
+{
+    is_shared::<OrcDomain<D>>();
+    is_sent::<OrcDomain<D>>();
+    is_sent::<OrcPass<D>>();
+}
+
+// Brings the domain to rest, answers its numbers, and ends its table.
+fn numbers_at_rest<D: Discipline>(domain: OrcDomain<D>, passes: Vec<OrcPass<D>>) -> (u64, u64, u32)
+    requires all { AreAll domain passes.items }
+    requires idle { AreIdle domain passes.items }
+{
+    let mut passes = passes;
+    domain.drain_all(passes.as_mut_slice());
+    let rest = domain.rest(passes);
+    let numbers = (rest.given(), rest.reused(), rest.linked());
+    let _words = rest.close();
+    numbers
+}
+
+// Lets the first of all passes link nodes to each other.
+fn first_of_all_links(domain: &OrcDomain<Twins>, passes: &mut Vec<OrcPass<Twins>>) -> bool
     requires all { AreAll domain.now passes.old.items }
     requires idle { AreIdle domain.now passes.old.items }
     requires roots { 0 < (domain_numbers domain.now).roots }
@@ -27,25 +57,90 @@ fn first_of_all_links(domain: &Domain, passes: &mut Vec<Pass>) -> bool
     first_links(domain, passes.as_mut_slice())
 }
 
-// Brings the domain to rest, and answers its numbers.
-fn numbers_at_rest(domain: Domain, passes: Vec<Pass>) -> (u64, u64, u32)
-    requires all { AreAll domain passes.items }
-    requires idle { AreIdle domain passes.items }
-{
-    let mut passes = passes;
-    domain.drain_all(passes.as_mut_slice());
-    let rest = domain.rest(passes);
-    (rest.given(), rest.reused(), rest.linked())
-}
-
 // At rest both rows have been freed: the second one's two links were counted twice for the first, and both were taken out.
 #[test]
 fn both_links_of_a_freed_row_are_taken_out(rt: HostRuntime) -> Result<(), Fail> {
     let shape = Shape::with_links(4, 1, 1, 8, 2)?;
-    let Ok((domain, mut passes)) = Domain::make(rt.alloc(), &shape, Seed::Empty) else {
+    let Ok((domain, mut passes)) = OrcDomain::make(rt.alloc(), &shape, Seed::Empty) else {
         panic!(rt; "memory")
     };
     assert!(rt; first_of_all_links(&domain, &mut passes));
     assert_eq!(rt; numbers_at_rest(domain, passes), (2, 2, 0));
+    Ok(())
+}
+
+// Lets the first of all passes give a node, and release it.
+fn first_of_all_gives(domain: &Domain, passes: &mut Vec<Pass>) -> Option<(u64, bool)>
+    requires all { AreAll domain.now passes.old.items }
+    requires idle { AreIdle domain.now passes.old.items }
+    requires roots { 0 < (domain_numbers domain.now).roots }
+    ensures all { AreAll domain.now passes.new.items }
+    ensures idle { AreIdle domain.now passes.new.items }
+{
+    first_gives(domain, passes.as_mut_slice())
+}
+
+// Both rows are given, and released unlinked. No third is had while they wait; at rest both have been freed, and none is out.
+#[test]
+fn what_was_released_is_freed_at_rest(rt: HostRuntime) -> Result<(), Fail> {
+    let shape = Shape::new(2, 1, 3, 8)?;
+    let Ok((domain, mut passes)) = Domain::make(rt.alloc(), &shape, Seed::Empty) else {
+        panic!(rt; "memory")
+    };
+    let given = [
+        first_of_all_gives(&domain, &mut passes),
+        first_of_all_gives(&domain, &mut passes),
+        first_of_all_gives(&domain, &mut passes),
+    ];
+    assert_eq!(rt; given, [Some((9, true)), Some((9, true)), None]);
+    assert_eq!(rt; numbers_at_rest(domain, passes), (2, 2, 0));
+    Ok(())
+}
+
+// The row that one holds stays its node while the other uses the other row twice, and is handed over to it.
+#[test]
+fn a_hold_keeps_its_values_and_a_release_takes_in_the_row(rt: HostRuntime) -> Result<(), Fail> {
+    let shape = Shape::new(2, 1, 2, 8)?;
+    let Ok((domain, passes)) = Domain::make(rt.alloc(), &shape, Seed::Empty) else {
+        panic!(rt; "memory")
+    };
+    let Some((mut one, mut two)) = with_a_node(&domain, passes) else {
+        panic!(rt; "two passes")
+    };
+    let seen = held_meanwhile(&domain, &mut one, &mut two);
+    let waiting = domain.backlog(&one);
+    domain.drain(&mut one);
+    assert_eq!(rt; seen, Some((8, 8, true)));
+    assert_eq!(rt; (waiting, domain.backlog(&one)), (1, 0));
+    Ok(())
+}
+
+// Two rows serve five nodes in turn, and each is seen with its own value.
+#[test]
+fn a_row_that_was_reused_is_another_node(rt: HostRuntime) -> Result<(), Fail> {
+    let shape = Shape::new(2, 1, 2, 8)?;
+    let Ok((domain, passes)) = Domain::make(rt.alloc(), &shape, Seed::Empty) else {
+        panic!(rt; "memory")
+    };
+    let Some((mut one, mut two)) = with_a_node(&domain, passes) else {
+        panic!(rt; "two passes")
+    };
+    assert_eq!(rt; value_at_root(&domain, &mut one), Some(8));
+    assert!(rt; sees_each(&domain, &mut two, &mut one, &[9, 10, 11, 12]));
+    assert!(rt; learn_both(&domain, &mut one, &mut two));
+    Ok(())
+}
+
+#[test]
+fn looks_race_a_reuse(rt: HostRuntime) -> Result<(), Fail> {
+    let shape = Shape::new(2, 1, 2, 8)?;
+    let Ok((domain, passes)) = Domain::make(rt.alloc(), &shape, Seed::Empty) else {
+        panic!(rt; "memory")
+    };
+    let Some((mut one, mut two)) = with_a_node(&domain, passes) else {
+        panic!(rt; "two passes")
+    };
+    let done = on_two_threads(&rt, &domain, &mut one, &mut two);
+    assert_eq!(rt; done, (true, true));
     Ok(())
 }

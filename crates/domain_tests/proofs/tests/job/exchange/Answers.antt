@@ -1,0 +1,11 @@
+use Rattle.std.proofs.Common.{Some}
+use Rattle.orc_core.specs.declared.ops.Op.TheVariants.{LinkCas}
+use Rattle.domain_tests.proofs.JobRun.{sole_next}
+use Rattle.orc_machine_board.specs.Kinds.{asks}
+use Rattle.orc_machine_board.specs.Views.{board_bounds, shows}
+use Rattle.domain_tests.proofs.tests.job.exchange.Goals as goal
+
+pub returns-clause-journal : goal.returns-clause-journal
+returns-clause-journal c = λ e. sole_next (board_bounds c.args.board.now) (asks (LinkCas c.args.place c.args.from c.args.to)) (Some c.args.note)
+    (shows c.args.p.now) (shows c.link_cas.new.p) c.link_cas.result
+    c.requires.sole.sizes c.requires.sole.agent c.link_cas.ensures.makes c.seen_by.ensures.below

@@ -1,5 +1,0 @@
-use Rattle.orc_machine_board.specs.Views.{Belongs}
-use Rattle.orc_machine_board.proofs.tests.job.free.Given as goal
-
-abbrev pub invariant-loop-k : goal.invariant-loop-k
-invariant-loop-k l = Belongs l.board l.p

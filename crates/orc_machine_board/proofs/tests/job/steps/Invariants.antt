@@ -1,8 +1,0 @@
-use Rattle.std.proofs.Common.{drop, ◌++◌, ◌≡◌}
-use Rattle.orc_machine_board.specs.JobRun.{IsSolePass, own_steps}
-use Rattle.orc_machine_board.specs.Views.{shows}
-use Rattle.orc_machine_board.proofs.tests.job.steps.Given as goal
-
--- the steps that are left lead to where all lead
-abbrev pub invariant-loop-op : goal.invariant-loop-op
-invariant-loop-op l = IsSolePass l.board l.p × ((shows l.p).journal ++ own_steps (drop l.op-index l.ops) ≡ (shows l.fn.p).journal ++ own_steps l.ops)

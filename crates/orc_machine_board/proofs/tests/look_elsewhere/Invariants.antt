@@ -1,6 +1,0 @@
-use Rattle.std.proofs.Common.{◌≡◌}
-use Rattle.orc_machine_board.specs.Views.{Belongs, shows}
-use Rattle.orc_machine_board.proofs.tests.look_elsewhere.Given as goal
-
-abbrev pub invariant-loop-look : goal.invariant-loop-look
-invariant-loop-look l = Belongs l.board l.p × ((shows l.p).agent ≡ (shows l.fn.p).agent) × ((shows l.p).absorbed ≡ (shows l.fn.p).absorbed)
