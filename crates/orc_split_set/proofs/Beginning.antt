@@ -1,11 +1,12 @@
 -- Looks of the other roots: a bucket's root tells where a search may begin, and the last one the size.
-use Rattle.std.proofs.Common.{List, None, Some, [], ap, arith, refl, subst, sym, ℕ, ◌++◌, ◌%◌, ◌*◌, ◌+◌, ◌/◌, ◌<◌, ◌∙◌, ◌∷◌, ◌≡◌, ◌≤◌, ◌^◌, suc, zero}
+use Rattle.std.proofs.Common.{List, None, Some, [], ap, arith, inl, inr, refl, subst, sym, ℕ, ◌++◌, ◌%◌, ◌*◌, ◌+◌, ◌/◌, ◌<◌, ◌∙◌, ◌∷◌, ◌≡◌, ◌≤◌, ◌^◌, suc, zero}
 use Rattle.std.proofs.Math.Nat.{mod-lt}
 use Rattle.std.proofs.Math.Pow.{mod-mod-pow}
 use Rattle.std.specs.List.{slice_get, slice_set}
 use Rattle.orc_heap.proofs.Calls.{Puts-stood}
 use Rattle.orc_heap.proofs.Hands.{hands_take}
-use Rattle.orc_heap.proofs.Moments.{looks_differ, seen_is, since}
+use Rattle.orc_heap.proofs.Moments.{look_found, looks_differ, seen_is, since}
+use Rattle.orc_heap.proofs.SingleActs.{some_same}
 use Rattle.orc_heap.specs.Allowed.{AllAllowed}
 use Rattle.orc_heap.specs.Calls.{Looks, Tells, event_of}
 use Rattle.orc_heap.specs.Heap.{Heap, HeapNumbers, shown}
@@ -21,6 +22,7 @@ use Rattle.orc_heap.specs.declared.events.Place.{Place}
 use Rattle.orc_heap.specs.declared.events.Place.TheVariants.{Next, Root, Side}
 use Rattle.orc_heap.specs.declared.holds.Looked.TheVariants.{Moved as LookedMoved, Stable}
 use Rattle.orc_heap.specs.declared.holds.Seen.{Seen}
+use Rattle.orc_ordered_chains.proofs.Paths.{leads_one}
 use Rattle.orc_ordered_chains.specs.Chains.{FollowsOn, LeadsTo}
 use Rattle.orc_ordered_search.specs.Searches.{FindsMoved, HasRoom, Quiet}
 use Rattle.orc_ordered_search.proofs.Preceding.{finds_after, quiet_trans}
@@ -32,14 +34,16 @@ use Rattle.orc_split_rule.specs.Laws.Values.{dummy_rank}
 use Rattle.orc_split_rule.specs.SplitDiscipline.{HasValues, IsDummy, IsSize, SplitHolds, SplitMay, greatest, size_of}
 use Rattle.orc_split_rule.specs.SplitOrder.{bucket_of, dummy_place, reversed, split_order}
 use Rattle.orc_split_rule.specs.declared.split.SplitNote.{SplitNote}
-use Rattle.orc_split_set.specs.Beginnings.{BeginsKey, BeginsNear, BeginsWith, Held, MayBegin, seat_before}
+use Rattle.orc_split_set.specs.Beginnings.{BeginsKey, BeginsNear, BeginsWith, Held, MayBegin, StartsIf, seat_before}
 use Rattle.orc_split_set.specs.Crowds.{BeginsBy, SeesOwn}
+use Rattle.orc_split_set.specs.Looks.{HasStart, StartsAt}
 use Rattle.orc_split_set.specs.NewNodes.{place_for, value_of}
 use Rattle.orc_split_set.specs.SplitSearches.{split_reading}
 use Rattle.orc_split_set.specs.declared.begin.Begun.{Begun}
 use Rattle.orc_split_set.specs.declared.begin.Begun.TheVariants.{From, Moved as BegunMoved}
 use Rattle.orc_split_set.specs.declared.node.NewNode.{NewNode}
 use Rattle.orc_split_set.specs.declared.node.NewNode.TheVariants.{Dummy, Key}
+use Rattle.orc_split_set.proofs.Crowding.{own_later, own_unmoved, puts_grow}
 use Rattle.orc_split_set.proofs.Ordered.{split_ordering}
 
 -- what a Look of a root found of a node's values where it stands is so at the end
@@ -83,6 +87,15 @@ below_new h id i (Dummy bucket) some may d =
     low_before bucket i (λ same. omega (arith, same, may, mod-lt bucket some)) in
     (dummy_place (bucket % 2 ^ i), dummy_rank h id (bucket % 2 ^ i) d, omega (arith, less), refl)
 
+-- a search that begins at root 0 begins where the first bucket does, and one at a node that the bucket's root names where that one does
+
+starts_first : (h : Heap) (bucket : ℕ) → bucket ≡ 0 → StartsAt h bucket (Root 0)
+starts_first h bucket is = subst (λ (b : ℕ). StartsAt h b (Root 0)) (sym is) refl
+
+starts_there : (h : Heap) (bucket id : ℕ) → 1 ≤ bucket → LeadsTo h (Root bucket) (Some id) → StartsAt h bucket (Next id)
+starts_there h zero id low leads = absurd (omega (arith, low))
+starts_there h (suc bucket) id low leads = λ other there. ap (λ (i : ℕ). Next i) (some_same (leads_one h (Root (suc bucket)) (Some id) (Some other) leads there))
+
 -- the pass's loads are the same, by what it held before
 quiet_before : (n : HeapNumbers) (s t : Seat SplitNote) (own : List (Event SplitNote)) (p : Puts s own t) → Quiet (split_reading n) s own t
     → Quiet (split_reading n) s own (seat_before s t)
@@ -99,12 +112,13 @@ quiet_before n s t own p q = record {
 module _ (n : HeapNumbers) (new : NewNode) (s t : Seat SplitNote) (own : List (Event SplitNote)) (q : Quiet (split_reading n) s own t)
     (same : t.slots ≡ s.slots) where
   -- a search from root 0
-  pub from_root : (size : ℕ) → BeginsWith n new size s (From None) t
-  from_root size = record {
+  pub from_root : (size : ℕ) → (SeesOwn s t → HasStart (heap_of n t) (bucket_of (value_of new) size) → bucket_of (value_of new) size ≡ 0)
+      → BeginsWith n new size s (From None) t
+  from_root size first = record {
     own = own;
     quiet = quiet_before n s t own q.puts q;
     start = Root 0;
-    near = refl;
+    near = (refl, λ sees has. starts_first (heap_of n t) (bucket_of (value_of new) size) (first sees has));
     begins = record {
       begins = record {
         left_id = 0;
@@ -187,7 +201,18 @@ module _ (n : HeapNumbers) (new : NewNode) (s t : Seat SplitNote) (own : List (E
             own = own ++ ys;
             quiet = quiet_before n s u (own ++ ys) whole.puts whole;
             start = Next id;
-            near = (value_of new % 2 ^ i, d, omega arith);
+            near = (
+              (value_of new % 2 ^ i, d, omega arith),
+              λ sees has.
+                  let found = look_found n (SplitMay n) (may_fits n) t u (Root bucket) link None
+                  (event_of t (Look (Root bucket) one) None ∷ []) [] puts all tt in
+                  let last = own_later s t u (puts_grow s t own q.puts) (puts_grow t u ys puts) q.puts.agent sees in
+                  let leads : LeadsTo (heap_of n u) (Root bucket) (Some id) = elim found [
+                    | inl shows ↦ record { link = link; at = shows; to_is = refl }
+                    | inr moved ↦ absurd (own_unmoved t u ys puts refl moved last)
+                  ] in
+                  subst (λ (b : ℕ). StartsAt (heap_of n u) b (Next id)) is (starts_there (heap_of n u) bucket id some leads),
+            );
             begins = record {
               begins = record {
                 left_id = id;
@@ -262,19 +287,28 @@ near_on n new Near Far go s t BegunMoved f = f
 near_on n new Near Far go s t (From left) b =
     record { own = b.own; quiet = b.quiet; start = b.start; begins = b.begins; near = go b.start b.near }
 
--- where fewer buckets begin no later
+-- where fewer buckets begin no later, and the node's is the same if it has a start
 pub begins_later : (n : HeapNumbers) (new : NewNode) (fewer size : ℕ)
-    → dummy_place (bucket_of (value_of new) fewer) ≤ dummy_place (bucket_of (value_of new) size)
-    → (s t : Seat SplitNote) (begun : Begun) → BeginsWith n new fewer s begun t → BeginsWith n new size s begun t
-begins_later n new fewer size low s t begun b =
-    near_on n new (λ start. BeginsBy (heap_of n t) start (bucket_of (value_of new) fewer))
-    (λ start. BeginsBy (heap_of n t) start (bucket_of (value_of new) size))
-    (λ start by. by_later (heap_of n t) start (bucket_of (value_of new) fewer) (bucket_of (value_of new) size) low by) s t begun b
+    → dummy_place (bucket_of (value_of new) fewer) ≤ dummy_place (bucket_of (value_of new) size) → (s t : Seat SplitNote)
+    → (SeesOwn s t → HasStart (heap_of n t) (bucket_of (value_of new) size) → bucket_of (value_of new) size ≡ bucket_of (value_of new) fewer)
+    → (begun : Begun) → BeginsWith n new fewer s begun t → BeginsWith n new size s begun t
+begins_later n new fewer size low s t same begun b =
+    let h = heap_of n t in
+    let one = bucket_of (value_of new) fewer in
+    let two = bucket_of (value_of new) size in
+    near_on n new (λ start. BeginsBy h start one × StartsIf n s t one start) (λ start. BeginsBy h start two × StartsIf n s t two start)
+    (λ start near. (
+      by_later h start one two low near.0,
+      λ sees has. (let is = same sees has in subst (λ (x : ℕ). StartsAt h x start) (sym is) (near.1 sees (subst (λ (x : ℕ). HasStart h x) is has))),
+    )) s t begun b
 
 -- a key's search, where the size that was read is the one before the call, if the pass saw only own events
 pub begins_key : (n : HeapNumbers) (key size : ℕ) (s t : Seat SplitNote) (begun : Begun) → (SeesOwn s t → size ≡ size_of n s.seen)
     → BeginsWith n (Key key) size s begun t → BeginsKey n key s begun t
 begins_key n key size s t begun same b =
-    near_on n (Key key) (λ start. BeginsBy (heap_of n t) start (bucket_of key size))
-    (λ start. SeesOwn s t → BeginsBy (heap_of n t) start (bucket_of key (size_of n s.seen)))
-    (λ start by sees. subst (λ (z : ℕ). BeginsBy (heap_of n t) start (bucket_of key z)) (same sees) by) s t begun b
+    let h = heap_of n t in
+    near_on n (Key key) (λ start. BeginsBy h start (bucket_of key size) × StartsIf n s t (bucket_of key size) start)
+    (λ start. SeesOwn s t → BeginsBy h start (bucket_of key (size_of n s.seen))
+    × (HasStart h (bucket_of key (size_of n s.seen)) → StartsAt h (bucket_of key (size_of n s.seen)) start))
+    (λ start near sees. subst (λ (z : ℕ). BeginsBy h start (bucket_of key z) × (HasStart h (bucket_of key z) → StartsAt h (bucket_of key z) start)) (same sees)
+    (near.0, λ has. near.1 sees has)) s t begun b

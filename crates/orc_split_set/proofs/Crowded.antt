@@ -35,7 +35,7 @@ use Rattle.orc_split_rule.specs.SplitDiscipline.{IsSize, SplitHolds, SplitMay, g
 use Rattle.orc_split_rule.specs.SplitOrder.{bucket_of}
 use Rattle.orc_split_rule.specs.declared.split.SplitNote.{SplitNote}
 use Rattle.orc_split_rule.specs.declared.split.SplitNote.TheVariants.{Anchor, Bucket, Entry, Grow, Unlink}
-use Rattle.orc_split_set.specs.Crowds.{CountsKeys, SeesOwn, keys_before, keys_between}
+use Rattle.orc_split_set.specs.Crowds.{CountsKeys, SeesOwn, keys_before, keys_between, seat_after}
 use Rattle.orc_split_set.specs.Growths.{GrowTells, GrowsAfter, HasGrow, IsCrowded, answer_by}
 use Rattle.orc_split_set.specs.Rootings.{IsUndisturbed, KeyTells, Prepares}
 use Rattle.orc_split_set.specs.SplitSearches.{split_reading}
@@ -191,10 +191,7 @@ turn_added TurnNoNode e = cc
 turn_added (TurnSpent why) e = cc
 
 -- what a call that was undisturbed did before its turns: it put its events in the seat in which its part begins
-abbrev begun_seat : Seat SplitNote → List (Event SplitNote) → Seat SplitNote
-begun_seat s gap = record { agent = s.agent; seen = s.seen ++ gap; slots = s.slots; fresh = s.fresh }
-
-begun_puts : (s t : Seat SplitNote) (own gap : List (Event SplitNote)) → (p : Puts s own t) → IsUndisturbed s.agent p.part gap → Puts (begun_seat s gap) own t
+pub begun_puts : (s t : Seat SplitNote) (own gap : List (Event SplitNote)) → (p : Puts s own t) → IsUndisturbed s.agent p.part gap → Puts (seat_after s gap) own t
 begun_puts s t own gap p y =
     let a = s.agent in
     record {
@@ -216,7 +213,7 @@ module _ (n : HeapNumbers) (key turns : ℕ) (s t0 t v u : Seat SplitNote) (turn
       let (some, own, call) = subst (λ (r : Result Bool ListRefused). InsertAnswers (split_reading n) entry turns t0 r t) is inserted in
       (own, call.made.puts)
 
-  crowd_of : (gap : List (Event SplitNote)) → IsUndisturbed s.agent prepared.call.made.puts.part gap → Crowd n key (begun_seat s gap) t0 t v u turn grown
+  crowd_of : (gap : List (Event SplitNote)) → IsUndisturbed s.agent prepared.call.made.puts.part gap → Crowd n key (seat_after s gap) t0 t v u turn grown
   crowd_of gap y =
       let (own, puts) = added in
       let (passed, turn_is) = turn_added turn is in
@@ -237,7 +234,7 @@ module _ (n : HeapNumbers) (key turns : ℕ) (s t0 t v u : Seat SplitNote) (turn
   module _ (Lacks : Type 0) (Worn : SpentRow → Type 0) (first : rooted ≡ NoNode → Lacks) (first_worn : (why : SpentRow) → rooted ≡ Spent why → Worn why)
       (last : grown ≡ NoNode → Lacks) (last_worn : (why : SpentRow) → grown ≡ Spent why → Worn why) (gap rest : List (Event SplitNote))
       (x : IsUndisturbed s.agent (prepared.call.made.puts.part ++ rest) gap) (sized : 2 * size_of n (s.seen ++ gap) ≤ greatest n) (some : 1 ≤ greatest n)
-      (all_t0 : AllAllowed (SplitMay n) [] t0.seen) (all_t : AllAllowed (SplitMay n) [] t.seen) (sees : SeesOwn (begun_seat s gap) u)
+      (all_t0 : AllAllowed (SplitMay n) [] t0.seen) (all_t : AllAllowed (SplitMay n) [] t.seen) (sees : SeesOwn (seat_after s gap) u)
       (many : 8 < length (keys_before n key (s.seen ++ gap))) where
     by_root : (result : Rooted) → rooted ≡ result → KeyTells n key s prepared.own prepared.call.made.puts.part result t0
         → HasGrow sees.part ⊎ (Lacks ⊎ ((why : SpentRow) × Worn why))
@@ -252,7 +249,7 @@ module _ (n : HeapNumbers) (key turns : ℕ) (s t0 t v u : Seat SplitNote) (turn
     by_root Done is tells =
         let p = prepared.call.made.puts in
         let y = undisturbed_left s.agent p.part rest gap (rw p.own_is tells.0) x in
-        elim (crowd_grows n key (begun_seat s gap) t0 t v u turn grown (crowd_of gap y) some all_t0 all_t sees many sized) [
+        elim (crowd_grows n key (seat_after s gap) t0 t v u turn grown (crowd_of gap y) some all_t0 all_t sees many sized) [
           | inl grows ↦ inl grows
           | inr none ↦ elim none [ inl missing ↦ inr (inl (last missing)) | inr spent ↦ inr (inr (spent.0, last_worn spent.0 spent.1)) ]
         ]
@@ -281,7 +278,7 @@ grows_call {S} n agent_of events adds key turns s t0 t v u zs j m turn grown roo
     (sym (append_assoc s.seen p.part rest) ∙ (ap (λ z. z ++ rest) (sym p.is) ∙ (on ∙ w.is))) in
     let x : IsUndisturbed s.agent (p.part ++ rest) e.gap = record { rest = e.part; is = part_is ∙ e.is; others = e.others; own = e.alone alone } in
     let whole : u.seen ≡ (s.seen ++ e.gap) ++ e.part = w.is ∙ (ap (λ z. s.seen ++ z) e.is ∙ sym (append_assoc s.seen e.gap e.part)) in
-    let sees : SeesOwn (begun_seat s e.gap) u = record { part = e.part; is = whole; own = e.alone alone } in
+    let sees : SeesOwn (seat_after s e.gap) u = record { part = e.part; is = whole; own = e.alone alone } in
     let before : AllAllowed (SplitMay n) [] (s.seen ++ e.gap) = allowed-left (SplitMay n) [] (s.seen ++ e.gap) e.part
     (subst (λ z. AllAllowed (SplitMay n) [] z) whole all) in
     let fits = size_is_power n (s.seen ++ e.gap) some (holds_later n [] (s.seen ++ e.gap) (nothing_yet n) before) in

@@ -14,3 +14,5 @@ pub mod Growing
 pub mod Counting
 pub mod Crowding
 pub mod Crowded
+pub mod Looking
+pub mod Reaching

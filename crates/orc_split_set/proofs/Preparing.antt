@@ -33,7 +33,7 @@ use Rattle.orc_ordered_search.specs.Turns.{Made}
 use Rattle.orc_ordered_search.proofs.Alone.{loads_same}
 use Rattle.orc_ordered_search.proofs.Inserting.{idle_room}
 use Rattle.orc_ordered_search.proofs.Making.{made_on, over_none}
-use Rattle.orc_ordered_search.proofs.Parts.{others_alone}
+use Rattle.orc_ordered_search.proofs.Parts.{others_all, others_alone}
 use Rattle.orc_ordered_search.proofs.Quiets.{silent_one, silent_two}
 use Rattle.orc_split_rule.proofs.Later.{holds_later, may_fits}
 use Rattle.orc_split_rule.specs.SplitDiscipline.{IsSize, SplitHolds, SplitMay, greatest, size_by, size_of}
@@ -70,7 +70,7 @@ pub no_roots : (n : HeapNumbers) (bucket : ℕ) (s : Seat SplitNote) → bucket 
 no_roots n bucket s is fresh = record { own = []; call = nothing n s fresh; tells = λ low. absurd (omega (arith, is, low)) }
 
 pub no_turns : (n : HeapNumbers) (key turns : ℕ) (s : Seat SplitNote) → turns ≡ 0 → s.fresh ≡ None → Prepares n key turns s Done s
-no_turns n key turns s is fresh = record { own = []; call = nothing n s fresh; none = λ zero. refl; tells = λ some. absurd (some is) }
+no_turns n key turns s is fresh = record { own = []; call = nothing n s fresh; none = λ zero. refl; begun = λ some. absurd (some is); tells = λ some. absurd (some is) }
 
 -- a look of a root that was null
 pub null_held : (n : HeapNumbers) (s t : Seat SplitNote) (root : ℕ) (seen : Seen) → Looks (Root root) 2 s (Stable seen None) t → Held n s t
@@ -173,7 +173,7 @@ undisturbed_left agent es fs gap some x =
     record { rest = from_own agent es; is = cut.is ∙ ap (λ z. z ++ from_own agent es) before_is; others = x.others; own = alone }
 
 -- a size that was read first was there before the call
-size_told : (n : HeapNumbers) (size : ℕ) (s t u : Seat SplitNote) (ys zs : List (Event SplitNote)) (r : SizeRead n size s t) (q : Puts t ys u) (w : Puts s zs u)
+pub size_told : (n : HeapNumbers) (size : ℕ) (s t u : Seat SplitNote) (ys zs : List (Event SplitNote)) (r : SizeRead n size s t) (q : Puts t ys u) (w : Puts s zs u)
     → AllAllowed (SplitMay n) [] t.seen → HadBuckets n size s w.part
 size_told n size s t u ys zs r q w all = λ gap x.
     let a = s.agent in
@@ -203,6 +203,7 @@ prepares_by n key turns size s t u r all some result k =
       own = w.own;
       call = w.call;
       none = λ zero. absurd (some zero);
+      begun = λ ne. omega (arith, r.quiet.some, length-append r.own k.own, ap (λ z. length z) own_is);
       tells = λ ne. by w.own result p (omega (arith, r.quiet.some, length-append r.own k.own, ap (λ z. length z) own_is)) w.tells (size_told n size s t u k.own w.own r k.call.made.puts p all);
     }
   where
@@ -217,8 +218,20 @@ prepares_by n key turns size s t u r all some result k =
 pub prepares_moved : (n : HeapNumbers) (key turns : ℕ) (s t : Seat SplitNote) → FindsMoved (split_reading n) s t → s.fresh ≡ None → turns ≢ 0
     → Prepares n key turns s Moved t
 prepares_moved n key turns s t f fresh some =
-    let k = moved_roots n 0 s t f fresh in
-    record { own = k.own; call = k.call; none = λ zero. absurd (some zero); tells = λ ne. k.tells }
+    let p = f.quiet.puts in
+    record {
+      own = f.own;
+      call = record {
+        given = 0;
+        at_most = omega arith;
+        made = record { puts = p; entries_are = f.quiet.no_entries; gives = f.quiet.no_give };
+        slots = f.slots;
+        fresh = f.quiet.fresh ∙ fresh;
+      };
+      none = λ zero. absurd (some zero);
+      begun = λ ne. f.quiet.some;
+      tells = λ ne. omega (arith, f.moved, others_all s.agent p.part f.own p.own_is f.quiet.no_move);
+    }
 
 pub prepares_idle : (n : HeapNumbers) (key turns : ℕ) (s t : Seat SplitNote) (result : Rooted) → Prepares n key turns s result t → IsIdle s → IsIdle t
 prepares_idle n key turns s t result k idle = record { slots = k.call.slots ∙ idle.slots; fresh = k.call.fresh }

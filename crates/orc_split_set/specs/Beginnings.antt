@@ -9,6 +9,7 @@ use Rattle.orc_split_rule.specs.SplitDiscipline.{size_of}
 use Rattle.orc_split_rule.specs.SplitOrder.{bucket_of}
 use Rattle.orc_split_rule.specs.declared.split.SplitNote.{SplitNote}
 use Rattle.orc_split_set.specs.Crowds.{BeginsBy, SeesOwn}
+use Rattle.orc_split_set.specs.Looks.{HasStart, StartsAt}
 use Rattle.orc_split_set.specs.NewNodes.{place_for, value_of}
 use Rattle.orc_split_set.specs.SplitSearches.{BeginsAt, split_reading}
 use Rattle.orc_split_set.specs.declared.begin.Begun.{Begun}
@@ -44,9 +45,14 @@ abbrev pub BeginsNear : HeapNumbers → NewNode → (Place → Type 0) → Seat 
 BeginsNear n new Near s Moved t = FindsMoved (split_reading n) s t
 BeginsNear n new Near s (From left) t = BeginsFrom n new s t (λ start. BeginsAt n start (place_for new) left (seat_before s t) t) Near
 
+-- it begins where the bucket does, if that has a start and the pass saw only own events
+abbrev pub StartsIf : HeapNumbers → Seat SplitNote → Seat SplitNote → ℕ → Place → Type 0
+StartsIf n s t bucket start = SeesOwn s t → HasStart (heap_of n t) bucket → StartsAt (heap_of n t) bucket start
+
 -- it begins by the bucket of the node, where there are so many buckets
 abbrev pub BeginsWith : HeapNumbers → NewNode → ℕ → Seat SplitNote → Begun → Seat SplitNote → Type 0
-BeginsWith n new size s begun t = BeginsNear n new (λ start. BeginsBy (heap_of n t) start (bucket_of (value_of new) size)) s begun t
+BeginsWith n new size s begun t =
+    BeginsNear n new (λ start. BeginsBy (heap_of n t) start (bucket_of (value_of new) size) × StartsIf n s t (bucket_of (value_of new) size) start) s begun t
 
 -- it begins, or is looked for at fewer buckets
 abbrev pub GoesNear : HeapNumbers → NewNode → ℕ → Seat SplitNote → Option Begun → Seat SplitNote → Type 0
@@ -56,4 +62,5 @@ GoesNear n new size s (Some begun) t = BeginsWith n new size s begun t
 -- a search for a key begins by the key's bucket, if the pass saw only own events
 abbrev pub BeginsKey : HeapNumbers → ℕ → Seat SplitNote → Begun → Seat SplitNote → Type 0
 BeginsKey n key s begun t =
-    BeginsNear n (Key key) (λ start. SeesOwn s t → BeginsBy (heap_of n t) start (bucket_of key (size_of n s.seen))) s begun t
+    BeginsNear n (Key key) (λ start. SeesOwn s t → BeginsBy (heap_of n t) start (bucket_of key (size_of n s.seen))
+    × (HasStart (heap_of n t) (bucket_of key (size_of n s.seen)) → StartsAt (heap_of n t) (bucket_of key (size_of n s.seen)) start)) s begun t

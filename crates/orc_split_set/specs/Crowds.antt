@@ -25,6 +25,10 @@ pub record SeesOwn (s t : Seat SplitNote) : Type 0 where
   pub is : t.seen ≡ s.seen ++ part
   pub own : AllOwn s.agent part
 
+-- the seat once these events were seen besides
+abbrev pub seat_after : Seat SplitNote → List (Event SplitNote) → Seat SplitNote
+seat_after s gap = record { agent = s.agent; seen = s.seen ++ gap; slots = s.slots; fresh = s.fresh }
+
 -- a search begins at root 0, or at the dummy of a bucket that begins no later than this one
 abbrev pub BeginsBy : Heap → Place → ℕ → Type 0
 BeginsBy h (Root r) bucket = r ≡ 0

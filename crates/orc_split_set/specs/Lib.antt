@@ -1,8 +1,9 @@
 pub mod SplitSearches
 pub mod NewNodes
 pub mod Crowds
-pub mod Beginnings
 pub mod Rootings
+pub mod Looks
+pub mod Beginnings
 pub mod Growths
 pub mod SetCalls
 pub mod Laws

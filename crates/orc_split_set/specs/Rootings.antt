@@ -88,4 +88,5 @@ pub record Prepares (n : HeapNumbers) (key turns : ℕ) (s : Seat SplitNote) (re
   pub own : List (Event SplitNote)
   pub call : InsertCall (split_reading n) s own [] t
   pub none : turns ≡ 0 → own ≡ []
+  pub begun : turns ≢ 0 → 1 ≤ length own
   pub tells : turns ≢ 0 → KeyTells n key s own call.made.puts.part result t

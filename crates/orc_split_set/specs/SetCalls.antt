@@ -1,8 +1,9 @@
 -- What the members of `SharedSet` and `LearnSet` mean for a split-ordered set, and what the contracts of its calls say of a pass of its
 -- domain of links before a call, `old`, and after it, `new`.
-use Rattle.std.specs.Prelude.{List, [], drop, length, take, ℕ, ◌<◌, ◌≤◌, ◌⊎◌}
+use Rattle.std.specs.Prelude.{List, [], drop, length, take, ℕ, ◌*◌, ◌+◌, ◌<◌, ◌≤◌, ◌⊎◌}
 use Rattle.orc_fault.specs.declared.Spent.{Spent}
 use Rattle.orc_heap.specs.Domains.{Enters as EntersHistory, InCall, IsCallAlone, agent, heap, own_events}
+use Rattle.orc_heap.specs.Journals.{run_heap}
 use Rattle.orc_heap.specs.Moves.{gives_in}
 use Rattle.orc_heap.specs.Seats.{IsIdle}
 use Rattle.orc_heap.specs.declared.events.Event.{Event}
@@ -13,10 +14,11 @@ use Rattle.orc_history.specs.declared.set.ListRefused.{ListRefused}
 use Rattle.orc_history.specs.declared.set.SetEntry.{SetEntry}
 use Rattle.orc_ordered_search.specs.Causes.{Cause, UsesTurns, WithinPart}
 use Rattle.orc_split_rule.specs.SplitDiscipline.{IsSize, entries_in, entries_of, greatest, size_of}
-use Rattle.orc_split_rule.specs.SplitOrder.{bucket_of}
+use Rattle.orc_split_rule.specs.SplitOrder.{bucket_of, key_place}
 use Rattle.orc_split_rule.specs.declared.split.SplitNote.{SplitNote}
 use Rattle.orc_split_set.specs.Crowds.{keys_before}
 use Rattle.orc_split_set.specs.Growths.{HasGrow}
+use Rattle.orc_split_set.specs.Looks.{HasStart, ReachesIn, looks_in}
 use Rattle.orc_split_set.specs.Rootings.{IsSet}
 
 module _ {L D P S : Type 0} (members : LinksOf L D P S SplitNote) (links : L) where
@@ -92,3 +94,11 @@ module _ {L D P S : Type 0} (members : LinksOf L D P S SplitNote) (links : L) wh
   GrowsCrowded key old new = IsCallAlone members links old new → 8 < length (keys_before (members.numbers links) key (events_before old new))
       → size_of (members.numbers links) (events_before old new) < greatest (members.numbers links)
       → HasGrow (events_within old new) ⊎ (LacksRow old new ⊎ ((why : Spent) × FindsWorn why old new))
+
+  -- where no other agent has a step in the call's part, and its key's bucket was the first one, or had a root that wasn't null: at most
+  -- 8 Looks stand in the part, and 4 for each of the nodes on the chain before the part, from the bucket's dummy, or root 0's target, to an
+  -- unmarked node at or past the key, which is counted, or to the chain's end
+  abbrev pub LooksFew : ℕ → P → P → Type 0
+  LooksFew key old new = IsCallAlone members links old new → HasStart (run_heap (members.numbers links) (events_before old new)) (bucket_before key old new)
+      → (many : ℕ) → ReachesIn (run_heap (members.numbers links) (events_before old new)) (bucket_before key old new) (key_place key) many
+      → looks_in (events_within old new) ≤ 8 + 4 * many

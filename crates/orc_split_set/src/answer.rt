@@ -1,15 +1,17 @@
 //! Answers that change nothing: one load that still finds the link on which the answer rests.
 
-ghost use Rattle.std.specs.Prelude.{◌≡◌, ◌<◌, ◌≤◌, ◌≢◌, ℕ, Ok, Err};
+ghost use Rattle.std.specs.Prelude.{◌≡◌, ◌<◌, ◌≤◌, ◌≢◌, ◌+◌, ◌*◌, ◌-◌, ℕ, Ok, Err, List, Option};
 ghost use mathlib.Core.List.{IsPrefix};
-ghost use Rattle.orc_heap.specs.Seats.{Seat};
+ghost use Rattle.orc_heap.specs.Seats.{Seat, heap_of};
 ghost use Rattle.orc_heap.specs.declared.events.Place.{Place};
 ghost use Rattle.orc_history.specs.declared.set.SetEntry.{SetEntry};
+ghost use Rattle.orc_ordered_chains.specs.Chains.{IsPath};
 ghost use Rattle.orc_ordered_search.specs.Searches.{FindsAbsent, FindsPresent, HasRoom};
 ghost use Rattle.orc_ordered_search.specs.Turns.{AnswersTurn, AnswersTurns, Enters};
 ghost use Rattle.orc_split_rule.specs.SplitDiscipline.{greatest};
 ghost use Rattle.orc_split_rule.specs.SplitOrder.{key_place};
 ghost use Rattle.orc_split_rule.specs.declared.split.SplitNote.{SplitNote};
+ghost use Rattle.orc_split_set.specs.Looks.{HasStart, LoadsFew, MayEnd, ReachesIn, bucket_now, root_loads, search_loads};
 ghost use Rattle.orc_split_set.specs.SplitSearches.{BeginsAt, IsAbsence, IsPresence, split_reading};
 
 use crate::begin::{Begun, begin};
@@ -41,6 +43,7 @@ pub(crate) fn enter_absent<L: Links<Rule = Split>>(
     ensures entered { (start : Place) (passed : ℕ) (s : Seat SplitNote)
         → FindsAbsent (split_reading (L.numbers links.now)) start (key_place key) passed left first right s (L.seat links.now p.old)
         → Enters (split_reading (L.numbers links.now)) entry s result (L.seat links.now p.new) }
+    ensures few { LoadsFew 1 (L.seat links.now p.old) (L.seat links.now p.new) }
 {
     let entered = links.same(
         p,
@@ -72,6 +75,7 @@ pub(crate) fn enter_present<L: Links<Rule = Split>>(
     ensures entered { (start : Place) (passed : ℕ) (s : Seat SplitNote)
         → FindsPresent (split_reading (L.numbers links.now)) start (key_place key) passed left first node next s (L.seat links.now p.old)
         → Enters (split_reading (L.numbers links.now)) entry s result (L.seat links.now p.new) }
+    ensures few { LoadsFew 1 (L.seat links.now p.old) (L.seat links.now p.new) }
 {
     let entered = links.same(
         p,
@@ -99,6 +103,10 @@ fn ask_from<L: Links<Rule = Split>>(
     ensures asked { (start : Place) (s : Seat SplitNote) → HasRoom s.slots
         → BeginsAt (L.numbers links.now) start (key_place key) left s (L.seat links.now p.old)
         → AnswersTurn (split_reading (L.numbers links.now)) (λ answer. SetEntry.Asked s.agent key answer) s result (L.seat links.now p.new) }
+    ensures few { (start : Place) (s : Seat SplitNote) → HasRoom s.slots
+        → BeginsAt (L.numbers links.now) start (key_place key) left s (L.seat links.now p.old)
+        → (nodes : List ℕ) (to : Option ℕ) → IsPath (heap_of (L.numbers links.now) s) start nodes to
+        → MayEnd (heap_of (L.numbers links.now) s) (key_place key) to → LoadsFew (search_loads nodes to + 1) s (L.seat links.now p.new) }
 {
     let agent = links.agent(p);
     match search(links, p, place_of(key, 1), left) {
@@ -144,6 +152,11 @@ fn ask_turn<L: Links<Rule = Split>>(links: &L, p: &mut L::Pass, most: u32, key: 
     ensures later { IsPrefix (L.journal p.old) (L.journal p.new) }
     ensures asked { AnswersTurn (split_reading (L.numbers links.now)) (λ answer. SetEntry.Asked (L.seat links.now p.old).agent key answer)
         (L.seat links.now p.old) result (L.seat links.now p.new) }
+    ensures few { HasStart (heap_of (L.numbers links.now) (L.seat links.now p.old)) (bucket_now (L.numbers links.now) key (L.seat links.now p.old))
+        → (many : ℕ) → ReachesIn (heap_of (L.numbers links.now) (L.seat links.now p.old))
+        (bucket_now (L.numbers links.now) key (L.seat links.now p.old)) (key_place key) many
+        → LoadsFew (6 + 4 * many - root_loads (bucket_now (L.numbers links.now) key (L.seat links.now p.old))) (L.seat links.now p.old)
+        (L.seat links.now p.new) }
 {
     match begin(links, p, most, key) {
         Begun::Moved => None,
@@ -166,6 +179,11 @@ pub(crate) fn ask_turns<L: Links<Rule = Split>>(
     ensures later { IsPrefix (L.journal p.old) (L.journal p.new) }
     ensures asked { AnswersTurns (split_reading (L.numbers links.now)) (λ answer. SetEntry.Asked (L.seat links.now p.old).agent key answer) turns
         (L.seat links.now p.old) result (L.seat links.now p.new) }
+    ensures few { HasStart (heap_of (L.numbers links.now) (L.seat links.now p.old)) (bucket_now (L.numbers links.now) key (L.seat links.now p.old))
+        → (many : ℕ) → ReachesIn (heap_of (L.numbers links.now) (L.seat links.now p.old))
+        (bucket_now (L.numbers links.now) key (L.seat links.now p.old)) (key_place key) many
+        → LoadsFew (6 + 4 * many - root_loads (bucket_now (L.numbers links.now) key (L.seat links.now p.old))) (L.seat links.now p.old)
+        (L.seat links.now p.new) }
 {
     for _ in 0..turns {
         if let Some(answer) = ask_turn(links, p, most, key) {

@@ -1,13 +1,18 @@
 //! Where a search begins: at the dummy of the nearest bucket that has one.
 
-ghost use Rattle.std.specs.Prelude.{◌≡◌, ◌≤◌, ◌<◌, ◌-◌, ℕ, List, None};
+ghost use Rattle.std.specs.Prelude.{◌≡◌, ◌≤◌, ◌<◌, ◌-◌, ◌+◌, ◌/◌, ℕ, List, None, Some, []};
 ghost use mathlib.Core.List.{IsPrefix};
-ghost use Rattle.orc_heap.specs.Seats.{Seat};
+ghost use Rattle.orc_heap.specs.Seats.{Seat, heap_of};
 ghost use Rattle.orc_heap.specs.declared.events.Event.{Event};
 ghost use Rattle.orc_ordered_search.specs.Searches.{HasRoom, Quiet};
-ghost use Rattle.orc_split_rule.specs.SplitDiscipline.{IsSize, greatest};
+ghost use Rattle.orc_split_rule.specs.SplitDiscipline.{IsSize, greatest, size_of};
+ghost use Rattle.orc_split_rule.specs.SplitOrder.{bucket_of};
 ghost use Rattle.orc_split_rule.specs.declared.split.SplitNote.{SplitNote};
 ghost use Rattle.orc_split_set.specs.Beginnings.{BeginsKey, BeginsWith, GoesNear, MayBegin};
+ghost use Rattle.orc_split_set.specs.Crowds.{SeesOwn};
+ghost use Rattle.orc_split_set.specs.Looks.{HasStart, LoadsFew, root_loads};
+ghost use Rattle.orc_split_set.specs.NewNodes.{value_of};
+ghost use Rattle.orc_split_set.specs.declared.begin.Begun.{Begun};
 ghost use Rattle.orc_split_set.specs.SplitSearches.{split_reading};
 
 use crate::node::NewNode;
@@ -39,6 +44,12 @@ fn begin_at<L: Links<Rule = Split>>(
     ensures begun { (s : Seat SplitNote) (own : List (Event SplitNote)) → Quiet (split_reading (L.numbers links.now)) s own (L.seat links.now p.old)
         → (L.seat links.now p.old).slots ≡ s.slots → GoesNear (L.numbers links.now) new size s result (L.seat links.now p.new) }
     ensures held { result ≡ None → (L.seat links.now p.new).slots ≡ (L.seat links.now p.old).slots }
+    ensures agent { (L.seat links.now p.new).agent ≡ (L.seat links.now p.old).agent }
+    ensures few { (begun : Begun) → result ≡ Some begun → LoadsFew (root_loads (bucket_of (value_of new) size)) (L.seat links.now p.old)
+        (L.seat links.now p.new) }
+    ensures none { result ≡ None → HasStart (heap_of (L.numbers links.now) (L.seat links.now p.old)) (bucket_of (value_of new) size)
+        → (k : SeesOwn (L.seat links.now p.old) (L.seat links.now p.new))
+        → (bucket_of (value_of new) size ≡ bucket_of (value_of new) (size / 2)) × (k.part ≡ []) }
 {
     let bucket = (new.value() % u64::from(size)) as u32;
     if bucket < size / 2 {
@@ -67,6 +78,8 @@ pub(crate) fn begin_near<L: Links<Rule = Split>>(
     ensures later { IsPrefix (L.journal p.old) (L.journal p.new) }
     ensures begun { (s : Seat SplitNote) (own : List (Event SplitNote)) → Quiet (split_reading (L.numbers links.now)) s own (L.seat links.now p.old)
         → (L.seat links.now p.old).slots ≡ s.slots → BeginsWith (L.numbers links.now) new size s result (L.seat links.now p.new) }
+    ensures few { HasStart (heap_of (L.numbers links.now) (L.seat links.now p.old)) (bucket_of (value_of new) size)
+        → LoadsFew (root_loads (bucket_of (value_of new) size)) (L.seat links.now p.old) (L.seat links.now p.new) }
 {
     let mut size = size;
     while size > 1 {
@@ -91,6 +104,10 @@ pub(crate) fn begin<L: Links<Rule = Split>>(
     ensures pass { L.belongs links.now p.new }
     ensures later { IsPrefix (L.journal p.old) (L.journal p.new) }
     ensures begun { BeginsKey (L.numbers links.now) key (L.seat links.now p.old) result (L.seat links.now p.new) }
+    ensures few { HasStart (heap_of (L.numbers links.now) (L.seat links.now p.old))
+        (bucket_of key (size_of (L.numbers links.now) (L.seat links.now p.old).seen))
+        → LoadsFew (2 + root_loads (bucket_of key (size_of (L.numbers links.now) (L.seat links.now p.old).seen)))
+        (L.seat links.now p.old) (L.seat links.now p.new) }
 {
     match read_size(links, p, most) {
         Some(size) => begin_near(links, p, NewNode::Key(key), size),

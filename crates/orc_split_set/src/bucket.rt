@@ -1,6 +1,6 @@
 //! What a call does before its turns: its key's bucket gets a dummy, and a root that names it.
 
-ghost use Rattle.std.specs.Prelude.{◌≡◌, ◌≢◌, ◌<◌, ◌≤◌, ℕ, IfErr, List, None, length};
+ghost use Rattle.std.specs.Prelude.{◌≡◌, ◌≢◌, ◌<◌, ◌≤◌, ◌+◌, ◌++◌, [], ℕ, IfErr, List, None, length};
 ghost use mathlib.Core.List.{IsPrefix};
 ghost use Rattle.orc_fault.specs.declared.Spent.{Spent};
 ghost use Rattle.orc_heap.specs.Seats.{IsIdle, Seat, heap_of};
@@ -14,6 +14,10 @@ ghost use Rattle.orc_ordered_search.specs.Searches.{FindsAbsent, FindsPresent, Q
 ghost use Rattle.orc_split_rule.specs.SplitDiscipline.{IsDummy, IsSize, greatest};
 ghost use Rattle.orc_split_rule.specs.SplitOrder.{dummy_place};
 ghost use Rattle.orc_split_rule.specs.declared.split.SplitNote.{SplitNote};
+ghost use Rattle.orc_heap.specs.Allowed.{events_by};
+ghost use Rattle.orc_heap.specs.Journals.{run_heap};
+ghost use Rattle.orc_split_set.specs.Crowds.{seat_after};
+ghost use Rattle.orc_split_set.specs.Looks.{HasStart, LoadsFew, bucket_now, root_loads};
 ghost use Rattle.orc_split_set.specs.Rootings.{Anchors, AnchorsAndGoes, HasDummy, Prepares, Roots, rooted_by};
 ghost use Rattle.orc_split_set.specs.SplitSearches.{BeginsAt, split_reading};
 
@@ -283,6 +287,8 @@ fn root_bucket<L: Links<Rule = Split>>(links: &L, p: &mut L::Pass, bucket: u32, 
     ensures worn { (why : Spent) → result ≡ Rooted.Spent why
         → WithinPart L.agent_of (L.seat links.now p.old).agent (L.journal p.old) (L.journal p.new) (L.worn links.now (L.seat links.now p.old).agent why
         (L.journal p.new)) }
+    ensures few { HasStart (heap_of (L.numbers links.now) (L.seat links.now p.old)) bucket
+        → LoadsFew (root_loads bucket) (L.seat links.now p.old) (L.seat links.now p.new) }
 {
     if bucket == 0 {
         return Rooted::Done;
@@ -318,6 +324,11 @@ pub(crate) fn prepare<L: Links<Rule = Split>>(
     ensures worn { (why : Spent) → result ≡ Rooted.Spent why
         → WithinPart L.agent_of (L.seat links.now p.old).agent (L.journal p.old) (L.journal p.new) (L.worn links.now (L.seat links.now p.old).agent why
         (L.journal p.new)) }
+    ensures few { (gap : List (Event SplitNote)) → events_by (L.seat links.now p.old).agent gap ≡ []
+        → HasStart (run_heap (L.numbers links.now) ((L.seat links.now p.old).seen ++ gap))
+        (bucket_now (L.numbers links.now) key (seat_after (L.seat links.now p.old) gap))
+        → LoadsFew (2 + root_loads (bucket_now (L.numbers links.now) key (seat_after (L.seat links.now p.old) gap)))
+        (seat_after (L.seat links.now p.old) gap) (L.seat links.now p.new) }
 {
     if turns == 0 {
         return Rooted::Done;

@@ -1,13 +1,13 @@
 //! The set, and its calls.
 
-ghost use Rattle.std.specs.Prelude.{◌≡◌, ◌+◌, ◌<◌, ◌≤◌, ◌↔◌, ◌∷◌, [], ℕ, Err, IfErr, IfOk, IsErr, Ok, length, true};
+ghost use Rattle.std.specs.Prelude.{◌≡◌, ◌≢◌, ◌+◌, ◌<◌, ◌≤◌, ◌↔◌, ◌∷◌, [], ℕ, Err, IfErr, IfOk, IsErr, Ok, length, true};
 ghost use mathlib.Core.List.{IsPrefix};
 ghost use Rattle.orc_heap.specs.Domains.{IsCallAlone, MakesNoEvent, agent};
 ghost use Rattle.orc_history.specs.Journals.{Within};
 ghost use Rattle.orc_history.specs.declared.set.ListRefused.{ListRefused};
 ghost use Rattle.orc_history.specs.declared.set.SetEntry.{SetEntry};
 ghost use Rattle.orc_split_rule.specs.SplitDiscipline.{IsSize};
-ghost use Rattle.orc_split_set.specs.SetCalls.{Enters, EntersNone, FindsWorn, GivesAtMost, GrowsCrowded, HadSize, HasCause, IsUsable, LacksRow, RootsBucket, UsesAllTurns, set_history};
+ghost use Rattle.orc_split_set.specs.SetCalls.{Enters, EntersNone, FindsWorn, GivesAtMost, GrowsCrowded, HadSize, HasCause, IsUsable, LacksRow, LooksFew, RootsBucket, UsesAllTurns, set_history};
 ghost use Rattle.orc_split_set.specs.Laws.SetLaws.{cause_stays, entries_below, history_grows, seen_legal};
 
 use crate::answer::ask_turns;
@@ -85,7 +85,12 @@ impl<L: Links<Rule = Split>> SplitSet<L> {
     /// # Errors
     ///
     /// As `insert`.
-    pub fn insert_and_stop(&self, p: &mut L::Pass, key: u64, turns: u64) -> Result<bool, ListRefused>
+    pub fn insert_and_stop(
+        &self,
+        p: &mut L::Pass,
+        key: u64,
+        turns: u64,
+    ) -> Result<bool, ListRefused>
         requires usable { IsUsable L.Links self.now.links p.old }
         ensures usable { IsUsable L.Links self.now.links p.new }
         ensures agent { agent L.Links self.now.links p.new ≡ agent L.Links self.now.links p.old }
@@ -200,6 +205,7 @@ impl<L: Links<Rule = Split>> SharedSet for SplitSet<L> {
         ensures agent { agent L.Links self.now.links p.new ≡ agent L.Links self.now.links p.old }
         ensures later { IsPrefix (L.journal p.old) (L.journal p.new) }
         ensures rooted { IfOk result (λ yes. RootsBucket L.Links self.now.links key p.old p.new) }
+        ensures few { turns ≢ 0 → LooksFew L.Links self.now.links key p.old p.new }
         ensures asked { IfOk result (λ yes. Enters L.Links self.now.links p.old p.new (λ agent. SetEntry.Asked agent key yes ∷ [])) }
         ensures none { IfErr result (λ e. EntersNone L.Links self.now.links p.old p.new) }
         ensures licence { IfErr result (λ e. Within (length (L.journal p.old)) (length (L.journal p.new))

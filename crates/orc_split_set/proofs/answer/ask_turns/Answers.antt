@@ -1,12 +1,18 @@
 -- One turn after another, until one answers.
-use Rattle.std.proofs.Common.{[], append-nil, arith, subst, sym, Some, ℕ, ◌≡◌}
+use Rattle.std.proofs.Common.{[], append-nil, arith, refl, subst, sym, Some, ℕ, ◌*◌, ◌+◌, ◌-◌, ◌≡◌}
 use Rattle.orc_heap.proofs.Pieces.{goes_on}
 use Rattle.orc_heap.specs.Slots.{Slots}
 use Rattle.orc_history.specs.declared.set.SetEntry.TheVariants.{Asked}
 use Rattle.orc_ordered_search.specs.Searches.{HasRoom}
 use Rattle.orc_ordered_search.specs.Turns.{AnswersTurn, Tires}
 use Rattle.orc_ordered_search.proofs.Tiring.{tires_answer, tires_next, tires_none}
+use Rattle.orc_heap.specs.Journals.{run_heap}
+use Rattle.orc_split_rule.specs.SplitDiscipline.{size_of}
+use Rattle.orc_split_rule.specs.SplitOrder.{bucket_of, key_place}
+use Rattle.orc_split_set.specs.Looks.{HasStart, LoadsFew, ReachesIn, bucket_now, root_loads}
 use Rattle.orc_split_set.specs.SplitSearches.{split_reading}
+use Rattle.orc_split_set.proofs.Crowding.{own_no_turns, seen_grows}
+use Rattle.orc_split_set.proofs.Looking.{few_none, turns_few}
 use Rattle.orc_split_set.proofs.answer.ask_turns.Goals as goal
 
 pub loop-init : goal.loop-init
@@ -49,3 +55,30 @@ returns-clause-asked g c =
     let d = c.args.links.now in
     let all : c.loop.counter ≡ c.args.turns = omega (arith, c.loop-test.false, c.loop.auto.counter-end) in
     subst (λ (k : ℕ). Tires (split_reading (g.L.Links.numbers d)) k (g.L.Links.seat d c.args.p.now) (g.L.Links.seat d c.loop.p)) all c.loop.invariant.tires
+
+pub returns-in-Some-clause-few : goal.returns-in-Some-clause-few
+returns-in-Some-clause-few g c = λ has many r.
+    let d = c.args.links.now in
+    let n = g.L.Links.numbers d in
+    let s = g.L.Links.seat d c.args.p.now in
+    let t = g.L.Links.seat d c.loop.p in
+    let u = g.L.Links.seat d c.ask_turn.new.p in
+    let i = c.loop.invariant in
+    let e = c.in-Some.ensures in
+    let grows = seen_grows (g.L.Links.events d) g.L.Links.agent_of (g.met.L.Links.steps_add d) (g.L.Links.journal c.loop.p)
+    (g.L.Links.journal c.ask_turn.new.p) t u e.later (g.met.L.Links.seen_is d c.loop.p i.pass) (g.met.L.Links.seen_is d c.ask_turn.new.p e.pass) in
+    let key = c.args.key in
+    let most = 6 + 4 * many - root_loads (bucket_now n key s) in
+    turns_few n 0 c.loop.counter most most s t u i.tires.own i.tires.over grows
+    (λ seen. subst (λ z. HasStart (run_heap n z) (bucket_of key (size_of n z)) → (m : ℕ)
+    → ReachesIn (run_heap n z) (bucket_of key (size_of n z)) (key_place key) m
+    → LoadsFew (6 + 4 * m - root_loads (bucket_of key (size_of n z))) t u) seen e.few has many r) refl
+
+pub returns-clause-few : goal.returns-clause-few
+returns-clause-few g c = λ has many r.
+    let d = c.args.links.now in
+    let n = g.L.Links.numbers d in
+    let s = g.L.Links.seat d c.args.p.now in
+    let t = g.L.Links.seat d c.loop.p in
+    let i = c.loop.invariant in
+    few_none (6 + 4 * many - root_loads (bucket_now n c.args.key s)) s t (λ sees. own_no_turns n 0 c.loop.counter s t i.tires.own i.tires.over sees)

@@ -8,6 +8,7 @@ use Rattle.orc_split_rule.specs.SplitOrder.{key_place}
 use Rattle.orc_split_rule.specs.declared.split.SplitNote.TheVariants.{Entry}
 use Rattle.orc_split_set.proofs.Answering.{absent_allowed, left_is, left_link}
 use Rattle.orc_split_set.proofs.Ordered.{split_ordering}
+use Rattle.orc_split_set.proofs.Looking.{tests_few}
 use Rattle.orc_split_set.proofs.answer.enter_absent.Goals as goal
 
 pub same-entered-requires-clause-place : goal.same-entered-requires-clause-place
@@ -71,3 +72,17 @@ returns-clause-entered g c = λ start passed s f.
     (c.link_of.ensures.link t.slots ∙ left_link n start a.key passed a.left a.first a.right s t f) e.tested
     (c.let_all_go.ensures.gone s.slots (tested_hand (split_ordering n) s.slots a.left a.first a.right None _ _ _ _ t u e.tested all
     (absent_hand (split_ordering n) start (key_place a.key) passed a.left a.first s t a.right f))) all
+
+pub returns-clause-few : goal.returns-clause-few
+returns-clause-few g c =
+    let d = c.args.links.now in
+    let n = g.L.Links.numbers d in
+    let t = g.L.Links.seat d c.args.p.now in
+    let a = c.args in
+    let u = g.L.Links.seat d c.same-entered.new.p in
+    let y = g.L.Links.seat d c.let_all_go.new.p in
+    let (start, passed, s, f) = c.requires.absent in
+    let e = c.same-entered.ensures in
+    tests_few _ _ _ c.same-entered.result t u y e.tested
+    (c.let_all_go.ensures.gone s.slots (tested_hand (split_ordering n) s.slots a.left a.first a.right None _ _ _ _ t u e.tested
+    (g.met.L.Links.allowed d c.same-entered.new.p e.pass) (absent_hand (split_ordering n) start (key_place a.key) passed a.left a.first s t a.right f))).puts

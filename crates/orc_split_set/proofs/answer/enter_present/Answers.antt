@@ -12,6 +12,7 @@ use Rattle.orc_split_rule.specs.SplitOrder.{key_place, split_order}
 use Rattle.orc_split_rule.specs.declared.split.SplitNote.TheVariants.{Entry}
 use Rattle.orc_split_set.proofs.Answering.{present_allowed}
 use Rattle.orc_split_set.proofs.Ordered.{split_ordering}
+use Rattle.orc_split_set.proofs.Looking.{tests_few}
 use Rattle.orc_split_set.proofs.answer.enter_present.Goals as goal
 
 pub same-entered-requires-clause-place : goal.same-entered-requires-clause-place
@@ -73,3 +74,17 @@ returns-clause-entered g c = λ start passed s f.
     (c.link_to.ensures.link t.slots ∙ ap link_over (target_of_hand s.slots t.slots a.next f.next_id _ f.hands.held.1.1.1.0)) e.tested
     (c.let_all_go.ensures.gone s.slots (tested_hand (split_ordering n) s.slots a.left a.first (Some a.node) a.next _ _ _ _ t u e.tested all
     (present_hand (split_ordering n) start (key_place a.key) passed a.left a.first s t a.node a.next f))) all
+
+pub returns-clause-few : goal.returns-clause-few
+returns-clause-few g c =
+    let d = c.args.links.now in
+    let n = g.L.Links.numbers d in
+    let t = g.L.Links.seat d c.args.p.now in
+    let a = c.args in
+    let u = g.L.Links.seat d c.same-entered.new.p in
+    let y = g.L.Links.seat d c.let_all_go.new.p in
+    let (start, passed, s, f) = c.requires.present in
+    let e = c.same-entered.ensures in
+    tests_few _ _ _ c.same-entered.result t u y e.tested
+    (c.let_all_go.ensures.gone s.slots (tested_hand (split_ordering n) s.slots a.left a.first (Some a.node) a.next _ _ _ _ t u e.tested
+    (g.met.L.Links.allowed d c.same-entered.new.p e.pass) (present_hand (split_ordering n) start (key_place a.key) passed a.left a.first s t a.node a.next f))).puts

@@ -1,5 +1,10 @@
 -- By what the look found.
-use Rattle.std.proofs.Common.{arith}
+use Rattle.std.proofs.Common.{ap, arith, refl, ℕ, ◌%◌, ◌∙◌, ◌≡◌}
+use Rattle.orc_heap.specs.declared.events.Place.TheVariants.{Root}
+use Rattle.orc_split_rule.specs.SplitOrder.{bucket_of}
+use Rattle.orc_split_set.specs.NewNodes.{value_of}
+use Rattle.orc_split_set.proofs.Looking.{half_same, look_agent, none_new, root_few, start_shown}
+use Rattle.orc_split_set.proofs.Ordered.{looks_from}
 use Rattle.orc_split_set.proofs.Beginning.{root_at, root_moved, root_null}
 use Rattle.orc_split_set.proofs.Sizes.{looks_none, looks_some}
 use Rattle.orc_split_set.proofs.begin.begin_at.Goals as goal
@@ -39,3 +44,55 @@ returns-in-Stable-default-None-clause-held g c = λ none.
     let u = g.L.Links.seat d c.look.new.p in
     let x = c.in-Stable-default-None in
     (looks_none _ 2 x.field-0 x.field-1 t u x.field-1-is x.ensures.looked).tells.1
+
+bucket_is : (value other size most : ℕ) → value ≡ other → most ≡ size → value % most ≡ bucket_of other size
+bucket_is value other size most one two = ap (λ (x : ℕ). x % most) one ∙ ap (λ (x : ℕ). other % x) two
+
+pub returns-then-bucket-size-clause-none : goal.returns-then-bucket-size-clause-none
+returns-then-bucket-size-clause-none g c = λ is has k.
+    let s = g.L.Links.seat c.args.links.now c.args.p.now in
+    let same = bucket_is c.value.result (value_of c.args.new) c.args.size c.from.result c.value.ensures c.from.ensures in
+    (half_same _ (value_of c.args.new) c.args.size c.requires.size.0 c.requires.size.1 (omega (arith, c.if-bucket-size.true, same)), none_new s s refl k)
+
+pub returns-in-Stable-default-Some-clause-agent : goal.returns-in-Stable-default-Some-clause-agent
+returns-in-Stable-default-Some-clause-agent g c =
+    let d = c.args.links.now in
+    look_agent _ (g.L.Links.seat d c.args.p.now) (g.L.Links.seat d c.look.new.p) _ c.in-Stable-default-Some.ensures.looked
+
+pub returns-in-Stable-default-None-clause-agent : goal.returns-in-Stable-default-None-clause-agent
+returns-in-Stable-default-None-clause-agent g c =
+    let d = c.args.links.now in
+    look_agent _ (g.L.Links.seat d c.args.p.now) (g.L.Links.seat d c.look.new.p) _ c.in-Stable-default-None.ensures.looked
+
+pub returns-in-Moved-clause-agent : goal.returns-in-Moved-clause-agent
+returns-in-Moved-clause-agent g c =
+    let d = c.args.links.now in
+    look_agent _ (g.L.Links.seat d c.args.p.now) (g.L.Links.seat d c.look.new.p) _ c.in-Moved.ensures.looked
+
+pub returns-in-Stable-default-Some-clause-few : goal.returns-in-Stable-default-Some-clause-few
+returns-in-Stable-default-Some-clause-few g c = λ begun is.
+    let d = c.args.links.now in
+    let same = bucket_is c.value.result (value_of c.args.new) c.args.size c.from.result c.value.ensures c.from.ensures in
+    root_few (bucket_of (value_of c.args.new) c.args.size) _ (g.L.Links.seat d c.args.p.now) (g.L.Links.seat d c.look.new.p) _
+    (omega (arith, c.if-bucket-size.false, same, c.requires.size.1)) c.in-Stable-default-Some.ensures.looked
+
+pub returns-in-Moved-clause-few : goal.returns-in-Moved-clause-few
+returns-in-Moved-clause-few g c = λ begun is.
+    let d = c.args.links.now in
+    let same = bucket_is c.value.result (value_of c.args.new) c.args.size c.from.result c.value.ensures c.from.ensures in
+    root_few (bucket_of (value_of c.args.new) c.args.size) _ (g.L.Links.seat d c.args.p.now) (g.L.Links.seat d c.look.new.p) _
+    (omega (arith, c.if-bucket-size.false, same, c.requires.size.1)) c.in-Moved.ensures.looked
+
+pub returns-in-Stable-default-None-clause-none : goal.returns-in-Stable-default-None-clause-none
+returns-in-Stable-default-None-clause-none g c = λ is has k.
+    let d = c.args.links.now in
+    let n = g.L.Links.numbers d in
+    let t = g.L.Links.seat d c.args.p.now in
+    let u = g.L.Links.seat d c.look.new.p in
+    let x = c.in-Stable-default-None in
+    let b = bucket_of (value_of c.args.new) c.args.size in
+    let same : c.value.result % c.from.result ≡ b =
+    bucket_is c.value.result (value_of c.args.new) c.args.size c.from.result c.value.ensures c.from.ensures in
+    let looks = looks_from _ (Root b) 2 _ t u (ap Root same) (looks_none _ 2 x.field-0 x.field-1 t u x.field-1-is x.ensures.looked) in
+    absurd (start_shown n t u b x.field-0 (omega (arith, c.if-bucket-size.false, same, c.requires.size.1)) looks
+    (g.met.L.Links.allowed d c.look.new.p x.ensures.pass) has k)

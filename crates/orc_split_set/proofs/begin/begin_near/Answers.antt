@@ -1,10 +1,23 @@
 -- Root after root, for fewer and fewer buckets.
-use Rattle.std.proofs.Common.{[], append-nil, arith, refl, subst, sym}
+use mathlib.Core.List.{IsPrefix}
+use Rattle.std.proofs.Common.{List, [], append-nil, ap, arith, refl, subst, sym, ℕ, ◌++◌, ◌%◌, ◌∙◌, ◌≡◌, ◌≤◌}
 use Rattle.orc_heap.proofs.Pieces.{goes_on}
+use Rattle.orc_heap.specs.Heap.{Heap}
+use Rattle.orc_heap.specs.Journals.{run_heap}
+use Rattle.orc_heap.specs.Seats.{Seat, heap_of}
 use Rattle.orc_heap.specs.Slots.{Slots}
-use Rattle.orc_ordered_search.specs.Searches.{HasRoom}
-use Rattle.orc_split_set.proofs.Beginning.{begins_later, from_root, half_begins, half_by, half_size}
+use Rattle.orc_ordered_search.specs.Searches.{HasRoom, Quiet}
+use Rattle.orc_heap.specs.declared.events.Event.{Event}
+use Rattle.orc_split_rule.specs.SplitOrder.{bucket_of}
+use Rattle.orc_split_rule.specs.declared.split.SplitNote.{SplitNote}
+use Rattle.orc_split_set.specs.Crowds.{SeesOwn}
+use Rattle.orc_split_set.specs.Looks.{HasStart, LoadsFew, root_loads}
 use Rattle.orc_split_set.specs.NewNodes.{value_of}
+use Rattle.orc_split_set.specs.SplitSearches.{split_reading}
+use Rattle.orc_split_set.proofs.Beginning.{begins_later, from_root, half_begins, half_by, half_size}
+use Rattle.orc_split_set.proofs.Crowding.{own_heap, own_later, own_sooner, puts_grow, seen_grows}
+use Rattle.orc_split_set.proofs.Looking.{few_heap, few_none, few_same}
+use Rattle.orc_split_set.proofs.Preparing.{size_some}
 use Rattle.orc_split_set.proofs.begin.begin_near.Goals as goal
 
 pub loop-size-init : goal.loop-size-init
@@ -15,6 +28,8 @@ loop-size-init g c = record {
   begins = c.requires.begins;
   by = omega arith;
   room = c.requires.room;
+  agent = refl;
+  still = λ has sees. (refl, refl);
   held = λ s own q same. record { own = own; quiet = q; slots = same };
 }
 
@@ -25,12 +40,51 @@ pub begin_at-requires-clause-begins : goal.begin_at-requires-clause-begins
 begin_at-requires-clause-begins g c = c.loop-size.invariant.begins
 
 pub returns-in-Some-clause-begun : goal.returns-in-Some-clause-begun
-returns-in-Some-clause-begun g c = λ s own q same.
+returns-in-Some-clause-begun g c = λ s own q slots.
     let d = c.args.links.now in
+    let n = g.L.Links.numbers d in
     let i = c.loop-size.invariant in
-    let k = i.held s own q same in
-    begins_later (g.L.Links.numbers d) c.args.new c.loop-size.size c.args.size i.by s (g.L.Links.seat d c.begin_at.new.p) c.in-Some.begun
-    (c.in-Some.ensures.begun s k.own k.quiet k.slots)
+    let e = c.in-Some.ensures in
+    let s0 = g.L.Links.seat d c.args.p.now in
+    let t = g.L.Links.seat d c.loop-size.p in
+    let u = g.L.Links.seat d c.begin_at.new.p in
+    let is_t = g.met.L.Links.seen_is d c.loop-size.p i.pass in
+    let grew = seen_grows (g.L.Links.events d) g.L.Links.agent_of (g.met.L.Links.steps_add d) (g.L.Links.journal c.args.p.now)
+    (g.L.Links.journal c.loop-size.p) s0 t i.later (g.met.L.Links.seen_is d c.args.p.now c.requires.pass) is_t in
+    let grows = seen_grows (g.L.Links.events d) g.L.Links.agent_of (g.met.L.Links.steps_add d) (g.L.Links.journal c.loop-size.p)
+    (g.L.Links.journal c.begin_at.new.p) t u e.later is_t (g.met.L.Links.seen_is d c.begin_at.new.p e.pass) in
+    let k = i.held s own q slots in
+    let first = puts_grow s s0 own q.puts in
+    let whole = goes_on _ _ _ grew grows in
+    let v = value_of c.args.new in
+    begins_later n c.args.new c.loop-size.size c.args.size i.by s u
+    (λ sees has.
+    let sees_t = own_sooner s t u (puts_grow s t k.own k.quiet.puts) grows sees in
+    let sees_s0 = own_sooner s s0 u first whole sees in
+    let last = own_later s t u (puts_grow s t k.own k.quiet.puts) grows k.quiet.puts.agent sees in
+    let heap : heap_of n u ≡ heap_of n s0 = few_heap n (root_loads (bucket_of v c.loop-size.size)) t u (e.few c.in-Some.begun refl) last
+    ∙ (own_heap n s t k.own k.quiet sees_t ∙ sym (own_heap n s s0 own q sees_s0)) in
+    (i.still (subst (λ (h : Heap). HasStart h (bucket_of v c.args.size)) heap has) (own_later s s0 t first grew q.puts.agent sees_t)).0)
+    c.in-Some.begun (e.begun s k.own k.quiet k.slots)
+
+pub returns-in-Some-clause-few : goal.returns-in-Some-clause-few
+returns-in-Some-clause-few g c = λ has sees.
+    let d = c.args.links.now in
+    let n = g.L.Links.numbers d in
+    let i = c.loop-size.invariant in
+    let e = c.in-Some.ensures in
+    let s0 = g.L.Links.seat d c.args.p.now in
+    let t = g.L.Links.seat d c.loop-size.p in
+    let u = g.L.Links.seat d c.begin_at.new.p in
+    let is_t = g.met.L.Links.seen_is d c.loop-size.p i.pass in
+    let grew = seen_grows (g.L.Links.events d) g.L.Links.agent_of (g.met.L.Links.steps_add d) (g.L.Links.journal c.args.p.now)
+    (g.L.Links.journal c.loop-size.p) s0 t i.later (g.met.L.Links.seen_is d c.args.p.now c.requires.pass) is_t in
+    let grows = seen_grows (g.L.Links.events d) g.L.Links.agent_of (g.met.L.Links.steps_add d) (g.L.Links.journal c.loop-size.p)
+    (g.L.Links.journal c.begin_at.new.p) t u e.later is_t (g.met.L.Links.seen_is d c.begin_at.new.p e.pass) in
+    let v = value_of c.args.new in
+    let (same, seen) = i.still has (own_sooner s0 t u grew grows sees) in
+    few_same (root_loads (bucket_of v c.loop-size.size)) (root_loads (bucket_of v c.args.size)) s0 t u grew grows i.agent seen
+    (ap (λ (x : ℕ). root_loads x) (sym same)) (e.few c.in-Some.begun refl) sees
 
 pub loop-size-smaller : goal.loop-size-smaller
 loop-size-smaller g c = omega (arith, c.loop-size-test.true)
@@ -38,9 +92,19 @@ loop-size-smaller g c = omega (arith, c.loop-size-test.true)
 pub loop-size-preserved : goal.loop-size-preserved
 loop-size-preserved g c =
     let d = c.args.links.now in
+    let n = g.L.Links.numbers d in
     let i = c.loop-size.invariant in
     let e = c.in_default.ensures in
     let two = c.loop-size-test.true in
+    let s0 = g.L.Links.seat d c.args.p.now in
+    let t = g.L.Links.seat d c.loop-size.p in
+    let u = g.L.Links.seat d c.begin_at.new.p in
+    let is_t = g.met.L.Links.seen_is d c.loop-size.p i.pass in
+    let grew = seen_grows (g.L.Links.events d) g.L.Links.agent_of (g.met.L.Links.steps_add d) (g.L.Links.journal c.args.p.now)
+    (g.L.Links.journal c.loop-size.p) s0 t i.later (g.met.L.Links.seen_is d c.args.p.now c.requires.pass) is_t in
+    let grows = seen_grows (g.L.Links.events d) g.L.Links.agent_of (g.met.L.Links.steps_add d) (g.L.Links.journal c.loop-size.p)
+    (g.L.Links.journal c.begin_at.new.p) t u e.later is_t (g.met.L.Links.seen_is d c.begin_at.new.p e.pass) in
+    let v = value_of c.args.new in
     record {
       pass = e.pass;
       later = goes_on _ _ _ i.later e.later;
@@ -50,11 +114,40 @@ loop-size-preserved g c =
           let half = half_by (value_of c.args.new) c.loop-size.size i.size.1 (omega (arith, two)) i.size.2 in
           omega (arith, half, i.by);
       room = subst (λ (z : Slots). HasRoom z) (sym (e.held refl)) i.room;
+      agent = e.agent ∙ i.agent;
+      still = λ has sees.
+          let (same, seen) = i.still has (own_sooner s0 t u grew grows sees) in
+          let last = own_later s0 t u grew grows i.agent sees in
+          let there = subst (λ z. HasStart (run_heap n z) (bucket_of v c.loop-size.size)) (sym seen)
+          (subst (λ (x : ℕ). HasStart (heap_of n s0) x) same has) in
+          let (half, none) = e.none refl there last in
+          (same ∙ half, last.is ∙ (ap (λ z. t.seen ++ z) none ∙ (append-nil t.seen ∙ seen)));
       held = λ s own q same. (let k = i.held s own q same in e.begun s k.own k.quiet k.slots);
     }
 
 pub returns-clause-begun : goal.returns-clause-begun
 returns-clause-begun g c = λ s own q same.
     let d = c.args.links.now in
-    let k = c.loop-size.invariant.held s own q same in
-    from_root (g.L.Links.numbers d) c.args.new s (g.L.Links.seat d c.loop-size.p) k.own k.quiet k.slots c.args.size
+    let n = g.L.Links.numbers d in
+    let i = c.loop-size.invariant in
+    let s0 = g.L.Links.seat d c.args.p.now in
+    let t = g.L.Links.seat d c.loop-size.p in
+    let grew = seen_grows (g.L.Links.events d) g.L.Links.agent_of (g.met.L.Links.steps_add d) (g.L.Links.journal c.args.p.now)
+    (g.L.Links.journal c.loop-size.p) s0 t i.later (g.met.L.Links.seen_is d c.args.p.now c.requires.pass) (g.met.L.Links.seen_is d c.loop-size.p i.pass) in
+    let k = i.held s own q same in
+    let first = puts_grow s s0 own q.puts in
+    let v = value_of c.args.new in
+    let one : c.loop-size.size ≡ 1 = omega (arith, c.loop-size-test.false, size_some _ c.loop-size.size i.size) in
+    from_root n c.args.new s t k.own k.quiet k.slots c.args.size
+    (λ sees has.
+    let heap : heap_of n t ≡ heap_of n s0 = own_heap n s t k.own k.quiet sees ∙ sym (own_heap n s s0 own q (own_sooner s s0 t first grew sees)) in
+    let (bucket, seen) = i.still (subst (λ (h : Heap). HasStart h (bucket_of v c.args.size)) heap has) (own_later s s0 t first grew q.puts.agent sees) in
+    let zero : v % 1 ≡ 0 = omega arith in
+    bucket ∙ (ap (λ (x : ℕ). v % x) one ∙ zero))
+
+pub returns-clause-few : goal.returns-clause-few
+returns-clause-few g c = λ has.
+    let d = c.args.links.now in
+    let v = value_of c.args.new in
+    few_none (root_loads (bucket_of v c.args.size)) (g.L.Links.seat d c.args.p.now) (g.L.Links.seat d c.loop-size.p)
+    (λ sees. (c.loop-size.invariant.still has sees).1)

@@ -1,8 +1,11 @@
 -- By what the look of the bucket's root found.
-use Rattle.std.proofs.Common.{arith, subst, ℕ}
+use Rattle.std.proofs.Common.{arith, refl, subst, ℕ, ◌≤◌}
 use Rattle.orc_ordered_search.specs.Causes.{WithinPart}
 use Rattle.orc_ordered_search.proofs.Held.{release_goes}
 use Rattle.orc_ordered_search.proofs.Parting.{part_of_part}
+use Rattle.orc_split_set.specs.Looks.{root_loads}
+use Rattle.orc_split_set.proofs.Crowding.{own_not_moved, own_sooner, seen_grows}
+use Rattle.orc_split_set.proofs.Looking.{few_none, few_then, look_agent, look_grows, root_few, start_shown}
 use Rattle.orc_split_set.proofs.Preparing.{kept_roots, no_roots, null_held, root_held}
 use Rattle.orc_split_set.proofs.Rooting.{moved_roots}
 use Rattle.orc_split_set.proofs.Sizes.{looks_none, looks_some, size_moved}
@@ -94,3 +97,43 @@ returns-in-Stable-default-None-clause-worn g c = λ why told.
     let f = c.root_near.ensures in
     let fact = subst (λ (y : ℕ). WithinPart g.L.Links.agent_of y k m (g.L.Links.worn d y why m)) held.quiet.puts.agent (f.worn why told) in
     part_of_part g.L.Links.agent_of s.agent (g.L.Links.worn d s.agent why) j k m x.ensures.later f.later fact
+
+pub returns-then-bucket-eq0-clause-few : goal.returns-then-bucket-eq0-clause-few
+returns-then-bucket-eq0-clause-few g c = λ has.
+    let s = g.L.Links.seat c.args.links.now c.args.p.now in
+    few_none (root_loads c.args.bucket) s s (λ sees. refl)
+
+pub returns-in-Stable-default-Some-clause-few : goal.returns-in-Stable-default-Some-clause-few
+returns-in-Stable-default-Some-clause-few g c = λ has.
+    let d = c.args.links.now in
+    let s = g.L.Links.seat d c.args.p.now in
+    let t = g.L.Links.seat d c.look.new.p in
+    let u = g.L.Links.seat d c.release.new.p in
+    let looks = c.in-Stable-default-Some.ensures.looked in
+    let gone = (release_goes c.in-Stable-default-Some.dummy t u c.release.ensures.released).puts in
+    let low : 1 ≤ c.args.bucket = omega (arith, c.if-bucket-eq0.false) in
+    few_then (root_loads c.args.bucket) s t u (look_grows c.args.bucket s t _ looks) (look_agent c.args.bucket s t _ looks) gone
+    (root_few c.args.bucket c.args.bucket s t _ low looks)
+
+pub returns-in-Stable-default-None-clause-few : goal.returns-in-Stable-default-None-clause-few
+returns-in-Stable-default-None-clause-few g c = λ has sees.
+    let d = c.args.links.now in
+    let n = g.L.Links.numbers d in
+    let s = g.L.Links.seat d c.args.p.now in
+    let t = g.L.Links.seat d c.look.new.p in
+    let u = g.L.Links.seat d c.root_near.new.p in
+    let x = c.in-Stable-default-None in
+    let looks = looks_none c.args.bucket 2 x.field-0 x.field-1 s t x.field-1-is x.ensures.looked in
+    let e = c.root_near.ensures in
+    let grows = seen_grows (g.L.Links.events d) g.L.Links.agent_of (g.met.L.Links.steps_add d) (g.L.Links.journal c.look.new.p)
+    (g.L.Links.journal c.root_near.new.p) t u e.later (g.met.L.Links.seen_is d c.look.new.p x.ensures.pass) (g.met.L.Links.seen_is d c.root_near.new.p e.pass) in
+    absurd (start_shown n s t c.args.bucket x.field-0 (omega (arith, c.if-bucket-eq0.false)) looks (g.met.L.Links.allowed d c.look.new.p x.ensures.pass) has
+    (own_sooner s t u (look_grows c.args.bucket s t _ looks) grows sees))
+
+pub returns-in-Moved-clause-few : goal.returns-in-Moved-clause-few
+returns-in-Moved-clause-few g c = λ has sees.
+    let d = c.args.links.now in
+    let n = g.L.Links.numbers d in
+    let s = g.L.Links.seat d c.args.p.now in
+    let t = g.L.Links.seat d c.look.new.p in
+    absurd (own_not_moved n s t (size_moved n c.args.bucket s t c.in-Moved.ensures.looked (g.met.L.Links.allowed d c.look.new.p c.in-Moved.ensures.pass)) sees)

@@ -102,4 +102,4 @@ returns-in-From-clause-counted g c = λ many is.
     let bucket = bucket_of c.args.key (size_of n s.seen) in
     turn_counts n c.args.key many s (seat_before s t) u b.own bucket b.quiet grows (λ sees. refl)
     (λ sees. e.counted b.start slots (seat_before s t) room kept b.begins bucket many
-    (b.near (record { part = sees.part; is = sees.is; own = sees.own })) is)
+    (b.near (record { part = sees.part; is = sees.is; own = sees.own })).0 is)

@@ -14,6 +14,8 @@ use Rattle.orc_ordered_search.specs.Causes.{WithinPart}
 use Rattle.orc_ordered_search.proofs.Parts.{within_goes_on}
 use Rattle.orc_ordered_search.proofs.Settling.{answers_did, answers_keeps, idle_settled}
 use Rattle.orc_ordered_search.specs.Turns.{AnswersTurns}
+use Rattle.orc_split_set.proofs.Crowding.{seen_grows}
+use Rattle.orc_split_set.proofs.Reaching.{looks_call}
 use Rattle.orc_split_set.proofs.Calling.{did_after, if_ok, roots_call}
 use Rattle.orc_split_set.specs.SplitSearches.{split_reading}
 use Rattle.orc_split_set.proofs.Ordered.{split_ordering}
@@ -59,7 +61,14 @@ returns g c =
     let used = turns_used x agents by events adds s u j m grows is_s is_u all below 1 turns entry answer did in
     let again = if_err answer _ used in
     let some : (value : Bool) → answer ≡ Ok value → turns ≢ 0 = λ value is zero. (let bad = subst (λ (x : Result Bool AgainFault). IsErr x) is (did.no_turns zero).0 in cc) in
+    let grew = seen_grows events by adds j0 k t0 t done.later (g.met.L.Links.seen_is d c.prepare-rooted.new.p before.pass)
+    (g.met.L.Links.seen_is d c.ask_turns-answer.new.p done.pass) in
+    let grew_u = seen_grows events by adds j0 m t0 u (goes_on j0 k m done.later settle.later)
+    (g.met.L.Links.seen_is d c.prepare-rooted.new.p before.pass) is_u in
     record {
+      few = λ ne alone has many r. looks_call n by events adds c.args.key turns s t0 t u did.own j m c.prepare-rooted.result before.prepared
+          ne before.few done.few
+          grew (keeps.1 ∙ same) settle.nothing did.made.puts grows is_s is_u grew_u alone has many r;
       rooted = if_ok answer _ (λ value is. roots_call n by events adds c.args.key turns s t0 u inner.own did.own j m c.prepare-rooted.result before.prepared (some value is)
           inner.made.puts did.made.puts grows is_s is_u (g.met.L.Links.obeys d c.prepare-rooted.new.p before.pass) all
           (WithinPart by s.agent j m (g.L.Links.lacking d s.agent m)) (λ why. WithinPart by s.agent j m (g.L.Links.worn d s.agent why m))
