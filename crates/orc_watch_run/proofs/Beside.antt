@@ -1,0 +1,91 @@
+-- What a worker did, beside the agents of its run, from the beginning of the journal, and with what its pass learned.
+use Rattle.std.proofs.Common.{◌≡◌, ℕ, List, [], ◌∷◌, ◌++◌, Option, Some, None, ap, inl, inr, length, map, refl, subst, sym, ◌∙◌}
+use mathlib.Core.List.{IsPrefix}
+use Rattle.std.specs.List.{AllByRecursion}
+use Rattle.orc_board.proofs.Chains.{Did-just, chain_before, chain_more}
+use Rattle.orc_board.proofs.ListFacts.{AllByRecursion-map, AllByRecursion-right}
+use Rattle.orc_board.proofs.Wholes.{Below}
+use Rattle.orc_board.specs.Follows.{own_records}
+use Rattle.orc_board.specs.Stretches.{Did, Licensed, MayStand, Stretch, View, beside, nothing}
+use Rattle.orc_cell.specs.declared.refused.CellRefused.{CellRefused}
+use Rattle.orc_history.specs.Journals.{own_of}
+use Rattle.orc_pairs_rule.specs.CellHistory.{agent_of_entry}
+use Rattle.orc_pairs_rule.specs.declared.entry.CellEntry.{CellEntry}
+use Rattle.orc_watch.specs.declared.line.WatchLine.{WatchLine}
+use Rattle.orc_watch.specs.declared.reply.WatchReply.{WatchReply}
+use Rattle.orc_watch_run.specs.CameBack.{IsTold}
+use Rattle.orc_watch_run.specs.CellView.{of_cell}
+use Rattle.orc_watch_run.specs.Follows.{CellShare, ShareChain, Watching}
+use Rattle.orc_workers.proofs.Learned.{Grows, none_since, since}
+
+licensed_beside : {A : Type 0} (x : View A CellEntry CellRefused) (C : ℕ → Type 0) (agent : ℕ) (why : Option CellRefused) (j k : List A)
+    → Licensed x agent why j k → Licensed (beside x C) agent why j k
+licensed_beside x C agent None j k h = tt
+licensed_beside x C agent (Some why) j k h = h
+
+did_beside : {A : Type 0} (x : View A CellEntry CellRefused) (C : ℕ → Type 0) → Below x.crowd C → (agent : ℕ) (share : CellShare) (j k : List A)
+    → Did of_cell x agent share j k → Did of_cell (beside x C) agent share j k
+did_beside x C f agent share j k d = record {
+  stretch = record {
+    later = d.stretch.later;
+    part = d.stretch.part;
+    is = d.stretch.is;
+    own_is = d.stretch.own_is;
+    others = AllByRecursion-map (MayStand of_cell x agent) (MayStand of_cell (beside x C) agent)
+        (λ e h. elim h as (λ _. MayStand of_cell (beside x C) agent e) [ inl a ↦ inl a | inr b ↦ inr (f (agent_of_entry e) b) ]) d.stretch.part d.stretch.others;
+  };
+  licence = licensed_beside x C agent share.refused j k d.licence;
+}
+
+shares_beside : {A : Type 0} (x : View A CellEntry CellRefused) (C : ℕ → Type 0) → Below x.crowd C → (agent : ℕ) (shares : List CellShare) (j k : List A)
+    → ShareChain x agent shares j k → ShareChain (beside x C) agent shares j k
+shares_beside x C f agent [] j k c = did_beside x C f agent nothing j k c
+shares_beside x C f agent (share ∷ shares) j k (i, one, c) = (i, did_beside x C f agent share j i one, shares_beside x C f agent shares i k c)
+
+-- the journal at the start, whose history is empty
+pub start : {A : Type 0} (x : View A CellEntry CellRefused) (agent : ℕ) (j : List A) → x.history [] ≡ [] → x.history j ≡ [] → Stretch of_cell x agent [] [] j
+start x agent j none new = record { later = (j, refl); part = []; is = new ∙ sym (ap (λ z. z ++ []) none); own_is = refl; others = tt }
+
+-- what a pass learned is what others did
+pub learned : {A : Type 0} (x : View A CellEntry CellRefused) (C : ℕ → Type 0) (agent : ℕ) (j k : List A) → Grows x.history → IsPrefix j k
+    → own_of agent_of_entry agent (x.history k) ≡ own_of agent_of_entry agent (x.history j) → AllByRecursion (λ e. C (agent_of_entry e)) (x.history k)
+    → Stretch of_cell (beside x C) agent [] j k
+learned x C agent j k grows later own below =
+    let s = since x.history grows j k later in
+    record {
+      later = later;
+      part = s.part;
+      is = s.is;
+      own_is = none_since agent_of_entry agent (x.history j) s.part (x.history k) s.is own;
+      others = AllByRecursion-map (λ e. C (agent_of_entry e)) (MayStand of_cell (beside x C) agent) (λ e h. inr h) s.part
+          (AllByRecursion-right (λ e. C (agent_of_entry e)) (x.history j) s.part (subst (AllByRecursion (λ e. C (agent_of_entry e))) s.is below));
+    }
+
+-- told from the beginning
+pub told_first : {A : Type 0} (x : View A CellEntry CellRefused) (C : ℕ → Type 0) (lines : List WatchLine) (workers agent : ℕ) (replies : List WatchReply)
+    (j k : List A) → Below x.crowd C → x.history [] ≡ [] → x.history j ≡ [] → Watching x lines agent replies j k
+    → map (λ (r : WatchReply). r.line) replies ≡ own_records workers agent (length lines) → IsTold (beside x C) lines workers agent replies k
+told_first x C lines workers agent replies j k few none new w order = record {
+  watched = record {
+    shares = w.shares;
+    table = w.table;
+    chain = chain_before of_cell (beside x C) agent (λ (share : CellShare). share) w.shares [] j k (start (beside x C) agent j none new)
+        (shares_beside x C few agent w.shares j k w.chain);
+  };
+  in_file_order = order;
+}
+
+-- and so where its pass has learned
+pub told_more : {A : Type 0} (x : View A CellEntry CellRefused) (C : ℕ → Type 0) (lines : List WatchLine) (workers agent : ℕ) (replies : List WatchReply)
+    (j k : List A) → Grows x.history → IsPrefix j k
+    → own_of agent_of_entry agent (x.history k) ≡ own_of agent_of_entry agent (x.history j) → AllByRecursion (λ e. C (agent_of_entry e)) (x.history k)
+    → IsTold (beside x C) lines workers agent replies j → IsTold (beside x C) lines workers agent replies k
+told_more x C lines workers agent replies j k grows later own below t = record {
+  watched = record {
+    shares = t.watched.shares;
+    table = t.watched.table;
+    chain = chain_more of_cell (beside x C) agent (λ (share : CellShare). share) t.watched.shares [] j k t.watched.chain
+        (Did-just of_cell (beside x C) agent [] j k (learned x C agent j k grows later own below));
+  };
+  in_file_order = t.in_file_order;
+}

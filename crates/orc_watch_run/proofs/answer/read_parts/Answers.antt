@@ -1,0 +1,23 @@
+use Rattle.std.proofs.Common.{[], ◌∷◌, refl, ◌∙◌}
+use Rattle.orc_board.proofs.Chains.{Stretch-refl}
+use Rattle.orc_pairs_rule.specs.declared.entry.CellEntry.TheVariants.{Seen}
+use Rattle.orc_watch_run.specs.CellView.{cell_view, of_cell}
+use Rattle.orc_watch_run.proofs.Calls.{cell_call}
+use Rattle.orc_watch_run.proofs.answer.read_parts.Goals as goal
+
+pub loop-init : goal.loop-init
+loop-init g c = record { usable = c.requires.usable; agent = refl; quiet = Stretch-refl of_cell _ _ _ }
+
+pub returns-in-Ok-clause-seen : goal.returns-in-Ok-clause-seen
+returns-in-Ok-clause-seen g c =
+    cell_call (cell_view g.L.Links c.args.cell.now.links) _ _ c.loop.invariant.agent
+    (λ a. Seen a c.in-Ok.now.0 c.in-Ok.now.1 ∷ []) _ _ _ c.loop.invariant.quiet c.read.ensures.later c.in-Ok.ensures.seen
+
+pub loop-preserved : goal.loop-preserved
+loop-preserved g c = record {
+  usable = c.read.ensures.usable;
+  agent = c.read.ensures.agent ∙ c.loop.invariant.agent;
+  quiet =
+      cell_call (cell_view g.L.Links c.args.cell.now.links) _ _ c.loop.invariant.agent
+      (λ a. []) _ _ _ c.loop.invariant.quiet c.read.ensures.later c.in-Err.ensures.none;
+}

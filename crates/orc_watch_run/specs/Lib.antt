@@ -1,0 +1,8 @@
+pub mod CellView
+pub mod Follows
+pub mod WatchCalls
+pub mod Passes
+pub mod Team
+pub mod Learning
+pub mod Seats
+pub mod CameBack

@@ -1,0 +1,17 @@
+//! Workers on threads over one cell: each publishes and reads as its lines say.
+#![tactic(auto)]
+
+mod answer;
+mod learning;
+mod lines;
+mod passes;
+mod reserve;
+mod run;
+mod seating;
+mod team;
+mod workplace;
+
+pub use answer::{publish_parts, read_parts};
+pub use lines::watch_lines;
+pub use passes::new_passes_are_fresh;
+pub use run::{Watched, run_watch};

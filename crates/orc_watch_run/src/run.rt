@@ -1,0 +1,132 @@
+//! A whole run.
+
+ghost use Rattle.std.specs.Prelude.{◌≡◌, ◌+◌, ◌≤◌, [], IfOk, OnErr, length, vec_capacity, vec_len};
+ghost use Rattle.std.specs.List.{AllByRecursion};
+ghost use Rattle.orc_watch_run.specs.CameBack.{AllCameBack, AreNumbered, IsNew};
+ghost use Rattle.orc_watch_run.specs.Passes.{AreFresh, AreUsable, FollowsPasses, HaveSeenTheSame, IsFreshPass};
+ghost use Rattle.orc_watch_run.specs.Team.{IsReady};
+
+use crate::answer::read_parts;
+use crate::learning::learn_from_team;
+use crate::reserve::{Reserved, reserve};
+use crate::seating::{hand_back, seat};
+use crate::team::{Worker, run_workers};
+use orc_board::Gate;
+use orc_cell::Cell;
+use orc_fault::NoMemory;
+use orc_heap::Links;
+use orc_pairs_rule::Pairs;
+use orc_watch::{WatchLines, WatchList};
+use std::alloc::Global;
+use std::sync::Wait;
+use std::thread::Threads;
+
+/// What came of a run.
+#[derive(Drop)]
+pub struct Watched {
+    /// The replies of workers in order of number, each in file order.
+    pub replies: WatchList,
+    /// The left part that the caller read once all workers were back.
+    pub now_left: u64,
+    /// The right part of the same read.
+    pub now_right: u64,
+}
+
+// The caller's pass, the parts that it read at last, and the workers in order.
+#[derive(Drop)]
+pub(crate) struct CameBack<P> {
+    pub(crate) pass: P,
+    pub(crate) now_left: u64,
+    pub(crate) now_right: u64,
+    pub(crate) workers: Vec<Worker<P>>,
+}
+
+/// Runs workers 1 to `workers` over the cell, each on a thread of its own where one can be started, and then reads the cell once
+/// as agent 0. Record i is done by worker 1 + (i mod `workers`). A worker whose thread can't be started is run by the caller. The
+/// passes are one per agent in order, and come back so; each has then seen all that happened.
+///
+/// # Errors
+///
+/// `NoMemory` where memory is refused. All of it is taken before the first worker starts: the passes stay as they were, and the
+/// cell's history is empty.
+pub fn run_watch<R: Threads + Wait + Sync, L: Links<Rule = Pairs> + Sync, G: Gate + Sync>(
+    rt: &R,
+    alloc: Global,
+    lines: &WatchLines,
+    workers: u32,
+    cell: &Cell<L>,
+    passes: &mut Vec<L::Pass>,
+    gate: &G,
+) -> Result<Watched, NoMemory>
+where
+    L::Pass: Send,
+    requires workers { 1 ≤ workers }
+    requires few { length lines.now ≤ 65535 }
+    requires passes { AreFresh L.Links cell.now.links 0 passes.old.items }
+    requires count { vec_len passes.old ≡ 1 + workers }
+    requires agents { L.agents cell.now.links ≡ 1 + workers }
+    ensures usable { IfOk result (λ r. AreUsable L.Links cell.now.links 0 passes.new.items) }
+    ensures all { IfOk result (λ r. length passes.new.items ≡ 1 + workers) }
+    ensures seen { IfOk result (λ r. HaveSeenTheSame L.Links cell.now.links passes.new.items) }
+    ensures follows { IfOk result (λ r. FollowsPasses L.Links cell.now.links lines.now workers passes.new.items r.replies.items r.now_left r.now_right) }
+    ensures kept { OnErr result (passes.new ≡ passes.old) }
+{
+    let Reserved {
+        rooms,
+        waiting,
+        done,
+        mut replies,
+    } = reserve(alloc, passes.len() - 1, lines.len())?;
+    let pass = passes.remove(0);
+    let waiting = seat(passes, rooms, waiting);
+    let CameBack {
+        pass,
+        now_left,
+        now_right,
+        workers: team,
+    } = run_team(rt, cell, workers, lines, gate, pass, waiting, done);
+    let Ok(()) = passes.push(pass) else {
+        unreachable!()
+    };
+    hand_back(team, passes, &mut replies);
+    Ok(Watched {
+        replies,
+        now_left,
+        now_right,
+    })
+}
+
+// Runs the workers, and then reads the cell. All memory has been taken before.
+fn run_team<R: Threads + Wait + Sync, L: Links<Rule = Pairs> + Sync, G: Gate + Sync>(
+    rt: &R,
+    cell: &Cell<L>,
+    workers: u32,
+    lines: &WatchLines,
+    gate: &G,
+    mut pass: L::Pass,
+    waiting: Vec<Worker<L::Pass>>,
+    done: Vec<Worker<L::Pass>>,
+) -> CameBack<L::Pass>
+where
+    L::Pass: Send,
+    requires room { (vec_len done ≡ 0) × (done.items ≡ []) × (vec_len waiting ≤ vec_capacity done) }
+    requires pass { IsFreshPass L.Links cell.now.links 0 pass }
+    requires ready { AllByRecursion (IsReady L.Links cell.now.links lines.now workers) waiting.items }
+    requires begin { AllByRecursion (IsNew L.Links cell.now.links) waiting.items }
+    requires numbered { AreNumbered 1 waiting.items }
+    requires count { length waiting.items ≡ workers }
+    requires agents { L.agents cell.now.links ≡ 1 + workers }
+    ensures back { AllCameBack L.Links cell.now.links lines.now workers result.pass result.now_left result.now_right result.workers.items }
+    ensures len { vec_len result.workers ≡ vec_len waiting }
+{
+    let mut team = run_workers(rt, cell, workers, lines, gate, waiting, done);
+    learn_from_team(cell, 0, &mut pass, &mut team);
+    let (now_left, now_right) = read_parts(rt, cell, &mut pass);
+    learn_from_team(cell, 0, &mut pass, &mut team);
+    CameBack {
+        pass,
+        now_left,
+        now_right,
+        workers: team,
+    }
+}
