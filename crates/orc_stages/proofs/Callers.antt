@@ -1,5 +1,5 @@
 -- What the caller moves, stage by stage.
-use Rattle.std.proofs.Common.{◌≡◌, ◌≢◌, ℕ, zero, suc, ◌+◌, ◌<◌, arith, List, [], ◌∷◌, ◌++◌, length, refl, ap, sym, ◌∙◌, subst}
+use Rattle.std.proofs.Common.{◌≡◌, ◌≢◌, ℕ, zero, suc, ◌+◌, ◌<◌, arith, List, [], ◌∷◌, ◌++◌, length, refl, ap, subst}
 use Rattle.orc_history.specs.declared.queue.QueueEntry.TheVariants.{Empty}
 use Rattle.orc_history.specs.declared.queue.SharedQueue.{Ghosts as QueueOf}
 use Rattle.orc_jobs.specs.declared.line.Line.{Line}
@@ -11,7 +11,7 @@ use Rattle.orc_stages.specs.declared.team.Worker.{Worker}
 use Rattle.orc_stages.specs.Stage.{QueueShare, ShareChain, StageRow, froms, tos, MoveTable, Moving, Taking}
 use Rattle.orc_stages.specs.Calls.{MovesMore}
 use Rattle.orc_stages.specs.Desks.{ArePasses, view_at, seen_at}
-use Rattle.orc_stages.specs.Caller.{MovedFor, AllMovedFor, spare_at, CallerActs, CallerMoved, MovedBetween}
+use Rattle.orc_stages.specs.Caller.{spare_at, CallerMoved, MovedBetween}
 use Rattle.orc_stages.proofs.Shares.{shares_append, shares_none, shares_last}
 use Rattle.orc_stages.proofs.Counts.{no_items}
 use Rattle.orc_stages.proofs.Desks.{ahead, nowhere}

@@ -10,3 +10,9 @@ pub mod Counts
 pub mod Places
 pub mod Pipelines
 pub mod ComeOut
+pub mod Rooms
+pub mod Told
+pub mod Crew
+pub mod CameBack
+pub mod Over
+pub mod Ahead

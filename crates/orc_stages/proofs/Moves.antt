@@ -7,11 +7,11 @@ use Rattle.orc_history.specs.declared.queue.QueueRefused.{QueueRefused}
 use Rattle.orc_history.specs.declared.queue.QueueRefused.TheVariants as queue_refused
 use Rattle.orc_history.specs.QueueHistory.{entry_of_dequeue}
 use Rattle.orc_jobs.specs.declared.line.Line.{Line}
-use Rattle.orc_board.specs.Stretches.{View, Stretch, Did, of_queue, just, nothing}
+use Rattle.orc_board.specs.Stretches.{View, Stretch, of_queue, just, nothing}
 use Rattle.orc_board.specs.Table.{EndsWith, took_of}
 use Rattle.orc_board.proofs.Chains.{Did-just, Did-nothing}
 use Rattle.orc_stages.specs.declared.replies.StageReply.{StageReply}
-use Rattle.orc_stages.specs.Stage.{QueueShare, ShareChain, StageRow, froms, tos, IsMoveRow, IsItem, IsNoItem, IsStageValue, IsNoPlace, PutInto, MoveTable, Moving}
+use Rattle.orc_stages.specs.Stage.{QueueShare, ShareChain, StageRow, froms, tos, IsItem, IsNoItem, IsStageValue, IsNoPlace, PutInto, MoveTable, Moving}
 use Rattle.orc_stages.proofs.Shares.{shares_append, shares_none, shares_one, shares_last, took_now, took_none}
 
 table_append : (lines : List Line) (stage agent : ℕ) (rs ss : List StageReply) (rows more : List StageRow)

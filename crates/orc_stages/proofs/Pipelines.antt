@@ -1,7 +1,6 @@
 -- From what posters, workers and the caller did to the pipeline.
 use Rattle.std.proofs.Common.{◌≡◌, ◌≢◌, ℕ, zero, suc, ◌+◌, ◌-◌, ◌<◌, ◌≤◌, ◌^◌, ◌==◌, arith, List, [], ◌∷◌, ◌++◌, length, Bool, true, false, filter, map, ◌⊎◌, inl, inr, refl, ap, sym, ◌∙◌, subst, append-nil, length-append}
 use Rattle.std.specs.List.{AllByRecursion, range_with_len}
-use mathlib.Core.List.{IsPrefix}
 use Rattle.std.proofs.lemmas.List.{map-append, length-map}
 use Rattle.std.proofs.lemmas.List.FromFn.{length-range_with_len}
 use Rattle.std.proofs.lemmas.List.Sorted.{length_permutation}
@@ -12,8 +11,8 @@ use Rattle.orc_history.proofs.Histories.{puts_in-append}
 use Rattle.orc_jobs.specs.declared.line.Line.{Line}
 use Rattle.orc_board.specs.declared.replies.PostReply.{PostReply}
 use Rattle.orc_board.specs.declared.replies.PostWord.TheVariants as word
-use Rattle.orc_board.specs.Stretches.{View, Chain, of_queue, is_own_move, beside}
-use Rattle.orc_board.specs.Follows.{IsWorker, LastIsEmpty, by_key, posts_of}
+use Rattle.orc_board.specs.Stretches.{View, is_own_move}
+use Rattle.orc_board.specs.Follows.{by_key, posts_of}
 use Rattle.orc_board.proofs.ListFacts.{AllByRecursion-append, AllByRecursion-map, AllByRecursion-left, AllByRecursion-right, filter-none, le-cases, eq-true, eq-false, zero_or}
 use Rattle.orc_board.proofs.Orders.{each_line}
 use Rattle.orc_board.proofs.WorkerCases.{own_whole}
@@ -310,7 +309,7 @@ module _ {A : Type 0} (x : ℕ → View A QueueEntry QueueRefused) (lines : List
         ]
       ]
 
-  all_posts : length posts ≡ length lines
+  pub all_posts : length posts ≡ length lines
   all_posts =
       let line : PostReply → ℕ = λ r. r.line in
       omega (
@@ -352,6 +351,18 @@ module _ {A : Type 0} (x : ℕ → View A QueueEntry QueueRefused) (lines : List
         length-map moves (λ (r : StageReply). r.line),
         ap length (puts_are i less),
         kept_few moves,
+      )
+
+  -- and no more are moved by a stage
+  pub few_moves : (i : ℕ) → i < stages → length (work i ++ own i) ≤ length lines
+  few_moves i low =
+      let moves : List StageReply = work i ++ own i in
+      omega (
+        arith,
+        few_puts i (omega (arith, low)),
+        fewer_tooks i,
+        ap length (tooks_are i low),
+        length-map moves (λ (r : StageReply). r.line),
       )
 
   few_positions : (i : ℕ) → i ≤ stages → puts_in (h i) < 2 ^ 62

@@ -1,7 +1,6 @@
 -- Where few jobs are put, no position is refused: a job that found no place found no node.
-use Rattle.std.proofs.Common.{◌≡◌, ◌≢◌, ℕ, ◌≤◌, ◌<◌, ◌^◌, List, [], ◌∷◌, ◌++◌, Option, Some, None, inl, inr, refl, ap, sym, ◌∙◌, subst, arith}
+use Rattle.std.proofs.Common.{◌≡◌, ◌≢◌, ℕ, ◌≤◌, ◌<◌, ◌^◌, List, [], ◌∷◌, Option, Some, None, inl, inr, ap, sym, ◌∙◌, subst, arith}
 use Rattle.std.specs.List.{AllByRecursion}
-use mathlib.Core.List.{IsPrefix}
 use Rattle.orc_history.specs.declared.queue.QueueEntry.{QueueEntry}
 use Rattle.orc_history.specs.declared.queue.QueueRefused.{QueueRefused}
 use Rattle.orc_history.specs.declared.queue.QueueRefused.TheVariants as queue_refused
@@ -12,13 +11,13 @@ use Rattle.orc_jobs.specs.declared.line.Line.TheVariants as line
 use Rattle.orc_board.specs.declared.replies.PostReply.{PostReply}
 use Rattle.orc_board.specs.declared.replies.PostWord.{PostWord}
 use Rattle.orc_board.specs.declared.replies.PostWord.TheVariants as word
-use Rattle.orc_board.specs.Stretches.{View, Share, Stretch, Did, Licensed, of_queue, refusal, nothing}
+use Rattle.orc_board.specs.Stretches.{View, Stretch, Did, Licensed, of_queue, refusal, nothing}
 use Rattle.orc_board.specs.Follows.{Pointwise}
 use Rattle.orc_board.proofs.Chains.{chain_before}
 use Rattle.orc_board.proofs.Positions.{ManyPuts}
 use Rattle.orc_stages.specs.declared.replies.StageReply.{StageReply}
 use Rattle.orc_stages.specs.Stage.{QueueShare, ShareChain, StageRow, tos, PutOf, PostPart, IsPostShare, MoveTable, own_of}
-use Rattle.orc_stages.specs.Pipeline.{PlacePart, IsPlaceShare, Placing}
+use Rattle.orc_stages.specs.Pipeline.{PlacePart, Placing}
 use Rattle.orc_stages.proofs.Shares.{self, shares_stretch}
 
 -- a share that isn't refused for want of positions

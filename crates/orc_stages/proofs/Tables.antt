@@ -1,15 +1,12 @@
 -- What the replies of posters and stages say of the jobs that were put and taken.
-use Rattle.std.proofs.Common.{◌≡◌, ◌≢◌, ℕ, zero, suc, ◌+◌, ◌≤◌, arith, List, [], ◌∷◌, ◌++◌, length, length-append, Bool, true, false, cond, map, inl, inr, Option, Some, None, refl, ap, sym, ◌∙◌, subst, append_assoc, slice_get}
+use Rattle.std.proofs.Common.{◌≡◌, ℕ, ◌≤◌, arith, List, [], ◌∷◌, ◌++◌, length, length-append, Bool, true, false, cond, inl, inr, Option, Some, None, refl, ap, sym, ◌∙◌, subst, append_assoc, slice_get}
 use Rattle.std.specs.List.{AllByRecursion}
 use Rattle.orc_history.specs.declared.queue.QueueEntry.{QueueEntry}
-use Rattle.orc_history.specs.declared.queue.QueueEntry.TheVariants.{Put, Took, Empty}
 use Rattle.orc_jobs.specs.declared.line.Line.{Line}
 use Rattle.orc_jobs.specs.declared.line.Line.TheVariants as line
-use Rattle.orc_jobs.specs.Line.{PostsJob}
 use Rattle.orc_board.specs.declared.replies.PostReply.{PostReply}
 use Rattle.orc_board.specs.declared.replies.PostWord.{PostWord}
 use Rattle.orc_board.specs.declared.replies.PostWord.TheVariants as word
-use Rattle.orc_board.specs.Stretches.{just, nothing}
 use Rattle.orc_board.specs.Follows.{Pointwise}
 use Rattle.orc_board.proofs.ListFacts.{AllByRecursion-append}
 use Rattle.orc_stages.specs.declared.replies.StageReply.{StageReply}

@@ -1,5 +1,5 @@
 -- What the passes of one agent learn from those of others.
-use Rattle.std.specs.Prelude.{◌≡◌, ◌≢◌, ℕ, List, [], ◌++◌, ◌<◌, ◌≤◌, ◌^◌}
+use Rattle.std.specs.Prelude.{◌≡◌, ◌≢◌, ℕ, List, ◌++◌, ◌<◌, ◌≤◌, ◌^◌}
 use Rattle.std.specs.List.{AllByRecursion}
 use mathlib.Core.List.{IsPrefix}
 use Rattle.orc_history.specs.Journals.{own_of}
@@ -9,7 +9,6 @@ use Rattle.orc_history.specs.declared.queue.QueueRefused.{QueueRefused}
 use Rattle.orc_history.specs.declared.queue.QueueRefused.TheVariants.{Positions}
 use Rattle.orc_history.specs.declared.queue.SharedQueue.{Ghosts as QueueOf}
 use Rattle.orc_board.specs.Stretches.{View}
-use Rattle.orc_board.specs.Follows.{Pointwise}
 use Rattle.orc_workers.specs.Learning.{Learned, LearnedAll}
 use Rattle.orc_stages.specs.declared.team.Worker.{Worker}
 use Rattle.orc_stages.specs.Desks.{ArePasses, view_at, seen_at}

@@ -6,3 +6,5 @@ pub mod Learning
 pub mod Caller
 pub mod Pipeline
 pub mod Ran
+pub mod Seats
+pub mod Run

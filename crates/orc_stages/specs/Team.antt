@@ -1,5 +1,5 @@
 -- Workers before and after their work.
-use Rattle.std.specs.Prelude.{◌≡◌, ℕ, suc, ◌+◌, ◌<◌, ◌≤◌, List, [], ◌∷◌, length}
+use Rattle.std.specs.Prelude.{◌≡◌, ℕ, suc, ◌+◌, ◌<◌, ◌≤◌, List, [], length}
 use Rattle.orc_history.specs.declared.queue.QueueEntry.{QueueEntry}
 use Rattle.orc_history.specs.declared.queue.QueueRefused.{QueueRefused}
 use Rattle.orc_history.specs.declared.queue.SharedQueue.{Ghosts as QueueOf}

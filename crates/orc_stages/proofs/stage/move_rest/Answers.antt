@@ -1,4 +1,4 @@
-use Rattle.std.proofs.Common.{◌≡◌, ℕ, length, ap, arith, [], ◌∷◌, ◌++◌, List, refl, sym, ◌∙◌, subst, length-append, append-nil, append_assoc}
+use Rattle.std.proofs.Common.{ℕ, ap, arith, [], ◌∷◌, ◌++◌, List, refl, sym, ◌∙◌, subst, length-append, append-nil, append_assoc}
 use Rattle.orc_board.specs.Stretches.{queue_view}
 use Rattle.orc_stages.specs.declared.replies.StageReply.{StageReply}
 use Rattle.orc_stages.specs.Calls.{AreStagePasses}

@@ -1,0 +1,36 @@
+use Rattle.std.proofs.Common.{◌≡◌, ◌+◌, ◌-◌, suc, ℕ, length, subst, arith}
+use Rattle.orc_workers.proofs.Teams.{team_each}
+use Rattle.orc_stages.specs.Learning.{AreFor, AreKnown}
+use Rattle.orc_stages.proofs.CameBack.{below_of, came_back, laws_of, none_moved, others_after, others_moved}
+use Rattle.orc_stages.proofs.run.run_seated.Goals as goal
+
+pub learn_from_team-requires-clause-others : goal.learn_from_team-requires-clause-others
+learn_from_team-requires-clause-others g c =
+    others_after g.Q.SharedQueue c.args.queues.now c.args.lines.now c.args.posters _ _ (team_each _ _ _ _ c.requires.room.1 c.run_workers-workers.ensures.team)
+
+pub learn_from_team-requires-2-clause-others : goal.learn_from_team-requires-2-clause-others
+learn_from_team-requires-2-clause-others g c =
+    others_moved g.Q.SharedQueue c.args.queues.now c.args.lines.now c.args.posters _ _ _ _ _ c.move_left.ensures.moved c.learn_from_team.ensures.others
+
+pub returns-clause-back : goal.returns-clause-back
+returns-clause-back g c =
+    let q = g.Q.SharedQueue in
+    let queues = c.args.queues.now in
+    let posters = c.args.posters in
+    let stages : ℕ = length queues - 1 in
+    let agents : posters + length queues ≡ suc (posters + stages) = omega (arith, c.requires.queues.0) in
+    let for : AreFor q g.Q.LearnQueue.agents (suc (posters + stages)) queues =
+    subst (λ (n : ℕ). AreFor q g.Q.LearnQueue.agents n queues) agents c.requires.agents in
+    let d1 = c.learn_from_team.new.desk.passes.items in
+    let d3 = c.learn_from_team-2.new.desk.passes.items in
+    let known1 : AreKnown q queues (suc (posters + stages)) d1 = c.learn_from_team.ensures.known (suc (posters + stages)) for in
+    let known3 : AreKnown q queues (suc (posters + stages)) d3 = c.learn_from_team-2.ensures.known (suc (posters + stages)) for in
+    let did = team_each _ _ _ _ c.requires.room.1 c.run_workers-workers.ensures.team in
+    let many : length c.args.waiting.items ≡ posters + stages = omega (arith, c.requires.count, agents, c.args.waiting.ok.0) in
+    came_back q queues c.args.lines.now posters stages (laws_of q queues posters stages c.args.desk.passes.items d1 known1 c.requires.new)
+    c.args.desk.passes.items d1 c.move_left.new.desk.passes.items d3 c.move_left.new.outs _ _ _ _ _
+    (below_of q queues posters stages d1 known1) (below_of q queues posters stages d3 known3) c.requires.new c.requires.numbered
+    many c.requires.begin c.requires.enough (none_moved q queues c.args.lines.now posters _ c.requires.ready) did
+    c.learn_from_team.ensures.learned c.learn_from_team.ensures.same c.move_left.ensures.moved
+    (omega (arith, c.move_left.ensures.spare, c.requires.outs.1)) c.learn_from_team-2.ensures.learned c.learn_from_team-2.ensures.same
+    c.learn_from_team-2.ensures.passes known3 c.learn_from_team-2.ensures.others

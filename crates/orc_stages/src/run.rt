@@ -1,0 +1,239 @@
+//! A whole run of a pipeline.
+ghost use Rattle.std.specs.Prelude.{ℕ, ◌≡◌, ◌+◌, ◌-◌, ◌≤◌, [], length, IfOk, OnErr, vec_len, vec_capacity};
+ghost use Rattle.std.specs.List.{AllByRecursion};
+ghost use Rattle.orc_jobs.specs.GoodLines.{AreGood};
+ghost use Rattle.orc_stages.specs.Desks.{ArePasses};
+ghost use Rattle.orc_board.specs.Follows.{Pointwise};
+ghost use Rattle.orc_stages.specs.Learning.{AreFor, AreKnown, IsOther, LearnsAll, SameWorker};
+ghost use Rattle.orc_stages.specs.Team.{IsReady};
+ghost use Rattle.orc_stages.specs.Run.{AreFresh, AreIdle, HaveSeenTheSame, IsRunOf, AreNumbered, HasRoom, IsNew, CallerMovedFor, AllCameBack};
+
+use crate::reserve::{Reserved, reserve};
+use crate::seating::{hand_back, seat};
+use crate::{OutList, StageDesk, StageList, Worker, learn_all, move_all, run_workers};
+use orc_board::{Gate, PostList};
+use orc_fault::NoMemory;
+use orc_history::LearnQueue;
+use orc_jobs::Lines;
+use std::alloc::Global;
+use std::sync::Wait;
+use std::sync::atomic::AtomicU64;
+use std::thread::Threads;
+
+/// The replies of a run, and the jobs that came out of its last queue.
+#[derive(Drop)]
+pub struct StagesDone {
+    /// What came of each record: first those of poster 1 in file order, then those of poster 2, and so on.
+    pub posts: PostList,
+    /// What each stage did: first the replies of stage 1 in its order, then those of stage 2, and so on.
+    pub moves: StageList,
+    /// The numbers of the records whose jobs came out, in their order.
+    pub outs: OutList,
+}
+
+// The caller's desk, the workers in order, and what came out.
+#[derive(Drop)]
+struct Seated<P> {
+    desk: StageDesk<P>,
+    workers: Vec<Worker<P>>,
+    outs: OutList,
+}
+
+/// Runs the posters and one worker for each stage at these desks, each on a thread of its own where one can be started; then moves
+/// what is left, stage by stage, and takes what comes out of the last queue. A worker whose thread can't be started is run by the
+/// caller: posters first, and each stage before the next. The desks are one per agent in order: the caller's, those of posters 1 to
+/// `posters`, and those of stages 1 to K, where there are K + 1 queues. They come back so, and each pass has then seen all that
+/// happened in its queue.
+///
+/// # Errors
+///
+/// `NoMemory` where memory is refused. All of it is taken before the first worker starts: the desks stay as they were, and the
+/// histories of all queues are empty.
+pub fn run_stages<R: Threads + Wait + Sync, Q: LearnQueue + Sync, G: Gate + Sync>(
+    rt: &R,
+    alloc: Global,
+    lines: &Lines,
+    posters: u32,
+    queues: &[Q],
+    desks: &mut Vec<StageDesk<Q::Pass>>,
+    gate: &G,
+) -> Result<StagesDone, NoMemory>
+where
+    Q::Pass: Send,
+    requires posters { 1 ≤ posters }
+    requires good { AreGood lines.now }
+    requires queues { (2 ≤ length queues.now) × (length queues.now ≤ 7) }
+    requires desks { AreFresh Q.SharedQueue queues.now 0 desks.old.items }
+    requires count { vec_len desks.old ≡ posters + length queues.now }
+    requires agents { AreFor Q.SharedQueue Q.agents (posters + length queues.now) queues.now }
+    ensures idle { IfOk result (λ r. AreIdle Q.SharedQueue queues.now 0 desks.new.items) }
+    ensures all { IfOk result (λ r. length desks.new.items ≡ posters + length queues.now) }
+    ensures seen { IfOk result (λ r. HaveSeenTheSame Q.SharedQueue desks.new.items) }
+    ensures pipeline { IfOk result (IsRunOf Q.SharedQueue queues.now lines.now posters desks.new.items) }
+    ensures kept { OnErr result (desks.new ≡ desks.old) }
+{
+    let Reserved {
+        rooms,
+        waiting,
+        done,
+        mut posts,
+        mut moves,
+        outs,
+    } = reserve(
+        alloc,
+        posters,
+        desks.len() - 1,
+        queues.len() - 1,
+        lines.len(),
+    )?;
+    let Some((first, _)) = queues.split_first() else {
+        unreachable!()
+    };
+    let desk = desks.remove(0);
+    let waiting = seat(first, desks, rooms, waiting);
+    let Seated {
+        desk,
+        workers,
+        outs,
+    } = run_seated(rt, queues, posters, lines, gate, desk, outs, waiting, done);
+    let Ok(()) = desks.push(desk) else {
+        unreachable!()
+    };
+    hand_back(workers, desks, &mut posts, &mut moves);
+    Ok(StagesDone { posts, moves, outs })
+}
+
+// Runs the workers, and then moves what is left. All memory has been taken before.
+fn run_seated<R: Threads + Wait + Sync, Q: LearnQueue + Sync, G: Gate + Sync>(
+    rt: &R,
+    queues: &[Q],
+    posters: u32,
+    lines: &Lines,
+    gate: &G,
+    mut desk: StageDesk<Q::Pass>,
+    mut outs: OutList,
+    waiting: Vec<Worker<Q::Pass>>,
+    done: Vec<Worker<Q::Pass>>,
+) -> Seated<Q::Pass>
+where
+    Q::Pass: Send,
+    requires good { AreGood lines.now }
+    requires queues { (2 ≤ length queues.now) × (length queues.now ≤ 7) }
+    requires agents { AreFor Q.SharedQueue Q.agents (posters + length queues.now) queues.now }
+    requires room { (vec_len done ≡ 0) × (done.items ≡ []) × (vec_len waiting ≤ vec_capacity done) }
+    requires desk { ArePasses Q.SharedQueue 0 queues.now desk.passes.items }
+    requires new { IsNew Q.SharedQueue queues.now desk.passes.items }
+    requires outs { (outs.items ≡ []) × (length lines.now ≤ outs.spare) }
+    requires ready { AllByRecursion (IsReady Q.SharedQueue queues.now lines.now posters) waiting.items }
+    requires begin { AllByRecursion (λ w. IsNew Q.SharedQueue queues.now w.desk.passes.items) waiting.items }
+    requires numbered { AreNumbered 1 waiting.items }
+    requires count { vec_len waiting + 1 ≡ posters + length queues.now }
+    requires enough { AllByRecursion (HasRoom posters lines.now) waiting.items }
+    ensures back { AllCameBack Q.SharedQueue queues.now lines.now posters (length queues.now - 1) result.desk.passes.items result.workers.items result.outs.items }
+    ensures len { vec_len result.workers ≡ vec_len waiting }
+{
+    let putting = [
+        AtomicU64::new(u64::from(posters)),
+        AtomicU64::new(1),
+        AtomicU64::new(1),
+        AtomicU64::new(1),
+        AtomicU64::new(1),
+        AtomicU64::new(1),
+        AtomicU64::new(1),
+    ];
+    let mut workers = run_workers(rt, queues, posters, lines, gate, &putting, waiting, done);
+    learn_from_team(queues, &mut desk, &mut workers);
+    move_left(
+        rt,
+        queues,
+        &mut desk,
+        posters,
+        lines,
+        &mut workers,
+        &mut outs,
+    );
+    learn_from_team(queues, &mut desk, &mut workers);
+    Seated {
+        desk,
+        workers,
+        outs,
+    }
+}
+
+// The caller's passes learn from those of all workers twice over.
+fn learn_from_team<Q: LearnQueue>(
+    queues: &[Q],
+    desk: &mut StageDesk<Q::Pass>,
+    workers: &mut Vec<Worker<Q::Pass>>,
+)
+    requires passes { ArePasses Q.SharedQueue 0 queues.now desk.old.passes.items }
+    requires others { AllByRecursion (IsOther Q.SharedQueue queues.now 0) workers.old.items }
+    ensures passes { ArePasses Q.SharedQueue 0 queues.now desk.new.passes.items }
+    ensures known { (agents : ℕ) → AreFor Q.SharedQueue (Q.agents) agents queues.now → AreKnown Q.SharedQueue queues.now agents desk.new.passes.items }
+    ensures others { AllByRecursion (IsOther Q.SharedQueue queues.now 0) workers.new.items }
+    ensures same { Pointwise SameWorker workers.old.items workers.new.items }
+    ensures learned { LearnsAll Q.SharedQueue queues.now 0 desk.old.passes.items desk.new.passes.items workers.old.items workers.new.items }
+    ensures len { vec_len workers.new ≡ vec_len workers.old }
+{
+    learn_all(
+        queues,
+        0,
+        desk.passes.as_mut_slice(),
+        workers.as_mut_slice(),
+    );
+}
+
+// Moves what is left as each of the stages, whose workers stand behind those of the posters, and takes what comes out.
+fn move_left<R: Wait, Q: LearnQueue>(
+    rt: &R,
+    queues: &[Q],
+    desk: &mut StageDesk<Q::Pass>,
+    posters: u32,
+    lines: &Lines,
+    workers: &mut Vec<Worker<Q::Pass>>,
+    outs: &mut OutList,
+)
+    requires passes { ArePasses Q.SharedQueue 0 queues.now desk.old.passes.items }
+    requires all { vec_len workers.old + 1 ≡ posters + length queues.now }
+    requires queues { (2 ≤ length queues.now) × (length queues.now ≤ 7) }
+    requires good { AreGood lines.now }
+    requires no_outs { outs.old.items ≡ [] }
+    ensures passes { ArePasses Q.SharedQueue 0 queues.now desk.new.passes.items }
+    ensures moved { CallerMovedFor Q.SharedQueue queues.now lines.now posters desk.old.passes.items desk.new.passes.items
+        workers.old.items workers.new.items outs.new }
+    ensures spare { length outs.new.items + outs.new.spare ≡ outs.old.spare }
+    ensures len { vec_len workers.new ≡ vec_len workers.old }
+{
+    move_behind(
+        rt,
+        queues,
+        desk.passes.as_mut_slice(),
+        posters,
+        lines,
+        workers.as_mut_slice(),
+        outs,
+    );
+}
+
+// The same for the passes of a desk and the workers of a slice.
+fn move_behind<R: Wait, Q: LearnQueue>(
+    rt: &R,
+    queues: &[Q],
+    passes: &mut [Q::Pass],
+    posters: u32,
+    lines: &Lines,
+    workers: &mut [Worker<Q::Pass>],
+    outs: &mut OutList,
+)
+    requires passes { ArePasses Q.SharedQueue 0 queues.now passes.old }
+    requires all { length workers.old + 1 ≡ posters + length queues.now }
+    requires queues { (2 ≤ length queues.now) × (length queues.now ≤ 7) }
+    requires good { AreGood lines.now }
+    requires no_outs { outs.old.items ≡ [] }
+    ensures passes { ArePasses Q.SharedQueue 0 queues.now passes.new }
+    ensures moved { CallerMovedFor Q.SharedQueue queues.now lines.now posters passes.old passes.new workers.old workers.new outs.new }
+    ensures spare { length outs.new.items + outs.new.spare ≡ outs.old.spare }
+{
+    let (_posters, stages) = workers.split_at_mut(posters as usize);
+    move_all(rt, queues, passes, 0, 1, lines, stages, outs);
+}
