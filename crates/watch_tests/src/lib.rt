@@ -1,0 +1,5 @@
+//! Watch files and their text.
+#![tactic(auto)]
+
+#[cfg(test)]
+mod tests;
