@@ -1,0 +1,176 @@
+//! The calls of one agent, over any domain.
+
+ghost use Rattle.std.specs.Prelude.{All, IfSome};
+ghost use Rattle.orc_split_set.specs.SetCalls.{IsUsable};
+
+use orc_heap::Links;
+use orc_history::SharedSet;
+use orc_split_rule::Split;
+use orc_split_set::SplitSet;
+
+// Inserts nine even keys, in order. Answers how many were added.
+fn insert_evens<L: Links<Rule = Split>>(set: &SplitSet<L>, p: &mut L::Pass) -> u32
+    requires usable { IsUsable L.Links set.now.links p.old }
+    ensures usable { IsUsable L.Links set.now.links p.new }
+{
+    let mut added: u32 = 0;
+    for half in 0..9u64 {
+        added = added.wrapping_add(u32::from(set.insert(p, 2 * half, 2) == Ok(true)));
+    }
+    added
+}
+
+// How many of the keys below this one are present.
+fn present_below<L: Links<Rule = Split>>(set: &SplitSet<L>, p: &mut L::Pass, end: u64) -> u32
+    requires usable { IsUsable L.Links set.now.links p.old }
+    ensures usable { IsUsable L.Links set.now.links p.new }
+{
+    let mut found: u32 = 0;
+    for key in 0..end {
+        found = found.wrapping_add(u32::from(set.contains(p, key, 2) == Ok(true)));
+    }
+    found
+}
+
+/// What nine even keys and one odd one come to: how many even ones were added, the number of buckets, whether the odd one
+/// was added, the number of buckets then, and how many keys below 18 are present, and whether 3 is.
+#[derive(Clone, Copy, Debug, PartialEq, Eq, Drop)]
+pub struct Doubled {
+    pub added: u32,
+    pub buckets: Option<u32>,
+    pub odd: Option<bool>,
+    pub buckets_then: Option<u32>,
+    pub present: u32,
+    pub three: Option<bool>,
+}
+
+/// Inserts nine even keys, and then 1.
+pub fn double_once<L: Links<Rule = Split>>(set: &SplitSet<L>, p: &mut L::Pass) -> Doubled
+    requires usable { IsUsable L.Links set.now.links p.old }
+    ensures usable { IsUsable L.Links set.now.links p.new }
+{
+    let added = insert_evens(set, p);
+    let buckets = set.size(p, 2).ok();
+    let odd = set.insert(p, 1, 2).ok();
+    let buckets_then = set.size(p, 2).ok();
+    let present = present_below(set, p, 18);
+    let three = set.contains(p, 3, 2).ok();
+    Doubled {
+        added,
+        buckets,
+        odd,
+        buckets_then,
+        present,
+        three,
+    }
+}
+
+/// The numbers of buckets once one agent stopped before it doubled them, behind nine even keys, and once another one inserted 3.
+/// None where an answer was another.
+pub fn double_after_a_stop<L: Links<Rule = Split>>(
+    set: &SplitSet<L>,
+    one: &mut L::Pass,
+    two: &mut L::Pass,
+) -> Option<(u32, u32)>
+    requires one { IsUsable L.Links set.now.links one.old }
+    requires two { IsUsable L.Links set.now.links two.old }
+    ensures one { IsUsable L.Links set.now.links one.new }
+    ensures two { IsUsable L.Links set.now.links two.new }
+{
+    let evens = insert_evens(set, one);
+    let stopped = set.insert_and_stop(one, 1, 2);
+    let left = set.size(two, 2).ok()?;
+    let added = set.insert(two, 3, 2);
+    let doubled = set.size(two, 2).ok()?;
+    if (evens, stopped, added) == (9, Ok(true), Ok(true)) {
+        Some((left, doubled))
+    } else {
+        None
+    }
+}
+
+// Whether the two least numbers, one in the middle and the greatest were all added.
+fn insert_ends<L: Links<Rule = Split>>(set: &SplitSet<L>, p: &mut L::Pass) -> bool
+    requires usable { IsUsable L.Links set.now.links p.old }
+    ensures usable { IsUsable L.Links set.now.links p.new }
+{
+    let greatest = set.insert(p, u64::MAX, 2);
+    let least = set.insert(p, 0, 2);
+    let middle = set.insert(p, 1 << 63, 2);
+    let next = set.insert(p, 1, 2);
+    (greatest, least, middle, next) == (Ok(true), Ok(true), Ok(true), Ok(true))
+}
+
+// Whether all of them are present, or all absent.
+fn are_ends<L: Links<Rule = Split>>(set: &SplitSet<L>, p: &mut L::Pass, yes: bool) -> bool
+    requires usable { IsUsable L.Links set.now.links p.old }
+    ensures usable { IsUsable L.Links set.now.links p.new }
+{
+    let least = set.contains(p, 0, 2);
+    let next = set.contains(p, 1, 2);
+    let middle = set.contains(p, 1 << 63, 2);
+    let greatest = set.contains(p, u64::MAX, 2);
+    (least, next, middle, greatest) == (Ok(yes), Ok(yes), Ok(yes), Ok(yes))
+}
+
+// Whether all of them were taken out.
+fn remove_ends<L: Links<Rule = Split>>(set: &SplitSet<L>, p: &mut L::Pass) -> bool
+    requires usable { IsUsable L.Links set.now.links p.old }
+    ensures usable { IsUsable L.Links set.now.links p.new }
+{
+    let middle = set.remove(p, 1 << 63, 2);
+    let greatest = set.remove(p, u64::MAX, 2);
+    let least = set.remove(p, 0, 2);
+    let next = set.remove(p, 1, 2);
+    (middle, greatest, least, next) == (Ok(true), Ok(true), Ok(true), Ok(true))
+}
+
+// Inserts the keys from the first to before the second number. Answers the number of buckets then; none where an answer
+// was another than true, or the number fell.
+fn insert_all<L: Links<Rule = Split>>(
+    set: &SplitSet<L>,
+    p: &mut L::Pass,
+    from: u64,
+    to: u64,
+) -> Option<u32>
+    requires usable { IsUsable L.Links set.now.links p.old }
+    ensures usable { IsUsable L.Links set.now.links p.new }
+{
+    let mut buckets: u32 = 0;
+    for key in from..to {
+        let added = set.insert(p, key, 2);
+        let now = set.size(p, 2);
+        match (added, now) {
+            (Ok(true), Ok(now)) if now >= buckets => buckets = now,
+            _ => return None,
+        }
+    }
+    Some(buckets)
+}
+
+/// The number of buckets once the keys from 2 to 999 were inserted, beside the two least numbers, one in the middle and the
+/// greatest: these are found before and afterwards, and then taken out. None where an answer was another.
+pub fn ends_among_many<L: Links<Rule = Split>>(set: &SplitSet<L>, p: &mut L::Pass) -> Option<u32>
+    requires usable { IsUsable L.Links set.now.links p.old }
+    ensures usable { IsUsable L.Links set.now.links p.new }
+{
+    let added = insert_ends(set, p) && are_ends(set, p, true);
+    let buckets = insert_all(set, p, 2, 1_000);
+    let found = are_ends(set, p, true);
+    let removed = remove_ends(set, p) && are_ends(set, p, false);
+    let left = present_below(set, p, 1_001);
+    if added && found && removed && left == 998 {
+        buckets
+    } else {
+        None
+    }
+}
+
+/// The next pass, of the agent with the greatest number that is left.
+pub fn next_pass<S: SharedSet>(set: &S, passes: &mut Vec<S::Pass>) -> Option<S::Pass>
+    requires usable { All (λ p. S.usable set.now p) passes.old.items }
+    ensures usable { All (λ p. S.usable set.now p) passes.new.items }
+    ensures popped { IfSome result (λ p. S.usable set.now p) }
+{
+    passes.pop()
+}
