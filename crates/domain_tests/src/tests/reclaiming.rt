@@ -1,8 +1,10 @@
 //! Over the domain whose rows are reclaimed.
 
 ghost use Rattle.std.specs.Prelude.{◌≡◌, ◌<◌};
-ghost use Rattle.orc_reclaiming_domain.specs.Ends.{AreAll, AreIdle};
-ghost use Rattle.orc_reclaiming_domain.specs.Passes.{domain_numbers};
+ghost use Rattle.orc_machine_board.specs.Rules.{run_of};
+ghost use Rattle.orc_reclaiming_domain.specs.Ends.{AreAll, AreIdle, SawAll, whole_journal};
+ghost use Rattle.orc_reclaiming_domain.specs.Passes.{domain_bounds, domain_numbers};
+ghost use Rattle.orc_rest.specs.Rest.{IsAtRest};
 
 use super::calls::first_links;
 use super::nodes::{
@@ -32,13 +34,24 @@ where
     is_sent::<OrcPass<D>>();
 }
 
+// Lets all passes drain.
+fn drain_all<D: Discipline>(domain: &OrcDomain<D>, passes: &mut Vec<OrcPass<D>>)
+    requires all { AreAll domain.now passes.old.items }
+    requires idle { AreIdle domain.now passes.old.items }
+    ensures all { AreAll domain.now passes.new.items }
+    ensures own { SawAll passes.new.items }
+    ensures rest { IsAtRest (run_of (domain_bounds domain.now) (whole_journal passes.new.items)) }
+{
+    domain.drain_all(passes.as_mut_slice());
+}
+
 // Brings the domain to rest, answers its numbers, and ends its table.
 fn numbers_at_rest<D: Discipline>(domain: OrcDomain<D>, passes: Vec<OrcPass<D>>) -> (u64, u64, u32)
     requires all { AreAll domain passes.items }
     requires idle { AreIdle domain passes.items }
 {
     let mut passes = passes;
-    domain.drain_all(passes.as_mut_slice());
+    drain_all(&domain, &mut passes);
     let rest = domain.rest(passes);
     let numbers = (rest.given(), rest.reused(), rest.linked());
     let _words = rest.close();
