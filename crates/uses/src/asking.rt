@@ -1,73 +1,92 @@
-//! A set is asked, key by key.
+//! Sets and queues are called, call by call, and their answers held to those that are wanted.
 
 ghost use Rattle.std.specs.Prelude.{◌≡◌, ◌<◌, ℕ, All, length, slice_index_or};
 
-use crate::next_list_pass;
-use orc_fault::{Again, NoMemory};
-use orc_history::{ListRefused, SharedSet};
-use std::alloc::Global;
+use crate::{next_list_pass, next_pass};
+use orc_fault::Again;
+use orc_history::{ListRefused, QueueRefused, SharedQueue, SharedSet};
 
-/// What a call of a set answered, or that no row was left for a key.
-#[derive(Clone, Copy, Debug, PartialEq, Eq, Drop)]
-pub enum SetAnswer {
-    /// The key was added, taken out or found.
-    Yes,
-    /// It was there before, or it wasn't there.
-    No,
-    /// No row was left for it.
-    NoNode,
-    /// The turns were used up, or a row was worn.
-    Refused,
+/// A call of a set with this key, and the answer that is wanted.
+#[derive(Clone, Copy, Drop)]
+pub enum SetCase {
+    Insert(u64, Result<bool, ListRefused>),
+    Remove(u64, Result<bool, Again>),
+    Contains(u64, Result<bool, Again>),
 }
 
-impl From<Result<bool, ListRefused>> for SetAnswer {
-    fn from(answer: Result<bool, ListRefused>) -> SetAnswer {
-        match answer {
-            Ok(true) => SetAnswer::Yes,
-            Ok(false) => SetAnswer::No,
-            Err(ListRefused::NoNode) => SetAnswer::NoNode,
-            Err(_) => SetAnswer::Refused,
-        }
+/// Whether the call, with so many turns, is answered so.
+pub fn set_answers<S: SharedSet>(set: &S, p: &mut S::Pass, turns: u64, case: &SetCase) -> bool
+    requires { S.usable set.now p.old }
+    ensures { S.usable set.now p.new }
+{
+    match case {
+        SetCase::Insert(key, wanted) => set.insert(p, *key, turns) == *wanted,
+        SetCase::Remove(key, wanted) => set.remove(p, *key, turns) == *wanted,
+        SetCase::Contains(key, wanted) => set.contains(p, *key, turns) == *wanted,
     }
 }
 
-impl From<Result<bool, Again>> for SetAnswer {
-    fn from(answer: Result<bool, Again>) -> SetAnswer {
-        match answer {
-            Ok(true) => SetAnswer::Yes,
-            Ok(false) => SetAnswer::No,
-            Err(Again) => SetAnswer::Refused,
-        }
-    }
-}
-
-/// What the set answers, call by call, where the last of its agents asks for each of these keys and adds it, and then takes
-/// each of those out and asks for it, in one try each.
-///
-/// # Errors
-///
-/// `NoMemory` where memory is refused.
-pub fn set_answers<S: SharedSet>(
-    alloc: Global,
+/// The place of the first call that isn't answered so, where the last of the agents makes each with so many turns.
+pub fn first_other_answer<S: SharedSet>(
     set: &S,
     mut passes: Vec<S::Pass>,
-    added: &[u64],
-    taken_out: &[u64],
-) -> Result<Vec<SetAnswer>, NoMemory>
+    cases: &[(u64, SetCase)],
+) -> Option<usize>
     requires usable { All (λ p. S.usable set.now p) passes.items }
     requires agents { (i : ℕ) (p : S.Pass) → i < length passes.items → S.agent_of set.now (slice_index_or passes.items i p) ≡ i }
 {
-    let mut answers = Vec::new(alloc);
     let Some(mut pass) = next_list_pass(set, &mut passes) else {
-        return Ok(answers);
+        return Some(0);
     };
-    for key in added {
-        answers.push(SetAnswer::from(set.contains(&mut pass, *key, 1)))?;
-        answers.push(SetAnswer::from(set.insert(&mut pass, *key, 1)))?;
+    for place in 0..cases.len() {
+        let (turns, case) = &cases[place];
+        if !set_answers(set, &mut pass, *turns, case) {
+            return Some(place);
+        }
     }
-    for key in taken_out {
-        answers.push(SetAnswer::from(set.remove(&mut pass, *key, 1)))?;
-        answers.push(SetAnswer::from(set.contains(&mut pass, *key, 1)))?;
+    None
+}
+
+/// A put of this job, or a take, and the answer that is wanted.
+#[derive(Clone, Copy, Drop)]
+pub enum QueueCase {
+    Put(u64, Result<u64, QueueRefused>),
+    Take(Result<Option<(u64, u64)>, Again>),
+}
+
+/// Whether the call, with so many turns, is answered so.
+pub fn queue_answers<Q: SharedQueue>(
+    queue: &Q,
+    p: &mut Q::Pass,
+    turns: u64,
+    case: &QueueCase,
+) -> bool
+    requires { Q.usable queue.now p.old }
+    ensures { Q.usable queue.now p.new }
+{
+    match case {
+        QueueCase::Put(job, wanted) => queue.enqueue(p, *job, turns) == *wanted,
+        QueueCase::Take(wanted) => queue.dequeue(p, turns) == *wanted,
     }
-    Ok(answers)
+}
+
+/// The place of the first call that isn't answered so, where the last of the agents makes each with so many turns.
+pub fn first_other_reply<Q: SharedQueue>(
+    queue: &Q,
+    mut passes: Vec<Q::Pass>,
+    cases: &[(u64, QueueCase)],
+) -> Option<usize>
+    requires usable { All (λ p. Q.usable queue.now p) passes.items }
+    requires agents { (i : ℕ) (p : Q.Pass) → i < length passes.items → Q.agent_of queue.now (slice_index_or passes.items i p) ≡ i }
+{
+    let Some(mut pass) = next_pass(queue, &mut passes) else {
+        return Some(0);
+    };
+    for place in 0..cases.len() {
+        let (turns, case) = &cases[place];
+        if !queue_answers(queue, &mut pass, *turns, case) {
+            return Some(place);
+        }
+    }
+    None
 }

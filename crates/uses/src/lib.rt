@@ -10,7 +10,9 @@ mod queue;
 mod set;
 mod stopping;
 
-pub use asking::{SetAnswer, set_answers};
+pub use asking::{
+    QueueCase, SetCase, first_other_answer, first_other_reply, queue_answers, set_answers,
+};
 pub use cell::{CellPass, DomainCell, cell_over};
 pub use learning::{each_sees_the_others, each_takes_the_others};
 pub use list::{DomainList, ListPass, next_list_pass, one_list_over, two_list_passes};

@@ -8,7 +8,6 @@ mod domain_threads;
 mod list_calls;
 mod meeting;
 mod queue_calls;
-mod queue_threads;
 mod set_calls;
 
 #[test]

@@ -95,15 +95,6 @@ pub(super) fn drained_queue(queue: &ReclaimingQueue, passes: &mut Vec<Reclaiming
     backlog_when_alone(queue.links(), passes.as_mut_slice())
 }
 
-// The same of a list.
-pub(super) fn drained_list(list: &ReclaimingList, passes: &mut Vec<ReclaimingListPass>) -> u32
-    requires usable { All (λ p. ⟦<ReclaimingList as SharedSet>⟧.usable list.now p) passes.old.items }
-    ensures usable { All (λ p. ⟦<ReclaimingList as SharedSet>⟧.usable list.now p) passes.new.items }
-    ensures many { length passes.new.items ≡ length passes.old.items }
-{
-    backlog_when_alone(list.links(), passes.as_mut_slice())
-}
-
 // The same of a set.
 pub(super) fn drained_set(set: &ReclaimingSet, passes: &mut Vec<ReclaimingListPass>) -> u32
     requires usable { All (λ p. ⟦<ReclaimingSet as SharedSet>⟧.usable set.now p) passes.old.items }

@@ -1,11 +1,9 @@
-//! Queue, list and set on four threads, over domains with few rows, and at rest afterwards.
+//! Queue and set on four threads, over domains with few rows, and at rest afterwards.
 
 ghost use Rattle.std.specs.Prelude.{◌≡◌, ◌<◌, All, length};
 
-use super::crew::{
-    at_rest_list, at_rest_queue, at_rest_set, drained_list, drained_queue, drained_set,
-};
-use crate::{reclaiming_list_over, reclaiming_queue_over, reclaiming_set_over};
+use super::crew::{Numbers, at_rest_queue, at_rest_set, drained_queue, drained_set};
+use crate::{reclaiming_queue_over, reclaiming_set_over};
 use orc_history::{SharedQueue, SharedSet};
 use orc_words::Shape;
 use std::test::Fail;
@@ -68,6 +66,12 @@ where
     call_and_ask(rt, set, passes.as_mut_slice(), keys, sums)
 }
 
+// Whether rows were given often, calls were answered often, and all rows that were given are linked or were reused.
+fn are_reused(rest: &Numbers, answered: u64) -> bool {
+    let often = rest.given >= 10_000 && answered >= 2 * CALLS;
+    often && rest.given == rest.reused.wrapping_add(u64::from(rest.linked))
+}
+
 // Each put that was answered took a row, of which there are 64: so the rows were reused. A put that finds no row counts as a
 // call without an answer, and isn't wrong: others may have retired rows that they have still to free. At rest the dummy is
 // linked, and a row for each job that is left.
@@ -79,41 +83,20 @@ fn a_queue_reuses_its_rows(rt: HostRuntime) -> Result<(), Fail> {
     };
     let sums = QueueSums::new();
     put_and_take(&rt, &queue, &mut passes, &sums);
-    assert_eq!(rt; drained_queue(&queue, &mut passes), 0);
+    let waiting = drained_queue(&queue, &mut passes);
     let Some(rest) = at_rest_queue(queue, passes) else {
         panic!(rt; "passes in order")
     };
-    let (given, answered) = (rest.given, sums.answered());
-    assert!(rt; given >= 10_000, "{given} lives of rows");
-    assert!(rt; answered >= 2 * CALLS, "{answered} answers");
-    assert_eq!(rt; given, rest.reused.wrapping_add(u64::from(rest.linked)));
     let left = sums.put().wrapping_sub(sums.taken());
-    assert_eq!(rt; u64::from(rest.linked), left.wrapping_add(1));
+    assert!(rt; are_reused(&rest, sums.answered()), "{rest:?}");
+    assert_eq!(rt;
+        (waiting, u64::from(rest.linked)),
+        (0, left.wrapping_add(1))
+    );
     Ok(())
 }
 
 // So it is of the inserts that added a key. At rest a row is linked for each key that is left, and each marked node.
-#[test]
-fn a_list_reuses_its_rows(rt: HostRuntime) -> Result<(), Fail> {
-    let shape = Shape::new(64, 1, 4, 1 << 39)?;
-    let Ok((list, mut passes)) = reclaiming_list_over(rt.alloc(), &shape) else {
-        panic!(rt; "memory")
-    };
-    let sums = SetSums::new();
-    let left = add_and_take_out(&rt, &list, &mut passes, 16, &sums);
-    assert_eq!(rt; drained_list(&list, &mut passes), 0);
-    let Some(rest) = at_rest_list(list, passes) else {
-        panic!(rt; "passes in order")
-    };
-    assert_eq!(rt; left, Some(sums.balance()));
-    let (given, answered) = (rest.given, sums.answered());
-    assert!(rt; given >= 10_000, "{given} lives of rows");
-    assert!(rt; answered >= 2 * CALLS, "{answered} answers");
-    assert_eq!(rt; given, rest.reused.wrapping_add(u64::from(rest.linked)));
-    assert!(rt; rest.linked >= sums.balance().count_ones());
-    Ok(())
-}
-
 #[test]
 fn a_set_of_sixteen_buckets_reuses_its_rows(rt: HostRuntime) -> Result<(), Fail> {
     let shape = Shape::new(64, 16, 4, 1 << 39)?;
@@ -122,15 +105,13 @@ fn a_set_of_sixteen_buckets_reuses_its_rows(rt: HostRuntime) -> Result<(), Fail>
     };
     let sums = SetSums::new();
     let left = add_and_take_out(&rt, &set, &mut passes, 64, &sums);
-    assert_eq!(rt; drained_set(&set, &mut passes), 0);
+    let waiting = drained_set(&set, &mut passes);
     let Some(rest) = at_rest_set(set, passes) else {
         panic!(rt; "passes in order")
     };
-    assert_eq!(rt; left, Some(sums.balance()));
-    let (given, answered) = (rest.given, sums.answered());
-    assert!(rt; given >= 10_000, "{given} lives of rows");
-    assert!(rt; answered >= 2 * CALLS, "{answered} answers");
-    assert_eq!(rt; given, rest.reused.wrapping_add(u64::from(rest.linked)));
-    assert!(rt; rest.linked >= sums.balance().count_ones());
+    let balance = sums.balance();
+    assert!(rt; are_reused(&rest, sums.answered()), "{rest:?}");
+    assert!(rt; rest.linked >= balance.count_ones());
+    assert_eq!(rt; (waiting, left), (0, Some(balance)));
     Ok(())
 }

@@ -1,63 +1,74 @@
 //! The bucketed set's calls, on one thread.
 
 use crate::{reclaiming_list_over, reclaiming_set_over};
-use orc_fault::NoMemory;
+use orc_history::ListRefused::NoNode;
 use orc_words::Shape;
-use std::alloc::Global;
 use std::test::Fail;
-use uses::SetAnswer::{No, NoNode, Yes};
-use uses::{SetAnswer, set_answers};
+use uses::SetCase::{self, Contains, Insert, Remove};
+use uses::first_other_answer;
 
 // 5, 262 and 519 are 5 by 257, 6 is 6, and the greatest number is 0. There are five rows: 7 finds none.
+const SHARED: [(u64, SetCase); 22] = [
+    (1, Contains(519, Ok(false))),
+    (1, Insert(519, Ok(true))),
+    (1, Contains(5, Ok(false))),
+    (1, Insert(5, Ok(true))),
+    (1, Contains(262, Ok(false))),
+    (1, Insert(262, Ok(true))),
+    (1, Contains(6, Ok(false))),
+    (1, Insert(6, Ok(true))),
+    (1, Contains(u64::MAX, Ok(false))),
+    (1, Insert(u64::MAX, Ok(true))),
+    (1, Contains(7, Ok(false))),
+    (1, Insert(7, Err(NoNode))),
+    (1, Contains(262, Ok(true))),
+    (1, Insert(262, Ok(false))),
+    (1, Remove(262, Ok(true))),
+    (1, Contains(262, Ok(false))),
+    (1, Remove(262, Ok(false))),
+    (1, Contains(262, Ok(false))),
+    (1, Remove(0, Ok(false))),
+    (1, Contains(0, Ok(false))),
+    (1, Remove(5, Ok(true))),
+    (1, Contains(5, Ok(false))),
+];
+
 #[test]
 fn keys_that_share_a_bucket_and_keys_that_do_not(rt: HostRuntime) -> Result<(), Fail> {
     let shape = Shape::new(5, 257, 1, 1 << 39)?;
     let Ok((set, passes)) = reclaiming_set_over(rt.alloc(), &shape) else {
         panic!(rt; "memory")
     };
-    let added = [519, 5, 262, 6, u64::MAX, 7, 262];
-    let taken_out = [262, 262, 0, 5];
-    let answers = set_answers(rt.alloc(), &set, passes, &added, &taken_out)?;
-    let wanted = [
-        No, Yes, No, Yes, No, Yes, No, Yes, No, Yes, No, NoNode, Yes, No, Yes, No, No, No, No, No,
-        Yes, No,
-    ];
-    assert_eq!(rt; answers.as_slice(), wanted.as_slice());
+    assert_eq!(rt; first_other_answer(&set, passes, &SHARED), None);
     Ok(())
 }
 
-// Nine distinct keys, of which the last finds no row.
-const ADDED: [u64; 12] = [5, 3, 9, 5, u64::MAX, 0, 3, 8, 7, 2, 1, 1];
-
-const TAKEN_OUT: [u64; 5] = [9, 9, 0, 4, u64::MAX];
-
-// What one list of eight rows answers.
-fn answers_of_a_list(alloc: Global) -> Result<Vec<SetAnswer>, NoMemory> {
-    let Ok(shape) = Shape::new(8, 1, 1, 1 << 39) else {
-        return Err(NoMemory);
-    };
-    let (list, passes) = reclaiming_list_over(alloc, &shape)?;
-    set_answers(alloc, &list, passes, &ADDED, &TAKEN_OUT)
-}
-
-// What a set of eight rows and one bucket answers to the same calls.
-fn answers_of_a_set(alloc: Global) -> Result<Vec<SetAnswer>, NoMemory> {
-    let Ok(shape) = Shape::new(8, 1, 1, 1 << 39) else {
-        return Err(NoMemory);
-    };
-    let (set, passes) = reclaiming_set_over(alloc, &shape)?;
-    set_answers(alloc, &set, passes, &ADDED, &TAKEN_OUT)
-}
+// Of four distinct keys the last finds no row.
+const ONE_BUCKET: [(u64, SetCase); 12] = [
+    (1, Insert(5, Ok(true))),
+    (1, Insert(3, Ok(true))),
+    (1, Insert(5, Ok(false))),
+    (1, Insert(u64::MAX, Ok(true))),
+    (1, Insert(9, Err(NoNode))),
+    (1, Contains(3, Ok(true))),
+    (1, Contains(9, Ok(false))),
+    (1, Remove(4, Ok(false))),
+    (1, Remove(5, Ok(true))),
+    (1, Contains(5, Ok(false))),
+    (1, Insert(9, Ok(true))),
+    (1, Contains(u64::MAX, Ok(true))),
+];
 
 #[test]
 fn one_bucket_is_one_list(rt: HostRuntime) -> Result<(), Fail> {
-    let of_list = answers_of_a_list(rt.alloc())?;
-    let of_set = answers_of_a_set(rt.alloc())?;
-    let wanted = [
-        No, Yes, No, Yes, No, Yes, Yes, No, No, Yes, No, Yes, Yes, No, No, Yes, No, Yes, No, Yes,
-        No, NoNode, No, NoNode, Yes, No, No, No, Yes, No, No, No, Yes, No,
-    ];
-    assert_eq!(rt; of_list.as_slice(), wanted.as_slice());
-    assert_eq!(rt; of_list, of_set);
+    let shape = Shape::new(3, 1, 1, 1 << 39)?;
+    let Ok((list, of_list)) = reclaiming_list_over(rt.alloc(), &shape) else {
+        panic!(rt; "memory")
+    };
+    assert_eq!(rt; first_other_answer(&list, of_list, &ONE_BUCKET), None);
+    let Ok((set, of_set)) = reclaiming_set_over(rt.alloc(), &shape) else {
+        panic!(rt; "memory")
+    };
+    assert_eq!(rt; first_other_answer(&set, of_set, &ONE_BUCKET), None);
     Ok(())
 }

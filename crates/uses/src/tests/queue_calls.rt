@@ -1,12 +1,9 @@
 //! The queue's calls on one thread, over a domain that gives each row once.
 
-ghost use Rattle.std.specs.Prelude.{◌≡◌, ◌<◌, ℕ, All, length, slice_index_or};
-
-use crate::{each_takes_the_others, next_pass, queue_over};
+use crate::{QueueCase, each_takes_the_others, first_other_reply, queue_over};
 use orc_fault::Again;
-use orc_history::{QueueRefused, SharedQueue};
+use orc_history::QueueRefused;
 use orc_words::Shape;
-use std::process::Abort;
 use std::test::Fail;
 
 #[test]
@@ -20,24 +17,18 @@ fn both_take_what_both_put(rt: HostRuntime) -> Result<(), Fail> {
 }
 
 // Both calls without turns, and two rows, which are given once: the second put finds none, even after the first was taken.
-fn refused_calls<R: Abort, Q: SharedQueue>(rt: &R, queue: &Q, mut passes: Vec<Q::Pass>)
-    requires usable { All (λ p. Q.usable queue.now p) passes.items }
-    requires agents { (i : ℕ) (p : Q.Pass) → i < length passes.items → Q.agent_of queue.now (slice_index_or passes.items i p) ≡ i }
-{
-    let Some(mut p) = next_pass(queue, &mut passes) else {
-        panic!(rt; "a pass")
-    };
-    assert_eq!(rt; queue.enqueue(&mut p, 9, 0), Err(QueueRefused::Again));
-    assert_eq!(rt; queue.dequeue(&mut p, 0), Err(Again));
-    assert_eq!(rt; queue.dequeue(&mut p, 2), Ok(None));
-    assert_eq!(rt; queue.enqueue(&mut p, 1, 2), Ok(0));
-    assert_eq!(rt; queue.enqueue(&mut p, 2, 2), Err(QueueRefused::NoNode));
-    assert_eq!(rt; queue.enqueue(&mut p, 9, 0), Err(QueueRefused::Again));
-    assert_eq!(rt; queue.dequeue(&mut p, 0), Err(Again));
-    assert_eq!(rt; queue.dequeue(&mut p, 2), Ok(Some((1, 0))));
-    assert_eq!(rt; queue.enqueue(&mut p, 2, 2), Err(QueueRefused::NoNode));
-    assert_eq!(rt; queue.dequeue(&mut p, 2), Ok(None));
-}
+const CASES: [(u64, QueueCase); 10] = [
+    (0, QueueCase::Put(9, Err(QueueRefused::Again))),
+    (0, QueueCase::Take(Err(Again))),
+    (2, QueueCase::Take(Ok(None))),
+    (2, QueueCase::Put(1, Ok(0))),
+    (2, QueueCase::Put(2, Err(QueueRefused::NoNode))),
+    (0, QueueCase::Put(9, Err(QueueRefused::Again))),
+    (0, QueueCase::Take(Err(Again))),
+    (2, QueueCase::Take(Ok(Some((1, 0))))),
+    (2, QueueCase::Put(2, Err(QueueRefused::NoNode))),
+    (2, QueueCase::Take(Ok(None))),
+];
 
 #[test]
 fn calls_without_turns_and_without_rows(rt: HostRuntime) -> Result<(), Fail> {
@@ -46,6 +37,6 @@ fn calls_without_turns_and_without_rows(rt: HostRuntime) -> Result<(), Fail> {
         panic!(rt; "memory")
     };
     queue.members();
-    refused_calls(&rt, &queue, passes);
+    assert_eq!(rt; first_other_reply(&queue, passes, &CASES), None);
     Ok(())
 }

@@ -1,5 +1,0 @@
-use Rattle.uses.proofs.tests.queue_threads.take_one.Given as goal
-
--- the pass may be used
-abbrev pub invariant-loop : goal.invariant-loop
-invariant-loop g l = g.Q.SharedQueue.usable l.queue l.p
