@@ -1,7 +1,9 @@
 -- An agent that is stopped, and holds one node or none.
 use Rattle.std.specs.Prelude.{None, Option, Some, replicate, slice_set, ◌≡◌}
+use Rattle.orc_cell.specs.CellCalls.{IsUsable, StagesPart}
 use Rattle.orc_heap.specs.Slots.{Hold, Holds, Slots}
 use Rattle.orc_heap.specs.declared.links.Links.{Ghosts as LinksOf}
+use Rattle.orc_pairs_rule.specs.declared.pairs.PairsNote.{PairsNote}
 
 -- the slots hold this alone
 abbrev pub HoldsOnly : Option Hold → Slots → Type 0
@@ -13,3 +15,8 @@ pub record IsStopped {L D P S N : Type 0} (members : LinksOf L D P S N) (links :
   pub belongs : members.belongs links p
   pub fresh : (members.seat links p).fresh ≡ None
   pub slots : HoldsOnly held (members.seat links p).slots
+
+-- the pass of a stopped agent of a cell: it has staged this part, or nothing
+abbrev pub HasStopped : {L D P S : Type 0} → LinksOf L D P S PairsNote → L → Option Hold → P → Type 0
+HasStopped members links None p = IsUsable members links p
+HasStopped members links (Some h) p = StagesPart members links h p

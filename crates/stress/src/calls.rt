@@ -1,9 +1,14 @@
-//! The calls of a queue and of a set, as a container is driven.
+//! The calls of a queue, of a set and of a cell, as a container is driven.
 
-ghost use Rattle.std.specs.Prelude.{◌≡◌};
+ghost use Rattle.std.specs.Prelude.{◌≡◌, ◌≢◌, ◌⊎◌, None};
+ghost use Rattle.orc_cell.specs.CellCalls.{IsUsable};
+ghost use Rattle.orc_heap.specs.Domains.{agent};
 
+use orc_cell::{Cell, CellRefused};
 use orc_fault::Again;
+use orc_heap::Links;
 use orc_history::{ListRefused, QueueRefused, SharedQueue, SharedSet};
+use orc_pairs_rule::Pairs;
 use orc_stress::{Answer, Ask, Outcome};
 
 // Puts a job at the back, or takes the one at the front, in so many tries.
@@ -19,7 +24,7 @@ pub(crate) fn call_queue<Q: SharedQueue>(
 {
     match ask {
         Ask::Give(job) => put_job(queue, p, *job, turns),
-        Ask::Take(_) | Ask::Read(_) => take_job(queue, p, turns),
+        _ => take_job(queue, p, turns),
     }
 }
 
@@ -60,6 +65,7 @@ pub(crate) fn call_set<S: SharedSet>(set: &S, p: &mut S::Pass, ask: &Ask, turns:
         Ask::Give(key) => insert_key(set, p, *key, turns),
         Ask::Take(key) => remove_key(set, p, *key, turns),
         Ask::Read(key) => find_key(set, p, *key, turns),
+        _ => Outcome::Unchanged,
     }
 }
 
@@ -100,6 +106,58 @@ fn find_key<S: SharedSet>(set: &S, p: &mut S::Pass, key: u64, turns: u64) -> Out
     match set.contains(p, key, turns) {
         Ok(true) => Outcome::Found,
         Ok(false) => Outcome::Unchanged,
+        Err(Again) => Outcome::Refused(Answer::Again),
+    }
+}
+
+// Publishes parts of a cell, or reads both, in so many tries.
+pub(crate) fn call_cell<L: Links<Rule = Pairs>>(
+    cell: &Cell<L>,
+    p: &mut L::Pass,
+    ask: &Ask,
+    turns: u64,
+) -> Outcome
+    requires { IsUsable L.Links cell.now.links p.old }
+    ensures usable { IsUsable L.Links cell.now.links p.new }
+    ensures agent { agent L.Links cell.now.links p.new ≡ agent L.Links cell.now.links p.old }
+{
+    match ask {
+        Ask::Left(value) => publish(cell, p, Some(*value), None, turns),
+        Ask::Right(value) => publish(cell, p, None, Some(*value), turns),
+        Ask::Both(value) => publish(cell, p, Some(*value), Some(*value), turns),
+        _ => read(cell, p, turns),
+    }
+}
+
+// Publishes parts.
+fn publish<L: Links<Rule = Pairs>>(
+    cell: &Cell<L>,
+    p: &mut L::Pass,
+    left: Option<u64>,
+    right: Option<u64>,
+    turns: u64,
+) -> Outcome
+    requires usable { IsUsable L.Links cell.now.links p.old }
+    requires given { (left ≢ None) ⊎ (right ≢ None) }
+    ensures usable { IsUsable L.Links cell.now.links p.new }
+    ensures agent { agent L.Links cell.now.links p.new ≡ agent L.Links cell.now.links p.old }
+{
+    match cell.publish(p, left, right, turns) {
+        Ok((left, right)) => Outcome::Published(left, right),
+        Err(CellRefused::Again) => Outcome::Refused(Answer::Again),
+        Err(CellRefused::NoNode) => Outcome::Refused(Answer::NoNode),
+        Err(CellRefused::Spent(_)) => Outcome::Refused(Answer::Spent),
+    }
+}
+
+// Reads both parts.
+fn read<L: Links<Rule = Pairs>>(cell: &Cell<L>, p: &mut L::Pass, turns: u64) -> Outcome
+    requires { IsUsable L.Links cell.now.links p.old }
+    ensures usable { IsUsable L.Links cell.now.links p.new }
+    ensures agent { agent L.Links cell.now.links p.new ≡ agent L.Links cell.now.links p.old }
+{
+    match cell.read(p, turns) {
+        Ok((left, right)) => Outcome::Saw(left, right),
         Err(Again) => Outcome::Refused(Answer::Again),
     }
 }

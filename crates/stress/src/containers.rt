@@ -15,6 +15,8 @@ use orc_heap::Held;
 use orc_list::OneList;
 use orc_queue::Queue;
 use orc_set::Set;
+use orc_split_rule::Split;
+use orc_split_set::SplitSet;
 use orc_stress::{Ask, Container, Counts, Outcome, Settings, Stop};
 use std::marker::PhantomData;
 
@@ -116,6 +118,26 @@ impl<L: Ending<Rule = Chain>> Over<L> for Set<L> {
     }
 }
 
+impl<L: Ending<Rule = Split>> Over<L> for SplitSet<L> {
+    ghost domain_of = { λ c. c.links };
+
+    fn domain(&self) -> &L {
+        self.links()
+    }
+
+    fn into_domain(self) -> L {
+        self.into_links()
+    }
+
+    fn call(&self, p: &mut L::Pass, ask: &Ask, turns: u64) -> Outcome {
+        call_set(self, p, ask, turns)
+    }
+
+    fn call_and_stop(&self, _p: &mut L::Pass) -> Outcome {
+        Outcome::Unchanged
+    }
+}
+
 // A container as it is driven, over a domain that has a root.
 #[derive(Drop)]
 pub(crate) struct Rooted<L: Ending, C: Over<L>> {
@@ -167,7 +189,7 @@ impl<L: Ending, C: Over<L>> Container for Rooted<L, C> {
     fn stop(&self, p: &mut L::Pass) -> (Option<Held>, Outcome) {
         match self.stop {
             Stop::First => (hold_first(self.container.domain(), p), Outcome::Unchanged),
-            Stop::Tail | Stop::Marked => (None, self.container.call_and_stop(p)),
+            Stop::Tail | Stop::Marked | Stop::Staged => (None, self.container.call_and_stop(p)),
         }
     }
 

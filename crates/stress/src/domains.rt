@@ -1,6 +1,6 @@
 //! Domains that tell of their retired rows, and that come to rest.
 
-ghost use Rattle.std.specs.Prelude.{◌≡◌, [], IfOk, length};
+ghost use Rattle.std.specs.Prelude.{◌≡◌, [], All, IfOk, length};
 ghost use Rattle.orc_heap.specs.Seeds.{SeedAllowed, opening_events};
 ghost use Rattle.orc_projection.specs.Mirror.{numbers_of};
 ghost use Rattle.orc_words.specs.Bounds.{bounds_of};
@@ -27,6 +27,7 @@ pub(crate) trait Ending: Links {
         ensures numbers { IfOk result (λ made. Self.numbers made.0 ≡ numbers_of (bounds_of shape.now)) }
         ensures opening { IfOk result (λ made. Self.opening made.0 ≡ opening_events seed) }
         ensures idle { IfOk result (λ made. AreAllIdle Self.Links made.0 made.1.items) }
+        ensures new { IfOk result (λ made. All (λ p. (Self.seat made.0 p).seen ≡ Self.opening made.0) made.1.items) }
         ensures passes { IfOk result (λ made. length made.1.items ≡ (bounds_of shape.now).agents) };
 
     // How many retired rows the pass has to work through.
@@ -49,6 +50,8 @@ impl<D: Discipline> Ending for PlainDomain<D> {
         ensures numbers { IfOk result (λ made. ⟦<PlainDomain<D> as Links>⟧.numbers made.0 ≡ numbers_of (bounds_of shape.now)) }
         ensures opening { IfOk result (λ made. ⟦<PlainDomain<D> as Links>⟧.opening made.0 ≡ opening_events seed) }
         ensures idle { IfOk result (λ made. AreAllIdle ⟦<PlainDomain<D> as Links>⟧ made.0 made.1.items) }
+        ensures new { IfOk result (λ made. All (λ p. (⟦<PlainDomain<D> as Links>⟧.seat made.0 p).seen ≡ ⟦<PlainDomain<D> as Links>⟧.opening made.0)
+            made.1.items) }
         ensures passes { IfOk result (λ made. length made.1.items ≡ (bounds_of shape.now).agents) }
     {
         PlainDomain::make(alloc, shape, seed)
@@ -83,6 +86,8 @@ impl<D: Discipline> Ending for OrcDomain<D> {
         ensures numbers { IfOk result (λ made. ⟦<OrcDomain<D> as Links>⟧.numbers made.0 ≡ numbers_of (bounds_of shape.now)) }
         ensures opening { IfOk result (λ made. ⟦<OrcDomain<D> as Links>⟧.opening made.0 ≡ opening_events seed) }
         ensures idle { IfOk result (λ made. AreAllIdle ⟦<OrcDomain<D> as Links>⟧ made.0 made.1.items) }
+        ensures new { IfOk result (λ made. All (λ p. (⟦<OrcDomain<D> as Links>⟧.seat made.0 p).seen ≡ ⟦<OrcDomain<D> as Links>⟧.opening made.0)
+            made.1.items) }
         ensures passes { IfOk result (λ made. length made.1.items ≡ (bounds_of shape.now).agents) }
     {
         OrcDomain::make(alloc, shape, seed)

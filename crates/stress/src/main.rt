@@ -1,7 +1,9 @@
-//! Drives a queue, a list or a set on threads, over plain domains or such whose rows are reclaimed, and prints what that came to.
+//! Drives a queue, a list, a set, one that doubles its buckets, or a cell, on threads, over plain domains or such whose rows are reclaimed, and
+//! prints what that came to.
 #![tactic(auto)]
 
 mod calls;
+mod cells;
 mod choices;
 mod containers;
 mod domains;

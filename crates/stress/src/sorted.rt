@@ -87,6 +87,7 @@ impl Container for Sorted {
             Ask::Give(key) => p.insert(*key),
             Ask::Take(key) => p.remove(*key),
             Ask::Read(key) => p.find(*key),
+            _ => Outcome::Unchanged,
         }
     }
 
