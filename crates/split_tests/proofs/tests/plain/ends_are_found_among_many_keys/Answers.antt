@@ -3,4 +3,4 @@ use Rattle.std.proofs.Common.{arith, refl}
 use Rattle.split_tests.proofs.tests.plain.ends_are_found_among_many_keys.Goals as goal
 
 pub new_set-requires-clause-size : goal.new_set-requires-clause-size
-new_set-requires-clause-size c = (omega arith, 8, refl)
+new_set-requires-clause-size g c = (omega arith, 8, refl)

@@ -3,4 +3,4 @@ use Rattle.std.proofs.Common.{arith, refl}
 use Rattle.split_tests.proofs.tests.reclaiming.ten_keys_make_two_buckets.Goals as goal
 
 pub new_set-requires-clause-size : goal.new_set-requires-clause-size
-new_set-requires-clause-size c = (omega arith, 2, refl)
+new_set-requires-clause-size g c = (omega arith, 2, refl)
