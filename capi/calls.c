@@ -3,7 +3,9 @@
 
 /* ThreadSanitizer sees no step of the archive, which it has not compiled. So it is told here what these steps order: all
  * that a thread did before it put a value or changed a key comes before what another does after it took that value or
- * found that change. Values that have the same remainder are not told apart. */
+ * found that change, and all that threads did before they gave their passes up before what the last one does afterwards.
+ * Values that have the same remainder are not told apart, nor are containers. The passes themselves, which the archive
+ * copies by memcpy, it is told not to look at. */
 #if defined(__has_feature)
 #if __has_feature(thread_sanitizer)
 #define MOORINGAKEE_TOLD
@@ -12,8 +14,10 @@
 #if defined(MOORINGAKEE_TOLD) || defined(__SANITIZE_THREAD__)
 void __tsan_release(void *place);
 void __tsan_acquire(void *place);
+void __tsan_ignore_thread_begin(void);
+void __tsan_ignore_thread_end(void);
 
-static char places[65521];
+static char places[65521], ends;
 
 static void is_put(uint64_t number) {
     __tsan_release(&places[number % sizeof places]);
@@ -21,6 +25,16 @@ static void is_put(uint64_t number) {
 
 static void is_found(uint64_t number) {
     __tsan_acquire(&places[number % sizeof places]);
+}
+
+static void begins_end(void) {
+    __tsan_release(&ends);
+    __tsan_ignore_thread_begin();
+}
+
+static void has_ended(void) {
+    __tsan_ignore_thread_end();
+    __tsan_acquire(&ends);
 }
 #else
 static void is_put(uint64_t number) {
@@ -30,6 +44,10 @@ static void is_put(uint64_t number) {
 static void is_found(uint64_t number) {
     (void)number;
 }
+
+static void begins_end(void) {}
+
+static void has_ended(void) {}
 #endif
 
 int32_t mooringakee_proved_queue_make(uint32_t rows, uint64_t turns, struct mooringakee_pass *passes, size_t agents);
@@ -43,8 +61,10 @@ int32_t mooringakee_proved_contains(struct mooringakee_pass *pass, uint64_t key,
 int32_t mooringakee_proved_settle(struct mooringakee_pass *pass);
 int32_t mooringakee_proved_backlog(struct mooringakee_pass *pass, uint32_t *rows);
 int32_t mooringakee_proved_drop(struct mooringakee_pass *pass);
+int32_t mooringakee_proved_close(struct mooringakee_pass *pass, struct mooringakee_counts *counts);
 
 _Static_assert(sizeof(struct mooringakee_pass) == 16, "a pass is 16 bytes");
+_Static_assert(sizeof(struct mooringakee_counts) == 24, "counts are 24 bytes");
 
 /* Whether so many passes can be a container's. Else no pass is looked at, since fewer may be there. */
 static bool are_agents(size_t agents) {
@@ -65,6 +85,7 @@ const char *mooringakee_code_name(int32_t code) {
     case MOORINGAKEE_NULL: return "NULL";
     case MOORINGAKEE_KIND: return "KIND";
     case MOORINGAKEE_SPENT: return "SPENT";
+    case MOORINGAKEE_OTHERS: return "OTHERS";
     case MOORINGAKEE_KEPT: return "KEPT";
     default: return "UNKNOWN";
     }
@@ -128,7 +149,19 @@ int32_t mooringakee_backlog(struct mooringakee_pass *pass, uint32_t *rows) {
 }
 
 int32_t mooringakee_drop(struct mooringakee_pass *pass) {
-    return pass == NULL ? MOORINGAKEE_NULL : mooringakee_proved_drop(pass);
+    if (pass == NULL) return MOORINGAKEE_NULL;
+    begins_end();
+    int32_t code = mooringakee_proved_drop(pass);
+    has_ended();
+    return code;
+}
+
+int32_t mooringakee_close(struct mooringakee_pass *pass, struct mooringakee_counts *counts) {
+    if (pass == NULL || counts == NULL) return MOORINGAKEE_NULL;
+    begins_end();
+    int32_t code = mooringakee_proved_close(pass, counts);
+    has_ended();
+    return code;
 }
 
 int32_t mooringakee_queue_drop(struct mooringakee_pass *pass) {

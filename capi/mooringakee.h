@@ -21,7 +21,7 @@
  *  5. At each pointer is the memory that the call is told of, and no other argument has any of it: a call reads and
  *     writes it in any order.
  *  6. malloc, realloc and free are those of one allocator, and align to 16 as the C standard's do on this machine:
- *     what make has from malloc, the last drop gives to free.
+ *     what make has from malloc, the last drop or close gives to free.
  *  7. No call is made from a signal handler, which may have stopped another call with the same pass, or malloc; nor in
  *     the child of a fork of a process with threads, where the calls of the others have stopped half way for ever.
  *  8. No call is left by longjmp, pthread_cancel or an exception from a handler: until it returns, the pass is empty,
@@ -62,6 +62,7 @@ enum mooringakee_code {
     MOORINGAKEE_NULL = 9,      /* a null pointer */
     MOORINGAKEE_KIND = 10,     /* a queue's call with a pass of a set, or the other way round */
     MOORINGAKEE_SPENT = 11,    /* a row has been given or linked as often as can be */
+    MOORINGAKEE_OTHERS = 12,   /* other passes of the container are live */
     MOORINGAKEE_KEPT = 13      /* rows are left that this pass had to work through */
 };
 
@@ -120,9 +121,25 @@ int32_t mooringakee_settle(struct mooringakee_pass *pass);
 int32_t mooringakee_backlog(struct mooringakee_pass *pass, uint32_t *rows);
 
 /* Settles, and empties the pass. The container stays, with what is in it, as long as it has passes: the last one that is
- * dropped frees it.
+ * dropped or closed frees it.
  * OK; KEPT, where the pass was dropped all the same, and its rows are lost to the other passes; NO_PASS, NULL. */
 int32_t mooringakee_drop(struct mooringakee_pass *pass);
+
+/* What a container tells of its rows at its end. As many rows were given as were freed and are linked. */
+struct mooringakee_counts {
+    uint64_t given;  /* rows given, each as often as it was */
+    uint64_t reused; /* rows freed, to be given again, each as often as it was */
+    uint32_t linked; /* rows still linked: one for each value or key that was left, and one of a queue's own; in a set one
+                        more for a key that was removed where its unlinking met other calls */
+};
+
+/* Empties the pass. Where it is the last live one of its container, works through all that any pass had left, tells how
+ * many rows were given, freed and are still linked, and frees the container. All passes may be closed, by several threads at
+ * once: the last one, and that one alone, is told.
+ * OK, where it was the last one. OTHERS, where other passes were live. KEPT and NO_MEMORY, where it was the last one, but not
+ * all passes were there any more, or malloc gave none: nothing is told. In each of these cases the pass is empty. NO_PASS,
+ * NULL. */
+int32_t mooringakee_close(struct mooringakee_pass *pass, struct mooringakee_counts *counts);
 
 /* The same as mooringakee_drop. */
 int32_t mooringakee_queue_drop(struct mooringakee_pass *pass);

@@ -15,6 +15,7 @@
 #include <cstdint>
 #include <memory>
 #include <new>
+#include <optional>
 #include <stdexcept>
 #include <string>
 #include <utility>
@@ -32,6 +33,9 @@ public:
 private:
     std::int32_t code_;
 };
+
+// What a container tells of its rows at its end.
+using counts = mooringakee_counts;
 
 namespace detail {
 
@@ -60,6 +64,15 @@ public:
 
     bool is_live() const noexcept { return pass_.live; }
     mooringakee_pass *at() noexcept { return &pass_; }
+
+    // Ends the pass. The last one of its container is told of the rows.
+    std::optional<counts> close() {
+        counts told{};
+        std::int32_t code = mooringakee_close(&pass_, &told);
+        if (code == MOORINGAKEE_OTHERS) return std::nullopt;
+        check_made(code);
+        return told;
+    }
 
     // Passes that a make fills, in order of agent.
     template <class Make> static std::vector<raw_pass> made(std::size_t agents, Make make) {
@@ -99,9 +112,13 @@ public:
             std::swap(passes_, other.passes_);
             return *this;
         }
-        ~pass() {
-            if (raw_.is_live() && passes_->fetch_sub(1) == 1)
-                while (dequeue()) {}
+        ~pass() { delete_left(); }
+
+        // Ends the pass. The queue's last one is told of its rows, once the values that were left are deleted; the others get
+        // nothing. Throws `refused` where the pass has ended before, and std::bad_alloc where nothing can be told.
+        std::optional<counts> close() {
+            delete_left();
+            return raw_.close();
         }
 
         // Puts a value, which is not null, at the back, and takes it over. False where no row is free: then it stays.
@@ -126,6 +143,12 @@ public:
         friend class queue;
         pass(detail::raw_pass raw, std::shared_ptr<std::atomic<std::size_t>> passes) noexcept
             : raw_(std::move(raw)), passes_(std::move(passes)) {}
+
+        // Called once for each live pass, before it ends.
+        void delete_left() {
+            if (raw_.is_live() && passes_->fetch_sub(1) == 1)
+                while (dequeue()) {}
+        }
 
         detail::raw_pass raw_;
         std::shared_ptr<std::atomic<std::size_t>> passes_; // how many have not ended
@@ -166,6 +189,9 @@ public:
 
         // Whether a key is there.
         bool contains(std::uint64_t key) { return answer(mooringakee_contains, key); }
+
+        // Ends the pass. The set's last one is told of its rows; the others get nothing. Throws as a queue's does.
+        std::optional<counts> close() { return raw_.close(); }
 
     private:
         friend class set;

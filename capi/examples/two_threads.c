@@ -56,5 +56,11 @@ int main(void) {
     pthread_join(reader, NULL);
     pthread_join(packer, &items);
     printf("%d orders with %d items\n", ORDERS, *(int *)items);
-    for (int i = 0; i < 2; i++) mooringakee_drop(&passes[i]);
+
+    /* the last pass is told of the rows: of an empty queue one is linked, its own */
+    struct mooringakee_counts rows;
+    mooringakee_drop(&passes[0]);
+    if (mooringakee_close(&passes[1], &rows) != MOORINGAKEE_OK) return 1;
+    printf("64 rows were given %llu times, and freed %llu times\n", (unsigned long long)rows.given, (unsigned long long)rows.reused);
+    return rows.linked == 1 ? 0 : 1;
 }

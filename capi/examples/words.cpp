@@ -45,6 +45,11 @@ int main() {
     for (std::uint64_t length = 0; length < 64; length++) different += other.contains(length);
     std::printf("%zu words of %zu lengths were taken, %zu are left to the queue\n", taken, different, kept);
 
+    // the last pass is told of the set's rows
+    auto none = other.close();
+    auto rows = seen.close();
+    if (none || !rows || rows->linked != different || rows->given != rows->reused + rows->linked) return 1;
+
     // numbers out of range are refused
     try {
         mooringakee::queue<int> none(1, 2);

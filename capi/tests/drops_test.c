@@ -1,5 +1,6 @@
 /* Half of the passes of a queue are dropped in the middle of a run: drops_test [PUTS]. The others go on, and in the end they
- * can use each row, but for those that were kept, or handed to an agent after its drop, one a slot at most. */
+ * can use each row, but for those that were kept, or handed to an agent after its drop, one a slot at most. When the last
+ * pass is closed these are freed too: no row is linked but the queue's own and those of the values that are left. */
 #include "check.h"
 #include <pthread.h>
 #include <sched.h>
@@ -67,6 +68,9 @@ int main(int count, char **words) {
     while (put(&passes[2], room) == MOORINGAKEE_OK) room++;
     CHECK(room <= ROWS - 1);
     CHECK(kept > 0 || room + SLOTS * THREADS / 2 >= ROWS - 1);
-    for (size_t i = 0; i < THREADS; i += 2) CHECK(mooringakee_drop(&passes[i]) != MOORINGAKEE_NO_PASS);
+    CHECK(mooringakee_drop(&passes[0]) != MOORINGAKEE_NO_PASS);
+    struct mooringakee_counts counts;
+    ANSWERS(OK, mooringakee_close(&passes[2], &counts));
+    CHECK(counts.linked == room + 1 && counts.given == counts.reused + counts.linked);
     printf("drops_test: %zu of %d rows can be used after two drops of four, of which %zu kept rows\n", room, ROWS - 1, kept);
 }

@@ -72,8 +72,13 @@ static uint64_t refusals(int32_t (*make)(struct mooringakee_pass *)) {
         ANSWERS(OK, mooringakee_settle(&passes[i]));
     }
     CHECK(asked == count);
-    for (int i = 0; i < 3; i++) ANSWERS(OK, mooringakee_drop(&passes[i]));
-    CHECK(blocks == 0);
+    for (int i = 0; i < 2; i++) ANSWERS(OK, mooringakee_drop(&passes[i]));
+    CHECK(asked == count);
+    /* but the close of the last pass, which frees all the same */
+    struct mooringakee_counts counts = {7, 7, 7};
+    refused_at = asked;
+    ANSWERS(NO_MEMORY, mooringakee_close(&passes[2], &counts));
+    CHECK(blocks == 0 && !passes[2].live && counts.given == 7);
     return count;
 }
 

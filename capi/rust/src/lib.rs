@@ -39,11 +39,12 @@
 //! - Values cross threads, so `T: Send` is asked for. All passes of a queue put and take values of the very same type,
 //!   down to its lifetimes: `T` is invariant.
 //! - Whoever ends the last pass takes what is left, and drops it. If that panics, the rest leaks.
+//! - A pass that is closed is moved, and an empty one is left in its place.
 
 mod queue;
 mod raw;
 mod set;
 
 pub use queue::{Queue, QueuePass, Refused, Why};
-pub use raw::Unmade;
+pub use raw::{Counts, Unmade, Untold};
 pub use set::{NotInserted, Set, SetPass};

@@ -1,10 +1,11 @@
 //! A queue of boxed values.
 
-use crate::raw::{self, until_answered, Raw, Unmade};
+use crate::raw::{self, until_answered, Counts, Raw, Unmade, Untold};
 use std::cell::Cell;
 use std::error::Error;
 use std::fmt;
 use std::marker::PhantomData;
+use std::mem;
 use std::ptr;
 use std::sync::Arc;
 
@@ -118,12 +119,35 @@ impl<T: Send> QueuePass<T> {
     }
 }
 
-impl<T: Send> Drop for QueuePass<T> {
-    fn drop(&mut self) {
+impl<T: Send> QueuePass<T> {
+    /// Ends the pass, and drops the values that are left where all others have ended or are ending. Of all passes the last
+    /// one is told how many rows the queue gave, freed and has linked.
+    ///
+    /// ```
+    /// let mut queue = mooringakee::Queue::new(8, 2)?;
+    /// let (mut one, other) = (queue.pass().unwrap(), queue.pass().unwrap());
+    /// one.enqueue(7).unwrap();
+    /// assert_eq!(other.close(), Err(mooringakee::Untold::Others));
+    /// let counts = one.close()?;
+    /// assert_eq!((counts.given, counts.reused, counts.linked), (2, 1, 1));
+    /// # Ok::<(), Box<dyn std::error::Error>>(())
+    /// ```
+    pub fn close(mut self) -> Result<Counts, Untold> {
+        self.drop_left();
+        mem::replace(&mut self.raw, Raw::empty()).close()
+    }
+
+    fn drop_left(&mut self) {
         // `into_inner` is `Some` for exactly one of the passes.
         if self.all.take().and_then(Arc::into_inner).is_some() {
             while self.dequeue().is_some() {}
         }
+    }
+}
+
+impl<T: Send> Drop for QueuePass<T> {
+    fn drop(&mut self) {
+        self.drop_left();
     }
 }
 

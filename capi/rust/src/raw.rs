@@ -11,6 +11,7 @@ pub(crate) const POSITIONS: i32 = 3;
 pub(crate) const EMPTY: i32 = 4;
 pub(crate) const NO_MEMORY: i32 = 6;
 pub(crate) const SPENT: i32 = 11;
+const OTHERS: i32 = 12;
 
 // How often a call tries before it answers AGAIN.
 pub(crate) const TURNS: u64 = 64;
@@ -47,6 +48,7 @@ extern "C" {
     pub(crate) fn mooringakee_remove(pass: *mut Raw, key: u64, answer: *mut bool) -> i32;
     pub(crate) fn mooringakee_contains(pass: *mut Raw, key: u64, answer: *mut bool) -> i32;
     fn mooringakee_drop(pass: *mut Raw) -> i32;
+    fn mooringakee_close(pass: *mut Raw, counts: *mut Counts) -> i32;
 }
 
 /// A call with a key, which writes its answer.
@@ -62,16 +64,60 @@ impl Raw {
         if agents > MOST_AGENTS {
             return Err(Unmade::Shape);
         }
-        let mut passes: Vec<Raw> = (0..agents)
-            .map(|_| Raw {
-                at: ptr::null_mut(),
-                live: false,
-            })
-            .collect();
+        let mut passes: Vec<Raw> = (0..agents).map(|_| Raw::empty()).collect();
         match make(passes.as_mut_ptr()) {
             OK => Ok(passes),
             NO_MEMORY => Err(Unmade::NoMemory),
             _ => Err(Unmade::Shape),
+        }
+    }
+}
+
+/// What a container tells of its rows at its end: `struct mooringakee_counts`. As many were given as were freed and are
+/// linked.
+#[repr(C)]
+#[derive(Clone, Copy, Debug, PartialEq, Eq)]
+pub struct Counts {
+    /// Rows given, each as often as it was.
+    pub given: u64,
+    /// Rows freed, to be given again, each as often as it was.
+    pub reused: u64,
+    /// Rows still linked: one for each key that was left, and one of a queue's own; in a set one more for a key that was
+    /// removed where its unlinking met other calls.
+    pub linked: u32,
+}
+
+/// Why a pass that was closed was not told of the rows.
+#[derive(Clone, Copy, Debug, PartialEq, Eq)]
+pub enum Untold {
+    /// Other passes of the container are live.
+    Others,
+    /// It was the last one, but there is not enough memory.
+    NoMemory,
+}
+
+impl Raw {
+    /// No pass.
+    pub(crate) fn empty() -> Raw {
+        Raw {
+            at: ptr::null_mut(),
+            live: false,
+        }
+    }
+
+    /// Ends the pass. The last one of its container is told of the rows.
+    pub(crate) fn close(mut self) -> Result<Counts, Untold> {
+        let mut counts = Counts {
+            given: 0,
+            reused: 0,
+            linked: 0,
+        };
+        // SAFETY: this is the one call with the pass, and the counts are a local.
+        match unsafe { mooringakee_close(&mut self, &mut counts) } {
+            OK => Ok(counts),
+            OTHERS => Err(Untold::Others),
+            NO_MEMORY => Err(Untold::NoMemory),
+            _ => unreachable!("the pass is a live one, and each ends by a drop or a close"),
         }
     }
 }
@@ -112,3 +158,14 @@ impl fmt::Display for Unmade {
 }
 
 impl Error for Unmade {}
+
+impl fmt::Display for Untold {
+    fn fmt(&self, f: &mut fmt::Formatter<'_>) -> fmt::Result {
+        f.write_str(match self {
+            Untold::Others => "other passes are live",
+            Untold::NoMemory => "there is not enough memory",
+        })
+    }
+}
+
+impl Error for Untold {}

@@ -1,6 +1,6 @@
 //! A set of numbers.
 
-use crate::raw::{self, until_answered, Raw, Unmade};
+use crate::raw::{self, until_answered, Counts, Raw, Unmade, Untold};
 use std::error::Error;
 use std::fmt;
 
@@ -76,6 +76,11 @@ impl SetPass {
     pub fn contains(&mut self, key: u64) -> bool {
         self.answer(raw::mooringakee_contains, key)
             .expect("the pass is a live one of a set")
+    }
+
+    /// Ends the pass. Of all passes the last one is told how many rows the set gave, freed and has linked.
+    pub fn close(self) -> Result<Counts, Untold> {
+        self.raw.close()
     }
 
     fn answer(&mut self, call: raw::CallOnSet, key: u64) -> Result<bool, i32> {

@@ -1,6 +1,6 @@
 //! Queue and set with real threads, and what a drop frees.
 
-use mooringakee::{NotInserted, Queue, Set, Unmade, Why};
+use mooringakee::{NotInserted, Queue, Set, Unmade, Untold, Why};
 use std::sync::atomic::{AtomicUsize, Ordering};
 use std::thread;
 
@@ -75,6 +75,11 @@ fn keys_are_inserted_once_and_removed_once() {
         (0..1000).filter(|key| pass.contains(*key)).count(),
         inserted - removed
     );
+    let told: Vec<_> = ended.into_iter().map(|one| one.2.close()).collect();
+    assert_eq!(told[..3], [Err(Untold::Others); 3]);
+    let counts = told[3].unwrap();
+    assert_eq!(counts.given, counts.reused + u64::from(counts.linked));
+    assert!(counts.linked as usize >= inserted - removed);
 }
 
 #[test]

@@ -1,5 +1,5 @@
 -- Facts of all elements of a list.
-use Rattle.std.proofs.Common.{All, IfSome, List, None, Option, Some, [], ap, arith, length, slice_index_or, subst, suc, sym, ℕ, ◌++◌, ◌<◌, ◌∙◌, ◌∷◌, ◌≡◌}
+use Rattle.std.proofs.Common.{All, IfSome, List, Option, Some, [], arith, subst, suc, sym, ◌++◌, ◌∷◌, ◌≡◌}
 use Rattle.std.proofs.lemmas.List.Elements.{All-push}
 
 -- one more element

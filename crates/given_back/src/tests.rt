@@ -35,7 +35,7 @@ fn numbers_come_back_in_the_order_of_their_places(rt: HostRuntime) -> Result<(),
     let Ok(values) = places.take_all(rt.alloc()) else {
         panic!(rt; "a number is missing")
     };
-    assert_eq!(rt; values.as_slice(), &[5, 7]);
+    assert_eq!(rt; values.as_slice(), [5, 7].as_slice());
     Ok(())
 }
 

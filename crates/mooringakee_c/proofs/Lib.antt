@@ -4,5 +4,6 @@ pub mod Pointers
 pub mod QueuePlaces
 pub mod Quiet
 pub mod Results
+pub mod SamePlaces
 pub mod Saying
 pub mod SetPlaces

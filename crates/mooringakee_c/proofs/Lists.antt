@@ -1,5 +1,5 @@
 -- Facts of each element and its place.
-use Rattle.std.proofs.Common.{List, [], add-zero, ap, arith, suc, inl, inr, length, slice_index_or, subst, sym, ℕ, ◌++◌, ◌+◌, ◌<◌, ◌∷◌, ◌∙◌, ◌≡◌, ◌≤◌, ◌⊎◌}
+use Rattle.std.proofs.Common.{List, [], add-zero, ap, arith, suc, inl, inr, length, slice_index_or, subst, sym, ℕ, ◌++◌, ◌+◌, ◌<◌, ◌∷◌, ◌∙◌, ◌≡◌, ◌⊎◌}
 use Rattle.std.proofs.Math.Nat.{eq-or-lt_of_le}
 use Rattle.std.proofs.Math.Seq.{get_or-append_seam}
 use Rattle.std.proofs.lemmas.List.{get_or_append_left, length-append}

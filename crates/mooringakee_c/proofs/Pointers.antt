@@ -1,12 +1,10 @@
 -- The machine values of a pointer to a seat's box. Assumes `Logic`.
 use Rattle.std.proofs.Common.{◌≡◌, ℕ, List, [], ◌∷◌, ◌++◌, refl, ap, ◌∙◌, Option, Some, None}
 use Rattle.std.specs.Prelude.{IsSome}
-use mathlib.Core.Bool.{Bool, true, ◌&&◌}
-use lib.Dec.{T, lit<}
+use lib.Dec.{lit<}
 use seplogic.Ra.Ura.{Ura}
 use mir.Syntax.{impl, tnil, dnil}
 use mir.Val.{Val, vptr, vstruct, of_list, has_ty}
-use base.Fml.{fex}
 use base.Logic.{never, fst∗}
 use mir.Raw.{raw as bare}
 use types.Logic.{Logic, sem}

@@ -1,5 +1,6 @@
 -- What is known of an agent's place at a queue.
 use Rattle.std.proofs.Common.{List, [], length, refl, subst, sym, ℕ, ◌<◌, ◌∙◌, ◌≡◌}
+use Rattle.given_back.specs.Places.{tags}
 use Rattle.orc_fifo_rule.proofs.OwnEntries.{entries_own}
 use Rattle.orc_fifo_rule.specs.QueueDiscipline.{FifoMay, entries_in, entries_of, position_of}
 use Rattle.orc_fifo_rule.specs.declared.fifo.Fifo.{Fifo}
@@ -19,12 +20,14 @@ use Rattle.orc_reclaiming_domain.specs.Laws.Passes.{all_allowed, all_below, all_
 use Rattle.orc_reclaiming_domain.specs.Passes.{IsPassOf, domain_bounds, domain_numbers, domain_opening, journal_of, seat_of}
 use Rattle.orc_reclaiming_domain.specs.declared.domain.OrcDomain.{OrcDomain}
 use Rattle.orc_sound.specs.declared.steps.Step.{Step}
+use Rattle.mooringakee_c.specs.Ending.{ArePlacesOf}
 use Rattle.mooringakee_c.specs.Making.{IsNewQueueSeat}
 use Rattle.mooringakee_c.specs.QueueCalls.{GoesOn, Refuses}
 use Rattle.mooringakee_c.specs.QueueSeats.{IsQueueSeat, agent_at, agents_at, calls_seen}
 use Rattle.mooringakee_c.specs.declared.queue.QueueSeat.{QueueSeat}
 use Rattle.mooringakee_c.specs.declared.seat.Seat.{Seat}
 use Rattle.mooringakee_c.specs.declared.seat.Seat.TheVariants.{Queue}
+use Rattle.mooringakee_c.proofs.SamePlaces.{places_later}
 use Rattle.mooringakee_c.proofs.Quiet.{enters_none}
 
 -- the calls that its pass has seen are those of a legal queue
@@ -51,7 +54,7 @@ cause_over x first agent turns why journal from to =
     agent turns why journal from to
 
 -- a call by which the place's pass went on, as the queue's domain tells it
-module _ (old new : QueueSeat) (before : IsQueueSeat old) (queue : new.queue ≡ old.queue) (turns : new.turns ≡ old.turns)
+module _ (old new : QueueSeat) (before : IsQueueSeat old) (queue : new.queue ≡ old.queue) (places : new.places ≡ old.places) (turns : new.turns ≡ old.turns)
     (d : OrcDomain Fifo FifoNote) (is : d ≡ old.queue.value.links) (u : IsPassOf d new.pass × IsIdle (seat_of d new.pass))
   where
     later : old.queue.value.links ≡ new.queue.value.links
@@ -64,6 +67,7 @@ module _ (old new : QueueSeat) (before : IsQueueSeat old) (queue : new.queue ≡
           belongs = usable.0;
           idle = usable.1;
           first = subst (λ (x : OrcDomain Fifo FifoNote). first_over x ≡ 0) later before.first;
+          places = places_later before.places later (λ j. tags (sym places j).value);
         }
 
     pub entered : (own : List QueueEntry) → agent_at new ≡ agent_at old
@@ -108,13 +112,18 @@ module _ (old new : QueueSeat) (before : IsQueueSeat old) (queue : new.queue ≡
 -- a new pass has a new place
 pub new_place : (place : QueueSeat) (d : OrcDomain Fifo FifoNote) (turns : ℕ) (seat : Seat) → seat ≡ Queue place → d ≡ place.queue.value.links
     → place.turns ≡ turns → IsPassOf d place.pass × IsIdle (seat_of d place.pass) → entries_over d (journal_of place.pass) ≡ []
-    → first_over d ≡ 0 → IsNewQueueSeat d turns (agent_at place) seat
-new_place place d turns seat is here turns_are u none first =
+    → first_over d ≡ 0 → ArePlacesOf d (tags place.places.value) → IsNewQueueSeat d turns (agent_at place) seat
+new_place place d turns seat is here turns_are u none first places =
     let usable = subst (λ (x : OrcDomain Fifo FifoNote). IsPassOf x place.pass × IsIdle (seat_of x place.pass)) here u in
     record {
       place = place;
       is = is;
-      usable = record { belongs = usable.0; idle = usable.1; first = subst (λ (x : OrcDomain Fifo FifoNote). first_over x ≡ 0) here first };
+      usable = record {
+        belongs = usable.0;
+        idle = usable.1;
+        first = subst (λ (x : OrcDomain Fifo FifoNote). first_over x ≡ 0) here first;
+        places = places_later places here refl;
+      };
       domain_is = sym here;
       turns_are = turns_are;
       agent_is = refl;

@@ -3,7 +3,7 @@ use Rattle.std.proofs.Common.{List, Option, [], ◌∷◌, ap, inr, subst, sym, 
 use Rattle.std.specs.List.{AllByRecursion}
 use Rattle.orc_heap.proofs.Calls.{part_allowed}
 use Rattle.orc_heap.proofs.OwnEntries.{entries_added}
-use Rattle.orc_heap.specs.Allowed.{AllAllowed, events_by}
+use Rattle.orc_heap.specs.Allowed.{AllAllowed}
 use Rattle.orc_heap.specs.Journals.{noted_entries}
 use Rattle.orc_heap.specs.OwnEvents.{IsBelow, Only}
 use Rattle.orc_heap.specs.Seats.{Seat}

@@ -1,5 +1,6 @@
 -- What is known of an agent's place at a set.
 use Rattle.std.proofs.Common.{List, [], length, refl, subst, sym, ℕ, ◌<◌, ◌∙◌, ◌≡◌}
+use Rattle.given_back.specs.Places.{tags}
 use Rattle.orc_chain_rule.proofs.OwnEntries.{entries_own}
 use Rattle.orc_chain_rule.specs.ChainDiscipline.{ChainMay, entries_in, entries_of}
 use Rattle.orc_chain_rule.specs.declared.chain.Chain.{Chain}
@@ -19,12 +20,14 @@ use Rattle.orc_reclaiming_domain.specs.Laws.Passes.{all_allowed, all_below, all_
 use Rattle.orc_reclaiming_domain.specs.Passes.{IsPassOf, domain_bounds, domain_numbers, journal_of, seat_of}
 use Rattle.orc_reclaiming_domain.specs.declared.domain.OrcDomain.{OrcDomain}
 use Rattle.orc_sound.specs.declared.steps.Step.{Step}
+use Rattle.mooringakee_c.specs.Ending.{ArePlacesOf}
 use Rattle.mooringakee_c.specs.Making.{IsNewSetSeat}
 use Rattle.mooringakee_c.specs.SetCalls.{GoesOn, Refuses}
 use Rattle.mooringakee_c.specs.SetSeats.{IsSetSeat, agent_at, agents_at, calls_seen}
 use Rattle.mooringakee_c.specs.declared.set.SetSeat.{SetSeat}
 use Rattle.mooringakee_c.specs.declared.seat.Seat.{Seat}
 use Rattle.mooringakee_c.specs.declared.seat.Seat.TheVariants.{Set}
+use Rattle.mooringakee_c.proofs.SamePlaces.{places_later}
 use Rattle.mooringakee_c.proofs.Quiet.{enters_none}
 
 -- the calls that its pass has seen are those of a legal set
@@ -44,7 +47,7 @@ cause_over x agent turns why journal from to =
     (IsLacking (domain_bounds x) agent journal from to) (λ row. IsWornIn (domain_bounds x) agent row journal from to) agent turns why journal from to
 
 -- a call by which the place's pass went on, as the queue's domain tells it
-module _ (old new : SetSeat) (set : new.set ≡ old.set) (turns : new.turns ≡ old.turns)
+module _ (old new : SetSeat) (before : IsSetSeat old) (set : new.set ≡ old.set) (places : new.places ≡ old.places) (turns : new.turns ≡ old.turns)
     (d : OrcDomain Chain ChainNote) (is : d ≡ old.set.value.list.links) (u : IsPassOf d new.pass × IsIdle (seat_of d new.pass))
   where
     later : old.set.value.list.links ≡ new.set.value.list.links
@@ -56,6 +59,7 @@ module _ (old new : SetSeat) (set : new.set ≡ old.set) (turns : new.turns ≡ 
         record {
           belongs = usable.0;
           idle = usable.1;
+          places = places_later before.places later (λ j. tags (sym places j).value);
         }
 
     pub entered : (own : List SetEntry) → agent_at new ≡ agent_at old
@@ -98,13 +102,14 @@ module _ (old new : SetSeat) (set : new.set ≡ old.set) (turns : new.turns ≡ 
 
 -- a new pass has a new place
 pub new_place : (place : SetSeat) (d : OrcDomain Chain ChainNote) (turns : ℕ) (seat : Seat) → seat ≡ Set place → d ≡ place.set.value.list.links
-    → place.turns ≡ turns → IsPassOf d place.pass × IsIdle (seat_of d place.pass) → entries_over d (journal_of place.pass) ≡ [] → IsNewSetSeat d turns (agent_at place) seat
-new_place place d turns seat is here turns_are u none =
+    → place.turns ≡ turns → IsPassOf d place.pass × IsIdle (seat_of d place.pass) → entries_over d (journal_of place.pass) ≡ []
+    → ArePlacesOf d (tags place.places.value) → IsNewSetSeat d turns (agent_at place) seat
+new_place place d turns seat is here turns_are u none places =
     let usable = subst (λ (x : OrcDomain Chain ChainNote). IsPassOf x place.pass × IsIdle (seat_of x place.pass)) here u in
     record {
       place = place;
       is = is;
-      usable = record { belongs = usable.0; idle = usable.1 };
+      usable = record { belongs = usable.0; idle = usable.1; places = places_later places here refl };
       domain_is = sym here;
       turns_are = turns_are;
       agent_is = refl;

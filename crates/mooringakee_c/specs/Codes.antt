@@ -1,7 +1,7 @@
 -- The number of each answer, which C sees.
 use Rattle.std.specs.Prelude.{pos, ℤ, ◌≡◌}
 use Rattle.mooringakee_c.specs.declared.answer.Answer.{Answer}
-use Rattle.mooringakee_c.specs.declared.answer.Answer.TheVariants.{Again, Done, Empty, Full, Kept, Kind, Live, NoMemory, NoPass, Positions, Shape, Spent}
+use Rattle.mooringakee_c.specs.declared.answer.Answer.TheVariants.{Again, Done, Empty, Full, Kept, Kind, Live, NoMemory, NoPass, Others, Positions, Shape, Spent}
 
 abbrev pub code_of : Answer → ℤ
 code_of Done = pos 0
@@ -15,6 +15,7 @@ code_of NoPass = pos 7
 code_of Live = pos 8
 code_of Kind = pos 10
 code_of Spent = pos 11
+code_of Others = pos 12
 code_of Kept = pos 13
 
 -- the number is that of an answer with this property

@@ -1,4 +1,5 @@
 pub mod Codes
+pub mod Ending
 pub mod Held
 pub mod Making
 pub mod QueueCalls

@@ -1,5 +1,5 @@
 -- What making a container answers, by the passes at which it is to be made before it, `old`, and after it, `new`.
-use Rattle.std.specs.Prelude.{All, List, None, Option, Some, [], length, ℕ, ◌^◌, ◌≡◌, ◌≤◌}
+use Rattle.std.specs.Prelude.{All, List, None, Some, [], length, ℕ, ◌^◌, ◌≡◌, ◌≤◌}
 use Rattle.orc_chain_rule.specs.declared.chain.Chain.{Chain}
 use Rattle.orc_chain_rule.specs.declared.chain.ChainNote.{ChainNote}
 use Rattle.orc_fifo_rule.specs.declared.fifo.Fifo.{Fifo}

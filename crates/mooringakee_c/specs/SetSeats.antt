@@ -1,10 +1,12 @@
 -- What an agent's place at a set shows, and when it can be used.
 use Rattle.std.specs.Prelude.{List, ℕ}
+use Rattle.given_back.specs.Places.{tags}
 use Rattle.orc_chain_rule.specs.ChainDiscipline.{entries_of}
 use Rattle.orc_heap.specs.Seats.{IsIdle}
 use Rattle.orc_history.specs.declared.set.SetEntry.{SetEntry}
 use Rattle.orc_projection.specs.Projection.{project}
 use Rattle.orc_reclaiming_domain.specs.Passes.{IsPassOf, domain_bounds, journal_of, seat_of}
+use Rattle.mooringakee_c.specs.Ending.{ArePlacesOf}
 use Rattle.mooringakee_c.specs.declared.set.SetSeat.{SetSeat}
 
 -- the calls of the set that the pass has seen, in their order
@@ -18,7 +20,8 @@ agent_at s = (seat_of s.set.value.list.links s.pass).agent
 abbrev pub agents_at : SetSeat → ℕ
 agents_at s = (domain_bounds s.set.value.list.links).agents
 
--- the pass is one of the set, and idle
+-- the pass is one of the set, and idle; and the set's passes have places to which they are given back
 pub record IsSetSeat (s : SetSeat) : Type 0 where
   pub belongs : IsPassOf s.set.value.list.links s.pass
   pub idle : IsIdle (seat_of s.set.value.list.links s.pass)
+  pub places : ArePlacesOf s.set.value.list.links (tags s.places.value)

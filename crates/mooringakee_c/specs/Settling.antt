@@ -5,11 +5,11 @@ use Rattle.orc_machine_board.specs.Passes.{backlog_in}
 use Rattle.orc_machine_board.specs.Views.{shows}
 use Rattle.orc_reclaiming_domain.specs.Passes.{journal_of}
 use Rattle.mooringakee_c.specs.declared.answer.Answer.{Answer}
-use Rattle.mooringakee_c.specs.declared.answer.Answer.TheVariants.{Done, Kept, NoPass}
-use Rattle.mooringakee_c.specs.declared.queue.QueueSeat.{QueueSeat}
-use Rattle.mooringakee_c.specs.declared.set.SetSeat.{SetSeat}
+use Rattle.mooringakee_c.specs.declared.answer.Answer.TheVariants.{Done, Kept, NoMemory, NoPass, Others}
 use Rattle.mooringakee_c.specs.declared.seat.Seat.{Seat}
 use Rattle.mooringakee_c.specs.declared.seat.Seat.TheVariants.{Queue, Set}
+use Rattle.mooringakee_c.specs.declared.ending.Counts.{Counts}
+use Rattle.mooringakee_c.specs.Ending.{TellsRows}
 use Rattle.mooringakee_c.specs.QueueCalls.{GoesOn}
 use Rattle.mooringakee_c.specs.QueueSeats.{agent_at}
 use Rattle.mooringakee_c.specs.Seats.{IsSeat}
@@ -49,3 +49,17 @@ abbrev pub GivesUp : Option Seat → Answer → Option Seat → Type 0
 GivesUp (Some old) answer None = (last : Seat) × IsSeat last × Settles old answer last
 GivesUp None NoPass None = Unit {0}
 GivesUp _ _ _ = ⊥
+
+-- the container came to rest, and these are the counts of its rows
+abbrev pub Tells : Seat → Counts → Type 0
+Tells (Queue s) counts = TellsRows s.queue.value.links s.places.value counts
+Tells (Set s) counts = TellsRows s.set.value.list.links s.places.value counts
+
+-- the pass is given up, and where the answer is Done, these are the counts of its container
+abbrev pub Closes : Counts → Option Seat → Answer → Option Seat → Type 0
+Closes counts (Some old) Done None = Tells old counts
+Closes counts (Some old) Others None = Unit {0}
+Closes counts (Some old) Kept None = Unit {0}
+Closes counts (Some old) NoMemory None = Unit {0}
+Closes counts None NoPass None = Unit {0}
+Closes _ _ _ _ = ⊥

@@ -28,12 +28,14 @@ pub(crate) enum Answer {
     Kind,
     /// A row is used up.
     Spent,
+    /// Other passes of the container are live.
+    Others,
     /// The pass has rows left to work through.
     Kept,
 }
 
 impl Answer {
-    // The number that C sees. A null pointer has number 9, which the C side answers, and nothing has 12.
+    // The number that C sees. A null pointer has number 9, which the C side answers.
     pub(crate) fn code(self) -> i32
         ensures { result ≡ code_of self }
     {
@@ -49,6 +51,7 @@ impl Answer {
             Answer::Live => 8,
             Answer::Kind => 10,
             Answer::Spent => 11,
+            Answer::Others => 12,
             Answer::Kept => 13,
         }
     }

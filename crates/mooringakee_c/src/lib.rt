@@ -7,9 +7,10 @@ ghost use Rattle.mooringakee_c.specs.Making.{AreNewQueuePasses, AreNewSetPasses,
 ghost use Rattle.mooringakee_c.specs.QueueCalls.{Puts, Takes};
 ghost use Rattle.mooringakee_c.specs.Seats.{AtQueue, AtSet, Through};
 ghost use Rattle.mooringakee_c.specs.SetCalls.{Asks, Inserts, Removes};
-ghost use Rattle.mooringakee_c.specs.Settling.{CountsBacklog, GivesUp, Settles};
+ghost use Rattle.mooringakee_c.specs.Settling.{Closes, CountsBacklog, GivesUp, Settles};
 
 mod answer;
+mod ending;
 mod make;
 mod new_queue;
 mod new_set;
@@ -20,6 +21,8 @@ mod seat;
 mod set;
 
 use answer::Answer;
+pub use ending::Counts;
+use given_back::Unfinished;
 use make::{are_free, hand_out, shape_of};
 use new_queue::queue_seats;
 use new_set::set_seats;
@@ -194,5 +197,32 @@ pub extern "C" fn mooringakee_proved_drop(alloc: Global, pass: &mut Pass) -> i32
     let Some(mut seat) = pass.take(alloc) else {
         return Answer::NoPass.code();
     };
-    seat.settle().code()
+    let answer = seat.settle();
+    Box::into_inner(seat).leave();
+    answer.code()
+}
+
+/// Gives the pass up. Where it was the last one of its container, the container comes to rest, tells of its rows, and is freed.
+/// Answers 0 then, and 12 where other passes are live. Where the answer is not 0, the caller's variable stays as it was.
+#[unsafe(no_mangle)]
+pub extern "C" fn mooringakee_proved_close(
+    alloc: Global,
+    pass: &mut Pass,
+    counts: &mut Counts,
+) -> i32
+    ensures answer { Says result (λ answer. Closes counts.new pass.old.pointer.seat answer pass.new.pointer.seat) }
+    ensures kept { (result ≡ pos 0) ⊎ (counts.new ≡ counts.old) }
+{
+    let Some(seat) = pass.take(alloc) else {
+        return Answer::NoPass.code();
+    };
+    match Box::into_inner(seat).close(alloc) {
+        Ok(Some(told)) => {
+            *counts = told;
+            Answer::Done.code()
+        }
+        Ok(None) => Answer::Others.code(),
+        Err(Unfinished::Missing) => Answer::Kept.code(),
+        Err(Unfinished::NoMemory) => Answer::NoMemory.code(),
+    }
 }

@@ -1,13 +1,16 @@
 //! One agent's place at a queue.
 
-ghost use Rattle.std.specs.Prelude.{◌≡◌, ◌↔◌, ◌⊎◌, IsTrue, []};
+ghost use Rattle.std.specs.Prelude.{◌≡◌, ◌↔◌, ◌⊎◌, IfOk, IfSome, IsTrue, []};
 ghost use Rattle.mooringakee_c.specs.QueueCalls.{GoesOn, Puts, Takes};
 ghost use Rattle.mooringakee_c.specs.QueueSeats.{IsQueueSeat};
-ghost use Rattle.mooringakee_c.specs.Settling.{WasAlone, backlog_at};
+ghost use Rattle.mooringakee_c.specs.Settling.{Tells, WasAlone, backlog_at};
 ghost use Rattle.mooringakee_c.specs.declared.seat.Seat.{Seat};
 
 use crate::answer::Answer;
+use crate::ending::{Counts, Places, end};
+use given_back::Unfinished;
 use orc_fifo_rule::Fifo;
+use orc_heap::Links;
 use orc_history::{QueueRefused, SharedQueue};
 use orc_queue::Queue;
 use orc_reclaiming_domain::{OrcDomain, OrcPass};
@@ -17,10 +20,12 @@ use std::sync::Arc;
 /// Michael and Scott's queue over a domain whose rows are reclaimed.
 pub(crate) type ReclaimingQueue = Queue<OrcDomain<Fifo>>;
 
-/// An agent's place at a queue: its share of it, its pass to it, and how many turns a call has.
+/// An agent's place at a queue: its share of it and of the places to which passes are given back, its pass, and how many turns a
+/// call has.
 #[derive(Drop)]
 pub(crate) struct QueueSeat {
     pub(crate) queue: Arc<ReclaimingQueue, Global>,
+    pub(crate) places: Arc<Places<Fifo>, Global>,
     pub(crate) pass: OrcPass<Fifo>,
     pub(crate) turns: u64,
 }
@@ -75,5 +80,41 @@ impl QueueSeat {
         ensures { result ≡ backlog_at (Seat.Queue self.now) }
     {
         self.queue.links().backlog(&self.pass)
+    }
+
+    // Gives the pass back. The last one to do so gets them all.
+    fn give_back(self) -> (Arc<ReclaimingQueue, Global>, Option<Places<Fifo>>)
+        requires { IsQueueSeat self }
+        ensures queue { result.0 ≡ self.queue }
+        ensures places { IfSome result.1 (λ all. all ≡ self.places.value) }
+    {
+        let QueueSeat {
+            queue,
+            places,
+            pass,
+            turns: _,
+        } = self;
+        let agent = queue.links().agent(&pass);
+        places.give(agent as usize, pass);
+        (queue, Arc::into_inner(places))
+    }
+
+    // Gives the pass up.
+    pub(crate) fn leave(self)
+        requires { IsQueueSeat self }
+    {
+        self.give_back();
+    }
+
+    // Gives the pass up. The last one to do so brings the queue to rest, and tells of its rows.
+    pub(crate) fn close(self, alloc: Global) -> Result<Option<Counts>, Unfinished>
+        requires { IsQueueSeat self }
+        ensures { IfOk result (λ told. IfSome told (λ counts. Tells (Seat.Queue self) counts)) }
+    {
+        let (queue, all) = self.give_back();
+        let Some(places) = all else {
+            return Ok(None);
+        };
+        Ok(Some(end(alloc, queue.links(), places)?))
     }
 }

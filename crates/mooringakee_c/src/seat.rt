@@ -1,14 +1,17 @@
 //! One agent's place at a container of either kind.
 
-ghost use Rattle.std.specs.Prelude.{◌≡◌, ◌⊎◌};
+ghost use Rattle.std.specs.Prelude.{◌≡◌, ◌⊎◌, IfOk, IfSome};
 ghost use Rattle.mooringakee_c.specs.QueueCalls.{Puts, Takes};
 ghost use Rattle.mooringakee_c.specs.Seats.{AtQueue, AtSet, IsSeat};
 ghost use Rattle.mooringakee_c.specs.SetCalls.{Asks, Inserts, Removes};
-ghost use Rattle.mooringakee_c.specs.Settling.{Settles, backlog_at};
+ghost use Rattle.mooringakee_c.specs.Settling.{Settles, Tells, backlog_at};
 
 use crate::answer::Answer;
+use crate::ending::Counts;
 use crate::queue::QueueSeat;
 use crate::set::SetSeat;
+use given_back::Unfinished;
+use std::alloc::Global;
 
 /// An agent's place at a queue or at a set.
 #[derive(Drop)]
@@ -107,6 +110,27 @@ impl Seat {
         match self {
             Seat::Queue(seat) => seat.backlog(),
             Seat::Set(seat) => seat.backlog(),
+        }
+    }
+
+    // Gives the pass up.
+    pub(crate) fn leave(self)
+        requires { IsSeat self }
+    {
+        match self {
+            Seat::Queue(seat) => seat.leave(),
+            Seat::Set(seat) => seat.leave(),
+        }
+    }
+
+    // Gives the pass up. The last one to do so brings the container to rest, and tells of its rows.
+    pub(crate) fn close(self, alloc: Global) -> Result<Option<Counts>, Unfinished>
+        requires { IsSeat self }
+        ensures { IfOk result (λ told. IfSome told (λ counts. Tells self counts)) }
+    {
+        match self {
+            Seat::Queue(seat) => seat.close(alloc),
+            Seat::Set(seat) => seat.close(alloc),
         }
     }
 }

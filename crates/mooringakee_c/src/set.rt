@@ -1,13 +1,16 @@
 //! One agent's place at a set.
 
-ghost use Rattle.std.specs.Prelude.{◌≡◌, ◌↔◌, ◌⊎◌, IsTrue, []};
+ghost use Rattle.std.specs.Prelude.{◌≡◌, ◌↔◌, ◌⊎◌, IfOk, IfSome, IsTrue, []};
 ghost use Rattle.mooringakee_c.specs.SetCalls.{Asks, GoesOn, Inserts, Removes};
 ghost use Rattle.mooringakee_c.specs.SetSeats.{IsSetSeat};
-ghost use Rattle.mooringakee_c.specs.Settling.{WasAlone, backlog_at};
+ghost use Rattle.mooringakee_c.specs.Settling.{Tells, WasAlone, backlog_at};
 ghost use Rattle.mooringakee_c.specs.declared.seat.Seat.{Seat};
 
 use crate::answer::Answer;
+use crate::ending::{Counts, Places, end};
+use given_back::Unfinished;
 use orc_chain_rule::Chain;
+use orc_heap::Links;
 use orc_history::{ListRefused, SharedSet};
 use orc_reclaiming_domain::{OrcDomain, OrcPass};
 use orc_set::Set;
@@ -17,10 +20,12 @@ use std::sync::Arc;
 /// The bucketed set over a domain whose rows are reclaimed.
 pub(crate) type ReclaimingSet = Set<OrcDomain<Chain>>;
 
-/// An agent's place at a set: its share of it, its pass to it, and how many turns a call has.
+/// An agent's place at a set: its share of it and of the places to which passes are given back, its pass, and how many turns a
+/// call has.
 #[derive(Drop)]
 pub(crate) struct SetSeat {
     pub(crate) set: Arc<ReclaimingSet, Global>,
+    pub(crate) places: Arc<Places<Chain>, Global>,
     pub(crate) pass: OrcPass<Chain>,
     pub(crate) turns: u64,
 }
@@ -90,5 +95,41 @@ impl SetSeat {
         ensures { result ≡ backlog_at (Seat.Set self.now) }
     {
         self.set.links().backlog(&self.pass)
+    }
+
+    // Gives the pass back. The last one to do so gets them all.
+    fn give_back(self) -> (Arc<ReclaimingSet, Global>, Option<Places<Chain>>)
+        requires { IsSetSeat self }
+        ensures set { result.0 ≡ self.set }
+        ensures places { IfSome result.1 (λ all. all ≡ self.places.value) }
+    {
+        let SetSeat {
+            set,
+            places,
+            pass,
+            turns: _,
+        } = self;
+        let agent = set.links().agent(&pass);
+        places.give(agent as usize, pass);
+        (set, Arc::into_inner(places))
+    }
+
+    // Gives the pass up.
+    pub(crate) fn leave(self)
+        requires { IsSetSeat self }
+    {
+        self.give_back();
+    }
+
+    // Gives the pass up. The last one to do so brings the set to rest, and tells of its rows.
+    pub(crate) fn close(self, alloc: Global) -> Result<Option<Counts>, Unfinished>
+        requires { IsSetSeat self }
+        ensures { IfOk result (λ told. IfSome told (λ counts. Tells (Seat.Set self) counts)) }
+    {
+        let (set, all) = self.give_back();
+        let Some(places) = all else {
+            return Ok(None);
+        };
+        Ok(Some(end(alloc, set.links(), places)?))
     }
 }

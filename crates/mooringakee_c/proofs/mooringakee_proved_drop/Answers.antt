@@ -11,6 +11,6 @@ returns-in_default c =
 
 pub returns : goal.returns
 returns c =
-    says_given c.args.pass.now.pointer.seat c.take.new.self.pointer.seat c.in-Some.seat.value c.settle.new.self c.settle.result c.code-2.result
-    c.code-2.ensures c.in-Some.ensures.taken.0 c.take.ensures.left c.settle.ensures.seat
-    (subst (λ (s : Seat). Settles s c.settle.result c.settle.new.self) c.deref_mut.ensures.value c.settle.ensures.answer)
+    says_given c.args.pass.now.pointer.seat c.take.new.self.pointer.seat c.in-Some.seat.value c.settle-answer.new.self c.settle-answer.result c.code-2.result
+    c.code-2.ensures c.in-Some.ensures.taken.0 c.take.ensures.left c.settle-answer.ensures.seat
+    (subst (λ (s : Seat). Settles s c.settle-answer.result c.settle-answer.new.self) c.deref_mut.ensures.value c.settle-answer.ensures.answer)

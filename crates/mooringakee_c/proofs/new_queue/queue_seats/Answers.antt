@@ -21,12 +21,12 @@ make-requires-clause-seed c = dummy_allowed (numbers_of (bounds_of c.args.shape.
 pub seat_all-requires-clause-usable : goal.seat_all-requires-clause-usable
 seat_all-requires-clause-usable c k d low =
     let p = slice_index_or c.in_ok-domain.passes.items k d in
-    let here : c.in_ok-queue.queue.value.links ≡ c.in_ok-domain.domain = (λ j. (c.in_ok-queue.ensures.ok j).links) ∙ c.new.ensures in
+    let here : c.in_ok-queue.queue.value.links ≡ c.in_ok-domain.domain = (λ j. (c.in_ok-queue.ensures.ok j).links) ∙ c.new-3.ensures in
     subst (λ (x : OrcDomain Fifo FifoNote). IsPassOf x p × IsIdle (seat_of x p)) (sym here)
     (c.in_ok-domain.ensures.belongs k d low, c.in_ok-domain.ensures.idle k d low)
 
 pub returns-clause-places : goal.returns-clause-places
 returns-clause-places c =
-    let here : c.in_ok-queue.queue.value.links ≡ c.in_ok-domain.domain = (λ j. (c.in_ok-queue.ensures.ok j).links) ∙ c.new.ensures in
+    let here : c.in_ok-queue.queue.value.links ≡ c.in_ok-domain.domain = (λ j. (c.in_ok-queue.ensures.ok j).links) ∙ c.new-3.ensures in
     let sizes : domain_bounds c.in_ok-queue.queue.value.links ≡ bounds_of c.args.shape.now = (λ j. domain_bounds (here j)) ∙ c.in_ok-domain.ensures.bounds in
     if_ok c.seat_all.result _ _ (λ seats each. (c.in_ok-queue.queue.value.links, sizes, each)) c.seat_all.ensures.places

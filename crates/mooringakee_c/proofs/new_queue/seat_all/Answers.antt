@@ -1,5 +1,5 @@
 -- The pass that comes next gets its place.
-use Rattle.std.proofs.Common.{[], suc, ap, arith, length, refl, subst, ℕ, ◌+◌, ◌++◌, ◌∙◌, ◌∷◌, ◌≡◌, sym}
+use Rattle.std.proofs.Common.{[], suc, ap, arith, length, refl, subst, ℕ, ◌+◌, ◌∙◌, ◌∷◌, ◌≡◌, sym}
 use Rattle.std.proofs.lemmas.List.{length-append}
 use Rattle.orc_shared_words.specs.Lists.{EachAt}
 use Rattle.orc_reclaiming_domain.specs.Passes.{seat_of}
@@ -28,4 +28,5 @@ loop-pass-preserved c =
           (subst (λ (k : ℕ). IsNewQueueSeat d c.args.turns k seat.value) number c.in_ok-queue_seat.ensures)),
       omega (arith, more, long, old.2),
       rest_after all rest xs x (length seats) (length c.push.new.self.items) head more old.3,
+      refl,
     )

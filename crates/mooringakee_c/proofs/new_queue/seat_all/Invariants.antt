@@ -11,3 +11,4 @@ invariant-loop-pass l =
     × (length l.seats.items + length l.pass-iterator.rest.items ≡ length l.fn.passes.items)
     × ((i : ℕ) (p : _) → i < length l.pass-iterator.rest.items
     → slice_index_or l.pass-iterator.rest.items i p ≡ slice_index_or l.fn.passes.items (length l.seats.items + i) p)
+    × (l.places.value ≡ l.fn.places.value)

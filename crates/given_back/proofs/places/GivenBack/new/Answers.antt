@@ -1,5 +1,5 @@
 -- Each new place has the tag.
-use Rattle.std.proofs.Common.{[], ap, arith, length, ◌++◌, ◌+◌, ◌∙◌, ◌∷◌, ◌≡◌}
+use Rattle.std.proofs.Common.{[], ap, arith, length, ◌+◌, ◌∙◌, ◌∷◌, ◌≡◌}
 use Rattle.std.proofs.lemmas.List.{length-append}
 use Rattle.given_back.proofs.Lists.{all_more, all_none}
 use Rattle.given_back.proofs.places.GivenBack.new.Goals as goal

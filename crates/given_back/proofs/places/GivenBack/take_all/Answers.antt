@@ -1,7 +1,7 @@
 -- The value of the next place fits its tag.
 use Rattle.std.proofs.Common.{Some, [], ap, arith, length, subst, suc, sym, ◌+◌, ◌∙◌, ◌∷◌, ◌≡◌}
 use Rattle.std.proofs.lemmas.List.{length-append}
-use Rattle.given_back.proofs.Lists.{all_first, all_more, all_none, all_others, of_some}
+use Rattle.given_back.proofs.Lists.{all_first, all_more, all_others, of_some}
 use Rattle.given_back.proofs.places.GivenBack.take_all.Goals as goal
 
 pub loop-place-preserved : goal.loop-place-preserved

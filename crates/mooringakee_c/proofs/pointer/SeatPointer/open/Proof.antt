@@ -1,5 +1,5 @@
 -- `open` hands on what the pointer owns.
-use Rattle.std.proofs.Common.{◌≡◌, List, [], ◌∷◌, ◌++◌, refl, sym, subst}
+use Rattle.std.proofs.Common.{List, [], ◌∷◌, ◌++◌, refl, sym, subst}
 use mir.Val.{Val, vptr}
 use base.Logic.{SProp, ent, emp, id⊢}
 use base.Fml.{ftrue}
@@ -11,14 +11,14 @@ use types.Part.{agg, sub, whole}
 use contract.Monad.{fact, fact_i}
 use contract.Running.{tables}
 use denote.Exit.{yes}
-use denote.RattleType.{RattleType, owns}
+use denote.RattleType.{owns}
 use denote.Signature.{types_at, plain}
 use denote.RawPtr.{block_ptr}
 use denote.Steps.{nothing, heard}
 use denote.Triple.Walked.{Stays, stay_dropped, walk_of, Goes-dropped}
 use Rattle.std.proofs.raw_atomic.Walks.{proved_at, leaves}
 use Rattle.std_heap.specs.contracts.GlobalAllocator.TheImpl.{ghosts}
-use Rattle.raw_box.proofs.Values.{both, RawBox, raw_good, raw_in}
+use Rattle.raw_box.proofs.Values.{both, raw_good, raw_in}
 use Rattle.std.specs.Prelude.{IsSome}
 use Rattle.mooringakee_c.specs.Seats.{Holds}
 use Rattle.mooringakee_c.proofs.Pointers.{Z, LZ, R, Row, some_seat, pointer_good, pointer_out}

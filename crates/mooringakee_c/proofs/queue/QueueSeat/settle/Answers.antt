@@ -12,9 +12,10 @@ backlog-requires c =
       belongs = subst (λ d. IsPassOf d c.drain.new.p) same c.drain.ensures.pass;
       idle = subst (λ d. IsIdle (seat_of d c.drain.new.p)) same c.drain.ensures.idle;
       first = c.requires.first;
+      places = c.requires.places;
     }
 
 pub returns-clause-none : goal.returns-clause-none
 returns-clause-none c =
-    quiet c.args.self.now (record c.args.self.now { pass = c.drain.new.p }) c.requires refl refl c.links.result.now
+    quiet c.args.self.now (record c.args.self.now { pass = c.drain.new.p }) c.requires refl refl refl c.links.result.now
     (c.links.ensures ∙ (λ j. (c.deref.ensures j).links)) (c.drain.ensures.pass, c.drain.ensures.idle) c.drain.ensures.nothing

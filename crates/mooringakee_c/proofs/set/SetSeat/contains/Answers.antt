@@ -8,10 +8,10 @@ use Rattle.mooringakee_c.proofs.set.SetSeat.contains.Goals as goal
 
 pub returns-in_default-clause-answer : goal.returns-in_default-clause-answer
 returns-in_default-clause-answer c =
-    refused c.args.self.now (record c.args.self.now { pass = c.contains.new.p }) refl refl c.deref.result.now.list.links (λ j. (c.deref.ensures j).list.links) c.in_default.ensures.usable Again
+    refused c.args.self.now (record c.args.self.now { pass = c.contains.new.p }) c.requires refl refl refl c.deref.result.now.list.links (λ j. (c.deref.ensures j).list.links) c.in_default.ensures.usable Again
     c.in_default.ensures.agent c.in_default.ensures.none c.in_default.ensures.licence
 
 pub returns-clause-answer : goal.returns-clause-answer
 returns-clause-answer c =
-    entered c.args.self.now (record c.args.self.now { pass = c.contains.new.p }) refl refl c.deref.result.now.list.links (λ j. (c.deref.ensures j).list.links) c.in-Ok.ensures.usable (Asked (agent_at c.args.self.now) c.args.key c.in-Ok.yes ∷ [])
+    entered c.args.self.now (record c.args.self.now { pass = c.contains.new.p }) c.requires refl refl refl c.deref.result.now.list.links (λ j. (c.deref.ensures j).list.links) c.in-Ok.ensures.usable (Asked (agent_at c.args.self.now) c.args.key c.in-Ok.yes ∷ [])
     c.in-Ok.ensures.agent c.in-Ok.ensures.asked

@@ -8,27 +8,27 @@ use Rattle.mooringakee_c.proofs.set.SetSeat.insert.Goals as goal
 pub returns-in-Err-Again-clause-answer : goal.returns-in-Err-Again-clause-answer
 returns-in-Err-Again-clause-answer c =
     subst (λ (why : ListRefused). Refuses c.args.self.now why (record c.args.self.now { pass = c.insert.new.p })) c.in-Err-Again.field-0-is
-    (refused c.args.self.now (record c.args.self.now { pass = c.insert.new.p }) refl refl c.deref.result.now.list.links (λ j. (c.deref.ensures j).list.links) c.in-Err-Again.ensures.usable c.in-Err-Again.field-0
+    (refused c.args.self.now (record c.args.self.now { pass = c.insert.new.p }) c.requires refl refl refl c.deref.result.now.list.links (λ j. (c.deref.ensures j).list.links) c.in-Err-Again.ensures.usable c.in-Err-Again.field-0
     c.in-Err-Again.ensures.agent c.in-Err-Again.ensures.none c.in-Err-Again.ensures.licence)
 
 pub returns-in-Err-NoNode-clause-seat : goal.returns-in-Err-NoNode-clause-seat
 returns-in-Err-NoNode-clause-seat c =
-    stays c.args.self.now (record c.args.self.now { pass = c.insert.new.p }) refl refl c.deref.result.now.list.links (λ j. (c.deref.ensures j).list.links) c.in-Err-NoNode.ensures.usable
+    stays c.args.self.now (record c.args.self.now { pass = c.insert.new.p }) c.requires refl refl refl c.deref.result.now.list.links (λ j. (c.deref.ensures j).list.links) c.in-Err-NoNode.ensures.usable
 
 pub returns-in-Err-NoNode-clause-answer : goal.returns-in-Err-NoNode-clause-answer
 returns-in-Err-NoNode-clause-answer c =
     subst (λ (why : ListRefused). Refuses c.args.self.now why (record c.args.self.now { pass = c.insert.new.p })) c.in-Err-NoNode.field-0-is
-    (refused c.args.self.now (record c.args.self.now { pass = c.insert.new.p }) refl refl c.deref.result.now.list.links (λ j. (c.deref.ensures j).list.links) c.in-Err-NoNode.ensures.usable c.in-Err-NoNode.field-0
+    (refused c.args.self.now (record c.args.self.now { pass = c.insert.new.p }) c.requires refl refl refl c.deref.result.now.list.links (λ j. (c.deref.ensures j).list.links) c.in-Err-NoNode.ensures.usable c.in-Err-NoNode.field-0
     c.in-Err-NoNode.ensures.agent c.in-Err-NoNode.ensures.none c.in-Err-NoNode.ensures.licence)
 
 pub returns-in-Err-Spent-clause-seat : goal.returns-in-Err-Spent-clause-seat
 returns-in-Err-Spent-clause-seat c =
-    stays c.args.self.now (record c.args.self.now { pass = c.insert.new.p }) refl refl c.deref.result.now.list.links (λ j. (c.deref.ensures j).list.links) c.in-Err-Spent.ensures.usable
+    stays c.args.self.now (record c.args.self.now { pass = c.insert.new.p }) c.requires refl refl refl c.deref.result.now.list.links (λ j. (c.deref.ensures j).list.links) c.in-Err-Spent.ensures.usable
 
 pub returns-in-Err-Spent-clause-answer : goal.returns-in-Err-Spent-clause-answer
 returns-in-Err-Spent-clause-answer c = (
   c.in-Err-Spent.field-0-0,
   subst (λ (why : ListRefused). Refuses c.args.self.now why (record c.args.self.now { pass = c.insert.new.p })) c.in-Err-Spent.field-0-is
-      (refused c.args.self.now (record c.args.self.now { pass = c.insert.new.p }) refl refl c.deref.result.now.list.links (λ j. (c.deref.ensures j).list.links) c.in-Err-Spent.ensures.usable c.in-Err-Spent.field-0
+      (refused c.args.self.now (record c.args.self.now { pass = c.insert.new.p }) c.requires refl refl refl c.deref.result.now.list.links (λ j. (c.deref.ensures j).list.links) c.in-Err-Spent.ensures.usable c.in-Err-Spent.field-0
       c.in-Err-Spent.ensures.agent c.in-Err-Spent.ensures.none c.in-Err-Spent.ensures.licence),
 )
