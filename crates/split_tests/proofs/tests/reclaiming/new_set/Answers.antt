@@ -18,7 +18,8 @@ new-requires-clause-roots c = ap (λ (b : Bounds). b.roots) c.in_ok-domain.ensur
 pub returns : goal.returns
 returns c = record {
   usable = λ k d low.
-    let p = slice_index_or c.in_ok-domain.passes.items k d in
-    (subst (λ domain. IsPassOf domain p) (sym c.new.ensures) (c.in_ok-domain.ensures.belongs k d low),
-     subst (λ domain. IsIdle (seat_of domain p)) (sym c.new.ensures) (c.in_ok-domain.ensures.idle k d low));
+      let p = slice_index_or c.in_ok-domain.passes.items k d in (
+        subst (λ domain. IsPassOf domain p) (sym c.new.ensures) (c.in_ok-domain.ensures.belongs k d low),
+        subst (λ domain. IsIdle (seat_of domain p)) (sym c.new.ensures) (c.in_ok-domain.ensures.idle k d low),
+      );
 }
