@@ -3,9 +3,9 @@
 
 check_reports.py [--program PATH] [--files N] [--lines N] [--seed N]
 
-By one poster and no taker the whole report is computed; by several workers it is judged line by line: each record has one reply,
-each queue's positions stand once on its board, in a reply of a poster and in a claim, in orders that one queue and one set can
-have. Prints how many reports were judged, and each that is wrong; the status is 1 where one is.
+Each file is run with both sets. By one poster and no taker the whole report is computed; by several workers it is judged line by
+line: each record has one reply, each queue's positions stand once on its board, in a reply of a poster and in a claim, in orders that
+one queue and one set can have. Prints how many files were judged, and each that is wrong; the status is 1 where one is.
 """
 import argparse
 import csv
@@ -185,13 +185,14 @@ def main():
         made = records(rng, rng.randrange(chosen.lines + 1), number % 2 == 1)
         posters, takers = rng.randrange(1, 9), rng.randrange(8)
         rows = rng.choice((8, 64, 65535))
-        try:
-            ask(run(chosen.program, made) == alone(made), "the report by one poster")
-            words = (f"--posters={posters}", f"--takers={takers}", f"--rows={rows}", "--rest=yes")
-            judge(made, posters, takers, run(chosen.program, made, *words))
-        except Wrong as why:
-            wrong += 1
-            print(f"file {number}, {posters} posters, {takers} takers, {rows} rows: {why}")
+        for kind in ("list", "split"):
+            try:
+                ask(run(chosen.program, made, f"--set={kind}") == alone(made), "the report by one poster")
+                words = (f"--posters={posters}", f"--takers={takers}", f"--rows={rows}", f"--set={kind}", "--rest=yes")
+                judge(made, posters, takers, run(chosen.program, made, *words))
+            except Wrong as why:
+                wrong += 1
+                print(f"file {number}, set {kind}, {posters} posters, {takers} takers, {rows} rows: {why}")
     print(f"{chosen.files} files, {wrong} wrong")
     sys.exit(wrong > 0)
 

@@ -1,8 +1,9 @@
 #!/usr/bin/env bash
 # Times workers of the board. Races: posts with falling ids on 1, 2 and 4 threads over plain domains, by workers and by the same
 # container calls made bare, in turns, in medians of the rounds; the takes of all jobs follow. Runs: 60,000 generated lines over
-# plain and over reclaiming domains, in turns, and the program's mode trial with the same, in medians. Growth: one poster with more
-# and more open ids. The figures go to docs/SPEED.md with date and machine. Arguments: how many rounds of races, and how many runs.
+# plain and over reclaiming domains, in turns, and the program's mode trial with the same, in medians. Sets: mode trial over lists and
+# over the split-ordered set, in turns. Growth: one poster with more and
+# more open ids. The figures go to docs/SPEED.md with date and machine. Arguments: how many rounds of races, and how many runs.
 set -euo pipefail
 cd "$(dirname "$0")/.."
 MOORINGAKEE_BUILD=here ./mooringakee </dev/null >/dev/null
@@ -45,8 +46,20 @@ def bench(domain, lines, posters, takers, buckets):
     return run([BENCH] + [str(word) for word in words])
 
 def trial(lines, posters, takers, buckets):
-    words = ['--mode', 'trial', '--lines', lines, '--posters', posters, '--takers', takers, '--buckets', buckets]
+    kind = ['--buckets', buckets] if buckets else ['--set', 'split']
+    words = ['--mode', 'trial', '--lines', lines, '--posters', posters, '--takers', takers] + kind
     return run([PROGRAM] + [str(word) for word in words])
+
+# The program alone, whose set is lists or split-ordered, in turns.
+def sets(lines, posters, takers):
+    kinds = {16: '16 lists', 256: '256 lists', 0: 'split-ordered'}
+    rounds = {kind: [] for kind in kinds}
+    for _ in range(RUNS):
+        for kind in kinds:
+            rounds[kind].append(trial(lines, posters, takers, kind))
+    for kind, name in kinds.items():
+        print('%d lines, %d and %d, %s: wall %.3f s, processor %.3f s, memory %.0f MB' % (
+            lines, posters, takers, name, *medians(rounds[kind])), flush=True)
 
 def runs(posters, takers, buckets):
     rounds = {name: [] for name in DOMAINS + ('trial',)}
@@ -74,6 +87,9 @@ race(5140, 10 * ROUNDS)
 for buckets in (16, 256):
     runs(1, 0, buckets)
     runs(4, 4, buckets)
+for lines in (1000, 60000):
+    sets(lines, 1, 0)
+    sets(lines, 4, 4)
 for lines in (4000, 8000, 16000, 32000):
     growth(lines, 16)
 PY

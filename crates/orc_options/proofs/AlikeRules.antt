@@ -30,16 +30,10 @@ pub alike_if_some : (o : Option Rule) → AlikeIfSome o o
 alike_if_some None = tt
 alike_if_some (Some a) = alike a
 
--- in place of the first rule of a list stands one that is like it
-pub first_alike : (test : Bool) (a b : Rule) (o : Option Rule) → Alike a b → AlikeIfSome (cond test (Some a) o) (cond test (Some b) o)
-first_alike true a b o h = h
-first_alike false a b o h = alike_if_some o
-
--- and in place of the first two
-pub first_two_alike : (one two : Bool) (a b c e : Rule) (o : Option Rule) → Alike a b → Alike c e
-    → AlikeIfSome (cond one (Some a) (cond two (Some c) o)) (cond one (Some b) (cond two (Some e) o))
-first_two_alike true two a b c e o h k = h
-first_two_alike false two a b c e o h k = first_alike two c e o k
+-- in place of the first rule of a list stands one that is like it, and so on in the rest
+pub next_alike : (test : Bool) (a b : Rule) (o p : Option Rule) → Alike a b → AlikeIfSome o p → AlikeIfSome (cond test (Some a) o) (cond test (Some b) p)
+next_alike true a b o p h k = h
+next_alike false a b o p h k = k
 
 module _ (s : Shape) (d : List Rule)
     (by_id : (id : Text) → AlikeIfSome (walks.arg_by_id s.rules id) (walks.arg_by_id d id))

@@ -26,12 +26,13 @@ first_app =
     let a = new_app (codes "mooringakee") in
     record a { top = record a.top { no_binary_name = true } }
 
--- the command, where `modes` and `answers` are the words that the program holds
-abbrev pub command_app : (modes answers : Bor (List (Bor Text))) → App
-command_app modes answers =
-    with_rule (with_rule (with_rule (with_rule (with_rule (with_rule (with_rule (with_rule first_app
+-- the command, where `modes`, `answers` and `sets` are the words that the program holds
+abbrev pub command_app : (modes answers sets : Bor (List (Bor Text))) → App
+command_app modes answers sets =
+    with_rule (with_rule (with_rule (with_rule (with_rule (with_rule (with_rule (with_rule (with_rule first_app
     (choice_rule (codes "mode") (codes "run") modes))
     (choice_rule (codes "rest") (codes "no") answers))
+    (choice_rule (codes "set") (codes "list") sets))
     (number_rule (codes "posters") (codes "1") 1 8))
     (number_rule (codes "takers") (codes "0") 0 7))
     (number_rule (codes "rows") (codes "65535") 8 65535))
@@ -43,6 +44,8 @@ command_app modes answers =
 pub record IsCommand (a : App) : Type 0 where
   pub modes : Bor (List (Bor Text))
   pub answers : Bor (List (Bor Text))
+  pub sets : Bor (List (Bor Text))
   pub mode_words : map (λ n. n.now) modes.now ≡ codes "run" ∷ codes "make" ∷ codes "trial" ∷ codes "replay" ∷ codes "audit" ∷ []
   pub answer_words : map (λ n. n.now) answers.now ≡ codes "yes" ∷ codes "no" ∷ []
-  pub app : a ≡ command_app modes answers
+  pub set_words : map (λ n. n.now) sets.now ≡ codes "list" ∷ codes "split" ∷ []
+  pub app : a ≡ command_app modes answers sets

@@ -8,6 +8,8 @@ use Rattle.clap.specs.Faults.{fault_of}
 use Rattle.orc_options.specs.Options.{IsCommand}
 use Rattle.orc_options.specs.declared.settings.Mode.{Mode}
 use Rattle.orc_options.specs.declared.settings.Mode.TheVariants as mode
+use Rattle.orc_options.specs.declared.settings.SetKind.{SetKind}
+use Rattle.orc_options.specs.declared.settings.SetKind.TheVariants as kind
 use Rattle.orc_options.specs.declared.settings.Settings.{Settings}
 
 -- the number that an option's text is, from low to high, or the default
@@ -25,6 +27,11 @@ mode_in (Some text) =
     (if bytes_eq text (codes "trial") then mode.Trial
     else (if bytes_eq text (codes "replay") then mode.Replay else (if bytes_eq text (codes "audit") then mode.Audit else mode.Run)))
 
+-- the set that the option's word names
+abbrev pub set_in : Option Text → SetKind
+set_in None = kind.List
+set_in (Some text) = if bytes_eq text (codes "split") then kind.Split else kind.List
+
 -- whether the option's word is yes
 abbrev pub yes_in : Option Text → Bool
 yes_in None = false
@@ -37,6 +44,7 @@ settings_in rows = record {
   posters = number_in 1 8 1 (one_of (codes "posters") rows);
   takers = number_in 0 7 0 (one_of (codes "takers") rows);
   rows = number_in 8 65535 65535 (one_of (codes "rows") rows);
+  set = set_in (first_of (codes "set") rows);
   buckets = number_in 1 256 16 (one_of (codes "buckets") rows);
   rest = yes_in (first_of (codes "rest") rows);
   seed = number_in 1 4294967295 1 (one_of (codes "seed") rows);

@@ -17,6 +17,15 @@ fn mode_words<'a>() -> &'a [&'a str]
     MODES.as_slice()
 }
 
+static SETS: [&str; 2] = ["list", "split"];
+
+// The words of the sets.
+fn set_words<'a>() -> &'a [&'a str]
+    ensures { map (λ n. n.now) result.now ≡ codes "list" ∷ codes "split" ∷ [] }
+{
+    SETS.as_slice()
+}
+
 static ANSWERS: [&str; 2] = ["yes", "no"];
 
 // The words for yes and no.
@@ -55,6 +64,7 @@ pub(crate) fn command<'a>(alloc: Global) -> Result<Command<'a>, AllocError>
     let command = Command::new(alloc, "mooringakee").no_binary_name(true);
     let command = command.arg(choice_option(alloc, "mode", "run", mode_words()))?;
     let command = command.arg(choice_option(alloc, "rest", "no", answer_words()))?;
+    let command = command.arg(choice_option(alloc, "set", "list", set_words()))?;
     let command = command.arg(number_option(alloc, "posters", "1", 1, 8))?;
     let command = command.arg(number_option(alloc, "takers", "0", 0, 7))?;
     let command = command.arg(number_option(alloc, "rows", "65535", 8, 65535))?;

@@ -5,5 +5,5 @@ mod command;
 mod settings;
 mod words;
 
-pub use settings::{Mode, Refused, Settings, settings_of, words_have_one_answer};
+pub use settings::{Mode, Refused, SetKind, Settings, settings_of, words_have_one_answer};
 pub use words::CommandWords;

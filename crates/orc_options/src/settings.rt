@@ -3,7 +3,7 @@
 ghost use Rattle.std.specs.Prelude.{◌≡◌, ◌≢◌, ◌≤◌, IfErr, IfOk, List, ℕ, option_map};
 ghost use Rattle.clap.specs.Words.{found_of, one_text, rows_of};
 ghost use Rattle.orc_options.specs.declared.settings.Settings.{Settings};
-ghost use Rattle.orc_options.specs.Settings.{AreInRange, Gives, Refuses, mode_in, number_in, yes_in};
+ghost use Rattle.orc_options.specs.Settings.{AreInRange, Gives, Refuses, mode_in, number_in, set_in, yes_in};
 ghost use Rattle.orc_options.specs.Settings.{settings_in as read_settings};
 
 use crate::CommandWords;
@@ -27,6 +27,15 @@ pub enum Mode {
     Audit,
 }
 
+/// Which set a run has.
+#[derive(Clone, Copy, Debug, PartialEq, Eq, Drop)]
+pub enum SetKind {
+    /// A sorted list a bucket, as many as are asked for.
+    List,
+    /// A split-ordered set, which doubles its buckets.
+    Split,
+}
+
 /// What the options say.
 #[derive(Clone, Copy, Debug, PartialEq, Eq, Drop)]
 pub struct Settings {
@@ -38,7 +47,9 @@ pub struct Settings {
     pub takers: u32,
     /// `--rows`, 8 to 65,535: how many rows each container has; 65,535, where it isn't given.
     pub rows: u32,
-    /// `--buckets`, 1 to 256: how many buckets the set has; 16, where it isn't given.
+    /// `--set`: which set a run has; lists, where it isn't given.
+    pub set: SetKind,
+    /// `--buckets`, 1 to 256: how many buckets a set of lists has; 16, where it isn't given.
     pub buckets: u32,
     /// `--rest`: whether the report ends with what is at rest; no, where it isn't given.
     pub rest: bool,
@@ -84,6 +95,16 @@ fn mode_of(word: Option<&str>) -> Mode
         Some("replay") => Mode::Replay,
         Some("audit") => Mode::Audit,
         _ => Mode::Run,
+    }
+}
+
+// The set that a word names.
+fn set_of(word: Option<&str>) -> SetKind
+    ensures { result ≡ set_in (option_map (λ s. s.now) word.entry) }
+{
+    match word {
+        Some("split") => SetKind::Split,
+        _ => SetKind::List,
     }
 }
 
@@ -138,6 +159,7 @@ fn settings_in(matches: &ArgMatches<'_>) -> Settings
         posters: number_of(matches, "posters", 1, 8, 1),
         takers: number_of(matches, "takers", 0, 7, 0),
         rows: number_of(matches, "rows", 8, 65535, 65535),
+        set: set_of(matches.get_str("set")),
         buckets: number_of(matches, "buckets", 1, 256, 16),
         rest: says_yes(matches.get_str("rest")),
         seed: number_of(matches, "seed", 1, 4294967295, 1),

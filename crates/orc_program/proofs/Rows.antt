@@ -6,12 +6,19 @@ use Rattle.orc_jobs.specs.declared.line.Line.{Line}
 use Rattle.orc_options.specs.declared.settings.Mode.{Mode}
 use Rattle.orc_options.specs.declared.settings.Mode.TheVariants as mode
 use Rattle.orc_options.specs.declared.settings.Settings.{Settings}
-use Rattle.orc_run.specs.Runs.{EndsWithoutLeak, ReusesRowsSafely}
+use Rattle.orc_reclaiming_domain.specs.Passes.{domain_bounds}
+use Rattle.orc_reclaiming_domain.specs.Rest.{rest_domain}
+use Rattle.orc_run.specs.Runs.{EndsWithoutLeak, ReusesRowsSafely, set_bounds}
+use Rattle.orc_run.specs.Sets.{HasSetJournal, SetLeaksNothing, SetReusesSafely}
+use Rattle.orc_run.specs.declared.set.SetChoice.{SetChoice}
+use Rattle.orc_run.specs.declared.set.SetChoice.TheVariants as choice
+use Rattle.orc_run.specs.declared.set.SetRest.{SetRest}
+use Rattle.orc_run.specs.declared.set.SetRest.TheVariants as at_rest
 use Rattle.orc_run.specs.declared.run.Finished.{Finished}
 use Rattle.orc_program.specs.declared.ended.Ended.{Ended}
 use Rattle.orc_program.specs.Answers.{Answers, AnswersJobs, ModeAnswers}
-use Rattle.orc_program.specs.Ended.{EndsSafely, IsNew, Keeps, generated_lines}
-use Rattle.orc_program.specs.Headline.{WorkedThrough}
+use Rattle.orc_program.specs.Ended.{EndsSafely, IsNew, Keeps, KeepsSet, generated_lines}
+use Rattle.orc_program.specs.Headline.{WorkedThrough, set_of}
 
 module _ {A : Type 0} (P : A → Type 0) where
   where-none : (o : Option A) → o ≡ None → IfSome o P
@@ -33,19 +40,49 @@ pub of_none : (ended : Ended) → IsNew ended → EndsSafely ended
 of_none ended new = record {
   queues_reuse = λ rush. where-none _ (pick ended.queue ended.rush rush) (none_left ended new rush);
   set_reuse = where-none _ ended.set new.set;
+  split_reuse = where-none _ ended.split new.split;
   queues_rest = λ rush. where-none _ (pick ended.queue ended.rush rush) (none_left ended new rush);
   set_rest = where-none _ ended.set new.set;
+  split_rest = where-none _ ended.split new.split;
+}
+
+-- what is said of the domain of a run's set, whichever it was, by the two places that it can have
+record SetEndsSafely (ended : Ended) : Type 0 where
+  set_reuse : IfSome ended.set (λ r. ReusesRowsSafely (domain_bounds (rest_domain r)) r)
+  split_reuse : IfSome ended.split (λ r. ReusesRowsSafely (domain_bounds (rest_domain r)) r)
+  set_rest : IfSome ended.set (λ r. EndsWithoutLeak (domain_bounds (rest_domain r)) r)
+  split_rest : IfSome ended.split (λ r. EndsWithoutLeak (domain_bounds (rest_domain r)) r)
+
+of_set : (which : SetChoice) (b : Bounds) (rest : SetRest) (ended : Ended) → HasSetJournal which b rest → SetReusesSafely b rest → SetLeaksNothing b rest
+    → KeepsSet rest ended → SetEndsSafely ended
+of_set (choice.Lists buckets) b (at_rest.Lists r) ended journal reuse leak kept = record {
+  set_reuse = where-some _ ended.set r kept.0 (subst (λ (c : Bounds). ReusesRowsSafely c r) (sym journal.sizes) reuse);
+  split_reuse = where-none _ ended.split kept.1;
+  set_rest = where-some _ ended.set r kept.0 (subst (λ (c : Bounds). EndsWithoutLeak c r) (sym journal.sizes) leak);
+  split_rest = where-none _ ended.split kept.1;
+}
+of_set (choice.Lists buckets) b (at_rest.Split r) ended journal reuse leak kept = absurd journal
+of_set choice.Split b (at_rest.Lists r) ended journal reuse leak kept = absurd journal
+of_set choice.Split b (at_rest.Split r) ended journal reuse leak kept = record {
+  set_reuse = where-none _ ended.set kept.0;
+  split_reuse = where-some _ ended.split r kept.1 (subst (λ (c : Bounds). ReusesRowsSafely c r) (sym journal.sizes) reuse);
+  set_rest = where-none _ ended.set kept.0;
+  split_rest = where-some _ ended.split r kept.1 (subst (λ (c : Bounds). EndsWithoutLeak c r) (sym journal.sizes) leak);
 }
 
 of_run : (lines : List Line) (s : Settings) (f : Finished) (ended : Ended) → WorkedThrough lines s f → Keeps f ended → EndsSafely ended
-of_run lines s f ended run kept = record {
-  queues_reuse = λ rush. where-some _ (pick ended.queue ended.rush rush) (pick f.queue f.rush rush) (kept_left f ended kept rush)
-      (subst (λ (b : Bounds). ReusesRowsSafely b (pick f.queue f.rush rush)) (sym (run.queue_journals rush).sizes) (run.queues_reuse rush));
-  set_reuse = where-some _ ended.set f.set kept.set (subst (λ (b : Bounds). ReusesRowsSafely b f.set) (sym run.set_journal.sizes) run.set_reuse);
-  queues_rest = λ rush. where-some _ (pick ended.queue ended.rush rush) (pick f.queue f.rush rush) (kept_left f ended kept rush)
-      (subst (λ (b : Bounds). EndsWithoutLeak b (pick f.queue f.rush rush)) (sym (run.queue_journals rush).sizes) (run.queues_rest rush));
-  set_rest = where-some _ ended.set f.set kept.set (subst (λ (b : Bounds). EndsWithoutLeak b f.set) (sym run.set_journal.sizes) run.set_rest);
-}
+of_run lines s f ended run kept =
+    let set = of_set (set_of s) (set_bounds s.posters s.takers s.rows (set_of s)) f.set ended run.set_journal run.set_reuse run.set_rest kept.set in
+    record {
+      queues_reuse = λ rush. where-some _ (pick ended.queue ended.rush rush) (pick f.queue f.rush rush) (kept_left f ended kept rush)
+          (subst (λ (b : Bounds). ReusesRowsSafely b (pick f.queue f.rush rush)) (sym (run.queue_journals rush).sizes) (run.queues_reuse rush));
+      set_reuse = set.set_reuse;
+      split_reuse = set.split_reuse;
+      queues_rest = λ rush. where-some _ (pick ended.queue ended.rush rush) (pick f.queue f.rush rush) (kept_left f ended kept rush)
+          (subst (λ (b : Bounds). EndsWithoutLeak b (pick f.queue f.rush rush)) (sym (run.queue_journals rush).sizes) (run.queues_rest rush));
+      set_rest = set.set_rest;
+      split_rest = set.split_rest;
+    }
 
 of_jobs : (s : Settings) (bytes : List ℕ) (ended : Ended) (status : ℕ) (text : List ℕ) → AnswersJobs s bytes ended status text → EndsSafely ended
 of_jobs s bytes ended status text (inl (is, (lines, file, h))) = of_run lines s h.finished ended h.headline.run h.kept

@@ -10,6 +10,8 @@ use Rattle.orc_reclaiming_domain.specs.Passes.{domain_bounds}
 use Rattle.orc_reclaiming_domain.specs.Rest.{rest_domain}
 use Rattle.orc_run.specs.Runs.{EndsWithoutLeak, ReusesRowsSafely}
 use Rattle.orc_run.specs.declared.run.Finished.{Finished}
+use Rattle.orc_run.specs.declared.set.SetRest.{SetRest}
+use Rattle.orc_run.specs.declared.set.SetRest.TheVariants as at_rest
 use Rattle.orc_program.specs.declared.ended.Ended.{Ended}
 use Rattle.orc_options.specs.declared.settings.Settings.{Settings}
 use Rattle.orc_program.specs.Headline.{Headline, WorkedThrough}
@@ -19,13 +21,19 @@ pub record IsNew (ended : Ended) : Type 0 where
   pub queue : ended.queue ≡ None
   pub rush : ended.rush ≡ None
   pub set : ended.set ≡ None
+  pub split : ended.split ≡ None
   pub replies : ended.replies ≡ None
+
+-- the set's domain is there, in the place of its kind alone
+abbrev pub KeepsSet : SetRest → Ended → Type 0
+KeepsSet (at_rest.Lists r) ended = (ended.set ≡ Some r) × (ended.split ≡ None)
+KeepsSet (at_rest.Split r) ended = (ended.set ≡ None) × (ended.split ≡ Some r)
 
 -- what a run has left is there
 pub record Keeps (finished : Finished) (ended : Ended) : Type 0 where
   pub queue : ended.queue ≡ Some finished.queue
   pub rush : ended.rush ≡ Some finished.rush
-  pub set : ended.set ≡ Some finished.set
+  pub set : KeepsSet finished.set ended
   pub replies : ended.replies ≡ Some finished.replies
 
 -- Where a run has ended, by the three actual journals, of the queue, at false, of the rush queue, at true, and of the set: no row was
@@ -33,8 +41,10 @@ pub record Keeps (finished : Finished) (ended : Ended) : Type 0 where
 pub record EndsSafely (ended : Ended) : Type 0 where
   pub queues_reuse : (rush : Bool) → IfSome (pick ended.queue ended.rush rush) (λ r. ReusesRowsSafely (domain_bounds (rest_domain r)) r)
   pub set_reuse : IfSome ended.set (λ r. ReusesRowsSafely (domain_bounds (rest_domain r)) r)
+  pub split_reuse : IfSome ended.split (λ r. ReusesRowsSafely (domain_bounds (rest_domain r)) r)
   pub queues_rest : (rush : Bool) → IfSome (pick ended.queue ended.rush rush) (λ r. EndsWithoutLeak (domain_bounds (rest_domain r)) r)
   pub set_rest : IfSome ended.set (λ r. EndsWithoutLeak (domain_bounds (rest_domain r)) r)
+  pub split_rest : IfSome ended.split (λ r. EndsWithoutLeak (domain_bounds (rest_domain r)) r)
 
 -- these lines were worked through as the settings say, and the headline holds of what has ended
 pub record HasReported (lines : List Line) (settings : Settings) (ended : Ended) (text : List ℕ) : Type 0 where

@@ -5,15 +5,17 @@ use orc_board::Replies;
 use orc_chain_rule::Chain;
 use orc_fifo_rule::Fifo;
 use orc_reclaiming_domain::OrcRest;
-use orc_run::Finished;
+use orc_run::{Finished, SetRest};
+use orc_split_rule::Split;
 
 /// The domains of queue, rush queue and set at rest, each with the journal of all that happened on it, and the replies of a run.
-/// All four are there after a run, and none of them otherwise.
+/// All are there after a run, of `set` and `split` the one that the run had, and none of them otherwise.
 #[derive(Drop)]
 pub struct Ended {
     pub queue: Option<OrcRest<Fifo>>,
     pub rush: Option<OrcRest<Fifo>>,
     pub set: Option<OrcRest<Chain>>,
+    pub split: Option<OrcRest<Split>>,
     pub replies: Option<Replies>,
 }
 
@@ -26,12 +28,14 @@ impl Ended {
             queue: None,
             rush: None,
             set: None,
+            split: None,
             replies: None,
         }
     }
 
     // Keeps what a run has left.
     pub(crate) fn keep(&mut self, finished: Finished)
+        requires { IsNew self.old }
         ensures { Keeps finished self.new }
     {
         let Finished {
@@ -42,7 +46,10 @@ impl Ended {
         } = finished;
         self.queue = Some(queue);
         self.rush = Some(rush);
-        self.set = Some(set);
+        match set {
+            SetRest::Lists(rest) => self.set = Some(rest),
+            SetRest::Split(rest) => self.split = Some(rest),
+        }
         self.replies = Some(replies);
     }
 }

@@ -11,12 +11,13 @@ ghost use Rattle.orc_program.specs.Refusals.{cause_word, input_limit, input_too_
 
 use crate::Ended;
 use crate::answer::{Answer, too_large};
+use crate::working::run_as_asked;
 use orc_board::Gate;
 use orc_fault::NoMemory;
 use orc_jobs::{Cause, JobsFault, Lines, Text, read_jobs};
 use orc_options::Settings;
 use orc_report::{RestNumbers, report_text};
-use orc_run::{Finished, run_lines};
+use orc_run::Finished;
 use std::alloc::Global;
 use std::sync::Wait;
 use std::thread::Threads;
@@ -60,16 +61,8 @@ fn report<R: Threads + Wait + Sync, G: Gate + Sync>(
     ensures reported { IfOk result (λ a. (a.status ≡ 0) × HasReported lines.now settings ended.new a.text) }
     ensures nothing { OnErr result (IsNew ended.new) }
 {
-    let Settings {
-        posters,
-        takers,
-        rows,
-        buckets,
-        rest,
-        ..
-    } = settings;
-    let finished = run_lines(rt, alloc, lines, posters, takers, rows, buckets, gate)?;
-    let numbers = numbers_at_rest(rest, &finished);
+    let finished = run_as_asked(rt, alloc, settings, lines, gate)?;
+    let numbers = numbers_at_rest(settings.rest, &finished);
     let text = report_text(alloc, lines, &finished.replies, numbers.as_ref())?;
     ended.keep(finished);
     Ok(Answer { status: 0, text })

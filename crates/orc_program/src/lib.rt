@@ -12,11 +12,12 @@ mod streams;
 mod top_call;
 mod trace_mode;
 mod trial_mode;
+mod working;
 mod writing;
 
 pub use ended::Ended;
 pub use laws::{inputs_are_read_whole, inputs_have_one_answer};
-pub use orc_options::{CommandWords, Mode, Settings};
+pub use orc_options::{CommandWords, Mode, SetKind, Settings};
 pub use streams::{StdSink, StdSource};
 pub use top_call::orc_main;
 pub use writing::refuse_words;

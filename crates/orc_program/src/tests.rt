@@ -159,7 +159,7 @@ fn largest_inputs(rt: HostRuntime) -> Result<(), Fail> {
 #[test]
 fn reports_as_the_words_ask(rt: HostRuntime) -> Result<(), Fail> {
     let alloc = rt.alloc();
-    let at_rest: [(&[&str], &[u8], &[u8], &[u8]); 5] = [
+    let at_rest: [(&[&str], &[u8], &[u8], &[u8]); 7] = [
         (
             &["--rest", "yes", "--buckets", "1"],
             FIVE_LINES,
@@ -172,6 +172,13 @@ fn reports_as_the_words_ask(rt: HostRuntime) -> Result<(), Fail> {
             FIVE_LINES_REPORT,
             FIVE_LINES_REST,
         ),
+        (
+            &["--set=split", "--rest=yes"],
+            FIVE_LINES,
+            FIVE_LINES_REPORT,
+            FIVE_LINES_REST,
+        ),
+        (&["--set", "split"], FIVE_LINES, FIVE_LINES_REPORT, b""),
         (&["--rest=yes"], ONE_RUSH, ONE_RUSH_REPORT, ONE_RUSH_REST),
         (
             &["--rows=8", "--rest=yes"],

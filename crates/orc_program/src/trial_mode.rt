@@ -5,12 +5,12 @@ ghost use Rattle.orc_program.specs.Ended.{HasSummed, IsNew};
 
 use crate::Ended;
 use crate::answer::Answer;
+use crate::working::run_as_asked;
 use orc_board::Gate;
 use orc_fault::NoMemory;
 use orc_jobs::make_lines;
 use orc_options::Settings;
 use orc_report::summary_text;
-use orc_run::run_lines;
 use std::alloc::Global;
 use std::sync::Wait;
 use std::thread::Threads;
@@ -28,17 +28,8 @@ pub(crate) fn answer_trial<R: Threads + Wait + Sync, G: Gate + Sync>(
     ensures summed { IfOk result (λ a. (a.status ≡ 0) × HasSummed settings ended.new a.text) }
     ensures nothing { OnErr result (IsNew ended.new) }
 {
-    let Settings {
-        posters,
-        takers,
-        rows,
-        buckets,
-        seed,
-        lines,
-        ..
-    } = settings;
-    let made = make_lines(alloc, seed, lines)?;
-    let finished = run_lines(rt, alloc, &made, posters, takers, rows, buckets, gate)?;
+    let made = make_lines(alloc, settings.seed, settings.lines)?;
+    let finished = run_as_asked(rt, alloc, settings, &made, gate)?;
     let text = summary_text(alloc, &made, &finished.replies)?;
     ended.keep(finished);
     Ok(Answer { status: 0, text })

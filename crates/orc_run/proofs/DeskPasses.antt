@@ -1,18 +1,19 @@
 -- What holds of the desks of a run holds of their passes, which are all passes of their domain.
 use Rattle.std.proofs.Common.{All, ◌≡◌, Bool, true, false, ℕ, zero, suc, ◌+◌, ◌<◌, List, [], ◌∷◌, ◌++◌, length, map, slice_index_or, sym, ap, ◌∙◌, subst, arith}
+use Rattle.std.proofs.lemmas.List.{length-map}
 use Rattle.std.proofs.lemmas.List.Elements.{All-from_recursion}
 use Rattle.std.specs.List.{AllByRecursion}
 use Rattle.orc_history.specs.declared.queue.SharedQueue.{Ghosts as QueueOf}
 use Rattle.orc_history.specs.declared.set.SharedSet.{Ghosts as SetOf}
 use Rattle.orc_board.specs.declared.desk.Desk.{Desk}
-use Rattle.orc_board.specs.Desk.{IsDesk}
+use Rattle.orc_board.specs.Desk.{IsDesk, seen_in}
 use Rattle.orc_board.specs.Stretches.{pick}
 use Rattle.orc_machine_board.specs.Rules.{run_of}
 use Rattle.orc_reclaiming_domain.specs.Rest.{IsShown, rest_domain, rest_journal}
 use Rattle.orc_reclaiming_domain.specs.declared.at_rest.OrcRest.{OrcRest}
 use Rattle.orc_rest.specs.Rest.{IsAtRest}
 use Rattle.orc_run.specs.Journals.{GoesOnQuietly, IsLeft}
-use Rattle.orc_workers.specs.Desks.{AreIdle}
+use Rattle.orc_workers.specs.Desks.{AreIdle, HaveSeenTheSame, queue_seen, set_seen}
 use Rattle.orc_heap.specs.Seats.{IsIdle}
 use Rattle.orc_heap.specs.declared.discipline.Discipline as discipline
 use Rattle.orc_core.specs.declared.records.Agent.{Agent}
@@ -25,6 +26,16 @@ use Rattle.orc_reclaiming_domain.specs.Ends.{AreAll, AreIdle as AreIdlePasses}
 use Rattle.orc_reclaiming_domain.specs.Passes.{IsPassOf, domain_bounds, journal_of, seat_of}
 use Rattle.orc_reclaiming_domain.specs.declared.domain.OrcDomain.{OrcDomain}
 use Rattle.orc_reclaiming_domain.specs.declared.domain.OrcPass.{OrcPass}
+
+-- usable passes of a container, so many, in order of agent
+pub record ArePasses {X : Type 0} (is_usable : X → Type 0) (agent_of : X → ℕ) (many_are : ℕ) (ps : List X) : Type 0 where
+  pub usable : All is_usable ps
+  pub numbered : (i : ℕ) (p : X) → i < length ps → agent_of (slice_index_or ps i p) ≡ i
+  pub many : length ps ≡ many_are
+
+-- what was put behind none is all
+alone : {X : Type 0} (none ps qs : List X) → none ≡ [] → qs ≡ none ++ ps → qs ≡ ps
+alone none ps qs nobody is = is ∙ ap (λ xs. xs ++ ps) nobody
 
 -- a desk's pass of the queue, or of the rush queue
 abbrev pub pass_at : {P R : Type 0} → Bool → Desk P R → P
@@ -55,63 +66,64 @@ module _ {Q S P R A B : Type 0} (q : QueueOf Q P A) (s : SetOf S R B) (queue rus
       all_numbered agent (desk ∷ desks) h zero p low = let is = is_agent agent desk h.0 in omega (arith, is)
       all_numbered agent (desk ∷ desks) h (suc i) p low = let is = all_numbered (suc agent) desks h.1 i p (omega (arith, low)) in omega (arith, is)
 
-  pub queue_usable : (b : Bool) (desks : List (Desk P R)) → AreIdle q s queue rush set 0 desks
-      → AllByRecursion (λ p. q.usable (pick queue rush b) p) (map (pass_at b) desks)
-  queue_usable b desks h = all_usable (pass_at b) (λ p. q.usable (pick queue rush b) p) (q.agent_of (pick queue rush b)) (usable_at b) (agent_at b) 0 desks h
+      -- the passes of all desks, which were put behind none
+      passes_there : (desks : List (Desk P R)) → AreIdle q s queue rush set 0 desks → (none qs : List X) → none ≡ [] → qs ≡ none ++ map pass desks
+          → ArePasses usable agent_of (length desks) qs
+      passes_there desks h none qs nobody is = subst (λ (xs : List X). ArePasses usable agent_of (length desks) xs) (sym (alone none _ qs nobody is)) record {
+        usable = All-from_recursion usable (map pass desks) (all_usable 0 desks h);
+        numbered = λ i p low. let is = all_numbered 0 desks h i p low in omega (arith, is);
+        many = length-map desks pass;
+      }
 
-  pub queue_numbered : (b : Bool) (desks : List (Desk P R)) → AreIdle q s queue rush set 0 desks → (i : ℕ) (p : P) → i < length (map (pass_at b) desks)
-      → q.agent_of (pick queue rush b) (slice_index_or (map (pass_at b) desks) i p) ≡ 0 + i
-  queue_numbered b desks h = all_numbered (pass_at b) (λ p. q.usable (pick queue rush b) p) (q.agent_of (pick queue rush b)) (usable_at b) (agent_at b) 0 desks h
+  pub queue_passes : (b : Bool) (desks : List (Desk P R)) → AreIdle q s queue rush set 0 desks → (none qs : List P) → none ≡ []
+      → qs ≡ none ++ map (pass_at b) desks → ArePasses (λ p. q.usable (pick queue rush b) p) (q.agent_of (pick queue rush b)) (length desks) qs
+  queue_passes b = passes_there (pass_at b) (λ p. q.usable (pick queue rush b) p) (q.agent_of (pick queue rush b)) (usable_at b) (agent_at b)
 
-  pub set_usable : (desks : List (Desk P R)) → AreIdle q s queue rush set 0 desks
-      → AllByRecursion (λ p. s.usable set p) (map (λ (desk : Desk P R). desk.set) desks)
-  set_usable desks h =
-      all_usable (λ (desk : Desk P R). desk.set) (λ p. s.usable set p) (s.agent_of set) (λ agent desk d. d.set_pass) (λ agent desk d. d.set_agent) 0 desks h
+  pub set_passes : (desks : List (Desk P R)) → AreIdle q s queue rush set 0 desks → (none qs : List R) → none ≡ []
+      → qs ≡ none ++ map (λ (desk : Desk P R). desk.set) desks → ArePasses (λ p. s.usable set p) (s.agent_of set) (length desks) qs
+  set_passes = passes_there (λ (desk : Desk P R). desk.set) (λ p. s.usable set p) (s.agent_of set) (λ agent desk d. d.set_pass) (λ agent desk d. d.set_agent)
 
-  pub set_numbered : (desks : List (Desk P R)) → AreIdle q s queue rush set 0 desks → (i : ℕ) (p : R)
-      → i < length (map (λ (desk : Desk P R). desk.set) desks) → s.agent_of set (slice_index_or (map (λ (desk : Desk P R). desk.set) desks) i p) ≡ 0 + i
-  set_numbered desks h =
-      all_numbered (λ (desk : Desk P R). desk.set) (λ p. s.usable set p) (s.agent_of set) (λ agent desk d. d.set_pass) (λ agent desk d. d.set_agent) 0 desks h
-
--- what holds of each desk holds of its pass
-pub of_passes : {D X : Type 0} (pass : D → X) (T : D → Type 0) (P : X → Type 0) → ((desk : D) → T desk → P (pass desk)) → (desks : List D)
+of_each : {D X : Type 0} (pass : D → X) (T : D → Type 0) (P : X → Type 0) → ((desk : D) → T desk → P (pass desk)) → (desks : List D)
     → AllByRecursion T desks → AllByRecursion P (map pass desks)
-of_passes pass T P f [] h = tt
-of_passes pass T P f (desk ∷ desks) h = (f desk h.0, of_passes pass T P f desks h.1)
+of_each pass T P f [] h = tt
+of_each pass T P f (desk ∷ desks) h = (f desk h.0, of_each pass T P f desks h.1)
 
--- the passes ps of all desks, which were put behind none and are qs now, are all passes of a domain
+-- what holds of each desk holds of its pass, where these were put behind none
+of_passes : {D X : Type 0} (pass : D → X) (T : D → Type 0) (P : X → Type 0) → ((desk : D) → T desk → P (pass desk)) → (desks : List D)
+    → AllByRecursion T desks → (none qs : List X) → none ≡ [] → qs ≡ none ++ map pass desks → All P qs
+of_passes {D} {X} pass T P f desks h none qs nobody is =
+    subst (λ (xs : List X). All P xs) (sym (alone none _ qs nobody is)) (All-from_recursion P (map pass desks) (of_each pass T P f desks h))
+
+-- all passes of a queue, and of the set, have seen the same
+module _ {Q S P R A B : Type 0} (q : QueueOf Q P A) (s : SetOf S R B) (desks : List (Desk P R)) (same : HaveSeenTheSame q s desks) where
+  abbrev SawTheSame : Desk P R → Type 0
+  SawTheSame desk = ((b : Bool) → seen_in q desk b ≡ queue_seen q desks b) × (s.journal desk.set ≡ set_seen s desks)
+
+  pub queue_saw : (b : Bool) → (none qs : List P) → none ≡ [] → qs ≡ none ++ map (pass_at b) desks → All (λ p. q.journal p ≡ queue_seen q desks b) qs
+  queue_saw false = of_passes (pass_at false) SawTheSame (λ p. q.journal p ≡ queue_seen q desks false) (λ desk h. h.0 false) desks same
+  queue_saw true = of_passes (pass_at true) SawTheSame (λ p. q.journal p ≡ queue_seen q desks true) (λ desk h. h.0 true) desks same
+
+  pub set_saw : (none qs : List R) → none ≡ [] → qs ≡ none ++ map (λ (desk : Desk P R). desk.set) desks → All (λ p. s.journal p ≡ set_seen s desks) qs
+  set_saw = of_passes (λ (desk : Desk P R). desk.set) SawTheSame (λ p. s.journal p ≡ set_seen s desks) (λ desk h. h.1) desks same
+
+-- idle passes of a domain, as many as it has agents, are all of its passes
 module _ {D N : Type 0} {d : discipline.Ghosts D N} {m : machine.Ghosts Reclaiming N (MachineShape N) Request (Step N) Agent Agent}
-    (domain e : OrcDomain D N) (none ps qs : List (OrcPass D N (MachineShape N) Request (Step N) Agent Agent d m))
-    (same : e ≡ domain) (nobody : none ≡ []) (is : qs ≡ none ++ ps)
-    (usable : AllByRecursion (λ p. IsPassOf domain p × IsIdle (seat_of domain p)) ps)
+    (domain e : OrcDomain D N) (many : ℕ) (ps : List (OrcPass D N (MachineShape N) Request (Step N) Agent Agent d m)) (same : e ≡ domain)
+    (passes : ArePasses (λ p. IsPassOf domain p × IsIdle (seat_of domain p)) (λ p. (seat_of domain p).agent) many ps)
   where
-    abbrev Pass : Type 0
-    Pass = OrcPass D N (MachineShape N) Request (Step N) Agent Agent d m
-
-    alone : qs ≡ ps
-    alone = is ∙ ap (λ xs. xs ++ ps) nobody
-
-    each_usable : All (λ p. IsPassOf domain p × IsIdle (seat_of domain p)) ps
-    each_usable = All-from_recursion (λ p. IsPassOf domain p × IsIdle (seat_of domain p)) ps usable
-
-    pub are_all : ((i : ℕ) (p : Pass) → i < length ps → (seat_of domain (slice_index_or ps i p)).agent ≡ 0 + i) → length ps ≡ (domain_bounds domain).agents
-        → AreAll e qs
-    are_all numbered many =
+    pub are_all : many ≡ (domain_bounds domain).agents → AreAll e ps
+    are_all is =
         let all : AreAll domain ps = record {
-          many = many;
-          belong = λ i p low. (each_usable i p low).0;
-          order = λ i p low. let n = numbered i p low in omega (arith, n);
+          many = passes.many ∙ is;
+          belong = λ i p low. (passes.usable i p low).0;
+          order = passes.numbered;
         } in
-        subst (λ (x : OrcDomain D N). AreAll x qs) (sym same) (subst (λ (xs : List Pass). AreAll domain xs) (sym alone) all)
+        subst (λ (x : OrcDomain D N). AreAll x ps) (sym same) all
 
-    pub are_idle : AreIdlePasses e qs
+    pub are_idle : AreIdlePasses e ps
     are_idle =
-        let all : AreIdlePasses domain ps = λ i p low. (each_usable i p low).1 in
-        subst (λ (x : OrcDomain D N). AreIdlePasses x qs) (sym same) (subst (λ (xs : List Pass). AreIdlePasses domain xs) (sym alone) all)
-
-    pub have_seen : (seen : List (Step N)) → AllByRecursion (λ p. journal_of p ≡ seen) ps → All (λ p. journal_of p ≡ seen) qs
-    have_seen seen journals =
-        subst (λ (xs : List Pass). All (λ p. journal_of p ≡ seen) xs) (sym alone) (All-from_recursion (λ p. journal_of p ≡ seen) ps journals)
+        let all : AreIdlePasses domain ps = λ i p low. (passes.usable i p low).1 in
+        subst (λ (x : OrcDomain D N). AreIdlePasses x ps) (sym same) all
 
 -- what was left of the same domain
 pub left_of : {D N : Type 0} {d : discipline.Ghosts D N} {m : machine.Ghosts Reclaiming N (MachineShape N) Request (Step N) Agent Agent}

@@ -5,18 +5,21 @@ use Rattle.orc_heap.specs.declared.seed.Seed.{Seed}
 use Rattle.orc_heap.specs.declared.seed.Seed.TheVariants.{Dummy, Empty}
 use Rattle.orc_fifo_rule.specs.declared.fifo.FifoNote.{FifoNote}
 use Rattle.orc_fifo_rule.specs.declared.fifo.FifoNote.TheVariants.{Begin}
-use Rattle.orc_chain_rule.specs.declared.chain.ChainNote.{ChainNote}
 
 -- the sizes of a domain with so many rows, roots and agents
 abbrev pub run_bounds : ℕ → ℕ → ℕ → Bounds
 run_bounds rows roots agents = record { rows = rows; roots = roots; agents = agents; limit = 2 ^ 39; links = 1 }
 
--- the queue begins with a dummy, whose successor gets position 0, and the set with nothing
+-- to how many buckets a split-ordered set grows at most
+abbrev pub most_buckets : ℕ
+most_buckets = 256
+
+-- the queue begins with a dummy, whose successor gets position 0, and a set with nothing
 abbrev pub queue_seed : Seed FifoNote
 queue_seed = Dummy 0 Begin
 
-abbrev pub set_seed : Seed ChainNote
-set_seed = Empty
+abbrev pub empty_seed : {N : Type 0} → Seed N
+empty_seed = Empty
 
 -- the caller, the posters and the takers
 abbrev pub agents_of : ℕ → ℕ → ℕ

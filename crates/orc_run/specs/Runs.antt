@@ -1,5 +1,5 @@
 -- What a run leaves: one journal for each container, and replies that follow all three.
-use Rattle.std.specs.Prelude.{ℕ, List}
+use Rattle.std.specs.Prelude.{Bool, List, ℕ}
 use Rattle.orc_words.specs.Bounds.{Bounds}
 use Rattle.orc_core.specs.declared.records.Agent.{Agent}
 use Rattle.orc_sound.specs.declared.steps.Step.{Step}
@@ -10,25 +10,30 @@ use Rattle.orc_machine_board.specs.declared.machine.Reclaiming.{Reclaiming}
 use Rattle.orc_machine_board.specs.declared.machine.Request.{Request}
 use Rattle.orc_fifo_rule.specs.QueueDiscipline.{FifoMay}
 use Rattle.orc_fifo_rule.specs.declared.fifo.FifoNote.{FifoNote}
-use Rattle.orc_chain_rule.specs.ChainDiscipline.{ChainMay}
-use Rattle.orc_chain_rule.specs.declared.chain.ChainNote.{ChainNote}
+use Rattle.orc_history.specs.declared.set.ListRefused.{ListRefused}
+use Rattle.orc_history.specs.declared.set.SetEntry.{SetEntry}
 use Rattle.orc_reclaiming_domain.specs.Rest.{rest_journal}
 use Rattle.orc_reclaiming_domain.specs.declared.at_rest.OrcRest.{OrcRest}
 use Rattle.orc_jobs.specs.declared.line.Line.{Line}
 use Rattle.orc_board.specs.Runs.{Ran}
-use Rattle.orc_board.specs.Stretches.{pick}
+use Rattle.orc_board.specs.Stretches.{View, pick}
+use Rattle.orc_board.specs.declared.replies.Replies.{Replies}
 use Rattle.orc_run.specs.declared.run.Finished.{Finished}
-use Rattle.orc_run.specs.Containers.{queue_over, set_over}
-use Rattle.orc_run.specs.Domains.{agents_of, queue_seed, run_bounds, set_seed}
+use Rattle.orc_run.specs.declared.set.SetChoice.{SetChoice}
+use Rattle.orc_run.specs.declared.set.SetRest.{SetRest}
+use Rattle.orc_run.specs.declared.set.SetRest.TheVariants as at_rest
+use Rattle.orc_run.specs.Containers.{queue_over, set_over, split_over}
+use Rattle.orc_run.specs.Domains.{agents_of, queue_seed, run_bounds}
 use Rattle.orc_run.specs.Journals.{HasJournal}
 use Rattle.orc_run.specs.Reuse.{LeaksNothing, ReusesSafely}
+use Rattle.orc_run.specs.Sets.{HasSetJournal, SetLeaksNothing, SetReusesSafely, set_roots}
 
--- the sizes of each queue's domain, and of the set's, in a run of so many posters and takers with so many rows and buckets
+-- the sizes of each queue's domain, and of the set's, in a run of so many posters and takers with so many rows
 abbrev pub queue_bounds : ℕ → ℕ → ℕ → Bounds
 queue_bounds posters takers rows = run_bounds rows 2 (agents_of posters takers)
 
-abbrev pub set_bounds : ℕ → ℕ → ℕ → ℕ → Bounds
-set_bounds posters takers rows buckets = run_bounds rows buckets (agents_of posters takers)
+abbrev pub set_bounds : ℕ → ℕ → ℕ → SetChoice → Bounds
+set_bounds posters takers rows set = run_bounds rows (set_roots set) (agents_of posters takers)
 
 module _ {D : Type 0} {d : discipline.Ghosts D FifoNote}
     {m : machine.Ghosts Reclaiming FifoNote (MachineShape FifoNote) Request (Step FifoNote) Agent Agent}
@@ -37,12 +42,11 @@ module _ {D : Type 0} {d : discipline.Ghosts D FifoNote}
     abbrev pub HasQueueJournal : Bounds → OrcRest D FifoNote d m → Type 0
     HasQueueJournal b r = HasJournal FifoMay b queue_seed r
 
-module _ {D : Type 0} {d : discipline.Ghosts D ChainNote}
-    {m : machine.Ghosts Reclaiming ChainNote (MachineShape ChainNote) Request (Step ChainNote) Agent Agent}
-  where
-    -- the journal of a set over a domain of these sizes, which obeys the chain discipline
-    abbrev pub HasSetJournal : Bounds → OrcRest D ChainNote d m → Type 0
-    HasSetJournal b r = HasJournal ChainMay b set_seed r
+    -- the replies follow the journals of both queues and this journal of a set, whose histories are legal and leave both queues empty
+    abbrev pub Follow : {B : Type 0} → List Line → ℕ → ℕ → ℕ → Replies → (queue rush : OrcRest D FifoNote d m) → View B SetEntry ListRefused → List B → Type 0
+    Follow lines posters takers rows replies queue rush set journal =
+        Ran (λ rush_too. queue_over 0 (queue_bounds posters takers rows)) set lines posters takers
+        replies.posts.items replies.takes.items (λ rush_too. rest_journal (pick queue rush rush_too)) journal
 
 module _ {D N : Type 0} {d : discipline.Ghosts D N} {m : machine.Ghosts Reclaiming N (MachineShape N) Request (Step N) Agent Agent} where
   -- no row of the journal was used again while it was linked or held, nor twice
@@ -53,9 +57,20 @@ module _ {D N : Type 0} {d : discipline.Ghosts D N} {m : machine.Ghosts Reclaimi
   abbrev pub EndsWithoutLeak : Bounds → OrcRest D N d m → Type 0
   EndsWithoutLeak b r = LeaksNothing b (rest_journal r)
 
--- the replies of so many posters and takers over containers of so many rows and buckets follow the three journals, whose histories
--- are legal and leave both queues empty
-abbrev pub RepliesFollow : List Line → ℕ → ℕ → ℕ → ℕ → Finished → Type 0
-RepliesFollow lines posters takers rows buckets f =
-    Ran (λ rush. queue_over 0 (queue_bounds posters takers rows)) (set_over (set_bounds posters takers rows buckets)) lines posters takers
-    f.replies.posts.items f.replies.takes.items (λ rush. rest_journal (pick f.queue f.rush rush)) (rest_journal f.set)
+-- the replies follow the journals of both queues and of the set that was left
+abbrev pub FollowWith : List Line → ℕ → ℕ → ℕ → Bounds → Finished → SetRest → Type 0
+FollowWith lines posters takers rows b f (at_rest.Lists r) = Follow lines posters takers rows f.replies f.queue f.rush (set_over b) (rest_journal r)
+FollowWith lines posters takers rows b f (at_rest.Split r) = Follow lines posters takers rows f.replies f.queue f.rush (split_over b) (rest_journal r)
+
+-- So many posters and takers worked through these lines, over containers of so many rows, with the set that was chosen. The journals
+-- that were left, of the queue, of the rush queue and of the set, are the actual ones of their three domains. The replies follow them:
+-- each worker's calls stand in them once and in its order, the histories are those of one thread, and each job that was put was taken,
+-- with one reply. No row was used again while it was linked or held, nor twice; and at the end what was given was freed or is linked.
+pub record WorkedThrough (lines : List Line) (posters takers rows : ℕ) (set : SetChoice) (f : Finished) : Type 0 where
+  pub queue_journals : (rush : Bool) → HasQueueJournal (queue_bounds posters takers rows) (pick f.queue f.rush rush)
+  pub set_journal : HasSetJournal set (set_bounds posters takers rows set) f.set
+  pub replies : FollowWith lines posters takers rows (set_bounds posters takers rows set) f f.set
+  pub queues_reuse : (rush : Bool) → ReusesRowsSafely (queue_bounds posters takers rows) (pick f.queue f.rush rush)
+  pub set_reuse : SetReusesSafely (set_bounds posters takers rows set) f.set
+  pub queues_rest : (rush : Bool) → EndsWithoutLeak (queue_bounds posters takers rows) (pick f.queue f.rush rush)
+  pub set_rest : SetLeaksNothing (set_bounds posters takers rows set) f.set

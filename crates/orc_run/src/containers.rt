@@ -1,13 +1,14 @@
 //! The containers of a run, and their passes.
 
-ghost use Rattle.std.specs.Prelude.{◌≡◌, ◌<◌, ◌≤◌, ℕ, [], All, IfOk, length, slice_index_or};
+ghost use Rattle.std.specs.Prelude.{◌≡◌, ◌+◌, ◌<◌, ◌≤◌, ℕ, [], All, IfOk, length, slice_index_or};
 ghost use Rattle.orc_words.specs.Bounds.{bounds_of};
 ghost use Rattle.orc_machine_board.specs.Views.{board_seed};
 ghost use Rattle.orc_reclaiming_domain.specs.Passes.{domain_bounds};
-ghost use Rattle.orc_run.specs.Domains.{queue_seed, run_bounds, set_seed};
+ghost use Rattle.orc_run.specs.Domains.{empty_seed, most_buckets, queue_seed, run_bounds};
 
+use crate::lists::{ListsPass, RunLists};
 use crate::queue::{QueuePass, RunQueue};
-use crate::set::{RunSet, SetPass};
+use crate::split::{RunSplit, SplitPass};
 use orc_fault::NoMemory;
 use orc_fifo_rule::FifoNote;
 use orc_heap::Seed;
@@ -16,16 +17,20 @@ use orc_list::List;
 use orc_queue::Queue;
 use orc_reclaiming_domain::OrcDomain;
 use orc_set::Set;
+use orc_split_set::SplitSet;
 use orc_words::Shape;
 use std::alloc::Global;
 
 /// From which life or sequence on a row is taken no more.
 const LIMIT: u64 = 549_755_813_888;
 
+/// To how many buckets a split-ordered set grows at most.
+const MOST_BUCKETS: u32 = 256;
+
 // The shape of a domain with so many rows, roots and agents.
 fn shape_of(rows: u32, roots: u32, agents: u32) -> Shape
     requires rows { (2 ≤ rows) × (rows ≤ 65535) }
-    requires roots { (1 ≤ roots) × (roots ≤ 256) }
+    requires roots { (1 ≤ roots) × (roots ≤ 257) }
     requires agents { (1 ≤ agents) × (agents ≤ 16) }
     ensures { bounds_of result ≡ run_bounds rows roots agents }
 {
@@ -64,26 +69,50 @@ pub(crate) fn make_queue(
 }
 
 // Makes an empty set of so many rows and buckets, and a pass for each agent, in order.
-pub(crate) fn make_set(
+pub(crate) fn make_lists(
     alloc: Global,
     rows: u32,
     buckets: u32,
     agents: u32,
-) -> Result<(RunSet, Vec<SetPass>), NoMemory>
+) -> Result<(RunLists, Vec<ListsPass>), NoMemory>
     requires rows { (2 ≤ rows) × (rows ≤ 65535) }
     requires buckets { (1 ≤ buckets) × (buckets ≤ 256) }
     requires agents { (1 ≤ agents) × (agents ≤ 16) }
-    ensures usable { IfOk result (λ made. All (λ p. ⟦<RunSet as SharedSet>⟧.usable made.0 p) made.1.items) }
+    ensures usable { IfOk result (λ made. All (λ p. ⟦<RunLists as SharedSet>⟧.usable made.0 p) made.1.items) }
     ensures numbered { IfOk result (λ made. (i : ℕ) (p : _) → i < length made.1.items
-        → ⟦<RunSet as SharedSet>⟧.agent_of made.0 (slice_index_or made.1.items i p) ≡ i) }
+        → ⟦<RunLists as SharedSet>⟧.agent_of made.0 (slice_index_or made.1.items i p) ≡ i) }
     ensures passes { IfOk result (λ made. length made.1.items ≡ agents) }
-    ensures fresh { IfOk result (λ made. All (λ p. ⟦<RunSet as SharedSet>⟧.history made.0
-        (⟦<RunSet as SharedSet>⟧.journal p) ≡ []) made.1.items) }
-    ensures agents { IfOk result (λ made. ⟦<RunSet as LearnSet>⟧.agents made.0 ≡ agents) }
+    ensures fresh { IfOk result (λ made. All (λ p. ⟦<RunLists as SharedSet>⟧.history made.0
+        (⟦<RunLists as SharedSet>⟧.journal p) ≡ []) made.1.items) }
+    ensures agents { IfOk result (λ made. ⟦<RunLists as LearnSet>⟧.agents made.0 ≡ agents) }
     ensures bounds { IfOk result (λ made. domain_bounds made.0.set.list.links ≡ run_bounds rows buckets agents) }
-    ensures seed { IfOk result (λ made. board_seed made.0.set.list.links.board ≡ set_seed) }
+    ensures seed { IfOk result (λ made. board_seed made.0.set.list.links.board ≡ empty_seed) }
 {
     let (domain, passes) = OrcDomain::make(alloc, &shape_of(rows, buckets, agents), Seed::Empty)?;
     let set = Set::new(List::new(domain), buckets);
-    Ok((RunSet { set }, passes))
+    Ok((RunLists { set }, passes))
+}
+
+// Makes an empty split-ordered set of so many rows, and a pass for each agent, in order.
+pub(crate) fn make_split(
+    alloc: Global,
+    rows: u32,
+    agents: u32,
+) -> Result<(RunSplit, Vec<SplitPass>), NoMemory>
+    requires rows { (2 ≤ rows) × (rows ≤ 65535) }
+    requires agents { (1 ≤ agents) × (agents ≤ 16) }
+    ensures usable { IfOk result (λ made. All (λ p. ⟦<RunSplit as SharedSet>⟧.usable made.0 p) made.1.items) }
+    ensures numbered { IfOk result (λ made. (i : ℕ) (p : _) → i < length made.1.items
+        → ⟦<RunSplit as SharedSet>⟧.agent_of made.0 (slice_index_or made.1.items i p) ≡ i) }
+    ensures passes { IfOk result (λ made. length made.1.items ≡ agents) }
+    ensures fresh { IfOk result (λ made. All (λ p. ⟦<RunSplit as SharedSet>⟧.history made.0
+        (⟦<RunSplit as SharedSet>⟧.journal p) ≡ []) made.1.items) }
+    ensures agents { IfOk result (λ made. ⟦<RunSplit as LearnSet>⟧.agents made.0 ≡ agents) }
+    ensures bounds { IfOk result (λ made. domain_bounds made.0.set.links ≡ run_bounds rows (most_buckets + 1) agents) }
+    ensures seed { IfOk result (λ made. board_seed made.0.set.links.board ≡ empty_seed) }
+{
+    let shape = shape_of(rows, MOST_BUCKETS + 1, agents);
+    let (domain, passes) = OrcDomain::make(alloc, &shape, Seed::Empty)?;
+    let set = SplitSet::new(domain, MOST_BUCKETS);
+    Ok((RunSplit { set }, passes))
 }

@@ -1,6 +1,6 @@
-//! The domains of a run are brought to rest.
+//! The passes of a run are taken from their desks, and its domains are brought to rest.
 
-ghost use Rattle.std.specs.Prelude.{◌≡◌, ◌≤◌, [], All, List, false, length, true, vec_capacity};
+ghost use Rattle.std.specs.Prelude.{◌≡◌, ◌<◌, ◌≤◌, ℕ, [], All, List, false, length, slice_index_or, true, vec_capacity};
 ghost use mathlib.Core.List.{IsPrefix};
 ghost use Rattle.orc_machine_board.specs.Rules.{run_of};
 ghost use Rattle.orc_projection.specs.Projection.{project};
@@ -14,20 +14,18 @@ ghost use Rattle.orc_workers.specs.Desks.{AreIdle as AreIdleDesks, HaveSeenTheSa
 
 use crate::desks::{Passes, passes_apart};
 use crate::queue::{QueuePass, RunQueue};
-use crate::set::{RunSet, SetPass};
 use orc_board::Desk;
-use orc_chain_rule::Chain;
 use orc_fifo_rule::Fifo;
 use orc_heap::Discipline;
 use orc_history::{SharedQueue, SharedSet};
 use orc_reclaiming_domain::{OrcDomain, OrcPass, OrcRest};
 
-/// The domains of all containers at rest.
+/// Both queues at rest, and the passes of the set.
 #[derive(Drop)]
-pub(crate) struct Ends {
+pub(crate) struct Ends<B> {
     pub(crate) queue: OrcRest<Fifo>,
     pub(crate) rush: OrcRest<Fifo>,
-    pub(crate) set: OrcRest<Chain>,
+    pub(crate) set: Vec<B>,
 }
 
 // Lets all passes of a domain drain, and ends the sharing. What was seen goes on without an event.
@@ -61,36 +59,38 @@ fn drain_passes<D: Discipline>(domain: &OrcDomain<D>, passes: &mut Vec<OrcPass<D
     domain.drain_all(passes.as_mut_slice());
 }
 
-// Ends a run whose passes have all seen the same journals: takes them from their desks, and brings all three domains to rest. It
-// takes no memory.
-pub(crate) fn end_run(
+// Takes the passes, which have all seen the same journals, from their desks, and brings the domains of both queues to rest. It takes
+// no memory.
+pub(crate) fn end_queues<S: SharedSet>(
     queue: RunQueue,
     rush: RunQueue,
-    set: RunSet,
-    desks: Vec<Desk<QueuePass, SetPass>>,
-    mut passes: Passes<QueuePass, SetPass>,
-) -> Ends
-    requires idle { AreIdleDesks ⟦<RunQueue as SharedQueue>⟧ ⟦<RunSet as SharedSet>⟧ queue rush set 0 desks.items }
-    requires seen { HaveSeenTheSame ⟦<RunQueue as SharedQueue>⟧ ⟦<RunSet as SharedSet>⟧ desks.items }
+    set: &S,
+    desks: Vec<Desk<QueuePass, S::Pass>>,
+    mut passes: Passes<QueuePass, S::Pass>,
+) -> Ends<S::Pass>
+    requires idle { AreIdleDesks ⟦<RunQueue as SharedQueue>⟧ S.SharedSet queue rush set.now 0 desks.items }
+    requires seen { HaveSeenTheSame ⟦<RunQueue as SharedQueue>⟧ S.SharedSet desks.items }
     requires all { (length desks.items ≡ (domain_bounds queue.queue.links).agents)
-        × (length desks.items ≡ (domain_bounds rush.queue.links).agents)
-        × (length desks.items ≡ (domain_bounds set.set.list.links).agents) }
+        × (length desks.items ≡ (domain_bounds rush.queue.links).agents) }
     requires none { (passes.queue.items ≡ []) × (passes.rush.items ≡ []) × (passes.set.items ≡ []) }
     requires room { (length desks.items ≤ vec_capacity passes.queue) × (length desks.items ≤ vec_capacity passes.rush)
         × (length desks.items ≤ vec_capacity passes.set) }
     ensures queue { IsLeft queue.queue.links (queue_seen ⟦<RunQueue as SharedQueue>⟧ desks.items false) result.queue }
     ensures rush { IsLeft rush.queue.links (queue_seen ⟦<RunQueue as SharedQueue>⟧ desks.items true) result.rush }
-    ensures set { IsLeft set.set.list.links (set_seen ⟦<RunSet as SharedSet>⟧ desks.items) result.set }
+    ensures set_usable { All (λ p. S.usable set.now p) result.set.items }
+    ensures set_numbered { (i : ℕ) (p : S.Pass) → i < length result.set.items → S.agent_of set.now (slice_index_or result.set.items i p) ≡ i }
+    ensures set_passes { length result.set.items ≡ length desks.items }
+    ensures set_seen { All (λ p. S.journal p ≡ set_seen S.SharedSet desks.items) result.set.items }
 {
     passes_apart(desks, &mut passes);
     let Passes {
         queue: queue_passes,
         rush: rush_passes,
-        set: set_passes,
+        set,
     } = passes;
     Ends {
         queue: bring_to_rest(queue.into_links(), queue_passes),
         rush: bring_to_rest(rush.into_links(), rush_passes),
-        set: bring_to_rest(set.into_links(), set_passes),
+        set,
     }
 }

@@ -1,21 +1,20 @@
 //! The whole run.
 
-ghost use Rattle.std.specs.Prelude.{◌≤◌, Bool, IfOk};
+ghost use Rattle.std.specs.Prelude.{◌≤◌, IfOk};
 ghost use Rattle.orc_jobs.specs.GoodLines.{AreGood};
-ghost use Rattle.orc_board.specs.Stretches.{pick};
-ghost use Rattle.orc_run.specs.Runs.{EndsWithoutLeak, HasQueueJournal, HasSetJournal, RepliesFollow, ReusesRowsSafely};
-ghost use Rattle.orc_run.specs.Runs.{queue_bounds, set_bounds};
+ghost use Rattle.orc_run.specs.Runs.{WorkedThrough};
+ghost use Rattle.orc_run.specs.Sets.{IsInRange};
+ghost use Rattle.orc_run.specs.declared.set.SetChoice.{SetChoice};
 
-use crate::containers::{make_queue, make_set};
-use crate::desks::room_for_passes;
-use crate::ending::{Ends, end_run};
+use crate::containers::{make_lists, make_split};
+use crate::ending::bring_to_rest;
+use crate::set::{SetChoice, SetRest};
+use crate::work::{Worked, work};
 use orc_board::{Gate, Replies};
-use orc_chain_rule::Chain;
 use orc_fault::NoMemory;
 use orc_fifo_rule::Fifo;
 use orc_jobs::Lines;
 use orc_reclaiming_domain::OrcRest;
-use orc_workers::{fresh_desks, run_at_desks};
 use std::alloc::Global;
 use std::sync::Wait;
 use std::thread::Threads;
@@ -26,18 +25,44 @@ use std::thread::Threads;
 pub struct Finished {
     pub queue: OrcRest<Fifo>,
     pub rush: OrcRest<Fifo>,
-    pub set: OrcRest<Chain>,
+    pub set: SetRest,
     pub replies: Replies,
 }
 
 /// Works through these lines with 1 to 8 posters and 0 to 7 takers, each on a thread of its own where one can be started,
-/// over a queue, a rush queue and a set of 2 to 65,535 rows each, the set in 1 to 256 buckets. Then the caller takes what is left,
-/// and all three domains are brought to rest.
+/// over a queue, a rush queue and the chosen set of 2 to 65,535 rows each. Then the caller takes what is left, and all three
+/// domains are brought to rest.
 ///
 /// # Errors
 ///
 /// `NoMemory` where memory is refused. All of it is taken before the first worker starts.
 pub fn run_lines<R: Threads + Wait + Sync, G: Gate + Sync>(
+    rt: &R,
+    alloc: Global,
+    lines: &Lines,
+    posters: u32,
+    takers: u32,
+    rows: u32,
+    set: SetChoice,
+    gate: &G,
+) -> Result<Finished, NoMemory>
+    requires good { AreGood lines.now }
+    requires posters { (1 ≤ posters) × (posters ≤ 8) }
+    requires takers { takers ≤ 7 }
+    requires rows { (2 ≤ rows) × (rows ≤ 65535) }
+    requires set { IsInRange set }
+    ensures { IfOk result (λ f. WorkedThrough lines.now posters takers rows set f) }
+{
+    match set {
+        SetChoice::Lists(buckets) => {
+            run_over_lists(rt, alloc, lines, posters, takers, rows, buckets, gate)
+        }
+        SetChoice::Split => run_over_split(rt, alloc, lines, posters, takers, rows, gate),
+    }
+}
+
+// The run over a set in so many buckets.
+fn run_over_lists<R: Threads + Wait + Sync, G: Gate + Sync>(
     rt: &R,
     alloc: Global,
     lines: &Lines,
@@ -52,36 +77,50 @@ pub fn run_lines<R: Threads + Wait + Sync, G: Gate + Sync>(
     requires takers { takers ≤ 7 }
     requires rows { (2 ≤ rows) × (rows ≤ 65535) }
     requires buckets { (1 ≤ buckets) × (buckets ≤ 256) }
-    ensures replies { IfOk result (λ f. RepliesFollow lines.now posters takers rows buckets f) }
-    ensures queue_journals { IfOk result (λ f. (rush : Bool) → HasQueueJournal (queue_bounds posters takers rows) (pick f.queue f.rush rush)) }
-    ensures set_journal { IfOk result (λ f. HasSetJournal (set_bounds posters takers rows buckets) f.set) }
-    ensures queues_reuse { IfOk result (λ f. (rush : Bool) → ReusesRowsSafely (queue_bounds posters takers rows) (pick f.queue f.rush rush)) }
-    ensures set_reuse { IfOk result (λ f. ReusesRowsSafely (set_bounds posters takers rows buckets) f.set) }
-    ensures queues_rest { IfOk result (λ f. (rush : Bool) → EndsWithoutLeak (queue_bounds posters takers rows) (pick f.queue f.rush rush)) }
-    ensures set_rest { IfOk result (λ f. EndsWithoutLeak (set_bounds posters takers rows buckets) f.set) }
+    ensures { IfOk result (λ f. WorkedThrough lines.now posters takers rows (SetChoice.Lists buckets) f) }
 {
-    let agents = 1 + posters + takers;
-    let (queue, queue_passes) = make_queue(alloc, rows, agents)?;
-    let (rush, rush_passes) = make_queue(alloc, rows, agents)?;
-    let (set, set_passes) = make_set(alloc, rows, buckets, agents)?;
-    let passes = room_for_passes(alloc, agents as usize)?;
-    let mut desks = fresh_desks(
-        alloc,
-        &queue,
-        &rush,
-        &set,
-        queue_passes,
-        rush_passes,
-        set_passes,
-    )?;
-    let replies = run_at_desks(
-        rt, alloc, lines, posters, takers, &queue, &rush, &set, &mut desks, gate,
-    )?;
-    let Ends { queue, rush, set } = end_run(queue, rush, set, desks, passes);
+    let (set, passes) = make_lists(alloc, rows, buckets, 1 + posters + takers)?;
+    let Worked {
+        queue,
+        rush,
+        set: passes,
+        replies,
+    } = work(rt, alloc, lines, posters, takers, rows, &set, passes, gate)?;
     Ok(Finished {
         queue,
         rush,
-        set,
+        set: SetRest::Lists(bring_to_rest(set.into_links(), passes)),
+        replies,
+    })
+}
+
+// The run over a split-ordered set.
+fn run_over_split<R: Threads + Wait + Sync, G: Gate + Sync>(
+    rt: &R,
+    alloc: Global,
+    lines: &Lines,
+    posters: u32,
+    takers: u32,
+    rows: u32,
+    gate: &G,
+) -> Result<Finished, NoMemory>
+    requires good { AreGood lines.now }
+    requires posters { (1 ≤ posters) × (posters ≤ 8) }
+    requires takers { takers ≤ 7 }
+    requires rows { (2 ≤ rows) × (rows ≤ 65535) }
+    ensures { IfOk result (λ f. WorkedThrough lines.now posters takers rows SetChoice.Split f) }
+{
+    let (set, passes) = make_split(alloc, rows, 1 + posters + takers)?;
+    let Worked {
+        queue,
+        rush,
+        set: passes,
+        replies,
+    } = work(rt, alloc, lines, posters, takers, rows, &set, passes, gate)?;
+    Ok(Finished {
+        queue,
+        rush,
+        set: SetRest::Split(bring_to_rest(set.into_links(), passes)),
         replies,
     })
 }

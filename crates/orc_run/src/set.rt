@@ -1,105 +1,58 @@
-//! The set of a run.
+//! The sets that a run can have.
 
-ghost use Rattle.std.specs.Prelude.{◌≡◌, refl};
-ghost use Rattle.orc_list.specs.Laws.SetLaws.{cause_stays, entries_below, history_grows, seen_legal};
-ghost use Rattle.orc_projection.specs.Projection.{project};
-ghost use Rattle.orc_reclaiming_domain.specs.Causes.{IsLacking, IsWornIn};
-ghost use Rattle.orc_reclaiming_domain.specs.Laws.Adding.{one_more};
-ghost use Rattle.orc_reclaiming_domain.specs.Laws.Lasting.{lacking_later, worn_later};
-ghost use Rattle.orc_reclaiming_domain.specs.Laws.Passes.{all_allowed, all_below, all_obey};
-ghost use Rattle.orc_reclaiming_domain.specs.Passes.{domain_bounds, domain_numbers, journal_of, seat_of};
+ghost use Rattle.std.specs.Prelude.{◌≡◌};
+ghost use Rattle.orc_run.specs.Sets.{set_given, set_linked, set_reused};
 
-use orc_chain_rule::{Chain, ChainNote};
-use orc_fault::Again;
-use orc_history::{LearnSet, ListRefused, SharedSet};
-use orc_reclaiming_domain::{OrcDomain, OrcPass};
-use orc_set::Set;
-use orc_sound::Step;
+use orc_chain_rule::Chain;
+use orc_reclaiming_domain::OrcRest;
+use orc_split_rule::Split;
 
-/// A set over a reclaiming domain, each bucket of which is one of Harris's lists.
-pub(crate) type OrcSet = Set<OrcDomain<Chain>>;
+/// Which set a run has.
+#[derive(Clone, Copy, Debug, PartialEq, Eq, Drop)]
+pub enum SetChoice {
+    /// So many of Harris's lists, 1 to 256: an id stands in that of its remainder.
+    Lists(u32),
+    /// Shalev and Shavit's split-ordered set, which doubles its buckets up to 256.
+    Split,
+}
 
-/// An agent's pass to it.
-pub(crate) type SetPass = OrcPass<Chain>;
-
-/// The set of a run. All its calls are those of the set over the reclaiming domain; this type has no parameters, which keeps
-/// the proofs of what runs on threads small.
+/// The domain of a run's set at rest, with the journal of all that happened on it.
 #[derive(Drop)]
-pub(crate) struct RunSet {
-    pub(crate) set: OrcSet,
+pub enum SetRest {
+    /// Of lists.
+    Lists(OrcRest<Chain>),
+    /// Of a split-ordered set.
+    Split(OrcRest<Split>),
 }
 
-impl RunSet {
-    // Gives the set up for its domain.
-    pub(crate) fn into_links(self) -> OrcDomain<Chain>
-        ensures { result ≡ self.set.list.links }
+impl SetRest {
+    /// How many rows were given, each as often as it was.
+    pub fn given(&self) -> u64
+        ensures { result ≡ set_given self.now }
     {
-        let RunSet { set } = self;
-        set.into_links()
-    }
-}
-
-impl SharedSet for RunSet {
-    type Pass = SetPass;
-
-    type Step = Step<ChainNote>;
-
-    ghost agent_of = { λ s p. ⟦<OrcSet as SharedSet>⟧.agent_of s.set p };
-
-    ghost journal = { λ p. ⟦<OrcSet as SharedSet>⟧.journal p };
-
-    ghost history = { λ s journal. ⟦<OrcSet as SharedSet>⟧.history s.set journal };
-
-    ghost usable = { λ s p. ⟦<OrcSet as SharedSet>⟧.usable s.set p };
-
-    ghost crowd = { λ s agent. ⟦<OrcSet as SharedSet>⟧.crowd s.set agent };
-
-    ghost licence = { λ s agent turns why journal from to.
-        ⟦<OrcSet as SharedSet>⟧.licence s.set agent turns why journal from to };
-
-    ghost legal = { λ s p h. seen_legal (domain_numbers s.set.list.links) (seat_of s.set.list.links p).seen
-        (project (domain_bounds s.set.list.links) (journal_of p)) (all_obey s.set.list.links p h.0) refl };
-
-    ghost licence_stays = { λ s agent turns why seen more from to h.
-        cause_stays (domain_numbers s.set.list.links) (λ x. x.agent) (λ j. project (domain_bounds s.set.list.links) j)
-        (IsLacking (domain_bounds s.set.list.links) agent seen from to) _
-        (λ spent. IsWornIn (domain_bounds s.set.list.links) agent spent seen from to) _ agent turns why seen more from to
-        (lacking_later (domain_bounds s.set.list.links) agent seen more from to)
-        (λ spent. worn_later (domain_bounds s.set.list.links) agent spent seen more from to) h };
-
-    ghost grows = { λ s seen more. history_grows (λ x. x.agent) (λ j. project (domain_bounds s.set.list.links) j)
-        (λ j x. one_more (domain_bounds s.set.list.links) j x) seen more };
-
-    fn agent(&self, p: &SetPass) -> u32 {
-        self.set.agent(p)
+        match self {
+            SetRest::Lists(rest) => rest.given(),
+            SetRest::Split(rest) => rest.given(),
+        }
     }
 
-    fn insert(&self, p: &mut SetPass, key: u64, turns: u64) -> Result<bool, ListRefused> {
-        self.set.insert(p, key, turns)
+    /// How many rows were freed, to be given again, each as often as it was.
+    pub fn reused(&self) -> u64
+        ensures { result ≡ set_reused self.now }
+    {
+        match self {
+            SetRest::Lists(rest) => rest.reused(),
+            SetRest::Split(rest) => rest.reused(),
+        }
     }
 
-    fn remove(&self, p: &mut SetPass, key: u64, turns: u64) -> Result<bool, Again> {
-        self.set.remove(p, key, turns)
+    /// How many rows are out.
+    pub fn linked(&self) -> u32
+        ensures { result ≡ set_linked self.now }
+    {
+        match self {
+            SetRest::Lists(rest) => rest.linked(),
+            SetRest::Split(rest) => rest.linked(),
+        }
     }
-
-    fn contains(&self, p: &mut SetPass, key: u64, turns: u64) -> Result<bool, Again> {
-        self.set.contains(p, key, turns)
-    }
-}
-
-impl LearnSet for RunSet {
-    ghost agents = { λ s. ⟦<OrcSet as LearnSet>⟧.agents s.set };
-
-    fn learn(&self, into: &mut SetPass, from: &mut SetPass) {
-        self.set.learn(into, from);
-    }
-
-    ghost agents_below = { λ s p h. (
-      (all_below s.set.list.links p h.0).0,
-      entries_below (domain_numbers s.set.list.links) (domain_bounds s.set.list.links).agents (seat_of s.set.list.links p).seen
-          (project (domain_bounds s.set.list.links) (journal_of p)) (all_allowed s.set.list.links p h.0)
-          (all_below s.set.list.links p h.0).1 refl,
-    ) };
-
-    ghost crowd_below = { λ s agent below. below };
 }

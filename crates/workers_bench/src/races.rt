@@ -9,7 +9,7 @@ use crate::plain::{ROWS, queue_over, set_over};
 use orc_board::OpenGate;
 use orc_history::LearnQueue;
 use orc_jobs::Lines;
-use orc_run::run_lines;
+use orc_run::{SetChoice, run_lines};
 use std::alloc::Global;
 use std::io;
 use std::sync::Wait;
@@ -127,7 +127,8 @@ fn jobs_on_reclaiming<R: Threads + Wait + Sync>(
     requires posters { (1 ≤ posters) × (posters ≤ 8) × (takers ≤ 7) }
     requires buckets { (1 ≤ buckets) × (buckets ≤ 256) }
 {
-    match run_lines(rt, alloc, lines, posters, takers, ROWS, buckets, &OpenGate) {
+    let set = SetChoice::Lists(buckets);
+    match run_lines(rt, alloc, lines, posters, takers, ROWS, set, &OpenGate) {
         Ok(finished) => Some(finished.replies.takes.len() as u64),
         Err(_) => None,
     }

@@ -1,7 +1,7 @@
 //! Words that give settings, and words that are refused.
 
 use orc_fault::NoMemory;
-use orc_options::{CommandWords, Mode, Refused, Settings, settings_of};
+use orc_options::{CommandWords, Mode, Refused, SetKind, Settings, settings_of};
 use std::alloc::Global;
 use std::test::Fail;
 
@@ -20,6 +20,7 @@ const DEFAULTS: Settings = Settings {
     posters: 1,
     takers: 0,
     rows: 65535,
+    set: SetKind::List,
     buckets: 16,
     rest: false,
     seed: 1,
@@ -28,7 +29,7 @@ const DEFAULTS: Settings = Settings {
 
 #[test]
 fn words_give_settings(rt: HostRuntime) -> Result<(), Fail> {
-    let given: [(&[&str], Settings); 14] = [
+    let given: [(&[&str], Settings); 16] = [
         (
             &["--mode=make", "--seed=4294967295", "--lines", "60000"],
             Settings {
@@ -68,6 +69,15 @@ fn words_give_settings(rt: HostRuntime) -> Result<(), Fail> {
             },
         ),
         (&["--mode=run"], DEFAULTS),
+        (
+            &["--set=split", "--buckets", "7"],
+            Settings {
+                set: SetKind::Split,
+                buckets: 7,
+                ..DEFAULTS
+            },
+        ),
+        (&["--set", "list"], DEFAULTS),
         (
             &["--posters=8", "--takers", "7", "--rows=8"],
             Settings {

@@ -7,7 +7,7 @@ use super::lines_of;
 use orc_board::{Gate, OpenGate, PostReply, PostWord, TakeReply, TakeWord};
 use orc_fault::NoMemory;
 use orc_jobs::Lines;
-use orc_run::run_lines;
+use orc_run::{SetChoice, run_lines};
 use std::alloc::Global;
 use std::sync::atomic::{AtomicU64, Ordering};
 use std::test::Fail;
@@ -67,7 +67,16 @@ fn accepted(posts: &[PostReply]) -> usize {
 #[test]
 fn a_drop_closes_an_open_id(rt: HostRuntime) -> Result<(), Fail> {
     let lines = lines_of(rt.alloc(), FIVE_LINES)?;
-    let finished = run_lines(&rt, rt.alloc(), &lines, 1, 0, 8, 1, &OpenGate)?;
+    let finished = run_lines(
+        &rt,
+        rt.alloc(),
+        &lines,
+        1,
+        0,
+        8,
+        SetChoice::Lists(1),
+        &OpenGate,
+    )?;
     let words = [
         PostWord::Posted(0),
         PostWord::Posted(1),
@@ -117,7 +126,16 @@ fn a_drop_closes_an_open_id(rt: HostRuntime) -> Result<(), Fail> {
 #[test]
 fn a_small_board_refuses_what_has_no_row(rt: HostRuntime) -> Result<(), Fail> {
     let lines = lines_of(rt.alloc(), NINE_POSTS)?;
-    let finished = run_lines(&rt, rt.alloc(), &lines, 1, 0, 8, 256, &OpenGate)?;
+    let finished = run_lines(
+        &rt,
+        rt.alloc(),
+        &lines,
+        1,
+        0,
+        8,
+        SetChoice::Lists(256),
+        &OpenGate,
+    )?;
     assert_eq!(rt; accepted(finished.replies.posts.items()), 7);
     let queue = (
         finished.queue.given(),
@@ -137,7 +155,16 @@ fn a_small_board_refuses_what_has_no_row(rt: HostRuntime) -> Result<(), Fail> {
 #[test]
 fn eight_rows_serve_ten_thousand_posts_and_drops(rt: HostRuntime) -> Result<(), Fail> {
     let lines = rounds_of(rt.alloc(), 1250)?;
-    let finished = run_lines(&rt, rt.alloc(), &lines, 4, 3, 8, 16, &OpenGate)?;
+    let finished = run_lines(
+        &rt,
+        rt.alloc(),
+        &lines,
+        4,
+        3,
+        8,
+        SetChoice::Lists(16),
+        &OpenGate,
+    )?;
     let posts = finished.replies.posts.items();
     let takes = finished.replies.takes.items();
     assert_eq!(rt; posts.len(), 10000);
@@ -204,7 +231,16 @@ fn claims_of(takes: &[TakeReply], taker: u32) -> u64 {
 fn a_gate_is_told_of_each_line_and_each_take_in_order(rt: HostRuntime) -> Result<(), Fail> {
     let lines = lines_of(rt.alloc(), SEVEN_LINES)?;
     let gate = CountingGate::new();
-    let finished = run_lines(&rt, rt.alloc(), &lines, 2, 1, 16, 16, &gate)?;
+    let finished = run_lines(
+        &rt,
+        rt.alloc(),
+        &lines,
+        2,
+        1,
+        16,
+        SetChoice::Lists(16),
+        &gate,
+    )?;
     let takes = finished.replies.takes.items();
     assert_eq!(rt; gate.wrong.load(Ordering::SeqCst), 0);
     assert_eq!(rt; gate.calls_of(1), 4);

@@ -1,0 +1,87 @@
+//! The work on both queues, whatever the set.
+
+ghost use Rattle.std.specs.Prelude.{◌≡◌, ◌<◌, ◌≤◌, ℕ, [], All, Bool, IfOk, length, slice_index_or};
+ghost use Rattle.orc_jobs.specs.GoodLines.{AreGood};
+ghost use Rattle.orc_board.specs.Stretches.{pick};
+ghost use Rattle.orc_run.specs.Domains.{agents_of};
+ghost use Rattle.orc_run.specs.Runs.{EndsWithoutLeak, HasQueueJournal, ReusesRowsSafely, queue_bounds};
+ghost use Rattle.orc_run.specs.Works.{FollowOneJournal};
+
+use crate::containers::make_queue;
+use crate::desks::room_for_passes;
+use crate::ending::{Ends, end_queues};
+use orc_board::{Gate, Replies};
+use orc_fault::NoMemory;
+use orc_fifo_rule::Fifo;
+use orc_history::LearnSet;
+use orc_jobs::Lines;
+use orc_reclaiming_domain::OrcRest;
+use orc_workers::{fresh_desks, run_at_desks};
+use std::alloc::Global;
+use std::sync::Wait;
+use std::thread::Threads;
+
+/// What the work leaves: both queues at rest, the passes of the set, which have all seen the same, and the replies.
+#[derive(Drop)]
+pub(crate) struct Worked<B> {
+    pub(crate) queue: OrcRest<Fifo>,
+    pub(crate) rush: OrcRest<Fifo>,
+    pub(crate) set: Vec<B>,
+    pub(crate) replies: Replies,
+}
+
+// Works through these lines over this set and two queues of so many rows, and brings both queues to rest.
+pub(crate) fn work<R: Threads + Wait + Sync, S: LearnSet + Sync, G: Gate + Sync>(
+    rt: &R,
+    alloc: Global,
+    lines: &Lines,
+    posters: u32,
+    takers: u32,
+    rows: u32,
+    set: &S,
+    set_passes: Vec<S::Pass>,
+    gate: &G,
+) -> Result<Worked<S::Pass>, NoMemory>
+where
+    S::Pass: Send,
+    requires good { AreGood lines.now }
+    requires posters { (1 ≤ posters) × (posters ≤ 8) }
+    requires takers { takers ≤ 7 }
+    requires rows { (2 ≤ rows) × (rows ≤ 65535) }
+    requires usable { All (λ p. S.usable set.now p) set_passes.items }
+    requires fresh { All (λ p. S.history set.now (S.journal p) ≡ []) set_passes.items }
+    requires numbered { (i : ℕ) (p : S.Pass) → i < length set_passes.items → S.agent_of set.now (slice_index_or set_passes.items i p) ≡ i }
+    requires passes { length set_passes.items ≡ agents_of posters takers }
+    requires agents { S.agents set.now ≡ agents_of posters takers }
+    ensures replies { IfOk result (λ w. FollowOneJournal S.SharedSet set.now lines.now posters takers rows w) }
+    ensures usable { IfOk result (λ w. All (λ p. S.usable set.now p) w.set.items) }
+    ensures numbered { IfOk result (λ w. (i : ℕ) (p : S.Pass) → i < length w.set.items → S.agent_of set.now (slice_index_or w.set.items i p) ≡ i) }
+    ensures passes { IfOk result (λ w. length w.set.items ≡ agents_of posters takers) }
+    ensures queue_journals { IfOk result (λ w. (rush : Bool) → HasQueueJournal (queue_bounds posters takers rows) (pick w.queue w.rush rush)) }
+    ensures queues_reuse { IfOk result (λ w. (rush : Bool) → ReusesRowsSafely (queue_bounds posters takers rows) (pick w.queue w.rush rush)) }
+    ensures queues_rest { IfOk result (λ w. (rush : Bool) → EndsWithoutLeak (queue_bounds posters takers rows) (pick w.queue w.rush rush)) }
+{
+    let agents = 1 + posters + takers;
+    let (queue, queue_passes) = make_queue(alloc, rows, agents)?;
+    let (rush, rush_passes) = make_queue(alloc, rows, agents)?;
+    let passes = room_for_passes(alloc, agents as usize)?;
+    let mut desks = fresh_desks(
+        alloc,
+        &queue,
+        &rush,
+        set,
+        queue_passes,
+        rush_passes,
+        set_passes,
+    )?;
+    let replies = run_at_desks(
+        rt, alloc, lines, posters, takers, &queue, &rush, set, &mut desks, gate,
+    )?;
+    let Ends { queue, rush, set } = end_queues(queue, rush, set, desks, passes);
+    Ok(Worked {
+        queue,
+        rush,
+        set,
+        replies,
+    })
+}
