@@ -1,10 +1,9 @@
 //! The calls, over any domain.
 
-ghost use Rattle.std.specs.Prelude.{◌≡◌, All, length};
+ghost use Rattle.std.specs.Prelude.{◌≡◌, ◌<◌, ℕ, IfSome, length, slice_index_or};
 ghost use Rattle.orc_heap.specs.Domains.{agent};
-ghost use Rattle.orc_heap.specs.Seats.{IsIdle};
-ghost use Rattle.orc_shared_words.specs.Lists.{EachAt};
 ghost use Rattle.orc_cell.specs.CellCalls.{IsUsable};
+ghost use Rattle.cell_tests.specs.Passes.{AreUsable};
 
 use orc_cell::{Cell, CellRefused};
 use orc_heap::Links;
@@ -32,23 +31,90 @@ fn publish_and_read<L: Links<Rule = Pairs>>(cell: &Cell<L>, p: &mut L::Pass) -> 
     (left, then, both, right, last)
 }
 
-/// Lets the first of all new passes do so.
-pub fn first_publishes<L: Links<Rule = Pairs>>(
+/// Lets the one agent do so.
+pub fn one_publishes<L: Links<Rule = Pairs>>(
     cell: &Cell<L>,
-    passes: &mut [L::Pass],
-) -> Option<Answers>
-    requires belong { All (λ p. L.belongs cell.now.links p) passes.old }
-    requires order { EachAt (λ i p. (L.seat cell.now.links p).agent ≡ i) passes.old }
-    requires idle { All (λ p. IsIdle (L.seat cell.now.links p)) passes.old }
-    requires new { All (λ p. (L.seat cell.now.links p).seen ≡ L.opening cell.now.links) passes.old }
-    ensures many { length passes.new ≡ length passes.old }
-    ensures belong { All (λ p. L.belongs cell.now.links p) passes.new }
-    ensures order { EachAt (λ i p. (L.seat cell.now.links p).agent ≡ i) passes.new }
-    ensures idle { All (λ p. IsIdle (L.seat cell.now.links p)) passes.new }
+    mut passes: Vec<L::Pass>,
+) -> Option<(Answers, Vec<L::Pass>)>
+    requires usable { AreUsable L.Links cell.now.links passes.items }
+    requires one { length passes.items ≡ 1 }
+    ensures usable { IfSome result (λ r. AreUsable L.Links cell.now.links r.1.items) }
+    ensures one { IfSome result (λ r. length r.1.items ≡ 1) }
 {
-    if passes.is_empty() {
-        return None;
+    let mut p = passes.pop()?;
+    let answers = publish_and_read(cell, &mut p);
+    passes.push(p).ok()?;
+    Some((answers, passes))
+}
+
+/// What five publishes and a read answer, of which all but the first two stand around a part that another agent has staged.
+pub type Around = (Published, bool, Published, Published, Published, Read);
+
+// Publishes both parts; while the second agent has staged a part and stopped, both and the left one; once it has gone on, both; and reads.
+fn publish_around<L: Links<Rule = Pairs>>(
+    cell: &Cell<L>,
+    first: &mut L::Pass,
+    second: &mut L::Pass,
+) -> Around
+    requires first { IsUsable L.Links cell.now.links first.old }
+    requires second { IsUsable L.Links cell.now.links second.old }
+    ensures first { IsUsable L.Links cell.now.links first.new }
+    ensures second { IsUsable L.Links cell.now.links second.new }
+    ensures first_agent { agent L.Links cell.now.links first.new ≡ agent L.Links cell.now.links first.old }
+    ensures second_agent { agent L.Links cell.now.links second.new ≡ agent L.Links cell.now.links second.old }
+{
+    let before = cell.publish(first, Some(1), Some(2), 64);
+    let staged = cell.stage_and_stop(second, 7);
+    let stops = staged.is_some();
+    let refused = cell.publish(first, Some(3), Some(4), 64);
+    let left = cell.publish(first, Some(5), None, 64);
+    if let Some(part) = staged {
+        cell.unstage(second, part);
     }
-    cell.new_passes_are_usable(&passes[0]);
-    Some(publish_and_read(cell, &mut passes[0]))
+    let after = cell.publish(first, Some(3), Some(4), 64);
+    (
+        before,
+        stops,
+        refused,
+        left,
+        after,
+        cell.read(second, 64).ok(),
+    )
+}
+
+// Takes the last pass and lets it do so with the second one.
+fn first_publishes_around<L: Links<Rule = Pairs>>(
+    cell: &Cell<L>,
+    passes: &mut Vec<L::Pass>,
+    second: &mut L::Pass,
+) -> Option<Around>
+    requires usable { AreUsable L.Links cell.now.links passes.old.items }
+    requires second { IsUsable L.Links cell.now.links second.old }
+    ensures usable { AreUsable L.Links cell.now.links passes.new.items }
+    ensures many { length passes.new.items ≡ length passes.old.items }
+    ensures second { IsUsable L.Links cell.now.links second.new }
+    ensures agent { agent L.Links cell.now.links second.new ≡ agent L.Links cell.now.links second.old }
+{
+    let mut first = passes.pop()?;
+    let answers = publish_around(cell, &mut first, second);
+    let Ok(()) = passes.push(first) else {
+        unreachable!()
+    };
+    Some(answers)
+}
+
+/// Lets the two agents do so.
+pub fn two_publish<L: Links<Rule = Pairs>>(
+    cell: &Cell<L>,
+    mut passes: Vec<L::Pass>,
+) -> Option<(Around, Vec<L::Pass>)>
+    requires usable { AreUsable L.Links cell.now.links passes.items }
+    requires two { length passes.items ≡ 2 }
+    ensures usable { IfSome result (λ r. AreUsable L.Links cell.now.links r.1.items) }
+    ensures two { IfSome result (λ r. length r.1.items ≡ 2) }
+{
+    let mut second = passes.pop()?;
+    let answers = first_publishes_around(cell, &mut passes, &mut second)?;
+    passes.push(second).ok()?;
+    Some((answers, passes))
 }
