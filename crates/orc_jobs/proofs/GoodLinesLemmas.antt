@@ -9,6 +9,7 @@ use Rattle.orc_jobs.specs.JobGrammar.{IsFileOf, IsLine, record_of}
 use Rattle.orc_jobs.specs.Line.{text_size}
 use Rattle.orc_jobs.specs.declared.line.Line.{Line}
 use Rattle.orc_jobs.specs.declared.line.Line.TheVariants as line
+use Rattle.orc_jobs.specs.declared.lines.TheConstants.{MOST_BYTES}
 
 pub good_few : {lines : List Line} → AreGood lines → length lines ≤ 65535
 good_few good = good.few
@@ -43,7 +44,7 @@ texts-in-records [] = omega arith
 texts-in-records (l ∷ ls) = let rest = texts-in-records ls in omega (arith, rest, text-in-record l, sum_by-cons text_size l ls)
 
 -- the lines of a file that is not too long are good
-pub good_file : (lines : List Line) (bytes : List ℕ) → length bytes ≤ 16777216 → IsFileOf lines bytes → AreGood lines
+pub good_file : (lines : List Line) (bytes : List ℕ) → length bytes ≤ MOST_BYTES → IsFileOf lines bytes → AreGood lines
 good_file lines bytes short file =
     let sizes = sizes-records_of bytes in
     let records = ap sizes_of file.records in

@@ -4,9 +4,10 @@ use Rattle.std.specs.List.{sum_by}
 use Rattle.orc_jobs.specs.JobGrammar.{IsLine}
 use Rattle.orc_jobs.specs.Line.{text_size}
 use Rattle.orc_jobs.specs.declared.line.Line.{Line}
+use Rattle.orc_jobs.specs.declared.lines.TheConstants.{MOST_BYTES}
 
--- no more than 65,535 lines, each one that a record can stand for, with no more than 16,777,216 bytes of text in all
+-- no more than 65,535 lines, each one that a record can stand for, with no more bytes of text in all than a job file has
 pub record AreGood (lines : List Line) : Type 0 where
   pub few : length lines ≤ 65535
   pub each : All IsLine lines
-  pub small : sum_by text_size lines ≤ 16777216
+  pub small : sum_by text_size lines ≤ MOST_BYTES

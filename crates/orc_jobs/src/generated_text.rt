@@ -1,9 +1,9 @@
 //! The text of generated lines.
 ghost use Rattle.std.specs.Prelude.{◌≡◌, ◌≤◌, ◌++◌, ℕ, IfOk, OnOk};
 ghost use Rattle.orc_jobs.specs.Generated.{generated, line_text, text_of_lines};
-ghost use Rattle.orc_jobs.specs.JobGrammar.{IsFileOf, word_of as op_word};
+ghost use Rattle.orc_jobs.specs.JobGrammar.{IsFileOf};
 
-use crate::{Job, Line, Lines, Text};
+use crate::{Line, Lines, Text};
 use orc_fault::NoMemory;
 use std::alloc::{AllocError, Global};
 
@@ -32,7 +32,7 @@ fn push_line(alloc: Global, text: &mut Vec<u8>, line: &Line) -> Result<(), Alloc
             op,
             text: field,
         } => {
-            let word = word_of(*op);
+            let word = op.word();
             let front = format!(in alloc; "post,{id},{word},")?;
             text.extend_from_slice(front.as_bytes())?;
             text.extend_from_slice(field.bytes())?;
@@ -40,17 +40,6 @@ fn push_line(alloc: Global, text: &mut Vec<u8>, line: &Line) -> Result<(), Alloc
             Ok(())
         }
         Line::Rush { .. } | Line::Drop { .. } => Ok(()),
-    }
-}
-
-// The word of an operation.
-fn word_of(op: Job) -> &'static str
-    ensures { result.now ≡ op_word op }
-{
-    match op {
-        Job::Bytes => "bytes",
-        Job::Words => "words",
-        Job::Sum => "sum",
     }
 }
 

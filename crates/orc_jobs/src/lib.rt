@@ -18,7 +18,7 @@ pub use generated::make_lines;
 pub use generated_text::{generated_lines_are_read, lines_text};
 pub use laws::{records_are_determined, values_are_determined};
 pub use line::{Job, Line};
-pub use lines::Lines;
+pub use lines::{Lines, MOST_BYTES};
 pub use read::read_jobs;
 pub use text::Text;
 pub use value::job_value;

@@ -1,3 +1,6 @@
+ghost use Rattle.std.specs.Prelude.{◌≡◌};
+ghost use Rattle.orc_jobs.specs.JobGrammar.{word_of};
+
 use crate::Text;
 
 /// What is computed of a text: its bytes or its words are counted, or its numbers are added.
@@ -6,6 +9,19 @@ pub enum Job {
     Bytes,
     Words,
     Sum,
+}
+
+impl Job {
+    /// Its word in a job file.
+    pub fn word(self) -> &'static str
+        ensures { result.now ≡ word_of self }
+    {
+        match self {
+            Job::Bytes => "bytes",
+            Job::Words => "words",
+            Job::Sum => "sum",
+        }
+    }
 }
 
 /// A line of a job file: it opens an id and posts a job with it, on the queue or on the rush queue, or closes an id.

@@ -5,6 +5,9 @@ use orc_fault::NoMemory;
 use std::alloc::Global;
 use std::marker::Model;
 
+/// The most bytes of a job file.
+pub const MOST_BYTES: usize = 16_777_216;
+
 /// A list of lines.
 #[derive(Drop, Debug)]
 pub struct Lines {

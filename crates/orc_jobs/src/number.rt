@@ -2,6 +2,8 @@ ghost use Rattle.std.specs.Prelude.{◌≡◌, ◌==◌, ◌^◌, ◌<◌, ◌�
 ghost use Rattle.std.specs.Fmt.{decimal};
 ghost use Rattle.orc_jobs.specs.Numbers.{IsNumber, IsNumberList, SpellsNumbers};
 
+use crate::MOST_BYTES;
+
 /// The number below 2^32 that a canonical decimal stands for.
 pub fn number_of(text: &[u8]) -> Option<u32>
     ensures some { IfSome result (λ number. (number < 2 ^ 32) × (text.now ≡ decimal number)) }
@@ -37,7 +39,7 @@ pub fn is_number_list(text: &[u8]) -> bool
 
 /// The sum of the numbers that a text spells.
 pub fn sum_of(text: &[u8]) -> u64
-    requires { length text.now ≤ 16777216 }
+    requires { length text.now ≤ MOST_BYTES }
     ensures sum { (numbers : List ℕ) → SpellsNumbers numbers text.now → result ≡ sum numbers }
     ensures small { result < 2 ^ 60 }
 {

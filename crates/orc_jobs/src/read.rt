@@ -8,17 +8,17 @@ ghost use Rattle.orc_jobs.specs.declared.cause.Cause.{Cause};
 ghost use Rattle.orc_jobs.specs.declared.line.Line.{Line};
 
 use crate::record::{RecordRefused, line_of};
-use crate::{JobsFault, Lines};
+use crate::{JobsFault, Lines, MOST_BYTES};
 use csv::{ByteRecord, Error, ErrorKind, ReaderBuilder};
 use std::alloc::Global;
 
 // The most records that a job file has.
-const MOST: usize = 65535;
+const MOST_RECORDS: usize = 65535;
 
 /// The lines of a job file. It is refused at its first record that has a cause, or at a record past
 /// the first 65,535, whatever is in it. A byte order mark at the start is passed over.
 pub fn read_jobs(alloc: Global, bytes: &[u8]) -> Result<Lines, JobsFault>
-    requires { length bytes.now ≤ 16777216 }
+    requires { length bytes.now ≤ MOST_BYTES }
     ensures ok { IfOk result (λ lines. IsFileOf lines bytes.now) }
     ensures good { IfOk result AreGood }
     ensures err { IfErr result (Refuses bytes.now) }
@@ -74,7 +74,7 @@ fn take_record(alloc: Global, row: &ByteRecord, lines: &mut Lines) -> Result<(),
     ensures err { IfErr result (RefusesRecord lines.old (fields_of row.now)) }
 {
     let place = lines.len();
-    if place >= MOST {
+    if place >= MOST_RECORDS {
         return Err(JobsFault::TooMany);
     }
     let line = match line_of(alloc, row) {

@@ -1,4 +1,4 @@
-ghost use Rattle.std.specs.Prelude.{◌≡◌, ◌<◌, ◌++◌, ◌∷◌, [], List, ℕ, OnErr, OnOk, IfOk, length, slice_index};
+ghost use Rattle.std.specs.Prelude.{◌≡◌, ◌<◌, IfOk, length, slice_index};
 ghost use Rattle.std.specs.String.{string_bytes};
 
 use orc_fault::NoMemory;
@@ -20,15 +20,6 @@ impl Model for Text {
 }
 
 impl Text {
-    /// No byte; it takes no memory.
-    pub fn new(alloc: Global) -> Text
-        ensures { result ≡ [] }
-    {
-        Text {
-            items: Vec::new(alloc),
-        }
-    }
-
     /// A text of these bytes.
     pub fn from_slice(alloc: Global, bytes: &[u8]) -> Result<Text, NoMemory>
         ensures { IfOk result (λ t. t ≡ bytes.now) }
@@ -51,15 +42,6 @@ impl Text {
         Text {
             items: string.into_bytes(),
         }
-    }
-
-    /// Appends a byte, or changes nothing.
-    pub fn push(&mut self, item: u8) -> Result<(), NoMemory>
-        ensures ok { OnOk result (self.new ≡ self.old ++ item ∷ []) }
-        ensures err { OnErr result (self.new ≡ self.old) }
-    {
-        self.items.push(item)?;
-        Ok(())
     }
 
     /// How many bytes it has.
