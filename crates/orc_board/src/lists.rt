@@ -1,5 +1,5 @@
 //! Lists of replies, whose room is reserved when they are made.
-ghost use Rattle.std.specs.Prelude.{◌≡◌, ◌≢◌, ◌+◌, ◌<◌, ◌≤◌, ◌++◌, ◌∷◌, [], IfOk, IsTrue, ◌↔◌, Some, length, slice_get};
+ghost use Rattle.std.specs.Prelude.{◌≡◌, ◌≢◌, ◌+◌, ◌<◌, ◌≤◌, ◌++◌, ◌∷◌, [], IfOk, IsTrue, ◌↔◌, length};
 
 use crate::{PostReply, TakeReply};
 use orc_fault::NoMemory;
@@ -85,14 +85,6 @@ impl<T: Drop> ReplyList<T> {
         ensures { IsTrue result ↔ (self.now.items ≡ []) }
     {
         self.items.is_empty()
-    }
-
-    /// The reply at a place, from 0.
-    pub fn get(&self, index: usize) -> &T
-        requires { index < length self.now.items }
-        ensures { slice_get self.now.items index ≡ Some result.now }
-    {
-        &self.items[index]
     }
 
     /// The replies in order.
