@@ -4,7 +4,6 @@ ghost use Rattle.std.specs.Option.{option_to_list};
 ghost use Rattle.std.specs.List.{AllByRecursion, flat_map};
 ghost use Rattle.std.specs.String.{string_bytes};
 ghost use Rattle.orc_jobs.specs.GoodLines.{AreGood};
-ghost use Rattle.orc_jobs.specs.JobGrammar.{word_of as op_word};
 ghost use Rattle.orc_board.specs.Follows.{by_key};
 ghost use Rattle.orc_board.specs.Reportable.{AreReportable};
 ghost use Rattle.orc_report.specs.Summary.{done_as, done_in, done_jobs as jobs_done, firsts, ops_of, summary_of};
@@ -179,19 +178,8 @@ fn key_of(op: Job) -> u8
 fn push_total(text: &mut String, total: Total) -> Result<(), AllocError>
     ensures { OnOk result (string_bytes text.new ≡ string_bytes text.old ++ line_of total) }
 {
-    let word = word_of(total.op);
+    let word = total.op.word();
     let jobs = total.jobs;
     let sum = total.sum;
     writeln!(text, "{word} jobs {jobs} total {sum}")
-}
-
-// The word of an operation.
-fn word_of(op: Job) -> &'static str
-    ensures { result.now ≡ op_word op }
-{
-    match op {
-        Job::Bytes => "bytes",
-        Job::Words => "words",
-        Job::Sum => "sum",
-    }
 }

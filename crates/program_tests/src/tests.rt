@@ -4,7 +4,7 @@ ghost use Rattle.std.specs.Prelude.{◌≤◌, IfOk, length};
 ghost use Rattle.orc_jobs.specs.GoodLines.{AreGood};
 
 use orc_fault::NoMemory;
-use orc_jobs::{Lines, read_jobs};
+use orc_jobs::{Lines, MOST_BYTES, read_jobs};
 use std::alloc::Global;
 
 mod board;
@@ -18,7 +18,7 @@ mod runs;
 
 // The lines of a job file.
 fn lines_of(alloc: Global, bytes: &[u8]) -> Result<Lines, NoMemory>
-    requires { length bytes.now ≤ 16777216 }
+    requires { length bytes.now ≤ MOST_BYTES }
     ensures { IfOk result AreGood }
 {
     match read_jobs(alloc, bytes) {

@@ -8,7 +8,8 @@ ghost use Rattle.orc_jobs.specs.Numbers.{IsNumber, SpellsNumbers};
 
 use orc_fault::NoMemory;
 use orc_jobs::{
-    Cause, Job, JobsFault, Line, Lines, Text, job_value, lines_text, make_lines, read_jobs,
+    Cause, Job, JobsFault, Line, Lines, MOST_BYTES, Text, job_value, lines_text, make_lines,
+    read_jobs,
 };
 use std::alloc::Global;
 use std::process::Abort;
@@ -67,8 +68,6 @@ fn values_by_hand()
     ensures good { AreGood (Line.Post 7 Job.Bytes (codes "hello") ∷ Line.Drop 7 ∷ []) }
     ensures bad { ¬ AreGood (Line.Drop (2 ^ 32) ∷ []) }
 {}
-
-const MOST_BYTES: usize = 16_777_216;
 
 // Asks for the values of some lines.
 fn have_values<R: Abort>(rt: &R, lines: &Lines, wanted: &[u64])
@@ -256,9 +255,7 @@ fn is_the_post(line: &Line, bytes: &[u8]) -> bool {
 
 #[test]
 fn keeps_lists(rt: HostRuntime) -> Result<(), Fail> {
-    let mut text = Text::new(rt.alloc());
-    text.push(b'h')?;
-    text.push(b'i')?;
+    let text = Text::from_slice(rt.alloc(), b"hi")?;
     assert_eq!(rt; (text.len(), text.get(1)), (2, b'i'));
     let lines = two_lines(rt.alloc(), &text)?;
     assert_eq!(rt; lines.len(), 2);

@@ -6,7 +6,7 @@ ghost use Rattle.orc_jobs.specs.GoodLines.{AreGood};
 use super::lines_of;
 use orc_board::{Gate, OpenGate, PostReply, PostWord, TakeReply, TakeWord};
 use orc_fault::NoMemory;
-use orc_jobs::Lines;
+use orc_jobs::{Lines, MOST_BYTES};
 use orc_run::{SetChoice, run_lines};
 use std::alloc::Global;
 use std::sync::atomic::{AtomicU64, Ordering};
@@ -21,9 +21,6 @@ const SEVEN_LINES: &[u8] =
 const NINE_POSTS: &[u8] =
     b"post,0,bytes,x\npost,1,bytes,x\npost,2,bytes,x\npost,3,bytes,x\npost,4,bytes,x\npost,5,bytes,x\npost,6,bytes,x\npost,7,bytes,x\npost,8,bytes,x\n";
 
-// The most bytes of a file.
-const MOST: usize = 16_777_216;
-
 // So many rounds, in each of which each of four posters posts a job and drops its id.
 fn rounds_of(alloc: Global, rounds: u32) -> Result<Lines, NoMemory>
     ensures { IfOk result AreGood }
@@ -34,7 +31,7 @@ fn rounds_of(alloc: Global, rounds: u32) -> Result<Lines, NoMemory>
         text.push_str("drop,1\ndrop,2\ndrop,3\ndrop,4\n")?;
     }
     let bytes = text.as_bytes();
-    if bytes.len() > MOST {
+    if bytes.len() > MOST_BYTES {
         return Err(NoMemory);
     }
     lines_of(alloc, bytes)
