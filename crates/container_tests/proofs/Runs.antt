@@ -5,8 +5,8 @@ use Rattle.orc_heap.specs.Allowed.{HasLink}
 use Rattle.orc_heap.specs.Heap.{Heap, shown}
 use Rattle.orc_heap.specs.declared.events.Link.{Link}
 use Rattle.orc_heap.specs.declared.events.Place.TheVariants.{Next}
-use Rattle.orc_chain_rule.specs.ChainDiscipline.{IsRun}
-use Rattle.orc_chain_rule.specs.Laws.Paths.{not_marked}
+use Rattle.orc_ordered_chains.specs.Chains.{IsRun}
+use Rattle.orc_ordered_chains.proofs.Paths.{not_marked}
 
 -- a node has the link that it shows
 pub link_one : (h : Heap) (id : ℕ) (link next : Link) → shown h (Next id) ≡ Some link → HasLink h id next → next ≡ link

@@ -1,10 +1,8 @@
 -- The events of a list's calls are allowed in every later journal.
-use Rattle.std.proofs.Common.{List, None, Option, Some, [], false, inl, refl, subst, sym, true, ℕ, ◌%◌, ◌++◌, ◌∷◌, ◌≡◌, slice_get}
+use Rattle.std.proofs.Common.{List, Option, Some, [], false, inl, refl, sym, true, ℕ, ◌++◌, ◌∷◌, ◌≡◌, slice_get}
 use Rattle.std.proofs.lemmas.Bool.{false_from_ne_true}
 use Rattle.orc_heap.proofs.Fresh.{node_later}
 use Rattle.orc_heap.proofs.Sides.{null_side}
-use Rattle.orc_heap.proofs.Known.{linked_known}
-use Rattle.orc_heap.specs.Acts.{IsTarget}
 use Rattle.orc_heap.specs.Allowed.{AllowedLater}
 use Rattle.orc_heap.specs.Heap.{Heap, HeapNumbers, shown, link_to}
 use Rattle.orc_heap.specs.Journals.{event_by, run_heap}
@@ -12,40 +10,20 @@ use Rattle.orc_heap.specs.declared.events.Act.TheVariants.{Look, Move}
 use Rattle.orc_heap.specs.declared.events.Event.{Event}
 use Rattle.orc_heap.specs.declared.events.Link.{Link}
 use Rattle.orc_heap.specs.declared.events.Place.{Place}
-use Rattle.orc_heap.specs.declared.events.Place.TheVariants.{Next, Root, Side}
+use Rattle.orc_heap.specs.declared.events.Place.TheVariants.{Next}
 use Rattle.orc_history.specs.SetHistory.{has}
 use Rattle.orc_history.specs.declared.set.SetEntry.TheVariants.{Added, Asked, Removed}
 use Rattle.orc_chain_rule.specs.declared.chain.ChainNote.{ChainNote}
 use Rattle.orc_chain_rule.specs.declared.chain.ChainNote.TheVariants.{Entry, Unlink}
-use Rattle.orc_chain_rule.specs.ChainDiscipline.{AreChains, ChainHolds, ChainMay, FollowsOn, HasKey, IsAbove, IsBelow, IsOnChain, IsPlaceOnChain, IsRun, link_over, set_after, IsChainPlace}
+use Rattle.orc_ordered_chains.specs.Chains.{IsRun, link_over}
+use Rattle.orc_ordered_chains.proofs.Later.{chain_place_later, follows_on_chain, run_target}
+use Rattle.orc_ordered_chains.proofs.Paths.{absent}
+use Rattle.orc_chain_rule.specs.ChainDiscipline.{ChainHolds, ChainMay, FollowsOn, HasKey, IsAbove, IsChainPlace, chain_order, set_after}
 use Rattle.orc_chain_rule.specs.Watches.{node_to_add}
-use Rattle.orc_chain_rule.specs.Laws.Kinds.{key_linked}
-use Rattle.orc_chain_rule.specs.Laws.Kept.{chain_fits, chain_keeps, chain_moves_linked}
-use Rattle.orc_chain_rule.specs.Laws.Paths.{absent, run_follows}
-use Rattle.orc_chain_rule.proofs.Later.{above_later, follows_later, holds_later, key_later, place_later, run_later}
-
--- a place that shows an unmarked link is on its root's chain
-pub place_on_chain : (roots : ℕ) (h : Heap) (keys : List ℕ) → AreChains roots h keys → (place : Place) (from : Link) (key : ℕ) → FollowsOn roots h place key
-    → shown h place ≡ Some from → from.mark ≡ false
-    → IsPlaceOnChain h (key % roots) place × IsBelow h place key
-place_on_chain roots h keys c (Root r) from key f at plain = (sym f, tt)
-place_on_chain roots h keys c (Side id) from key f at plain = absurd f
-place_on_chain roots h keys c (Next id) from key (low, own, less, same) at plain =
-    (subst (λ (z : ℕ). IsOnChain h z id) (sym same) (c.kept id low from own at plain), (low, own, less))
-
-follows_linked : (roots : ℕ) (h : Heap) (place : Place) (key : ℕ) → FollowsOn roots h place key → IsChainPlace place h
-follows_linked roots h (Root r) key f = tt
-follows_linked roots h (Side id) key f = absurd f
-follows_linked roots h (Next id) key (low, own, less, same) = key_linked h id low own
-
--- what a linked place leads to, over a run, is known to every agent
-run_target : (n : HeapNumbers) (es : List (Event ChainNote)) (agent : ℕ) (place : Place) (from : Link) (over : List ℕ) (to : Option ℕ) → ChainHolds n es
-    → IsChainPlace place (run_heap n es)
-    → shown (run_heap n es) place ≡ Some from → IsRun (run_heap n es) from over to → IsTarget agent (run_heap n es) to
-run_target n es agent place from over None holds l at run = tt
-run_target n es agent place from over (Some id) holds l at run =
-    let (key, own, f) = run_follows n.roots (run_heap n es) (set_after es) holds.chains place from over id l at run in
-    linked_known n es agent id holds.lawful (key_linked (run_heap n es) id key own)
+use Rattle.orc_chain_rule.specs.Laws.Kinds.{keyed_place}
+use Rattle.orc_chain_rule.specs.Laws.Kept.{chain_fits, chain_keeps, chain_moves_linked, marked_next}
+use Rattle.orc_chain_rule.specs.Laws.Sets.{live_present, present_live}
+use Rattle.orc_chain_rule.proofs.Later.{above_later, follows_later, holds_later, key_later, may_fits, run_later}
 
 -- the key is absent where a place below it, with an unmarked link, leads over a run above it
 pub key_absent : (n : HeapNumbers) (es : List (Event ChainNote)) (place : Place) (from : Link) (over : List ℕ) (to : Option ℕ) (key : ℕ) → ChainHolds n es
@@ -55,8 +33,11 @@ pub key_absent : (n : HeapNumbers) (es : List (Event ChainNote)) (place : Place)
 key_absent n es place from over to key holds f at plain run above =
     let h : Heap = run_heap n es in
     let c = holds.chains in
-    let (on, under) = place_on_chain n.roots h (set_after es) c place from key f at plain in
-    false_from_ne_true (has key (set_after es)) (λ is. absent n.roots h (set_after es) c place from over to key on under at run above ((c.set key).0 is))
+    let o = chain_order n.roots in
+    let (on, under) = follows_on_chain o h c.ordered place from key f at plain in
+    false_from_ne_true (has key (set_after es)) (λ is.
+    let y = (c.set key).0 is in
+    absent o h c.ordered place from over to key on under at run above y.id (present_live n.roots h key y))
 
 -- and present where its node has an unmarked link
 pub key_present : (n : HeapNumbers) (es : List (Event ChainNote)) (id key : ℕ) (link : Link) → ChainHolds n es → HasKey (run_heap n es) id key
@@ -64,7 +45,7 @@ pub key_present : (n : HeapNumbers) (es : List (Event ChainNote)) (id key : ℕ)
     → has key (set_after es) ≡ true
 key_present n es id key link holds own at plain =
     let c = holds.chains in
-    (c.set key).1 (record { id = id; has_key = own; link = link; at = at; unmarked = plain; on_chain = c.kept id key link own at plain })
+    (c.set key).1 (live_present n.roots (run_heap n es) c.ordered id key (record { has_rank = own; link = link; at = at; unmarked = plain }))
 
 -- an Added true of the agent's fresh node
 pub added_allowed : (n : HeapNumbers) (agent : ℕ) (place : Place) (from : Link) (over : List ℕ) (to : Option ℕ) (key second fresh : ℕ)
@@ -80,7 +61,7 @@ added_allowed n agent place from over to key second fresh seen holds f plain run
     node_later n (ChainHolds n) (ChainMay n) (chain_keeps n) (chain_fits n) (chain_moves_linked n) agent fresh
     (node_to_add agent key second to) seen more holds there refl refl refl later in
     let (on, under) =
-    place_on_chain n.roots h (set_after es) now.chains place from key (follows_later n seen more n.roots place key f later.allowed) at plain in
+    follows_on_chain (chain_order n.roots) h now.chains.ordered place from key (follows_later n seen more n.roots place key f later.allowed) at plain in
     record {
       fits = (at, record { node = node_to_add agent key second to; there = node; known = inl refl });
       may_act = (
@@ -94,7 +75,7 @@ added_allowed n agent place from over to key second fresh seen holds f plain run
           node = node_to_add agent key second to;
           there = node;
           unlinked = refl;
-          key_is = refl;
+          rank_is = refl;
           own_plain = refl;
           over = over;
           run = run_later n seen more from over to run later.allowed;
@@ -115,7 +96,7 @@ removed_allowed n agent id key from seen holds own plain = λ more later at.
     let now = holds_later n seen more holds later.allowed in
     let k = key_later n seen more id key own later.allowed in
     record {
-      fits = (at, run_target n es agent (Next id) from [] from.to now (key_linked (run_heap n es) id key k) at refl);
+      fits = (at, run_target (chain_order n.roots) n es agent (Next id) from [] from.to now.lawful now.chains.ordered (key, k) at refl);
       may_act = (refl, record { has_key = k; plain = plain; to_is = refl });
       own = refl;
     }
@@ -126,12 +107,15 @@ pub unlink_allowed : (n : HeapNumbers) (agent : ℕ) (place : Place) (from : Lin
     → IsChainPlace place (run_heap n seen) → from.mark ≡ false → IsRun (run_heap n seen) from (first ∷ others) to
     → AllowedLater (ChainMay n) n agent seen place from (event_by agent (Move place from (link_over to)) (Some Unlink))
 unlink_allowed n agent place from first others to seen holds l plain run = λ more later at.
+    let o = chain_order n.roots in
     let es : List (Event ChainNote) = seen ++ more in
     let now = holds_later n seen more holds later.allowed in
-    let linked = place_later n seen more place l later.allowed in
+    let linked =
+    chain_place_later o n (ChainMay n) (may_fits n) (marked_next n) seen more place (keyed_place n.roots (run_heap n seen) (set_after seen) holds.chains place l)
+    later.allowed in
     let r = run_later n seen more from (first ∷ others) to run later.allowed in
     record {
-      fits = (at, run_target n es agent place from (first ∷ others) to now linked at r);
+      fits = (at, run_target o n es agent place from (first ∷ others) to now.lawful now.chains.ordered linked at r);
       may_act = record { linked = linked; plain = plain; plain_after = refl; first = first; others = others; run = r };
       own = tt;
     }

@@ -1,5 +1,5 @@
 -- Which nodes are on a chain after a Move, and that the nodes of a run that it leads past are on none.
-use Rattle.std.proofs.Common.{Contains, List, Option, Some, [], ap, append-nil, append_assoc, arith, false, inl, inr, length, refl, subst, suc, sym, true, zero, ℕ, ◌%◌, ◌++◌, ◌<◌, ◌==◌, ◌∙◌, ◌∷◌, ◌≡◌, ◌≢◌, ◌≤◌, ◌⊎◌}
+use Rattle.std.proofs.Common.{Contains, List, Option, Some, [], ap, append-nil, append_assoc, arith, false, inl, inr, length, refl, subst, suc, sym, true, zero, ℕ, ◌++◌, ◌<◌, ◌==◌, ◌∙◌, ◌∷◌, ◌≡◌, ◌≢◌, ◌≤◌, ◌⊎◌}
 use Rattle.std.proofs.lemmas.Bool.{eq-eqb, eqb-true, or_cases, or_left, or_right}
 use Rattle.orc_heap.proofs.Runs.{run_heap-snoc}
 use Rattle.orc_heap.specs.Acts.{Fits, heap_after}
@@ -17,13 +17,15 @@ use Rattle.orc_history.specs.SetHistory.{has}
 use Rattle.orc_history.specs.declared.set.SetEntry.TheVariants.{Added}
 use Rattle.orc_chain_rule.specs.declared.chain.ChainNote.{ChainNote}
 use Rattle.orc_chain_rule.specs.declared.chain.ChainNote.TheVariants.{Entry, Unlink}
-use Rattle.orc_chain_rule.specs.ChainDiscipline.{IsOnNoChain, link_over, AreChains, ChainHolds, ChainMay, FollowsOn, HasKey, IsOnChain, IsPath, IsPlaceOnChain, IsRun, set_after, IsChainPlace}
-use Rattle.orc_chain_rule.specs.Laws.Adding.{added_linked}
 use Rattle.orc_heap.proofs.SingleActs.{link_shown, linked_node, shown_link, some_same}
-use Rattle.orc_chain_rule.specs.Laws.Kinds.{IsMoved, IsStill, act_still, each_kind, key_linked, key_one, move_moves, place_either}
-use Rattle.orc_chain_rule.specs.Laws.Kept.{chain_keeps}
-use Rattle.orc_chain_rule.specs.Laws.Paths.{below, chain_root, from_low, path_follows, leads_one, leads_same, path_join, place_linked, run_follows, run_path}
-use Rattle.orc_chain_rule.specs.Laws.Removing.{chain_before}
+use Rattle.orc_ordered_chains.specs.Chains.{AreChains as AreOrderedChains, FollowsOn as RankFollowsOn, HasRank, IsChainPlace as IsRankedPlace, IsOnChain, IsPath, IsPlaceOnChain, IsRun, Order, link_over}
+use Rattle.orc_ordered_chains.proofs.Acts.{IsMoved, act_unmoved, move_moves, place_either, rank_one, rank_stays}
+use Rattle.orc_ordered_chains.proofs.Marking.{chain_before}
+use Rattle.orc_ordered_chains.proofs.Paths.{below, chain_root, from_low, leads_one, leads_same, path_follows, path_join, run_follows, run_path}
+use Rattle.orc_ordered_chains.proofs.Still.{IsStill, unmoved_still}
+use Rattle.orc_chain_rule.specs.ChainDiscipline.{AreChains, ChainHolds, ChainMay, IsOnNoChain, chain_order, set_after}
+use Rattle.orc_chain_rule.specs.Laws.Kinds.{each_kind}
+use Rattle.orc_chain_rule.specs.Laws.Kept.{add_links, add_place, chain_keeps, remove_marks}
 
 -- where a chain led before
 
@@ -89,13 +91,13 @@ module _ (h k : Heap) (root : ℕ) (p : Place) (from : Link) (run new : List ℕ
     pub chain_back : IsOnChain k root y → (has y new ≡ true) ⊎ IsOnChain h root y
     chain_back on = back_of (length on.over) (Root root) on.over (omega arith) refl on.path
 
-pub path_still_back : (roots : ℕ) (h k : Heap) (keys : List ℕ) → AreChains roots h keys → IsStill h k → (p : Place) (ids : List ℕ) (to : Option ℕ)
-    → IsChainPlace p h → IsPath k p ids to → IsPath h p ids to
-path_still_back roots h k keys c s p [] to l path = leads_same k h p to (sym (s.shows p l)) path
-path_still_back roots h k keys c s p (x ∷ xs) to l path =
+pub path_still_back : (o : Order) (h k : Heap) → AreOrderedChains o h → IsStill o h k → (p : Place) (ids : List ℕ) (to : Option ℕ)
+    → IsRankedPlace o h p → IsPath k p ids to → IsPath h p ids to
+path_still_back o h k c s p [] to l path = leads_same k h p to (sym (s.shows p l)) path
+path_still_back o h k c s p (x ∷ xs) to l path =
     let first = leads_same k h p (Some x) (sym (s.shows p l)) path.0 in
     let (a, own, f) = c.leads p x l first in
-    (first, path_still_back roots h k keys c s (Next x) xs to (key_linked h x a own) path.1)
+    (first, path_still_back o h k c s (Next x) xs to (a, own) path.1)
 
 -- a run leads on from each of its nodes
 
@@ -108,46 +110,46 @@ reaches h p from (x ∷ xs) to z at (leads, next, own, mark, run) (suc i, low, i
     let (ids, link, rest, path, mine, further) = reaches h (Next x) next xs to z (shown_link h x next own) run (i, omega (arith, low), is) in
     (x ∷ ids, link, rest, (record { link = from; at = at; to_is = leads }, path), mine, further)
 
-run_above : (roots : ℕ) (h : Heap) (keys : List ℕ) → AreChains roots h keys → (x : ℕ) (key : ℕ) (next : Link) (others : List ℕ) (z : ℕ) → HasKey h x key
+run_above : (o : Order) (h : Heap) → AreOrderedChains o h → (x : ℕ) (rank : ℕ) (next : Link) (others : List ℕ) (z : ℕ) → HasRank o h x rank
     → HasLink h x next → IsRun h next others (Some z)
-    → (high : ℕ) × HasKey h z high × (key < high)
-run_above roots h keys c x key next others z own l run =
-    let (high, mine, follows) = run_follows roots h keys c (Next x) next others z (key_linked h x key own) (shown_link h x next l) run in
+    → (high : ℕ) × HasRank o h z high × (rank < high)
+run_above o h c x rank next others z own l run =
+    let (high, mine, follows) = run_follows o h c (Next x) next others z (rank, own) (shown_link h x next l) run in
     let (low, same, less, one) = follows in
-    (high, mine, omega (arith, key_one h x low key same own, less))
+    (high, mine, omega (arith, rank_one o h x low rank same own, less))
 
 -- a node of a run that a place leads past is on no chain
 
-module _ (roots : ℕ) (h k : Heap) (keys more : List ℕ) (p : Place) (from to : Link) (over new : List ℕ) (target : Option ℕ) (c : AreChains roots h keys)
-    (d : AreChains roots k more)
-    (m : IsMoved h k p from to) (linked : IsChainPlace p h) (plain : to.mark ≡ false) (run : IsRun h from over target) (way : IsPath k p new target)
+module _ (o : Order) (h k : Heap) (p : Place) (from to : Link) (over new : List ℕ) (target : Option ℕ) (c : AreOrderedChains o h)
+    (d : AreOrderedChains o k)
+    (m : IsMoved h k p from to) (place : IsRankedPlace o h p) (plain : to.mark ≡ false) (run : IsRun h from over target) (way : IsPath k p new target)
   where
-    from_place : (root z key : ℕ) (q : Place) → shown k q ≡ Some to → HasKey k z key → key % roots ≡ root → FollowsOn roots h q key → IsOnChain k root z
+    from_place : (root z rank : ℕ) (q : Place) → shown k q ≡ Some to → HasRank o k z rank → o.root rank ≡ root → RankFollowsOn o h q rank → IsOnChain k root z
         → (ids : List ℕ) × IsPath k q ids (Some z)
-    from_place root z key (Root r) at own same f on = (on.over, subst (λ (x : ℕ). IsPath k (Root x) on.over (Some z)) (sym same ∙ f) on.path)
-    from_place root z key (Side e) at own same f on = absurd f
-    from_place root z key (Next e) at own same (low, mine, less, one) on =
-        let mine_k = m.stays e low mine in
+    from_place root z rank (Root r) at own same f on = (on.over, subst (λ (x : ℕ). IsPath k (Root x) on.over (Some z)) (sym same ∙ f) on.path)
+    from_place root z rank (Side e) at own same f on = absurd f
+    from_place root z rank (Next e) at own same (low, mine, less, one) on =
+        let mine_k = rank_stays o h k m.values e low mine in
         let here : IsOnChain k root e = subst (λ (x : ℕ). IsOnChain k x e) (sym one ∙ same) (d.kept e low to mine_k at plain) in
-        from_low roots k more d (Root root) here.over on.over e z low key mine_k own less here.path on.path
+        from_low o k d (Root root) here.over on.over e z low rank mine_k own less here.path on.path
 
-    pub passed_off : (z : ℕ) → Contains over z → (has z new ≡ true → ⊥) → IsOnNoChain k z
-    passed_off z among old = λ root on.
+    pub passed_off : (z : ℕ) → Contains over z → (has z new ≡ true → ⊥) → (root : ℕ) → o.begins root ≡ true → ¬ IsOnChain k root z
+    passed_off z among old root begins on =
         let (ids, next, rest, path, own_link, further) = reaches h p from over target z m.at run among in
-        let (key, own, follows) = path_follows roots h keys c p ids z linked path in
-        let own_k = m.stays z key own in
-        let (back, path_k) = from_place root z key p m.moved own_k (chain_root roots k more d root z key on own_k) follows on in
-        let beyond : (y : ℕ) → target ≡ Some y → (high : ℕ) × HasKey h y high × (key < high)
-        = λ y is. run_above roots h keys c z key next rest y own own_link (subst (λ (t : Option ℕ). IsRun h next rest t) is further)
+        let (rank, own, follows) = path_follows o h c p ids z place path in
+        let own_k = rank_stays o h k m.values z rank own in
+        let (back, path_k) = from_place root z rank p m.moved own_k (chain_root o k d root z rank begins on own_k) follows on in
+        let beyond : (y : ℕ) → target ≡ Some y → (high : ℕ) × HasRank o h y high × (rank < high)
+        = λ y is. run_above o h c z rank next rest y own own_link (subst (λ (t : Option ℕ). IsRun h next rest t) is further)
         in
         elim (past_path k p new target back z way path_k) [
           | inl is_new ↦ absurd (old is_new)
           | inr past ↦ elim past [
-            | inl end ↦ (let (high, mine, less) = beyond z end in omega (arith, key_one h z high key mine own, less))
+            | inl end ↦ (let (high, mine, less) = beyond z end in omega (arith, rank_one o h z high rank mine own, less))
             | inr on_from ↦
                 let (y, ys, is, path_y, short) = on_from in
                 let (high, mine, less) = beyond y is in
-                omega (arith, less, below roots k more d y ys z high key (m.stays y high mine) own_k path_y)
+                omega (arith, less, below o k d y ys z high rank (rank_stays o h k m.values y high mine) own_k path_y)
           ]
         ]
 
@@ -177,9 +179,9 @@ unlinked_off n agent place from over to id seen holds may run among =
     let h : Heap = run_heap n seen in
     let m = move_moves agent place from (link_over to) h may.fits in
     rw (run_heap-snoc n seen e)
-    (passed_off n.roots h (heap_after agent e.act h) (set_after seen) (set_after (seen ++ e ∷ [])) place from (link_over to) over [] to holds.chains
-    (chains_after n seen e holds may)
-    m may.may_act.linked refl run (record { link = link_over to; at = m.moved; to_is = refl }) id among (λ bad. cc))
+    (λ root. passed_off (chain_order n.roots) h (heap_after agent e.act h) place from (link_over to) over [] to holds.chains.ordered
+    (chains_after n seen e holds may).ordered
+    m may.may_act.linked refl run (record { link = link_over to; at = m.moved; to_is = refl }) id among (λ bad. cc) root refl)
 
 -- the nodes of a run that an Added leads past, from the new node on
 pub added_off : (n : HeapNumbers) (agent : ℕ) (place : Place) (from : Link) (over : List ℕ) (to : Option ℕ) (key fresh id : ℕ) (seen : List (Event ChainNote))
@@ -195,8 +197,8 @@ added_off n agent place from over to key fresh id seen holds may at run among =
     let c = holds.chains in
     let m = move_moves agent place from (link_to fresh) h may.fits in
     let a = may.may_act.1 in
-    let l = place_linked n.roots h keys c (key % n.roots) place a.on_chain in
-    let new = added_linked n.roots h keys agent place from (link_to fresh) key c m a l in
+    let l = add_place n.roots h keys c place from (link_to fresh) key a in
+    let new = add_links n.roots h keys c agent place from (link_to fresh) key may.fits a in
     let same : fresh ≡ a.id = some_same (ap (λ (x : Link). x.to) a.to_is) in
     let own : a.node.link ≡ link_over to =
     link_shown h a.id (link_over to) a.node a.there (subst (λ (x : ℕ). shown h (Next x) ≡ Some (link_over to)) same at) in
@@ -205,11 +207,12 @@ added_off n agent place from over to key fresh id seen holds may at run among =
       record { link = a.node.link; at = new.shows; to_is = ap (λ (x : Link). x.to) own },
     ) in
     rw (run_heap-snoc n seen e)
-    (passed_off n.roots h k keys (set_after (seen ++ e ∷ [])) place from (link_to fresh) over (a.id ∷ []) to c
-    (chains_after n seen e holds may) m l refl run way id among
+    (λ root. passed_off (chain_order n.roots) h k place from (link_to fresh) over (a.id ∷ []) to c.ordered
+    (chains_after n seen e holds may).ordered m l refl run way id among
     (λ is_new.
     let (ids, next, rest, path, own_link, further) = reaches h place from over to id m.at run among in
-    unlinked_apart h a.id id a.node a.there a.unlinked (linked_node h id next own_link) is_new))
+    unlinked_apart h a.id id a.node a.there a.unlinked (linked_node h id next own_link) is_new)
+    root refl)
 
 -- a once linked node that is on no chain stays on none
 
@@ -220,24 +223,25 @@ on_before n es e root id holds may linked =
     let h : Heap = run_heap n es in
     let keys : List ℕ = set_after es in
     let c = holds.chains in
+    let o = chain_order n.roots in
     each_kind n.roots h keys (λ act noted. Fits e.agent act h → IsOnChain (heap_after e.agent act h) root id → IsOnChain h root id)
     (λ act plain fits on. record {
       over = on.over;
-      path = path_still_back n.roots h (heap_after e.agent act h) keys c (act_still e.agent act h fits plain)
-          (Root root) on.over (Some id) tt on.path;
+      path = path_still_back o h (heap_after e.agent act h) c.ordered
+          (unmoved_still o h (heap_after e.agent act h) (act_unmoved e.agent act h fits plain)) (Root root) on.over (Some id) refl on.path;
     })
     (λ p from to by key a fits on.
     let k : Heap = heap_after e.agent (Move p from to) h in
     let m = move_moves e.agent p from to h fits in
-    let new = added_linked n.roots h keys e.agent p from to key c m a (place_linked n.roots h keys c (key % n.roots) p a.on_chain) in
+    let new = add_links n.roots h keys c e.agent p from to key fits a in
     let way : IsPath k p (a.id ∷ []) a.node.link.to =
     (record { link = to; at = m.moved; to_is = ap (λ (x : Link). x.to) a.to_is }, record { link = a.node.link; at = new.shows; to_is = refl }) in
     elim (chain_back h k root p from a.over (a.id ∷ []) a.node.link.to m.at a.run way m.others id on) [
       | inl is_new ↦ absurd (unlinked_apart h a.id id a.node a.there a.unlinked linked is_new)
       | inr before ↦ before
     ])
-    (λ x from to by key r fits on. chain_before n.roots h (heap_after e.agent (Move (Next x) from to) h) keys x from to key c
-    (move_moves e.agent (Next x) from to h fits) r root id on)
+    (λ x from to by key r fits on. chain_before o h (heap_after e.agent (Move (Next x) from to) h) x from to c.ordered
+    (move_moves e.agent (Next x) from to h fits) (remove_marks n.roots h x from to key r) root id on)
     (λ p from to u fits on.
     let m = move_moves e.agent p from to h fits in
     elim (chain_back h (heap_after e.agent (Move p from to) h) root p from (u.first ∷ u.others) [] to.to m.at u.run

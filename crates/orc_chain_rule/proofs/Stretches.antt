@@ -11,21 +11,25 @@ use Rattle.orc_heap.specs.declared.events.Act.TheVariants.{Move}
 use Rattle.orc_heap.specs.declared.events.Event.{Event}
 use Rattle.orc_heap.specs.declared.events.Link.{Link}
 use Rattle.orc_heap.specs.declared.events.Place.{Place}
-use Rattle.orc_heap.specs.declared.events.Place.TheVariants.{Next, Root, Side}
+use Rattle.orc_heap.specs.declared.events.Place.TheVariants.{Next, Root}
 use Rattle.orc_history.specs.SetHistory.{has}
 use Rattle.orc_history.specs.declared.set.SetEntry.{SetEntry}
 use Rattle.orc_history.specs.declared.set.SetEntry.TheVariants.{Added, Asked, Removed}
 use Rattle.orc_chain_rule.specs.declared.chain.ChainNote.{ChainNote}
-use Rattle.orc_chain_rule.specs.ChainDiscipline.{AreChains, ChainHolds, ChainMay, FollowsOn, HasKey, IsOnChain, IsPath, LeadsTo, MayUnlink, entries_in, entries_of, set_after, MayAnswer, IsChainPlace}
-use Rattle.orc_chain_rule.specs.Counts.{AreLeftOver, IsLeftOver, adds_in, removes_in, unlinks_in, unlinks_with}
-use Rattle.orc_chain_rule.specs.Laws.Adding.{added_linked}
 use Rattle.orc_heap.proofs.SingleActs.{has_link, shown_link, some_same}
-use Rattle.orc_chain_rule.specs.Laws.Kinds.{IsMoved, IsStill, act_still, each_kind, move_moves, place_either}
-use Rattle.orc_chain_rule.specs.Laws.Kept.{chain_keeps}
-use Rattle.orc_chain_rule.specs.Laws.Paths.{chain_linked, place_linked}
-use Rattle.orc_chain_rule.specs.Laws.Removing.{chain_before}
-use Rattle.orc_chain_rule.specs.Laws.Sets.{filter_less, has_kept}
-use Rattle.orc_chain_rule.proofs.Leaving.{chain_back, chains_after, chain_step, passed_off, path_still_back}
+use Rattle.orc_ordered_chains.specs.Answers.{MayAnswer}
+use Rattle.orc_ordered_chains.specs.Chains.{AreChains as AreOrderedChains, IsChainPlace as IsRankedPlace, IsOnChain, IsPath, LeadsTo}
+use Rattle.orc_ordered_chains.proofs.Acts.{IsMoved, act_unmoved, move_moves, place_either}
+use Rattle.orc_ordered_chains.proofs.Keys.{filter_less, has_kept}
+use Rattle.orc_ordered_chains.proofs.Later.{follows_on_chain}
+use Rattle.orc_ordered_chains.proofs.Marking.{chain_before}
+use Rattle.orc_ordered_chains.proofs.Paths.{chain_linked}
+use Rattle.orc_ordered_chains.proofs.Still.{IsStill, unmoved_still}
+use Rattle.orc_chain_rule.specs.ChainDiscipline.{ChainHolds, ChainMay, MayUnlink, chain_order, entries_in, entries_of, set_after}
+use Rattle.orc_chain_rule.specs.Counts.{AreLeftOver, IsLeftOver, adds_in, removes_in, unlinks_in, unlinks_with}
+use Rattle.orc_chain_rule.specs.Laws.Kinds.{each_kind, key_linked}
+use Rattle.orc_chain_rule.specs.Laws.Kept.{add_links, chain_keeps, remove_marks}
+use Rattle.orc_chain_rule.proofs.Leaving.{chain_back, chain_step, chains_after, passed_off, path_still_back}
 
 -- numbers in a list
 
@@ -36,22 +40,21 @@ has_among x (y ∷ ys) (suc i, low, is) = or_right (y == x) (has x ys) (has_amon
 
 -- a node left over was left over before
 
-left_still : (roots : ℕ) (h k : Heap) (keys : List ℕ) → AreChains roots h keys → IsStill h k → (id : ℕ) → IsLeftOver k id → IsLeftOver h id
-left_still roots h k keys c s id w =
+-- a node on a chain whose marked link was the same before
+left_was : (roots : ℕ) (h k : Heap) → AreOrderedChains (chain_order roots) h → (id : ℕ) → (w : IsLeftOver k id) → IsOnChain h w.root id
+    → shown h (Next id) ≡ Some w.link → IsLeftOver h id
+left_was roots h k c id w on at =
+    let (key, own) = chain_linked (chain_order roots) h c w.root id refl on in
+    record { root = w.root; on_chain = on; link = w.link; has_link = has_link h id w.link (key_linked h id key own) at; marked = w.marked }
+
+left_still : (roots : ℕ) (h k : Heap) → AreOrderedChains (chain_order roots) h → IsStill (chain_order roots) h k → (id : ℕ) → IsLeftOver k id → IsLeftOver h id
+left_still roots h k c s id w =
+    let o = chain_order roots in
     let on : IsOnChain h w.root id = record {
       over = w.on_chain.over;
-      path = path_still_back roots h k keys c s (Root w.root) w.on_chain.over
-          (Some id) tt w.on_chain.path;
+      path = path_still_back o h k c s (Root w.root) w.on_chain.over (Some id) refl w.on_chain.path;
     } in
-    let l = chain_linked roots h keys c w.root id on in
-    record {
-      root = w.root;
-      on_chain = on;
-      link = w.link;
-      has_link = has_link h id w.link l
-          (sym (s.shows (Next id) l) ∙ shown_link k id w.link w.has_link);
-      marked = w.marked;
-    }
+    left_was roots h k c id w on (sym (s.shows (Next id) (chain_linked o h c w.root id refl on)) ∙ shown_link k id w.link w.has_link)
 
 -- a marked link is no moved one, where the new link is unmarked
 not_moved : (h k : Heap) (p : Place) (from to : Link) (id : ℕ) (link : Link) → IsMoved h k p from to → to.mark ≡ false → shown k (Next id) ≡ Some link
@@ -64,18 +67,10 @@ not_moved h k p from to id link m plain at mark = elim (place_either (Next id) p
   | inr ne ↦ sym (m.others (Next id) ne) ∙ at
 ]
 
-left_moved : (roots : ℕ) (h k : Heap) (keys : List ℕ) (p : Place) (from to : Link) (id : ℕ) → AreChains roots h keys → IsMoved h k p from to → to.mark ≡ false
-    → (w : IsLeftOver k id) → IsOnChain h w.root id → IsLeftOver h id
-left_moved roots h k keys p from to id c m plain w on =
-    let l = chain_linked roots h keys c w.root id on in
-    record {
-      root = w.root;
-      on_chain = on;
-      link = w.link;
-      has_link = has_link h id w.link l
-          (not_moved h k p from to id w.link m plain (shown_link k id w.link w.has_link) w.marked);
-      marked = w.marked;
-    }
+left_moved : (roots : ℕ) (h k : Heap) (p : Place) (from to : Link) (id : ℕ) → AreOrderedChains (chain_order roots) h → IsMoved h k p from to
+    → to.mark ≡ false → (w : IsLeftOver k id) → IsOnChain h w.root id → IsLeftOver h id
+left_moved roots h k p from to id c m plain w on =
+    left_was roots h k c id w on (not_moved h k p from to id w.link m plain (shown_link k id w.link w.has_link) w.marked)
 
 -- what is left over after an event
 
@@ -91,20 +86,19 @@ left_next n es e ids holds may left =
     let h : Heap = run_heap n es in
     let keys : List ℕ = set_after es in
     let c = holds.chains in
-    let after = chains_after n es e holds may in
+    let o = chain_order n.roots in
     each_kind n.roots h keys
-    (λ act noted. (more : List ℕ) → AreChains n.roots (heap_after e.agent act h) more → Fits e.agent act h → LeftAfter (heap_after e.agent act h) noted ids)
-    (λ act plain more d fits. record {
+    (λ act noted. AreOrderedChains o (heap_after e.agent act h) → Fits e.agent act h → LeftAfter (heap_after e.agent act h) noted ids)
+    (λ act plain d fits. record {
       now = ids;
       all = λ id w. left id
-          (left_still n.roots h (heap_after e.agent act h) keys c (act_still e.agent act h fits plain) id w);
+          (left_still n.roots h (heap_after e.agent act h) c.ordered (unmoved_still o h (heap_after e.agent act h) (act_unmoved e.agent act h fits plain)) id w);
       count = omega arith;
     })
-    (λ p from to by key a more d fits.
+    (λ p from to by key a d fits.
     let k : Heap = heap_after e.agent (Move p from to) h in
     let m = move_moves e.agent p from to h fits in
-    let l = place_linked n.roots h keys c (key % n.roots) p a.on_chain in
-    let new = added_linked n.roots h keys e.agent p from to key c m a l in
+    let new = add_links n.roots h keys c e.agent p from to key fits a in
     let way : IsPath k p (a.id ∷ []) a.node.link.to =
     (record { link = to; at = m.moved; to_is = ap (λ (x : Link). x.to) a.to_is }, record { link = a.node.link; at = new.shows; to_is = refl }) in
     record {
@@ -119,11 +113,11 @@ left_next n es e ids holds may left =
               cc
           | inr bad ↦ cc
         ])
-        | inr on ↦ left id (left_moved n.roots h k keys p from to id c m (ap (λ (x : Link). x.mark) a.to_is) w on)
+        | inr on ↦ left id (left_moved n.roots h k p from to id c.ordered m (ap (λ (x : Link). x.mark) a.to_is) w on)
       ];
       count = omega arith;
     })
-    (λ x from to by key r more d fits.
+    (λ x from to by key r d fits.
     let k : Heap = heap_after e.agent (Move (Next x) from to) h in
     let m = move_moves e.agent (Next x) from to h fits in
     record {
@@ -131,60 +125,46 @@ left_next n es e ids holds may left =
       all = λ id w. elim (place_either (Next id) (Next x)) [
         | inl same ↦ or_left (x == id) (has id ids) ((eq-eqb x id (cc)))
         | inr ne ↦
-            let on = chain_before n.roots h k keys x from to key c m r w.root id w.on_chain in
-            let l = chain_linked n.roots h keys c w.root id on in
-            let was : IsLeftOver h id = record {
-              root = w.root;
-              on_chain = on;
-              link = w.link;
-              has_link = has_link h id w.link l
-                  (sym (m.others (Next id) ne) ∙ shown_link k id w.link w.has_link);
-              marked = w.marked;
-            } in
-            or_right (x == id) (has id ids) ((left id was))
+            let on = chain_before o h k x from to c.ordered m (remove_marks n.roots h x from to key r) w.root id w.on_chain in
+            let was = left_was n.roots h k c.ordered id w on (sym (m.others (Next id) ne) ∙ shown_link k id w.link w.has_link) in
+            or_right (x == id) (has id ids) (left id was)
       ];
       count = omega arith;
     })
-    (λ p from to u more d fits.
+    (λ p from to u d fits.
     let k : Heap = heap_after e.agent (Move p from to) h in
     let m = move_moves e.agent p from to h fits in
     let (is, next, own_link, mark, run) = u.run in
     let back : (id : ℕ) → (w : IsLeftOver k id) → IsOnChain h w.root id
     = λ id w. elim (chain_back h k w.root p from (u.first ∷ u.others) [] to.to m.at u.run
     (record { link = to; at = m.moved; to_is = refl }) m.others id w.on_chain) [ inl bad ↦ cc | inr on ↦ on ] in
-    let first_left : has u.first ids ≡ true = first_was p keys c u.linked m.at u is next own_link mark in
+    let first_left : has u.first ids ≡ true = first_was p u.linked m.at u is next own_link mark in
     record {
       now = filter (λ y. not (y == u.first)) ids;
-      all = λ id w. has_kept u.first id ids (left id (left_moved n.roots h k keys p from to id c m u.plain_after w (back id w)))
-          (λ same. passed_off n.roots h k keys more p from to (u.first ∷ u.others) [] to.to c d m u.linked u.plain_after u.run
+      all = λ id w. has_kept u.first id ids (left id (left_moved n.roots h k p from to id c.ordered m u.plain_after w (back id w)))
+          (λ same. passed_off o h k p from to (u.first ∷ u.others) [] to.to c.ordered d m u.linked u.plain_after u.run
           (record { link = to; at = m.moved; to_is = refl }) u.first (zero, omega arith, refl)
-          (λ bad. cc) w.root (subst (λ (z : ℕ). IsOnChain k w.root z) same w.on_chain));
+          (λ bad. cc) w.root refl (subst (λ (z : ℕ). IsOnChain k w.root z) same w.on_chain));
       count = omega (arith, filter_less u.first ids first_left);
     })
-    (λ p link entry t more d fits. record { now = ids; all = λ id w. left id w; count = omega arith })
-    e.act e.note may.may_act (set_after (es ++ e ∷ [])) after may.fits
+    (λ p link entry t d fits. record { now = ids; all = λ id w. left id w; count = omega arith })
+    e.act e.note may.may_act (chains_after n es e holds may).ordered may.fits
   where
-    first_was : (p : Place) (keys : List ℕ) → AreChains n.roots (run_heap n es) keys → IsChainPlace p (run_heap n es) → {from to : Link}
-        → shown (run_heap n es) p ≡ Some from → (u : MayUnlink (run_heap n es) p from to)
+    first_was : (p : Place) → IsRankedPlace (chain_order n.roots) (run_heap n es) p → {from to : Link}
+        → shown (run_heap n es) p ≡ Some from → (u : MayUnlink n.roots (run_heap n es) p from to)
         → from.to ≡ Some u.first → (next : Link) → HasLink (run_heap n es) u.first next → next.mark ≡ true → has u.first ids ≡ true
-    first_was p keys c l {from} {to} at u is next own mark =
-        left u.first (was p l u.plain at (record { link = from; at = at; to_is = is }) (c.leads p u.first l (record { link = from; at = at; to_is = is })))
-      where
-        was : (q : Place) → IsChainPlace q (run_heap n es) → from.mark ≡ false → shown (run_heap n es) q ≡ Some from → LeadsTo (run_heap n es) q (Some u.first)
-            → (key : ℕ) × HasKey (run_heap n es) u.first key × FollowsOn n.roots (run_heap n es) q key → IsLeftOver (run_heap n es) u.first
-        was (Root r) l plain at to_first f = record { root = r; on_chain = record { over = []; path = to_first }; link = next; has_link = own; marked = mark }
-        was (Side e) l plain at to_first f = absurd l
-        was (Next e) l plain at to_first (key, mine, follows) =
-            let (low, low_key, less, same) = follows in
-            let on = c.kept e low from low_key at plain in
-            record {
-              root = low % n.roots;
-              on_chain = chain_step (run_heap n es) (low % n.roots)
-                  (Next e) [] u.first on to_first;
-              link = next;
-              has_link = own;
-              marked = mark;
-            }
+    first_was p l {from} {to} at u is next own mark =
+        let c = holds.chains.ordered in
+        let to_first : LeadsTo (run_heap n es) p (Some u.first) = record { link = from; at = at; to_is = is } in
+        let (key, mine, follows) = c.leads p u.first l to_first in
+        let (on, below) = follows_on_chain (chain_order n.roots) (run_heap n es) c p from key follows at u.plain in
+        left u.first (record {
+          root = key % n.roots;
+          on_chain = chain_step (run_heap n es) (key % n.roots) p [] u.first on to_first;
+          link = next;
+          has_link = own;
+          marked = mark;
+        })
 
 removes_in-append : (es fs : List SetEntry) → removes_in (es ++ fs) ≡ removes_in es + removes_in fs
 removes_in-append [] fs = omega arith

@@ -10,7 +10,7 @@ use Rattle.orc_history.specs.declared.set.SetEntry.{SetEntry}
 use Rattle.orc_history.specs.declared.set.SetEntry.TheVariants.{Added, Asked, Removed}
 use Rattle.orc_chain_rule.specs.declared.chain.ChainNote.{ChainNote}
 use Rattle.orc_chain_rule.specs.declared.chain.ChainNote.TheVariants.{Entry, Unlink}
-use Rattle.orc_chain_rule.specs.ChainDiscipline.{IsOnChain}
+use Rattle.orc_ordered_chains.specs.Chains.{IsOnChain}
 
 -- 1 for an Unlink, and 0 for anything else
 abbrev pub unlinks_with : Option ChainNote → ℕ

@@ -3,7 +3,8 @@ use Rattle.std.specs.Prelude.{List, Option, Some, false, ℕ, ◌≡◌}
 use Rattle.orc_heap.specs.Heap.{Heap, Node, null}
 use Rattle.orc_heap.specs.declared.events.Link.{Link}
 use Rattle.orc_heap.specs.declared.events.Place.{Place}
-use Rattle.orc_chain_rule.specs.ChainDiscipline.{FollowsOn, IsAbove, IsRun, link_over}
+use Rattle.orc_ordered_chains.specs.Chains.{IsRun, link_over}
+use Rattle.orc_chain_rule.specs.ChainDiscipline.{FollowsOn, IsAbove}
 
 -- a place below the key has this unmarked link, which leads over a run of marked nodes, possibly none, to null or above the key. So no
 -- unmarked node behind the place has the key while the place shows the link

@@ -13,7 +13,8 @@ ghost use Rattle.orc_history.specs.Journals.{own_of};
 ghost use Rattle.orc_history.specs.SetHistory.{IsLegalSet, agent_of_set_entry, has};
 ghost use Rattle.orc_history.specs.declared.set.SetEntry.{SetEntry};
 ghost use Rattle.orc_chain_rule.specs.declared.chain.ChainNote.{ChainNote};
-ghost use Rattle.orc_chain_rule.specs.ChainDiscipline.{ChainHolds, ChainMay, FollowsOn, HasKey, IsAbove, IsChainPlace, IsOnChain, IsOnNoChain, IsRun, entries_of, link_over, set_after};
+ghost use Rattle.orc_ordered_chains.specs.Chains.{IsOnChain, IsRun, link_over};
+ghost use Rattle.orc_chain_rule.specs.ChainDiscipline.{ChainHolds, ChainMay, FollowsOn, HasKey, IsAbove, IsChainPlace, IsOnNoChain, entries_of, set_after};
 ghost use Rattle.orc_chain_rule.specs.Counts.{AreLeftOver, adds_in, removes_in, unlinks_in};
 ghost use Rattle.orc_chain_rule.specs.Watches.{LeavesOut, node_to_add};
 

@@ -23,7 +23,8 @@ use Rattle.orc_heap.specs.declared.events.Place.{Place}
 use Rattle.orc_history.specs.declared.set.SetEntry.{SetEntry}
 use Rattle.orc_history.specs.declared.set.SetEntry.TheVariants.{Added}
 use Rattle.orc_chain_rule.proofs.Later.{holds_later, nothing_yet}
-use Rattle.orc_chain_rule.specs.ChainDiscipline.{ChainHolds, ChainMay, FollowsOn, IsAbove, IsRun, entries_of, link_over}
+use Rattle.orc_ordered_chains.specs.Chains.{IsRun, link_over}
+use Rattle.orc_chain_rule.specs.ChainDiscipline.{ChainHolds, ChainMay, FollowsOn, IsAbove, entries_of}
 use Rattle.orc_chain_rule.specs.Watches.{node_to_add}
 use Rattle.orc_chain_rule.specs.declared.chain.ChainNote.{ChainNote}
 use Rattle.orc_list.specs.Inserts.{AddEnds, AddOver, AddsAt, AddsNode, HasRoomFor, InsertEnds, Inserts, InsertsOn, IsInFirst, IsToAdd, KeepsNode, LeavesRunOff, LinkMissed, LinkRefused, LinksNode, LinksTo, SeesAbsent, count_of, slots_with}

@@ -22,7 +22,8 @@ use Rattle.orc_history.specs.declared.set.SetEntry.{SetEntry}
 use Rattle.orc_chain_rule.proofs.Coming.{added_present_allowed, asked_absent_allowed, asked_present_allowed, removed_absent_allowed}
 use Rattle.orc_chain_rule.specs.declared.chain.ChainNote.{ChainNote}
 use Rattle.orc_chain_rule.specs.declared.chain.ChainNote.TheVariants.{Entry}
-use Rattle.orc_chain_rule.specs.ChainDiscipline.{ChainHolds, ChainMay, FollowsOn, HasKey, IsAbove, IsRun, link_over}
+use Rattle.orc_ordered_chains.specs.Chains.{IsRun, link_over}
+use Rattle.orc_chain_rule.specs.ChainDiscipline.{ChainHolds, ChainMay, FollowsOn, HasKey, IsAbove}
 use Rattle.orc_chain_rule.specs.Laws.Kinds.{key_linked}
 use Rattle.orc_list.specs.Searches.{AllGone, BeginsRun, FindsAbsent, FindsPresent, HoldsIfAny, InHand, LeadsOver, left_place, node_of}
 use Rattle.orc_list.specs.Turns.{Enters, IsAbsence, IsPresence, first_or, place_at, target_at}

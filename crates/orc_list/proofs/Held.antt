@@ -14,7 +14,8 @@ use Rattle.orc_heap.specs.declared.events.Event.{Event}
 use Rattle.orc_heap.specs.declared.events.Link.{Link}
 use Rattle.orc_heap.proofs.SingleActs.{linked_node}
 use Rattle.orc_chain_rule.specs.declared.chain.ChainNote.{ChainNote}
-use Rattle.orc_chain_rule.specs.ChainDiscipline.{ChainMay, FollowsOn, IsAbove, IsRun}
+use Rattle.orc_ordered_chains.specs.Chains.{IsRun}
+use Rattle.orc_chain_rule.specs.ChainDiscipline.{ChainMay, FollowsOn, IsAbove}
 use Rattle.orc_chain_rule.specs.Laws.Kinds.{key_linked}
 use Rattle.orc_list.specs.Searches.{AllGone, BeginsRun, FindsAbsent, FindsPresent, HasRoom, HoldsIfAny, InHand, IsLinkedIfAny, LetsGo, NextFollows, Stops, left_place, node_of, slot_in}
 use Rattle.orc_list.proofs.Quiets.{linked_on}

@@ -26,7 +26,8 @@ use Rattle.orc_heap.specs.declared.holds.At.{At}
 use Rattle.orc_heap.specs.declared.holds.Want.{Want}
 use Rattle.orc_history.specs.declared.set.SetEntry.TheVariants.{Added}
 use Rattle.orc_chain_rule.proofs.Coming.{added_allowed}
-use Rattle.orc_chain_rule.specs.ChainDiscipline.{ChainHolds, ChainMay, FollowsOn, IsAbove, IsRun}
+use Rattle.orc_ordered_chains.specs.Chains.{IsRun}
+use Rattle.orc_chain_rule.specs.ChainDiscipline.{ChainHolds, ChainMay, FollowsOn, IsAbove}
 use Rattle.orc_chain_rule.specs.Laws.Kept.{chain_fits, chain_keeps, chain_moves_linked}
 use Rattle.orc_chain_rule.specs.Laws.Kinds.{key_linked}
 use Rattle.orc_chain_rule.specs.Watches.{node_to_add}

@@ -26,7 +26,8 @@ use Rattle.orc_history.specs.declared.set.SetEntry.TheVariants.{Removed}
 use Rattle.orc_chain_rule.proofs.Coming.{removed_allowed, unlink_allowed}
 use Rattle.orc_chain_rule.specs.declared.chain.ChainNote.{ChainNote}
 use Rattle.orc_chain_rule.specs.declared.chain.ChainNote.TheVariants.{Entry, Unlink}
-use Rattle.orc_chain_rule.specs.ChainDiscipline.{ChainHolds, ChainMay, HasKey, IsRun, link_over, IsChainPlace}
+use Rattle.orc_ordered_chains.specs.Chains.{IsRun, link_over}
+use Rattle.orc_chain_rule.specs.ChainDiscipline.{ChainHolds, ChainMay, HasKey, IsChainPlace}
 use Rattle.orc_chain_rule.specs.Laws.Kinds.{key_linked}
 use Rattle.orc_list.specs.Searches.{NextFollows}
 use Rattle.orc_list.specs.Turns.{Marks, TriesUnlink}

@@ -19,7 +19,8 @@ use Rattle.orc_heap.specs.declared.events.Place.TheVariants.{Next}
 use Rattle.orc_history.specs.declared.set.SetEntry.TheVariants.{Added}
 use Rattle.orc_chain_rule.proofs.Later.{holds_later, linked_later, run_later}
 use Rattle.orc_chain_rule.proofs.Leaving.{added_off, off_later}
-use Rattle.orc_chain_rule.specs.ChainDiscipline.{ChainHolds, ChainMay, IsOnNoChain, IsRun, link_over}
+use Rattle.orc_ordered_chains.specs.Chains.{IsRun, link_over}
+use Rattle.orc_chain_rule.specs.ChainDiscipline.{ChainHolds, ChainMay, IsOnNoChain}
 use Rattle.orc_chain_rule.specs.Laws.Kept.{chain_fits, chain_keeps, chain_moves_linked}
 use Rattle.orc_chain_rule.specs.Watches.{node_to_add}
 use Rattle.orc_chain_rule.specs.declared.chain.ChainNote.{ChainNote}

@@ -18,8 +18,9 @@ use Rattle.orc_heap.specs.declared.events.Place.{Place}
 use Rattle.orc_heap.specs.declared.events.Place.TheVariants.{Next, Root, Side}
 use Rattle.orc_chain_rule.proofs.Later.{above_later, follows_later, key_later, linked_later, marked_later, run_later}
 use Rattle.orc_chain_rule.specs.declared.chain.ChainNote.{ChainNote}
-use Rattle.orc_chain_rule.specs.ChainDiscipline.{ChainMay, FollowsOn, HasKey, IsAbove, IsRun, entries_in, entries_of, IsChainPlace}
-use Rattle.orc_chain_rule.specs.Laws.Kinds.{key_linked, linked_place}
+use Rattle.orc_ordered_chains.specs.Chains.{IsRun}
+use Rattle.orc_chain_rule.specs.ChainDiscipline.{ChainMay, FollowsOn, HasKey, IsAbove, entries_in, entries_of, IsChainPlace}
+use Rattle.orc_chain_rule.specs.Laws.Kinds.{key_linked}
 use Rattle.orc_list.specs.Searches.{AreLoads, Behind, IsLinkedIfAny, IsOf, KeysFall, LeadsOver, Looking, NextFollows, Quiet, Visits, left_place}
 use Rattle.orc_list.proofs.Seen.{loads-append, sees_left, sees_run_left}
 
@@ -37,7 +38,9 @@ left_place_on n t (Next id) key (low, own, less, same) = key_linked (heap_of n t
 -- so it is linked
 pub left_place_linked : (n : HeapNumbers) (t : Seat ChainNote) (place : Place) (key : ℕ) → FollowsOn n.roots (heap_of n t) place key
     → IsLinkedPlace place (heap_of n t)
-left_place_linked n t place key f = linked_place place (heap_of n t) (left_place_on n t place key f)
+left_place_linked n t (Root r) key f = tt
+left_place_linked n t (Side id) key f = absurd f
+left_place_linked n t (Next id) key (low, own, less, same) = key_linked (heap_of n t) id low own
 
 module _ (n : HeapNumbers) (t u : Seat ChainNote) (ys : List (Event ChainNote)) (q : Puts t ys u) (all : AllAllowed (ChainMay n) [] u.seen) where
   pub new_allowed : AllAllowed (ChainMay n) t.seen q.part

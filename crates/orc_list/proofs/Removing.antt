@@ -28,9 +28,11 @@ use Rattle.orc_chain_rule.proofs.Later.{linked_later, marked_later, run_later}
 use Rattle.orc_chain_rule.proofs.Leaving.{unlinked_off}
 use Rattle.orc_chain_rule.specs.declared.chain.ChainNote.{ChainNote}
 use Rattle.orc_chain_rule.specs.declared.chain.ChainNote.TheVariants.{Entry, Unlink}
-use Rattle.orc_chain_rule.specs.ChainDiscipline.{ChainHolds, ChainMay, FollowsOn, HasKey, IsOnNoChain, IsRun, entries_of, link_over, IsChainPlace}
+use Rattle.orc_ordered_chains.specs.Chains.{IsRun, link_over}
+use Rattle.orc_chain_rule.specs.ChainDiscipline.{ChainHolds, ChainMay, FollowsOn, HasKey, IsOnNoChain, entries_of, IsChainPlace}
 use Rattle.orc_chain_rule.specs.Laws.Kept.{chain_keeps}
-use Rattle.orc_chain_rule.specs.Laws.Kinds.{key_linked, key_one, move_moves}
+use Rattle.orc_ordered_chains.proofs.Acts.{move_moves}
+use Rattle.orc_chain_rule.specs.Laws.Kinds.{key_linked, key_one}
 use Rattle.orc_list.specs.Searches.{AllGone, BeginsRun, FindsPresent, HoldsIfAny, InHand, NextFollows, Quiet, left_place, node_of}
 use Rattle.orc_list.specs.Turns.{LeavesOff, Made, MarkStops, Marks, TakesKey, TakesOut, Tires, TriesUnlink, first_or, place_at, target_at}
 use Rattle.orc_list.proofs.Answering.{from_is, head_of, place_of_hand, reads_node, target_is}

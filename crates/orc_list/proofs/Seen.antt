@@ -11,7 +11,7 @@ use Rattle.orc_history.specs.SetHistory.{has}
 use Rattle.orc_chain_rule.specs.declared.chain.ChainNote.{ChainNote}
 use Rattle.orc_chain_rule.specs.ChainDiscipline.{HasKey}
 use Rattle.orc_chain_rule.specs.Laws.Kinds.{key_one}
-use Rattle.orc_chain_rule.specs.Laws.Sets.{has_kept}
+use Rattle.orc_ordered_chains.proofs.Keys.{has_kept}
 use Rattle.orc_list.specs.Searches.{AllSeen, AreLoads, CoversLooks, EndsRun, IsFew, KeysFall, Sees, SeesRun, Visits}
 
 pub sees_left : (es fs : List (Event ChainNote)) (place : Place) (link : Link) → Sees es place link → Sees (es ++ fs) place link

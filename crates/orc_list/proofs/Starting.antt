@@ -41,7 +41,7 @@ root_tells n s t root link before rest holds p all =
     record {
       plain = now.chains.plain_roots root link m.here.fits;
       next = λ id to_is.
-          let (key, own, follows) = now.chains.leads (Root root) id tt (record { link = link; at = m.here.fits; to_is = to_is }) in
+          let (key, own, follows) = now.chains.ordered.leads (Root root) id refl (record { link = link; at = m.here.fits; to_is = to_is }) in
           (key, subst (λ es. HasKey (run_heap n es) id key) is (key_later n (s.seen ++ m.before) (e ∷ m.later) id key own later), follows);
     }
 

@@ -23,7 +23,8 @@ use Rattle.orc_heap.specs.declared.holds.Looked.TheVariants.{Moved, Stable}
 use Rattle.orc_heap.specs.declared.holds.Seen.{Seen}
 use Rattle.orc_chain_rule.proofs.Later.{follows_later, holds_later, key_later, linked_later, marked_later}
 use Rattle.orc_chain_rule.specs.declared.chain.ChainNote.{ChainNote}
-use Rattle.orc_chain_rule.specs.ChainDiscipline.{ChainHolds, ChainMay, FollowsOn, HasKey, IsRun, entries_of, link_over}
+use Rattle.orc_ordered_chains.specs.Chains.{IsRun, link_over}
+use Rattle.orc_chain_rule.specs.ChainDiscipline.{ChainHolds, ChainMay, FollowsOn, HasKey, entries_of}
 use Rattle.orc_chain_rule.specs.Laws.Kinds.{key_linked, key_one}
 use Rattle.orc_list.specs.Searches.{AreLoads, Behind, BeginsRun, FindsAbsent, FindsMoved, FindsPresent, HasRoom, IsOf, KeepsFirst, LetsGo, Looking, LooksOn, NextFollows, NextIsOf, Passed, Sees, SeesRun, Stops, Walks, AllGone, node_of, slot_in}
 use Rattle.orc_list.proofs.Held.{FreshIs, first_linked, goes_fresh, goes_hands, left_linked, next_linked, room_at, walk_apart}
@@ -40,7 +41,7 @@ next_at : (n : HeapNumbers) (es : List (Event ChainNote)) (id : ℕ) (link : Lin
     → (to ≡ None) ⊎ ((next : ℕ) × (to ≡ Some next) × (key : ℕ) × HasKey (run_heap n es) next key × FollowsOn n.roots (run_heap n es) (Next id) key)
 next_at n es id link None is holds l at = inl refl
 next_at n es id link (Some next) is holds l at =
-    let (key, own, follows) = holds.chains.leads (Next id) next l (record { link = link; at = at; to_is = is }) in
+    let (key, own, follows) = holds.chains.ordered.leads (Next id) next (holds.chains.keyed id l) (record { link = link; at = at; to_is = is }) in
     inr (next, refl, key, own, follows)
 
 pub look_tells : (n : HeapNumbers) (t u : Seat ChainNote) (id : ℕ) (link : Link) (before rest : List (Event ChainNote)) → ChainHolds n t.seen
@@ -316,7 +317,7 @@ passed_some n root wanted least left first at value s t u w only reads all =
     let there = is_of_puts n t u [] only.puts all wanted w.next_id key is_of in
     let own = subst (λ (i : ℕ). ReadsValue (heap_of n u) i 0 value) id_is reads in
     let node_is : own.node ≡ there.has_key.node = some_same (sym own.there ∙ there.has_key.there) in
-    let is : value ≡ key = own.is key (ap (λ (m : Node). m.first) node_is ∙ there.has_key.key_is) in
+    let is : value ≡ key = own.is key (ap (λ (m : Node). m.first) node_is ∙ there.has_key.rank_is) in
     let up : least ≤ value = omega (arith, is, low) in
     let hands = hands_swap s.slots t.slots (y ∷ []) x z [] (hands_swap s.slots t.slots [] x y (z ∷ []) w.hands) in (
       record {

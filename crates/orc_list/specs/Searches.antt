@@ -19,7 +19,8 @@ use Rattle.orc_heap.specs.declared.holds.Looked.TheVariants.{Moved, Stable}
 use Rattle.orc_heap.specs.declared.holds.Seen.{Seen}
 use Rattle.orc_history.specs.SetHistory.{has}
 use Rattle.orc_chain_rule.specs.declared.chain.ChainNote.{ChainNote}
-use Rattle.orc_chain_rule.specs.ChainDiscipline.{FollowsOn, HasKey, IsAbove, IsRun, entries_of, link_over}
+use Rattle.orc_ordered_chains.specs.Chains.{IsRun, link_over}
+use Rattle.orc_chain_rule.specs.ChainDiscipline.{FollowsOn, HasKey, IsAbove, entries_of}
 use Rattle.orc_list.specs.declared.search.Searched.{Searched}
 use Rattle.orc_list.specs.declared.search.Searched.TheVariants.{Absent, Over, Present}
 use Rattle.orc_list.specs.declared.search.Stepped.{Stepped}

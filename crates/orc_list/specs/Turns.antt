@@ -16,7 +16,8 @@ use Rattle.orc_history.specs.declared.set.SetEntry.{SetEntry}
 use Rattle.orc_history.specs.declared.set.SetEntry.TheVariants.{Added, Asked, Removed}
 use Rattle.orc_chain_rule.specs.declared.chain.ChainNote.{ChainNote}
 use Rattle.orc_chain_rule.specs.declared.chain.ChainNote.TheVariants.{Entry, Unlink}
-use Rattle.orc_chain_rule.specs.ChainDiscipline.{IsOnNoChain, entries_of, link_over}
+use Rattle.orc_ordered_chains.specs.Chains.{link_over}
+use Rattle.orc_chain_rule.specs.ChainDiscipline.{IsOnNoChain, entries_of}
 use Rattle.orc_list.specs.Searches.{AreLoads, CoversLooks, Sees, SeesRun}
 
 -- the left place, by what the pass holds

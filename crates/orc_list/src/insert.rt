@@ -7,7 +7,8 @@ ghost use Rattle.orc_heap.specs.Seats.{HoldsTarget, IsIdle, Seat, heap_of, targe
 ghost use Rattle.orc_heap.specs.Slots.{Hold, Slots};
 ghost use Rattle.orc_history.specs.Journals.{Within};
 ghost use Rattle.orc_history.specs.declared.set.ListRefused.{ListRefused};
-ghost use Rattle.orc_chain_rule.specs.ChainDiscipline.{FollowsOn, IsAbove, IsRun, link_over};
+ghost use Rattle.orc_ordered_chains.specs.Chains.{IsRun, link_over};
+ghost use Rattle.orc_chain_rule.specs.ChainDiscipline.{FollowsOn, IsAbove};
 ghost use Rattle.orc_chain_rule.specs.declared.chain.ChainNote.{ChainNote};
 ghost use Rattle.orc_list.specs.Answers.{InsertAnswers, InsertsTurns};
 ghost use Rattle.orc_list.specs.Causes.{WithinPart};

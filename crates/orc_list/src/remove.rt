@@ -4,7 +4,8 @@ ghost use Rattle.std.specs.Prelude.{◌≡◌, ◌<◌, ◌%◌, ℕ, List, ◌�
 ghost use mathlib.Core.List.{IsPrefix};
 ghost use Rattle.orc_heap.specs.Seats.{Seat, heap_of};
 ghost use Rattle.orc_heap.specs.Slots.{Holds, id_in};
-ghost use Rattle.orc_chain_rule.specs.ChainDiscipline.{HasKey, IsChainPlace, IsRun, link_over};
+ghost use Rattle.orc_ordered_chains.specs.Chains.{IsRun, link_over};
+ghost use Rattle.orc_chain_rule.specs.ChainDiscipline.{HasKey, IsChainPlace};
 ghost use Rattle.orc_chain_rule.specs.declared.chain.ChainNote.{ChainNote};
 ghost use Rattle.orc_list.specs.Answers.{RemovesTurns};
 ghost use Rattle.orc_list.specs.Causes.{HasWorn};

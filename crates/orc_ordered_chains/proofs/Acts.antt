@@ -9,9 +9,9 @@ use Rattle.orc_heap.proofs.Linked.{linked_after}
 use Rattle.orc_heap.proofs.Moved.{shown_after, shown_node}
 use Rattle.orc_heap.proofs.SingleActs.{node_shown, some_same}
 use Rattle.orc_heap.specs.Acts.{Fits, as_linked, change_target, heap_after, set_link, with_link, with_side}
-use Rattle.orc_heap.specs.Allowed.{AreSidesNull, IsLinkedNode}
+use Rattle.orc_heap.specs.Allowed.{AreSidesNull, IsLinkedNode, MovesLinked}
 use Rattle.orc_heap.specs.Heap.{Heap, Node, change, null, shown}
-use Rattle.orc_heap.specs.Journals.{moves_to, names_node}
+use Rattle.orc_heap.specs.Journals.{IsPlainAct, moves_to, names_node}
 use Rattle.orc_heap.specs.Moves.{IsLinkedPlace, move_with}
 use Rattle.orc_heap.specs.declared.events.Act.{Act}
 use Rattle.orc_heap.specs.declared.events.Act.TheVariants.{Aim, AimSide, Fill, Give, Look, Miss, Move}
@@ -186,6 +186,24 @@ no_move_to (Look place l) d p = refl
 no_move_to (Move place from to) d p = cc
 no_move_to (Miss place wanted found) d p = refl
 
+pub no_move_linked : (act : Act) (h : Heap) → move_with act ≡ 0 → MovesLinked act h
+no_move_linked Give h p = tt
+no_move_linked (Fill id which value) h p = tt
+no_move_linked (Aim id to) h p = tt
+no_move_linked (AimSide id to) h p = tt
+no_move_linked (Look place link) h p = tt
+no_move_linked (Move place from to) h p = cc
+no_move_linked (Miss place wanted found) h p = tt
+
+pub no_move_plain : (act : Act) → IsPlainAct act → move_with act ≡ 0
+no_move_plain Give p = refl
+no_move_plain (Fill id which value) p = refl
+no_move_plain (Aim id to) p = refl
+no_move_plain (AimSide id to) p = refl
+no_move_plain (Look place link) p = refl
+no_move_plain (Move place from to) p = absurd p
+no_move_plain (Miss place wanted found) p = refl
+
 pub act_unmoved : (agent : ℕ) (act : Act) (h : Heap) → Fits agent act h → move_with act ≡ 0 → IsUnmoved h (heap_after agent act h)
 act_unmoved agent act h fits plain = record {
   shows = λ place l. shown_after agent act h place fits l plain;
@@ -241,6 +259,12 @@ module _ (o : Order) where
   chain_place_linked h (Root r) on = tt
   chain_place_linked h (Next id) (rank, own) = rank_linked h id rank own
   chain_place_linked h (Side id) on = absurd on
+
+  -- a Move of it is one of a linked place
+  pub chain_place_moves : (h : Heap) (p : Place) (from to : Link) → IsChainPlace o h p → MovesLinked (Move p from to) h
+  chain_place_moves h (Root r) from to on = tt
+  chain_place_moves h (Next id) from to (rank, own) = rank_linked h id rank own
+  chain_place_moves h (Side id) from to on = absurd on
 
   -- a place of a chain is no second link
   pub chain_place_first : (h : Heap) (p : Place) (id : ℕ) → IsChainPlace o h p → Side id ≢ p

@@ -20,12 +20,26 @@ pub record Order : Type 0 where
 abbrev pub link_over : Option ℕ → Link
 link_over to = record { to = to; mark = false }
 
--- a once linked node with this rank
-pub record HasRank (o : Order) (h : Heap) (id rank : ℕ) : Type 0 where
-  pub node : Node
-  pub there : slice_get h.nodes id ≡ Some node
-  pub linked : node.linked ≡ true
-  pub rank_is : o.rank node.first node.second ≡ Some rank
+-- what ranks alone say
+module _ (rank_of : Option ℕ → Option ℕ → Option ℕ) where
+  -- a once linked node with this rank
+  pub record HasRankBy (h : Heap) (id rank : ℕ) : Type 0 where
+    pub node : Node
+    pub there : slice_get h.nodes id ≡ Some node
+    pub linked : node.linked ≡ true
+    pub rank_is : rank_of node.first node.second ≡ Some rank
+
+  -- the target is null, or a node with a greater rank
+  abbrev pub IsAboveBy : Heap → Option ℕ → ℕ → Type 0
+  IsAboveBy h None rank = Unit {0}
+  IsAboveBy h (Some id) rank = (high : ℕ) × HasRankBy h id high × (rank < high)
+
+-- the same in an order
+abbrev pub HasRank : Order → Heap → ℕ → ℕ → Type 0
+HasRank o h id rank = HasRankBy o.rank h id rank
+
+abbrev pub IsAbove : Order → Heap → Option ℕ → ℕ → Type 0
+IsAbove o h to rank = IsAboveBy o.rank h to rank
 
 -- the place's link, marked or not, has this target
 pub record LeadsTo (h : Heap) (place : Place) (to : Option ℕ) : Type 0 where
@@ -68,11 +82,6 @@ module _ (o : Order) where
   IsBelow h (Next id) rank = (low : ℕ) × HasRank o h id low × (low < rank)
   IsBelow h (Side id) rank = ⊥
 
-  -- the target is null, or a node with a greater rank
-  abbrev pub IsAbove : Heap → Option ℕ → ℕ → Type 0
-  IsAbove h None rank = Unit {0}
-  IsAbove h (Some id) rank = (high : ℕ) × HasRank o h id high × (rank < high)
-
   -- this rank may follow the place: it is of that root, or greater than the node's and of the same root
   abbrev pub FollowsOn : Heap → Place → ℕ → Type 0
   FollowsOn h (Root r) rank = o.root rank ≡ r
@@ -102,7 +111,7 @@ module _ (o : Order) where
     pub own_plain : node.link.mark ≡ false
     pub over : List ℕ
     pub run : IsRun h from over node.link.to
-    pub above : IsAbove h node.link.to rank
+    pub above : IsAbove o h node.link.to rank
     pub side_null : HasNullSide h id
 
   -- a node is marked: its link gets a mark, and keeps its target

@@ -1,51 +1,44 @@
 -- What the discipline owes to the traits of disciplines.
-use Rattle.std.proofs.Common.{List, None, Option, Some, [], ap, arith, false, inl, inr, refl, subst, sym, true, ℕ, ◌++◌, ◌∙◌, ◌∷◌, ◌≡◌, ◌⊎◌, ◌%◌}
+use Rattle.std.proofs.Common.{List, None, Option, Some, [], ap, arith, false, filter, inl, inr, not, refl, subst, sym, true, ℕ, ◌++◌, ◌==◌, ◌∙◌, ◌∷◌, ◌≡◌, ◌⊎◌}
 use Rattle.std.proofs.lemmas.Bool.{false_from_ne_true}
 use Rattle.std.specs.List.{slice_get}
 use Rattle.std.specs.Prelude.{unwrap_or}
 use Rattle.orc_heap.proofs.Linked.{linked_after}
+use Rattle.orc_heap.proofs.Moved.{shown_node}
 use Rattle.orc_heap.proofs.Runs.{lawful-snoc, run_heap-snoc}
+use Rattle.orc_heap.proofs.Sides.{side_rises}
+use Rattle.orc_heap.proofs.SingleActs.{linked_node, shown_link, some_same}
 use Rattle.orc_heap.specs.Acts.{Fits, heap_after}
-use Rattle.orc_heap.specs.Allowed.{LeadsUp, MovesLinked, Rises, HasLink}
+use Rattle.orc_heap.specs.Allowed.{AreSidesNull, HasLink, HasNullSide, IsLinkedNode, LeadsUp, MovesLinked, Rises}
 use Rattle.orc_heap.specs.Heap.{Heap, HeapNumbers, Node, shown}
-use Rattle.orc_heap.specs.Journals.{FitsAfter, IsPlain, IsPlainAct, event_by, run_heap}
+use Rattle.orc_heap.specs.Journals.{FitsAfter, IsPlain, event_by, run_heap}
 use Rattle.orc_heap.specs.Moves.{move_with}
 use Rattle.orc_heap.specs.declared.events.Act.{Act}
-use Rattle.orc_heap.specs.declared.events.Act.TheVariants.{Aim, Fill, Give, Look, Miss, Move, AimSide}
+use Rattle.orc_heap.specs.declared.events.Act.TheVariants.{Look, Move}
 use Rattle.orc_heap.specs.declared.events.Event.{Event}
 use Rattle.orc_heap.specs.declared.events.Link.{Link}
 use Rattle.orc_heap.specs.declared.events.Place.{Place}
 use Rattle.orc_heap.specs.declared.events.Place.TheVariants.{Next, Root, Side}
-use Rattle.orc_history.specs.SetHistory.{IsLegalSet, IsLegalSetFrom, has, keys_after}
-use Rattle.orc_history.specs.declared.set.SetEntry.{SetEntry}
-use Rattle.orc_history.specs.declared.set.SetEntry.TheVariants.{Added, Asked, Removed}
 use Rattle.orc_history.proofs.SetHistories.{IsLegalSetFrom-snoc}
+use Rattle.orc_history.specs.SetHistory.{IsLegalSet, IsLegalSetFrom, has}
+use Rattle.orc_history.specs.declared.set.SetEntry.{SetEntry}
+use Rattle.orc_history.specs.declared.set.SetEntry.TheVariants.{Added, Removed}
+use Rattle.orc_ordered_chains.specs.Chains.{IsChainPlace as IsRankedPlace, IsLive, MayMark}
+use Rattle.orc_ordered_chains.proofs.Acts.{IsLinkedIn, IsMoved, act_unmoved, chain_place_first, chain_place_linked, chain_place_moves, move_links, move_moves, no_move_linked, no_move_plain, place_either, rank_linked, rank_one, rank_stays, sides_unmoved}
+use Rattle.orc_ordered_chains.proofs.Keys.{answer_keys, answer_legal, split_snoc}
+use Rattle.orc_ordered_chains.proofs.Linking.{chains_link, link_absent, link_old, live_before_link, live_link, live_new}
+use Rattle.orc_ordered_chains.proofs.Marking.{chains_mark, live_before_mark, live_mark, mark_old}
+use Rattle.orc_ordered_chains.proofs.Paths.{one_live, place_on_chain}
+use Rattle.orc_ordered_chains.proofs.Still.{chains_still, live_before, live_still, unmoved_still}
+use Rattle.orc_ordered_chains.proofs.Unlinking.{chains_unlink, live_before_unlink, live_unlink, unlink_old}
 use Rattle.orc_chain_rule.specs.declared.chain.ChainNote.{ChainNote}
 use Rattle.orc_chain_rule.specs.declared.chain.ChainNote.TheVariants.{Entry, Unlink}
-use Rattle.orc_chain_rule.specs.ChainDiscipline.{AreChains, ChainHolds, ChainMay, HasKey, MayAct, MayAnswer, chain_rank, entries_of, key_of, set_after, IsOwnEntry, IsChainPlace}
-use Rattle.orc_chain_rule.specs.Laws.Adding.{added_linked, chains_add, was_absent}
-use Rattle.orc_chain_rule.specs.Laws.Chains.{chains_still}
-use Rattle.orc_heap.proofs.Moved.{shown_node}
-use Rattle.orc_heap.proofs.Sides.{side_rises}
-use Rattle.orc_heap.proofs.SingleActs.{linked_node, shown_link, some_same}
-use Rattle.orc_chain_rule.specs.Laws.Kinds.{act_still, each_kind, key_linked, move_moves, no_move_linked, place_either}
-use Rattle.orc_chain_rule.specs.Laws.Paths.{place_linked}
-use Rattle.orc_chain_rule.specs.Laws.Sides.{sides_next}
-use Rattle.orc_chain_rule.specs.Laws.Removing.{chains_remove, was_present}
-use Rattle.orc_chain_rule.specs.Laws.Sets.{entries_more, entries_same, set_more}
-use Rattle.orc_chain_rule.specs.Laws.Unlinking.{chains_unlink}
+use Rattle.orc_chain_rule.specs.ChainDiscipline.{AreChains, ChainHolds, ChainMay, HasKey, IsOwnEntry, MayAct, MayAdd, MayRemove, MayUnlink, chain_order, chain_rank, entries_of, key_of, set_after}
+use Rattle.orc_chain_rule.specs.Laws.Kinds.{each_kind}
+use Rattle.orc_chain_rule.specs.Laws.Sets.{entries_more, entries_same, live_present, present_live, set_added, set_more, set_removed, set_same}
 
 pub chain_fits : (n : HeapNumbers) (seen : List (Event ChainNote)) (e : Event ChainNote) → ChainHolds n seen → ChainMay n seen e → FitsAfter n seen e
 chain_fits n seen e holds may = may.fits
-
-no_move_plain : (act : Act) → IsPlainAct act → move_with act ≡ 0
-no_move_plain Give p = refl
-no_move_plain (Fill id which value) p = refl
-no_move_plain (Aim id to) p = refl
-no_move_plain (AimSide id to) p = refl
-no_move_plain (Look place link) p = refl
-no_move_plain (Move place from to) p = absurd p
-no_move_plain (Miss place wanted found) p = refl
 
 pub chain_allows_plain : (n : HeapNumbers) (seen : List (Event ChainNote)) (e : Event ChainNote) → ChainHolds n seen → FitsAfter n seen e → IsPlain e
     → ChainMay n seen e
@@ -55,20 +48,21 @@ chain_allows_plain n seen e holds fits plain = record {
   own = subst (λ (x : Option ChainNote). IsOwnEntry e.agent x) (sym plain.0) tt;
 }
 
-moves_linked : (p : Place) (from to : Link) (h : Heap) → IsChainPlace p h → MovesLinked (Move p from to) h
-moves_linked (Root r) from to h l = tt
-moves_linked (Side d) from to h l = absurd l
-moves_linked (Next d) from to h l = l
+-- the place of a Move that adds a key
+pub add_place : (roots : ℕ) (h : Heap) (keys : List ℕ) → AreChains roots h keys → (p : Place) (from to : Link) (key : ℕ) → MayAdd roots h p from to key
+    → IsRankedPlace (chain_order roots) h p
+add_place roots h keys c p from to key a = place_on_chain (chain_order roots) h c.ordered key p a.on_chain
 
 pub chain_moves_linked : (n : HeapNumbers) (seen : List (Event ChainNote)) (e : Event ChainNote) → ChainHolds n seen → ChainMay n seen e
     → MovesLinked e.act (run_heap n seen)
 chain_moves_linked n seen e holds may =
     let h : Heap = run_heap n seen in
+    let o = chain_order n.roots in
     each_kind n.roots h (set_after seen) (λ act noted. MovesLinked act h)
     (λ act plain. no_move_linked act h plain)
-    (λ p from to by key a. moves_linked p from to h (place_linked n.roots h (set_after seen) holds.chains (key % n.roots) p a.on_chain))
-    (λ x from to by key r. key_linked h x key r.has_key)
-    (λ p from to u. moves_linked p from to h u.linked)
+    (λ p from to by key a. chain_place_moves o h p from to (add_place n.roots h (set_after seen) holds.chains p from to key a))
+    (λ x from to by key r. rank_linked o h x key r.has_key)
+    (λ p from to u. chain_place_moves o h p from to u.linked)
     (λ p link entry t. tt)
     e.act e.note may.may_act
 
@@ -79,65 +73,191 @@ legal_one : (es : List (Event ChainNote)) (e : Event ChainNote) (entry : SetEntr
     → IsLegalSet (entries_of (es ++ e ∷ []))
 legal_one es e entry note_is legal one = rw (entries_more es e entry note_is) (IsLegalSetFrom-snoc [] (entries_of es) entry legal one)
 
-answer_legal : (keys : List ℕ) (entry : SetEntry) → MayAnswer keys entry → IsLegalSetFrom keys (entry ∷ [])
-answer_legal keys (Added by key answer) (is, there) = (rw (is, there) refl, tt)
-answer_legal keys (Removed by key answer) (is, none) = (rw (is, none) refl, tt)
-answer_legal keys (Asked by key answer) is = (is, tt)
+-- a Removed true marks a node
+pub remove_marks : (roots : ℕ) (h : Heap) (x : ℕ) (from to : Link) (key : ℕ) → MayRemove h x from to key → MayMark (chain_order roots) h x from to
+remove_marks roots h x from to key r = record { rank = key; has_rank = r.has_key; plain = r.plain; to_is = r.to_is }
 
-answer_keys : (keys : List ℕ) (entry : SetEntry) → MayAnswer keys entry → keys_after keys (entry ∷ []) ≡ keys
-answer_keys keys (Added by key answer) (is, there) = rw is refl
-answer_keys keys (Removed by key answer) (is, none) = rw is refl
-answer_keys keys (Asked by key answer) is = refl
+-- what a heap with these keys is
+record AreLists (roots : ℕ) (h : Heap) (keys : List ℕ) : Type 0 where
+  chains : AreChains roots h keys
+  sides : AreSidesNull h
 
--- what an event leaves of the history and of the chains
+module _ (roots : ℕ) (h k : Heap) (keys : List ℕ) (c : AreLists roots h keys) where
+  lists_unmoved : (agent : ℕ) (act : Act) → Fits agent act h → move_with act ≡ 0 → AreLists roots (heap_after agent act h) keys
+  lists_unmoved agent act fits plain =
+      let g : Heap = heap_after agent act h in
+      let o = chain_order roots in
+      let u = act_unmoved agent act h fits plain in
+      let still = unmoved_still o h g u in
+      let ordered = chains_still o h g c.chains.ordered still in
+      record {
+        chains = record {
+          keyed = λ id l. let (key, own) = c.chains.keyed id (u.old id l) in (key, rank_stays o h g u.values id key own);
+          ordered = ordered;
+          plain_roots = λ r link at. c.chains.plain_roots r link (sym (u.shows (Root r) tt) ∙ at);
+          set = set_same roots h g keys c.chains ordered (live_still o h g still) (live_before o h g still);
+        };
+        sides = sides_unmoved h g u c.sides;
+      }
+
+  -- after a Move of a place of a chain, to an unmarked link if it is a root
+
+  module _ (p : Place) (from to : Link) (m : IsMoved h k p from to) (on : IsRankedPlace (chain_order roots) h p) where
+    roots_moved : ((r : ℕ) → Root r ≡ p → to.mark ≡ false) → (r : ℕ) (link : Link) → shown k (Root r) ≡ Some link → link.mark ≡ false
+    roots_moved plain r link at = elim (place_either (Root r) p) [
+      | inl same ↦
+          let is : link ≡ to = some_same (sym at ∙ subst (λ (z : Place). shown k z ≡ Some to) (sym same) m.moved) in
+          ap (λ (x : Link). x.mark) is ∙ plain r same
+      | inr ne ↦ c.chains.plain_roots r link (sym (m.others (Root r) ne) ∙ at)
+    ]
+
+    sides_moved : ((id : ℕ) → IsLinkedNode k id → IsLinkedNode h id ⊎ HasNullSide h id) → AreSidesNull k
+    sides_moved old id l link at =
+        let was = sym (m.others (Side id) (chain_place_first (chain_order roots) h p id on)) ∙ at in
+        elim (old id l) [ inl before ↦ c.sides id before link was | inr null ↦ null link was ]
+
+    keyed_old : (id : ℕ) → IsLinkedNode h id → (key : ℕ) × HasKey k id key
+    keyed_old id l = let (key, own) = c.chains.keyed id l in (key, rank_stays (chain_order roots) h k m.values id key own)
+
+  lists_unlink : (p : Place) (from to : Link) → IsMoved h k p from to → MayUnlink roots h p from to → AreLists roots k keys
+  lists_unlink p from to m u =
+      let o = chain_order roots in
+      let old = unlink_old o h k p from to c.chains.ordered m u in
+      let ordered = chains_unlink o h k p from to c.chains.ordered m u in
+      record {
+        chains = record {
+          keyed = λ id l. keyed_old p from to m u.linked id (old id l);
+          ordered = ordered;
+          plain_roots = roots_moved p from to m u.linked (λ r same. u.plain_after);
+          set = set_same roots h k keys c.chains ordered
+              (live_unlink o h k p from to c.chains.ordered m u)
+              (live_before_unlink o h k p from to c.chains.ordered m u);
+        };
+        sides = sides_moved p from to m u.linked (λ id l. inl (old id l));
+      }
+
+  module _ (p : Place) (from to : Link) (key : ℕ) (m : IsMoved h k p from to) (a : MayAdd roots h p from to key) (new : IsLinkedIn h k a.id a.node) where
+    lists_add : AreLists roots k (keys ++ key ∷ [])
+    lists_add =
+        let o = chain_order roots in
+        let on = add_place roots h keys c.chains p from to key a in
+        let old = link_old o h k p from to key c.chains.ordered m a new in
+        let own = live_new o h k p from to key c.chains.ordered m a new in
+        let ordered = chains_link o h k p from to key c.chains.ordered m a new in
+        record {
+          chains = record {
+            keyed = λ id l. elim (old id l) [
+              | inl before ↦ keyed_old p from to m on id before
+              | inr is ↦ (key, subst (λ (z : ℕ). HasKey k z key) (sym is) own.has_rank)
+            ];
+            ordered = ordered;
+            plain_roots = roots_moved p from to m on (λ r same. ap (λ (l : Link). l.mark) a.to_is);
+            set = set_added roots h k keys c.chains ordered a.id key own
+                (live_link o h k p from to key c.chains.ordered m a new)
+                (λ id b y. elim (live_before_link o h k p from to key c.chains.ordered m a new id b y) [
+                  | inl before ↦ inl before
+                  | inr is ↦ inr (rank_one o k id key b (subst (λ (z : ℕ). HasKey k z key) (sym is) own.has_rank) y.has_rank)
+                ]);
+          };
+          sides = sides_moved p from to m on (λ id l. elim (old id l) [
+            | inl before ↦ inl before
+            | inr is ↦ inr (subst (HasNullSide h) (sym is) a.side_null)
+          ]);
+        }
+
+    -- and the key was absent
+    add_absent : has key keys ≡ false
+    add_absent = false_from_ne_true (has key keys) (λ is.
+        let y = (c.chains.set key).0 is in
+        link_absent (chain_order roots) h k p from to key c.chains.ordered m a new y.id (present_live roots h key y))
+
+  -- a node is marked
+
+  module _ (x : ℕ) (from to : Link) (key : ℕ) (m : IsMoved h k (Next x) from to) (r : MayRemove h x from to key) where
+    mark : MayMark (chain_order roots) h x from to
+    mark = remove_marks roots h x from to key r
+
+    gone : IsLive (chain_order roots) h x key
+    gone = record { has_rank = r.has_key; link = from; at = m.at; unmarked = r.plain }
+
+    lists_remove : AreLists roots k (filter (λ y. not (y == key)) keys)
+    lists_remove =
+        let o = chain_order roots in
+        let on : IsRankedPlace o h (Next x) = (key, r.has_key) in
+        let old = mark_old o h k x from to c.chains.ordered m mark in
+        let ordered = chains_mark o h k x from to c.chains.ordered m mark in
+        record {
+          chains = record {
+            keyed = λ id l. keyed_old (Next x) from to m on id (old id l);
+            ordered = ordered;
+            plain_roots = roots_moved (Next x) from to m on (λ s same. cc);
+            set = set_removed roots h k keys c.chains ordered key
+                (λ id b ne y. live_mark o h k x from to c.chains.ordered m mark id b
+                (λ same. ne (rank_one o h x b key (subst (λ (z : ℕ). HasKey h z b) same y.has_rank) r.has_key)) y)
+                (λ id b y.
+                let (apart, was) = live_before_mark o h k x from to c.chains.ordered m mark id b y in
+                (λ same. apart (one_live o h c.chains.ordered id x key (subst (λ (z : ℕ). IsLive o h id z) same was) gone), was));
+          };
+          sides = sides_moved (Next x) from to m on (λ id l. inl (old id l));
+        }
+
+    remove_present : has key keys ≡ true
+    remove_present = (c.chains.set key).1 (live_present roots h c.chains.ordered x key gone)
+
+-- the node that an Added links
+pub add_links : (roots : ℕ) (h : Heap) (keys : List ℕ) → AreChains roots h keys → (agent : ℕ) (p : Place) (from to : Link) (key : ℕ)
+    → Fits agent (Move p from to) h → (a : MayAdd roots h p from to key) → IsLinkedIn h (heap_after agent (Move p from to) h) a.id a.node
+add_links roots h keys c agent p from to key fits a =
+    move_links agent p from to h a.id a.node fits (chain_place_linked (chain_order roots) h p (add_place roots h keys c p from to key a))
+    (ap (λ (l : Link). l.to) a.to_is) a.there a.unlinked
+
+-- what an event leaves of the history and of the heap
 record Leaves (n : HeapNumbers) (es : List (Event ChainNote)) (e : Event ChainNote) : Type 0 where
   legal : IsLegalSet (entries_of (es ++ e ∷ []))
-  chains : AreChains n.roots (heap_after e.agent e.act (run_heap n es)) (set_after (es ++ e ∷ []))
+  lists : AreLists n.roots (heap_after e.agent e.act (run_heap n es)) (set_after (es ++ e ∷ []))
 
 leaves : (n : HeapNumbers) (es : List (Event ChainNote)) (e : Event ChainNote) → ChainHolds n es → ChainMay n es e → Leaves n es e
 leaves n es e holds may =
     let h : Heap = run_heap n es in
     let keys : List ℕ = set_after es in
-    let c = holds.chains in
+    let c : AreLists n.roots h keys = record { chains = holds.chains; sides = holds.sides } in
     each_kind n.roots h keys (λ act noted. Fits e.agent act h → Leaves n es (event_by e.agent act noted))
     (λ act plain fits.
     let x : Event ChainNote = event_by e.agent act None in
     record {
       legal = rw (entries_same es x refl) holds.legal;
-      chains = rw (entries_same es x refl) (chains_still n.roots h (heap_after e.agent act h) keys c (act_still e.agent act h fits plain));
+      lists = rw (entries_same es x refl) (lists_unmoved n.roots h h keys c e.agent act fits plain);
     })
     (λ p from to by key a fits.
     let x : Event ChainNote = event_by e.agent (Move p from to) (Some (Entry (Added by key true))) in
     let k : Heap = heap_after e.agent (Move p from to) h in
     let m = move_moves e.agent p from to h fits in
-    let l = place_linked n.roots h keys c (key % n.roots) p a.on_chain in
-    let new = added_linked n.roots h keys e.agent p from to key c m a l in
-    let none : has key keys ≡ false = false_from_ne_true (has key keys) (λ is. was_absent n.roots h k keys p from to key c m a l new ((c.set key).0 is)) in
+    let new = add_links n.roots h keys holds.chains e.agent p from to key fits a in
     record {
-      legal = legal_one es x (Added by key true) refl holds.legal (rw none refl, tt);
-      chains = rw (set_more es x (Added by key true) refl) (chains_add n.roots h k keys p from to key c m a l new);
+      legal = legal_one es x (Added by key true) refl holds.legal (rw (add_absent n.roots h k keys c p from to key m a new) refl, tt);
+      lists = rw (set_more es x (Added by key true) refl) (lists_add n.roots h k keys c p from to key m a new);
     })
     (λ d from to by key r fits.
     let x : Event ChainNote = event_by e.agent (Move (Next d) from to) (Some (Entry (Removed by key true))) in
     let k : Heap = heap_after e.agent (Move (Next d) from to) h in
     let m = move_moves e.agent (Next d) from to h fits in
     record {
-      legal = legal_one es x (Removed by key true) refl holds.legal (sym ((c.set key).1 (was_present n.roots h k keys d from to key c m r)), tt);
-      chains = rw (set_more es x (Removed by key true) refl) (chains_remove n.roots h k keys d from to key c m r);
+      legal = legal_one es x (Removed by key true) refl holds.legal (sym (remove_present n.roots h k keys c d from to key m r), tt);
+      lists = rw (set_more es x (Removed by key true) refl) (lists_remove n.roots h k keys c d from to key m r);
     })
     (λ p from to u fits.
     let x : Event ChainNote = event_by e.agent (Move p from to) (Some Unlink) in
     record {
       legal = rw (entries_same es x refl) holds.legal;
-      chains =
+      lists =
           rw (entries_same es x refl)
-          (chains_unlink n.roots h (heap_after e.agent (Move p from to) h) keys p from to c (move_moves e.agent p from to h fits) u);
+          (lists_unlink n.roots h (heap_after e.agent (Move p from to) h) keys c p from to (move_moves e.agent p from to h fits) u);
     })
     (λ p link entry t fits.
     let x : Event ChainNote = event_by e.agent (Look p link) (Some (Entry entry)) in
     record {
       legal = legal_one es x entry refl holds.legal (answer_legal keys entry t);
-      chains = rw (set_more es x entry refl, answer_keys keys entry t) (chains_still n.roots h h keys c (act_still e.agent (Look p link) h fits refl));
+      lists = rw (set_more es x entry refl, answer_keys keys entry t) (lists_unmoved n.roots h h keys c e.agent (Look p link) fits refl);
     })
     e.act e.note may.may_act may.fits
 
@@ -161,7 +281,7 @@ marked_next n es e id link may l mark =
     ] in
     let shows : shown (heap_after e.agent e.act h) (Next id) ≡ Some link =
     each_kind n.roots h (set_after es) (λ act noted. Fits e.agent act h → shown (heap_after e.agent act h) (Next id) ≡ Some link)
-    (λ act plain fits. (act_still e.agent act h fits plain).shows (Next id) (linked_node h id link l) ∙ at)
+    (λ act plain fits. (act_unmoved e.agent act h fits plain).shows (Next id) (linked_node h id link l) ∙ at)
     (λ p from to by key a fits. moved p from to fits a.plain)
     (λ d from to by key r fits. moved (Next d) from to fits r.plain)
     (λ p from to u fits. moved p from to fits u.plain)
@@ -170,20 +290,6 @@ marked_next n es e id link may l mark =
     let s = linked_after e.agent e.act h id l.node may.fits l.there l.linked in
     let link_is : s.node.link ≡ link = some_same (sym (shown_node (heap_after e.agent e.act h) id s.node s.there) ∙ shows) in
     rw (run_heap-snoc n es e) (record { node = s.node; there = s.there; linked = s.linked; link_is = link_is })
-
--- a list that is one event longer, cut in two: the cut is before the event, or there is nothing behind it
-split_snoc : {A : Type 0} (xs : List A) (x : A) (before after : List A) → xs ++ x ∷ [] ≡ before ++ after
-    → ((rest : List A) × (xs ≡ before ++ rest)) ⊎ (before ≡ xs ++ x ∷ [])
-split_snoc xs x [] after e = inl (xs, refl)
-split_snoc [] x (b ∷ []) after e = inr (cc)
-split_snoc [] x (b ∷ c ∷ bs) after e = let bad : [] ≡ (c ∷ bs) ++ after = cc in absurd (cc)
-split_snoc (y ∷ xs) x (b ∷ bs) after e =
-    let tail : xs ++ x ∷ [] ≡ bs ++ after = cc in
-    let head : y ≡ b = cc in
-    elim (split_snoc xs x bs after tail) [
-      | inl s ↦ inl (s.0, rw (← head) (ap (λ z. y ∷ z) s.1))
-      | inr s ↦ inr (rw (← head) (ap (λ z. y ∷ z) s))
-    ]
 
 frozen_next : (n : HeapNumbers) (es : List (Event ChainNote)) (e : Event ChainNote) → ChainHolds n es → ChainMay n es e
     → (before after : List (Event ChainNote)) (id : ℕ) (link : Link)
@@ -202,14 +308,14 @@ chain_keeps n seen e holds may =
     record {
       lawful = lawful-snoc n seen e holds.lawful may.fits;
       legal = s.legal;
-      chains = rw (run_heap-snoc n seen e) s.chains;
+      chains = rw (run_heap-snoc n seen e) s.lists.chains;
       frozen = λ before after id link split l mark. frozen_next n seen e holds may before after id link split l mark;
-      sides = sides_next n seen e holds may;
+      sides = rw (run_heap-snoc n seen e) s.lists.sides;
     }
 
 -- links lead to greater keys
 pub key_at : (h : Heap) (id key : ℕ) → HasKey h id key → key_of h id ≡ key
-key_at h id key k = rw k.there (ap (λ (o : Option ℕ). unwrap_or o 0) k.key_is)
+key_at h id key k = rw k.there (ap (λ (o : Option ℕ). unwrap_or o 0) k.rank_is)
 
 pub chain_rises : (n : HeapNumbers) (seen : List (Event ChainNote)) → ChainHolds n seen → Rises (chain_rank n seen) (run_heap n seen)
 chain_rises n seen holds = λ id node there linked. (
@@ -222,8 +328,8 @@ chain_rises n seen holds = λ id node there linked. (
     cases id node there linked None is = inl is
     cases id node there linked (Some next) is =
         let h : Heap = run_heap n seen in
+        let (low, mine) = holds.chains.keyed id (record { node = node; there = there; linked = linked }) in
         let (key, own, follows) =
-        holds.chains.leads (Next id) next (record { node = node; there = there; linked = linked })
-        (record { link = node.link; at = shown_node h id node there; to_is = is }) in
-        let (low, mine, less, same) = follows in
-        inr (next, is, key_linked h next key own, omega (arith, key_at h id low mine, key_at h next key own, less))
+        holds.chains.ordered.leads (Next id) next (low, mine) (record { link = node.link; at = shown_node h id node there; to_is = is }) in
+        let (below, same, less, one) = follows in
+        inr (next, is, rank_linked (chain_order n.roots) h next key own, omega (arith, key_at h id below same, key_at h next key own, less))

@@ -1,18 +1,18 @@
--- Keys of a set, and entries of a history, one more.
-use Rattle.std.proofs.Common.{List, Some, [], ap, append-nil, false, filter, inl, inr, not, refl, sym, true, ℕ, ◌++◌, ◌==◌, ◌∙◌, ◌∷◌, ◌≡◌, ◌≢◌, ◌⊎◌, arith, length, ◌+◌, ◌≤◌}
-use Rattle.std.proofs.lemmas.Bool.{eq-eqb, eqb-true, ne_eqb, or_cases, or_left, or_right}
-use Rattle.std.proofs.Math.Bool.{not-not}
-use Rattle.std.proofs.lemmas.List.Filters.{length-filter_both}
-use Rattle.std.proofs.lemmas.Map.Views.{any-filter_same}
-use Rattle.std.proofs.lemmas.List.Folds.{list_any-append}
+-- The keys of the set after each kind of event.
+use Rattle.std.proofs.Common.{List, Some, [], ap, append-nil, filter, not, ℕ, ◌++◌, ◌==◌, ◌∙◌, ◌∷◌, ◌≡◌, ◌≢◌, ◌⊎◌, true}
+use Rattle.std.specs.Prelude.{◌↔◌}
 use Rattle.orc_heap.proofs.OwnEntries.{noted-snoc}
+use Rattle.orc_heap.specs.Heap.{Heap}
 use Rattle.orc_heap.specs.declared.events.Event.{Event}
 use Rattle.orc_history.specs.SetHistory.{has, keys_after}
 use Rattle.orc_history.specs.declared.set.SetEntry.{SetEntry}
 use Rattle.orc_history.proofs.SetHistories.{keys_after-snoc}
+use Rattle.orc_ordered_chains.specs.Chains.{AreChains as AreOrderedChains, IsLive}
+use Rattle.orc_ordered_chains.proofs.Keys.{keys_added, keys_removed, keys_same}
+use Rattle.orc_ordered_chains.proofs.Paths.{live_on}
 use Rattle.orc_chain_rule.specs.declared.chain.ChainNote.{ChainNote}
 use Rattle.orc_chain_rule.specs.declared.chain.ChainNote.TheVariants.{Entry}
-use Rattle.orc_chain_rule.specs.ChainDiscipline.{entries_in, entries_of, set_after}
+use Rattle.orc_chain_rule.specs.ChainDiscipline.{AreChains, IsPresent, chain_order, entries_in, entries_of, set_after}
 
 -- no entry
 pub entries_same : (es : List (Event ChainNote)) (e : Event ChainNote) → entries_in e.note ≡ [] → entries_of (es ++ e ∷ []) ≡ entries_of es
@@ -27,49 +27,55 @@ pub set_more : (es : List (Event ChainNote)) (e : Event ChainNote) (entry : SetE
     → set_after (es ++ e ∷ []) ≡ keys_after (set_after es) (entry ∷ [])
 set_more es e entry note_is = ap (keys_after []) (entries_more es e entry note_is) ∙ keys_after-snoc [] (entries_of es) entry
 
--- one key more
+-- a live node is what makes its key present
 
-pub has_added : (key k : ℕ) (keys : List ℕ) → has k (keys ++ key ∷ []) ≡ true → (has k keys ≡ true) ⊎ (key ≡ k)
-has_added key k keys e =
-    elim (or_cases (has k keys) (has k (key ∷ [])) (sym (list_any-append (λ (x : ℕ). x == k) keys (key ∷ [])) ∙ e)) [
-      | inl old ↦ inl old
-      | inr new ↦ elim (or_cases (key == k) false new) [ inl is ↦ inr (eqb-true key k is) | inr bad ↦ cc ]
-    ]
+pub present_live : (roots : ℕ) (h : Heap) (key : ℕ) → (y : IsPresent roots h key) → IsLive (chain_order roots) h y.id key
+present_live roots h key y = record { has_rank = y.has_key; link = y.link; at = y.at; unmarked = y.unmarked }
 
-pub has_old : (key k : ℕ) (keys : List ℕ) → has k keys ≡ true → has k (keys ++ key ∷ []) ≡ true
-has_old key k keys e = list_any-append (λ (x : ℕ). x == k) keys (key ∷ []) ∙ or_left _ _ e
+pub live_present : (roots : ℕ) (h : Heap) → AreOrderedChains (chain_order roots) h → (id key : ℕ) → IsLive (chain_order roots) h id key
+    → IsPresent roots h key
+live_present roots h c id key y = record {
+  id = id;
+  has_key = y.has_rank;
+  link = y.link;
+  at = y.at;
+  unmarked = y.unmarked;
+  on_chain = live_on (chain_order roots) h c id key y;
+}
 
-pub has_new : (key : ℕ) (keys : List ℕ) → has key (keys ++ key ∷ []) ≡ true
-has_new key keys =
-    list_any-append (λ (x : ℕ). x == key) keys (key ∷ []) ∙ or_right (has key keys) (has key (key ∷ [])) (or_left (key == key) false (eq-eqb key key refl))
+-- the set has the keys that are present
+abbrev pub IsSetOf : ℕ → Heap → List ℕ → Type 0
+IsSetOf roots h keys = (key : ℕ) → (has key keys ≡ true) ↔ IsPresent roots h key
 
--- one key less
+module _ (roots : ℕ) (h k : Heap) (keys : List ℕ) (c : AreChains roots h keys) (d : AreOrderedChains (chain_order roots) k) where
+  abbrev Was : ℕ → ℕ → Type 0
+  Was id key = IsLive (chain_order roots) h id key
 
-other_kept : (key k : ℕ) → k ≢ key → (x : ℕ) → (x == k) ≡ true → not (x == key) ≡ true
-other_kept key k ne x is = rw (ne_eqb x key (λ same. ne (sym (eqb-true x k is) ∙ same))) refl
+  abbrev Now : ℕ → ℕ → Type 0
+  Now id key = IsLive (chain_order roots) k id key
 
-same_lost : (key k : ℕ) → k ≡ key → (x : ℕ) → (x == k) ≡ true → not (x == key) ≡ false
-same_lost key k same x is = rw (eq-eqb x key (eqb-true x k is ∙ same)) refl
+  before : (key : ℕ) → (has key keys ≡ true) ↔ ((id : ℕ) × Was id key)
+  before key = (
+    (λ is. let y = (c.set key).0 is in (y.id, present_live roots h key y)),
+    (λ y. (c.set key).1 (live_present roots h c.ordered y.0 key y.1)),
+  )
 
-pub has_kept : (key k : ℕ) (keys : List ℕ) → has k keys ≡ true → k ≢ key → has k (filter (λ x. not (x == key)) keys) ≡ true
-has_kept key k keys e ne = any-filter_same (λ x. x == k) (λ x. not (x == key)) true (other_kept key k ne) keys ∙ e
+  after : (now : List ℕ) → ((key : ℕ) → (has key now ≡ true) ↔ ((id : ℕ) × Now id key)) → IsSetOf roots k now
+  after now s key = (
+    (λ is. let (id, y) = (s key).0 is in live_present roots k d id key y),
+    (λ y. (s key).1 (y.id, present_live roots k key y)),
+  )
 
-pub has_left : (key k : ℕ) (keys : List ℕ) → has k (filter (λ x. not (x == key)) keys) ≡ true → (has k keys ≡ true) × (k ≢ key)
-has_left key k keys e =
-    let ne : k ≢ key = λ same.
-    let bad : true ≡ false = sym e ∙ any-filter_same (λ x. x == k) (λ x. not (x == key)) false (same_lost key k same) keys in
-    cc in
-    (sym (any-filter_same (λ x. x == k) (λ x. not (x == key)) true (other_kept key k ne) keys) ∙ e, ne)
+  -- the same keys
+  pub set_same : ((id key : ℕ) → Was id key → Now id key) → ((id key : ℕ) → Now id key → Was id key) → IsSetOf roots k keys
+  set_same on back = after keys (keys_same Was Now keys before on back)
 
--- a list is shorter without a number that it has
-pub filter_less : (x : ℕ) (xs : List ℕ) → has x xs ≡ true → length (filter (λ y. not (y == x)) xs) + 1 ≤ length xs
-filter_less x xs e =
-    omega (
-      arith,
-      length-filter_both (λ y. not (y == x)) (λ y. y == x) (λ y. sym (not-not (y == x))) xs,
-      some_left (filter (λ y. y == x) xs) (any-filter_same (λ y. y == x) (λ y. y == x) true (λ y is. is) xs ∙ e),
-    )
-  where
-    some_left : (ys : List ℕ) → has x ys ≡ true → 1 ≤ length ys
-    some_left [] bad = cc
-    some_left (y ∷ ys) is = omega arith
+  -- one key more
+  pub set_added : (new key : ℕ) → Now new key → ((id b : ℕ) → Was id b → Now id b) → ((id b : ℕ) → Now id b → Was id b ⊎ (key ≡ b))
+      → IsSetOf roots k (keys ++ key ∷ [])
+  set_added new key own on back = after (keys ++ key ∷ []) (keys_added Was Now keys before new key own on back)
+
+  -- one key less
+  pub set_removed : (key : ℕ) → ((id b : ℕ) → b ≢ key → Was id b → Now id b) → ((id b : ℕ) → Now id b → (b ≢ key) × Was id b)
+      → IsSetOf roots k (filter (λ y. not (y == key)) keys)
+  set_removed key on back = after (filter (λ y. not (y == key)) keys) (keys_removed Was Now keys before key on back)

@@ -11,10 +11,10 @@ use Rattle.orc_heap.proofs.SingleActs.{linked_node, shown_link, some_same}
 use Rattle.orc_heap.specs.Acts.{Fits, heap_after}
 use Rattle.orc_heap.specs.Allowed.{HasLink, IsLinkedNode, LeadsUp, MovesLinked, Rises}
 use Rattle.orc_heap.specs.Heap.{Heap, HeapNumbers, Node, null, shown}
-use Rattle.orc_heap.specs.Journals.{FitsAfter, IsPlain, IsPlainAct, event_by, run_heap}
-use Rattle.orc_heap.specs.Moves.{IsLinkedPlace, move_with}
+use Rattle.orc_heap.specs.Journals.{FitsAfter, IsPlain, event_by, run_heap}
+use Rattle.orc_heap.specs.Moves.{move_with}
 use Rattle.orc_heap.specs.declared.events.Act.{Act}
-use Rattle.orc_heap.specs.declared.events.Act.TheVariants.{Aim, AimSide, Fill, Give, Look, Miss, Move}
+use Rattle.orc_heap.specs.declared.events.Act.TheVariants.{Look, Move}
 use Rattle.orc_heap.specs.declared.events.Event.{Event}
 use Rattle.orc_heap.specs.declared.events.Link.{Link}
 use Rattle.orc_heap.specs.declared.events.Place.{Place}
@@ -24,7 +24,7 @@ use Rattle.orc_history.specs.SetHistory.{IsLegalSet, IsLegalSetFrom, has}
 use Rattle.orc_history.specs.declared.set.SetEntry.{SetEntry}
 use Rattle.orc_history.specs.declared.set.SetEntry.TheVariants.{Added, Removed}
 use Rattle.orc_ordered_chains.specs.Chains.{AreChains, HasRank, IsChainPlace, IsLive, MayLink, MayMark, MayUnlink}
-use Rattle.orc_ordered_chains.proofs.Acts.{IsLinkedIn, IsMoved, act_unmoved, chain_place_linked, move_links, move_moves, place_either, rank_linked}
+use Rattle.orc_ordered_chains.proofs.Acts.{IsLinkedIn, IsMoved, act_unmoved, chain_place_linked, chain_place_moves, move_links, move_moves, no_move_linked, no_move_plain, place_either, rank_linked}
 use Rattle.orc_ordered_chains.proofs.Keys.{answer_keys, answer_legal, split_snoc}
 use Rattle.orc_ordered_chains.proofs.Linking.{chains_link, link_absent, link_old, live_before_link, live_link, live_new}
 use Rattle.orc_ordered_chains.proofs.Marking.{chains_mark, live_before_mark, live_mark, mark_old}
@@ -36,21 +36,12 @@ use Rattle.orc_split_rule.specs.declared.split.SplitNote.TheVariants.{Anchor, Bu
 use Rattle.orc_split_rule.specs.SplitOrder.{dummy_place, key_place, split_order}
 use Rattle.orc_split_rule.specs.SplitDiscipline.{AreBuckets, HasKey, HasValues, IsOwnEntry, MayAct, MayAdd, MayAnchor, MayGrow, MayMakeBucket, MayRemove, SplitHolds, SplitMay, entries_of, greatest, place_in, set_after, split_rank}
 use Rattle.orc_split_rule.specs.Laws.Buckets.{IsLaid, anchor_still, buckets_anchor, buckets_grow, buckets_moved, buckets_unmoved, grow_still}
-use Rattle.orc_split_rule.specs.Laws.Kinds.{each_kind, no_move_linked}
+use Rattle.orc_split_rule.specs.Laws.Kinds.{each_kind}
 use Rattle.orc_split_rule.specs.Laws.Sets.{IsLiveKey, IsSetOf, entries_more, entries_same, live_present, present_live, set_added, set_more, set_removed, set_same}
 use Rattle.orc_split_rule.specs.Laws.Values.{dummy_rank, key_rank, value_before, value_first, value_linked, value_new, value_second, value_stays}
 
 pub split_fits : (n : HeapNumbers) (seen : List (Event SplitNote)) (e : Event SplitNote) → SplitHolds n seen → SplitMay n seen e → FitsAfter n seen e
 split_fits n seen e holds may = may.fits
-
-no_move_plain : (act : Act) → IsPlainAct act → move_with act ≡ 0
-no_move_plain Give p = refl
-no_move_plain (Fill id which value) p = refl
-no_move_plain (Aim id to) p = refl
-no_move_plain (AimSide id to) p = refl
-no_move_plain (Look place link) p = refl
-no_move_plain (Move place from to) p = absurd p
-no_move_plain (Miss place wanted found) p = refl
 
 pub split_allows_plain : (n : HeapNumbers) (seen : List (Event SplitNote)) (e : Event SplitNote) → SplitHolds n seen → FitsAfter n seen e → IsPlain e
     → SplitMay n seen e
@@ -59,11 +50,6 @@ split_allows_plain n seen e holds fits plain = record {
   may_act = subst (λ (x : Option SplitNote). MayAct (greatest n) (run_heap n seen) (set_after seen) e.act x) (sym plain.0) (no_move_plain e.act plain.1);
   own = subst (λ (x : Option SplitNote). IsOwnEntry e.agent x) (sym plain.0) tt;
 }
-
-moves_linked : (p : Place) (from to : Link) (h : Heap) → IsLinkedPlace p h → MovesLinked (Move p from to) h
-moves_linked (Root r) from to h l = tt
-moves_linked (Next d) from to h l = l
-moves_linked (Side d) from to h l = l
 
 -- the place of a Move that links a node
 link_place : (h : Heap) → AreChains split_order h → (p : Place) (from to : Link) (rank : ℕ) → MayLink split_order h p from to rank
@@ -76,10 +62,10 @@ split_moves_linked n seen e holds may =
     let h : Heap = run_heap n seen in
     each_kind (greatest n) h (set_after seen) (λ act noted. MovesLinked act h)
     (λ act plain. no_move_linked act h plain)
-    (λ p from to by key a. moves_linked p from to h (chain_place_linked split_order h p (link_place h holds.chains p from to (key_place key) a.links)))
+    (λ p from to by key a. chain_place_moves split_order h p from to (link_place h holds.chains p from to (key_place key) a.links))
     (λ x from to by key r. value_linked h x key 1 r.has_key)
-    (λ p from to u. moves_linked p from to h (chain_place_linked split_order h p u.linked))
-    (λ p from to b. moves_linked p from to h (chain_place_linked split_order h p (link_place h holds.chains p from to (dummy_place b.bucket) b.links)))
+    (λ p from to u. chain_place_moves split_order h p from to u.linked)
+    (λ p from to b. chain_place_moves split_order h p from to (link_place h holds.chains p from to (dummy_place b.bucket) b.links))
     (λ root from to a. tt)
     (λ from to g. tt)
     (λ p link entry t. tt)

@@ -1,7 +1,6 @@
 -- The kinds of events that the discipline allows, one by one.
 use Rattle.std.proofs.Common.{Bool, List, None, Option, Some, subst, sym, true, ℕ, ◌≡◌}
 use Rattle.orc_heap.specs.Heap.{Heap}
-use Rattle.orc_heap.specs.Allowed.{MovesLinked}
 use Rattle.orc_heap.specs.Moves.{move_with}
 use Rattle.orc_heap.specs.declared.events.Act.{Act}
 use Rattle.orc_heap.specs.declared.events.Act.TheVariants.{Aim, AimSide, Fill, Give, Look, Miss, Move}
@@ -54,12 +53,3 @@ module _ (most : ℕ) (h : Heap) (keys : List ℕ) (P : Act → Option SplitNote
   each_kind (Aim id to) (Some noted) m = absurd m
   each_kind (AimSide id to) (Some noted) m = absurd m
   each_kind (Miss place wanted found) (Some noted) m = absurd m
-
-pub no_move_linked : (act : Act) (h : Heap) → move_with act ≡ 0 → MovesLinked act h
-no_move_linked Give h p = tt
-no_move_linked (Fill id which value) h p = tt
-no_move_linked (Aim id to) h p = tt
-no_move_linked (AimSide id to) h p = tt
-no_move_linked (Look place link) h p = tt
-no_move_linked (Move place from to) h p = cc
-no_move_linked (Miss place wanted found) h p = tt

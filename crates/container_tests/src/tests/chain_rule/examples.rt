@@ -12,7 +12,8 @@ ghost use Rattle.orc_heap.specs.declared.events.Link.{Link};
 ghost use Rattle.orc_heap.specs.declared.events.Place.{Place};
 ghost use Rattle.orc_history.specs.declared.set.SetEntry.{SetEntry};
 ghost use Rattle.orc_chain_rule.specs.declared.chain.ChainNote.{ChainNote};
-ghost use Rattle.orc_chain_rule.specs.ChainDiscipline.{ChainMay, FollowsOn, IsAbove, IsOnNoChain, IsPath, IsPresent, IsRun, MayAct, entries_of, key_of, set_after};
+ghost use Rattle.orc_ordered_chains.specs.Chains.{IsPath, IsRun};
+ghost use Rattle.orc_chain_rule.specs.ChainDiscipline.{ChainMay, FollowsOn, IsAbove, IsOnNoChain, IsPresent, MayAct, entries_of, key_of, set_after};
 ghost use Rattle.orc_chain_rule.specs.Counts.{AreLeftOver, IsLeftOver, adds_in, entries_of_others, removes_in, unlinks_in};
 ghost use Rattle.orc_chain_rule.specs.Watches.{LeavesOut, node_to_add};
 

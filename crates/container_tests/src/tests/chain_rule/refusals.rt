@@ -8,7 +8,8 @@ ghost use Rattle.orc_heap.specs.declared.events.Link.{Link};
 ghost use Rattle.orc_heap.specs.declared.events.Place.{Place};
 ghost use Rattle.orc_history.specs.declared.set.SetEntry.{SetEntry};
 ghost use Rattle.orc_chain_rule.specs.declared.chain.ChainNote.{ChainNote};
-ghost use Rattle.orc_chain_rule.specs.ChainDiscipline.{IsOwnEntry, MayAct, MayAnswer};
+ghost use Rattle.orc_ordered_chains.specs.Answers.{MayAnswer};
+ghost use Rattle.orc_chain_rule.specs.ChainDiscipline.{IsOwnEntry, MayAct};
 ghost use Rattle.orc_chain_rule.specs.Watches.{node_to_add};
 
 // With two roots, root 1 names node 0 with the key 3, and node 1 with the key 5 is agent 1's. It may be linked behind

@@ -1,7 +1,7 @@
 -- One load, and then all nodes are let go.
 use Rattle.std.proofs.Common.{Some, ap, ◌∙◌}
 use Rattle.orc_heap.specs.declared.events.Place.TheVariants.{Next}
-use Rattle.orc_chain_rule.specs.ChainDiscipline.{link_over}
+use Rattle.orc_ordered_chains.specs.Chains.{link_over}
 use Rattle.orc_list.proofs.Answering.{present_allowed, present_entered, reads_node, tested_hand}
 use Rattle.orc_list.proofs.Held.{present_hand}
 use Rattle.orc_list.proofs.answer.enter_present.Goals as goal

@@ -3,7 +3,7 @@ use Rattle.std.proofs.Common.{Bool, Err, Ok, Result, ap, false, length, subst, t
 use Rattle.std.specs.Prelude.{IfErr}
 use Rattle.orc_fault.specs.declared.Spent.{Spent}
 use Rattle.orc_history.specs.Journals.{Within}
-use Rattle.orc_chain_rule.specs.ChainDiscipline.{link_over}
+use Rattle.orc_ordered_chains.specs.Chains.{link_over}
 use Rattle.orc_list.specs.Inserts.{LinksTo}
 use Rattle.orc_list.specs.Turns.{first_or, place_at, target_at}
 use Rattle.orc_list.proofs.Adding.{adds_above, adds_below, adds_held, adds_linked, adds_missed, adds_refused, adds_run, links_hand, same_spent}

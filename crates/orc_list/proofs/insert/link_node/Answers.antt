@@ -6,7 +6,7 @@ use Rattle.orc_heap.specs.Calls.{event_of}
 use Rattle.orc_heap.specs.OwnEvents.{Only}
 use Rattle.orc_heap.specs.Slots.{Holds, Slots, id_in}
 use Rattle.orc_heap.specs.declared.events.Act.TheVariants.{Aim}
-use Rattle.orc_chain_rule.specs.ChainDiscipline.{link_over}
+use Rattle.orc_ordered_chains.specs.Chains.{link_over}
 use Rattle.orc_list.specs.Searches.{HoldsIfAny}
 use Rattle.orc_list.specs.Turns.{first_or, place_at, target_at}
 use Rattle.orc_list.proofs.Linking.{above_not_fresh, link_allowed, links_to}

@@ -21,7 +21,7 @@ returns c = (
               node = _;
               there = refl;
               unlinked = refl;
-              key_is = refl;
+              rank_is = refl;
               own_plain =
                   refl;
               side_null = λ link at. cc;
@@ -57,12 +57,12 @@ returns c = (
                       node = _;
                       there = refl;
                       unlinked = refl;
-                      key_is = refl;
+                      rank_is = refl;
                       own_plain = refl;
                       side_null = λ link at. cc;
                       over = [];
                       run = refl;
-                      above = (5, record { node = _; there = refl; linked = refl; key_is = refl }, omega arith);
+                      above = (5, record { node = _; there = refl; linked = refl; rank_is = refl }, omega arith);
                     },
                   );
                   own = refl;
@@ -82,14 +82,14 @@ returns c = (
                               path =
                                   (record { link = _; at = refl; to_is = refl }, record { link = _; at = refl; to_is = refl });
                             };
-                            below = (5, record { node = _; there = refl; linked = refl; key_is = refl }, omega arith);
+                            below = (5, record { node = _; there = refl; linked = refl; rank_is = refl }, omega arith);
                             plain = refl;
                             id = 2;
                             to_is = refl;
                             node = _;
                             there = refl;
                             unlinked = refl;
-                            key_is = refl;
+                            rank_is = refl;
                             own_plain = refl;
                             side_null = λ link at. cc;
                             over = [];

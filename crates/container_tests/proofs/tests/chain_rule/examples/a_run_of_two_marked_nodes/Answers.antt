@@ -37,7 +37,7 @@ returns-clause-run c = (
       refl,
       (refl, _, record { node = _; there = refl; linked = refl; link_is = refl }, refl, refl),
     );
-    above = (9, record { node = _; there = refl; linked = refl; key_is = refl }, omega arith);
+    above = (9, record { node = _; there = refl; linked = refl; rank_is = refl }, omega arith);
   },
   (λ run.
       let (is, next, own, mark, ends) = run in
@@ -51,7 +51,7 @@ returns-clause-run c = (
       cc),
   (λ out.
       let (high, own, less) = out.above in
-      omega (arith, less, key_one _ 2 high 9 own (record { node = _; there = refl; linked = refl; key_is = refl }))),
+      omega (arith, less, key_one _ 2 high 9 own (record { node = _; there = refl; linked = refl; rank_is = refl }))),
 )
 
 -- a marked node that is once linked is node 0 or node 1
@@ -103,7 +103,7 @@ returns-clause-inserted_over c = (
     node = _;
     there = refl;
     unlinked = refl;
-    key_is = refl;
+    rank_is = refl;
     own_plain = refl;
     side_null = λ link at. cc;
     over = 0 ∷ 1 ∷ [];
@@ -114,13 +114,13 @@ returns-clause-inserted_over c = (
       refl,
       (refl, _, record { node = _; there = refl; linked = refl; link_is = refl }, refl, refl),
     );
-    above = (9, record { node = _; there = refl; linked = refl; key_is = refl }, omega arith);
+    above = (9, record { node = _; there = refl; linked = refl; rank_is = refl }, omega arith);
   },
 )
 
 pub returns-clause-left_out : goal.returns-clause-left_out
 returns-clause-left_out c = record {
-  linked = tt;
+  linked = refl;
   plain = refl;
   plain_after = refl;
   first = 0;

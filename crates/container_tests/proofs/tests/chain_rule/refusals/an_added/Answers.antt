@@ -12,14 +12,14 @@ returns-clause-allowed c = (
   refl,
   record {
     on_chain = record { over = []; path = record { link = _; at = refl; to_is = refl } };
-    below = (3, record { node = _; there = refl; linked = refl; key_is = refl }, omega arith);
+    below = (3, record { node = _; there = refl; linked = refl; rank_is = refl }, omega arith);
     plain = refl;
     id = 1;
     to_is = refl;
     node = _;
     there = refl;
     unlinked = refl;
-    key_is = refl;
+    rank_is = refl;
     own_plain = refl;
     side_null = λ link at. cc;
     over = [];

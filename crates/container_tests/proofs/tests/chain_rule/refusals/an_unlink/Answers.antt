@@ -10,7 +10,7 @@ use Rattle.container_tests.proofs.tests.chain_rule.refusals.an_unlink.Goals as g
 
 -- from node 0, marked, to node 1, unmarked: an Unlink leads to node 1
 leads_to_one : (h : Heap) (to : Link) → shown h (Next 0) ≡ Some (record { to = Some 1; mark = true }) → shown h (Next 1) ≡ Some null
-    → MayUnlink h (Root 0) (link_to 0) to → to.to ≡ Some 1
+    → MayUnlink 1 h (Root 0) (link_to 0) to → to.to ≡ Some 1
 leads_to_one h to zero_at one_at u =
     let (is, next, own, mark, rest) = u.run in
     let own_zero : HasLink h 0 next = subst (λ (x : ℕ). HasLink h x next) (sym (some_same is)) own in
@@ -18,7 +18,7 @@ leads_to_one h to zero_at one_at u =
 
 pub returns-clause-allowed : goal.returns-clause-allowed
 returns-clause-allowed c = record {
-  linked = tt;
+  linked = refl;
   plain = refl;
   plain_after = refl;
   first = 0;
