@@ -1,5 +1,5 @@
 -- A search that nobody disturbs counts the keys that it goes past.
-use Rattle.std.proofs.Common.{Bool, List, None, Option, Some, [], ap, append-nil, arith, cond, false, filter, inl, inr, length, not, refl, subst, sym, true, ℕ, ◌+◌, ◌++◌, ◌<◌, ◌∙◌, ◌∷◌, ◌≡◌, ◌≢◌, ◌≤◌}
+use Rattle.std.proofs.Common.{Bool, List, Option, Some, [], ap, arith, cond, false, filter, inl, inr, length, not, refl, subst, sym, true, ℕ, ◌+◌, ◌++◌, ◌<◌, ◌∙◌, ◌∷◌, ◌≡◌, ◌≢◌, ◌≤◌}
 use Rattle.std.proofs.Math.Bool.{and-eq-true_iff, not-not}
 use Rattle.std.proofs.lemmas.Bool.{eq-eqb, eqb-true, false_from_ne_true, ltb-true, or_cases, or_left, or_right}
 use Rattle.std.proofs.lemmas.List.Filters.{length-filter_both}
@@ -26,7 +26,7 @@ use Rattle.orc_ordered_search.specs.Searches.{Skips, Visits}
 use Rattle.orc_ordered_search.specs.Ways.{IsPast}
 use Rattle.orc_split_rule.specs.Laws.Sets.{present_live}
 use Rattle.orc_split_rule.specs.Laws.Values.{dummy_rank, value_first}
-use Rattle.orc_split_rule.specs.SplitDiscipline.{HasKey, IsDummy, SplitHolds, entries_of, set_after}
+use Rattle.orc_split_rule.specs.SplitDiscipline.{HasKey, SplitHolds, entries_of, set_after}
 use Rattle.orc_split_rule.specs.SplitOrder.{dummy_place, key_place, split_order}
 use Rattle.orc_split_rule.specs.declared.split.SplitNote.{SplitNote}
 use Rattle.orc_split_set.specs.Crowds.{BeginsBy, keys_between}

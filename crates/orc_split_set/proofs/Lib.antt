@@ -16,3 +16,4 @@ pub mod Crowding
 pub mod Crowded
 pub mod Looking
 pub mod Reaching
+pub mod Stopping

@@ -7,7 +7,7 @@ use Rattle.std.proofs.lemmas.List.{append_cancel_left}
 use Rattle.orc_heap.proofs.Moments.{look_found}
 use Rattle.orc_heap.specs.Allowed.{AllAllowed}
 use Rattle.orc_heap.specs.Calls.{Looks, Tests, event_of}
-use Rattle.orc_heap.specs.Heap.{Heap, HeapNumbers, shown}
+use Rattle.orc_heap.specs.Heap.{Heap, HeapNumbers}
 use Rattle.orc_heap.specs.Journals.{run_heap}
 use Rattle.orc_heap.specs.OwnEvents.{Puts}
 use Rattle.orc_heap.specs.Seats.{Seat, heap_of}
@@ -40,7 +40,6 @@ use Rattle.orc_split_rule.specs.SplitOrder.{bucket_of, key_place, split_order}
 use Rattle.orc_split_rule.specs.declared.split.SplitNote.{SplitNote}
 use Rattle.orc_split_set.specs.Crowds.{SeesOwn}
 use Rattle.orc_split_set.specs.Looks.{HasStart, LoadsFew, MayEnd, ReachesIn, StartsAt, count_of, root_loads, search_loads}
-use Rattle.orc_split_set.specs.Rootings.{IsSet}
 use Rattle.orc_split_set.specs.SplitSearches.{SizeRead, split_reading}
 use Rattle.orc_split_set.proofs.Crowding.{own_alone, own_heap, own_later, own_no_turns, own_part, own_read, own_shows, own_sooner, own_unmoved, puts_grow}
 use Rattle.orc_split_set.proofs.Ordered.{split_ordering}

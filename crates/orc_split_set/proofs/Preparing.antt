@@ -46,7 +46,7 @@ use Rattle.orc_split_set.specs.declared.bucket.Rooted.{Rooted}
 use Rattle.orc_split_set.specs.declared.bucket.Rooted.TheVariants.{Done, Moved, NoNode, Spent}
 use Rattle.orc_split_set.proofs.Anchoring.{set_later, set_puts}
 use Rattle.orc_split_set.proofs.Ordered.{split_ordering}
-use Rattle.orc_split_set.proofs.Rooting.{moved_roots, roots_after, roots_own}
+use Rattle.orc_split_set.proofs.Rooting.{roots_after, roots_own}
 use native.Mathlib.Nat.{pow-suc}
 
 -- the bucket of a key has a root

@@ -4,7 +4,6 @@ use Rattle.std.proofs.Common.{List, [], append-nil, append_assoc, ap, arith, dro
 use Rattle.std.proofs.Math.Seq.{drop-append_seam}
 use Rattle.std.proofs.lemmas.List.{append_cancel_left}
 use Rattle.std.specs.List.{list_all}
-use Rattle.orc_heap.proofs.Calls.{Puts-trans}
 use Rattle.orc_heap.proofs.OwnParts.{from_own-others, own_from, own_from_left, quiet_not_alone}
 use Rattle.orc_heap.proofs.Steps.{part_events}
 use Rattle.orc_heap.specs.Allowed.{AllAllowed, events_by}

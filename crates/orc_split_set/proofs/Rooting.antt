@@ -143,7 +143,7 @@ dummy_held n bucket left first right dummy s t u w is =
 module _ (n : HeapNumbers) (bucket : ℕ) (dummy : Hold) (id : ℕ) (s u w : Seat SplitNote) (room : HasRoomFor s.slots) (first : dummy.slot ≡ 1)
     (slots_are : u.slots ≡ slots_with s.slots (Some dummy) id) where
   -- it is let go
-  let_go_call : (given : ℕ) (own : List (Event SplitNote)) (v : Seat SplitNote) → given ≤ 1 → Made (split_reading n) given s own [] v → v.slots ≡ u.slots
+  pub let_go_call : (given : ℕ) (own : List (Event SplitNote)) (v : Seat SplitNote) → given ≤ 1 → Made (split_reading n) given s own [] v → v.slots ≡ u.slots
       → (v.fresh ≡ None) ⊎ (v.fresh ≡ Some id) → LetsGo (Some dummy) v w → InsertCall (split_reading n) s own [] w
   let_go_call given own v few m same fresh g =
       let e : EndsWith (Some dummy) s.slots v = record { id = id; slots_are = same ∙ slots_are; slot_is = first; fresh = fresh } in

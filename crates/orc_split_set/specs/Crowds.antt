@@ -1,6 +1,6 @@
 -- The keys that stand before a key in its bucket, and what an insert tells of them whose pass saw no other agent's event. After Shalev and
 -- Shavit 2006.
-use Rattle.std.specs.Prelude.{List, Some, filter, length, min, nat_lt, true, ℕ, ◌&&◌, ◌++◌, ◌≡◌, ◌≤◌}
+use Rattle.std.specs.Prelude.{List, filter, length, min, nat_lt, ℕ, ◌&&◌, ◌++◌, ◌≡◌, ◌≤◌}
 use Rattle.orc_heap.specs.Heap.{Heap, HeapNumbers}
 use Rattle.orc_heap.specs.Moves.{AllOwn}
 use Rattle.orc_heap.specs.Seats.{Seat}

@@ -5,5 +5,6 @@ pub mod Rootings
 pub mod Looks
 pub mod Beginnings
 pub mod Growths
+pub mod Stops
 pub mod SetCalls
 pub mod Laws

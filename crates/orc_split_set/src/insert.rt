@@ -16,10 +16,11 @@ ghost use Rattle.orc_ordered_search.specs.declared.turn.InsertTurn.{InsertTurn};
 ghost use Rattle.orc_split_rule.specs.SplitDiscipline.{HasValues, greatest};
 ghost use Rattle.orc_split_rule.specs.SplitOrder.{key_place, split_order};
 ghost use Rattle.orc_split_rule.specs.declared.split.SplitNote.{SplitNote};
-ghost use Rattle.orc_split_set.specs.Crowds.{BeginsBy, CountsFrom, CountsKeys};
+ghost use Rattle.orc_split_set.specs.Crowds.{BeginsBy, CountsFrom, CountsKeys, SeesOwn};
 ghost use Rattle.orc_split_set.specs.Growths.{answer_by};
 ghost use Rattle.orc_split_set.specs.NewNodes.{IsPossible, entries_for, kind_of, place_for, value_of};
 ghost use Rattle.orc_split_set.specs.SplitSearches.{BeginsAt, split_reading};
+ghost use Rattle.orc_split_set.specs.Stops.{IsUnnamed};
 
 use crate::answer::enter_present;
 use crate::begin::{Begun, begin};
@@ -46,7 +47,7 @@ fn node_in<'a>(node: &'a Option<Held>) -> Option<&'a Held>
 }
 
 // How a turn ends that linked a node, by what came of it, where its search went past so many nodes.
-fn turn_of(passed: u32, linked: Result<bool, Spent>) -> InsertTurn
+pub(crate) fn turn_of(passed: u32, linked: Result<bool, Spent>) -> InsertTurn
     ensures { result ≡ turn_by passed linked }
 {
     match linked {
@@ -88,6 +89,9 @@ fn link_node<L: Links<Rule = Split>>(
         (L.journal p.new))) }
     ensures stands { (id : ℕ) → HoldsNode (split_reading (L.numbers links.now)) (value_of new) (kind_of new) node.now id (L.seat links.now p.old)
         → result ≡ Ok true → HasValues (heap_of (L.numbers links.now) (L.seat links.now p.new)) id (value_of new) (kind_of new) }
+    ensures unnamed { (id : ℕ) → HoldsNode (split_reading (L.numbers links.now)) (value_of new) (kind_of new) node.now id (L.seat links.now p.old)
+        → result ≡ Ok true → SeesOwn (L.seat links.now p.old) (L.seat links.now p.new)
+        → IsUnnamed (heap_of (L.numbers links.now) (L.seat links.now p.new)) new }
 {
     links.aim(p, node, node_in(right))?;
     let agent = links.agent(p);
@@ -128,6 +132,9 @@ pub(crate) fn add_node<L: Links<Rule = Split>>(
         (L.seat links.now p.old).agent why (L.journal p.new)) }
     ensures stands { (id : ℕ) → HoldsNode (split_reading (L.numbers links.now)) (value_of new) (kind_of new) node.now id (L.seat links.now p.old)
         → result ≡ Ok true → HasValues (heap_of (L.numbers links.now) (L.seat links.now p.new)) id (value_of new) (kind_of new) }
+    ensures unnamed { (id : ℕ) → HoldsNode (split_reading (L.numbers links.now)) (value_of new) (kind_of new) node.now id (L.seat links.now p.old)
+        → result ≡ Ok true → SeesOwn (L.seat links.now p.old) (L.seat links.now p.new)
+        → IsUnnamed (heap_of (L.numbers links.now) (L.seat links.now p.new)) new }
 {
     let linked = link_node(links, p, new, &left, &first, &right, node);
     let_all_go(links, p, left, first, right, None);

@@ -13,6 +13,7 @@ mod search;
 mod set;
 mod size;
 mod spot;
+mod stop;
 
 pub use set::SplitSet;
 

@@ -1,13 +1,15 @@
 //! The set, and its calls.
 
-ghost use Rattle.std.specs.Prelude.{◌≡◌, ◌≢◌, ◌+◌, ◌<◌, ◌≤◌, ◌↔◌, ◌∷◌, [], ℕ, Err, IfErr, IfOk, IsErr, Ok, length, true};
+ghost use Rattle.std.specs.Prelude.{◌≡◌, ◌≢◌, ◌+◌, ◌<◌, ◌≤◌, ◌↔◌, ◌⊎◌, ◌∷◌, [], ℕ, Err, IfErr, IfOk, IsErr, Ok, false, length, true};
 ghost use mathlib.Core.List.{IsPrefix};
-ghost use Rattle.orc_heap.specs.Domains.{IsCallAlone, MakesNoEvent, agent};
+ghost use Rattle.orc_heap.specs.Domains.{IsCallAlone, MakesNoEvent, agent, heap};
 ghost use Rattle.orc_history.specs.Journals.{Within};
 ghost use Rattle.orc_history.specs.declared.set.ListRefused.{ListRefused};
 ghost use Rattle.orc_history.specs.declared.set.SetEntry.{SetEntry};
 ghost use Rattle.orc_split_rule.specs.SplitDiscipline.{IsSize};
 ghost use Rattle.orc_split_set.specs.SetCalls.{Enters, EntersNone, FindsWorn, GivesAtMost, GrowsCrowded, HadSize, HasCause, IsUsable, LacksRow, LooksFew, RootsBucket, UsesAllTurns, set_history};
+ghost use Rattle.orc_split_set.specs.Rootings.{IsSet};
+ghost use Rattle.orc_split_set.specs.Stops.{HasDummyOnChain};
 ghost use Rattle.orc_split_set.specs.Laws.SetLaws.{cause_stays, entries_below, history_grows, seen_legal};
 
 use crate::answer::ask_turns;
@@ -16,6 +18,7 @@ use crate::grow::grow_after;
 use crate::insert::{answer_of, insert_key};
 use crate::remove::remove_turns;
 use crate::size::size_turns;
+use crate::stop::{has_linked, stop_a_bucket};
 use orc_fault::{Again, Spent};
 use orc_heap::Links;
 use orc_history::{LearnSet, ListRefused, SharedSet};
@@ -97,11 +100,37 @@ impl<L: Links<Rule = Split>> SplitSet<L> {
         ensures later { IsPrefix (L.journal p.old) (L.journal p.new) }
         ensures added { IfOk result (λ yes. Enters L.Links self.now.links p.old p.new (λ agent. SetEntry.Added agent key yes ∷ [])) }
         ensures none { IfErr result (λ e. EntersNone L.Links self.now.links p.old p.new) }
+        ensures again { result ≡ Err ListRefused.Again → UsesAllTurns L.Links self.now.links turns p.old p.new }
+        ensures no_node { result ≡ Err ListRefused.NoNode → LacksRow L.Links self.now.links p.old p.new }
+        ensures spent { (why : Spent) → result ≡ Err (ListRefused.Spent why) → FindsWorn L.Links self.now.links why p.old p.new }
         ensures gives { GivesAtMost L.Links self.now.links 1 p.old p.new }
     {
         let turn = insert_key(&self.links, p, self.greatest, key, turns);
         self.links.settle(p);
         answer_of(turn)
+    }
+
+    /// Links the dummy of a bucket that has none, in one try, and stops where a call would let the bucket's root name it: so an
+    /// agent leaves the set whose thread is stopped there. For tests of what the others do then. Answers whether it linked one:
+    /// it is on the chain, and the bucket's root stays null until another call lets it name the dummy. None was linked where the
+    /// bucket had one, a link moved meanwhile, no node could be had, or a row is used up.
+    pub fn link_dummy_and_stop(&self, p: &mut L::Pass, bucket: u32) -> bool
+        requires usable { IsUsable L.Links self.now.links p.old }
+        requires bucket { (1 ≤ bucket) × (bucket + 1 < (L.numbers self.now.links).roots) }
+        ensures usable { IsUsable L.Links self.now.links p.new }
+        ensures agent { agent L.Links self.now.links p.new ≡ agent L.Links self.now.links p.old }
+        ensures later { IsPrefix (L.journal p.old) (L.journal p.new) }
+        ensures linked { result ≡ true → HasDummyOnChain (heap L.Links self.now.links p.new) bucket }
+        ensures unnamed { result ≡ true → IsCallAlone L.Links self.now.links p.old p.new → IsSet (heap L.Links self.now.links p.new) bucket → ⊥ }
+        ensures missed { result ≡ false → IsCallAlone L.Links self.now.links p.old p.new
+            → HasDummyOnChain (heap L.Links self.now.links p.new) bucket
+            ⊎ (LacksRow L.Links self.now.links p.old p.new ⊎ ((why : Spent) × FindsWorn L.Links self.now.links why p.old p.new)) }
+        ensures none { EntersNone L.Links self.now.links p.old p.new }
+        ensures gives { GivesAtMost L.Links self.now.links 1 p.old p.new }
+    {
+        let turn = stop_a_bucket(&self.links, p, bucket);
+        self.links.settle(p);
+        has_linked(turn)
     }
 
     /// What the members of `SharedSet` and `LearnSet` mean here: the history is that of the domain's events; the domain's

@@ -1,19 +1,14 @@
 -- Root after root, for fewer and fewer buckets.
-use mathlib.Core.List.{IsPrefix}
-use Rattle.std.proofs.Common.{List, [], append-nil, ap, arith, refl, subst, sym, ℕ, ◌++◌, ◌%◌, ◌∙◌, ◌≡◌, ◌≤◌}
+use Rattle.std.proofs.Common.{[], append-nil, ap, arith, refl, subst, sym, ℕ, ◌++◌, ◌%◌, ◌∙◌, ◌≡◌}
 use Rattle.orc_heap.proofs.Pieces.{goes_on}
 use Rattle.orc_heap.specs.Heap.{Heap}
 use Rattle.orc_heap.specs.Journals.{run_heap}
-use Rattle.orc_heap.specs.Seats.{Seat, heap_of}
+use Rattle.orc_heap.specs.Seats.{heap_of}
 use Rattle.orc_heap.specs.Slots.{Slots}
-use Rattle.orc_ordered_search.specs.Searches.{HasRoom, Quiet}
-use Rattle.orc_heap.specs.declared.events.Event.{Event}
+use Rattle.orc_ordered_search.specs.Searches.{HasRoom}
 use Rattle.orc_split_rule.specs.SplitOrder.{bucket_of}
-use Rattle.orc_split_rule.specs.declared.split.SplitNote.{SplitNote}
-use Rattle.orc_split_set.specs.Crowds.{SeesOwn}
-use Rattle.orc_split_set.specs.Looks.{HasStart, LoadsFew, root_loads}
+use Rattle.orc_split_set.specs.Looks.{HasStart, root_loads}
 use Rattle.orc_split_set.specs.NewNodes.{value_of}
-use Rattle.orc_split_set.specs.SplitSearches.{split_reading}
 use Rattle.orc_split_set.proofs.Beginning.{begins_later, from_root, half_begins, half_by, half_size}
 use Rattle.orc_split_set.proofs.Crowding.{own_heap, own_later, own_sooner, puts_grow, seen_grows}
 use Rattle.orc_split_set.proofs.Looking.{few_heap, few_none, few_same}

@@ -1,15 +1,12 @@
 -- By what the look of the size's root found.
 use Rattle.std.proofs.Common.{None, Option, Some, [], ap, length, subst, sym, ℕ, ◌∙◌, ◌≡◌, ◌≤◌}
 use Rattle.orc_heap.proofs.Hands.{hand_held, holds_of}
-use Rattle.orc_heap.proofs.Moments.{look_found}
 use Rattle.orc_heap.specs.Slots.{IsFree, Slots, id_in}
-use Rattle.orc_heap.specs.declared.events.Link.{Link}
 use Rattle.orc_heap.specs.declared.events.Place.TheVariants.{Root}
 use Rattle.orc_history.specs.Journals.{Within}
 use Rattle.orc_ordered_search.proofs.Inserting.{idle_room}
 use Rattle.orc_ordered_search.proofs.Parting.{part_begun_seats, part_of_piece}
-use Rattle.orc_split_rule.proofs.Later.{may_fits}
-use Rattle.orc_split_rule.specs.SplitDiscipline.{SplitMay, greatest}
+use Rattle.orc_split_rule.specs.SplitDiscipline.{greatest}
 use Rattle.orc_split_set.specs.Growths.{ShowsSize}
 use Rattle.orc_split_set.specs.declared.bucket.Rooted.TheVariants.{Moved}
 use Rattle.orc_split_set.proofs.Growing.{doubles_after, doubles_held, doubles_idle, doubles_moved, free_beside, null_shows, still_shows}

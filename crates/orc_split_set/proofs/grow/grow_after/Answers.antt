@@ -1,6 +1,6 @@
 -- No try follows where the bucket isn't crowded.
 use Rattle.std.proofs.Common.{false, sym, true, ◌∙◌, ◌≡◌}
-use Rattle.orc_split_set.proofs.Growing.{grows_none, grows_one}
+use Rattle.orc_split_set.proofs.Growing.{grows_none}
 use Rattle.orc_split_set.proofs.grow.grow_after.Goals as goal
 
 pub returns-clause-grown : goal.returns-clause-grown

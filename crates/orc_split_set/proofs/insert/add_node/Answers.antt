@@ -7,7 +7,9 @@ use Rattle.orc_ordered_search.proofs.Adding.{adds_above, adds_below, adds_held, 
 use Rattle.orc_ordered_search.proofs.Marking.{within_wider}
 use Rattle.orc_split_set.specs.NewNodes.{entries_for, kind_of, place_for, value_of}
 use Rattle.orc_split_set.proofs.Sizes.{values_puts}
+use Rattle.orc_split_set.proofs.Crowding.{seen_grows}
 use Rattle.orc_split_set.proofs.Ordered.{split_ordering}
+use Rattle.orc_split_set.proofs.Stopping.{linked_agent, still_unnamed}
 use Rattle.orc_split_set.proofs.insert.add_node.Goals as goal
 
 pub link_node-linked-requires-clause-held : goal.link_node-linked-requires-clause-held
@@ -96,3 +98,21 @@ returns-clause-stands g c = λ id k is.
     let hand = links_hand (split_ordering n) start (place_for a.new) (value_of a.new) (kind_of a.new) a.left a.first a.right a.node.now given slots s t w
     (entries_for t.agent a.new) u _ _ c.link_node-linked.result (e.linked w.id w.holds) (g.met.L.Links.allowed d c.link_node-linked.new.p e.pass) in
     values_puts n u y [] id (value_of a.new) (kind_of a.new) (f.gone slots hand).puts (g.met.L.Links.allowed d c.let_all_go.new.p f.pass) (e.stands id k is)
+
+pub returns-clause-unnamed : goal.returns-clause-unnamed
+returns-clause-unnamed g c = λ id k is sees.
+    let d = c.args.links.now in
+    let n = g.L.Links.numbers d in
+    let a = c.args in
+    let t = g.L.Links.seat d a.p.now in
+    let u = g.L.Links.seat d c.link_node-linked.new.p in
+    let y = g.L.Links.seat d c.let_all_go.new.p in
+    let (start, given, slots, s, w) = c.requires.adds in
+    let e = c.link_node-linked.ensures in
+    let f = c.let_all_go.ensures in
+    let hand = links_hand (split_ordering n) start (place_for a.new) (value_of a.new) (kind_of a.new) a.left a.first a.right a.node.now given slots s t w
+    (entries_for t.agent a.new) u _ _ c.link_node-linked.result (e.linked w.id w.holds) (g.met.L.Links.allowed d c.link_node-linked.new.p e.pass) in
+    let grows = seen_grows (g.L.Links.events d) g.L.Links.agent_of (g.met.L.Links.steps_add d) (g.L.Links.journal a.p.now)
+    (g.L.Links.journal c.link_node-linked.new.p) t u e.later (g.met.L.Links.seen_is d a.p.now c.requires.pass)
+    (g.met.L.Links.seen_is d c.link_node-linked.new.p e.pass) in
+    still_unnamed n a.new t u y grows (linked_agent n (value_of a.new) (kind_of a.new) _ a.node.now w.id _ _ t u c.link_node-linked.result (e.linked w.id w.holds) is) (f.gone slots hand).puts (e.unnamed id k is) sees

@@ -14,6 +14,7 @@ use Rattle.orc_split_set.specs.NewNodes.{entries_for, kind_of, note_for, place_f
 use Rattle.orc_split_set.proofs.Allowing.{link_allowed, note_enters}
 use Rattle.orc_split_set.proofs.Anchoring.{links_stand}
 use Rattle.orc_split_set.proofs.Ordered.{split_ordering}
+use Rattle.orc_split_set.proofs.Stopping.{links_unnamed}
 use Rattle.orc_split_set.proofs.insert.link_node.Goals as goal
 
 pub aim-requires-clause-fresh : goal.aim-requires-clause-fresh
@@ -134,3 +135,23 @@ returns-clause-stands g c = λ id k is.
     links_stand n a.new _ a.node.now id to s t u _ _ _ c.swing.result k only (c.note-note.ensures ∙ ap (λ (x : ℕ). note_for x a.new) c.agent-agent.ensures) refl
     (g.met.L.Links.obeys d a.p.now c.requires.pass) (g.met.L.Links.obeys d c.aim.new.p e.pass) (g.met.L.Links.allowed d c.aim.new.p e.pass)
     (g.met.L.Links.allowed d c.swing.new.p f.pass) apart is f.swung
+
+pub returns-clause-unnamed : goal.returns-clause-unnamed
+returns-clause-unnamed g c = λ id k is sees.
+    let d = c.args.links.now in
+    let n = g.L.Links.numbers d in
+    let s = g.L.Links.seat d c.args.p.now in
+    let t = g.L.Links.seat d c.aim.new.p in
+    let u = g.L.Links.seat d c.swing.new.p in
+    let a = c.args in
+    let e = c.in_ok-aim.ensures in
+    let f = c.swing.ensures in
+    let to : Option ℕ = target_at s.slots a.right.now in
+    let id_is = (holds_of s.slots a.node.now id k.held).1 in
+    let aims = subst (λ (o : Option ℕ). Only (event_of s (Aim (id_in s.slots a.node.now) o) None ∷ []) s t) (c.node_in.ensures.target s.slots) e.aimed in
+    let only = subst (λ (i : ℕ). Only (event_of s (Aim i to) None ∷ []) s t) id_is aims in
+    let apart : to ≢ Some id = λ named. above_not_fresh (split_ordering n) s to (place_for a.new) c.requires.above
+    (λ i h. g.met.L.Links.fresh_is d a.p.now i c.requires.pass h) id named k.fresh in
+    links_unnamed n a.new _ a.node.now id to s t u _ _ _ c.swing.result c.requires.possible k only (c.note-note.ensures ∙ ap (λ (x : ℕ). note_for x a.new) c.agent-agent.ensures) refl
+    (g.met.L.Links.obeys d a.p.now c.requires.pass) (g.met.L.Links.obeys d c.aim.new.p e.pass) (g.met.L.Links.allowed d c.aim.new.p e.pass)
+    (g.met.L.Links.allowed d c.swing.new.p f.pass) apart is f.swung sees

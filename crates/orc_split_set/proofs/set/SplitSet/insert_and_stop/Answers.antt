@@ -1,14 +1,16 @@
 -- What the turns did, and the settling after them.
-use Rattle.std.proofs.Common.{Bool, Err, Result, subst, sym, ◌≡◌}
+use Rattle.std.proofs.Common.{Bool, Err, Result, subst, sym, ◌∙◌, ◌≡◌}
 use Rattle.orc_heap.proofs.Pieces.{goes_on}
 use Rattle.orc_history.specs.declared.set.ListRefused.TheVariants.{Again}
 use Rattle.orc_history.specs.declared.set.ListRefused.{ListRefused}
 use Rattle.orc_history.specs.declared.set.SetEntry.{SetEntry}
 use Rattle.orc_history.specs.declared.set.SetEntry.TheVariants.{Added}
-use Rattle.orc_ordered_search.proofs.Causes.{did_enter, did_give, did_not_enter}
+use Rattle.orc_ordered_search.proofs.Causes.{did_enter, did_give, did_not_enter, turns_used}
+use Rattle.orc_ordered_search.proofs.Parts.{within_goes_on}
 use Rattle.orc_ordered_search.proofs.Settling.{Did, idle_settled, insert_did, insert_keeps}
 use Rattle.orc_split_set.specs.Growths.{answer_by}
 use Rattle.orc_split_set.specs.SplitSearches.{split_reading}
+use Rattle.orc_split_set.proofs.Growing.{turn_lacks, turn_worn}
 use Rattle.orc_split_set.proofs.Ordered.{split_ordering}
 use Rattle.orc_split_set.proofs.set.SplitSet.insert_and_stop.Goals as goal
 
@@ -31,8 +33,9 @@ returns g c =
     (insert_did r s t u settle.nothing entry turns (answer_by turn) done.inserted) in
     let keeps = insert_keeps r entry turns s t (answer_by turn) done.inserted c.requires.usable.1 in
     let j = g.L.Links.journal c.args.p.now in
+    let k = g.L.Links.journal c.insert_key-turn.new.p in
     let m = g.L.Links.journal c.settle.new.p in
-    let grows = goes_on j (g.L.Links.journal c.insert_key-turn.new.p) m done.later settle.later in
+    let grows = goes_on j k m done.later settle.later in
     let is_s = g.met.L.Links.seen_is d c.args.p.now c.requires.usable.0 in
     let is_u = g.met.L.Links.seen_is d c.settle.new.p settle.pass in
     let all = g.met.L.Links.allowed d c.settle.new.p settle.pass in
@@ -48,5 +51,10 @@ returns g c =
       later = grows;
       added = did_enter x agents by events adds s u j m grows is_s is_u all below 1 turns entry answer did;
       none = did_not_enter x agents by events adds s u j m grows is_s is_u all below 1 turns entry answer did;
+      again = turns_used x agents by events adds s u j m grows is_s is_u all below 1 turns entry answer did;
+      no_node = λ is. within_goes_on by s.agent (g.L.Links.lacking d s.agent) (g.met.L.Links.lacking_stays d s.agent) j k m done.later settle.later
+          (done.lacking (turn_lacks turn (sym is_answer ∙ is)));
+      spent = λ why is. within_goes_on by s.agent (g.L.Links.worn d s.agent why) (g.met.L.Links.worn_stays d s.agent why) j k m done.later settle.later
+          (done.worn why (turn_worn turn why (sym is_answer ∙ is)));
       gives = did_give r 1 turns entry s u answer did;
     }

@@ -1,0 +1,146 @@
+-- With a new node, or without one.
+use Rattle.std.proofs.Common.{Some, [], append-nil, length, subst, sym, ℕ, ◌∙◌}
+use Rattle.orc_heap.specs.Calls.{Gives}
+use Rattle.orc_heap.specs.Seats.{heap_of}
+use Rattle.orc_history.specs.Journals.{Within}
+use Rattle.orc_ordered_search.specs.Inserts.{AddsNode, slots_with}
+use Rattle.orc_ordered_search.specs.declared.turn.InsertTurn.{InsertTurn}
+use Rattle.orc_ordered_search.proofs.Adding.{absent_hand_on, give_free, lacks_node}
+use Rattle.orc_ordered_search.proofs.Held.{release_goes}
+use Rattle.orc_ordered_search.proofs.Inserting.{turn_node, turn_spent}
+use Rattle.orc_ordered_search.proofs.Marking.{part_fact, within_wider}
+use Rattle.orc_split_rule.specs.SplitDiscipline.{IsDummy}
+use Rattle.orc_split_rule.specs.SplitOrder.{dummy_place}
+use Rattle.orc_split_set.specs.SplitSearches.{split_reading}
+use Rattle.orc_split_set.specs.Stops.{StopsUnnamed}
+use Rattle.orc_split_set.proofs.Crowding.{seen_grows}
+use Rattle.orc_split_set.proofs.Ordered.{split_ordering}
+use Rattle.orc_split_set.proofs.Rooting.{has_dummy, lacking_roots}
+use Rattle.orc_split_set.proofs.Stopping.{lacking_stops, turn_held, turn_stops}
+use Rattle.orc_split_set.proofs.stop.add_and_stop.Goals as goal
+
+pub give-requires-clause-slot : goal.give-requires-clause-slot
+give-requires-clause-slot g c =
+    let d = c.args.links.now in
+    let a = c.args in
+    let t = g.L.Links.seat d a.p.now in
+    let (start, s, room, fresh, f) = c.requires.absent in
+    give_free (split_ordering (g.L.Links.numbers d)) start (dummy_place a.bucket) a.passed a.bucket 0 a.left a.first a.right s t t f room.one
+
+pub give-requires-clause-no_other : goal.give-requires-clause-no_other
+give-requires-clause-no_other g c =
+    let (start, s, room, fresh, f) = c.requires.absent in
+    f.behind.quiet.fresh ∙ fresh
+
+pub add_node-linked-requires-clause-adds : goal.add_node-linked-requires-clause-adds
+add_node-linked-requires-clause-adds g c =
+    let d = c.args.links.now in
+    let n = g.L.Links.numbers d in
+    let a = c.args in
+    let t = g.L.Links.seat d a.p.now in
+    let u = g.L.Links.seat d c.give.new.p in
+    let (start, s, room, fresh, f) = c.requires.absent in
+    let e = c.in-Ok.ensures in
+    let given = subst (λ (v : ℕ). Gives n 1 v 0 t c.in-Ok.dummy u) c.from.ensures e.given in
+    let h = has_dummy n a.bucket start a.passed a.left a.first a.right s t u f room c.in-Ok.dummy given (g.met.L.Links.allowed d c.give.new.p e.pass) in
+    (h.start, 1, slots_with s.slots (Some c.in-Ok.dummy) h.id, s, h.adds)
+
+pub release-requires-clause-held : goal.release-requires-clause-held
+release-requires-clause-held g c =
+    let d = c.args.links.now in
+    let n = g.L.Links.numbers d in
+    let a = c.args in
+    let t = g.L.Links.seat d a.p.now in
+    let u = g.L.Links.seat d c.give.new.p in
+    let v = g.L.Links.seat d c.add_node-linked.new.p in
+    let (start, s, room, fresh, f) = c.requires.absent in
+    let e = c.in-Ok.ensures in
+    let dummy = c.in-Ok.dummy in
+    let given = subst (λ (x : ℕ). Gives n 1 x 0 t dummy u) c.from.ensures e.given in
+    let h = has_dummy n a.bucket start a.passed a.left a.first a.right s t u f room dummy given (g.met.L.Links.allowed d c.give.new.p e.pass) in
+    let slots = slots_with s.slots (Some dummy) h.id in
+    let added = subst (λ (i : ℕ). AddsNode (split_reading n) a.bucket 0 [] dummy i 1 slots s c.add_node-linked.result v) h.id_is
+    (c.add_node-linked.ensures.added h.start 1 slots s h.adds) in
+    turn_held n a.bucket a.left a.first a.right dummy s u v h c.add_node-linked.result added
+
+pub returns-in-Ok-clause-stopped : goal.returns-in-Ok-clause-stopped
+returns-in-Ok-clause-stopped g c = λ start s room fresh f.
+    let d = c.args.links.now in
+    let n = g.L.Links.numbers d in
+    let a = c.args in
+    let t = g.L.Links.seat d a.p.now in
+    let u = g.L.Links.seat d c.give.new.p in
+    let v = g.L.Links.seat d c.add_node-linked.new.p in
+    let w = g.L.Links.seat d c.release.new.p in
+    let e = c.in-Ok.ensures in
+    let dummy = c.in-Ok.dummy in
+    let given = subst (λ (x : ℕ). Gives n 1 x 0 t dummy u) c.from.ensures e.given in
+    let h = has_dummy n a.bucket start a.passed a.left a.first a.right s t u f room dummy given (g.met.L.Links.allowed d c.give.new.p e.pass) in
+    let slots = slots_with s.slots (Some dummy) h.id in
+    let k = c.add_node-linked.ensures in
+    let added = subst (λ (i : ℕ). AddsNode (split_reading n) a.bucket 0 [] dummy i 1 slots s c.add_node-linked.result v) h.id_is
+    (k.added h.start 1 slots s h.adds) in
+    let grows = seen_grows (g.L.Links.events d) g.L.Links.agent_of (g.met.L.Links.steps_add d) (g.L.Links.journal c.give.new.p)
+    (g.L.Links.journal c.add_node-linked.new.p) u v k.later (g.met.L.Links.seen_is d c.give.new.p e.pass)
+    (g.met.L.Links.seen_is d c.add_node-linked.new.p k.pass) in
+    subst (λ (x : InsertTurn). StopsUnnamed n a.bucket s x w) (sym c.turn_of.ensures)
+    (turn_stops n a.bucket a.passed a.left a.first a.right dummy s u v w h c.add_node-linked.result added (release_goes dummy v w c.release.ensures.released)
+    grows (g.met.L.Links.allowed d c.release.new.p c.release.ensures.pass)
+    (λ is. subst (λ (i : ℕ). IsDummy (heap_of n v) i a.bucket) h.id_is (k.stands h.adds.id h.adds.holds is)) (k.unnamed h.adds.id h.adds.holds))
+
+pub returns-in-Ok-clause-lacking : goal.returns-in-Ok-clause-lacking
+returns-in-Ok-clause-lacking g c = λ is. absurd (turn_node c.args.passed c.add_node-linked.result (sym c.turn_of.ensures ∙ is))
+
+pub returns-in-Ok-clause-worn : goal.returns-in-Ok-clause-worn
+returns-in-Ok-clause-worn g c = λ why is.
+    let d = c.args.links.now in
+    let t = g.L.Links.seat d c.args.p.now in
+    let j = g.L.Links.journal c.args.p.now in
+    let k = g.L.Links.journal c.give.new.p in
+    let m = g.L.Links.journal c.add_node-linked.new.p in
+    let e = c.in-Ok.ensures in
+    let w = c.add_node-linked.ensures.worn why (turn_spent c.args.passed c.add_node-linked.result why (sym c.turn_of.ensures ∙ is)) in
+    let there = subst (λ (x : ℕ). Within (length k) (length m) (g.L.Links.worn d x why m)) e.given.puts.agent w in
+    within_wider (g.L.Links.worn d t.agent why) j k m (g.L.Links.journal c.release.new.p)
+    (λ xs more from to h. g.met.L.Links.worn_stays d t.agent why xs more from to h) e.later c.release.ensures.later there
+
+pub let_all_go-requires-clause-hands : goal.let_all_go-requires-clause-hands
+let_all_go-requires-clause-hands g c =
+    let d = c.args.links.now in
+    let n = g.L.Links.numbers d in
+    let a = c.args in
+    let t = g.L.Links.seat d a.p.now in
+    let u = g.L.Links.seat d c.give.new.p in
+    let (start, s, room, fresh, f) = c.requires.absent in
+    let e = c.in-Err.ensures in (
+      s.slots,
+      absent_hand_on (split_ordering n) start (dummy_place a.bucket) a.passed a.bucket 0 a.left a.first a.right s t u f room.one e.none
+          (g.met.L.Links.allowed d c.give.new.p e.pass),
+    )
+
+pub returns-in-Err-clause-stopped : goal.returns-in-Err-clause-stopped
+returns-in-Err-clause-stopped g c = λ start s room fresh f.
+    let d = c.args.links.now in
+    let n = g.L.Links.numbers d in
+    let x = split_ordering n in
+    let a = c.args in
+    let t = g.L.Links.seat d a.p.now in
+    let u = g.L.Links.seat d c.give.new.p in
+    let y = g.L.Links.seat d c.let_all_go.new.p in
+    let e = c.in-Err.ensures in
+    let hand = absent_hand_on x start (dummy_place a.bucket) a.passed a.bucket 0 a.left a.first a.right s t u f room.one e.none
+    (g.met.L.Links.allowed d c.give.new.p e.pass) in
+    let lacks = lacks_node x start (dummy_place a.bucket) a.passed a.bucket 0 a.left a.first a.right s t u f room.one y e.none
+    (c.let_all_go.ensures.gone s.slots hand) fresh in
+    lacking_stops n a.bucket s y (lacking_roots n a.bucket s y lacks.0 lacks.1)
+
+pub returns-in-Err-clause-lacking : goal.returns-in-Err-clause-lacking
+returns-in-Err-clause-lacking g c = λ is.
+    let d = c.args.links.now in
+    let t = g.L.Links.seat d c.args.p.now in
+    let j = g.L.Links.journal c.args.p.now in
+    let k = g.L.Links.journal c.give.new.p in
+    let e = c.in-Err.ensures in
+    within_wider (g.L.Links.lacking d t.agent) j j k (g.L.Links.journal c.let_all_go.new.p)
+    (λ xs more from to h. g.met.L.Links.lacking_stays d t.agent xs more from to h) ([], append-nil j) c.let_all_go.ensures.later
+    (part_fact g.L.Links.agent_of t.agent j k (g.L.Links.lacking d t.agent k) e.later e.lacking)

@@ -1,0 +1,53 @@
+-- What a call leaves that stops between the dummy of a bucket and the bucket's root. After Shalev and Shavit 2006.
+use Rattle.std.specs.Prelude.{Bool, List, [], false, length, true, ℕ, ◌≤◌}
+use Rattle.orc_heap.specs.Allowed.{events_by}
+use Rattle.orc_heap.specs.Heap.{Heap, HeapNumbers}
+use Rattle.orc_heap.specs.Moves.{AllOwn, from_own}
+use Rattle.orc_heap.specs.Seats.{Seat, heap_of}
+use Rattle.orc_heap.specs.declared.events.Event.{Event}
+use Rattle.orc_ordered_chains.specs.Chains.{IsOnChain}
+use Rattle.orc_ordered_search.specs.Causes.{others_moves}
+use Rattle.orc_ordered_search.specs.Inserts.{InsertCall}
+use Rattle.orc_ordered_search.specs.declared.turn.InsertTurn.{InsertTurn}
+use Rattle.orc_ordered_search.specs.declared.turn.InsertTurn.TheVariants.{Answered, NoNode, Over, Spent}
+use Rattle.orc_split_rule.specs.SplitDiscipline.{IsDummy}
+use Rattle.orc_split_rule.specs.declared.split.SplitNote.{SplitNote}
+use Rattle.orc_split_set.specs.Rootings.{IsSet}
+use Rattle.orc_split_set.specs.SplitSearches.{split_reading}
+use Rattle.orc_split_set.specs.declared.node.NewNode.{NewNode}
+use Rattle.orc_split_set.specs.declared.node.NewNode.TheVariants.{Dummy, Key}
+
+-- the bucket's dummy is on the chain
+pub record HasDummyOnChain (h : Heap) (bucket : ℕ) : Type 0 where
+  pub id : ℕ
+  pub dummy : IsDummy h id bucket
+  pub on_chain : IsOnChain h 0 id
+
+-- no root names the node, if it is a dummy
+abbrev pub IsUnnamed : Heap → NewNode → Type 0
+IsUnnamed h (Key key) = Unit {0}
+IsUnnamed h (Dummy bucket) = IsSet h bucket → ⊥
+
+-- what a try to link a bucket's dummy tells, by what is new. Where the dummy was linked, and no other agent's event stands from the call's
+-- first one on, the bucket's root is null
+abbrev pub StopTells : HeapNumbers → ℕ → ℕ → List (Event SplitNote) → InsertTurn → Seat SplitNote → Type 0
+StopTells n bucket agent part (Answered true passed) t =
+    (1 ≤ length (events_by agent part)) × ((id : ℕ) × IsDummy (heap_of n t) id bucket)
+    × (AllOwn agent (from_own agent part) → IsSet (heap_of n t) bucket → ⊥)
+StopTells n bucket agent part (Answered false passed) t = (id : ℕ) × IsDummy (heap_of n t) id bucket
+StopTells n bucket agent part Over t = 1 ≤ others_moves agent (from_own agent part)
+StopTells n bucket agent part NoNode t = Unit {0}
+StopTells n bucket agent part (Spent why) t = Unit {0}
+
+-- the call's own events for it enter nothing, and give one node at the most; the pass holds what it held
+pub record StopsUnnamed (n : HeapNumbers) (bucket : ℕ) (s : Seat SplitNote) (turn : InsertTurn) (t : Seat SplitNote) : Type 0 where
+  pub own : List (Event SplitNote)
+  pub call : InsertCall (split_reading n) s own [] t
+  pub tells : StopTells n bucket s.agent call.made.puts.part turn t
+
+-- whether a turn that ended so linked the node
+abbrev pub linked_by : InsertTurn → Bool
+linked_by Over = false
+linked_by (Answered linked passed) = linked
+linked_by NoNode = false
+linked_by (Spent why) = false
