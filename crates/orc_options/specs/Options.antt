@@ -45,7 +45,7 @@ pub record IsCommand (a : App) : Type 0 where
   pub modes : Bor (List (Bor Text))
   pub answers : Bor (List (Bor Text))
   pub sets : Bor (List (Bor Text))
-  pub mode_words : map (λ n. n.now) modes.now ≡ codes "run" ∷ codes "make" ∷ codes "trial" ∷ codes "replay" ∷ codes "audit" ∷ []
+  pub mode_words : map (λ n. n.now) modes.now ≡ codes "run" ∷ codes "make" ∷ codes "trial" ∷ codes "replay" ∷ codes "audit" ∷ codes "watch" ∷ []
   pub answer_words : map (λ n. n.now) answers.now ≡ codes "yes" ∷ codes "no" ∷ []
   pub set_words : map (λ n. n.now) sets.now ≡ codes "list" ∷ codes "split" ∷ []
   pub app : a ≡ command_app modes answers sets

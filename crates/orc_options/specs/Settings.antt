@@ -25,7 +25,7 @@ mode_in (Some text) =
     if bytes_eq text (codes "make") then mode.Make
     else
     (if bytes_eq text (codes "trial") then mode.Trial
-    else (if bytes_eq text (codes "replay") then mode.Replay else (if bytes_eq text (codes "audit") then mode.Audit else mode.Run)))
+    else (if bytes_eq text (codes "replay") then mode.Replay else (if bytes_eq text (codes "audit") then mode.Audit else (if bytes_eq text (codes "watch") then mode.Watch else mode.Run))))
 
 -- the set that the option's word names
 abbrev pub set_in : Option Text → SetKind

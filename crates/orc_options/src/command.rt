@@ -8,11 +8,11 @@ use clap::builder::ValueParser;
 use clap::{Arg, Command};
 use std::alloc::{AllocError, Global};
 
-static MODES: [&str; 5] = ["run", "make", "trial", "replay", "audit"];
+static MODES: [&str; 6] = ["run", "make", "trial", "replay", "audit", "watch"];
 
 // The words of the modes.
 fn mode_words<'a>() -> &'a [&'a str]
-    ensures { map (λ n. n.now) result.now ≡ codes "run" ∷ codes "make" ∷ codes "trial" ∷ codes "replay" ∷ codes "audit" ∷ [] }
+    ensures { map (λ n. n.now) result.now ≡ codes "run" ∷ codes "make" ∷ codes "trial" ∷ codes "replay" ∷ codes "audit" ∷ codes "watch" ∷ [] }
 {
     MODES.as_slice()
 }

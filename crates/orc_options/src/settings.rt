@@ -25,6 +25,8 @@ pub enum Mode {
     Replay,
     /// Play a trace of the machine, and write the worst backlog, the lives of its rows and the first leak.
     Audit,
+    /// Run a watch file over a cell of two parts, and write what came of each line.
+    Watch,
 }
 
 /// Which set a run has.
@@ -41,7 +43,7 @@ pub enum SetKind {
 pub struct Settings {
     /// `--mode`; run, where it isn't given.
     pub mode: Mode,
-    /// `--posters`, 1 to 8: how many posters; 1, where it isn't given.
+    /// `--posters`, 1 to 8: how many posters, or workers of a watch; 1, where it isn't given.
     pub posters: u32,
     /// `--takers`, 0 to 7: how many takers; 0, where it isn't given.
     pub takers: u32,
@@ -94,6 +96,7 @@ fn mode_of(word: Option<&str>) -> Mode
         Some("trial") => Mode::Trial,
         Some("replay") => Mode::Replay,
         Some("audit") => Mode::Audit,
+        Some("watch") => Mode::Watch,
         _ => Mode::Run,
     }
 }
