@@ -1,5 +1,5 @@
 -- A node for a key is linked where a search found that the key belongs.
-use Rattle.std.proofs.Common.{Bool, Err, List, None, Ok, Option, Result, Some, [], ap, arith, false, inl, inr, length, length-append, length-set, refl, subst, sym, true, ℕ, ◌*◌, ◌++◌, ◌+◌, ◌==◌, ◌∙◌, ◌∷◌, ◌≡◌, ◌≢◌, ◌≤◌, ◌⊎◌}
+use Rattle.std.proofs.Common.{Bool, Err, List, None, Ok, Option, Result, Some, [], ap, arith, false, inl, inr, length, length-append, length-set, refl, subst, sym, true, ℕ, ◌%◌, ◌*◌, ◌++◌, ◌+◌, ◌==◌, ◌∙◌, ◌∷◌, ◌≡◌, ◌≢◌, ◌≤◌, ◌⊎◌}
 use Rattle.std.proofs.lemmas.Bool.{eqb-false, eqb-true}
 use Rattle.std.specs.List.{slice_get, slice_set}
 use Rattle.orc_fault.specs.declared.Spent.{Spent as SpentRow}
@@ -20,6 +20,7 @@ use Rattle.orc_heap.specs.declared.events.Act.TheVariants.{Aim, Fill, Give, Miss
 use Rattle.orc_heap.specs.declared.events.Event.{Event}
 use Rattle.orc_heap.specs.declared.events.Link.{Link}
 use Rattle.orc_heap.specs.declared.events.Place.{Place}
+use Rattle.orc_heap.specs.declared.events.Place.TheVariants.{Root}
 use Rattle.orc_history.specs.declared.set.SetEntry.{SetEntry}
 use Rattle.orc_history.specs.declared.set.SetEntry.TheVariants.{Added}
 use Rattle.orc_chain_rule.proofs.Later.{holds_later, nothing_yet}
@@ -27,59 +28,25 @@ use Rattle.orc_ordered_chains.specs.Chains.{IsRun, link_over}
 use Rattle.orc_chain_rule.specs.ChainDiscipline.{ChainHolds, ChainMay, FollowsOn, IsAbove, entries_of}
 use Rattle.orc_chain_rule.specs.Watches.{node_to_add}
 use Rattle.orc_chain_rule.specs.declared.chain.ChainNote.{ChainNote}
-use Rattle.orc_list.specs.Inserts.{AddEnds, AddOver, AddsAt, AddsNode, HasRoomFor, InsertEnds, Inserts, InsertsOn, IsInFirst, IsToAdd, KeepsNode, LeavesRunOff, LinkMissed, LinkRefused, LinksNode, LinksTo, SeesAbsent, count_of, slots_with}
-use Rattle.orc_list.specs.Searches.{AllGone, FindsAbsent, HasRoom, HoldsIfAny, InHand, IsFew, left_place, node_of}
-use Rattle.orc_list.specs.Turns.{Answers, Made, Tires, first_or, place_at, target_at}
+use Rattle.orc_ordered_search.specs.Inserts.{HasRoomFor, IsInFirst, count_of, slots_with}
+use Rattle.orc_list.specs.Inserts.{AddEnds, AddOver, AddsAt, AddsNode, InsertEnds, Inserts, InsertsOn, KeepsNode, LeavesRunOff, LinkMissed, LinkRefused, LinksNode, LinksTo, SeesAbsent}
+use Rattle.orc_ordered_search.specs.Ways.{IsFew}
+use Rattle.orc_ordered_search.specs.Searches.{AllGone, HasRoom, HoldsIfAny, left_place, node_of}
+use Rattle.orc_list.specs.Searches.{FindsAbsent, InHand, list_reading}
+use Rattle.orc_ordered_search.specs.Searches.{first_or, place_at, target_at}
+use Rattle.orc_list.specs.Turns.{Answers, Made, Tires}
 use Rattle.orc_list.specs.declared.insert.InsertTurn.{InsertTurn}
 use Rattle.orc_list.specs.declared.insert.InsertTurn.TheVariants.{Answered, NoNode, Over, Spent}
 use Rattle.orc_list.proofs.Answering.{from_is, place_of_hand, target_is, target_of_hand}
-use Rattle.orc_list.proofs.Held.{absent_hand, first_held, first_linked, in_hand_on, left_linked, right_linked, second_held, third_held, three_hands}
-use Rattle.orc_list.proofs.Linking.{holds_on, loads_leave}
-use Rattle.orc_list.proofs.Making.{made_on, missed, over_on}
-use Rattle.orc_list.proofs.Quiets.{above_puts, below_puts, entries_of-append, leads_puts, left_place_linked, run_puts, shows_on}
+use Rattle.orc_ordered_search.proofs.Held.{absent_hand, first_held, first_linked, in_hand_on, left_linked, right_linked, second_held, third_held, three_hands}
+use Rattle.orc_ordered_search.proofs.Linking.{holds_on, loads_leave}
+use Rattle.orc_list.proofs.Making.{entries_of-append, made_on, missed, over_on}
+use Rattle.orc_ordered_search.proofs.Quiets.{above_puts, below_puts, leads_puts, left_place_linked, run_puts, shows_on}
 use Rattle.orc_list.proofs.Passing.{adds_right as adds_later, leaves_on}
-use Rattle.orc_list.proofs.Seen.{covers_left, ends_left, few_more, sees_left}
-
--- slots that hold a node besides
-
--- a slot that holds a node is no hand's
-apart_held : (s t : Slots) (hs : List Hand) (slot : ℕ) (x : SlotNode) → slice_get s slot ≡ Some (Some x) → AreHeld s t hs → IsApart slot hs
-apart_held s t [] slot x there held = tt
-apart_held s t (y ∷ hs) slot x there held = (one y.hold held.0, apart_held s t hs slot x there held.1)
-  where
-    one : (o : Option Hold) → IsHeldApart s t o y.id hs → IsApartOf slot o
-    one None k = tt
-    one (Some h) k = λ e.
-        let bad : ◌≡◌ {A = Option (Option SlotNode)} (Some (Some x)) (Some None) = sym there ∙ (ap (λ i. slice_get s i) e ∙ k.1) in
-        cc
-
--- what is in hand beside slots is so beside slots with one more node
-pub hands_rebase : (s t : Slots) (hs : List Hand) (slot : ℕ) (x : Option SlotNode) → Hands s t hs → IsApart slot hs → slice_get s slot ≡ Some None
-    → Hands (slice_set s slot x) (slice_set t slot x) hs
-hands_rebase s t hs slot x k apart free = record {
-  same_length = length-set t slot x ∙ (k.same_length ∙ sym (length-set s slot x));
-  others = λ i a. cases i a (i == slot) refl;
-  held = all hs apart k.held;
-}
-  where
-    free_t : slice_get t slot ≡ Some None
-    free_t = k.others slot apart ∙ free
-
-    cases : (i : ℕ) → IsApart i hs → (b : Bool) → (i == slot) ≡ b → slice_get (slice_set t slot x) i ≡ slice_get (slice_set s slot x) i
-    cases i a true e =
-        let same : i ≡ slot = eqb-true i slot e in
-        rw same (get-set_same t slot None x free_t ∙ sym (get-set_same s slot None x free))
-    cases i a false e =
-        let ne : i ≢ slot = eqb-false i slot e in
-        get-set_other t slot i x ne ∙ (k.others i a ∙ sym (get-set_other s slot i x ne))
-
-    all : (js : List Hand) → IsApart slot js → AreHeld s t js → AreHeld (slice_set s slot x) (slice_set t slot x) js
-    all [] a h = tt
-    all (y ∷ js) a h = (one y.hold a.0 h.0, all js a.1 h.1)
-      where
-        one : (o : Option Hold) → IsApartOf slot o → IsHeldApart s t o y.id js → IsHeldApart (slice_set s slot x) (slice_set t slot x) o y.id js
-        one None ne h = tt
-        one (Some k) ne h = (get-set_other t slot k.slot x (λ e. ne (sym e)) ∙ h.0, get-set_other s slot k.slot x (λ e. ne (sym e)) ∙ h.1, h.2)
+use Rattle.orc_ordered_search.proofs.Seen.{absent_few, covers_left, ends_left, few_more, sees_left}
+use Rattle.orc_list.proofs.Ordered.{list_ordering}
+use Rattle.orc_ordered_search.proofs.Adding.{apart_held, hands_rebase}
+use Rattle.orc_ordered_search.specs.Inserts.{IsToAdd}
 
 -- what was made since a turn began, and more
 made_since : (given : ℕ) (s t u : Seat ChainNote) (own ys : List (Event ChainNote)) (es : List SetEntry) → Puts s own t → entries_of own ≡ []
@@ -108,8 +75,8 @@ module _ (n : HeapNumbers) (root key : ℕ) (left first right : Option Hold) (no
     third_held slots t.slots (hand left a.left_id) (hand first a.first_id) right a.right_id [] a.hands,
   )
 
-  pub adds_place : place_at t.slots root left ≡ left_place root left a.left_id
-  adds_place = place_of_hand slots t.slots root left a.left_id (hand first a.first_id ∷ hand right a.right_id ∷ []) a.hands.held.0
+  pub adds_place : place_at t.slots root left ≡ left_place (key % n.roots) left a.left_id
+  adds_place = place_of_hand slots t.slots root (key % n.roots) a.root_is left a.left_id (hand first a.first_id ∷ hand right a.right_id ∷ []) a.hands.held.0
 
   pub adds_right : target_at t.slots right ≡ node_of right a.right_id
   adds_right = target_of_hand slots t.slots right a.right_id [] a.hands.held.1.1.0
@@ -138,9 +105,9 @@ module _ (n : HeapNumbers) (root key : ℕ) (left first right : Option Hold) (no
     id = a.right_id;
     next_id = 0;
     hands = three_hands slots t.slots (hand left a.left_id) (hand first a.first_id) (hand right a.right_id) a.hands;
-    left_linked = left_linked n t root key left a.left_id a.leads.below;
-    first_linked = first_linked n t first a.first_id a.leads.from a.leads.over (node_of right a.right_id) a.leads.begins a.leads.run;
-    linked = right_linked n t right a.right_id key a.above;
+    left_linked = left_linked (list_ordering n) t (Root root) key left a.left_id a.leads.below;
+    first_linked = first_linked (list_ordering n) t first a.first_id a.leads.from a.leads.over (node_of right a.right_id) a.leads.begins a.leads.run;
+    linked = right_linked (list_ordering n) t right a.right_id key a.above;
     next_linked = tt;
   }
 
@@ -150,7 +117,7 @@ module _ (n : HeapNumbers) (root key : ℕ) (left first right : Option Hold) (no
       → ChainHolds n u.seen → AllAllowed (ChainMay n) [] u.seen → AllAllowed (ChainMay n) [] v.seen
       → (e : AddEnds given slots s (Added s.agent key true ∷ []) None v) × LeavesRunOff key e.own (heap_of n v)
   adds_linked u v linked g holds all_u all_v =
-      let place = left_place root left a.left_id in
+      let place = left_place (key % n.roots) left a.left_id in
       let from = a.leads.from in
       let to = node_of right a.right_id in
       let by_place = subst (λ (p : Place). LinksNode n key p (link_over (target_at t.slots (first_or first right))) (target_at t.slots right) t u) adds_place
@@ -166,7 +133,7 @@ module _ (n : HeapNumbers) (root key : ℕ) (left first right : Option Hold) (no
         adds = adds_later a.own l.own key place from l.adds;
         over = a.leads.over;
         to = to;
-        run = run_puts n t u l.own l.puts all_u from a.leads.over to a.leads.run;
+        run = run_puts (list_ordering n) t u l.own l.puts all_u from a.leads.over to a.leads.run;
         ends = ends_left a.own l.own to a.ends;
         off = l.off a.leads.over a.leads.run;
       } in (
@@ -197,7 +164,7 @@ module _ (n : HeapNumbers) (root key : ℕ) (left first right : Option Hold) (no
       → AddOver n key node a.id given slots s v
   adds_missed u v l g holds all_u all_v =
       let aim : Event ChainNote = event_of t (Aim a.id l.to) None in
-      let place = left_place root left a.left_id in
+      let place = left_place (key % n.roots) left a.left_id in
       let from = a.leads.from in
       let miss : Misses place from l.mid u = subst (λ (p : Place). Misses p from l.mid u) adds_place
       (subst (λ (x : Link). Misses (place_at t.slots root left) x l.mid u) adds_link l.misses) in
@@ -208,26 +175,26 @@ module _ (n : HeapNumbers) (root key : ℕ) (left first right : Option Hold) (no
       let p = Puts-trans s t l.mid a.own (aim ∷ []) a.puts l.aims in
       let made = made_since given s t u a.own ys [] a.puts a.no_entries a.gives a.few (Puts-trans t l.mid u (aim ∷ []) (e ∷ []) l.aims miss.puts) refl refl
       (omega arith) in
-      let still = shows_on n t l.mid (aim ∷ []) l.aims all_mid s a.own (a.own ++ aim ∷ []) a.puts p place from a.some
-      (left_place_linked n t place key a.leads.below) a.leads.still in
+      let still = shows_on (list_ordering n) t l.mid (aim ∷ []) l.aims all_mid s a.own (a.own ++ aim ∷ []) a.puts p place from a.some
+      (left_place_linked (list_ordering n) t place key a.leads.below) a.leads.still in
       let moved = missed n s l.mid u (a.own ++ aim ∷ []) (a.own ++ ys) place from p (omega (arith, length-append a.own (aim ∷ []))) still
-      (left_place_linked n l.mid place key (below_puts n t l.mid (aim ∷ []) l.aims all_mid place key a.leads.below)) miss all_u made.puts in
+      (left_place_linked (list_ordering n) l.mid place key (below_puts (list_ordering n) t l.mid (aim ∷ []) l.aims all_mid place key a.leads.below)) miss all_u made.puts in
       let no_move : moves_in (a.own ++ ys) ≡ 0 = omega (arith, moves_in-append a.own ys, a.no_move) in
       record {
         own = a.own ++ ys;
         over = over_on given 1 s u v (a.own ++ ys) (record { made = made; no_move = no_move; moved = moved }) g.puts;
         slots_are = g.slots_are;
-        holds = holds_on n key node a.id u v [] l.holds g.puts (loads_leave a.id [] tt) holds all_v
+        holds = holds_on (list_ordering n) key 0 node a.id u v [] l.holds g.puts (loads_leave a.id [] tt) holds all_v
             (subst (λ (q : Slots). HoldsId q node a.id) (sym g.slots_are) a.kept) g.fresh;
       }
 
   -- the nodes of the search are in hand on
   pub links_hand : (u : Seat ChainNote) (link : Link) (place : Place) (to : Option ℕ) (result : Result Bool SpentRow)
       → LinksTo n key node a.id place link to t result u → AllAllowed (ChainMay n) [] u.seen → InHand n slots left first right None u
-  links_hand u link place to (Ok true) l all = in_hand_on n slots left first right None t u l.own l.puts all l.slots adds_hand
+  links_hand u link place to (Ok true) l all = in_hand_on (list_ordering n) slots left first right None t u l.own l.puts all l.slots adds_hand
   links_hand u link place to (Ok false) l all =
-      in_hand_on n slots left first right None t u _ (Puts-trans t l.mid u _ _ l.aims l.misses.puts) all l.slots adds_hand
-  links_hand u link place to (Err why) l all = in_hand_on n slots left first right None t u l.own l.puts all l.slots adds_hand
+      in_hand_on (list_ordering n) slots left first right None t u _ (Puts-trans t l.mid u _ _ l.aims l.misses.puts) all l.slots adds_hand
+  links_hand u link place to (Err why) l all = in_hand_on (list_ordering n) slots left first right None t u l.own l.puts all l.slots adds_hand
 
 pub same_spent : (a b : SpentRow) → ◌≡◌ {A = InsertTurn} (Spent a) (Spent b) → a ≡ b
 same_spent a b e = cc
@@ -235,20 +202,22 @@ same_spent a b e = cc
 -- where the turn comes from: a node that was in hand, or a new one
 
 pub absent_adds : (n : HeapNumbers) (root key : ℕ) (left first right : Option Hold) (node : Hold) (slots : Slots) (s t : Seat ChainNote)
-    → KeepsNode n key (Some node) slots s → FindsAbsent n root key left first right s t → ChainHolds n s.seen → AllAllowed (ChainMay n) [] t.seen
+    → root ≡ key % n.roots → KeepsNode n key (Some node) slots s → FindsAbsent n root key left first right s t → ChainHolds n s.seen
+    → AllAllowed (ChainMay n) [] t.seen
     → AddsAt n root key left first right node 0 s.slots s t
-absent_adds n root key left first right node slots s t k f holds all =
+absent_adds n root key left first right node slots s t is k f holds all =
     let q = f.behind.quiet in
     let apart = apart_held s.slots t.slots (hand left f.left_id ∷ hand first f.first_id ∷ hand right f.right_id ∷ []) node.slot _ k.to_add.held
     f.hands.held in
     record {
+      root_is = is;
       own = f.own;
       puts = q.puts;
       some = q.some;
       no_entries = q.no_entries;
       gives = q.no_give;
       no_move = q.no_move;
-      few = f.few;
+      few = absent_few (list_reading n) (Root root) key 0 left first right s t f;
       left_id = f.left_id;
       first_id = f.first_id;
       right_id = f.right_id;
@@ -258,16 +227,16 @@ absent_adds n root key left first right node slots s t k f holds all =
       ends = f.ends;
       id = k.id;
       kept = k.to_add.held;
-      holds = holds_on n key node k.id s t f.own k.to_add q.puts (loads_leave k.id f.own q.loads) holds all
+      holds = holds_on (list_ordering n) key 0 node k.id s t f.own k.to_add q.puts (loads_leave k.id f.own q.loads) holds all
           (f.hands.others node.slot apart ∙ k.to_add.held) q.fresh;
     }
 
 pub absent_id : (n : HeapNumbers) (root key : ℕ) (left first right : Option Hold) (node : Hold) (slots : Slots) (s t : Seat ChainNote)
-    (k : KeepsNode n key (Some node) slots s) (f : FindsAbsent n root key left first right s t) (holds : ChainHolds n s.seen)
+    (is : root ≡ key % n.roots) (k : KeepsNode n key (Some node) slots s) (f : FindsAbsent n root key left first right s t) (holds : ChainHolds n s.seen)
     (all : AllAllowed (ChainMay n) [] t.seen)
-    → (absent_adds n root key left first right node slots s t k f holds all).id ≡ k.id
+    → (absent_adds n root key left first right node slots s t is k f holds all).id ≡ k.id
 unfolding absent_adds
-absent_id n root key left first right node slots s t k f holds all = refl
+absent_id n root key left first right node slots s t is k f holds all = refl
 
 module _ (n : HeapNumbers) (root key : ℕ) (left first right : Option Hold) (s t u : Seat ChainNote) (f : FindsAbsent n root key left first right s t)
     (one : IsFree s.slots 1) where
@@ -277,9 +246,9 @@ module _ (n : HeapNumbers) (root key : ℕ) (left first right : Option Hold) (s 
   abbrev base : ℕ → Hold → Slots
   base id node = slice_set s.slots 1 (Some (record { row = node.row; id = id }))
 
-  pub given_adds : (node : Hold) (g : Gives n 1 key 0 t node u) → AllAllowed (ChainMay n) [] u.seen
+  pub given_adds : root ≡ key % n.roots → (node : Hold) (g : Gives n 1 key 0 t node u) → AllAllowed (ChainMay n) [] u.seen
       → AddsAt n root key left first right node 1 (slice_set s.slots 1 (Some (record { row = node.row; id = g.id }))) s u
-  given_adds node g all =
+  given_adds is node g all =
       let q = f.behind.quiet in
       let hs : List Hand = hand left f.left_id ∷ hand first f.first_id ∷ hand right f.right_id ∷ [] in
       let x : Option SlotNode = Some (record { row = node.row; id = g.id }) in
@@ -290,34 +259,34 @@ module _ (n : HeapNumbers) (root key : ℕ) (left first right : Option Hold) (s 
       let held : HoldsId (slice_set t.slots 1 x) node g.id = subst (λ (i : ℕ). slice_get (slice_set t.slots 1 x) i ≡ Some x) (sym g.slot_is)
       (get-set_same t.slots 1 None x give_free.empty) in
       record {
+        root_is = is;
         own = f.own ++ ys;
         puts = w;
         some = omega (arith, q.some, length-append f.own ys);
         no_entries = entries_of-append f.own ys ∙ rw q.no_entries refl;
         gives = omega (arith, gives_in-append f.own ys, q.no_give);
         no_move = omega (arith, moves_in-append f.own ys, q.no_move);
-        few = few_more 2 5 f.own ys f.few (omega arith);
+        few = few_more 2 5 f.own ys (absent_few (list_reading n) (Root root) key 0 left first right s t f) (omega arith);
         left_id = f.left_id;
         first_id = f.first_id;
         right_id = f.right_id;
         hands = subst (λ (z : Slots). Hands (slice_set s.slots 1 x) z hs) (sym g.slots) (hands_rebase s.slots t.slots hs 1 x f.hands f.apart one.empty);
-        leads = leads_puts n t u ys g.puts all root key left first f.left_id f.first_id (node_of right f.right_id) s f.own q.puts w q.some f.behind.leads;
-        above = above_puts n t u ys g.puts all (node_of right f.right_id) key f.above;
+        leads = leads_puts (list_ordering n) t u ys g.puts all (Root root) key left first f.left_id f.first_id (node_of right f.right_id) s f.own q.puts w q.some f.behind.leads;
+        above = above_puts (list_ordering n) t u ys g.puts all (node_of right f.right_id) key f.above;
         ends = ends_left f.own ys (node_of right f.right_id) f.ends;
         id = g.id;
         kept = kept;
         holds = record {
           held = subst (λ (z : Slots). HoldsId z node g.id) (sym g.slots) held;
           fresh = g.fresh;
-          second = 0;
           to = None;
           node = subst (λ (a : ℕ). slice_get (heap_of n u).nodes g.id ≡ Some (node_to_add a key 0 None)) (sym g.puts.agent) g.node;
         };
       }
 
-  pub given_id : (node : Hold) (g : Gives n 1 key 0 t node u) (all : AllAllowed (ChainMay n) [] u.seen) → (given_adds node g all).id ≡ g.id
+  pub given_id : (is : root ≡ key % n.roots) (node : Hold) (g : Gives n 1 key 0 t node u) (all : AllAllowed (ChainMay n) [] u.seen) → (given_adds is node g all).id ≡ g.id
   unfolding given_adds
-  given_id node g all = refl
+  given_id is node g all = refl
 
   -- none could be had
   pub lacks_node : (y : Seat ChainNote) → Only [] t u → AllGone s.slots u y → AllAllowed (ChainMay n) [] u.seen → AllAllowed (ChainMay n) [] y.seen
@@ -326,8 +295,8 @@ module _ (n : HeapNumbers) (root key : ℕ) (left first right : Option Hold) (s 
   lacks_node y only g all_u all_y fresh =
       let q = f.behind.quiet in
       let l = f.behind.leads in
-      let place = left_place root left f.left_id in
-      let m : Made 0 1 s f.own [] t = record { puts = q.puts; entries_are = q.no_entries; gives = q.no_give; few = λ ids c. omega (arith, f.few ids c) } in (
+      let place = left_place (key % n.roots) left f.left_id in
+      let m : Made 0 1 s f.own [] t = record { puts = q.puts; entries_are = q.no_entries; gives = q.no_give; few = λ ids c. omega (arith, absent_few (list_reading n) (Root root) key 0 left first right s t f ids c) } in (
         f.own,
         record {
           given = 0;
@@ -339,18 +308,18 @@ module _ (n : HeapNumbers) (root key : ℕ) (left first right : Option Hold) (s 
           place = place;
           from = l.from;
           plain = l.plain;
-          below = below_puts n u y [] g.puts all_y place key (below_puts n t u [] only.puts all_u place key l.below);
+          below = below_puts (list_ordering n) u y [] g.puts all_y place key (below_puts (list_ordering n) t u [] only.puts all_u place key l.below);
           sees = l.sees;
           over = l.over;
           to = node_of right f.right_id;
           sees_run = l.sees_run;
-          above = above_puts n u y [] g.puts all_y (node_of right f.right_id) key (above_puts n t u [] only.puts all_u (node_of right f.right_id) key
+          above = above_puts (list_ordering n) u y [] g.puts all_y (node_of right f.right_id) key (above_puts (list_ordering n) t u [] only.puts all_u (node_of right f.right_id) key
               f.above);
         },
       )
 
   pub absent_hand_on : Only [] t u → AllAllowed (ChainMay n) [] u.seen → InHand n s.slots left first right None u
-  absent_hand_on only all = in_hand_on n s.slots left first right None t u [] only.puts all only.slots (absent_hand n root key left first s t right f)
+  absent_hand_on only all = in_hand_on (list_ordering n) s.slots left first right None t u [] only.puts all only.slots (absent_hand (list_ordering n) (Root root) key 0 left first s t right f)
 
 -- what the turn comes to
 
@@ -412,9 +381,9 @@ keeps_on n key node slots s t k w holds all = record {
   keeps = record { id = k.id; slots_are = w.slots ∙ k.slots_are; slot_is = k.slot_is; to_add = by node k.to_add };
 }
   where
-    by : (o : Option Hold) → IsToAdd n key o k.id s → IsToAdd n key o k.id t
+    by : (o : Option Hold) → IsToAdd (list_reading n) key 0 o k.id s → IsToAdd (list_reading n) key 0 o k.id t
     by None fresh = w.fresh ∙ fresh
-    by (Some h) a = holds_on n key h k.id s t w.own a w.over.made.puts (loads_leave k.id w.own w.loads) holds all
+    by (Some h) a = holds_on (list_ordering n) key 0 h k.id s t w.own a w.over.made.puts (loads_leave k.id w.own w.loads) holds all
         (subst (λ (z : Slots). HoldsId z h k.id) (sym w.slots) a.held) w.fresh
 
 -- and so does one that answered
@@ -435,7 +404,7 @@ keeps_answer n key node slots entry s t k a = (
   },
 )
   where
-    by : (o : Option Hold) → IsToAdd n key o k.id s → (t.fresh ≡ None) ⊎ (t.fresh ≡ node_of o k.id)
+    by : (o : Option Hold) → IsToAdd (list_reading n) key 0 o k.id s → (t.fresh ≡ None) ⊎ (t.fresh ≡ node_of o k.id)
     by None fresh = inl (a.fresh ∙ fresh)
     by (Some h) kept = inr (a.fresh ∙ kept.fresh)
 
@@ -447,26 +416,3 @@ adds_given n key h id given slots s u (Answered true) a is = cc
 adds_given n key h id given slots s u (Answered false) a is = a
 adds_given n key h id given slots s u NoNode a is = a
 adds_given n key h id given slots s u (Spent why) a is = cc
-
--- the discipline held when a call began
-pub seen_holds : (n : HeapNumbers) (s t : Seat ChainNote) (own : List (Event ChainNote)) → Puts s own t → AllAllowed (ChainMay n) [] t.seen
-    → ChainHolds n s.seen
-seen_holds n s t own p all =
-    let whole : AllAllowed (ChainMay n) [] (s.seen ++ p.part) = subst (λ es. AllAllowed (ChainMay n) [] es) p.is all in
-    holds_later n [] s.seen (nothing_yet n) (allowed-left (ChainMay n) [] s.seen p.part whole)
-
--- slots 2 to 5 are free beside the node
-pub has_room : (n : HeapNumbers) (key : ℕ) (node : Option Hold) (slots : Slots) (s : Seat ChainNote) → HasRoomFor slots → KeepsNode n key node slots s
-    → HasRoom s.slots
-has_room n key node slots s room k = record {
-  two = free node k.slots_are k.slot_is 2 (λ e. omega (arith, e)) room.room.two;
-  three = free node k.slots_are k.slot_is 3 (λ e. omega (arith, e)) room.room.three;
-  four = free node k.slots_are k.slot_is 4 (λ e. omega (arith, e)) room.room.four;
-  five = free node k.slots_are k.slot_is 5 (λ e. omega (arith, e)) room.room.five;
-}
-  where
-    free : (o : Option Hold) → s.slots ≡ slots_with slots o k.id → IsInFirst o → (slot : ℕ) → slot ≢ 1 → IsFree slots slot → IsFree s.slots slot
-    free None is first slot ne f = subst (λ (z : Slots). IsFree z slot) (sym is) f
-    free (Some h) is first slot ne f =
-        let other : slot ≢ h.slot = λ e. ne (e ∙ first) in
-        record { above = f.above; below = f.below; empty = ap (λ (z : Slots). slice_get z slot) is ∙ (get-set_other slots h.slot slot _ other ∙ f.empty) }

@@ -1,5 +1,5 @@
 -- From what a search found to an answer.
-use Rattle.std.proofs.Common.{Bool, List, None, Option, Some, [], ap, arith, false, inl, inr, refl, subst, sym, true, ℕ, ◌++◌, ◌∙◌, ◌∷◌, ◌≡◌}
+use Rattle.std.proofs.Common.{Bool, List, None, Option, Some, [], ap, arith, false, inl, inr, refl, subst, sym, true, ℕ, ◌%◌, ◌++◌, ◌∙◌, ◌∷◌, ◌≡◌}
 use Rattle.orc_heap.proofs.ByAnswer.{Tests-found, Tests-missed}
 use Rattle.orc_heap.proofs.Hands.{holds_of}
 use Rattle.orc_heap.proofs.Moved.{moves_in-append}
@@ -15,7 +15,7 @@ use Rattle.orc_heap.specs.declared.events.Act.TheVariants.{Look, Miss}
 use Rattle.orc_heap.specs.declared.events.Event.{Event}
 use Rattle.orc_heap.specs.declared.events.Link.{Link}
 use Rattle.orc_heap.specs.declared.events.Place.{Place}
-use Rattle.orc_heap.specs.declared.events.Place.TheVariants.{Next}
+use Rattle.orc_heap.specs.declared.events.Place.TheVariants.{Next, Root}
 use Rattle.orc_heap.specs.declared.holds.At.{At}
 use Rattle.orc_heap.specs.declared.holds.Want.{Want}
 use Rattle.orc_history.specs.declared.set.SetEntry.{SetEntry}
@@ -25,19 +25,22 @@ use Rattle.orc_chain_rule.specs.declared.chain.ChainNote.TheVariants.{Entry}
 use Rattle.orc_ordered_chains.specs.Chains.{IsRun, link_over}
 use Rattle.orc_chain_rule.specs.ChainDiscipline.{ChainHolds, ChainMay, FollowsOn, HasKey, IsAbove}
 use Rattle.orc_chain_rule.specs.Laws.Kinds.{key_linked}
-use Rattle.orc_list.specs.Searches.{AllGone, BeginsRun, FindsAbsent, FindsPresent, HoldsIfAny, InHand, LeadsOver, left_place, node_of}
-use Rattle.orc_list.specs.Turns.{Enters, IsAbsence, IsPresence, first_or, place_at, target_at}
-use Rattle.orc_list.proofs.Held.{fourth_held, in_hand_on}
+use Rattle.orc_ordered_search.specs.Searches.{AllGone, BeginsRun, HoldsIfAny, LeadsOver, left_place, node_of}
+use Rattle.orc_list.specs.Searches.{FindsAbsent, FindsPresent, InHand, list_reading}
+use Rattle.orc_ordered_search.specs.Searches.{first_or, place_at, target_at}
+use Rattle.orc_list.specs.Turns.{Enters, IsAbsence, IsPresence}
+use Rattle.orc_ordered_search.proofs.Held.{fourth_held, in_hand_on}
 use Rattle.orc_list.proofs.Making.{made_after, made_on, missed, over_on}
-use Rattle.orc_list.proofs.Quiets.{left_place_linked}
-use Rattle.orc_list.proofs.Seen.{loads-append}
+use Rattle.orc_ordered_search.proofs.Quiets.{left_place_linked}
+use Rattle.orc_ordered_search.proofs.Seen.{absent_few, loads-append, present_few}
+use Rattle.orc_list.proofs.Ordered.{list_ordering}
 
 -- by what is in hand: the left place and the link that it showed
 
-pub place_of_hand : (before after : Slots) (root : ℕ) (o : Option Hold) (id : ℕ) (hs : List Hand) → IsHeldApart before after o id hs
-    → place_at after root o ≡ left_place root o id
-place_of_hand before after root None id hs k = refl
-place_of_hand before after root (Some h) id hs k = ap (λ (x : ℕ). Next x) (holds_of after h id k.0).1
+pub place_of_hand : (before after : Slots) (root of_key : ℕ) → root ≡ of_key → (o : Option Hold) (id : ℕ) (hs : List Hand) → IsHeldApart before after o id hs
+    → place_at after root o ≡ left_place of_key o id
+place_of_hand before after root of_key is None id hs k = ap (λ (x : ℕ). Root x) is
+place_of_hand before after root of_key is (Some h) id hs k = ap (λ (x : ℕ). Next x) (holds_of after h id k.0).1
 
 pub target_of_hand : (before after : Slots) (o : Option Hold) (id : ℕ) (hs : List Hand) → IsHeldApart before after o id hs → target_at after o ≡ node_of o
     id
@@ -54,7 +57,7 @@ link_is l to plain is = ap (λ (b : Bool). record { to = l.to; mark = b }) plain
 
 pub from_is : (n : HeapNumbers) (root key : ℕ) (left first : Option Hold) (left_id first_id : ℕ) (to : Option ℕ) (s : Seat ChainNote)
     (own : List (Event ChainNote)) (t : Seat ChainNote) (part : List (Event ChainNote))
-    → (l : LeadsOver n root key left first left_id first_id to s own t part) → l.from ≡ link_over (head_of first first_id to)
+    → (l : LeadsOver (list_reading n) (Root root) key left first left_id first_id to s own t part) → l.from ≡ link_over (head_of first first_id to)
 from_is n root key left first left_id first_id to s own t part l = link_is l.from (head_of first first_id to) l.plain (cases first l.begins)
   where
     cases : (o : Option Hold) → BeginsRun o first_id l.over → l.from.to ≡ head_of o first_id to
@@ -73,16 +76,17 @@ target_is before after (Some h) right first_id right_id hs ks a b = ap (λ (x : 
 -- what the left place and its link are, at the load that enters the answer
 pub record ReadsLeft (n : HeapNumbers) (root key : ℕ) (left first right : Option Hold) (s t : Seat ChainNote)
     (f : FindsAbsent n root key left first right s t) : Type 0 where
-  pub place_is : place_at t.slots root left ≡ left_place root left f.left_id
+  pub place_is : place_at t.slots root left ≡ left_place (key % n.roots) left f.left_id
   pub link_is : link_over (target_at t.slots (first_or first right)) ≡ f.behind.leads.from
 
-pub reads_left : (n : HeapNumbers) (root key : ℕ) (left first right : Option Hold) (s t : Seat ChainNote) (f : FindsAbsent n root key left first right s t)
+pub reads_left : (n : HeapNumbers) (root key : ℕ) → root ≡ key % n.roots → (left first right : Option Hold) (s t : Seat ChainNote)
+    (f : FindsAbsent n root key left first right s t)
     → ReadsLeft n root key left first right s t f
-reads_left n root key left first right s t f =
+reads_left n root key is left first right s t f =
     let y = hand first f.first_id in
     let z = hand right f.right_id in
     record {
-      place_is = place_of_hand s.slots t.slots root left f.left_id (y ∷ z ∷ []) f.hands.held.0;
+      place_is = place_of_hand s.slots t.slots root (key % n.roots) is left f.left_id (y ∷ z ∷ []) f.hands.held.0;
       link_is = ap link_over (target_is s.slots t.slots first right f.first_id f.right_id (z ∷ []) [] f.hands.held.1.0 f.hands.held.1.1.0)
           ∙ sym (from_is n root key left first f.left_id f.first_id (node_of right f.right_id) s f.own t f.behind.quiet.puts.part f.behind.leads);
     }
@@ -95,8 +99,8 @@ pub tested_hand : (n : HeapNumbers) (slots : Slots) (left first at next : Option
 tested_hand n slots left first at next where_at want noted done t u tests all h = cases done refl
   where
     cases : (b : Bool) → done ≡ b → InHand n slots left first at next u
-    cases true is = in_hand_on n slots left first at next t u _ (Tests-found tests is) all tests.slots h
-    cases false is = in_hand_on n slots left first at next t u _ (Tests-missed tests is).puts all tests.slots h
+    cases true is = in_hand_on (list_ordering n) slots left first at next t u _ (Tests-found tests is) all tests.slots h
+    cases false is = in_hand_on (list_ordering n) slots left first at next t u _ (Tests-missed tests is).puts all tests.slots h
 
 -- an answer that rests on the key's absence
 
@@ -115,20 +119,20 @@ absence_allowed n agent place from over to key entry seen (inr is) holds f plain
 pub absent_allowed : (n : HeapNumbers) (root key : ℕ) (left first right : Option Hold) (entry : SetEntry) (s t : Seat ChainNote)
     (f : FindsAbsent n root key left first right s t)
     → (place : Place) (link : Link)
-    → place ≡ left_place root left f.left_id → link ≡ f.behind.leads.from → IsAbsence t.agent key entry → ChainHolds n t.seen
+    → place ≡ left_place (key % n.roots) left f.left_id → link ≡ f.behind.leads.from → IsAbsence t.agent key entry → ChainHolds n t.seen
     → AllowedLater (ChainMay n) n t.agent t.seen place link (event_of t (Look place link) (Some (Entry entry)))
 absent_allowed n root key left first right entry s t f place link place_is link_is is holds =
     let l = f.behind.leads in
-    let there = absence_allowed n t.agent (left_place root left f.left_id) l.from l.over (node_of right f.right_id) key entry t.seen is holds l.below
+    let there = absence_allowed n t.agent (left_place (key % n.roots) left f.left_id) l.from l.over (node_of right f.right_id) key entry t.seen is holds l.below
     l.plain l.run f.above in
     subst (λ (p : Place). AllowedLater (ChainMay n) n t.agent t.seen p link (event_of t (Look p link) (Some (Entry entry)))) (sym place_is)
-    (subst (λ (x : Link). AllowedLater (ChainMay n) n t.agent t.seen (left_place root left f.left_id) x
-    (event_of t (Look (left_place root left f.left_id) x) (Some (Entry entry)))) (sym link_is) there)
+    (subst (λ (x : Link). AllowedLater (ChainMay n) n t.agent t.seen (left_place (key % n.roots) left f.left_id) x
+    (event_of t (Look (left_place (key % n.roots) left f.left_id) x) (Some (Entry entry)))) (sym link_is) there)
 
 -- the answer was entered, or the left place had moved; then all nodes are let go
 pub absent_entered : (n : HeapNumbers) (root key : ℕ) (left first right : Option Hold) (entry : SetEntry) (at : At) (want : Want) (done : Bool)
     (s t u y : Seat ChainNote) (f : FindsAbsent n root key left first right s t)
-    → place_in t.slots at ≡ left_place root left f.left_id → link_in t.slots want ≡ f.behind.leads.from → Tests at want (Some (Entry entry)) t done u
+    → place_in t.slots at ≡ left_place (key % n.roots) left f.left_id → link_in t.slots want ≡ f.behind.leads.from → Tests at want (Some (Entry entry)) t done u
     → AllGone s.slots u y → AllAllowed (ChainMay n) [] u.seen → Enters entry s done y
 absent_entered n root key left first right entry at want done s t u y f place_is link_is tests g all_u = by done refl
   where
@@ -137,18 +141,18 @@ absent_entered n root key left first right entry at want done s t u y f place_is
         let p = Tests-found tests is in
         record {
           own = _;
-          made = made_on 0 1 s u y _ (entry ∷ []) (made_after 0 s t u f.own _ (entry ∷ []) f.behind.quiet f.few p refl refl (omega arith)) g.puts;
+          made = made_on 0 1 s u y _ (entry ∷ []) (made_after n 0 s t u f.own _ (entry ∷ []) f.behind.quiet (absent_few (list_reading n) (Root root) key 0 left first right s t f) p refl refl (omega arith)) g.puts;
           slots = g.slots_are;
           fresh = g.fresh ∙ (tests.fresh ∙ f.behind.quiet.fresh);
         }
     by false is =
         let l = f.behind.leads in
         let miss = Tests-missed tests is in
-        let place = left_place root left f.left_id in
+        let place = left_place (key % n.roots) left f.left_id in
         let here : Misses place l.from t u = subst (λ (q : Place). Misses q l.from t u) place_is
         (subst (λ (l : Link). Misses (place_in t.slots at) l t u) link_is miss) in
-        let m = made_after 0 s t u f.own _ [] f.behind.quiet f.few here.puts refl refl (omega arith) in
-        let moved = missed n s t u f.own _ place l.from f.behind.quiet.puts f.behind.quiet.some l.still (left_place_linked n t place key l.below) here
+        let m = made_after n 0 s t u f.own _ [] f.behind.quiet (absent_few (list_reading n) (Root root) key 0 left first right s t f) here.puts refl refl (omega arith) in
+        let moved = missed n s t u f.own _ place l.from f.behind.quiet.puts f.behind.quiet.some l.still (left_place_linked (list_ordering n) t place key l.below) here
         all_u m.puts in
         let still : moves_in (f.own ++ event_of t (Miss place l.from here.found) None ∷ []) ≡ 0 = omega
         (arith, moves_in-append f.own (event_of t (Miss place l.from here.found) None ∷ []), f.behind.quiet.no_move) in
@@ -214,7 +218,7 @@ present_entered n root key left first node next entry at want done s t u y f pla
         let p = Tests-found tests is in
         record {
           own = _;
-          made = made_on 0 1 s u y _ (entry ∷ []) (made_after 0 s t u f.own _ (entry ∷ []) f.behind.quiet f.few p refl refl (omega arith)) g.puts;
+          made = made_on 0 1 s u y _ (entry ∷ []) (made_after n 0 s t u f.own _ (entry ∷ []) f.behind.quiet (present_few (list_reading n) (Root root) key 0 left first node next s t f) p refl refl (omega arith)) g.puts;
           slots = g.slots_are;
           fresh = g.fresh ∙ (tests.fresh ∙ f.behind.quiet.fresh);
         }
@@ -223,7 +227,7 @@ present_entered n root key left first node next entry at want done s t u y f pla
         let from : Link = link_over (node_of next f.next_id) in
         let here : Misses (Next f.id) from t u = subst (λ (q : Place). Misses q from t u) place_is
         (subst (λ (l : Link). Misses (place_in t.slots at) l t u) link_is miss) in
-        let m = made_after 0 s t u f.own _ [] f.behind.quiet f.few here.puts refl refl (omega arith) in
+        let m = made_after n 0 s t u f.own _ [] f.behind.quiet (present_few (list_reading n) (Root root) key 0 left first node next s t f) here.puts refl refl (omega arith) in
         let moved = missed n s t u f.own _ (Next f.id) from f.behind.quiet.puts f.behind.quiet.some f.still
         (key_linked (heap_of n t) f.id key f.is_of.has_key) here all_u m.puts in
         let still : moves_in (f.own ++ event_of t (Miss (Next f.id) from here.found) None ∷ []) ≡ 0 = omega

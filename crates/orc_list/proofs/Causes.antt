@@ -29,17 +29,9 @@ use Rattle.orc_chain_rule.specs.Counts.{AreLeftOver, adds_in, entries_of_others,
 use Rattle.orc_chain_rule.specs.declared.chain.ChainNote.{ChainNote}
 use Rattle.orc_list.specs.Causes.{CostTurns, UsesTurns}
 use Rattle.orc_list.specs.Turns.{AreFew}
-use Rattle.orc_list.proofs.Parts.{others_append, others_split}
+use Rattle.orc_ordered_search.proofs.Parts.{others_append, others_split}
+use Rattle.orc_ordered_search.proofs.Causes.{below_right, of_crowd}
 use Rattle.orc_list.proofs.Settling.{Did}
-
-below_right : (agents : ℕ) (es fs : List (Event ChainNote)) → IsBelow agents (es ++ fs) → IsBelow agents fs
-below_right agents [] fs b = b
-below_right agents (e ∷ es) fs b = below_right agents es fs b.1
-
-of_crowd : (agent agents : ℕ) (es : List (Event ChainNote)) → IsBelow agents es
-    → AllByRecursion (λ (e : Event ChainNote). (e.agent ≡ agent) ⊎ (e.agent < agents)) es
-of_crowd agent agents [] b = tt
-of_crowd agent agents (e ∷ es) b = (inr b.0, of_crowd agent agents es b.1)
 
 -- the own events of a call
 pub own_part : (s u : Seat ChainNote) (own : List (Event ChainNote)) → Puts s own u → events_by u.agent u.seen ≡ events_by s.agent s.seen ++ own
@@ -167,8 +159,3 @@ module _ {S : Type 0} (n : HeapNumbers) (agents : ℕ) (agent_of : S → ℕ) (e
               quiet_not_alone s.agent p.part d.own p.own_is none (omega (arith, some, moved)) (part_alone d.own p single);
           cost = part_cost turns d.own p (d.made.entries_are ∙ no_entry) e enough;
         }
-
--- the same of an answer that is no refusal
-pub if_err : {E : Type 0} (r : Result Bool E) (Fact : Type 0) → (IsErr r → Fact) → IfErr r (λ e. Fact)
-if_err (Ok answer) Fact holds = tt
-if_err (Err e) Fact holds = holds refl

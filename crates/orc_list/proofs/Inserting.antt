@@ -19,14 +19,18 @@ use Rattle.orc_history.specs.declared.set.SetEntry.TheVariants.{Added}
 use Rattle.orc_chain_rule.specs.ChainDiscipline.{ChainMay}
 use Rattle.orc_chain_rule.specs.declared.chain.ChainNote.{ChainNote}
 use Rattle.orc_list.specs.Answers.{InsertCall, InsertTires, InsertsTurns}
-use Rattle.orc_list.specs.Inserts.{EndsWith, HasRoomFor, InsertEnds, Inserts, InsertsOn, IsToAdd, KeepsNode, SeesAbsent, count_of}
-use Rattle.orc_list.specs.Searches.{HoldsIfAny, LetsGo, node_of}
+use Rattle.orc_ordered_search.specs.Inserts.{EndsWith, HasRoomFor, count_of}
+use Rattle.orc_ordered_search.proofs.Inserting.{ends_go, ends_held as kept_held, few_given, keeps_ends}
+use Rattle.orc_list.specs.Inserts.{InsertEnds, Inserts, InsertsOn, KeepsNode, SeesAbsent}
+use Rattle.orc_ordered_search.specs.Searches.{HoldsIfAny, LetsGo, node_of}
 use Rattle.orc_list.specs.declared.insert.InsertTurn.{InsertTurn}
 use Rattle.orc_list.specs.declared.insert.InsertTurn.TheVariants.{Answered, NoNode, Over, Spent}
 use Rattle.orc_list.proofs.Making.{made_most, made_next, made_on, over_next, over_none, over_on}
 use Rattle.orc_list.proofs.Passing.{leaves_right}
-use Rattle.orc_list.proofs.Quiets.{above_puts, below_puts}
-use Rattle.orc_list.proofs.Seen.{sees_right, sees_run_right}
+use Rattle.orc_ordered_search.proofs.Quiets.{above_puts, below_puts}
+use Rattle.orc_ordered_search.proofs.Seen.{sees_right, sees_run_right}
+use Rattle.orc_list.proofs.Ordered.{list_ordering}
+use Rattle.orc_list.specs.Searches.{list_reading}
 
 pub inserts_none : (n : HeapNumbers) (key : ℕ) (s : Seat ChainNote) → s.fresh ≡ None → InsertsOn n key 0 s.slots None None s s
 inserts_none n key s fresh = record {
@@ -86,60 +90,21 @@ module _ (n : HeapNumbers) (key turns : ℕ) (had kept : Option Hold) (s t u : S
 
 -- the node in hand is held, and let go
 
-keeps_ends : (n : HeapNumbers) (key : ℕ) (node : Option Hold) (slots : Slots) (t : Seat ChainNote) → KeepsNode n key node slots t → EndsWith node slots t
-keeps_ends n key node slots t k = record { id = k.id; slots_are = k.slots_are; slot_is = k.slot_is; fresh = by node k.to_add }
-  where
-    by : (o : Option Hold) → IsToAdd n key o k.id t → (t.fresh ≡ None) ⊎ (t.fresh ≡ node_of o k.id)
-    by None fresh = inl fresh
-    by (Some h) a = inr a.fresh
-
 ends_of : (n : HeapNumbers) (key turns : ℕ) (kept : Option Hold) (s t : Seat ChainNote) (turn : InsertTurn) → InsertsTurns n key turns s turn kept t
     → EndsWith kept s.slots t
-ends_of n key turns kept s t Over f = keeps_ends n key kept s.slots t f.keeps
+ends_of n key turns kept s t Over f = keeps_ends (list_reading n) key 0 kept s.slots t f.keeps
 ends_of n key turns kept s t (Answered answer) f = f.1.1.ends
 ends_of n key turns kept s t NoNode f = f.1.1.ends
 ends_of n key turns kept s t (Spent why) f = f.1.1.ends
 
 pub ends_held : (n : HeapNumbers) (key turns : ℕ) (kept : Option Hold) (s t : Seat ChainNote) (turn : InsertTurn) → InsertsTurns n key turns s turn kept t
     → HasRoomFor s.slots → HoldsIfAny t.slots kept
-ends_held n key turns kept s t turn f room = by kept (ends_of n key turns kept s t turn f)
-  where
-    by : (o : Option Hold) → EndsWith o s.slots t → HoldsIfAny t.slots o
-    by None e = tt
-    by (Some h) e =
-        let x : Option SlotNode = Some (record { row = h.row; id = e.id }) in
-        let free : slice_get s.slots h.slot ≡ Some None = subst (λ (i : ℕ). slice_get s.slots i ≡ Some None) (sym e.slot_is) room.one.empty in
-        let held : HoldsId t.slots h e.id = subst (λ (z : Slots). slice_get z h.slot ≡ Some x) (sym e.slots_are) (get-set_same s.slots h.slot None x free)
-        in
-        (holds_of t.slots h e.id held).0
-
-record Gone (s u : Seat ChainNote) : Type 0 where
-  slots : u.slots ≡ s.slots
-  fresh : u.fresh ≡ None
-
-ends_go : (kept : Option Hold) (s t u : Seat ChainNote) → EndsWith kept s.slots t → HasRoomFor s.slots → LetsGo kept t u → Gone s u
-ends_go None s t u e room g = record { slots = g.slots ∙ e.slots_are; fresh = g.fresh ∙ elim e.fresh [ inl a ↦ a | inr b ↦ b ] }
-ends_go (Some h) s t u e room g =
-    let x : Option SlotNode = Some (record { row = h.row; id = e.id }) in
-    let free : slice_get s.slots h.slot ≡ Some None = subst (λ (i : ℕ). slice_get s.slots i ≡ Some None) (sym e.slot_is) room.one.empty in
-    let held : HoldsId t.slots h e.id = subst (λ (z : Slots). slice_get z h.slot ≡ Some x) (sym e.slots_are) (get-set_same s.slots h.slot None x free) in
-    let id_is = (holds_of t.slots h e.id held).1 in
-    record {
-      slots = g.slots ∙ (ap (λ (z : Slots). slice_set z h.slot None) e.slots_are ∙ set-back s.slots h.slot None x free);
-      fresh = g.fresh ∙ (ap (λ (i : ℕ). unless_node t.fresh (Some i)) id_is ∙ elim e.fresh [
-        | inl none ↦ unless_fresh t.fresh (Some e.id) none
-        | inr some ↦ ap (λ (f : Option ℕ). unless_node f (Some e.id)) some ∙ unless_same e.id
-      ]);
-    }
-
-few_given : (given : ℕ) (kept : Option Hold) → 0 + given ≡ count_of kept → given ≤ 1
-few_given given None e = omega (arith, e)
-few_given given (Some h) e = omega (arith, e)
+ends_held n key turns kept s t turn f room = kept_held kept s t (ends_of n key turns kept s t turn f) room
 
 module _ (n : HeapNumbers) (key turns : ℕ) (kept : Option Hold) (s t u : Seat ChainNote) (room : HasRoomFor s.slots) (g : LetsGo kept t u) where
   pub insert_tires : InsertsTurns n key turns s Over kept t → InsertTires turns s u
   insert_tires f =
-      let gone = ends_go kept s t u (keeps_ends n key kept s.slots t f.keeps) room g in
+      let gone = ends_go kept s t u (keeps_ends (list_reading n) key 0 kept s.slots t f.keeps) room g in
       record {
         own = f.own;
         given = f.given;
@@ -167,26 +132,13 @@ module _ (n : HeapNumbers) (key turns : ℕ) (kept : Option Hold) (s t u : Seat 
     place = a.place;
     from = a.from;
     plain = a.plain;
-    below = below_puts n t u [] g.puts all a.place key a.below;
+    below = below_puts (list_ordering n) t u [] g.puts all a.place key a.below;
     sees = a.sees;
     over = a.over;
     to = a.to;
     sees_run = a.sees_run;
-    above = above_puts n t u [] g.puts all a.to key a.above;
+    above = above_puts (list_ordering n) t u [] g.puts all a.to key a.above;
   }
-
--- an idle pass has room
-pub idle_room : (s : Seat ChainNote) → IsIdle s → HasRoomFor s.slots
-idle_room s idle =
-    subst (λ (z : Slots). HasRoomFor z) (sym idle.slots) (record {
-      one = record { above = omega arith; below = omega arith; empty = refl };
-      room = record {
-        two = record { above = omega arith; below = omega arith; empty = refl };
-        three = record { above = omega arith; below = omega arith; empty = refl };
-        four = record { above = omega arith; below = omega arith; empty = refl };
-        five = record { above = omega arith; below = omega arith; empty = refl };
-      };
-    })
 
 pub spent_same : (a b : SpentRow) → ◌≡◌ {A = Result Bool ListRefused} (Err (RefusedSpent a)) (Err (RefusedSpent b)) → a ≡ b
 spent_same a b e = cc

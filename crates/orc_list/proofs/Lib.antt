@@ -1,7 +1,4 @@
-pub mod Seen
-pub mod Quiets
-pub mod Held
-pub mod Stepping
+pub mod Ordered
 pub mod Running
 pub mod Starting
 pub mod Making
@@ -12,9 +9,7 @@ pub mod Removing
 pub mod Passing
 pub mod Linking
 pub mod Adding
-pub mod Parting
 pub mod Inserting
-pub mod Parts
 pub mod Settling
 pub mod Causes
 pub mod Licences

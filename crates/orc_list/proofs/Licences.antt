@@ -18,7 +18,8 @@ use Rattle.orc_history.specs.declared.set.ListRefused.TheVariants.{Again, NoNode
 use Rattle.orc_chain_rule.proofs.OwnEntries.{entries_own}
 use Rattle.orc_chain_rule.specs.ChainDiscipline.{ChainMay, entries_in, entries_of}
 use Rattle.orc_chain_rule.specs.declared.chain.ChainNote.{ChainNote}
-use Rattle.orc_list.specs.Causes.{Cause, UsesTurns, WithinPart}
+use Rattle.orc_ordered_search.specs.Causes.{WithinPart}
+use Rattle.orc_list.specs.Causes.{Cause, UsesTurns}
 
 -- the licence of a refusal, from the clauses of a call
 module _ {S : Type 0} (n : HeapNumbers) (agent_of : S → ℕ) (events : List S → List (Event ChainNote)) (agent turns : ℕ) (j m : List S)

@@ -3,6 +3,7 @@ use Rattle.std.proofs.Common.{List, None, [], append-nil, arith, inl, inr, lengt
 use Rattle.orc_heap.proofs.Calls.{Puts-trans}
 use Rattle.orc_heap.proofs.Moments.{miss_moved}
 use Rattle.orc_heap.proofs.Moved.{gives_in-append, moves_in-append}
+use Rattle.orc_heap.proofs.OwnEntries.{noted-append}
 use Rattle.orc_heap.proofs.OwnParts.{from_own-begun, moves_from_own-append}
 use Rattle.orc_heap.proofs.Pieces.{new_is, own_moves_left, puts_released}
 use Rattle.std.proofs.Math.Nat.{suc-mul}
@@ -18,17 +19,22 @@ use Rattle.orc_heap.specs.declared.events.Link.{Link}
 use Rattle.orc_heap.specs.declared.events.Place.{Place}
 use Rattle.orc_history.specs.declared.set.SetEntry.{SetEntry}
 use Rattle.orc_chain_rule.specs.declared.chain.ChainNote.{ChainNote}
-use Rattle.orc_chain_rule.specs.ChainDiscipline.{ChainMay, entries_of}
-use Rattle.orc_list.specs.Searches.{FindsMoved, IsFew, Quiet}
+use Rattle.orc_chain_rule.specs.ChainDiscipline.{ChainMay, entries_in, entries_of}
+use Rattle.orc_ordered_search.specs.Ways.{IsFew}
+use Rattle.orc_ordered_search.specs.Searches.{Quiet}
+use Rattle.orc_list.specs.Searches.{FindsMoved, list_reading}
 use Rattle.orc_list.specs.Turns.{AreFew, AreOver, Made, Tires}
-use Rattle.orc_list.proofs.Quiets.{entries_of-append}
-use Rattle.orc_list.proofs.Seen.{covers_left, covers_right}
+use Rattle.orc_ordered_search.proofs.Seen.{covers_left, covers_right}
+
+-- the entries of events, one after another
+pub entries_of-append : (es fs : List (Event ChainNote)) → entries_of (es ++ fs) ≡ entries_of es ++ entries_of fs
+entries_of-append es fs = noted-append entries_in es fs
 
 -- what a search did, and more
-pub made_after : (given : ℕ) (s t u : Seat ChainNote) (own ys : List (Event ChainNote)) (es : List SetEntry) → Quiet s own t → IsFew 2 own → Puts t ys u
+pub made_after : (n : HeapNumbers) (given : ℕ) (s t u : Seat ChainNote) (own ys : List (Event ChainNote)) (es : List SetEntry) → Quiet (list_reading n) s own t → IsFew 2 own → Puts t ys u
     → entries_of ys ≡ es → gives_in ys ≡ given → length ys ≤ 2 + 3 * given
     → Made given 1 s (own ++ ys) es u
-made_after given s t u own ys es q few p entries gives short = record {
+made_after n given s t u own ys es q few p entries gives short = record {
   puts = Puts-trans s t u own ys q.puts p;
   entries_are = entries_of-append own ys ∙ rw q.no_entries entries;
   gives = omega (arith, gives_in-append own ys, q.no_give, gives);
@@ -46,11 +52,11 @@ over_on given turns s t u own o p =
     record { made = m; no_move = o.no_move; moved = omega (arith, o.moved, own_moves_left s t u own [] own o.made.puts p m.puts) }
 
 -- a turn in which a link moved
-pub found_over : (s t : Seat ChainNote) → FindsMoved s t → Tires 1 s t
-found_over s t f = record {
+pub found_over : (n : HeapNumbers) (s t : Seat ChainNote) → FindsMoved n s t → Tires 1 s t
+found_over n s t (f, few) = record {
   own = f.own;
   over = record {
-    made = record { puts = f.quiet.puts; entries_are = f.quiet.no_entries; gives = f.quiet.no_give; few = λ ids c. omega (arith, f.few ids c) };
+    made = record { puts = f.quiet.puts; entries_are = f.quiet.no_entries; gives = f.quiet.no_give; few = λ ids c. omega (arith, few ids c) };
     no_move = f.quiet.no_move;
     moved = f.moved;
   };

@@ -31,26 +31,18 @@ use Rattle.orc_chain_rule.specs.ChainDiscipline.{ChainHolds, ChainMay, HasKey, I
 use Rattle.orc_chain_rule.specs.Laws.Kinds.{key_linked}
 use Rattle.orc_list.specs.Searches.{NextFollows}
 use Rattle.orc_list.specs.Turns.{Marks, TriesUnlink}
-use Rattle.orc_list.proofs.Held.{FreshIs}
+use Rattle.orc_ordered_search.proofs.Held.{FreshIs}
 use mathlib.Core.List.{IsPrefix}
 use Rattle.std.proofs.Common.{append-nil, length, length-append, arith, ◌+◌, ◌++◌}
-
--- a swing is refused only where it would change the target
-pub refused_apart : (slots : Slots) (from to : Want) (why : Spent) (seen : List (Event ChainNote)) → RefusesSwing slots from to why seen
-    → (link_in slots from).to ≡ (link_in slots to).to → ⊥
-refused_apart slots from (WantNull mark) why seen r same = r
-refused_apart slots from (WantNode h mark) why seen r same = r.0 same
+use Rattle.orc_list.proofs.Ordered.{list_ordering}
+use Rattle.orc_ordered_search.proofs.Marking.{part_fact, target_fresh, within_wider}
 
 pub not_fresh_at : (n : HeapNumbers) (s : Seat ChainNote) (at : At) (place : Place) → place_in s.slots at ≡ place → IsChainPlace place (heap_of n s)
-    → FreshIs n s → IsNotFresh s at
+    → FreshIs (list_ordering n) s → IsNotFresh s at
 not_fresh_at n s (AtRoot r) place is l fresh = tt
 not_fresh_at n s (AtNode h) place is l fresh = linked_not_fresh n s (id_in s.slots h.now) fresh
     (subst (λ (p : Place). IsChainPlace p (heap_of n s)) (sym is) l)
 not_fresh_at n s (AtSide h) place is l fresh = absurd (subst (λ (p : Place). IsChainPlace p (heap_of n s)) (sym is) l)
-
-target_fresh : (n : HeapNumbers) (s : Seat ChainNote) (id : ℕ) (to : Option ℕ) → NextFollows n id to s → FreshIs n s → unless_node s.fresh to ≡ s.fresh
-target_fresh n s id None f fresh = unless_none s.fresh
-target_fresh n s id (Some x) (key, own, follows) fresh = unless_other s.fresh x (linked_not_fresh n s x fresh (key_linked (heap_of n s) x key own))
 
 pub mark_allowed : (n : HeapNumbers) (s : Seat ChainNote) (id key by : ℕ) (to : Option ℕ) (from marked : Link) → from ≡ link_over to
     → marked ≡ record { to = to; mark = true } → by ≡ s.agent → ChainHolds n s.seen → HasKey (heap_of n s) id key
@@ -60,14 +52,14 @@ mark_allowed n s id key by to from marked from_is marked_is by_is holds own =
 
 pub marks : (n : HeapNumbers) (s t : Seat ChainNote) (id key by : ℕ) (to : Option ℕ) (at : At) (from marked : Want) (done : Bool)
     → place_in s.slots at ≡ Next id → link_in s.slots from ≡ link_over to
-    → link_in s.slots marked ≡ record { to = to; mark = true } → by ≡ s.agent → NextFollows n id to s → FreshIs n s
+    → link_in s.slots marked ≡ record { to = to; mark = true } → by ≡ s.agent → NextFollows n id to s → FreshIs (list_ordering n) s
     → Swings at from marked (Some (Entry (Removed by key true))) s done t → Marks key id to s done t
 marks n s t id key by to at from marked done at_is from_is marked_is by_is follows fresh w = cases done refl
   where
     cases : (b : Bool) → done ≡ b → Marks key id to s b t
     cases true is = record {
       slots = w.slots;
-      fresh = Swings-fresh w is ∙ (ap (λ (l : Link). unless_node s.fresh l.to) marked_is ∙ target_fresh n s id to follows fresh);
+      fresh = Swings-fresh w is ∙ (ap (λ (l : Link). unless_node s.fresh l.to) marked_is ∙ target_fresh (list_ordering n) s id to follows fresh);
       puts = subst (λ (e : Event ChainNote). Puts s (e ∷ []) t) (event_is by_is) (Swings-moved w is);
     }
       where
@@ -92,7 +84,7 @@ try_allowed n s place at first others to past at_is past_is holds l run = rw (at
 pub tries : (n : HeapNumbers) (s t : Seat ChainNote) (place : Place) (id first : ℕ) (to : Option ℕ) (Worn : Type 0) (at : At) (from past : Want)
     (result : Result Bool Spent)
     → place_in s.slots at ≡ place → link_in s.slots from ≡ link_to first
-    → link_in s.slots past ≡ link_over to → NextFollows n id to s → FreshIs n s
+    → link_in s.slots past ≡ link_over to → NextFollows n id to s → FreshIs (list_ordering n) s
     → IfOk result (λ done. Swings at from past (Some Unlink) s done t) → IfErr result (λ e. Only [] s t) → IfErr result (λ e. Worn)
     → TriesUnlink place first to Worn s t
 tries n s t place id first to Worn at from past (Ok done) at_is from_is past_is follows fresh w none worn = cases done refl
@@ -100,7 +92,7 @@ tries n s t place id first to Worn at from past (Ok done) at_is from_is past_is 
     cases : (b : Bool) → done ≡ b → TriesUnlink place first to Worn s t
     cases true is = record {
       slots = w.slots;
-      fresh = Swings-fresh w is ∙ (ap (λ (l : Link). unless_node s.fresh l.to) past_is ∙ target_fresh n s id to follows fresh);
+      fresh = Swings-fresh w is ∙ (ap (λ (l : Link). unless_node s.fresh l.to) past_is ∙ target_fresh (list_ordering n) s id to follows fresh);
       either = inl (inl (subst (λ (e : Event ChainNote). Puts s (e ∷ []) t) event_is (Swings-moved w is)));
     }
       where
@@ -115,13 +107,6 @@ tries n s t place id first to Worn at from past (Ok done) at_is from_is past_is 
 tries n s t place id first to Worn at from past (Err e) at_is from_is past_is follows fresh w none worn = record
     { slots = none.slots; fresh = none.fresh; either = inr (worn, none.puts) }
 
--- a fact of a call's part is one of two places in what is new
-pub part_fact : {S : Type 0} (agent_of : S → ℕ) (agent : ℕ) (before after : List S) (Fact : ℕ → ℕ → Type 0) → IsPrefix before after
-    → InPart agent_of agent before after Fact → Within (length before) (length after) Fact
-part_fact agent_of agent before after Fact grows fact =
-    let b = part_bounds agent_of agent before after grows in
-    (part_begin agent_of agent before after, length after, b.0, b.1, omega arith, fact)
-
 pub worn_part : {S : Type 0} (agent_of : S → ℕ) (agent : ℕ) (before after : List S) (worn : Spent → List S → ℕ → ℕ → Type 0) → IsPrefix before after
     → (result : Result Bool Spent)
     → IfErr result (λ e. InPart agent_of agent before after (worn e after))
@@ -133,13 +118,9 @@ worn_part agent_of agent before after worn grows (Err e) w = (e, part_fact agent
 pub worn_wider : {S : Type 0} (worn : ℕ → Spent → List S → ℕ → ℕ → Type 0) (a b : ℕ) (j k m o : List S)
     → ((why : Spent) (xs more : List S) (from to : ℕ) → worn a why xs from to → worn a why (xs ++ more) from to) → b ≡ a → IsPrefix j k → IsPrefix m o
     → ((why : Spent) × Within (length k) (length m) (worn b why m)) → (why : Spent) × Within (length j) (length o) (worn a why o)
-worn_wider {S} worn a b j k m o stays same (first, one) (more, two) (why, w) =
-    let (from, to, low, order, high, fact) = w in
-    let here : worn a why m from to = subst (λ (x : ℕ). worn x why m from to) same fact in
-    let there : worn a why o from to = subst (λ (z : List S). worn a why z from to) two (stays why m more from to here) in
-    let left : length j + length first ≡ length k = sym (length-append j first) ∙ ap (λ (z : List S). length z) one in
-    let right : length m + length more ≡ length o = sym (length-append m more) ∙ ap (λ (z : List S). length z) two in
-    (why, (from, to, omega (arith, low, left), order, omega (arith, high, right), there))
+worn_wider worn a b j k m o stays same one two (why, w) =
+    let here : Within (length k) (length m) (worn a why m) = subst (λ (x : ℕ). Within (length k) (length m) (worn x why m)) same w in
+    (why, within_wider (worn a why) j k m o (stays why) one two here)
 
 pub tries_wider : (Worn More : Type 0) (place : Place) (first : ℕ) (to : Option ℕ) (s t : Seat ChainNote) → (Worn → More)
     → TriesUnlink place first to Worn s t → TriesUnlink place first to More s t
@@ -148,24 +129,3 @@ tries_wider Worn More place first to s t wider w = record {
   fresh = w.fresh;
   either = elim w.either [ inl swung ↦ inl swung | inr worn ↦ inr (wider worn.0, worn.1) ];
 }
-
--- a fact of two places of a piece of a call is one of two places of the whole
-pub within_wider : {S : Type 0} (fact : List S → ℕ → ℕ → Type 0) (j k m o : List S)
-    → ((xs more : List S) (from to : ℕ) → fact xs from to → fact (xs ++ more) from to) → IsPrefix j k → IsPrefix m o
-    → Within (length k) (length m) (fact m) → Within (length j) (length o) (fact o)
-within_wider {S} fact j k m o stays (first, one) (more, two) w =
-    let (from, to, low, order, high, here) = w in
-    let there : fact o from to = subst (λ (z : List S). fact z from to) two (stays m more from to here) in
-    let left : length j + length first ≡ length k = sym (length-append j first) ∙ ap (λ (z : List S). length z) one in
-    let right : length m + length more ≡ length o = sym (length-append m more) ∙ ap (λ (z : List S). length z) two in
-    (from, to, omega (arith, low, left), order, omega (arith, high, right), there)
-
--- what was worn in the last piece of a call
-pub worn_since : {S : Type 0} (worn : ℕ → Spent → List S → ℕ → ℕ → Type 0) (agent_of : S → ℕ) (a b : ℕ) (j k m : List S)
-    → ((why : Spent) (xs more : List S) (from to : ℕ) → worn a why xs from to → worn a why (xs ++ more) from to) → b ≡ a → IsPrefix j k → IsPrefix k m
-    → (result : Result Bool Spent) → IfErr result (λ e. InPart agent_of b k m (worn b e m)) → IfErr result (λ e. Within (length j) (length m) (worn a e m))
-worn_since worn agent_of a b j k m stays same one two (Ok done) w = tt
-worn_since {S} worn agent_of a b j k m stays same one two (Err e) w =
-    let here : Within (length k) (length m) (worn b e m) = part_fact agent_of b k m (worn b e m) two w in
-    let there : Within (length k) (length m) (worn a e m) = subst (λ (x : ℕ). Within (length k) (length m) (worn x e m)) same here in
-    within_wider (worn a e) j k m m (stays e) one ([], append-nil m) there

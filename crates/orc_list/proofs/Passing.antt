@@ -26,8 +26,9 @@ use Rattle.orc_chain_rule.specs.Watches.{node_to_add}
 use Rattle.orc_chain_rule.specs.declared.chain.ChainNote.{ChainNote}
 use Rattle.orc_chain_rule.specs.declared.chain.ChainNote.TheVariants.{Entry}
 use Rattle.orc_list.specs.Inserts.{AddsKey, LeavesRunOff}
-use Rattle.orc_list.proofs.Quiets.{new_allowed, run_puts}
-use Rattle.orc_list.proofs.Seen.{ends_right, sees_right}
+use Rattle.orc_ordered_search.proofs.Quiets.{new_allowed, run_puts}
+use Rattle.orc_ordered_search.proofs.Seen.{ends_right, sees_right}
+use Rattle.orc_list.proofs.Ordered.{list_ordering}
 
 pub adds_right : (es fs : List (Event ChainNote)) (key : ℕ) (place : Place) (from : Link) → AddsKey fs key place from → AddsKey (es ++ fs) key place from
 adds_right [] fs key place from a = a
@@ -68,9 +69,9 @@ leaves_on n key own t u p holds all l = record {
   adds = l.adds;
   over = l.over;
   to = l.to;
-  run = run_puts n t u [] p all l.from l.over l.to l.run;
+  run = run_puts (list_ordering n) t u [] p all l.from l.over l.to l.run;
   ends = l.ends;
-  off = λ id among. subst (λ z. IsOnNoChain (run_heap n z) id) (sym p.is) (off_later n t.seen p.part id holds (new_allowed n t u [] p all)
+  off = λ id among. subst (λ z. IsOnNoChain (run_heap n z) id) (sym p.is) (off_later n t.seen p.part id holds (new_allowed (list_ordering n) t u [] p all)
       (run_linked (heap_of n t) l.from l.over l.to id l.run among) (l.off id among));
 }
 

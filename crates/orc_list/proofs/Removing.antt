@@ -1,6 +1,6 @@
 -- A key is taken out at the node that a search found.
 use Rattle.std.proofs.lemmas.List.{length-append}
-use Rattle.std.proofs.Common.{Bool, List, None, Option, Some, [], ap, append_assoc, arith, false, inl, inr, refl, subst, sym, true, ℕ, ◌++◌, ◌∙◌, ◌∷◌, ◌≡◌, ◌≢◌, ◌≤◌, length}
+use Rattle.std.proofs.Common.{Bool, List, None, Option, Some, [], ap, append_assoc, arith, false, inl, inr, refl, subst, sym, true, ℕ, ◌%◌, ◌++◌, ◌∙◌, ◌∷◌, ◌≡◌, ◌≢◌, ◌≤◌, length}
 use Rattle.std.specs.List.{Contains}
 use Rattle.orc_heap.proofs.Calls.{Puts-stood, Puts-trans, part_allowed}
 use Rattle.orc_heap.proofs.Moved.{moves_in-append}
@@ -22,7 +22,7 @@ use Rattle.orc_heap.specs.declared.events.Act.TheVariants.{Miss, Move}
 use Rattle.orc_heap.specs.declared.events.Event.{Event}
 use Rattle.orc_heap.specs.declared.events.Link.{Link}
 use Rattle.orc_heap.specs.declared.events.Place.{Place}
-use Rattle.orc_heap.specs.declared.events.Place.TheVariants.{Next}
+use Rattle.orc_heap.specs.declared.events.Place.TheVariants.{Next, Root, Side}
 use Rattle.orc_history.specs.declared.set.SetEntry.TheVariants.{Removed}
 use Rattle.orc_chain_rule.proofs.Later.{linked_later, marked_later, run_later}
 use Rattle.orc_chain_rule.proofs.Leaving.{unlinked_off}
@@ -33,14 +33,19 @@ use Rattle.orc_chain_rule.specs.ChainDiscipline.{ChainHolds, ChainMay, FollowsOn
 use Rattle.orc_chain_rule.specs.Laws.Kept.{chain_keeps}
 use Rattle.orc_ordered_chains.proofs.Acts.{move_moves}
 use Rattle.orc_chain_rule.specs.Laws.Kinds.{key_linked, key_one}
-use Rattle.orc_list.specs.Searches.{AllGone, BeginsRun, FindsPresent, HoldsIfAny, InHand, NextFollows, Quiet, left_place, node_of}
-use Rattle.orc_list.specs.Turns.{LeavesOff, Made, MarkStops, Marks, TakesKey, TakesOut, Tires, TriesUnlink, first_or, place_at, target_at}
+use Rattle.orc_ordered_search.specs.Searches.{AllGone, BeginsRun, HoldsIfAny, Quiet, left_place, node_of}
+use Rattle.orc_list.specs.Searches.{FindsPresent, InHand, NextFollows, list_reading}
+use Rattle.orc_ordered_search.specs.Ways.{IsFew}
+use Rattle.orc_ordered_search.specs.Searches.{first_or, place_at, target_at}
+use Rattle.orc_list.specs.Turns.{LeavesOff, Made, MarkStops, Marks, TakesKey, TakesOut, Tires, TriesUnlink}
 use Rattle.orc_list.proofs.Answering.{from_is, head_of, place_of_hand, reads_node, target_is}
-use Rattle.orc_list.proofs.Held.{first_held, in_hand_on, present_hand, second_held}
+use Rattle.orc_ordered_search.proofs.Held.{first_held, in_hand_on, present_hand, second_held}
 use Rattle.orc_list.proofs.Making.{made_after, made_on, missed, over_on}
-use Rattle.orc_list.proofs.Quiets.{below_puts, left_place_on, next_puts, run_puts}
-use Rattle.orc_list.proofs.Seen.{loads-append, sees_left, sees_run_left}
-use Rattle.orc_list.proofs.Stepping.{run_snoc}
+use Rattle.orc_ordered_search.proofs.Quiets.{below_puts, next_puts, run_puts}
+use Rattle.orc_ordered_search.proofs.Seen.{loads-append, present_few, sees_left, sees_run_left}
+use Rattle.orc_ordered_search.proofs.Stepping.{run_snoc}
+use Rattle.orc_list.proofs.Ordered.{list_ordering}
+use Rattle.orc_list.proofs.Tiring.{takes_right}
 
 -- a node whose link was marked has the marked link from then on
 
@@ -104,14 +109,10 @@ alone_exact s t y own ys q p w some alone =
           last,
     )
 
-takes_right : (es fs : List (Event ChainNote)) (key id : ℕ) → TakesKey fs key id → TakesKey (es ++ fs) key id
-takes_right [] fs key id k = k
-takes_right (e ∷ es) fs key id k = inr (takes_right es fs key id k)
-
 -- a search alone, that let all go
-pub quiet_stops : (key : ℕ) (s t y : Seat ChainNote) (own : List (Event ChainNote)) → Quiet s own t → Puts t [] y → y.slots ≡ s.slots → y.fresh ≡ t.fresh
+pub quiet_stops : (n : HeapNumbers) (key : ℕ) (s t y : Seat ChainNote) (own : List (Event ChainNote)) → Quiet (list_reading n) s own t → Puts t [] y → y.slots ≡ s.slots → y.fresh ≡ t.fresh
     → MarkStops key s false y
-quiet_stops key s t y own q p slots fresh = record {
+quiet_stops n key s t y own q p slots fresh = record {
   own = own;
   puts = puts_released s t y own q.puts p;
   slots = slots;
@@ -121,8 +122,15 @@ quiet_stops key s t y own q p slots fresh = record {
   moves = q.no_move;
 }
 
+-- the left place is a place of a chain
+left_place_on : (n : HeapNumbers) (t : Seat ChainNote) (place : Place) (key : ℕ) → FollowsOn n.roots (heap_of n t) place key
+    → IsChainPlace place (heap_of n t)
+left_place_on n t (Root r) key f = tt
+left_place_on n t (Side id) key f = f
+left_place_on n t (Next id) key (low, own, less, same) = key_linked (heap_of n t) id low own
+
 left_apart : (n : HeapNumbers) (t : Seat ChainNote) (root key id : ℕ) (left : Option Hold) (left_id : ℕ)
-    → FollowsOn n.roots (heap_of n t) (left_place root left left_id) key → HasKey (heap_of n t) id key → left_place root left left_id ≢ Next id
+    → FollowsOn n.roots (heap_of n t) (left_place (key % n.roots) left left_id) key → HasKey (heap_of n t) id key → left_place (key % n.roots) left left_id ≢ Next id
 left_apart n t root key id None left_id f own = λ e. cc
 left_apart n t root key id (Some h) left_id (low, mine, less, same) own = λ e.
     let is : left_id ≡ id = cc in
@@ -137,7 +145,10 @@ module _ (n : HeapNumbers) (root key : ℕ) (left first : Option Hold) (node : H
   marked = record { to = node_of next f.next_id; mark = true }
 
   abbrev place : Place
-  place = left_place root left f.left_id
+  place = left_place (key % n.roots) left f.left_id
+
+  few : IsFew 2 f.own
+  few = present_few (list_reading n) (Root root) key 0 left first node next s t f
 
   abbrev head : ℕ
   head = run_head first f.first_id f.id
@@ -162,7 +173,7 @@ module _ (n : HeapNumbers) (root key : ℕ) (left first : Option Hold) (node : H
   run_marked u m all =
       let l = f.behind.leads in
       let own_link = marked_link n t u f.id (link_over to) marked _ m.puts all (key_linked (heap_of n t) f.id key f.is_of.has_key) refl in
-      let run = run_snoc (heap_of n u) l.from l.over f.id marked (run_puts n t u _ m.puts all l.from l.over (Some f.id) l.run) own_link refl in
+      let run = run_snoc (heap_of n u) l.from l.over f.id marked (run_puts (list_ordering n) t u _ m.puts all l.from l.over (Some f.id) l.run) own_link refl in
       subst (λ (x : Link). IsRun (heap_of n u) x (head ∷ run_from.others) to) run_from.from_is
       (subst (λ z. IsRun (heap_of n u) l.from z to) run_from.over_is run)
 
@@ -177,9 +188,9 @@ module _ (n : HeapNumbers) (root key : ℕ) (left first : Option Hold) (node : H
 
   pub marked_hand : (done : Bool) (u : Seat ChainNote) → Marks key f.id (node_of next f.next_id) t done u → AllAllowed (ChainMay n) [] u.seen
       → InHand n s.slots left first (Some node) next u
-  marked_hand true u m all = in_hand_on n s.slots left first (Some node) next t u _ m.puts all m.slots (present_hand n root key left first s t node next f)
-  marked_hand false u m all = in_hand_on n s.slots left first (Some node) next t u _ m.puts.puts all m.slots
-      (present_hand n root key left first s t node next f)
+  marked_hand true u m all = in_hand_on (list_ordering n) s.slots left first (Some node) next t u _ m.puts all m.slots (present_hand (list_ordering n) (Root root) key 0 left first s t node next f)
+  marked_hand false u m all = in_hand_on (list_ordering n) s.slots left first (Some node) next t u _ m.puts.puts all m.slots
+      (present_hand (list_ordering n) (Root root) key 0 left first s t node next f)
 
   pub unlink_held : (u : Seat ChainNote) (h : Hold) → u.slots ≡ t.slots → Some h ≡ first_or first (Some node)
       → HoldsIfAny u.slots left × Holds u.slots h × HoldsIfAny u.slots next
@@ -199,7 +210,6 @@ module _ (n : HeapNumbers) (root key : ℕ) (left first : Option Hold) (node : H
       subst (λ (z : Slots). HoldsIfAny z left × Holds z h × HoldsIfAny z next) (sym same) all
 
   record UnlinkAt (u : Seat ChainNote) (h : Hold) : Type 0 where
-    place_is : place_at u.slots root left ≡ left_place root left f.left_id
     id_is : id_in u.slots h ≡ run_head first f.first_id f.id
     to_is : target_at u.slots next ≡ node_of next f.next_id
 
@@ -213,11 +223,15 @@ module _ (n : HeapNumbers) (root key : ℕ) (left first : Option Hold) (node : H
       f.hands.held.1.1.0 in
       let at_t : id_in t.slots h ≡ run_head first f.first_id f.id = some_same (target ∙ head_is first f.first_id f.id) in
       record {
-        place_is = ap (λ (z : Slots). place_at z root left) same ∙ place_of_hand s.slots t.slots root left f.left_id (hand first f.first_id ∷ ks)
-            f.hands.held.0;
         id_is = ap (λ (z : Slots). id_in z h) same ∙ at_t;
         to_is = ap (λ (z : Slots). target_at z next) same ∙ r.next_is;
       }
+
+  unlink_place : (u : Seat ChainNote) → root ≡ key % n.roots → u.slots ≡ t.slots → place_at u.slots root left ≡ left_place (key % n.roots) left f.left_id
+  unlink_place u is same =
+      ap (λ (z : Slots). place_at z root left) same
+      ∙ place_of_hand s.slots t.slots root (key % n.roots) is left f.left_id (hand first f.first_id ∷ hand (Some node) f.id ∷ hand next f.next_id ∷ [])
+      f.hands.held.0
 
   pub unlink_run_at : (u : Seat ChainNote) (h : Hold) → Marks key f.id (node_of next f.next_id) t true u → AllAllowed (ChainMay n) [] u.seen
       → Some h ≡ first_or first (Some node)
@@ -228,26 +242,25 @@ module _ (n : HeapNumbers) (root key : ℕ) (left first : Option Hold) (node : H
       let run = subst (λ (x : ℕ). IsRun (heap_of n u) (link_to x) (x ∷ others) to) (sym a.id_is) (run_marked u m all) in
       (others, subst (λ (o : Option ℕ). IsRun (heap_of n u) (link_to (id_in u.slots h)) (id_in u.slots h ∷ others) o) (sym a.to_is) run)
 
-  pub unlink_left : (u : Seat ChainNote) (h : Hold) → Marks key f.id (node_of next f.next_id) t true u → AllAllowed (ChainMay n) [] u.seen
-      → Some h ≡ first_or first (Some node) → IsChainPlace (place_at u.slots root left) (heap_of n u)
-  unlink_left u h m all is =
-      let a = unlink_at u h m.slots is in
-      subst (λ (p : Place). IsChainPlace p (heap_of n u)) (sym a.place_is) (left_place_on n u place key
-      (below_puts n t u _ m.puts all place key f.behind.leads.below))
+  pub unlink_left : (u : Seat ChainNote) → root ≡ key % n.roots → Marks key f.id (node_of next f.next_id) t true u → AllAllowed (ChainMay n) [] u.seen
+      → IsChainPlace (place_at u.slots root left) (heap_of n u)
+  unlink_left u is m all =
+      subst (λ (p : Place). IsChainPlace p (heap_of n u)) (sym (unlink_place u is m.slots)) (left_place_on n u place key
+      (below_puts (list_ordering n) t u _ m.puts all place key f.behind.leads.below))
 
   pub unlink_follows : (u : Seat ChainNote) → Marks key f.id (node_of next f.next_id) t true u → AllAllowed (ChainMay n) [] u.seen
       → (id : ℕ) × NextFollows n id (target_at u.slots next) u
   unlink_follows u m all =
       let r = reads_node n root key left first node next s t f in
       let to_is : target_at u.slots next ≡ to = ap (λ (z : Slots). target_at z next) m.slots ∙ r.next_is in
-      (f.id, subst (λ (o : Option ℕ). NextFollows n f.id o u) (sym to_is) (next_puts n t u _ m.puts all f.id to f.follows))
+      (f.id, subst (λ (o : Option ℕ). NextFollows n f.id o u) (sym to_is) (next_puts (list_ordering n) t u _ m.puts all f.id to f.follows))
 
-  pub tries_at : (u v : Seat ChainNote) (h : Hold) (Worn : Type 0) → u.slots ≡ t.slots → Some h ≡ first_or first (Some node)
+  pub tries_at : (u v : Seat ChainNote) (h : Hold) (Worn : Type 0) → root ≡ key % n.roots → u.slots ≡ t.slots → Some h ≡ first_or first (Some node)
       → TriesUnlink (place_at u.slots root left) (id_in u.slots h) (target_at u.slots next) Worn u v
-      → TriesUnlink (left_place root left f.left_id) (run_head first f.first_id f.id) (node_of next f.next_id) Worn u v
-  tries_at u v h Worn same is tried =
+      → TriesUnlink (left_place (key % n.roots) left f.left_id) (run_head first f.first_id f.id) (node_of next f.next_id) Worn u v
+  tries_at u v h Worn of_key same is tried =
       let a = unlink_at u h same is in
-      let one = subst (λ (p : Place). TriesUnlink p (id_in u.slots h) (target_at u.slots next) Worn u v) a.place_is tried in
+      let one = subst (λ (p : Place). TriesUnlink p (id_in u.slots h) (target_at u.slots next) Worn u v) (unlink_place u of_key same) tried in
       let two = subst (λ (i : ℕ). TriesUnlink place i (target_at u.slots next) Worn u v) a.id_is one in
       subst (λ (o : Option ℕ). TriesUnlink place head o Worn u v) a.to_is two
 
@@ -255,10 +268,10 @@ module _ (n : HeapNumbers) (root key : ℕ) (left first : Option Hold) (node : H
       → AllAllowed (ChainMay n) [] v.seen → InHand n s.slots left first (Some node) next u → InHand n s.slots left first (Some node) next v
   tried_hand u v at id past Worn tried all h = elim tried.either [
     | inl swung ↦ elim swung [
-      | inl p ↦ in_hand_on n s.slots left first (Some node) next u v _ p all tried.slots h
-      | inr miss ↦ in_hand_on n s.slots left first (Some node) next u v _ miss.puts all tried.slots h
+      | inl p ↦ in_hand_on (list_ordering n) s.slots left first (Some node) next u v _ p all tried.slots h
+      | inr miss ↦ in_hand_on (list_ordering n) s.slots left first (Some node) next u v _ miss.puts all tried.slots h
     ]
-    | inr worn ↦ in_hand_on n s.slots left first (Some node) next u v [] worn.1 all tried.slots h
+    | inr worn ↦ in_hand_on (list_ordering n) s.slots left first (Some node) next u v [] worn.1 all tried.slots h
   ]
 
   pub removes_missed : (u y : Seat ChainNote) → Marks key f.id (node_of next f.next_id) t false u → AllGone s.slots u y → AllAllowed (ChainMay n) [] u.seen
@@ -266,7 +279,7 @@ module _ (n : HeapNumbers) (root key : ℕ) (left first : Option Hold) (node : H
   removes_missed u y m g all =
       let from : Link = link_over to in
       let q = f.behind.quiet in
-      let made = made_after 0 s t u f.own _ [] q f.few m.puts.puts refl refl (omega arith) in
+      let made = made_after n 0 s t u f.own _ [] q few m.puts.puts refl refl (omega arith) in
       let moved = missed n s t u f.own _ (Next f.id) from q.puts q.some f.still (key_linked (heap_of n t) f.id key f.is_of.has_key) m.puts all made.puts in
       let still : moves_in (f.own ++ event_of t (Miss (Next f.id) from m.puts.found) None ∷ []) ≡ 0 = omega
       (arith, moves_in-append f.own (event_of t (Miss (Next f.id) from m.puts.found) None ∷ []), q.no_move) in
@@ -289,15 +302,15 @@ module _ (n : HeapNumbers) (root key : ℕ) (left first : Option Hold) (node : H
       let q = f.behind.quiet in
       let entries : entries_of (mark ∷ ys) ≡ Removed s.agent key true ∷ [] = ap (λ (a : ℕ). Removed a key true ∷ entries_of ys) q.puts.agent ∙ ap
       (λ z. Removed s.agent key true ∷ z) none in
-      made_on 0 1 s v y (f.own ++ mark ∷ ys) (Removed s.agent key true ∷ []) (made_after 0 s t v f.own (mark ∷ ys) (Removed s.agent key true ∷ []) q f.few
+      made_on 0 1 s v y (f.own ++ mark ∷ ys) (Removed s.agent key true ∷ []) (made_after n 0 s t v f.own (mark ∷ ys) (Removed s.agent key true ∷ []) q few
       p entries (omega (arith, no_give)) (omega (arith, short))) g
 
   -- a remove that stops there
   pub mark_stops : (done : Bool) (u y : Seat ChainNote) → Marks key f.id (node_of next f.next_id) t done u → AllGone s.slots u y → MarkStops key s done y
   mark_stops true u y m g =
       let q = f.behind.quiet in
-      let made = made_on 0 1 s u y (f.own ++ mark ∷ []) (Removed s.agent key true ∷ []) (made_after 0 s t u f.own (mark ∷ []) (Removed s.agent key true ∷ [])
-      q f.few m.puts (ap (λ (a : ℕ). Removed a key true ∷ []) q.puts.agent) refl (omega arith)) g.puts in
+      let made = made_on 0 1 s u y (f.own ++ mark ∷ []) (Removed s.agent key true ∷ []) (made_after n 0 s t u f.own (mark ∷ []) (Removed s.agent key true ∷ [])
+      q few m.puts (ap (λ (a : ℕ). Removed a key true ∷ []) q.puts.agent) refl (omega arith)) g.puts in
       record {
         own = f.own ++ mark ∷ [];
         puts = made.puts;
@@ -314,7 +327,7 @@ module _ (n : HeapNumbers) (root key : ℕ) (left first : Option Hold) (node : H
   mark_stops false u y m g =
       let q = f.behind.quiet in
       let miss : Event ChainNote = event_of t (Miss (Next f.id) (link_over to) m.puts.found) None in
-      let made = made_on 0 1 s u y (f.own ++ miss ∷ []) [] (made_after 0 s t u f.own (miss ∷ []) [] q f.few m.puts.puts refl refl (omega arith)) g.puts in
+      let made = made_on 0 1 s u y (f.own ++ miss ∷ []) [] (made_after n 0 s t u f.own (miss ∷ []) [] q few m.puts.puts refl refl (omega arith)) g.puts in
       record {
         own = f.own ++ miss ∷ [];
         puts = made.puts;
@@ -382,7 +395,7 @@ module _ (n : HeapNumbers) (root key : ℕ) (left first : Option Hold) (node : H
       }
 
   pub removes_done : (Worn : Type 0) (u v y : Seat ChainNote) → Marks key f.id (node_of next f.next_id) t true u
-      → TriesUnlink (left_place root left f.left_id) (run_head first f.first_id f.id) (node_of next f.next_id) Worn u v → AllGone s.slots v y
+      → TriesUnlink (left_place (key % n.roots) left f.left_id) (run_head first f.first_id f.id) (node_of next f.next_id) Worn u v → AllGone s.slots v y
       → ChainHolds n t.seen → AllAllowed (ChainMay n) [] y.seen → TakesOut n key Worn 1 s y
   removes_done Worn u v y m tries g holds all_y = elim tries.either [
     | inl swung ↦ elim swung [

@@ -26,7 +26,7 @@ use Rattle.orc_chain_rule.specs.ChainDiscipline.{ChainHolds, ChainMay, FollowsOn
 use Rattle.orc_chain_rule.specs.declared.chain.ChainNote.{ChainNote}
 use Rattle.orc_list.specs.Answers.{AsksTurns, InsertAnswers, InsertCall, RemovesTurns}
 use Rattle.orc_list.specs.Inserts.{LeavesRunOff, SeesAbsent}
-use Rattle.orc_list.specs.Searches.{CoversLooks}
+use Rattle.orc_ordered_search.specs.Ways.{CoversLooks}
 use Rattle.orc_list.specs.Turns.{Answers, AreFew, AreOver, LeavesOff, Made, Tires}
 use Rattle.orc_list.proofs.Passing.{leaves_on}
 
@@ -244,6 +244,3 @@ insert_keeps n key turns s t (Ok answer) l idle = (record { slots = l.2.slots �
 insert_keeps n key turns s t (Err Again) l idle = (record { slots = l.slots ∙ idle.slots; fresh = l.fresh }, l.over.made.puts.agent)
 insert_keeps n key turns s t (Err NoNode) l idle = (record { slots = l.2.slots ∙ idle.slots; fresh = l.2.fresh }, l.2.made.puts.agent)
 insert_keeps n key turns s t (Err (Spent why)) l idle = (record { slots = l.2.slots ∙ idle.slots; fresh = l.2.fresh }, l.2.made.puts.agent)
-
-pub idle_settled : (t u : Seat ChainNote) → IsIdle t → Only [] t u → IsIdle u
-idle_settled t u idle o = record { slots = o.slots ∙ idle.slots; fresh = o.fresh ∙ idle.fresh }

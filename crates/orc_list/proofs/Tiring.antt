@@ -9,7 +9,7 @@ use Rattle.orc_chain_rule.specs.declared.chain.ChainNote.{ChainNote}
 use Rattle.orc_list.specs.Answers.{AsksTurns, RemovesTurns}
 use Rattle.orc_list.specs.Turns.{Answers, AsksTurn, LeavesOff, Made, RemovesTurn, TakesKey, Tires}
 use Rattle.orc_list.proofs.Making.{made_most, made_next, over_next, over_none}
-use Rattle.orc_list.proofs.Seen.{loads-append, sees_right, sees_run_right}
+use Rattle.orc_ordered_search.proofs.Seen.{loads-append, sees_right, sees_run_right}
 use Rattle.orc_heap.specs.declared.events.Event.{Event}
 
 pub tires_none : (s : Seat ChainNote) → Tires 0 s s
@@ -50,7 +50,7 @@ turn_wider n key turns Worn More s t None wider r = r
 turn_wider n key turns Worn More s t (Some false) wider r = r
 turn_wider n key turns Worn More s t (Some true) wider r = record { answers = r.answers; off = λ alone none. r.off alone (λ w. none (wider w)) }
 
-takes_right : (es fs : List (Event ChainNote)) (key id : ℕ) → TakesKey fs key id → TakesKey (es ++ fs) key id
+pub takes_right : (es fs : List (Event ChainNote)) (key id : ℕ) → TakesKey fs key id → TakesKey (es ++ fs) key id
 takes_right [] fs key id k = k
 takes_right (e ∷ es) fs key id k = inr (takes_right es fs key id k)
 

@@ -12,13 +12,9 @@ use Rattle.orc_history.specs.declared.set.SetEntry.{SetEntry}
 use Rattle.orc_history.specs.declared.set.ListRefused.{ListRefused}
 use Rattle.orc_history.specs.declared.set.ListRefused.TheVariants.{Again, NoNode, Spent}
 use Rattle.orc_chain_rule.specs.ChainDiscipline.{entries_of}
+use Rattle.orc_ordered_search.specs.Causes.{others_moves}
 use Rattle.orc_chain_rule.specs.Counts.{AreLeftOver, adds_in, entries_of_others, removes_in}
 use Rattle.orc_chain_rule.specs.declared.chain.ChainNote.{ChainNote}
-
--- how many Moves of agents other than this one stand in the events
-abbrev pub others_moves : {N : Type 0} → ℕ → List (Event N) → ℕ
-others_moves agent [] = 0
-others_moves agent (e ∷ es) = (if e.agent == agent then 0 else move_with e.act) + others_moves agent es
 
 -- what agents other than this one entered in the history between the two places
 abbrev pub entered_by_others : {S : Type 0} → (List S → List (Event ChainNote)) → ℕ → List S → ℕ → ℕ → List SetEntry
@@ -44,11 +40,6 @@ pub record UsesTurns {S : Type 0} (n : HeapNumbers) (agent_of : S → ℕ) (even
 -- between the ends of two journals, the later of which is the longer, the domain read some row's sequence at its limit
 abbrev pub HasWorn : {S : Type 0} → (SpentRow → List S → ℕ → ℕ → Type 0) → List S → List S → Type 0
 HasWorn worn before after = (why : SpentRow) × Within (length before) (length after) (worn why after)
-
--- a fact of two places of the call's part of the journal, which its agent's first step begins
-pub record WithinPart {S : Type 0} (agent_of : S → ℕ) (agent : ℕ) (before after : List S) (Fact : ℕ → ℕ → Type 0) : Type 0 where
-  pub begun : part_begin agent_of agent before after < length after
-  pub within : Within (part_begin agent_of agent before after) (length after) Fact
 
 -- the cause of each refusal, where `Lacks` says that no row could be given, and `Worn` that a row was worn
 abbrev pub Cause : {S : Type 0} → HeapNumbers → (S → ℕ) → (List S → List (Event ChainNote)) → Type 0 → (SpentRow → Type 0) → ℕ → ℕ

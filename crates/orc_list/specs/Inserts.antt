@@ -1,6 +1,6 @@
 -- What the turns of an insert do. After Harris 2001.
 use Rattle.std.specs.List.{Contains}
-use Rattle.std.specs.Prelude.{Bool, Err, List, None, Ok, Option, Result, Some, [], false, length, slice_get, slice_set, true, ℕ, ◌*◌, ◌+◌, ◌∷◌, ◌≡◌, ◌≤◌, ◌⊎◌}
+use Rattle.std.specs.Prelude.{Bool, Err, List, None, Ok, Option, Result, Some, [], false, length, slice_get, true, ℕ, ◌%◌, ◌*◌, ◌+◌, ◌∷◌, ◌≡◌, ◌≤◌, ◌⊎◌}
 use Rattle.orc_fault.specs.declared.Spent.{Spent as SpentRow}
 use Rattle.orc_heap.specs.Calls.{Misses, event_of}
 use Rattle.orc_heap.specs.Hands.{Hands, HoldsId, hand}
@@ -13,6 +13,7 @@ use Rattle.orc_heap.specs.declared.events.Act.TheVariants.{Aim, Move}
 use Rattle.orc_heap.specs.declared.events.Event.{Event}
 use Rattle.orc_heap.specs.declared.events.Link.{Link}
 use Rattle.orc_heap.specs.declared.events.Place.{Place}
+use Rattle.orc_heap.specs.declared.events.Place.TheVariants.{Root}
 use Rattle.orc_history.specs.declared.set.SetEntry.{SetEntry}
 use Rattle.orc_history.specs.declared.set.SetEntry.TheVariants.{Added}
 use Rattle.orc_ordered_chains.specs.Chains.{IsRun}
@@ -20,7 +21,10 @@ use Rattle.orc_chain_rule.specs.ChainDiscipline.{FollowsOn, IsAbove, IsOnNoChain
 use Rattle.orc_chain_rule.specs.Watches.{node_to_add}
 use Rattle.orc_chain_rule.specs.declared.chain.ChainNote.{ChainNote}
 use Rattle.orc_chain_rule.specs.declared.chain.ChainNote.TheVariants.{Entry}
-use Rattle.orc_list.specs.Searches.{EndsRun, HasRoom, IsFew, LeadsOver, Sees, SeesRun, node_of}
+use Rattle.orc_ordered_search.specs.Ways.{EndsRun, IsFew, Sees}
+use Rattle.orc_ordered_search.specs.Inserts.{EndsWith, HoldsNode, KeepsNode as KeepsNodeIn, count_of}
+use Rattle.orc_ordered_search.specs.Searches.{LeadsOver, SeesRun, node_of}
+use Rattle.orc_list.specs.Searches.{list_reading}
 use Rattle.orc_list.specs.Turns.{AreOver, Made}
 use Rattle.orc_list.specs.declared.insert.InsertTurn.{InsertTurn}
 use Rattle.orc_list.specs.declared.insert.InsertTurn.TheVariants.{Answered, NoNode, Over, Spent}
@@ -58,56 +62,18 @@ pub record LeavesRunOff (key : ℕ) (es : List (Event ChainNote)) (h : Heap) : T
   pub ends : EndsRun es to
   pub off : (id : ℕ) → Contains over id → IsOnNoChain h id
 
--- how many nodes were given, where none is let go
-abbrev pub count_of : Option Hold → ℕ
-count_of None = 0
-count_of (Some h) = 1
-
--- these slots with the node in its slot, if there is one
-abbrev pub slots_with : Slots → Option Hold → ℕ → Slots
-slots_with slots None id = slots
-slots_with slots (Some h) id = slice_set slots h.slot (Some (record { row = h.row; id = id }))
-
--- the node is in slot 1, if there is one
-abbrev pub IsInFirst : Option Hold → Type 0
-IsInFirst None = Unit {0}
-IsInFirst (Some h) = h.slot ≡ 1
-
--- slots 1 to 5 are free
-pub record HasRoomFor (slots : Slots) : Type 0 where
-  pub one : IsFree slots 1
-  pub room : HasRoom slots
-
 -- the pass holds its fresh node, which has this key
-pub record HoldsKey (n : HeapNumbers) (key : ℕ) (h : Hold) (id : ℕ) (t : Seat ChainNote) : Type 0 where
-  pub held : HoldsId t.slots h id
-  pub fresh : t.fresh ≡ Some id
-  pub second : ℕ
-  pub to : Option ℕ
-  pub node : slice_get (heap_of n t).nodes id ≡ Some (node_to_add t.agent key second to)
-
--- it does, or it has none
-abbrev pub IsToAdd : HeapNumbers → ℕ → Option Hold → ℕ → Seat ChainNote → Type 0
-IsToAdd n key None id t = t.fresh ≡ None
-IsToAdd n key (Some h) id t = HoldsKey n key h id t
+abbrev pub HoldsKey : HeapNumbers → ℕ → Hold → ℕ → Seat ChainNote → Type 0
+HoldsKey n key h id t = HoldsNode (list_reading n) key 0 h id t
 
 -- beside what these slots held the pass has in hand the node to add, if there is one
-pub record KeepsNode (n : HeapNumbers) (key : ℕ) (node : Option Hold) (slots : Slots) (t : Seat ChainNote) : Type 0 where
-  pub id : ℕ
-  pub slots_are : t.slots ≡ slots_with slots node id
-  pub slot_is : IsInFirst node
-  pub to_add : IsToAdd n key node id t
-
--- the same of a node that may have been linked
-pub record EndsWith (node : Option Hold) (slots : Slots) (t : Seat ChainNote) : Type 0 where
-  pub id : ℕ
-  pub slots_are : t.slots ≡ slots_with slots node id
-  pub slot_is : IsInFirst node
-  pub fresh : (t.fresh ≡ None) ⊎ (t.fresh ≡ node_of node id)
+abbrev pub KeepsNode : HeapNumbers → ℕ → Option Hold → Slots → Seat ChainNote → Type 0
+KeepsNode n key node slots t = KeepsNodeIn (list_reading n) key 0 node slots t
 
 -- the pass has a node for the key, and a search found where the key belongs: so far it made only loads, and what gives the node
 pub record AddsAt (n : HeapNumbers) (root key : ℕ) (left first right : Option Hold) (node : Hold) (given : ℕ) (slots : Slots) (s t : Seat ChainNote) : Type
     0 where
+  pub root_is : root ≡ key % n.roots
   pub own : List (Event ChainNote)
   pub puts : Puts s own t
   pub some : 1 ≤ length own
@@ -119,7 +85,7 @@ pub record AddsAt (n : HeapNumbers) (root key : ℕ) (left first right : Option 
   pub first_id : ℕ
   pub right_id : ℕ
   pub hands : Hands slots t.slots (hand left left_id ∷ hand first first_id ∷ hand right right_id ∷ [])
-  pub leads : LeadsOver n root key left first left_id first_id (node_of right right_id) s own t puts.part
+  pub leads : LeadsOver (list_reading n) (Root root) key left first left_id first_id (node_of right right_id) s own t puts.part
   pub above : IsAbove (heap_of n t) (node_of right right_id) key
   pub ends : EndsRun own (node_of right right_id)
   pub id : ℕ

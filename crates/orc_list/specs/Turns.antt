@@ -18,22 +18,8 @@ use Rattle.orc_chain_rule.specs.declared.chain.ChainNote.{ChainNote}
 use Rattle.orc_chain_rule.specs.declared.chain.ChainNote.TheVariants.{Entry, Unlink}
 use Rattle.orc_ordered_chains.specs.Chains.{link_over}
 use Rattle.orc_chain_rule.specs.ChainDiscipline.{IsOnNoChain, entries_of}
-use Rattle.orc_list.specs.Searches.{AreLoads, CoversLooks, Sees, SeesRun}
-
--- the left place, by what the pass holds
-abbrev pub place_at : Slots → ℕ → Option Hold → Place
-place_at slots root None = Root root
-place_at slots root (Some h) = Next (id_in slots h)
-
--- the target, by what the pass holds
-abbrev pub target_at : Slots → Option Hold → Option ℕ
-target_at slots None = None
-target_at slots (Some h) = Some (id_in slots h)
-
--- the first of the marked nodes, or else the right node
-abbrev pub first_or : Option Hold → Option Hold → Option Hold
-first_or None right = right
-first_or (Some h) right = Some h
+use Rattle.orc_ordered_search.specs.Ways.{AreLoads, CoversLooks, Sees}
+use Rattle.orc_ordered_search.specs.Searches.{SeesRun}
 
 -- of the events there are at most so many in each turn: two for each node at whose link one of them looked, and four; and so many
 -- more in all

@@ -5,7 +5,8 @@ ghost use mathlib.Core.List.{IsPrefix};
 ghost use Rattle.orc_heap.specs.Seats.{Seat};
 ghost use Rattle.orc_chain_rule.specs.declared.chain.ChainNote.{ChainNote};
 ghost use Rattle.orc_list.specs.Answers.{AsksTurns};
-ghost use Rattle.orc_list.specs.Searches.{FindsAbsent, FindsPresent, HasRoom};
+ghost use Rattle.orc_ordered_search.specs.Searches.{HasRoom};
+ghost use Rattle.orc_list.specs.Searches.{FindsAbsent, FindsPresent};
 ghost use Rattle.orc_list.specs.Turns.{AsksTurn, Enters, IsAbsence, IsPresence};
 
 use crate::search::{Searched, search};
@@ -25,7 +26,7 @@ pub(crate) fn enter_absent<L: Links<Rule = Chain>>(
     entry: SetEntry,
 ) -> bool
     requires pass { L.belongs links.now p.old }
-    requires root { root < (L.numbers links.now).roots }
+    requires root { (root < (L.numbers links.now).roots) × (root ≡ key % (L.numbers links.now).roots) }
     requires entry { IsAbsence (L.seat links.now p.old).agent key entry }
     requires absent { (s : Seat ChainNote) × FindsAbsent (L.numbers links.now) root key spot.left spot.first spot.right s (L.seat links.now p.old) }
     ensures pass { L.belongs links.now p.new }

@@ -11,10 +11,12 @@ ghost use Rattle.orc_ordered_chains.specs.Chains.{IsRun, link_over};
 ghost use Rattle.orc_chain_rule.specs.ChainDiscipline.{FollowsOn, IsAbove};
 ghost use Rattle.orc_chain_rule.specs.declared.chain.ChainNote.{ChainNote};
 ghost use Rattle.orc_list.specs.Answers.{InsertAnswers, InsertsTurns};
-ghost use Rattle.orc_list.specs.Causes.{WithinPart};
-ghost use Rattle.orc_list.specs.Inserts.{AddsAt, AddsNode, HasRoomFor, HoldsKey, Inserts, KeepsNode, LinksTo};
-ghost use Rattle.orc_list.specs.Searches.{FindsAbsent, HoldsIfAny};
-ghost use Rattle.orc_list.specs.Turns.{first_or, place_at, target_at};
+ghost use Rattle.orc_ordered_search.specs.Causes.{WithinPart};
+ghost use Rattle.orc_ordered_search.specs.Inserts.{HasRoomFor};
+ghost use Rattle.orc_list.specs.Inserts.{AddsAt, AddsNode, HoldsKey, Inserts, KeepsNode, LinksTo};
+ghost use Rattle.orc_ordered_search.specs.Searches.{HoldsIfAny};
+ghost use Rattle.orc_list.specs.Searches.{FindsAbsent};
+ghost use Rattle.orc_ordered_search.specs.Searches.{first_or, place_at, target_at};
 
 use crate::answer::enter_present;
 use crate::search::{Searched, search};
@@ -133,7 +135,7 @@ fn add_at<L: Links<Rule = Chain>>(
     node: Option<Held>,
 ) -> (InsertTurn, Option<Held>)
     requires pass { L.belongs links.now p.old }
-    requires root { root < (L.numbers links.now).roots }
+    requires root { (root < (L.numbers links.now).roots) × (root ≡ key % (L.numbers links.now).roots) }
     requires absent { (slots : Slots) × (s : Seat ChainNote) × HasRoomFor slots × KeepsNode (L.numbers links.now) key node slots s
         × FindsAbsent (L.numbers links.now) root key spot.left spot.first spot.right s (L.seat links.now p.old) }
     ensures pass { L.belongs links.now p.new }

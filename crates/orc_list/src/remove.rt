@@ -9,8 +9,10 @@ ghost use Rattle.orc_chain_rule.specs.ChainDiscipline.{HasKey, IsChainPlace};
 ghost use Rattle.orc_chain_rule.specs.declared.chain.ChainNote.{ChainNote};
 ghost use Rattle.orc_list.specs.Answers.{RemovesTurns};
 ghost use Rattle.orc_list.specs.Causes.{HasWorn};
-ghost use Rattle.orc_list.specs.Searches.{FindsPresent, HasRoom, HoldsIfAny, NextFollows};
-ghost use Rattle.orc_list.specs.Turns.{MarkStops, Marks, RemovesNode, RemovesTurn, TriesUnlink, place_at, target_at};
+ghost use Rattle.orc_ordered_search.specs.Searches.{HasRoom, HoldsIfAny};
+ghost use Rattle.orc_list.specs.Searches.{FindsPresent, NextFollows};
+ghost use Rattle.orc_ordered_search.specs.Searches.{place_at, target_at};
+ghost use Rattle.orc_list.specs.Turns.{MarkStops, Marks, RemovesNode, RemovesTurn, TriesUnlink};
 
 use crate::answer::enter_absent;
 use crate::search::{Searched, search};
@@ -100,7 +102,7 @@ fn take_out<L: Links<Rule = Chain>>(
     next: Option<Held>,
 ) -> bool
     requires pass { L.belongs links.now p.old }
-    requires root { root < (L.numbers links.now).roots }
+    requires root { (root < (L.numbers links.now).roots) × (root ≡ key % (L.numbers links.now).roots) }
     requires present { (s : Seat ChainNote) × FindsPresent (L.numbers links.now) root key left first node next s (L.seat links.now p.old) }
     ensures pass { L.belongs links.now p.new }
     ensures later { IsPrefix (L.journal p.old) (L.journal p.new) }

@@ -4,7 +4,8 @@ ghost use Rattle.std.specs.Prelude.{◌≡◌, ◌+◌, ◌<◌, ◌%◌, ℕ, N
 ghost use mathlib.Core.List.{IsPrefix};
 ghost use Rattle.orc_heap.specs.Seats.{Seat};
 ghost use Rattle.orc_chain_rule.specs.declared.chain.ChainNote.{ChainNote};
-ghost use Rattle.orc_list.specs.Searches.{Finds, FindsMoved, FindsPlain, HasRoom, LooksBy, LooksOn, Passed, StepsTo, Stops, Walks};
+ghost use Rattle.orc_ordered_search.specs.Searches.{HasRoom};
+ghost use Rattle.orc_list.specs.Searches.{Finds, FindsMoved, FindsPlain, LooksBy, LooksOn, Passed, StepsTo, Stops, Walks};
 
 use crate::spot::{Spot, keep_first, let_all_go, let_go, slot_of, spare_slot};
 use orc_chain_rule::Chain;
@@ -187,7 +188,7 @@ fn stop<L: Links<Rule = Chain>>(links: &L, p: &mut L::Pass, root: u32, wanted: u
     ensures pass { L.belongs links.now p.new }
     ensures later { IsPrefix (L.journal p.old) (L.journal p.new) }
     ensures moved { (s : Seat ChainNote) → Stops (L.numbers links.now) root wanted walk.left walk.first walk.at s (L.seat links.now p.old)
-        → FindsMoved s (L.seat links.now p.new) }
+        → FindsMoved (L.numbers links.now) s (L.seat links.now p.new) }
 {
     let Walk {
         left,

@@ -5,8 +5,9 @@ ghost use mathlib.Core.List.{IsPrefix};
 ghost use Rattle.orc_heap.specs.Heap.{HeapNumbers};
 ghost use Rattle.orc_heap.specs.Slots.{Holds, Slots};
 ghost use Rattle.orc_heap.specs.Seats.{HoldsPlace, HoldsWant, link_in, place_in};
-ghost use Rattle.orc_list.specs.Turns.{first_or, place_at, target_at};
-ghost use Rattle.orc_list.specs.Searches.{AllGone, HoldsIfAny, InHand, KeepsFirst, LetsGo, slot_in};
+ghost use Rattle.orc_ordered_search.specs.Searches.{first_or, place_at, target_at};
+ghost use Rattle.orc_ordered_search.specs.Searches.{AllGone, HoldsIfAny, KeepsFirst, LetsGo, slot_in};
+ghost use Rattle.orc_list.specs.Searches.{InHand};
 
 use orc_chain_rule::Chain;
 use orc_heap::{At, Held, Links, Want};

@@ -36,7 +36,7 @@ use Rattle.orc_ordered_search.proofs.Quiets.{above_puts, below_puts, leads_puts,
 -- slots that hold a node besides
 
 -- a slot that holds a node is no hand's
-apart_held : (s t : Slots) (hs : List Hand) (slot : ℕ) (x : SlotNode) → slice_get s slot ≡ Some (Some x) → AreHeld s t hs → IsApart slot hs
+pub apart_held : (s t : Slots) (hs : List Hand) (slot : ℕ) (x : SlotNode) → slice_get s slot ≡ Some (Some x) → AreHeld s t hs → IsApart slot hs
 apart_held s t [] slot x there held = tt
 apart_held s t (y ∷ hs) slot x there held = (one y.hold held.0, apart_held s t hs slot x there held.1)
   where

@@ -24,11 +24,11 @@ use Rattle.orc_ordered_search.specs.Reading.{Ordering, Reading}
 use Rattle.orc_ordered_search.proofs.Parts.{others_alone, others_append, others_from}
 use Rattle.orc_ordered_search.proofs.Settling.{Did}
 
-below_right : {N : Type 0} (agents : ℕ) (es fs : List (Event N)) → IsBelow agents (es ++ fs) → IsBelow agents fs
+pub below_right : {N : Type 0} (agents : ℕ) (es fs : List (Event N)) → IsBelow agents (es ++ fs) → IsBelow agents fs
 below_right agents [] fs b = b
 below_right agents (e ∷ es) fs b = below_right agents es fs b.1
 
-of_crowd : {N : Type 0} (agent agents : ℕ) (es : List (Event N)) → IsBelow agents es
+pub of_crowd : {N : Type 0} (agent agents : ℕ) (es : List (Event N)) → IsBelow agents es
     → AllByRecursion (λ (e : Event N). (e.agent ≡ agent) ⊎ (e.agent < agents)) es
 of_crowd agent agents [] b = tt
 of_crowd {N} agent agents (e ∷ es) b = (inr b.0, of_crowd agent agents es b.1)

@@ -151,7 +151,7 @@ module _ {N : Type 0} (r : Reading N) (value kind turns : ℕ) (had kept : Optio
 
 -- the node in hand is held, and let go
 
-keeps_ends : {N : Type 0} (r : Reading N) (value kind : ℕ) (node : Option Hold) (slots : Slots) (t : Seat N) → KeepsNode r value kind node slots t
+pub keeps_ends : {N : Type 0} (r : Reading N) (value kind : ℕ) (node : Option Hold) (slots : Slots) (t : Seat N) → KeepsNode r value kind node slots t
     → EndsWith node slots t
 keeps_ends r value kind node slots t k = record { id = k.id; slots_are = k.slots_are; slot_is = k.slot_is; fresh = by node k.to_add }
   where
@@ -193,7 +193,7 @@ ends_go (Some h) s t u e room g =
       ]);
     }
 
-few_given : (given : ℕ) (kept : Option Hold) → 0 + given ≡ count_of kept → given ≤ 1
+pub few_given : (given : ℕ) (kept : Option Hold) → 0 + given ≡ count_of kept → given ≤ 1
 few_given given None e = omega (arith, e)
 few_given given (Some h) e = omega (arith, e)
 

@@ -19,7 +19,7 @@ use Rattle.orc_heap.specs.declared.events.Link.{Link}
 use Rattle.orc_heap.specs.declared.events.Place.{Place}
 use Rattle.orc_heap.specs.declared.events.Place.TheVariants.{Next, Root, Side}
 use Rattle.orc_ordered_chains.specs.Chains.{FollowsOn, HasRank, IsAbove, IsChainPlace, IsRun}
-use Rattle.orc_ordered_search.specs.Ways.{AllGoOn, AreLoads, GoesOn}
+use Rattle.orc_ordered_search.specs.Ways.{AllGoOn, AreLoads, GoesOn, RanksFall}
 use Rattle.orc_ordered_chains.proofs.Acts.{KeepsValues, rank_linked, values_after}
 use Rattle.orc_ordered_chains.proofs.Later.{above_later, follows_later, linked_later, marked_later, rank_later, run_later}
 use Rattle.orc_ordered_search.specs.Reading.{Ordering}
@@ -118,6 +118,11 @@ module _ {N : Type 0} (x : Ordering N) (t u : Seat N) (ys : List (Event N)) (q :
       goes (inl (link, own, mark)) = inl (link, marked_puts id link own mark, mark)
       goes (inr (rank, own, less)) = inr (rank, key_puts id rank own, less)
 
+  falls_puts : (to : Option ℕ) (ids : List ℕ) → RanksFall x.reading.order (heap_of x.reading.numbers t) to ids
+      → RanksFall x.reading.order (heap_of x.reading.numbers u) to ids
+  falls_puts to [] fall = tt
+  falls_puts to (id ∷ ids) (rank, own, above, rest) = (rank, key_puts id rank own, above_puts to rank above, falls_puts (Some id) ids rest)
+
   pub visits_puts : (start : Place) (wanted passed more most : ℕ) (to : Option ℕ) (own : List (Event N)) → length ys + more ≤ most
       → Visits x.reading start wanted passed more to own t → Visits x.reading start wanted passed most to (own ++ ys) u
   visits_puts start wanted passed more most to own short v = record {
@@ -125,6 +130,7 @@ module _ {N : Type 0} (x : Ordering N) (t u : Seat N) (ys : List (Event N)) (q :
     few = omega (arith, v.few, short, length-append own ys);
     way = way_left own ys start v.nodes to v.way;
     on = goes_puts wanted v.nodes v.on;
+    fall = falls_puts to v.nodes v.fall;
     counted = counts_left x.reading own ys (heap_of x.reading.numbers t) (heap_of x.reading.numbers u) uncounted_puts v.nodes passed v.counted;
   }
 

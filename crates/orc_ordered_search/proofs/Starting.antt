@@ -24,7 +24,7 @@ use Rattle.orc_heap.specs.declared.holds.Seen.{Seen}
 use Rattle.orc_ordered_chains.proofs.Acts.{chain_place_linked, rank_one}
 use Rattle.orc_ordered_chains.proofs.Later.{chain_place_later, follows_later, rank_later}
 use Rattle.orc_ordered_chains.specs.Chains.{FollowsOn, HasRank, IsChainPlace}
-use Rattle.orc_ordered_search.specs.Ways.{AreLoads, Sees}
+use Rattle.orc_ordered_search.specs.Ways.{AreLoads, IsFew, Sees}
 use Rattle.orc_ordered_search.specs.Reading.{Ordering}
 use Rattle.orc_ordered_search.specs.Searches.{Begins, FindsMoved, HasRoom, IsLinkedIfAny, LetsGo, NextIsOf, Passed, Quiet, left_place, node_of, slot_in}
 use Rattle.orc_ordered_search.proofs.Held.{FreshIs, goes_fresh, goes_hands, room_at}
@@ -132,7 +132,7 @@ module _ {N : Type 0} (ord : Ordering N) (start : Place) (wanted : ℕ) (left : 
           };
         };
         next_is = by_next next told.next;
-        visits = record { nodes = []; few = omega (arith, short); way = (link, seen, refl); on = tt; counted = tt };
+        visits = record { nodes = []; few = omega (arith, short); way = (link, seen, refl); on = tt; fall = tt; counted = tt };
       }
     where
       by_next : (next : Option Hold)
@@ -172,12 +172,12 @@ module _ {N : Type 0} (ord : Ordering N) (start : Place) (wanted : ℕ) (left : 
           starts seen.mark (Some h) next_id (event_of t (Look start one) None ∷ []) hands (λ e. omega (arith, e, at_slot, low)) puts (tt, (tt, tt)) (omega arith)
           (omega arith) (silent_two ord t.agent t.agent (Look start one) (Look start link)) refl refl looks.fresh
 
--- the start's link moved meanwhile, and its node is let go
-pub start_moved : {N : Type 0} (ord : Ordering N) (start : Place) (wanted slot : ℕ) (left : Option Hold) (s t u v : Seat N)
+-- the start's link moved meanwhile, and its node is let go: the search made few events
+pub start_few : {N : Type 0} (ord : Ordering N) (start : Place) (wanted slot : ℕ) (left : Option Hold) (s t u v : Seat N)
     → (b : Begins ord.reading start wanted left s t)
     → Looks start slot t Moved u → AllAllowed ord.may [] u.seen → LetsGo left u v → FreshIs ord u → AllAllowed ord.may [] v.seen
-    → FindsMoved ord.reading s v
-start_moved {N} ord start wanted slot left s t u v b looks all g fresh all_v =
+    → (f : FindsMoved ord.reading s v) × IsFew 4 f.own
+start_few {N} ord start wanted slot left s t u v b looks all g fresh all_v =
     let (one, two, other, slots, puts, some) = looks.tells in
     let es : List (Event N) = event_of t (Look start one) None ∷ event_of t (Look start two) None ∷ [] in
     let linked = chain_place_linked ord.reading.order (heap_of ord.reading.numbers t) start b.begins in
@@ -199,17 +199,26 @@ start_moved {N} ord start wanted slot left s t u v b looks all g fresh all_v =
       no_give = refl;
       no_move = refl;
     } in
-    let quiet = quiet_puts ord u v [] g.puts all_v s es quiet_u tt same refl refl refl in
-    record {
-      own = es ++ [];
-      quiet = quiet;
-      slots = hands_done s.slots v.slots (goes_hands s.slots u v left b.left_id [] g hands);
-      moved =
-          omega (arith, subst (λ (a : ℕ). 1 ≤ moves_in (from_own a puts.part)) b.agent moved, own_moves_left s u v es [] (es ++ []) q g.puts quiet.puts);
-    }
+    let quiet = quiet_puts ord u v [] g.puts all_v s es quiet_u tt same refl refl refl in (
+      record {
+        own = es ++ [];
+        quiet = quiet;
+        slots = hands_done s.slots v.slots (goes_hands s.slots u v left b.left_id [] g hands);
+        moved =
+            omega (arith, subst (λ (a : ℕ). 1 ≤ moves_in (from_own a puts.part)) b.agent moved, own_moves_left s u v es [] (es ++ []) q g.puts quiet.puts);
+      },
+      λ ids c. omega arith,
+    )
   where
     start_linked : (left : Option Hold) → start ≡ left_place (ord.reading.order.root wanted) left b.left_id → IsLinkedIfAny ord.reading t left b.left_id
     start_linked None is = tt
     start_linked (Some h) is =
         chain_place_linked ord.reading.order (heap_of ord.reading.numbers t) (Next b.left_id)
         (subst (λ (z : Place). IsChainPlace ord.reading.order (heap_of ord.reading.numbers t) z) is b.begins)
+
+pub start_moved : {N : Type 0} (ord : Ordering N) (start : Place) (wanted slot : ℕ) (left : Option Hold) (s t u v : Seat N)
+    → (b : Begins ord.reading start wanted left s t)
+    → Looks start slot t Moved u → AllAllowed ord.may [] u.seen → LetsGo left u v → FreshIs ord u → AllAllowed ord.may [] v.seen
+    → FindsMoved ord.reading s v
+start_moved {N} ord start wanted slot left s t u v b looks all g fresh all_v =
+    (start_few ord start wanted slot left s t u v b looks all g fresh all_v).0

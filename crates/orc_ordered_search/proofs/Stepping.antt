@@ -22,7 +22,7 @@ use Rattle.orc_heap.specs.declared.events.Place.{Place}
 use Rattle.orc_heap.specs.declared.events.Place.TheVariants.{Next}
 use Rattle.orc_ordered_chains.proofs.Acts.{rank_linked, rank_one}
 use Rattle.orc_ordered_chains.proofs.Later.{follows_later, marked_later, rank_later}
-use Rattle.orc_ordered_chains.specs.Chains.{FollowsOn, HasRank, IsRun, link_over}
+use Rattle.orc_ordered_chains.specs.Chains.{FollowsOn, HasRank, IsAbove, IsRun, link_over}
 use Rattle.orc_ordered_search.specs.Ways.{AreLoads, Sees}
 use Rattle.orc_ordered_search.specs.Reading.{Ordering}
 use Rattle.orc_ordered_search.specs.Searches.{Behind, BeginsRun, FindsAbsent, FindsPresent, IsOf, IsUncounted, KeepsFirst, LetsGo, Looking, LooksOn, NextFollows, NextIsOf, Passed, SeesRun, Visits, Walks, count_on, node_of}
@@ -205,6 +205,13 @@ past_lower {N} ord start wanted left first left_id first_id id key counted passe
 
 module _ {N : Type 0} (ord : Ordering N) (start : Place) (wanted : ℕ) (left first : Option Hold) (left_id first_id id key : ℕ) (next : Option ℕ) (s : Seat N)
     (own : List (Event N)) (t : Seat N) where
+  -- the next node has a greater rank
+  next_above : (next : Option ℕ) → HasRank ord.reading.order (heap_of ord.reading.numbers t) id key → NextFollows ord.reading id next t
+      → IsAbove ord.reading.order (heap_of ord.reading.numbers t) next key
+  next_above None own f = tt
+  next_above (Some x) own (high, mine, (low, again, less, same)) =
+      (high, mine, omega (arith, rank_one ord.reading.order (heap_of ord.reading.numbers t) id low key again own, less))
+
   visits_marked : (counted : Bool) (passed : ℕ) → Looking ord.reading start wanted left first left_id first_id id key counted passed true next s own t
       → Visits ord.reading start wanted passed 2 next own t
   visits_marked counted passed k =
@@ -215,6 +222,7 @@ module _ {N : Type 0} (ord : Ordering N) (start : Place) (wanted : ℕ) (left fi
         few = omega (arith, v.few);
         way = ((link, k.sees, refl), v.way);
         on = (inl (link, k.frozen refl, refl), v.on);
+        fall = (key, k.is_of.has_key, next_above next k.is_of.has_key k.follows, v.fall);
         counted = (passed, v.counted, inr (omega arith, inl (link, k.sees, refl)));
       }
 
@@ -227,6 +235,7 @@ module _ {N : Type 0} (ord : Ordering N) (start : Place) (wanted : ℕ) (left fi
         few = omega (arith, v.few);
         way = ((link_over next, k.sees, refl), v.way);
         on = (inr (key, k.is_of.has_key, less), v.on);
+        fall = (key, k.is_of.has_key, next_above next k.is_of.has_key k.follows, v.fall);
         counted = (passed, v.counted, inl (omega arith));
       }
   visits_lower false passed k less =
@@ -236,6 +245,7 @@ module _ {N : Type 0} (ord : Ordering N) (start : Place) (wanted : ℕ) (left fi
         few = omega (arith, v.few);
         way = ((link_over next, k.sees, refl), v.way);
         on = (inr (key, k.is_of.has_key, less), v.on);
+        fall = (key, k.is_of.has_key, next_above next k.is_of.has_key k.follows, v.fall);
         counted = (passed, v.counted, inr (omega arith, inr (k.kind refl)));
       }
 
@@ -343,6 +353,7 @@ passed_none ord start wanted least passed left first s t w =
       apart = (w.apart.1.0, (w.apart.1.1.0, (tt, tt)));
       behind = w.behind;
       above = tt;
+      ends = tt;
       visits = w.visits;
     }
 
@@ -404,6 +415,7 @@ looks_present {N} ord start wanted left first at key counted passed next s t w i
       is_of = subst (λ (k : ℕ). IsOf ord.reading wanted w.id k t) is w.looking.is_of;
       still = w.looking.still;
       follows = w.looking.follows;
+      sees = w.looking.sees;
       visits = w.looking.visits;
     }
 
@@ -426,5 +438,6 @@ looks_above {N} ord start wanted left first at key counted passed next s t u w l
       apart = w.apart.1;
       behind = j.behind;
       above = (key, j.is_of.has_key, less);
+      ends = (link_over (node_of next w.next_id), j.sees, refl);
       visits = j.visits;
     }

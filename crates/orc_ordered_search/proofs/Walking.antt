@@ -22,7 +22,9 @@ use Rattle.orc_ordered_search.specs.Reading.{Ordering}
 use Rattle.orc_ordered_search.specs.Searches.{AllGone, FindsMoved, HasRoom, LooksOn, Stops, Walks, slot_in}
 use Rattle.orc_ordered_search.proofs.Held.{room_at, walk_apart}
 use Rattle.orc_ordered_search.proofs.Quiets.{behind_on, behind_puts, key_puts, moved_on, silent_one, silent_two}
+use Rattle.orc_ordered_search.proofs.Seen.{few_more, visits_few}
 use Rattle.orc_ordered_search.proofs.Stepping.{looks_on}
+use Rattle.orc_ordered_search.specs.Ways.{IsFew}
 
 pub walk_held : {N : Type 0} (ord : Ordering N) (start : Place) (wanted : ℕ) (left first : Option Hold) (at : Hold) (key : ℕ) (counted : Bool) (passed : ℕ) (s t : Seat N)
     → (w : Walks ord.reading start wanted left first at key counted passed s t) → HoldsId t.slots at w.id
@@ -88,16 +90,24 @@ walk_stops {N} ord start wanted left first at key counted passed slot s t u w lo
       behind = b;
       has_key = key_puts ord t u ys p all w.id key w.is_of.has_key;
       moved = omega (arith, moved, own_moves_right s t u w.own ys (w.own ++ ys) w.behind.quiet.puts p b.quiet.puts);
+      few = few_more 2 4 w.own ys (visits_few ord.reading start wanted passed 2 (Some w.id) w.own t w.visits) (omega arith);
     }
 
-pub stops_moved : {N : Type 0} (ord : Ordering N) (start : Place) (wanted : ℕ) (left first : Option Hold) (at : Hold) (s t u : Seat N) → Stops ord.reading start wanted left first at s
-    t
-    → AllGone s.slots t u → AllAllowed ord.may [] u.seen → FindsMoved ord.reading s u
-stops_moved {N} ord start wanted left first at s t u w g all =
-    let b = behind_on ord t u g.puts all start wanted left first w.left_id w.first_id (Some w.id) s w.own w.behind g.fresh in
-    record {
-      own = w.own;
-      quiet = b.quiet;
-      slots = g.slots_are;
-      moved = moved_on ord t u g.puts all s w.own w.behind.quiet.puts b.quiet.puts w.moved;
-    }
+-- all nodes are let go: the search made few events
+pub stops_few : {N : Type 0} (ord : Ordering N) (start : Place) (wanted : ℕ) (left first : Option Hold) (at : Hold) (s t u : Seat N)
+    → Stops ord.reading start wanted left first at s t → AllGone s.slots t u → AllAllowed ord.may [] u.seen
+    → (f : FindsMoved ord.reading s u) × IsFew 4 f.own
+stops_few {N} ord start wanted left first at s t u w g all =
+    let b = behind_on ord t u g.puts all start wanted left first w.left_id w.first_id (Some w.id) s w.own w.behind g.fresh in (
+      record {
+        own = w.own;
+        quiet = b.quiet;
+        slots = g.slots_are;
+        moved = moved_on ord t u g.puts all s w.own w.behind.quiet.puts b.quiet.puts w.moved;
+      },
+      w.few,
+    )
+
+pub stops_moved : {N : Type 0} (ord : Ordering N) (start : Place) (wanted : ℕ) (left first : Option Hold) (at : Hold) (s t u : Seat N)
+    → Stops ord.reading start wanted left first at s t → AllGone s.slots t u → AllAllowed ord.may [] u.seen → FindsMoved ord.reading s u
+stops_moved {N} ord start wanted left first at s t u w g all = (stops_few ord start wanted left first at s t u w g all).0

@@ -15,7 +15,7 @@ use Rattle.orc_heap.specs.declared.events.Link.{Link}
 use Rattle.orc_heap.specs.declared.events.Place.{Place}
 use Rattle.orc_heap.specs.declared.events.Place.TheVariants.{Next, Root}
 use Rattle.orc_ordered_chains.specs.Chains.{FollowsOn, HasRank, IsAbove, IsChainPlace, IsRun, link_over}
-use Rattle.orc_ordered_search.specs.Ways.{AllGoOn, AreLoads, IsWay, Sees}
+use Rattle.orc_ordered_search.specs.Ways.{AllGoOn, AreLoads, EndsRun, IsFew, IsWay, RanksFall, Sees}
 use Rattle.orc_ordered_search.specs.Reading.{Reading}
 
 -- the left place: a root, or the link of the node in hand
@@ -111,6 +111,7 @@ module _ {N : Type 0} where
     pub few : length own ≤ 2 * length nodes + more
     pub way : IsWay own start nodes to
     pub on : AllGoOn r.order (heap_of r.numbers t) wanted nodes
+    pub fall : RanksFall r.order (heap_of r.numbers t) to nodes
     pub counted : Counts r own (heap_of r.numbers t) nodes passed
 
   -- the pass made only loads, and at least one: its own events enter nothing, give no node and move no link
@@ -220,7 +221,7 @@ module _ {N : Type 0} where
     pub next_is : NextIsOf r wanted least (node_of next next_id) t
     pub visits : Visits r start wanted passed 2 (node_of next next_id) own t
 
-  -- the key is absent between the left place and the right node
+  -- the key is absent between the left place and the right node, which showed an unmarked link in this search
   pub record FindsAbsent (r : Reading N) (start : Place) (wanted passed : ℕ) (left first right : Option Hold) (s t : Seat N) : Type 0 where
     pub own : List (Event N)
     pub left_id : ℕ
@@ -230,6 +231,7 @@ module _ {N : Type 0} where
     pub apart : IsApart 1 (hand left left_id ∷ hand first first_id ∷ hand right right_id ∷ [])
     pub behind : Behind r start wanted left first left_id first_id (node_of right right_id) s own t
     pub above : IsAbove r.order (heap_of r.numbers t) (node_of right right_id) wanted
+    pub ends : EndsRun own (node_of right right_id)
     pub visits : Visits r start wanted passed (ends_looks right) (node_of right right_id) own t
 
   -- this node has the key, and showed an unmarked link to the next one in this search
@@ -245,6 +247,7 @@ module _ {N : Type 0} where
       pub is_of : IsOf r wanted id wanted t
       pub still : ShowsOrMoved r.numbers (Next id) (link_over (node_of next next_id)) s t behind.quiet.puts.part
       pub follows : NextFollows r id (node_of next next_id) t
+      pub sees : Sees own (Next id) (link_over (node_of next next_id))
       pub visits : Visits r start wanted passed 4 (Some id) own t
 
   -- a link moved meanwhile; the pass holds what it held
@@ -265,6 +268,7 @@ module _ {N : Type 0} where
     pub behind : Behind r start wanted left first left_id first_id (Some id) s own t
     pub has_key : HasRank r.order (heap_of r.numbers t) id key
     pub moved : 1 ≤ moves_in (from_own s.agent behind.quiet.puts.part)
+    pub few : IsFew 4 own
 
   -- a node was let go, if there is one
   pub record LetsGo (node : Option Hold) (s t : Seat N) : Type 0 where

@@ -2,7 +2,7 @@
 use Rattle.std.proofs.Common.{[], append-nil, arith, subst, sym, ℕ, ◌≡◌}
 use Rattle.orc_heap.proofs.Pieces.{goes_on}
 use Rattle.orc_heap.specs.Slots.{Slots}
-use Rattle.orc_list.specs.Searches.{HasRoom}
+use Rattle.orc_ordered_search.specs.Searches.{HasRoom}
 use Rattle.orc_list.specs.Turns.{Tires}
 use Rattle.orc_list.proofs.Tiring.{asks_answer, tires_next, tires_none}
 use Rattle.orc_list.proofs.answer.ask_turns.Goals as goal

@@ -1,7 +1,9 @@
 -- One load, and then all nodes are let go.
 use Rattle.std.proofs.Common.{None, ◌∙◌}
 use Rattle.orc_list.proofs.Answering.{absent_allowed, absent_entered, reads_left, tested_hand}
-use Rattle.orc_list.proofs.Held.{absent_hand, first_held, second_held, third_held}
+use Rattle.orc_ordered_search.proofs.Held.{absent_hand, first_held, second_held, third_held}
+use Rattle.orc_list.proofs.Ordered.{list_ordering}
+use Rattle.orc_heap.specs.declared.events.Place.TheVariants.{Root}
 use Rattle.orc_list.proofs.answer.enter_absent.Goals as goal
 
 pub same-entered-requires-clause-place : goal.same-entered-requires-clause-place
@@ -9,7 +11,7 @@ same-entered-requires-clause-place g c =
     let d = c.args.links.now in
     let t = g.L.Links.seat d c.args.p.now in
     let (s, f) = c.requires.absent in
-    c.place_of.ensures.held (g.L.Links.numbers d) t.slots c.requires.root (first_held s.slots t.slots _ f.left_id _ f.hands)
+    c.place_of.ensures.held (g.L.Links.numbers d) t.slots c.requires.root.0 (first_held s.slots t.slots _ f.left_id _ f.hands)
 
 pub same-entered-requires-clause-link : goal.same-entered-requires-clause-link
 same-entered-requires-clause-link g c =
@@ -25,7 +27,7 @@ same-entered-requires-clause-allowed g c =
     let t = g.L.Links.seat d c.args.p.now in
     let a = c.args in
     let (s, f) = c.requires.absent in
-    let r = reads_left n a.root a.key a.spot.left a.spot.first a.spot.right s t f in
+    let r = reads_left n a.root a.key c.requires.root.1 a.spot.left a.spot.first a.spot.right s t f in
     absent_allowed n a.root a.key a.spot.left a.spot.first a.spot.right a.entry s t f _ _ (c.place_of.ensures.place t.slots ∙ r.place_is)
     (c.link_of.ensures.link t.slots ∙ r.link_is)
     c.requires.entry (g.met.L.Links.obeys d a.p.now c.requires.pass)
@@ -41,7 +43,7 @@ let_all_go-requires-clause-hands g c =
     let e = c.same-entered.ensures in (
       s.slots,
       tested_hand n s.slots a.spot.left a.spot.first a.spot.right None _ _ _ _ t u e.tested (g.met.L.Links.allowed d c.same-entered.new.p e.pass)
-          (absent_hand n a.root a.key a.spot.left a.spot.first s t a.spot.right f),
+          (absent_hand (list_ordering n) (Root a.root) a.key 0 a.spot.left a.spot.first s t a.spot.right f),
     )
 
 pub returns-clause-entered : goal.returns-clause-entered
@@ -52,10 +54,10 @@ returns-clause-entered g c = λ s f.
     let u = g.L.Links.seat d c.same-entered.new.p in
     let y = g.L.Links.seat d c.let_all_go.new.p in
     let a = c.args in
-    let r = reads_left n a.root a.key a.spot.left a.spot.first a.spot.right s t f in
+    let r = reads_left n a.root a.key c.requires.root.1 a.spot.left a.spot.first a.spot.right s t f in
     let e = c.same-entered.ensures in
     let all = g.met.L.Links.allowed d c.same-entered.new.p e.pass in
     absent_entered n a.root a.key a.spot.left a.spot.first a.spot.right a.entry _ _ c.same-entered.result s t u y f
     (c.place_of.ensures.place t.slots ∙ r.place_is) (c.link_of.ensures.link t.slots ∙ r.link_is)
     e.tested (c.let_all_go.ensures.gone s.slots (tested_hand n s.slots a.spot.left a.spot.first a.spot.right None _ _ _ _ t u e.tested all
-    (absent_hand n a.root a.key a.spot.left a.spot.first s t a.spot.right f))) all
+    (absent_hand (list_ordering n) (Root a.root) a.key 0 a.spot.left a.spot.first s t a.spot.right f))) all

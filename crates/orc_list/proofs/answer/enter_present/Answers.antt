@@ -3,7 +3,9 @@ use Rattle.std.proofs.Common.{Some, ap, ◌∙◌}
 use Rattle.orc_heap.specs.declared.events.Place.TheVariants.{Next}
 use Rattle.orc_ordered_chains.specs.Chains.{link_over}
 use Rattle.orc_list.proofs.Answering.{present_allowed, present_entered, reads_node, tested_hand}
-use Rattle.orc_list.proofs.Held.{present_hand}
+use Rattle.orc_ordered_search.proofs.Held.{present_hand}
+use Rattle.orc_list.proofs.Ordered.{list_ordering}
+use Rattle.orc_heap.specs.declared.events.Place.TheVariants.{Root}
 use Rattle.orc_list.proofs.answer.enter_present.Goals as goal
 
 pub same-entered-requires-clause-place : goal.same-entered-requires-clause-place
@@ -47,7 +49,7 @@ let_all_go-requires-clause-hands g c =
     let e = c.same-entered.ensures in (
       s.slots,
       tested_hand n s.slots a.left a.first (Some a.node) a.next _ _ _ _ t u e.tested (g.met.L.Links.allowed d c.same-entered.new.p e.pass)
-          (present_hand n a.root a.key a.left a.first s t a.node a.next f),
+          (present_hand (list_ordering n) (Root a.root) a.key 0 a.left a.first s t a.node a.next f),
     )
 
 pub returns-clause-entered : goal.returns-clause-entered
@@ -64,4 +66,4 @@ returns-clause-entered g c = λ s f.
     present_entered n a.root a.key a.left a.first a.node a.next a.entry _ _ c.same-entered.result s t u y f (ap Next r.id_is)
     (c.link_to.ensures.link t.slots ∙ ap link_over r.next_is)
     e.tested (c.let_all_go.ensures.gone s.slots (tested_hand n s.slots a.left a.first (Some a.node) a.next _ _ _ _ t u e.tested all
-    (present_hand n a.root a.key a.left a.first s t a.node a.next f))) all
+    (present_hand (list_ordering n) (Root a.root) a.key 0 a.left a.first s t a.node a.next f))) all

@@ -4,9 +4,12 @@ use Rattle.std.specs.List.{slice_set}
 use Rattle.orc_heap.specs.Slots.{Hold, IsFree, SlotNode, Slots}
 use Rattle.orc_heap.specs.declared.events.Event.{Event}
 use Rattle.orc_chain_rule.specs.declared.chain.ChainNote.{ChainNote}
-use Rattle.orc_list.specs.Inserts.{InsertEnds, Inserts, KeepsNode, SeesAbsent, slots_with}
-use Rattle.orc_list.proofs.Adding.{absent_adds, absent_hand_on, absent_id, adds_given, adds_inserts, give_free, given_adds, given_id, lacks_node, seen_holds}
-use Rattle.orc_list.proofs.Marking.{part_fact, within_wider}
+use Rattle.orc_ordered_search.specs.Inserts.{slots_with}
+use Rattle.orc_list.specs.Inserts.{InsertEnds, Inserts, KeepsNode, SeesAbsent}
+use Rattle.orc_list.proofs.Adding.{absent_adds, absent_hand_on, absent_id, adds_given, adds_inserts, give_free, given_adds, given_id, lacks_node}
+use Rattle.orc_ordered_search.proofs.Inserting.{seen_holds}
+use Rattle.orc_ordered_search.proofs.Marking.{part_fact, within_wider}
+use Rattle.orc_list.proofs.Ordered.{list_ordering}
 use Rattle.orc_list.proofs.insert.add_at.Goals as goal
 
 pub give-requires-clause-slot : goal.give-requires-clause-slot
@@ -40,8 +43,8 @@ add_node-turn-requires-clause-adds g c =
       0,
       s.slots,
       s,
-      absent_adds n a.root a.key a.spot.left a.spot.first a.spot.right c.in-Some.node slots s t some f
-          (seen_holds n s t f.own f.behind.quiet.puts all) all,
+      absent_adds n a.root a.key a.spot.left a.spot.first a.spot.right c.in-Some.node slots s t c.requires.root.1 some f
+          (seen_holds (list_ordering n) s t f.own f.behind.quiet.puts all) all,
     )
 
 pub returns-in-Some-clause-added : goal.returns-in-Some-clause-added
@@ -54,12 +57,12 @@ returns-in-Some-clause-added g c = λ slots s room k f.
     let all = g.met.L.Links.allowed d a.p.now c.requires.pass in
     let node = c.in-Some.node in
     let some = subst (λ (o : Option Hold). KeepsNode n a.key o slots s) c.in-Some.is k in
-    let adds = absent_adds n a.root a.key a.spot.left a.spot.first a.spot.right node slots s t some f (seen_holds n s t f.own f.behind.quiet.puts all) all
+    let adds = absent_adds n a.root a.key a.spot.left a.spot.first a.spot.right node slots s t c.requires.root.1 some f (seen_holds (list_ordering n) s t f.own f.behind.quiet.puts all) all
     in
     let done = c.add_node-turn.ensures.added 0 s.slots s adds in
     let there = adds_inserts n a.key node adds.id 0 s.slots slots (Some node) s u c.add_node-turn.result done
     (some.slots_are ∙ ap (λ (i : ℕ). slots_with slots (Some node) i) (sym (absent_id n a.root a.key a.spot.left a.spot.first a.spot.right node slots s
-    t some f (seen_holds n s t f.own f.behind.quiet.puts all) all))) some.slot_is refl in
+    t c.requires.root.1 some f (seen_holds (list_ordering n) s t f.own f.behind.quiet.puts all) all))) some.slot_is refl in
     subst (λ (o : Option Hold). Inserts n a.key 1 slots o s c.add_node-turn.result (Some node) u) (sym c.in-Some.is) there
 
 pub returns-in-Some-clause-lacking : goal.returns-in-Some-clause-lacking
@@ -72,8 +75,8 @@ returns-in-Some-clause-lacking g c = λ is.
     let (slots, s, room, k, f) = c.requires.absent in
     let all = g.met.L.Links.allowed d a.p.now c.requires.pass in
     let some = subst (λ (o : Option Hold). KeepsNode n a.key o slots s) c.in-Some.is k in
-    let adds = absent_adds n a.root a.key a.spot.left a.spot.first a.spot.right c.in-Some.node slots s t some f
-    (seen_holds n s t f.own f.behind.quiet.puts all) all in
+    let adds = absent_adds n a.root a.key a.spot.left a.spot.first a.spot.right c.in-Some.node slots s t c.requires.root.1 some f
+    (seen_holds (list_ordering n) s t f.own f.behind.quiet.puts all) all in
     absurd (adds_given n a.key c.in-Some.node adds.id 0 s.slots s u c.add_node-turn.result (c.add_node-turn.ensures.added 0 s.slots s adds) is)
 
 pub add_node-turn-requires-in-Ok-clause-adds : goal.add_node-turn-requires-in-Ok-clause-adds
@@ -91,7 +94,7 @@ add_node-turn-requires-in-Ok-clause-adds g c =
       1,
       slice_set s.slots 1 x,
       s,
-      given_adds n a.root a.key a.spot.left a.spot.first a.spot.right s t u f one c.in-Ok.node e.given
+      given_adds n a.root a.key a.spot.left a.spot.first a.spot.right s t u f one c.requires.root.1 c.in-Ok.node e.given
           (g.met.L.Links.allowed d c.give.new.p e.pass),
     )
 
@@ -108,11 +111,11 @@ returns-in-Ok-clause-added g c = λ slots s room k f.
     let none = subst (λ (o : Option Hold). KeepsNode n a.key o slots s) c.in_default.is k in
     let one = subst (λ (z : Slots). IsFree z 1) (sym none.slots_are) room.one in
     let x : Option SlotNode = Some (record { row = node.row; id = e.given.id }) in
-    let adds = given_adds n a.root a.key a.spot.left a.spot.first a.spot.right s t u f one node e.given (g.met.L.Links.allowed d c.give.new.p e.pass) in
+    let adds = given_adds n a.root a.key a.spot.left a.spot.first a.spot.right s t u f one c.requires.root.1 node e.given (g.met.L.Links.allowed d c.give.new.p e.pass) in
     let done = c.add_node-turn-in-Ok.ensures.added 1 (slice_set s.slots 1 x) s adds in
     let base : slice_set s.slots 1 x ≡ slots_with slots (Some node) e.given.id = ap (λ (z : Slots). slice_set z 1 x) none.slots_are ∙ ap
     (λ (i : ℕ). slice_set slots i x) (sym e.given.slot_is) in
-    let same = given_id n a.root a.key a.spot.left a.spot.first a.spot.right s t u f one node e.given (g.met.L.Links.allowed d c.give.new.p e.pass) in
+    let same = given_id n a.root a.key a.spot.left a.spot.first a.spot.right s t u f one c.requires.root.1 node e.given (g.met.L.Links.allowed d c.give.new.p e.pass) in
     let there = adds_inserts n a.key node adds.id 1 (slice_set s.slots 1 x) slots None s y c.add_node-turn-in-Ok.result done
     (base ∙ ap (λ (i : ℕ). slots_with slots (Some node) i) (sym same)) e.given.slot_is refl in
     subst (λ (o : Option Hold). Inserts n a.key 1 slots o s c.add_node-turn-in-Ok.result (Some node) y) (sym c.in_default.is) there
@@ -131,7 +134,7 @@ returns-in-Ok-clause-lacking g c = λ is.
     let none = subst (λ (o : Option Hold). KeepsNode n a.key o slots s) c.in_default.is k in
     let one = subst (λ (z : Slots). IsFree z 1) (sym none.slots_are) room.one in
     let x : Option SlotNode = Some (record { row = node.row; id = e.given.id }) in
-    let adds = given_adds n a.root a.key a.spot.left a.spot.first a.spot.right s t u f one node e.given (g.met.L.Links.allowed d c.give.new.p e.pass) in
+    let adds = given_adds n a.root a.key a.spot.left a.spot.first a.spot.right s t u f one c.requires.root.1 node e.given (g.met.L.Links.allowed d c.give.new.p e.pass) in
     absurd (adds_given n a.key node adds.id 1 (slice_set s.slots 1 x) s y c.add_node-turn-in-Ok.result
     (c.add_node-turn-in-Ok.ensures.added 1 (slice_set s.slots 1 x) s adds) is)
 

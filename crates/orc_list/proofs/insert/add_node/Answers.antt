@@ -5,9 +5,9 @@ use Rattle.orc_fault.specs.declared.Spent.{Spent}
 use Rattle.orc_history.specs.Journals.{Within}
 use Rattle.orc_ordered_chains.specs.Chains.{link_over}
 use Rattle.orc_list.specs.Inserts.{LinksTo}
-use Rattle.orc_list.specs.Turns.{first_or, place_at, target_at}
+use Rattle.orc_ordered_search.specs.Searches.{first_or, place_at, target_at}
 use Rattle.orc_list.proofs.Adding.{adds_above, adds_below, adds_held, adds_linked, adds_missed, adds_refused, adds_run, links_hand, same_spent}
-use Rattle.orc_list.proofs.Marking.{within_wider}
+use Rattle.orc_ordered_search.proofs.Marking.{within_wider}
 use Rattle.orc_list.proofs.insert.add_node.Goals as goal
 
 pub link_node-linked-requires-clause-held : goal.link_node-linked-requires-clause-held

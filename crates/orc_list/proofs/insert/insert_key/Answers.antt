@@ -4,8 +4,9 @@ use Rattle.orc_fault.specs.declared.Spent.{Spent as SpentRow}
 use Rattle.orc_list.specs.Answers.{InsertsTurns}
 use Rattle.orc_list.specs.declared.insert.InsertTurn.{InsertTurn}
 use Rattle.orc_list.specs.declared.insert.InsertTurn.TheVariants.{Spent as TurnSpent}
-use Rattle.orc_list.proofs.Inserting.{ends_held, idle_room, insert_absent, insert_call, insert_tires, spent_same}
-use Rattle.orc_list.proofs.Parting.{part_goes_on}
+use Rattle.orc_list.proofs.Inserting.{ends_held, insert_absent, insert_call, insert_tires, spent_same}
+use Rattle.orc_ordered_search.proofs.Inserting.{idle_room}
+use Rattle.orc_ordered_search.proofs.Parting.{part_goes_on}
 use Rattle.orc_list.proofs.Passing.{leaves_on}
 use Rattle.orc_list.proofs.insert.insert_key.Goals as goal
 

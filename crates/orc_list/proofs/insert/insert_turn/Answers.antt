@@ -3,16 +3,18 @@ use Rattle.std.proofs.Common.{Bool, false, length, subst, true, ℕ, ◌∙◌}
 use Rattle.orc_history.specs.Journals.{Within}
 use Rattle.orc_history.specs.declared.set.SetEntry.TheVariants.{Added}
 use Rattle.orc_list.specs.Turns.{Enters}
-use Rattle.orc_list.proofs.Adding.{has_room, keeps_answer, keeps_on}
+use Rattle.orc_list.proofs.Adding.{keeps_answer, keeps_on}
+use Rattle.orc_ordered_search.proofs.Inserting.{has_room}
 use Rattle.orc_list.proofs.Making.{found_over}
-use Rattle.orc_list.proofs.Parting.{part_begun_seats, part_of_piece}
+use Rattle.orc_ordered_search.proofs.Parting.{part_begun_seats, part_of_piece}
+use Rattle.orc_list.specs.Searches.{list_reading}
 use Rattle.orc_list.proofs.insert.insert_turn.Goals as goal
 
 pub search-requires-clause-room : goal.search-requires-clause-room
 search-requires-clause-room g c =
     let d = c.args.links.now in
     let (slots, room, k) = c.requires.keeps in
-    has_room (g.L.Links.numbers d) c.args.key c.args.node slots (g.L.Links.seat d c.args.p.now) room k
+    has_room (list_reading (g.L.Links.numbers d)) c.args.key 0 c.args.node slots (g.L.Links.seat d c.args.p.now) room k
 
 pub returns-in-Over-clause-inserted : goal.returns-in-Over-clause-inserted
 returns-in-Over-clause-inserted g c = λ slots room k.
@@ -22,7 +24,7 @@ returns-in-Over-clause-inserted g c = λ slots room k.
     let s = g.L.Links.seat d a.p.now in
     let t = g.L.Links.seat d c.search.new.p in
     let e = c.in-Over.ensures in
-    keeps_on n a.key a.node slots s t k (found_over s t e.found) (g.met.L.Links.obeys d a.p.now c.requires.pass)
+    keeps_on n a.key a.node slots s t k (found_over n s t e.found) (g.met.L.Links.obeys d a.p.now c.requires.pass)
     (g.met.L.Links.allowed d c.search.new.p e.pass)
 
 pub returns-in-Absent-clause-lacking : goal.returns-in-Absent-clause-lacking

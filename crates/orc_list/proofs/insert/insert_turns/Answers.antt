@@ -1,11 +1,11 @@
 -- One turn after another, until one answers.
 use Rattle.std.proofs.Common.{[], append-nil, arith, subst, ℕ, None, ◌≡◌}
 use Rattle.orc_heap.proofs.Pieces.{goes_on}
-use Rattle.orc_list.specs.Causes.{WithinPart}
+use Rattle.orc_ordered_search.specs.Causes.{WithinPart}
 use Rattle.orc_list.specs.Inserts.{Inserts, InsertsOn}
 use Rattle.orc_list.specs.declared.insert.InsertTurn.{InsertTurn}
 use Rattle.orc_list.proofs.Inserting.{inserts_done, inserts_next, inserts_none}
-use Rattle.orc_list.proofs.Parting.{part_of_part}
+use Rattle.orc_ordered_search.proofs.Parting.{part_of_part}
 use Rattle.orc_list.proofs.insert.insert_turns.Goals as goal
 
 pub loop-init : goal.loop-init

@@ -7,10 +7,12 @@ use Rattle.orc_heap.specs.OwnEvents.{Only}
 use Rattle.orc_heap.specs.Slots.{Holds, Slots, id_in}
 use Rattle.orc_heap.specs.declared.events.Act.TheVariants.{Aim}
 use Rattle.orc_ordered_chains.specs.Chains.{link_over}
-use Rattle.orc_list.specs.Searches.{HoldsIfAny}
-use Rattle.orc_list.specs.Turns.{first_or, place_at, target_at}
-use Rattle.orc_list.proofs.Linking.{above_not_fresh, link_allowed, links_to}
-use Rattle.orc_list.proofs.Marking.{part_fact, worn_since}
+use Rattle.orc_ordered_search.specs.Searches.{HoldsIfAny}
+use Rattle.orc_ordered_search.specs.Searches.{first_or, place_at, target_at}
+use Rattle.orc_ordered_search.proofs.Linking.{above_not_fresh}
+use Rattle.orc_list.proofs.Linking.{link_allowed, links_to}
+use Rattle.orc_ordered_search.proofs.Marking.{part_fact, worn_since}
+use Rattle.orc_list.proofs.Ordered.{list_ordering}
 use Rattle.orc_list.proofs.insert.link_node.Goals as goal
 
 pub aim-requires-clause-fresh : goal.aim-requires-clause-fresh
@@ -25,7 +27,7 @@ aim-requires-clause-target g c =
     let d = c.args.links.now in
     let n = g.L.Links.numbers d in
     let s = g.L.Links.seat d c.args.p.now in
-    c.node_in.ensures.held s c.requires.held.2 (above_not_fresh n s (target_at s.slots c.args.right.now) c.args.key c.requires.above
+    c.node_in.ensures.held s c.requires.held.2 (above_not_fresh (list_ordering n) s (target_at s.slots c.args.right.now) c.args.key c.requires.above
     (λ i e. g.met.L.Links.fresh_is d c.args.p.now i c.requires.pass e))
 
 pub returns-in_err-aim-clause-worn : goal.returns-in_err-aim-clause-worn
@@ -72,7 +74,7 @@ swing-requires-clause-allowed g c =
     let only = subst (λ (i : ℕ). Only (event_of s (Aim i to) None ∷ []) s t) id_is aims in
     let place_is = c.place_of.ensures.place t.slots ∙ ap (λ (z : Slots). place_at z a.root a.left.now) only.slots in
     let from_is = c.link_of.ensures.link t.slots ∙ ap (λ (z : Slots). link_over (target_at z (first_or a.first.now a.right.now))) only.slots in
-    let apart : to ≢ Some id = λ is. above_not_fresh n s to a.key c.requires.above (λ i h. g.met.L.Links.fresh_is d a.p.now i c.requires.pass h) id is
+    let apart : to ≢ Some id = λ is. above_not_fresh (list_ordering n) s to a.key c.requires.above (λ i h. g.met.L.Links.fresh_is d a.p.now i c.requires.pass h) id is
     k.fresh in
     link_allowed n a.key c.agent-agent.result a.node.now id to s t (place_at s.slots a.root a.left.now) _
     (link_over (target_at s.slots (first_or a.first.now a.right.now))) _ c.requires.run.0 k only
@@ -95,7 +97,7 @@ returns-clause-linked g c = λ id k.
     let only = subst (λ (i : ℕ). Only (event_of s (Aim i to) None ∷ []) s t) id_is aims in
     let place_is = c.place_of.ensures.place t.slots ∙ ap (λ (z : Slots). place_at z a.root a.left.now) only.slots in
     let from_is = c.link_of.ensures.link t.slots ∙ ap (λ (z : Slots). link_over (target_at z (first_or a.first.now a.right.now))) only.slots in
-    let apart : to ≢ Some id = λ is. above_not_fresh n s to a.key c.requires.above (λ i h. g.met.L.Links.fresh_is d a.p.now i c.requires.pass h) id is
+    let apart : to ≢ Some id = λ is. above_not_fresh (list_ordering n) s to a.key c.requires.above (λ i h. g.met.L.Links.fresh_is d a.p.now i c.requires.pass h) id is
     k.fresh in
     links_to n a.key c.agent-agent.result a.node.now id to s t u (place_at s.slots a.root a.left.now)
     (link_over (target_at s.slots (first_or a.first.now a.right.now))) _ _ _ c.swing.result k only c.agent-agent.ensures place_is from_is refl

@@ -4,8 +4,9 @@ use Rattle.orc_heap.specs.Slots.{id_in}
 use Rattle.orc_chain_rule.specs.Laws.Kinds.{key_linked}
 use Rattle.orc_heap.specs.declared.events.Link.{Link}
 use Rattle.orc_heap.specs.Seats.{heap_of}
-use Rattle.orc_list.specs.Turns.{target_at}
-use Rattle.orc_list.proofs.Marking.{mark_allowed, marks, refused_apart}
+use Rattle.orc_ordered_search.specs.Searches.{target_at}
+use Rattle.orc_list.proofs.Marking.{mark_allowed, marks}
+use Rattle.orc_ordered_search.proofs.Marking.{refused_apart}
 use Rattle.orc_heap.proofs.Pieces.{linked_not_fresh}
 use Rattle.orc_list.proofs.remove.mark_node.Goals as goal
 

@@ -9,7 +9,7 @@ use Rattle.orc_list.proofs.remove.remove_turn.Goals as goal
 pub returns-in-Over-clause-removed : goal.returns-in-Over-clause-removed
 returns-in-Over-clause-removed g c =
     let d = c.args.links.now in
-    found_over (g.L.Links.seat d c.args.p.now) (g.L.Links.seat d c.search.new.p) c.in-Over.ensures.found
+    found_over (g.L.Links.numbers d) (g.L.Links.seat d c.args.p.now) (g.L.Links.seat d c.search.new.p) c.in-Over.ensures.found
 
 pub returns-else-enter_absent-clause-removed : goal.returns-else-enter_absent-clause-removed
 returns-else-enter_absent-clause-removed g c = c.if-enter_absent.ensures.entered (g.L.Links.seat c.args.links.now c.args.p.now) c.in-Absent.ensures.found

@@ -1,8 +1,10 @@
 -- One search, and then all nodes are let go.
 use Rattle.std.proofs.Common.{[], append-nil, refl, sym}
 use Rattle.orc_heap.specs.OwnEvents.{Puts}
-use Rattle.orc_list.proofs.Held.{absent_hand}
+use Rattle.orc_ordered_search.proofs.Held.{absent_hand}
 use Rattle.orc_list.proofs.Removing.{quiet_stops}
+use Rattle.orc_list.proofs.Ordered.{list_ordering}
+use Rattle.orc_heap.specs.declared.events.Place.TheVariants.{Root}
 use Rattle.orc_list.proofs.remove.stop_a_remove.Goals as goal
 
 pub let_all_go-requires-clause-hands : goal.let_all_go-requires-clause-hands
@@ -11,16 +13,16 @@ let_all_go-requires-clause-hands g c =
     let s = g.L.Links.seat d c.args.p.now in
     let t = g.L.Links.seat d c.search.new.p in
     let spot = c.in-Absent.field-0 in
-    (s.slots, absent_hand (g.L.Links.numbers d) c.args.root c.args.key spot.left spot.first s t spot.right c.in-Absent.ensures.found)
+    (s.slots, absent_hand (list_ordering (g.L.Links.numbers d)) (Root c.args.root) c.args.key 0 spot.left spot.first s t spot.right c.in-Absent.ensures.found)
 
 pub returns-in-Over-clause-stopped : goal.returns-in-Over-clause-stopped
 returns-in-Over-clause-stopped g c =
     let d = c.args.links.now in
     let s = g.L.Links.seat d c.args.p.now in
     let t = g.L.Links.seat d c.search.new.p in
-    let found = c.in-Over.ensures.found in
+    let found = c.in-Over.ensures.found.0 in
     let none : Puts t [] t = record { part = []; is = sym (append-nil t.seen); agent = refl; own_is = refl } in
-    quiet_stops c.args.key s t t found.own found.quiet none found.slots refl
+    quiet_stops (g.L.Links.numbers d) c.args.key s t t found.own found.quiet none found.slots refl
 
 pub returns-in-Absent-clause-stopped : goal.returns-in-Absent-clause-stopped
 returns-in-Absent-clause-stopped g c =
@@ -30,8 +32,8 @@ returns-in-Absent-clause-stopped g c =
     let y = g.L.Links.seat d c.let_all_go.new.p in
     let spot = c.in-Absent.field-0 in
     let found = c.in-Absent.ensures.found in
-    let gone = c.let_all_go.ensures.gone s.slots (absent_hand (g.L.Links.numbers d) c.args.root c.args.key spot.left spot.first s t spot.right found) in
-    quiet_stops c.args.key s t y found.own found.behind.quiet gone.puts gone.slots_are gone.fresh
+    let gone = c.let_all_go.ensures.gone s.slots (absent_hand (list_ordering (g.L.Links.numbers d)) (Root c.args.root) c.args.key 0 spot.left spot.first s t spot.right found) in
+    quiet_stops (g.L.Links.numbers d) c.args.key s t y found.own found.behind.quiet gone.puts gone.slots_are gone.fresh
 
 pub returns-in-Present-clause-stopped : goal.returns-in-Present-clause-stopped
 returns-in-Present-clause-stopped g c =

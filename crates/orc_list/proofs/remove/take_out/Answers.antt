@@ -1,7 +1,8 @@
 -- The node is marked, the left place led past the run, and all nodes are let go.
 use Rattle.std.proofs.Common.{Bool, false, subst, true}
 use Rattle.orc_list.specs.Causes.{HasWorn}
-use Rattle.orc_list.specs.Turns.{Marks, target_at}
+use Rattle.orc_ordered_search.specs.Searches.{target_at}
+use Rattle.orc_list.specs.Turns.{Marks}
 use Rattle.orc_heap.specs.Slots.{id_in}
 use Rattle.orc_list.proofs.Answering.{reads_node}
 use Rattle.orc_list.proofs.Marking.{tries_wider, worn_wider}
@@ -55,8 +56,7 @@ unlink_run-requires-clause-left g c =
     let e = c.mark_node.ensures in
     let m = marks_at n a.root a.key a.left a.first a.node a.next s t f true u (subst (λ (b : Bool). Marks a.key (id_in t.slots a.node)
     (target_at t.slots a.next) t b u) c.if-not-mark_node.false e.marked) in
-    unlink_left n a.root a.key a.left a.first a.node a.next s t f u c.node_or.result.now m (g.met.L.Links.allowed d c.mark_node.new.p e.pass)
-    c.node_or.ensures
+    unlink_left n a.root a.key a.left a.first a.node a.next s t f u c.requires.root.1 m (g.met.L.Links.allowed d c.mark_node.new.p e.pass)
 
 pub unlink_run-requires-clause-held : goal.unlink_run-requires-clause-held
 unlink_run-requires-clause-held g c =
@@ -129,7 +129,7 @@ returns-clause-removed g c = λ s f.
     let all = g.met.L.Links.allowed d c.mark_node.new.p e.pass in
     let m = marks_at n a.root a.key a.left a.first a.node a.next s t f true u (subst (λ (b : Bool). Marks a.key (id_in t.slots a.node)
     (target_at t.slots a.next) t b u) c.if-not-mark_node.false e.marked) in
-    let tried = tries_at n a.root a.key a.left a.first a.node a.next s t f u v c.node_or.result.now _ m.slots c.node_or.ensures r.tried in
+    let tried = tries_at n a.root a.key a.left a.first a.node a.next s t f u v c.node_or.result.now _ c.requires.root.1 m.slots c.node_or.ensures r.tried in
     let hands = tried_hand n a.root a.key a.left a.first a.node a.next s t f u v _ _ _ _ r.tried (g.met.L.Links.allowed d c.unlink_run.new.p r.pass)
     (marked_hand n a.root a.key a.left a.first a.node a.next s t f true u m all) in
     let wider = tries_wider _ (HasWorn (g.L.Links.worn d t.agent) j o) _ _ _ u v (λ w. worn_wider (g.L.Links.worn d) t.agent u.agent j k l o

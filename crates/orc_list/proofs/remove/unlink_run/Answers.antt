@@ -1,7 +1,7 @@
 -- A swing of the left place past the run.
 use Rattle.std.proofs.Common.{refl}
 use Rattle.orc_heap.specs.Slots.{id_in}
-use Rattle.orc_list.specs.Turns.{place_at, target_at}
+use Rattle.orc_ordered_search.specs.Searches.{place_at, target_at}
 use Rattle.orc_list.proofs.Marking.{not_fresh_at, tries, try_allowed, worn_part}
 use Rattle.orc_list.proofs.remove.unlink_run.Goals as goal
 

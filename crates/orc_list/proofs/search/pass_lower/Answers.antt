@@ -5,7 +5,10 @@ use Rattle.orc_heap.specs.Slots.{Hold}
 use Rattle.orc_heap.specs.declared.holds.Looked.{Looked}
 use Rattle.orc_list.specs.Searches.{FindsPlain, LooksBy}
 use Rattle.orc_list.proofs.Running.{looks_hold, lower_looked, lower_on, lower_released, passed_holds, steps_up, walk_holds}
-use Rattle.orc_list.proofs.Stepping.{passed_some, walk_free}
+use Rattle.orc_list.proofs.Starting.{passed_read}
+use Rattle.orc_ordered_search.proofs.Walking.{walk_free}
+use Rattle.orc_list.proofs.Ordered.{list_ordering}
+use Rattle.orc_heap.specs.declared.events.Place.TheVariants.{Root}
 use Rattle.orc_list.proofs.search.pass_lower.Goals as goal
 
 pub loop-key-init : goal.loop-key-init
@@ -24,7 +27,7 @@ look-requires-clause-slot g c =
     let (s, room, w) = c.requires.walks in
     let l = c.loop-key in
     let k = c.spare_slot-slot.ensures in
-    walk_free (g.L.Links.numbers d) c.args.root c.args.wanted (Some l.left) None l.at l.key c.spare_slot-slot.result s (g.L.Links.seat d l.p) room
+    walk_free (list_ordering (g.L.Links.numbers d)) (Root c.args.root) c.args.wanted (Some l.left) None l.at l.key Bool.false 0 c.spare_slot-slot.result s (g.L.Links.seat d l.p) room
     (l.invariant.walks s room w) k.range.0 k.range.1 (λ e. k.left (e ∙ sym c.slot.ensures)) (λ e. omega (arith, e, k.range.1))
     (λ e. k.at (e ∙ sym c.slot-in-loop-key.ensures))
 
@@ -86,7 +89,7 @@ loop-key-smaller g c =
     (g.met.L.Links.allowed d c.release.new.p f.pass) in
     let o = c.value-key.ensures in
     let x = g.L.Links.seat d c.value-key.new.p in
-    let next = passed_some n c.args.root c.args.wanted (l.key + 1) (Some l.at) None c.in-Ok.next c.value-key.result s v x passed o.nothing o.value
+    let next = passed_read n c.args.root c.args.wanted (l.key + 1) (Some l.at) None c.in-Ok.next c.value-key.result s v x passed o.nothing o.value
     (g.met.L.Links.allowed d c.value-key.new.p o.pass) in
     omega (arith, next.1, c.loop-key-test.true)
 
@@ -111,7 +114,7 @@ loop-key-preserved g c =
     (g.met.L.Links.allowed d c.release.new.p f.pass) in
     let o = c.value-key.ensures in
     let x = g.L.Links.seat d c.value-key.new.p in
-    let next = passed_some n c.args.root c.args.wanted (l.key + 1) (Some l.at) None c.in-Ok.next c.value-key.result s v x passed o.nothing o.value
+    let next = passed_read n c.args.root c.args.wanted (l.key + 1) (Some l.at) None c.in-Ok.next c.value-key.result s v x passed o.nothing o.value
     (g.met.L.Links.allowed d c.value-key.new.p o.pass) in
     record {
       pass = o.pass;
@@ -124,7 +127,7 @@ loop-key-preserved g c =
           let passed = lower_released n c.args.root c.args.wanted l.left l.at l.key (Some c.in-Ok.next) s u v on c.loop-key-test.true f.released
           (λ i h. g.met.L.Links.fresh_is d c.look.new.p i e.pass h) (λ i h. g.met.L.Links.fresh_is d c.release.new.p i f.pass h)
           (g.met.L.Links.allowed d c.release.new.p f.pass) in
-          (passed_some n c.args.root c.args.wanted (l.key + 1) (Some l.at) None c.in-Ok.next c.value-key.result s v x passed o.nothing o.value
+          (passed_read n c.args.root c.args.wanted (l.key + 1) (Some l.at) None c.in-Ok.next c.value-key.result s v x passed o.nothing o.value
           (g.met.L.Links.allowed d c.value-key.new.p o.pass)).0;
     }
 

@@ -2,7 +2,8 @@ use Rattle.std.proofs.Common.{None, Some, ◌-◌, ◌≤◌}
 use mathlib.Core.List.{IsPrefix}
 use Rattle.orc_heap.specs.Seats.{Seat}
 use Rattle.orc_chain_rule.specs.declared.chain.ChainNote.{ChainNote}
-use Rattle.orc_list.specs.Searches.{HasRoom, Walks}
+use Rattle.orc_ordered_search.specs.Searches.{HasRoom}
+use Rattle.orc_list.specs.Searches.{Walks}
 use Rattle.orc_list.proofs.search.pass_lower.Given as goal
 
 -- the search has come as far as this node, in the search that it came from

@@ -1,6 +1,8 @@
 -- All nodes are let go.
-use Rattle.orc_list.proofs.Held.{stop_hand}
-use Rattle.orc_list.proofs.Stepping.{stops_moved}
+use Rattle.orc_ordered_search.proofs.Held.{stop_hand}
+use Rattle.orc_ordered_search.proofs.Walking.{stops_few}
+use Rattle.orc_list.proofs.Ordered.{list_ordering}
+use Rattle.orc_heap.specs.declared.events.Place.TheVariants.{Root}
 use Rattle.orc_list.proofs.search.stop.Goals as goal
 
 pub let_all_go-requires-clause-hands : goal.let_all_go-requires-clause-hands
@@ -10,7 +12,7 @@ let_all_go-requires-clause-hands g c =
     let t = g.L.Links.seat d c.args.p.now in
     let a = c.args in
     let (s, w) = c.requires.stops in
-    (s.slots, stop_hand n a.root a.wanted a.walk.left a.walk.first s t a.walk.at w)
+    (s.slots, stop_hand (list_ordering n) (Root a.root) a.wanted 0 a.walk.left a.walk.first s t a.walk.at w)
 
 pub returns-clause-moved : goal.returns-clause-moved
 returns-clause-moved g c = λ s w.
@@ -20,5 +22,5 @@ returns-clause-moved g c = λ s w.
     let u = g.L.Links.seat d c.let_all_go.new.p in
     let a = c.args in
     let e = c.let_all_go.ensures in
-    stops_moved n a.root a.wanted a.walk.left a.walk.first a.walk.at s t u w (e.gone s.slots
-    (stop_hand n a.root a.wanted a.walk.left a.walk.first s t a.walk.at w)) (g.met.L.Links.allowed d c.let_all_go.new.p e.pass)
+    stops_few (list_ordering n) (Root a.root) a.wanted a.walk.left a.walk.first a.walk.at s t u w (e.gone s.slots
+    (stop_hand (list_ordering n) (Root a.root) a.wanted 0 a.walk.left a.walk.first s t a.walk.at w)) (g.met.L.Links.allowed d c.let_all_go.new.p e.pass)

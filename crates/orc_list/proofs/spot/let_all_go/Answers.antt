@@ -1,5 +1,6 @@
 -- One node after another is let go.
-use Rattle.orc_list.proofs.Held.{first_held, four_go, goes_hands}
+use Rattle.orc_ordered_search.proofs.Held.{first_held, four_go, goes_hands}
+use Rattle.orc_list.proofs.Ordered.{list_ordering}
 use Rattle.orc_list.proofs.spot.let_all_go.Goals as goal
 
 pub let_go-requires-clause-held : goal.let_go-requires-clause-held
@@ -57,7 +58,7 @@ returns-clause-gone g c = λ s w.
     let e = c.let_go.ensures in
     let f = c.let_go-2.ensures in
     let h = c.let_go-3.ensures in
-    four_go n s t u v x y a.left a.first a.at a.next w e.let_go f.let_go h.let_go c.let_go-4.ensures.let_go
+    four_go (list_ordering n) s t u v x y a.left a.first a.at a.next w e.let_go f.let_go h.let_go c.let_go-4.ensures.let_go
     (λ i k. g.met.L.Links.fresh_is d a.p.now i c.requires.pass k) (λ i k. g.met.L.Links.fresh_is d c.let_go.new.p i e.pass k)
     (λ i k. g.met.L.Links.fresh_is d c.let_go-2.new.p i f.pass k) (λ i k. g.met.L.Links.fresh_is d c.let_go-3.new.p i h.pass k)
     (g.met.L.Links.allowed d c.let_go.new.p e.pass) (g.met.L.Links.allowed d c.let_go-2.new.p f.pass) (g.met.L.Links.allowed d c.let_go-3.new.p h.pass)

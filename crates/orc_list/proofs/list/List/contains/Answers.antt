@@ -5,8 +5,10 @@ use Rattle.orc_heap.proofs.Steps.{alone_later}
 use Rattle.orc_history.specs.Parts.{IsAlone}
 use Rattle.orc_history.specs.declared.set.SetEntry.{SetEntry}
 use Rattle.orc_history.specs.declared.set.SetEntry.TheVariants.{Asked}
-use Rattle.orc_list.proofs.Causes.{did_enter, did_few, did_give, did_not_enter, did_nothing, if_err, turns_used}
-use Rattle.orc_list.proofs.Settling.{ask_did, ask_keeps, idle_settled}
+use Rattle.orc_list.proofs.Causes.{did_enter, did_few, did_give, did_not_enter, did_nothing, turns_used}
+use Rattle.orc_ordered_search.proofs.Causes.{if_err}
+use Rattle.orc_list.proofs.Settling.{ask_did, ask_keeps}
+use Rattle.orc_ordered_search.proofs.Settling.{idle_settled}
 use Rattle.orc_list.proofs.list.List.contains.Goals as goal
 
 pub returns : goal.returns

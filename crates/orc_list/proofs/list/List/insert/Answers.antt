@@ -6,10 +6,11 @@ use Rattle.orc_history.specs.Parts.{IsAlone}
 use Rattle.orc_history.specs.declared.set.SetEntry.{SetEntry}
 use Rattle.orc_history.specs.declared.set.SetEntry.TheVariants.{Added}
 use Rattle.orc_list.proofs.Causes.{did_enter, did_few, did_give, did_not_enter, did_nothing, own_call, turns_used}
-use Rattle.orc_list.proofs.Settling.{absent_did, idle_settled, insert_did, insert_keeps, leaves_did}
+use Rattle.orc_list.proofs.Settling.{absent_did, insert_did, insert_keeps, leaves_did}
+use Rattle.orc_ordered_search.proofs.Settling.{idle_settled}
 use Rattle.orc_heap.specs.Seats.{heap_of}
 use Rattle.orc_list.specs.Inserts.{LeavesRunOff, SeesAbsent}
-use Rattle.orc_list.proofs.Parts.{within_goes_on}
+use Rattle.orc_ordered_search.proofs.Parts.{within_goes_on}
 use Rattle.orc_list.proofs.list.List.insert.Goals as goal
 
 pub returns : goal.returns

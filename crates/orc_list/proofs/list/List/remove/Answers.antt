@@ -5,8 +5,10 @@ use Rattle.orc_heap.proofs.Steps.{alone_later}
 use Rattle.orc_history.specs.Parts.{IsAlone}
 use Rattle.orc_history.specs.declared.set.SetEntry.{SetEntry}
 use Rattle.orc_history.specs.declared.set.SetEntry.TheVariants.{Removed}
-use Rattle.orc_list.proofs.Causes.{did_enter, did_few, did_give, did_not_enter, did_nothing, if_err, own_call, part_alone, turns_used}
-use Rattle.orc_list.proofs.Settling.{idle_settled, off_settled, remove_did, remove_keeps}
+use Rattle.orc_list.proofs.Causes.{did_enter, did_few, did_give, did_not_enter, did_nothing, own_call, part_alone, turns_used}
+use Rattle.orc_ordered_search.proofs.Causes.{if_err}
+use Rattle.orc_list.proofs.Settling.{off_settled, remove_did, remove_keeps}
+use Rattle.orc_ordered_search.proofs.Settling.{idle_settled}
 use Rattle.orc_heap.specs.Seats.{heap_of}
 use Rattle.orc_list.specs.Turns.{LeavesOff}
 use Rattle.orc_list.proofs.Marking.{worn_wider}
