@@ -1,0 +1,4 @@
+pub mod Actual
+pub mod Passes
+pub mod Quiet
+pub mod Reusing
