@@ -1,3 +1,4 @@
+mod Files
 pub mod Inputs
 pub mod OneAnswer
 pub mod Rows

@@ -21,14 +21,27 @@ use Rattle.orc_options.specs.declared.settings.Settings.{Settings}
 use Rattle.orc_program.specs.declared.ended.Ended.{Ended}
 use Rattle.orc_program.specs.declared.trace_mode.Told.{Told}
 use Rattle.orc_program.specs.declared.trace_mode.Told.TheVariants as told
-use Rattle.orc_program.specs.Answers.{Answers, AnswersJobs, AnswersTrace, IsTooLarge, ModeAnswers, made_text}
-use Rattle.orc_program.specs.Refusals.{input_limit, input_too_large, malformed_line}
+use Rattle.orc_program.specs.Answers.{Answers, AnswersTrace, HasTooMany, IsTooLarge, ModeAnswers, made_text}
+use Rattle.orc_program.specs.Ended.{HasReported, HasWatched}
+use Rattle.orc_program.specs.Refusals.{input_limit, input_too_large, malformed_line, malformed_watch}
+use Rattle.orc_program.proofs.Files.{not_many as no_answer, of_file, of_record}
+use Rattle.orc_watch.proofs.GrammarLaws.{not-few as watch_not-few, not-read as watch_not-read, refused-bad as watch_refused-bad}
+use Rattle.orc_watch.specs.WatchGrammar.{IsFileOf as IsWatchFile, Refuses as RefusesWatch}
+use Rattle.orc_watch.specs.declared.fault.WatchCause.{WatchCause}
+use Rattle.orc_watch.specs.declared.fault.WatchFault.{WatchFault}
+use Rattle.orc_watch.specs.declared.fault.WatchFault.TheVariants as watch
+use Rattle.orc_watch.specs.declared.line.WatchLine.{WatchLine}
 
 -- the line of a fault that names a record
 abbrev line_of : JobsFault → List ℕ
 line_of (fault.Malformed place why) = malformed_line place why
 line_of fault.TooMany = []
 line_of fault.NoMemory = []
+
+abbrev watch_line_of : WatchFault → List ℕ
+watch_line_of (watch.Malformed place why) = malformed_watch place why
+watch_line_of watch.TooMany = []
+watch_line_of watch.NoMemory = []
 
 -- a record that is refused is the first, so there is one line
 one_line : (bytes : List ℕ) (place : ℕ) (why : Cause) (p : ℕ) (w : Cause) → Refuses bytes (fault.Malformed place why)
@@ -41,6 +54,18 @@ one_line bytes place why p w bad found = elim (refused-bad bytes place why (faul
 not_many : (bytes : List ℕ) (place : ℕ) (why : Cause) → Refuses bytes (fault.Malformed place why) → Refuses bytes fault.TooMany → ⊥
 not_many bytes place why bad many = elim (refused-bad bytes place why fault.TooMany bad many) [ inl same ↦ cc same | inr memory ↦ cc memory ]
 
+-- the same of a watch file
+one_watch_line : (bytes : List ℕ) (place : ℕ) (why : WatchCause) (p : ℕ) (w : WatchCause) → RefusesWatch bytes (watch.Malformed place why)
+    → RefusesWatch bytes (watch.Malformed p w) → malformed_watch p w ≡ malformed_watch place why
+one_watch_line bytes place why p w bad found = elim (watch_refused-bad bytes place why (watch.Malformed p w) bad found) [
+  | inl same ↦ ap watch_line_of same
+  | inr memory ↦ let n : ⊥ = cc memory in absurd n
+]
+
+not_many_watched : (bytes : List ℕ) (place : ℕ) (why : WatchCause) → RefusesWatch bytes (watch.Malformed place why) → RefusesWatch bytes watch.TooMany → ⊥
+not_many_watched bytes place why bad many =
+    elim (watch_refused-bad bytes place why watch.TooMany bad many) [ inl same ↦ cc same | inr memory ↦ cc memory ]
+
 -- none of these is the status of a failed read or write, or of want of memory
 pub no_failure : (n : ℕ) → (n ≡ 0) ⊎ (n ≡ 3) ⊎ (n ≡ 6) ⊎ (n ≡ 8) → (n ≢ 4) × (n ≢ 5) × (n ≢ 7)
 no_failure n (inl is) = (λ e. omega (arith, is, e), λ e. omega (arith, is, e), λ e. omega (arith, is, e))
@@ -50,38 +75,59 @@ no_failure n (inr (inr (inr is))) = (λ e. omega (arith, is, e), λ e. omega (ar
 
 module _ (s : Settings) (bytes : List ℕ) (e : Ended) (status : ℕ) (text : List ℕ) where
   -- bytes that are not too large are answered by the mode
-  in_mode : (m : Mode) → Answers s bytes e status text → s.mode ≡ m → length bytes ≤ input_limit
-      → (s.mode ≡ mode.Run → Refuses bytes fault.TooMany → ⊥) → ModeAnswers m s bytes e status text
+  in_mode : (m : Mode) → Answers s bytes e status text → s.mode ≡ m → length bytes ≤ input_limit → (HasTooMany m bytes → ⊥)
+      → ModeAnswers m s bytes e status text
   in_mode m (inr answer) is few single = subst (λ (n : Mode). ModeAnswers n s bytes e status text) is answer.1
   in_mode m (inl large) is few single = elim large.2 [
     | inl more ↦ absurd (omega (arith, few, more))
-    | inr many ↦ absurd (single many.0 many.1)
+    | inr many ↦ absurd (single (subst (λ (n : Mode). HasTooMany n bytes) is many))
   ]
 
-  of_file : (lines : List Line) → IsFileOf lines bytes → AnswersJobs s bytes e status text → status ≡ 0
-  of_file lines is (inl reported) = reported.0
-  of_file lines is (inr named) = absurd (not-read bytes lines named.2.place named.2.why named.2.refused is)
+  abbrev IsBad : ℕ → Cause → Type 0
+  IsBad place why = Refuses bytes (fault.Malformed place why)
+
+  abbrev IsWatchBad : ℕ → WatchCause → Type 0
+  IsWatchBad place why = RefusesWatch bytes (watch.Malformed place why)
 
   pub file : Answers s bytes e status text → s.mode ≡ mode.Run → length bytes ≤ input_limit → (lines : List Line) → IsFileOf lines bytes → status ≡ 0
-  file a run few lines is = of_file lines is (in_mode mode.Run a run few (λ _ many. not-few bytes lines many is))
-
-  of_record : (place : ℕ) (why : Cause) → Refuses bytes (fault.Malformed place why) → AnswersJobs s bytes e status text
-      → (status ≡ 3) × (text ≡ malformed_line place why)
-  of_record place why bad (inl (is, (lines, file, reported))) = absurd (not-read bytes lines place why bad file)
-  of_record place why bad (inr (is, new, named)) = (is, named.says ∙ one_line bytes place why named.place named.why bad named.refused)
+  file a run few lines is =
+      of_file (λ ls. IsFileOf ls bytes) IsBad malformed_line (λ ls t. HasReported ls s e t) e (not-read bytes) status text lines is
+      (in_mode mode.Run a run few (λ many. not-few bytes lines many is))
 
   pub refused : Answers s bytes e status text → s.mode ≡ mode.Run → length bytes ≤ input_limit → (place : ℕ) (why : Cause)
       → Refuses bytes (fault.Malformed place why) → (status ≡ 3) × (text ≡ malformed_line place why)
-  refused a run few place why bad = of_record place why bad (in_mode mode.Run a run few (λ _ many. not_many bytes place why bad many))
+  refused a run few place why bad =
+      of_record (λ ls. IsFileOf ls bytes) IsBad malformed_line (λ ls t. HasReported ls s e t) e (not-read bytes) status text (one_line bytes) place why bad
+      (in_mode mode.Run a run few (λ many. not_many bytes place why bad many))
 
-  not_in_run : Refuses bytes fault.TooMany → AnswersJobs s bytes e status text → ⊥
-  not_in_run many (inl (is, (lines, file, reported))) = not-few bytes lines many file
-  not_in_run many (inr (is, new, named)) = not_many bytes named.place named.why named.refused many
+  pub watch_file : Answers s bytes e status text → s.mode ≡ mode.Watch → length bytes ≤ input_limit → (lines : List WatchLine) → IsWatchFile lines bytes
+      → status ≡ 0
+  watch_file a asks few lines is =
+      of_file (λ ls. IsWatchFile ls bytes) IsWatchBad malformed_watch (λ ls t. HasWatched ls s e t) e (watch_not-read bytes) status text lines is
+      (in_mode mode.Watch a asks few (λ many. watch_not-few bytes lines many is))
+
+  pub watch_refused : Answers s bytes e status text → s.mode ≡ mode.Watch → length bytes ≤ input_limit → (place : ℕ) (why : WatchCause)
+      → RefusesWatch bytes (watch.Malformed place why) → (status ≡ 3) × (text ≡ malformed_watch place why)
+  watch_refused a asks few place why bad =
+      of_record (λ ls. IsWatchFile ls bytes) IsWatchBad malformed_watch (λ ls t. HasWatched ls s e t) e (watch_not-read bytes) status text
+      (one_watch_line bytes) place why bad (in_mode mode.Watch a asks few (λ many. not_many_watched bytes place why bad many))
+
+  not_answered : (m : Mode) → HasTooMany m bytes → ModeAnswers m s bytes e status text → ⊥
+  not_answered mode.Run many a =
+      no_answer (λ ls. IsFileOf ls bytes) IsBad malformed_line (λ ls t. HasReported ls s e t) e (not-read bytes) status text (Refuses bytes fault.TooMany)
+      (λ lines file is. not-few bytes lines is file) (not_many bytes) many a
+  not_answered mode.Watch many a =
+      no_answer (λ ls. IsWatchFile ls bytes) IsWatchBad malformed_watch (λ ls t. HasWatched ls s e t) e (watch_not-read bytes) status text
+      (RefusesWatch bytes watch.TooMany) (λ lines file is. watch_not-few bytes lines is file) (not_many_watched bytes) many a
+  not_answered mode.Make many a = many
+  not_answered mode.Trial many a = many
+  not_answered mode.Replay many a = many
+  not_answered mode.Audit many a = many
 
   pub large : Answers s bytes e status text → IsTooLarge s.mode bytes → (status ≡ 6) × (text ≡ input_too_large)
   large (inl a) is = (a.0, a.3)
   large (inr a) (inl more) = absurd (omega (arith, a.0, more))
-  large (inr a) (inr (run, many)) = absurd (not_in_run many (subst (λ (n : Mode). ModeAnswers n s bytes e status text) run a.1))
+  large (inr a) (inr many) = absurd (not_answered s.mode many a.1)
 
   mode_status : (m : Mode) → ModeAnswers m s bytes e status text → (status ≡ 0) ⊎ (status ≡ 3) ⊎ (status ≡ 6) ⊎ (status ≡ 8)
   mode_status mode.Run (inl a) = inl a.0
@@ -92,6 +138,8 @@ module _ (s : Settings) (bytes : List ℕ) (e : Ended) (status : ℕ) (text : Li
   mode_status mode.Replay (new, inr a) = inr (inr (inr a.0))
   mode_status mode.Audit (new, inl a) = inl a.0
   mode_status mode.Audit (new, inr a) = inr (inr (inr a.0))
+  mode_status mode.Watch (inl a) = inl a.0
+  mode_status mode.Watch (inr a) = inr (inl a.0)
 
   pub statuses : Answers s bytes e status text → (status ≡ 0) ⊎ (status ≡ 3) ⊎ (status ≡ 6) ⊎ (status ≡ 8)
   statuses (inl a) = inr (inr (inl a.0))
@@ -104,7 +152,7 @@ module _ (s : Settings) (bytes : List ℕ) (e : Ended) (status : ℕ) (text : Li
 
   pub replay : Answers s bytes e status text → s.mode ≡ mode.Replay → length bytes ≤ input_limit → (played : Replayed) → IsReplay bytes played
       → (status ≡ 0) × (text ≡ replay_line played)
-  replay a asks few played is = of_trace played is (in_mode mode.Replay a asks few (λ run _. cc (run, asks))).1
+  replay a asks few played is = of_trace played is (in_mode mode.Replay a asks few (λ many. many)).1
 
   of_audit : (audit : Audit) → IsAudit bytes audit → AnswersTrace told.Audit bytes status text → (status ≡ 0) × (text ≡ audit_lines audit)
   of_audit audit is (inl (zero, (other, also, says))) = (zero, says ∙ ap audit_lines (only-audit bytes (Ok other) also tt audit is))
@@ -112,7 +160,7 @@ module _ (s : Settings) (bytes : List ℕ) (e : Ended) (status : ℕ) (text : Li
 
   pub audit : Answers s bytes e status text → s.mode ≡ mode.Audit → length bytes ≤ input_limit → (audit : Audit) → IsAudit bytes audit
       → (status ≡ 0) × (text ≡ audit_lines audit)
-  audit a asks few told_audit is = of_audit told_audit is (in_mode mode.Audit a asks few (λ run _. cc (run, asks))).1
+  audit a asks few told_audit is = of_audit told_audit is (in_mode mode.Audit a asks few (λ many. many)).1
 
   named_fault : (why : TraceFault) → why ≢ trace.NoMemory → RefusesTrace bytes why → (what : Told) → AnswersTrace what bytes status text
       → (status ≡ 8) × (text ≡ fault_line why)
@@ -123,12 +171,12 @@ module _ (s : Settings) (bytes : List ℕ) (e : Ended) (status : ℕ) (text : Li
 
   pub fault_named : Answers s bytes e status text → (s.mode ≡ mode.Replay) ⊎ (s.mode ≡ mode.Audit) → length bytes ≤ input_limit → (why : TraceFault)
       → why ≢ trace.NoMemory → RefusesTrace bytes why → (status ≡ 8) × (text ≡ fault_line why)
-  fault_named a (inl asks) few why other bad = named_fault why other bad told.Census (in_mode mode.Replay a asks few (λ run _. cc (run, asks))).1
-  fault_named a (inr asks) few why other bad = named_fault why other bad told.Audit (in_mode mode.Audit a asks few (λ run _. cc (run, asks))).1
+  fault_named a (inl asks) few why other bad = named_fault why other bad told.Census (in_mode mode.Replay a asks few (λ many. many)).1
+  fault_named a (inr asks) few why other bad = named_fault why other bad told.Audit (in_mode mode.Audit a asks few (λ many. many)).1
 
 module _ (s : Settings) (e : Ended) (status : ℕ) (text : List ℕ) where
   pub make : Answers s [] e status text → s.mode ≡ mode.Make → (status ≡ 0) × (text ≡ made_text s)
-  make a asks = let made = in_mode s [] e status text mode.Make a asks (omega arith) (λ run _. cc (run, asks)) in (made.0, made.2)
+  make a asks = let made = in_mode s [] e status text mode.Make a asks (omega arith) (λ many. many) in (made.0, made.2)
 
   pub trial : Answers s [] e status text → s.mode ≡ mode.Trial → status ≡ 0
-  trial a asks = (in_mode s [] e status text mode.Trial a asks (omega arith) (λ run _. cc (run, asks))).0
+  trial a asks = (in_mode s [] e status text mode.Trial a asks (omega arith) (λ many. many)).0

@@ -1,5 +1,9 @@
 -- What has ended was left by a run, so its rows were reused safely, and none leaked.
 use Rattle.std.proofs.Common.{◌≡◌, Bool, true, false, List, ℕ, None, Option, Some, IfSome, inl, inr, subst, sym}
+use Rattle.orc_at_rest.specs.Reuse.{LeaksNothing, ReusesSafely}
+use Rattle.orc_watch.specs.declared.line.WatchLine.{WatchLine}
+use Rattle.orc_watch_domain.specs.Runs.{WatchedThrough}
+use Rattle.orc_watch_domain.specs.declared.watch.WatchFinished.{WatchFinished}
 use Rattle.orc_words.specs.Bounds.{Bounds}
 use Rattle.orc_board.specs.Stretches.{pick}
 use Rattle.orc_jobs.specs.declared.line.Line.{Line}
@@ -7,7 +11,7 @@ use Rattle.orc_options.specs.declared.settings.Mode.{Mode}
 use Rattle.orc_options.specs.declared.settings.Mode.TheVariants as mode
 use Rattle.orc_options.specs.declared.settings.Settings.{Settings}
 use Rattle.orc_reclaiming_domain.specs.Passes.{domain_bounds}
-use Rattle.orc_reclaiming_domain.specs.Rest.{rest_domain}
+use Rattle.orc_reclaiming_domain.specs.Rest.{rest_domain, rest_journal}
 use Rattle.orc_run.specs.Runs.{EndsWithoutLeak, ReusesRowsSafely, set_bounds}
 use Rattle.orc_run.specs.Sets.{HasSetJournal, SetLeaksNothing, SetReusesSafely}
 use Rattle.orc_run.specs.declared.set.SetChoice.{SetChoice}
@@ -16,8 +20,8 @@ use Rattle.orc_run.specs.declared.set.SetRest.{SetRest}
 use Rattle.orc_run.specs.declared.set.SetRest.TheVariants as at_rest
 use Rattle.orc_run.specs.declared.run.Finished.{Finished}
 use Rattle.orc_program.specs.declared.ended.Ended.{Ended}
-use Rattle.orc_program.specs.Answers.{Answers, AnswersJobs, ModeAnswers}
-use Rattle.orc_program.specs.Ended.{EndsSafely, IsNew, Keeps, KeepsSet, generated_lines}
+use Rattle.orc_program.specs.Answers.{Answers, AnswersJobs, AnswersWatch, ModeAnswers}
+use Rattle.orc_program.specs.Ended.{EndsSafely, IsNew, Keeps, KeepsCell, KeepsSet, generated_lines}
 use Rattle.orc_program.specs.Headline.{WorkedThrough, set_of}
 
 module _ {A : Type 0} (P : A → Type 0) where
@@ -28,9 +32,9 @@ module _ {A : Type 0} (P : A → Type 0) where
   where-some o x is h = subst (λ (p : Option A). IfSome p P) (sym is) h
 
 -- of each queue
-none_left : (ended : Ended) → IsNew ended → (rush : Bool) → pick ended.queue ended.rush rush ≡ None
-none_left ended new false = new.queue
-none_left ended new true = new.rush
+none_left : (ended : Ended) → ended.queue ≡ None → ended.rush ≡ None → (rush : Bool) → pick ended.queue ended.rush rush ≡ None
+none_left ended queue rush false = queue
+none_left ended queue rush true = rush
 
 kept_left : (f : Finished) (ended : Ended) → Keeps f ended → (rush : Bool) → pick ended.queue ended.rush rush ≡ Some (pick f.queue f.rush rush)
 kept_left f ended kept false = kept.queue
@@ -38,12 +42,14 @@ kept_left f ended kept true = kept.rush
 
 pub of_none : (ended : Ended) → IsNew ended → EndsSafely ended
 of_none ended new = record {
-  queues_reuse = λ rush. where-none _ (pick ended.queue ended.rush rush) (none_left ended new rush);
+  queues_reuse = λ rush. where-none _ (pick ended.queue ended.rush rush) (none_left ended new.queue new.rush rush);
   set_reuse = where-none _ ended.set new.set;
   split_reuse = where-none _ ended.split new.split;
-  queues_rest = λ rush. where-none _ (pick ended.queue ended.rush rush) (none_left ended new rush);
+  cell_reuse = where-none _ ended.cell new.cell;
+  queues_rest = λ rush. where-none _ (pick ended.queue ended.rush rush) (none_left ended new.queue new.rush rush);
   set_rest = where-none _ ended.set new.set;
   split_rest = where-none _ ended.split new.split;
+  cell_rest = where-none _ ended.cell new.cell;
 }
 
 -- what is said of the domain of a run's set, whichever it was, by the two places that it can have
@@ -78,15 +84,34 @@ of_run lines s f ended run kept =
           (subst (λ (b : Bounds). ReusesRowsSafely b (pick f.queue f.rush rush)) (sym (run.queue_journals rush).sizes) (run.queues_reuse rush));
       set_reuse = set.set_reuse;
       split_reuse = set.split_reuse;
+      cell_reuse = where-none _ ended.cell kept.cell;
       queues_rest = λ rush. where-some _ (pick ended.queue ended.rush rush) (pick f.queue f.rush rush) (kept_left f ended kept rush)
           (subst (λ (b : Bounds). EndsWithoutLeak b (pick f.queue f.rush rush)) (sym (run.queue_journals rush).sizes) (run.queues_rest rush));
       set_rest = set.set_rest;
       split_rest = set.split_rest;
+      cell_rest = where-none _ ended.cell kept.cell;
     }
+
+of_watch : (lines : List WatchLine) (s : Settings) (f : WatchFinished) (ended : Ended) → WatchedThrough lines s.posters s.rows f → KeepsCell f ended
+    → EndsSafely ended
+of_watch lines s f ended run kept = record {
+  queues_reuse = λ rush. where-none _ (pick ended.queue ended.rush rush) (none_left ended kept.queue kept.rush rush);
+  set_reuse = where-none _ ended.set kept.set;
+  split_reuse = where-none _ ended.split kept.split;
+  cell_reuse = where-some _ ended.cell f.cell kept.cell (subst (λ (b : Bounds). ReusesSafely b (rest_journal f.cell)) (sym run.journal.sizes) run.reuse);
+  queues_rest = λ rush. where-none _ (pick ended.queue ended.rush rush) (none_left ended kept.queue kept.rush rush);
+  set_rest = where-none _ ended.set kept.set;
+  split_rest = where-none _ ended.split kept.split;
+  cell_rest = where-some _ ended.cell f.cell kept.cell (subst (λ (b : Bounds). LeaksNothing b (rest_journal f.cell)) (sym run.journal.sizes) run.rest);
+}
 
 of_jobs : (s : Settings) (bytes : List ℕ) (ended : Ended) (status : ℕ) (text : List ℕ) → AnswersJobs s bytes ended status text → EndsSafely ended
 of_jobs s bytes ended status text (inl (is, (lines, file, h))) = of_run lines s h.finished ended h.headline.run h.kept
 of_jobs s bytes ended status text (inr h) = of_none ended h.1
+
+of_watched : (s : Settings) (bytes : List ℕ) (ended : Ended) (status : ℕ) (text : List ℕ) → AnswersWatch s bytes ended status text → EndsSafely ended
+of_watched s bytes ended status text (inl (is, (lines, file, h))) = of_watch lines s h.finished ended h.run h.kept
+of_watched s bytes ended status text (inr h) = of_none ended h.1
 
 of_mode : (m : Mode) (s : Settings) (bytes : List ℕ) (ended : Ended) (status : ℕ) (text : List ℕ) → ModeAnswers m s bytes ended status text
     → EndsSafely ended
@@ -95,6 +120,7 @@ of_mode mode.Make s bytes ended status text h = of_none ended h.1
 of_mode mode.Trial s bytes ended status text h = of_run (generated_lines s) s h.1.finished ended h.1.run h.1.kept
 of_mode mode.Replay s bytes ended status text h = of_none ended h.0
 of_mode mode.Audit s bytes ended status text h = of_none ended h.0
+of_mode mode.Watch s bytes ended status text h = of_watched s bytes ended status text h
 
 pub of_answer : (s : Settings) (bytes : List ℕ) (ended : Ended) (status : ℕ) (text : List ℕ) → Answers s bytes ended status text → EndsSafely ended
 of_answer s bytes ended status text (inl h) = of_none ended h.1

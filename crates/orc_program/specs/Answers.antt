@@ -3,9 +3,9 @@ use Rattle.std.specs.Prelude.{◌≡◌, ◌≢◌, ◌<◌, ◌≤◌, ◌⊎�
 use Rattle.std.specs.Io.KnownBytes.{Consumes, IsAtEnd}
 use Rattle.orc_jobs.specs.Generated.{text_of_lines}
 use Rattle.orc_jobs.specs.JobGrammar.{IsFileOf, Refuses}
-use Rattle.orc_jobs.specs.declared.cause.Cause.{Cause}
 use Rattle.orc_jobs.specs.declared.cause.JobsFault.TheVariants as fault
-use Rattle.orc_jobs.specs.declared.line.Line.{Line}
+use Rattle.orc_watch.specs.WatchGrammar.{IsFileOf as IsWatchFile, Refuses as RefusesWatch}
+use Rattle.orc_watch.specs.declared.fault.WatchFault.TheVariants as watch
 use Rattle.orc_trace.specs.declared.answers.Audit.{Audit}
 use Rattle.orc_trace.specs.declared.answers.Replayed.{Replayed}
 use Rattle.orc_trace.specs.declared.answers.TraceFault.{TraceFault}
@@ -20,15 +20,15 @@ use Rattle.orc_options.specs.declared.settings.Settings.{Settings}
 use Rattle.orc_program.specs.declared.ended.Ended.{Ended}
 use Rattle.orc_program.specs.declared.trace_mode.Told.{Told}
 use Rattle.orc_program.specs.declared.trace_mode.Told.TheVariants as told
-use Rattle.orc_program.specs.Ended.{HasReported, HasSummed, IsNew, generated_lines}
-use Rattle.orc_program.specs.Refusals.{input_limit, input_too_large, malformed_line, words_refused}
+use Rattle.orc_program.specs.Ended.{HasReported, HasSummed, HasWatched, IsNew, generated_lines}
+use Rattle.orc_program.specs.Refusals.{input_limit, input_too_large, malformed_line, malformed_watch, words_refused}
 
--- the text names the first record of the bytes that is outside the grammar, and its cause
-pub record NamesRecord (bytes text : List ℕ) : Type 0 where
+-- the text is the line of the first record that is outside the grammar, with its cause
+pub record NamesRecord {C : Type 0} (is_bad : ℕ → C → Type 0) (line : ℕ → C → List ℕ) (text : List ℕ) : Type 0 where
   pub place : ℕ
-  pub why : Cause
-  pub refused : Refuses bytes (fault.Malformed place why)
-  pub says : text ≡ malformed_line place why
+  pub why : C
+  pub refused : is_bad place why
+  pub says : text ≡ line place why
 
 -- the text names the first fault of the bytes as a trace
 pub record NamesFault (bytes text : List ℕ) : Type 0 where
@@ -46,11 +46,20 @@ abbrev pub Tells : Told → List ℕ → List ℕ → Type 0
 Tells told.Census bytes text = (played : Replayed) × IsReplay bytes played × (text ≡ replay_line played)
 Tells told.Audit bytes text = (audit : Audit) × IsAudit bytes audit × (text ≡ audit_lines audit)
 
--- a job file is worked through and reported; other bytes are refused at their first record outside the grammar
+-- the lines of a file are worked through and told; other bytes are refused at their first record outside the grammar
+abbrev pub AnswersFile : {L C : Type 0} → (List L → Type 0) → (ℕ → C → Type 0) → (ℕ → C → List ℕ) → (List L → List ℕ → Type 0) → Ended → ℕ → List ℕ → Type 0
+AnswersFile {L} is_file is_bad line has_told ended status text =
+    ((status ≡ 0) × ((lines : List L) × is_file lines × has_told lines text))
+    ⊎ ((status ≡ 3) × IsNew ended × NamesRecord is_bad line text)
+
+-- of a job file, which is reported, and of a watch file
 abbrev pub AnswersJobs : Settings → List ℕ → Ended → ℕ → List ℕ → Type 0
-AnswersJobs settings bytes ended status text =
-    ((status ≡ 0) × ((lines : List Line) × IsFileOf lines bytes × HasReported lines settings ended text))
-    ⊎ ((status ≡ 3) × IsNew ended × NamesRecord bytes text)
+AnswersJobs settings bytes ended = AnswersFile (λ lines. IsFileOf lines bytes) (λ place why. Refuses bytes (fault.Malformed place why)) malformed_line
+    (λ lines text. HasReported lines settings ended text) ended
+
+abbrev pub AnswersWatch : Settings → List ℕ → Ended → ℕ → List ℕ → Type 0
+AnswersWatch settings bytes ended = AnswersFile (λ lines. IsWatchFile lines bytes) (λ place why. RefusesWatch bytes (watch.Malformed place why))
+    malformed_watch (λ lines text. HasWatched lines settings ended text) ended
 
 -- a trace is told; other bytes are refused at their first fault
 abbrev pub AnswersTrace : Told → List ℕ → ℕ → List ℕ → Type 0
@@ -63,10 +72,17 @@ ModeAnswers mode.Make settings bytes ended status text = (status ≡ 0) × IsNew
 ModeAnswers mode.Trial settings bytes ended status text = (status ≡ 0) × HasSummed settings ended text
 ModeAnswers mode.Replay settings bytes ended status text = IsNew ended × AnswersTrace told.Census bytes status text
 ModeAnswers mode.Audit settings bytes ended status text = IsNew ended × AnswersTrace told.Audit bytes status text
+ModeAnswers mode.Watch settings bytes ended status text = AnswersWatch settings bytes ended status text
 
--- more bytes than an input may have, or, in mode run, more records than a job file may have
+-- more records than a job file may have, or a watch file
+abbrev pub HasTooMany : Mode → List ℕ → Type 0
+HasTooMany mode.Run bytes = Refuses bytes fault.TooMany
+HasTooMany mode.Watch bytes = RefusesWatch bytes watch.TooMany
+HasTooMany m bytes = ⊥
+
+-- more bytes than an input may have, or, in mode run or watch, more records than its file may have
 abbrev pub IsTooLarge : Mode → List ℕ → Type 0
-IsTooLarge m bytes = (input_limit < length bytes) ⊎ ((m ≡ mode.Run) × Refuses bytes fault.TooMany)
+IsTooLarge m bytes = (input_limit < length bytes) ⊎ HasTooMany m bytes
 
 -- what the program answers in these settings to these bytes: that they are too large, or what the mode answers
 abbrev pub Answers : Settings → List ℕ → Ended → ℕ → List ℕ → Type 0
@@ -81,6 +97,7 @@ reads mode.Make = false
 reads mode.Trial = false
 reads mode.Replay = true
 reads mode.Audit = true
+reads mode.Watch = true
 
 -- the bytes that are answered, by what was left before and after: where the mode reads, those that were taken from the front, all of
 -- them or more than an input may have; else none, and nothing was taken

@@ -1,17 +1,27 @@
 -- What a run leaves.
-use Rattle.std.specs.Prelude.{◌≡◌, Bool, ℕ, List, Some, None, IfSome}
+use Rattle.std.specs.Prelude.{◌≡◌, Bool, ℕ, List, Some, None, IfSome, if◌then◌else◌}
 use Rattle.orc_jobs.specs.declared.line.Job.{Job}
 use Rattle.orc_jobs.specs.declared.line.Line.{Line}
 use Rattle.orc_jobs.specs.Generated.{generated}
 use Rattle.orc_report.specs.AllDone.{AreJobsOf, NoneRefused, NoneVoid}
 use Rattle.orc_report.specs.Summary.{done_jobs, summary_of}
+use Rattle.orc_at_rest.specs.Reuse.{LeaksNothing, ReusesSafely}
 use Rattle.orc_board.specs.Stretches.{pick}
+use Rattle.orc_core.specs.Machine.{new_machine}
+use Rattle.orc_machine_board.specs.Rules.{run_of}
 use Rattle.orc_reclaiming_domain.specs.Passes.{domain_bounds}
-use Rattle.orc_reclaiming_domain.specs.Rest.{rest_domain}
+use Rattle.orc_reclaiming_domain.specs.Rest.{rest_domain, rest_journal}
+use Rattle.orc_rest.specs.Reuse.{given, reused, rows_out}
 use Rattle.orc_run.specs.Runs.{EndsWithoutLeak, ReusesRowsSafely}
 use Rattle.orc_run.specs.declared.run.Finished.{Finished}
 use Rattle.orc_run.specs.declared.set.SetRest.{SetRest}
 use Rattle.orc_run.specs.declared.set.SetRest.TheVariants as at_rest
+use Rattle.orc_sound.specs.Journals.{plain}
+use Rattle.orc_watch.specs.WatchText.{text_of}
+use Rattle.orc_watch.specs.declared.line.WatchLine.{WatchLine}
+use Rattle.orc_watch.specs.declared.text.CellNumbers.{CellNumbers}
+use Rattle.orc_watch_domain.specs.Runs.{WatchedThrough}
+use Rattle.orc_watch_domain.specs.declared.watch.WatchFinished.{WatchFinished}
 use Rattle.orc_program.specs.declared.ended.Ended.{Ended}
 use Rattle.orc_options.specs.declared.settings.Settings.{Settings}
 use Rattle.orc_program.specs.Headline.{Headline, WorkedThrough}
@@ -23,6 +33,7 @@ pub record IsNew (ended : Ended) : Type 0 where
   pub set : ended.set ≡ None
   pub split : ended.split ≡ None
   pub replies : ended.replies ≡ None
+  pub cell : ended.cell ≡ None
 
 -- the set's domain is there, in the place of its kind alone
 abbrev pub KeepsSet : SetRest → Ended → Type 0
@@ -35,16 +46,28 @@ pub record Keeps (finished : Finished) (ended : Ended) : Type 0 where
   pub rush : ended.rush ≡ Some finished.rush
   pub set : KeepsSet finished.set ended
   pub replies : ended.replies ≡ Some finished.replies
+  pub cell : ended.cell ≡ None
 
--- Where a run has ended, by the three actual journals, of the queue, at false, of the rush queue, at true, and of the set: no row was
--- used again while it was linked or held, nor twice; and at the end what was given was freed or is linked.
+-- what a watch has left is there
+pub record KeepsCell (finished : WatchFinished) (ended : Ended) : Type 0 where
+  pub queue : ended.queue ≡ None
+  pub rush : ended.rush ≡ None
+  pub set : ended.set ≡ None
+  pub split : ended.split ≡ None
+  pub replies : ended.replies ≡ None
+  pub cell : ended.cell ≡ Some finished.cell
+
+-- Where a run has ended, by the three actual journals, of the queue, at false, of the rush queue, at true, and of the set, or by that
+-- of the cell: no row was used again while it was linked or held, nor twice; and at the end what was given was freed or is linked.
 pub record EndsSafely (ended : Ended) : Type 0 where
   pub queues_reuse : (rush : Bool) → IfSome (pick ended.queue ended.rush rush) (λ r. ReusesRowsSafely (domain_bounds (rest_domain r)) r)
   pub set_reuse : IfSome ended.set (λ r. ReusesRowsSafely (domain_bounds (rest_domain r)) r)
   pub split_reuse : IfSome ended.split (λ r. ReusesRowsSafely (domain_bounds (rest_domain r)) r)
+  pub cell_reuse : IfSome ended.cell (λ r. ReusesSafely (domain_bounds (rest_domain r)) (rest_journal r))
   pub queues_rest : (rush : Bool) → IfSome (pick ended.queue ended.rush rush) (λ r. EndsWithoutLeak (domain_bounds (rest_domain r)) r)
   pub set_rest : IfSome ended.set (λ r. EndsWithoutLeak (domain_bounds (rest_domain r)) r)
   pub split_rest : IfSome ended.split (λ r. EndsWithoutLeak (domain_bounds (rest_domain r)) r)
+  pub cell_rest : IfSome ended.cell (λ r. LeaksNothing (domain_bounds (rest_domain r)) (rest_journal r))
 
 -- these lines were worked through as the settings say, and the headline holds of what has ended
 pub record HasReported (lines : List Line) (settings : Settings) (ended : Ended) (text : List ℕ) : Type 0 where
@@ -69,3 +92,19 @@ pub record HasSummed (settings : Settings) (ended : Ended) (text : List ℕ) : T
       → (jobs : List (Job × ℕ)) → AreJobsOf (generated_lines settings) jobs → text ≡ summary_of jobs
   -- and without takers no reply is Void
   pub none_void : settings.takers ≡ 0 → NoneVoid finished.replies.takes.items
+
+-- how often a row was given and freed, and how many are linked, by the journal that a watch has left
+abbrev pub cell_numbers : WatchFinished → CellNumbers
+cell_numbers f = record {
+  given = given (new_machine (domain_bounds (rest_domain f.cell))) (plain (rest_journal f.cell));
+  reused = reused (plain (rest_journal f.cell));
+  linked = rows_out (run_of (domain_bounds (rest_domain f.cell)) (rest_journal f.cell));
+}
+
+-- these lines were worked through by as many workers as the settings have posters, over a cell of as many rows as they say, and the
+-- text tells the replies and both parts at last, with what is at rest where it was asked for
+pub record HasWatched (lines : List WatchLine) (settings : Settings) (ended : Ended) (text : List ℕ) : Type 0 where
+  pub finished : WatchFinished
+  pub kept : KeepsCell finished ended
+  pub run : WatchedThrough lines settings.posters settings.rows finished
+  pub told : text ≡ text_of finished.replies.items finished.now_left finished.now_right (if settings.rest then Some (cell_numbers finished) else None)

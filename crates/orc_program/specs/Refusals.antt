@@ -3,6 +3,8 @@ use Rattle.std.specs.Prelude.{◌++◌, List, ℕ, codes}
 use Rattle.std.specs.Fmt.{decimal}
 use Rattle.orc_jobs.specs.declared.cause.Cause.{Cause}
 use Rattle.orc_jobs.specs.declared.cause.Cause.TheVariants as cause
+use Rattle.orc_watch.specs.declared.fault.WatchCause.{WatchCause}
+use Rattle.orc_watch.specs.declared.fault.WatchCause.TheVariants as watch
 
 -- the most bytes that an input may have
 abbrev pub input_limit : ℕ
@@ -22,6 +24,19 @@ cause_word cause.Id = codes "id"
 cause_word cause.Op = codes "op"
 cause_word cause.Sum = codes "sum"
 
--- the line that names a record and what is wrong with it
+abbrev pub watch_word : WatchCause → List ℕ
+watch_word watch.Fields = codes "fields"
+watch_word watch.Utf8 = codes "utf8"
+watch_word watch.Verb = codes "verb"
+watch_word watch.Value = codes "value"
+
+-- the line that names a record, and by a word what is wrong with it
+abbrev pub record_line : ℕ → List ℕ → List ℕ
+record_line place word = codes "line " ++ decimal place ++ codes ": " ++ word ++ codes "\n"
+
+-- of a record of a job file, and of a watch file
 abbrev pub malformed_line : ℕ → Cause → List ℕ
-malformed_line place why = codes "line " ++ decimal place ++ codes ": " ++ cause_word why ++ codes "\n"
+malformed_line place why = record_line place (cause_word why)
+
+abbrev pub malformed_watch : ℕ → WatchCause → List ℕ
+malformed_watch place why = record_line place (watch_word why)

@@ -3,7 +3,7 @@ ghost use Rattle.std.specs.Prelude.{◌≡◌, IfOk, OnErr};
 ghost use Rattle.orc_options.specs.Settings.{AreInRange};
 ghost use Rattle.orc_program.specs.Answers.{Answers};
 ghost use Rattle.orc_program.specs.Ended.{IsNew};
-ghost use Rattle.orc_program.specs.Refusals.{input_too_large};
+ghost use Rattle.orc_program.specs.Refusals.{input_too_large, record_line};
 
 use crate::Ended;
 use crate::jobs_mode::answer_jobs;
@@ -11,6 +11,7 @@ use crate::make_mode::answer_make;
 use crate::reading::INPUT_LIMIT;
 use crate::trace_mode::{Told, answer_trace};
 use crate::trial_mode::answer_trial;
+use crate::watch_mode::answer_watch;
 use orc_board::Gate;
 use orc_fault::NoMemory;
 use orc_jobs::Text;
@@ -26,8 +27,8 @@ pub(crate) struct Answer {
     pub text: Text,
 }
 
-// What the settings ask for: the report of the jobs of these bytes, a generated file, the summary of generated work, or what is told
-// of a trace; or the refusal of the bytes.
+// What the settings ask for: the report of the jobs of these bytes, a generated file, the summary of generated work, what is told of
+// a trace, or what came of a watch; or the refusal of the bytes.
 pub(crate) fn answer_of<R: Threads + Wait + Sync, G: Gate + Sync>(
     rt: &R,
     alloc: Global,
@@ -50,6 +51,7 @@ pub(crate) fn answer_of<R: Threads + Wait + Sync, G: Gate + Sync>(
         Mode::Trial => answer_trial(rt, alloc, settings, gate, ended),
         Mode::Replay => answer_trace(alloc, bytes, Told::Census),
         Mode::Audit => answer_trace(alloc, bytes, Told::Audit),
+        Mode::Watch => answer_watch(rt, alloc, settings, bytes, gate, ended),
     }
 }
 
@@ -59,4 +61,15 @@ pub(crate) fn too_large(alloc: Global) -> Result<Answer, NoMemory>
 {
     let text = Text::from_slice(alloc, b"input too large\n")?;
     Ok(Answer { status: 6, text })
+}
+
+// The line that names a record, and by a word what is wrong with it.
+pub(crate) fn refuse_record(alloc: Global, line: u32, word: &str) -> Result<Answer, NoMemory>
+    ensures { IfOk result (λ a. (a.status ≡ 3) × (a.text ≡ record_line line word.now)) }
+{
+    let text = format!(in alloc; "line {line}: {word}\n")?;
+    Ok(Answer {
+        status: 3,
+        text: Text::from_string(text),
+    })
 }

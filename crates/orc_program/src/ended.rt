@@ -1,15 +1,18 @@
 //! What a run leaves for its caller.
-ghost use Rattle.orc_program.specs.Ended.{IsNew, Keeps};
+ghost use Rattle.orc_program.specs.Ended.{IsNew, Keeps, KeepsCell};
 
 use orc_board::Replies;
 use orc_chain_rule::Chain;
 use orc_fifo_rule::Fifo;
+use orc_pairs_rule::Pairs;
 use orc_reclaiming_domain::OrcRest;
 use orc_run::{Finished, SetRest};
 use orc_split_rule::Split;
+use orc_watch_domain::WatchFinished;
 
-/// The domains of queue, rush queue and set at rest, each with the journal of all that happened on it, and the replies of a run.
-/// All are there after a run, of `set` and `split` the one that the run had, and none of them otherwise.
+/// The domains of queue, rush queue and set at rest, each with the journal of all that happened on it, and the replies of a run; or
+/// the domain of a cell. All of a run are there after it, of `set` and `split` the one that the run had; `cell` alone is there after
+/// a watch; and none of them otherwise.
 #[derive(Drop)]
 pub struct Ended {
     pub queue: Option<OrcRest<Fifo>>,
@@ -17,6 +20,7 @@ pub struct Ended {
     pub set: Option<OrcRest<Chain>>,
     pub split: Option<OrcRest<Split>>,
     pub replies: Option<Replies>,
+    pub cell: Option<OrcRest<Pairs>>,
 }
 
 impl Ended {
@@ -30,6 +34,7 @@ impl Ended {
             set: None,
             split: None,
             replies: None,
+            cell: None,
         }
     }
 
@@ -51,5 +56,14 @@ impl Ended {
             SetRest::Split(rest) => self.split = Some(rest),
         }
         self.replies = Some(replies);
+    }
+
+    // Keeps what a watch has left.
+    pub(crate) fn keep_cell(&mut self, finished: WatchFinished)
+        requires { IsNew self.old }
+        ensures { KeepsCell finished self.new }
+    {
+        let WatchFinished { cell, .. } = finished;
+        self.cell = Some(cell);
     }
 }

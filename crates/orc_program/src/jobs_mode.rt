@@ -7,14 +7,14 @@ ghost use Rattle.orc_options.specs.Settings.{AreInRange};
 ghost use Rattle.orc_program.specs.Answers.{AnswersJobs};
 ghost use Rattle.orc_program.specs.Ended.{HasReported, IsNew};
 ghost use Rattle.orc_program.specs.Headline.{numbers_of_rest};
-ghost use Rattle.orc_program.specs.Refusals.{cause_word, input_limit, input_too_large, malformed_line};
+ghost use Rattle.orc_program.specs.Refusals.{cause_word, input_limit, input_too_large};
 
 use crate::Ended;
-use crate::answer::{Answer, too_large};
+use crate::answer::{Answer, refuse_record, too_large};
 use crate::working::run_as_asked;
 use orc_board::Gate;
 use orc_fault::NoMemory;
-use orc_jobs::{Cause, JobsFault, Lines, Text, read_jobs};
+use orc_jobs::{Cause, JobsFault, Lines, read_jobs};
 use orc_options::Settings;
 use orc_report::{RestNumbers, report_text};
 use orc_run::Finished;
@@ -40,7 +40,7 @@ pub(crate) fn answer_jobs<R: Threads + Wait + Sync, G: Gate + Sync>(
 {
     match read_jobs(alloc, bytes) {
         Ok(lines) => report(rt, alloc, settings, &lines, gate, ended),
-        Err(JobsFault::Malformed { line, cause }) => refuse_record(alloc, line, cause),
+        Err(JobsFault::Malformed { line, cause }) => refuse_record(alloc, line, word_of(cause)),
         Err(JobsFault::TooMany) => too_large(alloc),
         Err(JobsFault::NoMemory) => Err(NoMemory),
     }
@@ -85,18 +85,6 @@ fn numbers_at_rest(asked: bool, finished: &Finished) -> Option<RestNumbers>
         set_given: finished.set.given(),
         set_reused: finished.set.reused(),
         set_linked: finished.set.linked(),
-    })
-}
-
-// The line that names a record and its cause.
-fn refuse_record(alloc: Global, line: u32, cause: Cause) -> Result<Answer, NoMemory>
-    ensures { IfOk result (λ a. (a.status ≡ 3) × (a.text ≡ malformed_line line cause)) }
-{
-    let word = word_of(cause);
-    let text = format!(in alloc; "line {line}: {word}\n")?;
-    Ok(Answer {
-        status: 3,
-        text: Text::from_string(text),
     })
 }
 

@@ -3,6 +3,9 @@ ghost use Rattle.std.specs.Prelude.{◌≡◌, ◌≢◌, ◌<◌, ◌≤◌, �
 ghost use Rattle.orc_jobs.specs.JobGrammar.{IsFileOf, Refuses};
 ghost use Rattle.orc_jobs.specs.declared.cause.Cause.{Cause};
 ghost use Rattle.orc_jobs.specs.declared.line.Line.{Line};
+ghost use Rattle.orc_watch.specs.WatchGrammar.{IsFileOf as IsWatchFile, Refuses as RefusesWatch};
+ghost use Rattle.orc_watch.specs.declared.fault.WatchCause.{WatchCause};
+ghost use Rattle.orc_watch.specs.declared.line.WatchLine.{WatchLine};
 ghost use Rattle.orc_trace.specs.Answers.{audit_lines, fault_line, replay_line};
 ghost use Rattle.orc_trace.specs.Audit.{IsAudit};
 ghost use Rattle.orc_trace.specs.Replay.{IsReplay, Refuses as RefusesTrace};
@@ -11,15 +14,16 @@ ghost use Rattle.orc_trace.specs.declared.answers.Replayed.{Replayed};
 ghost use Rattle.orc_trace.specs.declared.answers.TraceFault.{TraceFault};
 ghost use Rattle.orc_options.specs.declared.settings.Settings.{Settings};
 ghost use Rattle.orc_program.specs.Answers.{Answers, IsInput, IsTooLarge, made_text};
-ghost use Rattle.orc_program.specs.Refusals.{input_limit, input_too_large, malformed_line};
+ghost use Rattle.orc_program.specs.Refusals.{input_limit, input_too_large, malformed_line, malformed_watch};
 ghost use Rattle.orc_program.specs.declared.ended.Ended.{Ended};
 
 use orc_jobs::JobsFault;
 use orc_options::Mode;
 use orc_trace::TraceFault;
+use orc_watch::WatchFault;
 
-/// A law, with nothing to run: settings and bytes have one status, and but for a report and a summary one text. So whatever answers
-/// a file of lines is its report, and so on.
+/// A law, with nothing to run: settings and bytes have one status, and but for a report, a summary and what came of a watch one text.
+/// So whatever answers a file of lines is its report, and so on.
 pub fn inputs_have_one_answer()
     ensures large { (s : Settings) (bytes : List ℕ) (e : Ended) (status : ℕ) (text : List ℕ) → Answers s bytes e status text
         → IsTooLarge s.mode bytes → (status ≡ 6) × (text ≡ input_too_large) }
@@ -40,6 +44,11 @@ pub fn inputs_have_one_answer()
     ensures fault { (s : Settings) (bytes : List ℕ) (e : Ended) (status : ℕ) (text : List ℕ) → Answers s bytes e status text
         → (s.mode ≡ Mode.Replay) ⊎ (s.mode ≡ Mode.Audit) → length bytes ≤ input_limit → (why : TraceFault) → why ≢ TraceFault.NoMemory
         → RefusesTrace bytes why → (status ≡ 8) × (text ≡ fault_line why) }
+    ensures watch { (s : Settings) (bytes : List ℕ) (e : Ended) (status : ℕ) (text : List ℕ) → Answers s bytes e status text
+        → s.mode ≡ Mode.Watch → length bytes ≤ input_limit → (lines : List WatchLine) → IsWatchFile lines bytes → status ≡ 0 }
+    ensures watch_record { (s : Settings) (bytes : List ℕ) (e : Ended) (status : ℕ) (text : List ℕ) → Answers s bytes e status text
+        → s.mode ≡ Mode.Watch → length bytes ≤ input_limit → (place : ℕ) (why : WatchCause) → RefusesWatch bytes (WatchFault.Malformed place why)
+        → (status ≡ 3) × (text ≡ malformed_watch place why) }
 {}
 
 /// A law, with nothing to run: of an input that is told, the bytes that are answered are all, or more than an input may have.

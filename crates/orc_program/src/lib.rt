@@ -1,5 +1,5 @@
 //! The program as one call: a job file is read, worked through and reported, or generated, or generated work is summed up, or a
-//! trace is played.
+//! trace is played, or a watch file is worked through.
 #![tactic(auto)]
 
 mod answer;
@@ -12,6 +12,7 @@ mod streams;
 mod top_call;
 mod trace_mode;
 mod trial_mode;
+mod watch_mode;
 mod working;
 mod writing;
 

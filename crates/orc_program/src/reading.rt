@@ -27,6 +27,8 @@ pub(crate) fn read_input<S: Source>(
 {
     match mode {
         Mode::Make | Mode::Trial => Ok(Vec::new(alloc)),
-        Mode::Run | Mode::Replay | Mode::Audit => read_all(alloc, source, INPUT_LIMIT),
+        Mode::Run | Mode::Replay | Mode::Audit | Mode::Watch => {
+            read_all(alloc, source, INPUT_LIMIT)
+        }
     }
 }

@@ -24,3 +24,9 @@ returns-clause-audit c = one.audit
 
 pub returns-clause-fault : goal.returns-clause-fault
 returns-clause-fault c = one.fault_named
+
+pub returns-clause-watch : goal.returns-clause-watch
+returns-clause-watch c = one.watch_file
+
+pub returns-clause-watch_record : goal.returns-clause-watch_record
+returns-clause-watch_record c = one.watch_refused
