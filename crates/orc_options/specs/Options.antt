@@ -29,12 +29,13 @@ first_app =
 -- the command, where `modes`, `answers` and `sets` are the words that the program holds
 abbrev pub command_app : (modes answers sets : Bor (List (Bor Text))) → App
 command_app modes answers sets =
-    with_rule (with_rule (with_rule (with_rule (with_rule (with_rule (with_rule (with_rule (with_rule first_app
+    with_rule (with_rule (with_rule (with_rule (with_rule (with_rule (with_rule (with_rule (with_rule (with_rule first_app
     (choice_rule (codes "mode") (codes "run") modes))
     (choice_rule (codes "rest") (codes "no") answers))
     (choice_rule (codes "set") (codes "list") sets))
     (number_rule (codes "posters") (codes "1") 1 8))
     (number_rule (codes "takers") (codes "0") 0 7))
+    (number_rule (codes "stages") (codes "2") 1 6))
     (number_rule (codes "rows") (codes "65535") 8 65535))
     (number_rule (codes "buckets") (codes "16") 1 256))
     (number_rule (codes "seed") (codes "1") 1 4294967295))
@@ -45,7 +46,7 @@ pub record IsCommand (a : App) : Type 0 where
   pub modes : Bor (List (Bor Text))
   pub answers : Bor (List (Bor Text))
   pub sets : Bor (List (Bor Text))
-  pub mode_words : map (λ n. n.now) modes.now ≡ codes "run" ∷ codes "make" ∷ codes "trial" ∷ codes "replay" ∷ codes "audit" ∷ codes "watch" ∷ []
+  pub mode_words : map (λ n. n.now) modes.now ≡ codes "run" ∷ codes "make" ∷ codes "trial" ∷ codes "replay" ∷ codes "audit" ∷ codes "watch" ∷ codes "stages" ∷ []
   pub answer_words : map (λ n. n.now) answers.now ≡ codes "yes" ∷ codes "no" ∷ []
   pub set_words : map (λ n. n.now) sets.now ≡ codes "list" ∷ codes "split" ∷ []
   pub app : a ≡ command_app modes answers sets

@@ -25,7 +25,8 @@ mode_in (Some text) =
     if bytes_eq text (codes "make") then mode.Make
     else
     (if bytes_eq text (codes "trial") then mode.Trial
-    else (if bytes_eq text (codes "replay") then mode.Replay else (if bytes_eq text (codes "audit") then mode.Audit else (if bytes_eq text (codes "watch") then mode.Watch else mode.Run))))
+    else (if bytes_eq text (codes "replay") then mode.Replay else (if bytes_eq text (codes "audit") then mode.Audit
+    else (if bytes_eq text (codes "watch") then mode.Watch else (if bytes_eq text (codes "stages") then mode.Stages else mode.Run)))))
 
 -- the set that the option's word names
 abbrev pub set_in : Option Text → SetKind
@@ -43,6 +44,7 @@ settings_in rows = record {
   mode = mode_in (first_of (codes "mode") rows);
   posters = number_in 1 8 1 (one_of (codes "posters") rows);
   takers = number_in 0 7 0 (one_of (codes "takers") rows);
+  stages = number_in 1 6 2 (one_of (codes "stages") rows);
   rows = number_in 8 65535 65535 (one_of (codes "rows") rows);
   set = set_in (first_of (codes "set") rows);
   buckets = number_in 1 256 16 (one_of (codes "buckets") rows);
@@ -56,6 +58,8 @@ pub record AreInRange (s : Settings) : Type 0 where
   pub some_posters : 1 ≤ s.posters
   pub few_posters : s.posters ≤ 8
   pub few_takers : s.takers ≤ 7
+  pub some_stages : 1 ≤ s.stages
+  pub few_stages : s.stages ≤ 6
   pub some_rows : 8 ≤ s.rows
   pub few_rows : s.rows ≤ 65535
   pub some_buckets : 1 ≤ s.buckets

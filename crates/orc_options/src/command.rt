@@ -8,11 +8,11 @@ use clap::builder::ValueParser;
 use clap::{Arg, Command};
 use std::alloc::{AllocError, Global};
 
-static MODES: [&str; 6] = ["run", "make", "trial", "replay", "audit", "watch"];
+static MODES: [&str; 7] = ["run", "make", "trial", "replay", "audit", "watch", "stages"];
 
 // The words of the modes.
 fn mode_words<'a>() -> &'a [&'a str]
-    ensures { map (λ n. n.now) result.now ≡ codes "run" ∷ codes "make" ∷ codes "trial" ∷ codes "replay" ∷ codes "audit" ∷ codes "watch" ∷ [] }
+    ensures { map (λ n. n.now) result.now ≡ codes "run" ∷ codes "make" ∷ codes "trial" ∷ codes "replay" ∷ codes "audit" ∷ codes "watch" ∷ codes "stages" ∷ [] }
 {
     MODES.as_slice()
 }
@@ -67,6 +67,7 @@ pub(crate) fn command<'a>(alloc: Global) -> Result<Command<'a>, AllocError>
     let command = command.arg(choice_option(alloc, "set", "list", set_words()))?;
     let command = command.arg(number_option(alloc, "posters", "1", 1, 8))?;
     let command = command.arg(number_option(alloc, "takers", "0", 0, 7))?;
+    let command = command.arg(number_option(alloc, "stages", "2", 1, 6))?;
     let command = command.arg(number_option(alloc, "rows", "65535", 8, 65535))?;
     let command = command.arg(number_option(alloc, "buckets", "16", 1, 256))?;
     let command = command.arg(number_option(alloc, "seed", "1", 1, 4294967295))?;

@@ -27,6 +27,8 @@ pub enum Mode {
     Audit,
     /// Run a watch file over a cell of two parts, and write what came of each line.
     Watch,
+    /// Send the jobs of a job file through a pipeline of queues, and write what came of each at each stage.
+    Stages,
 }
 
 /// Which set a run has.
@@ -47,6 +49,8 @@ pub struct Settings {
     pub posters: u32,
     /// `--takers`, 0 to 7: how many takers; 0, where it isn't given.
     pub takers: u32,
+    /// `--stages`, 1 to 6: how many stages a pipeline has; 2, where it isn't given.
+    pub stages: u32,
     /// `--rows`, 8 to 65,535: how many rows each container has; 65,535, where it isn't given.
     pub rows: u32,
     /// `--set`: which set a run has; lists, where it isn't given.
@@ -97,6 +101,7 @@ fn mode_of(word: Option<&str>) -> Mode
         Some("replay") => Mode::Replay,
         Some("audit") => Mode::Audit,
         Some("watch") => Mode::Watch,
+        Some("stages") => Mode::Stages,
         _ => Mode::Run,
     }
 }
@@ -161,6 +166,7 @@ fn settings_in(matches: &ArgMatches<'_>) -> Settings
         mode: mode_of(matches.get_str("mode")),
         posters: number_of(matches, "posters", 1, 8, 1),
         takers: number_of(matches, "takers", 0, 7, 0),
+        stages: number_of(matches, "stages", 1, 6, 2),
         rows: number_of(matches, "rows", 8, 65535, 65535),
         set: set_of(matches.get_str("set")),
         buckets: number_of(matches, "buckets", 1, 256, 16),

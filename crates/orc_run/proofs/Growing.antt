@@ -21,7 +21,7 @@ pub record Silent {A E : Type 0} (history : List A → List E) (j k : List A) : 
   pub same : history k ≡ history j
 
 -- there a worker does nothing
-did_nothing : {A E W : Type 0} (kind : Kind E) (x : View A E W) (worker : ℕ) (j k : List A) → Silent x.history j k → Did kind x worker nothing j k
+pub did_nothing : {A E W : Type 0} (kind : Kind E) (x : View A E W) (worker : ℕ) (j k : List A) → Silent x.history j k → Did kind x worker nothing j k
 did_nothing kind x worker j k silent = Did-just kind x worker [] j k record {
   later = silent.later;
   part = [];

@@ -1,6 +1,6 @@
-mod Actual
-mod DeskPasses
-mod Growing
+pub mod Actual
+pub mod DeskPasses
+pub mod Growing
 mod Quiet
 mod Reusing
 mod SameSizes

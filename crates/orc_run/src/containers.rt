@@ -40,8 +40,12 @@ fn shape_of(rows: u32, roots: u32, agents: u32) -> Shape
     shape
 }
 
-// Makes an empty queue of so many rows whose first job gets position 0, and a pass for each agent, in order.
-pub(crate) fn make_queue(
+/// Makes an empty queue of 2 to 65,535 rows whose first job gets position 0, and a pass for each of 1 to 16 agents, in order.
+///
+/// # Errors
+///
+/// `NoMemory` where memory is refused.
+pub fn make_queue(
     alloc: Global,
     rows: u32,
     agents: u32,

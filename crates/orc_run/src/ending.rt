@@ -28,11 +28,8 @@ pub(crate) struct Ends<B> {
     pub(crate) set: Vec<B>,
 }
 
-// Lets all passes of a domain drain, and ends the sharing. What was seen goes on without an event.
-pub(crate) fn bring_to_rest<D: Discipline>(
-    domain: OrcDomain<D>,
-    mut passes: Vec<OrcPass<D>>,
-) -> OrcRest<D>
+/// Lets all passes of a domain drain, and ends the sharing. What was seen goes on without an event. It takes no memory.
+pub fn bring_to_rest<D: Discipline>(domain: OrcDomain<D>, mut passes: Vec<OrcPass<D>>) -> OrcRest<D>
     requires all { AreAll domain passes.items }
     requires idle { AreIdle domain passes.items }
     ensures domain { rest_domain result ≡ domain }

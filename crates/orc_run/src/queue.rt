@@ -19,21 +19,21 @@ use orc_reclaiming_domain::{OrcDomain, OrcPass};
 use orc_sound::Step;
 
 /// Michael and Scott's queue over a reclaiming domain.
-pub(crate) type OrcQueue = Queue<OrcDomain<Fifo>>;
+pub type OrcQueue = Queue<OrcDomain<Fifo>>;
 
 /// An agent's pass to it.
-pub(crate) type QueuePass = OrcPass<Fifo>;
+pub type QueuePass = OrcPass<Fifo>;
 
 /// A queue of a run. All its calls are those of the queue over the reclaiming domain; this type has no parameters, which
 /// keeps the proofs of what runs on threads small.
 #[derive(Drop)]
-pub(crate) struct RunQueue {
+pub struct RunQueue {
     pub(crate) queue: OrcQueue,
 }
 
 impl RunQueue {
-    // Gives the queue up for its domain.
-    pub(crate) fn into_links(self) -> OrcDomain<Fifo>
+    /// Gives the queue up for its domain.
+    pub fn into_links(self) -> OrcDomain<Fifo>
         ensures { result ≡ self.queue.links }
     {
         let RunQueue { queue } = self;

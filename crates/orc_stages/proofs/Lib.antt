@@ -16,3 +16,4 @@ pub mod Crew
 pub mod CameBack
 pub mod Over
 pub mod Ahead
+pub mod Taken

@@ -41,6 +41,16 @@ StandAhead (p ∷ ps) [] es = ⊥
 StandAhead (p ∷ ps) (d ∷ ds) [] = ⊥
 StandAhead (p ∷ ps) (d ∷ ds) (e ∷ es) = (e.passes.items ≡ p ∷ d.passes.items) × StandAhead ps ds es
 
+-- a desk with a pass
+abbrev pub HasPass : {P : Type 0} → StageDesk P → Type 0
+HasPass desk = 0 < length desk.passes.items
+
+-- the first pass of each desk was put behind those that were there, in the order of the desks
+pub record TookFirst {P : Type 0} (before : List P) (old : List (StageDesk P)) (after : List P) (new : List (StageDesk P)) : Type 0 where
+  pub taken : List P
+  pub is : after ≡ before ++ taken
+  pub ahead : StandAhead taken new old
+
 -- one desk per agent with an idle pass of each queue, in order from this one
 abbrev pub AreIdle : {Q P A : Type 0} → QueueOf Q P A → List Q → ℕ → List (StageDesk P) → Type 0
 AreIdle q queues agent [] = Unit {0}

@@ -13,14 +13,12 @@ mod run;
 mod seating;
 mod stage;
 mod team;
-#[cfg(test)]
-mod tests;
 
 pub use caller::{move_all, take_outs};
 pub use laws::{all_come_out, runs_are_pipelines};
 pub use learning::learn_all;
 pub use poster::post_items;
-pub use queues::{add_queue, empty_desks};
+pub use queues::{add_queue, empty_desks, take_first};
 pub use replies::{OutList, StageDesk, StageList, StageReply};
 pub use run::{StagesDone, run_stages};
 pub use stage::{move_rest, run_stage, stage_value};

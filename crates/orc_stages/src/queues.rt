@@ -1,6 +1,7 @@
-//! Desks get the passes of one queue after another, the last queue first.
-ghost use Rattle.std.specs.Prelude.{◌≡◌, ◌<◌, ◌∷◌, ℕ, [], All, IfOk, List, length, slice_index_or};
-ghost use Rattle.orc_stages.specs.Run.{AreFresh, StandAhead};
+//! Desks get the passes of one queue after another, the last queue first, and give them up, the first queue first.
+ghost use Rattle.std.specs.Prelude.{◌≡◌, ◌<◌, ◌≤◌, ◌+◌, ◌∷◌, ℕ, [], All, IfOk, List, length, slice_index_or, vec_capacity, vec_len};
+ghost use Rattle.std.specs.List.{AllByRecursion};
+ghost use Rattle.orc_stages.specs.Run.{AreFresh, HasPass, StandAhead, TookFirst};
 
 use crate::StageDesk;
 use orc_fault::NoMemory;
@@ -63,4 +64,20 @@ fn put_ahead<P: Drop>(desks: &mut [StageDesk<P>], mut passes: Vec<P>) -> Result<
     let pass = passes.remove(0);
     desk.passes.insert(0, pass)?;
     put_ahead(rest, passes)
+}
+
+/// Takes the first pass of each desk, in their order, and puts it behind those that are there. It takes no memory.
+pub fn take_first<P: Drop>(desks: &mut [StageDesk<P>], passes: &mut Vec<P>)
+    requires some { AllByRecursion HasPass desks.old }
+    requires room { vec_len passes.old + length desks.old ≤ vec_capacity passes.old }
+    ensures taken { TookFirst passes.old.items desks.old passes.new.items desks.new }
+{
+    let Some((desk, rest)) = desks.split_first_mut() else {
+        return;
+    };
+    let pass = desk.passes.remove(0);
+    let Ok(()) = passes.push(pass) else {
+        unreachable!()
+    };
+    take_first(rest, passes);
 }

@@ -19,6 +19,7 @@ const DEFAULTS: Settings = Settings {
     mode: Mode::Run,
     posters: 1,
     takers: 0,
+    stages: 2,
     rows: 65535,
     set: SetKind::List,
     buckets: 16,
@@ -29,7 +30,15 @@ const DEFAULTS: Settings = Settings {
 
 #[test]
 fn words_give_settings(rt: HostRuntime) -> Result<(), Fail> {
-    let given: [(&[&str], Settings); 16] = [
+    let given: [(&[&str], Settings); 17] = [
+        (
+            &["--mode=stages", "--stages=6"],
+            Settings {
+                mode: Mode::Stages,
+                stages: 6,
+                ..DEFAULTS
+            },
+        ),
         (
             &["--mode=make", "--seed=4294967295", "--lines", "60000"],
             Settings {
@@ -140,6 +149,8 @@ fn words_are_refused(rt: HostRuntime) -> Result<(), Fail> {
         "--posters=",
         "--takers=8",
         "--takers=-1",
+        "--stages=0",
+        "--stages=7",
         "--rows=7",
         "--rows=65536",
         "--rows=4294967304",

@@ -19,12 +19,13 @@ returns c =
     let a6 = c.in_ok-command-6.ensures.shape c.number_option-3.ensures.local ∙ ap₂ with_rule a5 c.number_option-3.ensures.rule in
     let a7 = c.in_ok-command-7.ensures.shape c.number_option-4.ensures.local ∙ ap₂ with_rule a6 c.number_option-4.ensures.rule in
     let a8 = c.in_ok-command-8.ensures.shape c.number_option-5.ensures.local ∙ ap₂ with_rule a7 c.number_option-5.ensures.rule in
-    IfOk-weaker c.arg-9.result _ _ (λ d h. record {
+    let a9 = c.in_ok-command-9.ensures.shape c.number_option-6.ensures.local ∙ ap₂ with_rule a8 c.number_option-6.ensures.rule in
+    IfOk-weaker c.arg-10.result _ _ (λ d h. record {
       modes = modes;
       answers = c.answer_words.result;
       sets = c.set_words.result;
       mode_words = c.mode_words.ensures;
       answer_words = c.answer_words.ensures;
       set_words = c.set_words.ensures;
-      app = h.shape c.number_option-6.ensures.local ∙ ap₂ with_rule a8 c.number_option-6.ensures.rule;
-    }) c.arg-9.ensures
+      app = h.shape c.number_option-7.ensures.local ∙ ap₂ with_rule a9 c.number_option-7.ensures.rule;
+    }) c.arg-10.ensures

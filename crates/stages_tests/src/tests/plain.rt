@@ -1,28 +1,17 @@
 //! Rows of a pipeline over plain queues, one agent after another on this thread.
-ghost use Rattle.std.specs.Prelude.{◌≤◌, IfOk, length};
 ghost use Rattle.orc_jobs.specs.GoodLines.{AreGood};
 
-use crate::{OutList, StageList, StageReply, move_rest, post_items, run_stage, take_outs};
+use super::{lines_of, moved, posted};
 use orc_board::{OpenGate, PostList, PostReply, PostWord};
 use orc_fault::NoMemory;
 use orc_history::PlainQueue;
-use orc_jobs::{Lines, read_jobs};
+use orc_jobs::Lines;
+use orc_stages::{OutList, StageList, move_rest, post_items, run_stage, take_outs};
 use orc_workers::count_jobs;
 use std::alloc::Global;
 use std::sync::Wait;
 use std::sync::atomic::AtomicU64;
 use std::test::Fail;
-
-// The lines of a job file.
-fn lines_of(alloc: Global, bytes: &[u8]) -> Result<Lines, NoMemory>
-    requires { length bytes.now ≤ 16777216 }
-    ensures { IfOk result AreGood }
-{
-    match read_jobs(alloc, bytes) {
-        Ok(lines) => Ok(lines),
-        Err(_) => Err(NoMemory),
-    }
-}
 
 // What came of a run of two stages.
 #[derive(Drop)]
@@ -83,18 +72,6 @@ fn two_stages<R: Wait>(
         second,
         outs,
     })
-}
-
-fn posted(line: u32, at: u64) -> PostReply {
-    PostReply {
-        poster: 1,
-        line,
-        what: PostWord::Posted(at),
-    }
-}
-
-fn moved(stage: u32, line: u32, value: Option<u64>) -> StageReply {
-    StageReply { stage, line, value }
 }
 
 #[test]

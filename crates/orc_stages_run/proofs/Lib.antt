@@ -1,0 +1,3 @@
+mod Ends
+mod GoingOn
+mod Left

@@ -1,0 +1,62 @@
+//! The passes of a pipeline are taken from their desks, and the domains of its queues are brought to rest.
+
+ghost use Rattle.std.specs.Prelude.{◌≡◌, ◌≤◌, ℕ, [], List, IfOk, length, vec_capacity};
+ghost use Rattle.std.specs.List.{AllByRecursion};
+ghost use Rattle.orc_fifo_rule.specs.declared.fifo.FifoNote.{FifoNote};
+ghost use Rattle.orc_sound.specs.declared.steps.Step.{Step};
+ghost use Rattle.orc_stages.specs.Run.{AreIdle, HaveSeen};
+ghost use Rattle.orc_stages_run.specs.Queues.{IsFor, LeavesMore};
+
+use orc_board::ReplyList;
+use orc_fault::NoMemory;
+use orc_fifo_rule::Fifo;
+use orc_history::SharedQueue;
+use orc_reclaiming_domain::OrcRest;
+use orc_run::{QueuePass, RunQueue, bring_to_rest};
+use orc_stages::{StageDesk, take_first};
+use std::alloc::Global;
+
+/// The domains of queues at rest, each with the journal of all that happened on it, in the order of the queues.
+pub type RestList = ReplyList<OrcRest<Fifo>>;
+
+// Room for the passes of so many agents to each of so many queues.
+pub(crate) fn room_for_passes(
+    alloc: Global,
+    queues: usize,
+    agents: usize,
+) -> Result<Vec<Vec<QueuePass>>, NoMemory>
+    ensures rooms { IfOk result (λ rooms. AllByRecursion (λ room. (room.items ≡ []) × (agents ≤ vec_capacity room)) rooms.items) }
+    ensures all { IfOk result (λ rooms. length rooms.items ≡ queues) }
+{
+    let mut rooms = Vec::with_capacity(alloc, queues)?;
+    for _queue in 0..queues {
+        rooms.push(Vec::with_capacity(alloc, agents)?)?;
+    }
+    Ok(rooms)
+}
+
+// Takes the passes of one queue after another from the desks, brings its domain to rest, and puts what is left behind those that are
+// there. It takes no memory.
+pub(crate) fn end_queues(
+    mut queues: Vec<RunQueue>,
+    desks: &mut [StageDesk<QueuePass>],
+    mut rooms: Vec<Vec<QueuePass>>,
+    rests: &mut RestList,
+)
+    requires idle { AreIdle ⟦<RunQueue as SharedQueue>⟧ queues.items 0 desks.old }
+    requires agents { AllByRecursion (IsFor (length desks.old)) queues.items }
+    requires rooms { AllByRecursion (λ room. (room.items ≡ []) × (length desks.old ≤ vec_capacity room)) rooms.items }
+    requires all { length rooms.items ≡ length queues.items }
+    requires room { length queues.items ≤ rests.old.spare }
+    ensures left { (k : ℕ → List (Step FifoNote)) → HaveSeen ⟦<RunQueue as SharedQueue>⟧ k desks.old
+        → LeavesMore queues.items k rests.old.items rests.new.items }
+{
+    if queues.is_empty() {
+        return;
+    }
+    let queue = queues.remove(0);
+    let mut passes = rooms.remove(0);
+    take_first(desks, &mut passes);
+    rests.push(bring_to_rest(queue.into_links(), passes));
+    end_queues(queues, desks, rooms, rests);
+}

@@ -1,0 +1,112 @@
+//! The text of a run of the pipeline.
+ghost use Rattle.std.specs.Prelude.{◌≡◌, ◌≤◌, ◌++◌, ◌^◌, IfOk, OnOk, length};
+ghost use Rattle.std.specs.List.{flat_map};
+ghost use Rattle.std.specs.String.{string_bytes};
+ghost use Rattle.orc_stages_text.specs.StagesText.{move_line, out_line, out_lines, post_line, text_of};
+
+use orc_board::{PostReply, PostWord};
+use orc_fault::NoMemory;
+use orc_jobs::Text;
+use orc_stages::{StageReply, StagesDone};
+use std::alloc::{AllocError, Global};
+
+/// The replies of posters in their order, then those of stages in theirs, then the jobs that came out, numbered from 0.
+///
+/// # Errors
+///
+/// `NoMemory` where memory is refused.
+pub fn stages_text(alloc: Global, done: &StagesDone) -> Result<Text, NoMemory>
+    ensures { IfOk result (λ t. t ≡ text_of done.now.posts.items done.now.moves.items done.now.outs.items) }
+{
+    let text = write_text(
+        alloc,
+        done.posts.items(),
+        done.moves.items(),
+        done.outs.items(),
+    )?;
+    Ok(Text::from_string(text))
+}
+
+// The same as a string.
+fn write_text(
+    alloc: Global,
+    posts: &[PostReply],
+    moves: &[StageReply],
+    outs: &[u64],
+) -> Result<String, AllocError>
+    ensures { IfOk result (λ t. string_bytes t ≡ text_of posts.now moves.now outs.now) }
+{
+    let mut text = String::from_str(alloc, "stages\n")?;
+    push_posts(&mut text, posts)?;
+    push_moves(&mut text, moves)?;
+    push_outs(&mut text, outs)?;
+    Ok(text)
+}
+
+// The lines of the posters' replies.
+fn push_posts(text: &mut String, posts: &[PostReply]) -> Result<(), AllocError>
+    ensures { OnOk result (string_bytes text.new ≡ string_bytes text.old ++ flat_map post_line posts.now) }
+{
+    for reply in posts {
+        push_post(text, reply)?;
+    }
+    Ok(())
+}
+
+// The lines of the stages' replies.
+fn push_moves(text: &mut String, moves: &[StageReply]) -> Result<(), AllocError>
+    ensures { OnOk result (string_bytes text.new ≡ string_bytes text.old ++ flat_map move_line moves.now) }
+{
+    for reply in moves {
+        push_move(text, reply)?;
+    }
+    Ok(())
+}
+
+// The lines of the jobs that came out.
+fn push_outs(text: &mut String, outs: &[u64]) -> Result<(), AllocError>
+    ensures { OnOk result (string_bytes text.new ≡ string_bytes text.old ++ out_lines 0 outs.now) }
+{
+    for (at, line) in outs.iter().enumerate() {
+        push_out(text, at, *line)?;
+    }
+    Ok(())
+}
+
+// One poster's reply.
+fn push_post(text: &mut String, reply: &PostReply) -> Result<(), AllocError>
+    ensures { OnOk result (string_bytes text.new ≡ string_bytes text.old ++ post_line reply.now) }
+{
+    let poster = reply.poster;
+    let line = reply.line;
+    match reply.what {
+        PostWord::Posted(at) => writeln!(text, "poster {poster} line {line} put {at}"),
+        PostWord::Rushed(at) => writeln!(text, "poster {poster} line {line} rushed {at}"),
+        PostWord::Busy => writeln!(text, "poster {poster} line {line} busy"),
+        PostWord::NoNode => writeln!(text, "poster {poster} line {line} nonode"),
+        PostWord::Positions => writeln!(text, "poster {poster} line {line} positions"),
+        PostWord::Spent => writeln!(text, "poster {poster} line {line} spent"),
+        PostWord::Dropped => writeln!(text, "poster {poster} line {line} dropped"),
+        PostWord::Unknown => writeln!(text, "poster {poster} line {line} unknown"),
+        PostWord::Skipped => writeln!(text, "poster {poster} line {line} skipped"),
+    }
+}
+
+// One stage's reply.
+fn push_move(text: &mut String, reply: &StageReply) -> Result<(), AllocError>
+    ensures { OnOk result (string_bytes text.new ≡ string_bytes text.old ++ move_line reply.now) }
+{
+    let stage = reply.stage;
+    let line = reply.line;
+    match reply.value {
+        Some(value) => writeln!(text, "stage {stage} line {line} value {value}"),
+        None => writeln!(text, "stage {stage} line {line} nonode"),
+    }
+}
+
+// One job that came out, with its number among them.
+fn push_out(text: &mut String, at: usize, line: u64) -> Result<(), AllocError>
+    ensures { OnOk result (string_bytes text.new ≡ string_bytes text.old ++ out_line at line) }
+{
+    writeln!(text, "out {at} line {line}")
+}
