@@ -178,7 +178,8 @@ module _ (n : HeapNumbers) (root key : ℕ) (left first right : Option Hold) (no
       let still = shows_on (list_ordering n) t l.mid (aim ∷ []) l.aims all_mid s a.own (a.own ++ aim ∷ []) a.puts p place from a.some
       (left_place_linked (list_ordering n) t place key a.leads.below) a.leads.still in
       let moved = missed n s l.mid u (a.own ++ aim ∷ []) (a.own ++ ys) place from p (omega (arith, length-append a.own (aim ∷ []))) still
-      (left_place_linked (list_ordering n) l.mid place key (below_puts (list_ordering n) t l.mid (aim ∷ []) l.aims all_mid place key a.leads.below)) miss all_u made.puts in
+      (left_place_linked (list_ordering n) l.mid place key (below_puts (list_ordering n) t l.mid (aim ∷ []) l.aims all_mid place key a.leads.below)) miss
+      all_u made.puts in
       let no_move : moves_in (a.own ++ ys) ≡ 0 = omega (arith, moves_in-append a.own ys, a.no_move) in
       record {
         own = a.own ++ ys;
@@ -271,7 +272,8 @@ module _ (n : HeapNumbers) (root key : ℕ) (left first right : Option Hold) (s 
         first_id = f.first_id;
         right_id = f.right_id;
         hands = subst (λ (z : Slots). Hands (slice_set s.slots 1 x) z hs) (sym g.slots) (hands_rebase s.slots t.slots hs 1 x f.hands f.apart one.empty);
-        leads = leads_puts (list_ordering n) t u ys g.puts all (Root root) key left first f.left_id f.first_id (node_of right f.right_id) s f.own q.puts w q.some f.behind.leads;
+        leads = leads_puts (list_ordering n) t u ys g.puts all (Root root) key left first f.left_id f.first_id (node_of right f.right_id) s f.own q.puts w
+            q.some f.behind.leads;
         above = above_puts (list_ordering n) t u ys g.puts all (node_of right f.right_id) key f.above;
         ends = ends_left f.own ys (node_of right f.right_id) f.ends;
         id = g.id;
@@ -284,7 +286,8 @@ module _ (n : HeapNumbers) (root key : ℕ) (left first right : Option Hold) (s 
         };
       }
 
-  pub given_id : (is : root ≡ key % n.roots) (node : Hold) (g : Gives n 1 key 0 t node u) (all : AllAllowed (ChainMay n) [] u.seen) → (given_adds is node g all).id ≡ g.id
+  pub given_id : (is : root ≡ key % n.roots) (node : Hold) (g : Gives n 1 key 0 t node u) (all : AllAllowed (ChainMay n) [] u.seen)
+      → (given_adds is node g all).id ≡ g.id
   unfolding given_adds
   given_id is node g all = refl
 
@@ -296,7 +299,13 @@ module _ (n : HeapNumbers) (root key : ℕ) (left first right : Option Hold) (s 
       let q = f.behind.quiet in
       let l = f.behind.leads in
       let place = left_place (key % n.roots) left f.left_id in
-      let m : Made 0 1 s f.own [] t = record { puts = q.puts; entries_are = q.no_entries; gives = q.no_give; few = λ ids c. omega (arith, absent_few (list_reading n) (Root root) key 0 left first right s t f ids c) } in (
+      let m : Made 0 1 s f.own [] t = record {
+        puts = q.puts;
+        entries_are = q.no_entries;
+        gives = q.no_give;
+        few = λ ids c. omega
+            (arith, absent_few (list_reading n) (Root root) key 0 left first right s t f ids c);
+      } in (
         f.own,
         record {
           given = 0;
@@ -313,13 +322,15 @@ module _ (n : HeapNumbers) (root key : ℕ) (left first right : Option Hold) (s 
           over = l.over;
           to = node_of right f.right_id;
           sees_run = l.sees_run;
-          above = above_puts (list_ordering n) u y [] g.puts all_y (node_of right f.right_id) key (above_puts (list_ordering n) t u [] only.puts all_u (node_of right f.right_id) key
+          above = above_puts (list_ordering n) u y [] g.puts all_y (node_of right f.right_id) key
+              (above_puts (list_ordering n) t u [] only.puts all_u (node_of right f.right_id) key
               f.above);
         },
       )
 
   pub absent_hand_on : Only [] t u → AllAllowed (ChainMay n) [] u.seen → InHand n s.slots left first right None u
-  absent_hand_on only all = in_hand_on (list_ordering n) s.slots left first right None t u [] only.puts all only.slots (absent_hand (list_ordering n) (Root root) key 0 left first s t right f)
+  absent_hand_on only all = in_hand_on (list_ordering n) s.slots left first right None t u [] only.puts all only.slots
+      (absent_hand (list_ordering n) (Root root) key 0 left first s t right f)
 
 -- what the turn comes to
 

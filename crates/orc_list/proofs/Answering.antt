@@ -34,6 +34,7 @@ use Rattle.orc_list.proofs.Making.{made_after, made_on, missed, over_on}
 use Rattle.orc_ordered_search.proofs.Quiets.{left_place_linked}
 use Rattle.orc_ordered_search.proofs.Seen.{absent_few, loads-append, present_few}
 use Rattle.orc_list.proofs.Ordered.{list_ordering}
+use Rattle.orc_ordered_search.specs.Ways.{IsFew}
 
 -- by what is in hand: the left place and the link that it showed
 
@@ -136,12 +137,15 @@ pub absent_entered : (n : HeapNumbers) (root key : ℕ) (left first right : Opti
     → AllGone s.slots u y → AllAllowed (ChainMay n) [] u.seen → Enters entry s done y
 absent_entered n root key left first right entry at want done s t u y f place_is link_is tests g all_u = by done refl
   where
+    few : IsFew 2 f.own
+    few = absent_few (list_reading n) (Root root) key 0 left first right s t f
+
     by : (b : Bool) → done ≡ b → Enters entry s b y
     by true is =
         let p = Tests-found tests is in
         record {
           own = _;
-          made = made_on 0 1 s u y _ (entry ∷ []) (made_after n 0 s t u f.own _ (entry ∷ []) f.behind.quiet (absent_few (list_reading n) (Root root) key 0 left first right s t f) p refl refl (omega arith)) g.puts;
+          made = made_on 0 1 s u y _ (entry ∷ []) (made_after n 0 s t u f.own _ (entry ∷ []) f.behind.quiet few p refl refl (omega arith)) g.puts;
           slots = g.slots_are;
           fresh = g.fresh ∙ (tests.fresh ∙ f.behind.quiet.fresh);
         }
@@ -151,8 +155,9 @@ absent_entered n root key left first right entry at want done s t u y f place_is
         let place = left_place (key % n.roots) left f.left_id in
         let here : Misses place l.from t u = subst (λ (q : Place). Misses q l.from t u) place_is
         (subst (λ (l : Link). Misses (place_in t.slots at) l t u) link_is miss) in
-        let m = made_after n 0 s t u f.own _ [] f.behind.quiet (absent_few (list_reading n) (Root root) key 0 left first right s t f) here.puts refl refl (omega arith) in
-        let moved = missed n s t u f.own _ place l.from f.behind.quiet.puts f.behind.quiet.some l.still (left_place_linked (list_ordering n) t place key l.below) here
+        let m = made_after n 0 s t u f.own _ [] f.behind.quiet few here.puts refl refl (omega arith) in
+        let moved = missed n s t u f.own _ place l.from f.behind.quiet.puts f.behind.quiet.some l.still
+        (left_place_linked (list_ordering n) t place key l.below) here
         all_u m.puts in
         let still : moves_in (f.own ++ event_of t (Miss place l.from here.found) None ∷ []) ≡ 0 = omega
         (arith, moves_in-append f.own (event_of t (Miss place l.from here.found) None ∷ []), f.behind.quiet.no_move) in
@@ -213,12 +218,15 @@ pub present_entered : (n : HeapNumbers) (root key : ℕ) (left first : Option Ho
     → AllGone s.slots u y → AllAllowed (ChainMay n) [] u.seen → Enters entry s done y
 present_entered n root key left first node next entry at want done s t u y f place_is link_is tests g all_u = by done refl
   where
+    few : IsFew 2 f.own
+    few = present_few (list_reading n) (Root root) key 0 left first node next s t f
+
     by : (b : Bool) → done ≡ b → Enters entry s b y
     by true is =
         let p = Tests-found tests is in
         record {
           own = _;
-          made = made_on 0 1 s u y _ (entry ∷ []) (made_after n 0 s t u f.own _ (entry ∷ []) f.behind.quiet (present_few (list_reading n) (Root root) key 0 left first node next s t f) p refl refl (omega arith)) g.puts;
+          made = made_on 0 1 s u y _ (entry ∷ []) (made_after n 0 s t u f.own _ (entry ∷ []) f.behind.quiet few p refl refl (omega arith)) g.puts;
           slots = g.slots_are;
           fresh = g.fresh ∙ (tests.fresh ∙ f.behind.quiet.fresh);
         }
@@ -227,7 +235,7 @@ present_entered n root key left first node next entry at want done s t u y f pla
         let from : Link = link_over (node_of next f.next_id) in
         let here : Misses (Next f.id) from t u = subst (λ (q : Place). Misses q from t u) place_is
         (subst (λ (l : Link). Misses (place_in t.slots at) l t u) link_is miss) in
-        let m = made_after n 0 s t u f.own _ [] f.behind.quiet (present_few (list_reading n) (Root root) key 0 left first node next s t f) here.puts refl refl (omega arith) in
+        let m = made_after n 0 s t u f.own _ [] f.behind.quiet few here.puts refl refl (omega arith) in
         let moved = missed n s t u f.own _ (Next f.id) from f.behind.quiet.puts f.behind.quiet.some f.still
         (key_linked (heap_of n t) f.id key f.is_of.has_key) here all_u m.puts in
         let still : moves_in (f.own ++ event_of t (Miss (Next f.id) from here.found) None ∷ []) ≡ 0 = omega

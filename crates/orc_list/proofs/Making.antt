@@ -31,7 +31,8 @@ pub entries_of-append : (es fs : List (Event ChainNote)) → entries_of (es ++ f
 entries_of-append es fs = noted-append entries_in es fs
 
 -- what a search did, and more
-pub made_after : (n : HeapNumbers) (given : ℕ) (s t u : Seat ChainNote) (own ys : List (Event ChainNote)) (es : List SetEntry) → Quiet (list_reading n) s own t → IsFew 2 own → Puts t ys u
+pub made_after : (n : HeapNumbers) (given : ℕ) (s t u : Seat ChainNote) (own ys : List (Event ChainNote)) (es : List SetEntry)
+    → Quiet (list_reading n) s own t → IsFew 2 own → Puts t ys u
     → entries_of ys ≡ es → gives_in ys ≡ given → length ys ≤ 2 + 3 * given
     → Made given 1 s (own ++ ys) es u
 made_after n given s t u own ys es q few p entries gives short = record {

@@ -110,7 +110,8 @@ alone_exact s t y own ys q p w some alone =
     )
 
 -- a search alone, that let all go
-pub quiet_stops : (n : HeapNumbers) (key : ℕ) (s t y : Seat ChainNote) (own : List (Event ChainNote)) → Quiet (list_reading n) s own t → Puts t [] y → y.slots ≡ s.slots → y.fresh ≡ t.fresh
+pub quiet_stops : (n : HeapNumbers) (key : ℕ) (s t y : Seat ChainNote) (own : List (Event ChainNote)) → Quiet (list_reading n) s own t → Puts t [] y
+    → y.slots ≡ s.slots → y.fresh ≡ t.fresh
     → MarkStops key s false y
 quiet_stops n key s t y own q p slots fresh = record {
   own = own;
@@ -130,7 +131,8 @@ left_place_on n t (Side id) key f = f
 left_place_on n t (Next id) key (low, own, less, same) = key_linked (heap_of n t) id low own
 
 left_apart : (n : HeapNumbers) (t : Seat ChainNote) (root key id : ℕ) (left : Option Hold) (left_id : ℕ)
-    → FollowsOn n.roots (heap_of n t) (left_place (key % n.roots) left left_id) key → HasKey (heap_of n t) id key → left_place (key % n.roots) left left_id ≢ Next id
+    → FollowsOn n.roots (heap_of n t) (left_place (key % n.roots) left left_id) key → HasKey (heap_of n t) id key → left_place (key % n.roots) left left_id
+    ≢ Next id
 left_apart n t root key id None left_id f own = λ e. cc
 left_apart n t root key id (Some h) left_id (low, mine, less, same) own = λ e.
     let is : left_id ≡ id = cc in
@@ -188,7 +190,8 @@ module _ (n : HeapNumbers) (root key : ℕ) (left first : Option Hold) (node : H
 
   pub marked_hand : (done : Bool) (u : Seat ChainNote) → Marks key f.id (node_of next f.next_id) t done u → AllAllowed (ChainMay n) [] u.seen
       → InHand n s.slots left first (Some node) next u
-  marked_hand true u m all = in_hand_on (list_ordering n) s.slots left first (Some node) next t u _ m.puts all m.slots (present_hand (list_ordering n) (Root root) key 0 left first s t node next f)
+  marked_hand true u m all = in_hand_on (list_ordering n) s.slots left first (Some node) next t u _ m.puts all m.slots
+      (present_hand (list_ordering n) (Root root) key 0 left first s t node next f)
   marked_hand false u m all = in_hand_on (list_ordering n) s.slots left first (Some node) next t u _ m.puts.puts all m.slots
       (present_hand (list_ordering n) (Root root) key 0 left first s t node next f)
 

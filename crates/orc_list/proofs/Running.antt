@@ -53,11 +53,13 @@ goes_nothing s = record { slots = refl; fresh = refl; puts = record { part = [];
 
 -- past an unmarked node with a lower key: the left node is let go
 pub lower_released : (n : HeapNumbers) (root wanted : ℕ) (left at : Hold) (key : ℕ) (next : Option Hold) (s t u : Seat ChainNote)
-    → LooksOn n root wanted (Some left) None at key false next s t → key < wanted → Releases t left u → FreshIs (list_ordering n) t → FreshIs (list_ordering n) u
+    → LooksOn n root wanted (Some left) None at key false next s t → key < wanted → Releases t left u → FreshIs (list_ordering n) t
+    → FreshIs (list_ordering n) u
     → AllAllowed (ChainMay n) [] u.seen
     → Passed n root wanted (key + 1) (Some at) None next s u
 lower_released n root wanted left at key next s t u w less r fresh_t fresh_u all =
-    passed_lower (list_ordering n) (Root root) wanted (Some left) None at key false 0 next s t u u w less (release_goes left t u r) (goes_nothing u) fresh_t fresh_u all all
+    passed_lower (list_ordering n) (Root root) wanted (Some left) None at key false 0 next s t u u w less (release_goes left t u r) (goes_nothing u) fresh_t
+    fresh_u all all
 
 module _ (n : HeapNumbers) (root wanted : ℕ) (left at next : Hold) (key slot : ℕ) (looked : Looked) (s t u : Seat ChainNote) (room : HasRoom s.slots)
     (w : Walks n root wanted (Some left) None at key s t) (low : 2 ≤ slot) (high : slot < 6) (not_left : slot ≢ left.slot) (not_at : slot ≢ at.slot)

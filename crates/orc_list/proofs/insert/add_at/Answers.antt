@@ -57,7 +57,8 @@ returns-in-Some-clause-added g c = λ slots s room k f.
     let all = g.met.L.Links.allowed d a.p.now c.requires.pass in
     let node = c.in-Some.node in
     let some = subst (λ (o : Option Hold). KeepsNode n a.key o slots s) c.in-Some.is k in
-    let adds = absent_adds n a.root a.key a.spot.left a.spot.first a.spot.right node slots s t c.requires.root.1 some f (seen_holds (list_ordering n) s t f.own f.behind.quiet.puts all) all
+    let adds = absent_adds n a.root a.key a.spot.left a.spot.first a.spot.right node slots s t c.requires.root.1 some f
+    (seen_holds (list_ordering n) s t f.own f.behind.quiet.puts all) all
     in
     let done = c.add_node-turn.ensures.added 0 s.slots s adds in
     let there = adds_inserts n a.key node adds.id 0 s.slots slots (Some node) s u c.add_node-turn.result done
@@ -111,11 +112,13 @@ returns-in-Ok-clause-added g c = λ slots s room k f.
     let none = subst (λ (o : Option Hold). KeepsNode n a.key o slots s) c.in_default.is k in
     let one = subst (λ (z : Slots). IsFree z 1) (sym none.slots_are) room.one in
     let x : Option SlotNode = Some (record { row = node.row; id = e.given.id }) in
-    let adds = given_adds n a.root a.key a.spot.left a.spot.first a.spot.right s t u f one c.requires.root.1 node e.given (g.met.L.Links.allowed d c.give.new.p e.pass) in
+    let adds = given_adds n a.root a.key a.spot.left a.spot.first a.spot.right s t u f one c.requires.root.1 node e.given
+    (g.met.L.Links.allowed d c.give.new.p e.pass) in
     let done = c.add_node-turn-in-Ok.ensures.added 1 (slice_set s.slots 1 x) s adds in
     let base : slice_set s.slots 1 x ≡ slots_with slots (Some node) e.given.id = ap (λ (z : Slots). slice_set z 1 x) none.slots_are ∙ ap
     (λ (i : ℕ). slice_set slots i x) (sym e.given.slot_is) in
-    let same = given_id n a.root a.key a.spot.left a.spot.first a.spot.right s t u f one c.requires.root.1 node e.given (g.met.L.Links.allowed d c.give.new.p e.pass) in
+    let same = given_id n a.root a.key a.spot.left a.spot.first a.spot.right s t u f one c.requires.root.1 node e.given
+    (g.met.L.Links.allowed d c.give.new.p e.pass) in
     let there = adds_inserts n a.key node adds.id 1 (slice_set s.slots 1 x) slots None s y c.add_node-turn-in-Ok.result done
     (base ∙ ap (λ (i : ℕ). slots_with slots (Some node) i) (sym same)) e.given.slot_is refl in
     subst (λ (o : Option Hold). Inserts n a.key 1 slots o s c.add_node-turn-in-Ok.result (Some node) y) (sym c.in_default.is) there
@@ -134,7 +137,8 @@ returns-in-Ok-clause-lacking g c = λ is.
     let none = subst (λ (o : Option Hold). KeepsNode n a.key o slots s) c.in_default.is k in
     let one = subst (λ (z : Slots). IsFree z 1) (sym none.slots_are) room.one in
     let x : Option SlotNode = Some (record { row = node.row; id = e.given.id }) in
-    let adds = given_adds n a.root a.key a.spot.left a.spot.first a.spot.right s t u f one c.requires.root.1 node e.given (g.met.L.Links.allowed d c.give.new.p e.pass) in
+    let adds = given_adds n a.root a.key a.spot.left a.spot.first a.spot.right s t u f one c.requires.root.1 node e.given
+    (g.met.L.Links.allowed d c.give.new.p e.pass) in
     absurd (adds_given n a.key node adds.id 1 (slice_set s.slots 1 x) s y c.add_node-turn-in-Ok.result
     (c.add_node-turn-in-Ok.ensures.added 1 (slice_set s.slots 1 x) s adds) is)
 

@@ -74,7 +74,8 @@ swing-requires-clause-allowed g c =
     let only = subst (λ (i : ℕ). Only (event_of s (Aim i to) None ∷ []) s t) id_is aims in
     let place_is = c.place_of.ensures.place t.slots ∙ ap (λ (z : Slots). place_at z a.root a.left.now) only.slots in
     let from_is = c.link_of.ensures.link t.slots ∙ ap (λ (z : Slots). link_over (target_at z (first_or a.first.now a.right.now))) only.slots in
-    let apart : to ≢ Some id = λ is. above_not_fresh (list_ordering n) s to a.key c.requires.above (λ i h. g.met.L.Links.fresh_is d a.p.now i c.requires.pass h) id is
+    let apart : to ≢ Some id = λ is. above_not_fresh (list_ordering n) s to a.key c.requires.above
+    (λ i h. g.met.L.Links.fresh_is d a.p.now i c.requires.pass h) id is
     k.fresh in
     link_allowed n a.key c.agent-agent.result a.node.now id to s t (place_at s.slots a.root a.left.now) _
     (link_over (target_at s.slots (first_or a.first.now a.right.now))) _ c.requires.run.0 k only
@@ -97,7 +98,8 @@ returns-clause-linked g c = λ id k.
     let only = subst (λ (i : ℕ). Only (event_of s (Aim i to) None ∷ []) s t) id_is aims in
     let place_is = c.place_of.ensures.place t.slots ∙ ap (λ (z : Slots). place_at z a.root a.left.now) only.slots in
     let from_is = c.link_of.ensures.link t.slots ∙ ap (λ (z : Slots). link_over (target_at z (first_or a.first.now a.right.now))) only.slots in
-    let apart : to ≢ Some id = λ is. above_not_fresh (list_ordering n) s to a.key c.requires.above (λ i h. g.met.L.Links.fresh_is d a.p.now i c.requires.pass h) id is
+    let apart : to ≢ Some id = λ is. above_not_fresh (list_ordering n) s to a.key c.requires.above
+    (λ i h. g.met.L.Links.fresh_is d a.p.now i c.requires.pass h) id is
     k.fresh in
     links_to n a.key c.agent-agent.result a.node.now id to s t u (place_at s.slots a.root a.left.now)
     (link_over (target_at s.slots (first_or a.first.now a.right.now))) _ _ _ c.swing.result k only c.agent-agent.ensures place_is from_is refl

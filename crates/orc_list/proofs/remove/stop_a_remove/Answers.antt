@@ -32,7 +32,8 @@ returns-in-Absent-clause-stopped g c =
     let y = g.L.Links.seat d c.let_all_go.new.p in
     let spot = c.in-Absent.field-0 in
     let found = c.in-Absent.ensures.found in
-    let gone = c.let_all_go.ensures.gone s.slots (absent_hand (list_ordering (g.L.Links.numbers d)) (Root c.args.root) c.args.key 0 spot.left spot.first s t spot.right found) in
+    let gone = c.let_all_go.ensures.gone s.slots (absent_hand (list_ordering (g.L.Links.numbers d)) (Root c.args.root) c.args.key 0 spot.left spot.first s t
+    spot.right found) in
     quiet_stops (g.L.Links.numbers d) c.args.key s t y found.own found.behind.quiet gone.puts gone.slots_are gone.fresh
 
 pub returns-in-Present-clause-stopped : goal.returns-in-Present-clause-stopped

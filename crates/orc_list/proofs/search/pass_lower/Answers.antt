@@ -27,7 +27,8 @@ look-requires-clause-slot g c =
     let (s, room, w) = c.requires.walks in
     let l = c.loop-key in
     let k = c.spare_slot-slot.ensures in
-    walk_free (list_ordering (g.L.Links.numbers d)) (Root c.args.root) c.args.wanted (Some l.left) None l.at l.key Bool.false 0 c.spare_slot-slot.result s (g.L.Links.seat d l.p) room
+    walk_free (list_ordering (g.L.Links.numbers d)) (Root c.args.root) c.args.wanted (Some l.left) None l.at l.key Bool.false 0 c.spare_slot-slot.result s
+    (g.L.Links.seat d l.p) room
     (l.invariant.walks s room w) k.range.0 k.range.1 (λ e. k.left (e ∙ sym c.slot.ensures)) (λ e. omega (arith, e, k.range.1))
     (λ e. k.at (e ∙ sym c.slot-in-loop-key.ensures))
 
