@@ -1,9 +1,9 @@
 //! The calls of one agent, over any domain.
 
-ghost use Rattle.std.specs.Prelude.{All, IfSome};
+ghost use Rattle.std.specs.Prelude.{◌<◌, All, IfSome};
 ghost use Rattle.orc_split_set.specs.SetCalls.{IsUsable};
 
-use orc_heap::Links;
+use orc_heap::{At, Links, Looked};
 use orc_history::SharedSet;
 use orc_split_rule::Split;
 use orc_split_set::SplitSet;
@@ -32,7 +32,7 @@ fn present_below<L: Links<Rule = Split>>(set: &SplitSet<L>, p: &mut L::Pass, end
     found
 }
 
-/// What nine even keys and one odd one come to: how many even ones were added, the number of buckets, whether the odd one
+/// What nine even keys and then 1 come to: how many even ones were added, the number of buckets, whether the odd one
 /// was added, the number of buckets then, and how many keys below 18 are present, and whether 3 is.
 #[derive(Clone, Copy, Debug, PartialEq, Eq, Drop)]
 pub struct Doubled {
@@ -44,8 +44,8 @@ pub struct Doubled {
     pub three: Option<bool>,
 }
 
-/// Inserts nine even keys, and then 1.
-pub fn double_once<L: Links<Rule = Split>>(set: &SplitSet<L>, p: &mut L::Pass) -> Doubled
+// Inserts nine even keys, and then 1.
+fn double_once<L: Links<Rule = Split>>(set: &SplitSet<L>, p: &mut L::Pass) -> Doubled
     requires usable { IsUsable L.Links set.now.links p.old }
     ensures usable { IsUsable L.Links set.now.links p.new }
 {
@@ -65,9 +65,20 @@ pub fn double_once<L: Links<Rule = Split>>(set: &SplitSet<L>, p: &mut L::Pass) -
     }
 }
 
-/// The numbers of buckets once one agent stopped before it doubled them, behind nine even keys, and once another one inserted 3.
-/// None where an answer was another.
-pub fn double_after_a_stop<L: Links<Rule = Split>>(
+/// Lets one agent do so.
+pub fn one_doubles<L: Links<Rule = Split>>(
+    set: &SplitSet<L>,
+    passes: &mut Vec<L::Pass>,
+) -> Option<Doubled>
+    requires usable { All (λ p. ⟦<SplitSet<L> as SharedSet>⟧.usable set.now p) passes.old.items }
+{
+    let mut p = next_pass(set, passes)?;
+    Some(double_once(set, &mut p))
+}
+
+// The numbers of buckets once one agent stopped before it doubled them, behind nine even keys, and once another one inserted 3.
+// None where an answer was another.
+fn double_after_a_stop<L: Links<Rule = Split>>(
     set: &SplitSet<L>,
     one: &mut L::Pass,
     two: &mut L::Pass,
@@ -87,6 +98,88 @@ pub fn double_after_a_stop<L: Links<Rule = Split>>(
     } else {
         None
     }
+}
+
+/// Lets two agents do so.
+pub fn the_next_doubles<L: Links<Rule = Split>>(
+    set: &SplitSet<L>,
+    passes: &mut Vec<L::Pass>,
+) -> Option<(u32, u32)>
+    requires usable { All (λ p. ⟦<SplitSet<L> as SharedSet>⟧.usable set.now p) passes.old.items }
+{
+    let mut two = next_pass(set, passes)?;
+    let mut one = next_pass(set, passes)?;
+    double_after_a_stop(set, &mut one, &mut two)
+}
+
+// Whether the root of bucket 1 names a node. None where it moved meanwhile.
+fn is_named<L: Links<Rule = Split>>(set: &SplitSet<L>, p: &mut L::Pass) -> Option<bool>
+    requires usable { IsUsable L.Links set.now.links p.old }
+    requires root { 1 < (L.numbers set.now.links).roots }
+    ensures usable { IsUsable L.Links set.now.links p.new }
+{
+    let links = set.links();
+    match links.look(p, &At::Root(1), 2) {
+        Looked::Stable(_, Some(dummy)) => {
+            links.release(p, dummy);
+            Some(true)
+        }
+        Looked::Stable(_, None) => Some(false),
+        Looked::Moved => None,
+    }
+}
+
+/// What two agents find of bucket 1, where one of them stops between the bucket's dummy and its root: whether it linked the
+/// dummy, whether it did so again, whether the root names it then, whether 1 is present to the other agent, and whether the
+/// root names the dummy then.
+#[derive(Clone, Copy, Debug, PartialEq, Eq, Drop)]
+pub struct Unnamed {
+    pub linked: bool,
+    pub again: bool,
+    pub named: Option<bool>,
+    pub present: Option<bool>,
+    pub named_then: Option<bool>,
+}
+
+// Inserts nine even keys, and then 1, which makes two buckets. The second agent stops, and the first one asks for 1.
+fn ask_after_a_stop<L: Links<Rule = Split>>(
+    set: &SplitSet<L>,
+    one: &mut L::Pass,
+    two: &mut L::Pass,
+) -> Unnamed
+    requires one { IsUsable L.Links set.now.links one.old }
+    requires two { IsUsable L.Links set.now.links two.old }
+    requires roots { 2 < (L.numbers set.now.links).roots }
+    ensures one { IsUsable L.Links set.now.links one.new }
+    ensures two { IsUsable L.Links set.now.links two.new }
+{
+    insert_evens(set, one);
+    let _odd = set.insert(one, 1, 2);
+    let linked = set.link_dummy_and_stop(two, 1);
+    let again = set.link_dummy_and_stop(two, 1);
+    let named = is_named(set, one);
+    let present = set.contains(one, 1, 2).ok();
+    let named_then = is_named(set, one);
+    Unnamed {
+        linked,
+        again,
+        named,
+        present,
+        named_then,
+    }
+}
+
+/// Lets two agents do so.
+pub fn the_next_anchors<L: Links<Rule = Split>>(
+    set: &SplitSet<L>,
+    passes: &mut Vec<L::Pass>,
+) -> Option<Unnamed>
+    requires usable { All (λ p. ⟦<SplitSet<L> as SharedSet>⟧.usable set.now p) passes.old.items }
+    requires roots { 2 < (L.numbers set.now.links).roots }
+{
+    let mut two = next_pass(set, passes)?;
+    let mut one = next_pass(set, passes)?;
+    Some(ask_after_a_stop(set, &mut one, &mut two))
 }
 
 // Whether the two least numbers, one in the middle and the greatest were all added.
@@ -148,9 +241,9 @@ fn insert_all<L: Links<Rule = Split>>(
     Some(buckets)
 }
 
-/// The number of buckets once the keys from 2 to 999 were inserted, beside the two least numbers, one in the middle and the
-/// greatest: these are found before and afterwards, and then taken out. None where an answer was another.
-pub fn ends_among_many<L: Links<Rule = Split>>(set: &SplitSet<L>, p: &mut L::Pass) -> Option<u32>
+// The number of buckets once the keys from 2 to 999 were inserted, beside the two least numbers, one in the middle and the
+// greatest: these are found before and afterwards, and then taken out. None where an answer was another.
+fn ends_among_many<L: Links<Rule = Split>>(set: &SplitSet<L>, p: &mut L::Pass) -> Option<u32>
     requires usable { IsUsable L.Links set.now.links p.old }
     ensures usable { IsUsable L.Links set.now.links p.new }
 {
@@ -164,6 +257,17 @@ pub fn ends_among_many<L: Links<Rule = Split>>(set: &SplitSet<L>, p: &mut L::Pas
     } else {
         None
     }
+}
+
+/// Lets one agent do so.
+pub fn one_finds_ends<L: Links<Rule = Split>>(
+    set: &SplitSet<L>,
+    passes: &mut Vec<L::Pass>,
+) -> Option<u32>
+    requires usable { All (λ p. ⟦<SplitSet<L> as SharedSet>⟧.usable set.now p) passes.old.items }
+{
+    let mut p = next_pass(set, passes)?;
+    ends_among_many(set, &mut p)
 }
 
 /// The next pass, of the agent with the greatest number that is left.

@@ -4,11 +4,13 @@ ghost use Rattle.std.specs.Prelude.{◌≡◌, ◌+◌, All, IfOk};
 ghost use Rattle.orc_split_rule.specs.SplitDiscipline.{IsSize};
 ghost use Rattle.orc_words.specs.Bounds.{bounds_of};
 
-use super::calls::{Doubled, double_after_a_stop, double_once, ends_among_many, next_pass};
+use super::calls::{
+    Doubled, Unnamed, one_doubles, one_finds_ends, the_next_anchors, the_next_doubles,
+};
 use super::threads::{OWN_KEYS, Sums, double_by_all};
 use orc_domain::{PlainDomain, PlainPass};
 use orc_fault::NoMemory;
-use orc_heap::Seed;
+use orc_heap::{Links, Seed};
 use orc_history::SharedSet;
 use orc_split_rule::Split;
 use orc_split_set::SplitSet;
@@ -29,6 +31,7 @@ fn new_set(
     requires size { IsSize 256 greatest }
     requires roots { (bounds_of shape.now).roots ≡ greatest + 1 }
     ensures usable { IfOk result (λ made. All (λ p. ⟦<SplitSet<Domain> as SharedSet>⟧.usable made.0 p) made.1.items) }
+    ensures roots { IfOk result (λ made. (⟦<Domain as Links>⟧.numbers made.0.links).roots ≡ greatest + 1) }
 {
     let (domain, passes) = Domain::make(alloc, shape, Seed::Empty)?;
     Ok((SplitSet::new(domain, greatest), passes))
@@ -39,10 +42,6 @@ fn new_set(
 fn ten_keys_make_two_buckets(rt: HostRuntime) -> Result<(), Fail> {
     let shape = Shape::new(64, 5, 1, 64)?;
     let (set, mut passes) = new_set(rt.alloc(), &shape, 4)?;
-    let Some(mut p) = next_pass(&set, &mut passes) else {
-        panic!(rt; "a pass")
-    };
-    let doubled = double_once(&set, &mut p);
     let wanted = Doubled {
         added: 9,
         buckets: Some(1),
@@ -51,7 +50,7 @@ fn ten_keys_make_two_buckets(rt: HostRuntime) -> Result<(), Fail> {
         present: 10,
         three: Some(false),
     };
-    assert_eq!(rt; doubled, wanted);
+    assert_eq!(rt; one_doubles(&set, &mut passes), Some(wanted));
     Ok(())
 }
 
@@ -60,13 +59,22 @@ fn ten_keys_make_two_buckets(rt: HostRuntime) -> Result<(), Fail> {
 fn the_next_insert_doubles(rt: HostRuntime) -> Result<(), Fail> {
     let shape = Shape::new(64, 5, 2, 64)?;
     let (set, mut passes) = new_set(rt.alloc(), &shape, 4)?;
-    let Some(mut one) = next_pass(&set, &mut passes) else {
-        panic!(rt; "a pass")
+    assert_eq!(rt; the_next_doubles(&set, &mut passes), Some((1, 2)));
+    Ok(())
+}
+
+#[test]
+fn the_next_question_anchors(rt: HostRuntime) -> Result<(), Fail> {
+    let shape = Shape::new(64, 5, 2, 64)?;
+    let (set, mut passes) = new_set(rt.alloc(), &shape, 4)?;
+    let wanted = Unnamed {
+        linked: true,
+        again: false,
+        named: Some(false),
+        present: Some(true),
+        named_then: Some(true),
     };
-    let Some(mut two) = next_pass(&set, &mut passes) else {
-        panic!(rt; "another pass")
-    };
-    assert_eq!(rt; double_after_a_stop(&set, &mut one, &mut two), Some((1, 2)));
+    assert_eq!(rt; the_next_anchors(&set, &mut passes), Some(wanted));
     Ok(())
 }
 
@@ -76,10 +84,7 @@ fn the_next_insert_doubles(rt: HostRuntime) -> Result<(), Fail> {
 fn ends_are_found_among_many_keys(rt: HostRuntime) -> Result<(), Fail> {
     let shape = Shape::new(2_048, 257, 1, 1 << 39)?;
     let (set, mut passes) = new_set(rt.alloc(), &shape, 256)?;
-    let Some(mut p) = next_pass(&set, &mut passes) else {
-        panic!(rt; "a pass")
-    };
-    assert_eq!(rt; ends_among_many(&set, &mut p), Some(128));
+    assert_eq!(rt; one_finds_ends(&set, &mut passes), Some(128));
     Ok(())
 }
 

@@ -4,7 +4,7 @@ use Rattle.std.proofs.Common.{ap, subst, sym, ◌∙◌}
 use Rattle.std.specs.Prelude.{slice_index_or}
 use Rattle.orc_heap.specs.Seats.{IsIdle}
 use Rattle.orc_projection.specs.Mirror.{numbers_of}
-use Rattle.orc_reclaiming_domain.specs.Passes.{IsPassOf, seat_of}
+use Rattle.orc_reclaiming_domain.specs.Passes.{IsPassOf, domain_bounds, seat_of}
 use Rattle.orc_split_rule.proofs.Later.{nothing_yet}
 use Rattle.orc_words.specs.Bounds.{Bounds, bounds_of}
 use Rattle.split_tests.proofs.tests.reclaiming.new_set.Goals as goal
@@ -22,4 +22,6 @@ returns c = record {
         subst (λ domain. IsPassOf domain p) (sym c.new.ensures) (c.in_ok-domain.ensures.belongs k d low),
         subst (λ domain. IsIdle (seat_of domain p)) (sym c.new.ensures) (c.in_ok-domain.ensures.idle k d low),
       );
+  roots = ap (λ domain. (domain_bounds domain).roots) c.new.ensures
+      ∙ (ap (λ (b : Bounds). b.roots) c.in_ok-domain.ensures.bounds ∙ c.requires.roots);
 }
