@@ -17,3 +17,4 @@ pub mod Crowded
 pub mod Looking
 pub mod Reaching
 pub mod Stopping
+pub mod Reversing

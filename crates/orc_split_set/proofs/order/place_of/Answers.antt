@@ -6,5 +6,5 @@ use Rattle.orc_split_set.proofs.order.place_of.Goals as goal
 
 pub returns : goal.returns
 returns c =
-    subst (λ (x : ℕ). x * 2 + c.args.second ≡ 2 * reversed c.args.first + c.args.second) (sym c.reverse_bits.ensures)
+    subst (λ (x : ℕ). x * 2 + c.args.second ≡ 2 * reversed c.args.first + c.args.second) (sym c.reversed_whole.ensures)
     (place_is c.args.first c.args.second c.ranges.first.fits)

@@ -59,8 +59,11 @@ returns g c =
         | inr none ↦ inr (elim none [
           | inl lacks ↦ inl (within_goes_on by s.agent (g.L.Links.lacking d s.agent) (g.met.L.Links.lacking_stays d s.agent) j i m done.later settle.later
               (done.lacking lacks))
-          | inr spent ↦ inr (spent.0, within_goes_on by s.agent (g.L.Links.worn d s.agent spent.0) (g.met.L.Links.worn_stays d s.agent spent.0) j i m
-              done.later settle.later (done.worn spent.0 spent.1))
+          | inr spent ↦ inr (
+            spent.0,
+            within_goes_on by s.agent (g.L.Links.worn d s.agent spent.0) (g.met.L.Links.worn_stays d s.agent spent.0) j i m
+                done.later settle.later (done.worn spent.0 spent.1),
+          )
         ])
       ];
       none = did_not_enter x agents by events adds s u j m grows is_s is_u all below 1 1 (λ answer. Asked 0 0 answer) (Err tt) did;
