@@ -1,5 +1,5 @@
 -- The passes of the first of some queues are taken from their desks, and its domain is brought to rest.
-use Rattle.std.proofs.Common.{All, ◌≡◌, ℕ, suc, ◌+◌, ◌<◌, ◌≤◌, List, [], ◌∷◌, ◌++◌, length, ap, sym, ◌∙◌, subst, arith, append-nil, append_assoc, slice_index_or}
+use Rattle.std.proofs.Common.{All, ◌≡◌, ℕ, suc, List, [], ◌∷◌, ◌++◌, length, ap, sym, ◌∙◌, subst, arith, append-nil, append_assoc}
 use Rattle.std.proofs.lemmas.List.Elements.{All-from_recursion}
 use Rattle.std.specs.List.{AllByRecursion}
 use Rattle.orc_core.specs.declared.records.Agent.{Agent}

@@ -1,6 +1,5 @@
 -- Journals and replies that form a pipeline form one also where the journals go on without an entry.
-use Rattle.std.proofs.Common.{◌≡◌, ℕ, suc, ◌+◌, ◌≤◌, ◌<◌, List, [], ◌++◌, true, false, ap, sym, ◌∙◌, subst, arith, append_assoc}
-use mathlib.Core.List.{IsPrefix}
+use Rattle.std.proofs.Common.{◌≡◌, ℕ, suc, ◌+◌, ◌≤◌, List, [], ◌++◌, true, false, ap, sym, ◌∙◌, subst, arith, append_assoc}
 use Rattle.orc_history.specs.declared.queue.QueueEntry.{QueueEntry}
 use Rattle.orc_history.specs.declared.queue.QueueRefused.{QueueRefused}
 use Rattle.orc_history.specs.QueueHistory.{IsLegalQueue, agent_of_entry, waiting_after}

@@ -1,5 +1,5 @@
 -- The queues of a pipeline, and what is left of them.
-use Rattle.std.specs.Prelude.{◌≡◌, ◌++◌, ◌∷◌, ℕ, suc, List, [], length}
+use Rattle.std.specs.Prelude.{◌≡◌, ◌++◌, ◌∷◌, ℕ, suc, List, []}
 use Rattle.std.proofs.Common.{zero}
 use Rattle.orc_words.specs.Bounds.{Bounds}
 use Rattle.orc_core.specs.declared.records.Agent.{Agent}

@@ -1,5 +1,5 @@
 //! What is run, and what was worked out by hand.
-ghost use Rattle.std.specs.Prelude.{◌≤◌, IfOk, length};
+ghost use Rattle.std.specs.Prelude.{IfOk};
 ghost use Rattle.orc_jobs.specs.GoodLines.{AreGood};
 
 use orc_board::{PostReply, PostWord};
@@ -11,11 +11,13 @@ use std::alloc::Global;
 mod plain;
 mod runs;
 
-// The lines of a job file.
+// The lines of a job file of up to 16 MiB.
 fn lines_of(alloc: Global, bytes: &[u8]) -> Result<Lines, NoMemory>
-    requires { length bytes.now ≤ 16777216 }
     ensures { IfOk result AreGood }
 {
+    if bytes.len() > 16777216 {
+        return Err(NoMemory);
+    }
     match read_jobs(alloc, bytes) {
         Ok(lines) => Ok(lines),
         Err(_) => Err(NoMemory),

@@ -1,5 +1,5 @@
 -- The passes that are taken are all passes of the first queue, and those that are left are of the others.
-use Rattle.std.proofs.Common.{rules, ◌≡◌, ◌<◌, ◌≤◌, ℕ, suc, List, [], ◌∷◌, length, arith, subst, sym}
+use Rattle.std.proofs.Common.{rules, ◌≡◌, ◌<◌, ◌≤◌, ℕ, suc, List, [], length, arith, subst, sym}
 use Rattle.std.specs.List.{AllByRecursion}
 use Rattle.orc_stages.specs.Run.{AreIdle}
 use Rattle.orc_stages.proofs.Taken.{first_and_rest, idle_passes}
@@ -7,7 +7,7 @@ use Rattle.orc_run.proofs.DeskPasses.{are_all, are_idle, left_of}
 use Rattle.orc_run.specs.contracts.queue.RunQueueSharedQueue.TheImpl as queue
 use Rattle.orc_run.specs.declared.queue.RunQueue.{RunQueue}
 use Rattle.orc_stages_run.specs.Queues.{IsFor}
-use Rattle.orc_stages_run.proofs.Ends.{as_many, idle_after, none_more, of_first, of_others, one_more, passes_of, saw_first, saw_others}
+use Rattle.orc_stages_run.proofs.Ends.{as_many, idle_after, of_first, of_others, one_more, passes_of, saw_first, saw_others}
 use Rattle.orc_stages_run.proofs.ending.+end_queues.Goals as goal
 
 pub take_first-requires-clause-some : goal.take_first-requires-clause-some

@@ -1,5 +1,5 @@
 -- What is left of each queue, and the pipeline over the journals at rest.
-use Rattle.std.proofs.Common.{rules, ◌≡◌, ◌+◌, ◌-◌, ◌<◌, ◌∙◌, ℕ, suc, List, arith, length, subst}
+use Rattle.std.proofs.Common.{rules, ◌≡◌, ◌+◌, ◌-◌, ◌∙◌, ℕ, suc, List, arith, length, subst}
 use Rattle.std.specs.List.{AllByRecursion}
 use Rattle.orc_fifo_rule.specs.Laws.Kept.{fifo_rises}
 use Rattle.orc_fifo_rule.specs.QueueDiscipline.{fifo_rank}
