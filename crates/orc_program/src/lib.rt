@@ -22,6 +22,3 @@ pub use orc_options::{CommandWords, Mode, SetKind, Settings};
 pub use streams::{StdSink, StdSource};
 pub use top_call::orc_main;
 pub use writing::refuse_words;
-
-#[cfg(test)]
-mod tests;

@@ -1,10 +1,10 @@
 //! Reads and writes that fail in turn, and input that is cut off.
 
 use super::{FIVE_LINES, FIVE_LINES_REPORT, run, words_of};
-use crate::{CommandWords, Ended, orc_main};
 use orc_board::OpenGate;
 use orc_fault::NoMemory;
 use orc_feed::{MemorySink, MemorySource};
+use orc_program::{CommandWords, Ended, orc_main};
 use std::alloc::Global;
 use std::process::Abort;
 use std::sync::Wait;

@@ -2,9 +2,9 @@
 
 use super::teams::report_of;
 use super::words_of;
-use crate::{Ended, orc_main};
 use orc_board::OpenGate;
 use orc_feed::{MemorySink, MemorySource};
+use orc_program::{Ended, orc_main};
 use std::test::Fail;
 
 #[test]

@@ -1,9 +1,9 @@
 ghost use Rattle.std.specs.Prelude.{◌≤◌};
 
-use crate::{CommandWords, Ended, orc_main};
 use orc_board::OpenGate;
 use orc_fault::NoMemory;
 use orc_feed::{MemorySink, MemorySource};
+use orc_program::{CommandWords, Ended, orc_main};
 use std::alloc::Global;
 use std::process::Abort;
 use std::sync::Wait;

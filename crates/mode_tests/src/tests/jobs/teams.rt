@@ -3,10 +3,10 @@
 ghost use Rattle.std.specs.Prelude.{◌≤◌};
 
 use super::words_of;
-use crate::{CommandWords, Ended, orc_main};
 use orc_board::{Gate, OpenGate};
 use orc_fault::NoMemory;
 use orc_feed::{MemorySink, MemorySource};
+use orc_program::{CommandWords, Ended, orc_main};
 use std::alloc::Global;
 use std::process::Abort;
 use std::sync::Wait;
