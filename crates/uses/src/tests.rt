@@ -5,10 +5,12 @@ use orc_words::ShapeFault;
 use std::test::Fail;
 
 mod domain_threads;
+mod gates;
 mod list_calls;
 mod meeting;
 mod queue_calls;
 mod set_calls;
+mod watched;
 
 #[test]
 fn one_row_is_too_few_for_a_queue(rt: HostRuntime) -> Result<(), Fail> {

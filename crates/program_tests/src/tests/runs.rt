@@ -4,19 +4,15 @@ ghost use Rattle.std.specs.Prelude.{IfOk};
 ghost use Rattle.orc_jobs.specs.GoodLines.{AreGood};
 
 use super::lines_of;
-use orc_board::{Gate, OpenGate, PostReply, PostWord, TakeReply, TakeWord};
+use orc_board::{OpenGate, PostReply, PostWord, TakeReply, TakeWord};
 use orc_fault::NoMemory;
 use orc_jobs::{Lines, MOST_BYTES};
 use orc_run::{SetChoice, run_lines};
 use std::alloc::Global;
-use std::sync::atomic::{AtomicU64, Ordering};
 use std::test::Fail;
 
 const FIVE_LINES: &[u8] =
     b"post,7,bytes,hello\npost,9,sum,1 2 3\ndrop,9\npost,7,words,a b\ndrop,8\n";
-
-const SEVEN_LINES: &[u8] =
-    b"post,0,bytes,x\npost,1,bytes,x\ndrop,0\npost,2,bytes,x\npost,3,bytes,x\ndrop,3\npost,4,bytes,x\n";
 
 const NINE_POSTS: &[u8] =
     b"post,0,bytes,x\npost,1,bytes,x\npost,2,bytes,x\npost,3,bytes,x\npost,4,bytes,x\npost,5,bytes,x\npost,6,bytes,x\npost,7,bytes,x\npost,8,bytes,x\n";
@@ -174,78 +170,5 @@ fn eight_rows_serve_ten_thousand_posts_and_drops(rt: HostRuntime) -> Result<(), 
             >= 1000
     );
     assert_eq!(rt; finished.queue.linked(), 1);
-    Ok(())
-}
-
-// What a gate has been told: of each agent, how many calls; and how many of them had another number than the next.
-#[derive(Drop)]
-struct CountingGate {
-    calls: [AtomicU64; 4],
-    wrong: AtomicU64,
-}
-
-impl CountingGate {
-    fn new() -> CountingGate {
-        CountingGate {
-            calls: [
-                AtomicU64::new(0),
-                AtomicU64::new(0),
-                AtomicU64::new(0),
-                AtomicU64::new(0),
-            ],
-            wrong: AtomicU64::new(0),
-        }
-    }
-
-    fn calls_of(&self, agent: usize) -> u64 {
-        match self.calls.get(agent) {
-            Some(calls) => calls.load(Ordering::SeqCst),
-            None => 0,
-        }
-    }
-}
-
-impl Gate for CountingGate {
-    fn before(&self, worker: u32, call: u64) {
-        let next = match self.calls.get(worker as usize) {
-            Some(calls) => calls.fetch_add(1, Ordering::SeqCst),
-            None => u64::MAX,
-        };
-        if next != call {
-            self.wrong.fetch_add(1, Ordering::SeqCst);
-        }
-    }
-}
-
-// How many claims are this taker's.
-fn claims_of(takes: &[TakeReply], taker: u32) -> u64 {
-    takes.iter().filter(|take| take.taker == taker).count() as u64
-}
-
-// Posters 1 and 2 have four and three of the seven records, of which five are posts; taker 1 is agent 3. Each take comes after one
-// call of the gate. The caller's last take finds nothing, but where it has claimed all.
-#[test]
-fn a_gate_is_told_of_each_line_and_each_take_in_order(rt: HostRuntime) -> Result<(), Fail> {
-    let lines = lines_of(rt.alloc(), SEVEN_LINES)?;
-    let gate = CountingGate::new();
-    let finished = run_lines(
-        &rt,
-        rt.alloc(),
-        &lines,
-        2,
-        1,
-        16,
-        SetChoice::Lists(16),
-        &gate,
-    )?;
-    let takes = finished.replies.takes.items();
-    assert_eq!(rt; gate.wrong.load(Ordering::SeqCst), 0);
-    assert_eq!(rt; gate.calls_of(1), 4);
-    assert_eq!(rt; gate.calls_of(2), 3);
-    assert_eq!(rt;
-        gate.calls_of(0),
-        claims_of(takes, 0).saturating_add(1).min(5)
-    );
-    assert!(rt; gate.calls_of(3) >= claims_of(takes, 1));
     Ok(())
 }

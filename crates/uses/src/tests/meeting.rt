@@ -1,21 +1,12 @@
 //! Queues whose calls are watched: the first calls of agents 1, 2 and 3 wait for each other, and a rush job comes between the two
 //! dequeues of a take.
 
-ghost use Rattle.std.specs.Prelude.{◌≡◌, ◌+◌, ◌<◌, ◌≤◌, ℕ, [], All, IfOk, length, slice_index_or};
-ghost use Rattle.orc_jobs.specs.GoodLines.{AreGood};
-
-use crate::{Unmade, plain_queue, set_over};
-use orc_board::{OpenGate, PostWord, Replies, TakeReply, TakeWord};
-use orc_fault::{Again, NoMemory};
-use orc_history::{LearnQueue, LearnSet, QueueRefused, SharedQueue};
-use orc_jobs::{Lines, read_jobs};
+use super::watched::{Call, Watch, run_watched};
+use crate::set_over;
+use orc_board::{OpenGate, PostWord, TakeReply, TakeWord};
 use orc_words::Shape;
-use orc_workers::{fresh_desks, run_at_desks};
-use std::alloc::Global;
-use std::sync::Wait;
 use std::sync::atomic::{AtomicU64, Ordering};
 use std::test::Fail;
-use std::thread::Threads;
 
 // For how many looks an agent is held at most.
 const LOOKS: u64 = 1 << 30;
@@ -28,85 +19,6 @@ fn came(flag: &AtomicU64) -> bool {
         }
     }
     false
-}
-
-// A call of a queue.
-#[derive(Clone, Copy, PartialEq, Eq, Drop)]
-enum Call {
-    Put,
-    Take,
-}
-
-// What is done before a queue's calls, and after them.
-trait Watch {
-    fn before(&self, agent: u32, call: Call);
-
-    fn after(&self, call: Call);
-}
-
-// A queue that passes each call on, and is watched.
-#[derive(Drop)]
-struct Watched<Q, W> {
-    inner: Q,
-    watch: W,
-}
-
-impl<Q: SharedQueue, W: Watch> SharedQueue for Watched<Q, W> {
-    type Pass = Q::Pass;
-
-    type Step = Q::Step;
-
-    ghost agent_of = { λ m p. Q.agent_of m.inner p };
-
-    ghost journal = { λ p. Q.journal p };
-
-    ghost history = { λ m journal. Q.history m.inner journal };
-
-    ghost first = { λ m. Q.first m.inner };
-
-    ghost usable = { λ m p. Q.usable m.inner p };
-
-    ghost crowd = { λ m agent. Q.crowd m.inner agent };
-
-    ghost licence = { λ m agent turns why journal from to. Q.licence m.inner agent turns why journal from to };
-
-    ghost legal = { λ m p h. Q.legal m.inner p h };
-
-    ghost licence_stays = { λ m agent turns why seen more from to h. Q.licence_stays m.inner agent turns why seen more from to h };
-
-    ghost grows = { λ m seen more. Q.grows m.inner seen more };
-
-    ghost many_puts = { λ m agent turns seen from to h. Q.many_puts m.inner agent turns seen from to h };
-
-    fn agent(&self, p: &Q::Pass) -> u32 {
-        self.inner.agent(p)
-    }
-
-    fn enqueue(&self, p: &mut Q::Pass, job: u64, turns: u64) -> Result<u64, QueueRefused> {
-        self.watch.before(self.inner.agent(p), Call::Put);
-        let put = self.inner.enqueue(p, job, turns);
-        self.watch.after(Call::Put);
-        put
-    }
-
-    fn dequeue(&self, p: &mut Q::Pass, turns: u64) -> Result<Option<(u64, u64)>, Again> {
-        self.watch.before(self.inner.agent(p), Call::Take);
-        let taken = self.inner.dequeue(p, turns);
-        self.watch.after(Call::Take);
-        taken
-    }
-}
-
-impl<Q: LearnQueue, W: Watch> LearnQueue for Watched<Q, W> {
-    ghost agents = { λ m. Q.agents m.inner };
-
-    fn learn(&self, into: &mut Q::Pass, from: &mut Q::Pass) {
-        self.inner.learn(into, from);
-    }
-
-    ghost agents_below = { λ m p h. Q.agents_below m.inner p h };
-
-    ghost crowd_below = { λ m agent h. Q.crowd_below m.inner agent h };
 }
 
 // Holds the first call of each of three agents until all three have come.
@@ -184,63 +96,6 @@ impl Watch for Between<'_> {
     }
 }
 
-// The lines of this file.
-fn lines_of(alloc: Global, text: &[u8]) -> Result<Lines, NoMemory>
-    requires { length text.now ≤ 16777216 }
-    ensures { IfOk result AreGood }
-{
-    match read_jobs(alloc, text) {
-        Ok(lines) => Ok(lines),
-        Err(_) => Err(NoMemory),
-    }
-}
-
-// Runs this file by so many posters and takers over two queues that are watched so, and this set.
-fn run_watched<R: Threads + Wait + Sync, W: Watch + Drop + Sync, S: LearnSet + Sync>(
-    rt: &R,
-    alloc: Global,
-    text: &[u8],
-    posters: u32,
-    takers: u32,
-    watches: (W, W),
-    set: &S,
-    set_passes: Vec<S::Pass>,
-) -> Result<(W, usize, Replies), Unmade>
-where
-    S::Pass: Send,
-    requires short { length text.now ≤ 16777216 }
-    requires posters { (1 ≤ posters) × (posters ≤ 8) × (takers ≤ 7) }
-    requires usable { All (λ p. S.usable set.now p) set_passes.items }
-    requires fresh { All (λ p. S.history set.now (S.journal p) ≡ []) set_passes.items }
-    requires numbered { (i : ℕ) (p : S.Pass) → i < length set_passes.items → S.agent_of set.now (slice_index_or set_passes.items i p) ≡ i }
-    requires all { (length set_passes.items ≡ 1 + (posters + takers)) × (S.agents set.now ≡ 1 + (posters + takers)) }
-{
-    let agents = 1 + posters + takers;
-    let lines = lines_of(alloc, text)?;
-    let (inner, queue_passes) = plain_queue(alloc, 16, agents)?;
-    let (rush_inner, rush_passes) = plain_queue(alloc, 16, agents)?;
-    let (watch, rush_watch) = watches;
-    let queue = Watched { inner, watch };
-    let rush = Watched {
-        inner: rush_inner,
-        watch: rush_watch,
-    };
-    let mut desks = fresh_desks(
-        alloc,
-        &queue,
-        &rush,
-        set,
-        queue_passes,
-        rush_passes,
-        set_passes,
-    )?;
-    let replies = run_at_desks(
-        rt, alloc, &lines, posters, takers, &queue, &rush, set, &mut desks, &OpenGate,
-    )?;
-    let Watched { watch, .. } = queue;
-    Ok((watch, desks.len(), replies))
-}
-
 #[test]
 fn the_calls_of_three_agents_are_made_at_once(rt: HostRuntime) -> Result<(), Fail> {
     let alloc = rt.alloc();
@@ -251,7 +106,7 @@ fn the_calls_of_three_agents_are_made_at_once(rt: HostRuntime) -> Result<(), Fai
     let file = b"post,0,bytes,x\npost,1,bytes,x\n";
     let watches = (Meeting::new(false), Meeting::new(true));
     let Ok((meeting, desks, replies)) = run_watched(
-        &rt, alloc, file, 2, 1, watches, &set, set_passes,
+        &rt, alloc, file, 2, 1, watches, &set, set_passes, &OpenGate,
     ) else {
         panic!(rt; "memory")
     };
@@ -289,7 +144,7 @@ fn a_rush_job_comes_between_the_two_dequeues_of_a_take(rt: HostRuntime) -> Resul
     );
     let file = b"post,0,bytes,x\nrush,1,bytes,yy\n";
     let Ok((_watch, _desks, replies)) = run_watched(
-        &rt, alloc, file, 1, 1, watches, &set, set_passes,
+        &rt, alloc, file, 1, 1, watches, &set, set_passes, &OpenGate,
     ) else {
         panic!(rt; "memory")
     };

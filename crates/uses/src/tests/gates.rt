@@ -1,0 +1,149 @@
+//! That a gate is called ahead of each line and of each take, which no contract says: containers count the calls that have begun, and a
+//! gate judges its own by them.
+
+use super::watched::{Call, Watch, Watched, run_watched};
+use crate::set_over;
+use orc_board::Gate;
+use orc_words::Shape;
+use std::sync::atomic::{AtomicU64, Ordering};
+use std::test::Fail;
+
+// Poster 1 has four of these records, and poster 2 three. Each makes one call of the set, since no post is refused.
+const SEVEN_RECORDS: &[u8] =
+    b"post,0,bytes,x\npost,1,bytes,x\ndrop,0\npost,2,bytes,x\nrush,3,bytes,x\ndrop,3\npost,4,bytes,x\n";
+
+// For each of four agents, how many calls it made.
+#[derive(Drop)]
+struct Counts {
+    calls: [AtomicU64; 4],
+}
+
+impl Counts {
+    fn new() -> Counts {
+        Counts {
+            calls: [
+                AtomicU64::new(0),
+                AtomicU64::new(0),
+                AtomicU64::new(0),
+                AtomicU64::new(0),
+            ],
+        }
+    }
+
+    // Counts one more, and answers how many there were; of another agent as many as there can't be.
+    fn add(&self, agent: u32) -> u64 {
+        match self.calls.get(agent as usize) {
+            Some(calls) => calls.fetch_add(1, Ordering::SeqCst),
+            None => u64::MAX,
+        }
+    }
+
+    fn of(&self, agent: u32) -> u64 {
+        match self.calls.get(agent as usize) {
+            Some(calls) => calls.load(Ordering::SeqCst),
+            None => u64::MAX,
+        }
+    }
+}
+
+// Counts the calls of a container as they begin.
+#[derive(Drop)]
+struct Counting<'a> {
+    begun: &'a Counts,
+}
+
+impl Watch for Counting<'_> {
+    fn before(&self, agent: u32, _call: Call) {
+        let _earlier = self.begun.add(agent);
+    }
+
+    fn after(&self, _call: Call) {}
+}
+
+// A poster's line begins with a call of the set, and a take with one of the rush queue.
+#[derive(Drop)]
+struct Begun {
+    set: Counts,
+    queue: Counts,
+    rush: Counts,
+}
+
+impl Begun {
+    // How many lines this poster has begun, or how many takes another agent has.
+    fn works_of(&self, agent: u32) -> u64 {
+        match agent {
+            1 | 2 => self.set.of(agent),
+            _ => self.rush.of(agent),
+        }
+    }
+}
+
+// A gate that counts which of its calls have another number than the next, or than that of the lines or takes that have begun.
+#[derive(Drop)]
+struct Judge<'a> {
+    begun: &'a Begun,
+    calls: Counts,
+    wrong: AtomicU64,
+}
+
+impl Gate for Judge<'_> {
+    fn before(&self, worker: u32, call: u64) {
+        if self.calls.add(worker) != call || self.begun.works_of(worker) != call {
+            self.wrong.fetch_add(1, Ordering::SeqCst);
+        }
+    }
+}
+
+#[test]
+fn a_gate_is_called_before_each_line_and_each_take(rt: HostRuntime) -> Result<(), Fail> {
+    let alloc = rt.alloc();
+    let shape = Shape::new(16, 16, 4, 1)?;
+    let Ok((inner, set_passes)) = set_over(alloc, &shape) else {
+        panic!(rt; "memory")
+    };
+    let begun = Begun {
+        set: Counts::new(),
+        queue: Counts::new(),
+        rush: Counts::new(),
+    };
+    let set = Watched {
+        inner,
+        watch: Counting { begun: &begun.set },
+    };
+    let watches = (
+        Counting {
+            begun: &begun.queue,
+        },
+        Counting { begun: &begun.rush },
+    );
+    let gate = Judge {
+        begun: &begun,
+        calls: Counts::new(),
+        wrong: AtomicU64::new(0),
+    };
+    let Ok((_watch, _desks, replies)) = run_watched(
+        &rt,
+        alloc,
+        SEVEN_RECORDS,
+        2,
+        1,
+        watches,
+        &set,
+        set_passes,
+        &gate,
+    ) else {
+        panic!(rt; "memory")
+    };
+    assert_eq!(rt; gate.wrong.load(Ordering::SeqCst), 0);
+    assert_eq!(rt; (gate.calls.of(1), gate.calls.of(2)), (4, 3));
+    for agent in 0..4 {
+        assert_eq!(rt;
+            gate.calls.of(agent),
+            begun.works_of(agent),
+            "agent {agent}"
+        );
+        assert!(rt; gate.calls.of(agent) >= 1, "agent {agent}");
+    }
+    assert_eq!(rt; replies.takes.len(), 5);
+    Ok(())
+}
