@@ -22,7 +22,7 @@ use Rattle.orc_program.specs.declared.ended.Ended.{Ended}
 use Rattle.orc_program.specs.declared.trace_mode.Told.{Told}
 use Rattle.orc_program.specs.declared.trace_mode.Told.TheVariants as told
 use Rattle.orc_program.specs.Answers.{Answers, AnswersTrace, HasTooMany, IsTooLarge, ModeAnswers, made_text}
-use Rattle.orc_program.specs.Ended.{HasReported, HasWatched}
+use Rattle.orc_program.specs.Ended.{HasReported, HasStaged, HasWatched}
 use Rattle.orc_program.specs.Refusals.{input_limit, input_too_large, malformed_line, malformed_watch}
 use Rattle.orc_program.proofs.Files.{not_many as no_answer, of_file, of_record}
 use Rattle.orc_watch.proofs.GrammarLaws.{not-few as watch_not-few, not-read as watch_not-read, refused-bad as watch_refused-bad}
@@ -112,6 +112,18 @@ module _ (s : Settings) (bytes : List ℕ) (e : Ended) (status : ℕ) (text : Li
       of_record (λ ls. IsWatchFile ls bytes) IsWatchBad malformed_watch (λ ls t. HasWatched ls s e t) e (watch_not-read bytes) status text
       (one_watch_line bytes) place why bad (in_mode mode.Watch a asks few (λ many. not_many_watched bytes place why bad many))
 
+  pub stages_file : Answers s bytes e status text → s.mode ≡ mode.Stages → length bytes ≤ input_limit → (lines : List Line) → IsFileOf lines bytes
+      → status ≡ 0
+  stages_file a asks few lines is =
+      of_file (λ ls. IsFileOf ls bytes) IsBad malformed_line (λ ls t. HasStaged ls s e t) e (not-read bytes) status text lines is
+      (in_mode mode.Stages a asks few (λ many. not-few bytes lines many is))
+
+  pub stages_refused : Answers s bytes e status text → s.mode ≡ mode.Stages → length bytes ≤ input_limit → (place : ℕ) (why : Cause)
+      → Refuses bytes (fault.Malformed place why) → (status ≡ 3) × (text ≡ malformed_line place why)
+  stages_refused a asks few place why bad =
+      of_record (λ ls. IsFileOf ls bytes) IsBad malformed_line (λ ls t. HasStaged ls s e t) e (not-read bytes) status text (one_line bytes) place why bad
+      (in_mode mode.Stages a asks few (λ many. not_many bytes place why bad many))
+
   not_answered : (m : Mode) → HasTooMany m bytes → ModeAnswers m s bytes e status text → ⊥
   not_answered mode.Run many a =
       no_answer (λ ls. IsFileOf ls bytes) IsBad malformed_line (λ ls t. HasReported ls s e t) e (not-read bytes) status text (Refuses bytes fault.TooMany)
@@ -119,6 +131,9 @@ module _ (s : Settings) (bytes : List ℕ) (e : Ended) (status : ℕ) (text : Li
   not_answered mode.Watch many a =
       no_answer (λ ls. IsWatchFile ls bytes) IsWatchBad malformed_watch (λ ls t. HasWatched ls s e t) e (watch_not-read bytes) status text
       (RefusesWatch bytes watch.TooMany) (λ lines file is. watch_not-few bytes lines is file) (not_many_watched bytes) many a
+  not_answered mode.Stages many a =
+      no_answer (λ ls. IsFileOf ls bytes) IsBad malformed_line (λ ls t. HasStaged ls s e t) e (not-read bytes) status text (Refuses bytes fault.TooMany)
+      (λ lines file is. not-few bytes lines is file) (not_many bytes) many a
   not_answered mode.Make many a = many
   not_answered mode.Trial many a = many
   not_answered mode.Replay many a = many
@@ -140,6 +155,8 @@ module _ (s : Settings) (bytes : List ℕ) (e : Ended) (status : ℕ) (text : Li
   mode_status mode.Audit (new, inr a) = inr (inr (inr a.0))
   mode_status mode.Watch (inl a) = inl a.0
   mode_status mode.Watch (inr a) = inr (inl a.0)
+  mode_status mode.Stages (inl a) = inl a.0
+  mode_status mode.Stages (inr a) = inr (inl a.0)
 
   pub statuses : Answers s bytes e status text → (status ≡ 0) ⊎ (status ≡ 3) ⊎ (status ≡ 6) ⊎ (status ≡ 8)
   statuses (inl a) = inr (inr (inl a.0))

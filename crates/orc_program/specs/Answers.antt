@@ -20,7 +20,7 @@ use Rattle.orc_options.specs.declared.settings.Settings.{Settings}
 use Rattle.orc_program.specs.declared.ended.Ended.{Ended}
 use Rattle.orc_program.specs.declared.trace_mode.Told.{Told}
 use Rattle.orc_program.specs.declared.trace_mode.Told.TheVariants as told
-use Rattle.orc_program.specs.Ended.{HasReported, HasSummed, HasWatched, IsNew, generated_lines}
+use Rattle.orc_program.specs.Ended.{HasReported, HasStaged, HasSummed, HasWatched, IsNew, generated_lines}
 use Rattle.orc_program.specs.Refusals.{input_limit, input_too_large, malformed_line, malformed_watch, words_refused}
 
 -- the text is the line of the first record that is outside the grammar, with its cause
@@ -61,6 +61,11 @@ abbrev pub AnswersWatch : Settings → List ℕ → Ended → ℕ → List ℕ �
 AnswersWatch settings bytes ended = AnswersFile (λ lines. IsWatchFile lines bytes) (λ place why. RefusesWatch bytes (watch.Malformed place why))
     malformed_watch (λ lines text. HasWatched lines settings ended text) ended
 
+-- of a job file, whose jobs go through a pipeline
+abbrev pub AnswersStages : Settings → List ℕ → Ended → ℕ → List ℕ → Type 0
+AnswersStages settings bytes ended = AnswersFile (λ lines. IsFileOf lines bytes) (λ place why. Refuses bytes (fault.Malformed place why)) malformed_line
+    (λ lines text. HasStaged lines settings ended text) ended
+
 -- a trace is told; other bytes are refused at their first fault
 abbrev pub AnswersTrace : Told → List ℕ → ℕ → List ℕ → Type 0
 AnswersTrace what bytes status text = ((status ≡ 0) × Tells what bytes text) ⊎ ((status ≡ 8) × NamesFault bytes text)
@@ -73,14 +78,16 @@ ModeAnswers mode.Trial settings bytes ended status text = (status ≡ 0) × HasS
 ModeAnswers mode.Replay settings bytes ended status text = IsNew ended × AnswersTrace told.Census bytes status text
 ModeAnswers mode.Audit settings bytes ended status text = IsNew ended × AnswersTrace told.Audit bytes status text
 ModeAnswers mode.Watch settings bytes ended status text = AnswersWatch settings bytes ended status text
+ModeAnswers mode.Stages settings bytes ended status text = AnswersStages settings bytes ended status text
 
 -- more records than a job file may have, or a watch file
 abbrev pub HasTooMany : Mode → List ℕ → Type 0
 HasTooMany mode.Run bytes = Refuses bytes fault.TooMany
 HasTooMany mode.Watch bytes = RefusesWatch bytes watch.TooMany
+HasTooMany mode.Stages bytes = Refuses bytes fault.TooMany
 HasTooMany m bytes = ⊥
 
--- more bytes than an input may have, or, in mode run or watch, more records than its file may have
+-- more bytes than an input may have, or, in mode run, watch or stages, more records than its file may have
 abbrev pub IsTooLarge : Mode → List ℕ → Type 0
 IsTooLarge m bytes = (input_limit < length bytes) ⊎ HasTooMany m bytes
 
@@ -98,6 +105,7 @@ reads mode.Trial = false
 reads mode.Replay = true
 reads mode.Audit = true
 reads mode.Watch = true
+reads mode.Stages = true
 
 -- the bytes that are answered, by what was left before and after: where the mode reads, those that were taken from the front, all of
 -- them or more than an input may have; else none, and nothing was taken

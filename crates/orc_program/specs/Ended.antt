@@ -1,5 +1,6 @@
 -- What a run leaves.
 use Rattle.std.specs.Prelude.{◌≡◌, Bool, ℕ, List, Some, None, IfSome, if◌then◌else◌}
+use Rattle.std.specs.List.{AllByRecursion}
 use Rattle.orc_jobs.specs.declared.line.Job.{Job}
 use Rattle.orc_jobs.specs.declared.line.Line.{Line}
 use Rattle.orc_jobs.specs.Generated.{generated}
@@ -17,6 +18,9 @@ use Rattle.orc_run.specs.declared.run.Finished.{Finished}
 use Rattle.orc_run.specs.declared.set.SetRest.{SetRest}
 use Rattle.orc_run.specs.declared.set.SetRest.TheVariants as at_rest
 use Rattle.orc_sound.specs.Journals.{plain}
+use Rattle.orc_stages_run.specs.Runs.{WentThrough}
+use Rattle.orc_stages_run.specs.declared.run.StagesFinished.{StagesFinished}
+use Rattle.orc_stages_text.specs.StagesText.{text_of as stages_text_of}
 use Rattle.orc_watch.specs.WatchText.{text_of}
 use Rattle.orc_watch.specs.declared.line.WatchLine.{WatchLine}
 use Rattle.orc_watch.specs.declared.text.CellNumbers.{CellNumbers}
@@ -34,6 +38,7 @@ pub record IsNew (ended : Ended) : Type 0 where
   pub split : ended.split ≡ None
   pub replies : ended.replies ≡ None
   pub cell : ended.cell ≡ None
+  pub stages : ended.stages ≡ None
 
 -- the set's domain is there, in the place of its kind alone
 abbrev pub KeepsSet : SetRest → Ended → Type 0
@@ -47,6 +52,7 @@ pub record Keeps (finished : Finished) (ended : Ended) : Type 0 where
   pub set : KeepsSet finished.set ended
   pub replies : ended.replies ≡ Some finished.replies
   pub cell : ended.cell ≡ None
+  pub stages : ended.stages ≡ None
 
 -- what a watch has left is there
 pub record KeepsCell (finished : WatchFinished) (ended : Ended) : Type 0 where
@@ -56,6 +62,17 @@ pub record KeepsCell (finished : WatchFinished) (ended : Ended) : Type 0 where
   pub split : ended.split ≡ None
   pub replies : ended.replies ≡ None
   pub cell : ended.cell ≡ Some finished.cell
+  pub stages : ended.stages ≡ None
+
+-- what a run of the pipeline has left is there
+pub record KeepsStages (finished : StagesFinished) (ended : Ended) : Type 0 where
+  pub queue : ended.queue ≡ None
+  pub rush : ended.rush ≡ None
+  pub set : ended.set ≡ None
+  pub split : ended.split ≡ None
+  pub replies : ended.replies ≡ None
+  pub cell : ended.cell ≡ None
+  pub stages : ended.stages ≡ Some finished.queues
 
 -- Where a run has ended, by the three actual journals, of the queue, at false, of the rush queue, at true, and of the set, or by that
 -- of the cell: no row was used again while it was linked or held, nor twice; and at the end what was given was freed or is linked.
@@ -64,10 +81,12 @@ pub record EndsSafely (ended : Ended) : Type 0 where
   pub set_reuse : IfSome ended.set (λ r. ReusesRowsSafely (domain_bounds (rest_domain r)) r)
   pub split_reuse : IfSome ended.split (λ r. ReusesRowsSafely (domain_bounds (rest_domain r)) r)
   pub cell_reuse : IfSome ended.cell (λ r. ReusesSafely (domain_bounds (rest_domain r)) (rest_journal r))
+  pub stages_reuse : IfSome ended.stages (λ rs. AllByRecursion (λ r. ReusesRowsSafely (domain_bounds (rest_domain r)) r) rs.items)
   pub queues_rest : (rush : Bool) → IfSome (pick ended.queue ended.rush rush) (λ r. EndsWithoutLeak (domain_bounds (rest_domain r)) r)
   pub set_rest : IfSome ended.set (λ r. EndsWithoutLeak (domain_bounds (rest_domain r)) r)
   pub split_rest : IfSome ended.split (λ r. EndsWithoutLeak (domain_bounds (rest_domain r)) r)
   pub cell_rest : IfSome ended.cell (λ r. LeaksNothing (domain_bounds (rest_domain r)) (rest_journal r))
+  pub stages_rest : IfSome ended.stages (λ rs. AllByRecursion (λ r. EndsWithoutLeak (domain_bounds (rest_domain r)) r) rs.items)
 
 -- these lines were worked through as the settings say, and the headline holds of what has ended
 pub record HasReported (lines : List Line) (settings : Settings) (ended : Ended) (text : List ℕ) : Type 0 where
@@ -108,3 +127,11 @@ pub record HasWatched (lines : List WatchLine) (settings : Settings) (ended : En
   pub kept : KeepsCell finished ended
   pub run : WatchedThrough lines settings.posters settings.rows finished
   pub told : text ≡ text_of finished.replies.items finished.now_left finished.now_right (if settings.rest then Some (cell_numbers finished) else None)
+
+-- the jobs of these lines went through as many stages as the settings say, behind as many posters and over queues of as many rows, and
+-- the text tells all replies and what came out
+pub record HasStaged (lines : List Line) (settings : Settings) (ended : Ended) (text : List ℕ) : Type 0 where
+  pub finished : StagesFinished
+  pub kept : KeepsStages finished ended
+  pub run : WentThrough lines settings.posters settings.stages settings.rows finished
+  pub told : text ≡ stages_text_of finished.done.posts.items finished.done.moves.items finished.done.outs.items

@@ -9,6 +9,7 @@ use crate::Ended;
 use crate::jobs_mode::answer_jobs;
 use crate::make_mode::answer_make;
 use crate::reading::INPUT_LIMIT;
+use crate::stages_mode::answer_stages;
 use crate::trace_mode::{Told, answer_trace};
 use crate::trial_mode::answer_trial;
 use crate::watch_mode::answer_watch;
@@ -28,7 +29,7 @@ pub(crate) struct Answer {
 }
 
 // What the settings ask for: the report of the jobs of these bytes, a generated file, the summary of generated work, what is told of
-// a trace, or what came of a watch; or the refusal of the bytes.
+// a trace, what came of a watch, or of the jobs of a pipeline; or the refusal of the bytes.
 pub(crate) fn answer_of<R: Threads + Wait + Sync, G: Gate + Sync>(
     rt: &R,
     alloc: Global,
@@ -52,6 +53,7 @@ pub(crate) fn answer_of<R: Threads + Wait + Sync, G: Gate + Sync>(
         Mode::Replay => answer_trace(alloc, bytes, Told::Census),
         Mode::Audit => answer_trace(alloc, bytes, Told::Audit),
         Mode::Watch => answer_watch(rt, alloc, settings, bytes, gate, ended),
+        Mode::Stages => answer_stages(rt, alloc, settings, bytes, gate, ended),
     }
 }
 

@@ -1,5 +1,5 @@
 //! What a run leaves for its caller.
-ghost use Rattle.orc_program.specs.Ended.{IsNew, Keeps, KeepsCell};
+ghost use Rattle.orc_program.specs.Ended.{IsNew, Keeps, KeepsCell, KeepsStages};
 
 use orc_board::Replies;
 use orc_chain_rule::Chain;
@@ -8,6 +8,7 @@ use orc_pairs_rule::Pairs;
 use orc_reclaiming_domain::OrcRest;
 use orc_run::{Finished, SetRest};
 use orc_split_rule::Split;
+use orc_stages_run::{RestList, StagesFinished};
 use orc_watch_domain::WatchFinished;
 
 /// The domains of queue, rush queue and set at rest, each with the journal of all that happened on it, and the replies of a run; or
@@ -21,6 +22,7 @@ pub struct Ended {
     pub split: Option<OrcRest<Split>>,
     pub replies: Option<Replies>,
     pub cell: Option<OrcRest<Pairs>>,
+    pub stages: Option<RestList>,
 }
 
 impl Ended {
@@ -35,6 +37,7 @@ impl Ended {
             split: None,
             replies: None,
             cell: None,
+            stages: None,
         }
     }
 
@@ -65,5 +68,14 @@ impl Ended {
     {
         let WatchFinished { cell, .. } = finished;
         self.cell = Some(cell);
+    }
+
+    // Keeps what a run of the pipeline has left.
+    pub(crate) fn keep_stages(&mut self, finished: StagesFinished)
+        requires { IsNew self.old }
+        ensures { KeepsStages finished self.new }
+    {
+        let StagesFinished { queues, .. } = finished;
+        self.stages = Some(queues);
     }
 }

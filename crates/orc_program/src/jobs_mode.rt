@@ -89,7 +89,7 @@ fn numbers_at_rest(asked: bool, finished: &Finished) -> Option<RestNumbers>
 }
 
 // The word of a cause.
-fn word_of(cause: Cause) -> &'static str
+pub(crate) fn word_of(cause: Cause) -> &'static str
     ensures { result.now ≡ cause_word cause }
 {
     match cause {

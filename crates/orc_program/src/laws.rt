@@ -22,7 +22,7 @@ use orc_options::Mode;
 use orc_trace::TraceFault;
 use orc_watch::WatchFault;
 
-/// A law, with nothing to run: settings and bytes have one status, and but for a report, a summary and what came of a watch one text.
+/// A law, with nothing to run: settings and bytes have one status, and but for a report, a summary and what came of a watch or of a pipeline one text.
 /// So whatever answers a file of lines is its report, and so on.
 pub fn inputs_have_one_answer()
     ensures large { (s : Settings) (bytes : List ℕ) (e : Ended) (status : ℕ) (text : List ℕ) → Answers s bytes e status text
@@ -49,6 +49,11 @@ pub fn inputs_have_one_answer()
     ensures watch_record { (s : Settings) (bytes : List ℕ) (e : Ended) (status : ℕ) (text : List ℕ) → Answers s bytes e status text
         → s.mode ≡ Mode.Watch → length bytes ≤ input_limit → (place : ℕ) (why : WatchCause) → RefusesWatch bytes (WatchFault.Malformed place why)
         → (status ≡ 3) × (text ≡ malformed_watch place why) }
+    ensures stages { (s : Settings) (bytes : List ℕ) (e : Ended) (status : ℕ) (text : List ℕ) → Answers s bytes e status text
+        → s.mode ≡ Mode.Stages → length bytes ≤ input_limit → (lines : List Line) → IsFileOf lines bytes → status ≡ 0 }
+    ensures stages_record { (s : Settings) (bytes : List ℕ) (e : Ended) (status : ℕ) (text : List ℕ) → Answers s bytes e status text
+        → s.mode ≡ Mode.Stages → length bytes ≤ input_limit → (place : ℕ) (why : Cause) → Refuses bytes (JobsFault.Malformed place why)
+        → (status ≡ 3) × (text ≡ malformed_line place why) }
 {}
 
 /// A law, with nothing to run: of an input that is told, the bytes that are answered are all, or more than an input may have.

@@ -1,5 +1,6 @@
 //! The program as one call: a job file is read, worked through and reported, or generated, or generated work is summed up, or a
-//! trace is played, or a watch file is worked through.
+//! trace is played, a watch file is worked through, or jobs go through
+//! a pipeline.
 #![tactic(auto)]
 
 mod answer;
@@ -8,6 +9,7 @@ mod jobs_mode;
 mod laws;
 mod make_mode;
 mod reading;
+mod stages_mode;
 mod streams;
 mod top_call;
 mod trace_mode;

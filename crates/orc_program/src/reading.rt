@@ -27,7 +27,7 @@ pub(crate) fn read_input<S: Source>(
 {
     match mode {
         Mode::Make | Mode::Trial => Ok(Vec::new(alloc)),
-        Mode::Run | Mode::Replay | Mode::Audit | Mode::Watch => {
+        Mode::Run | Mode::Replay | Mode::Audit | Mode::Watch | Mode::Stages => {
             read_all(alloc, source, INPUT_LIMIT)
         }
     }

@@ -26,12 +26,13 @@ use std::thread::Threads;
 /// nothing, works through generated lines in the same way and writes the summary; in mode make, reads nothing and writes the
 /// generated lines as a job file; in mode replay, reads a trace, plays it and writes what it leaves; in mode audit, reads a
 /// trace and writes its worst backlog, the lives of its rows and its first leak; in mode watch, reads a watch file, works through it
-/// with workers on threads over one cell and writes what came of each line; or writes why not. The words are read by `clap`, as
+/// with workers on threads over one cell and writes what came of each line; in mode stages, reads a job file, sends its jobs through a
+/// pipeline of queues on threads and writes what came of each; or writes why not. The words are read by `clap`, as
 /// `settings_of` says.
 ///
 /// | Status | Comes | Written |
 /// |---|---|---|
-/// | 0 | done | the report, the summary, the job file, the line of the census, the lines of the audit, or those of the watch |
+/// | 0 | done | the report, the summary, the job file, the line of the census, the lines of the audit, those of the watch, or those of the pipeline |
 /// | 2 | `clap` refuses the words for another cause than want of memory; help and a version count as refused | `words refused` |
 /// | 3 | a record is outside the grammar | `line N: CAUSE` |
 /// | 4 | a read failed | nothing |

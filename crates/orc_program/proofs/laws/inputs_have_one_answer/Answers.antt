@@ -30,3 +30,9 @@ returns-clause-watch c = one.watch_file
 
 pub returns-clause-watch_record : goal.returns-clause-watch_record
 returns-clause-watch_record c = one.watch_refused
+
+pub returns-clause-stages : goal.returns-clause-stages
+returns-clause-stages c = one.stages_file
+
+pub returns-clause-stages_record : goal.returns-clause-stages_record
+returns-clause-stages_record c = one.stages_refused
