@@ -53,11 +53,14 @@ static void has_ended(void) {}
 int32_t mooringakee_proved_queue_make(uint32_t rows, uint64_t turns, struct mooringakee_pass *passes, size_t agents);
 int32_t mooringakee_proved_set_make(uint32_t rows, uint32_t buckets, uint64_t turns, struct mooringakee_pass *passes,
                                     size_t agents);
+int32_t mooringakee_proved_split_set_make(uint32_t rows, uint32_t buckets, uint64_t turns, struct mooringakee_pass *passes,
+                                          size_t agents);
 int32_t mooringakee_proved_enqueue(struct mooringakee_pass *pass, uint64_t value);
 int32_t mooringakee_proved_dequeue(struct mooringakee_pass *pass, uint64_t *value);
 int32_t mooringakee_proved_insert(struct mooringakee_pass *pass, uint64_t key, bool *absent);
 int32_t mooringakee_proved_remove(struct mooringakee_pass *pass, uint64_t key, bool *present);
 int32_t mooringakee_proved_contains(struct mooringakee_pass *pass, uint64_t key, bool *present);
+int32_t mooringakee_proved_buckets(struct mooringakee_pass *pass, uint32_t *buckets);
 int32_t mooringakee_proved_settle(struct mooringakee_pass *pass);
 int32_t mooringakee_proved_backlog(struct mooringakee_pass *pass, uint32_t *rows);
 int32_t mooringakee_proved_drop(struct mooringakee_pass *pass);
@@ -104,6 +107,13 @@ int32_t mooringakee_set_make(uint32_t rows, uint32_t buckets, uint64_t turns, st
     return mooringakee_proved_set_make(rows, buckets, turns, passes, agents);
 }
 
+int32_t mooringakee_split_set_make(uint32_t rows, uint32_t buckets, uint64_t turns, struct mooringakee_pass *passes,
+                                   size_t agents) {
+    if (passes == NULL) return MOORINGAKEE_NULL;
+    if (!are_agents(agents)) return MOORINGAKEE_SHAPE;
+    return mooringakee_proved_split_set_make(rows, buckets, turns, passes, agents);
+}
+
 int32_t mooringakee_enqueue(struct mooringakee_pass *pass, uint64_t value) {
     if (pass == NULL) return MOORINGAKEE_NULL;
     is_put(value);
@@ -138,6 +148,10 @@ int32_t mooringakee_contains(struct mooringakee_pass *pass, uint64_t key, bool *
     int32_t code = mooringakee_proved_contains(pass, key, present);
     is_found(key);
     return code;
+}
+
+int32_t mooringakee_buckets(struct mooringakee_pass *pass, uint32_t *buckets) {
+    return pass == NULL || buckets == NULL ? MOORINGAKEE_NULL : mooringakee_proved_buckets(pass, buckets);
 }
 
 int32_t mooringakee_settle(struct mooringakee_pass *pass) {

@@ -1,4 +1,4 @@
-/* Mooringakee for C11 and C++17: a queue and a set without locks, which reclaim their nodes by themselves.
+/* Mooringakee for C11 and C++17: a queue and sets without locks, which reclaim their nodes by themselves.
  *
  * A container has a fixed number of rows. A row is one node at a time, and is given again once nothing links that node
  * and nobody holds it. Who calls at the same time are agents, 1 to 16 of them, each with a pass of its own: a thread
@@ -9,7 +9,7 @@
  *     if (mooringakee_queue_make(1024, 64, passes, 2) == MOORINGAKEE_OK)
  *         ... one thread calls with &passes[0], another with &passes[1] ...
  *
- * A null pointer, an empty pass, a pass of a container of the other kind, and a number out of range are answered with a
+ * A null pointer, an empty pass, a pass of a container of another kind, and a number out of range are answered with a
  * code. What the caller owes, and nothing checks:
  *
  *  1. A pass begins as all zero bytes. By its bytes alone an empty pass is told from a live one.
@@ -60,7 +60,7 @@ enum mooringakee_code {
     MOORINGAKEE_NO_PASS = 7,   /* the pass is empty: zeroed or dropped */
     MOORINGAKEE_LIVE = 8,      /* a pass for a make is live */
     MOORINGAKEE_NULL = 9,      /* a null pointer */
-    MOORINGAKEE_KIND = 10,     /* a queue's call with a pass of a set, or the other way round */
+    MOORINGAKEE_KIND = 10,     /* a queue's call with a pass of a set, or the other way round; or `buckets` of another one */
     MOORINGAKEE_SPENT = 11,    /* a row has been given or linked as often as can be */
     MOORINGAKEE_OTHERS = 12,   /* other passes of the container are live */
     MOORINGAKEE_KEPT = 13      /* rows are left that this pass had to work through */
@@ -70,6 +70,7 @@ enum {
     MOORINGAKEE_LEAST_ROWS = 2,
     MOORINGAKEE_MOST_ROWS = 65535,
     MOORINGAKEE_MOST_BUCKETS = 257,
+    MOORINGAKEE_MOST_SPLIT_BUCKETS = 256,
     MOORINGAKEE_MOST_AGENTS = 16,
     MOORINGAKEE_TURNS = 64 /* a good number of turns */
 };
@@ -99,7 +100,14 @@ int32_t mooringakee_dequeue(struct mooringakee_pass *pass, uint64_t *value);
 int32_t mooringakee_set_make(uint32_t rows, uint32_t buckets, uint64_t turns, struct mooringakee_pass *passes,
                              size_t agents);
 
-/* Adds a key, and tells whether it was absent.
+/* Makes an empty split-ordered set over 2 to 65,535 rows, which begins with one bucket and doubles them as keys come, up to
+ * `buckets`: 1, 2, 4 and so on, at most 256. Fills the passes as mooringakee_queue_make does. Besides the keys, a row is taken
+ * by each bucket but the first once it is used, and by the number of buckets once they were doubled; they stay so to the end.
+ * OK; SHAPE, NO_MEMORY, LIVE, NULL, where nothing was made. */
+int32_t mooringakee_split_set_make(uint32_t rows, uint32_t buckets, uint64_t turns, struct mooringakee_pass *passes,
+                                   size_t agents);
+
+/* The next three are calls of a set of either kind. Adds a key, and tells whether it was absent.
  * OK; AGAIN, FULL, SPENT, NO_PASS, KIND, NULL, where it was not added. */
 int32_t mooringakee_insert(struct mooringakee_pass *pass, uint64_t key, bool *absent);
 
@@ -110,6 +118,10 @@ int32_t mooringakee_remove(struct mooringakee_pass *pass, uint64_t key, bool *pr
 /* Tells whether a key is present.
  * OK; AGAIN, NO_PASS, KIND, NULL. */
 int32_t mooringakee_contains(struct mooringakee_pass *pass, uint64_t key, bool *present);
+
+/* Tells how many buckets a split-ordered set has.
+ * OK; AGAIN, NO_PASS, KIND, NULL. */
+int32_t mooringakee_buckets(struct mooringakee_pass *pass, uint32_t *buckets);
 
 /* Works through the rows that wait for this pass, so that they may be given again. Each call on the container does so at
  * its end.
@@ -130,7 +142,8 @@ struct mooringakee_counts {
     uint64_t given;  /* rows given, each as often as it was */
     uint64_t reused; /* rows freed, to be given again, each as often as it was */
     uint32_t linked; /* rows still linked: one for each value or key that was left, and one of a queue's own; in a set one
-                        more for a key that was removed where its unlinking met other calls */
+                        more for a key that was removed where its unlinking met other calls; in a split-ordered set those
+                        of its buckets and of their number */
 };
 
 /* Empties the pass. Where it is the last live one of its container, works through all that any pass had left, tells how

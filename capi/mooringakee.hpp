@@ -1,4 +1,4 @@
-// The queue and the set of mooringakee.h for C++17.
+// The queue and the sets of mooringakee.h for C++17.
 //
 // A container hands out its passes, one for each agent; each thread calls with a pass of its own. A pass is moved and not
 // copied, may go from thread to thread, and gives its place up when it ends. The container lives until its last pass
@@ -175,7 +175,7 @@ private:
     std::vector<detail::raw_pass> left_;
 };
 
-// A set of numbers.
+// A set of numbers, bucketed or split-ordered.
 class set {
 public:
     // One agent's pass.
@@ -189,6 +189,15 @@ public:
 
         // Whether a key is there.
         bool contains(std::uint64_t key) { return answer(mooringakee_contains, key); }
+
+        // How many buckets a split-ordered set has; nothing where they are fixed.
+        std::optional<std::uint32_t> buckets() {
+            std::uint32_t count = 0;
+            std::int32_t code = detail::until_answered([&] { return mooringakee_buckets(raw_.at(), &count); });
+            if (code == MOORINGAKEE_KIND) return std::nullopt;
+            if (code != MOORINGAKEE_OK) throw refused(code);
+            return count;
+        }
 
         // Ends the pass. The set's last one is told of its rows; the others get nothing. Throws as a queue's does.
         std::optional<counts> close() { return raw_.close(); }
@@ -212,10 +221,19 @@ public:
         : left_(detail::raw_pass::made(
               agents, [=](mooringakee_pass *all) { return mooringakee_set_make(rows, buckets, turns, all, agents); })) {}
 
+    // A split-ordered set, which doubles its one bucket as keys come, up to so many: 1, 2, 4 and so on, at most 256.
+    static set split_ordered(std::uint32_t rows, std::uint32_t buckets, std::size_t agents,
+                             std::uint64_t turns = MOORINGAKEE_TURNS) {
+        return set(detail::raw_pass::made(
+            agents, [=](mooringakee_pass *all) { return mooringakee_split_set_make(rows, buckets, turns, all, agents); }));
+    }
+
     // The next agent's pass. Throws std::out_of_range where each has its own.
     pass take_pass() { return pass(detail::next_of(left_)); }
 
 private:
+    explicit set(std::vector<detail::raw_pass> passes) noexcept : left_(std::move(passes)) {}
+
     std::vector<detail::raw_pass> left_;
 };
 

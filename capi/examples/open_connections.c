@@ -1,13 +1,14 @@
 /* A set of the connections that are open: two threads open and close connections, a third one asks before it writes.
  *
- * The set holds the numbers of the connections. Whoever changes it or asks needs no lock, and waits for no one. */
+ * The set holds the numbers of the connections. Whoever changes it or asks needs no lock, and waits for no one. Nobody knows
+ * beforehand how many will be open at a time, so the set is one that begins with one bucket and doubles them as keys come. */
 #include <mooringakee.h>
 #include <pthread.h>
 #include <sched.h>
 #include <stdio.h>
 #include <stdlib.h>
 
-enum { SERVERS = 2, CONNECTIONS = 2000, KEPT = 5 };
+enum { SERVERS = 2, CONNECTIONS = 2000, KEPT = 50 };
 
 struct server {
     struct mooringakee_pass *pass;
@@ -48,7 +49,7 @@ static void *write_to_open(void *pass) {
 
 int main(void) {
     struct mooringakee_pass passes[SERVERS + 1] = {{0}};
-    int32_t code = mooringakee_set_make(256, 16, MOORINGAKEE_TURNS, passes, SERVERS + 1);
+    int32_t code = mooringakee_split_set_make(512, 64, MOORINGAKEE_TURNS, passes, SERVERS + 1);
     if (code != MOORINGAKEE_OK) {
         fprintf(stderr, "no set: %s\n", mooringakee_code_name(code));
         return 1;
@@ -66,7 +67,9 @@ int main(void) {
     int open = 0;
     for (uint64_t connection = 0; connection < SERVERS * CONNECTIONS; connection++)
         open += answer_of(mooringakee_contains, &passes[0], connection);
-    printf("%d of %d connections are open\n", open, SERVERS * CONNECTIONS);
+    uint32_t buckets = 0;
+    if (mooringakee_buckets(&passes[0], &buckets) != MOORINGAKEE_OK) return 1;
+    printf("%d of %d connections are open, in %u buckets\n", open, SERVERS * CONNECTIONS, buckets);
     for (int i = 0; i <= SERVERS; i++) mooringakee_drop(&passes[i]);
     return open == SERVERS * KEPT ? 0 : 1;
 }

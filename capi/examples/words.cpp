@@ -45,6 +45,12 @@ int main() {
     for (std::uint64_t length = 0; length < 64; length++) different += other.contains(length);
     std::printf("%zu words of %zu lengths were taken, %zu are left to the queue\n", taken, different, kept);
 
+    // a split-ordered set has more buckets once it has many keys
+    auto numbers = mooringakee::set::split_ordered(256, 16, 1).take_pass();
+    for (std::uint64_t number = 0; number < 64; number++) numbers.insert(number);
+    auto buckets = numbers.buckets();
+    if (seen.buckets() || !buckets || *buckets < 2 || !numbers.contains(63) || numbers.contains(64)) return 1;
+
     // the last pass is told of the set's rows
     auto none = other.close();
     auto rows = seen.close();

@@ -2,7 +2,7 @@
 #include "check.h"
 #include <string.h>
 
-static struct mooringakee_pass queue[2], set[2];
+static struct mooringakee_pass queue[2], set[2], split;
 
 static bool is_empty(const struct mooringakee_pass *pass) {
     return pass->at == NULL && !pass->live;
@@ -44,6 +44,17 @@ static void makes_out_of_range(void) {
     ANSWERS(SHAPE, mooringakee_set_make(64, 4, 64, passes, 0));
     ANSWERS(SHAPE, mooringakee_set_make(64, 4, 64, passes, 17));
     ANSWERS(NULL, mooringakee_set_make(64, 4, 64, NULL, 2));
+    ANSWERS(SHAPE, mooringakee_split_set_make(1, 4, 64, passes, 2));
+    ANSWERS(SHAPE, mooringakee_split_set_make(65536, 4, 64, passes, 2));
+    ANSWERS(SHAPE, mooringakee_split_set_make(64, 0, 64, passes, 2));
+    ANSWERS(SHAPE, mooringakee_split_set_make(64, 3, 64, passes, 2));
+    ANSWERS(SHAPE, mooringakee_split_set_make(64, 255, 64, passes, 2));
+    ANSWERS(SHAPE, mooringakee_split_set_make(64, 512, 64, passes, 2));
+    ANSWERS(SHAPE, mooringakee_split_set_make(64, UINT32_MAX, 64, passes, 2));
+    ANSWERS(SHAPE, mooringakee_split_set_make(64, 4, 0, passes, 2));
+    ANSWERS(SHAPE, mooringakee_split_set_make(64, 4, 64, passes, 0));
+    ANSWERS(SHAPE, mooringakee_split_set_make(64, 4, 64, passes, 17));
+    ANSWERS(NULL, mooringakee_split_set_make(64, 4, 64, NULL, 2));
     for (size_t i = 0; i <= MOORINGAKEE_MOST_AGENTS; i++) CHECK(is_empty(&passes[i]));
 }
 
@@ -57,6 +68,12 @@ static void makes_in_range(void) {
     ANSWERS(OK, mooringakee_set_make(2, 1, 1, passes, 1));
     ANSWERS(OK, mooringakee_drop(&passes[0]));
     ANSWERS(OK, mooringakee_set_make(65535, 257, UINT64_MAX, passes, 16));
+    for (size_t i = 0; i < 16; i++) ANSWERS(OK, mooringakee_drop(&passes[i]));
+    for (uint32_t buckets = 1; buckets <= MOORINGAKEE_MOST_SPLIT_BUCKETS; buckets *= 2) {
+        ANSWERS(OK, mooringakee_split_set_make(2, buckets, 1, passes, 1));
+        ANSWERS(OK, mooringakee_drop(&passes[0]));
+    }
+    ANSWERS(OK, mooringakee_split_set_make(65535, 256, UINT64_MAX, passes, 16));
     for (size_t i = 0; i < 16; i++) ANSWERS(OK, mooringakee_drop(&passes[i]));
     for (size_t i = 0; i < 16; i++) CHECK(is_empty(&passes[i]));
 }
@@ -74,6 +91,8 @@ static void null_pointers(void) {
     ANSWERS(NULL, mooringakee_remove(&set[0], 1, NULL));
     ANSWERS(NULL, mooringakee_contains(NULL, 1, &answer));
     ANSWERS(NULL, mooringakee_contains(&set[0], 1, NULL));
+    ANSWERS(NULL, mooringakee_buckets(NULL, &rows));
+    ANSWERS(NULL, mooringakee_buckets(&split, NULL));
     ANSWERS(NULL, mooringakee_settle(NULL));
     ANSWERS(NULL, mooringakee_backlog(NULL, &rows));
     ANSWERS(NULL, mooringakee_backlog(&queue[0], NULL));
@@ -95,6 +114,7 @@ static void answers_no_pass(struct mooringakee_pass *pass) {
     ANSWERS(NO_PASS, mooringakee_insert(pass, 1, &answer));
     ANSWERS(NO_PASS, mooringakee_remove(pass, 1, &answer));
     ANSWERS(NO_PASS, mooringakee_contains(pass, 1, &answer));
+    ANSWERS(NO_PASS, mooringakee_buckets(pass, &rows));
     ANSWERS(NO_PASS, mooringakee_settle(pass));
     ANSWERS(NO_PASS, mooringakee_backlog(pass, &rows));
     ANSWERS(NO_PASS, mooringakee_drop(pass));
@@ -103,9 +123,17 @@ static void answers_no_pass(struct mooringakee_pass *pass) {
     CHECK(answer && value == 7 && rows == 7 && counts.given == 7 && is_empty(pass));
 }
 
-static void passes_of_the_other_kind(void) {
+static void passes_of_another_kind(void) {
     uint64_t value = 7;
+    uint32_t buckets = 7;
     bool answer = true;
+    ANSWERS(KIND, mooringakee_enqueue(&split, 1));
+    ANSWERS(KIND, mooringakee_dequeue(&split, &value));
+    ANSWERS(KIND, mooringakee_buckets(&queue[0], &buckets));
+    ANSWERS(KIND, mooringakee_buckets(&set[0], &buckets));
+    CHECK(buckets == 7);
+    ANSWERS(OK, mooringakee_buckets(&split, &buckets));
+    CHECK(buckets == 1 && !has(&split, 1));
     ANSWERS(KIND, mooringakee_enqueue(&set[0], 1));
     ANSWERS(KIND, mooringakee_dequeue(&set[0], &value));
     ANSWERS(KIND, mooringakee_insert(&queue[0], 1, &answer));
@@ -123,6 +151,7 @@ static void second_makes(void) {
     void *at = passes[1].at;
     ANSWERS(LIVE, mooringakee_queue_make(8, 64, passes, 3));
     ANSWERS(LIVE, mooringakee_set_make(8, 1, 64, passes, 3));
+    ANSWERS(LIVE, mooringakee_split_set_make(8, 1, 64, passes, 3));
     CHECK(is_empty(&passes[0]) && passes[1].at == at && passes[1].live && is_empty(&passes[2]));
     ANSWERS(OK, mooringakee_enqueue(&passes[1], 5));
     ANSWERS(OK, mooringakee_drop(&passes[1]));
@@ -185,6 +214,8 @@ static void moves_and_drops(void) {
     CHECK(value == 5);
     ANSWERS(OK, mooringakee_queue_drop(&queue[1]));
     for (int i = 0; i < 2; i++) ANSWERS(OK, mooringakee_drop(&set[i]));
+    ANSWERS(OK, mooringakee_drop(&split));
+    answers_no_pass(&split);
     for (int i = 0; i < 2; i++) {
         answers_no_pass(&queue[i]);
         answers_no_pass(&set[i]);
@@ -206,8 +237,9 @@ int main(void) {
     answers_no_pass(&queue[0]);
     ANSWERS(OK, mooringakee_queue_make(4, 64, queue, 2));
     ANSWERS(OK, mooringakee_set_make(4, 2, 64, set, 2));
+    ANSWERS(OK, mooringakee_split_set_make(4, 2, 64, &split, 1));
     null_pointers();
-    passes_of_the_other_kind();
+    passes_of_another_kind();
     second_makes();
     values_and_rows();
     moves_and_drops();

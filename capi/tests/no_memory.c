@@ -40,6 +40,10 @@ static int32_t make_set(struct mooringakee_pass *passes) {
     return mooringakee_set_make(64, 4, MOORINGAKEE_TURNS, passes, 3);
 }
 
+static int32_t make_split_set(struct mooringakee_pass *passes) {
+    return mooringakee_split_set_make(64, 4, MOORINGAKEE_TURNS, passes, 3);
+}
+
 /* How often memory could be refused. */
 static uint64_t refusals(int32_t (*make)(struct mooringakee_pass *)) {
     struct mooringakee_pass passes[3] = {{0}};
@@ -83,6 +87,7 @@ static uint64_t refusals(int32_t (*make)(struct mooringakee_pass *)) {
 }
 
 int main(void) {
-    uint64_t queue = refusals(make_queue), set = refusals(make_set);
-    printf("no_memory: refused at each of %llu and %llu places\n", (unsigned long long)queue, (unsigned long long)set);
+    uint64_t queue = refusals(make_queue), set = refusals(make_set), split = refusals(make_split_set);
+    printf("no_memory: refused at each of %llu, %llu and %llu places\n", (unsigned long long)queue, (unsigned long long)set,
+           (unsigned long long)split);
 }

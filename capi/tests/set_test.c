@@ -1,4 +1,4 @@
-/* Threads insert and remove the same keys at once: set_test [THREADS [CALLS]]. In the end a key is in the set if it was
+/* Threads insert and remove the same keys of a set of either kind at once: set_test [THREADS [CALLS]]. In the end a key is in the set if it was
  * inserted once more than removed, and not if as often, whoever did it. */
 #include "check.h"
 #include <pthread.h>
@@ -58,17 +58,16 @@ static void *work(void *of) {
     return NULL;
 }
 
-int main(int count, char **words) {
-    if (count > 1) threads = strtoull(words[1], NULL, 10);
-    if (count > 2) calls = strtoull(words[2], NULL, 10);
-    CHECK(1 <= threads && threads <= MOORINGAKEE_MOST_AGENTS);
+typedef int32_t make_set(uint32_t rows, uint32_t buckets, uint64_t turns, struct mooringakee_pass *passes, size_t agents);
+
+static void run(const char *kind, make_set *make) {
     static struct mooringakee_pass passes[MOORINGAKEE_MOST_AGENTS];
     static struct agent agents[MOORINGAKEE_MOST_AGENTS];
     pthread_t ids[MOORINGAKEE_MOST_AGENTS];
-    ANSWERS(OK, mooringakee_set_make(4 * KEYS, 8, MOORINGAKEE_TURNS, passes, threads));
+    ready = 0;
+    ANSWERS(OK, make(4 * KEYS, 8, MOORINGAKEE_TURNS, passes, threads));
     for (size_t i = 0; i < threads; i++) {
-        agents[i].pass = &passes[i];
-        agents[i].random = 88172645463325252 + i * 0x9e3779b97f4a7c15;
+        agents[i] = (struct agent){.pass = &passes[i], .random = 88172645463325252 + i * 0x9e3779b97f4a7c15};
         CHECK(pthread_create(&ids[i], NULL, work, &agents[i]) == 0);
     }
     for (size_t i = 0; i < threads; i++) CHECK(pthread_join(ids[i], NULL) == 0);
@@ -87,5 +86,14 @@ int main(int count, char **words) {
     }
     for (size_t i = 0; i < threads; i++) done += agents[i].done;
     for (size_t i = 0; i < threads; i++) ANSWERS(OK, mooringakee_drop(&passes[i]));
-    printf("set_test: %zu threads, %llu calls answered OK, %zu keys at the end\n", (size_t)threads, (unsigned long long)done, present);
+    printf("set_test: %s, %zu threads, %llu calls answered OK, %zu keys at the end\n", kind, (size_t)threads,
+           (unsigned long long)done, present);
+}
+
+int main(int count, char **words) {
+    if (count > 1) threads = strtoull(words[1], NULL, 10);
+    if (count > 2) calls = strtoull(words[2], NULL, 10);
+    CHECK(1 <= threads && threads <= MOORINGAKEE_MOST_AGENTS);
+    run("bucketed", mooringakee_set_make);
+    run("split-ordered", mooringakee_split_set_make);
 }

@@ -1,4 +1,4 @@
-//! A lock-free queue and a lock-free set that reclaim their nodes by themselves, over a library whose calls are proved.
+//! A lock-free queue and lock-free sets that reclaim their nodes by themselves, over a library whose calls are proved.
 //!
 //! A container hands out its passes, one for each agent, 1 to 16. Each thread calls with a pass of its own: a pass goes
 //! from thread to thread as a value, and a call takes it as `&mut`. A container takes all its memory when it is made;

@@ -10,6 +10,7 @@ pub(crate) const FULL: i32 = 2;
 pub(crate) const POSITIONS: i32 = 3;
 pub(crate) const EMPTY: i32 = 4;
 pub(crate) const NO_MEMORY: i32 = 6;
+pub(crate) const KIND: i32 = 10;
 pub(crate) const SPENT: i32 = 11;
 const OTHERS: i32 = 12;
 
@@ -44,9 +45,17 @@ extern "C" {
         passes: *mut Raw,
         agents: usize,
     ) -> i32;
+    pub(crate) fn mooringakee_split_set_make(
+        rows: u32,
+        buckets: u32,
+        turns: u64,
+        passes: *mut Raw,
+        agents: usize,
+    ) -> i32;
     pub(crate) fn mooringakee_insert(pass: *mut Raw, key: u64, answer: *mut bool) -> i32;
     pub(crate) fn mooringakee_remove(pass: *mut Raw, key: u64, answer: *mut bool) -> i32;
     pub(crate) fn mooringakee_contains(pass: *mut Raw, key: u64, answer: *mut bool) -> i32;
+    pub(crate) fn mooringakee_buckets(pass: *mut Raw, buckets: *mut u32) -> i32;
     fn mooringakee_drop(pass: *mut Raw) -> i32;
     fn mooringakee_close(pass: *mut Raw, counts: *mut Counts) -> i32;
 }
@@ -83,7 +92,7 @@ pub struct Counts {
     /// Rows freed, to be given again, each as often as it was.
     pub reused: u64,
     /// Rows still linked: one for each key that was left, and one of a queue's own; in a set one more for a key that was
-    /// removed where its unlinking met other calls.
+    /// removed where its unlinking met other calls; in a split-ordered set those of its buckets and of their number.
     pub linked: u32,
 }
 
@@ -142,7 +151,7 @@ pub(crate) fn until_answered(mut call: impl FnMut() -> i32) -> i32 {
 /// Why no container was made.
 #[derive(Clone, Copy, Debug, PartialEq, Eq)]
 pub enum Unmade {
-    /// Rows are 2 to 65,535, agents 1 to 16, and buckets 1 to 257.
+    /// Rows are 2 to 65,535, agents 1 to 16, and buckets 1 to 257; of a split-ordered set a power of two up to 256.
     Shape,
     /// There is not enough memory.
     NoMemory,

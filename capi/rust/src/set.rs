@@ -25,10 +25,35 @@ impl Set {
     /// set, and stands in the bucket of its remainder by their number, which each of its calls walks over.
     pub fn new(rows: u32, buckets: u32, agents: usize) -> Result<Set, Unmade> {
         // SAFETY: there are as many empty passes.
-        let made = |passes| unsafe {
+        Set::made(agents, |passes| unsafe {
             raw::mooringakee_set_make(rows, buckets, raw::TURNS, passes, agents)
-        };
-        let passes = Raw::made(agents, made)?;
+        })
+    }
+
+    /// An empty split-ordered set over 2 to 65,535 rows, for 1 to 16 agents. It begins with one bucket, and doubles them as
+    /// keys come, up to so many: 1, 2, 4 and so on, at most 256. Besides the keys, a row is taken by each bucket but the
+    /// first once it is used, and by the number of buckets once they were doubled.
+    ///
+    /// ```
+    /// let mut set = mooringakee::Set::split_ordered(64, 16, 1)?;
+    /// let mut pass = set.pass().unwrap();
+    /// assert_eq!(pass.buckets(), Some(1));
+    /// for key in 0..32 {
+    ///     assert_eq!(pass.insert(key), Ok(true));
+    /// }
+    /// assert!(pass.buckets() > Some(1));
+    /// assert!((0..32).all(|key| pass.contains(key)));
+    /// # Ok::<(), mooringakee::Unmade>(())
+    /// ```
+    pub fn split_ordered(rows: u32, buckets: u32, agents: usize) -> Result<Set, Unmade> {
+        // SAFETY: there are as many empty passes.
+        Set::made(agents, |passes| unsafe {
+            raw::mooringakee_split_set_make(rows, buckets, raw::TURNS, passes, agents)
+        })
+    }
+
+    fn made(agents: usize, make: impl FnOnce(*mut Raw) -> i32) -> Result<Set, Unmade> {
+        let passes = Raw::made(agents, make)?;
         Ok(Set {
             passes: passes.into_iter(),
         })
@@ -76,6 +101,17 @@ impl SetPass {
     pub fn contains(&mut self, key: u64) -> bool {
         self.answer(raw::mooringakee_contains, key)
             .expect("the pass is a live one of a set")
+    }
+
+    /// How many buckets a split-ordered set has, or none where they are fixed.
+    pub fn buckets(&mut self) -> Option<u32> {
+        let mut count = 0;
+        // SAFETY: as below, and the number is a local.
+        match until_answered(|| unsafe { raw::mooringakee_buckets(&mut self.raw, &mut count) }) {
+            raw::OK => Some(count),
+            raw::KIND => None,
+            _ => unreachable!("the pass is a live one of a set"),
+        }
     }
 
     /// Ends the pass. Of all passes the last one is told how many rows the set gave, freed and has linked.

@@ -52,7 +52,15 @@ fn values_are_taken_in_order_and_the_rest_is_dropped() {
 
 #[test]
 fn keys_are_inserted_once_and_removed_once() {
-    let mut set = Set::new(1024, 16, 4).unwrap();
+    insert_and_remove(Set::new(1024, 16, 4).unwrap());
+}
+
+#[test]
+fn so_they_are_while_buckets_double() {
+    insert_and_remove(Set::split_ordered(1024, 64, 4).unwrap());
+}
+
+fn insert_and_remove(mut set: Set) {
     let threads: Vec<_> = (0..4)
         .map(|_| {
             let mut pass = set.pass().unwrap();
@@ -108,6 +116,10 @@ fn refusals() {
     assert_eq!(Queue::<u8>::new(8, 17).unwrap_err(), Unmade::Shape);
     assert_eq!(Set::new(8, 0, 1).unwrap_err(), Unmade::Shape);
     assert_eq!(Set::new(8, 258, 1).unwrap_err(), Unmade::Shape);
+    assert_eq!(Set::split_ordered(8, 0, 1).unwrap_err(), Unmade::Shape);
+    assert_eq!(Set::split_ordered(8, 3, 1).unwrap_err(), Unmade::Shape);
+    assert_eq!(Set::split_ordered(8, 512, 1).unwrap_err(), Unmade::Shape);
+    assert_eq!(Set::new(8, 4, 1).unwrap().pass().unwrap().buckets(), None);
     let mut pass = Queue::new(2, 1).unwrap().pass().unwrap();
     pass.enqueue(7).unwrap();
     let refused = pass.enqueue(8).unwrap_err();

@@ -1,9 +1,11 @@
 pub mod Lists
 pub mod NewPasses
 pub mod Pointers
+pub mod Powers
 pub mod QueuePlaces
 pub mod Quiet
 pub mod Results
 pub mod SamePlaces
 pub mod Saying
 pub mod SetPlaces
+pub mod SplitPlaces

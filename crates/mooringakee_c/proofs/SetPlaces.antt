@@ -1,4 +1,4 @@
--- What is known of an agent's place at a set.
+-- What is known of an agent's place at a bucketed set.
 use Rattle.std.proofs.Common.{List, [], length, refl, subst, sym, ℕ, ◌<◌, ◌∙◌, ◌≡◌}
 use Rattle.given_back.specs.Places.{tags}
 use Rattle.orc_chain_rule.proofs.OwnEntries.{entries_own}
@@ -23,7 +23,7 @@ use Rattle.orc_sound.specs.declared.steps.Step.{Step}
 use Rattle.mooringakee_c.specs.Ending.{ArePlacesOf}
 use Rattle.mooringakee_c.specs.Making.{IsNewSetSeat}
 use Rattle.mooringakee_c.specs.SetCalls.{GoesOn, Refuses}
-use Rattle.mooringakee_c.specs.SetSeats.{IsSetSeat, agent_at, agents_at, calls_seen}
+use Rattle.mooringakee_c.specs.SetSeats.{IsSetSeat, agent_at, agents_at, calls_seen, set_view}
 use Rattle.mooringakee_c.specs.declared.set.SetSeat.{SetSeat}
 use Rattle.mooringakee_c.specs.declared.seat.Seat.{Seat}
 use Rattle.mooringakee_c.specs.declared.seat.Seat.TheVariants.{Set}
@@ -65,12 +65,11 @@ module _ (old new : SetSeat) (before : IsSetSeat old) (set : new.set ≡ old.set
     pub entered : (own : List SetEntry) → agent_at new ≡ agent_at old
         → Adds agent_of_set_entry (λ (by : ℕ). by < (domain_bounds d).agents) (agent_at old) (entries_over d (journal_of old.pass)) own
         (entries_over d (journal_of new.pass))
-        → GoesOn old own new
+        → GoesOn (set_view old) own (set_view new)
     entered own agent adds =
         let here = subst (λ (x : OrcDomain Chain ChainNote). Adds agent_of_set_entry (λ (by : ℕ). by < (domain_bounds x).agents) (agent_at old)
         (entries_over x (journal_of old.pass)) own (entries_over x (journal_of new.pass))) is adds in
         record {
-          set = set;
           turns = turns;
           agent = agent;
           entered = subst (λ (x : OrcDomain Chain ChainNote). Adds agent_of_set_entry (λ (by : ℕ). by < agents_at old) (agent_at old)
@@ -83,7 +82,7 @@ module _ (old new : SetSeat) (before : IsSetSeat old) (set : new.set ≡ old.set
         (entries_over d (journal_of new.pass))
         → Within (length (journal_of old.pass)) (length (journal_of new.pass))
         (cause_over d (agent_at old) old.turns why (journal_of new.pass))
-        → Refuses old why new
+        → Refuses (set_view old) why (set_view new)
     refused why agent adds cause =
         let from = length (journal_of old.pass) in
         let to = length (journal_of new.pass) in
@@ -95,7 +94,7 @@ module _ (old new : SetSeat) (before : IsSetSeat old) (set : new.set ≡ old.set
           cause = subst (λ (n : ℕ). Within from to (cause_over new.set.value.list.links (agent_at new) n why journal)) (sym turns) two;
         }
 
-    pub quiet : Only [] (seat_of d old.pass) (seat_of d new.pass) → GoesOn old [] new
+    pub quiet : Only [] (seat_of d old.pass) (seat_of d new.pass) → GoesOn (set_view old) [] (set_view new)
     quiet only = entered [] only.puts.agent
         (enters_none entries_in agent_of_set_entry (ChainMay (domain_numbers d)) (entries_own (domain_numbers d)) (domain_bounds d).agents
         (seat_of d old.pass) (seat_of d new.pass) only (all_allowed d new.pass u.0) (all_below d new.pass u.0).1)

@@ -8,3 +8,5 @@ pub mod Seats
 pub mod SetCalls
 pub mod SetSeats
 pub mod Settling
+pub mod SplitCalls
+pub mod SplitSeats

@@ -7,30 +7,34 @@ use Rattle.orc_reclaiming_domain.specs.Passes.{journal_of}
 use Rattle.mooringakee_c.specs.declared.answer.Answer.{Answer}
 use Rattle.mooringakee_c.specs.declared.answer.Answer.TheVariants.{Done, Kept, NoMemory, NoPass, Others}
 use Rattle.mooringakee_c.specs.declared.seat.Seat.{Seat}
-use Rattle.mooringakee_c.specs.declared.seat.Seat.TheVariants.{Queue, Set}
+use Rattle.mooringakee_c.specs.declared.seat.Seat.TheVariants.{Queue, Set, Split}
 use Rattle.mooringakee_c.specs.declared.ending.Counts.{Counts}
 use Rattle.mooringakee_c.specs.Ending.{TellsRows}
 use Rattle.mooringakee_c.specs.QueueCalls.{GoesOn}
 use Rattle.mooringakee_c.specs.QueueSeats.{agent_at}
 use Rattle.mooringakee_c.specs.Seats.{IsSeat}
 use Rattle.mooringakee_c.specs.SetCalls.{GoesOn as SetGoesOn}
-use Rattle.mooringakee_c.specs.SetSeats.{agent_at as set_agent_at}
+use Rattle.mooringakee_c.specs.SetSeats.{agent_at as set_agent_at, set_view}
+use Rattle.mooringakee_c.specs.SplitSeats.{agent_at as split_agent_at, split_view}
 
 -- how many retired rows the pass has to work through: those in its work list, and one that it has in hand or scanned
 abbrev pub backlog_at : Seat → ℕ
 backlog_at (Queue s) = backlog_in (shows s.pass.pass).record_is
 backlog_at (Set s) = backlog_in (shows s.pass.pass).record_is
+backlog_at (Split s) = backlog_in (shows s.pass.pass).record_is
 
 -- no other agent made a step meanwhile
 abbrev pub WasAlone : Seat → Seat → Type 0
 WasAlone (Queue old) (Queue new) = IsAlone (λ step. step.agent) (agent_at old) (journal_of old.pass) (journal_of new.pass)
 WasAlone (Set old) (Set new) = IsAlone (λ step. step.agent) (set_agent_at old) (journal_of old.pass) (journal_of new.pass)
+WasAlone (Split old) (Split new) = IsAlone (λ step. step.agent) (split_agent_at old) (journal_of old.pass) (journal_of new.pass)
 WasAlone _ _ = ⊥
 
 -- the place is the same, and its agent entered nothing
 abbrev pub EntersNone : Seat → Seat → Type 0
 EntersNone (Queue old) (Queue new) = GoesOn old [] new
-EntersNone (Set old) (Set new) = SetGoesOn old [] new
+EntersNone (Set old) (Set new) = (new.set ≡ old.set) × SetGoesOn (set_view old) [] (set_view new)
+EntersNone (Split old) (Split new) = (new.set ≡ old.set) × SetGoesOn (split_view old) [] (split_view new)
 EntersNone _ _ = ⊥
 
 -- nothing is left, or some rows, which is so only where other agents made steps meanwhile
@@ -54,6 +58,7 @@ GivesUp _ _ _ = ⊥
 abbrev pub Tells : Seat → Counts → Type 0
 Tells (Queue s) counts = TellsRows s.queue.value.links s.places.value counts
 Tells (Set s) counts = TellsRows s.set.value.list.links s.places.value counts
+Tells (Split s) counts = TellsRows s.set.value.links s.places.value counts
 
 -- the pass is given up, and where the answer is Done, these are the counts of its container
 abbrev pub Closes : Counts → Option Seat → Answer → Option Seat → Type 0

@@ -1,31 +1,35 @@
-//! The queue and the set whose rows are reclaimed, for C. What C holds is a pass: 16 bytes, all zero where there is none.
+//! The queue and the sets whose rows are reclaimed, for C. What C holds is a pass: 16 bytes, all zero where there is none.
 #![tactic(auto)]
 
 ghost use Rattle.std.specs.Prelude.{◌≡◌, ◌⊎◌, pos};
 ghost use Rattle.mooringakee_c.specs.Codes.{Says};
-ghost use Rattle.mooringakee_c.specs.Making.{AreNewQueuePasses, AreNewSetPasses, Makes};
+ghost use Rattle.mooringakee_c.specs.Making.{AreNewQueuePasses, AreNewSetPasses, AreNewSplitPasses, CanBeMade, CanBeSplit, Makes};
 ghost use Rattle.mooringakee_c.specs.QueueCalls.{Puts, Takes};
-ghost use Rattle.mooringakee_c.specs.Seats.{AtQueue, AtSet, Through};
+ghost use Rattle.mooringakee_c.specs.Seats.{AtQueue, AtSet, AtSplit, Through};
 ghost use Rattle.mooringakee_c.specs.SetCalls.{Asks, Inserts, Removes};
 ghost use Rattle.mooringakee_c.specs.Settling.{Closes, CountsBacklog, GivesUp, Settles};
+ghost use Rattle.mooringakee_c.specs.SplitCalls.{CountsBuckets};
 
 mod answer;
 mod ending;
 mod make;
 mod new_queue;
 mod new_set;
+mod new_split;
 mod pass;
 mod pointer;
 mod queue;
 mod seat;
 mod set;
+mod split;
 
 use answer::Answer;
 pub use ending::Counts;
 use given_back::Unfinished;
-use make::{are_free, hand_out, shape_of};
+use make::{are_free, hand_out, shape_of, split_shape_of};
 use new_queue::queue_seats;
 use new_set::set_seats;
+use new_split::split_seats;
 pub use pass::Pass;
 use std::alloc::Global;
 
@@ -37,7 +41,7 @@ pub extern "C" fn mooringakee_proved_queue_make(
     turns: u64,
     passes: &mut [Pass],
 ) -> i32
-    ensures { Says result (λ answer. Makes rows 2 turns (AreNewQueuePasses rows turns) passes.old answer passes.new) }
+    ensures { Says result (λ answer. Makes (CanBeMade rows 2 turns) (AreNewQueuePasses rows turns) passes.old answer passes.new) }
 {
     let Some(shape) = shape_of(rows, 2, turns, passes.len()) else {
         return Answer::Shape.code();
@@ -62,7 +66,8 @@ pub extern "C" fn mooringakee_proved_set_make(
     turns: u64,
     passes: &mut [Pass],
 ) -> i32
-    ensures { Says result (λ answer. Makes rows buckets turns (AreNewSetPasses rows buckets turns) passes.old answer passes.new) }
+    ensures { Says result (λ answer. Makes (CanBeMade rows buckets turns) (AreNewSetPasses rows buckets turns) passes.old answer
+        passes.new) }
 {
     let Some(shape) = shape_of(rows, buckets, turns, passes.len()) else {
         return Answer::Shape.code();
@@ -71,6 +76,32 @@ pub extern "C" fn mooringakee_proved_set_make(
         return Answer::Live.code();
     }
     let Ok(seats) = set_seats(alloc, &shape, turns) else {
+        return Answer::NoMemory.code();
+    };
+    hand_out(passes, seats);
+    Answer::Done.code()
+}
+
+/// Makes a split-ordered set over so many rows, which grows to so many buckets at most, whose calls try so many turns, and puts a
+/// pass for each agent at these places, in order.
+#[unsafe(no_mangle)]
+pub extern "C" fn mooringakee_proved_split_set_make(
+    alloc: Global,
+    rows: u32,
+    buckets: u32,
+    turns: u64,
+    passes: &mut [Pass],
+) -> i32
+    ensures { Says result (λ answer. Makes (CanBeSplit rows buckets turns) (AreNewSplitPasses rows buckets turns) passes.old answer
+        passes.new) }
+{
+    let Some(shape) = split_shape_of(rows, buckets, turns, passes.len()) else {
+        return Answer::Shape.code();
+    };
+    if !are_free(passes) {
+        return Answer::Live.code();
+    }
+    let Ok(seats) = split_seats(alloc, &shape, buckets, turns) else {
         return Answer::NoMemory.code();
     };
     hand_out(passes, seats);
@@ -157,6 +188,24 @@ pub extern "C" fn mooringakee_proved_contains(
         return Answer::NoPass.code();
     };
     let answer = seat.contains(key, present);
+    *pass = Pass::of(seat);
+    answer.code()
+}
+
+/// Tells how many buckets the pass's split-ordered set has.
+#[unsafe(no_mangle)]
+pub extern "C" fn mooringakee_proved_buckets(
+    alloc: Global,
+    pass: &mut Pass,
+    buckets: &mut u32,
+) -> i32
+    ensures answer { Says result (λ answer. Through (AtSplit (CountsBuckets buckets.new)) pass.old.pointer.seat answer pass.new.pointer.seat) }
+    ensures kept { (result ≡ pos 0) ⊎ (buckets.new ≡ buckets.old) }
+{
+    let Some(mut seat) = pass.take(alloc) else {
+        return Answer::NoPass.code();
+    };
+    let answer = seat.buckets(buckets);
     *pass = Pass::of(seat);
     answer.code()
 }

@@ -1,9 +1,10 @@
 //! What making a container asks of the caller's places, and how they are filled.
 
-ghost use Rattle.std.specs.Prelude.{◌≡◌, ◌↔◌, All, IfSome, IsTrue, None, Some, length, slice_index_or};
+ghost use Rattle.std.specs.Prelude.{◌≡◌, ◌↔◌, ◌+◌, All, IfSome, IsTrue, None, Some, length, slice_index_or};
 ghost use Rattle.orc_shared_words.specs.Lists.{EachAt};
+ghost use Rattle.orc_split_rule.specs.SplitDiscipline.{IsSize};
 ghost use Rattle.orc_words.specs.Bounds.{bounds_of};
-ghost use Rattle.mooringakee_c.specs.Making.{AreFree, CanBeMade, sizes_of};
+ghost use Rattle.mooringakee_c.specs.Making.{AreFree, CanBeMade, CanBeSplit, sizes_of};
 ghost use Rattle.mooringakee_c.specs.Seats.{IsSeat};
 
 use crate::pass::Pass;
@@ -29,6 +30,25 @@ pub(crate) fn shape_of(rows: u32, roots: u32, turns: u64, agents: usize) -> Opti
         Ok(shape) => Some(shape),
         Err(_) => None,
     }
+}
+
+// Whether it is a power of two up to 256.
+fn is_size(buckets: u32) -> bool
+    ensures { IsTrue result ↔ IsSize 256 buckets }
+{
+    buckets <= 256 && buckets.next_power_of_two() == buckets
+}
+
+// The shape of a set that grows to so many buckets, if all its numbers are in range: a root for each, and one for their number.
+pub(crate) fn split_shape_of(rows: u32, buckets: u32, turns: u64, agents: usize) -> Option<Shape>
+    ensures in_range { IfSome result (λ shape. CanBeSplit rows buckets turns agents) }
+    ensures sizes { IfSome result (λ shape. bounds_of shape ≡ sizes_of rows (buckets + 1) agents) }
+    ensures out_of_range { result ≡ None → ¬ CanBeSplit rows buckets turns agents }
+{
+    if !is_size(buckets) {
+        return None;
+    }
+    shape_of(rows, buckets + 1, turns, agents)
 }
 
 // Whether there is no pass at any of these places.

@@ -1,23 +1,26 @@
-//! One agent's place at a container of either kind.
+//! One agent's place at a container of any kind.
 
 ghost use Rattle.std.specs.Prelude.{◌≡◌, ◌⊎◌, IfOk, IfSome};
 ghost use Rattle.mooringakee_c.specs.QueueCalls.{Puts, Takes};
-ghost use Rattle.mooringakee_c.specs.Seats.{AtQueue, AtSet, IsSeat};
+ghost use Rattle.mooringakee_c.specs.Seats.{AtQueue, AtSet, AtSplit, IsSeat};
 ghost use Rattle.mooringakee_c.specs.SetCalls.{Asks, Inserts, Removes};
 ghost use Rattle.mooringakee_c.specs.Settling.{Settles, Tells, backlog_at};
+ghost use Rattle.mooringakee_c.specs.SplitCalls.{CountsBuckets};
 
 use crate::answer::Answer;
 use crate::ending::Counts;
 use crate::queue::QueueSeat;
 use crate::set::SetSeat;
+use crate::split::SplitSeat;
 use given_back::Unfinished;
 use std::alloc::Global;
 
-/// An agent's place at a queue or at a set.
+/// An agent's place at a queue, at a bucketed set or at a split-ordered one.
 #[derive(Drop)]
 pub(crate) enum Seat {
     Queue(QueueSeat),
     Set(SetSeat),
+    Split(SplitSeat),
 }
 
 impl Seat {
@@ -29,7 +32,7 @@ impl Seat {
     {
         match self {
             Seat::Queue(seat) => seat.put(value),
-            Seat::Set(_) => Answer::Kind,
+            Seat::Set(_) | Seat::Split(_) => Answer::Kind,
         }
     }
 
@@ -42,7 +45,7 @@ impl Seat {
     {
         match self {
             Seat::Queue(seat) => seat.take(value),
-            Seat::Set(_) => Answer::Kind,
+            Seat::Set(_) | Seat::Split(_) => Answer::Kind,
         }
     }
 
@@ -56,6 +59,7 @@ impl Seat {
         match self {
             Seat::Queue(_) => Answer::Kind,
             Seat::Set(seat) => seat.insert(key, absent),
+            Seat::Split(seat) => seat.insert(key, absent),
         }
     }
 
@@ -69,6 +73,7 @@ impl Seat {
         match self {
             Seat::Queue(_) => Answer::Kind,
             Seat::Set(seat) => seat.remove(key, present),
+            Seat::Split(seat) => seat.remove(key, present),
         }
     }
 
@@ -82,6 +87,20 @@ impl Seat {
         match self {
             Seat::Queue(_) => Answer::Kind,
             Seat::Set(seat) => seat.contains(key, present),
+            Seat::Split(seat) => seat.contains(key, present),
+        }
+    }
+
+    // Tells how many buckets the split-ordered set has.
+    pub(crate) fn buckets(&mut self, count: &mut u32) -> Answer
+        requires { IsSeat self.old }
+        ensures seat { IsSeat self.new }
+        ensures answer { AtSplit (CountsBuckets count.new) self.old result self.new }
+        ensures kept { (result ≡ Answer.Done) ⊎ (count.new ≡ count.old) }
+    {
+        match self {
+            Seat::Queue(_) | Seat::Set(_) => Answer::Kind,
+            Seat::Split(seat) => seat.buckets(count),
         }
     }
 
@@ -94,6 +113,7 @@ impl Seat {
         let none_left = match self {
             Seat::Queue(seat) => seat.settle(),
             Seat::Set(seat) => seat.settle(),
+            Seat::Split(seat) => seat.settle(),
         };
         if none_left {
             Answer::Done
@@ -110,6 +130,7 @@ impl Seat {
         match self {
             Seat::Queue(seat) => seat.backlog(),
             Seat::Set(seat) => seat.backlog(),
+            Seat::Split(seat) => seat.backlog(),
         }
     }
 
@@ -120,6 +141,7 @@ impl Seat {
         match self {
             Seat::Queue(seat) => seat.leave(),
             Seat::Set(seat) => seat.leave(),
+            Seat::Split(seat) => seat.leave(),
         }
     }
 
@@ -131,6 +153,7 @@ impl Seat {
         match self {
             Seat::Queue(seat) => seat.close(alloc),
             Seat::Set(seat) => seat.close(alloc),
+            Seat::Split(seat) => seat.close(alloc),
         }
     }
 }

@@ -1,8 +1,8 @@
-//! One agent's place at a set.
+//! One agent's place at a bucketed set.
 
 ghost use Rattle.std.specs.Prelude.{◌≡◌, ◌↔◌, ◌⊎◌, IfOk, IfSome, IsTrue, []};
 ghost use Rattle.mooringakee_c.specs.SetCalls.{Asks, GoesOn, Inserts, Removes};
-ghost use Rattle.mooringakee_c.specs.SetSeats.{IsSetSeat};
+ghost use Rattle.mooringakee_c.specs.SetSeats.{IsSetSeat, set_view};
 ghost use Rattle.mooringakee_c.specs.Settling.{Tells, WasAlone, backlog_at};
 ghost use Rattle.mooringakee_c.specs.declared.seat.Seat.{Seat};
 
@@ -20,7 +20,7 @@ use std::sync::Arc;
 /// The bucketed set over a domain whose rows are reclaimed.
 pub(crate) type ReclaimingSet = Set<OrcDomain<Chain>>;
 
-/// An agent's place at a set: its share of it and of the places to which passes are given back, its pass, and how many turns a
+/// An agent's place at a bucketed set: its share of it and of the places to which passes are given back, its pass, and how many turns a
 /// call has.
 #[derive(Drop)]
 pub(crate) struct SetSeat {
@@ -35,7 +35,8 @@ impl SetSeat {
     pub(crate) fn insert(&mut self, key: u64, absent: &mut bool) -> Answer
         requires { IsSetSeat self.old }
         ensures seat { IsSetSeat self.new }
-        ensures answer { Inserts key absent.new self.old result self.new }
+        ensures set { self.new.set ≡ self.old.set }
+        ensures answer { Inserts key absent.new (set_view self.old) result (set_view self.new) }
         ensures kept { (result ≡ Answer.Done) ⊎ (absent.new ≡ absent.old) }
     {
         match self.set.insert(&mut self.pass, key, self.turns) {
@@ -53,7 +54,8 @@ impl SetSeat {
     pub(crate) fn remove(&mut self, key: u64, present: &mut bool) -> Answer
         requires { IsSetSeat self.old }
         ensures seat { IsSetSeat self.new }
-        ensures answer { Removes key present.new self.old result self.new }
+        ensures set { self.new.set ≡ self.old.set }
+        ensures answer { Removes key present.new (set_view self.old) result (set_view self.new) }
         ensures kept { (result ≡ Answer.Done) ⊎ (present.new ≡ present.old) }
     {
         let Ok(yes) = self.set.remove(&mut self.pass, key, self.turns) else {
@@ -67,7 +69,8 @@ impl SetSeat {
     pub(crate) fn contains(&mut self, key: u64, present: &mut bool) -> Answer
         requires { IsSetSeat self.old }
         ensures seat { IsSetSeat self.new }
-        ensures answer { Asks key present.new self.old result self.new }
+        ensures set { self.new.set ≡ self.old.set }
+        ensures answer { Asks key present.new (set_view self.old) result (set_view self.new) }
         ensures kept { (result ≡ Answer.Done) ⊎ (present.new ≡ present.old) }
     {
         let Ok(yes) = self.set.contains(&mut self.pass, key, self.turns) else {
@@ -81,7 +84,8 @@ impl SetSeat {
     pub(crate) fn settle(&mut self) -> bool
         requires { IsSetSeat self.old }
         ensures seat { IsSetSeat self.new }
-        ensures none { GoesOn self.old [] self.new }
+        ensures set { self.new.set ≡ self.old.set }
+        ensures none { GoesOn (set_view self.old) [] (set_view self.new) }
         ensures backlog { IsTrue result ↔ (backlog_at (Seat.Set self.new) ≡ 0) }
         ensures alone { WasAlone (Seat.Set self.old) (Seat.Set self.new) → backlog_at (Seat.Set self.new) ≡ 0 }
     {

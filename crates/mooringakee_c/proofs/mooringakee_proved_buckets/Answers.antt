@@ -1,0 +1,10 @@
+-- Where there is no pass, it says so.
+use Rattle.mooringakee_c.specs.Seats.{AtSplit}
+use Rattle.mooringakee_c.specs.SplitCalls.{CountsBuckets}
+use Rattle.mooringakee_c.proofs.Saying.{says_none}
+use Rattle.mooringakee_c.proofs.mooringakee_proved_buckets.Goals as goal
+
+pub returns-in_default-clause-answer : goal.returns-in_default-clause-answer
+returns-in_default-clause-answer c =
+    says_none (AtSplit (CountsBuckets c.args.buckets.now)) c.args.pass.now.pointer.seat c.take.new.self.pointer.seat c.code.result c.code.ensures
+    (c.take.ensures.none c.in_default.is) c.take.ensures.left
