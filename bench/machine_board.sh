@@ -1,7 +1,6 @@
 #!/usr/bin/env bash
-# Times 20,000,000 loads of a root's link by `link_load`, each after a test of the pass's record, as many tests alone, and
-# as many loads of a bare atomic word, on one thread. What was found is printed on standard output, the times on standard
-# error.
+# Times 20,000,000 loads of a root's link by `link_load`, and as many loads of a bare atomic word, on one thread. What was
+# found is printed on standard output, the times on standard error.
 set -euo pipefail
 cd "$(dirname "$0")/../crates/machine_board_bench"
 rt run >/dev/null 2>&1

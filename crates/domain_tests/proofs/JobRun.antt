@@ -3,7 +3,13 @@ use Rattle.std.proofs.Common.{List, None, false, Option, Some, [], ap, arith, in
 use Rattle.std.specs.Option.{IfSome}
 use Rattle.orc_machine_board.proofs.Making.{steps_next}
 use Rattle.orc_machine_board.specs.Passes.{TookInAll}
-use Rattle.orc_machine_board.specs.Rules.{step_of}
+use Rattle.orc_core.specs.Allowed.{may}
+use Rattle.orc_core.specs.Machine.{Machine, is_allowed, new_machine, record_at, step, word_in}
+use Rattle.orc_core.specs.declared.ops.Op.{Op}
+use Rattle.orc_machine_board.specs.Kinds.{MayDo}
+use Rattle.orc_machine_board.specs.Laws.Steps.{bounds_run, permission}
+use Rattle.orc_machine_board.specs.Rules.{is_enroll, run_of, step_of}
+use Rattle.orc_sound.proofs.Journals.{run_plain-append}
 use Rattle.orc_machine_board.specs.declared.machine.Request.{Request}
 use Rattle.orc_shared_words.specs.Runs.{AgentsBelow}
 use Rattle.std.specs.Prelude.{true, unwrap_or}
@@ -32,7 +38,7 @@ use Rattle.orc_sound.specs.declared.steps.Step.{Step}
 use Rattle.orc_words.specs.Bounds.{Bounds}
 use Rattle.orc_words.specs.declared.packed.RowLink.{RowLink}
 use Rattle.orc_words.specs.declared.place.Word.{Word}
-use Rattle.orc_words.specs.declared.place.Word.TheVariants.{Next, Root}
+use Rattle.orc_words.specs.declared.place.Word.TheVariants.{Enrolled, Next, Root}
 
 -- what is allowed lies in the sizes, the agent and the journal
 same_allowed : (b c : Bounds) (s : MachineView FifoNote) (a : ℕ) (j : List (Step FifoNote)) (place : Word) (from to : RowLink) (note : Option FifoNote)
@@ -149,3 +155,19 @@ dummy_allowed b same = subst (λ c. DummyAllowed FifoMay (numbers_of c) 0 Begin)
     may_enter = tt;
   };
 }
+
+-- what the machine allows, the record of the pass allows
+pub played_may : (b : Bounds) (s : MachineView FifoNote) (m : Machine) (op : Op) → m ≡ run_of b s.journal → s.agent ≡ 0
+    → record_at (run_of b s.journal) s.agent ≡ s.record_is → is_enroll op ≡ false → is_allowed m 0 op ≡ true → MayDo b s op
+played_may b s m op is agent mine kind can =
+    let bounds : m.bounds ≡ b = ap (λ (z : Machine). z.bounds) is ∙ bounds_run b s.journal in
+    let own : record_at m 0 ≡ s.record_is = (λ i. record_at (is i) (sym agent i)) ∙ mine in
+    (λ i. may (sym bounds i) 0 (agent i) op (sym own i)) ∙ (permission m.bounds 0 (word_in m Enrolled) 0 op (record_at m 0) kind ∙ can)
+
+-- the machine goes on with the pass
+pub played_on : (b : Bounds) (q : Request) (note : Option FifoNote) (s t : MachineView FifoNote) (n : ℕ) (m k : Machine) → b ≡ small → s.agent ≡ 0
+    → Makes b q note s n t → AgentsBelow (λ (x : Step FifoNote). x.agent) b.agents t.journal → m ≡ run_of b s.journal → k ≡ step m 0 q.op
+    → k ≡ run_of b t.journal
+played_on b q note s t n m k same is made below before next =
+    next ∙ (ap (λ z. step z 0 q.op) before ∙ (sym (run_plain-append (new_machine b) s.journal (step_of 0 q note ∷ []))
+    ∙ ap (run_of b) (sym (sole_next b q note s t n same is made below))))

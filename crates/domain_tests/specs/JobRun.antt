@@ -1,6 +1,7 @@
 -- A job that goes through a queue of two rows on a board of one agent, step by step. The steps are those of Michael and
 -- Scott's queue (1996), with the counts and slots of OrcGC (Correia, Ramalhete and Felber 2021).
 use Rattle.std.specs.Prelude.{List, None, Some, [], ◌++◌, ◌∷◌, ◌≡◌}
+use Rattle.orc_core.specs.Machine.{Machine}
 use Rattle.orc_core.specs.declared.ops.CounterUse.TheVariants.{Check}
 use Rattle.orc_core.specs.declared.ops.Op.{Op}
 use Rattle.orc_core.specs.declared.ops.Op.TheVariants.{Arm, Clear, CounterLoad, Dec, Fill, GateLook, GateTake, Inc, LinkCas, LinkLoad, Publish, Read, TakeIn}
@@ -11,7 +12,7 @@ use Rattle.orc_heap.specs.declared.discipline.Discipline as discipline
 use Rattle.orc_heap.specs.declared.seed.Seed.TheVariants.{Dummy}
 use Rattle.orc_history.specs.declared.queue.QueueEntry.TheVariants.{Put}
 use Rattle.orc_machine_board.specs.Kinds.{asks}
-use Rattle.orc_machine_board.specs.Rules.{does, machine_opening, step_of, without_mark}
+use Rattle.orc_machine_board.specs.Rules.{does, machine_opening, run_of, step_of, without_mark}
 use Rattle.orc_machine_board.specs.Views.{Belongs, board_bounds, shows}
 use Rattle.orc_machine_board.specs.declared.board.MachineBoard.{MachineBoard}
 use Rattle.orc_machine_board.specs.declared.board.MachineBoardPass.{MachineBoardPass}
@@ -81,3 +82,8 @@ module _ {D N : Type 0} {d : discipline.Ghosts D N} {m : machine.Ghosts Reclaimi
     pub belongs : Belongs board p
     pub sizes : board_bounds board ≡ small
     pub agent : (shows p).agent ≡ 0
+
+  -- so it is, and the machine is where the pass's steps lead
+  pub record IsPlayed (board : MachineBoard D N) (p : MachineBoardPass D N (MachineShape N) Request (Step N) Agent Agent d m) (state : Machine) : Type 0 where
+    pub sole : IsSolePass board p
+    pub is : state ≡ run_of (board_bounds board) (shows p).journal

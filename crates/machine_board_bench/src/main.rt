@@ -1,13 +1,10 @@
-//! Loads a root's link again and again through a board of counted rows, with a test of the record before each step;
-//! makes the test alone as often, and loads a bare atomic word as often, on one thread. What was found goes to standard
-//! output, the times that it took to standard error.
+//! Loads a root's link again and again through a board of counted rows, and loads a bare atomic word as often, on one
+//! thread. What was found goes to standard output, the times that it took to standard error.
 #![tactic(auto)]
 
-ghost use Rattle.std.specs.Prelude.{◌≡◌};
-ghost use Rattle.orc_machine_board.specs.Views.{Belongs, board_bounds};
-ghost use Rattle.orc_words.specs.Bounds.{bounds_of};
+ghost use Rattle.machine_board_bench.specs.Quiet.{IsQuiet};
+ghost use Rattle.orc_machine_board.specs.Views.{Belongs, shows};
 
-use orc_core::{Op, may_step};
 use orc_heap::{AnyFit, Seed};
 use orc_machine_board::{MachineBoard, MachineBoardPass};
 use orc_words::{Shape, Word};
@@ -22,44 +19,27 @@ type Board = MachineBoard<AnyFit>;
 
 type Pass = MachineBoardPass<AnyFit>;
 
-// Reads root 0, if the record allows it.
+// Reads root 0.
 #[inline(always)]
-fn load_link(board: &Board, p: &mut Pass, shape: &Shape) -> u64
+fn load_link(board: &Board, p: &mut Pass) -> u64
     requires belongs { Belongs board.now p.old }
-    requires shape { bounds_of shape.now ≡ board_bounds board.now }
+    requires quiet { IsQuiet (shows p.old).record_is }
     ensures belongs { Belongs board.now p.new }
+    ensures quiet { IsQuiet (shows p.new).record_is }
 {
-    let place = Word::Root(0);
-    let load = Op::LinkLoad { place, slot: None };
-    if may_step(shape, 0, p.agent(), &load, p.record()) {
-        board.link_load(p, Word::Root(0), None, None, None)
-    } else {
-        1
-    }
+    board.link_load(p, Word::Root(0), None, None, None)
 }
 
 // The sum of what so many loads of root 0 find.
 #[inline(never)]
-fn load_links(board: &Board, p: &mut Pass, shape: &Shape) -> u64
+fn load_links(board: &Board, p: &mut Pass) -> u64
     requires belongs { Belongs board.now p.old }
-    requires shape { bounds_of shape.now ≡ board_bounds board.now }
+    requires quiet { IsQuiet (shows p.old).record_is }
     ensures belongs { Belongs board.now p.new }
 {
     let mut sum: u64 = 0;
     for _load in 0..LOADS {
-        sum = sum.wrapping_add(load_link(board, p, shape));
-    }
-    sum
-}
-
-// How often the record allows the load of root 0.
-#[inline(never)]
-fn test_record(p: &Pass, shape: &Shape) -> u64 {
-    let mut sum: u64 = 0;
-    for _load in 0..LOADS {
-        let place = Word::Root(0);
-        let op = Op::LinkLoad { place, slot: None };
-        sum = sum.wrapping_add(u64::from(may_step(shape, 0, p.agent(), &op, p.record())));
+        sum = sum.wrapping_add(load_link(board, p));
     }
     sum
 }
@@ -85,17 +65,12 @@ fn main(rt: HostRuntime) -> io::Result<()> {
         return println!(rt; "no pass");
     };
     let start = Instant::now(&rt)?;
-    let links = load_links(&board, &mut pass, &shape);
+    let links = load_links(&board, &mut pass);
     let through = start.elapsed(&rt)?.as_micros();
-    let start = Instant::now(&rt)?;
-    let tests = test_record(&pass, &shape);
-    let tested = start.elapsed(&rt)?.as_micros();
     let word = AtomicU64::new(0);
     let start = Instant::now(&rt)?;
     let bare = load_word(&word);
     let alone = start.elapsed(&rt)?.as_micros();
-    eprintln!(rt;
-        "{LOADS} loads: {through} microseconds by link_load with a test of the record, {tested} the test alone, {alone} a bare word"
-    )?;
-    println!(rt; "{links} {tests} {bare}")
+    eprintln!(rt; "{LOADS} loads: {through} microseconds by link_load, {alone} a bare word")?;
+    println!(rt; "{links} {bare}")
 }

@@ -1,14 +1,20 @@
 -- What is true of the pass of an agent that settles, and what a step of it does.
 use Rattle.std.proofs.Common.{[], ap, append-nil, refl, subst, sym, true, ℕ, ◌++◌, ◌<◌, ◌∙◌, ◌∷◌, ◌≡◌}
-use Rattle.std.specs.Prelude.{None}
+use Rattle.std.proofs.lemmas.Bool.{false≢true}
+use Rattle.std.specs.Prelude.{None, Option, Some, cond, is_some}
 use Rattle.orc_board_settling.proofs.Joins.{adds_as}
 use Rattle.orc_board_settling.proofs.Makes.{Added, added_adds, added_here, made_by, may_here, one_more}
-use Rattle.orc_board_settling.specs.OwnSteps.{AtMostMore, TakesInCleared}
+use Rattle.orc_board_settling.specs.OwnSteps.{AtMostMore, TakesInCleared, answers_word}
 use Rattle.orc_board_settling.specs.Parts.{Adds, Goes, Opens}
 use Rattle.orc_board_settling.specs.Passes.{IsPassOf, record_of, state_of}
+use Rattle.orc_core.specs.Actions.{action_of}
+use Rattle.orc_core.specs.After.{after}
 use Rattle.orc_core.specs.Machine.{is_allowed, record_at, word_in}
+use Rattle.orc_core.specs.RecordParts.{same_target, scans}
 use Rattle.orc_core.specs.declared.ops.Op.{Op}
+use Rattle.orc_core.specs.declared.ops.Op.TheVariants.{Dec, Unretire}
 use Rattle.orc_core.specs.declared.records.Agent.{Agent}
+use Rattle.orc_core.specs.declared.records.Scan.{Scan}
 use Rattle.orc_machine_board.proofs.Holds.{record_stays}
 use Rattle.orc_machine_board.specs.Kinds.{MakesPlain, MayDo}
 use Rattle.orc_machine_board.specs.Laws.Steps.{bounds_run, in_range}
@@ -30,8 +36,25 @@ use Rattle.orc_sound.proofs.Journals.{plain_lawful}
 use Rattle.orc_sound.specs.Journals.{plain}
 use Rattle.orc_sound.specs.declared.steps.Step.{Step}
 use Rattle.orc_words.specs.Bounds.{Bounds}
+use Rattle.orc_words.specs.Operations.{answer_of}
 use Rattle.orc_heap.specs.declared.discipline.Discipline as discipline
 use Rattle.orc_shared_words.specs.declared.machine.Machine as machine
+
+-- these kinds do
+pub word_answered : (a : ℕ) (op : Op) (d : Agent) (n w : ℕ) → answers_word op ≡ true → n ≡ answer_of (action_of a op d).operation w → n ≡ w
+word_answered a (Dec r) d n w h e = e
+word_answered a (Unretire r) d n w h e = e
+word_answered a op d n w h e = absurd (false≢true h)
+
+-- what scans a row is a scan
+pub scans_some : (o : Option Scan) (r : ℕ) → scans o r ≡ true → is_some o ≡ true
+scans_some None r h = absurd (false≢true h)
+scans_some (Some s) r h = refl
+
+-- the link that is taken out leaves its target to be counted down
+pub target_left : (o : Option ℕ) → cond (same_target o None) None o ≡ o
+target_left None = refl
+target_left (Some r) = refl
 
 module _ {D N : Type 0} where
   abbrev Pass : (d : discipline.Ghosts D N) → machine.Ghosts Reclaiming N (MachineShape N) Request (Step N) Agent Agent → Type 0
@@ -80,6 +103,13 @@ module _ {D N : Type 0} {d : discipline.Ghosts D N} {m : machine.Ghosts Reclaimi
 
     pub after_step : AfterStep a op (state_of board p) (state_of board q)
     after_step = made_record (state_of board p) (state_of board q) a op h.reached h.low made
+
+    -- where the step answers the word that it read, the record is by that word
+    pub read_step : ((w : ℕ) → n ≡ answer_of (action_of (shows p).agent op (shows p).record_is).operation w → n ≡ w)
+        → record_of board a q ≡ after op (record_of board a p) n
+    read_step reads =
+        mine board a q next_pass ∙ (mk.record_is ∙ ((λ i. after op (shows p).record_is (sym (reads _ mk.answer) i))
+        ∙ ap (λ d. after op d n) (sym (mine board a p h))))
 
     -- right before the step the record is what it was
     pub before_step : record_at (run_of (board_bounds board) ((shows p).journal ++ mk.met)) (shows p).agent ≡ record_of board a p

@@ -1,7 +1,7 @@
 -- The steps that a call's agent makes: at most how many, and that what was handed over beside a slot is taken in once the slot is clear.
-use Rattle.std.specs.Prelude.{List, [], length, map, ℕ, ◌*◌, ◌++◌, ◌+◌, ◌<◌, ◌∷◌, ◌≡◌, ◌≤◌}
+use Rattle.std.specs.Prelude.{Bool, List, [], false, length, map, true, ℕ, ◌*◌, ◌++◌, ◌+◌, ◌<◌, ◌∷◌, ◌≡◌, ◌≤◌}
 use Rattle.orc_core.specs.declared.ops.Op.{Op}
-use Rattle.orc_core.specs.declared.ops.Op.TheVariants.{Clear, TakeIn}
+use Rattle.orc_core.specs.declared.ops.Op.TheVariants.{Clear, Dec, TakeIn, Unretire}
 use Rattle.orc_machine_board.specs.Passes.{steps_of}
 use Rattle.orc_sound.specs.declared.steps.Step.{Step}
 use Rattle.orc_words.specs.Bounds.{Bounds}
@@ -16,6 +16,12 @@ abbrev pub TakesInCleared : List Op → Type 0
 TakesInCleared [] = Unit {0}
 TakesInCleared (Clear slot ∷ ops) = BeginsWith (TakeIn slot) ops × TakesInCleared ops
 TakesInCleared (op ∷ ops) = TakesInCleared ops
+
+-- the kinds that settle and answer the word that they read
+abbrev pub answers_word : Op → Bool
+answers_word (Dec row) = true
+answers_word (Unretire row) = true
+answers_word op = false
 
 -- the most rounds of one settling
 abbrev pub most_rounds : Bounds → ℕ

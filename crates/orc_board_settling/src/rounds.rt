@@ -9,7 +9,7 @@ ghost use Rattle.orc_history.specs.Parts.{IsAlone};
 ghost use Rattle.orc_machine_board.specs.Views.{Belongs, board_bounds, shows};
 ghost use Rattle.orc_settling.specs.Records.{IsBetweenRounds, IsDone, IsNext, IsScanOf, IsStill};
 
-use crate::steps::{free_doomed, look_step, own_record, settle_step, unretire_scanned};
+use crate::steps::{free_doomed, kept, look_step, settle_step, unretire_scanned};
 use orc_core::{CounterUse, Op};
 use orc_heap::Discipline;
 use orc_machine_board::{MachineBoard, MachineBoardPass};
@@ -49,7 +49,7 @@ fn look_over<D: Discipline>(
     }
     let how = CounterUse::End;
     settle_step(board, p, agent, Op::CounterLoad { row, how });
-    if own_record(board, p, agent).doom.is_some() {
+    if kept(board, p, agent).scan.is_none() {
         free_doomed(board, p, agent, row);
     }
 }
@@ -64,7 +64,7 @@ fn next_work<D: Discipline>(
     ensures some { IfSome result (λ row. IsNext row (record_of board.now agent p.now)) }
     ensures none { result ≡ None → IsDone (record_of board.now agent p.now) }
 {
-    let record = own_record(board, p, agent);
+    let record = kept(board, p, agent);
     match (record.scan, record.hand) {
         (Some(scan), _) => Some(scan.row),
         (None, Some(row)) => Some(row),
@@ -87,7 +87,7 @@ fn scan_round<D: Discipline>(
     ensures between { IsBetweenRounds (record_of board.now agent p.new) }
     ensures few { AtMostMore agent (steps_a_round (board_bounds board.now) - 1) (shows p.old).journal (shows p.new).journal }
 {
-    let Some(scan) = own_record(board, p, agent).scan else {
+    let Some(scan) = kept(board, p, agent).scan else {
         return;
     };
     if scan.word % COUNT_RANGE == NO_LINKS {
@@ -107,7 +107,7 @@ fn round<D: Discipline>(board: &MachineBoard<D>, p: &mut MachineBoardPass<D>, ag
     ensures between { IsBetweenRounds (record_of board.now agent p.new) }
     ensures few { AtMostMore agent (steps_a_round (board_bounds board.now)) (shows p.old).journal (shows p.new).journal }
 {
-    if own_record(board, p, agent).scan.is_some() {
+    if kept(board, p, agent).scan.is_some() {
         scan_round(board, p, agent, row);
         return;
     }

@@ -1,7 +1,8 @@
 //! The parts of a round: steps, and what follows one another without a choice.
 
 ghost use Rattle.std.specs.Prelude.{◌≡◌, ◌<◌, ◌*◌, ◌+◌, None, Some, [], ◌∷◌, false, true};
-ghost use Rattle.orc_board_settling.specs.OwnSteps.{AtMostMore, TakesInCleared};
+ghost use Rattle.orc_board_settling.specs.OwnSteps.{AtMostMore, TakesInCleared, answers_word};
+ghost use Rattle.orc_core.specs.After.{after};
 ghost use Rattle.orc_board_settling.specs.Parts.{Goes, Opens};
 ghost use Rattle.orc_board_settling.specs.Passes.{IsPassOf, record_of, state_of};
 ghost use Rattle.orc_core.specs.Machine.{is_allowed, word_in};
@@ -14,31 +15,33 @@ ghost use Rattle.orc_settling.specs.Records.{DueFits, IsBetweenRounds, IsDoomOf,
 ghost use Rattle.orc_settling.specs.Rounds.{AfterStep, IsNoHand, Looks};
 ghost use Rattle.orc_settling.specs.Work.{IsSettlingStep, drop_of};
 
-use orc_core::{Agent, Op};
+use orc_core::{Agent, Op, Reading};
 use orc_heap::Discipline;
-use orc_machine_board::{MachineBoard, MachineBoardPass};
-use orc_words::RowLink;
+use orc_machine_board::{MachineBoard, MachineBoardPass, due_by};
+use orc_words::{DECREMENT, RETIRED, RowLink, named};
 
-// The record of the agent.
-pub(crate) fn own_record<'a, D: Discipline>(
+// What the pass keeps of the agent's record.
+pub(crate) fn kept<'a, D: Discipline>(
     board: &MachineBoard<D>,
     p: &'a MachineBoardPass<D>,
     agent: u32,
 ) -> &'a Agent
     requires pass { IsPassOf board.now agent p.now }
-    ensures { result.now ≡ record_of board.now agent p.now }
+    ensures hand { result.now.hand ≡ (record_of board.now agent p.now).hand }
+    ensures scan { result.now.scan ≡ (record_of board.now agent p.now).scan }
+    ensures list { result.now.list ≡ (record_of board.now agent p.now).list }
 {
-    p.record()
+    p.kept()
 }
 
-// Makes a step that settles, of a kind that changes no link and clears no slot.
+// Makes a step that settles, of a kind that changes no link and clears no slot, and answers what the board does.
 #[inline(always)]
 pub(crate) fn settle_step<D: Discipline>(
     board: &MachineBoard<D>,
     p: &mut MachineBoardPass<D>,
     agent: u32,
     op: Op,
-)
+) -> u64
     requires pass { IsPassOf board.now agent p.old }
     requires plain { is_plain_kind op ≡ true }
     requires clears_none { TakesInCleared (op ∷ []) }
@@ -48,9 +51,10 @@ pub(crate) fn settle_step<D: Discipline>(
     ensures goes { Goes (board_bounds board.now) agent (drop_of op (record_of board.now agent p.old)) (shows p.old) (shows p.new) }
     ensures opens { IsNoHand op → Opens (board_bounds board.now) agent (drop_of op (record_of board.now agent p.old)) (shows p.old) (shows p.new) }
     ensures after { AfterStep agent op (state_of board.now p.old) (state_of board.now p.new) }
+    ensures read { answers_word op ≡ true → record_of board.now agent p.new ≡ after op (record_of board.now agent p.old) result }
     ensures few { AtMostMore agent 1 (shows p.old).journal (shows p.new).journal }
 {
-    let _ = board.plain_step(p, op, None);
+    board.plain_step(p, op, None)
 }
 
 // Looks at a slot for the scanned row, and answers whether it names the row.
@@ -72,7 +76,7 @@ pub(crate) fn look_step<D: Discipline>(
     ensures few { AtMostMore agent 1 (shows p.old).journal (shows p.new).journal }
 {
     let _ = board.slot_look(p, k);
-    is_found(p.record())
+    is_found(p.kept())
 }
 
 // Whether the agent's scan is found.
@@ -85,14 +89,14 @@ pub(crate) fn is_found(agent: &Agent) -> bool
     }
 }
 
-// Takes the link of this number out of a doomed row.
+// Takes the link of this number out of a doomed row, and answers its target.
 pub(crate) fn take_link_out<D: Discipline>(
     board: &MachineBoard<D>,
     p: &mut MachineBoardPass<D>,
     agent: u32,
     row: u32,
     number: u32,
-)
+) -> Option<u32>
     requires pass { IsPassOf board.now agent p.old }
     requires still { IsStill (record_of board.now agent p.old) }
     requires number { number < (state_of board.now p.old).bounds.links }
@@ -100,13 +104,15 @@ pub(crate) fn take_link_out<D: Discipline>(
     ensures pass { IsPassOf board.now agent p.new }
     ensures goes { Goes (board_bounds board.now) agent 0 (shows p.old) (shows p.new) }
     ensures after { AfterStep agent (Op.LinkStore row (record { to = None; mark = false }) number) (state_of board.now p.old) (state_of board.now p.new) }
+    ensures dec { (record_of board.now agent p.new).dec ≡ result }
     ensures few { AtMostMore agent 1 (shows p.old).journal (shows p.new).journal }
 {
     let null = RowLink {
         to: None,
         mark: false,
     };
-    let _ = board.link_store(p, row, number, null);
+    let link = board.link_store(p, row, number, null);
+    named(link / 2)
 }
 
 // Empties slot 0, and takes in what was handed over beside it meanwhile.
@@ -135,7 +141,9 @@ pub(crate) fn try_due<D: Discipline>(
     board: &MachineBoard<D>,
     p: &mut MachineBoardPass<D>,
     agent: u32,
+    due: Option<Reading>,
 )
+    requires pending { (record_of board.now agent p.old).due ≡ due }
     requires pass { IsPassOf board.now agent p.old }
     requires calm { IsSettling (record_of board.now agent p.old) }
     requires dec { (record_of board.now agent p.old).dec ≡ None }
@@ -150,17 +158,9 @@ pub(crate) fn try_due<D: Discipline>(
     ensures kept { SameTasks (record_of board.now agent p.old) (record_of board.now agent p.new) }
     ensures few { AtMostMore agent 1 (shows p.old).journal (shows p.new).journal }
 {
-    if let Some(due) = own_record(board, p, agent).due {
-        let sequence = due.number;
-        settle_step(
-            board,
-            p,
-            agent,
-            Op::SetRetired {
-                row: due.row,
-                sequence,
-            },
-        );
+    if let Some(seen) = due {
+        let (row, sequence) = (seen.row, seen.number);
+        settle_step(board, p, agent, Op::SetRetired { row, sequence });
     }
 }
 
@@ -182,8 +182,8 @@ pub(crate) fn unretire_scanned<D: Discipline>(
     ensures few { AtMostMore agent 5 (shows p.old).journal (shows p.new).journal }
 {
     settle_step(board, p, agent, Op::Arm { row });
-    settle_step(board, p, agent, Op::Unretire { row });
-    try_due(board, p, agent);
+    let word = settle_step(board, p, agent, Op::Unretire { row });
+    try_due(board, p, agent, due_by(row, word.wrapping_sub(RETIRED)));
     leave_slot_zero(board, p, agent);
 }
 
@@ -192,7 +192,9 @@ pub(crate) fn finish_decrement<D: Discipline>(
     board: &MachineBoard<D>,
     p: &mut MachineBoardPass<D>,
     agent: u32,
+    target: Option<u32>,
 )
+    requires pending { (record_of board.now agent p.old).dec ≡ target }
     requires pass { IsPassOf board.now agent p.old }
     requires calm { IsSettling (record_of board.now agent p.old) }
     requires zero { slot_of (record_of board.now agent p.old) 0 ≡ Empty }
@@ -204,10 +206,10 @@ pub(crate) fn finish_decrement<D: Discipline>(
     ensures kept { SameTasks (record_of board.now agent p.old) (record_of board.now agent p.new) }
     ensures few { AtMostMore agent 5 (shows p.old).journal (shows p.new).journal }
 {
-    if let Some(row) = own_record(board, p, agent).dec {
+    if let Some(row) = target {
         settle_step(board, p, agent, Op::Arm { row });
-        settle_step(board, p, agent, Op::Dec { row });
-        try_due(board, p, agent);
+        let word = settle_step(board, p, agent, Op::Dec { row });
+        try_due(board, p, agent, due_by(row, word.wrapping_add(DECREMENT)));
         leave_slot_zero(board, p, agent);
     }
 }
@@ -232,8 +234,8 @@ pub(crate) fn take_links_out<D: Discipline>(
 {
     let links = board.shape().links();
     for number in 0..links {
-        take_link_out(board, p, agent, row, number);
-        finish_decrement(board, p, agent);
+        let target = take_link_out(board, p, agent, row, number);
+        finish_decrement(board, p, agent, target);
     }
 }
 

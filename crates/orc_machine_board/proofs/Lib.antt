@@ -7,3 +7,4 @@ pub mod Making
 pub mod Opening
 pub mod Playing
 pub mod Recordable
+pub mod Keeping

@@ -1,2 +1,3 @@
 -- Proofs of the laws that the machine owes to shared words.
+pub mod Kept
 pub mod Steps

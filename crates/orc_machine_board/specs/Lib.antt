@@ -6,3 +6,4 @@ pub mod Passes
 pub mod Plays
 pub mod Rules
 pub mod Views
+pub mod Kept

@@ -4,7 +4,8 @@ ghost use Rattle.std.specs.Prelude.{◌≡◌};
 ghost use Rattle.orc_layout.specs.Layout.{layout_of};
 ghost use Rattle.orc_words.specs.Bounds.{bounds_of};
 
-use orc_core::{Agent, Op, action_of, advance};
+use crate::kept::keep_parts;
+use orc_core::{Agent, Op, action_of};
 use orc_heap::Seed;
 use orc_layout::Layout;
 use orc_shared_words::{Machine, PlacedOperation};
@@ -45,7 +46,9 @@ pub struct Request {
 pub struct Reclaiming;
 
 impl<N: Copy> Machine<N> for Reclaiming {
+    ghost use Rattle.orc_machine_board.specs.Kept.{kept_of};
     ghost use Rattle.orc_machine_board.specs.Rules.{ListHasRoom, counted_rules, heap_numbers};
+    ghost use Rattle.orc_machine_board.specs.Laws.Kept.{kept_once};
     ghost use Rattle.orc_machine_board.specs.Laws.Steps.{counted_leaves_room, counted_obeys};
 
     type Shape = MachineShape<N>;
@@ -58,7 +61,9 @@ impl<N: Copy> Machine<N> for Reclaiming {
 
     type Own = Agent;
 
-    ghost shows = { λ own. own };
+    ghost tied = { λ d own. kept_of d ≡ kept_of own };
+
+    ghost one_tie = { kept_once };
 
     ghost has_room = { λ k op own found. ListHasRoom op own found };
 
@@ -86,6 +91,6 @@ impl<N: Copy> Machine<N> for Reclaiming {
 
     #[inline(always)]
     fn keep(shape: &MachineShape<N>, agent: u32, op: &Request, own: &mut Agent, n: u64) {
-        advance(own, &op.op, n);
+        keep_parts(own, &op.op, n);
     }
 }

@@ -1,7 +1,8 @@
 //! What passes tell, what they learn from each other, and how a board ends.
 
-ghost use Rattle.std.specs.Prelude.{◌≡◌, ◌<◌, []};
+ghost use Rattle.std.specs.Prelude.{◌≡◌, ◌<◌, [], ℕ};
 ghost use Rattle.orc_core.specs.Machine.{new_machine, record_at};
+ghost use Rattle.orc_core.specs.RecordParts.{is_empty, slot_of};
 ghost use Rattle.orc_heap.specs.Allowed.{AllAllowed};
 ghost use Rattle.orc_machine_board.specs.Passes.{AbsorbsSteps, LearnsSteps, TookInAll, backlog_in};
 ghost use Rattle.orc_machine_board.specs.Rules.{machine_opening, run_of};
@@ -27,9 +28,13 @@ impl<D: Discipline> MachineBoardPass<D> {
         self.pass.agent
     }
 
-    /// The record of the pass's agent.
-    pub fn record(&self) -> &Agent
-        ensures { result.now ≡ (shows self.now).record_is }
+    /// What the pass keeps of its agent's record. In its other parts anything may stand.
+    pub fn kept(&self) -> &Agent
+        ensures fresh { result.now.fresh ≡ (shows self.now).record_is.fresh }
+        ensures hand { result.now.hand ≡ (shows self.now).record_is.hand }
+        ensures scan { result.now.scan ≡ (shows self.now).record_is.scan }
+        ensures list { result.now.list ≡ (shows self.now).record_is.list }
+        ensures empty { (slot : ℕ) → is_empty (slot_of result.now slot) ≡ is_empty (slot_of (shows self.now).record_is slot) }
     {
         &self.pass.own
     }

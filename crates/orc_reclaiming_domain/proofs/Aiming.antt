@@ -102,14 +102,27 @@ module _ {D N : Type 0} {d : discipline.Ghosts D N} {k : MachineShape N} (s t : 
   stored = subst (λ es. Only es (seat s) (seat t)) event
       (only q None s t n m (ap (λ (e : Agent). e.slots) m.record_is) (ap (λ (e : Agent). e.fresh) m.record_is))
 
-  -- what is pending then isn't the fresh row: nothing was linked to that before
+  -- what is pending then, by the word that was there
+  store_inc : t.view.record_is.inc ≡ cond (same_target (named (g / 2)) to) None to
+  store_inc = ap (λ (e : Agent). e.inc) m.record_is ∙ ap (λ o. cond (same_target (named (g / 2)) to) o to) is.ready.inc
+
+  store_dec : t.view.record_is.dec ≡ cond (same_target (named (g / 2)) to) None (named (g / 2))
+  store_dec = ap (λ (e : Agent). e.dec) m.record_is ∙ ap (λ o. cond (same_target (named (g / 2)) to) o (named (g / 2))) is.ready.dec
+
+  -- which is the one that the step answers
+  pub store_up : t.view.record_is.inc ≡ cond (same_target (named (n / 2)) to) None to
+  store_up = subst (λ x. t.view.record_is.inc ≡ cond (same_target (named (x / 2)) to) None to) (sym m.answer) store_inc
+
+  pub store_down : t.view.record_is.dec ≡ cond (same_target (named (n / 2)) to) None (named (n / 2))
+  store_down = subst (λ x. t.view.record_is.dec ≡ cond (same_target (named (x / 2)) to) None (named (x / 2))) (sym m.answer) store_dec
+
+  -- what is pending isn't the fresh row: nothing was linked to that before
   pub store_countable : IsCountable t.view.record_is
   store_countable =
       let e0 = s.view.record_is in
       let same = same_target (named (g / 2)) to in
-      let inc : t.view.record_is.inc ≡ cond same None to = ap (λ (e : Agent). e.inc) m.record_is ∙ ap (λ o. cond same o to) is.ready.inc in
-      let dec : t.view.record_is.dec ≡ cond same None (named (g / 2)) = ap (λ (e : Agent). e.dec) m.record_is
-      ∙ ap (λ o. cond same o (named (g / 2))) is.ready.dec in
+      let inc = store_inc in
+      let dec = store_dec in
       let place = its_place b r number (λ x. names e0.fresh x) (has_low s r has_fresh) there fresh in
       record {
         enrolled = ap (λ (e : Agent). e.enrolled) m.record_is ∙ is.ready.enrolled;

@@ -279,15 +279,23 @@ module _ {D N : Type 0} {d : discipline.Ghosts D N} {k : MachineShape N} (s t : 
         }
 
     -- what is pending then
+    pub swung_up : t.view.record_is.inc ≡ cond (same_target f.to l.to) None l.to
+    swung_up =
+        let e0 = s.view.record_is in
+        ap (λ (e : Agent). e.inc) m.record_is ∙ (ap (λ (c : Bool). cond c (cond (same_target f.to l.to) e0.inc l.to) e0.inc) is_won
+        ∙ ap (λ o. cond (same_target f.to l.to) o l.to) is.ready.inc)
+
+    pub swung_down : t.view.record_is.dec ≡ cond (same_target f.to l.to) None f.to
+    swung_down =
+        let e0 = s.view.record_is in
+        ap (λ (e : Agent). e.dec) m.record_is ∙ (ap (λ (c : Bool). cond c (cond (same_target f.to l.to) e0.dec f.to) e0.dec) is_won
+        ∙ ap (λ o. cond (same_target f.to l.to) o f.to) is.ready.dec)
+
     pub countable : IsCountable t.view.record_is
     countable =
         let e0 = s.view.record_is in
-        let inc : t.view.record_is.inc ≡ cond (same_target f.to l.to) None l.to = ap (λ (e : Agent). e.inc) m.record_is
-        ∙ (ap (λ (c : Bool). cond c (cond (same_target f.to l.to) e0.inc l.to) e0.inc) is_won
-        ∙ ap (λ o. cond (same_target f.to l.to) o l.to) is.ready.inc) in
-        let dec : t.view.record_is.dec ≡ cond (same_target f.to l.to) None f.to = ap (λ (e : Agent). e.dec) m.record_is
-        ∙ (ap (λ (c : Bool). cond c (cond (same_target f.to l.to) e0.dec f.to) e0.dec) is_won
-        ∙ ap (λ o. cond (same_target f.to l.to) o f.to) is.ready.dec) in
+        let inc = swung_up in
+        let dec = swung_down in
         record {
           enrolled = ap (λ (e : Agent). e.enrolled) m.record_is ∙ is.ready.enrolled;
           eight = ap (λ (e : Agent). length e.slots) m.record_is ∙ is.ready.eight;

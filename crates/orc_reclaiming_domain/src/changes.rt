@@ -21,8 +21,8 @@ use orc_core::{CounterUse, SEQUENCE};
 use orc_domain::{row_link, word_at};
 use orc_fault::Spent;
 use orc_heap::{At, Discipline, Held, Want};
-use orc_machine_board::MachineBoardPass;
-use orc_words::RowLink;
+use orc_machine_board::{MachineBoardPass, to_count};
+use orc_words::{RowLink, named};
 
 impl<D: Discipline> OrcDomain<D> {
     // Reads the sequence of a row that is to be linked.
@@ -109,7 +109,8 @@ impl<D: Discipline> OrcDomain<D> {
         if moved != 1 {
             return false;
         }
-        self.complete(p);
+        let (up, down) = to_count(old.to, new.to);
+        self.complete(p, up, down);
         true
     }
 
@@ -130,8 +131,9 @@ impl<D: Discipline> OrcDomain<D> {
         ensures stores { Stores (domain_bounds self.now) row number to (shows p.old) (shows p.new) }
         ensures leaves { LeavesNothing (shows p.old).agent (shows p.old).journal (shows p.new).journal }
     {
-        self.board
-            .link_store(p, row, number, RowLink { to, mark: false });
-        self.complete(p);
+        let link = RowLink { to, mark: false };
+        let old = self.board.link_store(p, row, number, link);
+        let (up, down) = to_count(named(old / 2), to);
+        self.complete(p, up, down);
     }
 }

@@ -6,19 +6,22 @@ ghost use Rattle.orc_reclaiming_domain.specs.Changes.{Becomes, IsCountable, MayT
 ghost use Rattle.orc_reclaiming_domain.specs.Passes.{domain_bounds};
 
 use crate::domain::OrcDomain;
+use orc_core::Reading;
 use orc_heap::Discipline;
-use orc_machine_board::MachineBoardPass;
+use orc_machine_board::{MachineBoardPass, due_by};
+use orc_words::{DECREMENT, INCREMENT};
 
 impl<D: Discipline> OrcDomain<D> {
     // Tries the retired bit of the row that is due, if one is.
-    pub(crate) fn try_due(&self, p: &mut MachineBoardPass<D>)
+    pub(crate) fn try_due(&self, p: &mut MachineBoardPass<D>, due: Option<Reading>)
+        requires pending { (shows p.old).record_is.due ≡ due }
         requires belongs { Belongs self.now.board p.old }
         requires enrolled { (shows p.old).record_is.enrolled ≡ true }
         requires due { MayTryDue (shows p.old).record_is }
         ensures belongs { Belongs self.now.board p.new }
         ensures becomes { Becomes (domain_bounds self.now) (record (shows p.old).record_is { due = None }) (shows p.old) (shows p.new) }
     {
-        if let Some(seen) = p.record().due {
+        if let Some(seen) = due {
             self.board.set_retired(p, seen.row, seen.number);
         }
     }
@@ -31,8 +34,8 @@ impl<D: Discipline> OrcDomain<D> {
         ensures belongs { Belongs self.now.board p.new }
         ensures becomes { Becomes (domain_bounds self.now) (record (shows p.old).record_is { inc = None }) (shows p.old) (shows p.new) }
     {
-        self.board.inc(p, row);
-        self.try_due(p);
+        let word = self.board.inc(p, row);
+        self.try_due(p, due_by(row, word.wrapping_add(INCREMENT)));
     }
 
     // Makes the pending decrement, with its row in slot 0.
@@ -45,22 +48,24 @@ impl<D: Discipline> OrcDomain<D> {
         ensures becomes { Becomes (domain_bounds self.now) (record (shows p.old).record_is { dec = None }) (shows p.old) (shows p.new) }
     {
         self.board.arm(p, row);
-        self.board.dec(p, row);
-        self.try_due(p);
+        let word = self.board.dec(p, row);
+        self.try_due(p, due_by(row, word.wrapping_add(DECREMENT)));
         self.unlock(p, 0);
     }
 
     // Counts what a change of a link left pending: the new target up, and then the old one down.
-    pub(crate) fn complete(&self, p: &mut MachineBoardPass<D>)
+    pub(crate) fn complete(&self, p: &mut MachineBoardPass<D>, up: Option<u32>, down: Option<u32>)
+        requires up { (shows p.old).record_is.inc ≡ up }
+        requires down { (shows p.old).record_is.dec ≡ down }
         requires belongs { Belongs self.now.board p.old }
         requires countable { IsCountable (shows p.old).record_is }
         ensures belongs { Belongs self.now.board p.new }
         ensures becomes { Becomes (domain_bounds self.now) (record (shows p.old).record_is { inc = None; dec = None }) (shows p.old) (shows p.new) }
     {
-        if let Some(row) = p.record().inc {
+        if let Some(row) = up {
             self.count_up(p, row);
         }
-        if let Some(row) = p.record().dec {
+        if let Some(row) = down {
             self.count_down(p, row);
         }
     }

@@ -74,7 +74,7 @@ impl<D: Discipline> OrcDomain<D> {
             → HasTakenIn (shows p.old).agent slot (shows p.old).journal (shows p.new).journal }
     {
         for slot in 0..8 {
-            if p.record().slot(slot).is_empty() {
+            if p.kept().slot(slot).is_empty() {
                 self.board.take_in(p, slot);
             }
         }

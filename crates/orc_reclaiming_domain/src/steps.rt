@@ -54,7 +54,7 @@ impl<D: Discipline> OrcDomain<D> {
         ensures retired { names (shows p.old).record_is.fresh row ≡ true → Retires (domain_bounds self.now) row (shows p.old) (shows p.new) }
         ensures kept { names (shows p.old).record_is.fresh row ≡ false → p.new ≡ p.old }
     {
-        if !p.record().is_fresh(row) {
+        if !p.kept().is_fresh(row) {
             return;
         }
         let counter = self.board.counter_load(p, row, CounterUse::Check);

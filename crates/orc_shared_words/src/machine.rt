@@ -25,8 +25,11 @@ pub trait Machine<N> {
     /// What a pass has for its agent's record.
     type Own: Drop;
 
-    // the record that a pass shows
-    ghost shows: { Self.Own → Self.Record };
+    // what a pass has for its agent's record is enough for that record
+    ghost tied: { Self.Record → Self.Own → Type 0 };
+
+    // that is a fact, of which there is one proof
+    ghost one_tie: { (d : Self.Record) (o : Self.Own) → IsProp (tied d o) };
 
     // there is room in the record for what a step puts there that found this number
     ghost has_room: { Self.Shape → Self.Op → Self.Record → ℕ → Type 0 };
@@ -47,16 +50,19 @@ pub trait Machine<N> {
 
     /// The step's operation on the words.
     fn operation(shape: &Self::Shape, agent: u32, op: &Self::Op, own: &Self::Own) -> PlacedOperation
-        requires allowed { rules.allowed shape.now agent op.now (shows own.now) }
-        ensures index { result.index ≡ rules.index shape.now (rules.place shape.now agent op.now (shows own.now)) }
-        ensures written { word_after result.operation ≡ rules.written shape.now agent op.now (shows own.now) }
-        ensures answer { returned_by result.operation ≡ rules.answer shape.now agent op.now (shows own.now) };
+        requires allowed { (d : Self.Record) × tied d own.now × rules.allowed shape.now agent op.now d }
+        ensures index { (d : Self.Record) → tied d own.now → rules.allowed shape.now agent op.now d
+            → result.index ≡ rules.index shape.now (rules.place shape.now agent op.now d) }
+        ensures written { (d : Self.Record) → tied d own.now → rules.allowed shape.now agent op.now d
+            → word_after result.operation ≡ rules.written shape.now agent op.now d }
+        ensures answer { (d : Self.Record) → tied d own.now → rules.allowed shape.now agent op.now d
+            → returned_by result.operation ≡ rules.answer shape.now agent op.now d };
 
     /// Changes the record as a step that answered `n` does.
     fn keep(shape: &Self::Shape, agent: u32, op: &Self::Op, own: &mut Self::Own, n: u64)
-        requires allowed { rules.allowed shape.now agent op.now (shows own.old) }
-        requires room { (found : ℕ) × (n ≡ rules.answer shape.now agent op.now (shows own.old) found)
-            × has_room shape.now op.now (shows own.old) found }
-        ensures after { (found : ℕ) → n ≡ rules.answer shape.now agent op.now (shows own.old) found
-            → shows own.new ≡ rules.after shape.now agent op.now (shows own.old) found };
+        requires room { (d : Self.Record) × (found : ℕ) × tied d own.old × rules.allowed shape.now agent op.now d
+            × (n ≡ rules.answer shape.now agent op.now d found) × has_room shape.now op.now d found }
+        ensures after { (d : Self.Record) (found : ℕ) → tied d own.old → rules.allowed shape.now agent op.now d
+            → n ≡ rules.answer shape.now agent op.now d found → has_room shape.now op.now d found
+            → tied (rules.after shape.now agent op.now d found) own.new };
 }

@@ -39,7 +39,7 @@ pub struct SharedPass<M: Machine<D::Note>, D: Discipline> {
     pub agent: u32,
     pub own: M::Own,
     ghost named: { seat.me.0.agent ≡ Some agent },
-    ghost mine: { seat.me.0.own ≡ M.shows own },
+    ghost mine: { M.tied seat.me.0.own own } by { M.one_tie _ _ },
     ghost holds_none: { seat.me.1 ≡ [] },
 }
 
@@ -68,7 +68,7 @@ impl<M: Machine<D::Note>, D: Discipline> SharedWords<M, D> {
         requires words { words.now ≡ lay (M.rules.index shape) (M.rules.words shape (M.rules.opening shape)) }
         requires some { 0 < length words.now }
         requires agents { (length owns.items ≡ M.rules.agents shape) × (length owns.items < 4294967296) }
-        requires owns { EachAt (λ i own. M.shows own ≡ M.rules.own shape (M.rules.opening shape) i) owns.items }
+        requires owns { EachAt (λ i own. M.tied (M.rules.own shape (M.rules.opening shape) i) own) owns.items }
         requires opening { Opens M.rules shape (D.holds (M.numbers shape)) (D.may (M.numbers shape)) }
         ensures shape { IfOk result (λ b. b.0.shape ≡ shape) }
         ensures words { IfOk result (λ b. b.0.table.shared.table_id.words ≡ length words.now) }
@@ -76,7 +76,7 @@ impl<M: Machine<D::Note>, D: Discipline> SharedWords<M, D> {
         ensures table { IfOk result (λ b. All (λ p. p.seat.table_id ≡ b.0.table.shared.table_id) b.1.items) }
         ensures agents { IfOk result (λ b. EachAt (λ i p. p.agent ≡ i) b.1.items) }
         ensures seen { IfOk result (λ b. All (λ p. (p.seat.me.0.seen ≡ M.rules.opening shape) × (p.seat.me.0.also ≡ [])) b.1.items) }
-        ensures owns { IfOk result (λ b. EachAt (λ i p. M.shows p.own ≡ M.rules.own shape (M.rules.opening shape) i) b.1.items) }
+        ensures owns { IfOk result (λ b. EachAt (λ i p. p.seat.me.0.own ≡ M.rules.own shape (M.rules.opening shape) i) b.1.items) }
     {
         let mut others = Vec::with_capacity(alloc, owns.len())?;
         let mut owns = owns.into_iter();
@@ -102,7 +102,7 @@ impl<M: Machine<D::Note>, D: Discipline> SharedWords<M, D> {
     ) -> Result<(SharedWords<M, D>, SharedPass<M, D>), NoMemory>
         requires words { words.now ≡ lay (M.rules.index shape) (M.rules.words shape (M.rules.opening shape)) }
         requires some { 0 < length words.now }
-        requires own { M.shows own ≡ M.rules.own shape (M.rules.opening shape) 0 }
+        requires own { M.tied (M.rules.own shape (M.rules.opening shape) 0) own }
         requires opening { Opens M.rules shape (D.holds (M.numbers shape)) (D.may (M.numbers shape)) }
         ensures { IfOk result (λ b. (b.1.seat.table_id ≡ b.0.table.shared.table_id) × (b.0.table.shared.table_id.words ≡ length words.now)
             × (b.0.shape ≡ shape) × (b.1.agent ≡ 0) × (b.1.seat.me.0 ≡ first_view M.rules shape)) }
@@ -119,7 +119,7 @@ impl<M: Machine<D::Note>, D: Discipline> SharedWords<M, D> {
     // Makes the pass of the next agent.
     fn hand_out(&self, first: &mut SharedPass<M, D>, number: u32, own: M::Own) -> SharedPass<M, D>
         requires table { first.old.seat.table_id ≡ self.now.table.shared.table_id }
-        requires own { M.shows own ≡ first.old.seat.me.0.born }
+        requires own { M.tied first.old.seat.me.0.born own }
         requires free { (first.old.seat.me.0.free ≡ Some number) × (number < M.rules.agents self.now.shape) }
         ensures table { (first.new.seat.table_id ≡ first.old.seat.table_id) × (result.seat.table_id ≡ first.old.seat.table_id) }
         ensures agents { (first.new.agent ≡ first.old.agent) × (result.agent ≡ number) }
@@ -140,9 +140,9 @@ impl<M: Machine<D::Note>, D: Discipline> SharedWords<M, D> {
     #[inline(always)]
     pub fn step(&self, p: &mut SharedPass<M, D>, op: &M::Op, note: &Option<D::Note>) -> u64
         requires table { p.old.seat.table_id ≡ self.now.table.shared.table_id }
-        requires inside { M.rules.index self.now.shape (M.rules.place self.now.shape p.old.agent op.now (M.shows p.old.own))
+        requires inside { M.rules.index self.now.shape (M.rules.place self.now.shape p.old.agent op.now p.old.seat.me.0.own)
             < self.now.table.shared.table_id.words }
-        requires allowed { M.rules.allowed self.now.shape p.old.agent op.now (M.shows p.old.own) }
+        requires allowed { M.rules.allowed self.now.shape p.old.agent op.now p.old.seat.me.0.own }
         requires licensed { Licensed M.rules self.now.shape (D.holds (M.numbers self.now.shape)) (D.may (M.numbers self.now.shape))
             p.old.seat.me.0 p.old.agent op.now note.now }
         ensures table { p.new.seat.table_id ≡ p.old.seat.table_id }
@@ -167,10 +167,11 @@ impl<M: Machine<D::Note>, D: Discipline> SharedWords<M, D> {
     ) -> u64
         requires picked { J.step ≡ Some (self.now.shape, op.now, note.now) }
         requires table { seat.old.table_id ≡ self.now.table.shared.table_id }
-        requires agent { (seat.old.me.0.agent ≡ Some agent) × (seat.old.me.0.own ≡ M.shows own.now) }
-        requires inside { M.rules.index self.now.shape (M.rules.place self.now.shape agent op.now (M.shows own.now))
+        requires agent { seat.old.me.0.agent ≡ Some agent }
+        requires tied { M.tied seat.old.me.0.own own.now }
+        requires inside { M.rules.index self.now.shape (M.rules.place self.now.shape agent op.now seat.old.me.0.own)
             < self.now.table.shared.table_id.words }
-        requires allowed { M.rules.allowed self.now.shape agent op.now (M.shows own.now) }
+        requires allowed { M.rules.allowed self.now.shape agent op.now seat.old.me.0.own }
         requires licensed { Licensed M.rules self.now.shape (D.holds (M.numbers self.now.shape)) (D.may (M.numbers self.now.shape))
             seat.old.me.0 agent op.now note.now }
         ensures table { seat.new.table_id ≡ seat.old.table_id }

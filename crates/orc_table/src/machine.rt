@@ -109,7 +109,9 @@ impl<N: Copy> Machine<N> for Plain {
 
     type Own = ();
 
-    ghost shows = { λ own. own };
+    ghost tied = { λ d own. Unit {0} };
+
+    ghost one_tie = { λ d own p q i. tt };
 
     ghost has_room = { λ k op own found. Unit {0} };
 

@@ -3,24 +3,22 @@
 ghost use Rattle.std.specs.Prelude.{◌≡◌, ◌++◌, ◌∷◌, [], IfSome, None, Some, true};
 ghost use Rattle.orc_core.specs.declared.ops.Op.{Op};
 ghost use Rattle.orc_fifo_rule.specs.QueueDiscipline.{FifoMay};
-ghost use Rattle.domain_tests.specs.JobRun.{IsSolePass, after_put, before_put, before_took, exchanged, opened, own_steps, small};
+ghost use Rattle.domain_tests.specs.JobRun.{IsPlayed, after_put, before_put, before_took, exchanged, opened, own_steps, small};
+ghost use Rattle.orc_core.specs.Runs.{run};
 ghost use Rattle.orc_machine_board.specs.Licences.{MoveAllowed};
-ghost use Rattle.orc_machine_board.specs.Rules.{does};
-ghost use Rattle.orc_machine_board.specs.Views.{Belongs, board_bounds, board_numbers, shows};
+ghost use Rattle.orc_machine_board.specs.Plays.{by_agent};
+ghost use Rattle.orc_machine_board.specs.Rules.{does, run_of};
+ghost use Rattle.orc_machine_board.specs.Views.{board_bounds, board_numbers, shows};
+ghost use Rattle.orc_words.specs.Bounds.{bounds_of};
 
-use super::steps::{make_one, make_plain, may_make};
-use orc_core::{CounterUse, Op};
-use orc_fifo_rule::{Fifo, FifoNote};
+use super::steps::{Queue, QueuePass, follow, make_one, make_plain, may_make};
+use orc_core::{CounterUse, Op, State, allowed};
+use orc_fifo_rule::FifoNote;
 use orc_heap::Seed;
 use orc_history::QueueEntry;
-use orc_machine_board::{MachineBoard, MachineBoardPass};
 use orc_words::{RowLink, Shape, Word};
 use std::alloc::Global;
 use std::test::Fail;
-
-type Queue = MachineBoard<Fifo>;
-
-type QueuePass = MachineBoardPass<Fifo>;
 
 const NULL: RowLink = RowLink {
     to: None,
@@ -35,6 +33,11 @@ const ROW_0: RowLink = RowLink {
 const ROW_1: RowLink = RowLink {
     to: Some(1),
     mark: false,
+};
+
+const CHECK_0: Op = Op::CounterLoad {
+    row: 0,
+    how: CounterUse::Check,
 };
 
 const CHECK_1: Op = Op::CounterLoad {
@@ -69,6 +72,30 @@ const FILL_POSITION: Op = Op::Fill {
     value: 1,
 };
 
+const FILL_DUMMY: Op = Op::Fill {
+    row: 0,
+    which: 0,
+    value: 0,
+};
+
+const FILL_START: Op = Op::Fill {
+    row: 0,
+    which: 1,
+    value: 0,
+};
+
+const LINK_HEAD: Op = Op::LinkCas {
+    place: Word::Root(0),
+    from: NULL,
+    to: ROW_0,
+};
+
+const LINK_TAIL: Op = Op::LinkCas {
+    place: Word::Root(1),
+    from: NULL,
+    to: ROW_0,
+};
+
 const LOAD_TAIL: Op = Op::LinkLoad {
     place: Word::Root(1),
     slot: None,
@@ -94,64 +121,67 @@ const HOLD_NEXT: Op = Op::LinkLoad {
     slot: Some(2),
 };
 
-// Makes a step that changes no link, where the record allows it.
-fn step(board: &Queue, p: &mut QueuePass, op: Op) -> Option<u64>
-    requires sole { IsSolePass board.now p.old }
-    ensures sole { IsSolePass board.now p.new }
+// Makes a step that changes no link, where the machine allows it.
+fn step(board: &Queue, p: &mut QueuePass, state: &mut State, op: Op) -> Option<u64>
+    requires played { IsPlayed board.now p.old state.old }
+    ensures played { IsPlayed board.now p.new state.new }
     ensures journal { IfSome result (λ _. (shows p.new).journal ≡ (shows p.old).journal ++ does 0 op None ∷ []) }
 {
-    let made = make_plain(board, p, op);
+    let made = make_plain(board, p, state, op);
     board.seen_by(p);
     made
 }
 
-// Makes these steps, up to one that the record doesn't allow, and tells whether it allows all.
-fn steps(board: &Queue, p: &mut QueuePass, ops: &[Op]) -> bool
-    requires sole { IsSolePass board.now p.old }
-    ensures sole { IsSolePass board.now p.new }
+// Makes these steps, up to one that the machine doesn't allow, and tells whether it allows all.
+fn steps(board: &Queue, p: &mut QueuePass, state: &mut State, ops: &[Op]) -> bool
+    requires played { IsPlayed board.now p.old state.old }
+    ensures played { IsPlayed board.now p.new state.new }
     ensures journal { result ≡ true → (shows p.new).journal ≡ (shows p.old).journal ++ own_steps ops.now }
 {
     for op in ops {
-        if step(board, p, *op).is_none() {
+        if step(board, p, state, *op).is_none() {
             return false;
         }
     }
     true
 }
 
-// Exchanges a link, where the record allows it, and tells whether it does.
+// Exchanges a link, where the machine allows it, and tells whether it does.
 fn exchange(
     board: &Queue,
     p: &mut QueuePass,
+    state: &mut State,
     place: Word,
     from: RowLink,
     to: RowLink,
     note: FifoNote,
 ) -> bool
-    requires sole { IsSolePass board.now p.old }
+    requires played { IsPlayed board.now p.old state.old }
     requires licensed { MoveAllowed (FifoMay (board_numbers board.now)) (board_bounds board.now) (shows p.old) place from to (Some note) }
-    ensures sole { IsSolePass board.now p.new }
+    ensures played { IsPlayed board.now p.new state.new }
     ensures journal { result ≡ true → (shows p.new).journal ≡ (shows p.old).journal ++ exchanged place from to note ∷ [] }
 {
     let op = Op::LinkCas { place, from, to };
-    if !may_make(board, p, &op) {
+    if !may_make(board, p, state, &op) {
         return false;
     }
     board.link_cas(p, place, from, to, Some(note));
     board.seen_by(p);
+    follow(state, &op);
     true
 }
 
 // Takes row 1 out for job 6, and holds row 0, as root 1 shows it.
-fn give(board: &Queue, p: &mut QueuePass) -> bool
-    requires sole { IsSolePass board.now p.old }
+fn give(board: &Queue, p: &mut QueuePass, state: &mut State) -> bool
+    requires played { IsPlayed board.now p.old state.old }
     requires journal { (shows p.old).journal ≡ opened }
-    ensures sole { IsSolePass board.now p.new }
+    ensures played { IsPlayed board.now p.new state.new }
     ensures journal { result ≡ true → (shows p.new).journal ≡ before_put }
 {
     steps(
         board,
         p,
+        state,
         &[
             Op::GateLook { row: 1 },
             CHECK_1,
@@ -169,13 +199,13 @@ fn give(board: &Queue, p: &mut QueuePass) -> bool
 }
 
 // Puts the job: the link of row 0 leads to row 1, and root 1 steps on.
-fn put(board: &Queue, p: &mut QueuePass) -> bool
-    requires sole { IsSolePass board.now p.old }
+fn put(board: &Queue, p: &mut QueuePass, state: &mut State) -> bool
+    requires played { IsPlayed board.now p.old state.old }
     requires journal { (shows p.old).journal ≡ opened }
-    ensures sole { IsSolePass board.now p.new }
+    ensures played { IsPlayed board.now p.new state.new }
     ensures journal { result ≡ true → (shows p.new).journal ≡ after_put }
 {
-    if !give(board, p) {
+    if !give(board, p, state) {
         return false;
     }
     let entry = FifoNote::Entry(QueueEntry::Put {
@@ -183,18 +213,27 @@ fn put(board: &Queue, p: &mut QueuePass) -> bool
         job: 6,
         at: 0,
     });
-    if !exchange(board, p, Word::Next(0), NULL, ROW_1, entry) {
+    if !exchange(board, p, state, Word::Next(0), NULL, ROW_1, entry) {
         return false;
     }
-    if !steps(board, p, &[Op::Inc { row: 1 }, CHECK_1]) {
+    if !steps(board, p, state, &[Op::Inc { row: 1 }, CHECK_1]) {
         return false;
     }
-    if !exchange(board, p, Word::Root(1), ROW_0, ROW_1, FifoNote::Swing) {
+    if !exchange(
+        board,
+        p,
+        state,
+        Word::Root(1),
+        ROW_0,
+        ROW_1,
+        FifoNote::Swing,
+    ) {
         return false;
     }
     steps(
         board,
         p,
+        state,
         &[
             Op::Inc { row: 1 },
             Op::Arm { row: 0 },
@@ -210,14 +249,15 @@ fn put(board: &Queue, p: &mut QueuePass) -> bool
 }
 
 // Takes the job: rows 0 and 1 are held, the job is read, and root 0 steps on.
-fn take(board: &Queue, p: &mut QueuePass) -> Option<u64>
-    requires sole { IsSolePass board.now p.old }
+fn take(board: &Queue, p: &mut QueuePass, state: &mut State) -> Option<u64>
+    requires played { IsPlayed board.now p.old state.old }
     requires journal { (shows p.old).journal ≡ after_put }
-    ensures sole { IsSolePass board.now p.new }
+    ensures played { IsPlayed board.now p.new state.new }
 {
     let held = steps(
         board,
         p,
+        state,
         &[
             LOAD,
             Op::Publish { slot: 1, row: 0 },
@@ -231,39 +271,40 @@ fn take(board: &Queue, p: &mut QueuePass) -> Option<u64>
     if !held {
         return None;
     }
-    let job = step(board, p, Op::Read { row: 1, which: 0 })?;
+    let job = step(board, p, state, Op::Read { row: 1, which: 0 })?;
     let entry = FifoNote::Entry(QueueEntry::Took {
         agent: 0,
         job: 6,
         at: 0,
     });
-    if !exchange(board, p, Word::Root(0), ROW_0, ROW_1, entry) {
+    if !exchange(board, p, state, Word::Root(0), ROW_0, ROW_1, entry) {
         return None;
     }
     Some(job)
 }
 
-// Makes these steps, and tells whether the record allows all.
-fn make_ones(board: &Queue, p: &mut QueuePass, ops: &[Op]) -> bool
-    requires belongs { Belongs board.now p.old }
-    ensures belongs { Belongs board.now p.new }
+// Makes these steps, and tells whether the machine allows all.
+fn make_ones(board: &Queue, p: &mut QueuePass, state: &mut State, ops: &[Op]) -> bool
+    requires played { IsPlayed board.now p.old state.old }
+    ensures played { IsPlayed board.now p.new state.new }
 {
     let mut all = true;
     for op in ops {
-        all &= make_one(board, p, *op).is_some();
+        all &= make_one(board, p, state, *op).is_some();
     }
     all
 }
 
 // Counts the links that changed, and retires row 0.
-fn retire(board: &Queue, p: &mut QueuePass) -> bool
-    requires belongs { Belongs board.now p.old }
-    ensures belongs { Belongs board.now p.new }
+fn retire(board: &Queue, p: &mut QueuePass, state: &mut State) -> bool
+    requires played { IsPlayed board.now p.old state.old }
+    ensures played { IsPlayed board.now p.new state.new }
 {
     let sequence = 4;
     make_ones(
         board,
         p,
+        state,
         &[
             Op::Inc { row: 1 },
             Op::Arm { row: 0 },
@@ -280,18 +321,19 @@ fn retire(board: &Queue, p: &mut QueuePass) -> bool
 }
 
 // Scans for row 0, takes its link out, and frees it.
-fn free(board: &Queue, p: &mut QueuePass) -> bool
-    requires belongs { Belongs board.now p.old }
-    ensures belongs { Belongs board.now p.new }
+fn free(board: &Queue, p: &mut QueuePass, state: &mut State) -> bool
+    requires played { IsPlayed board.now p.old state.old }
+    ensures played { IsPlayed board.now p.new state.new }
 {
-    let mut scanned = make_ones(board, p, &[START]);
+    let mut scanned = make_ones(board, p, state, &[START]);
     for k in 0..8 {
-        scanned &= make_ones(board, p, &[Op::SlotLook { k }]);
+        scanned &= make_ones(board, p, state, &[Op::SlotLook { k }]);
     }
     let link = NULL;
     let freed = make_ones(
         board,
         p,
+        state,
         &[
             END,
             Op::LinkStore {
@@ -310,11 +352,58 @@ fn free(board: &Queue, p: &mut QueuePass) -> bool
     scanned && freed
 }
 
-// Makes a board with a dummy, for one agent, and its pass.
-fn with_dummy(alloc: Global) -> Option<(Queue, QueuePass)>
-    ensures belongs { IfSome result (λ made. Belongs made.0 made.1) }
-    ensures sizes { IfSome result (λ made. board_bounds made.0 ≡ small) }
-    ensures agent { IfSome result (λ made. (shows made.1).agent ≡ 0) }
+// Makes these steps on the machine, and tells whether it allows all.
+fn play(state: &mut State, ops: &[Op]) -> bool
+    ensures { result ≡ true → state.new ≡ run state.old (by_agent 0 ops.now) }
+{
+    for op in ops {
+        if !state.has_room(0) {
+            return false;
+        }
+        if !allowed(state, 0, op) {
+            return false;
+        }
+        follow(state, op);
+    }
+    true
+}
+
+// Makes a machine that has made the steps with which the board begins.
+fn opened_machine(alloc: Global, shape: &Shape) -> Option<State>
+    ensures { IfSome result (λ state. state ≡ run_of (bounds_of shape.now) opened) }
+{
+    let Ok(mut state) = State::new(alloc, shape) else {
+        return None;
+    };
+    let opens = play(
+        &mut state,
+        &[
+            Op::Enroll,
+            Op::GateLook { row: 0 },
+            CHECK_0,
+            Op::GateTake { row: 0 },
+            FILL_DUMMY,
+            FILL_START,
+            Op::Publish { slot: 1, row: 0 },
+            CHECK_0,
+            LINK_HEAD,
+            Op::Inc { row: 0 },
+            CHECK_0,
+            LINK_TAIL,
+            Op::Inc { row: 0 },
+            Op::Clear { slot: 1 },
+            Op::TakeIn { slot: 1 },
+        ],
+    );
+    if !opens {
+        return None;
+    }
+    Some(state)
+}
+
+// Makes a board with a dummy, for one agent, its pass, and a machine that made the same steps.
+fn with_dummy(alloc: Global) -> Option<(Queue, QueuePass, State)>
+    ensures played { IfSome result (λ made. IsPlayed made.0 made.1 made.2) }
     ensures journal { IfSome result (λ made. (shows made.1).journal ≡ opened) }
 {
     let Ok(shape) = Shape::new(2, 2, 1, 8) else {
@@ -331,24 +420,25 @@ fn with_dummy(alloc: Global) -> Option<(Queue, QueuePass)>
     if pass.agent() != 0 {
         return None;
     }
-    Some((board, pass))
+    let state = opened_machine(alloc, &shape)?;
+    Some((board, pass, state))
 }
 
 #[test]
 fn a_job_goes_through_two_rows(rt: HostRuntime) -> Result<(), Fail> {
-    let Some((board, mut pass)) = with_dummy(rt.alloc()) else {
+    let Some((board, mut pass, mut state)) = with_dummy(rt.alloc()) else {
         panic!(rt; "memory")
     };
-    if !put(&board, &mut pass) {
+    if !put(&board, &mut pass, &mut state) {
         panic!(rt; "put")
     }
-    assert_eq!(rt; take(&board, &mut pass), Some(6));
+    assert_eq!(rt; take(&board, &mut pass, &mut state), Some(6));
     assert_eq!(rt; pass.backlog(), 0);
-    assert!(rt; retire(&board, &mut pass));
+    assert!(rt; retire(&board, &mut pass, &mut state));
     assert_eq!(rt; pass.backlog(), 1);
-    assert!(rt; free(&board, &mut pass));
+    assert!(rt; free(&board, &mut pass, &mut state));
     let look = Op::GateLook { row: 0 };
-    assert_eq!(rt; make_one(&board, &mut pass, look), Some(2));
+    assert_eq!(rt; make_one(&board, &mut pass, &mut state, look), Some(2));
     assert_eq!(rt; pass.backlog(), 0);
     Ok(())
 }

@@ -1,33 +1,65 @@
-//! Steps on the board of twenty kinds, each where the pass's record allows it.
+//! Steps of the one agent of a board of twenty kinds, each where a machine that makes the same steps allows it.
 
-ghost use Rattle.std.specs.Prelude.{◌≡◌, IfSome, true};
+ghost use Rattle.std.specs.Prelude.{◌≡◌, IfSome, None, true};
+ghost use Rattle.domain_tests.specs.JobRun.{IsPlayed};
+ghost use Rattle.orc_core.specs.Machine.{LeavesRoom, is_allowed, step};
 ghost use Rattle.orc_machine_board.specs.Kinds.{MakesPlain, MayDo};
+ghost use Rattle.orc_machine_board.specs.Rules.{is_enroll};
 ghost use Rattle.orc_machine_board.specs.Views.{Belongs, board_bounds, shows};
 
-use orc_core::{Op, may_step};
-use orc_heap::Discipline;
+use orc_core::{Op, State, allowed, apply};
+use orc_fifo_rule::Fifo;
 use orc_machine_board::{MachineBoard, MachineBoardPass};
 
-// Tests whether the pass's record allows the op.
-pub fn may_make<D: Discipline>(board: &MachineBoard<D>, p: &MachineBoardPass<D>, op: &Op) -> bool
-    ensures { result ≡ true → MayDo (board_bounds board.now) (shows p.now) op.now }
+pub type Queue = MachineBoard<Fifo>;
+
+pub type QueuePass = MachineBoardPass<Fifo>;
+
+// Tests whether the machine allows the op, and has room for what it leaves.
+pub fn may_make(board: &Queue, p: &QueuePass, state: &State, op: &Op) -> bool
+    requires played { IsPlayed board.now p.now state.now }
+    ensures may { result ≡ true → MayDo (board_bounds board.now) (shows p.now) op.now }
+    ensures allowed { result ≡ true → is_allowed state.now 0 op.now ≡ true }
+    ensures room { result ≡ true → LeavesRoom state.now 0 op.now }
 {
-    may_step(&board.shape(), 0, p.agent(), op, p.record())
+    if is_enroll(op) {
+        return false;
+    }
+    if !state.has_room(0) {
+        return false;
+    }
+    allowed(state, 0, op)
 }
 
-// Makes a step that changes no link, where the record allows it.
-pub fn make_plain<D: Discipline>(
-    board: &MachineBoard<D>,
-    p: &mut MachineBoardPass<D>,
-    op: Op,
-) -> Option<u64>
+// Whether the op is an enrolment.
+fn is_enroll(op: &Op) -> bool
+    ensures { result ≡ is_enroll op.now }
+{
+    match op {
+        Op::Enroll => true,
+        _ => false,
+    }
+}
+
+// Makes an allowed step on the machine.
+pub fn follow(state: &mut State, op: &Op)
+    requires allowed { is_allowed state.old 0 op.now ≡ true }
+    requires room { LeavesRoom state.old 0 op.now }
+    ensures { state.new ≡ step state.old 0 op.now }
+{
+    let Ok(_) = apply(state, 0, op) else {
+        unreachable!()
+    };
+}
+
+// Makes an allowed step on the board, if its kind changes no link.
+fn make_allowed(board: &Queue, p: &mut QueuePass, op: Op) -> Option<u64>
     requires belongs { Belongs board.now p.old }
+    requires allowed { MayDo (board_bounds board.now) (shows p.old) op }
     ensures belongs { Belongs board.now p.new }
     ensures made { IfSome result (λ n. MakesPlain (board_bounds board.now) op (shows p.old) n (shows p.new)) }
+    ensures none { result ≡ None → p.new ≡ p.old }
 {
-    if !may_make(board, p, &op) {
-        return None;
-    }
     match op {
         Op::Enroll | Op::LinkCas { .. } | Op::LinkStore { .. } => None,
         Op::GateLook { row } => Some(board.gate_look(p, row)),
@@ -50,20 +82,34 @@ pub fn make_plain<D: Discipline>(
     }
 }
 
-// Makes a step that exchanges no link, where the record allows it; of a row that isn't fresh, it takes the link out.
-pub fn make_one<D: Discipline>(
-    board: &MachineBoard<D>,
-    p: &mut MachineBoardPass<D>,
-    op: Op,
-) -> Option<u64>
-    requires belongs { Belongs board.now p.old }
-    ensures belongs { Belongs board.now p.new }
+// Makes a step that changes no link, where the machine allows it.
+pub fn make_plain(board: &Queue, p: &mut QueuePass, state: &mut State, op: Op) -> Option<u64>
+    requires played { IsPlayed board.now p.old state.old }
+    ensures played { IsPlayed board.now p.new state.new }
+    ensures made { IfSome result (λ n. MakesPlain (board_bounds board.now) op (shows p.old) n (shows p.new)) }
+{
+    if !may_make(board, p, state, &op) {
+        return None;
+    }
+    let made = make_allowed(board, p, op)?;
+    board.seen_by(p);
+    follow(state, &op);
+    Some(made)
+}
+
+// Makes a step that exchanges no link, where the machine allows it; of a row that isn't fresh, it takes the link out.
+pub fn make_one(board: &Queue, p: &mut QueuePass, state: &mut State, op: Op) -> Option<u64>
+    requires played { IsPlayed board.now p.old state.old }
+    ensures played { IsPlayed board.now p.new state.new }
 {
     if let Op::LinkStore { row, number, link } = op {
-        if link.mark || p.record().is_fresh(row) || !may_make(board, p, &op) {
+        if link.mark || p.kept().is_fresh(row) || !may_make(board, p, state, &op) {
             return None;
         }
-        return Some(board.link_store(p, row, number, link));
+        let old = board.link_store(p, row, number, link);
+        board.seen_by(p);
+        follow(state, &op);
+        return Some(old);
     }
-    make_plain(board, p, op)
+    make_plain(board, p, state, op)
 }

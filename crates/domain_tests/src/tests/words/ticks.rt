@@ -4,6 +4,7 @@ ghost use Rattle.orc_heap.specs.Heap.{HeapNumbers};
 ghost use Rattle.orc_shared_words.specs.Operations.{returned_by};
 ghost use Rattle.orc_words.specs.Operations.{word_after};
 ghost use Rattle.domain_tests.specs.Ticks.{tick_rules, ticks_obey};
+ghost use Rattle.std.proofs.Math.Nat.{ℕ_set};
 ghost use Rattle.std.specs.Prelude.{◌≡◌, ℕ};
 
 use orc_shared_words::{JournalStep, Machine, PlacedOperation};
@@ -23,7 +24,9 @@ impl<N> Machine<N> for Ticks {
 
     type Own = u64;
 
-    ghost shows = { λ o. o };
+    ghost tied = { λ d o. d ≡ o };
+
+    ghost one_tie = { ℕ_set };
 
     ghost has_room = { λ _ _ _ _. Unit {0} };
 

@@ -93,8 +93,8 @@ settle_step-requires-2-clause-allowed g c =
     end_allowed (state_of c.args.board.now c.loop-k.p) c.args.agent c.args.row c.loop-k.k i.pass.reached i.pass.low i.still i.scan
     (omega (arith, low, high, place))
 
-pub returns-then-is_some-clause-opens : goal.returns-then-is_some-clause-opens
-returns-then-is_some-clause-opens g c =
+pub returns-then-is_none-clause-opens : goal.returns-then-is_none-clause-opens
+returns-then-is_none-clause-opens g c =
     let b = board_bounds c.args.board.now in
     let a = c.args.agent in
     let i = c.loop-k.invariant in
@@ -103,8 +103,8 @@ returns-then-is_some-clause-opens g c =
     (opens_then b a 1 1 (shows c.loop-k.p) (shows c.settle_step-2.new.p) (shows c.free_doomed.new.p)
     (c.settle_step-2.ensures.opens tt) c.free_doomed.ensures.goes))
 
-pub returns-then-is_some-clause-few : goal.returns-then-is_some-clause-few
-returns-then-is_some-clause-few g c =
+pub returns-then-is_none-clause-few : goal.returns-then-is_none-clause-few
+returns-then-is_none-clause-few g c =
     let shape = ap (λ (b : Bounds). b.agents) c.shape.ensures in
     let end = c.agents-end.ensures in
     let high = c.loop-k.auto.k-end in
@@ -114,14 +114,14 @@ returns-then-is_some-clause-few g c =
     let two = c.free_doomed.ensures.few in
     omega (arith, high, place, before, one, two)
 
-pub returns-else-is_some-clause-opens : goal.returns-else-is_some-clause-opens
-returns-else-is_some-clause-opens g c =
+pub returns-else-is_none-clause-opens : goal.returns-else-is_none-clause-opens
+returns-else-is_none-clause-opens g c =
     let i = c.loop-k.invariant in
     opens_next (board_bounds c.args.board.now) c.args.agent 1 (shows c.args.p.now) (shows c.loop-k.p) (shows c.settle_step-2.new.p) i.opens
     i.pass.reached (c.settle_step-2.ensures.opens tt)
 
-pub returns-else-is_some-clause-few : goal.returns-else-is_some-clause-few
-returns-else-is_some-clause-few g c =
+pub returns-else-is_none-clause-few : goal.returns-else-is_none-clause-few
+returns-else-is_none-clause-few g c =
     let shape = ap (λ (b : Bounds). b.agents) c.shape.ensures in
     let end = c.agents-end.ensures in
     let high = c.loop-k.auto.k-end in

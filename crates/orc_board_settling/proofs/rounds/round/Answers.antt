@@ -2,7 +2,6 @@ use Rattle.std.proofs.Common.{ap, arith, sym, ◌∙◌}
 use Rattle.std.specs.Prelude.{is_some}
 use Rattle.orc_board_settling.proofs.Joins.{opens_goes, opens_then}
 use Rattle.orc_board_settling.specs.Passes.{record_of, state_of}
-use Rattle.orc_core.specs.declared.records.Agent.{Agent}
 use Rattle.orc_machine_board.specs.Views.{board_bounds, shows}
 use Rattle.orc_settling.proofs.Rounds.{no_some, start_allowed}
 use Rattle.orc_board_settling.proofs.rounds.round.Goals as goal
@@ -14,7 +13,7 @@ settle_step-requires-clause-allowed g c =
     start_allowed (state_of board c.args.p.now) a c.args.row c.requires.pass.reached c.requires.pass.low c.requires.between
     c.requires.next
     (no_some (record_of board a c.args.p.now).scan
-    (ap (λ (d : Agent). is_some d.scan) (sym c.own_record.ensures) ∙ (sym c.is_some.ensures ∙ c.if-is_some.false)))
+    (ap is_some (sym c.kept.ensures.scan) ∙ (sym c.is_some.ensures ∙ c.if-is_some.false)))
 
 pub returns-clause-opens : goal.returns-clause-opens
 returns-clause-opens g c =

@@ -1,7 +1,6 @@
 use Rattle.std.proofs.Common.{ap, arith, subst, sym, ◌∙◌}
 use Rattle.orc_board_settling.proofs.Passes.{bounds_are}
 use Rattle.orc_board_settling.specs.Passes.{state_of}
-use Rattle.orc_core.specs.declared.records.Agent.{Agent}
 use Rattle.orc_settling.proofs.Places.{place_fits}
 use Rattle.orc_settling.specs.Records.{PlaceFits}
 use Rattle.orc_words.specs.Bounds.{Bounds}
@@ -10,7 +9,7 @@ use Rattle.orc_board_settling.proofs.rounds.scan_round.Goals as goal
 pub look_over-requires-clause-place : goal.look_over-requires-clause-place
 look_over-requires-clause-place g c =
     let m = state_of c.args.board.now c.args.p.now in
-    let same = ap (λ (d : Agent). d.scan) (sym c.own_record.ensures) ∙ c.in-Some.is in
+    let same = sym c.kept.ensures.scan ∙ c.in-Some.is in
     let low = subst (PlaceFits m.bounds) same (place_fits m c.args.agent c.requires.pass.reached) in
     let agents = ap (λ (b : Bounds). b.agents) (bounds_are c.args.board.now c.args.p.now) in
     omega (arith, low, agents)

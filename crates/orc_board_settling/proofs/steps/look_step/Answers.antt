@@ -40,7 +40,8 @@ returns-clause-found g c =
     let pass = next_pass c.args.board.now c.args.agent (SlotLook c.args.k) c.args.p.now c.slot_look.new.p c.slot_look.result c.requires.pass
     c.slot_look.ensures.belongs
     c.slot_look.ensures.made in
-    c.is_found.ensures ∙ ap (λ (d : Agent). scan_found d.scan) (c.record.ensures ∙ sym (mine c.args.board.now c.args.agent c.slot_look.new.p pass))
+    c.is_found.ensures ∙ (ap scan_found c.kept.ensures.scan
+    ∙ ap (λ (d : Agent). scan_found d.scan) (sym (mine c.args.board.now c.args.agent c.slot_look.new.p pass)))
 
 pub returns-clause-few : goal.returns-clause-few
 returns-clause-few g c = one_step c.args.board.now c.args.agent (SlotLook c.args.k) c.args.p.now c.slot_look.new.p c.slot_look.result c.requires.pass

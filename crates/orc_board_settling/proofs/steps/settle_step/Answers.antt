@@ -1,7 +1,8 @@
 use Rattle.orc_board_settling.proofs.Makes.{silent}
-use Rattle.orc_board_settling.proofs.Passes.{goes, may_do, next_pass, one_step, opens}
+use Rattle.orc_board_settling.proofs.Passes.{goes, may_do, next_pass, one_step, opens, read_step, word_answered}
 use Rattle.orc_board_settling.specs.Passes.{record_of, state_of}
 use Rattle.orc_core.specs.Machine.{word_in}
+use Rattle.orc_machine_board.specs.Views.{shows}
 use Rattle.orc_board_settling.proofs.steps.settle_step.Goals as goal
 
 pub plain_step-requires-clause-allowed : goal.plain_step-requires-clause-allowed
@@ -30,3 +31,10 @@ returns-clause-pass g c = next_pass c.args.board.now c.args.agent c.args.op c.ar
 pub returns-clause-few : goal.returns-clause-few
 returns-clause-few g c = one_step c.args.board.now c.args.agent c.args.op c.args.p.now c.plain_step.new.p c.plain_step.result c.requires.pass
     c.plain_step.ensures.belongs c.plain_step.ensures.makes
+
+pub returns-clause-read : goal.returns-clause-read
+returns-clause-read g c = λ answers.
+    let v = shows c.args.p.now in
+    read_step c.args.board.now c.args.agent c.args.op c.args.p.now c.plain_step.new.p c.plain_step.result c.requires.pass c.plain_step.ensures.belongs
+    c.plain_step.ensures.makes
+    (λ w e. word_answered v.agent c.args.op v.record_is c.plain_step.result w answers e)

@@ -19,8 +19,8 @@ loop-number-init g c = record {
   few = omega arith;
 }
 
-pub take_link_out-requires-clause-number : goal.take_link_out-requires-clause-number
-take_link_out-requires-clause-number g c =
+pub take_link_out-target-requires-clause-number : goal.take_link_out-target-requires-clause-number
+take_link_out-target-requires-clause-number g c =
     let board = c.args.board.now in
     let below = c.loop-number-test.true in
     let asked = c.links-links.ensures ∙ ap (λ (b : Bounds). b.links) c.shape.ensures in
@@ -33,11 +33,11 @@ loop-number-preserved g c =
     let b = board_bounds board in
     let a = c.args.agent in
     let i = c.loop-number.invariant in
-    let out = c.take_link_out.ensures in
+    let out = c.take_link_out-target.ensures in
     let down = c.finish_decrement.ensures in
     let s = shows c.args.p.now in
     let t = shows c.loop-number.p in
-    let u = shows c.take_link_out.new.p in
+    let u = shows c.take_link_out-target.new.p in
     let v = shows c.finish_decrement.new.p in
     let one = i.few in
     let two = out.few in
@@ -47,7 +47,7 @@ loop-number-preserved g c =
       goes = goes_then b a 0 0 s t v i.goes (goes_then b a 0 0 t u v out.goes down.goes);
       still = down.still;
       scan = down.kept.scan ∙ (ap (λ (d : Agent). d.scan) out.after.is ∙ i.scan);
-      doom = doom_is_cut (state_of board c.loop-number.p) (state_of board c.take_link_out.new.p) (state_of board c.finish_decrement.new.p) a c.args.row
+      doom = doom_is_cut (state_of board c.loop-number.p) (state_of board c.take_link_out-target.new.p) (state_of board c.finish_decrement.new.p) a c.args.row
           c.loop-number.number i.doom out.after down.kept;
       few = omega (arith, one, two, three);
     }

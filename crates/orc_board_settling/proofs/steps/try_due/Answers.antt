@@ -1,7 +1,6 @@
 use Rattle.std.proofs.Common.{ap, arith, sym, ◌∙◌}
 use Rattle.orc_board_settling.proofs.Joins.{goes_none}
 use Rattle.orc_board_settling.specs.Passes.{state_of}
-use Rattle.orc_core.specs.declared.records.Agent.{Agent}
 use Rattle.orc_machine_board.specs.Views.{board_bounds, shows}
 use Rattle.orc_settling.proofs.Stages.{due_allowed}
 use Rattle.orc_board_settling.proofs.steps.try_due.Goals as goal
@@ -9,7 +8,7 @@ use Rattle.orc_board_settling.proofs.steps.try_due.Goals as goal
 pub settle_step-requires-clause-allowed : goal.settle_step-requires-clause-allowed
 settle_step-requires-clause-allowed g c =
     due_allowed (state_of c.args.board.now c.args.p.now) c.args.agent c.requires.pass.low c.requires.calm c.requires.dec
-    c.in-Some.due (ap (λ (d : Agent). d.due) (sym c.own_record.ensures) ∙ c.in-Some.is) c.requires.due
+    c.in-Some.seen (c.requires.pending ∙ c.in-Some.is) c.requires.due
 
 pub returns-in_default-clause-goes : goal.returns-in_default-clause-goes
 returns-in_default-clause-goes g c =

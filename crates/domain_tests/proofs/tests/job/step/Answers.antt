@@ -7,5 +7,5 @@ use Rattle.domain_tests.proofs.tests.job.step.Goals as goal
 pub returns-clause-journal : goal.returns-clause-journal
 returns-clause-journal c = if_some_map c.make_plain-made.result
     (λ n made. sole_next (board_bounds c.args.board.now) (asks c.args.op) None (shows c.args.p.now)
-    (shows c.make_plain-made.new.p) n c.requires.sole.sizes c.requires.sole.agent made c.seen_by.ensures.below)
+    (shows c.make_plain-made.new.p) n c.requires.played.sole.sizes c.requires.played.sole.agent made c.seen_by.ensures.below)
     c.make_plain-made.ensures.made

@@ -57,7 +57,7 @@ returns-clause-idle g c = λ i p lt.
     let below : x.pass.agent < b.agents = omega (arith, agent, count, lt2) in
     let k : MachineShape _ = record { shape = c.args.shape.now; seed = c.args.seed; layout = c.new.result; laid = c.make-arg-1.given.0 } in
     let owned = c.in_ok-words-2.ensures.owns i p.pass lt2 in
-    let own = x.pass.mine ∙ (ap (λ z. z.own) e ∙ (owned ∙ ap ((counted_rules {N = _}).own k ((counted_rules {N = _}).opening k)) (sym agent))) in
+    let own = ap (λ z. z.seat.me.0.own) e ∙ (owned ∙ ap ((counted_rules {N = _}).own k ((counted_rules {N = _}).opening k)) (sym agent)) in
     subst HasNothing (sym own) (opening_nothing b c.args.seed x.pass.agent (in_range c.args.shape.now)
     (seed_roots g.D.Discipline k c.requires.holds c.args.seed c.requires.seed) below)
 
@@ -80,7 +80,7 @@ returns-clause-belongs g c = λ i p lt.
     let count = c.in_ok-words-2.ensures.passes in
     let below : x.pass.agent < (bounds_of c.args.shape.now).agents = omega (arith, agent, count, lt2) in
     let owned = c.in_ok-words-2.ensures.owns i p.pass lt2 in
-    let own = x.pass.mine ∙ (ap (λ z. z.own) e ∙ (owned ∙ ap ((counted_rules {N = _}).own k ((counted_rules {N = _}).opening k)) (sym agent))) in
+    let own = ap (λ z. z.seat.me.0.own) e ∙ (owned ∙ ap ((counted_rules {N = _}).own k ((counted_rules {N = _}).opening k)) (sym agent)) in
     record {
       table = ap (λ z. z.seat.table_id) e ∙ c.in_ok-words-2.ensures.table i p.pass lt2;
       keeps = subst (λ z. Keeps z (d.holds (heap_numbers z)) (d.may (heap_numbers z)) x.pass.seat.me.0 x.pass.agent) (sym c.in_ok-words-2.ensures.shape)

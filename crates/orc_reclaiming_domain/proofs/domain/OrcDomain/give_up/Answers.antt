@@ -1,6 +1,5 @@
 use Rattle.std.proofs.Common.{ap, sym, ◌∙◌}
 use Rattle.orc_core.specs.RecordParts.{names}
-use Rattle.orc_core.specs.declared.records.Agent.{Agent}
 use Rattle.orc_reclaiming_domain.proofs.Retiring.{check_can, retire_can, retires}
 use Rattle.orc_reclaiming_domain.proofs.Stages.{Between, stage}
 use Rattle.orc_reclaiming_domain.proofs.domain.OrcDomain.give_up.Goals as goal
@@ -11,7 +10,7 @@ counter_load-counter-requires-clause-allowed g c =
     let d = g.D.Discipline in
     let s = stage d k _ _ c.requires.belongs.keeps in
     let start : Between s = record { ready = c.requires.ready; untouched = c.requires.untouched } in
-    let fresh = ap (λ (e : Agent). names e.fresh c.args.row) (sym c.record.ensures) ∙ (sym c.is_fresh.ensures ∙ c.if-not-is_fresh.false) in
+    let fresh = ap (λ f. names f c.args.row) (sym c.kept.ensures.fresh) ∙ (sym c.is_fresh.ensures ∙ c.if-not-is_fresh.false) in
     check_can s start c.args.row fresh
 
 pub set_retired-requires-clause-allowed : goal.set_retired-requires-clause-allowed
@@ -21,7 +20,7 @@ set_retired-requires-clause-allowed g c =
     let s = stage d k _ _ c.requires.belongs.keeps in
     let start : Between s = record { ready = c.requires.ready; untouched = c.requires.untouched } in
     let t = stage d k _ _ c.counter_load-counter.ensures.belongs.keeps in
-    let fresh = ap (λ (e : Agent). names e.fresh c.args.row) (sym c.record.ensures) ∙ (sym c.is_fresh.ensures ∙ c.if-not-is_fresh.false) in
+    let fresh = ap (λ f. names f c.args.row) (sym c.kept.ensures.fresh) ∙ (sym c.is_fresh.ensures ∙ c.if-not-is_fresh.false) in
     retire_can s start c.args.row fresh t c.counter_load-counter.result c.counter_load-counter.ensures.made
 
 pub returns-clause-retired : goal.returns-clause-retired

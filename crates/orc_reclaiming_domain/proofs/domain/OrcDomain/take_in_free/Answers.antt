@@ -1,6 +1,5 @@
 use Rattle.std.proofs.Common.{ap, sym, subst, ◌+◌, ◌∙◌, ◌≡◌}
 use Rattle.orc_core.specs.RecordParts.{is_empty, slot_of}
-use Rattle.orc_core.specs.declared.records.Agent.{Agent}
 use Rattle.orc_machine_board.specs.Views.{Belongs, shows}
 use Rattle.orc_reclaiming_domain.proofs.Stages.{stage}
 use Rattle.orc_reclaiming_domain.proofs.TakingIn.{TookIn, took_none, took_one, took_past}
@@ -20,7 +19,7 @@ loop-slot-preserved g c =
     let s = stage d k _ _ c.requires.belongs.keeps in
     let t = stage d k _ _ i.0.keeps in
     let is : c.is_empty.result ≡ is_empty (slot_of t.view.record_is slot) =
-    c.is_empty.ensures ∙ ap is_empty (c.slot.ensures ∙ ap (λ (r : Agent). slot_of r slot) c.record.ensures) in
+    c.is_empty.ensures ∙ (ap is_empty c.slot.ensures ∙ c.kept.ensures.empty slot) in
     elim c.if-is_empty.branch [
       | then-is_empty w ↦
           let u = stage d k _ _ w.take_in.ensures.belongs.keeps in

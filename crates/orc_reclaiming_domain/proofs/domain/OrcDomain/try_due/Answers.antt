@@ -1,5 +1,4 @@
 use Rattle.std.proofs.Common.{None, Some, ap, sym, ◌∙◌, ◌≡◌}
-use Rattle.orc_core.specs.declared.records.Agent.{Agent}
 use Rattle.orc_machine_board.specs.Views.{shows}
 use Rattle.orc_reclaiming_domain.proofs.Counting.{becomes_self, try_can, tries, without_due}
 use Rattle.orc_reclaiming_domain.proofs.Stages.{stage}
@@ -10,7 +9,7 @@ pub set_retired-requires-clause-allowed : goal.set_retired-requires-clause-allow
 set_retired-requires-clause-allowed g c =
     let s = stage g.D.Discipline c.args.self.now.board.words.shape _ _ c.requires.belongs.keeps in
     let seen = c.in-Some.seen in
-    let due : s.view.record_is.due ≡ Some seen = ap (λ (e : Agent). e.due) (sym c.record.ensures) ∙ c.in-Some.is in
+    let due : s.view.record_is.due ≡ Some seen = c.requires.pending ∙ c.in-Some.is in
     try_can s seen c.requires.enrolled due (c.requires.due seen due).0
 
 pub returns-in-Some-clause-becomes : goal.returns-in-Some-clause-becomes
@@ -19,11 +18,11 @@ returns-in-Some-clause-becomes g c =
     let s = stage g.D.Discipline k _ _ c.requires.belongs.keeps in
     let t = stage g.D.Discipline k _ _ c.set_retired.ensures.belongs.keeps in
     let seen = c.in-Some.seen in
-    let due : s.view.record_is.due ≡ Some seen = ap (λ (e : Agent). e.due) (sym c.record.ensures) ∙ c.in-Some.is in
+    let due : s.view.record_is.due ≡ Some seen = c.requires.pending ∙ c.in-Some.is in
     tries s t seen c.set_retired.result c.set_retired.ensures.made (c.requires.due seen due).1
 
 pub returns-in_default-clause-becomes : goal.returns-in_default-clause-becomes
 returns-in_default-clause-becomes g c =
     let s = shows c.args.p.now in
     becomes_self (domain_bounds c.args.self.now) (record s.record_is { due = None }) s
-    (without_due s.record_is (ap (λ (e : Agent). e.due) (sym c.record.ensures) ∙ c.in_default.is))
+    (without_due s.record_is (c.requires.pending ∙ c.in_default.is))

@@ -16,8 +16,8 @@ invariant-loop-own g l =
     × (l.first.seat.me.0.born ≡ r.born l.fn.shape)
     × (l.first.seat.me.0.seen ≡ r.opening l.fn.shape)
     × (l.first.seat.me.0.also ≡ [])
-    × (g.M.Machine.shows l.first.own ≡ own 0)
+    × (l.first.seat.me.0.own ≡ own 0)
     × (length l.others.items + 1 + length l.own-iterator.rest.items ≡ r.agents l.fn.shape)
-    × EachAt (λ i o. g.M.Machine.shows o ≡ own (length l.others.items + 1 + i)) l.own-iterator.rest.items
+    × EachAt (λ i o. g.M.Machine.tied (own (length l.others.items + 1 + i)) o) l.own-iterator.rest.items
     × EachAt (λ i p. (p.seat.table_id ≡ table) × (p.agent ≡ i + 1) × (p.seat.me.0.seen ≡ r.opening l.fn.shape) × (p.seat.me.0.also ≡ [])
-    × (g.M.Machine.shows p.own ≡ own (i + 1))) l.others.items
+    × (p.seat.me.0.own ≡ own (i + 1))) l.others.items

@@ -5,59 +5,59 @@ use Rattle.orc_shared_words.proofs.shared_words.SharedWords.make_step.Goals as g
 pub load-requires : goal.load-requires
 load-requires g c = (
   search rules,
-  subst (λ z. z < c.args.self.now.table.shared.table_id.words) (sym c.operation-index.ensures.index) c.requires.inside,
+  subst (λ z. z < c.args.self.now.table.shared.table_id.words) (sym (c.operation-index.ensures.index _ c.requires.tied c.requires.allowed)) c.requires.inside,
   makes g.M.Machine.rules g.M.Machine.obeys c.args.self.now.shape (λ k. g.D.Discipline.holds (g.M.Machine.numbers k))
       (λ k. g.D.Discipline.may (g.M.Machine.numbers k)) (g.D.Discipline.keeps _) _ _ _ _ _ _ _ _ _ c.operation-index.result.index _ _ _ refl
-      c.args.self.now.shaped c.requires.picked c.operation-index.ensures.index c.operation-index.ensures.written c.operation-index.ensures.answer
-      c.in-Load.is c.requires.agent c.requires.allowed c.requires.licensed,
+      c.args.self.now.shaped c.requires.picked (c.operation-index.ensures.index _ c.requires.tied c.requires.allowed) (c.operation-index.ensures.written _ c.requires.tied c.requires.allowed) (c.operation-index.ensures.answer _ c.requires.tied c.requires.allowed)
+      c.in-Load.is (c.requires.agent, refl) c.requires.allowed c.requires.licensed,
 )
 
 pub store-requires : goal.store-requires
 store-requires g c = (
   search rules,
-  subst (λ z. z < c.args.self.now.table.shared.table_id.words) (sym c.operation-index.ensures.index) c.requires.inside,
+  subst (λ z. z < c.args.self.now.table.shared.table_id.words) (sym (c.operation-index.ensures.index _ c.requires.tied c.requires.allowed)) c.requires.inside,
   makes g.M.Machine.rules g.M.Machine.obeys c.args.self.now.shape (λ k. g.D.Discipline.holds (g.M.Machine.numbers k))
       (λ k. g.D.Discipline.may (g.M.Machine.numbers k)) (g.D.Discipline.keeps _) _ _ _ _ _ _ _ _ _ c.operation-index.result.index _ _ _ refl
-      c.args.self.now.shaped c.requires.picked c.operation-index.ensures.index c.operation-index.ensures.written c.operation-index.ensures.answer
-      c.in-Store.is c.requires.agent c.requires.allowed c.requires.licensed,
+      c.args.self.now.shaped c.requires.picked (c.operation-index.ensures.index _ c.requires.tied c.requires.allowed) (c.operation-index.ensures.written _ c.requires.tied c.requires.allowed) (c.operation-index.ensures.answer _ c.requires.tied c.requires.allowed)
+      c.in-Store.is (c.requires.agent, refl) c.requires.allowed c.requires.licensed,
 )
 
 pub swap-requires : goal.swap-requires
 swap-requires g c = (
   search rules,
-  subst (λ z. z < c.args.self.now.table.shared.table_id.words) (sym c.operation-index.ensures.index) c.requires.inside,
+  subst (λ z. z < c.args.self.now.table.shared.table_id.words) (sym (c.operation-index.ensures.index _ c.requires.tied c.requires.allowed)) c.requires.inside,
   makes g.M.Machine.rules g.M.Machine.obeys c.args.self.now.shape (λ k. g.D.Discipline.holds (g.M.Machine.numbers k))
       (λ k. g.D.Discipline.may (g.M.Machine.numbers k)) (g.D.Discipline.keeps _) _ _ _ _ _ _ _ _ _ c.operation-index.result.index _ _ _ refl
-      c.args.self.now.shaped c.requires.picked c.operation-index.ensures.index c.operation-index.ensures.written c.operation-index.ensures.answer
-      c.in-Swap.is c.requires.agent c.requires.allowed c.requires.licensed,
+      c.args.self.now.shaped c.requires.picked (c.operation-index.ensures.index _ c.requires.tied c.requires.allowed) (c.operation-index.ensures.written _ c.requires.tied c.requires.allowed) (c.operation-index.ensures.answer _ c.requires.tied c.requires.allowed)
+      c.in-Swap.is (c.requires.agent, refl) c.requires.allowed c.requires.licensed,
 )
 
 pub fetch_add-requires : goal.fetch_add-requires
 fetch_add-requires g c = (
   search rules,
-  subst (λ z. z < c.args.self.now.table.shared.table_id.words) (sym c.operation-index.ensures.index) c.requires.inside,
+  subst (λ z. z < c.args.self.now.table.shared.table_id.words) (sym (c.operation-index.ensures.index _ c.requires.tied c.requires.allowed)) c.requires.inside,
   makes g.M.Machine.rules g.M.Machine.obeys c.args.self.now.shape (λ k. g.D.Discipline.holds (g.M.Machine.numbers k))
       (λ k. g.D.Discipline.may (g.M.Machine.numbers k)) (g.D.Discipline.keeps _) _ _ _ _ _ _ _ _ _ c.operation-index.result.index _ _ _ refl
-      c.args.self.now.shaped c.requires.picked c.operation-index.ensures.index c.operation-index.ensures.written c.operation-index.ensures.answer
-      c.in-Add.is c.requires.agent c.requires.allowed c.requires.licensed,
+      c.args.self.now.shaped c.requires.picked (c.operation-index.ensures.index _ c.requires.tied c.requires.allowed) (c.operation-index.ensures.written _ c.requires.tied c.requires.allowed) (c.operation-index.ensures.answer _ c.requires.tied c.requires.allowed)
+      c.in-Add.is (c.requires.agent, refl) c.requires.allowed c.requires.licensed,
 )
 
 pub fetch_sub-requires : goal.fetch_sub-requires
 fetch_sub-requires g c = (
   search rules,
-  subst (λ z. z < c.args.self.now.table.shared.table_id.words) (sym c.operation-index.ensures.index) c.requires.inside,
+  subst (λ z. z < c.args.self.now.table.shared.table_id.words) (sym (c.operation-index.ensures.index _ c.requires.tied c.requires.allowed)) c.requires.inside,
   makes g.M.Machine.rules g.M.Machine.obeys c.args.self.now.shape (λ k. g.D.Discipline.holds (g.M.Machine.numbers k))
       (λ k. g.D.Discipline.may (g.M.Machine.numbers k)) (g.D.Discipline.keeps _) _ _ _ _ _ _ _ _ _ c.operation-index.result.index _ _ _ refl
-      c.args.self.now.shaped c.requires.picked c.operation-index.ensures.index c.operation-index.ensures.written c.operation-index.ensures.answer
-      c.in-Sub.is c.requires.agent c.requires.allowed c.requires.licensed,
+      c.args.self.now.shaped c.requires.picked (c.operation-index.ensures.index _ c.requires.tied c.requires.allowed) (c.operation-index.ensures.written _ c.requires.tied c.requires.allowed) (c.operation-index.ensures.answer _ c.requires.tied c.requires.allowed)
+      c.in-Sub.is (c.requires.agent, refl) c.requires.allowed c.requires.licensed,
 )
 
 pub compare_exchange-requires : goal.compare_exchange-requires
 compare_exchange-requires g c = (
   search rules,
-  subst (λ z. z < c.args.self.now.table.shared.table_id.words) (sym c.operation-index.ensures.index) c.requires.inside,
+  subst (λ z. z < c.args.self.now.table.shared.table_id.words) (sym (c.operation-index.ensures.index _ c.requires.tied c.requires.allowed)) c.requires.inside,
   makes g.M.Machine.rules g.M.Machine.obeys c.args.self.now.shape (λ k. g.D.Discipline.holds (g.M.Machine.numbers k))
       (λ k. g.D.Discipline.may (g.M.Machine.numbers k)) (g.D.Discipline.keeps _) _ _ _ _ _ _ _ _ _ c.operation-index.result.index _ _ _
-      (exchanged _ _) c.args.self.now.shaped c.requires.picked c.operation-index.ensures.index c.operation-index.ensures.written
-      c.operation-index.ensures.answer c.in-CompareExchange.is c.requires.agent c.requires.allowed c.requires.licensed,
+      (exchanged _ _) c.args.self.now.shaped c.requires.picked (c.operation-index.ensures.index _ c.requires.tied c.requires.allowed) (c.operation-index.ensures.written _ c.requires.tied c.requires.allowed)
+      (c.operation-index.ensures.answer _ c.requires.tied c.requires.allowed) c.in-CompareExchange.is (c.requires.agent, refl) c.requires.allowed c.requires.licensed,
 )

@@ -2,8 +2,8 @@ use Rattle.std.proofs.Common.{subst, sym, ◌++◌, ◌≡◌}
 use Rattle.orc_shared_words.proofs.Seats.{one_number}
 use Rattle.orc_shared_words.proofs.shared_words.SharedWords.step.Goals as goal
 
-pub keep-requires-clause-room : goal.keep-requires-clause-room
-keep-requires-clause-room g c =
+pub keep-requires : goal.keep-requires
+keep-requires g c =
     let r = g.M.Machine.rules in
     let k = c.args.self.now.shape in
     let op = c.args.op.now in
@@ -13,12 +13,15 @@ keep-requires-clause-room g c =
     let j = v.seen ++ s.between in
     let one : s.agent ≡ p.agent = one_number v.agent p.agent s.agent p.named s.is in
     let may : r.allowed k s.agent op (r.own k j s.agent) =
-    subst (r.allowed k s.agent op) (sym s.met.mine)
-    (subst (λ z. r.allowed k z op v.own) (sym one) (subst (r.allowed k p.agent op) (sym p.mine) c.requires.allowed)) in
+    subst (r.allowed k s.agent op) (sym s.met.mine) (subst (λ z. r.allowed k z op v.own) (sym one) c.requires.allowed) in
     let room : g.M.Machine.has_room k op (r.own k j s.agent) s.found =
-    subst (g.M.Machine.has_room k op (r.own k j s.agent)) (sym s.read) (g.M.Machine.leaves_room k j s.agent op s.met.lawful may) in (
-      s.found,
-      subst (λ z. c.make_step-n.result ≡ r.answer k p.agent op z s.found) p.mine
-          (subst (λ z. c.make_step-n.result ≡ r.answer k z op v.own s.found) one s.answers),
-      subst (λ z. g.M.Machine.has_room k op z s.found) p.mine (subst (λ z. g.M.Machine.has_room k op z s.found) s.met.mine room),
-    )
+    subst (g.M.Machine.has_room k op (r.own k j s.agent)) (sym s.read) (g.M.Machine.leaves_room k j s.agent op s.met.lawful may) in record {
+      room = (
+        v.own,
+        s.found,
+        p.mine,
+        c.requires.allowed,
+        subst (λ z. c.make_step-n.result ≡ r.answer k z op v.own s.found) one s.answers,
+        subst (λ z. g.M.Machine.has_room k op z s.found) s.met.mine room,
+      );
+    }
