@@ -50,7 +50,7 @@ FAULTS = (
      'orc_list/src/insert.rt',
      '        Ok(true) => InsertTurn::Answered(true),',
      '        Ok(true) => InsertTurn::Answered(key % 16 != 1),'),
-    ('a remove answers true where another removed the key', '--container set --mix 34/33/33 --keys 8 --roots 1',
+    ('a remove answers true where another removed the key', '--container set --mix 34/33/33 --keys 2 --roots 1',
      'orc_list/src/remove.rt',
      '    if !mark_node(links, p, key, &node, &next) {\n        let_all_go(links, p, left, first, Some(node), next);\n        return false;',
      '    if !mark_node(links, p, key, &node, &next) {\n        let_all_go(links, p, left, first, Some(node), next);\n        return true;'),
