@@ -49,7 +49,7 @@ row('Container', 'Domain', 'Threads', 'Speed', 'Answered', 'Stalled: speed', 'An
 for container in ('queue', 'list', 'set'):
     for domain in ('plain', 'reclaiming'):
         for threads in (1, 2, 4):
-            words = '--container %s --domain %s --threads %d --calls %d --keys %d' % (
+            words = '--whole --container %s --domain %s --threads %d --calls %d --keys %d' % (
                 container, domain, threads, calls(container, threads), 256 if container == 'list' else 2000)
             (free, went), (held, stalled) = speeds(words, words + ' --stall')
             row(container, domain, threads, million(free), '%.1f %%' % went['answers a second', 'share'], million(held),
@@ -59,9 +59,9 @@ print('A set of 1,000 keys, 90/5/5, against a sorted VecDeque on one thread; mil
 row('Domain', 'Buckets', 'One thread', 'Two threads', 'VecDeque', 'One thread to VecDeque')
 for domain in ('plain', 'reclaiming'):
     for roots in (16, 256):
-        words = '--container set --domain %s --roots %d --keys 2000 --calls ' % (domain, roots)
+        words = '--whole --container set --domain %s --roots %d --keys 2000 --calls ' % (domain, roots)
         (one, _), (two, _), (plain, _) = speeds(
-            words + '400000', words + '200000 --threads 2', '--container sorted --keys 2000 --calls 400000')
+            words + '400000 --threads 1', words + '200000 --threads 2', '--container sorted --keys 2000 --calls 400000')
         row(domain, roots, million(one), million(two), million(plain), '%.2f' % (one / plain))
 
 def modelled(words):
@@ -71,10 +71,10 @@ def modelled(words):
 print('One agent works over the reclaiming domain, against the same atomic steps in C++; million calls a second')
 row('Calls', 'Agents', 'Steps of a call', 'Speed', 'C++', 'C++ to this')
 for agents in (1, 4, 16):
-    [(mine, _)] = speeds('--container queue --domain reclaiming --calls 500000 --agents %d' % agents)
+    [(mine, _)] = speeds('--whole --container queue --domain reclaiming --threads 1 --calls 500000 --agents %d' % agents)
     bare = modelled('queue %d 500000' % agents)
     row('enqueue, dequeue', agents, '8 + 18, %d + 20' % (10 + 8 * agents), million(mine), million(bare), '%.2f' % (bare / mine))
-[(mine, _)] = speeds('--container list --domain reclaiming --calls 100000 --keys 256')
+[(mine, _)] = speeds('--whole --container list --domain reclaiming --threads 1 --calls 100000 --keys 256')
 bare = modelled('list 128 100000')
 row('list of 128 keys', 1, '2 + 3 n + 3 + 3 n', million(mine), million(bare), '%.2f' % (bare / mine))
 PY

@@ -53,6 +53,8 @@ pub struct Load {
     // how many keys there are, from 0 on
     pub(crate) keys: u32,
     pub(crate) seed: u32,
+    // whether each call is made to its end: else some stop before their last step
+    pub(crate) whole: bool,
     pub ghost some_keys: { 1 ≤ keys },
     pub ghost few_calls: { calls < 2 ^ 32 },
 }
@@ -64,16 +66,21 @@ pub struct Plan {
     pub threads: u32,
     /// Whether one more agent is stopped in the middle of a call meanwhile.
     pub stalls: bool,
+    /// Whether marked nodes are led past at rest, as they can be where rows come back.
+    pub sweeps: bool,
     /// The calls of each.
     pub load: Load,
 }
 
 // One call: what is put or inserted, a key that is taken out (of a queue whatever is at the front), or a key that is asked for;
-// of a cell a left part, a right one, or one for both, that is published, or a read.
+// of a cell a left part, a right one, or one for both, that is published, or a read. A put, an insert or a removal may stop before
+// its last step, which the next call that meets it makes.
 #[derive(Clone, Copy, Debug, PartialEq, Eq)]
 pub enum Ask {
     Give(u64),
     Take(u64),
+    GiveAndStop(u64),
+    TakeAndStop(u64),
     Read(u64),
     Left(u64),
     Right(u64),
@@ -81,9 +88,35 @@ pub enum Ask {
     See,
 }
 
+impl Ask {
+    // The same call, but that it stops before its last step, where it has one that others make too.
+    fn and_stop(self) -> Ask {
+        match self {
+            Ask::Give(item) => Ask::GiveAndStop(item),
+            Ask::Take(item) => Ask::TakeAndStop(item),
+            ask => ask,
+        }
+    }
+}
+
+// Of how many calls one stops, and which: of calls that put and take in turn it puts.
+const STOPS: u32 = 16;
+
+const STOPPED: u32 = 14;
+
 impl Load {
     // This call of an agent.
     pub(crate) fn ask(&self, agent: u32, number: u32, draws: &mut Draws, own: &Own) -> Ask {
+        let ask = self.whole_ask(agent, number, draws, own);
+        if !self.whole && number % STOPS == STOPPED {
+            ask.and_stop()
+        } else {
+            ask
+        }
+    }
+
+    // The call, made to its end.
+    fn whole_ask(&self, agent: u32, number: u32, draws: &mut Draws, own: &Own) -> Ask {
         match self.mix {
             Mix::Pairs => put_or_take(number % 2 == 0, agent, number),
             Mix::Apart => put_or_take(agent % 2 == 0, agent, number),
@@ -94,17 +127,17 @@ impl Load {
         }
     }
 
-    // One of a hundred calls, of which so many ask for a key, and those up to the second number insert one. No agent changes
-    // another's own key.
+    // One of a hundred calls, of which so many ask for a key, and those up to the second number insert one. An agent that draws
+    // another's own key takes its own instead, so that one key of eight that it draws is its own.
     fn ask_by_key(&self, asks: u64, inserts: u64, draws: &mut Draws, own: &Own) -> Ask {
         let kind = draws.draw() % 100;
-        let key = draws.draw().wrapping_mul(u64::from(self.keys)) >> 31;
+        let key = own.may_use(draws.draw().wrapping_mul(u64::from(self.keys)) >> 31);
         if kind < asks {
             Ask::Read(key)
         } else if kind < inserts {
-            Ask::Give(own.may_change(key))
+            Ask::Give(key)
         } else {
-            Ask::Take(own.may_change(key))
+            Ask::Take(key)
         }
     }
 }

@@ -99,14 +99,18 @@ fn complain<R: Print>(rt: &R, right: bool, what: &str) -> io::Result<bool> {
     Ok(right)
 }
 
-// Whether the rows that are out are those that what is left takes, where rows come back. Of a set there may be more: marked nodes,
-// and those of buckets.
+// Whether the rows that are out are those that what is left takes, where rows come back. There may be more: of a set that couldn't
+// be swept marked nodes, and of one that doubles its buckets a dummy of each but the first, and the node of their number.
 fn rows_fit(settings: &Settings, driven: &Driven, counts: &Counts) -> bool {
-    match (settings.container, settings.domain) {
-        (_, Domain::Plain) | (Kind::Sorted, _) => true,
-        (Kind::Queue | Kind::Cell, Domain::Reclaiming) => counts.linked == driven.rest.rows,
-        (Kind::List | Kind::Set | Kind::Split, Domain::Reclaiming) => counts.linked
-            >= driven.rest.rows,
+    let most = match settings.container {
+        Kind::Queue | Kind::Cell => driven.rest.rows,
+        _ if !driven.rest.swept => u32::MAX,
+        Kind::Split => driven.rest.rows.saturating_add(settings.roots),
+        Kind::List | Kind::Set | Kind::Sorted => driven.rest.rows,
+    };
+    match settings.domain {
+        Domain::Plain => true,
+        Domain::Reclaiming => driven.rest.rows <= counts.linked && counts.linked <= most,
     }
 }
 
@@ -149,6 +153,10 @@ pub fn judge<R: Print>(
         (
             tally.is_true,
             "an answer about a key that one agent alone changes is not what its calls had left",
+        ),
+        (
+            driven.rest.agree,
+            "a key that was not found was there for an insert, once all were done",
         ),
         (
             tally.backlog <= settings.bound(),

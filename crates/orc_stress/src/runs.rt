@@ -34,8 +34,26 @@ pub struct Rest {
     pub in_order: bool,
     /// Whether each pair that was read of a cell was published, and those parts are left that were last.
     pub are_pairs: bool,
+    /// Whether an insert and a removal of each key that wasn't found said that it wasn't there.
+    pub agree: bool,
+    /// Whether each marked node was led past: an insert and a removal of each key that wasn't found were made and not refused.
+    pub swept: bool,
     /// How many rows what is left takes: the dummy of an empty queue, a node for each key, a cell's pair and its parts.
     pub rows: u32,
+}
+
+impl Rest {
+    // Nothing is left, and nothing is wrong.
+    fn new() -> Rest {
+        Rest {
+            items: Items::new(),
+            in_order: true,
+            are_pairs: true,
+            agree: true,
+            swept: false,
+            rows: 0,
+        }
+    }
 }
 
 // The rows of an empty queue: its dummy.
@@ -63,22 +81,67 @@ fn fill<C: Container>(container: &C, p: &mut C::Pass, keys: u32) -> Items
     put
 }
 
-// Asks for each key.
-fn find_keys<C: Container>(container: &C, p: &mut C::Pass, keys: u32) -> Rest
+// What an insert and a removal say of a key that wasn't found.
+#[derive(Clone, Copy, Debug, PartialEq, Eq)]
+enum Tried {
+    // It wasn't there, and is not.
+    Absent,
+    // It was there.
+    Present,
+    // One was refused.
+    Refused,
+}
+
+// Inserts a key that wasn't found and removes it again, which leads past each marked node before its place.
+fn insert_and_remove<C: Container>(container: &C, p: &mut C::Pass, key: u64) -> Tried
+    requires ready { C.ready container.now p.old }
+    ensures ready { Stays (C.ready container.now) (C.agent_of container.now) p.old p.new }
+{
+    match container.call(p, &Ask::Give(key)) {
+        Outcome::Inserted(_) => {}
+        Outcome::Refused(_) => return Tried::Refused,
+        _ => return Tried::Present,
+    }
+    match container.call(p, &Ask::Take(key)) {
+        Outcome::Removed(_) => Tried::Absent,
+        _ => Tried::Refused,
+    }
+}
+
+// Asks for each key, and sweeps where none is.
+fn find_keys<C: Container>(container: &C, p: &mut C::Pass, plan: &Plan) -> Rest
     requires ready { C.ready container.now p.old }
     ensures ready { Stays (C.ready container.now) (C.agent_of container.now) p.old p.new }
 {
     let mut items = Items::new();
-    for key in 0..u64::from(keys) {
+    let mut agree = true;
+    let mut swept = plan.sweeps;
+    for key in 0..u64::from(plan.load.keys) {
         if container.call(p, &Ask::Read(key)) == Outcome::Found {
             items.add(key, 0);
+        } else if plan.sweeps {
+            let tried = insert_and_remove(container, p, key);
+            agree = agree && tried != Tried::Present;
+            swept = swept && tried == Tried::Absent;
         }
     }
     Rest {
         items,
-        in_order: true,
-        are_pairs: true,
+        agree,
+        swept,
         rows: u32::try_from(items.count).unwrap_or(u32::MAX),
+        ..Rest::new()
+    }
+}
+
+// Takes a job, in a second call where the first one had a single turn and only helped the tail on.
+fn take_one<C: Container>(container: &C, p: &mut C::Pass) -> Outcome
+    requires ready { C.ready container.now p.old }
+    ensures ready { Stays (C.ready container.now) (C.agent_of container.now) p.old p.new }
+{
+    match container.call(p, &Ask::Take(0)) {
+        Outcome::Refused(Answer::Again) => container.call(p, &Ask::Take(0)),
+        outcome => outcome,
     }
 }
 
@@ -91,19 +154,19 @@ fn take_jobs<C: Container>(container: &C, p: &mut C::Pass, plan: &Plan, waiting:
     let mut seen = Seen::new(0, plan);
     let mut in_order = true;
     for _job in 0..waiting {
-        let outcome = container.call(p, &Ask::Take(0));
+        let outcome = take_one(container, p);
         if let Outcome::Taken(job, at) = outcome {
             items.add(job, at);
         }
         let follows = seen.follows(&outcome);
         in_order = in_order && follows;
     }
-    let last = container.call(p, &Ask::Take(0));
+    let last = take_one(container, p);
     Rest {
         items,
         in_order: in_order && last == Outcome::Empty,
-        are_pairs: true,
         rows: DUMMY,
+        ..Rest::new()
     }
 }
 
@@ -118,10 +181,9 @@ fn see_pairs<C: Container>(container: &C, p: &mut C::Pass, pairs: &PairLog) -> R
         _ => (false, VERSION),
     };
     Rest {
-        items: Items::new(),
-        in_order: true,
         are_pairs: is_left && pairs.all_published(),
         rows,
+        ..Rest::new()
     }
 }
 
@@ -158,15 +220,10 @@ fn finish<C: Container>(
     ensures stay { Stay (C.ready container.now) (C.agent_of container.now) passes.old.items passes.new.items }
 {
     let Some(mut p) = passes.pop() else {
-        return Rest {
-            items: Items::new(),
-            in_order: true,
-            are_pairs: true,
-            rows: 0,
-        };
+        return Rest::new();
     };
     let rest = if plan.load.mix.has_keys() {
-        find_keys(container, &mut p, plan.load.keys)
+        find_keys(container, &mut p, plan)
     } else if plan.load.mix.has_pairs() {
         see_pairs(container, &mut p, pairs)
     } else {

@@ -40,18 +40,40 @@ impl Own {
         }
     }
 
-    // The key, or the one before it, which is nobody's own, where it is another agent's own.
-    pub(crate) fn may_change(&self, key: u64) -> u64 {
-        match self.owner(key) {
-            Some((owner, _)) if owner != self.agent => key.wrapping_sub(1),
-            _ => key,
+    // The key, or where it is another agent's own, the agent's own one beside it or else the next smaller one; or the key before it,
+    // which is nobody's own, where there is none.
+    pub(crate) fn may_use(&self, key: u64) -> u64 {
+        let (owner, place) = match self.owner(key) {
+            Some((owner, place)) if owner != self.agent => (owner, place),
+            _ => return key,
+        };
+        if self.agent < owner {
+            self.key_at(place)
+        } else if place > 0 {
+            self.key_at(place - 1)
+        } else {
+            key.wrapping_sub(1)
         }
+    }
+
+    // The agent's own key of this number among its own.
+    fn key_at(&self, place: u64) -> u64 {
+        place
+            .wrapping_mul(self.agents)
+            .wrapping_add(self.agent)
+            .wrapping_mul(EACH)
+            .wrapping_add(FIRST)
     }
 
     // Whether an answer about a key of its own is the one that the agent's calls before this one have left; that of a queue's or a
     // cell's call is about none. A refused call has changed nothing.
     pub(crate) fn is_true(&mut self, ask: &Ask, outcome: &Outcome) -> bool {
-        let (Ask::Give(key) | Ask::Take(key) | Ask::Read(key)) = ask else {
+        let (Ask::Give(key)
+        | Ask::GiveAndStop(key)
+        | Ask::Take(key)
+        | Ask::TakeAndStop(key)
+        | Ask::Read(key)) = ask
+        else {
             return true;
         };
         let place = match self.owner(*key) {
@@ -62,16 +84,17 @@ impl Own {
         let word = &mut self.are_in[(place / 64 % 16) as usize];
         let was_in = *word & bit != 0;
         match (ask, outcome) {
-            (Ask::Give(key), Outcome::Inserted(put)) => {
+            (Ask::Give(key) | Ask::GiveAndStop(key), Outcome::Inserted(put)) => {
                 *word |= bit;
                 !was_in && key == put
             }
-            (Ask::Take(key), Outcome::Removed(taken)) => {
+            (Ask::Take(key) | Ask::TakeAndStop(key), Outcome::Removed(taken)) => {
                 *word &= !bit;
                 was_in && key == taken
             }
-            (Ask::Give(_), Outcome::Unchanged) | (Ask::Read(_), Outcome::Found) => was_in,
-            (Ask::Take(_) | Ask::Read(_), Outcome::Unchanged) => !was_in,
+            (Ask::Give(_) | Ask::GiveAndStop(_), Outcome::Unchanged)
+            | (Ask::Read(_), Outcome::Found) => was_in,
+            (Ask::Take(_) | Ask::TakeAndStop(_) | Ask::Read(_), Outcome::Unchanged) => !was_in,
             (_, Outcome::Refused(_) | Outcome::Put(..) | Outcome::Taken(..) | Outcome::Empty) =>
                 true,
             _ => false,
@@ -79,13 +102,47 @@ impl Own {
     }
 }
 
+// The parts of one side of a cell that an agent has seen.
+#[derive(Clone, Copy, Debug, PartialEq, Eq)]
+struct Parts {
+    // the one that it saw last, or 0
+    now: u64,
+    // of each agent the call that gave the last one of its parts that was seen, plus one
+    numbers: [u64; 16],
+}
+
+impl Parts {
+    // None yet.
+    fn new() -> Parts {
+        Parts {
+            now: 0,
+            numbers: [0; 16],
+        }
+    }
+
+    // Whether the part is the one that was seen last, or was given by a later call than all of its agent that were seen. An agent
+    // sees the parts of a side in the order in which they came there, and each comes once.
+    fn goes_on(&mut self, part: u64) -> bool {
+        if part == self.now {
+            return true;
+        }
+        self.now = part;
+        let agent = ((part >> 32) % 16) as usize;
+        let number = part % 4_294_967_296;
+        let follows = number > self.numbers[agent];
+        self.numbers[agent] = number;
+        follows
+    }
+}
+
 // What one agent put into a queue and took from it last, its own keys of a set, and the parts of a cell that it saw last.
 #[derive(Clone, Copy, Debug, PartialEq, Eq)]
 pub(crate) struct Seen {
-    // of each producer the number of its job, plus one; of a cell the call that gave the left part
+    // of each producer the number of its job, plus one
     numbers: [u64; 16],
-    // and the right one
-    right_numbers: [u64; 16],
+    // the parts of a cell that came on each side
+    left: Parts,
+    right: Parts,
     // the position behind the one that was taken last
     taken: u64,
     // the position behind the one that was put last
@@ -98,7 +155,8 @@ impl Seen {
     pub(crate) fn new(agent: u32, plan: &Plan) -> Seen {
         Seen {
             numbers: [0; 16],
-            right_numbers: [0; 16],
+            left: Parts::new(),
+            right: Parts::new(),
             taken: 0,
             put: 0,
             own: Own::new(agent, plan),
@@ -107,8 +165,7 @@ impl Seen {
 
     // Whether a job that was put has its position behind the agent's others, and one that was taken behind those that the agent
     // took before, and of its producer those come later that were put later. Each producer's positions rise, so all takers take
-    // its jobs in its order. Whether no part of a cell is older than one that the agent had seen on that side, of those that one agent
-    // gave.
+    // its jobs in its order. Whether no part of a cell had been replaced on its side, as far as the agent has seen.
     pub(crate) fn follows(&mut self, outcome: &Outcome) -> bool {
         match outcome {
             Outcome::Put(_, at) => {
@@ -125,22 +182,10 @@ impl Seen {
                 follows
             }
             Outcome::Published(left, right) | Outcome::Saw(left, right) => {
-                let follows = goes_on(&mut self.numbers, *left);
-                goes_on(&mut self.right_numbers, *right) && follows
+                let follows = self.left.goes_on(*left);
+                self.right.goes_on(*right) && follows
             }
             _ => true,
         }
     }
-}
-
-// Whether a part was given by no earlier call than the last one of its agent that was seen.
-fn goes_on(numbers: &mut [u64; 16], part: u64) -> bool {
-    if part == 0 {
-        return true;
-    }
-    let agent = ((part >> 32) % 16) as usize;
-    let number = part % 4_294_967_296;
-    let follows = number >= numbers[agent];
-    numbers[agent] = number;
-    follows
 }

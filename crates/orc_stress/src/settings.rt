@@ -6,6 +6,7 @@ ghost use Rattle.orc_stress.specs.declared.settings.Kind.TheVariants.{Sorted};
 use crate::load::{Load, Mix, Plan};
 use clap::builder::ValueParser;
 use clap::error::ErrorKind;
+use clap::parser::ValueSource;
 use clap::{Arg, ArgAction, ArgMatches, Command};
 use std::alloc::{AllocError, Global};
 
@@ -197,7 +198,7 @@ fn with_sizes<'a>(alloc: Global, command: Command<'a>) -> Result<Command<'a>, Al
 
 // Adds the options that say how much is called.
 fn with_loads<'a>(alloc: Global, command: Command<'a>) -> Result<Command<'a>, AllocError> {
-    let command = command.arg(number_option(alloc, "threads", "1", 1, 16))?;
+    let command = command.arg(number_option(alloc, "threads", "4", 1, 16))?;
     let command = command.arg(number_option(alloc, "calls", "60000", 0, 4294967295))?;
     let command = command.arg(number_option(alloc, "turns", "64", 1, 65535))?;
     command.arg(number_option(alloc, "seed", "1", 1, 4294967295))
@@ -210,6 +211,7 @@ fn command<'a>(alloc: Global) -> Result<Command<'a>, AllocError> {
     let command = with_sizes(alloc, command)?;
     let command = with_loads(alloc, command)?;
     let command = command.arg(flag(alloc, "stall"))?;
+    let command = command.arg(flag(alloc, "whole"))?;
     command.arg(flag(alloc, "untimed"))
 }
 
@@ -266,8 +268,21 @@ fn container_of(word: Option<&str>) -> Kind {
 // What it stands on.
 fn domain_of(word: Option<&str>) -> Domain {
     match word {
-        Some("reclaiming") => Domain::Reclaiming,
-        _ => Domain::Plain,
+        Some("plain") => Domain::Plain,
+        _ => Domain::Reclaiming,
+    }
+}
+
+// How many agents call: one, of a container for one thread, where no word says otherwise.
+fn threads_of(matches: &ArgMatches<'_>, container: Kind) -> u32
+    ensures { (1 ≤ result) × (result ≤ 16) }
+{
+    if container == Kind::Sorted
+        && matches.value_source("threads") == Some(ValueSource::DefaultValue)
+    {
+        1
+    } else {
+        number_of(matches, "threads", 1, 16)
     }
 }
 
@@ -276,7 +291,8 @@ fn settings_in(matches: &ArgMatches<'_>) -> Result<Settings, Refused> {
     let container = container_of(matches.get_str("container"));
     let mix = mix_of(matches.get_str("mix"), container).ok_or(Refused::Calls)?;
     let stop = stop_of(matches.get_str("stop"), container).ok_or(Refused::Stop)?;
-    let threads = number_of(matches, "threads", 1, 16);
+    let domain = domain_of(matches.get_str("domain"));
+    let threads = threads_of(matches, container);
     let stalls = matches.get_flag("stall") || matches.get_str("stop").is_some();
     if container == Kind::Sorted && (threads > 1 || stalls) {
         return Err(Refused::Alone);
@@ -290,10 +306,11 @@ fn settings_in(matches: &ArgMatches<'_>) -> Result<Settings, Refused> {
         calls: number_of(matches, "calls", 0, 4294967295),
         keys: number_of(matches, "keys", 1, 1000000),
         seed: number_of(matches, "seed", 1, 4294967295),
+        whole: matches.get_flag("whole"),
     };
     Ok(Settings {
         container,
-        domain: domain_of(matches.get_str("domain")),
+        domain,
         rows: number_of(matches, "rows", 2, 65535),
         roots: number_of(matches, "roots", 1, 257),
         agents: number_of(matches, "agents", 1, 16).max(working),
@@ -303,6 +320,7 @@ fn settings_in(matches: &ArgMatches<'_>) -> Result<Settings, Refused> {
         plan: Plan {
             threads,
             stalls,
+            sweeps: domain == Domain::Reclaiming && container != Kind::Sorted,
             load,
         },
     })

@@ -191,7 +191,7 @@ impl Tally {
         self.in_order = self.in_order && follows;
         let is_true = seen.own.is_true(ask, outcome);
         self.is_true = self.is_true && is_true;
-        if let (Ask::Give(_), Outcome::Refused(_)) = (ask, outcome) {
+        if let (Ask::Give(_) | Ask::GiveAndStop(_), Outcome::Refused(_)) = (ask, outcome) {
             self.unput = self.unput.wrapping_add(1);
         }
         self.answers.count(outcome.answer());

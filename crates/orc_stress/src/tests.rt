@@ -23,20 +23,21 @@ fn words_of(alloc: Global, words: &[&str]) -> Result<Vec<String>, AllocError> {
     Ok(all)
 }
 
-// What no words ask for, but for the load.
-fn usual(load: Load) -> Settings {
+// What no words ask for, but for the load and the threads.
+fn usual(threads: u32, load: Load) -> Settings {
     Settings {
         container: Kind::Queue,
-        domain: Domain::Plain,
+        domain: Domain::Reclaiming,
         rows: 65535,
         roots: 16,
-        agents: 1,
+        agents: threads,
         turns: 64,
         stop: Stop::First,
         times: true,
         plan: Plan {
-            threads: 1,
+            threads,
             stalls: false,
+            sweeps: true,
             load,
         },
     }
@@ -50,8 +51,12 @@ fn words_give_settings(rt: HostRuntime) -> Result<(), Fail> {
         calls: 60000,
         keys: 1000,
         seed: 1,
+        whole: false,
     };
-    assert_eq!(rt; settings_of(rt.alloc(), none.as_slice()), Ok(usual(load)));
+    assert_eq!(rt;
+        settings_of(rt.alloc(), none.as_slice()),
+        Ok(usual(4, load))
+    );
     let some = words_of(
         rt.alloc(),
         &[
@@ -64,6 +69,7 @@ fn words_give_settings(rt: HostRuntime) -> Result<(), Fail> {
             "--stop=marked",
             "--turns=1",
             "--untimed",
+            "--whole",
             "--calls=7",
             "--rows=65",
             "--roots=257",
@@ -83,11 +89,13 @@ fn words_give_settings(rt: HostRuntime) -> Result<(), Fail> {
         plan: Plan {
             threads: 4,
             stalls: true,
+            sweeps: true,
             load: Load {
                 mix: Mix::Writes,
                 calls: 7,
                 keys: 9,
                 seed: 3,
+                whole: true,
             },
         },
     };
@@ -201,7 +209,7 @@ impl Container for Shelf {
 
     fn call(&self, p: &mut Jobs, ask: &Ask) -> Outcome {
         match ask {
-            Ask::Give(job) => self.put(p, *job),
+            Ask::Give(job) | Ask::GiveAndStop(job) => self.put(p, *job),
             _ => self.take(p),
         }
     }
@@ -241,12 +249,16 @@ fn drive_shelf<R: Threads + Clock + Sync>(
 
 // The settings of four calls of this mix.
 fn settings_for(mix: Mix) -> Settings {
-    usual(Load {
-        mix,
-        calls: 4,
-        keys: 1,
-        seed: 1,
-    })
+    usual(
+        1,
+        Load {
+            mix,
+            calls: 4,
+            keys: 1,
+            seed: 1,
+            whole: false,
+        },
+    )
 }
 
 // Of a mix: the jobs that are put by four calls, those that these take, those that are left, and how many calls found one or put one.
@@ -302,10 +314,7 @@ fn keys_of_ones_own_are_judged(rt: HostRuntime) -> Result<(), Fail> {
     let mut plan = settings_for(Mix::Reads).plan;
     plan.threads = 2;
     let mut own = Own::new(0, &plan);
-    assert_eq!(rt;
-        (own.may_change(1), own.may_change(9), own.may_change(8)),
-        (1, 8, 8)
-    );
+    assert_eq!(rt; (own.may_use(1), own.may_use(9), own.may_use(8)), (1, 1, 8));
     let told = [
         (Ask::Read(1), Outcome::Found, false),
         (Ask::Read(1), Outcome::Unchanged, true),
@@ -357,6 +366,7 @@ fn parts_that_come_back_are_wrong(rt: HostRuntime) -> Result<(), Fail> {
         (Outcome::Saw(first, 0), true),
         (Outcome::Published(second, value_of(0, 5)), true),
         (Outcome::Saw(second, first), true),
+        (Outcome::Saw(second, value_of(0, 5)), false),
         (Outcome::Saw(first, first), false),
     ];
     for (outcome, right) in told {

@@ -23,7 +23,7 @@ pub(crate) fn call_queue<Q: SharedQueue>(
     ensures agent { Q.agent_of queue.now p.new ≡ Q.agent_of queue.now p.old }
 {
     match ask {
-        Ask::Give(job) => put_job(queue, p, *job, turns),
+        Ask::Give(job) | Ask::GiveAndStop(job) => put_job(queue, p, *job, turns),
         _ => take_job(queue, p, turns),
     }
 }
@@ -62,8 +62,8 @@ pub(crate) fn call_set<S: SharedSet>(set: &S, p: &mut S::Pass, ask: &Ask, turns:
     ensures agent { S.agent_of set.now p.new ≡ S.agent_of set.now p.old }
 {
     match ask {
-        Ask::Give(key) => insert_key(set, p, *key, turns),
-        Ask::Take(key) => remove_key(set, p, *key, turns),
+        Ask::Give(key) | Ask::GiveAndStop(key) => insert_key(set, p, *key, turns),
+        Ask::Take(key) | Ask::TakeAndStop(key) => remove_key(set, p, *key, turns),
         Ask::Read(key) => find_key(set, p, *key, turns),
         _ => Outcome::Unchanged,
     }
@@ -75,7 +75,12 @@ fn insert_key<S: SharedSet>(set: &S, p: &mut S::Pass, key: u64, turns: u64) -> O
     ensures usable { S.usable set.now p.new }
     ensures agent { S.agent_of set.now p.new ≡ S.agent_of set.now p.old }
 {
-    match set.insert(p, key, turns) {
+    inserted(key, set.insert(p, key, turns))
+}
+
+// What an insert of the key did.
+pub(crate) fn inserted(key: u64, answer: Result<bool, ListRefused>) -> Outcome {
+    match answer {
         Ok(true) => Outcome::Inserted(key),
         Ok(false) => Outcome::Unchanged,
         Err(ListRefused::Again) => Outcome::Refused(Answer::Again),

@@ -5,7 +5,7 @@ ghost use Rattle.orc_heap.specs.Domains.{agent};
 ghost use Rattle.stress.specs.Passes.{AreAllIdle, IsIdlePass};
 ghost use Rattle.stress.specs.Stops.{IsStopped};
 
-use crate::calls::{call_queue, call_set};
+use crate::calls::{call_queue, call_set, inserted};
 use crate::domains::Ending;
 use crate::runs::Resting;
 use crate::stops::{hold_first, let_go};
@@ -33,14 +33,9 @@ pub(crate) trait Over<L: Ending> {
     fn into_domain(self) -> L
         ensures { result ≡ domain_of self };
 
-    // Makes one call, in so many tries.
+    // Makes one call, in so many tries. One that may stop before its last step, which leaves the tail behind, a marked node on its
+    // chain or buckets undoubled, is made to its end where it cannot stop there.
     fn call(&self, p: &mut L::Pass, ask: &Ask, turns: u64) -> Outcome
-        requires { IsIdlePass L.Links (domain_of self.now) p.old }
-        ensures idle { IsIdlePass L.Links (domain_of self.now) p.new }
-        ensures agent { agent L.Links (domain_of self.now) p.new ≡ agent L.Links (domain_of self.now) p.old };
-
-    // Puts a job or removes key 0, and stops before the last step, which leaves the tail behind, or the marked node on its chain.
-    fn call_and_stop(&self, p: &mut L::Pass) -> Outcome
         requires { IsIdlePass L.Links (domain_of self.now) p.old }
         ensures idle { IsIdlePass L.Links (domain_of self.now) p.new }
         ensures agent { agent L.Links (domain_of self.now) p.new ≡ agent L.Links (domain_of self.now) p.old };
@@ -58,15 +53,12 @@ impl<L: Ending<Rule = Fifo>> Over<L> for Queue<L> {
     }
 
     fn call(&self, p: &mut L::Pass, ask: &Ask, turns: u64) -> Outcome {
-        call_queue(self, p, ask, turns)
-    }
-
-    fn call_and_stop(&self, p: &mut L::Pass) -> Outcome {
-        let job = u64::from(self.links().agent(p)) << 32;
-        match self.put_and_stop(p, job) {
-            Some(at) => Outcome::Put(job, at),
-            None => Outcome::Unchanged,
+        if let Ask::GiveAndStop(job) = ask {
+            if let Some(at) = self.put_and_stop(p, *job) {
+                return Outcome::Put(*job, at);
+            }
         }
+        call_queue(self, p, ask, turns)
     }
 }
 
@@ -82,15 +74,12 @@ impl<L: Ending<Rule = Chain>> Over<L> for OneList<L> {
     }
 
     fn call(&self, p: &mut L::Pass, ask: &Ask, turns: u64) -> Outcome {
-        call_set(self, p, ask, turns)
-    }
-
-    fn call_and_stop(&self, p: &mut L::Pass) -> Outcome {
-        if self.mark_and_stop(p, 0) {
-            Outcome::Removed(0)
-        } else {
-            Outcome::Unchanged
+        if let Ask::TakeAndStop(key) = ask {
+            if self.mark_and_stop(p, *key) {
+                return Outcome::Removed(*key);
+            }
         }
+        call_set(self, p, ask, turns)
     }
 }
 
@@ -106,15 +95,12 @@ impl<L: Ending<Rule = Chain>> Over<L> for Set<L> {
     }
 
     fn call(&self, p: &mut L::Pass, ask: &Ask, turns: u64) -> Outcome {
-        call_set(self, p, ask, turns)
-    }
-
-    fn call_and_stop(&self, p: &mut L::Pass) -> Outcome {
-        if self.mark_and_stop(p, 0) {
-            Outcome::Removed(0)
-        } else {
-            Outcome::Unchanged
+        if let Ask::TakeAndStop(key) = ask {
+            if self.mark_and_stop(p, *key) {
+                return Outcome::Removed(*key);
+            }
         }
+        call_set(self, p, ask, turns)
     }
 }
 
@@ -130,11 +116,10 @@ impl<L: Ending<Rule = Split>> Over<L> for SplitSet<L> {
     }
 
     fn call(&self, p: &mut L::Pass, ask: &Ask, turns: u64) -> Outcome {
-        call_set(self, p, ask, turns)
-    }
-
-    fn call_and_stop(&self, _p: &mut L::Pass) -> Outcome {
-        Outcome::Unchanged
+        match ask {
+            Ask::GiveAndStop(key) => inserted(*key, self.insert_and_stop(p, *key, turns)),
+            _ => call_set(self, p, ask, turns),
+        }
     }
 }
 
@@ -189,7 +174,19 @@ impl<L: Ending, C: Over<L>> Container for Rooted<L, C> {
     fn stop(&self, p: &mut L::Pass) -> (Option<Held>, Outcome) {
         match self.stop {
             Stop::First => (hold_first(self.container.domain(), p), Outcome::Unchanged),
-            Stop::Tail | Stop::Marked | Stop::Staged => (None, self.container.call_and_stop(p)),
+            Stop::Tail => {
+                let job = u64::from(self.agent(p)) << 32;
+                (
+                    None,
+                    self.container.call(p, &Ask::GiveAndStop(job), self.turns),
+                )
+            }
+            Stop::Marked | Stop::Staged => {
+                (
+                    None,
+                    self.container.call(p, &Ask::TakeAndStop(0), self.turns),
+                )
+            }
         }
     }
 

@@ -84,8 +84,8 @@ impl Container for Sorted {
 
     fn call(&self, p: &mut Keys, ask: &Ask) -> Outcome {
         match ask {
-            Ask::Give(key) => p.insert(*key),
-            Ask::Take(key) => p.remove(*key),
+            Ask::Give(key) | Ask::GiveAndStop(key) => p.insert(*key),
+            Ask::Take(key) | Ask::TakeAndStop(key) => p.remove(*key),
             Ask::Read(key) => p.find(*key),
             _ => Outcome::Unchanged,
         }
