@@ -2,6 +2,7 @@
 
 mod calls;
 mod jobs;
+mod pipelines;
 mod watch_faults;
 mod watches;
 mod workers_meet;
