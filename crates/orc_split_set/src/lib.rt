@@ -16,6 +16,3 @@ mod spot;
 mod stop;
 
 pub use set::SplitSet;
-
-#[cfg(test)]
-mod tests;
