@@ -7,7 +7,7 @@ use crate::laps::{Lap, lap_of_calls, lap_of_workers};
 use crate::options::Options;
 use crate::plain::{ROWS, queue_over, set_over};
 use orc_board::OpenGate;
-use orc_history::LearnQueue;
+use orc_history::{LearnQueue, SharedQueue};
 use orc_jobs::Lines;
 use orc_run::{SetChoice, run_lines};
 use std::alloc::Global;
@@ -95,6 +95,27 @@ fn workers_on_plain<R: Threads + Wait + Clock + Sync>(
     )
 }
 
+// A lap by bare calls of this queue and a set over a plain domain.
+fn calls_beside_a_set<R: Threads + Clock + Sync, Q: SharedQueue + Drop + Sync>(
+    rt: &R,
+    alloc: Global,
+    posts: u32,
+    buckets: u32,
+    threads: u32,
+    queue: Q,
+    queue_passes: Vec<Q::Pass>,
+) -> io::Result<Option<Lap>>
+where
+    Q::Pass: Send,
+    requires threads { (1 ≤ threads) × (threads ≤ 8) }
+    requires queue { All (λ p. Q.usable queue p) queue_passes.items }
+{
+    let Ok((set, set_passes)) = set_over(alloc, buckets, 1 + threads) else {
+        return Ok(None);
+    };
+    lap_of_calls(rt, posts, threads, (queue, set, queue_passes, set_passes))
+}
+
 // A lap by bare calls over plain domains.
 fn calls_on_plain<R: Threads + Clock + Sync>(
     rt: &R,
@@ -105,13 +126,10 @@ fn calls_on_plain<R: Threads + Clock + Sync>(
 ) -> io::Result<Option<Lap>>
     requires threads { (1 ≤ threads) × (threads ≤ 8) }
 {
-    let Ok((queue, queue_passes)) = queue_over(alloc, 1 + threads) else {
+    let Ok((queue, passes)) = queue_over(alloc, 1 + threads) else {
         return Ok(None);
     };
-    let Ok((set, set_passes)) = set_over(alloc, buckets, 1 + threads) else {
-        return Ok(None);
-    };
-    lap_of_calls(rt, posts, threads, (queue, set, queue_passes, set_passes))
+    calls_beside_a_set(rt, alloc, posts, buckets, threads, queue, passes)
 }
 
 // How many jobs a run over reclaiming domains takes, which makes them and brings them to rest.
