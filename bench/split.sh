@@ -21,7 +21,7 @@ SETS = (('doubling', 'split --roots 256'), ('16 buckets', 'set --roots 16'), ('2
 def nanoseconds(words, keys, threads):
     """The mean time of a thread's call in one run; each second key below twice their number is there."""
     done = subprocess.run(
-        [STRESS, '--container', *words.split(), '--domain', 'reclaiming', '--threads', str(threads),
+        [STRESS, '--whole', '--container', *words.split(), '--domain', 'reclaiming', '--threads', str(threads),
          '--calls', str(CALLS[keys]), '--keys', str(2 * keys)], check=True, capture_output=True, text=True)
     for line in done.stdout.splitlines():
         _, _, name, _, value, _ = line.split('|')

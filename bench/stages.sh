@@ -7,7 +7,7 @@ cd "$(dirname "$0")/.."
 MOORINGAKEE_BUILD=here ./mooringakee </dev/null >/dev/null
 uptime
 python3 - "${1:-9}" <<'PY'
-import os, statistics, subprocess, sys
+import os, statistics, subprocess, sys, time
 
 PROGRAM = 'crates/mooringakee/out/mooringakee'
 LINES, STAGES, ROUNDS = 60000, (1, 3, 6), int(sys.argv[1])
@@ -16,11 +16,11 @@ JOBS = subprocess.run([PROGRAM, '--mode', 'make', '--lines', str(LINES)], check=
 # Wall and processor time, in seconds.
 def run(stages):
     words = [PROGRAM, '--mode', 'stages', '--stages', str(stages)]
-    before = os.times()
+    before, start = os.times(), time.monotonic()
     told = subprocess.run(words, input=JOBS, check=True, capture_output=True).stdout
-    after = os.times()
+    after, wall = os.times(), time.monotonic() - start
     assert told.count(b'\nout ') == LINES
-    return after.elapsed - before.elapsed, sum(after[2:4]) - sum(before[2:4])
+    return wall, sum(after[2:4]) - sum(before[2:4])
 
 rounds = {stages: [] for stages in STAGES}
 for _ in range(ROUNDS):
