@@ -2,7 +2,7 @@
 use Rattle.std.proofs.Common.{Bool, List, None, Option, Some, false, refl, true, ℕ, ◌++◌, ◌∙◌, ◌≡◌}
 use Rattle.std.proofs.lemmas.Bool.{eq-eqb}
 use Rattle.std.specs.Prelude.{if◌then◌else◌}
-use Rattle.orc_domain.specs.Twins.{TwinsMay}
+use Rattle.orc_plain_domain.specs.Twins.{TwinsMay}
 use Rattle.orc_heap.proofs.Known.{known-later}
 use Rattle.orc_heap.proofs.Pieces.{InSlot, slot_id, slot_released}
 use Rattle.orc_heap.specs.Acts.{IsKnown, IsTarget}

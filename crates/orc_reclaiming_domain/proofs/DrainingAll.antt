@@ -7,8 +7,8 @@ use mathlib.Core.List.{IsPrefix}
 use Rattle.orc_board_draining.specs.Drains.{Drains}
 use Rattle.orc_core.specs.Machine.{record_at}
 use Rattle.orc_core.specs.declared.records.Agent.{Agent}
-use Rattle.orc_domain.proofs.Rounds.{pairwise_all, pairwise_join, pairwise_long, pairwise_map}
-use Rattle.orc_domain.specs.Ends.{Pairwise}
+use Rattle.orc_plain_domain.proofs.Rounds.{pairwise_all, pairwise_join, pairwise_long, pairwise_map}
+use Rattle.orc_plain_domain.specs.Ends.{Pairwise}
 use Rattle.orc_heap.proofs.Pieces.{goes_on}
 use Rattle.orc_heap.specs.OwnEvents.{Only}
 use Rattle.orc_heap.specs.Seats.{IsIdle, Seat}

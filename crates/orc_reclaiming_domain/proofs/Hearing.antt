@@ -3,8 +3,8 @@ use Rattle.std.proofs.Common.{List, [], ap, inl, inr, refl, subst, suc, sym, ⊎
 use Rattle.std.specs.List.{AllByRecursion}
 use Rattle.std.specs.Prelude.{map}
 use mathlib.Core.List.{IsPrefix}
-use Rattle.orc_domain.proofs.Rounds.{pairwise_all, pairwise_join, pairwise_map}
-use Rattle.orc_domain.specs.Ends.{Pairwise}
+use Rattle.orc_plain_domain.proofs.Rounds.{pairwise_all, pairwise_join, pairwise_map}
+use Rattle.orc_plain_domain.specs.Ends.{Pairwise}
 use Rattle.orc_heap.proofs.Pieces.{goes_on}
 use Rattle.orc_heap.specs.Calls.{Learns}
 use Rattle.orc_heap.specs.Seats.{IsIdle, Seat}

@@ -10,8 +10,8 @@ use mathlib.Core.List.{IsPrefix}
 use mathlib.Core.Logic.{dite}
 use native.Mathlib.Decide.{ℕ_discrete}
 use Rattle.orc_core.specs.Machine.{record_at}
-use Rattle.orc_domain.proofs.Rounds.{pairwise_at, pairwise_long}
-use Rattle.orc_domain.specs.Ends.{Pairwise}
+use Rattle.orc_plain_domain.proofs.Rounds.{pairwise_at, pairwise_long}
+use Rattle.orc_plain_domain.specs.Ends.{Pairwise}
 use Rattle.orc_draining.proofs.DrainAll.{rest_after_drains}
 use Rattle.orc_draining.specs.Drains.{DrainedAlone}
 use Rattle.orc_heap.proofs.Pieces.{goes_on}

@@ -12,7 +12,7 @@ use Rattle.orc_core.specs.declared.ops.Op.TheVariants.{Clear, LinkLoad, Publish,
 use Rattle.orc_core.specs.declared.records.Agent.{Agent}
 use Rattle.orc_core.specs.declared.records.SlotUse.{SlotUse}
 use Rattle.orc_core.specs.declared.records.SlotUse.TheVariants.{Empty, Held, Published}
-use Rattle.orc_domain.specs.Rows.{word_at}
+use Rattle.orc_plain_domain.specs.Rows.{word_at}
 use Rattle.orc_heap.proofs.Calls.{Puts-trans}
 use Rattle.orc_heap.proofs.Stays.{allowed-left, allowed-right}
 use Rattle.orc_heap.specs.Allowed.{AllAllowed}

@@ -3,7 +3,7 @@ use Rattle.std.specs.Prelude.{List, [], map, suc, ◌++◌, ◌∷◌, ◌≡◌
 use mathlib.Core.List.{IsPrefix}
 use Rattle.orc_board_settling.specs.Parts.{NoEvents}
 use Rattle.orc_core.specs.Machine.{record_at}
-use Rattle.orc_domain.specs.Ends.{Pairwise}
+use Rattle.orc_plain_domain.specs.Ends.{Pairwise}
 use Rattle.orc_draining.specs.Drains.{Drained}
 use Rattle.orc_heap.specs.Seats.{Seat}
 use Rattle.orc_machine_board.specs.Passes.{steps_of}

@@ -2,7 +2,7 @@
 
 ghost use Rattle.std.specs.Prelude.{◌≡◌, ◌<◌, ◌∷◌, [], IfErr, IfOk};
 ghost use mathlib.Core.List.{IsPrefix};
-ghost use Rattle.orc_domain.specs.Calls.{MayAimAt, aim_at};
+ghost use Rattle.orc_plain_domain.specs.Calls.{MayAimAt, aim_at};
 ghost use Rattle.orc_heap.specs.Calls.{RefusesAim};
 ghost use Rattle.orc_heap.specs.OwnEvents.{Only};
 ghost use Rattle.orc_heap.specs.Seats.{HoldsFresh, HoldsTarget};

@@ -3,7 +3,7 @@
 ghost use Rattle.std.specs.Prelude.{◌≡◌, ◌<◌, ◌+◌, IfErr, IfOk, None, Some, false, true, ℕ};
 ghost use Rattle.orc_core.specs.Allowed.{may_change, may_target};
 ghost use Rattle.orc_core.specs.RecordParts.{checked_below, names};
-ghost use Rattle.orc_domain.specs.Rows.{row_link};
+ghost use Rattle.orc_plain_domain.specs.Rows.{row_link};
 ghost use Rattle.orc_heap.specs.Calls.{IsWorn, MayMove, RefusesSwing, Swings};
 ghost use Rattle.orc_heap.specs.Seats.{HoldsPlace, HoldsWant, IsNotFresh};
 ghost use Rattle.orc_heap.specs.Slots.{Holds};
@@ -18,7 +18,7 @@ ghost use Rattle.orc_reclaiming_domain.specs.Seats.{IsReady, seat_by};
 
 use crate::domain::OrcDomain;
 use orc_core::{CounterUse, SEQUENCE};
-use orc_domain::{row_link, word_at};
+use orc_plain_domain::{row_link, word_at};
 use orc_fault::Spent;
 use orc_heap::{At, Discipline, Held, Want};
 use orc_machine_board::{MachineBoardPass, to_count};

@@ -2,7 +2,7 @@
 
 ghost use Rattle.std.specs.Prelude.{◌≡◌, ◌≢◌, ◌<◌, ◌*◌, ◌+◌, ◌%◌, ◌∷◌, [], IfErr, IfOk, None, refl};
 ghost use mathlib.Core.List.{IsPrefix};
-ghost use Rattle.orc_domain.specs.Turns.{IsNext};
+ghost use Rattle.orc_plain_domain.specs.Turns.{IsNext};
 ghost use Rattle.orc_heap.specs.Calls.{Gives, Learns, Looks, MayAim, MayAimSide, MayLook, MayMove, ReadsValue, RefusesAim, RefusesSwing, Releases, Swings, Tests, aim_of, aim_side_of, fill_of};
 ghost use Rattle.orc_heap.specs.Journals.{run_heap};
 ghost use Rattle.orc_heap.specs.OwnEvents.{Only};
@@ -17,7 +17,7 @@ ghost use Rattle.orc_reclaiming_domain.specs.Searches.{Found};
 
 use crate::domain::{OrcDomain, OrcPass};
 use orc_board_settling::settle;
-use orc_domain::{row_link, word_at};
+use orc_plain_domain::{row_link, word_at};
 use orc_fault::{NoNode, Spent};
 use orc_heap::{At, Discipline, Held, Links, Looked, Seen, Want};
 use orc_sound::Step;

@@ -11,7 +11,7 @@ use crate::runs::drive_to_rest;
 use crate::sorted::run_sorted;
 use orc_cell::Cell;
 use orc_chain_rule::Chain;
-use orc_domain::PlainDomain;
+use orc_plain_domain::PlainDomain;
 use orc_fault::NoMemory;
 use orc_fifo_rule::{Fifo, FifoNote};
 use orc_heap::Seed;

@@ -6,7 +6,7 @@ ghost use Rattle.orc_projection.specs.Mirror.{numbers_of};
 ghost use Rattle.orc_words.specs.Bounds.{bounds_of};
 ghost use Rattle.stress.specs.Passes.{AreAllIdle};
 
-use orc_domain::{PlainDomain, PlainPass};
+use orc_plain_domain::{PlainDomain, PlainPass};
 use orc_fault::NoMemory;
 use orc_heap::{Discipline, Links, Seed};
 use orc_reclaiming_domain::{OrcDomain, OrcPass};

@@ -2,12 +2,12 @@
 
 ghost use Rattle.std.specs.Prelude.{◌≡◌, ◌+◌, ◌*◌, ◌<◌, ℕ, [], All, IfOk, length, slice_index_or};
 ghost use Rattle.orc_cell.specs.CellCalls.{IsUsable, history};
-ghost use Rattle.orc_domain.specs.Passes.{domain_bounds};
+ghost use Rattle.orc_plain_domain.specs.Passes.{domain_bounds};
 ghost use Rattle.orc_heap.specs.Domains.{agent};
 ghost use Rattle.orc_words.specs.Bounds.{bounds_of};
 
 use orc_cell::Cell;
-use orc_domain::{PlainDomain, PlainPass};
+use orc_plain_domain::{PlainDomain, PlainPass};
 use orc_fault::NoMemory;
 use orc_heap::{Links, Seed};
 use orc_pairs_rule::Pairs;

@@ -4,7 +4,7 @@ ghost use Rattle.std.specs.Prelude.{◌≡◌, ◌≢◌, ◌+◌, ◌<◌, ℕ,
 ghost use Rattle.orc_words.specs.Bounds.{bounds_of};
 
 use orc_chain_rule::Chain;
-use orc_domain::{PlainDomain, PlainPass};
+use orc_plain_domain::{PlainDomain, PlainPass};
 use orc_fault::NoMemory;
 use orc_heap::Seed;
 use orc_history::{LearnSet, SharedSet};

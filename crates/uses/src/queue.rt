@@ -3,7 +3,7 @@
 ghost use Rattle.std.specs.Prelude.{◌≡◌, ◌≢◌, ◌+◌, ◌<◌, ◌≤◌, ◌^◌, ℕ, [], All, IfOk, IfSome, length, slice_index_or};
 ghost use Rattle.orc_words.specs.Bounds.{bounds_of};
 
-use orc_domain::{PlainDomain, PlainPass};
+use orc_plain_domain::{PlainDomain, PlainPass};
 use orc_fault::NoMemory;
 use orc_fifo_rule::{Fifo, FifoNote};
 use orc_heap::Seed;

@@ -5,7 +5,7 @@ ghost use Rattle.orc_words.specs.Bounds.{bounds_of};
 
 use crate::ListPass;
 use orc_chain_rule::Chain;
-use orc_domain::PlainDomain;
+use orc_plain_domain::PlainDomain;
 use orc_fault::NoMemory;
 use orc_heap::Seed;
 use orc_history::{LearnSet, SharedSet};

@@ -2,14 +2,14 @@
 
 ghost use Rattle.std.specs.Prelude.{◌≡◌, ◌+◌, ◌*◌, IfOk, length};
 ghost use Rattle.cell_tests.specs.Passes.{AreUsable};
-ghost use Rattle.orc_domain.specs.Ends.{AreAll, AreIdle, FirstSawAll};
-ghost use Rattle.orc_domain.specs.Passes.{domain_bounds};
+ghost use Rattle.orc_plain_domain.specs.Ends.{AreAll, AreIdle, FirstSawAll};
+ghost use Rattle.orc_plain_domain.specs.Passes.{domain_bounds};
 ghost use Rattle.orc_words.specs.Bounds.{bounds_of};
 
 use super::calls::{one_publishes, two_publish};
 use super::threads::{call_by_all, left_over};
 use orc_cell::CellRefused;
-use orc_domain::{PlainDomain, PlainPass};
+use orc_plain_domain::{PlainDomain, PlainPass};
 use orc_fault::NoMemory;
 use orc_heap::Links;
 use orc_pairs_rule::Pairs;

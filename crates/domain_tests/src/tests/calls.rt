@@ -6,7 +6,7 @@ ghost use Rattle.orc_heap.specs.Seats.{HoldsFresh, HoldsTarget, HoldsWant, IsIdl
 ghost use Rattle.orc_heap.specs.Slots.{Holds, IsFree};
 ghost use Rattle.orc_shared_words.specs.Lists.{EachAt};
 
-use orc_domain::twins::Twins;
+use orc_plain_domain::twins::Twins;
 use orc_heap::{At, Held, Links, Want};
 
 // Swings root 0, and answers whether that came about.

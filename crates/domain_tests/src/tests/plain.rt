@@ -1,13 +1,13 @@
 //! Over the domain whose rows are never given again.
 
 ghost use Rattle.std.specs.Prelude.{◌≡◌, ◌<◌};
-ghost use Rattle.orc_domain.specs.Ends.{AreAll, AreIdle, FirstSawAll};
-ghost use Rattle.orc_domain.specs.Passes.{domain_numbers};
+ghost use Rattle.orc_plain_domain.specs.Ends.{AreAll, AreIdle, FirstSawAll};
+ghost use Rattle.orc_plain_domain.specs.Passes.{domain_numbers};
 
 use super::calls::first_links;
 use super::nodes::first_gives;
-use orc_domain::twins::Twins;
-use orc_domain::{PlainDomain, PlainPass};
+use orc_plain_domain::twins::Twins;
+use orc_plain_domain::{PlainDomain, PlainPass};
 use orc_heap::{AnyFit, Discipline, Seed};
 use orc_words::Shape;
 use std::test::Fail;

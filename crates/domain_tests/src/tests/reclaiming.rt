@@ -10,7 +10,7 @@ use super::calls::first_links;
 use super::nodes::{
     first_gives, held_meanwhile, learn_both, on_two_threads, sees_each, value_at_root, with_a_node,
 };
-use orc_domain::twins::Twins;
+use orc_plain_domain::twins::Twins;
 use orc_heap::{AnyFit, Discipline, Seed};
 use orc_reclaiming_domain::{OrcDomain, OrcPass};
 use orc_words::Shape;

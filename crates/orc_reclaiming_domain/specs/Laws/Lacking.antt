@@ -3,7 +3,7 @@ use Rattle.std.proofs.Common.{List, Some, [], ap, arith, length, refl, subst, su
 use Rattle.std.specs.Prelude.{slice_get}
 use Rattle.orc_core.specs.Counts.{is_out}
 use Rattle.orc_core.specs.Machine.{new_machine, word_in}
-use Rattle.orc_domain.proofs.Counting.{no_more, nodes_given}
+use Rattle.orc_plain_domain.proofs.Counting.{no_more, nodes_given}
 use Rattle.orc_heap.proofs.Changes.{get-grown}
 use Rattle.orc_heap.specs.Moves.{gives_in}
 use Rattle.orc_machine_board.specs.Laws.Steps.{bounds_run}

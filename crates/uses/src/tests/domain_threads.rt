@@ -2,11 +2,11 @@
 
 ghost use Rattle.std.specs.Prelude.{◌≡◌, ◌≤◌, All, IfOk, IfSome};
 ghost use Rattle.orc_words.specs.Bounds.{bounds_of};
-ghost use Rattle.orc_domain.specs.Passes.{IsPassOf, domain_numbers, seat_of};
+ghost use Rattle.orc_plain_domain.specs.Passes.{IsPassOf, domain_numbers, seat_of};
 ghost use Rattle.uses.specs.Ready.{IsReady};
 
 use links_example::{OwnRoots, PushRefused, through_a_stack};
-use orc_domain::{PlainDomain, PlainPass};
+use orc_plain_domain::{PlainDomain, PlainPass};
 use orc_fault::NoMemory;
 use orc_heap::{Links, Seed};
 use orc_words::Shape;

@@ -2,7 +2,7 @@ use Rattle.std.proofs.Common.{Option, Some, ap, false, subst, sym, true, â„•, â—
 use Rattle.std.specs.Borrow.{Bor}
 use Rattle.orc_core.specs.Allowed.{may_target}
 use Rattle.orc_core.specs.RecordParts.{names}
-use Rattle.orc_domain.specs.Rows.{target_link}
+use Rattle.orc_plain_domain.specs.Rows.{target_link}
 use Rattle.orc_heap.specs.Seats.{HoldsTarget}
 use Rattle.orc_heap.specs.Slots.{Hold}
 use Rattle.orc_machine_board.specs.Licences.{AimAllowed}

@@ -2,7 +2,7 @@ use Rattle.std.proofs.Common.{subst, sym, ◌∙◌}
 use Rattle.std.specs.Prelude.{None, cond}
 use Rattle.orc_core.specs.RecordParts.{same_target}
 use Rattle.orc_core.specs.declared.ops.Op.TheVariants.{LinkCas}
-use Rattle.orc_domain.specs.Rows.{row_link, word_at}
+use Rattle.orc_plain_domain.specs.Rows.{row_link, word_at}
 use Rattle.orc_machine_board.specs.Kinds.{MayDo, asks}
 use Rattle.orc_machine_board.specs.Licences.{MoveAllowed}
 use Rattle.orc_machine_board.specs.Rules.{heap_numbers}

@@ -4,7 +4,7 @@ use Rattle.orc_reclaiming_domain.proofs.Giving.{Took, filled_later, first_can, g
 use Rattle.orc_reclaiming_domain.proofs.Rounds.{next_grows, tries_all, tries_then}
 use Rattle.orc_reclaiming_domain.proofs.Stages.{stage}
 use Rattle.orc_reclaiming_domain.proofs.TakingIn.{takes_free}
-use Rattle.orc_domain.specs.Turns.{IsNext}
+use Rattle.orc_plain_domain.specs.Turns.{IsNext}
 use Rattle.orc_heap.specs.Slots.{Hold}
 use Rattle.orc_reclaiming_domain.specs.Passes.{domain_bounds}
 use Rattle.orc_reclaiming_domain.specs.Searches.{Found}

@@ -1,5 +1,5 @@
 use Rattle.std.proofs.Common.{◌≡◌, ◌≢◌}
-use Rattle.orc_domain.proofs.Equal.{links_agree, links_differ}
+use Rattle.orc_plain_domain.proofs.Equal.{links_agree, links_differ}
 use Rattle.orc_reclaiming_domain.proofs.Looking.{Begun, clear_can, calm3, held_between, held_leaves, load_can, look_held, look_moved, look_null, moved_between, moved_leaves, null_between, null_leaves, publish_can, reload_can}
 use Rattle.orc_reclaiming_domain.proofs.Stages.{stage}
 use Rattle.orc_reclaiming_domain.proofs.links.OrcDomainLinks.look.Given.{Over}

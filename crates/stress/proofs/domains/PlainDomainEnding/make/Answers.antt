@@ -1,6 +1,6 @@
 use Rattle.std.proofs.Common.{ap, ◌≡◌}
 use Rattle.std.proofs.lemmas.Result.{IfOk-weaker}
-use Rattle.orc_domain.specs.Passes.{domain_bounds, domain_numbers}
+use Rattle.orc_plain_domain.specs.Passes.{domain_bounds, domain_numbers}
 use Rattle.orc_projection.specs.Mirror.{numbers_of}
 use Rattle.orc_words.specs.Bounds.{bounds_of}
 use Rattle.stress.proofs.domains.PlainDomainEnding.make.Goals as goal

@@ -1,5 +1,0 @@
-use Rattle.orc_domain.proofs.Giving.{Tried}
-use Rattle.orc_domain.proofs.links.PlainDomainLinks.give.Given as goal
-
-abbrev pub invariant-loop-offset : goal.invariant-loop-offset
-invariant-loop-offset g l = Tried l.self l.fn.p l.p l.rows l.begin l.offset

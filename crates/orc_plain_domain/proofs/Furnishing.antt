@@ -1,0 +1,146 @@
+-- The values of a row that was just given.
+use Rattle.std.proofs.Common.{◌≡◌, ℕ, ◌<◌, ◌==◌, List, [], ◌∷◌, ◌++◌, length, false, Option, Some, None, slice_get, slice_set, refl, sym, ap, ◌∙◌, subst, eq-eqb, inl, append_assoc}
+use Rattle.std.proofs.lemmas.List.Elements.{filter-append}
+use Rattle.std.specs.List.{list_any}
+use Rattle.std.specs.Prelude.{if◌then◌else◌}
+use Rattle.orc_words.specs.Bounds.{Bounds}
+use Rattle.orc_heap.proofs.Fresh.{IsOwnNode, own_node_told, touched_by}
+use Rattle.orc_heap.proofs.Calls.{Puts-trans}
+use Rattle.orc_heap.proofs.Stays.{allowed-join}
+use Rattle.orc_heap.specs.Acts.{IsKnown, with_value}
+use Rattle.orc_heap.specs.Allowed.{events_by}
+use Rattle.orc_heap.specs.Calls.{given_node}
+use Rattle.orc_heap.specs.Heap.{Node, new_node}
+use Rattle.orc_heap.specs.Journals.{event_by, points_to}
+use Rattle.orc_heap.specs.OwnEvents.{Puts}
+use Rattle.orc_heap.specs.declared.discipline.Discipline as discipline
+use Rattle.orc_heap.specs.declared.events.Act.TheVariants.{Fill}
+use Rattle.orc_heap.specs.declared.events.Event.{Event}
+use Rattle.orc_shared_words.specs.declared.machine.Machine as machine
+use Rattle.orc_table.proofs.Known.{fresh_row}
+use Rattle.orc_table.proofs.Lists.{some_one}
+use Rattle.orc_table.specs.Calls.{Adds, KnowsRow}
+use Rattle.orc_table.specs.Machine.{id_by, index_of, numbers}
+use Rattle.orc_table.specs.Views.{Belongs, PlainView, heap_of, shows}
+use Rattle.orc_table.specs.declared.machine.Plain.{Plain}
+use Rattle.orc_table.specs.declared.machine.PlainOp.{PlainOp}
+use Rattle.orc_table.specs.declared.machine.PlainStep.{PlainStep}
+use Rattle.orc_table.specs.declared.pass.PlainBoardPass.{PlainBoardPass as BoardPass}
+use Rattle.orc_table.specs.declared.shape.PlainShape.{PlainShape}
+use Rattle.orc_plain_domain.specs.Passes.{IsPassOf, domain_bounds, domain_numbers, seat_of}
+use Rattle.orc_plain_domain.specs.declared.domain.PlainDomain.{PlainDomain}
+use Rattle.orc_plain_domain.specs.declared.domain.PlainPass.{PlainPass}
+use Rattle.orc_plain_domain.specs.Calls.{Furnishes}
+use Rattle.orc_plain_domain.specs.Rows.{seat_by}
+use Rattle.orc_plain_domain.proofs.Growing.{Grows, adds_grow, adds_put, fresh_given, fresh_stays, grow_trans, held_given, index_stays, keeps_stay, mine, slots_stay}
+use Rattle.orc_plain_domain.proofs.Releasing.{keeps_set}
+use Rattle.orc_plain_domain.proofs.Rows.{slots_set}
+
+filled : (N : Type 0) (agent id which value : ℕ) (x : Node)
+    → touched_by {N = N} id (event_by agent (Fill id which value) None ∷ []) x ≡ with_value which value x
+filled N agent id which value x = ap (λ b. if b then with_value which value x else x) (eq-eqb id id refl)
+
+module _ {D N : Type 0} {d : discipline.Ghosts D N} {m : machine.Ghosts Plain N (PlainShape N) PlainOp (PlainStep N) (Unit {0}) (Unit {0})}
+    (domain : PlainDomain D N) (p : PlainPass D N (PlainShape N) PlainOp (PlainStep N) (Unit {0}) (Unit {0}) d m) (h : IsPassOf domain p)
+    (q r : BoardPass D N (PlainShape N) PlainOp (PlainStep N) (Unit {0}) (Unit {0}) d m) (y : Belongs domain.board q) (z : Belongs domain.board r)
+    (row first second : ℕ) (fresh : (shows domain.board p.pass).fresh ≡ Some row)
+    (a : Adds (d.may (domain_numbers domain))
+    (event_by (shows domain.board p.pass).agent (Fill (index_of row (shows domain.board p.pass).rows) 0 first) None ∷ [])
+    (shows domain.board p.pass) (shows domain.board q))
+    (c : Adds (d.may (domain_numbers domain)) (event_by (shows domain.board q).agent (Fill (index_of row (shows domain.board q).rows) 1 second) None
+    ∷ []) (shows domain.board q) (shows domain.board r))
+  where
+    abbrev b : Bounds
+    b = domain_bounds domain
+
+    abbrev may : List (Event N) → Event N → Type 0
+    may = d.may (domain_numbers domain)
+
+    abbrev s : PlainView N
+    s = shows domain.board p.pass
+
+    abbrev t : PlainView N
+    t = shows domain.board q
+
+    abbrev u : PlainView N
+    u = shows domain.board r
+
+    abbrev id : ℕ
+    id = index_of row s.rows
+
+    abbrev one : List (Event N)
+    one = event_by s.agent (Fill id 0 first) None ∷ []
+
+    abbrev two : List (Event N)
+    two = event_by s.agent (Fill id 1 second) None ∷ []
+
+    grows : Grows b s t
+    grows = adds_grow b may one s t a
+
+    given : id < length s.rows
+    given = (fresh_row d domain.board.words.shape p.pass.pass.seat.me.0 p.pass.pass.agent p.pass.fresh p.pass.looked h.board.keeps row fresh).given
+
+    -- the second Fill, by the first view
+    c2 : Adds may two t u
+    c2 = subst (λ (x : ℕ × ℕ). Adds may (event_by x.0 (Fill x.1 1 second) None ∷ []) t u) (λ i. (a.agent i, index_stays b s t row grows given i)) c
+
+    both : Grows b s u
+    both = grow_trans b s t u grows (adds_grow b may two t u c2)
+
+    puts : (slots : List (Option ℕ))
+        → Puts (seat_of domain p) (event_by s.agent (Fill id 0 first) None ∷ event_by s.agent (Fill id 1 second) None ∷ []) (seat_by u slots)
+    puts slots =
+        Puts-trans (seat_of domain p) (seat_by t p.slots) (seat_by u slots) one two
+        (adds_put may one s t p.slots p.slots a (mine s.agent (Fill id 0 first) None))
+        (adds_put may two t u p.slots slots c2 (subst (λ x. events_by x two ≡ two) (sym a.agent) (mine s.agent (Fill id 1 second) None)))
+
+    own_adds : (v w : PlainView N) (own : List (Event N)) (x : Node) → Adds may own v w → d.holds (numbers b) v.events → events_by v.agent own ≡ own
+        → list_any (λ e. points_to e.act id) own ≡ false
+        → IsOwnNode (numbers b) v.agent id v.events x → IsOwnNode (numbers b) v.agent id w.events (touched_by id own x)
+    own_adds v w own x e kept is away o =
+        let is_own : events_by v.agent (e.met ++ own) ≡ own = filter-append (λ (z : Event N). z.agent == v.agent) e.met own
+        ∙ (ap (λ z. z ++ events_by v.agent own) e.later.others ∙ is) in
+        let told = own_node_told (numbers b) (d.holds (numbers b)) may (λ es e h k. d.keeps (numbers b) es e h k)
+        (λ es e h k. d.fits (numbers b) es e h k) (λ es e h k. d.moves_linked (numbers b) es e h k)
+        v.agent id v.events (e.met ++ own) x kept (allowed-join may v.events e.met own e.later.allowed e.allowed) o
+        (ap (λ es. list_any (λ e. points_to e.act id) es) is_own ∙ away) in
+        subst (λ (z : List (Event N) × List (Event N)). IsOwnNode (numbers b) v.agent id z.0 (touched_by id z.1 x))
+        (λ i. ((sym (append_assoc v.events e.met own) ∙ sym e.events) i, is_own i)) told
+
+    node : slice_get (heap_of b s).nodes id ≡ Some (new_node s.agent) → slice_get (heap_of b u).nodes id ≡ Some (given_node s.agent first second)
+    node there =
+        let n0 : IsOwnNode (numbers b) s.agent id s.events (new_node s.agent) =
+        record { there = there; own = record { mine = refl; unnamed = refl; unlinked = refl } } in
+        let n1 = own_adds s t one (new_node s.agent) a h.board.keeps.now.kept (mine s.agent (Fill id 0 first) None) refl n0 in
+        let n1t : IsOwnNode (numbers b) t.agent id t.events (touched_by id one (new_node s.agent)) =
+        subst (λ x. IsOwnNode (numbers b) x id t.events (touched_by id one (new_node s.agent))) (sym a.agent) n1 in
+        let n2 = own_adds t u two (touched_by id one (new_node s.agent)) c2 y.keeps.now.kept
+        (subst (λ x. events_by x two ≡ two) (sym a.agent) (mine s.agent (Fill id 1 second) None)) refl n1t in
+        subst (λ x. slice_get (heap_of b u).nodes id ≡ Some x) (filled N s.agent id 1 second (touched_by id one (new_node s.agent))
+        ∙ ap (with_value 1 second) (filled N s.agent id 0 first (new_node s.agent))) n2.there
+
+    pub furnished : (slot : ℕ) → t.fresh ≡ s.fresh → u.fresh ≡ t.fresh → slice_get (heap_of b s).nodes id ≡ Some (new_node s.agent)
+        → Furnishes (domain_numbers domain) row id slot first second (seat_of domain p) (seat_by u (slice_set p.slots slot (Some row)))
+    furnished slot f g there = record {
+      fresh = ap (id_by u.rows) (g ∙ f) ∙ fresh_stays b s u s.fresh both (fresh_given domain p h);
+      slots = slots_set u.rows p.slots slot (Some row)
+          ∙ (λ i. slice_set (slots_stay b s u p.slots both (held_given domain p h) i) slot
+          (Some (record { row = row; id = index_stays b s u row both given i })));
+      puts = puts (slice_set p.slots slot (Some row));
+      node = node there;
+    }
+
+    known : KnowsRow b u row
+    known =
+        let f = (fresh_row d domain.board.words.shape p.pass.pass.seat.me.0 p.pass.pass.agent p.pass.fresh p.pass.looked h.board.keeps row fresh).untouched in
+        let k : IsKnown s.agent (heap_of b u) id = both.known id (record { node = f.node; there = f.there; known = inl f.mine }) in
+        subst (λ (x : ℕ × ℕ). IsKnown x.0 (heap_of b u) x.1) (λ i. (sym both.agent i, sym (index_stays b s u row both given) i)) k
+
+    pub still_furnished : (slot next : ℕ) → next < b.rows
+        → IsPassOf domain (record { pass = r; slots = slice_set p.slots slot (Some row); next = next; shape = p.shape })
+    still_furnished slot next inside = record {
+      board = z;
+      shape = h.shape;
+      keeps = keeps_set b u p.slots p.next next slot (Some row) (λ x e. subst (λ v. KnowsRow b u v) (some_one row x e) known) inside
+          (keeps_stay b s u p.slots p.next both (held_given domain p h) h.keeps);
+    }

@@ -1,0 +1,203 @@
+-- A protected load.
+use Rattle.std.proofs.Common.{◌≡◌, ◌≢◌, ℕ, List, [], ◌∷◌, true, false, Option, Some, None, slice_set, refl, sym, ap, ◌∙◌, subst}
+use Rattle.orc_words.specs.Bounds.{Bounds}
+use Rattle.orc_words.specs.declared.packed.RowLink.{RowLink}
+use Rattle.orc_words.specs.declared.place.Word.{Word}
+use Rattle.orc_heap.proofs.Calls.{Puts-trans}
+use Rattle.orc_heap.specs.Acts.{IsKnown, IsTarget}
+use Rattle.orc_heap.specs.Calls.{Looks, event_of}
+use Rattle.orc_heap.specs.OwnEvents.{Puts}
+use Rattle.orc_heap.specs.Seats.{HoldsPlace, place_in}
+use Rattle.orc_heap.specs.Slots.{Hold, Slots}
+use Rattle.orc_heap.specs.declared.discipline.Discipline as discipline
+use Rattle.orc_heap.specs.declared.events.Act.TheVariants.{Look}
+use Rattle.orc_heap.specs.declared.events.Event.{Event}
+use Rattle.orc_heap.specs.declared.events.Link.{Link}
+use Rattle.orc_heap.specs.declared.events.Place.{Place}
+use Rattle.orc_heap.specs.declared.holds.At.{At}
+use Rattle.orc_heap.specs.declared.holds.Looked.TheVariants.{Moved, Stable}
+use Rattle.orc_shared_words.specs.declared.machine.Machine as machine
+use Rattle.orc_table.proofs.Lists.{some_one}
+use Rattle.orc_table.proofs.Ties.{Given, given_by}
+use Rattle.orc_table.specs.Calls.{KnowsPlace, KnowsRow}
+use Rattle.orc_table.specs.Machine.{id_by, index_of, link_by, place_by, run}
+use Rattle.orc_heap.specs.Journals.{event_by}
+use Rattle.orc_table.specs.Views.{PlainView, heap_of, shows}
+use Rattle.orc_table.specs.declared.machine.Plain.{Plain}
+use Rattle.orc_table.specs.declared.machine.PlainOp.{PlainOp}
+use Rattle.orc_table.specs.declared.machine.PlainStep.{PlainStep}
+use Rattle.orc_table.specs.declared.shape.PlainShape.{PlainShape}
+use Rattle.orc_plain_domain.specs.Passes.{IsPassOf, domain_bounds, domain_numbers, seat_of}
+use Rattle.orc_plain_domain.specs.declared.domain.PlainDomain.{PlainDomain}
+use Rattle.orc_plain_domain.specs.declared.domain.PlainPass.{PlainPass}
+use Rattle.orc_plain_domain.specs.Calls.{IsSame, Loads}
+use Rattle.orc_plain_domain.specs.Rows.{seat_by, slots_by, word_at}
+use Rattle.orc_plain_domain.proofs.Growing.{Grows, adds_grow, adds_put, fresh_given, fresh_stays, held_given, mine, slots_stay, tie}
+use Rattle.orc_plain_domain.proofs.Naming.{place_is, place_known}
+use Rattle.orc_plain_domain.proofs.Releasing.{keeps_set}
+use Rattle.orc_plain_domain.proofs.Rows.{given_grows, one_row, slots_set}
+
+link_one : (rows : List ℕ) (l k : RowLink) → Given rows l.to → Given rows k.to → link_by rows l ≡ link_by rows k → l ≡ k
+link_one rows l k g f e = let r = went l.to k.to g f (ap (λ (z : Link). z.to) e) in λ i. record { to = r i; mark = (ap (λ (z : Link). z.mark) e) i }
+  where
+    went : (t u : Option ℕ) → Given rows t → Given rows u → id_by rows t ≡ id_by rows u → t ≡ u
+    went None None g f e = refl
+    went None (Some u) g f e = cc
+    went (Some t) None g f e = cc
+    went (Some t) (Some u) g f e = ap Some (one_row rows t u g f (some_one (index_of t rows) (index_of u rows) e))
+
+module _ {D N : Type 0} {d : discipline.Ghosts D N} {m : machine.Ghosts Plain N (PlainShape N) PlainOp (PlainStep N) (Unit {0}) (Unit {0})}
+    (domain : PlainDomain D N) (p p1 : PlainPass D N (PlainShape N) PlainOp (PlainStep N) (Unit {0}) (Unit {0}) d m) (h : IsPassOf domain p)
+    (h1 : IsPassOf domain p1) (same : IsSame p p1)
+    (at : At) (word : Word) (there : HoldsPlace (domain_numbers domain) (seat_of domain p).slots at) (word_same : word ≡ word_at at)
+    (one : RowLink)
+    (l : Loads (d.may (domain_numbers domain)) (domain_bounds domain) (place_by (shows domain.board p.pass).rows word) one
+    (shows domain.board p.pass) (shows domain.board p1.pass))
+  where
+    abbrev b : Bounds
+    b = domain_bounds domain
+
+    abbrev may : List (Event N) → Event N → Type 0
+    may = d.may (domain_numbers domain)
+
+    abbrev s : PlainView N
+    s = shows domain.board p.pass
+
+    abbrev t : PlainView N
+    t = shows domain.board p1.pass
+
+    grows : Grows b s t
+    grows = adds_grow b may (event_by s.agent (Look (place_by s.rows word) (link_by t.rows one)) None ∷ []) s t l.adds
+
+    pub slots_still : (seat_of domain p1).slots ≡ (seat_of domain p).slots
+    slots_still = ap (slots_by t.rows) same.slots ∙ slots_stay b s t p.slots grows (held_given domain p h)
+
+    pub fresh_still : (seat_of domain p1).fresh ≡ (seat_of domain p).fresh
+    fresh_still = ap (id_by t.rows) l.fresh ∙ fresh_stays b s t s.fresh grows (fresh_given domain p h)
+
+    pub there_still : HoldsPlace (domain_numbers domain) (seat_of domain p1).slots at
+    there_still = subst (λ (z : Slots). HoldsPlace (domain_numbers domain) z at) (sym slots_still) there
+
+    pub known_first : KnowsPlace b s word
+    known_first = subst (λ w. KnowsPlace b s w) (sym word_same) (place_known domain p h at there)
+
+    pub known_again : KnowsPlace b t word
+    known_again = subst (λ w. KnowsPlace b t w) (sym word_same) (place_known domain p1 h1 at there_still)
+
+    place_first : place_by s.rows word ≡ place_in (seat_of domain p).slots at
+    place_first = ap (place_by s.rows) word_same ∙ place_is domain p h at there
+
+    place_again : place_by t.rows word ≡ place_in (seat_of domain p).slots at
+    place_again = ap (place_by t.rows) word_same ∙ (place_is domain p1 h1 at there_still ∙ ap (λ (z : Slots). place_in z at) slots_still)
+
+    put_first : (slots : List (Option ℕ))
+        → Puts (seat_of domain p) (event_of (seat_of domain p) (Look (place_in (seat_of domain p).slots at) (link_by t.rows one)) None ∷ []) (seat_by t slots)
+    put_first slots = subst (λ (z : Place). Puts (seat_of domain p) (event_by s.agent (Look z (link_by t.rows one)) None ∷ []) (seat_by t slots)) place_first
+        (adds_put may (event_by s.agent (Look (place_by s.rows word) (link_by t.rows one)) None ∷ []) s t p.slots slots l.adds
+        (mine s.agent (Look (place_by s.rows word) (link_by t.rows one)) None))
+
+    pub looks_null : (slot : ℕ) → one.to ≡ None
+        → Looks (place_in (seat_of domain p).slots at) slot (seat_of domain p) (Stable (record { null = true; mark = one.mark }) None) (seat_of domain p1)
+    looks_null slot null = record {
+      fresh = fresh_still;
+      tells = (
+        refl,
+        slots_still,
+        subst (λ (z : Option ℕ). Puts (seat_of domain p)
+            (event_by s.agent (Look (place_in (seat_of domain p).slots at) (record { to = z; mark = one.mark })) None ∷ []) (seat_of domain p1))
+            (ap (id_by t.rows) null) (put_first p1.slots),
+      );
+    }
+
+    one_given : Given t.rows one.to
+    one_given = given_by b (run b p1.pass.pass.seat.me.0.seen).words t.rows (heap_of b t) (tie domain p1 h1) s.agent one.to l.known
+
+    module _ (p2 : PlainPass D N (PlainShape N) PlainOp (PlainStep N) (Unit {0}) (Unit {0}) d m) (h2 : IsPassOf domain p2) (same2 : IsSame p1 p2)
+        (two : RowLink)
+        (k : Loads (d.may (domain_numbers domain)) (domain_bounds domain) (place_by (shows domain.board p1.pass).rows word) two
+        (shows domain.board p1.pass) (shows domain.board p2.pass))
+      where
+        abbrev u : PlainView N
+        u = shows domain.board p2.pass
+
+        grows2 : Grows b t u
+        grows2 = adds_grow b may (event_by t.agent (Look (place_by t.rows word) (link_by u.rows two)) None ∷ []) t u k.adds
+
+        two_given : Given u.rows two.to
+        two_given = given_by b (run b p2.pass.pass.seat.me.0.seen).words u.rows (heap_of b u) (tie domain p2 h2) t.agent two.to k.known
+
+        -- the link of the first load, by the rows that are given later
+        link_still : link_by u.rows one ≡ link_by t.rows one
+        link_still = ap (λ (z : Option ℕ). record { to = z; mark = one.mark }) (fresh_stays b t u one.to grows2 one_given)
+
+        slots_last : slots_by u.rows p2.slots ≡ (seat_of domain p).slots
+        slots_last = ap (slots_by u.rows) same2.slots ∙ (slots_stay b t u p1.slots grows2 (held_given domain p1 h1) ∙ slots_still)
+
+        fresh_last : (seat_of domain p2).fresh ≡ (seat_of domain p).fresh
+        fresh_last = ap (id_by u.rows) k.fresh ∙ (fresh_stays b t u t.fresh grows2 (fresh_given domain p1 h1) ∙ fresh_still)
+
+        put_both : (slots : List (Option ℕ))
+            → Puts (seat_of domain p) (event_of (seat_of domain p) (Look (place_in (seat_of domain p).slots at) (link_by t.rows one)) None
+            ∷ event_of (seat_of domain p) (Look (place_in (seat_of domain p).slots at) (link_by u.rows two)) None ∷ []) (seat_by u slots)
+        put_both slots =
+            Puts-trans (seat_of domain p) (seat_of domain p1) (seat_by u slots)
+            (event_by s.agent (Look (place_in (seat_of domain p).slots at) (link_by t.rows one)) None ∷ [])
+            (event_by s.agent (Look (place_in (seat_of domain p).slots at) (link_by u.rows two)) None ∷ []) (put_first p1.slots)
+            (subst (λ (z : Place × ℕ). Puts (seat_of domain p1) (event_by z.1 (Look z.0 (link_by u.rows two)) None ∷ []) (seat_by u slots))
+            (λ i. (place_again i, grows.agent i))
+            (adds_put may (event_by t.agent (Look (place_by t.rows word) (link_by u.rows two)) None ∷ []) t u p1.slots slots k.adds
+            (mine t.agent (Look (place_by t.rows word) (link_by u.rows two)) None)))
+
+        pub looks_moved : (slot row : ℕ) → one.to ≡ Some row → two ≢ one
+            → Looks (place_in (seat_of domain p).slots at) slot (seat_of domain p) Moved (seat_of domain p2)
+        looks_moved slot row is other = record {
+          fresh = fresh_last;
+          tells = (
+            link_by t.rows one,
+            link_by u.rows two,
+            (λ e. other (sym
+                (link_one u.rows one two (subst (λ z. Given z one.to) grows2.rows.1 (given_grows t.rows grows2.rows.0 one.to one_given)) two_given
+                (link_still ∙ e)))),
+            slots_last,
+            put_both p2.slots,
+            (λ none. let e : Some (index_of row t.rows) ≡ None = sym (ap (id_by t.rows) is) ∙ none in cc),
+          );
+        }
+
+        module _ (slot row : ℕ) (is : one.to ≡ Some row) (twice : two ≡ one) where
+          found : link_by u.rows two ≡ record { to = Some (index_of row u.rows); mark = one.mark }
+          found = ap (link_by u.rows) twice ∙ ap (λ (z : Option ℕ). record { to = id_by u.rows z; mark = one.mark }) is
+
+          pub looks_held : (hold : Hold) → hold ≡ record { row = row; slot = slot }
+              → Looks (place_in (seat_of domain p).slots at) slot (seat_of domain p) (Stable (record { null = false; mark = one.mark }) (Some hold))
+              (seat_by u (slice_set p2.slots slot (Some row)))
+          looks_held hold e =
+              subst (λ (z : Hold). Looks (place_in (seat_of domain p).slots at) slot (seat_of domain p)
+              (Stable (record { null = false; mark = one.mark }) (Some z)) (seat_by u (slice_set p2.slots slot (Some row)))) (sym e) record {
+                fresh = fresh_last;
+                tells = (
+                  index_of row u.rows,
+                  link_by t.rows one,
+                  (λ none. let e : Some (index_of row t.rows) ≡ None = sym (ap (id_by t.rows) is) ∙ none in cc),
+                  refl,
+                  refl,
+                  refl,
+                  slots_set u.rows p2.slots slot (Some row)
+                      ∙ ap (λ (z : Slots). slice_set z slot (Some (record { row = row; id = index_of row u.rows }))) slots_last,
+                  subst (λ (z : Link). Puts (seat_of domain p) (event_by s.agent (Look (place_in (seat_of domain p).slots at) (link_by t.rows one)) None
+                      ∷ event_by s.agent (Look (place_in (seat_of domain p).slots at) z) None ∷ []) (seat_by u (slice_set p2.slots slot (Some row))))
+                      found (put_both (slice_set p2.slots slot (Some row))),
+                );
+              }
+
+          known : KnowsRow b u row
+          known = subst (λ a. IsKnown a (heap_of b u) (index_of row u.rows)) (sym grows2.agent)
+              (subst (λ (z : Link). IsTarget t.agent (heap_of b u) z.to) found k.known)
+
+          pub still_looked : IsPassOf domain (record { pass = p2.pass; slots = slice_set p2.slots slot (Some row); next = p2.next; shape = p2.shape })
+          still_looked = record {
+            board = h2.board;
+            shape = h2.shape;
+            keeps = keeps_set b u p2.slots p2.next p2.next slot (Some row) (λ r e. subst (λ z. KnowsRow b u z) (some_one row r e) known)
+                h2.keeps.inside h2.keeps;
+          }

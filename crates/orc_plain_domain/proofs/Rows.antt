@@ -1,0 +1,47 @@
+-- Rows in slots, and their nodes as more rows are given.
+use Rattle.std.proofs.Common.{◌≡◌, ℕ, zero, suc, ◌<◌, List, [], ◌∷◌, ◌++◌, length, Option, Some, None, slice_get, slice_set, refl, sym, ap, ◌∙◌, subst}
+use Rattle.orc_heap.specs.Acts.{IsKnown}
+use Rattle.orc_heap.specs.Heap.{Heap}
+use Rattle.orc_heap.proofs.Changes.{get-grown, get_lt}
+use Rattle.orc_table.proofs.Lists.{at_index, index_grown, some_one}
+use Rattle.orc_table.proofs.Ties.{Given}
+use Rattle.orc_table.specs.Machine.{id_by, index_of}
+use Rattle.orc_plain_domain.specs.Rows.{slot_by, slots_by}
+
+slot_grows : (rows more : List ℕ) (x : Option ℕ) → ((row : ℕ) → x ≡ Some row → index_of row rows < length rows) → slot_by (rows ++ more) x ≡ slot_by rows x
+slot_grows rows more None l = refl
+slot_grows rows more (Some row) l = ap (λ (id : ℕ). Some (record { row = row; id = id })) (index_grown row rows more (l row refl))
+
+pub slots_grow : (rows more : List ℕ) (slots : List (Option ℕ)) → ((slot row : ℕ) → slice_get slots slot ≡ Some (Some row) → index_of row rows < length rows)
+    → slots_by (rows ++ more) slots ≡ slots_by rows slots
+slots_grow rows more [] l = refl
+slots_grow rows more (x ∷ slots) l = λ i. slot_grows rows more x (λ row e. l 0 row (ap Some e)) i
+    ∷ slots_grow rows more slots (λ slot row e. l (suc slot) row e) i
+
+pub id_grows : (rows more : List ℕ) (to : Option ℕ) → Given rows to → id_by (rows ++ more) to ≡ id_by rows to
+id_grows rows more None g = refl
+id_grows rows more (Some row) g = ap Some (index_grown row rows more g)
+
+pub given_grows : (rows more : List ℕ) (to : Option ℕ) → Given rows to → Given (rows ++ more) to
+given_grows rows more None g = tt
+given_grows rows more (Some row) g =
+    let same = index_grown row rows more g in
+    get_lt (rows ++ more) (index_of row (rows ++ more)) row
+    (subst (λ i. slice_get (rows ++ more) i ≡ Some row) (sym same) (get-grown (index_of row rows) rows more row (at_index row rows g)))
+
+-- a slot that is set
+pub slots_set : (rows : List ℕ) (slots : List (Option ℕ)) (i : ℕ) (x : Option ℕ)
+    → slots_by rows (slice_set slots i x) ≡ slice_set (slots_by rows slots) i (slot_by rows x)
+slots_set rows [] i x = refl
+slots_set rows (y ∷ slots) zero x = refl
+slots_set rows (y ∷ slots) (suc i) x = ap (λ z. slot_by rows y ∷ z) (slots_set rows slots i x)
+
+-- rows of one node are one
+pub one_row : (rows : List ℕ) (row other : ℕ) → index_of row rows < length rows → index_of other rows < length rows
+    → index_of row rows ≡ index_of other rows → row ≡ other
+one_row rows row other l k e = some_one row other (sym (at_index row rows l) ∙ (ap (slice_get rows) e ∙ at_index other rows k))
+
+-- a row whose node is known was given
+pub known_given : (agent : ℕ) (h : Heap) (rows : List ℕ) (row : ℕ) → length rows ≡ length h.nodes → IsKnown agent h (index_of row rows)
+    → index_of row rows < length rows
+known_given agent h rows row even k = subst (λ n. index_of row rows < n) (sym even) (get_lt h.nodes (index_of row rows) k.node k.there)

@@ -1,0 +1,46 @@
+use Rattle.std.proofs.Common.{◌%◌, ◌+◌, ◌≡◌, ◌∙◌, ap, arith, refl, subst, sym}
+use Rattle.orc_heap.proofs.Pieces.{goes_on}
+use Rattle.orc_heap.specs.Slots.{Hold}
+use Rattle.orc_table.specs.Words.{IsOut}
+use Rattle.orc_plain_domain.specs.Passes.{domain_bounds, rows_of}
+use Rattle.orc_plain_domain.specs.Turns.{IsNext}
+use Rattle.orc_plain_domain.proofs.Giving.{gives, tried_all, tried_next, tried_none, tried_one}
+use Rattle.orc_plain_domain.proofs.links.PlainDomainLinks.give.Goals as goal
+
+pub loop-offset-init : goal.loop-offset-init
+loop-offset-init g c = tried_none c.args.self.now c.args.p.now c.rows-rows.result c.args.p.now.next c.requires.pass c.requires.no_other c.rows-rows.ensures refl
+
+pub returns-then-take-clause-given : goal.returns-then-take-clause-given
+returns-then-take-clause-given g c =
+    gives c.args.self.now c.args.p.now c.loop-offset.p c.take.new.p c.rows-rows.result c.args.p.now.next c.loop-offset.offset c.loop-offset.invariant
+    c.take.ensures.pass c.take.ensures.same
+    _ c.if-take.ensures.took c.furnish.new.p c.args.slot c.args.first c.args.second c.furnish.ensures.furnished c.furnish.result c.furnish.ensures.hold
+
+pub loop-offset-preserved : goal.loop-offset-preserved
+loop-offset-preserved g c =
+    tried_one c.args.self.now c.args.p.now c.loop-offset.p c.take.new.p c.rows-rows.result c.args.p.now.next c.loop-offset.offset
+    c.loop-offset.invariant c.take.ensures.pass c.take.ensures.same c.if-take.ensures.took
+
+pub returns-clause-lacking : goal.returns-clause-lacking
+returns-clause-lacking g c =
+    let low = c.loop-offset-test.false in
+    let high = c.loop-offset.auto.offset-end in
+    let end : c.loop-offset.offset ≡ c.rows-rows.result = omega (arith, low, high) in
+    tried_all c.args.self.now c.args.p.now c.loop-offset.p c.rows-rows.result c.args.p.now.next c.loop-offset.offset end c.loop-offset.invariant
+
+pub returns-then-take-clause-in_turn : goal.returns-then-take-clause-in_turn
+returns-then-take-clause-in_turn g c =
+    let links = c.args.self.now in
+    let begin = c.args.p.now.next in
+    let rows = c.rows-rows.result in
+    let more = goes_on _ _ _ c.if-take.ensures.took.rows c.furnish.ensures.rows in
+    subst (IsNext (domain_bounds links).rows begin (IsOut (rows_of links c.furnish.new.p))) (ap (λ (h : Hold). h.row) (sym c.furnish.ensures.hold))
+    (tried_next links c.args.p.now c.loop-offset.p rows begin c.loop-offset.offset c.loop-offset.invariant c.loop-offset-test.true
+    (rows_of links c.furnish.new.p) more)
+
+pub returns-then-take-clause-next : goal.returns-then-take-clause-next
+returns-then-take-clause-next g c =
+    c.furnish.ensures.next ∙ ap (λ (h : Hold). (h.row + 1) % (domain_bounds c.args.self.now).rows) (sym c.furnish.ensures.hold)
+
+pub returns-clause-same_next : goal.returns-clause-same_next
+returns-clause-same_next g c = c.loop-offset.invariant.same_next

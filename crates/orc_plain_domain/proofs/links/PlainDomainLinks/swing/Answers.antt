@@ -1,0 +1,38 @@
+use Rattle.orc_plain_domain.proofs.Testing.{knows_link, knows_place, knows_target, may_move, still_swung, swings}
+use Rattle.orc_plain_domain.proofs.links.PlainDomainLinks.swing.Goals as goal
+
+pub link_cas-moved-requires-clause-place : goal.link_cas-moved-requires-clause-place
+link_cas-moved-requires-clause-place g c =
+    knows_place c.args.self.now c.args.p.now c.requires.pass c.args.p.now.pass c.requires.pass.board c.args.place.now c.word_at.result
+    c.requires.place c.word_at.ensures c.args.from.now c.row_link.result c.requires.links.0 c.row_link.ensures
+
+pub link_cas-moved-requires-clause-from : goal.link_cas-moved-requires-clause-from
+link_cas-moved-requires-clause-from g c =
+    knows_link c.args.self.now c.args.p.now c.requires.pass c.args.p.now.pass c.requires.pass.board c.args.place.now c.word_at.result c.requires.place
+    c.word_at.ensures c.args.from.now c.row_link.result c.requires.links.0 c.row_link.ensures
+
+pub link_cas-moved-requires-clause-to : goal.link_cas-moved-requires-clause-to
+link_cas-moved-requires-clause-to g c =
+    knows_target c.args.self.now c.args.p.now c.requires.pass c.args.p.now.pass c.requires.pass.board c.args.place.now c.word_at.result
+    c.requires.place c.word_at.ensures c.args.from.now c.row_link.result c.requires.links.0 c.row_link.ensures
+    c.args.to.now c.row_link-2.result c.requires.links.1 c.row_link-2.ensures
+
+pub link_cas-moved-requires-clause-allowed : goal.link_cas-moved-requires-clause-allowed
+link_cas-moved-requires-clause-allowed g c =
+    may_move c.args.self.now c.args.p.now c.requires.pass c.args.p.now.pass c.requires.pass.board c.args.place.now c.word_at.result c.requires.place
+    c.word_at.ensures c.args.from.now c.row_link.result c.requires.links.0 c.row_link.ensures
+    c.args.to.now c.row_link-2.result c.requires.links.1 c.row_link-2.ensures c.args.note c.requires.allowed
+
+pub returns-clause-pass : goal.returns-clause-pass
+returns-clause-pass g c =
+    still_swung c.args.self.now c.args.p.now c.requires.pass c.link_cas-moved.new.p c.link_cas-moved.ensures.belongs c.args.place.now c.word_at.result
+    c.requires.place c.word_at.ensures c.args.from.now c.row_link.result c.requires.links.0 c.row_link.ensures
+    c.args.to.now c.row_link-2.result c.requires.links.1 c.row_link-2.ensures c.args.note c.link_cas-moved.result c.link_cas-moved.ensures.answer
+    c.link_cas-moved.ensures.moves c.link_cas-moved.ensures.linked c.link_cas-moved.ensures.fails
+
+pub returns-clause-swung : goal.returns-clause-swung
+returns-clause-swung g c =
+    swings c.args.self.now c.args.p.now c.requires.pass c.link_cas-moved.new.p c.link_cas-moved.ensures.belongs c.args.place.now c.word_at.result
+    c.requires.place c.word_at.ensures c.args.from.now c.row_link.result c.requires.links.0 c.row_link.ensures
+    c.args.to.now c.row_link-2.result c.requires.links.1 c.row_link-2.ensures c.args.note c.link_cas-moved.result c.link_cas-moved.ensures.answer
+    c.link_cas-moved.ensures.moves c.link_cas-moved.ensures.linked c.link_cas-moved.ensures.fails
