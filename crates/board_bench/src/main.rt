@@ -3,10 +3,10 @@
 #![tactic(auto)]
 
 ghost use Rattle.std.specs.Prelude.{◌<◌};
-ghost use Rattle.orc_table.specs.Views.{Belongs, board_bounds};
+ghost use Rattle.orc_plain_board.specs.Views.{Belongs, board_bounds};
 
 use orc_heap::{AnyFit, Seed};
-use orc_table::{PlainBoard, PlainBoardPass};
+use orc_plain_board::{PlainBoard, PlainBoardPass};
 use orc_words::{Shape, Word};
 use std::io;
 use std::sync::atomic::{AtomicU64, Ordering};

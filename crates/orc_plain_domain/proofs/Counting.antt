@@ -18,9 +18,9 @@ use Rattle.orc_heap.specs.declared.events.Event.{Event}
 use Rattle.orc_heap.specs.declared.events.Link.{Link}
 use Rattle.orc_heap.specs.declared.events.Place.{Place}
 use Rattle.orc_heap.specs.declared.events.Place.TheVariants.{Next, Root, Side}
-use Rattle.orc_table.proofs.Lists.{at_index, index_in, some_one}
-use Rattle.orc_table.specs.Machine.{index_of}
-use Rattle.orc_table.specs.Words.{IsOut, Once}
+use Rattle.orc_plain_board.proofs.Lists.{at_index, index_in, some_one}
+use Rattle.orc_plain_board.specs.Machine.{index_of}
+use Rattle.orc_plain_board.specs.Words.{IsOut, Once}
 use Rattle.orc_heap.specs.Moves.{give_with, gives_in}
 use Rattle.orc_plain_domain.specs.Given.{IsLacking}
 

@@ -8,10 +8,10 @@ use Rattle.orc_heap.specs.Seats.{IsIdle, Seat}
 use Rattle.orc_heap.specs.declared.discipline.Discipline as discipline
 use Rattle.orc_heap.specs.declared.events.Event.{Event}
 use Rattle.orc_shared_words.specs.declared.machine.Machine as machine
-use Rattle.orc_table.specs.declared.machine.Plain.{Plain}
-use Rattle.orc_table.specs.declared.machine.PlainOp.{PlainOp}
-use Rattle.orc_table.specs.declared.machine.PlainStep.{PlainStep}
-use Rattle.orc_table.specs.declared.shape.PlainShape.{PlainShape}
+use Rattle.orc_plain_board.specs.declared.machine.Plain.{Plain}
+use Rattle.orc_plain_board.specs.declared.machine.PlainOp.{PlainOp}
+use Rattle.orc_plain_board.specs.declared.machine.PlainStep.{PlainStep}
+use Rattle.orc_plain_board.specs.declared.shape.PlainShape.{PlainShape}
 use Rattle.orc_plain_domain.specs.Passes.{IsPassOf, seat_of}
 use Rattle.orc_plain_domain.specs.declared.domain.PlainDomain.{PlainDomain}
 use Rattle.orc_plain_domain.specs.declared.domain.PlainPass.{PlainPass}

@@ -5,7 +5,7 @@ use Rattle.std.proofs.lemmas.Bool.{eqb-true}
 use Rattle.std.specs.Option.{option_eq}
 use mathlib.Core.Bool.{beq}
 use Rattle.orc_words.specs.declared.packed.RowLink.{RowLink}
-use Rattle.orc_table.specs.Calls.{unless_linked}
+use Rattle.orc_plain_board.specs.Calls.{unless_linked}
 
 -- the test of two links
 pub same_to : (t u : Option ℕ) → option_eq eqb t u ≡ true → t ≡ u

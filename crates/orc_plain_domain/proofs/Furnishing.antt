@@ -17,16 +17,16 @@ use Rattle.orc_heap.specs.declared.discipline.Discipline as discipline
 use Rattle.orc_heap.specs.declared.events.Act.TheVariants.{Fill}
 use Rattle.orc_heap.specs.declared.events.Event.{Event}
 use Rattle.orc_shared_words.specs.declared.machine.Machine as machine
-use Rattle.orc_table.proofs.Known.{fresh_row}
-use Rattle.orc_table.proofs.Lists.{some_one}
-use Rattle.orc_table.specs.Calls.{Adds, KnowsRow}
-use Rattle.orc_table.specs.Machine.{id_by, index_of, numbers}
-use Rattle.orc_table.specs.Views.{Belongs, PlainView, heap_of, shows}
-use Rattle.orc_table.specs.declared.machine.Plain.{Plain}
-use Rattle.orc_table.specs.declared.machine.PlainOp.{PlainOp}
-use Rattle.orc_table.specs.declared.machine.PlainStep.{PlainStep}
-use Rattle.orc_table.specs.declared.pass.PlainBoardPass.{PlainBoardPass as BoardPass}
-use Rattle.orc_table.specs.declared.shape.PlainShape.{PlainShape}
+use Rattle.orc_plain_board.proofs.Known.{fresh_row}
+use Rattle.orc_plain_board.proofs.Lists.{some_one}
+use Rattle.orc_plain_board.specs.Calls.{Adds, KnowsRow}
+use Rattle.orc_plain_board.specs.Machine.{id_by, index_of, numbers}
+use Rattle.orc_plain_board.specs.Views.{Belongs, PlainView, heap_of, shows}
+use Rattle.orc_plain_board.specs.declared.machine.Plain.{Plain}
+use Rattle.orc_plain_board.specs.declared.machine.PlainOp.{PlainOp}
+use Rattle.orc_plain_board.specs.declared.machine.PlainStep.{PlainStep}
+use Rattle.orc_plain_board.specs.declared.pass.PlainBoardPass.{PlainBoardPass as BoardPass}
+use Rattle.orc_plain_board.specs.declared.shape.PlainShape.{PlainShape}
 use Rattle.orc_plain_domain.specs.Passes.{IsPassOf, domain_bounds, domain_numbers, seat_of}
 use Rattle.orc_plain_domain.specs.declared.domain.PlainDomain.{PlainDomain}
 use Rattle.orc_plain_domain.specs.declared.domain.PlainPass.{PlainPass}

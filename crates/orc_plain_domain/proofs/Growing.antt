@@ -14,18 +14,18 @@ use Rattle.orc_heap.proofs.Pieces.{goes_on}
 use Rattle.orc_heap.proofs.Stays.{allowed-join}
 use mathlib.Core.List.{IsPrefix}
 use Rattle.orc_shared_words.specs.declared.machine.Machine as machine
-use Rattle.orc_table.proofs.Known.{fresh_row, ties}
-use Rattle.orc_table.proofs.Lists.{index_grown}
-use Rattle.orc_table.proofs.Ties.{Given}
-use Rattle.orc_table.specs.Calls.{Adds}
-use Rattle.orc_table.specs.Machine.{id_by, index_of, numbers, run}
-use Rattle.orc_table.specs.Views.{Belongs, PlainView, heap_of, shows}
-use Rattle.orc_table.specs.Words.{Tie}
-use Rattle.orc_table.specs.declared.machine.Plain.{Plain}
-use Rattle.orc_table.specs.declared.machine.PlainOp.{PlainOp}
-use Rattle.orc_table.specs.declared.machine.PlainStep.{PlainStep}
-use Rattle.orc_table.specs.declared.pass.PlainBoardPass.{PlainBoardPass as BoardPass}
-use Rattle.orc_table.specs.declared.shape.PlainShape.{PlainShape}
+use Rattle.orc_plain_board.proofs.Known.{fresh_row, ties}
+use Rattle.orc_plain_board.proofs.Lists.{index_grown}
+use Rattle.orc_plain_board.proofs.Ties.{Given}
+use Rattle.orc_plain_board.specs.Calls.{Adds}
+use Rattle.orc_plain_board.specs.Machine.{id_by, index_of, numbers, run}
+use Rattle.orc_plain_board.specs.Views.{Belongs, PlainView, heap_of, shows}
+use Rattle.orc_plain_board.specs.Words.{Tie}
+use Rattle.orc_plain_board.specs.declared.machine.Plain.{Plain}
+use Rattle.orc_plain_board.specs.declared.machine.PlainOp.{PlainOp}
+use Rattle.orc_plain_board.specs.declared.machine.PlainStep.{PlainStep}
+use Rattle.orc_plain_board.specs.declared.pass.PlainBoardPass.{PlainBoardPass as BoardPass}
+use Rattle.orc_plain_board.specs.declared.shape.PlainShape.{PlainShape}
 use Rattle.orc_plain_domain.specs.Passes.{IsPassOf, domain_bounds, domain_numbers, seat_of}
 use Rattle.orc_plain_domain.specs.Rows.{Keeps, seat_by, slots_by}
 use Rattle.orc_plain_domain.specs.declared.domain.PlainDomain.{PlainDomain}

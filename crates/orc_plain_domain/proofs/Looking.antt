@@ -17,16 +17,16 @@ use Rattle.orc_heap.specs.declared.events.Place.{Place}
 use Rattle.orc_heap.specs.declared.holds.At.{At}
 use Rattle.orc_heap.specs.declared.holds.Looked.TheVariants.{Moved, Stable}
 use Rattle.orc_shared_words.specs.declared.machine.Machine as machine
-use Rattle.orc_table.proofs.Lists.{some_one}
-use Rattle.orc_table.proofs.Ties.{Given, given_by}
-use Rattle.orc_table.specs.Calls.{KnowsPlace, KnowsRow}
-use Rattle.orc_table.specs.Machine.{id_by, index_of, link_by, place_by, run}
+use Rattle.orc_plain_board.proofs.Lists.{some_one}
+use Rattle.orc_plain_board.proofs.Ties.{Given, given_by}
+use Rattle.orc_plain_board.specs.Calls.{KnowsPlace, KnowsRow}
+use Rattle.orc_plain_board.specs.Machine.{id_by, index_of, link_by, place_by, run}
 use Rattle.orc_heap.specs.Journals.{event_by}
-use Rattle.orc_table.specs.Views.{PlainView, heap_of, shows}
-use Rattle.orc_table.specs.declared.machine.Plain.{Plain}
-use Rattle.orc_table.specs.declared.machine.PlainOp.{PlainOp}
-use Rattle.orc_table.specs.declared.machine.PlainStep.{PlainStep}
-use Rattle.orc_table.specs.declared.shape.PlainShape.{PlainShape}
+use Rattle.orc_plain_board.specs.Views.{PlainView, heap_of, shows}
+use Rattle.orc_plain_board.specs.declared.machine.Plain.{Plain}
+use Rattle.orc_plain_board.specs.declared.machine.PlainOp.{PlainOp}
+use Rattle.orc_plain_board.specs.declared.machine.PlainStep.{PlainStep}
+use Rattle.orc_plain_board.specs.declared.shape.PlainShape.{PlainShape}
 use Rattle.orc_plain_domain.specs.Passes.{IsPassOf, domain_bounds, domain_numbers, seat_of}
 use Rattle.orc_plain_domain.specs.declared.domain.PlainDomain.{PlainDomain}
 use Rattle.orc_plain_domain.specs.declared.domain.PlainPass.{PlainPass}

@@ -6,14 +6,14 @@ use Rattle.orc_heap.specs.Calls.{Releases, unless_node}
 use Rattle.orc_heap.specs.Slots.{Hold, Holds}
 use Rattle.orc_heap.specs.declared.discipline.Discipline as discipline
 use Rattle.orc_shared_words.specs.declared.machine.Machine as machine
-use Rattle.orc_table.proofs.Lists.{some_one}
-use Rattle.orc_table.specs.Calls.{KnowsRow, unless_linked}
-use Rattle.orc_table.specs.Machine.{id_by}
-use Rattle.orc_table.specs.Views.{PlainView, shows}
-use Rattle.orc_table.specs.declared.machine.Plain.{Plain}
-use Rattle.orc_table.specs.declared.machine.PlainOp.{PlainOp}
-use Rattle.orc_table.specs.declared.machine.PlainStep.{PlainStep}
-use Rattle.orc_table.specs.declared.shape.PlainShape.{PlainShape}
+use Rattle.orc_plain_board.proofs.Lists.{some_one}
+use Rattle.orc_plain_board.specs.Calls.{KnowsRow, unless_linked}
+use Rattle.orc_plain_board.specs.Machine.{id_by}
+use Rattle.orc_plain_board.specs.Views.{PlainView, shows}
+use Rattle.orc_plain_board.specs.declared.machine.Plain.{Plain}
+use Rattle.orc_plain_board.specs.declared.machine.PlainOp.{PlainOp}
+use Rattle.orc_plain_board.specs.declared.machine.PlainStep.{PlainStep}
+use Rattle.orc_plain_board.specs.declared.shape.PlainShape.{PlainShape}
 use Rattle.orc_plain_domain.specs.Passes.{IsPassOf, domain_bounds, seat_of}
 use Rattle.orc_plain_domain.specs.declared.domain.PlainDomain.{PlainDomain}
 use Rattle.orc_plain_domain.specs.declared.domain.PlainPass.{PlainPass}

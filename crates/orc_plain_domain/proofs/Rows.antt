@@ -3,9 +3,9 @@ use Rattle.std.proofs.Common.{◌≡◌, ℕ, zero, suc, ◌<◌, List, [], ◌�
 use Rattle.orc_heap.specs.Acts.{IsKnown}
 use Rattle.orc_heap.specs.Heap.{Heap}
 use Rattle.orc_heap.proofs.Changes.{get-grown, get_lt}
-use Rattle.orc_table.proofs.Lists.{at_index, index_grown, some_one}
-use Rattle.orc_table.proofs.Ties.{Given}
-use Rattle.orc_table.specs.Machine.{id_by, index_of}
+use Rattle.orc_plain_board.proofs.Lists.{at_index, index_grown, some_one}
+use Rattle.orc_plain_board.proofs.Ties.{Given}
+use Rattle.orc_plain_board.specs.Machine.{id_by, index_of}
 use Rattle.orc_plain_domain.specs.Rows.{slot_by, slots_by}
 
 slot_grows : (rows more : List ℕ) (x : Option ℕ) → ((row : ℕ) → x ≡ Some row → index_of row rows < length rows) → slot_by (rows ++ more) x ≡ slot_by rows x

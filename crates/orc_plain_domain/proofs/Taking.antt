@@ -14,16 +14,16 @@ use Rattle.orc_heap.specs.declared.discipline.Discipline as discipline
 use Rattle.orc_heap.specs.declared.events.Act.TheVariants.{Give}
 use Rattle.orc_heap.specs.declared.events.Event.{Event}
 use Rattle.orc_shared_words.specs.declared.machine.Machine as machine
-use Rattle.orc_table.proofs.Lists.{get_last, index_at}
-use Rattle.orc_table.specs.Calls.{Adds, Gives as BoardGives, Loses as BoardLoses}
-use Rattle.orc_table.specs.Machine.{index_of, numbers}
-use Rattle.orc_table.specs.Views.{Belongs, PlainView, heap_of, shows}
-use Rattle.orc_table.specs.Words.{IsOut}
-use Rattle.orc_table.specs.declared.machine.Plain.{Plain}
-use Rattle.orc_table.specs.declared.machine.PlainOp.{PlainOp}
-use Rattle.orc_table.specs.declared.machine.PlainStep.{PlainStep}
-use Rattle.orc_table.specs.declared.pass.PlainBoardPass.{PlainBoardPass as BoardPass}
-use Rattle.orc_table.specs.declared.shape.PlainShape.{PlainShape}
+use Rattle.orc_plain_board.proofs.Lists.{get_last, index_at}
+use Rattle.orc_plain_board.specs.Calls.{Adds, Gives as BoardGives, Loses as BoardLoses}
+use Rattle.orc_plain_board.specs.Machine.{index_of, numbers}
+use Rattle.orc_plain_board.specs.Views.{Belongs, PlainView, heap_of, shows}
+use Rattle.orc_plain_board.specs.Words.{IsOut}
+use Rattle.orc_plain_board.specs.declared.machine.Plain.{Plain}
+use Rattle.orc_plain_board.specs.declared.machine.PlainOp.{PlainOp}
+use Rattle.orc_plain_board.specs.declared.machine.PlainStep.{PlainStep}
+use Rattle.orc_plain_board.specs.declared.pass.PlainBoardPass.{PlainBoardPass as BoardPass}
+use Rattle.orc_plain_board.specs.declared.shape.PlainShape.{PlainShape}
 use Rattle.orc_plain_domain.specs.Passes.{IsPassOf, domain_bounds, domain_numbers}
 use Rattle.orc_plain_domain.specs.declared.domain.PlainDomain.{PlainDomain}
 use Rattle.orc_plain_domain.specs.declared.domain.PlainPass.{PlainPass}

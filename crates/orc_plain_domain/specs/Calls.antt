@@ -17,14 +17,14 @@ use Rattle.orc_heap.specs.declared.events.Event.{Event}
 use Rattle.orc_heap.specs.declared.events.Place.{Place}
 use mathlib.Core.List.{IsPrefix}
 use Rattle.orc_shared_words.specs.declared.machine.Machine as machine
-use Rattle.orc_table.specs.Calls.{Adds, unless_linked}
-use Rattle.orc_table.specs.Machine.{id_by, index_of, link_by}
-use Rattle.orc_table.specs.Views.{PlainView, heap_of}
-use Rattle.orc_table.specs.Words.{IsOut}
-use Rattle.orc_table.specs.declared.machine.Plain.{Plain}
-use Rattle.orc_table.specs.declared.machine.PlainOp.{PlainOp}
-use Rattle.orc_table.specs.declared.machine.PlainStep.{PlainStep}
-use Rattle.orc_table.specs.declared.shape.PlainShape.{PlainShape}
+use Rattle.orc_plain_board.specs.Calls.{Adds, unless_linked}
+use Rattle.orc_plain_board.specs.Machine.{id_by, index_of, link_by}
+use Rattle.orc_plain_board.specs.Views.{PlainView, heap_of}
+use Rattle.orc_plain_board.specs.Words.{IsOut}
+use Rattle.orc_plain_board.specs.declared.machine.Plain.{Plain}
+use Rattle.orc_plain_board.specs.declared.machine.PlainOp.{PlainOp}
+use Rattle.orc_plain_board.specs.declared.machine.PlainStep.{PlainStep}
+use Rattle.orc_plain_board.specs.declared.shape.PlainShape.{PlainShape}
 use Rattle.orc_plain_domain.specs.Rows.{seat_by}
 use Rattle.orc_plain_domain.specs.declared.domain.PlainPass.{PlainPass}
 

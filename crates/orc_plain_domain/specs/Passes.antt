@@ -7,11 +7,11 @@ use Rattle.orc_heap.specs.Seeds.{opening_events}
 use Rattle.orc_heap.specs.declared.discipline.Discipline as discipline
 use Rattle.orc_heap.specs.declared.events.Event.{Event}
 use Rattle.orc_shared_words.specs.declared.machine.Machine as machine
-use Rattle.orc_table.specs.Views.{Belongs, board_bounds, board_numbers, board_seed, shows, shows_by}
-use Rattle.orc_table.specs.declared.machine.Plain.{Plain}
-use Rattle.orc_table.specs.declared.machine.PlainOp.{PlainOp}
-use Rattle.orc_table.specs.declared.machine.PlainStep.{PlainStep}
-use Rattle.orc_table.specs.declared.shape.PlainShape.{PlainShape}
+use Rattle.orc_plain_board.specs.Views.{Belongs, board_bounds, board_numbers, board_seed, shows, shows_by}
+use Rattle.orc_plain_board.specs.declared.machine.Plain.{Plain}
+use Rattle.orc_plain_board.specs.declared.machine.PlainOp.{PlainOp}
+use Rattle.orc_plain_board.specs.declared.machine.PlainStep.{PlainStep}
+use Rattle.orc_plain_board.specs.declared.shape.PlainShape.{PlainShape}
 use Rattle.orc_plain_domain.specs.Rows.{Keeps, seat_by}
 use Rattle.orc_plain_domain.specs.declared.domain.PlainDomain.{PlainDomain}
 use Rattle.orc_plain_domain.specs.declared.domain.PlainPass.{PlainPass}

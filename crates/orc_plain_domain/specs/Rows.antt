@@ -11,9 +11,9 @@ use Rattle.orc_heap.specs.declared.holds.At.{At}
 use Rattle.orc_heap.specs.declared.holds.At.TheVariants.{Node as AtNode, Root as AtRoot, Side as AtSide}
 use Rattle.orc_heap.specs.declared.holds.Want.{Want}
 use Rattle.orc_heap.specs.declared.holds.Want.TheVariants.{Node as WantNode, Null as WantNull}
-use Rattle.orc_table.specs.Calls.{KnowsRow}
-use Rattle.orc_table.specs.Machine.{id_by, index_of}
-use Rattle.orc_table.specs.Views.{PlainView}
+use Rattle.orc_plain_board.specs.Calls.{KnowsRow}
+use Rattle.orc_plain_board.specs.Machine.{id_by, index_of}
+use Rattle.orc_plain_board.specs.Views.{PlainView}
 
 -- a slot, with the node that lies in its row; `rows` are the rows of the nodes, in the order in which they were given
 abbrev pub slot_by : List ℕ → Option ℕ → Option SlotNode

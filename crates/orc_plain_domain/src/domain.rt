@@ -6,7 +6,7 @@ ghost use Rattle.orc_plain_domain.specs.Passes.{seat_of};
 
 use orc_heap::Discipline;
 use orc_shared_words::Machine;
-use orc_table::{Plain, PlainBoard, PlainOp, PlainShape, PlainStep};
+use orc_plain_board::{Plain, PlainBoard, PlainOp, PlainShape, PlainStep};
 use orc_words::Shape;
 
 /// A domain of links in which each row is given once. It has no counts.
@@ -22,7 +22,7 @@ pub struct PlainPass<D: Discipline>
 where
     Plain: Machine<D::Note>,
 {
-    pub(crate) pass: orc_table::PlainBoardPass<D>,
+    pub(crate) pass: orc_plain_board::PlainBoardPass<D>,
     pub(crate) slots: [Option<u32>; 8],
     pub(crate) next: u32,
     pub(crate) shape: Shape,

@@ -11,7 +11,7 @@ ghost use Rattle.orc_heap.specs.Seats.{HoldsPlace, HoldsWant, IsNotFresh, Seat};
 ghost use Rattle.orc_plain_domain.specs.Given.{IsLacking};
 ghost use Rattle.orc_plain_domain.specs.Passes.{IsPassOf, domain_bounds, domain_numbers, journal_of, next_row, rows_of, seat_of};
 ghost use Rattle.orc_plain_domain.specs.Turns.{IsNext};
-ghost use Rattle.orc_table.specs.Words.{IsOut};
+ghost use Rattle.orc_plain_board.specs.Words.{IsOut};
 
 use crate::domain::{PlainDomain, PlainPass};
 use crate::names::{row_link, word_at};

@@ -4,18 +4,18 @@ ghost use Rattle.std.specs.Prelude.{◌≡◌, ◌<◌, ◌%◌, [], All, IfOk, 
 ghost use Rattle.orc_words.specs.Bounds.{bounds_of};
 ghost use Rattle.orc_heap.specs.Seats.{IsIdle};
 ghost use Rattle.orc_shared_words.specs.Lists.{EachAt};
-ghost use Rattle.orc_table.specs.Machine.{numbers};
+ghost use Rattle.orc_plain_board.specs.Machine.{numbers};
 ghost use Rattle.orc_heap.specs.Seeds.{SeedAllowed, opening_events};
 ghost use Rattle.orc_shared_words.specs.Lists.{EachFrom};
 ghost use Rattle.orc_plain_domain.specs.Passes.{IsPassOf, domain_bounds, domain_opening, next_row, seat_of};
 ghost use Rattle.orc_plain_domain.specs.Turns.{first_row};
-ghost use Rattle.orc_table.specs.Views.{shows_by};
+ghost use Rattle.orc_plain_board.specs.Views.{shows_by};
 
 use crate::domain::{PlainDomain, PlainPass};
 use crate::names::first_row;
 use orc_fault::NoMemory;
 use orc_heap::{Discipline, Seed};
-use orc_table::PlainBoard;
+use orc_plain_board::PlainBoard;
 use orc_words::Shape;
 use std::alloc::Global;
 
@@ -51,7 +51,7 @@ impl<D: Discipline> PlainDomain<D> {
 fn domain_passes<D: Discipline>(
     alloc: Global,
     shape: &Shape,
-    passes: Vec<orc_table::PlainBoardPass<D>>,
+    passes: Vec<orc_plain_board::PlainBoardPass<D>>,
 ) -> Result<Vec<PlainPass<D>>, NoMemory>
     ensures long { IfOk result (λ made. length made.items ≡ length passes.items) }
     ensures same { IfOk result (λ made. EachFrom (λ p. p.pass) made.items passes.items) }
@@ -69,7 +69,7 @@ fn domain_passes<D: Discipline>(
 }
 
 // Makes a pass that holds nothing.
-fn new_pass<D: Discipline>(shape: &Shape, pass: orc_table::PlainBoardPass<D>) -> PlainPass<D>
+fn new_pass<D: Discipline>(shape: &Shape, pass: orc_plain_board::PlainBoardPass<D>) -> PlainPass<D>
     ensures same { result.pass ≡ pass }
     ensures slots { result.slots ≡ replicate 8 None }
     ensures next { result.next < (bounds_of shape.now).rows }

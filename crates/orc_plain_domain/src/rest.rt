@@ -3,7 +3,7 @@
 ghost use Rattle.std.specs.Prelude.{◌≡◌};
 ghost use Rattle.std.specs.List.{AllByRecursion};
 ghost use Rattle.orc_shared_words.specs.Lists.{Among};
-ghost use Rattle.orc_table.specs.Views.{shows};
+ghost use Rattle.orc_plain_board.specs.Views.{shows};
 ghost use Rattle.orc_plain_domain.specs.Ends.{AreAll, FirstSawAll, first_seen};
 ghost use Rattle.orc_heap.specs.Moves.{gives_in};
 ghost use Rattle.orc_plain_domain.specs.Passes.{IsPassOf, domain_bounds, seat_of};

@@ -5,9 +5,9 @@ ghost use mathlib.Core.List.{IsPrefix};
 ghost use Rattle.orc_heap.specs.Heap.{new_node};
 ghost use Rattle.orc_heap.specs.OwnEvents.{Only};
 ghost use Rattle.orc_heap.specs.Seats.{HoldsFresh, HoldsTarget};
-ghost use Rattle.orc_table.specs.Calls.{KnowsPlace};
-ghost use Rattle.orc_table.specs.Machine.{index_of, place_by};
-ghost use Rattle.orc_table.specs.Views.{heap_of, shows};
+ghost use Rattle.orc_plain_board.specs.Calls.{KnowsPlace};
+ghost use Rattle.orc_plain_board.specs.Machine.{index_of, place_by};
+ghost use Rattle.orc_plain_board.specs.Views.{heap_of, shows};
 ghost use Rattle.orc_plain_domain.specs.Calls.{Furnishes, IsSame, Loads, Loses, MayAimAt, Retires, Takes, aim_at};
 ghost use Rattle.orc_plain_domain.specs.Passes.{IsPassOf, domain_bounds, domain_numbers, journal_of, next_row, rows_of, seat_of};
 

@@ -1,4 +1,4 @@
-use Rattle.orc_table.specs.Views.{Belongs}
+use Rattle.orc_plain_board.specs.Views.{Belongs}
 use Rattle.board_bench.proofs.load_links.Given as goal
 
 abbrev pub invariant-loop-load : goal.invariant-loop-load

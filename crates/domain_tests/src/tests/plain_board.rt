@@ -1,10 +1,10 @@
 //! The board whose rows are never given again, under a discipline that allows all that fits, and worked examples of its definitions.
 
 ghost use Rattle.std.specs.Prelude.{◌≡◌, ◌<◌, All, IfSome, MatchBool, None, Some, false};
-ghost use Rattle.orc_table.specs.Views.{Belongs, board_bounds, shows};
+ghost use Rattle.orc_plain_board.specs.Views.{Belongs, board_bounds, shows};
 
 use orc_heap::{AnyFit, Discipline, Seed};
-use orc_table::{PlainBoard, PlainBoardPass};
+use orc_plain_board::{PlainBoard, PlainBoardPass};
 use orc_words::{RowLink, Shape, Word};
 use std::test::Fail;
 

@@ -14,13 +14,13 @@ use Rattle.orc_heap.specs.Slots.{Hold, Holds, SlotNode, id_in}
 use Rattle.orc_heap.specs.declared.discipline.Discipline as discipline
 use Rattle.orc_heap.specs.declared.events.Event.{Event}
 use Rattle.orc_shared_words.specs.declared.machine.Machine as machine
-use Rattle.orc_table.proofs.Known.{below, fresh_row, opened}
-use Rattle.orc_table.specs.Machine.{id_by, index_of}
-use Rattle.orc_table.specs.Views.{PlainView, heap_of, shows, shows_by}
-use Rattle.orc_table.specs.declared.machine.Plain.{Plain}
-use Rattle.orc_table.specs.declared.machine.PlainOp.{PlainOp}
-use Rattle.orc_table.specs.declared.machine.PlainStep.{PlainStep}
-use Rattle.orc_table.specs.declared.shape.PlainShape.{PlainShape}
+use Rattle.orc_plain_board.proofs.Known.{below, fresh_row, opened}
+use Rattle.orc_plain_board.specs.Machine.{id_by, index_of}
+use Rattle.orc_plain_board.specs.Views.{PlainView, heap_of, shows, shows_by}
+use Rattle.orc_plain_board.specs.declared.machine.Plain.{Plain}
+use Rattle.orc_plain_board.specs.declared.machine.PlainOp.{PlainOp}
+use Rattle.orc_plain_board.specs.declared.machine.PlainStep.{PlainStep}
+use Rattle.orc_plain_board.specs.declared.shape.PlainShape.{PlainShape}
 use Rattle.orc_heap.specs.Moves.{gives_in}
 use Rattle.orc_plain_domain.specs.Given.{IsLacking}
 use Rattle.orc_plain_domain.specs.Passes.{IsPassOf, domain_bounds, domain_numbers, domain_opening, journal_of, seat_of}

@@ -20,9 +20,9 @@ use Rattle.orc_sound.proofs.NewState.{counter_first, zero_first}
 use Rattle.orc_sound.proofs.Shown.{word_shown}
 use Rattle.orc_sound.specs.Journals.{IsLawfulJournal}
 use Rattle.orc_sound.specs.declared.steps.Step.{Step}
-use Rattle.orc_table.proofs.Lists.{at_index, index_in, some_one}
-use Rattle.orc_table.specs.Machine.{index_of}
-use Rattle.orc_table.specs.Words.{IsOut}
+use Rattle.orc_plain_board.proofs.Lists.{at_index, index_in, some_one}
+use Rattle.orc_plain_board.specs.Machine.{index_of}
+use Rattle.orc_plain_board.specs.Words.{IsOut}
 use Rattle.orc_words.specs.Bounds.{Bounds, IsShape}
 use Rattle.orc_words.specs.declared.place.Word.TheVariants.{Counter, Gate}
 

@@ -1,6 +1,6 @@
 -- The discipline holds before all events.
 use Rattle.orc_words.specs.Bounds.{bounds_of}
-use Rattle.orc_table.specs.Machine.{numbers}
+use Rattle.orc_plain_board.specs.Machine.{numbers}
 use Rattle.orc_chain_rule.proofs.Later.{nothing_yet}
 use Rattle.uses.proofs.list.one_list_over.Goals as goal
 

@@ -1,6 +1,6 @@
 -- The domain begins with a dummy.
 use Rattle.orc_words.specs.Bounds.{bounds_of}
-use Rattle.orc_table.specs.Machine.{numbers}
+use Rattle.orc_plain_board.specs.Machine.{numbers}
 use Rattle.orc_fifo_rule.proofs.Later.{nothing_yet}
 use Rattle.orc_queue.proofs.Openings.{dummy_allowed}
 use Rattle.uses.proofs.queue.queue_over.Goals as goal

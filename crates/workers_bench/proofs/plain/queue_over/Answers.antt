@@ -1,7 +1,7 @@
 -- The domain begins with a dummy.
 use Rattle.std.proofs.Common.{◌≡◌, ap, arith}
 use Rattle.orc_words.specs.Bounds.{Bounds, bounds_of}
-use Rattle.orc_table.specs.Machine.{numbers}
+use Rattle.orc_plain_board.specs.Machine.{numbers}
 use Rattle.orc_fifo_rule.proofs.Later.{nothing_yet}
 use Rattle.orc_queue.proofs.Openings.{dummy_allowed}
 use Rattle.workers_bench.proofs.plain.queue_over.Goals as goal

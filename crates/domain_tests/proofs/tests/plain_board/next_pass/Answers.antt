@@ -1,6 +1,6 @@
 use Rattle.std.proofs.Common.{◌≡◌, None}
 use Rattle.std.proofs.lemmas.List.Elements.{All-pop}
-use Rattle.orc_table.specs.Views.{Belongs, shows}
+use Rattle.orc_plain_board.specs.Views.{Belongs, shows}
 use Rattle.domain_tests.proofs.tests.plain_board.next_pass.Goals as goal
 
 pub returns-clause-belongs : goal.returns-clause-belongs

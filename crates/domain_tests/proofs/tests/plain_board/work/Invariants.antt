@@ -1,5 +1,5 @@
 use Rattle.std.proofs.Common.{◌≡◌, ◌≤◌, None}
-use Rattle.orc_table.specs.Views.{Belongs, shows}
+use Rattle.orc_plain_board.specs.Views.{Belongs, shows}
 use Rattle.domain_tests.proofs.tests.plain_board.work.Given as goal
 
 abbrev pub invariant-loop-row : goal.invariant-loop-row

@@ -1,5 +1,5 @@
 use Rattle.std.proofs.Common.{◌≤◌, ◌∙◌, subst}
-use Rattle.orc_table.specs.Views.{shows}
+use Rattle.orc_plain_board.specs.Views.{shows}
 use Rattle.orc_plain_domain.proofs.Counting.{nodes_given, rows_at_most}
 use Rattle.orc_plain_domain.proofs.Growing.{tie}
 use Rattle.orc_plain_domain.specs.Passes.{domain_bounds, domain_numbers}

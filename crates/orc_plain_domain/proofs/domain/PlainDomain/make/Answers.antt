@@ -1,6 +1,6 @@
 use Rattle.std.proofs.Common.{arith, ◌∙◌, ◌≡◌}
 use Rattle.orc_heap.specs.Seeds.{opening_events}
-use Rattle.orc_table.specs.Views.{shows}
+use Rattle.orc_plain_board.specs.Views.{shows}
 use Rattle.orc_words.specs.Bounds.{bounds_of}
 use Rattle.orc_plain_domain.proofs.Making.{all_belong, all_idle, each_at, each_pass}
 use Rattle.orc_plain_domain.proofs.Turns.{first_rows}

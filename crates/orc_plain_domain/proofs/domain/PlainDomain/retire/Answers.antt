@@ -1,6 +1,6 @@
 use Rattle.std.proofs.Common.{◌≡◌, ◌∙◌, Option, Some, ap, refl, sym, subst, true, false, eqb, ℕ}
 use Rattle.std.specs.Option.{option_eq}
-use Rattle.orc_table.specs.Views.{PlainView, shows}
+use Rattle.orc_plain_board.specs.Views.{PlainView, shows}
 use Rattle.orc_plain_domain.proofs.Equal.{other_fresh, same_fresh, same_to}
 use Rattle.orc_plain_domain.specs.Passes.{domain_bounds}
 use Rattle.orc_plain_domain.proofs.domain.PlainDomain.retire.Goals as goal

@@ -1,6 +1,6 @@
 use Rattle.std.proofs.Common.{◌≢◌, ◌<◌, ◌∙◌, Some, ap, sym, subst}
-use Rattle.orc_table.specs.Calls.{KnowsTarget}
-use Rattle.orc_table.specs.Views.{shows}
+use Rattle.orc_plain_board.specs.Calls.{KnowsTarget}
+use Rattle.orc_plain_board.specs.Views.{shows}
 use Rattle.orc_words.specs.declared.packed.RowLink.{RowLink}
 use Rattle.orc_plain_domain.specs.Passes.{domain_bounds}
 use Rattle.orc_plain_domain.proofs.Aiming.{aims, may_aim}

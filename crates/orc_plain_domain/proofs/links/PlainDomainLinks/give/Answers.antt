@@ -1,7 +1,7 @@
 use Rattle.std.proofs.Common.{◌%◌, ◌+◌, ◌≡◌, ◌∙◌, ap, arith, refl, subst, sym}
 use Rattle.orc_heap.proofs.Pieces.{goes_on}
 use Rattle.orc_heap.specs.Slots.{Hold}
-use Rattle.orc_table.specs.Words.{IsOut}
+use Rattle.orc_plain_board.specs.Words.{IsOut}
 use Rattle.orc_plain_domain.specs.Passes.{domain_bounds, rows_of}
 use Rattle.orc_plain_domain.specs.Turns.{IsNext}
 use Rattle.orc_plain_domain.proofs.Giving.{gives, tried_all, tried_next, tried_none, tried_one}

@@ -1,6 +1,6 @@
 use Rattle.std.proofs.Common.{sym, subst}
-use Rattle.orc_table.specs.Calls.{KnowsPlace}
-use Rattle.orc_table.specs.Views.{shows}
+use Rattle.orc_plain_board.specs.Calls.{KnowsPlace}
+use Rattle.orc_plain_board.specs.Views.{shows}
 use Rattle.orc_plain_domain.specs.Passes.{domain_bounds}
 use Rattle.orc_plain_domain.proofs.Equal.{links_agree, links_differ}
 use Rattle.orc_plain_domain.proofs.Looking.{known_again, looks_held, looks_moved, looks_null, still_looked}

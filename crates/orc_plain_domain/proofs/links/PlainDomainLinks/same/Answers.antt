@@ -1,7 +1,7 @@
 use Rattle.std.proofs.Common.{◌∙◌, refl, sym, ap, subst, arith}
-use Rattle.orc_table.proofs.Lists.{some_one}
-use Rattle.orc_table.specs.Calls.{KnowsTarget, MayWhereShown, look_event}
-use Rattle.orc_table.specs.Views.{shows}
+use Rattle.orc_plain_board.proofs.Lists.{some_one}
+use Rattle.orc_plain_board.specs.Calls.{KnowsTarget, MayWhereShown, look_event}
+use Rattle.orc_plain_board.specs.Views.{shows}
 use Rattle.orc_words.specs.declared.packed.RowLink.{RowLink}
 use Rattle.orc_plain_domain.specs.Passes.{domain_bounds, domain_numbers}
 use Rattle.orc_plain_domain.proofs.Naming.{want_low}

@@ -1,7 +1,7 @@
 -- The discipline holds before all events, and the shape has a root for each bucket and one for their number.
 use Rattle.std.proofs.Common.{ap, ◌∙◌}
 use Rattle.orc_split_rule.proofs.Later.{nothing_yet}
-use Rattle.orc_table.specs.Machine.{numbers}
+use Rattle.orc_plain_board.specs.Machine.{numbers}
 use Rattle.orc_words.specs.Bounds.{Bounds, bounds_of}
 use Rattle.split_tests.proofs.tests.plain.new_set.Goals as goal
 
