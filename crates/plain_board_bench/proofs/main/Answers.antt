@@ -2,7 +2,7 @@ use Rattle.std.proofs.Common.{subst}
 use Rattle.std.proofs.lemmas.List.Elements.{All-pop}
 use Rattle.std.specs.Prelude.{IfSome}
 use Rattle.orc_plain_board.specs.Views.{Belongs}
-use Rattle.board_bench.proofs.main.Goals as goal
+use Rattle.plain_board_bench.proofs.main.Goals as goal
 
 pub load_links-links-requires-clause-belongs : goal.load_links-links-requires-clause-belongs
 load_links-links-requires-clause-belongs c =
