@@ -39,7 +39,7 @@ FAULTS = (
      '    if turns == 0 {\n        return Err(QueueRefused::Again);\n',
      '    if job % 1000 == 8 {\n        return Ok(job % 65536);\n    }\n    if turns == 0 {\n        return Err(QueueRefused::Again);\n'),
     ('a node that was not linked is let go and not given up', '--container queue --turns 1 --rows 24',
-     'orc_reclaiming_domain/src/links.rt',
+     'orc_domain/src/links.rt',
      '        self.give_up(&mut p.pass, h.row());\n        self.unlock(&mut p.pass, h.slot());\n        h.end();',
      '        self.unlock(&mut p.pass, h.slot());\n        h.end();'),
     ('contains lies about some keys', '--container set --mix 34/33/33 --keys 64 --roots 4',

@@ -5,8 +5,8 @@ use Rattle.orc_chain_rule.specs.declared.chain.Chain.{Chain}
 use Rattle.orc_chain_rule.specs.declared.chain.ChainNote.{ChainNote}
 use Rattle.orc_fifo_rule.specs.declared.fifo.Fifo.{Fifo}
 use Rattle.orc_fifo_rule.specs.declared.fifo.FifoNote.{FifoNote}
-use Rattle.orc_reclaiming_domain.specs.Passes.{domain_bounds}
-use Rattle.orc_reclaiming_domain.specs.declared.domain.OrcDomain.{OrcDomain}
+use Rattle.orc_domain.specs.Passes.{domain_bounds}
+use Rattle.orc_domain.specs.declared.domain.OrcDomain.{OrcDomain}
 use Rattle.orc_shared_words.specs.Lists.{EachAt}
 use Rattle.orc_split_rule.specs.declared.split.Split.{Split}
 use Rattle.orc_split_rule.specs.declared.split.SplitNote.{SplitNote}

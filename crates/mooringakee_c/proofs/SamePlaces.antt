@@ -1,6 +1,6 @@
 -- Places for the passes of one domain.
 use Rattle.std.proofs.Common.{List, subst, ◌≡◌}
-use Rattle.orc_reclaiming_domain.specs.declared.domain.OrcDomain.{OrcDomain}
+use Rattle.orc_domain.specs.declared.domain.OrcDomain.{OrcDomain}
 use Rattle.mooringakee_c.specs.Ending.{ArePlacesOf}
 
 -- the same places, of the same domain

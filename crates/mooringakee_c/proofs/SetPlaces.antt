@@ -15,10 +15,10 @@ use Rattle.orc_projection.specs.Mirror.{numbers_of}
 use Rattle.orc_projection.specs.Projection.{project}
 use Rattle.orc_list.specs.Causes.{Cause}
 use Rattle.orc_list.specs.Laws.SetLaws.{seen_legal}
-use Rattle.orc_reclaiming_domain.specs.Causes.{IsLacking, IsWornIn}
-use Rattle.orc_reclaiming_domain.specs.Laws.Passes.{all_allowed, all_below, all_obey}
-use Rattle.orc_reclaiming_domain.specs.Passes.{IsPassOf, domain_bounds, domain_numbers, journal_of, seat_of}
-use Rattle.orc_reclaiming_domain.specs.declared.domain.OrcDomain.{OrcDomain}
+use Rattle.orc_domain.specs.Causes.{IsLacking, IsWornIn}
+use Rattle.orc_domain.specs.Laws.Passes.{all_allowed, all_below, all_obey}
+use Rattle.orc_domain.specs.Passes.{IsPassOf, domain_bounds, domain_numbers, journal_of, seat_of}
+use Rattle.orc_domain.specs.declared.domain.OrcDomain.{OrcDomain}
 use Rattle.orc_sound.specs.declared.steps.Step.{Step}
 use Rattle.mooringakee_c.specs.Ending.{ArePlacesOf}
 use Rattle.mooringakee_c.specs.Making.{IsNewSetSeat}

@@ -16,10 +16,10 @@ use Rattle.orc_history.specs.declared.set.SetEntry.{SetEntry}
 use Rattle.orc_history.specs.declared.set.ListRefused.{ListRefused}
 use Rattle.orc_projection.specs.Projection.{project}
 use Rattle.orc_ordered_search.specs.Causes.{Cause}
-use Rattle.orc_reclaiming_domain.specs.Causes.{IsLacking, IsWornIn}
-use Rattle.orc_reclaiming_domain.specs.Laws.Passes.{all_allowed, all_below, all_obey}
-use Rattle.orc_reclaiming_domain.specs.Passes.{IsPassOf, domain_bounds, domain_numbers, journal_of, seat_of}
-use Rattle.orc_reclaiming_domain.specs.declared.domain.OrcDomain.{OrcDomain}
+use Rattle.orc_domain.specs.Causes.{IsLacking, IsWornIn}
+use Rattle.orc_domain.specs.Laws.Passes.{all_allowed, all_below, all_obey}
+use Rattle.orc_domain.specs.Passes.{IsPassOf, domain_bounds, domain_numbers, journal_of, seat_of}
+use Rattle.orc_domain.specs.declared.domain.OrcDomain.{OrcDomain}
 use Rattle.orc_split_set.specs.Laws.SetLaws.{seen_legal}
 use Rattle.orc_sound.specs.declared.steps.Step.{Step}
 use Rattle.mooringakee_c.specs.Ending.{ArePlacesOf}

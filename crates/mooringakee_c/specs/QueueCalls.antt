@@ -8,8 +8,8 @@ use Rattle.orc_history.specs.declared.queue.QueueRefused.{QueueRefused}
 use Rattle.orc_history.specs.declared.queue.QueueRefused.TheVariants.{Again as UsedTurns, NoNode, Positions as UsedPositions}
 use Rattle.orc_projection.specs.Projection.{project}
 use Rattle.orc_queue.specs.Causes.{Cause}
-use Rattle.orc_reclaiming_domain.specs.Causes.{IsLacking}
-use Rattle.orc_reclaiming_domain.specs.Passes.{domain_bounds, journal_of}
+use Rattle.orc_domain.specs.Causes.{IsLacking}
+use Rattle.orc_domain.specs.Passes.{domain_bounds, journal_of}
 use Rattle.mooringakee_c.specs.declared.answer.Answer.{Answer}
 use Rattle.mooringakee_c.specs.declared.answer.Answer.TheVariants.{Again, Done, Empty, Full, Positions}
 use Rattle.mooringakee_c.specs.declared.queue.QueueSeat.{QueueSeat}

@@ -6,7 +6,7 @@ use Rattle.orc_heap.specs.Journals.{run_heap}
 use Rattle.orc_heap.specs.Seats.{IsIdle}
 use Rattle.orc_history.specs.declared.queue.QueueEntry.{QueueEntry}
 use Rattle.orc_projection.specs.Projection.{project}
-use Rattle.orc_reclaiming_domain.specs.Passes.{IsPassOf, domain_bounds, domain_numbers, domain_opening, journal_of, seat_of}
+use Rattle.orc_domain.specs.Passes.{IsPassOf, domain_bounds, domain_numbers, domain_opening, journal_of, seat_of}
 use Rattle.mooringakee_c.specs.Ending.{ArePlacesOf}
 use Rattle.mooringakee_c.specs.declared.queue.QueueSeat.{QueueSeat}
 

@@ -8,8 +8,8 @@ use Rattle.orc_history.specs.declared.set.SetEntry.{SetEntry}
 use Rattle.orc_list.specs.Causes.{Cause}
 use Rattle.orc_projection.specs.Mirror.{numbers_of}
 use Rattle.orc_projection.specs.Projection.{project}
-use Rattle.orc_reclaiming_domain.specs.Causes.{IsLacking, IsWornIn}
-use Rattle.orc_reclaiming_domain.specs.Passes.{IsPassOf, domain_bounds, journal_of, seat_of}
+use Rattle.orc_domain.specs.Causes.{IsLacking, IsWornIn}
+use Rattle.orc_domain.specs.Passes.{IsPassOf, domain_bounds, journal_of, seat_of}
 use Rattle.mooringakee_c.specs.Ending.{ArePlacesOf}
 use Rattle.mooringakee_c.specs.SetCalls.{SetView}
 use Rattle.mooringakee_c.specs.declared.set.SetSeat.{SetSeat}

@@ -3,7 +3,7 @@ use Rattle.std.specs.Prelude.{None, Option, Some, [], ℕ, ◌≡◌}
 use Rattle.orc_history.specs.Parts.{IsAlone}
 use Rattle.orc_machine_board.specs.Passes.{backlog_in}
 use Rattle.orc_machine_board.specs.Views.{shows}
-use Rattle.orc_reclaiming_domain.specs.Passes.{journal_of}
+use Rattle.orc_domain.specs.Passes.{journal_of}
 use Rattle.mooringakee_c.specs.declared.answer.Answer.{Answer}
 use Rattle.mooringakee_c.specs.declared.answer.Answer.TheVariants.{Done, Kept, NoMemory, NoPass, Others}
 use Rattle.mooringakee_c.specs.declared.seat.Seat.{Seat}

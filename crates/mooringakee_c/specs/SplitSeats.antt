@@ -6,8 +6,8 @@ use Rattle.orc_history.specs.declared.set.ListRefused.{ListRefused}
 use Rattle.orc_history.specs.declared.set.SetEntry.{SetEntry}
 use Rattle.orc_ordered_search.specs.Causes.{Cause}
 use Rattle.orc_projection.specs.Projection.{project}
-use Rattle.orc_reclaiming_domain.specs.Causes.{IsLacking, IsWornIn}
-use Rattle.orc_reclaiming_domain.specs.Passes.{IsPassOf, domain_bounds, domain_numbers, journal_of, seat_of}
+use Rattle.orc_domain.specs.Causes.{IsLacking, IsWornIn}
+use Rattle.orc_domain.specs.Passes.{IsPassOf, domain_bounds, domain_numbers, journal_of, seat_of}
 use Rattle.orc_split_rule.specs.SplitDiscipline.{IsSize, entries_of, greatest, size_of}
 use Rattle.mooringakee_c.specs.Ending.{ArePlacesOf}
 use Rattle.mooringakee_c.specs.SetCalls.{SetView}

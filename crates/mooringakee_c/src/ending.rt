@@ -4,15 +4,15 @@ ghost use Rattle.std.specs.Prelude.{◌≡◌, All, IfOk, IsTrue, length};
 ghost use Rattle.given_back.specs.Places.{tags};
 ghost use Rattle.orc_heap.specs.Seats.{IsIdle};
 ghost use Rattle.orc_machine_board.specs.Rules.{run_of};
-ghost use Rattle.orc_reclaiming_domain.specs.Ends.{AreAll, AreIdle, SawAll, whole_journal};
-ghost use Rattle.orc_reclaiming_domain.specs.Passes.{IsPassOf, domain_bounds, seat_of};
+ghost use Rattle.orc_domain.specs.Ends.{AreAll, AreIdle, SawAll, whole_journal};
+ghost use Rattle.orc_domain.specs.Passes.{IsPassOf, domain_bounds, seat_of};
 ghost use Rattle.orc_rest.specs.Rest.{IsAtRest};
 ghost use Rattle.orc_shared_words.specs.Lists.{EachAt};
 ghost use Rattle.mooringakee_c.specs.Ending.{ArePlacesOf, TellsRows};
 
 use given_back::{GivenBack, Keeps, Unfinished};
 use orc_heap::{Discipline, Links};
-use orc_reclaiming_domain::{OrcDomain, OrcPass};
+use orc_domain::{OrcDomain, OrcPass};
 use std::alloc::Global;
 
 /// The rule of passes that are given back: each is one of the domain, and idle.

@@ -13,7 +13,7 @@ use orc_fifo_rule::Fifo;
 use orc_heap::Links;
 use orc_history::{QueueRefused, SharedQueue};
 use orc_queue::Queue;
-use orc_reclaiming_domain::{OrcDomain, OrcPass};
+use orc_domain::{OrcDomain, OrcPass};
 use std::alloc::Global;
 use std::sync::Arc;
 

@@ -12,7 +12,7 @@ use given_back::Unfinished;
 use orc_chain_rule::Chain;
 use orc_heap::Links;
 use orc_history::{ListRefused, SharedSet};
-use orc_reclaiming_domain::{OrcDomain, OrcPass};
+use orc_domain::{OrcDomain, OrcPass};
 use orc_set::Set;
 use std::alloc::Global;
 use std::sync::Arc;

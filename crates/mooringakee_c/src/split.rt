@@ -12,7 +12,7 @@ use crate::ending::{Counts, Places, end};
 use given_back::Unfinished;
 use orc_heap::Links;
 use orc_history::{ListRefused, SharedSet};
-use orc_reclaiming_domain::{OrcDomain, OrcPass};
+use orc_domain::{OrcDomain, OrcPass};
 use orc_split_rule::Split;
 use orc_split_set::SplitSet;
 use std::alloc::Global;

@@ -8,12 +8,12 @@ use Rattle.orc_machine_board.specs.Rules.{run_of}
 use Rattle.orc_machine_board.specs.declared.machine.MachineShape.{MachineShape}
 use Rattle.orc_machine_board.specs.declared.machine.Reclaiming.{Reclaiming}
 use Rattle.orc_machine_board.specs.declared.machine.Request.{Request}
-use Rattle.orc_reclaiming_domain.specs.Ends.{AreAll, AreIdle as AreIdlePasses}
-use Rattle.orc_reclaiming_domain.specs.Passes.{IsPassOf, domain_bounds, seat_of}
-use Rattle.orc_reclaiming_domain.specs.Rest.{IsShown, rest_domain, rest_journal}
-use Rattle.orc_reclaiming_domain.specs.declared.at_rest.OrcRest.{OrcRest}
-use Rattle.orc_reclaiming_domain.specs.declared.domain.OrcDomain.{OrcDomain}
-use Rattle.orc_reclaiming_domain.specs.declared.domain.OrcPass.{OrcPass}
+use Rattle.orc_domain.specs.Ends.{AreAll, AreIdle as AreIdlePasses}
+use Rattle.orc_domain.specs.Passes.{IsPassOf, domain_bounds, seat_of}
+use Rattle.orc_domain.specs.Rest.{IsShown, rest_domain, rest_journal}
+use Rattle.orc_domain.specs.declared.at_rest.OrcRest.{OrcRest}
+use Rattle.orc_domain.specs.declared.domain.OrcDomain.{OrcDomain}
+use Rattle.orc_domain.specs.declared.domain.OrcPass.{OrcPass}
 use Rattle.orc_rest.specs.Rest.{IsAtRest}
 use Rattle.orc_shared_words.specs.declared.machine.Machine as machine
 use Rattle.orc_sound.specs.declared.steps.Step.{Step}

@@ -5,14 +5,14 @@ ghost use mathlib.Core.List.{IsPrefix};
 ghost use Rattle.orc_at_rest.specs.Journals.{GoesOnQuietly};
 ghost use Rattle.orc_machine_board.specs.Rules.{run_of};
 ghost use Rattle.orc_projection.specs.Projection.{project};
-ghost use Rattle.orc_reclaiming_domain.specs.Ends.{AreAll, AreIdle, SawAll, whole_journal};
-ghost use Rattle.orc_reclaiming_domain.specs.Passes.{domain_bounds, journal_of};
-ghost use Rattle.orc_reclaiming_domain.specs.Rest.{IsShown, rest_domain, rest_journal};
+ghost use Rattle.orc_domain.specs.Ends.{AreAll, AreIdle, SawAll, whole_journal};
+ghost use Rattle.orc_domain.specs.Passes.{domain_bounds, journal_of};
+ghost use Rattle.orc_domain.specs.Rest.{IsShown, rest_domain, rest_journal};
 ghost use Rattle.orc_rest.specs.Rest.{IsAtRest};
 ghost use Rattle.orc_sound.specs.declared.steps.Step.{Step};
 
 use orc_heap::Discipline;
-use orc_reclaiming_domain::{OrcDomain, OrcPass, OrcRest};
+use orc_domain::{OrcDomain, OrcPass, OrcRest};
 
 /// Lets all passes of a domain drain, which have to be idle and in order of agent, and ends the sharing. What they had seen goes on
 /// without an event. It takes no memory.

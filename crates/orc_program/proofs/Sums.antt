@@ -16,7 +16,7 @@ use Rattle.orc_run.specs.Runs.{Follow, FollowWith, queue_bounds, set_bounds}
 use Rattle.orc_run.specs.declared.run.Finished.{Finished}
 use Rattle.orc_run.specs.declared.set.SetRest.{SetRest}
 use Rattle.orc_run.specs.declared.set.SetRest.TheVariants as at_rest
-use Rattle.orc_reclaiming_domain.specs.Rest.{rest_journal}
+use Rattle.orc_domain.specs.Rest.{rest_journal}
 use Rattle.orc_program.specs.declared.ended.Ended.{Ended}
 use Rattle.orc_program.specs.Ended.{HasSummed, Keeps, generated_lines}
 use Rattle.orc_program.specs.Headline.{WorkedThrough, set_of}

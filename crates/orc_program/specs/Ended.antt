@@ -10,8 +10,8 @@ use Rattle.orc_at_rest.specs.Reuse.{LeaksNothing, ReusesSafely}
 use Rattle.orc_board.specs.Stretches.{pick}
 use Rattle.orc_core.specs.Machine.{new_machine}
 use Rattle.orc_machine_board.specs.Rules.{run_of}
-use Rattle.orc_reclaiming_domain.specs.Passes.{domain_bounds}
-use Rattle.orc_reclaiming_domain.specs.Rest.{rest_domain, rest_journal}
+use Rattle.orc_domain.specs.Passes.{domain_bounds}
+use Rattle.orc_domain.specs.Rest.{rest_domain, rest_journal}
 use Rattle.orc_rest.specs.Reuse.{given, reused, rows_out}
 use Rattle.orc_run.specs.Runs.{EndsWithoutLeak, ReusesRowsSafely}
 use Rattle.orc_run.specs.declared.run.Finished.{Finished}

@@ -4,8 +4,8 @@ use Rattle.orc_core.specs.Machine.{new_machine}
 use Rattle.orc_sound.specs.Journals.{plain}
 use Rattle.orc_rest.specs.Reuse.{given, reused, rows_out}
 use Rattle.orc_machine_board.specs.Rules.{run_of}
-use Rattle.orc_reclaiming_domain.specs.Passes.{domain_bounds}
-use Rattle.orc_reclaiming_domain.specs.Rest.{rest_domain, rest_journal}
+use Rattle.orc_domain.specs.Passes.{domain_bounds}
+use Rattle.orc_domain.specs.Rest.{rest_domain, rest_journal}
 use Rattle.orc_jobs.specs.declared.line.Line.{Line}
 use Rattle.orc_report.specs.declared.report.RestNumbers.{RestNumbers}
 use Rattle.orc_report.specs.Report.{report_of}

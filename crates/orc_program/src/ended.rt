@@ -5,7 +5,7 @@ use orc_board::Replies;
 use orc_chain_rule::Chain;
 use orc_fifo_rule::Fifo;
 use orc_pairs_rule::Pairs;
-use orc_reclaiming_domain::OrcRest;
+use orc_domain::OrcRest;
 use orc_run::{Finished, SetRest};
 use orc_split_rule::Split;
 use orc_stages_run::{RestList, StagesFinished};

@@ -26,10 +26,10 @@ use Rattle.orc_machine_board.specs.Views.{board_seed}
 use Rattle.orc_machine_board.specs.declared.machine.MachineShape.{MachineShape}
 use Rattle.orc_machine_board.specs.declared.machine.Reclaiming.{Reclaiming}
 use Rattle.orc_machine_board.specs.declared.machine.Request.{Request}
-use Rattle.orc_reclaiming_domain.specs.Passes.{domain_bounds}
-use Rattle.orc_reclaiming_domain.specs.Rest.{IsShown, rest_domain, rest_journal}
-use Rattle.orc_reclaiming_domain.specs.declared.at_rest.OrcRest.{OrcRest}
-use Rattle.orc_reclaiming_domain.specs.declared.domain.OrcDomain.{OrcDomain}
+use Rattle.orc_domain.specs.Passes.{domain_bounds}
+use Rattle.orc_domain.specs.Rest.{IsShown, rest_domain, rest_journal}
+use Rattle.orc_domain.specs.declared.at_rest.OrcRest.{OrcRest}
+use Rattle.orc_domain.specs.declared.domain.OrcDomain.{OrcDomain}
 use Rattle.orc_run.proofs.Reusing.{reuses_safely}
 use Rattle.orc_run.specs.Journals.{HasJournal, IsLeft}
 use Rattle.orc_run.specs.Reuse.{LeaksNothing, ReusesSafely}

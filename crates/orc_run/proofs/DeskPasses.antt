@@ -9,8 +9,8 @@ use Rattle.orc_board.specs.declared.desk.Desk.{Desk}
 use Rattle.orc_board.specs.Desk.{IsDesk, seen_in}
 use Rattle.orc_board.specs.Stretches.{pick}
 use Rattle.orc_machine_board.specs.Rules.{run_of}
-use Rattle.orc_reclaiming_domain.specs.Rest.{IsShown, rest_domain, rest_journal}
-use Rattle.orc_reclaiming_domain.specs.declared.at_rest.OrcRest.{OrcRest}
+use Rattle.orc_domain.specs.Rest.{IsShown, rest_domain, rest_journal}
+use Rattle.orc_domain.specs.declared.at_rest.OrcRest.{OrcRest}
 use Rattle.orc_rest.specs.Rest.{IsAtRest}
 use Rattle.orc_run.specs.Journals.{GoesOnQuietly, IsLeft}
 use Rattle.orc_workers.specs.Desks.{AreIdle, HaveSeenTheSame, queue_seen, set_seen}
@@ -22,10 +22,10 @@ use Rattle.orc_shared_words.specs.declared.machine.Machine as machine
 use Rattle.orc_machine_board.specs.declared.machine.MachineShape.{MachineShape}
 use Rattle.orc_machine_board.specs.declared.machine.Reclaiming.{Reclaiming}
 use Rattle.orc_machine_board.specs.declared.machine.Request.{Request}
-use Rattle.orc_reclaiming_domain.specs.Ends.{AreAll, AreIdle as AreIdlePasses}
-use Rattle.orc_reclaiming_domain.specs.Passes.{IsPassOf, domain_bounds, journal_of, seat_of}
-use Rattle.orc_reclaiming_domain.specs.declared.domain.OrcDomain.{OrcDomain}
-use Rattle.orc_reclaiming_domain.specs.declared.domain.OrcPass.{OrcPass}
+use Rattle.orc_domain.specs.Ends.{AreAll, AreIdle as AreIdlePasses}
+use Rattle.orc_domain.specs.Passes.{IsPassOf, domain_bounds, journal_of, seat_of}
+use Rattle.orc_domain.specs.declared.domain.OrcDomain.{OrcDomain}
+use Rattle.orc_domain.specs.declared.domain.OrcPass.{OrcPass}
 
 -- usable passes of a container, so many, in order of agent
 pub record ArePasses {X : Type 0} (is_usable : X → Type 0) (agent_of : X → ℕ) (many_are : ℕ) (ps : List X) : Type 0 where

@@ -14,7 +14,7 @@ use Rattle.orc_chain_rule.specs.ChainDiscipline.{entries_of as set_entries_of}
 use Rattle.orc_chain_rule.specs.declared.chain.ChainNote.{ChainNote}
 use Rattle.orc_split_rule.specs.SplitDiscipline.{entries_of as split_entries_of}
 use Rattle.orc_split_rule.specs.declared.split.SplitNote.{SplitNote}
-use Rattle.orc_reclaiming_domain.specs.Causes.{IsLacking, IsWornIn}
+use Rattle.orc_domain.specs.Causes.{IsLacking, IsWornIn}
 use Rattle.orc_queue.specs.Causes.{Cause}
 use Rattle.orc_list.specs.Causes.{Cause as SetCause}
 use Rattle.orc_ordered_search.specs.Causes.{Cause as SplitCause}

@@ -12,8 +12,8 @@ use Rattle.orc_fifo_rule.specs.QueueDiscipline.{FifoMay}
 use Rattle.orc_fifo_rule.specs.declared.fifo.FifoNote.{FifoNote}
 use Rattle.orc_history.specs.declared.set.ListRefused.{ListRefused}
 use Rattle.orc_history.specs.declared.set.SetEntry.{SetEntry}
-use Rattle.orc_reclaiming_domain.specs.Rest.{rest_journal}
-use Rattle.orc_reclaiming_domain.specs.declared.at_rest.OrcRest.{OrcRest}
+use Rattle.orc_domain.specs.Rest.{rest_journal}
+use Rattle.orc_domain.specs.declared.at_rest.OrcRest.{OrcRest}
 use Rattle.orc_jobs.specs.declared.line.Line.{Line}
 use Rattle.orc_board.specs.Runs.{Ran}
 use Rattle.orc_board.specs.Stretches.{View, pick}

@@ -7,8 +7,8 @@ use Rattle.orc_machine_board.specs.Rules.{run_of}
 use Rattle.orc_rest.specs.Reuse.{given, reused, rows_out}
 use Rattle.orc_chain_rule.specs.ChainDiscipline.{ChainMay}
 use Rattle.orc_split_rule.specs.SplitDiscipline.{SplitMay}
-use Rattle.orc_reclaiming_domain.specs.Passes.{domain_bounds}
-use Rattle.orc_reclaiming_domain.specs.Rest.{rest_domain, rest_journal}
+use Rattle.orc_domain.specs.Passes.{domain_bounds}
+use Rattle.orc_domain.specs.Rest.{rest_domain, rest_journal}
 use Rattle.orc_run.specs.declared.set.SetChoice.{SetChoice}
 use Rattle.orc_run.specs.declared.set.SetChoice.TheVariants as choice
 use Rattle.orc_run.specs.declared.set.SetRest.{SetRest}

@@ -3,7 +3,7 @@
 ghost use Rattle.std.specs.Prelude.{◌≡◌, ◌+◌, ◌<◌, ◌≤◌, ℕ, [], All, IfOk, length, slice_index_or};
 ghost use Rattle.orc_words.specs.Bounds.{bounds_of};
 ghost use Rattle.orc_machine_board.specs.Views.{board_seed};
-ghost use Rattle.orc_reclaiming_domain.specs.Passes.{domain_bounds};
+ghost use Rattle.orc_domain.specs.Passes.{domain_bounds};
 ghost use Rattle.orc_run.specs.Domains.{empty_seed, most_buckets, queue_seed, run_bounds};
 
 use crate::lists::{ListsPass, RunLists};
@@ -15,7 +15,7 @@ use orc_heap::Seed;
 use orc_history::{LearnQueue, LearnSet, SharedQueue, SharedSet};
 use orc_list::List;
 use orc_queue::Queue;
-use orc_reclaiming_domain::OrcDomain;
+use orc_domain::OrcDomain;
 use orc_set::Set;
 use orc_split_set::SplitSet;
 use orc_words::Shape;

@@ -4,9 +4,9 @@ ghost use Rattle.std.specs.Prelude.{◌≡◌, ◌<◌, ◌≤◌, ℕ, [], All,
 ghost use mathlib.Core.List.{IsPrefix};
 ghost use Rattle.orc_machine_board.specs.Rules.{run_of};
 ghost use Rattle.orc_projection.specs.Projection.{project};
-ghost use Rattle.orc_reclaiming_domain.specs.Ends.{AreAll, AreIdle, SawAll, whole_journal};
-ghost use Rattle.orc_reclaiming_domain.specs.Passes.{domain_bounds, journal_of};
-ghost use Rattle.orc_reclaiming_domain.specs.Rest.{IsShown, rest_domain, rest_journal};
+ghost use Rattle.orc_domain.specs.Ends.{AreAll, AreIdle, SawAll, whole_journal};
+ghost use Rattle.orc_domain.specs.Passes.{domain_bounds, journal_of};
+ghost use Rattle.orc_domain.specs.Rest.{IsShown, rest_domain, rest_journal};
 ghost use Rattle.orc_rest.specs.Rest.{IsAtRest};
 ghost use Rattle.orc_run.specs.Journals.{GoesOnQuietly, IsLeft};
 ghost use Rattle.orc_sound.specs.declared.steps.Step.{Step};
@@ -18,7 +18,7 @@ use orc_board::Desk;
 use orc_fifo_rule::Fifo;
 use orc_heap::Discipline;
 use orc_history::{SharedQueue, SharedSet};
-use orc_reclaiming_domain::{OrcDomain, OrcPass, OrcRest};
+use orc_domain::{OrcDomain, OrcPass, OrcRest};
 
 /// Both queues at rest, and the passes of the set.
 #[derive(Drop)]

@@ -5,17 +5,17 @@ ghost use Rattle.orc_fifo_rule.specs.QueueDiscipline.{position_of};
 ghost use Rattle.orc_heap.specs.Journals.{run_heap};
 ghost use Rattle.orc_projection.specs.Projection.{project};
 ghost use Rattle.orc_queue.specs.Laws.Histories.{cause_puts, cause_stays, entries_below, history_grows, seen_legal};
-ghost use Rattle.orc_reclaiming_domain.specs.Causes.{IsLacking};
-ghost use Rattle.orc_reclaiming_domain.specs.Laws.Adding.{one_more};
-ghost use Rattle.orc_reclaiming_domain.specs.Laws.Lasting.{lacking_later};
-ghost use Rattle.orc_reclaiming_domain.specs.Laws.Passes.{all_allowed, all_below, all_obey, begins_so};
-ghost use Rattle.orc_reclaiming_domain.specs.Passes.{domain_bounds, domain_numbers, domain_opening, journal_of, seat_of};
+ghost use Rattle.orc_domain.specs.Causes.{IsLacking};
+ghost use Rattle.orc_domain.specs.Laws.Adding.{one_more};
+ghost use Rattle.orc_domain.specs.Laws.Lasting.{lacking_later};
+ghost use Rattle.orc_domain.specs.Laws.Passes.{all_allowed, all_below, all_obey, begins_so};
+ghost use Rattle.orc_domain.specs.Passes.{domain_bounds, domain_numbers, domain_opening, journal_of, seat_of};
 
 use orc_fault::Again;
 use orc_fifo_rule::{Fifo, FifoNote};
 use orc_history::{LearnQueue, QueueRefused, SharedQueue};
 use orc_queue::Queue;
-use orc_reclaiming_domain::{OrcDomain, OrcPass};
+use orc_domain::{OrcDomain, OrcPass};
 use orc_sound::Step;
 
 /// Michael and Scott's queue over a reclaiming domain.

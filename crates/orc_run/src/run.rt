@@ -14,7 +14,7 @@ use orc_board::{Gate, Replies};
 use orc_fault::NoMemory;
 use orc_fifo_rule::Fifo;
 use orc_jobs::Lines;
-use orc_reclaiming_domain::OrcRest;
+use orc_domain::OrcRest;
 use std::alloc::Global;
 use std::sync::Wait;
 use std::thread::Threads;

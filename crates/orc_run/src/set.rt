@@ -4,7 +4,7 @@ ghost use Rattle.std.specs.Prelude.{◌≡◌};
 ghost use Rattle.orc_run.specs.Sets.{set_given, set_linked, set_reused};
 
 use orc_chain_rule::Chain;
-use orc_reclaiming_domain::OrcRest;
+use orc_domain::OrcRest;
 use orc_split_rule::Split;
 
 /// Which set a run has.

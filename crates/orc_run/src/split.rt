@@ -3,15 +3,15 @@
 ghost use Rattle.std.specs.Prelude.{◌≡◌, refl};
 ghost use Rattle.orc_split_set.specs.Laws.SetLaws.{cause_stays, entries_below, history_grows, seen_legal};
 ghost use Rattle.orc_projection.specs.Projection.{project};
-ghost use Rattle.orc_reclaiming_domain.specs.Causes.{IsLacking, IsWornIn};
-ghost use Rattle.orc_reclaiming_domain.specs.Laws.Adding.{one_more};
-ghost use Rattle.orc_reclaiming_domain.specs.Laws.Lasting.{lacking_later, worn_later};
-ghost use Rattle.orc_reclaiming_domain.specs.Laws.Passes.{all_allowed, all_below, all_obey};
-ghost use Rattle.orc_reclaiming_domain.specs.Passes.{domain_bounds, domain_numbers, journal_of, seat_of};
+ghost use Rattle.orc_domain.specs.Causes.{IsLacking, IsWornIn};
+ghost use Rattle.orc_domain.specs.Laws.Adding.{one_more};
+ghost use Rattle.orc_domain.specs.Laws.Lasting.{lacking_later, worn_later};
+ghost use Rattle.orc_domain.specs.Laws.Passes.{all_allowed, all_below, all_obey};
+ghost use Rattle.orc_domain.specs.Passes.{domain_bounds, domain_numbers, journal_of, seat_of};
 
 use orc_fault::Again;
 use orc_history::{LearnSet, ListRefused, SharedSet};
-use orc_reclaiming_domain::{OrcDomain, OrcPass};
+use orc_domain::{OrcDomain, OrcPass};
 use orc_sound::Step;
 use orc_split_rule::{Split, SplitNote};
 use orc_split_set::SplitSet;

@@ -15,7 +15,7 @@ use orc_fault::NoMemory;
 use orc_fifo_rule::Fifo;
 use orc_history::LearnSet;
 use orc_jobs::Lines;
-use orc_reclaiming_domain::OrcRest;
+use orc_domain::OrcRest;
 use orc_workers::{fresh_desks, run_at_desks};
 use std::alloc::Global;
 use std::sync::Wait;

@@ -12,7 +12,7 @@ use Rattle.orc_machine_board.specs.declared.machine.Reclaiming.{Reclaiming}
 use Rattle.orc_machine_board.specs.declared.machine.Request.{Request}
 use Rattle.orc_fifo_rule.specs.declared.fifo.Fifo.{Fifo}
 use Rattle.orc_fifo_rule.specs.declared.fifo.FifoNote.{FifoNote}
-use Rattle.orc_reclaiming_domain.specs.declared.at_rest.OrcRest.{OrcRest}
+use Rattle.orc_domain.specs.declared.at_rest.OrcRest.{OrcRest}
 use Rattle.orc_stages.specs.Run.{AreIdle, HaveSeen, StandAhead, TookFirst}
 use Rattle.orc_stages.specs.declared.replies.StageDesk.{StageDesk}
 use Rattle.orc_stages.proofs.Taken.{ahead_many, taken_passes, taken_seen}

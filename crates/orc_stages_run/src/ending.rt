@@ -11,7 +11,7 @@ use orc_board::ReplyList;
 use orc_fault::NoMemory;
 use orc_fifo_rule::Fifo;
 use orc_history::SharedQueue;
-use orc_reclaiming_domain::OrcRest;
+use orc_domain::OrcRest;
 use orc_run::{QueuePass, RunQueue, bring_to_rest};
 use orc_stages::{StageDesk, take_first};
 use std::alloc::Global;

@@ -8,7 +8,7 @@ use Rattle.orc_pairs_rule.specs.PairsDiscipline.{entries_of}
 use Rattle.orc_pairs_rule.specs.declared.entry.CellEntry.{CellEntry}
 use Rattle.orc_pairs_rule.specs.declared.pairs.PairsNote.{PairsNote}
 use Rattle.orc_projection.specs.Projection.{project}
-use Rattle.orc_reclaiming_domain.specs.Causes.{IsLacking, IsWornIn}
+use Rattle.orc_domain.specs.Causes.{IsLacking, IsWornIn}
 use Rattle.orc_sound.specs.declared.steps.Step.{Step}
 use Rattle.orc_words.specs.Bounds.{Bounds}
 

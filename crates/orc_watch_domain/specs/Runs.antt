@@ -4,7 +4,7 @@ use Rattle.orc_at_rest.specs.Journals.{HasJournal}
 use Rattle.orc_at_rest.specs.Reuse.{LeaksNothing, ReusesSafely}
 use Rattle.orc_heap.specs.declared.seed.Seed.TheVariants.{Empty}
 use Rattle.orc_pairs_rule.specs.PairsDiscipline.{PairsMay}
-use Rattle.orc_reclaiming_domain.specs.Rest.{rest_journal}
+use Rattle.orc_domain.specs.Rest.{rest_journal}
 use Rattle.orc_watch.specs.declared.line.WatchLine.{WatchLine}
 use Rattle.orc_watch_domain.specs.Cells.{cell_bounds, cell_over}
 use Rattle.orc_watch_domain.specs.declared.watch.WatchFinished.{WatchFinished}

@@ -3,7 +3,7 @@
 ghost use Rattle.std.specs.Prelude.{◌≡◌, ◌≤◌, IfOk, length};
 ghost use Rattle.orc_heap.specs.declared.seed.Seed.TheVariants.{Empty};
 ghost use Rattle.orc_machine_board.specs.Views.{board_seed};
-ghost use Rattle.orc_reclaiming_domain.specs.Passes.{domain_bounds};
+ghost use Rattle.orc_domain.specs.Passes.{domain_bounds};
 ghost use Rattle.orc_watch_domain.specs.Cells.{cell_bounds};
 ghost use Rattle.orc_watch_run.specs.Passes.{AreFresh};
 ghost use Rattle.orc_words.specs.Bounds.{bounds_of};
@@ -12,7 +12,7 @@ use orc_cell::Cell;
 use orc_fault::NoMemory;
 use orc_heap::{Links, Seed};
 use orc_pairs_rule::Pairs;
-use orc_reclaiming_domain::{OrcDomain, OrcPass};
+use orc_domain::{OrcDomain, OrcPass};
 use orc_watch_run::new_passes_are_fresh;
 use orc_words::Shape;
 use std::alloc::Global;

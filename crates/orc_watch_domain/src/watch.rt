@@ -8,7 +8,7 @@ use orc_at_rest::bring_to_rest;
 use orc_board::Gate;
 use orc_fault::NoMemory;
 use orc_pairs_rule::Pairs;
-use orc_reclaiming_domain::OrcRest;
+use orc_domain::OrcRest;
 use orc_watch::{WatchLines, WatchList};
 use orc_watch_run::{Watched, run_watch};
 use std::alloc::Global;

@@ -4,8 +4,8 @@ ghost use Rattle.std.specs.Prelude.{◌≡◌, ◌+◌, ◌*◌, ◌<◌, ℕ, [
 ghost use Rattle.orc_cell.specs.CellCalls.{IsUsable, history};
 ghost use Rattle.orc_heap.specs.Domains.{agent};
 ghost use Rattle.orc_machine_board.specs.Rules.{run_of};
-ghost use Rattle.orc_reclaiming_domain.specs.Passes.{domain_bounds};
-ghost use Rattle.orc_reclaiming_domain.specs.Rest.{IsShown, rest_domain, rest_journal};
+ghost use Rattle.orc_domain.specs.Passes.{domain_bounds};
+ghost use Rattle.orc_domain.specs.Rest.{IsShown, rest_domain, rest_journal};
 ghost use Rattle.orc_rest.specs.Rest.{IsAtRest};
 ghost use Rattle.orc_words.specs.Bounds.{bounds_of};
 
@@ -14,7 +14,7 @@ use orc_cell::Cell;
 use orc_fault::NoMemory;
 use orc_heap::{Links, Seed};
 use orc_pairs_rule::Pairs;
-use orc_reclaiming_domain::{OrcDomain, OrcPass, OrcRest};
+use orc_domain::{OrcDomain, OrcPass, OrcRest};
 use orc_words::Shape;
 use std::alloc::Global;
 

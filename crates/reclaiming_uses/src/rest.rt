@@ -3,13 +3,13 @@
 ghost use Rattle.std.specs.Prelude.{◌≡◌, ◌<◌, ℕ, All, length, slice_index_or};
 ghost use Rattle.orc_heap.specs.Seats.{IsIdle};
 ghost use Rattle.orc_machine_board.specs.Rules.{run_of};
-ghost use Rattle.orc_reclaiming_domain.specs.Ends.{AreAll, AreIdle, SawAll, whole_journal};
-ghost use Rattle.orc_reclaiming_domain.specs.Passes.{IsPassOf, domain_bounds, seat_of};
-ghost use Rattle.orc_reclaiming_domain.specs.Rest.{IsShown, rest_domain, rest_journal};
+ghost use Rattle.orc_domain.specs.Ends.{AreAll, AreIdle, SawAll, whole_journal};
+ghost use Rattle.orc_domain.specs.Passes.{IsPassOf, domain_bounds, seat_of};
+ghost use Rattle.orc_domain.specs.Rest.{IsShown, rest_domain, rest_journal};
 ghost use Rattle.orc_rest.specs.Rest.{IsAtRest};
 
 use orc_heap::Discipline;
-use orc_reclaiming_domain::{OrcDomain, OrcPass, OrcRest};
+use orc_domain::{OrcDomain, OrcPass, OrcRest};
 
 /// Lets all passes of a domain drain, which have to be idle and in order of agent, and ends the sharing.
 pub fn bring_to_rest<D: Discipline>(domain: OrcDomain<D>, mut passes: Vec<OrcPass<D>>) -> OrcRest<D>

@@ -3,8 +3,8 @@
 ghost use Rattle.std.specs.Prelude.{◌≡◌, ◌<◌, ℕ, [], All, IfOk, length, slice_index_or};
 ghost use Rattle.orc_words.specs.Bounds.{bounds_of};
 ghost use Rattle.orc_machine_board.specs.Rules.{run_of};
-ghost use Rattle.orc_reclaiming_domain.specs.Passes.{domain_bounds};
-ghost use Rattle.orc_reclaiming_domain.specs.Rest.{IsShown, rest_domain, rest_journal};
+ghost use Rattle.orc_domain.specs.Passes.{domain_bounds};
+ghost use Rattle.orc_domain.specs.Rest.{IsShown, rest_domain, rest_journal};
 ghost use Rattle.orc_rest.specs.Rest.{IsAtRest};
 
 use crate::list::ReclaimingListPass;
@@ -14,7 +14,7 @@ use orc_fault::NoMemory;
 use orc_heap::Seed;
 use orc_history::{LearnSet, SharedSet};
 use orc_list::List;
-use orc_reclaiming_domain::{OrcDomain, OrcRest};
+use orc_domain::{OrcDomain, OrcRest};
 use orc_set::Set;
 use orc_words::Shape;
 use std::alloc::Global;

@@ -18,7 +18,7 @@ use orc_heap::Seed;
 use orc_list::{List, OneList};
 use orc_pairs_rule::Pairs;
 use orc_queue::Queue;
-use orc_reclaiming_domain::OrcDomain;
+use orc_domain::OrcDomain;
 use orc_set::Set;
 use orc_split_rule::Split;
 use orc_split_set::SplitSet;

@@ -9,7 +9,7 @@ ghost use Rattle.stress.specs.Passes.{AreAllIdle};
 use orc_plain_domain::{PlainDomain, PlainPass};
 use orc_fault::NoMemory;
 use orc_heap::{Discipline, Links, Seed};
-use orc_reclaiming_domain::{OrcDomain, OrcPass};
+use orc_domain::{OrcDomain, OrcPass};
 use orc_stress::Counts;
 use orc_words::Shape;
 use std::alloc::Global;

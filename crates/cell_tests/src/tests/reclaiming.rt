@@ -2,7 +2,7 @@
 
 ghost use Rattle.std.specs.Prelude.{◌≡◌, ◌+◌, ◌*◌, IfOk, length};
 ghost use Rattle.cell_tests.specs.Passes.{AreUsable};
-ghost use Rattle.orc_reclaiming_domain.specs.Passes.{domain_bounds};
+ghost use Rattle.orc_domain.specs.Passes.{domain_bounds};
 ghost use Rattle.orc_words.specs.Bounds.{bounds_of};
 
 use super::calls::{one_publishes, two_publish};
@@ -11,7 +11,7 @@ use orc_cell::CellRefused;
 use orc_fault::NoMemory;
 use orc_heap::Links;
 use orc_pairs_rule::Pairs;
-use orc_reclaiming_domain::OrcDomain;
+use orc_domain::OrcDomain;
 use orc_stress::PairLog;
 use orc_words::Shape;
 use reclaiming_uses::{ReclaimingCell, ReclaimingCellPass, cell_at_rest, reclaiming_cell_over};

@@ -2,8 +2,8 @@
 
 ghost use Rattle.std.specs.Prelude.{◌≡◌, ◌<◌};
 ghost use Rattle.orc_machine_board.specs.Rules.{run_of};
-ghost use Rattle.orc_reclaiming_domain.specs.Ends.{AreAll, AreIdle, SawAll, whole_journal};
-ghost use Rattle.orc_reclaiming_domain.specs.Passes.{domain_bounds, domain_numbers};
+ghost use Rattle.orc_domain.specs.Ends.{AreAll, AreIdle, SawAll, whole_journal};
+ghost use Rattle.orc_domain.specs.Passes.{domain_bounds, domain_numbers};
 ghost use Rattle.orc_rest.specs.Rest.{IsAtRest};
 
 use super::calls::first_links;
@@ -12,7 +12,7 @@ use super::nodes::{
 };
 use orc_plain_domain::twins::Twins;
 use orc_heap::{AnyFit, Discipline, Seed};
-use orc_reclaiming_domain::{OrcDomain, OrcPass};
+use orc_domain::{OrcDomain, OrcPass};
 use orc_words::Shape;
 use std::test::Fail;
 

@@ -1,5 +1,5 @@
 use Rattle.std.proofs.Common.{◌≡◌, ◌<◌, ℕ, slice_index_or}
-use Rattle.orc_reclaiming_domain.specs.Passes.{seat_of}
+use Rattle.orc_domain.specs.Passes.{seat_of}
 use Rattle.queue_example.proofs.are_in_order.Given as goal
 
 -- so far they are

@@ -2,7 +2,7 @@
 
 ghost use Rattle.std.specs.Prelude.{◌≡◌, ◌<◌, ℕ, All, length, slice_index_or, true};
 ghost use Rattle.orc_heap.specs.Seats.{IsIdle};
-ghost use Rattle.orc_reclaiming_domain.specs.Passes.{IsPassOf, domain_bounds, seat_of};
+ghost use Rattle.orc_domain.specs.Passes.{IsPassOf, domain_bounds, seat_of};
 
 use crate::{
     ReclaimingList, ReclaimingListPass, ReclaimingQueue, ReclaimingQueuePass, ReclaimingSet,
@@ -10,7 +10,7 @@ use crate::{
 };
 use orc_heap::{Discipline, Links};
 use orc_history::{SharedQueue, SharedSet};
-use orc_reclaiming_domain::{OrcDomain, OrcPass, OrcRest};
+use orc_domain::{OrcDomain, OrcPass, OrcRest};
 
 // What a domain at rest tells: how often rows were given and freed, and how many are linked.
 #[derive(Clone, Copy, Debug, PartialEq, Eq, Drop)]

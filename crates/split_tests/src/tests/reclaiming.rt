@@ -11,7 +11,7 @@ use super::threads::{OWN_KEYS, Sums, double_by_all};
 use orc_fault::NoMemory;
 use orc_heap::{Links, Seed};
 use orc_history::SharedSet;
-use orc_reclaiming_domain::{OrcDomain, OrcPass};
+use orc_domain::{OrcDomain, OrcPass};
 use orc_split_rule::Split;
 use orc_split_set::SplitSet;
 use orc_words::Shape;

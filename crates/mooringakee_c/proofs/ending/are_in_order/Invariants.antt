@@ -1,6 +1,6 @@
 -- The passes so far are in order.
 use Rattle.std.proofs.Common.{slice_index_or, ℕ, ◌<◌, ◌≡◌}
-use Rattle.orc_reclaiming_domain.specs.Passes.{seat_of}
+use Rattle.orc_domain.specs.Passes.{seat_of}
 use Rattle.mooringakee_c.proofs.ending.are_in_order.Given as goal
 
 abbrev pub invariant-loop-at : goal.invariant-loop-at

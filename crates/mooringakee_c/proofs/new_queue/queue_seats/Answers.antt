@@ -6,8 +6,8 @@ use Rattle.orc_fifo_rule.specs.declared.fifo.FifoNote.{FifoNote}
 use Rattle.orc_heap.specs.Seats.{IsIdle}
 use Rattle.orc_projection.specs.Mirror.{numbers_of}
 use Rattle.orc_queue.proofs.Openings.{dummy_allowed}
-use Rattle.orc_reclaiming_domain.specs.Passes.{IsPassOf, domain_bounds, seat_of}
-use Rattle.orc_reclaiming_domain.specs.declared.domain.OrcDomain.{OrcDomain}
+use Rattle.orc_domain.specs.Passes.{IsPassOf, domain_bounds, seat_of}
+use Rattle.orc_domain.specs.declared.domain.OrcDomain.{OrcDomain}
 use Rattle.orc_words.specs.Bounds.{bounds_of}
 use Rattle.mooringakee_c.proofs.Results.{if_ok}
 use Rattle.mooringakee_c.proofs.new_queue.queue_seats.Goals as goal

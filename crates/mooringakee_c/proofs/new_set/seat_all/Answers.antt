@@ -2,7 +2,7 @@
 use Rattle.std.proofs.Common.{[], suc, ap, arith, length, refl, subst, ℕ, ◌+◌, ◌∙◌, ◌∷◌, ◌≡◌, sym}
 use Rattle.std.proofs.lemmas.List.{length-append}
 use Rattle.orc_shared_words.specs.Lists.{EachAt}
-use Rattle.orc_reclaiming_domain.specs.Passes.{seat_of}
+use Rattle.orc_domain.specs.Passes.{seat_of}
 use Rattle.mooringakee_c.specs.Making.{IsNewSetSeat}
 use Rattle.mooringakee_c.proofs.Lists.{EachAt-push, next_at, rest_after}
 use Rattle.mooringakee_c.proofs.new_set.seat_all.Goals as goal

@@ -5,8 +5,8 @@ use Rattle.orc_chain_rule.specs.declared.chain.Chain.{Chain}
 use Rattle.orc_chain_rule.specs.declared.chain.ChainNote.{ChainNote}
 use Rattle.orc_heap.specs.Seats.{IsIdle}
 use Rattle.orc_projection.specs.Mirror.{numbers_of}
-use Rattle.orc_reclaiming_domain.specs.Passes.{IsPassOf, domain_bounds, seat_of}
-use Rattle.orc_reclaiming_domain.specs.declared.domain.OrcDomain.{OrcDomain}
+use Rattle.orc_domain.specs.Passes.{IsPassOf, domain_bounds, seat_of}
+use Rattle.orc_domain.specs.declared.domain.OrcDomain.{OrcDomain}
 use Rattle.orc_words.specs.Bounds.{bounds_of}
 use Rattle.mooringakee_c.proofs.Results.{if_ok}
 use Rattle.mooringakee_c.proofs.new_set.set_seats.Goals as goal

@@ -5,8 +5,8 @@ use Rattle.orc_split_rule.specs.declared.split.Split.{Split}
 use Rattle.orc_split_rule.specs.declared.split.SplitNote.{SplitNote}
 use Rattle.orc_heap.specs.Seats.{IsIdle}
 use Rattle.orc_projection.specs.Mirror.{numbers_of}
-use Rattle.orc_reclaiming_domain.specs.Passes.{IsPassOf, domain_bounds, seat_of}
-use Rattle.orc_reclaiming_domain.specs.declared.domain.OrcDomain.{OrcDomain}
+use Rattle.orc_domain.specs.Passes.{IsPassOf, domain_bounds, seat_of}
+use Rattle.orc_domain.specs.declared.domain.OrcDomain.{OrcDomain}
 use Rattle.orc_words.specs.Bounds.{Bounds, bounds_of}
 use Rattle.mooringakee_c.proofs.Results.{if_ok}
 use Rattle.mooringakee_c.proofs.new_split.split_seats.Goals as goal

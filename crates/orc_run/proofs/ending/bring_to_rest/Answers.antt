@@ -1,5 +1,5 @@
-use Rattle.orc_reclaiming_domain.proofs.Resting.{some_passes}
-use Rattle.orc_reclaiming_domain.specs.Passes.{domain_bounds}
+use Rattle.orc_domain.proofs.Resting.{some_passes}
+use Rattle.orc_domain.specs.Passes.{domain_bounds}
 use Rattle.orc_run.proofs.Quiet.{rests_quietly}
 use Rattle.orc_run.proofs.ending.bring_to_rest.Goals as goal
 

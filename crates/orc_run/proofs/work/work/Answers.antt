@@ -3,7 +3,7 @@ use Rattle.orc_fifo_rule.specs.Laws.Kept.{fifo_rises}
 use Rattle.orc_fifo_rule.specs.QueueDiscipline.{fifo_rank, position_of}
 use Rattle.orc_heap.specs.Journals.{run_heap}
 use Rattle.orc_board.specs.Stretches.{pick}
-use Rattle.orc_reclaiming_domain.specs.Passes.{domain_bounds, domain_numbers, domain_opening}
+use Rattle.orc_domain.specs.Passes.{domain_bounds, domain_numbers, domain_opening}
 use Rattle.orc_workers.proofs.CameBack.{for_both}
 use Rattle.orc_run.specs.Domains.{agents_of, queue_seed, run_bounds}
 use Rattle.orc_run.specs.Runs.{EndsWithoutLeak, HasQueueJournal, ReusesRowsSafely, queue_bounds}

@@ -6,7 +6,7 @@ use Rattle.orc_at_rest.proofs.Passes.{are_all, are_idle, left_of}
 use Rattle.orc_heap.specs.declared.seed.Seed.TheVariants.{Empty}
 use Rattle.orc_pairs_rule.specs.Laws.Kept.{pairs_rises}
 use Rattle.orc_pairs_rule.specs.PairsDiscipline.{pairs_rank}
-use Rattle.orc_reclaiming_domain.specs.Passes.{domain_bounds, journal_of}
+use Rattle.orc_domain.specs.Passes.{domain_bounds, journal_of}
 use Rattle.orc_words.specs.Bounds.{Bounds}
 use Rattle.orc_watch_domain.proofs.Growing.{follow_at_rest}
 use Rattle.orc_watch_domain.proofs.Passes.{are_passes}

@@ -1,7 +1,7 @@
 -- The discipline holds before all events; the shape is one for a cell, and each pass is new.
 use Rattle.std.proofs.Common.{ap, arith, subst, sym, ◌<◌, ◌∙◌, ◌≡◌}
 use Rattle.std.specs.Prelude.{slice_index_or}
-use Rattle.orc_reclaiming_domain.specs.Passes.{IsPassOf, domain_bounds, domain_opening, seat_of}
+use Rattle.orc_domain.specs.Passes.{IsPassOf, domain_bounds, domain_opening, seat_of}
 use Rattle.orc_cell.proofs.Learned.{new_usable}
 use Rattle.orc_heap.specs.Seats.{IsIdle}
 use Rattle.orc_pairs_rule.proofs.Later.{nothing_yet}

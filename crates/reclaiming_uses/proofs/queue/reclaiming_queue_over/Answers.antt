@@ -6,7 +6,7 @@ use Rattle.orc_heap.specs.Seats.{IsIdle}
 use Rattle.orc_projection.specs.Mirror.{numbers_of}
 use Rattle.orc_fifo_rule.proofs.Later.{nothing_yet}
 use Rattle.orc_queue.proofs.Openings.{dummy_allowed}
-use Rattle.orc_reclaiming_domain.specs.Passes.{IsPassOf, seat_of}
+use Rattle.orc_domain.specs.Passes.{IsPassOf, seat_of}
 use Rattle.reclaiming_uses.proofs.queue.reclaiming_queue_over.Goals as goal
 
 pub make-requires-clause-holds : goal.make-requires-clause-holds

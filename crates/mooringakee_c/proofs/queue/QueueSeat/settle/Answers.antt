@@ -1,7 +1,7 @@
 -- A pass that drains makes no event, and stays one of the queue.
 use Rattle.std.proofs.Common.{refl, subst, ◌∙◌, ◌≡◌}
 use Rattle.orc_heap.specs.Seats.{IsIdle}
-use Rattle.orc_reclaiming_domain.specs.Passes.{IsPassOf, seat_of}
+use Rattle.orc_domain.specs.Passes.{IsPassOf, seat_of}
 use Rattle.mooringakee_c.proofs.QueuePlaces.{quiet}
 use Rattle.mooringakee_c.proofs.queue.QueueSeat.settle.Goals as goal
 

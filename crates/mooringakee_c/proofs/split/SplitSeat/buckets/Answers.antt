@@ -1,8 +1,8 @@
 -- Nothing was entered, and a refusal has its cause.
 use Rattle.std.proofs.Common.{[], refl, subst, ◌≤◌}
 use Rattle.orc_history.specs.declared.set.ListRefused.TheVariants.{Again}
-use Rattle.orc_reclaiming_domain.specs.Passes.{domain_numbers, seat_of}
-use Rattle.orc_reclaiming_domain.specs.declared.domain.OrcDomain.{OrcDomain}
+use Rattle.orc_domain.specs.Passes.{domain_numbers, seat_of}
+use Rattle.orc_domain.specs.declared.domain.OrcDomain.{OrcDomain}
 use Rattle.orc_split_rule.specs.SplitDiscipline.{IsSize, greatest, size_of}
 use Rattle.orc_split_rule.specs.declared.split.Split.{Split}
 use Rattle.orc_split_rule.specs.declared.split.SplitNote.{SplitNote}

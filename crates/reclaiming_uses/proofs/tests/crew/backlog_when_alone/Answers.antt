@@ -2,7 +2,7 @@
 use Rattle.std.proofs.Common.{rules}
 use Rattle.std.proofs.lemmas.List.Elements.{All-set}
 use Rattle.orc_heap.specs.Seats.{IsIdle}
-use Rattle.orc_reclaiming_domain.specs.Passes.{IsPassOf, seat_of}
+use Rattle.orc_domain.specs.Passes.{IsPassOf, seat_of}
 use Rattle.reclaiming_uses.proofs.tests.crew.backlog_when_alone.Goals as goal
 
 pub loop-place-preserved : goal.loop-place-preserved

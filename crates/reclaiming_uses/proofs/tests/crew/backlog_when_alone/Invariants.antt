@@ -1,6 +1,6 @@
 use Rattle.std.proofs.Common.{All, length, ◌≡◌}
 use Rattle.orc_heap.specs.Seats.{IsIdle}
-use Rattle.orc_reclaiming_domain.specs.Passes.{IsPassOf, seat_of}
+use Rattle.orc_domain.specs.Passes.{IsPassOf, seat_of}
 use Rattle.reclaiming_uses.proofs.tests.crew.backlog_when_alone.Given as goal
 
 -- each pass can go on, and is idle

@@ -4,7 +4,7 @@ use Rattle.std.proofs.Common.{ap, subst, sym, ◌∙◌}
 use Rattle.std.specs.Prelude.{slice_index_or}
 use Rattle.orc_heap.specs.Seats.{IsIdle}
 use Rattle.orc_projection.specs.Mirror.{numbers_of}
-use Rattle.orc_reclaiming_domain.specs.Passes.{IsPassOf, domain_bounds, seat_of}
+use Rattle.orc_domain.specs.Passes.{IsPassOf, domain_bounds, seat_of}
 use Rattle.orc_split_rule.proofs.Later.{nothing_yet}
 use Rattle.orc_words.specs.Bounds.{Bounds, bounds_of}
 use Rattle.split_tests.proofs.tests.reclaiming.new_set.Goals as goal

@@ -1,0 +1,39 @@
+use Rattle.std.proofs.Common.{arith, ◌∙◌, ◌≡◌}
+use Rattle.orc_plain_domain.proofs.Turns.{first_rows}
+use Rattle.orc_machine_board.specs.Views.{shows}
+use Rattle.orc_words.specs.Bounds.{bounds_of}
+use Rattle.orc_domain.proofs.Making.{all_belong, all_idle, each_at, opening_seen}
+use Rattle.orc_domain.proofs.domain.OrcDomain.make.Goals as goal
+
+pub returns-clause-belongs : goal.returns-clause-belongs
+returns-clause-belongs g c =
+    all_belong (record { board = c.in_ok-board.board }) c.in_ok-passes.passes.items c.in_ok-board.passes.items c.in_ok-passes.ensures.long
+    c.in_ok-passes.ensures.same
+    _ c.in_ok-board.ensures.bounds c.in_ok-board.ensures.belongs c.in_ok-board.ensures.idle c.in_ok-passes.ensures.next
+
+pub returns-clause-agents : goal.returns-clause-agents
+returns-clause-agents g c =
+    each_at (record { board = c.in_ok-board.board }) c.in_ok-passes.passes.items c.in_ok-board.passes.items c.in_ok-passes.ensures.long
+    c.in_ok-passes.ensures.same
+    (λ i q. (shows q).agent ≡ i) c.in_ok-board.ensures.agents
+
+pub returns-clause-idle : goal.returns-clause-idle
+returns-clause-idle g c =
+    all_idle (record { board = c.in_ok-board.board }) c.in_ok-passes.passes.items c.in_ok-board.passes.items c.in_ok-passes.ensures.long
+    c.in_ok-passes.ensures.same
+    c.in_ok-board.ensures.idle
+
+pub returns-clause-seen : goal.returns-clause-seen
+returns-clause-seen g c =
+    opening_seen g.D.Discipline (record { board = c.in_ok-board.board }) c.in_ok-passes.passes.items c.in_ok-board.passes.items c.in_ok-passes.ensures.long
+    c.in_ok-passes.ensures.same
+    c.args.shape.now c.args.seed c.in_ok-board.ensures.bounds c.requires.holds c.requires.seed c.in_ok-board.ensures.journal
+
+pub returns-clause-next : goal.returns-clause-next
+returns-clause-next g c =
+    let some = c.args.shape.now.some_rows in
+    first_rows (bounds_of c.args.shape.now) (λ p. p.next) (λ p. (shows p.pass).agent) c.in_ok-passes.passes.items c.in_ok-passes.ensures.first
+    (each_at (record { board = c.in_ok-board.board }) c.in_ok-passes.passes.items c.in_ok-board.passes.items c.in_ok-passes.ensures.long
+    c.in_ok-passes.ensures.same
+    (λ i q. (shows q).agent ≡ i) c.in_ok-board.ensures.agents)
+    (c.in_ok-passes.ensures.long ∙ c.in_ok-board.ensures.passes) (omega (arith, some))

@@ -1,0 +1,29 @@
+use Rattle.std.proofs.Common.{Some, ap, subst, sym, ◌∙◌, ◌≢◌}
+use Rattle.orc_plain_domain.specs.Rows.{row_link}
+use Rattle.orc_heap.specs.Calls.{RefusesSwing}
+use Rattle.orc_heap.specs.Seats.{HoldsWant}
+use Rattle.orc_machine_board.specs.Views.{shows}
+use Rattle.orc_domain.proofs.Linking.{link_other}
+use Rattle.orc_domain.proofs.Stages.{seat, stage}
+use Rattle.orc_domain.proofs.Swinging.{checks_none, if_err_map, not_equal}
+use Rattle.orc_domain.specs.Passes.{domain_bounds}
+use Rattle.orc_domain.specs.Seats.{seat_by}
+use Rattle.orc_words.specs.declared.packed.RowLink.{RowLink}
+use Rattle.orc_domain.proofs.domain.OrcDomain.prepare.Goals as goal
+
+pub returns-in_default-clause-checks : goal.returns-in_default-clause-checks
+returns-in_default-clause-checks g c = checks_none (domain_bounds c.args.self.now) (shows c.args.p.now)
+
+pub returns-then-eq-clause-checks : goal.returns-then-eq-clause-checks
+returns-then-eq-clause-checks g c = checks_none (domain_bounds c.args.self.now) (shows c.args.p.now)
+
+pub returns-clause-spent : goal.returns-clause-spent
+returns-clause-spent g c =
+    let s = stage g.D.Discipline c.args.self.now.board.words.shape _ _ c.requires.belongs.keeps in
+    let links = c.requires.links in
+    let held = subst (HoldsWant (seat s).slots) c.in-Node.is links.1 in
+    let ne : (row_link c.args.from.now).to ≢ Some c.in-Node.h.now.row = λ same.
+    not_equal c.row_link.result.to c.row.result c.if-eq.ensures (ap (λ (l : RowLink). l.to) c.row_link.ensures ∙ (same ∙ ap Some (sym c.row.ensures))) in
+    let other = link_other s c.args.from.now c.in-Node.h.now links.0 held ne in
+    if_err_map c.check.result (λ e worn. subst (λ w. RefusesSwing (seat s).slots c.args.from.now w e
+    (seat_by (domain_bounds c.args.self.now) (shows c.check.new.p)).seen) (sym c.in-Node.is) (other, worn)) c.check.ensures.spent

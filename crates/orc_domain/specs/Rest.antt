@@ -1,0 +1,44 @@
+-- A domain at rest: one pass has taken in all others.
+use Rattle.std.specs.Prelude.{List, ◌++◌, ◌≡◌}
+use Rattle.orc_board_rest.specs.Ends.{CountsOf}
+use Rattle.orc_board_rest.specs.Looks.{gate_looks}
+use Rattle.orc_board_rest.specs.declared.count.RowCounts.{RowCounts}
+use Rattle.orc_heap.specs.declared.discipline.Discipline as discipline
+use Rattle.orc_core.specs.declared.records.Agent.{Agent}
+use Rattle.orc_machine_board.specs.Passes.{TookInAll}
+use Rattle.orc_machine_board.specs.Rules.{run_of}
+use Rattle.orc_machine_board.specs.Views.{Belongs, board_bounds, shows}
+use Rattle.orc_machine_board.specs.declared.machine.MachineShape.{MachineShape}
+use Rattle.orc_machine_board.specs.declared.machine.Reclaiming.{Reclaiming}
+use Rattle.orc_machine_board.specs.declared.machine.Request.{Request}
+use Rattle.orc_domain.specs.Ends.{whole_journal}
+use Rattle.orc_domain.specs.Passes.{domain_bounds}
+use Rattle.orc_domain.specs.declared.domain.OrcDomain.{OrcDomain}
+use Rattle.orc_domain.specs.declared.domain.OrcPass.{OrcPass}
+use Rattle.orc_domain.specs.declared.at_rest.OrcRest.{OrcRest}
+use Rattle.orc_rest.specs.Rest.{IsAtRest}
+use Rattle.orc_shared_words.specs.declared.machine.Machine as machine
+use Rattle.orc_sound.specs.declared.steps.Step.{Step}
+
+module _ {D N : Type 0} {d : discipline.Ghosts D N} {m : machine.Ghosts Reclaiming N (MachineShape N) Request (Step N) Agent Agent} where
+  -- the domain, and the whole list of its steps
+  abbrev pub rest_domain : OrcRest D N d m → OrcDomain D N
+  rest_domain r = r.domain
+
+  abbrev pub rest_journal : OrcRest D N d m → List (Step N)
+  rest_journal r = (shows r.pass).journal
+
+  -- the pass that is left is one of the board's, so the board has shown this list; and it took in all others, so the list is whole
+  pub record IsShown (r : OrcRest D N d m) : Type 0 where
+    pub belongs : Belongs r.domain.board r.pass
+    pub all : TookInAll (board_bounds r.domain.board) (shows r.pass)
+
+  -- this domain, of which one of these passes has taken in all others and then looked at each gate, is at rest, with these counts
+  pub record EndsWith (domain : OrcDomain D N) (passes : List (OrcPass D N (MachineShape N) Request (Step N) Agent Agent d m))
+      (counts : RowCounts) : Type 0 where
+    pub rest : OrcRest D N d m
+    pub domain_is : rest_domain rest ≡ domain
+    pub shown : IsShown rest
+    pub journal : rest_journal rest ≡ whole_journal passes ++ gate_looks 0 (domain_bounds domain).rows
+    pub at_rest : IsAtRest (run_of (domain_bounds domain) (rest_journal rest))
+    pub counts_are : CountsOf (domain_bounds domain) (rest_journal rest) counts

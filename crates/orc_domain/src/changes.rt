@@ -1,0 +1,139 @@
+//! The parts of which the calls that change links are made.
+
+ghost use Rattle.std.specs.Prelude.{◌≡◌, ◌<◌, ◌+◌, IfErr, IfOk, None, Some, false, true, ℕ};
+ghost use Rattle.orc_core.specs.Allowed.{may_change, may_target};
+ghost use Rattle.orc_core.specs.RecordParts.{checked_below, names};
+ghost use Rattle.orc_plain_domain.specs.Rows.{row_link};
+ghost use Rattle.orc_heap.specs.Calls.{IsWorn, MayMove, RefusesSwing, Swings};
+ghost use Rattle.orc_heap.specs.Seats.{HoldsPlace, HoldsWant, IsNotFresh};
+ghost use Rattle.orc_heap.specs.Slots.{Holds};
+ghost use Rattle.orc_history.specs.Parts.{InPart};
+ghost use Rattle.orc_machine_board.specs.Licences.{AimAllowed};
+ghost use Rattle.orc_machine_board.specs.Views.{Belongs, shows};
+ghost use Rattle.orc_domain.specs.Causes.{IsWornIn};
+ghost use Rattle.orc_domain.specs.Changes.{Checks, Stores};
+ghost use Rattle.orc_board_settling.specs.OwnSteps.{LeavesNothing};
+ghost use Rattle.orc_domain.specs.Passes.{IsFreshUntouched, domain_bounds, domain_numbers};
+ghost use Rattle.orc_domain.specs.Seats.{IsReady, seat_by};
+
+use crate::domain::OrcDomain;
+use orc_core::{CounterUse, SEQUENCE};
+use orc_plain_domain::{row_link, word_at};
+use orc_fault::Spent;
+use orc_heap::{At, Discipline, Held, Want};
+use orc_machine_board::{MachineBoardPass, to_count};
+use orc_words::{RowLink, named};
+
+impl<D: Discipline> OrcDomain<D> {
+    // Reads the sequence of a row that is to be linked.
+    pub(crate) fn check(&self, p: &mut MachineBoardPass<D>, h: &Held) -> Result<(), Spent>
+        requires belongs { Belongs self.now.board p.old }
+        requires ready { IsReady (shows p.old).record_is }
+        requires held { Holds (seat_by (domain_bounds self.now) (shows p.old)).slots h.now }
+        ensures belongs { Belongs self.now.board p.new }
+        ensures checks { Checks (domain_bounds self.now) (shows p.old) (shows p.new) }
+        ensures low { IfOk result (λ _. checked_below (shows p.new).record_is.checked h.now.row ((domain_bounds self.now).limit + 64) ≡ true) }
+        ensures spent { IfErr result (λ e. IsWorn (seat_by (domain_bounds self.now) (shows p.old)).slots h.now e
+            (seat_by (domain_bounds self.now) (shows p.new)).seen) }
+        ensures worn { IfErr result (λ e. InPart (λ s. s.agent) (shows p.old).agent (shows p.old).journal (shows p.new).journal
+            (IsWornIn (domain_bounds self.now) (shows p.old).agent e (shows p.new).journal)) }
+    {
+        let row = h.row();
+        let counter = self.board.counter_load(p, row, CounterUse::Check);
+        let sequence = counter / SEQUENCE;
+        if sequence >= self.board.shape().limit() + 64 {
+            return Err(Spent { row, sequence });
+        }
+        Ok(())
+    }
+
+    // Checks the new target of a link, unless it is the old one or none.
+    pub(crate) fn prepare(
+        &self,
+        p: &mut MachineBoardPass<D>,
+        from: &Want,
+        to: &Want,
+    ) -> Result<(), Spent>
+        requires belongs { Belongs self.now.board p.old }
+        requires ready { IsReady (shows p.old).record_is }
+        requires links { HoldsWant (seat_by (domain_bounds self.now) (shows p.old)).slots from.now
+            × HoldsWant (seat_by (domain_bounds self.now) (shows p.old)).slots to.now }
+        ensures belongs { Belongs self.now.board p.new }
+        ensures checks { Checks (domain_bounds self.now) (shows p.old) (shows p.new) }
+        ensures low { IfOk result (λ _. may_change (shows p.new).record_is ((domain_bounds self.now).limit + 64) (row_link from.now).to (row_link to.now).to
+            ≡ true) }
+        ensures spent { IfErr result (λ e. RefusesSwing (seat_by (domain_bounds self.now) (shows p.old)).slots from.now to.now e
+            (seat_by (domain_bounds self.now) (shows p.new)).seen) }
+        ensures worn { IfErr result (λ e. InPart (λ s. s.agent) (shows p.old).agent (shows p.old).journal (shows p.new).journal
+            (IsWornIn (domain_bounds self.now) (shows p.old).agent e (shows p.new).journal)) }
+    {
+        let Want::Node(h, _) = to else {
+            return Ok(());
+        };
+        if row_link(from).to == Some(h.row()) {
+            return Ok(());
+        }
+        self.check(p, h)
+    }
+
+    // Changes a link, whose new target was checked, if it is `from`, and then counts what was linked and unlinked.
+    pub(crate) fn exchange(
+        &self,
+        p: &mut MachineBoardPass<D>,
+        place: &At,
+        from: &Want,
+        to: &Want,
+        note: Option<D::Note>,
+    ) -> bool
+        requires belongs { Belongs self.now.board p.old }
+        requires ready { IsReady (shows p.old).record_is }
+        requires untouched { IsFreshUntouched (domain_numbers self.now) (seat_by (domain_bounds self.now) (shows p.old)) }
+        requires place { HoldsPlace (domain_numbers self.now) (seat_by (domain_bounds self.now) (shows p.old)).slots place.now }
+        requires linked { IsNotFresh (seat_by (domain_bounds self.now) (shows p.old)) place.now }
+        requires links { HoldsWant (seat_by (domain_bounds self.now) (shows p.old)).slots from.now
+            × HoldsWant (seat_by (domain_bounds self.now) (shows p.old)).slots to.now }
+        requires low { may_change (shows p.old).record_is ((domain_bounds self.now).limit + 64) (row_link from.now).to (row_link to.now).to ≡ true }
+        requires allowed { MayMove (D.may (domain_numbers self.now)) (domain_numbers self.now) (seat_by (domain_bounds self.now) (shows p.old))
+            place.now from.now to.now note }
+        ensures belongs { Belongs self.now.board p.new }
+        ensures ready { IsReady (shows p.new).record_is }
+        ensures untouched { IsFreshUntouched (domain_numbers self.now) (seat_by (domain_bounds self.now) (shows p.new)) }
+        ensures swung { Swings place.now from.now to.now note (seat_by (domain_bounds self.now) (shows p.old)) result
+            (seat_by (domain_bounds self.now) (shows p.new)) }
+        ensures leaves { LeavesNothing (shows p.old).agent (shows p.old).journal (shows p.new).journal }
+    {
+        let word = word_at(place);
+        let old = row_link(from);
+        let new = row_link(to);
+        let moved = self.board.link_cas(p, word, old, new, note);
+        if moved != 1 {
+            return false;
+        }
+        let (up, down) = to_count(old.to, new.to);
+        self.complete(p, up, down);
+        true
+    }
+
+    // Sets the link of this number of the fresh row, and then counts what was linked and unlinked.
+    pub(crate) fn store(&self, p: &mut MachineBoardPass<D>, row: u32, number: u32, to: Option<u32>)
+        requires belongs { Belongs self.now.board p.old }
+        requires ready { IsReady (shows p.old).record_is }
+        requires untouched { IsFreshUntouched (domain_numbers self.now) (seat_by (domain_bounds self.now) (shows p.old)) }
+        requires number { number < (domain_bounds self.now).links }
+        requires fresh { names (shows p.old).record_is.fresh row ≡ true }
+        requires target { may_target (domain_bounds self.now) (shows p.old).record_is to ≡ true }
+        requires low { may_change (shows p.old).record_is ((domain_bounds self.now).limit + 64) None to ≡ true }
+        requires other { (r : ℕ) → to ≡ Some r → names (shows p.old).record_is.fresh r ≡ false }
+        requires licensed { AimAllowed (D.may (domain_numbers self.now)) (domain_bounds self.now) (shows p.old) row number to }
+        ensures belongs { Belongs self.now.board p.new }
+        ensures ready { IsReady (shows p.new).record_is }
+        ensures untouched { IsFreshUntouched (domain_numbers self.now) (seat_by (domain_bounds self.now) (shows p.new)) }
+        ensures stores { Stores (domain_bounds self.now) row number to (shows p.old) (shows p.new) }
+        ensures leaves { LeavesNothing (shows p.old).agent (shows p.old).journal (shows p.new).journal }
+    {
+        let link = RowLink { to, mark: false };
+        let old = self.board.link_store(p, row, number, link);
+        let (up, down) = to_count(named(old / 2), to);
+        self.complete(p, up, down);
+    }
+}

@@ -1,0 +1,76 @@
+//! New domains.
+
+ghost use Rattle.std.specs.Prelude.{◌≡◌, ◌<◌, ◌%◌, [], All, IfOk, length};
+ghost use Rattle.orc_words.specs.Bounds.{bounds_of};
+ghost use Rattle.orc_plain_domain.specs.Turns.{first_row};
+ghost use Rattle.orc_heap.specs.Seats.{IsIdle};
+ghost use Rattle.orc_heap.specs.Seeds.{SeedAllowed, opening_events};
+ghost use Rattle.orc_machine_board.specs.Views.{board_seed, shows};
+ghost use Rattle.orc_projection.specs.Mirror.{numbers_of};
+ghost use Rattle.orc_shared_words.specs.Lists.{EachAt, EachFrom};
+ghost use Rattle.orc_domain.specs.Passes.{IsPassOf, domain_bounds, domain_opening, next_row, seat_of};
+
+use crate::domain::{OrcDomain, OrcPass};
+use orc_plain_domain::first_row;
+use orc_fault::NoMemory;
+use orc_heap::{Discipline, Seed};
+use orc_machine_board::{MachineBoard, MachineBoardPass};
+use orc_words::Shape;
+use std::alloc::Global;
+
+impl<D: Discipline> OrcDomain<D> {
+    /// A domain, and one pass an agent, in order. Its journal begins with the seed's events, of agent 0.
+    ///
+    /// # Errors
+    ///
+    /// `NoMemory` where memory is refused.
+    pub fn make(
+        alloc: Global,
+        shape: &Shape,
+        seed: Seed<D::Note>,
+    ) -> Result<(OrcDomain<D>, Vec<OrcPass<D>>), NoMemory>
+        requires holds { D.holds (numbers_of (bounds_of shape.now)) [] }
+        requires seed { SeedAllowed D.may (numbers_of (bounds_of shape.now)) seed }
+        ensures bounds { IfOk result (λ made. domain_bounds made.0 ≡ bounds_of shape.now) }
+        ensures seed { IfOk result (λ made. board_seed made.0.board ≡ seed) }
+        ensures opening { IfOk result (λ made. domain_opening made.0 ≡ opening_events seed) }
+        ensures passes { IfOk result (λ made. length made.1.items ≡ (bounds_of shape.now).agents) }
+        ensures belongs { IfOk result (λ made. All (λ p. IsPassOf made.0 p) made.1.items) }
+        ensures agents { IfOk result (λ made. EachAt (λ i p. (seat_of made.0 p).agent ≡ i) made.1.items) }
+        ensures idle { IfOk result (λ made. All (λ p. IsIdle (seat_of made.0 p)) made.1.items) }
+        ensures seen { IfOk result (λ made. All (λ p. (seat_of made.0 p).seen ≡ opening_events seed) made.1.items) }
+        ensures next { IfOk result (λ made. EachAt (λ i p. next_row p ≡ first_row (bounds_of shape.now) i) made.1.items) }
+    {
+        let (board, passes) = MachineBoard::make(alloc, shape, seed)?;
+        let passes = domain_passes(alloc, shape, passes)?;
+        Ok((OrcDomain { board }, passes))
+    }
+}
+
+// Makes the domain's passes of these.
+fn domain_passes<D: Discipline>(
+    alloc: Global,
+    shape: &Shape,
+    passes: Vec<MachineBoardPass<D>>,
+) -> Result<Vec<OrcPass<D>>, NoMemory>
+    ensures long { IfOk result (λ made. length made.items ≡ length passes.items) }
+    ensures same { IfOk result (λ made. EachFrom (λ p. p.pass) made.items passes.items) }
+    ensures next { IfOk result (λ made. All (λ p. p.next < (bounds_of shape.now).rows) made.items) }
+    ensures first { IfOk result (λ made. All (λ p. p.next ≡ first_row (bounds_of shape.now) (shows p.pass).agent % (bounds_of shape.now).rows) made.items) }
+{
+    let made = passes
+        .into_iter()
+        .map(|pass| new_pass(shape, pass))
+        .collect(alloc)?;
+    Ok(made)
+}
+
+// Makes a pass that was given no row yet.
+fn new_pass<D: Discipline>(shape: &Shape, pass: MachineBoardPass<D>) -> OrcPass<D>
+    ensures same { result.pass ≡ pass }
+    ensures next { result.next < (bounds_of shape.now).rows }
+    ensures first { result.next ≡ first_row (bounds_of shape.now) (shows result.pass).agent % (bounds_of shape.now).rows }
+{
+    let next = first_row(shape, pass.agent());
+    OrcPass { pass, next }
+}

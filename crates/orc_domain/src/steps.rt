@@ -1,0 +1,63 @@
+//! The parts of which the calls are made.
+
+ghost use Rattle.std.specs.Prelude.{◌≡◌, false, true};
+ghost use Rattle.orc_core.specs.RecordParts.{names};
+ghost use Rattle.orc_core.specs.declared.ops.Op.{Op};
+ghost use Rattle.orc_machine_board.specs.Kinds.{MakesPlain, MayDo};
+ghost use Rattle.orc_machine_board.specs.Views.{Belongs, shows};
+ghost use Rattle.orc_words.specs.Packed.{link_of, link_word};
+ghost use Rattle.orc_domain.specs.Calls.{Retires, Unlocks};
+ghost use Rattle.orc_domain.specs.Passes.{IsFreshUntouched, domain_bounds, domain_numbers};
+ghost use Rattle.orc_domain.specs.Seats.{IsCalm, IsReady, seat_by};
+
+use crate::domain::OrcDomain;
+use orc_core::{CounterUse, SEQUENCE};
+use orc_heap::Discipline;
+use orc_machine_board::MachineBoardPass;
+use orc_words::{RowLink, Word, read_link};
+
+impl<D: Discipline> OrcDomain<D> {
+    // Reads a link. A slot that is named holds the link's target from then on, if that is the row in the slot.
+    #[inline(always)]
+    pub(crate) fn load(&self, p: &mut MachineBoardPass<D>, at: Word, slot: Option<u32>) -> RowLink
+        requires belongs { Belongs self.now.board p.old }
+        requires allowed { MayDo (domain_bounds self.now) (shows p.old) (Op.LinkLoad at slot) }
+        ensures belongs { Belongs self.now.board p.new }
+        ensures made { MakesPlain (domain_bounds self.now) (Op.LinkLoad at slot) (shows p.old) (link_word result) (shows p.new) }
+        ensures link { link_of (link_word result) ≡ result }
+    {
+        let word = self.board.link_load(p, at, slot, None, None);
+        let Some(link) = read_link(word) else {
+            unreachable!()
+        };
+        link
+    }
+
+    // Clears a slot, and takes in what was handed over beside it.
+    pub(crate) fn unlock(&self, p: &mut MachineBoardPass<D>, slot: u32)
+        requires belongs { Belongs self.now.board p.old }
+        requires calm { IsCalm (shows p.old).record_is }
+        requires allowed { MayDo (domain_bounds self.now) (shows p.old) (Op.Clear slot) }
+        ensures belongs { Belongs self.now.board p.new }
+        ensures unlocks { Unlocks (domain_bounds self.now) slot (shows p.old) (shows p.new) }
+    {
+        self.board.clear(p, slot);
+        self.board.take_in(p, slot);
+    }
+
+    // Retires the row, if it is the fresh one. Its bit is set at the first try, since nobody else counts it.
+    pub(crate) fn give_up(&self, p: &mut MachineBoardPass<D>, row: u32)
+        requires belongs { Belongs self.now.board p.old }
+        requires ready { IsReady (shows p.old).record_is }
+        requires untouched { IsFreshUntouched (domain_numbers self.now) (seat_by (domain_bounds self.now) (shows p.old)) }
+        ensures belongs { Belongs self.now.board p.new }
+        ensures retired { names (shows p.old).record_is.fresh row ≡ true → Retires (domain_bounds self.now) row (shows p.old) (shows p.new) }
+        ensures kept { names (shows p.old).record_is.fresh row ≡ false → p.new ≡ p.old }
+    {
+        if !p.kept().is_fresh(row) {
+            return;
+        }
+        let counter = self.board.counter_load(p, row, CounterUse::Check);
+        self.board.set_retired(p, row, counter / SEQUENCE);
+    }
+}

@@ -1,9 +1,0 @@
-use Rattle.std.proofs.Common.{length}
-use Rattle.orc_reclaiming_domain.proofs.Resting.{Taking}
-use Rattle.orc_reclaiming_domain.proofs.domain.OrcDomain.take_in_all.Given as goal
-
-abbrev pub invariant-loop-rest : goal.invariant-loop-rest
-invariant-loop-rest g l = Taking l.self l.fn.into l.into l.fn.others.items l.rest.items
-
-abbrev pub decreases-loop-rest : goal.decreases-loop-rest
-decreases-loop-rest g l = length l.rest.items
