@@ -15,8 +15,8 @@ use Rattle.orc_core.specs.Allowed.{may}
 use Rattle.orc_core.specs.Machine.{record_at}
 use Rattle.orc_core.specs.declared.ops.Op.TheVariants.{TakeIn}
 use Rattle.orc_core.specs.declared.records.Agent.{Agent}
-use Rattle.orc_draining.proofs.Draining.{drained}
-use Rattle.orc_draining.proofs.TakingIn.{made_between, take_slot, took_more, took_none}
+use Rattle.orc_rest.proofs.Draining.{drained}
+use Rattle.orc_rest.proofs.TakingIn.{made_between, take_slot, took_more, took_none}
 use Rattle.orc_heap.specs.declared.discipline.Discipline as discipline
 use Rattle.orc_machine_board.specs.Kinds.{MakesPlain, MayDo}
 use Rattle.orc_machine_board.specs.Rules.{run_of}
@@ -26,8 +26,8 @@ use Rattle.orc_machine_board.specs.declared.board.MachineBoardPass.{MachineBoard
 use Rattle.orc_machine_board.specs.declared.machine.MachineShape.{MachineShape}
 use Rattle.orc_machine_board.specs.declared.machine.Reclaiming.{Reclaiming}
 use Rattle.orc_machine_board.specs.declared.machine.Request.{Request}
-use Rattle.orc_settling.specs.Records.{IsBetweenRounds, IsDone}
-use Rattle.orc_settling.specs.Turns.{IsReachedState, NoneHanded}
+use Rattle.orc_rest.specs.Records.{IsBetweenRounds, IsDone}
+use Rattle.orc_rest.specs.Turns.{IsReachedState, NoneHanded}
 use Rattle.orc_shared_words.specs.declared.machine.Machine as machine
 use Rattle.orc_sound.specs.declared.steps.Step.{Step}
 use Rattle.orc_words.specs.Bounds.{Bounds}

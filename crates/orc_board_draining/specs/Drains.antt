@@ -2,10 +2,10 @@
 use Rattle.std.specs.Prelude.{[], ◌++◌, ◌∷◌, ℕ}
 use Rattle.orc_board_settling.specs.Parts.{Adds}
 use Rattle.orc_core.specs.declared.ops.Op.TheVariants.{TakeIn}
-use Rattle.orc_draining.specs.Drains.{Drained, TookIn}
+use Rattle.orc_rest.specs.Drains.{Drained, TookIn}
 use Rattle.orc_machine_board.specs.Rules.{run_of}
 use Rattle.orc_machine_board.specs.Views.{MachineView}
-use Rattle.orc_settling.specs.Turns.{Made}
+use Rattle.orc_rest.specs.Turns.{Made}
 use Rattle.orc_words.specs.Bounds.{Bounds}
 
 module _ {N : Type 0} where

@@ -7,8 +7,8 @@ ghost use Rattle.orc_board_settling.specs.Parts.{NoEvents};
 ghost use Rattle.orc_board_settling.specs.Passes.{IsPassOf, record_of, state_of};
 ghost use Rattle.orc_history.specs.Parts.{IsAlone};
 ghost use Rattle.orc_machine_board.specs.Views.{Belongs, board_bounds, shows};
-ghost use Rattle.orc_settling.specs.Records.{IsBetweenRounds, IsDone};
-ghost use Rattle.orc_settling.specs.Turns.{NoneHanded};
+ghost use Rattle.orc_rest.specs.Records.{IsBetweenRounds, IsDone};
+ghost use Rattle.orc_rest.specs.Turns.{NoneHanded};
 
 use orc_board_settling::settle;
 use orc_heap::Discipline;

@@ -13,8 +13,8 @@ use Rattle.orc_heap.proofs.Steps.{cut_at_part}
 use Rattle.orc_history.specs.Parts.{IsAlone}
 use Rattle.orc_machine_board.specs.Rules.{run_of}
 use Rattle.orc_machine_board.specs.Views.{MachineView}
-use Rattle.orc_settling.specs.Records.{IsDone}
-use Rattle.orc_settling.specs.Turns.{AllOf, NoneOf}
+use Rattle.orc_rest.specs.Records.{IsDone}
+use Rattle.orc_rest.specs.Turns.{AllOf, NoneOf}
 use Rattle.orc_sound.proofs.Journals.{plain-append}
 use Rattle.orc_sound.specs.Journals.{plain}
 use Rattle.orc_sound.specs.declared.steps.Step.{Step}

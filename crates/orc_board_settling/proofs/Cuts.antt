@@ -7,8 +7,8 @@ use Rattle.orc_core.specs.declared.ops.Op.TheVariants.{LinkStore}
 use Rattle.orc_core.specs.declared.records.Agent.{Agent}
 use Rattle.orc_projection.specs.PresentIds.{PresentIds}
 use Rattle.orc_projection.specs.Projection.{act_of}
-use Rattle.orc_settling.specs.Records.{IsDoomOf, IsStill}
-use Rattle.orc_settling.specs.Work.{IsSettlingStep}
+use Rattle.orc_rest.specs.Records.{IsDoomOf, IsStill}
+use Rattle.orc_rest.specs.Work.{IsSettlingStep}
 use Rattle.orc_words.specs.declared.place.Word.{Word}
 
 pub cut_settles : (r number : ℕ) (d : Agent) (m : Word → ℕ) → IsDoomOf r number d.doom

@@ -11,11 +11,11 @@ use Rattle.orc_machine_board.specs.Passes.{steps_of}
 use Rattle.orc_machine_board.specs.Rules.{run_of}
 use Rattle.orc_machine_board.specs.Views.{MachineView}
 use Rattle.orc_projection.specs.Projection.{project}
-use Rattle.orc_settling.proofs.Opening.{opened_less, opened_more, opened_went, settled_first, settled_none}
-use Rattle.orc_settling.proofs.Rounds.{rounds_done, rounds_made}
-use Rattle.orc_settling.proofs.Stages.{went_join, went_none}
-use Rattle.orc_settling.specs.Records.{IsBetweenRounds, IsDone}
-use Rattle.orc_settling.specs.Turns.{IsReachedState}
+use Rattle.orc_rest.proofs.Opening.{opened_less, opened_more, opened_went, settled_first, settled_none}
+use Rattle.orc_rest.proofs.Rounds.{rounds_done, rounds_made}
+use Rattle.orc_rest.proofs.Stages.{went_join, went_none}
+use Rattle.orc_rest.specs.Records.{IsBetweenRounds, IsDone}
+use Rattle.orc_rest.specs.Turns.{IsReachedState}
 use Rattle.orc_shared_words.proofs.Events.{none-append}
 use Rattle.orc_shared_words.proofs.Runs.{own_of-append}
 use Rattle.orc_sound.proofs.Journals.{plain-append}

@@ -15,8 +15,8 @@ use Rattle.orc_machine_board.specs.declared.board.MachineBoardPass.{MachineBoard
 use Rattle.orc_machine_board.specs.declared.machine.MachineShape.{MachineShape}
 use Rattle.orc_machine_board.specs.declared.machine.Reclaiming.{Reclaiming}
 use Rattle.orc_machine_board.specs.declared.machine.Request.{Request}
-use Rattle.orc_settling.proofs.Stages.{StillKept, first_cleared, kept_join, made_went, take_allowed, take_made, then_taken, went_join}
-use Rattle.orc_settling.specs.Records.{IsSettling}
+use Rattle.orc_rest.proofs.Stages.{StillKept, first_cleared, kept_join, made_went, take_allowed, take_made, then_taken, went_join}
+use Rattle.orc_rest.specs.Records.{IsSettling}
 use Rattle.orc_sound.specs.declared.steps.Step.{Step}
 use Rattle.orc_heap.specs.declared.discipline.Discipline as discipline
 use Rattle.orc_shared_words.specs.declared.machine.Machine as machine

@@ -24,8 +24,8 @@ use Rattle.orc_machine_board.specs.Views.{MachineView, Makes}
 use Rattle.orc_machine_board.specs.declared.machine.MachineShape.{MachineShape}
 use Rattle.orc_projection.specs.PresentIds.{PresentIds}
 use Rattle.orc_projection.specs.Projection.{act_of, events_of, present_ids, project}
-use Rattle.orc_settling.specs.Turns.{Made, NoneOf}
-use Rattle.orc_settling.specs.Work.{IsSettlingStep}
+use Rattle.orc_rest.specs.Turns.{Made, NoneOf}
+use Rattle.orc_rest.specs.Work.{IsSettlingStep}
 use Rattle.orc_shared_words.proofs.Events.{others_add}
 use Rattle.orc_shared_words.proofs.Runs.{by_other, by_own, cons_nil, own_of-append}
 use Rattle.orc_sound.proofs.Journals.{IsLawfulJournal-append, plain-append, plain_lawful, run_plain-append}

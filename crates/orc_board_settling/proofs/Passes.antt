@@ -27,11 +27,11 @@ use Rattle.orc_machine_board.specs.declared.machine.Reclaiming.{Reclaiming}
 use Rattle.orc_machine_board.specs.declared.machine.Request.{Request}
 use Rattle.orc_projection.specs.PresentIds.{PresentIds}
 use Rattle.orc_projection.specs.Projection.{act_of}
-use Rattle.orc_settling.proofs.Opening.{opened_step}
-use Rattle.orc_settling.proofs.Stages.{made_record, made_went}
-use Rattle.orc_settling.specs.Rounds.{AfterStep, IsNoHand}
-use Rattle.orc_settling.specs.Turns.{Made}
-use Rattle.orc_settling.specs.Work.{IsSettlingStep, drop_of}
+use Rattle.orc_rest.proofs.Opening.{opened_step}
+use Rattle.orc_rest.proofs.Stages.{made_record, made_went}
+use Rattle.orc_rest.specs.Rounds.{AfterStep, IsNoHand}
+use Rattle.orc_rest.specs.Turns.{Made}
+use Rattle.orc_rest.specs.Work.{IsSettlingStep, drop_of}
 use Rattle.orc_sound.proofs.Journals.{plain_lawful}
 use Rattle.orc_sound.specs.Journals.{plain}
 use Rattle.orc_sound.specs.declared.steps.Step.{Step}

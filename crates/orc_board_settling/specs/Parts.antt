@@ -7,7 +7,7 @@ use Rattle.orc_heap.specs.declared.events.Event.{Event}
 use Rattle.orc_machine_board.specs.Rules.{run_of}
 use Rattle.orc_machine_board.specs.Views.{MachineView}
 use Rattle.orc_projection.specs.Projection.{project}
-use Rattle.orc_settling.specs.Rounds.{Opened, Rounds, Settled, Went}
+use Rattle.orc_rest.specs.Rounds.{Opened, Rounds, Settled, Went}
 use Rattle.orc_sound.specs.Journals.{plain}
 use Rattle.orc_sound.specs.declared.steps.Step.{Step}
 use Rattle.orc_words.specs.Bounds.{Bounds}

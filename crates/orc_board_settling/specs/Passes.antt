@@ -10,7 +10,7 @@ use Rattle.orc_machine_board.specs.declared.board.MachineBoardPass.{MachineBoard
 use Rattle.orc_machine_board.specs.declared.machine.MachineShape.{MachineShape}
 use Rattle.orc_machine_board.specs.declared.machine.Reclaiming.{Reclaiming}
 use Rattle.orc_machine_board.specs.declared.machine.Request.{Request}
-use Rattle.orc_settling.specs.Turns.{IsReachedState}
+use Rattle.orc_rest.specs.Turns.{IsReachedState}
 use Rattle.orc_shared_words.specs.declared.machine.Machine as machine
 use Rattle.orc_sound.specs.declared.steps.Step.{Step}
 

@@ -7,7 +7,7 @@ ghost use Rattle.orc_board_settling.specs.Passes.{IsPassOf, record_of};
 ghost use Rattle.orc_core.specs.RecordParts.{scans};
 ghost use Rattle.orc_history.specs.Parts.{IsAlone};
 ghost use Rattle.orc_machine_board.specs.Views.{Belongs, board_bounds, shows};
-ghost use Rattle.orc_settling.specs.Records.{IsBetweenRounds, IsDone, IsNext, IsScanOf, IsStill};
+ghost use Rattle.orc_rest.specs.Records.{IsBetweenRounds, IsDone, IsNext, IsScanOf, IsStill};
 
 use crate::steps::{free_doomed, kept, look_step, settle_step, unretire_scanned};
 use orc_core::{CounterUse, Op};

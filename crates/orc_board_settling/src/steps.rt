@@ -11,9 +11,9 @@ ghost use Rattle.orc_core.specs.declared.ops.Op.{Op};
 ghost use Rattle.orc_core.specs.declared.records.SlotUse.TheVariants.{Empty};
 ghost use Rattle.orc_machine_board.specs.Kinds.{is_plain_kind};
 ghost use Rattle.orc_machine_board.specs.Views.{board_bounds, shows};
-ghost use Rattle.orc_settling.specs.Records.{DueFits, IsBetweenRounds, IsDoomOf, IsScanOf, IsSettling, IsStill, SameTasks};
-ghost use Rattle.orc_settling.specs.Rounds.{AfterStep, IsNoHand, Looks};
-ghost use Rattle.orc_settling.specs.Work.{IsSettlingStep, drop_of};
+ghost use Rattle.orc_rest.specs.Records.{DueFits, IsBetweenRounds, IsDoomOf, IsScanOf, IsSettling, IsStill, SameTasks};
+ghost use Rattle.orc_rest.specs.Rounds.{AfterStep, IsNoHand, Looks};
+ghost use Rattle.orc_rest.specs.Work.{IsSettlingStep, drop_of};
 
 use orc_core::{Agent, Op, Reading};
 use orc_heap::Discipline;

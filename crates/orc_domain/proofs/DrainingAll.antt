@@ -31,7 +31,7 @@ use Rattle.orc_domain.specs.Passes.{IsPassOf, domain_bounds, journal_of, seat_of
 use Rattle.orc_domain.specs.declared.domain.OrcDomain.{OrcDomain}
 use Rattle.orc_domain.specs.declared.domain.OrcPass.{OrcPass}
 use Rattle.orc_rest.specs.Rest.{IsAtRest, IsResting}
-use Rattle.orc_settling.specs.Turns.{IsReachedState}
+use Rattle.orc_rest.specs.Turns.{IsReachedState}
 use Rattle.orc_shared_words.specs.declared.machine.Machine as machine
 use Rattle.orc_sound.proofs.Journals.{plain_lawful}
 use Rattle.orc_sound.specs.Journals.{plain}

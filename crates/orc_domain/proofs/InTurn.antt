@@ -12,8 +12,8 @@ use native.Mathlib.Decide.{ℕ_discrete}
 use Rattle.orc_core.specs.Machine.{record_at}
 use Rattle.orc_plain_domain.proofs.Rounds.{pairwise_at, pairwise_long}
 use Rattle.orc_plain_domain.specs.Ends.{Pairwise}
-use Rattle.orc_draining.proofs.DrainAll.{rest_after_drains}
-use Rattle.orc_draining.specs.Drains.{DrainedAlone}
+use Rattle.orc_rest.proofs.DrainAll.{rest_after_drains}
+use Rattle.orc_rest.specs.Drains.{DrainedAlone}
 use Rattle.orc_heap.proofs.Pieces.{goes_on}
 use Rattle.orc_heap.specs.Allowed.{events_by}
 use Rattle.orc_heap.specs.Seats.{Seat}
@@ -26,8 +26,8 @@ use Rattle.orc_machine_board.specs.declared.machine.MachineShape.{MachineShape}
 use Rattle.orc_projection.specs.Projection.{project}
 use Rattle.orc_domain.specs.Drains.{AreNumbered, DrainInTurn, DrainsNext, DrainsPart, HearsSteps, HoldsSame}
 use Rattle.orc_rest.specs.Rest.{IsAtRest}
-use Rattle.orc_settling.specs.Records.{IsBetweenRounds}
-use Rattle.orc_settling.specs.Turns.{AllOf, IsReachedState}
+use Rattle.orc_rest.specs.Records.{IsBetweenRounds}
+use Rattle.orc_rest.specs.Turns.{AllOf, IsReachedState}
 use Rattle.orc_shared_words.proofs.Events.{others_add}
 use Rattle.orc_shared_words.proofs.Prefixes.{both_prefixes, prefix_same}
 use Rattle.orc_shared_words.proofs.Runs.{below-front, below-tail, by_other, by_own, cons_nil, none_behind, none_between}

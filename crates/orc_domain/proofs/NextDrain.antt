@@ -25,7 +25,7 @@ use Rattle.orc_domain.specs.Drains.{AreNumbered, DrainInTurn, DrainsNext, Drains
 use Rattle.orc_domain.specs.Passes.{IsPassOf, domain_bounds, journal_of, seat_of}
 use Rattle.orc_domain.specs.declared.domain.OrcDomain.{OrcDomain}
 use Rattle.orc_domain.specs.declared.domain.OrcPass.{OrcPass}
-use Rattle.orc_settling.specs.Records.{IsBetweenRounds}
+use Rattle.orc_rest.specs.Records.{IsBetweenRounds}
 use Rattle.orc_shared_words.specs.declared.machine.Machine as machine
 use Rattle.orc_sound.specs.declared.steps.Step.{Step}
 

@@ -20,7 +20,7 @@ use Rattle.orc_domain.proofs.Giving.{no_fresh}
 use Rattle.orc_domain.proofs.Retiring.{not_some}
 use Rattle.orc_domain.proofs.Stages.{Between, Stage, seat}
 use Rattle.orc_domain.specs.Seats.{IsReady, slot_by}
-use Rattle.orc_settling.specs.Records.{IsBetweenRounds, IsDone}
+use Rattle.orc_rest.specs.Records.{IsBetweenRounds, IsDone}
 
 -- slots in which nothing is shown are empty, where none is only published
 all_empty : (p : PresentIds) (slots : List SlotUse) (n : ℕ) → map (slot_by p) slots ≡ replicate n None

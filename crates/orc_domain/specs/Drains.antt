@@ -4,11 +4,11 @@ use mathlib.Core.List.{IsPrefix}
 use Rattle.orc_board_settling.specs.Parts.{NoEvents}
 use Rattle.orc_core.specs.Machine.{record_at}
 use Rattle.orc_plain_domain.specs.Ends.{Pairwise}
-use Rattle.orc_draining.specs.Drains.{Drained}
+use Rattle.orc_rest.specs.Drains.{Drained}
 use Rattle.orc_heap.specs.Seats.{Seat}
 use Rattle.orc_machine_board.specs.Passes.{steps_of}
 use Rattle.orc_machine_board.specs.Rules.{run_of}
-use Rattle.orc_settling.specs.Records.{IsBetweenRounds}
+use Rattle.orc_rest.specs.Records.{IsBetweenRounds}
 use Rattle.orc_shared_words.specs.Lists.{Among}
 use Rattle.orc_sound.specs.Journals.{plain}
 use Rattle.orc_sound.specs.declared.steps.Step.{Step}

@@ -15,7 +15,7 @@ ghost use Rattle.orc_domain.specs.Drains.{AreNumbered, DrainInTurn, HearsSteps, 
 ghost use Rattle.orc_domain.specs.Ends.{AddsNoEvents, AreAll, AreIdle, HaveNoBacklog, IsNoLonger, SawAll, SawOneList, whole_journal};
 ghost use Rattle.orc_domain.specs.Passes.{IsPassOf, domain_bounds, journal_of, next_row, seat_of};
 ghost use Rattle.orc_rest.specs.Rest.{IsAtRest};
-ghost use Rattle.orc_settling.specs.Turns.{NoneHanded};
+ghost use Rattle.orc_rest.specs.Turns.{NoneHanded};
 
 use crate::domain::{OrcDomain, OrcPass};
 use orc_board_draining::drain;

@@ -1,3 +1,8 @@
+pub mod Work
+pub mod Turns
+pub mod Records
+pub mod Rounds
+pub mod Drains
 pub mod Rest
 pub mod Reached
 pub mod Reuse

@@ -5,7 +5,7 @@ use Rattle.orc_board_settling.proofs.Passes.{mine, pass_of}
 use Rattle.orc_board_settling.specs.OwnSteps.{AtMostMore, TakesInAll, most_rounds, steps_a_round}
 use Rattle.orc_board_settling.specs.Passes.{record_of}
 use Rattle.orc_machine_board.specs.Views.{board_bounds, shows}
-use Rattle.orc_settling.specs.Records.{IsDone}
+use Rattle.orc_rest.specs.Records.{IsDone}
 use Rattle.orc_board_draining.proofs.handovers.drain.Goals as goal
 
 pub drain_own-requires-clause-pass : goal.drain_own-requires-clause-pass

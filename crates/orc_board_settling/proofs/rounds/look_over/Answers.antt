@@ -3,8 +3,8 @@ use Rattle.orc_board_settling.proofs.Joins.{opens_less, opens_next, opens_then}
 use Rattle.orc_board_settling.proofs.Passes.{bounds_are}
 use Rattle.orc_board_settling.specs.Passes.{state_of}
 use Rattle.orc_machine_board.specs.Views.{board_bounds, shows}
-use Rattle.orc_settling.proofs.Calls.{end_allowed}
-use Rattle.orc_settling.proofs.Looks.{hand_allowed}
+use Rattle.orc_rest.proofs.Calls.{end_allowed}
+use Rattle.orc_rest.proofs.Looks.{hand_allowed}
 use Rattle.orc_words.specs.Bounds.{Bounds}
 use Rattle.orc_board_settling.proofs.rounds.look_over.Goals as goal
 

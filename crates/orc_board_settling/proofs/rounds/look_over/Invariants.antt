@@ -3,7 +3,7 @@ use Rattle.orc_board_settling.specs.Parts.{Opens}
 use Rattle.orc_board_settling.specs.Passes.{IsPassOf, record_of}
 use Rattle.orc_machine_board.specs.Passes.{steps_of}
 use Rattle.orc_machine_board.specs.Views.{board_bounds, shows}
-use Rattle.orc_settling.specs.Records.{IsScanOf, IsStill}
+use Rattle.orc_rest.specs.Records.{IsScanOf, IsStill}
 use Rattle.orc_board_settling.proofs.rounds.look_over.Given as goal
 
 -- the scan has come to this place, by a look at each slot before it

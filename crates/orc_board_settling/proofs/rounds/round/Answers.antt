@@ -3,7 +3,7 @@ use Rattle.std.specs.Prelude.{is_some}
 use Rattle.orc_board_settling.proofs.Joins.{opens_goes, opens_then}
 use Rattle.orc_board_settling.specs.Passes.{record_of, state_of}
 use Rattle.orc_machine_board.specs.Views.{board_bounds, shows}
-use Rattle.orc_settling.proofs.Rounds.{no_some, start_allowed}
+use Rattle.orc_rest.proofs.Rounds.{no_some, start_allowed}
 use Rattle.orc_board_settling.proofs.rounds.round.Goals as goal
 
 pub settle_step-requires-clause-allowed : goal.settle_step-requires-clause-allowed

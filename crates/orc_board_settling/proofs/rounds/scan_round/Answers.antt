@@ -1,8 +1,8 @@
 use Rattle.std.proofs.Common.{ap, arith, subst, sym, ◌∙◌}
 use Rattle.orc_board_settling.proofs.Passes.{bounds_are}
 use Rattle.orc_board_settling.specs.Passes.{state_of}
-use Rattle.orc_settling.proofs.Places.{place_fits}
-use Rattle.orc_settling.specs.Records.{PlaceFits}
+use Rattle.orc_rest.proofs.Places.{place_fits}
+use Rattle.orc_rest.specs.Records.{PlaceFits}
 use Rattle.orc_words.specs.Bounds.{Bounds}
 use Rattle.orc_board_settling.proofs.rounds.scan_round.Goals as goal
 

@@ -5,7 +5,7 @@ use Rattle.orc_board_settling.specs.OwnSteps.{AtMostMore, most_rounds, steps_a_r
 use Rattle.orc_board_settling.specs.Parts.{Settles}
 use Rattle.orc_board_settling.specs.Passes.{record_of}
 use Rattle.orc_machine_board.specs.Views.{board_bounds, shows}
-use Rattle.orc_settling.specs.Records.{IsDone}
+use Rattle.orc_rest.specs.Records.{IsDone}
 use Rattle.orc_board_settling.proofs.rounds.settle.Goals as goal
 
 pub settle_all-requires-clause-pass : goal.settle_all-requires-clause-pass

@@ -3,7 +3,7 @@ use Rattle.orc_board_settling.specs.OwnSteps.{AtMostMore, steps_a_round}
 use Rattle.orc_board_settling.specs.Parts.{Goes}
 use Rattle.orc_board_settling.specs.Passes.{IsPassOf, record_of}
 use Rattle.orc_machine_board.specs.Views.{board_bounds, shows}
-use Rattle.orc_settling.specs.Records.{IsBetweenRounds}
+use Rattle.orc_rest.specs.Records.{IsBetweenRounds}
 use Rattle.orc_board_settling.proofs.rounds.settle_rounds.Given as goal
 
 -- so many rounds were made

@@ -7,7 +7,7 @@ use Rattle.orc_words.specs.declared.packed.TheConstants.{DECREMENT}
 use Rattle.orc_board_settling.proofs.Joins.{goes_none, goes_then}
 use Rattle.orc_board_settling.specs.Passes.{record_of, state_of}
 use Rattle.orc_machine_board.specs.Views.{board_bounds, shows}
-use Rattle.orc_settling.proofs.Calls.{arm_dec, dec_armed, due_decremented}
+use Rattle.orc_rest.proofs.Calls.{arm_dec, dec_armed, due_decremented}
 use Rattle.orc_board_settling.proofs.steps.finish_decrement.Goals as goal
 
 pub settle_step-requires-clause-allowed : goal.settle_step-requires-clause-allowed

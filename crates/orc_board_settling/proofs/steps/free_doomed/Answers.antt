@@ -4,7 +4,7 @@ use Rattle.orc_board_settling.proofs.Joins.{goes_is, goes_then}
 use Rattle.orc_board_settling.proofs.Passes.{links_are}
 use Rattle.orc_board_settling.specs.Passes.{record_of, state_of}
 use Rattle.orc_machine_board.specs.Views.{board_bounds, shows}
-use Rattle.orc_settling.proofs.Calls.{free_bare, unretire_cut}
+use Rattle.orc_rest.proofs.Calls.{free_bare, unretire_cut}
 use Rattle.orc_words.specs.Packed.{bit}
 use Rattle.orc_board_settling.proofs.steps.free_doomed.Goals as goal
 

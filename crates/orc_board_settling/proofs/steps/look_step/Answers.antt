@@ -4,8 +4,8 @@ use Rattle.orc_board_settling.specs.Passes.{state_of}
 use Rattle.orc_core.specs.RecordParts.{scan_found}
 use Rattle.orc_core.specs.declared.ops.Op.TheVariants.{SlotLook}
 use Rattle.orc_core.specs.declared.records.Agent.{Agent}
-use Rattle.orc_settling.proofs.Looks.{look_allowed, looks}
-use Rattle.orc_settling.proofs.Stages.{made_look}
+use Rattle.orc_rest.proofs.Looks.{look_allowed, looks}
+use Rattle.orc_rest.proofs.Stages.{made_look}
 use Rattle.orc_board_settling.proofs.steps.look_step.Goals as goal
 
 pub slot_look-requires-clause-allowed : goal.slot_look-requires-clause-allowed

@@ -8,7 +8,7 @@ use Rattle.orc_core.specs.RecordParts.{same_target}
 use Rattle.orc_core.specs.declared.records.Agent.{Agent}
 use Rattle.orc_words.specs.Packed.{named}
 use Rattle.orc_core.specs.declared.ops.Op.TheVariants.{LinkStore}
-use Rattle.orc_settling.proofs.Calls.{cut_allowed}
+use Rattle.orc_rest.proofs.Calls.{cut_allowed}
 use Rattle.orc_board_settling.proofs.steps.take_link_out.Goals as goal
 
 pub link_store-link-requires-clause-allowed : goal.link_store-link-requires-clause-allowed

@@ -4,8 +4,8 @@ use Rattle.orc_board_settling.proofs.Passes.{links_are}
 use Rattle.orc_board_settling.specs.Passes.{record_of, state_of}
 use Rattle.orc_core.specs.declared.records.Agent.{Agent}
 use Rattle.orc_machine_board.specs.Views.{board_bounds, shows}
-use Rattle.orc_settling.proofs.Calls.{doom_is_cut}
-use Rattle.orc_settling.specs.Records.{IsDoomOf}
+use Rattle.orc_rest.proofs.Calls.{doom_is_cut}
+use Rattle.orc_rest.specs.Records.{IsDoomOf}
 use Rattle.orc_words.specs.Bounds.{Bounds}
 use Rattle.orc_board_settling.proofs.steps.take_links_out.Goals as goal
 

@@ -3,7 +3,7 @@ use Rattle.orc_board_settling.specs.OwnSteps.{AtMostMore}
 use Rattle.orc_board_settling.specs.Parts.{Goes}
 use Rattle.orc_board_settling.specs.Passes.{IsPassOf, record_of}
 use Rattle.orc_machine_board.specs.Views.{board_bounds, shows}
-use Rattle.orc_settling.specs.Records.{IsDoomOf, IsStill}
+use Rattle.orc_rest.specs.Records.{IsDoomOf, IsStill}
 use Rattle.orc_board_settling.proofs.steps.take_links_out.Given as goal
 
 -- the links below this number are out

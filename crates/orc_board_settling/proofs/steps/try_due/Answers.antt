@@ -2,7 +2,7 @@ use Rattle.std.proofs.Common.{ap, arith, sym, ◌∙◌}
 use Rattle.orc_board_settling.proofs.Joins.{goes_none}
 use Rattle.orc_board_settling.specs.Passes.{state_of}
 use Rattle.orc_machine_board.specs.Views.{board_bounds, shows}
-use Rattle.orc_settling.proofs.Stages.{due_allowed}
+use Rattle.orc_rest.proofs.Stages.{due_allowed}
 use Rattle.orc_board_settling.proofs.steps.try_due.Goals as goal
 
 pub settle_step-requires-clause-allowed : goal.settle_step-requires-clause-allowed

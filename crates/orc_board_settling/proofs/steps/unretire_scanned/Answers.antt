@@ -9,7 +9,7 @@ use Rattle.orc_board_settling.specs.Passes.{record_of, state_of}
 use Rattle.orc_core.specs.RecordParts.{scans}
 use Rattle.orc_core.specs.declared.records.Agent.{Agent}
 use Rattle.orc_machine_board.specs.Views.{board_bounds, shows}
-use Rattle.orc_settling.proofs.Calls.{arm_scanned, due_unretired, scan_some, unretire_armed}
+use Rattle.orc_rest.proofs.Calls.{arm_scanned, due_unretired, scan_some, unretire_armed}
 use Rattle.orc_words.specs.Packed.{bit}
 use Rattle.orc_board_settling.proofs.steps.unretire_scanned.Goals as goal
 

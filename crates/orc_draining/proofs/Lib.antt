@@ -1,3 +1,0 @@
-pub mod TakingIn
-pub mod Draining
-pub mod DrainAll

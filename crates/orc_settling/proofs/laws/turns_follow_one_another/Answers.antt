@@ -1,5 +1,0 @@
-use Rattle.orc_settling.proofs.Turns.{turn_join}
-use Rattle.orc_settling.proofs.laws.turns_follow_one_another.Goals as goal
-
-pub returns : goal.returns
-returns c = turn_join

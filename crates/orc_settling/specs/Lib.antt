@@ -1,4 +1,0 @@
-pub mod Work
-pub mod Turns
-pub mod Records
-pub mod Rounds
