@@ -1,7 +1,7 @@
 -- What a container tells once all its passes were given back.
 use Rattle.std.specs.Prelude.{All, List, length, ◌≡◌}
 use Rattle.given_back.specs.declared.places.GivenBack.{GivenBack}
-use Rattle.orc_board_rest.specs.declared.count.RowCounts.{RowCounts}
+use Rattle.orc_machine_rest.specs.declared.count.RowCounts.{RowCounts}
 use Rattle.orc_core.specs.declared.records.Agent.{Agent}
 use Rattle.orc_heap.specs.declared.discipline.Discipline as discipline
 use Rattle.orc_machine_board.specs.declared.machine.MachineShape.{MachineShape}

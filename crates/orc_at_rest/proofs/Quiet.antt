@@ -15,7 +15,7 @@ use Rattle.orc_machine_board.specs.Rules.{does}
 use Rattle.orc_machine_board.specs.declared.machine.MachineShape.{MachineShape}
 use Rattle.orc_machine_board.specs.declared.machine.Reclaiming.{Reclaiming}
 use Rattle.orc_machine_board.specs.declared.machine.Request.{Request}
-use Rattle.orc_board_rest.specs.Looks.{gate_looks}
+use Rattle.orc_machine_rest.specs.Looks.{gate_looks}
 use Rattle.orc_domain.specs.Ends.{whole_journal}
 use Rattle.orc_domain.specs.Passes.{journal_of}
 use Rattle.orc_domain.specs.declared.domain.OrcPass.{OrcPass}

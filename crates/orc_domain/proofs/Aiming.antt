@@ -32,7 +32,7 @@ use Rattle.orc_domain.proofs.Seats.{before_keep, only, step_events}
 use Rattle.orc_domain.proofs.Stages.{Between, Stage, Steps, before_record, seat}
 use Rattle.orc_domain.proofs.Untouched.{still_untouched, untouched_at}
 use Rattle.orc_domain.specs.Changes.{Becomes, IsCountable, Stores}
-use Rattle.orc_board_settling.specs.OwnSteps.{LeavesNothing}
+use Rattle.orc_machine_rest.specs.OwnSteps.{LeavesNothing}
 use Rattle.orc_domain.specs.Passes.{IsFreshUntouched}
 use Rattle.orc_sound.specs.declared.steps.Step.{Step}
 use Rattle.orc_words.specs.Bounds.{Bounds}

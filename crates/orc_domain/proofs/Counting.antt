@@ -26,13 +26,13 @@ use Rattle.orc_domain.proofs.Protecting.{same_then}
 use Rattle.orc_domain.proofs.Searching.{idle_none}
 use Rattle.orc_domain.proofs.Seats.{only, sets}
 use Rattle.orc_domain.proofs.Setting.{clear_may, set_same, set_twice}
-use Rattle.orc_board_settling.proofs.TakenIn.{done_none, done_then}
+use Rattle.orc_machine_rest.proofs.TakenIn.{done_none, done_then}
 use Rattle.orc_domain.proofs.Stages.{Stage, Steps, done_one, seat}
 use Rattle.orc_machine_board.proofs.Licences.{has_either}
 use Rattle.orc_domain.specs.Calls.{SameParts, Unlocks}
 use Rattle.orc_domain.specs.Changes.{Becomes, IsCountable}
-use Rattle.orc_board_settling.proofs.Joins.{takes_in_both}
-use Rattle.orc_board_settling.specs.OwnSteps.{LeavesNothing, TakesInCleared}
+use Rattle.orc_machine_rest.proofs.Joins.{takes_in_both}
+use Rattle.orc_machine_rest.specs.OwnSteps.{LeavesNothing, TakesInCleared}
 use Rattle.orc_domain.specs.Seats.{IsCalm, SetsSlot, seat_by, slot_by}
 use Rattle.orc_sound.proofs.ForRuns.{run_sound}
 use Rattle.orc_sound.proofs.Journals.{plain_lawful}

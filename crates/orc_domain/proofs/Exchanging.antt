@@ -44,7 +44,7 @@ use Rattle.orc_domain.proofs.Stages.{Between, Stage, done_one, its_step, seat, w
 use Rattle.orc_domain.proofs.Testing.{want_has, want_low}
 use Rattle.orc_domain.proofs.Untouched.{still_untouched, untouched_at}
 use Rattle.orc_domain.specs.Changes.{Becomes, IsCountable}
-use Rattle.orc_board_settling.specs.OwnSteps.{LeavesNothing}
+use Rattle.orc_machine_rest.specs.OwnSteps.{LeavesNothing}
 use Rattle.orc_domain.specs.Passes.{IsFreshUntouched}
 use Rattle.orc_domain.specs.Seats.{slot_by}
 use Rattle.orc_shared_words.specs.Lists.{Each}

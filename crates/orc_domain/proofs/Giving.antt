@@ -36,7 +36,7 @@ use Rattle.orc_projection.specs.PresentIds.{PresentIds, no_ids}
 use Rattle.orc_projection.specs.Projection.{present_ids}
 use Rattle.orc_domain.proofs.Protecting.{empty_slot, held_ready, publish_may, still_ready}
 use Rattle.orc_domain.proofs.Seats.{calm_forced, ids_keep, only, ready_calm, sets}
-use Rattle.orc_board_settling.proofs.TakenIn.{done_later}
+use Rattle.orc_machine_rest.proofs.TakenIn.{done_later}
 use Rattle.orc_domain.proofs.Stages.{Between, Stage, Steps, done_one, seat}
 use Rattle.orc_domain.specs.Searches.{Gets}
 use Rattle.orc_domain.specs.Seats.{IsCalm, IsReady, SetsSlot}

@@ -46,11 +46,11 @@ use Rattle.orc_domain.proofs.Loading.{found_out, ids_same, load_may, look_event,
 use Rattle.orc_domain.proofs.Protecting.{either_way, empty_slot, held_ready, promoted_fresh, promoted_full, publish_may, reload_may, still_ready, target_named, true_false, word_row}
 use Rattle.orc_domain.proofs.Seats.{before_keep, ids_keep, ready_calm, sets}
 use Rattle.orc_domain.proofs.Setting.{clear_may, set_back, set_same, set_twice}
-use Rattle.orc_board_settling.proofs.TakenIn.{done_then}
+use Rattle.orc_machine_rest.proofs.TakenIn.{done_then}
 use Rattle.orc_domain.proofs.Stages.{Between, Stage, Steps, before_lawful, before_out, before_unmarked, done_one, seat}
 use Rattle.orc_domain.proofs.Untouched.{still_between, untouched_more}
 use Rattle.orc_domain.specs.Calls.{SameParts, Unlocks}
-use Rattle.orc_board_settling.specs.OwnSteps.{HasDone, LeavesNothing}
+use Rattle.orc_machine_rest.specs.OwnSteps.{HasDone, LeavesNothing}
 use Rattle.orc_domain.specs.Seats.{IsCalm, SetsSlot, slot_by}
 use Rattle.orc_shared_words.proofs.Events.{others_add}
 use Rattle.orc_sound.specs.Journals.{IsLawfulJournal}

@@ -4,7 +4,7 @@ use Rattle.std.proofs.lemmas.List.Elements.{All-from_recursion, recursion_from_A
 use Rattle.std.specs.List.{AllByRecursion}
 use Rattle.std.specs.Prelude.{slice_index_or}
 use mathlib.Core.List.{IsPrefix}
-use Rattle.orc_board_draining.specs.Drains.{Drains}
+use Rattle.orc_machine_rest.specs.Drains.{Drains}
 use Rattle.orc_core.specs.Machine.{record_at}
 use Rattle.orc_core.specs.declared.records.Agent.{Agent}
 use Rattle.orc_heap.proofs.Pieces.{goes_on}

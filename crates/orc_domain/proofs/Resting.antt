@@ -2,8 +2,8 @@
 use Rattle.std.proofs.Common.{List, [], arith, drop, length, subst, sym, ℕ, ◌<◌, ◌∙◌, ◌∷◌, ◌≡◌, ◌++◌}
 use Rattle.std.proofs.lemmas.List.Elements.{recursion_from_All}
 use Rattle.std.specs.List.{AllByRecursion}
-use Rattle.orc_board_rest.proofs.TakingIn.{takes_more, takes_none, covers, first_number, nothing_new}
-use Rattle.orc_board_rest.specs.Ends.{TakesIn}
+use Rattle.orc_machine_rest.proofs.TakingIn.{takes_more, takes_none, covers, first_number, nothing_new}
+use Rattle.orc_machine_rest.specs.Ends.{TakesIn}
 use Rattle.orc_core.specs.declared.records.Agent.{Agent}
 use Rattle.orc_heap.specs.declared.discipline.Discipline as discipline
 use Rattle.orc_machine_board.specs.Passes.{AbsorbsSteps, TookInAll}
@@ -18,8 +18,8 @@ use Rattle.orc_domain.specs.declared.domain.OrcDomain.{OrcDomain}
 use Rattle.orc_domain.specs.declared.domain.OrcPass.{OrcPass}
 use Rattle.orc_shared_words.specs.declared.machine.Machine as machine
 use Rattle.orc_sound.specs.declared.steps.Step.{Step}
-use Rattle.orc_board_rest.proofs.Resting.{still_at_rest}
-use Rattle.orc_board_rest.specs.Looks.{gate_looks}
+use Rattle.orc_machine_rest.proofs.Resting.{still_at_rest}
+use Rattle.orc_machine_rest.specs.Looks.{gate_looks}
 use Rattle.orc_machine_board.specs.Rules.{run_of}
 use Rattle.orc_machine_board.specs.Laws.Steps.{in_range}
 use Rattle.orc_rest.specs.Rest.{IsAtRest}

@@ -31,12 +31,12 @@ use Rattle.orc_domain.proofs.Held.{has_low, hold_slot}
 use Rattle.orc_domain.proofs.Protecting.{still_ready, true_false}
 use Rattle.orc_domain.proofs.Releasing.{release_between, release_can}
 use Rattle.orc_domain.proofs.Seats.{calm_forced, puts, ready_calm, slots_keep}
-use Rattle.orc_board_settling.proofs.TakenIn.{done_none, done_then}
+use Rattle.orc_machine_rest.proofs.TakenIn.{done_none, done_then}
 use Rattle.orc_domain.proofs.Stages.{Between, Stage, Steps, before_lawful, before_out, before_record, before_unmarked, done_one, seat, whole_lawful}
 use Rattle.orc_domain.proofs.Untouched.{untouched_before}
 use Rattle.orc_domain.proofs.Wearing.{check_may}
 use Rattle.orc_domain.specs.Calls.{Retires, SameParts, Unlocks}
-use Rattle.orc_board_settling.specs.OwnSteps.{HasDone, LeavesNothing, TakesInCleared}
+use Rattle.orc_machine_rest.specs.OwnSteps.{HasDone, LeavesNothing, TakesInCleared}
 use Rattle.orc_domain.specs.Passes.{IsFreshUntouched}
 use Rattle.orc_domain.specs.Seats.{IsReady, seat_by, slot_by}
 use Rattle.orc_sound.specs.declared.steps.Step.{Step}

@@ -14,10 +14,10 @@ use Rattle.orc_machine_board.specs.Kinds.{asks}
 use Rattle.orc_machine_board.specs.Rules.{bounds_in}
 use Rattle.orc_machine_board.specs.declared.machine.MachineShape.{MachineShape}
 use Rattle.orc_domain.proofs.Seats.{calm_forced, only, set_then, sets}
-use Rattle.orc_board_settling.proofs.TakenIn.{done_then}
+use Rattle.orc_machine_rest.proofs.TakenIn.{done_then}
 use Rattle.orc_domain.proofs.Stages.{Stage, Steps, done_one, seat}
 use Rattle.orc_domain.specs.Calls.{Unlocks}
-use Rattle.orc_board_settling.specs.OwnSteps.{HasDone}
+use Rattle.orc_machine_rest.specs.OwnSteps.{HasDone}
 use Rattle.orc_domain.specs.Seats.{IsCalm}
 use Rattle.orc_words.specs.Bounds.{Bounds}
 

@@ -3,7 +3,7 @@ use Rattle.std.proofs.Common.{List, None, [], ap, arith, false, length, refl, su
 use Rattle.std.proofs.lemmas.Bool.{false≢true}
 use Rattle.std.specs.Option.{option_map}
 use Rattle.std.specs.Prelude.{cond, is_some, map, replicate, slice_index_or, ◌||◌}
-use Rattle.orc_board_settling.specs.Parts.{NoEvents}
+use Rattle.orc_machine_rest.specs.Parts.{NoEvents}
 use Rattle.orc_core.specs.RecordParts.{is_published, slot_of}
 use Rattle.orc_core.specs.declared.records.Agent.{Agent}
 use Rattle.orc_core.specs.declared.records.SlotUse.{SlotUse}

@@ -1,7 +1,7 @@
 -- Points of a call: what a pass shows there, what is true of it, and what one step does from one to the next.
 use Rattle.std.proofs.Common.{List, Option, [], ap, append_assoc, refl, subst, sym, ℕ, ◌++◌, ◌<◌, ◌∙◌, ◌≡◌, ◌∷◌}
 use Rattle.std.specs.Prelude.{map}
-use Rattle.orc_board_settling.specs.OwnSteps.{HasDone}
+use Rattle.orc_machine_rest.specs.OwnSteps.{HasDone}
 use Rattle.orc_core.specs.Machine.{new_machine, record_at}
 use Rattle.orc_core.specs.declared.ops.Op.{Op}
 use Rattle.orc_core.specs.declared.records.Agent.{Agent}

@@ -28,7 +28,7 @@ use Rattle.orc_domain.proofs.Seats.{by-append}
 use Rattle.orc_domain.proofs.Stages.{Stage, seat}
 use Rattle.orc_domain.proofs.Untouched.{still_untouched}
 use Rattle.orc_domain.specs.Changes.{Checks}
-use Rattle.orc_board_settling.specs.OwnSteps.{LeavesNothing}
+use Rattle.orc_machine_rest.specs.OwnSteps.{LeavesNothing}
 use Rattle.orc_domain.specs.Passes.{IsFreshUntouched}
 use Rattle.orc_domain.specs.Searches.{Idles}
 use Rattle.orc_words.specs.Bounds.{Bounds}

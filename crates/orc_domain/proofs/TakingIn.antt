@@ -20,10 +20,10 @@ use Rattle.orc_machine_board.specs.declared.machine.MachineShape.{MachineShape}
 use Rattle.orc_domain.proofs.Protecting.{empty_slot}
 use Rattle.orc_domain.proofs.Searching.{idle_none, idle_trans, idles}
 use Rattle.orc_domain.proofs.Setting.{take_in_may}
-use Rattle.orc_board_settling.proofs.TakenIn.{done_some, done_then, taken_since, taken_then}
+use Rattle.orc_machine_rest.proofs.TakenIn.{done_some, done_then, taken_since, taken_then}
 use Rattle.orc_domain.proofs.Stages.{Stage, Steps, done_one, seat}
 use Rattle.orc_domain.specs.Calls.{SameParts}
-use Rattle.orc_board_settling.specs.OwnSteps.{HasDone, HasTakenIn, ops_of}
+use Rattle.orc_machine_rest.specs.OwnSteps.{HasDone, HasTakenIn, ops_of}
 use Rattle.orc_domain.specs.OwnSteps.{TakesInFree}
 use Rattle.orc_domain.specs.Searches.{Idles}
 use Rattle.orc_domain.specs.Seats.{IsCalm, IsReady, slot_by}

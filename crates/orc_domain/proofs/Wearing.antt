@@ -24,7 +24,7 @@ use Rattle.orc_domain.proofs.Held.{hold_has, hold_low, hold_slot}
 use Rattle.orc_domain.proofs.Rounds.{begin_le}
 use Rattle.orc_domain.proofs.Searching.{get_seam, idles}
 use Rattle.orc_domain.proofs.Seats.{before_keep, calm_forced}
-use Rattle.orc_board_settling.proofs.TakenIn.{done_later}
+use Rattle.orc_machine_rest.proofs.TakenIn.{done_later}
 use Rattle.orc_domain.proofs.Stages.{Stage, Steps, before_lawful, before_out, done_one, seat}
 use Rattle.orc_domain.specs.Causes.{IsWornIn}
 use Rattle.orc_domain.specs.Changes.{Checks}

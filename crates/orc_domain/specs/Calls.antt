@@ -6,7 +6,7 @@ use Rattle.orc_core.specs.declared.records.Agent.{Agent}
 use Rattle.orc_core.specs.declared.records.SlotUse.TheVariants.{Empty}
 use Rattle.orc_heap.specs.OwnEvents.{Puts}
 use Rattle.orc_machine_board.specs.Views.{MachineView}
-use Rattle.orc_board_settling.specs.OwnSteps.{HasDone}
+use Rattle.orc_machine_rest.specs.OwnSteps.{HasDone}
 use Rattle.orc_domain.specs.Seats.{SetsSlot, seat_by}
 use Rattle.orc_words.specs.Bounds.{Bounds}
 

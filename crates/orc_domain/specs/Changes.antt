@@ -10,7 +10,7 @@ use Rattle.orc_heap.specs.OwnEvents.{Only}
 use Rattle.orc_machine_board.specs.Licences.{ids_of}
 use Rattle.orc_machine_board.specs.Views.{MachineView}
 use Rattle.orc_domain.specs.Calls.{SameParts}
-use Rattle.orc_board_settling.specs.OwnSteps.{LeavesNothing}
+use Rattle.orc_machine_rest.specs.OwnSteps.{LeavesNothing}
 use Rattle.orc_domain.specs.Searches.{Idles}
 use Rattle.orc_domain.specs.Seats.{seat_by}
 use Rattle.orc_words.specs.Bounds.{Bounds}

@@ -1,7 +1,7 @@
 -- Passes that learn from each other, and drain one after another.
 use Rattle.std.specs.Prelude.{List, [], map, suc, ◌++◌, ◌∷◌, ◌≡◌, ℕ}
 use mathlib.Core.List.{IsPrefix}
-use Rattle.orc_board_settling.specs.Parts.{NoEvents}
+use Rattle.orc_machine_rest.specs.Parts.{NoEvents}
 use Rattle.orc_core.specs.Machine.{record_at}
 use Rattle.orc_plain_domain.specs.Ends.{Pairwise}
 use Rattle.orc_rest.specs.Drains.{Drained}

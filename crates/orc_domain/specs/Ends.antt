@@ -1,6 +1,6 @@
 -- What all passes of a domain have seen together.
 use Rattle.std.specs.Prelude.{All, List, length, ◌≡◌, ◌≤◌, ℕ}
-use Rattle.orc_board_rest.specs.Ends.{FirstSawAll, first_journal}
+use Rattle.orc_machine_rest.specs.Ends.{FirstSawAll, first_journal}
 use Rattle.orc_core.specs.declared.records.Agent.{Agent}
 use Rattle.orc_heap.specs.Seats.{IsIdle}
 use Rattle.orc_heap.specs.declared.discipline.Discipline as discipline

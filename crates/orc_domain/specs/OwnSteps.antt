@@ -1,6 +1,6 @@
 -- What the agent of a call takes in.
 use Rattle.std.specs.Prelude.{List, None, Some, slice_get, ℕ, ◌≡◌}
-use Rattle.orc_board_settling.specs.OwnSteps.{HasTakenIn}
+use Rattle.orc_machine_rest.specs.OwnSteps.{HasTakenIn}
 use Rattle.orc_heap.specs.Seats.{Seat}
 use Rattle.orc_sound.specs.declared.steps.Step.{Step}
 

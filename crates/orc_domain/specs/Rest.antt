@@ -1,8 +1,8 @@
 -- A domain at rest: one pass has taken in all others.
 use Rattle.std.specs.Prelude.{List, ◌++◌, ◌≡◌}
-use Rattle.orc_board_rest.specs.Ends.{CountsOf}
-use Rattle.orc_board_rest.specs.Looks.{gate_looks}
-use Rattle.orc_board_rest.specs.declared.count.RowCounts.{RowCounts}
+use Rattle.orc_machine_rest.specs.Ends.{CountsOf}
+use Rattle.orc_machine_rest.specs.Looks.{gate_looks}
+use Rattle.orc_machine_rest.specs.declared.count.RowCounts.{RowCounts}
 use Rattle.orc_heap.specs.declared.discipline.Discipline as discipline
 use Rattle.orc_core.specs.declared.records.Agent.{Agent}
 use Rattle.orc_machine_board.specs.Passes.{TookInAll}

@@ -7,7 +7,7 @@ ghost use Rattle.orc_heap.specs.Calls.{RefusesAim};
 ghost use Rattle.orc_heap.specs.OwnEvents.{Only};
 ghost use Rattle.orc_heap.specs.Seats.{HoldsFresh, HoldsTarget};
 ghost use Rattle.orc_history.specs.Parts.{InPart};
-ghost use Rattle.orc_board_settling.specs.OwnSteps.{LeavesNothing};
+ghost use Rattle.orc_machine_rest.specs.OwnSteps.{LeavesNothing};
 ghost use Rattle.orc_domain.specs.Causes.{IsWornIn};
 ghost use Rattle.orc_domain.specs.Passes.{IsPassOf, domain_bounds, domain_numbers, journal_of, next_row, seat_of};
 

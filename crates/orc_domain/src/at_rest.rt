@@ -1,10 +1,10 @@
 //! Domains at rest.
 
-ghost use Rattle.orc_board_rest.specs.Ends.{CountsOf};
+ghost use Rattle.orc_machine_rest.specs.Ends.{CountsOf};
 ghost use Rattle.orc_machine_board.specs.Views.{board_bounds, shows};
 
 use crate::domain::OrcDomain;
-use orc_board_rest::RowCounts;
+use orc_machine_rest::RowCounts;
 use orc_core::Agent;
 use orc_heap::Discipline;
 use orc_machine_board::{MachineBoardPass, MachineShape, Reclaiming, Request};

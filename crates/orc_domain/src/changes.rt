@@ -12,7 +12,7 @@ ghost use Rattle.orc_machine_board.specs.Licences.{AimAllowed};
 ghost use Rattle.orc_machine_board.specs.Views.{Belongs, shows};
 ghost use Rattle.orc_domain.specs.Causes.{IsWornIn};
 ghost use Rattle.orc_domain.specs.Changes.{Checks, Stores};
-ghost use Rattle.orc_board_settling.specs.OwnSteps.{LeavesNothing};
+ghost use Rattle.orc_machine_rest.specs.OwnSteps.{LeavesNothing};
 ghost use Rattle.orc_domain.specs.Passes.{IsFreshUntouched, domain_bounds, domain_numbers};
 ghost use Rattle.orc_domain.specs.Seats.{IsReady, seat_by};
 

@@ -6,8 +6,8 @@ ghost use mathlib.Core.List.{IsPrefix};
 ghost use Rattle.orc_heap.specs.OwnEvents.{Only};
 ghost use Rattle.orc_heap.specs.Seats.{IsIdle};
 ghost use Rattle.orc_history.specs.Parts.{IsAlone};
-ghost use Rattle.orc_board_draining.specs.Drains.{Drains};
-ghost use Rattle.orc_board_settling.specs.OwnSteps.{AtMostMore, LeavesNothing, TakesInAll, most_rounds, steps_a_round};
+ghost use Rattle.orc_machine_rest.specs.Drains.{Drains};
+ghost use Rattle.orc_machine_rest.specs.OwnSteps.{AtMostMore, LeavesNothing, TakesInAll, most_rounds, steps_a_round};
 ghost use Rattle.orc_machine_board.specs.Passes.{backlog_in};
 ghost use Rattle.orc_machine_board.specs.Rules.{run_of};
 ghost use Rattle.orc_machine_board.specs.Views.{shows};
@@ -18,7 +18,7 @@ ghost use Rattle.orc_rest.specs.Rest.{IsAtRest};
 ghost use Rattle.orc_rest.specs.Turns.{NoneHanded};
 
 use crate::domain::{OrcDomain, OrcPass};
-use orc_board_draining::drain;
+use orc_machine_rest::drain;
 use orc_heap::{Discipline, Links};
 
 impl<D: Discipline> OrcDomain<D> {

@@ -10,13 +10,13 @@ ghost use Rattle.orc_heap.specs.Seats.{HoldsFresh, HoldsPlace, HoldsTarget, Hold
 ghost use Rattle.orc_heap.specs.Slots.{Holds, IsFree, id_in};
 ghost use Rattle.orc_history.specs.Parts.{InPart, IsAlone};
 ghost use Rattle.orc_domain.specs.Causes.{IsLacking, IsWornIn};
-ghost use Rattle.orc_board_settling.specs.OwnSteps.{AtMostMore, LeavesNothing, most_rounds, steps_a_round};
+ghost use Rattle.orc_machine_rest.specs.OwnSteps.{AtMostMore, LeavesNothing, most_rounds, steps_a_round};
 ghost use Rattle.orc_domain.specs.OwnSteps.{TakesInFree};
 ghost use Rattle.orc_domain.specs.Passes.{IsPassOf, domain_bounds, domain_numbers, journal_of, next_row, seat_of};
 ghost use Rattle.orc_domain.specs.Searches.{Found};
 
 use crate::domain::{OrcDomain, OrcPass};
-use orc_board_settling::settle;
+use orc_machine_rest::settle;
 use orc_plain_domain::{row_link, word_at};
 use orc_fault::{NoNode, Spent};
 use orc_heap::{At, Discipline, Held, Links, Looked, Seen, Want};

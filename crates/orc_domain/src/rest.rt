@@ -2,8 +2,8 @@
 
 ghost use Rattle.std.specs.Prelude.{◌≡◌, ◌+◌, ◌++◌};
 ghost use Rattle.std.specs.List.{AllByRecursion};
-ghost use Rattle.orc_board_rest.specs.Ends.{CountsOf, TakesIn};
-ghost use Rattle.orc_board_rest.specs.Looks.{gate_looks};
+ghost use Rattle.orc_machine_rest.specs.Ends.{CountsOf, TakesIn};
+ghost use Rattle.orc_machine_rest.specs.Looks.{gate_looks};
 ghost use Rattle.orc_core.specs.Machine.{new_machine};
 ghost use Rattle.orc_layout.specs.Layout.{index, lay};
 ghost use Rattle.orc_machine_board.specs.Passes.{TookInAll};
@@ -18,7 +18,7 @@ ghost use Rattle.orc_sound.specs.Journals.{plain};
 
 use crate::at_rest::OrcRest;
 use crate::domain::{OrcDomain, OrcPass};
-use orc_board_rest::{RowCounts, count_rows};
+use orc_machine_rest::{RowCounts, count_rows};
 use orc_heap::Discipline;
 use orc_machine_board::MachineBoardPass;
 use orc_shared_words::LastWords;

@@ -3,7 +3,7 @@
 ghost use Rattle.std.specs.Prelude.{◌≡◌, ◌<◌, None, false, true, ℕ};
 ghost use Rattle.std.specs.Option.{ForSome};
 ghost use Rattle.orc_core.specs.RecordParts.{is_empty, slot_of};
-ghost use Rattle.orc_board_settling.specs.OwnSteps.{HasTakenIn};
+ghost use Rattle.orc_machine_rest.specs.OwnSteps.{HasTakenIn};
 ghost use Rattle.orc_plain_domain.specs.Turns.{IsNext};
 ghost use Rattle.orc_machine_board.specs.Views.{Belongs, shows};
 ghost use Rattle.orc_domain.specs.Passes.{domain_bounds};

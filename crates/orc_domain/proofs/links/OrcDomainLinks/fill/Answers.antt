@@ -2,7 +2,7 @@ use Rattle.std.proofs.Common.{[], subst, sym, ◌∷◌}
 use Rattle.orc_core.specs.declared.ops.Op.TheVariants.{Fill}
 use Rattle.orc_machine_board.specs.Kinds.{MakesPlain, MayDo}
 use Rattle.orc_domain.proofs.Filling.{fill_can, fills, fills_between}
-use Rattle.orc_board_settling.proofs.TakenIn.{done_later}
+use Rattle.orc_machine_rest.proofs.TakenIn.{done_later}
 use Rattle.orc_domain.proofs.Stages.{done_one, stage}
 use Rattle.orc_domain.specs.Passes.{domain_bounds}
 use Rattle.orc_domain.proofs.links.OrcDomainLinks.fill.Goals as goal

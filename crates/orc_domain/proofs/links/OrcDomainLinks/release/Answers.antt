@@ -5,7 +5,7 @@ use Rattle.orc_machine_board.specs.Kinds.{MayDo}
 use Rattle.orc_machine_board.specs.Views.{shows}
 use Rattle.orc_domain.proofs.Retiring.{LetsGo, clear_can, goes, release_leaves, released_between, releases}
 use Rattle.orc_domain.proofs.Seats.{ready_calm}
-use Rattle.orc_board_settling.proofs.TakenIn.{done_later}
+use Rattle.orc_machine_rest.proofs.TakenIn.{done_later}
 use Rattle.orc_domain.proofs.Stages.{stage}
 use Rattle.orc_domain.specs.Calls.{Retires, Unlocks}
 use Rattle.orc_domain.specs.Passes.{domain_bounds}

@@ -8,7 +8,7 @@ use Rattle.orc_machine_board.specs.Views.{Makes, shows}
 use Rattle.orc_domain.proofs.Held.{place_may}
 use Rattle.orc_domain.proofs.Loading.{load_may}
 use Rattle.orc_domain.proofs.Seats.{ready_calm}
-use Rattle.orc_board_settling.proofs.TakenIn.{done_later}
+use Rattle.orc_machine_rest.proofs.TakenIn.{done_later}
 use Rattle.orc_domain.proofs.Stages.{done_one, stage}
 use Rattle.orc_domain.proofs.Testing.{look_allowed, tests, tests_between, want_held, want_low}
 use Rattle.orc_domain.specs.Passes.{domain_bounds}

@@ -3,7 +3,7 @@ use Rattle.orc_core.specs.declared.ops.Op.TheVariants.{Read}
 use Rattle.orc_machine_board.specs.Kinds.{MakesPlain, MayDo}
 use Rattle.orc_machine_board.specs.Views.{shows}
 use Rattle.orc_domain.proofs.Reading.{may_read, read_between, read_only, reads_value}
-use Rattle.orc_board_settling.proofs.TakenIn.{done_later}
+use Rattle.orc_machine_rest.proofs.TakenIn.{done_later}
 use Rattle.orc_domain.proofs.Stages.{done_one, stage}
 use Rattle.orc_domain.specs.Passes.{domain_bounds}
 use Rattle.orc_domain.proofs.links.OrcDomainLinks.value.Goals as goal

@@ -1,4 +1,0 @@
-pub mod GateWords
-pub mod Counted
-pub mod TakingIn
-pub mod Resting

@@ -1,5 +1,0 @@
-use Rattle.orc_board_rest.proofs.Counted.{Counted}
-use Rattle.orc_board_rest.proofs.count.count_rows.Given as goal
-
-abbrev pub invariant-loop-row : goal.invariant-loop-row
-invariant-loop-row g l = Counted l.board l.fn.p l.p l.row-end l.row l.given l.linked

@@ -1,3 +1,0 @@
-pub mod OwnSteps
-pub mod Parts
-pub mod Passes

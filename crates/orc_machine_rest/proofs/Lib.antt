@@ -1,0 +1,12 @@
+pub mod Alone
+pub mod Cuts
+pub mod Joins
+pub mod Leaving
+pub mod Makes
+pub mod Passes
+pub mod TakenIn
+pub mod Taking
+pub mod GateWords
+pub mod Counted
+pub mod TakingIn
+pub mod Resting

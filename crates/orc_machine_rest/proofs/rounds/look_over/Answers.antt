@@ -1,0 +1,131 @@
+use Rattle.std.proofs.Common.{ap, arith, inl, inr, refl, sym, ◌∙◌}
+use Rattle.orc_machine_rest.proofs.Joins.{opens_less, opens_next, opens_then}
+use Rattle.orc_machine_rest.proofs.Passes.{bounds_are}
+use Rattle.orc_machine_rest.specs.Passes.{state_of}
+use Rattle.orc_machine_board.specs.Views.{board_bounds, shows}
+use Rattle.orc_rest.proofs.Calls.{end_allowed}
+use Rattle.orc_rest.proofs.Looks.{hand_allowed}
+use Rattle.orc_words.specs.Bounds.{Bounds}
+use Rattle.orc_machine_rest.proofs.rounds.look_over.Goals as goal
+
+pub loop-k-init : goal.loop-k-init
+loop-k-init g c = record {
+  pass = c.requires.pass;
+  opens = inl refl;
+  still = c.requires.still;
+  doom = c.requires.doom;
+  scan = c.requires.scan;
+  few = omega arith;
+}
+
+pub look_step-requires-clause-pass : goal.look_step-requires-clause-pass
+look_step-requires-clause-pass g c = c.loop-k.invariant.pass
+
+pub look_step-requires-clause-still : goal.look_step-requires-clause-still
+look_step-requires-clause-still g c = c.loop-k.invariant.still
+
+pub look_step-requires-clause-scan : goal.look_step-requires-clause-scan
+look_step-requires-clause-scan g c = c.loop-k.invariant.scan
+
+pub look_step-requires-clause-place : goal.look_step-requires-clause-place
+look_step-requires-clause-place g c =
+    let agents = ap (λ (b : Bounds). b.agents) (bounds_are c.args.board.now c.loop-k.p) in
+    let shape = ap (λ (b : Bounds). b.agents) c.shape.ensures in
+    let end = c.agents-end.ensures in
+    let below = c.loop-k-test.true in
+    omega (arith, below)
+
+pub settle_step-requires-clause-allowed : goal.settle_step-requires-clause-allowed
+settle_step-requires-clause-allowed g c =
+    let n = state_of c.args.board.now c.look_step.new.p in
+    let looks = c.look_step.ensures.looks in
+    let agents = ap (λ (b : Bounds). b.agents) (bounds_are c.args.board.now c.look_step.new.p) in
+    let shape = ap (λ (b : Bounds). b.agents) c.shape.ensures in
+    let end = c.agents-end.ensures in
+    let below = c.loop-k-test.true in
+    hand_allowed n c.args.agent c.args.row c.loop-k.k c.look_step.ensures.pass.low looks.still
+    (looks.found (sym c.look_step.ensures.found ∙ c.if-look_step.true)) (omega (arith, below))
+
+pub returns-then-look_step-clause-opens : goal.returns-then-look_step-clause-opens
+returns-then-look_step-clause-opens g c =
+    let b = board_bounds c.args.board.now in
+    let i = c.loop-k.invariant in
+    opens_next b c.args.agent 1 (shows c.args.p.now) (shows c.loop-k.p) (shows c.settle_step.new.p) i.opens i.pass.reached
+    (opens_then b c.args.agent 0 1 (shows c.loop-k.p) (shows c.look_step.new.p) (shows c.settle_step.new.p) c.look_step.ensures.opens
+    c.settle_step.ensures.goes)
+
+pub returns-then-look_step-clause-few : goal.returns-then-look_step-clause-few
+returns-then-look_step-clause-few g c =
+    let shape = ap (λ (b : Bounds). b.agents) c.shape.ensures in
+    let end = c.agents-end.ensures in
+    let below = c.loop-k-test.true in
+    let before = c.loop-k.invariant.few in
+    let one = c.look_step.ensures.few in
+    let two = c.settle_step.ensures.few in
+    omega (arith, below, before, one, two)
+
+pub loop-k-preserved : goal.loop-k-preserved
+loop-k-preserved g c =
+    let b = board_bounds c.args.board.now in
+    let i = c.loop-k.invariant in
+    let looks = c.look_step.ensures.looks in
+    let few = c.look_step.ensures.few in
+    let before = i.few in
+    record {
+      pass = c.look_step.ensures.pass;
+      opens = inr (opens_next b c.args.agent 0 (shows c.args.p.now) (shows c.loop-k.p) (shows c.look_step.new.p) i.opens i.pass.reached
+          c.look_step.ensures.opens);
+      still = looks.still;
+      doom = looks.doom ∙ i.doom;
+      scan = looks.on (sym c.look_step.ensures.found ∙ c.if-look_step.false);
+      few = omega (arith, few, before);
+    }
+
+pub settle_step-requires-2-clause-allowed : goal.settle_step-requires-2-clause-allowed
+settle_step-requires-2-clause-allowed g c =
+    let i = c.loop-k.invariant in
+    let agents = ap (λ (b : Bounds). b.agents) (bounds_are c.args.board.now c.loop-k.p) in
+    let shape = ap (λ (b : Bounds). b.agents) c.shape.ensures in
+    let end = c.agents-end.ensures in
+    let low = c.loop-k-test.false in
+    let high = c.loop-k.auto.k-end in
+    let place = c.requires.place in
+    end_allowed (state_of c.args.board.now c.loop-k.p) c.args.agent c.args.row c.loop-k.k i.pass.reached i.pass.low i.still i.scan
+    (omega (arith, low, high, place))
+
+pub returns-then-is_none-clause-opens : goal.returns-then-is_none-clause-opens
+returns-then-is_none-clause-opens g c =
+    let b = board_bounds c.args.board.now in
+    let a = c.args.agent in
+    let i = c.loop-k.invariant in
+    opens_next b a 1 (shows c.args.p.now) (shows c.loop-k.p) (shows c.free_doomed.new.p) i.opens i.pass.reached
+    (opens_less b a 2 1 (shows c.loop-k.p) (shows c.free_doomed.new.p) (omega arith)
+    (opens_then b a 1 1 (shows c.loop-k.p) (shows c.settle_step-2.new.p) (shows c.free_doomed.new.p)
+    (c.settle_step-2.ensures.opens tt) c.free_doomed.ensures.goes))
+
+pub returns-then-is_none-clause-few : goal.returns-then-is_none-clause-few
+returns-then-is_none-clause-few g c =
+    let shape = ap (λ (b : Bounds). b.agents) c.shape.ensures in
+    let end = c.agents-end.ensures in
+    let high = c.loop-k.auto.k-end in
+    let place = c.requires.place in
+    let before = c.loop-k.invariant.few in
+    let one = c.settle_step-2.ensures.few in
+    let two = c.free_doomed.ensures.few in
+    omega (arith, high, place, before, one, two)
+
+pub returns-else-is_none-clause-opens : goal.returns-else-is_none-clause-opens
+returns-else-is_none-clause-opens g c =
+    let i = c.loop-k.invariant in
+    opens_next (board_bounds c.args.board.now) c.args.agent 1 (shows c.args.p.now) (shows c.loop-k.p) (shows c.settle_step-2.new.p) i.opens
+    i.pass.reached (c.settle_step-2.ensures.opens tt)
+
+pub returns-else-is_none-clause-few : goal.returns-else-is_none-clause-few
+returns-else-is_none-clause-few g c =
+    let shape = ap (λ (b : Bounds). b.agents) c.shape.ensures in
+    let end = c.agents-end.ensures in
+    let high = c.loop-k.auto.k-end in
+    let place = c.requires.place in
+    let before = c.loop-k.invariant.few in
+    let one = c.settle_step-2.ensures.few in
+    omega (arith, high, place, before, one)

@@ -1,0 +1,6 @@
+pub mod OwnSteps
+pub mod Parts
+pub mod Passes
+pub mod Drains
+pub mod Looks
+pub mod Ends
