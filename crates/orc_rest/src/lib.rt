@@ -3,4 +3,8 @@
 
 mod laws;
 
-pub use laws::{a_drain_takes_in_and_settles, a_settling_step_is_a_turn, drains_lead_to_rest, each_life_is_a_taking, nothing_leaks_at_rest, settling_hands_nothing_over, settling_uses_up_the_work, turns_follow_one_another};
+pub use laws::{
+    a_drain_takes_in_and_settles, a_settling_step_is_a_turn, drains_lead_to_rest,
+    each_life_is_a_taking, nothing_leaks_at_rest, settling_hands_nothing_over,
+    settling_uses_up_the_work, turns_follow_one_another,
+};
